@@ -22,7 +22,7 @@ use Rattle.parking_lot_world.specs.Rows.{Rows, State, call_at, rw_core_role, rw_
 use Rattle.parking_lot_world.specs.SoundLaws.{StepsAreCases}
 use Rattle.parking_lot_world.specs.Stances.{core_act}
 use Rattle.mapworld_locks.specs.Aims.{Aim, Gets, GivesUp, Turns, phase_aim}
-use Rattle.mapworld_locks.specs.Fits.{IsPlain, LocksFit}
+use Rattle.mapworld_locks.specs.Fits.{IsPlain, LocksFit, is_plain}
 use Rattle.mapworld_locks.specs.Stands.{core_aim, core_tries, is_trying, stand_of}
 use Rattle.mapworld_locks.specs.Steps.{LockEnds}
 use Rattle.mapworld_locks.specs.Views.{Shown, held_as, held_at}
@@ -109,12 +109,13 @@ call_ends : (s : State) (t : ℕ) (c : Call) (answer : CoreAnswer) → FitsToget
 call_ends s t c answer h plain here over =
     subst (EndsSo (core_aim c.core) (core_tries c.core) answer) (sym (call_holds s t c plain here))
     (subst (λ e. EndsBy e (core_aim c.core) (core_tries c.core) (held_as (rw_mode (rw_core_role 0 c.spot (taken_by s.wakes t) c.core)))) over
-    (by c.core (h.rules.kinds t c here) (subst (λ n. IsPrepared (recursive_in s.kinds c.lock) n c.core) (plain.alone t c here) (h.rules.prepared t c here))))
+    (by c.core (plain.cores t c here) (h.rules.kinds t c here) (subst (λ n. IsPrepared (recursive_in s.kinds c.lock) n c.core) (plain.alone t c here) (h.rules.prepared t c here))))
   where
-    by : (k : Core) → IsOfKind (slice_get s.kinds c.lock) k → IsPrepared (recursive_in s.kinds c.lock) 0 k → EndsBy (end_of (core_act k)) (core_aim k) (core_tries k) (held_as (rw_mode (rw_core_role 0 c.spot (taken_by s.wakes t) k)))
-    by (Core.Rw x) of_kind ready = phase_ends (recursive_in s.kinds c.lock) (rw_spot c.spot) (taken_by s.wakes t) x.phase ready.1
-    by (Core.Mutex x) of_kind ready = absurd (not_mutex s c.lock plain.kinds of_kind)
-    by (Core.Late x) of_kind ready = absurd (not_mutex s c.lock plain.kinds of_kind)
+    by : (k : Core) → is_plain k ≡ true → IsOfKind (slice_get s.kinds c.lock) k → IsPrepared (recursive_in s.kinds c.lock) 0 k → EndsBy (end_of (core_act k)) (core_aim k) (core_tries k) (held_as (rw_mode (rw_core_role 0 c.spot (taken_by s.wakes t) k)))
+    by (Core.Rw x) so of_kind ready = phase_ends (recursive_in s.kinds c.lock) (rw_spot c.spot) (taken_by s.wakes t) x.phase ready.1
+    by (Core.Mutex x) so of_kind ready = absurd (not_mutex s c.lock plain.kinds of_kind)
+    by (Core.Late x) so of_kind ready = absurd (not_mutex s c.lock plain.kinds of_kind)
+    by (Core.Upgrade x) so of_kind ready = absurd cc
 
 -- what that says of each aim
 ends_owned : (aim : Aim) (trying : Bool) (answer : CoreAnswer) (o : Option Mode) → EndsSo aim trying answer o → (m : Mode) → aim ≡ Gets m → answer ≡ CoreAnswer.Owned → o ≡ Some m
@@ -161,7 +162,7 @@ module _ (laws : StepsAreCases) (old : Shown) (fit : LocksFit old) (t : ℕ) (ro
   holds : (v j : ℕ) → held_at u j v ≡ held_at s j v
   holds v j = elim (cases_eq j c.lock) [
     | inl e ↦ ap (λ n. held_at u n v) e ∙ answer_leaves_holds laws s u t false answer fit.fits fit.plain x v ∙ ap (λ n. held_at s n v) (sym e)
-    | inr ne ↦ elsewhere laws s u t false (Some answer) fit.fits fit.plain.kinds plain.kinds fit.plain.alone x j v ne
+    | inr ne ↦ elsewhere laws s u t false (Some answer) fit.fits fit.plain.kinds plain.kinds fit.plain.alone fit.plain.cores x j v ne
   ]
 
   gone : call_at u t ≡ None

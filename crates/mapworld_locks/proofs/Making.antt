@@ -66,6 +66,7 @@ module _ (threads shards : ℕ) (rows : Rows) (desks : List (DeskState (Unit {0}
     kinds = subst (All (λ k. k ≡ kind.Rw)) (sym (ap (λ (w : State). w.kinds) made)) (All-replicate (λ k. k ≡ kind.Rw) shards kind.Rw refl);
     single = subst (All (λ h. is_single h ≡ true)) (sym (ap (λ (w : State). w.holds) made)) (All-replicate (λ h. is_single h ≡ true) _ (Hold.Shares 0) refl);
     alone = λ t c at. absurd (none-some c (sym (free t) ∙ at));
+    cores = λ t c at. absurd (none-some c (sym (free t) ∙ at));
   }
 
   unheld : (i t : ℕ) → held_at u i t ≡ None

@@ -19,7 +19,7 @@ pub data Aim : Type 0 where
   GivesUp : (mode : Mode) → Aim
   Turns : Aim
 
--- the aim of a call; a mutex's is none of a reader-writer lock
+-- the aim of a call; a mutex's is none of a shard's lock, and an upgradable call's neither
 abbrev pub aim_of : LockCall → Aim
 aim_of call.Lock = Gets held.Exclusive
 aim_of call.TryLock = Gets held.Exclusive
@@ -32,6 +32,13 @@ aim_of call.Write = Gets held.Exclusive
 aim_of call.TryWrite = Gets held.Exclusive
 aim_of call.UnlockWrite = GivesUp held.Exclusive
 aim_of call.Downgrade = Turns
+aim_of call.UpgradableRead = Turns
+aim_of call.TryUpgradableRead = Turns
+aim_of call.UnlockUpgradable = Turns
+aim_of call.Upgrade = Turns
+aim_of call.TryUpgrade = Turns
+aim_of call.DowngradeToUpgradable = Turns
+aim_of call.DowngradeUpgradable = Turns
 
 abbrev pub aim_for : LockMode → Aim
 aim_for (want.Shared recursive) = Gets held.Shared

@@ -5,6 +5,8 @@ use Rattle.lock_api_desk.specs.Desk.{DeskState}
 use Rattle.parking_lot_world.specs.declared.calls.LockKind.TheVariants as kind
 use Rattle.parking_lot_world.specs.declared.seat.Hold.{Hold}
 use Rattle.parking_lot_world.specs.declared.seat.Hold.TheVariants as hold
+use Rattle.parking_lot_world.specs.declared.seat.Core.{Core}
+use Rattle.parking_lot_world.specs.declared.seat.Core.TheVariants as core
 use Rattle.parking_lot_world.specs.declared.open_call.Call.{Call}
 use Rattle.parking_lot_world.specs.RowFits.{FitsTogether}
 use Rattle.parking_lot_world.specs.Rows.{State, call_at, state}
@@ -17,12 +19,21 @@ is_single (hold.Shares zero) = true
 is_single (hold.Shares (suc zero)) = true
 is_single (hold.Shares (suc (suc n))) = false
 is_single hold.Excludes = true
+is_single hold.Upgrades = false
+
+-- the core is one of readers and writers
+abbrev pub is_plain : Core → Bool
+is_plain (core.Rw c) = true
+is_plain (core.Mutex c) = true
+is_plain (core.Late p) = true
+is_plain (core.Upgrade c) = false
 
 -- of the machine alone: all locks are reader-writer locks
 pub record IsPlain (s : State) : Type 0 where
   pub kinds : All (λ k. k ≡ kind.Rw) s.kinds
   pub single : All (λ h. is_single h ≡ true) s.holds
   pub alone : (t : ℕ) (c : Call) → call_at s t ≡ Some c → c.others ≡ 0
+  pub cores : (t : ℕ) (c : Call) → call_at s t ≡ Some c → is_plain c.core ≡ true
 
 -- The desk beside a shard's word: its guards are the lock's owners but pending ones, each under the number of its thread, and those that were
 -- handed the lock are among them. There is room for a guard of each thread.

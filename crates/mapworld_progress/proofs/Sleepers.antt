@@ -21,7 +21,7 @@ use Rattle.parking_lot_world.specs.Rows.{State, call_at, state}
 use Rattle.parking_lot_world.specs.Stances.{Stance, Asleep, core_act, rw_stance, stance}
 use Rattle.mapworld_locks.proofs.Handing.{goes_by, no_mutex}
 use Rattle.mapworld_locks.specs.Aims.{Aim, Gets, aim_for, phase_aim}
-use Rattle.mapworld_locks.specs.Fits.{LocksFit}
+use Rattle.mapworld_locks.specs.Fits.{LocksFit, is_plain}
 use Rattle.mapworld_locks.specs.Stands.{core_aim}
 use Rattle.mapworld_locks.specs.Views.{Shown}
 
@@ -100,10 +100,11 @@ sleeps_on (RwPhase.Finishes rest) h = absurd (awake rest h)
 sleeps_on (RwPhase.Ends outcome) h = cc
 sleeps_on RwPhase.Invalid h = cc
 
-core_sleeps : (k : Core) (o : Option LockKind) → manner_of o ≢ Some AsMutex → IsOfKind o k → sleeps (core_act k) ≡ true → SleepsOn (stance k) (core_aim k)
-core_sleeps (Core.Rw c) o rw of_kind h = sleeps_on c.phase h
-core_sleeps (Core.Mutex c) o rw of_kind h = absurd (rw of_kind)
-core_sleeps (Core.Late c) o rw of_kind h = absurd (rw of_kind)
+core_sleeps : (k : Core) (o : Option LockKind) → is_plain k ≡ true → manner_of o ≢ Some AsMutex → IsOfKind o k → sleeps (core_act k) ≡ true → SleepsOn (stance k) (core_aim k)
+core_sleeps (Core.Rw c) o so rw of_kind h = sleeps_on c.phase h
+core_sleeps (Core.Mutex c) o so rw of_kind h = absurd (rw of_kind)
+core_sleeps (Core.Late c) o so rw of_kind h = absurd (rw of_kind)
+core_sleeps (Core.Upgrade c) o so rw of_kind h = absurd cc
 
 module _ (locks : Shown) (fit : LocksFit locks) (t : ℕ) where
   abbrev s : State
@@ -115,7 +116,7 @@ module _ (locks : Shown) (fit : LocksFit locks) (t : ℕ) where
   -- the call in which a thread sleeps
   sleeper-by : (o : Option Call) → call_at s t ≡ o → option_map_or (λ c. sleeps (core_act c.core)) o false ≡ true → (c : Call) × (call_at s t ≡ Some c) × SleepsOn (stance c.core) (core_aim c.core)
   sleeper-by None there h = cc
-  sleeper-by (Some c) there h = (c, there, core_sleeps c.core (slice_get s.kinds c.lock) (all_rw c.lock) (fit.fits.rules.kinds t c there) h)
+  sleeper-by (Some c) there h = (c, there, core_sleeps c.core (slice_get s.kinds c.lock) (fit.plain.cores t c there) (all_rw c.lock) (fit.fits.rules.kinds t c there) h)
 
   pub sleeper : is_asleep s t ≡ true → (c : Call) × (call_at s t ≡ Some c) × SleepsOn (stance c.core) (core_aim c.core)
   sleeper h = sleeper-by (call_at s t) refl h

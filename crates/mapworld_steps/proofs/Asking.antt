@@ -5,11 +5,9 @@ use Rattle.std.proofs.lemmas.Bool.{false≢true}
 use Rattle.dashmap_table.proofs.Cases.{option_cases}
 use Rattle.parking_lot_protocol.specs.declared.act.CoreAnswer.{CoreAnswer}
 use Rattle.parking_lot_protocol.specs.declared.act.CoreAnswer.TheVariants.{Owned, Refused}
-use Rattle.parking_lot_world.specs.Kinds.{AsRw}
-use Rattle.parking_lot_world.specs.Calls.{manner_for}
 use Rattle.parking_lot_world.specs.declared.calls.LockCall.TheVariants as call
 use Rattle.mapworld_locks.specs.Views.{Shown, owner_in}
-use Rattle.mapworld_locks.specs.Stands.{Stand, stand_in, needs, gives}
+use Rattle.mapworld_locks.specs.Stands.{Stand, stand_in, is_of_shards, needs, gives}
 use Rattle.mapworld_locks.specs.Steps.{MayAsk}
 use Rattle.mapworld_state.specs.declared.holds.Mode.{Mode}
 use Rattle.mapworld_state.specs.declared.holds.Mode.TheVariants.{Shared, Exclusive}
@@ -27,13 +25,13 @@ use Rattle.mapworld_state.proofs.HoldsTable.{none-there}
 use Rattle.mapworld_locks.proofs.Sizes.{KeepsSize, same_size, begins-size}
 
 -- what is asked of a lock, and what it needs
-asked-needs : (tries : Bool) (mode : Mode) → (manner_for (wants_for tries mode) ≡ AsRw) × (needs (wants_for tries mode) ≡ None)
+asked-needs : (tries : Bool) (mode : Mode) → (is_of_shards (wants_for tries mode) ≡ true) × (needs (wants_for tries mode) ≡ None)
 asked-needs false Shared = (refl, refl)
 asked-needs false Exclusive = (refl, refl)
 asked-needs true Shared = (refl, refl)
 asked-needs true Exclusive = (refl, refl)
 
-given-needs : (mode : Mode) → (manner_for (gives_up mode) ≡ AsRw) × (needs (gives_up mode) ≡ Some (at_desk mode))
+given-needs : (mode : Mode) → (is_of_shards (gives_up mode) ≡ true) × (needs (gives_up mode) ≡ Some (at_desk mode))
 given-needs Shared = (refl, refl)
 given-needs Exclusive = (refl, refl)
 

@@ -18,7 +18,7 @@ use Rattle.parking_lot_world.specs.declared.seat.QueuePosition.TheVariants as sp
 use Rattle.parking_lot_world.specs.declared.seat.Core.{Core}
 use Rattle.parking_lot_world.specs.declared.open_call.Call.{Call}
 use Rattle.parking_lot_world.specs.Rows.{State, word_at, call_at, inside}
-use Rattle.parking_lot_world.specs.Stances.{Doing, Stance, Out, In, Joined, Asleep, stance, taken_count, core_act, core_next}
+use Rattle.parking_lot_world.specs.Stances.{Doing, Stance, Out, In, Joined, Joins, TurnsBack, Takes, Asleep, stance, taken_count, core_act, core_next}
 use Rattle.parking_lot_world.specs.StanceLaws.{StaysOut, LeavesFor}
 use Rattle.parking_lot_world.specs.RowActs.{with_call, with_word, hears, loaded, exchanged, added, spun, entered, checked, left}
 use Rattle.parking_lot_world.specs.RowFits.{FitsTogether, LotFits, IsOfKind}
@@ -30,13 +30,19 @@ use Rattle.parking_lot_world.proofs.OwnMoves.{AfterAct, IsOwnAct}
 use Rattle.parking_lot_world.proofs.Owning.{OwnAct}
 use Rattle.parking_lot_world.proofs.OwnActs.{own_fits}
 use Rattle.parking_lot_world.proofs.WakesKept.{wakes_own}
+use Rattle.parking_lot_core_lot.specs.Places.{passed_of}
+use Rattle.parking_lot_world.proofs.Passing.{IsAround, inside_mine, own_passes}
 use Rattle.parking_lot_world.proofs.Starting.{begins, ends, never}
+
+out_takes : {k : ℕ} → Out ≡ In k Takes → ⊥
+out_takes e = cc
 
 -- A thread's own act, of which the lot's side is known.
 module _ (s u : State) (t : ℕ) (c : Call) (told : ActResult) (h : FitsTogether s) (a : OwnAct s u t c told (core_next c.core told) c.spot) (lists_same : (key : ℕ) → u.lot.queues key ≡ s.lot.queues key) (gives : Gives (core_act c.core) (word_at s c.lock) told)
-    (own : IsOwnAct (core_act c.core)) (around : AfterAct (core_act c.core) t (inside s) (inside u)) (lots : LotFits u) where
+    (own : IsOwnAct (core_act c.core)) (around : AfterAct (core_act c.core) t (inside s) (inside u)) (lots : LotFits u) (apart : IsAround s u t)
+    (none : (k : ℕ) (o : Section) → stance (core_next c.core told) ≡ In k Takes → u.lot.section ≡ Some o → passed_of o.phase ≡ 0) where
   pub own_act : (what : ActResult) × Acts t c what s u
-  own_act = let both = own_fits s u t h c told lists_same a gives own around in (told, record { fits = record { lots = lots; wakes = wakes_own s u t c told (core_next c.core told) a h.wakes; rules = both.0 }; goes = both.1 })
+  own_act = let both = own_fits s u t h c told lists_same a gives own around in (told, record { fits = record { lots = lots; passes = own_passes s u t c told (core_next c.core told) c.spot a lots h.passes apart none; wakes = wakes_own s u t c told (core_next c.core told) a h.wakes; rules = both.0 }; goes = both.1 })
 
 -- THE WORD
 
@@ -47,6 +53,7 @@ has_word s h t c here = subst (λ n. c.lock < n) (sym h.rules.size_words) (withi
     within : (x : Core) → c.core ≡ x → c.lock < length s.kinds
     within (Core.Rw k) e = within_kinds s.kinds c.lock _ (subst (IsOfKind (slice_get s.kinds c.lock)) e (h.rules.kinds t c here))
     within (Core.Mutex k) e = within_kinds s.kinds c.lock _ (subst (IsOfKind (slice_get s.kinds c.lock)) e (h.rules.kinds t c here))
+    within (Core.Upgrade k) e = within_kinds s.kinds c.lock _ (subst (IsOfKind (slice_get s.kinds c.lock)) e (h.rules.kinds t c here))
     within (Core.Late p) e = within_kinds s.kinds c.lock _ (subst (IsOfKind (slice_get s.kinds c.lock)) e (h.rules.kinds t c here))
 
 pub word-here : (words : List ℕ) (j x : ℕ) → j < length words → option_map_or (λ w. w) (slice_get (slice_set words j x) j) 0 ≡ x
@@ -95,7 +102,7 @@ module _ (s : State) (t : ℕ) (c : Call) (told : ActResult) (x : Act) (asked : 
       })
       (λ key. refl)
       (subst (λ (y : Act). Gives y (word_at s c.lock) told) (sym asked) gives) (subst IsOwnAct (sym asked) own) (subst (λ (y : Act). AfterAct y t (inside s) (inside s)) (sym asked) (around (inside s)))
-      (stays_out s t c told h.lots here leads)
+      (stays_out s t c told h.lots here leads) (inr (inr (refl, λ key. refl))) (λ k o e. absurd (out_takes (sym leads.1 ∙ e)))
 
   -- or is written
   writes : (word : ℕ) → word_after x told (word_at s c.lock) ≡ word → (what : ActResult) × Acts t c what s (with_word (with_call s t (hears c told)) c.lock word)
@@ -114,7 +121,7 @@ module _ (s : State) (t : ℕ) (c : Call) (told : ActResult) (x : Act) (asked : 
       })
       (λ key. refl)
       (subst (λ (y : Act). Gives y (word_at s c.lock) told) (sym asked) gives) (subst IsOwnAct (sym asked) own) (subst (λ (y : Act). AfterAct y t (inside s) (inside s)) (sym asked) (around (inside s)))
-      (same_parts (with_call s t (hears c told)) (with_word (with_call s t (hears c told)) c.lock word) refl refl refl (stays_out s t c told h.lots here leads))
+      (same_parts (with_call s t (hears c told)) (with_word (with_call s t (hears c told)) c.lock word) refl refl refl (stays_out s t c told h.lots here leads)) (inr (inr (refl, λ key. refl))) (λ k o e. absurd (out_takes (sym leads.1 ∙ e)))
 
 load : (s : State) (t : ℕ) (c : Call) → core_act c.core ≡ Act.Load → Keeps t c s (loaded s t c)
 load s t c asked h here =
@@ -159,7 +166,7 @@ enter s t c key asked free sound h here =
     (λ key. refl)
     (subst (λ (y : Act). Gives y (word_at s c.lock) ActResult.Entered) (sym asked) tt) (subst IsOwnAct (sym asked) tt)
     (subst (λ (y : Act). AfterAct y t (inside s) (inside (entered s t c key))) (sym asked) (ap (option_and_then (λ x. x.thread)) free, refl))
-    (entered_fits s t c h.lots here key free sound leads.0 leads.1 leads.2)
+    (entered_fits s t c h.lots here key free sound leads.0 leads.1 leads.2) (inr (inl refl)) (λ k o e at. ap (λ (x : Option Section). option_map_or (λ (y : Section). passed_of y.phase) x 0) (sym at))
 
 check : (s : State) (t : ℕ) (c : Call) → core_act c.core ≡ Act.Section section.Check → lot.Sound (checked s t c).lot → Keeps t c s (checked s t c)
 check s t c asked sound h here =
@@ -180,7 +187,8 @@ check s t c asked sound h here =
     (λ key. refl)
     (subst (λ (y : Act). Gives y (word_at s c.lock) told) (sym asked) refl) (subst IsOwnAct (sym asked) tt)
     (subst (λ (y : Act). AfterAct y t (inside s) (inside (checked s t c))) (sym asked) (still_inside s.lot.section _))
-    (checked_fits s t c h.lots here leads.0 leads.1 leads.3 sound leads.2 leads.4)
+    (checked_fits s t c h.lots here leads.0 leads.1 leads.3 sound leads.2 leads.4) (inr (inl (still_inside s.lot.section _ ∙ inside_mine s h.lots t c here leads.0 _ leads.1)))
+    (λ k o e. absurd (elim leads.2 [ inl x ↦ (let f : In leads.0 TurnsBack ≡ In k Takes = sym x ∙ e in cc) | inr x ↦ (let f : In leads.0 (Joins x.0) ≡ In k Takes = sym x.1 ∙ e in cc) ]))
 
 leave : (s : State) (t : ℕ) (c : Call) → core_act c.core ≡ Act.Section section.Leave → lot.Sound (left s t c).lot → Keeps t c s (left s t c)
 leave s t c asked sound h here =
@@ -200,7 +208,7 @@ leave s t c asked sound h here =
     (λ key. refl)
     (subst (λ (y : Act). Gives y (word_at s c.lock) ActResult.Made) (sym asked) tt) (subst IsOwnAct (sym asked) tt)
     (subst (λ (y : Act). AfterAct y t (inside s) None) (sym asked) refl)
-    (left_fits s t c h.lots here sound leads)
+    (left_fits s t c h.lots here sound leads) (inl refl) (λ k o e at. absurd (none-some o at))
   where
     listed_as : LeavesFor (stance c.core) (stance (core_next c.core ActResult.Made)) (taken_count c.core) (taken_count (core_next c.core ActResult.Made)) → (k : ℕ) (token : ParkToken) → stance (core_next c.core ActResult.Made) ≡ Asleep k token → c.spot ≡ spot.Listed
     listed_as (inl x) k token e = never _ k token _ x.2 e

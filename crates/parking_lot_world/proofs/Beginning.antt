@@ -1,5 +1,5 @@
 -- A call that has begun goes on so.
-use Rattle.std.proofs.Common.{◌≡◌, ℕ, ◌-◌, ◌/◌, ◌%◌, ◌==◌, ◌&&◌, ◌||◌, not, nat_lt, Bool, true, false, Option, Some, None, option_map, refl}
+use Rattle.std.proofs.Common.{◌≡◌, ℕ, ◌-◌, ◌/◌, ◌%◌, ◌==◌, ◌&&◌, ◌||◌, not, nat_lt, Bool, true, false, Option, Some, None, option_map, refl, cond}
 use Rattle.std.specs.Option.{option_map_or}
 use Rattle.parking_lot_protocol.specs.declared.act.ActResult.{ActResult}
 use Rattle.parking_lot_protocol.specs.declared.act.ActResult.TheVariants.{Start, Word, Exchanged, Before, Spun, Entered, Took, Stored, Made, Woken}
@@ -14,6 +14,9 @@ use Rattle.parking_lot_protocol.specs.declared.rw_phase.Scanning.{Scanning}
 use Rattle.parking_lot_protocol.specs.MutexTable as of_mutex
 use Rattle.parking_lot_protocol.specs.RwTable as of_rw
 use Rattle.parking_lot_protocol.proofs.MutexFollowing.{either}
+use Rattle.parking_lot_upgrades.specs.UpgradeTable as ut
+use Rattle.parking_lot_upgrades.specs.declared.upgrade_phase.UpgradePhase.{UpgradePhase}
+use Rattle.parking_lot_world.specs.Stances.{upgrade_begun}
 use Rattle.parking_lot_world.specs.declared.seat.LatePhase.{LatePhase}
 use Rattle.parking_lot_world.specs.declared.seat.Core.{Core}
 use Rattle.parking_lot_world.specs.Stances.{mutex_begun, rw_begun, has_begun, core_next, late_next}
@@ -164,7 +167,53 @@ late_on LatePhase.Leaves Made = refl
 late_on LatePhase.GivesUp s = refl
 late_on p s = refl
 
+-- AN UPGRADABLE CALL
+
+upgrade_pick : (b : Bool) (p q : UpgradePhase) → upgrade_begun p ≡ true → upgrade_begun q ≡ true → upgrade_begun (cond b p q) ≡ true
+upgrade_pick true p q h k = h
+upgrade_pick false p q h k = k
+
+own_begins : (p : UpgradePhase) → upgrade_begun (ut.begun p) ≡ true
+own_begins UpgradePhase.Locking = refl
+own_begins p = refl
+
+own_shows : (p : UpgradePhase) (w : ℕ) → upgrade_begun (ut.shown p w) ≡ true
+own_shows UpgradePhase.TryLoads w = upgrade_pick (ut.is_open w) _ _ refl refl
+own_shows (UpgradePhase.TryAdmits from left) w = upgrade_pick (nat_lt 0 left) _ _ (upgrade_pick (ut.is_open w) _ _ refl refl) refl
+own_shows UpgradePhase.TryUpgradeLoads w = upgrade_pick (ut.is_alone w) _ _ refl refl
+own_shows (UpgradePhase.TryUpgrades from left) w = upgrade_pick (nat_lt 0 left) _ _ (upgrade_pick (ut.is_alone w) _ _ refl refl) refl
+own_shows UpgradePhase.BumpLoads w = upgrade_pick (of_rw.is_parked w) _ _ refl refl
+own_shows (UpgradePhase.UnlockLoads r) w = upgrade_pick (of_rw.is_parked w) _ _ refl refl
+own_shows (UpgradePhase.Unlocks r from) w = upgrade_pick (of_rw.is_parked w) _ _ refl refl
+own_shows p w = refl
+
+own_wins : (p : UpgradePhase) → upgrade_begun (ut.won p) ≡ true
+own_wins (UpgradePhase.Unlocks r from) = upgrade_pick (ut.is_again r) _ _ refl refl
+own_wins (UpgradePhase.Yields from w) = upgrade_pick (of_rw.is_parked w) _ _ refl refl
+own_wins p = refl
+
+own_adds : (p : UpgradePhase) (w : ℕ) → upgrade_begun (ut.added p w) ≡ true
+own_adds UpgradePhase.ToShared w = upgrade_pick (of_rw.is_parked w) _ _ refl refl
+own_adds UpgradePhase.ToUpgradable w = upgrade_pick (of_rw.is_parked w) _ _ refl refl
+own_adds p w = refl
+
+own_on : (p : UpgradePhase) (s : ActResult) → upgrade_begun (ut.own_next p s) ≡ true
+own_on p Start = own_begins p
+own_on p (Word w) = own_shows p w
+own_on p Exchanged = own_wins p
+own_on p (Before w) = own_adds p w
+own_on p s = refl
+
+upgrade_on : (p : UpgradePhase) (s : ActResult) → upgrade_begun (ut.next_phase p s) ≡ true
+upgrade_on (UpgradePhase.Plain core) s = refl
+upgrade_on (UpgradePhase.Seeks core) s = upgrade_pick (ut.owns_now core.phase s) _ _ refl refl
+upgrade_on (UpgradePhase.Drains core) s = refl
+upgrade_on (UpgradePhase.Frees r core) s = upgrade_pick (ut.asks_now r core.phase s) _ _ refl refl
+upgrade_on (UpgradePhase.Owes kept end core) s = refl
+upgrade_on p s = own_on p s
+
 pub goes_on : (c : Core) (s : ActResult) → has_begun (core_next c s) ≡ true
 goes_on (Core.Mutex c) s = mutex_on c.phase s
 goes_on (Core.Rw c) s = rw_on c.phase s
 goes_on (Core.Late p) s = late_on p s
+goes_on (Core.Upgrade c) s = upgrade_on c.phase s

@@ -11,6 +11,10 @@ use Rattle.parking_lot_protocol.specs.declared.rw_phase.AfterWake.{AfterWake}
 use Rattle.parking_lot_protocol.specs.declared.rw_phase.LockMode.{LockMode}
 use Rattle.parking_lot_protocol.specs.declared.rw_phase.RwPhase.{RwPhase}
 use Rattle.parking_lot_rules.specs.Classes.{bit}
+use Rattle.parking_lot_upgrades.specs.declared.upgrade_phase.UpgradePhase.{UpgradePhase}
+use Rattle.parking_lot_world.specs.Ranks.{upgrade_steps}
+use Rattle.parking_lot_world.specs.Rounds.{upgrade_rounds}
+use Rattle.parking_lot_world.specs.Stances.{upgrade_taken}
 use Rattle.parking_lot_world.specs.declared.seat.LatePhase.{LatePhase}
 use Rattle.parking_lot_world.specs.declared.seat.Core.{Core}
 use Rattle.parking_lot_world.specs.declared.open_call.Call.{Call}
@@ -99,6 +103,14 @@ rw_most n (RwPhase.Wakes rs count) some h k = omega (arith, some, k, ends_most r
 rw_most n (RwPhase.Finishes rs) some h k = omega (arith, some, ends_most rs)
 rw_most n p some h k = omega (arith, some)
 
+upgrade_most : (n : ℕ) (p : UpgradePhase) → 1 ≤ n → upgrade_rounds p ≤ 10 → upgrade_taken p ≤ n → upgrade_steps n Unseen p ≤ 219 * n + 200
+upgrade_most n (UpgradePhase.Plain core) some h k = rw_most n core.phase some h k
+upgrade_most n (UpgradePhase.Seeks core) some h k = rw_most n core.phase some h k
+upgrade_most n (UpgradePhase.Drains core) some h k = rw_most n core.phase some h k
+upgrade_most n (UpgradePhase.Frees r core) some h k = rw_most n core.phase some h k
+upgrade_most n (UpgradePhase.Owes kept end core) some h k = rw_most n core.phase some h k
+upgrade_most n p some h k = omega (arith, some)
+
 late_most : (n : ℕ) (p : LatePhase) → late_steps p ≤ 219 * n + 200
 late_most n LatePhase.Expires = omega arith
 late_most n LatePhase.Quits = omega arith
@@ -110,6 +122,7 @@ pub core_most : (n : ℕ) (c : Core) → 1 ≤ n → FewRounds c → taken_count
 core_most n (Core.Mutex c) some h k = omega (arith, some, mutex_most c.phase h)
 core_most n (Core.Rw c) some h k = rw_most n c.phase some h k
 core_most n (Core.Late p) some h k = late_most n p
+core_most n (Core.Upgrade c) some h k = upgrade_most n c.phase some h k
 
 -- all of a list
 pub sum_most : {X : Type 0} (f : X → ℕ) (m : ℕ) (xs : List X) → ((i : ℕ) (x : X) → slice_get xs i ≡ Some x → f x ≤ m) → sum_by f xs ≤ length xs * m

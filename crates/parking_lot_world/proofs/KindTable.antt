@@ -4,12 +4,17 @@ use Rattle.std.proofs.lemmas.Bool.{ne_eqb}
 use Rattle.std.proofs.lemmas.Option.{none-some, slice_get_within}
 use Rattle.parking_lot_core_lot.specs.Machine.{threads_of}
 use Rattle.parking_lot_core_lot.specs.declared.parking.ParkToken.{ParkToken}
-use Rattle.parking_lot_rules.specs.Roles.{Idle, Role, Stay}
+use Rattle.parking_lot_rules.specs.Roles.{Idle, Role, Shares, Stay}
 use Rattle.parking_lot_rules.specs.Roles.{Asleep as AsleepStill, Late as LateStill}
 use Rattle.parking_lot_rules.specs.Classes.{inside as inside_of}
 use Rattle.parking_lot_core_lot.specs.declared.parking.UnparkToken.{UnparkToken}
 use Rattle.parking_lot_protocol.specs.declared.act.ActResult.{ActResult}
 use Rattle.parking_lot_protocol.specs.MutexTable as mutex_table
+use Rattle.parking_lot_protocol.specs.RwTable as rw_table
+use Rattle.parking_lot_upgrades.specs.UpgradeRoles as of_upgrade
+use Rattle.parking_lot_upgrades.specs.UpgradeTable as upgrade_table
+use Rattle.parking_lot_upgrades.specs.declared.upgrade_core.UpgradeCore.{UpgradeCore}
+use Rattle.parking_lot_upgrades.specs.declared.upgrade_phase.UpgradePhase.{UpgradePhase}
 use Rattle.parking_lot_world.specs.declared.seat.WakeResult.{WakeResult}
 use Rattle.parking_lot_rules.specs.Clauses.{word_of}
 use Rattle.parking_lot_rules.specs.Lock.{Lock}
@@ -30,7 +35,7 @@ use Rattle.parking_lot_world.specs.declared.seat.QueuePosition.{QueuePosition}
 use Rattle.parking_lot_world.specs.Kinds.{Manner, AsMutex, AsRw, manner_of}
 use Rattle.parking_lot_world.specs.RowFits.{IsOfKind, IsOfManner}
 use Rattle.parking_lot_world.specs.Rows.{State, word_at, hold_at, call_at, everybody, taken_by, owned_of, owns_mutex, rw_spot, mutex_spot, first_of_all, mark_of, late_role, rw_role_in, mutex_role_in, rw_core_role, mutex_core_role, mutex_word_of, any_lock, lock_as, lock_at, queue_at}
-use Rattle.parking_lot_world.specs.Stances.{Asleep, core_next, late_next, late_stance, mutex_stance, rw_stance, stance}
+use Rattle.parking_lot_world.specs.Stances.{Asleep, core_next, late_next, late_stance, mutex_stance, rw_stance, seeks_stance, stance, upgrade_stance}
 use Rattle.parking_lot_world.proofs.Everybody.{all, change-all, get-all, same-all}
 
 -- What the machine shows of a kind of locks. C is the core of a call at one, R what a thread is to it, and L the lock of the rules. A thread is
@@ -60,6 +65,19 @@ pub rw_listed : (n : ℕ) (us : List ℕ) (q : RwPhase) (at : QueuePosition) →
 rw_listed n us (RwPhase.Sleeps want) at h = ap (λ x. of_rw.role n (rw_spot x) us (RwPhase.Sleeps want)) (h _ _ refl)
 rw_listed n us (RwPhase.DrainSleeps rounds) at h = ap (λ x. of_rw.role n (rw_spot x) us (RwPhase.DrainSleeps rounds)) (h _ _ refl)
 rw_listed n us q at h = refl
+
+seeks_listed : (n : ℕ) (us : List ℕ) (q : RwPhase) (at : QueuePosition) → ((k : ℕ) (token : ParkToken) → seeks_stance q ≡ Asleep k token → at ≡ QueuePosition.Listed) → of_upgrade.does (rw_spot at) us (UpgradePhase.Seeks (record { phase = q })) ≡ of_upgrade.does of_rw.Listed us (UpgradePhase.Seeks (record { phase = q }))
+seeks_listed n us (RwPhase.Sleeps want) at h = ap (λ x. of_upgrade.does (rw_spot x) us (UpgradePhase.Seeks (record { phase = RwPhase.Sleeps want }))) (h _ _ refl)
+seeks_listed n us (RwPhase.DrainSleeps rounds) at h = ap (λ x. of_upgrade.does (rw_spot x) us (UpgradePhase.Seeks (record { phase = RwPhase.DrainSleeps rounds }))) (h _ _ refl)
+seeks_listed n us q at h = refl
+
+pub upgrade_listed : (n : ℕ) (us : List ℕ) (p : UpgradePhase) (at : QueuePosition) → ((k : ℕ) (token : ParkToken) → upgrade_stance p ≡ Asleep k token → at ≡ QueuePosition.Listed) → of_upgrade.role n (rw_spot at) us p ≡ of_upgrade.role n of_rw.Listed us p
+upgrade_listed n us (UpgradePhase.Plain core) at h = rw_listed n us core.phase at h
+upgrade_listed n us (UpgradePhase.Seeks core) at h = ap (λ x. record { owns = Shares 0; does = x }) (seeks_listed n us core.phase at h)
+upgrade_listed n us (UpgradePhase.Drains core) at h = ap (λ (r : Role). record { owns = of_upgrade.owns n (UpgradePhase.Drains core); does = of_upgrade.for_upgrade r.does }) (rw_listed n us core.phase at h)
+upgrade_listed n us (UpgradePhase.Frees way core) at h = ap (λ (r : Role). record { owns = of_upgrade.owns n (UpgradePhase.Frees way core); does = of_upgrade.for_release r.does }) (rw_listed n us core.phase at h)
+upgrade_listed n us (UpgradePhase.Owes hold end core) at h = ap (λ (r : Role). record { owns = of_upgrade.owns n (UpgradePhase.Owes hold end core); does = r.does }) (rw_listed n us core.phase at h)
+upgrade_listed n us p at h = refl
 
 pub mutex_listed : (v : ℕ) (q : MutexPhase) (at : QueuePosition) → ((k : ℕ) (token : ParkToken) → mutex_stance q ≡ Asleep k token → at ≡ QueuePosition.Listed) → of_mutex.role (mutex_spot at) v q ≡ of_mutex.role of_mutex.Listed v q
 mutex_listed v MutexPhase.Sleeps at h = ap (λ x. of_mutex.role (mutex_spot x) v MutexPhase.Sleeps) (h _ _ refl)
@@ -94,29 +112,57 @@ pub mutex_stays : (us : List ℕ) (k : MutexCall) (at : QueuePosition) → ((key
 mutex_stays us (Plain k) at h = mutex_listed (first_of_all us) k.phase at h
 mutex_stays us (Late p) at h = late_listed p at h
 
-pub rw_only : (x : Core) → IsOfManner (Some AsRw) x → (k : RwCore) × (x ≡ Core.Rw k)
-rw_only (Core.Rw k) e = (k, refl)
+-- a call at a reader-writer lock, of shared and exclusive holds or of the upgradable one
+pub data RwCall : Type 0 where
+  Simple : RwCore → RwCall
+  Upgradable : UpgradeCore → RwCall
+
+abbrev pub rw_call : RwCall → Core
+rw_call (Simple k) = Core.Rw k
+rw_call (Upgradable k) = Core.Upgrade k
+
+pub rw_manner : (o : Option Manner) (k : RwCall) → IsOfManner o (rw_call k) → o ≡ Some AsRw
+rw_manner o (Simple k) e = e
+rw_manner o (Upgradable k) e = e
+
+pub rw_only : (x : Core) → IsOfManner (Some AsRw) x → (k : RwCall) × (x ≡ rw_call k)
+rw_only (Core.Rw k) e = (Simple k, refl)
+rw_only (Core.Upgrade k) e = (Upgradable k, refl)
 rw_only (Core.Mutex k) e = absurd cc
 rw_only (Core.Late p) e = absurd cc
+
+-- what follows what one is told
+abbrev pub rw_next : RwCall → ActResult → RwCall
+rw_next (Simple k) told = Simple (record k { phase = rw_table.next_phase k.phase told })
+rw_next (Upgradable k) told = Upgradable (record k { phase = upgrade_table.next_phase k.phase told })
+
+pub next_is : (k : RwCall) (told : ActResult) → core_next (rw_call k) told ≡ rw_call (rw_next k told)
+next_is (Simple k) told = refl
+next_is (Upgradable k) told = refl
 
 pub mutex_only : (x : Core) → IsOfManner (Some AsMutex) x → (k : MutexCall) × (x ≡ mutex_call k)
 mutex_only (Core.Mutex k) e = (Plain k, refl)
 mutex_only (Core.Late p) e = (Late p, refl)
 mutex_only (Core.Rw k) e = absurd cc
+mutex_only (Core.Upgrade k) e = absurd cc
 
-abbrev pub of_rws : Kind RwCore Role Lock
+pub call_listed : (n : ℕ) (us : List ℕ) (k : RwCall) (at : QueuePosition) → ((key : ℕ) (token : ParkToken) → stance (rw_call k) ≡ Asleep key token → at ≡ QueuePosition.Listed) → rw_core_role n at us (rw_call k) ≡ rw_core_role n QueuePosition.Listed us (rw_call k)
+call_listed n us (Simple k) at h = rw_listed n us k.phase at h
+call_listed n us (Upgradable k) at h = upgrade_listed n us k.phase at h
+
+abbrev pub of_rws : Kind RwCall Role Lock
 of_rws = record {
   manner = AsRw;
-  core = Core.Rw;
-  of_kind = λ o k e. e;
+  core = rw_call;
+  of_kind = λ o k e. rw_manner (manner_of o) k e;
   only = rw_only;
   idle = λ h. record { owns = owned_of h; does = Idle };
-  plays = λ n at us k. of_rw.role n (rw_spot at) us k.phase;
+  plays = λ n at us k. rw_core_role n at us (rw_call k);
   role_in = rw_role_in;
   none = λ i us h. refl;
   here = λ i us h c k e at. ap (λ b. cond b (rw_core_role c.others c.spot us c.core) (record { owns = owned_of h; does = Idle })) (eq-eqb c.lock i at) ∙ ap (rw_core_role c.others c.spot us) e;
   away = λ i us h c ne. ap (λ b. cond b (rw_core_role c.others c.spot us c.core) (record { owns = owned_of h; does = Idle })) (ne_eqb c.lock i ne);
-  listed = λ n us k at h. rw_listed n us k.phase at h;
+  listed = λ n us k at h. call_listed n us k at h;
   lock = λ x rs first second. record { word = word_of x; roles = rs; first = first; second = second };
   any = Rw;
   shows = λ s i o e. ap (λ (q : Option Manner). lock_as q s i) e;

@@ -6,14 +6,11 @@ use Rattle.parking_lot_protocol.specs.declared.act.Act.{Act}
 use Rattle.parking_lot_protocol.specs.declared.act.SectionAct.TheVariants as section
 use Rattle.parking_lot_protocol.specs.declared.act.ActResult.{ActResult}
 use Rattle.parking_lot_protocol.specs.declared.mutex_phase.MutexPhase.{MutexPhase}
-use Rattle.parking_lot_protocol.specs.declared.rw_phase.RwPhase.{RwPhase}
 use Rattle.parking_lot_protocol.specs.Acts.{Gives}
-use Rattle.parking_lot_protocol.specs.RwTable as of_rw
 use Rattle.parking_lot_world.specs.declared.seat.Core.{Core}
 use Rattle.parking_lot_world.specs.Stances.{Looks, TurnsBack, Joins, Joined, Takes, Stores, Tells, Stance, Out, In, Asleep, mutex_stance, stance, core_act, core_next}
 use Rattle.parking_lot_world.specs.StanceLaws.{Leads}
 use Rattle.parking_lot_world.specs.RowFits.{mutex_knows}
-use Rattle.parking_lot_world.specs.RwLaws.{Learns}
 use Rattle.parking_lot_world.proofs.OwnMoves.{IsOwnAct}
 use Rattle.parking_lot_world.proofs.Stancing.{leads_by}
 
@@ -59,9 +56,3 @@ mutex_knows_none p h q = tt
 pub mutex_learns : (c : Core) (p : MutexPhase) (x : ℕ) (s : ActResult) → core_act c ≡ core_act c → stance (core_next c s) ≡ mutex_stance p → IsOwnAct (core_act c) → Gives (core_act c) x s → (q : List Waiter) → mutex_knows p q
 mutex_learns c p x s same e own gives q =
     mutex_knows_none p (subst StoresNone e (stores_none (core_act c) s _ _ _ _ _ own (leads_by c (core_act c) x s same gives))) q
-
--- and at a reader-writer lock
-pub rw_learns : (p : RwPhase) (s : ActResult) → IsOwnAct (of_rw.act_of p) → (first second : List Waiter) → Learns p s first second
-rw_learns (RwPhase.Scans a) s own f g = absurd own
-rw_learns (RwPhase.TakeWriter rest) s own f g = absurd own
-rw_learns p s own f g = tt

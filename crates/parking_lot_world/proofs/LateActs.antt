@@ -1,5 +1,5 @@
 -- The acts of a call whose moment has passed: each keeps the machine fit, and is a step of the rules.
-use Rattle.std.proofs.Common.{◌≡◌, ◌≢◌, ℕ, zero, suc, ◌+◌, ◌*◌, ◌<◌, ◌≤◌, ◌==◌, inl, inr, Bool, true, false, cond, List, [], ◌∷◌, length, map, remove, Option, Some, None, slice_get, slice_set, sum_by, refl, sym, ap, ◌∙◌, subst, arith, eqb-true, eq-eqb}
+use Rattle.std.proofs.Common.{◌≡◌, ℕ, zero, suc, ◌+◌, ◌*◌, ◌≤◌, ◌==◌, inl, inr, Bool, true, false, cond, List, [], ◌∷◌, length, remove, Option, Some, None, slice_get, slice_set, sum_by, refl, sym, ap, ◌∙◌, subst, arith, eqb-true, eq-eqb}
 use Rattle.std.specs.List.{position_or_len}
 use Rattle.std.specs.Option.{option_and_then, option_map}
 use Rattle.std.proofs.lemmas.Bool.{cases_eq, ne_eqb}
@@ -8,7 +8,6 @@ use Rattle.std.proofs.lemmas.List.Edits.{length-remove}
 use Rattle.std.proofs.lemmas.Option.{slice_get-map, slice_get_within}
 use Rattle.parking_lot_core_lot.specs.declared.parking.ParkToken.{ParkToken}
 use Rattle.parking_lot_core_lot.specs.declared.place.Phase.{Phase}
-use Rattle.parking_lot_core_lot.specs.declared.place.Place.{Place}
 use Rattle.parking_lot_core_lot.specs.declared.place.Place.TheVariants.{Running, Waiting}
 use Rattle.parking_lot_core_lot.specs.declared.place.Section.{Section}
 use Rattle.parking_lot_core_lot.specs.declared.place.Waiter.{Waiter}
@@ -34,29 +33,29 @@ use Rattle.parking_lot_world.specs.declared.seat.LatePhase.{LatePhase}
 use Rattle.parking_lot_world.specs.declared.seat.Core.{Core}
 use Rattle.parking_lot_world.specs.declared.seat.QueuePosition.{QueuePosition}
 use Rattle.parking_lot_world.specs.declared.open_call.Call.{Call}
-use Rattle.parking_lot_world.specs.ActLaws.{Acts, Keeps}
+use Rattle.parking_lot_world.specs.ActLaws.{Acts}
 use Rattle.parking_lot_world.specs.Kinds.{AsMutex, manner_of, recursive_in}
 use Rattle.parking_lot_world.specs.LateActs.{expired, others_left, out_of_list, quitted, quitted_as, returned}
 use Rattle.parking_lot_world.specs.LateLaws.{Expires, LateActsAreSteps}
 use Rattle.parking_lot_world.specs.Ranks.{Pays, core_steps, far_steps, late_steps, own_steps, steps_left, view_of}
-use Rattle.parking_lot_world.specs.RowActs.{hears, key_of, with_call}
+use Rattle.parking_lot_world.specs.RowActs.{hears, key_of}
 use Rattle.parking_lot_world.specs.RowFits.{FitsTogether, IsOfKind, IsPrepared, LotFits, RulesFit, WaitsIn, WakesSome}
 use Rattle.parking_lot_world.specs.RowSteps.{IsLateMove, IsMade}
 use Rattle.parking_lot_world.specs.Rows.{State, call_at, first_of_all, inside, late_role, mutex_at, mutex_spot, queue_at, taken_by, word_at}
-use Rattle.parking_lot_world.specs.Stances.{Asleep, In, Joined, Stores, Tells, core_act, core_next, sign, stance, taken_count}
+use Rattle.parking_lot_world.specs.Stances.{In, Joined, Stores, Takes, Tells, core_act, core_next, sign, stance, taken_count}
 use Rattle.parking_lot_world.proofs.Calling.{call_of, call-elsewhere, calls-change}
-use Rattle.parking_lot_world.proofs.Carrying.{same_call}
-use Rattle.parking_lot_world.proofs.KindTable.{IsThere, Late, of_mutexes, same}
+use Rattle.parking_lot_world.proofs.KindTable.{Late, of_mutexes, same}
 use Rattle.parking_lot_world.proofs.LateLots.{expired_fits, quit_fits, returned_fits}
-use Rattle.parking_lot_world.proofs.LotActs.{same_section, seat_of}
+use Rattle.parking_lot_world.proofs.LotActs.{seat_of}
 use Rattle.parking_lot_world.proofs.LotLists.{one_key}
 use Rattle.parking_lot_world.proofs.Making.{made, made_sound}
 use Rattle.parking_lot_world.proofs.Meeting.{in_range, plays, plays_late}
 use Rattle.parking_lot_world.proofs.MutexMoving.{total_of_nobody}
 use Rattle.parking_lot_world.proofs.OwnActs.{nobody_in_mutex}
 use Rattle.parking_lot_world.proofs.Owning.{OwnAct, own-elsewhere, own-there, own_after}
+use Rattle.parking_lot_world.proofs.Passing.{own_passes}
 use Rattle.parking_lot_world.proofs.Paying.{call-within, pays}
-use Rattle.parking_lot_world.proofs.Ruling.{CallFits, Fitted, call_fits, knows_same, rules_after, rules_own}
+use Rattle.parking_lot_world.proofs.Ruling.{CallFits, Fitted, call_fits, rules_after, rules_own}
 use Rattle.parking_lot_world.proofs.Summing.{others_change, others_same}
 use Rattle.parking_lot_world.proofs.TakeParts.{others_out, out_knows}
 use Rattle.parking_lot_world.proofs.WakesActs.{wakes_still}
@@ -157,10 +156,14 @@ module _ (s : State) (t : ℕ) (c : Call) (core : c.core ≡ sleeps) (listed : c
       same_own v None = refl
       same_own v (Some d) = ap (λ n. core_steps n (view_of s v d) d.core) (length-set s.calls t (Some late_call))
 
+  expired_lots : LotFits late_state
+  expired_lots = expired_fits s t c late_call 0 parked h.lots here (ap stance core) refl refl refl (sym (ap taken_count core)) (λ e. absurd cc)
+
   pub expires : Expires t c s late_state
   expires = record {
     fits = record {
-      lots = expired_fits s t c late_call 0 parked h.lots here (ap stance core) refl refl refl (sym (ap taken_count core)) (λ e. absurd cc);
+      lots = expired_lots;
+      passes = own_passes s late_state t c seen.Made (Core.Late LatePhase.Expires) c.spot own_expired expired_lots h.passes (inr (inr (refl, λ key. refl))) (λ k o e. absurd cc);
       wakes = wakes_still s late_state t c late_call h.wakes here refl refl refl;
       rules = expired_rules;
     };
@@ -209,12 +212,14 @@ module _ (s : State) (t : ℕ) (c : Call) (core : c.core ≡ Core.Late LatePhase
 
   pub returns : (told : ActResult) × Acts t c told s back_state
   returns =
+      let lots = returned_fits s t c (hears c seen.Entered) 0 parked h.lots here (ap stance core) (ap (λ x. stance (core_next x seen.Entered)) core) refl listed listed (ap (λ x. taken_count (core_next x seen.Entered)) core ∙ sym (ap taken_count core))
+      (λ e. absurd (back_wakes (sym (ap (λ x. core_act (core_next x seen.Entered)) core) ∙ e))) free in
       let both = rules_own s back_state t c seen.Entered c.spot own_back h (λ v e ne at. h.rules.knows v e at) (subst (Fitted s back_state t c seen.Entered) (sym core) back_fitted) in (
         seen.Entered,
         record {
           fits = record {
-            lots = returned_fits s t c (hears c seen.Entered) 0 parked h.lots here (ap stance core) (ap (λ x. stance (core_next x seen.Entered)) core) refl listed listed (ap (λ x. taken_count (core_next x seen.Entered)) core ∙ sym (ap taken_count core))
-                (λ e. absurd (back_wakes (sym (ap (λ x. core_act (core_next x seen.Entered)) core) ∙ e))) free;
+            lots = lots;
+            passes = own_passes s back_state t c seen.Entered (core_next c.core seen.Entered) c.spot own_back lots h.passes (inr (inl refl)) (λ k o e. absurd (back_takes (sym (ap (λ x. stance (core_next x seen.Entered)) core) ∙ e)));
             wakes = wakes_own s back_state t c seen.Entered (core_next c.core seen.Entered) own_back h.wakes;
             rules = both.0;
           };
@@ -224,6 +229,9 @@ module _ (s : State) (t : ℕ) (c : Call) (core : c.core ≡ Core.Late LatePhase
     where
       back_wakes : core_act (Core.Late LatePhase.Quits) ≡ act.Section section.Wake → ⊥
       back_wakes e = cc
+
+      back_takes : {k : ℕ} → In 0 (Joined parked) ≡ In k Takes → ⊥
+      back_takes e = cc
 
 -- IT TAKES ITSELF OUT
 
@@ -372,10 +380,14 @@ module _ (s : State) (t : ℕ) (c : Call) (core : c.core ≡ Core.Late LatePhase
     quit_fitted : Fitted s quit_state t c heard (Core.Late LatePhase.Quits)
     quit_fitted = (quit_made, subst (IsPrepared (recursive_in s.kinds c.lock) c.others) core (h.rules.prepared t c here), tt, h.rules.bits c.lock)
 
+    quit_takes : (b : Bool) (k : ℕ) → stance (Core.Late (cond b LatePhase.Leaves LatePhase.Masks)) ≡ In k Takes → ⊥
+    quit_takes true k e = cc
+    quit_takes false k e = cc
+
     quits_as : (told : ActResult) × Acts t c told s quit_state
     quits_as =
         let both = rules_own s quit_state t c heard c.spot own_quit h (λ v e ne at. out_knows e.core quit_state.lot.queues e.lock (others_out s h.lots t c here 0 (Joined parked) (ap stance core) v e ne at)) (subst (Fitted s quit_state t c heard) (sym core) quit_fitted) in
-        (heard, record { fits = record { lots = quit_lots; wakes = wakes_own s quit_state t c heard (core_next c.core heard) own_quit h.wakes; rules = both.0 }; goes = both.1 })
+        (heard, record { fits = record { lots = quit_lots; passes = own_passes s quit_state t c heard (core_next c.core heard) c.spot own_quit quit_lots h.passes (inr (inl (quit_inside ∙ ap (option_and_then (λ (x : Section). x.thread)) stands.1 ∙ stands.2))) (λ k o e. absurd (quit_takes left k (sym (ap (λ x. stance (core_next x heard)) core) ∙ e))); wakes = wakes_own s quit_state t c heard (core_next c.core heard) own_quit h.wakes; rules = both.0 }; goes = both.1 })
 
   pub quits : lot.Sound (quitted s t c).lot → (told : ActResult) × Acts t c told s (quitted s t c)
   quits sound = quits_as (others_left s t c) refl sound

@@ -1,6 +1,6 @@
 -- Calls on the lot of a thread whose moment has passed are never refused.
-use Rattle.std.proofs.Common.{◌≡◌, ℕ, ◌+◌, ◌*◌, ◌==◌, ◌&&◌, Bool, true, false, cond, not, List, [], ◌∷◌, Option, Some, None, is_some, Result, refl, sym, ap, ◌∙◌, subst, eq-eqb}
-use Rattle.std.specs.Option.{option_and_then, option_map, option_map_or}
+use Rattle.std.proofs.Common.{◌≡◌, ℕ, ◌&&◌, Bool, true, false, cond, [], ◌∷◌, Option, Some, None, is_some, Result, refl, ap, ◌∙◌, subst, eq-eqb}
+use Rattle.std.specs.Option.{option_map, option_map_or}
 use Rattle.parking_lot_core_lot.specs.declared.fault.LotFault.{LotFault}
 use Rattle.parking_lot_core_lot.specs.declared.fault.LotFault.TheVariants.{Busy, WrongStatus}
 use Rattle.parking_lot_core_lot.specs.declared.place.Phase.{Phase}
@@ -8,7 +8,7 @@ use Rattle.parking_lot_core_lot.specs.declared.place.Place.{Place}
 use Rattle.parking_lot_core_lot.specs.declared.place.Place.TheVariants.{Waiting}
 use Rattle.parking_lot_core_lot.specs.declared.place.Section.{Section}
 use Rattle.parking_lot_core_lot.specs.declared.place.Sleep.{Sleep}
-use Rattle.parking_lot_core_lot.specs.Machine.{Machine, Unless, busy, given_up, in_phase, quit_fault, quitted, resumed, return_fault, section_of, step_fault, stored}
+use Rattle.parking_lot_core_lot.specs.Machine.{Machine, Unless, busy, given_up, in_phase, quit_fault, quitted, resumed, return_fault, step_fault, stored}
 use Rattle.parking_lot_core_lot.specs.Runs.{Quit, StoreDone, unless_refused}
 use Rattle.parking_lot_core_lot.specs.Sound.{Sound}
 use Rattle.parking_lot_core_lot.specs.declared.parking.UnparkToken.{UnparkToken}

@@ -1,14 +1,13 @@
 -- The acts of a call whose moment has passed keep what fits of the lot.
-use Rattle.std.proofs.Common.{◌≡◌, ◌≢◌, ◌<◌, ◌≤◌, ℕ, ◌+◌, ◌*◌, ◌==◌, Bool, true, false, cond, List, length, remove, Option, Some, None, slice_get, slice_set, count_by, refl, sym, ap, ◌∙◌, subst, arith, eq-eqb}
+use Rattle.std.proofs.Common.{◌≡◌, ◌<◌, ◌≤◌, ℕ, ◌+◌, ◌*◌, ◌==◌, false, List, length, remove, Option, Some, None, slice_get, count_by, refl, sym, ap, ◌∙◌, subst, arith, eq-eqb}
 use Rattle.std.specs.List.{position_or_len}
-use Rattle.std.specs.Option.{option_map, option_map_or}
+use Rattle.std.specs.Option.{option_map_or}
 use Rattle.std.proofs.lemmas.Bool.{ne_eqb}
 use Rattle.parking_lot_core_lot.specs.declared.parking.ParkToken.{ParkToken}
 use Rattle.parking_lot_core_lot.specs.declared.place.Phase.{Phase}
 use Rattle.parking_lot_core_lot.specs.declared.place.Place.{Place}
 use Rattle.parking_lot_core_lot.specs.declared.place.Place.TheVariants.{Running}
 use Rattle.parking_lot_core_lot.specs.declared.place.Section.{Section}
-use Rattle.parking_lot_core_lot.specs.declared.place.Sleep.{Sleep}
 use Rattle.parking_lot_core_lot.specs.declared.place.Waiter.{Waiter}
 use Rattle.parking_lot_core_lot.specs.Machine.{Machine, in_phase, is_thread, stored}
 use Rattle.parking_lot_core_lot.specs.Machine as lot
@@ -17,18 +16,18 @@ use Rattle.parking_lot_core_lot.specs.Sound.{Sound, times_at}
 use Rattle.parking_lot_core_lot.proofs.Kept.{updated_at, updated_other}
 use Rattle.parking_lot_core_lot.proofs.Numbers.{count_by-at}
 use Rattle.parking_lot_core_lot.proofs.Sequences.{sound_returned}
-use Rattle.parking_lot_core_lot.proofs.Sounds.{none≢some, by_eqb, place_at-set_same, place_at-set_other}
+use Rattle.parking_lot_core_lot.proofs.Sounds.{none≢some, by_eqb}
 use Rattle.parking_lot_world.specs.declared.seat.WakeResult.{WakeResult}
 use Rattle.parking_lot_world.specs.declared.seat.QueuePosition.{QueuePosition}
 use Rattle.parking_lot_world.specs.declared.open_call.Call.{Call}
 use Rattle.parking_lot_world.specs.declared.seat.Wakeup.{Wakeup}
 use Rattle.parking_lot_world.specs.Rows.{State, call_at, taken_by}
-use Rattle.parking_lot_world.specs.Stances.{Doing, Stance, Out, In, Asleep, Joined, Stores, Tells, sign, stance, taken_count}
+use Rattle.parking_lot_world.specs.Stances.{Doing, In, Asleep, Joined, stance, taken_count}
 use Rattle.parking_lot_world.specs.RowActs.{key_of, with_call, with_lot}
 use Rattle.parking_lot_world.specs.RowFits.{Awaits, IsAt, IsOwed, IsTaken, LotFits, Seated, Stands, WaitsIn, WakesSome}
 use Rattle.parking_lot_world.proofs.Indexing.{get_remove}
 use Rattle.parking_lot_world.proofs.Carrying.{same_call, call_within, Carries, tally, tallied, no_length}
-use Rattle.parking_lot_world.proofs.LotActs.{same_section, seat_of, changed_here, changed_there, carries_one, seats_one, same_length, acted, quiet, sits, nobody_off, seats_still, seated_apart, outside_of, lies_still}
+use Rattle.parking_lot_world.proofs.LotActs.{same_section, seat_of, changed_here, changed_there, seats_one, same_length, acted, quiet, sits, nobody_off, seats_still, seated_apart, outside_of, lies_still}
 
 in_asleep : {k j : ℕ} {how : Doing} {token : ParkToken} → In k how ≡ Asleep j token → ⊥
 in_asleep e = cc

@@ -12,15 +12,26 @@ mod NthTaken
 mod Agreeing
 mod Losing
 mod Serving
+mod UpgradeViewing
 mod Spinning
 mod Bounding
 mod Queueing
 mod Moves
 mod Cases
 mod Indebting
+mod UpgradeOwning
+mod RwCalls
+mod RwScans
+mod RwTells
 mod OwnActs
 mod WakesKept
+mod PhaseStancing
+mod UpgradeStancing
 pub mod Stancing
+mod UpgradeMoving
+mod UpgradeKeeping
+mod UpgradeParts
+mod UpgradeGoing
 pub mod RwMoving
 pub mod RwTaking
 pub mod Carrying
@@ -38,18 +49,23 @@ pub mod LotKept
 pub mod LotCalls
 pub mod WakesActs
 pub mod Viewing
-pub mod FirstTaken
+pub mod NextTaken
 pub mod LotStarts
 pub mod ScanRoom
 pub mod RwKeeping
 pub mod RwCrossing
+mod Passing
 mod Starting
 mod Acting
 mod Requesting
 mod Stepping
 mod TakeJoins
 mod TakeParts
+mod Wanting
+mod TakeSleepers
 mod TakeFirst
+mod TakeNext
+mod PassingOn
 mod TakeActs
 mod TakeLaws
 mod Settling
@@ -65,6 +81,7 @@ pub mod Woken
 pub mod Takings
 mod MutexPaying
 mod RwPaying
+mod UpgradePaying
 mod Summing
 pub mod Paying
 pub mod LateLots

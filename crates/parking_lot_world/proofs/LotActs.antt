@@ -212,7 +212,7 @@ module _ (s : State) (t : ℕ) (c : Call) (h : LotFits s) (here : call_at s t �
 
   pub entered_fits : stance c.core ≡ Out → (stance enters.core ≡ In k Looks) ⊎ (stance enters.core ≡ In k Takes) → taken_count enters.core ≡ taken_count c.core → LotFits (entered s t c k)
   entered_fits from (inl to) counts = entered_as (In k Looks) from to tt counts (λ runs. (enters_section, refl, refl, refl, refl, runs))
-  entered_fits from (inr to) counts = entered_as (In k Takes) from to tt counts (λ runs. (enters_section, refl, refl, refl, (refl, refl), runs))
+  entered_fits from (inr to) counts = entered_as (In k Takes) from to tt counts (λ runs. (enters_section, refl, refl, refl, refl, runs))
 
 -- IN THE SECTION
 
@@ -300,7 +300,7 @@ took_nobody_fits s t c k h here from to counts sound =
     goes_on s t c d h here (in_phase s.lot Phase.Ended) o o' seat.1 (ap (option_map {T = Section} (λ x. record x { phase = Phase.Ended })) seat.1) seat.2 seat.2
     (carried_awake s t c d (In k Takes) (In k Stores) here from to tt tt refl counts (wakes_some c.core (seen.Took None (is_left (s.lot.queues (key_of c k))))))
     sound refl refl
-    (λ v j token x by said same at asleep off in_it. still_said o Phase.Ended said seat.4.0 refl in_it)
+    (λ v j token x by said same at asleep off in_it. still_said o Phase.Ended said seat.4 refl in_it)
     (sits t d (In k Stores) (place_at s.lot.places t) (Some o') to (o', refl, seat.2, seat.3, refl, seat.5))
 
 -- LEAVING

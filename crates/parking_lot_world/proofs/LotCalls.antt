@@ -14,7 +14,7 @@ use Rattle.parking_lot_core_lot.specs.declared.place.Sleep.{Sleep}
 use Rattle.parking_lot_core_lot.specs.declared.place.ThreadStatus.TheVariants as status
 use Rattle.parking_lot_core_lot.specs.declared.place.Waiter.{Waiter}
 use Rattle.parking_lot_core_lot.specs.Machine.{Machine, enter_fault, step_fault, resume_fault_at, section_of, any_phase, changed_at, runs, is_of, busy, is_in, token_of}
-use Rattle.parking_lot_core_lot.specs.Places.{place_at, is_due, roused, status_of, may_check, may_join, may_take, may_store, passed_of}
+use Rattle.parking_lot_core_lot.specs.Places.{place_at, is_due, roused, status_of, may_check, may_join, may_take, may_store}
 use Rattle.parking_lot_core_lot.proofs.Numbers.{first_passes}
 use Rattle.parking_lot_core_lot.proofs.Sounds.{place_at-set_same}
 use Rattle.parking_lot_protocol.specs.declared.act.Act.{Act}
@@ -31,7 +31,7 @@ use Rattle.parking_lot_world.specs.LotLaws.{IsTaking, IsDue, IsWaiter, Asks, Lot
 use Rattle.parking_lot_world.proofs.Indexing.{set_twice}
 use Rattle.parking_lot_world.proofs.Stancing.{leads_by, small_key}
 use Rattle.parking_lot_world.proofs.Carrying.{taken_by-count}
-use Rattle.parking_lot_world.proofs.LotActs.{same_section, seat_of}
+use Rattle.parking_lot_world.proofs.LotActs.{seat_of}
 use Rattle.parking_lot_world.proofs.LotTakes.{sleeper}
 use Rattle.parking_lot_world.proofs.LotWakes.{due_place, other}
 
@@ -63,10 +63,10 @@ steps_in s t c h here k how may from fits =
 takes : (s : State) (t : ℕ) (c : Call) (a : Act) → IsTaking a → Asks s t c a → step_fault may_take s.lot t ≡ None
 takes s t c (Act.Section section.TakeFirst) taking x =
     let l = leads_by c.core (Act.Section section.TakeFirst) 0 (seen.Took None false) x.2 tt in
-    steps_in s t c x.0 x.1 l.0 Takes may_take l.1 (λ o come. come.0)
+    steps_in s t c x.0 x.1 l.0 Takes may_take l.1 (λ o come. come)
 takes s t c (Act.Section (section.TakeNext sum)) taking x =
     let l = leads_by c.core (Act.Section (section.TakeNext sum)) 0 (seen.Took None false) x.2 tt in
-    steps_in s t c x.0 x.1 l.0 Takes may_take l.1 (λ o come. come.0)
+    steps_in s t c x.0 x.1 l.0 Takes may_take l.1 (λ o come. come)
 takes s t c a taking x = absurd taking
 
 leaves : (s : State) (t : ℕ) (c : Call) → Asks s t c (Act.Section section.Leave) → step_fault any_phase s.lot t ≡ None
@@ -154,9 +154,6 @@ lot_never_refuses = record {
   inside = λ s t c k how h here from.
       let seat = seat_of s h t c (In k how) here from in
       record { section = seat.0; there = seat.1; own = own_section s.lot t seat.0 seat.1 seat.2; key = seat.3 };
-  passes = λ s t c k o h here from there.
-      let seat = seat_of s h t c (In k Takes) here from in
-      ap (λ (x : Section). passed_of x.phase) (same_section (sym there ∙ seat.1)) ∙ seat.4.1;
   waiters = waiters;
   wakes = wakes;
 }

@@ -92,14 +92,14 @@ gives_took (Act.Section section.TakeFirst) told left h = tt
 gives_took (Act.Section (section.TakeNext sum)) told left h = tt
 gives_took a told left h = absurd h
 
-takes : (s : State) (t : ℕ) (c : Call) (a : Act) (k : ℕ) (w : Waiter) → IsTaking a → stance c.core ≡ In k Takes → slice_get (s.lot.queues (key_of c k)) 0 ≡ Some w → Counts c.core w.token
-    → Keeps s t c a (took s t c (key_of c k) 0 w)
-takes s t c a k w taking from at counts h here is =
-    let left = is_left (remove (s.lot.queues (key_of c k)) 0) in
+takes : (s : State) (t : ℕ) (c : Call) (a : Act) (k nth : ℕ) (w : Waiter) → IsTaking a → stance c.core ≡ In k Takes → slice_get (s.lot.queues (key_of c k)) nth ≡ Some w → Counts c.core w.token
+    → Keeps s t c a (took s t c (key_of c k) nth w)
+takes s t c a k nth w taking from at counts h here is =
+    let left = is_left (remove (s.lot.queues (key_of c k)) nth) in
     let x = takings_count c.core 0 w.token left (subst (λ (b : Act). Gives b 0 (seen.Took (Some w.token) left)) (sym is) (gives_took a (Some w.token) left taking)) counts in
     let same : x.0 ≡ k = same_takes (sym x.2 ∙ from) in
-    took_fits s t c h here k 0 w (subst (λ (j : ℕ). j < 2) same x.1) from at refl
-    (subst (λ (j : ℕ). (stance (hears c (seen.Took (Some w.token) left)).core ≡ In j Takes) ⊎ (stance (hears c (seen.Took (Some w.token) left)).core ≡ In j Stores)) same x.3) x.4 (took_sound s t c h here k 0 w (small_key c.core k Takes from) from at)
+    took_fits s t c h here k nth w (subst (λ (j : ℕ). j < 2) same x.1) from at
+    (subst (λ (j : ℕ). (stance (hears c (seen.Took (Some w.token) left)).core ≡ In j Takes) ⊎ (stance (hears c (seen.Took (Some w.token) left)).core ≡ In j Stores)) same x.3) x.4 (took_sound s t c h here k nth w (small_key c.core k Takes from) from at)
 
 stores : (s : State) (t : ℕ) (c : Call) (plain fair change : WordChange) (is_fair : Bool) → Keeps s t c (Act.Section (section.Store plain fair)) (told_all s t c change is_fair)
 stores s t c plain fair change is_fair h here is =

@@ -172,7 +172,7 @@ module _ (s : State) (t : ℕ) (c : Call) (h : LotFits s) (here : call_at s t �
         ((z.sleep, z.late, inl (place_taken, o', is, seat.2, inr (refl, refl))), outside_of u.lot.section o' t v z.other is seat.2))))
         (λ f. subst (λ (d : Option Call). Seated x d (place_at u.lot.places x) u.lot.section) (sym (call_other x e f))
         (seats_still s t c takes h here u.lot o o' seat.1 is seat.2 seat.2 x e (place_other x f)
-        (λ j token y by said by_t at' asleep off' in_it. still_said o (phase.Taking nth) said seat.4.0 refl in_it)
+        (λ j token y by said by_t at' asleep off' in_it. still_said o (phase.Taking nth) said seat.4 refl in_it)
         (h.seated x (subst (λ (n : ℕ). x < n) took_length within)))))
 
     -- the one that was taken is in no list
@@ -303,7 +303,6 @@ module _ (s : State) (t : ℕ) (c : Call) (h : LotFits s) (here : call_at s t �
           wakeful = took_wakeful;
         }
 
-  -- one that takes the first passes nobody
-  pub took_fits : nth ≡ 0 → (stance takes.core ≡ In k Takes) ⊎ (stance takes.core ≡ In k Stores) → taken_count takes.core ≡ taken_count c.core + 1 → Sound u.lot → LotFits u
-  took_fits first (inl to) counts sound = took_as Takes to counts sound (λ o whose key runs. (record o { phase = phase.Taking nth }, refl, whose, key, (refl, first), runs))
-  took_fits first (inr to) counts sound = took_as Stores to counts sound (λ o whose key runs. (record o { phase = phase.Taking nth }, refl, whose, key, refl, runs))
+  pub took_fits : (stance takes.core ≡ In k Takes) ⊎ (stance takes.core ≡ In k Stores) → taken_count takes.core ≡ taken_count c.core + 1 → Sound u.lot → LotFits u
+  took_fits (inl to) counts sound = took_as Takes to counts sound (λ o whose key runs. (record o { phase = phase.Taking nth }, refl, whose, key, refl, runs))
+  took_fits (inr to) counts sound = took_as Stores to counts sound (λ o whose key runs. (record o { phase = phase.Taking nth }, refl, whose, key, refl, runs))

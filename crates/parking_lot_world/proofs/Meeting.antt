@@ -11,7 +11,6 @@ use Rattle.parking_lot_rules.specs.Holds.{shared_holds}
 use Rattle.parking_lot_rules.specs.Lock.{IsSound}
 use Rattle.parking_lot_rules.specs.Mutex as mutex
 use Rattle.parking_lot_rules.specs.Any.{AnySound}
-use Rattle.parking_lot_protocol.specs.declared.rw_core.RwCore.{RwCore}
 use Rattle.parking_lot_protocol.specs.declared.rw_phase.LockMode.TheVariants as want
 use Rattle.parking_lot_protocol.specs.declared.rw_phase.AfterWake.{AfterWake}
 use Rattle.parking_lot_protocol.specs.declared.rw_phase.Outcome.TheVariants as outcome
@@ -27,17 +26,18 @@ use Rattle.parking_lot_world.specs.declared.seat.QueuePosition.{QueuePosition}
 use Rattle.parking_lot_world.specs.declared.seat.LatePhase.{LatePhase}
 use Rattle.parking_lot_world.specs.declared.seat.Core.{Core}
 use Rattle.parking_lot_world.specs.declared.open_call.Call.{Call}
-use Rattle.parking_lot_world.specs.Rows.{State, word_at, hold_at, call_at, is_by, taken_by, owned_of, rw_spot, rw_role_in, rw_role_at, rw_core_role, rw_lock_at, mutex_at, mutex_spot, late_role, first_of_all, lock_as}
-use Rattle.parking_lot_world.specs.Stances.{core_next, rw_taken, taken_count}
+use Rattle.parking_lot_world.specs.Rows.{State, word_at, hold_at, call_at, is_by, taken_by, owned_of, rw_role_in, rw_role_at, rw_core_role, rw_lock_at, mutex_at, mutex_spot, late_role, first_of_all, lock_as}
+use Rattle.parking_lot_world.specs.Stances.{core_next, has_begun, taken_count}
 use Rattle.parking_lot_world.specs.RowFits.{FitsTogether, is_away, IsOfKind, IsPrepared, KnowsList}
-use Rattle.parking_lot_world.specs.RwLaws.{Learns, Meets, count_shared}
 use Rattle.parking_lot_world.specs.MutexLaws.{Plays}
 use Rattle.parking_lot_world.proofs.MutexRoles.{words}
-use Rattle.parking_lot_world.proofs.RwCrossing.{lists_are_known}
-use Rattle.parking_lot_world.proofs.RwMoving.{answers_are_moves, counted}
-use Rattle.parking_lot_world.proofs.RwKeeping.{calls_keep}
+use Rattle.parking_lot_upgrades.specs.UpgradeRoles as of_upgrade
+use Rattle.parking_lot_upgrades.specs.declared.upgrade_phase.Hold as kept_holds
+use Rattle.parking_lot_upgrades.specs.declared.upgrade_phase.Hold.TheVariants as keeps_up
+use Rattle.parking_lot_upgrades.specs.declared.upgrade_phase.UpgradePhase.{UpgradePhase}
+use Rattle.parking_lot_world.proofs.RwCalls.{CallLearns, CallMeets, CallTold, CallWants, call_few, call_goes_on, call_knows, call_room, stands_prepared}
 use Rattle.parking_lot_world.proofs.Everybody.{was-all, length-all}
-use Rattle.parking_lot_world.proofs.KindTable.{Plain, Late, of_rws, of_mutexes, in_its_place}
+use Rattle.parking_lot_world.proofs.KindTable.{Plain, Late, RwCall, in_its_place, next_is, of_mutexes, of_rws, rw_call}
 
 -- who is in a call is a thread of the machine
 pub in_range : (s : State) (t : ℕ) (c : Call) → call_at s t ≡ Some c → t < length s.calls
@@ -50,12 +50,6 @@ in_range s t c h = elim (cases_lt t (length s.calls)) [
 pub few_taken : (s : State) → FitsTogether s → (t : ℕ) → length (taken_by s.wakes t) < 2 ^ 17
 few_taken s h t =
     omega (arith, length-map (filter (is_by t) s.wakes) (λ w. w.thread), length-filter (is_by t) s.wakes, count_by-le-length (is_by t) s.wakes, h.wakes.room, count_by-le-length is_away s.calls, h.rules.small)
-
--- a scan counts few
-few_counted : (us : List ℕ) (p : RwPhase) → length us < 2 ^ 17 → length us ≡ rw_taken p → count_shared p ≤ 2 ^ 17
-few_counted us (RwPhase.Scans a) b e = omega (arith, b, e)
-few_counted us (RwPhase.Stores a left) b e = omega (arith, b, e)
-few_counted us p b e = omega arith
 
 -- FEW SHARED HOLDS
 
@@ -76,15 +70,35 @@ owns_few n (RwPhase.Finishes rest) = last_few n rest
 owns_few n (RwPhase.Ends outcome.Shared) = omega arith
 owns_few n p = omega arith
 
+kept_few : (kept : kept_holds.Hold) → shared_holds (of_upgrade.owned kept) ≤ 1
+kept_few keeps_up.Nothing = omega arith
+kept_few keeps_up.Shared = omega arith
+kept_few keeps_up.Upgradable = omega arith
+kept_few keeps_up.Exclusive = omega arith
+
+freed_few : (q : RwPhase) → shared_holds (of_upgrade.owned_in_release q) ≤ 1
+freed_few (RwPhase.LooksExclusive fair rest) = omega arith
+freed_few q = omega arith
+
+upgrade_few : (n : ℕ) (p : UpgradePhase) → shared_holds (of_upgrade.owns n p) ≤ n + 1
+upgrade_few n (UpgradePhase.Plain core) = owns_few n core.phase
+upgrade_few n (UpgradePhase.Drains core) = omega (arith, owns_few 0 core.phase)
+upgrade_few n (UpgradePhase.Frees r core) = omega (arith, freed_few core.phase)
+upgrade_few n (UpgradePhase.Owes kept end core) = omega (arith, kept_few kept)
+upgrade_few n (UpgradePhase.Ends kept end) = omega (arith, kept_few kept)
+upgrade_few n p = omega arith
+
 module _ (s : State) (h : FitsTogether s) where
   pub hold_few : (u i : ℕ) (x : Hold) → hold_at s u i ≡ x → shared_holds (owned_of x) ≤ 256
   hold_few u i (Hold.Shares n) e = omega (arith, h.rules.few u i n e)
   hold_few u i Hold.Excludes e = omega arith
+  hold_few u i Hold.Upgrades e = omega arith
 
   core_few : (n : ℕ) (at : QueuePosition) (us : List ℕ) (x : Core) → n ≤ 254 → shared_holds (rw_core_role n at us x).owns ≤ 256
   core_few n at us (Core.Rw k) e = omega (arith, owns_few n k.phase, e)
   core_few n at us (Core.Mutex k) e = omega arith
   core_few n at us (Core.Late p) e = omega arith
+  core_few n at us (Core.Upgrade k) e = omega (arith, upgrade_few n k.phase, e)
 
   pub role_few : (i u : ℕ) (o : Option Call) → call_at s u ≡ o → shared_holds (rw_role_in i (taken_by s.wakes u) (hold_at s u i) o).owns ≤ 256
   role_few i u None e = hold_few u i (hold_at s u i) refl
@@ -101,17 +115,15 @@ module _ (s : State) (h : FitsTogether s) where
   mutex_sound i k = subst (λ (o : Option Manner). AnySound (lock_as o s i)) k (h.rules.sound.sound i)
 
   -- thread t is in that call
-  pub meets : (t : ℕ) (c : Call) (k : RwCore) → c.core ≡ Core.Rw k → call_at s t ≡ Some c
-      → Meets (recursive_in s.kinds c.lock) (rw_lock_at s c.lock) t c.others (rw_spot c.spot) (taken_by s.wakes t) k.phase (word_at s c.lock)
+  pub meets : (t : ℕ) (c : Call) (k : RwCall) → c.core ≡ rw_call k → call_at s t ≡ Some c → CallMeets (recursive_in s.kinds c.lock) (rw_lock_at s c.lock) t c.others c.spot (taken_by s.wakes t) k (word_at s c.lock)
   meets t c k e here =
       let ready = subst (IsPrepared (recursive_in s.kinds c.lock) c.others) e (h.rules.prepared t c here) in
       let counted = h.lots.counted t c here ∙ ap taken_count e in
       record {
-        sound = rw_sound c.lock (subst (IsOfKind (slice_get s.kinds c.lock)) e (h.rules.kinds t c here));
+        sound = rw_sound c.lock (of_rws.of_kind (slice_get s.kinds c.lock) k (subst (IsOfKind (slice_get s.kinds c.lock)) e (h.rules.kinds t c here)));
         word = refl;
         here = in_its_place of_rws s t c k (in_range s t c here) here e;
-        ready = ready.0;
-        prepared = calls_keep.prepared (recursive_in s.kinds c.lock) c.others (taken_by s.wakes t) k.phase ready.1 counted (few_counted (taken_by s.wakes t) k.phase (few_taken s h t) counted);
+        stands = stands_prepared (recursive_in s.kinds c.lock) c.others (taken_by s.wakes t) k ready counted (call_few (taken_by s.wakes t) k (few_taken s h t) counted);
         threads = omega (arith, length-all (rw_role_at s c.lock) 0 (length s.calls), h.rules.small);
         few = λ u x at. subst (λ (q : Role). shared_holds q.owns ≤ 256) (sym (was-all (rw_role_at s c.lock) (length s.calls) u x at)) (role_few c.lock u (call_at s u) refl);
       }
@@ -129,13 +141,15 @@ module _ (s : State) (h : FitsTogether s) where
       record { sound = mutex_sound c.lock kind_is; word = sym (words.forth (word_at s c.lock) (h.rules.bits c.lock kind_is)); here = in_its_place of_mutexes s t c (Late p) (in_range s t c here) here e }
 
   -- a call at a reader-writer lock that hears what it may stands on what its next phase needs
-  pub rw_hears : (t : ℕ) (c : Call) (k : RwCore) → c.core ≡ Core.Rw k → call_at s t ≡ Some c → (heard : ActResult) → of_rw.IsTold k.phase (word_at s c.lock) heard → (queues : ℕ → List Waiter) → Learns k.phase heard (queues (2 * c.lock)) (queues (2 * c.lock + 1))
-      → IsPrepared (recursive_in s.kinds c.lock) c.others (core_next (Core.Rw k) heard) × KnowsList (core_next (Core.Rw k) heard) queues c.lock
-  rw_hears t c k e here heard so queues learns = (
-    (
-      (answers_are_moves (recursive_in s.kinds c.lock) (rw_lock_at s c.lock) t c.others (rw_spot c.spot) (taken_by s.wakes t) k.phase (word_at s c.lock) heard (meets t c k e here) so).2.1,
-      calls_keep.goes_on (recursive_in s.kinds c.lock) c.others k.phase (word_at s c.lock) heard (subst (IsPrepared (recursive_in s.kinds c.lock) c.others) e (h.rules.prepared t c here)).1 (counted (recursive_in s.kinds c.lock) (rw_lock_at s c.lock) t c.others (rw_spot c.spot) (taken_by s.wakes t) k.phase (word_at s c.lock) (meets t c k e here)) so,
-    ),
-    lists_are_known.learns k.phase (word_at s c.lock) heard (s.lot.queues (2 * c.lock)) (s.lot.queues (2 * c.lock + 1)) (queues (2 * c.lock)) (queues (2 * c.lock + 1)) so
-        (subst (λ (x : Core). KnowsList x s.lot.queues c.lock) e (h.rules.knows t c here)) learns,
-  )
+  pub rw_hears : (t : ℕ) (c : Call) (k : RwCall) → c.core ≡ rw_call k → call_at s t ≡ Some c → (heard : ActResult) → CallTold k (word_at s c.lock) heard → CallWants k heard → (queues : ℕ → List Waiter) → CallLearns k heard (queues (2 * c.lock)) (queues (2 * c.lock + 1))
+      → IsPrepared (recursive_in s.kinds c.lock) c.others (core_next (rw_call k) heard) × KnowsList (core_next (rw_call k) heard) queues c.lock
+  rw_hears t c k e here heard so want queues learns =
+      let ready = subst (IsPrepared (recursive_in s.kinds c.lock) c.others) e (h.rules.prepared t c here) in
+      let met = meets t c k e here in
+      let begun = subst (λ (x : Core). has_begun x ≡ true) e (h.rules.begun t c here).begun in
+      let same = sym (next_is k heard) in (
+        subst (IsPrepared (recursive_in s.kinds c.lock) c.others) same
+            (call_goes_on (recursive_in s.kinds c.lock) (rw_lock_at s c.lock) t c.others c.spot (taken_by s.wakes t) (word_at s c.lock) heard k met begun ready (call_room (recursive_in s.kinds c.lock) (rw_lock_at s c.lock) t c.others c.spot (taken_by s.wakes t) k (word_at s c.lock) met) so want),
+        subst (λ (x : Core). KnowsList x queues c.lock) same
+            (call_knows (recursive_in s.kinds c.lock) (rw_lock_at s c.lock) t c.others c.spot (taken_by s.wakes t) (word_at s c.lock) heard k c.lock s.lot.queues queues ready so (subst (λ (x : Core). KnowsList x s.lot.queues c.lock) e (h.rules.knows t c here)) learns),
+      )

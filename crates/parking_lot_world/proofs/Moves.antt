@@ -18,7 +18,7 @@ module _ (s u : State) (P : (t j : ℕ) → Type 0) (quiet : (t j : ℕ) → IsQ
   rw_moves (of_rw.Makes k) j t h = made t j _ h
   rw_moves (of_rw.Joins k) j t h = made t j _ h
   rw_moves (of_rw.TakesOne mode) j t (scan, i, v, h) = made t j _ h
-  rw_moves of_rw.TakesWriter j t (owns, v, h) = made t j _ h
+  rw_moves of_rw.TakesWriter j t (owns, v, from, h) = made t j _ h
   rw_moves (of_rw.Tells end left) j t (scan, h) = made t j _ h
   rw_moves of_rw.WakesOne j t (owns, v, us, k, h) = made t j _ h
   rw_moves (of_rw.IsWoken k) j t h = absurd h
@@ -43,11 +43,13 @@ module _ (s u : State) (P : (t j : ℕ) → Type 0) (quiet : (t j : ℕ) → IsQ
   goes (Core.Rw c) n us told j t h = rw_moves _ j t h
   goes (Core.Mutex c) n us told j t h = mutex_moves _ us j t h
   goes (Core.Late p) n us told j t h = late_moves p told j t h
+  goes (Core.Upgrade c) n us told j t h = rw_moves _ j t h
 
   pub ends : (k : Core) (n j t : ℕ) → IsLastOf k n j t s u → P t j
   ends (Core.Rw c) n j t h = rw_moves _ j t h
   ends (Core.Mutex c) n j t h = mutex_moves _ _ j t h
   ends (Core.Late p) n j t h = quiet t j h
+  ends (Core.Upgrade c) n j t h = rw_moves _ j t h
 
   pub stepped : (t : ℕ) (fair : Bool) (answer : Option CoreAnswer) (x : IsStepped t fair answer s u) → P t x.call.lock
   stepped t fair None x = goes x.call.core x.call.others (taken_by s.wakes t) x.lawful.0 x.call.lock t x.lawful.1.goes

@@ -12,18 +12,14 @@ use Rattle.parking_lot_rules.proofs.MutexCrossing.{any_are_rules}
 use Rattle.parking_lot_protocol.specs.declared.act.Act.{Act}
 use Rattle.parking_lot_protocol.specs.declared.act.SectionAct.TheVariants as section
 use Rattle.parking_lot_protocol.specs.declared.act.ActResult.{ActResult}
-use Rattle.parking_lot_protocol.specs.declared.rw_core.RwCore.{RwCore}
 use Rattle.parking_lot_protocol.specs.declared.mutex_core.MutexCore.{MutexCore}
-use Rattle.parking_lot_protocol.specs.declared.rw_phase.RwPhase.{RwPhase}
 use Rattle.parking_lot_protocol.specs.Acts.{Gives, word_after}
-use Rattle.parking_lot_protocol.specs.RwTable as of_rw_table
-use Rattle.parking_lot_protocol.specs.RwRules as of_rw
 use Rattle.parking_lot_world.specs.Kinds.{AsMutex, AsRw, manner_of, Manner, recursive_in}
 use Rattle.parking_lot_world.specs.declared.seat.LatePhase.{LatePhase}
 use Rattle.parking_lot_world.specs.declared.seat.Core.{Core}
 use Rattle.parking_lot_world.specs.declared.open_call.Call.{Call}
 use Rattle.parking_lot_world.specs.Rows.{State, word_at, taken_by, first_of_all, mutex_spot, rw_lock_at, mutex_at, lock_as, lock_at, inside}
-use Rattle.parking_lot_world.specs.Stances.{has_begun, rw_begun, core_act, core_next, late_act}
+use Rattle.parking_lot_world.specs.Stances.{has_begun, core_act, core_next, late_act}
 use Rattle.parking_lot_world.specs.RowFits.{FitsTogether, RulesFit, IsOfKind, IsPrepared}
 use Rattle.parking_lot_world.specs.RowSteps.{Goes}
 use Rattle.parking_lot_world.specs.RwLaws.{Finds, NobodyIs}
@@ -32,12 +28,13 @@ use Rattle.parking_lot_protocol.specs.declared.mutex_phase.MutexPhase.{MutexPhas
 use Rattle.parking_lot_protocol.specs.MutexRules as of_mutex
 use Rattle.parking_lot_world.specs.MutexLaws.{is_own}
 use Rattle.parking_lot_world.proofs.MutexMoving.{steps}
-use Rattle.parking_lot_world.proofs.KindTable.{Plain, Late, of_rws, of_mutexes, same}
+use Rattle.parking_lot_world.proofs.KindTable.{Late, Plain, RwCall, Simple, Upgradable, next_is, of_mutexes, of_rws, rw_call, rw_next, same}
 use Rattle.parking_lot_world.proofs.Making.{Crossed, TellsOf, made, mutex_goes, rw_goes}
 use Rattle.parking_lot_world.proofs.Meeting.{meets, plays, plays_late, rw_hears}
-use Rattle.parking_lot_world.proofs.OwnMoves.{AfterAct, IsOwnAct, own_moves}
+use Rattle.parking_lot_world.proofs.OwnMoves.{AfterAct, IsOwnAct}
+use Rattle.parking_lot_world.proofs.RwCalls.{as_move, call_hears, call_learns, call_move, call_own, own_wants}
 use Rattle.parking_lot_world.proofs.Owning.{OwnAct, own-there, own-elsewhere, own_after, rw_leads}
-use Rattle.parking_lot_world.proofs.Knowing.{rw_learns, mutex_learns}
+use Rattle.parking_lot_world.proofs.Knowing.{mutex_learns}
 use Rattle.parking_lot_world.proofs.Ruling.{Fitted, knows_same, rules_own}
 
 -- NOBODY IS INSIDE
@@ -74,20 +71,6 @@ is_rw (Some AsRw) = true
 pub two_kinds : Some AsRw ≡ Some AsMutex → ⊥
 unfolding is_rw
 two_kinds e = both_ways (is_rw (Some AsRw)) (ap is_rw e) refl
-
--- AT A READER-WRITER LOCK
-
--- what an act gives is what one may be told that has begun
-pub rw_told : (p : RwPhase) (x : ℕ) (s : ActResult) → rw_begun p ≡ true → IsOwnAct (of_rw_table.act_of p) → Gives (of_rw_table.act_of p) x s → of_rw.IsTold p x s
-rw_told (RwPhase.Locking q) x s b own g = absurd (no_start b)
-rw_told (RwPhase.Trying q) x s b own g = absurd (no_start b)
-rw_told RwPhase.UnlockingShared x s b own g = absurd (no_start b)
-rw_told (RwPhase.UnlockingExclusive fair) x s b own g = absurd (no_start b)
-rw_told RwPhase.Downgrading x s b own g = absurd (no_start b)
-rw_told RwPhase.BumpingShared x s b own g = absurd (no_start b)
-rw_told RwPhase.BumpingExclusive x s b own g = absurd (no_start b)
-rw_told (RwPhase.Scans a) x s b own g = absurd own
-rw_told p x s b own g = g
 
 -- AT A MUTEX
 
@@ -151,20 +134,22 @@ module _ (s u : State) (t : ℕ) (h : FitsTogether s) where
   own_late c LatePhase.Leaves told lists_same e a gives own around = absurd gives
 
   module _ (c : Call) (told : ActResult) (lists_same : (key : ℕ) → u.lot.queues key ≡ s.lot.queues key) where
-    own_rw : (k : RwCore) → c.core ≡ Core.Rw k → OwnAct s u t c told (core_next (Core.Rw k) told) c.spot → Gives (of_rw_table.act_of k.phase) (word_at s c.lock) told → IsOwnAct (of_rw_table.act_of k.phase) → AfterAct (of_rw_table.act_of k.phase) t (inside s) (inside u)
-        → Fitted s u t c told (Core.Rw k)
-    own_rw k e a gives own around =
+    own_rw : (k : RwCall) → c.core ≡ rw_call k → OwnAct s u t c told (core_next (rw_call k) told) c.spot → Gives (core_act (rw_call k)) (word_at s c.lock) told → IsOwnAct (core_act (rw_call k)) → AfterAct (core_act (rw_call k)) t (inside s) (inside u) → Fitted s u t c told (rw_call k)
+    own_rw k e b gives own around =
         let us = taken_by s.wakes t in
         let x = word_at s c.lock in
-        let kind_is = subst (IsOfKind (slice_get s.kinds c.lock)) e (h.rules.kinds t c a.here) in
-        let heard = rw_told k.phase x told (subst (λ (y : Core). has_begun y ≡ true) e (h.rules.begun t c a.here).begun) own gives in
-        let leads = rw_leads (recursive_in s.kinds c.lock) (rw_lock_at s c.lock) t c.others c.spot us k.phase x told (meets s h t c k e a.here) heard (finds (of_rw_table.act_of k.phase) c.lock own around kind_is) a.listed (inside s) (inside u)
-        (own_moves t (inside s) (inside u) c.others us k.phase x told heard own around) in
-        let well = rw_hears s h t c k e a.here told heard u.lot.queues (rw_learns k.phase told own (u.lot.queues (2 * c.lock)) (u.lot.queues (2 * c.lock + 1))) in (
-          rw_goes s u t c.lock (of_rw.move c.others us k.phase told) _ (own-there s u t c told _ c.spot a) (own-elsewhere s u t c told _ c.spot a) kind_is leads.0
-              (own_after of_rws s u t c told (record k { phase = of_rw_table.next_phase k.phase told }) c.spot a _ (a.word ∙ ap (λ y. word_after (core_act y) told x) e)
+        let a = subst (λ (y : Core). OwnAct s u t c told y c.spot) (next_is k told) b in
+        let kind_is = of_rws.of_kind (slice_get s.kinds c.lock) k (subst (IsOfKind (slice_get s.kinds c.lock)) e (h.rules.kinds t c a.here)) in
+        let ready = subst (IsPrepared (recursive_in s.kinds c.lock) c.others) e (h.rules.prepared t c a.here) in
+        let heard = call_hears k x told (recursive_in s.kinds c.lock) c.others (subst (λ (y : Core). has_begun y ≡ true) e (h.rules.begun t c a.here).begun) ready own gives in
+        let leads = rw_leads (recursive_in s.kinds c.lock) (rw_lock_at s c.lock) t c.others c.spot us k x told (meets s h t c k e a.here) heard (finds (core_act (rw_call k)) c.lock own around kind_is) a.listed (inside s) (inside u)
+        (call_own t (inside s) (inside u) (recursive_in s.kinds c.lock) c.others us k x told heard ready own around) in
+        let well = rw_hears s h t c k e a.here told heard (own_wants x k told own gives) u.lot.queues (call_learns k told own (u.lot.queues (2 * c.lock)) (u.lot.queues (2 * c.lock + 1))) in (
+          as_move k c.others us told c.lock t s u
+              (rw_goes s u t c.lock (call_move c.others us k told) _ (own-there s u t c told _ c.spot a) (own-elsewhere s u t c told _ c.spot a) kind_is leads.0
+              (own_after of_rws s u t c told (rw_next k told) c.spot a _ (a.word ∙ ap (λ y. word_after (core_act y) told x) e)
               ∙ same of_rws _ _ _ _ _ _ _ _ refl refl (ap threads_of (lists_same (2 * c.lock))) (ap threads_of (lists_same (2 * c.lock + 1))))
-              leads.1,
+              leads.1),
           well.0,
           well.1,
           λ m. absurd (two_kinds (sym kind_is ∙ m)),
@@ -188,7 +173,8 @@ module _ (s u : State) (t : ℕ) (h : FitsTogether s) where
         )
 
     own_so : (x : Core) → c.core ≡ x → OwnAct s u t c told (core_next x told) c.spot → Gives (core_act x) (word_at s c.lock) told → IsOwnAct (core_act x) → AfterAct (core_act x) t (inside s) (inside u) → Fitted s u t c told x
-    own_so (Core.Rw k) e = own_rw k e
+    own_so (Core.Rw k) e = own_rw (Simple k) e
+    own_so (Core.Upgrade k) e = own_rw (Upgradable k) e
     own_so (Core.Mutex k) e = own_mutex k e
     own_so (Core.Late p) e = own_late c p told lists_same e
 

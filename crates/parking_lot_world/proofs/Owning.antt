@@ -5,19 +5,17 @@ use Rattle.std.proofs.lemmas.List.{length-set}
 use Rattle.std.proofs.lemmas.Option.{same_Some}
 use Rattle.parking_lot_core_lot.specs.declared.parking.ParkToken.{ParkToken}
 use Rattle.parking_lot_protocol.specs.declared.act.ActResult.{ActResult}
-use Rattle.parking_lot_protocol.specs.declared.rw_phase.RwPhase.{RwPhase}
 use Rattle.parking_lot_protocol.specs.Acts.{word_after}
-use Rattle.parking_lot_protocol.specs.RwTable.{act_of, next_phase}
 use Rattle.parking_lot_protocol.specs.RwRules as of_rw
 use Rattle.parking_lot_rules.specs.Lock.{Lock}
 use Rattle.parking_lot_world.specs.declared.seat.QueuePosition.{QueuePosition}
 use Rattle.parking_lot_world.specs.declared.seat.Core.{Core}
 use Rattle.parking_lot_world.specs.declared.open_call.Call.{Call}
-use Rattle.parking_lot_world.specs.Rows.{State, word_at, call_at, taken_by, rw_spot, queue_at}
-use Rattle.parking_lot_world.specs.Stances.{Asleep, stance, rw_stance, core_act}
-use Rattle.parking_lot_world.specs.RwLaws.{Meets, Finds, move_crossing, with_role}
-use Rattle.parking_lot_world.proofs.RwMoving.{stays_are_steps, makes_are_steps}
-use Rattle.parking_lot_world.proofs.KindTable.{Kind, IsThere, Elsewhere, one_changed, role_at, role_now, role_stays, roles_at, shown, same, rw_listed}
+use Rattle.parking_lot_world.specs.Rows.{State, word_at, call_at, taken_by, queue_at}
+use Rattle.parking_lot_world.specs.Stances.{Asleep, core_act, stance}
+use Rattle.parking_lot_world.specs.RwLaws.{Finds, move_crossing, with_role}
+use Rattle.parking_lot_world.proofs.KindTable.{Kind, IsThere, Elsewhere, one_changed, role_at, role_now, role_stays, roles_at, shown, same, RwCall, rw_call, rw_next}
+use Rattle.parking_lot_world.proofs.RwCalls.{CallMeets, CallTold, call_lock, call_makes, call_move, call_role, call_stays}
 use Rattle.parking_lot_world.proofs.Making.{Crossed, RwLeadsBy}
 use Rattle.parking_lot_world.proofs.OwnMoves.{OwnMove}
 use Rattle.parking_lot_world.proofs.Meeting.{in_range}
@@ -84,21 +82,21 @@ module _ {C R L : Type 0} (K : Kind C R L) where
 -- AT A READER-WRITER LOCK
 
 -- an act of its own leads from the lock to the one with its next role, and crosses what its move does
-module _ (recursive : Bool) (l : Lock) (t n : ℕ) (at : QueuePosition) (us : List ℕ) (p : RwPhase) (x : ℕ) (told : ActResult) (here : Meets recursive l t n (rw_spot at) us p x) (heard : of_rw.IsTold p x told) (found : Finds (act_of p) l)
-    (listed : (key : ℕ) (token : ParkToken) → rw_stance (next_phase p told) ≡ Asleep key token → at ≡ QueuePosition.Listed) (old new : Option ℕ) where
+module _ (recursive : Bool) (l : Lock) (t n : ℕ) (at : QueuePosition) (us : List ℕ) (k : RwCall) (x : ℕ) (told : ActResult) (here : CallMeets recursive l t n at us k x) (heard : CallTold k x told) (found : Finds (core_act (rw_call k)) l)
+    (listed : (key : ℕ) (token : ParkToken) → stance (rw_call (rw_next k told)) ≡ Asleep key token → at ≡ QueuePosition.Listed) (old new : Option ℕ) where
   abbrev next_lock : Lock
-  next_lock = with_role l (word_after (act_of p) told x) t (of_rw.role n of_rw.Listed us (next_phase p told))
+  next_lock = call_lock l t n us k told x
 
-  leads_by_move : (m : of_rw.Move) → of_rw.move n us p told ≡ m → OwnMove m t old new → RwLeadsBy recursive m t l next_lock × Crossed (move_crossing m) t old new
+  leads_by_move : (m : of_rw.Move) → call_move n us k told ≡ m → OwnMove m t old new → RwLeadsBy recursive m t l next_lock × Crossed (move_crossing m) t old new
   leads_by_move of_rw.Stays eq moves =
-      let kept = stays_are_steps recursive l t n (rw_spot at) us p x told here heard eq in (
-        ap (λ y. with_role l y t (of_rw.role n of_rw.Listed us (next_phase p told))) kept.1
-            ∙ ap (with_role l x t) (sym (rw_listed n us (next_phase p told) at listed) ∙ kept.0)
-            ∙ ap (λ w. record { word = w; roles = slice_set l.roles t (of_rw.role n (rw_spot at) us p); first = l.first; second = l.second }) (sym here.word)
+      let kept = call_stays recursive l t n at us k x told here heard listed eq in (
+        ap (λ y. with_role l y t (call_role n QueuePosition.Listed us (rw_next k told))) kept.1
+            ∙ ap (with_role l x t) kept.0
+            ∙ ap (λ w. record { word = w; roles = slice_set l.roles t (call_role n at us k); first = l.first; second = l.second }) (sym here.word)
             ∙ ap (λ rs. record l { roles = rs }) (set-same l.roles t _ here.here),
         moves,
       )
-  leads_by_move (of_rw.Makes k) eq moves = (makes_are_steps recursive l t n (rw_spot at) us p x told k here heard eq found, moves)
+  leads_by_move (of_rw.Makes step) eq moves = (call_makes recursive l t n at us k x told step here heard eq found, moves)
   leads_by_move (of_rw.Joins k) eq moves = absurd moves
   leads_by_move (of_rw.TakesOne k) eq moves = absurd moves
   leads_by_move of_rw.TakesWriter eq moves = absurd moves
@@ -106,5 +104,5 @@ module _ (recursive : Bool) (l : Lock) (t n : ℕ) (at : QueuePosition) (us : Li
   leads_by_move of_rw.WakesOne eq moves = absurd moves
   leads_by_move (of_rw.IsWoken k) eq moves = absurd moves
 
-  pub rw_leads : OwnMove (of_rw.move n us p told) t old new → RwLeadsBy recursive (of_rw.move n us p told) t l next_lock × Crossed (move_crossing (of_rw.move n us p told)) t old new
-  rw_leads moves = leads_by_move (of_rw.move n us p told) refl moves
+  pub rw_leads : OwnMove (call_move n us k told) t old new → RwLeadsBy recursive (call_move n us k told) t l next_lock × Crossed (move_crossing (call_move n us k told)) t old new
+  rw_leads moves = leads_by_move (call_move n us k told) refl moves

@@ -14,14 +14,21 @@ use Rattle.parking_lot_world.specs.Kinds.{AsRw, manner_of, kind_in, recursive_in
 use Rattle.parking_lot_world.specs.declared.seat.LatePhase.{LatePhase}
 use Rattle.parking_lot_world.specs.declared.seat.Core.{Core}
 use Rattle.parking_lot_world.specs.declared.open_call.Call.{Call}
-use Rattle.parking_lot_world.specs.Rows.{State, word_at, call_at, first_key, inside, rw_lock_at, rw_spot, taken_by, rw_role_at}
-use Rattle.parking_lot_world.specs.Stances.{core_act, core_next, late_act, late_next, late_stance, mutex_stance, rw_stance, Doing, Joins, In, Takes, sign, stance, core_tells, Out, taken_count}
-use Rattle.parking_lot_world.specs.RowFits.{FitsTogether, IsOfKind, IsPrepared}
+use Rattle.parking_lot_world.specs.Rows.{State, word_at, call_at, first_key, inside, rw_lock_at, taken_by, rw_role_at}
+use Rattle.parking_lot_world.specs.Stances.{core_act, core_next, late_act, late_next, late_stance, mutex_stance, rw_stance, seeks_stance, upgrade_stance, Doing, Joins, In, Takes, sign, stance, core_tells, Out, taken_count}
+use Rattle.parking_lot_world.specs.RowFits.{FitsTogether, IsOfKind, IsOfWorld, IsPrepared}
 use Rattle.parking_lot_world.specs.RankLaws.{Can, Leaves, StopsAt}
 use Rattle.parking_lot_world.specs.Ranks.{Sees, core_steps, late_steps, far_steps, is_shut_to, own_steps, view_of, Pays, View, Unseen, wake, cost, Costs, AnyMayBeStepped}
 use Rattle.parking_lot_world.proofs.Ruling.{same_kind}
 use Rattle.parking_lot_world.proofs.Meeting.{meets, in_range, rw_sound}
-use Rattle.parking_lot_world.proofs.RwMoving.{few_readers}
+use Rattle.parking_lot_world.proofs.KindTable.{Simple, Upgradable}
+use Rattle.parking_lot_world.proofs.RwCalls.{call_room}
+use Rattle.parking_lot_world.proofs.UpgradePaying as of_upgrade
+use Rattle.parking_lot_upgrades.specs.UpgradeRules as upgrade_rules
+use Rattle.parking_lot_upgrades.specs.UpgradeTable as upgrade_table
+use Rattle.parking_lot_upgrades.specs.declared.upgrade_phase.Hold.{Hold}
+use Rattle.parking_lot_upgrades.specs.declared.upgrade_phase.Release.{Release}
+use Rattle.parking_lot_upgrades.specs.declared.upgrade_phase.UpgradePhase.{UpgradePhase}
 use Rattle.parking_lot_core_lot.specs.declared.parking.ParkToken.{ParkToken}
 use Rattle.parking_lot_core_lot.specs.declared.place.Section.{Section}
 use Rattle.parking_lot_core_lot.specs.declared.place.Waiter.{Waiter}
@@ -65,6 +72,7 @@ abbrev pub IsGood : Core → ℕ → Type 0
 IsGood (Core.Mutex k) x = x < 4
 IsGood (Core.Late p) x = Unit {0}
 IsGood (Core.Rw k) x = (x / 16 < 2 ^ 60 - 1) × IsReady k.phase
+IsGood (Core.Upgrade k) x = (x / 16 < 2 ^ 60 - 1) × upgrade_rules.IsReady k.phase × IsOfWorld k.phase
 
 pub is_good : (s : State) → FitsTogether s → (t : ℕ) (c : Call) → call_at s t ≡ Some c → IsGood c.core (word_at s c.lock)
 is_good s h t c here = by_core c.core refl
@@ -73,7 +81,10 @@ is_good s h t c here = by_core c.core refl
     by_core (Core.Mutex k) e = h.rules.bits c.lock (subst (IsOfKind (slice_get s.kinds c.lock)) e (h.rules.kinds t c here))
     by_core (Core.Late p) e = tt
     by_core (Core.Rw k) e =
-        (few_readers (recursive_in s.kinds c.lock) (rw_lock_at s c.lock) t c.others (rw_spot c.spot) (taken_by s.wakes t) k.phase (word_at s c.lock) (meets s h t c k e here), (subst (IsPrepared (recursive_in s.kinds c.lock) c.others) e (h.rules.prepared t c here)).0)
+        (call_room (recursive_in s.kinds c.lock) (rw_lock_at s c.lock) t c.others c.spot (taken_by s.wakes t) (Simple k) (word_at s c.lock) (meets s h t c (Simple k) e here), (subst (IsPrepared (recursive_in s.kinds c.lock) c.others) e (h.rules.prepared t c here)).0)
+    by_core (Core.Upgrade k) e =
+        let ready = subst (IsPrepared (recursive_in s.kinds c.lock) c.others) e (h.rules.prepared t c here) in
+        (call_room (recursive_in s.kinds c.lock) (rw_lock_at s c.lock) t c.others c.spot (taken_by s.wakes t) (Upgradable k) (word_at s c.lock) (meets s h t c (Upgradable k) e here), ready.1, ready.2)
 
 late_falls : (n : ℕ) (p : LatePhase) (x : ℕ) (told : ActResult) (v : View) (shut : Bool) → Gives (late_act p) x told → Can (late_act p) shut told → core_steps n v (late_next p told) + 1 ≤ late_steps p
 late_falls n LatePhase.Expires x told v shut gives can = absurd can
@@ -87,6 +98,7 @@ pub core_falls : (n : ℕ) (c : Core) (x : ℕ) (told : ActResult) (first after 
 core_falls n (Core.Mutex k) x told first after shut good gives can leaves = of_mutex.steps_fall.falls k.phase told x first after shut good gives can
 core_falls n (Core.Late p) x told first after shut good gives can leaves = late_falls n p x told (Sees (word_after (late_act p) told x) after shut) shut gives can
 core_falls n (Core.Rw k) x told first after shut good gives can leaves = of_rw.steps_fall.falls n k.phase told x first after shut good.0 good.1 gives can leaves
+core_falls n (Core.Upgrade k) x told first after shut good gives can leaves = of_upgrade.upgrade_steps_fall.falls n k.phase told x first after shut good.0 good.1 good.2 gives can leaves
 
 -- ALL THREADS
 
@@ -175,28 +187,52 @@ late_first LatePhase.Masks sum k e f = absurd cc
 late_first LatePhase.Leaves sum k e f = absurd cc
 late_first LatePhase.GivesUp sum k e f = absurd cc
 
+seeks_first : (q : RwPhase) (sum k : ℕ) → upgrade_table.seeks_act q ≡ Act.Section (section.TakeNext sum) → seeks_stance q ≡ In k Takes → k ≡ 0
+seeks_first (RwPhase.Scans a) sum k e f = cc
+seeks_first (RwPhase.TakeWriter rest) sum k e f = absurd cc
+seeks_first q sum k e f = absurd cc
+
+frees_first : (r : Release) (q : RwPhase) (sum k : ℕ) → upgrade_table.frees_act r q ≡ Act.Section (section.TakeNext sum) → rw_stance q ≡ In k Takes → k ≡ 0
+frees_first r (RwPhase.Scans a) sum k e f = cc
+frees_first r (RwPhase.TakeWriter rest) sum k e f = absurd cc
+frees_first r q sum k e f = absurd cc
+
+owes_first : (kept : Hold) (end : CoreAnswer) (q : RwPhase) (sum k : ℕ) → upgrade_table.owes_act kept end q ≡ Act.Section (section.TakeNext sum) → rw_stance q ≡ In k Takes → k ≡ 0
+owes_first kept end (RwPhase.Scans a) sum k e f = cc
+owes_first kept end (RwPhase.TakeWriter rest) sum k e f = absurd cc
+owes_first kept end q sum k e f = absurd cc
+
+upgrade_first : (p : UpgradePhase) (sum k : ℕ) → upgrade_table.act_of p ≡ Act.Section (section.TakeNext sum) → upgrade_stance p ≡ In k Takes → k ≡ 0
+upgrade_first (UpgradePhase.Plain core) sum k e f = rw_first core.phase sum k e f
+upgrade_first (UpgradePhase.Seeks core) sum k e f = seeks_first core.phase sum k e f
+upgrade_first (UpgradePhase.Drains core) sum k e f = rw_first core.phase sum k e f
+upgrade_first (UpgradePhase.Frees r core) sum k e f = frees_first r core.phase sum k e f
+upgrade_first (UpgradePhase.Owes kept end core) sum k e f = owes_first kept end core.phase sum k e f
+upgrade_first p sum k e f = absurd cc
+
 first_list : (c : Core) (sum k : ℕ) → core_act c ≡ Act.Section (section.TakeNext sum) → stance c ≡ In k Takes → k ≡ 0
 first_list (Core.Mutex c) sum k e f = mutex_first c.phase sum k e f
 first_list (Core.Rw c) sum k e f = rw_first c.phase sum k e f
 first_list (Core.Late p) sum k e f = late_first p sum k e f
+first_list (Core.Upgrade c) sum k e f = upgrade_first c.phase sum k e f
 
 -- one of it is gone
-one_less : (queues : ℕ → List Waiter) (key i : ℕ) (w : Waiter) → key ≡ i → slice_get (queues key) 0 ≡ Some w → length (queues i) ≡ length (updated queues key (remove (queues key) 0) i) + 1
-one_less queues key i w e at =
+one_less : (queues : ℕ → List Waiter) (key i nth : ℕ) (w : Waiter) → key ≡ i → slice_get (queues key) nth ≡ Some w → length (queues i) ≡ length (updated queues key (remove (queues key) nth) i) + 1
+one_less queues key i nth w e at =
     omega (
       arith,
       ap (λ j. length (queues j)) (sym e),
-      ap (λ j. length (updated queues key (remove (queues key) 0) j)) (sym e),
-      ap length (updated_at queues key (remove (queues key) 0)),
-      length-remove (queues key) 0 (slice_get_within (queues key) 0 w at),
+      ap (λ j. length (updated queues key (remove (queues key) nth) j)) (sym e),
+      ap length (updated_at queues key (remove (queues key) nth)),
+      length-remove (queues key) nth (slice_get_within (queues key) nth w at),
     )
 
-leaves_some : (a : Act) (c : Core) (queues : ℕ → List Waiter) (token : ParkToken) (left : Bool) (j k : ℕ) (w : Waiter) → core_act c ≡ a → IsTaking a → stance c ≡ In k Takes → slice_get (queues (2 * j + k)) 0 ≡ Some w
-    → Leaves a (ActResult.Took (Some token) left) (length (queues (2 * j))) (length (updated queues (2 * j + k) (remove (queues (2 * j + k)) 0) (2 * j)))
-leaves_some (Act.Section section.TakeFirst) c queues token left j k w asked x is at = tt
-leaves_some (Act.Section (section.TakeNext sum)) c queues token left j k w asked x is at =
-    one_less queues (2 * j + k) (2 * j) w (omega (arith, first_list c sum k asked is)) at
-leaves_some a c queues token left j k w asked x is at = absurd x
+leaves_some : (a : Act) (c : Core) (queues : ℕ → List Waiter) (token : ParkToken) (left : Bool) (j k nth : ℕ) (w : Waiter) → core_act c ≡ a → IsTaking a → stance c ≡ In k Takes → slice_get (queues (2 * j + k)) nth ≡ Some w
+    → Leaves a (ActResult.Took (Some token) left) (length (queues (2 * j))) (length (updated queues (2 * j + k) (remove (queues (2 * j + k)) nth) (2 * j)))
+leaves_some (Act.Section section.TakeFirst) c queues token left j k nth w asked x is at = tt
+leaves_some (Act.Section (section.TakeNext sum)) c queues token left j k nth w asked x is at =
+    one_less queues (2 * j + k) (2 * j) nth w (omega (arith, first_list c sum k asked is)) at
+leaves_some a c queues token left j k nth w asked x is at = absurd x
 
 -- whoever is off its list has as many steps as before
 off_far : (n t : ℕ) (o : Option Call) → far_steps n (option_map (off_list t) o) ≡ far_steps n o
@@ -279,18 +315,18 @@ module _ (s : State) (t : ℕ) (c : Call) (h : FitsTogether s) (here : call_at s
       let gives = gives_took a (word_at s c.lock) None (is_left (s.lot.queues (key_of c k))) taking in
       one (took_nobody s t c (key_of c k)) (hears c heard) heard refl refl refl a asked (sym gives.2) false free_now (ap (is_shut_to t) (still_inside s.lot.section _) ∙ free_now) gives.0 gives.1 (leaves_none a _ _ taking)
 
-  pub take : (k : ℕ) (w : Waiter) (a : Act) → core_act c.core ≡ a → IsTaking a → stance c.core ≡ In k Takes → slice_get (s.lot.queues (key_of c k)) 0 ≡ Some w → Pays t s (took s t c (key_of c k) 0 w)
-  take k w a asked taking is at =
+  pub take : (k nth : ℕ) (w : Waiter) (a : Act) → core_act c.core ≡ a → IsTaking a → stance c.core ≡ In k Takes → slice_get (s.lot.queues (key_of c k)) nth ≡ Some w → Pays t s (took s t c (key_of c k) nth w)
+  take k nth w a asked taking is at =
       let n = length s.calls in
-      let u = took s t c (key_of c k) 0 w in
-      let heard = ActResult.Took (Some w.token) (is_left (remove (s.lot.queues (key_of c k)) 0)) in
+      let u = took s t c (key_of c k) nth w in
+      let heard = ActResult.Took (Some w.token) (is_left (remove (s.lot.queues (key_of c k)) nth)) in
       let away = slice_set s.calls w.thread (option_map (off_list t) (call_at s w.thread)) in
       let free_now = inside_open k _ is in
-      let gives = gives_took a (word_at s c.lock) (Some w.token) (is_left (remove (s.lot.queues (key_of c k)) 0)) taking in
+      let gives = gives_took a (word_at s c.lock) (Some w.token) (is_left (remove (s.lot.queues (key_of c k)) nth)) taking in
       falls s u t c (hears c heard) heard h here (call-within away t (Some (hears c heard)) (subst (λ m. t < m) (sym (length-set s.calls w.thread _)) (in_range s t c here))) refl refl
       (length-set away t (Some (hears c heard)) ∙ length-set s.calls w.thread _)
       (omega (arith, others_same n away t (Some (hears c heard)), others_change n s.calls t w.thread 0 (option_map (off_list t) (call_at s w.thread)) (omega (arith, off_far n t (call_at s w.thread)))))
-      a asked (sym gives.2) false free_now (ap (is_shut_to t) (still_inside s.lot.section _) ∙ free_now) gives.0 gives.1 (leaves_some a c.core s.lot.queues w.token _ c.lock k w asked taking is at)
+      a asked (sym gives.2) false free_now (ap (is_shut_to t) (still_inside s.lot.section _) ∙ free_now) gives.0 gives.1 (leaves_some a c.core s.lot.queues w.token _ c.lock k nth w asked taking is at)
 
   -- it tells whom it has taken
   module _ (u : State) (heard : ActResult) (said : WakeResult) (calls : u.calls ≡ map (option_map (settled t said)) (slice_set s.calls t (Some (hears c heard)))) where
@@ -342,25 +378,29 @@ late_ends LatePhase.Masks = omega arith
 late_ends LatePhase.Leaves = omega arith
 late_ends LatePhase.GivesUp = omega arith
 
-core_wakes : (n : ℕ) (c : Core) (v : View) → core_act c ≡ Act.Section section.Wake → 1 ≤ taken_count c → core_steps n v (core_next c seen.Made) + wake ≤ core_steps n v c
-core_wakes n (Core.Mutex c) v asked some = of_mutex.steps_fall.wakes c.phase v asked
-core_wakes n (Core.Rw c) v asked some = of_rw.steps_fall.wakes n c.phase v asked some
-core_wakes n (Core.Late p) v asked some = absurd (late_wakes p asked)
+core_wakes : (n : ℕ) (c : Core) (v : View) (x : ℕ) → IsGood c x → core_act c ≡ Act.Section section.Wake → 1 ≤ taken_count c → core_steps n v (core_next c seen.Made) + wake ≤ core_steps n v c
+core_wakes n (Core.Mutex c) v x good asked some = of_mutex.steps_fall.wakes c.phase v asked
+core_wakes n (Core.Upgrade c) v x good asked some = of_upgrade.upgrade_steps_fall.wakes n c.phase v good.1 good.2 asked some
+core_wakes n (Core.Rw c) v x good asked some = of_rw.steps_fall.wakes n c.phase v asked some
+core_wakes n (Core.Late p) v x good asked some = absurd (late_wakes p asked)
 
-core_woken : (n : ℕ) (c : Core) (token : UnparkToken) → core_steps n Unseen (core_next c (seen.Woken token)) + 1 ≤ core_steps n Unseen c + wake
-core_woken n (Core.Mutex c) token = of_mutex.steps_fall.woken c.phase token
-core_woken n (Core.Rw c) token = of_rw.steps_fall.woken n c.phase token
-core_woken n (Core.Late p) token = late_woken n p token
+core_woken : (n : ℕ) (c : Core) (token : UnparkToken) (x : ℕ) → IsGood c x → core_steps n Unseen (core_next c (seen.Woken token)) + 1 ≤ core_steps n Unseen c + wake
+core_woken n (Core.Mutex c) token x good = of_mutex.steps_fall.woken c.phase token
+core_woken n (Core.Upgrade c) token x good = of_upgrade.upgrade_steps_fall.woken n c.phase token good.1 good.2
+core_woken n (Core.Rw c) token x good = of_rw.steps_fall.woken n c.phase token
+core_woken n (Core.Late p) token x good = late_woken n p token
 
 core_ends : (n : ℕ) (c : Core) (v : View) (answer : CoreAnswer) → core_act c ≡ Act.Done answer → 1 ≤ core_steps n v c
 core_ends n (Core.Mutex c) v answer asked = of_mutex.steps_fall.ends c.phase v answer asked
 core_ends n (Core.Rw c) v answer asked = of_rw.steps_fall.ends n c.phase v answer asked
 core_ends n (Core.Late p) v answer asked = late_ends p
+core_ends n (Core.Upgrade c) v answer asked = of_upgrade.upgrade_steps_fall.ends n c.phase v answer asked
 
 core_stops : (n : ℕ) (c : Core) (word first : ℕ) (shut : Bool) → StopsAt (core_act c) shut → core_steps n Unseen c ≤ core_steps n (Sees word first shut) c
 core_stops n (Core.Mutex c) word first shut stops = of_mutex.steps_fall.stops c.phase word first shut stops
 core_stops n (Core.Rw c) word first shut stops = of_rw.steps_fall.stops n c.phase word first shut stops
 core_stops n (Core.Late p) word first shut stops = omega arith
+core_stops n (Core.Upgrade c) word first shut stops = of_upgrade.upgrade_steps_fall.stops n c.phase word first shut stops
 
 -- WAKES AND ANSWERS
 
@@ -372,8 +412,8 @@ wakes_pay s t c v d token h here there asked =
     let news = slice_set s.calls v (Some e) in
     pays s u t 108 c (hears c seen.Made) here (call-within news t (Some (hears c seen.Made)) (subst (λ m. t < m) (sym (length-set s.calls v (Some e))) (in_range s t c here)))
     (length-set news t (Some (hears c seen.Made)) ∙ length-set s.calls v (Some e))
-    (omega (arith, others_same n news t (Some (hears c seen.Made)), others_change n s.calls t v 108 (Some e) (omega (arith, core_woken n d.core token, ap (far_steps n) there))))
-    (omega (arith, core_wakes n c.core (view_of s t c) asked (h.lots.wakeful t c here asked)))
+    (omega (arith, others_same n news t (Some (hears c seen.Made)), others_change n s.calls t v 108 (Some e) (omega (arith, core_woken n d.core token (word_at s d.lock) (is_good s h v d there), ap (far_steps n) there))))
+    (omega (arith, core_wakes n c.core (view_of s t c) (word_at s c.lock) (is_good s h t c here) asked (h.lots.wakeful t c here asked)))
 
 pub ends_pay : (s : State) (t : ℕ) (c : Call) (answer : CoreAnswer) → call_at s t ≡ Some c → core_act c.core ≡ Act.Done answer → Pays t s (answered s t c)
 ends_pay s t c answer here asked =
@@ -398,6 +438,7 @@ own_few : (s : State) → FitsTogether s → (word j : ℕ) (shut : Bool) (c : C
 own_few s h word j shut (Core.Mutex c) is = of_mutex.steps_fall.few c.phase (Sees word (length (s.lot.queues (first_key j))) shut)
 own_few s h word j shut (Core.Late p) is = omega arith
 own_few s h word j shut (Core.Rw c) is = of_rw.steps_fall.few (length s.calls) word (length (s.lot.queues (first_key j))) shut c.phase (few_in_list s h j is)
+own_few s h word j shut (Core.Upgrade c) is = of_upgrade.upgrade_steps_fall.few (length s.calls) word (length (s.lot.queues (first_key j))) shut c.phase (few_in_list s h j is)
 
 -- BEGINNINGS
 
@@ -413,6 +454,13 @@ costs_most n k LockCall.Write = omega arith
 costs_most n k LockCall.TryWrite = omega arith
 costs_most n k LockCall.UnlockWrite = omega arith
 costs_most n k LockCall.Downgrade = omega arith
+costs_most n k LockCall.UpgradableRead = omega arith
+costs_most n k LockCall.TryUpgradableRead = omega arith
+costs_most n k LockCall.UnlockUpgradable = omega arith
+costs_most n k LockCall.Upgrade = omega arith
+costs_most n k LockCall.TryUpgrade = omega arith
+costs_most n k LockCall.DowngradeToUpgradable = omega arith
+costs_most n k LockCall.DowngradeUpgradable = omega arith
 
 pub begins_cost : (s : State) (t : ℕ) (c : Call) (what : LockCall) → FitsTogether s → MayBegin s t c → c.core ≡ core_of (kind_in s.kinds c.lock) what → Costs t what s (begun s t c)
 begins_cost s t c what h may is =

@@ -15,6 +15,14 @@ use Rattle.parking_lot_protocol.specs.declared.mutex_phase.MutexPhase.{MutexPhas
 use Rattle.parking_lot_protocol.specs.declared.rw_phase.RwPhase.{RwPhase}
 use Rattle.parking_lot_protocol.specs.MutexRules as of_mutex
 use Rattle.parking_lot_protocol.specs.RwRules as of_rw
+use Rattle.parking_lot_protocol.specs.declared.act.CoreAnswer.{CoreAnswer}
+use Rattle.parking_lot_upgrades.specs.UpgradeRoles as of_upgrade
+use Rattle.parking_lot_upgrades.specs.declared.upgrade_phase.Hold.{Hold as Kept}
+use Rattle.parking_lot_upgrades.specs.declared.upgrade_phase.Release.{Release}
+use Rattle.parking_lot_upgrades.specs.declared.upgrade_phase.UpgradePhase.{UpgradePhase}
+use Rattle.parking_lot_world.specs.Rows.{rw_core_role}
+use Rattle.parking_lot_world.specs.Stances.{seeks_stance, upgrade_stance}
+use Rattle.parking_lot_world.proofs.KindTable.{RwCall, Simple, Upgradable, rw_call}
 use Rattle.parking_lot_world.specs.Kinds.{AsMutex, manner_of, Manner, AsRw}
 use Rattle.parking_lot_world.specs.declared.seat.Hold.{Hold}
 use Rattle.parking_lot_world.specs.declared.seat.QueuePosition.{QueuePosition}
@@ -26,8 +34,6 @@ use Rattle.parking_lot_world.specs.Rows.{State, lock_as, call_at, first_key, fir
 use Rattle.parking_lot_world.specs.SoundLaws.{ListsAreWaiters, waits_as, waits_in}
 use Rattle.parking_lot_world.specs.Stances.{late_stance, mutex_stance, rw_stance, stance}
 use Rattle.parking_lot_world.proofs.KindTable.{Kind, MutexCall, Plain, Late, mutex_call, mutex_plays, of_mutexes, of_rws, role_at, roles_at}
-use Rattle.parking_lot_protocol.specs.declared.mutex_core.MutexCore.{MutexCore}
-use Rattle.parking_lot_protocol.specs.declared.rw_core.RwCore.{RwCore}
 use Rattle.parking_lot_world.proofs.Everybody.{get-all, past}
 
 -- BY PHASES
@@ -47,6 +53,57 @@ rw_second n (QueuePosition.Off by said) us (RwPhase.Sleeps want) = refl
 rw_second n QueuePosition.Listed us (RwPhase.DrainSleeps rounds) = refl
 rw_second n (QueuePosition.Off by said) us (RwPhase.DrainSleeps rounds) = refl
 rw_second n at us p = refl
+
+-- and so of a call of the upgradable hold
+seeks_weigh : (n : ℕ) (at : QueuePosition) (us : List ℕ) (q : RwPhase) → (weight Waiting1 (of_upgrade.role n (rw_spot at) us (UpgradePhase.Seeks (record { phase = q }))) ≡ bit (waits_as 0 at (seeks_stance q))) × (weight Waiting2 (of_upgrade.role n (rw_spot at) us (UpgradePhase.Seeks (record { phase = q }))) ≡ bit (waits_as 1 at (seeks_stance q)))
+unfolding weight
+seeks_weigh n QueuePosition.Listed us (RwPhase.Sleeps want) = (refl, refl)
+seeks_weigh n (QueuePosition.Off by said) us (RwPhase.Sleeps want) = (refl, refl)
+seeks_weigh n QueuePosition.Listed us (RwPhase.DrainSleeps rounds) = (refl, refl)
+seeks_weigh n (QueuePosition.Off by said) us (RwPhase.DrainSleeps rounds) = (refl, refl)
+seeks_weigh n at us q = (refl, refl)
+
+drains_weigh : (n : ℕ) (at : QueuePosition) (us : List ℕ) (q : RwPhase) → (weight Waiting1 (of_upgrade.role n (rw_spot at) us (UpgradePhase.Drains (record { phase = q }))) ≡ bit (waits_as 0 at (rw_stance q))) × (weight Waiting2 (of_upgrade.role n (rw_spot at) us (UpgradePhase.Drains (record { phase = q }))) ≡ bit (waits_as 1 at (rw_stance q)))
+unfolding weight
+drains_weigh n QueuePosition.Listed us (RwPhase.Sleeps want) = (refl, refl)
+drains_weigh n (QueuePosition.Off by said) us (RwPhase.Sleeps want) = (refl, refl)
+drains_weigh n QueuePosition.Listed us (RwPhase.DrainSleeps rounds) = (refl, refl)
+drains_weigh n (QueuePosition.Off by said) us (RwPhase.DrainSleeps rounds) = (refl, refl)
+drains_weigh n at us q = (refl, refl)
+
+frees_weigh : (n : ℕ) (at : QueuePosition) (us : List ℕ) (r : Release) (q : RwPhase) → (weight Waiting1 (of_upgrade.role n (rw_spot at) us (UpgradePhase.Frees r (record { phase = q }))) ≡ bit (waits_as 0 at (rw_stance q))) × (weight Waiting2 (of_upgrade.role n (rw_spot at) us (UpgradePhase.Frees r (record { phase = q }))) ≡ bit (waits_as 1 at (rw_stance q)))
+unfolding weight
+frees_weigh n QueuePosition.Listed us r (RwPhase.Sleeps want) = (refl, refl)
+frees_weigh n (QueuePosition.Off by said) us r (RwPhase.Sleeps want) = (refl, refl)
+frees_weigh n QueuePosition.Listed us r (RwPhase.DrainSleeps rounds) = (refl, refl)
+frees_weigh n (QueuePosition.Off by said) us r (RwPhase.DrainSleeps rounds) = (refl, refl)
+frees_weigh n at us r q = (refl, refl)
+
+owes_weigh : (n : ℕ) (at : QueuePosition) (us : List ℕ) (kept : Kept) (end : CoreAnswer) (q : RwPhase)
+    → (weight Waiting1 (of_upgrade.role n (rw_spot at) us (UpgradePhase.Owes kept end (record { phase = q }))) ≡ bit (waits_as 0 at (rw_stance q))) × (weight Waiting2 (of_upgrade.role n (rw_spot at) us (UpgradePhase.Owes kept end (record { phase = q }))) ≡ bit (waits_as 1 at (rw_stance q)))
+unfolding weight
+owes_weigh n QueuePosition.Listed us kept end (RwPhase.Sleeps want) = (refl, refl)
+owes_weigh n (QueuePosition.Off by said) us kept end (RwPhase.Sleeps want) = (refl, refl)
+owes_weigh n QueuePosition.Listed us kept end (RwPhase.DrainSleeps rounds) = (refl, refl)
+owes_weigh n (QueuePosition.Off by said) us kept end (RwPhase.DrainSleeps rounds) = (refl, refl)
+owes_weigh n at us kept end q = (refl, refl)
+
+upgrade_weigh : (n : ℕ) (at : QueuePosition) (us : List ℕ) (p : UpgradePhase) → (weight Waiting1 (of_upgrade.role n (rw_spot at) us p) ≡ bit (waits_as 0 at (upgrade_stance p))) × (weight Waiting2 (of_upgrade.role n (rw_spot at) us p) ≡ bit (waits_as 1 at (upgrade_stance p)))
+unfolding weight
+upgrade_weigh n at us (UpgradePhase.Plain core) = (rw_first n at us core.phase, rw_second n at us core.phase)
+upgrade_weigh n at us (UpgradePhase.Seeks core) = seeks_weigh n at us core.phase
+upgrade_weigh n at us (UpgradePhase.Drains core) = drains_weigh n at us core.phase
+upgrade_weigh n at us (UpgradePhase.Frees r core) = frees_weigh n at us r core.phase
+upgrade_weigh n at us (UpgradePhase.Owes kept end core) = owes_weigh n at us kept end core.phase
+upgrade_weigh n at us p = (refl, refl)
+
+rw_weighs_first : (n : ℕ) (at : QueuePosition) (us : List ℕ) (k : RwCall) → weight Waiting1 (rw_core_role n at us (rw_call k)) ≡ bit (waits_as 0 at (stance (rw_call k)))
+rw_weighs_first n at us (Simple k) = rw_first n at us k.phase
+rw_weighs_first n at us (Upgradable k) = (upgrade_weigh n at us k.phase).0
+
+rw_weighs_second : (n : ℕ) (at : QueuePosition) (us : List ℕ) (k : RwCall) → weight Waiting2 (rw_core_role n at us (rw_call k)) ≡ bit (waits_as 1 at (stance (rw_call k)))
+rw_weighs_second n at us (Simple k) = rw_second n at us k.phase
+rw_weighs_second n at us (Upgradable k) = (upgrade_weigh n at us k.phase).1
 
 mutex_first : (at : QueuePosition) (v : ℕ) (p : MutexPhase) → mutex.weight mutex.Waiting (of_mutex.role (mutex_spot at) v p) ≡ bit (waits_as 0 at (mutex_stance p))
 unfolding mutex.weight
@@ -132,16 +189,17 @@ module _ (s : State) (h : FitsTogether s) (i : ℕ) where
     ]
 
   module _ (is : lock_at s i ≡ Rw (rw_lock_at s i)) (of : manner_of (slice_get s.kinds i) ≢ Some AsMutex) where
-    rw_only : (x : Core) → IsOfKind (slice_get s.kinds i) x → (q : RwCore) × (x ≡ Core.Rw q)
-    rw_only (Core.Rw q) kinds = (q, refl)
+    rw_only : (x : Core) → IsOfKind (slice_get s.kinds i) x → (q : RwCall) × (x ≡ rw_call q)
+    rw_only (Core.Rw q) kinds = (Simple q, refl)
+    rw_only (Core.Upgrade q) kinds = (Upgradable q, refl)
     rw_only (Core.Mutex q) kinds = absurd (of kinds)
     rw_only (Core.Late p) kinds = absurd (of kinds)
 
     rw_lists : (t : ℕ) → (occurs t (queue_at s (first_key i)) ≡ bit (waits_in s i 0 t)) × (occurs t (queue_at s (second_key i)) ≡ bit (waits_in s i 1 t))
     rw_lists t =
         let sound = subst AnySound is (h.rules.sound.sound i) in (
-          sound.waiting1.each t ∙ by_thread of_rws (weight Waiting1) 0 rw_only idle_first (λ n at us q. rw_first n at us q.phase) t,
-          sound.waiting2.each t ∙ by_thread of_rws (weight Waiting2) 1 rw_only idle_second (λ n at us q. rw_second n at us q.phase) t,
+          sound.waiting1.each t ∙ by_thread of_rws (weight Waiting1) 0 rw_only idle_first (λ n at us q. rw_weighs_first n at us q) t,
+          sound.waiting2.each t ∙ by_thread of_rws (weight Waiting2) 1 rw_only idle_second (λ n at us q. rw_weighs_second n at us q) t,
         )
 
   module _ (of : manner_of (slice_get s.kinds i) ≡ Some AsMutex) where

@@ -42,6 +42,13 @@ core_manner k LockCall.Write = refl
 core_manner k LockCall.TryWrite = refl
 core_manner k LockCall.UnlockWrite = refl
 core_manner k LockCall.Downgrade = refl
+core_manner k LockCall.UpgradableRead = refl
+core_manner k LockCall.TryUpgradableRead = refl
+core_manner k LockCall.UnlockUpgradable = refl
+core_manner k LockCall.Upgrade = refl
+core_manner k LockCall.TryUpgrade = refl
+core_manner k LockCall.DowngradeToUpgradable = refl
+core_manner k LockCall.DowngradeUpgradable = refl
 
 refused : (A : Type 0) → false ≡ true → A
 refused A h = absurd (both_ways false refl h)
@@ -50,48 +57,85 @@ refused A h = absurd (both_ways false refl h)
 shares : (k : LockKind) (h : Hold) → may_share k h ≡ true → OwnsFor (is_recursive k) h (holds h) (Core.Rw (record { phase = RwPhase.Locking (want.Shared (is_recursive k)) }))
 shares LockKind.RwRecursive (Hold.Shares n) h = (refl, refl, refl)
 shares LockKind.RwRecursive Hold.Excludes h = refused _ h
+shares LockKind.RwRecursive Hold.Upgrades h = refused _ h
 shares LockKind.Rw (Hold.Shares zero) h = (refl, refl, refl)
 shares LockKind.Rw (Hold.Shares (suc n)) h = refused _ h
 shares LockKind.Rw Hold.Excludes h = refused _ h
+shares LockKind.Rw Hold.Upgrades h = refused _ h
 shares LockKind.Mutex (Hold.Shares zero) h = (refl, refl, refl)
 shares LockKind.Mutex (Hold.Shares (suc n)) h = refused _ h
 shares LockKind.Mutex Hold.Excludes h = refused _ h
+shares LockKind.Mutex Hold.Upgrades h = refused _ h
 shares LockKind.FairMutex (Hold.Shares zero) h = (refl, refl, refl)
 shares LockKind.FairMutex (Hold.Shares (suc n)) h = refused _ h
 shares LockKind.FairMutex Hold.Excludes h = refused _ h
+shares LockKind.FairMutex Hold.Upgrades h = refused _ h
 
 owns : (k : LockKind) (c : LockCall) (h : Hold) → is_allowed k h c ≡ true → OwnsFor (is_recursive k) h (holds_beside c h) (core_of k c)
 owns k LockCall.Lock (Hold.Shares zero) h = (refl, refl, refl)
 owns k LockCall.Lock (Hold.Shares (suc n)) h = refused _ h
 owns k LockCall.Lock Hold.Excludes h = refused _ h
+owns k LockCall.Lock Hold.Upgrades h = refused _ h
 owns k LockCall.TryLock (Hold.Shares zero) h = (refl, refl, refl)
 owns k LockCall.TryLock (Hold.Shares (suc n)) h = refused _ h
 owns k LockCall.TryLock Hold.Excludes h = refused _ h
+owns k LockCall.TryLock Hold.Upgrades h = refused _ h
 owns k LockCall.LockUntil (Hold.Shares zero) h = (refl, refl, refl)
 owns k LockCall.LockUntil (Hold.Shares (suc n)) h = refused _ h
 owns k LockCall.LockUntil Hold.Excludes h = refused _ h
+owns k LockCall.LockUntil Hold.Upgrades h = refused _ h
 owns k LockCall.Unlock (Hold.Shares n) h = refused _ h
+owns k LockCall.Unlock Hold.Upgrades h = refused _ h
 owns k LockCall.Unlock Hold.Excludes h = (refl, refl, refl)
 owns k LockCall.Read h may = shares k h may
 owns k LockCall.TryRead h may = let own = shares k h may in (refl, own.1, own.2)
 owns k LockCall.UnlockRead (Hold.Shares zero) h = refused _ h
 owns k LockCall.UnlockRead (Hold.Shares (suc n)) h = (refl, tt, ap (λ (k : ℕ). Shares k) (omega arith))
 owns k LockCall.UnlockRead Hold.Excludes h = refused _ h
+owns k LockCall.UnlockRead Hold.Upgrades h = refused _ h
 owns k LockCall.Write (Hold.Shares zero) h = (refl, refl, refl)
 owns k LockCall.Write (Hold.Shares (suc n)) h = refused _ h
 owns k LockCall.Write Hold.Excludes h = refused _ h
+owns k LockCall.Write Hold.Upgrades h = refused _ h
 owns k LockCall.TryWrite (Hold.Shares zero) h = (refl, refl, refl)
 owns k LockCall.TryWrite (Hold.Shares (suc n)) h = refused _ h
 owns k LockCall.TryWrite Hold.Excludes h = refused _ h
+owns k LockCall.TryWrite Hold.Upgrades h = refused _ h
 owns k LockCall.UnlockWrite (Hold.Shares n) h = refused _ h
+owns k LockCall.UnlockWrite Hold.Upgrades h = refused _ h
 owns k LockCall.UnlockWrite Hold.Excludes h = (refl, refl, refl)
 owns k LockCall.Downgrade (Hold.Shares n) h = refused _ h
+owns k LockCall.Downgrade Hold.Upgrades h = refused _ h
 owns k LockCall.Downgrade Hold.Excludes h = (refl, tt, refl)
+owns k LockCall.UpgradableRead (Hold.Shares zero) h = (refl, tt, refl, refl)
+owns k LockCall.UpgradableRead (Hold.Shares (suc n)) h = refused _ h
+owns k LockCall.UpgradableRead Hold.Excludes h = refused _ h
+owns k LockCall.UpgradableRead Hold.Upgrades h = refused _ h
+owns k LockCall.TryUpgradableRead (Hold.Shares zero) h = (refl, tt, refl, refl)
+owns k LockCall.TryUpgradableRead (Hold.Shares (suc n)) h = refused _ h
+owns k LockCall.TryUpgradableRead Hold.Excludes h = refused _ h
+owns k LockCall.TryUpgradableRead Hold.Upgrades h = refused _ h
+owns k LockCall.UnlockUpgradable (Hold.Shares n) h = refused _ h
+owns k LockCall.UnlockUpgradable Hold.Excludes h = refused _ h
+owns k LockCall.UnlockUpgradable Hold.Upgrades h = (refl, refl, refl, refl)
+owns k LockCall.Upgrade (Hold.Shares n) h = refused _ h
+owns k LockCall.Upgrade Hold.Excludes h = refused _ h
+owns k LockCall.Upgrade Hold.Upgrades h = (refl, tt, refl, refl)
+owns k LockCall.TryUpgrade (Hold.Shares n) h = refused _ h
+owns k LockCall.TryUpgrade Hold.Excludes h = refused _ h
+owns k LockCall.TryUpgrade Hold.Upgrades h = (refl, tt, refl, refl)
+owns k LockCall.DowngradeUpgradable (Hold.Shares n) h = refused _ h
+owns k LockCall.DowngradeUpgradable Hold.Excludes h = refused _ h
+owns k LockCall.DowngradeUpgradable Hold.Upgrades h = (refl, tt, refl, refl)
+owns k LockCall.DowngradeToUpgradable (Hold.Shares n) h = refused _ h
+owns k LockCall.DowngradeToUpgradable Hold.Excludes h = (refl, tt, refl, refl)
+owns k LockCall.DowngradeToUpgradable Hold.Upgrades h = refused _ h
 
 -- it has few holds beside
 less : (h : Hold) → ((n : ℕ) → h ≡ Hold.Shares n → n ≤ 255) → holds h - 1 ≤ 254
 less (Hold.Shares n) few = omega (arith, few n refl)
 less Hold.Excludes few = omega arith
+less Hold.Upgrades few = omega arith
 
 room : (k : LockKind) (h : Hold) → may_share k h ≡ true → holds h ≤ 254
 room LockKind.RwRecursive (Hold.Shares n) may = omega (arith, ltb-true n 255 may)
@@ -102,6 +146,7 @@ room LockKind.Mutex (Hold.Shares (suc n)) may = refused _ may
 room LockKind.FairMutex (Hold.Shares zero) may = omega arith
 room LockKind.FairMutex (Hold.Shares (suc n)) may = refused _ may
 room k Hold.Excludes may = omega arith
+room k Hold.Upgrades may = omega arith
 
 beside : (k : LockKind) (c : LockCall) (h : Hold) → is_allowed k h c ≡ true → ((n : ℕ) → h ≡ Hold.Shares n → n ≤ 255) → holds_beside c h ≤ 254
 beside k LockCall.Read h may few = room k h may

@@ -142,6 +142,7 @@ module _ (n : ℕ) (ks : List LockKind) where
       let fits = new_machines_fit s sound new in
       record {
         lots = fits.0;
+        passes = λ t c k o is. no_call t c is;
         wakes = fits.1;
         rules = record {
           size_holds = length-replicate (n * length ks) (Hold.Shares 0) ∙ ap (λ m. m * length ks) (sym threads_at_rest);

@@ -16,15 +16,17 @@ use Rattle.parking_lot_world.specs.declared.seat.WakeResult.{WakeResult}
 use Rattle.parking_lot_world.specs.declared.seat.QueuePosition.{QueuePosition}
 use Rattle.parking_lot_world.specs.declared.open_call.Call.{Call}
 use Rattle.parking_lot_world.specs.declared.seat.Wakeup.{Wakeup}
-use Rattle.parking_lot_world.specs.Rows.{State, word_at, hold_at, call_at, is_by, taken_by, mark_of, first_of_all, rw_spot, mutex_spot, rw_lock_at, mutex_at, queue_at}
-use Rattle.parking_lot_world.specs.Stances.{Out, Asleep, late_act, mutex_stance, rw_stance, stance, taken_count, core_act, core_next}
+use Rattle.parking_lot_world.specs.Rows.{State, word_at, hold_at, call_at, is_by, taken_by, mark_of, first_of_all, mutex_spot, rw_lock_at, mutex_at, queue_at}
+use Rattle.parking_lot_world.specs.Stances.{In, Takes, Out, Asleep, late_act, stance, taken_count, core_act, core_next}
 use Rattle.parking_lot_world.specs.RowActs.{hears, woke, told_of}
-use Rattle.parking_lot_world.specs.RowFits.{FitsTogether, RulesFit, WakesFit, IsOfKind, IsTaken, IsPrepared, KnowsList, is_away, is_off, mutex_knows, rw_prepared}
+use Rattle.parking_lot_world.specs.RowFits.{FitsTogether, LotFits, PassesFit, RulesFit, WakesFit, IsOfKind, IsTaken, IsPrepared, KnowsList, is_away, is_off, mutex_knows}
 use Rattle.parking_lot_world.specs.TellLaws.{IsDue}
 use Rattle.parking_lot_world.proofs.Calling.{slot}
+use Rattle.parking_lot_world.proofs.Passing.{passes_after}
+use Rattle.parking_lot_world.proofs.Stancing.{sleepers_wake}
 use Rattle.parking_lot_world.proofs.Carrying.{same_call}
 use Rattle.parking_lot_world.proofs.Indexing.{kept_remove}
-use Rattle.parking_lot_world.proofs.KindTable.{MutexCall, Plain, Late, mutex_call, sleeps_so, woken_so, woken_plain, Kind, of_rws, of_mutexes, IsThere, Elsewhere, in_its_place, role_at, role_now, role_stays, roles_at, same, shown}
+use Rattle.parking_lot_world.proofs.KindTable.{MutexCall, Plain, Late, RwCall, Simple, Upgradable, next_is, rw_call, rw_next, mutex_call, sleeps_so, woken_so, woken_plain, Kind, of_rws, of_mutexes, IsThere, Elsewhere, in_its_place, role_at, role_now, role_stays, roles_at, same, shown}
 use Rattle.parking_lot_world.proofs.LotWakes.{woken_off, due_place, other, call_mine, call_woken, call_other, woke_length}
 use Rattle.parking_lot_world.proofs.Making.{move_sound, mutex_goes, rw_goes}
 use Rattle.parking_lot_world.proofs.Ruling.{CallFits, Fitted, call_fits, fits_next, rules_after}
@@ -33,23 +35,19 @@ use Rattle.parking_lot_world.proofs.Meeting.{in_range, meets, plays, rw_hears}
 use Rattle.parking_lot_world.proofs.MutexMoving.{steps}
 use Rattle.parking_lot_world.proofs.MutexRoles.{roles}
 use Rattle.parking_lot_world.proofs.OwnActs.{two_kinds}
-use Rattle.parking_lot_world.proofs.RwWaking.{wakes_are_steps}
 use Rattle.parking_lot_core_lot.specs.declared.place.Waiter.{Waiter}
 use Rattle.parking_lot_protocol.specs.MutexRules as of_mutex
 use Rattle.parking_lot_protocol.specs.MutexTable as mutex_table
 use Rattle.parking_lot_protocol.specs.RwRules as of_rw
-use Rattle.parking_lot_protocol.specs.RwTable as table
 use Rattle.parking_lot_protocol.specs.declared.act.Act.TheVariants as act
 use Rattle.parking_lot_protocol.specs.declared.act.CoreAnswer.TheVariants.{Owned}
 use Rattle.parking_lot_protocol.specs.declared.act.SectionAct.TheVariants as section
 use Rattle.parking_lot_protocol.specs.declared.mutex_core.MutexCore.{MutexCore}
 use Rattle.parking_lot_protocol.specs.declared.mutex_phase.Giving.{Giving}
 use Rattle.parking_lot_protocol.specs.declared.mutex_phase.MutexPhase.{MutexPhase}
-use Rattle.parking_lot_protocol.specs.declared.rw_core.RwCore.{RwCore}
-use Rattle.parking_lot_protocol.specs.declared.rw_phase.AfterWake.{AfterWake}
-use Rattle.parking_lot_protocol.specs.declared.rw_phase.RwPhase.{RwPhase}
+use Rattle.parking_lot_world.proofs.RwCalls.{CallMeets, as_move, call_role, call_wakes, call_woken as woken_call_is}
+use Rattle.parking_lot_world.specs.RowSteps.{IsRwMove}
 use Rattle.parking_lot_world.specs.MutexLaws.{Plays}
-use Rattle.parking_lot_world.specs.RwLaws.{Meets, Learns}
 use Rattle.parking_lot_world.specs.declared.seat.LatePhase.{LatePhase}
 use Rattle.parking_lot_world.specs.declared.seat.Core.{Core}
 
@@ -226,6 +224,22 @@ module _ (s : State) (t : ℕ) (c : Call) (h : FitsTogether s) (here : call_at s
         omega arith;
   }
 
+  -- nobody takes anybody
+  pub passes_roused : stance (core_next c.core seen.Made) ≡ Out → LotFits woke_state → PassesFit woke_state
+  passes_roused to lots =
+      passes_after s woke_state t lots h.passes (inr (inr (refl, λ key. refl)))
+      (λ x z k nt at is. elim (cases_eq x e.thread) [
+        | inl f ↦ absurd (out_takes (sym woken_out ∙ ap (λ (y : Call). stance y.core) (same_call (sym at_v ∙ ap (call_at woke_state) (sym f) ∙ at)) ∙ is))
+        | inr nv ↦ (z, sym (at_others x nt nv) ∙ at, refl, refl)
+      ])
+      (λ z k o at is there. absurd (out_takes (sym to ∙ ap (λ (y : Call). stance y.core) (same_call (sym at_t ∙ at)) ∙ is)))
+    where
+      out_takes : {k : ℕ} → Out ≡ In k Takes → ⊥
+      out_takes q = cc
+
+      woken_out : stance woken_call.core ≡ Out
+      woken_out = (sleepers_wake d.core was_off.0 was_off.1 token was_off.3).1
+
   -- what is left to be shown by the kind of the lock: of the one that wakes, and of what the woken one stands on
   abbrev pub Roused : Core → Core → Type 0
   Roused x y = Fitted s woke_state t c seen.Made x × IsPrepared (recursive_in s.kinds d.lock) d.others (core_next y (seen.Woken token)) × KnowsList (core_next y (seen.Woken token)) s.lot.queues d.lock
@@ -265,20 +279,6 @@ module _ (s : State) (t : ℕ) (c : Call) (h : FitsTogether s) (here : call_at s
         ∙ ap (slice_set (slice_set (roles_at K s c.lock) e.thread (K.plays d.others QueuePosition.Listed (taken_by s.wakes e.thread) q')) t)
         (role_now K woke_state t rest (hears c seen.Made) k' at_t refl mine_is ∙ K.listed c.others rest k' c.spot (λ key park z. absurd (out_asleep (sym to ∙ ap stance mine_is ∙ z)))))
         refl refl
-
--- AT A READER-WRITER LOCK
-
--- one that is to wake
-rw_wakes : (p : RwPhase) → table.act_of p ≡ act.Section section.Wake → (rs : AfterWake) × (count : ℕ) × (p ≡ RwPhase.Wakes rs count)
-rw_wakes (RwPhase.Wakes rs count) e = (rs, count, refl)
-rw_wakes (RwPhase.Finishes AfterWake.FreedShared) e = absurd cc
-rw_wakes p e = absurd cc
-
--- a sleeper may be told to go on
-sleeper_hears : (q : RwPhase) (key : ℕ) (park : ParkToken) (x : ℕ) (token : UnparkToken) (f g : List Waiter) → rw_stance q ≡ Asleep key park → of_rw.IsTold q x (seen.Woken token) × Learns q (seen.Woken token) f g
-sleeper_hears (RwPhase.Sleeps want) key park x token f g e = (tt, tt)
-sleeper_hears (RwPhase.DrainSleeps rounds) key park x token f g e = (tt, tt)
-sleeper_hears q key park x token f g e = absurd cc
 
 -- AT A MUTEX
 
@@ -334,24 +334,27 @@ module _ (s : State) (t : ℕ) (c : Call) (h : FitsTogether s) (here : call_at s
   off : (key : ℕ) × (park : ParkToken) × (d.spot ≡ QueuePosition.Off t (told_of token)) × (stance d.core ≡ Asleep key park)
   off = was_off s t c h here e d token due from
 
-  wake_rw : (rs : AfterWake) (count : ℕ) (y q : RwCore) → c.core ≡ Core.Rw (record y { phase = RwPhase.Wakes rs count }) → d.core ≡ Core.Rw q → Roused s t c h here e d token due from (Core.Rw (record y { phase = RwPhase.Wakes rs count })) (Core.Rw q)
-  wake_rw rs count y q ce de =
-      let k : RwCore = record y { phase = RwPhase.Wakes rs count } in
-      let k' : RwCore = record y { phase = table.next_phase (RwPhase.Wakes rs count) seen.Made } in
-      let q' : RwCore = record q { phase = table.next_phase q.phase (seen.Woken token) } in
+  wake_rw : (k q : RwCall) → c.core ≡ rw_call k → d.core ≡ rw_call q → core_act (rw_call k) ≡ act.Section section.Wake → Roused s t c h here e d token due from (rw_call k) (rw_call q)
+  wake_rw k q ce de asked =
+      let us = taken_by s.wakes t in
+      let x = word_at s c.lock in
       let its = meets s h v d q de due.there in
-      let met : Meets (recursive_in s.kinds c.lock) (rw_lock_at s c.lock) t c.others (rw_spot c.spot) (v ∷ vs) (RwPhase.Wakes rs count) (word_at s c.lock) =
-      subst (λ us. Meets (recursive_in s.kinds c.lock) (rw_lock_at s c.lock) t c.others (rw_spot c.spot) us (RwPhase.Wakes rs count) (word_at s c.lock)) (taken_mine s t c h here e d token due from) (meets s h t c k ce here) in
-      let asleep : rw_stance q.phase ≡ Asleep off.0 off.1 = sym (ap stance de) ∙ off.3 in
-      let after_is = λ (n : ℕ) (w : word_at s c.lock ≡ n). roused_after s t c h here e d token due from of_rws k q k' q' (ap (λ (x : Core). core_next x seen.Made) ce) de (ap (λ (x : Core). core_next x (seen.Woken token)) de) to n w in
-      let step = wakes_are_steps (recursive_in s.kinds c.lock) (rw_lock_at s c.lock) t c.others (rw_spot c.spot) v vs rs count (word_at s c.lock) d.others (mark_of (told_of token)) ws q.phase off.0 off.1 token met
-      (sleeps_off s t c h here e d token due from of_rws k q k' q' (ap (λ (x : Core). core_next x seen.Made) ce) de (ap (λ (x : Core). core_next x (seen.Woken token)) de) to) asleep (subst (λ j. rw_prepared (recursive_in s.kinds j) d.others ws q.phase) (same_lock s t c h here e d token due from) its.prepared) refl in
-      let kind_is = subst (IsOfKind (slice_get s.kinds c.lock)) ce (h.rules.kinds t c here) in
-      let mine = rw_hears s h t c k ce here seen.Made tt s.lot.queues tt in
-      let may = sleeper_hears q.phase off.0 off.1 (word_at s d.lock) token (s.lot.queues (2 * d.lock)) (s.lot.queues (2 * d.lock + 1)) asleep in
-      let others = rw_hears s h v d q de due.there (seen.Woken token) may.0 s.lot.queues may.1 in (
+      let met : CallMeets (recursive_in s.kinds c.lock) (rw_lock_at s c.lock) t c.others c.spot (v ∷ vs) k x =
+      subst (λ us. CallMeets (recursive_in s.kinds c.lock) (rw_lock_at s c.lock) t c.others c.spot us k x) (taken_mine s t c h here e d token due from) (meets s h t c k ce here) in
+      let asleep : stance (rw_call q) ≡ Asleep off.0 off.1 = sym (ap stance de) ∙ off.3 in
+      let mine_is = ap (λ (x : Core). core_next x seen.Made) ce ∙ next_is k seen.Made in
+      let its_is = ap (λ (x : Core). core_next x (seen.Woken token)) de ∙ next_is q (seen.Woken token) in
+      let woken = woken_call_is (recursive_in s.kinds d.lock) d.others t ws q (word_at s d.lock) token off.0 off.1 its.stands asleep in
+      let sleeps = sleeps_off s t c h here e d token due from of_rws k q (rw_next k seen.Made) (rw_next q (seen.Woken token)) mine_is de its_is to in
+      let wakes = call_wakes (recursive_in s.kinds c.lock) (rw_lock_at s c.lock) t c.others c.spot v vs k x woken.how (call_role d.others QueuePosition.Listed ws (rw_next q (seen.Woken token))) met asked (sleeps ∙ ap Some woken.from) woken.to in
+      let kind_is = of_rws.of_kind (slice_get s.kinds c.lock) k (subst (IsOfKind (slice_get s.kinds c.lock)) ce (h.rules.kinds t c here)) in
+      let mine = rw_hears s h t c k ce here seen.Made wakes.told tt s.lot.queues (wakes.learns (s.lot.queues (2 * c.lock)) (s.lot.queues (2 * c.lock + 1))) in
+      let others = rw_hears s h v d q de due.there (seen.Woken token) woken.told tt s.lot.queues (woken.learns (s.lot.queues (2 * d.lock)) (s.lot.queues (2 * d.lock + 1))) in (
         (
-          rw_goes s u t c.lock of_rw.WakesOne _ (subst (IsThere c.lock) (sym here) refl) (woke_elsewhere s t c h here e d token due from) kind_is (of_rw.owned_at_last c.others rs, v, vs, step.0, step.1) (after_is (word_at s c.lock) refl) refl,
+          as_move k c.others us seen.Made c.lock t s u
+              (subst (λ m. IsRwMove m c.lock t s u) (sym (wakes.move us))
+              (rw_goes s u t c.lock of_rw.WakesOne _ (subst (IsThere c.lock) (sym here) refl) (woke_elsewhere s t c h here e d token due from) kind_is (wakes.owns, v, vs, woken.how, wakes.step)
+              (roused_after s t c h here e d token due from of_rws k q (rw_next k seen.Made) (rw_next q (seen.Woken token)) mine_is de its_is to x refl) refl)),
           mine.0,
           mine.1,
           h.rules.bits c.lock,
@@ -399,10 +402,13 @@ module _ (s : State) (t : ℕ) (c : Call) (h : FitsTogether s) (here : call_at s
   roused asked = go c.core d.core refl refl
     where
       go : (x y : Core) → c.core ≡ x → d.core ≡ y → Roused s t c h here e d token due from x y
-      go (Core.Rw k) (Core.Rw q) ce de =
-          let p = rw_wakes k.phase (sym (ap core_act ce) ∙ asked) in
-          let is : k ≡ record k { phase = RwPhase.Wakes p.0 p.1 } = ap (λ (z : RwPhase). record k { phase = z }) p.2 in
-          subst (λ (z : RwCore). Roused s t c h here e d token due from (Core.Rw z) (Core.Rw q)) (sym is) (wake_rw p.0 p.1 k q (ce ∙ ap Core.Rw is) de)
+      go (Core.Rw k) (Core.Rw q) ce de = wake_rw (Simple k) (Simple q) ce de (sym (ap core_act ce) ∙ asked)
+      go (Core.Rw k) (Core.Upgrade q) ce de = wake_rw (Simple k) (Upgradable q) ce de (sym (ap core_act ce) ∙ asked)
+      go (Core.Upgrade k) (Core.Rw q) ce de = wake_rw (Upgradable k) (Simple q) ce de (sym (ap core_act ce) ∙ asked)
+      go (Core.Upgrade k) (Core.Upgrade q) ce de = wake_rw (Upgradable k) (Upgradable q) ce de (sym (ap core_act ce) ∙ asked)
+      go (Core.Upgrade k) (Core.Late q) ce de = let z = of_one_kind (Core.Upgrade k) (Core.Late q) ce de in absurd (two_kinds (sym z.0 ∙ z.1))
+      go (Core.Upgrade k) (Core.Mutex q) ce de = let z = of_one_kind (Core.Upgrade k) (Core.Mutex q) ce de in absurd (two_kinds (sym z.0 ∙ z.1))
+      go (Core.Mutex k) (Core.Upgrade q) ce de = let z = of_one_kind (Core.Mutex k) (Core.Upgrade q) ce de in absurd (two_kinds (sym z.1 ∙ z.0))
       go (Core.Mutex k) (Core.Mutex q) ce de =
           let p = mutex_wakes k.phase (sym (ap core_act ce) ∙ asked) in
           let is : k ≡ record k { phase = MutexPhase.Wakes p.0 } = ap (λ (z : MutexPhase). record k { phase = z }) p.1 in

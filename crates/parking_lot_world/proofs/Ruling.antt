@@ -4,6 +4,7 @@ use Rattle.std.proofs.lemmas.Bool.{cases_eq}
 use Rattle.std.proofs.lemmas.List.{length-set}
 use Rattle.parking_lot_core_lot.specs.declared.place.Waiter.{Waiter}
 use Rattle.parking_lot_protocol.specs.declared.act.ActResult.{ActResult}
+use Rattle.parking_lot_world.specs.RowFits.{upgrade_knows}
 use Rattle.parking_lot_world.specs.Kinds.{AsMutex, Manner, manner_of, recursive_in}
 use Rattle.parking_lot_world.specs.declared.calls.LockKind.{LockKind}
 use Rattle.parking_lot_world.specs.declared.seat.Hold.TheVariants as hold
@@ -69,6 +70,7 @@ pub knows_same : (f g : ℕ → List Waiter) → ((key : ℕ) → g key ≡ f ke
 knows_same f g same (Core.Mutex k) j h = subst (mutex_knows k.phase) (sym (same (2 * j))) h
 knows_same f g same (Core.Rw k) j h = subst (λ (q : List Waiter). rw_knows k.phase q (g (2 * j + 1))) (sym (same (2 * j))) (subst (rw_knows k.phase (f (2 * j))) (sym (same (2 * j + 1))) h)
 knows_same f g same (Core.Late p) j h = tt
+knows_same f g same (Core.Upgrade k) j h = subst (upgrade_knows k.phase) (sym (same (2 * j))) h
 
 late_kind : (p : LatePhase) (told : ActResult) (m : Option Manner) → m ≡ Some AsMutex → IsOfManner m (late_next p told)
 late_kind LatePhase.Expires (ActResult.Woken token) m h = h
@@ -84,6 +86,7 @@ pub same_kind : (x : Core) (told : ActResult) (k : Option LockKind) → IsOfKind
 same_kind (Core.Rw c) told k h = h
 same_kind (Core.Mutex c) told k h = h
 same_kind (Core.Late p) told k h = late_kind p told (manner_of k) h
+same_kind (Core.Upgrade c) told k h = h
 
 module _ (s : State) (h : FitsTogether s) (t : ℕ) (c : Call) (here : call_at s t ≡ Some c) where
   -- it fits wherever it stands, with what it knows of the lists

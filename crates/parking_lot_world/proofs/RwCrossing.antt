@@ -1,5 +1,5 @@
 -- Sections and lists: what moves do to them, and what is known of them.
-use Rattle.std.proofs.Common.{◌≡◌, ◌≤◌, ℕ, zero, suc, ◌+◌, ◌/◌, ◌==◌, ◌&&◌, ◌⊎◌, inl, inr, not, min, Bool, true, false, cond, List, Some, None, refl, sym, ap, ◌∙◌, subst, arith, ◌||◌, ◌^◌, ◌-◌, nat_lt}
+use Rattle.std.proofs.Common.{◌≡◌, ◌≤◌, ℕ, zero, suc, ◌+◌, ◌/◌, ◌==◌, ◌&&◌, inl, inr, not, min, Bool, true, false, cond, List, [], ◌∷◌, length, Some, None, refl, sym, ap, ◌∙◌, subst, arith, ◌||◌, ◌^◌, ◌-◌, nat_lt}
 use Rattle.std.specs.Option.{option_map_or}
 use Rattle.std.proofs.lemmas.Option.{none-some}
 use Rattle.parking_lot_core_lot.specs.Results.{is_left}
@@ -18,11 +18,13 @@ use Rattle.parking_lot_protocol.specs.declared.rw_phase.AfterWake.TheVariants.{F
 use Rattle.parking_lot_protocol.specs.declared.rw_phase.Scanning.{Scanning}
 use Rattle.parking_lot_protocol.specs.declared.rw_phase.RwPhase.{RwPhase}
 use Rattle.parking_lot_protocol.specs.declared.rw_phase.RwPhase.TheVariants.{Locking, Trying, UnlockingShared, UnlockingExclusive, Downgrading, BumpingShared, BumpingExclusive, Loads, Admits, Spins, SetParked, Enters, Checks, Retreats, Appends, Rests, Sleeps, DrainLoads, DrainSpins, DrainSetParked, DrainEnters, DrainChecks, DrainRetreats, DrainAppends, DrainRests, DrainSleeps, TryLoads, TryAdmits, BumpLoads, Relocks, Unshares, EnterWriterWakeSection, TakeWriter, ClearWriterParked, LeaveWriterWakeSection, Unlocks, LooksExclusive, Downgrades, EnterWakeSection, Scans, Stores, Leaves, Wakes, Finishes, Invalid}
-use Rattle.parking_lot_protocol.specs.RwTable.{act_of, next_phase, is_parked, is_writer_parked, is_barred, has_readers, goes_on, scans, is_written, is_admitted, is_tried, seeks, drains, tries, begins, admits, bumps, over, wakes}
-use Rattle.parking_lot_protocol.specs.RwRules.{QueuePosition, Listed, Off, role, Move, Makes, move, admission, try_admission, IsTold}
+use Rattle.parking_lot_protocol.specs.RwTable.{sum_of, act_of, next_phase, is_parked, is_writer_parked, is_barred, has_readers, goes_on, scans, is_written, is_admitted, is_tried, seeks, drains, tries, begins, admits, bumps, over, wakes}
+use Rattle.parking_lot_protocol.specs.RwRules.{IsToken, QueuePosition, Listed, Off, role, Move, Makes, move, admission, try_admission, IsTold}
 use Rattle.parking_lot_rules.specs.Clauses.{Fits}
 use Rattle.parking_lot_protocol.specs.declared.rw_phase.Seeking.{Seeking}
 use Rattle.parking_lot_protocol.specs.declared.rw_phase.Draining.{Draining}
+use Rattle.parking_lot_protocol.specs.Wake.{wake_answer}
+use Rattle.parking_lot_world.specs.Passes.{ArePassed}
 use Rattle.parking_lot_world.specs.Stances.{rw_stance}
 use Rattle.parking_lot_world.specs.RowFits.{rw_knows}
 use Rattle.parking_lot_world.specs.RwLaws.{NobodyIs, act_crossing, move_crossing, in_first, in_second, ActsCross, FreeSectionsAreEmpty, Learns, ListsAreKnown}
@@ -104,13 +106,11 @@ free_sections_are_empty f i l sound free is = (none First fits.inside1, none Sec
 
 -- a phase that needs to know nothing of a list
 abbrev IsCalm : RwPhase → Type 0
-IsCalm (Scans a) = ⊥
 IsCalm (Stores a left) = ⊥
 IsCalm (ClearWriterParked rest taken) = ⊥
 IsCalm p = Unit {0}
 
 calm_knows : (p : RwPhase) (first second : List Waiter) → IsCalm p → rw_knows p first second
-calm_knows (Scans a) first second calm = absurd calm
 calm_knows (Stores a left) first second calm = absurd calm
 calm_knows (ClearWriterParked rest taken) first second calm = absurd calm
 calm_knows p first second calm = tt
@@ -151,27 +151,32 @@ finishes_calm AgainExclusive x (ActResult.Word v) told = tt
 finishes_calm rest x s told = absurd told
 
 -- what one knows of a scan that has taken one more
-goes_knows : (s : Scanning) (left : Bool) (first second : List Waiter) → s.upgradable ≡ false → is_left first ≡ left → rw_knows (goes_on left s) first second
-goes_knows s left first second u e = go left s.writer e refl
+none_left : (s : Scanning) (first : List Waiter) → is_left first ≡ false → ArePassed (wake_answer (sum_of s)) first (length first)
+none_left s [] e = λ i w low at. absurd (omega (arith, low))
+none_left s (x ∷ first) e = absurd cc
+
+goes_knows : (s : Scanning) (left : Bool) (first second : List Waiter) → is_left first ≡ left → rw_knows (goes_on left s) first second
+goes_knows s left first second e = go left s.writer e refl
   where
     go : (a b : Bool) → is_left first ≡ a → s.writer ≡ b → rw_knows (cond (a && not b) (Scans s) (Stores s a)) first second
-    go true false e w = u
-    go true true e w = (u, e, inl w)
-    go false b e w = (u, e, inr refl)
+    go true false e w = tt
+    go true true e w = (e, inl w)
+    go false b e w = (e, inr (none_left s first e))
 
 abbrev KnowsAt : Scanning → Bool → List Waiter → List Waiter → ℕ → Type 0
 KnowsAt a left first second y = rw_knows (option_map_or (λ q. q) (scans a (Some (record { 0 = y })) left) Invalid) first second
 
-takes_knows : (a : Scanning) (left : Bool) (token : ParkToken) (first second : List Waiter) → a.upgradable ≡ false → (token.0 ≡ 16) ⊎ (token.0 ≡ 8) → is_left first ≡ left → KnowsAt a left first second token.0
-takes_knows a left token first second u (inl e) same = subst (KnowsAt a left first second) (sym e) (goes_knows (record a { shared = min (a.shared + 1) (2 ^ 32 - 1) }) left first second u same)
-takes_knows a left token first second u (inr e) same = subst (KnowsAt a left first second) (sym e) (goes_knows (record a { writer = true }) left first second u same)
+takes_knows : (a : Scanning) (left : Bool) (token : ParkToken) (first second : List Waiter) → IsToken (Some token) → is_left first ≡ left → KnowsAt a left first second token.0
+takes_knows a left token first second (inl e) same = subst (KnowsAt a left first second) (sym e) (goes_knows (record a { shared = min (a.shared + 1) (2 ^ 32 - 1) }) left first second same)
+takes_knows a left token first second (inr (inl e)) same = subst (KnowsAt a left first second) (sym e) (goes_knows (record a { writer = true }) left first second same)
+takes_knows a left token first second (inr (inr e)) same = subst (KnowsAt a left first second) (sym e) (goes_knows (record a { upgradable = true }) left first second same)
 
 knows_next : (p : RwPhase) (x : ℕ) (s : ActResult) (old1 old2 first second : List Waiter) → IsTold p x s → rw_knows p old1 old2 → Learns p s first second → rw_knows (next_phase p s) first second
-knows_next (Scans a) x (ActResult.Took (Some token) left) old1 old2 first second told k h = takes_knows a left token first second k h.0 h.1
-knows_next (Scans a) x (ActResult.Took None left) old1 old2 first second told k h = (k, h.0, inr h.1)
+knows_next (Scans a) x (ActResult.Took (Some token) left) old1 old2 first second told k h = takes_knows a left token first second told h
+knows_next (Scans a) x (ActResult.Took None left) old1 old2 first second told k h = (h.0, inr h.1)
 knows_next (TakeWriter rest) x (ActResult.Took token left) old1 old2 first second told k h = h
-knows_next (LooksExclusive fair rest) x ActResult.Entered old1 old2 first second told k h = refl
-knows_next EnterWakeSection x ActResult.Entered old1 old2 first second told k h = refl
+knows_next (LooksExclusive fair rest) x ActResult.Entered old1 old2 first second told k h = tt
+knows_next EnterWakeSection x ActResult.Entered old1 old2 first second told k h = tt
 knows_next (Locking want) x ActResult.Start old1 old2 first second told k h = tt
 knows_next (Trying want) x ActResult.Start old1 old2 first second told k h = tt
 knows_next UnlockingShared x ActResult.Start old1 old2 first second told k h = tt

@@ -61,7 +61,7 @@ readers_most : (r : Role) → weight Readers r ≤ shared_holds r.owns + 1
 unfolding weight
 readers_most r = omega (arith, held_is r.owns, handed_most r.does)
 
-total_most : (k : ℕ) (rs : List Role) → ((u : ℕ) (r : Role) → slice_get rs u ≡ Some r → shared_holds r.owns ≤ k) → total Readers rs ≤ (k + 1) * length rs
+pub total_most : (k : ℕ) (rs : List Role) → ((u : ℕ) (r : Role) → slice_get rs u ≡ Some r → shared_holds r.owns ≤ k) → total Readers rs ≤ (k + 1) * length rs
 total_most k [] few = omega arith
 total_most k (r ∷ rs) few =
     let one : shared_holds r.owns ≤ k = few 0 r refl in
@@ -187,7 +187,7 @@ Clears LookUpgradable l = NobodyIs Inside1 l.roles
 Clears (LookOwed o) l = NobodyIs Inside1 l.roles
 Clears k l = Unit {0}
 
-may_all : (recursive : Bool) (l : Lock) → IsSound l → (k : Plain) → May recursive k l.word (λ c. 0) → Clears k l → May recursive k l.word (λ c. total c l.roles)
+pub may_all : (recursive : Bool) (l : Lock) → IsSound l → (k : Plain) → May recursive k l.word (λ c. 0) → Clears k l → May recursive k l.word (λ c. total c l.roles)
 may_all recursive l h (Enter1 m c) may clear = nobody Inside1 l.roles clear
 may_all recursive l h (Reenter1 m) may clear = nobody Inside1 l.roles clear
 may_all recursive l h (ReenterTaken1 m by how) may clear = nobody Inside1 l.roles clear

@@ -1,18 +1,18 @@
 -- Who is told by a store.
-use Rattle.std.proofs.Common.{◌≡◌, ◌<◌, ℕ, cond, List, [], Some, slice_get, refl, sym, ap, ◌∙◌, subst, arith, eq-eqb, ⊎_elim}
-use Rattle.std.proofs.lemmas.Bool.{cases_eq, ne_eqb}
+use Rattle.std.proofs.Common.{◌≡◌, ◌≢◌, ◌<◌, ℕ, cond, List, [], Some, slice_get, refl, sym, ap, ◌∙◌, subst, arith, eq-eqb}
+use Rattle.std.proofs.lemmas.Bool.{ne_eqb}
 use Rattle.std.proofs.lemmas.Option.{same_Some}
 use Rattle.parking_lot_rules.specs.Roles.{Role, Mode, Owned}
 use Rattle.parking_lot_rules.specs.Roles as rules
 use Rattle.parking_lot_rules.specs.Classes.{Inside1, weight}
 use Rattle.parking_lot_rules.specs.Lists.{occurs}
 use Rattle.parking_lot_rules.specs.Lock.{Lock, IsSound, On1, to_wake}
-use Rattle.parking_lot_rules.specs.Steps.{Scan, scanning, settle}
+use Rattle.parking_lot_rules.specs.Steps.{Scan, scanning, settle, told}
+use Rattle.parking_lot_upgrades.specs.UpgradeRoles.{for_release, for_upgradable, for_upgrade}
 use Rattle.parking_lot_rules.proofs.Settling.{one_inside, open_inside}
-use Rattle.parking_lot_protocol.specs.declared.rw_phase.LockMode.{LockMode}
 use Rattle.parking_lot_protocol.specs.declared.rw_phase.RwPhase.{RwPhase}
 use Rattle.parking_lot_protocol.specs.declared.rw_phase.RwPhase.TheVariants.{Sleeps, DrainSleeps}
-use Rattle.parking_lot_protocol.specs.RwRules.{role, mode_of}
+use Rattle.parking_lot_protocol.specs.RwRules.{does, mode_of, owns}
 use Rattle.parking_lot_protocol.specs.RwRules as rules_of
 use Rattle.parking_lot_world.specs.declared.seat.QueuePosition.{QueuePosition}
 use Rattle.parking_lot_world.specs.declared.seat.WakeResult.{WakeResult}
@@ -34,36 +34,97 @@ open_none l t u mine own m stay h at none there =
     let some : 0 < occurs u [] = subst (λ us. 0 < occurs u us) none (subst (λ (r : Role). 0 < occurs u (to_wake r.does (On1 rules.Open))) is p.2) in
     omega arith
 
+-- WHAT A PHASE SAYS
+
+-- whoever is taken and told nothing, that phase says, t has taken
+abbrev IsOpenBy : ℕ → rules.Phase → Type 0
+IsOpenBy t d = (m : Mode) (by : ℕ) → d ≡ rules.Taken1 m by rules.Open rules.Asleep → by ≡ t
+
+abbrev IsOpenElsewhere : ℕ → rules.Phase → Type 0
+IsOpenElsewhere t d = (m : Mode) (by : ℕ) → d ≡ rules.Taken1 m by rules.Open rules.Asleep → by ≢ t
+
 -- one that was taken by t is told
-is_told : (t by n : ℕ) (us : List ℕ) (want : LockMode) (said : WakeResult) → by ≡ t → role n (told_by t said (QueuePosition.Off by WakeResult.Nothing)) us (Sleeps want) ≡ settle (mark_of said) (role n (rw_spot (QueuePosition.Off by WakeResult.Nothing)) us (Sleeps want))
-is_told t by n us want said e = ap (λ b. role n (rules_of.Off by (mark_of (cond b said WakeResult.Nothing))) us (Sleeps want)) (eq-eqb by t e)
+does_told : (t : ℕ) (at : QueuePosition) (us : List ℕ) (p : RwPhase) (said : WakeResult) → IsOpenBy t (does (rw_spot at) us p) → does (told_by t said at) us p ≡ told (mark_of said) (does (rw_spot at) us p)
+does_told t QueuePosition.Listed us (Sleeps want) said by = refl
+does_told t (QueuePosition.Off x WakeResult.Nothing) us (Sleeps want) said by = ap (λ b. does (rules_of.Off x (mark_of (cond b said WakeResult.Nothing))) us (Sleeps want)) (eq-eqb x t (by (mode_of want) x refl))
+does_told t (QueuePosition.Off x WakeResult.TryAgain) us (Sleeps want) said by = refl
+does_told t (QueuePosition.Off x WakeResult.HandedOver) us (Sleeps want) said by = refl
+does_told t QueuePosition.Listed us (DrainSleeps rounds) said by = refl
+does_told t (QueuePosition.Off x WakeResult.Nothing) us (DrainSleeps rounds) said by = refl
+does_told t (QueuePosition.Off x WakeResult.TryAgain) us (DrainSleeps rounds) said by = refl
+does_told t (QueuePosition.Off x WakeResult.HandedOver) us (DrainSleeps rounds) said by = refl
+does_told t at us p said by = refl
 
-told_here : (l : Lock) (t u n : ℕ) (at : QueuePosition) (us : List ℕ) (p : RwPhase) (scan : Scan) (said : WakeResult) → IsSound l → slice_get l.roles t ≡ Some (scanning scan) → slice_get l.roles u ≡ Some (role n (rw_spot at) us p)
-    → role n (told_by t said at) us p ≡ settle (mark_of said) (role n (rw_spot at) us p)
-told_here l t u n QueuePosition.Listed us (Sleeps want) scan said h mine there = refl
-told_here l t u n (QueuePosition.Off by WakeResult.Nothing) us (Sleeps want) scan said h mine there = is_told t by n us want said (open_by l t u by scan _ _ _ h mine there)
-told_here l t u n (QueuePosition.Off by WakeResult.TryAgain) us (Sleeps want) scan said h mine there = refl
-told_here l t u n (QueuePosition.Off by WakeResult.HandedOver) us (Sleeps want) scan said h mine there = refl
-told_here l t u n QueuePosition.Listed us (DrainSleeps rounds) scan said h mine there = refl
-told_here l t u n (QueuePosition.Off by WakeResult.Nothing) us (DrainSleeps rounds) scan said h mine there = refl
-told_here l t u n (QueuePosition.Off by WakeResult.TryAgain) us (DrainSleeps rounds) scan said h mine there = refl
-told_here l t u n (QueuePosition.Off by WakeResult.HandedOver) us (DrainSleeps rounds) scan said h mine there = refl
-told_here l t u n at us p scan said h mine there = refl
+-- and any other isn't
+does_kept : (t : ℕ) (at : QueuePosition) (us : List ℕ) (p : RwPhase) (said : WakeResult) → IsOpenElsewhere t (does (rw_spot at) us p) → does (told_by t said at) us p ≡ does (rw_spot at) us p
+does_kept t QueuePosition.Listed us (Sleeps want) said by = refl
+does_kept t (QueuePosition.Off x WakeResult.Nothing) us (Sleeps want) said by = ap (λ b. does (rules_of.Off x (mark_of (cond b said WakeResult.Nothing))) us (Sleeps want)) (ne_eqb x t (by (mode_of want) x refl))
+does_kept t (QueuePosition.Off x WakeResult.TryAgain) us (Sleeps want) said by = refl
+does_kept t (QueuePosition.Off x WakeResult.HandedOver) us (Sleeps want) said by = refl
+does_kept t QueuePosition.Listed us (DrainSleeps rounds) said by = refl
+does_kept t (QueuePosition.Off x WakeResult.Nothing) us (DrainSleeps rounds) said by = refl
+does_kept t (QueuePosition.Off x WakeResult.TryAgain) us (DrainSleeps rounds) said by = refl
+does_kept t (QueuePosition.Off x WakeResult.HandedOver) us (DrainSleeps rounds) said by = refl
+does_kept t at us p said by = refl
 
-told_elsewhere : (l : Lock) (t u n : ℕ) (at : QueuePosition) (us : List ℕ) (p : RwPhase) (own : Role) (said : WakeResult) → IsSound l → slice_get l.roles t ≡ Some own → to_wake own.does (On1 rules.Open) ≡ [] → slice_get l.roles u ≡ Some (role n (rw_spot at) us p)
-    → role n (told_by t said at) us p ≡ role n (rw_spot at) us p
-told_elsewhere l t u n QueuePosition.Listed us (Sleeps want) own said h mine none there = refl
-told_elsewhere l t u n (QueuePosition.Off by WakeResult.Nothing) us (Sleeps want) own said h mine none there = ⊎_elim
-    (λ e. let same = subst (λ y. slice_get l.roles u ≡ Some (record { owns = rules.Shares n; does = rules.Taken1 (mode_of want) y rules.Open rules.Asleep })) e there in absurd (open_none l t u own _ _ _ h mine none same))
-    (λ ne. ap (λ b. role n (rules_of.Off by (mark_of (cond b said WakeResult.Nothing))) us (Sleeps want)) (ne_eqb by t ne))
-    (cases_eq by t)
-told_elsewhere l t u n (QueuePosition.Off by WakeResult.TryAgain) us (Sleeps want) own said h mine none there = refl
-told_elsewhere l t u n (QueuePosition.Off by WakeResult.HandedOver) us (Sleeps want) own said h mine none there = refl
-told_elsewhere l t u n QueuePosition.Listed us (DrainSleeps rounds) own said h mine none there = refl
-told_elsewhere l t u n (QueuePosition.Off by WakeResult.Nothing) us (DrainSleeps rounds) own said h mine none there = refl
-told_elsewhere l t u n (QueuePosition.Off by WakeResult.TryAgain) us (DrainSleeps rounds) own said h mine none there = refl
-told_elsewhere l t u n (QueuePosition.Off by WakeResult.HandedOver) us (DrainSleeps rounds) own said h mine none there = refl
-told_elsewhere l t u n at us p own said h mine none there = refl
+-- THE PHASES OF CALLS THAT GO ON AS SUCH A ONE
+
+-- Of those that are taken it says they are, and a telling is the same before it and after it.
+pub record IsTelling (f : rules.Phase → rules.Phase) : Type 0 where
+  pub taken : (m : Mode) (by : ℕ) → (k : Mode) × (f (rules.Taken1 m by rules.Open rules.Asleep) ≡ rules.Taken1 k by rules.Open rules.Asleep)
+  pub tells : (mark : rules.Mark) (d : rules.Phase) → f (told mark d) ≡ told mark (f d)
+
+pub itself_tells : IsTelling (λ d. d)
+itself_tells = record { taken = λ m by. (m, refl); tells = λ mark d. refl }
+
+upgradable_tells : (mark : rules.Mark) (d : rules.Phase) → for_upgradable (told mark d) ≡ told mark (for_upgradable d)
+upgradable_tells mark (rules.Taken1 m by rules.Open stay) = refl
+upgradable_tells mark (rules.Taken1 m by rules.Normal stay) = refl
+upgradable_tells mark (rules.Taken1 m by rules.Handed stay) = refl
+upgradable_tells mark d = refl
+
+pub seeking_tells : IsTelling for_upgradable
+seeking_tells = record { taken = λ m by. (rules.Upgradable, refl); tells = upgradable_tells }
+
+upgrade_tells : (mark : rules.Mark) (d : rules.Phase) → for_upgrade (told mark d) ≡ told mark (for_upgrade d)
+upgrade_tells mark (rules.Taken1 m by rules.Open stay) = refl
+upgrade_tells mark (rules.Taken1 m by rules.Normal stay) = refl
+upgrade_tells mark (rules.Taken1 m by rules.Handed stay) = refl
+upgrade_tells mark d = refl
+
+pub draining_tells : IsTelling for_upgrade
+draining_tells = record { taken = λ m by. (m, refl); tells = upgrade_tells }
+
+release_tells : (mark : rules.Mark) (d : rules.Phase) → for_release (told mark d) ≡ told mark (for_release d)
+release_tells mark (rules.Taken1 m by rules.Open stay) = refl
+release_tells mark (rules.Taken1 m by rules.Normal stay) = refl
+release_tells mark (rules.Taken1 m by rules.Handed stay) = refl
+release_tells mark d = refl
+
+pub freeing_tells : IsTelling for_release
+freeing_tells = record { taken = λ m by. (m, refl); tells = release_tells }
+
+abbrev pub IsSame : Role → Role → Type 0
+IsSame a b = a ≡ b
+
+pub told_so : (f : rules.Phase → rules.Phase) (k : IsTelling f) (l : Lock) (t u : ℕ) (own : Owned) (at : QueuePosition) (us : List ℕ) (p : RwPhase) (scan : Scan) (said : WakeResult) → IsSound l → slice_get l.roles t ≡ Some (scanning scan)
+    → slice_get l.roles u ≡ Some (record { owns = own; does = f (does (rw_spot at) us p) }) → IsSame (record { owns = own; does = f (does (told_by t said at) us p) }) (settle (mark_of said) (record { owns = own; does = f (does (rw_spot at) us p) }))
+told_so f k l t u own at us p scan said h mine there =
+    ap (λ d. record { owns = own; does = f d })
+    (does_told t at us p said (λ m by e. open_by l t u by scan own (k.taken m by).0 rules.Asleep h mine (there ∙ ap (λ d. Some (record { owns = own; does = f d })) e ∙ ap (λ d. Some (record { owns = own; does = d })) (k.taken m by).1)))
+    ∙ ap (λ d. record { owns = own; does = d }) (k.tells (mark_of said) (does (rw_spot at) us p))
+
+pub kept_so : (f : rules.Phase → rules.Phase) (k : IsTelling f) (l : Lock) (t u : ℕ) (own : Owned) (at : QueuePosition) (us : List ℕ) (p : RwPhase) (mine : Role) (said : WakeResult) → IsSound l → slice_get l.roles t ≡ Some mine → to_wake mine.does (On1 rules.Open) ≡ []
+    → slice_get l.roles u ≡ Some (record { owns = own; does = f (does (rw_spot at) us p) }) → IsSame (record { owns = own; does = f (does (told_by t said at) us p) }) (record { owns = own; does = f (does (rw_spot at) us p) })
+kept_so f k l t u own at us p mine said h is none there =
+    ap (λ d. record { owns = own; does = f d })
+    (does_kept t at us p said
+    (λ m by e same.
+    open_none l t u mine own (k.taken m by).0 rules.Asleep h is none
+    (there ∙ ap (λ d. Some (record { owns = own; does = f d })) e ∙ ap (λ d. Some (record { owns = own; does = d })) (k.taken m by).1 ∙ ap (λ x. Some (record { owns = own; does = rules.Taken1 (k.taken m by).0 x rules.Open rules.Asleep })) same)))
 
 pub stores_tell : StoresTell
-stores_tell = record { here = told_here; elsewhere = told_elsewhere }
+stores_tell = record {
+  here = λ l t u n at us p scan said h mine there. told_so (λ d. d) itself_tells l t u (owns n p) at us p scan said h mine there;
+  elsewhere = λ l t u n at us p own said h mine none there. kept_so (λ d. d) itself_tells l t u (owns n p) at us p own said h mine none there;
+}

@@ -7,11 +7,12 @@ use Rattle.parking_lot_rules.specs.Roles as rules
 use Rattle.parking_lot_rules.specs.Clauses.{Word, number, word_of}
 use Rattle.parking_lot_rules.specs.Lists.{occurs}
 use Rattle.parking_lot_rules.specs.Lock.{Lock, On1, to_wake}
-use Rattle.parking_lot_rules.specs.Steps.{Scan, IsOver, Ending, Free, FreeUpgradable, Hand, HandUpgradable, Keep, ends_saying, stored, settle, Store, Wake, Waking, Recheck, waking_from, waking_to, Allowed, after}
+use Rattle.parking_lot_rules.specs.Steps.{AreSkipped, Scan, IsOver, Ending, Free, FreeUpgradable, Hand, HandUpgradable, Keep, ends_saying, stored, settle, Store, Wake, Waking, Recheck, waking_from, waking_to, Allowed, after}
 use Rattle.parking_lot_rules.proofs.Sounds.{step_sound}
 use Rattle.parking_lot_rules.specs.Classes.{bit}
 use Rattle.parking_lot_protocol.specs.declared.act.ActResult.TheVariants as seen
 use Rattle.parking_lot_protocol.specs.declared.rw_phase.LockMode.{LockMode}
+use Rattle.parking_lot_protocol.specs.declared.rw_phase.Scanning.{Scanning}
 use Rattle.parking_lot_protocol.specs.declared.rw_phase.AfterWake.{AfterWake}
 use Rattle.parking_lot_protocol.specs.declared.rw_phase.AfterWake.TheVariants.{FreedShared, FreedExclusive, Downgraded, AgainShared, AgainExclusive}
 use Rattle.parking_lot_protocol.specs.declared.rw_phase.RwPhase.TheVariants.{Sleeps, DrainSleeps, Stores, Leaves, Wakes, Loads}
@@ -24,12 +25,12 @@ use Rattle.parking_lot_world.specs.RwLaws.{IsStep, Meets, ending_of, StoresAreSt
 use Rattle.parking_lot_world.specs.Rows.{mark_of}
 use Rattle.parking_lot_world.specs.RowActs.{told_of}
 use Rattle.parking_lot_world.proofs.RwMoving.{moved, same_word}
-use Rattle.parking_lot_world.proofs.RwTaking.{same_scan}
+use Rattle.parking_lot_world.proofs.RwTaking.{same_scan, scan_holds}
 
 -- STORES
 
 -- how many are left doesn't matter, but whether some are
-stored_left : (e : Ending) (r : ℕ) (u x : Bool) (q : List ℕ) (left : Bool) (w : Word) → is_left q ≡ left → stored e r u x (bit left) w ≡ stored e r u x (length q) w
+pub stored_left : (e : Ending) (r : ℕ) (u x : Bool) (q : List ℕ) (left : Bool) (w : Word) → is_left q ≡ left → stored e r u x (bit left) w ≡ stored e r u x (length q) w
 stored_left e r u x q left w same = sym (ap (λ b. stored e r u x (bit b) w) same) ∙ some e q
   where
     some : (e : Ending) (q : List ℕ) → stored e r u x (bit (is_left q)) w ≡ stored e r u x (length q) w
@@ -44,13 +45,9 @@ stored_left e r u x q left w same = sym (ap (λ b. stored e r u x (bit b) w) sam
     some Keep [] = refl
     some Keep (y ∷ ys) = refl
 
-none_left : (q : List ℕ) → is_left q ≡ false → length q ≡ 0
-none_left [] e = refl
-none_left (y ∷ ys) e = absurd cc
-
-is_over : (l : Lock) (s : Scan) (left : Bool) → is_left l.first ≡ left → (s.writer ≡ true) ⊎ (left ≡ false) → IsOver s l.roles l.first
-is_over l s left same (inl writer) = inl writer
-is_over l s left same (inr none) = let z = none_left l.first (same ∙ none) in inr (λ j u r below here there. absurd (omega arith))
+is_over : (l : Lock) (n : ℕ) (a : Scanning) (us : List ℕ) → (a.writer ≡ true) ⊎ AreSkipped a.upgradable a.writer l.roles l.first (length l.first) → IsOver (scan_of n a us) l.roles l.first
+is_over l n a us (inl writer) = inl writer
+is_over l n a us (inr skipped) = inr (subst (λ u. AreSkipped u a.writer l.roles l.first (length l.first)) (sym (scan_holds n a us)) skipped)
 
 pub stores_are_steps : StoresAreSteps
 stores_are_steps recursive l t n spot us a left x fair h same over =
@@ -60,7 +57,7 @@ stores_are_steps recursive l t n spot us a left x fair h same over =
     let w = word_after (act_of p) (seen.Stored fair) x in
     let m = (moved recursive l t n spot us p x h (seen.Stored fair) tt).0 in
     let is : m.0 ≡ s = same_scan m.0 s (sym m.1.from) in
-    let may : Allowed recursive t (Store e s) l = (h.here, ap (λ (c : Scan). c.cause) (sym is) ∙ m.1.cause, m.1.may, is_over l s left same over) in
+    let may : Allowed recursive t (Store e s) l = (h.here, ap (λ (c : Scan). c.cause) (sym is) ∙ m.1.cause, m.1.may, is_over l n a us over) in
     let to : role n Listed us (next_phase p (seen.Stored fair)) ≡ record { owns = s.owns; does = rules.Stored1 us } = m.1.to ∙ ap (λ (c : Scan). record { owns = c.owns; does = rules.Stored1 us }) is in
     let said : w ≡ number (stored e s.shared s.upgradable s.writer (length l.first) l.word) =
     m.1.written ∙ ap (λ (c : Scan). number (stored e c.shared c.upgradable c.writer (bit left) l.word)) is ∙ ap number (stored_left e s.shared s.upgradable s.writer l.first left l.word same) in
@@ -98,7 +95,7 @@ after_wake want ws false = refl
 after_wake (LockMode.Shared recursive) ws true = refl
 after_wake LockMode.Exclusive ws true = refl
 
-wakes_one : (recursive : Bool) (l : Lock) (t n : ℕ) (spot : QueuePosition) (v : ℕ) (vs : List ℕ) (rest : AfterWake) (count x : ℕ) (k : Waking) (r : Role) → Meets recursive l t n spot (v ∷ vs) (Wakes rest count) x → slice_get l.roles v ≡ Some (waking_from k t rules.Asleep) → r ≡ waking_to k
+pub wakes_one : (recursive : Bool) (l : Lock) (t n : ℕ) (spot : QueuePosition) (v : ℕ) (vs : List ℕ) (rest : AfterWake) (count x : ℕ) (k : Waking) (r : Role) → Meets recursive l t n spot (v ∷ vs) (Wakes rest count) x → slice_get l.roles v ≡ Some (waking_from k t rules.Asleep) → r ≡ waking_to k
     → IsStep recursive t (Wake (owned_at_last n rest) v vs k rules.Asleep) l
     (record l { word = word_of x; roles = slice_set (slice_set l.roles v r) t (role n Listed vs (next_phase (Wakes rest count) seen.Made)) })
 wakes_one recursive l t n spot v vs rest count x k r h from to =

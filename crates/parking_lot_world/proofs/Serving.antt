@@ -1,5 +1,5 @@
 -- Where threads wait, somebody is in debt; and where a thread is in a call, somebody can move.
-use Rattle.std.proofs.Common.{◌≡◌, ◌≢◌, ℕ, zero, suc, ◌<◌, ◌≤◌, ◌||◌, arith, ◌⊎◌, inl, inr, cond, Bool, true, false, not, List, length, Option, Some, None, slice_get, refl, sym, ap, ◌∙◌, subst}
+use Rattle.std.proofs.Common.{◌≡◌, ◌≢◌, ℕ, zero, suc, ◌<◌, ◌≤◌, ◌||◌, arith, ◌⊎◌, inl, inr, cond, Bool, true, false, not, List, length, Option, Some, None, slice_get, refl, sym, ap, ◌∙◌, subst, ◌+◌, ◌%◌, ◌^◌}
 use Rattle.std.specs.Prelude.{IsTrue, is_some}
 use Rattle.std.specs.Option.{option_and_then, option_map_or}
 use Rattle.std.proofs.lemmas.Bool.{both_ways, cases_eq}
@@ -21,6 +21,17 @@ use Rattle.parking_lot_protocol.specs.MutexRules as rules_of_mutex
 use Rattle.parking_lot_protocol.specs.RwRules as rules_of_rw
 use Rattle.parking_lot_protocol.specs.MutexTable as of_mutex
 use Rattle.parking_lot_protocol.specs.RwTable as of_rw
+use Rattle.parking_lot_protocol.specs.declared.act.CoreAnswer.{CoreAnswer}
+use Rattle.parking_lot_upgrades.specs.UpgradeRoles as of_upgrade
+use Rattle.parking_lot_upgrades.specs.UpgradeRoles.{for_release, for_upgradable, for_upgrade}
+use Rattle.parking_lot_upgrades.specs.UpgradeTable as upgrade_table
+use Rattle.parking_lot_upgrades.specs.declared.upgrade_phase.Hold.{Hold as Kept}
+use Rattle.parking_lot_upgrades.specs.declared.upgrade_phase.Release.{Release}
+use Rattle.parking_lot_upgrades.specs.declared.upgrade_phase.UpgradePhase.{UpgradePhase}
+use Rattle.parking_lot_world.specs.Stances.{seeks_stance, upgrade_stance, upgrade_taken}
+use Rattle.parking_lot_world.specs.Rows.{rw_core_role}
+use Rattle.parking_lot_world.proofs.KindTable as KindTable
+use Rattle.parking_lot_world.proofs.KindTable.{RwCall, Simple, rw_call}
 use Rattle.parking_lot_world.specs.Kinds.{AsMutex, AsRw, manner_of, Manner}
 use Rattle.parking_lot_world.specs.declared.calls.OwnMode.{OwnMode}
 use Rattle.parking_lot_world.specs.declared.seat.QueuePosition.{QueuePosition}
@@ -90,10 +101,36 @@ late_inside b QueuePosition.Listed LatePhase.Leaves taken k how e = refl
 late_inside b (QueuePosition.Off by said) LatePhase.Leaves taken k how e = refl
 late_inside b at p taken k how e = absurd cc
 
+seeks_inside : (q : RwPhase) (k : ℕ) (how : Doing) (taken : ℕ → Bool) → seeks_stance q ≡ In k how → is_possible taken (upgrade_table.seeks_act q) ≡ true
+seeks_inside (RwPhase.Admits a word) k how taken e = absurd cc
+seeks_inside (RwPhase.Appends want) k how taken e = refl
+seeks_inside (RwPhase.Rests want) k how taken e = refl
+seeks_inside (RwPhase.Sleeps want) k how taken e = absurd cc
+seeks_inside q k how taken e = rw_inside q k how taken e
+
+frees_inside : (r : Release) (q : RwPhase) (k : ℕ) (how : Doing) (taken : ℕ → Bool) → rw_stance q ≡ In k how → is_possible taken (upgrade_table.frees_act r q) ≡ true
+frees_inside r (RwPhase.Stores a left) k how taken e = refl
+frees_inside r (RwPhase.Finishes rest) k how taken e = absurd cc
+frees_inside r q k how taken e = rw_inside q k how taken e
+
+owes_inside : (kept : Kept) (end : CoreAnswer) (q : RwPhase) (k : ℕ) (how : Doing) (taken : ℕ → Bool) → rw_stance q ≡ In k how → is_possible taken (upgrade_table.owes_act kept end q) ≡ true
+owes_inside kept end (RwPhase.Scans a) k how taken e = refl
+owes_inside kept end (RwPhase.Finishes rest) k how taken e = absurd cc
+owes_inside kept end q k how taken e = rw_inside q k how taken e
+
+upgrade_inside : (p : UpgradePhase) (k : ℕ) (how : Doing) (taken : ℕ → Bool) → upgrade_stance p ≡ In k how → is_possible taken (upgrade_table.act_of p) ≡ true
+upgrade_inside (UpgradePhase.Plain core) k how taken e = rw_inside core.phase k how taken e
+upgrade_inside (UpgradePhase.Seeks core) k how taken e = seeks_inside core.phase k how taken e
+upgrade_inside (UpgradePhase.Drains core) k how taken e = rw_inside core.phase k how taken e
+upgrade_inside (UpgradePhase.Frees r core) k how taken e = frees_inside r core.phase k how taken e
+upgrade_inside (UpgradePhase.Owes kept end core) k how taken e = owes_inside kept end core.phase k how taken e
+upgrade_inside p k how taken e = absurd cc
+
 inside_possible : (s : State) (d : Call) (c : Core) (k : ℕ) (how : Doing) → stance c ≡ In k how → (goes_late s d c || is_possible (is_taken s d) (core_act c)) ≡ true
 inside_possible s d (Core.Late p) k how e = late_inside (is_taken s d 0) d.spot p (is_taken s d) k how e
 inside_possible s d (Core.Mutex c) k how e = mutex_inside c.phase k how (is_taken s d) e
 inside_possible s d (Core.Rw c) k how e = rw_inside c.phase k how (is_taken s d) e
+inside_possible s d (Core.Upgrade c) k how e = upgrade_inside c.phase k how (is_taken s d) e
 
 -- A SLEEPER, AS THE RULES SEE IT
 
@@ -118,6 +155,56 @@ rw_sleeps at us (RwPhase.Finishes rest.Downgraded) e = absurd cc
 rw_sleeps at us (RwPhase.Finishes rest.AgainShared) e = absurd cc
 rw_sleeps at us (RwPhase.Finishes rest.AgainExclusive) e = absurd cc
 rw_sleeps at us p e = absurd cc
+
+-- the phases of calls that go on as such a one sleep as it does
+upgradable_asleep : (d : Phase) → rw_laws.is_asleep (for_upgradable d) ≡ rw_laws.is_asleep d
+upgradable_asleep (Queued1 mode Asleep) = refl
+upgradable_asleep (Queued1 mode stay) = refl
+upgradable_asleep (Taken1 mode by mark Asleep) = refl
+upgradable_asleep (Taken1 mode by mark stay) = refl
+upgradable_asleep d = refl
+
+upgrade_asleep : (d : Phase) → rw_laws.is_asleep (for_upgrade d) ≡ rw_laws.is_asleep d
+upgrade_asleep (Queued2 from Asleep) = refl
+upgrade_asleep (Queued2 from stay) = refl
+upgrade_asleep (Taken2 from by Asleep) = refl
+upgrade_asleep (Taken2 from by stay) = refl
+upgrade_asleep d = refl
+
+release_asleep : (d : Phase) → rw_laws.is_asleep (for_release d) ≡ rw_laws.is_asleep d
+release_asleep (Queued2 from stay) = refl
+release_asleep d = refl
+
+awake_either : (b : Bool) (x y : Act) → sleeps x ≡ false → sleeps y ≡ false → sleeps (cond b x y) ≡ false
+awake_either true x y h k = h
+awake_either false x y h k = k
+
+seeks_same : (q : RwPhase) → sleeps (upgrade_table.seeks_act q) ≡ true → sleeps (of_rw.act_of q) ≡ true
+seeks_same (RwPhase.Admits a word) e = absurd (both_ways _ (awake_either (of_rw.has_room word) (Act.Exchange word ((word + 20) % 2 ^ 64)) Act.Load refl refl) e)
+seeks_same (RwPhase.Appends want) e = absurd cc
+seeks_same q e = e
+
+frees_same : (r : Release) (q : RwPhase) → sleeps (upgrade_table.frees_act r q) ≡ true → sleeps (of_rw.act_of q) ≡ true
+frees_same r (RwPhase.Stores a left) e = absurd cc
+frees_same r (RwPhase.Finishes rest) e = absurd (both_ways _ (awake_either (upgrade_table.is_again r) Act.Load (Act.Done answer.Released) refl refl) e)
+frees_same r q e = e
+
+owes_same : (kept : Kept) (end : CoreAnswer) (q : RwPhase) → sleeps (upgrade_table.owes_act kept end q) ≡ true → sleeps (of_rw.act_of q) ≡ true
+owes_same kept end (RwPhase.Scans a) e = absurd cc
+owes_same kept end (RwPhase.Finishes rest) e = absurd cc
+owes_same kept end q e = e
+
+upgrade_sleeps : (n : ℕ) (at : QueuePosition) (us : List ℕ) (p : UpgradePhase) → sleeps (upgrade_table.act_of p) ≡ true → rw_laws.is_asleep (of_upgrade.does (rw_spot at) us p) ≡ true
+upgrade_sleeps n at us (UpgradePhase.Plain core) e = rw_sleeps at us core.phase e
+upgrade_sleeps n at us (UpgradePhase.Seeks core) e = upgradable_asleep (rules_of_rw.does (rw_spot at) us core.phase) ∙ rw_sleeps at us core.phase (seeks_same core.phase e)
+upgrade_sleeps n at us (UpgradePhase.Drains core) e = upgrade_asleep (rules_of_rw.does (rw_spot at) us core.phase) ∙ rw_sleeps at us core.phase e
+upgrade_sleeps n at us (UpgradePhase.Frees r core) e = release_asleep (rules_of_rw.does (rw_spot at) us core.phase) ∙ rw_sleeps at us core.phase (frees_same r core.phase e)
+upgrade_sleeps n at us (UpgradePhase.Owes kept end core) e = rw_sleeps at us core.phase (owes_same kept end core.phase e)
+upgrade_sleeps n at us p e = absurd cc
+
+call_sleeps : (n : ℕ) (at : QueuePosition) (us : List ℕ) (k : RwCall) → sleeps (core_act (rw_call k)) ≡ true → rw_laws.is_asleep (rw_core_role n at us (rw_call k)).does ≡ true
+call_sleeps n at us (Simple k) e = rw_sleeps at us k.phase e
+call_sleeps n at us (KindTable.Upgradable k) e = upgrade_sleeps n at us k.phase e
 
 -- a sleeper isn't at work, and isn't idle
 mutex_rests : (p : mutex.Phase) → mutex_laws.is_asleep p ≡ true → mutex_laws.is_at_work p ≡ false
@@ -148,9 +235,33 @@ rw_takers (RwPhase.Leaves rest count handed) some = refl
 rw_takers (RwPhase.Wakes rest count) some = refl
 rw_takers p some = absurd (omega (arith, some))
 
+seeks_takers : (q : RwPhase) → 1 ≤ rw_taken q → sleeps (upgrade_table.seeks_act q) ≡ false
+seeks_takers (RwPhase.Admits a word) some = absurd (omega (arith, some))
+seeks_takers (RwPhase.Appends want) some = absurd (omega (arith, some))
+seeks_takers q some = rw_takers q some
+
+frees_takers : (r : Release) (q : RwPhase) → 1 ≤ rw_taken q → sleeps (upgrade_table.frees_act r q) ≡ false
+frees_takers r (RwPhase.Stores a left) some = refl
+frees_takers r (RwPhase.Finishes rest) some = absurd (omega (arith, some))
+frees_takers r q some = rw_takers q some
+
+owes_takers : (kept : Kept) (end : CoreAnswer) (q : RwPhase) → 1 ≤ rw_taken q → sleeps (upgrade_table.owes_act kept end q) ≡ false
+owes_takers kept end (RwPhase.Scans a) some = refl
+owes_takers kept end (RwPhase.Finishes rest) some = absurd (omega (arith, some))
+owes_takers kept end q some = rw_takers q some
+
+upgrade_takers : (p : UpgradePhase) → 1 ≤ upgrade_taken p → sleeps (upgrade_table.act_of p) ≡ false
+upgrade_takers (UpgradePhase.Plain core) some = rw_takers core.phase some
+upgrade_takers (UpgradePhase.Seeks core) some = seeks_takers core.phase some
+upgrade_takers (UpgradePhase.Drains core) some = rw_takers core.phase some
+upgrade_takers (UpgradePhase.Frees r core) some = frees_takers r core.phase some
+upgrade_takers (UpgradePhase.Owes kept end core) some = owes_takers kept end core.phase some
+upgrade_takers p some = absurd (omega (arith, some))
+
 takers_wake : (c : Core) → 1 ≤ taken_count c → sleeps (core_act c) ≡ false
 takers_wake (Core.Mutex c) some = mutex_takers c.phase some
 takers_wake (Core.Rw c) some = rw_takers c.phase some
+takers_wake (Core.Upgrade c) some = upgrade_takers c.phase some
 takers_wake (Core.Late p) some = absurd (omega (arith, some))
 
 -- one that owns a lock and does nothing there owns it in some mode
@@ -243,7 +354,7 @@ module _ (s : State) (h : FitsTogether s) where
       (ap asleep (role_now K s v (taken_by s.wakes v) d k.0 there refl k.1) ∙ so d.others d.spot (taken_by s.wakes v) k.0 (ap (λ x. sleeps (core_act x)) (sym k.1) ∙ e))
 
   rw_sleeper : (i v : ℕ) (d : Call) → manner_of (slice_get s.kinds i) ≡ Some AsRw → call_at s v ≡ Some d → d.lock ≡ i → sleeps (core_act d.core) ≡ true → rw_laws.is_asleep (rw_role_at s i v).does ≡ true
-  rw_sleeper = sleeper of_rws (λ q. rw_laws.is_asleep q.does) (λ n at us k e. rw_sleeps at us k.phase e)
+  rw_sleeper = sleeper of_rws (λ q. rw_laws.is_asleep q.does) (λ n at us k e. call_sleeps n at us k e)
 
   -- one whose moment has passed can come back, or who took it can move, or the one inside a section
   late_sleeps : (v : ℕ) (d : Call) (at : QueuePosition) → call_at s v ≡ Some d → d.core ≡ Core.Late LatePhase.Expires → d.spot ≡ at → Moves
@@ -317,6 +428,7 @@ module _ (s : State) (h : FitsTogether s) where
 
         by_core : (k : Core) → c.core ≡ k → IsOfKind (slice_get s.kinds c.lock) k → sleeps (core_act c.core) ≡ true → Moves ⊎ SomebodyKeeps s c.lock
         by_core (Core.Rw k) e of asleep = rw_up of asleep
+        by_core (Core.Upgrade k) e of asleep = rw_up of asleep
         by_core (Core.Mutex k) e of asleep = mutex_up of (plain_sleeper c.lock t c k here refl e asleep)
         by_core (Core.Late p) e of asleep = inl (late_moves t c p here e (ap (λ x. sleeps (core_act x)) (sym e) ∙ asleep))
 

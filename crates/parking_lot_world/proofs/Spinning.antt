@@ -13,6 +13,10 @@ use Rattle.parking_lot_protocol.specs.declared.rw_phase.Draining.{Draining}
 use Rattle.parking_lot_protocol.specs.declared.rw_phase.Scanning.{Scanning}
 use Rattle.parking_lot_protocol.specs.MutexTable as of_mutex
 use Rattle.parking_lot_protocol.specs.RwTable as of_rw
+use Rattle.parking_lot_upgrades.specs.UpgradeTable as ut
+use Rattle.parking_lot_upgrades.specs.declared.upgrade_phase.UpgradePhase.{UpgradePhase}
+use Rattle.parking_lot_world.specs.Rounds.{upgrade_rounds}
+use Rattle.parking_lot_world.specs.Stances.{upgrade_begun}
 use Rattle.parking_lot_world.specs.declared.seat.LatePhase.{LatePhase}
 use Rattle.parking_lot_world.specs.declared.seat.Core.{Core}
 use Rattle.parking_lot_world.specs.Rounds.{FewRounds, IsUnderWay, mutex_rounds, rw_rounds}
@@ -180,10 +184,57 @@ late_on LatePhase.Leaves Made = no_rounds
 late_on LatePhase.GivesUp s = no_rounds
 late_on p s = no_rounds
 
+-- an upgradable call goes on as such a one, or begins to
+few_rounds : (b : Bool) (p q : UpgradePhase) → upgrade_rounds p ≤ 10 → upgrade_rounds q ≤ 10 → upgrade_rounds (cond b p q) ≤ 10
+few_rounds true p q h k = h
+few_rounds false p q h k = k
+
+begun_rounds : (p : UpgradePhase) → upgrade_rounds (ut.begun p) ≤ 10
+begun_rounds UpgradePhase.Locking = omega arith
+begun_rounds p = no_rounds
+
+shown_rounds : (p : UpgradePhase) (w : ℕ) → upgrade_rounds (ut.shown p w) ≤ 10
+shown_rounds UpgradePhase.TryLoads w = few_rounds (ut.is_open w) _ _ no_rounds no_rounds
+shown_rounds (UpgradePhase.TryAdmits from left) w = few_rounds (nat_lt 0 left) _ _ (few_rounds (ut.is_open w) _ _ no_rounds no_rounds) no_rounds
+shown_rounds UpgradePhase.TryUpgradeLoads w = few_rounds (ut.is_alone w) _ _ no_rounds no_rounds
+shown_rounds (UpgradePhase.TryUpgrades from left) w = few_rounds (nat_lt 0 left) _ _ (few_rounds (ut.is_alone w) _ _ no_rounds no_rounds) no_rounds
+shown_rounds UpgradePhase.BumpLoads w = few_rounds (of_rw.is_parked w) _ _ no_rounds no_rounds
+shown_rounds UpgradePhase.Relocks w = rw_on (RwPhase.Relocks LockMode.Exclusive) (Word w) no_rounds
+shown_rounds (UpgradePhase.UnlockLoads r) w = few_rounds (of_rw.is_parked w) _ _ no_rounds no_rounds
+shown_rounds (UpgradePhase.Unlocks r from) w = few_rounds (of_rw.is_parked w) _ _ no_rounds no_rounds
+shown_rounds p w = no_rounds
+
+won_rounds : (p : UpgradePhase) → upgrade_rounds (ut.won p) ≤ 10
+won_rounds (UpgradePhase.Unlocks r from) = few_rounds (ut.is_again r) _ _ no_rounds no_rounds
+won_rounds (UpgradePhase.Yields from w) = few_rounds (of_rw.is_parked w) _ _ no_rounds no_rounds
+won_rounds p = no_rounds
+
+added_rounds : (p : UpgradePhase) (w : ℕ) → upgrade_rounds (ut.added p w) ≤ 10
+added_rounds UpgradePhase.Upgrades w = omega arith
+added_rounds UpgradePhase.ToShared w = few_rounds (of_rw.is_parked w) _ _ no_rounds no_rounds
+added_rounds UpgradePhase.ToUpgradable w = few_rounds (of_rw.is_parked w) _ _ no_rounds no_rounds
+added_rounds p w = no_rounds
+
+own_rounds : (p : UpgradePhase) (s : ActResult) → upgrade_rounds (ut.own_next p s) ≤ 10
+own_rounds p Start = begun_rounds p
+own_rounds p (Word w) = shown_rounds p w
+own_rounds p Exchanged = won_rounds p
+own_rounds p (Before w) = added_rounds p w
+own_rounds p s = no_rounds
+
+upgrade_on : (p : UpgradePhase) (s : ActResult) → upgrade_rounds p ≤ 10 → upgrade_rounds (ut.next_phase p s) ≤ 10
+upgrade_on (UpgradePhase.Plain core) s h = rw_on core.phase s h
+upgrade_on (UpgradePhase.Seeks core) s h = few_rounds (ut.owns_now core.phase s) _ _ no_rounds (rw_on core.phase s h)
+upgrade_on (UpgradePhase.Drains core) s h = rw_on core.phase s h
+upgrade_on (UpgradePhase.Frees r core) s h = few_rounds (ut.asks_now r core.phase s) _ _ no_rounds (rw_on core.phase s h)
+upgrade_on (UpgradePhase.Owes kept end core) s h = rw_on core.phase s h
+upgrade_on p s h = own_rounds p s
+
 pub spins_few : (c : Core) (s : ActResult) → FewRounds c → FewRounds (core_next c s)
 spins_few (Core.Mutex c) s h = mutex_on c.phase s h
 spins_few (Core.Rw c) s h = rw_on c.phase s h
 spins_few (Core.Late p) s h = late_on p s
+spins_few (Core.Upgrade c) s h = upgrade_on c.phase s h
 
 -- one that goes on is under way
 pub under_way : (c : Core) (s : ActResult) → FewRounds c → IsUnderWay (core_next c s)
@@ -213,7 +264,16 @@ rw_unbegun (RwPhase.DrainRests rounds) e = absurd cc
 rw_unbegun (RwPhase.DrainSleeps rounds) e = absurd cc
 rw_unbegun p e = no_rounds
 
+upgrade_unbegun : (p : UpgradePhase) → upgrade_begun p ≡ false → upgrade_rounds p ≤ 10
+upgrade_unbegun (UpgradePhase.Plain core) e = absurd cc
+upgrade_unbegun (UpgradePhase.Seeks core) e = absurd cc
+upgrade_unbegun (UpgradePhase.Drains core) e = absurd cc
+upgrade_unbegun (UpgradePhase.Frees r core) e = absurd cc
+upgrade_unbegun (UpgradePhase.Owes kept end core) e = absurd cc
+upgrade_unbegun p e = no_rounds
+
 pub unbegun_few : (c : Core) → has_begun c ≡ false → FewRounds c
 unbegun_few (Core.Mutex c) e = mutex_unbegun c.phase e
 unbegun_few (Core.Rw c) e = rw_unbegun c.phase e
 unbegun_few (Core.Late p) e = no_rounds
+unbegun_few (Core.Upgrade c) e = upgrade_unbegun c.phase e

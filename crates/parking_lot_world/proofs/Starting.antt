@@ -8,25 +8,26 @@ use Rattle.std.specs.Prelude.{get_or}
 use Rattle.std.proofs.Math.Nat.{suc-mul}
 use Rattle.parking_lot_core_lot.specs.declared.place.Waiter.{Waiter}
 use Rattle.parking_lot_core_lot.proofs.Numbers.{count_by-set, flag}
-use Rattle.parking_lot_rules.specs.Roles.{Role, Idle, Owned}
+use Rattle.parking_lot_rules.specs.Roles.{Role, Idle}
 use Rattle.parking_lot_rules.specs.Family.{IsFree, entered_after, Crossing}
 use Rattle.parking_lot_protocol.specs.declared.act.Act.{Act}
 use Rattle.parking_lot_protocol.specs.Acts.{word_after}
-use Rattle.parking_lot_protocol.specs.declared.rw_core.RwCore.{RwCore}
 use Rattle.parking_lot_protocol.specs.declared.mutex_core.MutexCore.{MutexCore}
 use Rattle.parking_lot_world.specs.Kinds.{AsMutex, AsRw, manner_of, recursive_in}
 use Rattle.parking_lot_world.specs.declared.seat.LatePhase.{LatePhase}
 use Rattle.parking_lot_world.specs.declared.seat.Core.{Core}
 use Rattle.parking_lot_world.specs.declared.open_call.Call.{Call}
 use Rattle.parking_lot_world.specs.declared.seat.QueuePosition.{QueuePosition}
-use Rattle.parking_lot_world.specs.Rows.{State, word_at, call_at, hold_at, taken_by, rw_spot, first_of_all, mutex_at, rw_role_at, rw_lock_at, queue_at, inside, owned_of, owns_mutex, mutex_spot}
-use Rattle.parking_lot_world.specs.Stances.{has_begun, rw_begun, mutex_begun, late_act, core_act, core_next, Stance, Out, In, Asleep, stance, taken_count}
-use Rattle.parking_lot_world.specs.RowActs.{hears, begun, answered, hold_after, rw_hold_after, mutex_hold_after}
-use Rattle.parking_lot_world.specs.RowFits.{FitsTogether, WakesFit, IsOfKind, rw_prepared, rw_knows, mutex_knows, is_off, is_away}
+use Rattle.parking_lot_world.specs.Rows.{State, word_at, call_at, hold_at, taken_by, first_of_all, mutex_at, rw_role_at, rw_lock_at, queue_at, inside, owned_of, owns_mutex, mutex_spot}
+use Rattle.parking_lot_world.specs.Stances.{Takes, has_begun, mutex_begun, late_act, core_act, core_next, Stance, Out, In, Asleep, stance, taken_count}
+use Rattle.parking_lot_core_lot.specs.Places.{passed_of}
+use Rattle.parking_lot_world.specs.Passes.{ArePassed, asks}
+use Rattle.parking_lot_world.specs.RowActs.{answered, begun, hears, hold_after, kept_hold, mutex_hold_after, rw_hold_after, upgrade_hold_after}
+use Rattle.parking_lot_world.specs.RowFits.{FitsTogether, IsOfKind, IsPrepared, KnowsList, WakesFit, is_away, is_off, mutex_knows}
 use Rattle.parking_lot_rules.specs.Holds.{shared_holds}
 use Rattle.parking_lot_rules.specs.Lock.{Lock}
 use Rattle.parking_lot_protocol.specs.declared.rw_phase.RwPhase.{RwPhase}
-use Rattle.parking_lot_world.specs.RwLaws.{rw_begins, Finds, Learns, Meets, with_role, IsLastStep, move_crossing}
+use Rattle.parking_lot_world.specs.RwLaws.{IsLastStep, move_crossing, with_role}
 use Rattle.parking_lot_world.specs.declared.seat.Wakeup.{Wakeup}
 use Rattle.parking_lot_world.specs.MutexLaws.{crossing_of, mutex_of}
 use Rattle.parking_lot_world.specs.ActLaws.{Acts, OwnsFor, MayBegin, Ends}
@@ -38,11 +39,7 @@ use Rattle.parking_lot_world.proofs.Stancing.{calls_begin, calls_end}
 use Rattle.parking_lot_world.proofs.Meeting.{rw_sound, mutex_sound, role_few, in_range, meets, plays, plays_late}
 use Rattle.parking_lot_world.proofs.OwnMoves.{OwnMove}
 use Rattle.parking_lot_world.proofs.Ruling.{CallFits, Fitted, call_fits, rules_after, same_kind}
-use Rattle.parking_lot_world.proofs.RwMoving.{answers_are_moves}
-use Rattle.parking_lot_world.proofs.RwKeeping.{calls_keep}
-use Rattle.parking_lot_world.proofs.RwCrossing.{lists_are_known}
-use Rattle.parking_lot_world.proofs.RwTaking.{begins_are_ready, ends_are_steps, answers_are_last}
-use Rattle.parking_lot_world.proofs.KindTable.{Plain, within_kinds, Kind, of_rws, of_mutexes, IsThere, Elsewhere, one_changed, role_at, role_now, role_stays, roles_at, same, shown}
+use Rattle.parking_lot_world.proofs.KindTable.{Plain, RwCall, Simple, Upgradable, next_is, rw_call, rw_next, within_kinds, Kind, of_rws, of_mutexes, IsThere, Elsewhere, one_changed, role_at, role_now, role_stays, roles_at, same, shown}
 use Rattle.parking_lot_world.proofs.Everybody.{get-all, was-all, length-all}
 use Rattle.parking_lot_world.proofs.Making.{Crossed, TellsOf, quiet, move_sound, rw_goes, mutex_goes, RwLeadsBy, last_sound}
 use Rattle.parking_lot_world.proofs.Owning.{rw_leads, set-same}
@@ -54,15 +51,19 @@ use Rattle.parking_lot_world.specs.declared.seat.Hold.{Hold}
 use Rattle.parking_lot_rules.specs.Clauses.{word_of}
 use Rattle.parking_lot_world.specs.StanceLaws.{IsOver}
 use Rattle.parking_lot_protocol.specs.declared.act.CoreAnswer.{CoreAnswer}
-use Rattle.parking_lot_world.specs.RowSteps.{IsLastOf, IsQuiet}
+use Rattle.parking_lot_world.specs.RowSteps.{IsLastOf, IsQuiet, IsRwMove}
 use Rattle.parking_lot_world.proofs.MutexTelling.{shown as shown_as}
 use Rattle.parking_lot_rules.specs.Mutex as mutex
 use Rattle.parking_lot_protocol.specs.declared.act.SectionAct.TheVariants as section
 use Rattle.parking_lot_protocol.specs.declared.act.ActResult.TheVariants as seen
 use Rattle.parking_lot_protocol.specs.RwRules as of_rw
 use Rattle.parking_lot_protocol.specs.MutexRules as of_mutex
-use Rattle.parking_lot_protocol.specs.RwTable as of_rw_table
 use Rattle.parking_lot_protocol.specs.MutexTable as of_mutex_table
+use Rattle.parking_lot_upgrades.specs.declared.upgrade_phase.Hold as kept_holds
+use Rattle.parking_lot_upgrades.specs.declared.upgrade_phase.Hold.TheVariants as keeps_up
+use Rattle.parking_lot_upgrades.specs.declared.upgrade_phase.UpgradePhase.{UpgradePhase}
+use Rattle.parking_lot_world.proofs.RwCalls.{CallMeets, as_move, call_move}
+use Rattle.parking_lot_world.proofs.RwTells.{call_ends, call_last, call_last_own, call_started, call_starts}
 use Rattle.parking_lot_rules.specs.Family as crossing
 use Rattle.parking_lot_protocol.specs.declared.rw_phase.AfterWake.TheVariants as rest
 use Rattle.parking_lot_protocol.specs.declared.rw_phase.Outcome.TheVariants as outcome
@@ -82,25 +83,16 @@ empty_slot calls t b h = go (slice_get calls t) refl
     go (Some None) e = e
     go (Some (Some c)) e = absurd (none-some c (sym h ∙ ap (option_and_then (λ y. y)) e))
 
--- What a phase in which a reader-writer call begins needs, finds and knows; and its start is a move of its own, or none.
-begin_rw : (recursive : Bool) (t n : ℕ) (us : List ℕ) (p : RwPhase) (l : Lock) (o : Option ℕ) (f g : List Waiter) → rw_begun p ≡ false → rw_begins recursive n p
-    → rw_prepared recursive n us p × Finds (of_rw_table.act_of p) l × OwnMove (of_rw.move n us p seen.Start) t o o × Learns p seen.Start f g × rw_knows p f g
-begin_rw recursive t n us (RwPhase.Locking q) l o f g b h = (h, tt, refl, tt, tt)
-begin_rw recursive t n us (RwPhase.Trying q) l o f g b h = (h, tt, refl, tt, tt)
-begin_rw recursive t n us RwPhase.UnlockingShared l o f g b h = (tt, tt, refl, tt, tt)
-begin_rw recursive t n us (RwPhase.UnlockingExclusive fair) l o f g b h = (tt, tt, refl, tt, tt)
-begin_rw recursive t n us RwPhase.Downgrading l o f g b h = (tt, tt, refl, tt, tt)
-begin_rw recursive t n us RwPhase.BumpingShared l o f g b h = (tt, tt, refl, tt, tt)
-begin_rw recursive t n us RwPhase.BumpingExclusive l o f g b h = (tt, tt, refl, tt, tt)
-begin_rw recursive t n us p l o f g b h = absurd h
-
--- and one in which a mutex's does
+-- What a phase in which a mutex's call begins finds and knows.
 begin_mutex : (v : ℕ) (us : List ℕ) (p : MutexPhase) (q : List Waiter) → mutex_begun p ≡ false → TellsOf (of_mutex.move v p seen.Start) us v × (crossing_of (of_mutex_table.act_of p) ≡ crossing.Stays) × mutex_knows (of_mutex_table.next_phase p seen.Start) q
 begin_mutex v us MutexPhase.Locking q b = (tt, refl, tt)
 begin_mutex v us MutexPhase.Trying q b = (tt, refl, tt)
 begin_mutex v us (MutexPhase.Unlocking fair) q b = (tt, refl, tt)
 begin_mutex v us MutexPhase.Bumping q b = (tt, refl, tt)
 begin_mutex v us p q b = absurd (both_ways true b refl)
+
+out_takes : {k : ℕ} → Out ≡ In k Takes → ⊥
+out_takes e = cc
 
 module _ (s : State) (t : ℕ) (c : Call) (may : MayBegin s t c) (h : FitsTogether s) where
   abbrev us : List ℕ
@@ -148,24 +140,26 @@ module _ (s : State) (t : ℕ) (c : Call) (may : MayBegin s t c) (h : FitsTogeth
   abbrev x : ℕ
   x = word_at s c.lock
 
-  begin_rws : (k : RwCore) → c.core ≡ Core.Rw k → OwnsFor (recursive_in s.kinds c.lock) (hold_at s t c.lock) c.others (Core.Rw k) → manner_of (slice_get s.kinds c.lock) ≡ Some AsRw → Fitted s next t c seen.Start (Core.Rw k)
+  begin_rws : (k : RwCall) → c.core ≡ rw_call k → OwnsFor (recursive_in s.kinds c.lock) (hold_at s t c.lock) c.others (rw_call k) → manner_of (slice_get s.kinds c.lock) ≡ Some AsRw → Fitted s next t c seen.Start (rw_call k)
   begin_rws k e owns kind_is =
-      let ready = begins_are_ready c.others (rw_spot c.spot) us k.phase x owns.0 in
-      let well = begin_rw (recursive_in s.kinds c.lock) t c.others us k.phase (rw_lock_at s c.lock) (inside s) (s.lot.queues (2 * c.lock)) (s.lot.queues (2 * c.lock + 1)) owns.0 owns.1 in
-      let met : Meets (recursive_in s.kinds c.lock) (rw_lock_at s c.lock) t c.others (rw_spot c.spot) us k.phase x = record {
+      let l = rw_lock_at s c.lock in
+      let z = call_starts (recursive_in s.kinds c.lock) l t c.others c.spot us k x (hold_at s t c.lock) (inside s) owns in
+      let met : CallMeets (recursive_in s.kinds c.lock) l t c.others c.spot us k x = record {
         sound = rw_sound s h c.lock kind_is;
         word = refl;
-        here = free_role of_rws ∙ ap Some (ap (λ (o : Owned). record { owns = o; does = Idle }) owns.2 ∙ sym ready.0);
-        ready = ready.1;
-        prepared = well.0;
+        here = free_role of_rws ∙ ap Some (sym z.role);
+        stands = z.stands;
         threads = omega (arith, length-all (rw_role_at s c.lock) 0 (length s.calls), h.rules.small);
         few = λ y q at. subst (λ (z : Role). shared_holds z.owns ≤ 256) (sym (was-all (rw_role_at s c.lock) (length s.calls) y q at)) (role_few s h c.lock y (call_at s y) refl);
       } in
-      let leads = rw_leads (recursive_in s.kinds c.lock) (rw_lock_at s c.lock) t c.others c.spot us k.phase x seen.Start met ready.2 well.1 (λ key token z. may.listed) (inside s) (inside next) well.2 in (
-        rw_goes s next t c.lock (of_rw.move c.others us k.phase seen.Start) _ none_there begun_elsewhere kind_is leads.0
-            (begun_after of_rws (record k { phase = of_rw_table.next_phase k.phase seen.Start }) (ap (λ (y : Core). core_next y seen.Start) e) ∙ same of_rws _ _ _ _ _ _ _ _ (ap (λ y. word_after (core_act y) seen.Start x) e) refl refl refl) leads.1,
-        ((answers_are_moves (recursive_in s.kinds c.lock) (rw_lock_at s c.lock) t c.others (rw_spot c.spot) us k.phase x seen.Start met ready.2).2.1, calls_keep.begins (recursive_in s.kinds c.lock) c.others k.phase owns.1),
-        lists_are_known.learns k.phase x seen.Start (s.lot.queues (2 * c.lock)) (s.lot.queues (2 * c.lock + 1)) (s.lot.queues (2 * c.lock)) (s.lot.queues (2 * c.lock + 1)) ready.2 well.4 well.3,
+      let leads = rw_leads (recursive_in s.kinds c.lock) l t c.others c.spot us k x seen.Start met z.told z.finds (λ key token z. may.listed) (inside s) (inside next) z.own in
+      let well = call_started (recursive_in s.kinds c.lock) l t c.others c.spot us k x (hold_at s t c.lock) c.lock s.lot.queues owns met z.told in
+      let same_next = sym (next_is k seen.Start) in (
+        as_move k c.others us seen.Start c.lock t s next
+            (rw_goes s next t c.lock (call_move c.others us k seen.Start) _ none_there begun_elsewhere kind_is leads.0
+            (begun_after of_rws (rw_next k seen.Start) (ap (λ (y : Core). core_next y seen.Start) e ∙ next_is k seen.Start) ∙ same of_rws _ _ _ _ _ _ _ _ (ap (λ y. word_after (core_act y) seen.Start x) e) refl refl refl) leads.1),
+        subst (IsPrepared (recursive_in s.kinds c.lock) c.others) same_next well.0,
+        subst (λ (y : Core). KnowsList y s.lot.queues c.lock) same_next well.1,
         h.rules.bits c.lock,
       )
 
@@ -184,7 +178,8 @@ module _ (s : State) (t : ℕ) (c : Call) (may : MayBegin s t c) (h : FitsTogeth
       )
 
   begin_so : (y : Core) → c.core ≡ y → Fitted s next t c seen.Start y × (has_begun y ≡ false)
-  begin_so (Core.Rw k) e = let owns = subst (OwnsFor (recursive_in s.kinds c.lock) (hold_at s t c.lock) c.others) e may.owns in (begin_rws k e owns (subst (IsOfKind (slice_get s.kinds c.lock)) e may.kind), owns.0)
+  begin_so (Core.Rw k) e = let owns = subst (OwnsFor (recursive_in s.kinds c.lock) (hold_at s t c.lock) c.others) e may.owns in (begin_rws (Simple k) e owns (subst (IsOfKind (slice_get s.kinds c.lock)) e may.kind), owns.0)
+  begin_so (Core.Upgrade k) e = let owns = subst (OwnsFor (recursive_in s.kinds c.lock) (hold_at s t c.lock) c.others) e may.owns in (begin_rws (Upgradable k) e owns (subst (IsOfKind (slice_get s.kinds c.lock)) e may.kind), owns.0)
   begin_so (Core.Late p) e = absurd (subst (OwnsFor (recursive_in s.kinds c.lock) (hold_at s t c.lock) c.others) e may.owns)
   begin_so (Core.Mutex k) e = let owns = subst (OwnsFor (recursive_in s.kinds c.lock) (hold_at s t c.lock) c.others) e may.owns in (begin_mutexes k e owns (subst (IsOfKind (slice_get s.kinds c.lock)) e may.kind), owns.0)
 
@@ -210,6 +205,8 @@ module _ (s : State) (t : ℕ) (c : Call) (may : MayBegin s t c) (h : FitsTogeth
       record {
         fits = record {
           lots = begun_fits s t c h.lots may.low may.free (calls_begin c.core).0 (calls_begin c.core).1;
+          passes = λ v d k o at is there. calls_begun (λ (n : ℕ) (y : Call). stance y.core ≡ In k Takes → ArePassed (asks (core_act y.core)) (s.lot.queues (2 * y.lock + k)) (passed_of o.phase))
+              (λ n y at_n takes. h.passes n y k o at_n takes there) (λ takes. absurd (out_takes (sym (calls_begin c.core).0 ∙ takes))) v d at is;
           wakes = wakes_begun;
           rules = rules_after s next c.lock h.rules (record {
             kinds = refl;
@@ -247,6 +244,7 @@ same_shares n m e = ap shares_in e
     shares_in : Hold → ℕ
     shares_in (Hold.Shares k) = k
     shares_in Hold.Excludes = 0
+    shares_in Hold.Upgrades = 0
 
 no_shares : (m : ℕ) → Hold.Excludes ≡ Hold.Shares m → ⊥
 no_shares m e = both_ways (excludes (Hold.Shares m)) refl (ap excludes (sym e))
@@ -254,6 +252,7 @@ no_shares m e = both_ways (excludes (Hold.Shares m)) refl (ap excludes (sym e))
     excludes : Hold → Bool
     excludes (Hold.Shares k) = false
     excludes Hold.Excludes = true
+    excludes Hold.Upgrades = true
 
 mutex_few : (p : MutexPhase) (n : ℕ) → mutex_hold_after p ≡ Hold.Shares n → n ≤ 255
 mutex_few (MutexPhase.Ends CoreAnswer.Owned) n e = absurd (no_shares n e)
@@ -271,6 +270,26 @@ rw_few k (RwPhase.Ends outcome.Downgraded) n b e = omega (arith, same_shares 1 n
 rw_few k (RwPhase.Ends outcome.FreedShared) n b e = omega (arith, same_shares k n e, b)
 rw_few k (RwPhase.Ends outcome.FreedExclusive) n b e = omega (arith, same_shares 0 n e)
 rw_few k p n b e = omega (arith, same_shares k n e, b)
+
+no_upgradable : (m : ℕ) → Hold.Upgrades ≡ Hold.Shares m → ⊥
+no_upgradable m e = both_ways (upgrades (Hold.Shares m)) refl (ap upgrades (sym e))
+  where
+    upgrades : Hold → Bool
+    upgrades (Hold.Shares k) = false
+    upgrades Hold.Excludes = true
+    upgrades Hold.Upgrades = true
+
+kept_few : (kept : kept_holds.Hold) (n : ℕ) → kept_hold kept ≡ Hold.Shares n → n ≤ 255
+kept_few keeps_up.Nothing n e = omega (arith, same_shares 0 n e)
+kept_few keeps_up.Shared n e = omega (arith, same_shares 1 n e)
+kept_few keeps_up.Upgradable n e = absurd (no_upgradable n e)
+kept_few keeps_up.Exclusive n e = absurd (no_shares n e)
+
+upgrade_few : (p : UpgradePhase) (n : ℕ) → upgrade_hold_after p ≡ Hold.Shares n → n ≤ 255
+upgrade_few (UpgradePhase.Drains core) n e = absurd (no_shares n e)
+upgrade_few (UpgradePhase.Owes kept end core) n e = kept_few kept n e
+upgrade_few (UpgradePhase.Ends kept end) n e = kept_few kept n e
+upgrade_few p n e = omega (arith, same_shares 0 n e)
 
 -- CELLS
 
@@ -321,6 +340,7 @@ module _ (s : State) (h : FitsTogether s) (t : ℕ) (c : Call) (here : call_at s
       go (Core.Rw k) e = within_kinds s.kinds c.lock _ (subst (IsOfKind (slice_get s.kinds c.lock)) e (h.rules.kinds t c here))
       go (Core.Mutex k) e = within_kinds s.kinds c.lock _ (subst (IsOfKind (slice_get s.kinds c.lock)) e (h.rules.kinds t c here))
       go (Core.Late p) e = within_kinds s.kinds c.lock _ (subst (IsOfKind (slice_get s.kinds c.lock)) e (h.rules.kinds t c here))
+      go (Core.Upgrade k) e = within_kinds s.kinds c.lock _ (subst (IsOfKind (slice_get s.kinds c.lock)) e (h.rules.kinds t c here))
 
   hold_here : hold_at u t c.lock ≡ now
   hold_here =
@@ -376,10 +396,6 @@ module _ (s : State) (h : FitsTogether s) (t : ℕ) (c : Call) (here : call_at s
 
   -- THE LAST STEP
 
-  last_moves : (n : ℕ) (p : RwPhase) (o : Option ℕ) → OwnMove (of_rw.last_move n p) t o o
-  last_moves n (RwPhase.Refuses q) o = refl
-  last_moves n p o = refl
-
   last_leads : (recursive : Bool) (m : of_rw.Move) (l : Lock) (x : ℕ) (old new : Role) (o : Option ℕ) → l.word ≡ word_of x → slice_get l.roles t ≡ Some old → OwnMove m t o o → IsLastStep recursive m l t old x new → RwLeadsBy recursive m t l (with_role l x t new) × Crossed (move_crossing m) t o o
   last_leads recursive of_rw.Stays l x old new o word is moves step =
       (ap (λ w. record { word = w; roles = slice_set l.roles t new; first = l.first; second = l.second }) (sym word) ∙ ap (λ rs. record l { roles = rs }) (ap (slice_set l.roles t) step ∙ set-same l.roles t old is), refl)
@@ -409,14 +425,18 @@ module _ (s : State) (h : FitsTogether s) (t : ℕ) (c : Call) (here : call_at s
   late_last LatePhase.Leaves e asked = absurd cc
 
   module _ (answer : CoreAnswer) where
-    last_of : (x : Core) → c.core ≡ x → core_act x ≡ Act.Done answer → IsLastOf x c.others c.lock t s u
-    last_of (Core.Rw k) e asked =
+    last_rw : (k : RwCall) → c.core ≡ rw_call k → core_act (rw_call k) ≡ Act.Done answer → IsRwMove (call_last c.others k) c.lock t s u
+    last_rw k e asked =
         let met = meets s h t c k e here in
-        let last = answers_are_last k.phase answer (subst (λ (x : Core). has_begun x ≡ true) e (h.rules.begun t c here).begun) asked in
-        let leads = last_leads (recursive_in s.kinds c.lock) (of_rw.last_move c.others k.phase) (rw_lock_at s c.lock) (word_at s c.lock) _ _ (inside s) refl met.here (last_moves c.others k.phase (inside s))
-        (ends_are_steps (recursive_in s.kinds c.lock) (rw_lock_at s c.lock) t c.others (rw_spot c.spot) (taken_by s.wakes t) k.phase (word_at s c.lock) met last) in
-        rw_goes s u t c.lock (of_rw.last_move c.others k.phase) _ there_before ends_elsewhere (subst (IsOfKind (slice_get s.kinds c.lock)) e (h.rules.kinds t c here)) leads.0
+        let kind_is = of_rws.of_kind (slice_get s.kinds c.lock) k (subst (IsOfKind (slice_get s.kinds c.lock)) e (h.rules.kinds t c here)) in
+        let leads = last_leads (recursive_in s.kinds c.lock) (call_last c.others k) (rw_lock_at s c.lock) (word_at s c.lock) _ _ (inside s) refl met.here (call_last_own t c.others k (inside s))
+        (call_ends (recursive_in s.kinds c.lock) (rw_lock_at s c.lock) t c.others c.spot (taken_by s.wakes t) k (word_at s c.lock) answer met (subst (λ (x : Core). has_begun x ≡ true) e (h.rules.begun t c here).begun) asked) in
+        rw_goes s u t c.lock (call_last c.others k) _ there_before ends_elsewhere kind_is leads.0
         (ended of_rws ∙ ap (λ (y : Core). with_role (rw_lock_at s c.lock) (word_at s c.lock) t (record { owns = owned_of (hold_after c.others y); does = Idle })) e) leads.1
+
+    last_of : (x : Core) → c.core ≡ x → core_act x ≡ Act.Done answer → IsLastOf x c.others c.lock t s u
+    last_of (Core.Rw k) e asked = last_rw (Simple k) e asked
+    last_of (Core.Upgrade k) e asked = last_rw (Upgradable k) e asked
     last_of (Core.Mutex k) e asked =
         let begun : mutex_begun k.phase ≡ true = subst (λ (x : Core). has_begun x ≡ true) e (h.rules.begun t c here).begun in
         let v = first_of_all (taken_by s.wakes t) in
@@ -437,6 +457,7 @@ module _ (s : State) (h : FitsTogether s) (t : ℕ) (c : Call) (here : call_at s
   few_after : (i n : ℕ) (o : Core) → c.core ≡ o → now ≡ Hold.Shares n → n ≤ 255
   few_after i n (Core.Late p) e is = omega (arith, same_shares 0 n (sym (ap (hold_after c.others) e) ∙ is))
   few_after i n (Core.Mutex k) e is = mutex_few k.phase n (sym (ap (hold_after c.others) e) ∙ is)
+  few_after i n (Core.Upgrade k) e is = upgrade_few k.phase n (sym (ap (hold_after c.others) e) ∙ is)
   few_after i n (Core.Rw k) e is = rw_few c.others k.phase n (h.rules.beside t c here) (sym (ap (hold_after c.others) e) ∙ is)
 
   few_now : (x i n : ℕ) → hold_at u x i ≡ Hold.Shares n → n ≤ 255
@@ -471,6 +492,7 @@ module _ (s : State) (h : FitsTogether s) (t : ℕ) (c : Call) (here : call_at s
         record {
           fits = record {
             lots = same_parts (record s { calls = slice_set s.calls t None }) u refl refl refl (ended_fits s t c h.lots here out.0 out.1);
+            passes = λ v d k o at is there. calls_ended (λ (n : ℕ) (y : Call). stance y.core ≡ In k Takes → ArePassed (asks (core_act y.core)) (s.lot.queues (2 * y.lock + k)) (passed_of o.phase)) (λ n y at_n takes. h.passes n y k o at_n takes there) v d at is;
             wakes = wakes_ended;
             rules = rules_after s u c.lock h.rules (record {
               kinds = refl;

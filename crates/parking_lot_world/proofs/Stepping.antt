@@ -80,7 +80,8 @@ module _ (s u : State) (t : ℕ) (c : Call) (fair : Bool) (h : FitsTogether s) (
 
   taken : (a : Act) → core_act c.core ≡ a → IsTaking a → end_of a ≡ None → Became a t fair c s u → IsTakenFrom t c s u → IsStepped t fair None s u
   taken a asked taking quiet became x = elim x.2 [
-    | inl y ↦ plain a asked quiet became (took s t c (key_of c x.0) 0 y.0) y.2 (takes.laws.take s t c x.0 y.0 x.1 y.1 (took_sound s t c h.lots here x.0 0 y.0 (small_key c.core x.0 Takes x.1) x.1 y.1)) (pays.take s t c h here x.0 y.0 a asked taking x.1 y.1)
+    | inl y ↦
+        plain a asked quiet became (took s t c (key_of c x.0) y.0 y.1) y.3 (takes.laws.take s t c x.0 y.0 y.1 x.1 y.2 (took_sound s t c h.lots here x.0 y.0 y.1 (small_key c.core x.0 Takes x.1) x.1 y.2.there)) (pays.take s t c h here x.0 y.0 y.1 a asked taking x.1 y.2.there)
     | inr y ↦ plain a asked quiet became (took_nobody s t c (key_of c x.0)) y.1 (takes.laws.take_nobody s t c x.0 x.1 y.0 (took_nobody_sound s t c h.lots here)) (pays.take_nobody s t c h here x.0 a asked taking x.1)
   ]
 
@@ -130,6 +131,7 @@ late_enters LatePhase.GivesUp key e = cc
 not_late : (s : State) (c : Call) (k : Core) (key : ℕ) → core_act k ≡ Act.Enter key → goes_late s c k ≡ false
 not_late s c (Core.Mutex q) key e = refl
 not_late s c (Core.Rw q) key e = refl
+not_late s c (Core.Upgrade q) key e = refl
 not_late s c (Core.Late p) key e = absurd (late_enters p key e)
 
 late_back : (p : LatePhase) → is_back (Core.Late p) ≡ true → p ≡ LatePhase.Quits
@@ -144,6 +146,7 @@ pub back_so : (k : Core) → is_back k ≡ true → k ≡ Core.Late LatePhase.Qu
 back_so (Core.Late p) e = ap Core.Late (late_back p e)
 back_so (Core.Mutex q) e = absurd cc
 back_so (Core.Rw q) e = absurd cc
+back_so (Core.Upgrade q) e = absurd cc
 
 late_comes : (b : Bool) (at : QueuePosition) (p : LatePhase) → is_back (Core.Late p) ≡ false → late_goes b at p ≡ true → (p ≡ LatePhase.Expires) × (at ≡ QueuePosition.Listed) × (not b ≡ true)
 late_comes b QueuePosition.Listed LatePhase.Expires e goes = (refl, refl, goes)
@@ -161,6 +164,7 @@ pub comes_so : (s : State) (c : Call) (k : Core) → is_back k ≡ false → goe
 comes_so s c (Core.Late p) e goes = let x = late_comes (is_taken s c 0) c.spot p e goes in (ap Core.Late x.0, x.1, none_open s.lot.section x.2)
 comes_so s c (Core.Mutex q) e goes = absurd cc
 comes_so s c (Core.Rw q) e goes = absurd cc
+comes_so s c (Core.Upgrade q) e goes = absurd cc
 
 -- one that sleeps and can move is late
 pub can_late : (s : State) (t : ℕ) (c : Call) → can_move s t ≡ true → call_at s t ≡ Some c → core_act c.core ≡ Act.Sleep → goes_late s c c.core ≡ true
@@ -178,6 +182,7 @@ plain_sleeps (Core.Mutex q) e = ap (λ (p : MutexPhase). Core.Mutex (record { ph
     by_phase MutexPhase.Sleeps e = refl
     by_phase p e = absurd cc
 plain_sleeps (Core.Rw q) e = absurd cc
+plain_sleeps (Core.Upgrade q) e = absurd cc
 plain_sleeps (Core.Late p) e = absurd cc
 
 listed_so : (at : QueuePosition) → is_listed at ≡ true → at ≡ QueuePosition.Listed

@@ -1,44 +1,36 @@
--- A thread that takes the first of a list makes a step of the rules, at a lock of either kind.
-use Rattle.std.proofs.Common.{◌≡◌, ◌≤◌, ℕ, ◌+◌, ◌*◌, ◌⊎◌, inl, inr, true, false, List, [], ◌∷◌, ◌++◌, length, remove, Some, slice_get, refl, sym, ap, ◌∙◌, subst, arith}
+-- A thread that takes whoever is first in a list makes a step of the rules, at a lock of either kind.
+use Rattle.std.proofs.Common.{◌≡◌, ◌≤◌, ℕ, ◌+◌, ◌*◌, inl, inr, true, List, [], ◌∷◌, ◌++◌, length, remove, Some, slice_get, refl, sym, ap, ◌∙◌, subst, arith}
 use Rattle.std.proofs.lemmas.Bool.{both_ways}
 use Rattle.parking_lot_core_lot.specs.Machine.{threads_of}
 use Rattle.parking_lot_core_lot.specs.Results.{is_left}
-use Rattle.parking_lot_core_lot.specs.declared.parking.FilterOp.TheVariants.{Unpark}
-use Rattle.parking_lot_core_lot.specs.declared.parking.ParkToken.{ParkToken}
 use Rattle.parking_lot_core_lot.specs.declared.place.Phase.TheVariants as phase
 use Rattle.parking_lot_core_lot.specs.declared.place.Waiter.{Waiter}
 use Rattle.parking_lot_protocol.specs.MutexRules as of_mutex
 use Rattle.parking_lot_protocol.specs.MutexTable as of_mutex_table
 use Rattle.parking_lot_protocol.specs.RwRules as of_rw
-use Rattle.parking_lot_protocol.specs.RwTable.{act_of, next_phase, sum_of}
-use Rattle.parking_lot_protocol.specs.Wake.{wake_answer}
-use Rattle.parking_lot_protocol.specs.declared.act.Act.TheVariants as act
-use Rattle.parking_lot_protocol.specs.declared.act.SectionAct.TheVariants as section
 use Rattle.parking_lot_protocol.specs.declared.mutex_core.MutexCore.{MutexCore}
 use Rattle.parking_lot_protocol.specs.declared.mutex_phase.MutexPhase.{MutexPhase}
 use Rattle.parking_lot_protocol.specs.declared.rw_core.RwCore.{RwCore}
 use Rattle.parking_lot_protocol.specs.declared.rw_phase.AfterWake.{AfterWake}
 use Rattle.parking_lot_protocol.specs.declared.rw_phase.RwPhase.{RwPhase}
-use Rattle.parking_lot_protocol.specs.declared.rw_phase.Scanning.{Scanning}
-use Rattle.parking_lot_rules.specs.Roles.{Shares, Asleep, Open, Taken1, Taken2}
+use Rattle.parking_lot_rules.specs.Roles.{Shares, Asleep, Taken2}
 use Rattle.parking_lot_world.proofs.Acting.{still_inside}
 use Rattle.parking_lot_world.proofs.Carrying.{no_length}
-use Rattle.parking_lot_world.proofs.KindTable.{Plain, of_rws, of_mutexes, sleeps_so, IsThere}
-use Rattle.parking_lot_world.proofs.TakeJoins.{late_takes}
+use Rattle.parking_lot_world.proofs.KindTable.{IsThere, Plain, RwCall, Simple, of_mutexes, of_rws, rw_call, rw_next, sleeps_so}
+use Rattle.parking_lot_world.proofs.RwCalls.{CallSleepsSecond, as_simple}
 use Rattle.parking_lot_world.specs.declared.seat.WakeResult.{WakeResult}
 use Rattle.parking_lot_world.proofs.Making.{mutex_goes, rw_goes}
 use Rattle.parking_lot_world.proofs.Meeting.{meets, plays, rw_hears, rw_sound}
 use Rattle.parking_lot_world.proofs.MutexMoving.{steps}
 use Rattle.parking_lot_world.proofs.RwCrossing.{lists_are_known}
-use Rattle.parking_lot_world.proofs.RwTaking.{sleepers_at_a_lock_are_known, takes_are_steps, firsts_may_be_taken, writers_are_taken}
-use Rattle.parking_lot_world.proofs.TakeParts.{took_told, TakesSo, the_sleeper, list_here, list_there, first_there, took_list, took_after, took_elsewhere, waits_listed, waits_so}
-use Rattle.parking_lot_world.specs.Kinds.{AsRw, manner_of, recursive_in}
+use Rattle.parking_lot_world.proofs.RwTaking.{writers_are_taken}
+use Rattle.parking_lot_world.proofs.TakeParts.{took_told, TakesSo, the_sleeper, list_here, list_there, nth_there, took_list, took_after, took_elsewhere, waits_listed, waits_so}
+use Rattle.parking_lot_world.specs.Kinds.{recursive_in}
 use Rattle.parking_lot_world.specs.RowActs.{key_of, took}
-use Rattle.parking_lot_world.specs.RowFits.{FitsTogether, IsOfKind, IsPrepared, KnowsList}
+use Rattle.parking_lot_world.specs.RowFits.{FitsTogether, IsOfKind, IsPrepared}
+use Rattle.parking_lot_world.proofs.TakeSleepers.{rw_waits}
 use Rattle.parking_lot_world.specs.Rows.{State, word_at, call_at, taken_by, rw_spot, rw_lock_at, first_of_all, mutex_spot, mutex_at}
-use Rattle.parking_lot_world.specs.RwLaws.{SleepsFirst, SleepsSecond}
-use Rattle.parking_lot_world.specs.Stances as stances
-use Rattle.parking_lot_world.specs.Stances.{Takes, In, rw_stance, mutex_stance, stance, taken_count, core_next}
+use Rattle.parking_lot_world.specs.Stances.{Takes, In, mutex_stance, stance, taken_count, core_next}
 use Rattle.parking_lot_world.specs.declared.open_call.Call.{Call}
 use Rattle.parking_lot_world.specs.declared.seat.Core.{Core}
 
@@ -62,60 +54,28 @@ module _ (s : State) (t : ℕ) (c : Call) (k : ℕ) (w : Waiter) (from : stance 
   ws = taken_by s.wakes v
 
   abbrev z : Call
-  z = (the_sleeper s t c k w from at h here).call
+  z = (the_sleeper s t c k 0 w from at h here).call
 
   there : IsThere c.lock (call_at s t)
   there = subst (IsThere c.lock) (sym here) refl
 
   -- AT A READER-WRITER LOCK
 
-  -- who waits there, and how it sleeps
-  rw_waits : manner_of (slice_get s.kinds c.lock) ≡ Some AsRw → (y : RwCore) × (z.core ≡ Core.Rw y) × (((k ≡ 0) × SleepsFirst z.others ws y.phase w.token) ⊎ ((k ≡ 1) × SleepsSecond z.others ws y.phase))
-  rw_waits is =
-      let o = waits_so s t c k w from at h here of_rws is in
-      let x = the_sleeper s t c k w from at h here in
-      (o.0, o.1, sleepers_at_a_lock_are_known.stand (recursive_in s.kinds z.lock) z.others ws o.0.phase k w.token (meets s h v z o.0 o.1 x.there).prepared (ap stance (sym o.1) ∙ x.asleep))
-
-  scan_takes : (a : Scanning) (y : RwCore) (e : c.core ≡ Core.Rw (record y { phase = RwPhase.Scans a })) → 0 ≡ k → (o : RwCore) → z.core ≡ Core.Rw o → SleepsFirst z.others ws o.phase w.token → TakesSo s t c k w (Core.Rw (record y { phase = RwPhase.Scans a }))
-  scan_takes a y e zero o its sleeps =
-      let x : RwCore = record y { phase = RwPhase.Scans a } in
-      let kind_is = subst (IsOfKind (slice_get s.kinds c.lock)) e (h.rules.kinds t c here) in
-      let mode = of_rw.mode_by w.token in
-      let first : 2 * c.lock ≡ key_of c k = omega (arith, zero) in
-      let met = meets s h t c x e here in
-      let knows : a.upgradable ≡ false = subst (λ (x : Core). KnowsList x s.lot.queues c.lock) e (h.rules.knows t c here) in
-      let writer : a.writer ≡ false = (subst (IsPrepared (recursive_in s.kinds c.lock) c.others) e (h.rules.prepared t c here)).1.1 in
-      let heard : of_rw.IsToken (Some w.token) = elim sleeps.token [ inl f ↦ inl f | inr f ↦ inr (inl f) ] in
-      let step = takes_are_steps (recursive_in s.kinds c.lock) (rw_lock_at s c.lock) t c.others (rw_spot c.spot) us a (word_at s c.lock) w.token (is_left (remove (s.lot.queues (key_of c k)) 0)) 0 v met heard
-      (firsts_may_be_taken (rw_lock_at s c.lock) a v mode (first_there s t c k w from at h here (2 * c.lock) first) (waits_listed s t c k w from at h here of_rws o its ∙ ap Some sleeps.listed) knows writer) in
-      let well = rw_hears s h t c x e here (took_told s c k w) heard u.lot.queues (sleeps.token, ap is_left (took_list s t c k w from at h here (2 * c.lock) first)) in (
-        (
-          rw_goes s u t c.lock (of_rw.TakesOne mode) _ there (took_elsewhere s t c k w from at h here) kind_is (of_rw.scan_of c.others a us, 0, v, step)
-              (took_after s t c k w from at h here of_rws o its (record x { phase = next_phase (RwPhase.Scans a) (took_told s c k w) }) (ap (λ (x : Core). core_next x (took_told s c k w)) e) _ refl (record { owns = Shares 0; does = Taken1 mode t Open Asleep }) (sleeps.off t Open) _ _
-              (list_here s t c k w from at h here (2 * c.lock) first) (list_there s t c k w from at h here (2 * c.lock + 1) (λ f. omega (arith, zero, f))))
-              (still_inside s.lot.section (phase.Taking 0)),
-          well.0,
-          well.1,
-          h.rules.bits c.lock,
-        ),
-        elim sleeps.token [ inl f ↦ inl (f, met.prepared) | inr f ↦ inr (f, writer) ],
-        tt,
-      )
-
-  writer_takes : (rest : AfterWake) (y : RwCore) (e : c.core ≡ Core.Rw (record y { phase = RwPhase.TakeWriter rest })) → 1 ≡ k → (o : RwCore) → z.core ≡ Core.Rw o → SleepsSecond z.others ws o.phase → TakesSo s t c k w (Core.Rw (record y { phase = RwPhase.TakeWriter rest }))
-  writer_takes rest y e one o its sleeps =
-      let x : RwCore = record y { phase = RwPhase.TakeWriter rest } in
+  writer_takes : (rest : AfterWake) (e : c.core ≡ Core.Rw (record { phase = RwPhase.TakeWriter rest })) → 1 ≡ k → (o : RwCall) → z.core ≡ rw_call o → CallSleepsSecond z.others ws o → TakesSo s t c k 0 w (Core.Rw (record { phase = RwPhase.TakeWriter rest }))
+  writer_takes rest e one o its sleeps =
+      let x : RwCore = record { phase = RwPhase.TakeWriter rest } in
       let kind_is = subst (IsOfKind (slice_get s.kinds c.lock)) e (h.rules.kinds t c here) in
       let second : 2 * c.lock + 1 ≡ key_of c k = omega (arith, one) in
       let few : length (threads_of (s.lot.queues (2 * c.lock + 1))) ≤ 1 = lists_are_known.second (rw_lock_at s c.lock) (rw_sound s h c.lock kind_is) in
-      let step = writers_are_taken (recursive_in s.kinds c.lock) (rw_lock_at s c.lock) t c.others (rw_spot c.spot) us rest (word_at s c.lock) w.token (is_left (remove (s.lot.queues (key_of c k)) 0)) v (meets s h t c x e here)
-      (first_there s t c k w from at h here (2 * c.lock + 1) second) (waits_listed s t c k w from at h here of_rws o its ∙ ap Some sleeps.listed) in
-      let none = took_list s t c k w from at h here (2 * c.lock + 1) second ∙ one_left (s.lot.queues (key_of c k)) (subst (λ n. length (threads_of (s.lot.queues n)) ≤ 1) second few) in
-      let well = rw_hears s h t c x e here (took_told s c k w) tt u.lot.queues none in (
+      let met = as_simple (recursive_in s.kinds c.lock) (rw_lock_at s c.lock) t c.others c.spot us x (word_at s c.lock) (meets s h t c (Simple x) e here) in
+      let step = writers_are_taken (recursive_in s.kinds c.lock) (rw_lock_at s c.lock) t c.others (rw_spot c.spot) us rest (word_at s c.lock) w.token (is_left (remove (s.lot.queues (key_of c k)) 0)) v sleeps.from met
+      (nth_there s t c k 0 w from at h here (2 * c.lock + 1) second) (waits_listed s t c k 0 w from at h here of_rws o its ∙ ap Some sleeps.listed) in
+      let none = took_list s t c k 0 w from at h here (2 * c.lock + 1) second ∙ one_left (s.lot.queues (key_of c k)) (subst (λ n. length (threads_of (s.lot.queues n)) ≤ 1) second few) in
+      let well = rw_hears s h t c (Simple x) e here (took_told s c k 0 w) tt refl u.lot.queues none in (
         (
-          rw_goes s u t c.lock of_rw.TakesWriter _ there (took_elsewhere s t c k w from at h here) kind_is (Shares c.others, v, step)
-              (took_after s t c k w from at h here of_rws o its (record x { phase = next_phase (RwPhase.TakeWriter rest) (took_told s c k w) }) (ap (λ (x : Core). core_next x (took_told s c k w)) e) _ refl (record { owns = Shares 0; does = Taken2 false t Asleep }) (sleeps.off t Open) _ _
-              (list_there s t c k w from at h here (2 * c.lock) (λ f. omega (arith, one, f))) (list_here s t c k w from at h here (2 * c.lock + 1) second))
+          rw_goes s u t c.lock of_rw.TakesWriter _ there (took_elsewhere s t c k 0 w from at h here) kind_is (Shares c.others, v, sleeps.from, step)
+              (took_after s t c k 0 w from at h here of_rws o its (rw_next (Simple x) (took_told s c k 0 w)) (ap (λ (x : Core). core_next x (took_told s c k 0 w)) e) _ refl (record { owns = Shares 0; does = Taken2 sleeps.from t Asleep }) (sleeps.off t WakeResult.Nothing) _ _
+              (list_there s t c k 0 w from at h here (2 * c.lock) (λ f. omega (arith, one, f))) (list_here s t c k 0 w from at h here (2 * c.lock + 1) second))
               (still_inside s.lot.section (phase.Taking 0)),
           well.0,
           well.1,
@@ -125,65 +85,34 @@ module _ (s : State) (t : ℕ) (c : Call) (k : ℕ) (w : Waiter) (from : stance 
         tt,
       )
 
-  takes_rw : (q : RwPhase) (y : RwCore) → c.core ≡ Core.Rw (record y { phase = q }) → rw_stance q ≡ In k Takes → TakesSo s t c k w (Core.Rw (record y { phase = q }))
-  takes_rw (RwPhase.TakeWriter rest) y e is =
-      let one : 1 ≡ k = cc in
-      let o = rw_waits (subst (IsOfKind (slice_get s.kinds c.lock)) e (h.rules.kinds t c here)) in
-      elim o.2 [ inl x ↦ absurd (omega (arith, one, x.0)) | inr x ↦ writer_takes rest y e one o.0 o.1 x.1 ]
-  takes_rw (RwPhase.Scans a) y e is =
-      let zero : 0 ≡ k = cc in
-      let o = rw_waits (subst (IsOfKind (slice_get s.kinds c.lock)) e (h.rules.kinds t c here)) in
-      elim o.2 [ inl x ↦ scan_takes a y e zero o.0 o.1 x.1 | inr x ↦ absurd (omega (arith, zero, x.0)) ]
-  takes_rw q y e is = absurd (cc)
+  pub writes_first : (rest : AfterWake) → c.core ≡ Core.Rw (record { phase = RwPhase.TakeWriter rest }) → 1 ≡ k → TakesSo s t c k 0 w (Core.Rw (record { phase = RwPhase.TakeWriter rest }))
+  writes_first rest e one =
+      let o = rw_waits s t c k 0 w from at h here (subst (IsOfKind (slice_get s.kinds c.lock)) e (h.rules.kinds t c here)) in
+      elim o.2 [ inl x ↦ absurd (omega (arith, one, x.0)) | inr x ↦ writer_takes rest e one o.0 o.1 x.1 ]
 
-  -- AT A MUTEX
-
-  takes_mutex : (q : MutexPhase) (y : MutexCore) → c.core ≡ Core.Mutex (record y { phase = q }) → mutex_stance q ≡ In k Takes → TakesSo s t c k w (Core.Mutex (record y { phase = q }))
+  pub takes_mutex : (q : MutexPhase) (y : MutexCore) → c.core ≡ Core.Mutex (record y { phase = q }) → mutex_stance q ≡ In k Takes → TakesSo s t c k 0 w (Core.Mutex (record y { phase = q }))
   takes_mutex (MutexPhase.Takes giving) y e is =
       let x : MutexCore = record y { phase = MutexPhase.Takes giving } in
       let zero : 0 ≡ k = cc in
       let left = is_left (remove (s.lot.queues (key_of c k)) 0) in
       let first : 2 * c.lock ≡ key_of c k = omega (arith, zero) in
       let kind_is = subst (IsOfKind (slice_get s.kinds c.lock)) e (h.rules.kinds t c here) in
-      let o = waits_so s t c k w from at h here of_mutexes kind_is in
-      let asleep = sleeps_so o.0 k w.token (ap stance (sym o.1) ∙ (the_sleeper s t c k w from at h here).asleep) in
+      let o = waits_so s t c k 0 w from at h here of_mutexes kind_is in
+      let asleep = sleeps_so o.0 k w.token (ap stance (sym o.1) ∙ (the_sleeper s t c k 0 w from at h here).asleep) in
       let nobody : us ≡ [] = no_length us (h.lots.counted t c here ∙ ap taken_count e) in
-      let step = steps.takes (mutex_at s c.lock) (word_at s c.lock) t v (mutex_spot c.spot) (MutexPhase.Takes giving) w.token left asleep.0 (plays s h t c x e here) refl (first_there s t c k w from at h here (2 * c.lock) first)
-      (waits_listed s t c k w from at h here of_mutexes o.0 o.1 ∙ ap Some (asleep.2 ws)) in (
+      let step = steps.takes (mutex_at s c.lock) (word_at s c.lock) t v (mutex_spot c.spot) (MutexPhase.Takes giving) w.token left asleep.0 (plays s h t c x e here) refl (nth_there s t c k 0 w from at h here (2 * c.lock) first)
+      (waits_listed s t c k 0 w from at h here of_mutexes o.0 o.1 ∙ ap Some (asleep.2 ws)) in (
         (
-          mutex_goes s u t c.lock v us _ of_mutex.TakesOne there (took_elsewhere s t c k w from at h here) kind_is (asleep.0, step.leads)
-              (took_after s t c k w from at h here of_mutexes o.0 o.1 (Plain (record x { phase = of_mutex_table.next_phase (MutexPhase.Takes giving) (took_told s c k w) })) (ap (λ (x : Core). core_next x (took_told s c k w)) e)
+          mutex_goes s u t c.lock v us _ of_mutex.TakesOne there (took_elsewhere s t c k 0 w from at h here) kind_is (asleep.0, step.leads)
+              (took_after s t c k 0 w from at h here of_mutexes o.0 o.1 (Plain (record x { phase = of_mutex_table.next_phase (MutexPhase.Takes giving) (took_told s c k 0 w) })) (ap (λ (x : Core). core_next x (took_told s c k 0 w)) e)
               (of_mutex.role of_mutex.Listed v (MutexPhase.Stores giving true left)) (ap (λ vs. of_mutex.role of_mutex.Listed (first_of_all (vs ++ v ∷ [])) (MutexPhase.Stores giving true left)) nobody) _ (asleep.3 t WakeResult.Nothing ws) _ _
-              (list_here s t c k w from at h here (2 * c.lock) first) refl)
+              (list_here s t c k 0 w from at h here (2 * c.lock) first) refl)
               (still_inside s.lot.section (phase.Taking 0)) tt,
           subst (IsPrepared (recursive_in s.kinds c.lock) c.others) e (h.rules.prepared t c here),
-          (ap is_left (took_list s t c k w from at h here (2 * c.lock) first), λ f. absurd (both_ways true f refl)),
+          (ap is_left (took_list s t c k 0 w from at h here (2 * c.lock) first), λ f. absurd (both_ways true f refl)),
           h.rules.bits c.lock,
         ),
         tt,
         tt,
       )
   takes_mutex q y e is = absurd (cc)
-
-  pub takes_so : (x : Core) → c.core ≡ x → TakesSo s t c k w x
-  takes_so (Core.Rw y) e = takes_rw y.phase y e (ap stance (sym e) ∙ from)
-  takes_so (Core.Mutex y) e = takes_mutex y.phase y e (ap stance (sym e) ∙ from)
-  takes_so (Core.Late p) e = absurd (late_takes p k (ap stance (sym e) ∙ from))
-
-  -- AND WHOEVER IS FIRST IS LET GO
-
-  lets_go : (q : RwPhase) (y : RwCore) → c.core ≡ Core.Rw (record y { phase = q }) → rw_stance q ≡ In k Takes → (sum : ℕ) → act_of q ≡ act.Section (section.TakeNext sum) → wake_answer sum w.token.0 ≡ Unpark
-  lets_go (RwPhase.TakeWriter rest) y e is sum asked = absurd (cc)
-  lets_go (RwPhase.Scans a) y e is sum asked =
-      let zero : 0 ≡ k = cc in
-      let same : sum_of a ≡ sum = cc in
-      let o = rw_waits (subst (IsOfKind (slice_get s.kinds c.lock)) e (h.rules.kinds t c here)) in
-      elim o.2 [
-        | inl x ↦ subst (λ n. wake_answer n w.token.0 ≡ Unpark) same
-            (sleepers_at_a_lock_are_known.taken a w.token.0 (subst (λ (x : Core). KnowsList x s.lot.queues c.lock) e (h.rules.knows t c here)) (subst (IsPrepared (recursive_in s.kinds c.lock) c.others) e (h.rules.prepared t c here)).1.1 x.1.token)
-        | inr x ↦ absurd (omega (arith, zero, x.0))
-      ]
-  lets_go q y e is sum asked = absurd (cc)
-
-  pub rw_lets_go : (y : RwCore) → c.core ≡ Core.Rw y → (sum : ℕ) → act_of y.phase ≡ act.Section (section.TakeNext sum) → wake_answer sum w.token.0 ≡ Unpark
-  rw_lets_go y e sum asked = lets_go y.phase y e (ap stance (sym e) ∙ from) sum asked

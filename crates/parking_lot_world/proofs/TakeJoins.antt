@@ -1,5 +1,5 @@
 -- A thread that joins a list: the machine stays fit, and it is a step of the rules.
-use Rattle.std.proofs.Common.{◌≡◌, ◌≢◌, ℕ, ◌+◌, ◌*◌, ◌<◌, false, List, [], ◌∷◌, ◌++◌, Some, slice_get, refl, sym, ap, ◌∙◌, subst, arith, ◌⊎◌, inl, inr, Bool, None}
+use Rattle.std.proofs.Common.{◌≡◌, ◌≢◌, ℕ, ◌+◌, ◌*◌, ◌<◌, List, [], ◌∷◌, ◌++◌, length, Some, slice_get, refl, sym, ap, ◌∙◌, subst, arith, ◌⊎◌, inl, inr, Bool, None}
 use Rattle.std.proofs.lemmas.Bool.{ne_eqb}
 use Rattle.std.proofs.lemmas.List.{map-append}
 use Rattle.parking_lot_core_lot.specs.declared.parking.ParkToken.{ParkToken}
@@ -11,16 +11,21 @@ use Rattle.parking_lot_protocol.specs.declared.act.ActResult.{ActResult}
 use Rattle.parking_lot_protocol.specs.Acts.{word_after}
 use Rattle.parking_lot_protocol.specs.declared.rw_core.RwCore.{RwCore}
 use Rattle.parking_lot_protocol.specs.declared.rw_phase.RwPhase.{RwPhase}
+use Rattle.parking_lot_protocol.specs.declared.act.CoreAnswer.{CoreAnswer}
+use Rattle.parking_lot_protocol.specs.declared.rw_phase.AfterWake.{AfterWake}
+use Rattle.parking_lot_upgrades.specs.UpgradeTable as upgrade_table
+use Rattle.parking_lot_upgrades.specs.declared.upgrade_phase.Hold.{Hold}
+use Rattle.parking_lot_upgrades.specs.declared.upgrade_phase.Release.{Release}
+use Rattle.parking_lot_upgrades.specs.declared.upgrade_phase.UpgradePhase.{UpgradePhase}
 use Rattle.parking_lot_protocol.specs.declared.mutex_core.MutexCore.{MutexCore}
 use Rattle.parking_lot_protocol.specs.declared.mutex_phase.MutexPhase.{MutexPhase}
-use Rattle.parking_lot_rules.specs.Steps.{Join1, Join2}
 use Rattle.parking_lot_world.specs.Kinds.{recursive_in}
 use Rattle.parking_lot_world.specs.declared.seat.QueuePosition.{QueuePosition}
 use Rattle.parking_lot_world.specs.declared.seat.LatePhase.{LatePhase}
 use Rattle.parking_lot_world.specs.declared.seat.Core.{Core}
 use Rattle.parking_lot_world.specs.declared.open_call.Call.{Call}
-use Rattle.parking_lot_world.specs.Rows.{State, word_at, call_at, taken_by, first_of_all, rw_spot, mutex_spot, rw_lock_at, mutex_at, inside}
-use Rattle.parking_lot_world.specs.Stances.{Joins, In, late_stance, rw_stance, mutex_stance, stance, core_act, core_next, Takes, Stores, taken_count}
+use Rattle.parking_lot_world.specs.Rows.{State, word_at, call_at, taken_by, first_of_all, mutex_spot, rw_lock_at, mutex_at, inside}
+use Rattle.parking_lot_world.specs.Stances.{Joins, In, late_stance, rw_stance, seeks_stance, upgrade_stance, mutex_stance, stance, core_act, core_next, Takes, Stores, taken_count}
 use Rattle.parking_lot_world.specs.RowActs.{key_of, appended, took_nobody}
 use Rattle.parking_lot_world.specs.RowFits.{FitsTogether, LotFits, WakesFit, IsOfKind, IsPrepared, KnowsList}
 use Rattle.parking_lot_world.specs.ActLaws.{Acts}
@@ -28,26 +33,31 @@ use Rattle.parking_lot_world.proofs.Stancing.{leads_by}
 use Rattle.parking_lot_world.proofs.Carrying.{awake_sleeps, up_sleeps}
 use Rattle.parking_lot_world.proofs.LotActs.{awake_by, up_by, took_nobody_fits}
 use Rattle.parking_lot_world.proofs.LotLists.{one_key, appended_fits}
-use Rattle.parking_lot_world.proofs.RwMoving.{joins_are_steps}
 use Rattle.parking_lot_world.proofs.MutexMoving.{steps}
-use Rattle.parking_lot_world.proofs.KindTable.{Plain, of_rws, of_mutexes, same}
+use Rattle.parking_lot_world.proofs.KindTable.{Plain, RwCall, Simple, Upgradable, next_is, of_mutexes, of_rws, rw_call, rw_next, same}
+use Rattle.parking_lot_world.proofs.RwCalls.{CallTold, as_move, call_move}
+use Rattle.parking_lot_world.proofs.RwScans.{scanner, takes_where}
+use Rattle.parking_lot_world.proofs.RwTells.{call_joins}
 use Rattle.parking_lot_world.proofs.Making.{mutex_goes, rw_goes}
-use Rattle.parking_lot_world.proofs.Meeting.{meets, plays}
+use Rattle.parking_lot_world.proofs.Meeting.{meets, plays, rw_hears}
 use Rattle.parking_lot_world.proofs.Owning.{OwnAct, own-there, own-elsewhere, own_after, rw_leads}
 use Rattle.parking_lot_world.proofs.Ruling.{Fitted, rules_own}
 use Rattle.parking_lot_world.proofs.WakesKept.{wakes_own}
 use Rattle.parking_lot_world.proofs.Acting.{still_inside}
+use Rattle.parking_lot_world.proofs.Passing.{inside_mine, own_passes}
 use Rattle.parking_lot_world.proofs.TakeParts.{awake_listed, others_out, out_knows}
 use Rattle.parking_lot_core_lot.specs.Results.{is_left}
 use Rattle.parking_lot_protocol.specs.RwTable.{sum_of}
-use Rattle.parking_lot_world.specs.RowSteps.{IsRwMove}
+use Rattle.parking_lot_core_lot.specs.declared.parking.FilterOp.TheVariants.{Unpark, Skip}
+use Rattle.parking_lot_world.specs.Passes.{ArePassed, asks}
+use Rattle.parking_lot_world.proofs.Wanting.{passed_as}
+use Rattle.parking_lot_world.specs.RowSteps.{IsMoveOf, IsRwMove}
 use Rattle.parking_lot_world.specs.RwLaws.{Finds}
 use Rattle.parking_lot_world.proofs.OwnMoves.{OwnMove}
 use Rattle.parking_lot_core_lot.specs.declared.place.Phase.TheVariants as phase
 use Rattle.parking_lot_core_lot.specs.Sound as lot
 use Rattle.parking_lot_protocol.specs.declared.act.SectionAct.TheVariants as section
 use Rattle.parking_lot_protocol.specs.RwRules as of_rw
-use Rattle.parking_lot_protocol.specs.RwTable as of_rw_table
 use Rattle.parking_lot_protocol.specs.MutexTable as of_mutex_table
 use Rattle.parking_lot_protocol.specs.MutexRules as of_mutex
 use Rattle.parking_lot_world.specs.Stances as stances
@@ -126,34 +136,22 @@ module _ (s : State) (t : ℕ) (c : Call) (k : ℕ) (token : ParkToken) (asked :
   abbrev owed : List ℕ
   owed = taken_by s.wakes t
 
-  joins_rw : (q : RwPhase) (y : RwCore) → c.core ≡ Core.Rw (record y { phase = q }) → rw_stance q ≡ In k (Joins token) → Fitted s u t c ActResult.Made (Core.Rw (record y { phase = q }))
-  joins_rw (RwPhase.Appends want) y e at =
-      let z : RwCore = record y { phase = RwPhase.Appends want } in
-      let a = own_of (Core.Rw z) e in
-      let zero : 0 ≡ k = cc in (
-        rw_goes s u t c.lock (of_rw.Joins (Join1 (of_rw.mode_of want))) _ (own-there s u t c ActResult.Made _ QueuePosition.Listed a) (own-elsewhere s u t c ActResult.Made _ QueuePosition.Listed a) (subst (IsOfKind (slice_get s.kinds c.lock)) e (h.rules.kinds t c here))
-            (joins_are_steps.first (recursive_in s.kinds c.lock) (rw_lock_at s c.lock) t c.others (rw_spot c.spot) owed want (word_at s c.lock) (meets s h t c z e here))
-            (own_after of_rws s u t c ActResult.Made (record z { phase = of_rw_table.next_phase (RwPhase.Appends want) ActResult.Made }) QueuePosition.Listed a (word_at s c.lock) refl
-            ∙ same of_rws _ _ _ _ _ _ _ _ refl refl (list_here (2 * c.lock) (omega (arith, zero))) (list_there (2 * c.lock + 1) (λ f. omega (arith, zero, f))))
-            (still_inside s.lot.section phase.Joined),
-        (tt, (subst (IsPrepared (recursive_in s.kinds c.lock) c.others) e (h.rules.prepared t c here)).1),
-        tt,
-        h.rules.bits c.lock,
-      )
-  joins_rw (RwPhase.DrainAppends rounds) y e at =
-      let z : RwCore = record y { phase = RwPhase.DrainAppends rounds } in
-      let a = own_of (Core.Rw z) e in
-      let one : 1 ≡ k = cc in (
-        rw_goes s u t c.lock (of_rw.Joins (Join2 false)) _ (own-there s u t c ActResult.Made _ QueuePosition.Listed a) (own-elsewhere s u t c ActResult.Made _ QueuePosition.Listed a) (subst (IsOfKind (slice_get s.kinds c.lock)) e (h.rules.kinds t c here))
-            (joins_are_steps.second (recursive_in s.kinds c.lock) (rw_lock_at s c.lock) t c.others (rw_spot c.spot) owed rounds (word_at s c.lock) (meets s h t c z e here))
-            (own_after of_rws s u t c ActResult.Made (record z { phase = of_rw_table.next_phase (RwPhase.DrainAppends rounds) ActResult.Made }) QueuePosition.Listed a (word_at s c.lock) refl
-            ∙ same of_rws _ _ _ _ _ _ _ _ refl refl (list_there (2 * c.lock) (λ f. omega (arith, one, f))) (list_here (2 * c.lock + 1) (omega (arith, one))))
-            (still_inside s.lot.section phase.Joined),
-        (tt, (subst (IsPrepared (recursive_in s.kinds c.lock) c.others) e (h.rules.prepared t c here)).1),
-        tt,
-        h.rules.bits c.lock,
-      )
-  joins_rw q y e at = absurd (cc)
+  joins_rw : (y : RwCall) → c.core ≡ rw_call y → Fitted s u t c ActResult.Made (rw_call y)
+  joins_rw y e =
+      let a = subst (λ (x : Core). OwnAct s u t c ActResult.Made x QueuePosition.Listed) (next_is y ActResult.Made) (own_of (rw_call y) e) in
+      let kind_is = of_rws.of_kind (slice_get s.kinds c.lock) y (subst (IsOfKind (slice_get s.kinds c.lock)) e (h.rules.kinds t c here)) in
+      let z = call_joins (recursive_in s.kinds c.lock) (rw_lock_at s c.lock) t c.others c.spot owed y (word_at s c.lock) k token (meets s h t c y e here) (ap stance (sym e) ∙ from) in
+      let well = rw_hears s h t c y e here ActResult.Made z.told tt u.lot.queues (z.learns (u.lot.queues (2 * c.lock)) (u.lot.queues (2 * c.lock + 1))) in
+      let after = own_after of_rws s u t c ActResult.Made (rw_next y ActResult.Made) QueuePosition.Listed a (word_at s c.lock) refl in
+      let goes : IsRwMove (of_rw.Joins z.list) c.lock t s u = elim z.step [
+        | inl x ↦
+            rw_goes s u t c.lock (of_rw.Joins z.list) _ (own-there s u t c ActResult.Made _ QueuePosition.Listed a) (own-elsewhere s u t c ActResult.Made _ QueuePosition.Listed a) kind_is x.1
+            (after ∙ same of_rws _ _ _ _ _ _ _ _ refl refl (list_here (2 * c.lock) (omega (arith, x.0))) (list_there (2 * c.lock + 1) (λ f. omega (arith, x.0, f)))) (still_inside s.lot.section phase.Joined)
+        | inr x ↦
+            rw_goes s u t c.lock (of_rw.Joins z.list) _ (own-there s u t c ActResult.Made _ QueuePosition.Listed a) (own-elsewhere s u t c ActResult.Made _ QueuePosition.Listed a) kind_is x.1
+            (after ∙ same of_rws _ _ _ _ _ _ _ _ refl refl (list_there (2 * c.lock) (λ f. omega (arith, x.0, f))) (list_here (2 * c.lock + 1) (omega (arith, x.0)))) (still_inside s.lot.section phase.Joined)
+      ] in
+      (as_move y c.others owed ActResult.Made c.lock t s u (subst (λ m. IsRwMove m c.lock t s u) (sym z.move) goes), well.0, well.1, h.rules.bits c.lock)
 
   -- AT A MUTEX
 
@@ -173,12 +171,13 @@ module _ (s : State) (t : ℕ) (c : Call) (k : ℕ) (token : ParkToken) (asked :
   joins_mutex q y e at = absurd (cc)
 
   by_core : (x : Core) → c.core ≡ x → Fitted s u t c ActResult.Made x
-  by_core (Core.Rw y) e = joins_rw y.phase y e (ap stance (sym e) ∙ from)
+  by_core (Core.Rw y) e = joins_rw (Simple y) e
+  by_core (Core.Upgrade y) e = joins_rw (Upgradable y) e
   by_core (Core.Mutex y) e = joins_mutex y.phase y e (ap stance (sym e) ∙ from)
   by_core (Core.Late p) e = absurd (late_joins p k token (ap stance (sym e) ∙ from))
 
   pub appends : (told : ActResult) × Acts t c told s u
-  appends = let both = rules_own s u t c ActResult.Made QueuePosition.Listed own h others (by_core c.core refl) in (ActResult.Made, record { fits = record { lots = leads.2; wakes = wakes; rules = both.0 }; goes = both.1 })
+  appends = let both = rules_own s u t c ActResult.Made QueuePosition.Listed own h others (by_core c.core refl) in (ActResult.Made, record { fits = record { lots = leads.2; passes = own_passes s u t c ActResult.Made (core_next c.core ActResult.Made) QueuePosition.Listed own leads.2 h.passes (inr (inl (still_inside s.lot.section phase.Joined ∙ inside_mine s h.lots t c here k (Joins token) from))) (λ l o e. absurd (let f : In k (stances.Joined token) ≡ In l Takes = sym leads.1 ∙ e in cc)); wakes = wakes; rules = both.0 }; goes = both.1 })
 
 -- A thread that takes waiters and finds nobody: the machine stays fit, and nothing changes at its lock.
 
@@ -193,12 +192,36 @@ rw_takes (RwPhase.TakeWriter rest) y k e = inl refl
 rw_takes (RwPhase.Scans a) y k e = inr (sum_of a, refl)
 rw_takes q y k e = absurd (cc)
 
+seeks_takes : (q : RwPhase) (k : ℕ) → seeks_stance q ≡ In k Takes → AsksToTake (upgrade_table.seeks_act q)
+seeks_takes (RwPhase.TakeWriter rest) k e = inl refl
+seeks_takes (RwPhase.Scans a) k e = inr (sum_of a, refl)
+seeks_takes q k e = absurd cc
+
+frees_takes : (r : Release) (q : RwPhase) (k : ℕ) → rw_stance q ≡ In k Takes → AsksToTake (upgrade_table.frees_act r q)
+frees_takes r (RwPhase.TakeWriter rest) k e = inl refl
+frees_takes r (RwPhase.Scans a) k e = inr (sum_of a, refl)
+frees_takes r q k e = absurd cc
+
+owes_takes : (kept : Hold) (end : CoreAnswer) (q : RwPhase) (k : ℕ) → rw_stance q ≡ In k Takes → AsksToTake (upgrade_table.owes_act kept end q)
+owes_takes kept end (RwPhase.TakeWriter rest) k e = inl refl
+owes_takes kept end (RwPhase.Scans a) k e = inr (_, refl)
+owes_takes kept end q k e = absurd cc
+
+upgrade_takes : (p : UpgradePhase) (k : ℕ) → upgrade_stance p ≡ In k Takes → AsksToTake (upgrade_table.act_of p)
+upgrade_takes (UpgradePhase.Plain core) k e = rw_takes core.phase core k e
+upgrade_takes (UpgradePhase.Seeks core) k e = seeks_takes core.phase k e
+upgrade_takes (UpgradePhase.Drains core) k e = rw_takes core.phase core k e
+upgrade_takes (UpgradePhase.Frees r core) k e = frees_takes r core.phase k e
+upgrade_takes (UpgradePhase.Owes kept end core) k e = owes_takes kept end core.phase k e
+upgrade_takes p k e = absurd cc
+
 mutex_takes : (q : MutexPhase) (y : MutexCore) (k : ℕ) → mutex_stance q ≡ In k Takes → AsksToTake (core_act (Core.Mutex (record y { phase = q })))
 mutex_takes (MutexPhase.Takes giving) y k e = inl refl
 mutex_takes q y k e = absurd (cc)
 
 pub asks_to_take : (x : Core) (k : ℕ) → stance x ≡ In k Takes → AsksToTake (core_act x)
 asks_to_take (Core.Rw y) k e = rw_takes y.phase y k e
+asks_to_take (Core.Upgrade y) k e = upgrade_takes y.phase k e
 asks_to_take (Core.Mutex y) k e = mutex_takes y.phase y k e
 asks_to_take (Core.Late p) k e = absurd (late_takes p k e)
 
@@ -207,7 +230,7 @@ pub takes_no_word : (a : Act) (told : ActResult) (x : ℕ) → AsksToTake a → 
 takes_no_word a told x (inl e) = ap (λ b. word_after b told x) e
 takes_no_word a told x (inr e) = ap (λ b. word_after b told x) e.1
 
-module _ (s : State) (t : ℕ) (c : Call) (k : ℕ) (from : stance c.core ≡ In k Takes) (empty : s.lot.queues (key_of c k) ≡ []) (sound : lot.Sound (took_nobody s t c (key_of c k)).lot)
+module _ (s : State) (t : ℕ) (c : Call) (k : ℕ) (from : stance c.core ≡ In k Takes) (passes : ArePassed (asks (core_act c.core)) (s.lot.queues (key_of c k)) (length (s.lot.queues (key_of c k)))) (sound : lot.Sound (took_nobody s t c (key_of c k)).lot)
     (h : FitsTogether s) (here : call_at s t ≡ Some c) where
   abbrev found_state : State
   found_state = took_nobody s t c (key_of c k)
@@ -255,37 +278,58 @@ module _ (s : State) (t : ℕ) (c : Call) (k : ℕ) (from : stance c.core ≡ In
   others_know : (v : ℕ) (e : Call) → v ≢ t → call_at s v ≡ Some e → KnowsList e.core found_state.lot.queues e.lock
   others_know v e ne at = out_knows e.core found_state.lot.queues e.lock (others_out s h.lots t c here k Takes from v e ne at)
 
-  list_empty : (key : ℕ) → key ≡ key_of c k → s.lot.queues key ≡ []
-  list_empty key e = ap s.lot.queues e ∙ empty
+  -- where whoever is first is taken nobody waits
+  is_empty : ((token : ℕ) → asks (core_act c.core) token ≡ Unpark) → s.lot.queues (key_of c k) ≡ []
+  is_empty all = go (s.lot.queues (key_of c k)) passes
+    where
+      unpark≢skip : Unpark ≡ Skip → ⊥
+      unpark≢skip e = cc
 
-  none_left : left_over ≡ false
-  none_left = ap is_left empty
+      go : (q : List Waiter) → ArePassed (asks (core_act c.core)) q (length q) → q ≡ []
+      go [] passed = refl
+      go (x ∷ q) passed = absurd (unpark≢skip (sym (all x.token.0) ∙ passed 0 x (omega arith) refl))
 
   abbrev owed_here : List ℕ
   owed_here = taken_by s.wakes t
 
   -- AT A READER-WRITER LOCK
 
-  stays_rw : (z : RwCore) → c.core ≡ Core.Rw z → of_rw.IsTold z.phase (word_at s c.lock) finds_none → Finds (of_rw_table.act_of z.phase) (rw_lock_at s c.lock) → OwnMove (of_rw.move c.others owed_here z.phase finds_none) t (inside s) (inside found_state) → IsRwMove (of_rw.move c.others owed_here z.phase finds_none) c.lock t s found_state
-  stays_rw z e heard finds moves =
-      let a = find_of (Core.Rw z) e in
-      let leads_on = rw_leads (recursive_in s.kinds c.lock) (rw_lock_at s c.lock) t c.others c.spot owed_here z.phase (word_at s c.lock) finds_none (meets s h t c z e here) heard finds a.listed (inside s) (inside found_state) moves in
-      rw_goes s found_state t c.lock (of_rw.move c.others owed_here z.phase finds_none) _ (own-there s found_state t c finds_none _ c.spot a) (own-elsewhere s found_state t c finds_none _ c.spot a) (subst (IsOfKind (slice_get s.kinds c.lock)) e (h.rules.kinds t c here)) leads_on.0
-      (own_after of_rws s found_state t c finds_none (record z { phase = of_rw_table.next_phase z.phase finds_none }) c.spot a _ (a.word ∙ ap (λ y. word_after (core_act y) finds_none (word_at s c.lock)) e)) leads_on.1
+  stays_rw : (y : RwCall) → c.core ≡ rw_call y → CallTold y (word_at s c.lock) finds_none → Finds (core_act (rw_call y)) (rw_lock_at s c.lock) → OwnMove (call_move c.others owed_here y finds_none) t (inside s) (inside found_state) → IsMoveOf (rw_call y) c.others owed_here finds_none c.lock t s found_state
+  stays_rw y e heard finds moves =
+      let a = subst (λ (x : Core). OwnAct s found_state t c finds_none x c.spot) (next_is y finds_none) (find_of (rw_call y) e) in
+      let kind_is = of_rws.of_kind (slice_get s.kinds c.lock) y (subst (IsOfKind (slice_get s.kinds c.lock)) e (h.rules.kinds t c here)) in
+      let leads_on = rw_leads (recursive_in s.kinds c.lock) (rw_lock_at s c.lock) t c.others c.spot owed_here y (word_at s c.lock) finds_none (meets s h t c y e here) heard finds a.listed (inside s) (inside found_state) moves in
+      as_move y c.others owed_here finds_none c.lock t s found_state
+      (rw_goes s found_state t c.lock (call_move c.others owed_here y finds_none) _ (own-there s found_state t c finds_none _ c.spot a) (own-elsewhere s found_state t c finds_none _ c.spot a) kind_is leads_on.0
+      (own_after of_rws s found_state t c finds_none (rw_next y finds_none) c.spot a _ (a.word ∙ ap (λ y. word_after (core_act y) finds_none (word_at s c.lock)) e)) leads_on.1)
 
-  finds_rw : (q : RwPhase) (y : RwCore) → c.core ≡ Core.Rw (record y { phase = q }) → rw_stance q ≡ In k Takes → Fitted s found_state t c finds_none (Core.Rw (record y { phase = q }))
-  finds_rw (RwPhase.TakeWriter rest) y e at =
-      let one : 1 ≡ k = cc in
-      (stays_rw (record y { phase = RwPhase.TakeWriter rest }) e tt tt (still_inside s.lot.section phase.Ended), subst (IsPrepared (recursive_in s.kinds c.lock) c.others) e (h.rules.prepared t c here), list_empty (2 * c.lock + 1) (omega (arith, one)), h.rules.bits c.lock)
-  finds_rw (RwPhase.Scans b) y e at =
-      let zero : 0 ≡ k = cc in
-      let ready = subst (IsPrepared (recursive_in s.kinds c.lock) c.others) e (h.rules.prepared t c here) in (
-        stays_rw (record y { phase = RwPhase.Scans b }) e tt tt (still_inside s.lot.section phase.Ended),
-        (ready.0, ready.1.0),
-        (subst (λ (x : Core). KnowsList x s.lot.queues c.lock) e (h.rules.knows t c here), ap (λ n. is_left (s.lot.queues n)) (omega (arith, zero)), inr none_left),
-        h.rules.bits c.lock,
-      )
-  finds_rw q y e at = absurd (cc)
+  -- the pending writer's list is empty
+  finds_writer : (rest : AfterWake) → c.core ≡ Core.Rw (record { phase = RwPhase.TakeWriter rest }) → 1 ≡ k → Fitted s found_state t c finds_none (Core.Rw (record { phase = RwPhase.TakeWriter rest }))
+  finds_writer rest e one = (
+    stays_rw (Simple (record { phase = RwPhase.TakeWriter rest })) e tt tt (still_inside s.lot.section phase.Ended),
+    subst (IsPrepared (recursive_in s.kinds c.lock) c.others) e (h.rules.prepared t c here),
+    ap s.lot.queues (omega (arith, one)) ∙ is_empty (λ token. ap (λ (x : Core). asks (core_act x) token) e),
+    h.rules.bits c.lock,
+  )
+
+  finds_rw : (y : RwCall) → c.core ≡ rw_call y → Fitted s found_state t c finds_none (rw_call y)
+  finds_rw y e =
+      let ready = subst (IsPrepared (recursive_in s.kinds c.lock) c.others) e (h.rules.prepared t c here) in
+      elim (takes_where (recursive_in s.kinds c.lock) c.others y k ready (ap stance (sym e) ∙ from)) [
+        | inl x ↦
+            let sc = scanner (recursive_in s.kinds c.lock) c.others y x.0 ready in
+            let told = sc.none (word_at s c.lock) left_over in
+            let key : key_of c k ≡ 2 * c.lock = omega (arith, x.1) in
+            let all = subst (λ n. ArePassed (asks (core_act (rw_call y))) (s.lot.queues n) (length (s.lot.queues n))) key (passed_as _ _ (s.lot.queues (key_of c k)) (length (s.lot.queues (key_of c k))) (λ token. ap (λ (x : Core). asks (core_act x) token) e) passes) in
+            let well = rw_hears s h t c y e here finds_none told tt found_state.lot.queues (sc.passes left_over (s.lot.queues (2 * c.lock)) (s.lot.queues (2 * c.lock + 1)) (ap (λ n. is_left (s.lot.queues n)) (sym key)) all) in (
+              stays_rw y e told (subst (λ (a : Act). Finds a (rw_lock_at s c.lock)) (sym sc.act.1) tt)
+                  (subst (λ m. OwnMove m t (inside s) (inside found_state)) (sym (sc.stays owed_here left_over)) (still_inside s.lot.section phase.Ended)),
+              well.0,
+              well.1,
+              h.rules.bits c.lock,
+            )
+        | inr x ↦ subst (λ (q : RwCall). Fitted s found_state t c finds_none (rw_call q)) (sym x.1) (finds_writer x.0 (e ∙ ap rw_call x.1) x.2)
+      ]
 
   -- AT A MUTEX
 
@@ -298,17 +342,19 @@ module _ (s : State) (t : ℕ) (c : Call) (k : ℕ) (from : stance c.core ≡ In
             (steps.takes_nobody (mutex_at s c.lock) (word_at s c.lock) t (first_of_all owed_here) (mutex_spot c.spot) (MutexPhase.Takes giving) left_over (plays s h t c z e here) refl).leads
             (own_after of_mutexes s found_state t c finds_none (Plain (record z { phase = of_mutex_table.next_phase (MutexPhase.Takes giving) finds_none })) c.spot a (word_at s c.lock) refl) (still_inside s.lot.section phase.Ended) tt,
         subst (IsPrepared (recursive_in s.kinds c.lock) c.others) e (h.rules.prepared t c here),
-        (ap (λ n. is_left (s.lot.queues n)) (omega (arith, zero)), λ f. none_left),
+        (ap (λ n. is_left (s.lot.queues n)) (omega (arith, zero)), λ f. ap is_left (is_empty (λ token. ap (λ (x : Core). asks (core_act x) token) e))),
         h.rules.bits c.lock,
       )
   finds_mutex q y e at = absurd (cc)
 
   find_by_core : (x : Core) → c.core ≡ x → Fitted s found_state t c finds_none x
-  find_by_core (Core.Rw y) e = finds_rw y.phase y e (ap stance (sym e) ∙ from)
+  find_by_core (Core.Rw y) e = finds_rw (Simple y) e
+  find_by_core (Core.Upgrade y) e = finds_rw (Upgradable y) e
   find_by_core (Core.Late p) e = absurd (late_takes p k (ap stance (sym e) ∙ from))
   find_by_core (Core.Mutex y) e = finds_mutex y.phase y e (ap stance (sym e) ∙ from)
 
   pub takes_nobody : (what : ActResult) × Acts t c what s found_state
   takes_nobody =
       let both = rules_own s found_state t c finds_none c.spot own_find h others_know (find_by_core c.core refl) in
-      (finds_none, record { fits = record { lots = took_nobody_fits s t c k h.lots here from leads_on.0 leads_on.1 sound; wakes = wakes_own s found_state t c finds_none (NextOf c.core) own_find h.wakes; rules = both.0 }; goes = both.1 })
+      let lots = took_nobody_fits s t c k h.lots here from leads_on.0 leads_on.1 sound in
+      (finds_none, record { fits = record { lots = lots; passes = own_passes s found_state t c finds_none (NextOf c.core) c.spot own_find lots h.passes (inr (inl (still_inside s.lot.section phase.Ended ∙ inside_mine s h.lots t c here k Takes from))) (λ l o e. absurd (let f : In k Stores ≡ In l Takes = sym leads_on.0 ∙ e in cc)); wakes = wakes_own s found_state t c finds_none (NextOf c.core) own_find h.wakes; rules = both.0 }; goes = both.1 })

@@ -1,5 +1,5 @@
 -- While one thread is in a section no other is, and only whoever is in one knows anything of the lists.
-use Rattle.std.proofs.Common.{◌≡◌, ◌≢◌, ℕ, ◌+◌, ◌*◌, List, Some, refl, sym, ap, ◌∙◌, inl, inr, ◌==◌, cond, eq-eqb, Bool, true, false, [], ◌∷◌, ◌++◌, length, length-append, map, remove, Option, slice_get, slice_set, subst, arith}
+use Rattle.std.proofs.Common.{◌≡◌, ◌≢◌, ℕ, zero, suc, ◌+◌, ◌*◌, List, Some, refl, sym, ap, ◌∙◌, inl, inr, ◌==◌, cond, eq-eqb, Bool, true, false, [], ◌∷◌, ◌++◌, length, length-append, map, remove, Option, slice_get, slice_set, subst, arith}
 use Rattle.std.proofs.lemmas.Bool.{ne_eqb, cases_eq, eqb-false}
 use Rattle.std.proofs.lemmas.List.{map-append}
 use Rattle.std.proofs.lemmas.List.Elements.{filter-append}
@@ -10,6 +10,10 @@ use Rattle.parking_lot_core_lot.specs.declared.parking.ParkToken.{ParkToken}
 use Rattle.parking_lot_core_lot.specs.declared.place.Waiter.{Waiter}
 use Rattle.parking_lot_protocol.specs.declared.mutex_phase.MutexPhase.{MutexPhase}
 use Rattle.parking_lot_protocol.specs.declared.rw_phase.RwPhase.{RwPhase}
+use Rattle.parking_lot_upgrades.specs.declared.upgrade_phase.Hold.{Hold}
+use Rattle.parking_lot_upgrades.specs.declared.upgrade_phase.UpgradePhase.{UpgradePhase}
+use Rattle.parking_lot_world.specs.RowFits.{scan_knows, upgrade_knows}
+use Rattle.parking_lot_world.specs.Stances.{upgrade_stance}
 use Rattle.parking_lot_world.specs.Kinds.{Manner, manner_of}
 use Rattle.parking_lot_world.specs.declared.seat.QueuePosition.{QueuePosition}
 use Rattle.parking_lot_world.specs.declared.seat.Core.{Core}
@@ -49,13 +53,22 @@ mutex_out (MutexPhase.Stores giving taken left) queue out = absurd (out 0 Stores
 mutex_out p queue out = tt
 
 rw_out : (p : RwPhase) (first second : List Waiter) → IsOut (rw_stance p) → rw_knows p first second
-rw_out (RwPhase.Scans a) first second out = absurd (out 0 Takes refl)
 rw_out (RwPhase.Stores a left) first second out = absurd (out 0 Stores refl)
 rw_out (RwPhase.ClearWriterParked rest taken) first second out = absurd (out 1 Stores refl)
 rw_out p first second out = tt
 
+part_out : (kept : Hold) (q : RwPhase) (first : List Waiter) → IsOut (rw_stance q) → scan_knows kept q first
+part_out kept (RwPhase.Stores a left) first out = absurd (out 0 Stores refl)
+part_out kept q first out = tt
+
+upgrade_out : (p : UpgradePhase) (first : List Waiter) → IsOut (upgrade_stance p) → upgrade_knows p first
+upgrade_out (UpgradePhase.Frees r core) first out = part_out Hold.Nothing core.phase first out
+upgrade_out (UpgradePhase.Owes kept end core) first out = part_out kept core.phase first out
+upgrade_out p first out = tt
+
 pub out_knows : (x : Core) (queues : ℕ → List Waiter) (j : ℕ) → IsOut (stance x) → KnowsList x queues j
 out_knows (Core.Late p) queues j out = tt
+out_knows (Core.Upgrade c) queues j out = upgrade_out c.phase (queues (2 * j)) out
 out_knows (Core.Mutex c) queues j out = mutex_out c.phase (queues (2 * j)) out
 out_knows (Core.Rw c) queues j out = rw_out c.phase (queues (2 * j)) (queues (2 * j + 1)) out
 
@@ -77,7 +90,7 @@ awake_listed s h t c here awake = go c.spot refl
         let its = h.lots.woken owed.0 owed.1 owed.2 in
         absurd (awake its.key its.token (ap (λ (x : Call). stance x.core) (same_call (sym here ∙ (ap (call_at s) (sym owed.4) ∙ its.here))) ∙ its.asleep))
 
--- The machine once a thread has taken the first of a list: what the locks see of the two, and what it keeps beside the lot and the rules.
+-- The machine once a thread has taken one of a list: what the locks see of the two, and what it keeps beside the lot and the rules.
 
 -- WHOM A THREAD HAS TAKEN
 
@@ -97,34 +110,37 @@ no_more : (xs : List ℕ) → xs ++ [] ≡ xs
 no_more [] = refl
 no_more (x ∷ xs) = ap (λ ys. x ∷ ys) (no_more xs)
 
--- THE FIRST OF A LIST
+-- ONE OF A LIST
 
-pub first_thread : (q : List Waiter) (w : Waiter) → slice_get q 0 ≡ Some w → slice_get (threads_of q) 0 ≡ Some w.thread
-first_thread [] w e = absurd (none-some w e)
-first_thread (x ∷ q) w e = ap (λ (y : Waiter). Some y.thread) (same_Some x w e)
+pub nth_thread : (q : List Waiter) (n : ℕ) (w : Waiter) → slice_get q n ≡ Some w → slice_get (threads_of q) n ≡ Some w.thread
+nth_thread [] n w e = absurd (none-some w e)
+nth_thread (x ∷ q) zero w e = ap (λ (y : Waiter). Some y.thread) (same_Some x w e)
+nth_thread (x ∷ q) (suc n) w e = nth_thread q n w e
 
-remove_first : (q : List Waiter) → threads_of (remove q 0) ≡ remove (threads_of q) 0
-remove_first [] = refl
-remove_first (x ∷ q) = refl
+remove_nth : (q : List Waiter) (n : ℕ) → threads_of (remove q n) ≡ remove (threads_of q) n
+remove_nth [] zero = refl
+remove_nth [] (suc n) = refl
+remove_nth (x ∷ q) zero = refl
+remove_nth (x ∷ q) (suc n) = ap (λ ys. x.thread ∷ ys) (remove_nth q n)
 
 -- WHAT IS TO BE SHOWN OF A CALL'S PHASE
 
 -- what the thread is told
-abbrev pub took_told : State → Call → ℕ → Waiter → ActResult
-took_told s c k w = ActResult.Took (Some w.token) (is_left (remove (s.lot.queues (key_of c k)) 0))
+abbrev pub took_told : State → Call → ℕ → ℕ → Waiter → ActResult
+took_told s c k nth w = ActResult.Took (Some w.token) (is_left (remove (s.lot.queues (key_of c k)) nth))
 
 -- the kind of its lock shows the rest, and it counts whom it took
-abbrev pub TakesSo : State → ℕ → Call → ℕ → Waiter → Core → Type 0
-TakesSo s t c k w x = Fitted s (took s t c (key_of c k) 0 w) t c (took_told s c k w) x × Counts x w.token × Gives (core_act x) (word_at s c.lock) (took_told s c k w)
+abbrev pub TakesSo : State → ℕ → Call → ℕ → ℕ → Waiter → Core → Type 0
+TakesSo s t c k nth w x = Fitted s (took s t c (key_of c k) nth w) t c (took_told s c k nth w) x × Counts x w.token × Gives (core_act x) (word_at s c.lock) (took_told s c k nth w)
 
 -- THE PARTS
 
-module _ (s : State) (t : ℕ) (c : Call) (k : ℕ) (w : Waiter) (from : stance c.core ≡ In k Takes) (at : slice_get (s.lot.queues (key_of c k)) 0 ≡ Some w) (h : FitsTogether s) (here : call_at s t ≡ Some c) where
+module _ (s : State) (t : ℕ) (c : Call) (k nth : ℕ) (w : Waiter) (from : stance c.core ≡ In k Takes) (at : slice_get (s.lot.queues (key_of c k)) nth ≡ Some w) (h : FitsTogether s) (here : call_at s t ≡ Some c) where
   abbrev u : State
-  u = took s t c (key_of c k) 0 w
+  u = took s t c (key_of c k) nth w
 
   abbrev pub the_sleeper : Sleeper s t k c w
-  the_sleeper = sleeper s t c h.lots here k 0 w (small_key c.core k Takes from) from at
+  the_sleeper = sleeper s t c h.lots here k nth w (small_key c.core k Takes from) from at
 
   abbrev z : Call
   z = the_sleeper.call
@@ -136,17 +152,17 @@ module _ (s : State) (t : ℕ) (c : Call) (k : ℕ) (w : Waiter) (from : stance 
   taker_listed = awake_listed s h t c here (λ l park e. awake_sleeps l park (stance c.core) (awake_by (stance c.core) (In k Takes) from tt) e)
 
   -- the calls
-  pub taker_after : call_at u t ≡ Some (hears c (took_told s c k w))
-  taker_after = call_mine s t c h.lots here k 0 w (small_key c.core k Takes from) from at
+  pub taker_after : call_at u t ≡ Some (hears c (took_told s c k nth w))
+  taker_after = call_mine s t c h.lots here k nth w (small_key c.core k Takes from) from at
 
   pub sleeper_after : call_at u w.thread ≡ Some (off_list t z)
-  sleeper_after = call_taken s t c h.lots here k 0 w (small_key c.core k Takes from) from at
+  sleeper_after = call_taken s t c h.lots here k nth w (small_key c.core k Takes from) from at
 
   pub others_after : (x : ℕ) → x ≢ t → x ≢ w.thread → call_at u x ≡ call_at s x
-  others_after x nt nv = call_other s t c h.lots here k 0 w (small_key c.core k Takes from) from at x (ne_eqb x t nt) (ne_eqb x w.thread nv)
+  others_after x nt nv = call_other s t c h.lots here k nth w (small_key c.core k Takes from) from at x (ne_eqb x t nt) (ne_eqb x w.thread nv)
 
   pub same_threads : length u.calls ≡ length s.calls
-  same_threads = took_length s t c h.lots here k 0 w (small_key c.core k Takes from) from at
+  same_threads = took_length s t c h.lots here k nth w (small_key c.core k Takes from) from at
 
   -- whom they have taken
   pub taker_has : taken_by u.wakes t ≡ taken_by s.wakes t ++ w.thread ∷ []
@@ -158,20 +174,20 @@ module _ (s : State) (t : ℕ) (c : Call) (k : ℕ) (w : Waiter) (from : stance 
       ∙ no_more (taken_by s.wakes x)
 
   -- the lists
-  pub took_list : (key : ℕ) → key ≡ key_of c k → u.lot.queues key ≡ remove (s.lot.queues (key_of c k)) 0
-  took_list key e = ap u.lot.queues e ∙ updated_at s.lot.queues (key_of c k) (remove (s.lot.queues (key_of c k)) 0)
+  pub took_list : (key : ℕ) → key ≡ key_of c k → u.lot.queues key ≡ remove (s.lot.queues (key_of c k)) nth
+  took_list key e = ap u.lot.queues e ∙ updated_at s.lot.queues (key_of c k) (remove (s.lot.queues (key_of c k)) nth)
 
-  pub list_here : (key : ℕ) → key ≡ key_of c k → threads_of (u.lot.queues key) ≡ remove (threads_of (s.lot.queues key)) 0
-  list_here key e = ap threads_of (took_list key e) ∙ remove_first (s.lot.queues (key_of c k)) ∙ ap (λ n. remove (threads_of (s.lot.queues n)) 0) (sym e)
+  pub list_here : (key : ℕ) → key ≡ key_of c k → threads_of (u.lot.queues key) ≡ remove (threads_of (s.lot.queues key)) nth
+  list_here key e = ap threads_of (took_list key e) ∙ remove_nth (s.lot.queues (key_of c k)) nth ∙ ap (λ n. remove (threads_of (s.lot.queues n)) nth) (sym e)
 
   same_list : (key : ℕ) → key ≢ key_of c k → u.lot.queues key ≡ s.lot.queues key
-  same_list key ne = updated_other s.lot.queues (key_of c k) (remove (s.lot.queues (key_of c k)) 0) key (ne_eqb key (key_of c k) ne)
+  same_list key ne = updated_other s.lot.queues (key_of c k) (remove (s.lot.queues (key_of c k)) nth) key (ne_eqb key (key_of c k) ne)
 
   pub list_there : (key : ℕ) → key ≢ key_of c k → threads_of (u.lot.queues key) ≡ threads_of (s.lot.queues key)
   list_there key ne = ap threads_of (same_list key ne)
 
-  pub first_there : (key : ℕ) → key ≡ key_of c k → slice_get (threads_of (s.lot.queues key)) 0 ≡ Some w.thread
-  first_there key e = ap (λ n. slice_get (threads_of (s.lot.queues n)) 0) e ∙ first_thread (s.lot.queues (key_of c k)) w at
+  pub nth_there : (key : ℕ) → key ≡ key_of c k → slice_get (threads_of (s.lot.queues key)) nth ≡ Some w.thread
+  nth_there key e = ap (λ n. slice_get (threads_of (s.lot.queues n)) nth) e ∙ nth_thread (s.lot.queues (key_of c k)) nth w at
 
   -- the other locks
   pub took_elsewhere : Elsewhere c.lock s u
@@ -205,14 +221,14 @@ module _ (s : State) (t : ℕ) (c : Call) (k : ℕ) (w : Waiter) (from : stance 
           (in_its_place K s w.thread z q (in_range s w.thread z the_sleeper.there) the_sleeper.there its ∙ ap (λ (p : QueuePosition). Some (K.plays z.others p (taken_by s.wakes w.thread) q)) the_sleeper.listed)
 
       -- and what the two are then is all that changes, but for the list
-      pub took_after : (k' : C) → core_next c.core (took_told s c k w) ≡ K.core k' → (mine : R) → K.plays c.others QueuePosition.Listed (taken_by s.wakes t ++ w.thread ∷ []) k' ≡ mine → (theirs : R) → K.plays z.others (QueuePosition.Off t WakeResult.Nothing) (taken_by s.wakes w.thread) q ≡ theirs
+      pub took_after : (k' : C) → core_next c.core (took_told s c k nth w) ≡ K.core k' → (mine : R) → K.plays c.others QueuePosition.Listed (taken_by s.wakes t ++ w.thread ∷ []) k' ≡ mine → (theirs : R) → K.plays z.others (QueuePosition.Off t WakeResult.Nothing) (taken_by s.wakes w.thread) q ≡ theirs
           → (first second : List ℕ) → queue_at u (2 * c.lock) ≡ first → queue_at u (2 * c.lock + 1) ≡ second → shown K u c.lock ≡ K.lock (word_at s c.lock) (slice_set (slice_set (roles_at K s c.lock) t mine) w.thread theirs) first second
       took_after k' next mine mine_is theirs theirs_is first second =
           same K _ _ _ _ _ _ _ _ refl
           (ap (all (role_at K u c.lock) 0) same_threads
           ∙ change-two (role_at K s c.lock) (role_at K u c.lock) (length s.calls) t w.thread (in_range s t c here) (in_range s w.thread z the_sleeper.there) (λ e. took_apart (sym e)) (λ x b nt nv. role_stays K s u c.lock x (others_after x nt nv) (others_have x nt) refl)
           ∙ ap (λ r. slice_set (slice_set (roles_at K s c.lock) t r) w.thread (role_at K u c.lock w.thread))
-          (role_now K u t (taken_by s.wakes t ++ w.thread ∷ []) (hears c (took_told s c k w)) k' taker_after taker_has next ∙ ap (λ p. K.plays c.others p (taken_by s.wakes t ++ w.thread ∷ []) k') taker_listed ∙ mine_is)
+          (role_now K u t (taken_by s.wakes t ++ w.thread ∷ []) (hears c (took_told s c k nth w)) k' taker_after taker_has next ∙ ap (λ p. K.plays c.others p (taken_by s.wakes t ++ w.thread ∷ []) k') taker_listed ∙ mine_is)
           ∙ ap (slice_set (slice_set (roles_at K s c.lock) t mine) w.thread)
           (subst (λ (j : ℕ). role_at K u j w.thread ≡ theirs) the_sleeper.lock (role_now K u w.thread (taken_by s.wakes w.thread) (off_list t z) q sleeper_after (others_have w.thread took_apart) its ∙ theirs_is)))
 
@@ -254,7 +270,7 @@ module _ (s : State) (t : ℕ) (c : Call) (k : ℕ) (w : Waiter) (from : stance 
         one,
         none,
         count_by-set is_away s.calls w.thread (Some z) (option_map (off_list t) (call_at s w.thread)) (slot s.calls w.thread z the_sleeper.there),
-        count_by-set is_away calls_off t (Some c) (Some (hears c (took_told s c k w))) (slot calls_off t c there),
+        count_by-set is_away calls_off t (Some c) (Some (hears c (took_told s c k nth w))) (slot calls_off t c there),
       )
 
   pub wakes_after : WakesFit u

@@ -15,13 +15,11 @@ use Rattle.parking_lot_core_lot.specs.Sound as lot
 use Rattle.parking_lot_core_lot.proofs.Kept.{updated_at}
 use Rattle.parking_lot_core_lot.proofs.Numbers.{count_by-lt}
 use Rattle.parking_lot_protocol.specs.declared.act.ActResult.TheVariants as seen
-use Rattle.parking_lot_protocol.specs.declared.act.Act.TheVariants as act
-use Rattle.parking_lot_protocol.specs.declared.act.SectionAct.TheVariants as section
-use Rattle.parking_lot_world.specs.declared.seat.Core.{Core}
 use Rattle.parking_lot_world.specs.declared.open_call.Call.{Call}
 use Rattle.parking_lot_world.specs.declared.seat.Wakeup.{Wakeup}
-use Rattle.parking_lot_world.specs.FrontTakings.{FrontTaken}
+use Rattle.parking_lot_world.specs.NextTakings.{NextTaken}
 use Rattle.parking_lot_world.specs.LotLaws.{IsInside}
+use Rattle.parking_lot_world.specs.Passes.{ArePassed, asks}
 use Rattle.parking_lot_world.specs.Machines.{IsTakenFrom, owes_to, takes_off_by}
 use Rattle.parking_lot_world.specs.Rows.{Rows, State, state, call_at}
 use Rattle.parking_lot_world.specs.RowActs.{hears, key_of, off_list}
@@ -29,7 +27,6 @@ use Rattle.parking_lot_world.specs.RowFits.{FitsTogether, LotFits, is_away, is_o
 use Rattle.parking_lot_world.specs.Stances.{In, Takes, stance, core_act}
 use Rattle.parking_lot_world.proofs.Calling.{slot}
 use Rattle.parking_lot_world.proofs.LotCalls.{lot_never_refuses}
-use Rattle.parking_lot_world.proofs.TakeActs.{late_scans, scans_first, scans_none}
 use Rattle.parking_lot_world.proofs.TakeLaws.{laws}
 
 module _ (s : State) (t : ℕ) (c : Call) (k : ℕ) (from : stance c.core ≡ In k Takes) where
@@ -37,16 +34,17 @@ module _ (s : State) (t : ℕ) (c : Call) (k : ℕ) (from : stance c.core ≡ In
   pub its : (h : LotFits s) (here : call_at s t ≡ Some c) → IsInside s t (key_of c k)
   its h here = lot_never_refuses.inside s t c k Takes h here from
 
-  pub passed_none : (h : LotFits s) (here : call_at s t ≡ Some c) (o : Section) → section_of s.lot t ≡ Some o → passed_of o.phase ≡ 0
-  passed_none h here o there =
-      let at = its h here in
-      subst (λ (x : Section). passed_of x.phase ≡ 0) (same_Some at.section o (sym at.own ∙ there)) (lot_never_refuses.passes s t c k at.section h here from at.there)
+  pub has_passed : (h : FitsTogether s) (here : call_at s t ≡ Some c) (o : Section) → section_of s.lot t ≡ Some o → ArePassed (asks (core_act c.core)) (s.lot.queues o.key) (passed_of o.phase)
+  has_passed h here o there =
+      let at = its h.lots here in
+      let same = same_Some at.section o (sym at.own ∙ there) in
+      subst (λ n. ArePassed (asks (core_act c.core)) (s.lot.queues n) (passed_of o.phase)) (sym (ap (λ (x : Section). x.key) (sym same) ∙ at.key)) (h.passes t c k o here from (at.there ∙ ap (λ (x : Section). Some x) same))
 
   pub same_key : (h : LotFits s) (here : call_at s t ≡ Some c) (o : Section) → section_of s.lot t ≡ Some o → o.key ≡ key_of c k
   same_key h here o there = let at = its h here in ap (λ (x : Section). x.key) (sym (same_Some at.section o (sym at.own ∙ there))) ∙ at.key
 
   -- whom it has taken is in a call, and there is room to note it
-  module _ (lot : Machine) (taking : Option Taking) (front : FrontTaken s.lot lot (Ok taking) (key_of c k)) where
+  module _ (lot : Machine) (taking : Option Taking) (next : NextTaken (asks (core_act c.core)) s.lot lot (Ok taking) (key_of c k)) where
     told : Option Taking → List Waiter → Call
     told x queue = hears c (seen.Took (option_map (λ (y : Taking). y.token) x) (is_left queue))
 
@@ -59,38 +57,39 @@ module _ (s : State) (t : ℕ) (c : Call) (k : ℕ) (from : stance c.core ≡ In
     same_taking : (x : Option Taking) → ok taking ≡ ok x → taking ≡ x
     same_taking x e = cc
 
-    pub is_taken : (calls : List (Option Call)) (next : Call) (wakes : List Wakeup) → calls ≡ option_map_or (takes_off_by t s.calls) taking s.calls
-        → next ≡ hears c (seen.Took (option_map (λ (y : Taking). y.token) taking) (is_left (lot.queues (key_of c k)))) → wakes ≡ option_map_or (owes_to t s.wakes) taking s.wakes
-        → IsTakenFrom t c s (record s { calls = slice_set calls t (Some next); wakes = wakes; lot = lot })
+    pub is_taken : (calls : List (Option Call)) (hearing : Call) (wakes : List Wakeup) → calls ≡ option_map_or (takes_off_by t s.calls) taking s.calls
+        → hearing ≡ hears c (seen.Took (option_map (λ (y : Taking). y.token) taking) (is_left (lot.queues (key_of c k)))) → wakes ≡ option_map_or (owes_to t s.wakes) taking s.wakes
+        → IsTakenFrom t c s (record s { calls = slice_set calls t (Some hearing); wakes = wakes; lot = lot })
     unfolding told full
-    is_taken calls next wakes others own owed =
+    is_taken calls hearing wakes others own owed =
         let made : List (Option Call) → Call → List Wakeup → State = λ cs n ws. record s { calls = slice_set cs t (Some n); wakes = ws; lot = lot } in
-        let here : made calls next wakes ≡ full taking (lot.queues (key_of c k)) lot =
-        ap (λ cs. made cs next wakes) others
+        let here : made calls hearing wakes ≡ full taking (lot.queues (key_of c k)) lot =
+        ap (λ cs. made cs hearing wakes) others
         ∙ ap (λ n. made (option_map_or (takes_off_by t s.calls) taking s.calls) n wakes) own
         ∙ ap (made (option_map_or (takes_off_by t s.calls) taking s.calls) (told taking (lot.queues (key_of c k)))) owed in (
           k,
           from,
-          elim front [
+          elim next [
             | inl f ↦ inl (
               f.0,
               f.1,
-              here ∙ ap (λ x. full x (lot.queues (key_of c k)) lot) (same_taking _ f.2)
-                  ∙ ap (λ (l : Machine). full (Some (taking_of s.lot f.0)) (l.queues (key_of c k)) l) f.3
-                  ∙ ap (λ q. full (Some (taking_of s.lot f.0)) q (taken (in_phase s.lot (phase.Taking 0)) (key_of c k) 0)) (updated_at s.lot.queues (key_of c k) (remove (s.lot.queues (key_of c k)) 0)),
+              f.2,
+              here ∙ ap (λ x. full x (lot.queues (key_of c k)) lot) (same_taking _ f.3)
+                  ∙ ap (λ (l : Machine). full (Some (taking_of s.lot f.1)) (l.queues (key_of c k)) l) f.4
+                  ∙ ap (λ q. full (Some (taking_of s.lot f.1)) q (taken (in_phase s.lot (phase.Taking f.0)) (key_of c k) f.0)) (updated_at s.lot.queues (key_of c k) (remove (s.lot.queues (key_of c k)) f.0)),
             )
             | inr f ↦ inr (f.0, here ∙ ap (λ x. full x (lot.queues (key_of c k)) lot) (same_taking None f.1) ∙ ap (λ (l : Machine). full None (l.queues (key_of c k)) l) f.2)
           ],
         )
 
     pub has_room : FitsTogether s → call_at s t ≡ Some c → (x : Taking) → taking ≡ Some x → (x.thread < length s.calls) × (length s.wakes < length s.calls)
-    has_room h here x is = elim front [
+    has_room h here x is = elim next [
       | inl f ↦
-          let w = lot_never_refuses.waiters s t c k 0 f.0 h.lots here from f.1 in
-          let there = slot s.calls f.0.thread w.call w.there in
-          let same : f.0.thread ≡ x.thread = ap (λ (y : Taking). y.thread) (same_Some (taking_of s.lot f.0) x (sym (same_taking _ f.2) ∙ is)) in (
-            subst (λ n. n < length s.calls) same (slice_get_within s.calls f.0.thread (Some w.call) there),
-            subst (λ n. n < length s.calls) (sym h.wakes.room) (count_by-lt is_away s.calls f.0.thread (Some w.call) there (ap is_off w.listed)),
+          let w = lot_never_refuses.waiters s t c k f.0 f.1 h.lots here from f.2.there in
+          let there = slot s.calls (f.1).thread w.call w.there in
+          let same : (f.1).thread ≡ x.thread = ap (λ (y : Taking). y.thread) (same_Some (taking_of s.lot f.1) x (sym (same_taking _ f.3) ∙ is)) in (
+            subst (λ n. n < length s.calls) same (slice_get_within s.calls (f.1).thread (Some w.call) there),
+            subst (λ n. n < length s.calls) (sym h.wakes.room) (count_by-lt is_away s.calls (f.1).thread (Some w.call) there (ap is_off w.listed)),
           )
       | inr f ↦ absurd (none-some x (sym (same_taking None f.1) ∙ is))
     ]
@@ -106,12 +105,6 @@ same_slots t calls (Some x) = length-set calls x.thread (option_map (off_list t)
 -- the machine fits after it
 pub takes_fit : (s : State) (t : ℕ) (c : Call) (u : State) → IsTakenFrom t c s u → lot.Sound u.lot → FitsTogether s → call_at s t ≡ Some c → FitsTogether u
 takes_fit s t c u x sound h here = elim x.2 [
-  | inl f ↦ subst FitsTogether (sym f.2) (laws.take s t c x.0 f.0 x.1 f.1 (subst lot.Sound (ap (λ (y : State). y.lot) f.2) sound) h here).1.fits
+  | inl f ↦ subst FitsTogether (sym f.3) (laws.take s t c x.0 f.0 f.1 x.1 f.2 (subst lot.Sound (ap (λ (y : State). y.lot) f.3) sound) h here).1.fits
   | inr f ↦ subst FitsTogether (sym f.1) (laws.take_nobody s t c x.0 x.1 f.0 (subst lot.Sound (ap (λ (y : State). y.lot) f.1) sound) h here).1.fits
 ]
-
--- a scan goes through the first list
-pub scan_key : (x : Core) (k sum : ℕ) → stance x ≡ In k Takes → core_act x ≡ act.Section (section.TakeNext sum) → k ≡ 0
-scan_key (Core.Rw y) k sum from asked = let e : In k Takes ≡ In 0 Takes = sym from ∙ scans_first y.phase k sum from asked in cc
-scan_key (Core.Mutex y) k sum from asked = absurd (scans_none y.phase k sum from asked)
-scan_key (Core.Late p) k sum from asked = absurd (late_scans p sum asked)

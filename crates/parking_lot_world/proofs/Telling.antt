@@ -1,6 +1,7 @@
 -- Stores that tell those whom a thread has taken: steps of the rules at a lock of either kind.
 use Rattle.std.proofs.Common.{◌≡◌, ◌≢◌, ℕ, zero, suc, arith, ◌-◌, ◌^◌, ◌+◌, ◌*◌, ◌<◌, inl, inr, cond, Bool, true, false, List, [], ◌∷◌, length, map, Option, Some, None, slice_get, slice_set, refl, sym, ap, ◌∙◌, subst}
 use Rattle.std.proofs.lemmas.Bool.{cases_eq}
+use Rattle.std.proofs.lemmas.List.{length-map}
 use Rattle.std.specs.Option.{option_map, option_and_then}
 use Rattle.std.specs.Prelude.{bit_and}
 use Rattle.parking_lot_core_lot.specs.Machine.{threads_of}
@@ -21,7 +22,7 @@ use Rattle.parking_lot_protocol.specs.declared.act.SectionAct.TheVariants as sec
 use Rattle.parking_lot_protocol.specs.declared.act.WordChange.{WordChange}
 use Rattle.parking_lot_protocol.specs.declared.mutex_core.MutexCore.{MutexCore}
 use Rattle.parking_lot_protocol.specs.declared.mutex_phase.MutexPhase.{MutexPhase}
-use Rattle.parking_lot_protocol.specs.declared.rw_core.RwCore.{RwCore}
+use Rattle.parking_lot_protocol.specs.declared.rw_phase.AfterWake.{AfterWake}
 use Rattle.parking_lot_protocol.specs.declared.rw_phase.RwPhase.{RwPhase}
 use Rattle.parking_lot_rules.specs.Plain.{Mask2}
 use Rattle.parking_lot_rules.specs.Steps.{settle, ends_saying}
@@ -31,17 +32,16 @@ use Rattle.parking_lot_world.specs.Kinds.{Manner, manner_of, recursive_in}
 use Rattle.parking_lot_world.specs.MutexLaws.{IsTelling}
 use Rattle.parking_lot_world.specs.RowActs.{settled_spot, settled, told_of}
 use Rattle.parking_lot_world.specs.RowFits.{FitsTogether, IsOfKind, IsPrepared, KnowsList, IsOfManner}
-use Rattle.parking_lot_world.specs.Rows.{State, word_at, call_at, hold_at, taken_by, mark_of, rw_spot, rw_lock_at, first_of_all, mutex_spot, mutex_word_of, mutex_at, queue_at}
-use Rattle.parking_lot_world.specs.RowSteps.{IsMutexMove}
-use Rattle.parking_lot_world.specs.RwLaws.{ending_of}
-use Rattle.parking_lot_world.specs.Stances.{Doing, In, Asleep, Stores, sign, late_act, mutex_stance, rw_stance, stance, taken_count, core_act, core_next, core_tells}
+use Rattle.parking_lot_world.specs.Rows.{State, word_at, call_at, hold_at, taken_by, mark_of, rw_lock_at, first_of_all, mutex_spot, mutex_word_of, mutex_at, queue_at}
+use Rattle.parking_lot_world.specs.RowSteps.{IsMutexMove, IsRwMove}
+use Rattle.parking_lot_world.specs.Stances.{Doing, In, Asleep, Stores, sign, late_act, mutex_stance, stance, taken_count, core_act, core_next, core_tells}
 use Rattle.parking_lot_world.specs.declared.open_call.Call.{Call}
 use Rattle.parking_lot_world.specs.declared.seat.LatePhase.{LatePhase}
 use Rattle.parking_lot_world.specs.declared.seat.Core.{Core}
 use Rattle.parking_lot_world.specs.declared.seat.QueuePosition.{QueuePosition}
 use Rattle.parking_lot_world.proofs.Acting.{word-here, has_word}
 use Rattle.parking_lot_world.proofs.Everybody.{all, get-all, settle-all}
-use Rattle.parking_lot_world.proofs.KindTable.{Plain, Late, MutexCall, mutex_plays, Kind, of_rws, of_mutexes, IsThere, role_at, role_now, roles_at, same, shown}
+use Rattle.parking_lot_world.proofs.KindTable.{Plain, Late, RwCall, Simple, Upgradable, mutex_plays, next_is, rw_call, rw_next, Kind, of_rws, of_mutexes, IsThere, role_at, role_now, roles_at, same, shown}
 use Rattle.parking_lot_world.proofs.Making.{made, mutex_goes, rw_goes}
 use Rattle.parking_lot_world.proofs.Meeting.{in_range, meets, plays, plays_late, rw_hears}
 use Rattle.parking_lot_world.proofs.MutexMoving.{steps}
@@ -49,9 +49,15 @@ use Rattle.parking_lot_world.proofs.MutexRoles.{roles}
 use Rattle.parking_lot_world.proofs.MutexTelling.{masks_call, tells_call}
 use Rattle.parking_lot_world.proofs.OwnActs.{two_kinds}
 use Rattle.parking_lot_world.proofs.Ruling.{Fitted}
-use Rattle.parking_lot_world.proofs.RwMoving.{makes_are_steps}
-use Rattle.parking_lot_world.proofs.RwTelling.{stores_tell}
-use Rattle.parking_lot_world.proofs.RwWaking.{stores_are_steps, tokens_say}
+use Rattle.parking_lot_world.proofs.RwCalls.{as_move, call_makes, call_move, call_role}
+use Rattle.parking_lot_world.proofs.RwScans.{call_masks, call_stores}
+use Rattle.parking_lot_world.proofs.RwTells.{call_kept_here, call_told_here}
+use Rattle.parking_lot_world.proofs.Stancing.{leads_by}
+use Rattle.parking_lot_world.proofs.TakeParts.{awake_listed}
+use Rattle.parking_lot_world.specs.Passes.{ArePassed, look_by}
+use Rattle.parking_lot_rules.specs.Steps.{AreSkipped}
+use Rattle.parking_lot_world.proofs.RwTaking.{scans_go_by_tokens}
+use Rattle.parking_lot_world.proofs.Wanting.{want_as_told}
 use Rattle.parking_lot_world.proofs.Settling.{told_state, next_call, told_here, told_others, told_threads, told_elsewhere}
 
 -- a store crosses no section
@@ -145,30 +151,30 @@ module _ (s : State) (t : ℕ) (c : Call) (plain fair : WordChange) (is_fair : B
   there : IsThere c.lock (call_at s t)
   there = subst (IsThere c.lock) (sym here) refl
 
-  store_rw : (q : RwPhase) (y : RwCore) → c.core ≡ Core.Rw (record y { phase = q }) → of_rw_table.act_of q ≡ Act.Section (section.Store plain fair) → (key : ℕ) → rw_stance q ≡ In key Stores → Fitted s next t c heard (Core.Rw (record y { phase = q }))
-  store_rw (RwPhase.ClearWriterParked rest has) y e asks key is = absurd (none_stored asks)
-    where
-      none_stored : {n : ℕ} → Act.FetchAnd n ≡ Act.Section (section.Store plain fair) → ⊥
-      none_stored e = cc
-  store_rw (RwPhase.Stores a left) y e asks key is =
-      let z : RwCore = record y { phase = RwPhase.Stores a left } in
-      let kind_is = subst (IsOfKind (slice_get s.kinds c.lock)) e (h.rules.kinds t c here) in
-      let met = meets s h t c z e here in
-      let knows = subst (λ (x : Core). KnowsList x s.lot.queues c.lock) e (h.rules.knows t c here) in
-      let says : mark_of (told_of token) ≡ ends_saying (ending_of a is_fair) = ap (λ (x : Core). mark_of (told_of (core_tells (core_next x heard)))) e ∙ tokens_say a left is_fair in
-      let well = rw_hears s h t c z e here heard tt s.lot.queues tt in (
-        rw_goes s next t c.lock (of_rw.move c.others taken (RwPhase.Stores a left) heard) _ there (told_elsewhere s t c heard token word h here) kind_is
-            (of_rw.scan_of c.others a taken, stores_are_steps (recursive_in s.kinds c.lock) (rw_lock_at s c.lock) t c.others (rw_spot c.spot) taken a left (word_at s c.lock) is_fair met (left_threads (s.lot.queues (2 * c.lock)) ∙ knows.1) knows.2)
-            (told_after of_rws s t c heard token word h here z (record z { phase = of_rw_table.next_phase (RwPhase.Stores a left) heard }) e (ap (λ (x : Core). core_next x heard) e) (λ at park w. in_asleep w) (settle (ends_saying (ending_of a is_fair))) (λ o. refl)
-            (λ x n at vs p there_is. subst (λ v. of_rw.role n (rw_spot (settled_spot t (told_of token) at)) vs p.phase ≡ settle v (of_rw.role n (rw_spot at) vs p.phase)) says
-            (stores_tell.here (rw_lock_at s c.lock) t x n at vs p.phase (of_rw.scan_of c.others a taken) (told_of token) met.sound met.here there_is))
-            (word_after (of_rw_table.act_of (RwPhase.Stores a left)) heard (word_at s c.lock)) (ap (λ (x : Act). word_after x heard (word_at s c.lock)) (sym asks)))
-            (inside_stored token s.lot.section),
+  store_rw : (y : RwCall) → c.core ≡ rw_call y → core_act (rw_call y) ≡ Act.Section (section.Store plain fair) → (key : ℕ) → stance (rw_call y) ≡ In key Stores → Fitted s next t c heard (rw_call y)
+  store_rw y e asks key is =
+      let l = rw_lock_at s c.lock in
+      let kind_is = of_rws.of_kind (slice_get s.kinds c.lock) y (subst (IsOfKind (slice_get s.kinds c.lock)) e (h.rules.kinds t c here)) in
+      let met = meets s h t c y e here in
+      let ready = subst (IsPrepared (recursive_in s.kinds c.lock) c.others) e (h.rules.prepared t c here) in
+      let listed = awake_listed s h t c here (λ at park w. in_asleep (sym is ∙ ap stance (sym e) ∙ w)) in
+      let skips = λ (u w : Bool) (passed : ArePassed (look_by u w) (s.lot.queues (2 * c.lock)) (length (s.lot.queues (2 * c.lock)))).
+      subst (AreSkipped u w l.roles l.first) (sym (length-map (s.lot.queues (2 * c.lock)) (λ (w : Waiter). w.thread))) (scans_go_by_tokens.skips l u w (s.lot.queues (2 * c.lock)) (length (s.lot.queues (2 * c.lock))) refl (want_as_told s h c.lock kind_is) passed) in
+      let z = call_stores (recursive_in s.kinds c.lock) l t c.others c.spot taken y (word_at s c.lock) is_fair plain fair key c.lock s.lot.queues met ready listed is asks (left_threads (s.lot.queues (2 * c.lock))) skips (subst (λ (x : Core). KnowsList x s.lot.queues c.lock) e (h.rules.knows t c here)) in
+      let says : mark_of (told_of token) ≡ ends_saying z.end = ap (λ (x : Core). mark_of (told_of (core_tells (core_next x heard)))) e ∙ z.says in
+      let tells = leads_by (rw_call y) (Act.Section (section.Store plain fair)) (word_at s c.lock) heard asks tt in
+      let well = rw_hears s h t c y e here heard z.told tt s.lot.queues (z.learns (s.lot.queues (2 * c.lock)) (s.lot.queues (2 * c.lock + 1))) in (
+        as_move y c.others taken heard c.lock t s next
+            (subst (λ m. IsRwMove m c.lock t s next) (sym z.move)
+            (rw_goes s next t c.lock (of_rw.Tells z.end z.left) _ there (told_elsewhere s t c heard token word h here) kind_is (z.scan, z.step)
+            (told_after of_rws s t c heard token word h here y (rw_next y heard) e (ap (λ (x : Core). core_next x heard) e ∙ next_is y heard) (λ at park w. in_asleep (sym tells.2 ∙ ap stance (next_is y heard) ∙ w)) (settle (ends_saying z.end)) (λ o. refl)
+            (λ x n at vs p there_is. subst (λ v. call_role n (settled_spot t (told_of token) at) vs p ≡ settle v (call_role n at vs p)) says (call_told_here l t x n at vs z.scan (told_of token) met.sound z.mine p there_is))
+            (word_after (core_act (rw_call y)) heard (word_at s c.lock)) (ap (λ (x : Act). word_after x heard (word_at s c.lock)) (sym asks)))
+            (inside_stored token s.lot.section))),
         well.0,
         well.1,
         λ x. absurd (two_kinds (sym kind_is ∙ x)),
       )
-  store_rw q y e asks key is = absurd cc
 
   store_mutex : (q : MutexPhase) (y : MutexCore) → c.core ≡ Core.Mutex (record y { phase = q }) → of_mutex_table.act_of q ≡ Act.Section (section.Store plain fair) → (key : ℕ) → mutex_stance q ≡ In key Stores → Fitted s next t c heard (Core.Mutex (record y { phase = q }))
   store_mutex (MutexPhase.Stores giving has left) y e asks key is =
@@ -198,7 +204,8 @@ module _ (s : State) (t : ℕ) (c : Call) (plain fair : WordChange) (is_fair : B
   store_fits key from = go c.core refl
     where
       go : (x : Core) → c.core ≡ x → Fitted s next t c heard x
-      go (Core.Rw y) e = store_rw y.phase y e (ap core_act (sym e) ∙ asked) key (ap stance (sym e) ∙ from)
+      go (Core.Rw y) e = store_rw (Simple y) e (ap core_act (sym e) ∙ asked) key (ap stance (sym e) ∙ from)
+      go (Core.Upgrade y) e = store_rw (Upgradable y) e (ap core_act (sym e) ∙ asked) key (ap stance (sym e) ∙ from)
       go (Core.Late p) e = absurd (late_stores p (ap core_act (sym e) ∙ asked))
       go (Core.Mutex y) e = store_mutex y.phase y e (ap core_act (sym e) ∙ asked) key (ap stance (sym e) ∙ from)
 
@@ -211,31 +218,31 @@ module _ (s : State) (t : ℕ) (c : Call) (keep : ℕ) (asked : core_act c.core 
   abbrev mask_then : State
   mask_then = told_state s t c before (sign false) (bit_and (word_at s c.lock) keep)
 
-  mask_rw : (q : RwPhase) (y : RwCore) → c.core ≡ Core.Rw (record y { phase = q }) → of_rw_table.act_of q ≡ Act.FetchAnd keep → (key : ℕ) → rw_stance q ≡ In key Stores → Fitted s mask_then t c before (Core.Rw (record y { phase = q }))
-  mask_rw (RwPhase.ClearWriterParked rest has) y e asks key is =
-      let q : RwPhase = RwPhase.ClearWriterParked rest has in
-      let z : RwCore = record y { phase = q } in
+  mask_reader : (rest : AfterWake) (has : Bool) → c.core ≡ Core.Rw (record { phase = RwPhase.ClearWriterParked rest has }) → Fitted s mask_then t c before (Core.Rw (record { phase = RwPhase.ClearWriterParked rest has }))
+  mask_reader rest has e =
+      let asks : of_rw_table.act_of (RwPhase.ClearWriterParked rest has) ≡ Act.FetchAnd keep = ap core_act (sym e) ∙ asked in
+      let z : RwCall = Simple (record { phase = RwPhase.ClearWriterParked rest has }) in
       let us = taken_by s.wakes t in
       let l = rw_lock_at s c.lock in
       let kind_is = subst (IsOfKind (slice_get s.kinds c.lock)) e (h.rules.kinds t c here) in
       let met = meets s h t c z e here in
-      let well = rw_hears s h t c z e here before refl s.lot.queues tt in (
-        rw_goes s mask_then t c.lock (of_rw.move c.others us q before) _ (subst (IsThere c.lock) (sym here) refl) (told_elsewhere s t c before (sign false) (bit_and (word_at s c.lock) keep) h here) kind_is
-            (makes_are_steps (recursive_in s.kinds c.lock) l t c.others (rw_spot c.spot) us q (word_at s c.lock) before (Mask2 c.others us) met refl refl (ap threads_of (subst (λ (x : Core). KnowsList x s.lot.queues c.lock) e (h.rules.knows t c here))))
-            (told_after of_rws s t c before (sign false) (bit_and (word_at s c.lock) keep) h here z (record z { phase = of_rw_table.next_phase q before }) e (ap (λ (x : Core). core_next x before) e) (λ at park w. in_asleep w) (λ x. x) (λ o. refl)
-            (λ x n at vs p there_is. stores_tell.elsewhere l t x n at vs p.phase (of_rw.role c.others (rw_spot c.spot) us q) (told_of (sign false)) met.sound met.here refl there_is)
-            (word_after (of_rw_table.act_of q) before (word_at s c.lock)) (ap (λ (x : Act). word_after x before (word_at s c.lock)) (sym asks))
-            ∙ same of_rws _ _ _ _ _ _ _ _ refl (ap (λ rs. slice_set rs t (of_rw.role c.others of_rw.Listed us (of_rw_table.next_phase q before))) (map_none l.roles)) refl refl)
+      let well = rw_hears s h t c z e here before refl tt s.lot.queues tt in (
+        rw_goes s mask_then t c.lock (call_move c.others us z before) _ (subst (IsThere c.lock) (sym here) refl) (told_elsewhere s t c before (sign false) (bit_and (word_at s c.lock) keep) h here) kind_is
+            (call_makes (recursive_in s.kinds c.lock) l t c.others c.spot us z (word_at s c.lock) before (Mask2 c.others us) met refl refl (ap threads_of (subst (λ (x : Core). KnowsList x s.lot.queues c.lock) e (h.rules.knows t c here))))
+            (told_after of_rws s t c before (sign false) (bit_and (word_at s c.lock) keep) h here z (rw_next z before) e (ap (λ (x : Core). core_next x before) e) (λ at park w. in_asleep w) (λ x. x) (λ o. refl)
+            (λ x n at vs p there_is. call_kept_here l t x n at vs (call_role c.others c.spot us z) (told_of (sign false)) met.sound met.here refl p there_is)
+            (word_after (core_act (rw_call z)) before (word_at s c.lock)) (ap (λ (x : Act). word_after x before (word_at s c.lock)) (sym asks))
+            ∙ same of_rws _ _ _ _ _ _ _ _ refl (ap (λ rs. slice_set rs t (call_role c.others QueuePosition.Listed us (rw_next z before))) (map_none l.roles)) refl refl)
             (inside_stored (sign false) s.lot.section),
         well.0,
         well.1,
         λ x. absurd (two_kinds (sym kind_is ∙ x)),
       )
-  mask_rw (RwPhase.Stores a left) y e asks key is = absurd (none_masked asks)
-    where
-      none_masked : {x w : WordChange} → Act.Section (section.Store x w) ≡ Act.FetchAnd keep → ⊥
-      none_masked e = cc
-  mask_rw q y e asks key is = absurd cc
+
+  mask_rw : (y : RwCall) → c.core ≡ rw_call y → Fitted s mask_then t c before (rw_call y)
+  mask_rw y e =
+      let z = call_masks (recursive_in s.kinds c.lock) c.others keep y (subst (IsPrepared (recursive_in s.kinds c.lock) c.others) e (h.rules.prepared t c here)) (ap core_act (sym e) ∙ asked) in
+      subst (λ (q : RwCall). Fitted s mask_then t c before (rw_call q)) (sym z.2) (mask_reader z.0 z.1 (e ∙ ap rw_call z.2))
 
   mask_mutex : (q : MutexPhase) → of_mutex_table.act_of q ≡ Act.FetchAnd keep → (key : ℕ) → mutex_stance q ≡ In key Stores → ⊥
   mask_mutex (MutexPhase.Stores giving has left) asks key is = cc
@@ -271,6 +278,7 @@ module _ (s : State) (t : ℕ) (c : Call) (keep : ℕ) (asked : core_act c.core 
   mask_fits key from = go c.core refl
     where
       go : (x : Core) → c.core ≡ x → Fitted s mask_then t c before x
-      go (Core.Rw y) e = mask_rw y.phase y e (ap core_act (sym e) ∙ asked) key (ap stance (sym e) ∙ from)
+      go (Core.Rw y) e = mask_rw (Simple y) e
+      go (Core.Upgrade y) e = mask_rw (Upgradable y) e
       go (Core.Late p) e = mask_late p e (ap core_act (sym e) ∙ asked)
       go (Core.Mutex y) e = absurd (mask_mutex y.phase (ap core_act (sym e) ∙ asked) key (ap stance (sym e) ∙ from))

@@ -9,6 +9,9 @@ use Rattle.parking_lot_rules.specs.Roles.{Idle, Role}
 use Rattle.parking_lot_rules.specs.Debts as rw_debts
 use Rattle.parking_lot_rules.specs.Mutex as mutex
 use Rattle.parking_lot_rules.specs.MutexDebts as mutex_debts
+use Rattle.parking_lot_world.specs.CallViews.{IsInOrder}
+use Rattle.parking_lot_world.specs.Kinds.{recursive_in}
+use Rattle.parking_lot_world.specs.RowFits.{IsPrepared}
 use Rattle.parking_lot_world.specs.declared.calls.LockKind.{LockKind}
 use Rattle.parking_lot_world.specs.declared.seat.Hold.{Hold}
 use Rattle.parking_lot_world.specs.declared.seat.Core.{Core}
@@ -18,31 +21,36 @@ use Rattle.parking_lot_world.specs.RowFits.{FitsTogether, IsOfKind}
 use Rattle.parking_lot_world.specs.CallViews.{call_in_debt, call_looks, call_mode, core_in_debt, core_mode, mutex_mode, rw_mode}
 use Rattle.parking_lot_world.specs.Worlds.{hold_mode, in_debt_at, is_indebted, mode_in}
 use Rattle.parking_lot_world.proofs.Everybody.{get-all, past}
-use Rattle.parking_lot_world.proofs.KindTable.{Plain, Late, Kind, of_mutexes, of_rws, in_its_place}
+use Rattle.parking_lot_world.proofs.KindTable.{Simple, Upgradable, Plain, Late, Kind, of_mutexes, of_rws, in_its_place}
 use Rattle.parking_lot_world.proofs.Meeting.{in_range}
 
 -- one that is in no call at the lock owns what it holds
 idle_rw : (h : Hold) → rw_mode (record { owns = owned_of h; does = Idle }) ≡ hold_mode (Some LockKind.Rw) h
 idle_rw Hold.Excludes = refl
+idle_rw Hold.Upgrades = refl
 idle_rw (Hold.Shares zero) = refl
 idle_rw (Hold.Shares (suc n)) = refl
 
 idle_recursive : (h : Hold) → rw_mode (record { owns = owned_of h; does = Idle }) ≡ hold_mode (Some LockKind.RwRecursive) h
 idle_recursive Hold.Excludes = refl
+idle_recursive Hold.Upgrades = refl
 idle_recursive (Hold.Shares zero) = refl
 idle_recursive (Hold.Shares (suc n)) = refl
 
 idle_nowhere : (h : Hold) → rw_mode (record { owns = owned_of h; does = Idle }) ≡ hold_mode None h
 idle_nowhere Hold.Excludes = refl
+idle_nowhere Hold.Upgrades = refl
 idle_nowhere (Hold.Shares zero) = refl
 idle_nowhere (Hold.Shares (suc n)) = refl
 
 idle_mutex : (h : Hold) → mutex_mode (record { owns = owns_mutex h; does = mutex.Idle }) ≡ hold_mode (Some LockKind.Mutex) h
 idle_mutex Hold.Excludes = refl
+idle_mutex Hold.Upgrades = refl
 idle_mutex (Hold.Shares n) = refl
 
 idle_fair : (h : Hold) → mutex_mode (record { owns = owns_mutex h; does = mutex.Idle }) ≡ hold_mode (Some LockKind.FairMutex) h
 idle_fair Hold.Excludes = refl
+idle_fair Hold.Upgrades = refl
 idle_fair (Hold.Shares n) = refl
 
 -- the thread is in no call at lock i
@@ -105,7 +113,8 @@ module _ (s : State) (t : ℕ) where
     call_owns = go c.core refl (fit.rules.kinds t c there)
       where
         go : (k : Core) → c.core ≡ k → IsOfKind (slice_get s.kinds c.lock) k → mode_in (lock_at s c.lock) t ≡ call_mode (taken_by s.wakes t) c
-        go (Core.Rw r) e of = ap (λ x. mode_in (lock_as x s c.lock) t) of ∙ ap (option_and_then rw_mode) (in_its_place of_rws s t c r (in_range s t c there) there e) ∙ sym (ap (core_mode c.others c.spot (taken_by s.wakes t)) e)
+        go (Core.Rw r) e of = ap (λ x. mode_in (lock_as x s c.lock) t) of ∙ ap (option_and_then rw_mode) (in_its_place of_rws s t c (Simple r) (in_range s t c there) there e) ∙ sym (ap (core_mode c.others c.spot (taken_by s.wakes t)) e)
+        go (Core.Upgrade r) e of = ap (λ x. mode_in (lock_as x s c.lock) t) of ∙ ap (option_and_then rw_mode) (in_its_place of_rws s t c (Upgradable r) (in_range s t c there) there e) ∙ sym (ap (core_mode c.others c.spot (taken_by s.wakes t)) e)
         go (Core.Mutex m) e of = ap (λ x. mode_in (lock_as x s c.lock) t) of ∙ ap (option_and_then mutex_mode) (in_its_place of_mutexes s t c (Plain m) (in_range s t c there) there e) ∙ sym (ap (core_mode c.others c.spot (taken_by s.wakes t)) e)
         go (Core.Late m) e of = ap (λ x. mode_in (lock_as x s c.lock) t) of ∙ ap (option_and_then mutex_mode) (in_its_place of_mutexes s t c (Late m) (in_range s t c there) there e) ∙ sym (ap (core_mode c.others c.spot (taken_by s.wakes t)) e)
 
@@ -114,7 +123,9 @@ module _ (s : State) (t : ℕ) where
       where
         go : (k : Core) → c.core ≡ k → IsOfKind (slice_get s.kinds c.lock) k → in_debt_at (lock_at s c.lock) t ≡ call_in_debt (taken_by s.wakes t) c
         go (Core.Rw r) e of =
-            ap (λ x. in_debt_at (lock_as x s c.lock) t) of ∙ ap (λ o. option_map_or (λ (x : Role). rw_debts.is_in_debt x.does) o false) (in_its_place of_rws s t c r (in_range s t c there) there e) ∙ sym (ap (core_in_debt c.others c.spot (taken_by s.wakes t)) e)
+            ap (λ x. in_debt_at (lock_as x s c.lock) t) of ∙ ap (λ o. option_map_or (λ (x : Role). rw_debts.is_in_debt x.does) o false) (in_its_place of_rws s t c (Simple r) (in_range s t c there) there e) ∙ sym (ap (core_in_debt c.others c.spot (taken_by s.wakes t)) e)
+        go (Core.Upgrade r) e of =
+            ap (λ x. in_debt_at (lock_as x s c.lock) t) of ∙ ap (λ o. option_map_or (λ (x : Role). rw_debts.is_in_debt x.does) o false) (in_its_place of_rws s t c (Upgradable r) (in_range s t c there) there e) ∙ sym (ap (core_in_debt c.others c.spot (taken_by s.wakes t)) e)
         go (Core.Mutex m) e of =
             ap (λ x. in_debt_at (lock_as x s c.lock) t) of ∙ ap (λ o. option_map_or (λ (x : mutex.Role). mutex_debts.is_in_debt x.does) o false) (in_its_place of_mutexes s t c (Plain m) (in_range s t c there) there e) ∙ sym (ap (core_in_debt c.others c.spot (taken_by s.wakes t)) e)
         go (Core.Late m) e of =
@@ -122,3 +133,13 @@ module _ (s : State) (t : ℕ) where
 
     pub owing : is_indebted s t ≡ (call_looks c.core || call_in_debt (taken_by s.wakes t) c)
     owing = ap (λ o. option_map_or (λ (d : Call). call_looks d.core || in_debt_at (lock_at s d.lock) t) o false) there ∙ ap (λ b. call_looks c.core || b) call_owes
+
+-- a call that a machine runs is in order
+pub in_order : (s : State) → FitsTogether s → (t : ℕ) (c : Call) → call_at s t ≡ Some c → IsInOrder c.core
+in_order s h t c here = of_core c.core (h.rules.prepared t c here)
+  where
+    of_core : (x : Core) → IsPrepared (recursive_in s.kinds c.lock) c.others x → IsInOrder x
+    of_core (Core.Upgrade k) p = (p.1, p.2)
+    of_core (Core.Rw k) p = tt
+    of_core (Core.Mutex k) p = tt
+    of_core (Core.Late k) p = tt

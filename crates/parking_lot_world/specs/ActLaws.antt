@@ -8,6 +8,7 @@ use Rattle.parking_lot_protocol.specs.declared.act.ActResult.TheVariants as seen
 use Rattle.parking_lot_protocol.specs.declared.act.CoreAnswer.{CoreAnswer}
 use Rattle.parking_lot_protocol.specs.MutexRules as of_mutex
 use Rattle.parking_lot_protocol.specs.RwRules as of_rw
+use Rattle.parking_lot_upgrades.specs.UpgradeRoles as of_upgrade
 use Rattle.parking_lot_world.specs.declared.seat.Hold.{Hold}
 use Rattle.parking_lot_world.specs.declared.seat.QueuePosition.TheVariants as spot
 use Rattle.parking_lot_world.specs.declared.seat.Core.{Core}
@@ -15,9 +16,9 @@ use Rattle.parking_lot_world.specs.declared.seat.Core.TheVariants as core
 use Rattle.parking_lot_world.specs.declared.open_call.Call.{Call}
 use Rattle.parking_lot_world.specs.Kinds.{recursive_in}
 use Rattle.parking_lot_world.specs.Rows.{State, call_at, hold_at, owned_of, owns_mutex}
-use Rattle.parking_lot_world.specs.Stances.{core_act, rw_begun, mutex_begun}
+use Rattle.parking_lot_world.specs.Stances.{core_act, rw_begun, mutex_begun, upgrade_begun}
 use Rattle.parking_lot_world.specs.RowActs.{loaded, exchanged, added, spun, entered, checked, left, begun, answered}
-use Rattle.parking_lot_world.specs.RowFits.{FitsTogether, IsOfKind}
+use Rattle.parking_lot_world.specs.RowFits.{FitsTogether, IsOfKind, upgrade_begins}
 use Rattle.parking_lot_world.specs.RwLaws.{rw_begins}
 use Rattle.parking_lot_world.specs.RowSteps.{Goes, GoesAway}
 
@@ -36,6 +37,7 @@ abbrev pub OwnsFor : Bool → Hold → ℕ → Core → Type 0
 OwnsFor recursive x n (core.Rw k) = (rw_begun k.phase ≡ false) × rw_begins recursive n k.phase × (owned_of x ≡ of_rw.owns n k.phase)
 OwnsFor recursive x n (core.Mutex k) = (mutex_begun k.phase ≡ false) × (n ≡ 0) × (owns_mutex x ≡ of_mutex.owns k.phase)
 OwnsFor recursive x n (core.Late p) = ⊥
+OwnsFor recursive x n (core.Upgrade k) = (upgrade_begun k.phase ≡ false) × upgrade_begins k.phase × (n ≡ 0) × (owned_of x ≡ of_upgrade.owns n k.phase)
 
 pub record MayBegin (s : State) (t : ℕ) (c : Call) : Type 0 where
   pub low : t < length s.calls

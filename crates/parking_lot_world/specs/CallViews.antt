@@ -13,9 +13,17 @@ use Rattle.parking_lot_protocol.specs.declared.mutex_phase.MutexPhase.{MutexPhas
 use Rattle.parking_lot_protocol.specs.declared.mutex_phase.MutexPhase.TheVariants as m
 use Rattle.parking_lot_protocol.specs.declared.rw_phase.RwPhase.{RwPhase}
 use Rattle.parking_lot_protocol.specs.declared.rw_phase.RwPhase.TheVariants as r
+use Rattle.parking_lot_upgrades.specs.declared.upgrade_phase.UpgradePhase.{UpgradePhase}
+use Rattle.parking_lot_upgrades.specs.declared.upgrade_phase.UpgradePhase.TheVariants as u
+use Rattle.parking_lot_upgrades.specs.UpgradeRules as of_upgrade
+use Rattle.parking_lot_world.specs.RowFits.{IsOfWorld}
 use Rattle.parking_lot_world.specs.declared.calls.OwnMode.{OwnMode}
 use Rattle.parking_lot_world.specs.declared.calls.OwnMode.TheVariants as mode
+use Rattle.parking_lot_upgrades.specs.declared.upgrade_phase.Hold as up
+use Rattle.parking_lot_upgrades.specs.declared.upgrade_phase.Hold.TheVariants as up_hold
 use Rattle.parking_lot_world.specs.declared.seat.QueuePosition.{QueuePosition}
+use Rattle.parking_lot_world.specs.declared.seat.QueuePosition.TheVariants as spot
+use Rattle.parking_lot_world.specs.declared.seat.WakeResult.TheVariants as told
 use Rattle.parking_lot_world.specs.declared.seat.Core.{Core}
 use Rattle.parking_lot_world.specs.declared.seat.Core.TheVariants as core
 use Rattle.parking_lot_world.specs.declared.open_call.Call.{Call}
@@ -64,16 +72,19 @@ abbrev pub core_mode : ℕ → QueuePosition → List ℕ → Core → Option Ow
 core_mode n at us (core.Mutex c) = mutex_mode (mutex_core_role at us (core.Mutex c))
 core_mode n at us (core.Rw c) = rw_mode (rw_core_role n at us (core.Rw c))
 core_mode n at us (core.Late p) = mutex_mode (mutex_core_role at us (core.Late p))
+core_mode n at us (core.Upgrade c) = rw_mode (rw_core_role n at us (core.Upgrade c))
 
 abbrev pub core_in_debt : ℕ → QueuePosition → List ℕ → Core → Bool
 core_in_debt n at us (core.Mutex c) = mutex_debts.is_in_debt (mutex_core_role at us (core.Mutex c)).does
 core_in_debt n at us (core.Rw c) = rw_debts.is_in_debt (rw_core_role n at us (core.Rw c)).does
 core_in_debt n at us (core.Late p) = mutex_debts.is_in_debt (mutex_core_role at us (core.Late p)).does
+core_in_debt n at us (core.Upgrade c) = rw_debts.is_in_debt (rw_core_role n at us (core.Upgrade c)).does
 
 abbrev pub core_asleep : ℕ → QueuePosition → List ℕ → Core → Bool
 core_asleep n at us (core.Mutex c) = of_mutex.is_asleep (mutex_core_role at us (core.Mutex c)).does
 core_asleep n at us (core.Rw c) = of_rw.is_asleep (rw_core_role n at us (core.Rw c)).does
 core_asleep n at us (core.Late p) = of_mutex.is_asleep (mutex_core_role at us (core.Late p)).does
+core_asleep n at us (core.Upgrade c) = of_rw.is_asleep (rw_core_role n at us (core.Upgrade c)).does
 
 abbrev pub call_mode : List ℕ → Call → Option OwnMode
 call_mode us c = core_mode c.others c.spot us c.core
@@ -93,7 +104,76 @@ abbrev pub rw_looks : RwPhase → Bool
 rw_looks (r.LooksExclusive fair rest) = true
 rw_looks phase = false
 
+-- HOW AN UPGRADABLE CALL OWNS ITS LOCK
+
+abbrev pub kept_mode : up.Hold → Option OwnMode
+kept_mode up_hold.Nothing = None
+kept_mode up_hold.Shared = Some mode.Shared
+kept_mode up_hold.Upgradable = Some mode.Upgradable
+kept_mode up_hold.Exclusive = Some mode.Exclusive
+
+-- one that sleeps and was handed the hold, or not
+abbrev pub seeker_mode : QueuePosition → RwPhase → Option OwnMode
+seeker_mode (spot.Off by told.HandedOver) (r.Sleeps want) = Some mode.Upgradable
+seeker_mode at phase = None
+
+abbrev pub drainer_mode : RwPhase → Option OwnMode
+drainer_mode (r.Ends outcome) = Some mode.Exclusive
+drainer_mode phase = Some mode.Pending
+
+abbrev pub freer_mode : RwPhase → Option OwnMode
+freer_mode (r.LooksExclusive fair rest) = Some mode.Upgradable
+freer_mode (r.Scans s) = Some mode.Upgradable
+freer_mode (r.Stores s left) = Some mode.Upgradable
+freer_mode phase = None
+
+abbrev pub upgrade_mode : QueuePosition → UpgradePhase → Option OwnMode
+upgrade_mode at (u.Seeks core) = seeker_mode at core.phase
+upgrade_mode at (u.Drains core) = drainer_mode core.phase
+upgrade_mode at (u.Frees release core) = freer_mode core.phase
+upgrade_mode at (u.Owes kept answer core) = kept_mode kept
+upgrade_mode at (u.Ends kept answer) = kept_mode kept
+upgrade_mode at (u.Unlocking release) = Some mode.Upgradable
+upgrade_mode at u.Bumping = Some mode.Upgradable
+upgrade_mode at u.Upgrading = Some mode.Upgradable
+upgrade_mode at u.TryingToUpgrade = Some mode.Upgradable
+upgrade_mode at u.DowngradingToShared = Some mode.Upgradable
+upgrade_mode at u.Upgrades = Some mode.Upgradable
+upgrade_mode at u.TryUpgradeLoads = Some mode.Upgradable
+upgrade_mode at (u.TryUpgrades word left) = Some mode.Upgradable
+upgrade_mode at u.BumpLoads = Some mode.Upgradable
+upgrade_mode at u.ToShared = Some mode.Upgradable
+upgrade_mode at (u.UnlockLoads release) = Some mode.Upgradable
+upgrade_mode at (u.Unlocks release word) = Some mode.Upgradable
+upgrade_mode at u.DowngradingToUpgradable = Some mode.Exclusive
+upgrade_mode at u.ToUpgradable = Some mode.Exclusive
+upgrade_mode at phase = None
+
+-- and whether it sleeps
+abbrev pub rw_asleep : RwPhase → Bool
+rw_asleep (r.Sleeps want) = true
+rw_asleep (r.DrainSleeps rounds) = true
+rw_asleep phase = false
+
+abbrev pub upgrade_asleep : UpgradePhase → Bool
+upgrade_asleep (u.Plain core) = rw_asleep core.phase
+upgrade_asleep (u.Seeks core) = rw_asleep core.phase
+upgrade_asleep (u.Drains core) = rw_asleep core.phase
+upgrade_asleep (u.Frees release core) = rw_asleep core.phase
+upgrade_asleep (u.Owes kept answer core) = rw_asleep core.phase
+upgrade_asleep phase = false
+
+abbrev pub upgrade_looks : UpgradePhase → Bool
+upgrade_looks (u.Frees release core) = rw_looks core.phase
+upgrade_looks phase = false
+
+-- What is said of an upgradable call is said of one that is ready, as each is that a machine runs.
+abbrev pub IsInOrder : Core → Type 0
+IsInOrder (core.Upgrade c) = of_upgrade.IsReady c.phase × IsOfWorld c.phase
+IsInOrder k = Unit {0}
+
 abbrev pub call_looks : Core → Bool
 call_looks (core.Mutex c) = mutex_looks c.phase
 call_looks (core.Rw c) = rw_looks c.phase
 call_looks (core.Late p) = false
+call_looks (core.Upgrade c) = upgrade_looks c.phase

@@ -19,6 +19,13 @@ manner_for call.Write = AsRw
 manner_for call.TryWrite = AsRw
 manner_for call.UnlockWrite = AsRw
 manner_for call.Downgrade = AsRw
+manner_for call.UpgradableRead = AsRw
+manner_for call.TryUpgradableRead = AsRw
+manner_for call.UnlockUpgradable = AsRw
+manner_for call.Upgrade = AsRw
+manner_for call.TryUpgrade = AsRw
+manner_for call.DowngradeToUpgradable = AsRw
+manner_for call.DowngradeUpgradable = AsRw
 
 -- whether a lock of a kind can be asked so
 abbrev pub takes : Option LockKind → LockCall → Bool
@@ -37,6 +44,13 @@ given_up call.Write = None
 given_up call.TryWrite = None
 given_up call.UnlockWrite = Some mode.Exclusive
 given_up call.Downgrade = Some mode.Exclusive
+given_up call.UpgradableRead = None
+given_up call.TryUpgradableRead = None
+given_up call.UnlockUpgradable = Some mode.Upgradable
+given_up call.Upgrade = Some mode.Upgradable
+given_up call.TryUpgrade = Some mode.Upgradable
+given_up call.DowngradeToUpgradable = Some mode.Exclusive
+given_up call.DowngradeUpgradable = Some mode.Upgradable
 
 -- whether its moment may pass as it sleeps
 abbrev pub is_timed : LockCall → Bool

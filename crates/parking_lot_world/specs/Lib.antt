@@ -5,6 +5,7 @@ pub mod Rounds
 pub mod Ranks
 pub mod RankLaws
 pub mod RowActs
+pub mod Passes
 pub mod RowFits
 pub mod RowSteps
 pub mod ActLaws
@@ -16,7 +17,7 @@ pub mod RwLaws
 pub mod MutexLaws
 pub mod Calls
 pub mod CallViews
-pub mod FrontTakings
+pub mod NextTakings
 pub mod Beginnings
 pub mod Machines
 pub mod Worlds
@@ -24,3 +25,5 @@ pub mod SoundLaws
 pub mod LostExchanges
 pub mod LateActs
 pub mod LateLaws
+pub mod UpgradeLaws
+pub mod UpgradeRanks

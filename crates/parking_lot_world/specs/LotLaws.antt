@@ -9,7 +9,7 @@ use Rattle.parking_lot_core_lot.specs.declared.place.Section.{Section}
 use Rattle.parking_lot_core_lot.specs.declared.place.Sleep.{Sleep}
 use Rattle.parking_lot_core_lot.specs.declared.place.Waiter.{Waiter}
 use Rattle.parking_lot_core_lot.specs.Machine.{Machine, registered, enter_fault, step_fault, resume_fault, section_of, any_phase, changed_at}
-use Rattle.parking_lot_core_lot.specs.Places.{place_at, is_due, roused, may_check, may_join, may_take, may_store, passed_of}
+use Rattle.parking_lot_core_lot.specs.Places.{place_at, is_due, roused, may_check, may_join, may_take, may_store}
 use Rattle.parking_lot_core_lot.specs.Sound.{Sound}
 use Rattle.parking_lot_protocol.specs.declared.act.Act.{Act}
 use Rattle.parking_lot_protocol.specs.declared.act.Act.TheVariants as act
@@ -22,6 +22,8 @@ use Rattle.parking_lot_world.specs.declared.seat.Wakeup.{Wakeup}
 use Rattle.parking_lot_world.specs.Rows.{State, call_at, is_by}
 use Rattle.parking_lot_world.specs.Stances.{Doing, Joins, Takes, In, Asleep, stance, core_act}
 use Rattle.parking_lot_world.specs.StanceLaws.{Counts}
+use Rattle.parking_lot_core_lot.specs.declared.parking.FilterOp.TheVariants.{Unpark}
+use Rattle.parking_lot_world.specs.Passes.{asks}
 use Rattle.parking_lot_world.specs.RowActs as acts
 use Rattle.parking_lot_world.specs.RowFits.{FitsTogether, LotFits, WakesFit}
 
@@ -46,9 +48,9 @@ pub record ActsKeepFits : Type 0 where
   -- to go to sleep
   pub checks : (s : State) (t : ℕ) (c : Call) → Keeps s t c (act.Section section.Check) (acts.checked s t c)
   pub appends : (s : State) (t : ℕ) (c : Call) (k : ℕ) (token : ParkToken) → stance c.core ≡ In k (Joins token) → Keeps s t c (act.Section (section.Append token)) (acts.appended s t c (acts.key_of c k) token)
-  -- to wake others: the first of the list is taken, or nobody
-  pub takes : (s : State) (t : ℕ) (c : Call) (a : Act) (k : ℕ) (w : Waiter) → IsTaking a → stance c.core ≡ In k Takes → slice_get (s.lot.queues (acts.key_of c k)) 0 ≡ Some w → Counts c.core w.token
-      → Keeps s t c a (acts.took s t c (acts.key_of c k) 0 w)
+  -- to wake others: one of the list is taken, or nobody
+  pub takes : (s : State) (t : ℕ) (c : Call) (a : Act) (k nth : ℕ) (w : Waiter) → IsTaking a → stance c.core ≡ In k Takes → slice_get (s.lot.queues (acts.key_of c k)) nth ≡ Some w → Counts c.core w.token
+      → Keeps s t c a (acts.took s t c (acts.key_of c k) nth w)
   pub takes_nobody : (s : State) (t : ℕ) (c : Call) (a : Act) (k : ℕ) → IsTaking a → stance c.core ≡ In k Takes
       → Keeps s t c a (acts.took_nobody s t c (acts.key_of c k))
   pub stores : (s : State) (t : ℕ) (c : Call) (plain fair change : WordChange) (is_fair : Bool) → Keeps s t c (act.Section (section.Store plain fair)) (acts.told_all s t c change is_fair)
@@ -109,8 +111,7 @@ pub record LotNeverRefuses : Type 0 where
   pub leaves : (s : State) (t : ℕ) (c : Call) → Asks s t c (act.Section section.Leave) → step_fault any_phase s.lot t ≡ None
   -- in the section of the key that its stance says
   pub inside : (s : State) (t : ℕ) (c : Call) (k : ℕ) (how : Doing) → LotFits s → call_at s t ≡ Some c → stance c.core ≡ In k how → IsInside s t (acts.key_of c k)
-  -- one that takes has passed nobody; whom it may take there
-  pub passes : (s : State) (t : ℕ) (c : Call) (k : ℕ) (o : Section) → LotFits s → call_at s t ≡ Some c → stance c.core ≡ In k Takes → s.lot.section ≡ Some o → passed_of o.phase ≡ 0
+  -- whom it may take there
   pub waiters : (s : State) (t : ℕ) (c : Call) (k nth : ℕ) (w : Waiter) → LotFits s → call_at s t ≡ Some c → stance c.core ≡ In k Takes → slice_get (s.lot.queues (acts.key_of c k)) nth ≡ Some w → IsWaiter s t k c w
   -- one that is to wake somebody finds the one, and wakes it
   pub wakes : (s : State) (t : ℕ) (c : Call) → Asks s t c (act.Section section.Wake) → (e : Wakeup) × (slice_get s.wakes (position_or_len (is_by t) s.wakes) ≡ Some e) × (e.by ≡ t) × IsDue s t e
@@ -158,6 +159,6 @@ NewMachinesFit = (s : State) → Sound s.lot → IsNew s → LotFits s × WakesF
 abbrev pub RegisteredThreadsRun : Type 0
 RegisteredThreadsRun = (m : Machine) (n : ℕ) → m.places ≡ replicate n (Some Running) → (registered m).places ≡ replicate (n + 1) (Some Running)
 
--- Whoever takes a waiter can count it: there are few threads, a scan that goes on has taken no writer, and only readers and writers wait.
+-- Whoever takes a waiter that it wants can count it: there are few threads, and a scan that goes on has taken no writer.
 abbrev pub ScansHaveRoom : Type 0
-ScansHaveRoom = (s : State) → FitsTogether s → (t : ℕ) (c : Call) → call_at s t ≡ Some c → (k nth : ℕ) (w : Waiter) → stance c.core ≡ In k Takes → slice_get (s.lot.queues (acts.key_of c k)) nth ≡ Some w → Counts c.core w.token
+ScansHaveRoom = (s : State) → FitsTogether s → (t : ℕ) (c : Call) → call_at s t ≡ Some c → (k nth : ℕ) (w : Waiter) → stance c.core ≡ In k Takes → slice_get (s.lot.queues (acts.key_of c k)) nth ≡ Some w → asks (core_act c.core) w.token.0 ≡ Unpark → Counts c.core w.token

@@ -33,6 +33,7 @@ use Rattle.parking_lot_core_lot.specs.declared.place.Waiter.{Waiter}
 use Rattle.parking_lot_world.specs.declared.seat.Wakeup.{Wakeup}
 use Rattle.parking_lot_world.specs.Stances.{In, Joins, Takes, stance, core_act}
 use Rattle.parking_lot_world.specs.RowActs.{key_of, loaded, exchanged, added, masked, spun, entered, checked, appended, took, took_nobody, told_all, left, woke, begun, answered, off_list}
+use Rattle.parking_lot_world.specs.Passes.{ArePassed, IsNext, asks}
 use Rattle.parking_lot_world.specs.TellLaws.{IsDue}
 use Rattle.parking_lot_world.specs.ActLaws.{Acts, Ends}
 use Rattle.parking_lot_world.specs.LateActs.{expired, quitted, returned}
@@ -108,11 +109,12 @@ owes_to t wakes x = wakes ++ record { by = t; thread = x.thread; mark = x.mark }
 
 -- WHAT IS LEFT OF THE MACHINE
 
--- a thread takes the first of its list, or finds nobody there
+-- a thread takes the next of its list that it wants, or passes all that wait there
 abbrev pub IsTakenFrom : ℕ → Call → State → State → Type 0
 IsTakenFrom t c s u =
     (k : ℕ) × (stance c.core ≡ In k Takes)
-    × (((w : Waiter) × (slice_get (s.lot.queues (key_of c k)) 0 ≡ Some w) × (u ≡ took s t c (key_of c k) 0 w)) ⊎ ((s.lot.queues (key_of c k) ≡ []) × (u ≡ took_nobody s t c (key_of c k))))
+    × (((nth : ℕ) × (w : Waiter) × IsNext (asks (core_act c.core)) (s.lot.queues (key_of c k)) nth w × (u ≡ took s t c (key_of c k) nth w))
+    ⊎ (ArePassed (asks (core_act c.core)) (s.lot.queues (key_of c k)) (length (s.lot.queues (key_of c k))) × (u ≡ took_nobody s t c (key_of c k))))
 
 -- it joins its list
 abbrev pub IsJoined : ℕ → Call → ParkToken → State → State → Type 0

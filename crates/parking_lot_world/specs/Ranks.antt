@@ -11,6 +11,8 @@ use Rattle.parking_lot_protocol.specs.declared.rw_phase.RwPhase.TheVariants as r
 use Rattle.parking_lot_protocol.specs.declared.rw_phase.LockMode.{LockMode}
 use Rattle.parking_lot_protocol.specs.declared.rw_phase.LockMode.TheVariants as want
 use Rattle.parking_lot_protocol.specs.RwTable as of_rw
+use Rattle.parking_lot_upgrades.specs.declared.upgrade_phase.UpgradePhase.{UpgradePhase}
+use Rattle.parking_lot_upgrades.specs.declared.upgrade_phase.UpgradePhase.TheVariants as u
 use Rattle.parking_lot_world.specs.declared.calls.LockCall.{LockCall}
 use Rattle.parking_lot_world.specs.declared.calls.LockCall.TheVariants as call
 use Rattle.parking_lot_world.specs.declared.seat.LatePhase.{LatePhase}
@@ -170,6 +172,26 @@ rw_steps n v (r.Wakes rest count) = wake * count + 1 + rw_ends v rest
 rw_steps n v (r.Finishes rest) = rw_ends v rest
 rw_steps n v phase = 1
 
+-- CALLS OF UPGRADABLE HOLDS
+
+-- A release that finds others waiting goes through their list; so does one that keeps a hold and owes them a look.
+abbrev pub upgrade_steps : ℕ → View → UpgradePhase → ℕ
+upgrade_steps n v (u.Plain core) = rw_steps n v core.phase
+upgrade_steps n v (u.Seeks core) = rw_steps n v core.phase
+upgrade_steps n v (u.Drains core) = rw_steps n v core.phase
+upgrade_steps n v (u.Frees release core) = rw_steps n v core.phase
+upgrade_steps n v (u.Owes hold answer core) = rw_steps n v core.phase
+upgrade_steps n v u.TryLoads = 3
+upgrade_steps n v (u.TryAdmits word left) = if is_at v word then 2 else 3
+upgrade_steps n v u.Upgrades = 2 + drains v 10
+upgrade_steps n v u.TryUpgradeLoads = 3
+upgrade_steps n v (u.TryUpgrades word left) = if is_at v word then 2 else 3
+upgrade_steps n v (u.UnlockLoads release) = scan n v + 8
+upgrade_steps n v (u.Unlocks release word) = if is_at v word then 2 else scan n v + 8
+upgrade_steps n v u.ToShared = scan n v + 7
+upgrade_steps n v u.ToUpgradable = scan n v + 7
+upgrade_steps n v phase = 1
+
 -- ONE WHOSE MOMENT HAS PASSED
 
 -- it comes back, takes itself out, masks the parked bit off, leaves, and is answered
@@ -186,6 +208,7 @@ abbrev pub core_steps : ℕ → View → Core → ℕ
 core_steps n v (core.Mutex c) = mutex_steps v c.phase
 core_steps n v (core.Rw c) = rw_steps n v c.phase
 core_steps n v (core.Late p) = late_steps p
+core_steps n v (core.Upgrade c) = upgrade_steps n v c.phase
 
 -- the steps of a call whose thread isn't the one that is stepped
 abbrev pub far_steps : ℕ → Option Call → ℕ
@@ -225,6 +248,13 @@ cost n call.Write = 108
 cost n call.TryWrite = 3
 cost n call.UnlockWrite = 110 * n + 7
 cost n call.Downgrade = 110 * n + 7
+cost n call.UpgradableRead = 108
+cost n call.TryUpgradableRead = 3
+cost n call.UnlockUpgradable = 110 * n + 8
+cost n call.Upgrade = 32
+cost n call.TryUpgrade = 3
+cost n call.DowngradeToUpgradable = 110 * n + 7
+cost n call.DowngradeUpgradable = 110 * n + 7
 
 abbrev pub Costs : ℕ → LockCall → State → State → Type 0
 Costs t call s u = steps_left u t ≤ steps_left s t + cost (length s.calls) call

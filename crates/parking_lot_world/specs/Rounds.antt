@@ -4,6 +4,8 @@ use Rattle.parking_lot_protocol.specs.declared.mutex_phase.MutexPhase.{MutexPhas
 use Rattle.parking_lot_protocol.specs.declared.mutex_phase.MutexPhase.TheVariants as m
 use Rattle.parking_lot_protocol.specs.declared.rw_phase.RwPhase.{RwPhase}
 use Rattle.parking_lot_protocol.specs.declared.rw_phase.RwPhase.TheVariants as r
+use Rattle.parking_lot_upgrades.specs.declared.upgrade_phase.UpgradePhase.{UpgradePhase}
+use Rattle.parking_lot_upgrades.specs.declared.upgrade_phase.UpgradePhase.TheVariants as u
 use Rattle.parking_lot_world.specs.declared.seat.Core.{Core}
 use Rattle.parking_lot_world.specs.declared.seat.Core.TheVariants as core
 use Rattle.parking_lot_world.specs.Stances.{has_begun}
@@ -31,10 +33,19 @@ rw_rounds (r.DrainRests rounds) = rounds
 rw_rounds (r.DrainSleeps rounds) = rounds
 rw_rounds phase = 0
 
+abbrev pub upgrade_rounds : UpgradePhase → ℕ
+upgrade_rounds (u.Plain core) = rw_rounds core.phase
+upgrade_rounds (u.Seeks core) = rw_rounds core.phase
+upgrade_rounds (u.Drains core) = rw_rounds core.phase
+upgrade_rounds (u.Frees release core) = rw_rounds core.phase
+upgrade_rounds (u.Owes hold answer core) = rw_rounds core.phase
+upgrade_rounds phase = 0
+
 abbrev pub rounds : Core → ℕ
 rounds (core.Mutex c) = mutex_rounds c.phase
 rounds (core.Rw c) = rw_rounds c.phase
 rounds (core.Late p) = 0
+rounds (core.Upgrade c) = upgrade_rounds c.phase
 
 -- at most ten
 abbrev pub FewRounds : Core → Type 0

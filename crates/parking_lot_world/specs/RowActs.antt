@@ -23,6 +23,10 @@ use Rattle.parking_lot_protocol.specs.declared.rw_phase.AfterWake.{AfterWake}
 use Rattle.parking_lot_protocol.specs.declared.rw_phase.AfterWake.TheVariants as rest
 use Rattle.parking_lot_protocol.specs.declared.rw_phase.Outcome.{Outcome}
 use Rattle.parking_lot_protocol.specs.declared.rw_phase.Outcome.TheVariants as outcome
+use Rattle.parking_lot_upgrades.specs.declared.upgrade_phase.UpgradePhase.{UpgradePhase}
+use Rattle.parking_lot_upgrades.specs.declared.upgrade_phase.UpgradePhase.TheVariants as u
+use Rattle.parking_lot_upgrades.specs.declared.upgrade_phase.Hold as up
+use Rattle.parking_lot_upgrades.specs.declared.upgrade_phase.Hold.TheVariants as up_hold
 use Rattle.parking_lot_world.specs.declared.seat.Hold.{Hold}
 use Rattle.parking_lot_world.specs.declared.seat.Hold.TheVariants as hold
 use Rattle.parking_lot_world.specs.declared.seat.WakeResult.{WakeResult}
@@ -168,10 +172,23 @@ abbrev pub mutex_hold_after : MutexPhase → Hold
 mutex_hold_after (m.Ends answer.Owned) = hold.Excludes
 mutex_hold_after phase = hold.Shares 0
 
+abbrev pub kept_hold : up.Hold → Hold
+kept_hold up_hold.Nothing = hold.Shares 0
+kept_hold up_hold.Shared = hold.Shares 1
+kept_hold up_hold.Upgradable = hold.Upgrades
+kept_hold up_hold.Exclusive = hold.Excludes
+
+abbrev pub upgrade_hold_after : UpgradePhase → Hold
+upgrade_hold_after (u.Drains core) = hold.Excludes
+upgrade_hold_after (u.Owes kept answer core) = kept_hold kept
+upgrade_hold_after (u.Ends kept answer) = kept_hold kept
+upgrade_hold_after phase = hold.Shares 0
+
 abbrev pub hold_after : ℕ → Core → Hold
 hold_after n (core.Mutex c) = mutex_hold_after c.phase
 hold_after n (core.Rw c) = rw_hold_after n c.phase
 hold_after n (core.Late p) = hold.Shares 0
+hold_after n (core.Upgrade c) = upgrade_hold_after c.phase
 
 abbrev pub answered : State → ℕ → Call → State
 answered s t c = record s { calls = slice_set s.calls t None; holds = slice_set s.holds (cell s t c.lock) (hold_after c.others c.core) }

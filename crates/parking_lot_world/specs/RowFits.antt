@@ -1,5 +1,5 @@
 -- What holds of the machine at every moment.
-use Rattle.std.specs.Prelude.{◌≡◌, ◌≢◌, ℕ, ◌+◌, ◌*◌, ◌<◌, ◌≤◌, ◌^◌, ◌⊎◌, Bool, true, false, count_by, List, [], length, Option, Some, None, slice_get}
+use Rattle.std.specs.Prelude.{◌≡◌, ◌≢◌, ℕ, ◌+◌, ◌-◌, ◌*◌, ◌<◌, ◌≤◌, ◌^◌, ◌⊎◌, Bool, true, false, count_by, List, [], length, Option, Some, None, slice_get}
 use Rattle.std.specs.Option.{option_map_or}
 use Rattle.parking_lot_core_lot.specs.declared.parking.ParkToken.{ParkToken}
 use Rattle.parking_lot_core_lot.specs.declared.parking.UnparkToken.{UnparkToken}
@@ -41,17 +41,28 @@ use Rattle.parking_lot_world.specs.Kinds.{Manner, AsMutex, AsRw, manner_of, recu
 use Rattle.parking_lot_world.specs.Rows.{State, word_at, hold_at, call_at, taken_by, family, one_bucket}
 use Rattle.parking_lot_world.specs.Stances.{Doing, Looks, TurnsBack, Joins, Joined, Takes, Stores, Tells, Stance, Out, In, Asleep, stance, taken_count, core_act}
 use Rattle.parking_lot_world.specs.Rounds.{IsUnderWay}
+use Rattle.parking_lot_protocol.specs.RwTable.{count_of, has_room, sum_of}
+use Rattle.parking_lot_protocol.specs.declared.rw_phase.Scanning.{Scanning}
+use Rattle.parking_lot_upgrades.specs.declared.upgrade_phase.UpgradePhase.{UpgradePhase}
+use Rattle.parking_lot_upgrades.specs.declared.upgrade_phase.UpgradePhase.TheVariants as u
+use Rattle.parking_lot_upgrades.specs.declared.upgrade_phase.Hold as up
+use Rattle.parking_lot_upgrades.specs.declared.upgrade_phase.Hold.TheVariants as up_hold
+use Rattle.parking_lot_upgrades.specs.UpgradeLooks.{CanHaveTaken}
+use Rattle.parking_lot_upgrades.specs.UpgradeRules as of_upgrade
+use Rattle.parking_lot_upgrades.specs.UpgradeTable.{is_again}
+use Rattle.parking_lot_protocol.specs.Wake.{wake_answer}
+use Rattle.parking_lot_world.specs.Passes.{ArePassed, asks, look_by}
 use Rattle.parking_lot_world.specs.RowActs.{told_of}
 
 -- THE LOT
 
--- how far the section has come in which a thread does so; one that takes has passed nobody
+-- how far the section has come in which a thread does so
 abbrev pub HasCome : Doing → Phase → UnparkToken → Type 0
 HasCome Looks ph token = ph ≡ phase.Fresh
 HasCome TurnsBack ph token = ph ≡ phase.Invalid
 HasCome (Joins park) ph token = ph ≡ phase.Valid
 HasCome (Joined park) ph token = ph ≡ phase.Joined
-HasCome Takes ph token = (may_take ph ≡ true) × (passed_of ph ≡ 0)
+HasCome Takes ph token = may_take ph ≡ true
 HasCome Stores ph token = may_store ph ≡ true
 HasCome (Tells said) ph token = (ph ≡ phase.Stored) × (token ≡ said)
 
@@ -104,6 +115,7 @@ abbrev pub IsOfManner : Option Manner → Core → Type 0
 IsOfManner m (core.Mutex c) = m ≡ Some AsMutex
 IsOfManner m (core.Rw c) = m ≡ Some AsRw
 IsOfManner m (core.Late p) = m ≡ Some AsMutex
+IsOfManner m (core.Upgrade c) = m ≡ Some AsRw
 
 abbrev pub IsOfKind : Option LockKind → Core → Type 0
 IsOfKind k c = IsOfManner (manner_of k) c
@@ -188,27 +200,111 @@ rw_keeps recursive n r.EnterWakeSection = Unit {0}
 rw_keeps recursive n (r.Ends outcome) = Unit {0}
 rw_keeps recursive n r.Invalid = ⊥
 
+-- What a phase of an upgradable call needs of whom its thread has taken, where that doesn't follow from what the word says. Calls of shared and exclusive holds have
+-- a core of their own, and nobody gives up.
+abbrev pub frees_prepared : List ℕ → RwPhase → Type 0
+frees_prepared us (r.LooksExclusive fair rest) = us ≡ []
+frees_prepared us (r.Scans s) = s.shared < 2 ^ 32 - 1
+frees_prepared us (r.Stores s left) = (s.shared < 2 ^ 32) × (length us ≡ count_of s)
+frees_prepared us (r.Finishes rest) = us ≡ []
+frees_prepared us phase = Unit {0}
+
+abbrev pub owes_prepared : List ℕ → RwPhase → Type 0
+owes_prepared us r.EnterWakeSection = us ≡ []
+owes_prepared us (r.Scans s) = s.shared < 2 ^ 32 - 1
+owes_prepared us (r.Finishes rest) = us ≡ []
+owes_prepared us phase = Unit {0}
+
+abbrev pub upgrade_prepared : List ℕ → UpgradePhase → Type 0
+upgrade_prepared us (u.Plain core) = ⊥
+upgrade_prepared us (u.GivingUp from) = ⊥
+upgrade_prepared us (u.YieldLoads from) = ⊥
+upgrade_prepared us (u.Yields from word) = ⊥
+upgrade_prepared us (u.Frees release core) = frees_prepared us core.phase
+upgrade_prepared us (u.Owes hold answer core) = owes_prepared us core.phase
+upgrade_prepared us phase = Unit {0}
+
+-- with what a call of a world may begin
+abbrev pub upgrade_begins : UpgradePhase → Type 0
+upgrade_begins u.Locking = Unit {0}
+upgrade_begins u.Trying = Unit {0}
+upgrade_begins (u.Unlocking release) = is_again release ≡ false
+upgrade_begins u.Upgrading = Unit {0}
+upgrade_begins u.TryingToUpgrade = Unit {0}
+upgrade_begins u.DowngradingToShared = Unit {0}
+upgrade_begins u.DowngradingToUpgradable = Unit {0}
+upgrade_begins phase = ⊥
+
+-- A call of a world asks where it has seen room for one reader more, and neither bumps nor gives up.
+abbrev pub seeks_room : RwPhase → Type 0
+seeks_room (r.Admits a word) = has_room word ≡ true
+seeks_room phase = Unit {0}
+
+abbrev pub IsOfWorld : UpgradePhase → Type 0
+IsOfWorld (u.Plain core) = ⊥
+IsOfWorld (u.Seeks core) = seeks_room core.phase
+IsOfWorld (u.Frees release core) = is_again release ≡ false
+IsOfWorld (u.UnlockLoads release) = is_again release ≡ false
+IsOfWorld (u.Unlocks release word) = is_again release ≡ false
+IsOfWorld u.BumpLoads = ⊥
+IsOfWorld u.Relocks = ⊥
+IsOfWorld (u.GivingUp from) = ⊥
+IsOfWorld (u.YieldLoads from) = ⊥
+IsOfWorld (u.Yields from word) = ⊥
+IsOfWorld phase = Unit {0}
+
+-- Nobody goes through the list that keeps the exclusive hold. A scan that goes on has taken no writer, and beside the upgradable hold nobody that
+-- wants it.
+abbrev pub keeps_hold : up.Hold → Type 0
+keeps_hold up_hold.Exclusive = ⊥
+keeps_hold other = Unit {0}
+
+abbrev pub scan_keeps : up.Hold → RwPhase → Type 0
+scan_keeps kept (r.Scans s) = (s.writer ≡ false) × CanHaveTaken kept s
+scan_keeps kept (r.Stores s left) = CanHaveTaken kept s
+scan_keeps kept phase = Unit {0}
+
+abbrev pub upgrade_keeps : UpgradePhase → Type 0
+upgrade_keeps (u.Frees release core) = scan_keeps up_hold.Nothing core.phase
+upgrade_keeps (u.Owes kept answer core) = keeps_hold kept × scan_keeps kept core.phase
+upgrade_keeps phase = Unit {0}
+
 -- what a call that is kept stands on
 abbrev pub IsPrepared : Bool → ℕ → Core → Type 0
 IsPrepared recursive n (core.Mutex c) = n ≡ 0
 IsPrepared recursive n (core.Rw c) = of_rw.IsReady c.phase × rw_keeps recursive n c.phase
 IsPrepared recursive n (core.Late p) = n ≡ 0
+IsPrepared recursive n (core.Upgrade c) = (n ≡ 0) × of_upgrade.IsReady c.phase × IsOfWorld c.phase × upgrade_keeps c.phase
 
--- What one that is to store knows of its list: it has taken a writer or all, and whether waiters are left.
+-- What one that is to store knows of its list: whether waiters are left, and that it has taken a writer or would pass all of them.
 abbrev pub mutex_knows : MutexPhase → List Waiter → Type 0
 mutex_knows (m.Stores giving taken left) queue = (is_left queue ≡ left) × (taken ≡ false → left ≡ false)
 mutex_knows phase queue = Unit {0}
 
 abbrev pub rw_knows : RwPhase → List Waiter → List Waiter → Type 0
-rw_knows (r.Scans s) first second = s.upgradable ≡ false
-rw_knows (r.Stores s left) first second = (s.upgradable ≡ false) × (is_left first ≡ left) × ((s.writer ≡ true) ⊎ (left ≡ false))
+rw_knows (r.Stores s left) first second = (is_left first ≡ left) × ((s.writer ≡ true) ⊎ ArePassed (wake_answer (sum_of s)) first (length first))
 rw_knows (r.ClearWriterParked rest taken) first second = second ≡ []
 rw_knows phase first second = Unit {0}
+
+-- Whether one that scans sees an upgradable hold: its own, or one that it has given away.
+abbrev pub sees_upgradable : up.Hold → Scanning → Bool
+sees_upgradable up_hold.Upgradable s = true
+sees_upgradable kept s = s.upgradable
+
+abbrev pub scan_knows : up.Hold → RwPhase → List Waiter → Type 0
+scan_knows kept (r.Stores s left) first = (is_left first ≡ left) × ((s.writer ≡ true) ⊎ ArePassed (look_by (sees_upgradable kept s) s.writer) first (length first))
+scan_knows kept phase first = Unit {0}
+
+abbrev pub upgrade_knows : UpgradePhase → List Waiter → Type 0
+upgrade_knows (u.Frees release core) first = scan_knows up_hold.Nothing core.phase first
+upgrade_knows (u.Owes kept answer core) first = scan_knows kept core.phase first
+upgrade_knows phase first = Unit {0}
 
 abbrev pub KnowsList : Core → (ℕ → List Waiter) → ℕ → Type 0
 KnowsList (core.Mutex c) queues j = mutex_knows c.phase (queues (2 * j))
 KnowsList (core.Rw c) queues j = rw_knows c.phase (queues (2 * j)) (queues (2 * j + 1))
 KnowsList (core.Late p) queues j = Unit {0}
+KnowsList (core.Upgrade c) queues j = upgrade_knows c.phase (queues (2 * j))
 
 -- Who was taken sleeps off its list, at the lock of its taker.
 pub record IsTaken (s : State) (e : Wakeup) : Type 0 where
@@ -284,7 +380,13 @@ pub record RulesFit (s : State) : Type 0 where
   -- a call that is kept has begun, and has few rounds left to spin
   pub begun : (t : ℕ) (c : Call) → call_at s t ≡ Some c → IsUnderWay c.core
 
+-- Whom the section that is open has passed: those that its thread passes at its sum so far.
+abbrev pub PassesFit : State → Type 0
+PassesFit s =
+    (t : ℕ) (c : Call) (k : ℕ) (o : Section) → call_at s t ≡ Some c → stance c.core ≡ In k Takes → s.lot.section ≡ Some o → ArePassed (asks (core_act c.core)) (s.lot.queues (2 * c.lock + k)) (passed_of o.phase)
+
 pub record FitsTogether (s : State) : Type 0 where
   pub lots : LotFits s
+  pub passes : PassesFit s
   pub wakes : WakesFit s
   pub rules : RulesFit s

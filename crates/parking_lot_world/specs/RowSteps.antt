@@ -9,6 +9,7 @@ use Rattle.parking_lot_protocol.specs.declared.act.ActResult.{ActResult}
 use Rattle.parking_lot_protocol.specs.declared.act.ActResult.TheVariants as seen
 use Rattle.parking_lot_protocol.specs.MutexRules as of_mutex
 use Rattle.parking_lot_protocol.specs.RwRules as of_rw
+use Rattle.parking_lot_upgrades.specs.UpgradeMoves as of_upgrade
 use Rattle.parking_lot_world.specs.Kinds.{recursive_in}
 use Rattle.parking_lot_world.specs.declared.seat.LatePhase.{LatePhase}
 use Rattle.parking_lot_world.specs.declared.seat.LatePhase.TheVariants as late
@@ -32,7 +33,7 @@ IsRwMove of_rw.Stays j t s u = IsQuiet s u
 IsRwMove (of_rw.Makes k) j t s u = IsMade j t (RwStep (Alone k)) s u
 IsRwMove (of_rw.Joins k) j t s u = IsMade j t (RwStep (List_changes k)) s u
 IsRwMove (of_rw.TakesOne mode) j t s u = (scan : Scan) × (i v : ℕ) × IsMade j t (RwStep (Take1 scan i v mode Asleep)) s u
-IsRwMove of_rw.TakesWriter j t s u = (owns : Owned) × (v : ℕ) × IsMade j t (RwStep (Take2 owns v false Asleep)) s u
+IsRwMove of_rw.TakesWriter j t s u = (owns : Owned) × (v : ℕ) × (from : Bool) × IsMade j t (RwStep (Take2 owns v from Asleep)) s u
 IsRwMove (of_rw.Tells end left) j t s u = (scan : Scan) × IsMade j t (RwStep (Store end scan)) s u
 IsRwMove of_rw.WakesOne j t s u = (owns : Owned) × (v : ℕ) × (us : List ℕ) × (k : Waking) × IsMade j t (RwStep (Wake owns v us k Asleep)) s u
 IsRwMove (of_rw.IsWoken k) j t s u = ⊥
@@ -73,6 +74,7 @@ abbrev pub IsMoveOf : Core → ℕ → List ℕ → ActResult → ℕ → ℕ �
 IsMoveOf (core.Rw c) n us told j t s u = IsRwMove (of_rw.move n us c.phase told) j t s u
 IsMoveOf (core.Mutex c) n us told j t s u = IsMutexMove (of_mutex.move (first_of_all us) c.phase told) us j t s u
 IsMoveOf (core.Late p) n us told j t s u = IsLateMove p told j t s u
+IsMoveOf (core.Upgrade c) n us told j t s u = IsRwMove (of_upgrade.move n us c.phase told) j t s u
 
 abbrev pub Goes : ℕ → Call → ActResult → State → State → Type 0
 Goes t c told s u = IsMoveOf c.core c.others (taken_by s.wakes t) told c.lock t s u
@@ -82,6 +84,7 @@ abbrev pub IsLastOf : Core → ℕ → ℕ → ℕ → State → State → Type 
 IsLastOf (core.Rw c) n j t s u = IsRwMove (of_rw.last_move n c.phase) j t s u
 IsLastOf (core.Mutex c) n j t s u = IsMutexMove (of_mutex.last_move c.phase) [] j t s u
 IsLastOf (core.Late p) n j t s u = IsQuiet s u
+IsLastOf (core.Upgrade c) n j t s u = IsRwMove (of_upgrade.last_move n c.phase) j t s u
 
 abbrev pub GoesAway : ℕ → Call → State → State → Type 0
 GoesAway t c s u = IsLastOf c.core c.others c.lock t s u

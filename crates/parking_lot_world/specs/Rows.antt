@@ -4,7 +4,7 @@ use Rattle.std.specs.List.{range_with_len}
 use Rattle.std.specs.Option.{option_and_then, option_map_or}
 use Rattle.parking_lot_core_lot.specs.declared.place.Section.{Section}
 use Rattle.parking_lot_core_lot.specs.Machine.{Machine, Parts, machine, threads_of}
-use Rattle.parking_lot_rules.specs.Roles.{Owned, Shares, Excludes, Mark, Open, Normal, Handed, Idle, Late, Back, Role, away}
+use Rattle.parking_lot_rules.specs.Roles.{Owned, Shares, Excludes, Upgrades, Mark, Open, Normal, Handed, Idle, Late, Back, Role, away}
 use Rattle.parking_lot_rules.specs.Clauses.{word_of}
 use Rattle.parking_lot_rules.specs.Lock.{Lock}
 use Rattle.parking_lot_rules.specs.Mutex as mutex
@@ -12,6 +12,7 @@ use Rattle.parking_lot_rules.specs.Any.{AnyLock, Rw, Mx}
 use Rattle.parking_lot_rules.specs.Family.{Family}
 use Rattle.parking_lot_protocol.specs.MutexRules as of_mutex
 use Rattle.parking_lot_protocol.specs.RwRules as of_rw
+use Rattle.parking_lot_upgrades.specs.UpgradeRoles as of_upgrade
 use Rattle.parking_lot_world.specs.declared.calls.LockKind.{LockKind}
 use Rattle.parking_lot_world.specs.declared.seat.Hold.{Hold}
 use Rattle.parking_lot_world.specs.declared.seat.Hold.TheVariants as hold
@@ -80,10 +81,12 @@ taken_by wakes t = map (λ w. w.thread) (filter (is_by t) wakes)
 abbrev pub owned_of : Hold → Owned
 owned_of (hold.Shares n) = Shares n
 owned_of hold.Excludes = Excludes
+owned_of hold.Upgrades = Upgrades
 
 abbrev pub owns_mutex : Hold → Bool
 owns_mutex (hold.Shares n) = false
 owns_mutex hold.Excludes = true
+owns_mutex hold.Upgrades = false
 
 abbrev pub mark_of : WakeResult → Mark
 mark_of told.Nothing = Open
@@ -108,6 +111,7 @@ abbrev pub rw_core_role : ℕ → QueuePosition → List ℕ → Core → Role
 rw_core_role n at us (core.Rw c) = of_rw.role n (rw_spot at) us c.phase
 rw_core_role n at us (core.Mutex c) = away
 rw_core_role n at us (core.Late p) = away
+rw_core_role n at us (core.Upgrade c) = of_upgrade.role n (rw_spot at) us c.phase
 
 -- one whose moment has passed
 abbrev pub late_waits : of_mutex.QueuePosition → mutex.Phase
@@ -128,6 +132,7 @@ abbrev pub mutex_core_role : QueuePosition → List ℕ → Core → mutex.Role
 mutex_core_role at us (core.Mutex c) = of_mutex.role (mutex_spot at) (first_of_all us) c.phase
 mutex_core_role at us (core.Rw c) = mutex.away
 mutex_core_role at us (core.Late p) = late_role (mutex_spot at) p
+mutex_core_role at us (core.Upgrade c) = mutex.away
 
 abbrev pub rw_role_in : ℕ → List ℕ → Hold → Option Call → Role
 rw_role_in i us h None = record { owns = owned_of h; does = Idle }

@@ -7,7 +7,7 @@ use Rattle.parking_lot_rules.specs.Clauses.{Word, IsWord, number, word_of}
 use Rattle.parking_lot_rules.specs.Holds.{shared_holds}
 use Rattle.parking_lot_rules.specs.Plain.{Plain}
 use Rattle.parking_lot_rules.specs.Lock.{Lock, IsSound, On1, to_wake}
-use Rattle.parking_lot_rules.specs.Steps.{Step, Alone, Allowed, after, List_changes, Take1, Take2, Join1, Join2, Take, look, AreSkipped, Ending, ends_saying, Store, Waking, settle, Wake, Scan, scanning}
+use Rattle.parking_lot_rules.specs.Steps.{wants, Step, Alone, Allowed, after, List_changes, Take1, Take2, Join1, Join2, Take, look, AreSkipped, Ending, ends_saying, Store, Waking, settle, Wake, Scan, scanning}
 use Rattle.parking_lot_protocol.specs.declared.act.Act.{Act}
 use Rattle.parking_lot_protocol.specs.declared.act.Act.TheVariants.{Enter, FetchAnd, Done, Section}
 use Rattle.parking_lot_protocol.specs.declared.act.ActResult.{ActResult}
@@ -37,8 +37,10 @@ use Rattle.parking_lot_rules.specs.Any.{AnyLock, Rw, AnySound, any_inside}
 use Rattle.parking_lot_protocol.specs.declared.act.SectionAct.TheVariants.{Leave}
 use Rattle.parking_lot_world.specs.declared.seat.QueuePosition as seat
 use Rattle.parking_lot_world.specs.declared.seat.WakeResult.{WakeResult}
-use Rattle.parking_lot_core_lot.specs.declared.parking.FilterOp.TheVariants.{Unpark}
 use Rattle.parking_lot_protocol.specs.Wake.{wake_answer}
+use Rattle.parking_lot_core_lot.specs.Machine.{threads_of}
+use Rattle.parking_lot_protocol.specs.WakeRules.{answer_to}
+use Rattle.parking_lot_world.specs.Passes.{ArePassed, look_by}
 
 -- A number is a word by its parts, and a word of bits is the one of its number.
 pub record WordsAreNumbers : Type 0 where
@@ -115,28 +117,33 @@ TakesAreSteps = (recursive : Bool) (l : Lock) (t n : ℕ) (spot : QueuePosition)
     → IsStep recursive t (Take1 (scan_of n a us) i v (mode_by token) Asleep) l
     (record (with_roles l x t (role n Listed (us ++ v ∷ []) (next_phase (Scans a) (seen.Took (Some token) left))) v (record { owns = Shares 0; does = Taken1 (mode_by token) t Open Asleep })) { first = remove l.first i })
 
--- The first of the list may be taken where none was taken yet that wants more than a shared hold.
-abbrev pub FirstsMayBeTaken : Type 0
-FirstsMayBeTaken = (l : Lock) (a : Scanning) (v : ℕ) (mode : Mode) → slice_get l.first 0 ≡ Some v → slice_get l.roles v ≡ Some (record { owns = Shares 0; does = Queued1 mode Asleep }) → a.upgradable ≡ false → a.writer ≡ false
-    → MayTakeOne l a 0 v mode
+-- Whoever waits in the list wants what its token says.
+abbrev pub WantAsTold : Lock → List Waiter → Type 0
+WantAsTold l queue = (i : ℕ) (w : Waiter) (r : Role) → slice_get queue i ≡ Some w → slice_get l.roles w.thread ≡ Some r → IsToken (Some w.token) × (wants r.does ≡ mode_by w.token)
+
+-- A scan answers by whom it has taken: at the sum of its tokens it does what the rules do at a waiter. Those that it passes are skipped.
+pub record ScansGoByTokens : Type 0 where
+  pub sums : (a : Scanning) (token : ℕ) → wake_answer (sum_of a) token ≡ look_by a.upgradable a.writer token
+  pub looks : (upgradable writer : Bool) (token : ParkToken) → IsToken (Some token) → look_by upgradable writer token.0 ≡ answer_to (look upgradable writer (mode_by token))
+  pub skips : (l : Lock) (upgradable writer : Bool) (queue : List Waiter) (n : ℕ) → l.first ≡ threads_of queue → WantAsTold l queue → ArePassed (look_by upgradable writer) queue n → AreSkipped upgradable writer l.roles l.first n
 
 -- the token of a waiter is that of what it wants
 abbrev pub TokensTell : Type 0
 TokensTell = (want : LockMode) → IsToken (Some (record { 0 = share_of want })) × (mode_by (record { 0 = share_of want }) ≡ mode_of want)
 
 abbrev pub WritersAreTaken : Type 0
-WritersAreTaken = (recursive : Bool) (l : Lock) (t n : ℕ) (spot : QueuePosition) (us : List ℕ) (rest : AfterWake) (x : ℕ) (token : ParkToken) (left : Bool) (v : ℕ) → Meets recursive l t n spot us (TakeWriter rest) x → slice_get l.second 0 ≡ Some v
-    → slice_get l.roles v ≡ Some (record { owns = Shares 0; does = Queued2 false Asleep })
-    → IsStep recursive t (Take2 (Shares n) v false Asleep) l
-    (record (with_roles l x t (role n Listed (us ++ v ∷ []) (next_phase (TakeWriter rest) (seen.Took (Some token) left))) v (record { owns = Shares 0; does = Taken2 false t Asleep })) { second = remove l.second 0 })
+WritersAreTaken = (recursive : Bool) (l : Lock) (t n : ℕ) (spot : QueuePosition) (us : List ℕ) (rest : AfterWake) (x : ℕ) (token : ParkToken) (left : Bool) (v : ℕ) (from : Bool) → Meets recursive l t n spot us (TakeWriter rest) x → slice_get l.second 0 ≡ Some v
+    → slice_get l.roles v ≡ Some (record { owns = Shares 0; does = Queued2 from Asleep })
+    → IsStep recursive t (Take2 (Shares n) v from Asleep) l
+    (record (with_roles l x t (role n Listed (us ++ v ∷ []) (next_phase (TakeWriter rest) (seen.Took (Some token) left))) v (record { owns = Shares 0; does = Taken2 from t Asleep })) { second = remove l.second 0 })
 
 -- The end of the section: what it stores, and what it tells all that the thread has taken. It knows whether waiters are left, and has taken
--- a writer or all.
+-- a writer, or skips all of them.
 abbrev pub ending_of : Scanning → Bool → Ending
 ending_of a fair = ending a.rest (hands a (a.fair || fair))
 
 abbrev pub StoresAreSteps : Type 0
-StoresAreSteps = (recursive : Bool) (l : Lock) (t n : ℕ) (spot : QueuePosition) (us : List ℕ) (a : Scanning) (left : Bool) (x : ℕ) (fair : Bool) → Meets recursive l t n spot us (Stores a left) x → is_left l.first ≡ left → (a.writer ≡ true) ⊎ (left ≡ false)
+StoresAreSteps = (recursive : Bool) (l : Lock) (t n : ℕ) (spot : QueuePosition) (us : List ℕ) (a : Scanning) (left : Bool) (x : ℕ) (fair : Bool) → Meets recursive l t n spot us (Stores a left) x → is_left l.first ≡ left → (a.writer ≡ true) ⊎ AreSkipped a.upgradable a.writer l.roles l.first (length l.first)
     → IsStep recursive t (Store (ending_of a fair) (scan_of n a us)) l
     (record l { word = word_of (word_after (act_of (Stores a left)) (seen.Stored fair) x); roles = slice_set (map (settle (ends_saying (ending_of a fair))) l.roles) t (role n Listed us (next_phase (Stores a left) (seen.Stored fair))) })
 
@@ -248,11 +255,10 @@ pub record ActsCross : Type 0 where
 abbrev pub FreeSectionsAreEmpty : Type 0
 FreeSectionsAreEmpty = (f : Family AnyLock) (i : ℕ) (l : Lock) → SoundFamilyOf AnySound any_inside one_bucket f → f.entered 0 ≡ None → f.locks i ≡ Rw l → NobodyIs Inside1 l.roles × NobodyIs Inside2 l.roles
 
--- What one that takes waiters learns of the lists as they are after that: whether some are left, that there were none to take, and that
--- only readers and writers wait.
+-- What one that takes waiters learns of the lists as they are after that: whether some are left, and that there was none to take.
 abbrev pub Learns : RwPhase → ActResult → List Waiter → List Waiter → Type 0
-Learns (Scans a) (seen.Took (Some token) left) first second = ((token.0 ≡ 16) ⊎ (token.0 ≡ 8)) × (is_left first ≡ left)
-Learns (Scans a) (seen.Took None left) first second = (is_left first ≡ left) × (left ≡ false)
+Learns (Scans a) (seen.Took (Some token) left) first second = is_left first ≡ left
+Learns (Scans a) (seen.Took None left) first second = (is_left first ≡ left) × ArePassed (wake_answer (sum_of a)) first (length first)
 Learns (TakeWriter rest) s first second = second ≡ []
 Learns p s first second = Unit {0}
 
@@ -287,5 +293,3 @@ pub record SleepsSecond (n : ℕ) (us : List ℕ) (p : RwPhase) : Type 0 where
 
 pub record SleepersAreKnown : Type 0 where
   pub stand : (recursive : Bool) (n : ℕ) (us : List ℕ) (p : RwPhase) (key : ℕ) (park : ParkToken) → rw_prepared recursive n us p → rw_stance p ≡ stance.Asleep key park → ((key ≡ 0) × SleepsFirst n us p park) ⊎ ((key ≡ 1) × SleepsSecond n us p)
-  -- a scan that has taken nobody but readers takes whoever is first
-  pub taken : (a : Scanning) (token : ℕ) → a.upgradable ≡ false → a.writer ≡ false → (token ≡ 16) ⊎ (token ≡ 8) → wake_answer (sum_of a) token ≡ Unpark

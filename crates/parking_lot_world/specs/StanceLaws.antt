@@ -10,6 +10,8 @@ use Rattle.parking_lot_protocol.specs.declared.act.ActResult.{ActResult}
 use Rattle.parking_lot_protocol.specs.declared.act.ActResult.TheVariants as seen
 use Rattle.parking_lot_protocol.specs.declared.rw_phase.RwPhase.{RwPhase}
 use Rattle.parking_lot_protocol.specs.declared.rw_phase.RwPhase.TheVariants as r
+use Rattle.parking_lot_upgrades.specs.declared.upgrade_phase.UpgradePhase.{UpgradePhase}
+use Rattle.parking_lot_upgrades.specs.declared.upgrade_phase.UpgradePhase.TheVariants as u
 use Rattle.parking_lot_world.specs.declared.seat.Core.{Core}
 use Rattle.parking_lot_world.specs.declared.seat.Core.TheVariants as core
 use Rattle.parking_lot_world.specs.Stances.{Looks, TurnsBack, Joins, Joined, Takes, Stores, Tells, Stance, Out, In, Asleep, sign, stance, taken_count, core_act, core_next, core_tells}
@@ -58,13 +60,22 @@ ActsLead = (c : Core) (word : ℕ) (s : ActResult) → Gives (core_act c) word s
 
 -- a scan can count one more with that token
 abbrev pub rw_counts : RwPhase → ParkToken → Type 0
-rw_counts (r.Scans s) token = ((token.0 ≡ 16) × (s.shared < 2 ^ 32 - 1)) ⊎ ((token.0 ≡ 8) × (s.writer ≡ false))
+rw_counts (r.Scans s) token = ((token.0 ≡ 16) × (s.shared < 2 ^ 32 - 1)) ⊎ (((token.0 ≡ 8) × (s.writer ≡ false)) ⊎ ((token.0 ≡ 20) × (s.upgradable ≡ false)))
 rw_counts phase token = Unit {0}
+
+abbrev pub upgrade_counts : UpgradePhase → ParkToken → Type 0
+upgrade_counts (u.Plain core) token = rw_counts core.phase token
+upgrade_counts (u.Seeks core) token = rw_counts core.phase token
+upgrade_counts (u.Drains core) token = rw_counts core.phase token
+upgrade_counts (u.Frees release core) token = rw_counts core.phase token
+upgrade_counts (u.Owes kept answer core) token = rw_counts core.phase token
+upgrade_counts phase token = Unit {0}
 
 abbrev pub Counts : Core → ParkToken → Type 0
 Counts (core.Mutex c) token = Unit {0}
 Counts (core.Rw c) token = rw_counts c.phase token
 Counts (core.Late p) token = Unit {0}
+Counts (core.Upgrade c) token = upgrade_counts c.phase token
 
 -- a taking that took somebody
 abbrev pub TakesOne : Stance → Stance → ℕ → ℕ → Type 0

@@ -14,6 +14,9 @@ use Rattle.parking_lot_protocol.specs.declared.rw_phase.RwPhase.{RwPhase}
 use Rattle.parking_lot_protocol.specs.declared.rw_phase.RwPhase.TheVariants as r
 use Rattle.parking_lot_protocol.specs.MutexTable as of_mutex
 use Rattle.parking_lot_protocol.specs.RwTable as of_rw
+use Rattle.parking_lot_upgrades.specs.declared.upgrade_phase.UpgradePhase.{UpgradePhase}
+use Rattle.parking_lot_upgrades.specs.declared.upgrade_phase.UpgradePhase.TheVariants as u
+use Rattle.parking_lot_upgrades.specs.UpgradeTable as of_upgrade
 use Rattle.parking_lot_world.specs.declared.seat.LatePhase.{LatePhase}
 use Rattle.parking_lot_world.specs.declared.seat.LatePhase.TheVariants as late
 use Rattle.parking_lot_world.specs.declared.seat.Core.{Core}
@@ -72,6 +75,21 @@ rw_stance (r.Stores s left) = In 0 Stores
 rw_stance (r.Leaves rest count handed) = In 0 (Tells (sign handed))
 rw_stance phase = Out
 
+-- one that asks for the upgradable hold waits with a token of its own
+abbrev pub seeks_stance : RwPhase → Stance
+seeks_stance (r.Appends want) = In 0 (Joins (record { 0 = 20 }))
+seeks_stance (r.Rests want) = In 0 (Joined (record { 0 = 20 }))
+seeks_stance (r.Sleeps want) = Asleep 0 (record { 0 = 20 })
+seeks_stance phase = rw_stance phase
+
+abbrev pub upgrade_stance : UpgradePhase → Stance
+upgrade_stance (u.Plain core) = rw_stance core.phase
+upgrade_stance (u.Seeks core) = seeks_stance core.phase
+upgrade_stance (u.Drains core) = rw_stance core.phase
+upgrade_stance (u.Frees release core) = rw_stance core.phase
+upgrade_stance (u.Owes hold answer core) = rw_stance core.phase
+upgrade_stance phase = Out
+
 -- one whose moment has passed stands as one that sleeps, until it is back in its section, and then as one that has joined its list
 abbrev pub late_stance : LatePhase → Stance
 late_stance late.Expires = Asleep 0 (record { 0 = 0 })
@@ -84,6 +102,7 @@ abbrev pub stance : Core → Stance
 stance (core.Mutex c) = mutex_stance c.phase
 stance (core.Rw c) = rw_stance c.phase
 stance (core.Late p) = late_stance p
+stance (core.Upgrade c) = upgrade_stance c.phase
 
 -- how many it has taken and not woken yet
 abbrev pub mutex_taken : MutexPhase → ℕ
@@ -101,10 +120,19 @@ rw_taken (r.Leaves rest count handed) = count
 rw_taken (r.Wakes rest count) = count
 rw_taken phase = 0
 
+abbrev pub upgrade_taken : UpgradePhase → ℕ
+upgrade_taken (u.Plain core) = rw_taken core.phase
+upgrade_taken (u.Seeks core) = rw_taken core.phase
+upgrade_taken (u.Drains core) = rw_taken core.phase
+upgrade_taken (u.Frees release core) = rw_taken core.phase
+upgrade_taken (u.Owes hold answer core) = rw_taken core.phase
+upgrade_taken phase = 0
+
 abbrev pub taken_count : Core → ℕ
 taken_count (core.Mutex c) = mutex_taken c.phase
 taken_count (core.Rw c) = rw_taken c.phase
 taken_count (core.Late p) = 0
+taken_count (core.Upgrade c) = upgrade_taken c.phase
 
 -- What one asks for whose moment has passed. It comes back into its section, and takes itself out there, by acts of its own.
 abbrev pub late_act : LatePhase → Act
@@ -129,17 +157,28 @@ abbrev pub core_act : Core → Act
 core_act (core.Mutex c) = of_mutex.act_of c.phase
 core_act (core.Rw c) = of_rw.act_of c.phase
 core_act (core.Late p) = late_act p
+core_act (core.Upgrade c) = of_upgrade.act_of c.phase
 
 abbrev pub core_next : Core → ActResult → Core
 core_next (core.Mutex c) seen = core.Mutex (record c { phase = of_mutex.next_phase c.phase seen })
 core_next (core.Rw c) seen = core.Rw (record c { phase = of_rw.next_phase c.phase seen })
 core_next (core.Late p) seen = late_next p seen
+core_next (core.Upgrade c) seen = core.Upgrade (record c { phase = of_upgrade.next_phase c.phase seen })
 
 -- the token for those whom the section took, once it has stored
+abbrev pub upgrade_tells : UpgradePhase → UnparkToken
+upgrade_tells (u.Plain core) = of_rw.wakes_with core.phase
+upgrade_tells (u.Seeks core) = of_rw.wakes_with core.phase
+upgrade_tells (u.Drains core) = of_rw.wakes_with core.phase
+upgrade_tells (u.Frees release core) = of_rw.wakes_with core.phase
+upgrade_tells (u.Owes hold answer core) = of_rw.wakes_with core.phase
+upgrade_tells phase = sign false
+
 abbrev pub core_tells : Core → UnparkToken
 core_tells (core.Mutex c) = of_mutex.wakes_with c.phase
 core_tells (core.Rw c) = of_rw.wakes_with c.phase
 core_tells (core.Late p) = sign false
+core_tells (core.Upgrade c) = upgrade_tells c.phase
 
 -- Whether it was told that it begins. A call that is kept was.
 abbrev pub mutex_begun : MutexPhase → Bool
@@ -159,7 +198,20 @@ rw_begun r.BumpingShared = false
 rw_begun r.BumpingExclusive = false
 rw_begun phase = true
 
+abbrev pub upgrade_begun : UpgradePhase → Bool
+upgrade_begun u.Locking = false
+upgrade_begun u.Trying = false
+upgrade_begun (u.Unlocking release) = false
+upgrade_begun u.Bumping = false
+upgrade_begun u.Upgrading = false
+upgrade_begun u.TryingToUpgrade = false
+upgrade_begun u.DowngradingToShared = false
+upgrade_begun u.DowngradingToUpgradable = false
+upgrade_begun (u.GivingUp from) = false
+upgrade_begun phase = true
+
 abbrev pub has_begun : Core → Bool
 has_begun (core.Mutex c) = mutex_begun c.phase
 has_begun (core.Rw c) = rw_begun c.phase
 has_begun (core.Late p) = true
+has_begun (core.Upgrade c) = upgrade_begun c.phase

@@ -25,6 +25,11 @@ shared_mode (suc n) = Some mode.Shared
 -- how one owns a lock of a kind that is in no call there
 abbrev pub hold_mode : Option LockKind → Hold → Option OwnMode
 hold_mode k hold.Excludes = Some mode.Exclusive
+hold_mode (Some kind.Mutex) hold.Upgrades = None
+hold_mode (Some kind.FairMutex) hold.Upgrades = None
+hold_mode (Some kind.Rw) hold.Upgrades = Some mode.Upgradable
+hold_mode (Some kind.RwRecursive) hold.Upgrades = Some mode.Upgradable
+hold_mode None hold.Upgrades = Some mode.Upgradable
 hold_mode (Some kind.Mutex) (hold.Shares n) = None
 hold_mode (Some kind.FairMutex) (hold.Shares n) = None
 hold_mode (Some kind.Rw) (hold.Shares n) = shared_mode n

@@ -7,13 +7,14 @@ ghost use Rattle.parking_lot_rules.specs.Owners.{Reading, owner_for_good, owner_
 ghost use Rattle.parking_lot_protocol.specs.MutexRules as of_mutex;
 ghost use Rattle.parking_lot_protocol.specs.RwRules as of_rw;
 ghost use Rattle.parking_lot_protocol.specs.declared.rw_phase.RwPhase.TheVariants as phase;
-ghost use Rattle.parking_lot_world.specs.CallViews.{call_asleep, call_in_debt, call_looks, call_mode, mode_of, mutex_mode, rw_mode};
+ghost use Rattle.parking_lot_world.specs.CallViews.{IsInOrder, call_asleep, call_in_debt, call_looks, call_mode, mode_of, mutex_mode, rw_mode};
 ghost use Rattle.parking_lot_world.specs.Rows.{late_does, late_role, mutex_spot, rw_spot};
 ghost use Rattle.parking_lot_world.specs.Stances.{rw_taken, taken_count};
 
 use crate::calls::OwnMode;
 use crate::open_call::Call;
 use crate::seat::{Core, LatePhase, QueuePosition, WakeResult};
+use crate::upgrade_views::{upgrade_asleep, upgrade_in_debt, upgrade_looks, upgrade_mode};
 use parking_lot_protocol::{AfterWake, CoreAnswer, LockMode, MutexPhase, Outcome, RwPhase};
 
 /// How one owns a lock that has so many shared holds of it.
@@ -151,7 +152,7 @@ fn mutex_in_debt(phase: MutexPhase) -> bool
 }
 
 /// The same at a reader-writer lock.
-fn rw_in_debt(phase: RwPhase) -> bool
+pub(crate) fn rw_in_debt(phase: RwPhase) -> bool
     ensures { (at : of_rw.QueuePosition) (us : List ℕ) → length us ≡ rw_taken phase → result ≡ rw_debts.is_in_debt (of_rw.does at us phase) }
 {
     use RwPhase::*;
@@ -205,14 +206,16 @@ fn late_in_debt(phase: LatePhase, spot: QueuePosition) -> bool
 }
 
 impl Call {
-    /// How its thread owns the lock now. One that sleeps and was handed a hold owns it.
+    /// How its thread owns the lock now. One that sleeps and was handed a hold owns it. Of an upgradable call it is said where the call is in
+    /// order, as each is that a machine runs.
     pub fn owns(&self) -> Option<OwnMode>
-        ensures { (us : List ℕ) → result ≡ call_mode us self.now }
+        ensures { IsInOrder self.now.core → (us : List ℕ) → result ≡ call_mode us self.now }
     {
         match &self.core {
             Core::Mutex(core) => mutex_mode(core.phase(), self.spot),
             Core::Rw(core) => rw_mode(core.phase(), self.spot, self.others),
             Core::Late(phase) => late_mode(*phase, self.spot),
+            Core::Upgrade(core) => upgrade_mode(core.phase(), self.spot),
         }
     }
 
@@ -225,6 +228,7 @@ impl Call {
             Core::Mutex(core) => mutex_in_debt(core.phase()),
             Core::Rw(core) => rw_in_debt(core.phase()),
             Core::Late(phase) => late_in_debt(*phase, self.spot),
+            Core::Upgrade(core) => upgrade_in_debt(core.phase()),
         }
     }
 
@@ -242,6 +246,7 @@ impl Call {
                 _ => false,
             },
             Core::Late(_) => false,
+            Core::Upgrade(core) => upgrade_asleep(core.phase()),
         }
     }
 
@@ -259,6 +264,7 @@ impl Call {
                 _ => false,
             },
             Core::Late(_) => false,
+            Core::Upgrade(core) => upgrade_looks(core.phase()),
         }
     }
 }

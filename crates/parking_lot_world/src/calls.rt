@@ -42,6 +42,20 @@ pub enum LockCall {
     UnlockWrite,
     /// It makes its exclusive hold a shared one.
     Downgrade,
+    /// It wants the upgradable hold, and waits for it.
+    UpgradableRead,
+    /// It wants the upgradable hold, and doesn't wait.
+    TryUpgradableRead,
+    /// It gives its upgradable hold up.
+    UnlockUpgradable,
+    /// It makes its upgradable hold the exclusive one, and waits until the readers have left.
+    Upgrade,
+    /// It makes its upgradable hold the exclusive one where nobody else reads, and doesn't wait. Where it is refused it keeps what it has.
+    TryUpgrade,
+    /// It makes its exclusive hold the upgradable one.
+    DowngradeToUpgradable,
+    /// It makes its upgradable hold a shared one.
+    DowngradeUpgradable,
 }
 
 /// How a thread owns a lock.
@@ -80,6 +94,9 @@ impl LockCall {
             LockCall::Read | LockCall::TryRead | LockCall::UnlockRead => false,
             LockCall::Write | LockCall::TryWrite | LockCall::UnlockWrite => false,
             LockCall::Downgrade => false,
+            LockCall::UpgradableRead | LockCall::TryUpgradableRead => false,
+            LockCall::UnlockUpgradable | LockCall::Upgrade | LockCall::TryUpgrade => false,
+            LockCall::DowngradeToUpgradable | LockCall::DowngradeUpgradable => false,
         }
     }
 
@@ -91,6 +108,10 @@ impl LockCall {
             LockCall::Unlock | LockCall::UnlockWrite => Some(OwnMode::Exclusive),
             LockCall::Downgrade => Some(OwnMode::Exclusive),
             LockCall::UnlockRead => Some(OwnMode::Shared),
+            LockCall::UnlockUpgradable | LockCall::Upgrade => Some(OwnMode::Upgradable),
+            LockCall::TryUpgrade | LockCall::DowngradeUpgradable => Some(OwnMode::Upgradable),
+            LockCall::DowngradeToUpgradable => Some(OwnMode::Exclusive),
+            LockCall::UpgradableRead | LockCall::TryUpgradableRead => None,
             LockCall::Lock | LockCall::TryLock | LockCall::LockUntil => None,
             LockCall::Read | LockCall::TryRead => None,
             LockCall::Write | LockCall::TryWrite => None,

@@ -3,7 +3,7 @@ ghost use Rattle.parking_lot_world.specs.ActLaws.{ActsAreSteps};
 
 pub use crate::late_laws::late_acts_are_steps;
 pub use crate::lot_laws::{
-    acts_keep_places, firsts_are_taken, new_machines_hold_together, stances_follow_acts,
+    acts_keep_places, new_machines_hold_together, nexts_are_taken, stances_follow_acts,
     the_lot_never_refuses,
 };
 pub use crate::mutex_laws::{
@@ -13,8 +13,8 @@ pub use crate::mutex_laws::{
 pub use crate::rank_laws::{mutex_steps_fall, rw_steps_fall};
 pub use crate::rw_laws::{
     acts_cross, answers_are_last, answers_are_moves, begins_are_ready, calls_keep, ends_are_steps,
-    firsts_may_be_taken, free_sections_are_empty, joins_are_steps, lists_are_known,
-    makes_are_steps, only_sleepers_stand, sleepers_at_a_lock_are_known, stays_are_steps,
+    free_sections_are_empty, joins_are_steps, lists_are_known, makes_are_steps,
+    only_sleepers_stand, scans_go_by_tokens, sleepers_at_a_lock_are_known, stays_are_steps,
     stores_are_steps, stores_tell, takes_are_steps, tokens_say, tokens_tell, wakes_are_steps,
     woken_are_told, words_are_numbers, writers_are_taken,
 };
@@ -25,6 +25,10 @@ pub use crate::sound_laws::{
 pub use crate::starts::allowed_calls_begin_well;
 pub use crate::take_laws::takes_are_steps_of_the_machine;
 pub use crate::tell_laws::tells_are_steps;
+pub use crate::upgrade_laws::{
+    upgradable_answers_are_steps, upgradable_calls_keep, upgradable_ends_are_steps,
+    upgrade_steps_fall,
+};
 pub use crate::view_laws::modes_are_weighed;
 
 /// Each act of the machine keeps it fit, and is the step of the rules that the core's table names.

@@ -22,6 +22,8 @@ mod sound_laws;
 mod starts;
 mod take_laws;
 mod tell_laws;
+mod upgrade_laws;
+mod upgrade_views;
 mod view_laws;
 
 pub use calls::{LockCall, LockKind, OwnMode};

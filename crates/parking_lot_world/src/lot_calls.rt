@@ -1,18 +1,18 @@
 //! Calls on the lot where they are never refused.
-ghost use Rattle.std.specs.Prelude.{◌≡◌, None, Some, if◌then◌else◌, Ok, false, slice_get, slice_set};
+ghost use Rattle.std.specs.Prelude.{◌≡◌, ◌≢◌, ℕ, None, Some, if◌then◌else◌, Ok, false, slice_set};
 ghost use Rattle.parking_lot_core_lot.specs.declared.place.Phase.TheVariants as phase;
-ghost use Rattle.parking_lot_core_lot.specs.declared.parking.FilterOp.TheVariants.{Unpark};
+ghost use Rattle.parking_lot_core_lot.specs.declared.parking.FilterOp.TheVariants.{Stop, Unpark};
 ghost use Rattle.parking_lot_core_lot.specs.declared.parking.UnparkToken.{UnparkToken};
 ghost use Rattle.parking_lot_core_lot.specs.declared.place.Place.TheVariants.{Running, Taken, Waiting};
 ghost use Rattle.parking_lot_core_lot.specs.declared.place.Section.{Section};
 ghost use Rattle.parking_lot_core_lot.specs.declared.place.Sleep.{Sleep};
-ghost use Rattle.parking_lot_core_lot.specs.declared.place.Waiter.{Waiter};
 ghost use Rattle.parking_lot_core_lot.specs.Places.{place_at, may_check, may_join, may_store, may_take, passed_of};
 ghost use Rattle.parking_lot_core_lot.specs.Results.{is_left};
 ghost use Rattle.parking_lot_core_lot.specs.Sound.{Sound};
 ghost use Rattle.parking_lot_core_lot.specs.Machine.{machine, given_up, quit_fault, quitted, return_fault, returned, any_phase, closed, enter_fault, in_phase, joined, opened, section_of, step_fault, stored};
 ghost use Rattle.parking_lot_protocol.specs.Wake.{wake_answer};
-ghost use Rattle.parking_lot_world.specs.FrontTakings.{FrontTaken};
+ghost use Rattle.parking_lot_world.specs.NextTakings.{NextTaken};
+ghost use Rattle.parking_lot_world.specs.Passes.{ArePassed};
 
 use parking_lot_core_lot::{
     DEFAULT_UNPARK_TOKEN, FilterOp, Lot, ParkResult, ParkToken, Taking, UnparkToken,
@@ -109,11 +109,11 @@ fn quit_list<A: Allocator>(lot: &mut Lot<A>, thread: usize, key: usize)
     let _ = lot.quit(thread);
 }
 
-/// Takes the first waiter of the section's list, whatever it waits for. `None` where the list is empty.
+/// Takes the first waiter of the section's list, whatever it waits for. `None` where nobody is left that wasn't passed.
 pub(crate) fn take_first<A: Allocator>(lot: &mut Lot<A>, thread: usize) -> Option<Taking>
     requires inside { step_fault may_take (machine lot.old) thread ≡ None }
-    requires passed { (s : Section) → section_of (machine lot.old) thread ≡ Some s → passed_of s.phase ≡ 0 }
-    ensures front { (s : Section) → section_of (machine lot.old) thread ≡ Some s → FrontTaken (machine lot.old) (machine lot.new) (Ok result) s.key }
+    requires passed { (s : Section) → section_of (machine lot.old) thread ≡ Some s → ArePassed (λ token. Unpark) ((machine lot.old).queues s.key) (passed_of s.phase) }
+    ensures next { (s : Section) → section_of (machine lot.old) thread ≡ Some s → NextTaken (λ token. Unpark) (machine lot.old) (machine lot.new) (Ok result) s.key }
     ensures sound { Sound (machine lot.new) }
 {
     let wants = |_token: ParkToken| -> FilterOp
@@ -124,12 +124,12 @@ pub(crate) fn take_first<A: Allocator>(lot: &mut Lot<A>, thread: usize) -> Optio
     taking
 }
 
-/// Takes the first waiter of the section's list, which a scan takes at that sum of tokens. `None` where the list is empty.
+/// Takes the first waiter of the section's list that a scan takes at that sum of tokens. `None` where it passes all.
 pub(crate) fn take_next<A: Allocator>(lot: &mut Lot<A>, thread: usize, sum: u64) -> Option<Taking>
     requires inside { step_fault may_take (machine lot.old) thread ≡ None }
-    requires passed { (s : Section) → section_of (machine lot.old) thread ≡ Some s → passed_of s.phase ≡ 0 }
-    requires wanted { (s : Section) (w : Waiter) → section_of (machine lot.old) thread ≡ Some s → slice_get ((machine lot.old).queues s.key) 0 ≡ Some w → wake_answer sum w.token.0 ≡ Unpark }
-    ensures front { (s : Section) → section_of (machine lot.old) thread ≡ Some s → FrontTaken (machine lot.old) (machine lot.new) (Ok result) s.key }
+    requires passed { (s : Section) → section_of (machine lot.old) thread ≡ Some s → ArePassed (wake_answer sum) ((machine lot.old).queues s.key) (passed_of s.phase) }
+    requires goes { (token : ℕ) → wake_answer sum token ≢ Stop }
+    ensures next { (s : Section) → section_of (machine lot.old) thread ≡ Some s → NextTaken (wake_answer sum) (machine lot.old) (machine lot.new) (Ok result) s.key }
     ensures sound { Sound (machine lot.new) }
 {
     let wants = |token: ParkToken| -> FilterOp

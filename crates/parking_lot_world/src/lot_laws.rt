@@ -1,6 +1,6 @@
 //! Laws of the machine of rows: how its threads stand to the sections and lists of the lot.
 ghost use Rattle.parking_lot_world.specs.StanceLaws.{ActsLead, CallsBegin, CallsEnd, KeysAreTwo, SleepersWake, TakingsCount, WakersCount};
-ghost use Rattle.parking_lot_world.specs.FrontTakings.{FirstsAreTaken};
+ghost use Rattle.parking_lot_world.specs.NextTakings.{NextsAreTaken};
 ghost use Rattle.parking_lot_world.specs.LotLaws.{ActsKeepFits, ActsKeepWakes, LotNeverRefuses, NewMachinesFit, RegisteredThreadsRun, ScansHaveRoom};
 
 use parking_lot_core_lot::{FilterOp, ParkToken};
@@ -34,10 +34,10 @@ pub fn the_lot_never_refuses()
     ensures room { ScansHaveRoom }
 {}
 
-/// A section that has passed nobody, by a filter that wants whoever is first, takes the first of its list, and nobody only
-/// where the list is empty.
-pub fn firsts_are_taken<F: FnMut(ParkToken) -> FilterOp + Drop>(filter: F)
-    ensures { FirstsAreTaken F.step filter }
+/// A section takes the next of its list that its filter wants, by a filter that goes by the token alone and stops at none; and
+/// nobody only where it passes all.
+pub fn nexts_are_taken<F: FnMut(ParkToken) -> FilterOp + Drop>(filter: F)
+    ensures { NextsAreTaken F.step filter }
 {
     let _ = &filter;
 }

@@ -21,6 +21,10 @@ impl Hold {
     {
         match self {
             Hold::Excludes => Some(OwnMode::Exclusive),
+            Hold::Upgrades => match kind {
+                Some(LockKind::Mutex | LockKind::FairMutex) => None,
+                _ => Some(OwnMode::Upgradable),
+            },
             Hold::Shares(holds) => match kind {
                 Some(LockKind::Mutex | LockKind::FairMutex) => None,
                 _ if *holds > 0 => Some(OwnMode::Shared),

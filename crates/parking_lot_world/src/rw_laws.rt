@@ -1,5 +1,5 @@
 //! What a core is told at a sound reader-writer lock is a step of the rules there.
-ghost use Rattle.parking_lot_world.specs.RwLaws.{ActsCross, AnswersAreLast, AnswersAreMoves, BeginsAreReady, CallsKeep, EndsAreSteps, FirstsMayBeTaken, FreeSectionsAreEmpty, JoinsAreSteps, ListsAreKnown, MakesAreSteps, OnlySleepersStand, SleepersAreKnown, StaysAreSteps, StoresAreSteps, StoresTell, TakesAreSteps, TokensSay, TokensTell, WakesAreSteps, WokenAreTold, WordsAreNumbers, WritersAreTaken};
+ghost use Rattle.parking_lot_world.specs.RwLaws.{ActsCross, AnswersAreLast, AnswersAreMoves, BeginsAreReady, CallsKeep, EndsAreSteps, ScansGoByTokens, FreeSectionsAreEmpty, JoinsAreSteps, ListsAreKnown, MakesAreSteps, OnlySleepersStand, SleepersAreKnown, StaysAreSteps, StoresAreSteps, StoresTell, TakesAreSteps, TokensSay, TokensTell, WakesAreSteps, WokenAreTold, WordsAreNumbers, WritersAreTaken};
 
 /// The parts of a word and its number say the same.
 pub fn words_are_numbers()
@@ -31,9 +31,9 @@ pub fn takes_are_steps()
     ensures { TakesAreSteps }
 {}
 
-/// The first waiter of the first list may be taken where none was taken yet that wants more than a shared hold.
-pub fn firsts_may_be_taken()
-    ensures { FirstsMayBeTaken }
+/// A scan does at a waiter, by its sum and the token, what the rules do by whom it has taken.
+pub fn scans_go_by_tokens()
+    ensures { ScansGoByTokens }
 {}
 
 /// A waiter's token tells what it wants.

@@ -2,27 +2,30 @@
 ghost use Rattle.std.specs.Prelude.{◌≡◌, ◌≤◌, ℕ};
 ghost use Rattle.parking_lot_protocol.specs.declared.mutex_phase.MutexPhase.TheVariants.{Invalid, Sleeps};
 ghost use Rattle.parking_lot_world.specs.Machines.{is_back, is_listed, sleeps_in_time};
-ghost use Rattle.parking_lot_world.specs.Stances.{In, Takes, core_act, core_next, core_tells, late_act, late_next, stance};
-ghost use Rattle.parking_lot_world.specs.RowActs.{hold_after, mutex_hold_after, rw_hold_after, joins, settled_spot, told_of};
+ghost use Rattle.parking_lot_world.specs.Stances.{In, Takes, core_act, core_next, core_tells, late_act, late_next, rw_stance, stance, upgrade_stance, upgrade_tells};
+ghost use Rattle.parking_lot_world.specs.RowActs.{hold_after, kept_hold, mutex_hold_after, upgrade_hold_after, rw_hold_after, joins, settled_spot, told_of};
 
 use parking_lot_core_lot::UnparkToken;
 use parking_lot_protocol::{
     Act, ActResult, AfterWake, CoreAnswer, HAND_OVER, MutexCore, MutexPhase, Outcome, RwCore,
     RwPhase, SectionAct, TRY_AGAIN,
 };
+use parking_lot_upgrades::{UpgradeCore, UpgradePhase};
 
 /// The bits of a mutex's word: it is locked, and threads wait for it.
 const LOCKED: u64 = 1;
 
 const PARKED: u64 = 2;
 
-/// What a thread owns of a lock between its calls: so many shared holds, or the exclusive one.
+/// What a thread owns of a lock between its calls: so many shared holds, or the exclusive one, or the upgradable one.
 #[derive(Clone, Copy, PartialEq, Eq, Debug)]
 pub enum Hold {
     /// So many shared holds; with none it owns nothing.
     Shares(u8),
     /// The exclusive hold.
     Excludes,
+    /// The upgradable hold.
+    Upgrades,
 }
 
 /// What one that took a sleeper off its list has told it: nothing yet, that it is to try again, or that it has the lock.
@@ -69,6 +72,8 @@ pub enum Core {
     Rw(RwCore),
     /// At a mutex, once its moment has passed.
     Late(LatePhase),
+    /// At a reader-writer lock, for its upgradable hold.
+    Upgrade(UpgradeCore),
 }
 
 /// A thread that another has taken off its list and is still to wake.
@@ -153,6 +158,7 @@ impl Core {
             Core::Mutex(core) => core.act(),
             Core::Rw(core) => core.act(),
             Core::Late(phase) => phase.act(),
+            Core::Upgrade(core) => core.act(),
         }
     }
 
@@ -170,6 +176,10 @@ impl Core {
                 Core::Rw(core)
             }
             Core::Late(phase) => phase.told(seen),
+            Core::Upgrade(mut core) => {
+                core.next(seen);
+                Core::Upgrade(core)
+            }
         }
     }
 
@@ -181,6 +191,7 @@ impl Core {
             Core::Mutex(core) => core.wake_token(),
             Core::Rw(core) => core.wake_token(),
             Core::Late(_) => TRY_AGAIN,
+            Core::Upgrade(core) => upgrade_token(core.phase()),
         }
     }
 
@@ -199,10 +210,8 @@ impl Core {
         ensures { (k : ℕ) → stance self.now ≡ In k Takes → result ≡ k }
     {
         match self {
-            Core::Rw(core) => match core.phase() {
-                RwPhase::TakeWriter(_) => 1,
-                _ => 0,
-            },
+            Core::Rw(core) => rw_list(core.phase()),
+            Core::Upgrade(core) => upgrade_list(core.phase()),
             Core::Mutex(_) | Core::Late(_) => 0,
         }
     }
@@ -216,6 +225,7 @@ impl Core {
             Core::Mutex(core) => mutex_hold_after(core.phase()),
             Core::Rw(core) => rw_hold_after(core.phase(), others),
             Core::Late(_) => Hold::Shares(0),
+            Core::Upgrade(core) => upgrade_hold_after(core.phase()),
         }
     }
 }
@@ -277,6 +287,68 @@ fn astray() -> MutexCore
     let mut core = MutexCore::lock();
     core.next(ActResult::Made);
     core
+}
+
+/// The token for those that the section of an upgradable call took.
+fn upgrade_token(phase: UpgradePhase) -> UnparkToken
+    ensures { result ≡ upgrade_tells phase }
+{
+    match phase {
+        UpgradePhase::Plain(core) => core.wake_token(),
+        UpgradePhase::Seeks(core) => core.wake_token(),
+        UpgradePhase::Drains(core) => core.wake_token(),
+        UpgradePhase::Frees(_, core) => core.wake_token(),
+        UpgradePhase::Owes(_, _, core) => core.wake_token(),
+        _ => TRY_AGAIN,
+    }
+}
+
+/// The list at which a call of a reader-writer lock goes through waiters.
+fn rw_list(phase: RwPhase) -> u8
+    ensures { (k : ℕ) → rw_stance phase ≡ In k Takes → result ≡ k }
+{
+    match phase {
+        RwPhase::TakeWriter(_) => 1,
+        _ => 0,
+    }
+}
+
+/// The list at which an upgradable call does.
+fn upgrade_list(phase: UpgradePhase) -> u8
+    ensures { (k : ℕ) → upgrade_stance phase ≡ In k Takes → result ≡ k }
+{
+    match phase {
+        UpgradePhase::Plain(core) => rw_list(core.phase()),
+        UpgradePhase::Seeks(core) => rw_list(core.phase()),
+        UpgradePhase::Drains(core) => rw_list(core.phase()),
+        UpgradePhase::Frees(_, core) => rw_list(core.phase()),
+        UpgradePhase::Owes(_, _, core) => rw_list(core.phase()),
+        _ => 0,
+    }
+}
+
+/// What one owns that keeps such a hold.
+fn kept_hold(kept: parking_lot_upgrades::Hold) -> Hold
+    ensures { result ≡ kept_hold kept }
+{
+    match kept {
+        parking_lot_upgrades::Hold::Nothing => Hold::Shares(0),
+        parking_lot_upgrades::Hold::Shared => Hold::Shares(1),
+        parking_lot_upgrades::Hold::Upgradable => Hold::Upgrades,
+        parking_lot_upgrades::Hold::Exclusive => Hold::Excludes,
+    }
+}
+
+/// What one owns whose upgradable call ends.
+fn upgrade_hold_after(phase: UpgradePhase) -> Hold
+    ensures { result ≡ upgrade_hold_after phase }
+{
+    match phase {
+        UpgradePhase::Drains(_) => Hold::Excludes,
+        UpgradePhase::Owes(kept, _, _) => kept_hold(kept),
+        UpgradePhase::Ends(kept, _) => kept_hold(kept),
+        _ => Hold::Shares(0),
+    }
 }
 
 /// What one owns whose call at a mutex ends.

@@ -2,11 +2,12 @@
 ghost use Rattle.std.specs.Prelude.{◌≡◌};
 ghost use Rattle.parking_lot_protocol.specs.declared.mutex_phase.MutexPhase.TheVariants.{Unlocking};
 ghost use Rattle.parking_lot_world.specs.Kinds.{is_recursive};
-ghost use Rattle.parking_lot_world.specs.Beginnings.{AllowedCallsBeginWell, core_of, excludes, holds, holds_beside, is_allowed, is_fair, may_share, owns_nothing, shares};
+ghost use Rattle.parking_lot_world.specs.Beginnings.{AllowedCallsBeginWell, core_of, excludes, holds, holds_beside, is_allowed, is_fair, may_share, owns_nothing, shares, upgrades};
 
 use crate::calls::{LockCall, LockKind};
 use crate::seat::{Core, Hold};
 use parking_lot_protocol::{MutexCore, RwCore};
+use parking_lot_upgrades::UpgradeCore;
 
 impl LockCall {
     /// The core of such a call at a lock of that kind, before it begins.
@@ -25,6 +26,15 @@ impl LockCall {
             LockCall::TryWrite => Core::Rw(RwCore::try_lock_exclusive()),
             LockCall::UnlockWrite => Core::Rw(RwCore::unlock_exclusive()),
             LockCall::Downgrade => Core::Rw(RwCore::downgrade()),
+            LockCall::UpgradableRead => Core::Upgrade(UpgradeCore::lock()),
+            LockCall::TryUpgradableRead => Core::Upgrade(UpgradeCore::try_lock()),
+            LockCall::UnlockUpgradable => Core::Upgrade(UpgradeCore::unlock()),
+            LockCall::Upgrade => Core::Upgrade(UpgradeCore::upgrade()),
+            LockCall::TryUpgrade => Core::Upgrade(UpgradeCore::try_upgrade()),
+            LockCall::DowngradeToUpgradable => Core::Upgrade(
+                UpgradeCore::downgrade_to_upgradable(),
+            ),
+            LockCall::DowngradeUpgradable => Core::Upgrade(UpgradeCore::downgrade()),
         }
     }
 }
@@ -62,6 +72,10 @@ impl Hold {
             LockCall::Write | LockCall::TryWrite => self.is_none(),
             LockCall::UnlockRead => self.shares(),
             LockCall::Unlock | LockCall::UnlockWrite | LockCall::Downgrade => self.excludes(),
+            LockCall::UpgradableRead | LockCall::TryUpgradableRead => self.is_none(),
+            LockCall::DowngradeToUpgradable => self.excludes(),
+            LockCall::UnlockUpgradable | LockCall::Upgrade => self.upgrades(),
+            LockCall::TryUpgrade | LockCall::DowngradeUpgradable => self.upgrades(),
         }
     }
 
@@ -80,7 +94,7 @@ impl Hold {
     {
         match self {
             Hold::Shares(holds) => *holds == 0,
-            Hold::Excludes => false,
+            Hold::Excludes | Hold::Upgrades => false,
         }
     }
 
@@ -89,7 +103,7 @@ impl Hold {
     {
         match self {
             Hold::Shares(holds) => *holds > 0,
-            Hold::Excludes => false,
+            Hold::Excludes | Hold::Upgrades => false,
         }
     }
 
@@ -97,8 +111,17 @@ impl Hold {
         ensures { result ≡ excludes self.now }
     {
         match self {
-            Hold::Shares(_) => false,
+            Hold::Shares(_) | Hold::Upgrades => false,
             Hold::Excludes => true,
+        }
+    }
+
+    fn upgrades(&self) -> bool
+        ensures { result ≡ upgrades self.now }
+    {
+        match self {
+            Hold::Shares(_) | Hold::Excludes => false,
+            Hold::Upgrades => true,
         }
     }
 
@@ -117,7 +140,7 @@ impl Hold {
     {
         match self {
             Hold::Shares(holds) => *holds,
-            Hold::Excludes => 0,
+            Hold::Excludes | Hold::Upgrades => 0,
         }
     }
 }

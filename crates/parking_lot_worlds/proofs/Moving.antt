@@ -17,6 +17,11 @@ use Rattle.parking_lot_protocol.specs.declared.mutex_phase.MutexPhase.{MutexPhas
 use Rattle.parking_lot_protocol.specs.declared.rw_phase.RwPhase.{RwPhase}
 use Rattle.parking_lot_protocol.specs.MutexTable as of_mutex
 use Rattle.parking_lot_protocol.specs.RwTable as of_rw
+use Rattle.parking_lot_protocol.specs.declared.act.CoreAnswer.{CoreAnswer}
+use Rattle.parking_lot_upgrades.specs.UpgradeTable as of_upgrade
+use Rattle.parking_lot_upgrades.specs.declared.upgrade_phase.Hold as up
+use Rattle.parking_lot_upgrades.specs.declared.upgrade_phase.Release.{Release}
+use Rattle.parking_lot_upgrades.specs.declared.upgrade_phase.UpgradePhase.{UpgradePhase}
 use Rattle.parking_lot_world.specs.declared.open_call.Call.{Call}
 use Rattle.parking_lot_world.specs.declared.seat.Core.{Core}
 use Rattle.parking_lot_world.specs.declared.seat.LatePhase.{LatePhase}
@@ -26,7 +31,7 @@ use Rattle.parking_lot_world.specs.Machines.{can_move, can_move_in, goes_late, i
 use Rattle.parking_lot_world.specs.RowFits.{FitsTogether, Seated, Stands}
 use Rattle.parking_lot_world.specs.Rows.{State, call_at, state}
 use Rattle.parking_lot_world.specs.SoundLaws as row_laws
-use Rattle.parking_lot_world.specs.Stances.{Doing, In, Stance, core_act, mutex_stance, rw_stance, stance}
+use Rattle.parking_lot_world.specs.Stances.{Doing, In, Stance, core_act, mutex_stance, rw_stance, seeks_stance, stance, upgrade_stance}
 use Rattle.parking_lot_world.specs.Stances as stances
 use Rattle.parking_lot_worlds.specs.WorldLaws.{Moves, SomebodyCanMove}
 use Rattle.parking_lot_worlds.specs.Worlds.{IsWhole, Shown, core_enters, goes, is_entry, is_in_once, lock_enters, may_go, once_enters, once_side, row_side}
@@ -95,6 +100,65 @@ rw_works (RwPhase.Stores s left) k how e = refl
 rw_works (RwPhase.Leaves rest count handed) k how e = refl
 rw_works p k how e = absurd cc
 
+seeks_works : (p : RwPhase) (k : ℕ) (how : Doing) → seeks_stance p ≡ In k how → is_work (of_upgrade.seeks_act p) ≡ true
+seeks_works (RwPhase.Checks want woken) k how e = refl
+seeks_works (RwPhase.Retreats want woken) k how e = refl
+seeks_works (RwPhase.Appends want) k how e = refl
+seeks_works (RwPhase.Rests want) k how e = refl
+seeks_works (RwPhase.DrainChecks d) k how e = refl
+seeks_works (RwPhase.DrainRetreats d) k how e = refl
+seeks_works (RwPhase.DrainAppends rounds) k how e = refl
+seeks_works (RwPhase.DrainRests rounds) k how e = refl
+seeks_works (RwPhase.TakeWriter rest) k how e = refl
+seeks_works (RwPhase.ClearWriterParked rest took) k how e = refl
+seeks_works (RwPhase.LeaveWriterWakeSection rest took) k how e = refl
+seeks_works (RwPhase.Scans s) k how e = refl
+seeks_works (RwPhase.Stores s left) k how e = refl
+seeks_works (RwPhase.Leaves rest count handed) k how e = refl
+seeks_works p k how e = absurd cc
+
+frees_works : (r : Release) (p : RwPhase) (k : ℕ) (how : Doing) → rw_stance p ≡ In k how → is_work (of_upgrade.frees_act r p) ≡ true
+frees_works r (RwPhase.Checks want woken) k how e = refl
+frees_works r (RwPhase.Retreats want woken) k how e = refl
+frees_works r (RwPhase.Appends want) k how e = refl
+frees_works r (RwPhase.Rests want) k how e = refl
+frees_works r (RwPhase.DrainChecks d) k how e = refl
+frees_works r (RwPhase.DrainRetreats d) k how e = refl
+frees_works r (RwPhase.DrainAppends rounds) k how e = refl
+frees_works r (RwPhase.DrainRests rounds) k how e = refl
+frees_works r (RwPhase.TakeWriter rest) k how e = refl
+frees_works r (RwPhase.ClearWriterParked rest took) k how e = refl
+frees_works r (RwPhase.LeaveWriterWakeSection rest took) k how e = refl
+frees_works r (RwPhase.Scans s) k how e = refl
+frees_works r (RwPhase.Stores s left) k how e = refl
+frees_works r (RwPhase.Leaves rest count handed) k how e = refl
+frees_works r p k how e = absurd cc
+
+owes_works : (kept : up.Hold) (answer : CoreAnswer) (p : RwPhase) (k : ℕ) (how : Doing) → rw_stance p ≡ In k how → is_work (of_upgrade.owes_act kept answer p) ≡ true
+owes_works kept answer (RwPhase.Checks want woken) k how e = refl
+owes_works kept answer (RwPhase.Retreats want woken) k how e = refl
+owes_works kept answer (RwPhase.Appends want) k how e = refl
+owes_works kept answer (RwPhase.Rests want) k how e = refl
+owes_works kept answer (RwPhase.DrainChecks d) k how e = refl
+owes_works kept answer (RwPhase.DrainRetreats d) k how e = refl
+owes_works kept answer (RwPhase.DrainAppends rounds) k how e = refl
+owes_works kept answer (RwPhase.DrainRests rounds) k how e = refl
+owes_works kept answer (RwPhase.TakeWriter rest) k how e = refl
+owes_works kept answer (RwPhase.ClearWriterParked rest took) k how e = refl
+owes_works kept answer (RwPhase.LeaveWriterWakeSection rest took) k how e = refl
+owes_works kept answer (RwPhase.Scans s) k how e = refl
+owes_works kept answer (RwPhase.Stores s left) k how e = refl
+owes_works kept answer (RwPhase.Leaves rest count handed) k how e = refl
+owes_works kept answer p k how e = absurd cc
+
+upgrade_works : (p : UpgradePhase) (k : ℕ) (how : Doing) → upgrade_stance p ≡ In k how → is_work (of_upgrade.act_of p) ≡ true
+upgrade_works (UpgradePhase.Plain core) k how e = rw_works core.phase k how e
+upgrade_works (UpgradePhase.Seeks core) k how e = seeks_works core.phase k how e
+upgrade_works (UpgradePhase.Drains core) k how e = rw_works core.phase k how e
+upgrade_works (UpgradePhase.Frees r core) k how e = frees_works r core.phase k how e
+upgrade_works (UpgradePhase.Owes kept answer core) k how e = owes_works kept answer core.phase k how e
+upgrade_works p k how e = absurd cc
+
 once_works : (p : OncePhase) → is_in_section p ≡ true → is_work (of_once.act_of p) ≡ true
 once_works (OncePhase.Checks wish) e = refl
 once_works (OncePhase.Retreats wish) e = refl
@@ -136,6 +200,7 @@ module _ (s : State) (h : FitsTogether s) where
   inside_goes c (Core.Mutex m) k how e = work_goes (of_mutex.act_of m.phase) (is_taken s c) (mutex_works m.phase k how e)
   inside_goes c (Core.Rw m) k how e = work_goes (of_rw.act_of m.phase) (is_taken s c) (rw_works m.phase k how e)
   inside_goes c (Core.Late p) k how e = late_inside c p k how e
+  inside_goes c (Core.Upgrade m) k how e = work_goes (of_upgrade.act_of m.phase) (is_taken s c) (upgrade_works m.phase k how e)
 
   module _ (o : Section) (is : s.lot.section ≡ Some o) where
     abbrev whose : ℕ

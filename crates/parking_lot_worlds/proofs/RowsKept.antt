@@ -49,9 +49,9 @@ module _ (s : State) (t : ℕ) (c : Call) (here : call_at s t ≡ Some c) where
 
   inside : {b : Bool} (k : SectionAct) (fair : Bool) (u : State) → BecameInside k t fair c s u → Kept b s u
   inside SectionAct.Check fair u e = is u _ e (record { calls = own _; kinds = refl; closed = λ b o. none_of _ o })
-  inside SectionAct.TakeFirst fair u (k, stands, inl (w, first, e)) = is u _ e (record { calls = takes w.thread _; kinds = refl; closed = λ b o. none_of _ o })
+  inside SectionAct.TakeFirst fair u (k, stands, inl (nth, w, first, e)) = is u _ e (record { calls = takes w.thread _; kinds = refl; closed = λ b o. none_of _ o })
   inside SectionAct.TakeFirst fair u (k, stands, inr (empty, e)) = is u _ e (record { calls = own _; kinds = refl; closed = λ b o. none_of _ o })
-  inside (SectionAct.TakeNext sum) fair u (k, stands, inl (w, first, e)) = is u _ e (record { calls = takes w.thread _; kinds = refl; closed = λ b o. none_of _ o })
+  inside (SectionAct.TakeNext sum) fair u (k, stands, inl (nth, w, first, e)) = is u _ e (record { calls = takes w.thread _; kinds = refl; closed = λ b o. none_of _ o })
   inside (SectionAct.TakeNext sum) fair u (k, stands, inr (empty, e)) = is u _ e (record { calls = own _; kinds = refl; closed = λ b o. none_of _ o })
   inside (SectionAct.Append token) fair u (k, stands, e) = is u _ e (record { calls = next_stays lock_of s.calls t c _ here refl; kinds = refl; closed = λ b o. none_of _ o })
   inside (SectionAct.Store plain handing) fair u e = is u _ e (record { calls = says _ _; kinds = refl; closed = λ b o. none_of _ o })
@@ -74,6 +74,7 @@ module _ (s : State) (t : ℕ) (c : Call) (here : call_at s t ≡ Some c) where
   entering : (k : Core) (key : ℕ) → core_act k ≡ Act.Enter key → core_enters k ≡ true
   entering (Core.Mutex m) key e = ap is_entry e
   entering (Core.Rw m) key e = ap is_entry e
+  entering (Core.Upgrade m) key e = ap is_entry e
   entering (Core.Late LatePhase.Expires) key e = refl
   entering (Core.Late p) key e = absurd cc
 

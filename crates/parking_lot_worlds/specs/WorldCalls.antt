@@ -49,6 +49,13 @@ asked call.Write = OfLock row.Write
 asked call.TryWrite = OfLock row.TryWrite
 asked call.UnlockWrite = OfLock row.UnlockWrite
 asked call.Downgrade = OfLock row.Downgrade
+asked call.UpgradableRead = OfLock row.UpgradableRead
+asked call.TryUpgradableRead = OfLock row.TryUpgradableRead
+asked call.UnlockUpgradable = OfLock row.UnlockUpgradable
+asked call.Upgrade = OfLock row.Upgrade
+asked call.TryUpgrade = OfLock row.TryUpgrade
+asked call.DowngradeToUpgradable = OfLock row.DowngradeToUpgradable
+asked call.DowngradeUpgradable = OfLock row.DowngradeUpgradable
 asked (call.CallOnce well) = OfOnce (once.CallOnce well)
 asked (call.CallOnceForce well) = OfOnce (once.CallOnceForce well)
 asked call.OnceWait = OfOnce once.OnceWait
@@ -64,6 +71,7 @@ abbrev pub of_end : Core → CoreAnswer → LockAnswer
 of_end (core.Late p) a = answer.TimedOut
 of_end (core.Mutex c) a = of_core a
 of_end (core.Rw c) a = of_core a
+of_end (core.Upgrade c) a = of_core a
 
 -- what a thread is answered whose call at a lock ends so
 abbrev pub said : Option Call → CoreAnswer → LockAnswer

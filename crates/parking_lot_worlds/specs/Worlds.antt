@@ -65,6 +65,7 @@ is_entry other = false
 abbrev pub core_enters : Core → Bool
 core_enters (core.Mutex c) = is_entry (core_act (core.Mutex c))
 core_enters (core.Rw c) = is_entry (core_act (core.Rw c))
+core_enters (core.Upgrade c) = is_entry (core_act (core.Upgrade c))
 core_enters (core.Late late.Expires) = true
 core_enters (core.Late late.Quits) = false
 core_enters (core.Late late.Masks) = false

@@ -27,6 +27,7 @@ fn core_enters(core: Core) -> bool
     match core {
         Core::Mutex(core) => is_entry(core.act()),
         Core::Rw(core) => is_entry(core.act()),
+        Core::Upgrade(core) => is_entry(core.act()),
         Core::Late(phase) => match phase {
             LatePhase::Expires => true,
             LatePhase::Quits | LatePhase::Masks | LatePhase::Leaves | LatePhase::GivesUp => false,

@@ -46,6 +46,20 @@ pub enum LockCall {
     UnlockWrite,
     /// It makes its exclusive hold a shared one.
     Downgrade,
+    /// It wants the upgradable hold, and waits for it.
+    UpgradableRead,
+    /// It wants the upgradable hold, and doesn't wait.
+    TryUpgradableRead,
+    /// It gives its upgradable hold up.
+    UnlockUpgradable,
+    /// It makes its upgradable hold the exclusive one, and waits until the readers have left.
+    Upgrade,
+    /// It makes its upgradable hold the exclusive one where nobody else reads, and doesn't wait. Where it is refused it keeps what it has.
+    TryUpgrade,
+    /// It makes its exclusive hold the upgradable one.
+    DowngradeToUpgradable,
+    /// It makes its upgradable hold a shared one.
+    DowngradeUpgradable,
     /// At a once: it runs its closure where none has run, waits while one runs, and is refused where the last one has failed. This says whether
     /// its closure ends well, if it is run.
     CallOnce(bool),
@@ -69,9 +83,9 @@ pub enum Asked {
 /// How a call ended.
 #[derive(Clone, Copy, PartialEq, Eq, Debug)]
 pub enum LockAnswer {
-    /// The thread owns the lock as it asked for it; after a downgrade as a reader.
+    /// The thread owns the lock as it asked for it; after a downgrade as a reader, or as the upgradable one.
     Owned,
-    /// A try found the lock taken.
+    /// A try found the lock taken; one to upgrade keeps its hold.
     Refused,
     /// The thread owns the lock no more.
     Released,
@@ -128,6 +142,13 @@ impl LockCall {
             LockCall::TryWrite => Asked::OfLock(RowCall::TryWrite),
             LockCall::UnlockWrite => Asked::OfLock(RowCall::UnlockWrite),
             LockCall::Downgrade => Asked::OfLock(RowCall::Downgrade),
+            LockCall::UpgradableRead => Asked::OfLock(RowCall::UpgradableRead),
+            LockCall::TryUpgradableRead => Asked::OfLock(RowCall::TryUpgradableRead),
+            LockCall::UnlockUpgradable => Asked::OfLock(RowCall::UnlockUpgradable),
+            LockCall::Upgrade => Asked::OfLock(RowCall::Upgrade),
+            LockCall::TryUpgrade => Asked::OfLock(RowCall::TryUpgrade),
+            LockCall::DowngradeToUpgradable => Asked::OfLock(RowCall::DowngradeToUpgradable),
+            LockCall::DowngradeUpgradable => Asked::OfLock(RowCall::DowngradeUpgradable),
             LockCall::CallOnce(well) => Asked::OfOnce(OnceCall::CallOnce(well)),
             LockCall::CallOnceForce(well) => Asked::OfOnce(OnceCall::CallOnceForce(well)),
             LockCall::OnceWait => Asked::OfOnce(OnceCall::OnceWait),
@@ -144,7 +165,7 @@ impl LockAnswer {
         match call {
             Some(call) => match call.core {
                 Core::Late(_) => LockAnswer::TimedOut,
-                Core::Mutex(_) | Core::Rw(_) => LockAnswer::of_core(answer),
+                Core::Mutex(_) | Core::Rw(_) | Core::Upgrade(_) => LockAnswer::of_core(answer),
             },
             None => LockAnswer::of_core(answer),
         }

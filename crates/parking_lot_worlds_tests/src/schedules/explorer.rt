@@ -27,6 +27,9 @@ pub trait Watch: Drop {
 
     fn threads(&self) -> usize;
 
+    /// A number for a state, which few others share.
+    fn number(&self, at: &Self::Snapshot) -> u64;
+
     /// Before the first step.
     fn first(&self, world: &World) -> Result<Self::Snapshot, Fail>;
 
@@ -63,6 +66,42 @@ struct State<S: Drop> {
     snapshot: S,
 }
 
+/// Over how many lists the states are spread that so many steps lead to.
+const LISTS: u64 = 256;
+
+/// The states that so many steps lead to, each once, by their numbers.
+#[derive(Drop)]
+struct Layer<S: Drop> {
+    lists: Vec<Vec<State<S>>>,
+    is_empty: bool,
+}
+
+impl<S: PartialEq + Drop> Layer<S> {
+    /// No state is known.
+    fn new(rt: &impl AllocGlobal) -> Result<Layer<S>, Fail> {
+        let mut lists = Vec::new(rt.alloc());
+        for _ in 0..LISTS {
+            lists.push(Vec::new(rt.alloc()))?;
+        }
+        Ok(Layer {
+            lists,
+            is_empty: true,
+        })
+    }
+
+    /// Adds a state of that number, if it isn't there.
+    fn add(&mut self, number: u64, state: State<S>) -> Result<(), Fail> {
+        let Some(list) = self.lists.get_mut((number % LISTS) as usize) else {
+            return Ok(());
+        };
+        if !list.iter().any(|known| known.snapshot == state.snapshot) {
+            list.push(state)?;
+        }
+        self.is_empty = false;
+        Ok(())
+    }
+}
+
 /// One that goes through all schedules of some programs at one lock.
 #[derive(Drop)]
 pub struct Explorer<'r, R, W: Drop> {
@@ -87,13 +126,13 @@ impl<'r, R: AllocGlobal + Abort, W: Watch> Explorer<'r, R, W> {
     /// Goes from the states that so many steps lead to on to those of one step more, until there are none.
     fn make_all(&mut self) -> Result<(), Fail> {
         let first = self.first()?;
-        let mut states = Vec::new(self.rt.alloc());
-        states.push(first)?;
+        let mut layer = Layer::new(self.rt)?;
+        layer.add(self.watch.number(&first.snapshot), first)?;
         for _ in 0..MOST_STEPS {
-            if states.is_empty() {
+            if layer.is_empty {
                 return Ok(());
             }
-            states = self.next_states(&states)?;
+            layer = self.next_layer(&layer)?;
         }
         panic!(self.rt;
             "{:?} goes on behind {MOST_STEPS} steps",
@@ -118,22 +157,31 @@ impl<'r, R: AllocGlobal + Abort, W: Watch> Explorer<'r, R, W> {
     }
 
     /// The states that one step leads to from these.
-    fn next_states(
-        &mut self,
-        states: &[State<W::Snapshot>],
-    ) -> Result<Vec<State<W::Snapshot>>, Fail> {
-        let mut next = Vec::new(self.rt.alloc());
-        for state in states {
-            self.visit(state, &mut next)?;
+    fn next_layer(&mut self, layer: &Layer<W::Snapshot>) -> Result<Layer<W::Snapshot>, Fail> {
+        let mut next = Layer::new(self.rt)?;
+        for states in &layer.lists {
+            self.visit_all(states, &mut next)?;
         }
         Ok(next)
+    }
+
+    /// Looks at some of them, and adds those that one step leads to.
+    fn visit_all(
+        &mut self,
+        states: &[State<W::Snapshot>],
+        next: &mut Layer<W::Snapshot>,
+    ) -> Result<(), Fail> {
+        for state in states {
+            self.visit(state, next)?;
+        }
+        Ok(())
     }
 
     /// Looks at a state, and adds those that one step leads to.
     fn visit(
         &mut self,
         state: &State<W::Snapshot>,
-        next: &mut Vec<State<W::Snapshot>>,
+        next: &mut Layer<W::Snapshot>,
     ) -> Result<(), Fail> {
         let broken = self.watch.look(&state.snapshot);
         self.must_hold(broken, &state.schedule);
@@ -155,13 +203,13 @@ impl<'r, R: AllocGlobal + Abort, W: Watch> Explorer<'r, R, W> {
         &mut self,
         state: &State<W::Snapshot>,
         steps: [Option<WorldStep>; 3],
-        next: &mut Vec<State<W::Snapshot>>,
+        next: &mut Layer<W::Snapshot>,
     ) -> Result<bool, Fail> {
         let mut is_moved = false;
         for step in steps.into_iter().flatten() {
             if let Some(behind) = self.make(state, step)? {
                 is_moved = true;
-                add(next, behind)?;
+                next.add(self.watch.number(&behind.snapshot), behind)?;
             }
         }
         Ok(is_moved)
@@ -210,13 +258,4 @@ impl<'r, R: AllocGlobal + Abort, W: Watch> Explorer<'r, R, W> {
         };
         self.must_hold(broken, &before.schedule);
     }
-}
-
-/// Adds a state that isn't there.
-fn add<S: PartialEq + Drop>(states: &mut Vec<State<S>>, state: State<S>) -> Result<(), Fail> {
-    let is_known = states.iter().any(|known| known.snapshot == state.snapshot);
-    if !is_known {
-        states.push(state)?;
-    }
-    Ok(())
 }

@@ -50,6 +50,10 @@ impl Watch for LockWatch {
         2
     }
 
+    fn number(&self, at: &Snapshot) -> u64 {
+        at.shown.number()
+    }
+
     fn first(&self, world: &World) -> Result<Snapshot, Fail> {
         let threads = [Progress::of(self.pair.0), Progress::of(self.pair.1)];
         Ok(Snapshot::of(world, threads, Shown::of(world, self.kind)?))

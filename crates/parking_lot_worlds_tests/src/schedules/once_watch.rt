@@ -30,6 +30,38 @@ impl Seat {
     }
 }
 
+/// A number for where a call stands, which few others share.
+fn number_of(seat: Option<Seat>) -> u64 {
+    let Some(seat) = seat else {
+        return 0;
+    };
+    match seat.phase {
+        OncePhase::Loads(seeking) => u64::from(seeking.rounds) + 1,
+        OncePhase::Spins(seeking, _) => u64::from(seeking.rounds) + 20,
+        OncePhase::Starts(..) => 40,
+        OncePhase::Parks(..) => 41,
+        OncePhase::Enters(_) => 42,
+        OncePhase::Checks(_) => 43,
+        OncePhase::Appends(_) => 44,
+        OncePhase::Rests(_) => 45,
+        OncePhase::Sleeps(_) => 46,
+        OncePhase::Scans(..) => 47,
+        OncePhase::Wakes(_) => 48,
+        _ => 49,
+    }
+}
+
+/// Whether the next step of a call is seen by nobody else: it spins, or ends. Its order to steps of others changes nothing.
+fn is_alone(seat: Option<Seat>) -> bool {
+    match seat {
+        Some(seat) => matches!(
+            seat.phase,
+            OncePhase::Spins(..) | OncePhase::Finishes | OncePhase::Ends(..)
+        ),
+        None => false,
+    }
+}
+
 /// All that the further steps of three threads at one once depend on, and all that is shown of them.
 #[derive(PartialEq, Eq, Drop)]
 pub struct OnceSnapshot {
@@ -117,6 +149,19 @@ impl OnceSnapshot {
 
     fn answer(&self, thread: usize) -> Option<LockAnswer> {
         self.answers.of(thread)
+    }
+
+    /// The first thread whose next step nobody else sees.
+    fn alone(&self) -> Option<usize> {
+        if is_alone(self.seats.0) {
+            Some(0)
+        } else if is_alone(self.seats.1) {
+            Some(1)
+        } else if is_alone(self.seats.2) {
+            Some(2)
+        } else {
+            None
+        }
     }
 
     /// The word is one of eight numbers.
@@ -315,6 +360,13 @@ impl Watch for OnceWatch {
         self.threads
     }
 
+    fn number(&self, at: &OnceSnapshot) -> u64 {
+        let seats = number_of(at.seats.0)
+            .wrapping_add(number_of(at.seats.1).wrapping_mul(53))
+            .wrapping_add(number_of(at.seats.2).wrapping_mul(2_809));
+        seats.wrapping_mul(13).wrapping_add(at.word)
+    }
+
     fn first(&self, world: &World) -> Result<OnceSnapshot, Fail> {
         OnceSnapshot::of(world, callers_of(self.programs), Taken(None, None))
     }
@@ -339,6 +391,9 @@ impl Watch for OnceWatch {
     }
 
     fn steps(&self, at: &OnceSnapshot, thread: usize) -> [Option<WorldStep>; 3] {
+        if self.threads == 3 && at.alone().is_some() && at.alone() != Some(thread) {
+            return [None; 3];
+        }
         let caller = at.callers.of(thread);
         let goes = WorldStep::Go(thread, false);
         let step = match caller.rest.0 {

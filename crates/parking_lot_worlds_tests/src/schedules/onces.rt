@@ -8,14 +8,8 @@ use parking_lot_worlds::LockCall;
 use std::process::Abort;
 use std::test::Fail;
 
-const CALLS: [LockCall; 6] = [
-    LockCall::CallOnce(true),
-    LockCall::CallOnce(false),
-    LockCall::CallOnceForce(true),
-    LockCall::CallOnceForce(false),
-    LockCall::OnceWait,
-    LockCall::OnceWaitForce,
-];
+/// No call at all.
+const NONE: Calls = Calls(None, None);
 
 /// Makes all schedules of some threads. Answers how many states there were.
 fn explore(
@@ -32,80 +26,141 @@ fn explore(
     Ok(explorer.states)
 }
 
-/// Those of one program of two calls beside each that begins so.
-fn explore_beside(
+/// Those of one program beside each of these. Answers how many states there were.
+fn explore_with(
     rt: &(impl AllocGlobal + Abort),
     calls: Calls,
-    other: LockCall,
+    others: &[Calls],
 ) -> Result<u64, Fail> {
     let mut states = 0u64;
-    for last in CALLS {
-        let programs = Three(calls, Calls(Some(other), Some(last)), Calls(None, None));
-        states = states.saturating_add(explore(rt, programs, 2)?);
+    for other in others {
+        states = states.saturating_add(explore(rt, Three(calls, *other, NONE), 2)?);
     }
     Ok(states)
 }
 
-/// Those of two threads with two calls each, where the first of both are these.
-fn explore_two(
+/// Those of each of the first programs beside itself and those behind it. Were there fewer states than before, different ones might have been
+/// taken for one.
+fn explore_first(
     rt: &(impl AllocGlobal + Abort),
-    first: LockCall,
-    other: LockCall,
+    programs: &[Calls],
+    first: usize,
 ) -> Result<u64, Fail> {
     let mut states = 0u64;
-    for last in CALLS {
-        let calls = Calls(Some(first), Some(last));
-        states = states.saturating_add(explore_beside(rt, calls, other)?);
-    }
-    Ok(states)
-}
-
-#[test]
-fn try_one(rt: HostRuntime) -> Result<(), Fail> {
-    let states = explore(
-        &rt,
-        Three(
-            Calls(Some(LockCall::CallOnce(true)), Some(LockCall::OnceWait)),
-            Calls(
-                Some(LockCall::CallOnceForce(false)),
-                Some(LockCall::CallOnce(true)),
-            ),
-            Calls(None, None),
-        ),
-        2,
-    )?;
-    assert!(rt; states >= 1_000_000_000, "{states} states");
-    Ok(())
-}
-
-/// One call.
-fn alone(call: LockCall) -> Calls {
-    Calls(Some(call), None)
-}
-
-/// Three threads with one call each, the first of whom makes this one.
-fn explore_three(rt: &(impl AllocGlobal + Abort), first: LockCall) -> Result<u64, Fail> {
-    let mut states = 0u64;
-    for second in CALLS {
-        for third in CALLS {
-            let programs = Three(alone(first), alone(second), alone(third));
-            states = states.saturating_add(explore(rt, programs, 3)?);
+    for (at, calls) in programs.iter().enumerate() {
+        if at < first {
+            states = states.saturating_add(explore_with(rt, *calls, &programs[at..])?);
         }
     }
     Ok(states)
 }
 
-#[test]
-fn try_three(rt: HostRuntime) -> Result<(), Fail> {
-    let states = explore(
-        &rt,
-        Three(
-            alone(LockCall::CallOnce(false)),
-            alone(LockCall::OnceWait),
-            alone(LockCall::CallOnceForce(true)),
+/// One call.
+fn one(call: LockCall) -> Calls {
+    Calls(Some(call), None)
+}
+
+/// Two calls.
+fn two(call: LockCall, then: LockCall) -> Calls {
+    Calls(Some(call), Some(then))
+}
+
+/// Two calls each, so that each call comes first and last, behind a closure that fails and one that doesn't.
+fn programs() -> [Calls; 9] {
+    [
+        two(LockCall::CallOnce(false), LockCall::CallOnce(true)),
+        two(LockCall::CallOnce(false), LockCall::CallOnceForce(true)),
+        two(LockCall::CallOnceForce(false), LockCall::OnceWaitForce),
+        two(LockCall::CallOnceForce(true), LockCall::CallOnce(false)),
+        two(LockCall::OnceWait, LockCall::CallOnceForce(true)),
+        two(LockCall::OnceWait, LockCall::OnceWaitForce),
+        two(LockCall::OnceWaitForce, LockCall::OnceWait),
+        two(LockCall::CallOnce(true), LockCall::OnceWait),
+        two(
+            LockCall::CallOnceForce(false),
+            LockCall::CallOnceForce(false),
         ),
-        3,
-    )?;
-    assert!(rt; states >= 1_000_000_000, "{states} states");
+    ]
+}
+
+#[test]
+fn every_schedule_of_two_calls_is_one_of_whole_calls(rt: HostRuntime) -> Result<(), Fail> {
+    let calls = [
+        one(LockCall::CallOnce(true)),
+        one(LockCall::CallOnce(false)),
+        one(LockCall::CallOnceForce(true)),
+        one(LockCall::CallOnceForce(false)),
+        one(LockCall::OnceWait),
+        one(LockCall::OnceWaitForce),
+    ];
+    let states = explore_first(&rt, &calls, 6)?;
+    assert!(rt; states >= 5_000, "{states} states");
     Ok(())
+}
+
+#[test]
+fn every_schedule_of_a_failing_call_and_one_more(rt: HostRuntime) -> Result<(), Fail> {
+    let states = explore_first(&rt, &programs(), 2)?;
+    assert!(rt; states >= 5_000, "{states} states");
+    Ok(())
+}
+
+#[test]
+fn every_schedule_of_two_calls_each(rt: HostRuntime) -> Result<(), Fail> {
+    let programs = programs();
+    let states = explore_first(&rt, &programs[2..], 7)?;
+    assert!(rt; states >= 5_000, "{states} states");
+    Ok(())
+}
+
+/// All schedules of three threads with one call each. A step that nobody else sees is made at once, as its order to others changes nothing.
+fn three(
+    rt: &(impl AllocGlobal + Abort),
+    first: LockCall,
+    second: LockCall,
+    third: LockCall,
+) -> Result<(), Fail> {
+    let states = explore(rt, Three(one(first), one(second), one(third)), 3)?;
+    assert!(rt; states >= 2_000, "{states} states");
+    Ok(())
+}
+
+#[test]
+fn every_schedule_of_a_failure_a_refusal_and_a_forced_call(rt: HostRuntime) -> Result<(), Fail> {
+    three(
+        &rt,
+        LockCall::CallOnce(false),
+        LockCall::CallOnce(true),
+        LockCall::CallOnceForce(true),
+    )
+}
+
+#[test]
+fn every_schedule_of_two_that_wait_for_a_failure(rt: HostRuntime) -> Result<(), Fail> {
+    three(
+        &rt,
+        LockCall::CallOnce(false),
+        LockCall::OnceWait,
+        LockCall::OnceWaitForce,
+    )
+}
+
+#[test]
+fn every_schedule_of_two_that_wait_for_an_end(rt: HostRuntime) -> Result<(), Fail> {
+    three(
+        &rt,
+        LockCall::CallOnce(true),
+        LockCall::OnceWait,
+        LockCall::OnceWaitForce,
+    )
+}
+
+#[test]
+fn every_schedule_of_a_failure_a_forced_call_and_a_wait(rt: HostRuntime) -> Result<(), Fail> {
+    three(
+        &rt,
+        LockCall::CallOnceForce(false),
+        LockCall::CallOnceForce(true),
+        LockCall::OnceWaitForce,
+    )
 }

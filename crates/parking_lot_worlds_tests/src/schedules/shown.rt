@@ -47,6 +47,15 @@ impl Shown {
         })
     }
 
+    /// A number that few others share.
+    pub fn number(&self) -> u64 {
+        let lists = self.first.len() as u64 * 3 + self.second.len() as u64 * 5;
+        self.word
+            .wrapping_add(lists)
+            .wrapping_add(self.owners.len() as u64 * 7)
+            .wrapping_add(self.debts.len() as u64 * 11)
+    }
+
     pub fn answer(&self, thread: usize) -> Option<LockAnswer> {
         self.answers.get(thread).copied().flatten()
     }

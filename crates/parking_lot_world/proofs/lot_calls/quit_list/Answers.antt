@@ -1,4 +1,4 @@
-use Rattle.std.proofs.Common.{sym, ap, ◌∙◌, subst}
+use Rattle.std.proofs.Common.{ap, ◌∙◌}
 use Rattle.parking_lot_core_lot.specs.Machine.{machine, step_fault}
 use Rattle.parking_lot_core_lot.specs.Places.{may_store}
 use Rattle.parking_lot_world.proofs.LateCalls.{quits_out, quits_store, unless_none}

@@ -11,11 +11,19 @@ use Rattle.parking_lot_world.specs.Rows.{Rows, State, state}
 use Rattle.parking_lot_world.specs.Stances.{Joins}
 use Rattle.parking_lot_world.specs.RowActs.{with_call, with_lot, key_of}
 use Rattle.parking_lot_world.specs.RowFits.{FitsTogether}
-use Rattle.parking_lot_world.proofs.Holding.{fits, held}
+use Rattle.parking_lot_world.proofs.Holding.{fits, held, low}
 use Rattle.parking_lot_world.proofs.LotCalls.{lot_never_refuses}
 use Rattle.parking_lot_world.proofs.Stancing.{leads_by}
 use Rattle.parking_lot_world.proofs.TakeLaws.{laws}
 use Rattle.parking_lot_world.proofs.row_machine.RowMachine.append.Goals as goal
+
+-- src/acts.rt:209:9
+pub append-requires : goal.append-requires
+append-requires g c = record { inside = lot_never_refuses.appends _ c.args.thread c.args.call c.args.token (c.self.invariant.0.lots, held c.args.thread c.args.call c.self.view_is c.requires.here, c.requires.asked) }
+
+-- src/acts.rt:210:9
+pub index_mut-requires : goal.index_mut-requires
+index_mut-requires g c = omega (arith, low c.args.thread c.args.call c.self.view_is c.requires.here, c.self.inside.calls.ok.0)
 
 -- src/acts.rt:119:5
 pub returns : goal.returns

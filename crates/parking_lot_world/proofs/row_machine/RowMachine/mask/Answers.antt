@@ -11,8 +11,13 @@ use Rattle.parking_lot_world.specs.Stances.{sign}
 use Rattle.parking_lot_world.specs.RowActs.{with_word, settled, hears}
 use Rattle.parking_lot_world.specs.RowFits.{FitsTogether}
 use Rattle.parking_lot_world.proofs.TellActs.{laws}
-use Rattle.parking_lot_world.proofs.Holding.{fits, low, word_low}
+use Rattle.parking_lot_world.proofs.Holding.{fits, held, low, word_low}
+use Rattle.parking_lot_world.proofs.LotCalls.{lot_never_refuses}
 use Rattle.parking_lot_world.proofs.row_machine.RowMachine.mask.Goals as goal
+
+-- src/acts.rt:165:9
+pub store-requires : goal.store-requires
+store-requires g c = record { inside = lot_never_refuses.masks _ c.args.thread c.args.call c.args.keep (c.self.invariant.0.lots, held c.args.thread c.args.call c.self.view_is c.requires.here, c.requires.asked) }
 
 -- src/acts.rt:75:9
 pub index_mut-requires : goal.index_mut-requires

@@ -1,7 +1,7 @@
 use Rattle.std.proofs.Common.{slice_get, sym, ap, ◌∙◌, subst}
 use Rattle.parking_lot_world.specs.Rows.{call_at, lock_at, state, taken_by}
 use Rattle.parking_lot_world.specs.Worlds.{hold_mode, mode_in}
-use Rattle.parking_lot_world.proofs.Viewing.{IsApart, apart_owner, call_owns}
+use Rattle.parking_lot_world.proofs.Viewing.{IsApart, apart_owner, call_owns, in_order}
 use Rattle.parking_lot_world.proofs.row_machine.RowMachine.owner.Goals.{in_default-via-in-Some+else-call-lock, in_default-via-in_default}
 use Rattle.parking_lot_world.proofs.row_machine.RowMachine.owner.Goals as goal
 
@@ -10,7 +10,7 @@ pub returns-in-Some : goal.returns-in-Some
 returns-in-Some g c =
     let s = state c.args.self.now in
     let call = c.in-Some.call in
-    c.owns.ensures (taken_by s.wakes c.args.thread) ∙ sym (call_owns s c.args.thread c.known.ensures call (sym c.in-Some.ensures))
+    c.owns.ensures (in_order s c.known.ensures c.args.thread call (sym c.in-Some.ensures)) (taken_by s.wakes c.args.thread) ∙ sym (call_owns s c.args.thread c.known.ensures call (sym c.in-Some.ensures))
     ∙ ap (λ i. mode_in (lock_at s i) c.args.thread) c.if-call-lock.true
 
 -- src/machine_views.rt:39:5

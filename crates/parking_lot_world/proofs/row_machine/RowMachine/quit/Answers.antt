@@ -1,9 +1,9 @@
 use Rattle.parking_lot_world.proofs.Calling.{room_set}
-use Rattle.std.proofs.Common.{◌≡◌, Bool, false, cond, Some, None, sym, ap, ◌∙◌, subst, arith}
+use Rattle.std.proofs.Common.{◌≡◌, Bool, false, cond, Some, sym, ap, ◌∙◌, subst, arith}
 use Rattle.parking_lot_core_lot.specs.declared.place.Phase.TheVariants as phase
 use Rattle.parking_lot_core_lot.specs.declared.place.Place.TheVariants.{Waiting}
 use Rattle.parking_lot_core_lot.specs.declared.place.Sleep.{Sleep}
-use Rattle.parking_lot_core_lot.specs.Machine.{Machine, given_up, in_phase, machine, quit_fault, stored}
+use Rattle.parking_lot_core_lot.specs.Machine.{Machine, given_up, in_phase, machine, stored}
 use Rattle.parking_lot_core_lot.specs.Places.{place_at}
 use Rattle.parking_lot_core_lot.specs.Results.{is_left}
 use Rattle.parking_lot_core_lot.specs.Sound.{Sound}

@@ -1,0 +1,78 @@
+-- What those want that wait in a list.
+use Rattle.std.proofs.Common.{◌≡◌, ℕ, ◌*◌, inr, List, Option, Some, slice_get, sym, ap, ◌∙◌, refl, subst, arith}
+use Rattle.std.proofs.lemmas.Option.{same_Some}
+use Rattle.parking_lot_core_lot.specs.declared.parking.FilterOp.{FilterOp}
+use Rattle.parking_lot_core_lot.specs.declared.parking.ParkToken.{ParkToken}
+use Rattle.parking_lot_core_lot.specs.declared.place.Waiter.{Waiter}
+use Rattle.parking_lot_protocol.specs.RwRules as of_rw
+use Rattle.parking_lot_protocol.specs.RwRules.{IsToken, mode_by, mode_of}
+use Rattle.parking_lot_protocol.specs.declared.rw_phase.RwPhase.{RwPhase}
+use Rattle.parking_lot_rules.specs.Roles.{Phase, Queued1, Role, Upgradable}
+use Rattle.parking_lot_upgrades.specs.UpgradeRoles as of_upgrade
+use Rattle.parking_lot_upgrades.specs.UpgradeRoles.{for_release, for_upgradable, for_upgrade}
+use Rattle.parking_lot_upgrades.specs.declared.upgrade_phase.UpgradePhase.{UpgradePhase}
+use Rattle.parking_lot_world.specs.declared.seat.QueuePosition.{QueuePosition}
+use Rattle.parking_lot_world.proofs.KindTable as KindTable
+use Rattle.parking_lot_world.proofs.RwCalls.{call_role}
+use Rattle.parking_lot_rules.specs.Steps.{wants}
+use Rattle.parking_lot_world.specs.Kinds.{AsRw, Manner, manner_of}
+use Rattle.parking_lot_world.specs.Passes.{ArePassed}
+use Rattle.parking_lot_world.specs.RowFits.{Awaits, FitsTogether, IsOfManner}
+use Rattle.parking_lot_world.specs.Rows.{State, rw_lock_at, taken_by}
+use Rattle.parking_lot_world.specs.RwLaws.{WantAsTold}
+use Rattle.parking_lot_world.specs.Stances.{rw_stance, seeks_stance, stance, upgrade_stance}
+use Rattle.parking_lot_world.specs.declared.open_call.Call.{Call}
+use Rattle.parking_lot_world.proofs.KindTable.{RwCall, Simple, in_its_place, of_rws, rw_call}
+use Rattle.parking_lot_world.proofs.Meeting.{in_range}
+use Rattle.parking_lot_world.proofs.RwTaking.{tokens_tell}
+
+-- the same of another filter that answers the same
+pub passed_as : (f g : ℕ → FilterOp) (q : List Waiter) (n : ℕ) → ((token : ℕ) → f token ≡ g token) → ArePassed f q n → ArePassed g q n
+passed_as f g q n same passed i w low at = sym (same w.token.0) ∙ passed i w low at
+
+-- one that waits in the first list, by its token
+rw_wants : (n : ℕ) (us : List ℕ) (p : RwPhase) (token : ParkToken) → Awaits 0 token (rw_stance p) → IsToken (Some token) × (wants (of_rw.role n of_rw.Listed us p).does ≡ mode_by token)
+rw_wants n us (RwPhase.Rests want) token e = subst (λ (x : ParkToken). IsToken (Some x) × (mode_of want ≡ mode_by x)) e.1 (let x = tokens_tell want in (x.0, sym x.1))
+rw_wants n us (RwPhase.Sleeps want) token e = subst (λ (x : ParkToken). IsToken (Some x) × (mode_of want ≡ mode_by x)) e.1 (let x = tokens_tell want in (x.0, sym x.1))
+rw_wants n us (RwPhase.DrainRests rounds) token e = absurd (omega (arith, e.0))
+rw_wants n us (RwPhase.DrainSleeps rounds) token e = absurd (omega (arith, e.0))
+rw_wants n us p token e = absurd e
+
+upgrade_wants : (d : Phase) → wants (for_upgrade d) ≡ wants d
+upgrade_wants (Queued1 mode stay) = refl
+upgrade_wants d = refl
+
+release_wants : (d : Phase) → wants (for_release d) ≡ wants d
+release_wants (Queued1 mode stay) = refl
+release_wants d = refl
+
+seeks_want : (us : List ℕ) (q : RwPhase) (token : ParkToken) → Awaits 0 token (seeks_stance q) → IsToken (Some token) × (wants (for_upgradable (of_rw.does of_rw.Listed us q)) ≡ mode_by token)
+seeks_want us (RwPhase.Rests want) token e = subst (λ (x : ParkToken). IsToken (Some x) × (Upgradable ≡ mode_by x)) e.1 (inr (inr refl), refl)
+seeks_want us (RwPhase.Sleeps want) token e = subst (λ (x : ParkToken). IsToken (Some x) × (Upgradable ≡ mode_by x)) e.1 (inr (inr refl), refl)
+seeks_want us (RwPhase.DrainRests rounds) token e = absurd (omega (arith, e.0))
+seeks_want us (RwPhase.DrainSleeps rounds) token e = absurd (omega (arith, e.0))
+seeks_want us q token e = absurd e
+
+upgrade_want : (n : ℕ) (us : List ℕ) (p : UpgradePhase) (token : ParkToken) → Awaits 0 token (upgrade_stance p) → IsToken (Some token) × (wants (of_upgrade.role n of_rw.Listed us p).does ≡ mode_by token)
+upgrade_want n us (UpgradePhase.Plain core) token e = rw_wants n us core.phase token e
+upgrade_want n us (UpgradePhase.Seeks core) token e = seeks_want us core.phase token e
+upgrade_want n us (UpgradePhase.Drains core) token e = let z = rw_wants n us core.phase token e in (z.0, upgrade_wants (of_rw.does of_rw.Listed us core.phase) ∙ z.1)
+upgrade_want n us (UpgradePhase.Frees r core) token e = let z = rw_wants n us core.phase token e in (z.0, release_wants (of_rw.does of_rw.Listed us core.phase) ∙ z.1)
+upgrade_want n us (UpgradePhase.Owes kept end core) token e = rw_wants n us core.phase token e
+upgrade_want n us p token e = absurd e
+
+call_want : (n : ℕ) (us : List ℕ) (k : RwCall) (token : ParkToken) → Awaits 0 token (stance (rw_call k)) → IsToken (Some token) × (wants (call_role n QueuePosition.Listed us k).does ≡ mode_by token)
+call_want n us (Simple k) token e = rw_wants n us k.phase token e
+call_want n us (KindTable.Upgradable k) token e = upgrade_want n us k.phase token e
+
+module _ (s : State) (h : FitsTogether s) (j : ℕ) (is : manner_of (slice_get s.kinds j) ≡ Some AsRw) where
+  pub want_as_told : WantAsTold (rw_lock_at s j) (s.lot.queues (2 * j))
+  want_as_told i w r at there =
+      let its = h.lots.waits j 0 i w (omega arith) (ap (λ n. slice_get (s.lot.queues n) i) (omega arith) ∙ at) in
+      let c : Call = its.0 in
+      let k = of_rws.only c.core (subst (λ (o : Option Manner). IsOfManner o c.core) (ap (λ n. manner_of (slice_get s.kinds n)) its.2 ∙ is) (h.rules.kinds w.thread c its.1)) in
+      let plays : r ≡ call_role c.others QueuePosition.Listed (taken_by s.wakes w.thread) k.0 =
+      same_Some r _ (sym there ∙ subst (λ n. slice_get (rw_lock_at s n).roles w.thread ≡ Some (of_rws.plays c.others c.spot (taken_by s.wakes w.thread) k.0)) its.2 (in_its_place of_rws s w.thread c k.0 (in_range s w.thread c its.1) its.1 k.1)
+      ∙ ap (λ at. Some (of_rws.plays c.others at (taken_by s.wakes w.thread) k.0)) its.3) in
+      let told = call_want c.others (taken_by s.wakes w.thread) k.0 w.token (subst (λ x. Awaits 0 w.token (stance x)) k.1 its.4) in
+      (told.0, ap (λ (x : Role). wants x.does) plays ∙ told.1)
