@@ -143,6 +143,8 @@ impl<'t, 'l, R, A: Allocator> RawMutexTimed for RawFairMutex<'t, 'l, R, A> {
 
     type Instant = Instant;
 
+    ghost locked_in_time = { λ answer. MatchOption answer (TimedEnded GivesUp) (λ _. OwnedInTime) };
+
     fn try_lock_for<C: Clock>(
         &self,
         timeout: Duration,

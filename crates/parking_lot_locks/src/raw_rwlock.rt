@@ -133,6 +133,15 @@ impl<'t, 'l, R, const RECURSIVE: u8, A: Allocator> RawRwLock<'t, 'l, R, RECURSIV
         self.place().attempt(core)
     }
 
+    /// The same of a call whose end is told.
+    #[cold]
+    #[inline(never)]
+    pub(crate) fn owns_by_trying<K: Call>(&self, _call: K) -> bool
+        ensures { result ≡ true → Ended K.Core.told K.Core.asks K.begun Owned }
+    {
+        self.place().attempt(K::begin())
+    }
+
     /// Reads at once, where one exchange does it.
     #[inline(always)]
     pub(crate) fn reads_at_once(&self) -> bool

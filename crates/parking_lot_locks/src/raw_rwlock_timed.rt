@@ -226,6 +226,10 @@ impl<'t, 'l, R, const RECURSIVE: u8, A: Allocator> RawRwLockTimed
 
     type Instant = Instant;
 
+    ghost shared_locked_in_time = { λ answer. MatchOption answer (TimedRwEnded (reading_in_time RECURSIVE) GivesUp) (λ _. RwOwned (RwEnded (Locking (Shared (RECURSIVE == 1))) Owned) (reading_in_time RECURSIVE)) };
+
+    ghost exclusive_locked_in_time = { λ answer. MatchOption answer (TimedRwEnded writing_in_time GivesUp) (λ _. RwOwned (RwEnded (Locking Exclusive) Owned) writing_in_time) };
+
     fn try_lock_shared_for<C: Clock>(
         &self,
         timeout: Duration,
@@ -277,6 +281,10 @@ impl<'t, 'l, R, const RECURSIVE: u8, A: Allocator> RawRwLockTimed
 
 impl<'t, 'l, R, const RECURSIVE: u8, A: Allocator> RawRwLockUpgradeTimed
     for RawRwLock<'t, 'l, R, RECURSIVE, A> {
+    ghost upgradable_locked_in_time = { λ answer. MatchOption answer (TimedRwEnded asking_in_time GivesUp) (λ _. RwOwned (UpgradeEnded call.Locking Owned) asking_in_time) };
+
+    ghost upgraded_in_time = { λ _ tried. MatchResult tried (λ _. RwOwned (UpgradeEnded call.Upgrading Owned) upgrading_in_time) (λ _. TimedRwEnded upgrading_in_time GivesUp) };
+
     fn try_lock_upgradable_for<C: Clock>(
         &self,
         timeout: Duration,

@@ -25,6 +25,10 @@ pub(crate) struct BumpUpgradable;
 #[derive(Clone, Copy)]
 pub(crate) struct Upgrade;
 
+/// The same where nobody else reads, and it doesn't wait.
+#[derive(Clone, Copy)]
+pub(crate) struct TryToUpgrade;
+
 /// Reads in place of having the upgradable hold.
 #[derive(Clone, Copy)]
 pub(crate) struct DowngradeToShared;
@@ -80,6 +84,16 @@ impl Call for Upgrade {
 
     fn begin() -> UpgradeCore {
         UpgradeCore::upgrade()
+    }
+}
+
+impl Call for TryToUpgrade {
+    type Core = UpgradeCore;
+
+    ghost begun = { record { phase = at.TryingToUpgrade } };
+
+    fn begin() -> UpgradeCore {
+        UpgradeCore::try_upgrade()
     }
 }
 
