@@ -5,6 +5,7 @@ use crate::fault::Fault;
 use lock_api::{Mutex, RwLock};
 use lock_api_raw::{
     MakeLock as _, RawMutex, RawRwLock as _, RawRwLockTimed as _, RawRwLockUpgrade as _,
+    RawRwLockUpgradeDowngrade as _,
 };
 use parking_lot_core::{ParkingLot, ThreadData};
 use parking_lot_locks::{LockTable, RawRwLock};
@@ -20,9 +21,13 @@ pub enum Pair {
     Mutex,
     Read,
     Write,
-    /// Their upgradable hold, and one that is upgraded.
+    /// Their upgradable hold; one that is upgraded, by a call that waits and by a try; and one that becomes a shared hold, or was an
+    /// exclusive one.
     Upgradable,
     Upgrade,
+    TryUpgrade,
+    ToShared,
+    ToUpgradable,
     /// Their calls that may give up.
     ReadInTime,
     WriteInTime,
@@ -38,12 +43,15 @@ pub enum Pair {
 
 impl Pair {
     /// All of them.
-    const ALL: [Pair; 13] = [
+    const ALL: [Pair; 16] = [
         Pair::Mutex,
         Pair::Read,
         Pair::Write,
         Pair::Upgradable,
         Pair::Upgrade,
+        Pair::TryUpgrade,
+        Pair::ToShared,
+        Pair::ToUpgradable,
         Pair::ReadInTime,
         Pair::WriteInTime,
         Pair::Guard,
@@ -67,6 +75,9 @@ impl Pair {
             Pair::Write => "write",
             Pair::Upgradable => "upgradable",
             Pair::Upgrade => "upgrade",
+            Pair::TryUpgrade => "try-upgrade",
+            Pair::ToShared => "to-shared",
+            Pair::ToUpgradable => "to-upgradable",
             Pair::ReadInTime => "read-in-time",
             Pair::WriteInTime => "write-in-time",
             Pair::Guard => "guard",
@@ -112,6 +123,9 @@ pub fn pairs_of<R: Wait + Clock + Copy + Drop>(
         Pair::Write => by_writing(&RawRwLock::new(&table, 100)?, &mut me, pairs),
         Pair::Upgradable => by_upgradable(&RawRwLock::new(&table, 100)?, &mut me, pairs),
         Pair::Upgrade => by_upgrading(&RawRwLock::new(&table, 100)?, &mut me, pairs),
+        Pair::TryUpgrade => by_trying_to_upgrade(&RawRwLock::new(&table, 100)?, &mut me, pairs),
+        Pair::ToShared => by_becoming_shared(&RawRwLock::new(&table, 100)?, &mut me, pairs),
+        Pair::ToUpgradable => by_becoming_upgradable(&RawRwLock::new(&table, 100)?, &mut me, pairs),
         Pair::ReadInTime => {
             let moment = Instant::now(&rt)?;
             reads_in_time(&rt, &RawRwLock::new(&table, 100)?, moment, &mut me, pairs);
@@ -176,6 +190,39 @@ fn by_upgrading<R: Wait>(lock: &RawRwLock<'_, '_, R, 0>, me: &mut ThreadData, pa
         let token = lock.lock_upgradable(me);
         let token = lock.upgrade(token, me);
         lock.unlock_exclusive(token);
+    }
+}
+
+#[inline(never)]
+fn by_trying_to_upgrade<R: Wait>(lock: &RawRwLock<'_, '_, R, 0>, me: &mut ThreadData, pairs: u32) {
+    for _pair in 0..pairs {
+        let token = lock.lock_upgradable(me);
+        match lock.try_upgrade(token) {
+            Ok(token) => lock.unlock_exclusive(token),
+            Err(token) => lock.unlock_upgradable(token),
+        }
+    }
+}
+
+#[inline(never)]
+fn by_becoming_shared<R: Wait>(lock: &RawRwLock<'_, '_, R, 0>, me: &mut ThreadData, pairs: u32) {
+    for _pair in 0..pairs {
+        let token = lock.lock_upgradable(me);
+        let token = lock.downgrade_upgradable(token);
+        lock.unlock_shared(token);
+    }
+}
+
+#[inline(never)]
+fn by_becoming_upgradable<R: Wait>(
+    lock: &RawRwLock<'_, '_, R, 0>,
+    me: &mut ThreadData,
+    pairs: u32,
+) {
+    for _pair in 0..pairs {
+        let token = lock.lock_exclusive(me);
+        let token = lock.downgrade_to_upgradable(token);
+        lock.unlock_upgradable(token);
     }
 }
 

@@ -9,8 +9,8 @@
 //!   without a lock `none`. It prints how many pairs found the value that they must find.
 //! - `lot pair ROUNDS` hands a turn to and fro between two threads, by the lot and by condition variables, and prints what one
 //!   turn took of each; `lot empty ROUNDS` unparks the first waiter of a key that has none.
-//! - `locks PAIR PAIRS` locks and unlocks so many times with nobody beside it: `mutex`, `read` and `write` by the raw locks, `upgradable` and
-//!   `upgrade` by their upgradable holds, `read-in-time` and `write-in-time` by their calls that may give up, `guard`, `reader` and `writer` by the generic locks over them, and `std-mutex`, `std-read` and `std-write` by the locks of
+//! - `locks PAIR PAIRS` locks and unlocks so many times with nobody beside it: `mutex`, `read` and `write` by the raw locks, `upgradable`,
+//!   `upgrade`, `try-upgrade`, `to-shared` and `to-upgradable` by their upgradable holds, `read-in-time` and `write-in-time` by their calls that may give up, `guard`, `reader` and `writer` by the generic locks over them, and `std-mutex`, `std-read` and `std-write` by the locks of
 //!   std. `locks turns ROUNDS` has two threads hand each kind of lock to one another, and prints what one turn took.
 #![tactic(auto)]
 
