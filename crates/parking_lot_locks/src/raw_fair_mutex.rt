@@ -1,15 +1,15 @@
 //! The raw mutex whose every release is fair.
 ghost use Rattle.std.specs.Prelude.{◌≡◌, ◌+◌, ◌*◌, ◌%◌, ◌^◌, IfSome, MatchOption, true};
-ghost use Rattle.parking_lot_locks.specs.Ends.{MutexEnded, OwnedInTime, TimedEnded};
+ghost use Rattle.parking_lot_runs.specs.Ends.{MutexEnded, OwnedInTime, TimedEnded};
 ghost use Rattle.parking_lot_protocol.specs.declared.act.CoreAnswer.{CoreAnswer};
 ghost use Rattle.parking_lot_protocol.specs.declared.act.CoreAnswer.TheVariants.{Owned};
 ghost use Rattle.parking_lot_protocol.specs.declared.mutex_phase.MutexPhase.TheVariants.{Locking, Unlocking, Bumping};
 ghost use Rattle.parking_lot_timed.specs.declared.timed_act.TimedAct.TheVariants.{GivesUp};
 
 use crate::raw_mutex::RawMutex;
-use crate::table::LockTable;
 use lock_api_raw::{GuardSend, MakeLock, RawMutex as _, RawMutexFair, RawMutexTimed, TableFull};
 use parking_lot_core::ThreadData;
+use parking_lot_runs::LockTable;
 use std::alloc::{Allocator, Global};
 use std::sync::Wait;
 use std::time::{Clock, Duration, Instant};

@@ -1,19 +1,18 @@
 //! The raw mutex.
 ghost use Rattle.std.specs.Prelude.{◌≡◌, ◌+◌, ◌*◌, ◌%◌, ◌^◌, IfOk, IfSome, MatchOption, true, false};
-ghost use Rattle.parking_lot_locks.specs.Ends.{MutexEnded, OwnedInTime, TimedEnded};
-ghost use Rattle.parking_lot_locks.specs.Runs.{Ended};
+ghost use Rattle.parking_lot_runs.specs.Ends.{MutexEnded, OwnedInTime, TimedEnded};
+ghost use Rattle.parking_lot_runs.specs.Runs.{Ended};
 ghost use Rattle.parking_lot_protocol.specs.declared.act.CoreAnswer.{CoreAnswer};
 ghost use Rattle.parking_lot_protocol.specs.declared.act.CoreAnswer.TheVariants.{Owned};
 ghost use Rattle.parking_lot_protocol.specs.declared.mutex_phase.MutexPhase.TheVariants.{Locking, Unlocking, Bumping};
 ghost use Rattle.parking_lot_timed.specs.declared.timed_act.TimedAct.TheVariants.{GivesUp};
 
-use crate::call::{Bump, Call, Lock, Unlock, UnlockFairly};
-use crate::deadline::to_deadline;
-use crate::place::Place;
-use crate::table::{LockTable, Row};
 use lock_api_raw::{GuardSend, MakeLock, RawMutex as _, RawMutexFair, RawMutexTimed, TableFull};
 use parking_lot_core::ThreadData;
 use parking_lot_protocol::{ActResult, CoreAnswer, MutexCore};
+use parking_lot_runs::{
+    Bump, Call, Lock, LockTable, Place, Row, Unlock, UnlockFairly, to_deadline,
+};
 use std::alloc::{Allocator, Global};
 use std::sync::Wait;
 use std::time::{Clock, Duration, Instant};

@@ -1,6 +1,6 @@
 //! Calls of the raw reader-writer lock that may give up.
 ghost use Rattle.std.specs.Prelude.{◌≡◌, ◌+◌, ◌*◌, ◌%◌, ◌^◌, ◌==◌, IfSome, MatchBool, MatchOption, MatchResult};
-ghost use Rattle.parking_lot_locks.specs.Ends.{RwEnded, RwOwned, TimedRwEnded, UpgradeEnded, asking_in_time, reading_in_time, upgrading_in_time, writing_in_time};
+ghost use Rattle.parking_lot_runs.specs.Ends.{RwEnded, RwOwned, TimedRwEnded, UpgradeEnded, asking_in_time, reading_in_time, upgrading_in_time, writing_in_time};
 ghost use Rattle.parking_lot_protocol.specs.declared.act.Act.TheVariants.{Done};
 ghost use Rattle.parking_lot_protocol.specs.declared.act.CoreAnswer.TheVariants.{Owned};
 ghost use Rattle.parking_lot_protocol.specs.declared.rw_phase.LockMode.TheVariants.{Shared, Exclusive};
@@ -8,15 +8,15 @@ ghost use Rattle.parking_lot_protocol.specs.declared.rw_phase.RwPhase.TheVariant
 ghost use Rattle.parking_lot_timed.specs.declared.timed_act.TimedAct.TheVariants.{Makes, GivesUp};
 ghost use Rattle.parking_lot_upgrades.specs.declared.upgrade_phase.UpgradePhase.TheVariants as call;
 
-use crate::deadline::to_deadline;
 use crate::raw_rwlock::RawRwLock;
-use crate::timed_call::{AskUpgradablyInTime, ReadInTime, UpgradeInTime, WriteInTime};
-use crate::upgrade_call::Disown;
 use lock_api_raw::{
     GuardSend, RawRwLock as _, RawRwLockTimed, RawRwLockUpgrade as _, RawRwLockUpgradeTimed,
 };
 use parking_lot_core::{ThreadData, thread_yield};
 use parking_lot_protocol::ActResult;
+use parking_lot_runs::{
+    AskUpgradablyInTime, Disown, ReadInTime, UpgradeInTime, WriteInTime, to_deadline,
+};
 use std::alloc::Allocator;
 use std::sync::Wait;
 use std::time::{Clock, Duration, Instant};

@@ -1,22 +1,21 @@
 //! Upgradable holds of the raw reader-writer lock.
 ghost use Rattle.std.specs.Prelude.{◌≡◌, ◌+◌, ◌*◌, ◌%◌, ◌^◌, IfOk, IfSome, MatchResult, ⊤, true};
-ghost use Rattle.parking_lot_locks.specs.Ends.{UpgradeEnded};
-ghost use Rattle.parking_lot_locks.specs.Runs.{Ended};
+ghost use Rattle.parking_lot_runs.specs.Ends.{UpgradeEnded};
+ghost use Rattle.parking_lot_runs.specs.Runs.{Ended};
 ghost use Rattle.parking_lot_protocol.specs.declared.act.CoreAnswer.{CoreAnswer};
 ghost use Rattle.parking_lot_protocol.specs.declared.act.CoreAnswer.TheVariants.{Owned, Released};
 ghost use Rattle.parking_lot_upgrades.specs.declared.upgrade_phase.Release.TheVariants as release;
 ghost use Rattle.parking_lot_upgrades.specs.declared.upgrade_phase.UpgradePhase.TheVariants.{Locking, Unlocking, Bumping, Upgrading, TryingToUpgrade, DowngradingToShared, DowngradingToUpgradable};
 
-use crate::call::Call;
 use crate::raw_rwlock::RawRwLock;
-use crate::upgrade_call::{
-    AskUpgradably, BumpUpgradable, Disown, DisownFairly, DowngradeToShared, DowngradeToUpgradable,
-    TryToUpgrade, Upgrade,
-};
 use lock_api_raw::{GuardSend, RawRwLockUpgrade, RawRwLockUpgradeDowngrade, RawRwLockUpgradeFair};
 use parking_lot_core::{ThreadData, thread_yield};
 use parking_lot_protocol::word::{PARKED, READER, UPGRADABLE, WRITER, is_parked};
 use parking_lot_protocol::{ActResult, CoreAnswer};
+use parking_lot_runs::{
+    AskUpgradably, BumpUpgradable, Call, Disown, DisownFairly, DowngradeToShared,
+    DowngradeToUpgradable, TryToUpgrade, Upgrade,
+};
 use parking_lot_upgrades::UpgradeCore;
 use std::alloc::Allocator;
 use std::sync::Wait;

@@ -1,7 +1,7 @@
 //! A number behind a lock whose types are all named.
 ghost use Rattle.std.specs.Prelude.{◌≡◌, MatchResult};
 ghost use Rattle.std.specs.Sync.RwLock.{read_guard_value, write_guard_value};
-ghost use Rattle.parking_lot_locks.specs.Ends.{UpgradeEnded};
+ghost use Rattle.parking_lot_runs.specs.Ends.{UpgradeEnded};
 ghost use Rattle.parking_lot_protocol.specs.declared.act.CoreAnswer.{CoreAnswer};
 ghost use Rattle.parking_lot_protocol.specs.declared.act.CoreAnswer.TheVariants.{Owned};
 ghost use Rattle.parking_lot_upgrades.specs.declared.upgrade_phase.Release.TheVariants.{Fair};

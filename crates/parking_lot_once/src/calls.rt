@@ -4,7 +4,7 @@ ghost use Rattle.parking_lot_once.specs.OnceRuns.{plain, forced, waiting, waitin
 ghost use Rattle.parking_lot_once_protocol.specs.declared.once_phase.OncePhase.TheVariants.{Asking, Returning};
 
 use parking_lot_core::UnparkToken;
-use parking_lot_locks::{Act, ActResult, Call, DecisionCore};
+use parking_lot_runs::{Act, ActResult, Call, DecisionCore};
 use parking_lot_once_protocol::OnceCore;
 
 /// A core that runs on a row.

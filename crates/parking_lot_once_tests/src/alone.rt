@@ -2,7 +2,7 @@
 
 use lock_api_raw::TableFull;
 use parking_lot_core::{ParkingLot, ThreadData};
-use parking_lot_locks::LockTable;
+use parking_lot_runs::LockTable;
 use parking_lot_once::{Once, OnceFault, OnceState, Poisoned};
 use std::alloc::Global;
 use std::cell::Cell;

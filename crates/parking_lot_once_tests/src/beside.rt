@@ -2,7 +2,7 @@
 
 use crate::flags::{has_come, is_raised};
 use parking_lot_core::{ParkingLot, ThreadData};
-use parking_lot_locks::LockTable;
+use parking_lot_runs::LockTable;
 use parking_lot_once::{Once, OnceFault, OnceState, Poisoned};
 use std::sync::Wait;
 use std::sync::atomic::{AtomicU64, Ordering};

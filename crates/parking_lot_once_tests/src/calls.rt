@@ -1,6 +1,6 @@
 //! Calls that are told one thing after another.
 
-use parking_lot_locks::{Act, ActResult, CoreAnswer, SectionAct, WordChange};
+use parking_lot_runs::{Act, ActResult, CoreAnswer, SectionAct, WordChange};
 use parking_lot_once_protocol::{OnceAnswer, OnceCore, OnceState};
 use std::test::Fail;
 

@@ -1,7 +1,7 @@
 //! Many threads at once.
 
 use parking_lot_core::ParkingLot;
-use parking_lot_locks::LockTable;
+use parking_lot_runs::LockTable;
 use parking_lot_once::Once;
 use std::sync::Wait;
 use std::sync::atomic::{AtomicU64, Ordering};
