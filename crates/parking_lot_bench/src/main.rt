@@ -99,9 +99,7 @@ fn told<R: Wait + Threads + Clock + Sync + Copy + Drop>(
 
 fn main(rt: HostRuntime) -> ExitCode {
     let Some(call) = asked(&rt) else {
-        let _ = eprintln!(rt;
-            "generic KIND ROUNDS, lot pair|empty ROUNDS, locks turns ROUNDS"
-        );
+        let _ = eprintln!(rt; "generic KIND ROUNDS, lot pair|empty ROUNDS, locks turns ROUNDS");
         return ExitCode::FAILURE;
     };
     let Ok(lines) = told(rt, rt.alloc(), call) else {

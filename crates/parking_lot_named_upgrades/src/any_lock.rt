@@ -1,5 +1,5 @@
 //! The same of a number behind any lock with upgradable holds.
-ghost use Rattle.std.specs.Prelude.{◌≡◌, MatchResult};
+ghost use Rattle.std.specs.Prelude.{◌≡◌, Ok, Err, MatchResult};
 ghost use Rattle.std.specs.Sync.RwLock.{read_guard_value, write_guard_value};
 ghost use Rattle.lock_api_guards.specs.Holds.{WasReleasedBy};
 
@@ -19,6 +19,7 @@ where
     R::Runtime: Wait,
     ensures lock { result.held.0.place.now ≡ upgrader.entry.held.0.place.now }
     ensures value { write_guard_value result.inner ≡ number }
+    ensures call { R.upgraded upgrader.entry.held.0.token result.held.0.token }
 {
     let mut writer = RwLockUpgradableReadGuard::upgrade(upgrader, me);
     *writer = number;
@@ -32,7 +33,8 @@ pub fn any_try_to_upgrade_and_write<'m, R: RawRwLockUpgrade>(
 ) -> Result<RwLockWriteGuard<'m, R, u64>, RwLockUpgradableReadGuard<'m, R, u64>>
 where
     R::Runtime: Wait,
-    ensures { MatchResult result (λ writer. (writer.held.0.place.now ≡ upgrader.entry.held.0.place.now) × (write_guard_value writer.inner ≡ number)) (λ same. same ≡ upgrader.entry) }
+    ensures guard { MatchResult result (λ writer. (writer.held.0.place.now ≡ upgrader.entry.held.0.place.now) × (write_guard_value writer.inner ≡ number)) (λ same. same ≡ upgrader.entry) }
+    ensures call { MatchResult result (λ writer. R.upgrade_tried upgrader.entry.held.0.token (Ok writer.held.0.token)) (λ same. R.upgrade_tried upgrader.entry.held.0.token (Err same.held.0.token)) }
 {
     match RwLockUpgradableReadGuard::try_upgrade(upgrader) {
         Ok(mut alone) => {
@@ -51,6 +53,7 @@ where
     R::Runtime: Wait,
     ensures lock { result.1.held.0.place.now ≡ upgrader.entry.held.0.place.now }
     ensures value { result.0 ≡ read_guard_value upgrader.entry.inner }
+    ensures call { R.upgradable_downgraded upgrader.entry.held.0.token result.1.held.0.token }
 {
     let number = *upgrader;
     (number, RwLockUpgradableReadGuard::downgrade(upgrader))
@@ -65,6 +68,7 @@ where
     R::Runtime: Wait,
     ensures lock { result.1.held.0.place.now ≡ writer.entry.held.0.place.now }
     ensures value { result.0 ≡ number }
+    ensures call { R.downgraded_to_upgradable writer.entry.held.0.token result.1.held.0.token }
 {
     let mut last = writer;
     *last = number;
@@ -128,6 +132,7 @@ where
         ensures first { result.0 ≡ self.entry.first }
         ensures lock { result.1.held.0.place.now ≡ self.entry.upgrader.held.0.place.now }
         ensures value { write_guard_value result.1.inner ≡ number }
+        ensures call { R.upgraded self.entry.upgrader.held.0.token result.1.held.0.token }
     {
         let AnyReview { upgrader, first } = self;
         (first, any_upgrade_and_write(upgrader, me, number))

@@ -1,11 +1,11 @@
 //! A number behind a lock whose types are all named.
-ghost use Rattle.std.specs.Prelude.{◌≡◌, MatchResult};
+ghost use Rattle.std.specs.Prelude.{◌≡◌, IfOk, MatchResult};
 ghost use Rattle.std.specs.Sync.RwLock.{read_guard_value, write_guard_value};
 ghost use Rattle.parking_lot_runs.specs.Ends.{UpgradeEnded};
 ghost use Rattle.parking_lot_protocol.specs.declared.act.CoreAnswer.{CoreAnswer};
 ghost use Rattle.parking_lot_protocol.specs.declared.act.CoreAnswer.TheVariants.{Owned};
 ghost use Rattle.parking_lot_upgrades.specs.declared.upgrade_phase.Release.TheVariants.{Fair};
-ghost use Rattle.parking_lot_upgrades.specs.declared.upgrade_phase.UpgradePhase.TheVariants.{Bumping, Unlocking};
+ghost use Rattle.parking_lot_upgrades.specs.declared.upgrade_phase.UpgradePhase.TheVariants.{Bumping, DowngradingToShared, DowngradingToUpgradable, TryingToUpgrade, Unlocking, Upgrading};
 
 use lock_api::{RwLock, RwLockReadGuard, RwLockUpgradableReadGuard, RwLockWriteGuard};
 use parking_lot_core::ThreadData;
@@ -64,6 +64,7 @@ pub fn upgrade_and_write<'m, 't, 'l, R: Wait, A: Allocator>(
 ) -> NumberWriter<'m, 't, 'l, R, A>
     ensures lock { result.held.0.place.now ≡ upgrader.entry.held.0.place.now }
     ensures value { write_guard_value result.inner ≡ number }
+    ensures call { UpgradeEnded Upgrading Owned }
 {
     let mut writer = RwLockUpgradableReadGuard::upgrade(upgrader, me);
     *writer = number;
@@ -75,7 +76,8 @@ pub fn try_to_upgrade_and_write<'m, 't, 'l, R: Wait, A: Allocator>(
     upgrader: NumberUpgrader<'m, 't, 'l, R, A>,
     number: u64,
 ) -> Result<NumberWriter<'m, 't, 'l, R, A>, NumberUpgrader<'m, 't, 'l, R, A>>
-    ensures { MatchResult result (λ writer. (writer.held.0.place.now ≡ upgrader.entry.held.0.place.now) × (write_guard_value writer.inner ≡ number)) (λ same. same ≡ upgrader.entry) }
+    ensures guard { MatchResult result (λ writer. (writer.held.0.place.now ≡ upgrader.entry.held.0.place.now) × (write_guard_value writer.inner ≡ number)) (λ same. same ≡ upgrader.entry) }
+    ensures call { IfOk result (λ _. UpgradeEnded TryingToUpgrade Owned) }
 {
     match RwLockUpgradableReadGuard::try_upgrade(upgrader) {
         Ok(mut alone) => {
@@ -92,6 +94,7 @@ pub fn look_and_downgrade<'m, 't, 'l, R: Wait, A: Allocator>(
 ) -> (u64, NumberReader<'m, 't, 'l, R, A>)
     ensures lock { result.1.held.0.place.now ≡ upgrader.entry.held.0.place.now }
     ensures value { result.0 ≡ read_guard_value upgrader.entry.inner }
+    ensures call { (answer : CoreAnswer) × UpgradeEnded DowngradingToShared answer }
 {
     let number = *upgrader;
     (number, RwLockUpgradableReadGuard::downgrade(upgrader))
@@ -104,6 +107,7 @@ pub fn write_and_downgrade<'m, 't, 'l, R: Wait, A: Allocator>(
 ) -> (u64, NumberUpgrader<'m, 't, 'l, R, A>)
     ensures lock { result.1.held.0.place.now ≡ writer.entry.held.0.place.now }
     ensures value { result.0 ≡ number }
+    ensures call { (answer : CoreAnswer) × UpgradeEnded DowngradingToUpgradable answer }
 {
     let mut last = writer;
     *last = number;

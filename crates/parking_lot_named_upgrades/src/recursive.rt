@@ -1,11 +1,11 @@
 //! A number behind a recursive lock whose types are all named.
-ghost use Rattle.std.specs.Prelude.{◌≡◌, MatchResult};
+ghost use Rattle.std.specs.Prelude.{◌≡◌, IfOk, MatchResult};
 ghost use Rattle.std.specs.Sync.RwLock.{read_guard_value, write_guard_value};
 ghost use Rattle.parking_lot_runs.specs.Ends.{UpgradeEnded};
 ghost use Rattle.parking_lot_protocol.specs.declared.act.CoreAnswer.{CoreAnswer};
 ghost use Rattle.parking_lot_protocol.specs.declared.act.CoreAnswer.TheVariants.{Owned};
 ghost use Rattle.parking_lot_upgrades.specs.declared.upgrade_phase.Release.TheVariants.{Fair};
-ghost use Rattle.parking_lot_upgrades.specs.declared.upgrade_phase.UpgradePhase.TheVariants.{Bumping, Unlocking};
+ghost use Rattle.parking_lot_upgrades.specs.declared.upgrade_phase.UpgradePhase.TheVariants.{Bumping, DowngradingToShared, DowngradingToUpgradable, TryingToUpgrade, Unlocking, Upgrading};
 
 use crate::any_lock::{
     AnyReview, any_end_fairly, any_let_others_first, any_look_and_downgrade,
@@ -61,6 +61,7 @@ pub fn recursive_upgrade_and_write<'m, 't, 'l, R: Wait, A: Allocator>(
 ) -> RecursiveWriter<'m, 't, 'l, R, A>
     ensures lock { result.held.0.place.now ≡ upgrader.entry.held.0.place.now }
     ensures value { write_guard_value result.inner ≡ number }
+    ensures call { UpgradeEnded Upgrading Owned }
 {
     let mut writer = RwLockUpgradableReadGuard::upgrade(upgrader, me);
     *writer = number;
@@ -72,7 +73,8 @@ pub fn recursive_try_to_upgrade_and_write<'m, 't, 'l, R: Wait, A: Allocator>(
     upgrader: RecursiveUpgrader<'m, 't, 'l, R, A>,
     number: u64,
 ) -> Result<RecursiveWriter<'m, 't, 'l, R, A>, RecursiveUpgrader<'m, 't, 'l, R, A>>
-    ensures { MatchResult result (λ writer. (writer.held.0.place.now ≡ upgrader.entry.held.0.place.now) × (write_guard_value writer.inner ≡ number)) (λ same. same ≡ upgrader.entry) }
+    ensures guard { MatchResult result (λ writer. (writer.held.0.place.now ≡ upgrader.entry.held.0.place.now) × (write_guard_value writer.inner ≡ number)) (λ same. same ≡ upgrader.entry) }
+    ensures call { IfOk result (λ _. UpgradeEnded TryingToUpgrade Owned) }
 {
     any_try_to_upgrade_and_write(upgrader, number)
 }
@@ -83,6 +85,7 @@ pub fn recursive_look_and_downgrade<'m, 't, 'l, R: Wait, A: Allocator>(
 ) -> (u64, RecursiveReader<'m, 't, 'l, R, A>)
     ensures lock { result.1.held.0.place.now ≡ upgrader.entry.held.0.place.now }
     ensures value { result.0 ≡ read_guard_value upgrader.entry.inner }
+    ensures call { (answer : CoreAnswer) × UpgradeEnded DowngradingToShared answer }
 {
     any_look_and_downgrade(upgrader)
 }
@@ -94,6 +97,7 @@ pub fn recursive_write_and_downgrade<'m, 't, 'l, R: Wait, A: Allocator>(
 ) -> (u64, RecursiveUpgrader<'m, 't, 'l, R, A>)
     ensures lock { result.1.held.0.place.now ≡ writer.entry.held.0.place.now }
     ensures value { result.0 ≡ number }
+    ensures call { (answer : CoreAnswer) × UpgradeEnded DowngradingToUpgradable answer }
 {
     any_write_and_downgrade(writer, number)
 }
@@ -127,6 +131,7 @@ pub fn review_and_amend<'m, 't, 'l, R: Wait, A: Allocator>(
 ) -> (u64, RecursiveWriter<'m, 't, 'l, R, A>)
     ensures lock { result.1.held.0.place.now ≡ lock.now }
     ensures value { write_guard_value result.1.inner ≡ number }
+    ensures call { UpgradeEnded Upgrading Owned }
 {
     let review: RecursiveReview<'_, '_, '_, R, A> = AnyReview::open(lock, me);
     review.amend(me, number)

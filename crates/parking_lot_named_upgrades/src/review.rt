@@ -3,7 +3,7 @@ ghost use Rattle.std.specs.Prelude.{◌≡◌, ◌==◌, MatchResult};
 ghost use Rattle.std.specs.Sync.RwLock.{read_guard_value, write_guard_value};
 ghost use Rattle.parking_lot_runs.specs.Ends.{UpgradeEnded};
 ghost use Rattle.parking_lot_protocol.specs.declared.act.CoreAnswer.TheVariants.{Owned};
-ghost use Rattle.parking_lot_upgrades.specs.declared.upgrade_phase.UpgradePhase.TheVariants.{Bumping};
+ghost use Rattle.parking_lot_upgrades.specs.declared.upgrade_phase.UpgradePhase.TheVariants.{Bumping, Upgrading};
 
 use crate::number::{Number, NumberUpgrader, NumberWriter};
 use lock_api::RwLockUpgradableReadGuard;
@@ -52,6 +52,7 @@ impl<'m, 't, 'l, R: Wait, A: Allocator> Review<'m, 't, 'l, R, A> {
     pub fn amend(self, me: &mut ThreadData<A>, number: u64) -> NumberWriter<'m, 't, 'l, R, A>
         ensures lock { result.held.0.place.now ≡ self.entry.upgrader.held.0.place.now }
         ensures value { write_guard_value result.inner ≡ number }
+        ensures call { UpgradeEnded Upgrading Owned }
     {
         let Review { upgrader, first: _ } = self;
         let mut writer = RwLockUpgradableReadGuard::upgrade(upgrader, me);

@@ -1,6 +1,10 @@
 //! A type of guards of two kinds that become one another.
 ghost use Rattle.std.specs.Prelude.{◌≡◌, MatchResult, true, false};
 ghost use Rattle.parking_lot_named_upgrades.specs.Stages.{is_writing, lock_at, number_at, number_once_put};
+ghost use Rattle.parking_lot_runs.specs.Ends.{UpgradeEnded};
+ghost use Rattle.parking_lot_protocol.specs.declared.act.CoreAnswer.{CoreAnswer};
+ghost use Rattle.parking_lot_protocol.specs.declared.act.CoreAnswer.TheVariants.{Owned};
+ghost use Rattle.parking_lot_upgrades.specs.declared.upgrade_phase.UpgradePhase.TheVariants.{DowngradingToUpgradable, Upgrading};
 
 use crate::number::{Number, NumberUpgrader, NumberWriter};
 use lock_api::{RwLockUpgradableReadGuard, RwLockWriteGuard};
@@ -69,6 +73,7 @@ impl<'m, 't, 'l, R: Wait, A: Allocator> Stage<'m, 't, 'l, R, A> {
     pub fn raise(self, me: &mut ThreadData<A>) -> Stage<'m, 't, 'l, R, A>
         ensures kind { is_writing result ≡ true }
         ensures lock { lock_at result ≡ lock_at self.entry }
+        ensures call { is_writing self.entry ≡ false → UpgradeEnded Upgrading Owned }
     {
         match self {
             Stage::Looks(looking) => {
@@ -100,6 +105,7 @@ impl<'m, 't, 'l, R: Wait, A: Allocator> Stage<'m, 't, 'l, R, A> {
     pub fn lower(self) -> Stage<'m, 't, 'l, R, A>
         ensures kind { is_writing result ≡ false }
         ensures lock { lock_at result ≡ lock_at self.entry }
+        ensures call { is_writing self.entry ≡ true → (answer : CoreAnswer) × UpgradeEnded DowngradingToUpgradable answer }
     {
         match self {
             Stage::Looks(looking) => Stage::Looks(looking),

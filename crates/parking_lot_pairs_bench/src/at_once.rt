@@ -22,7 +22,11 @@ pub fn by_notifying_all<R: Wait>(condvar: &RawCondvar<'_, '_, R>, calls: u32) {
 }
 
 #[inline(never)]
-pub fn by_once<R: Wait>(once: &Once<'_, '_, R>, me: &mut ThreadData, calls: u32) -> Result<(), Fault> {
+pub fn by_once<R: Wait>(
+    once: &Once<'_, '_, R>,
+    me: &mut ThreadData,
+    calls: u32,
+) -> Result<(), Fault> {
     for _call in 0..calls {
         once.call_once(me, || Ok::<(), u8>(())).map_err(|_| Fault)?;
     }

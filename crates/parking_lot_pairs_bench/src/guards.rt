@@ -27,14 +27,22 @@ where
 }
 
 #[inline(never)]
-pub fn by_reader<R: Wait>(lock: &RwLock<RawRwLock<'_, '_, R, 0>, u64>, me: &mut ThreadData, pairs: u32) {
+pub fn by_reader<R: Wait>(
+    lock: &RwLock<RawRwLock<'_, '_, R, 0>, u64>,
+    me: &mut ThreadData,
+    pairs: u32,
+) {
     for _pair in 0..pairs {
         let _guard = lock.read(me);
     }
 }
 
 #[inline(never)]
-pub fn by_writer<R: Wait>(lock: &RwLock<RawRwLock<'_, '_, R, 0>, u64>, me: &mut ThreadData, pairs: u32) {
+pub fn by_writer<R: Wait>(
+    lock: &RwLock<RawRwLock<'_, '_, R, 0>, u64>,
+    me: &mut ThreadData,
+    pairs: u32,
+) {
     for _pair in 0..pairs {
         let mut guard = lock.write(me);
         *guard = guard.wrapping_add(1);
@@ -42,7 +50,11 @@ pub fn by_writer<R: Wait>(lock: &RwLock<RawRwLock<'_, '_, R, 0>, u64>, me: &mut 
 }
 
 #[inline(never)]
-pub fn by_reentrant<R: Wait + Drop>(mutex: &Reentrant<'_, '_, R>, me: &mut ThreadData, pairs: u32) -> Result<(), Fault> {
+pub fn by_reentrant<R: Wait + Drop>(
+    mutex: &Reentrant<'_, '_, R>,
+    me: &mut ThreadData,
+    pairs: u32,
+) -> Result<(), Fault> {
     for _pair in 0..pairs {
         let _guard = mutex.lock(me)?;
     }

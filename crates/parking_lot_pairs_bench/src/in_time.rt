@@ -1,8 +1,8 @@
 //! Pairs of calls that may give up at a moment. It is past, and no matter where nobody is in the way.
 
 use lock_api_raw::{
-    RawMutex as _, RawMutexTimed as _, RawRwLock as _, RawRwLockTimed as _,
-    RawRwLockUpgrade as _, RawRwLockUpgradeTimed as _,
+    RawMutex as _, RawMutexTimed as _, RawRwLock as _, RawRwLockTimed as _, RawRwLockUpgrade as _,
+    RawRwLockUpgradeTimed as _,
 };
 use parking_lot_core::ThreadData;
 use parking_lot_locks::{RawMutex, RawRwLock};
@@ -10,7 +10,13 @@ use std::sync::Wait;
 use std::time::{Clock, Instant};
 
 #[inline(never)]
-pub fn mutex_in_time<R: Wait + Clock>(rt: &R, mutex: &RawMutex<'_, '_, R>, moment: Instant, me: &mut ThreadData, pairs: u32) {
+pub fn mutex_in_time<R: Wait + Clock>(
+    rt: &R,
+    mutex: &RawMutex<'_, '_, R>,
+    moment: Instant,
+    me: &mut ThreadData,
+    pairs: u32,
+) {
     for _pair in 0..pairs {
         if let Some(token) = mutex.try_lock_until(moment, rt, me) {
             mutex.unlock(token);
@@ -19,7 +25,13 @@ pub fn mutex_in_time<R: Wait + Clock>(rt: &R, mutex: &RawMutex<'_, '_, R>, momen
 }
 
 #[inline(never)]
-pub fn reads_in_time<R: Wait + Clock>(rt: &R, lock: &RawRwLock<'_, '_, R, 0>, moment: Instant, me: &mut ThreadData, pairs: u32) {
+pub fn reads_in_time<R: Wait + Clock>(
+    rt: &R,
+    lock: &RawRwLock<'_, '_, R, 0>,
+    moment: Instant,
+    me: &mut ThreadData,
+    pairs: u32,
+) {
     for _pair in 0..pairs {
         if let Some(token) = lock.try_lock_shared_until(moment, rt, me) {
             lock.unlock_shared(token);
@@ -28,7 +40,13 @@ pub fn reads_in_time<R: Wait + Clock>(rt: &R, lock: &RawRwLock<'_, '_, R, 0>, mo
 }
 
 #[inline(never)]
-pub fn writes_in_time<R: Wait + Clock>(rt: &R, lock: &RawRwLock<'_, '_, R, 0>, moment: Instant, me: &mut ThreadData, pairs: u32) {
+pub fn writes_in_time<R: Wait + Clock>(
+    rt: &R,
+    lock: &RawRwLock<'_, '_, R, 0>,
+    moment: Instant,
+    me: &mut ThreadData,
+    pairs: u32,
+) {
     for _pair in 0..pairs {
         if let Some(token) = lock.try_lock_exclusive_until(moment, rt, me) {
             lock.unlock_exclusive(token);
@@ -37,7 +55,13 @@ pub fn writes_in_time<R: Wait + Clock>(rt: &R, lock: &RawRwLock<'_, '_, R, 0>, m
 }
 
 #[inline(never)]
-pub fn upgradable_in_time<R: Wait + Clock>(rt: &R, lock: &RawRwLock<'_, '_, R, 0>, moment: Instant, me: &mut ThreadData, pairs: u32) {
+pub fn upgradable_in_time<R: Wait + Clock>(
+    rt: &R,
+    lock: &RawRwLock<'_, '_, R, 0>,
+    moment: Instant,
+    me: &mut ThreadData,
+    pairs: u32,
+) {
     for _pair in 0..pairs {
         if let Some(token) = lock.try_lock_upgradable_until(moment, rt, me) {
             lock.unlock_upgradable(token);
@@ -46,7 +70,13 @@ pub fn upgradable_in_time<R: Wait + Clock>(rt: &R, lock: &RawRwLock<'_, '_, R, 0
 }
 
 #[inline(never)]
-pub fn upgrades_in_time<R: Wait + Clock>(rt: &R, lock: &RawRwLock<'_, '_, R, 0>, moment: Instant, me: &mut ThreadData, pairs: u32) {
+pub fn upgrades_in_time<R: Wait + Clock>(
+    rt: &R,
+    lock: &RawRwLock<'_, '_, R, 0>,
+    moment: Instant,
+    me: &mut ThreadData,
+    pairs: u32,
+) {
     for _pair in 0..pairs {
         let token = lock.lock_upgradable(me);
         match lock.try_upgrade_until(token, moment, rt, me) {

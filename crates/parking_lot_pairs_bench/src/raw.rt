@@ -1,8 +1,6 @@
 //! Pairs of the raw locks.
 
-use lock_api_raw::{
-    RawMutex as _, RawMutexFair as _, RawRwLock as _, RawRwLockDowngrade as _,
-};
+use lock_api_raw::{RawMutex as _, RawMutexFair as _, RawRwLock as _, RawRwLockDowngrade as _};
 use parking_lot_core::ThreadData;
 use parking_lot_locks::{RawFairMutex, RawMutex, RawRwLock};
 use std::sync::Wait;
@@ -41,7 +39,11 @@ pub fn by_fair_mutex<R: Wait>(mutex: &RawFairMutex<'_, '_, R>, me: &mut ThreadDa
 }
 
 #[inline(never)]
-pub fn by_reading<R: Wait, const RECURSIVE: u8>(lock: &RawRwLock<'_, '_, R, RECURSIVE>, me: &mut ThreadData, pairs: u32) {
+pub fn by_reading<R: Wait, const RECURSIVE: u8>(
+    lock: &RawRwLock<'_, '_, R, RECURSIVE>,
+    me: &mut ThreadData,
+    pairs: u32,
+) {
     for _pair in 0..pairs {
         let token = lock.lock_shared(me);
         lock.unlock_shared(token);

@@ -1,12 +1,8 @@
 //! So many pairs of a kind, on a lock of their own.
 
-use crate::at_once;
 use crate::fault::Fault;
-use crate::guards;
-use crate::in_time;
 use crate::pair::Pair;
-use crate::raw;
-use crate::upgrades;
+use crate::{at_once, guards, in_time, raw, upgrades};
 use lock_api::{Mutex, ReentrantMutex, RwLock};
 use lock_api_raw::{MakeCondvar as _, MakeLock as _};
 use parking_lot_condvar::RawCondvar;

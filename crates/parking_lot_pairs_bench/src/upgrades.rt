@@ -23,7 +23,11 @@ pub fn by_upgrading<R: Wait>(lock: &RawRwLock<'_, '_, R, 0>, me: &mut ThreadData
 }
 
 #[inline(never)]
-pub fn by_trying_to_upgrade<R: Wait>(lock: &RawRwLock<'_, '_, R, 0>, me: &mut ThreadData, pairs: u32) {
+pub fn by_trying_to_upgrade<R: Wait>(
+    lock: &RawRwLock<'_, '_, R, 0>,
+    me: &mut ThreadData,
+    pairs: u32,
+) {
     for _pair in 0..pairs {
         let token = lock.lock_upgradable(me);
         match lock.try_upgrade(token) {
@@ -34,7 +38,11 @@ pub fn by_trying_to_upgrade<R: Wait>(lock: &RawRwLock<'_, '_, R, 0>, me: &mut Th
 }
 
 #[inline(never)]
-pub fn by_becoming_shared<R: Wait>(lock: &RawRwLock<'_, '_, R, 0>, me: &mut ThreadData, pairs: u32) {
+pub fn by_becoming_shared<R: Wait>(
+    lock: &RawRwLock<'_, '_, R, 0>,
+    me: &mut ThreadData,
+    pairs: u32,
+) {
     for _pair in 0..pairs {
         let token = lock.lock_upgradable(me);
         let token = lock.downgrade_upgradable(token);
@@ -43,7 +51,11 @@ pub fn by_becoming_shared<R: Wait>(lock: &RawRwLock<'_, '_, R, 0>, me: &mut Thre
 }
 
 #[inline(never)]
-pub fn by_becoming_upgradable<R: Wait>(lock: &RawRwLock<'_, '_, R, 0>, me: &mut ThreadData, pairs: u32) {
+pub fn by_becoming_upgradable<R: Wait>(
+    lock: &RawRwLock<'_, '_, R, 0>,
+    me: &mut ThreadData,
+    pairs: u32,
+) {
     for _pair in 0..pairs {
         let token = lock.lock_exclusive(me);
         let token = lock.downgrade_to_upgradable(token);
