@@ -89,6 +89,7 @@ impl<'t, 'l, R: Wait, A: Allocator> RawMutex<'t, 'l, R, A> {
     /// answer.
     ///
     /// The moment is looked at where the thread sleeps. So a mutex that can be had at once is had, also where the moment is past.
+    #[inline(always)]
     pub fn lock_until<C: Clock>(
         &self,
         deadline: Instant,
@@ -255,6 +256,7 @@ impl<'t, 'l, R, A: Allocator> RawMutexTimed for RawMutex<'t, 'l, R, A> {
         self.lock_for(timeout, clock, party)
     }
 
+    #[inline(always)]
     fn try_lock_until<C: Clock>(
         &self,
         deadline: Instant,

@@ -426,6 +426,7 @@ impl<'t, 'l, R, const RECURSIVE: u8, A: Allocator> RawRwLockDowngrade
     for RawRwLock<'t, 'l, R, RECURSIVE, A> {
     ghost downgraded = { λ _ _. (answer : CoreAnswer) × RwEnded Downgrading answer };
 
+    #[inline(always)]
     fn downgrade(&self, guard: GuardSend) -> GuardSend
     where
         R: Wait,

@@ -23,6 +23,8 @@ use std::time::{Clock, Duration, Instant};
 
 impl<'t, 'l, R: Wait, const RECURSIVE: u8, A: Allocator> RawRwLock<'t, 'l, R, RECURSIVE, A> {
     /// Asks to read until the moment. A hold beyond the most readers is given back, and asked for again.
+    #[cold]
+    #[inline(never)]
     fn read_in_time<C: Clock>(
         &self,
         deadline: Instant,
@@ -46,6 +48,8 @@ impl<'t, 'l, R: Wait, const RECURSIVE: u8, A: Allocator> RawRwLock<'t, 'l, R, RE
     }
 
     /// Asks for the upgradable hold until the moment. A hold beyond the most readers is given back, and asked for again.
+    #[cold]
+    #[inline(never)]
     fn own_upgradable_in_time<C: Clock>(
         &self,
         deadline: Instant,
@@ -72,6 +76,7 @@ impl<'t, 'l, R: Wait, const RECURSIVE: u8, A: Allocator> RawRwLock<'t, 'l, R, RE
     /// the answer.
     ///
     /// The moment is looked at where the thread sleeps. So a lock that can be had at once is had, also where the moment is past.
+    #[inline(always)]
     pub fn read_until<C: Clock>(
         &self,
         deadline: Instant,
@@ -107,6 +112,7 @@ impl<'t, 'l, R: Wait, const RECURSIVE: u8, A: Allocator> RawRwLock<'t, 'l, R, RE
 
     /// As [`read_until`](RawRwLock::read_until), of the exclusive hold. One that waits for readers to leave gives up there too: the lock
     /// is as if it had never asked, and those that it kept out are looked after.
+    #[inline(always)]
     pub fn write_until<C: Clock>(
         &self,
         deadline: Instant,
@@ -144,6 +150,7 @@ impl<'t, 'l, R: Wait, const RECURSIVE: u8, A: Allocator> RawRwLock<'t, 'l, R, RE
     }
 
     /// As [`read_until`](RawRwLock::read_until), of the upgradable hold.
+    #[inline(always)]
     pub fn upgradable_until<C: Clock>(
         &self,
         deadline: Instant,
@@ -178,6 +185,7 @@ impl<'t, 'l, R: Wait, const RECURSIVE: u8, A: Allocator> RawRwLock<'t, 'l, R, RE
 
     /// Makes the upgradable hold the exclusive one, or gives up at the moment: then it is the upgradable one again, with nobody
     /// exclusive in between, and the token comes back.
+    #[inline(always)]
     pub fn upgraded_until<C: Clock>(
         &self,
         guard: GuardSend,
@@ -242,6 +250,7 @@ impl<'t, 'l, R, const RECURSIVE: u8, A: Allocator> RawRwLockTimed
         self.read_for(timeout, clock, party)
     }
 
+    #[inline(always)]
     fn try_lock_shared_until<C: Clock>(
         &self,
         deadline: Instant,
@@ -266,6 +275,7 @@ impl<'t, 'l, R, const RECURSIVE: u8, A: Allocator> RawRwLockTimed
         self.write_for(timeout, clock, party)
     }
 
+    #[inline(always)]
     fn try_lock_exclusive_until<C: Clock>(
         &self,
         deadline: Instant,
@@ -310,6 +320,7 @@ impl<'t, 'l, R, const RECURSIVE: u8, A: Allocator> RawRwLockUpgradeTimed
         self.upgraded_for(guard, timeout, clock, party)
     }
 
+    #[inline(always)]
     fn try_lock_upgradable_until<C: Clock>(
         &self,
         deadline: Instant,
@@ -322,6 +333,7 @@ impl<'t, 'l, R, const RECURSIVE: u8, A: Allocator> RawRwLockUpgradeTimed
         self.upgradable_until(deadline, clock, party)
     }
 
+    #[inline(always)]
     fn try_upgrade_until<C: Clock>(
         &self,
         guard: GuardSend,

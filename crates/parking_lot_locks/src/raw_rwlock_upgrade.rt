@@ -97,6 +97,7 @@ impl<'t, 'l, R: Wait, const RECURSIVE: u8, A: Allocator> RawRwLock<'t, 'l, R, RE
     }
 
     /// Makes the upgradable hold a shared one.
+    #[inline(always)]
     pub fn downgraded_to_shared(&self, guard: GuardSend) -> GuardSend
         ensures token { result ≡ guard }
         ensures call { (answer : CoreAnswer) × UpgradeEnded DowngradingToShared answer }
@@ -115,6 +116,7 @@ impl<'t, 'l, R: Wait, const RECURSIVE: u8, A: Allocator> RawRwLock<'t, 'l, R, RE
     }
 
     /// Makes the exclusive hold an upgradable one.
+    #[inline(always)]
     pub fn downgraded_to_upgradable(&self, guard: GuardSend) -> GuardSend
         ensures token { result ≡ guard }
         ensures call { (answer : CoreAnswer) × UpgradeEnded DowngradingToUpgradable answer }
@@ -269,6 +271,7 @@ impl<'t, 'l, R, const RECURSIVE: u8, A: Allocator> RawRwLockUpgradeDowngrade
 
     ghost downgraded_to_upgradable = { λ _ _. (answer : CoreAnswer) × UpgradeEnded DowngradingToUpgradable answer };
 
+    #[inline(always)]
     fn downgrade_upgradable(&self, guard: GuardSend) -> GuardSend
     where
         R: Wait,
@@ -276,6 +279,7 @@ impl<'t, 'l, R, const RECURSIVE: u8, A: Allocator> RawRwLockUpgradeDowngrade
         self.downgraded_to_shared(guard)
     }
 
+    #[inline(always)]
     fn downgrade_to_upgradable(&self, guard: GuardSend) -> GuardSend
     where
         R: Wait,
