@@ -1,5 +1,5 @@
 //! The mutex.
-ghost use Rattle.std.specs.Prelude.{◌≡◌, IfSome, IfOk};
+ghost use Rattle.std.specs.Prelude.{◌≡◌, None, Some, IfSome, IfOk, MatchOption};
 ghost use Rattle.lock_api_raw.specs.Limits.{kept_limit};
 
 use lock_api_guards::{Guard, HasValue, HasValueMut, Mapped, lent, lent_mut};
@@ -158,7 +158,8 @@ where
     ) -> Option<MutexGuard<'_, R, T>>
     where
         R: RawMutexTimed,
-        ensures { IfSome result (λ guard. guard.held.0.place.now ≡ self.now) }
+        ensures lock { IfSome result (λ guard. guard.held.0.place.now ≡ self.now) }
+        ensures call { MatchOption result (R.locked_in_time None) (λ guard. R.locked_in_time (Some guard.held.0.token)) }
     {
         let hold = RawHold::wait_for(self, timeout, clock, party)?;
         Some(Guard::under(hold))
@@ -173,7 +174,8 @@ where
     ) -> Option<MutexGuard<'_, R, T>>
     where
         R: RawMutexTimed,
-        ensures { IfSome result (λ guard. guard.held.0.place.now ≡ self.now) }
+        ensures lock { IfSome result (λ guard. guard.held.0.place.now ≡ self.now) }
+        ensures call { MatchOption result (R.locked_in_time None) (λ guard. R.locked_in_time (Some guard.held.0.token)) }
     {
         let hold = RawHold::wait_until(self, deadline, clock, party)?;
         Some(Guard::under(hold))

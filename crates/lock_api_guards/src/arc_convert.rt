@@ -1,5 +1,5 @@
 //! Arc guards from one mode to another.
-ghost use Rattle.std.specs.Prelude.{◌≡◌, None, IfSome, IsSome, MatchResult};
+ghost use Rattle.std.specs.Prelude.{◌≡◌, None, Ok, Err, IfSome, IsSome, MatchResult};
 ghost use Rattle.std.specs.Fn.{FnOnceReturnsAtMut};
 ghost use Rattle.lock_api_guards.specs.Holds.{WasHeld};
 
@@ -22,7 +22,8 @@ where
 {
     /// Turns the hold into a shared one.
     pub fn downgrade(s: ArcGuard<H>) -> ArcGuard<H::Down>
-        ensures { H.Down.lock_of result.hold ≡ H.lock_of s.hold }
+        ensures lock { H.Down.lock_of result.hold ≡ H.lock_of s.hold }
+        ensures call { H.downgraded s.hold result.hold }
     {
         ArcGuard::over(ArcGuard::into_hold(s).downgrade())
     }
@@ -35,7 +36,8 @@ where
 {
     /// Turns the hold into an upgradable one.
     pub fn downgrade_to_upgradable(s: ArcGuard<H>) -> ArcGuard<H::Low>
-        ensures { H.Low.lock_of result.hold ≡ H.lock_of s.hold }
+        ensures lock { H.Low.lock_of result.hold ≡ H.lock_of s.hold }
+        ensures call { H.lowered s.hold result.hold }
     {
         ArcGuard::over(ArcGuard::into_hold(s).lower())
     }
@@ -48,14 +50,16 @@ where
 {
     /// Waits until the other readers are gone and gives the exclusive guard. Nobody else is exclusive in between.
     pub fn upgrade(s: ArcGuard<H>, party: &mut H::Party) -> ArcGuard<H::Alone>
-        ensures { H.Alone.lock_of result.hold ≡ H.lock_of s.hold }
+        ensures lock { H.Alone.lock_of result.hold ≡ H.lock_of s.hold }
+        ensures call { H.upgraded s.hold result.hold }
     {
         ArcGuard::over(ArcGuard::into_hold(s).upgrade(party))
     }
 
     /// The exclusive guard if no other reader is left, and else the same guard, still held.
     pub fn try_upgrade(s: ArcGuard<H>) -> Result<ArcGuard<H::Alone>, ArcGuard<H>>
-        ensures { MatchResult result (λ guard. H.Alone.lock_of guard.hold ≡ H.lock_of s.hold) (λ guard. guard ≡ s) }
+        ensures lock { MatchResult result (λ guard. H.Alone.lock_of guard.hold ≡ H.lock_of s.hold) (λ guard. guard ≡ s) }
+        ensures call { MatchResult result (λ guard. H.upgrade_tried s.hold (Ok guard.hold)) (λ guard. H.upgrade_tried s.hold (Err guard.hold)) }
     {
         match ArcGuard::into_hold(s).try_upgrade() {
             Ok(hold) => Ok(ArcGuard { hold }),
@@ -76,7 +80,8 @@ where
         clock: &C,
         party: &mut H::Party,
     ) -> Result<ArcGuard<H::Alone>, ArcGuard<H>>
-        ensures { MatchResult result (λ guard. H.Alone.lock_of guard.hold ≡ H.lock_of s.hold) (λ guard. guard ≡ s) }
+        ensures lock { MatchResult result (λ guard. H.Alone.lock_of guard.hold ≡ H.lock_of s.hold) (λ guard. guard ≡ s) }
+        ensures call { MatchResult result (λ guard. H.upgraded_in_time s.hold (Ok guard.hold)) (λ guard. H.upgraded_in_time s.hold (Err guard.hold)) }
     {
         match ArcGuard::into_hold(s).try_upgrade_for(timeout, clock, party) {
             Ok(hold) => Ok(ArcGuard { hold }),
@@ -91,7 +96,8 @@ where
         clock: &C,
         party: &mut H::Party,
     ) -> Result<ArcGuard<H::Alone>, ArcGuard<H>>
-        ensures { MatchResult result (λ guard. H.Alone.lock_of guard.hold ≡ H.lock_of s.hold) (λ guard. guard ≡ s) }
+        ensures lock { MatchResult result (λ guard. H.Alone.lock_of guard.hold ≡ H.lock_of s.hold) (λ guard. guard ≡ s) }
+        ensures call { MatchResult result (λ guard. H.upgraded_in_time s.hold (Ok guard.hold)) (λ guard. H.upgraded_in_time s.hold (Err guard.hold)) }
     {
         match ArcGuard::into_hold(s).try_upgrade_until(deadline, clock, party) {
             Ok(hold) => Ok(ArcGuard { hold }),

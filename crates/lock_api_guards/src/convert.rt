@@ -1,5 +1,5 @@
 //! Guards from one mode to another.
-ghost use Rattle.std.specs.Prelude.{◌≡◌, MatchResult};
+ghost use Rattle.std.specs.Prelude.{◌≡◌, Ok, Err, MatchResult};
 
 use crate::guard::Guard;
 use crate::held::{
@@ -18,7 +18,8 @@ where
     ///
     /// The std lock is changed once the raw conversion has succeeded, and may wait there for another's try.
     pub fn downgrade(s: Guard<W, H>) -> Guard<<H::Down as Access>::Inner, H::Down>
-        ensures { H.Down.lock_of result.held.0 ≡ H.lock_of s.held.0 }
+        ensures lock { H.Down.lock_of result.held.0 ≡ H.lock_of s.held.0 }
+        ensures call { H.downgraded s.held.0 result.held.0 }
     {
         let (inner, held) = Guard::into_parts(s);
         Guard::under(held.downgrade().give_back(inner).into_hold())
@@ -33,7 +34,8 @@ where
 {
     /// Turns the hold into an upgradable one, as `downgrade` does.
     pub fn downgrade_to_upgradable(s: Guard<W, H>) -> Guard<<H::Low as Access>::Inner, H::Low>
-        ensures { H.Low.lock_of result.held.0 ≡ H.lock_of s.held.0 }
+        ensures lock { H.Low.lock_of result.held.0 ≡ H.lock_of s.held.0 }
+        ensures call { H.lowered s.held.0 result.held.0 }
     {
         let (inner, held) = Guard::into_parts(s);
         Guard::under(held.lower().give_back(inner).into_hold())
@@ -51,7 +53,8 @@ where
         s: Guard<W, H>,
         party: &mut H::Party,
     ) -> Guard<<H::Alone as Access>::Inner, H::Alone>
-        ensures { H.Alone.lock_of result.held.0 ≡ H.lock_of s.held.0 }
+        ensures lock { H.Alone.lock_of result.held.0 ≡ H.lock_of s.held.0 }
+        ensures call { H.upgraded s.held.0 result.held.0 }
     {
         let (inner, held) = Guard::into_parts(s);
         Guard::under(held.upgrade(party).give_back(inner).into_hold())
@@ -61,7 +64,8 @@ where
     pub fn try_upgrade(
         s: Guard<W, H>,
     ) -> Result<Guard<<H::Alone as Access>::Inner, H::Alone>, Guard<W, H>>
-        ensures { MatchResult result (λ guard. H.Alone.lock_of guard.held.0 ≡ H.lock_of s.held.0) (λ guard. guard ≡ s) }
+        ensures lock { MatchResult result (λ guard. H.Alone.lock_of guard.held.0 ≡ H.lock_of s.held.0) (λ guard. guard ≡ s) }
+        ensures call { MatchResult result (λ guard. H.upgrade_tried s.held.0 (Ok guard.held.0)) (λ guard. H.upgrade_tried s.held.0 (Err guard.held.0)) }
     {
         let (inner, held) = Guard::into_parts(s);
         match held.try_upgrade() {
@@ -84,7 +88,8 @@ where
         clock: &C,
         party: &mut H::Party,
     ) -> Result<Guard<<H::Alone as Access>::Inner, H::Alone>, Guard<W, H>>
-        ensures { MatchResult result (λ guard. H.Alone.lock_of guard.held.0 ≡ H.lock_of s.held.0) (λ guard. guard ≡ s) }
+        ensures lock { MatchResult result (λ guard. H.Alone.lock_of guard.held.0 ≡ H.lock_of s.held.0) (λ guard. guard ≡ s) }
+        ensures call { MatchResult result (λ guard. H.upgraded_in_time s.held.0 (Ok guard.held.0)) (λ guard. H.upgraded_in_time s.held.0 (Err guard.held.0)) }
     {
         let (inner, held) = Guard::into_parts(s);
         match held.try_upgrade_for(timeout, clock, party) {
@@ -100,7 +105,8 @@ where
         clock: &C,
         party: &mut H::Party,
     ) -> Result<Guard<<H::Alone as Access>::Inner, H::Alone>, Guard<W, H>>
-        ensures { MatchResult result (λ guard. H.Alone.lock_of guard.held.0 ≡ H.lock_of s.held.0) (λ guard. guard ≡ s) }
+        ensures lock { MatchResult result (λ guard. H.Alone.lock_of guard.held.0 ≡ H.lock_of s.held.0) (λ guard. guard ≡ s) }
+        ensures call { MatchResult result (λ guard. H.upgraded_in_time s.held.0 (Ok guard.held.0)) (λ guard. H.upgraded_in_time s.held.0 (Err guard.held.0)) }
     {
         let (inner, held) = Guard::into_parts(s);
         match held.try_upgrade_until(deadline, clock, party) {

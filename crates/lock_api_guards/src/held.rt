@@ -1,5 +1,5 @@
 //! Raw holds, and whether the value is lent under them.
-ghost use Rattle.std.specs.Prelude.{◌≡◌, ⊤, false, true, MatchResult};
+ghost use Rattle.std.specs.Prelude.{◌≡◌, ⊤, false, true, Ok, Err, Result, MatchResult};
 
 use std::marker::{Model, PhantomData};
 use std::rt::Clock;
@@ -100,11 +100,15 @@ pub trait DowngradeToUpgradable: Hold {
     /// The upgradable hold.
     type Low: Hold<Lock = Self::Lock>;
 
+    /// That a lowering of the hold gave this one. Where the hold is of any type, a lowering of it alone gives it.
+    ghost lowered: { Self → Self.Low → Type 0 } = { λ _ _. ⊤ };
+
     /// Turns the hold into an upgradable one without letting go.
     fn lower(self) -> Self::Low
     where
         Self::Runtime: Wait,
-        ensures { Self.Low.lock_of result ≡ Self.lock_of self };
+        ensures lock { Self.Low.lock_of result ≡ Self.lock_of self }
+        ensures call { lowered self result };
 }
 
 /// A hold that can become an exclusive one. For the layer above.
@@ -112,24 +116,36 @@ pub trait UpgradeHold: Hold {
     /// The exclusive hold.
     type Alone: Hold<Lock = Self::Lock>;
 
+    /// That an upgrade of the hold gave this one. Where the hold is of any type, an upgrade of it alone gives it.
+    ghost upgraded: { Self → Self.Alone → Type 0 } = { λ _ _. ⊤ };
+
+    /// That a try to upgrade the hold answered so. Where the hold is of any type, such a try alone gives it.
+    ghost upgrade_tried: { Self → Result Self.Alone Self → Type 0 } = { λ _ _. ⊤ };
+
     /// Waits until the other readers are gone.
     fn upgrade(self, party: &mut Self::Party) -> Self::Alone
     where
         Self::Runtime: Wait,
-        ensures { Self.Alone.lock_of result ≡ Self.lock_of self };
+        ensures lock { Self.Alone.lock_of result ≡ Self.lock_of self }
+        ensures call { upgraded self result };
 
     /// The exclusive hold if no other reader is left, and else the same hold. It waits for nobody.
     fn try_upgrade(self) -> Result<Self::Alone, Self>
-        ensures { MatchResult result (λ hold. Self.Alone.lock_of hold ≡ Self.lock_of self) (λ hold. hold ≡ self) };
+        ensures lock { MatchResult result (λ hold. Self.Alone.lock_of hold ≡ Self.lock_of self) (λ hold. hold ≡ self) }
+        ensures call { upgrade_tried self result };
 }
 
 /// A hold that can become an exclusive one and be had back. For the layer above.
 pub trait RestoreHold: UpgradeHold {
+    /// That the exclusive hold was turned into this one. Where the hold is of any type, `restore` alone gives it.
+    ghost restored: { Self.Alone → Self → Type 0 } = { λ _ _. ⊤ };
+
     /// Turns the exclusive hold into such a one again without letting go.
     fn restore(alone: Self::Alone) -> Self
     where
         Self::Runtime: Wait,
-        ensures { Self.lock_of result ≡ Self.Alone.lock_of alone };
+        ensures lock { Self.lock_of result ≡ Self.Alone.lock_of alone }
+        ensures call { restored alone result };
 }
 
 /// A hold that can become an exclusive one by a wait that can give up. For the layer above.
@@ -140,6 +156,9 @@ pub trait TimedUpgradeHold: UpgradeHold {
     /// A moment.
     type Instant;
 
+    /// That an upgrade of the hold that may give up answered so. Where the hold is of any type, such a call alone gives it.
+    ghost upgraded_in_time: { Self → Result Self.Alone Self → Type 0 } = { λ _ _. ⊤ };
+
     /// As `upgrade`, but the same hold if the wait is given up after the length of time.
     fn try_upgrade_for<C: Clock>(
         self,
@@ -149,7 +168,8 @@ pub trait TimedUpgradeHold: UpgradeHold {
     ) -> Result<Self::Alone, Self>
     where
         Self::Runtime: Wait,
-        ensures { MatchResult result (λ hold. Self.Alone.lock_of hold ≡ Self.lock_of self) (λ hold. hold ≡ self) };
+        ensures lock { MatchResult result (λ hold. Self.Alone.lock_of hold ≡ Self.lock_of self) (λ hold. hold ≡ self) }
+        ensures call { upgraded_in_time self result };
 
     /// As `upgrade`, but the same hold if the wait is given up at the moment.
     fn try_upgrade_until<C: Clock>(
@@ -160,7 +180,8 @@ pub trait TimedUpgradeHold: UpgradeHold {
     ) -> Result<Self::Alone, Self>
     where
         Self::Runtime: Wait,
-        ensures { MatchResult result (λ hold. Self.Alone.lock_of hold ≡ Self.lock_of self) (λ hold. hold ≡ self) };
+        ensures lock { MatchResult result (λ hold. Self.Alone.lock_of hold ≡ Self.lock_of self) (λ hold. hold ≡ self) }
+        ensures call { upgraded_in_time self result };
 }
 
 /// A hold that owns an Arc of its lock. For the layer above.
@@ -258,7 +279,7 @@ where
 {
     /// Turns the raw hold into a shared one. Whether the value is lent stays.
     pub fn downgrade(self) -> Held<H::Down, W>
-        ensures { (H.Down.lock_of result.0 ≡ H.lock_of self.0) × (result.1 ≡ self.1) }
+        ensures { (H.Down.lock_of result.0 ≡ H.lock_of self.0) × (result.1 ≡ self.1) × H.downgraded self.0 result.0 }
     {
         let Held { hold, lent, by } = self;
         let hold = hold.downgrade();
@@ -272,7 +293,7 @@ where
 {
     /// Turns the raw hold into an upgradable one. Whether the value is lent stays.
     pub fn lower(self) -> Held<H::Low, W>
-        ensures { (H.Low.lock_of result.0 ≡ H.lock_of self.0) × (result.1 ≡ self.1) }
+        ensures { (H.Low.lock_of result.0 ≡ H.lock_of self.0) × (result.1 ≡ self.1) × H.lowered self.0 result.0 }
     {
         let Held { hold, lent, by } = self;
         let hold = hold.lower();
@@ -285,7 +306,7 @@ impl<H: UpgradeHold, W> Held<H, W> {
     pub fn upgrade(self, party: &mut H::Party) -> Held<H::Alone, W>
     where
         H::Runtime: Wait,
-        ensures { (H.Alone.lock_of result.0 ≡ H.lock_of self.0) × (result.1 ≡ self.1) }
+        ensures { (H.Alone.lock_of result.0 ≡ H.lock_of self.0) × (result.1 ≡ self.1) × H.upgraded self.0 result.0 }
     {
         let Held { hold, lent, by } = self;
         let hold = hold.upgrade(party);
@@ -294,7 +315,7 @@ impl<H: UpgradeHold, W> Held<H, W> {
 
     /// As `upgrade` if no other reader is left, and else unchanged.
     pub fn try_upgrade(self) -> Result<Held<H::Alone, W>, Held<H, W>>
-        ensures { MatchResult result (λ held. (H.Alone.lock_of held.0 ≡ H.lock_of self.0) × (held.1 ≡ self.1)) (λ held. held ≡ self) }
+        ensures { MatchResult result (λ held. (H.Alone.lock_of held.0 ≡ H.lock_of self.0) × (held.1 ≡ self.1) × H.upgrade_tried self.0 (Ok held.0)) (λ held. (held ≡ self) × H.upgrade_tried self.0 (Err held.0)) }
     {
         let Held { hold, lent, by } = self;
         match hold.try_upgrade() {
@@ -315,7 +336,7 @@ where
         clock: &C,
         party: &mut H::Party,
     ) -> Result<Held<H::Alone, W>, Held<H, W>>
-        ensures { MatchResult result (λ held. (H.Alone.lock_of held.0 ≡ H.lock_of self.0) × (held.1 ≡ self.1)) (λ held. held ≡ self) }
+        ensures { MatchResult result (λ held. (H.Alone.lock_of held.0 ≡ H.lock_of self.0) × (held.1 ≡ self.1) × H.upgraded_in_time self.0 (Ok held.0)) (λ held. (held ≡ self) × H.upgraded_in_time self.0 (Err held.0)) }
     {
         let Held { hold, lent, by } = self;
         match hold.try_upgrade_for(timeout, clock, party) {
@@ -331,7 +352,7 @@ where
         clock: &C,
         party: &mut H::Party,
     ) -> Result<Held<H::Alone, W>, Held<H, W>>
-        ensures { MatchResult result (λ held. (H.Alone.lock_of held.0 ≡ H.lock_of self.0) × (held.1 ≡ self.1)) (λ held. held ≡ self) }
+        ensures { MatchResult result (λ held. (H.Alone.lock_of held.0 ≡ H.lock_of self.0) × (held.1 ≡ self.1) × H.upgraded_in_time self.0 (Ok held.0)) (λ held. (held ≡ self) × H.upgraded_in_time self.0 (Err held.0)) }
     {
         let Held { hold, lent, by } = self;
         match hold.try_upgrade_until(deadline, clock, party) {

@@ -1,7 +1,7 @@
 //! A raw reader-writer lock of one atomic word.
-ghost use Rattle.std.specs.Prelude.{◌≡◌, ◌-◌, ◌^◌, IfSome, min, max, true};
+ghost use Rattle.std.specs.Prelude.{◌≡◌, ◌-◌, ◌^◌, IfSome, MatchResult, ⊤, min, max, true};
 ghost use Rattle.lock_api_packed.specs.Turns.{Made};
-ghost use Rattle.lock_api_packed.specs.declared.turn.Turn.TheVariants.{TakeShared, TakeExclusive, TakeUpgradable, GiveShared, GiveExclusive, GiveUpgradable, Downgrade};
+ghost use Rattle.lock_api_packed.specs.declared.turn.Turn.TheVariants.{TakeShared, TakeExclusive, TakeUpgradable, GiveShared, GiveExclusive, GiveUpgradable, Upgrade, Downgrade, DowngradeToUpgradable, DowngradeUpgradable};
 
 use crate::turn::Turn;
 use lock_api_raw::{
@@ -71,6 +71,7 @@ impl<R: Drop> PackedLock<R> {
     fn turn_until<C: Clock>(&self, turn: Turn, deadline: Option<Instant>, clock: &C) -> bool
     where
         R: Wait,
+        ensures { result ≡ true → Made turn }
     {
         for _ in self.rt.forever() {
             if self.turn(turn) {
@@ -93,7 +94,8 @@ impl<R: Drop> PackedLock<R> {
 
     /// A token of this lock for a hold that was taken.
     fn token_if(&self, taken: bool) -> Option<GuardSend>
-        ensures { IfSome result (λ token. token ≡ self.now.number) }
+        ensures issued { IfSome result (λ token. token ≡ self.now.number) }
+        ensures taken { IfSome result (λ _. taken ≡ true) }
     {
         if taken { Some(self.token()) } else { None }
     }
@@ -262,6 +264,10 @@ impl<R: Drop> RawRwLockTimed for PackedLock<R> {
 
     type Instant = Instant;
 
+    ghost shared_locked_in_time = { λ answer. IfSome answer (λ _. Made TakeShared) };
+
+    ghost exclusive_locked_in_time = { λ answer. IfSome answer (λ _. Made TakeExclusive) };
+
     fn try_lock_shared_for<C: Clock>(
         &self,
         timeout: Duration,
@@ -320,6 +326,10 @@ impl<R: Drop> RawRwLockUpgrade for PackedLock<R> {
 
     ghost upgradable_unlocked = { λ _. Made GiveUpgradable };
 
+    ghost upgraded = { λ _ _. Made Upgrade };
+
+    ghost upgrade_tried = { λ _ tried. MatchResult tried (λ _. Made Upgrade) (λ _. ⊤) };
+
     fn lock_upgradable(&self, _party: &mut u32) -> GuardSend
     where
         R: Wait,
@@ -376,6 +386,10 @@ impl<R: Drop> RawRwLockUpgradeFair for PackedLock<R> {
 }
 
 impl<R: Drop> RawRwLockUpgradeDowngrade for PackedLock<R> {
+    ghost upgradable_downgraded = { λ _ _. Made DowngradeUpgradable };
+
+    ghost downgraded_to_upgradable = { λ _ _. Made DowngradeToUpgradable };
+
     fn downgrade_upgradable(&self, guard: GuardSend) -> GuardSend
     where
         R: Wait,
@@ -394,6 +408,10 @@ impl<R: Drop> RawRwLockUpgradeDowngrade for PackedLock<R> {
 }
 
 impl<R: Drop> RawRwLockUpgradeTimed for PackedLock<R> {
+    ghost upgradable_locked_in_time = { λ answer. IfSome answer (λ _. Made TakeUpgradable) };
+
+    ghost upgraded_in_time = { λ _ tried. MatchResult tried (λ _. Made Upgrade) (λ _. ⊤) };
+
     fn try_lock_upgradable_for<C: Clock>(
         &self,
         timeout: Duration,

@@ -1,4 +1,5 @@
 //! A raw mutex of one atomic word.
+ghost use Rattle.std.specs.Prelude.{IfSome};
 ghost use Rattle.lock_api_packed.specs.Turns.{Made};
 ghost use Rattle.lock_api_packed.specs.declared.turn.Turn.TheVariants.{TakeExclusive, GiveExclusive};
 
@@ -95,6 +96,8 @@ impl<R: Drop> RawMutexTimed for PackedMutex<R> {
     type Duration = Duration;
 
     type Instant = Instant;
+
+    ghost locked_in_time = { λ answer. IfSome answer (λ _. Made TakeExclusive) };
 
     fn try_lock_for<C: Clock>(
         &self,

@@ -1,5 +1,5 @@
 //! Raw locks with one kind of hold.
-ghost use Rattle.std.specs.Prelude.{◌≡◌, ℕ, ⊤, Bool, IfSome};
+ghost use Rattle.std.specs.Prelude.{◌≡◌, ℕ, ⊤, Bool, Option, IfSome};
 
 use std::rt::Clock;
 use std::sync::Wait;
@@ -102,6 +102,9 @@ pub trait RawMutexTimed: RawMutex {
     /// A moment.
     type Instant;
 
+    /// That a call that may give up answered so. Of a raw mutex of any type such a call alone gives it.
+    ghost locked_in_time: { Option Self.Guard → Type 0 } = { λ _. ⊤ };
+
     /// As `lock`, but None if the wait is given up after the length of time, by the clock that is handed in. A length
     /// that leads past what a moment can say is no limit.
     fn try_lock_for<C: Clock>(
@@ -112,7 +115,8 @@ pub trait RawMutexTimed: RawMutex {
     ) -> Option<Self::Guard>
     where
         Self::Runtime: Wait,
-        ensures { IfSome result (λ token. Self.issued_by token ≡ Self.number self.now) };
+        ensures issued { IfSome result (λ token. Self.issued_by token ≡ Self.number self.now) }
+        ensures call { locked_in_time result };
 
     /// As `lock`, but None if the wait is given up at the moment, by the clock that is handed in.
     fn try_lock_until<C: Clock>(
@@ -123,5 +127,6 @@ pub trait RawMutexTimed: RawMutex {
     ) -> Option<Self::Guard>
     where
         Self::Runtime: Wait,
-        ensures { IfSome result (λ token. Self.issued_by token ≡ Self.number self.now) };
+        ensures issued { IfSome result (λ token. Self.issued_by token ≡ Self.number self.now) }
+        ensures call { locked_in_time result };
 }

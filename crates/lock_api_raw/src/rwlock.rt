@@ -1,5 +1,5 @@
 //! Raw locks with shared, exclusive and upgradable holds.
-ghost use Rattle.std.specs.Prelude.{◌≡◌, ℕ, ⊤, Bool, IfSome, MatchResult};
+ghost use Rattle.std.specs.Prelude.{◌≡◌, ℕ, ⊤, Bool, Option, Result, IfSome, MatchResult};
 
 use std::rt::Clock;
 use std::sync::Wait;
@@ -177,6 +177,12 @@ pub trait RawRwLockTimed: RawRwLock {
     /// A moment.
     type Instant;
 
+    /// That a call for a shared hold that may give up answered so. Of a raw lock of any type such a call alone gives it.
+    ghost shared_locked_in_time: { Option Self.SharedGuard → Type 0 } = { λ _. ⊤ };
+
+    /// That a call for an exclusive hold that may give up answered so. Of a raw lock of any type such a call alone gives it.
+    ghost exclusive_locked_in_time: { Option Self.ExclusiveGuard → Type 0 } = { λ _. ⊤ };
+
     /// As `lock_shared`, but None if the wait is given up after the length of time, by the clock that is handed in. A
     /// length that leads past what a moment can say is no limit.
     fn try_lock_shared_for<C: Clock>(
@@ -187,7 +193,8 @@ pub trait RawRwLockTimed: RawRwLock {
     ) -> Option<Self::SharedGuard>
     where
         Self::Runtime: Wait,
-        ensures { IfSome result (λ token. Self.shared_by token ≡ Self.number self.now) };
+        ensures issued { IfSome result (λ token. Self.shared_by token ≡ Self.number self.now) }
+        ensures call { shared_locked_in_time result };
 
     /// As `lock_shared`, but None if the wait is given up at the moment, by the clock that is handed in.
     fn try_lock_shared_until<C: Clock>(
@@ -198,7 +205,8 @@ pub trait RawRwLockTimed: RawRwLock {
     ) -> Option<Self::SharedGuard>
     where
         Self::Runtime: Wait,
-        ensures { IfSome result (λ token. Self.shared_by token ≡ Self.number self.now) };
+        ensures issued { IfSome result (λ token. Self.shared_by token ≡ Self.number self.now) }
+        ensures call { shared_locked_in_time result };
 
     /// As `lock_exclusive`, but None if the wait is given up after the length of time.
     fn try_lock_exclusive_for<C: Clock>(
@@ -209,7 +217,8 @@ pub trait RawRwLockTimed: RawRwLock {
     ) -> Option<Self::ExclusiveGuard>
     where
         Self::Runtime: Wait,
-        ensures { IfSome result (λ token. Self.exclusive_by token ≡ Self.number self.now) };
+        ensures issued { IfSome result (λ token. Self.exclusive_by token ≡ Self.number self.now) }
+        ensures call { exclusive_locked_in_time result };
 
     /// As `lock_exclusive`, but None if the wait is given up at the moment.
     fn try_lock_exclusive_until<C: Clock>(
@@ -220,7 +229,8 @@ pub trait RawRwLockTimed: RawRwLock {
     ) -> Option<Self::ExclusiveGuard>
     where
         Self::Runtime: Wait,
-        ensures { IfSome result (λ token. Self.exclusive_by token ≡ Self.number self.now) };
+        ensures issued { IfSome result (λ token. Self.exclusive_by token ≡ Self.number self.now) }
+        ensures call { exclusive_locked_in_time result };
 }
 
 /// An upgradable hold. It stands beside shared ones and counts as one of them, and never stands beside another
@@ -237,6 +247,12 @@ pub trait RawRwLockUpgrade: RawRwLock {
 
     /// That a plain release spent the upgradable token. Of a raw lock of any type such a release alone gives it.
     ghost upgradable_unlocked: { Self.UpgradableGuard → Type 0 } = { λ _. ⊤ };
+
+    /// That an upgrade of the upgradable token gave the exclusive one. Of a raw lock of any type an upgrade alone gives it.
+    ghost upgraded: { Self.UpgradableGuard → Self.ExclusiveGuard → Type 0 } = { λ _ _. ⊤ };
+
+    /// That a try to upgrade the upgradable token answered so. Of a raw lock of any type such a try alone gives it.
+    ghost upgrade_tried: { Self.UpgradableGuard → Result Self.ExclusiveGuard Self.UpgradableGuard → Type 0 } = { λ _ _. ⊤ };
 
     /// Waits for an upgradable hold. At a full count of readers it yields and tries again until there is room.
     fn lock_upgradable(&self, party: &mut Self::Party) -> Self::UpgradableGuard
@@ -261,7 +277,8 @@ pub trait RawRwLockUpgrade: RawRwLock {
     where
         Self::Runtime: Wait,
         requires { upgradable_by guard ≡ Self.number self.now }
-        ensures { Self.exclusive_by result ≡ Self.number self.now };
+        ensures issued { Self.exclusive_by result ≡ Self.number self.now }
+        ensures call { upgraded guard result };
 
     /// The exclusive token if no other reader is left, and else the token that was handed in, with nothing changed. It
     /// waits for nobody.
@@ -270,7 +287,8 @@ pub trait RawRwLockUpgrade: RawRwLock {
         guard: Self::UpgradableGuard,
     ) -> Result<Self::ExclusiveGuard, Self::UpgradableGuard>
         requires { upgradable_by guard ≡ Self.number self.now }
-        ensures { MatchResult result (λ token. Self.exclusive_by token ≡ Self.number self.now) (λ token. token ≡ guard) };
+        ensures issued { MatchResult result (λ token. Self.exclusive_by token ≡ Self.number self.now) (λ token. token ≡ guard) }
+        ensures call { upgrade_tried guard result };
 }
 
 /// Fair upgradable releases.
@@ -303,23 +321,37 @@ pub trait RawRwLockUpgradeFair: RawRwLockUpgrade + RawRwLockFair {
 
 /// From upgradable to shared, and from exclusive to upgradable.
 pub trait RawRwLockUpgradeDowngrade: RawRwLockUpgrade + RawRwLockDowngrade {
+    /// That a downgrade of the upgradable token gave the shared one. Of a raw lock of any type such a downgrade alone gives it.
+    ghost upgradable_downgraded: { Self.UpgradableGuard → Self.SharedGuard → Type 0 } = { λ _ _. ⊤ };
+
+    /// That a downgrade of the exclusive token gave the upgradable one. Of a raw lock of any type such a downgrade alone gives it.
+    ghost downgraded_to_upgradable: { Self.ExclusiveGuard → Self.UpgradableGuard → Type 0 } = { λ _ _. ⊤ };
+
     /// Turns the upgradable hold into a shared one without letting go.
     fn downgrade_upgradable(&self, guard: Self::UpgradableGuard) -> Self::SharedGuard
     where
         Self::Runtime: Wait,
         requires { Self.upgradable_by guard ≡ Self.number self.now }
-        ensures { Self.shared_by result ≡ Self.number self.now };
+        ensures issued { Self.shared_by result ≡ Self.number self.now }
+        ensures call { upgradable_downgraded guard result };
 
     /// Turns the exclusive hold into an upgradable one without letting go.
     fn downgrade_to_upgradable(&self, guard: Self::ExclusiveGuard) -> Self::UpgradableGuard
     where
         Self::Runtime: Wait,
         requires { Self.exclusive_by guard ≡ Self.number self.now }
-        ensures { Self.upgradable_by result ≡ Self.number self.now };
+        ensures issued { Self.upgradable_by result ≡ Self.number self.now }
+        ensures call { downgraded_to_upgradable guard result };
 }
 
 /// Upgradable holds whose wait can give up.
 pub trait RawRwLockUpgradeTimed: RawRwLockUpgrade + RawRwLockTimed {
+    /// That a call for an upgradable hold that may give up answered so. Of a raw lock of any type such a call alone gives it.
+    ghost upgradable_locked_in_time: { Option Self.UpgradableGuard → Type 0 } = { λ _. ⊤ };
+
+    /// That an upgrade of the upgradable token that may give up answered so. Of a raw lock of any type such a call alone gives it.
+    ghost upgraded_in_time: { Self.UpgradableGuard → Result Self.ExclusiveGuard Self.UpgradableGuard → Type 0 } = { λ _ _. ⊤ };
+
     /// As `lock_upgradable`, but None if the wait is given up after the length of time.
     fn try_lock_upgradable_for<C: Clock>(
         &self,
@@ -329,7 +361,8 @@ pub trait RawRwLockUpgradeTimed: RawRwLockUpgrade + RawRwLockTimed {
     ) -> Option<Self::UpgradableGuard>
     where
         Self::Runtime: Wait,
-        ensures { IfSome result (λ token. Self.upgradable_by token ≡ Self.number self.now) };
+        ensures issued { IfSome result (λ token. Self.upgradable_by token ≡ Self.number self.now) }
+        ensures call { upgradable_locked_in_time result };
 
     /// As `upgrade`, but if the wait is given up the token that was handed in comes back and the lock is upgradable
     /// again, with nobody exclusive in between.
@@ -343,7 +376,8 @@ pub trait RawRwLockUpgradeTimed: RawRwLockUpgrade + RawRwLockTimed {
     where
         Self::Runtime: Wait,
         requires { Self.upgradable_by guard ≡ Self.number self.now }
-        ensures { MatchResult result (λ token. Self.exclusive_by token ≡ Self.number self.now) (λ token. token ≡ guard) };
+        ensures issued { MatchResult result (λ token. Self.exclusive_by token ≡ Self.number self.now) (λ token. token ≡ guard) }
+        ensures call { upgraded_in_time guard result };
 
     /// As `lock_upgradable`, but None if the wait is given up at the moment.
     fn try_lock_upgradable_until<C: Clock>(
@@ -354,7 +388,8 @@ pub trait RawRwLockUpgradeTimed: RawRwLockUpgrade + RawRwLockTimed {
     ) -> Option<Self::UpgradableGuard>
     where
         Self::Runtime: Wait,
-        ensures { IfSome result (λ token. Self.upgradable_by token ≡ Self.number self.now) };
+        ensures issued { IfSome result (λ token. Self.upgradable_by token ≡ Self.number self.now) }
+        ensures call { upgradable_locked_in_time result };
 
     /// As `try_upgrade_for`, but the wait is given up at the moment.
     fn try_upgrade_until<C: Clock>(
@@ -367,5 +402,6 @@ pub trait RawRwLockUpgradeTimed: RawRwLockUpgrade + RawRwLockTimed {
     where
         Self::Runtime: Wait,
         requires { Self.upgradable_by guard ≡ Self.number self.now }
-        ensures { MatchResult result (λ token. Self.exclusive_by token ≡ Self.number self.now) (λ token. token ≡ guard) };
+        ensures issued { MatchResult result (λ token. Self.exclusive_by token ≡ Self.number self.now) (λ token. token ≡ guard) }
+        ensures call { upgraded_in_time guard result };
 }

@@ -1,5 +1,5 @@
 //! The modes in which raw locks are held.
-ghost use Rattle.std.specs.Prelude.{◌≡◌, ℕ, ⊤, IfSome};
+ghost use Rattle.std.specs.Prelude.{◌≡◌, ℕ, ⊤, Option, IfSome};
 
 use lock_api_raw::{
     RawMutex, RawMutexFair, RawMutexTimed, RawRwLock, RawRwLockFair, RawRwLockTimed,
@@ -74,6 +74,9 @@ pub trait TimedMode<R>: Mode<R> {
     /// A moment.
     type Instant;
 
+    /// That a call that may give up answered so. Where the mode is of any type, such a call alone gives it.
+    ghost locked_in_time: { Option Self.Token → Type 0 } = { λ _. ⊤ };
+
     /// As `lock`, but None if the wait is given up after the length of time.
     fn lock_for<C: Clock>(
         raw: &R,
@@ -83,7 +86,8 @@ pub trait TimedMode<R>: Mode<R> {
     ) -> Option<Self::Token>
     where
         Self::Runtime: Wait,
-        ensures { IfSome result (λ token. Self.issued_by token ≡ Self.number raw.now) };
+        ensures issued { IfSome result (λ token. Self.issued_by token ≡ Self.number raw.now) }
+        ensures call { locked_in_time result };
 
     /// As `lock`, but None if the wait is given up at the moment.
     fn lock_until<C: Clock>(
@@ -94,7 +98,8 @@ pub trait TimedMode<R>: Mode<R> {
     ) -> Option<Self::Token>
     where
         Self::Runtime: Wait,
-        ensures { IfSome result (λ token. Self.issued_by token ≡ Self.number raw.now) };
+        ensures issued { IfSome result (λ token. Self.issued_by token ≡ Self.number raw.now) }
+        ensures call { locked_in_time result };
 }
 
 /// A mode under which the value may be written. For the layer above.
@@ -173,6 +178,8 @@ impl<R: RawRwLockTimed> TimedMode<R> for Shared {
     type Duration = R::Duration;
 
     type Instant = R::Instant;
+
+    ghost locked_in_time = { λ answer. R.shared_locked_in_time answer };
 
     fn lock_for<C: Clock>(
         raw: &R,
@@ -257,6 +264,8 @@ impl<R: RawRwLockTimed> TimedMode<R> for Exclusive {
 
     type Instant = R::Instant;
 
+    ghost locked_in_time = { λ answer. R.exclusive_locked_in_time answer };
+
     fn lock_for<C: Clock>(
         raw: &R,
         timeout: R::Duration,
@@ -340,6 +349,8 @@ impl<R: RawRwLockUpgradeTimed> TimedMode<R> for Upgradable {
 
     type Instant = R::Instant;
 
+    ghost locked_in_time = { λ answer. R.upgradable_locked_in_time answer };
+
     fn lock_for<C: Clock>(
         raw: &R,
         timeout: R::Duration,
@@ -422,6 +433,8 @@ impl<R: RawMutexTimed> TimedMode<R> for Locked {
     type Duration = R::Duration;
 
     type Instant = R::Instant;
+
+    ghost locked_in_time = { λ answer. R.locked_in_time answer };
 
     fn lock_for<C: Clock>(
         raw: &R,

@@ -1,5 +1,5 @@
 //! A hold of any mode, of a lock that is borrowed or owned.
-ghost use Rattle.std.specs.Prelude.{◌≡◌, IfSome};
+ghost use Rattle.std.specs.Prelude.{◌≡◌, None, Some, IfSome, MatchOption};
 
 use crate::mode::{FairMode, Locked, Mode, TimedMode, Writes};
 use lock_api_guards::{Access, ArcHold, FairHold, Hold, MutexHold, WriteHold};
@@ -162,7 +162,8 @@ where
     ) -> Option<RawHold<L, M>>
     where
         L: Drop,
-        ensures { IfSome result (λ hold. hold.place ≡ place) }
+        ensures place { IfSome result (λ hold. hold.place ≡ place) }
+        ensures call { MatchOption result (M.locked_in_time None) (λ hold. M.locked_in_time (Some hold.token)) }
     {
         let token = M::lock_for(place.lock().raw(), timeout, clock, party)?;
         Some(RawHold::new(place, token))
@@ -177,7 +178,8 @@ where
     ) -> Option<RawHold<L, M>>
     where
         L: Drop,
-        ensures { IfSome result (λ hold. hold.place ≡ place) }
+        ensures place { IfSome result (λ hold. hold.place ≡ place) }
+        ensures call { MatchOption result (M.locked_in_time None) (λ hold. M.locked_in_time (Some hold.token)) }
     {
         let token = M::lock_until(place.lock().raw(), deadline, clock, party)?;
         Some(RawHold::new(place, token))

@@ -1,5 +1,5 @@
 //! Timed forms of the reader-writer lock.
-ghost use Rattle.std.specs.Prelude.{◌≡◌, IfSome};
+ghost use Rattle.std.specs.Prelude.{◌≡◌, None, Some, IfSome, MatchOption};
 
 use crate::raw_hold::RawHold;
 use crate::rwlock::{RwLock, RwLockReadGuard, RwLockUpgradableReadGuard, RwLockWriteGuard};
@@ -19,10 +19,11 @@ where
         clock: &C,
         party: &mut R::Party,
     ) -> Option<RwLockReadGuard<'_, R, T>>
-        ensures { IfSome result (λ guard. guard.held.0.place.now ≡ self.now) }
+        ensures lock { IfSome result (λ guard. guard.held.0.place.now ≡ self.now) }
+        ensures call { MatchOption result (R.shared_locked_in_time None) (λ guard. R.shared_locked_in_time (Some guard.held.0.token)) }
     {
-        let hold = RawHold::wait_for(self, timeout, clock, party)?;
-        Some(Guard::under(hold))
+        let reader = RawHold::wait_for(self, timeout, clock, party)?;
+        Some(Guard::under(reader))
     }
 
     /// As `read`, but None if the raw lock's wait is given up at the moment, by the clock that is handed in.
@@ -32,10 +33,11 @@ where
         clock: &C,
         party: &mut R::Party,
     ) -> Option<RwLockReadGuard<'_, R, T>>
-        ensures { IfSome result (λ guard. guard.held.0.place.now ≡ self.now) }
+        ensures lock { IfSome result (λ guard. guard.held.0.place.now ≡ self.now) }
+        ensures call { MatchOption result (R.shared_locked_in_time None) (λ guard. R.shared_locked_in_time (Some guard.held.0.token)) }
     {
-        let hold = RawHold::wait_until(self, deadline, clock, party)?;
-        Some(Guard::under(hold))
+        let reader = RawHold::wait_until(self, deadline, clock, party)?;
+        Some(Guard::under(reader))
     }
 
     /// As `write`, but None if the raw lock's wait is given up after the length of time, by the clock that is handed in.
@@ -45,10 +47,11 @@ where
         clock: &C,
         party: &mut R::Party,
     ) -> Option<RwLockWriteGuard<'_, R, T>>
-        ensures { IfSome result (λ guard. guard.held.0.place.now ≡ self.now) }
+        ensures lock { IfSome result (λ guard. guard.held.0.place.now ≡ self.now) }
+        ensures call { MatchOption result (R.exclusive_locked_in_time None) (λ guard. R.exclusive_locked_in_time (Some guard.held.0.token)) }
     {
-        let hold = RawHold::wait_for(self, timeout, clock, party)?;
-        Some(Guard::under(hold))
+        let writer = RawHold::wait_for(self, timeout, clock, party)?;
+        Some(Guard::under(writer))
     }
 
     /// As `write`, but None if the raw lock's wait is given up at the moment, by the clock that is handed in.
@@ -58,10 +61,11 @@ where
         clock: &C,
         party: &mut R::Party,
     ) -> Option<RwLockWriteGuard<'_, R, T>>
-        ensures { IfSome result (λ guard. guard.held.0.place.now ≡ self.now) }
+        ensures lock { IfSome result (λ guard. guard.held.0.place.now ≡ self.now) }
+        ensures call { MatchOption result (R.exclusive_locked_in_time None) (λ guard. R.exclusive_locked_in_time (Some guard.held.0.token)) }
     {
-        let hold = RawHold::wait_until(self, deadline, clock, party)?;
-        Some(Guard::under(hold))
+        let writer = RawHold::wait_until(self, deadline, clock, party)?;
+        Some(Guard::under(writer))
     }
 }
 
@@ -76,10 +80,11 @@ where
         clock: &C,
         party: &mut R::Party,
     ) -> Option<RwLockUpgradableReadGuard<'_, R, T>>
-        ensures { IfSome result (λ guard. guard.held.0.place.now ≡ self.now) }
+        ensures lock { IfSome result (λ guard. guard.held.0.place.now ≡ self.now) }
+        ensures call { MatchOption result (R.upgradable_locked_in_time None) (λ guard. R.upgradable_locked_in_time (Some guard.held.0.token)) }
     {
-        let hold = RawHold::wait_for(self, timeout, clock, party)?;
-        Some(Guard::under(hold))
+        let upgrader = RawHold::wait_for(self, timeout, clock, party)?;
+        Some(Guard::under(upgrader))
     }
 
     /// As `upgradable_read`, but None if the raw lock's wait is given up at the moment, by the clock that is handed in.
@@ -89,9 +94,10 @@ where
         clock: &C,
         party: &mut R::Party,
     ) -> Option<RwLockUpgradableReadGuard<'_, R, T>>
-        ensures { IfSome result (λ guard. guard.held.0.place.now ≡ self.now) }
+        ensures lock { IfSome result (λ guard. guard.held.0.place.now ≡ self.now) }
+        ensures call { MatchOption result (R.upgradable_locked_in_time None) (λ guard. R.upgradable_locked_in_time (Some guard.held.0.token)) }
     {
-        let hold = RawHold::wait_until(self, deadline, clock, party)?;
-        Some(Guard::under(hold))
+        let upgrader = RawHold::wait_until(self, deadline, clock, party)?;
+        Some(Guard::under(upgrader))
     }
 }

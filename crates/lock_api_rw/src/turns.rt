@@ -1,4 +1,6 @@
 //! How the holds of reader-writer locks turn into one another.
+ghost use Rattle.std.specs.Prelude.{Ok, Err, MatchResult};
+
 use crate::mode::{Exclusive, Shared, Upgradable};
 use crate::raw_hold::{HasRaw, Place, RawHold};
 use lock_api_guards::{
@@ -34,6 +36,8 @@ where
 {
     type Down = RawHold<L, Shared>;
 
+    ghost downgraded = { λ hold down. R.upgradable_downgraded hold.token down.token };
+
     fn downgrade(self) -> RawHold<L, Shared>
     where
         R::Runtime: Wait,
@@ -50,6 +54,8 @@ where
 {
     type Low = RawHold<L, Upgradable>;
 
+    ghost lowered = { λ hold low. R.downgraded_to_upgradable hold.token low.token };
+
     fn lower(self) -> RawHold<L, Upgradable>
     where
         R::Runtime: Wait,
@@ -65,6 +71,10 @@ where
     L::Lock: HasRaw<Raw = R>,
 {
     type Alone = RawHold<L, Exclusive>;
+
+    ghost upgraded = { λ hold alone. R.upgraded hold.token alone.token };
+
+    ghost upgrade_tried = { λ hold tried. MatchResult tried (λ alone. R.upgrade_tried hold.token (Ok alone.token)) (λ same. R.upgrade_tried hold.token (Err same.token)) };
 
     fn upgrade(self, party: &mut R::Party) -> RawHold<L, Exclusive>
     where
@@ -88,6 +98,8 @@ impl<R: RawRwLockUpgradeDowngrade, L: Place + Drop> RestoreHold for RawHold<L, U
 where
     L::Lock: HasRaw<Raw = R>,
 {
+    ghost restored = { λ alone hold. R.downgraded_to_upgradable alone.token hold.token };
+
     fn restore(alone: RawHold<L, Exclusive>) -> RawHold<L, Upgradable>
     where
         R::Runtime: Wait,
@@ -103,6 +115,8 @@ where
     type Duration = R::Duration;
 
     type Instant = R::Instant;
+
+    ghost upgraded_in_time = { λ hold tried. MatchResult tried (λ alone. R.upgraded_in_time hold.token (Ok alone.token)) (λ same. R.upgraded_in_time hold.token (Err same.token)) };
 
     fn try_upgrade_for<C: Clock>(
         self,

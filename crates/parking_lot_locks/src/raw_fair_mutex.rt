@@ -1,15 +1,15 @@
 //! The raw mutex whose every release is fair.
 ghost use Rattle.std.specs.Prelude.{◌≡◌, ◌+◌, ◌*◌, ◌%◌, ◌^◌, IfSome, MatchOption, true};
-ghost use Rattle.parking_lot_locks.specs.Ends.{MutexEnded, OwnedInTime, TimedEnded};
+ghost use Rattle.parking_lot_runs.specs.Ends.{MutexEnded, OwnedInTime, TimedEnded};
 ghost use Rattle.parking_lot_protocol.specs.declared.act.CoreAnswer.{CoreAnswer};
 ghost use Rattle.parking_lot_protocol.specs.declared.act.CoreAnswer.TheVariants.{Owned};
 ghost use Rattle.parking_lot_protocol.specs.declared.mutex_phase.MutexPhase.TheVariants.{Locking, Unlocking, Bumping};
 ghost use Rattle.parking_lot_timed.specs.declared.timed_act.TimedAct.TheVariants.{GivesUp};
 
 use crate::raw_mutex::RawMutex;
-use crate::table::LockTable;
 use lock_api_raw::{GuardSend, MakeLock, RawMutex as _, RawMutexFair, RawMutexTimed, TableFull};
 use parking_lot_core::ThreadData;
+use parking_lot_runs::LockTable;
 use std::alloc::{Allocator, Global};
 use std::sync::Wait;
 use std::time::{Clock, Duration, Instant};
@@ -28,6 +28,7 @@ impl<'t, 'l, R: Wait, A: Allocator> RawFairMutex<'t, 'l, R, A> {
     /// answer.
     ///
     /// The moment is looked at where the thread sleeps. So a mutex that can be had at once is had, also where the moment is past.
+    #[inline(always)]
     pub fn lock_until<C: Clock>(
         &self,
         deadline: Instant,
@@ -143,6 +144,8 @@ impl<'t, 'l, R, A: Allocator> RawMutexTimed for RawFairMutex<'t, 'l, R, A> {
 
     type Instant = Instant;
 
+    ghost locked_in_time = { λ answer. MatchOption answer (TimedEnded GivesUp) (λ _. OwnedInTime) };
+
     fn try_lock_for<C: Clock>(
         &self,
         timeout: Duration,
@@ -155,6 +158,7 @@ impl<'t, 'l, R, A: Allocator> RawMutexTimed for RawFairMutex<'t, 'l, R, A> {
         self.lock_for(timeout, clock, party)
     }
 
+    #[inline(always)]
     fn try_lock_until<C: Clock>(
         &self,
         deadline: Instant,

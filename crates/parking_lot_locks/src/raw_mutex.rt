@@ -1,19 +1,18 @@
 //! The raw mutex.
 ghost use Rattle.std.specs.Prelude.{◌≡◌, ◌+◌, ◌*◌, ◌%◌, ◌^◌, IfOk, IfSome, MatchOption, true, false};
-ghost use Rattle.parking_lot_locks.specs.Ends.{MutexEnded, OwnedInTime, TimedEnded};
-ghost use Rattle.parking_lot_locks.specs.Runs.{Ended};
+ghost use Rattle.parking_lot_runs.specs.Ends.{MutexEnded, OwnedInTime, TimedEnded};
+ghost use Rattle.parking_lot_runs.specs.Runs.{Ended};
 ghost use Rattle.parking_lot_protocol.specs.declared.act.CoreAnswer.{CoreAnswer};
 ghost use Rattle.parking_lot_protocol.specs.declared.act.CoreAnswer.TheVariants.{Owned};
 ghost use Rattle.parking_lot_protocol.specs.declared.mutex_phase.MutexPhase.TheVariants.{Locking, Unlocking, Bumping};
 ghost use Rattle.parking_lot_timed.specs.declared.timed_act.TimedAct.TheVariants.{GivesUp};
 
-use crate::call::{Bump, Call, Lock, Unlock, UnlockFairly};
-use crate::deadline::to_deadline;
-use crate::place::Place;
-use crate::table::{LockTable, Row};
 use lock_api_raw::{GuardSend, MakeLock, RawMutex as _, RawMutexFair, RawMutexTimed, TableFull};
 use parking_lot_core::ThreadData;
 use parking_lot_protocol::{ActResult, CoreAnswer, MutexCore};
+use parking_lot_runs::{
+    Bump, Call, Lock, LockTable, Place, Row, Unlock, UnlockFairly, to_deadline,
+};
 use std::alloc::{Allocator, Global};
 use std::sync::Wait;
 use std::time::{Clock, Duration, Instant};
@@ -90,6 +89,7 @@ impl<'t, 'l, R: Wait, A: Allocator> RawMutex<'t, 'l, R, A> {
     /// answer.
     ///
     /// The moment is looked at where the thread sleeps. So a mutex that can be had at once is had, also where the moment is past.
+    #[inline(always)]
     pub fn lock_until<C: Clock>(
         &self,
         deadline: Instant,
@@ -242,6 +242,8 @@ impl<'t, 'l, R, A: Allocator> RawMutexTimed for RawMutex<'t, 'l, R, A> {
 
     type Instant = Instant;
 
+    ghost locked_in_time = { λ answer. MatchOption answer (TimedEnded GivesUp) (λ _. OwnedInTime) };
+
     fn try_lock_for<C: Clock>(
         &self,
         timeout: Duration,
@@ -254,6 +256,7 @@ impl<'t, 'l, R, A: Allocator> RawMutexTimed for RawMutex<'t, 'l, R, A> {
         self.lock_for(timeout, clock, party)
     }
 
+    #[inline(always)]
     fn try_lock_until<C: Clock>(
         &self,
         deadline: Instant,

@@ -1,8 +1,8 @@
 //! The raw reader-writer lock.
 ghost use Rattle.std.specs.Prelude.{◌≡◌, ◌+◌, ◌-◌, ◌*◌, ◌/◌, ◌%◌, ◌^◌, ◌&&◌, ◌||◌, ◌==◌, nat_lt, not, ◌≤◌, IfOk, IfSome, min, max, true, false};
 ghost use Rattle.lock_api_raw.specs.Limits.{kept_limit};
-ghost use Rattle.parking_lot_locks.specs.Ends.{RwEnded, UpgradeEnded};
-ghost use Rattle.parking_lot_locks.specs.Runs.{Ended};
+ghost use Rattle.parking_lot_runs.specs.Ends.{RwEnded, UpgradeEnded};
+ghost use Rattle.parking_lot_runs.specs.Runs.{Ended};
 ghost use Rattle.parking_lot_protocol.specs.RwTable.{is_upgradable, is_written};
 ghost use Rattle.parking_lot_protocol.specs.declared.act.CoreAnswer.{CoreAnswer};
 ghost use Rattle.parking_lot_protocol.specs.declared.act.CoreAnswer.TheVariants.{Owned};
@@ -10,20 +10,16 @@ ghost use Rattle.parking_lot_protocol.specs.declared.rw_phase.LockMode.TheVarian
 ghost use Rattle.parking_lot_protocol.specs.declared.rw_phase.RwPhase.TheVariants.{Locking, UnlockingShared, UnlockingExclusive, Downgrading, BumpingShared, BumpingExclusive};
 ghost use Rattle.parking_lot_upgrades.specs.declared.upgrade_phase.UpgradePhase.TheVariants as call;
 
-use crate::call::{
-    BumpReader, BumpWriter, Call, Downgrade, Read, StopReading, StopWriting, StopWritingFairly,
-    Write,
-};
-use crate::decision::DecisionCore;
-use crate::place::Place;
-use crate::table::{LockTable, Row};
-use crate::upgrade_call::AskUpgradably;
 use lock_api_raw::{
     GuardSend, MakeLock, RawRwLock as _, RawRwLockDowngrade, RawRwLockFair, TableFull,
 };
 use parking_lot_core::{ThreadData, thread_yield};
 use parking_lot_protocol::word::{MAX_READERS, PARKED, READER, UPGRADABLE, WRITER, WRITER_PARKED};
 use parking_lot_protocol::{ActResult, CoreAnswer, RwCore, word};
+use parking_lot_runs::{
+    AskUpgradably, BumpReader, BumpWriter, Call, DecisionCore, Downgrade, LockTable, Place, Read,
+    Row, StopReading, StopWriting, StopWritingFairly, Write,
+};
 use std::alloc::{Allocator, Global};
 use std::marker::Model;
 use std::sync::Wait;
@@ -131,6 +127,15 @@ impl<'t, 'l, R, const RECURSIVE: u8, A: Allocator> RawRwLock<'t, 'l, R, RECURSIV
     #[inline(never)]
     pub(crate) fn try_slowly<C: DecisionCore>(&self, core: C) -> bool {
         self.place().attempt(core)
+    }
+
+    /// The same of a call whose end is told.
+    #[cold]
+    #[inline(never)]
+    pub(crate) fn owns_by_trying<K: Call>(&self, _call: K) -> bool
+        ensures { result ≡ true → Ended K.Core.told K.Core.asks K.begun Owned }
+    {
+        self.place().attempt(K::begin())
     }
 
     /// Reads at once, where one exchange does it.
@@ -421,6 +426,7 @@ impl<'t, 'l, R, const RECURSIVE: u8, A: Allocator> RawRwLockDowngrade
     for RawRwLock<'t, 'l, R, RECURSIVE, A> {
     ghost downgraded = { λ _ _. (answer : CoreAnswer) × RwEnded Downgrading answer };
 
+    #[inline(always)]
     fn downgrade(&self, guard: GuardSend) -> GuardSend
     where
         R: Wait,

@@ -1,6 +1,6 @@
 //! Calls of the raw reader-writer lock that may give up.
 ghost use Rattle.std.specs.Prelude.{◌≡◌, ◌+◌, ◌*◌, ◌%◌, ◌^◌, ◌==◌, IfSome, MatchBool, MatchOption, MatchResult};
-ghost use Rattle.parking_lot_locks.specs.Ends.{RwEnded, RwOwned, TimedRwEnded, UpgradeEnded, asking_in_time, reading_in_time, upgrading_in_time, writing_in_time};
+ghost use Rattle.parking_lot_runs.specs.Ends.{RwEnded, RwOwned, TimedRwEnded, UpgradeEnded, asking_in_time, reading_in_time, upgrading_in_time, writing_in_time};
 ghost use Rattle.parking_lot_protocol.specs.declared.act.Act.TheVariants.{Done};
 ghost use Rattle.parking_lot_protocol.specs.declared.act.CoreAnswer.TheVariants.{Owned};
 ghost use Rattle.parking_lot_protocol.specs.declared.rw_phase.LockMode.TheVariants.{Shared, Exclusive};
@@ -8,21 +8,23 @@ ghost use Rattle.parking_lot_protocol.specs.declared.rw_phase.RwPhase.TheVariant
 ghost use Rattle.parking_lot_timed.specs.declared.timed_act.TimedAct.TheVariants.{Makes, GivesUp};
 ghost use Rattle.parking_lot_upgrades.specs.declared.upgrade_phase.UpgradePhase.TheVariants as call;
 
-use crate::deadline::to_deadline;
 use crate::raw_rwlock::RawRwLock;
-use crate::timed_call::{AskUpgradablyInTime, ReadInTime, UpgradeInTime, WriteInTime};
-use crate::upgrade_call::Disown;
 use lock_api_raw::{
     GuardSend, RawRwLock as _, RawRwLockTimed, RawRwLockUpgrade as _, RawRwLockUpgradeTimed,
 };
 use parking_lot_core::{ThreadData, thread_yield};
 use parking_lot_protocol::ActResult;
+use parking_lot_runs::{
+    AskUpgradablyInTime, Disown, ReadInTime, UpgradeInTime, WriteInTime, to_deadline,
+};
 use std::alloc::Allocator;
 use std::sync::Wait;
 use std::time::{Clock, Duration, Instant};
 
 impl<'t, 'l, R: Wait, const RECURSIVE: u8, A: Allocator> RawRwLock<'t, 'l, R, RECURSIVE, A> {
     /// Asks to read until the moment. A hold beyond the most readers is given back, and asked for again.
+    #[cold]
+    #[inline(never)]
     fn read_in_time<C: Clock>(
         &self,
         deadline: Instant,
@@ -46,6 +48,8 @@ impl<'t, 'l, R: Wait, const RECURSIVE: u8, A: Allocator> RawRwLock<'t, 'l, R, RE
     }
 
     /// Asks for the upgradable hold until the moment. A hold beyond the most readers is given back, and asked for again.
+    #[cold]
+    #[inline(never)]
     fn own_upgradable_in_time<C: Clock>(
         &self,
         deadline: Instant,
@@ -72,6 +76,7 @@ impl<'t, 'l, R: Wait, const RECURSIVE: u8, A: Allocator> RawRwLock<'t, 'l, R, RE
     /// the answer.
     ///
     /// The moment is looked at where the thread sleeps. So a lock that can be had at once is had, also where the moment is past.
+    #[inline(always)]
     pub fn read_until<C: Clock>(
         &self,
         deadline: Instant,
@@ -107,6 +112,7 @@ impl<'t, 'l, R: Wait, const RECURSIVE: u8, A: Allocator> RawRwLock<'t, 'l, R, RE
 
     /// As [`read_until`](RawRwLock::read_until), of the exclusive hold. One that waits for readers to leave gives up there too: the lock
     /// is as if it had never asked, and those that it kept out are looked after.
+    #[inline(always)]
     pub fn write_until<C: Clock>(
         &self,
         deadline: Instant,
@@ -144,6 +150,7 @@ impl<'t, 'l, R: Wait, const RECURSIVE: u8, A: Allocator> RawRwLock<'t, 'l, R, RE
     }
 
     /// As [`read_until`](RawRwLock::read_until), of the upgradable hold.
+    #[inline(always)]
     pub fn upgradable_until<C: Clock>(
         &self,
         deadline: Instant,
@@ -178,6 +185,7 @@ impl<'t, 'l, R: Wait, const RECURSIVE: u8, A: Allocator> RawRwLock<'t, 'l, R, RE
 
     /// Makes the upgradable hold the exclusive one, or gives up at the moment: then it is the upgradable one again, with nobody
     /// exclusive in between, and the token comes back.
+    #[inline(always)]
     pub fn upgraded_until<C: Clock>(
         &self,
         guard: GuardSend,
@@ -226,6 +234,10 @@ impl<'t, 'l, R, const RECURSIVE: u8, A: Allocator> RawRwLockTimed
 
     type Instant = Instant;
 
+    ghost shared_locked_in_time = { λ answer. MatchOption answer (TimedRwEnded (reading_in_time RECURSIVE) GivesUp) (λ _. RwOwned (RwEnded (Locking (Shared (RECURSIVE == 1))) Owned) (reading_in_time RECURSIVE)) };
+
+    ghost exclusive_locked_in_time = { λ answer. MatchOption answer (TimedRwEnded writing_in_time GivesUp) (λ _. RwOwned (RwEnded (Locking Exclusive) Owned) writing_in_time) };
+
     fn try_lock_shared_for<C: Clock>(
         &self,
         timeout: Duration,
@@ -238,6 +250,7 @@ impl<'t, 'l, R, const RECURSIVE: u8, A: Allocator> RawRwLockTimed
         self.read_for(timeout, clock, party)
     }
 
+    #[inline(always)]
     fn try_lock_shared_until<C: Clock>(
         &self,
         deadline: Instant,
@@ -262,6 +275,7 @@ impl<'t, 'l, R, const RECURSIVE: u8, A: Allocator> RawRwLockTimed
         self.write_for(timeout, clock, party)
     }
 
+    #[inline(always)]
     fn try_lock_exclusive_until<C: Clock>(
         &self,
         deadline: Instant,
@@ -277,6 +291,10 @@ impl<'t, 'l, R, const RECURSIVE: u8, A: Allocator> RawRwLockTimed
 
 impl<'t, 'l, R, const RECURSIVE: u8, A: Allocator> RawRwLockUpgradeTimed
     for RawRwLock<'t, 'l, R, RECURSIVE, A> {
+    ghost upgradable_locked_in_time = { λ answer. MatchOption answer (TimedRwEnded asking_in_time GivesUp) (λ _. RwOwned (UpgradeEnded call.Locking Owned) asking_in_time) };
+
+    ghost upgraded_in_time = { λ _ tried. MatchResult tried (λ _. RwOwned (UpgradeEnded call.Upgrading Owned) upgrading_in_time) (λ _. TimedRwEnded upgrading_in_time GivesUp) };
+
     fn try_lock_upgradable_for<C: Clock>(
         &self,
         timeout: Duration,
@@ -302,6 +320,7 @@ impl<'t, 'l, R, const RECURSIVE: u8, A: Allocator> RawRwLockUpgradeTimed
         self.upgraded_for(guard, timeout, clock, party)
     }
 
+    #[inline(always)]
     fn try_lock_upgradable_until<C: Clock>(
         &self,
         deadline: Instant,
@@ -314,6 +333,7 @@ impl<'t, 'l, R, const RECURSIVE: u8, A: Allocator> RawRwLockUpgradeTimed
         self.upgradable_until(deadline, clock, party)
     }
 
+    #[inline(always)]
     fn try_upgrade_until<C: Clock>(
         &self,
         guard: GuardSend,

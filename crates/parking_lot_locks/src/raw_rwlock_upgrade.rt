@@ -1,22 +1,21 @@
 //! Upgradable holds of the raw reader-writer lock.
-ghost use Rattle.std.specs.Prelude.{◌≡◌, ◌+◌, ◌*◌, ◌%◌, ◌^◌, IfOk, IfSome, MatchResult, true};
-ghost use Rattle.parking_lot_locks.specs.Ends.{UpgradeEnded};
-ghost use Rattle.parking_lot_locks.specs.Runs.{Ended};
+ghost use Rattle.std.specs.Prelude.{◌≡◌, ◌+◌, ◌*◌, ◌%◌, ◌^◌, IfOk, IfSome, MatchResult, ⊤, true};
+ghost use Rattle.parking_lot_runs.specs.Ends.{UpgradeEnded};
+ghost use Rattle.parking_lot_runs.specs.Runs.{Ended};
 ghost use Rattle.parking_lot_protocol.specs.declared.act.CoreAnswer.{CoreAnswer};
 ghost use Rattle.parking_lot_protocol.specs.declared.act.CoreAnswer.TheVariants.{Owned, Released};
 ghost use Rattle.parking_lot_upgrades.specs.declared.upgrade_phase.Release.TheVariants as release;
-ghost use Rattle.parking_lot_upgrades.specs.declared.upgrade_phase.UpgradePhase.TheVariants.{Locking, Unlocking, Bumping, Upgrading, DowngradingToShared, DowngradingToUpgradable};
+ghost use Rattle.parking_lot_upgrades.specs.declared.upgrade_phase.UpgradePhase.TheVariants.{Locking, Unlocking, Bumping, Upgrading, TryingToUpgrade, DowngradingToShared, DowngradingToUpgradable};
 
-use crate::call::Call;
 use crate::raw_rwlock::RawRwLock;
-use crate::upgrade_call::{
-    AskUpgradably, BumpUpgradable, Disown, DisownFairly, DowngradeToShared, DowngradeToUpgradable,
-    Upgrade,
-};
 use lock_api_raw::{GuardSend, RawRwLockUpgrade, RawRwLockUpgradeDowngrade, RawRwLockUpgradeFair};
 use parking_lot_core::{ThreadData, thread_yield};
 use parking_lot_protocol::word::{PARKED, READER, UPGRADABLE, WRITER, is_parked};
 use parking_lot_protocol::{ActResult, CoreAnswer};
+use parking_lot_runs::{
+    AskUpgradably, BumpUpgradable, Call, Disown, DisownFairly, DowngradeToShared,
+    DowngradeToUpgradable, TryToUpgrade, Upgrade,
+};
 use parking_lot_upgrades::UpgradeCore;
 use std::alloc::Allocator;
 use std::sync::Wait;
@@ -98,6 +97,7 @@ impl<'t, 'l, R: Wait, const RECURSIVE: u8, A: Allocator> RawRwLock<'t, 'l, R, RE
     }
 
     /// Makes the upgradable hold a shared one.
+    #[inline(always)]
     pub fn downgraded_to_shared(&self, guard: GuardSend) -> GuardSend
         ensures token { result ≡ guard }
         ensures call { (answer : CoreAnswer) × UpgradeEnded DowngradingToShared answer }
@@ -116,6 +116,7 @@ impl<'t, 'l, R: Wait, const RECURSIVE: u8, A: Allocator> RawRwLock<'t, 'l, R, RE
     }
 
     /// Makes the exclusive hold an upgradable one.
+    #[inline(always)]
     pub fn downgraded_to_upgradable(&self, guard: GuardSend) -> GuardSend
         ensures token { result ≡ guard }
         ensures call { (answer : CoreAnswer) × UpgradeEnded DowngradingToUpgradable answer }
@@ -184,6 +185,10 @@ impl<'t, 'l, R, const RECURSIVE: u8, A: Allocator> RawRwLockUpgrade
 
     ghost upgradable_unlocked = { λ _. (answer : CoreAnswer) × UpgradeEnded (Unlocking release.Plain) answer };
 
+    ghost upgraded = { λ _ _. UpgradeEnded Upgrading Owned };
+
+    ghost upgrade_tried = { λ _ tried. MatchResult tried (λ _. UpgradeEnded TryingToUpgrade Owned) (λ _. ⊤) };
+
     #[inline(always)]
     fn lock_upgradable(&self, party: &mut ThreadData<A>) -> GuardSend
     where
@@ -224,8 +229,8 @@ impl<'t, 'l, R, const RECURSIVE: u8, A: Allocator> RawRwLockUpgrade
     #[inline(always)]
     fn try_upgrade(&self, guard: GuardSend) -> Result<GuardSend, GuardSend> {
         let alone = READER + UPGRADABLE;
-        if self.row().exchange(alone, WRITER).is_ok()
-            || self.try_slowly(UpgradeCore::try_upgrade())
+        if self.row().owns_at_once(TryToUpgrade, alone, WRITER)
+            || self.owns_by_trying(TryToUpgrade)
         {
             Ok(guard)
         } else {
@@ -262,6 +267,11 @@ impl<'t, 'l, R, const RECURSIVE: u8, A: Allocator> RawRwLockUpgradeFair
 
 impl<'t, 'l, R, const RECURSIVE: u8, A: Allocator> RawRwLockUpgradeDowngrade
     for RawRwLock<'t, 'l, R, RECURSIVE, A> {
+    ghost upgradable_downgraded = { λ _ _. (answer : CoreAnswer) × UpgradeEnded DowngradingToShared answer };
+
+    ghost downgraded_to_upgradable = { λ _ _. (answer : CoreAnswer) × UpgradeEnded DowngradingToUpgradable answer };
+
+    #[inline(always)]
     fn downgrade_upgradable(&self, guard: GuardSend) -> GuardSend
     where
         R: Wait,
@@ -269,6 +279,7 @@ impl<'t, 'l, R, const RECURSIVE: u8, A: Allocator> RawRwLockUpgradeDowngrade
         self.downgraded_to_shared(guard)
     }
 
+    #[inline(always)]
     fn downgrade_to_upgradable(&self, guard: GuardSend) -> GuardSend
     where
         R: Wait,

@@ -1,6 +1,6 @@
 -- A call that ran to its end has an answer, which it may give.
 use Rattle.std.proofs.Common.{◌≡◌, ℕ, List, [], ◌∷◌, Some, refl, sym, ap, ◌∙◌, subst}
-use Rattle.parking_lot_locks.specs.Runs.{IsRun, WasTold, told_all}
+use Rattle.parking_lot_runs.specs.Runs.{IsRun, WasTold, told_all}
 use Rattle.parking_lot_protocol.specs.Acts.{Gives}
 use Rattle.parking_lot_protocol.specs.declared.act.Act.{Act}
 use Rattle.parking_lot_protocol.specs.declared.act.Act.TheVariants.{Done}

@@ -1,6 +1,6 @@
 -- What whoever calls a one-time initialization gets.
 use Rattle.std.specs.Prelude.{◌≡◌, ◌⊎◌, Bool, true, false, List, Some, Result, Ok, Err}
-use Rattle.parking_lot_locks.specs.Runs.{IsRun, told_all}
+use Rattle.parking_lot_runs.specs.Runs.{IsRun, told_all}
 use Rattle.parking_lot_protocol.specs.declared.act.ActResult.{ActResult}
 use Rattle.parking_lot_once_rules.specs.declared.once_state.OnceState.{OnceState}
 use Rattle.parking_lot_once_rules.specs.declared.wish.Wish.{Wish}

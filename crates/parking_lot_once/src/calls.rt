@@ -4,8 +4,8 @@ ghost use Rattle.parking_lot_once.specs.OnceRuns.{plain, forced, waiting, waitin
 ghost use Rattle.parking_lot_once_protocol.specs.declared.once_phase.OncePhase.TheVariants.{Asking, Returning};
 
 use parking_lot_core::UnparkToken;
-use parking_lot_locks::{Act, ActResult, Call, DecisionCore};
 use parking_lot_once_protocol::OnceCore;
+use parking_lot_runs::{Act, ActResult, Call, DecisionCore};
 
 /// A core that runs on a row.
 #[derive(Clone, Copy)]

@@ -14,8 +14,8 @@ use crate::calls::{Await, AwaitForce, CallOnce, CallOnceForce, EndFailed, EndWel
 use crate::fault::{OnceFault, Poisoned};
 use lock_api_raw::TableFull;
 use parking_lot_core::ThreadData;
-use parking_lot_locks::{Call, LockTable, Row, run_to_its_end};
 use parking_lot_once_protocol::{OnceAnswer, OnceState, state_of};
+use parking_lot_runs::{Call, LockTable, Row, run_to_its_end};
 use std::alloc::{Allocator, Global};
 use std::fmt;
 use std::sync::Wait;
