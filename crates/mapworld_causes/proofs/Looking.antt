@@ -3,6 +3,7 @@ use Rattle.std.proofs.Common.{◌≡◌, ◌≢◌, ℕ, zero, suc, ◌+◌, ◌
 use Rattle.std.specs.Option.{option_map, option_and_then}
 use Rattle.std.proofs.lemmas.Bool.{cases_eq, false≢true, eqb-false, ne_eqb}
 use Rattle.std.proofs.lemmas.Option.{slice_get-map}
+use Rattle.parking_lot_core_lot.specs.Machine.{Machine}
 use Rattle.parking_lot_protocol.specs.declared.act.Act.{Act}
 use Rattle.parking_lot_protocol.specs.declared.act.SectionAct.{SectionAct}
 use Rattle.parking_lot_protocol.specs.declared.act.ActResult.{ActResult}
@@ -14,18 +15,24 @@ use Rattle.parking_lot_rules.proofs.Indexed.{get-set_other}
 use Rattle.parking_lot_protocol.specs.RwTable.{act_of, next_phase, share_of, tries}
 use Rattle.parking_lot_world.specs.declared.open_call.Call.{Call}
 use Rattle.parking_lot_world.specs.declared.seat.Core.{Core}
+use Rattle.parking_lot_world.specs.declared.seat.LatePhase.{LatePhase}
 use Rattle.parking_lot_world.specs.declared.seat.WakeResult.{WakeResult}
-use Rattle.parking_lot_world.specs.Machines.{Became, BecameInside, IsStepped}
-use Rattle.parking_lot_world.specs.RowActs.{hears, off_list, settled, loaded, exchanged, with_call, with_word}
+use Rattle.parking_lot_world.specs.Machines.{Became, BecameInside, BecameLate, IsStepped}
+use Rattle.parking_lot_world.specs.RowActs.{hears, off_list, settled, loaded, exchanged, with_call, with_lot, with_word}
 use Rattle.parking_lot_world.specs.Rows.{State, call_at, word_at}
 use Rattle.parking_lot_world.specs.Stances.{core_act, core_next}
 use Rattle.mapworld_locks.specs.Stands.{core_tries, is_trying}
 use Rattle.mapworld_causes.specs.Causes.{has_seen, has_seen_in}
-use Rattle.mapworld_locks.proofs.Calls.{late_is}
 use Rattle.mapworld_causes.proofs.Noticing.{blind, late-unseen, looks_in, woken-unseen, seen-tries}
 
 abbrev pub call_of : List (Option Call) → ℕ → Option Call
 call_of calls t = option_and_then (λ c. c) (slice_get calls t)
+
+-- What one leaves whose moment has passed, as it comes back or takes itself out: its call was told something, and the lot has changed.
+late_is : (s u : State) (t : ℕ) (c : Call) (k : Core) → BecameLate k t c s u → (told : ActResult) × (l : Machine) × (u ≡ with_lot (with_call s t (hears c told)) l)
+late_is s u t c (Core.Late LatePhase.Expires) e = (_, _, e)
+late_is s u t c (Core.Late LatePhase.Quits) e = (_, _, e)
+late_is s u t c k e = absurd e
 
 -- whether a call has seen a word that isn't 0, if there is one
 abbrev pub sees : Option Call → Bool
