@@ -70,3 +70,4 @@ pub mod Paying
 pub mod LateLots
 pub mod LateActs
 pub mod LateCalls
+pub mod RequeueRuns

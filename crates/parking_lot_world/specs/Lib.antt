@@ -24,3 +24,4 @@ pub mod SoundLaws
 pub mod LostExchanges
 pub mod LateActs
 pub mod LateLaws
+pub mod Requeues
