@@ -71,3 +71,4 @@ pub mod LateLots
 pub mod LateActs
 pub mod LateCalls
 pub mod RequeueRuns
+mod RequeueSound
