@@ -72,3 +72,5 @@ pub mod LateActs
 pub mod LateCalls
 pub mod RequeueRuns
 mod RequeueSound
+mod Requeueing
+mod RequeueLots

@@ -1,7 +1,8 @@
 -- What it is to move waiters of a condition variable into the list of a mutex: by the rules, and in a machine of locks.
 use Rattle.std.specs.Prelude.{◌≡◌, ◌≢◌, ℕ, ◌+◌, ◌*◌, ◌%◌, ◌<◌, ◌≤◌, Bool, true, false, List, [], ◌∷◌, ◌++◌, length, map, None, slice_get, slice_set, Some}
 use Rattle.parking_lot_core_lot.specs.declared.place.Phase.TheVariants as phase
-use Rattle.parking_lot_core_lot.specs.Machine.{Machine, closed, in_phase, joined, opened}
+use Rattle.parking_lot_core_lot.specs.Machine.{Machine, any_phase, closed, enter_fault, in_phase, joined, opened, step_fault}
+use Rattle.parking_lot_core_lot.specs.Places.{may_check, may_join}
 use Rattle.parking_lot_protocol.specs.MutexTable.{begins}
 use Rattle.parking_lot_protocol.specs.declared.mutex_phase.MutexPhase.TheVariants as m
 use Rattle.parking_lot_rules.specs.Roles.{Asleep}
@@ -69,6 +70,13 @@ retrying_call lock timed = record { lock = lock; others = 0; core = core.Mutex (
 -- the lot once a thread has joined a list, in a section of its own
 abbrev pub lot_with : Machine → ℕ → ℕ → Machine
 lot_with l v key = closed (joined (in_phase (in_phase (opened l (Some v) key) phase.Valid) phase.Joined) v key (record { 0 = 0 }) false) false
+
+-- the lot refuses none of its steps
+pub record MayJoin (l : Machine) (v key : ℕ) : Type 0 where
+  pub enters : enter_fault l v ≡ None
+  pub checks : step_fault may_check (opened l (Some v) key) v ≡ None
+  pub joins : step_fault may_join (in_phase (opened l (Some v) key) phase.Valid) v ≡ None
+  pub leaves : step_fault any_phase (joined (in_phase (in_phase (opened l (Some v) key) phase.Valid) phase.Joined) v key (record { 0 = 0 }) false) v ≡ None
 
 -- A thread that was in no call sleeps at the end of a mutex's list, as if it had asked for the mutex and gone to sleep; the parked bit is set.
 abbrev pub taken_in : State → ℕ → ℕ → Bool → State
