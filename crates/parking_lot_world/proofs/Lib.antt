@@ -74,3 +74,5 @@ pub mod RequeueRuns
 mod RequeueSound
 mod Requeueing
 mod RequeueLots
+mod RequeueCosts
+mod RequeueActs
