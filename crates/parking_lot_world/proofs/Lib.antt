@@ -76,3 +76,4 @@ mod Requeueing
 mod RequeueLots
 mod RequeueCosts
 mod RequeueActs
+mod RequeueMoves

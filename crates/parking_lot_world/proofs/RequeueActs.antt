@@ -87,6 +87,8 @@ module _ (s : State) (v lock : ℕ) (timed : Bool) (h : FitsTogether s) (low : v
           (subst mutex.IsSound (sym taken_here) (filed_sound (mutex_at s lock) v (was_sound s v lock h low alone kind owns free) there nobody_in attended));
     };
     here = taken_here;
+    away = there;
+    comes = λ by ne within none. may_come s v lock h low alone kind owns free by within none;
     elsewhere = λ i ne. others_stay s v lock h low alone kind owns free u.words u.lot MutexPhase.Sleeps timed (mutex.doing (mutex.Queued Asleep)) (λ us. refl) sleeper_outside words_then queues_then refl i ne;
     free = refl;
     attended = subst (λ (n : mutex.Mutex). 1 ≤ n.word.locked + mutex.total mutex.Called n.roles) (sym taken_here) (filed_attended (mutex_at s lock) v (was_sound s v lock h low alone kind owns free) there attended);
@@ -129,6 +131,8 @@ module _ (s : State) (v lock : ℕ) (timed : Bool) (h : FitsTogether s) (low : v
           (subst mutex.IsSound (sym roused_here) (roused_sound (mutex_at s lock) v (was_sound s v lock h low alone kind owns free) there));
     };
     here = roused_here;
+    away = there;
+    comes = λ by ne within none. may_come s v lock h low alone kind owns free by within none;
     elsewhere = λ i ne. others_stay s v lock h low alone kind owns free s.words s.lot (MutexPhase.Loads (begins true)) timed (mutex.doing (mutex.Seeks true)) (λ us. refl) seeker_outside (λ i ne. refl) (λ i k ne b. refl) free i ne;
     free = free;
     attended = subst (λ (n : mutex.Mutex). 1 ≤ n.word.locked + mutex.total mutex.Called n.roles) (sym roused_here) (roused_attended (mutex_at s lock) v (was_sound s v lock h low alone kind owns free) there);

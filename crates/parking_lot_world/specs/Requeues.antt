@@ -100,9 +100,11 @@ pub record IsTakenIn (v lock : ℕ) (timed : Bool) (s u : State) : Type 0 where
   pub became : u ≡ taken_in s v lock timed
   pub fits : FitsTogether u
   pub here : mutex_at u lock ≡ filed (mutex_at s lock) v
+  pub away : slice_get (mutex_at s lock).roles v ≡ Some away
   pub elsewhere : (i : ℕ) → i ≢ lock → lock_at u i ≡ lock_at s i
   pub free : u.lot.section ≡ None
   pub attended : IsAttended u lock
+  pub comes : ByAny s v lock (λ by o. MayCome (mutex_at s lock) by o)
   pub runs : (mutex_at s lock).word.locked ≡ 1 → ByAny s v lock (λ by o. Runs (mutex_at s lock) (requeue_run by o (v ∷ [])) (mutex_at u lock))
   pub costs : (t : ℕ) → steps_left u t ≤ steps_left s t + 25
 
@@ -111,8 +113,40 @@ pub record IsRousedIn (v lock : ℕ) (timed : Bool) (s u : State) : Type 0 where
   pub became : u ≡ roused_in s v lock timed
   pub fits : FitsTogether u
   pub here : mutex_at u lock ≡ roused (mutex_at s lock) v
+  pub away : slice_get (mutex_at s lock).roles v ≡ Some away
   pub elsewhere : (i : ℕ) → i ≢ lock → lock_at u i ≡ lock_at s i
   pub free : u.lot.section ≡ None
   pub attended : IsAttended u lock
+  pub comes : ByAny s v lock (λ by o. MayCome (mutex_at s lock) by o)
   pub runs : ByAny s v lock (λ by o. Runs (mutex_at s lock) (pull_run by o v []) (mutex_at u lock))
   pub costs : (t : ℕ) → steps_left u t ≤ steps_left s t + 51
+
+-- SEVERAL OF THEM
+
+-- one after the other, each with whether its moment may pass
+abbrev pub AreTakenIn : ℕ → List (ℕ × Bool) → State → State → Type 0
+AreTakenIn lock [] s u = u ≡ s
+AreTakenIn lock (e ∷ es) s u = (x : State) × IsTakenIn e.0 lock e.1 s x × AreTakenIn lock es x u
+
+abbrev pub AreOthers : ℕ → List (ℕ × Bool) → Type 0
+AreOthers by [] = Unit {0}
+AreOthers by (e ∷ es) = (e.0 ≢ by) × AreOthers by es
+
+abbrev pub waiters : List (ℕ × Bool) → List ℕ
+waiters es = map (λ e. e.0) es
+
+-- thread `by` is in no call, and none of those
+pub record MayMove (s : State) (by : ℕ) (es : List (ℕ × Bool)) : Type 0 where
+  pub low : by < length s.calls
+  pub alone : call_at s by ≡ None
+  pub others : AreOthers by es
+
+-- To move several is one run of the steps of the one that moves them: all into the list, where the mutex is locked; and else the first is woken, and
+-- the rest stand behind it. All other locks are as they were, and each adds so many steps at most.
+pub record MovesAreRuns : Type 0 where
+  pub locked : (s u : State) (lock by : ℕ) (e : ℕ × Bool) (es : List (ℕ × Bool)) → MayMove s by (e ∷ es) → (mutex_at s lock).word.locked ≡ 1 → AreTakenIn lock (e ∷ es) s u
+      → Runs (mutex_at s lock) (requeue_run by (owns_mutex (hold_at s by lock)) (waiters (e ∷ es))) (mutex_at u lock)
+  pub unlocked : (s x u : State) (lock by : ℕ) (e : ℕ × Bool) (es : List (ℕ × Bool)) → MayMove s by (e ∷ es) → IsRousedIn e.0 lock e.1 s x → AreTakenIn lock es x u
+      → Runs (mutex_at s lock) (pull_run by (owns_mutex (hold_at s by lock)) e.0 (waiters es)) (mutex_at u lock)
+  pub elsewhere : (s u : State) (lock : ℕ) (es : List (ℕ × Bool)) → AreTakenIn lock es s u → (i : ℕ) → i ≢ lock → lock_at u i ≡ lock_at s i
+  pub costs : (s u : State) (lock : ℕ) (es : List (ℕ × Bool)) → AreTakenIn lock es s u → (t : ℕ) → steps_left u t ≤ steps_left s t + 25 * length es

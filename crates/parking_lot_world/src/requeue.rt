@@ -3,7 +3,7 @@ ghost use Rattle.std.specs.Prelude.{◌≡◌, None, true};
 ghost use Rattle.parking_lot_core_lot.specs.Machine.{machine};
 ghost use Rattle.parking_lot_world.specs.declared.calls.LockCall.TheVariants.{Lock};
 ghost use Rattle.parking_lot_world.specs.Machines.{may_begin};
-ghost use Rattle.parking_lot_world.specs.Requeues.{AllRequeuesAreRuns, IsAttended, IsRousedIn, IsTakenIn, MayJoin, lot_with, retrying_call, sleeping_call};
+ghost use Rattle.parking_lot_world.specs.Requeues.{AllRequeuesAreRuns, IsAttended, IsRousedIn, IsTakenIn, MayJoin, MovesAreRuns, lot_with, retrying_call, sleeping_call};
 ghost use Rattle.parking_lot_world.specs.Rows.{state};
 
 use crate::lot_calls;
@@ -76,6 +76,11 @@ fn retrying(lock: usize, timed: bool) -> Call
 {
     sleeping(lock, timed).woken(TRY_AGAIN)
 }
+
+/// To move several waiters is one run of the rules, from the mutex as it was to the mutex as it is, by any thread in no call that isn't one of them.
+pub fn moves_are_runs()
+    ensures { MovesAreRuns }
+{}
 
 /// To move waiters to a mutex, one after the other, is a run of the steps of the rules of the one that moves them: all into the list, where it is
 /// locked; and else the first is woken, and the rest stand behind it.
