@@ -77,3 +77,4 @@ mod RequeueLots
 mod RequeueCosts
 mod RequeueActs
 mod RequeueMoves
+mod RequeueMays

@@ -1,15 +1,20 @@
 -- What it is to move waiters of a condition variable into the list of a mutex: by the rules, and in a machine of locks.
-use Rattle.std.specs.Prelude.{◌≡◌, ◌≢◌, ℕ, ◌+◌, ◌*◌, ◌%◌, ◌<◌, ◌≤◌, Bool, true, false, List, [], ◌∷◌, ◌++◌, length, map, None, slice_get, slice_set, Some}
+use Rattle.std.specs.Prelude.{◌≡◌, ◌≢◌, ℕ, ◌+◌, ◌*◌, ◌%◌, ◌<◌, ◌≤◌, ◌==◌, ◌&&◌, ◌||◌, not, Bool, true, false, List, [], ◌∷◌, ◌++◌, length, map, Option, None, is_some, slice_get, slice_set, Some}
+use Rattle.std.specs.List.{list_any}
 use Rattle.parking_lot_core_lot.specs.declared.place.Phase.TheVariants as phase
 use Rattle.parking_lot_core_lot.specs.Machine.{Machine, any_phase, closed, enter_fault, in_phase, joined, opened, step_fault}
 use Rattle.parking_lot_core_lot.specs.Places.{may_check, may_join}
 use Rattle.parking_lot_protocol.specs.MutexTable.{begins}
+use Rattle.parking_lot_protocol.specs.declared.mutex_phase.MutexPhase.{MutexPhase}
 use Rattle.parking_lot_protocol.specs.declared.mutex_phase.MutexPhase.TheVariants as m
 use Rattle.parking_lot_rules.specs.Roles.{Asleep}
 use Rattle.parking_lot_rules.specs.Mutex.{Alone, Called, Come, Depart, Finish, Follow, Go, Idle, Inside, MarkParked, Mutex, Pull, Queued, Requeue, Role, Runs, Seeks, Step, Wake, away, doing, total}
+use Rattle.parking_lot_world.specs.declared.calls.LockCall.TheVariants as call
 use Rattle.parking_lot_world.specs.declared.open_call.Call.{Call}
+use Rattle.parking_lot_world.specs.declared.seat.Core.{Core}
 use Rattle.parking_lot_world.specs.declared.seat.Core.TheVariants as core
 use Rattle.parking_lot_world.specs.declared.seat.QueuePosition.TheVariants as spot
+use Rattle.parking_lot_world.specs.Machines.{may_begin}
 use Rattle.parking_lot_world.specs.Ranks.{steps_left}
 use Rattle.parking_lot_world.specs.RowActs.{with_call, with_lot, with_word}
 use Rattle.parking_lot_world.specs.RowFits.{FitsTogether}
@@ -89,6 +94,37 @@ roused_in s v lock timed = with_call s v (retrying_call lock timed)
 -- Somebody owns the mutex, or was called, and is about to try again: whoever sleeps in its list isn't forgotten.
 abbrev pub IsAttended : State → ℕ → Type 0
 IsAttended s lock = 1 ≤ (mutex_at s lock).word.locked + total Called (mutex_at s lock).roles
+
+-- one at that mutex that was woken, and is about to try again
+abbrev pub phase_retries : MutexPhase → Bool
+phase_retries (m.Loads a) = a.woken
+phase_retries (m.Locks a waiters) = a.woken
+phase_retries (m.Spins a) = a.woken
+phase_retries (m.Parks a) = a.woken
+phase_retries (m.Enters woken) = woken
+phase_retries (m.Checks woken) = woken
+phase_retries (m.Retreats woken) = woken
+phase_retries p = false
+
+abbrev pub core_retries : Core → Bool
+core_retries (core.Mutex k) = phase_retries k.phase
+core_retries k = false
+
+abbrev pub retries_at : ℕ → Option Call → Bool
+retries_at lock None = false
+retries_at lock (Some c) = c.lock == lock && core_retries c.core
+
+-- Whether a thread may be woken to try again, and whether it may be taken into the list: it may ask for the mutex, no section is open, and for the list
+-- the mutex is locked, or one at it is about to try again.
+abbrev pub may_rouse_in : State → ℕ → ℕ → Bool
+may_rouse_in s v lock = may_begin s v lock call.Lock && not (is_some s.lot.section)
+
+abbrev pub may_take_in : State → ℕ → ℕ → Bool
+may_take_in s v lock = may_rouse_in s v lock && (word_at s lock % 2 == 1 || list_any (retries_at lock) s.calls)
+
+pub record MayTakeIn (s : State) (v lock : ℕ) : Type 0 where
+  pub may : may_rouse_in s v lock ≡ true
+  pub attended : IsAttended s lock
 
 -- any thread in no call, but for v, whether it owns the mutex or not: it is the one that moves v
 abbrev pub ByAny : State → ℕ → ℕ → (ℕ → Bool → Type 0) → Type 0

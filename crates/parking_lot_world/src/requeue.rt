@@ -1,28 +1,48 @@
 //! Waiters of a condition variable are moved to a mutex.
-ghost use Rattle.std.specs.Prelude.{◌≡◌, None, true};
+ghost use Rattle.std.specs.Prelude.{◌≡◌, ◌%◌, ◌==◌, ◌||◌, true};
+ghost use Rattle.std.specs.List.{list_any};
 ghost use Rattle.parking_lot_core_lot.specs.Machine.{machine};
-ghost use Rattle.parking_lot_world.specs.declared.calls.LockCall.TheVariants.{Lock};
-ghost use Rattle.parking_lot_world.specs.Machines.{may_begin};
-ghost use Rattle.parking_lot_world.specs.Requeues.{AllRequeuesAreRuns, IsAttended, IsRousedIn, IsTakenIn, MayJoin, MovesAreRuns, lot_with, retrying_call, sleeping_call};
-ghost use Rattle.parking_lot_world.specs.Rows.{state};
+ghost use Rattle.parking_lot_world.specs.Requeues.{AllRequeuesAreRuns, IsRousedIn, IsTakenIn, MayJoin, MayTakeIn, MovesAreRuns, core_retries, lot_with, may_rouse_in, may_take_in, phase_retries, retries_at, retrying_call, sleeping_call};
+ghost use Rattle.parking_lot_world.specs.Rows.{state, word_at};
 
+use crate::calls::LockCall;
 use crate::lot_calls;
 use crate::open_call::Call;
 use crate::row_machine::RowMachine;
 use crate::seat::{Core, QueuePosition, sleeper};
 use parking_lot_core_lot::{DEFAULT_PARK_TOKEN, Lot};
-use parking_lot_protocol::TRY_AGAIN;
+use parking_lot_protocol::{MutexPhase, TRY_AGAIN};
 use std::alloc::Allocator;
 
 impl<A: Allocator> RowMachine<A> {
+    /// Whether a thread may be [woken to ask](RowMachine::rouse_in) for a mutex: it may ask for it, and no section is open.
+    pub fn may_rouse_in(&self, waiter: usize, lock: usize) -> bool
+        ensures { result ≡ may_rouse_in (state self.now) waiter lock }
+    {
+        self.may_begin(waiter, lock, LockCall::Lock) && !self.lot.is_entered(lock)
+    }
+
+    /// Whether a thread may be [taken into the list](RowMachine::take_in) of a mutex: the same, and the mutex is locked, or a thread there was woken and is
+    /// about to try again.
+    pub fn may_take_in(&self, waiter: usize, lock: usize) -> bool
+        ensures is { result ≡ may_take_in (state self.now) waiter lock }
+        ensures may { result ≡ true → MayTakeIn (state self.now) waiter lock }
+    {
+        let _ = &self.wakes;
+        self.may_rouse_in(waiter, lock) && self.is_kept(lock)
+    }
+
+    /// Whether the mutex is locked, or a thread there is about to try again.
+    fn is_kept(&self, lock: usize) -> bool
+        ensures { result ≡ (word_at (state self.now) lock % 2 == 1 || list_any (retries_at lock) (state self.now).calls) }
+    {
+        self.word(lock) % 2 == 1 || is_retried(&self.calls, lock)
+    }
+
     /// A thread in no call, which owns nothing of the mutex, is moved into its list by another, and sleeps there as if it had asked for the mutex; the
     /// parked bit is set. `timed` says whether its moment may pass there.
-    ///
-    /// It asks that no section is open, and that somebody owns the mutex, or is about to try again.
     pub fn take_in(&mut self, waiter: usize, lock: usize, timed: bool)
-        requires may { may_begin (state self.old) waiter lock Lock ≡ true }
-        requires free { (state self.old).lot.section ≡ None }
-        requires attended { IsAttended (state self.old) lock }
+        requires may { MayTakeIn (state self.old) waiter lock }
         ensures { IsTakenIn waiter lock timed (state self.old) (state self.new) }
     {
         let _ = &self.wakes;
@@ -34,15 +54,48 @@ impl<A: Allocator> RowMachine<A> {
 
     /// A thread in no call, which owns nothing of the mutex, is woken by another to ask for it, as one that slept in its list. Those that are
     /// [taken in](RowMachine::take_in) afterwards stand behind it.
-    ///
-    /// It asks that no section is open.
     pub fn rouse_in(&mut self, waiter: usize, lock: usize, timed: bool)
-        requires may { may_begin (state self.old) waiter lock Lock ≡ true }
-        requires free { (state self.old).lot.section ≡ None }
+        requires may { may_rouse_in (state self.old) waiter lock ≡ true }
         ensures { IsRousedIn waiter lock timed (state self.old) (state self.new) }
     {
         let _ = &self.wakes;
         self.calls[waiter] = Some(retrying(lock, timed));
+    }
+}
+
+/// Whether a thread was woken at a mutex, and is about to try again.
+fn is_retried(calls: &[Option<Call>], lock: usize) -> bool
+    ensures { result ≡ list_any (retries_at lock) calls.now }
+{
+    calls.iter().any(|call| retries_at(*call, lock))
+}
+
+fn retries_at(call: Option<Call>, lock: usize) -> bool
+    ensures { result ≡ retries_at lock call }
+{
+    match call {
+        Some(call) => call.lock == lock && core_retries(call.core),
+        None => false,
+    }
+}
+
+fn core_retries(core: Core) -> bool
+    ensures { result ≡ core_retries core }
+{
+    match core {
+        Core::Mutex(core) => phase_retries(core.phase()),
+        Core::Rw(_) | Core::Late(_) => false,
+    }
+}
+
+fn phase_retries(phase: MutexPhase) -> bool
+    ensures { result ≡ phase_retries phase }
+{
+    match phase {
+        MutexPhase::Loads(asking) | MutexPhase::Locks(asking, _) => asking.woken,
+        MutexPhase::Spins(asking) | MutexPhase::Parks(asking) => asking.woken,
+        MutexPhase::Enters(woken) | MutexPhase::Checks(woken) | MutexPhase::Retreats(woken) => woken,
+        _ => false,
     }
 }
 
