@@ -1,5 +1,5 @@
 -- A waiter that is taken into the list of a mutex, and one that is woken to try again: the machine fits together, and it is a run of the rules.
-use Rattle.std.proofs.Common.{◌≡◌, ◌≢◌, ℕ, ◌+◌, ◌*◌, ◌/◌, ◌%◌, ◌<◌, ◌≤◌, Bool, true, false, List, [], ◌∷◌, ◌++◌, length, map, Option, Some, None, slice_get, slice_set, refl, sym, ap, ◌∙◌, subst, arith}
+use Rattle.std.proofs.Common.{◌≡◌, ◌≢◌, ℕ, ◌+◌, ◌*◌, ◌/◌, ◌%◌, ◌<◌, ◌≤◌, Bool, true, false, [], ◌∷◌, ◌++◌, length, Some, None, slice_get, refl, sym, ap, ◌∙◌, subst, arith}
 use Rattle.std.proofs.lemmas.Bool.{ne_eqb}
 use Rattle.std.proofs.lemmas.List.{length-set, map-append}
 use Rattle.parking_lot_core_lot.specs.declared.place.Waiter.{Waiter}
@@ -13,7 +13,7 @@ use Rattle.parking_lot_world.specs.declared.calls.LockCall.{LockCall}
 use Rattle.parking_lot_world.specs.Kinds.{AsMutex, manner_of}
 use Rattle.parking_lot_world.specs.Machines.{may_begin}
 use Rattle.parking_lot_world.specs.Ranks.{Sees, is_shut_to, mutex_steps, steps_left}
-use Rattle.parking_lot_world.specs.Requeues.{IsAttended, IsRousedIn, IsTakenIn, filed, lot_with, pull_run, requeue_run, retrying_call, roused, roused_in, sleeping_call, taken_in}
+use Rattle.parking_lot_world.specs.Requeues.{IsAttended, IsRousedIn, IsTakenIn, filed, pull_run, requeue_run, retrying_call, roused, roused_in, sleeping_call, taken_in}
 use Rattle.parking_lot_world.specs.RowFits.{FitsTogether}
 use Rattle.parking_lot_world.specs.Rows.{State, call_at, first_key, hold_at, inside, mutex_at, mutex_word_of, owns_mutex, queue_at, word_at}
 use Rattle.parking_lot_world.proofs.Acting.{word-elsewhere, word-here}
@@ -21,7 +21,7 @@ use Rattle.parking_lot_world.proofs.KindTable.{within_kinds}
 use Rattle.parking_lot_world.proofs.LotLists.{one_key}
 use Rattle.parking_lot_world.proofs.MutexMoving.{same_mutex}
 use Rattle.parking_lot_world.proofs.RequeueCosts.{costs_at_most, others_cost}
-use Rattle.parking_lot_world.proofs.RequeueLots.{may_join, roused_lots, taken_lots}
+use Rattle.parking_lot_world.proofs.RequeueLots.{roused_lots, taken_lots}
 use Rattle.parking_lot_world.proofs.RequeueRuns.{laws as runs}
 use Rattle.parking_lot_world.proofs.RequeueSound.{filed_attended, filed_sound, roused_attended, roused_sound}
 use Rattle.parking_lot_world.proofs.Requeueing.{away_there, may_come, nobody, none_inside, now_roles, now_rules, now_wakes, others_stay, was_sound}

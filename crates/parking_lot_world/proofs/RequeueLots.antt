@@ -1,24 +1,22 @@
 -- A thread that was in no call joins a mutex's list, as if it had asked for the mutex and gone to sleep: the lot doesn't refuse it, and what fits of the lot
 -- still fits.
-use Rattle.std.proofs.Common.{◌≡◌, ℕ, ◌+◌, ◌*◌, ◌<◌, Bool, false, cond, List, length, Option, Some, None, slice_get, slice_set, refl, sym, ap, ◌∙◌, subst, arith}
+use Rattle.std.proofs.Common.{◌≡◌, ℕ, ◌<◌, Bool, false, cond, List, length, Option, Some, None, slice_set, refl, sym, ap, ◌∙◌, subst, arith}
 use Rattle.std.proofs.lemmas.List.{length-set}
 use Rattle.parking_lot_core_lot.specs.declared.parking.ParkToken.{ParkToken}
 use Rattle.parking_lot_core_lot.specs.declared.place.Phase.TheVariants as phase
-use Rattle.parking_lot_core_lot.specs.Machine.{Machine, in_phase}
+use Rattle.parking_lot_core_lot.specs.Machine.{in_phase}
 use Rattle.parking_lot_core_lot.specs.Places.{place_at}
 use Rattle.parking_lot_protocol.specs.MutexTable.{begins}
-use Rattle.parking_lot_protocol.specs.declared.act.Act.{Act}
-use Rattle.parking_lot_protocol.specs.declared.act.SectionAct.TheVariants as section
 use Rattle.parking_lot_protocol.specs.declared.act.ActResult.TheVariants as seen
 use Rattle.parking_lot_protocol.specs.declared.mutex_phase.MutexPhase.{MutexPhase}
 use Rattle.parking_lot_world.specs.declared.seat.Core.{Core}
 use Rattle.parking_lot_world.specs.declared.seat.QueuePosition.{QueuePosition}
 use Rattle.parking_lot_world.specs.declared.open_call.Call.{Call}
 use Rattle.parking_lot_world.specs.Requeues.{MayJoin, lot_with, retrying_call, roused_in, sleeping_call, taken_in}
-use Rattle.parking_lot_world.specs.RowActs.{appended, checked, entered, hears, joins, key_of, left, with_call, with_lot, with_word}
+use Rattle.parking_lot_world.specs.RowActs.{appended, entered, hears, joins, key_of, left, with_call, with_lot, with_word}
 use Rattle.parking_lot_world.specs.RowFits.{LotFits, Seated, WakesSome}
-use Rattle.parking_lot_world.specs.Rows.{State, call_at, first_key, word_at}
-use Rattle.parking_lot_world.specs.Stances.{Joins, stance}
+use Rattle.parking_lot_world.specs.Rows.{State, call_at, first_key}
+use Rattle.parking_lot_world.specs.Stances.{stance}
 use Rattle.parking_lot_world.proofs.Acting.{word-here}
 use Rattle.parking_lot_world.proofs.Carrying.{Carries, carries_begun, set_here}
 use Rattle.parking_lot_world.proofs.Indexing.{set_twice}

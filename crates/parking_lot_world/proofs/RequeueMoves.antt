@@ -1,8 +1,8 @@
 -- To move several waiters to a mutex is one run of the rules.
-use Rattle.std.proofs.Common.{◌≡◌, ◌≢◌, ℕ, ◌+◌, ◌*◌, ◌≤◌, Bool, List, [], ◌∷◌, length, Some, slice_get, refl, sym, ap, ◌∙◌, subst, arith}
-use Rattle.parking_lot_rules.specs.Mutex.{Mutex, Runs, away}
+use Rattle.std.proofs.Common.{◌≡◌, ◌≢◌, ℕ, ◌+◌, ◌*◌, ◌≤◌, Bool, List, [], ◌∷◌, length, sym, ap, ◌∙◌, subst, arith}
+use Rattle.parking_lot_rules.specs.Mutex.{Mutex, Runs}
 use Rattle.parking_lot_world.specs.Ranks.{steps_left}
-use Rattle.parking_lot_world.specs.Requeues.{AreAway, AreOthers, AreTakenIn, IsRousedIn, MayMove, MovesAreRuns, all_filed, filed, pull_run, requeue_run, roused, waiters}
+use Rattle.parking_lot_world.specs.Requeues.{AreAway, AreOthers, AreTakenIn, MovesAreRuns, all_filed, pull_run, requeue_run, waiters}
 use Rattle.parking_lot_world.specs.Rows.{State, hold_at, lock_at, mutex_at, owns_mutex}
 use Rattle.parking_lot_world.proofs.RequeueRuns.{laws as runs}
 

@@ -2,7 +2,7 @@
 use Rattle.std.proofs.Common.{◌≡◌, ◌≢◌, ℕ, zero, suc, Bool, true, List, [], ◌∷◌, ◌++◌, map, Some, slice_get, slice_set, refl, sym, ap, ◌∙◌, subst}
 use Rattle.std.proofs.lemmas.Option.{same_Some}
 use Rattle.parking_lot_rules.specs.Roles.{Asleep, Normal}
-use Rattle.parking_lot_rules.specs.Mutex.{Alone, Come, Comes, Depart, Finish, Follow, Go, Idle, MarkParked, Moves, Mutex, Pull, Queued, Requeue, Role, Runs, Seeks, Step, Stored, Taken, Wake, Wakes, Word, away, doing}
+use Rattle.parking_lot_rules.specs.Mutex.{Alone, Comes, Depart, Finish, Follow, Go, Idle, Moves, Mutex, Queued, Requeue, Role, Runs, Seeks, Step, Stored, Taken, Wake, Wakes, away, doing}
 use Rattle.parking_lot_rules.proofs.Indexed.{get-set_same, get-set_other}
 use Rattle.parking_lot_world.specs.Requeues.{AllRequeuesAreRuns, AreAway, MayCome, all_filed, filed, pull_run, requeue_run, roused}
 use Rattle.parking_lot_world.proofs.Indexing.{set_twice}

@@ -1,5 +1,5 @@
 -- The machine once a thread that was in no call has a call at a mutex, outside of sections: what the locks see of it, and that the rules' side fits.
-use Rattle.std.proofs.Common.{◌≡◌, ◌≢◌, ℕ, ◌+◌, ◌*◌, ◌<◌, ◌≤◌, inl, inr, ◌==◌, Bool, true, false, cond, List, [], ◌∷◌, length, Option, Some, None, slice_get, slice_set, refl, sym, ap, ◌∙◌, subst, arith}
+use Rattle.std.proofs.Common.{◌≡◌, ◌≢◌, ℕ, ◌+◌, ◌*◌, ◌<◌, inl, inr, ◌==◌, Bool, true, false, cond, List, length, Option, Some, None, slice_get, slice_set, refl, sym, ap, ◌∙◌, subst, arith}
 use Rattle.std.specs.Option.{option_and_then}
 use Rattle.std.proofs.lemmas.Bool.{cases_eq}
 use Rattle.std.proofs.lemmas.List.{length-set}
@@ -8,7 +8,7 @@ use Rattle.parking_lot_core_lot.specs.declared.place.Section.{Section}
 use Rattle.parking_lot_core_lot.specs.declared.place.Waiter.{Waiter}
 use Rattle.parking_lot_core_lot.specs.Machine.{Machine}
 use Rattle.parking_lot_rules.specs.Any.{AnySound, Mx, any_inside}
-use Rattle.parking_lot_rules.specs.Family.{First, Key, Second, key}
+use Rattle.parking_lot_rules.specs.Family.{First, Key, Second}
 use Rattle.parking_lot_rules.specs.Lists.{at_index}
 use Rattle.parking_lot_rules.specs.Mutex as mutex
 use Rattle.parking_lot_rules.proofs.Indexed.{get-set_same, get-set_other}
@@ -18,10 +18,10 @@ use Rattle.parking_lot_world.specs.declared.seat.Core.{Core}
 use Rattle.parking_lot_world.specs.declared.seat.QueuePosition.{QueuePosition}
 use Rattle.parking_lot_world.specs.declared.open_call.Call.{Call}
 use Rattle.parking_lot_world.specs.Kinds.{AsMutex, manner_of}
-use Rattle.parking_lot_world.specs.Requeues.{ByAny, MayCome}
+use Rattle.parking_lot_world.specs.Requeues.{MayCome}
 use Rattle.parking_lot_world.specs.Rounds.{IsUnderWay}
-use Rattle.parking_lot_world.specs.RowFits.{FitsTogether, LotFits, RulesFit, WakesFit, is_away, mutex_knows}
-use Rattle.parking_lot_world.specs.Rows.{State, call_at, family, first_of_all, hold_at, inside, lock_at, lock_as, any_lock, mutex_at, one_bucket, owns_mutex, taken_by, word_at}
+use Rattle.parking_lot_world.specs.RowFits.{FitsTogether, RulesFit, WakesFit, is_away, mutex_knows}
+use Rattle.parking_lot_world.specs.Rows.{State, call_at, first_of_all, hold_at, inside, lock_at, lock_as, mutex_at, owns_mutex, taken_by, word_at}
 use Rattle.parking_lot_world.specs.Stances.{In, stance}
 use Rattle.parking_lot_world.proofs.Calling.{call-here, call-elsewhere}
 use Rattle.parking_lot_world.proofs.Carrying.{same_call}
@@ -120,13 +120,13 @@ module _ (s : State) (v lock : ℕ) (h : FitsTogether s) (low : v < length s.cal
       is_outside : (x : ℕ) (k : Key) → any_inside (Mx (mutex_at u lock)) k x ≢ 1
       is_outside x First e = elim (cases_eq x v) [
         | inl same ↦ absurd (omega (
-            arith,
-            e,
-            outside,
-            ap (λ rs. at_index (mutex.weight mutex.Inside) (slice_get rs x)) now_roles
-            ∙ ap (λ n. at_index (mutex.weight mutex.Inside) (slice_get (slice_set (mutex_at s lock).roles v y) n)) same
-            ∙ ap (at_index (mutex.weight mutex.Inside)) (get-set_same (mutex_at s lock).roles v mutex.away y away_there),
-          ))
+          arith,
+          e,
+          outside,
+          ap (λ rs. at_index (mutex.weight mutex.Inside) (slice_get rs x)) now_roles
+              ∙ ap (λ n. at_index (mutex.weight mutex.Inside) (slice_get (slice_set (mutex_at s lock).roles v y) n)) same
+              ∙ ap (at_index (mutex.weight mutex.Inside)) (get-set_same (mutex_at s lock).roles v mutex.away y away_there),
+        ))
         | inr ne ↦ was_outside lock x First
             (ap (λ q. any_inside (lock_as q s lock) First x) kind
             ∙ sym (ap (λ rs. at_index (mutex.weight mutex.Inside) (slice_get rs x)) now_roles ∙ ap (at_index (mutex.weight mutex.Inside)) (get-set_other (mutex_at s lock).roles v x y (λ f. ne (sym f)))) ∙ e)

@@ -8,7 +8,7 @@ use Rattle.parking_lot_protocol.specs.MutexTable.{begins}
 use Rattle.parking_lot_protocol.specs.declared.mutex_phase.MutexPhase.{MutexPhase}
 use Rattle.parking_lot_protocol.specs.declared.mutex_phase.MutexPhase.TheVariants as m
 use Rattle.parking_lot_rules.specs.Roles.{Asleep}
-use Rattle.parking_lot_rules.specs.Mutex.{Alone, Called, Come, Depart, Finish, Follow, Go, Idle, Inside, MarkParked, Mutex, Pull, Queued, Requeue, Role, Runs, Seeks, Step, Wake, away, doing, total}
+use Rattle.parking_lot_rules.specs.Mutex.{Alone, Called, Come, Depart, Finish, Follow, Go, Idle, Inside, MarkParked, Mutex, Pull, Queued, Requeue, Runs, Seeks, Step, Wake, away, doing, total}
 use Rattle.parking_lot_world.specs.declared.calls.LockCall.TheVariants as call
 use Rattle.parking_lot_world.specs.declared.open_call.Call.{Call}
 use Rattle.parking_lot_world.specs.declared.seat.Core.{Core}

@@ -94,7 +94,8 @@ fn phase_retries(phase: MutexPhase) -> bool
     match phase {
         MutexPhase::Loads(asking) | MutexPhase::Locks(asking, _) => asking.woken,
         MutexPhase::Spins(asking) | MutexPhase::Parks(asking) => asking.woken,
-        MutexPhase::Enters(woken) | MutexPhase::Checks(woken) | MutexPhase::Retreats(woken) => woken,
+        MutexPhase::Enters(woken) | MutexPhase::Checks(woken) | MutexPhase::Retreats(woken) =>
+            woken,
         _ => false,
     }
 }

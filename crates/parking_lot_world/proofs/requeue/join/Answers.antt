@@ -1,4 +1,4 @@
-use Rattle.std.proofs.Common.{◌≡◌, ℕ, cond, false, Some, None, sym, ap, ◌∙◌, eq-eqb, refl}
+use Rattle.std.proofs.Common.{◌≡◌, ℕ, cond, false, Some, None, ap, ◌∙◌, eq-eqb, refl}
 use Rattle.parking_lot_core_lot.specs.declared.place.Phase.TheVariants as phase
 use Rattle.parking_lot_core_lot.specs.declared.place.Section.{Section}
 use Rattle.parking_lot_core_lot.specs.Machine.{Machine, any_phase, closed, in_phase, joined, machine, opened, section_of, step_fault}

@@ -1,5 +1,4 @@
 use Rattle.std.proofs.Common.{sym, ap, ◌∙◌, subst}
-use Rattle.parking_lot_world.specs.declared.open_call.Call.{Call}
 use Rattle.parking_lot_world.specs.Requeues.{IsRousedIn}
 use Rattle.parking_lot_world.specs.RowActs.{with_call}
 use Rattle.parking_lot_world.specs.RowFits.{FitsTogether}
