@@ -78,3 +78,4 @@ mod RequeueCosts
 mod RequeueActs
 mod RequeueMoves
 mod RequeueMays
+mod RequeueCases

@@ -86,6 +86,7 @@ module _ (s : State) (v lock : ℕ) (timed : Bool) (h : FitsTogether s) (low : v
           (omega (arith, word_then)) (λ q. tt) (record { begun = refl; few = omega arith })
           (subst mutex.IsSound (sym taken_here) (filed_sound (mutex_at s lock) v (was_sound s v lock h low alone kind owns free) there nobody_in attended));
     };
+    kind = kind;
     here = taken_here;
     away = there;
     comes = λ by ne within none. may_come s v lock h low alone kind owns free by within none;
@@ -130,6 +131,7 @@ module _ (s : State) (v lock : ℕ) (timed : Bool) (h : FitsTogether s) (low : v
           (h.rules.bits lock kind) (λ q. tt) (record { begun = refl; few = omega arith })
           (subst mutex.IsSound (sym roused_here) (roused_sound (mutex_at s lock) v (was_sound s v lock h low alone kind owns free) there));
     };
+    kind = kind;
     here = roused_here;
     away = there;
     comes = λ by ne within none. may_come s v lock h low alone kind owns free by within none;

@@ -8,13 +8,16 @@ use Rattle.parking_lot_protocol.specs.MutexTable.{begins}
 use Rattle.parking_lot_protocol.specs.declared.mutex_phase.MutexPhase.{MutexPhase}
 use Rattle.parking_lot_protocol.specs.declared.mutex_phase.MutexPhase.TheVariants as m
 use Rattle.parking_lot_rules.specs.Roles.{Asleep}
+use Rattle.parking_lot_rules.specs.MutexOwners as owners
 use Rattle.parking_lot_rules.specs.Mutex.{Alone, Called, Come, Depart, Finish, Follow, Go, Idle, Inside, MarkParked, Mutex, Pull, Queued, Requeue, Runs, Seeks, Step, Wake, away, doing, total}
 use Rattle.parking_lot_world.specs.declared.calls.LockCall.TheVariants as call
 use Rattle.parking_lot_world.specs.declared.open_call.Call.{Call}
 use Rattle.parking_lot_world.specs.declared.seat.Core.{Core}
 use Rattle.parking_lot_world.specs.declared.seat.Core.TheVariants as core
 use Rattle.parking_lot_world.specs.declared.seat.QueuePosition.TheVariants as spot
+use Rattle.parking_lot_world.specs.Kinds.{AsMutex, manner_of}
 use Rattle.parking_lot_world.specs.Machines.{may_begin}
+use Rattle.parking_lot_world.specs.SoundLaws.{IsStepAt}
 use Rattle.parking_lot_world.specs.Ranks.{steps_left}
 use Rattle.parking_lot_world.specs.RowActs.{with_call, with_lot, with_word}
 use Rattle.parking_lot_world.specs.RowFits.{FitsTogether}
@@ -135,6 +138,7 @@ ByAny s v lock P = (by : ℕ) → by ≢ v → by < length s.calls → call_at s
 pub record IsTakenIn (v lock : ℕ) (timed : Bool) (s u : State) : Type 0 where
   pub became : u ≡ taken_in s v lock timed
   pub fits : FitsTogether u
+  pub kind : manner_of (slice_get s.kinds lock) ≡ Some AsMutex
   pub here : mutex_at u lock ≡ filed (mutex_at s lock) v
   pub away : slice_get (mutex_at s lock).roles v ≡ Some away
   pub elsewhere : (i : ℕ) → i ≢ lock → lock_at u i ≡ lock_at s i
@@ -148,6 +152,7 @@ pub record IsTakenIn (v lock : ℕ) (timed : Bool) (s u : State) : Type 0 where
 pub record IsRousedIn (v lock : ℕ) (timed : Bool) (s u : State) : Type 0 where
   pub became : u ≡ roused_in s v lock timed
   pub fits : FitsTogether u
+  pub kind : manner_of (slice_get s.kinds lock) ≡ Some AsMutex
   pub here : mutex_at u lock ≡ roused (mutex_at s lock) v
   pub away : slice_get (mutex_at s lock).roles v ≡ Some away
   pub elsewhere : (i : ℕ) → i ≢ lock → lock_at u i ≡ lock_at s i
@@ -186,3 +191,12 @@ pub record MovesAreRuns : Type 0 where
       → Runs (mutex_at s lock) (pull_run by (owns_mutex (hold_at s by lock)) e.0 (waiters es)) (mutex_at u lock)
   pub elsewhere : (s u : State) (lock : ℕ) (es : List (ℕ × Bool)) → AreTakenIn lock es s u → (i : ℕ) → i ≢ lock → lock_at u i ≡ lock_at s i
   pub costs : (s u : State) (lock : ℕ) (es : List (ℕ × Bool)) → AreTakenIn lock es s u → (t : ℕ) → steps_left u t ≤ steps_left s t + 25 * length es
+
+-- Whichever thread moves a waiter, it is a case of a mutex without a word: one that is taken in is moved into the list, and one that is woken changes
+-- neither owners nor list.
+abbrev pub IsCaseOf : ℕ → owners.Case → State → State → ℕ → Type 0
+IsCaseOf t case s u lock = owners.IsCase t case (owners.owners (mutex_at s lock)) (owners.owners (mutex_at u lock)) × IsStepAt t lock s u
+
+pub record MovesAreCases : Type 0 where
+  pub takes : (s u : State) (v lock t : ℕ) (timed : Bool) → IsTakenIn v lock timed s u → IsCaseOf t (owners.Move v) s u lock
+  pub rouses : (s u : State) (v lock t : ℕ) (timed : Bool) → IsRousedIn v lock timed s u → IsCaseOf t owners.Nothing s u lock

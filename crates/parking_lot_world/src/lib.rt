@@ -31,6 +31,6 @@ pub use parking_lot_protocol::{
     Act, ActResult, CoreAnswer, HAND_OVER, MutexCore, RwCore, SectionAct, TRY_AGAIN, WordChange,
     wake_sum,
 };
-pub use requeue::{moves_are_runs, requeues_are_runs};
+pub use requeue::{moves_are_cases, moves_are_runs, requeues_are_runs};
 pub use row_machine::RowMachine;
 pub use seat::{Core, Hold, LatePhase, QueuePosition, WakeResult, Wakeup};

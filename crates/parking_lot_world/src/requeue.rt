@@ -2,7 +2,7 @@
 ghost use Rattle.std.specs.Prelude.{◌≡◌, ◌%◌, ◌==◌, ◌||◌, true};
 ghost use Rattle.std.specs.List.{list_any};
 ghost use Rattle.parking_lot_core_lot.specs.Machine.{machine};
-ghost use Rattle.parking_lot_world.specs.Requeues.{AllRequeuesAreRuns, IsRousedIn, IsTakenIn, MayJoin, MayTakeIn, MovesAreRuns, core_retries, lot_with, may_rouse_in, may_take_in, phase_retries, retries_at, retrying_call, sleeping_call};
+ghost use Rattle.parking_lot_world.specs.Requeues.{AllRequeuesAreRuns, IsRousedIn, IsTakenIn, MayJoin, MayTakeIn, MovesAreCases, MovesAreRuns, core_retries, lot_with, may_rouse_in, may_take_in, phase_retries, retries_at, retrying_call, sleeping_call};
 ghost use Rattle.parking_lot_world.specs.Rows.{state, word_at};
 
 use crate::calls::LockCall;
@@ -130,6 +130,11 @@ fn retrying(lock: usize, timed: bool) -> Call
 {
     sleeping(lock, timed).woken(TRY_AGAIN)
 }
+
+/// A waiter that is moved is a case of a mutex without a word, and leaves every other lock.
+pub fn moves_are_cases()
+    ensures { MovesAreCases }
+{}
 
 /// To move several waiters is one run of the rules, from the mutex as it was to the mutex as it is, by any thread in no call that isn't one of them.
 pub fn moves_are_runs()
