@@ -87,3 +87,12 @@ pub mod Paying
 pub mod LateLots
 pub mod LateActs
 pub mod LateCalls
+pub mod RequeueRuns
+mod RequeueSound
+mod Requeueing
+mod RequeueLots
+mod RequeueCosts
+mod RequeueActs
+mod RequeueMoves
+mod RequeueMays
+mod RequeueCases

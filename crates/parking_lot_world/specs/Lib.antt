@@ -27,3 +27,4 @@ pub mod LateActs
 pub mod LateLaws
 pub mod UpgradeLaws
 pub mod UpgradeRanks
+pub mod Requeues

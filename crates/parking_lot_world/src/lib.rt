@@ -15,6 +15,7 @@ mod mutex_laws;
 mod new_machine;
 mod open_call;
 mod rank_laws;
+mod requeue;
 mod row_machine;
 mod rw_laws;
 mod seat;
@@ -32,5 +33,6 @@ pub use parking_lot_protocol::{
     Act, ActResult, CoreAnswer, HAND_OVER, MutexCore, RwCore, SectionAct, TRY_AGAIN, WordChange,
     wake_sum,
 };
+pub use requeue::{moves_are_cases, moves_are_runs, requeues_are_runs};
 pub use row_machine::RowMachine;
 pub use seat::{Core, Hold, LatePhase, QueuePosition, WakeResult, Wakeup};

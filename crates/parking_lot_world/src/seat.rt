@@ -267,7 +267,7 @@ impl LatePhase {
 }
 
 /// A mutex's core that sleeps: it was told all that leads there.
-fn sleeper() -> MutexCore
+pub(crate) fn sleeper() -> MutexCore
     ensures { result.phase ≡ Sleeps }
 {
     let mut core = MutexCore::lock();

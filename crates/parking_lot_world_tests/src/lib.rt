@@ -8,3 +8,5 @@ mod calls;
 mod machine;
 #[cfg(test)]
 mod refusals;
+#[cfg(test)]
+mod requeues;
