@@ -2,6 +2,7 @@
 use Rattle.std.proofs.Common.{◌≡◌, ◌≢◌, ℕ, ◌+◌, ◌*◌, ◌/◌, ◌%◌, ◌<◌, ◌≤◌, Bool, true, false, [], ◌∷◌, ◌++◌, length, Some, None, slice_get, refl, sym, ap, ◌∙◌, subst, arith}
 use Rattle.std.proofs.lemmas.Bool.{ne_eqb}
 use Rattle.std.proofs.lemmas.List.{length-set, map-append}
+use Rattle.std.proofs.lemmas.Option.{none-some}
 use Rattle.parking_lot_core_lot.specs.declared.place.Waiter.{Waiter}
 use Rattle.parking_lot_core_lot.specs.Machine.{threads_of}
 use Rattle.parking_lot_core_lot.proofs.Kept.{updated_at, updated_other}
@@ -80,6 +81,7 @@ module _ (s : State) (v lock : ℕ) (timed : Bool) (h : FitsTogether s) (low : v
     became = refl;
     fits = record {
       lots = taken_lots s v lock timed h.lots low alone has_its_word free;
+      passes = λ t c k o at is there. absurd (none-some o there);
       wakes = now_wakes s v lock h low alone kind owns free u.words u.lot MutexPhase.Sleeps timed (mutex.doing (mutex.Queued Asleep)) (λ us. refl) sleeper_outside;
       rules =
           now_rules s v lock h low alone kind owns free u.words u.lot MutexPhase.Sleeps timed (mutex.doing (mutex.Queued Asleep)) (λ us. refl) sleeper_outside words_then queues_then refl (length-set s.words lock new_word)
@@ -125,6 +127,7 @@ module _ (s : State) (v lock : ℕ) (timed : Bool) (h : FitsTogether s) (low : v
     became = refl;
     fits = record {
       lots = roused_lots s v lock timed h.lots low alone;
+      passes = λ t c k o at is there. absurd (none-some o (sym free ∙ there));
       wakes = now_wakes s v lock h low alone kind owns free s.words s.lot (MutexPhase.Loads (begins true)) timed (mutex.doing (mutex.Seeks true)) (λ us. refl) seeker_outside;
       rules =
           now_rules s v lock h low alone kind owns free s.words s.lot (MutexPhase.Loads (begins true)) timed (mutex.doing (mutex.Seeks true)) (λ us. refl) seeker_outside (λ i ne. refl) (λ i k ne b. refl) free refl

@@ -54,6 +54,7 @@ module _ (s : State) (h : FitsTogether s) (lock : ℕ) where
       (omega (arith, total-at (mutex_at s c.lock).roles t _ (plays s h t c k is here).here Called, called_weighs (mutex_spot c.spot) (first_of_all (taken_by s.wakes t)) k.phase e))
   retried t c (Core.Rw k) is here at e = absurd (both_ways false refl e)
   retried t c (Core.Late p) is here at e = absurd (both_ways false refl e)
+  retried t c (Core.Upgrade k) is here at e = absurd (both_ways false refl e)
 
   pub attended_by : (word_at s lock % 2 == 1 || list_any (retries_at lock) s.calls) ≡ true → IsAttended s lock
   attended_by e = go (word_at s lock % 2 == 1) refl
