@@ -1,7 +1,7 @@
 //! What a world shows of a state.
 
+use parking_lot_core_lot::SizeFault;
 use parking_lot_worlds::{LockAnswer, LockKind, OwnMode, World};
-use std::test::Fail;
 
 /// What a world of two threads and one lock shows.
 #[derive(PartialEq, Eq, Drop)]
@@ -35,7 +35,7 @@ fn parked_bits(kind: LockKind) -> (u64, u64) {
 }
 
 impl Shown {
-    pub fn of(world: &World, kind: LockKind) -> Result<Shown, Fail> {
+    pub fn of(world: &World, kind: LockKind) -> Result<Shown, SizeFault> {
         Ok(Shown {
             kind,
             word: world.word(0),
