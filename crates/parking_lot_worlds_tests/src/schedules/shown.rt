@@ -49,11 +49,11 @@ impl Shown {
 
     /// A number that few others share.
     pub fn number(&self) -> u64 {
-        let lists = self.first.len() as u64 * 3 + self.second.len() as u64 * 5;
+        let lists = self.first.len().saturating_add(self.second.len());
+        let named = self.owners.len().saturating_add(self.debts.len());
         self.word
-            .wrapping_add(lists)
-            .wrapping_add(self.owners.len() as u64 * 7)
-            .wrapping_add(self.debts.len() as u64 * 11)
+            .wrapping_add(lists as u64)
+            .wrapping_add((named as u64).wrapping_mul(7))
     }
 
     pub fn answer(&self, thread: usize) -> Option<LockAnswer> {
