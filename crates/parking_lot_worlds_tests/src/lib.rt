@@ -1,11 +1,9 @@
-//! Tests of worlds of locks and onces, for what no clause of them says: schedules worked by hand and all those of two and three threads, the
-//! printed text, and heaps that are full.
+//! Tests of worlds at their locks, for what no clause of them says: schedules worked by hand and all those of two threads, the printed text, and
+//! heaps that are full.
 #![tactic(auto)]
 
 #[cfg(test)]
 mod heaps;
-#[cfg(test)]
-mod onces;
 #[cfg(test)]
 mod refusals;
 #[cfg(test)]

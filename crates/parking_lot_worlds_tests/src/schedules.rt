@@ -1,19 +1,14 @@
-//! All schedules of some threads at one lock, each to its end.
+//! All schedules of two threads at one lock, each to its end.
 
-mod explorer;
 mod locks;
-mod once_threads;
-mod once_watch;
-mod onces;
-mod plain_once;
 mod program;
 mod rules;
 mod shown;
 mod state;
 
-use explorer::Explorer;
 use locks::LockWatch;
 use parking_lot_worlds::{LockCall, LockKind};
+use parking_lot_worlds_watch::Explorer;
 use program::{End, Pair, Program};
 use std::process::Abort;
 use std::test::Fail;
@@ -42,6 +37,11 @@ fn ends_as_it_may(rt: &impl Abort, pair: Pair, found: &LockWatch, first: End) {
 fn explore(rt: &(impl AllocGlobal + Abort), kind: LockKind, pair: Pair) -> Result<u64, Fail> {
     let watch = LockWatch::of(kind, pair, Vec::new(rt.alloc()));
     let explorer = Explorer::explore(rt, watch)?;
+    assert!(rt;
+        explorer.broken.is_none(),
+        "{:?} of {pair:?}",
+        explorer.broken
+    );
     let found = &explorer.watch;
     for first in ENDS {
         ends_as_it_may(rt, pair, found, first);

@@ -4,6 +4,7 @@ use parking_lot_core_lot::SizeFault;
 use parking_lot_worlds::{
     LockAnswer, LockCall, LockKind, OwnMode, World, WorldFault, WorldRefusal, WorldStep,
 };
+use parking_lot_worlds_watch::{NO_MOVE, are_owners, call, go_on, is_list};
 use std::process::Abort;
 use std::test::Fail;
 
@@ -27,36 +28,6 @@ enum Line {
     /// The lists of the lock's two keys.
     Queues(&'static [usize], &'static [usize]),
     Debts(&'static [usize]),
-}
-
-/// A thread goes on until its call is answered or it can't, 50 steps at most.
-pub fn go_on(world: &mut World, thread: usize, fair: bool) -> bool {
-    for _ in 0..50 {
-        if world.answer(thread).is_some() || world.run(&[WorldStep::Go(thread, fair)]).is_err() {
-            return true;
-        }
-    }
-    false
-}
-
-/// A thread makes a call, to its answer or its sleep. Answers whether it might.
-pub fn call(world: &mut World, thread: usize, lock: usize, call: LockCall, fair: bool) -> bool {
-    let is_begun = world.run(&[WorldStep::Begin(thread, lock, call)]).is_ok();
-    is_begun && go_on(world, thread, fair)
-}
-
-pub fn is_list(found: Result<Vec<usize>, SizeFault>, threads: &[usize]) -> bool {
-    match found {
-        Ok(found) => found.as_slice() == threads,
-        Err(_) => false,
-    }
-}
-
-pub fn are_owners(world: &World, lock: usize, owners: &[(usize, OwnMode)]) -> bool {
-    match world.owners(lock) {
-        Ok(found) => found.as_slice() == owners,
-        Err(_) => false,
-    }
 }
 
 /// Does what a line says, or looks whether it is so. Answers whether it is.
@@ -93,12 +64,6 @@ fn follow(
     }
     Ok(())
 }
-
-/// What a step is met by that isn't allowed.
-pub const NO_MOVE: Result<(), WorldFault> = Err(WorldFault {
-    done: 0,
-    fault: WorldRefusal::CannotMove,
-});
 
 const OWNED: Option<LockAnswer> = Some(LockAnswer::Owned);
 

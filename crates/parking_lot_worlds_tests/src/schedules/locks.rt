@@ -1,12 +1,12 @@
 //! What is watched of two threads at one lock that is owned.
 
-use super::explorer::Watch;
 use super::program::{End, Pair};
 use super::rules::{broken_by_end, broken_by_state, broken_by_step, hands_over};
 use super::shown::Shown;
 use super::state::{Progress, Snapshot, both_followed};
+use parking_lot_core_lot::SizeFault;
 use parking_lot_worlds::{LockKind, World, WorldStep};
-use std::test::Fail;
+use parking_lot_worlds_watch::{Watch, push};
 
 /// Two threads at one lock, and what is found on the way through all their schedules.
 #[derive(Drop)]
@@ -34,13 +34,7 @@ impl LockWatch {
 }
 
 impl Watch for LockWatch {
-    type Programs = Pair;
-
     type Snapshot = Snapshot;
-
-    fn programs(&self) -> Pair {
-        self.pair
-    }
 
     fn kind(&self) -> LockKind {
         self.kind
@@ -54,7 +48,7 @@ impl Watch for LockWatch {
         at.shown.number()
     }
 
-    fn first(&self, world: &World) -> Result<Snapshot, Fail> {
+    fn first(&self, world: &World) -> Result<Snapshot, SizeFault> {
         let threads = [Progress::of(self.pair.0), Progress::of(self.pair.1)];
         Ok(Snapshot::of(world, threads, Shown::of(world, self.kind)?))
     }
@@ -64,7 +58,7 @@ impl Watch for LockWatch {
         before: &Snapshot,
         step: Option<WorldStep>,
         world: &World,
-    ) -> Result<Snapshot, Fail> {
+    ) -> Result<Snapshot, SizeFault> {
         let shown = Shown::of(world, self.kind)?;
         let threads = match step {
             Some(step) => both_followed(before.threads, step, &shown),
@@ -92,9 +86,9 @@ impl Watch for LockWatch {
         broken_by_step(step, before, behind)
     }
 
-    fn look_at_end(&mut self, at: &Snapshot) -> Result<Option<&'static str>, Fail> {
+    fn look_at_end(&mut self, at: &Snapshot) -> Result<Option<&'static str>, SizeFault> {
         let [first, second] = at.threads;
-        self.ends.push((first.end(), second.end()))?;
+        push(&mut self.ends, (first.end(), second.end()))?;
         Ok(broken_by_end(at.threads, &at.shown))
     }
 }

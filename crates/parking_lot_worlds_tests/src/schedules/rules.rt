@@ -4,16 +4,7 @@ use super::program::{End, may_own, may_sleep};
 use super::shown::Shown;
 use super::state::{Progress, Snapshot, Stage, other};
 use parking_lot_worlds::{OwnMode, WorldStep};
-
-/// The first rule that doesn't hold.
-pub fn first_broken(rules: &[(bool, &'static str)]) -> Option<&'static str> {
-    for (holds, rule) in rules {
-        if !*holds {
-            return Some(*rule);
-        }
-    }
-    None
-}
+use parking_lot_worlds_watch::first_broken;
 
 /// A rule of states that this one breaks.
 pub fn broken_by_state(threads: [Progress; 2], shown: &Shown) -> Option<&'static str> {

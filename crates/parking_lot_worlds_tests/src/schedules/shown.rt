@@ -1,7 +1,7 @@
 //! What a world shows of a state.
 
+use parking_lot_core_lot::SizeFault;
 use parking_lot_worlds::{LockAnswer, LockKind, OwnMode, World};
-use std::test::Fail;
 
 /// What a world of two threads and one lock shows.
 #[derive(PartialEq, Eq, Drop)]
@@ -35,7 +35,7 @@ fn parked_bits(kind: LockKind) -> (u64, u64) {
 }
 
 impl Shown {
-    pub fn of(world: &World, kind: LockKind) -> Result<Shown, Fail> {
+    pub fn of(world: &World, kind: LockKind) -> Result<Shown, SizeFault> {
         Ok(Shown {
             kind,
             word: world.word(0),
@@ -49,11 +49,11 @@ impl Shown {
 
     /// A number that few others share.
     pub fn number(&self) -> u64 {
-        let lists = self.first.len() as u64 * 3 + self.second.len() as u64 * 5;
+        let lists = self.first.len().saturating_add(self.second.len());
+        let named = self.owners.len().saturating_add(self.debts.len());
         self.word
-            .wrapping_add(lists)
-            .wrapping_add(self.owners.len() as u64 * 7)
-            .wrapping_add(self.debts.len() as u64 * 11)
+            .wrapping_add(lists as u64)
+            .wrapping_add((named as u64).wrapping_mul(7))
     }
 
     pub fn answer(&self, thread: usize) -> Option<LockAnswer> {

@@ -1,9 +1,9 @@
 //! Onces, alone and beside locks: schedules worked by hand, with what is seen on the way.
 
-use crate::worlds::{NO_MOVE, are_owners, call, go_on, is_list};
 use parking_lot_worlds::{
     LockAnswer, LockCall, LockKind, OnceState, OwnMode, World, WorldFault, WorldRefusal, WorldStep,
 };
+use parking_lot_worlds_watch::{NO_MOVE, are_owners, call, go_on, is_list};
 use std::process::Abort;
 use std::test::Fail;
 

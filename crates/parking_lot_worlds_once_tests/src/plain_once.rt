@@ -1,6 +1,6 @@
 //! A once whose calls are made whole, one after another: what all schedules have to come to.
 
-use super::once_threads::{Answers, Caller, Calls, Three, answers_of, callers_of};
+use crate::once_threads::{Answers, Caller, Calls, Three, answers_of, callers_of};
 use parking_lot_worlds::{LockAnswer, LockCall, OnceState};
 use std::test::Fail;
 

@@ -1,12 +1,12 @@
 //! What is watched of threads at one once.
 
-use super::explorer::Watch;
-use super::once_threads::{Answers, Caller, Calls, Three, answers_of, callers_of};
-use super::plain_once::waits;
-use super::rules::first_broken;
+use crate::once_threads::{Answers, Caller, Calls, Three, answers_of, callers_of};
+use crate::plain_once::waits;
 use parking_lot_once_protocol::{OncePhase, state_of};
-use parking_lot_worlds::{LockAnswer, LockCall, LockKind, OnceCall, OnceState, World, WorldStep};
-use std::test::Fail;
+use parking_lot_worlds::{
+    LockAnswer, LockCall, LockKind, OnceCall, OnceState, SizeFault, World, WorldStep,
+};
+use parking_lot_worlds_watch::{Watch, first_broken, push};
 
 /// Where a thread's call stands.
 #[derive(Clone, Copy, PartialEq, Eq)]
@@ -128,7 +128,7 @@ fn is_taken(world: &World, thread: usize) -> bool {
 }
 
 impl OnceSnapshot {
-    fn of(world: &World, callers: Three<Caller>, taken: Taken) -> Result<OnceSnapshot, Fail> {
+    fn of(world: &World, callers: Three<Caller>, taken: Taken) -> Result<OnceSnapshot, SizeFault> {
         Ok(OnceSnapshot {
             callers,
             word: world.word(0),
@@ -344,13 +344,7 @@ fn followed(callers: Three<Caller>, step: WorldStep, world: &World) -> Three<Cal
 }
 
 impl Watch for OnceWatch {
-    type Programs = Three<Calls>;
-
     type Snapshot = OnceSnapshot;
-
-    fn programs(&self) -> Three<Calls> {
-        self.programs
-    }
 
     fn kind(&self) -> LockKind {
         LockKind::Once
@@ -367,7 +361,7 @@ impl Watch for OnceWatch {
         seats.wrapping_mul(13).wrapping_add(at.word)
     }
 
-    fn first(&self, world: &World) -> Result<OnceSnapshot, Fail> {
+    fn first(&self, world: &World) -> Result<OnceSnapshot, SizeFault> {
         OnceSnapshot::of(world, callers_of(self.programs), Taken(None, None))
     }
 
@@ -376,7 +370,7 @@ impl Watch for OnceWatch {
         before: &OnceSnapshot,
         step: Option<WorldStep>,
         world: &World,
-    ) -> Result<OnceSnapshot, Fail> {
+    ) -> Result<OnceSnapshot, SizeFault> {
         let moved = match step {
             Some(step) => followed(before.callers, step, world),
             None => before.callers,
@@ -434,10 +428,10 @@ impl Watch for OnceWatch {
         ])
     }
 
-    fn look_at_end(&mut self, at: &OnceSnapshot) -> Result<Option<&'static str>, Fail> {
+    fn look_at_end(&mut self, at: &OnceSnapshot) -> Result<Option<&'static str>, SizeFault> {
         let ends = answers_of(at.callers);
         if !self.ends.iter().any(|known| *known == ends) {
-            self.ends.push(ends)?;
+            push(&mut self.ends, ends)?;
         }
         Ok(first_broken(&[
             (at.is_at_rest(), "at the end nothing is left to be done"),

@@ -1,10 +1,10 @@
 //! All schedules of threads at one once: they come to what calls come to that are made whole, one after another, and to nothing else.
 
-use super::explorer::Explorer;
-use super::once_threads::{Calls, Three};
-use super::once_watch::OnceWatch;
-use super::plain_once::ends;
+use crate::once_threads::{Calls, Three};
+use crate::once_watch::OnceWatch;
+use crate::plain_once::ends;
 use parking_lot_worlds::LockCall;
+use parking_lot_worlds_watch::Explorer;
 use std::process::Abort;
 use std::test::Fail;
 
@@ -19,6 +19,11 @@ fn explore(
 ) -> Result<u64, Fail> {
     let watch = OnceWatch::of(programs, threads, Vec::new(rt.alloc()));
     let explorer = Explorer::explore(rt, watch)?;
+    assert!(rt;
+        explorer.broken.is_none(),
+        "{:?} of {programs:?}",
+        explorer.broken
+    );
     let found = &explorer.watch.ends;
     let wanted = ends(rt, programs)?;
     let is_each = wanted.iter().all(|end| found.contains(end));
