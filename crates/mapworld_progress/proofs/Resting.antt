@@ -73,6 +73,7 @@ rests (phase.Answer a) none = absurd (omega (arith, none))
 -- one that owns nothing and does nothing is away
 gone : (h : LockHold) → held_as (rw_mode (record { owns = owned_of h; does = Idle })) ≡ None → record { owns = owned_of h; does = Idle } ≡ away
 gone LockHold.Excludes none = absurd (none-some held.Exclusive (sym none))
+gone LockHold.Upgrades none = absurd (none-some held.Upgradable (sym none))
 gone (LockHold.Shares zero) none = refl
 gone (LockHold.Shares (suc n)) none = absurd (none-some held.Shared (sym none))
 
