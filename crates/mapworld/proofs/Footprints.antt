@@ -25,7 +25,7 @@ use Rattle.mapworld_state.specs.Sound.{Sound}
 use Rattle.mapworld_state.specs.Shards.{ShardPairs, Puts}
 use Rattle.mapworld_state.specs.Walks.{IsLookedAt}
 use Rattle.mapworld_progress.proofs.Visiting.{ItemPuts, item-puts}
-use Rattle.mapworld.proofs.LockSteps.{TouchesLock, begins_keep, ends_fit, ends_keep, keeps_behind, moves_touch, starts_touch, touches_behind}
+use Rattle.mapworld.proofs.LockSteps.{TouchesLock, begins_keep, ends_fit, ends_keep, given_kind, keeps_behind, moves_touch, starts_touch, touches_behind}
 use Rattle.mapworld.proofs.Viewing.{pair_at_route}
 use Rattle.mapworld.proofs.Outcomes.{element-at}
 use Rattle.mapworld_sound.proofs.Sounds.{sound-step}
@@ -241,8 +241,8 @@ module _ {K V S D T A : Type 0} (x : Setup K V D T) (laws : Laws x) (w : State K
     step_footprint (deed_reads a) = quiet w whole _ (ap (λ (v : State K V S D T A). v.places) a.after) (same_pairs x.eq w w' (ap (λ (v : State K V S D T A). v.tables) a.after)) (keep_locks (ap (λ (v : State K V S D T A). v.locks) a.after)) (ap (λ (v : State K V S D T A). v.replies) a.after)
     step_footprint (deed_changes a) = deed w whole _ (ap (λ (v : State K V S D T A). v.places) a.after) (others_keep (deed_changes a) a.place.shard a.table a.changed a.held (ap (λ (v : State K V S D T A). v.tables) a.after) a.key _ a.puts) (keep_locks (ap (λ (v : State K V S D T A). v.locks) a.after)) (ap (λ (v : State K V S D T A). v.replies) a.after)
     step_footprint (deed_fills a) = deed w whole _ (ap (λ (v : State K V S D T A). v.places) a.after) (others_keep (deed_fills a) a.place.shard a.table a.changed a.held (ap (λ (v : State K V S D T A). v.tables) a.after) a.key _ a.puts) (keep_locks (ap (λ (v : State K V S D T A). v.locks) a.after)) (ap (λ (v : State K V S D T A). v.replies) a.after)
-    step_footprint (downgrade a) = at_lock w whole _ (ap (λ (v : State K V S D T A). v.places) a.after) a.locks (ap (λ (v : State K V S D T A). v.tables) a.after) (ap (λ (v : State K V S D T A). v.locks) a.after) (starts_touch touch s.thread a.hold.shard _ s.fair w.locks a.locks fit a.turns) (ap (λ (v : State K V S D T A). v.replies) a.after)
-    step_footprint (release a) = at_lock w whole _ (ap (λ (v : State K V S D T A). v.places) a.after) a.locks (ap (λ (v : State K V S D T A). v.tables) a.after) (ap (λ (v : State K V S D T A). v.locks) a.after) (starts_touch touch s.thread a.hold.shard _ s.fair w.locks a.locks fit a.gives) (ap (λ (v : State K V S D T A). v.replies) a.after)
+    step_footprint (downgrade a) = at_lock w whole _ (ap (λ (v : State K V S D T A). v.places) a.after) a.locks (ap (λ (v : State K V S D T A). v.tables) a.after) (ap (λ (v : State K V S D T A). v.locks) a.after) (starts_touch touch s.thread a.hold.shard _ s.fair w.locks a.locks refl fit a.turns) (ap (λ (v : State K V S D T A). v.replies) a.after)
+    step_footprint (release a) = at_lock w whole _ (ap (λ (v : State K V S D T A). v.places) a.after) a.locks (ap (λ (v : State K V S D T A). v.tables) a.after) (ap (λ (v : State K V S D T A). v.locks) a.after) (starts_touch touch s.thread a.hold.shard _ s.fair w.locks a.locks (given_kind a.hold.mode) fit a.gives) (ap (λ (v : State K V S D T A). v.replies) a.after)
     step_footprint (answers h) =
         let a = h.answers in
         let r : Reply K V T A = record { thread = s.thread; call = a.place.next; start = a.start; end = next_step h.mid; answer = a.answer } in
@@ -250,8 +250,8 @@ module _ {K V S D T A : Type 0} (x : Setup K V D T) (laws : Laws x) (w : State K
     step_footprint (visit_starts h) = starts_print h.mid (leaving w s.thread h.mid h.leaves) h.starts
     step_footprint (visit_parts h) =
         let a = h.gives in
-        at_lock h.mid (parting w s.thread h.mid h.enters) _ (ap (λ (v : State K V S D T A). v.places) a.after) a.locks (ap (λ (v : State K V S D T A). v.tables) a.after) (ap (λ (v : State K V S D T A). v.locks) a.after) (starts_touch touch s.thread a.hold.shard _ s.fair h.mid.locks a.locks (parting_fit w s.thread h.mid fit h.enters) a.gives) (ap (λ (v : State K V S D T A). v.replies) a.after)
+        at_lock h.mid (parting w s.thread h.mid h.enters) _ (ap (λ (v : State K V S D T A). v.places) a.after) a.locks (ap (λ (v : State K V S D T A). v.tables) a.after) (ap (λ (v : State K V S D T A). v.locks) a.after) (starts_touch touch s.thread a.hold.shard _ s.fair h.mid.locks a.locks (given_kind a.hold.mode) (parting_fit w s.thread h.mid fit h.enters) a.gives) (ap (λ (v : State K V S D T A). v.replies) a.after)
     step_footprint (visit_looks h) = looks_print (visit_looks h) h.mid (visiting w s.thread h.mid h.enters) h.looks
     step_footprint (visit_seeks a) = quiet w whole _ (ap (λ (v : State K V S D T A). v.places) a.after) (same_pairs x.eq w w' (ap (λ (v : State K V S D T A). v.tables) a.after)) (keep_locks (ap (λ (v : State K V S D T A). v.locks) a.after)) (ap (λ (v : State K V S D T A). v.replies) a.after)
     step_footprint (visit_does a) = deed w whole _ (ap (λ (v : State K V S D T A). v.places) a.after) (item_keeps (visit_does a) a.place.shard a.walk a.table a.changed a.pair a.held (ap (λ (v : State K V S D T A). v.tables) a.after) (item-puts x.deeds x.eq a.walk a.table a.changed a.pair a.item)) (keep_locks (ap (λ (v : State K V S D T A). v.locks) a.after)) (ap (λ (v : State K V S D T A). v.replies) a.after)
-    step_footprint (visit_gives a) = at_lock w whole _ (ap (λ (v : State K V S D T A). v.places) a.after) a.locks (ap (λ (v : State K V S D T A). v.tables) a.after) (ap (λ (v : State K V S D T A). v.locks) a.after) (starts_touch touch s.thread a.hold.shard _ s.fair w.locks a.locks fit a.gives) (ap (λ (v : State K V S D T A). v.replies) a.after)
+    step_footprint (visit_gives a) = at_lock w whole _ (ap (λ (v : State K V S D T A). v.places) a.after) a.locks (ap (λ (v : State K V S D T A). v.tables) a.after) (ap (λ (v : State K V S D T A). v.locks) a.after) (starts_touch touch s.thread a.hold.shard _ s.fair w.locks a.locks (given_kind a.hold.mode) fit a.gives) (ap (λ (v : State K V S D T A). v.replies) a.after)

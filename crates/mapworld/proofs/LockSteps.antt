@@ -1,28 +1,35 @@
 -- What the steps of a lock reach: one word or one queue, of one shard.
 use Rattle.std.proofs.Common.{◌≡◌, ◌≢◌, ℕ, zero, suc, inl, inr, Bool, true, false, List, [], ◌∷◌, length, Option, Some, None, slice_get, slice_set, refl, sym, ap, ◌∙◌, subst, arith}
 use Rattle.std.specs.Option.{option_and_then, option_map}
-use Rattle.std.proofs.lemmas.Bool.{cases_eq}
+use Rattle.std.proofs.lemmas.Bool.{cases_eq, false≢true}
 use Rattle.std.proofs.lemmas.Option.{none-some, same_Some}
 use Rattle.lock_api_desk.specs.Desk.{DeskState}
 use Rattle.parking_lot_protocol.specs.declared.act.Act.{Act}
 use Rattle.parking_lot_protocol.specs.declared.act.ActResult.TheVariants.{Start}
 use Rattle.parking_lot_protocol.specs.declared.act.CoreAnswer.{CoreAnswer}
 use Rattle.parking_lot_world.specs.declared.calls.LockCall.{LockCall}
+use Rattle.parking_lot_world.specs.declared.calls.LockCall.TheVariants as ask
+use Rattle.parking_lot_world.specs.declared.calls.LockKind.{LockKind}
 use Rattle.parking_lot_world.specs.declared.open_call.Call.{Call}
+use Rattle.parking_lot_world.specs.Beginnings.{core_of}
+use Rattle.parking_lot_world.specs.Kinds.{kind_in}
 use Rattle.parking_lot_world.specs.Machines.{Became, call_for, end_of}
 use Rattle.parking_lot_world.specs.RowActs.{answered, begun, hears}
 use Rattle.parking_lot_world.specs.Rows.{State, call_at, first_key, queue_at, second_key, state, word_at}
-use Rattle.parking_lot_world.specs.Stances.{core_act}
-use Rattle.mapworld_locks.specs.Fits.{IsPlain, LocksFit}
+use Rattle.parking_lot_world.specs.Stances.{core_act, core_next}
+use Rattle.mapworld_locks.specs.Fits.{IsPlain, LocksFit, is_plain}
 use Rattle.mapworld_locks.specs.Footprints.{StepsTouchOneLock, TouchesOnly}
 use Rattle.mapworld_locks.specs.Seats.{seat_of}
-use Rattle.mapworld_locks.specs.Stands.{Stand, stand_of}
+use Rattle.mapworld_locks.specs.Stands.{Stand, is_of_shards, stand_of}
 use Rattle.mapworld_locks.specs.Steps.{LockBegins, LockEnds, LockMoves, LockStarts}
 use Rattle.mapworld_locks.specs.Views.{Shown}
 use Rattle.mapworld_locks.proofs.Answering.{stepped_fits}
 use Rattle.mapworld_locks.proofs.Beginning.{begun_alone, same_holds}
 use Rattle.mapworld_locks.proofs.Keeping.{stepped_plain}
 use Rattle.mapworld_calls.proofs.Lists.{slice_get-set_other}
+use Rattle.mapworld_state.specs.declared.holds.Mode.{Mode}
+use Rattle.mapworld_state.specs.declared.holds.Mode.TheVariants.{Shared, Exclusive}
+use Rattle.mapworld_state.specs.Holds.{gives_up}
 use Rattle.mapworld_state.specs.Footprint.{ChangesLock, KeepsLock, KeepsLocks, first_queue, second_queue, the_word}
 use Rattle.mapworld.proofs.Filling.{length-slice_set}
 use Rattle.mapworld_progress.proofs.Sleepers.{all_at}
@@ -38,8 +45,23 @@ there : (o : Option (Option Call)) (d : Call) → option_and_then (λ c. c) o �
 there None d e = absurd (none-some d e)
 there (Some o) d e = ap Some e
 
-begun_plain : (s : State) (t : ℕ) (c : Call) → IsPlain s → c.others ≡ 0 → IsPlain (begun s t c)
-begun_plain s t c plain none = record {
+pub given_kind : (mode : Mode) → is_of_shards (gives_up mode) ≡ true
+given_kind Shared = refl
+given_kind Exclusive = refl
+
+-- a shard's call goes by a core of readers and writers
+shards_core : (x : LockKind) (call : LockCall) → is_of_shards call ≡ true → is_plain (core_next (core_of x call) Start) ≡ true
+shards_core x ask.Read k = refl
+shards_core x ask.TryRead k = refl
+shards_core x ask.UnlockRead k = refl
+shards_core x ask.Write k = refl
+shards_core x ask.TryWrite k = refl
+shards_core x ask.UnlockWrite k = refl
+shards_core x ask.Downgrade k = refl
+shards_core x other k = absurd (false≢true k)
+
+begun_plain : (s : State) (t : ℕ) (c : Call) → IsPlain s → c.others ≡ 0 → is_plain (hears c Start).core ≡ true → IsPlain (begun s t c)
+begun_plain s t c plain none so = record {
   kinds = plain.kinds;
   single = plain.single;
   alone = λ v d at. elim (cases_eq v t) [
@@ -48,6 +70,13 @@ begun_plain s t c plain none = record {
         let here = set_at s.calls t (Some now) (Some d) (ap (λ u. slice_get (slice_set s.calls t (Some now)) u) (sym e) ∙ there (slice_get (begun s t c).calls v) d at) in
         ap (λ (b : Call). b.others) (same_Some d now here) ∙ none
     | inr ne ↦ plain.alone v d (ap (λ o. option_and_then (λ b. b) o) (sym (slice_get-set_other s.calls t v _ (λ e. ne (sym e)))) ∙ at)
+  ];
+  cores = λ v d at. elim (cases_eq v t) [
+    | inl e ↦
+        let now : Call = hears c Start in
+        let here = set_at s.calls t (Some now) (Some d) (ap (λ u. slice_get (slice_set s.calls t (Some now)) u) (sym e) ∙ there (slice_get (begun s t c).calls v) d at) in
+        ap (λ (b : Call). is_plain b.core) (same_Some d now here) ∙ so
+    | inr ne ↦ plain.cores v d (ap (λ o. option_and_then (λ b. b) o) (sym (slice_get-set_other s.calls t v _ (λ e. ne (sym e)))) ∙ at)
   ];
 }
 
@@ -60,13 +89,13 @@ module _ (t shard : ℕ) (call : LockCall) (old mid : Shown) (b : LockBegins t s
   abbrev s : State
   s = state old.rows
 
-  pub begins_fit : LocksFit old → LocksFit mid
-  begins_fit fit =
+  pub begins_fit : is_of_shards call ≡ true → LocksFit old → LocksFit mid
+  begins_fit kind fit =
       let kinds = ap (λ (u : State). length u.kinds) b.became.became in
       let calls = ap (λ (u : State). length u.calls) b.became.became ∙ length-slice_set s.calls t _ in
       record {
         fits = b.became.acts.fits;
-        plain = subst IsPlain (sym b.became.became) (begun_plain s t (call_for s t shard call) fit.plain (begun_alone s (state mid.rows) t shard call fit.plain.kinds fit.plain.single (called (call_at (state mid.rows) t) _ b.stand).0 (called (call_at (state mid.rows) t) _ b.stand).1 b.became));
+        plain = subst IsPlain (sym b.became.became) (begun_plain s t (call_for s t shard call) fit.plain (begun_alone s (state mid.rows) t shard call fit.plain.kinds fit.plain.single (called (call_at (state mid.rows) t) _ b.stand).0 (called (call_at (state mid.rows) t) _ b.stand).1 b.became) (shards_core (kind_in s.kinds shard) call kind));
         count = ap length b.desks ∙ (fit.count ∙ sym kinds);
         desks_fit = λ i desk at.
             let d = fit.desks_fit i desk (ap (λ (ds : List (DeskState _)). slice_get ds i) (sym b.desks) ∙ at) in
@@ -164,6 +193,6 @@ keeps_behind old mid new a b i = keeps_both old mid new i (a i) (b i)
 pub touches_behind : (old mid new : Shown) → KeepsLocks old mid → TouchesLock mid new → TouchesLock old new
 touches_behind old mid new a b = record { shard = b.shard; others = λ i ne. keeps_both old mid new i (a i) (b.others i ne); here = changes_behind old mid new b.shard (a b.shard) b.here }
 
-pub starts_touch : StepsTouchOneLock → (t shard : ℕ) (call : LockCall) (fair : Bool) (old new : Shown) → LocksFit old → LockStarts t shard call fair old new → TouchesLock old new
-starts_touch touch t shard call fair old new fit x =
-    touches_behind old x.mid new (begins_keep t shard call old x.mid x.begins) (moves_touch touch t fair x.mid new (begins_fit t shard call old x.mid x.begins fit) x.moves)
+pub starts_touch : StepsTouchOneLock → (t shard : ℕ) (call : LockCall) (fair : Bool) (old new : Shown) → is_of_shards call ≡ true → LocksFit old → LockStarts t shard call fair old new → TouchesLock old new
+starts_touch touch t shard call fair old new kind fit x =
+    touches_behind old x.mid new (begins_keep t shard call old x.mid x.begins) (moves_touch touch t fair x.mid new (begins_fit t shard call old x.mid x.begins kind fit) x.moves)
