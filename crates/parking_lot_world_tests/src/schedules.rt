@@ -172,6 +172,6 @@ fn every_schedule_at_a_recursive_lock_keeps_the_rules(rt: HostRuntime) -> Result
         two(LockCall::Write, LockCall::Downgrade),
     ];
     let states = explore_all(&rt, LockKind::RwRecursive, &programs)?;
-    assert!(rt; states >= 50_000, "{states} states");
+    assert!(rt; states >= 26_000, "{states} states");
     Ok(())
 }
