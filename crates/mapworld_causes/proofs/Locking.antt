@@ -63,6 +63,13 @@ module _ (t : ℕ) where
   start-unseen k LockCall.TryWrite = refl
   start-unseen k LockCall.UnlockWrite = refl
   start-unseen k LockCall.Downgrade = refl
+  start-unseen k LockCall.UpgradableRead = refl
+  start-unseen k LockCall.TryUpgradableRead = refl
+  start-unseen k LockCall.UnlockUpgradable = refl
+  start-unseen k LockCall.Upgrade = refl
+  start-unseen k LockCall.TryUpgrade = refl
+  start-unseen k LockCall.DowngradeToUpgradable = refl
+  start-unseen k LockCall.DowngradeUpgradable = refl
 
   pub begins-blind : (shard : ℕ) (call : LockCall) (old new : Shown) → LockBegins t shard call old new → sees (call_at (state new.rows) t) ≡ false
   begins-blind shard call old new h =
@@ -85,6 +92,7 @@ module _ (t : ℕ) where
 pub seen-tries : (k : Core) → has_seen k ≡ true → core_tries k ≡ true
 seen-tries (Core.Mutex c) h = absurd (false≢true h)
 seen-tries (Core.Late c) h = absurd (false≢true h)
+seen-tries (Core.Upgrade c) h = absurd (false≢true h)
 seen-tries (Core.Rw c) h = by c.phase h
   where
     by : (p : RwPhase) → has_seen_in p ≡ true → is_trying p ≡ true
@@ -95,6 +103,7 @@ seen-tries (Core.Rw c) h = by c.phase h
 pub tries-gets : (k : Core) → core_tries k ≡ true → (m : _) × (core_aim k ≡ Gets m)
 tries-gets (Core.Mutex c) h = absurd (false≢true h)
 tries-gets (Core.Late c) h = absurd (false≢true h)
+tries-gets (Core.Upgrade c) h = absurd (false≢true h)
 tries-gets (Core.Rw c) h = by c.phase h
   where
     aim : (want : LockMode) → (m : _) × (aim_for want ≡ Gets m)

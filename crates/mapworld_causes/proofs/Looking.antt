@@ -100,9 +100,9 @@ module _ (s : State) (t : ℕ) (c : Call) (v : ℕ) (ne : v ≢ t) where
 
   kept-inside : (k : SectionAct) (fair : Bool) (u : State) → BecameInside k t fair c s u → Kept u.calls
   kept-inside SectionAct.Check fair u e = is u _ e (told _)
-  kept-inside SectionAct.TakeFirst fair u (k, stands, inl (w, first, e)) = is u _ e (taken w.thread _)
+  kept-inside SectionAct.TakeFirst fair u (k, stands, inl (n, w, first, e)) = is u _ e (taken w.thread _)
   kept-inside SectionAct.TakeFirst fair u (k, stands, inr (empty, e)) = is u _ e (told _)
-  kept-inside (SectionAct.TakeNext sum) fair u (k, stands, inl (w, first, e)) = is u _ e (taken w.thread _)
+  kept-inside (SectionAct.TakeNext sum) fair u (k, stands, inl (n, w, first, e)) = is u _ e (taken w.thread _)
   kept-inside (SectionAct.TakeNext sum) fair u (k, stands, inr (empty, e)) = is u _ e (told _)
   kept-inside (SectionAct.Append token) fair u (k, stands, e) = is u _ e (told _)
   kept-inside (SectionAct.Store plain handing) fair u e = is u _ e (says _ _)
@@ -168,9 +168,9 @@ module _ (s : State) (t : ℕ) (c : Call) where
 
   told-inside : (k : SectionAct) (fair : Bool) (u : State) → BecameInside k t fair c s u → WasTold u.calls
   told-inside SectionAct.Check fair u e = was u _ e (heard _ _)
-  told-inside SectionAct.TakeFirst fair u (k, stands, inl (w, first, e)) = was u _ e (heard _ _)
+  told-inside SectionAct.TakeFirst fair u (k, stands, inl (n, w, first, e)) = was u _ e (heard _ _)
   told-inside SectionAct.TakeFirst fair u (k, stands, inr (empty, e)) = was u _ e (heard _ _)
-  told-inside (SectionAct.TakeNext sum) fair u (k, stands, inl (w, first, e)) = was u _ e (heard _ _)
+  told-inside (SectionAct.TakeNext sum) fair u (k, stands, inl (n, w, first, e)) = was u _ e (heard _ _)
   told-inside (SectionAct.TakeNext sum) fair u (k, stands, inr (empty, e)) = was u _ e (heard _ _)
   told-inside (SectionAct.Append token) fair u (k, stands, e) = was u _ e (joined _ _ ActResult.Made refl)
   told-inside (SectionAct.Store plain handing) fair u e = was u _ e (said _ _ _)
@@ -237,5 +237,6 @@ own-sees s u t fair x seen = by-core x.call.core refl
 
     by-core : (q : Core) → x.call.core ≡ q → Sees s t x.call
     by-core (Core.Mutex k) core = absurd (false≢true (sym (ap (λ q. has_seen (core_next q told.told)) core) ∙ told.seen))
+    by-core (Core.Upgrade k) core = absurd (false≢true (sym (ap (λ q. has_seen (core_next q told.told)) core) ∙ told.seen))
     by-core (Core.Late p) core = absurd (false≢true (sym (ap (λ q. has_seen (core_next q told.told)) core ∙ late-unseen p told.told) ∙ told.seen))
     by-core (Core.Rw k) core = by-phase k core k.phase refl

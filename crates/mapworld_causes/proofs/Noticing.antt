@@ -174,6 +174,7 @@ late-unseen p told = refl
 -- nor has one that is woken
 pub woken-unseen : (k : Core) (token : UnparkToken) → has_seen (core_next k (ActResult.Woken token)) ≡ false
 woken-unseen (Core.Mutex c) token = refl
+woken-unseen (Core.Upgrade c) token = refl
 woken-unseen (Core.Late p) token = late-unseen p (ActResult.Woken token)
 woken-unseen (Core.Rw c) token = elim (either-is (looks_in c.phase)) [
   | inl looks ↦ by c.phase looks

@@ -26,7 +26,7 @@ use Rattle.parking_lot_world.specs.Rows.{State, call_at, hold_at, owned_of, rw_c
 use Rattle.parking_lot_world.specs.RowFits.{IsOfKind}
 use Rattle.parking_lot_world.specs.Stances.{core_act}
 use Rattle.parking_lot_world.specs.Worlds.{mode_in}
-use Rattle.mapworld_locks.specs.Fits.{LocksFit}
+use Rattle.mapworld_locks.specs.Fits.{IsOrdinary, LocksFit}
 use Rattle.mapworld_locks.specs.Views.{Shown, held_as, owner_in}
 use Rattle.mapworld_locks.proofs.Handing.{is_rw, goes_by, no_mutex}
 use Rattle.mapworld_locks.proofs.Lists.{all_at, among_all, one_of_all}
@@ -80,12 +80,13 @@ module _ (sh : Shown) (fit : LocksFit sh) (t : ℕ) (c : Call) (here : call_at (
   no-mutex e = no_mutex (goes_by s i AsMutex fit.plain.kinds e)
 
   asleep : laws.is_asleep (rw_role_at s i t).does ≡ true
-  asleep = ap (λ r. laws.is_asleep r.does) own-role ∙ by c.core sleeping (fit.fits.rules.kinds t c here)
+  asleep = ap (λ r. laws.is_asleep r.does) own-role ∙ by c.core sleeping (fit.fits.rules.kinds t c here) (fit.plain.alone t c here).1
     where
-      by : (k : Core) → sleeps (core_act k) ≡ true → IsOfKind (slice_get s.kinds i) k → laws.is_asleep (rw_core_role c.others c.spot (taken_by s.wakes t) k).does ≡ true
-      by (Core.Rw k) e is = phase-asleep c.spot (taken_by s.wakes t) k.phase e
-      by (Core.Mutex k) e is = absurd (no-mutex is)
-      by (Core.Late k) e is = absurd (no-mutex is)
+      by : (k : Core) → sleeps (core_act k) ≡ true → IsOfKind (slice_get s.kinds i) k → IsOrdinary k → laws.is_asleep (rw_core_role c.others c.spot (taken_by s.wakes t) k).does ≡ true
+      by (Core.Rw k) e is plain = phase-asleep c.spot (taken_by s.wakes t) k.phase e
+      by (Core.Mutex k) e is plain = absurd (no-mutex is)
+      by (Core.Late k) e is plain = absurd (no-mutex is)
+      by (Core.Upgrade k) e is plain = absurd plain
 
   low : t < length s.calls
   low = by (slice_get s.calls t) refl
@@ -135,6 +136,7 @@ module _ (sh : Shown) (fit : LocksFit sh) (t : ℕ) (c : Call) (here : call_at (
       by (Hold.Shares zero) some is = absurd (some refl)
       by (Hold.Shares (suc n)) some is = keeps held.Shared is
       by Hold.Excludes some is = keeps held.Exclusive is
+      by Hold.Upgrades some is = keeps held.Upgradable is
 
   pub around : IsAround sh i v
   around = by (call_at s v) refl

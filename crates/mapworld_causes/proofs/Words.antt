@@ -90,6 +90,7 @@ idle-owns : (c : Class) (h : Hold) → 0 < weight c (record { owns = owned_of h;
 idle-owns c (Hold.Shares zero) some = absurd (omega (arith, some, away_weighs c))
 idle-owns c (Hold.Shares (suc n)) some = (held.Shared, refl)
 idle-owns c Hold.Excludes some = (held.Exclusive, refl)
+idle-owns c Hold.Upgrades some = (held.Upgradable, refl)
 
 -- what somebody has to do with a lock: it owns it and is in no call there, or is in a call there that isn't a try without success
 pub data IsThere (sh : Shown) (i t : ℕ) : Type 0 where
@@ -100,6 +101,7 @@ pub data IsThere (sh : Shown) (i t : ℕ) : Type 0 where
 tries-nothing : (n : ℕ) (k : Core) (at : QueuePosition) (us : List ℕ) → n ≡ 0 → core_tries k ≡ true → (c : Class) → weight c (rw_core_role n at us k) ≡ 0
 tries-nothing n (Core.Mutex k) at us none tries c = absurd (false≢true tries)
 tries-nothing n (Core.Late k) at us none tries c = absurd (false≢true tries)
+tries-nothing n (Core.Upgrade k) at us none tries c = absurd (false≢true tries)
 tries-nothing n (Core.Rw k) at us none tries c = by k.phase tries ∙ refl
   where
     asks : (m : rules.Mode) → weight c (record { owns = Shares n; does = Seeks m false }) ≡ 0
@@ -142,7 +144,7 @@ module _ (sh : Shown) (fit : LocksFit sh) (i : ℕ) (word : word_at (state sh.ro
 
       by : (b : Bool) → core_tries c.core ≡ b → IsThere sh i who
       by false e = calls c at (eqb-true c.lock i is) e
-      by true e = absurd (omega (arith, one.some, ap (weight one.class) role, tries-nothing c.others c.core c.spot (taken_by s.wakes who) (fit.plain.alone who c at) e one.class))
+      by true e = absurd (omega (arith, one.some, ap (weight one.class) role, tries-nothing c.others c.core c.spot (taken_by s.wakes who) (fit.plain.alone who c at).0 e one.class))
 
   pub there : IsThere sh i who
   there = by (call_at s who) refl

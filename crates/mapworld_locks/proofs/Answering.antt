@@ -37,7 +37,7 @@ is_answer s u t fair c end (Act.Done answer) e b = (b, refl)
 pub answer_leaves_holds : (laws : StepsAreCases) (s u : State) (t : ℕ) (fair : Bool) (end : CoreAnswer) → FitsTogether s → IsPlain s → (x : IsStepped t fair (Some end) s u) → (v : ℕ) → held_at u x.call.lock v ≡ held_at s x.call.lock v
 answer_leaves_holds laws s u t fair end h plain x v =
     let (is, done) = is_answer s u t fair x.call end (core_act x.call.core) x.answers x.became in
-    let own : held_at u x.call.lock t ≡ held_at s x.call.lock t = ap (λ w. held_at w x.call.lock t) is ∙ answered_holds s t x.call h plain.kinds x.here done in
+    let own : held_at u x.call.lock t ≡ held_at s x.call.lock t = ap (λ w. held_at w x.call.lock t) is ∙ answered_holds s t x.call h plain.kinds x.here (plain.alone t x.call x.here).1 done in
     elim (cases_eq v t) [
       | inl e ↦ ap (held_at u x.call.lock) e ∙ own ∙ ap (held_at s x.call.lock) (sym e)
       | inr ne ↦ elim (others laws s u t fair (Some end) h plain.kinds (stepped_plain s u t fair (Some end) plain x).kinds plain.alone x v ne) [

@@ -27,6 +27,8 @@ use Rattle.parking_lot_world.specs.RowFits.{FitsTogether, Asks, IsPrepared}
 use Rattle.parking_lot_world.specs.Rows.{Rows, State, call_at, hold_at, owned_of, rw_core_role, rw_role_at, rw_role_in, state, taken_by}
 use Rattle.parking_lot_world.specs.Stances.{core_next}
 use Rattle.parking_lot_world.specs.Worlds.{hold_mode}
+use Rattle.mapworld_locks.specs.Fits.{IsOrdinary}
+use Rattle.mapworld_locks.specs.Stands.{is_of_shards}
 use Rattle.mapworld_locks.specs.Aims.{aim_of}
 use Rattle.mapworld_locks.specs.Fits.{IsPlain, LocksFit, is_single}
 use Rattle.mapworld_locks.specs.Seats.{seat_of}
@@ -71,11 +73,13 @@ single_less (Hold.Shares zero) is = refl
 single_less (Hold.Shares (suc zero)) is = refl
 single_less (Hold.Shares (suc (suc n))) is = absurd (false≢true is)
 single_less Hold.Excludes is = refl
+single_less Hold.Upgrades is = refl
 
 none_held : (h : Hold) → owns_nothing h ≡ true → shares_of h ≡ 0
 none_held (Hold.Shares zero) may = refl
 none_held (Hold.Shares (suc n)) may = absurd (false≢true may)
 none_held Hold.Excludes may = refl
+none_held Hold.Upgrades may = refl
 
 none_beside : (call : LockCall) (h : Hold) → is_allowed kind.Rw h call ≡ true → is_single h ≡ true → holds_beside call h ≡ 0
 none_beside LockCall.Read h may is = none_held h may
@@ -94,71 +98,128 @@ pub differ : (a b : Option Mode) → mode_number a ≢ mode_number b → a ≢ b
 differ a b ne e = ne (ap mode_number e)
 
 -- one that holds as the call needs may make it
-allowed : (h : Hold) (call : LockCall) → manner_for call ≡ AsRw → held_as (hold_mode (Some kind.Rw) h) ≡ needs call → is_allowed kind.Rw h call ≡ true
-allowed h LockCall.Lock k e = absurd (no_mutex k)
-allowed h LockCall.TryLock k e = absurd (no_mutex k)
-allowed h LockCall.LockUntil k e = absurd (no_mutex k)
-allowed h LockCall.Unlock k e = absurd (no_mutex k)
+allowed : (h : Hold) (call : LockCall) → is_of_shards call ≡ true → held_as (hold_mode (Some kind.Rw) h) ≡ needs call → is_allowed kind.Rw h call ≡ true
+allowed h LockCall.Lock k e = absurd (false≢true k)
+allowed h LockCall.TryLock k e = absurd (false≢true k)
+allowed h LockCall.LockUntil k e = absurd (false≢true k)
+allowed h LockCall.Unlock k e = absurd (false≢true k)
+allowed h LockCall.UpgradableRead k e = absurd (false≢true k)
+allowed h LockCall.TryUpgradableRead k e = absurd (false≢true k)
+allowed h LockCall.UnlockUpgradable k e = absurd (false≢true k)
+allowed h LockCall.Upgrade k e = absurd (false≢true k)
+allowed h LockCall.TryUpgrade k e = absurd (false≢true k)
+allowed h LockCall.DowngradeToUpgradable k e = absurd (false≢true k)
+allowed h LockCall.DowngradeUpgradable k e = absurd (false≢true k)
 allowed (Hold.Shares zero) LockCall.Read k e = refl
 allowed (Hold.Shares (suc n)) LockCall.Read k e = absurd (differ _ _ (λ n. omega (arith, n)) e)
 allowed Hold.Excludes LockCall.Read k e = absurd (differ _ _ (λ n. omega (arith, n)) e)
+allowed Hold.Upgrades LockCall.Read k e = absurd (differ _ _ (λ n. omega (arith, n)) e)
 allowed (Hold.Shares zero) LockCall.TryRead k e = refl
 allowed (Hold.Shares (suc n)) LockCall.TryRead k e = absurd (differ _ _ (λ n. omega (arith, n)) e)
 allowed Hold.Excludes LockCall.TryRead k e = absurd (differ _ _ (λ n. omega (arith, n)) e)
+allowed Hold.Upgrades LockCall.TryRead k e = absurd (differ _ _ (λ n. omega (arith, n)) e)
 allowed (Hold.Shares zero) LockCall.UnlockRead k e = absurd (differ _ _ (λ n. omega (arith, n)) e)
 allowed (Hold.Shares (suc n)) LockCall.UnlockRead k e = refl
 allowed Hold.Excludes LockCall.UnlockRead k e = absurd (differ _ _ (λ n. omega (arith, n)) e)
+allowed Hold.Upgrades LockCall.UnlockRead k e = absurd (differ _ _ (λ n. omega (arith, n)) e)
 allowed (Hold.Shares zero) LockCall.Write k e = refl
 allowed (Hold.Shares (suc n)) LockCall.Write k e = absurd (differ _ _ (λ n. omega (arith, n)) e)
 allowed Hold.Excludes LockCall.Write k e = absurd (differ _ _ (λ n. omega (arith, n)) e)
+allowed Hold.Upgrades LockCall.Write k e = absurd (differ _ _ (λ n. omega (arith, n)) e)
 allowed (Hold.Shares zero) LockCall.TryWrite k e = refl
 allowed (Hold.Shares (suc n)) LockCall.TryWrite k e = absurd (differ _ _ (λ n. omega (arith, n)) e)
 allowed Hold.Excludes LockCall.TryWrite k e = absurd (differ _ _ (λ n. omega (arith, n)) e)
+allowed Hold.Upgrades LockCall.TryWrite k e = absurd (differ _ _ (λ n. omega (arith, n)) e)
 allowed (Hold.Shares zero) LockCall.UnlockWrite k e = absurd (differ _ _ (λ n. omega (arith, n)) e)
 allowed (Hold.Shares (suc n)) LockCall.UnlockWrite k e = absurd (differ _ _ (λ n. omega (arith, n)) e)
 allowed Hold.Excludes LockCall.UnlockWrite k e = refl
+allowed Hold.Upgrades LockCall.UnlockWrite k e = absurd (differ _ _ (λ n. omega (arith, n)) e)
 allowed (Hold.Shares zero) LockCall.Downgrade k e = absurd (differ _ _ (λ n. omega (arith, n)) e)
 allowed (Hold.Shares (suc n)) LockCall.Downgrade k e = absurd (differ _ _ (λ n. omega (arith, n)) e)
 allowed Hold.Excludes LockCall.Downgrade k e = refl
+allowed Hold.Upgrades LockCall.Downgrade k e = absurd (differ _ _ (λ n. omega (arith, n)) e)
+
+-- such a call goes by the rules of reader-writer locks
+pub shards_manner : (call : LockCall) → is_of_shards call ≡ true → manner_for call ≡ AsRw
+shards_manner LockCall.Read k = refl
+shards_manner LockCall.TryRead k = refl
+shards_manner LockCall.UnlockRead k = refl
+shards_manner LockCall.Write k = refl
+shards_manner LockCall.TryWrite k = refl
+shards_manner LockCall.UnlockWrite k = refl
+shards_manner LockCall.Downgrade k = refl
+shards_manner call k = absurd (false≢true k)
+
+-- and is none of the upgradable hold
+pub shards_ordinary : (x : LockKind) (call : LockCall) → is_of_shards call ≡ true → IsOrdinary (core_next (core_of x call) ActResult.Start)
+shards_ordinary x LockCall.Read k = tt
+shards_ordinary x LockCall.TryRead k = tt
+shards_ordinary x LockCall.UnlockRead k = tt
+shards_ordinary x LockCall.Write k = tt
+shards_ordinary x LockCall.TryWrite k = tt
+shards_ordinary x LockCall.UnlockWrite k = tt
+shards_ordinary x LockCall.Downgrade k = tt
+shards_ordinary x call k = absurd (false≢true k)
 
 shares_again : (n : ℕ) → suc n - 1 + 1 ≡ suc n
 shares_again n = omega arith
 
 -- and holds the lock in its call as before
-begun_mode : (x : LockKind) (h : Hold) (call : LockCall) (us : List ℕ) → manner_for call ≡ AsRw → is_allowed kind.Rw h call ≡ true
+begun_mode : (x : LockKind) (h : Hold) (call : LockCall) (us : List ℕ) → is_of_shards call ≡ true → is_allowed kind.Rw h call ≡ true
     → rw_mode (rw_core_role (holds_beside call h) QueuePosition.Listed us (core_next (core_of x call) ActResult.Start)) ≡ rw_mode (record { owns = owned_of h; does = Idle })
-begun_mode x h LockCall.Lock us k e = absurd (no_mutex k)
-begun_mode x h LockCall.TryLock us k e = absurd (no_mutex k)
-begun_mode x h LockCall.LockUntil us k e = absurd (no_mutex k)
-begun_mode x h LockCall.Unlock us k e = absurd (no_mutex k)
+begun_mode x h LockCall.Lock us k e = absurd (false≢true k)
+begun_mode x h LockCall.TryLock us k e = absurd (false≢true k)
+begun_mode x h LockCall.LockUntil us k e = absurd (false≢true k)
+begun_mode x h LockCall.Unlock us k e = absurd (false≢true k)
+begun_mode x h LockCall.UpgradableRead us k e = absurd (false≢true k)
+begun_mode x h LockCall.TryUpgradableRead us k e = absurd (false≢true k)
+begun_mode x h LockCall.UnlockUpgradable us k e = absurd (false≢true k)
+begun_mode x h LockCall.Upgrade us k e = absurd (false≢true k)
+begun_mode x h LockCall.TryUpgrade us k e = absurd (false≢true k)
+begun_mode x h LockCall.DowngradeToUpgradable us k e = absurd (false≢true k)
+begun_mode x h LockCall.DowngradeUpgradable us k e = absurd (false≢true k)
 begun_mode x (Hold.Shares zero) LockCall.Read us k e = refl
 begun_mode x (Hold.Shares (suc n)) LockCall.Read us k e = absurd (false≢true e)
 begun_mode x Hold.Excludes LockCall.Read us k e = absurd (false≢true e)
+begun_mode x Hold.Upgrades LockCall.Read us k e = absurd (false≢true e)
 begun_mode x (Hold.Shares zero) LockCall.TryRead us k e = refl
 begun_mode x (Hold.Shares (suc n)) LockCall.TryRead us k e = absurd (false≢true e)
 begun_mode x Hold.Excludes LockCall.TryRead us k e = absurd (false≢true e)
+begun_mode x Hold.Upgrades LockCall.TryRead us k e = absurd (false≢true e)
 begun_mode x (Hold.Shares zero) LockCall.UnlockRead us k e = absurd (false≢true e)
 begun_mode x (Hold.Shares (suc n)) LockCall.UnlockRead us k e = ap (λ m. mode_of (Reading m)) (shares_again n)
 begun_mode x Hold.Excludes LockCall.UnlockRead us k e = absurd (false≢true e)
+begun_mode x Hold.Upgrades LockCall.UnlockRead us k e = absurd (false≢true e)
 begun_mode x (Hold.Shares zero) LockCall.Write us k e = refl
 begun_mode x (Hold.Shares (suc n)) LockCall.Write us k e = absurd (false≢true e)
 begun_mode x Hold.Excludes LockCall.Write us k e = absurd (false≢true e)
+begun_mode x Hold.Upgrades LockCall.Write us k e = absurd (false≢true e)
 begun_mode x (Hold.Shares zero) LockCall.TryWrite us k e = refl
 begun_mode x (Hold.Shares (suc n)) LockCall.TryWrite us k e = absurd (false≢true e)
 begun_mode x Hold.Excludes LockCall.TryWrite us k e = absurd (false≢true e)
+begun_mode x Hold.Upgrades LockCall.TryWrite us k e = absurd (false≢true e)
 begun_mode x (Hold.Shares zero) LockCall.UnlockWrite us k e = absurd (false≢true e)
 begun_mode x (Hold.Shares (suc n)) LockCall.UnlockWrite us k e = absurd (false≢true e)
 begun_mode x Hold.Excludes LockCall.UnlockWrite us k e = refl
+begun_mode x Hold.Upgrades LockCall.UnlockWrite us k e = absurd (false≢true e)
 begun_mode x (Hold.Shares zero) LockCall.Downgrade us k e = absurd (false≢true e)
 begun_mode x (Hold.Shares (suc n)) LockCall.Downgrade us k e = absurd (false≢true e)
 begun_mode x Hold.Excludes LockCall.Downgrade us k e = refl
+begun_mode x Hold.Upgrades LockCall.Downgrade us k e = absurd (false≢true e)
 
 -- and is about what it is for
-begun_stand : (x : LockKind) (i n : ℕ) (call : LockCall) → manner_for call ≡ AsRw → stand_of (record { lock = i; others = n; core = core_next (core_of x call) ActResult.Start; spot = QueuePosition.Listed; timed = is_timed call }) ≡ record { shard = i; aim = aim_of call; trying = is_try call }
-begun_stand x i n LockCall.Lock k = absurd (no_mutex k)
-begun_stand x i n LockCall.TryLock k = absurd (no_mutex k)
-begun_stand x i n LockCall.LockUntil k = absurd (no_mutex k)
-begun_stand x i n LockCall.Unlock k = absurd (no_mutex k)
+begun_stand : (x : LockKind) (i n : ℕ) (call : LockCall) → is_of_shards call ≡ true → stand_of (record { lock = i; others = n; core = core_next (core_of x call) ActResult.Start; spot = QueuePosition.Listed; timed = is_timed call }) ≡ record { shard = i; aim = aim_of call; trying = is_try call }
+begun_stand x i n LockCall.Lock k = absurd (false≢true k)
+begun_stand x i n LockCall.TryLock k = absurd (false≢true k)
+begun_stand x i n LockCall.LockUntil k = absurd (false≢true k)
+begun_stand x i n LockCall.Unlock k = absurd (false≢true k)
+begun_stand x i n LockCall.UpgradableRead k = absurd (false≢true k)
+begun_stand x i n LockCall.TryUpgradableRead k = absurd (false≢true k)
+begun_stand x i n LockCall.UnlockUpgradable k = absurd (false≢true k)
+begun_stand x i n LockCall.Upgrade k = absurd (false≢true k)
+begun_stand x i n LockCall.TryUpgrade k = absurd (false≢true k)
+begun_stand x i n LockCall.DowngradeToUpgradable k = absurd (false≢true k)
+begun_stand x i n LockCall.DowngradeUpgradable k = absurd (false≢true k)
 begun_stand x i n LockCall.Read k = refl
 begun_stand x i n LockCall.TryRead k = refl
 begun_stand x i n LockCall.UnlockRead k = refl
@@ -209,7 +270,7 @@ module _ (old : Shown) (fit : LocksFit old) (t i : ℕ) (call : LockCall) (ask :
   allowed_so = ap (λ o. is_allowed (unwrap_or o kind.Rw) h call) here_rw ∙ is_allowed_here
 
   of_kind : takes (slice_get s.kinds i) call ≡ true
-  of_kind = ap (λ k. takes k call) here_rw ∙ ap (is_manner (Some AsRw)) ask.of_kind
+  of_kind = ap (λ k. takes k call) here_rw ∙ ap (is_manner (Some AsRw)) (shards_manner call ask.of_kind)
 
   pub may : may_begin s t i call ≡ true
   may = and_from _ _ (lt-ltb t (length s.calls) ask.thread) (and_from _ _ (ap is_none free) (and_from _ _ of_kind allowed_so))
@@ -274,7 +335,9 @@ module _ (old : Shown) (fit : LocksFit old) (t i : ℕ) (call : LockCall) (ask :
       kinds = next;
       single = subst (All (λ h. is_single h ≡ true)) (sym (ap (λ (w : State). w.holds) x.became)) fit.plain.single;
       alone = λ v d at. elim (cases_eq v t) [
-        | inl e ↦ ap (λ (y : Call). y.others) (same_Some d c (sym at ∙ ap (call_at u) e ∙ here)) ∙ none_beside call h is_allowed_here (single_hold s t i fit.plain.single)
+        | inl e ↦
+            let same : d ≡ c = same_Some d c (sym at ∙ ap (call_at u) e ∙ here) in
+            (ap (λ (y : Call). y.others) same ∙ none_beside call h is_allowed_here (single_hold s t i fit.plain.single), subst (λ (y : Call). IsOrdinary y.core) (sym same) (shards_ordinary (kind_in s.kinds i) call ask.of_kind))
         | inr ne ↦ fit.plain.alone v d (sym (apart v ne) ∙ at)
       ];
     }
@@ -285,6 +348,7 @@ module _ (old : Shown) (fit : LocksFit old) (t i : ℕ) (call : LockCall) (ask :
     pub begins : LockBegins t i call old new
     begins = record {
       became = x;
+      of_kind = ask.of_kind;
       whole = record { threads = count; kinds = kinds_same };
       desks = refl;
       stand = ap (option_map stand_of) here ∙ ap Some (begun_stand (kind_in s.kinds i) i (holds_beside call h) call ask.of_kind);

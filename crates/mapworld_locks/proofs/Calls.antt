@@ -21,6 +21,7 @@ use Rattle.parking_lot_world.specs.Machines.{Became, BecameInside, BecameLate, I
 use Rattle.parking_lot_world.specs.RowActs.{hears, off_list, settled, with_call, with_lot}
 use Rattle.parking_lot_world.specs.Rows.{State, call_at}
 use Rattle.parking_lot_world.specs.Stances.{core_act, core_next}
+use Rattle.mapworld_locks.specs.Fits.{IsOrdinary}
 use Rattle.mapworld_locks.specs.Stands.{core_aim}
 use Rattle.mapworld_locks.proofs.Aiming.{next_aim}
 
@@ -38,21 +39,24 @@ abbrev pub IsProper : Core → Type 0
 IsProper (Core.Rw c) = c.phase ≢ RwPhase.Invalid
 IsProper (Core.Mutex c) = Unit {0}
 IsProper (Core.Late c) = Unit {0}
+IsProper (Core.Upgrade c) = Unit {0}
 
 -- a call goes on as another: at the same lock, with the same holds beside and, unless it is led astray, the same aim
 pub record Follows (c d : Call) : Type 0 where
   pub lock : d.lock ≡ c.lock
   pub others : d.others ≡ c.others
+  pub ordinary : IsOrdinary c.core → IsOrdinary d.core
   pub proper : IsProper d.core → IsProper c.core
   pub aim : IsProper d.core → core_aim d.core ≡ core_aim c.core
 
 pub follows_itself : (c d : Call) → d.lock ≡ c.lock → d.others ≡ c.others → d.core ≡ c.core → Follows c d
-follows_itself c d lock others core = record { lock = lock; others = others; proper = subst IsProper core; aim = λ p. ap core_aim core }
+follows_itself c d lock others core = record { lock = lock; others = others; ordinary = subst IsOrdinary (sym core); proper = subst IsProper core; aim = λ p. ap core_aim core }
 
 follows_then : (c d e : Call) → Follows c d → Follows d e → Follows c e
 follows_then c d e f g = record {
   lock = g.lock ∙ f.lock;
   others = g.others ∙ f.others;
+  ordinary = λ p. g.ordinary (f.ordinary p);
   proper = λ p. f.proper (g.proper p);
   aim = λ p. g.aim p ∙ f.aim (g.proper p);
 }
@@ -61,6 +65,21 @@ next_proper : (k : Core) (told : ActResult) → IsProper (core_next k told) → 
 next_proper (Core.Rw c) told p = λ e. p (ap (λ q. next_phase q told) e)
 next_proper (Core.Mutex c) told p = tt
 next_proper (Core.Late c) told p = tt
+next_proper (Core.Upgrade c) told p = tt
+
+late_ordinary : (p : LatePhase) (told : ActResult) → IsOrdinary (core_next (Core.Late p) told)
+late_ordinary LatePhase.Expires (ActResult.Woken token) = tt
+late_ordinary LatePhase.Expires ActResult.Entered = tt
+late_ordinary LatePhase.Quits (ActResult.Took token left) = tt
+late_ordinary LatePhase.Masks (ActResult.Before word) = tt
+late_ordinary LatePhase.Leaves ActResult.Made = tt
+late_ordinary p told = tt
+
+next_ordinary : (k : Core) (told : ActResult) → IsOrdinary k → IsOrdinary (core_next k told)
+next_ordinary (Core.Rw c) told p = tt
+next_ordinary (Core.Mutex c) told p = tt
+next_ordinary (Core.Late c) told p = late_ordinary c told
+next_ordinary (Core.Upgrade c) told p = absurd p
 
 late_keeps : (p : LatePhase) (told : ActResult) → core_aim (core_next (Core.Late p) told) ≡ core_aim (Core.Late p)
 late_keeps LatePhase.Expires (ActResult.Woken token) = refl
@@ -74,11 +93,13 @@ pub next_keeps : (k : Core) (told : ActResult) → IsProper (core_next k told) �
 next_keeps (Core.Rw c) told p = next_aim c.phase told p
 next_keeps (Core.Mutex c) told p = refl
 next_keeps (Core.Late p) told proper = late_keeps p told
+next_keeps (Core.Upgrade c) told p = refl
 
 pub follows_told : (c d : Call) (told : ActResult) → d.lock ≡ c.lock → d.others ≡ c.others → d.core ≡ core_next c.core told → Follows c d
 follows_told c d told lock others core = record {
   lock = lock;
   others = others;
+  ordinary = λ p. subst IsOrdinary (sym core) (next_ordinary c.core told p);
   proper = λ p. next_proper c.core told (subst IsProper core p);
   aim = λ p. ap core_aim core ∙ next_keeps c.core told (subst IsProper core p);
 }
@@ -251,9 +272,9 @@ module _ (s : State) (t : ℕ) (c : Call) (here : call_at s t ≡ Some c) where
 
   goes_inside : (k : SectionAct) (fair : Bool) (u : State) → BecameInside k t fair c s u → GoesOn s.calls u.calls
   goes_inside SectionAct.Check fair u e = is u _ e (told _)
-  goes_inside SectionAct.TakeFirst fair u (k, stands, inl (w, first, e)) = is u _ e (told_then w.thread _ _ (off_goes s.calls t w.thread))
+  goes_inside SectionAct.TakeFirst fair u (k, stands, inl (n, w, first, e)) = is u _ e (told_then w.thread _ _ (off_goes s.calls t w.thread))
   goes_inside SectionAct.TakeFirst fair u (k, stands, inr (empty, e)) = is u _ e (told _)
-  goes_inside (SectionAct.TakeNext sum) fair u (k, stands, inl (w, first, e)) = is u _ e (told_then w.thread _ _ (off_goes s.calls t w.thread))
+  goes_inside (SectionAct.TakeNext sum) fair u (k, stands, inl (n, w, first, e)) = is u _ e (told_then w.thread _ _ (off_goes s.calls t w.thread))
   goes_inside (SectionAct.TakeNext sum) fair u (k, stands, inr (empty, e)) = is u _ e (told _)
   goes_inside (SectionAct.Append token) fair u (k, stands, e) = is u _ e (joined _ refl)
   goes_inside (SectionAct.Store plain handing) fair u e = is u _ e (says _ _)

@@ -19,6 +19,7 @@ use Rattle.parking_lot_world.specs.RowActs.{answered, hold_after}
 use Rattle.parking_lot_world.specs.Rows.{State, call_at, hold_at, owned_of, rw_core_role, rw_lock_at, rw_role_at, rw_role_in, rw_spot, taken_by}
 use Rattle.parking_lot_world.specs.Stances.{core_act}
 use Rattle.parking_lot_world.specs.Worlds.{hold_mode}
+use Rattle.mapworld_locks.specs.Fits.{IsOrdinary}
 use Rattle.mapworld_locks.specs.Views.{held_as, held_at}
 use Rattle.mapworld_locks.proofs.Calls.{set_here, slot}
 use Rattle.mapworld_locks.proofs.Handing.{goes_by, held_is, no_mutex, within_kinds}
@@ -37,20 +38,22 @@ pub idle_mode : (h : Hold) → rw_mode (record { owns = owned_of h; does = Idle 
 idle_mode (Hold.Shares zero) = refl
 idle_mode (Hold.Shares (suc n)) = refl
 idle_mode Hold.Excludes = refl
+idle_mode Hold.Upgrades = refl
 
 -- and of one that is to be answered, the hold that it will have
-done_mode : (s : State) (t : ℕ) (c : Call) → FitsTogether s → All (λ k. k ≡ kind.Rw) s.kinds → call_at s t ≡ Some c → is_done (core_act c.core) ≡ true
+done_mode : (s : State) (t : ℕ) (c : Call) → FitsTogether s → All (λ k. k ≡ kind.Rw) s.kinds → call_at s t ≡ Some c → IsOrdinary c.core → is_done (core_act c.core) ≡ true
     → held_as (rw_mode (rw_role_at s c.lock t)) ≡ held_as (hold_mode (Some kind.Rw) (hold_after c.others c.core))
-done_mode s t c h rws here done = ap held_as (ap rw_mode role ∙ by c.core (h.rules.kinds t c here) (h.rules.prepared t c here) done)
+done_mode s t c h rws here ordinary done = ap held_as (ap rw_mode role ∙ by c.core ordinary (h.rules.kinds t c here) (h.rules.prepared t c here) done)
   where
     role : rw_role_at s c.lock t ≡ rw_core_role c.others c.spot (taken_by s.wakes t) c.core
     role = ap (rw_role_in c.lock (taken_by s.wakes t) (hold_at s t c.lock)) here
         ∙ cond-true (c.lock == c.lock) (rw_core_role c.others c.spot (taken_by s.wakes t) c.core) (record { owns = owned_of (hold_at s t c.lock); does = Idle }) (eq-eqb c.lock c.lock refl)
 
-    by : (k : Core) → IsOfKind (slice_get s.kinds c.lock) k → IsPrepared (recursive_in s.kinds c.lock) c.others k → is_done (core_act k) ≡ true → rw_mode (rw_core_role c.others c.spot (taken_by s.wakes t) k) ≡ hold_mode (Some kind.Rw) (hold_after c.others k)
-    by (Core.Rw x) of_kind ready done = sym (done_hold (recursive_in s.kinds c.lock) c.others (rw_spot c.spot) (taken_by s.wakes t) x.phase ready.1 done)
-    by (Core.Mutex x) of_kind ready done = absurd (no_mutex (goes_by s c.lock AsMutex rws of_kind))
-    by (Core.Late x) of_kind ready done = absurd (no_mutex (goes_by s c.lock AsMutex rws of_kind))
+    by : (k : Core) → IsOrdinary k → IsOfKind (slice_get s.kinds c.lock) k → IsPrepared (recursive_in s.kinds c.lock) c.others k → is_done (core_act k) ≡ true → rw_mode (rw_core_role c.others c.spot (taken_by s.wakes t) k) ≡ hold_mode (Some kind.Rw) (hold_after c.others k)
+    by (Core.Upgrade x) ordinary of_kind ready done = absurd ordinary
+    by (Core.Rw x) ordinary of_kind ready done = sym (done_hold (recursive_in s.kinds c.lock) c.others (rw_spot c.spot) (taken_by s.wakes t) x.phase ready.1 done)
+    by (Core.Mutex x) ordinary of_kind ready done = absurd (no_mutex (goes_by s c.lock AsMutex rws of_kind))
+    by (Core.Late x) ordinary of_kind ready done = absurd (no_mutex (goes_by s c.lock AsMutex rws of_kind))
 
 rows_apart : (locks t threads : ℕ) → t < threads → t * locks + locks ≤ threads * locks
 rows_apart locks t zero b = absurd (omega (arith, b))
@@ -60,11 +63,11 @@ rows_apart locks t (suc n) b = elim (cases_eq t n) [
 ]
 
 -- An answer changes nothing of what its thread holds.
-pub answered_holds : (s : State) (t : ℕ) (c : Call) → FitsTogether s → All (λ k. k ≡ kind.Rw) s.kinds → call_at s t ≡ Some c → is_done (core_act c.core) ≡ true → held_at (answered s t c) c.lock t ≡ held_at s c.lock t
-answered_holds s t c h rws here done =
+pub answered_holds : (s : State) (t : ℕ) (c : Call) → FitsTogether s → All (λ k. k ≡ kind.Rw) s.kinds → call_at s t ≡ Some c → IsOrdinary c.core → is_done (core_act c.core) ≡ true → held_at (answered s t c) c.lock t ≡ held_at s c.lock t
+answered_holds s t c h rws here ordinary done =
     held_by_role (answered s t c) c.lock t rws (omega (arith, low, length-set s.calls t none))
     ∙ ap held_as (ap rw_mode role ∙ idle_mode now)
-    ∙ sym (held_by_role s c.lock t rws low ∙ done_mode s t c h rws here done)
+    ∙ sym (held_by_role s c.lock t rws low ∙ done_mode s t c h rws here ordinary done)
   where
     none : Option Call
     none = None
@@ -82,6 +85,7 @@ answered_holds s t c h rws here done =
         of (Core.Rw x) e = within_kinds s c.lock _ e
         of (Core.Mutex x) e = within_kinds s c.lock _ e
         of (Core.Late x) e = within_kinds s c.lock _ e
+        of (Core.Upgrade x) e = within_kinds s c.lock _ e
 
     cell_low : t * length s.kinds + c.lock < length s.holds
     cell_low = omega (arith, rows_apart (length s.kinds) t (length s.calls) low, lock_low, h.rules.size_holds)

@@ -21,6 +21,7 @@ use Rattle.parking_lot_world.specs.RowFits.{FitsTogether, IsOfKind, IsPrepared, 
 use Rattle.parking_lot_world.specs.Rows.{Rows, State, call_at, rw_core_role, rw_spot, state, taken_by}
 use Rattle.parking_lot_world.specs.SoundLaws.{StepsAreCases}
 use Rattle.parking_lot_world.specs.Stances.{core_act}
+use Rattle.mapworld_locks.specs.Fits.{IsOrdinary}
 use Rattle.mapworld_locks.specs.Aims.{Aim, Gets, GivesUp, Turns, phase_aim}
 use Rattle.mapworld_locks.specs.Fits.{IsPlain, LocksFit}
 use Rattle.mapworld_locks.specs.Stands.{core_aim, core_tries, is_trying, stand_of}
@@ -109,12 +110,13 @@ call_ends : (s : State) (t : ℕ) (c : Call) (answer : CoreAnswer) → FitsToget
 call_ends s t c answer h plain here over =
     subst (EndsSo (core_aim c.core) (core_tries c.core) answer) (sym (call_holds s t c plain here))
     (subst (λ e. EndsBy e (core_aim c.core) (core_tries c.core) (held_as (rw_mode (rw_core_role 0 c.spot (taken_by s.wakes t) c.core)))) over
-    (by c.core (h.rules.kinds t c here) (subst (λ n. IsPrepared (recursive_in s.kinds c.lock) n c.core) (plain.alone t c here) (h.rules.prepared t c here))))
+    (by c.core (plain.alone t c here).1 (h.rules.kinds t c here) (subst (λ n. IsPrepared (recursive_in s.kinds c.lock) n c.core) (plain.alone t c here).0 (h.rules.prepared t c here))))
   where
-    by : (k : Core) → IsOfKind (slice_get s.kinds c.lock) k → IsPrepared (recursive_in s.kinds c.lock) 0 k → EndsBy (end_of (core_act k)) (core_aim k) (core_tries k) (held_as (rw_mode (rw_core_role 0 c.spot (taken_by s.wakes t) k)))
-    by (Core.Rw x) of_kind ready = phase_ends (recursive_in s.kinds c.lock) (rw_spot c.spot) (taken_by s.wakes t) x.phase ready.1
-    by (Core.Mutex x) of_kind ready = absurd (not_mutex s c.lock plain.kinds of_kind)
-    by (Core.Late x) of_kind ready = absurd (not_mutex s c.lock plain.kinds of_kind)
+    by : (k : Core) → IsOrdinary k → IsOfKind (slice_get s.kinds c.lock) k → IsPrepared (recursive_in s.kinds c.lock) 0 k → EndsBy (end_of (core_act k)) (core_aim k) (core_tries k) (held_as (rw_mode (rw_core_role 0 c.spot (taken_by s.wakes t) k)))
+    by (Core.Upgrade x) ordinary of_kind ready = absurd ordinary
+    by (Core.Rw x) ordinary of_kind ready = phase_ends (recursive_in s.kinds c.lock) (rw_spot c.spot) (taken_by s.wakes t) x.phase ready.1
+    by (Core.Mutex x) ordinary of_kind ready = absurd (not_mutex s c.lock plain.kinds of_kind)
+    by (Core.Late x) ordinary of_kind ready = absurd (not_mutex s c.lock plain.kinds of_kind)
 
 -- what that says of each aim
 ends_owned : (aim : Aim) (trying : Bool) (answer : CoreAnswer) (o : Option Mode) → EndsSo aim trying answer o → (m : Mode) → aim ≡ Gets m → answer ≡ CoreAnswer.Owned → o ≡ Some m

@@ -24,6 +24,7 @@ use Rattle.parking_lot_world.specs.Rows.{State, any_lock, call_at, hold_at, lock
 use Rattle.parking_lot_world.specs.SoundLaws.{IsCaseAt, IsStepAt, StepsAreCases}
 use Rattle.parking_lot_world.specs.Stances.{Asleep, stance}
 use Rattle.parking_lot_world.specs.Worlds.{mode_in}
+use Rattle.mapworld_locks.specs.Fits.{IsOrdinary}
 use Rattle.mapworld_locks.specs.Views.{held_as, held_at}
 use Rattle.mapworld_locks.proofs.Lists.{all_at, among_all}
 use Rattle.mapworld_locks.proofs.Owning.{IsHanded, mode_is_owned, mode_standing, others_stay, own_stays, owned_in}
@@ -114,11 +115,12 @@ record IsChosenCall (s : State) (i v : ℕ) : Type 0 where
   nothing : mode_standing (standing (rw_role_at s i v)) ≡ mode_of (Reading call.others)
   again : (w : State) → call_at w v ≡ Some call → chosen_stand (rw_role_at w i v) ≡ true
 
-module _ (s : State) (i v : ℕ) where
+module _ (s : State) (i v : ℕ) (alone : (c : Call) → call_at s v ≡ Some c → (c.others ≡ 0) × IsOrdinary c.core) where
   by_core : (us : List ℕ) (h : Hold) (c : Call) → call_at s v ≡ Some c → c.lock ≡ i → (k : Core) → c.core ≡ k → rw_role_at s i v ≡ rw_core_role c.others c.spot us k
       → chosen_stand (rw_core_role c.others c.spot us k) ≡ true → IsChosenCall s i v
   by_core us h c there lock (Core.Mutex k) core role is = absurd (false≢true is)
   by_core us h c there lock (Core.Late k) core role is = absurd (false≢true is)
+  by_core us h c there lock (Core.Upgrade k) core role is = absurd (subst IsOrdinary core (alone c there).1)
   by_core us h c there lock (Core.Rw k) core role is =
       let x = chosen_sleeps c.others c.spot us k.phase is in
       record {
@@ -135,6 +137,7 @@ module _ (s : State) (i v : ℕ) where
   by_call : (us : List ℕ) (h : Hold) (o : Option Call) → call_at s v ≡ o → rw_role_at s i v ≡ rw_role_in i us h o → chosen_stand (rw_role_in i us h o) ≡ true → IsChosenCall s i v
   by_call us (Hold.Shares n) None there role is = absurd (false≢true is)
   by_call us Hold.Excludes None there role is = absurd (false≢true is)
+  by_call us Hold.Upgrades None there role is = absurd (false≢true is)
   by_call us h (Some c) there role is = elim (cases_Bool (c.lock == i)) [
     | inl here ↦
         let reads : rw_role_in i us h (Some c) ≡ rw_core_role c.others c.spot us c.core = cond-true (c.lock == i) _ _ here in
@@ -146,7 +149,7 @@ module _ (s : State) (i v : ℕ) where
   chosen_call is = by_call (taken_by s.wakes v) (hold_at s v i) (call_at s v) refl refl is
 
 module _ (laws : StepsAreCases) (s u : State) (t : ℕ) (fair : Bool) (answer : Option CoreAnswer) (h : FitsTogether s) (rws : All (λ k. k ≡ kind.Rw) s.kinds) (next : All (λ k. k ≡ kind.Rw) u.kinds)
-    (alone : (v : ℕ) (c : Call) → call_at s v ≡ Some c → c.others ≡ 0) (x : IsStepped t fair answer s u) where
+    (alone : (v : ℕ) (c : Call) → call_at s v ≡ Some c → (c.others ≡ 0) × IsOrdinary c.core) (x : IsStepped t fair answer s u) where
   abbrev i : ℕ
   i = x.call.lock
 
@@ -163,9 +166,9 @@ module _ (laws : StepsAreCases) (s u : State) (t : ℕ) (fair : Bool) (answer : 
   handed : (v : ℕ) → v ≢ t → IsHanded t v (owners (rw_lock_at s i)).threads (owners (rw_lock_at u i)).threads → IsHandedOver t i v s u
   handed v ne y =
       let role = role_of s i v y.before y.was in
-      let z = chosen_call s i v (ap is_chosen (sym (ap (λ st. st.stand) role) ∙ y.chosen)) in
+      let z = chosen_call s i v (alone v) (ap is_chosen (sym (ap (λ st. st.stand) role) ∙ y.chosen)) in
       record {
-        nothing = held_is s rws i v ∙ ap held_as (ap (option_and_then mode_standing) y.was ∙ ap mode_standing role ∙ z.nothing ∙ ap (λ n. mode_of (Reading n)) (alone v z.call z.untold.there));
+        nothing = held_is s rws i v ∙ ap held_as (ap (option_and_then mode_standing) y.was ∙ ap mode_standing role ∙ z.nothing ∙ ap (λ n. mode_of (Reading n)) (alone v z.call z.untold.there).0);
         call = z.call;
         there = z.untold.there;
         lock = z.lock;

@@ -16,6 +16,7 @@ use Rattle.parking_lot_world.specs.Machines.{Became, BecameInside, IsStepped}
 use Rattle.parking_lot_world.specs.RowActs.{hold_after, mutex_hold_after, rw_hold_after}
 use Rattle.parking_lot_world.specs.Rows.{State, call_at, cell}
 use Rattle.parking_lot_world.specs.Stances.{core_act}
+use Rattle.mapworld_locks.specs.Fits.{IsOrdinary}
 use Rattle.mapworld_locks.specs.Fits.{IsPlain, is_single}
 use Rattle.mapworld_locks.proofs.Calls.{late_is, stepped_goes}
 use Rattle.mapworld_locks.proofs.Lists.{all_set}
@@ -133,9 +134,9 @@ module _ (s : State) (t : ℕ) (c : Call) (plain : IsPlain s) where
 
   inside : (k : SectionAct) (fair : Bool) (u : State) → BecameInside k t fair c s u → Keeps u
   inside SectionAct.Check fair u e = is u _ e refl refl
-  inside SectionAct.TakeFirst fair u (k, stands, inl (w, first, e)) = is u _ e refl refl
+  inside SectionAct.TakeFirst fair u (k, stands, inl (n, w, first, e)) = is u _ e refl refl
   inside SectionAct.TakeFirst fair u (k, stands, inr (empty, e)) = is u _ e refl refl
-  inside (SectionAct.TakeNext sum) fair u (k, stands, inl (w, first, e)) = is u _ e refl refl
+  inside (SectionAct.TakeNext sum) fair u (k, stands, inl (n, w, first, e)) = is u _ e refl refl
   inside (SectionAct.TakeNext sum) fair u (k, stands, inr (empty, e)) = is u _ e refl refl
   inside (SectionAct.Append token) fair u (k, stands, e) = is u _ e refl refl
   inside (SectionAct.Store plain_change handing) fair u e = is u _ e refl refl
@@ -153,13 +154,14 @@ module _ (s : State) (t : ℕ) (c : Call) (plain : IsPlain s) where
   goes here Act.Sleep fair u b = let l = late_is s u t c c.core b in is u _ l.2 refl refl
   goes here (Act.Done answer) fair u e = record {
     kinds = ap (λ (x : State). x.kinds) e;
-    single = subst (All IsSingle) (sym (ap (λ (x : State). x.holds) e)) (all_set IsSingle s.holds (cell s t c.lock) (hold_after c.others c.core) plain.single (after c.core (plain.alone t c here)));
+    single = subst (All IsSingle) (sym (ap (λ (x : State). x.holds) e)) (all_set IsSingle s.holds (cell s t c.lock) (hold_after c.others c.core) plain.single (after c.core (plain.alone t c here).1 (plain.alone t c here).0));
   }
     where
-      after : (k : Core) → c.others ≡ 0 → IsSingle (hold_after c.others k)
-      after (Core.Rw x) none = ap (λ n. is_single (rw_hold_after n x.phase)) none ∙ single_phase x.phase
-      after (Core.Mutex x) none = single_mutex x.phase
-      after (Core.Late p) none = refl
+      after : (k : Core) → IsOrdinary k → c.others ≡ 0 → IsSingle (hold_after c.others k)
+      after (Core.Upgrade x) ordinary none = absurd ordinary
+      after (Core.Rw x) ordinary none = ap (λ n. is_single (rw_hold_after n x.phase)) none ∙ single_phase x.phase
+      after (Core.Mutex x) ordinary none = single_mutex x.phase
+      after (Core.Late p) ordinary none = refl
 
 pub stepped_plain : (s u : State) (t : ℕ) (fair : Bool) (answer : Option CoreAnswer) → IsPlain s → IsStepped t fair answer s u → IsPlain u
 stepped_plain s u t fair answer plain x =
@@ -167,7 +169,7 @@ stepped_plain s u t fair answer plain x =
     record {
       kinds = subst (All (λ k. k ≡ kind.Rw)) (sym k.kinds) plain.kinds;
       single = k.single;
-      alone = λ v d at. (let from = (stepped_goes s u t fair answer x).comes v d at in from.follows.others ∙ plain.alone v from.call from.was);
+      alone = λ v d at. (let from = (stepped_goes s u t fair answer x).comes v d at in (from.follows.others ∙ (plain.alone v from.call from.was).0, from.follows.ordinary (plain.alone v from.call from.was).1));
     }
 
 -- the locks stay what they are

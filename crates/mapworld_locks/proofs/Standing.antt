@@ -34,6 +34,7 @@ pub kept_proper : (recursive : Bool) (n : ℕ) (k : Core) → IsPrepared recursi
 kept_proper recursive n (Core.Rw c) ready = λ e. absurd (subst (λ p. IsPrepared recursive n (Core.Rw (record { phase = p }))) e ready).1
 kept_proper recursive n (Core.Mutex c) ready = tt
 kept_proper recursive n (Core.Late c) ready = tt
+kept_proper recursive n (Core.Upgrade c) ready = tt
 
 late_patient : (p : LatePhase) (told : ActResult) → core_tries (core_next (Core.Late p) told) ≡ false
 late_patient LatePhase.Expires (ActResult.Woken token) = refl
@@ -48,6 +49,7 @@ pub core_patient : (k : Core) (told : ActResult) → core_tries k ≡ false → 
 core_patient (Core.Rw c) told calm = next_patient c.phase told calm
 core_patient (Core.Mutex c) told calm = refl
 core_patient (Core.Late p) told calm = late_patient p told
+core_patient (Core.Upgrade c) told calm = refl
 
 -- THE THREAD ITSELF
 
@@ -98,9 +100,9 @@ module _ (s : State) (t : ℕ) (c : Call) (low : t < length s.calls) where
 
   own_inside : (k : SectionAct) (fair : Bool) (u : State) → BecameInside k t fair c s u → GoesOnBy c (call_of u.calls t)
   own_inside SectionAct.Check fair u e = is_own u _ e (own_told _)
-  own_inside SectionAct.TakeFirst fair u (k, stands, inl (w, first, e)) = is_own u _ e (own_after _ _ _)
+  own_inside SectionAct.TakeFirst fair u (k, stands, inl (n, w, first, e)) = is_own u _ e (own_after _ _ _)
   own_inside SectionAct.TakeFirst fair u (k, stands, inr (empty, e)) = is_own u _ e (own_told _)
-  own_inside (SectionAct.TakeNext sum) fair u (k, stands, inl (w, first, e)) = is_own u _ e (own_after _ _ _)
+  own_inside (SectionAct.TakeNext sum) fair u (k, stands, inl (n, w, first, e)) = is_own u _ e (own_after _ _ _)
   own_inside (SectionAct.TakeNext sum) fair u (k, stands, inr (empty, e)) = is_own u _ e (own_told _)
   own_inside (SectionAct.Append token) fair u (k, stands, e) = is_own u _ e own_joined
   own_inside (SectionAct.Store plain handing) fair u e = is_own u _ e (own_says _ _)
@@ -201,6 +203,7 @@ core_asleep_tries : (k : Core) → sleeps (stance k) ≡ true → core_tries k �
 core_asleep_tries (Core.Rw c) is = asleep_tries c.phase is
 core_asleep_tries (Core.Mutex c) is = refl
 core_asleep_tries (Core.Late c) is = refl
+core_asleep_tries (Core.Upgrade c) is = refl
 
 -- a sleeper that is woken is about the same
 woken_stands : (d : Call) (token : UnparkToken) → IsProper (core_next d.core (ActResult.Woken token)) → sleeps (stance d.core) ≡ true
@@ -255,9 +258,9 @@ module _ (s : State) (h : FitsTogether s) (t : ℕ) (c : Call) (v : ℕ) (other 
 
   goes_inside : (k : SectionAct) (fair : Bool) (u : State) → FitsTogether u → BecameInside k t fair c s u → Same u.calls
   goes_inside SectionAct.Check fair u g e = is u _ e (apart s.calls _)
-  goes_inside SectionAct.TakeFirst fair u g (k, stands, inl (w, first, e)) = is u _ e (takes w.thread _)
+  goes_inside SectionAct.TakeFirst fair u g (k, stands, inl (n, w, first, e)) = is u _ e (takes w.thread _)
   goes_inside SectionAct.TakeFirst fair u g (k, stands, inr (empty, e)) = is u _ e (apart s.calls _)
-  goes_inside (SectionAct.TakeNext sum) fair u g (k, stands, inl (w, first, e)) = is u _ e (takes w.thread _)
+  goes_inside (SectionAct.TakeNext sum) fair u g (k, stands, inl (n, w, first, e)) = is u _ e (takes w.thread _)
   goes_inside (SectionAct.TakeNext sum) fair u g (k, stands, inr (empty, e)) = is u _ e (apart s.calls _)
   goes_inside (SectionAct.Append token) fair u g (k, stands, e) = is u _ e (apart s.calls _)
   goes_inside (SectionAct.Store plain handing) fair u g e = is u _ e (says _ _)

@@ -50,6 +50,13 @@ first_possible taken x LockCall.Write is = absurd (false≢true is)
 first_possible taken x LockCall.TryWrite is = absurd (false≢true is)
 first_possible taken x LockCall.UnlockWrite is = refl
 first_possible taken x LockCall.Downgrade is = refl
+first_possible taken x LockCall.UpgradableRead is = absurd (false≢true is)
+first_possible taken x LockCall.TryUpgradableRead is = absurd (false≢true is)
+first_possible taken x LockCall.UnlockUpgradable is = absurd (false≢true is)
+first_possible taken x LockCall.Upgrade is = absurd (false≢true is)
+first_possible taken x LockCall.TryUpgrade is = absurd (false≢true is)
+first_possible taken x LockCall.DowngradeToUpgradable is = absurd (false≢true is)
+first_possible taken x LockCall.DowngradeUpgradable is = absurd (false≢true is)
 
 first_open : (x : LockKind) (call : LockCall) → gives call ≡ true → end_of (core_act (core_next (core_of x call) ActResult.Start)) ≡ None
 first_open x LockCall.Lock is = absurd (false≢true is)
@@ -63,6 +70,13 @@ first_open x LockCall.Write is = absurd (false≢true is)
 first_open x LockCall.TryWrite is = absurd (false≢true is)
 first_open x LockCall.UnlockWrite is = refl
 first_open x LockCall.Downgrade is = refl
+first_open x LockCall.UpgradableRead is = absurd (false≢true is)
+first_open x LockCall.TryUpgradableRead is = absurd (false≢true is)
+first_open x LockCall.UnlockUpgradable is = absurd (false≢true is)
+first_open x LockCall.Upgrade is = absurd (false≢true is)
+first_open x LockCall.TryUpgrade is = absurd (false≢true is)
+first_open x LockCall.DowngradeToUpgradable is = absurd (false≢true is)
+first_open x LockCall.DowngradeUpgradable is = absurd (false≢true is)
 
 module _ (s mid : State) (t i : ℕ) (call : LockCall) (low : t < length s.calls) (x : IsBegun t i call s mid) where
   pub can_start : gives call ≡ true → can_move mid t ≡ true

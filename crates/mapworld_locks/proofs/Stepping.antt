@@ -23,6 +23,7 @@ use Rattle.parking_lot_world.specs.RowFits.{FitsTogether, IsOfKind, IsPrepared}
 use Rattle.parking_lot_world.specs.Rows.{Rows, State, call_at, hold_at, owned_of, rw_core_role, rw_role_at, rw_role_in, rw_spot, state, taken_by}
 use Rattle.parking_lot_world.specs.SoundLaws.{Always, OwnersAgree, StepsAreCases}
 use Rattle.parking_lot_world.specs.Stances.{core_act, rw_stance, stance}
+use Rattle.mapworld_locks.specs.Fits.{IsOrdinary}
 use Rattle.mapworld_locks.specs.Aims.{Aim, Gets, GivesUp, Turns, is_within, phase_aim}
 use Rattle.mapworld_locks.specs.Fits.{DeskFits, IsPlain, LocksFit}
 use Rattle.mapworld_locks.specs.Moves.{CanFollow, all_admitted, desk_after, has_left, own_moved}
@@ -52,19 +53,20 @@ call_role s t c here = ap (rw_role_in c.lock (taken_by s.wakes t) (hold_at s t c
 pub call_holds : (s : State) (t : ℕ) (c : Call) → IsPlain s → call_at s t ≡ Some c → held_at s c.lock t ≡ held_as (rw_mode (rw_core_role 0 c.spot (taken_by s.wakes t) c.core))
 call_holds s t c plain here =
     held_by_role s c.lock t plain.kinds (slice_get_within s.calls t (Some c) (slot s.calls t c here))
-    ∙ ap (λ r. held_as (rw_mode r)) (call_role s t c here) ∙ ap (λ n. held_as (rw_mode (rw_core_role n c.spot (taken_by s.wakes t) c.core))) (plain.alone t c here)
+    ∙ ap (λ r. held_as (rw_mode r)) (call_role s t c here) ∙ ap (λ n. held_as (rw_mode (rw_core_role n c.spot (taken_by s.wakes t) c.core))) (plain.alone t c here).0
 
 pub not_mutex : (s : State) (i : ℕ) → All (λ k. k ≡ kind.Rw) s.kinds → manner_of (slice_get s.kinds i) ≢ Some AsMutex
 not_mutex s i rws e = no_mutex (goes_by s i AsMutex rws e)
 
 -- it holds nothing beyond what it is about
 pub call_within : (s : State) (t : ℕ) (c : Call) → FitsTogether s → IsPlain s → call_at s t ≡ Some c → is_within (core_aim c.core) (held_at s c.lock t) ≡ true
-call_within s t c h plain here = ap (is_within (core_aim c.core)) (call_holds s t c plain here) ∙ by c.core (h.rules.kinds t c here) (subst (λ n. IsPrepared (recursive_in s.kinds c.lock) n c.core) (plain.alone t c here) (h.rules.prepared t c here))
+call_within s t c h plain here = ap (is_within (core_aim c.core)) (call_holds s t c plain here) ∙ by c.core (plain.alone t c here).1 (h.rules.kinds t c here) (subst (λ n. IsPrepared (recursive_in s.kinds c.lock) n c.core) (plain.alone t c here).0 (h.rules.prepared t c here))
   where
-    by : (k : Core) → IsOfKind (slice_get s.kinds c.lock) k → IsPrepared (recursive_in s.kinds c.lock) 0 k → is_within (core_aim k) (held_as (rw_mode (rw_core_role 0 c.spot (taken_by s.wakes t) k))) ≡ true
-    by (Core.Rw x) of_kind ready = within (rw_spot c.spot) (taken_by s.wakes t) x.phase ready.0 (λ e. absurd (subst (λ p. IsPrepared (recursive_in s.kinds c.lock) 0 (Core.Rw (record { phase = p }))) e ready).1)
-    by (Core.Mutex x) of_kind ready = absurd (not_mutex s c.lock plain.kinds of_kind)
-    by (Core.Late x) of_kind ready = absurd (not_mutex s c.lock plain.kinds of_kind)
+    by : (k : Core) → IsOrdinary k → IsOfKind (slice_get s.kinds c.lock) k → IsPrepared (recursive_in s.kinds c.lock) 0 k → is_within (core_aim k) (held_as (rw_mode (rw_core_role 0 c.spot (taken_by s.wakes t) k))) ≡ true
+    by (Core.Upgrade x) ordinary of_kind ready = absurd ordinary
+    by (Core.Rw x) ordinary of_kind ready = within (rw_spot c.spot) (taken_by s.wakes t) x.phase ready.0 (λ e. absurd (subst (λ p. IsPrepared (recursive_in s.kinds c.lock) 0 (Core.Rw (record { phase = p }))) e ready).1)
+    by (Core.Mutex x) ordinary of_kind ready = absurd (not_mutex s c.lock plain.kinds of_kind)
+    by (Core.Late x) ordinary of_kind ready = absurd (not_mutex s c.lock plain.kinds of_kind)
 
 never_upgradable : (aim : Aim) → is_within aim (Some held.Upgradable) ≡ false
 never_upgradable (Gets held.Shared) = refl
@@ -142,10 +144,11 @@ asleep_gets (RwPhase.Finishes rest) m is fits = absurd (false≢true is)
 asleep_gets (RwPhase.Ends outcome) m is fits = absurd (false≢true is)
 asleep_gets RwPhase.Invalid m is fits = absurd (false≢true is)
 
-core_gets : (k : Core) (kinds : Option _) (m : Mode) → IsOfKind kinds k → manner_of kinds ≢ Some AsMutex → sleeps (stance k) ≡ true → is_within (core_aim k) (Some m) ≡ true → core_aim k ≡ Gets m
-core_gets (Core.Rw c) kinds m of_kind ne is fits = asleep_gets c.phase m is fits
-core_gets (Core.Mutex c) kinds m of_kind ne is fits = absurd (ne of_kind)
-core_gets (Core.Late c) kinds m of_kind ne is fits = absurd (ne of_kind)
+core_gets : (k : Core) (kinds : Option _) (m : Mode) → IsOrdinary k → IsOfKind kinds k → manner_of kinds ≢ Some AsMutex → sleeps (stance k) ≡ true → is_within (core_aim k) (Some m) ≡ true → core_aim k ≡ Gets m
+core_gets (Core.Upgrade c) kinds m ordinary of_kind ne is fits = absurd ordinary
+core_gets (Core.Rw c) kinds m ordinary of_kind ne is fits = asleep_gets c.phase m is fits
+core_gets (Core.Mutex c) kinds m ordinary of_kind ne is fits = absurd (ne of_kind)
+core_gets (Core.Late c) kinds m ordinary of_kind ne is fits = absurd (ne of_kind)
 
 -- where it held and holds no longer
 left_so : (a b : Option Mode) → a ≢ None → b ≡ None → has_left a b ≡ true
@@ -215,6 +218,7 @@ module _ (laws : StepsAreCases) (agree : Always OwnersAgree) (old : Shown) (fit 
       of (Core.Rw y) e = within_kinds s i _ e
       of (Core.Mutex y) e = within_kinds s i _ e
       of (Core.Late y) e = within_kinds s i _ e
+      of (Core.Upgrade y) e = within_kinds s i _ e
 
   other : (v : ℕ) → v ≢ t → (held_at u i v ≡ held_at s i v) ⊎ IsHandedOver t i v s u
   other v ne = others laws s u t fair None fit.fits fit.plain.kinds plain.kinds fit.plain.alone x v ne
@@ -340,7 +344,7 @@ module _ (laws : StepsAreCases) (agree : Always OwnersAgree) (old : Shown) (fit 
           let lock : y.lock ≡ i = ap (λ (z : Stand). z.shard) same ∙ given.lock in
           let fits_in : is_within (core_aim given.call.core) (Some m) ≡ true =
           ap (λ a. is_within a (Some m)) (sym (ap (λ (z : Stand). z.aim) same)) ∙ ap (is_within (core_aim y.core)) (sym (ap (λ n. held_at u n v) lock ∙ e)) ∙ call_within u v y fits plain there in
-          core_gets given.call.core (slice_get s.kinds given.call.lock) m (fit.fits.rules.kinds v given.call given.there) (not_mutex s given.call.lock fit.plain.kinds) (ap sleeps given.asleep) fits_in
+          core_gets given.call.core (slice_get s.kinds given.call.lock) m (fit.plain.alone v given.call given.there).1 (fit.fits.rules.kinds v given.call given.there) (not_mutex s given.call.lock fit.plain.kinds) (ap sleeps given.asleep) fits_in
 
       gained : (v j : ℕ) (m : Mode) → v ≢ t → held_at u j v ≡ Some m
           → (held_at s j v ≡ Some m) ⊎ ((sv : Stand) × (option_map stand_of (call_at s v) ≡ Some sv) × (sv.shard ≡ j) × (sv.aim ≡ Gets m))

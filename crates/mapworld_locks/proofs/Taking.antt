@@ -156,9 +156,9 @@ module _ (s : State) (h : FitsTogether s) (t : ℕ) (c : Call) (here : call_at s
 
   goes_inside : (k : SectionAct) (fair : Bool) (u : State) → BecameInside k t fair c s u → Result u
   goes_inside SectionAct.Check fair u e = is u _ e (inl (apart _))
-  goes_inside SectionAct.TakeFirst fair u (k, stands, inl (w, first, e)) = is u _ e (takes _ _ _ refl)
+  goes_inside SectionAct.TakeFirst fair u (k, stands, inl (n, w, first, e)) = is u _ e (takes _ _ _ refl)
   goes_inside SectionAct.TakeFirst fair u (k, stands, inr (empty, e)) = is u _ e (inl (apart _))
-  goes_inside (SectionAct.TakeNext sum) fair u (k, stands, inl (w, first, e)) = is u _ e (takes _ _ _ refl)
+  goes_inside (SectionAct.TakeNext sum) fair u (k, stands, inl (n, w, first, e)) = is u _ e (takes _ _ _ refl)
   goes_inside (SectionAct.TakeNext sum) fair u (k, stands, inr (empty, e)) = is u _ e (inl (apart _))
   goes_inside (SectionAct.Append token) fair u (k, stands, e) = is u _ e (inl (apart _))
   goes_inside (SectionAct.Store plain handing) fair u e = is u _ e (says _ _)

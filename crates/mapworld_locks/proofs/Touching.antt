@@ -55,9 +55,9 @@ module _ (s : State) (t : ℕ) (c : Call) where
 
   goes_inside : (k : SectionAct) (fair : Bool) (u : State) → BecameInside k t fair c s u → Result u
   goes_inside SectionAct.Check fair u e = is u _ e (inl nothing)
-  goes_inside SectionAct.TakeFirst fair u (k, stands, inl (w, first, e)) = is u _ e (inr (k, λ j. refl, λ key ne. other_list k _ key ne))
+  goes_inside SectionAct.TakeFirst fair u (k, stands, inl (n, w, first, e)) = is u _ e (inr (k, λ j. refl, λ key ne. other_list k _ key ne))
   goes_inside SectionAct.TakeFirst fair u (k, stands, inr (empty, e)) = is u _ e (inl nothing)
-  goes_inside (SectionAct.TakeNext sum) fair u (k, stands, inl (w, first, e)) = is u _ e (inr (k, λ j. refl, λ key ne. other_list k _ key ne))
+  goes_inside (SectionAct.TakeNext sum) fair u (k, stands, inl (n, w, first, e)) = is u _ e (inr (k, λ j. refl, λ key ne. other_list k _ key ne))
   goes_inside (SectionAct.TakeNext sum) fair u (k, stands, inr (empty, e)) = is u _ e (inl nothing)
   goes_inside (SectionAct.Append token) fair u (k, stands, e) = is u _ e (inr (k, λ j. refl, λ key ne. other_list k _ key ne))
   goes_inside (SectionAct.Store plain handing) fair u e = is u _ e (inl (λ j ne. word_set _ j ne, λ key. refl))

@@ -21,6 +21,7 @@ use Rattle.parking_lot_world.specs.CallViews.{Weighs, rw_mode}
 use Rattle.parking_lot_world.specs.RowFits.{FitsTogether, IsOfKind}
 use Rattle.parking_lot_world.specs.Rows.{State, call_at, hold_at, owned_of, rw_core_role, rw_role_at, rw_role_in, rw_spot, taken_by}
 use Rattle.parking_lot_world.specs.Worlds.{hold_mode}
+use Rattle.mapworld_locks.specs.Fits.{IsOrdinary}
 use Rattle.mapworld_locks.specs.Fits.{IsPlain, is_single}
 use Rattle.mapworld_locks.specs.Views.{held_as, held_at}
 use Rattle.mapworld_locks.proofs.Beginning.{differ, single_hold}
@@ -112,11 +113,13 @@ idle_reads (Hold.Shares zero) is = none refl
 idle_reads (Hold.Shares (suc zero)) is = once refl
 idle_reads (Hold.Shares (suc (suc n))) is = absurd (false≢true is)
 idle_reads Hold.Excludes is = none refl
+idle_reads Hold.Upgrades is = absurd (false≢true is)
 
-never_so : (h : Hold) → held_as (hold_mode (Some kind.Rw) h) ≢ Some held.Upgradable
-never_so (Hold.Shares zero) e = none-some held.Upgradable e
-never_so (Hold.Shares (suc n)) e = differ (Some held.Shared) (Some held.Upgradable) (λ n. omega (arith, n)) e
-never_so Hold.Excludes e = differ (Some held.Exclusive) (Some held.Upgradable) (λ n. omega (arith, n)) e
+never_so : (h : Hold) → is_single h ≡ true → held_as (hold_mode (Some kind.Rw) h) ≢ Some held.Upgradable
+never_so (Hold.Shares zero) is e = none-some held.Upgradable e
+never_so (Hold.Shares (suc n)) is e = differ (Some held.Shared) (Some held.Upgradable) (λ n. omega (arith, n)) e
+never_so Hold.Upgrades is e = false≢true is
+never_so Hold.Excludes is e = differ (Some held.Exclusive) (Some held.Upgradable) (λ n. omega (arith, n)) e
 
 module _ (s : State) (h : FitsTogether s) (plain : IsPlain s) (i t : ℕ) where
   abbrev hold : Hold
@@ -129,24 +132,25 @@ module _ (s : State) (h : FitsTogether s) (plain : IsPlain s) (i t : ℕ) where
   idle_in : (c : Call) → (c.lock == i) ≡ false → rw_role_in i us hold (Some c) ≡ record { owns = owned_of hold; does = Idle }
   idle_in c other = cond-false (c.lock == i) (rw_core_role c.others c.spot us c.core) (record { owns = owned_of hold; does = Idle }) other
 
-  core_reads : (c : Call) → call_at s t ≡ Some c → (k : Core) → IsOfKind (slice_get s.kinds c.lock) k → weight Readers (rw_core_role 0 c.spot us k) ≤ 1
-  core_reads c here (Core.Rw x) of_kind = phase_reads (rw_spot c.spot) us x.phase
-  core_reads c here (Core.Mutex x) of_kind = absurd (not_mutex s c.lock plain.kinds of_kind)
-  core_reads c here (Core.Late x) of_kind = absurd (not_mutex s c.lock plain.kinds of_kind)
+  core_reads : (c : Call) → call_at s t ≡ Some c → (k : Core) → IsOrdinary k → IsOfKind (slice_get s.kinds c.lock) k → weight Readers (rw_core_role 0 c.spot us k) ≤ 1
+  core_reads c here (Core.Upgrade x) ordinary of_kind = absurd ordinary
+  core_reads c here (Core.Rw x) ordinary of_kind = phase_reads (rw_spot c.spot) us x.phase
+  core_reads c here (Core.Mutex x) ordinary of_kind = absurd (not_mutex s c.lock plain.kinds of_kind)
+  core_reads c here (Core.Late x) ordinary of_kind = absurd (not_mutex s c.lock plain.kinds of_kind)
 
   reads_by : (o : Option Call) → call_at s t ≡ o → weight Readers (rw_role_in i us hold o) ≤ 1
   reads_by None e = idle_reads hold (single_hold s t i plain.single)
   reads_by (Some c) e = elim (cases_Bool (c.lock == i)) [
     | inr other ↦ subst (λ r. weight Readers r ≤ 1) (sym (idle_in c other)) (idle_reads hold (single_hold s t i plain.single))
     | inl same ↦ subst (λ r. weight Readers r ≤ 1) (sym (cond-true (c.lock == i) (rw_core_role c.others c.spot us c.core) (record { owns = owned_of hold; does = Idle }) same))
-        (subst (λ n. weight Readers (rw_core_role n c.spot us c.core) ≤ 1) (sym (plain.alone t c e)) (core_reads c e c.core (h.rules.kinds t c e)))
+        (subst (λ n. weight Readers (rw_core_role n c.spot us c.core) ≤ 1) (sym (plain.alone t c e).0) (core_reads c e c.core (plain.alone t c e).1 (h.rules.kinds t c e)))
   ]
 
   pub reads_once : weight Readers (rw_role_at s i t) ≤ 1
   reads_once = reads_by (call_at s t) refl
 
   idle_never : t < length s.calls → rw_role_at s i t ≡ record { owns = owned_of hold; does = Idle } → held_at s i t ≢ Some held.Upgradable
-  idle_never low role e = never_so hold (sym (held_by_role s i t plain.kinds low ∙ ap (λ r. held_as (rw_mode r)) role ∙ ap held_as (idle_mode hold)) ∙ e)
+  idle_never low role e = never_so hold (single_hold s t i plain.single) (sym (held_by_role s i t plain.kinds low ∙ ap (λ r. held_as (rw_mode r)) role ∙ ap held_as (idle_mode hold)) ∙ e)
 
   never_by : (o : Option Call) → call_at s t ≡ o → t < length s.calls → held_at s i t ≢ Some held.Upgradable
   never_by None e low = idle_never low (ap (rw_role_in i us hold) e)

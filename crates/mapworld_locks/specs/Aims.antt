@@ -19,7 +19,7 @@ pub data Aim : Type 0 where
   GivesUp : (mode : Mode) → Aim
   Turns : Aim
 
--- the aim of a call; a mutex's is none of a reader-writer lock
+-- the aim of a call; a mutex's is none of a reader-writer lock, and no shard is held upgradably
 abbrev pub aim_of : LockCall → Aim
 aim_of call.Lock = Gets held.Exclusive
 aim_of call.TryLock = Gets held.Exclusive
@@ -32,6 +32,13 @@ aim_of call.Write = Gets held.Exclusive
 aim_of call.TryWrite = Gets held.Exclusive
 aim_of call.UnlockWrite = GivesUp held.Exclusive
 aim_of call.Downgrade = Turns
+aim_of call.UpgradableRead = Gets held.Upgradable
+aim_of call.TryUpgradableRead = Gets held.Upgradable
+aim_of call.UnlockUpgradable = GivesUp held.Upgradable
+aim_of call.Upgrade = Gets held.Exclusive
+aim_of call.TryUpgrade = Gets held.Exclusive
+aim_of call.DowngradeToUpgradable = Gets held.Upgradable
+aim_of call.DowngradeUpgradable = Turns
 
 abbrev pub aim_for : LockMode → Aim
 aim_for (want.Shared recursive) = Gets held.Shared

@@ -2,6 +2,8 @@
 use Rattle.std.specs.Prelude.{◌≡◌, ℕ, zero, suc, ◌≤◌, Bool, true, false, length, Some, slice_get}
 use Rattle.std.specs.List.{All}
 use Rattle.lock_api_desk.specs.Desk.{DeskState}
+use Rattle.parking_lot_world.specs.declared.seat.Core.{Core}
+use Rattle.parking_lot_world.specs.declared.seat.Core.TheVariants as core
 use Rattle.parking_lot_world.specs.declared.calls.LockKind.TheVariants as kind
 use Rattle.parking_lot_world.specs.declared.seat.Hold.{Hold}
 use Rattle.parking_lot_world.specs.declared.seat.Hold.TheVariants as hold
@@ -17,12 +19,18 @@ is_single (hold.Shares zero) = true
 is_single (hold.Shares (suc zero)) = true
 is_single (hold.Shares (suc (suc n))) = false
 is_single hold.Excludes = true
+is_single hold.Upgrades = false
+
+-- nobody asks for the upgradable hold
+abbrev pub IsOrdinary : Core → Type 0
+IsOrdinary (core.Upgrade c) = ⊥
+IsOrdinary k = Unit {0}
 
 -- of the machine alone: all locks are reader-writer locks
 pub record IsPlain (s : State) : Type 0 where
   pub kinds : All (λ k. k ≡ kind.Rw) s.kinds
   pub single : All (λ h. is_single h ≡ true) s.holds
-  pub alone : (t : ℕ) (c : Call) → call_at s t ≡ Some c → c.others ≡ 0
+  pub alone : (t : ℕ) (c : Call) → call_at s t ≡ Some c → (c.others ≡ 0) × IsOrdinary c.core
 
 -- The desk beside a shard's word: its guards are the lock's owners but pending ones, each under the number of its thread, and those that were
 -- handed the lock are among them. There is room for a guard of each thread.

@@ -28,22 +28,35 @@ is_trying (r.TryAdmits want word left) = true
 is_trying (r.Refuses want) = true
 is_trying other = false
 
--- all locks are reader-writer locks, so a mutex's call has an aim only for the sake of a whole table
+-- all locks are reader-writer locks, and nobody asks for the upgradable hold, so other calls have an aim only for the sake of a whole table
 abbrev pub core_aim : Core → Aim
 core_aim (core.Rw c) = phase_aim c.phase
 core_aim (core.Mutex c) = Turns
 core_aim (core.Late p) = Turns
+core_aim (core.Upgrade c) = Turns
 
 abbrev pub core_tries : Core → Bool
 core_tries (core.Rw c) = is_trying c.phase
 core_tries (core.Mutex c) = false
 core_tries (core.Late p) = false
+core_tries (core.Upgrade c) = false
 
 abbrev pub stand_of : Call → Stand
 stand_of c = record { shard = c.lock; aim = core_aim c.core; trying = core_tries c.core }
 
 abbrev pub stand_in : Shown → ℕ → Option Stand
 stand_in sh t = option_map stand_of (call_at (state sh.rows) t)
+
+-- a call of shared and exclusive holds at a reader-writer lock
+abbrev pub is_of_shards : LockCall → Bool
+is_of_shards ask.Read = true
+is_of_shards ask.TryRead = true
+is_of_shards ask.UnlockRead = true
+is_of_shards ask.Write = true
+is_of_shards ask.TryWrite = true
+is_of_shards ask.UnlockWrite = true
+is_of_shards ask.Downgrade = true
+is_of_shards other = false
 
 -- the call is a try
 abbrev pub is_try : LockCall → Bool

@@ -1,5 +1,5 @@
 -- What each act of a thread leaves of shards' locks.
-use Rattle.std.specs.Prelude.{◌≡◌, ◌≢◌, ◌⊎◌, ℕ, ◌<◌, Bool, false, length, Some, None, slice_get, slice_set}
+use Rattle.std.specs.Prelude.{true, ◌≡◌, ◌≢◌, ◌⊎◌, ℕ, ◌<◌, Bool, false, length, Some, None, slice_get, slice_set}
 use Rattle.lock_api_desk.specs.declared.mode.Mode.{Mode}
 use Rattle.lock_api_desk.specs.declared.mode.Mode.TheVariants as held
 use Rattle.lock_api_desk.specs.Desk.{DeskState}
@@ -7,14 +7,12 @@ use Rattle.parking_lot_protocol.specs.declared.act.CoreAnswer.{CoreAnswer}
 use Rattle.parking_lot_protocol.specs.declared.act.CoreAnswer.TheVariants.{Owned, Refused}
 use Rattle.parking_lot_world.specs.declared.calls.LockCall.{LockCall}
 use Rattle.parking_lot_world.specs.declared.calls.LockCall.TheVariants.{Downgrade}
-use Rattle.parking_lot_world.specs.Calls.{manner_for}
-use Rattle.parking_lot_world.specs.Kinds.{AsRw}
 use Rattle.parking_lot_world.specs.Machines.{IsBegun, IsStepped, ended}
 use Rattle.parking_lot_world.specs.Rows.{state, taken_by}
 use Rattle.mapworld_locks.specs.Aims.{Gets, GivesUp, Turns, aim_of}
 use Rattle.mapworld_locks.specs.Moves.{desk_after}
 use Rattle.mapworld_locks.specs.Seats.{GoTogether}
-use Rattle.mapworld_locks.specs.Stands.{Stand, is_try, needs, stand_in}
+use Rattle.mapworld_locks.specs.Stands.{Stand, is_of_shards, is_try, needs, stand_in}
 use Rattle.mapworld_locks.specs.Views.{Shown, owner_in}
 
 -- threads stay, and locks stay what they are
@@ -26,13 +24,14 @@ pub record StaysWhole (old new : Shown) : Type 0 where
 pub record MayAsk (t shard : ℕ) (call : LockCall) (sh : Shown) : Type 0 where
   pub thread : t < length sh.rows.calls
   pub there : shard < length sh.rows.kinds
-  pub of_kind : manner_for call ≡ AsRw
+  pub of_kind : is_of_shards call ≡ true
   pub free : stand_in sh t ≡ None
   pub holds : owner_in sh shard t ≡ needs call
 
 -- It has begun the call, and nobody's hold has changed.
 pub record LockBegins (t shard : ℕ) (call : LockCall) (old new : Shown) : Type 0 where
   pub became : IsBegun t shard call (state old.rows) (state new.rows)
+  pub of_kind : is_of_shards call ≡ true
   pub whole : StaysWhole old new
   pub desks : new.desks ≡ old.desks
   pub stand : stand_in new t ≡ Some (record { shard = shard; aim = aim_of call; trying = is_try call })

@@ -2,12 +2,10 @@
 ghost use Rattle.std.specs.Option.{option_copied};
 ghost use Rattle.std.specs.Prelude.{◌≡◌, ◌↔◌, length, None, Some, true, is_some, slice_get, IfOk, IfErr, IsTrue};
 ghost use Rattle.parking_lot_core_lot.specs.declared.fault.SizeFault.TheVariants.{NoMemory};
-ghost use Rattle.parking_lot_world.specs.Kinds.{AsRw};
-ghost use Rattle.parking_lot_world.specs.Calls.{manner_for};
 ghost use Rattle.parking_lot_world.specs.Machines.{can_move, ended, is_asleep};
 ghost use Rattle.parking_lot_world.specs.Rows.{queue_at, state, word_at};
 ghost use Rattle.mapworld_locks.specs.Fits.{LocksFit};
-ghost use Rattle.mapworld_locks.specs.Stands.{gives, needs, stand_in};
+ghost use Rattle.mapworld_locks.specs.Stands.{gives, is_of_shards, needs, stand_in};
 ghost use Rattle.mapworld_locks.specs.Steps.{LockBegins, LockEnds, LockMoves, LockStarts, MayAsk};
 ghost use Rattle.mapworld_locks.specs.Views.{owner_in};
 
@@ -173,14 +171,15 @@ impl<A: Allocator> ShardLocks<A> {
     }
 }
 
-/// Whether the call is one of reader-writer locks.
+/// Whether the call is one of shared and exclusive holds at reader-writer locks.
 fn is_of_shards(call: LockCall) -> bool
-    ensures { IsTrue result ↔ (manner_for call ≡ AsRw) }
+    ensures { result ≡ is_of_shards call }
 {
     match call {
-        LockCall::Lock | LockCall::TryLock | LockCall::LockUntil => false,
-        LockCall::Unlock => false,
-        _ => true,
+        LockCall::Read | LockCall::TryRead | LockCall::UnlockRead => true,
+        LockCall::Write | LockCall::TryWrite | LockCall::UnlockWrite => true,
+        LockCall::Downgrade => true,
+        _ => false,
     }
 }
 
@@ -191,6 +190,9 @@ fn needed(call: LockCall) -> Option<Mode>
     match call {
         LockCall::Unlock | LockCall::UnlockWrite | LockCall::Downgrade => Some(Mode::Exclusive),
         LockCall::UnlockRead => Some(Mode::Shared),
+        LockCall::UnlockUpgradable | LockCall::DowngradeUpgradable => Some(Mode::Upgradable),
+        LockCall::Upgrade | LockCall::TryUpgrade => Some(Mode::Upgradable),
+        LockCall::DowngradeToUpgradable => Some(Mode::Exclusive),
         _ => None,
     }
 }

@@ -4,10 +4,11 @@ use parking_lot_world::{Hold, LockCall, LockKind, WorldFault, WorldRefusal};
 use std::process::Abort;
 use std::test::Fail;
 
-/// Whether a reader, an owner and who owns nothing may ask that of such a lock.
-fn may_ask(kind: LockKind, call: LockCall) -> [bool; 3] {
+/// Whether a reader, one with the upgradable hold, an owner and who owns nothing may ask that of such a lock.
+fn may_ask(kind: LockKind, call: LockCall) -> [bool; 4] {
     [
         Hold::Shares(1).allows(kind, call),
+        Hold::Upgrades.allows(kind, call),
         Hold::Excludes.allows(kind, call),
         Hold::Shares(0).allows(kind, call),
     ]
@@ -16,17 +17,24 @@ fn may_ask(kind: LockKind, call: LockCall) -> [bool; 3] {
 #[test]
 fn who_owns_a_lock_only_gives_it_up(rt: HostRuntime) {
     let table = [
-        (LockCall::Lock, [false, false, true]),
-        (LockCall::TryLock, [false, false, true]),
-        (LockCall::LockUntil, [false, false, true]),
-        (LockCall::Read, [false, false, true]),
-        (LockCall::TryRead, [false, false, true]),
-        (LockCall::Write, [false, false, true]),
-        (LockCall::TryWrite, [false, false, true]),
-        (LockCall::Unlock, [false, true, false]),
-        (LockCall::UnlockWrite, [false, true, false]),
-        (LockCall::Downgrade, [false, true, false]),
-        (LockCall::UnlockRead, [true, false, false]),
+        (LockCall::Lock, [false, false, false, true]),
+        (LockCall::TryLock, [false, false, false, true]),
+        (LockCall::LockUntil, [false, false, false, true]),
+        (LockCall::Read, [false, false, false, true]),
+        (LockCall::TryRead, [false, false, false, true]),
+        (LockCall::Write, [false, false, false, true]),
+        (LockCall::TryWrite, [false, false, false, true]),
+        (LockCall::UpgradableRead, [false, false, false, true]),
+        (LockCall::TryUpgradableRead, [false, false, false, true]),
+        (LockCall::Unlock, [false, false, true, false]),
+        (LockCall::UnlockWrite, [false, false, true, false]),
+        (LockCall::Downgrade, [false, false, true, false]),
+        (LockCall::DowngradeToUpgradable, [false, false, true, false]),
+        (LockCall::UnlockUpgradable, [false, true, false, false]),
+        (LockCall::Upgrade, [false, true, false, false]),
+        (LockCall::TryUpgrade, [false, true, false, false]),
+        (LockCall::DowngradeUpgradable, [false, true, false, false]),
+        (LockCall::UnlockRead, [true, false, false, false]),
     ];
     for (call, may) in table {
         assert!(rt; may_ask(LockKind::Rw, call) == may, "{call:?}");
@@ -37,13 +45,15 @@ fn who_owns_a_lock_only_gives_it_up(rt: HostRuntime) {
 #[test]
 fn readers_of_a_recursive_lock_read_again(rt: HostRuntime) {
     let table = [
-        (LockCall::Read, [true, false, true]),
-        (LockCall::TryRead, [true, false, true]),
-        (LockCall::Write, [false, false, true]),
-        (LockCall::TryWrite, [false, false, true]),
-        (LockCall::UnlockWrite, [false, true, false]),
-        (LockCall::Downgrade, [false, true, false]),
-        (LockCall::UnlockRead, [true, false, false]),
+        (LockCall::Read, [true, false, false, true]),
+        (LockCall::TryRead, [true, false, false, true]),
+        (LockCall::Write, [false, false, false, true]),
+        (LockCall::TryWrite, [false, false, false, true]),
+        (LockCall::UpgradableRead, [false, false, false, true]),
+        (LockCall::UnlockWrite, [false, false, true, false]),
+        (LockCall::Downgrade, [false, false, true, false]),
+        (LockCall::Upgrade, [false, true, false, false]),
+        (LockCall::UnlockRead, [true, false, false, false]),
     ];
     for (call, may) in table {
         assert!(rt; may_ask(LockKind::RwRecursive, call) == may, "{call:?}");

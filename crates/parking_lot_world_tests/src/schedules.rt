@@ -175,3 +175,73 @@ fn every_schedule_at_a_recursive_lock_keeps_the_rules(rt: HostRuntime) -> Result
     assert!(rt; states >= 26_000, "{states} states");
     Ok(())
 }
+
+/// One that has the upgradable hold, and gives it up.
+const UPGRADABLE: Program = [
+    Some(LockCall::UpgradableRead),
+    Some(LockCall::UnlockUpgradable),
+    None,
+];
+
+/// One that has it, and goes on alone.
+const UPGRADE: Program = [
+    Some(LockCall::UpgradableRead),
+    Some(LockCall::Upgrade),
+    Some(LockCall::UnlockWrite),
+];
+
+#[test]
+fn every_schedule_of_two_upgradable_holds_keeps_the_rules(rt: HostRuntime) -> Result<(), Fail> {
+    let tries = two(LockCall::TryUpgradableRead, LockCall::UnlockUpgradable);
+    let states = explore_with(&rt, LockKind::Rw, UPGRADABLE, &[UPGRADABLE, tries])?;
+    assert!(rt; states >= 2_300, "{states} states");
+    Ok(())
+}
+
+#[test]
+fn every_schedule_of_an_upgradable_hold_and_others_keeps_the_rules(
+    rt: HostRuntime,
+) -> Result<(), Fail> {
+    let programs = [
+        two(LockCall::Read, LockCall::UnlockRead),
+        two(LockCall::Write, LockCall::UnlockWrite),
+    ];
+    let states = explore_with(&rt, LockKind::Rw, UPGRADABLE, &programs)?;
+    assert!(rt; states >= 1_700, "{states} states");
+    Ok(())
+}
+
+#[test]
+fn every_schedule_of_an_upgrade_and_a_reader_keeps_the_rules(rt: HostRuntime) -> Result<(), Fail> {
+    let reader = two(LockCall::Read, LockCall::UnlockRead);
+    let states = explore(&rt, LockKind::Rw, Pair(UPGRADE, reader))?;
+    assert!(rt; states >= 1_600, "{states} states");
+    Ok(())
+}
+
+#[test]
+fn every_schedule_of_an_upgrade_and_a_hold_keeps_the_rules(rt: HostRuntime) -> Result<(), Fail> {
+    let states = explore(&rt, LockKind::Rw, Pair(UPGRADE, UPGRADABLE))?;
+    assert!(rt; states >= 1_900, "{states} states");
+    Ok(())
+}
+
+#[test]
+fn every_schedule_of_a_downgrade_to_sharing_keeps_the_rules(rt: HostRuntime) -> Result<(), Fail> {
+    let turned = two(LockCall::UpgradableRead, LockCall::DowngradeUpgradable);
+    let states = explore(&rt, LockKind::Rw, Pair(turned, UPGRADABLE))?;
+    assert!(rt; states >= 1_400, "{states} states");
+    Ok(())
+}
+
+#[test]
+fn every_schedule_of_a_downgrade_of_a_writer_keeps_the_rules(rt: HostRuntime) -> Result<(), Fail> {
+    let turned = [
+        Some(LockCall::TryWrite),
+        Some(LockCall::DowngradeToUpgradable),
+        Some(LockCall::UnlockUpgradable),
+    ];
+    let states = explore(&rt, LockKind::Rw, Pair(turned, UPGRADABLE))?;
+    assert!(rt; states >= 1_900, "{states} states");
+    Ok(())
+}

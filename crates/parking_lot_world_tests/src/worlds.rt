@@ -441,3 +441,145 @@ fn who_was_handed_the_lock_in_time_owns_it(rt: HostRuntime) -> Result<(), Fail> 
     ];
     follow(&rt, 2, LockKind::Mutex, &[], &script)
 }
+
+#[test]
+fn upgradable_holds_are_never_beside_each_other(rt: HostRuntime) -> Result<(), Fail> {
+    let script = [
+        Line::Calls(0, LockCall::UpgradableRead),
+        Line::Answered(0, OWNED),
+        Line::Word(20),
+        Line::Calls(1, LockCall::UpgradableRead),
+        Line::Answered(1, None),
+        Line::Word(21),
+        Line::Queues(&[1], &[]),
+        Line::Calls(2, LockCall::TryUpgradableRead),
+        Line::Answered(2, REFUSED),
+        Line::Calls(2, LockCall::Read),
+        Line::Answered(2, OWNED),
+        Line::Word(37),
+        Line::Owners(&[(0, OwnMode::Upgradable), (2, OwnMode::Shared)]),
+        Line::Debts(&[]),
+        Line::CallsFairly(0, LockCall::UnlockUpgradable),
+        Line::Answered(0, RELEASED),
+        Line::Word(36),
+        Line::Owners(&[(1, OwnMode::Upgradable), (2, OwnMode::Shared)]),
+        Line::Queues(&[], &[]),
+        Line::GoesOn(1),
+        Line::Answered(1, OWNED),
+        Line::Debts(&[]),
+        Line::Calls(1, LockCall::UnlockUpgradable),
+        Line::Answered(1, RELEASED),
+        Line::Word(16),
+        Line::Owners(&[(2, OwnMode::Shared)]),
+    ];
+    follow(&rt, 3, LockKind::Rw, &[], &script)
+}
+
+#[test]
+fn an_upgrade_keeps_the_hold_until_readers_have_left(rt: HostRuntime) -> Result<(), Fail> {
+    let script = [
+        Line::Calls(0, LockCall::UpgradableRead),
+        Line::Calls(1, LockCall::Read),
+        Line::Word(36),
+        Line::Calls(0, LockCall::TryUpgrade),
+        Line::Answered(0, REFUSED),
+        Line::Word(36),
+        Line::Owners(&[(0, OwnMode::Upgradable), (1, OwnMode::Shared)]),
+        Line::Calls(0, LockCall::Upgrade),
+        Line::Answered(0, None),
+        Line::Word(26),
+        Line::Owners(&[(0, OwnMode::Pending), (1, OwnMode::Shared)]),
+        Line::Queues(&[], &[0]),
+        Line::Calls(2, LockCall::TryRead),
+        Line::Answered(2, REFUSED),
+        Line::Calls(1, LockCall::UnlockRead),
+        Line::Word(8),
+        Line::Owners(&[(0, OwnMode::Pending)]),
+        Line::Debts(&[0]),
+        Line::GoesOn(0),
+        Line::Answered(0, OWNED),
+        Line::Owners(&[(0, OwnMode::Exclusive)]),
+        Line::Calls(0, LockCall::DowngradeToUpgradable),
+        Line::Answered(0, OWNED),
+        Line::Word(20),
+        Line::Owners(&[(0, OwnMode::Upgradable)]),
+        Line::Calls(0, LockCall::TryUpgrade),
+        Line::Answered(0, OWNED),
+        Line::Word(8),
+        Line::Calls(0, LockCall::DowngradeToUpgradable),
+        Line::Calls(0, LockCall::DowngradeUpgradable),
+        Line::Answered(0, OWNED),
+        Line::Word(16),
+        Line::Owners(&[(0, OwnMode::Shared)]),
+        Line::Calls(0, LockCall::UnlockRead),
+        Line::Word(0),
+    ];
+    follow(&rt, 3, LockKind::Rw, &[], &script)
+}
+
+/// Thread 0 owns the lock alone; 1 waits for the upgradable hold, 2 to read and 3 to write.
+const THREE_WAIT: [Line; 7] = [
+    Line::Calls(0, LockCall::Write),
+    Line::Calls(1, LockCall::UpgradableRead),
+    Line::Calls(2, LockCall::Read),
+    Line::Calls(3, LockCall::Write),
+    Line::Word(9),
+    Line::Queues(&[1, 2, 3], &[]),
+    Line::Debts(&[]),
+];
+
+#[test]
+fn a_release_lets_an_upgradable_one_and_readers_in(rt: HostRuntime) -> Result<(), Fail> {
+    let script = [
+        Line::CallsFairly(0, LockCall::UnlockWrite),
+        Line::Answered(0, RELEASED),
+        Line::Word(37),
+        Line::Owners(&[(1, OwnMode::Upgradable), (2, OwnMode::Shared)]),
+        Line::Queues(&[3], &[]),
+        Line::GoesOn(1),
+        Line::Answered(1, OWNED),
+        Line::GoesOn(2),
+        Line::Answered(2, OWNED),
+        Line::Calls(2, LockCall::UnlockRead),
+        Line::Word(21),
+        Line::Queues(&[3], &[]),
+        Line::CallsFairly(1, LockCall::UnlockUpgradable),
+        Line::Word(8),
+        Line::Owners(&[(3, OwnMode::Pending)]),
+        Line::GoesOn(3),
+        Line::Answered(3, OWNED),
+    ];
+    follow(&rt, 4, LockKind::Rw, &THREE_WAIT, &script)
+}
+
+#[test]
+fn a_downgrade_to_the_upgradable_hold_passes_whom_it_keeps_out(
+    rt: HostRuntime,
+) -> Result<(), Fail> {
+    let script = [
+        Line::Calls(0, LockCall::DowngradeToUpgradable),
+        Line::Answered(0, OWNED),
+        Line::Word(21),
+        Line::Owners(&[(0, OwnMode::Upgradable)]),
+        Line::Queues(&[1, 3], &[]),
+        Line::Debts(&[2]),
+        Line::GoesOn(2),
+        Line::Answered(2, OWNED),
+        Line::Word(37),
+        Line::Owners(&[(0, OwnMode::Upgradable), (2, OwnMode::Shared)]),
+        Line::Calls(0, LockCall::DowngradeUpgradable),
+        Line::Answered(0, OWNED),
+        Line::Word(33),
+        Line::Queues(&[3], &[]),
+        Line::Debts(&[1]),
+        Line::GoesOn(1),
+        Line::Answered(1, OWNED),
+        Line::Owners(&[
+            (0, OwnMode::Shared),
+            (1, OwnMode::Upgradable),
+            (2, OwnMode::Shared),
+        ]),
+        Line::Word(53),
+    ];
+    follow(&rt, 4, LockKind::Rw, &THREE_WAIT, &script)
+}

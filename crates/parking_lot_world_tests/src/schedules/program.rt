@@ -21,9 +21,13 @@ fn mode_before(call: LockCall) -> Option<OwnMode> {
     match call {
         LockCall::Unlock | LockCall::UnlockWrite => Some(OwnMode::Exclusive),
         LockCall::Downgrade => Some(OwnMode::Exclusive),
+        LockCall::DowngradeToUpgradable => Some(OwnMode::Exclusive),
         LockCall::UnlockRead => Some(OwnMode::Shared),
+        LockCall::UnlockUpgradable | LockCall::DowngradeUpgradable => Some(OwnMode::Upgradable),
+        LockCall::Upgrade | LockCall::TryUpgrade => Some(OwnMode::Upgradable),
         LockCall::Lock | LockCall::TryLock | LockCall::LockUntil => None,
         LockCall::Read | LockCall::TryRead => None,
+        LockCall::UpgradableRead | LockCall::TryUpgradableRead => None,
         LockCall::Write | LockCall::TryWrite => None,
     }
 }
@@ -34,8 +38,12 @@ pub fn mode_behind(call: LockCall) -> Option<OwnMode> {
         LockCall::Lock | LockCall::TryLock | LockCall::LockUntil => Some(OwnMode::Exclusive),
         LockCall::Write | LockCall::TryWrite => Some(OwnMode::Exclusive),
         LockCall::Read | LockCall::TryRead => Some(OwnMode::Shared),
-        LockCall::Downgrade => Some(OwnMode::Shared),
+        LockCall::Downgrade | LockCall::DowngradeUpgradable => Some(OwnMode::Shared),
+        LockCall::UpgradableRead | LockCall::TryUpgradableRead => Some(OwnMode::Upgradable),
+        LockCall::DowngradeToUpgradable => Some(OwnMode::Upgradable),
+        LockCall::Upgrade | LockCall::TryUpgrade => Some(OwnMode::Exclusive),
         LockCall::Unlock | LockCall::UnlockRead | LockCall::UnlockWrite => None,
+        LockCall::UnlockUpgradable => None,
     }
 }
 
@@ -44,7 +52,7 @@ pub fn shares_behind(call: LockCall, shares: u8) -> u8 {
     match call {
         LockCall::Read | LockCall::TryRead => shares.saturating_add(1),
         LockCall::UnlockRead => shares.saturating_sub(1),
-        LockCall::Downgrade => 1,
+        LockCall::Downgrade | LockCall::DowngradeUpgradable => 1,
         _ => 0,
     }
 }
@@ -67,16 +75,21 @@ fn owned_before(call: LockCall, shares: u8) -> Option<OwnMode> {
     }
 }
 
-/// Whether a thread that had so many shared holds may own the lock so within that call. Only a writer that may sleep is ever pending.
+/// Whether a thread that had so many shared holds may own the lock so within that call. Only a writer that may sleep, or an
+/// upgrade that may, is ever pending.
 pub fn may_own(call: LockCall, shares: u8, mode: Option<OwnMode>) -> bool {
     mode == owned_before(call, shares)
         || mode == owned_behind(call, shares)
-        || call == LockCall::Write && mode == Some(OwnMode::Pending)
+        || matches!(call, LockCall::Write | LockCall::Upgrade) && mode == Some(OwnMode::Pending)
 }
 
 /// Whether that call may sleep until it owns the lock, or until its deadline.
 pub fn may_sleep(call: LockCall) -> bool {
-    matches!(call, LockCall::Lock | LockCall::Read | LockCall::Write) || is_timed(call)
+    match call {
+        LockCall::Lock | LockCall::Read | LockCall::Write => true,
+        LockCall::UpgradableRead | LockCall::Upgrade => true,
+        _ => is_timed(call),
+    }
 }
 
 /// Whether that call has a deadline.
@@ -109,9 +122,22 @@ fn has_deadline(program: Program) -> bool {
     program.iter().flatten().any(|call| is_timed(*call))
 }
 
+/// Whether the program asks to own the lock so.
+fn asks(program: Program, mode: OwnMode) -> bool {
+    program
+        .iter()
+        .flatten()
+        .any(|call| mode_behind(*call) == Some(mode))
+}
+
 /// Whether the program asks to own the lock alone.
 fn excludes(program: Program) -> bool {
-    program[0].and_then(mode_behind) == Some(OwnMode::Exclusive)
+    asks(program, OwnMode::Exclusive)
+}
+
+/// Whether its first call waits beside an upgradable hold.
+fn waits_for_upgradable(program: Program) -> bool {
+    is_patient(program) && program[0].and_then(mode_behind) != Some(OwnMode::Shared)
 }
 
 /// Whether the program still owns the lock at its end.
@@ -125,9 +151,12 @@ fn keeps(program: Program) -> bool {
     owned.is_some()
 }
 
-/// Whether the program gives up the exclusive hold, and may hand it over.
-fn may_hand(program: Program) -> bool {
-    program.contains(&Some(LockCall::Unlock)) || program.contains(&Some(LockCall::UnlockWrite))
+/// Whether the program gives up the exclusive hold, or the upgradable one, and may hand it over to that one.
+fn may_hand(program: Program, other: Program) -> bool {
+    let excluded =
+        program.contains(&Some(LockCall::Unlock)) || program.contains(&Some(LockCall::UnlockWrite));
+    let upgradable = program.contains(&Some(LockCall::UnlockUpgradable));
+    excluded && is_patient(other) || upgradable && waits_for_upgradable(other)
 }
 
 /// Two programs, of thread 0 and of thread 1.
@@ -142,7 +171,9 @@ impl Pair {
 
     /// Whether one of them excludes the other while it owns the lock.
     fn conflicts(self) -> bool {
-        excludes(self.0) || excludes(self.1)
+        excludes(self.0)
+            || excludes(self.1)
+            || asks(self.0, OwnMode::Upgradable) && asks(self.1, OwnMode::Upgradable)
     }
 
     /// Whether the first may be served once the second is at its end.
@@ -176,6 +207,6 @@ impl Pair {
 
     /// Whether there is a schedule by which one of them hands the lock over to the other.
     pub fn may_hand(self) -> bool {
-        may_hand(self.0) && is_patient(self.1) || may_hand(self.1) && is_patient(self.0)
+        may_hand(self.0, self.1) || may_hand(self.1, self.0)
     }
 }

@@ -112,9 +112,11 @@ impl Shown {
         matches!(self.debts.as_slice(), [] | [0 | 1] | [0, 1])
     }
 
-    /// At most one excludes others, and nobody reads beside one that does so already.
+    /// At most one excludes others or has the upgradable hold, and nobody reads beside one that excludes others already.
     pub fn owners_go_together(&self) -> bool {
-        self.excluding() <= 1
+        self.excluding()
+            .saturating_add(self.count(OwnMode::Upgradable))
+            <= 1
             && (self.count(OwnMode::Exclusive) == 0 || self.count(OwnMode::Shared) == 0)
     }
 
@@ -127,15 +129,20 @@ impl Shown {
     fn more_holds(&self) -> u64 {
         let readers = self.count(OwnMode::Shared) as u64;
         if self.kind == LockKind::RwRecursive && readers > 0 {
-            (self.word / 16).saturating_sub(readers)
+            self.shared_holds().saturating_sub(readers)
         } else {
             0
         }
     }
 
+    /// How many shared holds the word counts beside the upgradable one, which it counts among them.
+    fn shared_holds(&self) -> u64 {
+        (self.word / 16).saturating_sub(self.count(OwnMode::Upgradable) as u64)
+    }
+
     /// Whether the word counts so many shared holds, from the least to the most.
     pub fn counts_holds(&self, least: u64, most: u64) -> bool {
-        let holds = if self.is_mutex() { 0 } else { self.word / 16 };
+        let holds = if self.is_mutex() { 0 } else { self.shared_holds() };
         least <= holds && holds <= most
     }
 
@@ -180,9 +187,11 @@ impl Shown {
             .all(|thread| self.mode(*thread) == Some(OwnMode::Pending))
     }
 
-    /// Whether one that waits might go on: nobody excludes others, or for a pending writer nobody reads.
+    /// Whether one that waits might go on, whatever it waits to be: nobody excludes others or has the upgradable hold, or for a pending writer
+    /// nobody reads.
     pub fn may_go_on(&self) -> bool {
-        !self.first.is_empty() && self.excluding() == 0
+        let is_free = self.excluding() == 0 && self.count(OwnMode::Upgradable) == 0;
+        !self.first.is_empty() && is_free
             || !self.second.is_empty() && self.count(OwnMode::Shared) == 0
     }
 

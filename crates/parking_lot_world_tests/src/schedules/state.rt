@@ -4,6 +4,7 @@ use super::program::{End, Program, is_timed, may_answer, owned_behind, shares_be
 use super::shown::Shown;
 use parking_lot_core_lot::{Place, ThreadStatus};
 use parking_lot_protocol::{MutexPhase, RwPhase};
+use parking_lot_upgrades::{Hold as KeptHold, UpgradePhase};
 use parking_lot_world::{
     Call, Core, Hold, LatePhase, LockAnswer, LockCall, OwnMode, QueuePosition, Wakeup, World,
     WorldStep,
@@ -259,6 +260,74 @@ enum Phase {
     Mutex(MutexPhase),
     Rw(RwPhase),
     Late(LatePhase),
+    Upgrade(Upgradable),
+}
+
+/// Where an upgradable call stands: the number of its case, the call as which it goes on, the word and the count that it looks for, and what its
+/// thread keeps.
+#[derive(Clone, Copy, PartialEq, Eq)]
+struct Upgradable {
+    case: u8,
+    core: Option<RwPhase>,
+    word: u64,
+    left: u8,
+    kept: Option<KeptHold>,
+}
+
+/// One that goes on as a call of shared and exclusive holds.
+fn goes_on(case: u8, core: RwPhase, kept: Option<KeptHold>) -> Upgradable {
+    Upgradable {
+        case,
+        core: Some(core),
+        word: 0,
+        left: 0,
+        kept,
+    }
+}
+
+/// One that exchanges a word.
+fn exchanges(case: u8, word: u64, left: u8) -> Upgradable {
+    Upgradable {
+        case,
+        core: None,
+        word,
+        left,
+        kept: None,
+    }
+}
+
+/// One that is over, with what its thread keeps.
+fn is_over(kept: KeptHold) -> Upgradable {
+    Upgradable {
+        case: 4,
+        core: None,
+        word: 0,
+        left: 0,
+        kept: Some(kept),
+    }
+}
+
+impl Upgradable {
+    fn of(phase: UpgradePhase) -> Upgradable {
+        match phase {
+            UpgradePhase::Seeks(core) => goes_on(0, core.phase(), None),
+            UpgradePhase::Drains(core) => goes_on(1, core.phase(), None),
+            UpgradePhase::Frees(_, core) => goes_on(2, core.phase(), None),
+            UpgradePhase::Owes(kept, _, core) => goes_on(3, core.phase(), Some(kept)),
+            UpgradePhase::Ends(kept, _) => is_over(kept),
+            UpgradePhase::TryAdmits(word, left) => exchanges(5, word, left),
+            UpgradePhase::TryUpgrades(word, left) => exchanges(6, word, left),
+            UpgradePhase::Unlocks(_, word) => exchanges(7, word, 0),
+            UpgradePhase::TryLoads => exchanges(8, 0, 0),
+            UpgradePhase::Refuses => exchanges(9, 0, 0),
+            UpgradePhase::Upgrades => exchanges(10, 0, 0),
+            UpgradePhase::TryUpgradeLoads => exchanges(11, 0, 0),
+            UpgradePhase::UnlockLoads(_) => exchanges(12, 0, 0),
+            UpgradePhase::ToShared => exchanges(13, 0, 0),
+            UpgradePhase::ToUpgradable => exchanges(14, 0, 0),
+            _ => exchanges(15, 0, 0),
+        }
+    }
 }
 
 /// An unanswered call: where it stands, how many holds its thread has beside, and where it is while it sleeps.
@@ -271,6 +340,7 @@ impl Standing {
             Core::Mutex(core) => Phase::Mutex(core.phase()),
             Core::Rw(core) => Phase::Rw(core.phase()),
             Core::Late(phase) => Phase::Late(phase),
+            Core::Upgrade(core) => Phase::Upgrade(Upgradable::of(core.phase())),
         };
         Standing(phase, call.others, call.spot)
     }
