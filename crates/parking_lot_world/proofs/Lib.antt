@@ -1,4 +1,5 @@
 mod KindTable
+mod Sleepers
 mod Everybody
 mod Making
 mod Meeting
@@ -27,6 +28,7 @@ mod OwnActs
 mod WakesKept
 mod PhaseStancing
 mod UpgradeStancing
+mod LateStancing
 pub mod Stancing
 mod UpgradeMoving
 mod UpgradeKeeping
@@ -85,6 +87,7 @@ mod UpgradePaying
 mod Summing
 pub mod Paying
 pub mod LateLots
+mod LateKinds
 pub mod LateActs
 pub mod LateCalls
 pub mod RequeueRuns

@@ -84,5 +84,6 @@ module _ (s : State) (h : FitsTogether s) (t : ℕ) (c : Call) (here : call_at s
       by_core : (x : Core) → c.core ≡ x → Counts x w.token
       by_core (Core.Mutex x) e = tt
       by_core (Core.Late p) e = tt
+      by_core (Core.LateRw p) e = tt
       by_core (Core.Rw x) e = rw_room (Simple x) e
       by_core (Core.Upgrade x) e = rw_room (Upgradable x) e

@@ -123,8 +123,6 @@ owes_needs us q e few = tt
 prepared : (us : List ℕ) (p : UpgradePhase) → IsOfWorld p → length us ≡ upgrade_taken p → upgrade_shared p ≤ 2 ^ 17 → upgrade_prepared us p
 prepared us (UpgradePhase.Plain core) o e few = absurd o
 prepared us (UpgradePhase.GivingUp from) o e few = absurd o
-prepared us (UpgradePhase.YieldLoads from) o e few = absurd o
-prepared us (UpgradePhase.Yields from word) o e few = absurd o
 prepared us (UpgradePhase.Frees r core) o e few = frees_needs us core.phase e few
 prepared us (UpgradePhase.Owes kept end core) o e few = owes_needs us core.phase e few
 prepared us p o e few = tt
