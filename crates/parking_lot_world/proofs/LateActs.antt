@@ -1,5 +1,5 @@
 -- The acts of a call whose moment has passed: each keeps the machine fit, and is a step of the rules.
-use Rattle.std.proofs.Common.{◌≡◌, ℕ, zero, suc, ◌+◌, ◌*◌, ◌≤◌, ◌==◌, inl, inr, Bool, true, false, cond, List, [], ◌∷◌, length, remove, Option, Some, None, slice_get, slice_set, sum_by, refl, sym, ap, ◌∙◌, subst, arith, eqb-true, eq-eqb}
+use Rattle.std.proofs.Common.{◌≡◌, ℕ, zero, suc, ◌+◌, ◌*◌, ◌≤◌, ◌<◌, ◌≢◌, ◌==◌, ◌||◌, inl, inr, Bool, true, false, cond, List, [], ◌∷◌, length, remove, Option, Some, None, is_some, slice_get, slice_set, sum_by, refl, sym, ap, ◌∙◌, subst, arith, eqb-true, eq-eqb}
 use Rattle.std.specs.List.{position_or_len}
 use Rattle.std.specs.Option.{option_and_then, option_map}
 use Rattle.std.proofs.lemmas.Bool.{cases_eq, ne_eqb}
@@ -11,7 +11,7 @@ use Rattle.parking_lot_core_lot.specs.declared.place.Phase.{Phase}
 use Rattle.parking_lot_core_lot.specs.declared.place.Place.TheVariants.{Running, Waiting}
 use Rattle.parking_lot_core_lot.specs.declared.place.Section.{Section}
 use Rattle.parking_lot_core_lot.specs.declared.place.Waiter.{Waiter}
-use Rattle.parking_lot_core_lot.specs.Machine.{Machine, is_thread, threads_of}
+use Rattle.parking_lot_core_lot.specs.Machine.{Machine, is_thread, stored, threads_of}
 use Rattle.parking_lot_core_lot.specs.Places.{place_at}
 use Rattle.parking_lot_core_lot.specs.Results.{is_left}
 use Rattle.parking_lot_core_lot.specs.Sound as lot
@@ -19,42 +19,54 @@ use Rattle.parking_lot_core_lot.specs.Sound.{times_at}
 use Rattle.parking_lot_core_lot.proofs.Kept.{updated_at, updated_other}
 use Rattle.parking_lot_core_lot.proofs.Numbers.{flag, first_passes}
 use Rattle.parking_lot_core_lot.proofs.Sounds.{place_at-set_same, place_at-set_other}
-use Rattle.parking_lot_rules.specs.Any.{Mx, MxStep}
+use Rattle.parking_lot_rules.specs.Any.{AnyStep, Mx, MxStep, Rw, any_after, any_allowed, any_crossing}
+use Rattle.parking_lot_rules.specs.Classes.{bit}
+use Rattle.parking_lot_rules.specs.Steps.{first_after, listing_from, listing_to}
 use Rattle.parking_lot_rules.specs.Roles.{Back}
 use Rattle.parking_lot_rules.specs.Mutex as mutex
 use Rattle.parking_lot_protocol.specs.Acts.{word_after}
 use Rattle.parking_lot_protocol.specs.MutexRules as of_mutex
+use Rattle.parking_lot_protocol.specs.RwRules as of_rw
+use Rattle.parking_lot_protocol.specs.declared.mutex_core.MutexCore.{MutexCore}
 use Rattle.parking_lot_protocol.specs.declared.act.Act.{Act}
 use Rattle.parking_lot_protocol.specs.declared.act.SectionAct.TheVariants as section
 use Rattle.parking_lot_protocol.specs.declared.act.ActResult.TheVariants as seen
 use Rattle.parking_lot_protocol.specs.declared.act.ActResult.{ActResult}
 use Rattle.parking_lot_protocol.specs.declared.mutex_phase.MutexPhase.{MutexPhase}
+use Rattle.parking_lot_world.specs.declared.late_rw.LateRwPhase.{LateRwPhase}
+use Rattle.parking_lot_world.specs.declared.late_rw.RwSleeper.{RwSleeper}
 use Rattle.parking_lot_world.specs.declared.seat.LatePhase.{LatePhase}
 use Rattle.parking_lot_world.specs.declared.seat.Core.{Core}
 use Rattle.parking_lot_world.specs.declared.seat.QueuePosition.{QueuePosition}
 use Rattle.parking_lot_world.specs.declared.open_call.Call.{Call}
 use Rattle.parking_lot_world.specs.ActLaws.{Acts}
 use Rattle.parking_lot_world.specs.Kinds.{AsMutex, manner_of, recursive_in}
-use Rattle.parking_lot_world.specs.LateActs.{expired, others_left, out_of_list, quitted, quitted_as, returned}
-use Rattle.parking_lot_world.specs.LateLaws.{Expires, LateActsAreSteps}
-use Rattle.parking_lot_world.specs.Ranks.{Pays, core_steps, far_steps, late_steps, own_steps, steps_left, view_of}
-use Rattle.parking_lot_world.specs.RowActs.{hears, key_of}
-use Rattle.parking_lot_world.specs.RowFits.{FitsTogether, IsOfKind, IsPrepared, LotFits, RulesFit, WaitsIn, WakesSome}
-use Rattle.parking_lot_world.specs.RowSteps.{IsLateMove, IsMade}
-use Rattle.parking_lot_world.specs.Rows.{State, call_at, first_of_all, inside, late_role, mutex_at, mutex_spot, queue_at, taken_by, word_at}
-use Rattle.parking_lot_world.specs.Stances.{In, Joined, Stores, Takes, Tells, core_act, core_next, sign, stance, taken_count}
+use Rattle.parking_lot_world.specs.LateActs.{comes_late, expired, is_back, is_pending, is_sleeping, late_comes, late_is_back, late_key, late_of, late_rw_comes, late_rw_is_back, others_left, out_of_list, quitted, quitted_as, returned, sleeps_in_time}
+use Rattle.parking_lot_world.specs.LateLaws.{Expires, LateActsAreSteps, expire_step}
+use Rattle.parking_lot_world.specs.LateRoles.{expiring as expiring_step}
+use Rattle.parking_lot_world.specs.LateRoles.{expires_as, late_rw_role, quitting, quitting_as, reentering, sleeper_role, sleeper_wants}
+use Rattle.parking_lot_world.specs.Ranks.{Pays, Unseen, core_steps, far_steps, late_cost, own_steps, steps_left, view_of}
+use Rattle.parking_lot_world.specs.RowActs.{hears, with_call, with_lot}
+use Rattle.parking_lot_world.specs.RowFits.{FitsTogether, IsOfKind, IsPrepared, LotFits, RulesFit, WaitsIn, sleeper_prepared}
+use Rattle.parking_lot_world.specs.RowSteps.{IsLateMove, IsMade, IsMoveOf}
+use Rattle.parking_lot_world.specs.Rows.{State, call_at, first_of_all, inside, late_role, mutex_at, mutex_spot, queue_at, rw_lock_at, rw_spot, taken_by, word_at}
+use Rattle.parking_lot_world.specs.Stances.{Asleep, In, Joined, Stores, Takes, Tells, core_act, core_next, pending_from, quits_as, sign, sleeper_asleep, stance}
 use Rattle.parking_lot_world.proofs.Calling.{call_of, call-elsewhere, calls-change}
-use Rattle.parking_lot_world.proofs.KindTable.{Late, of_mutexes, same}
+use Rattle.parking_lot_world.proofs.KindTable.{Kind, Tardy, as_call, of_mutexes, of_rws, roles_at, rw_call, same, shown}
+use Rattle.parking_lot_world.proofs.KindTable.{Late as CallLate}
+use Rattle.parking_lot_world.proofs.LateKinds.{Comes, IsBack, Lapses, Quits, backs, comes, lapses, quits_less, quits_so, returns_less, sleeper_plays}
+use Rattle.parking_lot_world.proofs.LateRules.{expire_crosses, expire_writes, may_expire_so, may_reenter_so, quit_lists, reenter_crosses, reenter_writes}
 use Rattle.parking_lot_world.proofs.LateLots.{expired_fits, quit_fits, returned_fits}
 use Rattle.parking_lot_world.proofs.LotActs.{seat_of}
 use Rattle.parking_lot_world.proofs.LotLists.{one_key}
-use Rattle.parking_lot_world.proofs.Making.{made, made_sound}
-use Rattle.parking_lot_world.proofs.Meeting.{in_range, plays, plays_late}
+use Rattle.parking_lot_world.proofs.Making.{Crossed, made, made_sound}
+use Rattle.parking_lot_world.proofs.Meeting.{in_range, meets, plays, plays_late}
 use Rattle.parking_lot_world.proofs.MutexMoving.{total_of_nobody}
-use Rattle.parking_lot_world.proofs.OwnActs.{nobody_in_mutex}
+use Rattle.parking_lot_world.proofs.OwnActs.{nobody_first, nobody_in_mutex, nobody_second}
 use Rattle.parking_lot_world.proofs.Owning.{OwnAct, own-elsewhere, own-there, own_after}
 use Rattle.parking_lot_world.proofs.Passing.{own_passes}
 use Rattle.parking_lot_world.proofs.Paying.{call-within, pays}
+use Rattle.parking_lot_world.proofs.RwCalls.{call_role}
 use Rattle.parking_lot_world.proofs.Ruling.{CallFits, Fitted, call_fits, rules_after, rules_own}
 use Rattle.parking_lot_world.proofs.Summing.{others_change, others_same}
 use Rattle.parking_lot_world.proofs.TakeParts.{others_out, out_knows}
@@ -460,17 +472,23 @@ module _ (s : State) (t : ℕ) (c : Call) (late : is_back c.core ≡ true) (h : 
         (λ none.
         let first : 2 * c.lock ≡ key = omega (arith, ap bit (pending ∙ none)) in
         let other : 2 * c.lock + 1 ≢ key = λ f. omega (arith, f, ap bit (pending ∙ none)) in
-        (stood_there (2 * c.lock) first, (λ f. omega (arith, as_many (2 * c.lock) first, some_left (remove q i) (left_by ∙ f))), (λ f. omega (arith, as_many (2 * c.lock) first, none_left (remove q i) (left_by ∙ f))), list_then (2 * c.lock) first, list_still (2 * c.lock + 1) other))
+        record {
+          stood = stood_there (2 * c.lock) first;
+          more = λ f. omega (arith, as_many (2 * c.lock) first, some_left (remove q i) (left_by ∙ f));
+          last = λ f. omega (arith, as_many (2 * c.lock) first, none_left (remove q i) (left_by ∙ f));
+          out = list_then (2 * c.lock) first;
+          still = list_still (2 * c.lock + 1) other;
+        })
         (λ some.
         let second : 2 * c.lock + 1 ≡ key = omega (arith, ap bit (pending ∙ some)) in
         let other : 2 * c.lock ≢ key = λ f. omega (arith, f, ap bit (pending ∙ some)) in
-        (stood_there (2 * c.lock + 1) second, list_then (2 * c.lock + 1) second, list_still (2 * c.lock) other)) in (
+        record { stood = stood_there (2 * c.lock + 1) second; out = list_then (2 * c.lock + 1) second; still = list_still (2 * c.lock) other }) in (
           i,
           lapse_made of_rws s quit_state t c heard (Tardy (quits_as (pending_from k) left)) c.spot (quit_of (Core.LateRw (LateRwPhase.Quits k)) e) kind_is (quitting k left i) refl (mine, lists.0)
               (ap (λ r. Rw (record { word = l.word; roles = slice_set l.roles t r; first = queue_at quit_state (2 * c.lock); second = queue_at quit_state (2 * c.lock + 1) })) ((role.4 left i).1 of_rw.Listed)
               ∙ ap (λ f. Rw (record { word = l.word; roles = slice_set l.roles t (listing_to (quitting_as (pending_from k) (sleeper_wants k) left i)); first = f; second = queue_at quit_state (2 * c.lock + 1) })) lists.1
               ∙ ap (λ f. Rw (record { word = l.word; roles = slice_set l.roles t (listing_to (quitting_as (pending_from k) (sleeper_wants k) left i)); first = first_after (quitting_as (pending_from k) (sleeper_wants k) left i) t l.first; second = f })) lists.2)
-              (quit_crosses (pending_from k) (sleeper_wants k) left i t (inside s) (inside quit_state) quit_inside),
+              quit_inside,
         )
     quit_rw p e back = absurd cc
 

@@ -88,6 +88,7 @@ mod Summing
 pub mod Paying
 pub mod LateLots
 mod LateKinds
+mod LateRules
 pub mod LateActs
 pub mod LateCalls
 pub mod RequeueRuns

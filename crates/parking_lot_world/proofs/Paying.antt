@@ -158,11 +158,6 @@ abbrev pub StillAt : Act → ℕ → ℕ → Type 0
 StillAt (Act.Section section.Leave) first after = after ≡ first
 StillAt a first after = Unit {0}
 
-still_taking : (a : Act) (first after : ℕ) → IsTaking a → StillAt a first after
-still_taking (Act.Section section.TakeFirst) first after x = tt
-still_taking (Act.Section (section.TakeNext sum)) first after x = tt
-still_taking a first after x = absurd x
-
 -- A thread's act, that changes nobody else's steps.
 module _ (s u : State) (t : ℕ) (c d : Call) (told : ActResult) (h : FitsTogether s) (here : call_at s t ≡ Some c) (there : call_at u t ≡ Some d) (next : d.core ≡ core_next c.core told) (lock : d.lock ≡ c.lock) (threads : length u.calls ≡ length s.calls)
     (others : sum_by (far_steps (length s.calls)) (slice_set u.calls t None) ≤ sum_by (far_steps (length s.calls)) (slice_set s.calls t None)) where
@@ -202,6 +197,11 @@ abbrev pub IsTaking : Act → Type 0
 IsTaking (Act.Section section.TakeFirst) = Unit {0}
 IsTaking (Act.Section (section.TakeNext sum)) = Unit {0}
 IsTaking a = ⊥
+
+still_taking : (a : Act) (first after : ℕ) → IsTaking a → StillAt a first after
+still_taking (Act.Section section.TakeFirst) first after x = tt
+still_taking (Act.Section (section.TakeNext sum)) first after x = tt
+still_taking a first after x = absurd x
 
 -- what a taking gives, and leaves
 gives_took : (a : Act) (word : ℕ) (token : Option ParkToken) (left : Bool) → IsTaking a → Gives a word (ActResult.Took token left) × Can a false (ActResult.Took token left) × (word_after a (ActResult.Took token left) word ≡ word)

@@ -81,10 +81,14 @@ call_move n us (Simple k) s = of_rw.move n us k.phase s
 call_move n us (Upgradable k) s = of_upgrade_moves.move n us k.phase s
 call_move n us (Tardy p) s = tardy_move p s
 
+abbrev pub TardyTold : LateRwPhase → ℕ → ActResult → Type 0
+TardyTold (LateRwPhase.Quits k) x s = ⊥
+TardyTold p x s = Gives (late_rw_act p) x s
+
 abbrev pub CallTold : RwCall → ℕ → ActResult → Type 0
 CallTold (Simple k) x s = of_rw.IsTold k.phase x s
 CallTold (Upgradable k) x s = upgrade_rules.IsTold k.phase x s
-CallTold (Tardy p) x s = Gives (late_rw_act p) x s
+CallTold (Tardy p) x s = TardyTold p x s
 
 -- what its phase needs
 abbrev pub SleeperStands : Bool → ℕ → List ℕ → RwSleeper → Type 0
@@ -143,10 +147,10 @@ has_stood recursive n us k e h counted = let r = ready_sleeper recursive n k h i
 tardy_stands : (recursive : Bool) (n : ℕ) (us : List ℕ) (p : LateRwPhase) → late_rw_prepared recursive n p → length us ≡ 0 → TardyStands recursive n us p
 tardy_stands recursive n us (LateRwPhase.Expires k) h counted = has_stood recursive n us k h.0 h.1 counted
 tardy_stands recursive n us (LateRwPhase.Quits k) h counted = has_stood recursive n us k h.0 h.1 counted
-tardy_stands recursive n us LateRwPhase.Masks h counted = h
-tardy_stands recursive n us LateRwPhase.Leaves h counted = h
-tardy_stands recursive n us LateRwPhase.GivesUp h counted = h
-tardy_stands recursive n us (LateRwPhase.LeavesPending from) h counted = h
+tardy_stands recursive n us LateRwPhase.Masks h _ = h
+tardy_stands recursive n us LateRwPhase.Leaves h _ = h
+tardy_stands recursive n us LateRwPhase.GivesUp h _ = h
+tardy_stands recursive n us (LateRwPhase.LeavesPending from) h _ = h
 
 -- what follows from what a machine keeps of it
 pub stands_prepared : (recursive : Bool) (n : ℕ) (us : List ℕ) (k : RwCall) → IsPrepared recursive n (rw_call k) → length us ≡ taken_count (rw_call k) → call_shared k ≤ 2 ^ 17 → CallStands recursive n us k
@@ -173,7 +177,11 @@ call_hears (Simple k) x s recursive n b h own g = rw_told k.phase x s b own g
     rw_told (RwPhase.Scans a) x s b own g = absurd own
     rw_told p x s b own g = g
 call_hears (Upgradable k) x s recursive n b h own g = upgrade_told k.phase x s b h.2 own g
-call_hears (Tardy p) x s recursive n b h own g = g
+call_hears (Tardy p) x s recursive n b h own g = told p x s own g
+  where
+    told : (p : LateRwPhase) (x : ℕ) (s : ActResult) → IsOwnAct (late_rw_act p) → Gives (late_rw_act p) x s → TardyTold p x s
+    told (LateRwPhase.Quits k) x s own g = absurd own
+    told p x s own g = g
 
 -- a scan is shown only whom it wants
 abbrev pub CallWants : RwCall → ActResult → Type 0
@@ -194,17 +202,15 @@ as_wanted k ActResult.Made w = tt
 as_wanted k (ActResult.Woken token) w = tt
 
 -- one whose moment has passed goes on, by itself or woken after all
-tardy_goes_on : (recursive : Bool) (n x : ℕ) (p : LateRwPhase) (s : ActResult) → late_rw_prepared recursive n p → Gives (late_rw_act p) x s → IsPrepared recursive n (rw_call (tardy_next p s))
+tardy_goes_on : (recursive : Bool) (n x : ℕ) (p : LateRwPhase) (s : ActResult) → late_rw_prepared recursive n p → TardyTold p x s → IsPrepared recursive n (rw_call (tardy_next p s))
 tardy_goes_on recursive n x (LateRwPhase.Expires k) (ActResult.Woken token) h told = woken_prepared recursive n k token h.0 h.1
-tardy_goes_on recursive n x (LateRwPhase.Quits k) (ActResult.Woken token) h told = absurd told
 tardy_goes_on recursive n x LateRwPhase.Masks (ActResult.Before word) h told = h
 tardy_goes_on recursive n x LateRwPhase.Leaves ActResult.Made h told = h
 tardy_goes_on recursive n x (LateRwPhase.LeavesPending from) ActResult.Made h told = (h, tt, tt, tt)
 tardy_goes_on recursive n x p s h told = absurd told
 
-tardy_knows : (recursive : Bool) (n x : ℕ) (p : LateRwPhase) (s : ActResult) (j : ℕ) (queues : ℕ → List Waiter) → late_rw_prepared recursive n p → Gives (late_rw_act p) x s → KnowsList (rw_call (tardy_next p s)) queues j
+tardy_knows : (recursive : Bool) (n x : ℕ) (p : LateRwPhase) (s : ActResult) (j : ℕ) (queues : ℕ → List Waiter) → late_rw_prepared recursive n p → TardyTold p x s → KnowsList (rw_call (tardy_next p s)) queues j
 tardy_knows recursive n x (LateRwPhase.Expires k) (ActResult.Woken token) j queues h told = woken_knows k token queues j (ready_sleeper recursive n k h.1) h.0
-tardy_knows recursive n x (LateRwPhase.Quits k) (ActResult.Woken token) j queues h told = absurd told
 tardy_knows recursive n x LateRwPhase.Masks (ActResult.Before word) j queues h told = tt
 tardy_knows recursive n x LateRwPhase.Leaves ActResult.Made j queues h told = tt
 tardy_knows recursive n x (LateRwPhase.LeavesPending from) ActResult.Made j queues h told = tt
@@ -238,7 +244,7 @@ module _ (recursive : Bool) (l : Lock) (t n : ℕ) (at : QueuePosition) (us : Li
 abbrev pub call_lock : Lock → ℕ → ℕ → List ℕ → RwCall → ActResult → ℕ → Lock
 call_lock l t n us k s x = with_role l (word_after (core_act (rw_call k)) s x) t (call_role n QueuePosition.Listed us (rw_next k s))
 
-is_stay : Move → Bool
+abbrev is_stay : Move → Bool
 is_stay of_rw.Stays = true
 is_stay m = false
 
@@ -253,7 +259,7 @@ makes_no_stay p s = refl
 tardy_moves : (p : LateRwPhase) (s : ActResult) → tardy_move p s ≡ of_rw.Stays → ⊥
 tardy_moves p s e = both_ways (is_stay (tardy_move p s)) (makes_no_stay p s) (ap is_stay e)
 
-step_of : Move → Plain
+abbrev step_of : Move → Plain
 step_of (of_rw.Makes k) = k
 step_of m = Leave1
 
@@ -261,7 +267,7 @@ step_of m = Leave1
 mask_is : (x : ℕ) (w : Word) → IsWord w → w.readers < 2 ^ 60 - 1 → x ≡ number w → bit_and x (2 ^ 64 - 2) ≡ number (record w { parked1 = 0 })
 mask_is x w h few e = let p = h.parked1 in ap (λ y. bit_and y (2 ^ 64 - 2)) e ∙ (let z = high w h few in omega arith)
 
-tardy_makes : (recursive : Bool) (l : Lock) (t n : ℕ) (at : QueuePosition) (us : List ℕ) (p : LateRwPhase) (x : ℕ) (s : ActResult) → CallMeets recursive l t n at us (Tardy p) x → Gives (late_rw_act p) x s → (step : Plain) → tardy_move p s ≡ of_rw.Makes step → IsStep recursive t (Alone step) l (call_lock l t n us (Tardy p) s x)
+pub tardy_makes : (recursive : Bool) (l : Lock) (t n : ℕ) (at : QueuePosition) (us : List ℕ) (p : LateRwPhase) (x : ℕ) (s : ActResult) → CallMeets recursive l t n at us (Tardy p) x → TardyTold p x s → (step : Plain) → tardy_move p s ≡ of_rw.Makes step → IsStep recursive t (Alone step) l (call_lock l t n us (Tardy p) s x)
 tardy_makes recursive l t n at us LateRwPhase.Masks x (ActResult.Before word) h told step e =
     let few : l.word.readers < 2 ^ 60 - 1 = let f = h.sound.fits in omega (arith, f.readers, f.upgradable, f.one, total_most 256 l.roles h.few, h.threads) in
     let same : record l.word { parked1 = 0 } ≡ word_of (bit_and x (2 ^ 64 - 2)) =
@@ -272,6 +278,7 @@ tardy_makes recursive l t n at us LateRwPhase.Leaves x ActResult.Made h told ste
 tardy_makes recursive l t n at us (LateRwPhase.LeavesPending from) x ActResult.Made h told step e =
     subst (λ k. IsStep recursive t (Alone k) l (call_lock l t n us (Tardy (LateRwPhase.LeavesPending from)) ActResult.Made x)) (ap step_of e)
     ((h.here, tt), ap (λ w. record l { word = w; roles = slice_set l.roles t (call_role n QueuePosition.Listed us (Upgradable (record { phase = UpgradePhase.YieldLoads from }))) }) h.word)
+tardy_makes recursive l t n at us (LateRwPhase.Expires k) x (ActResult.Woken token) h told step e = absurd cc
 tardy_makes recursive l t n at us p x s h told step e = absurd told
 
 pub call_stays : (recursive : Bool) (l : Lock) (t n : ℕ) (at : QueuePosition) (us : List ℕ) (k : RwCall) (x : ℕ) (s : ActResult) → CallMeets recursive l t n at us k x → CallTold k x s → ((key : ℕ) (token : ParkToken) → stance (rw_call (rw_next k s)) ≡ stances.Asleep key token → at ≡ QueuePosition.Listed)
@@ -292,7 +299,7 @@ call_makes recursive l t n at us (Upgradable k) x s step h told e found =
 
 call_makes recursive l t n at us (Tardy p) x s step h told e found = tardy_makes recursive l t n at us p x s h told step e
 
-tardy_own : (t : ℕ) (old new : Option ℕ) (p : LateRwPhase) (x : ℕ) (s : ActResult) → Gives (late_rw_act p) x s → IsOwnAct (late_rw_act p) → AfterAct (late_rw_act p) t old new → OwnMove (tardy_move p s) t old new
+tardy_own : (t : ℕ) (old new : Option ℕ) (p : LateRwPhase) (x : ℕ) (s : ActResult) → TardyTold p x s → IsOwnAct (late_rw_act p) → AfterAct (late_rw_act p) t old new → OwnMove (tardy_move p s) t old new
 tardy_own t old new LateRwPhase.Leaves x ActResult.Made told own around = around
 tardy_own t old new (LateRwPhase.LeavesPending from) x ActResult.Made told own around = around
 tardy_own t old new (LateRwPhase.Expires k) x s told own around = absurd own

@@ -1,11 +1,11 @@
 -- Where threads wait, somebody is in debt; and where a thread is in a call, somebody can move.
-use Rattle.std.proofs.Common.{◌≡◌, ◌≢◌, ℕ, zero, suc, ◌<◌, ◌≤◌, ◌||◌, arith, ◌⊎◌, inl, inr, cond, Bool, true, false, not, List, length, Option, Some, None, slice_get, refl, sym, ap, ◌∙◌, subst, ◌+◌, ◌%◌, ◌^◌}
+use Rattle.std.proofs.Common.{◌≡◌, ◌≢◌, ℕ, zero, suc, ◌<◌, ◌≤◌, ◌||◌, ◌&&◌, arith, ◌⊎◌, inl, inr, cond, Bool, true, false, not, List, length, Option, Some, None, slice_get, refl, sym, ap, ◌∙◌, subst, ◌+◌, ◌%◌, ◌^◌}
 use Rattle.std.specs.Prelude.{IsTrue, is_some}
 use Rattle.std.specs.Option.{option_and_then, option_map_or}
 use Rattle.std.proofs.lemmas.Bool.{both_ways, cases_eq}
 use Rattle.parking_lot_core_lot.specs.declared.place.Section.{Section}
 use Rattle.parking_lot_core_lot.specs.Places.{place_at}
-use Rattle.parking_lot_rules.specs.Roles.{Asleep, Phase, Queued1, Taken1, Queued2, Taken2, Shares, Excludes, Upgrades, Owned, Idle}
+use Rattle.parking_lot_rules.specs.Roles.{Asleep, Phase, Role, Queued1, Taken1, Queued2, Taken2, Shares, Excludes, Upgrades, Owned, Idle}
 use Rattle.parking_lot_rules.specs.Laws as rw_laws
 use Rattle.parking_lot_rules.specs.Mutex as mutex
 use Rattle.parking_lot_rules.specs.MutexLaws as mutex_laws
@@ -28,7 +28,7 @@ use Rattle.parking_lot_upgrades.specs.UpgradeTable as upgrade_table
 use Rattle.parking_lot_upgrades.specs.declared.upgrade_phase.Hold.{Hold as Kept}
 use Rattle.parking_lot_upgrades.specs.declared.upgrade_phase.Release.{Release}
 use Rattle.parking_lot_upgrades.specs.declared.upgrade_phase.UpgradePhase.{UpgradePhase}
-use Rattle.parking_lot_world.specs.Stances.{seeks_stance, upgrade_stance, upgrade_taken, late_rw_act, late_rw_pending, late_rw_stance}
+use Rattle.parking_lot_world.specs.Stances.{seeks_stance, upgrade_stance, upgrade_taken, late_rw_act, late_rw_pending, late_rw_stance, sleeper_stance}
 use Rattle.parking_lot_world.specs.Rows.{rw_core_role}
 use Rattle.parking_lot_world.proofs.KindTable as KindTable
 use Rattle.parking_lot_world.proofs.KindTable.{RwCall, Simple, rw_call, Tardy}

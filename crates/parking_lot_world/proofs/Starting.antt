@@ -410,8 +410,8 @@ module _ (s : State) (h : FitsTogether s) (t : ℕ) (c : Call) (here : call_at s
   last_leads recursive (of_rw.IsWoken k) l x old new o word is moves step = absurd moves
 
   last_tells : (v : ℕ) (us : List ℕ) (p : MutexPhase) → TellsOf (of_mutex.last_move p) us v
-  last_tells v us MutexPhase.Refuses = tt
-  last_tells v us p = tt
+  last_tells v _ MutexPhase.Refuses = tt
+  last_tells v _ p = tt
 
   -- one that has given up owns nothing, and does nothing at the lock any more
   late_last : {answer : CoreAnswer} (p : LatePhase) → c.core ≡ Core.Late p → late_act p ≡ Act.Done answer → IsQuiet s u

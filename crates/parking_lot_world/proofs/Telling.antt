@@ -24,7 +24,8 @@ use Rattle.parking_lot_protocol.specs.declared.mutex_core.MutexCore.{MutexCore}
 use Rattle.parking_lot_protocol.specs.declared.mutex_phase.MutexPhase.{MutexPhase}
 use Rattle.parking_lot_protocol.specs.declared.rw_phase.AfterWake.{AfterWake}
 use Rattle.parking_lot_protocol.specs.declared.rw_phase.RwPhase.{RwPhase}
-use Rattle.parking_lot_rules.specs.Plain.{Mask2, Mask1, Plain}
+use Rattle.parking_lot_rules.specs.Plain.{Mask2, Mask1}
+use Rattle.parking_lot_rules.specs.Plain.{Plain as PlainStep}
 use Rattle.parking_lot_rules.specs.Steps.{settle, ends_saying, Alone}
 use Rattle.parking_lot_rules.specs.Mutex as mutex
 use Rattle.parking_lot_rules.specs.Any.{Mx, MxStep}
@@ -32,7 +33,7 @@ use Rattle.parking_lot_world.specs.Kinds.{Manner, manner_of, recursive_in}
 use Rattle.parking_lot_world.specs.MutexLaws.{IsTelling}
 use Rattle.parking_lot_world.specs.RowActs.{settled_spot, settled, told_of}
 use Rattle.parking_lot_world.specs.RowFits.{FitsTogether, IsOfKind, IsPrepared, KnowsList, IsOfManner}
-use Rattle.parking_lot_world.specs.Rows.{State, word_at, call_at, hold_at, taken_by, mark_of, rw_lock_at, first_of_all, mutex_spot, mutex_word_of, mutex_at, queue_at}
+use Rattle.parking_lot_world.specs.Rows.{State, inside, word_at, call_at, hold_at, taken_by, mark_of, rw_lock_at, first_of_all, mutex_spot, mutex_word_of, mutex_at, queue_at}
 use Rattle.parking_lot_world.specs.RowSteps.{IsMutexMove, IsRwMove}
 use Rattle.parking_lot_world.specs.Stances.{Doing, In, Asleep, Stores, sign, late_act, mutex_stance, stance, taken_count, core_act, core_next, core_tells}
 use Rattle.parking_lot_world.specs.declared.open_call.Call.{Call}
@@ -224,7 +225,7 @@ module _ (s : State) (t : ℕ) (c : Call) (keep : ℕ) (asked : core_act c.core 
   mask_then = told_state s t c before (sign false) (bit_and (word_at s c.lock) keep)
 
   -- at a reader-writer lock, where the mask is a step of its own, and its thread has taken nobody that it could tell
-  mask_by : (z : RwCall) (step : Plain) → c.core ≡ rw_call z → call_move c.others (taken_by s.wakes t) z before ≡ of_rw.Makes step → CallTold z (word_at s c.lock) before → ((f g : List Waiter) → CallLearns z before f g) → CallWants z before
+  mask_by : (z : RwCall) (step : PlainStep) → c.core ≡ rw_call z → call_move c.others (taken_by s.wakes t) z before ≡ of_rw.Makes step → CallTold z (word_at s c.lock) before → ((f g : List Waiter) → CallLearns z before f g) → CallWants z before
       → IsStep (recursive_in s.kinds c.lock) t (Alone step) (rw_lock_at s c.lock) (call_lock (rw_lock_at s c.lock) t c.others (taken_by s.wakes t) z before (word_at s c.lock))
       → Crossed (move_crossing (of_rw.Makes step)) t (inside s) (inside mask_then)
       → to_wake (call_role c.others c.spot (taken_by s.wakes t) z).does (On1 Open) ≡ [] → ((key : ℕ) (park : ParkToken) → stance (rw_call (rw_next z before)) ≡ Asleep key park → ⊥) → Fitted s mask_then t c before (rw_call z)

@@ -288,7 +288,8 @@ module _ (n word first after : ℕ) (shut : Bool) (room : word / 16 < 2 ^ 60 - 1
       (subst (λ f. upgrade_steps n (Sees word after shut) (UpgradePhase.Yields from word) + 1 ≤ scan n (Sees word f shut) + 9) l (omega (arith, at_seen word (scan n (Sees word after shut) + 7) (scan n (Sees word after shut) + 8))))
   falls (UpgradePhase.Yields from tried) ActResult.Exchanged i k g c l =
       subst (λ f. upgrade_steps n (Sees (word_after (ut.act_of (UpgradePhase.Yields from tried)) ActResult.Exchanged word) after shut) (ut.owes (ut.held_before from) CoreAnswer.Released tried) + 1 ≤ cond (word == tried) (scan n (Sees word f shut) + 7) (scan n (Sees word f shut) + 8)) l
-      (least (word == tried) _ _ _ (omega (arith, owes_few (ut.held_before from) CoreAnswer.Released tried (Sees word after shut))) (omega (arith, owes_few (ut.held_before from) CoreAnswer.Released tried (Sees word after shut))))
+      (least (word == tried) _ _ _ (omega (arith, owes_few (ut.held_before from) CoreAnswer.Released tried (Sees (word_after (ut.act_of (UpgradePhase.Yields from tried)) ActResult.Exchanged word) after shut)))
+      (omega (arith, owes_few (ut.held_before from) CoreAnswer.Released tried (Sees (word_after (ut.act_of (UpgradePhase.Yields from tried)) ActResult.Exchanged word) after shut))))
   falls (UpgradePhase.Yields from tried) (ActResult.Word w) i k g c l =
       subst (λ y. upgrade_steps n (Sees word after shut) (UpgradePhase.Yields from y) + 1 ≤ cond (word == tried) (scan n (Sees word first shut) + 7) (scan n (Sees word first shut) + 8)) (sym g.0)
       (subst (λ f. upgrade_steps n (Sees word after shut) (UpgradePhase.Yields from word) + 1 ≤ cond (word == tried) (scan n (Sees word f shut) + 7) (scan n (Sees word f shut) + 8)) l
@@ -428,6 +429,7 @@ ends n (UpgradePhase.Owes kept end core) v answer e = owes_end n kept end core.p
 ends n (UpgradePhase.TryAdmits from left) v answer e = absurd cc
 ends n (UpgradePhase.TryUpgrades from left) v answer e = absurd cc
 ends n (UpgradePhase.Unlocks r from) v answer e = absurd cc
+ends n (UpgradePhase.Yields from word) v answer e = absurd cc
 ends n p v answer e = omega arith
 
 pub upgrade_steps_fall : UpgradeStepsFall
