@@ -50,7 +50,7 @@ use Rattle.parking_lot_world.specs.RowActs.{hears, with_call, with_lot}
 use Rattle.parking_lot_world.specs.RowFits.{FitsTogether, IsOfKind, IsPrepared, LotFits, RulesFit, WaitsIn, sleeper_prepared}
 use Rattle.parking_lot_world.specs.RowSteps.{IsLateMove, IsMade, IsMoveOf}
 use Rattle.parking_lot_world.specs.Rows.{State, call_at, first_of_all, inside, late_role, mutex_at, mutex_spot, queue_at, rw_lock_at, rw_spot, taken_by, word_at}
-use Rattle.parking_lot_world.specs.Stances.{Asleep, In, Joined, Stores, Takes, Tells, core_act, core_next, pending_from, quits_as, sign, sleeper_asleep, stance}
+use Rattle.parking_lot_world.specs.Stances.{Asleep, In, Joined, Stores, Takes, Tells, core_next, pending_from, quits_as, sign, sleeper_asleep, stance}
 use Rattle.parking_lot_world.proofs.Calling.{call_of, call-elsewhere, calls-change}
 use Rattle.parking_lot_world.proofs.KindTable.{Kind, Tardy, as_call, of_mutexes, of_rws, roles_at, rw_call, same, shown}
 use Rattle.parking_lot_world.proofs.KindTable.{Late as CallLate}

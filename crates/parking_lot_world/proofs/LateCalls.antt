@@ -21,7 +21,7 @@ use Rattle.parking_lot_rules.specs.Classes.{bit}
 use Rattle.parking_lot_world.specs.Kinds.{recursive_in}
 use Rattle.parking_lot_world.specs.RowFits.{FitsTogether, IsAt, WaitsIn}
 use Rattle.parking_lot_world.specs.LateActs.{comes_late, is_back, is_pending, late_key, out_of_list, quitted_as}
-use Rattle.parking_lot_world.specs.Stances.{Asleep, In, Joined, sign, stance}
+use Rattle.parking_lot_world.specs.Stances.{Asleep, In, Joined, sign}
 use Rattle.parking_lot_world.proofs.LateKinds.{backs, comes}
 use Rattle.parking_lot_world.proofs.LotActs.{seat_of}
 use Rattle.parking_lot_world.proofs.LotCalls.{may_step, own_section}

@@ -1,11 +1,11 @@
 -- A call whose moment passes, by the kind of its lock: where it stands, what it stands on, and which step of the rules its own acts are.
-use Rattle.std.proofs.Common.{◌≡◌, ℕ, ◌+◌, ◌*◌, ◌≤◌, ◌<◌, ◌==◌, ◌||◌, Bool, true, false, cond, List, [], length, remove, Option, Some, None, is_some, slice_get, slice_set, refl, sym, ap, ◌∙◌, subst, arith}
+use Rattle.std.proofs.Common.{◌≡◌, ℕ, ◌+◌, ◌≤◌, ◌||◌, Bool, true, false, cond, List, Option, Some, None, is_some, refl, sym, ap, ◌∙◌, subst, arith}
 use Rattle.parking_lot_core_lot.specs.declared.parking.ParkToken.{ParkToken}
 use Rattle.parking_lot_core_lot.specs.declared.place.Waiter.{Waiter}
 use Rattle.parking_lot_rules.specs.Classes.{bit}
 use Rattle.parking_lot_rules.specs.Plain.{from, to}
 use Rattle.parking_lot_rules.specs.Owners.{owner_of}
-use Rattle.parking_lot_rules.specs.Roles.{Back, Handed, Late, Normal, Open, Owned, Phase, Queued1, Queued2, Role, Shares, Stay, Taken1, Taken2}
+use Rattle.parking_lot_rules.specs.Roles.{Back, Handed, Late, Normal, Open, Owned, Phase, Queued1, Queued2, Role, Stay, Taken1, Taken2}
 use Rattle.parking_lot_rules.specs.Steps.{listing_from, listing_to}
 use Rattle.parking_lot_protocol.specs.RwRules as of_rw
 use Rattle.parking_lot_protocol.specs.declared.act.Act.{Act}
@@ -13,9 +13,6 @@ use Rattle.parking_lot_protocol.specs.declared.act.ActResult.TheVariants as seen
 use Rattle.parking_lot_protocol.specs.declared.act.SectionAct.TheVariants as section
 use Rattle.parking_lot_protocol.specs.declared.mutex_phase.MutexPhase.{MutexPhase}
 use Rattle.parking_lot_protocol.specs.declared.rw_phase.LockMode.{LockMode}
-use Rattle.parking_lot_protocol.specs.declared.rw_phase.RwPhase.{RwPhase}
-use Rattle.parking_lot_upgrades.specs.UpgradeRoles as of_upgrade
-use Rattle.parking_lot_upgrades.specs.declared.upgrade_phase.UpgradePhase.{UpgradePhase}
 use Rattle.parking_lot_world.specs.CallViews.{mode_of, rw_mode}
 use Rattle.parking_lot_world.specs.Kinds.{Manner}
 use Rattle.parking_lot_world.specs.LateActs.{comes_late, is_back, is_pending, is_sleeping, late_of, sleeps_in_time}
@@ -23,13 +20,13 @@ use Rattle.parking_lot_world.specs.LateRoles.{expires_as, late_rw_role, quitting
 use Rattle.parking_lot_world.specs.Ranks.{View, core_steps, late_cost, late_rw_steps, quits_steps}
 use Rattle.parking_lot_world.specs.Rounds.{rounds}
 use Rattle.parking_lot_world.specs.RowFits.{IsOfManner, IsPrepared, KnowsList, late_rw_prepared, sleeper_prepared}
-use Rattle.parking_lot_world.specs.Stances.{Asleep, In, Joined, Stance, Stores, Takes, Tells, back_as, core_act, core_next, has_begun, late_rw_act, late_rw_stance, sign, lying, pending_from, quits_as, sleeper_asleep, sleeper_stance, stance, taken_count}
+use Rattle.parking_lot_world.specs.Stances.{Asleep, In, Joined, Stores, Takes, Tells, back_as, core_act, core_next, has_begun, late_rw_act, late_rw_stance, sign, lying, pending_from, quits_as, sleeper_asleep, stance, taken_count}
 use Rattle.parking_lot_world.specs.declared.late_rw.LateRwPhase.{LateRwPhase}
 use Rattle.parking_lot_world.specs.declared.late_rw.RwSleeper.{RwSleeper}
 use Rattle.parking_lot_world.specs.declared.seat.Core.{Core}
 use Rattle.parking_lot_world.specs.declared.seat.LatePhase.{LatePhase}
 use Rattle.parking_lot_world.proofs.KindTable.{as_call, rw_call}
-use Rattle.parking_lot_world.proofs.Sleepers.{by_sleeper, draining, prepared_call, ready_sleeper, seeking, sleeps_there, takes_nobody, upgrading, wanting}
+use Rattle.parking_lot_world.proofs.Sleepers.{by_sleeper, ready_sleeper, seeking, sleeps_there, takes_nobody, wanting}
 
 -- THE MOMENT PASSES
 

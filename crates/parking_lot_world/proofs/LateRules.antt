@@ -1,12 +1,12 @@
 -- The steps of the rules by which a moment passes at a reader-writer lock, and by which one comes back and takes itself out: they leave the word, and
 -- go by whether it waits in the first list or in the second.
 use Rattle.std.proofs.Common.{◌≡◌, ◌<◌, ℕ, Bool, true, false, List, length, remove, Option, Some, None, is_some, slice_get, slice_set, refl}
-use Rattle.parking_lot_rules.specs.Any.{AnyStep, Rw, RwStep, any_after, any_crossing}
+use Rattle.parking_lot_rules.specs.Any.{Rw, RwStep, any_after, any_crossing}
 use Rattle.parking_lot_rules.specs.Classes.{Inside1, Inside2, total}
 use Rattle.parking_lot_rules.specs.Lock.{Lock}
 use Rattle.parking_lot_rules.specs.Plain.{May, to}
 use Rattle.parking_lot_rules.specs.Roles.{Mode}
-use Rattle.parking_lot_rules.specs.Steps.{Alone, List_changes, MayList, first_after, second_after}
+use Rattle.parking_lot_rules.specs.Steps.{Alone, MayList, first_after, second_after}
 use Rattle.parking_lot_world.specs.LateRoles.{expires_as, quitting_as, reenters_as}
 use Rattle.parking_lot_world.specs.RwLaws.{NobodyIs}
 use Rattle.parking_lot_world.proofs.Making.{Crossed}

@@ -1,5 +1,5 @@
 mod KindTable
-mod Sleepers
+pub mod Sleepers
 mod Everybody
 mod Making
 mod Meeting
@@ -22,6 +22,7 @@ mod Cases
 mod Indebting
 mod UpgradeOwning
 mod RwCalls
+mod RwSleeps
 mod RwScans
 mod RwTells
 mod OwnActs

@@ -45,7 +45,8 @@ use Rattle.parking_lot_protocol.specs.declared.act.SectionAct.TheVariants as sec
 use Rattle.parking_lot_protocol.specs.declared.mutex_core.MutexCore.{MutexCore}
 use Rattle.parking_lot_protocol.specs.declared.mutex_phase.Giving.{Giving}
 use Rattle.parking_lot_protocol.specs.declared.mutex_phase.MutexPhase.{MutexPhase}
-use Rattle.parking_lot_world.proofs.RwCalls.{CallMeets, as_move, call_role, call_wakes, call_woken as woken_call_is, tardy_wakes}
+use Rattle.parking_lot_world.proofs.RwCalls.{CallMeets, as_move, call_role, call_wakes, tardy_wakes}
+use Rattle.parking_lot_world.proofs.RwSleeps.{call_woken as woken_call_is}
 use Rattle.parking_lot_world.specs.RowSteps.{IsRwMove}
 use Rattle.parking_lot_world.specs.MutexLaws.{Plays}
 use Rattle.parking_lot_world.specs.declared.seat.LatePhase.{LatePhase}

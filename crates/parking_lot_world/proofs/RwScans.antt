@@ -31,11 +31,11 @@ use Rattle.parking_lot_upgrades.specs.declared.upgrade_phase.Release.{Release}
 use Rattle.parking_lot_upgrades.specs.declared.upgrade_phase.UpgradePhase.{UpgradePhase}
 use Rattle.parking_lot_world.specs.Passes.{ArePassed, asks, look_by}
 use Rattle.parking_lot_world.specs.RowActs.{told_of}
-use Rattle.parking_lot_world.specs.RowFits.{IsOfWorld, IsPrepared, KnowsList, sees_upgradable, upgrade_keeps, upgrade_knows, late_rw_prepared}
+use Rattle.parking_lot_world.specs.RowFits.{IsOfWorld, IsPrepared, KnowsList, sees_upgradable, upgrade_keeps, upgrade_knows}
 use Rattle.parking_lot_world.specs.Rows.{mark_of, rw_spot}
 use Rattle.parking_lot_world.specs.RwLaws.{IsStep, Meets, ending_of, with_roles}
 use Rattle.parking_lot_world.specs.StanceLaws.{Counts, rw_counts}
-use Rattle.parking_lot_world.specs.Stances.{In, Stores, Takes, core_act, core_next, core_tells, rw_stance, seeks_stance, stance, taken_count, upgrade_stance, upgrade_tells, Asleep, Joined, Stance, back_as, late_rw_act, late_rw_stance, sleeper_stance}
+use Rattle.parking_lot_world.specs.Stances.{In, Stores, Takes, core_act, core_next, core_tells, rw_stance, seeks_stance, stance, taken_count, upgrade_stance, upgrade_tells, late_rw_act}
 use Rattle.parking_lot_world.specs.UpgradeLaws.{UpgradeLeads}
 use Rattle.parking_lot_world.specs.declared.seat.QueuePosition.{QueuePosition}
 use Rattle.parking_lot_core_lot.specs.declared.place.Waiter.{Waiter}

@@ -27,14 +27,14 @@ use Rattle.parking_lot_world.specs.RowActs.{hold_after, kept_hold, settled_spot,
 use Rattle.parking_lot_world.specs.RowFits.{IsPrepared, KnowsList, rw_knows, rw_prepared, upgrade_begins, upgrade_knows}
 use Rattle.parking_lot_world.specs.Rows.{mark_of, owned_of, rw_spot}
 use Rattle.parking_lot_world.specs.RwLaws.{Finds, IsLastStep, IsStep, Learns, Meets, rw_begins, with_role}
-use Rattle.parking_lot_world.specs.Stances.{In, Joins, core_act, has_begun, rw_begun, rw_stance, seeks_stance, stance, upgrade_stance, Asleep, Joined, Stance, back_as, late_rw_act, late_rw_stance, sleeper_stance}
+use Rattle.parking_lot_world.specs.Stances.{In, Joins, core_act, has_begun, rw_begun, rw_stance, seeks_stance, stance, upgrade_stance, late_rw_act}
 use Rattle.parking_lot_world.specs.UpgradeLaws.{upgrade_owned_after}
 use Rattle.parking_lot_world.specs.declared.seat.Hold.{Hold}
 use Rattle.parking_lot_world.specs.declared.seat.QueuePosition.{QueuePosition}
 use Rattle.parking_lot_world.specs.declared.seat.WakeResult.{WakeResult}
 use Rattle.parking_lot_world.proofs.KindTable.{RwCall, Simple, Upgradable, rw_call, rw_next, Tardy}
 use Rattle.parking_lot_world.proofs.OwnMoves.{OwnMove}
-use Rattle.parking_lot_world.proofs.RwCalls.{CallLearns, CallMeets, CallStands, CallTold, as_simple, as_upgrade, call_move, call_role, TardyStands}
+use Rattle.parking_lot_world.proofs.RwCalls.{CallLearns, CallMeets, CallStands, CallTold, as_simple, as_upgrade, call_move, call_role}
 use Rattle.parking_lot_world.proofs.RwCrossing.{lists_are_known}
 use Rattle.parking_lot_world.proofs.RwKeeping.{calls_keep}
 use Rattle.parking_lot_world.proofs.RwMoving.{answers_are_moves, joins_are_steps}

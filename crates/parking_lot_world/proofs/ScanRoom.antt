@@ -20,7 +20,7 @@ use Rattle.parking_lot_world.proofs.Stancing.{small_key}
 use Rattle.parking_lot_world.proofs.Carrying.{taken_by-count}
 use Rattle.parking_lot_world.proofs.KindTable.{RwCall, Simple, Upgradable, of_rws, rw_call}
 use Rattle.parking_lot_world.proofs.Meeting.{meets}
-use Rattle.parking_lot_world.proofs.RwCalls.{call_sleeps}
+use Rattle.parking_lot_world.proofs.RwSleeps.{call_sleeps}
 use Rattle.parking_lot_world.proofs.RwScans.{Scanner, scanner, takes_where}
 use Rattle.parking_lot_world.proofs.LotTakes.{Sleeper, sleeper}
 

@@ -1,22 +1,20 @@
 -- A call that slept at a reader-writer lock before its moment passed: which phases there are, and what they say.
-use Rattle.std.proofs.Common.{◌≡◌, ◌<◌, ◌≤◌, ℕ, ◌/◌, ◌-◌, ◌^◌, ◌==◌, cond, Bool, true, false, List, length, Option, Some, None, is_some, refl, ap, arith}
+use Rattle.std.proofs.Common.{◌≡◌, ℕ, ◌==◌, cond, Bool, true, false, List, is_some, refl}
 use Rattle.parking_lot_core_lot.specs.declared.parking.ParkToken.{ParkToken}
 use Rattle.parking_lot_core_lot.specs.declared.parking.UnparkToken.{UnparkToken}
 use Rattle.parking_lot_core_lot.specs.declared.place.Waiter.{Waiter}
 use Rattle.parking_lot_rules.specs.Classes.{bit}
-use Rattle.parking_lot_protocol.specs.RwRules as of_rw
 use Rattle.parking_lot_protocol.specs.RwTable as rw_table
 use Rattle.parking_lot_protocol.specs.declared.act.ActResult.{ActResult}
 use Rattle.parking_lot_protocol.specs.declared.act.CoreAnswer.{CoreAnswer}
 use Rattle.parking_lot_protocol.specs.declared.rw_phase.LockMode.{LockMode}
 use Rattle.parking_lot_protocol.specs.declared.rw_phase.RwPhase.{RwPhase}
 use Rattle.parking_lot_upgrades.specs.UpgradeRules as upgrade_rules
-use Rattle.parking_lot_upgrades.specs.UpgradeTable as upgrade_table
 use Rattle.parking_lot_upgrades.specs.declared.upgrade_phase.Hold.TheVariants as upgrade_hold
 use Rattle.parking_lot_upgrades.specs.declared.upgrade_phase.UpgradePhase.{UpgradePhase}
 use Rattle.parking_lot_world.specs.CallViews.{IsReadySleeper}
 use Rattle.parking_lot_world.specs.RowFits.{IsOfWorld, IsPrepared, KnowsList, sleeper_prepared}
-use Rattle.parking_lot_world.specs.Stances.{Asleep, Doing, In, Joined, Joins, Out, Stance, Takes, back_as, late_rw_stance, lying, pending_from, rw_asleep, sleeper_asleep, sleeper_stance, taken_count, upgrade_asleep}
+use Rattle.parking_lot_world.specs.Stances.{Asleep, Doing, In, Joins, Out, Stance, Takes, back_as, late_rw_stance, lying, pending_from, rw_asleep, sleeper_asleep, sleeper_stance, taken_count, upgrade_asleep}
 use Rattle.parking_lot_world.specs.RowActs.{joins}
 use Rattle.parking_lot_world.specs.declared.late_rw.LateRwPhase.{LateRwPhase}
 use Rattle.parking_lot_world.specs.declared.late_rw.RwSleeper.{RwSleeper}

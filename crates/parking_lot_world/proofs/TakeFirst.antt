@@ -13,11 +13,12 @@ use Rattle.parking_lot_protocol.specs.declared.mutex_phase.MutexPhase.{MutexPhas
 use Rattle.parking_lot_protocol.specs.declared.rw_core.RwCore.{RwCore}
 use Rattle.parking_lot_protocol.specs.declared.rw_phase.AfterWake.{AfterWake}
 use Rattle.parking_lot_protocol.specs.declared.rw_phase.RwPhase.{RwPhase}
-use Rattle.parking_lot_rules.specs.Roles.{Shares, Asleep, Taken2}
+use Rattle.parking_lot_rules.specs.Roles.{Shares, Taken2}
 use Rattle.parking_lot_world.proofs.Acting.{still_inside}
 use Rattle.parking_lot_world.proofs.Carrying.{no_length}
 use Rattle.parking_lot_world.proofs.KindTable.{IsThere, Plain, RwCall, Simple, of_mutexes, of_rws, rw_call, rw_next, sleeps_so}
-use Rattle.parking_lot_world.proofs.RwCalls.{CallSleepsSecond, as_simple}
+use Rattle.parking_lot_world.proofs.RwCalls.{as_simple}
+use Rattle.parking_lot_world.proofs.RwSleeps.{CallSleepsSecond}
 use Rattle.parking_lot_world.specs.declared.seat.WakeResult.{WakeResult}
 use Rattle.parking_lot_world.proofs.Making.{mutex_goes, rw_goes}
 use Rattle.parking_lot_world.proofs.Meeting.{meets, plays, rw_hears, rw_sound}

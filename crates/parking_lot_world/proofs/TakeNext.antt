@@ -13,10 +13,11 @@ use Rattle.parking_lot_protocol.specs.declared.act.Act.{Act}
 use Rattle.parking_lot_protocol.specs.Acts.{Gives}
 use Rattle.parking_lot_world.specs.declared.seat.WakeResult.{WakeResult}
 use Rattle.parking_lot_protocol.specs.declared.rw_phase.RwPhase.{RwPhase}
-use Rattle.parking_lot_rules.specs.Roles.{Shares, Asleep, Open, Taken1}
+use Rattle.parking_lot_rules.specs.Roles.{Shares, Open, Taken1}
 use Rattle.parking_lot_world.proofs.Acting.{still_inside}
 use Rattle.parking_lot_world.proofs.KindTable.{IsThere, RwCall, Simple, Upgradable, next_is, of_rws, rw_call, rw_next}
-use Rattle.parking_lot_world.proofs.RwCalls.{CallSleepsFirst, as_move}
+use Rattle.parking_lot_world.proofs.RwCalls.{as_move}
+use Rattle.parking_lot_world.proofs.RwSleeps.{CallSleepsFirst}
 use Rattle.parking_lot_world.proofs.RwScans.{call_takes, scanner, takes_where}
 use Rattle.parking_lot_world.proofs.ScanRoom.{scans_have_room}
 use Rattle.parking_lot_world.specs.RowSteps.{IsRwMove}

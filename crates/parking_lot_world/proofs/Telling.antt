@@ -15,7 +15,6 @@ use Rattle.parking_lot_protocol.specs.Acts.{word_after, change_of}
 use Rattle.parking_lot_protocol.specs.MutexRules as of_mutex
 use Rattle.parking_lot_protocol.specs.MutexTable as of_mutex_table
 use Rattle.parking_lot_protocol.specs.RwRules as of_rw
-use Rattle.parking_lot_protocol.specs.RwTable as of_rw_table
 use Rattle.parking_lot_protocol.specs.declared.act.Act.{Act}
 use Rattle.parking_lot_protocol.specs.declared.act.ActResult.{ActResult}
 use Rattle.parking_lot_protocol.specs.declared.act.SectionAct.TheVariants as section

@@ -1,5 +1,5 @@
 -- What a thread is to a reader-writer lock whose moment has passed as it slept there.
-use Rattle.std.specs.Prelude.{ℕ, Bool, true, false, if◌then◌else◌, List, Option, Some, None}
+use Rattle.std.specs.Prelude.{ℕ, Bool, true, false, List, Option, Some, None}
 use Rattle.parking_lot_rules.specs.Any.{AnyStep, RwStep}
 use Rattle.parking_lot_rules.specs.Plain.{Plain, Expire1, Expire2, Reenter1, Reenter2}
 use Rattle.parking_lot_rules.specs.Roles.{Mode, Shared, Upgradable, Stay, Late, Back, Shares, Phase, Queued1, Taken1, Queued2, Taken2, Masks1, Leaves1, Leaves2, Role, away}

@@ -13,8 +13,8 @@ ghost use Rattle.parking_lot_world.specs.Rows.{late_does, late_role, mutex_spot,
 ghost use Rattle.parking_lot_world.specs.Stances.{rw_taken, taken_count};
 
 use crate::calls::OwnMode;
-use crate::open_call::Call;
 use crate::late_rw::{LateRwPhase, RwSleeper};
+use crate::open_call::Call;
 use crate::seat::{Core, LatePhase, QueuePosition, WakeResult};
 use crate::upgrade_views::{upgrade_asleep, upgrade_in_debt, upgrade_looks, upgrade_mode};
 use parking_lot_protocol::{AfterWake, CoreAnswer, LockMode, MutexPhase, Outcome, RwPhase};

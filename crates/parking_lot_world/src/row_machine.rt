@@ -122,9 +122,7 @@ impl<A: Allocator> RowMachine<A> {
         ensures { result ≡ goes_late (state self.now) call.now call.now.core }
     {
         call.core.is_back()
-            || (call.core.comes_late()
-                && call.spot.is_listed()
-                && !self.lot.is_entered(call.lock))
+            || (call.core.comes_late() && call.spot.is_listed() && !self.lot.is_entered(call.lock))
     }
 
     /// Whether a thread's deadline may come: it sleeps in its list in a timed call, and it hasn't come before.
