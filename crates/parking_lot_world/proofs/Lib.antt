@@ -18,7 +18,7 @@ mod Spinning
 mod Bounding
 mod Queueing
 mod Moves
-mod Cases
+pub mod Cases
 mod Indebting
 mod UpgradeOwning
 mod RwCalls

@@ -169,10 +169,6 @@ once_works (OncePhase.Clears well taken) e = refl
 once_works (OncePhase.Leaves taken) e = refl
 once_works p e = absurd cc
 
-or_else : (b c : Bool) → c ≡ true → (b || c) ≡ true
-or_else true c e = refl
-or_else false c e = e
-
 some_call : {C : Type 0} (f : C → Bool) (o : Option C) → option_map_or f o false ≡ true → is_some o ≡ true
 some_call f None e = absurd cc
 some_call f (Some c) e = refl
@@ -188,17 +184,17 @@ module _ (s : State) (h : FitsTogether s) where
       → ((goes_late s c (Core.Late p) || is_possible (is_taken s c) (core_act (Core.Late p))) ≡ true) × (core_enters (Core.Late p) ≡ false)
   late_inside c LatePhase.Expires k how e = absurd cc
   late_inside c LatePhase.Quits k how e = (refl, refl)
-  late_inside c LatePhase.Masks k how e = (or_else _ true refl, refl)
-  late_inside c LatePhase.Leaves k how e = (or_else _ true refl, refl)
+  late_inside c LatePhase.Masks k how e = (refl, refl)
+  late_inside c LatePhase.Leaves k how e = (refl, refl)
   late_inside c LatePhase.GivesUp k how e = absurd cc
 
   tardy_inside : (c : Call) (p : LateRwPhase) (k : ℕ) (how : Doing) → stance (Core.LateRw p) ≡ In k how
       → ((goes_late s c (Core.LateRw p) || is_possible (is_taken s c) (core_act (Core.LateRw p))) ≡ true) × (core_enters (Core.LateRw p) ≡ false)
   tardy_inside c (LateRwPhase.Expires z) k how e = absurd (lies_out (sleeper_stance z) k how e)
   tardy_inside c (LateRwPhase.Quits z) k how e = (refl, refl)
-  tardy_inside c LateRwPhase.Masks k how e = (or_else _ true refl, refl)
-  tardy_inside c LateRwPhase.Leaves k how e = (or_else _ true refl, refl)
-  tardy_inside c (LateRwPhase.LeavesPending from) k how e = (or_else _ true refl, refl)
+  tardy_inside c LateRwPhase.Masks k how e = (refl, refl)
+  tardy_inside c LateRwPhase.Leaves k how e = (refl, refl)
+  tardy_inside c (LateRwPhase.LeavesPending from) k how e = (refl, refl)
   tardy_inside c LateRwPhase.GivesUp k how e = absurd cc
 
   inside_goes : (c : Call) (d : Core) (k : ℕ) (how : Doing) → stance d ≡ In k how → ((goes_late s c d || is_possible (is_taken s c) (core_act d)) ≡ true) × (core_enters d ≡ false)

@@ -17,7 +17,7 @@ pub enum End {
 }
 
 /// How a thread owns the lock as it begins that call.
-fn mode_before(call: LockCall) -> Option<OwnMode> {
+pub fn mode_before(call: LockCall) -> Option<OwnMode> {
     match call {
         LockCall::Unlock | LockCall::UnlockWrite => Some(OwnMode::Exclusive),
         LockCall::Downgrade => Some(OwnMode::Exclusive),
@@ -25,10 +25,12 @@ fn mode_before(call: LockCall) -> Option<OwnMode> {
         LockCall::UnlockRead => Some(OwnMode::Shared),
         LockCall::UnlockUpgradable | LockCall::DowngradeUpgradable => Some(OwnMode::Upgradable),
         LockCall::Upgrade | LockCall::TryUpgrade => Some(OwnMode::Upgradable),
+        LockCall::UpgradeUntil => Some(OwnMode::Upgradable),
         LockCall::Lock | LockCall::TryLock | LockCall::LockUntil => None,
-        LockCall::Read | LockCall::TryRead => None,
+        LockCall::Read | LockCall::TryRead | LockCall::ReadUntil => None,
         LockCall::UpgradableRead | LockCall::TryUpgradableRead => None,
-        LockCall::Write | LockCall::TryWrite => None,
+        LockCall::UpgradableUntil => None,
+        LockCall::Write | LockCall::TryWrite | LockCall::WriteUntil => None,
         LockCall::CallOnce(_) | LockCall::CallOnceForce(_) => None,
         LockCall::OnceWait | LockCall::OnceWaitForce => None,
     }
@@ -38,12 +40,13 @@ fn mode_before(call: LockCall) -> Option<OwnMode> {
 pub fn mode_behind(call: LockCall) -> Option<OwnMode> {
     match call {
         LockCall::Lock | LockCall::TryLock | LockCall::LockUntil => Some(OwnMode::Exclusive),
-        LockCall::Write | LockCall::TryWrite => Some(OwnMode::Exclusive),
-        LockCall::Read | LockCall::TryRead => Some(OwnMode::Shared),
+        LockCall::Write | LockCall::TryWrite | LockCall::WriteUntil => Some(OwnMode::Exclusive),
+        LockCall::Read | LockCall::TryRead | LockCall::ReadUntil => Some(OwnMode::Shared),
         LockCall::Downgrade | LockCall::DowngradeUpgradable => Some(OwnMode::Shared),
         LockCall::UpgradableRead | LockCall::TryUpgradableRead => Some(OwnMode::Upgradable),
-        LockCall::DowngradeToUpgradable => Some(OwnMode::Upgradable),
+        LockCall::DowngradeToUpgradable | LockCall::UpgradableUntil => Some(OwnMode::Upgradable),
         LockCall::Upgrade | LockCall::TryUpgrade => Some(OwnMode::Exclusive),
+        LockCall::UpgradeUntil => Some(OwnMode::Exclusive),
         LockCall::Unlock | LockCall::UnlockRead | LockCall::UnlockWrite => None,
         LockCall::UnlockUpgradable => None,
         LockCall::CallOnce(_) | LockCall::CallOnceForce(_) => None,
@@ -54,7 +57,7 @@ pub fn mode_behind(call: LockCall) -> Option<OwnMode> {
 /// How many shared holds a thread has once that call is answered, and isn't refused, of so many before.
 pub fn shares_behind(call: LockCall, shares: u8) -> u8 {
     match call {
-        LockCall::Read | LockCall::TryRead => shares.saturating_add(1),
+        LockCall::Read | LockCall::TryRead | LockCall::ReadUntil => shares.saturating_add(1),
         LockCall::UnlockRead => shares.saturating_sub(1),
         LockCall::Downgrade | LockCall::DowngradeUpgradable => 1,
         _ => 0,
@@ -84,7 +87,13 @@ fn owned_before(call: LockCall, shares: u8) -> Option<OwnMode> {
 pub fn may_own(call: LockCall, shares: u8, mode: Option<OwnMode>) -> bool {
     mode == owned_before(call, shares)
         || mode == owned_behind(call, shares)
-        || matches!(call, LockCall::Write | LockCall::Upgrade) && mode == Some(OwnMode::Pending)
+        || may_be_pending(call) && mode == Some(OwnMode::Pending)
+}
+
+/// Whether that call may own the lock as the next writer, which waits for the readers.
+fn may_be_pending(call: LockCall) -> bool {
+    matches!(call, LockCall::Write | LockCall::WriteUntil)
+        || matches!(call, LockCall::Upgrade | LockCall::UpgradeUntil)
 }
 
 /// Whether that call may sleep until it owns the lock, or until its deadline.
@@ -98,7 +107,9 @@ pub fn may_sleep(call: LockCall) -> bool {
 
 /// Whether that call has a deadline.
 pub fn is_timed(call: LockCall) -> bool {
-    call == LockCall::LockUntil
+    matches!(call, LockCall::LockUntil | LockCall::ReadUntil)
+        || matches!(call, LockCall::WriteUntil | LockCall::UpgradableUntil)
+        || call == LockCall::UpgradeUntil
 }
 
 /// Whether that call may be answered so.
