@@ -40,9 +40,7 @@ fn holds(world: &mut World, line: Line) -> bool {
     match line {
         Line::Calls(thread, asked) => call(world, thread, 0, asked, false),
         Line::CallsFairly(thread, asked) => call(world, thread, 0, asked, true),
-        Line::Begins(thread, asked) => {
-            world.run(&[WorldStep::Begin(thread, 0, asked)]).is_ok()
-        }
+        Line::Begins(thread, asked) => { world.run(&[WorldStep::Begin(thread, 0, asked)]).is_ok() }
         Line::GoesOn(thread) => go_on(world, thread, false),
         Line::Expires(thread) => world.run(&[WorldStep::Deadline(thread)]).is_ok(),
         Line::NeverExpires(thread) => world.run(&[WorldStep::Deadline(thread)]) == NO_MOVE,
