@@ -82,6 +82,7 @@ none_held Hold.Upgrades may = absurd (false≢true may)
 none_beside : (call : LockCall) (h : Hold) → is_allowed kind.Rw h call ≡ true → is_single h ≡ true → holds_beside call h ≡ 0
 none_beside LockCall.Read h may is = none_held h may
 none_beside LockCall.TryRead h may is = none_held h may
+none_beside LockCall.ReadUntil h may is = none_held h may
 none_beside call h may is = single_less h is
 
 -- A MODE IS NOT ANOTHER
@@ -388,4 +389,5 @@ begun_alone s u t i call rws single d at x = by call refl
     by : (c : LockCall) → call ≡ c → holds_beside c h ≡ 0
     by LockCall.Read e = alone (recursive_in s.kinds i) (not_recursive s i rws) (asks LockCall.Read e).1
     by LockCall.TryRead e = alone (recursive_in s.kinds i) (not_recursive s i rws) (asks LockCall.TryRead e).1
+    by LockCall.ReadUntil e = alone (recursive_in s.kinds i) (not_recursive s i rws) (asks LockCall.ReadUntil e).1
     by c e = single_less h (single_hold s t i single)

@@ -200,7 +200,7 @@ fn every_schedule_of_deadlines_of_readers_and_writers_keeps_the_rules(
     for program in programs {
         states = states.saturating_add(explore_with(&rt, LockKind::Rw, program, &others)?);
     }
-    assert!(rt; states >= 5_000, "{states} states");
+    assert!(rt; states >= 8_000, "{states} states");
     Ok(())
 }
 
@@ -218,6 +218,6 @@ fn every_schedule_of_deadlines_of_upgradable_holds_keeps_the_rules(
     let upgrades = explore_with(&rt, LockKind::Rw, upgrade, &[reader])?;
     let waits = explore_with(&rt, LockKind::Rw, wait, &[wait, reader])?;
     let states = upgrades.saturating_add(waits);
-    assert!(rt; states >= 1_000, "{states} states");
+    assert!(rt; states >= 3_500, "{states} states");
     Ok(())
 }
