@@ -5,6 +5,7 @@ mod program;
 mod rules;
 mod shown;
 mod state;
+mod upgrades;
 
 use locks::LockWatch;
 use parking_lot_worlds::{LockCall, LockKind};

@@ -1,7 +1,7 @@
 //! What states of a world are told apart by.
 
 use super::program::{
-    End, Program, is_timed, may_answer, mode_before, owned_behind, shares_behind,
+    End, Program, is_timed, may_answer, owned_before, owned_behind, shares_behind,
 };
 use super::shown::Shown;
 use parking_lot_core_lot::{Place, ThreadStatus};
@@ -156,8 +156,8 @@ impl Progress {
     fn answered(&self, call: LockCall, answer: LockAnswer) -> Progress {
         if matches!(answer, LockAnswer::Refused | LockAnswer::TimedOut) {
             Progress {
-                stage: Stage::Between(mode_before(call)),
-                shares: 0,
+                stage: Stage::Between(owned_before(call, self.shares)),
+                shares: self.shares,
                 rest: [None; 3],
                 refused: true,
             }
