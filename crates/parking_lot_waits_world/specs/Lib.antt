@@ -1,0 +1,4 @@
+pub mod Turns
+pub mod Joint
+pub mod JointMoves
+pub mod JointSteps
