@@ -134,6 +134,10 @@ abbrev pub var_goes : Joint → ℕ → OpenCall → Option Var → Bool
 var_goes j t c None = false
 var_goes j t c (Some x) = var.can_step x t && not (var_turns.enters c && (is_open_at_locks j || is_open_at_variables j))
 
+abbrev pub var_acts : Option Var → ℕ → Bool
+var_acts None t = false
+var_acts (Some x) t = var.can_step x t
+
 abbrev pub var_hears : Option Var → ℕ → Outside → Bool
 var_hears None t seen = false
 var_hears (Some x) t seen = can_be_told x t seen

@@ -60,21 +60,23 @@ is_owned answer.Owned = true
 is_owned answer.Refused = false
 is_owned answer.Released = false
 
--- an act of thread t at a variable
-pub record ActsAt (t v : ℕ) (reply : Option CondvarReply) (i j : Joint) : Type 0 where
-  pub before : Var
-  pub after : Var
-  pub here : var_at i v ≡ Some before
-  pub acts : vars.IsStepped t reply before after
-  pub vars : j.vars ≡ slice_set i.vars v (Some after)
+-- an act of thread t at a variable, and what it is told there of what was done elsewhere
+abbrev pub ActsIn : ℕ → Option CondvarReply → Option Var → Option Var → Type 0
+ActsIn t reply (Some x) (Some y) = vars.IsStepped t reply x y
+ActsIn t reply None y = ⊥
+ActsIn t reply (Some x) None = ⊥
 
--- it is told there what was done elsewhere
-pub record HearsAt (t v : ℕ) (seen : Outside) (i j : Joint) : Type 0 where
-  pub before : Var
-  pub after : Var
-  pub here : var_at i v ≡ Some before
-  pub told : vars.IsTold t seen before after
-  pub vars : j.vars ≡ slice_set i.vars v (Some after)
+abbrev pub HearsIn : ℕ → Outside → Option Var → Option Var → Type 0
+HearsIn t seen (Some x) (Some y) = vars.IsTold t seen x y
+HearsIn t seen None y = ⊥
+HearsIn t seen (Some x) None = ⊥
+
+-- the same at variable v of the machine, where no other changes
+abbrev pub ActsAt : ℕ → ℕ → Option CondvarReply → Joint → Joint → Type 0
+ActsAt t v reply i j = (y : Option Var) × ActsIn t reply (var_at i v) y × (j.vars ≡ slice_set i.vars v y)
+
+abbrev pub HearsAt : ℕ → ℕ → Outside → Joint → Joint → Type 0
+HearsAt t v seen i j = (y : Option Var) × HearsIn t seen (var_at i v) y × (j.vars ≡ slice_set i.vars v y)
 
 -- where its call at the mutex is over
 abbrev pub HearsOf : Option CoreAnswer → ℕ → ℕ → Joint → Joint → Type 0
@@ -89,13 +91,13 @@ FollowsAs false None t k v c d i mid j = (state j.rows ≡ mid) × HearsAt t v (
 FollowsAs late (Some answer.Owned) t k v c d i mid j = (state j.rows ≡ mid) × HearsAt t v (wakes_with c.core handed) i j
 FollowsAs late (Some a) t k v c d i mid j = rows.IsBegun k d.lock call.Lock mid (state j.rows) × HearsAt t v (wakes_with c.core retried) i j
 
-pub record IsFollowing (t v : ℕ) (fair : Bool) (c : OpenCall) (i j : Joint) : Type 0 where
+pub record IsFollowing (t v k : ℕ) (fair : Bool) (c : OpenCall) (i j : Joint) : Type 0 where
   pub d : Call
-  pub there : row_call_at (state i.rows) (back_number i t) ≡ Some d
+  pub there : row_call_at (state i.rows) k ≡ Some d
   pub answer : Option CoreAnswer
   pub mid : State
-  pub step : rows.IsStepped (back_number i t) fair answer (state i.rows) mid
-  pub then_ : FollowsAs (is_late d.core) answer t (back_number i t) v c d i mid j
+  pub step : rows.IsStepped k fair answer (state i.rows) mid
+  pub onward : FollowsAs (is_late d.core) answer t k v c d i mid j
 
 -- One whose moment had passed before it was moved comes back into the mutex's list, where it sleeps there still.
 abbrev pub ComesBackIf : Bool → ℕ → Joint → Joint → Type 0
@@ -112,7 +114,7 @@ Turned turn.GivesUp t v fair c reply i j = ActsAt t v reply i j × rows.IsBegun 
 Turned turn.LocksAgain t v fair c reply i j = ActsAt t v reply i j × rows.IsBegun (back_number i t) (mutex_of c.call) call.Lock (state i.rows) (state j.rows)
 Turned turn.Unlocks t v fair c reply i j = (reply ≡ None) × (a : Option CoreAnswer) × rows.IsStepped (front_number i t) fair a (state i.rows) (state j.rows) × HearsOf a t v i j
 Turned turn.Locks t v fair c reply i j = (reply ≡ None) × (a : Option CoreAnswer) × rows.IsStepped (back_number i t) fair a (state i.rows) (state j.rows) × HearsOf a t v i j
-Turned turn.Follows t v fair c reply i j = (reply ≡ None) × IsFollowing t v fair c i j
+Turned turn.Follows t v fair c reply i j = (reply ≡ None) × IsFollowing t v (back_number i t) fair c i j
 Turned turn.ComesBack t v fair c reply i j = (reply ≡ None) × HearsAt t v outside.Made i j × ComesBackIf (rows.may_expire (state i.rows) (back_number i t)) (back_number i t) i j
 Turned turn.Hears t v fair c reply i j = (reply ≡ None) × HearsAt t v outside.Made i j × (j.rows ≡ i.rows)
 Turned turn.Moves t v fair c reply i j = ⊥

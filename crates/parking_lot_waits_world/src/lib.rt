@@ -3,7 +3,9 @@
 
 mod allowed;
 mod ended;
+mod parts;
 mod seat;
+mod steps;
 mod turn;
 mod wait_machine;
 
