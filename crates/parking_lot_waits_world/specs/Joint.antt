@@ -129,14 +129,14 @@ enters_at_lock j k = option_map_or (λ c. core_enters c.core) (row.call_at (stat
 abbrev pub row_goes : Joint → ℕ → Bool
 row_goes j k = rows.can_move (state j.rows) k && not (enters_at_lock j k && is_open_at_variables j)
 
--- thread t can make its own step at a variable: it enters no section while another is open
-abbrev pub var_goes : Joint → ℕ → OpenCall → Option Var → Bool
-var_goes j t c None = false
-var_goes j t c (Some x) = var.can_step x t && not (var_turns.enters c && (is_open_at_locks j || is_open_at_variables j))
-
+-- thread t can make its own step at a variable
 abbrev pub var_acts : Option Var → ℕ → Bool
 var_acts None t = false
 var_acts (Some x) t = var.can_step x t
+
+-- and it enters no section while another is open
+abbrev pub var_goes : Joint → ℕ → OpenCall → Option Var → Bool
+var_goes j t c x = var_acts x t && not (var_turns.enters c && (is_open_at_locks j || is_open_at_variables j))
 
 abbrev pub var_hears : Option Var → ℕ → Outside → Bool
 var_hears None t seen = false

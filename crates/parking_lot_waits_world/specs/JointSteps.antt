@@ -38,13 +38,14 @@ pub record IsAsked (t lock : ℕ) (c : LockCall) (i j : Joint) : Type 0 where
 abbrev pub waits_by_second : Joint → ℕ → CondvarCall → Bool
 waits_by_second j t c = is_wait c && not (has_by_second j t (mutex_of c))
 
+abbrev pub BeginsIn : ℕ → CondvarCall → Option Var → Option Var → Type 0
+BeginsIn t c (Some x) (Some y) = vars.IsBegun t c x y
+BeginsIn t c None y = ⊥
+BeginsIn t c (Some x) None = ⊥
+
 -- A call at a variable begins there, and nothing else changes.
 pub record IsCalled (t v : ℕ) (c : CondvarCall) (i j : Joint) : Type 0 where
-  pub before : Var
-  pub after : Var
-  pub here : var_at i v ≡ Some before
-  pub begins : vars.IsBegun t c before after
-  pub vars : j.vars ≡ slice_set i.vars v (Some after)
+  pub begins : (y : Option Var) × BeginsIn t c (var_at i v) y × (j.vars ≡ slice_set i.vars v y)
   pub rows : j.rows ≡ i.rows
   pub seats : j.seats ≡ slice_set i.seats t (record { at = Some v; second = waits_by_second i t c })
 

@@ -1,15 +1,16 @@
 //! The parts of which steps consist.
-ghost use Rattle.std.specs.Prelude.{◌≡◌, ◌<◌, length, Some, true};
+ghost use Rattle.std.specs.Prelude.{◌≡◌, ◌<◌, length, slice_set, Some, true};
 ghost use Rattle.parking_lot_world.specs.declared.calls.LockCall.TheVariants as call;
 ghost use Rattle.parking_lot_world.specs.Machines as rows;
 ghost use Rattle.parking_lot_world.specs.Rows.{state};
 ghost use Rattle.parking_lot_world.specs.Rows as row;
 ghost use Rattle.parking_lot_condvar_world.specs.declared.outside.Outside.TheVariants.{Made};
 ghost use Rattle.parking_lot_waits_world.specs.Joint.{follows, row_goes, var_acts, var_at, var_hears};
-ghost use Rattle.parking_lot_waits_world.specs.JointSteps.{ActsAt, ActsIn, HearsAt, HearsIn, HearsOf};
+ghost use Rattle.parking_lot_waits_world.specs.JointMoves.{may_call};
+ghost use Rattle.parking_lot_waits_world.specs.JointSteps.{ActsAt, ActsIn, BeginsIn, HearsAt, HearsIn, HearsOf};
 
 use crate::wait_machine::WaitMachine;
-use parking_lot_condvar_world::{CondvarMachine, CondvarReply, Outside};
+use parking_lot_condvar_world::{CondvarCall, CondvarMachine, CondvarReply, Outside};
 use parking_lot_protocol::CoreAnswer;
 use std::alloc::Allocator;
 
@@ -35,7 +36,32 @@ fn hear_in<A: Allocator>(place: &mut Option<CondvarMachine<A>>, thread: usize, s
     }
 }
 
+/// A call begins at the variable.
+fn begin_in<A: Allocator>(place: &mut Option<CondvarMachine<A>>, thread: usize, call: CondvarCall)
+    requires may { may_call place.old thread call ≡ true }
+    ensures begins { BeginsIn thread call place.old place.new }
+{
+    match place {
+        Some(machine) => machine.begin(thread, call),
+        None => (),
+    }
+}
+
 impl<A: Allocator> WaitMachine<A> {
+    /// A call begins at a variable.
+    pub(crate) fn begin_at(&mut self, thread: usize, variable: usize, call: CondvarCall)
+        requires may { may_call (var_at self.old variable) thread call ≡ true }
+        ensures begins { (y : _) × BeginsIn thread call (var_at self.old variable) y × (self.new.vars ≡ slice_set self.old.vars variable y) }
+        ensures rows { self.new.rows ≡ self.old.rows }
+        ensures seats { self.new.seats ≡ self.old.seats }
+    {
+        let _ = &self.seats;
+        let Some(place) = self.vars.get_mut(variable) else {
+            return;
+        };
+        begin_in(place, thread, call);
+    }
+
     /// A thread makes an act at a variable.
     pub(crate) fn act(&mut self, thread: usize, variable: usize) -> Option<CondvarReply>
         requires can { var_acts (var_at self.old variable) thread ≡ true }
