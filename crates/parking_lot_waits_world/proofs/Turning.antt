@@ -53,4 +53,4 @@ module _ (t v : ℕ) (fair : Bool) (c : OpenCall) (i j : Joint) (seats : List Se
   reseated turn.Follows reply (e, f) = (e, following (back_number i t) f)
   reseated turn.ComesBack reply (e, h, b) = (e, h, comes_back (rows.may_expire (state i.rows) (back_number i t)) (back_number i t) b)
   reseated turn.Hears reply h = h
-  reseated turn.Moves reply h = h
+  reseated turn.Moves reply (e, m) = (e, record { moves = m.moves; notifies = m.notifies })

@@ -1,5 +1,5 @@
 -- What a machine of locks and condition variables consists of, and which steps it makes.
-use Rattle.std.specs.Prelude.{◌≡◌, ℕ, ◌+◌, ◌*◌, ◌-◌, ◌==◌, ◌%◌, ◌&&◌, ◌||◌, not, nat_lt, Bool, true, false, if◌then◌else◌, List, length, Option, Some, None, is_some, is_none, slice_get}
+use Rattle.std.specs.Prelude.{◌≡◌, ℕ, ◌+◌, ◌*◌, ◌-◌, ◌==◌, ◌%◌, ◌&&◌, ◌||◌, not, nat_lt, Bool, true, false, if◌then◌else◌, List, [], length, Option, Some, None, is_some, is_none, slice_get}
 use Rattle.std.specs.List.{list_any, list_all}
 use Rattle.std.specs.Option.{option_and_then, option_map_or, unwrap_or}
 use Rattle.parking_lot_protocol.specs.declared.act.Act.{Act}
@@ -142,10 +142,14 @@ abbrev pub var_hears : Option Var → ℕ → Outside → Bool
 var_hears None t seen = false
 var_hears (Some x) t seen = can_be_told x t seen
 
--- the mutex that is shown, where one is
-abbrev pub shown_by : Option Var → ℕ
-shown_by None = 0
-shown_by (Some x) = x.word - 1
+-- the mutex that is shown, where one is, and who waits
+abbrev pub lock_of : Option Var → ℕ
+lock_of None = 0
+lock_of (Some x) = x.word - 1
+
+abbrev pub waiters_of : Option Var → List ℕ
+waiters_of None = []
+waiters_of (Some x) = x.queue
 
 -- number k goes on at a mutex
 abbrev pub follows : Joint → ℕ → Bool

@@ -16,7 +16,8 @@ use Rattle.parking_lot_world.specs.Requeues.{may_rouse_in}
 use Rattle.parking_lot_world.specs.Rows.{state}
 use Rattle.parking_lot_waits_world.specs.declared.turn.Turn.{Turn}
 use Rattle.parking_lot_waits_world.specs.declared.turn.Turn.TheVariants as turn
-use Rattle.parking_lot_waits_world.specs.Joint.{Joint, asking_number, back_number, busy_number, call_at, follows, front_number, has_by_second, is_idle, is_var, number, row_goes, seat_at, shown_by, var_at, var_goes, var_hears}
+use Rattle.parking_lot_waits_world.specs.Joint.{Joint, asking_number, back_number, busy_number, call_at, follows, front_number, has_by_second, is_idle, is_var, number, row_goes, lock_of, seat_at, var_at, var_goes, var_hears, waiters_of}
+use Rattle.parking_lot_waits_world.specs.Moving.{back_in}
 use Rattle.parking_lot_waits_world.specs.Turns.{is_wait, mutex_of, turn_of}
 
 -- whether a thread is in no call
@@ -49,11 +50,10 @@ may_call_at j t v c = nat_lt t (length j.seats) && (is_free j t && (may_call (va
 
 -- the waiter may be woken to ask for the mutex, or moved into its list
 abbrev pub may_move : Joint → ℕ → ℕ → Bool
-may_move j lock t = nat_lt t (length j.seats) && may_rouse_in (state j.rows) (back_number j t) lock
+may_move j lock t = nat_lt t (length j.seats) && may_rouse_in (state j.rows) (back_in j.seats t) lock
 
 abbrev pub may_move_all : Joint → Option Var → Bool
-may_move_all j None = false
-may_move_all j (Some x) = list_all (may_move j (x.word - 1)) x.queue
+may_move_all j o = is_some o && list_all (may_move j (lock_of o)) (waiters_of o)
 
 -- STEPS
 
@@ -67,7 +67,7 @@ may_turn turn.Follows j t v c = follows j (back_number j t)
 may_turn turn.Locks j t v c = row_goes j (back_number j t)
 may_turn turn.ComesBack j t v c = true
 may_turn turn.Hears j t v c = true
-may_turn turn.Moves j t v c = false
+may_turn turn.Moves j t v c = may_move_all j (var_at j v)
 
 abbrev pub may_go_as : Option OpenCall → Joint → ℕ → ℕ → Bool
 may_go_as None j t v = false

@@ -10,6 +10,8 @@ use Rattle.parking_lot_condvar_world.specs.declared.outside.Outside.TheVariants 
 use Rattle.parking_lot_condvar_world.specs.declared.open_call.OpenCall.{OpenCall}
 use Rattle.parking_lot_condvar_world.specs.Machines as var
 use Rattle.parking_lot_condvar_world.specs.Machines.{State as Var}
+use Rattle.parking_lot_condvar_world.specs.Fitting.{Fits}
+use Rattle.parking_lot_condvar_world.specs.MachineLaws.{IsSoundMachine}
 use Rattle.parking_lot_condvar_world.specs.Steps as vars
 use Rattle.parking_lot_world.specs.declared.calls.LockCall.{LockCall}
 use Rattle.parking_lot_world.specs.declared.calls.LockCall.TheVariants as call
@@ -17,13 +19,14 @@ use Rattle.parking_lot_world.specs.declared.seat.Core.{Core}
 use Rattle.parking_lot_world.specs.declared.open_call.Call.{Call}
 use Rattle.parking_lot_world.specs.Machines as rows
 use Rattle.parking_lot_world.specs.Requeues as requeues
-use Rattle.parking_lot_world.specs.Rows.{State, call_at as row_call_at, state}
+use Rattle.parking_lot_world.specs.Rows.{State, call_at as row_call_at, state, word_at}
 use Rattle.parking_lot_waits_world.specs.declared.ended.Ended.{Ended}
 use Rattle.parking_lot_waits_world.specs.declared.ended.Ended.TheVariants as ended
 use Rattle.parking_lot_waits_world.specs.declared.seat.Seat.{Seat}
 use Rattle.parking_lot_waits_world.specs.declared.turn.Turn.{Turn}
 use Rattle.parking_lot_waits_world.specs.declared.turn.Turn.TheVariants as turn
-use Rattle.parking_lot_waits_world.specs.Joint.{Joint, asking_number, back_number, busy_number, call_at, front_number, has_by_second, nowhere, seat_at, var_at}
+use Rattle.parking_lot_waits_world.specs.Joint.{Joint, asking_number, back_number, busy_number, call_at, front_number, has_by_second, lock_of, nowhere, seat_at, var_at}
+use Rattle.parking_lot_waits_world.specs.Moving.{AreMovedAs, MayMoveAs, NotifiesIn, taken_of}
 use Rattle.parking_lot_waits_world.specs.Turns.{handed, is_late, is_wait, mutex_of, retried, turn_of, wakes_with}
 
 -- WHAT BEGINS
@@ -105,6 +108,32 @@ abbrev pub ComesBackIf : Bool → ℕ → Joint → Joint → Type 0
 ComesBackIf true k i j = rows.IsExpired k (state i.rows) (state j.rows)
 ComesBackIf false k i j = j.rows ≡ i.rows
 
+-- the waiters that a notification takes, and whether its mutex is locked
+abbrev pub takes_now : CondvarCall → Option Var → List ℕ
+takes_now c None = []
+takes_now c (Some x) = take (taken_of c (length x.queue)) x.queue
+
+abbrev pub is_locked : Joint → ℕ → Bool
+is_locked i lock = word_at (state i.rows) lock % 2 == 1
+
+abbrev pub MovesIn : Option Var → Bool → List Seat → ℕ → List ℕ → State → State → Type 0
+MovesIn None locked seats lock ws s u = ⊥
+MovesIn (Some x) locked seats lock ws s u = AreMovedAs locked seats x lock ws s u
+
+-- what holds of a variable at every moment
+abbrev pub KnownIn : Option Var → Type 0
+KnownIn None = Unit {0}
+KnownIn (Some x) = Fits x × IsSoundMachine x
+
+abbrev pub MayMoveIn : Option Var → Bool → List Seat → ℕ → List ℕ → State → Type 0
+MayMoveIn None locked seats lock ws s = ⊥
+MayMoveIn (Some x) locked seats lock ws s = MayMoveAs locked seats x lock ws s
+
+-- A notification takes waiters off the variable's list, and moves them, in one step.
+pub record IsMoving (t v : ℕ) (c : OpenCall) (i j : Joint) : Type 0 where
+  pub moves : MovesIn (var_at i v) (is_locked i (lock_of (var_at i v))) i.seats (lock_of (var_at i v)) (takes_now c.call (var_at i v)) (state i.rows) (state j.rows)
+  pub notifies : (y : Option Var) × NotifiesIn t (is_locked i (lock_of (var_at i v))) (length (takes_now c.call (var_at i v))) (var_at i v) y × (j.vars ≡ slice_set i.vars v y)
+
 -- THE STEPS
 
 -- what is left behind thread t's turn at variable v, in its call c there; all of the machine but its seat
@@ -118,7 +147,7 @@ Turned turn.Locks t v fair c reply i j = (reply ≡ None) × (a : Option CoreAns
 Turned turn.Follows t v fair c reply i j = (reply ≡ None) × IsFollowing t v (back_number i t) fair c i j
 Turned turn.ComesBack t v fair c reply i j = (reply ≡ None) × HearsAt t v outside.Made i j × ComesBackIf (rows.may_expire (state i.rows) (back_number i t)) (back_number i t) i j
 Turned turn.Hears t v fair c reply i j = (reply ≡ None) × HearsAt t v outside.Made i j × (j.rows ≡ i.rows)
-Turned turn.Moves t v fair c reply i j = ⊥
+Turned turn.Moves t v fair c reply i j = (reply ≡ None) × IsMoving t v c i j
 
 -- a step of a thread in a call at a lock
 pub record GoesAtLock (t : ℕ) (fair : Bool) (a : Option CoreAnswer) (i j : Joint) : Type 0 where

@@ -1,7 +1,8 @@
 //! Which calls a thread may begin, and which steps it may make.
-ghost use Rattle.std.specs.Prelude.{◌≡◌, ◌<◌, length};
-ghost use Rattle.parking_lot_waits_world.specs.Joint.{core_enters, enters_at_lock, follows, is_entry, row_goes, var_at, var_goes, var_hears};
-ghost use Rattle.parking_lot_waits_world.specs.JointMoves.{has_mutex, is_free, may_ask, may_call, may_call_at, may_expire, may_expire_as, may_go, may_go_as, may_turn, sleeps_on};
+ghost use Rattle.std.specs.Prelude.{◌≡◌, ◌<◌, length, Some};
+ghost use Rattle.std.specs.List.{list_all};
+ghost use Rattle.parking_lot_waits_world.specs.Joint.{core_enters, enters_at_lock, follows, is_entry, lock_of, row_goes, var_at, var_goes, var_hears, waiters_of};
+ghost use Rattle.parking_lot_waits_world.specs.JointMoves.{has_mutex, is_free, may_ask, may_call, may_call_at, may_expire, may_expire_as, may_go, may_go_as, may_move, may_move_all, may_turn, sleeps_on};
 
 use crate::turn::{Turn, is_at_mutex, is_wait, mutex_of, turn_of};
 use crate::wait_machine::WaitMachine;
@@ -134,6 +135,48 @@ impl<A: Allocator> WaitMachine<A> {
             && (!is_wait(call) || self.has_mutex(thread, mutex_of(call)))
     }
 
+    /// Whether a waiter may be woken to ask for the mutex, or moved into its list.
+    fn may_move(&self, lock: usize, waiter: usize) -> bool
+        ensures { result ≡ may_move self.now lock waiter }
+    {
+        waiter < self.threads() && self.rows.may_rouse_in(self.back_number(waiter), lock)
+    }
+
+    /// The number of the mutex that a variable shows; 0 where it shows none.
+    pub(crate) fn lock_of(&self, variable: usize) -> usize
+        ensures { result ≡ lock_of (var_at self.now variable) }
+    {
+        match self.vars.get(variable) {
+            Some(Some(machine)) => machine.word().saturating_sub(1) as usize,
+            _ => 0,
+        }
+    }
+
+    /// Who waits at a variable, in the order in which they came.
+    pub fn waiters(&self, variable: usize) -> &[usize]
+        ensures { result.now ≡ waiters_of (var_at self.now variable) }
+    {
+        match self.vars.get(variable) {
+            Some(Some(machine)) => machine.queue(),
+            _ => &[],
+        }
+    }
+
+    /// Whether each of these waiters may be woken to ask for the mutex, or moved into its list.
+    fn may_move_each(&self, lock: usize, waiters: &[usize]) -> bool
+        ensures { result ≡ list_all (may_move self.now lock) waiters.now }
+    {
+        waiters.iter().all(|waiter| self.may_move(lock, *waiter))
+    }
+
+    /// Whether all may be that wait at a variable.
+    fn may_move_all(&self, variable: usize) -> bool
+        ensures { result ≡ may_move_all self.now (var_at self.now variable) }
+    {
+        self.is_variable(variable)
+            && self.may_move_each(self.lock_of(variable), self.waiters(variable))
+    }
+
     /// Whether a thread in that call at a variable may make its step.
     fn may_turn(&self, thread: usize, variable: usize, call: &OpenCall) -> bool
         requires low { thread < length self.now.seats }
@@ -151,7 +194,7 @@ impl<A: Allocator> WaitMachine<A> {
             Turn::Follows => self.follows(self.back_number(thread)),
             Turn::Locks => self.row_goes(self.back_number(thread)),
             Turn::ComesBack | Turn::Hears => true,
-            Turn::Moves => false,
+            Turn::Moves => self.may_move_all(variable),
         }
     }
 

@@ -3,6 +3,8 @@
 
 mod allowed;
 mod ended;
+mod moving;
+mod new_machine;
 mod parts;
 mod seat;
 mod steps;

@@ -176,7 +176,11 @@ impl<A: Allocator> WaitMachine<A> {
                 self.hear(thread, variable, Outside::Made);
                 None
             }
-            Turn::Moves | Turn::Sleeps => None,
+            Turn::Moves => {
+                self.move_at(thread, variable, call);
+                None
+            }
+            Turn::Sleeps => None,
         }
     }
 
