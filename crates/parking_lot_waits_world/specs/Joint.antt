@@ -1,7 +1,7 @@
 -- What a machine of locks and condition variables consists of, and which steps it makes.
 use Rattle.std.specs.Prelude.{◌≡◌, ℕ, ◌+◌, ◌*◌, ◌-◌, ◌==◌, ◌%◌, ◌&&◌, ◌||◌, not, nat_lt, Bool, true, false, if◌then◌else◌, List, [], length, Option, Some, None, is_some, is_none, slice_get}
 use Rattle.std.specs.List.{list_any, list_all}
-use Rattle.std.specs.Option.{option_and_then, option_map_or, unwrap_or}
+use Rattle.std.specs.Option.{option_and_then, option_map_or, option_or, unwrap_or}
 use Rattle.parking_lot_protocol.specs.declared.act.Act.{Act}
 use Rattle.parking_lot_protocol.specs.declared.act.Act.TheVariants as act
 use Rattle.parking_lot_condvar_world.specs.declared.calls.CondvarCall.{CondvarCall}
@@ -15,6 +15,7 @@ use Rattle.parking_lot_world.specs.declared.calls.LockCall.{LockCall}
 use Rattle.parking_lot_world.specs.declared.calls.LockCall.TheVariants as call
 use Rattle.parking_lot_world.specs.declared.calls.LockKind.{LockKind}
 use Rattle.parking_lot_world.specs.declared.calls.LockKind.TheVariants as kind
+use Rattle.parking_lot_world.specs.declared.calls.OwnMode.{OwnMode}
 use Rattle.parking_lot_world.specs.declared.open_call.Call.{Call}
 use Rattle.parking_lot_world.specs.declared.seat.Core.{Core}
 use Rattle.parking_lot_world.specs.declared.seat.Core.TheVariants as core
@@ -25,6 +26,7 @@ use Rattle.parking_lot_world.specs.Requeues as requeues
 use Rattle.parking_lot_world.specs.Rows.{Rows, State, state}
 use Rattle.parking_lot_world.specs.Rows as row
 use Rattle.parking_lot_world.specs.Stances.{core_act}
+use Rattle.parking_lot_world.specs.Worlds.{mode_in}
 use Rattle.parking_lot_waits_world.specs.declared.seat.Seat.{Seat}
 use Rattle.parking_lot_waits_world.specs.declared.turn.Turn.{Turn}
 use Rattle.parking_lot_waits_world.specs.declared.turn.Turn.TheVariants as turn
@@ -154,3 +156,21 @@ waiters_of (Some x) = x.queue
 -- number k goes on at a mutex
 abbrev pub follows : Joint → ℕ → Bool
 follows j k = row_goes j k && option_map_or (λ c. is_at_mutex c.core) (row.call_at (state j.rows) k) false
+
+-- WHAT IS SEEN
+
+-- the word of a variable, or of a lock
+abbrev pub word_of : Option Var → ℕ → ℕ
+word_of None other = other
+word_of (Some x) other = x.word
+
+abbrev pub word_at : Joint → ℕ → ℕ
+word_at j lock = word_of (var_at j lock) (row.word_at (state j.rows) lock)
+
+-- how a thread owns a lock, by one of its numbers
+abbrev pub mode_at : Joint → ℕ → ℕ → Option OwnMode
+mode_at j t lock = option_or (mode_in (row.lock_at (state j.rows) lock) t) (mode_in (row.lock_at (state j.rows) lock) (number j t true))
+
+-- the thread of a number
+abbrev pub thread_of : Joint → ℕ → ℕ
+thread_of j k = (if nat_lt k (length j.seats) then k else k - length j.seats)

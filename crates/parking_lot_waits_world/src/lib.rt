@@ -9,12 +9,13 @@ mod parts;
 mod seat;
 mod steps;
 mod turn;
+mod views;
 mod wait_machine;
 
 pub use ended::Ended;
 pub use parking_lot_condvar_world::{CondvarCall, CondvarMachine, CondvarReply, OpenCall};
 pub use parking_lot_core_lot::SizeFault;
-pub use parking_lot_world::{LockCall, LockKind, RowMachine};
+pub use parking_lot_world::{LockCall, LockKind, OwnMode, RowMachine};
 pub use seat::Seat;
 pub use turn::Turn;
 pub use wait_machine::WaitMachine;
