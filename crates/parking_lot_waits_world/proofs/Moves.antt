@@ -44,11 +44,11 @@ still s u v w lock c calls kinds holds free ne may =
     let was = both_true _ _ may in
     both _ _
     (ap (λ (cs : List (Option Call)). asks (length cs) (slice_get cs w) u.kinds u.holds w lock) calls
-      ∙ ap (λ n. asks n (slice_get (slice_set s.calls v (Some c)) w) u.kinds u.holds w lock) (length-set s.calls v (Some c))
-      ∙ ap (λ o. asks (length s.calls) o u.kinds u.holds w lock) (get-set_other s.calls v w (Some c) (λ e. ne (sym e)))
-      ∙ ap (λ ks. asks (length s.calls) (slice_get s.calls w) ks u.holds w lock) kinds
-      ∙ ap (λ hs. asks (length s.calls) (slice_get s.calls w) s.kinds hs w lock) holds
-      ∙ was.0)
+    ∙ ap (λ n. asks n (slice_get (slice_set s.calls v (Some c)) w) u.kinds u.holds w lock) (length-set s.calls v (Some c))
+    ∙ ap (λ o. asks (length s.calls) o u.kinds u.holds w lock) (get-set_other s.calls v w (Some c) (λ e. ne (sym e)))
+    ∙ ap (λ ks. asks (length s.calls) (slice_get s.calls w) ks u.holds w lock) kinds
+    ∙ ap (λ hs. asks (length s.calls) (slice_get s.calls w) s.kinds hs w lock) holds
+    ∙ was.0)
     (ap (λ o. not (is_some o)) free)
 
 still_taken : (s u : State) (v w lock : ℕ) (timed : Bool) → IsTakenIn v lock timed s u → w ≢ v → may_rouse_in s w lock ≡ true → may_rouse_in u w lock ≡ true

@@ -207,7 +207,7 @@ notifies t all locked c x here is none =
           let k = taken_all t all locked (count_of all waiting) 0 waiting y z (looked t all locked c x y here is none s) few taken in
           let k2 = subst (λ m. Taking t all locked m (waiting - count_of all waiting) z) (zero_more (count_of all waiting)) k in
           is_told_all t (count_of all waiting) all locked (waiting - count_of all waiting) z k2 (whole all waiting (waiting - count_of all waiting) refl)
-        );
+          );
     }
   where
     zero_more : (m : ℕ) → 0 + m ≡ m
@@ -233,7 +233,7 @@ may_notifies (Some x) t c locked known here is =
     let mark = marking c (ap is_moving is) in
     let knows = marks_knows x t c mark.all known.0 here mark.is in
     let count : count_of mark.all (length x.queue) ≡ length (take (taken_of c.call (length x.queue)) x.queue) =
-        ap (λ b. count_of b (length x.queue)) knows.1.0 ∙ count_is c.call (length x.queue) knows.0 ∙ sym (taken_length (taken_of c.call (length x.queue)) x.queue (taken_low c.call (length x.queue))) in
+    ap (λ b. count_of b (length x.queue)) knows.1.0 ∙ count_is c.call (length x.queue) knows.0 ∙ sym (taken_length (taken_of c.call (length x.queue)) x.queue (taken_low c.call (length x.queue))) in
     subst (λ m. MayNotify t locked m x) count (notifies t mark.all locked c x here mark.is knows.1.1)
   where
     taken_low : (d : CondvarCall) (n : ℕ) → taken_of d n ≤ n

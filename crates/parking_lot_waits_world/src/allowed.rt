@@ -51,8 +51,7 @@ impl<A: Allocator> WaitMachine<A> {
     fn row_goes(&self, number: usize) -> bool
         ensures { result ≡ row_goes self.now number }
     {
-        self.rows.can_move(number)
-            && !(self.enters_at_lock(number) && self.is_open_at_variables())
+        self.rows.can_move(number) && !(self.enters_at_lock(number) && self.is_open_at_variables())
     }
 
     /// The same, at a mutex.
@@ -102,7 +101,9 @@ impl<A: Allocator> WaitMachine<A> {
         thread < self.threads()
             && self.is_free(thread)
             && !self.is_variable(lock)
-            && self.rows.may_begin(self.asking_number(thread, lock), lock, call)
+            && self
+                .rows
+                .may_begin(self.asking_number(thread, lock), lock, call)
     }
 
     /// Whether a lock is a mutex that the thread owns.
@@ -112,7 +113,9 @@ impl<A: Allocator> WaitMachine<A> {
     {
         self.rows.kind(lock) == Some(LockKind::Mutex)
             && !self.is_variable(lock)
-            && self.rows.may_begin(self.asking_number(thread, lock), lock, LockCall::Unlock)
+            && self
+                .rows
+                .may_begin(self.asking_number(thread, lock), lock, LockCall::Unlock)
     }
 
     /// Whether a variable takes that call.
@@ -187,9 +190,13 @@ impl<A: Allocator> WaitMachine<A> {
             Turn::Sleeps => false,
             Turn::Acts => self.var_goes(thread, variable, call),
             Turn::GivesUp => self.var_goes(thread, variable, call)
-                && self.rows.may_begin(self.front_number(thread), mutex, LockCall::Unlock),
+                && self
+                    .rows
+                    .may_begin(self.front_number(thread), mutex, LockCall::Unlock),
             Turn::LocksAgain => self.var_goes(thread, variable, call)
-                && self.rows.may_begin(self.back_number(thread), mutex, LockCall::Lock),
+                && self
+                    .rows
+                    .may_begin(self.back_number(thread), mutex, LockCall::Lock),
             Turn::Unlocks => self.row_goes(self.front_number(thread)),
             Turn::Follows => self.follows(self.back_number(thread)),
             Turn::Locks => self.row_goes(self.back_number(thread)),

@@ -137,7 +137,13 @@ impl<A: Allocator> WaitMachine<A> {
     }
 
     /// The waiters that a notification takes are woken, or moved to the mutex. Answers how many there are.
-    fn move_waiters(&mut self, variable: usize, call: CondvarCall, lock: usize, locked: bool) -> usize
+    fn move_waiters(
+        &mut self,
+        variable: usize,
+        call: CondvarCall,
+        lock: usize,
+        locked: bool,
+    ) -> usize
         requires may { MayMoveIn (var_at self.old variable) locked self.old.seats lock (takes_now call (var_at self.old variable)) (state self.old.rows) }
         ensures moves { MovesIn (var_at self.old variable) locked self.old.seats lock (takes_now call (var_at self.old variable)) (state self.old.rows) (state self.new.rows) }
         ensures count { result ≡ length (takes_now call (var_at self.old variable)) }

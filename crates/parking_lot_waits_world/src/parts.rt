@@ -15,7 +15,10 @@ use parking_lot_protocol::CoreAnswer;
 use std::alloc::Allocator;
 
 /// A thread makes an act at the variable, which is there.
-fn act_in<A: Allocator>(place: &mut Option<CondvarMachine<A>>, thread: usize) -> Option<CondvarReply>
+fn act_in<A: Allocator>(
+    place: &mut Option<CondvarMachine<A>>,
+    thread: usize,
+) -> Option<CondvarReply>
     requires can { var_acts place.old thread ≡ true }
     ensures acts { ActsIn thread result place.old place.new }
 {

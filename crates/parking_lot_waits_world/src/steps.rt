@@ -63,7 +63,15 @@ impl<A: Allocator> WaitMachine<A> {
 
     /// A waiter that was taken off the list makes a step at its mutex. The first that it makes awake is told at the variable; where its call there is
     /// over it owns the mutex, or it has taken itself off the mutex's list and asks for it again.
-    fn follow(&mut self, thread: usize, variable: usize, number: usize, fair: bool, at: RowCall, call: OpenCall)
+    fn follow(
+        &mut self,
+        thread: usize,
+        variable: usize,
+        number: usize,
+        fair: bool,
+        at: RowCall,
+        call: OpenCall,
+    )
         requires here { call_at self.old variable thread ≡ Some call }
         requires turn { turn_of call ≡ turn.Follows }
         requires can { row_goes self.old number ≡ true }
@@ -77,9 +85,17 @@ impl<A: Allocator> WaitMachine<A> {
         match self.rows.step(number, fair) {
             None if is_late(at.core) => (),
             None => self.hear(thread, variable, wakes_with(call.core, TRY_AGAIN)),
-            Some(CoreAnswer::Owned) => self.hear(thread, variable, wakes_with(call.core, HAND_OVER)),
-            Some(CoreAnswer::Refused) => self.ask_again(thread, variable, number, at.lock, call.core),
-            Some(CoreAnswer::Released) => self.ask_again(thread, variable, number, at.lock, call.core),
+            Some(CoreAnswer::Owned) => self.hear(
+                thread,
+                variable,
+                wakes_with(call.core, HAND_OVER),
+            ),
+            Some(CoreAnswer::Refused) => self.ask_again(
+                thread, variable, number, at.lock, call.core,
+            ),
+            Some(CoreAnswer::Released) => self.ask_again(
+                thread, variable, number, at.lock, call.core,
+            ),
         }
     }
 
@@ -111,7 +127,14 @@ impl<A: Allocator> WaitMachine<A> {
     }
 
     /// A thread leaves the variable's section, and begins a call at its mutex as that number.
-    fn leave_for(&mut self, thread: usize, variable: usize, number: usize, lock: usize, call: LockCall) -> Option<CondvarReply>
+    fn leave_for(
+        &mut self,
+        thread: usize,
+        variable: usize,
+        number: usize,
+        lock: usize,
+        call: LockCall,
+    ) -> Option<CondvarReply>
         requires can { var_acts (var_at self.old variable) thread ≡ true }
         requires may { rows.may_begin (state self.old.rows) number lock call ≡ true }
         ensures acts { ActsAt thread variable result self.old self.new }
@@ -141,7 +164,13 @@ impl<A: Allocator> WaitMachine<A> {
     }
 
     /// A thread in that call at a variable takes its turn.
-    fn turn(&mut self, thread: usize, variable: usize, fair: bool, call: OpenCall) -> Option<CondvarReply>
+    fn turn(
+        &mut self,
+        thread: usize,
+        variable: usize,
+        fair: bool,
+        call: OpenCall,
+    ) -> Option<CondvarReply>
         requires low { thread < length self.old.seats }
         requires here { call_at self.old variable thread ≡ Some call }
         requires can { may_turn (turn_of call) self.old thread variable call ≡ true }

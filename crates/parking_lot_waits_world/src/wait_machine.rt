@@ -81,7 +81,7 @@ impl<A: Allocator> WaitMachine<A> {
         ensures { result ≡ number self.now thread second }
     {
         if second {
-            self.seats.len() + thread
+            self.threads() + thread
         } else {
             thread
         }

@@ -19,4 +19,4 @@ ask_again-requires g c = record {
 pub ask_again-requires-in-Some-Released-clause-may : goal.ask_again-requires-in-Some-Released-clause-may
 ask_again-requires-in-Some-Released-clause-may g c =
     asks_again (state c.self.inside.rows) (state c.step.new.self) c.args.number c.args.fair answer.Released c.args.at c.step.result c.known.ensures
-      (subst (λ (j : Joint). call_at (state j.rows) c.args.number ≡ Some c.args.at) (sym c.self.view_is) c.requires.there) c.requires.mutex refl (c.in-Some-Released.is ∙ ap Some c.in-Some-Released.field-0-is) c.step.ensures
+    (subst (λ (j : Joint). call_at (state j.rows) c.args.number ≡ Some c.args.at) (sym c.self.view_is) c.requires.there) c.requires.mutex refl (c.in-Some-Released.is ∙ ap Some c.in-Some-Released.field-0-is) c.step.ensures
