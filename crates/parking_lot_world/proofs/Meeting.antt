@@ -50,7 +50,7 @@ in_range s t c h = elim (cases_lt t (length s.calls)) [
 ]
 
 -- few threads were taken
-pub few_taken : (s : State) → FitsTogether s → (t : ℕ) → length (taken_by s.wakes t) < 2 ^ 17
+pub few_taken : (s : State) → FitsTogether s → (t : ℕ) → length (taken_by s.wakes t) < 2 ^ 18
 few_taken s h t =
     omega (arith, length-map (filter (is_by t) s.wakes) (λ w. w.thread), length-filter (is_by t) s.wakes, count_by-le-length (is_by t) s.wakes, h.wakes.room, count_by-le-length is_away s.calls, h.rules.small)
 

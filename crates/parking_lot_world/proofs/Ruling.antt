@@ -48,7 +48,7 @@ pub rules_after : (s u : State) (j : ℕ) → RulesFit s → RulesAfter s u j �
 rules_after s u j h a = record {
   size_holds = a.holds ∙ h.size_holds ∙ ap (λ n. n * length s.kinds) (sym a.threads) ∙ ap (λ ks. length u.calls * length ks) (sym a.kinds);
   size_words = a.words ∙ h.size_words ∙ ap length (sym a.kinds);
-  small = subst (λ n. n < 2 ^ 17) (sym a.threads) h.small;
+  small = subst (λ n. n < 2 ^ 18) (sym a.threads) h.small;
   few_locks = subst (λ (ks : List LockKind). length ks < 2 ^ 21) (sym a.kinds) h.few_locks;
   kinds = λ v e here. subst (λ (ks : List LockKind). IsOfKind (slice_get ks e.lock) e.core) (sym a.kinds) (a.calls v e here).kind;
   prepared = λ v e here. subst (λ (ks : List LockKind). IsPrepared (recursive_in ks e.lock) e.others e.core) (sym a.kinds) (a.calls v e here).prepared;

@@ -118,7 +118,7 @@ pub record CallMeets (recursive : Bool) (l : Lock) (t n : ℕ) (at : QueuePositi
   pub word : l.word ≡ word_of x
   pub here : slice_get l.roles t ≡ Some (call_role n at us k)
   pub stands : CallStands recursive n us k
-  pub threads : length l.roles < 2 ^ 17
+  pub threads : length l.roles < 2 ^ 18
   pub few : (v : ℕ) (q : Role) → slice_get l.roles v ≡ Some q → shared_holds q.owns ≤ 256
 
 pub as_simple : (recursive : Bool) (l : Lock) (t n : ℕ) (at : QueuePosition) (us : List ℕ) (k : RwCore) (x : ℕ) → CallMeets recursive l t n at us (Simple k) x → Meets recursive l t n (rw_spot at) us k.phase x
@@ -147,7 +147,7 @@ tardy_stands recursive n us LateRwPhase.GivesUp h _ = h
 tardy_stands recursive n us (LateRwPhase.LeavesPending from) h _ = h
 
 -- what follows from what a machine keeps of it
-pub stands_prepared : (recursive : Bool) (n : ℕ) (us : List ℕ) (k : RwCall) → IsPrepared recursive n (rw_call k) → length us ≡ taken_count (rw_call k) → call_shared k ≤ 2 ^ 17 → CallStands recursive n us k
+pub stands_prepared : (recursive : Bool) (n : ℕ) (us : List ℕ) (k : RwCall) → IsPrepared recursive n (rw_call k) → length us ≡ taken_count (rw_call k) → call_shared k ≤ 2 ^ 18 → CallStands recursive n us k
 stands_prepared recursive n us (Simple k) h counted few = (h.0, calls_keep.prepared recursive n us k.phase h.1 counted few)
 stands_prepared recursive n us (Upgradable k) h counted few = (h.1, upgrades_keep.prepared us k.phase h.2 counted few)
 stands_prepared recursive n us (Tardy p) h counted few = tardy_stands recursive n us p h counted
@@ -314,17 +314,17 @@ call_room recursive l t n at us k x h =
     omega (arith, same, f.readers, f.upgradable, f.one, total_most 256 l.roles h.few, h.threads)
 
 -- one that scans counts few
-scans_few : (us : List ℕ) (p : RwPhase) → length us < 2 ^ 17 → length us ≡ stances.rw_taken p → count_shared p ≤ 2 ^ 17
+scans_few : (us : List ℕ) (p : RwPhase) → length us < 2 ^ 18 → length us ≡ stances.rw_taken p → count_shared p ≤ 2 ^ 18
 scans_few us (RwPhase.Scans a) b e = omega (arith, b, e)
 scans_few us (RwPhase.Stores a left) b e = omega (arith, b, e)
 scans_few us p b e = omega arith
 
-upgrades_few : (us : List ℕ) (p : UpgradePhase) → length us < 2 ^ 17 → length us ≡ stances.upgrade_taken p → upgrade_shared p ≤ 2 ^ 17
+upgrades_few : (us : List ℕ) (p : UpgradePhase) → length us < 2 ^ 18 → length us ≡ stances.upgrade_taken p → upgrade_shared p ≤ 2 ^ 18
 upgrades_few us (UpgradePhase.Frees r core) b e = scans_few us core.phase b e
 upgrades_few us (UpgradePhase.Owes kept end core) b e = scans_few us core.phase b e
 upgrades_few us p b e = omega arith
 
-pub call_few : (us : List ℕ) (k : RwCall) → length us < 2 ^ 17 → length us ≡ taken_count (rw_call k) → call_shared k ≤ 2 ^ 17
+pub call_few : (us : List ℕ) (k : RwCall) → length us < 2 ^ 18 → length us ≡ taken_count (rw_call k) → call_shared k ≤ 2 ^ 18
 call_few us (Simple k) b e = scans_few us k.phase b e
 call_few us (Upgradable k) b e = upgrades_few us k.phase b e
 call_few us (Tardy p) b e = omega arith

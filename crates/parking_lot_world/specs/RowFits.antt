@@ -377,7 +377,7 @@ pub record WakesFit (s : State) : Type 0 where
 pub record RulesFit (s : State) : Type 0 where
   pub size_holds : length s.holds ≡ length s.calls * length s.kinds
   pub size_words : length s.words ≡ length s.kinds
-  pub small : length s.calls < 2 ^ 17
+  pub small : length s.calls < 2 ^ 18
   pub few_locks : length s.kinds < 2 ^ 21
   -- a call is of its lock's kind, and stands as its phase asks
   pub kinds : (t : ℕ) (c : Call) → call_at s t ≡ Some c → IsOfKind (slice_get s.kinds c.lock) c.core

@@ -56,7 +56,7 @@ pub record Meets (recursive : Bool) (l : Lock) (t n : ℕ) (spot : QueuePosition
   pub here : slice_get l.roles t ≡ Some (role n spot us p)
   pub ready : IsReady p
   pub prepared : rw_prepared recursive n us p
-  pub threads : length l.roles < 2 ^ 17
+  pub threads : length l.roles < 2 ^ 18
   pub few : (u : ℕ) (r : Role) → slice_get l.roles u ≡ Some r → shared_holds r.owns ≤ 256
 
 -- what it is told is the move that the table says, and the next phase is ready
@@ -220,7 +220,7 @@ IsCounted n p x = owns n p ≡ Shares n → (n ≤ x / 16) × (x / 16 < 2 ^ 60 -
 pub record CallsKeep : Type 0 where
   pub begins : (recursive : Bool) (n : ℕ) (p : RwPhase) → rw_begins recursive n p → rw_keeps recursive n (next_phase p seen.Start)
   pub goes_on : (recursive : Bool) (n : ℕ) (p : RwPhase) (x : ℕ) (s : ActResult) → rw_keeps recursive n p → IsCounted n p x → IsTold p x s → rw_keeps recursive n (next_phase p s)
-  pub prepared : (recursive : Bool) (n : ℕ) (us : List ℕ) (p : RwPhase) → rw_keeps recursive n p → length us ≡ rw_taken p → count_shared p ≤ 2 ^ 17 → rw_prepared recursive n us p
+  pub prepared : (recursive : Bool) (n : ℕ) (us : List ℕ) (p : RwPhase) → rw_keeps recursive n p → length us ≡ rw_taken p → count_shared p ≤ 2 ^ 18 → rw_prepared recursive n us p
   pub few : (l : Lock) (t n : ℕ) (spot : QueuePosition) (us : List ℕ) (p : RwPhase) → IsSound l → slice_get l.roles t ≡ Some (role n spot us p) → count_shared p ≤ length l.roles
 
 -- SECTIONS AND LISTS

@@ -34,7 +34,7 @@ pub record MeetsUpgrade (l : Lock) (t n : ℕ) (spot : QueuePosition) (us : List
   pub here : slice_get l.roles t ≡ Some (role n spot us p)
   pub ready : IsReady p
   pub prepared : upgrade_prepared us p
-  pub threads : length l.roles < 2 ^ 17
+  pub threads : length l.roles < 2 ^ 18
   pub few : (v : ℕ) (q : Role) → slice_get l.roles v ≡ Some q → shared_holds q.owns ≤ 256
 
 -- The move is a step of the rules at the lock, which leaves the thread in the role of its next phase and the word that its act leaves: where
@@ -91,4 +91,4 @@ pub record UpgradesKeep : Type 0 where
   pub begins : (p : UpgradePhase) → upgrade_begins p → (IsOfWorld p × IsReady p) × (IsOfWorld (next_phase p seen.Start) × IsReady (next_phase p seen.Start)) × upgrade_keeps (next_phase p seen.Start)
   pub goes_on : (p : UpgradePhase) (x : ℕ) (s : ActResult) → upgrade_begun p ≡ true → IsReady p → IsOfWorld p → x / 16 < 2 ^ 60 - 1 → IsTold p x s → IsOfWorld (next_phase p s)
   pub keeps : (p : UpgradePhase) (x : ℕ) (s : ActResult) → IsReady p → IsOfWorld p → upgrade_keeps p → IsTold p x s → WantsTaken p s → upgrade_keeps (next_phase p s)
-  pub prepared : (us : List ℕ) (p : UpgradePhase) → IsOfWorld p → length us ≡ upgrade_taken p → upgrade_shared p ≤ 2 ^ 17 → upgrade_prepared us p
+  pub prepared : (us : List ℕ) (p : UpgradePhase) → IsOfWorld p → length us ≡ upgrade_taken p → upgrade_shared p ≤ 2 ^ 18 → upgrade_prepared us p

@@ -1,0 +1,6 @@
+pub mod Hearing
+pub mod Again
+pub mod Turning
+pub mod Sequences
+pub mod Moves
+pub mod Notifying

@@ -1,0 +1,5 @@
+pub mod Turns
+pub mod Joint
+pub mod Moving
+pub mod JointMoves
+pub mod JointSteps

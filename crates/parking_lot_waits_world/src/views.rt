@@ -1,0 +1,41 @@
+//! What is seen of a machine of locks and condition variables.
+ghost use Rattle.std.specs.Prelude.{◌≡◌, ◌<◌, length};
+ghost use Rattle.parking_lot_waits_world.specs.Joint.{mode_at, thread_of, word_at};
+
+use crate::wait_machine::WaitMachine;
+use parking_lot_world::OwnMode;
+use std::alloc::Allocator;
+
+impl<A: Allocator> WaitMachine<A> {
+    /// The word of a lock. That of a condition variable is 0 where nobody waits, and else the number of the mutex that all wait with, and 1 more.
+    pub fn word(&self, lock: usize) -> u64
+        ensures { result ≡ word_at self.now lock }
+    {
+        match self.vars.get(lock) {
+            Some(Some(machine)) => machine.word(),
+            _ => self.rows.word(lock),
+        }
+    }
+
+    /// How a thread owns a lock now.
+    pub fn owner(&self, thread: usize, lock: usize) -> Option<OwnMode>
+        requires low { thread < length self.now.seats }
+        ensures { result ≡ mode_at self.now thread lock }
+    {
+        match self.rows.owner(thread, lock) {
+            Some(mode) => Some(mode),
+            None => self.rows.owner(self.number(thread, true), lock),
+        }
+    }
+
+    /// The thread of a number at the locks.
+    pub fn thread_of(&self, number: usize) -> usize
+        ensures { result ≡ thread_of self.now number }
+    {
+        if number < self.threads() {
+            number
+        } else {
+            number - self.threads()
+        }
+    }
+}
