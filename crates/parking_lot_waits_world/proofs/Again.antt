@@ -48,12 +48,14 @@ owns_none n (core.Mutex k) a at asks loses = by_phase k.phase refl
     by_phase p e = ap (λ (q : MutexPhase). owns_nothing (hold_after n (core.Mutex (record { phase = q })))) e
 owns_none n (core.Rw k) a at asks loses = absurd cc
 owns_none n (core.Upgrade k) a at asks loses = absurd cc
+owns_none n (core.LateRw p) a at asks loses = absurd cc
 
 of_mutex : (k : Option LockKind) (c : Core) → is_at_mutex c ≡ true → IsOfKind k c → manner_of k ≡ Some AsMutex
 of_mutex k (core.Late p) at is = is
 of_mutex k (core.Mutex c) at is = is
 of_mutex k (core.Rw c) at is = absurd cc
 of_mutex k (core.Upgrade c) at is = absurd cc
+of_mutex k (core.LateRw p) at is = absurd cc
 
 no_manner : (o : Option LockKind) → manner_of o ≡ Some AsMutex → o ≡ None → ⊥
 no_manner o is e = absurd (none-some AsMutex (sym (ap manner_of e) ∙ is))

@@ -82,6 +82,7 @@ is_late (row_core.Late p) = true
 is_late (row_core.Mutex c) = false
 is_late (row_core.Rw c) = false
 is_late (row_core.Upgrade c) = false
+is_late (row_core.LateRw p) = false
 
 -- it was moved to the list of its mutex, and goes on there
 abbrev pub is_at_mutex : RowCore → Bool
@@ -89,6 +90,7 @@ is_at_mutex (row_core.Late p) = true
 is_at_mutex (row_core.Mutex c) = true
 is_at_mutex (row_core.Rw c) = false
 is_at_mutex (row_core.Upgrade c) = false
+is_at_mutex (row_core.LateRw p) = false
 
 -- What a waiter hears that was taken off the list, once it is awake: where its moment has passed it finds that another had taken it before.
 abbrev pub wait_wakes : WaitPhase → UnparkToken → Outside

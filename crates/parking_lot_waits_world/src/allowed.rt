@@ -8,7 +8,7 @@ use crate::turn::{Turn, is_at_mutex, is_wait, mutex_of, turn_of};
 use crate::wait_machine::WaitMachine;
 use parking_lot_condvar_world::{CondvarCall, OpenCall, Outside};
 use parking_lot_protocol::Act;
-use parking_lot_world::{Core, LatePhase, LockCall, LockKind};
+use parking_lot_world::{Core, LatePhase, LateRwPhase, LockCall, LockKind};
 use std::alloc::Allocator;
 
 /// Whether an act enters a section.
@@ -32,6 +32,10 @@ fn core_enters(core: Core) -> bool
         Core::Late(phase) => match phase {
             LatePhase::Expires => true,
             LatePhase::Quits | LatePhase::Masks | LatePhase::Leaves | LatePhase::GivesUp => false,
+        },
+        Core::LateRw(phase) => match phase {
+            LateRwPhase::Expires(_) => true,
+            _ => false,
         },
     }
 }

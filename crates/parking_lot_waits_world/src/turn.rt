@@ -105,7 +105,7 @@ pub(crate) fn is_late(core: RowCore) -> bool
 {
     match core {
         RowCore::Late(_) => true,
-        RowCore::Mutex(_) | RowCore::Rw(_) | RowCore::Upgrade(_) => false,
+        RowCore::Mutex(_) | RowCore::Rw(_) | RowCore::Upgrade(_) | RowCore::LateRw(_) => false,
     }
 }
 
@@ -115,7 +115,7 @@ pub(crate) fn is_at_mutex(core: RowCore) -> bool
 {
     match core {
         RowCore::Late(_) | RowCore::Mutex(_) => true,
-        RowCore::Rw(_) | RowCore::Upgrade(_) => false,
+        RowCore::Rw(_) | RowCore::Upgrade(_) | RowCore::LateRw(_) => false,
     }
 }
 
