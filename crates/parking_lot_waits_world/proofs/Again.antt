@@ -1,5 +1,5 @@
 -- A call at a mutex that is over, and owns it not, may be made again.
-use Rattle.std.proofs.Common.{◌≡◌, ◌⊎◌, inl, inr, ◌≤◌, ℕ, ◌+◌, ◌*◌, ◌<◌, Bool, true, false, cond, nat_lt, ◌&&◌, is_none, List, length, Option, Some, None, get_or, slice_get, slice_set, refl, sym, ap, ◌∙◌, subst, arith}
+use Rattle.std.proofs.Common.{◌≡◌, inl, inr, ℕ, ◌+◌, ◌*◌, ◌<◌, Bool, true, false, cond, ◌&&◌, is_none, List, length, Option, Some, None, get_or, slice_get, slice_set, refl, sym, ap, ◌∙◌, subst, arith}
 use Rattle.std.specs.Option.{option_and_then, option_map_or}
 use Rattle.std.proofs.lemmas.List.{length-set}
 use Rattle.std.proofs.lemmas.Bool.{cases_lt, lt-ltb}
@@ -11,7 +11,6 @@ use Rattle.parking_lot_protocol.specs.declared.act.CoreAnswer.{CoreAnswer}
 use Rattle.parking_lot_protocol.specs.declared.act.CoreAnswer.TheVariants as answer
 use Rattle.parking_lot_protocol.specs.declared.mutex_phase.MutexPhase.{MutexPhase}
 use Rattle.parking_lot_protocol.specs.declared.mutex_phase.MutexPhase.TheVariants as m
-use Rattle.parking_lot_protocol.specs.MutexTable.{act_of}
 use Rattle.parking_lot_rules.proofs.Indexed.{get-set_same}
 use Rattle.parking_lot_world.specs.declared.calls.LockCall.TheVariants as call
 use Rattle.parking_lot_world.specs.declared.calls.LockKind.{LockKind}
@@ -20,14 +19,13 @@ use Rattle.parking_lot_world.specs.declared.seat.Core.{Core}
 use Rattle.parking_lot_world.specs.declared.seat.Core.TheVariants as core
 use Rattle.parking_lot_world.specs.declared.seat.Hold.{Hold}
 use Rattle.parking_lot_world.specs.declared.seat.Hold.TheVariants as hold_kind
-use Rattle.parking_lot_world.specs.declared.seat.LatePhase.TheVariants as late
-use Rattle.parking_lot_world.specs.Beginnings.{is_allowed, owns_nothing}
-use Rattle.parking_lot_world.specs.Calls.{manner_for, takes}
-use Rattle.parking_lot_world.specs.Kinds.{AsMutex, is_manner, kind_in, manner_of}
+use Rattle.parking_lot_world.specs.Beginnings.{owns_nothing}
+use Rattle.parking_lot_world.specs.Calls.{manner_for}
+use Rattle.parking_lot_world.specs.Kinds.{AsMutex, is_manner, manner_of}
 use Rattle.parking_lot_world.specs.Machines.{Became, IsStepped, end_of, may_begin}
 use Rattle.parking_lot_world.specs.RowActs.{answered, hold_after}
 use Rattle.parking_lot_world.specs.RowFits.{FitsTogether, IsOfKind}
-use Rattle.parking_lot_world.specs.Rows.{State, call_at, hold_at, state}
+use Rattle.parking_lot_world.specs.Rows.{State, call_at, hold_at}
 use Rattle.parking_lot_world.specs.Stances.{core_act}
 use Rattle.parking_lot_world.proofs.Carrying.{set_here}
 use Rattle.parking_lot_waits_world.specs.JointSteps.{is_owned}

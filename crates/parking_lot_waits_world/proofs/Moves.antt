@@ -1,12 +1,10 @@
 -- Whom a notification takes may be moved to the mutex, one after another.
-use Rattle.std.proofs.Common.{◌≡◌, ◌≢◌, ◌⊎◌, inl, inr, ℕ, zero, suc, ◌+◌, ◌*◌, ◌-◌, ◌%◌, ◌==◌, ◌<◌, ◌≤◌, Bool, true, false, not, cond, nat_lt, ◌&&◌, is_some, is_none, List, [], ◌∷◌, length, map, take, Option, Some, None, slice_get, slice_set, refl, sym, ap, ◌∙◌, subst, arith, eqb-true, eq-eqb}
+use Rattle.std.proofs.Common.{◌≡◌, ◌≢◌, ℕ, zero, suc, ◌+◌, ◌-◌, ◌%◌, ◌==◌, ◌<◌, ◌≤◌, Bool, true, false, not, cond, nat_lt, ◌&&◌, is_some, is_none, List, [], ◌∷◌, length, take, Option, Some, None, slice_get, slice_set, refl, sym, ap, ◌∙◌, subst, arith, eqb-true}
 use Rattle.std.specs.List.{list_all}
-use Rattle.std.specs.Option.{option_and_then, option_map_or, unwrap_or}
-use Rattle.std.proofs.lemmas.Bool.{cases_eq, ltb-true}
+use Rattle.std.specs.Option.{option_and_then, unwrap_or}
+use Rattle.std.proofs.lemmas.Bool.{ltb-true}
 use Rattle.std.proofs.lemmas.List.{length-set}
-use Rattle.std.proofs.lemmas.Option.{none-some, same_Some}
 use Rattle.parking_lot_condvar_world.specs.declared.calls.CondvarCall.{CondvarCall}
-use Rattle.parking_lot_condvar_world.specs.declared.calls.CondvarCall.TheVariants as asked
 use Rattle.parking_lot_condvar_world.specs.MachineLaws.{ListIsWaiters}
 use Rattle.parking_lot_condvar_world.specs.Machines.{State as Var, variable}
 use Rattle.parking_lot_rules.specs.Lists.{at_index, occurs}
@@ -20,13 +18,13 @@ use Rattle.parking_lot_world.specs.declared.seat.Hold.{Hold}
 use Rattle.parking_lot_world.specs.Beginnings.{is_allowed}
 use Rattle.parking_lot_world.specs.Calls.{takes}
 use Rattle.parking_lot_world.specs.Kinds.{kind_in}
-use Rattle.parking_lot_world.specs.Requeues.{IsAttended, IsRousedIn, IsTakenIn, MayTakeIn, may_rouse_in}
-use Rattle.parking_lot_world.specs.Rows.{State, hold_in, mutex_at, state, word_at}
+use Rattle.parking_lot_world.specs.Requeues.{IsAttended, IsRousedIn, IsTakenIn, may_rouse_in}
+use Rattle.parking_lot_world.specs.Rows.{State, hold_in, state, word_at}
 use Rattle.parking_lot_waits_world.specs.declared.seat.Seat.{Seat}
-use Rattle.parking_lot_waits_world.specs.Joint.{Joint, lock_of, nowhere, var_at}
-use Rattle.parking_lot_waits_world.specs.JointMoves.{may_move, may_move_all}
+use Rattle.parking_lot_waits_world.specs.Joint.{Joint, lock_of, nowhere}
+use Rattle.parking_lot_waits_world.specs.JointMoves.{may_move_all}
 use Rattle.parking_lot_waits_world.specs.JointSteps.{KnownIn, MayMoveIn, is_locked, takes_now}
-use Rattle.parking_lot_waits_world.specs.Moving.{MayMove, MayMoveAs, back_in, first_of, taken_of, timed_in}
+use Rattle.parking_lot_waits_world.specs.Moving.{MayMove, MayMoveAs, back_in, taken_of, timed_in}
 use Rattle.parking_lot_waits_world.proofs.Hearing.{both_true}
 
 both : (a b : Bool) → a ≡ true → b ≡ true → (a && b) ≡ true

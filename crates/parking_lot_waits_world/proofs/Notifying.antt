@@ -1,5 +1,5 @@
 -- A notification that is about to move waiters may take as many as there are, or the first, and be told so.
-use Rattle.std.proofs.Common.{◌≡◌, ◌⊎◌, ℕ, zero, suc, ◌+◌, ◌-◌, ◌==◌, ◌<◌, ◌≤◌, Bool, true, false, not, cond, nat_lt, ◌&&◌, ◌||◌, List, [], ◌∷◌, length, take, remove, Option, Some, None, slice_get, slice_set, refl, sym, ap, ◌∙◌, subst, arith, lt-ltb, eq-eqb, inl, inr}
+use Rattle.std.proofs.Common.{◌≡◌, ◌⊎◌, ℕ, zero, suc, ◌+◌, ◌-◌, ◌==◌, ◌<◌, ◌≤◌, Bool, true, false, not, nat_lt, ◌&&◌, List, length, take, Option, Some, None, slice_set, refl, sym, ap, ◌∙◌, subst, arith, lt-ltb, eq-eqb, inl, inr}
 use Rattle.std.specs.Option.{option_map, option_map_or}
 use Rattle.std.proofs.lemmas.List.{length-take-le, length-set}
 use Rattle.std.proofs.lemmas.List.Edits.{length-remove}
@@ -17,7 +17,7 @@ use Rattle.parking_lot_condvar_world.specs.declared.outside.Outside.TheVariants 
 use Rattle.parking_lot_condvar_world.specs.Calls.{is_of_all, off_list}
 use Rattle.parking_lot_condvar_world.specs.Fitting.{Fits, IsNotify, Knows}
 use Rattle.parking_lot_condvar_world.specs.Machines.{State as Var, call_at, call_in, can_take, is_left, may_take}
-use Rattle.parking_lot_condvar_world.specs.Outsides.{all_taken, can_be_told, heard, hears_by, is_whole, may_hear, told, told_by, woken_of}
+use Rattle.parking_lot_condvar_world.specs.Outsides.{all_taken, can_be_told, hears_by, is_whole, may_hear, told, told_by, woken_of}
 use Rattle.parking_lot_condvar_world.specs.Steps.{IsTaken, IsTold}
 use Rattle.parking_lot_condvar_world.proofs.Slots.{call_here, within}
 use Rattle.parking_lot_waits_world.specs.declared.turn.Turn.{Turn}

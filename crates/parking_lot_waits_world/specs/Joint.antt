@@ -1,20 +1,15 @@
 -- What a machine of locks and condition variables consists of, and which steps it makes.
-use Rattle.std.specs.Prelude.{◌≡◌, ℕ, ◌+◌, ◌*◌, ◌-◌, ◌==◌, ◌%◌, ◌&&◌, ◌||◌, not, nat_lt, Bool, true, false, if◌then◌else◌, List, [], length, Option, Some, None, is_some, is_none, slice_get}
-use Rattle.std.specs.List.{list_any, list_all}
+use Rattle.std.specs.Prelude.{ℕ, ◌+◌, ◌-◌, ◌&&◌, ◌||◌, not, nat_lt, Bool, true, false, if◌then◌else◌, List, [], length, Option, Some, None, is_some, is_none, slice_get}
+use Rattle.std.specs.List.{list_any}
 use Rattle.std.specs.Option.{option_and_then, option_map_or, option_or, unwrap_or}
 use Rattle.parking_lot_protocol.specs.declared.act.Act.{Act}
 use Rattle.parking_lot_protocol.specs.declared.act.Act.TheVariants as act
-use Rattle.parking_lot_condvar_world.specs.declared.calls.CondvarCall.{CondvarCall}
 use Rattle.parking_lot_condvar_world.specs.declared.outside.Outside.{Outside}
 use Rattle.parking_lot_condvar_world.specs.declared.open_call.OpenCall.{OpenCall}
 use Rattle.parking_lot_condvar_world.specs.Machines as var
 use Rattle.parking_lot_condvar_world.specs.Machines.{State as Var}
 use Rattle.parking_lot_condvar_world.specs.Outsides.{can_be_told}
 use Rattle.parking_lot_condvar_world.specs.Turns as var_turns
-use Rattle.parking_lot_world.specs.declared.calls.LockCall.{LockCall}
-use Rattle.parking_lot_world.specs.declared.calls.LockCall.TheVariants as call
-use Rattle.parking_lot_world.specs.declared.calls.LockKind.{LockKind}
-use Rattle.parking_lot_world.specs.declared.calls.LockKind.TheVariants as kind
 use Rattle.parking_lot_world.specs.declared.calls.OwnMode.{OwnMode}
 use Rattle.parking_lot_world.specs.declared.open_call.Call.{Call}
 use Rattle.parking_lot_world.specs.declared.seat.Core.{Core}
@@ -23,15 +18,12 @@ use Rattle.parking_lot_world.specs.declared.seat.LatePhase.TheVariants as late
 use Rattle.parking_lot_world.specs.Beginnings.{excludes}
 use Rattle.parking_lot_world.specs.LateActs.{late_rw_comes}
 use Rattle.parking_lot_world.specs.Machines as rows
-use Rattle.parking_lot_world.specs.Requeues as requeues
 use Rattle.parking_lot_world.specs.Rows.{Rows, State, state}
 use Rattle.parking_lot_world.specs.Rows as row
 use Rattle.parking_lot_world.specs.Stances.{core_act}
 use Rattle.parking_lot_world.specs.Worlds.{mode_in}
 use Rattle.parking_lot_waits_world.specs.declared.seat.Seat.{Seat}
-use Rattle.parking_lot_waits_world.specs.declared.turn.Turn.{Turn}
-use Rattle.parking_lot_waits_world.specs.declared.turn.Turn.TheVariants as turn
-use Rattle.parking_lot_waits_world.specs.Turns.{is_at_mutex, is_wait, mutex_of, turn_of}
+use Rattle.parking_lot_waits_world.specs.Turns.{is_at_mutex}
 
 pub record Joint : Type 0 where
   -- The locks. Of n threads, thread t has the numbers t and n + t there.
@@ -171,7 +163,8 @@ word_at j lock = word_of (var_at j lock) (row.word_at (state j.rows) lock)
 
 -- how a thread owns a lock, by one of its numbers
 abbrev pub mode_at : Joint → ℕ → ℕ → Option OwnMode
-mode_at j t lock = option_or (mode_in (row.lock_at (state j.rows) lock) t) (mode_in (row.lock_at (state j.rows) lock) (number j t true))
+mode_at j t lock =
+    (if nat_lt t (length j.seats) then option_or (mode_in (row.lock_at (state j.rows) lock) t) (mode_in (row.lock_at (state j.rows) lock) (number j t true)) else None)
 
 -- the thread of a number
 abbrev pub thread_of : Joint → ℕ → ℕ

@@ -1,7 +1,6 @@
 -- Which calls a thread may begin, and which steps it may make.
-use Rattle.std.specs.Prelude.{◌≡◌, ℕ, ◌+◌, ◌*◌, ◌-◌, ◌==◌, ◌%◌, ◌&&◌, ◌||◌, not, nat_lt, Bool, true, false, if◌then◌else◌, List, length, Option, Some, None, is_some, is_none, slice_get}
+use Rattle.std.specs.Prelude.{ℕ, ◌&&◌, ◌||◌, not, nat_lt, Bool, true, false, length, Option, Some, None, is_some, is_none, slice_get}
 use Rattle.std.specs.List.{list_all}
-use Rattle.std.specs.Option.{option_map_or}
 use Rattle.parking_lot_condvar_world.specs.declared.calls.CondvarCall.{CondvarCall}
 use Rattle.parking_lot_condvar_world.specs.declared.outside.Outside.TheVariants as outside
 use Rattle.parking_lot_condvar_world.specs.declared.open_call.OpenCall.{OpenCall}
@@ -16,7 +15,7 @@ use Rattle.parking_lot_world.specs.Requeues.{may_rouse_in}
 use Rattle.parking_lot_world.specs.Rows.{state}
 use Rattle.parking_lot_waits_world.specs.declared.turn.Turn.{Turn}
 use Rattle.parking_lot_waits_world.specs.declared.turn.Turn.TheVariants as turn
-use Rattle.parking_lot_waits_world.specs.Joint.{Joint, asking_number, back_number, busy_number, call_at, follows, front_number, has_by_second, is_idle, is_var, number, row_goes, lock_of, seat_at, var_at, var_goes, var_hears, waiters_of}
+use Rattle.parking_lot_waits_world.specs.Joint.{Joint, asking_number, back_number, busy_number, call_at, follows, front_number, is_idle, is_var, row_goes, lock_of, seat_at, var_at, var_goes, var_hears, waiters_of}
 use Rattle.parking_lot_waits_world.specs.Moving.{back_in}
 use Rattle.parking_lot_waits_world.specs.Turns.{is_wait, mutex_of, turn_of}
 

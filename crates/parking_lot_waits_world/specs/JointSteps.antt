@@ -1,5 +1,5 @@
 -- What each step leaves of a machine of locks and condition variables.
-use Rattle.std.specs.Prelude.{◌≡◌, ℕ, ◌-◌, ◌%◌, ◌==◌, ◌&&◌, not, Bool, true, false, if◌then◌else◌, List, [], ◌∷◌, length, map, take, Option, Some, None, slice_get, slice_set}
+use Rattle.std.specs.Prelude.{◌≡◌, ℕ, ◌%◌, ◌==◌, ◌&&◌, not, Bool, true, false, List, [], length, take, Option, Some, None, slice_set}
 use Rattle.std.specs.Option.{option_map}
 use Rattle.parking_lot_protocol.specs.declared.act.CoreAnswer.{CoreAnswer}
 use Rattle.parking_lot_protocol.specs.declared.act.CoreAnswer.TheVariants as answer
@@ -15,10 +15,8 @@ use Rattle.parking_lot_condvar_world.specs.MachineLaws.{IsSoundMachine}
 use Rattle.parking_lot_condvar_world.specs.Steps as vars
 use Rattle.parking_lot_world.specs.declared.calls.LockCall.{LockCall}
 use Rattle.parking_lot_world.specs.declared.calls.LockCall.TheVariants as call
-use Rattle.parking_lot_world.specs.declared.seat.Core.{Core}
 use Rattle.parking_lot_world.specs.declared.open_call.Call.{Call}
 use Rattle.parking_lot_world.specs.Machines as rows
-use Rattle.parking_lot_world.specs.Requeues as requeues
 use Rattle.parking_lot_world.specs.Rows.{State, call_at as row_call_at, state, word_at}
 use Rattle.parking_lot_waits_world.specs.declared.ended.Ended.{Ended}
 use Rattle.parking_lot_waits_world.specs.declared.ended.Ended.TheVariants as ended

@@ -1,5 +1,5 @@
 //! What is seen of a machine of locks and condition variables.
-ghost use Rattle.std.specs.Prelude.{◌≡◌, ◌<◌, length};
+ghost use Rattle.std.specs.Prelude.{◌≡◌};
 ghost use Rattle.parking_lot_waits_world.specs.Joint.{mode_at, thread_of, word_at};
 
 use crate::wait_machine::WaitMachine;
@@ -17,11 +17,13 @@ impl<A: Allocator> WaitMachine<A> {
         }
     }
 
-    /// How a thread owns a lock now.
+    /// How a thread owns a lock now, by one of its numbers.
     pub fn owner(&self, thread: usize, lock: usize) -> Option<OwnMode>
-        requires low { thread < length self.now.seats }
         ensures { result ≡ mode_at self.now thread lock }
     {
+        if thread >= self.threads() {
+            return None;
+        }
         match self.rows.owner(thread, lock) {
             Some(mode) => Some(mode),
             None => self.rows.owner(self.number(thread, true), lock),

@@ -81,7 +81,7 @@ impl<A: Allocator> WaitMachine<A> {
         ensures { result ≡ number self.now thread second }
     {
         if second {
-            self.threads() + thread
+            thread + self.seats.len()
         } else {
             thread
         }

@@ -35,7 +35,12 @@ pub(crate) fn goes(machine: &mut WaitMachine, thread: usize) -> Option<Ended> {
 }
 
 /// A thread begins a call at a lock, and goes on.
-pub(crate) fn asks(machine: &mut WaitMachine, thread: usize, lock: usize, call: LockCall) -> Option<Ended> {
+pub(crate) fn asks(
+    machine: &mut WaitMachine,
+    thread: usize,
+    lock: usize,
+    call: LockCall,
+) -> Option<Ended> {
     if !machine.may_ask(thread, lock, call) {
         return None;
     }
@@ -83,11 +88,16 @@ fn waiters_are_moved_to_a_locked_mutex(rt: HostRuntime) -> Result<(), Fail> {
     let mut machine = machine(rt.alloc(), 3)?;
     let mut is_so = waits(&mut machine, 0, CondvarCall::Wait(0));
     is_so = is_so & waits(&mut machine, 1, CondvarCall::Wait(0));
-    is_so = is_so & (machine.word(VARIABLE) == 1) & (machine.waiters(VARIABLE) == [0, 1].as_slice());
+    is_so = is_so
+        & (machine.word(VARIABLE) == 1)
+        & (machine.waiters(VARIABLE) == [0, 1].as_slice());
     is_so = is_so & (asks(&mut machine, 2, MUTEX, LockCall::Lock) == Some(OWNED));
     let one = calls(&mut machine, 2, CondvarCall::NotifyOne);
     is_so = is_so & (one == Some(Ended::AtVariable(CondvarReply::Flag(true))));
-    is_so = is_so & stand(&machine, &[0])? & (machine.word(MUTEX) == 3) & (machine.word(VARIABLE) == 1);
+    is_so = is_so
+        & stand(&machine, &[0])?
+        & (machine.word(MUTEX) == 3)
+        & (machine.word(VARIABLE) == 1);
     let all = calls(&mut machine, 2, CondvarCall::NotifyAll);
     is_so = is_so & (all == Some(Ended::AtVariable(CondvarReply::Count(1))));
     is_so = is_so & stand(&machine, &[0, 1])? & (machine.word(VARIABLE) == 0);
@@ -164,8 +174,13 @@ fn one_gives_up_and_one_that_was_moved_does_not(rt: HostRuntime) -> Result<(), F
     is_so = is_so & (calls(&mut machine, 0, CondvarCall::WaitUntil(0)).is_none());
     is_so = is_so & (asks(&mut machine, 2, MUTEX, LockCall::Lock) == Some(OWNED));
     let all = calls(&mut machine, 2, CondvarCall::NotifyAll);
-    is_so = is_so & (all == Some(Ended::AtVariable(CondvarReply::Count(2)))) & stand(&machine, &[1, 0])?;
-    is_so = is_so & expires(&mut machine, 0) & goes(&mut machine, 0).is_none() & stand(&machine, &[1, 0])?;
+    is_so = is_so
+        & (all == Some(Ended::AtVariable(CondvarReply::Count(2))))
+        & stand(&machine, &[1, 0])?;
+    is_so = is_so
+        & expires(&mut machine, 0)
+        & goes(&mut machine, 0).is_none()
+        & stand(&machine, &[1, 0])?;
     is_so = is_so & !machine.may_expire(0);
     is_so = is_so & (asks(&mut machine, 2, MUTEX, LockCall::Unlock) == Some(RELEASED));
     is_so = is_so & (goes(&mut machine, 1) == Some(WOKEN));

@@ -55,7 +55,7 @@ impl Run {
     }
 
     fn is_notifier(&self, thread: usize) -> bool {
-        thread + 1 == self.machine.threads()
+        thread.wrapping_add(1) == self.machine.threads()
     }
 
     fn set(&mut self, thread: usize, at: At, busy: bool) {
@@ -94,7 +94,11 @@ impl Run {
             At::Locks => self.asks(thread, LockCall::Lock, At::Looks),
             At::Looks if notifies => {
                 self.ready = true;
-                let then = if self.beside { At::Notifies } else { At::Unlocks };
+                let then = if self.beside {
+                    At::Notifies
+                } else {
+                    At::Unlocks
+                };
                 self.set(thread, then, false);
             }
             At::Looks if self.ready => self.asks(thread, LockCall::Unlock, At::Done),
@@ -128,10 +132,10 @@ impl Run {
 
     /// Two never own the mutex at once.
     fn looks(&mut self) {
-        let mut owners = 0;
+        let mut owners: u64 = 0;
         for thread in 0..self.machine.threads() {
             if self.machine.owner(thread, MUTEX).is_some() {
-                owners += 1;
+                owners = owners.wrapping_add(1);
             }
         }
         self.right = self.right & (owners < 2);
@@ -149,7 +153,11 @@ impl Run {
     fn goes(&mut self, moves: u32) -> bool {
         for _ in 0..moves {
             let threads = self.machine.threads() as u64;
-            let thread = if threads == 0 { 0 } else { self.next() % threads };
+            let thread = if threads == 0 {
+                0
+            } else {
+                self.next() % threads
+            };
             self.moves(thread as usize);
             if self.is_over() {
                 break;

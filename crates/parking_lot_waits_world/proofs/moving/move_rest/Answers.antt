@@ -1,4 +1,4 @@
-use Rattle.std.proofs.Common.{◌≡◌, ◌+◌, ℕ, Bool, List, take, drop, get_or, arith, subst, sym}
+use Rattle.std.proofs.Common.{◌+◌, ℕ, Bool, List, take, get_or, subst}
 use Rattle.std.proofs.lemmas.List.{take_more, drop_more}
 use Rattle.parking_lot_world.specs.Requeues.{IsTakenIn}
 use Rattle.parking_lot_world.specs.Rows.{state}

@@ -1,4 +1,4 @@
-use Rattle.std.proofs.Common.{◌≡◌, ◌-◌, ◌+◌, suc, ℕ, arith, subst}
+use Rattle.std.proofs.Common.{◌≡◌, ◌-◌, ◌+◌, suc, arith, subst}
 use Rattle.parking_lot_condvar_world.specs.Steps.{IsTaken}
 use Rattle.parking_lot_waits_world.specs.Moving.{AreTaken, MayTake}
 use Rattle.parking_lot_waits_world.proofs.Sequences.{some_of}

@@ -1,5 +1,5 @@
-use Rattle.std.proofs.Common.{◌++◌, ◌∷◌, [], true, false, length, map, take, get_or, sym, ap, ◌∙◌, arith}
-use Rattle.std.proofs.lemmas.List.{length_push, take_more, take_all, map-append}
+use Rattle.std.proofs.Common.{◌++◌, ◌∷◌, [], false, length, map, take, get_or, sym, ap, ◌∙◌, arith}
+use Rattle.std.proofs.lemmas.List.{length_push, take_more, map-append}
 use Rattle.parking_lot_waits_world.specs.JointSteps.{var_of}
 use Rattle.parking_lot_waits_world.proofs.new_machine.vars_of.Goals as goal
 

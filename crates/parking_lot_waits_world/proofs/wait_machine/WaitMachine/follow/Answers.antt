@@ -1,5 +1,4 @@
 use Rattle.std.proofs.Common.{◌≡◌, Some, ap, refl, sym, ◌∙◌, subst}
-use Rattle.parking_lot_core_lot.specs.declared.parking.UnparkToken.{UnparkToken}
 use Rattle.parking_lot_protocol.specs.declared.act.CoreAnswer.TheVariants as answer
 use Rattle.parking_lot_world.specs.Rows.{call_at, state}
 use Rattle.parking_lot_waits_world.specs.Joint.{Joint, call_in, var_in}

@@ -1,4 +1,4 @@
-use Rattle.std.proofs.Common.{◌≡◌, ap, sym, ◌∙◌, refl, subst, slice_set}
+use Rattle.std.proofs.Common.{ap, sym, ◌∙◌, subst, slice_set}
 use Rattle.parking_lot_waits_world.specs.Joint.{Joint, nowhere}
 use Rattle.parking_lot_waits_world.specs.JointSteps.{GoesAtVariable}
 use Rattle.parking_lot_waits_world.specs.Turns.{turn_of}

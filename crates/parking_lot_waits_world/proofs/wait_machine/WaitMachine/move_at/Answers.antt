@@ -1,7 +1,7 @@
-use Rattle.std.proofs.Common.{◌≡◌, ℕ, Bool, ap, refl, sym, ◌∙◌, subst}
+use Rattle.std.proofs.Common.{ℕ, Bool, sym, subst}
 use Rattle.parking_lot_world.specs.Rows.{state}
-use Rattle.parking_lot_waits_world.specs.Joint.{Joint, call_in, lock_of, var_at, var_in}
-use Rattle.parking_lot_waits_world.specs.JointSteps.{KnownIn, MayMoveIn, is_locked, takes_now}
+use Rattle.parking_lot_waits_world.specs.Joint.{var_at, var_in}
+use Rattle.parking_lot_waits_world.specs.JointSteps.{MayMoveIn, is_locked, takes_now}
 use Rattle.parking_lot_waits_world.specs.Moving.{MayNotifyIn}
 use Rattle.parking_lot_waits_world.proofs.Moves.{may_moves}
 use Rattle.parking_lot_waits_world.proofs.Notifying.{may_notifies}
