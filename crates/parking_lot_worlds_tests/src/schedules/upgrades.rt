@@ -50,6 +50,27 @@ fn readers() -> [Program; 4] {
     ]
 }
 
+/// Three calls of one that goes on alone, or with the upgradable hold, and gives that up.
+fn given_up() -> [Program; 3] {
+    [
+        [
+            Some(LockCall::UpgradableRead),
+            Some(LockCall::Upgrade),
+            Some(LockCall::UnlockWrite),
+        ],
+        [
+            Some(LockCall::UpgradableRead),
+            Some(LockCall::TryUpgrade),
+            Some(LockCall::UnlockWrite),
+        ],
+        [
+            Some(LockCall::TryWrite),
+            Some(LockCall::DowngradeToUpgradable),
+            Some(LockCall::UnlockUpgradable),
+        ],
+    ]
+}
+
 /// Makes all schedules of each of the first programs beside each of the others.
 fn explore_between(
     rt: &(impl AllocGlobal + Abort),
@@ -112,6 +133,18 @@ fn every_schedule_of_a_writer_that_turns_beside_who_reads_again_keeps_the_rules(
     rt: HostRuntime,
 ) -> Result<(), Fail> {
     let states = explore_between(&rt, LockKind::RwRecursive, &turned(), &readers())?;
+    assert!(rt; states >= 5_000, "{states} states");
+    Ok(())
+}
+
+#[test]
+fn every_schedule_of_what_is_given_up_again_keeps_the_rules(rt: HostRuntime) -> Result<(), Fail> {
+    let others = [
+        two(LockCall::UpgradableRead, LockCall::UnlockUpgradable),
+        two(LockCall::Read, LockCall::UnlockRead),
+        two(LockCall::Write, LockCall::UnlockWrite),
+    ];
+    let states = explore_between(&rt, LockKind::Rw, &given_up(), &others)?;
     assert!(rt; states >= 5_000, "{states} states");
     Ok(())
 }
