@@ -128,10 +128,10 @@ pub as_upgrade : (recursive : Bool) (l : Lock) (t n : ℕ) (at : QueuePosition) 
 as_upgrade recursive l t n at us k x h = record { sound = h.sound; word = h.word; here = h.here; ready = h.stands.0; prepared = h.stands.1; threads = h.threads; few = h.few }
 
 -- one that sleeps counts no readers
-counts_none : (k : RwSleeper) → IsReadySleeper k → sleeper_asleep k ≡ true → call_shared (as_call k) ≤ 2 ^ 17
-counts_none k r e = by_sleeper (λ k. call_shared (as_call k) ≤ 2 ^ 17) (λ want. omega arith) (λ rounds. omega arith) (λ want i. omega arith) (λ rounds. omega arith) k r e
+counts_none : (k : RwSleeper) → IsReadySleeper k → sleeper_asleep k ≡ true → call_shared (as_call k) ≤ 2 ^ 18
+counts_none k r e = by_sleeper (λ k. call_shared (as_call k) ≤ 2 ^ 18) (λ want. omega arith) (λ rounds. omega arith) (λ want i. omega arith) (λ rounds. omega arith) k r e
 
-sleeper_stands : (recursive : Bool) (n : ℕ) (us : List ℕ) (k : RwSleeper) → sleeper_prepared recursive n k → length us ≡ taken_count (rw_call (as_call k)) → call_shared (as_call k) ≤ 2 ^ 17 → SleeperStands recursive n us k
+sleeper_stands : (recursive : Bool) (n : ℕ) (us : List ℕ) (k : RwSleeper) → sleeper_prepared recursive n k → length us ≡ taken_count (rw_call (as_call k)) → call_shared (as_call k) ≤ 2 ^ 18 → SleeperStands recursive n us k
 sleeper_stands recursive n us (RwSleeper.Simple k) h counted few = (h.0, calls_keep.prepared recursive n us k.phase h.1 counted few)
 sleeper_stands recursive n us (RwSleeper.Upgradable k) h counted few = (h.1, upgrades_keep.prepared us k.phase h.2 counted few)
 
