@@ -1,5 +1,5 @@
 -- Which acts elsewhere a call can be told of, by what its thread does next.
-use Rattle.std.proofs.Common.{◌≡◌, ℕ, Bool, true, false, ◌&&◌, Option, Some, None, refl, ap, ◌∙◌}
+use Rattle.std.proofs.Common.{◌≡◌, ℕ, Bool, true, false, ◌&&◌, Option, Some, None, refl, ap, ◌∙◌, subst}
 use Rattle.std.specs.Option.{option_map_or}
 use Rattle.std.proofs.lemmas.Option.{none-some}
 use Rattle.parking_lot_core_lot.specs.declared.parking.UnparkToken.{UnparkToken}
@@ -17,7 +17,8 @@ use Rattle.parking_lot_condvar_world.specs.Machines.{State as Var, is_left}
 use Rattle.parking_lot_condvar_world.specs.Outsides.{hears_by, may_hear, notify_fits, wait_fits}
 use Rattle.parking_lot_waits_world.specs.declared.turn.Turn.{Turn}
 use Rattle.parking_lot_waits_world.specs.declared.turn.Turn.TheVariants as turn
-use Rattle.parking_lot_waits_world.specs.Joint.{call_in, var_hears}
+use Rattle.parking_lot_waits_world.specs.Joint.{Joint, call_at, call_in, var_at, var_hears}
+use Rattle.parking_lot_waits_world.specs.JointMoves.{may_expire_as, may_expire_at, sleeps_on}
 use Rattle.parking_lot_waits_world.specs.Turns.{notify_turn, turn_by, turn_of, wait_turn, wait_wakes, wakes_with}
 
 pub both_true : (a b : Bool) → (a && b) ≡ true → (a ≡ true) × (b ≡ true)
@@ -138,3 +139,15 @@ hears_made x t c here e = hears_there x t c outside.Made here (λ left. told_by 
 
 pub hears_waking : (x : Option Var) (t : ℕ) (c : OpenCall) (token : UnparkToken) → call_in x t ≡ Some c → is_following (turn_of c) ≡ true → var_hears x t (wakes_with c.core token) ≡ true
 hears_waking x t c token here e = hears_there x t c (wakes_with c.core token) here (λ left. woken_by c left token c.core e)
+
+-- One whose deadline may come in a call at a variable can be told so there.
+pub can_expire : (o : Option ℕ) (v : ℕ) (j : Joint) (t : ℕ) → o ≡ Some v → may_expire_at o j t ≡ true → var_hears (var_at j v) t outside.Expired ≡ true
+can_expire None v j t is may = absurd (none-some v is)
+can_expire (Some u) v j t is may = subst (λ (w : ℕ). var_hears (var_at j w) t outside.Expired ≡ true) (same is) (of_call (call_at j u t) may)
+  where
+    same : {a b : ℕ} → Some a ≡ Some b → a ≡ b
+    same e = cc
+
+    of_call : (c : Option OpenCall) → may_expire_as c j t u ≡ true → var_hears (var_at j u) t outside.Expired ≡ true
+    of_call None e = absurd cc
+    of_call (Some c) e = (both_true (sleeps_on c j t) (var_hears (var_at j u) t outside.Expired) e).1
