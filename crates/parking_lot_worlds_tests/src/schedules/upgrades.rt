@@ -88,7 +88,7 @@ fn explore_between(
 #[test]
 fn every_schedule_of_two_upgradable_holds_keeps_the_rules(rt: HostRuntime) -> Result<(), Fail> {
     let states = explore_all(&rt, LockKind::Rw, &upgradables())?;
-    assert!(rt; states >= 10_000, "{states} states");
+    assert!(rt; states >= 25_100, "{states} states");
     Ok(())
 }
 
@@ -97,7 +97,7 @@ fn every_schedule_of_a_writer_that_turns_keeps_the_rules(rt: HostRuntime) -> Res
     let alike = explore_all(&rt, LockKind::Rw, &turned())?;
     let others = explore_between(&rt, LockKind::Rw, &turned(), &upgradables())?;
     let states = alike.saturating_add(others);
-    assert!(rt; states >= 10_000, "{states} states");
+    assert!(rt; states >= 13_300, "{states} states");
     Ok(())
 }
 
@@ -106,7 +106,7 @@ fn every_schedule_of_an_upgradable_hold_beside_others_keeps_the_rules(
     rt: HostRuntime,
 ) -> Result<(), Fail> {
     let states = explore_between(&rt, LockKind::Rw, &upgradables(), &plain())?;
-    assert!(rt; states >= 10_000, "{states} states");
+    assert!(rt; states >= 36_400, "{states} states");
     Ok(())
 }
 
@@ -115,7 +115,7 @@ fn every_schedule_of_a_writer_that_turns_beside_others_keeps_the_rules(
     rt: HostRuntime,
 ) -> Result<(), Fail> {
     let states = explore_between(&rt, LockKind::Rw, &turned(), &plain())?;
-    assert!(rt; states >= 10_000, "{states} states");
+    assert!(rt; states >= 10_900, "{states} states");
     Ok(())
 }
 
@@ -124,7 +124,7 @@ fn every_schedule_of_an_upgradable_hold_beside_who_reads_again_keeps_the_rules(
     rt: HostRuntime,
 ) -> Result<(), Fail> {
     let states = explore_between(&rt, LockKind::RwRecursive, &upgradables(), &readers())?;
-    assert!(rt; states >= 10_000, "{states} states");
+    assert!(rt; states >= 13_300, "{states} states");
     Ok(())
 }
 
@@ -133,7 +133,7 @@ fn every_schedule_of_a_writer_that_turns_beside_who_reads_again_keeps_the_rules(
     rt: HostRuntime,
 ) -> Result<(), Fail> {
     let states = explore_between(&rt, LockKind::RwRecursive, &turned(), &readers())?;
-    assert!(rt; states >= 5_000, "{states} states");
+    assert!(rt; states >= 5_800, "{states} states");
     Ok(())
 }
 
@@ -145,6 +145,6 @@ fn every_schedule_of_what_is_given_up_again_keeps_the_rules(rt: HostRuntime) -> 
         two(LockCall::Write, LockCall::UnlockWrite),
     ];
     let states = explore_between(&rt, LockKind::Rw, &given_up(), &others)?;
-    assert!(rt; states >= 5_000, "{states} states");
+    assert!(rt; states >= 16_300, "{states} states");
     Ok(())
 }
