@@ -116,15 +116,15 @@ impl Run {
 
     /// A thread does something, if it can.
     fn moves(&mut self, thread: usize) {
+        let chance = self.next();
         if !self.is_busy(thread) {
             self.begins(thread);
         } else if self.machine.may_go(thread) {
-            let fair = self.next() % 2 == 1;
-            if self.machine.step(thread, fair).is_some() {
+            if self.machine.step(thread, chance % 2 == 1).is_some() {
                 let at = self.at(thread);
                 self.set(thread, at, false);
             }
-        } else if self.next() % 4 == 0 {
+        } else if chance % 4 == 0 {
             expires(&mut self.machine, thread);
         }
         self.looks();
