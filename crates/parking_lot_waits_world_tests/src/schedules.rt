@@ -169,7 +169,7 @@ impl Run {
 
 /// So many schedules of so many threads. Answers how many went wrong.
 fn schedules(rt: HostRuntime, threads: usize, beside: bool, count: u64) -> Result<u64, Fail> {
-    let mut wrong = 0;
+    let mut wrong: u64 = 0;
     for seed in 0..count {
         let mut run = Run {
             machine: machine(rt.alloc(), threads)?,
@@ -181,7 +181,7 @@ fn schedules(rt: HostRuntime, threads: usize, beside: bool, count: u64) -> Resul
             random: seed.wrapping_mul(7_919).wrapping_add(13),
         };
         if !run.goes(4_000) {
-            wrong += 1;
+            wrong = wrong.wrapping_add(1);
         }
     }
     Ok(wrong)
