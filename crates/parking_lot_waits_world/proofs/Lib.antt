@@ -4,3 +4,4 @@ pub mod Turning
 pub mod Sequences
 pub mod Moves
 pub mod Notifying
+pub mod Replying

@@ -3,3 +3,4 @@ pub mod Joint
 pub mod Moving
 pub mod JointMoves
 pub mod JointSteps
+pub mod JointLaws

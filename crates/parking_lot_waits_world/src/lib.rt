@@ -3,6 +3,7 @@
 
 mod allowed;
 mod ended;
+pub mod laws;
 mod moving;
 mod new_machine;
 mod parts;

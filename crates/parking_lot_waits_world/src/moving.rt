@@ -2,7 +2,7 @@
 ghost use Rattle.std.specs.Prelude.{◌≡◌, ◌<◌, length, slice_set, Some, true};
 ghost use Rattle.parking_lot_world.specs.Rows.{state};
 ghost use Rattle.parking_lot_waits_world.specs.Joint.{call_at, lock_of, var_at};
-ghost use Rattle.parking_lot_waits_world.specs.JointSteps.{IsMoving, KnownIn, MayMoveIn, MovesIn, is_locked, takes_now};
+ghost use Rattle.parking_lot_waits_world.specs.JointSteps.{IsMoving, MayMoveIn, MovesIn, is_locked, takes_now};
 ghost use Rattle.parking_lot_waits_world.specs.declared.turn.Turn.TheVariants as turn;
 ghost use Rattle.parking_lot_waits_world.specs.JointMoves.{may_move_all};
 ghost use Rattle.parking_lot_waits_world.specs.Turns.{turn_of};
@@ -172,15 +172,6 @@ impl<A: Allocator> WaitMachine<A> {
             return;
         };
         notify_in(place, thread, locked, count);
-    }
-
-    /// What holds of a variable at every moment. It does nothing.
-    fn known_at(&self, variable: usize)
-        ensures { KnownIn (var_at self.now variable) }
-    {
-        if let Some(Some(machine)) = self.vars.get(variable) {
-            machine.known();
-        }
     }
 
     /// A notification takes waiters off the variable's list, and wakes them or moves them to the mutex.

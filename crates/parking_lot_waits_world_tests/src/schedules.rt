@@ -116,15 +116,15 @@ impl Run {
 
     /// A thread does something, if it can.
     fn moves(&mut self, thread: usize) {
+        let chance = self.next();
         if !self.is_busy(thread) {
             self.begins(thread);
         } else if self.machine.may_go(thread) {
-            let fair = self.next() % 2 == 1;
-            if self.machine.step(thread, fair).is_some() {
+            if self.machine.step(thread, chance % 2 == 1).is_some() {
                 let at = self.at(thread);
                 self.set(thread, at, false);
             }
-        } else if self.next() % 4 == 0 {
+        } else if chance % 4 == 0 {
             expires(&mut self.machine, thread);
         }
         self.looks();
@@ -169,7 +169,7 @@ impl Run {
 
 /// So many schedules of so many threads. Answers how many went wrong.
 fn schedules(rt: HostRuntime, threads: usize, beside: bool, count: u64) -> Result<u64, Fail> {
-    let mut wrong = 0;
+    let mut wrong: u64 = 0;
     for seed in 0..count {
         let mut run = Run {
             machine: machine(rt.alloc(), threads)?,
@@ -181,7 +181,7 @@ fn schedules(rt: HostRuntime, threads: usize, beside: bool, count: u64) -> Resul
             random: seed.wrapping_mul(7_919).wrapping_add(13),
         };
         if !run.goes(4_000) {
-            wrong += 1;
+            wrong = wrong.wrapping_add(1);
         }
     }
     Ok(wrong)
