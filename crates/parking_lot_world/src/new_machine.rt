@@ -74,11 +74,7 @@ impl<A: Allocator + Clone + Drop> RowMachine<A> {
     }
 
     /// A machine of so many numbers of threads.
-    fn made(
-        alloc: &A,
-        threads: usize,
-        kinds: Vec<LockKind, A>,
-    ) -> Result<RowMachine<A>, SizeFault>
+    fn made(alloc: &A, threads: usize, kinds: Vec<LockKind, A>) -> Result<RowMachine<A>, SizeFault>
         requires some { 0 < threads }
         requires few { threads ≤ 131072 }
         requires locks { length kinds.items ≤ 2 ^ 20 }
