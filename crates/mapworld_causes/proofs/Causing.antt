@@ -47,6 +47,7 @@ use Rattle.mapworld_causes.proofs.Staying.{on-kept}
 refused-seen : (k : Core) (m : Mode) → has_begun k ≡ true → core_aim k ≡ Gets m → end_of (core_act k) ≡ Some Refused → has_seen k ≡ true
 refused-seen (Core.Mutex c) m begun aim end = absurd cc
 refused-seen (Core.Late c) m begun aim end = absurd cc
+refused-seen (Core.LateRw p) m begun aim end = absurd cc
 refused-seen (Core.Upgrade c) m begun aim end = absurd cc
 refused-seen (Core.Rw c) m begun aim end = by c.phase begun aim end
   where

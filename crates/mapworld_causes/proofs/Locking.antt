@@ -70,6 +70,10 @@ module _ (t : ℕ) where
   start-unseen k LockCall.TryUpgrade = refl
   start-unseen k LockCall.DowngradeToUpgradable = refl
   start-unseen k LockCall.DowngradeUpgradable = refl
+  start-unseen k LockCall.ReadUntil = refl
+  start-unseen k LockCall.WriteUntil = refl
+  start-unseen k LockCall.UpgradableUntil = refl
+  start-unseen k LockCall.UpgradeUntil = refl
 
   pub begins-blind : (shard : ℕ) (call : LockCall) (old new : Shown) → LockBegins t shard call old new → sees (call_at (state new.rows) t) ≡ false
   begins-blind shard call old new h =
@@ -92,6 +96,7 @@ module _ (t : ℕ) where
 pub seen-tries : (k : Core) → has_seen k ≡ true → core_tries k ≡ true
 seen-tries (Core.Mutex c) h = absurd (false≢true h)
 seen-tries (Core.Late c) h = absurd (false≢true h)
+seen-tries (Core.LateRw p) h = absurd (false≢true h)
 seen-tries (Core.Upgrade c) h = absurd (false≢true h)
 seen-tries (Core.Rw c) h = by c.phase h
   where
@@ -103,6 +108,7 @@ seen-tries (Core.Rw c) h = by c.phase h
 pub tries-gets : (k : Core) → core_tries k ≡ true → (m : _) × (core_aim k ≡ Gets m)
 tries-gets (Core.Mutex c) h = absurd (false≢true h)
 tries-gets (Core.Late c) h = absurd (false≢true h)
+tries-gets (Core.LateRw p) h = absurd (false≢true h)
 tries-gets (Core.Upgrade c) h = absurd (false≢true h)
 tries-gets (Core.Rw c) h = by c.phase h
   where

@@ -15,6 +15,7 @@ use Rattle.parking_lot_rules.proofs.Indexed.{get-set_other}
 use Rattle.parking_lot_protocol.specs.RwTable.{act_of, next_phase, share_of, tries}
 use Rattle.parking_lot_world.specs.declared.open_call.Call.{Call}
 use Rattle.parking_lot_world.specs.declared.seat.Core.{Core}
+use Rattle.parking_lot_world.specs.declared.late_rw.LateRwPhase.{LateRwPhase}
 use Rattle.parking_lot_world.specs.declared.seat.LatePhase.{LatePhase}
 use Rattle.parking_lot_world.specs.declared.seat.WakeResult.{WakeResult}
 use Rattle.parking_lot_world.specs.Machines.{Became, BecameInside, BecameLate, IsStepped}
@@ -23,7 +24,7 @@ use Rattle.parking_lot_world.specs.Rows.{State, call_at, word_at}
 use Rattle.parking_lot_world.specs.Stances.{core_act, core_next}
 use Rattle.mapworld_locks.specs.Stands.{core_tries, is_trying}
 use Rattle.mapworld_causes.specs.Causes.{has_seen, has_seen_in}
-use Rattle.mapworld_causes.proofs.Noticing.{blind, late-unseen, looks_in, woken-unseen, seen-tries}
+use Rattle.mapworld_causes.proofs.Noticing.{blind, late-unseen, looks_in, tardy-unseen, woken-unseen, seen-tries}
 
 abbrev pub call_of : List (Option Call) → ℕ → Option Call
 call_of calls t = option_and_then (λ c. c) (slice_get calls t)
@@ -32,6 +33,8 @@ call_of calls t = option_and_then (λ c. c) (slice_get calls t)
 late_is : (s u : State) (t : ℕ) (c : Call) (k : Core) → BecameLate k t c s u → (told : ActResult) × (l : Machine) × (u ≡ with_lot (with_call s t (hears c told)) l)
 late_is s u t c (Core.Late LatePhase.Expires) e = (_, _, e)
 late_is s u t c (Core.Late LatePhase.Quits) e = (_, _, e)
+late_is s u t c (Core.LateRw (LateRwPhase.Expires k)) e = (_, _, e)
+late_is s u t c (Core.LateRw (LateRwPhase.Quits k)) e = (_, _, e)
 late_is s u t c k e = absurd e
 
 -- whether a call has seen a word that isn't 0, if there is one
@@ -238,5 +241,6 @@ own-sees s u t fair x seen = by-core x.call.core refl
     by-core : (q : Core) → x.call.core ≡ q → Sees s t x.call
     by-core (Core.Mutex k) core = absurd (false≢true (sym (ap (λ q. has_seen (core_next q told.told)) core) ∙ told.seen))
     by-core (Core.Late p) core = absurd (false≢true (sym (ap (λ q. has_seen (core_next q told.told)) core ∙ late-unseen p told.told) ∙ told.seen))
+    by-core (Core.LateRw p) core = absurd (false≢true (sym (ap (λ q. has_seen (core_next q told.told)) core ∙ tardy-unseen p told.told) ∙ told.seen))
     by-core (Core.Upgrade k) core = absurd (false≢true (sym (ap (λ q. has_seen (core_next q told.told)) core) ∙ told.seen))
     by-core (Core.Rw k) core = by-phase k core k.phase refl

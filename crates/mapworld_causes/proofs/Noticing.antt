@@ -17,8 +17,10 @@ use Rattle.parking_lot_protocol.specs.Acts.{is_start, is_entered, is_made, word_
 use Rattle.parking_lot_rules.specs.Classes.{bit}
 use Rattle.parking_lot_protocol.specs.RwTable.{admits, after, begins, scans_for, is_admitted, is_barred, is_parked, is_writer_parked, is_written, is_tried, has_readers, asks_again, bumps, drains, goes_on, next_phase, once, over, scans, seeks, tries, wakes, with_taken, won_or}
 use Rattle.parking_lot_world.specs.declared.seat.Core.{Core}
+use Rattle.parking_lot_world.specs.declared.late_rw.LateRwPhase.{LateRwPhase}
+use Rattle.parking_lot_world.specs.declared.late_rw.RwSleeper.{RwSleeper}
 use Rattle.parking_lot_world.specs.declared.seat.LatePhase.{LatePhase}
-use Rattle.parking_lot_world.specs.Stances.{core_next}
+use Rattle.parking_lot_world.specs.Stances.{core_next, sleeper_told}
 use Rattle.mapworld_causes.specs.Causes.{has_seen, has_seen_in}
 
 -- no phase that may follow comes of a word that was seen
@@ -172,13 +174,10 @@ late-unseen LatePhase.Leaves ActResult.Made = refl
 late-unseen p told = refl
 
 -- nor has one that is woken
-pub woken-unseen : (k : Core) (token : UnparkToken) → has_seen (core_next k (ActResult.Woken token)) ≡ false
-woken-unseen (Core.Mutex c) token = refl
-woken-unseen (Core.Late p) token = late-unseen p (ActResult.Woken token)
-woken-unseen (Core.Upgrade c) token = refl
-woken-unseen (Core.Rw c) token = elim (either-is (looks_in c.phase)) [
-  | inl looks ↦ by c.phase looks
-  | inr not ↦ blind c.phase (ActResult.Woken token) not
+rw-woken-unseen : (p : RwPhase) (token : UnparkToken) → has_seen_in (next_phase p (ActResult.Woken token)) ≡ false
+rw-woken-unseen p token = elim (either-is (looks_in p)) [
+  | inl looks ↦ by p looks
+  | inr not ↦ blind p (ActResult.Woken token) not
 ]
   where
     either-is : (b : Bool) → (b ≡ true) ⊎ (b ≡ false)
@@ -189,6 +188,26 @@ woken-unseen (Core.Rw c) token = elim (either-is (looks_in c.phase)) [
     by (RwPhase.TryLoads want) looks = refl
     by (RwPhase.TryAdmits want word left) looks = refl
     by p looks = absurd cc
+
+sleeper-unseen : (k : RwSleeper) (token : UnparkToken) → has_seen (sleeper_told k (ActResult.Woken token)) ≡ false
+sleeper-unseen (RwSleeper.Simple c) token = rw-woken-unseen c.phase token
+sleeper-unseen (RwSleeper.Upgradable c) token = refl
+
+pub tardy-unseen : (p : LateRwPhase) (told : ActResult) → has_seen (core_next (Core.LateRw p) told) ≡ false
+tardy-unseen (LateRwPhase.Expires k) (ActResult.Woken token) = sleeper-unseen k token
+tardy-unseen (LateRwPhase.Expires k) ActResult.Entered = refl
+tardy-unseen (LateRwPhase.Quits k) (ActResult.Took token left) = refl
+tardy-unseen LateRwPhase.Masks (ActResult.Before word) = refl
+tardy-unseen LateRwPhase.Leaves ActResult.Made = refl
+tardy-unseen (LateRwPhase.LeavesPending from) ActResult.Made = refl
+tardy-unseen p told = refl
+
+pub woken-unseen : (k : Core) (token : UnparkToken) → has_seen (core_next k (ActResult.Woken token)) ≡ false
+woken-unseen (Core.Mutex c) token = refl
+woken-unseen (Core.Late p) token = late-unseen p (ActResult.Woken token)
+woken-unseen (Core.LateRw p) token = tardy-unseen p (ActResult.Woken token)
+woken-unseen (Core.Upgrade c) token = refl
+woken-unseen (Core.Rw c) token = rw-woken-unseen c.phase token
 
 -- A LOOK
 

@@ -86,6 +86,7 @@ module _ (sh : Shown) (fit : LocksFit sh) (t : ℕ) (c : Call) (here : call_at (
       by (Core.Rw k) so e is = phase-asleep c.spot (taken_by s.wakes t) k.phase e
       by (Core.Mutex k) so e is = absurd (no-mutex is)
       by (Core.Late k) so e is = absurd (no-mutex is)
+      by (Core.LateRw k) so e is = absurd cc
       by (Core.Upgrade k) so e is = absurd cc
 
   low : t < length s.calls

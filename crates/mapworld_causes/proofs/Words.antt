@@ -101,6 +101,7 @@ pub data IsThere (sh : Shown) (i t : ℕ) : Type 0 where
 tries-nothing : (n : ℕ) (k : Core) (at : QueuePosition) (us : List ℕ) → n ≡ 0 → core_tries k ≡ true → (c : Class) → weight c (rw_core_role n at us k) ≡ 0
 tries-nothing n (Core.Mutex k) at us none tries c = absurd (false≢true tries)
 tries-nothing n (Core.Late k) at us none tries c = absurd (false≢true tries)
+tries-nothing n (Core.LateRw k) at us none tries c = absurd (false≢true tries)
 tries-nothing n (Core.Upgrade k) at us none tries c = absurd (false≢true tries)
 tries-nothing n (Core.Rw k) at us none tries c = by k.phase tries ∙ refl
   where

@@ -29,6 +29,7 @@ abbrev pub has_seen : Core → Bool
 has_seen (core.Rw c) = has_seen_in c.phase
 has_seen (core.Mutex c) = false
 has_seen (core.Late p) = false
+has_seen (core.LateRw p) = false
 has_seen (core.Upgrade c) = false
 
 -- a shard that the thread holds, or of whose lock it is in a call

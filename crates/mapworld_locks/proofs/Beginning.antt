@@ -82,6 +82,7 @@ none_held Hold.Upgrades may = absurd (false≢true may)
 none_beside : (call : LockCall) (h : Hold) → is_allowed kind.Rw h call ≡ true → is_single h ≡ true → holds_beside call h ≡ 0
 none_beside LockCall.Read h may is = none_held h may
 none_beside LockCall.TryRead h may is = none_held h may
+none_beside LockCall.ReadUntil h may is = none_held h may
 none_beside call h may is = single_less h is
 
 -- A MODE IS NOT ANOTHER
@@ -136,6 +137,10 @@ allowed h LockCall.Upgrade k e = absurd (false≢true k)
 allowed h LockCall.TryUpgrade k e = absurd (false≢true k)
 allowed h LockCall.DowngradeToUpgradable k e = absurd (false≢true k)
 allowed h LockCall.DowngradeUpgradable k e = absurd (false≢true k)
+allowed h LockCall.ReadUntil k e = absurd (false≢true k)
+allowed h LockCall.WriteUntil k e = absurd (false≢true k)
+allowed h LockCall.UpgradableUntil k e = absurd (false≢true k)
+allowed h LockCall.UpgradeUntil k e = absurd (false≢true k)
 
 shares_again : (n : ℕ) → suc n - 1 + 1 ≡ suc n
 shares_again n = omega arith
@@ -182,6 +187,10 @@ begun_mode x h LockCall.Upgrade us k e = absurd (false≢true k)
 begun_mode x h LockCall.TryUpgrade us k e = absurd (false≢true k)
 begun_mode x h LockCall.DowngradeToUpgradable us k e = absurd (false≢true k)
 begun_mode x h LockCall.DowngradeUpgradable us k e = absurd (false≢true k)
+begun_mode x h LockCall.ReadUntil us k e = absurd (false≢true k)
+begun_mode x h LockCall.WriteUntil us k e = absurd (false≢true k)
+begun_mode x h LockCall.UpgradableUntil us k e = absurd (false≢true k)
+begun_mode x h LockCall.UpgradeUntil us k e = absurd (false≢true k)
 
 -- and is about what it is for
 begun_stand : (x : LockKind) (i n : ℕ) (call : LockCall) → is_of_shards call ≡ true → stand_of (record { lock = i; others = n; core = core_next (core_of x call) ActResult.Start; spot = QueuePosition.Listed; timed = is_timed call }) ≡ record { shard = i; aim = aim_of call; trying = is_try call }
@@ -203,6 +212,10 @@ begun_stand x i n LockCall.Upgrade k = absurd (false≢true k)
 begun_stand x i n LockCall.TryUpgrade k = absurd (false≢true k)
 begun_stand x i n LockCall.DowngradeToUpgradable k = absurd (false≢true k)
 begun_stand x i n LockCall.DowngradeUpgradable k = absurd (false≢true k)
+begun_stand x i n LockCall.ReadUntil k = absurd (false≢true k)
+begun_stand x i n LockCall.WriteUntil k = absurd (false≢true k)
+begun_stand x i n LockCall.UpgradableUntil k = absurd (false≢true k)
+begun_stand x i n LockCall.UpgradeUntil k = absurd (false≢true k)
 
 -- it goes by the rules of reader-writer locks, with a core of readers and writers
 as_rw : (call : LockCall) → is_of_shards call ≡ true → manner_for call ≡ AsRw
@@ -376,4 +389,5 @@ begun_alone s u t i call rws single d at x = by call refl
     by : (c : LockCall) → call ≡ c → holds_beside c h ≡ 0
     by LockCall.Read e = alone (recursive_in s.kinds i) (not_recursive s i rws) (asks LockCall.Read e).1
     by LockCall.TryRead e = alone (recursive_in s.kinds i) (not_recursive s i rws) (asks LockCall.TryRead e).1
+    by LockCall.ReadUntil e = alone (recursive_in s.kinds i) (not_recursive s i rws) (asks LockCall.ReadUntil e).1
     by c e = single_less h (single_hold s t i single)

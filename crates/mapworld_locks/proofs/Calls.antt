@@ -14,6 +14,7 @@ use Rattle.parking_lot_protocol.specs.RwTable.{next_phase}
 use Rattle.parking_lot_rules.proofs.Indexed.{get-set_same, get-set_other}
 use Rattle.parking_lot_world.specs.declared.open_call.Call.{Call}
 use Rattle.parking_lot_world.specs.declared.seat.Core.{Core}
+use Rattle.parking_lot_world.specs.declared.late_rw.LateRwPhase.{LateRwPhase}
 use Rattle.parking_lot_world.specs.declared.seat.LatePhase.{LatePhase}
 use Rattle.parking_lot_world.specs.declared.seat.QueuePosition.{QueuePosition}
 use Rattle.parking_lot_world.specs.declared.seat.WakeResult.{WakeResult}
@@ -32,6 +33,8 @@ call_of calls t = option_and_then (λ c. c) (slice_get calls t)
 pub late_is : (s u : State) (t : ℕ) (c : Call) (k : Core) → BecameLate k t c s u → (told : ActResult) × (l : Machine) × (u ≡ with_lot (with_call s t (hears c told)) l)
 late_is s u t c (Core.Late LatePhase.Expires) e = (_, _, e)
 late_is s u t c (Core.Late LatePhase.Quits) e = (_, _, e)
+late_is s u t c (Core.LateRw (LateRwPhase.Expires k)) e = (_, _, e)
+late_is s u t c (Core.LateRw (LateRwPhase.Quits k)) e = (_, _, e)
 late_is s u t c k e = absurd e
 
 -- the core isn't led astray
@@ -39,44 +42,36 @@ abbrev pub IsProper : Core → Type 0
 IsProper (Core.Rw c) = c.phase ≢ RwPhase.Invalid
 IsProper (Core.Mutex c) = Unit {0}
 IsProper (Core.Late c) = Unit {0}
+IsProper (Core.LateRw p) = Unit {0}
 IsProper (Core.Upgrade c) = Unit {0}
 
--- a call goes on as another: at the same lock, with the same holds beside and, unless it is led astray, the same aim
+-- a call goes on as another: at the same lock, with the same holds beside
 pub record Follows (c d : Call) : Type 0 where
   pub lock : d.lock ≡ c.lock
   pub others : d.others ≡ c.others
-  pub proper : IsProper d.core → IsProper c.core
-  pub aim : IsProper d.core → core_aim d.core ≡ core_aim c.core
-  pub plain : is_plain d.core ≡ is_plain c.core
+  pub plain : is_plain c.core ≡ true → is_plain d.core ≡ true
 
 pub follows_itself : (c d : Call) → d.lock ≡ c.lock → d.others ≡ c.others → d.core ≡ c.core → Follows c d
-follows_itself c d lock others core = record { lock = lock; others = others; proper = subst IsProper core; aim = λ p. ap core_aim core; plain = ap is_plain core }
+follows_itself c d lock others core = record { lock = lock; others = others; plain = λ so. ap is_plain core ∙ so }
 
 follows_then : (c d e : Call) → Follows c d → Follows d e → Follows c e
 follows_then c d e f g = record {
   lock = g.lock ∙ f.lock;
   others = g.others ∙ f.others;
-  proper = λ p. f.proper (g.proper p);
-  aim = λ p. g.aim p ∙ f.aim (g.proper p);
-  plain = g.plain ∙ f.plain;
+  plain = λ so. g.plain (f.plain so);
 }
 
-next_proper : (k : Core) (told : ActResult) → IsProper (core_next k told) → IsProper k
-next_proper (Core.Rw c) told p = λ e. p (ap (λ q. next_phase q told) e)
-next_proper (Core.Mutex c) told p = tt
-next_proper (Core.Late c) told p = tt
-next_proper (Core.Upgrade c) told p = tt
-
-next_plain : (k : Core) (told : ActResult) → is_plain (core_next k told) ≡ is_plain k
-next_plain (Core.Rw c) told = refl
-next_plain (Core.Mutex c) told = refl
-next_plain (Core.Late LatePhase.Expires) (ActResult.Woken token) = refl
-next_plain (Core.Late LatePhase.Expires) ActResult.Entered = refl
-next_plain (Core.Late LatePhase.Quits) (ActResult.Took token left) = refl
-next_plain (Core.Late LatePhase.Masks) (ActResult.Before word) = refl
-next_plain (Core.Late LatePhase.Leaves) ActResult.Made = refl
-next_plain (Core.Late p) told = refl
-next_plain (Core.Upgrade c) told = refl
+next_plain : (k : Core) (told : ActResult) → is_plain k ≡ true → is_plain (core_next k told) ≡ true
+next_plain (Core.Rw c) told so = refl
+next_plain (Core.Mutex c) told so = refl
+next_plain (Core.Late LatePhase.Expires) (ActResult.Woken token) so = refl
+next_plain (Core.Late LatePhase.Expires) ActResult.Entered so = refl
+next_plain (Core.Late LatePhase.Quits) (ActResult.Took token left) so = refl
+next_plain (Core.Late LatePhase.Masks) (ActResult.Before word) so = refl
+next_plain (Core.Late LatePhase.Leaves) ActResult.Made so = refl
+next_plain (Core.Late p) told so = refl
+next_plain (Core.LateRw p) told so = absurd cc
+next_plain (Core.Upgrade c) told so = absurd cc
 
 late_keeps : (p : LatePhase) (told : ActResult) → core_aim (core_next (Core.Late p) told) ≡ core_aim (Core.Late p)
 late_keeps LatePhase.Expires (ActResult.Woken token) = refl
@@ -86,19 +81,18 @@ late_keeps LatePhase.Masks (ActResult.Before word) = refl
 late_keeps LatePhase.Leaves ActResult.Made = refl
 late_keeps p told = refl
 
-pub next_keeps : (k : Core) (told : ActResult) → IsProper (core_next k told) → core_aim (core_next k told) ≡ core_aim k
-next_keeps (Core.Rw c) told p = next_aim c.phase told p
-next_keeps (Core.Mutex c) told p = refl
-next_keeps (Core.Late p) told proper = late_keeps p told
-next_keeps (Core.Upgrade c) told p = refl
+pub next_keeps : (k : Core) (told : ActResult) → is_plain k ≡ true → IsProper (core_next k told) → core_aim (core_next k told) ≡ core_aim k
+next_keeps (Core.Rw c) told so p = next_aim c.phase told p
+next_keeps (Core.Mutex c) told so p = refl
+next_keeps (Core.Late p) told so proper = late_keeps p told
+next_keeps (Core.LateRw p) told so proper = absurd cc
+next_keeps (Core.Upgrade c) told so p = refl
 
 pub follows_told : (c d : Call) (told : ActResult) → d.lock ≡ c.lock → d.others ≡ c.others → d.core ≡ core_next c.core told → Follows c d
 follows_told c d told lock others core = record {
   lock = lock;
   others = others;
-  proper = λ p. next_proper c.core told (subst IsProper core p);
-  aim = λ p. ap core_aim core ∙ next_keeps c.core told (subst IsProper core p);
-  plain = ap is_plain core ∙ next_plain c.core told;
+  plain = λ so. ap is_plain core ∙ next_plain c.core told so;
 }
 
 -- WHERE A CALL COMES FROM

@@ -53,6 +53,7 @@ done_mode s t c h rws plain here done = ap held_as (ap rw_mode role ∙ by c.cor
     by (Core.Rw x) plain of_kind ready done = sym (done_hold (recursive_in s.kinds c.lock) c.others (rw_spot c.spot) (taken_by s.wakes t) x.phase ready.1 done)
     by (Core.Mutex x) plain of_kind ready done = absurd (no_mutex (goes_by s c.lock AsMutex rws of_kind))
     by (Core.Late x) plain of_kind ready done = absurd (no_mutex (goes_by s c.lock AsMutex rws of_kind))
+    by (Core.LateRw x) plain of_kind ready done = absurd cc
     by (Core.Upgrade x) plain of_kind ready done = absurd cc
 
 rows_apart : (locks t threads : ℕ) → t < threads → t * locks + locks ≤ threads * locks
@@ -85,6 +86,7 @@ answered_holds s t c h rws plain here done =
         of (Core.Rw x) e = within_kinds s c.lock _ e
         of (Core.Mutex x) e = within_kinds s c.lock _ e
         of (Core.Late x) e = within_kinds s c.lock _ e
+        of (Core.LateRw x) e = within_kinds s c.lock _ e
         of (Core.Upgrade x) e = within_kinds s c.lock _ e
 
     cell_low : t * length s.kinds + c.lock < length s.holds

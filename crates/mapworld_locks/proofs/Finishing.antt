@@ -115,6 +115,7 @@ call_ends s t c answer h plain here over =
     by (Core.Rw x) so of_kind ready = phase_ends (recursive_in s.kinds c.lock) (rw_spot c.spot) (taken_by s.wakes t) x.phase ready.1
     by (Core.Mutex x) so of_kind ready = absurd (not_mutex s c.lock plain.kinds of_kind)
     by (Core.Late x) so of_kind ready = absurd (not_mutex s c.lock plain.kinds of_kind)
+    by (Core.LateRw p) so of_kind ready = absurd cc
     by (Core.Upgrade x) so of_kind ready = absurd cc
 
 -- what that says of each aim
@@ -183,7 +184,7 @@ module _ (laws : StepsAreCases) (old : Shown) (fit : LocksFit old) (t : ℕ) (ro
     whole = record { threads = (stepped_goes s u t false (Some answer) x).count; kinds = stepped_kinds s u t false (Some answer) fit.plain x };
     desks = refl;
     gone = ap (option_map stand_of) gone;
-    others = λ v ne. others_stand s u t false (Some answer) fit.fits fits x v ne;
+    others = λ v ne. others_stand s u t false (Some answer) fit.fits fit.plain.cores fits x v ne;
     holds = holds;
     owned = ends_owned (core_aim c.core) (core_tries c.core) answer (held_at u c.lock t) how;
     patient = ends_patient (core_aim c.core) (core_tries c.core) answer (held_at u c.lock t) how;

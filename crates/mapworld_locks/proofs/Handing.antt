@@ -120,6 +120,7 @@ module _ (s : State) (cores : (v : ℕ) (c : Call) → call_at s v ≡ Some c �
       → chosen_stand (rw_core_role c.others c.spot us k) ≡ true → IsChosenCall s i v
   by_core us h c there lock (Core.Mutex k) core role is = absurd (false≢true is)
   by_core us h c there lock (Core.Late k) core role is = absurd (false≢true is)
+  by_core us h c there lock (Core.LateRw k) core role is = absurd (false≢true (sym (ap is_plain core) ∙ cores v c there))
   by_core us h c there lock (Core.Upgrade k) core role is = absurd (false≢true (sym (ap is_plain core) ∙ cores v c there))
   by_core us h c there lock (Core.Rw k) core role is =
       let x = chosen_sleeps c.others c.spot us k.phase is in

@@ -160,6 +160,7 @@ module _ (s : State) (t : ℕ) (c : Call) (plain : IsPlain s) where
       after (Core.Rw x) none so = ap (λ n. is_single (rw_hold_after n x.phase)) none ∙ single_phase x.phase
       after (Core.Mutex x) none so = single_mutex x.phase
       after (Core.Late p) none so = refl
+      after (Core.LateRw p) none so = absurd cc
       after (Core.Upgrade x) none so = absurd cc
 
 pub stepped_plain : (s u : State) (t : ℕ) (fair : Bool) (answer : Option CoreAnswer) → IsPlain s → IsStepped t fair answer s u → IsPlain u
@@ -169,7 +170,7 @@ stepped_plain s u t fair answer plain x =
       kinds = subst (All (λ k. k ≡ kind.Rw)) (sym k.kinds) plain.kinds;
       single = k.single;
       alone = λ v d at. (let from = (stepped_goes s u t fair answer x).comes v d at in from.follows.others ∙ plain.alone v from.call from.was);
-      cores = λ v d at. (let from = (stepped_goes s u t fair answer x).comes v d at in from.follows.plain ∙ plain.cores v from.call from.was);
+      cores = λ v d at. (let from = (stepped_goes s u t fair answer x).comes v d at in from.follows.plain (plain.cores v from.call from.was));
     }
 
 -- the locks stay what they are

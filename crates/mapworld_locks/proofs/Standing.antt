@@ -27,6 +27,7 @@ use Rattle.parking_lot_world.specs.Stances.{Asleep, Stance, core_act, core_next,
 use Rattle.parking_lot_world.specs.TellLaws.{IsDue}
 use Rattle.mapworld_locks.specs.Stands.{Stand, core_aim, core_tries, is_trying, stand_of}
 use Rattle.mapworld_locks.proofs.Aiming.{next_patient}
+use Rattle.mapworld_locks.specs.Fits.{is_plain}
 use Rattle.mapworld_locks.proofs.Calls.{IsProper, call_of, late_is, map_of, next_keeps, set_elsewhere, set_here, set_nothing, slot}
 
 -- a call that is kept isn't led astray
@@ -34,6 +35,7 @@ pub kept_proper : (recursive : Bool) (n : ℕ) (k : Core) → IsPrepared recursi
 kept_proper recursive n (Core.Rw c) ready = λ e. absurd (subst (λ p. IsPrepared recursive n (Core.Rw (record { phase = p }))) e ready).1
 kept_proper recursive n (Core.Mutex c) ready = tt
 kept_proper recursive n (Core.Late c) ready = tt
+kept_proper recursive n (Core.LateRw p) ready = tt
 kept_proper recursive n (Core.Upgrade c) ready = tt
 
 late_patient : (p : LatePhase) (told : ActResult) → core_tries (core_next (Core.Late p) told) ≡ false
@@ -45,11 +47,12 @@ late_patient LatePhase.Leaves ActResult.Made = refl
 late_patient p told = refl
 
 -- one that isn't a try doesn't become one
-pub core_patient : (k : Core) (told : ActResult) → core_tries k ≡ false → core_tries (core_next k told) ≡ false
-core_patient (Core.Rw c) told calm = next_patient c.phase told calm
-core_patient (Core.Mutex c) told calm = refl
-core_patient (Core.Late p) told calm = late_patient p told
-core_patient (Core.Upgrade c) told calm = refl
+pub core_patient : (k : Core) (told : ActResult) → is_plain k ≡ true → core_tries k ≡ false → core_tries (core_next k told) ≡ false
+core_patient (Core.Rw c) told so calm = next_patient c.phase told calm
+core_patient (Core.Mutex c) told so calm = refl
+core_patient (Core.Late p) told so calm = late_patient p told
+core_patient (Core.LateRw p) told so calm = absurd cc
+core_patient (Core.Upgrade c) told so calm = refl
 
 -- THE THREAD ITSELF
 
@@ -203,16 +206,17 @@ core_asleep_tries : (k : Core) → sleeps (stance k) ≡ true → core_tries k �
 core_asleep_tries (Core.Rw c) is = asleep_tries c.phase is
 core_asleep_tries (Core.Mutex c) is = refl
 core_asleep_tries (Core.Late c) is = refl
+core_asleep_tries (Core.LateRw p) is = refl
 core_asleep_tries (Core.Upgrade c) is = refl
 
 -- a sleeper that is woken is about the same
-woken_stands : (d : Call) (token : UnparkToken) → IsProper (core_next d.core (ActResult.Woken token)) → sleeps (stance d.core) ≡ true
+woken_stands : (d : Call) (token : UnparkToken) → is_plain d.core ≡ true → IsProper (core_next d.core (ActResult.Woken token)) → sleeps (stance d.core) ≡ true
     → option_map stand_of (Some (record (hears d (ActResult.Woken token)) { spot = QueuePosition.Listed })) ≡ Some (stand_of d)
-woken_stands d token proper asleep =
+woken_stands d token so proper asleep =
     let no_try = core_asleep_tries d.core asleep in
-    ap Some (stand_same d (record (hears d (ActResult.Woken token)) { spot = QueuePosition.Listed }) refl (next_keeps d.core (ActResult.Woken token) proper) (core_patient d.core (ActResult.Woken token) no_try ∙ sym no_try))
+    ap Some (stand_same d (record (hears d (ActResult.Woken token)) { spot = QueuePosition.Listed }) refl (next_keeps d.core (ActResult.Woken token) so proper) (core_patient d.core (ActResult.Woken token) so no_try ∙ sym no_try))
 
-module _ (s : State) (h : FitsTogether s) (t : ℕ) (c : Call) (v : ℕ) (other : v ≢ t) where
+module _ (s : State) (h : FitsTogether s) (cores : (u : ℕ) (d : Call) → call_at s u ≡ Some d → is_plain d.core ≡ true) (t : ℕ) (c : Call) (v : ℕ) (other : v ≢ t) where
   abbrev Same : List (Option Call) → Type 0
   Same calls = stand_at calls v ≡ stand_at s.calls v
 
@@ -245,7 +249,7 @@ module _ (s : State) (h : FitsTogether s) (t : ℕ) (c : Call) (v : ℕ) (other 
       → Same (slice_set (slice_set s.calls e.thread (Some (record (hears d (ActResult.Woken token)) { spot = QueuePosition.Listed }))) t p)
   wakes e d token p due proper = apart (slice_set s.calls e.thread woken) p ∙ elim (cases_eq v e.thread) [
     | inr ne ↦ ap (option_map stand_of) (set_elsewhere s.calls e.thread v woken ne)
-    | inl eq ↦ set_alike s.calls e.thread v woken (woken_stands d token (proper eq) asleep ∙ sym (ap (option_map stand_of) due.there))
+    | inl eq ↦ set_alike s.calls e.thread v woken (woken_stands d token (cores e.thread d due.there) (proper eq) asleep ∙ sym (ap (option_map stand_of) due.there))
   ]
     where
       woken : Option Call
@@ -288,5 +292,5 @@ module _ (s : State) (h : FitsTogether s) (t : ℕ) (c : Call) (v : ℕ) (other 
   goes (Act.Done answer) fair u g e = is u _ e (apart s.calls _)
 
 -- In a step everybody else stays about the same.
-pub others_stand : (s u : State) (t : ℕ) (fair : Bool) (answer : Option CoreAnswer) → FitsTogether s → FitsTogether u → IsStepped t fair answer s u → (v : ℕ) → v ≢ t → option_map stand_of (call_at u v) ≡ option_map stand_of (call_at s v)
-others_stand s u t fair answer h g x v ne = goes s h t x.call v ne (core_act x.call.core) fair u g x.became
+pub others_stand : (s u : State) (t : ℕ) (fair : Bool) (answer : Option CoreAnswer) → FitsTogether s → ((v : ℕ) (d : Call) → call_at s v ≡ Some d → is_plain d.core ≡ true) → FitsTogether u → IsStepped t fair answer s u → (v : ℕ) → v ≢ t → option_map stand_of (call_at u v) ≡ option_map stand_of (call_at s v)
+others_stand s u t fair answer h cores g x v ne = goes s h cores t x.call v ne (core_act x.call.core) fair u g x.became

@@ -57,6 +57,10 @@ first_possible taken x LockCall.Upgrade is = absurd (false≢true is)
 first_possible taken x LockCall.TryUpgrade is = absurd (false≢true is)
 first_possible taken x LockCall.DowngradeToUpgradable is = absurd (false≢true is)
 first_possible taken x LockCall.DowngradeUpgradable is = absurd (false≢true is)
+first_possible taken x LockCall.ReadUntil is = absurd (false≢true is)
+first_possible taken x LockCall.WriteUntil is = absurd (false≢true is)
+first_possible taken x LockCall.UpgradableUntil is = absurd (false≢true is)
+first_possible taken x LockCall.UpgradeUntil is = absurd (false≢true is)
 
 first_open : (x : LockKind) (call : LockCall) → gives call ≡ true → end_of (core_act (core_next (core_of x call) ActResult.Start)) ≡ None
 first_open x LockCall.Lock is = absurd (false≢true is)
@@ -77,6 +81,10 @@ first_open x LockCall.Upgrade is = absurd (false≢true is)
 first_open x LockCall.TryUpgrade is = absurd (false≢true is)
 first_open x LockCall.DowngradeToUpgradable is = absurd (false≢true is)
 first_open x LockCall.DowngradeUpgradable is = absurd (false≢true is)
+first_open x LockCall.ReadUntil is = absurd (false≢true is)
+first_open x LockCall.WriteUntil is = absurd (false≢true is)
+first_open x LockCall.UpgradableUntil is = absurd (false≢true is)
+first_open x LockCall.UpgradeUntil is = absurd (false≢true is)
 
 module _ (s mid : State) (t i : ℕ) (call : LockCall) (low : t < length s.calls) (x : IsBegun t i call s mid) where
   pub can_start : gives call ≡ true → can_move mid t ≡ true

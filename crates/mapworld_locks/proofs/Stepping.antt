@@ -65,6 +65,7 @@ call_within s t c h plain here = ap (is_within (core_aim c.core)) (call_holds s 
     by (Core.Rw x) so of_kind ready = within (rw_spot c.spot) (taken_by s.wakes t) x.phase ready.0 (λ e. absurd (subst (λ p. IsPrepared (recursive_in s.kinds c.lock) 0 (Core.Rw (record { phase = p }))) e ready).1)
     by (Core.Mutex x) so of_kind ready = absurd (not_mutex s c.lock plain.kinds of_kind)
     by (Core.Late x) so of_kind ready = absurd (not_mutex s c.lock plain.kinds of_kind)
+    by (Core.LateRw p) so of_kind ready = absurd cc
     by (Core.Upgrade x) so of_kind ready = absurd cc
 
 never_upgradable : (aim : Aim) → is_within aim (Some held.Upgradable) ≡ false
@@ -147,6 +148,7 @@ core_gets : (k : Core) (kinds : Option _) (m : Mode) → is_plain k ≡ true →
 core_gets (Core.Rw c) kinds m so of_kind ne is fits = asleep_gets c.phase m is fits
 core_gets (Core.Mutex c) kinds m so of_kind ne is fits = absurd (ne of_kind)
 core_gets (Core.Late c) kinds m so of_kind ne is fits = absurd (ne of_kind)
+core_gets (Core.LateRw p) kinds m so of_kind ne is fits = absurd cc
 core_gets (Core.Upgrade c) kinds m so of_kind ne is fits = absurd cc
 
 -- where it held and holds no longer
@@ -208,7 +210,7 @@ module _ (laws : StepsAreCases) (agree : Always OwnersAgree) (old : Shown) (fit 
   proper = kept_proper (recursive_in u.kinds d.lock) d.others d.core (fits.rules.prepared t d own_goes.there)
 
   aim_same : core_aim d.core ≡ core_aim c.core
-  aim_same = ap core_aim own_goes.core ∙ next_keeps c.core own_goes.told (subst IsProper own_goes.core proper)
+  aim_same = ap core_aim own_goes.core ∙ next_keeps c.core own_goes.told (fit.plain.cores t c x.here) (subst IsProper own_goes.core proper)
 
   pub in_range : i < length old.desks
   in_range = omega (arith, of c.core (fit.fits.rules.kinds t c x.here), fit.count)
@@ -217,6 +219,7 @@ module _ (laws : StepsAreCases) (agree : Always OwnersAgree) (old : Shown) (fit 
       of (Core.Rw y) e = within_kinds s i _ e
       of (Core.Mutex y) e = within_kinds s i _ e
       of (Core.Late y) e = within_kinds s i _ e
+      of (Core.LateRw p) e = within_kinds s i _ e
       of (Core.Upgrade y) e = within_kinds s i _ e
 
   other : (v : ℕ) → v ≢ t → (held_at u i v ≡ held_at s i v) ⊎ IsHandedOver t i v s u
@@ -334,7 +337,7 @@ module _ (laws : StepsAreCases) (agree : Always OwnersAgree) (old : Shown) (fit 
       ]
 
       stands_same : (v : ℕ) → v ≢ t → option_map stand_of (call_at u v) ≡ option_map stand_of (call_at s v)
-      stands_same = others_stand s u t fair None fit.fits fits x
+      stands_same = others_stand s u t fair None fit.fits fit.plain.cores fits x
 
       -- one that is handed the lock has asked for it
       handed_gets : (v : ℕ) (m : Mode) → v ≢ t → (given : IsHandedOver t i v s u) → held_at u i v ≡ Some m → core_aim given.call.core ≡ Gets m
@@ -372,7 +375,7 @@ module _ (laws : StepsAreCases) (agree : Always OwnersAgree) (old : Shown) (fit 
         stands = ap (option_map stand_of) own_goes.there
             ∙ ap (λ n. Some (record { shard = n; aim = core_aim d.core; trying = core_tries d.core })) own_goes.lock
             ∙ ap (λ a. Some (record { shard = i; aim = a; trying = core_tries d.core })) aim_same;
-        patient = λ calm. ap core_tries own_goes.core ∙ core_patient c.core own_goes.told calm;
+        patient = λ calm. ap core_tries own_goes.core ∙ core_patient c.core own_goes.told (fit.plain.cores t c x.here) calm;
         others = stands_same;
         kept = kept;
         gained = gained;

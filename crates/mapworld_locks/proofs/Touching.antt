@@ -1,25 +1,28 @@
 -- A step changes the word of its thread's lock, or one of the lists there, and nothing of another lock.
-use Rattle.std.proofs.Common.{◌≡◌, ◌≢◌, ℕ, ◌+◌, ◌*◌, inl, inr, ◌⊎◌, Bool, true, false, cond, ◌==◌, Option, slice_get, slice_set, refl, sym, ap, ◌∙◌, subst, arith}
+use Rattle.std.proofs.Common.{◌≡◌, ◌≢◌, ℕ, ◌+◌, ◌*◌, inl, inr, ◌⊎◌, Bool, true, false, cond, ◌==◌, ◌||◌, Option, None, slice_get, slice_set, refl, sym, ap, ◌∙◌, subst, arith}
 use Rattle.std.specs.Option.{option_map_or}
 use Rattle.std.proofs.lemmas.Bool.{cases_eq, ne_eqb, cond-false}
 use Rattle.parking_lot_core_lot.specs.Lists.{updated}
-use Rattle.parking_lot_core_lot.specs.Machine.{threads_of}
+use Rattle.parking_lot_core_lot.specs.Machine.{stored, threads_of}
 use Rattle.parking_lot_protocol.specs.declared.act.Act.{Act}
 use Rattle.parking_lot_protocol.specs.declared.act.SectionAct.{SectionAct}
+use Rattle.parking_lot_protocol.specs.declared.act.ActResult.{ActResult}
 use Rattle.parking_lot_protocol.specs.declared.act.CoreAnswer.{CoreAnswer}
+use Rattle.parking_lot_rules.specs.Classes.{bit}
 use Rattle.parking_lot_rules.specs.Any.{AnyLock, Mx, Rw}
 use Rattle.parking_lot_rules.specs.Lock.{Lock}
 use Rattle.parking_lot_rules.proofs.Indexed.{get-set_other}
 use Rattle.parking_lot_world.specs.declared.open_call.Call.{Call}
 use Rattle.parking_lot_world.specs.declared.seat.Core.{Core}
+use Rattle.parking_lot_world.specs.declared.late_rw.LateRwPhase.{LateRwPhase}
 use Rattle.parking_lot_world.specs.declared.seat.LatePhase.{LatePhase}
-use Rattle.parking_lot_world.specs.LateActs.{others_left, quitted_as}
+use Rattle.parking_lot_world.specs.LateActs.{is_pending, others_left, out_of_list}
 use Rattle.parking_lot_world.specs.Machines.{Became, BecameInside, BecameLate, IsStepped}
-use Rattle.parking_lot_world.specs.RowActs.{key_of}
+use Rattle.parking_lot_world.specs.RowActs.{hears, key_of, with_call, with_lot}
 use Rattle.parking_lot_world.specs.RowFits.{FitsTogether}
 use Rattle.parking_lot_world.specs.Rows.{State, first_key, queue_at, rw_lock_at, second_key, word_at}
 use Rattle.parking_lot_world.specs.SoundLaws.{StepsAreCases}
-use Rattle.parking_lot_world.specs.Stances.{core_act}
+use Rattle.parking_lot_world.specs.Stances.{core_act, sign}
 use Rattle.mapworld_locks.specs.Fits.{IsPlain}
 use Rattle.mapworld_locks.specs.Footprints.{StaysAt, TouchesOnly}
 use Rattle.mapworld_locks.proofs.Handing.{is_rw}
@@ -64,14 +67,16 @@ module _ (s : State) (t : ℕ) (c : Call) where
   goes_inside SectionAct.Leave fair u e = is u _ e (inl nothing)
   goes_inside SectionAct.Wake fair u (e, d, token, due, is_it) = is u _ is_it (inl nothing)
 
-  -- one whose moment has passed takes itself out of its first list
+  -- one whose moment has passed takes itself out of its list
+  goes_out : (left b : Bool) → Result (with_lot (with_call s t (hears c (ActResult.Took None left))) (cond b (stored (out_of_list s t c) (sign false)) (out_of_list s t c)))
+  goes_out left true = inr (bit (is_pending c.core), λ j. refl, λ key ne. other_list (bit (is_pending c.core)) _ key ne)
+  goes_out left false = inr (bit (is_pending c.core), λ j. refl, λ key ne. other_list (bit (is_pending c.core)) _ key ne)
+
   late_lists : (k : Core) (u : State) → BecameLate k t c s u → Result u
   late_lists (Core.Late LatePhase.Expires) u e = is u _ e (inl nothing)
-  late_lists (Core.Late LatePhase.Quits) u e = is u _ e (stays (others_left s t c))
-    where
-      stays : (left : Bool) → Result (quitted_as s t c left)
-      stays true = inr (0, λ j. refl, λ key ne. other_list 0 _ key ne)
-      stays false = inr (0, λ j. refl, λ key ne. other_list 0 _ key ne)
+  late_lists (Core.Late LatePhase.Quits) u e = is u _ e (goes_out (others_left s t c) (others_left s t c || is_pending c.core))
+  late_lists (Core.LateRw (LateRwPhase.Expires k)) u e = is u _ e (inl nothing)
+  late_lists (Core.LateRw (LateRwPhase.Quits k)) u e = is u _ e (goes_out (others_left s t c) (others_left s t c || is_pending c.core))
   late_lists k u e = absurd e
 
   goes : (a : Act) (fair : Bool) (u : State) → Became a t fair c s u → Result u

@@ -135,6 +135,7 @@ module _ (s : State) (h : FitsTogether s) (plain : IsPlain s) (i t : ℕ) where
   core_reads c here (Core.Rw x) so of_kind = phase_reads (rw_spot c.spot) us x.phase
   core_reads c here (Core.Mutex x) so of_kind = absurd (not_mutex s c.lock plain.kinds of_kind)
   core_reads c here (Core.Late x) so of_kind = absurd (not_mutex s c.lock plain.kinds of_kind)
+  core_reads c here (Core.LateRw x) so of_kind = absurd cc
   core_reads c here (Core.Upgrade x) so of_kind = absurd cc
 
   reads_by : (o : Option Call) → call_at s t ≡ o → weight Readers (rw_role_in i us hold o) ≤ 1

@@ -39,6 +39,10 @@ aim_of call.Upgrade = Turns
 aim_of call.TryUpgrade = Turns
 aim_of call.DowngradeToUpgradable = Turns
 aim_of call.DowngradeUpgradable = Turns
+aim_of call.ReadUntil = Gets held.Shared
+aim_of call.WriteUntil = Gets held.Exclusive
+aim_of call.UpgradableUntil = Turns
+aim_of call.UpgradeUntil = Turns
 
 abbrev pub aim_for : LockMode → Aim
 aim_for (want.Shared recursive) = Gets held.Shared

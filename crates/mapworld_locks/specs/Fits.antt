@@ -26,6 +26,7 @@ abbrev pub is_plain : Core → Bool
 is_plain (core.Rw c) = true
 is_plain (core.Mutex c) = true
 is_plain (core.Late p) = true
+is_plain (core.LateRw p) = false
 is_plain (core.Upgrade c) = false
 
 -- of the machine alone: all locks are reader-writer locks

@@ -33,12 +33,14 @@ abbrev pub core_aim : Core → Aim
 core_aim (core.Rw c) = phase_aim c.phase
 core_aim (core.Mutex c) = Turns
 core_aim (core.Late p) = Turns
+core_aim (core.LateRw p) = Turns
 core_aim (core.Upgrade c) = Turns
 
 abbrev pub core_tries : Core → Bool
 core_tries (core.Rw c) = is_trying c.phase
 core_tries (core.Mutex c) = false
 core_tries (core.Late p) = false
+core_tries (core.LateRw p) = false
 core_tries (core.Upgrade c) = false
 
 abbrev pub stand_of : Call → Stand

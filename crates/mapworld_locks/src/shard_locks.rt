@@ -192,7 +192,8 @@ fn needed(call: LockCall) -> Option<Mode>
         LockCall::Downgrade | LockCall::DowngradeToUpgradable => Some(Mode::Exclusive),
         LockCall::UnlockRead => Some(Mode::Shared),
         LockCall::UnlockUpgradable | LockCall::Upgrade => Some(Mode::Upgradable),
-        LockCall::TryUpgrade | LockCall::DowngradeUpgradable => Some(Mode::Upgradable),
+        LockCall::TryUpgrade | LockCall::UpgradeUntil => Some(Mode::Upgradable),
+        LockCall::DowngradeUpgradable => Some(Mode::Upgradable),
         _ => None,
     }
 }

@@ -104,6 +104,7 @@ core_sleeps : (k : Core) (o : Option LockKind) → is_plain k ≡ true → manne
 core_sleeps (Core.Rw c) o so rw of_kind h = sleeps_on c.phase h
 core_sleeps (Core.Mutex c) o so rw of_kind h = absurd (rw of_kind)
 core_sleeps (Core.Late c) o so rw of_kind h = absurd (rw of_kind)
+core_sleeps (Core.LateRw p) o so rw of_kind h = absurd cc
 core_sleeps (Core.Upgrade c) o so rw of_kind h = absurd cc
 
 module _ (locks : Shown) (fit : LocksFit locks) (t : ℕ) where

@@ -39,9 +39,32 @@ fn takes(course: &mut Course<NotifyCore>, word: u64, locked: bool, done: UnparkR
     })
 }
 
+/// How many a notification takes that has seen that nobody waits.
+#[inline(always)]
+fn nobody(all: bool) -> usize
+    ensures { Notified all result }
+{
+    let _ = all;
+    0
+}
+
 impl<R: Wait, A: Allocator> RawCondvar<'_, '_, R, A> {
-    /// Runs a notification of the first waiter, or of all, and answers how many it took.
+    /// Runs a notification of the first waiter, or of all, and answers how many it took. Where nobody waits it is over with one look at the word.
+    #[inline(always)]
     pub(crate) fn notify(&self, all: bool) -> usize
+        ensures { Notified all result }
+    {
+        if self.row().load() == 0 {
+            nobody(all)
+        } else {
+            self.notify_slowly(all)
+        }
+    }
+
+    /// The same where somebody may wait.
+    #[cold]
+    #[inline(never)]
+    fn notify_slowly(&self, all: bool) -> usize
         ensures { Notified all result }
     {
         let mut course = Course::begin(NotifyCore::notify(all));

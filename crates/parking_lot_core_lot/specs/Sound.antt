@@ -29,4 +29,4 @@ pub record Room {A : Type 0} (waiting : Lists Waiter A) (places : List (Option P
   pub waits : total waiting ≤ count_by (λ place. option_map_or is_waiting place false) places
   pub room : length places ≤ room waiting
   pub threads : length places ≤ max_threads
-  pub limit : max_threads ≤ 65536
+  pub limit : max_threads ≤ 131072

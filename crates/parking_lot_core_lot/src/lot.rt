@@ -1,11 +1,12 @@
 //! The exact lot: its threads, and what it shows of them.
-ghost use Rattle.std.specs.Prelude.{◌≡◌, ◌<◌, ◌↔◌, ◌⊎◌, if◌then◌else◌, is_some, ℕ, IfOk, IfSome, IfErr, IsTrue, IsErrOf, false, Some, None, Err, count_by};
+ghost use Rattle.std.specs.Prelude.{◌≡◌, ◌<◌, ◌≤◌, ◌↔◌, ◌⊎◌, if◌then◌else◌, is_some, ℕ, IfOk, IfSome, IfErr, IsTrue, IsErrOf, false, Some, None, Err, count_by};
 ghost use Rattle.parking_lot_core_lot.specs.Places.{place_at, late, roused, is_due, is_held};
 ghost use Rattle.std.specs.Option.{option_map_or};
 ghost use Rattle.parking_lot_core_lot.specs.Machine.{machine, status_at, threads_of, is_in, is_thread, register_fault, retire_fault, deadline_fault, owner_fault, enter_fault, free_number, busy, changed_at, registered, retired, recorded, forgotten, Does, Makes, MakesOr};
 ghost use Rattle.parking_lot_core_lot.specs.Runs.{fresh};
 ghost use Rattle.parking_lot_core_lot.specs.Sound.{Sound, times_at};
 ghost use Rattle.parking_lot_core_lot.specs.declared.fault.SizeFault.TheVariants.{BadSize};
+ghost use Rattle.parking_lot_core_lot.specs.declared.fault.SizeFault.TheVariants as size_fault;
 ghost use Rattle.parking_lot_core_lot.specs.declared.fault.LotFault.TheVariants.{NoMemory};
 
 use crate::fault::{LotFault, SizeFault};
@@ -18,6 +19,9 @@ use std::marker::Model;
 
 /// The most threads that a lot can have at one time.
 const LIMIT: usize = 65_536;
+
+/// The most where each has two numbers.
+const WIDE_LIMIT: usize = 131_072;
 
 /// Lists of waiting threads by key, exclusive and exact: whoever has it sees each thread's place, and nothing moves by
 /// itself. Threads are numbers here.
@@ -268,6 +272,26 @@ impl<A: Allocator + Clone> Lot<A> {
         if max_threads == 0 || max_threads > LIMIT {
             return Err(SizeFault::BadSize);
         }
+        Lot::made(alloc, max_threads, number)
+    }
+
+    /// The same for twice as many threads, from 1 to 131,072: for one that keeps two numbers for each thread.
+    pub fn new_wide(alloc: A, max_threads: usize, number: u64) -> Result<Lot<A>, SizeFault>
+        ensures size { IsErrOf result BadSize ↔ ((max_threads ≡ 0) ⊎ (131072 < max_threads)) }
+        ensures made { IfOk result (λ lot. machine lot ≡ fresh max_threads number) }
+    {
+        if max_threads == 0 || max_threads > WIDE_LIMIT {
+            return Err(SizeFault::BadSize);
+        }
+        Lot::made(alloc, max_threads, number)
+    }
+
+    /// A lot where nobody is registered.
+    fn made(alloc: A, max_threads: usize, number: u64) -> Result<Lot<A>, SizeFault>
+        requires few { max_threads ≤ 131072 }
+        ensures made { IfOk result (λ lot. machine lot ≡ fresh max_threads number) }
+        ensures memory { IfErr result (λ fault. fault ≡ size_fault.NoMemory) }
+    {
         Ok(Lot {
             number,
             max_threads,

@@ -132,6 +132,15 @@ impl<'t, 'l, R: Wait, A: Allocator> RawMutex<'t, 'l, R, A> {
         self.own(Lock, party);
     }
 
+    /// Lets those that wait go first.
+    #[cold]
+    #[inline(never)]
+    fn bump_slowly(&self, party: &mut ThreadData<A>)
+        ensures { MutexEnded Bumping Owned }
+    {
+        self.own(Bump, party);
+    }
+
     /// Gives the mutex up at this word, where threads may sleep.
     #[cold]
     #[inline(never)]
@@ -228,11 +237,14 @@ impl<'t, 'l, R, A: Allocator> RawMutexFair for RawMutex<'t, 'l, R, A> {
         }
     }
 
+    #[inline(always)]
     fn bump(&self, guard: GuardSend, party: &mut ThreadData<A>) -> GuardSend
     where
         R: Wait,
     {
-        self.own(Bump, party);
+        if !self.row.owns_as_it_is(Bump, 2) {
+            self.bump_slowly(party);
+        }
         guard
     }
 }

@@ -190,6 +190,24 @@ impl<'t, 'l, R: Wait, const RECURSIVE: u8, A: Allocator> RawRwLock<'t, 'l, R, RE
         unreachable!()
     }
 
+    /// Lets those that wait go before this reader.
+    #[cold]
+    #[inline(never)]
+    fn bump_reader_slowly(&self, party: &mut ThreadData<A>)
+        ensures { RwEnded BumpingShared Owned }
+    {
+        self.own_shared(BumpReader, party);
+    }
+
+    /// Lets those that wait go before this writer.
+    #[cold]
+    #[inline(never)]
+    fn bump_writer_slowly(&self, party: &mut ThreadData<A>)
+        ensures { RwEnded BumpingExclusive Owned }
+    {
+        self.own(BumpWriter, party);
+    }
+
     /// Asks until a shared hold is owned. A fair writer may hand the lock over to more readers than there may be: then this one
     /// gives its hold back, and asks again.
     fn own_shared<K: Call>(&self, call: K, party: &mut ThreadData<A>)
@@ -405,19 +423,25 @@ impl<'t, 'l, R, const RECURSIVE: u8, A: Allocator> RawRwLockFair
         }
     }
 
+    #[inline(always)]
     fn bump_shared(&self, guard: GuardSend, party: &mut ThreadData<A>) -> GuardSend
     where
         R: Wait,
     {
-        self.own_shared(BumpReader, party);
+        if !self.row.owns_as_it_is(BumpReader, WRITER) {
+            self.bump_reader_slowly(party);
+        }
         guard
     }
 
+    #[inline(always)]
     fn bump_exclusive(&self, guard: GuardSend, party: &mut ThreadData<A>) -> GuardSend
     where
         R: Wait,
     {
-        self.own(BumpWriter, party);
+        if !self.row.owns_as_it_is(BumpWriter, PARKED) {
+            self.bump_writer_slowly(party);
+        }
         guard
     }
 }

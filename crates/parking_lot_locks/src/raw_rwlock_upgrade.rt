@@ -47,6 +47,15 @@ impl<'t, 'l, R: Wait, const RECURSIVE: u8, A: Allocator> RawRwLock<'t, 'l, R, RE
         self.own_upgradable(AskUpgradably, party);
     }
 
+    /// Lets those that wait go before this thread.
+    #[cold]
+    #[inline(never)]
+    fn bump_upgradable_slowly(&self, party: &mut ThreadData<A>)
+        ensures { UpgradeEnded Bumping Owned }
+    {
+        self.own_upgradable(BumpUpgradable, party);
+    }
+
     /// Gives the upgradable hold up by a call that has seen this word, where threads may sleep.
     #[cold]
     #[inline(never)]
@@ -256,11 +265,14 @@ impl<'t, 'l, R, const RECURSIVE: u8, A: Allocator> RawRwLockUpgradeFair
         }
     }
 
+    #[inline(always)]
     fn bump_upgradable(&self, guard: GuardSend, party: &mut ThreadData<A>) -> GuardSend
     where
         R: Wait,
     {
-        self.own_upgradable(BumpUpgradable, party);
+        if !self.row().owns_as_it_is(BumpUpgradable, PARKED) {
+            self.bump_upgradable_slowly(party);
+        }
         guard
     }
 }

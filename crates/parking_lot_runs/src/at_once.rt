@@ -61,6 +61,18 @@ impl<R, A: Allocator> Row<'_, '_, R, A> {
         }
     }
 
+    /// Loads the word, as a call begins that owns the lock already. Where it lacks the bit the call is over, and owns the lock still.
+    #[inline(always)]
+    pub fn owns_as_it_is<K: Call>(&self, _call: K, bit: u64) -> bool
+        requires bit { 0 < bit }
+        requires first { K.Core.asks (K.Core.told K.begun Start) ≡ Load }
+        requires last { (word : ℕ) → word / bit % 2 ≡ 0 → K.Core.asks (K.Core.told (K.Core.told K.begun Start) (Word word)) ≡ Done Owned }
+        ensures { result ≡ true → Ended K.Core.told K.Core.asks K.begun Owned }
+    {
+        let seen = self.load();
+        if (seen / bit) % 2 == 0 { true } else { false }
+    }
+
     /// Makes the exchange that a call begins with. Where it is won the call is over, and else the core is to be told of the
     /// word that was seen.
     #[inline(always)]

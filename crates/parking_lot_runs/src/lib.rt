@@ -24,6 +24,7 @@ mod table;
 mod timed_call;
 mod timed_run;
 mod timed_rw_run;
+mod timed_sleep;
 mod told;
 mod under_way;
 mod upgrade_call;

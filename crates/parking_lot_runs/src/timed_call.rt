@@ -9,8 +9,10 @@ ghost use Rattle.parking_lot_rw_timed.specs.declared.timed_core.TimedRwCore.{Tim
 ghost use Rattle.parking_lot_timed.specs.declared.timed_act.TimedSeen.TheVariants.{Plain};
 ghost use Rattle.parking_lot_upgrades.specs.declared.upgrade_phase.UpgradePhase.TheVariants as at;
 
+use crate::timed_sleep::InTime;
 use crate::under_way::UnderWay;
 use parking_lot_core::UnparkToken;
+use parking_lot_protocol::word::PARKED;
 use parking_lot_protocol::{Act, ActResult, CoreAnswer};
 use parking_lot_rw_timed::TimedRwCore;
 use parking_lot_timed::{CallCore, TimedAct, TimedSeen};
@@ -155,5 +157,15 @@ impl<K: TimedCall> UnderWay for TimedRun<K> {
 
     fn wake_token(&self) -> UnparkToken {
         self.core.wake_token()
+    }
+}
+
+impl<K: TimedCall> InTime for TimedRun<K> {
+    fn parked(&self) -> u64 {
+        PARKED
+    }
+
+    fn told(&mut self, seen: TimedSeen) -> TimedAct {
+        TimedRun::told(self, seen)
     }
 }

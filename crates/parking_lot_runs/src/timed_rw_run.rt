@@ -8,57 +8,12 @@ ghost use Rattle.parking_lot_timed.specs.declared.timed_act.TimedAct.TheVariants
 use crate::place::Place;
 use crate::timed_call::{TimedCall, TimedRun};
 use crate::under_way::UnderWay;
-use parking_lot_core::{ParkResult, ParkToken, SpinWait, ThreadData, park, thread_yield};
-use parking_lot_protocol::word::PARKED;
+use parking_lot_core::{SpinWait, ThreadData, thread_yield};
 use parking_lot_protocol::{Act, ActResult, CoreAnswer, SectionAct};
-use parking_lot_timed::{TimedAct, TimedSeen};
+use parking_lot_timed::TimedAct;
 use std::alloc::Allocator;
-use std::cell::Cell;
 use std::sync::Wait;
 use std::time::{Clock, Instant};
-
-/// Whether a call joins the list where its check sees this word.
-fn joins<K: TimedCall>(mut run: TimedRun<K>, word: u64) -> bool {
-    matches!(
-        run.tell(ActResult::Word(word)),
-        Act::Section(SectionAct::Append(_))
-    )
-}
-
-/// Tells a call that it has joined the list, has left the section, and has taken itself off the list again as its moment passed.
-fn quits<K: TimedCall>(run: &mut TimedRun<K>, last: bool) -> TimedAct {
-    run.tell(ActResult::Made);
-    run.tell(ActResult::Made);
-    run.told(TimedSeen::Expired);
-    run.told(TimedSeen::Reentered);
-    run.told(TimedSeen::Quit { last })
-}
-
-/// Whether a call whose check saw this word masks the parked bit once it has taken itself off the list.
-fn masks<K: TimedCall>(mut run: TimedRun<K>, word: u64, last: bool) -> bool {
-    run.tell(ActResult::Word(word));
-    quits(&mut run, last) == TimedAct::Masks
-}
-
-/// Tells a call how its stay in the section, or its sleep, ended.
-fn after_sleep<K: TimedCall>(run: &mut TimedRun<K>, ended: ParkResult, last: bool) {
-    match ended {
-        ParkResult::Unparked(token) => {
-            run.tell(ActResult::Made);
-            run.tell(ActResult::Made);
-            run.tell(ActResult::Woken(token));
-        }
-        ParkResult::TimedOut => {
-            if quits(run, last) == TimedAct::Masks {
-                run.told(TimedSeen::Masked);
-            }
-            run.told(TimedSeen::Left);
-        }
-        ParkResult::Invalid => {
-            run.tell(ActResult::Made);
-        }
-    }
-}
 
 impl<R: Wait, A: Allocator> Place<'_, '_, '_, R, A> {
     /// Runs a call that may give up to its end, and answers whether it owns what it asked for.
@@ -148,70 +103,10 @@ impl<R: Wait, A: Allocator> Place<'_, '_, '_, R, A> {
     ) {
         let key = self.key(key);
         match run.tell(ActResult::Entered) {
-            Act::Section(SectionAct::Check) => self.doze(run, key, deadline, clock, party),
+            Act::Section(SectionAct::Check) => {
+                self.sleep_in_time(run, key, deadline, clock, party);
+            }
             _ => self.wake(run, key),
         }
-    }
-
-    /// Sleeps until it is woken or its moment passes, unless the word tells it not to. Where that is seen before the section, it
-    /// isn't entered.
-    fn doze<K: TimedCall, C: Clock>(
-        &self,
-        run: &mut TimedRun<K>,
-        key: usize,
-        deadline: Instant,
-        clock: &C,
-        party: &mut ThreadData<A>,
-    ) {
-        let word = self.row.load();
-        let mut ahead = *run;
-        match ahead.tell(ActResult::Word(word)) {
-            Act::Section(SectionAct::Append(token)) => {
-                self.park_for(run, key, token, deadline, clock, party);
-            }
-            _ => *run = ahead,
-        }
-    }
-
-    /// Parks until the moment at the latest, unless the word tells it not to. A participant of another lot can't sleep here: it lets
-    /// other threads run, and the call is to look again, as if the word had been free.
-    fn park_for<K: TimedCall, C: Clock>(
-        &self,
-        run: &mut TimedRun<K>,
-        key: usize,
-        token: ParkToken,
-        deadline: Instant,
-        clock: &C,
-        party: &mut ThreadData<A>,
-    ) {
-        let lot = self.row.lot();
-        if !lot.same_lot(party) {
-            thread_yield();
-            run.tell(ActResult::Word(0));
-            return;
-        }
-        let before = *run;
-        let word = Cell::new(0);
-        let was_last = Cell::new(false);
-        let ended = park(
-            lot,
-            party,
-            key,
-            || {
-                word.set(self.row.load());
-                joins(before, word.get())
-            },
-            || {},
-            |_key, last| {
-                was_last.set(last);
-                if masks(before, word.get(), last) {
-                    self.row.mask(!PARKED);
-                }
-            },
-            token,
-            Some((deadline, clock)),
-        );
-        run.tell(ActResult::Word(word.get()));
-        after_sleep(run, ended, was_last.get());
     }
 }

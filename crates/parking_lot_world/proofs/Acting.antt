@@ -54,6 +54,7 @@ has_word s h t c here = subst (λ n. c.lock < n) (sym h.rules.size_words) (withi
     within (Core.Rw k) e = within_kinds s.kinds c.lock _ (subst (IsOfKind (slice_get s.kinds c.lock)) e (h.rules.kinds t c here))
     within (Core.Mutex k) e = within_kinds s.kinds c.lock _ (subst (IsOfKind (slice_get s.kinds c.lock)) e (h.rules.kinds t c here))
     within (Core.Upgrade k) e = within_kinds s.kinds c.lock _ (subst (IsOfKind (slice_get s.kinds c.lock)) e (h.rules.kinds t c here))
+    within (Core.LateRw p) e = within_kinds s.kinds c.lock _ (subst (IsOfKind (slice_get s.kinds c.lock)) e (h.rules.kinds t c here))
     within (Core.Late p) e = within_kinds s.kinds c.lock _ (subst (IsOfKind (slice_get s.kinds c.lock)) e (h.rules.kinds t c here))
 
 pub word-here : (words : List ℕ) (j x : ℕ) → j < length words → option_map_or (λ w. w) (slice_get (slice_set words j x) j) 0 ≡ x

@@ -16,11 +16,13 @@ use Rattle.parking_lot_protocol.specs.RwTable as of_rw
 use Rattle.parking_lot_protocol.proofs.MutexFollowing.{either}
 use Rattle.parking_lot_upgrades.specs.UpgradeTable as ut
 use Rattle.parking_lot_upgrades.specs.declared.upgrade_phase.UpgradePhase.{UpgradePhase}
-use Rattle.parking_lot_world.specs.Stances.{upgrade_begun}
+use Rattle.parking_lot_world.specs.Stances.{upgrade_begun, late_rw_next}
 use Rattle.parking_lot_world.specs.declared.seat.LatePhase.{LatePhase}
 use Rattle.parking_lot_world.specs.declared.seat.Core.{Core}
 use Rattle.parking_lot_world.specs.Stances.{mutex_begun, rw_begun, has_begun, core_next, late_next}
 use Rattle.parking_lot_rules.specs.Classes.{bit}
+use Rattle.parking_lot_world.specs.declared.late_rw.LateRwPhase.{LateRwPhase}
+use Rattle.parking_lot_world.specs.declared.late_rw.RwSleeper.{RwSleeper}
 
 -- A MUTEX
 
@@ -212,8 +214,19 @@ upgrade_on (UpgradePhase.Frees r core) s = upgrade_pick (ut.asks_now r core.phas
 upgrade_on (UpgradePhase.Owes kept end core) s = refl
 upgrade_on p s = own_on p s
 
+tardy_on : (p : LateRwPhase) (s : ActResult) → has_begun (late_rw_next p s) ≡ true
+tardy_on (LateRwPhase.Expires (RwSleeper.Simple c)) (Woken token) = rw_on c.phase (Woken token)
+tardy_on (LateRwPhase.Expires (RwSleeper.Upgradable c)) (Woken token) = upgrade_on c.phase (Woken token)
+tardy_on (LateRwPhase.Expires k) Entered = refl
+tardy_on (LateRwPhase.Quits k) (Took token left) = refl
+tardy_on LateRwPhase.Masks (Before word) = refl
+tardy_on LateRwPhase.Leaves Made = refl
+tardy_on (LateRwPhase.LeavesPending from) Made = refl
+tardy_on p s = refl
+
 pub goes_on : (c : Core) (s : ActResult) → has_begun (core_next c s) ≡ true
 goes_on (Core.Mutex c) s = mutex_on c.phase s
 goes_on (Core.Rw c) s = rw_on c.phase s
 goes_on (Core.Late p) s = late_on p s
+goes_on (Core.LateRw p) s = tardy_on p s
 goes_on (Core.Upgrade c) s = upgrade_on c.phase s

@@ -12,22 +12,26 @@ use Rattle.parking_lot_protocol.specs.declared.rw_phase.LockMode.{LockMode}
 use Rattle.parking_lot_protocol.specs.declared.rw_phase.RwPhase.{RwPhase}
 use Rattle.parking_lot_rules.specs.Classes.{bit}
 use Rattle.parking_lot_upgrades.specs.declared.upgrade_phase.UpgradePhase.{UpgradePhase}
-use Rattle.parking_lot_world.specs.Ranks.{upgrade_steps}
-use Rattle.parking_lot_world.specs.Rounds.{upgrade_rounds}
-use Rattle.parking_lot_world.specs.Stances.{upgrade_taken}
+use Rattle.parking_lot_world.specs.Ranks.{upgrade_steps, late_rw_steps, sleeper_steps, quits_steps}
+use Rattle.parking_lot_world.specs.Rounds.{upgrade_rounds, late_rw_rounds, sleeper_rounds}
+use Rattle.parking_lot_world.specs.Stances.{upgrade_taken, pending_from, sleeper_asleep}
 use Rattle.parking_lot_world.specs.declared.seat.LatePhase.{LatePhase}
 use Rattle.parking_lot_world.specs.declared.seat.Core.{Core}
 use Rattle.parking_lot_world.specs.declared.open_call.Call.{Call}
 use Rattle.parking_lot_world.specs.Ranks.{Unseen, comes_after, core_steps, late_steps, far_steps, mutex_asks, mutex_ends, mutex_steps, rw_ends, rw_steps, vain}
 use Rattle.parking_lot_world.specs.Rounds.{FewRounds, mutex_rounds, rw_rounds}
 use Rattle.parking_lot_world.specs.RowFits.{FitsTogether, is_away}
-use Rattle.parking_lot_world.specs.Rows.{State, call_at, is_by}
+use Rattle.parking_lot_world.specs.Rows.{State, call_at, is_by, word_at}
 use Rattle.parking_lot_world.specs.SoundLaws.{StepsAreFew, most_steps}
 use Rattle.parking_lot_world.specs.Stances.{rw_taken, taken_count}
 use Rattle.parking_lot_world.proofs.Carrying.{taken_by-count}
 use Rattle.parking_lot_world.proofs.Meeting.{in_range}
-use Rattle.parking_lot_world.proofs.Paying.{none_more}
+use Rattle.parking_lot_world.proofs.Paying.{none_more, IsGood, IsGoodLate, is_good}
 use Rattle.parking_lot_world.proofs.Summing.{others_and_one}
+use Rattle.parking_lot_world.specs.declared.late_rw.LateRwPhase.{LateRwPhase}
+use Rattle.parking_lot_world.specs.declared.late_rw.RwSleeper.{RwSleeper}
+use Rattle.parking_lot_world.specs.CallViews.{IsReadySleeper}
+use Rattle.parking_lot_world.proofs.Sleepers.{by_sleeper}
 
 -- the parts of a call that goes on
 after_most : (w : LockMode) → comes_after Unseen w ≤ 31
@@ -118,11 +122,25 @@ late_most n LatePhase.Masks = omega arith
 late_most n LatePhase.Leaves = omega arith
 late_most n LatePhase.GivesUp = omega arith
 
-pub core_most : (n : ℕ) (c : Core) → 1 ≤ n → FewRounds c → taken_count c ≤ n → core_steps n Unseen c ≤ 219 * n + 200
-core_most n (Core.Mutex c) some h k = omega (arith, some, mutex_most c.phase h)
-core_most n (Core.Rw c) some h k = rw_most n c.phase some h k
-core_most n (Core.Late p) some h k = late_most n p
-core_most n (Core.Upgrade c) some h k = upgrade_most n c.phase some h k
+quits_most : (n : ℕ) (o : Option Bool) → quits_steps n o ≤ 110 * n + 11
+quits_most n None = omega arith
+quits_most n (Some from) = omega arith
+
+-- a call that sleeps has no more left than rounds
+sleeper_most : (n : ℕ) (k : RwSleeper) → sleeper_rounds k ≤ 10 → (sleeper_asleep k ≡ true) × IsReadySleeper k → sleeper_steps n Unseen k ≤ 20
+sleeper_most n k few (e, r) = by_sleeper (λ k. sleeper_rounds k ≤ 10 → sleeper_steps n Unseen k ≤ 20) (λ want b. omega arith) (λ rounds b. omega (arith, b)) (λ want i b. omega arith) (λ rounds b. omega (arith, b)) k r e few
+
+late_rw_most : (n : ℕ) (p : LateRwPhase) → 1 ≤ n → late_rw_rounds p ≤ 10 → IsGoodLate p → late_rw_steps n Unseen p ≤ 219 * n + 200
+late_rw_most n (LateRwPhase.Expires k) some few good = omega (arith, sleeper_most n k few good, quits_most n (pending_from k))
+late_rw_most n (LateRwPhase.Quits k) some few good = omega (arith, quits_most n (pending_from k))
+late_rw_most n p some few good = omega arith
+
+pub core_most : (n x : ℕ) (c : Core) → IsGood c x → 1 ≤ n → FewRounds c → taken_count c ≤ n → core_steps n Unseen c ≤ 219 * n + 200
+core_most n x (Core.Mutex c) good some h k = omega (arith, some, mutex_most c.phase h)
+core_most n x (Core.Rw c) good some h k = rw_most n c.phase some h k
+core_most n x (Core.Late p) good some h k = late_most n p
+core_most n x (Core.LateRw p) good some h k = late_rw_most n p some h good
+core_most n x (Core.Upgrade c) good some h k = upgrade_most n c.phase some h k
 
 -- all of a list
 pub sum_most : {X : Type 0} (f : X → ℕ) (m : ℕ) (xs : List X) → ((i : ℕ) (x : X) → slice_get xs i ≡ Some x → f x ≤ m) → sum_by f xs ≤ length xs * m
@@ -139,7 +157,7 @@ module _ (s : State) (h : FitsTogether s) where
       omega (arith, h.lots.counted t c here, taken_by-count s.wakes t, count_by-le-length (is_by t) s.wakes, h.wakes.room, count_by-le-length is_away s.calls)
 
   far_few : (t : ℕ) (c : Call) → call_at s t ≡ Some c → far_steps (length s.calls) (Some c) ≤ most_steps (length s.calls)
-  far_few t c here = core_most (length s.calls) c.core (some t c here) (h.rules.begun t c here).few (few t c here)
+  far_few t c here = core_most (length s.calls) (word_at s c.lock) c.core (is_good s h t c here) (some t c here) (h.rules.begun t c here).few (few t c here)
 
   slot_few : (t : ℕ) (o : Option Call) → slice_get s.calls t ≡ Some o → far_steps (length s.calls) o ≤ most_steps (length s.calls)
   slot_few t None at = omega arith

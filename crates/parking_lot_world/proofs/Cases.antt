@@ -31,7 +31,7 @@ module _ (s u : State) where
     elsewhere = λ i ne. q.locks i;
   }
 
-  made : FitsTogether s → (t j : ℕ) (step : AnyStep) → IsMade j t step s u → IsStepAt t j s u
+  pub made : FitsTogether s → (t j : ℕ) (step : AnyStep) → IsMade j t step s u → IsStepAt t j s u
   made h t j step m = record {
     case = subst (IsCaseAt (recursive_in s.kinds j) t (lock_at s j)) (sym m.here) (after_is_case (recursive_in s.kinds) t j step (lock_at s j) (h.rules.sound.sound j) m.allowed);
     elsewhere = m.elsewhere;

@@ -28,14 +28,17 @@ use Rattle.parking_lot_protocol.specs.declared.rw_core.RwCore.{RwCore}
 use Rattle.parking_lot_protocol.specs.declared.rw_phase.RwPhase.{RwPhase}
 use Rattle.parking_lot_world.specs.declared.calls.LockKind.{LockKind}
 use Rattle.parking_lot_world.specs.declared.open_call.Call.{Call}
+use Rattle.parking_lot_world.specs.declared.late_rw.LateRwPhase.{LateRwPhase}
+use Rattle.parking_lot_world.specs.declared.late_rw.RwSleeper.{RwSleeper}
 use Rattle.parking_lot_world.specs.declared.seat.LatePhase.{LatePhase}
 use Rattle.parking_lot_world.specs.declared.seat.Core.{Core}
 use Rattle.parking_lot_world.specs.declared.seat.Hold.{Hold}
 use Rattle.parking_lot_world.specs.declared.seat.QueuePosition.{QueuePosition}
 use Rattle.parking_lot_world.specs.Kinds.{Manner, AsMutex, AsRw, manner_of}
+use Rattle.parking_lot_world.specs.LateRoles.{late_rw_role, sleeper_role, stays}
 use Rattle.parking_lot_world.specs.RowFits.{IsOfKind, IsOfManner}
 use Rattle.parking_lot_world.specs.Rows.{State, word_at, hold_at, call_at, everybody, taken_by, owned_of, owns_mutex, rw_spot, mutex_spot, first_of_all, mark_of, late_role, rw_role_in, mutex_role_in, rw_core_role, mutex_core_role, mutex_word_of, any_lock, lock_as, lock_at, queue_at}
-use Rattle.parking_lot_world.specs.Stances.{Asleep, core_next, late_next, late_stance, mutex_stance, rw_stance, seeks_stance, stance, upgrade_stance}
+use Rattle.parking_lot_world.specs.Stances.{Asleep, core_next, late_next, late_rw_stance, late_stance, lying, mutex_stance, pending_from, quits_as, rw_stance, seeks_stance, sleeper_stance, stance, upgrade_stance}
 use Rattle.parking_lot_world.proofs.Everybody.{all, change-all, get-all, same-all}
 
 -- What the machine shows of a kind of locks. C is the core of a call at one, R what a thread is to it, and L the lock of the rules. A thread is
@@ -112,43 +115,87 @@ pub mutex_stays : (us : List ℕ) (k : MutexCall) (at : QueuePosition) → ((key
 mutex_stays us (Plain k) at h = mutex_listed (first_of_all us) k.phase at h
 mutex_stays us (Late p) at h = late_listed p at h
 
--- a call at a reader-writer lock, of shared and exclusive holds or of the upgradable one
+-- a call at a reader-writer lock, of shared and exclusive holds or of the upgradable one, or one whose moment has passed
 pub data RwCall : Type 0 where
   Simple : RwCore → RwCall
   Upgradable : UpgradeCore → RwCall
+  Tardy : LateRwPhase → RwCall
 
 abbrev pub rw_call : RwCall → Core
 rw_call (Simple k) = Core.Rw k
 rw_call (Upgradable k) = Core.Upgrade k
+rw_call (Tardy p) = Core.LateRw p
 
 pub rw_manner : (o : Option Manner) (k : RwCall) → IsOfManner o (rw_call k) → o ≡ Some AsRw
 rw_manner o (Simple k) e = e
 rw_manner o (Upgradable k) e = e
+rw_manner o (Tardy p) e = e
 
 pub rw_only : (x : Core) → IsOfManner (Some AsRw) x → (k : RwCall) × (x ≡ rw_call k)
 rw_only (Core.Rw k) e = (Simple k, refl)
 rw_only (Core.Upgrade k) e = (Upgradable k, refl)
+rw_only (Core.LateRw p) e = (Tardy p, refl)
 rw_only (Core.Mutex k) e = absurd cc
 rw_only (Core.Late p) e = absurd cc
+
+-- one that slept before its moment passed
+abbrev pub as_call : RwSleeper → RwCall
+as_call (RwSleeper.Simple k) = Simple k
+as_call (RwSleeper.Upgradable k) = Upgradable k
+
+abbrev pub sleeper_next : RwSleeper → ActResult → RwCall
+sleeper_next (RwSleeper.Simple k) told = Simple (record k { phase = rw_table.next_phase k.phase told })
+sleeper_next (RwSleeper.Upgradable k) told = Upgradable (record k { phase = upgrade_table.next_phase k.phase told })
+
+abbrev pub tardy_next : LateRwPhase → ActResult → RwCall
+tardy_next (LateRwPhase.Expires k) (ActResult.Woken token) = sleeper_next k (ActResult.Woken token)
+tardy_next (LateRwPhase.Expires k) ActResult.Entered = Tardy (LateRwPhase.Quits k)
+tardy_next (LateRwPhase.Quits k) (ActResult.Took token left) = Tardy (quits_as (pending_from k) left)
+tardy_next LateRwPhase.Masks (ActResult.Before word) = Tardy LateRwPhase.Leaves
+tardy_next LateRwPhase.Leaves ActResult.Made = Tardy LateRwPhase.GivesUp
+tardy_next (LateRwPhase.LeavesPending from) ActResult.Made = Upgradable (record { phase = UpgradePhase.YieldLoads from })
+tardy_next p told = Simple (record { phase = RwPhase.Invalid })
 
 -- what follows what one is told
 abbrev pub rw_next : RwCall → ActResult → RwCall
 rw_next (Simple k) told = Simple (record k { phase = rw_table.next_phase k.phase told })
 rw_next (Upgradable k) told = Upgradable (record k { phase = upgrade_table.next_phase k.phase told })
+rw_next (Tardy p) told = tardy_next p told
+
+tardy_is : (p : LateRwPhase) (told : ActResult) → core_next (Core.LateRw p) told ≡ rw_call (tardy_next p told)
+tardy_is (LateRwPhase.Expires (RwSleeper.Simple k)) (ActResult.Woken token) = refl
+tardy_is (LateRwPhase.Expires (RwSleeper.Upgradable k)) (ActResult.Woken token) = refl
+tardy_is (LateRwPhase.Expires k) ActResult.Entered = refl
+tardy_is (LateRwPhase.Quits k) (ActResult.Took token left) = refl
+tardy_is LateRwPhase.Masks (ActResult.Before word) = refl
+tardy_is LateRwPhase.Leaves ActResult.Made = refl
+tardy_is (LateRwPhase.LeavesPending from) ActResult.Made = refl
+tardy_is p told = refl
 
 pub next_is : (k : RwCall) (told : ActResult) → core_next (rw_call k) told ≡ rw_call (rw_next k told)
 next_is (Simple k) told = refl
 next_is (Upgradable k) told = refl
+next_is (Tardy p) told = tardy_is p told
 
 pub mutex_only : (x : Core) → IsOfManner (Some AsMutex) x → (k : MutexCall) × (x ≡ mutex_call k)
 mutex_only (Core.Mutex k) e = (Plain k, refl)
 mutex_only (Core.Late p) e = (Late p, refl)
 mutex_only (Core.Rw k) e = absurd cc
 mutex_only (Core.Upgrade k) e = absurd cc
+mutex_only (Core.LateRw p) e = absurd cc
+
+sleeper_listed : (n : ℕ) (us : List ℕ) (k : RwSleeper) (at : QueuePosition) → ((key : ℕ) (token : ParkToken) → sleeper_stance k ≡ Asleep key token → at ≡ QueuePosition.Listed) → sleeper_role n (rw_spot at) us k ≡ sleeper_role n of_rw.Listed us k
+sleeper_listed n us (RwSleeper.Simple k) at h = rw_listed n us k.phase at h
+sleeper_listed n us (RwSleeper.Upgradable k) at h = upgrade_listed n us k.phase at h
+
+tardy_listed : (n : ℕ) (us : List ℕ) (p : LateRwPhase) (at : QueuePosition) → ((key : ℕ) (token : ParkToken) → late_rw_stance p ≡ Asleep key token → at ≡ QueuePosition.Listed) → late_rw_role n (rw_spot at) us p ≡ late_rw_role n of_rw.Listed us p
+tardy_listed n us (LateRwPhase.Expires k) at h = ap (stays LateStill) (sleeper_listed n us k at (λ key token e. h key token (ap lying e)))
+tardy_listed n us p at h = refl
 
 pub call_listed : (n : ℕ) (us : List ℕ) (k : RwCall) (at : QueuePosition) → ((key : ℕ) (token : ParkToken) → stance (rw_call k) ≡ Asleep key token → at ≡ QueuePosition.Listed) → rw_core_role n at us (rw_call k) ≡ rw_core_role n QueuePosition.Listed us (rw_call k)
 call_listed n us (Simple k) at h = rw_listed n us k.phase at h
 call_listed n us (Upgradable k) at h = upgrade_listed n us k.phase at h
+call_listed n us (Tardy p) at h = tardy_listed n us p at h
 
 abbrev pub of_rws : Kind RwCall Role Lock
 of_rws = record {

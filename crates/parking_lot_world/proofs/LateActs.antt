@@ -1,5 +1,5 @@
 -- The acts of a call whose moment has passed: each keeps the machine fit, and is a step of the rules.
-use Rattle.std.proofs.Common.{◌≡◌, ℕ, zero, suc, ◌+◌, ◌*◌, ◌≤◌, ◌==◌, inl, inr, Bool, true, false, cond, List, [], ◌∷◌, length, remove, Option, Some, None, slice_get, slice_set, sum_by, refl, sym, ap, ◌∙◌, subst, arith, eqb-true, eq-eqb}
+use Rattle.std.proofs.Common.{◌≡◌, ℕ, zero, suc, ◌+◌, ◌*◌, ◌≤◌, ◌<◌, ◌≢◌, ◌==◌, ◌||◌, inl, inr, Bool, true, false, cond, List, [], ◌∷◌, length, remove, Option, Some, None, is_some, slice_get, slice_set, sum_by, refl, sym, ap, ◌∙◌, subst, arith, eqb-true, eq-eqb}
 use Rattle.std.specs.List.{position_or_len}
 use Rattle.std.specs.Option.{option_and_then, option_map}
 use Rattle.std.proofs.lemmas.Bool.{cases_eq, ne_eqb}
@@ -11,7 +11,7 @@ use Rattle.parking_lot_core_lot.specs.declared.place.Phase.{Phase}
 use Rattle.parking_lot_core_lot.specs.declared.place.Place.TheVariants.{Running, Waiting}
 use Rattle.parking_lot_core_lot.specs.declared.place.Section.{Section}
 use Rattle.parking_lot_core_lot.specs.declared.place.Waiter.{Waiter}
-use Rattle.parking_lot_core_lot.specs.Machine.{Machine, is_thread, threads_of}
+use Rattle.parking_lot_core_lot.specs.Machine.{Machine, is_thread, stored, threads_of}
 use Rattle.parking_lot_core_lot.specs.Places.{place_at}
 use Rattle.parking_lot_core_lot.specs.Results.{is_left}
 use Rattle.parking_lot_core_lot.specs.Sound as lot
@@ -19,53 +19,72 @@ use Rattle.parking_lot_core_lot.specs.Sound.{times_at}
 use Rattle.parking_lot_core_lot.proofs.Kept.{updated_at, updated_other}
 use Rattle.parking_lot_core_lot.proofs.Numbers.{flag, first_passes}
 use Rattle.parking_lot_core_lot.proofs.Sounds.{place_at-set_same, place_at-set_other}
-use Rattle.parking_lot_rules.specs.Any.{Mx, MxStep}
+use Rattle.parking_lot_rules.specs.Any.{AnyStep, Mx, MxStep, Rw, any_after, any_allowed, any_crossing}
+use Rattle.parking_lot_rules.specs.Classes.{bit}
+use Rattle.parking_lot_rules.specs.Steps.{first_after, listing_from, listing_to}
 use Rattle.parking_lot_rules.specs.Roles.{Back}
 use Rattle.parking_lot_rules.specs.Mutex as mutex
 use Rattle.parking_lot_protocol.specs.Acts.{word_after}
 use Rattle.parking_lot_protocol.specs.MutexRules as of_mutex
-use Rattle.parking_lot_protocol.specs.declared.act.Act.TheVariants as act
+use Rattle.parking_lot_protocol.specs.RwRules as of_rw
+use Rattle.parking_lot_protocol.specs.declared.mutex_core.MutexCore.{MutexCore}
+use Rattle.parking_lot_protocol.specs.declared.act.Act.{Act}
 use Rattle.parking_lot_protocol.specs.declared.act.SectionAct.TheVariants as section
 use Rattle.parking_lot_protocol.specs.declared.act.ActResult.TheVariants as seen
 use Rattle.parking_lot_protocol.specs.declared.act.ActResult.{ActResult}
 use Rattle.parking_lot_protocol.specs.declared.mutex_phase.MutexPhase.{MutexPhase}
+use Rattle.parking_lot_world.specs.declared.late_rw.LateRwPhase.{LateRwPhase}
+use Rattle.parking_lot_world.specs.declared.late_rw.RwSleeper.{RwSleeper}
 use Rattle.parking_lot_world.specs.declared.seat.LatePhase.{LatePhase}
 use Rattle.parking_lot_world.specs.declared.seat.Core.{Core}
 use Rattle.parking_lot_world.specs.declared.seat.QueuePosition.{QueuePosition}
 use Rattle.parking_lot_world.specs.declared.open_call.Call.{Call}
 use Rattle.parking_lot_world.specs.ActLaws.{Acts}
 use Rattle.parking_lot_world.specs.Kinds.{AsMutex, manner_of, recursive_in}
-use Rattle.parking_lot_world.specs.LateActs.{expired, others_left, out_of_list, quitted, quitted_as, returned}
-use Rattle.parking_lot_world.specs.LateLaws.{Expires, LateActsAreSteps}
-use Rattle.parking_lot_world.specs.Ranks.{Pays, core_steps, far_steps, late_steps, own_steps, steps_left, view_of}
-use Rattle.parking_lot_world.specs.RowActs.{hears, key_of}
-use Rattle.parking_lot_world.specs.RowFits.{FitsTogether, IsOfKind, IsPrepared, LotFits, RulesFit, WaitsIn, WakesSome}
-use Rattle.parking_lot_world.specs.RowSteps.{IsLateMove, IsMade}
-use Rattle.parking_lot_world.specs.Rows.{State, call_at, first_of_all, inside, late_role, mutex_at, mutex_spot, queue_at, taken_by, word_at}
-use Rattle.parking_lot_world.specs.Stances.{In, Joined, Stores, Takes, Tells, core_act, core_next, sign, stance, taken_count}
+use Rattle.parking_lot_world.specs.LateActs.{comes_late, expired, is_back, is_pending, is_sleeping, late_comes, late_is_back, late_key, late_of, late_rw_comes, late_rw_is_back, others_left, out_of_list, quitted, quitted_as, returned, sleeps_in_time}
+use Rattle.parking_lot_world.specs.LateLaws.{Expires, LateActsAreSteps, expire_step}
+use Rattle.parking_lot_world.specs.LateRoles.{expiring as expiring_step}
+use Rattle.parking_lot_world.specs.LateRoles.{expires_as, late_rw_role, quitting, quitting_as, reentering, sleeper_role, sleeper_wants}
+use Rattle.parking_lot_world.specs.Ranks.{Pays, Unseen, core_steps, far_steps, late_cost, own_steps, steps_left, view_of}
+use Rattle.parking_lot_world.specs.RowActs.{hears, with_call, with_lot}
+use Rattle.parking_lot_world.specs.RowFits.{FitsTogether, IsOfKind, IsPrepared, LotFits, RulesFit, WaitsIn, sleeper_prepared}
+use Rattle.parking_lot_world.specs.RowSteps.{IsLateMove, IsMade, IsMoveOf}
+use Rattle.parking_lot_world.specs.Rows.{State, call_at, first_of_all, inside, late_role, mutex_at, mutex_spot, queue_at, rw_lock_at, rw_spot, taken_by, word_at}
+use Rattle.parking_lot_world.specs.Stances.{Asleep, In, Joined, Stores, Takes, Tells, core_next, pending_from, quits_as, sign, sleeper_asleep, stance}
 use Rattle.parking_lot_world.proofs.Calling.{call_of, call-elsewhere, calls-change}
-use Rattle.parking_lot_world.proofs.KindTable.{Late, of_mutexes, same}
+use Rattle.parking_lot_world.proofs.KindTable.{Kind, Tardy, as_call, of_mutexes, of_rws, roles_at, rw_call, same, shown}
+use Rattle.parking_lot_world.proofs.KindTable.{Late as CallLate}
+use Rattle.parking_lot_world.proofs.LateKinds.{Comes, IsBack, Lapses, Quits, backs, comes, lapses, quits_less, quits_so, returns_less, sleeper_plays}
+use Rattle.parking_lot_world.proofs.LateRules.{expire_crosses, expire_writes, may_expire_so, may_reenter_so, quit_lists, reenter_crosses, reenter_writes}
 use Rattle.parking_lot_world.proofs.LateLots.{expired_fits, quit_fits, returned_fits}
 use Rattle.parking_lot_world.proofs.LotActs.{seat_of}
 use Rattle.parking_lot_world.proofs.LotLists.{one_key}
-use Rattle.parking_lot_world.proofs.Making.{made, made_sound}
-use Rattle.parking_lot_world.proofs.Meeting.{in_range, plays, plays_late}
+use Rattle.parking_lot_world.proofs.Making.{Crossed, made, made_sound}
+use Rattle.parking_lot_world.proofs.Meeting.{in_range, meets, plays, plays_late}
 use Rattle.parking_lot_world.proofs.MutexMoving.{total_of_nobody}
-use Rattle.parking_lot_world.proofs.OwnActs.{nobody_in_mutex}
+use Rattle.parking_lot_world.proofs.OwnActs.{nobody_first, nobody_in_mutex, nobody_second}
 use Rattle.parking_lot_world.proofs.Owning.{OwnAct, own-elsewhere, own-there, own_after}
 use Rattle.parking_lot_world.proofs.Passing.{own_passes}
 use Rattle.parking_lot_world.proofs.Paying.{call-within, pays}
+use Rattle.parking_lot_world.proofs.RwCalls.{call_role}
 use Rattle.parking_lot_world.proofs.Ruling.{CallFits, Fitted, call_fits, rules_after, rules_own}
 use Rattle.parking_lot_world.proofs.Summing.{others_change, others_same}
 use Rattle.parking_lot_world.proofs.TakeParts.{others_out, out_knows}
 use Rattle.parking_lot_world.proofs.WakesActs.{wakes_still}
 use Rattle.parking_lot_world.proofs.WakesKept.{wakes_own}
 
-abbrev parked : ParkToken
-parked = record { 0 = 0 }
+sleep_wakes : Act.Sleep ≡ Act.Section section.Wake → ⊥
+sleep_wakes e = cc
 
-abbrev sleeps : Core
-sleeps = Core.Mutex (record { phase = MutexPhase.Sleeps })
+lies_takes : {j k : ℕ} {park : ParkToken} → Asleep j park ≡ In k Takes → ⊥
+lies_takes e = cc
+
+joined_takes : {j k : ℕ} {park : ParkToken} → In j (Joined park) ≡ In k Takes → ⊥
+joined_takes e = cc
+
+role_so : (n : ℕ) (at : QueuePosition) (us : List ℕ) (k : RwSleeper) → call_role n at us (as_call k) ≡ sleeper_role n (rw_spot at) us k
+role_so n at us (RwSleeper.Simple c) = refl
+role_so n at us (RwSleeper.Upgradable c) = refl
 
 -- LISTS AND THEIR THREADS
 
@@ -86,16 +105,28 @@ none_left : (q : List Waiter) → is_left q ≡ false → length q ≡ 0
 none_left [] e = refl
 none_left (w ∷ q) e = absurd cc
 
+-- AT A LOCK OF ANY KIND
+
+module _ {C R L : Type 0} (K : Kind C R L) (s u : State) (t : ℕ) (c : Call) (told : ActResult) (q : C) (at : QueuePosition) (a : OwnAct s u t c told (K.core q) at) (kind_is : manner_of (slice_get s.kinds c.lock) ≡ Some K.manner) where
+  -- an act that leaves the word, and what it leads to
+  lapse_made : (step : AnyStep) → word_at u c.lock ≡ word_at s c.lock → any_allowed (recursive_in s.kinds) c.lock t step (K.any (shown K s c.lock))
+      → K.any (K.lock (word_at s c.lock) (slice_set (roles_at K s c.lock) t (K.plays c.others QueuePosition.Listed (taken_by s.wakes t) q)) (queue_at u (2 * c.lock)) (queue_at u (2 * c.lock + 1))) ≡ any_after t step (K.any (shown K s c.lock)) → Crossed (any_crossing step) t (inside s) (inside u) → IsMade c.lock t step s u
+  lapse_made step word allowed leads crossed =
+      made K s u t c.lock (own-there s u t c told _ at a) (own-elsewhere s u t c told _ at a) kind_is step allowed (ap K.any (own_after K s u t c told q at a (word_at s c.lock) word) ∙ leads) crossed
+
 -- THE MOMENT PASSES
 
-module _ (s : State) (t : ℕ) (c : Call) (core : c.core ≡ sleeps) (listed : c.spot ≡ QueuePosition.Listed) (h : FitsTogether s) (here : call_at s t ≡ Some c) where
+module _ (s : State) (t : ℕ) (c : Call) (asleep : sleeps_in_time c.core ≡ true) (listed : c.spot ≡ QueuePosition.Listed) (h : FitsTogether s) (here : call_at s t ≡ Some c) where
   abbrev late_call : Call
-  late_call = record c { core = Core.Late LatePhase.Expires }
+  late_call = record c { core = late_of c.core }
 
   abbrev late_state : State
   late_state = expired s t c
 
-  own_expired : OwnAct s late_state t c seen.Made (Core.Late LatePhase.Expires) c.spot
+  lapse : Lapses (recursive_in s.kinds c.lock) c.others c.core
+  lapse = lapses (recursive_in s.kinds c.lock) c.others c.core asleep (h.rules.prepared t c here)
+
+  own_expired : OwnAct s late_state t c seen.Made (late_of c.core) c.spot
   own_expired = record {
     here = here;
     calls = refl;
@@ -103,20 +134,44 @@ module _ (s : State) (t : ℕ) (c : Call) (core : c.core ≡ sleeps) (listed : c
     wakes = refl;
     holds = refl;
     sizes = refl;
-    word = sym (ap (λ x. word_after (core_act x) seen.Made (word_at s c.lock)) core);
+    word = sym (ap (λ a. word_after a seen.Made (word_at s c.lock)) lapse.act);
     words = λ i ne. refl;
     queues = λ i k ne b. refl;
     listed = λ k token e. listed;
   }
 
-  mutex_there : manner_of (slice_get s.kinds c.lock) ≡ Some AsMutex
-  mutex_there = subst (IsOfKind (slice_get s.kinds c.lock)) core (h.rules.kinds t c here)
+  expired_of : (x : Core) → c.core ≡ x → OwnAct s late_state t c seen.Made (late_of x) c.spot
+  expired_of x e = subst (λ (y : Core). OwnAct s late_state t c seen.Made (late_of y) c.spot) e own_expired
 
-  expiring : IsMade c.lock t (MxStep (mutex.Alone mutex.Expire)) s late_state
-  expiring =
-      made of_mutexes s late_state t c.lock (own-there s late_state t c seen.Made _ c.spot own_expired) (own-elsewhere s late_state t c seen.Made _ c.spot own_expired) mutex_there (MxStep (mutex.Alone mutex.Expire))
-      ((plays s h t c (record { phase = MutexPhase.Sleeps }) core here).here ∙ ap (λ at. Some (of_mutex.role (mutex_spot at) (first_of_all (taken_by s.wakes t)) MutexPhase.Sleeps)) listed, tt)
-      (ap Mx (own_after of_mutexes s late_state t c seen.Made (Late LatePhase.Expires) c.spot own_expired (word_at s c.lock) refl)) refl
+  expiring_mutex : (q : MutexPhase) (y : MutexCore) → c.core ≡ Core.Mutex (record y { phase = q }) → is_sleeping q ≡ true → IsMade c.lock t (MxStep (mutex.Alone mutex.Expire)) s late_state
+  expiring_mutex MutexPhase.Sleeps y e is =
+      let z : MutexCore = record y { phase = MutexPhase.Sleeps } in
+      lapse_made of_mutexes s late_state t c seen.Made (CallLate LatePhase.Expires) c.spot (expired_of (Core.Mutex z) e) (subst (IsOfKind (slice_get s.kinds c.lock)) e (h.rules.kinds t c here)) (MxStep (mutex.Alone mutex.Expire)) refl
+      ((plays s h t c z e here).here ∙ ap (λ at. Some (of_mutex.role (mutex_spot at) (first_of_all (taken_by s.wakes t)) MutexPhase.Sleeps)) listed, tt) refl refl
+  expiring_mutex q y e is = absurd cc
+
+  expiring_rw : (k : RwSleeper) → c.core ≡ rw_call (as_call k) → late_of c.core ≡ Core.LateRw (LateRwPhase.Expires k) → sleeper_asleep k ≡ true → sleeper_prepared (recursive_in s.kinds c.lock) c.others k → IsMade c.lock t (expiring_step k) s late_state
+  expiring_rw k e next slept ready =
+      let us = taken_by s.wakes t in
+      let role = sleeper_plays (recursive_in s.kinds c.lock) c.others us k slept ready in
+      let kind_is = of_rws.of_kind (slice_get s.kinds c.lock) (as_call k) (subst (IsOfKind (slice_get s.kinds c.lock)) e (h.rules.kinds t c here)) in
+      let mine : slice_get (rw_lock_at s c.lock).roles t ≡ Some (sleeper_role c.others of_rw.Listed us k) =
+      (meets s h t c (as_call k) e here).here ∙ ap (λ at. Some (call_role c.others at us (as_call k))) listed ∙ ap Some (role_so c.others QueuePosition.Listed us k) in
+      let step = expires_as (pending_from k) (sleeper_wants k) in
+      lapse_made of_rws s late_state t c seen.Made (Tardy (LateRwPhase.Expires k)) c.spot (subst (λ (y : Core). OwnAct s late_state t c seen.Made y c.spot) next own_expired) kind_is (expiring_step k) refl
+      (mine ∙ ap Some role.0, may_expire_so (recursive_in s.kinds c.lock) (pending_from k) (sleeper_wants k) (rw_lock_at s c.lock))
+      (ap (λ r. Rw (record (rw_lock_at s c.lock) { roles = slice_set (rw_lock_at s c.lock).roles t r })) role.1 ∙ expire_writes (pending_from k) (sleeper_wants k) (rw_lock_at s c.lock) t)
+      (expire_crosses (pending_from k) (sleeper_wants k) t (inside s))
+
+  expiring : IsMade c.lock t (expire_step c.core) s late_state
+  expiring = go c.core refl asleep
+    where
+      go : (x : Core) → c.core ≡ x → sleeps_in_time x ≡ true → IsMade c.lock t (expire_step x) s late_state
+      go (Core.Mutex k) e is = expiring_mutex k.phase k e is
+      go (Core.Rw k) e is = expiring_rw (RwSleeper.Simple k) e (ap late_of e) is (subst (IsPrepared (recursive_in s.kinds c.lock) c.others) e (h.rules.prepared t c here))
+      go (Core.Upgrade k) e is = expiring_rw (RwSleeper.Upgradable k) e (ap late_of e) is (subst (IsPrepared (recursive_in s.kinds c.lock) c.others) e (h.rules.prepared t c here))
+      go (Core.Late p) e is = absurd cc
+      go (Core.LateRw p) e is = absurd cc
 
   expired_rules : RulesFit late_state
   expired_rules = rules_after s late_state c.lock h.rules (record {
@@ -125,22 +180,25 @@ module _ (s : State) (t : ℕ) (c : Call) (core : c.core ≡ sleeps) (listed : c
     holds = refl;
     words = refl;
     calls = λ v e is. calls-change (λ x f. CallFits s.kinds s.lot.queues f) s.calls t c late_call here (λ x f ne at. call_fits s h.rules x f at)
-        (record { kind = mutex_there; prepared = subst (IsPrepared (recursive_in s.kinds c.lock) c.others) core (h.rules.prepared t c here); knows = tt; beside = h.rules.beside t c here; begun = record { begun = refl; few = omega arith } }) v e is;
+        (record { kind = lapse.kind (manner_of (slice_get s.kinds c.lock)) (h.rules.kinds t c here); prepared = lapse.prepared; knows = lapse.knows s.lot.queues c.lock; beside = h.rules.beside t c here; begun = record { begun = lapse.begun; few = lapse.few (h.rules.begun t c here).few } }) v e is;
     few = h.rules.few;
     elsewhere = λ i ne. refl;
     bits = h.rules.bits c.lock;
-    sound = made_sound s late_state t c.lock (MxStep (mutex.Alone mutex.Expire)) expiring h.rules.sound;
+    sound = made_sound s late_state t c.lock (expire_step c.core) expiring h.rules.sound;
   })
 
   -- how many steps it adds
-  expired_costs : (v : ℕ) → steps_left late_state v ≤ steps_left s v + 5
+  expired_costs : (v : ℕ) → steps_left late_state v ≤ steps_left s v + late_cost (length s.calls) c.core
   expired_costs v = elim (cases_eq v t) [
-    | inl e ↦ subst (λ x. steps_left late_state x ≤ steps_left s x + 5) (sym e)
+    | inl e ↦ subst (λ x. steps_left late_state x ≤ steps_left s x + late_cost (length s.calls) c.core) (sym e)
         (omega (
           arith,
           ap (own_steps late_state t) (call-within s.calls t (Some late_call) (in_range s t c here)),
+          ap (own_steps s t) here,
+          ap (λ m. core_steps m (view_of s t c) (late_of c.core)) (length-set s.calls t (Some late_call)),
           ap (λ m. sum_by (far_steps m) (slice_set late_state.calls t None)) (length-set s.calls t (Some late_call)),
           others_same (length s.calls) s.calls t (Some late_call),
+          lapse.costs (length s.calls) (view_of s t c),
         ))
     | inr ne ↦
         omega (
@@ -148,7 +206,7 @@ module _ (s : State) (t : ℕ) (c : Call) (core : c.core ≡ sleeps) (listed : c
           ap (own_steps late_state v) (call-elsewhere s.calls t v (Some late_call) ne),
           same_own v (call_at s v),
           ap (λ m. sum_by (far_steps m) (slice_set late_state.calls v None)) (length-set s.calls t (Some late_call)),
-          others_change (length s.calls) s.calls v t 5 (Some late_call) (omega arith),
+          others_change (length s.calls) s.calls v t (late_cost (length s.calls) c.core) (Some late_call) (omega (arith, lapse.costs (length s.calls) Unseen, ap (far_steps (length s.calls)) here)),
         )
   ]
     where
@@ -157,13 +215,13 @@ module _ (s : State) (t : ℕ) (c : Call) (core : c.core ≡ sleeps) (listed : c
       same_own v (Some d) = ap (λ n. core_steps n (view_of s v d) d.core) (length-set s.calls t (Some late_call))
 
   expired_lots : LotFits late_state
-  expired_lots = expired_fits s t c late_call 0 parked h.lots here (ap stance core) refl refl refl (sym (ap taken_count core)) (λ e. absurd cc)
+  expired_lots = expired_fits s t c late_call lapse.key lapse.park h.lots here lapse.lies lapse.lies_on refl refl (lapse.none_on ∙ sym lapse.none) (λ e. absurd (sleep_wakes (sym lapse.act_on ∙ e)))
 
   pub expires : Expires t c s late_state
   expires = record {
     fits = record {
       lots = expired_lots;
-      passes = own_passes s late_state t c seen.Made (Core.Late LatePhase.Expires) c.spot own_expired expired_lots h.passes (inr (inr (refl, λ key. refl))) (λ k o e. absurd cc);
+      passes = own_passes s late_state t c seen.Made (late_of c.core) c.spot own_expired expired_lots h.passes (inr (inr (refl, λ key. refl))) (λ k o e. absurd (lies_takes (sym lapse.lies_on ∙ e)));
       wakes = wakes_still s late_state t c late_call h.wakes here refl refl refl;
       rules = expired_rules;
     };
@@ -173,9 +231,12 @@ module _ (s : State) (t : ℕ) (c : Call) (core : c.core ≡ sleeps) (listed : c
 
 -- IT COMES BACK
 
-module _ (s : State) (t : ℕ) (c : Call) (core : c.core ≡ Core.Late LatePhase.Expires) (listed : c.spot ≡ QueuePosition.Listed) (free : s.lot.section ≡ None) (sound : lot.Sound (returned s t c).lot) (h : FitsTogether s) (here : call_at s t ≡ Some c) where
+module _ (s : State) (t : ℕ) (c : Call) (late : comes_late c.core ≡ true) (listed : c.spot ≡ QueuePosition.Listed) (free : s.lot.section ≡ None) (sound : lot.Sound (returned s t c).lot) (h : FitsTogether s) (here : call_at s t ≡ Some c) where
   abbrev back_state : State
   back_state = returned s t c
+
+  come : Comes (recursive_in s.kinds c.lock) c.others c.core
+  come = comes (recursive_in s.kinds c.lock) c.others c.core late (h.rules.prepared t c here)
 
   own_back : OwnAct s back_state t c seen.Entered (core_next c.core seen.Entered) c.spot
   own_back = record {
@@ -185,59 +246,73 @@ module _ (s : State) (t : ℕ) (c : Call) (core : c.core ≡ Core.Late LatePhase
     wakes = refl;
     holds = refl;
     sizes = refl;
-    word = sym (ap (λ x. word_after (core_act x) seen.Entered (word_at s c.lock)) core);
+    word = sym (ap (λ a. word_after a seen.Entered (word_at s c.lock)) come.act);
     words = λ i ne. refl;
     queues = λ i k ne b. refl;
     listed = λ k token e. listed;
   }
 
-  back_of : OwnAct s back_state t c seen.Entered (Core.Late LatePhase.Quits) c.spot
-  back_of = subst (λ (y : Core). OwnAct s back_state t c seen.Entered (core_next y seen.Entered) c.spot) core own_back
-
-  back_kind : manner_of (slice_get s.kinds c.lock) ≡ Some AsMutex
-  back_kind = subst (IsOfKind (slice_get s.kinds c.lock)) core (h.rules.kinds t c here)
+  back_of : (x : Core) → c.core ≡ x → OwnAct s back_state t c seen.Entered (core_next x seen.Entered) c.spot
+  back_of x e = subst (λ (y : Core). OwnAct s back_state t c seen.Entered (core_next y seen.Entered) c.spot) e own_back
 
   nobody : inside s ≡ None
   nobody = ap (option_and_then (λ (x : Section). x.thread)) free
 
-  back_fitted : Fitted s back_state t c seen.Entered (Core.Late LatePhase.Expires)
-  back_fitted = (
-    made of_mutexes s back_state t c.lock (own-there s back_state t c seen.Entered _ c.spot back_of) (own-elsewhere s back_state t c seen.Entered _ c.spot back_of) back_kind (MxStep (mutex.Alone mutex.Reenter))
-        ((plays_late s h t c LatePhase.Expires core here).here ∙ ap (λ at. Some (late_role (mutex_spot at) LatePhase.Expires)) listed, total_of_nobody (mutex_at s c.lock).roles (nobody_in_mutex s h nobody c.lock back_kind))
-        (ap Mx (own_after of_mutexes s back_state t c seen.Entered (Late LatePhase.Quits) c.spot back_of (word_at s c.lock) refl)) (nobody, refl),
-    subst (IsPrepared (recursive_in s.kinds c.lock) c.others) core (h.rules.prepared t c here),
-    tt,
-    h.rules.bits c.lock,
-  )
+  back_mutex : (p : LatePhase) → c.core ≡ Core.Late p → late_comes p ≡ true → IsMoveOf (Core.Late p) c.others (taken_by s.wakes t) seen.Entered c.lock t s back_state
+  back_mutex LatePhase.Expires e is =
+      let kind_is = subst (IsOfKind (slice_get s.kinds c.lock)) e (h.rules.kinds t c here) in
+      lapse_made of_mutexes s back_state t c seen.Entered (CallLate LatePhase.Quits) c.spot (back_of (Core.Late LatePhase.Expires) e) kind_is (MxStep (mutex.Alone mutex.Reenter)) refl
+      ((plays_late s h t c LatePhase.Expires e here).here ∙ ap (λ at. Some (late_role (mutex_spot at) LatePhase.Expires)) listed, total_of_nobody (mutex_at s c.lock).roles (nobody_in_mutex s h nobody c.lock kind_is)) refl (nobody, refl)
+  back_mutex p e is = absurd cc
+
+  back_rw : (p : LateRwPhase) → c.core ≡ Core.LateRw p → late_rw_comes p ≡ true → IsMoveOf (Core.LateRw p) c.others (taken_by s.wakes t) seen.Entered c.lock t s back_state
+  back_rw (LateRwPhase.Expires k) e is =
+      let us = taken_by s.wakes t in
+      let kind_is = subst (IsOfKind (slice_get s.kinds c.lock)) e (h.rules.kinds t c here) in
+      let ready = subst (IsPrepared (recursive_in s.kinds c.lock) c.others) e (h.rules.prepared t c here) in
+      let role = sleeper_plays (recursive_in s.kinds c.lock) c.others us k ready.0 ready.1 in
+      let mine : slice_get (rw_lock_at s c.lock).roles t ≡ Some (late_rw_role c.others of_rw.Listed us (LateRwPhase.Expires k)) =
+      (meets s h t c (Tardy (LateRwPhase.Expires k)) e here).here ∙ ap (λ at. Some (call_role c.others at us (Tardy (LateRwPhase.Expires k)))) listed in
+      lapse_made of_rws s back_state t c seen.Entered (Tardy (LateRwPhase.Quits k)) c.spot (back_of (Core.LateRw (LateRwPhase.Expires k)) e) kind_is (reentering k) refl
+      (mine ∙ ap Some role.2, may_reenter_so (recursive_in s.kinds c.lock) (pending_from k) (sleeper_wants k) (rw_lock_at s c.lock) (nobody_first s h nobody c.lock kind_is) (nobody_second s h nobody c.lock kind_is))
+      (ap (λ r. Rw (record (rw_lock_at s c.lock) { roles = slice_set (rw_lock_at s c.lock).roles t r })) role.3 ∙ reenter_writes (pending_from k) (sleeper_wants k) (rw_lock_at s c.lock) t)
+      (reenter_crosses (pending_from k) (sleeper_wants k) t (inside s) nobody)
+  back_rw p e is = absurd cc
+
+  back_fitted : Fitted s back_state t c seen.Entered c.core
+  back_fitted = (go c.core refl late, come.prepared, come.knows back_state.lot.queues c.lock, h.rules.bits c.lock)
+    where
+      go : (x : Core) → c.core ≡ x → comes_late x ≡ true → IsMoveOf x c.others (taken_by s.wakes t) seen.Entered c.lock t s back_state
+      go (Core.Late p) e is = back_mutex p e is
+      go (Core.LateRw p) e is = back_rw p e is
+      go (Core.Mutex k) e is = absurd cc
+      go (Core.Rw k) e is = absurd cc
+      go (Core.Upgrade k) e is = absurd cc
 
   pub returns : (told : ActResult) × Acts t c told s back_state
   returns =
-      let lots = returned_fits s t c (hears c seen.Entered) 0 parked h.lots here (ap stance core) (ap (λ x. stance (core_next x seen.Entered)) core) refl listed listed (ap (λ x. taken_count (core_next x seen.Entered)) core ∙ sym (ap taken_count core))
-      (λ e. absurd (back_wakes (sym (ap (λ x. core_act (core_next x seen.Entered)) core) ∙ e))) free in
-      let both = rules_own s back_state t c seen.Entered c.spot own_back h (λ v e ne at. h.rules.knows v e at) (subst (Fitted s back_state t c seen.Entered) (sym core) back_fitted) in (
+      let lots = returned_fits s t c (hears c seen.Entered) (bit (is_pending c.core)) come.park h.lots here come.lies come.back refl listed listed (come.none_on ∙ sym come.none) (λ e. absurd (sleep_wakes (sym come.act_on ∙ e))) free in
+      let both = rules_own s back_state t c seen.Entered c.spot own_back h (λ v e ne at. h.rules.knows v e at) back_fitted in (
         seen.Entered,
         record {
           fits = record {
             lots = lots;
-            passes = own_passes s back_state t c seen.Entered (core_next c.core seen.Entered) c.spot own_back lots h.passes (inr (inl refl)) (λ k o e. absurd (back_takes (sym (ap (λ x. stance (core_next x seen.Entered)) core) ∙ e)));
+            passes = own_passes s back_state t c seen.Entered (core_next c.core seen.Entered) c.spot own_back lots h.passes (inr (inl refl)) (λ k o e. absurd (joined_takes (sym come.back ∙ e)));
             wakes = wakes_own s back_state t c seen.Entered (core_next c.core seen.Entered) own_back h.wakes;
             rules = both.0;
           };
           goes = both.1;
         },
       )
-    where
-      back_wakes : core_act (Core.Late LatePhase.Quits) ≡ act.Section section.Wake → ⊥
-      back_wakes e = cc
-
-      back_takes : {k : ℕ} → In 0 (Joined parked) ≡ In k Takes → ⊥
-      back_takes e = cc
 
 -- IT TAKES ITSELF OUT
 
-module _ (s : State) (t : ℕ) (c : Call) (core : c.core ≡ Core.Late LatePhase.Quits) (h : FitsTogether s) (here : call_at s t ≡ Some c) where
+module _ (s : State) (t : ℕ) (c : Call) (late : is_back c.core ≡ true) (h : FitsTogether s) (here : call_at s t ≡ Some c) where
   abbrev key : ℕ
-  key = key_of c 0
+  key = late_key c
+
+  abbrev which : ℕ
+  which = bit (is_pending c.core)
 
   abbrev q : List Waiter
   q = s.lot.queues key
@@ -245,17 +320,24 @@ module _ (s : State) (t : ℕ) (c : Call) (core : c.core ≡ Core.Late LatePhase
   abbrev i : ℕ
   i = position_or_len (is_thread t) q
 
-  stands : (o : Section) × (s.lot.section ≡ Some o) × (o.thread ≡ Some t) × (o.key ≡ 2 * c.lock + 0) × (o.phase ≡ Phase.Joined) × (c.spot ≡ QueuePosition.Listed) × WaitsIn (place_at s.lot.places t) (2 * c.lock + 0)
-  stands = let seat = seat_of s h.lots t c (In 0 (Joined parked)) here (ap stance core) in (seat.0, seat.1, seat.2, seat.3, seat.4, seat.5.0, seat.5.1)
+  two : which < 2
+  two = go (is_pending c.core)
+    where
+      go : (b : Bool) → bit b < 2
+      go true = omega arith
+      go false = omega arith
+
+  has_come : IsBack (recursive_in s.kinds c.lock) c.others c.core
+  has_come = backs (recursive_in s.kinds c.lock) c.others c.core late (h.rules.prepared t c here)
+
+  stands : (o : Section) × (s.lot.section ≡ Some o) × (o.thread ≡ Some t) × (o.key ≡ 2 * c.lock + which) × (o.phase ≡ Phase.Joined) × (c.spot ≡ QueuePosition.Listed) × WaitsIn (place_at s.lot.places t) (2 * c.lock + which)
+  stands = let seat = seat_of s h.lots t c (In which (Joined has_come.park)) here has_come.stands in (seat.0, seat.1, seat.2, seat.3, seat.4, seat.5.0, seat.5.1)
 
   -- where it stood
   stood : (w : Waiter) × (slice_get q i ≡ Some w) × (w.thread ≡ t)
   stood =
       let x = first_passes (is_thread t) q (subst (λ (n : ℕ). 1 ≤ n) (sym (h.lots.sound.waits t key ∙ (ap (times_at key) stands.6.1 ∙ ap flag (eq-eqb key key refl)))) (omega arith)) in
       (x.0, x.1, eqb-true x.0.thread t x.2)
-
-  quit_kind : manner_of (slice_get s.kinds c.lock) ≡ Some AsMutex
-  quit_kind = subst (IsOfKind (slice_get s.kinds c.lock)) core (h.rules.kinds t c here)
 
   module _ (left : Bool) (is : others_left s t c ≡ left) (sound : lot.Sound (quitted_as s t c left).lot) where
     abbrev quit_state : State
@@ -264,10 +346,14 @@ module _ (s : State) (t : ℕ) (c : Call) (core : c.core ≡ Core.Late LatePhase
     abbrev heard : ActResult
     heard = seen.Took None left
 
+    -- whether there is nothing to store
+    abbrev told_now : Bool
+    told_now = left || is_pending c.core
+
     quit_queue : (l : ℕ) → quit_state.lot.queues l ≡ (out_of_list s t c).queues l
-    quit_queue l = go left
+    quit_queue l = go told_now
       where
-        go : (b : Bool) → (quitted_as s t c b).lot.queues l ≡ (out_of_list s t c).queues l
+        go : (b : Bool) → (cond b (stored (out_of_list s t c) (sign false)) (out_of_list s t c)).queues l ≡ (out_of_list s t c).queues l
         go true = refl
         go false = refl
 
@@ -279,118 +365,150 @@ module _ (s : State) (t : ℕ) (c : Call) (core : c.core ≡ Core.Late LatePhase
       wakes = refl;
       holds = refl;
       sizes = refl;
-      word = sym (ap (λ x. word_after (core_act x) heard (word_at s c.lock)) core);
+      word = sym (ap (λ a. word_after a heard (word_at s c.lock)) has_come.act);
       words = λ j ne. refl;
-      queues = λ j k ne b. quit_queue (2 * j + k) ∙ updated_other s.lot.queues key (remove q i) (2 * j + k) (ne_eqb (2 * j + k) key (λ e. ne (one_key j c.lock k 0 b (omega arith) e).0));
+      queues = λ j k ne b. quit_queue (2 * j + k) ∙ updated_other s.lot.queues key (remove q i) (2 * j + k) (ne_eqb (2 * j + k) key (λ e. ne (one_key j c.lock k which b two e).0));
       listed = λ k token e. stands.5;
     }
 
-    quit_of : OwnAct s quit_state t c heard (core_next (Core.Late LatePhase.Quits) heard) c.spot
-    quit_of = subst (λ (y : Core). OwnAct s quit_state t c heard (core_next y heard) c.spot) core own_quit
+    quit_of : (x : Core) → c.core ≡ x → OwnAct s quit_state t c heard (core_next x heard) c.spot
+    quit_of x e = subst (λ (y : Core). OwnAct s quit_state t c heard (core_next y heard) c.spot) e own_quit
 
-    -- the list then
-    list_then : queue_at quit_state (2 * c.lock) ≡ remove (queue_at s (2 * c.lock)) i
-    list_then =
-        let same_key : 2 * c.lock ≡ key = omega arith in
-        ap (λ k. threads_of (quit_state.lot.queues k)) same_key ∙ ap threads_of (quit_queue key ∙ updated_at s.lot.queues key (remove q i)) ∙ remove_thread q i ∙ ap (λ k. remove (threads_of (s.lot.queues k)) i) (sym same_key)
+    -- the lists then
+    list_then : (l : ℕ) → l ≡ key → queue_at quit_state l ≡ remove (queue_at s l) i
+    list_then l same_key = ap (λ k. threads_of (quit_state.lot.queues k)) same_key ∙ ap threads_of (quit_queue key ∙ updated_at s.lot.queues key (remove q i)) ∙ remove_thread q i ∙ ap (λ k. remove (threads_of (s.lot.queues k)) i) (sym same_key)
 
-    stood_there : slice_get (queue_at s (2 * c.lock)) i ≡ Some t
-    stood_there = let same_key : 2 * c.lock ≡ key = omega arith in ap (λ k. slice_get (threads_of (s.lot.queues k)) i) same_key ∙ get_thread q i stood.0 stood.1 ∙ ap Some stood.2
+    list_still : (l : ℕ) → l ≢ key → queue_at quit_state l ≡ queue_at s l
+    list_still l ne = ap threads_of (quit_queue l ∙ updated_other s.lot.queues key (remove q i) l (ne_eqb l key ne))
 
-    as_many : length (queue_at s (2 * c.lock)) ≡ length (remove q i) + 1
-    as_many =
-        let same_key : 2 * c.lock ≡ key = omega arith in
-        ap (λ k. length (threads_of (s.lot.queues k))) same_key ∙ length-map q (λ (x : Waiter). x.thread) ∙ sym (length-remove q i (slice_get_within q i stood.0 stood.1))
+    stood_there : (l : ℕ) → l ≡ key → slice_get (queue_at s l) i ≡ Some t
+    stood_there l same_key = ap (λ k. slice_get (threads_of (s.lot.queues k)) i) same_key ∙ get_thread q i stood.0 stood.1 ∙ ap Some stood.2
 
-    quit_some : (d : Core) → d ≡ core_next c.core heard → WakesSome d
-    quit_some d e asked = absurd (go left (sym (ap core_act (e ∙ ap (λ x. core_next x heard) core)) ∙ asked))
-      where
-        go : (b : Bool) → core_act (Core.Late (cond b LatePhase.Leaves LatePhase.Masks)) ≡ act.Section section.Wake → ⊥
-        go true f = cc
-        go false f = cc
+    as_many : (l : ℕ) → l ≡ key → length (queue_at s l) ≡ length (remove q i) + 1
+    as_many l same_key = ap (λ k. length (threads_of (s.lot.queues k))) same_key ∙ length-map q (λ (x : Waiter). x.thread) ∙ sym (length-remove q i (slice_get_within q i stood.0 stood.1))
+
+    left_by : is_left (remove q i) ≡ left
+    left_by = sym (ap is_left (updated_at s.lot.queues key (remove q i))) ∙ is
+
+    quit_goes : Quits (recursive_in s.kinds c.lock) c.others c.core left
+    quit_goes = quits_so (recursive_in s.kinds c.lock) c.others c.core late left (h.rules.prepared t c here)
 
     quit_runs : (out : Machine) → out.places ≡ (out_of_list s t c).places → place_at out.places t ≡ Some Running
-    quit_runs out e = ap (λ ps. place_at ps t) e ∙ place_at-set_same s.lot.places t (Waiting (2 * c.lock + 0) stands.6.0) (Some Running) stands.6.1
+    quit_runs out e = ap (λ ps. place_at ps t) e ∙ place_at-set_same s.lot.places t (Waiting (2 * c.lock + which) stands.6.0) (Some Running) stands.6.1
 
     quit_others : (out : Machine) → out.places ≡ (out_of_list s t c).places → (v : ℕ) → (v == t) ≡ false → place_at out.places v ≡ place_at s.lot.places v
     quit_others out e v ne = ap (λ ps. place_at ps v) e ∙ place_at-set_other s.lot.places t v (Some Running) ne
 
-    -- the lot's side, as the last one or as one of several
+    -- the lot's side, where it has something to store, and where it hasn't
     quit_lots : LotFits quit_state
-    quit_lots = go left is sound
+    quit_lots = go told_now quit_goes.to sound
       where
         o : Section
         o = stands.0
 
-        to : (b : Bool) → stance (hears c (seen.Took None b)).core ≡ stance (Core.Late (cond b LatePhase.Leaves LatePhase.Masks))
-        to b = ap (λ x. stance (core_next x (seen.Took None b))) core
+        d : Call
+        d = hears c heard
 
-        some : (b : Bool) → WakesSome (hears c (seen.Took None b)).core
-        some true asked = absurd (let f : core_act (Core.Late LatePhase.Leaves) ≡ act.Section section.Wake = sym (ap (λ x. core_act (core_next x (seen.Took None true))) core) ∙ asked in cc)
-        some false asked = absurd (let f : core_act (Core.Late LatePhase.Masks) ≡ act.Section section.Wake = sym (ap (λ x. core_act (core_next x (seen.Took None false))) core) ∙ asked in cc)
-
-        none : (b : Bool) → taken_count (hears c (seen.Took None b)).core ≡ 0
-        none b = ap (λ x. taken_count (core_next x (seen.Took None b))) core
-
-        go : (b : Bool) → others_left s t c ≡ b → lot.Sound (quitted_as s t c b).lot → LotFits (quitted_as s t c b)
-        go true e so =
+        go : (b : Bool) → stance d.core ≡ In which (cond b (Tells (sign false)) Stores) → lot.Sound (cond b (stored (out_of_list s t c) (sign false)) (out_of_list s t c)) → LotFits (with_lot (with_call s t d) (cond b (stored (out_of_list s t c) (sign false)) (out_of_list s t c)))
+        go true to so =
             let o' : Section = record o { phase = Phase.Stored; token = sign false } in
-            quit_fits s t c (hears c (seen.Took None true)) 0 (omega arith) (Tells (sign false)) parked h.lots here (ap stance core) (to true) refl (ap taken_count core) (none true) (some true) (quitted_as s t c true).lot so refl (quit_runs (quitted_as s t c true).lot refl)
-            (quit_others (quitted_as s t c true).lot refl) o' (ap (λ x. option_map {T = Section} (λ y. record y { phase = Phase.Stored; token = sign false }) (option_map {T = Section} (λ y. record y { phase = Phase.Ended }) x)) stands.1) stands.2
+            let out = stored (out_of_list s t c) (sign false) in
+            quit_fits s t c d which two (Tells (sign false)) has_come.park h.lots here has_come.stands to refl has_come.none quit_goes.none (λ asked. absurd (quit_goes.wakes asked)) out so refl (quit_runs out refl)
+            (quit_others out refl) o' (ap (λ x. option_map {T = Section} (λ y. record y { phase = Phase.Stored; token = sign false }) (option_map {T = Section} (λ y. record y { phase = Phase.Ended }) x)) stands.1) stands.2
             (λ place runs. (o', refl, stands.2, stands.3, (refl, refl), runs))
-        go false e so =
+        go false to so =
             let o' : Section = record o { phase = Phase.Ended } in
-            quit_fits s t c (hears c (seen.Took None false)) 0 (omega arith) Stores parked h.lots here (ap stance core) (to false) refl (ap taken_count core) (none false) (some false) (quitted_as s t c false).lot so refl (quit_runs (quitted_as s t c false).lot refl)
-            (quit_others (quitted_as s t c false).lot refl) o' (ap (option_map {T = Section} (λ y. record y { phase = Phase.Ended })) stands.1) stands.2 (λ place runs. (o', refl, stands.2, stands.3, refl, runs))
+            quit_fits s t c d which two Stores has_come.park h.lots here has_come.stands to refl has_come.none quit_goes.none (λ asked. absurd (quit_goes.wakes asked)) (out_of_list s t c) so refl (quit_runs (out_of_list s t c) refl)
+            (quit_others (out_of_list s t c) refl) o' (ap (option_map {T = Section} (λ y. record y { phase = Phase.Ended })) stands.1) stands.2 (λ place runs. (o', refl, stands.2, stands.3, refl, runs))
 
     -- and the rules'
     quit_inside : inside quit_state ≡ inside s
-    quit_inside = go left
+    quit_inside = go told_now
       where
-        go : (b : Bool) → inside (quitted_as s t c b) ≡ inside s
+        go : (b : Bool) → inside (with_lot s (cond b (stored (out_of_list s t c) (sign false)) (out_of_list s t c))) ≡ inside s
         go true = ap (λ x. option_and_then (λ (y : Section). y.thread) (option_map {T = Section} (λ y. record y { phase = Phase.Stored; token = sign false }) (option_map {T = Section} (λ y. record y { phase = Phase.Ended }) x))) stands.1
             ∙ sym (ap (option_and_then (λ (y : Section). y.thread)) stands.1)
         go false = ap (λ x. option_and_then (λ (y : Section). y.thread) (option_map {T = Section} (λ y. record y { phase = Phase.Ended }) x)) stands.1 ∙ sym (ap (option_and_then (λ (y : Section). y.thread)) stands.1)
 
-    quit_made : IsLateMove LatePhase.Quits heard c.lock t s quit_state
-    quit_made = go left is own_quit quit_of quit_inside list_then
+    quit_mutex : (p : LatePhase) → c.core ≡ Core.Late p → late_is_back p ≡ true → IsMoveOf (Core.Late p) c.others (taken_by s.wakes t) heard c.lock t s quit_state
+    quit_mutex LatePhase.Quits e back = go left refl
       where
-        left_by : (b : Bool) → others_left s t c ≡ b → is_left (remove q i) ≡ b
-        left_by b e = sym (ap is_left (updated_at s.lot.queues key (remove q i))) ∙ e
+        kind_is : manner_of (slice_get s.kinds c.lock) ≡ Some AsMutex
+        kind_is = subst (IsOfKind (slice_get s.kinds c.lock)) e (h.rules.kinds t c here)
 
-        here_back : slice_get (mutex_at s c.lock).roles t ≡ Some (mutex.doing (mutex.Queued Back))
-        here_back = (plays_late s h t c LatePhase.Quits core here).here
+        first : 2 * c.lock ≡ key
+        first = omega (arith, ap (λ x. bit (is_pending x)) e)
 
-        go : (b : Bool) → others_left s t c ≡ b → (a : OwnAct s (quitted_as s t c b) t c (seen.Took None b) (core_next c.core (seen.Took None b)) c.spot)
-            → OwnAct s (quitted_as s t c b) t c (seen.Took None b) (core_next (Core.Late LatePhase.Quits) (seen.Took None b)) c.spot → inside (quitted_as s t c b) ≡ inside s
-            → queue_at (quitted_as s t c b) (2 * c.lock) ≡ remove (queue_at s (2 * c.lock)) i → IsLateMove LatePhase.Quits (seen.Took None b) c.lock t s (quitted_as s t c b)
-        go true e a a' same_inside then = (
+        mine : slice_get (mutex_at s c.lock).roles t ≡ Some (mutex.doing (mutex.Queued Back))
+        mine = (plays_late s h t c LatePhase.Quits e here).here
+
+        go : (b : Bool) → left ≡ b → IsLateMove LatePhase.Quits (seen.Took None left) c.lock t s quit_state
+        go true f = (
           i,
-          made of_mutexes s (quitted_as s t c true) t c.lock (own-there s (quitted_as s t c true) t c _ _ c.spot a) (own-elsewhere s (quitted_as s t c true) t c _ _ c.spot a) quit_kind (MxStep (mutex.Quit i))
-              (here_back, stood_there, omega (arith, as_many, some_left (remove q i) (left_by true e)))
-              (ap Mx (own_after of_mutexes s (quitted_as s t c true) t c (seen.Took None true) (Late LatePhase.Leaves) c.spot a' (word_at s c.lock) refl ∙ same of_mutexes _ _ _ _ _ _ [] [] refl refl then refl)) same_inside,
+          subst (λ b. IsMade c.lock t (MxStep (cond b (mutex.Quit i) (mutex.QuitLast i))) s quit_state) (sym f)
+              (lapse_made of_mutexes s quit_state t c heard (CallLate LatePhase.Leaves) c.spot (subst (λ b. OwnAct s quit_state t c heard (Core.Late (cond b LatePhase.Leaves LatePhase.Masks)) c.spot) f (quit_of (Core.Late LatePhase.Quits) e)) kind_is (MxStep (mutex.Quit i)) refl
+              (mine, stood_there (2 * c.lock) first, omega (arith, as_many (2 * c.lock) first, some_left (remove q i) (left_by ∙ f)))
+              (ap Mx (same of_mutexes _ _ _ _ _ _ [] [] refl refl (list_then (2 * c.lock) first) refl)) quit_inside),
         )
-        go false e a a' same_inside then = (
+        go false f = (
           i,
-          made of_mutexes s (quitted_as s t c false) t c.lock (own-there s (quitted_as s t c false) t c _ _ c.spot a) (own-elsewhere s (quitted_as s t c false) t c _ _ c.spot a) quit_kind (MxStep (mutex.QuitLast i))
-              (here_back, stood_there, omega (arith, as_many, none_left (remove q i) (left_by false e)))
-              (ap Mx (own_after of_mutexes s (quitted_as s t c false) t c (seen.Took None false) (Late LatePhase.Masks) c.spot a' (word_at s c.lock) refl ∙ same of_mutexes _ _ _ _ _ _ [] [] refl refl then refl)) same_inside,
+          subst (λ b. IsMade c.lock t (MxStep (cond b (mutex.Quit i) (mutex.QuitLast i))) s quit_state) (sym f)
+              (lapse_made of_mutexes s quit_state t c heard (CallLate LatePhase.Masks) c.spot (subst (λ b. OwnAct s quit_state t c heard (Core.Late (cond b LatePhase.Leaves LatePhase.Masks)) c.spot) f (quit_of (Core.Late LatePhase.Quits) e)) kind_is (MxStep (mutex.QuitLast i)) refl
+              (mine, stood_there (2 * c.lock) first, omega (arith, as_many (2 * c.lock) first, none_left (remove q i) (left_by ∙ f)))
+              (ap Mx (same of_mutexes _ _ _ _ _ _ [] [] refl refl (list_then (2 * c.lock) first) refl)) quit_inside),
         )
+    quit_mutex p e back = absurd cc
 
-    quit_fitted : Fitted s quit_state t c heard (Core.Late LatePhase.Quits)
-    quit_fitted = (quit_made, subst (IsPrepared (recursive_in s.kinds c.lock) c.others) core (h.rules.prepared t c here), tt, h.rules.bits c.lock)
+    quit_rw : (p : LateRwPhase) → c.core ≡ Core.LateRw p → late_rw_is_back p ≡ true → IsMoveOf (Core.LateRw p) c.others (taken_by s.wakes t) heard c.lock t s quit_state
+    quit_rw (LateRwPhase.Quits k) e back =
+        let us = taken_by s.wakes t in
+        let l = rw_lock_at s c.lock in
+        let kind_is = subst (IsOfKind (slice_get s.kinds c.lock)) e (h.rules.kinds t c here) in
+        let ready = subst (IsPrepared (recursive_in s.kinds c.lock) c.others) e (h.rules.prepared t c here) in
+        let role = sleeper_plays (recursive_in s.kinds c.lock) c.others us k ready.0 ready.1 in
+        let mine : slice_get l.roles t ≡ Some (listing_from (quitting_as (pending_from k) (sleeper_wants k) left i)) = (meets s h t c (Tardy (LateRwPhase.Quits k)) e here).here ∙ ap Some (role.4 left i).0 in
+        let pending : is_pending c.core ≡ is_some (pending_from k) = ap is_pending e in
+        let lists = quit_lists (pending_from k) (sleeper_wants k) left i t (queue_at s (2 * c.lock)) (queue_at s (2 * c.lock + 1)) (queue_at quit_state (2 * c.lock)) (queue_at quit_state (2 * c.lock + 1))
+        (λ none.
+        let first : 2 * c.lock ≡ key = omega (arith, ap bit (pending ∙ none)) in
+        let other : 2 * c.lock + 1 ≢ key = λ f. omega (arith, f, ap bit (pending ∙ none)) in
+        record {
+          stood = stood_there (2 * c.lock) first;
+          more = λ f. omega (arith, as_many (2 * c.lock) first, some_left (remove q i) (left_by ∙ f));
+          last = λ f. omega (arith, as_many (2 * c.lock) first, none_left (remove q i) (left_by ∙ f));
+          out = list_then (2 * c.lock) first;
+          still = list_still (2 * c.lock + 1) other;
+        })
+        (λ some.
+        let second : 2 * c.lock + 1 ≡ key = omega (arith, ap bit (pending ∙ some)) in
+        let other : 2 * c.lock ≢ key = λ f. omega (arith, f, ap bit (pending ∙ some)) in
+        record { stood = stood_there (2 * c.lock + 1) second; out = list_then (2 * c.lock + 1) second; still = list_still (2 * c.lock) other }) in (
+          i,
+          lapse_made of_rws s quit_state t c heard (Tardy (quits_as (pending_from k) left)) c.spot (quit_of (Core.LateRw (LateRwPhase.Quits k)) e) kind_is (quitting k left i) refl (mine, lists.0)
+              (ap (λ r. Rw (record { word = l.word; roles = slice_set l.roles t r; first = queue_at quit_state (2 * c.lock); second = queue_at quit_state (2 * c.lock + 1) })) ((role.4 left i).1 of_rw.Listed)
+              ∙ ap (λ f. Rw (record { word = l.word; roles = slice_set l.roles t (listing_to (quitting_as (pending_from k) (sleeper_wants k) left i)); first = f; second = queue_at quit_state (2 * c.lock + 1) })) lists.1
+              ∙ ap (λ f. Rw (record { word = l.word; roles = slice_set l.roles t (listing_to (quitting_as (pending_from k) (sleeper_wants k) left i)); first = first_after (quitting_as (pending_from k) (sleeper_wants k) left i) t l.first; second = f })) lists.2)
+              quit_inside,
+        )
+    quit_rw p e back = absurd cc
 
-    quit_takes : (b : Bool) (k : ℕ) → stance (Core.Late (cond b LatePhase.Leaves LatePhase.Masks)) ≡ In k Takes → ⊥
-    quit_takes true k e = cc
-    quit_takes false k e = cc
+    quit_fitted : Fitted s quit_state t c heard c.core
+    quit_fitted = (go c.core refl late, quit_goes.prepared, quit_goes.knows quit_state.lot.queues c.lock, h.rules.bits c.lock)
+      where
+        go : (x : Core) → c.core ≡ x → is_back x ≡ true → IsMoveOf x c.others (taken_by s.wakes t) heard c.lock t s quit_state
+        go (Core.Late p) e back = quit_mutex p e back
+        go (Core.LateRw p) e back = quit_rw p e back
+        go (Core.Mutex k) e back = absurd cc
+        go (Core.Rw k) e back = absurd cc
+        go (Core.Upgrade k) e back = absurd cc
 
-    quits_as : (told : ActResult) × Acts t c told s quit_state
-    quits_as =
-        let both = rules_own s quit_state t c heard c.spot own_quit h (λ v e ne at. out_knows e.core quit_state.lot.queues e.lock (others_out s h.lots t c here 0 (Joined parked) (ap stance core) v e ne at)) (subst (Fitted s quit_state t c heard) (sym core) quit_fitted) in
-        (heard, record { fits = record { lots = quit_lots; passes = own_passes s quit_state t c heard (core_next c.core heard) c.spot own_quit quit_lots h.passes (inr (inl (quit_inside ∙ ap (option_and_then (λ (x : Section). x.thread)) stands.1 ∙ stands.2))) (λ k o e. absurd (quit_takes left k (sym (ap (λ x. stance (core_next x heard)) core) ∙ e))); wakes = wakes_own s quit_state t c heard (core_next c.core heard) own_quit h.wakes; rules = both.0 }; goes = both.1 })
+    quits_as_told : (told : ActResult) × Acts t c told s quit_state
+    quits_as_told =
+        let both = rules_own s quit_state t c heard c.spot own_quit h (λ v e ne at. out_knows e.core quit_state.lot.queues e.lock (others_out s h.lots t c here which (Joined has_come.park) has_come.stands v e ne at)) quit_fitted in
+        (heard, record { fits = record { lots = quit_lots; passes = own_passes s quit_state t c heard (core_next c.core heard) c.spot own_quit quit_lots h.passes (inr (inl (quit_inside ∙ ap (option_and_then (λ (x : Section). x.thread)) stands.1 ∙ stands.2))) (λ k o e. absurd (quit_goes.takes k e)); wakes = wakes_own s quit_state t c heard (core_next c.core heard) own_quit h.wakes; rules = both.0 }; goes = both.1 })
 
   pub quits : lot.Sound (quitted s t c).lot → (told : ActResult) × Acts t c told s (quitted s t c)
-  quits sound = quits_as (others_left s t c) refl sound
+  quits sound = quits_as_told (others_left s t c) refl sound
 
 -- AND THEY ARE PAID FOR
 
@@ -401,30 +519,24 @@ module _ (s u : State) (t : ℕ) (c d : Call) (here : call_at s t ≡ Some c) (c
       pays s u t 0 c d here (ap (λ cs. call_of cs t) calls ∙ call-within s.calls t (Some d) (in_range s t c here)) (ap length calls ∙ length-set s.calls t (Some d))
       (omega (arith, ap (λ cs. sum_by (far_steps n) (slice_set cs t None)) calls, others_same n s.calls t (Some d))) (omega (arith, own))
 
-pub returns_pay : (s : State) (t : ℕ) (c : Call) → c.core ≡ Core.Late LatePhase.Expires → call_at s t ≡ Some c → Pays t s (returned s t c)
-returns_pay s t c core here =
+pub returns_pay : (s : State) (t : ℕ) (c : Call) → comes_late c.core ≡ true → call_at s t ≡ Some c → Pays t s (returned s t c)
+returns_pay s t c late here =
     let u = returned s t c in
     let d = hears c seen.Entered in
-    late_pays s u t c d here refl (omega (arith, ap (λ x. core_steps (length s.calls) (view_of u t d) (core_next x seen.Entered)) core, ap (core_steps (length s.calls) (view_of s t c)) core))
+    late_pays s u t c d here refl (returns_less (length s.calls) (view_of u t d) (view_of s t c) c.core late)
 
-pub quits_pay : (s : State) (t : ℕ) (c : Call) → c.core ≡ Core.Late LatePhase.Quits → call_at s t ≡ Some c → Pays t s (quitted s t c)
-quits_pay s t c core here = go (others_left s t c)
-  where
-    few : (b : Bool) → late_steps (cond b LatePhase.Leaves LatePhase.Masks) ≤ 3
-    few true = omega arith
-    few false = omega arith
-
-    go : (b : Bool) → Pays t s (quitted_as s t c b)
-    go b =
-        let u = quitted_as s t c b in
-        let d = hears c (seen.Took None b) in
-        late_pays s u t c d here refl (omega (arith, few b, ap (λ x. core_steps (length s.calls) (view_of u t d) (core_next x (seen.Took None b))) core, ap (core_steps (length s.calls) (view_of s t c)) core))
+pub quits_pay : (s : State) (t : ℕ) (c : Call) → is_back c.core ≡ true → call_at s t ≡ Some c → Pays t s (quitted s t c)
+quits_pay s t c late here =
+    let left = others_left s t c in
+    let u = quitted s t c in
+    let d = hears c (seen.Took None left) in
+    late_pays s u t c d here refl (quits_less (length s.calls) (view_of u t d) (view_of s t c) c.core left late)
 
 pub laws : LateActsAreSteps
 laws = record {
-  expires = λ s t c core listed h here. expires s t c core listed h here;
-  returns = λ s t c core listed free sound h here. returns s t c core listed free sound h here;
-  quits = λ s t c core sound h here. quits s t c core h here sound;
+  expires = λ s t c asleep listed h here. expires s t c asleep listed h here;
+  returns = λ s t c late listed free sound h here. returns s t c late listed free sound h here;
+  quits = λ s t c late sound h here. quits s t c late h here sound;
   returns_pay = returns_pay;
   quits_pay = quits_pay;
 }

@@ -1,5 +1,5 @@
 -- Calls on the lot of a thread whose moment has passed are never refused.
-use Rattle.std.proofs.Common.{◌≡◌, ℕ, ◌&&◌, Bool, true, false, cond, [], ◌∷◌, Option, Some, None, is_some, Result, refl, ap, ◌∙◌, subst, eq-eqb}
+use Rattle.std.proofs.Common.{◌≡◌, ℕ, ◌&&◌, ◌||◌, Bool, true, false, cond, [], ◌∷◌, Option, Some, None, is_some, Result, refl, ap, ◌∙◌, subst, eq-eqb}
 use Rattle.std.specs.Option.{option_map, option_map_or}
 use Rattle.parking_lot_core_lot.specs.declared.fault.LotFault.{LotFault}
 use Rattle.parking_lot_core_lot.specs.declared.fault.LotFault.TheVariants.{Busy, WrongStatus}
@@ -14,15 +14,15 @@ use Rattle.parking_lot_core_lot.specs.Sound.{Sound}
 use Rattle.parking_lot_core_lot.specs.declared.parking.UnparkToken.{UnparkToken}
 use Rattle.parking_lot_core_lot.proofs.Sequences.{sound_after_all}
 use Rattle.parking_lot_core_lot.specs.Places.{has_joined, has_slept, may_return, may_store, place_at}
-use Rattle.parking_lot_world.specs.declared.seat.LatePhase.{LatePhase}
-use Rattle.parking_lot_world.specs.declared.seat.Core.{Core}
 use Rattle.parking_lot_world.specs.declared.seat.QueuePosition.{QueuePosition}
 use Rattle.parking_lot_world.specs.declared.open_call.Call.{Call}
 use Rattle.parking_lot_world.specs.Rows.{State, call_at}
-use Rattle.parking_lot_world.specs.RowActs.{key_of}
-use Rattle.parking_lot_world.specs.RowFits.{IsAt, LotFits, WaitsIn}
-use Rattle.parking_lot_world.specs.LateActs.{out_of_list, quitted_as}
-use Rattle.parking_lot_world.specs.Stances.{Asleep, In, Joined, sign, stance}
+use Rattle.parking_lot_rules.specs.Classes.{bit}
+use Rattle.parking_lot_world.specs.Kinds.{recursive_in}
+use Rattle.parking_lot_world.specs.RowFits.{FitsTogether, IsAt, WaitsIn}
+use Rattle.parking_lot_world.specs.LateActs.{comes_late, is_back, is_pending, late_key, out_of_list, quitted_as}
+use Rattle.parking_lot_world.specs.Stances.{Asleep, In, Joined, sign}
+use Rattle.parking_lot_world.proofs.LateKinds.{backs, comes}
 use Rattle.parking_lot_world.proofs.LotActs.{seat_of}
 use Rattle.parking_lot_world.proofs.LotCalls.{may_step, own_section}
 
@@ -60,23 +60,28 @@ sound_store m t token h e = subst (λ f. Sound (unless_refused f m (stored m tok
 
 -- THE MACHINE'S THREADS
 
-module _ (s : State) (h : LotFits s) (t : ℕ) (c : Call) (here : call_at s t ≡ Some c) where
-  pub sleeps_there : c.core ≡ Core.Late LatePhase.Expires → c.spot ≡ QueuePosition.Listed → WaitsIn (place_at s.lot.places t) (key_of c 0)
-  sleeps_there late listed = subst (λ (a : QueuePosition). IsAt a (place_at s.lot.places t) s.lot.section (key_of c 0)) listed (seat_of s h t c (Asleep 0 (record { 0 = 0 })) here (ap stance late)).0
+module _ (s : State) (h : FitsTogether s) (t : ℕ) (c : Call) (here : call_at s t ≡ Some c) where
+  pub sleeps_there : comes_late c.core ≡ true → c.spot ≡ QueuePosition.Listed → WaitsIn (place_at s.lot.places t) (late_key c)
+  sleeps_there late listed =
+      let come = comes (recursive_in s.kinds c.lock) c.others c.core late (h.rules.prepared t c here) in
+      subst (λ (a : QueuePosition). IsAt a (place_at s.lot.places t) s.lot.section (late_key c)) listed (seat_of s h.lots t c (Asleep (bit (is_pending c.core)) come.park) here come.lies).0
 
-  pub stands_there : c.core ≡ Core.Late LatePhase.Quits → (o : Section) × (s.lot.section ≡ Some o) × (o.thread ≡ Some t) × (o.phase ≡ Phase.Joined) × WaitsIn (place_at s.lot.places t) (key_of c 0)
-  stands_there late = let seat = seat_of s h t c (In 0 (Joined (record { 0 = 0 }))) here (ap stance late) in (seat.0, seat.1, seat.2, seat.4, seat.5.1)
+  pub stands_there : is_back c.core ≡ true → (o : Section) × (s.lot.section ≡ Some o) × (o.thread ≡ Some t) × (o.phase ≡ Phase.Joined) × WaitsIn (place_at s.lot.places t) (late_key c)
+  stands_there late =
+      let back = backs (recursive_in s.kinds c.lock) c.others c.core late (h.rules.prepared t c here) in
+      let seat = seat_of s h.lots t c (In (bit (is_pending c.core)) (Joined back.park)) here back.stands in
+      (seat.0, seat.1, seat.2, seat.4, seat.5.1)
 
   -- what is left of the lot is sound
-  pub quit_sound : c.core ≡ Core.Late LatePhase.Quits → (left : Bool) → Sound (quitted_as s t c left).lot
-  quit_sound late left = go left
+  pub quit_sound : is_back c.core ≡ true → (left : Bool) → Sound (quitted_as s t c left).lot
+  quit_sound late left = go (left || is_pending c.core)
     where
-      at : (o : Section) × (s.lot.section ≡ Some o) × (o.thread ≡ Some t) × (o.phase ≡ Phase.Joined) × WaitsIn (place_at s.lot.places t) (key_of c 0)
+      at : (o : Section) × (s.lot.section ≡ Some o) × (o.thread ≡ Some t) × (o.phase ≡ Phase.Joined) × WaitsIn (place_at s.lot.places t) (late_key c)
       at = stands_there late
 
       out : Sound (out_of_list s t c)
-      out = subst Sound (quits_out s.lot t (key_of c 0) at.4.0 at.4.1) (sound_quit s.lot t h.sound (may_quit s.lot t (key_of c 0) at.0 at.1 at.2 at.3 at.4))
+      out = subst Sound (quits_out s.lot t (late_key c) at.4.0 at.4.1) (sound_quit s.lot t h.lots.sound (may_quit s.lot t (late_key c) at.0 at.1 at.2 at.3 at.4))
 
-      go : (b : Bool) → Sound (quitted_as s t c b).lot
-      go true = sound_store (out_of_list s t c) t (sign false) out (quits_store s.lot t (key_of c 0) at.0 at.1 at.2)
+      go : (b : Bool) → Sound (cond b (stored (out_of_list s t c) (sign false)) (out_of_list s t c))
+      go true = sound_store (out_of_list s t c) t (sign false) out (quits_store s.lot t (late_key c) at.0 at.1 at.2)
       go false = out

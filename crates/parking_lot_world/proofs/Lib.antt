@@ -1,4 +1,5 @@
 mod KindTable
+pub mod Sleepers
 mod Everybody
 mod Making
 mod Meeting
@@ -17,16 +18,18 @@ mod Spinning
 mod Bounding
 mod Queueing
 mod Moves
-mod Cases
+pub mod Cases
 mod Indebting
 mod UpgradeOwning
 mod RwCalls
+mod RwSleeps
 mod RwScans
 mod RwTells
 mod OwnActs
 mod WakesKept
 mod PhaseStancing
 mod UpgradeStancing
+mod LateStancing
 pub mod Stancing
 mod UpgradeMoving
 mod UpgradeKeeping
@@ -85,6 +88,8 @@ mod UpgradePaying
 mod Summing
 pub mod Paying
 pub mod LateLots
+mod LateKinds
+mod LateRules
 pub mod LateActs
 pub mod LateCalls
 pub mod RequeueRuns

@@ -1,7 +1,7 @@
 -- What is a step of a lock is a step of the machine's family of locks, and keeps it sound: whichever move a call of any kind makes.
 use Rattle.std.proofs.Common.{◌≡◌, ◌≢◌, ℕ, inl, inr, ◌==◌, cond, Bool, true, false, List, [], ◌∷◌, length, Option, Some, None, slice_get, sym, ap, ◌∙◌, subst}
 use Rattle.std.proofs.lemmas.Bool.{ne_eqb, cases_eq}
-use Rattle.parking_lot_rules.specs.Roles.{Asleep, Idle, Owned, Role}
+use Rattle.parking_lot_rules.specs.Roles.{Idle, Owned, Role, Stay}
 use Rattle.parking_lot_rules.specs.Steps.{Alone, List_changes, Scan, Store, Take1, Take2, Wake}
 use Rattle.parking_lot_rules.specs.Lock.{Lock}
 use Rattle.parking_lot_rules.specs.Mutex as mutex
@@ -110,10 +110,10 @@ abbrev pub RwLeadsBy : Bool → of_rw.Move → ℕ → Lock → Lock → Type 0
 RwLeadsBy recursive of_rw.Stays t l n = n ≡ l
 RwLeadsBy recursive (of_rw.Makes k) t l n = IsStep recursive t (Alone k) l n
 RwLeadsBy recursive (of_rw.Joins k) t l n = IsStep recursive t (List_changes k) l n
-RwLeadsBy recursive (of_rw.TakesOne mode) t l n = (scan : Scan) × (i v : ℕ) × IsStep recursive t (Take1 scan i v mode Asleep) l n
-RwLeadsBy recursive of_rw.TakesWriter t l n = (owns : Owned) × (v : ℕ) × (from : Bool) × IsStep recursive t (Take2 owns v from Asleep) l n
+RwLeadsBy recursive (of_rw.TakesOne mode) t l n = (scan : Scan) × (i v : ℕ) × (stay : Stay) × IsStep recursive t (Take1 scan i v mode stay) l n
+RwLeadsBy recursive of_rw.TakesWriter t l n = (owns : Owned) × (v : ℕ) × (from : Bool) × (stay : Stay) × IsStep recursive t (Take2 owns v from stay) l n
 RwLeadsBy recursive (of_rw.Tells end left) t l n = (scan : Scan) × IsStep recursive t (Store end scan) l n
-RwLeadsBy recursive of_rw.WakesOne t l n = (owns : Owned) × (v : ℕ) × (us : List ℕ) × (k : _) × IsStep recursive t (Wake owns v us k Asleep) l n
+RwLeadsBy recursive of_rw.WakesOne t l n = (owns : Owned) × (v : ℕ) × (us : List ℕ) × (k : _) × (stay : Stay) × IsStep recursive t (Wake owns v us k stay) l n
 RwLeadsBy recursive (of_rw.IsWoken k) t l n = ⊥
 
 pub rw_goes : (s u : State) (t j : ℕ) (m : of_rw.Move) (n : Lock) → IsThere j (call_at s t) → Elsewhere j s u → manner_of (slice_get s.kinds j) ≡ Some AsRw → RwLeadsBy (recursive_in s.kinds j) m t (rw_lock_at s j) n → rw_lock_at u j ≡ n
@@ -121,10 +121,10 @@ pub rw_goes : (s u : State) (t j : ℕ) (m : of_rw.Move) (n : Lock) → IsThere 
 rw_goes s u t j of_rw.Stays n there others k leads here crossed = quiet of_rws s u t j there others k (here ∙ leads) crossed
 rw_goes s u t j (of_rw.Makes x) n there others k leads here crossed = made of_rws s u t j there others k (RwStep (Alone x)) leads.0 (ap Rw (here ∙ sym leads.1)) crossed
 rw_goes s u t j (of_rw.Joins x) n there others k leads here crossed = made of_rws s u t j there others k (RwStep (List_changes x)) leads.0 (ap Rw (here ∙ sym leads.1)) crossed
-rw_goes s u t j (of_rw.TakesOne mode) n there others k (scan, i, v, leads) here crossed = (scan, i, v, made of_rws s u t j there others k (RwStep (Take1 scan i v mode Asleep)) leads.0 (ap Rw (here ∙ sym leads.1)) crossed)
-rw_goes s u t j of_rw.TakesWriter n there others k (owns, v, from, leads) here crossed = (owns, v, from, made of_rws s u t j there others k (RwStep (Take2 owns v from Asleep)) leads.0 (ap Rw (here ∙ sym leads.1)) crossed)
+rw_goes s u t j (of_rw.TakesOne mode) n there others k (scan, i, v, stay, leads) here crossed = (scan, i, v, stay, made of_rws s u t j there others k (RwStep (Take1 scan i v mode stay)) leads.0 (ap Rw (here ∙ sym leads.1)) crossed)
+rw_goes s u t j of_rw.TakesWriter n there others k (owns, v, from, stay, leads) here crossed = (owns, v, from, stay, made of_rws s u t j there others k (RwStep (Take2 owns v from stay)) leads.0 (ap Rw (here ∙ sym leads.1)) crossed)
 rw_goes s u t j (of_rw.Tells end left) n there others k (scan, leads) here crossed = (scan, made of_rws s u t j there others k (RwStep (Store end scan)) leads.0 (ap Rw (here ∙ sym leads.1)) crossed)
-rw_goes s u t j of_rw.WakesOne n there others k (owns, v, us, w, leads) here crossed = (owns, v, us, w, made of_rws s u t j there others k (RwStep (Wake owns v us w Asleep)) leads.0 (ap Rw (here ∙ sym leads.1)) crossed)
+rw_goes s u t j of_rw.WakesOne n there others k (owns, v, us, w, stay, leads) here crossed = (owns, v, us, w, stay, made of_rws s u t j there others k (RwStep (Wake owns v us w stay)) leads.0 (ap Rw (here ∙ sym leads.1)) crossed)
 rw_goes s u t j (of_rw.IsWoken x) n there others k leads here crossed = absurd leads
 
 -- THE MOVES OF A MUTEX

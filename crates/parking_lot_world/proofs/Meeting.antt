@@ -26,7 +26,7 @@ use Rattle.parking_lot_world.specs.declared.seat.QueuePosition.{QueuePosition}
 use Rattle.parking_lot_world.specs.declared.seat.LatePhase.{LatePhase}
 use Rattle.parking_lot_world.specs.declared.seat.Core.{Core}
 use Rattle.parking_lot_world.specs.declared.open_call.Call.{Call}
-use Rattle.parking_lot_world.specs.Rows.{State, word_at, hold_at, call_at, is_by, taken_by, owned_of, rw_role_in, rw_role_at, rw_core_role, rw_lock_at, mutex_at, mutex_spot, late_role, first_of_all, lock_as}
+use Rattle.parking_lot_world.specs.Rows.{State, word_at, hold_at, call_at, is_by, taken_by, owned_of, rw_role_in, rw_role_at, rw_core_role, rw_lock_at, mutex_at, mutex_spot, late_role, first_of_all, lock_as, rw_spot}
 use Rattle.parking_lot_world.specs.Stances.{core_next, has_begun, taken_count}
 use Rattle.parking_lot_world.specs.RowFits.{FitsTogether, is_away, IsOfKind, IsPrepared, KnowsList}
 use Rattle.parking_lot_world.specs.MutexLaws.{Plays}
@@ -38,6 +38,9 @@ use Rattle.parking_lot_upgrades.specs.declared.upgrade_phase.UpgradePhase.{Upgra
 use Rattle.parking_lot_world.proofs.RwCalls.{CallLearns, CallMeets, CallTold, CallWants, call_few, call_goes_on, call_knows, call_room, stands_prepared}
 use Rattle.parking_lot_world.proofs.Everybody.{was-all, length-all}
 use Rattle.parking_lot_world.proofs.KindTable.{Plain, Late, RwCall, in_its_place, next_is, of_mutexes, of_rws, rw_call}
+use Rattle.parking_lot_world.specs.declared.late_rw.LateRwPhase.{LateRwPhase}
+use Rattle.parking_lot_world.specs.declared.late_rw.RwSleeper.{RwSleeper}
+use Rattle.parking_lot_world.specs.LateRoles.{late_rw_role}
 
 -- who is in a call is a thread of the machine
 pub in_range : (s : State) (t : ℕ) (c : Call) → call_at s t ≡ Some c → t < length s.calls
@@ -47,7 +50,7 @@ in_range s t c h = elim (cases_lt t (length s.calls)) [
 ]
 
 -- few threads were taken
-pub few_taken : (s : State) → FitsTogether s → (t : ℕ) → length (taken_by s.wakes t) < 2 ^ 17
+pub few_taken : (s : State) → FitsTogether s → (t : ℕ) → length (taken_by s.wakes t) < 2 ^ 18
 few_taken s h t =
     omega (arith, length-map (filter (is_by t) s.wakes) (λ w. w.thread), length-filter (is_by t) s.wakes, count_by-le-length (is_by t) s.wakes, h.wakes.room, count_by-le-length is_away s.calls, h.rules.small)
 
@@ -88,6 +91,13 @@ upgrade_few n (UpgradePhase.Owes kept end core) = omega (arith, kept_few kept)
 upgrade_few n (UpgradePhase.Ends kept end) = omega (arith, kept_few kept)
 upgrade_few n p = omega arith
 
+tardy_few : (n : ℕ) (at : of_rw.QueuePosition) (us : List ℕ) (p : LateRwPhase) → shared_holds (late_rw_role n at us p).owns ≤ n + 1
+tardy_few n at us (LateRwPhase.Expires (RwSleeper.Simple c)) = owns_few n c.phase
+tardy_few n at us (LateRwPhase.Expires (RwSleeper.Upgradable c)) = upgrade_few n c.phase
+tardy_few n at us (LateRwPhase.Quits (RwSleeper.Simple c)) = owns_few n c.phase
+tardy_few n at us (LateRwPhase.Quits (RwSleeper.Upgradable c)) = upgrade_few n c.phase
+tardy_few n at us p = omega arith
+
 module _ (s : State) (h : FitsTogether s) where
   pub hold_few : (u i : ℕ) (x : Hold) → hold_at s u i ≡ x → shared_holds (owned_of x) ≤ 256
   hold_few u i (Hold.Shares n) e = omega (arith, h.rules.few u i n e)
@@ -98,6 +108,7 @@ module _ (s : State) (h : FitsTogether s) where
   core_few n at us (Core.Rw k) e = omega (arith, owns_few n k.phase, e)
   core_few n at us (Core.Mutex k) e = omega arith
   core_few n at us (Core.Late p) e = omega arith
+  core_few n at us (Core.LateRw p) e = omega (arith, tardy_few n (rw_spot at) us p, e)
   core_few n at us (Core.Upgrade k) e = omega (arith, upgrade_few n k.phase, e)
 
   pub role_few : (i u : ℕ) (o : Option Call) → call_at s u ≡ o → shared_holds (rw_role_in i (taken_by s.wakes u) (hold_at s u i) o).owns ≤ 256

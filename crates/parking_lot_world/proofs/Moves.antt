@@ -6,21 +6,22 @@ use Rattle.parking_lot_protocol.specs.declared.act.CoreAnswer.{CoreAnswer}
 use Rattle.parking_lot_protocol.specs.MutexRules as of_mutex
 use Rattle.parking_lot_protocol.specs.RwRules as of_rw
 use Rattle.parking_lot_world.specs.declared.calls.LockCall.{LockCall}
+use Rattle.parking_lot_world.specs.declared.late_rw.LateRwPhase.{LateRwPhase}
 use Rattle.parking_lot_world.specs.declared.seat.LatePhase.{LatePhase}
 use Rattle.parking_lot_world.specs.declared.seat.Core.{Core}
 use Rattle.parking_lot_world.specs.Machines.{call_for, IsBegun, IsStepped}
 use Rattle.parking_lot_world.specs.Rows.{State, taken_by}
-use Rattle.parking_lot_world.specs.RowSteps.{IsLastOf, IsLateMove, IsMade, IsMoveOf, IsMutexMove, IsQuiet, IsRwMove}
+use Rattle.parking_lot_world.specs.RowSteps.{IsLastOf, IsLateMove, IsLateRwMove, IsMade, IsMoveOf, IsMutexMove, IsQuiet, IsRwMove}
 
 module _ (s u : State) (P : (t j : ℕ) → Type 0) (quiet : (t j : ℕ) → IsQuiet s u → P t j) (made : (t j : ℕ) (step : AnyStep) → IsMade j t step s u → P t j) where
   rw_moves : (k : of_rw.Move) (j t : ℕ) → IsRwMove k j t s u → P t j
   rw_moves of_rw.Stays j t h = quiet t j h
   rw_moves (of_rw.Makes k) j t h = made t j _ h
   rw_moves (of_rw.Joins k) j t h = made t j _ h
-  rw_moves (of_rw.TakesOne mode) j t (scan, i, v, h) = made t j _ h
-  rw_moves of_rw.TakesWriter j t (owns, v, from, h) = made t j _ h
+  rw_moves (of_rw.TakesOne mode) j t (scan, i, v, stay, h) = made t j _ h
+  rw_moves of_rw.TakesWriter j t (owns, v, from, stay, h) = made t j _ h
   rw_moves (of_rw.Tells end left) j t (scan, h) = made t j _ h
-  rw_moves of_rw.WakesOne j t (owns, v, us, k, h) = made t j _ h
+  rw_moves of_rw.WakesOne j t (owns, v, us, k, stay, h) = made t j _ h
   rw_moves (of_rw.IsWoken k) j t h = absurd h
 
   mutex_moves : (k : of_mutex.Move) (us : List ℕ) (j t : ℕ) → IsMutexMove k us j t s u → P t j
@@ -39,16 +40,26 @@ module _ (s u : State) (P : (t j : ℕ) → Type 0) (quiet : (t j : ℕ) → IsQ
   late_moves LatePhase.Leaves ActResult.Made j t h = made t j _ h
   late_moves p told j t h = absurd h
 
+  late_rw_moves : (p : LateRwPhase) (told : ActResult) (j t : ℕ) → IsLateRwMove p told j t s u → P t j
+  late_rw_moves (LateRwPhase.Expires k) ActResult.Entered j t h = made t j _ h
+  late_rw_moves (LateRwPhase.Quits k) (ActResult.Took token left) j t (i, h) = made t j _ h
+  late_rw_moves LateRwPhase.Masks (ActResult.Before word) j t h = made t j _ h
+  late_rw_moves LateRwPhase.Leaves ActResult.Made j t h = made t j _ h
+  late_rw_moves (LateRwPhase.LeavesPending from) ActResult.Made j t h = made t j _ h
+  late_rw_moves p told j t h = absurd h
+
   pub goes : (k : Core) (n : ℕ) (us : List ℕ) (told : ActResult) (j t : ℕ) → IsMoveOf k n us told j t s u → P t j
   goes (Core.Rw c) n us told j t h = rw_moves _ j t h
   goes (Core.Mutex c) n us told j t h = mutex_moves _ us j t h
   goes (Core.Late p) n us told j t h = late_moves p told j t h
+  goes (Core.LateRw p) n us told j t h = late_rw_moves p told j t h
   goes (Core.Upgrade c) n us told j t h = rw_moves _ j t h
 
   pub ends : (k : Core) (n j t : ℕ) → IsLastOf k n j t s u → P t j
   ends (Core.Rw c) n j t h = rw_moves _ j t h
   ends (Core.Mutex c) n j t h = mutex_moves _ _ j t h
   ends (Core.Late p) n j t h = quiet t j h
+  ends (Core.LateRw p) n j t h = quiet t j h
   ends (Core.Upgrade c) n j t h = rw_moves _ j t h
 
   pub stepped : (t : ℕ) (fair : Bool) (answer : Option CoreAnswer) (x : IsStepped t fair answer s u) → P t x.call.lock

@@ -76,6 +76,7 @@ module _ (m : rules.Mutex) (t u : ℕ) (us vs : List ℕ) (said : WakeResult) (s
   tells_core at (Core.Mutex c) there = tells_phase (first_of_all vs) at c.phase there
   tells_core at (Core.Rw c) there = refl
   tells_core at (Core.Upgrade c) there = refl
+  tells_core at (Core.LateRw p) there = refl
   tells_core at (Core.Late p) there = tells_late at p there
 
   tells_here : (i : ℕ) (h : Hold) (c : Call) (b : Bool) → slice_get m.roles u ≡ Some (cond b (mutex_core_role c.spot vs c.core) (record { owns = owns_mutex h; does = rules.Idle }))

@@ -28,7 +28,7 @@ use Rattle.parking_lot_protocol.specs.declared.mutex_phase.MutexPhase.{MutexPhas
 use Rattle.parking_lot_protocol.specs.MutexRules as of_mutex
 use Rattle.parking_lot_world.specs.MutexLaws.{is_own}
 use Rattle.parking_lot_world.proofs.MutexMoving.{steps}
-use Rattle.parking_lot_world.proofs.KindTable.{Late, Plain, RwCall, Simple, Upgradable, next_is, of_mutexes, of_rws, rw_call, rw_next, same}
+use Rattle.parking_lot_world.proofs.KindTable.{Late, Plain, RwCall, Simple, Upgradable, next_is, of_mutexes, of_rws, rw_call, rw_next, same, Tardy}
 use Rattle.parking_lot_world.proofs.Making.{Crossed, TellsOf, made, mutex_goes, rw_goes}
 use Rattle.parking_lot_world.proofs.Meeting.{meets, plays, plays_late, rw_hears}
 use Rattle.parking_lot_world.proofs.OwnMoves.{AfterAct, IsOwnAct}
@@ -175,6 +175,7 @@ module _ (s u : State) (t : ℕ) (h : FitsTogether s) where
     own_so : (x : Core) → c.core ≡ x → OwnAct s u t c told (core_next x told) c.spot → Gives (core_act x) (word_at s c.lock) told → IsOwnAct (core_act x) → AfterAct (core_act x) t (inside s) (inside u) → Fitted s u t c told x
     own_so (Core.Rw k) e = own_rw (Simple k) e
     own_so (Core.Upgrade k) e = own_rw (Upgradable k) e
+    own_so (Core.LateRw p) e = own_rw (Tardy p) e
     own_so (Core.Mutex k) e = own_mutex k e
     own_so (Core.Late p) e = own_late c p told lists_same e
 

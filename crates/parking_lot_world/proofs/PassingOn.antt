@@ -43,6 +43,7 @@ use Rattle.parking_lot_world.proofs.RwTaking.{scans_go_by_tokens}
 use Rattle.parking_lot_world.proofs.Stancing.{takings_count}
 use Rattle.parking_lot_world.proofs.TakeJoins.{late_takes}
 use Rattle.parking_lot_world.proofs.TakeParts.{took_told, the_sleeper, taker_after, sleeper_after, others_after}
+use Rattle.parking_lot_world.proofs.Sleepers.{tardy_takes}
 
 abbrev RwNext : Scanning → ℕ → Bool → RwPhase
 RwNext a token left = option_map_or (λ q. q) (of_rw.scans a (Some (record { 0 = token })) left) RwPhase.Invalid
@@ -73,6 +74,7 @@ going_of recursive n (Core.Upgrade c) h = (h.1, h.2, h.3)
 going_of recursive n (Core.Rw c) h = tt
 going_of recursive n (Core.Mutex c) h = tt
 going_of recursive n (Core.Late p) h = tt
+going_of recursive n (Core.LateRw p) h = tt
 
 -- Whom one that takes passes it passes when it goes on, too.
 abbrev pub GoesPast : Core → ParkToken → Bool → ℕ → ℕ → Type 0
@@ -139,6 +141,7 @@ past : (x : Core) (token : ParkToken) (left : Bool) (k n : ℕ) → GoesPast x t
 past (Core.Rw y) token left k n = rw_past y.phase token left k n
 past (Core.Mutex y) token left k n = mutex_past y.phase token left k n
 past (Core.Late p) token left k n = λ now then counts from to skip. absurd (late_takes p k from)
+past (Core.LateRw p) token left k n = λ now then counts from to skip. absurd (tardy_takes p k from)
 past (Core.Upgrade y) token left k n = upgrade_past y.phase token left k n
 
 -- A TAKING

@@ -15,14 +15,14 @@ use Rattle.parking_lot_world.specs.declared.seat.LatePhase.{LatePhase}
 use Rattle.parking_lot_world.specs.declared.seat.Core.{Core}
 use Rattle.parking_lot_world.specs.declared.open_call.Call.{Call}
 use Rattle.parking_lot_world.specs.Rows.{State, word_at, call_at, first_key, inside, rw_lock_at, taken_by, rw_role_at}
-use Rattle.parking_lot_world.specs.Stances.{core_act, core_next, late_act, late_next, late_stance, mutex_stance, rw_stance, seeks_stance, upgrade_stance, Doing, Joins, In, Takes, sign, stance, core_tells, Out, taken_count}
-use Rattle.parking_lot_world.specs.RowFits.{FitsTogether, IsOfKind, IsOfWorld, IsPrepared}
+use Rattle.parking_lot_world.specs.Stances.{core_act, core_next, late_act, late_next, late_stance, mutex_stance, rw_stance, seeks_stance, upgrade_stance, Doing, Joins, In, Takes, sign, stance, core_tells, Out, taken_count, late_rw_act, late_rw_next, sleeper_asleep}
+use Rattle.parking_lot_world.specs.RowFits.{FitsTogether, IsOfKind, IsOfWorld, IsPrepared, IsOfManner, late_rw_prepared}
 use Rattle.parking_lot_world.specs.RankLaws.{Can, Leaves, StopsAt}
-use Rattle.parking_lot_world.specs.Ranks.{Sees, core_steps, late_steps, far_steps, is_shut_to, own_steps, view_of, Pays, View, Unseen, wake, cost, Costs, AnyMayBeStepped}
+use Rattle.parking_lot_world.specs.Ranks.{Sees, core_steps, late_steps, far_steps, is_shut_to, own_steps, view_of, Pays, View, Unseen, wake, cost, Costs, AnyMayBeStepped, late_rw_steps, sleeper_steps}
 use Rattle.parking_lot_world.proofs.Ruling.{same_kind}
 use Rattle.parking_lot_world.proofs.Meeting.{meets, in_range, rw_sound}
-use Rattle.parking_lot_world.proofs.KindTable.{Simple, Upgradable}
-use Rattle.parking_lot_world.proofs.RwCalls.{call_room}
+use Rattle.parking_lot_world.proofs.KindTable.{Simple, Upgradable, of_rws}
+use Rattle.parking_lot_world.proofs.RwCalls.{call_room, tardy_wakes}
 use Rattle.parking_lot_world.proofs.UpgradePaying as of_upgrade
 use Rattle.parking_lot_upgrades.specs.UpgradeRules as upgrade_rules
 use Rattle.parking_lot_upgrades.specs.UpgradeTable as upgrade_table
@@ -64,13 +64,27 @@ use Rattle.parking_lot_protocol.specs.RwTable as rw_table
 use Rattle.parking_lot_world.specs.declared.seat.QueuePosition.TheVariants as spot
 use Rattle.parking_lot_protocol.specs.declared.act.ActResult.TheVariants as seen
 use Rattle.parking_lot_world.specs.declared.calls.LockKind.{LockKind}
+use Rattle.parking_lot_world.specs.declared.late_rw.LateRwPhase.{LateRwPhase}
+use Rattle.parking_lot_world.specs.declared.late_rw.RwSleeper.{RwSleeper}
+use Rattle.parking_lot_world.specs.CallViews.{IsReadySleeper}
+use Rattle.parking_lot_world.proofs.Sleepers.{by_sleeper, ready_sleeper, tardy_takes}
 
 -- ONE CALL
+
+-- one that slept is ready
+abbrev pub IsGoodLate : LateRwPhase → Type 0
+IsGoodLate (LateRwPhase.Expires k) = (sleeper_asleep k ≡ true) × IsReadySleeper k
+IsGoodLate p = Unit {0}
+
+good_late : (recursive : Bool) (n : ℕ) (p : LateRwPhase) → late_rw_prepared recursive n p → IsGoodLate p
+good_late recursive n (LateRwPhase.Expires k) h = (h.0, ready_sleeper recursive n k h.1)
+good_late recursive n p h = tt
 
 -- what the word and the phase are in time
 abbrev pub IsGood : Core → ℕ → Type 0
 IsGood (Core.Mutex k) x = x < 4
 IsGood (Core.Late p) x = Unit {0}
+IsGood (Core.LateRw p) x = IsGoodLate p
 IsGood (Core.Rw k) x = (x / 16 < 2 ^ 60 - 1) × IsReady k.phase
 IsGood (Core.Upgrade k) x = (x / 16 < 2 ^ 60 - 1) × upgrade_rules.IsReady k.phase × IsOfWorld k.phase
 
@@ -80,6 +94,7 @@ is_good s h t c here = by_core c.core refl
     by_core : (x : Core) → c.core ≡ x → IsGood x (word_at s c.lock)
     by_core (Core.Mutex k) e = h.rules.bits c.lock (subst (IsOfKind (slice_get s.kinds c.lock)) e (h.rules.kinds t c here))
     by_core (Core.Late p) e = tt
+    by_core (Core.LateRw p) e = good_late (recursive_in s.kinds c.lock) c.others p (subst (IsPrepared (recursive_in s.kinds c.lock) c.others) e (h.rules.prepared t c here))
     by_core (Core.Rw k) e =
         (call_room (recursive_in s.kinds c.lock) (rw_lock_at s c.lock) t c.others c.spot (taken_by s.wakes t) (Simple k) (word_at s c.lock) (meets s h t c (Simple k) e here), (subst (IsPrepared (recursive_in s.kinds c.lock) c.others) e (h.rules.prepared t c here)).0)
     by_core (Core.Upgrade k) e =
@@ -93,12 +108,25 @@ late_falls n LatePhase.Masks x (ActResult.Before word) v shut gives can = omega 
 late_falls n LatePhase.Leaves x ActResult.Made v shut gives can = omega arith
 late_falls n p x told v shut gives can = absurd gives
 
-pub core_falls : (n : ℕ) (c : Core) (x : ℕ) (told : ActResult) (first after : ℕ) (shut : Bool) → IsGood c x → Gives (core_act c) x told → Can (core_act c) shut told → Leaves (core_act c) told first after
+late_rw_falls : (n : ℕ) (p : LateRwPhase) (x : ℕ) (told : ActResult) (word first after : ℕ) (shut : Bool) → (late_rw_act p ≡ Act.Section section.Leave → after ≤ n) → Gives (late_rw_act p) x told → Can (late_rw_act p) shut told → core_steps n (Sees word after shut) (late_rw_next p told) + 1 ≤ late_rw_steps n (Sees x first shut) p
+late_rw_falls n (LateRwPhase.Expires k) x told word first after shut few gives can = absurd can
+late_rw_falls n (LateRwPhase.Quits k) x told word first after shut few gives can = absurd can
+late_rw_falls n LateRwPhase.Masks x (ActResult.Before seen) word first after shut few gives can = omega arith
+late_rw_falls n LateRwPhase.Leaves x ActResult.Made word first after shut few gives can = omega arith
+late_rw_falls n (LateRwPhase.LeavesPending from) x ActResult.Made word first after shut few gives can = omega (arith, found shut)
+  where
+    found : (b : Bool) → cond b n after ≤ n
+    found true = omega arith
+    found false = few refl
+late_rw_falls n p x told word first after shut few gives can = absurd gives
+
+pub core_falls : (n : ℕ) (c : Core) (x : ℕ) (told : ActResult) (first after : ℕ) (shut : Bool) → IsGood c x → (core_act c ≡ Act.Section section.Leave → IsOfManner (Some AsRw) c → after ≤ n) → Gives (core_act c) x told → Can (core_act c) shut told → Leaves (core_act c) told first after
     → core_steps n (Sees (word_after (core_act c) told x) after shut) (core_next c told) + 1 ≤ core_steps n (Sees x first shut) c
-core_falls n (Core.Mutex k) x told first after shut good gives can leaves = of_mutex.steps_fall.falls k.phase told x first after shut good gives can
-core_falls n (Core.Late p) x told first after shut good gives can leaves = late_falls n p x told (Sees (word_after (late_act p) told x) after shut) shut gives can
-core_falls n (Core.Rw k) x told first after shut good gives can leaves = of_rw.steps_fall.falls n k.phase told x first after shut good.0 good.1 gives can leaves
-core_falls n (Core.Upgrade k) x told first after shut good gives can leaves = of_upgrade.upgrade_steps_fall.falls n k.phase told x first after shut good.0 good.1 good.2 gives can leaves
+core_falls n (Core.Mutex k) x told first after shut good few gives can leaves = of_mutex.steps_fall.falls k.phase told x first after shut good gives can
+core_falls n (Core.LateRw p) x told first after shut good few gives can leaves = late_rw_falls n p x told (word_after (late_rw_act p) told x) first after shut (λ e. few e refl) gives can
+core_falls n (Core.Late p) x told first after shut good few gives can leaves = late_falls n p x told (Sees (word_after (late_act p) told x) after shut) shut gives can
+core_falls n (Core.Rw k) x told first after shut good few gives can leaves = of_rw.steps_fall.falls n k.phase told x first after shut good.0 good.1 gives can leaves
+core_falls n (Core.Upgrade k) x told first after shut good few gives can leaves = of_upgrade.upgrade_steps_fall.falls n k.phase told x first after shut good.0 good.1 good.2 gives can leaves
 
 -- ALL THREADS
 
@@ -121,17 +149,27 @@ module _ (s u : State) (t k : ℕ) (c d : Call) (here : call_at s t ≡ Some c) 
         own,
       )
 
+few_in_list : (s : State) → FitsTogether s → (j : ℕ) → manner_of (slice_get s.kinds j) ≡ Some AsRw → length (s.lot.queues (first_key j)) ≤ length s.calls
+few_in_list s h j is =
+    omega (arith, few1 false 0 (rw_lock_at s j) (rw_sound s h j is), length-map (s.lot.queues (first_key j)) (λ w. w.thread), length-all (rw_role_at s j) 0 (length s.calls))
+
+-- one that leaves its section leaves its list as it is
+abbrev pub StillAt : Act → ℕ → ℕ → Type 0
+StillAt (Act.Section section.Leave) first after = after ≡ first
+StillAt a first after = Unit {0}
+
 -- A thread's act, that changes nobody else's steps.
 module _ (s u : State) (t : ℕ) (c d : Call) (told : ActResult) (h : FitsTogether s) (here : call_at s t ≡ Some c) (there : call_at u t ≡ Some d) (next : d.core ≡ core_next c.core told) (lock : d.lock ≡ c.lock) (threads : length u.calls ≡ length s.calls)
     (others : sum_by (far_steps (length s.calls)) (slice_set u.calls t None) ≤ sum_by (far_steps (length s.calls)) (slice_set s.calls t None)) where
   pub falls : (a : Act) → core_act c.core ≡ a → word_at u c.lock ≡ word_after a told (word_at s c.lock) → (shut : Bool) → is_shut_to t (inside s) ≡ shut → is_shut_to t (inside u) ≡ shut
-      → Gives a (word_at s c.lock) told → Can a shut told → Leaves a told (length (s.lot.queues (first_key c.lock))) (length (u.lot.queues (first_key c.lock))) → Pays t s u
-  falls a asked word shut was is gives can leaves =
+      → Gives a (word_at s c.lock) told → Can a shut told → Leaves a told (length (s.lot.queues (first_key c.lock))) (length (u.lot.queues (first_key c.lock))) → StillAt a (length (s.lot.queues (first_key c.lock))) (length (u.lot.queues (first_key c.lock))) → Pays t s u
+  falls a asked word shut was is gives can leaves still =
       pays s u t 0 c d here there threads (omega (arith, others))
       (let n = length s.calls in
       let first = length (s.lot.queues (first_key c.lock)) in
       let after = length (u.lot.queues (first_key c.lock)) in
       let fall = core_falls n c.core (word_at s c.lock) told first after shut (is_good s h t c here)
+      (λ leaving of. omega (arith, subst (λ (y : Act). StillAt y first after) (sym asked ∙ leaving) still, few_in_list s h c.lock (let k = of_rws.only c.core of in of_rws.of_kind (slice_get s.kinds c.lock) k.0 (subst (IsOfKind (slice_get s.kinds c.lock)) k.1 (h.rules.kinds t c here)))))
       (subst (λ (y : Act). Gives y (word_at s c.lock) told) (sym asked) gives) (subst (λ (y : Act). Can y shut told) (sym asked) can) (subst (λ (y : Act). Leaves y told first after) (sym asked) leaves) in
       let before : core_steps n (view_of s t c) c.core ≡ core_steps n (Sees (word_at s c.lock) first shut) c.core = ap (λ v. core_steps n v c.core) (sees _ _ _ _ _ _ refl refl was) in
       let same : core_steps n (view_of u t d) d.core ≡ core_steps n (Sees (word_after (core_act c.core) told (word_at s c.lock)) after shut) (core_next c.core told) =
@@ -159,6 +197,11 @@ abbrev pub IsTaking : Act → Type 0
 IsTaking (Act.Section section.TakeFirst) = Unit {0}
 IsTaking (Act.Section (section.TakeNext sum)) = Unit {0}
 IsTaking a = ⊥
+
+still_taking : (a : Act) (first after : ℕ) → IsTaking a → StillAt a first after
+still_taking (Act.Section section.TakeFirst) first after x = tt
+still_taking (Act.Section (section.TakeNext sum)) first after x = tt
+still_taking a first after x = absurd x
 
 -- what a taking gives, and leaves
 gives_took : (a : Act) (word : ℕ) (token : Option ParkToken) (left : Bool) → IsTaking a → Gives a word (ActResult.Took token left) × Can a false (ActResult.Took token left) × (word_after a (ActResult.Took token left) word ≡ word)
@@ -214,6 +257,7 @@ first_list : (c : Core) (sum k : ℕ) → core_act c ≡ Act.Section (section.Ta
 first_list (Core.Mutex c) sum k e f = mutex_first c.phase sum k e f
 first_list (Core.Rw c) sum k e f = rw_first c.phase sum k e f
 first_list (Core.Late p) sum k e f = late_first p sum k e f
+first_list (Core.LateRw p) sum k e f = absurd (tardy_takes p k f)
 first_list (Core.Upgrade c) sum k e f = upgrade_first c.phase sum k e f
 
 -- one of it is gone
@@ -243,7 +287,7 @@ module _ (s : State) (t : ℕ) (c : Call) (h : FitsTogether s) (here : call_at s
   module _ (u : State) (d : Call) (heard : ActResult) (calls : u.calls ≡ slice_set s.calls t (Some d)) (next : d.core ≡ core_next c.core heard) (lock : d.lock ≡ c.lock) where
     -- its call alone has changed
     one : (a : Act) → core_act c.core ≡ a → word_at u c.lock ≡ word_after a heard (word_at s c.lock) → (shut : Bool) → is_shut_to t (inside s) ≡ shut → is_shut_to t (inside u) ≡ shut
-        → Gives a (word_at s c.lock) heard → Can a shut heard → Leaves a heard (length (s.lot.queues (first_key c.lock))) (length (u.lot.queues (first_key c.lock))) → Pays t s u
+        → Gives a (word_at s c.lock) heard → Can a shut heard → Leaves a heard (length (s.lot.queues (first_key c.lock))) (length (u.lot.queues (first_key c.lock))) → StillAt a (length (s.lot.queues (first_key c.lock))) (length (u.lot.queues (first_key c.lock))) → Pays t s u
     one =
         let n = length s.calls in
         falls s u t c d heard h here (ap (λ cs. call_of cs t) calls ∙ call-within s.calls t (Some d) (in_range s t c here)) next lock (ap length calls ∙ length-set s.calls t (Some d))
@@ -256,28 +300,28 @@ module _ (s : State) (t : ℕ) (c : Call) (h : FitsTogether s) (here : call_at s
       own_open t (inside s) (ap (option_and_then (λ x. x.thread)) seat.1 ∙ seat.2)
 
   pub load : core_act c.core ≡ Act.Load → Pays t s (loaded s t c)
-  load asked = one (loaded s t c) (hears c (ActResult.Word (word_at s c.lock))) (ActResult.Word (word_at s c.lock)) refl refl refl Act.Load asked refl (is_shut_to t (inside s)) refl refl refl tt refl
+  load asked = one (loaded s t c) (hears c (ActResult.Word (word_at s c.lock))) (ActResult.Word (word_at s c.lock)) refl refl refl Act.Load asked refl (is_shut_to t (inside s)) refl refl refl tt refl tt
 
   pub spin : core_act c.core ≡ Act.Spin → Pays t s (spun s t c)
-  spin asked = one (spun s t c) (hears c (ActResult.Spun true)) (ActResult.Spun true) refl refl refl Act.Spin asked refl (is_shut_to t (inside s)) refl refl tt refl refl
+  spin asked = one (spun s t c) (hears c (ActResult.Spun true)) (ActResult.Spun true) refl refl refl Act.Spin asked refl (is_shut_to t (inside s)) refl refl tt refl refl tt
 
   pub add : (by : ℕ) → core_act c.core ≡ Act.Add by → Pays t s (added s t c by)
   add by asked =
       one (added s t c by) (hears c (ActResult.Before (word_at s c.lock))) (ActResult.Before (word_at s c.lock)) refl refl refl (Act.Add by) asked
-      (word-here s.words c.lock ((word_at s c.lock + by) % 2 ^ 64) (has_word s h t c here)) (is_shut_to t (inside s)) refl refl refl tt refl
+      (word-here s.words c.lock ((word_at s c.lock + by) % 2 ^ 64) (has_word s h t c here)) (is_shut_to t (inside s)) refl refl refl tt refl tt
 
   pub enter : (key : ℕ) → core_act c.core ≡ Act.Enter key → s.lot.section ≡ None → Pays t s (entered s t c key)
   enter key asked free =
-      one (entered s t c key) (hears c ActResult.Entered) ActResult.Entered refl refl refl (Act.Enter key) asked refl false (ap (is_shut_to t) (ap (option_and_then (λ x. x.thread)) free)) (own_open t (Some t) refl) tt refl refl
+      one (entered s t c key) (hears c ActResult.Entered) ActResult.Entered refl refl refl (Act.Enter key) asked refl false (ap (is_shut_to t) (ap (option_and_then (λ x. x.thread)) free)) (own_open t (Some t) refl) tt refl refl tt
 
   won : (from to : ℕ) → core_act c.core ≡ Act.Exchange from to → word_at s c.lock ≡ from → Pays t s (with_word (with_call s t (hears c ActResult.Exchanged)) c.lock to)
   won from to asked e =
       one (with_word (with_call s t (hears c ActResult.Exchanged)) c.lock to) (hears c ActResult.Exchanged) ActResult.Exchanged refl refl refl (Act.Exchange from to) asked
-      (word-here s.words c.lock to (has_word s h t c here)) (is_shut_to t (inside s)) refl refl e tt refl
+      (word-here s.words c.lock to (has_word s h t c here)) (is_shut_to t (inside s)) refl refl e tt refl tt
 
   lost : (from to : ℕ) → core_act c.core ≡ Act.Exchange from to → word_at s c.lock ≢ from → Pays t s (loaded s t c)
   lost from to asked ne =
-      one (loaded s t c) (hears c (ActResult.Word (word_at s c.lock))) (ActResult.Word (word_at s c.lock)) refl refl refl (Act.Exchange from to) asked refl (is_shut_to t (inside s)) refl refl (refl, ne) tt refl
+      one (loaded s t c) (hears c (ActResult.Word (word_at s c.lock))) (ActResult.Word (word_at s c.lock)) refl refl refl (Act.Exchange from to) asked refl (is_shut_to t (inside s)) refl refl (refl, ne) tt refl tt
 
   pub exchange : (from to : ℕ) → core_act c.core ≡ Act.Exchange from to → Pays t s (exchanged s t c from to)
   exchange from to asked = elim (cases_eq (word_at s c.lock) from) [
@@ -290,13 +334,13 @@ module _ (s : State) (t : ℕ) (c : Call) (h : FitsTogether s) (here : call_at s
       let heard = ActResult.Word (word_at s c.lock) in
       let leads = leads_by c.core (Act.Section section.Check) (word_at s c.lock) heard asked refl in
       let free_now = inside_open leads.0 _ leads.1 in
-      one (checked s t c) (hears c heard) heard refl refl refl (Act.Section section.Check) asked refl false free_now (ap (is_shut_to t) (still_inside s.lot.section _) ∙ free_now) refl refl tt
+      one (checked s t c) (hears c heard) heard refl refl refl (Act.Section section.Check) asked refl false free_now (ap (is_shut_to t) (still_inside s.lot.section _) ∙ free_now) refl refl tt tt
 
   pub append : (token : ParkToken) (k : ℕ) → core_act c.core ≡ Act.Section (section.Append token) → stance c.core ≡ In k (Joins token) → Pays t s (appended s t c (key_of c k) token)
   append token k asked is =
       let free_now = inside_open k _ is in
       one (appended s t c (key_of c k) token) (record (hears c ActResult.Made) { spot = spot.Listed }) ActResult.Made refl refl refl (Act.Section (section.Append token)) asked refl false free_now
-      (ap (is_shut_to t) (still_inside s.lot.section _) ∙ free_now) tt refl tt
+      (ap (is_shut_to t) (still_inside s.lot.section _) ∙ free_now) tt refl tt tt
 
   leaves_open : {n m : ℕ} → LeavesFor (stance c.core) (stance (core_next c.core ActResult.Made)) n m → is_shut_to t (inside s) ≡ false
   leaves_open (inl x) = inside_open x.0 _ x.1
@@ -306,14 +350,14 @@ module _ (s : State) (t : ℕ) (c : Call) (h : FitsTogether s) (here : call_at s
   pub leave : core_act c.core ≡ Act.Section section.Leave → Pays t s (left s t c)
   leave asked =
       let leads = leads_by c.core (Act.Section section.Leave) (word_at s c.lock) ActResult.Made asked tt in
-      one (left s t c) (hears c ActResult.Made) ActResult.Made refl refl refl (Act.Section section.Leave) asked refl false (leaves_open leads) refl tt refl tt
+      one (left s t c) (hears c ActResult.Made) ActResult.Made refl refl refl (Act.Section section.Leave) asked refl false (leaves_open leads) refl tt refl tt refl
 
   pub take_nobody : (k : ℕ) (a : Act) → core_act c.core ≡ a → IsTaking a → stance c.core ≡ In k Takes → Pays t s (took_nobody s t c (key_of c k))
   take_nobody k a asked taking is =
       let heard = ActResult.Took None (is_left (s.lot.queues (key_of c k))) in
       let free_now = inside_open k _ is in
       let gives = gives_took a (word_at s c.lock) None (is_left (s.lot.queues (key_of c k))) taking in
-      one (took_nobody s t c (key_of c k)) (hears c heard) heard refl refl refl a asked (sym gives.2) false free_now (ap (is_shut_to t) (still_inside s.lot.section _) ∙ free_now) gives.0 gives.1 (leaves_none a _ _ taking)
+      one (took_nobody s t c (key_of c k)) (hears c heard) heard refl refl refl a asked (sym gives.2) false free_now (ap (is_shut_to t) (still_inside s.lot.section _) ∙ free_now) gives.0 gives.1 (leaves_none a _ _ taking) (still_taking a _ _ taking)
 
   pub take : (k nth : ℕ) (w : Waiter) (a : Act) → core_act c.core ≡ a → IsTaking a → stance c.core ≡ In k Takes → slice_get (s.lot.queues (key_of c k)) nth ≡ Some w → Pays t s (took s t c (key_of c k) nth w)
   take k nth w a asked taking is at =
@@ -326,12 +370,12 @@ module _ (s : State) (t : ℕ) (c : Call) (h : FitsTogether s) (here : call_at s
       falls s u t c (hears c heard) heard h here (call-within away t (Some (hears c heard)) (subst (λ m. t < m) (sym (length-set s.calls w.thread _)) (in_range s t c here))) refl refl
       (length-set away t (Some (hears c heard)) ∙ length-set s.calls w.thread _)
       (omega (arith, others_same n away t (Some (hears c heard)), others_change n s.calls t w.thread 0 (option_map (off_list t) (call_at s w.thread)) (omega (arith, off_far n t (call_at s w.thread)))))
-      a asked (sym gives.2) false free_now (ap (is_shut_to t) (still_inside s.lot.section _) ∙ free_now) gives.0 gives.1 (leaves_some a c.core s.lot.queues w.token _ c.lock k nth w asked taking is at)
+      a asked (sym gives.2) false free_now (ap (is_shut_to t) (still_inside s.lot.section _) ∙ free_now) gives.0 gives.1 (leaves_some a c.core s.lot.queues w.token _ c.lock k nth w asked taking is at) (still_taking a _ _ taking)
 
   -- it tells whom it has taken
   module _ (u : State) (heard : ActResult) (said : WakeResult) (calls : u.calls ≡ map (option_map (settled t said)) (slice_set s.calls t (Some (hears c heard)))) where
     tells : (a : Act) → core_act c.core ≡ a → word_at u c.lock ≡ word_after a heard (word_at s c.lock) → (shut : Bool) → is_shut_to t (inside s) ≡ shut → is_shut_to t (inside u) ≡ shut
-        → Gives a (word_at s c.lock) heard → Can a shut heard → Leaves a heard (length (s.lot.queues (first_key c.lock))) (length (u.lot.queues (first_key c.lock))) → Pays t s u
+        → Gives a (word_at s c.lock) heard → Can a shut heard → Leaves a heard (length (s.lot.queues (first_key c.lock))) (length (u.lot.queues (first_key c.lock))) → StillAt a (length (s.lot.queues (first_key c.lock))) (length (u.lot.queues (first_key c.lock))) → Pays t s u
     tells =
         let n = length s.calls in
         let news = slice_set s.calls t (Some (hears c heard)) in
@@ -348,13 +392,13 @@ module _ (s : State) (t : ℕ) (c : Call) (h : FitsTogether s) (here : call_at s
       let free_now = inside_open leads.0 _ leads.1 in
       tells (told_all s t c (cond fair handing plain) fair) heard (told_of token) refl (Act.Section (section.Store plain handing)) asked
       (word-here s.words c.lock (change_of (cond fair handing plain) (word_at s c.lock)) (has_word s h t c here)) false free_now
-      (ap (is_shut_to t) (still_told s.lot.section (λ x. record x { phase = phase.Stored; token = token }) (λ x. refl)) ∙ free_now) tt refl tt
+      (ap (is_shut_to t) (still_told s.lot.section (λ x. record x { phase = phase.Stored; token = token }) (λ x. refl)) ∙ free_now) tt refl tt tt
 
   pub mask : (keep : ℕ) → core_act c.core ≡ Act.FetchAnd keep → Pays t s (masked s t c keep)
   mask keep asked =
       let heard = ActResult.Before (word_at s c.lock) in
       tells (masked s t c keep) heard WakeResult.TryAgain refl (Act.FetchAnd keep) asked (word-here s.words c.lock (bit_and (word_at s c.lock) keep) (has_word s h t c here)) (is_shut_to t (inside s)) refl
-      (ap (is_shut_to t) (still_told s.lot.section (λ x. record x { phase = phase.Stored; token = sign false }) (λ x. refl))) refl tt refl
+      (ap (is_shut_to t) (still_told s.lot.section (λ x. record x { phase = phase.Stored; token = sign false }) (λ x. refl))) refl tt refl tt
 
 -- Wakes, answers and beginnings are paid for; and where a thread can't move, another may be stepped.
 
@@ -383,24 +427,49 @@ core_wakes n (Core.Mutex c) v x good asked some = of_mutex.steps_fall.wakes c.ph
 core_wakes n (Core.Upgrade c) v x good asked some = of_upgrade.upgrade_steps_fall.wakes n c.phase v good.1 good.2 asked some
 core_wakes n (Core.Rw c) v x good asked some = of_rw.steps_fall.wakes n c.phase v asked some
 core_wakes n (Core.Late p) v x good asked some = absurd (late_wakes p asked)
+core_wakes n (Core.LateRw p) v x good asked some = absurd (tardy_wakes p asked)
+
+late_rw_woken : (n : ℕ) (p : LateRwPhase) (token : UnparkToken) → IsGoodLate p → core_steps n Unseen (late_rw_next p (seen.Woken token)) + 1 ≤ late_rw_steps n Unseen p + wake
+late_rw_woken n (LateRwPhase.Expires (RwSleeper.Simple c)) token good = omega (arith, of_rw.steps_fall.woken n c.phase token)
+late_rw_woken n (LateRwPhase.Expires (RwSleeper.Upgradable c)) token good = omega (arith, of_upgrade.upgrade_steps_fall.woken n c.phase token good.1.0 good.1.1)
+late_rw_woken n p token good = omega arith
 
 core_woken : (n : ℕ) (c : Core) (token : UnparkToken) (x : ℕ) → IsGood c x → core_steps n Unseen (core_next c (seen.Woken token)) + 1 ≤ core_steps n Unseen c + wake
 core_woken n (Core.Mutex c) token x good = of_mutex.steps_fall.woken c.phase token
 core_woken n (Core.Upgrade c) token x good = of_upgrade.upgrade_steps_fall.woken n c.phase token good.1 good.2
 core_woken n (Core.Rw c) token x good = of_rw.steps_fall.woken n c.phase token
 core_woken n (Core.Late p) token x good = late_woken n p token
+core_woken n (Core.LateRw p) token x good = late_rw_woken n p token good
+
+late_rw_ends : (n : ℕ) (v : View) (p : LateRwPhase) (answer : CoreAnswer) → late_rw_act p ≡ Act.Done answer → 1 ≤ late_rw_steps n v p
+late_rw_ends n v LateRwPhase.GivesUp answer e = omega arith
+late_rw_ends n v (LateRwPhase.Expires k) answer e = absurd cc
+late_rw_ends n v (LateRwPhase.Quits k) answer e = absurd cc
+late_rw_ends n v LateRwPhase.Masks answer e = omega arith
+late_rw_ends n v LateRwPhase.Leaves answer e = omega arith
+late_rw_ends n v (LateRwPhase.LeavesPending from) answer e = omega arith
 
 core_ends : (n : ℕ) (c : Core) (v : View) (answer : CoreAnswer) → core_act c ≡ Act.Done answer → 1 ≤ core_steps n v c
 core_ends n (Core.Mutex c) v answer asked = of_mutex.steps_fall.ends c.phase v answer asked
 core_ends n (Core.Rw c) v answer asked = of_rw.steps_fall.ends n c.phase v answer asked
 core_ends n (Core.Late p) v answer asked = late_ends p
+core_ends n (Core.LateRw p) v answer asked = late_rw_ends n v p answer asked
 core_ends n (Core.Upgrade c) v answer asked = of_upgrade.upgrade_steps_fall.ends n c.phase v answer asked
 
-core_stops : (n : ℕ) (c : Core) (word first : ℕ) (shut : Bool) → StopsAt (core_act c) shut → core_steps n Unseen c ≤ core_steps n (Sees word first shut) c
-core_stops n (Core.Mutex c) word first shut stops = of_mutex.steps_fall.stops c.phase word first shut stops
-core_stops n (Core.Rw c) word first shut stops = of_rw.steps_fall.stops n c.phase word first shut stops
-core_stops n (Core.Late p) word first shut stops = omega arith
-core_stops n (Core.Upgrade c) word first shut stops = of_upgrade.upgrade_steps_fall.stops n c.phase word first shut stops
+-- one that sleeps has the same left whoever is stepped
+sleeper_still : (n : ℕ) (v : View) (k : RwSleeper) → (sleeper_asleep k ≡ true) × IsReadySleeper k → sleeper_steps n Unseen k ≡ sleeper_steps n v k
+sleeper_still n v k (e, r) = by_sleeper (λ k. sleeper_steps n Unseen k ≡ sleeper_steps n v k) (λ want. refl) (λ rounds. refl) (λ want i. refl) (λ rounds. refl) k r e
+
+late_rw_stops : (n : ℕ) (p : LateRwPhase) (v : View) → IsGoodLate p → late_rw_steps n Unseen p ≤ late_rw_steps n v p
+late_rw_stops n (LateRwPhase.Expires k) v good = omega (arith, sleeper_still n v k good)
+late_rw_stops n p v good = omega arith
+
+core_stops : (n x : ℕ) (c : Core) (word first : ℕ) (shut : Bool) → IsGood c x → StopsAt (core_act c) shut → core_steps n Unseen c ≤ core_steps n (Sees word first shut) c
+core_stops n x (Core.Mutex c) word first shut good stops = of_mutex.steps_fall.stops c.phase word first shut stops
+core_stops n x (Core.Rw c) word first shut good stops = of_rw.steps_fall.stops n c.phase word first shut stops
+core_stops n x (Core.Late p) word first shut good stops = omega arith
+core_stops n x (Core.LateRw p) word first shut good stops = late_rw_stops n p (Sees word first shut) good
+core_stops n x (Core.Upgrade c) word first shut good stops = of_upgrade.upgrade_steps_fall.stops n c.phase word first shut stops
 
 -- WAKES AND ANSWERS
 
@@ -430,13 +499,15 @@ ends_pay s t c answer here asked =
 
 -- NO MORE THAN WHERE ANOTHER IS STEPPED
 
-few_in_list : (s : State) → FitsTogether s → (j : ℕ) → manner_of (slice_get s.kinds j) ≡ Some AsRw → length (s.lot.queues (first_key j)) ≤ length s.calls
-few_in_list s h j is =
-    omega (arith, few1 false 0 (rw_lock_at s j) (rw_sound s h j is), length-map (s.lot.queues (first_key j)) (λ w. w.thread), length-all (rw_role_at s j) 0 (length s.calls))
+late_rw_few : (n word first : ℕ) (shut : Bool) (p : LateRwPhase) → first ≤ n → late_rw_steps n (Sees word first shut) p ≤ late_rw_steps n Unseen p
+late_rw_few n word first shut (LateRwPhase.Expires (RwSleeper.Simple c)) few = omega (arith, of_rw.steps_fall.few n word first shut c.phase few)
+late_rw_few n word first shut (LateRwPhase.Expires (RwSleeper.Upgradable c)) few = omega (arith, of_upgrade.upgrade_steps_fall.few n word first shut c.phase few)
+late_rw_few n word first shut p few = omega arith
 
 own_few : (s : State) → FitsTogether s → (word j : ℕ) (shut : Bool) (c : Core) → IsOfKind (slice_get s.kinds j) c → core_steps (length s.calls) (Sees word (length (s.lot.queues (first_key j))) shut) c ≤ core_steps (length s.calls) Unseen c
 own_few s h word j shut (Core.Mutex c) is = of_mutex.steps_fall.few c.phase (Sees word (length (s.lot.queues (first_key j))) shut)
 own_few s h word j shut (Core.Late p) is = omega arith
+own_few s h word j shut (Core.LateRw p) is = late_rw_few (length s.calls) word (length (s.lot.queues (first_key j))) shut p (few_in_list s h j is)
 own_few s h word j shut (Core.Rw c) is = of_rw.steps_fall.few (length s.calls) word (length (s.lot.queues (first_key j))) shut c.phase (few_in_list s h j is)
 own_few s h word j shut (Core.Upgrade c) is = of_upgrade.upgrade_steps_fall.few (length s.calls) word (length (s.lot.queues (first_key j))) shut c.phase (few_in_list s h j is)
 
@@ -461,6 +532,10 @@ costs_most n k LockCall.Upgrade = omega arith
 costs_most n k LockCall.TryUpgrade = omega arith
 costs_most n k LockCall.DowngradeToUpgradable = omega arith
 costs_most n k LockCall.DowngradeUpgradable = omega arith
+costs_most n k LockCall.ReadUntil = omega arith
+costs_most n k LockCall.WriteUntil = omega arith
+costs_most n k LockCall.UpgradableUntil = omega arith
+costs_most n k LockCall.UpgradeUntil = omega arith
 
 pub begins_cost : (s : State) (t : ℕ) (c : Call) (what : LockCall) → FitsTogether s → MayBegin s t c → c.core ≡ core_of (kind_in s.kinds c.lock) what → Costs t what s (begun s t c)
 begins_cost s t c what h may is =
@@ -510,7 +585,7 @@ module _ (s : State) (h : FitsTogether s) where
 
   none_less : (t : ℕ) (o : Option Call) → call_at s t ≡ o → can_move_in s o ≡ false → far_steps (length s.calls) o ≤ own_steps s t o
   none_less t None at cannot = omega arith
-  none_less t (Some c) at cannot = core_stops (length s.calls) c.core (word_at s c.lock) (length (s.lot.queues (first_key c.lock))) (is_shut_to t (inside s)) (stops_at t c at (core_act c.core) refl (nor_else (goes_late s c c.core) cannot))
+  none_less t (Some c) at cannot = core_stops (length s.calls) (word_at s c.lock) c.core (word_at s c.lock) (length (s.lot.queues (first_key c.lock))) (is_shut_to t (inside s)) (is_good s h t c at) (stops_at t c at (core_act c.core) refl (nor_else (goes_late s c c.core) cannot))
 
   pub any_may_be_stepped : (t : ℕ) → can_move s t ≡ false → AnyMayBeStepped s t
   any_may_be_stepped t cannot u =

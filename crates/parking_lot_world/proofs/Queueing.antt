@@ -21,8 +21,8 @@ use Rattle.parking_lot_upgrades.specs.declared.upgrade_phase.Hold.{Hold as Kept}
 use Rattle.parking_lot_upgrades.specs.declared.upgrade_phase.Release.{Release}
 use Rattle.parking_lot_upgrades.specs.declared.upgrade_phase.UpgradePhase.{UpgradePhase}
 use Rattle.parking_lot_world.specs.Rows.{rw_core_role}
-use Rattle.parking_lot_world.specs.Stances.{seeks_stance, upgrade_stance}
-use Rattle.parking_lot_world.proofs.KindTable.{RwCall, Simple, Upgradable, rw_call}
+use Rattle.parking_lot_world.specs.Stances.{seeks_stance, upgrade_stance, late_rw_stance}
+use Rattle.parking_lot_world.proofs.KindTable.{RwCall, Simple, Upgradable, rw_call, Tardy}
 use Rattle.parking_lot_world.specs.Kinds.{AsMutex, manner_of, Manner, AsRw}
 use Rattle.parking_lot_world.specs.declared.seat.Hold.{Hold}
 use Rattle.parking_lot_world.specs.declared.seat.QueuePosition.{QueuePosition}
@@ -35,6 +35,13 @@ use Rattle.parking_lot_world.specs.SoundLaws.{ListsAreWaiters, waits_as, waits_i
 use Rattle.parking_lot_world.specs.Stances.{late_stance, mutex_stance, rw_stance, stance}
 use Rattle.parking_lot_world.proofs.KindTable.{Kind, MutexCall, Plain, Late, mutex_call, mutex_plays, of_mutexes, of_rws, role_at, roles_at}
 use Rattle.parking_lot_world.proofs.Everybody.{get-all, past}
+use Rattle.parking_lot_world.specs.declared.late_rw.LateRwPhase.{LateRwPhase}
+use Rattle.parking_lot_world.specs.declared.late_rw.RwSleeper.{RwSleeper}
+use Rattle.parking_lot_world.specs.LateRoles.{late_rw_role}
+use Rattle.parking_lot_world.specs.CallViews.{HasSlept, IsLateAsSlept, IsLateInOrder}
+use Rattle.parking_lot_world.proofs.Sleepers.{by_sleeper, draining, seeking, upgrading, wanting}
+use Rattle.parking_lot_world.proofs.Viewing.{as_slept}
+use Rattle.parking_lot_protocol.specs.declared.rw_phase.LockMode.{LockMode}
 
 -- BY PHASES
 
@@ -97,13 +104,49 @@ upgrade_weigh n at us (UpgradePhase.Frees r core) = frees_weigh n at us r core.p
 upgrade_weigh n at us (UpgradePhase.Owes kept end core) = owes_weigh n at us kept end core.phase
 upgrade_weigh n at us p = (refl, refl)
 
-rw_weighs_first : (n : ℕ) (at : QueuePosition) (us : List ℕ) (k : RwCall) → weight Waiting1 (rw_core_role n at us (rw_call k)) ≡ bit (waits_as 0 at (stance (rw_call k)))
-rw_weighs_first n at us (Simple k) = rw_first n at us k.phase
-rw_weighs_first n at us (Upgradable k) = (upgrade_weigh n at us k.phase).0
+-- One whose moment has passed waits as it slept.
+abbrev WeighsSo : ℕ → QueuePosition → List ℕ → RwSleeper → Type 0
+WeighsSo n at us k = (weight Waiting1 (late_rw_role n (rw_spot at) us (LateRwPhase.Expires k)) ≡ bit (waits_as 0 at (late_rw_stance (LateRwPhase.Expires k)))) × (weight Waiting2 (late_rw_role n (rw_spot at) us (LateRwPhase.Expires k)) ≡ bit (waits_as 1 at (late_rw_stance (LateRwPhase.Expires k))))
+    × (weight Waiting1 (late_rw_role n (rw_spot at) us (LateRwPhase.Quits k)) ≡ bit (waits_as 0 at (late_rw_stance (LateRwPhase.Quits k)))) × (weight Waiting2 (late_rw_role n (rw_spot at) us (LateRwPhase.Quits k)) ≡ bit (waits_as 1 at (late_rw_stance (LateRwPhase.Quits k))))
 
-rw_weighs_second : (n : ℕ) (at : QueuePosition) (us : List ℕ) (k : RwCall) → weight Waiting2 (rw_core_role n at us (rw_call k)) ≡ bit (waits_as 1 at (stance (rw_call k)))
-rw_weighs_second n at us (Simple k) = rw_second n at us k.phase
-rw_weighs_second n at us (Upgradable k) = (upgrade_weigh n at us k.phase).1
+wanting_weighs : (n : ℕ) (at : QueuePosition) (us : List ℕ) (want : LockMode) → WeighsSo n at us (wanting want)
+unfolding weight
+wanting_weighs n QueuePosition.Listed us want = (refl, refl, refl, refl)
+wanting_weighs n (QueuePosition.Off by said) us want = (refl, refl, refl, refl)
+
+draining_weighs : (n : ℕ) (at : QueuePosition) (us : List ℕ) (rounds : ℕ) → WeighsSo n at us (draining rounds)
+unfolding weight
+draining_weighs n QueuePosition.Listed us rounds = (refl, refl, refl, refl)
+draining_weighs n (QueuePosition.Off by said) us rounds = (refl, refl, refl, refl)
+
+seeking_weighs : (n : ℕ) (at : QueuePosition) (us : List ℕ) (want : LockMode) → WeighsSo n at us (seeking want)
+unfolding weight
+seeking_weighs n QueuePosition.Listed us want = (refl, refl, refl, refl)
+seeking_weighs n (QueuePosition.Off by said) us want = (refl, refl, refl, refl)
+
+upgrading_weighs : (n : ℕ) (at : QueuePosition) (us : List ℕ) (rounds : ℕ) → WeighsSo n at us (upgrading rounds)
+unfolding weight
+upgrading_weighs n QueuePosition.Listed us rounds = (refl, refl, refl, refl)
+upgrading_weighs n (QueuePosition.Off by said) us rounds = (refl, refl, refl, refl)
+
+slept_weighs : (n : ℕ) (at : QueuePosition) (us : List ℕ) (k : RwSleeper) → HasSlept k → WeighsSo n at us k
+slept_weighs n at us k h = by_sleeper (WeighsSo n at us) (wanting_weighs n at us) (draining_weighs n at us) (λ want i. seeking_weighs n at us want) (upgrading_weighs n at us) k h.1 h.0
+
+tardy_weighs : (n : ℕ) (at : QueuePosition) (us : List ℕ) (p : LateRwPhase) → IsLateInOrder p → (weight Waiting1 (late_rw_role n (rw_spot at) us p) ≡ bit (waits_as 0 at (late_rw_stance p))) × (weight Waiting2 (late_rw_role n (rw_spot at) us p) ≡ bit (waits_as 1 at (late_rw_stance p)))
+unfolding weight
+tardy_weighs n at us (LateRwPhase.Expires k) h = let w = slept_weighs n at us k h in (w.0, w.1)
+tardy_weighs n at us (LateRwPhase.Quits k) h = let w = slept_weighs n at us k h in (w.2, w.3)
+tardy_weighs n at us p h = (refl, refl)
+
+rw_weighs_first : (n : ℕ) (at : QueuePosition) (us : List ℕ) (k : RwCall) → IsLateAsSlept (rw_call k) → weight Waiting1 (rw_core_role n at us (rw_call k)) ≡ bit (waits_as 0 at (stance (rw_call k)))
+rw_weighs_first n at us (Simple k) h = rw_first n at us k.phase
+rw_weighs_first n at us (Upgradable k) h = (upgrade_weigh n at us k.phase).0
+rw_weighs_first n at us (Tardy p) h = (tardy_weighs n at us p h).0
+
+rw_weighs_second : (n : ℕ) (at : QueuePosition) (us : List ℕ) (k : RwCall) → IsLateAsSlept (rw_call k) → weight Waiting2 (rw_core_role n at us (rw_call k)) ≡ bit (waits_as 1 at (stance (rw_call k)))
+rw_weighs_second n at us (Simple k) h = rw_second n at us k.phase
+rw_weighs_second n at us (Upgradable k) h = (upgrade_weigh n at us k.phase).1
+rw_weighs_second n at us (Tardy p) h = (tardy_weighs n at us p h).1
 
 mutex_first : (at : QueuePosition) (v : ℕ) (p : MutexPhase) → mutex.weight mutex.Waiting (of_mutex.role (mutex_spot at) v p) ≡ bit (waits_as 0 at (mutex_stance p))
 unfolding mutex.weight
@@ -169,13 +212,13 @@ idle_mutex h = refl
 module _ (s : State) (h : FitsTogether s) (i : ℕ) where
   -- what a class of roles weighs, where it weighs what the stance says, and nothing of an idle thread
   module _ {C R L : Type 0} (K : Kind C R L) (weighs : R → ℕ) (k : ℕ) (only : (x : Core) → IsOfKind (slice_get s.kinds i) x → (q : C) × (x ≡ K.core q)) (nothing : (x : Hold) → weighs (K.idle x) ≡ 0)
-      (as_stands : (n : ℕ) (at : QueuePosition) (us : List ℕ) (q : C) → weighs (K.plays n at us q) ≡ bit (waits_as k at (stance (K.core q)))) where
+      (as_stands : (n : ℕ) (at : QueuePosition) (us : List ℕ) (q : C) → IsLateAsSlept (K.core q) → weighs (K.plays n at us q) ≡ bit (waits_as k at (stance (K.core q)))) where
     by_role : (t : ℕ) (o : Option Call) → call_at s t ≡ o → (us : List ℕ) (x : Hold) → weighs (K.role_in i us x o) ≡ bit (option_map_or (λ (c : Call). (c.lock == i) && waits_as k c.spot (stance c.core)) o false)
     by_role t None e us x = ap weighs (K.none i us x) ∙ nothing x
     by_role t (Some c) e us x = elim (cases_eq c.lock i) [
       | inl same ↦
           let q = only c.core (subst (λ j. IsOfKind (slice_get s.kinds j) c.core) same (h.rules.kinds t c e)) in
-          ap weighs (K.here i us x c q.0 q.1 same) ∙ as_stands c.others c.spot us q.0 ∙ sym (ap (λ y. bit (waits_as k c.spot (stance y))) q.1)
+          ap weighs (K.here i us x c q.0 q.1 same) ∙ as_stands c.others c.spot us q.0 (subst IsLateAsSlept q.1 (as_slept s h t c e)) ∙ sym (ap (λ y. bit (waits_as k c.spot (stance y))) q.1)
           ∙ sym (ap (λ b. bit (b && waits_as k c.spot (stance c.core))) (eq-eqb c.lock i same))
       | inr ne ↦ ap weighs (K.away i us x c ne) ∙ nothing x ∙ sym (ap (λ b. bit (b && waits_as k c.spot (stance c.core))) (ne_eqb c.lock i ne))
     ]
@@ -192,14 +235,15 @@ module _ (s : State) (h : FitsTogether s) (i : ℕ) where
     rw_only : (x : Core) → IsOfKind (slice_get s.kinds i) x → (q : RwCall) × (x ≡ rw_call q)
     rw_only (Core.Rw q) kinds = (Simple q, refl)
     rw_only (Core.Upgrade q) kinds = (Upgradable q, refl)
+    rw_only (Core.LateRw p) kinds = (Tardy p, refl)
     rw_only (Core.Mutex q) kinds = absurd (of kinds)
     rw_only (Core.Late p) kinds = absurd (of kinds)
 
     rw_lists : (t : ℕ) → (occurs t (queue_at s (first_key i)) ≡ bit (waits_in s i 0 t)) × (occurs t (queue_at s (second_key i)) ≡ bit (waits_in s i 1 t))
     rw_lists t =
         let sound = subst AnySound is (h.rules.sound.sound i) in (
-          sound.waiting1.each t ∙ by_thread of_rws (weight Waiting1) 0 rw_only idle_first (λ n at us q. rw_weighs_first n at us q) t,
-          sound.waiting2.each t ∙ by_thread of_rws (weight Waiting2) 1 rw_only idle_second (λ n at us q. rw_weighs_second n at us q) t,
+          sound.waiting1.each t ∙ by_thread of_rws (weight Waiting1) 0 rw_only idle_first (λ n at us q slept. rw_weighs_first n at us q slept) t,
+          sound.waiting2.each t ∙ by_thread of_rws (weight Waiting2) 1 rw_only idle_second (λ n at us q slept. rw_weighs_second n at us q slept) t,
         )
 
   module _ (of : manner_of (slice_get s.kinds i) ≡ Some AsMutex) where
@@ -210,7 +254,7 @@ module _ (s : State) (h : FitsTogether s) (i : ℕ) where
     mutex_list : (t : ℕ) → occurs t (queue_at s (first_key i)) ≡ bit (waits_in s i 0 t)
     mutex_list t =
         let sound = subst AnySound (ap (λ k. lock_as k s i) of) (h.rules.sound.sound i) in
-        sound.waiting.each t ∙ by_thread of_mutexes (mutex.weight mutex.Waiting) 0 mutex_only idle_mutex (λ n at us q. call_first at us q) t
+        sound.waiting.each t ∙ by_thread of_mutexes (mutex.weight mutex.Waiting) 0 mutex_only idle_mutex (λ n at us q slept. call_first at us q) t
 
     -- its second list is empty
     module _ (w : Waiter) (at : slice_get (s.lot.queues (second_key i)) 0 ≡ Some w) where
@@ -234,7 +278,7 @@ module _ (s : State) (h : FitsTogether s) (i : ℕ) where
     mutex_second : (t : ℕ) → occurs t (queue_at s (second_key i)) ≡ bit (waits_in s i 1 t)
     mutex_second t =
         ap (λ q. occurs t (threads_of q)) (empty (s.lot.queues (second_key i)) refl) ∙ sym (nothing_weighs (slice_get (mutex_at s i).roles t))
-        ∙ by_thread of_mutexes (λ (x : mutex.Role). 0) 1 mutex_only (λ x. refl) (λ n at us q. sym (ap bit (call_never at q))) t
+        ∙ by_thread of_mutexes (λ (x : mutex.Role). 0) 1 mutex_only (λ x. refl) (λ n at us q slept. sym (ap bit (call_never at q))) t
 
 pub lists_are_waiters : (s : State) → FitsTogether s → ListsAreWaiters s
 lists_are_waiters s h = record { first = λ i t. at_first i t (manner_of (slice_get s.kinds i)) refl; second = λ i t. at_second i t (manner_of (slice_get s.kinds i)) refl }

@@ -1,11 +1,11 @@
 -- A waiter that is moved to a mutex is a case of a lock without a word.
-use Rattle.std.proofs.Common.{◌≡◌, ℕ, Bool, true, false, List, [], ◌∷◌, ◌++◌, map, option_map, Some, slice_get, slice_set, refl, sym, ap, ◌∙◌, subst}
+use Rattle.std.proofs.Common.{◌≡◌, ℕ, true, [], ◌∷◌, ◌++◌, map, option_map, Some, slice_get, sym, ap, ◌∙◌, subst}
 use Rattle.std.proofs.lemmas.List.{map-set}
 use Rattle.std.proofs.lemmas.Option.{slice_get-map}
 use Rattle.parking_lot_rules.specs.Any.{AnyLock, Mx}
 use Rattle.parking_lot_rules.specs.Roles.{Asleep}
-use Rattle.parking_lot_rules.specs.Mutex.{Mutex, Queued, Role, Seeks, away, doing}
-use Rattle.parking_lot_rules.specs.MutexOwners.{Apart, Case, IsCase, Move, Nothing, Owners, Standing, Waits, owners, standing}
+use Rattle.parking_lot_rules.specs.Mutex.{Mutex, Queued, Seeks, away, doing}
+use Rattle.parking_lot_rules.specs.MutexOwners.{Case, IsCase, Move, Nothing, owners, standing}
 use Rattle.parking_lot_world.specs.Kinds.{AsMutex, manner_of, recursive_in}
 use Rattle.parking_lot_world.specs.Requeues.{IsCaseOf, MovesAreCases, filed, roused}
 use Rattle.parking_lot_world.specs.Rows.{State, any_lock, lock_as, lock_at, mutex_at}

@@ -85,6 +85,7 @@ module _ (s u : State) (lock : ℕ) (h : FitsTogether s) (kind : manner_of (slic
       )
   at_it n t c (Core.Rw q) e here at = absurd (two_kinds (sym (subst (IsOfKind (slice_get s.kinds c.lock)) e (h.rules.kinds t c here)) ∙ (ap (λ i. manner_of (slice_get s.kinds i)) at ∙ kind)))
   at_it n t c (Core.Late q) e here at = omega arith
+  at_it n t c (Core.LateRw q) e here at = absurd (two_kinds (sym (subst (IsOfKind (slice_get s.kinds c.lock)) e (h.rules.kinds t c here)) ∙ (ap (λ i. manner_of (slice_get s.kinds i)) at ∙ kind)))
   at_it n t c (Core.Upgrade q) e here at = absurd (two_kinds (sym (subst (IsOfKind (slice_get s.kinds c.lock)) e (h.rules.kinds t c here)) ∙ (ap (λ i. manner_of (slice_get s.kinds i)) at ∙ kind)))
 
   pub others_cost : (t : ℕ) (c : Call) → call_at s t ≡ Some c → core_steps (length s.calls) (view_of u t c) c.core ≤ core_steps (length s.calls) (view_of s t c) c.core + 25

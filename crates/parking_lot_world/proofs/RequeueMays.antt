@@ -55,6 +55,7 @@ module _ (s : State) (h : FitsTogether s) (lock : ℕ) where
   retried t c (Core.Rw k) is here at e = absurd (both_ways false refl e)
   retried t c (Core.Late p) is here at e = absurd (both_ways false refl e)
   retried t c (Core.Upgrade k) is here at e = absurd (both_ways false refl e)
+  retried t c (Core.LateRw p) is here at e = absurd (both_ways false refl e)
 
   pub attended_by : (word_at s lock % 2 == 1 || list_any (retries_at lock) s.calls) ≡ true → IsAttended s lock
   attended_by e = go (word_at s lock % 2 == 1) refl

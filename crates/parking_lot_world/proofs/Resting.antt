@@ -130,7 +130,7 @@ module _ (n : ℕ) (ks : List LockKind) where
       same_shares : (k : ℕ) → Hold.Shares 0 ≡ Hold.Shares k → k ≡ 0
       same_shares k e = cc
 
-  pub rest_fits : lot.Sound s.lot → n ≤ 65536 → length ks ≤ 2 ^ 20 → FitsTogether s
+  pub rest_fits : lot.Sound s.lot → n ≤ 131072 → length ks ≤ 2 ^ 20 → FitsTogether s
   rest_fits sound low locks =
       let new : IsNew s = record {
         calls = nobody;

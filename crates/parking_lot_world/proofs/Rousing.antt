@@ -26,7 +26,7 @@ use Rattle.parking_lot_world.proofs.Passing.{passes_after}
 use Rattle.parking_lot_world.proofs.Stancing.{sleepers_wake}
 use Rattle.parking_lot_world.proofs.Carrying.{same_call}
 use Rattle.parking_lot_world.proofs.Indexing.{kept_remove}
-use Rattle.parking_lot_world.proofs.KindTable.{MutexCall, Plain, Late, RwCall, Simple, Upgradable, next_is, rw_call, rw_next, mutex_call, sleeps_so, woken_so, woken_plain, Kind, of_rws, of_mutexes, IsThere, Elsewhere, in_its_place, role_at, role_now, role_stays, roles_at, same, shown}
+use Rattle.parking_lot_world.proofs.KindTable.{MutexCall, Plain, Late, RwCall, Simple, Upgradable, next_is, rw_call, rw_next, mutex_call, sleeps_so, woken_so, woken_plain, Kind, of_rws, of_mutexes, IsThere, Elsewhere, in_its_place, role_at, role_now, role_stays, roles_at, same, shown, Tardy}
 use Rattle.parking_lot_world.proofs.LotWakes.{woken_off, due_place, other, call_mine, call_woken, call_other, woke_length}
 use Rattle.parking_lot_world.proofs.Making.{move_sound, mutex_goes, rw_goes}
 use Rattle.parking_lot_world.proofs.Ruling.{CallFits, Fitted, call_fits, fits_next, rules_after}
@@ -45,7 +45,8 @@ use Rattle.parking_lot_protocol.specs.declared.act.SectionAct.TheVariants as sec
 use Rattle.parking_lot_protocol.specs.declared.mutex_core.MutexCore.{MutexCore}
 use Rattle.parking_lot_protocol.specs.declared.mutex_phase.Giving.{Giving}
 use Rattle.parking_lot_protocol.specs.declared.mutex_phase.MutexPhase.{MutexPhase}
-use Rattle.parking_lot_world.proofs.RwCalls.{CallMeets, as_move, call_role, call_wakes, call_woken as woken_call_is}
+use Rattle.parking_lot_world.proofs.RwCalls.{CallMeets, as_move, call_role, call_wakes, tardy_wakes}
+use Rattle.parking_lot_world.proofs.RwSleeps.{call_woken as woken_call_is}
 use Rattle.parking_lot_world.specs.RowSteps.{IsRwMove}
 use Rattle.parking_lot_world.specs.MutexLaws.{Plays}
 use Rattle.parking_lot_world.specs.declared.seat.LatePhase.{LatePhase}
@@ -346,14 +347,14 @@ module _ (s : State) (t : ℕ) (c : Call) (h : FitsTogether s) (here : call_at s
       let its_is = ap (λ (x : Core). core_next x (seen.Woken token)) de ∙ next_is q (seen.Woken token) in
       let woken = woken_call_is (recursive_in s.kinds d.lock) d.others t ws q (word_at s d.lock) token off.0 off.1 its.stands asleep in
       let sleeps = sleeps_off s t c h here e d token due from of_rws k q (rw_next k seen.Made) (rw_next q (seen.Woken token)) mine_is de its_is to in
-      let wakes = call_wakes (recursive_in s.kinds c.lock) (rw_lock_at s c.lock) t c.others c.spot v vs k x woken.how (call_role d.others QueuePosition.Listed ws (rw_next q (seen.Woken token))) met asked (sleeps ∙ ap Some woken.from) woken.to in
+      let wakes = call_wakes (recursive_in s.kinds c.lock) (rw_lock_at s c.lock) t c.others c.spot v vs k x woken.how woken.stay (call_role d.others QueuePosition.Listed ws (rw_next q (seen.Woken token))) met asked (sleeps ∙ ap Some woken.from) woken.out woken.to in
       let kind_is = of_rws.of_kind (slice_get s.kinds c.lock) k (subst (IsOfKind (slice_get s.kinds c.lock)) ce (h.rules.kinds t c here)) in
       let mine = rw_hears s h t c k ce here seen.Made wakes.told tt s.lot.queues (wakes.learns (s.lot.queues (2 * c.lock)) (s.lot.queues (2 * c.lock + 1))) in
       let others = rw_hears s h v d q de due.there (seen.Woken token) woken.told tt s.lot.queues (woken.learns (s.lot.queues (2 * d.lock)) (s.lot.queues (2 * d.lock + 1))) in (
         (
           as_move k c.others us seen.Made c.lock t s u
               (subst (λ m. IsRwMove m c.lock t s u) (sym (wakes.move us))
-              (rw_goes s u t c.lock of_rw.WakesOne _ (subst (IsThere c.lock) (sym here) refl) (woke_elsewhere s t c h here e d token due from) kind_is (wakes.owns, v, vs, woken.how, wakes.step)
+              (rw_goes s u t c.lock of_rw.WakesOne _ (subst (IsThere c.lock) (sym here) refl) (woke_elsewhere s t c h here e d token due from) kind_is (wakes.owns, v, vs, woken.how, woken.stay, wakes.step)
               (roused_after s t c h here e d token due from of_rws k q (rw_next k seen.Made) (rw_next q (seen.Woken token)) mine_is de its_is to x refl) refl)),
           mine.0,
           mine.1,
@@ -406,6 +407,10 @@ module _ (s : State) (t : ℕ) (c : Call) (h : FitsTogether s) (here : call_at s
       go (Core.Rw k) (Core.Upgrade q) ce de = wake_rw (Simple k) (Upgradable q) ce de (sym (ap core_act ce) ∙ asked)
       go (Core.Upgrade k) (Core.Rw q) ce de = wake_rw (Upgradable k) (Simple q) ce de (sym (ap core_act ce) ∙ asked)
       go (Core.Upgrade k) (Core.Upgrade q) ce de = wake_rw (Upgradable k) (Upgradable q) ce de (sym (ap core_act ce) ∙ asked)
+      go (Core.Rw k) (Core.LateRw q) ce de = wake_rw (Simple k) (Tardy q) ce de (sym (ap core_act ce) ∙ asked)
+      go (Core.Upgrade k) (Core.LateRw q) ce de = wake_rw (Upgradable k) (Tardy q) ce de (sym (ap core_act ce) ∙ asked)
+      go (Core.Mutex k) (Core.LateRw q) ce de = let z = of_one_kind (Core.Mutex k) (Core.LateRw q) ce de in absurd (two_kinds (sym z.1 ∙ z.0))
+      go (Core.LateRw p) y ce de = absurd (tardy_wakes p (sym (ap core_act ce) ∙ asked))
       go (Core.Upgrade k) (Core.Late q) ce de = let z = of_one_kind (Core.Upgrade k) (Core.Late q) ce de in absurd (two_kinds (sym z.0 ∙ z.1))
       go (Core.Upgrade k) (Core.Mutex q) ce de = let z = of_one_kind (Core.Upgrade k) (Core.Mutex q) ce de in absurd (two_kinds (sym z.0 ∙ z.1))
       go (Core.Mutex k) (Core.Upgrade q) ce de = let z = of_one_kind (Core.Mutex k) (Core.Upgrade q) ce de in absurd (two_kinds (sym z.1 ∙ z.0))

@@ -5,7 +5,7 @@ use Rattle.std.proofs.lemmas.List.{length-set}
 use Rattle.parking_lot_core_lot.specs.declared.place.Waiter.{Waiter}
 use Rattle.parking_lot_protocol.specs.declared.act.ActResult.{ActResult}
 use Rattle.parking_lot_world.specs.RowFits.{upgrade_knows}
-use Rattle.parking_lot_world.specs.Kinds.{AsMutex, Manner, manner_of, recursive_in}
+use Rattle.parking_lot_world.specs.Kinds.{AsMutex, Manner, manner_of, recursive_in, AsRw}
 use Rattle.parking_lot_world.specs.declared.calls.LockKind.{LockKind}
 use Rattle.parking_lot_world.specs.declared.seat.Hold.TheVariants as hold
 use Rattle.parking_lot_world.specs.declared.seat.QueuePosition.{QueuePosition}
@@ -16,11 +16,13 @@ use Rattle.parking_lot_world.specs.Rows.{State, word_at, hold_at, call_at, taken
 use Rattle.parking_lot_world.specs.Rounds.{IsUnderWay}
 use Rattle.parking_lot_world.specs.RowFits.{FitsTogether, RulesFit, IsOfKind, IsOfManner, IsPrepared, KnowsList, mutex_knows, rw_knows}
 use Rattle.parking_lot_world.specs.RowSteps.{Goes, IsMoveOf}
-use Rattle.parking_lot_world.specs.Stances.{core_next, late_next}
+use Rattle.parking_lot_world.specs.Stances.{core_next, late_next, late_rw_next}
 use Rattle.parking_lot_world.proofs.Making.{IsSoundState, move_sound}
 use Rattle.parking_lot_world.proofs.Calling.{call_of, calls-change, same-holds}
 use Rattle.parking_lot_world.proofs.Owning.{OwnAct, call_after}
 use Rattle.parking_lot_world.proofs.Spinning.{under_way}
+use Rattle.parking_lot_world.specs.declared.late_rw.LateRwPhase.{LateRwPhase}
+use Rattle.parking_lot_world.specs.declared.late_rw.RwSleeper.{RwSleeper}
 
 -- what holds of a call on the side of the rules
 pub record CallFits (kinds : List LockKind) (queues : ℕ → List Waiter) (e : Call) : Type 0 where
@@ -46,7 +48,7 @@ pub rules_after : (s u : State) (j : ℕ) → RulesFit s → RulesAfter s u j �
 rules_after s u j h a = record {
   size_holds = a.holds ∙ h.size_holds ∙ ap (λ n. n * length s.kinds) (sym a.threads) ∙ ap (λ ks. length u.calls * length ks) (sym a.kinds);
   size_words = a.words ∙ h.size_words ∙ ap length (sym a.kinds);
-  small = subst (λ n. n < 2 ^ 17) (sym a.threads) h.small;
+  small = subst (λ n. n < 2 ^ 18) (sym a.threads) h.small;
   few_locks = subst (λ (ks : List LockKind). length ks < 2 ^ 21) (sym a.kinds) h.few_locks;
   kinds = λ v e here. subst (λ (ks : List LockKind). IsOfKind (slice_get ks e.lock) e.core) (sym a.kinds) (a.calls v e here).kind;
   prepared = λ v e here. subst (λ (ks : List LockKind). IsPrepared (recursive_in ks e.lock) e.others e.core) (sym a.kinds) (a.calls v e here).prepared;
@@ -70,6 +72,7 @@ pub knows_same : (f g : ℕ → List Waiter) → ((key : ℕ) → g key ≡ f ke
 knows_same f g same (Core.Mutex k) j h = subst (mutex_knows k.phase) (sym (same (2 * j))) h
 knows_same f g same (Core.Rw k) j h = subst (λ (q : List Waiter). rw_knows k.phase q (g (2 * j + 1))) (sym (same (2 * j))) (subst (rw_knows k.phase (f (2 * j))) (sym (same (2 * j + 1))) h)
 knows_same f g same (Core.Late p) j h = tt
+knows_same f g same (Core.LateRw p) j h = tt
 knows_same f g same (Core.Upgrade k) j h = subst (upgrade_knows k.phase) (sym (same (2 * j))) h
 
 late_kind : (p : LatePhase) (told : ActResult) (m : Option Manner) → m ≡ Some AsMutex → IsOfManner m (late_next p told)
@@ -81,11 +84,22 @@ late_kind LatePhase.Leaves ActResult.Made m h = h
 late_kind LatePhase.GivesUp told m h = h
 late_kind p told m h = h
 
+late_rw_kind : (p : LateRwPhase) (told : ActResult) (m : Option Manner) → m ≡ Some AsRw → IsOfManner m (late_rw_next p told)
+late_rw_kind (LateRwPhase.Expires (RwSleeper.Simple c)) (ActResult.Woken token) m h = h
+late_rw_kind (LateRwPhase.Expires (RwSleeper.Upgradable c)) (ActResult.Woken token) m h = h
+late_rw_kind (LateRwPhase.Expires k) ActResult.Entered m h = h
+late_rw_kind (LateRwPhase.Quits k) (ActResult.Took token left) m h = h
+late_rw_kind LateRwPhase.Masks (ActResult.Before word) m h = h
+late_rw_kind LateRwPhase.Leaves ActResult.Made m h = h
+late_rw_kind (LateRwPhase.LeavesPending from) ActResult.Made m h = h
+late_rw_kind p told m h = h
+
 -- a call stays of its kind
 pub same_kind : (x : Core) (told : ActResult) (k : Option LockKind) → IsOfKind k x → IsOfKind k (core_next x told)
 same_kind (Core.Rw c) told k h = h
 same_kind (Core.Mutex c) told k h = h
 same_kind (Core.Late p) told k h = late_kind p told (manner_of k) h
+same_kind (Core.LateRw p) told k h = late_rw_kind p told (manner_of k) h
 same_kind (Core.Upgrade c) told k h = h
 
 module _ (s : State) (h : FitsTogether s) (t : ℕ) (c : Call) (here : call_at s t ≡ Some c) where

@@ -1,17 +1,16 @@
 -- A call at a reader-writer lock, of shared and exclusive holds or of the upgradable one: what the machine needs of either.
-use Rattle.std.proofs.Common.{◌≡◌, ◌<◌, ◌≤◌, ℕ, ◌+◌, ◌-◌, ◌*◌, ◌/◌, ◌%◌, ◌^◌, ◌==◌, ◌⊎◌, inl, inr, cond, Bool, true, false, List, ◌∷◌, length, Option, Some, None, slice_get, slice_set, refl, sym, ap, ◌∙◌, subst, arith}
+use Rattle.std.proofs.Common.{◌≡◌, ◌<◌, ◌≤◌, ℕ, ◌+◌, ◌-◌, ◌*◌, ◌/◌, ◌%◌, ◌^◌, bit_and, cond, Bool, true, false, List, ◌∷◌, length, Option, Some, None, slice_get, slice_set, refl, sym, ap, ◌∙◌, subst, arith}
 use Rattle.std.proofs.lemmas.Bool.{both_ways}
 use Rattle.parking_lot_core_lot.specs.declared.parking.FilterOp.TheVariants.{Unpark}
 use Rattle.parking_lot_core_lot.specs.declared.parking.ParkToken.{ParkToken}
-use Rattle.parking_lot_core_lot.specs.declared.parking.UnparkToken.{UnparkToken}
 use Rattle.parking_lot_core_lot.specs.declared.place.Waiter.{Waiter}
-use Rattle.parking_lot_rules.specs.Clauses.{Word, word_of}
+use Rattle.parking_lot_rules.specs.Classes.{inside as inside_of}
+use Rattle.parking_lot_rules.specs.Clauses.{IsWord, Word, number, word_of}
 use Rattle.parking_lot_rules.specs.Holds.{shared_holds}
 use Rattle.parking_lot_rules.specs.Lock.{Lock, IsSound}
-use Rattle.parking_lot_rules.specs.Plain.{Plain}
-use Rattle.parking_lot_rules.specs.Roles.{Asleep, Idle, Open, Owned, Queued1, Queued2, Role, Shares, Taken1, Taken2}
-use Rattle.parking_lot_rules.specs.Roles as rules
-use Rattle.parking_lot_rules.specs.Steps.{Alone, Retry, OwnUpgradable, Recheck, Waking, Wake, waking_from, waking_to}
+use Rattle.parking_lot_rules.specs.Plain.{Leave1, Leave2, Mask1, Plain}
+use Rattle.parking_lot_rules.specs.Roles.{Owned, Role, Stay}
+use Rattle.parking_lot_rules.specs.Steps.{Alone, after, Own, Waking, Wake, waking_from, waking_to}
 use Rattle.parking_lot_protocol.specs.Acts.{Gives, word_after}
 use Rattle.parking_lot_protocol.specs.RwRules as of_rw
 use Rattle.parking_lot_protocol.specs.RwRules.{IsToken, Move, mode_by, mode_of}
@@ -22,7 +21,6 @@ use Rattle.parking_lot_protocol.specs.declared.act.ActResult.{ActResult}
 use Rattle.parking_lot_protocol.specs.declared.act.CoreAnswer.{CoreAnswer}
 use Rattle.parking_lot_protocol.specs.declared.rw_core.RwCore.{RwCore}
 use Rattle.parking_lot_protocol.specs.declared.rw_phase.AfterWake.{AfterWake}
-use Rattle.parking_lot_protocol.specs.declared.rw_phase.LockMode.{LockMode}
 use Rattle.parking_lot_protocol.specs.declared.rw_phase.RwPhase.{RwPhase}
 use Rattle.parking_lot_upgrades.specs.UpgradeMoves as of_upgrade_moves
 use Rattle.parking_lot_upgrades.specs.UpgradeRoles as of_upgrade
@@ -31,25 +29,29 @@ use Rattle.parking_lot_upgrades.specs.UpgradeRules as upgrade_rules
 use Rattle.parking_lot_upgrades.specs.UpgradeTable as upgrade_table
 use Rattle.parking_lot_upgrades.specs.declared.upgrade_core.UpgradeCore.{UpgradeCore}
 use Rattle.parking_lot_upgrades.specs.declared.upgrade_phase.Hold as hold_type
-use Rattle.parking_lot_upgrades.specs.declared.upgrade_phase.Hold.TheVariants as upgrade_hold
 use Rattle.parking_lot_upgrades.specs.declared.upgrade_phase.Release.{Release}
 use Rattle.parking_lot_upgrades.specs.declared.upgrade_phase.UpgradePhase.{UpgradePhase}
 use Rattle.parking_lot_world.specs.Passes.{asks}
-use Rattle.parking_lot_world.specs.RowActs.{told_of}
-use Rattle.parking_lot_world.specs.RowFits.{IsPrepared, KnowsList, rw_prepared, upgrade_prepared}
-use Rattle.parking_lot_world.specs.RowSteps.{IsMoveOf, IsRwMove}
-use Rattle.parking_lot_world.specs.Rows.{State, mark_of, rw_core_role, rw_spot}
+use Rattle.parking_lot_world.specs.RowFits.{IsPrepared, KnowsList, late_rw_prepared, rw_prepared, sleeper_prepared, upgrade_prepared}
+use Rattle.parking_lot_world.specs.RowSteps.{IsLateRwMove, IsMoveOf, IsRwMove}
+use Rattle.parking_lot_world.specs.Rows.{State, rw_core_role, rw_spot}
 use Rattle.parking_lot_world.specs.RwLaws.{Finds, IsStep, Learns, Meets, with_role, count_shared}
-use Rattle.parking_lot_world.specs.Stances.{core_act, core_next, core_tells, has_begun, stance, taken_count}
+use Rattle.parking_lot_world.specs.Stances.{core_act, core_next, core_tells, has_begun, late_rw_act, late_rw_stance, pending_from, sleeper_asleep, stance, taken_count}
 use Rattle.parking_lot_world.specs.Stances as stances
 use Rattle.parking_lot_world.specs.UpgradeLaws.{MeetsUpgrade, UpgradeLeads, WantsTaken, upgrade_shared}
+use Rattle.parking_lot_world.specs.CallViews.{IsReadySleeper}
+use Rattle.parking_lot_world.specs.LateRoles.{reenters_as, sleeper_wants}
+use Rattle.parking_lot_world.specs.declared.late_rw.LateRwPhase.{LateRwPhase}
+use Rattle.parking_lot_world.specs.declared.late_rw.RwSleeper.{RwSleeper}
 use Rattle.parking_lot_world.specs.declared.seat.QueuePosition.{QueuePosition}
-use Rattle.parking_lot_world.specs.declared.seat.WakeResult.{WakeResult}
-use Rattle.parking_lot_world.proofs.KindTable.{RwCall, Simple, Upgradable, rw_call, rw_next, rw_listed, upgrade_listed}
+use Rattle.parking_lot_world.proofs.KindTable.{RwCall, Simple, Tardy, Upgradable, as_call, rw_call, rw_next, rw_listed, tardy_next, upgrade_listed}
 use Rattle.parking_lot_world.proofs.RwCrossing.{lists_are_known}
 use Rattle.parking_lot_world.proofs.RwKeeping.{calls_keep}
 use Rattle.parking_lot_world.proofs.RwWaking.{wakes_one}
-use Rattle.parking_lot_world.proofs.RwMoving.{answers_are_moves, counted, makes_are_steps, stays_are_steps, total_most}
+use Rattle.parking_lot_world.proofs.RwMoving.{answers_are_moves, counted, makes_are_steps, number-word, same_word, sound_word, stays_are_steps, total_most}
+use Rattle.parking_lot_world.proofs.Sleepers.{by_sleeper, ready_sleeper, takes_nobody, woken_knows, woken_prepared}
+use Rattle.parking_lot_rules.proofs.Sounds.{step_sound}
+use Rattle.parking_lot_upgrades.proofs.UpgradeWords.{high}
 use Rattle.parking_lot_world.proofs.OwnMoves.{AfterAct, IsOwnAct, OwnMove, own_moves}
 use Rattle.parking_lot_world.proofs.UpgradeGoing.{UpgradeLearns, knows, upgrades_keep}
 use Rattle.parking_lot_world.proofs.UpgradeMoving.{upgrades_are_steps}
@@ -60,26 +62,55 @@ use Rattle.parking_lot_world.proofs.UpgradeOwning.{upgrade_moves, upgrade_told}
 abbrev pub call_role : ℕ → QueuePosition → List ℕ → RwCall → Role
 call_role n at us k = rw_core_role n at us (rw_call k)
 
+-- One whose moment has passed takes itself out by a step that is told where it stood, and no act but those named gives it anything by itself.
+abbrev pub tardy_move : LateRwPhase → ActResult → Move
+tardy_move (LateRwPhase.Expires k) ActResult.Entered = of_rw.Makes (reenters_as (pending_from k) (sleeper_wants k))
+tardy_move LateRwPhase.Masks (ActResult.Before word) = of_rw.Makes Mask1
+tardy_move LateRwPhase.Leaves ActResult.Made = of_rw.Makes Leave1
+tardy_move (LateRwPhase.LeavesPending from) ActResult.Made = of_rw.Makes (Leave2 from)
+tardy_move p s = of_rw.IsWoken Own
+
 abbrev pub call_move : ℕ → List ℕ → RwCall → ActResult → Move
 call_move n us (Simple k) s = of_rw.move n us k.phase s
 call_move n us (Upgradable k) s = of_upgrade_moves.move n us k.phase s
+call_move n us (Tardy p) s = tardy_move p s
+
+abbrev pub TardyTold : LateRwPhase → ℕ → ActResult → Type 0
+TardyTold (LateRwPhase.Quits k) x s = ⊥
+TardyTold p x s = Gives (late_rw_act p) x s
 
 abbrev pub CallTold : RwCall → ℕ → ActResult → Type 0
 CallTold (Simple k) x s = of_rw.IsTold k.phase x s
 CallTold (Upgradable k) x s = upgrade_rules.IsTold k.phase x s
+CallTold (Tardy p) x s = TardyTold p x s
 
 -- what its phase needs
+abbrev pub SleeperStands : Bool → ℕ → List ℕ → RwSleeper → Type 0
+SleeperStands recursive n us (RwSleeper.Simple k) = of_rw.IsReady k.phase × rw_prepared recursive n us k.phase
+SleeperStands recursive n us (RwSleeper.Upgradable k) = upgrade_rules.IsReady k.phase × upgrade_prepared us k.phase
+
+abbrev pub HasStood : Bool → ℕ → List ℕ → RwSleeper → Type 0
+HasStood recursive n us k = (sleeper_asleep k ≡ true) × sleeper_prepared recursive n k × SleeperStands recursive n us k
+
+abbrev pub TardyStands : Bool → ℕ → List ℕ → LateRwPhase → Type 0
+TardyStands recursive n us (LateRwPhase.Expires k) = HasStood recursive n us k
+TardyStands recursive n us (LateRwPhase.Quits k) = HasStood recursive n us k
+TardyStands recursive n us p = n ≡ 0
+
 abbrev pub CallStands : Bool → ℕ → List ℕ → RwCall → Type 0
 CallStands recursive n us (Simple k) = of_rw.IsReady k.phase × rw_prepared recursive n us k.phase
 CallStands recursive n us (Upgradable k) = upgrade_rules.IsReady k.phase × upgrade_prepared us k.phase
+CallStands recursive n us (Tardy p) = TardyStands recursive n us p
 
 abbrev pub CallLearns : RwCall → ActResult → List Waiter → List Waiter → Type 0
 CallLearns (Simple k) s first second = Learns k.phase s first second
 CallLearns (Upgradable k) s first second = UpgradeLearns k.phase s first
+CallLearns (Tardy p) s first second = Unit {0}
 
 abbrev pub call_shared : RwCall → ℕ
 call_shared (Simple k) = count_shared k.phase
 call_shared (Upgradable k) = upgrade_shared k.phase
+call_shared (Tardy p) = 0
 
 -- Thread t is in that call at a sound lock whose word is the number x, beside n shared holds, and has taken the threads us.
 pub record CallMeets (recursive : Bool) (l : Lock) (t n : ℕ) (at : QueuePosition) (us : List ℕ) (k : RwCall) (x : ℕ) : Type 0 where
@@ -87,7 +118,7 @@ pub record CallMeets (recursive : Bool) (l : Lock) (t n : ℕ) (at : QueuePositi
   pub word : l.word ≡ word_of x
   pub here : slice_get l.roles t ≡ Some (call_role n at us k)
   pub stands : CallStands recursive n us k
-  pub threads : length l.roles < 2 ^ 17
+  pub threads : length l.roles < 2 ^ 18
   pub few : (v : ℕ) (q : Role) → slice_get l.roles v ≡ Some q → shared_holds q.owns ≤ 256
 
 pub as_simple : (recursive : Bool) (l : Lock) (t n : ℕ) (at : QueuePosition) (us : List ℕ) (k : RwCore) (x : ℕ) → CallMeets recursive l t n at us (Simple k) x → Meets recursive l t n (rw_spot at) us k.phase x
@@ -96,10 +127,30 @@ as_simple recursive l t n at us k x h = record { sound = h.sound; word = h.word;
 pub as_upgrade : (recursive : Bool) (l : Lock) (t n : ℕ) (at : QueuePosition) (us : List ℕ) (k : UpgradeCore) (x : ℕ) → CallMeets recursive l t n at us (Upgradable k) x → MeetsUpgrade l t n (rw_spot at) us k.phase x
 as_upgrade recursive l t n at us k x h = record { sound = h.sound; word = h.word; here = h.here; ready = h.stands.0; prepared = h.stands.1; threads = h.threads; few = h.few }
 
+-- one that sleeps counts no readers
+counts_none : (k : RwSleeper) → IsReadySleeper k → sleeper_asleep k ≡ true → call_shared (as_call k) ≤ 2 ^ 18
+counts_none k r e = by_sleeper (λ k. call_shared (as_call k) ≤ 2 ^ 18) (λ want. omega arith) (λ rounds. omega arith) (λ want i. omega arith) (λ rounds. omega arith) k r e
+
+sleeper_stands : (recursive : Bool) (n : ℕ) (us : List ℕ) (k : RwSleeper) → sleeper_prepared recursive n k → length us ≡ taken_count (rw_call (as_call k)) → call_shared (as_call k) ≤ 2 ^ 18 → SleeperStands recursive n us k
+sleeper_stands recursive n us (RwSleeper.Simple k) h counted few = (h.0, calls_keep.prepared recursive n us k.phase h.1 counted few)
+sleeper_stands recursive n us (RwSleeper.Upgradable k) h counted few = (h.1, upgrades_keep.prepared us k.phase h.2 counted few)
+
+has_stood : (recursive : Bool) (n : ℕ) (us : List ℕ) (k : RwSleeper) → sleeper_asleep k ≡ true → sleeper_prepared recursive n k → length us ≡ 0 → HasStood recursive n us k
+has_stood recursive n us k e h counted = let r = ready_sleeper recursive n k h in (e, h, sleeper_stands recursive n us k h (counted ∙ sym (takes_nobody k r e)) (counts_none k r e))
+
+tardy_stands : (recursive : Bool) (n : ℕ) (us : List ℕ) (p : LateRwPhase) → late_rw_prepared recursive n p → length us ≡ 0 → TardyStands recursive n us p
+tardy_stands recursive n us (LateRwPhase.Expires k) h counted = has_stood recursive n us k h.0 h.1 counted
+tardy_stands recursive n us (LateRwPhase.Quits k) h counted = has_stood recursive n us k h.0 h.1 counted
+tardy_stands recursive n us LateRwPhase.Masks h _ = h
+tardy_stands recursive n us LateRwPhase.Leaves h _ = h
+tardy_stands recursive n us LateRwPhase.GivesUp h _ = h
+tardy_stands recursive n us (LateRwPhase.LeavesPending from) h _ = h
+
 -- what follows from what a machine keeps of it
-pub stands_prepared : (recursive : Bool) (n : ℕ) (us : List ℕ) (k : RwCall) → IsPrepared recursive n (rw_call k) → length us ≡ taken_count (rw_call k) → call_shared k ≤ 2 ^ 17 → CallStands recursive n us k
+pub stands_prepared : (recursive : Bool) (n : ℕ) (us : List ℕ) (k : RwCall) → IsPrepared recursive n (rw_call k) → length us ≡ taken_count (rw_call k) → call_shared k ≤ 2 ^ 18 → CallStands recursive n us k
 stands_prepared recursive n us (Simple k) h counted few = (h.0, calls_keep.prepared recursive n us k.phase h.1 counted few)
 stands_prepared recursive n us (Upgradable k) h counted few = (h.1, upgrades_keep.prepared us k.phase h.2 counted few)
+stands_prepared recursive n us (Tardy p) h counted few = tardy_stands recursive n us p h counted
 
 -- WHAT IT HEARS
 
@@ -120,6 +171,11 @@ call_hears (Simple k) x s recursive n b h own g = rw_told k.phase x s b own g
     rw_told (RwPhase.Scans a) x s b own g = absurd own
     rw_told p x s b own g = g
 call_hears (Upgradable k) x s recursive n b h own g = upgrade_told k.phase x s b h.2 own g
+call_hears (Tardy p) x s recursive n b h own g = told p x s own g
+  where
+    told : (p : LateRwPhase) (x : ℕ) (s : ActResult) → IsOwnAct (late_rw_act p) → Gives (late_rw_act p) x s → TardyTold p x s
+    told (LateRwPhase.Quits k) x s own g = absurd own
+    told p x s own g = g
 
 -- a scan is shown only whom it wants
 abbrev pub CallWants : RwCall → ActResult → Type 0
@@ -139,6 +195,21 @@ as_wanted k (ActResult.Stored fair) w = tt
 as_wanted k ActResult.Made w = tt
 as_wanted k (ActResult.Woken token) w = tt
 
+-- one whose moment has passed goes on, by itself or woken after all
+tardy_goes_on : (recursive : Bool) (n x : ℕ) (p : LateRwPhase) (s : ActResult) → late_rw_prepared recursive n p → TardyTold p x s → IsPrepared recursive n (rw_call (tardy_next p s))
+tardy_goes_on recursive n x (LateRwPhase.Expires k) (ActResult.Woken token) h told = woken_prepared recursive n k token h.0 h.1
+tardy_goes_on recursive n x LateRwPhase.Masks (ActResult.Before word) h told = h
+tardy_goes_on recursive n x LateRwPhase.Leaves ActResult.Made h told = h
+tardy_goes_on recursive n x (LateRwPhase.LeavesPending from) ActResult.Made h told = (h, tt, tt, tt)
+tardy_goes_on recursive n x p s h told = absurd told
+
+tardy_knows : (recursive : Bool) (n x : ℕ) (p : LateRwPhase) (s : ActResult) (j : ℕ) (queues : ℕ → List Waiter) → late_rw_prepared recursive n p → TardyTold p x s → KnowsList (rw_call (tardy_next p s)) queues j
+tardy_knows recursive n x (LateRwPhase.Expires k) (ActResult.Woken token) j queues h told = woken_knows k token queues j (ready_sleeper recursive n k h.1) h.0
+tardy_knows recursive n x LateRwPhase.Masks (ActResult.Before word) j queues h told = tt
+tardy_knows recursive n x LateRwPhase.Leaves ActResult.Made j queues h told = tt
+tardy_knows recursive n x (LateRwPhase.LeavesPending from) ActResult.Made j queues h told = tt
+tardy_knows recursive n x p s j queues h told = absurd told
+
 module _ (recursive : Bool) (l : Lock) (t n : ℕ) (at : QueuePosition) (us : List ℕ) (x : ℕ) (s : ActResult) where
   -- It stands on what its next phase needs.
   pub call_goes_on : (k : RwCall) → CallMeets recursive l t n at us k x → has_begun (rw_call k) ≡ true → IsPrepared recursive n (rw_call k) → x / 16 < 2 ^ 60 - 1 → CallTold k x s → CallWants k s → IsPrepared recursive n (rw_call (rw_next k s))
@@ -153,17 +224,56 @@ module _ (recursive : Bool) (l : Lock) (t n : ℕ) (at : QueuePosition) (us : Li
     upgrades_keep.goes_on k.phase x s b ready.1 ready.2 room told,
     upgrades_keep.keeps k.phase x s ready.1 ready.2 ready.3 told (as_wanted k s want),
   )
+  call_goes_on (Tardy p) h b ready room told want = tardy_goes_on recursive n x p s ready told
 
   -- and knows of its list what that needs
   pub call_knows : (k : RwCall) (j : ℕ) (old queues : ℕ → List Waiter) → IsPrepared recursive n (rw_call k) → CallTold k x s → KnowsList (rw_call k) old j → CallLearns k s (queues (2 * j)) (queues (2 * j + 1)) → KnowsList (rw_call (rw_next k s)) queues j
   call_knows (Simple k) j old queues ready told knew learns = lists_are_known.learns k.phase x s (old (2 * j)) (old (2 * j + 1)) (queues (2 * j)) (queues (2 * j + 1)) told knew learns
   call_knows (Upgradable k) j old queues ready told knew learns = knows k.phase x s (queues (2 * j)) ready.1 ready.2 told learns
+  call_knows (Tardy p) j old queues ready told knew learns = tardy_knows recursive n x p s j queues ready told
 
 -- ITS OWN MOVES
 
 -- an act of its own leads from the lock to the one with its next role
 abbrev pub call_lock : Lock → ℕ → ℕ → List ℕ → RwCall → ActResult → ℕ → Lock
 call_lock l t n us k s x = with_role l (word_after (core_act (rw_call k)) s x) t (call_role n QueuePosition.Listed us (rw_next k s))
+
+abbrev is_stay : Move → Bool
+is_stay of_rw.Stays = true
+is_stay m = false
+
+-- each act of one whose moment has passed is a step
+makes_no_stay : (p : LateRwPhase) (s : ActResult) → is_stay (tardy_move p s) ≡ false
+makes_no_stay (LateRwPhase.Expires k) ActResult.Entered = refl
+makes_no_stay LateRwPhase.Masks (ActResult.Before word) = refl
+makes_no_stay LateRwPhase.Leaves ActResult.Made = refl
+makes_no_stay (LateRwPhase.LeavesPending from) ActResult.Made = refl
+makes_no_stay p s = refl
+
+tardy_moves : (p : LateRwPhase) (s : ActResult) → tardy_move p s ≡ of_rw.Stays → ⊥
+tardy_moves p s e = both_ways (is_stay (tardy_move p s)) (makes_no_stay p s) (ap is_stay e)
+
+abbrev step_of : Move → Plain
+step_of (of_rw.Makes k) = k
+step_of m = Leave1
+
+-- the parked bit of the first list is off
+mask_is : (x : ℕ) (w : Word) → IsWord w → w.readers < 2 ^ 60 - 1 → x ≡ number w → bit_and x (2 ^ 64 - 2) ≡ number (record w { parked1 = 0 })
+mask_is x w h few e = let p = h.parked1 in ap (λ y. bit_and y (2 ^ 64 - 2)) e ∙ (let z = high w h few in omega arith)
+
+pub tardy_makes : (recursive : Bool) (l : Lock) (t n : ℕ) (at : QueuePosition) (us : List ℕ) (p : LateRwPhase) (x : ℕ) (s : ActResult) → CallMeets recursive l t n at us (Tardy p) x → TardyTold p x s → (step : Plain) → tardy_move p s ≡ of_rw.Makes step → IsStep recursive t (Alone step) l (call_lock l t n us (Tardy p) s x)
+tardy_makes recursive l t n at us LateRwPhase.Masks x (ActResult.Before word) h told step e =
+    let few : l.word.readers < 2 ^ 60 - 1 = let f = h.sound.fits in omega (arith, f.readers, f.upgradable, f.one, total_most 256 l.roles h.few, h.threads) in
+    let same : record l.word { parked1 = 0 } ≡ word_of (bit_and x (2 ^ 64 - 2)) =
+    same_word (after t (Alone Mask1) l) (step_sound recursive t (Alone Mask1) l h.sound (h.here, tt)) (bit_and x (2 ^ 64 - 2)) (mask_is x l.word (sound_word l h.sound) few (sym (number-word x) ∙ ap number (sym h.word))) in
+    subst (λ k. IsStep recursive t (Alone k) l (call_lock l t n us (Tardy LateRwPhase.Masks) (ActResult.Before word) x)) (ap step_of e) ((h.here, tt), ap (λ w. record l { word = w; roles = slice_set l.roles t (call_role n QueuePosition.Listed us (Tardy LateRwPhase.Leaves)) }) same)
+tardy_makes recursive l t n at us LateRwPhase.Leaves x ActResult.Made h told step e =
+    subst (λ k. IsStep recursive t (Alone k) l (call_lock l t n us (Tardy LateRwPhase.Leaves) ActResult.Made x)) (ap step_of e) ((h.here, tt), ap (λ w. record l { word = w; roles = slice_set l.roles t (call_role n QueuePosition.Listed us (Tardy LateRwPhase.GivesUp)) }) h.word)
+tardy_makes recursive l t n at us (LateRwPhase.LeavesPending from) x ActResult.Made h told step e =
+    subst (λ k. IsStep recursive t (Alone k) l (call_lock l t n us (Tardy (LateRwPhase.LeavesPending from)) ActResult.Made x)) (ap step_of e)
+    ((h.here, tt), ap (λ w. record l { word = w; roles = slice_set l.roles t (call_role n QueuePosition.Listed us (Upgradable (record { phase = UpgradePhase.YieldLoads from }))) }) h.word)
+tardy_makes recursive l t n at us (LateRwPhase.Expires k) x (ActResult.Woken token) h told step e = absurd cc
+tardy_makes recursive l t n at us p x s h told step e = absurd told
 
 pub call_stays : (recursive : Bool) (l : Lock) (t n : ℕ) (at : QueuePosition) (us : List ℕ) (k : RwCall) (x : ℕ) (s : ActResult) → CallMeets recursive l t n at us k x → CallTold k x s → ((key : ℕ) (token : ParkToken) → stance (rw_call (rw_next k s)) ≡ stances.Asleep key token → at ≡ QueuePosition.Listed)
     → call_move n us k s ≡ of_rw.Stays → (call_role n QueuePosition.Listed us (rw_next k s) ≡ call_role n at us k) × (word_after (core_act (rw_call k)) s x ≡ x)
@@ -173,16 +283,28 @@ call_stays recursive l t n at us (Simple k) x s h told listed e =
 call_stays recursive l t n at us (Upgradable k) x s h told listed e =
     let z = subst (λ m. UpgradeLeads recursive m t n (rw_spot at) us k.phase s x l) e (upgrades_are_steps recursive l t n (rw_spot at) us k.phase x s (as_upgrade recursive l t n at us k x h) told).0 in
     (sym (upgrade_listed n us (upgrade_table.next_phase k.phase s) at listed) ∙ z.0, z.1)
+call_stays recursive l t n at us (Tardy p) x s h told listed e = absurd (tardy_moves p s e)
 
 pub call_makes : (recursive : Bool) (l : Lock) (t n : ℕ) (at : QueuePosition) (us : List ℕ) (k : RwCall) (x : ℕ) (s : ActResult) (step : Plain) → CallMeets recursive l t n at us k x → CallTold k x s → call_move n us k s ≡ of_rw.Makes step → Finds (core_act (rw_call k)) l
     → IsStep recursive t (Alone step) l (call_lock l t n us k s x)
 call_makes recursive l t n at us (Simple k) x s step h told e found = makes_are_steps recursive l t n (rw_spot at) us k.phase x s step (as_simple recursive l t n at us k x h) told e found
 call_makes recursive l t n at us (Upgradable k) x s step h told e found =
     subst (λ m. UpgradeLeads recursive m t n (rw_spot at) us k.phase s x l) e (upgrades_are_steps recursive l t n (rw_spot at) us k.phase x s (as_upgrade recursive l t n at us k x h) told).0 found
+call_makes recursive l t n at us (Tardy p) x s step h told e found = tardy_makes recursive l t n at us p x s h told step e
+
+tardy_own : (t : ℕ) (old new : Option ℕ) (p : LateRwPhase) (x : ℕ) (s : ActResult) → TardyTold p x s → IsOwnAct (late_rw_act p) → AfterAct (late_rw_act p) t old new → OwnMove (tardy_move p s) t old new
+tardy_own t old new LateRwPhase.Leaves x ActResult.Made told own around = around
+tardy_own t old new (LateRwPhase.LeavesPending from) x ActResult.Made told own around = around
+tardy_own t old new (LateRwPhase.Expires k) x s told own around = absurd own
+tardy_own t old new (LateRwPhase.Quits k) x s told own around = absurd own
+tardy_own t old new LateRwPhase.Masks x s told own around = absurd own
+tardy_own t old new LateRwPhase.GivesUp x s told own around = absurd own
+tardy_own t old new p x s told own around = absurd told
 
 pub call_own : (t : ℕ) (old new : Option ℕ) (recursive : Bool) (n : ℕ) (us : List ℕ) (k : RwCall) (x : ℕ) (s : ActResult) → CallTold k x s → IsPrepared recursive n (rw_call k) → IsOwnAct (core_act (rw_call k)) → AfterAct (core_act (rw_call k)) t old new → OwnMove (call_move n us k s) t old new
 call_own t old new recursive n us (Simple k) x s told ready own around = own_moves t old new n us k.phase x s told own around
 call_own t old new recursive n us (Upgradable k) x s told ready own around = upgrade_moves t old new n us k.phase s ready.1 ready.2 own around
+call_own t old new recursive n us (Tardy p) x s told ready own around = tardy_own t old new p x s told own around
 
 -- there is room for one reader more
 pub call_room : (recursive : Bool) (l : Lock) (t n : ℕ) (at : QueuePosition) (us : List ℕ) (k : RwCall) (x : ℕ) → CallMeets recursive l t n at us k x → x / 16 < 2 ^ 60 - 1
@@ -192,198 +314,42 @@ call_room recursive l t n at us k x h =
     omega (arith, same, f.readers, f.upgradable, f.one, total_most 256 l.roles h.few, h.threads)
 
 -- one that scans counts few
-scans_few : (us : List ℕ) (p : RwPhase) → length us < 2 ^ 17 → length us ≡ stances.rw_taken p → count_shared p ≤ 2 ^ 17
+scans_few : (us : List ℕ) (p : RwPhase) → length us < 2 ^ 18 → length us ≡ stances.rw_taken p → count_shared p ≤ 2 ^ 18
 scans_few us (RwPhase.Scans a) b e = omega (arith, b, e)
 scans_few us (RwPhase.Stores a left) b e = omega (arith, b, e)
 scans_few us p b e = omega arith
 
-upgrades_few : (us : List ℕ) (p : UpgradePhase) → length us < 2 ^ 17 → length us ≡ stances.upgrade_taken p → upgrade_shared p ≤ 2 ^ 17
+upgrades_few : (us : List ℕ) (p : UpgradePhase) → length us < 2 ^ 18 → length us ≡ stances.upgrade_taken p → upgrade_shared p ≤ 2 ^ 18
 upgrades_few us (UpgradePhase.Frees r core) b e = scans_few us core.phase b e
 upgrades_few us (UpgradePhase.Owes kept end core) b e = scans_few us core.phase b e
 upgrades_few us p b e = omega arith
 
-pub call_few : (us : List ℕ) (k : RwCall) → length us < 2 ^ 17 → length us ≡ taken_count (rw_call k) → call_shared k ≤ 2 ^ 17
+pub call_few : (us : List ℕ) (k : RwCall) → length us < 2 ^ 18 → length us ≡ taken_count (rw_call k) → call_shared k ≤ 2 ^ 18
 call_few us (Simple k) b e = scans_few us k.phase b e
 call_few us (Upgradable k) b e = upgrades_few us k.phase b e
-
--- WHO SLEEPS
-
--- what a thread is that sleeps on the first key with a token, and one that sleeps on the second
-pub record CallSleepsFirst (n : ℕ) (us : List ℕ) (k : RwCall) (park : ParkToken) : Type 0 where
-  pub listed : call_role n QueuePosition.Listed us k ≡ record { owns = Shares 0; does = Queued1 (mode_by park) Asleep }
-  pub off : (t : ℕ) (said : WakeResult) → call_role n (QueuePosition.Off t said) us k ≡ record { owns = Shares 0; does = Taken1 (mode_by park) t (mark_of said) Asleep }
-  pub token : IsToken (Some park)
-
-pub record CallSleepsSecond (n : ℕ) (us : List ℕ) (k : RwCall) : Type 0 where
-  pub from : Bool
-  pub listed : call_role n QueuePosition.Listed us k ≡ record { owns = Shares 0; does = Queued2 from Asleep }
-  pub off : (t : ℕ) (said : WakeResult) → call_role n (QueuePosition.Off t said) us k ≡ record { owns = Shares 0; does = Taken2 from t Asleep }
-
-abbrev pub CallSleeps : ℕ → List ℕ → RwCall → ℕ → ParkToken → Type 0
-CallSleeps n us k key park = ((key ≡ 0) × CallSleepsFirst n us k park) ⊎ ((key ≡ 1) × CallSleepsSecond n us k)
-
-simple_first : (n : ℕ) (us : List ℕ) (want : LockMode) → n ≡ 0 → CallSleepsFirst n us (Simple (record { phase = RwPhase.Sleeps want })) (record { 0 = rw_table.share_of want })
-simple_first n us (LockMode.Shared recursive) z = record {
-  listed = ap (λ k. of_rw.role k of_rw.Listed us (RwPhase.Sleeps (LockMode.Shared recursive))) z;
-  off = λ t said. ap (λ k. of_rw.role k (of_rw.Off t (mark_of said)) us (RwPhase.Sleeps (LockMode.Shared recursive))) z;
-  token = inl refl;
-}
-simple_first n us LockMode.Exclusive z = record {
-  listed = ap (λ k. of_rw.role k of_rw.Listed us (RwPhase.Sleeps LockMode.Exclusive)) z;
-  off = λ t said. ap (λ k. of_rw.role k (of_rw.Off t (mark_of said)) us (RwPhase.Sleeps LockMode.Exclusive)) z;
-  token = inr (inl refl);
-}
-
-simple_sleeps : (recursive : Bool) (n : ℕ) (us : List ℕ) (p : RwPhase) (key : ℕ) (park : ParkToken) → rw_prepared recursive n us p → stances.rw_stance p ≡ stances.Asleep key park → CallSleeps n us (Simple (record { phase = p })) key park
-simple_sleeps recursive n us (RwPhase.Sleeps want) key park z e =
-    let there : key ≡ 0 = cc in
-    let token : record { 0 = rw_table.share_of want } ≡ park = cc in
-    inl (there, subst (λ (t : ParkToken). CallSleepsFirst n us (Simple (record { phase = RwPhase.Sleeps want })) t) token (simple_first n us want z))
-simple_sleeps recursive n us (RwPhase.DrainSleeps rounds) key park z e =
-    let there : key ≡ 1 = cc in
-    inr (
-      there,
-      record {
-        from = false;
-        listed = ap (λ k. of_rw.role k of_rw.Listed us (RwPhase.DrainSleeps rounds)) z;
-        off = λ t said. ap (λ k. of_rw.role k (of_rw.Off t (mark_of said)) us (RwPhase.DrainSleeps rounds)) z;
-      },
-    )
-simple_sleeps recursive n us p key park z e = absurd cc
-
--- one that asks for the upgradable hold
-abbrev seeks_call : RwPhase → RwCall
-seeks_call q = Upgradable (record { phase = UpgradePhase.Seeks (record { phase = q }) })
-
-abbrev drains_call : RwPhase → RwCall
-drains_call q = Upgradable (record { phase = UpgradePhase.Drains (record { phase = q }) })
-
-seeks_sleeps : (n : ℕ) (us : List ℕ) (q : RwPhase) (key : ℕ) (park : ParkToken) → upgrade_rules.IsSeeking q → stances.seeks_stance q ≡ stances.Asleep key park → CallSleeps n us (seeks_call q) key park
-seeks_sleeps n us (RwPhase.Sleeps want) key park i e =
-    let there : key ≡ 0 = cc in
-    let token : record { 0 = 20 } ≡ park = cc in
-    inl (there, subst (λ (t : ParkToken). CallSleepsFirst n us (seeks_call (RwPhase.Sleeps want)) t) token (record { listed = refl; off = λ t said. refl; token = inr (inr refl) }))
-seeks_sleeps n us (RwPhase.DrainSleeps rounds) key park i e = absurd i
-seeks_sleeps n us q key park i e = absurd cc
-
-drains_sleeps : (n : ℕ) (us : List ℕ) (q : RwPhase) (key : ℕ) (park : ParkToken) → upgrade_rules.IsDraining q → stances.rw_stance q ≡ stances.Asleep key park → CallSleeps n us (drains_call q) key park
-drains_sleeps n us (RwPhase.DrainSleeps rounds) key park i e =
-    let there : key ≡ 1 = cc in
-    inr (there, record { from = true; listed = refl; off = λ t said. refl })
-drains_sleeps n us (RwPhase.Sleeps want) key park i e = absurd i
-drains_sleeps n us q key park i e = absurd cc
-
-frees_awake : (q : RwPhase) (key : ℕ) (park : ParkToken) → upgrade_rules.IsFreeing q → stances.rw_stance q ≡ stances.Asleep key park → ⊥
-frees_awake (RwPhase.Sleeps want) key park i e = i
-frees_awake (RwPhase.DrainSleeps rounds) key park i e = i
-frees_awake q key park i e = cc
-
-owes_awake : (q : RwPhase) (key : ℕ) (park : ParkToken) → upgrade_rules.IsOwing q → stances.rw_stance q ≡ stances.Asleep key park → ⊥
-owes_awake (RwPhase.Sleeps want) key park i e = i
-owes_awake (RwPhase.DrainSleeps rounds) key park i e = i
-owes_awake q key park i e = cc
-
-upgrade_sleeps : (n : ℕ) (us : List ℕ) (p : UpgradePhase) (key : ℕ) (park : ParkToken) → upgrade_rules.IsReady p → upgrade_prepared us p → stances.upgrade_stance p ≡ stances.Asleep key park → CallSleeps n us (Upgradable (record { phase = p })) key park
-upgrade_sleeps n us (UpgradePhase.Plain core) key park i m e = absurd m
-upgrade_sleeps n us (UpgradePhase.Seeks core) key park i m e = seeks_sleeps n us core.phase key park i.0 e
-upgrade_sleeps n us (UpgradePhase.Drains core) key park i m e = drains_sleeps n us core.phase key park i.0 e
-upgrade_sleeps n us (UpgradePhase.Frees r core) key park i m e = absurd (frees_awake core.phase key park i e)
-upgrade_sleeps n us (UpgradePhase.Owes kept end core) key park i m e = absurd (owes_awake core.phase key park i e)
-upgrade_sleeps n us p key park i m e = absurd cc
-
-pub call_sleeps : (recursive : Bool) (n : ℕ) (us : List ℕ) (k : RwCall) (key : ℕ) (park : ParkToken) → CallStands recursive n us k → stance (rw_call k) ≡ stances.Asleep key park → CallSleeps n us k key park
-call_sleeps recursive n us (Simple k) key park h e = simple_sleeps recursive n us k.phase key park h.1 e
-call_sleeps recursive n us (Upgradable k) key park h e = upgrade_sleeps n us k.phase key park h.0 h.1 e
-
--- WHO IS WOKEN
-
--- A sleeper that was told so is what its waker is to wake, may be told that, and is what it goes on as then.
-pub record CallWoken (m : ℕ) (t : ℕ) (ws : List ℕ) (k : RwCall) (x : ℕ) (token : UnparkToken) : Type 0 where
-  pub how : Waking
-  pub from : call_role m (QueuePosition.Off t (told_of token)) ws k ≡ waking_from how t Asleep
-  pub to : call_role m QueuePosition.Listed ws (rw_next k (ActResult.Woken token)) ≡ waking_to how
-  pub told : CallTold k x (ActResult.Woken token)
-  pub learns : (f g : List Waiter) → CallLearns k (ActResult.Woken token) f g
-
-before_wake : (want : LockMode) (t : ℕ) (b : Bool) → record { owns = Shares 0; does = Taken1 (mode_of want) t (mark_of (cond b WakeResult.HandedOver WakeResult.TryAgain)) Asleep } ≡ waking_from (of_rw.waking want b) t Asleep
-before_wake want t false = refl
-before_wake (LockMode.Shared recursive) t true = refl
-before_wake LockMode.Exclusive t true = refl
-
-after_wake : (want : LockMode) (ws : List ℕ) (b : Bool) → of_rw.role 0 of_rw.Listed ws (cond b (rw_table.admits want true) (RwPhase.Loads (rw_table.begins want true))) ≡ waking_to (of_rw.waking want b)
-after_wake want ws false = refl
-after_wake (LockMode.Shared recursive) ws true = refl
-after_wake LockMode.Exclusive ws true = refl
-
-simple_woken : (recursive : Bool) (m t : ℕ) (ws : List ℕ) (p : RwPhase) (x : ℕ) (token : UnparkToken) (key : ℕ) (park : ParkToken) → rw_prepared recursive m ws p → stances.rw_stance p ≡ stances.Asleep key park → CallWoken m t ws (Simple (record { phase = p })) x token
-simple_woken recursive m t ws (RwPhase.Sleeps want) x token key park z e = record {
-  how = of_rw.waking want (token.0 == 1);
-  from = ap (λ y. of_rw.role y (of_rw.Off t (mark_of (told_of token))) ws (RwPhase.Sleeps want)) z ∙ before_wake want t (token.0 == 1);
-  to = ap (λ y. of_rw.role y of_rw.Listed ws (rw_table.next_phase (RwPhase.Sleeps want) (ActResult.Woken token))) z ∙ after_wake want ws (token.0 == 1);
-  told = tt;
-  learns = λ f g. tt;
-}
-simple_woken recursive m t ws (RwPhase.DrainSleeps rounds) x token key park z e = record {
-  how = Recheck false;
-  from = ap (λ y. of_rw.role y (of_rw.Off t (mark_of (told_of token))) ws (RwPhase.DrainSleeps rounds)) z;
-  to = ap (λ y. of_rw.role y of_rw.Listed ws (rw_table.next_phase (RwPhase.DrainSleeps rounds) (ActResult.Woken token))) z;
-  told = tt;
-  learns = λ f g. tt;
-}
-simple_woken recursive m t ws p x token key park z e = absurd cc
-
-seeks_from : (t : ℕ) (b : Bool) → record { owns = Shares 0; does = Taken1 rules.Upgradable t (mark_of (cond b WakeResult.HandedOver WakeResult.TryAgain)) Asleep } ≡ waking_from (cond b OwnUpgradable (Retry rules.Upgradable)) t Asleep
-seeks_from t true = refl
-seeks_from t false = refl
-
-seeks_to : (m : ℕ) (ws : List ℕ) (want : LockMode) (b : Bool)
-    → of_upgrade.role m of_rw.Listed ws (cond b (UpgradePhase.Ends upgrade_hold.Upgradable CoreAnswer.Owned) (UpgradePhase.Seeks (record { phase = cond b (rw_table.admits want true) (RwPhase.Loads (rw_table.begins want true)) }))) ≡ waking_to (cond b OwnUpgradable (Retry rules.Upgradable))
-seeks_to m ws want true = refl
-seeks_to m ws want false = refl
-
-seeks_woken : (m t : ℕ) (ws : List ℕ) (q : RwPhase) (x : ℕ) (token : UnparkToken) (key : ℕ) (park : ParkToken) → upgrade_rules.IsSeeking q → stances.seeks_stance q ≡ stances.Asleep key park → CallWoken m t ws (seeks_call q) x token
-seeks_woken m t ws (RwPhase.Sleeps want) x token key park i e = record { how = cond (token.0 == 1) OwnUpgradable (Retry rules.Upgradable); from = seeks_from t (token.0 == 1); to = seeks_to m ws want (token.0 == 1); told = tt; learns = λ f g. tt }
-seeks_woken m t ws (RwPhase.DrainSleeps rounds) x token key park i e = absurd i
-seeks_woken m t ws q x token key park i e = absurd cc
-
-drains_woken : (m t : ℕ) (ws : List ℕ) (q : RwPhase) (x : ℕ) (token : UnparkToken) (key : ℕ) (park : ParkToken) → upgrade_rules.IsDraining q → stances.rw_stance q ≡ stances.Asleep key park → CallWoken m t ws (drains_call q) x token
-drains_woken m t ws (RwPhase.DrainSleeps rounds) x token key park i e = record { how = Recheck true; from = refl; to = refl; told = tt; learns = λ f g. tt }
-drains_woken m t ws (RwPhase.Sleeps want) x token key park i e = absurd i
-drains_woken m t ws q x token key park i e = absurd cc
-
-upgrade_woken : (m t : ℕ) (ws : List ℕ) (p : UpgradePhase) (x : ℕ) (token : UnparkToken) (key : ℕ) (park : ParkToken) → upgrade_rules.IsReady p → upgrade_prepared ws p → stances.upgrade_stance p ≡ stances.Asleep key park → CallWoken m t ws (Upgradable (record { phase = p })) x token
-upgrade_woken m t ws (UpgradePhase.Plain core) x token key park i o e = absurd o
-upgrade_woken m t ws (UpgradePhase.Seeks core) x token key park i o e = seeks_woken m t ws core.phase x token key park i.0 e
-upgrade_woken m t ws (UpgradePhase.Drains core) x token key park i o e = drains_woken m t ws core.phase x token key park i.0 e
-upgrade_woken m t ws (UpgradePhase.Frees r core) x token key park i o e = absurd (frees_awake core.phase key park i e)
-upgrade_woken m t ws (UpgradePhase.Owes kept end core) x token key park i o e = absurd (owes_awake core.phase key park i e)
-upgrade_woken m t ws p x token key park i o e = absurd cc
-
-pub call_woken : (recursive : Bool) (m t : ℕ) (ws : List ℕ) (k : RwCall) (x : ℕ) (token : UnparkToken) (key : ℕ) (park : ParkToken) → CallStands recursive m ws k → stance (rw_call k) ≡ stances.Asleep key park → CallWoken m t ws k x token
-call_woken recursive m t ws (Simple k) x token key park h e = simple_woken recursive m t ws k.phase x token key park h.1 e
-call_woken recursive m t ws (Upgradable k) x token key park h e = upgrade_woken m t ws k.phase x token key park h.0 h.1 e
+call_few us (Tardy p) b e = omega arith
 
 -- WHO WAKES
 
 -- One that has taken others wakes the first of them.
-pub record CallWakes (recursive : Bool) (l : Lock) (t n v : ℕ) (vs : List ℕ) (k : RwCall) (x : ℕ) (how : Waking) (q : Role) : Type 0 where
+pub record CallWakes (recursive : Bool) (l : Lock) (t n v : ℕ) (vs : List ℕ) (k : RwCall) (x : ℕ) (how : Waking) (stay : Stay) (q : Role) : Type 0 where
   pub owns : Owned
   pub move : (us : List ℕ) → call_move n us k ActResult.Made ≡ of_rw.WakesOne
   pub told : CallTold k x ActResult.Made
   pub learns : (f g : List Waiter) → CallLearns k ActResult.Made f g
-  pub step : IsStep recursive t (Wake owns v vs how Asleep) l (record l { word = word_of x; roles = slice_set (slice_set l.roles v q) t (call_role n QueuePosition.Listed vs (rw_next k ActResult.Made)) })
+  pub step : IsStep recursive t (Wake owns v vs how stay) l (record l { word = word_of x; roles = slice_set (slice_set l.roles v q) t (call_role n QueuePosition.Listed vs (rw_next k ActResult.Made)) })
 
 rw_wakes : (p : RwPhase) → rw_table.act_of p ≡ Act.Section section.Wake → (rs : AfterWake) × (count : ℕ) × (p ≡ RwPhase.Wakes rs count)
 rw_wakes (RwPhase.Wakes rs count) e = (rs, count, refl)
 rw_wakes (RwPhase.Finishes AfterWake.FreedShared) e = absurd cc
 rw_wakes p e = absurd cc
 
-simple_wakes : (recursive : Bool) (l : Lock) (t n : ℕ) (at : QueuePosition) (v : ℕ) (vs : List ℕ) (p : RwPhase) (x : ℕ) (how : Waking) (q : Role) → Meets recursive l t n (rw_spot at) (v ∷ vs) p x → rw_table.act_of p ≡ Act.Section section.Wake → slice_get l.roles v ≡ Some (waking_from how t Asleep) → q ≡ waking_to how
-    → CallWakes recursive l t n v vs (Simple (record { phase = p })) x how q
-simple_wakes recursive l t n at v vs (RwPhase.Wakes rs count) x how q h e from to =
-    record { owns = of_rw.owned_at_last n rs; move = λ us. refl; told = tt; learns = λ f g. tt; step = wakes_one recursive l t n (rw_spot at) v vs rs count x how q h from to }
-simple_wakes recursive l t n at v vs (RwPhase.Finishes AfterWake.FreedShared) x how q h e from to = absurd cc
-simple_wakes recursive l t n at v vs p x how q h e from to = absurd cc
+simple_wakes : (recursive : Bool) (l : Lock) (t n : ℕ) (at : QueuePosition) (v : ℕ) (vs : List ℕ) (p : RwPhase) (x : ℕ) (how : Waking) (stay : Stay) (q : Role) → Meets recursive l t n (rw_spot at) (v ∷ vs) p x → rw_table.act_of p ≡ Act.Section section.Wake → slice_get l.roles v ≡ Some (waking_from how t stay) → inside_of stay ≡ 0 → q ≡ waking_to how
+    → CallWakes recursive l t n v vs (Simple (record { phase = p })) x how stay q
+simple_wakes recursive l t n at v vs (RwPhase.Wakes rs count) x how stay q h e from out to =
+    record { owns = of_rw.owned_at_last n rs; move = λ us. refl; told = tt; learns = λ f g. tt; step = wakes_one recursive l t n (rw_spot at) v vs rs count x how stay q h from out to }
+simple_wakes recursive l t n at v vs (RwPhase.Finishes AfterWake.FreedShared) x how stay q h e from out to = absurd cc
+simple_wakes recursive l t n at v vs p x how stay q h e from out to = absurd cc
 
 -- an upgradable call that is to wake is one of two parts
 abbrev UpgradeWakes : UpgradePhase → Type 0
@@ -432,13 +398,22 @@ upgrade_wakes us (UpgradePhase.Frees r core) i o e = frees_wake r core.phase e
 upgrade_wakes us (UpgradePhase.Owes kept end core) i o e = owes_wake kept end core.phase e
 upgrade_wakes us p i o e = absurd cc
 
-pub call_wakes : (recursive : Bool) (l : Lock) (t n : ℕ) (at : QueuePosition) (v : ℕ) (vs : List ℕ) (k : RwCall) (x : ℕ) (how : Waking) (q : Role) → CallMeets recursive l t n at (v ∷ vs) k x → core_act (rw_call k) ≡ Act.Section section.Wake → slice_get l.roles v ≡ Some (waking_from how t Asleep) → q ≡ waking_to how
-    → CallWakes recursive l t n v vs k x how q
-call_wakes recursive l t n at v vs (Simple k) x how q h e from to = simple_wakes recursive l t n at v vs k.phase x how q (as_simple recursive l t n at (v ∷ vs) k x h) e from to
-call_wakes recursive l t n at v vs (Upgradable k) x how q h e from to =
+pub tardy_wakes : (p : LateRwPhase) → late_rw_act p ≡ Act.Section section.Wake → ⊥
+tardy_wakes (LateRwPhase.Expires k) e = cc
+tardy_wakes (LateRwPhase.Quits k) e = cc
+tardy_wakes LateRwPhase.Masks e = cc
+tardy_wakes LateRwPhase.Leaves e = cc
+tardy_wakes LateRwPhase.GivesUp e = cc
+tardy_wakes (LateRwPhase.LeavesPending from) e = cc
+
+pub call_wakes : (recursive : Bool) (l : Lock) (t n : ℕ) (at : QueuePosition) (v : ℕ) (vs : List ℕ) (k : RwCall) (x : ℕ) (how : Waking) (stay : Stay) (q : Role) → CallMeets recursive l t n at (v ∷ vs) k x → core_act (rw_call k) ≡ Act.Section section.Wake → slice_get l.roles v ≡ Some (waking_from how t stay) → inside_of stay ≡ 0 → q ≡ waking_to how
+    → CallWakes recursive l t n v vs k x how stay q
+call_wakes recursive l t n at v vs (Simple k) x how stay q h e from out to = simple_wakes recursive l t n at v vs k.phase x how stay q (as_simple recursive l t n at (v ∷ vs) k x h) e from out to
+call_wakes recursive l t n at v vs (Tardy p) x how stay q h e from out to = absurd (tardy_wakes p e)
+call_wakes recursive l t n at v vs (Upgradable k) x how stay q h e from out to =
     let w = upgrade_wakes (v ∷ vs) k.phase h.stands.0 h.stands.1 e in
     let m = (upgrades_are_steps recursive l t n (rw_spot at) (v ∷ vs) k.phase x ActResult.Made (as_upgrade recursive l t n at (v ∷ vs) k x h) (w.1 x)).0 in
-    let step = subst (λ y. UpgradeLeads recursive y t n (rw_spot at) (v ∷ vs) k.phase ActResult.Made x l) (w.0 n (v ∷ vs)) m v vs how refl from in
+    let step = subst (λ y. UpgradeLeads recursive y t n (rw_spot at) (v ∷ vs) k.phase ActResult.Made x l) (w.0 n (v ∷ vs)) m v vs how stay refl from out in
     record {
       owns = of_upgrade.owns n k.phase;
       move = w.0 n;
@@ -449,10 +424,19 @@ call_wakes recursive l t n at v vs (Upgradable k) x how q h e from to =
 
 -- THE REST
 
+tardy_as : (p : LateRwPhase) (s : ActResult) (j t : ℕ) (a b : State) → IsRwMove (tardy_move p s) j t a b → IsLateRwMove p s j t a b
+tardy_as (LateRwPhase.Expires k) ActResult.Entered j t a b h = h
+tardy_as (LateRwPhase.Quits k) (ActResult.Took token left) j t a b h = absurd h
+tardy_as LateRwPhase.Masks (ActResult.Before word) j t a b h = h
+tardy_as LateRwPhase.Leaves ActResult.Made j t a b h = h
+tardy_as (LateRwPhase.LeavesPending from) ActResult.Made j t a b h = h
+tardy_as p s j t a b h = absurd h
+
 -- the move of a call is the step that the machine names
 pub as_move : (k : RwCall) (n : ℕ) (us : List ℕ) (s : ActResult) (j t : ℕ) (a b : State) → IsRwMove (call_move n us k s) j t a b → IsMoveOf (rw_call k) n us s j t a b
 as_move (Simple k) n us s j t a b h = h
 as_move (Upgradable k) n us s j t a b h = h
+as_move (Tardy p) n us s j t a b h = tardy_as p s j t a b h
 
 -- an own act takes nobody
 simple_learns : (p : RwPhase) (s : ActResult) → IsOwnAct (rw_table.act_of p) → (f g : List Waiter) → Learns p s f g
@@ -476,6 +460,7 @@ upgrade_learns p s f own = tt
 pub call_learns : (k : RwCall) (s : ActResult) → IsOwnAct (core_act (rw_call k)) → (f g : List Waiter) → CallLearns k s f g
 call_learns (Simple k) s own f g = simple_learns k.phase s own f g
 call_learns (Upgradable k) s own f g = upgrade_learns k.phase s f own
+call_learns (Tardy p) s own f g = tt
 
 -- what an act of a thread's own gives shows nobody
 shows_nobody : (a : Act) (x : ℕ) (token : ParkToken) (left : Bool) → IsOwnAct a → Gives a x (ActResult.Took (Some token) left) → ⊥

@@ -201,7 +201,7 @@ module _ (recursive : Bool) (n : ℕ) where
   no_length [] e = refl
   no_length (u ∷ us) e = absurd (omega arith)
 
-  prepares : (us : List ℕ) (p : RwPhase) → Keeps p → length us ≡ rw_taken p → count_shared p ≤ 2 ^ 17 → rw_prepared recursive n us p
+  prepares : (us : List ℕ) (p : RwPhase) → Keeps p → length us ≡ rw_taken p → count_shared p ≤ 2 ^ 18 → rw_prepared recursive n us p
   prepares us (SetParked a word) k e few = k.0
   prepares us (Enters want woken) k e few = k.1
   prepares us (Checks want woken) k e few = k.1

@@ -168,7 +168,7 @@ pub same_word : (l : Lock) → IsSound l → (word : ℕ) → word ≡ number l.
 same_word l h word e = sym (ap word_of e ∙ word-number l.word (sound_word l h))
 
 -- nobody is of a class of which no thread is
-nobody : (c : Class) (rs : List Role) → NobodyIs c rs → total c rs ≡ 0
+pub nobody : (c : Class) (rs : List Role) → NobodyIs c rs → total c rs ≡ 0
 nobody c [] none = refl
 nobody c (r ∷ rs) none = omega (arith, sum_by-cons (weight c) r rs, none 0 r refl, nobody c rs (λ u x at. none (suc u) x at))
 

@@ -6,7 +6,7 @@ use Rattle.parking_lot_core_lot.specs.declared.parking.FilterOp.{FilterOp}
 use Rattle.parking_lot_core_lot.specs.declared.parking.ParkToken.{ParkToken}
 use Rattle.parking_lot_rules.specs.Clauses.{word_of}
 use Rattle.parking_lot_rules.specs.Lock.{Lock}
-use Rattle.parking_lot_rules.specs.Roles.{Asleep, Cause, Open, Owned, Queued1, Role, Shares, Taken1}
+use Rattle.parking_lot_rules.specs.Roles.{Asleep, Cause, Open, Owned, Queued1, Role, Shares, Taken1, Stay}
 use Rattle.parking_lot_rules.specs.Roles as rules
 use Rattle.parking_lot_rules.specs.Steps.{AreSkipped, Ending, Keep, Scan, Store, Take, Take1, ends_saying, holds_upgradable, look, scanning, settle}
 use Rattle.parking_lot_protocol.specs.Acts.{word_after}
@@ -35,16 +35,18 @@ use Rattle.parking_lot_world.specs.RowFits.{IsOfWorld, IsPrepared, KnowsList, se
 use Rattle.parking_lot_world.specs.Rows.{mark_of, rw_spot}
 use Rattle.parking_lot_world.specs.RwLaws.{IsStep, Meets, ending_of, with_roles}
 use Rattle.parking_lot_world.specs.StanceLaws.{Counts, rw_counts}
-use Rattle.parking_lot_world.specs.Stances.{In, Stores, Takes, core_act, core_next, core_tells, rw_stance, seeks_stance, stance, taken_count, upgrade_stance, upgrade_tells}
+use Rattle.parking_lot_world.specs.Stances.{In, Stores, Takes, core_act, core_next, core_tells, rw_stance, seeks_stance, stance, taken_count, upgrade_stance, upgrade_tells, late_rw_act}
 use Rattle.parking_lot_world.specs.UpgradeLaws.{UpgradeLeads}
 use Rattle.parking_lot_world.specs.declared.seat.QueuePosition.{QueuePosition}
 use Rattle.parking_lot_core_lot.specs.declared.place.Waiter.{Waiter}
-use Rattle.parking_lot_world.proofs.KindTable.{RwCall, Simple, Upgradable, rw_call, rw_next}
+use Rattle.parking_lot_world.proofs.KindTable.{RwCall, Simple, Upgradable, rw_call, rw_next, Tardy}
 use Rattle.parking_lot_world.proofs.RwCalls.{CallLearns, CallMeets, CallTold, as_simple, as_upgrade, call_move, call_role}
 use Rattle.parking_lot_world.proofs.RwTaking.{same_scan, scan_holds, scans_go_by_tokens, takes_are_steps}
 use Rattle.parking_lot_world.proofs.RwWaking.{stores_are_steps, tokens_say}
 use Rattle.parking_lot_world.proofs.UpgradeMoving.{upgrades_are_steps}
 use Rattle.parking_lot_world.proofs.UpgradeParts.{frees_sums, owes_sums, sees_taken}
+use Rattle.parking_lot_world.proofs.Sleepers.{tardy_takes}
+use Rattle.parking_lot_world.specs.declared.late_rw.LateRwPhase.{LateRwPhase}
 
 -- WHO GOES THROUGH THE FIRST LIST
 
@@ -183,6 +185,7 @@ upgrade_scanner recursive n p e ready = absurd cc
 pub scanner : (recursive : Bool) (n : ℕ) (k : RwCall) → stance (rw_call k) ≡ In 0 Takes → IsPrepared recursive n (rw_call k) → Scanner n k
 scanner recursive n (Simple k) e ready = simple_scanner recursive n k.phase e ready
 scanner recursive n (Upgradable k) e ready = upgrade_scanner recursive n k.phase e ready
+scanner recursive n (Tardy p) e ready = absurd (tardy_takes p 0 e)
 
 -- whatever it takes, the word stays
 scans_no_word : (k : RwCall) (recursive : Bool) (n : ℕ) (e : stance (rw_call k) ≡ In 0 Takes) (ready : IsPrepared recursive n (rw_call k)) (s : ActResult) (x : ℕ) → word_after (core_act (rw_call k)) s x ≡ x
@@ -190,26 +193,27 @@ scans_no_word k recursive n e ready s x = ap (λ a. word_after a s x) (scanner r
 
 -- IT TAKES
 
-simple_takes : (recursive : Bool) (l : Lock) (t n : ℕ) (at : QueuePosition) (us : List ℕ) (q : RwPhase) (x : ℕ) (e : rw_stance q ≡ In 0 Takes) (ready : IsPrepared recursive n (rw_call (Simple (record { phase = q })))) (token : ParkToken) (left : Bool) (i v : ℕ) → Meets recursive l t n (rw_spot at) us q x → IsToken (Some token)
-    → slice_get l.first i ≡ Some v → slice_get l.roles v ≡ Some (record { owns = Shares 0; does = Queued1 (mode_by token) Asleep }) → look (simple_scanner recursive n q e ready).sees false (mode_by token) ≡ Take → AreSkipped (simple_scanner recursive n q e ready).sees false l.roles l.first i
-    → (scan : Scan) × IsStep recursive t (Take1 scan i v (mode_by token) Asleep) l
-    (record (with_roles l x t (of_rw.role n of_rw.Listed (us ++ v ∷ []) (rw_table.next_phase q (ActResult.Took (Some token) left))) v (record { owns = Shares 0; does = Taken1 (mode_by token) t Open Asleep })) { first = remove l.first i })
+simple_takes : (recursive : Bool) (l : Lock) (t n : ℕ) (at : QueuePosition) (us : List ℕ) (q : RwPhase) (x : ℕ) (e : rw_stance q ≡ In 0 Takes) (ready : IsPrepared recursive n (rw_call (Simple (record { phase = q })))) (token : ParkToken) (left : Bool) (i v : ℕ) (stay : Stay) → Meets recursive l t n (rw_spot at) us q x → IsToken (Some token)
+    → slice_get l.first i ≡ Some v → slice_get l.roles v ≡ Some (record { owns = Shares 0; does = Queued1 (mode_by token) stay }) → look (simple_scanner recursive n q e ready).sees false (mode_by token) ≡ Take → AreSkipped (simple_scanner recursive n q e ready).sees false l.roles l.first i
+    → (scan : Scan) × IsStep recursive t (Take1 scan i v (mode_by token) stay) l
+    (record (with_roles l x t (of_rw.role n of_rw.Listed (us ++ v ∷ []) (rw_table.next_phase q (ActResult.Took (Some token) left))) v (record { owns = Shares 0; does = Taken1 (mode_by token) t Open stay })) { first = remove l.first i })
 unfolding simple_scanner
-simple_takes recursive l t n at us (RwPhase.Scans a) x e ready token left i v h is waiter waits looks skipped = (
+simple_takes recursive l t n at us (RwPhase.Scans a) x e ready token left i v stay h is waiter waits looks skipped = (
   of_rw.scan_of n a us,
-  takes_are_steps recursive l t n (rw_spot at) us a x token left i v h is
+  takes_are_steps recursive l t n (rw_spot at) us a x token left i v stay h is
       (record { waiter = waiter; waits = waits; looks = ap (λ w. look a.upgradable w (mode_by token)) ready.1.1 ∙ looks; skipped = subst (λ w. AreSkipped a.upgradable w l.roles l.first i) (sym ready.1.1) skipped }),
 )
-simple_takes recursive l t n at us (RwPhase.TakeWriter rest) x e ready token left i v h is waiter waits looks skipped = absurd cc
-simple_takes recursive l t n at us q x e ready token left i v h is waiter waits looks skipped = absurd cc
+simple_takes recursive l t n at us (RwPhase.TakeWriter rest) x e ready token left i v stay h is waiter waits looks skipped = absurd cc
+simple_takes recursive l t n at us q x e ready token left i v stay h is waiter waits looks skipped = absurd cc
 
-pub call_takes : (recursive : Bool) (l : Lock) (t n : ℕ) (at : QueuePosition) (us : List ℕ) (k : RwCall) (x : ℕ) (e : stance (rw_call k) ≡ In 0 Takes) (ready : IsPrepared recursive n (rw_call k)) (token : ParkToken) (left : Bool) (i v : ℕ) → CallMeets recursive l t n at us k x → IsToken (Some token)
-    → slice_get l.first i ≡ Some v → slice_get l.roles v ≡ Some (record { owns = Shares 0; does = Queued1 (mode_by token) Asleep }) → look (scanner recursive n k e ready).sees false (mode_by token) ≡ Take → AreSkipped (scanner recursive n k e ready).sees false l.roles l.first i
-    → (scan : Scan) × IsStep recursive t (Take1 scan i v (mode_by token) Asleep) l
-    (record (with_roles l x t (call_role n QueuePosition.Listed (us ++ v ∷ []) (rw_next k (ActResult.Took (Some token) left))) v (record { owns = Shares 0; does = Taken1 (mode_by token) t Open Asleep })) { first = remove l.first i })
+pub call_takes : (recursive : Bool) (l : Lock) (t n : ℕ) (at : QueuePosition) (us : List ℕ) (k : RwCall) (x : ℕ) (e : stance (rw_call k) ≡ In 0 Takes) (ready : IsPrepared recursive n (rw_call k)) (token : ParkToken) (left : Bool) (i v : ℕ) (stay : Stay) → CallMeets recursive l t n at us k x → IsToken (Some token)
+    → slice_get l.first i ≡ Some v → slice_get l.roles v ≡ Some (record { owns = Shares 0; does = Queued1 (mode_by token) stay }) → look (scanner recursive n k e ready).sees false (mode_by token) ≡ Take → AreSkipped (scanner recursive n k e ready).sees false l.roles l.first i
+    → (scan : Scan) × IsStep recursive t (Take1 scan i v (mode_by token) stay) l
+    (record (with_roles l x t (call_role n QueuePosition.Listed (us ++ v ∷ []) (rw_next k (ActResult.Took (Some token) left))) v (record { owns = Shares 0; does = Taken1 (mode_by token) t Open stay })) { first = remove l.first i })
 unfolding scanner
-call_takes recursive l t n at us (Simple k) x e ready token left i v h is waiter waits looks skipped = simple_takes recursive l t n at us k.phase x e ready token left i v (as_simple recursive l t n at us k x h) is waiter waits looks skipped
-call_takes recursive l t n at us (Upgradable k) x e ready token left i v h is waiter waits looks skipped =
+call_takes recursive l t n at us (Tardy p) x e ready token left i v stay h is waiter waits looks skipped = absurd (tardy_takes p 0 e)
+call_takes recursive l t n at us (Simple k) x e ready token left i v stay h is waiter waits looks skipped = simple_takes recursive l t n at us k.phase x e ready token left i v stay (as_simple recursive l t n at us k x h) is waiter waits looks skipped
+call_takes recursive l t n at us (Upgradable k) x e ready token left i v stay h is waiter waits looks skipped =
     let z = scanner recursive n (Upgradable k) e ready in
     let s = ActResult.Took (Some token) left in
     let m = (upgrades_are_steps recursive l t n (rw_spot at) us k.phase x s (as_upgrade recursive l t n at us k x h) (z.told x token left is)).0 in
@@ -219,7 +223,7 @@ call_takes recursive l t n at us (Upgradable k) x e ready token left i v h is wa
     let sees : holds_upgradable scan ≡ z.sees = ap holds_upgradable same ∙ z.holds us in
     let writes : scan.writer ≡ false = ap (λ (c : Scan). c.writer) same ∙ z.writes us in
     let word : word_after (core_act (rw_call (Upgradable k))) s x ≡ x = scans_no_word (Upgradable k) recursive n e ready s x in
-    let step = lead.2 i (record {
+    let step = lead.2 i stay (record {
       waiter = waiter;
       role = waits;
       looks = ap (λ u. look u scan.writer (mode_by token)) sees ∙ ap (λ w. look z.sees w (mode_by token)) writes ∙ looks;
@@ -228,7 +232,7 @@ call_takes recursive l t n at us (Upgradable k) x e ready token left i v h is wa
       scan,
       (
         step.0,
-        step.1 ∙ ap (λ y. record (with_roles l y t (call_role n QueuePosition.Listed (us ++ v ∷ []) (rw_next (Upgradable k) s)) v (record { owns = Shares 0; does = Taken1 (mode_by token) t Open Asleep })) { first = remove l.first i }) word,
+        step.1 ∙ ap (λ y. record (with_roles l y t (call_role n QueuePosition.Listed (us ++ v ∷ []) (rw_next (Upgradable k) s)) v (record { owns = Shares 0; does = Taken1 (mode_by token) t Open stay })) { first = remove l.first i }) word,
       ),
     )
 
@@ -352,9 +356,18 @@ upgrade_storing n us (UpgradePhase.Frees r core) fair queue key i o keeps from k
 upgrade_storing n us (UpgradePhase.Owes kept end core) fair queue key i o keeps from k = owes_storing n us kept end core.phase fair queue key i keeps from k
 upgrade_storing n us p fair queue key i o keeps from k = absurd cc
 
+tardy_stores : {plain change : WordChange} (p : LateRwPhase) → late_rw_act p ≡ Act.Section (section.Store plain change) → ⊥
+tardy_stores (LateRwPhase.Expires k) e = cc
+tardy_stores (LateRwPhase.Quits k) e = cc
+tardy_stores LateRwPhase.Masks e = cc
+tardy_stores LateRwPhase.Leaves e = cc
+tardy_stores LateRwPhase.GivesUp e = cc
+tardy_stores (LateRwPhase.LeavesPending from) e = cc
+
 pub call_stores : (recursive : Bool) (l : Lock) (t n : ℕ) (at : QueuePosition) (us : List ℕ) (k : RwCall) (x : ℕ) (fair : Bool) (plain change : WordChange) (key j : ℕ) (queues : ℕ → List Waiter) → CallMeets recursive l t n at us k x → IsPrepared recursive n (rw_call k) → at ≡ QueuePosition.Listed → stance (rw_call k) ≡ In key Stores
     → core_act (rw_call k) ≡ Act.Section (section.Store plain change) → is_left l.first ≡ is_left (queues (2 * j)) → SkipsOf l (queues (2 * j)) → KnowsList (rw_call k) queues j → CallStores recursive l t n us k x fair
 call_stores recursive l t n at us (Simple k) x fair plain change key j queues h ready listed from asked some skips knows = simple_stores recursive l t n at us k.phase x fair plain change key j queues (as_simple recursive l t n at us k x h) from asked some skips knows
+call_stores recursive l t n at us (Tardy p) x fair plain change key j queues h ready listed from asked some skips knows = absurd (tardy_stores p asked)
 call_stores recursive l t n at us (Upgradable k) x fair plain change key j queues h ready listed from asked some skips knows =
     let z = upgrade_storing n us k.phase fair (queues (2 * j)) key ready.1 ready.2 ready.3 from knows in
     let s = ActResult.Stored fair in
@@ -411,6 +424,7 @@ upgrade_where p key i o e = absurd cc
 pub takes_where : (recursive : Bool) (n : ℕ) (y : RwCall) (key : ℕ) → IsPrepared recursive n (rw_call y) → stance (rw_call y) ≡ In key Takes → TakesWhere y key
 takes_where recursive n (Simple k) key ready e = simple_where k.phase key e
 takes_where recursive n (Upgradable k) key ready e = upgrade_where k.phase key ready.1 ready.2 e
+takes_where recursive n (Tardy p) key ready e = absurd (tardy_takes p key e)
 
 -- WHO MASKS
 
@@ -463,7 +477,16 @@ upgrade_mask (UpgradePhase.Frees r core) i o = frees_mask r core.phase i
 upgrade_mask (UpgradePhase.Owes kept end core) i o = owes_mask kept end core.phase i
 upgrade_mask p i o = refl
 
--- only the last reader masks
-pub call_masks : (recursive : Bool) (n keep : ℕ) (y : RwCall) → IsPrepared recursive n (rw_call y) → core_act (rw_call y) ≡ Act.FetchAnd keep → (rest : AfterWake) × (has : Bool) × (y ≡ Simple (record { phase = RwPhase.ClearWriterParked rest has }))
-call_masks recursive n keep (Simple k) ready e = let z = simple_masks k.phase (ap is_mask e) in (z.0, z.1, ap (λ q. Simple (record { phase = q })) z.2)
+tardy_masks : (p : LateRwPhase) → is_mask (late_rw_act p) ≡ true → p ≡ LateRwPhase.Masks
+tardy_masks LateRwPhase.Masks e = refl
+tardy_masks (LateRwPhase.Expires k) e = absurd cc
+tardy_masks (LateRwPhase.Quits k) e = absurd cc
+tardy_masks LateRwPhase.Leaves e = absurd cc
+tardy_masks LateRwPhase.GivesUp e = absurd cc
+tardy_masks (LateRwPhase.LeavesPending from) e = absurd cc
+
+-- only the last reader masks, and one whose moment has passed that stood last in the first list
+pub call_masks : (recursive : Bool) (n keep : ℕ) (y : RwCall) → IsPrepared recursive n (rw_call y) → core_act (rw_call y) ≡ Act.FetchAnd keep → ((rest : AfterWake) × (has : Bool) × (y ≡ Simple (record { phase = RwPhase.ClearWriterParked rest has }))) ⊎ (y ≡ Tardy LateRwPhase.Masks)
+call_masks recursive n keep (Tardy p) ready e = inr (ap Tardy (tardy_masks p (ap is_mask e)))
+call_masks recursive n keep (Simple k) ready e = let z = simple_masks k.phase (ap is_mask e) in inl (z.0, z.1, ap (λ q. Simple (record { phase = q })) z.2)
 call_masks recursive n keep (Upgradable k) ready e = absurd (both_ways (is_mask (core_act (rw_call (Upgradable k)))) (upgrade_mask k.phase ready.1 ready.2) (ap is_mask e))

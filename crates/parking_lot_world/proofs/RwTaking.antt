@@ -56,7 +56,7 @@ scan_holds n a us = by_rest a.rest
     by_rest AgainExclusive = refl
 
 pub takes_are_steps : TakesAreSteps
-takes_are_steps recursive l t n spot us a x token left i v h told may =
+takes_are_steps recursive l t n spot us a x token left i v stay h told may =
     let m = (moved recursive l t n spot us (Scans a) x h (seen.Took (Some token) left) told).0 v in
     let is : m.0 ≡ scan_of n a us = same_scan m.0 (scan_of n a us) (sym m.1.from) in
     let s = scan_of n a us in
@@ -71,7 +71,7 @@ takes_are_steps recursive l t n spot us a x token left i v h told may =
           skipped = subst (λ u. AreSkipped u a.writer l.roles l.first i) held may.skipped;
         },
       ),
-      λ j. record l { word = h.word j; roles = slice_set (slice_set l.roles t (sym to j)) v (record { owns = Shares 0; does = rules.Taken1 (mode_by token) t rules.Open rules.Asleep }); first = remove l.first i },
+      λ j. record l { word = h.word j; roles = slice_set (slice_set l.roles t (sym to j)) v (record { owns = Shares 0; does = rules.Taken1 (mode_by token) t rules.Open stay }); first = remove l.first i },
     )
 
 -- WHAT A SCAN DOES AT A WAITER
@@ -161,11 +161,11 @@ tokens_tell (want.Shared recursive) = (inl refl, refl)
 tokens_tell want.Exclusive = (inr (inl refl), refl)
 
 pub writers_are_taken : WritersAreTaken
-writers_are_taken recursive l t n spot us rest x token left v from h at waits =
+writers_are_taken recursive l t n spot us rest x token left v from stay h at waits =
     let none : us ≡ [] = h.prepared in
     let here : slice_get l.roles t ≡ Some (record { owns = Shares n; does = rules.Scans2 [] }) = h.here in
     let to : role n Listed (us ++ v ∷ []) (next_phase (TakeWriter rest) (seen.Took (Some token) left)) ≡ record { owns = Shares n; does = rules.Scans2 (v ∷ []) } = ap (λ vs. record { owns = Shares n; does = rules.Scans2 (vs ++ v ∷ []) }) none in
-    ((here, at, waits), λ j. record l { word = h.word j; roles = slice_set (slice_set l.roles t (sym to j)) v (record { owns = Shares 0; does = rules.Taken2 from t rules.Asleep }); second = remove l.second 0 })
+    ((here, at, waits), λ j. record l { word = h.word j; roles = slice_set (slice_set l.roles t (sym to j)) v (record { owns = Shares 0; does = rules.Taken2 from t stay }); second = remove l.second 0 })
 
 -- Who sleeps at a reader-writer lock.
 

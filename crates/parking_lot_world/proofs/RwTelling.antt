@@ -18,6 +18,7 @@ use Rattle.parking_lot_world.specs.declared.seat.QueuePosition.{QueuePosition}
 use Rattle.parking_lot_world.specs.declared.seat.WakeResult.{WakeResult}
 use Rattle.parking_lot_world.specs.Rows.{rw_spot, mark_of}
 use Rattle.parking_lot_world.specs.RwLaws.{told_by, StoresTell}
+use Rattle.parking_lot_world.specs.LateRoles.{staying}
 
 -- whom anybody has taken and told nothing, the one has that scans
 open_by : (l : Lock) (t u by : ℕ) (scan : Scan) (own : Owned) (m : Mode) (stay : rules.Stay) → IsSound l → slice_get l.roles t ≡ Some (scanning scan) → slice_get l.roles u ≡ Some (record { owns = own; does = rules.Taken1 m by rules.Open stay }) → by ≡ t
@@ -71,11 +72,11 @@ does_kept t at us p said by = refl
 
 -- Of those that are taken it says they are, and a telling is the same before it and after it.
 pub record IsTelling (f : rules.Phase → rules.Phase) : Type 0 where
-  pub taken : (m : Mode) (by : ℕ) → (k : Mode) × (f (rules.Taken1 m by rules.Open rules.Asleep) ≡ rules.Taken1 k by rules.Open rules.Asleep)
+  pub taken : (m : Mode) (by : ℕ) → (k : Mode) × (stay : rules.Stay) × (f (rules.Taken1 m by rules.Open rules.Asleep) ≡ rules.Taken1 k by rules.Open stay)
   pub tells : (mark : rules.Mark) (d : rules.Phase) → f (told mark d) ≡ told mark (f d)
 
 pub itself_tells : IsTelling (λ d. d)
-itself_tells = record { taken = λ m by. (m, refl); tells = λ mark d. refl }
+itself_tells = record { taken = λ m by. (m, rules.Asleep, refl); tells = λ mark d. refl }
 
 upgradable_tells : (mark : rules.Mark) (d : rules.Phase) → for_upgradable (told mark d) ≡ told mark (for_upgradable d)
 upgradable_tells mark (rules.Taken1 m by rules.Open stay) = refl
@@ -84,7 +85,7 @@ upgradable_tells mark (rules.Taken1 m by rules.Handed stay) = refl
 upgradable_tells mark d = refl
 
 pub seeking_tells : IsTelling for_upgradable
-seeking_tells = record { taken = λ m by. (rules.Upgradable, refl); tells = upgradable_tells }
+seeking_tells = record { taken = λ m by. (rules.Upgradable, rules.Asleep, refl); tells = upgradable_tells }
 
 upgrade_tells : (mark : rules.Mark) (d : rules.Phase) → for_upgrade (told mark d) ≡ told mark (for_upgrade d)
 upgrade_tells mark (rules.Taken1 m by rules.Open stay) = refl
@@ -93,7 +94,7 @@ upgrade_tells mark (rules.Taken1 m by rules.Handed stay) = refl
 upgrade_tells mark d = refl
 
 pub draining_tells : IsTelling for_upgrade
-draining_tells = record { taken = λ m by. (m, refl); tells = upgrade_tells }
+draining_tells = record { taken = λ m by. (m, rules.Asleep, refl); tells = upgrade_tells }
 
 release_tells : (mark : rules.Mark) (d : rules.Phase) → for_release (told mark d) ≡ told mark (for_release d)
 release_tells mark (rules.Taken1 m by rules.Open stay) = refl
@@ -102,7 +103,20 @@ release_tells mark (rules.Taken1 m by rules.Handed stay) = refl
 release_tells mark d = refl
 
 pub freeing_tells : IsTelling for_release
-freeing_tells = record { taken = λ m by. (m, refl); tells = release_tells }
+freeing_tells = record { taken = λ m by. (m, rules.Asleep, refl); tells = release_tells }
+
+-- one whose moment has passed says so, wherever it stands
+staying_told : (stay : rules.Stay) (mark : rules.Mark) (d : rules.Phase) → staying stay (told mark d) ≡ told mark (staying stay d)
+staying_told stay mark (rules.Taken1 m by rules.Open old) = refl
+staying_told stay mark (rules.Taken1 m by rules.Normal old) = refl
+staying_told stay mark (rules.Taken1 m by rules.Handed old) = refl
+staying_told stay mark d = refl
+
+pub stays_tell : (stay : rules.Stay) (f : rules.Phase → rules.Phase) → IsTelling f → IsTelling (λ d. staying stay (f d))
+stays_tell stay f k = record {
+  taken = λ m by. ((k.taken m by).0, stay, ap (staying stay) (k.taken m by).2);
+  tells = λ mark d. ap (staying stay) (k.tells mark d) ∙ staying_told stay mark (f d);
+}
 
 abbrev pub IsSame : Role → Role → Type 0
 IsSame a b = a ≡ b
@@ -111,7 +125,7 @@ pub told_so : (f : rules.Phase → rules.Phase) (k : IsTelling f) (l : Lock) (t 
     → slice_get l.roles u ≡ Some (record { owns = own; does = f (does (rw_spot at) us p) }) → IsSame (record { owns = own; does = f (does (told_by t said at) us p) }) (settle (mark_of said) (record { owns = own; does = f (does (rw_spot at) us p) }))
 told_so f k l t u own at us p scan said h mine there =
     ap (λ d. record { owns = own; does = f d })
-    (does_told t at us p said (λ m by e. open_by l t u by scan own (k.taken m by).0 rules.Asleep h mine (there ∙ ap (λ d. Some (record { owns = own; does = f d })) e ∙ ap (λ d. Some (record { owns = own; does = d })) (k.taken m by).1)))
+    (does_told t at us p said (λ m by e. open_by l t u by scan own (k.taken m by).0 (k.taken m by).1 h mine (there ∙ ap (λ d. Some (record { owns = own; does = f d })) e ∙ ap (λ d. Some (record { owns = own; does = d })) (k.taken m by).2)))
     ∙ ap (λ d. record { owns = own; does = d }) (k.tells (mark_of said) (does (rw_spot at) us p))
 
 pub kept_so : (f : rules.Phase → rules.Phase) (k : IsTelling f) (l : Lock) (t u : ℕ) (own : Owned) (at : QueuePosition) (us : List ℕ) (p : RwPhase) (mine : Role) (said : WakeResult) → IsSound l → slice_get l.roles t ≡ Some mine → to_wake mine.does (On1 rules.Open) ≡ []
@@ -120,8 +134,8 @@ kept_so f k l t u own at us p mine said h is none there =
     ap (λ d. record { owns = own; does = f d })
     (does_kept t at us p said
     (λ m by e same.
-    open_none l t u mine own (k.taken m by).0 rules.Asleep h is none
-    (there ∙ ap (λ d. Some (record { owns = own; does = f d })) e ∙ ap (λ d. Some (record { owns = own; does = d })) (k.taken m by).1 ∙ ap (λ x. Some (record { owns = own; does = rules.Taken1 (k.taken m by).0 x rules.Open rules.Asleep })) same)))
+    open_none l t u mine own (k.taken m by).0 (k.taken m by).1 h is none
+    (there ∙ ap (λ d. Some (record { owns = own; does = f d })) e ∙ ap (λ d. Some (record { owns = own; does = d })) (k.taken m by).2 ∙ ap (λ x. Some (record { owns = own; does = rules.Taken1 (k.taken m by).0 x rules.Open (k.taken m by).1 })) same)))
 
 pub stores_tell : StoresTell
 stores_tell = record {

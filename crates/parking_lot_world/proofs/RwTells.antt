@@ -27,23 +27,27 @@ use Rattle.parking_lot_world.specs.RowActs.{hold_after, kept_hold, settled_spot,
 use Rattle.parking_lot_world.specs.RowFits.{IsPrepared, KnowsList, rw_knows, rw_prepared, upgrade_begins, upgrade_knows}
 use Rattle.parking_lot_world.specs.Rows.{mark_of, owned_of, rw_spot}
 use Rattle.parking_lot_world.specs.RwLaws.{Finds, IsLastStep, IsStep, Learns, Meets, rw_begins, with_role}
-use Rattle.parking_lot_world.specs.Stances.{In, Joins, core_act, has_begun, rw_begun, rw_stance, seeks_stance, stance, upgrade_stance}
+use Rattle.parking_lot_world.specs.Stances.{In, Joins, core_act, has_begun, rw_begun, rw_stance, seeks_stance, stance, upgrade_stance, late_rw_act}
 use Rattle.parking_lot_world.specs.UpgradeLaws.{upgrade_owned_after}
 use Rattle.parking_lot_world.specs.declared.seat.Hold.{Hold}
 use Rattle.parking_lot_world.specs.declared.seat.QueuePosition.{QueuePosition}
 use Rattle.parking_lot_world.specs.declared.seat.WakeResult.{WakeResult}
-use Rattle.parking_lot_world.proofs.KindTable.{RwCall, Simple, Upgradable, rw_call, rw_next}
+use Rattle.parking_lot_world.proofs.KindTable.{RwCall, Simple, Upgradable, rw_call, rw_next, Tardy}
 use Rattle.parking_lot_world.proofs.OwnMoves.{OwnMove}
 use Rattle.parking_lot_world.proofs.RwCalls.{CallLearns, CallMeets, CallStands, CallTold, as_simple, as_upgrade, call_move, call_role}
 use Rattle.parking_lot_world.proofs.RwCrossing.{lists_are_known}
 use Rattle.parking_lot_world.proofs.RwKeeping.{calls_keep}
 use Rattle.parking_lot_world.proofs.RwMoving.{answers_are_moves, joins_are_steps}
 use Rattle.parking_lot_world.proofs.RwTaking.{answers_are_last, begins_are_ready, ends_are_steps}
-use Rattle.parking_lot_world.proofs.RwTelling.{draining_tells, freeing_tells, itself_tells, kept_so, seeking_tells, stores_tell, told_so}
+use Rattle.parking_lot_world.proofs.RwTelling.{draining_tells, freeing_tells, itself_tells, kept_so, seeking_tells, stores_tell, told_so, stays_tell}
 use Rattle.parking_lot_world.proofs.UpgradeGoing.{upgrades_keep}
 use Rattle.parking_lot_world.proofs.UpgradeKeeping.{upgrades_end}
 use Rattle.parking_lot_world.proofs.UpgradeMoving.{upgrades_are_steps}
 use Rattle.parking_lot_world.proofs.UpgradeOwning.{upgrade_starts}
+use Rattle.parking_lot_world.proofs.Sleepers.{tardy_joins}
+use Rattle.parking_lot_world.specs.LateRoles.{late_rw_role, sleeper_role, staying, stays}
+use Rattle.parking_lot_world.specs.declared.late_rw.LateRwPhase.{LateRwPhase}
+use Rattle.parking_lot_world.specs.declared.late_rw.RwSleeper.{RwSleeper}
 
 -- WHO IS TOLD BY A STORE
 
@@ -56,9 +60,27 @@ module _ (l : Lock) (t u n : ℕ) (at : QueuePosition) (us : List ℕ) (scan : S
   upgrade_told_here (UpgradePhase.Owes kept end core) there = told_so (λ d. d) itself_tells l t u (of_upgrade.owned kept) at us core.phase scan said h mine there
   upgrade_told_here p there = refl
 
+  late_told : (stay : rules.Stay) (pos : QueuePosition) (p : UpgradePhase) → slice_get l.roles u ≡ Some (stays stay (of_upgrade.role n (rw_spot pos) us p)) → stays stay (of_upgrade.role n (rw_spot (settled_spot t said pos)) us p) ≡ settle (mark_of said) (stays stay (of_upgrade.role n (rw_spot pos) us p))
+  late_told stay pos (UpgradePhase.Plain core) there = told_so (staying stay) (stays_tell stay (λ d. d) itself_tells) l t u (of_rw.owns n core.phase) pos us core.phase scan said h mine there
+  late_told stay pos (UpgradePhase.Seeks core) there = told_so (λ d. staying stay (for_upgradable d)) (stays_tell stay for_upgradable seeking_tells) l t u (Shares 0) pos us core.phase scan said h mine there
+  late_told stay pos (UpgradePhase.Drains core) there = told_so (λ d. staying stay (for_upgrade d)) (stays_tell stay for_upgrade draining_tells) l t u (of_rw.owns 0 core.phase) pos us core.phase scan said h mine there
+  late_told stay pos (UpgradePhase.Frees r core) there = told_so (λ d. staying stay (for_release d)) (stays_tell stay for_release freeing_tells) l t u (owned_in_release core.phase) pos us core.phase scan said h mine there
+  late_told stay pos (UpgradePhase.Owes kept end core) there = told_so (staying stay) (stays_tell stay (λ d. d) itself_tells) l t u (of_upgrade.owned kept) pos us core.phase scan said h mine there
+  late_told stay pos p there = refl
+
+  sleeper_told : (stay : rules.Stay) (pos : QueuePosition) (k : RwSleeper) → slice_get l.roles u ≡ Some (stays stay (sleeper_role n (rw_spot pos) us k)) → stays stay (sleeper_role n (rw_spot (settled_spot t said pos)) us k) ≡ settle (mark_of said) (stays stay (sleeper_role n (rw_spot pos) us k))
+  sleeper_told stay pos (RwSleeper.Simple c) there = told_so (staying stay) (stays_tell stay (λ d. d) itself_tells) l t u (of_rw.owns n c.phase) pos us c.phase scan said h mine there
+  sleeper_told stay pos (RwSleeper.Upgradable c) there = late_told stay pos c.phase there
+
+  tardy_told : (p : LateRwPhase) → slice_get l.roles u ≡ Some (late_rw_role n (rw_spot at) us p) → late_rw_role n (rw_spot (settled_spot t said at)) us p ≡ settle (mark_of said) (late_rw_role n (rw_spot at) us p)
+  tardy_told (LateRwPhase.Expires k) there = sleeper_told rules.Late at k there
+  tardy_told (LateRwPhase.Quits k) there = sleeper_told rules.Back QueuePosition.Listed k there
+  tardy_told p there = refl
+
   pub call_told_here : (k : RwCall) → slice_get l.roles u ≡ Some (call_role n at us k) → call_role n (settled_spot t said at) us k ≡ settle (mark_of said) (call_role n at us k)
   call_told_here (Simple k) there = stores_tell.here l t u n at us k.phase scan said h mine there
   call_told_here (Upgradable k) there = upgrade_told_here k.phase there
+  call_told_here (Tardy p) there = tardy_told p there
 
 module _ (l : Lock) (t u n : ℕ) (at : QueuePosition) (us : List ℕ) (own : Role) (said : WakeResult) (h : IsSound l) (mine : slice_get l.roles t ≡ Some own) (none : to_wake own.does (On1 Open) ≡ []) where
   upgrade_kept_here : (p : UpgradePhase) → slice_get l.roles u ≡ Some (of_upgrade.role n (rw_spot at) us p) → of_upgrade.role n (rw_spot (settled_spot t said at)) us p ≡ of_upgrade.role n (rw_spot at) us p
@@ -69,9 +91,27 @@ module _ (l : Lock) (t u n : ℕ) (at : QueuePosition) (us : List ℕ) (own : Ro
   upgrade_kept_here (UpgradePhase.Owes kept end core) there = kept_so (λ d. d) itself_tells l t u (of_upgrade.owned kept) at us core.phase own said h mine none there
   upgrade_kept_here p there = refl
 
+  late_kept : (stay : rules.Stay) (pos : QueuePosition) (p : UpgradePhase) → slice_get l.roles u ≡ Some (stays stay (of_upgrade.role n (rw_spot pos) us p)) → stays stay (of_upgrade.role n (rw_spot (settled_spot t said pos)) us p) ≡ stays stay (of_upgrade.role n (rw_spot pos) us p)
+  late_kept stay pos (UpgradePhase.Plain core) there = kept_so (staying stay) (stays_tell stay (λ d. d) itself_tells) l t u (of_rw.owns n core.phase) pos us core.phase own said h mine none there
+  late_kept stay pos (UpgradePhase.Seeks core) there = kept_so (λ d. staying stay (for_upgradable d)) (stays_tell stay for_upgradable seeking_tells) l t u (Shares 0) pos us core.phase own said h mine none there
+  late_kept stay pos (UpgradePhase.Drains core) there = kept_so (λ d. staying stay (for_upgrade d)) (stays_tell stay for_upgrade draining_tells) l t u (of_rw.owns 0 core.phase) pos us core.phase own said h mine none there
+  late_kept stay pos (UpgradePhase.Frees r core) there = kept_so (λ d. staying stay (for_release d)) (stays_tell stay for_release freeing_tells) l t u (owned_in_release core.phase) pos us core.phase own said h mine none there
+  late_kept stay pos (UpgradePhase.Owes kept end core) there = kept_so (staying stay) (stays_tell stay (λ d. d) itself_tells) l t u (of_upgrade.owned kept) pos us core.phase own said h mine none there
+  late_kept stay pos p there = refl
+
+  sleeper_kept : (stay : rules.Stay) (pos : QueuePosition) (k : RwSleeper) → slice_get l.roles u ≡ Some (stays stay (sleeper_role n (rw_spot pos) us k)) → stays stay (sleeper_role n (rw_spot (settled_spot t said pos)) us k) ≡ stays stay (sleeper_role n (rw_spot pos) us k)
+  sleeper_kept stay pos (RwSleeper.Simple c) there = kept_so (staying stay) (stays_tell stay (λ d. d) itself_tells) l t u (of_rw.owns n c.phase) pos us c.phase own said h mine none there
+  sleeper_kept stay pos (RwSleeper.Upgradable c) there = late_kept stay pos c.phase there
+
+  tardy_kept : (p : LateRwPhase) → slice_get l.roles u ≡ Some (late_rw_role n (rw_spot at) us p) → late_rw_role n (rw_spot (settled_spot t said at)) us p ≡ late_rw_role n (rw_spot at) us p
+  tardy_kept (LateRwPhase.Expires k) there = sleeper_kept rules.Late at k there
+  tardy_kept (LateRwPhase.Quits k) there = sleeper_kept rules.Back QueuePosition.Listed k there
+  tardy_kept p there = refl
+
   pub call_kept_here : (k : RwCall) → slice_get l.roles u ≡ Some (call_role n at us k) → call_role n (settled_spot t said at) us k ≡ call_role n at us k
   call_kept_here (Simple k) there = stores_tell.elsewhere l t u n at us k.phase own said h mine none there
   call_kept_here (Upgradable k) there = upgrade_kept_here k.phase there
+  call_kept_here (Tardy p) there = tardy_kept p there
 
 -- WHERE IT JOINS A LIST
 
@@ -137,6 +177,7 @@ upgrade_joins recursive l t n at us p x key token h e = absurd cc
 pub call_joins : (recursive : Bool) (l : Lock) (t n : ℕ) (at : QueuePosition) (us : List ℕ) (k : RwCall) (x key : ℕ) (token : ParkToken) → CallMeets recursive l t n at us k x → stance (rw_call k) ≡ In key (Joins token) → CallJoins recursive l t n us k x key
 call_joins recursive l t n at us (Simple k) x key token h e = simple_joins recursive l t n at us k.phase x key token (as_simple recursive l t n at us k x h) e
 call_joins recursive l t n at us (Upgradable k) x key token h e = upgrade_joins recursive l t n at us k.phase x key token h e
+call_joins recursive l t n at us (Tardy p) x key token h e = absurd (tardy_joins p key token e)
 
 -- WHERE IT BEGINS
 
@@ -185,6 +226,7 @@ call_starts recursive l t n at us (Simple k) x hold o owns =
     let ready = begins_are_ready n (rw_spot at) us k.phase x owns.0 in
     let well = begin_rw recursive t n us k.phase l o [] [] owns.0 owns.1 in
     record { role = ready.0 ∙ ap (λ w. record { owns = w; does = Idle }) (sym owns.2); stands = (ready.1, well.0); told = ready.2; own = well.2; finds = well.1; begun = owns.0 }
+call_starts recursive l t n at us (Tardy p) x hold o owns = absurd owns
 call_starts recursive l t n at us (Upgradable k) x hold o owns =
     let z = upgrade_starts t n (rw_spot at) us k.phase x o owns.1 in
     record {
@@ -203,6 +245,7 @@ call_started recursive l t n at us (Simple k) x hold j queues owns h told =
       ((answers_are_moves recursive l t n (rw_spot at) us k.phase x ActResult.Start (as_simple recursive l t n at us k x h) told).2.1, calls_keep.begins recursive n k.phase owns.1),
       lists_are_known.learns k.phase x ActResult.Start (queues (2 * j)) (queues (2 * j + 1)) (queues (2 * j)) (queues (2 * j + 1)) told well.4 well.3,
     )
+call_started recursive l t n at us (Tardy p) x hold j queues owns h told = absurd owns
 call_started recursive l t n at us (Upgradable k) x hold j queues owns h told =
     let z = upgrades_keep.begins k.phase owns.1 in
     ((owns.2, z.1.1, z.1.0, z.2), begin_knows k.phase (queues (2 * j)) owns.1)
@@ -212,6 +255,7 @@ call_started recursive l t n at us (Upgradable k) x hold j queues owns h told =
 abbrev pub call_last : ℕ → RwCall → Move
 call_last n (Simple k) = of_rw.last_move n k.phase
 call_last n (Upgradable k) = of_upgrade_moves.last_move n k.phase
+call_last n (Tardy p) = of_rw.Stays
 
 rw_last_own : (t n : ℕ) (p : RwPhase) (o : Option ℕ) → OwnMove (of_rw.last_move n p) t o o
 rw_last_own t n (RwPhase.Refuses q) o = refl
@@ -224,6 +268,7 @@ upgrade_last_own t n p o = refl
 pub call_last_own : (t n : ℕ) (k : RwCall) (o : Option ℕ) → OwnMove (call_last n k) t o o
 call_last_own t n (Simple k) o = rw_last_own t n k.phase o
 call_last_own t n (Upgradable k) o = upgrade_last_own t n k.phase o
+call_last_own t n (Tardy p) o = refl
 
 kept_owned : (kept : kept_holds.Hold) → of_upgrade.owned kept ≡ owned_of (kept_hold kept)
 kept_owned keeps_up.Nothing = refl
@@ -236,9 +281,18 @@ owned_so (UpgradePhase.Owes kept end core) = kept_owned kept
 owned_so (UpgradePhase.Ends kept end) = kept_owned kept
 owned_so p = refl
 
+tardy_ends : (n : ℕ) (at : QueuePosition) (us : List ℕ) (p : LateRwPhase) (answer : CoreAnswer) → late_rw_act p ≡ Act.Done answer → record { owns = Shares 0; does = Idle } ≡ late_rw_role n (rw_spot at) us p
+tardy_ends n at us LateRwPhase.GivesUp answer e = refl
+tardy_ends n at us (LateRwPhase.Expires k) answer e = absurd cc
+tardy_ends n at us (LateRwPhase.Quits k) answer e = absurd cc
+tardy_ends n at us LateRwPhase.Masks answer e = absurd cc
+tardy_ends n at us LateRwPhase.Leaves answer e = absurd cc
+tardy_ends n at us (LateRwPhase.LeavesPending from) answer e = absurd cc
+
 pub call_ends : (recursive : Bool) (l : Lock) (t n : ℕ) (at : QueuePosition) (us : List ℕ) (k : RwCall) (x : ℕ) (answer : CoreAnswer) → CallMeets recursive l t n at us k x → has_begun (rw_call k) ≡ true → core_act (rw_call k) ≡ Act.Done answer
     → IsLastStep recursive (call_last n k) l t (call_role n at us k) x (record { owns = owned_of (hold_after n (rw_call k)); does = Idle })
 call_ends recursive l t n at us (Simple k) x answer h begun asked = ends_are_steps recursive l t n (rw_spot at) us k.phase x (as_simple recursive l t n at us k x h) (answers_are_last k.phase answer begun asked)
+call_ends recursive l t n at us (Tardy p) x answer h begun asked = tardy_ends n at us p answer asked
 call_ends recursive l t n at us (Upgradable k) x answer h begun asked =
     subst (λ w. IsLastStep recursive (of_upgrade_moves.last_move n k.phase) l t (of_upgrade.role n (rw_spot at) us k.phase) x (record { owns = w; does = Idle })) (owned_so k.phase)
     (upgrades_end recursive l t n (rw_spot at) us k.phase x answer (as_upgrade recursive l t n at us k x h) begun asked)

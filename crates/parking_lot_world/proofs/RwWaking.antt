@@ -9,7 +9,7 @@ use Rattle.parking_lot_rules.specs.Lists.{occurs}
 use Rattle.parking_lot_rules.specs.Lock.{Lock, On1, to_wake}
 use Rattle.parking_lot_rules.specs.Steps.{AreSkipped, Scan, IsOver, Ending, Free, FreeUpgradable, Hand, HandUpgradable, Keep, ends_saying, stored, settle, Store, Wake, Waking, Recheck, waking_from, waking_to, Allowed, after}
 use Rattle.parking_lot_rules.proofs.Sounds.{step_sound}
-use Rattle.parking_lot_rules.specs.Classes.{bit}
+use Rattle.parking_lot_rules.specs.Classes.{bit, inside}
 use Rattle.parking_lot_protocol.specs.declared.act.ActResult.TheVariants as seen
 use Rattle.parking_lot_protocol.specs.declared.rw_phase.LockMode.{LockMode}
 use Rattle.parking_lot_protocol.specs.declared.rw_phase.Scanning.{Scanning}
@@ -95,12 +95,12 @@ after_wake want ws false = refl
 after_wake (LockMode.Shared recursive) ws true = refl
 after_wake LockMode.Exclusive ws true = refl
 
-pub wakes_one : (recursive : Bool) (l : Lock) (t n : ℕ) (spot : QueuePosition) (v : ℕ) (vs : List ℕ) (rest : AfterWake) (count x : ℕ) (k : Waking) (r : Role) → Meets recursive l t n spot (v ∷ vs) (Wakes rest count) x → slice_get l.roles v ≡ Some (waking_from k t rules.Asleep) → r ≡ waking_to k
-    → IsStep recursive t (Wake (owned_at_last n rest) v vs k rules.Asleep) l
+pub wakes_one : (recursive : Bool) (l : Lock) (t n : ℕ) (spot : QueuePosition) (v : ℕ) (vs : List ℕ) (rest : AfterWake) (count x : ℕ) (k : Waking) (stay : rules.Stay) (r : Role) → Meets recursive l t n spot (v ∷ vs) (Wakes rest count) x → slice_get l.roles v ≡ Some (waking_from k t stay) → inside stay ≡ 0 → r ≡ waking_to k
+    → IsStep recursive t (Wake (owned_at_last n rest) v vs k stay) l
     (record l { word = word_of x; roles = slice_set (slice_set l.roles v r) t (role n Listed vs (next_phase (Wakes rest count) seen.Made)) })
-wakes_one recursive l t n spot v vs rest count x k r h from to =
+wakes_one recursive l t n spot v vs rest count x k stay r h from out to =
     let own = wakes_role n vs rest count in
-    ((h.here, from, refl), λ i. record l { word = h.word i; roles = slice_set (slice_set l.roles v (sym to i)) t (sym own i) })
+    ((h.here, from, out), λ i. record l { word = h.word i; roles = slice_set (slice_set l.roles v (sym to i)) t (sym own i) })
 
 pub wakes_are_steps : WakesAreSteps
 wakes_are_steps recursive l t n spot v vs rest count x m mark ws (Sleeps want) key park token h at asleep nothing said =
@@ -108,21 +108,21 @@ wakes_are_steps recursive l t n spot v vs rest count x m mark ws (Sleeps want) k
     let from : role m (Off t mark) ws (Sleeps want) ≡ waking_from (waking want b) t rules.Asleep =
     ap (λ y. role y (Off t mark) ws (Sleeps want)) nothing ∙ ap (λ y. role 0 (Off t y) ws (Sleeps want)) said ∙ before_wake want t b in
     let to : role m Listed ws (next_phase (Sleeps want) (seen.Woken token)) ≡ waking_to (waking want b) = ap (λ y. role y Listed ws (next_phase (Sleeps want) (seen.Woken token))) nothing ∙ after_wake want ws b in
-    (waking want b, wakes_one recursive l t n spot v vs rest count x (waking want b) _ h (at ∙ ap (λ r. Some r) from) to)
+    (waking want b, wakes_one recursive l t n spot v vs rest count x (waking want b) rules.Asleep _ h (at ∙ ap (λ r. Some r) from) refl to)
 wakes_are_steps recursive l t n spot v vs rest count x m mark ws (DrainSleeps rounds) key park token h at asleep nothing said =
     let from : role m (Off t mark) ws (DrainSleeps rounds) ≡ waking_from (Recheck false) t rules.Asleep = ap (λ y. role y (Off t mark) ws (DrainSleeps rounds)) nothing in
     let to : role m Listed ws (next_phase (DrainSleeps rounds) (seen.Woken token)) ≡ waking_to (Recheck false) = ap (λ y. role y Listed ws (next_phase (DrainSleeps rounds) (seen.Woken token))) nothing in
-    (Recheck false, wakes_one recursive l t n spot v vs rest count x (Recheck false) _ h (at ∙ ap (λ r. Some r) from) to)
+    (Recheck false, wakes_one recursive l t n spot v vs rest count x (Recheck false) rules.Asleep _ h (at ∙ ap (λ r. Some r) from) refl to)
 wakes_are_steps recursive l t n spot v vs rest count x m mark ws q key park token h at asleep nothing said = absurd (cc)
 
 pub woken_are_told : WokenAreTold
-woken_are_told l t v own has us mode rules.Open sound waker there e =
+woken_are_told l t v own has us mode rules.Open stay sound waker there e =
     let p = sound.noted v t _ (On1 rules.Open) there refl in
     let is : p.0 ≡ record { owns = own; does = rules.Wakes us } = same_Some p.0 _ (sym p.1 ∙ waker) in
     let some : 0 < occurs v [] = subst (λ (r : Role). 0 < occurs v (to_wake r.does (On1 rules.Open))) is p.2 in
     omega arith
-woken_are_told l t v own has us mode rules.Normal sound waker there e = cc
-woken_are_told l t v own has us mode rules.Handed sound waker there e = cc
+woken_are_told l t v own has us mode rules.Normal stay sound waker there e = cc
+woken_are_told l t v own has us mode rules.Handed stay sound waker there e = cc
 
 pub only_sleepers_stand : OnlySleepersStand
 only_sleepers_stand n spot us (Sleeps want) awake = absurd (awake _ _ refl)

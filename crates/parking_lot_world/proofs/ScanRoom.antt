@@ -20,7 +20,7 @@ use Rattle.parking_lot_world.proofs.Stancing.{small_key}
 use Rattle.parking_lot_world.proofs.Carrying.{taken_by-count}
 use Rattle.parking_lot_world.proofs.KindTable.{RwCall, Simple, Upgradable, of_rws, rw_call}
 use Rattle.parking_lot_world.proofs.Meeting.{meets}
-use Rattle.parking_lot_world.proofs.RwCalls.{call_sleeps}
+use Rattle.parking_lot_world.proofs.RwSleeps.{call_sleeps}
 use Rattle.parking_lot_world.proofs.RwScans.{Scanner, scanner, takes_where}
 use Rattle.parking_lot_world.proofs.LotTakes.{Sleeper, sleeper}
 
@@ -36,14 +36,14 @@ not_taken false y more e = refl
 
 module _ (s : State) (h : FitsTogether s) (t : ℕ) (c : Call) (here : call_at s t ≡ Some c) where
   -- few are to be woken
-  few : taken_count c.core < 2 ^ 17
+  few : taken_count c.core < 2 ^ 18
   few =
       let count : length (taken_by s.wakes t) ≡ taken_count c.core = h.lots.counted t c here in
       let own : length (taken_by s.wakes t) ≡ count_by (is_by t) s.wakes = taken_by-count s.wakes t in
       let all : count_by (is_by t) s.wakes ≤ length s.wakes = count_by-le-length (is_by t) s.wakes in
       let room : length s.wakes ≡ count_by is_away s.calls = h.wakes.room in
       let away : count_by is_away s.calls ≤ length s.calls = count_by-le-length is_away s.calls in
-      let small : length s.calls < 2 ^ 17 = h.rules.small in
+      let small : length s.calls < 2 ^ 18 = h.rules.small in
       omega arith
 
   pub scans_have_room : (k nth : ℕ) (w : Waiter) → stance c.core ≡ In k Takes → slice_get (s.lot.queues (key_of c k)) nth ≡ Some w → asks (core_act c.core) w.token.0 ≡ Unpark → Counts c.core w.token
@@ -54,7 +54,7 @@ module _ (s : State) (h : FitsTogether s) (t : ℕ) (c : Call) (here : call_at s
 
       by_scan : (y : RwCall) (sc : Scanner c.others y) → c.core ≡ rw_call y → IsToken (Some w.token) → rw_counts (RwPhase.Scans sc.scan) w.token
       by_scan y sc e (inl is) =
-          let less : taken_count c.core < 2 ^ 17 = few in
+          let less : taken_count c.core < 2 ^ 18 = few in
           let count : taken_count c.core ≡ sc.scan.shared + bit sc.scan.upgradable + bit sc.scan.writer = ap taken_count e ∙ sc.taken in
           inl (is, omega arith)
       by_scan y sc e (inr (inl is)) = inr (inl (is, sc.writer))
@@ -84,5 +84,6 @@ module _ (s : State) (h : FitsTogether s) (t : ℕ) (c : Call) (here : call_at s
       by_core : (x : Core) → c.core ≡ x → Counts x w.token
       by_core (Core.Mutex x) e = tt
       by_core (Core.Late p) e = tt
+      by_core (Core.LateRw p) e = tt
       by_core (Core.Rw x) e = rw_room (Simple x) e
       by_core (Core.Upgrade x) e = rw_room (Upgradable x) e

@@ -1,11 +1,11 @@
 -- Where threads wait, somebody is in debt; and where a thread is in a call, somebody can move.
-use Rattle.std.proofs.Common.{◌≡◌, ◌≢◌, ℕ, zero, suc, ◌<◌, ◌≤◌, ◌||◌, arith, ◌⊎◌, inl, inr, cond, Bool, true, false, not, List, length, Option, Some, None, slice_get, refl, sym, ap, ◌∙◌, subst, ◌+◌, ◌%◌, ◌^◌}
+use Rattle.std.proofs.Common.{◌≡◌, ◌≢◌, ℕ, zero, suc, ◌<◌, ◌≤◌, ◌||◌, ◌&&◌, arith, ◌⊎◌, inl, inr, cond, Bool, true, false, not, List, length, Option, Some, None, slice_get, refl, sym, ap, ◌∙◌, subst, ◌+◌, ◌%◌, ◌^◌}
 use Rattle.std.specs.Prelude.{IsTrue, is_some}
 use Rattle.std.specs.Option.{option_and_then, option_map_or}
 use Rattle.std.proofs.lemmas.Bool.{both_ways, cases_eq}
 use Rattle.parking_lot_core_lot.specs.declared.place.Section.{Section}
 use Rattle.parking_lot_core_lot.specs.Places.{place_at}
-use Rattle.parking_lot_rules.specs.Roles.{Asleep, Phase, Queued1, Taken1, Queued2, Taken2, Shares, Excludes, Upgrades, Owned, Idle}
+use Rattle.parking_lot_rules.specs.Roles.{Asleep, Phase, Role, Queued1, Taken1, Queued2, Taken2, Shares, Excludes, Upgrades, Owned, Idle}
 use Rattle.parking_lot_rules.specs.Laws as rw_laws
 use Rattle.parking_lot_rules.specs.Mutex as mutex
 use Rattle.parking_lot_rules.specs.MutexLaws as mutex_laws
@@ -28,10 +28,10 @@ use Rattle.parking_lot_upgrades.specs.UpgradeTable as upgrade_table
 use Rattle.parking_lot_upgrades.specs.declared.upgrade_phase.Hold.{Hold as Kept}
 use Rattle.parking_lot_upgrades.specs.declared.upgrade_phase.Release.{Release}
 use Rattle.parking_lot_upgrades.specs.declared.upgrade_phase.UpgradePhase.{UpgradePhase}
-use Rattle.parking_lot_world.specs.Stances.{seeks_stance, upgrade_stance, upgrade_taken}
+use Rattle.parking_lot_world.specs.Stances.{seeks_stance, upgrade_stance, upgrade_taken, late_rw_act, late_rw_pending, late_rw_stance, sleeper_stance}
 use Rattle.parking_lot_world.specs.Rows.{rw_core_role}
 use Rattle.parking_lot_world.proofs.KindTable as KindTable
-use Rattle.parking_lot_world.proofs.KindTable.{RwCall, Simple, rw_call}
+use Rattle.parking_lot_world.proofs.KindTable.{RwCall, Simple, rw_call, Tardy}
 use Rattle.parking_lot_world.specs.Kinds.{AsMutex, AsRw, manner_of, Manner}
 use Rattle.parking_lot_world.specs.declared.calls.OwnMode.{OwnMode}
 use Rattle.parking_lot_world.specs.declared.seat.QueuePosition.{QueuePosition}
@@ -39,7 +39,7 @@ use Rattle.parking_lot_world.specs.declared.seat.LatePhase.{LatePhase}
 use Rattle.parking_lot_world.specs.declared.seat.Core.{Core}
 use Rattle.parking_lot_world.specs.declared.open_call.Call.{Call}
 use Rattle.parking_lot_world.specs.CallViews.{mutex_mode, rw_mode}
-use Rattle.parking_lot_world.specs.Machines.{can_move, can_move_in, goes_late, late_goes, is_asleep, is_possible, is_taken, sleeps}
+use Rattle.parking_lot_world.specs.Machines.{can_move, can_move_in, goes_late, is_asleep, is_possible, is_taken, sleeps, is_listed}
 use Rattle.parking_lot_world.specs.RowFits.{FitsTogether, IsOfKind, IsOfManner, IsTaken, Stands, Seated}
 use Rattle.parking_lot_world.specs.Rows.{State, first_of_all, mutex_spot, rw_spot, lock_as, mutex_at, rw_lock_at, call_at, everybody, hold_at, lock_at, mutex_role_at, rw_role_at, taken_by}
 use Rattle.parking_lot_world.specs.SoundLaws.{IsApart, SomebodyCanMove, SomebodyKeeps}
@@ -51,12 +51,28 @@ use Rattle.parking_lot_world.proofs.Viewing.{apart_role}
 use Rattle.parking_lot_world.proofs.KindTable.{MutexCall, Plain, Late, mutex_call, Kind, of_mutexes, of_rws, role_at, role_now}
 use Rattle.parking_lot_world.proofs.Carrying.{taken_some}
 use Rattle.parking_lot_world.proofs.Meeting.{in_range, mutex_sound, rw_sound}
+use Rattle.parking_lot_world.specs.declared.late_rw.LateRwPhase.{LateRwPhase}
+use Rattle.parking_lot_world.specs.LateActs.{comes_late, is_back, is_pending, late_is_back, late_rw_is_back}
+use Rattle.parking_lot_world.proofs.Sleepers.{lies_out}
+use Rattle.parking_lot_rules.specs.Classes.{bit}
 
 -- ACTS
 
 pub or_else : (a : Bool) {b : Bool} → b ≡ true → (a || b) ≡ true
 or_else true e = refl
 or_else false e = e
+
+-- one whose moment has passed
+comes_on : (a b c d e : Bool) → b ≡ true → c ≡ true → d ≡ true → ((a || (b && (c && d))) || e) ≡ true
+comes_on true b c d e x y z = refl
+comes_on false true true true e x y z = refl
+comes_on false true true false e x y z = absurd cc
+comes_on false true false d e x y z = absurd cc
+comes_on false false c d e x y z = absurd cc
+
+backs_on : (a b e : Bool) → a ≡ true → ((a || b) || e) ≡ true
+backs_on true b e x = refl
+backs_on false b e x = absurd cc
 
 pub possible_alone : (taken : ℕ → Bool) (a : Act) → sleeps a ≡ false → ((k : ℕ) → a ≡ Act.Enter k → taken k ≡ false) → is_possible taken a ≡ true
 possible_alone taken Act.Sleep e free = absurd cc
@@ -92,14 +108,19 @@ rw_inside (RwPhase.Leaves rest count handed) k how taken e = refl
 rw_inside p k how taken e = absurd cc
 
 -- one whose moment has passed, too
-late_inside : (b : Bool) (at : QueuePosition) (p : LatePhase) (taken : ℕ → Bool) (k : ℕ) (how : Doing) → late_stance p ≡ In k how → (late_goes b at p || is_possible taken (late_act p)) ≡ true
-late_inside b QueuePosition.Listed LatePhase.Quits taken k how e = refl
-late_inside b (QueuePosition.Off by said) LatePhase.Quits taken k how e = refl
-late_inside b QueuePosition.Listed LatePhase.Masks taken k how e = refl
-late_inside b (QueuePosition.Off by said) LatePhase.Masks taken k how e = refl
-late_inside b QueuePosition.Listed LatePhase.Leaves taken k how e = refl
-late_inside b (QueuePosition.Off by said) LatePhase.Leaves taken k how e = refl
-late_inside b at p taken k how e = absurd cc
+late_inside : (p : LatePhase) (b : Bool) (taken : ℕ → Bool) (k : ℕ) (how : Doing) → late_stance p ≡ In k how → ((late_is_back p || b) || is_possible taken (late_act p)) ≡ true
+late_inside LatePhase.Quits b taken k how e = refl
+late_inside LatePhase.Masks b taken k how e = or_else b refl
+late_inside LatePhase.Leaves b taken k how e = or_else b refl
+late_inside p b taken k how e = absurd cc
+
+tardy_inside : (p : LateRwPhase) (b : Bool) (taken : ℕ → Bool) (k : ℕ) (how : Doing) → late_rw_stance p ≡ In k how → ((late_rw_is_back p || b) || is_possible taken (late_rw_act p)) ≡ true
+tardy_inside (LateRwPhase.Expires q) b taken k how e = absurd (lies_out (sleeper_stance q) k how e)
+tardy_inside (LateRwPhase.Quits q) b taken k how e = refl
+tardy_inside LateRwPhase.Masks b taken k how e = or_else b refl
+tardy_inside LateRwPhase.Leaves b taken k how e = or_else b refl
+tardy_inside (LateRwPhase.LeavesPending from) b taken k how e = or_else b refl
+tardy_inside LateRwPhase.GivesUp b taken k how e = absurd cc
 
 seeks_inside : (q : RwPhase) (k : ℕ) (how : Doing) (taken : ℕ → Bool) → seeks_stance q ≡ In k how → is_possible taken (upgrade_table.seeks_act q) ≡ true
 seeks_inside (RwPhase.Admits a word) k how taken e = absurd cc
@@ -127,7 +148,8 @@ upgrade_inside (UpgradePhase.Owes kept end core) k how taken e = owes_inside kep
 upgrade_inside p k how taken e = absurd cc
 
 inside_possible : (s : State) (d : Call) (c : Core) (k : ℕ) (how : Doing) → stance c ≡ In k how → (goes_late s d c || is_possible (is_taken s d) (core_act c)) ≡ true
-inside_possible s d (Core.Late p) k how e = late_inside (is_taken s d 0) d.spot p (is_taken s d) k how e
+inside_possible s d (Core.Late p) k how e = late_inside p (comes_late (Core.Late p) && (is_listed d.spot && not (is_taken s d 0))) (is_taken s d) k how e
+inside_possible s d (Core.LateRw p) k how e = tardy_inside p (comes_late (Core.LateRw p) && (is_listed d.spot && not (is_taken s d (bit (late_rw_pending p))))) (is_taken s d) k how e
 inside_possible s d (Core.Mutex c) k how e = mutex_inside c.phase k how (is_taken s d) e
 inside_possible s d (Core.Rw c) k how e = rw_inside c.phase k how (is_taken s d) e
 inside_possible s d (Core.Upgrade c) k how e = upgrade_inside c.phase k how (is_taken s d) e
@@ -202,10 +224,6 @@ upgrade_sleeps n at us (UpgradePhase.Frees r core) e = release_asleep (rules_of_
 upgrade_sleeps n at us (UpgradePhase.Owes kept end core) e = rw_sleeps at us core.phase (owes_same kept end core.phase e)
 upgrade_sleeps n at us p e = absurd cc
 
-call_sleeps : (n : ℕ) (at : QueuePosition) (us : List ℕ) (k : RwCall) → sleeps (core_act (rw_call k)) ≡ true → rw_laws.is_asleep (rw_core_role n at us (rw_call k)).does ≡ true
-call_sleeps n at us (Simple k) e = rw_sleeps at us k.phase e
-call_sleeps n at us (KindTable.Upgradable k) e = upgrade_sleeps n at us k.phase e
-
 -- a sleeper isn't at work, and isn't idle
 mutex_rests : (p : mutex.Phase) → mutex_laws.is_asleep p ≡ true → mutex_laws.is_at_work p ≡ false
 mutex_rests (mutex.Queued Asleep) e = refl
@@ -263,6 +281,7 @@ takers_wake (Core.Mutex c) some = mutex_takers c.phase some
 takers_wake (Core.Rw c) some = rw_takers c.phase some
 takers_wake (Core.Upgrade c) some = upgrade_takers c.phase some
 takers_wake (Core.Late p) some = absurd (omega (arith, some))
+takers_wake (Core.LateRw p) some = absurd (omega (arith, some))
 
 -- one that owns a lock and does nothing there owns it in some mode
 keeps_rw : (o : Owned) → o ≢ Shares 0 → (a : OwnMode) × (rw_mode (record { owns = o; does = Idle }) ≡ Some a)
@@ -345,24 +364,12 @@ module _ (s : State) (h : FitsTogether s) where
               ]
         ]
 
-  -- the role of a sleeper, at a lock of a kind whose calls that sleep are asleep
-  sleeper : {C R L : Type 0} (K : Kind C R L) (asleep : R → Bool) → ((n : ℕ) (at : QueuePosition) (us : List ℕ) (k : C) → sleeps (core_act (K.core k)) ≡ true → asleep (K.plays n at us k) ≡ true)
-      → (i v : ℕ) (d : Call) → manner_of (slice_get s.kinds i) ≡ Some K.manner → call_at s v ≡ Some d → d.lock ≡ i → sleeps (core_act d.core) ≡ true → asleep (role_at K s i v) ≡ true
-  sleeper K asleep so i v d of there same e =
-      let k = K.only d.core (subst (λ (o : Option Manner). IsOfManner o d.core) (ap (λ j. manner_of (slice_get s.kinds j)) same ∙ of) (h.rules.kinds v d there)) in
-      subst (λ j. asleep (role_at K s j v) ≡ true) same
-      (ap asleep (role_now K s v (taken_by s.wakes v) d k.0 there refl k.1) ∙ so d.others d.spot (taken_by s.wakes v) k.0 (ap (λ x. sleeps (core_act x)) (sym k.1) ∙ e))
-
-  rw_sleeper : (i v : ℕ) (d : Call) → manner_of (slice_get s.kinds i) ≡ Some AsRw → call_at s v ≡ Some d → d.lock ≡ i → sleeps (core_act d.core) ≡ true → rw_laws.is_asleep (rw_role_at s i v).does ≡ true
-  rw_sleeper = sleeper of_rws (λ q. rw_laws.is_asleep q.does) (λ n at us k e. call_sleeps n at us k e)
-
   -- one whose moment has passed can come back, or who took it can move, or the one inside a section
-  late_sleeps : (v : ℕ) (d : Call) (at : QueuePosition) → call_at s v ≡ Some d → d.core ≡ Core.Late LatePhase.Expires → d.spot ≡ at → Moves
+  late_sleeps : (v : ℕ) (d : Call) (at : QueuePosition) → call_at s v ≡ Some d → comes_late d.core ≡ true → d.spot ≡ at → Moves
   late_sleeps v d QueuePosition.Listed there e listed = go s.lot.section refl
     where
       go : (o : Option Section) → s.lot.section ≡ o → Moves
-      go None is =
-          (v, ap (can_move_in s) there ∙ ap (λ x. goes_late s d x || is_possible (is_taken s d) (core_act x)) e ∙ ap (λ at. late_goes (is_taken s d 0) at LatePhase.Expires || false) listed ∙ ap (λ o. not (is_some o) || false) is)
+      go None is = (v, ap (can_move_in s) there ∙ comes_on (is_back d.core) (comes_late d.core) (is_listed d.spot) (not (is_taken s d (bit (is_pending d.core)))) (is_possible (is_taken s d) (core_act d.core)) e (ap is_listed listed) (ap (λ o. not (is_some o)) is))
       go (Some o) is = inside_moves o is
   late_sleeps v d (QueuePosition.Off by said) there e off =
       let owed = h.wakes.off v by d said there off in
@@ -370,14 +377,31 @@ module _ (s : State) (h : FitsTogether s) where
       let some : 1 ≤ length (taken_by s.wakes owed.1.by) = taken_some s.wakes owed.0 owed.1 owed.2 in
       awake_moves owed.1.by taken.taker taken.there (takers_wake taken.taker.core (omega (arith, some, h.lots.counted owed.1.by taken.taker taken.there)))
 
+  -- and one that is back takes itself out
+  back_moves : (v : ℕ) (d : Call) → call_at s v ≡ Some d → is_back d.core ≡ true → Moves
+  back_moves v d there e = (v, ap (can_move_in s) there ∙ backs_on (is_back d.core) _ (is_possible (is_taken s d) (core_act d.core)) e)
+
   late_moves : (v : ℕ) (d : Call) (p : LatePhase) → call_at s v ≡ Some d → d.core ≡ Core.Late p → sleeps (late_act p) ≡ true → Moves
-  late_moves v d LatePhase.Expires there e asleep = late_sleeps v d d.spot there e refl
-  late_moves v d LatePhase.Quits there e asleep = (v, ap (can_move_in s) there ∙ ap (λ x. goes_late s d x || is_possible (is_taken s d) (core_act x)) e ∙ goes d.spot)
-    where
-      goes : (at : QueuePosition) → (late_goes (is_taken s d 0) at LatePhase.Quits || false) ≡ true
-      goes QueuePosition.Listed = refl
-      goes (QueuePosition.Off by said) = refl
+  late_moves v d LatePhase.Expires there e asleep = late_sleeps v d d.spot there (ap comes_late e) refl
+  late_moves v d LatePhase.Quits there e asleep = back_moves v d there (ap is_back e)
   late_moves v d p there e asleep = absurd cc
+
+  tardy_moves : (v : ℕ) (d : Call) (p : LateRwPhase) → call_at s v ≡ Some d → d.core ≡ Core.LateRw p → sleeps (late_rw_act p) ≡ true → Moves
+  tardy_moves v d (LateRwPhase.Expires k) there e asleep = late_sleeps v d d.spot there (ap comes_late e) refl
+  tardy_moves v d (LateRwPhase.Quits k) there e asleep = back_moves v d there (ap is_back e)
+  tardy_moves v d p there e asleep = absurd cc
+
+  -- at a reader-writer lock a sleeper is asleep to the rules where its moment hasn't passed
+  rw_asleep_there : (i v : ℕ) (d : Call) (k : RwCall) → call_at s v ≡ Some d → d.lock ≡ i → d.core ≡ rw_call k → rw_laws.is_asleep (rw_core_role d.others d.spot (taken_by s.wakes v) (rw_call k)).does ≡ true → rw_laws.is_asleep (rw_role_at s i v).does ≡ true
+  rw_asleep_there i v d k there same e so = subst (λ j. rw_laws.is_asleep (rw_role_at s j v).does ≡ true) same (ap (λ (q : Role). rw_laws.is_asleep q.does) (role_now of_rws s v (taken_by s.wakes v) d k there refl e) ∙ so)
+
+  rw_sleeper : (i v : ℕ) (d : Call) → manner_of (slice_get s.kinds i) ≡ Some AsRw → call_at s v ≡ Some d → d.lock ≡ i → sleeps (core_act d.core) ≡ true → Moves ⊎ (rw_laws.is_asleep (rw_role_at s i v).does ≡ true)
+  rw_sleeper i v d of there same asleep = go (of_rws.only d.core (subst (λ (o : Option Manner). IsOfManner o d.core) (ap (λ j. manner_of (slice_get s.kinds j)) same ∙ of) (h.rules.kinds v d there)))
+    where
+      go : (k : RwCall) × (d.core ≡ rw_call k) → Moves ⊎ (rw_laws.is_asleep (rw_role_at s i v).does ≡ true)
+      go (Simple k, e) = inr (rw_asleep_there i v d (Simple k) there same e (rw_sleeps d.spot (taken_by s.wakes v) k.phase (ap (λ x. sleeps (core_act x)) (sym e) ∙ asleep)))
+      go (KindTable.Upgradable k, e) = inr (rw_asleep_there i v d (KindTable.Upgradable k) there same e (upgrade_sleeps d.others d.spot (taken_by s.wakes v) k.phase (ap (λ x. sleeps (core_act x)) (sym e) ∙ asleep)))
+      go (Tardy p, e) = inl (tardy_moves v d p there e (ap (λ x. sleeps (core_act x)) (sym e) ∙ asleep))
 
   plain_sleeper : (i v : ℕ) (d : Call) (k : MutexCore) → call_at s v ≡ Some d → d.lock ≡ i → d.core ≡ Core.Mutex k → sleeps (core_act d.core) ≡ true → mutex_laws.is_asleep (mutex_role_at s i v).does ≡ true
   plain_sleeper i v d k there same e asleep =
@@ -392,15 +416,15 @@ module _ (s : State) (h : FitsTogether s) where
       go (Late p, e) = inl (late_moves v d p there e (ap (λ x. sleeps (core_act x)) (sym e) ∙ asleep))
 
   module _ (t : ℕ) (c : Call) (here : call_at s t ≡ Some c) where
-    rw_up : manner_of (slice_get s.kinds c.lock) ≡ Some AsRw → sleeps (core_act c.core) ≡ true → Moves ⊎ SomebodyKeeps s c.lock
+    rw_up : manner_of (slice_get s.kinds c.lock) ≡ Some AsRw → rw_laws.is_asleep (rw_role_at s c.lock t).does ≡ true → Moves ⊎ SomebodyKeeps s c.lock
     rw_up of asleep =
         let i = c.lock in
-        let up = rw_follow.somebody_can_move (rw_lock_at s i) (rw_sound s h i of) t (rw_role_at s i t) (get-all (rw_role_at s i) (length s.calls) t (in_range s t c here)) (rw_sleeper i t c of here refl asleep) in
+        let up = rw_follow.somebody_can_move (rw_lock_at s i) (rw_sound s h i of) t (rw_role_at s i t) (get-all (rw_role_at s i) (length s.calls) t (in_range s t c here)) asleep in
         up_there i (rw_role_at s i) (λ q. rw_laws.is_asleep q.does) (λ q. rw_laws.is_at_work q.does) rw_laws.IsOwner
         (λ q e. rw_rests q.does e)
         (λ q owns. ap rw_laws.is_asleep owns.0)
         (λ v away. ap (λ q. rw_laws.is_at_work q.does) (apart_role of_rws i (taken_by s.wakes v) (hold_at s v i) (call_at s v) away))
-        (λ v d there same e. inr (rw_sleeper i v d of there same e))
+        (λ v d there same e. rw_sleeper i v d of there same e)
         (λ v low owns.
         let held = keeps_rw (rw_role_at s i v).owns owns.1 in
         (held.0, ap (λ o. mode_in (lock_as o s i) v) of ∙ ap (option_and_then rw_mode) (get-all (rw_role_at s i) (length s.calls) v low) ∙ ap (λ p. rw_mode (record { owns = (rw_role_at s i v).owns; does = p })) owns.0 ∙ held.1))
@@ -426,9 +450,14 @@ module _ (s : State) (h : FitsTogether s) where
         slept e (inl x) = inl x
         slept e (inr x) = inr (ap (λ o. option_map_or (λ (d : Call). sleeps (core_act d.core)) o false) here ∙ e, x)
 
+        slept_up : manner_of (slice_get s.kinds c.lock) ≡ Some AsRw → Moves ⊎ (rw_laws.is_asleep (rw_role_at s c.lock t).does ≡ true) → Moves ⊎ SomebodyKeeps s c.lock
+        slept_up of (inl x) = inl x
+        slept_up of (inr x) = rw_up of x
+
         by_core : (k : Core) → c.core ≡ k → IsOfKind (slice_get s.kinds c.lock) k → sleeps (core_act c.core) ≡ true → Moves ⊎ SomebodyKeeps s c.lock
-        by_core (Core.Rw k) e of asleep = rw_up of asleep
-        by_core (Core.Upgrade k) e of asleep = rw_up of asleep
+        by_core (Core.Rw k) e of asleep = slept_up of (rw_sleeper c.lock t c of here refl asleep)
+        by_core (Core.Upgrade k) e of asleep = slept_up of (rw_sleeper c.lock t c of here refl asleep)
+        by_core (Core.LateRw k) e of asleep = slept_up of (rw_sleeper c.lock t c of here refl asleep)
         by_core (Core.Mutex k) e of asleep = mutex_up of (plain_sleeper c.lock t c k here refl e asleep)
         by_core (Core.Late p) e of asleep = inl (late_moves t c p here e (ap (λ x. sleeps (core_act x)) (sym e) ∙ asleep))
 

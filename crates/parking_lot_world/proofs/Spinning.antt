@@ -15,14 +15,16 @@ use Rattle.parking_lot_protocol.specs.MutexTable as of_mutex
 use Rattle.parking_lot_protocol.specs.RwTable as of_rw
 use Rattle.parking_lot_upgrades.specs.UpgradeTable as ut
 use Rattle.parking_lot_upgrades.specs.declared.upgrade_phase.UpgradePhase.{UpgradePhase}
-use Rattle.parking_lot_world.specs.Rounds.{upgrade_rounds}
-use Rattle.parking_lot_world.specs.Stances.{upgrade_begun}
+use Rattle.parking_lot_world.specs.Rounds.{upgrade_rounds, late_rw_rounds, rounds}
+use Rattle.parking_lot_world.specs.Stances.{upgrade_begun, late_rw_next, pending_from, quits_as}
 use Rattle.parking_lot_world.specs.declared.seat.LatePhase.{LatePhase}
 use Rattle.parking_lot_world.specs.declared.seat.Core.{Core}
 use Rattle.parking_lot_world.specs.Rounds.{FewRounds, IsUnderWay, mutex_rounds, rw_rounds}
 use Rattle.parking_lot_world.specs.Stances.{core_next, late_next, has_begun, mutex_begun, rw_begun}
 use Rattle.parking_lot_world.proofs.Beginning.{goes_on}
 use Rattle.parking_lot_rules.specs.Classes.{bit}
+use Rattle.parking_lot_world.specs.declared.late_rw.LateRwPhase.{LateRwPhase}
+use Rattle.parking_lot_world.specs.declared.late_rw.RwSleeper.{RwSleeper}
 
 -- a call that doesn't spin, and one of two
 no_rounds : 0 ≤ 10
@@ -230,10 +232,26 @@ upgrade_on (UpgradePhase.Frees r core) s h = few_rounds (ut.asks_now r core.phas
 upgrade_on (UpgradePhase.Owes kept end core) s h = rw_on core.phase s h
 upgrade_on p s h = own_rounds p s
 
+tardy_on : (p : LateRwPhase) (s : ActResult) → late_rw_rounds p ≤ 10 → rounds (late_rw_next p s) ≤ 10
+tardy_on (LateRwPhase.Expires (RwSleeper.Simple c)) (Woken token) h = rw_on c.phase (Woken token) h
+tardy_on (LateRwPhase.Expires (RwSleeper.Upgradable c)) (Woken token) h = upgrade_on c.phase (Woken token) h
+tardy_on (LateRwPhase.Expires k) Entered h = no_rounds
+tardy_on (LateRwPhase.Quits k) (Took token left) h = quits_rounds (pending_from k) left
+  where
+    quits_rounds : (o : Option Bool) (left : Bool) → late_rw_rounds (quits_as o left) ≤ 10
+    quits_rounds (Some from) left = no_rounds
+    quits_rounds None true = no_rounds
+    quits_rounds None false = no_rounds
+tardy_on LateRwPhase.Masks (Before word) h = no_rounds
+tardy_on LateRwPhase.Leaves Made h = no_rounds
+tardy_on (LateRwPhase.LeavesPending from) Made h = no_rounds
+tardy_on p s h = no_rounds
+
 pub spins_few : (c : Core) (s : ActResult) → FewRounds c → FewRounds (core_next c s)
 spins_few (Core.Mutex c) s h = mutex_on c.phase s h
 spins_few (Core.Rw c) s h = rw_on c.phase s h
 spins_few (Core.Late p) s h = late_on p s
+spins_few (Core.LateRw p) s h = tardy_on p s h
 spins_few (Core.Upgrade c) s h = upgrade_on c.phase s h
 
 -- one that goes on is under way
@@ -276,4 +294,5 @@ pub unbegun_few : (c : Core) → has_begun c ≡ false → FewRounds c
 unbegun_few (Core.Mutex c) e = mutex_unbegun c.phase e
 unbegun_few (Core.Rw c) e = rw_unbegun c.phase e
 unbegun_few (Core.Late p) e = no_rounds
+unbegun_few (Core.LateRw p) e = absurd cc
 unbegun_few (Core.Upgrade c) e = upgrade_unbegun c.phase e

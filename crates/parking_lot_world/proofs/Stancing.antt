@@ -13,6 +13,7 @@ use Rattle.parking_lot_world.specs.Stances.{Doing, Out, In, Asleep, stance, take
 use Rattle.parking_lot_world.specs.StanceLaws.{LeadsCore, Counts, TakesOne, IsOver, HasSmallKey}
 use Rattle.parking_lot_world.proofs.PhaseStancing.{mutex_leads, rw_leads, late_leads, mutex_takes, rw_takes, late_takes, mutex_begins, rw_begins, late_begins, mutex_ends, rw_ends, late_ends, mutex_wakes, rw_wakes, late_wakes, mutex_some, rw_some, rw_next_some, late_some, mutex_keys, rw_keys, late_keys}
 use Rattle.parking_lot_world.proofs.UpgradeStancing.{upgrade_leads, upgrade_takes, upgrade_begins, upgrade_ends, upgrade_wakes, upgrade_some, upgrade_keys}
+use Rattle.parking_lot_world.proofs.LateStancing.{tardy_begins, tardy_counts, tardy_keys, tardy_leads, tardy_over, tardy_some, tardy_wakes}
 
 -- CORES OF EITHER KIND
 
@@ -20,6 +21,7 @@ pub acts_lead : (c : Core) (word : ℕ) (s : ActResult) → Gives (core_act c) w
 acts_lead (Core.Mutex c) word s g = mutex_leads c.phase word s g
 acts_lead (Core.Rw c) word s g = rw_leads c.phase word s g
 acts_lead (Core.Late p) word s g = late_leads p word s g
+acts_lead (Core.LateRw p) word s g = tardy_leads p word s g
 acts_lead (Core.Upgrade c) word s g = upgrade_leads c.phase word s g
 
 -- the same of an act that is known
@@ -32,18 +34,21 @@ pub takings_count : (c : Core) (word : ℕ) (token : ParkToken) (left : Bool) �
 takings_count (Core.Mutex c) word token left g h = mutex_takes c.phase word token left g
 takings_count (Core.Rw c) word token left g h = rw_takes c.phase word token left g h
 takings_count (Core.Late p) word token left g h = late_takes p word token left g
+takings_count (Core.LateRw p) word token left g h = tardy_counts p word token left g
 takings_count (Core.Upgrade c) word token left g h = upgrade_takes c.phase word token left g h
 
 pub calls_begin : (c : Core) → (stance (core_next c ActResult.Start) ≡ Out) × (taken_count (core_next c ActResult.Start) ≡ 0)
 calls_begin (Core.Mutex c) = mutex_begins c.phase
 calls_begin (Core.Rw c) = rw_begins c.phase
 calls_begin (Core.Late p) = late_begins p
+calls_begin (Core.LateRw p) = tardy_begins p
 calls_begin (Core.Upgrade c) = upgrade_begins c.phase
 
 pub calls_end : (c : Core) → IsOver (core_act c) (stance c) (taken_count c)
 calls_end (Core.Mutex c) = mutex_ends c.phase
 calls_end (Core.Rw c) = rw_ends c.phase
 calls_end (Core.Late p) = late_ends p
+calls_end (Core.LateRw p) = tardy_over p
 calls_end (Core.Upgrade c) = upgrade_ends c.phase
 
 pub sleepers_wake : (c : Core) (k : ℕ) (token : ParkToken) (said : UnparkToken) → stance c ≡ Asleep k token
@@ -51,18 +56,21 @@ pub sleepers_wake : (c : Core) (k : ℕ) (token : ParkToken) (said : UnparkToken
 sleepers_wake (Core.Mutex c) k token said e = let x = mutex_wakes c.phase k token said e in (x.0, x.1.0, x.1.1)
 sleepers_wake (Core.Rw c) k token said e = let x = rw_wakes c.phase k token said e in (x.0, x.1.0, x.1.1)
 sleepers_wake (Core.Late p) k token said e = let x = late_wakes p k token said e in (refl, x.0, x.1)
+sleepers_wake (Core.LateRw p) k token said e = let x = tardy_wakes p k token said e in (refl, x.0, x.1)
 sleepers_wake (Core.Upgrade c) k token said e = let x = upgrade_wakes c.phase k token said e in (x.0, x.1.0, x.1.1)
 
 pub wakes_some : (c : Core) (s : ActResult) → core_act (core_next c s) ≡ Act.Section section.Wake → 1 ≤ taken_count (core_next c s)
 wakes_some (Core.Mutex c) s e = mutex_some (mt.next_phase c.phase s) e
 wakes_some (Core.Rw c) s e = rw_some (rt.next_phase c.phase s) (rw_next_some c.phase s) e
 wakes_some (Core.Late p) s e = late_some p s e
+wakes_some (Core.LateRw p) s e = tardy_some p s e
 wakes_some (Core.Upgrade c) s e = upgrade_some c.phase s e
 
 pub keys_are_two : (c : Core) → HasSmallKey (stance c)
 keys_are_two (Core.Mutex c) = mutex_keys c.phase
 keys_are_two (Core.Rw c) = rw_keys c.phase
 keys_are_two (Core.Late p) = late_keys p
+keys_are_two (Core.LateRw p) = tardy_keys p
 keys_are_two (Core.Upgrade c) = upgrade_keys c.phase
 
 pub small_key : (c : Core) (k : ℕ) (how : Doing) → stance c ≡ In k how → k < 2

@@ -39,7 +39,7 @@ use Rattle.parking_lot_world.proofs.Stancing.{calls_begin, calls_end}
 use Rattle.parking_lot_world.proofs.Meeting.{rw_sound, mutex_sound, role_few, in_range, meets, plays, plays_late}
 use Rattle.parking_lot_world.proofs.OwnMoves.{OwnMove}
 use Rattle.parking_lot_world.proofs.Ruling.{CallFits, Fitted, call_fits, rules_after, same_kind}
-use Rattle.parking_lot_world.proofs.KindTable.{Plain, RwCall, Simple, Upgradable, next_is, rw_call, rw_next, within_kinds, Kind, of_rws, of_mutexes, IsThere, Elsewhere, one_changed, role_at, role_now, role_stays, roles_at, same, shown}
+use Rattle.parking_lot_world.proofs.KindTable.{Plain, RwCall, Simple, Upgradable, next_is, rw_call, rw_next, within_kinds, Kind, of_rws, of_mutexes, IsThere, Elsewhere, one_changed, role_at, role_now, role_stays, roles_at, same, shown, Tardy}
 use Rattle.parking_lot_world.proofs.Everybody.{get-all, was-all, length-all}
 use Rattle.parking_lot_world.proofs.Making.{Crossed, TellsOf, quiet, move_sound, rw_goes, mutex_goes, RwLeadsBy, last_sound}
 use Rattle.parking_lot_world.proofs.Owning.{rw_leads, set-same}
@@ -180,6 +180,7 @@ module _ (s : State) (t : ℕ) (c : Call) (may : MayBegin s t c) (h : FitsTogeth
   begin_so : (y : Core) → c.core ≡ y → Fitted s next t c seen.Start y × (has_begun y ≡ false)
   begin_so (Core.Rw k) e = let owns = subst (OwnsFor (recursive_in s.kinds c.lock) (hold_at s t c.lock) c.others) e may.owns in (begin_rws (Simple k) e owns (subst (IsOfKind (slice_get s.kinds c.lock)) e may.kind), owns.0)
   begin_so (Core.Upgrade k) e = let owns = subst (OwnsFor (recursive_in s.kinds c.lock) (hold_at s t c.lock) c.others) e may.owns in (begin_rws (Upgradable k) e owns (subst (IsOfKind (slice_get s.kinds c.lock)) e may.kind), owns.0)
+  begin_so (Core.LateRw p) e = absurd (subst (OwnsFor (recursive_in s.kinds c.lock) (hold_at s t c.lock) c.others) e may.owns)
   begin_so (Core.Late p) e = absurd (subst (OwnsFor (recursive_in s.kinds c.lock) (hold_at s t c.lock) c.others) e may.owns)
   begin_so (Core.Mutex k) e = let owns = subst (OwnsFor (recursive_in s.kinds c.lock) (hold_at s t c.lock) c.others) e may.owns in (begin_mutexes k e owns (subst (IsOfKind (slice_get s.kinds c.lock)) e may.kind), owns.0)
 
@@ -341,6 +342,7 @@ module _ (s : State) (h : FitsTogether s) (t : ℕ) (c : Call) (here : call_at s
       go (Core.Mutex k) e = within_kinds s.kinds c.lock _ (subst (IsOfKind (slice_get s.kinds c.lock)) e (h.rules.kinds t c here))
       go (Core.Late p) e = within_kinds s.kinds c.lock _ (subst (IsOfKind (slice_get s.kinds c.lock)) e (h.rules.kinds t c here))
       go (Core.Upgrade k) e = within_kinds s.kinds c.lock _ (subst (IsOfKind (slice_get s.kinds c.lock)) e (h.rules.kinds t c here))
+      go (Core.LateRw p) e = within_kinds s.kinds c.lock _ (subst (IsOfKind (slice_get s.kinds c.lock)) e (h.rules.kinds t c here))
 
   hold_here : hold_at u t c.lock ≡ now
   hold_here =
@@ -408,8 +410,8 @@ module _ (s : State) (h : FitsTogether s) (t : ℕ) (c : Call) (here : call_at s
   last_leads recursive (of_rw.IsWoken k) l x old new o word is moves step = absurd moves
 
   last_tells : (v : ℕ) (us : List ℕ) (p : MutexPhase) → TellsOf (of_mutex.last_move p) us v
-  last_tells v us MutexPhase.Refuses = tt
-  last_tells v us p = tt
+  last_tells v _ MutexPhase.Refuses = tt
+  last_tells v _ p = tt
 
   -- one that has given up owns nothing, and does nothing at the lock any more
   late_last : {answer : CoreAnswer} (p : LatePhase) → c.core ≡ Core.Late p → late_act p ≡ Act.Done answer → IsQuiet s u
@@ -437,6 +439,7 @@ module _ (s : State) (h : FitsTogether s) (t : ℕ) (c : Call) (here : call_at s
     last_of : (x : Core) → c.core ≡ x → core_act x ≡ Act.Done answer → IsLastOf x c.others c.lock t s u
     last_of (Core.Rw k) e asked = last_rw (Simple k) e asked
     last_of (Core.Upgrade k) e asked = last_rw (Upgradable k) e asked
+    last_of (Core.LateRw p) e asked = last_rw (Tardy p) e asked
     last_of (Core.Mutex k) e asked =
         let begun : mutex_begun k.phase ≡ true = subst (λ (x : Core). has_begun x ≡ true) e (h.rules.begun t c here).begun in
         let v = first_of_all (taken_by s.wakes t) in
@@ -455,6 +458,7 @@ module _ (s : State) (h : FitsTogether s) (t : ℕ) (c : Call) (here : call_at s
   ]
 
   few_after : (i n : ℕ) (o : Core) → c.core ≡ o → now ≡ Hold.Shares n → n ≤ 255
+  few_after i n (Core.LateRw p) e is = omega (arith, same_shares 0 n (sym (ap (hold_after c.others) e) ∙ is))
   few_after i n (Core.Late p) e is = omega (arith, same_shares 0 n (sym (ap (hold_after c.others) e) ∙ is))
   few_after i n (Core.Mutex k) e is = mutex_few k.phase n (sym (ap (hold_after c.others) e) ∙ is)
   few_after i n (Core.Upgrade k) e is = upgrade_few k.phase n (sym (ap (hold_after c.others) e) ∙ is)

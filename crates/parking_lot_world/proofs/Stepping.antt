@@ -6,17 +6,16 @@ use Rattle.std.proofs.lemmas.Bool.{both_ways}
 use Rattle.parking_lot_core_lot.specs.declared.place.Section.{Section}
 use Rattle.parking_lot_core_lot.specs.declared.parking.ParkToken.{ParkToken}
 use Rattle.parking_lot_protocol.specs.declared.act.Act.{Act}
-use Rattle.parking_lot_protocol.specs.declared.mutex_phase.MutexPhase.{MutexPhase}
 use Rattle.parking_lot_protocol.specs.declared.act.SectionAct.TheVariants as section
 use Rattle.parking_lot_protocol.specs.declared.act.CoreAnswer.{CoreAnswer}
 use Rattle.parking_lot_protocol.specs.declared.act.WordChange.{WordChange}
 use Rattle.parking_lot_world.specs.declared.open_call.Call.{Call}
 use Rattle.parking_lot_world.specs.Rows.{State, call_at}
-use Rattle.parking_lot_world.specs.Stances.{Takes, sign, late_act, core_act, core_next, core_tells}
+use Rattle.parking_lot_world.specs.Stances.{Takes, sign, late_act, late_rw_act, core_act, core_next, core_tells}
 use Rattle.parking_lot_world.specs.RowActs.{key_of, added, appended, answered, checked, entered, exchanged, left, loaded, masked, spun, told_all, took, took_nobody, woke}
 use Rattle.parking_lot_world.specs.RowFits.{FitsTogether}
 use Rattle.parking_lot_world.specs.ActLaws.{Acts, Ends, Keeps}
-use Rattle.parking_lot_world.specs.Machines.{is_back, is_listed, is_sleeping, late_goes, may_expire_in, sleeps_in_time, is_possible, is_taken, can_move_in, can_move, end_of, goes_late, Became, BecameLate, IsJoined, IsStepped, IsTakenFrom, IsWoken}
+use Rattle.parking_lot_world.specs.Machines.{is_listed, may_expire_in, is_possible, is_taken, can_move_in, can_move, end_of, goes_late, Became, BecameLate, IsJoined, IsStepped, IsTakenFrom, IsWoken}
 use Rattle.parking_lot_core_lot.specs.declared.place.Place.TheVariants.{Taken}
 use Rattle.parking_lot_protocol.specs.declared.act.ActResult.TheVariants as seen
 use Rattle.parking_lot_world.specs.Ranks.{Pays}
@@ -25,7 +24,9 @@ use Rattle.parking_lot_world.proofs.LotKept.{acts_keep_fits}
 use Rattle.parking_lot_world.proofs.LotSound.{appended_sound, left_sound, stored_sound, took_sound, took_nobody_sound, woke_sound}
 use Rattle.parking_lot_core_lot.specs.Sound as lot
 use Rattle.parking_lot_core_lot.proofs.Sequences.{sound_returned}
-use Rattle.parking_lot_world.specs.LateActs.{quitted, returned}
+use Rattle.parking_lot_world.specs.LateActs.{comes_late, is_back, is_pending, late_key, quitted, returned, sleeps_in_time}
+use Rattle.parking_lot_world.specs.declared.late_rw.LateRwPhase.{LateRwPhase}
+use Rattle.parking_lot_rules.specs.Classes.{bit}
 use Rattle.parking_lot_world.specs.declared.seat.LatePhase.{LatePhase}
 use Rattle.parking_lot_world.specs.declared.seat.Core.{Core}
 use Rattle.parking_lot_world.specs.declared.seat.QueuePosition.{QueuePosition}
@@ -35,6 +36,27 @@ use Rattle.parking_lot_world.proofs.Paying as pays
 use Rattle.parking_lot_world.proofs.Paying.{IsTaking, wakes_pay, ends_pay}
 use Rattle.parking_lot_world.proofs.TakeLaws as takes
 use Rattle.parking_lot_world.proofs.TellActs as tells
+
+-- one whose moment has passed does what its core says
+comes_act : (k : Core) → comes_late k ≡ true → core_act k ≡ Act.Sleep
+comes_act (Core.Late LatePhase.Expires) e = refl
+comes_act (Core.LateRw (LateRwPhase.Expires z)) e = refl
+comes_act k e = absurd cc
+
+comes_became : (t : ℕ) (c : Call) (s u : State) (k : Core) → comes_late k ≡ true → u ≡ returned s t c → BecameLate k t c s u
+comes_became t c s u (Core.Late LatePhase.Expires) e same = same
+comes_became t c s u (Core.LateRw (LateRwPhase.Expires z)) e same = same
+comes_became t c s u k e same = absurd cc
+
+back_act : (k : Core) → is_back k ≡ true → core_act k ≡ Act.Sleep
+back_act (Core.Late LatePhase.Quits) e = refl
+back_act (Core.LateRw (LateRwPhase.Quits z)) e = refl
+back_act k e = absurd cc
+
+back_became : (t : ℕ) (c : Call) (s u : State) (k : Core) → is_back k ≡ true → u ≡ quitted s t c → BecameLate k t c s u
+back_became t c s u (Core.Late LatePhase.Quits) e same = same
+back_became t c s u (Core.LateRw (LateRwPhase.Quits z)) e same = same
+back_became t c s u k e same = absurd cc
 
 module _ (s u : State) (t : ℕ) (c : Call) (fair : Bool) (h : FitsTogether s) (here : call_at s t ≡ Some c) where
   -- an act that answers nothing
@@ -100,12 +122,12 @@ module _ (s u : State) (t : ℕ) (c : Call) (fair : Bool) (h : FitsTogether s) (
       plain (Act.Section section.Wake) asked refl x (woke s t c (x.0).thread x.1 x.2) x.4 (tells.laws.wake s t c x.0 x.1 x.2 asked x.3 (woke_sound s h.lots (x.0).thread (Taken x.2 x.3.sleep false) x.3.place (λ k. refl))) (wakes_pay s t c (x.0).thread x.1 x.2 h here x.3.there asked)
 
   -- whose moment has passed
-  pub come_back : c.core ≡ Core.Late LatePhase.Expires → c.spot ≡ QueuePosition.Listed → s.lot.section ≡ None → u ≡ returned s t c → IsStepped t fair None s u
+  pub come_back : comes_late c.core ≡ true → c.spot ≡ QueuePosition.Listed → s.lot.section ≡ None → u ≡ returned s t c → IsStepped t fair None s u
   come_back late listed free e =
-      plain Act.Sleep (ap core_act late) refl (subst (λ (k : Core). BecameLate k t c s u) (sym late) e) (returned s t c) e (late_laws.returns s t c late listed free (sound_returned s.lot t (key_of c 0) h.lots.sound)) (late_laws.returns_pay s t c late here)
+      plain Act.Sleep (comes_act c.core late) refl (comes_became t c s u c.core late e) (returned s t c) e (late_laws.returns s t c late listed free (sound_returned s.lot t (late_key c) h.lots.sound)) (late_laws.returns_pay s t c late here)
 
-  pub quit : c.core ≡ Core.Late LatePhase.Quits → lot.Sound (quitted s t c).lot → u ≡ quitted s t c → IsStepped t fair None s u
-  quit late sound e = plain Act.Sleep (ap core_act late) refl (subst (λ (k : Core). BecameLate k t c s u) (sym late) e) (quitted s t c) e (late_laws.quits s t c late sound) (late_laws.quits_pay s t c late here)
+  pub quit : is_back c.core ≡ true → lot.Sound (quitted s t c).lot → u ≡ quitted s t c → IsStepped t fair None s u
+  quit late sound e = plain Act.Sleep (back_act c.core late) refl (back_became t c s u c.core late e) (quitted s t c) e (late_laws.quits s t c late sound) (late_laws.quits_pay s t c late here)
 
   pub answer : (answer : CoreAnswer) → core_act c.core ≡ Act.Done answer → u ≡ answered s t c → IsStepped t fair (Some answer) s u
   answer said asked e = record {
@@ -128,43 +150,40 @@ late_enters LatePhase.Masks key e = cc
 late_enters LatePhase.Leaves key e = cc
 late_enters LatePhase.GivesUp key e = cc
 
+tardy_enters : (p : LateRwPhase) (key : ℕ) → late_rw_act p ≡ Act.Enter key → ⊥
+tardy_enters (LateRwPhase.Expires z) key e = cc
+tardy_enters (LateRwPhase.Quits z) key e = cc
+tardy_enters LateRwPhase.Masks key e = cc
+tardy_enters LateRwPhase.Leaves key e = cc
+tardy_enters LateRwPhase.GivesUp key e = cc
+tardy_enters (LateRwPhase.LeavesPending from) key e = cc
+
 not_late : (s : State) (c : Call) (k : Core) (key : ℕ) → core_act k ≡ Act.Enter key → goes_late s c k ≡ false
 not_late s c (Core.Mutex q) key e = refl
 not_late s c (Core.Rw q) key e = refl
 not_late s c (Core.Upgrade q) key e = refl
 not_late s c (Core.Late p) key e = absurd (late_enters p key e)
+not_late s c (Core.LateRw p) key e = absurd (tardy_enters p key e)
 
-late_back : (p : LatePhase) → is_back (Core.Late p) ≡ true → p ≡ LatePhase.Quits
-late_back LatePhase.Quits e = refl
-late_back LatePhase.Expires e = absurd cc
-late_back LatePhase.Masks e = absurd cc
-late_back LatePhase.Leaves e = absurd cc
-late_back LatePhase.GivesUp e = absurd cc
+listed_so : (at : QueuePosition) → is_listed at ≡ true → at ≡ QueuePosition.Listed
+listed_so QueuePosition.Listed e = refl
+listed_so (QueuePosition.Off by said) e = absurd cc
 
--- one that is back
-pub back_so : (k : Core) → is_back k ≡ true → k ≡ Core.Late LatePhase.Quits
-back_so (Core.Late p) e = ap Core.Late (late_back p e)
-back_so (Core.Mutex q) e = absurd cc
-back_so (Core.Rw q) e = absurd cc
-back_so (Core.Upgrade q) e = absurd cc
+both_true : (a b : Bool) → (a && b) ≡ true → (a ≡ true) × (b ≡ true)
+both_true true b e = (refl, e)
+both_true false b e = absurd cc
 
-late_comes : (b : Bool) (at : QueuePosition) (p : LatePhase) → is_back (Core.Late p) ≡ false → late_goes b at p ≡ true → (p ≡ LatePhase.Expires) × (at ≡ QueuePosition.Listed) × (not b ≡ true)
-late_comes b QueuePosition.Listed LatePhase.Expires e goes = (refl, refl, goes)
-late_comes b (QueuePosition.Off by said) LatePhase.Expires e goes = absurd cc
-late_comes b at LatePhase.Quits e goes = absurd cc
-late_comes b QueuePosition.Listed LatePhase.Masks e goes = absurd cc
-late_comes b (QueuePosition.Off by said) LatePhase.Masks e goes = absurd cc
-late_comes b QueuePosition.Listed LatePhase.Leaves e goes = absurd cc
-late_comes b (QueuePosition.Off by said) LatePhase.Leaves e goes = absurd cc
-late_comes b QueuePosition.Listed LatePhase.GivesUp e goes = absurd cc
-late_comes b (QueuePosition.Off by said) LatePhase.GivesUp e goes = absurd cc
+other_true : (a b : Bool) → a ≡ false → (a || b) ≡ true → b ≡ true
+other_true false b f e = e
+other_true true b f e = absurd cc
 
--- and one that comes back
-pub comes_so : (s : State) (c : Call) (k : Core) → is_back k ≡ false → goes_late s c k ≡ true → (k ≡ Core.Late LatePhase.Expires) × (c.spot ≡ QueuePosition.Listed) × (s.lot.section ≡ None)
-comes_so s c (Core.Late p) e goes = let x = late_comes (is_taken s c 0) c.spot p e goes in (ap Core.Late x.0, x.1, none_open s.lot.section x.2)
-comes_so s c (Core.Mutex q) e goes = absurd cc
-comes_so s c (Core.Rw q) e goes = absurd cc
-comes_so s c (Core.Upgrade q) e goes = absurd cc
+-- one that comes back is in its list, and nobody is in a section
+pub comes_so : (s : State) (c : Call) → is_back c.core ≡ false → goes_late s c c.core ≡ true → (comes_late c.core ≡ true) × (c.spot ≡ QueuePosition.Listed) × (s.lot.section ≡ None)
+comes_so s c e goes =
+    let free = not (is_taken s c (bit (is_pending c.core))) in
+    let x = both_true (comes_late c.core) (is_listed c.spot && free) (other_true (is_back c.core) _ e goes) in
+    let y = both_true (is_listed c.spot) free x.1 in
+    (x.0, listed_so c.spot y.0, none_open s.lot.section y.1)
 
 -- one that sleeps and can move is late
 pub can_late : (s : State) (t : ℕ) (c : Call) → can_move s t ≡ true → call_at s t ≡ Some c → core_act c.core ≡ Act.Sleep → goes_late s c c.core ≡ true
@@ -175,29 +194,11 @@ can_late s t c can here asked = or_none (goes_late s c c.core) (ap (λ a. goes_l
     or_none false e = e
 
 -- one whose moment may pass sleeps in its list
-plain_sleeps : (k : Core) → sleeps_in_time k ≡ true → k ≡ Core.Mutex (record { phase = MutexPhase.Sleeps })
-plain_sleeps (Core.Mutex q) e = ap (λ (p : MutexPhase). Core.Mutex (record { phase = p })) (by_phase q.phase e)
-  where
-    by_phase : (p : MutexPhase) → is_sleeping p ≡ true → p ≡ MutexPhase.Sleeps
-    by_phase MutexPhase.Sleeps e = refl
-    by_phase p e = absurd cc
-plain_sleeps (Core.Rw q) e = absurd cc
-plain_sleeps (Core.Upgrade q) e = absurd cc
-plain_sleeps (Core.Late p) e = absurd cc
-
-listed_so : (at : QueuePosition) → is_listed at ≡ true → at ≡ QueuePosition.Listed
-listed_so QueuePosition.Listed e = refl
-listed_so (QueuePosition.Off by said) e = absurd cc
-
-both_true : (a b : Bool) → (a && b) ≡ true → (a ≡ true) × (b ≡ true)
-both_true true b e = (refl, e)
-both_true false b e = absurd cc
-
-pub expires_so : (c : Call) → may_expire_in (Some c) ≡ true → (c.core ≡ Core.Mutex (record { phase = MutexPhase.Sleeps })) × (c.spot ≡ QueuePosition.Listed)
+pub expires_so : (c : Call) → may_expire_in (Some c) ≡ true → (sleeps_in_time c.core ≡ true) × (c.spot ≡ QueuePosition.Listed)
 expires_so c e =
     let x = both_true c.timed (is_listed c.spot && sleeps_in_time c.core) e in
     let y = both_true (is_listed c.spot) (sleeps_in_time c.core) x.1 in
-    (plain_sleeps c.core y.1, listed_so c.spot y.0)
+    (y.1, listed_so c.spot y.0)
 
 -- one that may enter a section finds none open
 pub can_enter : (s : State) (t : ℕ) (c : Call) (key : ℕ) → can_move s t ≡ true → call_at s t ≡ Some c → core_act c.core ≡ Act.Enter key → s.lot.section ≡ None

@@ -30,6 +30,7 @@ use Rattle.parking_lot_world.proofs.Passing.{no_stop}
 use Rattle.parking_lot_world.proofs.PassingOn.{going_of, passes_taken}
 use Rattle.parking_lot_world.specs.Kinds.{recursive_in}
 use Rattle.parking_lot_world.specs.Passes.{IsNext, asks}
+use Rattle.parking_lot_world.proofs.Sleepers.{tardy_takes}
 
 -- a sleeper is in no section
 asleep_out : (a : Stance) (k : ℕ) (token : ParkToken) → a ≡ Asleep k token → IsOut a
@@ -113,3 +114,4 @@ goes_on s t c k h here from token = go c.core refl
     go (Core.Upgrade y) e is = rw_stops (recursive_in s.kinds c.lock) c.others (Upgradable y) k token (subst (IsPrepared (recursive_in s.kinds c.lock) c.others) e (h.rules.prepared t c here)) (ap stance (sym e) ∙ from) (ap (λ (x : Core). asks (core_act x) token) (sym e) ∙ is)
     go (Core.Mutex y) e is = unpark≢stop (sym (mutex_asks y.phase k token (ap stance (sym e) ∙ from)) ∙ ap (λ (x : Core). asks (core_act x) token) (sym e) ∙ is)
     go (Core.Late p) e is = late_takes p k (ap stance (sym e) ∙ from)
+    go (Core.LateRw p) e is = tardy_takes p k (ap stance (sym e) ∙ from)

@@ -13,11 +13,12 @@ use Rattle.parking_lot_protocol.specs.declared.mutex_phase.MutexPhase.{MutexPhas
 use Rattle.parking_lot_protocol.specs.declared.rw_core.RwCore.{RwCore}
 use Rattle.parking_lot_protocol.specs.declared.rw_phase.AfterWake.{AfterWake}
 use Rattle.parking_lot_protocol.specs.declared.rw_phase.RwPhase.{RwPhase}
-use Rattle.parking_lot_rules.specs.Roles.{Shares, Asleep, Taken2}
+use Rattle.parking_lot_rules.specs.Roles.{Shares, Taken2}
 use Rattle.parking_lot_world.proofs.Acting.{still_inside}
 use Rattle.parking_lot_world.proofs.Carrying.{no_length}
 use Rattle.parking_lot_world.proofs.KindTable.{IsThere, Plain, RwCall, Simple, of_mutexes, of_rws, rw_call, rw_next, sleeps_so}
-use Rattle.parking_lot_world.proofs.RwCalls.{CallSleepsSecond, as_simple}
+use Rattle.parking_lot_world.proofs.RwCalls.{as_simple}
+use Rattle.parking_lot_world.proofs.RwSleeps.{CallSleepsSecond}
 use Rattle.parking_lot_world.specs.declared.seat.WakeResult.{WakeResult}
 use Rattle.parking_lot_world.proofs.Making.{mutex_goes, rw_goes}
 use Rattle.parking_lot_world.proofs.Meeting.{meets, plays, rw_hears, rw_sound}
@@ -68,13 +69,13 @@ module _ (s : State) (t : ℕ) (c : Call) (k : ℕ) (w : Waiter) (from : stance 
       let second : 2 * c.lock + 1 ≡ key_of c k = omega (arith, one) in
       let few : length (threads_of (s.lot.queues (2 * c.lock + 1))) ≤ 1 = lists_are_known.second (rw_lock_at s c.lock) (rw_sound s h c.lock kind_is) in
       let met = as_simple (recursive_in s.kinds c.lock) (rw_lock_at s c.lock) t c.others c.spot us x (word_at s c.lock) (meets s h t c (Simple x) e here) in
-      let step = writers_are_taken (recursive_in s.kinds c.lock) (rw_lock_at s c.lock) t c.others (rw_spot c.spot) us rest (word_at s c.lock) w.token (is_left (remove (s.lot.queues (key_of c k)) 0)) v sleeps.from met
+      let step = writers_are_taken (recursive_in s.kinds c.lock) (rw_lock_at s c.lock) t c.others (rw_spot c.spot) us rest (word_at s c.lock) w.token (is_left (remove (s.lot.queues (key_of c k)) 0)) v sleeps.from sleeps.stay met
       (nth_there s t c k 0 w from at h here (2 * c.lock + 1) second) (waits_listed s t c k 0 w from at h here of_rws o its ∙ ap Some sleeps.listed) in
       let none = took_list s t c k 0 w from at h here (2 * c.lock + 1) second ∙ one_left (s.lot.queues (key_of c k)) (subst (λ n. length (threads_of (s.lot.queues n)) ≤ 1) second few) in
       let well = rw_hears s h t c (Simple x) e here (took_told s c k 0 w) tt refl u.lot.queues none in (
         (
-          rw_goes s u t c.lock of_rw.TakesWriter _ there (took_elsewhere s t c k 0 w from at h here) kind_is (Shares c.others, v, sleeps.from, step)
-              (took_after s t c k 0 w from at h here of_rws o its (rw_next (Simple x) (took_told s c k 0 w)) (ap (λ (x : Core). core_next x (took_told s c k 0 w)) e) _ refl (record { owns = Shares 0; does = Taken2 sleeps.from t Asleep }) (sleeps.off t WakeResult.Nothing) _ _
+          rw_goes s u t c.lock of_rw.TakesWriter _ there (took_elsewhere s t c k 0 w from at h here) kind_is (Shares c.others, v, sleeps.from, sleeps.stay, step)
+              (took_after s t c k 0 w from at h here of_rws o its (rw_next (Simple x) (took_told s c k 0 w)) (ap (λ (x : Core). core_next x (took_told s c k 0 w)) e) _ refl (record { owns = Shares 0; does = Taken2 sleeps.from t sleeps.stay }) (sleeps.off t WakeResult.Nothing) _ _
               (list_there s t c k 0 w from at h here (2 * c.lock) (λ f. omega (arith, one, f))) (list_here s t c k 0 w from at h here (2 * c.lock + 1) second))
               (still_inside s.lot.section (phase.Taking 0)),
           well.0,

@@ -61,6 +61,7 @@ use Rattle.parking_lot_protocol.specs.RwRules as of_rw
 use Rattle.parking_lot_protocol.specs.MutexTable as of_mutex_table
 use Rattle.parking_lot_protocol.specs.MutexRules as of_mutex
 use Rattle.parking_lot_world.specs.Stances as stances
+use Rattle.parking_lot_world.proofs.Sleepers.{tardy_joins, tardy_takes}
 
 late_joins : (p : LatePhase) (k : ℕ) (token : ParkToken) → late_stance p ≡ In k (Joins token) → ⊥
 late_joins LatePhase.Expires k token e = cc
@@ -175,6 +176,7 @@ module _ (s : State) (t : ℕ) (c : Call) (k : ℕ) (token : ParkToken) (asked :
   by_core (Core.Upgrade y) e = joins_rw (Upgradable y) e
   by_core (Core.Mutex y) e = joins_mutex y.phase y e (ap stance (sym e) ∙ from)
   by_core (Core.Late p) e = absurd (late_joins p k token (ap stance (sym e) ∙ from))
+  by_core (Core.LateRw p) e = absurd (tardy_joins p k token (ap stance (sym e) ∙ from))
 
   pub appends : (told : ActResult) × Acts t c told s u
   appends = let both = rules_own s u t c ActResult.Made QueuePosition.Listed own h others (by_core c.core refl) in (ActResult.Made, record { fits = record { lots = leads.2; passes = own_passes s u t c ActResult.Made (core_next c.core ActResult.Made) QueuePosition.Listed own leads.2 h.passes (inr (inl (still_inside s.lot.section phase.Joined ∙ inside_mine s h.lots t c here k (Joins token) from))) (λ l o e. absurd (let f : In k (stances.Joined token) ≡ In l Takes = sym leads.1 ∙ e in cc)); wakes = wakes; rules = both.0 }; goes = both.1 })
@@ -224,6 +226,7 @@ asks_to_take (Core.Rw y) k e = rw_takes y.phase y k e
 asks_to_take (Core.Upgrade y) k e = upgrade_takes y.phase k e
 asks_to_take (Core.Mutex y) k e = mutex_takes y.phase y k e
 asks_to_take (Core.Late p) k e = absurd (late_takes p k e)
+asks_to_take (Core.LateRw p) k e = absurd (tardy_takes p k e)
 
 -- whatever it takes, the word stays
 pub takes_no_word : (a : Act) (told : ActResult) (x : ℕ) → AsksToTake a → word_after a told x ≡ x
@@ -351,6 +354,7 @@ module _ (s : State) (t : ℕ) (c : Call) (k : ℕ) (from : stance c.core ≡ In
   find_by_core (Core.Rw y) e = finds_rw (Simple y) e
   find_by_core (Core.Upgrade y) e = finds_rw (Upgradable y) e
   find_by_core (Core.Late p) e = absurd (late_takes p k (ap stance (sym e) ∙ from))
+  find_by_core (Core.LateRw p) e = absurd (tardy_takes p k (ap stance (sym e) ∙ from))
   find_by_core (Core.Mutex y) e = finds_mutex y.phase y e (ap stance (sym e) ∙ from)
 
   pub takes_nobody : (what : ActResult) × Acts t c what s found_state

@@ -13,10 +13,11 @@ use Rattle.parking_lot_protocol.specs.declared.act.Act.{Act}
 use Rattle.parking_lot_protocol.specs.Acts.{Gives}
 use Rattle.parking_lot_world.specs.declared.seat.WakeResult.{WakeResult}
 use Rattle.parking_lot_protocol.specs.declared.rw_phase.RwPhase.{RwPhase}
-use Rattle.parking_lot_rules.specs.Roles.{Shares, Asleep, Open, Taken1}
+use Rattle.parking_lot_rules.specs.Roles.{Shares, Open, Taken1}
 use Rattle.parking_lot_world.proofs.Acting.{still_inside}
 use Rattle.parking_lot_world.proofs.KindTable.{IsThere, RwCall, Simple, Upgradable, next_is, of_rws, rw_call, rw_next}
-use Rattle.parking_lot_world.proofs.RwCalls.{CallSleepsFirst, as_move}
+use Rattle.parking_lot_world.proofs.RwCalls.{as_move}
+use Rattle.parking_lot_world.proofs.RwSleeps.{CallSleepsFirst}
 use Rattle.parking_lot_world.proofs.RwScans.{call_takes, scanner, takes_where}
 use Rattle.parking_lot_world.proofs.ScanRoom.{scans_have_room}
 use Rattle.parking_lot_world.specs.RowSteps.{IsRwMove}
@@ -39,6 +40,7 @@ use Rattle.parking_lot_world.specs.Rows.{State, word_at, call_at, taken_by, rw_l
 use Rattle.parking_lot_world.specs.Stances.{Takes, In, mutex_stance, stance, core_act, core_next}
 use Rattle.parking_lot_world.specs.declared.open_call.Call.{Call}
 use Rattle.parking_lot_world.specs.declared.seat.Core.{Core}
+use Rattle.parking_lot_world.proofs.Sleepers.{tardy_takes}
 
 pub mutex_asks : (q : MutexPhase) (k token : ℕ) → mutex_stance q ≡ In k Takes → asks (of_mutex_table.act_of q) token ≡ Unpark
 mutex_asks (MutexPhase.Takes giving) k token is = refl
@@ -89,7 +91,7 @@ module _ (s : State) (t : ℕ) (c : Call) (k nth : ℕ) (w : Waiter) (from : sta
       let first : 2 * c.lock ≡ key_of c k = omega (arith, nought) in
       let met = meets s h t c y e here in
       let goes : (n : ℕ) → asks (core_act c.core) n ≡ look_by sc.sees false n = λ n. ap (λ (y : Core). asks (core_act y) n) e ∙ sc.asks_so n in
-      let step = call_takes (recursive_in s.kinds c.lock) (rw_lock_at s c.lock) t c.others c.spot us y (word_at s c.lock) at_first ready w.token left nth v met sleeps.token (nth_there s t c k nth w from at h here (2 * c.lock) first)
+      let step = call_takes (recursive_in s.kinds c.lock) (rw_lock_at s c.lock) t c.others c.spot us y (word_at s c.lock) at_first ready w.token left nth v sleeps.stay met sleeps.token (nth_there s t c k nth w from at h here (2 * c.lock) first)
       (waits_listed s t c k nth w from at h here of_rws o its ∙ ap Some sleeps.listed) (same_take (look sc.sees false mode) (sym next.wanted ∙ goes w.token.0 ∙ scans_go_by_tokens.looks sc.sees false w.token sleeps.token))
       (scans_go_by_tokens.skips (rw_lock_at s c.lock) sc.sees false (s.lot.queues (2 * c.lock)) nth refl (want_as_told s h c.lock kind_is) (subst (λ n. ArePassed (look_by sc.sees false) (s.lot.queues n) nth) (sym first) (passed_as _ _ _ _ goes next.passed))) in
       let well = rw_hears s h t c y e here (took_told s c k nth w) (sc.told (word_at s c.lock) w.token left sleeps.token) (ap (λ (x : Core). asks (core_act x) w.token.0) (sym e) ∙ next.wanted) u.lot.queues
@@ -97,8 +99,8 @@ module _ (s : State) (t : ℕ) (c : Call) (k nth : ℕ) (w : Waiter) (from : sta
         (
           as_move y c.others us (took_told s c k nth w) c.lock t s u
               (subst (λ m. IsRwMove m c.lock t s u) (sym (sc.move us w.token left))
-              (rw_goes s u t c.lock (of_rw.TakesOne mode) _ there (took_elsewhere s t c k nth w from at h here) kind_is (step.0, nth, v, step.1)
-              (took_after s t c k nth w from at h here of_rws o its (rw_next y (took_told s c k nth w)) (ap (λ (x : Core). core_next x (took_told s c k nth w)) e ∙ next_is y (took_told s c k nth w)) _ refl (record { owns = Shares 0; does = Taken1 mode t Open Asleep }) (sleeps.off t WakeResult.Nothing) _ _
+              (rw_goes s u t c.lock (of_rw.TakesOne mode) _ there (took_elsewhere s t c k nth w from at h here) kind_is (step.0, nth, v, sleeps.stay, step.1)
+              (took_after s t c k nth w from at h here of_rws o its (rw_next y (took_told s c k nth w)) (ap (λ (x : Core). core_next x (took_told s c k nth w)) e ∙ next_is y (took_told s c k nth w)) _ refl (record { owns = Shares 0; does = Taken1 mode t Open sleeps.stay }) (sleeps.off t WakeResult.Nothing) _ _
               (list_here s t c k nth w from at h here (2 * c.lock) first) (list_there s t c k nth w from at h here (2 * c.lock + 1) (λ f. omega (arith, nought, f))))
               (still_inside s.lot.section (phase.Taking nth)))),
           well.0,
@@ -133,3 +135,4 @@ module _ (s : State) (t : ℕ) (c : Call) (k nth : ℕ) (w : Waiter) (from : sta
   takes_so (Core.Upgrade y) e = takes_rw (Upgradable y) e
   takes_so (Core.Mutex y) e = takes_first (Core.Mutex y) (λ token. ap (λ (x : Core). asks (core_act x) token) e ∙ mutex_asks y.phase k token (ap stance (sym e) ∙ from)) (λ first. takes_mutex s t c k w from first h here y.phase y e (ap stance (sym e) ∙ from))
   takes_so (Core.Late p) e = absurd (late_takes p k (ap stance (sym e) ∙ from))
+  takes_so (Core.LateRw p) e = absurd (tardy_takes p k (ap stance (sym e) ∙ from))

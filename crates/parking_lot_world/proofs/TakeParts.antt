@@ -68,6 +68,7 @@ upgrade_out p first out = tt
 
 pub out_knows : (x : Core) (queues : ℕ → List Waiter) (j : ℕ) → IsOut (stance x) → KnowsList x queues j
 out_knows (Core.Late p) queues j out = tt
+out_knows (Core.LateRw p) queues j out = tt
 out_knows (Core.Upgrade c) queues j out = upgrade_out c.phase (queues (2 * j)) out
 out_knows (Core.Mutex c) queues j out = mutex_out c.phase (queues (2 * j)) out
 out_knows (Core.Rw c) queues j out = rw_out c.phase (queues (2 * j)) (queues (2 * j + 1)) out

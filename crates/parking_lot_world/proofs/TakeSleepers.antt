@@ -3,7 +3,7 @@ use Rattle.std.proofs.Common.{◌≡◌, ℕ, List, Some, slice_get, sym, ap, �
 use Rattle.parking_lot_core_lot.specs.declared.place.Waiter.{Waiter}
 use Rattle.parking_lot_world.proofs.KindTable.{RwCall, of_rws, rw_call}
 use Rattle.parking_lot_world.proofs.Meeting.{meets}
-use Rattle.parking_lot_world.proofs.RwCalls.{CallSleeps, call_sleeps}
+use Rattle.parking_lot_world.proofs.RwSleeps.{CallSleeps, call_sleeps}
 use Rattle.parking_lot_world.proofs.TakeParts.{the_sleeper, waits_so}
 use Rattle.parking_lot_world.specs.Kinds.{AsRw, manner_of, recursive_in}
 use Rattle.parking_lot_world.specs.RowActs.{key_of}

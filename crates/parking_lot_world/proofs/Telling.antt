@@ -15,7 +15,6 @@ use Rattle.parking_lot_protocol.specs.Acts.{word_after, change_of}
 use Rattle.parking_lot_protocol.specs.MutexRules as of_mutex
 use Rattle.parking_lot_protocol.specs.MutexTable as of_mutex_table
 use Rattle.parking_lot_protocol.specs.RwRules as of_rw
-use Rattle.parking_lot_protocol.specs.RwTable as of_rw_table
 use Rattle.parking_lot_protocol.specs.declared.act.Act.{Act}
 use Rattle.parking_lot_protocol.specs.declared.act.ActResult.{ActResult}
 use Rattle.parking_lot_protocol.specs.declared.act.SectionAct.TheVariants as section
@@ -24,15 +23,16 @@ use Rattle.parking_lot_protocol.specs.declared.mutex_core.MutexCore.{MutexCore}
 use Rattle.parking_lot_protocol.specs.declared.mutex_phase.MutexPhase.{MutexPhase}
 use Rattle.parking_lot_protocol.specs.declared.rw_phase.AfterWake.{AfterWake}
 use Rattle.parking_lot_protocol.specs.declared.rw_phase.RwPhase.{RwPhase}
-use Rattle.parking_lot_rules.specs.Plain.{Mask2}
-use Rattle.parking_lot_rules.specs.Steps.{settle, ends_saying}
+use Rattle.parking_lot_rules.specs.Plain.{Mask2, Mask1}
+use Rattle.parking_lot_rules.specs.Plain.{Plain as PlainStep}
+use Rattle.parking_lot_rules.specs.Steps.{settle, ends_saying, Alone}
 use Rattle.parking_lot_rules.specs.Mutex as mutex
 use Rattle.parking_lot_rules.specs.Any.{Mx, MxStep}
 use Rattle.parking_lot_world.specs.Kinds.{Manner, manner_of, recursive_in}
 use Rattle.parking_lot_world.specs.MutexLaws.{IsTelling}
 use Rattle.parking_lot_world.specs.RowActs.{settled_spot, settled, told_of}
 use Rattle.parking_lot_world.specs.RowFits.{FitsTogether, IsOfKind, IsPrepared, KnowsList, IsOfManner}
-use Rattle.parking_lot_world.specs.Rows.{State, word_at, call_at, hold_at, taken_by, mark_of, rw_lock_at, first_of_all, mutex_spot, mutex_word_of, mutex_at, queue_at}
+use Rattle.parking_lot_world.specs.Rows.{State, inside, word_at, call_at, hold_at, taken_by, mark_of, rw_lock_at, first_of_all, mutex_spot, mutex_word_of, mutex_at, queue_at}
 use Rattle.parking_lot_world.specs.RowSteps.{IsMutexMove, IsRwMove}
 use Rattle.parking_lot_world.specs.Stances.{Doing, In, Asleep, Stores, sign, late_act, mutex_stance, stance, taken_count, core_act, core_next, core_tells}
 use Rattle.parking_lot_world.specs.declared.open_call.Call.{Call}
@@ -41,15 +41,15 @@ use Rattle.parking_lot_world.specs.declared.seat.Core.{Core}
 use Rattle.parking_lot_world.specs.declared.seat.QueuePosition.{QueuePosition}
 use Rattle.parking_lot_world.proofs.Acting.{word-here, has_word}
 use Rattle.parking_lot_world.proofs.Everybody.{all, get-all, settle-all}
-use Rattle.parking_lot_world.proofs.KindTable.{Plain, Late, RwCall, Simple, Upgradable, mutex_plays, next_is, rw_call, rw_next, Kind, of_rws, of_mutexes, IsThere, role_at, role_now, roles_at, same, shown}
-use Rattle.parking_lot_world.proofs.Making.{made, mutex_goes, rw_goes}
+use Rattle.parking_lot_world.proofs.KindTable.{Plain, Late, RwCall, Simple, Upgradable, mutex_plays, next_is, rw_call, rw_next, Kind, of_rws, of_mutexes, IsThere, role_at, role_now, roles_at, same, shown, Tardy}
+use Rattle.parking_lot_world.proofs.Making.{made, mutex_goes, rw_goes, Crossed}
 use Rattle.parking_lot_world.proofs.Meeting.{in_range, meets, plays, plays_late, rw_hears}
 use Rattle.parking_lot_world.proofs.MutexMoving.{steps}
 use Rattle.parking_lot_world.proofs.MutexRoles.{roles}
 use Rattle.parking_lot_world.proofs.MutexTelling.{masks_call, tells_call}
 use Rattle.parking_lot_world.proofs.OwnActs.{two_kinds}
 use Rattle.parking_lot_world.proofs.Ruling.{Fitted}
-use Rattle.parking_lot_world.proofs.RwCalls.{as_move, call_makes, call_move, call_role}
+use Rattle.parking_lot_world.proofs.RwCalls.{as_move, call_makes, call_move, call_role, CallLearns, CallTold, CallWants, call_lock, tardy_makes}
 use Rattle.parking_lot_world.proofs.RwScans.{call_masks, call_stores}
 use Rattle.parking_lot_world.proofs.RwTells.{call_kept_here, call_told_here}
 use Rattle.parking_lot_world.proofs.Stancing.{leads_by}
@@ -59,6 +59,10 @@ use Rattle.parking_lot_rules.specs.Steps.{AreSkipped}
 use Rattle.parking_lot_world.proofs.RwTaking.{scans_go_by_tokens}
 use Rattle.parking_lot_world.proofs.Wanting.{want_as_told}
 use Rattle.parking_lot_world.proofs.Settling.{told_state, next_call, told_here, told_others, told_threads, told_elsewhere}
+use Rattle.parking_lot_world.specs.declared.late_rw.LateRwPhase.{LateRwPhase}
+use Rattle.parking_lot_world.specs.RwLaws.{IsStep, move_crossing}
+use Rattle.parking_lot_rules.specs.Lock.{On1, to_wake}
+use Rattle.parking_lot_rules.specs.Roles.{Open}
 
 -- a store crosses no section
 pub inside_stored : (token : UnparkToken) (o : Option Section) → option_and_then (λ x. x.thread) (option_map {T = Section} (λ x. record x { phase = section_phase.Stored; token = token }) o) ≡ option_and_then (λ x. x.thread) o
@@ -206,10 +210,11 @@ module _ (s : State) (t : ℕ) (c : Call) (plain fair : WordChange) (is_fair : B
       go : (x : Core) → c.core ≡ x → Fitted s next t c heard x
       go (Core.Rw y) e = store_rw (Simple y) e (ap core_act (sym e) ∙ asked) key (ap stance (sym e) ∙ from)
       go (Core.Upgrade y) e = store_rw (Upgradable y) e (ap core_act (sym e) ∙ asked) key (ap stance (sym e) ∙ from)
+      go (Core.LateRw p) e = store_rw (Tardy p) e (ap core_act (sym e) ∙ asked) key (ap stance (sym e) ∙ from)
       go (Core.Late p) e = absurd (late_stores p (ap core_act (sym e) ∙ asked))
       go (Core.Mutex y) e = store_mutex y.phase y e (ap core_act (sym e) ∙ asked) key (ap stance (sym e) ∙ from)
 
--- THE LAST READER TAKES THE MARK OF A PENDING WRITER OFF THE WORD
+-- THE LAST READER TAKES THE MARK OF A PENDING WRITER OFF THE WORD, AND ONE WHOSE MOMENT HAS PASSED THAT OF THE FIRST LIST
 
 module _ (s : State) (t : ℕ) (c : Call) (keep : ℕ) (asked : core_act c.core ≡ Act.FetchAnd keep) (h : FitsTogether s) (here : call_at s t ≡ Some c) where
   abbrev before : ActResult
@@ -218,31 +223,51 @@ module _ (s : State) (t : ℕ) (c : Call) (keep : ℕ) (asked : core_act c.core 
   abbrev mask_then : State
   mask_then = told_state s t c before (sign false) (bit_and (word_at s c.lock) keep)
 
-  mask_reader : (rest : AfterWake) (has : Bool) → c.core ≡ Core.Rw (record { phase = RwPhase.ClearWriterParked rest has }) → Fitted s mask_then t c before (Core.Rw (record { phase = RwPhase.ClearWriterParked rest has }))
-  mask_reader rest has e =
-      let asks : of_rw_table.act_of (RwPhase.ClearWriterParked rest has) ≡ Act.FetchAnd keep = ap core_act (sym e) ∙ asked in
-      let z : RwCall = Simple (record { phase = RwPhase.ClearWriterParked rest has }) in
+  -- at a reader-writer lock, where the mask is a step of its own, and its thread has taken nobody that it could tell
+  mask_by : (z : RwCall) (step : PlainStep) → c.core ≡ rw_call z → call_move c.others (taken_by s.wakes t) z before ≡ of_rw.Makes step → CallTold z (word_at s c.lock) before → ((f g : List Waiter) → CallLearns z before f g) → CallWants z before
+      → IsStep (recursive_in s.kinds c.lock) t (Alone step) (rw_lock_at s c.lock) (call_lock (rw_lock_at s c.lock) t c.others (taken_by s.wakes t) z before (word_at s c.lock))
+      → Crossed (move_crossing (of_rw.Makes step)) t (inside s) (inside mask_then)
+      → to_wake (call_role c.others c.spot (taken_by s.wakes t) z).does (On1 Open) ≡ [] → ((key : ℕ) (park : ParkToken) → stance (rw_call (rw_next z before)) ≡ Asleep key park → ⊥) → Fitted s mask_then t c before (rw_call z)
+  mask_by z step e moves told learns wants leads crossed nobody awake =
+      let asks : core_act (rw_call z) ≡ Act.FetchAnd keep = ap core_act (sym e) ∙ asked in
       let us = taken_by s.wakes t in
       let l = rw_lock_at s c.lock in
-      let kind_is = subst (IsOfKind (slice_get s.kinds c.lock)) e (h.rules.kinds t c here) in
+      let kind_is = of_rws.of_kind (slice_get s.kinds c.lock) z (subst (IsOfKind (slice_get s.kinds c.lock)) e (h.rules.kinds t c here)) in
       let met = meets s h t c z e here in
-      let well = rw_hears s h t c z e here before refl tt s.lot.queues tt in (
-        rw_goes s mask_then t c.lock (call_move c.others us z before) _ (subst (IsThere c.lock) (sym here) refl) (told_elsewhere s t c before (sign false) (bit_and (word_at s c.lock) keep) h here) kind_is
-            (call_makes (recursive_in s.kinds c.lock) l t c.others c.spot us z (word_at s c.lock) before (Mask2 c.others us) met refl refl (ap threads_of (subst (λ (x : Core). KnowsList x s.lot.queues c.lock) e (h.rules.knows t c here))))
-            (told_after of_rws s t c before (sign false) (bit_and (word_at s c.lock) keep) h here z (rw_next z before) e (ap (λ (x : Core). core_next x before) e) (λ at park w. in_asleep w) (λ x. x) (λ o. refl)
-            (λ x n at vs p there_is. call_kept_here l t x n at vs (call_role c.others c.spot us z) (told_of (sign false)) met.sound met.here refl p there_is)
+      let well = rw_hears s h t c z e here before told wants s.lot.queues (learns (s.lot.queues (2 * c.lock)) (s.lot.queues (2 * c.lock + 1))) in (
+        as_move z c.others us before c.lock t s mask_then
+            (subst (λ m. IsRwMove m c.lock t s mask_then) (sym moves)
+            (rw_goes s mask_then t c.lock (of_rw.Makes step) _ (subst (IsThere c.lock) (sym here) refl) (told_elsewhere s t c before (sign false) (bit_and (word_at s c.lock) keep) h here) kind_is leads
+            (told_after of_rws s t c before (sign false) (bit_and (word_at s c.lock) keep) h here z (rw_next z before) e (ap (λ (x : Core). core_next x before) e ∙ next_is z before) awake (λ x. x) (λ o. refl)
+            (λ x n at vs p there_is. call_kept_here l t x n at vs (call_role c.others c.spot us z) (told_of (sign false)) met.sound met.here nobody p there_is)
             (word_after (core_act (rw_call z)) before (word_at s c.lock)) (ap (λ (x : Act). word_after x before (word_at s c.lock)) (sym asks))
             ∙ same of_rws _ _ _ _ _ _ _ _ refl (ap (λ rs. slice_set rs t (call_role c.others QueuePosition.Listed us (rw_next z before))) (map_none l.roles)) refl refl)
-            (inside_stored (sign false) s.lot.section),
+            crossed)),
         well.0,
         well.1,
         λ x. absurd (two_kinds (sym kind_is ∙ x)),
       )
 
+  mask_reader : (rest : AfterWake) (has : Bool) → c.core ≡ Core.Rw (record { phase = RwPhase.ClearWriterParked rest has }) → Fitted s mask_then t c before (Core.Rw (record { phase = RwPhase.ClearWriterParked rest has }))
+  mask_reader rest has e =
+      let z : RwCall = Simple (record { phase = RwPhase.ClearWriterParked rest has }) in
+      let us = taken_by s.wakes t in
+      mask_by z (Mask2 c.others us) e refl refl (λ f g. tt) tt
+      (call_makes (recursive_in s.kinds c.lock) (rw_lock_at s c.lock) t c.others c.spot us z (word_at s c.lock) before (Mask2 c.others us) (meets s h t c z e here) refl refl (ap threads_of (subst (λ (x : Core). KnowsList x s.lot.queues c.lock) e (h.rules.knows t c here))))
+      (inside_stored (sign false) s.lot.section) refl (λ at park w. in_asleep w)
+
+  mask_late_rw : c.core ≡ Core.LateRw LateRwPhase.Masks → Fitted s mask_then t c before (Core.LateRw LateRwPhase.Masks)
+  mask_late_rw e =
+      let z : RwCall = Tardy LateRwPhase.Masks in
+      let us = taken_by s.wakes t in
+      mask_by z Mask1 e refl refl (λ f g. tt) tt (tardy_makes (recursive_in s.kinds c.lock) (rw_lock_at s c.lock) t c.others c.spot us LateRwPhase.Masks (word_at s c.lock) before (meets s h t c z e here) refl Mask1 refl)
+      (inside_stored (sign false) s.lot.section) refl (λ at park w. in_asleep w)
+
   mask_rw : (y : RwCall) → c.core ≡ rw_call y → Fitted s mask_then t c before (rw_call y)
-  mask_rw y e =
-      let z = call_masks (recursive_in s.kinds c.lock) c.others keep y (subst (IsPrepared (recursive_in s.kinds c.lock) c.others) e (h.rules.prepared t c here)) (ap core_act (sym e) ∙ asked) in
-      subst (λ (q : RwCall). Fitted s mask_then t c before (rw_call q)) (sym z.2) (mask_reader z.0 z.1 (e ∙ ap rw_call z.2))
+  mask_rw y e = elim (call_masks (recursive_in s.kinds c.lock) c.others keep y (subst (IsPrepared (recursive_in s.kinds c.lock) c.others) e (h.rules.prepared t c here)) (ap core_act (sym e) ∙ asked)) [
+    | inl z ↦ subst (λ (q : RwCall). Fitted s mask_then t c before (rw_call q)) (sym z.2) (mask_reader z.0 z.1 (e ∙ ap rw_call z.2))
+    | inr is ↦ subst (λ (q : RwCall). Fitted s mask_then t c before (rw_call q)) (sym is) (mask_late_rw (e ∙ ap rw_call is))
+  ]
 
   mask_mutex : (q : MutexPhase) → of_mutex_table.act_of q ≡ Act.FetchAnd keep → (key : ℕ) → mutex_stance q ≡ In key Stores → ⊥
   mask_mutex (MutexPhase.Stores giving has left) asks key is = cc
@@ -280,5 +305,6 @@ module _ (s : State) (t : ℕ) (c : Call) (keep : ℕ) (asked : core_act c.core 
       go : (x : Core) → c.core ≡ x → Fitted s mask_then t c before x
       go (Core.Rw y) e = mask_rw (Simple y) e
       go (Core.Upgrade y) e = mask_rw (Upgradable y) e
+      go (Core.LateRw p) e = mask_rw (Tardy p) e
       go (Core.Late p) e = mask_late p e (ap core_act (sym e) ∙ asked)
       go (Core.Mutex y) e = absurd (mask_mutex y.phase (ap core_act (sym e) ∙ asked) key (ap stance (sym e) ∙ from))

@@ -107,24 +107,22 @@ none_taken : (us : List ℕ) → length us ≡ 0 → us ≡ []
 none_taken [] e = refl
 none_taken (u ∷ us) e = absurd (omega (arith, e))
 
-frees_needs : (us : List ℕ) (q : RwPhase) → length us ≡ rw_taken q → count_shared q ≤ 2 ^ 17 → frees_prepared us q
+frees_needs : (us : List ℕ) (q : RwPhase) → length us ≡ rw_taken q → count_shared q ≤ 2 ^ 18 → frees_prepared us q
 frees_needs us (RwPhase.LooksExclusive fair rest) e few = none_taken us e
 frees_needs us (RwPhase.Scans a) e few = omega (arith, few)
 frees_needs us (RwPhase.Stores a left) e few = (omega (arith, few), e)
 frees_needs us (RwPhase.Finishes rest) e few = none_taken us e
 frees_needs us q e few = tt
 
-owes_needs : (us : List ℕ) (q : RwPhase) → length us ≡ rw_taken q → count_shared q ≤ 2 ^ 17 → owes_prepared us q
+owes_needs : (us : List ℕ) (q : RwPhase) → length us ≡ rw_taken q → count_shared q ≤ 2 ^ 18 → owes_prepared us q
 owes_needs us RwPhase.EnterWakeSection e few = none_taken us e
 owes_needs us (RwPhase.Scans a) e few = omega (arith, few)
 owes_needs us (RwPhase.Finishes rest) e few = none_taken us e
 owes_needs us q e few = tt
 
-prepared : (us : List ℕ) (p : UpgradePhase) → IsOfWorld p → length us ≡ upgrade_taken p → upgrade_shared p ≤ 2 ^ 17 → upgrade_prepared us p
+prepared : (us : List ℕ) (p : UpgradePhase) → IsOfWorld p → length us ≡ upgrade_taken p → upgrade_shared p ≤ 2 ^ 18 → upgrade_prepared us p
 prepared us (UpgradePhase.Plain core) o e few = absurd o
 prepared us (UpgradePhase.GivingUp from) o e few = absurd o
-prepared us (UpgradePhase.YieldLoads from) o e few = absurd o
-prepared us (UpgradePhase.Yields from word) o e few = absurd o
 prepared us (UpgradePhase.Frees r core) o e few = frees_needs us core.phase e few
 prepared us (UpgradePhase.Owes kept end core) o e few = owes_needs us core.phase e few
 prepared us p o e few = tt

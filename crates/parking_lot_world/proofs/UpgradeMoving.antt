@@ -2,7 +2,7 @@
 use Rattle.std.proofs.Common.{◌≡◌, ◌<◌, ℕ, ◌^◌, ◌&&◌, Bool, true, false, cond, List, [], length, map, remove, Some, slice_get, slice_set, refl, sym, ap, ◌∙◌, subst, arith}
 use Rattle.parking_lot_rules.specs.Roles.{Mode, Owned, Shares, Excludes, Upgrades, Role, FromUpgradable}
 use Rattle.parking_lot_rules.specs.Roles as rules
-use Rattle.parking_lot_rules.specs.Classes.{Upgraders, Writers, weight, total}
+use Rattle.parking_lot_rules.specs.Classes.{Pending, Upgraders, Writers, weight, total}
 use Rattle.parking_lot_rules.specs.Clauses.{Word, number, word_of}
 use Rattle.parking_lot_rules.specs.Plain.{Plain, May, from, written}
 use Rattle.parking_lot_rules.specs.Lock.{Lock, IsSound}
@@ -19,7 +19,7 @@ use Rattle.parking_lot_upgrades.specs.declared.upgrade_phase.UpgradePhase.{Upgra
 use Rattle.parking_lot_upgrades.specs.declared.upgrade_phase.Hold.{Hold}
 use Rattle.parking_lot_upgrades.specs.declared.upgrade_phase.Release.{Release}
 use Rattle.parking_lot_protocol.specs.declared.act.CoreAnswer.{CoreAnswer}
-use Rattle.parking_lot_upgrades.specs.UpgradeMoves.{IsMove, move, seeks_move, drains_move, frees_move, owes_move}
+use Rattle.parking_lot_upgrades.specs.UpgradeMoves.{IsMove, move, seeks_move, drains_move, frees_move, owes_move, yield}
 use Rattle.parking_lot_upgrades.specs.UpgradeRoles.{owned, role}
 use Rattle.parking_lot_upgrades.specs.UpgradeRules.{Fits, FitsFreeing, FitsOwing, HasUpgradable, HasWriter, IsReady, IsTold, IsSeeking, IsDraining, IsFreeing, IsOwing}
 use Rattle.parking_lot_upgrades.specs.UpgradeTable.{act_of, next_phase, seeks_act, frees_act, owes_act}
@@ -69,9 +69,20 @@ owes_fit us RwPhase.EnterWakeSection w m = m
 owes_fit us (RwPhase.Scans s) w m = m
 owes_fit us q w m = tt
 
+-- one that gives up has a writer's bit until its exchange
+pending_weighs : (back : Bool) → weight Pending (record { owns = Shares 0; does = rules.Yields back }) ≡ 1
+unfolding weight
+pending_weighs back = refl
+
+pending_fits : (l : Lock) (t : ℕ) (back : Bool) → IsSound l → slice_get l.roles t ≡ Some (record { owns = Shares 0; does = rules.Yields back }) → HasWriter l.word
+pending_fits l t back h at =
+    let f = h.fits in
+    let own = total-at l.roles t _ at Pending in
+    record { writer = omega (arith, f.writer, f.one, own, pending_weighs back); upgradable = omega (arith, f.writer, f.one, own, pending_weighs back) }
+
 fits_of : (recursive : Bool) (l : Lock) (t n : ℕ) (spot : QueuePosition) (us : List ℕ) (p : UpgradePhase) → IsSound l → l.word.readers < 2 ^ 58 → slice_get l.roles t ≡ Some (role n spot us p) → upgrade_prepared us p → Fits recursive n us p l.word
 fits_of recursive l t n spot us (UpgradePhase.Plain core) h few at m = absurd m
-fits_of recursive l t n spot us (UpgradePhase.Yields back word) h few at m = absurd m
+fits_of recursive l t n spot us (UpgradePhase.Yields back word) h few at m = pending_fits l t back h at
 fits_of recursive l t n spot us (UpgradePhase.Frees way core) h few at m = frees_fit l t n spot us way core.phase h few at m
 fits_of recursive l t n spot us (UpgradePhase.Owes hold end core) h few at m = owes_fit us core.phase l.word m
 fits_of recursive l t n spot us UpgradePhase.Upgrades h few at m = has_upgradable l t _ h at upgrades_weigh
@@ -152,6 +163,10 @@ owes_clear l us o hold end (RwPhase.Scans a) (ActResult.Took (Some token) left) 
 owes_clear l us o hold end (RwPhase.Stores a left) (ActResult.Stored fair) found = tt
 owes_clear l us o hold end q s found = tt
 
+yields_clear : (l : Lock) (back owing : Bool) → MoveClears (Makes (yield back owing)) l
+yields_clear l true owing = tt
+yields_clear l false owing = tt
+
 clears : (l : Lock) (n : ℕ) (us : List ℕ) (p : UpgradePhase) (s : ActResult) → upgrade_prepared us p → Finds (act_of p) l → MoveClears (move n us p s) l
 clears l n us (UpgradePhase.Plain core) s m found = absurd m
 clears l n us (UpgradePhase.Seeks core) s m found = seeks_clear l core.phase s found
@@ -163,7 +178,7 @@ clears l n us (UpgradePhase.TryUpgrades word left) ActResult.Exchanged m found =
 clears l n us (UpgradePhase.Unlocks way word) ActResult.Exchanged m found = tt
 clears l n us UpgradePhase.ToShared (ActResult.Before word) m found = tt
 clears l n us UpgradePhase.ToUpgradable (ActResult.Before word) m found = tt
-clears l n us (UpgradePhase.Yields back word) s m found = absurd m
+clears l n us (UpgradePhase.Yields back word) ActResult.Exchanged m found = yields_clear l back (rt.is_parked word)
 clears l n us p s m found = tt
 
 -- IN SECTIONS
@@ -228,7 +243,7 @@ section recursive n us (UpgradePhase.TryUpgrades word left) ActResult.Exchanged 
 section recursive n us (UpgradePhase.Unlocks way word) ActResult.Exchanged m = tt
 section recursive n us UpgradePhase.ToShared (ActResult.Before word) m = tt
 section recursive n us UpgradePhase.ToUpgradable (ActResult.Before word) m = tt
-section recursive n us (UpgradePhase.Yields back word) s m = absurd m
+section recursive n us (UpgradePhase.Yields back word) ActResult.Exchanged m = tt
 section recursive n us p s m = tt
 
 -- EACH MOVE
@@ -278,9 +293,9 @@ module _ (recursive : Bool) (l : Lock) (t n : ℕ) (spot : QueuePosition) (us : 
       let same : l.word ≡ word_of (word_after (act_of p) s x) = same_word l h.sound _ z.2 in (
         z.0,
         z.1.from,
-        λ i may. (
+        λ i stay may. (
           (h.here ∙ ap (λ r. Some r) (listed (TakesOne mode) e tt ∙ z.1.from), may),
-          λ j. record l { word = same j; roles = slice_set (slice_set l.roles t (sym z.1.to j)) v (record { owns = Shares 0; does = rules.Taken1 mode t rules.Open rules.Asleep }); first = remove l.first i },
+          λ j. record l { word = same j; roles = slice_set (slice_set l.roles t (sym z.1.to j)) v (record { owns = Shares 0; does = rules.Taken1 mode t rules.Open stay }); first = remove l.first i },
         ),
       )
 
@@ -300,10 +315,10 @@ module _ (recursive : Bool) (l : Lock) (t n : ℕ) (spot : QueuePosition) (us : 
       )
 
   wakes : move n us p s ≡ WakesOne → UpgradeLeads recursive WakesOne t n spot us p s x l
-  wakes e v vs k is from_k =
+  wakes e v vs k stay is from_k out =
       let own = subst (InSection recursive n us p s) e (section recursive n us p s h.prepared) vs l.word in
       let z = subst (λ (m : Move). IsMove recursive m n vs p q l.word (word_after (act_of p) s x)) own.0 (moved_with vs own.1).0 v in
-      ((h.here ∙ ap (λ r. Some r) (listed WakesOne e tt ∙ ap (λ ws. role n Listed ws p) is ∙ z.0), from_k, refl), λ i. record l { word = h.word i; roles = slice_set (slice_set l.roles v (waking_to k)) t (sym z.1 i) })
+      ((h.here ∙ ap (λ r. Some r) (listed WakesOne e tt ∙ ap (λ ws. role n Listed ws p) is ∙ z.0), from_k, out), λ i. record l { word = h.word i; roles = slice_set (slice_set l.roles v (waking_to k)) t (sym z.1 i) })
 
   lead : (m : Move) → move n us p s ≡ m → IsMove recursive m n us p q l.word (word_after (act_of p) s x) → UpgradeLeads recursive m t n spot us p s x l
   lead Stays e m = stays m

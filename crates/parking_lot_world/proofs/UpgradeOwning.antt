@@ -11,7 +11,7 @@ use Rattle.parking_lot_protocol.specs.declared.act.Act.{Act}
 use Rattle.parking_lot_protocol.specs.declared.act.ActResult.{ActResult}
 use Rattle.parking_lot_protocol.specs.declared.act.CoreAnswer.{CoreAnswer}
 use Rattle.parking_lot_protocol.specs.declared.rw_phase.RwPhase.{RwPhase}
-use Rattle.parking_lot_upgrades.specs.UpgradeMoves.{drains_move, frees_move, move, owes_move, seeks_move}
+use Rattle.parking_lot_upgrades.specs.UpgradeMoves.{drains_move, frees_move, move, owes_move, seeks_move, yield}
 use Rattle.parking_lot_upgrades.specs.UpgradeRoles.{owned, owns, role}
 use Rattle.parking_lot_upgrades.specs.UpgradeRules.{IsDraining, IsFreeing, IsOwing, IsReady, IsSeeking, IsShown, IsTold}
 use Rattle.parking_lot_upgrades.specs.UpgradeTable as ut
@@ -121,6 +121,10 @@ module _ (t : ℕ) (old new : Option ℕ) where
   owes_own o us kept end (RwPhase.Finishes rest) s i own h = absurd own
   owes_own o us kept end q s i own h = absurd i
 
+  yields_own : (from owing : Bool) → OwnMove Stays t old new → OwnMove (Makes (yield from owing)) t old new
+  yields_own true owing h = h
+  yields_own false owing h = h
+
   pub upgrade_moves : (n : ℕ) (us : List ℕ) (p : UpgradePhase) (s : ActResult) → IsReady p → IsOfWorld p → IsOwnAct (ut.act_of p) → AfterAct (ut.act_of p) t old new → OwnMove (move n us p s) t old new
   upgrade_moves n us (UpgradePhase.Plain core) s i o own h = absurd o
   upgrade_moves n us (UpgradePhase.Seeks core) s i o own h = seeks_own core.phase s i.0 o own h
@@ -133,7 +137,7 @@ module _ (t : ℕ) (old new : Option ℕ) where
   upgrade_moves n us UpgradePhase.ToShared (ActResult.Before word) i o own h = h
   upgrade_moves n us UpgradePhase.ToUpgradable (ActResult.Before word) i o own h = h
   upgrade_moves n us UpgradePhase.Relocks s i o own h = absurd o
-  upgrade_moves n us (UpgradePhase.Yields from word) s i o own h = absurd o
+  upgrade_moves n us (UpgradePhase.Yields from word) ActResult.Exchanged i o own h = yields_own from (rt.is_parked word) h
   upgrade_moves n us p s i o own h = h
 
 -- WHERE IT BEGINS

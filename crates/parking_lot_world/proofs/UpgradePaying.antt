@@ -283,8 +283,17 @@ module _ (n word first after : ℕ) (shut : Bool) (room : word / 16 < 2 ^ 60 - 1
     where
       turned : (hold : Hold) (y w : ℕ) → after ≡ first → upgrade_steps n (Sees y after shut) (ut.owes hold CoreAnswer.Owned w) + 1 ≤ scan n (Sees word first shut) + 7
       turned hold y w same = subst (λ f. upgrade_steps n (Sees y after shut) (ut.owes hold CoreAnswer.Owned w) + 1 ≤ scan n (Sees word f shut) + 7) same (omega (arith, owes_few hold CoreAnswer.Owned w (Sees y after shut)))
-  falls (UpgradePhase.YieldLoads from) s i k g c l = absurd k
-  falls (UpgradePhase.Yields from tried) s i k g c l = absurd k
+  falls (UpgradePhase.YieldLoads from) (ActResult.Word w) i k g c l =
+      subst (λ y. upgrade_steps n (Sees word after shut) (UpgradePhase.Yields from y) + 1 ≤ scan n (Sees word first shut) + 9) (sym g)
+      (subst (λ f. upgrade_steps n (Sees word after shut) (UpgradePhase.Yields from word) + 1 ≤ scan n (Sees word f shut) + 9) l (omega (arith, at_seen word (scan n (Sees word after shut) + 7) (scan n (Sees word after shut) + 8))))
+  falls (UpgradePhase.Yields from tried) ActResult.Exchanged i k g c l =
+      subst (λ f. upgrade_steps n (Sees (word_after (ut.act_of (UpgradePhase.Yields from tried)) ActResult.Exchanged word) after shut) (ut.owes (ut.held_before from) CoreAnswer.Released tried) + 1 ≤ cond (word == tried) (scan n (Sees word f shut) + 7) (scan n (Sees word f shut) + 8)) l
+      (least (word == tried) _ _ _ (omega (arith, owes_few (ut.held_before from) CoreAnswer.Released tried (Sees (word_after (ut.act_of (UpgradePhase.Yields from tried)) ActResult.Exchanged word) after shut)))
+      (omega (arith, owes_few (ut.held_before from) CoreAnswer.Released tried (Sees (word_after (ut.act_of (UpgradePhase.Yields from tried)) ActResult.Exchanged word) after shut))))
+  falls (UpgradePhase.Yields from tried) (ActResult.Word w) i k g c l =
+      subst (λ y. upgrade_steps n (Sees word after shut) (UpgradePhase.Yields from y) + 1 ≤ cond (word == tried) (scan n (Sees word first shut) + 7) (scan n (Sees word first shut) + 8)) (sym g.0)
+      (subst (λ f. upgrade_steps n (Sees word after shut) (UpgradePhase.Yields from word) + 1 ≤ cond (word == tried) (scan n (Sees word f shut) + 7) (scan n (Sees word f shut) + 8)) l
+      (omega (arith, at_seen word (scan n (Sees word after shut) + 7) (scan n (Sees word after shut) + 8), at_other word tried (scan n (Sees word after shut) + 7) (scan n (Sees word after shut) + 8) g.1)))
   falls p s i k g c l = absurd g
 
 -- WHAT OTHERS SEE
@@ -354,6 +363,8 @@ few n word first shut (UpgradePhase.UnlockLoads r) h = omega (arith, few_found n
 few n word first shut (UpgradePhase.Unlocks r from) h = either (word == from) 2 (scan n (Sees word first shut) + 8) (scan n Unseen + 8) (omega arith) (omega (arith, few_found n first shut h))
 few n word first shut UpgradePhase.ToShared h = omega (arith, few_found n first shut h)
 few n word first shut UpgradePhase.ToUpgradable h = omega (arith, few_found n first shut h)
+few n word first shut (UpgradePhase.YieldLoads from) h = omega (arith, few_found n first shut h)
+few n word first shut (UpgradePhase.Yields from tried) h = either (word == tried) (scan n (Sees word first shut) + 7) (scan n (Sees word first shut) + 8) (scan n Unseen + 8) (omega (arith, few_found n first shut h)) (omega (arith, few_found n first shut h))
 few n word first shut p h = omega arith
 
 stops_not : (b : Bool) (x y : Act) (shut : Bool) → (StopsAt x shut → ⊥) → (StopsAt y shut → ⊥) → StopsAt (cond b x y) shut → ⊥
@@ -418,6 +429,7 @@ ends n (UpgradePhase.Owes kept end core) v answer e = owes_end n kept end core.p
 ends n (UpgradePhase.TryAdmits from left) v answer e = absurd cc
 ends n (UpgradePhase.TryUpgrades from left) v answer e = absurd cc
 ends n (UpgradePhase.Unlocks r from) v answer e = absurd cc
+ends n (UpgradePhase.Yields from word) v answer e = absurd cc
 ends n p v answer e = omega arith
 
 pub upgrade_steps_fall : UpgradeStepsFall

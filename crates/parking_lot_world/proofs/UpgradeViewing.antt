@@ -112,6 +112,4 @@ mode_so n at us (UpgradePhase.Frees r core) i o = frees_so (rw_spot at) us core.
 mode_so n at us (UpgradePhase.Owes kept end core) i o = owes_so (rw_spot at) us kept core.phase i
 mode_so n at us (UpgradePhase.Ends kept end) i o = kept_so kept
 mode_so n at us (UpgradePhase.GivingUp from) i o = absurd o
-mode_so n at us (UpgradePhase.YieldLoads from) i o = absurd o
-mode_so n at us (UpgradePhase.Yields from word) i o = absurd o
 mode_so n at us p i o = refl

@@ -9,9 +9,9 @@ use Rattle.parking_lot_rules.specs.Roles.{Idle, Role}
 use Rattle.parking_lot_rules.specs.Debts as rw_debts
 use Rattle.parking_lot_rules.specs.Mutex as mutex
 use Rattle.parking_lot_rules.specs.MutexDebts as mutex_debts
-use Rattle.parking_lot_world.specs.CallViews.{IsInOrder}
+use Rattle.parking_lot_world.specs.CallViews.{IsInOrder, IsLateAsSlept, IsLateInOrder}
 use Rattle.parking_lot_world.specs.Kinds.{recursive_in}
-use Rattle.parking_lot_world.specs.RowFits.{IsPrepared}
+use Rattle.parking_lot_world.specs.RowFits.{IsPrepared, late_rw_prepared}
 use Rattle.parking_lot_world.specs.declared.calls.LockKind.{LockKind}
 use Rattle.parking_lot_world.specs.declared.seat.Hold.{Hold}
 use Rattle.parking_lot_world.specs.declared.seat.Core.{Core}
@@ -21,8 +21,10 @@ use Rattle.parking_lot_world.specs.RowFits.{FitsTogether, IsOfKind}
 use Rattle.parking_lot_world.specs.CallViews.{call_in_debt, call_looks, call_mode, core_in_debt, core_mode, mutex_mode, rw_mode}
 use Rattle.parking_lot_world.specs.Worlds.{hold_mode, in_debt_at, is_indebted, mode_in}
 use Rattle.parking_lot_world.proofs.Everybody.{get-all, past}
-use Rattle.parking_lot_world.proofs.KindTable.{Simple, Upgradable, Plain, Late, Kind, of_mutexes, of_rws, in_its_place}
+use Rattle.parking_lot_world.proofs.KindTable.{Simple, Upgradable, Plain, Late, Kind, of_mutexes, of_rws, in_its_place, Tardy}
 use Rattle.parking_lot_world.proofs.Meeting.{in_range}
+use Rattle.parking_lot_world.specs.declared.late_rw.LateRwPhase.{LateRwPhase}
+use Rattle.parking_lot_world.proofs.Sleepers.{ready_sleeper}
 
 -- one that is in no call at the lock owns what it holds
 idle_rw : (h : Hold) → rw_mode (record { owns = owned_of h; does = Idle }) ≡ hold_mode (Some LockKind.Rw) h
@@ -115,6 +117,7 @@ module _ (s : State) (t : ℕ) where
         go : (k : Core) → c.core ≡ k → IsOfKind (slice_get s.kinds c.lock) k → mode_in (lock_at s c.lock) t ≡ call_mode (taken_by s.wakes t) c
         go (Core.Rw r) e of = ap (λ x. mode_in (lock_as x s c.lock) t) of ∙ ap (option_and_then rw_mode) (in_its_place of_rws s t c (Simple r) (in_range s t c there) there e) ∙ sym (ap (core_mode c.others c.spot (taken_by s.wakes t)) e)
         go (Core.Upgrade r) e of = ap (λ x. mode_in (lock_as x s c.lock) t) of ∙ ap (option_and_then rw_mode) (in_its_place of_rws s t c (Upgradable r) (in_range s t c there) there e) ∙ sym (ap (core_mode c.others c.spot (taken_by s.wakes t)) e)
+        go (Core.LateRw r) e of = ap (λ x. mode_in (lock_as x s c.lock) t) of ∙ ap (option_and_then rw_mode) (in_its_place of_rws s t c (Tardy r) (in_range s t c there) there e) ∙ sym (ap (core_mode c.others c.spot (taken_by s.wakes t)) e)
         go (Core.Mutex m) e of = ap (λ x. mode_in (lock_as x s c.lock) t) of ∙ ap (option_and_then mutex_mode) (in_its_place of_mutexes s t c (Plain m) (in_range s t c there) there e) ∙ sym (ap (core_mode c.others c.spot (taken_by s.wakes t)) e)
         go (Core.Late m) e of = ap (λ x. mode_in (lock_as x s c.lock) t) of ∙ ap (option_and_then mutex_mode) (in_its_place of_mutexes s t c (Late m) (in_range s t c there) there e) ∙ sym (ap (core_mode c.others c.spot (taken_by s.wakes t)) e)
 
@@ -126,6 +129,8 @@ module _ (s : State) (t : ℕ) where
             ap (λ x. in_debt_at (lock_as x s c.lock) t) of ∙ ap (λ o. option_map_or (λ (x : Role). rw_debts.is_in_debt x.does) o false) (in_its_place of_rws s t c (Simple r) (in_range s t c there) there e) ∙ sym (ap (core_in_debt c.others c.spot (taken_by s.wakes t)) e)
         go (Core.Upgrade r) e of =
             ap (λ x. in_debt_at (lock_as x s c.lock) t) of ∙ ap (λ o. option_map_or (λ (x : Role). rw_debts.is_in_debt x.does) o false) (in_its_place of_rws s t c (Upgradable r) (in_range s t c there) there e) ∙ sym (ap (core_in_debt c.others c.spot (taken_by s.wakes t)) e)
+        go (Core.LateRw r) e of =
+            ap (λ x. in_debt_at (lock_as x s c.lock) t) of ∙ ap (λ o. option_map_or (λ (x : Role). rw_debts.is_in_debt x.does) o false) (in_its_place of_rws s t c (Tardy r) (in_range s t c there) there e) ∙ sym (ap (core_in_debt c.others c.spot (taken_by s.wakes t)) e)
         go (Core.Mutex m) e of =
             ap (λ x. in_debt_at (lock_as x s c.lock) t) of ∙ ap (λ o. option_map_or (λ (x : mutex.Role). mutex_debts.is_in_debt x.does) o false) (in_its_place of_mutexes s t c (Plain m) (in_range s t c there) there e) ∙ sym (ap (core_in_debt c.others c.spot (taken_by s.wakes t)) e)
         go (Core.Late m) e of =
@@ -133,6 +138,22 @@ module _ (s : State) (t : ℕ) where
 
     pub owing : is_indebted s t ≡ (call_looks c.core || call_in_debt (taken_by s.wakes t) c)
     owing = ap (λ o. option_map_or (λ (d : Call). call_looks d.core || in_debt_at (lock_at s d.lock) t) o false) there ∙ ap (λ b. call_looks c.core || b) call_owes
+
+late_order : (recursive : Bool) (n : ℕ) (p : LateRwPhase) → late_rw_prepared recursive n p → IsLateInOrder p
+late_order recursive n (LateRwPhase.Expires k) h = (h.0, ready_sleeper recursive n k h.1)
+late_order recursive n (LateRwPhase.Quits k) h = (h.0, ready_sleeper recursive n k h.1)
+late_order recursive n p h = tt
+
+-- and one whose moment has passed slept
+pub as_slept : (s : State) → FitsTogether s → (t : ℕ) (c : Call) → call_at s t ≡ Some c → IsLateAsSlept c.core
+as_slept s h t c here = of_core c.core (h.rules.prepared t c here)
+  where
+    of_core : (x : Core) → IsPrepared (recursive_in s.kinds c.lock) c.others x → IsLateAsSlept x
+    of_core (Core.LateRw q) p = late_order (recursive_in s.kinds c.lock) c.others q p
+    of_core (Core.Upgrade k) p = tt
+    of_core (Core.Rw k) p = tt
+    of_core (Core.Mutex k) p = tt
+    of_core (Core.Late k) p = tt
 
 -- a call that a machine runs is in order
 pub in_order : (s : State) → FitsTogether s → (t : ℕ) (c : Call) → call_at s t ≡ Some c → IsInOrder c.core
@@ -143,3 +164,4 @@ in_order s h t c here = of_core c.core (h.rules.prepared t c here)
     of_core (Core.Rw k) p = tt
     of_core (Core.Mutex k) p = tt
     of_core (Core.Late k) p = tt
+    of_core (Core.LateRw q) p = late_order (recursive_in s.kinds c.lock) c.others q p

@@ -7,7 +7,7 @@ use Rattle.parking_lot_core_lot.specs.declared.place.Waiter.{Waiter}
 use Rattle.parking_lot_protocol.specs.RwRules as of_rw
 use Rattle.parking_lot_protocol.specs.RwRules.{IsToken, mode_by, mode_of}
 use Rattle.parking_lot_protocol.specs.declared.rw_phase.RwPhase.{RwPhase}
-use Rattle.parking_lot_rules.specs.Roles.{Phase, Queued1, Role, Upgradable}
+use Rattle.parking_lot_rules.specs.Roles.{Phase, Queued1, Role, Upgradable, Back, Late, Stay}
 use Rattle.parking_lot_upgrades.specs.UpgradeRoles as of_upgrade
 use Rattle.parking_lot_upgrades.specs.UpgradeRoles.{for_release, for_upgradable, for_upgrade}
 use Rattle.parking_lot_upgrades.specs.declared.upgrade_phase.UpgradePhase.{UpgradePhase}
@@ -20,11 +20,14 @@ use Rattle.parking_lot_world.specs.Passes.{ArePassed}
 use Rattle.parking_lot_world.specs.RowFits.{Awaits, FitsTogether, IsOfManner}
 use Rattle.parking_lot_world.specs.Rows.{State, rw_lock_at, taken_by}
 use Rattle.parking_lot_world.specs.RwLaws.{WantAsTold}
-use Rattle.parking_lot_world.specs.Stances.{rw_stance, seeks_stance, stance, upgrade_stance}
+use Rattle.parking_lot_world.specs.Stances.{rw_stance, seeks_stance, stance, upgrade_stance, Asleep, In, Out, Stance, back_as, late_rw_stance, lying, sleeper_stance}
 use Rattle.parking_lot_world.specs.declared.open_call.Call.{Call}
-use Rattle.parking_lot_world.proofs.KindTable.{RwCall, Simple, in_its_place, of_rws, rw_call}
+use Rattle.parking_lot_world.proofs.KindTable.{RwCall, Simple, in_its_place, of_rws, rw_call, Tardy}
 use Rattle.parking_lot_world.proofs.Meeting.{in_range}
 use Rattle.parking_lot_world.proofs.RwTaking.{tokens_tell}
+use Rattle.parking_lot_world.specs.declared.late_rw.LateRwPhase.{LateRwPhase}
+use Rattle.parking_lot_world.specs.declared.late_rw.RwSleeper.{RwSleeper}
+use Rattle.parking_lot_world.specs.LateRoles.{late_rw_role, sleeper_role, staying}
 
 -- the same of another filter that answers the same
 pub passed_as : (f g : ℕ → FilterOp) (q : List Waiter) (n : ℕ) → ((token : ℕ) → f token ≡ g token) → ArePassed f q n → ArePassed g q n
@@ -61,9 +64,34 @@ upgrade_want n us (UpgradePhase.Frees r core) token e = let z = rw_wants n us co
 upgrade_want n us (UpgradePhase.Owes kept end core) token e = rw_wants n us core.phase token e
 upgrade_want n us p token e = absurd e
 
+-- one whose moment has passed wants what it wanted as it slept
+staying_wants : (stay : Stay) (d : Phase) → wants (staying stay d) ≡ wants d
+staying_wants stay (Queued1 mode old) = refl
+staying_wants stay d = refl
+
+lying_waits : (a : Stance) (token : ParkToken) → Awaits 0 token (lying a) → Awaits 0 token a
+lying_waits (Asleep key park) token e = e
+lying_waits Out token e = absurd e
+lying_waits (In key how) token e = absurd e
+
+back_waits : (a : Stance) (token : ParkToken) → Awaits 0 token (back_as a) → Awaits 0 token a
+back_waits (Asleep key park) token e = e
+back_waits Out token e = absurd e
+back_waits (In key how) token e = absurd e
+
+sleeper_want : (n : ℕ) (us : List ℕ) (stay : Stay) (k : RwSleeper) (token : ParkToken) → Awaits 0 token (sleeper_stance k) → IsToken (Some token) × (wants (staying stay (sleeper_role n of_rw.Listed us k).does) ≡ mode_by token)
+sleeper_want n us stay (RwSleeper.Simple c) token e = let z = rw_wants n us c.phase token e in (z.0, staying_wants stay (of_rw.role n of_rw.Listed us c.phase).does ∙ z.1)
+sleeper_want n us stay (RwSleeper.Upgradable c) token e = let z = upgrade_want n us c.phase token e in (z.0, staying_wants stay (of_upgrade.role n of_rw.Listed us c.phase).does ∙ z.1)
+
+tardy_want : (n : ℕ) (us : List ℕ) (p : LateRwPhase) (token : ParkToken) → Awaits 0 token (late_rw_stance p) → IsToken (Some token) × (wants (late_rw_role n of_rw.Listed us p).does ≡ mode_by token)
+tardy_want n us (LateRwPhase.Expires k) token e = sleeper_want n us Late k token (lying_waits (sleeper_stance k) token e)
+tardy_want n us (LateRwPhase.Quits k) token e = sleeper_want n us Back k token (back_waits (sleeper_stance k) token e)
+tardy_want n us p token e = absurd e
+
 call_want : (n : ℕ) (us : List ℕ) (k : RwCall) (token : ParkToken) → Awaits 0 token (stance (rw_call k)) → IsToken (Some token) × (wants (call_role n QueuePosition.Listed us k).does ≡ mode_by token)
 call_want n us (Simple k) token e = rw_wants n us k.phase token e
 call_want n us (KindTable.Upgradable k) token e = upgrade_want n us k.phase token e
+call_want n us (Tardy p) token e = tardy_want n us p token e
 
 module _ (s : State) (h : FitsTogether s) (j : ℕ) (is : manner_of (slice_get s.kinds j) ≡ Some AsRw) where
   pub want_as_told : WantAsTold (rw_lock_at s j) (s.lot.queues (2 * j))

@@ -37,6 +37,7 @@ abbrev pub OwnsFor : Bool → Hold → ℕ → Core → Type 0
 OwnsFor recursive x n (core.Rw k) = (rw_begun k.phase ≡ false) × rw_begins recursive n k.phase × (owned_of x ≡ of_rw.owns n k.phase)
 OwnsFor recursive x n (core.Mutex k) = (mutex_begun k.phase ≡ false) × (n ≡ 0) × (owns_mutex x ≡ of_mutex.owns k.phase)
 OwnsFor recursive x n (core.Late p) = ⊥
+OwnsFor recursive x n (core.LateRw p) = ⊥
 OwnsFor recursive x n (core.Upgrade k) = (upgrade_begun k.phase ≡ false) × upgrade_begins k.phase × (n ≡ 0) × (owned_of x ≡ of_upgrade.owns n k.phase)
 
 pub record MayBegin (s : State) (t : ℕ) (c : Call) : Type 0 where

@@ -48,6 +48,10 @@ core_of k call.Upgrade = core.Upgrade (record { phase = u.Upgrading })
 core_of k call.TryUpgrade = core.Upgrade (record { phase = u.TryingToUpgrade })
 core_of k call.DowngradeToUpgradable = core.Upgrade (record { phase = u.DowngradingToUpgradable })
 core_of k call.DowngradeUpgradable = core.Upgrade (record { phase = u.DowngradingToShared })
+core_of k call.ReadUntil = core.Rw (record { phase = r.Locking (want.Shared (is_recursive k)) })
+core_of k call.WriteUntil = core.Rw (record { phase = r.Locking want.Exclusive })
+core_of k call.UpgradableUntil = core.Upgrade (record { phase = u.Locking })
+core_of k call.UpgradeUntil = core.Upgrade (record { phase = u.Upgrading })
 
 abbrev pub owns_nothing : Hold → Bool
 owns_nothing (hold.Shares zero) = true
@@ -98,6 +102,10 @@ is_allowed k h call.Upgrade = upgrades h
 is_allowed k h call.TryUpgrade = upgrades h
 is_allowed k h call.DowngradeToUpgradable = excludes h
 is_allowed k h call.DowngradeUpgradable = upgrades h
+is_allowed k h call.ReadUntil = may_share k h
+is_allowed k h call.WriteUntil = owns_nothing h
+is_allowed k h call.UpgradableUntil = owns_nothing h
+is_allowed k h call.UpgradeUntil = upgrades h
 
 -- how many shared holds it has beside the one that it gives up or asks for
 abbrev pub holds : Hold → ℕ
@@ -108,12 +116,14 @@ holds hold.Upgrades = 0
 abbrev pub holds_beside : LockCall → Hold → ℕ
 holds_beside call.Read h = holds h
 holds_beside call.TryRead h = holds h
+holds_beside call.ReadUntil h = holds h
 holds_beside other h = holds h - 1
 
 -- Its role as the call begins is the one that it had.
 abbrev pub BeginsAs : ℕ → Hold → Core → Type 0
 BeginsAs n h (core.Mutex c) = (at : QueuePosition) (us : List ℕ) → mutex_core_role at us (core.Mutex c) ≡ record { owns = owns_mutex h; does = mutex.Idle }
 BeginsAs n h (core.Late p) = ⊥
+BeginsAs n h (core.LateRw p) = ⊥
 BeginsAs n h (core.Upgrade c) = (at : QueuePosition) (us : List ℕ) → rw_core_role n at us (core.Upgrade c) ≡ record { owns = owned_of h; does = Idle }
 BeginsAs n h (core.Rw c) = (at : QueuePosition) (us : List ℕ) → rw_core_role n at us (core.Rw c) ≡ record { owns = owned_of h; does = Idle }
 

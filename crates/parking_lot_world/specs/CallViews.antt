@@ -11,6 +11,7 @@ use Rattle.parking_lot_rules.specs.MutexLaws as of_mutex
 use Rattle.parking_lot_rules.specs.MutexDebts as mutex_debts
 use Rattle.parking_lot_protocol.specs.declared.mutex_phase.MutexPhase.{MutexPhase}
 use Rattle.parking_lot_protocol.specs.declared.mutex_phase.MutexPhase.TheVariants as m
+use Rattle.parking_lot_protocol.specs.declared.rw_phase.LockMode.TheVariants as want
 use Rattle.parking_lot_protocol.specs.declared.rw_phase.RwPhase.{RwPhase}
 use Rattle.parking_lot_protocol.specs.declared.rw_phase.RwPhase.TheVariants as r
 use Rattle.parking_lot_upgrades.specs.declared.upgrade_phase.UpgradePhase.{UpgradePhase}
@@ -24,10 +25,15 @@ use Rattle.parking_lot_upgrades.specs.declared.upgrade_phase.Hold.TheVariants as
 use Rattle.parking_lot_world.specs.declared.seat.QueuePosition.{QueuePosition}
 use Rattle.parking_lot_world.specs.declared.seat.QueuePosition.TheVariants as spot
 use Rattle.parking_lot_world.specs.declared.seat.WakeResult.TheVariants as told
+use Rattle.parking_lot_world.specs.declared.late_rw.LateRwPhase.{LateRwPhase}
+use Rattle.parking_lot_world.specs.declared.late_rw.LateRwPhase.TheVariants as late_rw
+use Rattle.parking_lot_world.specs.declared.late_rw.RwSleeper.{RwSleeper}
+use Rattle.parking_lot_world.specs.declared.late_rw.RwSleeper.TheVariants as sleeper
 use Rattle.parking_lot_world.specs.declared.seat.Core.{Core}
 use Rattle.parking_lot_world.specs.declared.seat.Core.TheVariants as core
 use Rattle.parking_lot_world.specs.declared.open_call.Call.{Call}
 use Rattle.parking_lot_world.specs.Rows.{rw_core_role, mutex_core_role}
+use Rattle.parking_lot_world.specs.Stances.{sleeper_asleep}
 
 -- HOW A ROLE OWNS ITS LOCK
 
@@ -72,18 +78,21 @@ abbrev pub core_mode : ℕ → QueuePosition → List ℕ → Core → Option Ow
 core_mode n at us (core.Mutex c) = mutex_mode (mutex_core_role at us (core.Mutex c))
 core_mode n at us (core.Rw c) = rw_mode (rw_core_role n at us (core.Rw c))
 core_mode n at us (core.Late p) = mutex_mode (mutex_core_role at us (core.Late p))
+core_mode n at us (core.LateRw p) = rw_mode (rw_core_role n at us (core.LateRw p))
 core_mode n at us (core.Upgrade c) = rw_mode (rw_core_role n at us (core.Upgrade c))
 
 abbrev pub core_in_debt : ℕ → QueuePosition → List ℕ → Core → Bool
 core_in_debt n at us (core.Mutex c) = mutex_debts.is_in_debt (mutex_core_role at us (core.Mutex c)).does
 core_in_debt n at us (core.Rw c) = rw_debts.is_in_debt (rw_core_role n at us (core.Rw c)).does
 core_in_debt n at us (core.Late p) = mutex_debts.is_in_debt (mutex_core_role at us (core.Late p)).does
+core_in_debt n at us (core.LateRw p) = rw_debts.is_in_debt (rw_core_role n at us (core.LateRw p)).does
 core_in_debt n at us (core.Upgrade c) = rw_debts.is_in_debt (rw_core_role n at us (core.Upgrade c)).does
 
 abbrev pub core_asleep : ℕ → QueuePosition → List ℕ → Core → Bool
 core_asleep n at us (core.Mutex c) = of_mutex.is_asleep (mutex_core_role at us (core.Mutex c)).does
 core_asleep n at us (core.Rw c) = of_rw.is_asleep (rw_core_role n at us (core.Rw c)).does
 core_asleep n at us (core.Late p) = of_mutex.is_asleep (mutex_core_role at us (core.Late p)).does
+core_asleep n at us (core.LateRw p) = of_rw.is_asleep (rw_core_role n at us (core.LateRw p)).does
 core_asleep n at us (core.Upgrade c) = of_rw.is_asleep (rw_core_role n at us (core.Upgrade c)).does
 
 abbrev pub call_mode : List ℕ → Call → Option OwnMode
@@ -147,28 +156,46 @@ upgrade_mode at (u.UnlockLoads release) = Some mode.Upgradable
 upgrade_mode at (u.Unlocks release word) = Some mode.Upgradable
 upgrade_mode at u.DowngradingToUpgradable = Some mode.Exclusive
 upgrade_mode at u.ToUpgradable = Some mode.Exclusive
+upgrade_mode at (u.YieldLoads from) = Some mode.Pending
+upgrade_mode at (u.Yields from word) = Some mode.Pending
 upgrade_mode at phase = None
-
--- and whether it sleeps
-abbrev pub rw_asleep : RwPhase → Bool
-rw_asleep (r.Sleeps want) = true
-rw_asleep (r.DrainSleeps rounds) = true
-rw_asleep phase = false
-
-abbrev pub upgrade_asleep : UpgradePhase → Bool
-upgrade_asleep (u.Plain core) = rw_asleep core.phase
-upgrade_asleep (u.Seeks core) = rw_asleep core.phase
-upgrade_asleep (u.Drains core) = rw_asleep core.phase
-upgrade_asleep (u.Frees release core) = rw_asleep core.phase
-upgrade_asleep (u.Owes kept answer core) = rw_asleep core.phase
-upgrade_asleep phase = false
 
 abbrev pub upgrade_looks : UpgradePhase → Bool
 upgrade_looks (u.Frees release core) = rw_looks core.phase
 upgrade_looks phase = false
 
--- What is said of an upgradable call is said of one that is ready, as each is that a machine runs.
+-- What is said of an upgradable call is said of one that is ready, as each is that a machine runs; and of one whose moment has passed, that it slept.
+abbrev pub IsReadySleeper : RwSleeper → Type 0
+IsReadySleeper (sleeper.Simple c) = Unit {0}
+IsReadySleeper (sleeper.Upgradable c) = of_upgrade.IsReady c.phase × IsOfWorld c.phase
+
+abbrev pub HasSlept : RwSleeper → Type 0
+HasSlept k = (sleeper_asleep k ≡ true) × IsReadySleeper k
+
+abbrev pub IsLateInOrder : LateRwPhase → Type 0
+IsLateInOrder (late_rw.Expires k) = HasSlept k
+IsLateInOrder (late_rw.Quits k) = HasSlept k
+IsLateInOrder p = Unit {0}
+
+-- whether one that was taken, and handed the lock, is to look whether readers are left
+abbrev pub simple_looks : RwPhase → Bool
+simple_looks (r.Sleeps (want.Shared recursive)) = false
+simple_looks phase = true
+
+abbrev pub draining_looks : UpgradePhase → Bool
+draining_looks (u.Drains core) = true
+draining_looks phase = false
+
+abbrev pub still_looks : RwSleeper → Bool
+still_looks (sleeper.Simple c) = simple_looks c.phase
+still_looks (sleeper.Upgradable c) = draining_looks c.phase
+
+abbrev pub IsLateAsSlept : Core → Type 0
+IsLateAsSlept (core.LateRw p) = IsLateInOrder p
+IsLateAsSlept k = Unit {0}
+
 abbrev pub IsInOrder : Core → Type 0
+IsInOrder (core.LateRw p) = IsLateInOrder p
 IsInOrder (core.Upgrade c) = of_upgrade.IsReady c.phase × IsOfWorld c.phase
 IsInOrder k = Unit {0}
 
@@ -176,4 +203,5 @@ abbrev pub call_looks : Core → Bool
 call_looks (core.Mutex c) = mutex_looks c.phase
 call_looks (core.Rw c) = rw_looks c.phase
 call_looks (core.Late p) = false
+call_looks (core.LateRw p) = false
 call_looks (core.Upgrade c) = upgrade_looks c.phase

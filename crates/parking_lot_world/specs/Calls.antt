@@ -26,6 +26,10 @@ manner_for call.Upgrade = AsRw
 manner_for call.TryUpgrade = AsRw
 manner_for call.DowngradeToUpgradable = AsRw
 manner_for call.DowngradeUpgradable = AsRw
+manner_for call.ReadUntil = AsRw
+manner_for call.WriteUntil = AsRw
+manner_for call.UpgradableUntil = AsRw
+manner_for call.UpgradeUntil = AsRw
 
 -- whether a lock of a kind can be asked so
 abbrev pub takes : Option LockKind → LockCall → Bool
@@ -51,8 +55,16 @@ given_up call.Upgrade = Some mode.Upgradable
 given_up call.TryUpgrade = Some mode.Upgradable
 given_up call.DowngradeToUpgradable = Some mode.Exclusive
 given_up call.DowngradeUpgradable = Some mode.Upgradable
+given_up call.ReadUntil = None
+given_up call.WriteUntil = None
+given_up call.UpgradableUntil = None
+given_up call.UpgradeUntil = Some mode.Upgradable
 
 -- whether its moment may pass as it sleeps
 abbrev pub is_timed : LockCall → Bool
 is_timed call.LockUntil = true
+is_timed call.ReadUntil = true
+is_timed call.WriteUntil = true
+is_timed call.UpgradableUntil = true
+is_timed call.UpgradeUntil = true
 is_timed c = false

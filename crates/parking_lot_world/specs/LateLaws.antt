@@ -1,32 +1,39 @@
 -- What the acts keep of a call whose moment has passed as it slept, and which steps of the rules they are.
-use Rattle.std.specs.Prelude.{◌≡◌, ◌+◌, ◌≤◌, ℕ, None, Some}
+use Rattle.std.specs.Prelude.{◌≡◌, ◌+◌, ◌≤◌, ℕ, true, length, None, Some}
 use Rattle.parking_lot_core_lot.specs.Sound as lot
-use Rattle.parking_lot_protocol.specs.declared.mutex_phase.MutexPhase.TheVariants as m
-use Rattle.parking_lot_rules.specs.Any.{MxStep}
+use Rattle.parking_lot_rules.specs.Any.{AnyStep, MxStep}
 use Rattle.parking_lot_rules.specs.Mutex as mutex
-use Rattle.parking_lot_world.specs.declared.seat.LatePhase.TheVariants as late
+use Rattle.parking_lot_world.specs.declared.late_rw.RwSleeper.TheVariants as sleeper
+use Rattle.parking_lot_world.specs.declared.seat.Core.{Core}
 use Rattle.parking_lot_world.specs.declared.seat.Core.TheVariants as core
 use Rattle.parking_lot_world.specs.declared.seat.QueuePosition.TheVariants as spot
 use Rattle.parking_lot_world.specs.declared.open_call.Call.{Call}
 use Rattle.parking_lot_world.specs.ActLaws.{Keeps}
-use Rattle.parking_lot_world.specs.LateActs.{expired, quitted, returned}
-use Rattle.parking_lot_world.specs.Ranks.{Pays, steps_left}
+use Rattle.parking_lot_world.specs.LateActs.{comes_late, expired, is_back, quitted, returned, sleeps_in_time}
+use Rattle.parking_lot_world.specs.LateRoles.{expiring}
+use Rattle.parking_lot_world.specs.Ranks.{Pays, late_cost, steps_left}
 use Rattle.parking_lot_world.specs.RowFits.{FitsTogether}
 use Rattle.parking_lot_world.specs.RowSteps.{IsMade}
 use Rattle.parking_lot_world.specs.Rows.{State, call_at}
 
+-- by which step of the rules a moment passes
+abbrev pub expire_step : Core → AnyStep
+expire_step (core.Rw k) = expiring (sleeper.Simple k)
+expire_step (core.Upgrade k) = expiring (sleeper.Upgradable k)
+expire_step k = MxStep (mutex.Alone mutex.Expire)
+
 -- the moment of a thread t in the call c passes: the machine stays fit, and it is that step of the rules
 pub record Expires (t : ℕ) (c : Call) (s u : State) : Type 0 where
   pub fits : FitsTogether u
-  pub goes : IsMade c.lock t (MxStep (mutex.Alone mutex.Expire)) s u
+  pub goes : IsMade c.lock t (expire_step c.core) s u
   -- and adds so many steps at most, whoever is stepped
-  pub costs : (v : ℕ) → steps_left u v ≤ steps_left s v + 5
+  pub costs : (v : ℕ) → steps_left u v ≤ steps_left s v + late_cost (length s.calls) c.core
 
 pub record LateActsAreSteps : Type 0 where
-  pub expires : (s : State) (t : ℕ) (c : Call) → c.core ≡ core.Mutex (record { phase = m.Sleeps }) → c.spot ≡ spot.Listed → FitsTogether s → call_at s t ≡ Some c → Expires t c s (expired s t c)
+  pub expires : (s : State) (t : ℕ) (c : Call) → sleeps_in_time c.core ≡ true → c.spot ≡ spot.Listed → FitsTogether s → call_at s t ≡ Some c → Expires t c s (expired s t c)
   -- one comes back that still stands in its list, where nobody is in a section
-  pub returns : (s : State) (t : ℕ) (c : Call) → c.core ≡ core.Late late.Expires → c.spot ≡ spot.Listed → s.lot.section ≡ None → lot.Sound (returned s t c).lot → Keeps t c s (returned s t c)
-  pub quits : (s : State) (t : ℕ) (c : Call) → c.core ≡ core.Late late.Quits → lot.Sound (quitted s t c).lot → Keeps t c s (quitted s t c)
+  pub returns : (s : State) (t : ℕ) (c : Call) → comes_late c.core ≡ true → c.spot ≡ spot.Listed → s.lot.section ≡ None → lot.Sound (returned s t c).lot → Keeps t c s (returned s t c)
+  pub quits : (s : State) (t : ℕ) (c : Call) → is_back c.core ≡ true → lot.Sound (quitted s t c).lot → Keeps t c s (quitted s t c)
   -- and both are paid for
-  pub returns_pay : (s : State) (t : ℕ) (c : Call) → c.core ≡ core.Late late.Expires → call_at s t ≡ Some c → Pays t s (returned s t c)
-  pub quits_pay : (s : State) (t : ℕ) (c : Call) → c.core ≡ core.Late late.Quits → call_at s t ≡ Some c → Pays t s (quitted s t c)
+  pub returns_pay : (s : State) (t : ℕ) (c : Call) → comes_late c.core ≡ true → call_at s t ≡ Some c → Pays t s (returned s t c)
+  pub quits_pay : (s : State) (t : ℕ) (c : Call) → is_back c.core ≡ true → call_at s t ≡ Some c → Pays t s (quitted s t c)

@@ -1,6 +1,7 @@
 pub mod Kinds
 pub mod Rows
 pub mod Stances
+pub mod LateRoles
 pub mod Rounds
 pub mod Ranks
 pub mod RankLaws

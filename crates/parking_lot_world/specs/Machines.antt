@@ -3,8 +3,6 @@ use Rattle.std.specs.Prelude.{◌≡◌, ℕ, ◌*◌, ◌&&◌, ◌||◌, ◌�
 use Rattle.std.specs.Option.{option_and_then, option_map, option_map_or, option_or}
 use Rattle.parking_lot_core_lot.specs.Runs.{fresh}
 use Rattle.parking_lot_core_lot.specs.declared.place.Place.TheVariants.{Running}
-use Rattle.parking_lot_protocol.specs.declared.mutex_phase.MutexPhase.{MutexPhase}
-use Rattle.parking_lot_protocol.specs.declared.mutex_phase.MutexPhase.TheVariants as m
 use Rattle.parking_lot_protocol.specs.declared.act.Act.{Act}
 use Rattle.parking_lot_protocol.specs.declared.act.Act.TheVariants as act
 use Rattle.parking_lot_protocol.specs.declared.act.SectionAct.{SectionAct}
@@ -18,7 +16,9 @@ use Rattle.parking_lot_world.specs.declared.open_call.Call.{Call}
 use Rattle.parking_lot_world.specs.declared.seat.Hold.TheVariants as hold
 use Rattle.parking_lot_world.specs.declared.seat.QueuePosition.{QueuePosition}
 use Rattle.parking_lot_world.specs.declared.seat.QueuePosition.TheVariants as spot
-use Rattle.parking_lot_world.specs.declared.seat.LatePhase.{LatePhase}
+use Rattle.parking_lot_rules.specs.Classes.{bit}
+use Rattle.parking_lot_world.specs.declared.late_rw.LateRwPhase.{LateRwPhase}
+use Rattle.parking_lot_world.specs.declared.late_rw.LateRwPhase.TheVariants as late_rw
 use Rattle.parking_lot_world.specs.declared.seat.LatePhase.TheVariants as late
 use Rattle.parking_lot_world.specs.declared.seat.Core.{Core}
 use Rattle.parking_lot_world.specs.declared.seat.Core.TheVariants as core
@@ -36,7 +36,7 @@ use Rattle.parking_lot_world.specs.RowActs.{key_of, loaded, exchanged, added, ma
 use Rattle.parking_lot_world.specs.Passes.{ArePassed, IsNext, asks}
 use Rattle.parking_lot_world.specs.TellLaws.{IsDue}
 use Rattle.parking_lot_world.specs.ActLaws.{Acts, Ends}
-use Rattle.parking_lot_world.specs.LateActs.{expired, quitted, returned}
+use Rattle.parking_lot_world.specs.LateActs.{comes_late, expired, is_back, is_pending, quitted, returned, sleeps_in_time}
 use Rattle.parking_lot_world.specs.LateLaws.{Expires}
 use Rattle.parking_lot_world.specs.Ranks.{Costs, Pays}
 
@@ -49,21 +49,14 @@ is_possible taken other = true
 abbrev pub is_taken : State → Call → ℕ → Bool
 is_taken s c k = is_some (open_at s (key_of c k))
 
+abbrev pub is_listed : QueuePosition → Bool
+is_listed spot.Listed = true
+is_listed (spot.Off by said) = false
+
 -- One whose moment has passed comes back from its list, where no section is taken, and takes itself out there. Where another has taken it in the
 -- meantime it waits for that one.
-abbrev pub late_goes : Bool → QueuePosition → LatePhase → Bool
-late_goes taken spot.Listed late.Expires = not taken
-late_goes taken at late.Quits = true
-late_goes taken at p = false
-
 abbrev pub goes_late : State → Call → Core → Bool
-goes_late s c (core.Late p) = late_goes (is_taken s c 0) c.spot p
-goes_late s c k = false
-
--- it is back in its section
-abbrev pub is_back : Core → Bool
-is_back (core.Late late.Quits) = true
-is_back k = false
+goes_late s c k = is_back k || (comes_late k && (is_listed c.spot && not (is_taken s c (bit (is_pending k)))))
 
 abbrev pub can_move_in : State → Option Call → Bool
 can_move_in s None = false
@@ -135,9 +128,15 @@ BecameInside section.Leave t fair c s u = u ≡ left s t c
 BecameInside section.Wake t fair c s u = IsWoken t c s u
 
 -- One whose moment has passed goes on as it sleeps, or takes itself out of its list.
+abbrev pub BecameLateRw : LateRwPhase → ℕ → Call → State → State → Type 0
+BecameLateRw (late_rw.Expires k) t c s u = u ≡ returned s t c
+BecameLateRw (late_rw.Quits k) t c s u = u ≡ quitted s t c
+BecameLateRw p t c s u = ⊥
+
 abbrev pub BecameLate : Core → ℕ → Call → State → State → Type 0
 BecameLate (core.Late late.Expires) t c s u = u ≡ returned s t c
 BecameLate (core.Late late.Quits) t c s u = u ≡ quitted s t c
+BecameLate (core.LateRw p) t c s u = BecameLateRw p t c s u
 BecameLate k t c s u = ⊥
 
 -- The machine after an act, whole: which words, lists and calls have changed, and that all else has stayed.
@@ -158,19 +157,6 @@ pub record IsBegun (t lock : ℕ) (call : LockCall) (s u : State) : Type 0 where
   pub acts : Acts t (call_for s t lock call) seen.Start s u
   pub costs : Costs t call s u
 
--- it sleeps, and its moment hasn't passed
-abbrev pub is_sleeping : MutexPhase → Bool
-is_sleeping m.Sleeps = true
-is_sleeping p = false
-
-abbrev pub sleeps_in_time : Core → Bool
-sleeps_in_time (core.Mutex k) = is_sleeping k.phase
-sleeps_in_time k = false
-
-abbrev pub is_listed : QueuePosition → Bool
-is_listed spot.Listed = true
-is_listed (spot.Off by said) = false
-
 -- whether a thread's moment may pass: it is in a call that has one, and sleeps in its list
 abbrev pub may_expire_in : Option Call → Bool
 may_expire_in None = false
@@ -179,7 +165,7 @@ may_expire_in (Some c) = c.timed && (is_listed c.spot && sleeps_in_time c.core)
 abbrev pub may_expire : State → ℕ → Bool
 may_expire s t = may_expire_in (call_at s t)
 
--- Its moment has passed, and nothing else has changed: that is the step of the rules, and adds five steps at most, whoever is stepped.
+-- Its moment has passed, and nothing else has changed: that is the step of the rules, and adds a stated number of steps at most, whoever is stepped.
 pub record IsExpired (t : ℕ) (s u : State) : Type 0 where
   pub call : Call
   pub here : call_at s t ≡ Some call

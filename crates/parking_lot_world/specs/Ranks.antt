@@ -17,10 +17,15 @@ use Rattle.parking_lot_world.specs.declared.calls.LockCall.{LockCall}
 use Rattle.parking_lot_world.specs.declared.calls.LockCall.TheVariants as call
 use Rattle.parking_lot_world.specs.declared.seat.LatePhase.{LatePhase}
 use Rattle.parking_lot_world.specs.declared.seat.LatePhase.TheVariants as late
+use Rattle.parking_lot_world.specs.declared.late_rw.LateRwPhase.{LateRwPhase}
+use Rattle.parking_lot_world.specs.declared.late_rw.LateRwPhase.TheVariants as late_rw
+use Rattle.parking_lot_world.specs.declared.late_rw.RwSleeper.{RwSleeper}
+use Rattle.parking_lot_world.specs.declared.late_rw.RwSleeper.TheVariants as sleeper
 use Rattle.parking_lot_world.specs.declared.seat.Core.{Core}
 use Rattle.parking_lot_world.specs.declared.seat.Core.TheVariants as core
 use Rattle.parking_lot_world.specs.declared.open_call.Call.{Call}
 use Rattle.parking_lot_world.specs.Rows.{State, word_at, call_at, first_key, inside}
+use Rattle.parking_lot_world.specs.Stances.{pending_from}
 use Rattle.parking_lot_rules.specs.Classes.{bit}
 
 -- What counts of the machine for a thread's steps: nothing, where another thread is stepped, and all that it has seen may be out of date; else
@@ -190,6 +195,8 @@ upgrade_steps n v (u.UnlockLoads release) = scan n v + 8
 upgrade_steps n v (u.Unlocks release word) = if is_at v word then 2 else scan n v + 8
 upgrade_steps n v u.ToShared = scan n v + 7
 upgrade_steps n v u.ToUpgradable = scan n v + 7
+upgrade_steps n v (u.YieldLoads from) = scan n v + 9
+upgrade_steps n v (u.Yields from word) = if is_at v word then scan n v + 7 else scan n v + 8
 upgrade_steps n v phase = 1
 
 -- ONE WHOSE MOMENT HAS PASSED
@@ -202,12 +209,37 @@ late_steps late.Masks = 3
 late_steps late.Leaves = 2
 late_steps late.GivesUp = 1
 
+-- At a reader-writer lock so too, but that a pending writer looks at the word after it has left, takes its bit back by an exchange that may be lost
+-- once, and goes through the list of those that it kept out. Where it is woken after all, it goes on as it slept.
+abbrev pub sleeper_steps : ℕ → View → RwSleeper → ℕ
+sleeper_steps n v (sleeper.Simple c) = rw_steps n v c.phase
+sleeper_steps n v (sleeper.Upgradable c) = upgrade_steps n v c.phase
+
+abbrev pub quits_steps : ℕ → Option Bool → ℕ
+quits_steps n None = 4
+quits_steps n (Some from) = (wake + 1) * n + 11
+
+abbrev pub late_rw_steps : ℕ → View → LateRwPhase → ℕ
+late_rw_steps n v (late_rw.Expires k) = sleeper_steps n v k + quits_steps n (pending_from k) + 1
+late_rw_steps n v (late_rw.Quits k) = quits_steps n (pending_from k)
+late_rw_steps n v late_rw.Masks = 3
+late_rw_steps n v late_rw.Leaves = 2
+late_rw_steps n v late_rw.GivesUp = 1
+late_rw_steps n v (late_rw.LeavesPending from) = (wake + 1) * n + 10
+
+-- what a deadline adds, by who sleeps
+abbrev pub late_cost : ℕ → Core → ℕ
+late_cost n (core.Rw c) = quits_steps n (pending_from (sleeper.Simple c)) + 1
+late_cost n (core.Upgrade c) = quits_steps n (pending_from (sleeper.Upgradable c)) + 1
+late_cost n k = 5
+
 -- ALL THREADS
 
 abbrev pub core_steps : ℕ → View → Core → ℕ
 core_steps n v (core.Mutex c) = mutex_steps v c.phase
 core_steps n v (core.Rw c) = rw_steps n v c.phase
 core_steps n v (core.Late p) = late_steps p
+core_steps n v (core.LateRw p) = late_rw_steps n v p
 core_steps n v (core.Upgrade c) = upgrade_steps n v c.phase
 
 -- the steps of a call whose thread isn't the one that is stepped
@@ -255,6 +287,10 @@ cost n call.Upgrade = 32
 cost n call.TryUpgrade = 3
 cost n call.DowngradeToUpgradable = 110 * n + 7
 cost n call.DowngradeUpgradable = 110 * n + 7
+cost n call.ReadUntil = 53
+cost n call.WriteUntil = 108
+cost n call.UpgradableUntil = 108
+cost n call.UpgradeUntil = 32
 
 abbrev pub Costs : ℕ → LockCall → State → State → Type 0
 Costs t call s u = steps_left u t ≤ steps_left s t + cost (length s.calls) call

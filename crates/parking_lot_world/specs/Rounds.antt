@@ -6,6 +6,10 @@ use Rattle.parking_lot_protocol.specs.declared.rw_phase.RwPhase.{RwPhase}
 use Rattle.parking_lot_protocol.specs.declared.rw_phase.RwPhase.TheVariants as r
 use Rattle.parking_lot_upgrades.specs.declared.upgrade_phase.UpgradePhase.{UpgradePhase}
 use Rattle.parking_lot_upgrades.specs.declared.upgrade_phase.UpgradePhase.TheVariants as u
+use Rattle.parking_lot_world.specs.declared.late_rw.LateRwPhase.{LateRwPhase}
+use Rattle.parking_lot_world.specs.declared.late_rw.LateRwPhase.TheVariants as late_rw
+use Rattle.parking_lot_world.specs.declared.late_rw.RwSleeper.{RwSleeper}
+use Rattle.parking_lot_world.specs.declared.late_rw.RwSleeper.TheVariants as sleeper
 use Rattle.parking_lot_world.specs.declared.seat.Core.{Core}
 use Rattle.parking_lot_world.specs.declared.seat.Core.TheVariants as core
 use Rattle.parking_lot_world.specs.Stances.{has_begun}
@@ -41,10 +45,20 @@ upgrade_rounds (u.Frees release core) = rw_rounds core.phase
 upgrade_rounds (u.Owes hold answer core) = rw_rounds core.phase
 upgrade_rounds phase = 0
 
+abbrev pub sleeper_rounds : RwSleeper → ℕ
+sleeper_rounds (sleeper.Simple c) = rw_rounds c.phase
+sleeper_rounds (sleeper.Upgradable c) = upgrade_rounds c.phase
+
+-- one whose moment has passed keeps those that it has left where it is woken after all
+abbrev pub late_rw_rounds : LateRwPhase → ℕ
+late_rw_rounds (late_rw.Expires k) = sleeper_rounds k
+late_rw_rounds p = 0
+
 abbrev pub rounds : Core → ℕ
 rounds (core.Mutex c) = mutex_rounds c.phase
 rounds (core.Rw c) = rw_rounds c.phase
 rounds (core.Late p) = 0
+rounds (core.LateRw p) = late_rw_rounds p
 rounds (core.Upgrade c) = upgrade_rounds c.phase
 
 -- at most ten

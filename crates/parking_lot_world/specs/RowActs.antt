@@ -188,6 +188,7 @@ abbrev pub hold_after : ℕ → Core → Hold
 hold_after n (core.Mutex c) = mutex_hold_after c.phase
 hold_after n (core.Rw c) = rw_hold_after n c.phase
 hold_after n (core.Late p) = hold.Shares 0
+hold_after n (core.LateRw p) = hold.Shares 0
 hold_after n (core.Upgrade c) = upgrade_hold_after c.phase
 
 abbrev pub answered : State → ℕ → Call → State

@@ -33,13 +33,17 @@ use Rattle.parking_lot_world.specs.declared.seat.WakeResult.{WakeResult}
 use Rattle.parking_lot_world.specs.declared.seat.WakeResult.TheVariants as told
 use Rattle.parking_lot_world.specs.declared.seat.QueuePosition.{QueuePosition}
 use Rattle.parking_lot_world.specs.declared.seat.QueuePosition.TheVariants as spot
+use Rattle.parking_lot_world.specs.declared.late_rw.LateRwPhase.{LateRwPhase}
+use Rattle.parking_lot_world.specs.declared.late_rw.LateRwPhase.TheVariants as late_rw
+use Rattle.parking_lot_world.specs.declared.late_rw.RwSleeper.{RwSleeper}
+use Rattle.parking_lot_world.specs.declared.late_rw.RwSleeper.TheVariants as sleeper
 use Rattle.parking_lot_world.specs.declared.seat.Core.{Core}
 use Rattle.parking_lot_world.specs.declared.seat.Core.TheVariants as core
 use Rattle.parking_lot_world.specs.declared.open_call.Call.{Call}
 use Rattle.parking_lot_world.specs.declared.seat.Wakeup.{Wakeup}
 use Rattle.parking_lot_world.specs.Kinds.{Manner, AsMutex, AsRw, manner_of, recursive_in}
 use Rattle.parking_lot_world.specs.Rows.{State, word_at, hold_at, call_at, taken_by, family, one_bucket}
-use Rattle.parking_lot_world.specs.Stances.{Doing, Looks, TurnsBack, Joins, Joined, Takes, Stores, Tells, Stance, Out, In, Asleep, stance, taken_count, core_act}
+use Rattle.parking_lot_world.specs.Stances.{Doing, Looks, TurnsBack, Joins, Joined, Takes, Stores, Tells, Stance, Out, In, Asleep, stance, taken_count, core_act, sleeper_asleep}
 use Rattle.parking_lot_world.specs.Rounds.{IsUnderWay}
 use Rattle.parking_lot_protocol.specs.RwTable.{count_of, has_room, sum_of}
 use Rattle.parking_lot_protocol.specs.declared.rw_phase.Scanning.{Scanning}
@@ -115,6 +119,7 @@ abbrev pub IsOfManner : Option Manner → Core → Type 0
 IsOfManner m (core.Mutex c) = m ≡ Some AsMutex
 IsOfManner m (core.Rw c) = m ≡ Some AsRw
 IsOfManner m (core.Late p) = m ≡ Some AsMutex
+IsOfManner m (core.LateRw p) = m ≡ Some AsRw
 IsOfManner m (core.Upgrade c) = m ≡ Some AsRw
 
 abbrev pub IsOfKind : Option LockKind → Core → Type 0
@@ -201,7 +206,7 @@ rw_keeps recursive n (r.Ends outcome) = Unit {0}
 rw_keeps recursive n r.Invalid = ⊥
 
 -- What a phase of an upgradable call needs of whom its thread has taken, where that doesn't follow from what the word says. Calls of shared and exclusive holds have
--- a core of their own, and nobody gives up.
+-- a core of their own, and one that gives up begins with its first look at the word.
 abbrev pub frees_prepared : List ℕ → RwPhase → Type 0
 frees_prepared us (r.LooksExclusive fair rest) = us ≡ []
 frees_prepared us (r.Scans s) = s.shared < 2 ^ 32 - 1
@@ -218,8 +223,6 @@ owes_prepared us phase = Unit {0}
 abbrev pub upgrade_prepared : List ℕ → UpgradePhase → Type 0
 upgrade_prepared us (u.Plain core) = ⊥
 upgrade_prepared us (u.GivingUp from) = ⊥
-upgrade_prepared us (u.YieldLoads from) = ⊥
-upgrade_prepared us (u.Yields from word) = ⊥
 upgrade_prepared us (u.Frees release core) = frees_prepared us core.phase
 upgrade_prepared us (u.Owes hold answer core) = owes_prepared us core.phase
 upgrade_prepared us phase = Unit {0}
@@ -235,7 +238,7 @@ upgrade_begins u.DowngradingToShared = Unit {0}
 upgrade_begins u.DowngradingToUpgradable = Unit {0}
 upgrade_begins phase = ⊥
 
--- A call of a world asks where it has seen room for one reader more, and neither bumps nor gives up.
+-- A call of a world asks where it has seen room for one reader more, and doesn't bump. One that gives up begins with its first look at the word.
 abbrev pub seeks_room : RwPhase → Type 0
 seeks_room (r.Admits a word) = has_room word ≡ true
 seeks_room phase = Unit {0}
@@ -249,8 +252,6 @@ IsOfWorld (u.Unlocks release word) = is_again release ≡ false
 IsOfWorld u.BumpLoads = ⊥
 IsOfWorld u.Relocks = ⊥
 IsOfWorld (u.GivingUp from) = ⊥
-IsOfWorld (u.YieldLoads from) = ⊥
-IsOfWorld (u.Yields from word) = ⊥
 IsOfWorld phase = Unit {0}
 
 -- Nobody goes through the list that keeps the exclusive hold. A scan that goes on has taken no writer, and beside the upgradable hold nobody that
@@ -269,11 +270,22 @@ upgrade_keeps (u.Frees release core) = scan_keeps up_hold.Nothing core.phase
 upgrade_keeps (u.Owes kept answer core) = keeps_hold kept × scan_keeps kept core.phase
 upgrade_keeps phase = Unit {0}
 
+-- One whose moment has passed stands on what it stood on as it slept.
+abbrev pub sleeper_prepared : Bool → ℕ → RwSleeper → Type 0
+sleeper_prepared recursive n (sleeper.Simple c) = of_rw.IsReady c.phase × rw_keeps recursive n c.phase
+sleeper_prepared recursive n (sleeper.Upgradable c) = (n ≡ 0) × of_upgrade.IsReady c.phase × IsOfWorld c.phase × upgrade_keeps c.phase
+
+abbrev pub late_rw_prepared : Bool → ℕ → LateRwPhase → Type 0
+late_rw_prepared recursive n (late_rw.Expires k) = (sleeper_asleep k ≡ true) × sleeper_prepared recursive n k
+late_rw_prepared recursive n (late_rw.Quits k) = (sleeper_asleep k ≡ true) × sleeper_prepared recursive n k
+late_rw_prepared recursive n p = n ≡ 0
+
 -- what a call that is kept stands on
 abbrev pub IsPrepared : Bool → ℕ → Core → Type 0
 IsPrepared recursive n (core.Mutex c) = n ≡ 0
 IsPrepared recursive n (core.Rw c) = of_rw.IsReady c.phase × rw_keeps recursive n c.phase
 IsPrepared recursive n (core.Late p) = n ≡ 0
+IsPrepared recursive n (core.LateRw p) = late_rw_prepared recursive n p
 IsPrepared recursive n (core.Upgrade c) = (n ≡ 0) × of_upgrade.IsReady c.phase × IsOfWorld c.phase × upgrade_keeps c.phase
 
 -- What one that is to store knows of its list: whether waiters are left, and that it has taken a writer or would pass all of them.
@@ -304,6 +316,7 @@ abbrev pub KnowsList : Core → (ℕ → List Waiter) → ℕ → Type 0
 KnowsList (core.Mutex c) queues j = mutex_knows c.phase (queues (2 * j))
 KnowsList (core.Rw c) queues j = rw_knows c.phase (queues (2 * j)) (queues (2 * j + 1))
 KnowsList (core.Late p) queues j = Unit {0}
+KnowsList (core.LateRw p) queues j = Unit {0}
 KnowsList (core.Upgrade c) queues j = upgrade_knows c.phase (queues (2 * j))
 
 -- Who was taken sleeps off its list, at the lock of its taker.
@@ -364,7 +377,7 @@ pub record WakesFit (s : State) : Type 0 where
 pub record RulesFit (s : State) : Type 0 where
   pub size_holds : length s.holds ≡ length s.calls * length s.kinds
   pub size_words : length s.words ≡ length s.kinds
-  pub small : length s.calls < 2 ^ 17
+  pub small : length s.calls < 2 ^ 18
   pub few_locks : length s.kinds < 2 ^ 21
   -- a call is of its lock's kind, and stands as its phase asks
   pub kinds : (t : ℕ) (c : Call) → call_at s t ≡ Some c → IsOfKind (slice_get s.kinds c.lock) c.core

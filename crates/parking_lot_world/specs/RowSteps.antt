@@ -1,8 +1,10 @@
 -- Which steps of the rules the acts of the machine are.
 use Rattle.std.specs.Prelude.{◌≡◌, ℕ, Bool, true, false, if◌then◌else◌, List, [], ◌∷◌}
-use Rattle.parking_lot_rules.specs.Roles.{Owned, Asleep, Stay}
+use Rattle.parking_lot_rules.specs.Roles.{Owned, Stay}
+use Rattle.parking_lot_rules.specs.Plain.{Leave1, Leave2, Mask1}
 use Rattle.parking_lot_rules.specs.Steps.{Alone, List_changes, Take1, Take2, Store, Wake, Scan, Waking}
 use Rattle.parking_lot_rules.specs.Mutex as mutex
+use Rattle.parking_lot_rules.specs.Roles as rules
 use Rattle.parking_lot_rules.specs.Any.{AnyStep, RwStep, MxStep, any_rules}
 use Rattle.parking_lot_rules.specs.Family.{StepOf}
 use Rattle.parking_lot_protocol.specs.declared.act.ActResult.{ActResult}
@@ -11,8 +13,11 @@ use Rattle.parking_lot_protocol.specs.MutexRules as of_mutex
 use Rattle.parking_lot_protocol.specs.RwRules as of_rw
 use Rattle.parking_lot_upgrades.specs.UpgradeMoves as of_upgrade
 use Rattle.parking_lot_world.specs.Kinds.{recursive_in}
+use Rattle.parking_lot_world.specs.LateRoles.{quitting, reentering}
 use Rattle.parking_lot_world.specs.declared.seat.LatePhase.{LatePhase}
 use Rattle.parking_lot_world.specs.declared.seat.LatePhase.TheVariants as late
+use Rattle.parking_lot_world.specs.declared.late_rw.LateRwPhase.{LateRwPhase}
+use Rattle.parking_lot_world.specs.declared.late_rw.LateRwPhase.TheVariants as late_rw
 use Rattle.parking_lot_world.specs.declared.seat.Core.{Core}
 use Rattle.parking_lot_world.specs.declared.seat.Core.TheVariants as core
 use Rattle.parking_lot_world.specs.declared.open_call.Call.{Call}
@@ -32,10 +37,10 @@ abbrev pub IsRwMove : of_rw.Move → ℕ → ℕ → State → State → Type 0
 IsRwMove of_rw.Stays j t s u = IsQuiet s u
 IsRwMove (of_rw.Makes k) j t s u = IsMade j t (RwStep (Alone k)) s u
 IsRwMove (of_rw.Joins k) j t s u = IsMade j t (RwStep (List_changes k)) s u
-IsRwMove (of_rw.TakesOne mode) j t s u = (scan : Scan) × (i v : ℕ) × IsMade j t (RwStep (Take1 scan i v mode Asleep)) s u
-IsRwMove of_rw.TakesWriter j t s u = (owns : Owned) × (v : ℕ) × (from : Bool) × IsMade j t (RwStep (Take2 owns v from Asleep)) s u
+IsRwMove (of_rw.TakesOne mode) j t s u = (scan : Scan) × (i v : ℕ) × (stay : Stay) × IsMade j t (RwStep (Take1 scan i v mode stay)) s u
+IsRwMove of_rw.TakesWriter j t s u = (owns : Owned) × (v : ℕ) × (from : Bool) × (stay : Stay) × IsMade j t (RwStep (Take2 owns v from stay)) s u
 IsRwMove (of_rw.Tells end left) j t s u = (scan : Scan) × IsMade j t (RwStep (Store end scan)) s u
-IsRwMove of_rw.WakesOne j t s u = (owns : Owned) × (v : ℕ) × (us : List ℕ) × (k : Waking) × IsMade j t (RwStep (Wake owns v us k Asleep)) s u
+IsRwMove of_rw.WakesOne j t s u = (owns : Owned) × (v : ℕ) × (us : List ℕ) × (k : Waking) × (stay : Stay) × IsMade j t (RwStep (Wake owns v us k stay)) s u
 IsRwMove (of_rw.IsWoken k) j t s u = ⊥
 
 -- a release stores: the mutex is handed over or not, by whether it was
@@ -50,7 +55,7 @@ wake_step_of stay true v us = mutex.WakeOwner false v us stay
 wake_step_of stay false v us = mutex.Wake false v us stay
 
 abbrev pub wake_step : Bool → ℕ → List ℕ → mutex.Step
-wake_step handed v us = wake_step_of Asleep handed v us
+wake_step handed v us = wake_step_of rules.Asleep handed v us
 
 abbrev pub IsMutexMove : of_mutex.Move → List ℕ → ℕ → ℕ → State → State → Type 0
 IsMutexMove of_mutex.Stays us j t s u = IsQuiet s u
@@ -69,11 +74,21 @@ IsLateMove late.Masks (seen.Before word) j t s u = IsMade j t (MxStep (mutex.Alo
 IsLateMove late.Leaves seen.Made j t s u = IsMade j t (MxStep (mutex.Alone mutex.Leave)) s u
 IsLateMove p told j t s u = ⊥
 
+-- the same at a reader-writer lock, where a pending writer leaves the section of the second list
+abbrev pub IsLateRwMove : LateRwPhase → ActResult → ℕ → ℕ → State → State → Type 0
+IsLateRwMove (late_rw.Expires k) seen.Entered j t s u = IsMade j t (reentering k) s u
+IsLateRwMove (late_rw.Quits k) (seen.Took token left) j t s u = (i : ℕ) × IsMade j t (quitting k left i) s u
+IsLateRwMove late_rw.Masks (seen.Before word) j t s u = IsMade j t (RwStep (Alone Mask1)) s u
+IsLateRwMove late_rw.Leaves seen.Made j t s u = IsMade j t (RwStep (Alone Leave1)) s u
+IsLateRwMove (late_rw.LeavesPending from) seen.Made j t s u = IsMade j t (RwStep (Alone (Leave2 from))) s u
+IsLateRwMove p told j t s u = ⊥
+
 -- A thread in a call at lock j is told this, and the machine's step is the one that the core's table names.
 abbrev pub IsMoveOf : Core → ℕ → List ℕ → ActResult → ℕ → ℕ → State → State → Type 0
 IsMoveOf (core.Rw c) n us told j t s u = IsRwMove (of_rw.move n us c.phase told) j t s u
 IsMoveOf (core.Mutex c) n us told j t s u = IsMutexMove (of_mutex.move (first_of_all us) c.phase told) us j t s u
 IsMoveOf (core.Late p) n us told j t s u = IsLateMove p told j t s u
+IsMoveOf (core.LateRw p) n us told j t s u = IsLateRwMove p told j t s u
 IsMoveOf (core.Upgrade c) n us told j t s u = IsRwMove (of_upgrade.move n us c.phase told) j t s u
 
 abbrev pub Goes : ℕ → Call → ActResult → State → State → Type 0
@@ -84,6 +99,7 @@ abbrev pub IsLastOf : Core → ℕ → ℕ → ℕ → State → State → Type 
 IsLastOf (core.Rw c) n j t s u = IsRwMove (of_rw.last_move n c.phase) j t s u
 IsLastOf (core.Mutex c) n j t s u = IsMutexMove (of_mutex.last_move c.phase) [] j t s u
 IsLastOf (core.Late p) n j t s u = IsQuiet s u
+IsLastOf (core.LateRw p) n j t s u = IsQuiet s u
 IsLastOf (core.Upgrade c) n j t s u = IsRwMove (of_upgrade.last_move n c.phase) j t s u
 
 abbrev pub GoesAway : ℕ → Call → State → State → Type 0

@@ -25,6 +25,7 @@ use Rattle.parking_lot_world.specs.declared.seat.LatePhase.TheVariants as late
 use Rattle.parking_lot_world.specs.declared.seat.Core.{Core}
 use Rattle.parking_lot_world.specs.declared.seat.Core.TheVariants as core
 use Rattle.parking_lot_world.specs.declared.open_call.Call.{Call}
+use Rattle.parking_lot_world.specs.LateRoles.{late_rw_role}
 use Rattle.parking_lot_world.specs.Kinds.{Manner, AsMutex, AsRw, manner_of}
 use Rattle.parking_lot_world.specs.declared.seat.Wakeup.{Wakeup}
 
@@ -111,6 +112,7 @@ abbrev pub rw_core_role : ℕ → QueuePosition → List ℕ → Core → Role
 rw_core_role n at us (core.Rw c) = of_rw.role n (rw_spot at) us c.phase
 rw_core_role n at us (core.Mutex c) = away
 rw_core_role n at us (core.Late p) = away
+rw_core_role n at us (core.LateRw p) = late_rw_role n (rw_spot at) us p
 rw_core_role n at us (core.Upgrade c) = of_upgrade.role n (rw_spot at) us c.phase
 
 -- one whose moment has passed
@@ -132,6 +134,7 @@ abbrev pub mutex_core_role : QueuePosition → List ℕ → Core → mutex.Role
 mutex_core_role at us (core.Mutex c) = of_mutex.role (mutex_spot at) (first_of_all us) c.phase
 mutex_core_role at us (core.Rw c) = mutex.away
 mutex_core_role at us (core.Late p) = late_role (mutex_spot at) p
+mutex_core_role at us (core.LateRw p) = mutex.away
 mutex_core_role at us (core.Upgrade c) = mutex.away
 
 abbrev pub rw_role_in : ℕ → List ℕ → Hold → Option Call → Role

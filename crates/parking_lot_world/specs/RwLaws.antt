@@ -1,7 +1,7 @@
 -- What a core is told at a sound reader-writer lock is a step of the rules there.
 use Rattle.std.specs.Prelude.{◌≡◌, ◌<◌, ◌≤◌, ℕ, zero, suc, ◌-◌, ◌/◌, ◌^◌, false, List, [], length, Some, slice_get, slice_set, Bool, true, ◌++◌, ◌∷◌, remove, ◌⊎◌, ◌≢◌, ◌||◌, map, None}
 use Rattle.parking_lot_core_lot.specs.declared.parking.ParkToken.{ParkToken}
-use Rattle.parking_lot_rules.specs.Roles.{Mode, Shares, Asleep, Open, Queued1, Taken1, Queued2, Taken2, Role, Mark, Owned, Idle}
+use Rattle.parking_lot_rules.specs.Roles.{Mode, Shares, Asleep, Stay, Open, Queued1, Taken1, Queued2, Taken2, Role, Mark, Owned, Idle}
 use Rattle.parking_lot_rules.specs.Classes.{Class, Inside1, Inside2, weight}
 use Rattle.parking_lot_rules.specs.Clauses.{Word, IsWord, number, word_of}
 use Rattle.parking_lot_rules.specs.Holds.{shared_holds}
@@ -56,7 +56,7 @@ pub record Meets (recursive : Bool) (l : Lock) (t n : ℕ) (spot : QueuePosition
   pub here : slice_get l.roles t ≡ Some (role n spot us p)
   pub ready : IsReady p
   pub prepared : rw_prepared recursive n us p
-  pub threads : length l.roles < 2 ^ 17
+  pub threads : length l.roles < 2 ^ 18
   pub few : (u : ℕ) (r : Role) → slice_get l.roles u ≡ Some r → shared_holds r.owns ≤ 256
 
 -- what it is told is the move that the table says, and the next phase is ready
@@ -102,9 +102,9 @@ pub record JoinsAreSteps : Type 0 where
       → IsStep recursive t (List_changes (Join2 false)) l (record (with_role l x t (role n Listed us (next_phase (DrainAppends rounds) seen.Made))) { second = l.second ++ t ∷ [] })
 
 -- A thread that scans takes the waiter v at an index of the first list, by its token: it looks at it so, and those before it are skipped.
-pub record MayTakeOne (l : Lock) (a : Scanning) (i v : ℕ) (mode : Mode) : Type 0 where
+pub record MayTakeOne (l : Lock) (a : Scanning) (i v : ℕ) (mode : Mode) (stay : Stay) : Type 0 where
   pub waiter : slice_get l.first i ≡ Some v
-  pub waits : slice_get l.roles v ≡ Some (record { owns = Shares 0; does = Queued1 mode Asleep })
+  pub waits : slice_get l.roles v ≡ Some (record { owns = Shares 0; does = Queued1 mode stay })
   pub looks : look a.upgradable a.writer mode ≡ Take
   pub skipped : AreSkipped a.upgradable a.writer l.roles l.first i
 
@@ -113,9 +113,9 @@ abbrev pub with_roles : Lock → ℕ → ℕ → Role → ℕ → Role → Lock
 with_roles l x t r v q = record l { word = word_of x; roles = slice_set (slice_set l.roles t r) v q }
 
 abbrev pub TakesAreSteps : Type 0
-TakesAreSteps = (recursive : Bool) (l : Lock) (t n : ℕ) (spot : QueuePosition) (us : List ℕ) (a : Scanning) (x : ℕ) (token : ParkToken) (left : Bool) (i v : ℕ) → Meets recursive l t n spot us (Scans a) x → IsToken (Some token) → MayTakeOne l a i v (mode_by token)
-    → IsStep recursive t (Take1 (scan_of n a us) i v (mode_by token) Asleep) l
-    (record (with_roles l x t (role n Listed (us ++ v ∷ []) (next_phase (Scans a) (seen.Took (Some token) left))) v (record { owns = Shares 0; does = Taken1 (mode_by token) t Open Asleep })) { first = remove l.first i })
+TakesAreSteps = (recursive : Bool) (l : Lock) (t n : ℕ) (spot : QueuePosition) (us : List ℕ) (a : Scanning) (x : ℕ) (token : ParkToken) (left : Bool) (i v : ℕ) (stay : Stay) → Meets recursive l t n spot us (Scans a) x → IsToken (Some token) → MayTakeOne l a i v (mode_by token) stay
+    → IsStep recursive t (Take1 (scan_of n a us) i v (mode_by token) stay) l
+    (record (with_roles l x t (role n Listed (us ++ v ∷ []) (next_phase (Scans a) (seen.Took (Some token) left))) v (record { owns = Shares 0; does = Taken1 (mode_by token) t Open stay })) { first = remove l.first i })
 
 -- Whoever waits in the list wants what its token says.
 abbrev pub WantAsTold : Lock → List Waiter → Type 0
@@ -132,10 +132,10 @@ abbrev pub TokensTell : Type 0
 TokensTell = (want : LockMode) → IsToken (Some (record { 0 = share_of want })) × (mode_by (record { 0 = share_of want }) ≡ mode_of want)
 
 abbrev pub WritersAreTaken : Type 0
-WritersAreTaken = (recursive : Bool) (l : Lock) (t n : ℕ) (spot : QueuePosition) (us : List ℕ) (rest : AfterWake) (x : ℕ) (token : ParkToken) (left : Bool) (v : ℕ) (from : Bool) → Meets recursive l t n spot us (TakeWriter rest) x → slice_get l.second 0 ≡ Some v
-    → slice_get l.roles v ≡ Some (record { owns = Shares 0; does = Queued2 from Asleep })
-    → IsStep recursive t (Take2 (Shares n) v from Asleep) l
-    (record (with_roles l x t (role n Listed (us ++ v ∷ []) (next_phase (TakeWriter rest) (seen.Took (Some token) left))) v (record { owns = Shares 0; does = Taken2 from t Asleep })) { second = remove l.second 0 })
+WritersAreTaken = (recursive : Bool) (l : Lock) (t n : ℕ) (spot : QueuePosition) (us : List ℕ) (rest : AfterWake) (x : ℕ) (token : ParkToken) (left : Bool) (v : ℕ) (from : Bool) (stay : Stay) → Meets recursive l t n spot us (TakeWriter rest) x → slice_get l.second 0 ≡ Some v
+    → slice_get l.roles v ≡ Some (record { owns = Shares 0; does = Queued2 from stay })
+    → IsStep recursive t (Take2 (Shares n) v from stay) l
+    (record (with_roles l x t (role n Listed (us ++ v ∷ []) (next_phase (TakeWriter rest) (seen.Took (Some token) left))) v (record { owns = Shares 0; does = Taken2 from t stay })) { second = remove l.second 0 })
 
 -- The end of the section: what it stores, and what it tells all that the thread has taken. It knows whether waiters are left, and has taken
 -- a writer, or skips all of them.
@@ -160,7 +160,7 @@ WakesAreSteps = (recursive : Bool) (l : Lock) (t n : ℕ) (spot : QueuePosition)
 
 -- Who is to be woken by one that wakes was told what it is to do.
 abbrev pub WokenAreTold : Type 0
-WokenAreTold = (l : Lock) (t v : ℕ) (own has : Owned) (us : List ℕ) (mode : Mode) (mark : Mark) → IsSound l → slice_get l.roles t ≡ Some (record { owns = own; does = rules.Wakes us }) → slice_get l.roles v ≡ Some (record { owns = has; does = Taken1 mode t mark Asleep })
+WokenAreTold = (l : Lock) (t v : ℕ) (own has : Owned) (us : List ℕ) (mode : Mode) (mark : Mark) (stay : Stay) → IsSound l → slice_get l.roles t ≡ Some (record { owns = own; does = rules.Wakes us }) → slice_get l.roles v ≡ Some (record { owns = has; does = Taken1 mode t mark stay })
     → mark ≢ Open
 
 -- where a thread stands matters only while it sleeps
@@ -220,7 +220,7 @@ IsCounted n p x = owns n p ≡ Shares n → (n ≤ x / 16) × (x / 16 < 2 ^ 60 -
 pub record CallsKeep : Type 0 where
   pub begins : (recursive : Bool) (n : ℕ) (p : RwPhase) → rw_begins recursive n p → rw_keeps recursive n (next_phase p seen.Start)
   pub goes_on : (recursive : Bool) (n : ℕ) (p : RwPhase) (x : ℕ) (s : ActResult) → rw_keeps recursive n p → IsCounted n p x → IsTold p x s → rw_keeps recursive n (next_phase p s)
-  pub prepared : (recursive : Bool) (n : ℕ) (us : List ℕ) (p : RwPhase) → rw_keeps recursive n p → length us ≡ rw_taken p → count_shared p ≤ 2 ^ 17 → rw_prepared recursive n us p
+  pub prepared : (recursive : Bool) (n : ℕ) (us : List ℕ) (p : RwPhase) → rw_keeps recursive n p → length us ≡ rw_taken p → count_shared p ≤ 2 ^ 18 → rw_prepared recursive n us p
   pub few : (l : Lock) (t n : ℕ) (spot : QueuePosition) (us : List ℕ) (p : RwPhase) → IsSound l → slice_get l.roles t ≡ Some (role n spot us p) → count_shared p ≤ length l.roles
 
 -- SECTIONS AND LISTS

@@ -75,6 +75,7 @@ abbrev pub Counts : Core → ParkToken → Type 0
 Counts (core.Mutex c) token = Unit {0}
 Counts (core.Rw c) token = rw_counts c.phase token
 Counts (core.Late p) token = Unit {0}
+Counts (core.LateRw p) token = Unit {0}
 Counts (core.Upgrade c) token = upgrade_counts c.phase token
 
 -- a taking that took somebody

@@ -1,5 +1,5 @@
 -- Where a call stands to the sections and lists of the lot, whatever the kind of its lock.
-use Rattle.std.specs.Prelude.{ℕ, ◌-◌, ◌^◌, Bool, true, false, if◌then◌else◌}
+use Rattle.std.specs.Prelude.{ℕ, ◌-◌, ◌^◌, Bool, true, false, if◌then◌else◌, Option, Some, None, is_some}
 use Rattle.parking_lot_core_lot.specs.declared.parking.ParkToken.{ParkToken}
 use Rattle.parking_lot_core_lot.specs.declared.parking.UnparkToken.{UnparkToken}
 use Rattle.parking_lot_protocol.specs.declared.act.Act.{Act}
@@ -17,6 +17,10 @@ use Rattle.parking_lot_protocol.specs.RwTable as of_rw
 use Rattle.parking_lot_upgrades.specs.declared.upgrade_phase.UpgradePhase.{UpgradePhase}
 use Rattle.parking_lot_upgrades.specs.declared.upgrade_phase.UpgradePhase.TheVariants as u
 use Rattle.parking_lot_upgrades.specs.UpgradeTable as of_upgrade
+use Rattle.parking_lot_world.specs.declared.late_rw.LateRwPhase.{LateRwPhase}
+use Rattle.parking_lot_world.specs.declared.late_rw.LateRwPhase.TheVariants as late_rw
+use Rattle.parking_lot_world.specs.declared.late_rw.RwSleeper.{RwSleeper}
+use Rattle.parking_lot_world.specs.declared.late_rw.RwSleeper.TheVariants as sleeper
 use Rattle.parking_lot_world.specs.declared.seat.LatePhase.{LatePhase}
 use Rattle.parking_lot_world.specs.declared.seat.LatePhase.TheVariants as late
 use Rattle.parking_lot_world.specs.declared.seat.Core.{Core}
@@ -98,10 +102,63 @@ late_stance late.Masks = In 0 Stores
 late_stance late.Leaves = In 0 (Tells (sign false))
 late_stance late.GivesUp = Out
 
+-- who sleeps at a reader-writer lock
+abbrev pub rw_asleep : RwPhase → Bool
+rw_asleep (r.Sleeps want) = true
+rw_asleep (r.DrainSleeps rounds) = true
+rw_asleep phase = false
+
+abbrev pub upgrade_asleep : UpgradePhase → Bool
+upgrade_asleep (u.Plain core) = rw_asleep core.phase
+upgrade_asleep (u.Seeks core) = rw_asleep core.phase
+upgrade_asleep (u.Drains core) = rw_asleep core.phase
+upgrade_asleep (u.Frees release core) = rw_asleep core.phase
+upgrade_asleep (u.Owes kept answer core) = rw_asleep core.phase
+upgrade_asleep phase = false
+
+abbrev pub sleeper_asleep : RwSleeper → Bool
+sleeper_asleep (sleeper.Simple c) = rw_asleep c.phase
+sleeper_asleep (sleeper.Upgradable c) = upgrade_asleep c.phase
+
+abbrev pub sleeper_stance : RwSleeper → Stance
+sleeper_stance (sleeper.Simple c) = rw_stance c.phase
+sleeper_stance (sleeper.Upgradable c) = upgrade_stance c.phase
+
+-- Of one that waits until the readers have left, whether it had the upgradable hold before; none of any other.
+abbrev pub simple_pending : RwPhase → Option Bool
+simple_pending (r.DrainSleeps rounds) = Some false
+simple_pending phase = None
+
+abbrev pub upgrade_pending : UpgradePhase → Option Bool
+upgrade_pending (u.Drains core) = Some true
+upgrade_pending phase = None
+
+abbrev pub pending_from : RwSleeper → Option Bool
+pending_from (sleeper.Simple c) = simple_pending c.phase
+pending_from (sleeper.Upgradable c) = upgrade_pending c.phase
+
+-- So does one whose moment has passed at a reader-writer lock, as each slept.
+abbrev pub lying : Stance → Stance
+lying (Asleep key token) = Asleep key token
+lying other = Out
+
+abbrev pub back_as : Stance → Stance
+back_as (Asleep key token) = In key (Joined token)
+back_as other = Out
+
+abbrev pub late_rw_stance : LateRwPhase → Stance
+late_rw_stance (late_rw.Expires k) = lying (sleeper_stance k)
+late_rw_stance (late_rw.Quits k) = back_as (sleeper_stance k)
+late_rw_stance late_rw.Masks = In 0 Stores
+late_rw_stance late_rw.Leaves = In 0 (Tells (sign false))
+late_rw_stance late_rw.GivesUp = Out
+late_rw_stance (late_rw.LeavesPending from) = In 1 (Tells (sign false))
+
 abbrev pub stance : Core → Stance
 stance (core.Mutex c) = mutex_stance c.phase
 stance (core.Rw c) = rw_stance c.phase
 stance (core.Late p) = late_stance p
+stance (core.LateRw p) = late_rw_stance p
 stance (core.Upgrade c) = upgrade_stance c.phase
 
 -- how many it has taken and not woken yet
@@ -132,6 +189,7 @@ abbrev pub taken_count : Core → ℕ
 taken_count (core.Mutex c) = mutex_taken c.phase
 taken_count (core.Rw c) = rw_taken c.phase
 taken_count (core.Late p) = 0
+taken_count (core.LateRw p) = 0
 taken_count (core.Upgrade c) = upgrade_taken c.phase
 
 -- What one asks for whose moment has passed. It comes back into its section, and takes itself out there, by acts of its own.
@@ -152,17 +210,52 @@ late_next late.Masks (seen.Before word) = core.Late late.Leaves
 late_next late.Leaves seen.Made = core.Late late.GivesUp
 late_next p s = core.Mutex (record { phase = m.Invalid })
 
+-- the same at a reader-writer lock
+abbrev pub late_rw_act : LateRwPhase → Act
+late_rw_act (late_rw.Expires k) = act.Sleep
+late_rw_act (late_rw.Quits k) = act.Sleep
+late_rw_act late_rw.Masks = act.FetchAnd (2 ^ 64 - 2)
+late_rw_act late_rw.Leaves = act.Section section.Leave
+late_rw_act late_rw.GivesUp = act.Done answer.Refused
+late_rw_act (late_rw.LeavesPending from) = act.Section section.Leave
+
+-- off its list: one that waited for readers leaves, to take its bit back, and one that wants the lock masks the parked bit as the last one
+abbrev pub quits_as : Option Bool → Bool → LateRwPhase
+quits_as (Some from) left = late_rw.LeavesPending from
+quits_as None left = if left then late_rw.Leaves else late_rw.Masks
+
+abbrev pub sleeper_told : RwSleeper → ActResult → Core
+sleeper_told (sleeper.Simple c) seen = core.Rw (record c { phase = of_rw.next_phase c.phase seen })
+sleeper_told (sleeper.Upgradable c) seen = core.Upgrade (record c { phase = of_upgrade.next_phase c.phase seen })
+
+abbrev pub late_rw_next : LateRwPhase → ActResult → Core
+late_rw_next (late_rw.Expires k) (seen.Woken token) = sleeper_told k (seen.Woken token)
+late_rw_next (late_rw.Expires k) seen.Entered = core.LateRw (late_rw.Quits k)
+late_rw_next (late_rw.Quits k) (seen.Took token left) = core.LateRw (quits_as (pending_from k) left)
+late_rw_next late_rw.Masks (seen.Before word) = core.LateRw late_rw.Leaves
+late_rw_next late_rw.Leaves seen.Made = core.LateRw late_rw.GivesUp
+late_rw_next (late_rw.LeavesPending from) seen.Made = core.Upgrade (record { phase = u.YieldLoads from })
+late_rw_next p s = core.Rw (record { phase = r.Invalid })
+
+-- whether it comes back to the lock's second list
+abbrev pub late_rw_pending : LateRwPhase → Bool
+late_rw_pending (late_rw.Expires k) = is_some (pending_from k)
+late_rw_pending (late_rw.Quits k) = is_some (pending_from k)
+late_rw_pending p = false
+
 -- what a core asks for, and what follows what it is told
 abbrev pub core_act : Core → Act
 core_act (core.Mutex c) = of_mutex.act_of c.phase
 core_act (core.Rw c) = of_rw.act_of c.phase
 core_act (core.Late p) = late_act p
+core_act (core.LateRw p) = late_rw_act p
 core_act (core.Upgrade c) = of_upgrade.act_of c.phase
 
 abbrev pub core_next : Core → ActResult → Core
 core_next (core.Mutex c) seen = core.Mutex (record c { phase = of_mutex.next_phase c.phase seen })
 core_next (core.Rw c) seen = core.Rw (record c { phase = of_rw.next_phase c.phase seen })
 core_next (core.Late p) seen = late_next p seen
+core_next (core.LateRw p) seen = late_rw_next p seen
 core_next (core.Upgrade c) seen = core.Upgrade (record c { phase = of_upgrade.next_phase c.phase seen })
 
 -- the token for those whom the section took, once it has stored
@@ -178,6 +271,7 @@ abbrev pub core_tells : Core → UnparkToken
 core_tells (core.Mutex c) = of_mutex.wakes_with c.phase
 core_tells (core.Rw c) = of_rw.wakes_with c.phase
 core_tells (core.Late p) = sign false
+core_tells (core.LateRw p) = sign false
 core_tells (core.Upgrade c) = upgrade_tells c.phase
 
 -- Whether it was told that it begins. A call that is kept was.
@@ -214,4 +308,5 @@ abbrev pub has_begun : Core → Bool
 has_begun (core.Mutex c) = mutex_begun c.phase
 has_begun (core.Rw c) = rw_begun c.phase
 has_begun (core.Late p) = true
+has_begun (core.LateRw p) = true
 has_begun (core.Upgrade c) = upgrade_begun c.phase

@@ -1,7 +1,8 @@
 -- What an upgradable call is told at a sound lock is a step of the rules there.
 use Rattle.std.specs.Prelude.{◌≡◌, ◌<◌, ◌≤◌, ◌-◌, ◌/◌, ◌^◌, ℕ, Bool, true, List, [], ◌∷◌, ◌++◌, length, map, remove, Some, slice_get, slice_set}
 use Rattle.parking_lot_core_lot.specs.Results.{is_left}
-use Rattle.parking_lot_rules.specs.Roles.{Owned, Shares, Excludes, Asleep, Idle, Open, Taken1, Role}
+use Rattle.parking_lot_rules.specs.Roles.{Owned, Shares, Excludes, Asleep, Stay, Idle, Open, Taken1, Role}
+use Rattle.parking_lot_rules.specs.Classes.{inside}
 use Rattle.parking_lot_rules.specs.Clauses.{word_of}
 use Rattle.parking_lot_rules.specs.Holds.{shared_holds}
 use Rattle.parking_lot_rules.specs.Lock.{Lock, IsSound}
@@ -33,7 +34,7 @@ pub record MeetsUpgrade (l : Lock) (t n : ℕ) (spot : QueuePosition) (us : List
   pub here : slice_get l.roles t ≡ Some (role n spot us p)
   pub ready : IsReady p
   pub prepared : upgrade_prepared us p
-  pub threads : length l.roles < 2 ^ 17
+  pub threads : length l.roles < 2 ^ 18
   pub few : (v : ℕ) (q : Role) → slice_get l.roles v ≡ Some q → shared_holds q.owns ≤ 256
 
 -- The move is a step of the rules at the lock, which leaves the thread in the role of its next phase and the word that its act leaves: where
@@ -44,14 +45,14 @@ UpgradeLeads recursive (Makes k) t n spot us p s x l = Finds (act_of p) l → Is
 UpgradeLeads recursive (Joins k) t n spot us p s x l =
     MayList k t l.first l.second → IsStep recursive t (List_changes k) l (record (with_role l (word_after (act_of p) s x) t (role n Listed us (next_phase p s))) { first = first_after k t l.first; second = second_after k t l.second })
 UpgradeLeads recursive (TakesOne mode) t n spot us p s x l =
-    (v : ℕ) → (scan : Scan) × (role n Listed us p ≡ scanning scan) × ((i : ℕ) → MayTake scan i v mode Asleep l.roles l.first → IsStep recursive t (Take1 scan i v mode Asleep) l
-    (record (with_roles l (word_after (act_of p) s x) t (role n Listed (us ++ v ∷ []) (next_phase p s)) v (record { owns = Shares 0; does = Taken1 mode t Open Asleep })) { first = remove l.first i }))
+    (v : ℕ) → (scan : Scan) × (role n Listed us p ≡ scanning scan) × ((i : ℕ) (stay : Stay) → MayTake scan i v mode stay l.roles l.first → IsStep recursive t (Take1 scan i v mode stay) l
+    (record (with_roles l (word_after (act_of p) s x) t (role n Listed (us ++ v ∷ []) (next_phase p s)) v (record { owns = Shares 0; does = Taken1 mode t Open stay })) { first = remove l.first i }))
 UpgradeLeads recursive TakesWriter t n spot us p s x l = ⊥
 UpgradeLeads recursive (Tells end left) t n spot us p s x l =
     is_left l.first ≡ left → (scan : Scan) × (role n Listed us p ≡ scanning scan) × (IsOver scan l.roles l.first → IsStep recursive t (Store end scan) l
     (record l { word = word_of (word_after (act_of p) s x); roles = slice_set (map (settle (ends_saying end)) l.roles) t (role n Listed us (next_phase p s)) }))
 UpgradeLeads recursive WakesOne t n spot us p s x l =
-    (v : ℕ) (vs : List ℕ) (k : Waking) → us ≡ v ∷ vs → slice_get l.roles v ≡ Some (waking_from k t Asleep) → IsStep recursive t (Wake (owns n p) v vs k Asleep) l
+    (v : ℕ) (vs : List ℕ) (k : Waking) (stay : Stay) → us ≡ v ∷ vs → slice_get l.roles v ≡ Some (waking_from k t stay) → inside stay ≡ 0 → IsStep recursive t (Wake (owns n p) v vs k stay) l
     (record l { word = word_of x; roles = slice_set (slice_set l.roles v (waking_to k)) t (role n Listed vs (next_phase p s)) })
 UpgradeLeads recursive (IsWoken k) t n spot us p s x l = (by : ℕ) → (role n (Off by (mark_for k)) us p ≡ waking_from k by Asleep) × (role n Listed us (next_phase p s) ≡ waking_to k)
 
@@ -90,4 +91,4 @@ pub record UpgradesKeep : Type 0 where
   pub begins : (p : UpgradePhase) → upgrade_begins p → (IsOfWorld p × IsReady p) × (IsOfWorld (next_phase p seen.Start) × IsReady (next_phase p seen.Start)) × upgrade_keeps (next_phase p seen.Start)
   pub goes_on : (p : UpgradePhase) (x : ℕ) (s : ActResult) → upgrade_begun p ≡ true → IsReady p → IsOfWorld p → x / 16 < 2 ^ 60 - 1 → IsTold p x s → IsOfWorld (next_phase p s)
   pub keeps : (p : UpgradePhase) (x : ℕ) (s : ActResult) → IsReady p → IsOfWorld p → upgrade_keeps p → IsTold p x s → WantsTaken p s → upgrade_keeps (next_phase p s)
-  pub prepared : (us : List ℕ) (p : UpgradePhase) → IsOfWorld p → length us ≡ upgrade_taken p → upgrade_shared p ≤ 2 ^ 17 → upgrade_prepared us p
+  pub prepared : (us : List ℕ) (p : UpgradePhase) → IsOfWorld p → length us ≡ upgrade_taken p → upgrade_shared p ≤ 2 ^ 18 → upgrade_prepared us p

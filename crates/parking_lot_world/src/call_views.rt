@@ -7,15 +7,18 @@ ghost use Rattle.parking_lot_rules.specs.Owners.{Reading, owner_for_good, owner_
 ghost use Rattle.parking_lot_protocol.specs.MutexRules as of_mutex;
 ghost use Rattle.parking_lot_protocol.specs.RwRules as of_rw;
 ghost use Rattle.parking_lot_protocol.specs.declared.rw_phase.RwPhase.TheVariants as phase;
-ghost use Rattle.parking_lot_world.specs.CallViews.{IsInOrder, call_asleep, call_in_debt, call_looks, call_mode, mode_of, mutex_mode, rw_mode};
+ghost use Rattle.parking_lot_world.specs.CallViews.{HasSlept, IsInOrder, IsLateAsSlept, IsLateInOrder, call_asleep, call_in_debt, call_looks, call_mode, mode_of, mutex_mode, rw_mode, still_looks};
+ghost use Rattle.parking_lot_world.specs.LateRoles.{late_rw_role, sleeper_role};
 ghost use Rattle.parking_lot_world.specs.Rows.{late_does, late_role, mutex_spot, rw_spot};
 ghost use Rattle.parking_lot_world.specs.Stances.{rw_taken, taken_count};
 
 use crate::calls::OwnMode;
+use crate::late_rw::{LateRwPhase, RwSleeper};
 use crate::open_call::Call;
 use crate::seat::{Core, LatePhase, QueuePosition, WakeResult};
 use crate::upgrade_views::{upgrade_asleep, upgrade_in_debt, upgrade_looks, upgrade_mode};
 use parking_lot_protocol::{AfterWake, CoreAnswer, LockMode, MutexPhase, Outcome, RwPhase};
+use parking_lot_upgrades::UpgradePhase;
 
 /// How one owns a lock that has so many shared holds of it.
 fn readers_mode(holds: u8) -> Option<OwnMode>
@@ -205,6 +208,58 @@ fn late_in_debt(phase: LatePhase, spot: QueuePosition) -> bool
     }
 }
 
+/// How one owns a reader-writer lock that sleeps, or has slept, in its list or off it.
+fn late_sleeper_mode(sleeper: RwSleeper, spot: QueuePosition, others: u8) -> Option<OwnMode>
+    ensures { HasSlept sleeper → (us : List ℕ) → result ≡ rw_mode (sleeper_role others (rw_spot spot) us sleeper) }
+{
+    match sleeper {
+        RwSleeper::Simple(core) => rw_mode(core.phase(), spot, others),
+        RwSleeper::Upgradable(core) => upgrade_mode(core.phase(), spot),
+    }
+}
+
+/// How one owns a reader-writer lock whose moment has passed: as it did when it slept, or was taken, until it has left its list.
+fn late_rw_mode(phase: LateRwPhase, spot: QueuePosition, others: u8) -> Option<OwnMode>
+    ensures { IsLateInOrder phase → (us : List ℕ) → result ≡ rw_mode (late_rw_role others (rw_spot spot) us phase) }
+{
+    match phase {
+        LateRwPhase::Expires(sleeper) => late_sleeper_mode(sleeper, spot, others),
+        LateRwPhase::Quits(sleeper) => late_sleeper_mode(sleeper, QueuePosition::Listed, others),
+        LateRwPhase::LeavesPending(_) => Some(OwnMode::Pending),
+        LateRwPhase::Masks | LateRwPhase::Leaves | LateRwPhase::GivesUp => None,
+    }
+}
+
+/// Whether one that was taken, and handed the lock, is to look whether readers are left: only a writer is.
+fn still_looks(sleeper: RwSleeper) -> bool
+    ensures { result ≡ still_looks sleeper }
+{
+    match sleeper {
+        RwSleeper::Simple(core) => match core.phase() {
+            RwPhase::Sleeps(LockMode::Shared(_)) => false,
+            _ => true,
+        },
+        RwSleeper::Upgradable(core) => match core.phase() {
+            UpgradePhase::Drains(_) => true,
+            _ => false,
+        },
+    }
+}
+
+/// Whether one is in debt at a reader-writer lock whose moment has passed: it is inside a section, or was taken and is about to try.
+fn late_rw_in_debt(phase: LateRwPhase, spot: QueuePosition) -> bool
+    ensures { IsLateInOrder phase → (n : ℕ) (us : List ℕ) → result ≡ rw_debts.is_in_debt (late_rw_role n (rw_spot spot) us phase).does }
+{
+    match (phase, spot) {
+        (LateRwPhase::Expires(_), QueuePosition::Listed) => false,
+        (LateRwPhase::Expires(sleeper), QueuePosition::Off(_, WakeResult::HandedOver)) => {
+            still_looks(sleeper)
+        }
+        (LateRwPhase::GivesUp, _) => false,
+        _ => true,
+    }
+}
+
 impl Call {
     /// How its thread owns the lock now. One that sleeps and was handed a hold owns it. Of an upgradable call it is said where the call is in
     /// order, as each is that a machine runs.
@@ -215,19 +270,21 @@ impl Call {
             Core::Mutex(core) => mutex_mode(core.phase(), self.spot),
             Core::Rw(core) => rw_mode(core.phase(), self.spot, self.others),
             Core::Late(phase) => late_mode(*phase, self.spot),
+            Core::LateRw(phase) => late_rw_mode(*phase, self.spot, self.others),
             Core::Upgrade(core) => upgrade_mode(core.phase(), self.spot),
         }
     }
 
     /// Whether its thread is in debt at the lock: it is inside a section, is still to wake others, or was woken to try again. It has
-    /// taken as many as its core counts.
+    /// taken as many as its core counts, and where its moment has passed, it slept.
     pub fn is_in_debt(&self) -> bool
-        ensures { (us : List ℕ) → length us ≡ taken_count self.now.core → result ≡ call_in_debt us self.now }
+        ensures { IsLateAsSlept self.now.core → (us : List ℕ) → length us ≡ taken_count self.now.core → result ≡ call_in_debt us self.now }
     {
         match &self.core {
             Core::Mutex(core) => mutex_in_debt(core.phase()),
             Core::Rw(core) => rw_in_debt(core.phase()),
             Core::Late(phase) => late_in_debt(*phase, self.spot),
+            Core::LateRw(phase) => late_rw_in_debt(*phase, self.spot),
             Core::Upgrade(core) => upgrade_in_debt(core.phase()),
         }
     }
@@ -245,7 +302,7 @@ impl Call {
                 RwPhase::Sleeps(_) | RwPhase::DrainSleeps(_) => true,
                 _ => false,
             },
-            Core::Late(_) => false,
+            Core::Late(_) | Core::LateRw(_) => false,
             Core::Upgrade(core) => upgrade_asleep(core.phase()),
         }
     }
@@ -263,7 +320,7 @@ impl Call {
                 RwPhase::LooksExclusive(_, _) => true,
                 _ => false,
             },
-            Core::Late(_) => false,
+            Core::Late(_) | Core::LateRw(_) => false,
             Core::Upgrade(core) => upgrade_looks(core.phase()),
         }
     }

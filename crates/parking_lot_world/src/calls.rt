@@ -56,6 +56,14 @@ pub enum LockCall {
     DowngradeToUpgradable,
     /// It makes its upgradable hold a shared one.
     DowngradeUpgradable,
+    /// It wants a shared hold, and waits for it until its deadline.
+    ReadUntil,
+    /// It wants the exclusive hold, and waits for it until its deadline, also until the readers have left.
+    WriteUntil,
+    /// It wants the upgradable hold, and waits for it until its deadline.
+    UpgradableUntil,
+    /// It makes its upgradable hold the exclusive one, and waits until its deadline for the readers to leave. Then it keeps what it has.
+    UpgradeUntil,
 }
 
 /// How a thread owns a lock.
@@ -97,6 +105,8 @@ impl LockCall {
             LockCall::UpgradableRead | LockCall::TryUpgradableRead => false,
             LockCall::UnlockUpgradable | LockCall::Upgrade | LockCall::TryUpgrade => false,
             LockCall::DowngradeToUpgradable | LockCall::DowngradeUpgradable => false,
+            LockCall::ReadUntil | LockCall::WriteUntil => false,
+            LockCall::UpgradableUntil | LockCall::UpgradeUntil => false,
         }
     }
 
@@ -110,8 +120,10 @@ impl LockCall {
             LockCall::UnlockRead => Some(OwnMode::Shared),
             LockCall::UnlockUpgradable | LockCall::Upgrade => Some(OwnMode::Upgradable),
             LockCall::TryUpgrade | LockCall::DowngradeUpgradable => Some(OwnMode::Upgradable),
+            LockCall::UpgradeUntil => Some(OwnMode::Upgradable),
             LockCall::DowngradeToUpgradable => Some(OwnMode::Exclusive),
             LockCall::UpgradableRead | LockCall::TryUpgradableRead => None,
+            LockCall::ReadUntil | LockCall::WriteUntil | LockCall::UpgradableUntil => None,
             LockCall::Lock | LockCall::TryLock | LockCall::LockUntil => None,
             LockCall::Read | LockCall::TryRead => None,
             LockCall::Write | LockCall::TryWrite => None,
@@ -125,7 +137,8 @@ impl LockCall {
         ensures { result ≡ is_timed self.now }
     {
         match self {
-            LockCall::LockUntil => true,
+            LockCall::LockUntil | LockCall::ReadUntil | LockCall::WriteUntil => true,
+            LockCall::UpgradableUntil | LockCall::UpgradeUntil => true,
             _ => false,
         }
     }

@@ -7,6 +7,7 @@ mod call_views;
 mod calls;
 mod late_acts;
 mod late_laws;
+mod late_rw;
 pub mod laws;
 mod lot_calls;
 mod lot_laws;
@@ -28,6 +29,7 @@ mod upgrade_views;
 mod view_laws;
 
 pub use calls::{LockCall, LockKind, OwnMode};
+pub use late_rw::{LateRwPhase, RwSleeper};
 pub use open_call::Call;
 pub use parking_lot_protocol::{
     Act, ActResult, CoreAnswer, HAND_OVER, MutexCore, RwCore, SectionAct, TRY_AGAIN, WordChange,

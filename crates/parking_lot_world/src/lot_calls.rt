@@ -1,5 +1,5 @@
 //! Calls on the lot where they are never refused.
-ghost use Rattle.std.specs.Prelude.{◌≡◌, ◌≢◌, ℕ, None, Some, if◌then◌else◌, Ok, false, slice_set};
+ghost use Rattle.std.specs.Prelude.{◌≡◌, ◌≢◌, ◌||◌, ℕ, None, Some, if◌then◌else◌, Ok, false, slice_set};
 ghost use Rattle.parking_lot_core_lot.specs.declared.place.Phase.TheVariants as phase;
 ghost use Rattle.parking_lot_core_lot.specs.declared.parking.FilterOp.TheVariants.{Stop, Unpark};
 ghost use Rattle.parking_lot_core_lot.specs.declared.parking.UnparkToken.{UnparkToken};
@@ -80,18 +80,19 @@ pub(crate) fn come_back<A: Allocator>(lot: &mut Lot<A>, thread: usize, key: usiz
     lot.known();
 }
 
-/// Takes a thread that came back out of its list. Answers whether others are left there; then its section has nothing to store, and says so.
-pub(crate) fn quit<A: Allocator>(lot: &mut Lot<A>, thread: usize, key: usize) -> bool
+/// Takes a thread that came back out of its list. Answers whether others are left there; then its section has nothing to store, and says so, as it
+/// does where the caller says so.
+pub(crate) fn quit<A: Allocator>(lot: &mut Lot<A>, thread: usize, key: usize, stores: bool) -> bool
     requires there { quit_fault (machine lot.old) thread ≡ None }
     requires waits { (sleep : Sleep) × (place_at (machine lot.old).places thread ≡ Some (Waiting key sleep)) }
     requires inside { (s : Section) × ((machine lot.old).section ≡ Some s) × (s.thread ≡ Some thread) }
     ensures left { result ≡ is_left ((in_phase (given_up (machine lot.old) thread key) phase.Ended).queues key) }
-    ensures out { machine lot.new ≡ (if result then stored (in_phase (given_up (machine lot.old) thread key) phase.Ended) (record { 0 = 0 }) else in_phase (given_up (machine lot.old) thread key) phase.Ended) }
+    ensures out { machine lot.new ≡ (if result || stores then stored (in_phase (given_up (machine lot.old) thread key) phase.Ended) (record { 0 = 0 }) else in_phase (given_up (machine lot.old) thread key) phase.Ended) }
     ensures sound { Sound (machine lot.new) }
 {
     quit_list(lot, thread, key);
     let left = lot.has_waiters(key);
-    if left {
+    if left || stores {
         store(lot, thread, DEFAULT_UNPARK_TOKEN);
     }
     lot.known();

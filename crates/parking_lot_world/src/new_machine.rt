@@ -1,5 +1,5 @@
 //! How a machine of locks is made.
-ghost use Rattle.std.specs.Prelude.{◌≡◌, ◌<◌, ◌≤◌, ◌↔◌, ◌⊎◌, ◌^◌, length, replicate, Some, IsErrOf, IfErr, IfOk};
+ghost use Rattle.std.specs.Prelude.{◌≡◌, ◌<◌, ◌≤◌, ◌*◌, ◌↔◌, ◌⊎◌, ◌^◌, length, replicate, Some, IsErrOf, IfErr, IfOk};
 ghost use Rattle.parking_lot_core_lot.specs.Machine.{machine};
 ghost use Rattle.parking_lot_core_lot.specs.Runs.{fresh};
 ghost use Rattle.parking_lot_core_lot.specs.Sound.{Sound};
@@ -23,12 +23,12 @@ const MAX_LOCKS: usize = 1 << 20;
 /// A lot with so many threads, all of which run.
 fn lot_of<A: Allocator + Clone + Drop>(alloc: A, threads: usize) -> Result<Lot<A>, SizeFault>
     requires some { 0 < threads }
-    requires few { threads ≤ 65536 }
+    requires few { threads ≤ 131072 }
     ensures made { IfOk result (λ lot. machine lot ≡ record (fresh threads 0) { places = replicate threads (Some Running) }) }
     ensures sound { IfOk result (λ lot. Sound (machine lot)) }
     ensures memory { IfErr result (λ fault. fault ≡ NoMemory) }
 {
-    let mut lot = Lot::new(alloc, threads, 0)?;
+    let mut lot = Lot::new_wide(alloc, threads, 0)?;
     for _ in 0..threads {
         if let Err(_) = lot.register() {
             return Err(SizeFault::NoMemory);
@@ -53,6 +53,35 @@ impl<A: Allocator + Clone + Drop> RowMachine<A> {
         if threads == 0 || threads > MAX_THREADS || locks == 0 || locks > MAX_LOCKS {
             return Err(SizeFault::BadSize);
         }
+        RowMachine::made(alloc, threads, kinds)
+    }
+
+    /// The same, where each of so many threads has two numbers, as thread t of n the numbers t and n + t: so a thread may wait as one of them while it
+    /// is still in a call as the other.
+    pub fn new_double(
+        alloc: &A,
+        threads: usize,
+        kinds: Vec<LockKind, A>,
+    ) -> Result<RowMachine<A>, SizeFault>
+        ensures size { IsErrOf result BadSize ↔ ((threads ≡ 0) ⊎ (65536 < threads) ⊎ (length kinds.items ≡ 0) ⊎ (2 ^ 20 < length kinds.items)) }
+        ensures made { IfOk result (λ machine. state machine ≡ at_rest (2 * threads) kinds.items) }
+    {
+        let locks = kinds.len();
+        if threads == 0 || threads > MAX_THREADS || locks == 0 || locks > MAX_LOCKS {
+            return Err(SizeFault::BadSize);
+        }
+        RowMachine::made(alloc, 2 * threads, kinds)
+    }
+
+    /// A machine of so many numbers of threads.
+    fn made(alloc: &A, threads: usize, kinds: Vec<LockKind, A>) -> Result<RowMachine<A>, SizeFault>
+        requires some { 0 < threads }
+        requires few { threads ≤ 131072 }
+        requires locks { length kinds.items ≤ 2 ^ 20 }
+        ensures made { IfOk result (λ machine. state machine ≡ at_rest threads kinds.items) }
+        ensures memory { IfErr result (λ fault. fault ≡ NoMemory) }
+    {
+        let locks = kinds.len();
         Ok(RowMachine {
             kinds,
             words: vec![in alloc.clone()?; 0; locks]?,

@@ -84,7 +84,7 @@ fn core_retries(core: Core) -> bool
 {
     match core {
         Core::Mutex(core) => phase_retries(core.phase()),
-        Core::Rw(_) | Core::Late(_) | Core::Upgrade(_) => false,
+        Core::Rw(_) | Core::Late(_) | Core::Upgrade(_) | Core::LateRw(_) => false,
     }
 }
 

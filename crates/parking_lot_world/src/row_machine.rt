@@ -10,7 +10,7 @@ ghost use Rattle.parking_lot_world.specs.Machines.{at_rest, can_move, goes_late,
 
 use crate::calls::{LockCall, LockKind};
 use crate::open_call::Call;
-use crate::seat::{Core, Hold, LatePhase, QueuePosition, Wakeup};
+use crate::seat::{Hold, QueuePosition, Wakeup};
 use parking_lot_core_lot::{Lot, SizeFault};
 use parking_lot_protocol::{Act, CoreAnswer, SectionAct, WordChange};
 use std::alloc::{Allocator, Global};
@@ -121,13 +121,8 @@ impl<A: Allocator> RowMachine<A> {
     fn goes_late(&self, call: &Call) -> bool
         ensures { result ≡ goes_late (state self.now) call.now call.now.core }
     {
-        match (call.core, call.spot) {
-            (Core::Late(LatePhase::Expires), QueuePosition::Listed) => {
-                !self.lot.is_entered(call.lock)
-            }
-            (Core::Late(LatePhase::Quits), _) => true,
-            _ => false,
-        }
+        call.core.is_back()
+            || (call.core.comes_late() && call.spot.is_listed() && !self.lot.is_entered(call.lock))
     }
 
     /// Whether a thread's deadline may come: it sleeps in its list in a timed call, and it hasn't come before.
@@ -141,8 +136,8 @@ impl<A: Allocator> RowMachine<A> {
     }
 
     /// A thread's deadline comes as it sleeps. From then on it can move: it comes back into the section of its list, takes itself out there,
-    /// masks the parked bit off where it was the last, and is answered that it has given up. Where another takes it before it is back it waits
-    /// for that one, and goes on as it is woken.
+    /// masks the parked bit off where it was the last, and is answered that it has given up. As a pending writer it takes its bit back instead,
+    /// and goes through those that it kept out. Where another takes it before it is back it waits for that one, and goes on as it is woken.
     pub fn deadline(&mut self, thread: usize)
         requires may { may_expire (state self.old) thread ≡ true }
         ensures { IsExpired thread (state self.old) (state self.new) }

@@ -1,10 +1,17 @@
 //! What a machine of locks keeps of each thread.
 ghost use Rattle.std.specs.Prelude.{◌≡◌, ◌≤◌, ℕ};
+ghost use Rattle.parking_lot_rules.specs.Classes.{bit};
+ghost use Rattle.parking_lot_protocol.specs.declared.act.ActResult.TheVariants as seen;
 ghost use Rattle.parking_lot_protocol.specs.declared.mutex_phase.MutexPhase.TheVariants.{Invalid, Sleeps};
-ghost use Rattle.parking_lot_world.specs.Machines.{is_back, is_listed, sleeps_in_time};
-ghost use Rattle.parking_lot_world.specs.Stances.{In, Takes, core_act, core_next, core_tells, late_act, late_next, rw_stance, stance, upgrade_stance, upgrade_tells};
+ghost use Rattle.parking_lot_protocol.specs.declared.rw_phase.RwPhase.TheVariants as rw_phase;
+ghost use Rattle.parking_lot_upgrades.specs.declared.upgrade_phase.UpgradePhase.TheVariants.{YieldLoads};
+ghost use Rattle.parking_lot_world.specs.LateActs.{comes_late, is_back, is_pending, late_of, sleeps_in_time};
+ghost use Rattle.parking_lot_world.specs.Machines.{is_listed};
+ghost use Rattle.parking_lot_world.specs.Stances.{In, Takes, core_act, core_next, core_tells, late_act, late_next, late_rw_next, rw_stance, sleeper_told, stance, upgrade_stance, upgrade_tells};
 ghost use Rattle.parking_lot_world.specs.RowActs.{hold_after, kept_hold, mutex_hold_after, upgrade_hold_after, rw_hold_after, joins, settled_spot, told_of};
 
+use crate::late_rw::{LateRwPhase, RwSleeper};
+use crate::upgrade_views::{rw_asleep, upgrade_asleep};
 use parking_lot_core_lot::UnparkToken;
 use parking_lot_protocol::{
     Act, ActResult, AfterWake, CoreAnswer, HAND_OVER, MutexCore, MutexPhase, Outcome, RwCore,
@@ -74,6 +81,8 @@ pub enum Core {
     Late(LatePhase),
     /// At a reader-writer lock, for its upgradable hold.
     Upgrade(UpgradeCore),
+    /// At a reader-writer lock, once its moment has passed.
+    LateRw(LateRwPhase),
 }
 
 /// A thread that another has taken off its list and is still to wake.
@@ -127,7 +136,7 @@ impl QueuePosition {
 }
 
 impl Core {
-    /// Whether it sleeps at a mutex, and its moment hasn't passed.
+    /// Whether it sleeps, and its moment hasn't passed.
     pub(crate) fn sleeps_in_time(&self) -> bool
         ensures { result ≡ sleeps_in_time self.now }
     {
@@ -136,8 +145,49 @@ impl Core {
                 MutexPhase::Sleeps => true,
                 _ => false,
             },
+            Core::Rw(core) => rw_asleep(core.phase()),
+            Core::Upgrade(core) => upgrade_asleep(core.phase()),
+            Core::Late(_) | Core::LateRw(_) => false,
+        }
+    }
+
+    /// The core of a sleeper whose moment passes.
+    pub(crate) fn late(self) -> Core
+        ensures { result ≡ late_of self }
+    {
+        match self {
+            Core::Mutex(_) => Core::Late(LatePhase::Expires),
+            Core::Rw(core) => Core::LateRw(LateRwPhase::Expires(RwSleeper::Simple(core))),
+            Core::Upgrade(core) => Core::LateRw(LateRwPhase::Expires(RwSleeper::Upgradable(core))),
+            late => late,
+        }
+    }
+
+    /// Whether its moment has passed, and it is to come back into the section of its list.
+    pub(crate) fn comes_late(&self) -> bool
+        ensures { result ≡ comes_late self.now }
+    {
+        match self {
+            Core::Late(LatePhase::Expires) | Core::LateRw(LateRwPhase::Expires(_)) => true,
             _ => false,
         }
+    }
+
+    /// Whether its moment has passed as it stood in the lock's second list.
+    pub(crate) fn is_pending(&self) -> bool
+        ensures { result ≡ is_pending self.now }
+    {
+        match self {
+            Core::LateRw(phase) => phase.is_pending(),
+            _ => false,
+        }
+    }
+
+    /// The list of one whose moment has passed: 0 is the lock's first, 1 its second.
+    pub(crate) fn late_list(&self) -> u8
+        ensures { result ≡ bit (is_pending self.now) }
+    {
+        if self.is_pending() { 1 } else { 0 }
     }
 
     /// Whether its moment has passed, and it is back in the section of its list to take itself out.
@@ -145,7 +195,7 @@ impl Core {
         ensures { result ≡ is_back self.now }
     {
         match self {
-            Core::Late(LatePhase::Quits) => true,
+            Core::Late(LatePhase::Quits) | Core::LateRw(LateRwPhase::Quits(_)) => true,
             _ => false,
         }
     }
@@ -158,6 +208,7 @@ impl Core {
             Core::Mutex(core) => core.act(),
             Core::Rw(core) => core.act(),
             Core::Late(phase) => phase.act(),
+            Core::LateRw(phase) => phase.act(),
             Core::Upgrade(core) => core.act(),
         }
     }
@@ -176,6 +227,7 @@ impl Core {
                 Core::Rw(core)
             }
             Core::Late(phase) => phase.told(seen),
+            Core::LateRw(phase) => late_rw_told(phase, seen),
             Core::Upgrade(mut core) => {
                 core.next(seen);
                 Core::Upgrade(core)
@@ -190,7 +242,7 @@ impl Core {
         match self {
             Core::Mutex(core) => core.wake_token(),
             Core::Rw(core) => core.wake_token(),
-            Core::Late(_) => TRY_AGAIN,
+            Core::Late(_) | Core::LateRw(_) => TRY_AGAIN,
             Core::Upgrade(core) => upgrade_token(core.phase()),
         }
     }
@@ -212,7 +264,7 @@ impl Core {
         match self {
             Core::Rw(core) => rw_list(core.phase()),
             Core::Upgrade(core) => upgrade_list(core.phase()),
-            Core::Mutex(_) | Core::Late(_) => 0,
+            Core::Mutex(_) | Core::Late(_) | Core::LateRw(_) => 0,
         }
     }
 
@@ -224,7 +276,7 @@ impl Core {
         match self {
             Core::Mutex(core) => mutex_hold_after(core.phase()),
             Core::Rw(core) => rw_hold_after(core.phase(), others),
-            Core::Late(_) => Hold::Shares(0),
+            Core::Late(_) | Core::LateRw(_) => Hold::Shares(0),
             Core::Upgrade(core) => upgrade_hold_after(core.phase()),
         }
     }
@@ -264,6 +316,59 @@ impl LatePhase {
             _ => Core::Mutex(astray()),
         }
     }
+}
+
+/// The core of a call at a reader-writer lock whose moment has passed, once it is told what its act gave.
+fn late_rw_told(phase: LateRwPhase, seen: ActResult) -> Core
+    ensures { result ≡ late_rw_next phase seen }
+{
+    match (phase, seen) {
+        (LateRwPhase::Expires(sleeper), ActResult::Woken(token)) => woken(sleeper, token),
+        (LateRwPhase::Expires(sleeper), ActResult::Entered) => {
+            Core::LateRw(LateRwPhase::Quits(sleeper))
+        }
+        (LateRwPhase::Quits(sleeper), ActResult::Took { token: _, left }) => Core::LateRw(
+            LateRwPhase::quits(sleeper.pending_from(), left),
+        ),
+        (LateRwPhase::Masks, ActResult::Before(_)) => Core::LateRw(LateRwPhase::Leaves),
+        (LateRwPhase::Leaves, ActResult::Made) => Core::LateRw(LateRwPhase::GivesUp),
+        (LateRwPhase::LeavesPending(from), ActResult::Made) => Core::Upgrade(yielding(from)),
+        _ => Core::Rw(astray_rw()),
+    }
+}
+
+/// A sleeper's core, woken after all.
+fn woken(sleeper: RwSleeper, token: UnparkToken) -> Core
+    ensures { result ≡ sleeper_told sleeper (seen.Woken token) }
+{
+    match sleeper {
+        RwSleeper::Simple(mut core) => {
+            core.next(ActResult::Woken(token));
+            Core::Rw(core)
+        }
+        RwSleeper::Upgradable(mut core) => {
+            core.next(ActResult::Woken(token));
+            Core::Upgrade(core)
+        }
+    }
+}
+
+/// The core of a pending writer that takes its bit back.
+fn yielding(from: bool) -> UpgradeCore
+    ensures { result.phase ≡ YieldLoads from }
+{
+    let mut core = UpgradeCore::give_up(from);
+    core.next(ActResult::Start);
+    core
+}
+
+/// A reader-writer lock's core that was told what doesn't fit.
+fn astray_rw() -> RwCore
+    ensures { result.phase ≡ rw_phase.Invalid }
+{
+    let mut core = RwCore::lock_shared(false);
+    core.next(ActResult::Made);
+    core
 }
 
 /// A mutex's core that sleeps: it was told all that leads there.

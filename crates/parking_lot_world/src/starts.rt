@@ -35,6 +35,10 @@ impl LockCall {
                 UpgradeCore::downgrade_to_upgradable(),
             ),
             LockCall::DowngradeUpgradable => Core::Upgrade(UpgradeCore::downgrade()),
+            LockCall::ReadUntil => Core::Rw(RwCore::lock_shared(kind.is_recursive())),
+            LockCall::WriteUntil => Core::Rw(RwCore::lock_exclusive()),
+            LockCall::UpgradableUntil => Core::Upgrade(UpgradeCore::lock()),
+            LockCall::UpgradeUntil => Core::Upgrade(UpgradeCore::upgrade()),
         }
     }
 }
@@ -76,6 +80,9 @@ impl Hold {
             LockCall::DowngradeToUpgradable => self.excludes(),
             LockCall::UnlockUpgradable | LockCall::Upgrade => self.upgrades(),
             LockCall::TryUpgrade | LockCall::DowngradeUpgradable => self.upgrades(),
+            LockCall::ReadUntil => self.may_share(kind),
+            LockCall::WriteUntil | LockCall::UpgradableUntil => self.is_none(),
+            LockCall::UpgradeUntil => self.upgrades(),
         }
     }
 
@@ -130,7 +137,7 @@ impl Hold {
         ensures { result ≡ holds_beside call self.now }
     {
         match call {
-            LockCall::Read | LockCall::TryRead => self.holds(),
+            LockCall::Read | LockCall::TryRead | LockCall::ReadUntil => self.holds(),
             _ => self.holds().saturating_sub(1),
         }
     }

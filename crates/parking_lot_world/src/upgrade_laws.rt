@@ -13,8 +13,8 @@ pub fn upgrade_steps_fall()
     ensures { UpgradeStepsFall }
 {}
 
-/// An upgradable call of a world begins ready, and stays one that a world runs: it asks where it has seen room for one reader more, and neither
-/// bumps nor gives up.
+/// An upgradable call of a world begins ready, and stays one that a world runs: it asks where it has seen room for one reader more, and doesn't
+/// bump.
 pub fn upgradable_calls_keep()
     ensures { UpgradesKeep }
 {}

@@ -2,8 +2,8 @@
 ghost use Rattle.std.specs.Prelude.{◌≡◌, ℕ, List, length};
 ghost use Rattle.parking_lot_rules.specs.Debts as rw_debts;
 ghost use Rattle.parking_lot_upgrades.specs.UpgradeRoles as of_upgrade;
-ghost use Rattle.parking_lot_world.specs.CallViews.{drainer_mode, freer_mode, kept_mode, rw_asleep, seeker_mode, upgrade_asleep, upgrade_looks, upgrade_mode};
-ghost use Rattle.parking_lot_world.specs.Stances.{upgrade_taken};
+ghost use Rattle.parking_lot_world.specs.CallViews.{drainer_mode, freer_mode, kept_mode, seeker_mode, upgrade_looks, upgrade_mode};
+ghost use Rattle.parking_lot_world.specs.Stances.{rw_asleep, upgrade_asleep, upgrade_taken};
 ghost use Rattle.parking_lot_protocol.specs.Positions as positions;
 
 use crate::call_views::rw_in_debt;
@@ -75,7 +75,8 @@ pub(crate) fn upgrade_mode(phase: UpgradePhase, spot: QueuePosition) -> Option<O
         UnlockLoads(_) | Unlocks(_, _) => Some(OwnMode::Upgradable),
         DowngradingToUpgradable | ToUpgradable => Some(OwnMode::Exclusive),
         Plain(_) | Locking | Trying | GivingUp(_) | TryLoads | TryAdmits(_, _) => None,
-        Refuses | Relocks | YieldLoads(_) | Yields(_, _) | Invalid => None,
+        YieldLoads(_) | Yields(_, _) => Some(OwnMode::Pending),
+        Refuses | Relocks | Invalid => None,
     }
 }
 
@@ -94,7 +95,7 @@ pub(crate) fn upgrade_in_debt(phase: UpgradePhase) -> bool
 }
 
 /// Whether a call of a reader-writer lock sleeps in such a phase.
-fn rw_asleep(phase: RwPhase) -> bool
+pub(crate) fn rw_asleep(phase: RwPhase) -> bool
     ensures { result ≡ rw_asleep phase }
 {
     match phase {

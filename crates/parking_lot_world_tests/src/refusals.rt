@@ -18,6 +18,10 @@ fn who_owns_a_lock_only_gives_it_up(rt: HostRuntime) {
         (LockCall::Lock, [false, false, true]),
         (LockCall::TryLock, [false, false, true]),
         (LockCall::LockUntil, [false, false, true]),
+        (LockCall::ReadUntil, [false, false, true]),
+        (LockCall::WriteUntil, [false, false, true]),
+        (LockCall::UpgradableUntil, [false, false, true]),
+        (LockCall::UpgradeUntil, [false, false, false]),
         (LockCall::Read, [false, false, true]),
         (LockCall::TryRead, [false, false, true]),
         (LockCall::Write, [false, false, true]),
@@ -38,6 +42,7 @@ fn readers_of_a_recursive_lock_read_again(rt: HostRuntime) {
     let table = [
         (LockCall::Read, [true, false, true]),
         (LockCall::TryRead, [true, false, true]),
+        (LockCall::ReadUntil, [true, false, true]),
         (LockCall::Write, [false, false, true]),
         (LockCall::TryWrite, [false, false, true]),
         (LockCall::UnlockWrite, [false, true, false]),

@@ -5,18 +5,13 @@ use Rattle.parking_lot_once_rules.specs.Once.{Step}
 use Rattle.parking_lot_once_world.specs.OnceSteps.{IsLawful}
 use Rattle.parking_lot_once_world.specs.OnceRanks as once_ranks
 use Rattle.parking_lot_once_world.specs.Onces.{Onces, once_at}
-use Rattle.parking_lot_rules.specs.Any.{AnyLock, MxStep, Mx, Rw, any_after, any_allowed}
-use Rattle.parking_lot_rules.specs.Any as any
-use Rattle.parking_lot_rules.specs.Mutex as mutex
-use Rattle.parking_lot_rules.specs.MutexOwners as mutex_owners
-use Rattle.parking_lot_rules.proofs.MutexCasing.{steps_are_cases}
 use Rattle.parking_lot_world.specs.Kinds.{recursive_in}
-use Rattle.parking_lot_world.specs.Machines as rows
+use Rattle.parking_lot_world.specs.LateLaws.{expire_step}
 use Rattle.parking_lot_world.specs.Ranks as row_ranks
-use Rattle.parking_lot_world.specs.RowFits.{FitsTogether}
-use Rattle.parking_lot_world.specs.Rows.{Rows, State, state}
+use Rattle.parking_lot_world.specs.Rows.{Rows, state}
 use Rattle.parking_lot_world.specs.Rows as row
 use Rattle.parking_lot_world.specs.SoundLaws as of_locks
+use Rattle.parking_lot_world.proofs.Cases.{made}
 use Rattle.parking_lot_worlds.specs.declared.calls.Asked.{Asked}
 use Rattle.parking_lot_worlds.specs.declared.step.WorldStep.{WorldStep}
 use Rattle.parking_lot_worlds.specs.WorldCalls.{asked, is_once, step_thread}
@@ -58,20 +53,6 @@ module _ (w v : Shown) (kinds : v.kinds ≡ w.kinds) where
 
 -- THE STEPS, ONE BY ONE
 
--- a deadline that comes changes neither owners nor lists
-late_is_case : (recursive : ℕ → Bool) (t j : ℕ) (l : AnyLock) → any.AnySound l → any_allowed recursive j t (MxStep (mutex.Alone mutex.Expire)) l → of_locks.IsCaseAt (recursive j) t l (any_after t (MxStep (mutex.Alone mutex.Expire)) l)
-late_is_case recursive t j (Mx m) sound may = (mutex_owners.case_of (mutex.Alone mutex.Expire), steps_are_cases m sound t (mutex.Alone mutex.Expire) may)
-late_is_case recursive t j (Rw l) sound may = absurd may
-
-late_step : (s u : State) (t : ℕ) → FitsTogether s → (x : rows.IsExpired t s u) → of_locks.IsStepAt t x.call.lock s u
-late_step s u t h x =
-    let j = x.call.lock in
-    let made = x.lawful.goes in
-    record {
-      case = subst (of_locks.IsCaseAt (recursive_in s.kinds j) t (row.lock_at s j)) (sym made.here) (late_is_case (recursive_in s.kinds) t j (row.lock_at s j) (h.rules.sound.sound j) made.allowed);
-      elsewhere = made.elsewhere;
-    }
-
 module _ (of_rows : of_locks.StepsAreCases) (w v : Shown) (fit : IsFit w) where
   asks : (t i : ℕ) (call : Asked) → v.kinds ≡ w.kinds → may_ask w t i call ≡ true → IsAsked t i call w v → IsStepAt t i w v
   asks t i (Asked.OfLock call) kinds may (x, same) = lock_step w v kinds t i (not_true (is_once_at w i) (both_true _ _ may).0) (of_rows.begin (state w.rows) (state v.rows) t i call fit.rows x) same
@@ -82,7 +63,7 @@ module _ (of_rows : of_locks.StepsAreCases) (w v : Shown) (fit : IsFit w) where
   goes_on t fair true kinds (reply, x, same, answers) = (x.call.once, once_step w v kinds t x.call.once x.step (fit.whole.at_onces t x.call x.here) x.lawful same)
 
   is_late : (t : ℕ) → v.kinds ≡ w.kinds → IsLate t w v → (i : ℕ) × IsStepAt t i w v
-  is_late t kinds (x, same, answers) = (x.call.lock, lock_step w v kinds t x.call.lock (fit.whole.at_locks t x.call x.here).0 (late_step (state w.rows) (state v.rows) t fit.rows x) same)
+  is_late t kinds (x, same, answers) = (x.call.lock, lock_step w v kinds t x.call.lock (fit.whole.at_locks t x.call x.here).0 (made (state w.rows) (state v.rows) fit.rows t x.call.lock (expire_step x.call.core) x.lawful.goes) same)
 
   is_case : (s : WorldStep) → may_make w s ≡ true → IsMade s w v → (i : ℕ) × IsStepAt (step_thread s) i w v
   is_case (WorldStep.Begin t i call) may made = (i, asks t i (asked call) made.2 may made.0)

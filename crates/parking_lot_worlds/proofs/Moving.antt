@@ -25,13 +25,13 @@ use Rattle.parking_lot_upgrades.specs.declared.upgrade_phase.UpgradePhase.{Upgra
 use Rattle.parking_lot_world.specs.declared.open_call.Call.{Call}
 use Rattle.parking_lot_world.specs.declared.seat.Core.{Core}
 use Rattle.parking_lot_world.specs.declared.seat.LatePhase.{LatePhase}
-use Rattle.parking_lot_world.specs.declared.seat.QueuePosition.{QueuePosition}
-use Rattle.parking_lot_world.specs.Machines as rows
+use Rattle.parking_lot_world.specs.declared.late_rw.LateRwPhase.{LateRwPhase}
+use Rattle.parking_lot_world.proofs.Sleepers.{lies_out}
 use Rattle.parking_lot_world.specs.Machines.{can_move, can_move_in, goes_late, is_possible, is_taken}
 use Rattle.parking_lot_world.specs.RowFits.{FitsTogether, Seated, Stands}
 use Rattle.parking_lot_world.specs.Rows.{State, call_at, state}
 use Rattle.parking_lot_world.specs.SoundLaws as row_laws
-use Rattle.parking_lot_world.specs.Stances.{Doing, In, Stance, core_act, mutex_stance, rw_stance, seeks_stance, stance, upgrade_stance}
+use Rattle.parking_lot_world.specs.Stances.{Doing, In, Stance, core_act, mutex_stance, rw_stance, seeks_stance, sleeper_stance, stance, upgrade_stance}
 use Rattle.parking_lot_world.specs.Stances as stances
 use Rattle.parking_lot_worlds.specs.WorldLaws.{Moves, SomebodyCanMove}
 use Rattle.parking_lot_worlds.specs.Worlds.{IsWhole, Shown, core_enters, goes, is_entry, is_in_once, lock_enters, may_go, once_enters, once_side, row_side}
@@ -169,10 +169,6 @@ once_works (OncePhase.Clears well taken) e = refl
 once_works (OncePhase.Leaves taken) e = refl
 once_works p e = absurd cc
 
-or_else : (b c : Bool) → c ≡ true → (b || c) ≡ true
-or_else true c e = refl
-or_else false c e = e
-
 some_call : {C : Type 0} (f : C → Bool) (o : Option C) → option_map_or f o false ≡ true → is_some o ≡ true
 some_call f None e = absurd cc
 some_call f (Some c) e = refl
@@ -187,19 +183,25 @@ module _ (s : State) (h : FitsTogether s) where
   late_inside : (c : Call) (p : LatePhase) (k : ℕ) (how : Doing) → stance (Core.Late p) ≡ In k how
       → ((goes_late s c (Core.Late p) || is_possible (is_taken s c) (core_act (Core.Late p))) ≡ true) × (core_enters (Core.Late p) ≡ false)
   late_inside c LatePhase.Expires k how e = absurd cc
-  late_inside c LatePhase.Quits k how e = (quits c.spot, refl)
-    where
-      quits : (at : QueuePosition) → (rows.late_goes (is_taken s c 0) at LatePhase.Quits || false) ≡ true
-      quits QueuePosition.Listed = refl
-      quits (QueuePosition.Off by said) = refl
-  late_inside c LatePhase.Masks k how e = (or_else _ true refl, refl)
-  late_inside c LatePhase.Leaves k how e = (or_else _ true refl, refl)
+  late_inside c LatePhase.Quits k how e = (refl, refl)
+  late_inside c LatePhase.Masks k how e = (refl, refl)
+  late_inside c LatePhase.Leaves k how e = (refl, refl)
   late_inside c LatePhase.GivesUp k how e = absurd cc
+
+  tardy_inside : (c : Call) (p : LateRwPhase) (k : ℕ) (how : Doing) → stance (Core.LateRw p) ≡ In k how
+      → ((goes_late s c (Core.LateRw p) || is_possible (is_taken s c) (core_act (Core.LateRw p))) ≡ true) × (core_enters (Core.LateRw p) ≡ false)
+  tardy_inside c (LateRwPhase.Expires z) k how e = absurd (lies_out (sleeper_stance z) k how e)
+  tardy_inside c (LateRwPhase.Quits z) k how e = (refl, refl)
+  tardy_inside c LateRwPhase.Masks k how e = (refl, refl)
+  tardy_inside c LateRwPhase.Leaves k how e = (refl, refl)
+  tardy_inside c (LateRwPhase.LeavesPending from) k how e = (refl, refl)
+  tardy_inside c LateRwPhase.GivesUp k how e = absurd cc
 
   inside_goes : (c : Call) (d : Core) (k : ℕ) (how : Doing) → stance d ≡ In k how → ((goes_late s c d || is_possible (is_taken s c) (core_act d)) ≡ true) × (core_enters d ≡ false)
   inside_goes c (Core.Mutex m) k how e = work_goes (of_mutex.act_of m.phase) (is_taken s c) (mutex_works m.phase k how e)
   inside_goes c (Core.Rw m) k how e = work_goes (of_rw.act_of m.phase) (is_taken s c) (rw_works m.phase k how e)
   inside_goes c (Core.Late p) k how e = late_inside c p k how e
+  inside_goes c (Core.LateRw p) k how e = tardy_inside c p k how e
   inside_goes c (Core.Upgrade m) k how e = work_goes (of_upgrade.act_of m.phase) (is_taken s c) (upgrade_works m.phase k how e)
 
   module _ (o : Section) (is : s.lot.section ≡ Some o) where

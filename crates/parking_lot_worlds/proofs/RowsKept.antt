@@ -8,6 +8,7 @@ use Rattle.parking_lot_protocol.specs.declared.act.CoreAnswer.{CoreAnswer}
 use Rattle.parking_lot_protocol.specs.declared.act.SectionAct.{SectionAct}
 use Rattle.parking_lot_world.specs.declared.open_call.Call.{Call}
 use Rattle.parking_lot_world.specs.declared.seat.Core.{Core}
+use Rattle.parking_lot_world.specs.declared.late_rw.LateRwPhase.{LateRwPhase}
 use Rattle.parking_lot_world.specs.declared.seat.LatePhase.{LatePhase}
 use Rattle.parking_lot_world.specs.declared.seat.WakeResult.{WakeResult}
 use Rattle.parking_lot_world.specs.Machines.{Became, BecameInside, BecameLate, IsStepped}
@@ -69,6 +70,8 @@ module _ (s : State) (t : ℕ) (c : Call) (here : call_at s t ≡ Some c) where
   late : (k : Core) (u : State) → BecameLate k t c s u → Kept (core_enters k) s u
   late (Core.Late LatePhase.Expires) u e = is u _ e (record { calls = own _; kinds = refl; closed = λ b o. absurd cc })
   late (Core.Late LatePhase.Quits) u e = is u _ e (record { calls = own _; kinds = refl; closed = λ b o. quits _ _ _ (ap (option_map _) (none_of _ o)) (none_of _ o) })
+  late (Core.LateRw (LateRwPhase.Expires z)) u e = is u _ e (record { calls = own _; kinds = refl; closed = λ b o. absurd cc })
+  late (Core.LateRw (LateRwPhase.Quits z)) u e = is u _ e (record { calls = own _; kinds = refl; closed = λ b o. quits _ _ _ (ap (option_map _) (none_of _ o)) (none_of _ o) })
   late k u e = absurd e
 
   entering : (k : Core) (key : ℕ) → core_act k ≡ Act.Enter key → core_enters k ≡ true
@@ -77,6 +80,8 @@ module _ (s : State) (t : ℕ) (c : Call) (here : call_at s t ≡ Some c) where
   entering (Core.Upgrade m) key e = ap is_entry e
   entering (Core.Late LatePhase.Expires) key e = refl
   entering (Core.Late p) key e = absurd cc
+  entering (Core.LateRw (LateRwPhase.Expires z)) key e = refl
+  entering (Core.LateRw p) key e = absurd cc
 
   after : (a : Act) (fair : Bool) (u : State) → core_act c.core ≡ a → Became a t fair c s u → Kept (core_enters c.core) s u
   after Act.Load fair u asks e = is u _ e (record { calls = own _; kinds = refl; closed = λ b o. o })

@@ -1,5 +1,5 @@
 -- What calls of a world are asked of, and how they end.
-use Rattle.std.specs.Prelude.{ℕ, Bool, true, false, Option, Some, None}
+use Rattle.std.specs.Prelude.{if◌then◌else◌, ℕ, Bool, true, false, Option, Some, None}
 use Rattle.parking_lot_protocol.specs.declared.act.CoreAnswer.{CoreAnswer}
 use Rattle.parking_lot_protocol.specs.declared.act.CoreAnswer.TheVariants as from_core
 use Rattle.parking_lot_once_world.specs.declared.calls.OnceCall.TheVariants as once
@@ -9,8 +9,6 @@ use Rattle.parking_lot_world.specs.declared.calls.LockCall.TheVariants as row
 use Rattle.parking_lot_world.specs.declared.calls.LockKind.{LockKind as RowKind}
 use Rattle.parking_lot_world.specs.declared.calls.LockKind.TheVariants as rows
 use Rattle.parking_lot_world.specs.declared.open_call.Call.{Call}
-use Rattle.parking_lot_world.specs.declared.seat.Core.{Core}
-use Rattle.parking_lot_world.specs.declared.seat.Core.TheVariants as core
 use Rattle.parking_lot_worlds.specs.declared.calls.LockKind.{LockKind}
 use Rattle.parking_lot_worlds.specs.declared.calls.LockKind.TheVariants as kind
 use Rattle.parking_lot_worlds.specs.declared.calls.LockCall.{LockCall}
@@ -56,6 +54,10 @@ asked call.Upgrade = OfLock row.Upgrade
 asked call.TryUpgrade = OfLock row.TryUpgrade
 asked call.DowngradeToUpgradable = OfLock row.DowngradeToUpgradable
 asked call.DowngradeUpgradable = OfLock row.DowngradeUpgradable
+asked call.ReadUntil = OfLock row.ReadUntil
+asked call.WriteUntil = OfLock row.WriteUntil
+asked call.UpgradableUntil = OfLock row.UpgradableUntil
+asked call.UpgradeUntil = OfLock row.UpgradeUntil
 asked (call.CallOnce well) = OfOnce (once.CallOnce well)
 asked (call.CallOnceForce well) = OfOnce (once.CallOnceForce well)
 asked call.OnceWait = OfOnce once.OnceWait
@@ -66,17 +68,16 @@ of_core from_core.Owned = answer.Owned
 of_core from_core.Refused = answer.Refused
 of_core from_core.Released = answer.Released
 
--- a call whose moment has passed ends as one that has given up
-abbrev pub of_end : Core → CoreAnswer → LockAnswer
-of_end (core.Late p) a = answer.TimedOut
-of_end (core.Mutex c) a = of_core a
-of_end (core.Rw c) a = of_core a
-of_end (core.Upgrade c) a = of_core a
+-- a call with a deadline that doesn't end with what it asked for has given up
+abbrev pub of_timed : CoreAnswer → LockAnswer
+of_timed from_core.Owned = answer.Owned
+of_timed from_core.Refused = answer.TimedOut
+of_timed from_core.Released = answer.TimedOut
 
 -- what a thread is answered whose call at a lock ends so
 abbrev pub said : Option Call → CoreAnswer → LockAnswer
 said None a = of_core a
-said (Some c) a = of_end c.core a
+said (Some c) a = if c.timed then of_timed a else of_core a
 
 abbrev pub of_reply : OnceReply → LockAnswer
 of_reply (reply.Ran before) = answer.Ran before

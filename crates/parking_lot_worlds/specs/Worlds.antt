@@ -21,6 +21,7 @@ use Rattle.parking_lot_world.specs.declared.open_call.Call.{Call}
 use Rattle.parking_lot_world.specs.declared.seat.Core.{Core}
 use Rattle.parking_lot_world.specs.declared.seat.Core.TheVariants as core
 use Rattle.parking_lot_world.specs.declared.seat.LatePhase.TheVariants as late
+use Rattle.parking_lot_world.specs.LateActs.{late_rw_comes}
 use Rattle.parking_lot_world.specs.Machines as rows
 use Rattle.parking_lot_world.specs.Rows.{Rows, State, state}
 use Rattle.parking_lot_world.specs.Rows as row
@@ -71,6 +72,7 @@ core_enters (core.Late late.Quits) = false
 core_enters (core.Late late.Masks) = false
 core_enters (core.Late late.Leaves) = false
 core_enters (core.Late late.GivesUp) = false
+core_enters (core.LateRw p) = late_rw_comes p
 
 abbrev pub lock_enters : State → ℕ → Bool
 lock_enters s t = option_map_or (λ c. core_enters c.core) (row.call_at s t) false

@@ -7,7 +7,7 @@ use crate::calls::Asked;
 use crate::step::WorldStep;
 use crate::world::World;
 use parking_lot_protocol::Act;
-use parking_lot_world::{Core, LatePhase};
+use parking_lot_world::{Core, LatePhase, LateRwPhase};
 use std::alloc::Allocator;
 
 /// Whether an act enters a section.
@@ -31,6 +31,10 @@ fn core_enters(core: Core) -> bool
         Core::Late(phase) => match phase {
             LatePhase::Expires => true,
             LatePhase::Quits | LatePhase::Masks | LatePhase::Leaves | LatePhase::GivesUp => false,
+        },
+        Core::LateRw(phase) => match phase {
+            LateRwPhase::Expires(_) => true,
+            _ => false,
         },
     }
 }

@@ -1,10 +1,10 @@
 //! What threads ask of the locks and onces of a world.
 ghost use Rattle.std.specs.Prelude.{◌≡◌};
-ghost use Rattle.parking_lot_worlds.specs.WorldCalls.{asked, is_once, of_core, of_reply, row_kind, said};
+ghost use Rattle.parking_lot_worlds.specs.WorldCalls.{asked, is_once, of_core, of_reply, of_timed, row_kind, said};
 
 use parking_lot_once_world::{OnceCall, OnceReply, OnceState};
 use parking_lot_protocol::CoreAnswer;
-use parking_lot_world::{Call, Core, LockCall as RowCall, LockKind as RowKind};
+use parking_lot_world::{Call, LockCall as RowCall, LockKind as RowKind};
 
 /// The kind of a lock.
 #[derive(Clone, Copy, PartialEq, Eq, Debug)]
@@ -60,6 +60,15 @@ pub enum LockCall {
     DowngradeToUpgradable,
     /// It makes its upgradable hold a shared one.
     DowngradeUpgradable,
+    /// It wants a shared hold, and waits for it until its deadline.
+    ReadUntil,
+    /// It wants the exclusive hold, and waits for it until its deadline.
+    WriteUntil,
+    /// It wants the upgradable hold, and waits for it until its deadline.
+    UpgradableUntil,
+    /// It makes its upgradable hold the exclusive one, and waits until its deadline for the readers to leave. Where it gives up it has the
+    /// upgradable hold again.
+    UpgradeUntil,
     /// At a once: it runs its closure where none has run, waits while one runs, and is refused where the last one has failed. This says whether
     /// its closure ends well, if it is run.
     CallOnce(bool),
@@ -89,7 +98,7 @@ pub enum LockAnswer {
     Refused,
     /// The thread owns the lock no more.
     Released,
-    /// The deadline came first, and the thread has given up. It owns nothing.
+    /// The deadline came first, and the thread has given up. It owns nothing; after a timed upgrade it has its upgradable hold again.
     TimedOut,
     /// At a once: its own closure ran and ended well; it was handed this state.
     Ran(OnceState),
@@ -149,6 +158,10 @@ impl LockCall {
             LockCall::TryUpgrade => Asked::OfLock(RowCall::TryUpgrade),
             LockCall::DowngradeToUpgradable => Asked::OfLock(RowCall::DowngradeToUpgradable),
             LockCall::DowngradeUpgradable => Asked::OfLock(RowCall::DowngradeUpgradable),
+            LockCall::ReadUntil => Asked::OfLock(RowCall::ReadUntil),
+            LockCall::WriteUntil => Asked::OfLock(RowCall::WriteUntil),
+            LockCall::UpgradableUntil => Asked::OfLock(RowCall::UpgradableUntil),
+            LockCall::UpgradeUntil => Asked::OfLock(RowCall::UpgradeUntil),
             LockCall::CallOnce(well) => Asked::OfOnce(OnceCall::CallOnce(well)),
             LockCall::CallOnceForce(well) => Asked::OfOnce(OnceCall::CallOnceForce(well)),
             LockCall::OnceWait => Asked::OfOnce(OnceCall::OnceWait),
@@ -163,11 +176,18 @@ impl LockAnswer {
         ensures { result ≡ said call answer }
     {
         match call {
-            Some(call) => match call.core {
-                Core::Late(_) => LockAnswer::TimedOut,
-                Core::Mutex(_) | Core::Rw(_) | Core::Upgrade(_) => LockAnswer::of_core(answer),
-            },
-            None => LockAnswer::of_core(answer),
+            Some(call) if call.timed => LockAnswer::of_timed(answer),
+            _ => LockAnswer::of_core(answer),
+        }
+    }
+
+    /// What a thread is answered whose call with a deadline ends so: where it hasn't what it asked for, it has given up.
+    fn of_timed(answer: CoreAnswer) -> LockAnswer
+        ensures { result ≡ of_timed answer }
+    {
+        match answer {
+            CoreAnswer::Owned => LockAnswer::Owned,
+            CoreAnswer::Refused | CoreAnswer::Released => LockAnswer::TimedOut,
         }
     }
 

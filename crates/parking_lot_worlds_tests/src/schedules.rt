@@ -5,6 +5,7 @@ mod program;
 mod rules;
 mod shown;
 mod state;
+mod upgrades;
 
 use locks::LockWatch;
 use parking_lot_worlds::{LockCall, LockKind};
@@ -181,5 +182,43 @@ fn every_schedule_at_a_recursive_lock_keeps_the_rules(rt: HostRuntime) -> Result
     ];
     let states = explore_all(&rt, LockKind::RwRecursive, &programs)?;
     assert!(rt; states >= 26_000, "{states} states");
+    Ok(())
+}
+
+#[test]
+fn every_schedule_of_deadlines_of_readers_and_writers_keeps_the_rules(
+    rt: HostRuntime,
+) -> Result<(), Fail> {
+    let programs = [
+        two(LockCall::ReadUntil, LockCall::UnlockRead),
+        two(LockCall::WriteUntil, LockCall::UnlockWrite),
+    ];
+    let others = [
+        two(LockCall::Read, LockCall::UnlockRead),
+        two(LockCall::Write, LockCall::UnlockWrite),
+    ];
+    let mut states = explore_all(&rt, LockKind::Rw, &programs)?;
+    for program in programs {
+        states = states.saturating_add(explore_with(&rt, LockKind::Rw, program, &others)?);
+    }
+    assert!(rt; states >= 8_000, "{states} states");
+    Ok(())
+}
+
+#[test]
+fn every_schedule_of_deadlines_of_upgradable_holds_keeps_the_rules(
+    rt: HostRuntime,
+) -> Result<(), Fail> {
+    let upgrade = [
+        Some(LockCall::UpgradableRead),
+        Some(LockCall::UpgradeUntil),
+        Some(LockCall::UnlockWrite),
+    ];
+    let wait = two(LockCall::UpgradableUntil, LockCall::UnlockUpgradable);
+    let reader = two(LockCall::Read, LockCall::UnlockRead);
+    let upgrades = explore_with(&rt, LockKind::Rw, upgrade, &[reader])?;
+    let waits = explore_with(&rt, LockKind::Rw, wait, &[wait, reader])?;
+    let states = upgrades.saturating_add(waits);
+    assert!(rt; states >= 3_500, "{states} states");
     Ok(())
 }

@@ -10,11 +10,13 @@ use std::test::Fail;
 
 /// What is done in a world of one lock, or seen of it.
 #[derive(Clone, Copy)]
-enum Line {
+pub enum Line {
     /// A thread makes a call, to its answer or its sleep.
     Calls(usize, LockCall),
     /// The same, fairly.
     CallsFairly(usize, LockCall),
+    /// It begins a call, and makes its first step alone.
+    Begins(usize, LockCall),
     /// A thread goes on, to its answer or its sleep.
     GoesOn(usize),
     /// Its deadline comes.
@@ -23,10 +25,13 @@ enum Line {
     NeverExpires(usize),
     /// What its last call has answered.
     Answered(usize, Option<LockAnswer>),
+    /// What the lock's word is.
     Word(u64),
+    /// Who owns it.
     Owners(&'static [(usize, OwnMode)]),
     /// The lists of the lock's two keys.
     Queues(&'static [usize], &'static [usize]),
+    /// Who is in debt.
     Debts(&'static [usize]),
 }
 
@@ -35,6 +40,7 @@ fn holds(world: &mut World, line: Line) -> bool {
     match line {
         Line::Calls(thread, asked) => call(world, thread, 0, asked, false),
         Line::CallsFairly(thread, asked) => call(world, thread, 0, asked, true),
+        Line::Begins(thread, asked) => { world.run(&[WorldStep::Begin(thread, 0, asked)]).is_ok() }
         Line::GoesOn(thread) => go_on(world, thread, false),
         Line::Expires(thread) => world.run(&[WorldStep::Deadline(thread)]).is_ok(),
         Line::NeverExpires(thread) => world.run(&[WorldStep::Deadline(thread)]) == NO_MOVE,
@@ -49,7 +55,7 @@ fn holds(world: &mut World, line: Line) -> bool {
 }
 
 /// Goes through the lines in a new world of one lock: those of `before`, and then the others.
-fn follow(
+pub fn follow(
     rt: &(impl AllocGlobal + Abort),
     threads: usize,
     kind: LockKind,
@@ -65,13 +71,17 @@ fn follow(
     Ok(())
 }
 
-const OWNED: Option<LockAnswer> = Some(LockAnswer::Owned);
+/// It owns the lock.
+pub const OWNED: Option<LockAnswer> = Some(LockAnswer::Owned);
 
-const TIMED_OUT: Option<LockAnswer> = Some(LockAnswer::TimedOut);
+/// It has given up.
+pub const TIMED_OUT: Option<LockAnswer> = Some(LockAnswer::TimedOut);
 
-const REFUSED: Option<LockAnswer> = Some(LockAnswer::Refused);
+/// Its try was refused.
+pub const REFUSED: Option<LockAnswer> = Some(LockAnswer::Refused);
 
-const RELEASED: Option<LockAnswer> = Some(LockAnswer::Released);
+/// It owns the lock no more.
+pub const RELEASED: Option<LockAnswer> = Some(LockAnswer::Released);
 
 #[test]
 fn a_writer_waits_for_a_reader(rt: HostRuntime) -> Result<(), Fail> {

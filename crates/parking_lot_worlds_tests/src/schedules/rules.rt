@@ -1,6 +1,6 @@
 //! What has to hold whatever the schedule: of every state, of every step, and where no step is left.
 
-use super::program::{End, may_own, may_sleep};
+use super::program::{keeps_out, may_own, may_sleep};
 use super::shown::Shown;
 use super::state::{Progress, Snapshot, Stage, other};
 use parking_lot_worlds::{OwnMode, WorldStep};
@@ -140,15 +140,16 @@ pub fn broken_by_end(threads: [Progress; 2], shown: &Shown) -> Option<&'static s
         (shown.is_at_rest(), "at the end nothing is left to be done"),
         (
             has_ended(threads[0], 0, shown) && has_ended(threads[1], 1, shown),
-            "at the end only a pending writer sleeps",
+            "at the end only those sleep that the other keeps out",
         ),
     ])
 }
 
-/// A thread without a further step has made all its calls, or sleeps as the pending writer.
+/// A thread without a further step has made all its calls, or waits for what the other keeps from it.
 fn has_ended(at: Progress, thread: usize, shown: &Shown) -> bool {
-    match at.end() {
-        End::Served | End::Refused => at.rest[0].is_none(),
-        End::Waits => shown.waits(thread) && shown.mode(thread) == Some(OwnMode::Pending),
+    match (at.stage, shown.mode(other(thread))) {
+        (Stage::Between(_), _) => at.rest[0].is_none(),
+        (Stage::Within(open), Some(owner)) => shown.waits(thread) && keeps_out(owner, open.call),
+        (Stage::Within(_), None) => false,
     }
 }

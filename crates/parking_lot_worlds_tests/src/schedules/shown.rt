@@ -209,12 +209,12 @@ impl Shown {
             || !self.second.is_empty() && self.count(OwnMode::Shared) == 0
     }
 
-    /// Nobody is in debt or waits in the first list, and the word has no bit beside what its owners and a pending writer that waits make.
+    /// Nobody is in debt, and the word is what its owners and those that wait make of it.
     pub fn is_at_rest(&self) -> bool {
-        let (_, second) = parked_bits(self.kind);
-        let waiting = if self.second.is_empty() { 0 } else { second };
+        let (first, second) = parked_bits(self.kind);
+        let waiting_first = if self.first.is_empty() { 0 } else { first };
+        let waiting_second = if self.second.is_empty() { 0 } else { second };
         self.debts.is_empty()
-            && self.first.is_empty()
-            && self.word == self.weight().wrapping_add(waiting)
+            && self.word == self.weight().wrapping_add(waiting_first | waiting_second)
     }
 }

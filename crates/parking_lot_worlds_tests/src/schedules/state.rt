@@ -1,11 +1,15 @@
 //! What states of a world are told apart by.
 
-use super::program::{End, Program, is_timed, may_answer, owned_behind, shares_behind};
+use super::program::{
+    End, Program, is_timed, may_answer, owned_before, owned_behind, shares_behind,
+};
 use super::shown::Shown;
 use parking_lot_core_lot::{Place, ThreadStatus};
 use parking_lot_protocol::{MutexPhase, RwPhase};
 use parking_lot_upgrades::{Hold as KeptHold, UpgradePhase};
-use parking_lot_world::{Call, Core, Hold, LatePhase, QueuePosition, Wakeup};
+use parking_lot_world::{
+    Call, Core, Hold, LatePhase, LateRwPhase, QueuePosition, RwSleeper, Wakeup,
+};
 use parking_lot_worlds::{LockAnswer, LockCall, OwnMode, World, WorldStep};
 
 /// A call that isn't answered, and what was seen since it began.
@@ -67,7 +71,7 @@ impl Open {
     fn may_be_answered(&self, answer: LockAnswer) -> bool {
         let is_so = match answer {
             LockAnswer::Refused => self.met,
-            LockAnswer::TimedOut => self.met && self.first && self.late,
+            LockAnswer::TimedOut => self.met && (self.first || self.second) && self.late,
             _ => true,
         };
         is_so && may_answer(self.call, answer)
@@ -152,8 +156,8 @@ impl Progress {
     fn answered(&self, call: LockCall, answer: LockAnswer) -> Progress {
         if matches!(answer, LockAnswer::Refused | LockAnswer::TimedOut) {
             Progress {
-                stage: Stage::Between(None),
-                shares: 0,
+                stage: Stage::Between(owned_before(call, self.shares)),
+                shares: self.shares,
                 rest: [None; 3],
                 refused: true,
             }
@@ -258,7 +262,55 @@ enum Phase {
     Mutex(MutexPhase),
     Rw(RwPhase),
     Late(LatePhase),
+    LateRw(Tardy),
     Upgrade(Upgradable),
+}
+
+/// Where a call at a reader-writer lock stands whose moment has passed: the number of its case, and where it slept.
+#[derive(Clone, Copy, PartialEq, Eq)]
+struct Tardy {
+    case: u8,
+    simple: Option<RwPhase>,
+    upgradable: Option<Upgradable>,
+}
+
+/// One that slept there.
+fn has_slept(case: u8, sleeper: RwSleeper) -> Tardy {
+    match sleeper {
+        RwSleeper::Simple(core) => Tardy {
+            case,
+            simple: Some(core.phase()),
+            upgradable: None,
+        },
+        RwSleeper::Upgradable(core) => Tardy {
+            case,
+            simple: None,
+            upgradable: Some(Upgradable::of(core.phase())),
+        },
+    }
+}
+
+/// One that is off its list.
+fn is_off(case: u8) -> Tardy {
+    Tardy {
+        case,
+        simple: None,
+        upgradable: None,
+    }
+}
+
+impl Tardy {
+    fn of(phase: LateRwPhase) -> Tardy {
+        match phase {
+            LateRwPhase::Expires(sleeper) => has_slept(0, sleeper),
+            LateRwPhase::Quits(sleeper) => has_slept(1, sleeper),
+            LateRwPhase::Masks => is_off(2),
+            LateRwPhase::Leaves => is_off(3),
+            LateRwPhase::GivesUp => is_off(4),
+            LateRwPhase::LeavesPending(false) => is_off(5),
+            LateRwPhase::LeavesPending(true) => is_off(6),
+        }
+    }
 }
 
 /// Where an upgradable call stands: the number of its case, the call as which it goes on, the word and the count that it looks for, and what its
@@ -323,6 +375,8 @@ impl Upgradable {
             UpgradePhase::UnlockLoads(_) => exchanges(12, 0, 0),
             UpgradePhase::ToShared => exchanges(13, 0, 0),
             UpgradePhase::ToUpgradable => exchanges(14, 0, 0),
+            UpgradePhase::YieldLoads(from) => exchanges(16, 0, u8::from(from)),
+            UpgradePhase::Yields(from, word) => exchanges(17, word, u8::from(from)),
             _ => exchanges(15, 0, 0),
         }
     }
@@ -338,6 +392,7 @@ impl Standing {
             Core::Mutex(core) => Phase::Mutex(core.phase()),
             Core::Rw(core) => Phase::Rw(core.phase()),
             Core::Late(phase) => Phase::Late(phase),
+            Core::LateRw(phase) => Phase::LateRw(Tardy::of(phase)),
             Core::Upgrade(core) => Phase::Upgrade(Upgradable::of(core.phase())),
         };
         Standing(phase, call.others, call.spot)

@@ -4,6 +4,7 @@ use Rattle.parking_lot_core_lot.specs.Machine as lot
 use Rattle.parking_lot_core_lot.specs.Machine.{Machine, machine, return_fault}
 use Rattle.parking_lot_core_lot.specs.Sound.{Sound}
 use Rattle.parking_lot_world.specs.declared.open_call.Call.{Call}
+use Rattle.parking_lot_world.specs.LateActs.{late_key}
 use Rattle.parking_lot_world.specs.Rows.{Rows, State, state}
 use Rattle.parking_lot_world.specs.RowActs.{with_call, with_lot, key_of}
 use Rattle.parking_lot_world.specs.RowFits.{FitsTogether}
@@ -15,9 +16,9 @@ use Rattle.parking_lot_world.proofs.row_machine.RowMachine.come_back.Goals as go
 pub come_back-requires : goal.come_back-requires
 come_back-requires g c =
     record {
-      free = subst (λ k. return_fault (machine c.self.inside.lot) c.args.thread k ≡ None) (sym c.key.ensures)
-          (may_return_there (machine c.self.inside.lot) c.args.thread (key_of c.args.call 0) (ap (λ (m : Rows). (machine m.lot).section) c.self.view_is ∙ c.requires.free)
-          (sleeps_there _ c.self.invariant.0.lots c.args.thread c.args.call (held c.args.thread c.args.call c.self.view_is c.requires.here) c.requires.late c.requires.listed));
+      free = subst (λ k. return_fault (machine c.self.inside.lot) c.args.thread k ≡ None) (sym (c.key.ensures ∙ ap (key_of c.args.call) c.late_list.ensures))
+          (may_return_there (machine c.self.inside.lot) c.args.thread (late_key c.args.call) (ap (λ (m : Rows). (machine m.lot).section) c.self.view_is ∙ c.requires.free)
+          (sleeps_there _ c.self.invariant.0 c.args.thread c.args.call (held c.args.thread c.args.call c.self.view_is c.requires.here) c.requires.late c.requires.listed));
     }
 
 pub index_mut-requires : goal.index_mut-requires
@@ -28,8 +29,8 @@ returns g c =
     let s : State = state c.args.self.now in
     let done : State → Call → Machine → State = λ s next m. with_lot (with_call s c.args.thread next) m in
     ap (λ (m : Rows). done (state m) c.told.result (machine c.come_back.new.lot)) c.self.view_is
-    ∙ ap (done s c.told.result) (c.come_back.ensures.returned ∙ ap (λ (m : Rows). lot.returned (machine m.lot) c.args.thread c.key.result) c.self.view_is ∙ ap (lot.returned s.lot c.args.thread) c.key.ensures)
-    ∙ ap (λ next. done s next (lot.returned s.lot c.args.thread (key_of c.args.call 0))) c.told.ensures
+    ∙ ap (done s c.told.result) (c.come_back.ensures.returned ∙ ap (λ (m : Rows). lot.returned (machine m.lot) c.args.thread c.key.result) c.self.view_is ∙ ap (lot.returned s.lot c.args.thread) (c.key.ensures ∙ ap (key_of c.args.call) c.late_list.ensures))
+    ∙ ap (λ next. done s next (lot.returned s.lot c.args.thread (late_key c.args.call))) c.told.ensures
 
 pub invariant_of-self : goal.invariant_of-self
 invariant_of-self g c = (

@@ -1,6 +1,5 @@
 use Rattle.parking_lot_world.proofs.Calling.{room_set}
-use Rattle.std.proofs.Common.{sym, ap, subst, arith}
-use Rattle.parking_lot_world.specs.declared.seat.LatePhase.{LatePhase}
+use Rattle.std.proofs.Common.{sym, ap, ◌∙◌, subst, arith}
 use Rattle.parking_lot_world.specs.declared.seat.Core.{Core}
 use Rattle.parking_lot_world.specs.Rows.{Rows, state}
 use Rattle.parking_lot_world.specs.RowActs.{with_call}
@@ -13,7 +12,9 @@ pub index_mut-requires : goal.index_mut-requires
 index_mut-requires g c = omega (arith, low c.args.thread c.args.call c.self.view_is c.requires.here, c.self.inside.calls.ok.0)
 
 pub returns : goal.returns
-returns g c = ap (λ (m : Rows). with_call (state m) c.args.thread (record c.args.call { core = Core.Late LatePhase.Expires })) c.self.view_is
+returns g c =
+    ap (λ (m : Rows). with_call (state m) c.args.thread (record c.args.call { core = c.late.result })) c.self.view_is
+    ∙ ap (λ (k : Core). with_call (state c.args.self.now) c.args.thread (record c.args.call { core = k })) c.late.ensures
 
 pub invariant_of-self : goal.invariant_of-self
 invariant_of-self g c = (

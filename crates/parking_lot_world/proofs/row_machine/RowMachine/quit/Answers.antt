@@ -1,5 +1,5 @@
 use Rattle.parking_lot_world.proofs.Calling.{room_set}
-use Rattle.std.proofs.Common.{◌≡◌, Bool, false, cond, Some, sym, ap, ◌∙◌, subst, arith}
+use Rattle.std.proofs.Common.{◌≡◌, ◌||◌, Bool, false, cond, Some, sym, ap, ◌∙◌, subst, arith}
 use Rattle.parking_lot_core_lot.specs.declared.place.Phase.TheVariants as phase
 use Rattle.parking_lot_core_lot.specs.declared.place.Place.TheVariants.{Waiting}
 use Rattle.parking_lot_core_lot.specs.declared.place.Sleep.{Sleep}
@@ -8,7 +8,7 @@ use Rattle.parking_lot_core_lot.specs.Places.{place_at}
 use Rattle.parking_lot_core_lot.specs.Results.{is_left}
 use Rattle.parking_lot_core_lot.specs.Sound.{Sound}
 use Rattle.parking_lot_world.specs.declared.open_call.Call.{Call}
-use Rattle.parking_lot_world.specs.LateActs.{quitted_as}
+use Rattle.parking_lot_world.specs.LateActs.{is_pending, late_key, quitted_as}
 use Rattle.parking_lot_world.specs.Rows.{Rows, State, state}
 use Rattle.parking_lot_world.specs.RowActs.{with_call, with_lot, key_of}
 use Rattle.parking_lot_world.specs.RowFits.{FitsTogether}
@@ -20,10 +20,10 @@ use Rattle.parking_lot_world.proofs.row_machine.RowMachine.quit.Goals as goal
 
 pub quit-left-requires : goal.quit-left-requires
 quit-left-requires g c =
-    let at = stands_there _ c.self.invariant.0.lots c.args.thread c.args.call (held c.args.thread c.args.call c.self.view_is c.requires.here) c.requires.late in
+    let at = stands_there _ c.self.invariant.0 c.args.thread c.args.call (held c.args.thread c.args.call c.self.view_is c.requires.here) c.requires.late in
     record {
-      there = may_quit (machine c.self.inside.lot) c.args.thread (key_of c.args.call 0) at.0 at.1 at.2 at.3 at.4;
-      waits = subst (λ k. (sleep : Sleep) × (place_at (machine c.self.inside.lot).places c.args.thread ≡ Some (Waiting k sleep))) (sym c.key.ensures) (at.4.0, at.4.1);
+      there = may_quit (machine c.self.inside.lot) c.args.thread (late_key c.args.call) at.0 at.1 at.2 at.3 at.4;
+      waits = subst (λ k. (sleep : Sleep) × (place_at (machine c.self.inside.lot).places c.args.thread ≡ Some (Waiting k sleep))) (sym (c.key-key.ensures ∙ ap (key_of c.args.call) c.late_list.ensures)) (at.4.0, at.4.1);
       inside = (at.0, at.1, at.2);
     }
 
@@ -35,11 +35,14 @@ returns g c =
     let s : State = state c.args.self.now in
     let done : State → Call → Machine → State = λ s next m. with_lot (with_call s c.args.thread next) m in
     let out : Machine → _ → Machine = λ m k. in_phase (given_up m c.args.thread k) phase.Ended in
-    let left : Machine → _ → Bool → Machine = λ m k b. cond b (stored (out m k) (sign false)) (out m k) in
+    let left : Machine → _ → Bool → Bool → Machine = λ m k b p. cond (b || p) (stored (out m k) (sign false)) (out m k) in
+    let p : Bool = is_pending c.args.call.core in
+    let is_key = c.key-key.ensures ∙ ap (key_of c.args.call) c.late_list.ensures in
     ap (λ (m : Rows). done (state m) c.told.result (machine c.quit-left.new.lot)) c.self.view_is
-    ∙ ap (done s c.told.result) (c.quit-left.ensures.out ∙ ap (λ (m : Rows). left (machine m.lot) c.key.result c.quit-left.result) c.self.view_is ∙ ap (λ k. left s.lot k c.quit-left.result) c.key.ensures)
-    ∙ ap (λ next. done s next (left s.lot (key_of c.args.call 0) c.quit-left.result)) c.told.ensures
-    ∙ ap (quitted_as s c.args.thread c.args.call) (c.quit-left.ensures.left ∙ ap (λ (m : Rows). is_left ((out (machine m.lot) c.key.result).queues c.key.result)) c.self.view_is ∙ ap (λ k. is_left ((out s.lot k).queues k)) c.key.ensures)
+    ∙ ap (done s c.told.result)
+    (c.quit-left.ensures.out ∙ ap (λ (m : Rows). left (machine m.lot) c.key-key.result c.quit-left.result c.is_pending.result) c.self.view_is ∙ ap (λ k. left s.lot k c.quit-left.result c.is_pending.result) is_key ∙ ap (left s.lot (late_key c.args.call) c.quit-left.result) c.is_pending.ensures)
+    ∙ ap (λ next. done s next (left s.lot (late_key c.args.call) c.quit-left.result p)) c.told.ensures
+    ∙ ap (quitted_as s c.args.thread c.args.call) (c.quit-left.ensures.left ∙ ap (λ (m : Rows). is_left ((out (machine m.lot) c.key-key.result).queues c.key-key.result)) c.self.view_is ∙ ap (λ k. is_left ((out s.lot k).queues k)) is_key)
 
 pub invariant_of-self : goal.invariant_of-self
 invariant_of-self g c = (

@@ -1,0 +1,7 @@
+pub mod Hearing
+pub mod Again
+pub mod Turning
+pub mod Sequences
+pub mod Moves
+pub mod Notifying
+pub mod Replying

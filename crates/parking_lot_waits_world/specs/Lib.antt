@@ -1,0 +1,6 @@
+pub mod Turns
+pub mod Joint
+pub mod Moving
+pub mod JointMoves
+pub mod JointSteps
+pub mod JointLaws

@@ -1,0 +1,11 @@
+//! Laws of a machine's answers.
+ghost use Rattle.parking_lot_waits_world.specs.JointLaws.{RepliesFit};
+
+use parking_lot_condvar_world::laws as of_variables;
+
+/// A wait is answered that its deadline came only if it has one; and a notification says how many it has taken, one at most if it is of one.
+pub fn replies_fit_their_calls()
+    ensures { RepliesFit }
+{
+    of_variables::replies_fit_their_calls();
+}

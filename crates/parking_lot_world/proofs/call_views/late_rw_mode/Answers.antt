@@ -1,0 +1,13 @@
+use Rattle.std.proofs.Common.{sym, ap, ◌∙◌, subst}
+use Rattle.parking_lot_protocol.specs.RwRules as of_rw
+use Rattle.parking_lot_rules.specs.Roles.{Back}
+use Rattle.parking_lot_world.specs.CallViews.{IsLateInOrder, rw_mode}
+use Rattle.parking_lot_world.specs.LateRoles.{late_rw_role, sleeper_role}
+use Rattle.parking_lot_world.specs.Rows.{rw_spot}
+use Rattle.parking_lot_world.proofs.LateKinds.{mode_stays}
+use Rattle.parking_lot_world.proofs.call_views.late_rw_mode.Goals as goal
+
+pub returns-in-Quits : goal.returns-in-Quits
+returns-in-Quits c = λ order us.
+    let k = c.in-Quits.sleeper in
+    c.late_sleeper_mode-in-Quits.ensures (subst IsLateInOrder c.in-Quits.is order) us ∙ sym (mode_stays Back (sleeper_role c.args.others of_rw.Listed us k)) ∙ ap (λ p. rw_mode (late_rw_role c.args.others (rw_spot c.args.spot) us p)) (sym c.in-Quits.is)
