@@ -39,12 +39,13 @@ fn takes(course: &mut Course<NotifyCore>, word: u64, locked: bool, done: UnparkR
     })
 }
 
-/// How many a notification takes that has seen that nobody waits.
+/// How many a notification takes that has seen this word, by which nobody waits.
 #[inline(always)]
-fn nobody(all: bool) -> usize
+fn nobody(word: u64, all: bool) -> usize
+    requires seen { word ≡ 0 }
     ensures { Notified all result }
 {
-    let _ = all;
+    let _ = (word, all);
     0
 }
 
@@ -54,8 +55,9 @@ impl<R: Wait, A: Allocator> RawCondvar<'_, '_, R, A> {
     pub(crate) fn notify(&self, all: bool) -> usize
         ensures { Notified all result }
     {
-        if self.row().load() == 0 {
-            nobody(all)
+        let word = self.row().load();
+        if word == 0 {
+            nobody(word, all)
         } else {
             self.notify_slowly(all)
         }
