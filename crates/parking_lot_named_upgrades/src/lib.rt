@@ -15,10 +15,10 @@ pub use any_lock::{
     any_try_to_upgrade_and_write, any_upgrade_and_write, any_write_and_downgrade,
 };
 pub use number::{
-    Number, NumberReader, NumberUpgrader, NumberWriter, end_fairly, hold_and_look,
-    let_others_first, look_and_downgrade, looked_at_by, try_to_upgrade_and_write,
-    upgrade_and_write, write_and_downgrade,
+    NumberUpgrader, end_fairly, hold_and_look, let_others_first, look_and_downgrade, looked_at_by,
+    try_to_upgrade_and_write, upgrade_and_write, write_and_downgrade,
 };
+pub use parking_lot_named::{Number, NumberReader, NumberWriter};
 pub use recursive::{
     RecursiveNumber, RecursiveReader, RecursiveReview, RecursiveUpgrader, RecursiveWriter,
     recursive_end_fairly, recursive_let_others_first, recursive_look_and_downgrade,

@@ -7,28 +7,12 @@ ghost use Rattle.parking_lot_protocol.specs.declared.act.CoreAnswer.TheVariants.
 ghost use Rattle.parking_lot_upgrades.specs.declared.upgrade_phase.Release.TheVariants.{Fair};
 ghost use Rattle.parking_lot_upgrades.specs.declared.upgrade_phase.UpgradePhase.TheVariants.{Bumping, DowngradingToShared, DowngradingToUpgradable, TryingToUpgrade, Unlocking, Upgrading};
 
-use lock_api::{RwLock, RwLockReadGuard, RwLockUpgradableReadGuard, RwLockWriteGuard};
+use lock_api::{RwLockUpgradableReadGuard, RwLockWriteGuard};
 use parking_lot_core::ThreadData;
 use parking_lot_locks::RawRwLock;
+use parking_lot_named::{Number, NumberReader, NumberWriter};
 use std::alloc::{Allocator, Global};
 use std::sync::Wait;
-
-/// A number behind a reader-writer lock.
-pub type Number<'t, 'l, R, A = Global> = RwLock<RawRwLock<'t, 'l, R, 0, A>, u64>;
-
-/// A guard that reads a [`Number`].
-pub type NumberReader<'m, 't, 'l, R, A = Global> = RwLockReadGuard<
-    'm,
-    RawRwLock<'t, 'l, R, 0, A>,
-    u64,
->;
-
-/// A guard that writes a [`Number`].
-pub type NumberWriter<'m, 't, 'l, R, A = Global> = RwLockWriteGuard<
-    'm,
-    RawRwLock<'t, 'l, R, 0, A>,
-    u64,
->;
 
 /// A guard that reads a [`Number`], and may become one that writes.
 pub type NumberUpgrader<'m, 't, 'l, R, A = Global> = RwLockUpgradableReadGuard<

@@ -5,9 +5,10 @@ ghost use Rattle.parking_lot_runs.specs.Ends.{UpgradeEnded};
 ghost use Rattle.parking_lot_protocol.specs.declared.act.CoreAnswer.TheVariants.{Owned};
 ghost use Rattle.parking_lot_upgrades.specs.declared.upgrade_phase.UpgradePhase.TheVariants.{Bumping, Upgrading};
 
-use crate::number::{Number, NumberUpgrader, NumberWriter};
+use crate::number::NumberUpgrader;
 use lock_api::RwLockUpgradableReadGuard;
 use parking_lot_core::ThreadData;
+use parking_lot_named::{Number, NumberWriter};
 use std::alloc::{Allocator, Global};
 use std::sync::Wait;
 

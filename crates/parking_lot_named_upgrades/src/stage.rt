@@ -6,9 +6,10 @@ ghost use Rattle.parking_lot_protocol.specs.declared.act.CoreAnswer.{CoreAnswer}
 ghost use Rattle.parking_lot_protocol.specs.declared.act.CoreAnswer.TheVariants.{Owned};
 ghost use Rattle.parking_lot_upgrades.specs.declared.upgrade_phase.UpgradePhase.TheVariants.{DowngradingToUpgradable, Upgrading};
 
-use crate::number::{Number, NumberUpgrader, NumberWriter};
+use crate::number::NumberUpgrader;
 use lock_api::{RwLockUpgradableReadGuard, RwLockWriteGuard};
 use parking_lot_core::ThreadData;
+use parking_lot_named::{Number, NumberWriter};
 use std::alloc::{Allocator, Global};
 use std::sync::Wait;
 
