@@ -1,4 +1,4 @@
-//! What it costs to lock and unlock, counted from outside by a tool that counts instructions, and what it costs to wait.
+//! What it costs to lock and unlock by the generic locks, counted from outside by a tool that counts instructions, and what it costs to wait.
 //!
 //! Without arguments it makes one small run of each kind, and prints a line of checksums for the generic locks, one for the
 //! parking lot and one for its locks. The cost of a pair or a call is the difference of two counts, divided by the difference of
@@ -9,21 +9,17 @@
 //!   without a lock `none`. It prints how many pairs found the value that they must find.
 //! - `lot pair ROUNDS` hands a turn to and fro between two threads, by the lot and by condition variables, and prints what one
 //!   turn took of each; `lot empty ROUNDS` unparks the first waiter of a key that has none.
-//! - `locks PAIR PAIRS` locks and unlocks so many times with nobody beside it: `mutex`, `read` and `write` by the raw locks, `upgradable` and
-//!   `upgrade` by their upgradable holds, `read-in-time` and `write-in-time` by their calls that may give up, `guard`, `reader` and `writer` by the generic locks over them, and `std-mutex`, `std-read` and `std-write` by the locks of
-//!   std. `locks turns ROUNDS` has two threads hand each kind of lock to one another, and prints what one turn took.
+//! - `locks turns ROUNDS` has two threads hand each kind of lock to one another, and prints what one turn took.
 #![tactic(auto)]
 
 mod fault;
 mod generic;
-mod locks;
 mod lot;
 mod times;
 mod turns;
 
 use fault::Fault;
 use generic::Kind;
-use locks::Pair;
 use std::alloc::Global;
 use std::env;
 use std::process::ExitCode;
@@ -40,7 +36,6 @@ enum Call {
     Generic(Kind, u64),
     LotPair(u32),
     LotEmpty(u32),
-    Locks(Pair, u32),
     Turns(u32),
 }
 
@@ -57,7 +52,6 @@ fn asked(rt: &HostRuntime) -> Option<Call> {
         ("lot", "pair") => Some(Call::LotPair(rounds)),
         ("lot", "empty") => Some(Call::LotEmpty(rounds)),
         ("locks", "turns") => Some(Call::Turns(rounds)),
-        ("locks", pair) => Some(Call::Locks(Pair::named(pair)?, rounds)),
         _ => None,
     }
 }
@@ -70,10 +64,9 @@ fn told_small<R: Wait + Threads + Clock + Sync + Copy + Drop>(
     let generic = generic::small_run(rt, alloc, u64::from(SMALL))?;
     let (parked, waited) = lot::both_ways(rt, alloc, SMALL)?;
     let fair = lot::fair_turns(rt, alloc, SMALL)?;
-    let words = locks::all_pairs(rt, alloc, SMALL)?;
     let (mutex, lock) = turns::both_ways(rt, alloc, SMALL)?;
     Ok(format!(in alloc;
-        "{generic}\nturns {parked} by parking, {waited} by condvars, {fair} fair\nleft {words}, turns {mutex} by the mutex, {lock} by the lock"
+        "{generic}\nturns {parked} by parking, {waited} by condvars, {fair} fair\nturns {mutex} by the mutex, {lock} by the lock"
     )?)
 }
 
@@ -97,10 +90,6 @@ fn told<R: Wait + Threads + Clock + Sync + Copy + Drop>(
             let fair = lot::fair_turns(rt, alloc, rounds)?;
             Ok(format!(in alloc; "{fair} fair")?)
         }
-        Call::Locks(pair, count) => {
-            let word = locks::pairs_of(rt, alloc, pair, count)?;
-            Ok(format!(in alloc; "word {word}")?)
-        }
         Call::Turns(rounds) => {
             let (mutex, lock) = turns::times_of(rt, alloc, rounds)?;
             Ok(format!(in alloc; "mutex {mutex} ns a turn, lock {lock} ns")?)
@@ -110,9 +99,7 @@ fn told<R: Wait + Threads + Clock + Sync + Copy + Drop>(
 
 fn main(rt: HostRuntime) -> ExitCode {
     let Some(call) = asked(&rt) else {
-        let _ = eprintln!(rt;
-            "generic KIND ROUNDS, lot pair|empty ROUNDS, locks PAIR PAIRS, locks turns ROUNDS"
-        );
+        let _ = eprintln!(rt; "generic KIND ROUNDS, lot pair|empty ROUNDS, locks turns ROUNDS");
         return ExitCode::FAILURE;
     };
     let Ok(lines) = told(rt, rt.alloc(), call) else {
