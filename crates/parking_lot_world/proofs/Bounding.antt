@@ -121,6 +121,7 @@ late_most n LatePhase.Quits = omega arith
 late_most n LatePhase.Masks = omega arith
 late_most n LatePhase.Leaves = omega arith
 late_most n LatePhase.GivesUp = omega arith
+late_most n (LatePhase.WasTaken by handed) = omega arith
 
 quits_most : (n : ℕ) (o : Option Bool) → quits_steps n o ≤ 110 * n + 11
 quits_most n None = omega arith
@@ -133,6 +134,7 @@ sleeper_most n k few (e, r) = by_sleeper (λ k. sleeper_rounds k ≤ 10 → slee
 late_rw_most : (n : ℕ) (p : LateRwPhase) → 1 ≤ n → late_rw_rounds p ≤ 10 → IsGoodLate p → late_rw_steps n Unseen p ≤ 219 * n + 200
 late_rw_most n (LateRwPhase.Expires k) some few good = omega (arith, sleeper_most n k few good, quits_most n (pending_from k))
 late_rw_most n (LateRwPhase.Quits k) some few good = omega (arith, quits_most n (pending_from k))
+late_rw_most n (LateRwPhase.WasTaken k by handed) some few good = omega (arith, sleeper_most n k few good)
 late_rw_most n p some few good = omega arith
 
 pub core_most : (n x : ℕ) (c : Core) → IsGood c x → 1 ≤ n → FewRounds c → taken_count c ≤ n → core_steps n Unseen c ≤ 219 * n + 200
@@ -153,8 +155,7 @@ module _ (s : State) (h : FitsTogether s) where
   some t c here = omega (arith, in_range s t c here)
 
   few : (t : ℕ) (c : Call) → call_at s t ≡ Some c → taken_count c.core ≤ length s.calls
-  few t c here =
-      omega (arith, h.lots.counted t c here, taken_by-count s.wakes t, count_by-le-length (is_by t) s.wakes, h.wakes.room, count_by-le-length is_away s.calls)
+  few t c here = (h.lots.counted t c here).few
 
   far_few : (t : ℕ) (c : Call) → call_at s t ≡ Some c → far_steps (length s.calls) (Some c) ≤ most_steps (length s.calls)
   far_few t c here = core_most (length s.calls) (word_at s c.lock) c.core (is_good s h t c here) (some t c here) (h.rules.begun t c here).few (few t c here)

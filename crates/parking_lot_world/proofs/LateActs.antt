@@ -291,7 +291,7 @@ module _ (s : State) (t : ℕ) (c : Call) (late : comes_late c.core ≡ true) (l
 
   pub returns : (told : ActResult) × Acts t c told s back_state
   returns =
-      let lots = returned_fits s t c (hears c seen.Entered) (bit (is_pending c.core)) come.park h.lots here come.lies come.back refl listed listed (come.none_on ∙ sym come.none) (λ e. absurd (sleep_wakes (sym come.act_on ∙ e))) free in
+      let lots = returned_fits s t c (hears c seen.Entered) (bit (is_pending c.core)) come.park h.lots here come.lies come.back refl listed listed (come.none_on ∙ sym come.none) come.none (λ e. absurd (sleep_wakes (sym come.act_on ∙ e))) free in
       let both = rules_own s back_state t c seen.Entered c.spot own_back h (λ v e ne at. h.rules.knows v e at) back_fitted in (
         seen.Entered,
         record {

@@ -26,7 +26,7 @@ use Rattle.parking_lot_world.specs.declared.late_rw.RwSleeper.{RwSleeper}
 use Rattle.parking_lot_world.specs.declared.seat.Core.{Core}
 use Rattle.parking_lot_world.specs.declared.seat.LatePhase.{LatePhase}
 use Rattle.parking_lot_world.proofs.KindTable.{as_call, rw_call}
-use Rattle.parking_lot_world.proofs.Sleepers.{by_sleeper, ready_sleeper, seeking, sleeps_there, takes_nobody, wanting}
+use Rattle.parking_lot_world.proofs.Sleepers.{by_sleeper, ready_sleeper, seeking, sleeps_there, takes_nobody, wanting, no_hold}
 
 -- THE MOMENT PASSES
 
@@ -212,11 +212,6 @@ mode_stays stay r = go r.owns r.does
     go o (Queued2 was old) = refl
     go o (Taken2 was by old) = refl
     go o p = refl
-
--- it has no other hold
-no_hold : (recursive : Bool) (n : ℕ) (k : RwSleeper) → sleeper_asleep k ≡ true → sleeper_prepared recursive n k → n ≡ 0
-no_hold recursive n k e h =
-    by_sleeper (λ k. sleeper_prepared recursive n k → n ≡ 0) (λ want h. h.1.1) (λ rounds h. h.1) (λ want i h. h.0) (λ rounds h. h.0) k (ready_sleeper recursive n k h) e h
 
 pub sleeper_plays : (recursive : Bool) (n : ℕ) (us : List ℕ) (k : RwSleeper) → sleeper_asleep k ≡ true → sleeper_prepared recursive n k → Plays n us k
 sleeper_plays recursive n us k e h =

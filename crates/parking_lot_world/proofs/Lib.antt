@@ -101,3 +101,9 @@ mod RequeueActs
 mod RequeueMoves
 mod RequeueMays
 mod RequeueCases
+mod Takers
+mod RwPasses
+mod WakesRoom
+mod LotNobody
+mod LateFinds
+mod LateTaken

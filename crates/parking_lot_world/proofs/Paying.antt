@@ -74,10 +74,12 @@ use Rattle.parking_lot_world.proofs.Sleepers.{by_sleeper, ready_sleeper, tardy_t
 -- one that slept is ready
 abbrev pub IsGoodLate : LateRwPhase → Type 0
 IsGoodLate (LateRwPhase.Expires k) = (sleeper_asleep k ≡ true) × IsReadySleeper k
+IsGoodLate (LateRwPhase.WasTaken k by handed) = (sleeper_asleep k ≡ true) × IsReadySleeper k
 IsGoodLate p = Unit {0}
 
 good_late : (recursive : Bool) (n : ℕ) (p : LateRwPhase) → late_rw_prepared recursive n p → IsGoodLate p
 good_late recursive n (LateRwPhase.Expires k) h = (h.0, ready_sleeper recursive n k h.1)
+good_late recursive n (LateRwPhase.WasTaken k by handed) h = (h.0, ready_sleeper recursive n k h.1)
 good_late recursive n p h = tt
 
 -- what the word and the phase are in time
@@ -106,6 +108,15 @@ late_falls n LatePhase.Expires x told v shut gives can = absurd can
 late_falls n LatePhase.Quits x told v shut gives can = absurd can
 late_falls n LatePhase.Masks x (ActResult.Before word) v shut gives can = omega arith
 late_falls n LatePhase.Leaves x ActResult.Made v shut gives can = omega arith
+late_falls n (LatePhase.WasTaken by handed) x ActResult.Made v shut gives can = resumes v handed
+  where
+    resumes : (v : View) (b : Bool) → core_steps n v (Core.Mutex (record { phase = mutex_table.next_phase MutexPhase.Sleeps (seen.Woken (sign b)) })) + 1 ≤ 52
+    resumes Unseen true = omega arith
+    resumes Unseen false = omega arith
+    resumes (Sees word first false) true = omega arith
+    resumes (Sees word first true) true = omega arith
+    resumes (Sees word first false) false = omega arith
+    resumes (Sees word first true) false = omega arith
 late_falls n p x told v shut gives can = absurd gives
 
 late_rw_falls : (n : ℕ) (p : LateRwPhase) (x : ℕ) (told : ActResult) (word first after : ℕ) (shut : Bool) → (late_rw_act p ≡ Act.Section section.Leave → after ≤ n) → Gives (late_rw_act p) x told → Can (late_rw_act p) shut told → core_steps n (Sees word after shut) (late_rw_next p told) + 1 ≤ late_rw_steps n (Sees x first shut) p
@@ -229,6 +240,7 @@ late_first LatePhase.Quits sum k e f = absurd cc
 late_first LatePhase.Masks sum k e f = absurd cc
 late_first LatePhase.Leaves sum k e f = absurd cc
 late_first LatePhase.GivesUp sum k e f = absurd cc
+late_first (LatePhase.WasTaken by handed) sum k e f = absurd cc
 
 seeks_first : (q : RwPhase) (sum k : ℕ) → upgrade_table.seeks_act q ≡ Act.Section (section.TakeNext sum) → seeks_stance q ≡ In k Takes → k ≡ 0
 seeks_first (RwPhase.Scans a) sum k e f = cc
@@ -410,6 +422,7 @@ late_wakes LatePhase.Quits e = cc
 late_wakes LatePhase.Masks e = cc
 late_wakes LatePhase.Leaves e = cc
 late_wakes LatePhase.GivesUp e = cc
+late_wakes (LatePhase.WasTaken by handed) e = cc
 
 late_woken : (n : ℕ) (p : LatePhase) (token : UnparkToken) → core_steps n Unseen (late_next p (seen.Woken token)) + 1 ≤ late_steps p + wake
 late_woken n LatePhase.Expires token = omega (arith, of_mutex.steps_fall.woken MutexPhase.Sleeps token)
@@ -421,6 +434,7 @@ late_ends LatePhase.Quits = omega arith
 late_ends LatePhase.Masks = omega arith
 late_ends LatePhase.Leaves = omega arith
 late_ends LatePhase.GivesUp = omega arith
+late_ends (LatePhase.WasTaken by handed) = omega arith
 
 core_wakes : (n : ℕ) (c : Core) (v : View) (x : ℕ) → IsGood c x → core_act c ≡ Act.Section section.Wake → 1 ≤ taken_count c → core_steps n v (core_next c seen.Made) + wake ≤ core_steps n v c
 core_wakes n (Core.Mutex c) v x good asked some = of_mutex.steps_fall.wakes c.phase v asked
@@ -448,6 +462,7 @@ late_rw_ends n v (LateRwPhase.Quits k) answer e = absurd cc
 late_rw_ends n v LateRwPhase.Masks answer e = omega arith
 late_rw_ends n v LateRwPhase.Leaves answer e = omega arith
 late_rw_ends n v (LateRwPhase.LeavesPending from) answer e = omega arith
+late_rw_ends n v (LateRwPhase.WasTaken k by handed) answer e = omega arith
 
 core_ends : (n : ℕ) (c : Core) (v : View) (answer : CoreAnswer) → core_act c ≡ Act.Done answer → 1 ≤ core_steps n v c
 core_ends n (Core.Mutex c) v answer asked = of_mutex.steps_fall.ends c.phase v answer asked
@@ -462,6 +477,7 @@ sleeper_still n v k (e, r) = by_sleeper (λ k. sleeper_steps n Unseen k ≡ slee
 
 late_rw_stops : (n : ℕ) (p : LateRwPhase) (v : View) → IsGoodLate p → late_rw_steps n Unseen p ≤ late_rw_steps n v p
 late_rw_stops n (LateRwPhase.Expires k) v good = omega (arith, sleeper_still n v k good)
+late_rw_stops n (LateRwPhase.WasTaken k by handed) v good = omega (arith, sleeper_still n v k good)
 late_rw_stops n p v good = omega arith
 
 core_stops : (n x : ℕ) (c : Core) (word first : ℕ) (shut : Bool) → IsGood c x → StopsAt (core_act c) shut → core_steps n Unseen c ≤ core_steps n (Sees word first shut) c
@@ -502,6 +518,8 @@ ends_pay s t c answer here asked =
 late_rw_few : (n word first : ℕ) (shut : Bool) (p : LateRwPhase) → first ≤ n → late_rw_steps n (Sees word first shut) p ≤ late_rw_steps n Unseen p
 late_rw_few n word first shut (LateRwPhase.Expires (RwSleeper.Simple c)) few = omega (arith, of_rw.steps_fall.few n word first shut c.phase few)
 late_rw_few n word first shut (LateRwPhase.Expires (RwSleeper.Upgradable c)) few = omega (arith, of_upgrade.upgrade_steps_fall.few n word first shut c.phase few)
+late_rw_few n word first shut (LateRwPhase.WasTaken (RwSleeper.Simple c) by handed) few = omega (arith, of_rw.steps_fall.few n word first shut c.phase few)
+late_rw_few n word first shut (LateRwPhase.WasTaken (RwSleeper.Upgradable c) by handed) few = omega (arith, of_upgrade.upgrade_steps_fall.few n word first shut c.phase few)
 late_rw_few n word first shut p few = omega arith
 
 own_few : (s : State) → FitsTogether s → (word j : ℕ) (shut : Bool) (c : Core) → IsOfKind (slice_get s.kinds j) c → core_steps (length s.calls) (Sees word (length (s.lot.queues (first_key j))) shut) c ≤ core_steps (length s.calls) Unseen c

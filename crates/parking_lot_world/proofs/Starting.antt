@@ -425,6 +425,7 @@ module _ (s : State) (h : FitsTogether s) (t : ℕ) (c : Call) (here : call_at s
   late_last LatePhase.Quits e asked = absurd cc
   late_last LatePhase.Masks e asked = absurd cc
   late_last LatePhase.Leaves e asked = absurd cc
+  late_last (LatePhase.WasTaken by handed) e asked = absurd cc
 
   module _ (answer : CoreAnswer) where
     last_rw : (k : RwCall) → c.core ≡ rw_call k → core_act (rw_call k) ≡ Act.Done answer → IsRwMove (call_last c.others k) c.lock t s u

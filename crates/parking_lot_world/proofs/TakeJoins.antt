@@ -69,6 +69,7 @@ late_joins LatePhase.Quits k token e = cc
 late_joins LatePhase.Masks k token e = cc
 late_joins LatePhase.Leaves k token e = cc
 late_joins LatePhase.GivesUp k token e = cc
+late_joins (LatePhase.WasTaken by handed) k token e = cc
 
 pub late_takes : (p : LatePhase) (k : ℕ) → late_stance p ≡ In k Takes → ⊥
 late_takes LatePhase.Expires k e = cc
@@ -76,6 +77,7 @@ late_takes LatePhase.Quits k e = cc
 late_takes LatePhase.Masks k e = cc
 late_takes LatePhase.Leaves k e = cc
 late_takes LatePhase.GivesUp k e = cc
+late_takes (LatePhase.WasTaken by handed) k e = cc
 
 module _ (s : State) (t : ℕ) (c : Call) (k : ℕ) (token : ParkToken) (asked : core_act c.core ≡ Act.Section (section.Append token)) (from : stance c.core ≡ In k (Joins token))
     (sound : lot.Sound (appended s t c (key_of c k) token).lot) (h : FitsTogether s) (here : call_at s t ≡ Some c) where

@@ -125,6 +125,7 @@ late_stores LatePhase.Quits e = cc
 late_stores LatePhase.Masks e = cc
 late_stores LatePhase.Leaves e = cc
 late_stores LatePhase.GivesUp e = cc
+late_stores (LatePhase.WasTaken by handed) e = cc
 
 -- the parked bit is off
 masks_word : (x : ℕ) → x < 4 → (mutex_word_of (bit_and x (2 ^ 64 - 3)) ≡ record (mutex_word_of x) { parked = 0 }) × (bit_and x (2 ^ 64 - 3) < 4)
@@ -298,6 +299,7 @@ module _ (s : State) (t : ℕ) (c : Call) (keep : ℕ) (asked : core_act c.core 
   mask_late LatePhase.Quits e asks = absurd cc
   mask_late LatePhase.Leaves e asks = absurd cc
   mask_late LatePhase.GivesUp e asks = absurd cc
+  mask_late (LatePhase.WasTaken by handed) e asks = absurd cc
 
   pub mask_fits : (key : ℕ) → stance c.core ≡ In key Stores → Fitted s mask_then t c before c.core
   mask_fits key from = go c.core refl
