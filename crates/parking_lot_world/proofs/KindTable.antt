@@ -1,5 +1,5 @@
 -- A kind of locks, as the machine shows one; and what a thread does at one lock leaves the other locks as they are.
-use Rattle.std.proofs.Common.{◌≡◌, ◌≢◌, ℕ, ◌+◌, ◌*◌, ◌<◌, ◌⊎◌, inl, inr, cond, List, length, Option, Some, None, slice_get, slice_set, refl, sym, ap, ◌∙◌, arith, eq-eqb}
+use Rattle.std.proofs.Common.{◌≡◌, ◌≢◌, ℕ, ◌+◌, ◌*◌, ◌<◌, ◌⊎◌, inl, inr, cond, List, length, Option, Some, None, slice_get, slice_set, refl, sym, ap, ◌∙◌, arith, eq-eqb, ◌∷◌, Bool, true, false, [], ◌≤◌}
 use Rattle.std.proofs.lemmas.Bool.{ne_eqb}
 use Rattle.std.proofs.lemmas.Option.{none-some, slice_get_within}
 use Rattle.parking_lot_core_lot.specs.Machine.{threads_of}
@@ -9,6 +9,7 @@ use Rattle.parking_lot_rules.specs.Roles.{Asleep as AsleepStill, Late as LateSti
 use Rattle.parking_lot_rules.specs.Classes.{inside as inside_of}
 use Rattle.parking_lot_core_lot.specs.declared.parking.UnparkToken.{UnparkToken}
 use Rattle.parking_lot_protocol.specs.declared.act.ActResult.{ActResult}
+use Rattle.parking_lot_protocol.specs.declared.act.SectionAct.TheVariants as section
 use Rattle.parking_lot_protocol.specs.MutexTable as mutex_table
 use Rattle.parking_lot_protocol.specs.RwTable as rw_table
 use Rattle.parking_lot_upgrades.specs.UpgradeRoles as of_upgrade
@@ -40,6 +41,7 @@ use Rattle.parking_lot_world.specs.RowFits.{IsOfKind, IsOfManner, IsCounted, IsI
 use Rattle.parking_lot_world.specs.Rows.{State, word_at, hold_at, call_at, everybody, taken_by, owned_of, owns_mutex, rw_spot, mutex_spot, first_of_all, mark_of, late_role, rw_role_in, mutex_role_in, rw_core_role, mutex_core_role, mutex_word_of, any_lock, lock_as, lock_at, queue_at, mutex_role}
 use Rattle.parking_lot_world.specs.Stances.{Asleep, core_next, late_next, late_rw_stance, late_stance, lying, mutex_stance, pending_from, quits_as, rw_stance, seeks_stance, sleeper_stance, stance, upgrade_stance, mutex_taken, sign, Out, In, resumed_as, sleeper_asleep}
 use Rattle.parking_lot_world.proofs.Everybody.{all, change-all, get-all, same-all}
+use Rattle.parking_lot_protocol.specs.declared.act.Act.{Act}
 
 -- What the machine shows of a kind of locks. C is the core of a call at one, R what a thread is to it, and L the lock of the rules. A thread is
 -- what its call's core plays, beside so many other holds, at that place in the lists, with those taken; and else what it owns makes it.
