@@ -146,13 +146,13 @@ module _ (s : State) (h : FitsTogether s) where
 
   -- whom it has taken are as many as its phase says, where it doesn't wake them
   pub exact : (t : ℕ) (c : Call) (k : MutexCore) → c.core ≡ Core.Mutex k → call_at s t ≡ Some c → (mutex_table.act_of k.phase ≡ Act.Section section.Wake → ⊥) → length (taken_by s.wakes t) ≡ mutex_taken k.phase
-  exact t c k e here no = mutex_exact (length s.calls) (length (taken_by s.wakes t)) k (subst (IsCounted (length s.calls) (length (taken_by s.wakes t))) e (h.lots.counted t c here)) no
+  exact t c k e here awake = mutex_exact (length s.calls) (length (taken_by s.wakes t)) k (subst (IsCounted (length s.calls) (length (taken_by s.wakes t))) e (h.lots.counted t c here)) awake
 
   -- thread t plays the part of its call's phase
   pub plays : (t : ℕ) (c : Call) (k : MutexCore) → c.core ≡ Core.Mutex k → call_at s t ≡ Some c → (mutex_table.act_of k.phase ≡ Act.Section section.Wake → ⊥) → Plays (mutex_at s c.lock) (word_at s c.lock) t (of_mutex.role (mutex_spot c.spot) (first_of_all (taken_by s.wakes t)) k.phase)
-  plays t c k e here no =
+  plays t c k e here awake =
       let kind_is = subst (IsOfKind (slice_get s.kinds c.lock)) e (h.rules.kinds t c here) in
-      record { sound = mutex_sound c.lock kind_is; word = sym (words.forth (word_at s c.lock) (h.rules.bits c.lock kind_is)); here = in_its_place of_mutexes s t c (Plain k) (in_range s t c here) here e ∙ ap Some (role_by (mutex_spot c.spot) (taken_by s.wakes t) k.phase (exact t c k e here no)) }
+      record { sound = mutex_sound c.lock kind_is; word = sym (words.forth (word_at s c.lock) (h.rules.bits c.lock kind_is)); here = in_its_place of_mutexes s t c (Plain k) (in_range s t c here) here e ∙ ap Some (role_by (mutex_spot c.spot) (taken_by s.wakes t) k.phase (exact t c k e here awake)) }
 
   -- and so does one whose moment has passed
   pub plays_late : (t : ℕ) (c : Call) (p : LatePhase) → c.core ≡ Core.Late p → call_at s t ≡ Some c → Plays (mutex_at s c.lock) (word_at s c.lock) t (late_role (mutex_spot c.spot) p)

@@ -66,6 +66,8 @@ module _ (m : rules.Mutex) (t u : ℕ) (us vs : List ℕ) (said : WakeResult) (s
       ap (λ b. rules.doing (rules.Taken by (mark_of (cond b said WakeResult.Nothing)) Late)) (eq-eqb by t (opener m t u by us (rules.doing (rules.Taken by Open Late)) sound here there refl))
   tells_late (QueuePosition.Off by WakeResult.TryAgain) LatePhase.Expires there = refl
   tells_late (QueuePosition.Off by WakeResult.HandedOver) LatePhase.Expires there = refl
+  tells_late at (LatePhase.WasTaken by true) there = refl
+  tells_late at (LatePhase.WasTaken by false) there = refl
   tells_late at p there = refl
 
   pub tells_call : (at : QueuePosition) (k : MutexCall) → slice_get m.roles u ≡ Some (mutex_plays at vs k) → mutex_plays (settled_spot t said at) vs k ≡ rules.settle (mark_of said) (mutex_plays at vs k)

@@ -144,28 +144,28 @@ is_wakes p = false
 
 -- while it doesn't wake them they are as many as it counts
 rw_exact : (n : ℕ) (p : RwPhase) → is_wakes p ≡ false → n ≤ stances.rw_taken p → (IsInside (stances.rw_stance p) → n ≡ stances.rw_taken p) → n ≡ stances.rw_taken p
-rw_exact n (RwPhase.ClearWriterParked rest took) no most all = all tt
-rw_exact n (RwPhase.LeaveWriterWakeSection rest took) no most all = all tt
-rw_exact n (RwPhase.Scans a) no most all = all tt
-rw_exact n (RwPhase.Stores a left) no most all = all tt
-rw_exact n (RwPhase.Leaves rest count handed) no most all = all tt
-rw_exact n (RwPhase.Wakes rest count) no most all = absurd cc
-rw_exact n p no most all = omega (arith, most)
+rw_exact n (RwPhase.ClearWriterParked rest took) awake most all = all tt
+rw_exact n (RwPhase.LeaveWriterWakeSection rest took) awake most all = all tt
+rw_exact n (RwPhase.Scans a) awake most all = all tt
+rw_exact n (RwPhase.Stores a left) awake most all = all tt
+rw_exact n (RwPhase.Leaves rest count handed) awake most all = all tt
+rw_exact n (RwPhase.Wakes rest count) awake most all = absurd cc
+rw_exact n p awake most all = omega (arith, most)
 
 rw_stand : (recursive : Bool) (n : ℕ) (us : List ℕ) (p : RwPhase) → rw_keeps recursive n p → length us ≤ stances.rw_taken p → (IsInside (stances.rw_stance p) → length us ≡ stances.rw_taken p) → count_shared p ≤ 2 ^ 17 → rw_prepared recursive n us p
 rw_stand recursive n us (RwPhase.Wakes rest count) h most all few = tt
 rw_stand recursive n us p h most all few = calls_keep.prepared recursive n us p h (rw_exact (length us) p refl most all) few
 
-frees_stand : (us : List ℕ) (r : Release) (q : RwPhase) → IsOfWorld (UpgradePhase.Frees r (record { phase = q })) × upgrade_keeps (UpgradePhase.Frees r (record { phase = q })) → length us ≤ stances.rw_taken q → (IsInside (stances.rw_stance q) → length us ≡ stances.rw_taken q) → upgrade_shared (UpgradePhase.Frees r (record { phase = q })) ≤ 2 ^ 17 → upgrade_prepared us (UpgradePhase.Frees r (record { phase = q }))
+frees_stand : (us : List ℕ) (r : Release) (q : RwPhase) → IsOfWorld (UpgradePhase.Frees r (record { phase = q })) → length us ≤ stances.rw_taken q → (IsInside (stances.rw_stance q) → length us ≡ stances.rw_taken q) → upgrade_shared (UpgradePhase.Frees r (record { phase = q })) ≤ 2 ^ 17 → upgrade_prepared us (UpgradePhase.Frees r (record { phase = q }))
 frees_stand us r (RwPhase.Wakes rest count) h most all few = tt
 frees_stand us r q h most all few = upgrades_keep.prepared us (UpgradePhase.Frees r (record { phase = q })) h (rw_exact (length us) q refl most all) few
 
-owes_stand : (us : List ℕ) (kept : hold_type.Hold) (end : CoreAnswer) (q : RwPhase) → IsOfWorld (UpgradePhase.Owes kept end (record { phase = q })) × upgrade_keeps (UpgradePhase.Owes kept end (record { phase = q })) → length us ≤ stances.rw_taken q → (IsInside (stances.rw_stance q) → length us ≡ stances.rw_taken q) → upgrade_shared (UpgradePhase.Owes kept end (record { phase = q })) ≤ 2 ^ 17 → upgrade_prepared us (UpgradePhase.Owes kept end (record { phase = q }))
+owes_stand : (us : List ℕ) (kept : hold_type.Hold) (end : CoreAnswer) (q : RwPhase) → IsOfWorld (UpgradePhase.Owes kept end (record { phase = q })) → length us ≤ stances.rw_taken q → (IsInside (stances.rw_stance q) → length us ≡ stances.rw_taken q) → upgrade_shared (UpgradePhase.Owes kept end (record { phase = q })) ≤ 2 ^ 17 → upgrade_prepared us (UpgradePhase.Owes kept end (record { phase = q }))
 owes_stand us kept end (RwPhase.Wakes rest count) h most all few = tt
 owes_stand us kept end q h most all few = upgrades_keep.prepared us (UpgradePhase.Owes kept end (record { phase = q })) h (rw_exact (length us) q refl most all) few
 
-upgrade_stand : (us : List ℕ) (p : UpgradePhase) → IsOfWorld p × upgrade_keeps p → length us ≤ stances.upgrade_taken p → (IsInside (stances.upgrade_stance p) → length us ≡ stances.upgrade_taken p) → upgrade_shared p ≤ 2 ^ 17 → upgrade_prepared us p
-upgrade_stand us (UpgradePhase.Plain core) h most all few = absurd h.0
+upgrade_stand : (us : List ℕ) (p : UpgradePhase) → IsOfWorld p → length us ≤ stances.upgrade_taken p → (IsInside (stances.upgrade_stance p) → length us ≡ stances.upgrade_taken p) → upgrade_shared p ≤ 2 ^ 17 → upgrade_prepared us p
+upgrade_stand us (UpgradePhase.Plain core) h most all few = absurd h
 upgrade_stand us (UpgradePhase.Seeks core) h most all few = tt
 upgrade_stand us (UpgradePhase.Drains core) h most all few = tt
 upgrade_stand us (UpgradePhase.Frees r core) h most all few = frees_stand us r core.phase h most all few

@@ -37,14 +37,7 @@ not_taken false y more e = refl
 module _ (s : State) (h : FitsTogether s) (t : ℕ) (c : Call) (here : call_at s t ≡ Some c) where
   -- few are to be woken
   few : taken_count c.core < 2 ^ 17
-  few =
-      let count : length (taken_by s.wakes t) ≡ taken_count c.core = h.lots.counted t c here in
-      let own : length (taken_by s.wakes t) ≡ count_by (is_by t) s.wakes = taken_by-count s.wakes t in
-      let all : count_by (is_by t) s.wakes ≤ length s.wakes = count_by-le-length (is_by t) s.wakes in
-      let room : length s.wakes ≡ count_by is_away s.calls = h.wakes.room in
-      let away : count_by is_away s.calls ≤ length s.calls = count_by-le-length is_away s.calls in
-      let small : length s.calls < 2 ^ 17 = h.rules.small in
-      omega arith
+  few = let counted = h.lots.counted t c here in omega (arith, counted.few, h.rules.small)
 
   pub scans_have_room : (k nth : ℕ) (w : Waiter) → stance c.core ≡ In k Takes → slice_get (s.lot.queues (key_of c k)) nth ≡ Some w → asks (core_act c.core) w.token.0 ≡ Unpark → Counts c.core w.token
   scans_have_room k nth w from at wanted = by_core c.core refl
