@@ -104,6 +104,7 @@ mod RequeueCases
 mod Takers
 mod RwPasses
 mod WakesRoom
+mod WakesNobody
 mod LotNobody
 mod LateFinds
 mod LateTaken

@@ -1,5 +1,5 @@
 -- A thread in a call at a lock of the machine, as one lock sees it.
-use Rattle.std.proofs.Common.{◌≡◌, ℕ, ◌+◌, ◌*◌, ◌<◌, ◌≤◌, ◌^◌, inl, inr, ◌==◌, cond, Bool, true, false, List, length, Option, Some, None, slice_get, refl, sym, ap, ◌∙◌, subst, arith}
+use Rattle.std.proofs.Common.{◌≡◌, ℕ, ◌+◌, ◌*◌, ◌<◌, ◌≤◌, ◌^◌, inl, inr, ◌==◌, cond, Bool, true, false, List, length, Option, Some, None, slice_get, refl, sym, ap, ◌∙◌, subst, arith, [], ◌∷◌}
 use Rattle.std.proofs.lemmas.Bool.{cases_lt}
 use Rattle.std.proofs.lemmas.Option.{none-some, slice_get_past}
 use Rattle.std.proofs.lemmas.List.{length-map}
@@ -44,6 +44,8 @@ use Rattle.parking_lot_world.specs.declared.late_rw.LateRwPhase.{LateRwPhase}
 use Rattle.parking_lot_world.specs.declared.late_rw.RwSleeper.{RwSleeper}
 use Rattle.parking_lot_world.specs.LateRoles.{late_rw_role}
 use Rattle.parking_lot_protocol.specs.declared.act.Act.{Act}
+use Rattle.parking_lot_protocol.specs.declared.mutex_phase.Giving.{Giving}
+use Rattle.parking_lot_protocol.specs.declared.mutex_phase.MutexPhase.{MutexPhase}
 
 -- who is in a call is a thread of the machine
 pub in_range : (s : State) (t : ℕ) (c : Call) → call_at s t ≡ Some c → t < length s.calls
@@ -153,6 +155,13 @@ module _ (s : State) (h : FitsTogether s) where
   plays t c k e here awake =
       let kind_is = subst (IsOfKind (slice_get s.kinds c.lock)) e (h.rules.kinds t c here) in
       record { sound = mutex_sound c.lock kind_is; word = sym (words.forth (word_at s c.lock) (h.rules.bits c.lock kind_is)); here = in_its_place of_mutexes s t c (Plain k) (in_range s t c here) here e ∙ ap Some (role_by (mutex_spot c.spot) (taken_by s.wakes t) k.phase (exact t c k e here awake)) }
+
+  -- one that is to wake somebody waits for just that one
+  pub plays_waking : (t : ℕ) (c : Call) (g : Giving) (k : MutexCore) → c.core ≡ Core.Mutex (record k { phase = MutexPhase.Wakes g }) → call_at s t ≡ Some c → (v : ℕ) → taken_by s.wakes t ≡ v ∷ []
+      → Plays (mutex_at s c.lock) (word_at s c.lock) t (of_mutex.role (mutex_spot c.spot) v (MutexPhase.Wakes g))
+  plays_waking t c g k e here v one =
+      let kind_is = subst (IsOfKind (slice_get s.kinds c.lock)) e (h.rules.kinds t c here) in
+      record { sound = mutex_sound c.lock kind_is; word = sym (words.forth (word_at s c.lock) (h.rules.bits c.lock kind_is)); here = in_its_place of_mutexes s t c (Plain (record k { phase = MutexPhase.Wakes g })) (in_range s t c here) here e ∙ ap (λ us. Some (mutex.doing (mutex.Wakes us))) one }
 
   -- and so does one whose moment has passed
   pub plays_late : (t : ℕ) (c : Call) (p : LatePhase) → c.core ≡ Core.Late p → call_at s t ≡ Some c → Plays (mutex_at s c.lock) (word_at s c.lock) t (late_role (mutex_spot c.spot) p)
