@@ -105,6 +105,7 @@ mod Takers
 mod RwPasses
 mod WakesRoom
 mod WakesNobody
+mod TakersOut
 mod LotNobody
 mod LateFinds
 mod LateTaken

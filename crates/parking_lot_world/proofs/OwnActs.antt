@@ -29,7 +29,7 @@ use Rattle.parking_lot_protocol.specs.MutexRules as of_mutex
 use Rattle.parking_lot_world.specs.MutexLaws.{is_own}
 use Rattle.parking_lot_world.proofs.MutexMoving.{steps}
 use Rattle.parking_lot_world.proofs.KindTable.{Late, Plain, RwCall, Simple, Upgradable, next_is, of_mutexes, of_rws, rw_call, rw_next, same, Tardy, role_by}
-use Rattle.parking_lot_world.proofs.Making.{Crossed, TellsOf, made, mutex_goes, rw_goes}
+use Rattle.parking_lot_world.proofs.Making.{Crossed, TellsOf, made, mutex_goes, rw_goes, IsSoundState}
 use Rattle.parking_lot_world.proofs.Meeting.{meets, plays, plays_late, rw_hears, exact}
 use Rattle.parking_lot_world.proofs.OwnMoves.{AfterAct, IsOwnAct, own_some}
 use Rattle.parking_lot_world.proofs.RwCalls.{as_move, call_hears, call_learns, call_move, call_own, own_wants}
@@ -44,9 +44,9 @@ use Rattle.parking_lot_world.proofs.Stancing.{leads_by}
 
 -- NOBODY IS INSIDE
 
-module _ (s : State) (h : FitsTogether s) (free : inside s ≡ None) where
+module _ (s : State) (sound : IsSoundState s) (free : inside s ≡ None) where
   nobody_at : (i u : ℕ) (k : Key) → any_inside (lock_at s i) k u ≢ 1
-  nobody_at i u k e = none-some u (sym free ∙ h.rules.sound.entered i k u e)
+  nobody_at i u k e = none-some u (sym free ∙ sound.entered i k u e)
 
   at_most : (l : AnyLock) (u : ℕ) (k : Key) → any_inside l k u ≤ 1
   at_most l u First = omega (arith, (any_are_rules (λ i. false)).one l u)
@@ -55,14 +55,24 @@ module _ (s : State) (h : FitsTogether s) (free : inside s ≡ None) where
   none_inside : (i u : ℕ) (k : Key) (o : Option Manner) → manner_of (slice_get s.kinds i) ≡ o → any_inside (lock_as o s i) k u ≡ 0
   none_inside i u k o e = omega (arith, at_most (lock_as o s i) u k, λ (x : any_inside (lock_as o s i) k u ≡ 1). nobody_at i u k (ap (λ q. any_inside (lock_as q s i) k u) e ∙ x))
 
+  pub sound_first : (i : ℕ) → manner_of (slice_get s.kinds i) ≡ Some AsRw → NobodyIs Inside1 (rw_lock_at s i).roles
+  sound_first i e u r at = sym (ap (weighs Inside1) at) ∙ none_inside i u First (Some AsRw) e
+
+  pub sound_second : (i : ℕ) → manner_of (slice_get s.kinds i) ≡ Some AsRw → NobodyIs Inside2 (rw_lock_at s i).roles
+  sound_second i e u r at = sym (ap (weighs Inside2) at) ∙ none_inside i u Second (Some AsRw) e
+
+  pub sound_in_mutex : (i : ℕ) → manner_of (slice_get s.kinds i) ≡ Some AsMutex → (u : ℕ) (r : mutex.Role) → slice_get (mutex_at s i).roles u ≡ Some r → mutex.weight mutex.Inside r ≡ 0
+  sound_in_mutex i e u r at = sym (ap (at_index (mutex.weight mutex.Inside)) at) ∙ none_inside i u First (Some AsMutex) e
+
+module _ (s : State) (h : FitsTogether s) (free : inside s ≡ None) where
   pub nobody_first : (i : ℕ) → manner_of (slice_get s.kinds i) ≡ Some AsRw → NobodyIs Inside1 (rw_lock_at s i).roles
-  nobody_first i e u r at = sym (ap (weighs Inside1) at) ∙ none_inside i u First (Some AsRw) e
+  nobody_first = sound_first s h.rules.sound free
 
   pub nobody_second : (i : ℕ) → manner_of (slice_get s.kinds i) ≡ Some AsRw → NobodyIs Inside2 (rw_lock_at s i).roles
-  nobody_second i e u r at = sym (ap (weighs Inside2) at) ∙ none_inside i u Second (Some AsRw) e
+  nobody_second = sound_second s h.rules.sound free
 
   pub nobody_in_mutex : (i : ℕ) → manner_of (slice_get s.kinds i) ≡ Some AsMutex → (u : ℕ) (r : mutex.Role) → slice_get (mutex_at s i).roles u ≡ Some r → mutex.weight mutex.Inside r ≡ 0
-  nobody_in_mutex i e u r at = sym (ap (at_index (mutex.weight mutex.Inside)) at) ∙ none_inside i u First (Some AsMutex) e
+  nobody_in_mutex = sound_in_mutex s h.rules.sound free
 
 no_start : false ≡ true → ⊥
 no_start e = both_ways false refl e

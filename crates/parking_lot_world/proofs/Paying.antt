@@ -15,10 +15,10 @@ use Rattle.parking_lot_world.specs.declared.seat.LatePhase.{LatePhase}
 use Rattle.parking_lot_world.specs.declared.seat.Core.{Core}
 use Rattle.parking_lot_world.specs.declared.open_call.Call.{Call}
 use Rattle.parking_lot_world.specs.Rows.{State, word_at, call_at, first_key, inside, rw_lock_at, taken_by, rw_role_at}
-use Rattle.parking_lot_world.specs.Stances.{core_act, core_next, late_act, late_next, late_stance, mutex_stance, rw_stance, seeks_stance, upgrade_stance, Doing, Joins, In, Takes, sign, stance, core_tells, Out, taken_count, late_rw_act, late_rw_next, sleeper_asleep}
+use Rattle.parking_lot_world.specs.Stances.{core_act, core_next, late_act, late_next, late_stance, mutex_stance, rw_stance, seeks_stance, upgrade_stance, Doing, Joins, In, Takes, sign, stance, core_tells, Out, taken_count, late_rw_act, late_rw_next, sleeper_asleep, resumed_as}
 use Rattle.parking_lot_world.specs.RowFits.{FitsTogether, IsOfKind, IsOfWorld, IsPrepared, IsOfManner, late_rw_prepared}
 use Rattle.parking_lot_world.specs.RankLaws.{Can, Leaves, StopsAt}
-use Rattle.parking_lot_world.specs.Ranks.{Sees, core_steps, late_steps, far_steps, is_shut_to, own_steps, view_of, Pays, View, Unseen, wake, cost, Costs, AnyMayBeStepped, late_rw_steps, sleeper_steps}
+use Rattle.parking_lot_world.specs.Ranks.{Sees, core_steps, late_steps, far_steps, is_shut_to, own_steps, view_of, Pays, View, Unseen, wake, cost, Costs, AnyMayBeStepped, late_rw_steps, sleeper_steps, rw_steps, upgrade_steps}
 use Rattle.parking_lot_world.proofs.Ruling.{same_kind}
 use Rattle.parking_lot_world.proofs.Meeting.{meets, in_range, rw_sound}
 use Rattle.parking_lot_world.proofs.KindTable.{Simple, Upgradable, of_rws}
@@ -40,7 +40,7 @@ use Rattle.parking_lot_protocol.specs.declared.rw_phase.RwPhase.{RwPhase}
 use Rattle.parking_lot_core_lot.specs.Lists.{updated}
 use Rattle.parking_lot_world.specs.declared.seat.WakeResult.{WakeResult}
 use Rattle.parking_lot_world.specs.StanceLaws.{LeavesFor}
-use Rattle.parking_lot_world.specs.RowActs.{key_of, with_word, with_call, hears, settled, off_list, told_of, loaded, exchanged, added, masked, spun, entered, checked, appended, took, took_nobody, told_all, left, answered, begun, woke}
+use Rattle.parking_lot_world.specs.RowActs.{key_of, with_word, with_call, hears, settled, off_list, told_of, loaded, exchanged, added, masked, spun, entered, checked, appended, took, took_nobody, told_all, left, answered, begun, woke, woke_nobody}
 use Rattle.parking_lot_world.proofs.Acting.{has_word, word-here, still_inside}
 use Rattle.parking_lot_world.proofs.Calling.{call_of, call-here}
 use Rattle.parking_lot_world.proofs.LotActs.{seat_of}
@@ -119,22 +119,36 @@ late_falls n (LatePhase.WasTaken by handed) x ActResult.Made v shut gives can = 
     resumes (Sees word first true) false = omega arith
 late_falls n p x told v shut gives can = absurd gives
 
-late_rw_falls : (n : ℕ) (p : LateRwPhase) (x : ℕ) (told : ActResult) (word first after : ℕ) (shut : Bool) → (late_rw_act p ≡ Act.Section section.Leave → after ≤ n) → Gives (late_rw_act p) x told → Can (late_rw_act p) shut told → core_steps n (Sees word after shut) (late_rw_next p told) + 1 ≤ late_rw_steps n (Sees x first shut) p
-late_rw_falls n (LateRwPhase.Expires k) x told word first after shut few gives can = absurd can
-late_rw_falls n (LateRwPhase.Quits k) x told word first after shut few gives can = absurd can
-late_rw_falls n LateRwPhase.Masks x (ActResult.Before seen) word first after shut few gives can = omega arith
-late_rw_falls n LateRwPhase.Leaves x ActResult.Made word first after shut few gives can = omega arith
-late_rw_falls n (LateRwPhase.LeavesPending from) x ActResult.Made word first after shut few gives can = omega (arith, found shut)
+-- what one sees doesn't count while it sleeps
+sleeper_still : (n : ℕ) (v w : View) (k : RwSleeper) → IsReadySleeper k → sleeper_asleep k ≡ true → sleeper_steps n v k ≡ sleeper_steps n w k
+sleeper_still n v w k r e = by_sleeper (λ k. sleeper_steps n v k ≡ sleeper_steps n w k) (λ want. refl) (λ rounds. refl) (λ want i. refl) (λ rounds. refl) k r e
+
+-- one that was taken goes on as one that was woken
+tardy_resumes : (n word after x first : ℕ) (shut : Bool) (k : RwSleeper) (handed : Bool) → sleeper_asleep k ≡ true → IsReadySleeper k → after ≤ n → core_steps n (Sees word after shut) (resumed_as (sleeper_asleep k) k handed) + 1 ≤ sleeper_steps n (Sees x first shut) k + wake
+tardy_resumes n word after x first shut (RwSleeper.Simple c) handed slept ready few =
+    subst (λ b. core_steps n (Sees word after shut) (resumed_as b (RwSleeper.Simple c) handed) + 1 ≤ rw_steps n (Sees x first shut) c.phase + wake) (sym slept)
+    (omega (arith, of_rw.steps_fall.few n word after shut (rw_table.next_phase c.phase (seen.Woken (sign handed))) few, of_rw.steps_fall.woken n c.phase (sign handed), sleeper_still n Unseen (Sees x first shut) (RwSleeper.Simple c) ready slept))
+tardy_resumes n word after x first shut (RwSleeper.Upgradable c) handed slept ready few =
+    subst (λ b. core_steps n (Sees word after shut) (resumed_as b (RwSleeper.Upgradable c) handed) + 1 ≤ upgrade_steps n (Sees x first shut) c.phase + wake) (sym slept)
+    (omega (arith, of_upgrade.upgrade_steps_fall.few n word after shut (upgrade_table.next_phase c.phase (seen.Woken (sign handed))) few, of_upgrade.upgrade_steps_fall.woken n c.phase (sign handed) ready.0 ready.1, sleeper_still n Unseen (Sees x first shut) (RwSleeper.Upgradable c) ready slept))
+
+late_rw_falls : (n : ℕ) (p : LateRwPhase) (x : ℕ) (told : ActResult) (word first after : ℕ) (shut : Bool) → IsGoodLate p → (late_rw_act p ≡ Act.Section section.Leave → after ≤ n) → Gives (late_rw_act p) x told → Can (late_rw_act p) shut told → core_steps n (Sees word after shut) (late_rw_next p told) + 1 ≤ late_rw_steps n (Sees x first shut) p
+late_rw_falls n (LateRwPhase.Expires k) x told word first after shut good few gives can = absurd can
+late_rw_falls n (LateRwPhase.Quits k) x told word first after shut good few gives can = absurd can
+late_rw_falls n LateRwPhase.Masks x (ActResult.Before seen) word first after shut good few gives can = omega arith
+late_rw_falls n LateRwPhase.Leaves x ActResult.Made word first after shut good few gives can = omega arith
+late_rw_falls n (LateRwPhase.LeavesPending from) x ActResult.Made word first after shut good few gives can = omega (arith, found shut)
   where
     found : (b : Bool) → cond b n after ≤ n
     found true = omega arith
     found false = few refl
-late_rw_falls n p x told word first after shut few gives can = absurd gives
+late_rw_falls n (LateRwPhase.WasTaken k by handed) x ActResult.Made word first after shut good few gives can = tardy_resumes n word after x first shut k handed good.0 good.1 (few refl)
+late_rw_falls n p x told word first after shut good few gives can = absurd gives
 
 pub core_falls : (n : ℕ) (c : Core) (x : ℕ) (told : ActResult) (first after : ℕ) (shut : Bool) → IsGood c x → (core_act c ≡ Act.Section section.Leave → IsOfManner (Some AsRw) c → after ≤ n) → Gives (core_act c) x told → Can (core_act c) shut told → Leaves (core_act c) told first after
     → core_steps n (Sees (word_after (core_act c) told x) after shut) (core_next c told) + 1 ≤ core_steps n (Sees x first shut) c
 core_falls n (Core.Mutex k) x told first after shut good few gives can leaves = of_mutex.steps_fall.falls k.phase told x first after shut good gives can
-core_falls n (Core.LateRw p) x told first after shut good few gives can leaves = late_rw_falls n p x told (word_after (late_rw_act p) told x) first after shut (λ e. few e refl) gives can
+core_falls n (Core.LateRw p) x told first after shut good few gives can leaves = late_rw_falls n p x told (word_after (late_rw_act p) told x) first after shut good (λ e. few e refl) gives can
 core_falls n (Core.Late p) x told first after shut good few gives can leaves = late_falls n p x told (Sees (word_after (late_act p) told x) after shut) shut gives can
 core_falls n (Core.Rw k) x told first after shut good few gives can leaves = of_rw.steps_fall.falls n k.phase told x first after shut good.0 good.1 gives can leaves
 core_falls n (Core.Upgrade k) x told first after shut good few gives can leaves = of_upgrade.upgrade_steps_fall.falls n k.phase told x first after shut good.0 good.1 good.2 gives can leaves
@@ -498,6 +512,13 @@ wakes_pay s t c v d token h here there asked =
     pays s u t 108 c (hears c seen.Made) here (call-within news t (Some (hears c seen.Made)) (subst (λ m. t < m) (sym (length-set s.calls v (Some e))) (in_range s t c here)))
     (length-set news t (Some (hears c seen.Made)) ∙ length-set s.calls v (Some e))
     (omega (arith, others_same n news t (Some (hears c seen.Made)), others_change n s.calls t v 108 (Some e) (omega (arith, core_woken n d.core token (word_at s d.lock) (is_good s h v d there), ap (far_steps n) there))))
+    (omega (arith, core_wakes n c.core (view_of s t c) (word_at s c.lock) (is_good s h t c here) asked (h.lots.wakeful t c here asked)))
+
+pub nobody_pays : (s : State) (t : ℕ) (c : Call) → FitsTogether s → call_at s t ≡ Some c → core_act c.core ≡ Act.Section section.Wake → Pays t s (woke_nobody s t c)
+nobody_pays s t c h here asked =
+    let n = length s.calls in
+    let d = hears c seen.Made in
+    pays s (woke_nobody s t c) t 0 c d here (call-within s.calls t (Some d) (in_range s t c here)) (length-set s.calls t (Some d)) (omega (arith, others_same n s.calls t (Some d)))
     (omega (arith, core_wakes n c.core (view_of s t c) (word_at s c.lock) (is_good s h t c here) asked (h.lots.wakeful t c here asked)))
 
 pub ends_pay : (s : State) (t : ℕ) (c : Call) (answer : CoreAnswer) → call_at s t ≡ Some c → core_act c.core ≡ Act.Done answer → Pays t s (answered s t c)

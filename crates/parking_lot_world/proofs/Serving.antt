@@ -39,7 +39,7 @@ use Rattle.parking_lot_world.specs.declared.seat.LatePhase.{LatePhase}
 use Rattle.parking_lot_world.specs.declared.seat.Core.{Core}
 use Rattle.parking_lot_world.specs.declared.open_call.Call.{Call}
 use Rattle.parking_lot_world.specs.CallViews.{mutex_mode, rw_mode}
-use Rattle.parking_lot_world.specs.Machines.{can_move, can_move_in, goes_late, is_asleep, is_possible, is_taken, sleeps, is_listed}
+use Rattle.parking_lot_world.specs.Machines.{can_move, can_move_in, goes_late, is_asleep, is_possible, is_taken, sleeps}
 use Rattle.parking_lot_world.specs.RowFits.{FitsTogether, IsOfKind, IsOfManner, IsTaken, Stands, Seated}
 use Rattle.parking_lot_world.specs.Rows.{State, first_of_all, mutex_spot, rw_spot, lock_as, mutex_at, rw_lock_at, call_at, everybody, hold_at, lock_at, mutex_role_at, rw_role_at, taken_by}
 use Rattle.parking_lot_world.specs.SoundLaws.{IsApart, SomebodyCanMove, SomebodyKeeps}
@@ -63,12 +63,11 @@ or_else true e = refl
 or_else false e = e
 
 -- one whose moment has passed
-comes_on : (a b c d e : Bool) → b ≡ true → c ≡ true → d ≡ true → ((a || (b && (c && d))) || e) ≡ true
-comes_on true b c d e x y z = refl
-comes_on false true true true e x y z = refl
-comes_on false true true false e x y z = absurd cc
-comes_on false true false d e x y z = absurd cc
-comes_on false false c d e x y z = absurd cc
+comes_on : (a b c e : Bool) → b ≡ true → c ≡ true → ((a || (b && c)) || e) ≡ true
+comes_on true b c e x y = refl
+comes_on false true true e x y = refl
+comes_on false true false e x y = absurd cc
+comes_on false false c e x y = absurd cc
 
 backs_on : (a b e : Bool) → a ≡ true → ((a || b) || e) ≡ true
 backs_on true b e x = refl
