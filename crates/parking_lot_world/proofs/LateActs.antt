@@ -581,11 +581,11 @@ returns_pay s t c late here =
     let d = hears c seen.Entered in
     late_pays s u t c d here refl (returns_less (length s.calls) (view_of u t d) (view_of s t c) c.core late)
 
-pub finds_pay : (s : State) (t : ℕ) (c : Call) (by : ℕ) (said : WakeResult) → comes_late c.core ≡ true → call_at s t ≡ Some c → Pays t s (found s t c by said)
-finds_pay s t c by said late here =
+pub finds_pay : (s : State) (t : ℕ) (c : Call) (by : ℕ) (said : WakeResult) → comes_late c.core ≡ true → FitsTogether s → call_at s t ≡ Some c → Pays t s (found s t c by said)
+finds_pay s t c by said late h here =
     let u = found s t c by said in
     let d : Call = record c { core = found_as by (is_handed said) c.core; spot = QueuePosition.Listed } in
-    late_pays s u t c d here refl (finds_less (length s.calls) (view_of u t d) (view_of s t c) c.core by (is_handed said) late)
+    late_pays s u t c d here refl (finds_less (length s.calls) (view_of u t d) (view_of s t c) c.core by (is_handed said) late (recursive_in s.kinds c.lock) c.others (h.rules.prepared t c here))
 
 pub quits_pay : (s : State) (t : ℕ) (c : Call) → is_back c.core ≡ true → call_at s t ≡ Some c → Pays t s (quitted s t c)
 quits_pay s t c late here =

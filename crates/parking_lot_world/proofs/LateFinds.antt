@@ -51,15 +51,15 @@ told_there by said place sec key free (sleep, late, inr told) = (told.0, sleep, 
 -- the first of a list that is for a thread, where one is
 pub first_for : (t : ℕ) (ws : List Wakeup) (n : ℕ) (e : Wakeup) → slice_get ws n ≡ Some e → e.thread ≡ t → (f : Wakeup) × (slice_get ws (position_or_len (is_for t) ws) ≡ Some f) × (f.thread ≡ t)
 first_for t [] n e at is = absurd (none≢some at)
-first_for t (w ∷ ws) n e at is = go (w.thread == t) refl n at
+first_for t (w ∷ ws) n e at is = go (λ m there. first_for t ws m e there is) (w.thread == t) refl n at
   where
     one_more : (k : ℕ) → 1 + k ≡ suc k
     one_more k = omega arith
 
-    go : (b : Bool) → (w.thread == t) ≡ b → (n : ℕ) → slice_get (w ∷ ws) n ≡ Some e → (f : Wakeup) × (slice_get (w ∷ ws) (cond (not b) (1 + position_or_len (is_for t) ws) 0) ≡ Some f) × (f.thread ≡ t)
-    go true same m there = (w, refl, eqb-true w.thread t same)
-    go false other zero there = absurd (eqb-false w.thread t other (ap (λ (x : Wakeup). x.thread) (same_wakeup there) ∙ is))
-    go false other (suc m) there = let x = first_for t ws m e there is in (x.0, ap (slice_get (w ∷ ws)) (one_more (position_or_len (is_for t) ws)) ∙ x.1, x.2)
+    go : ((m : ℕ) → slice_get ws m ≡ Some e → (f : Wakeup) × (slice_get ws (position_or_len (is_for t) ws) ≡ Some f) × (f.thread ≡ t)) → (b : Bool) → (w.thread == t) ≡ b → (n : ℕ) → slice_get (w ∷ ws) n ≡ Some e → (f : Wakeup) × (slice_get (w ∷ ws) (cond (not b) (1 + position_or_len (is_for t) ws) 0) ≡ Some f) × (f.thread ≡ t)
+    go later true same m there = (w, refl, eqb-true w.thread t same)
+    go later false other zero there = absurd (eqb-false w.thread t other (ap (λ (x : Wakeup). x.thread) (same_wakeup there) ∙ is))
+    go later false other (suc m) there = let x = later m there in (x.0, ap (slice_get (w ∷ ws)) (one_more (position_or_len (is_for t) ws)) ∙ x.1, x.2)
 
 -- The sleeper t, in a call c, was taken by another thread, and has the entry e.
 pub record Owing (s : State) (t : ℕ) (c : Call) (by : ℕ) : Type 0 where

@@ -13,11 +13,11 @@ use Rattle.parking_lot_protocol.specs.declared.act.ActResult.TheVariants as seen
 use Rattle.parking_lot_protocol.specs.declared.act.SectionAct.TheVariants as section
 use Rattle.parking_lot_protocol.specs.declared.mutex_phase.MutexPhase.{MutexPhase}
 use Rattle.parking_lot_protocol.specs.declared.rw_phase.LockMode.{LockMode}
-use Rattle.parking_lot_world.specs.CallViews.{mode_of, rw_mode}
+use Rattle.parking_lot_world.specs.CallViews.{mode_of, rw_mode, IsReadySleeper}
 use Rattle.parking_lot_world.specs.Kinds.{Manner}
 use Rattle.parking_lot_world.specs.LateActs.{comes_late, is_back, is_pending, is_sleeping, late_of, sleeps_in_time, found_as}
 use Rattle.parking_lot_world.specs.LateRoles.{expires_as, late_rw_role, quitting_as, reenters_as, sleeper_role, sleeper_wants, staying, stays, expires_taken_as, finds_as}
-use Rattle.parking_lot_world.specs.Ranks.{View, core_steps, late_cost, late_rw_steps, quits_steps}
+use Rattle.parking_lot_world.specs.Ranks.{View, core_steps, late_cost, late_rw_steps, quits_steps, sleeper_steps}
 use Rattle.parking_lot_world.specs.Rounds.{rounds}
 use Rattle.parking_lot_world.specs.RowFits.{IsOfManner, IsPrepared, KnowsList, late_rw_prepared, sleeper_prepared}
 use Rattle.parking_lot_world.specs.Stances.{Asleep, In, Joined, Stores, Takes, Tells, back_as, core_act, core_next, has_begun, late_rw_act, late_rw_stance, sign, lying, pending_from, quits_as, sleeper_asleep, stance, taken_count}
@@ -307,17 +307,21 @@ quits_less n v w (Core.Mutex k) left e = absurd cc
 quits_less n v w (Core.Rw k) left e = absurd cc
 quits_less n v w (Core.Upgrade k) left e = absurd cc
 
+-- what one sees doesn't count while it sleeps
+slept_same : (n : ℕ) (v w : View) (k : RwSleeper) → IsReadySleeper k → sleeper_asleep k ≡ true → sleeper_steps n v k ≡ sleeper_steps n w k
+slept_same n v w k r e = by_sleeper (λ k. sleeper_steps n v k ≡ sleeper_steps n w k) (λ want. refl) (λ rounds. refl) (λ want i. refl) (λ rounds. refl) k r e
+
 late_finds_less : (n : ℕ) (v w : View) (p : LatePhase) (by : ℕ) (handed : Bool) → comes_late (Core.Late p) ≡ true → core_steps n v (found_as by handed (Core.Late p)) + 1 ≤ core_steps n w (Core.Late p)
 late_finds_less n v w LatePhase.Expires by handed e = omega arith
 late_finds_less n v w p by handed e = absurd cc
 
-tardy_finds_less : (n : ℕ) (v w : View) (p : LateRwPhase) (by : ℕ) (handed : Bool) → comes_late (Core.LateRw p) ≡ true → core_steps n v (found_as by handed (Core.LateRw p)) + 1 ≤ core_steps n w (Core.LateRw p)
-tardy_finds_less n v w (LateRwPhase.Expires k) by handed e = omega arith
-tardy_finds_less n v w p by handed e = absurd cc
+tardy_finds_less : (n : ℕ) (v w : View) (p : LateRwPhase) (by : ℕ) (handed : Bool) → comes_late (Core.LateRw p) ≡ true → (recursive : Bool) (m : ℕ) → IsPrepared recursive m (Core.LateRw p) → core_steps n v (found_as by handed (Core.LateRw p)) + 1 ≤ core_steps n w (Core.LateRw p)
+tardy_finds_less n v w (LateRwPhase.Expires k) by handed e recursive m h = omega (arith, slept_same n v w k (ready_sleeper recursive m k h.1) h.0)
+tardy_finds_less n v w p by handed e recursive m h = absurd cc
 
-pub finds_less : (n : ℕ) (v w : View) (x : Core) (by : ℕ) (handed : Bool) → comes_late x ≡ true → core_steps n v (found_as by handed x) + 1 ≤ core_steps n w x
-finds_less n v w (Core.Late p) by handed e = late_finds_less n v w p by handed e
-finds_less n v w (Core.LateRw p) by handed e = tardy_finds_less n v w p by handed e
-finds_less n v w (Core.Mutex k) by handed e = absurd cc
-finds_less n v w (Core.Rw k) by handed e = absurd cc
-finds_less n v w (Core.Upgrade k) by handed e = absurd cc
+pub finds_less : (n : ℕ) (v w : View) (x : Core) (by : ℕ) (handed : Bool) → comes_late x ≡ true → (recursive : Bool) (m : ℕ) → IsPrepared recursive m x → core_steps n v (found_as by handed x) + 1 ≤ core_steps n w x
+finds_less n v w (Core.Late p) by handed e recursive m h = late_finds_less n v w p by handed e
+finds_less n v w (Core.LateRw p) by handed e recursive m h = tardy_finds_less n v w p by handed e recursive m h
+finds_less n v w (Core.Mutex k) by handed e recursive m h = absurd cc
+finds_less n v w (Core.Rw k) by handed e recursive m h = absurd cc
+finds_less n v w (Core.Upgrade k) by handed e recursive m h = absurd cc

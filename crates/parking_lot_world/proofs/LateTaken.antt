@@ -55,7 +55,7 @@ use Rattle.parking_lot_world.proofs.Indexing.{kept_remove}
 use Rattle.parking_lot_world.proofs.KindTable.{Elsewhere, IsThere, Kind, MutexCall, Plain, RwCall, Tardy, in_its_place, of_mutexes, of_rws, one_changed, role_at, role_now, role_stays, roles_at, rw_call, mutex_call, same, shown}
 use Rattle.parking_lot_world.proofs.KindTable.{Late as CallLate}
 use Rattle.parking_lot_world.proofs.LateFinds.{Owing, found_fits, owing, told_there, was_told}
-use Rattle.parking_lot_world.proofs.LateKinds.{Comes, comes, sleeper_plays}
+use Rattle.parking_lot_world.proofs.LateKinds.{Comes, comes, sleeper_plays, PlaysOff}
 use Rattle.parking_lot_world.proofs.LateRules.{find_crosses, find_writes, may_find_so}
 use Rattle.parking_lot_world.proofs.LotActs.{seat_of}
 use Rattle.parking_lot_world.proofs.Making.{IsSoundState, made, made_sound, move_sound}
@@ -269,10 +269,9 @@ module _ (s : State) (t : ℕ) (c : Call) (by : ℕ) (said : WakeResult) (late :
         mark,
         drop.before,
         drop.behind,
-        passing,
-        made of_mutexes mid u t c.lock (own-there mid u t c seen.Made _ QueuePosition.Listed a) (own-elsewhere mid u t c seen.Made _ QueuePosition.Listed a) kind_is (MxStep (mutex.Alone (mutex.ReenterTaken by mark)))
+        (passing, made of_mutexes mid u t c.lock (own-there mid u t c seen.Made _ QueuePosition.Listed a) (own-elsewhere mid u t c seen.Made _ QueuePosition.Listed a) kind_is (MxStep (mutex.Alone (mutex.ReenterTaken by mark)))
             (mine_mid, total_of_nobody (mutex_at mid c.lock).roles (sound_in_mutex mid still nobody c.lock kind_is))
-            (ap Mx (own_after of_mutexes mid u t c seen.Made (CallLate (LatePhase.WasTaken by handed)) QueuePosition.Listed a (word_at s c.lock) refl)) (nobody, refl),
+            (ap Mx (own_after of_mutexes mid u t c seen.Made (CallLate (LatePhase.WasTaken by handed)) QueuePosition.Listed a (word_at s c.lock) refl)) (nobody, refl)),
       )
     where
       same_role : {a b : mutex.Role} → Some a ≡ Some b → a ≡ b
@@ -287,7 +286,7 @@ module _ (s : State) (t : ℕ) (c : Call) (by : ℕ) (said : WakeResult) (late :
       let q = of_rws.only owes.taker.core (subst (λ (m : Option Manner). IsOfManner m owes.taker.core) (ap (λ j. manner_of (slice_get s.kinds j)) owes.lock ∙ kind_is) (h.rules.kinds by owes.taker owes.there)) in
       let p = call_passes (recursive_in s.kinds owes.taker.lock) owes.taker.others (taken_by s.wakes by) owes.taker.spot q.0 0 (meets s h by owes.taker q.0 q.1 owes.there).stands (ap core_act (sym q.1) ∙ asked) in
       let l = rw_lock_at s c.lock in
-      let role = λ us. (sleeper_plays (recursive_in s.kinds c.lock) c.others us k ready.0 ready.1).5 by mark in
+      let role : (us : List ℕ) → PlaysOff c.others us k by mark = λ us. (sleeper_plays (recursive_in s.kinds c.lock) c.others us k ready.0 ready.1).5 by mark in
       let spotted : (us : List ℕ) → call_role c.others c.spot us (Tardy (LateRwPhase.Expires k)) ≡ stays Late (sleeper_role c.others (of_rw.Off by mark) us k) =
       λ us. ap (λ at. call_role c.others at us (Tardy (LateRwPhase.Expires k))) off ∙ ap (λ y. stays Late (sleeper_role c.others (of_rw.Off by y) us k)) bears in
       let step = Pass p.owns drop.before t drop.behind in
@@ -305,12 +304,11 @@ module _ (s : State) (t : ℕ) (c : Call) (by : ℕ) (said : WakeResult) (late :
         p.owns,
         drop.before,
         drop.behind,
-        passing,
-        made of_rws mid u t c.lock (own-there mid u t c seen.Made _ QueuePosition.Listed a) (own-elsewhere mid u t c seen.Made _ QueuePosition.Listed a) kind_is (finding k by mark)
+        (passing, made of_rws mid u t c.lock (own-there mid u t c seen.Made _ QueuePosition.Listed a) (own-elsewhere mid u t c seen.Made _ QueuePosition.Listed a) kind_is (finding k by mark)
             (mine_mid, may_find_so (recursive_in s.kinds c.lock) (pending_from k) (sleeper_wants k) by mark (rw_lock_at mid c.lock) (sound_first mid still nobody c.lock kind_is) (sound_second mid still nobody c.lock kind_is))
             (ap Rw (own_after of_rws mid u t c seen.Made (Tardy (LateRwPhase.WasTaken k by handed)) QueuePosition.Listed a (word_at s c.lock) refl)
             ∙ ap (λ r. Rw (record (rw_lock_at mid c.lock) { roles = slice_set (rw_lock_at mid c.lock).roles t r })) (role (taken_by mid.wakes t)).3 ∙ find_writes (pending_from k) (sleeper_wants k) by mark (rw_lock_at mid c.lock) t)
-            (find_crosses (pending_from k) (sleeper_wants k) by mark t (inside s) nobody),
+            (find_crosses (pending_from k) (sleeper_wants k) by mark t (inside s) nobody)),
       )
     where
       same_role : {a b : Role} → Some a ≡ Some b → a ≡ b

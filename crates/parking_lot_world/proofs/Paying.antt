@@ -120,17 +120,17 @@ late_falls n (LatePhase.WasTaken by handed) x ActResult.Made v shut gives can = 
 late_falls n p x told v shut gives can = absurd gives
 
 -- what one sees doesn't count while it sleeps
-sleeper_still : (n : ℕ) (v w : View) (k : RwSleeper) → IsReadySleeper k → sleeper_asleep k ≡ true → sleeper_steps n v k ≡ sleeper_steps n w k
-sleeper_still n v w k r e = by_sleeper (λ k. sleeper_steps n v k ≡ sleeper_steps n w k) (λ want. refl) (λ rounds. refl) (λ want i. refl) (λ rounds. refl) k r e
+slept_same : (n : ℕ) (v w : View) (k : RwSleeper) → IsReadySleeper k → sleeper_asleep k ≡ true → sleeper_steps n v k ≡ sleeper_steps n w k
+slept_same n v w k r e = by_sleeper (λ k. sleeper_steps n v k ≡ sleeper_steps n w k) (λ want. refl) (λ rounds. refl) (λ want i. refl) (λ rounds. refl) k r e
 
 -- one that was taken goes on as one that was woken
 tardy_resumes : (n word after x first : ℕ) (shut : Bool) (k : RwSleeper) (handed : Bool) → sleeper_asleep k ≡ true → IsReadySleeper k → after ≤ n → core_steps n (Sees word after shut) (resumed_as (sleeper_asleep k) k handed) + 1 ≤ sleeper_steps n (Sees x first shut) k + wake
 tardy_resumes n word after x first shut (RwSleeper.Simple c) handed slept ready few =
     subst (λ b. core_steps n (Sees word after shut) (resumed_as b (RwSleeper.Simple c) handed) + 1 ≤ rw_steps n (Sees x first shut) c.phase + wake) (sym slept)
-    (omega (arith, of_rw.steps_fall.few n word after shut (rw_table.next_phase c.phase (seen.Woken (sign handed))) few, of_rw.steps_fall.woken n c.phase (sign handed), sleeper_still n Unseen (Sees x first shut) (RwSleeper.Simple c) ready slept))
+    (omega (arith, of_rw.steps_fall.few n word after shut (rw_table.next_phase c.phase (seen.Woken (sign handed))) few, of_rw.steps_fall.woken n c.phase (sign handed), slept_same n Unseen (Sees x first shut) (RwSleeper.Simple c) ready slept))
 tardy_resumes n word after x first shut (RwSleeper.Upgradable c) handed slept ready few =
     subst (λ b. core_steps n (Sees word after shut) (resumed_as b (RwSleeper.Upgradable c) handed) + 1 ≤ upgrade_steps n (Sees x first shut) c.phase + wake) (sym slept)
-    (omega (arith, of_upgrade.upgrade_steps_fall.few n word after shut (upgrade_table.next_phase c.phase (seen.Woken (sign handed))) few, of_upgrade.upgrade_steps_fall.woken n c.phase (sign handed) ready.0 ready.1, sleeper_still n Unseen (Sees x first shut) (RwSleeper.Upgradable c) ready slept))
+    (omega (arith, of_upgrade.upgrade_steps_fall.few n word after shut (upgrade_table.next_phase c.phase (seen.Woken (sign handed))) few, of_upgrade.upgrade_steps_fall.woken n c.phase (sign handed) ready.0 ready.1, slept_same n Unseen (Sees x first shut) (RwSleeper.Upgradable c) ready slept))
 
 late_rw_falls : (n : ℕ) (p : LateRwPhase) (x : ℕ) (told : ActResult) (word first after : ℕ) (shut : Bool) → IsGoodLate p → (late_rw_act p ≡ Act.Section section.Leave → after ≤ n) → Gives (late_rw_act p) x told → Can (late_rw_act p) shut told → core_steps n (Sees word after shut) (late_rw_next p told) + 1 ≤ late_rw_steps n (Sees x first shut) p
 late_rw_falls n (LateRwPhase.Expires k) x told word first after shut good few gives can = absurd can

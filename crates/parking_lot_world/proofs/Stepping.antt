@@ -133,7 +133,7 @@ module _ (s u : State) (t : ℕ) (c : Call) (fair : Bool) (h : FitsTogether s) (
 
   pub find : (by : ℕ) (said : WakeResult) → comes_late c.core ≡ true → c.spot ≡ QueuePosition.Off by said → s.lot.section ≡ None → lot.Sound (found s t c by said).lot → u ≡ found s t c by said → IsStepped t fair None s u
   find by said late off free sound e =
-      plain Act.Sleep (comes_act c.core late) refl (comes_became t c s u c.core late (e ∙ ap (λ at. came_back at s t c) (sym off))) (found s t c by said) e (late_laws.finds s t c by said late off free sound) (late_laws.finds_pay s t c by said late here)
+      plain Act.Sleep (comes_act c.core late) refl (comes_became t c s u c.core late (e ∙ ap (λ at. came_back at s t c) (sym off))) (found s t c by said) e (late_laws.finds s t c by said late off free sound) (late_laws.finds_pay s t c by said late h here)
 
   pub quit : is_back c.core ≡ true → lot.Sound (quitted s t c).lot → u ≡ quitted s t c → IsStepped t fair None s u
   quit late sound e = plain Act.Sleep (back_act c.core late) refl (back_became t c s u c.core late e) (quitted s t c) e (late_laws.quits s t c late sound) (late_laws.quits_pay s t c late here)

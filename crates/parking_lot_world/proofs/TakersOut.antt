@@ -88,14 +88,11 @@ drops (w ∷ ws) zero t by e at own is =
     let mine : (w.by == by) ≡ true = eq-eqb w.by by (ap (λ (x : Wakeup). x.by) same ∙ own) in
     let all : taken_by (w ∷ ws) by ≡ w.thread ∷ taken_by ws by = ap (λ (b : Bool). map (λ (x : Wakeup). x.thread) (cond b (w ∷ filter (is_by by) ws) (filter (is_by by) ws))) mine in
     record { before = []; behind = taken_by ws by; was = all ∙ ap (λ (n : ℕ). n ∷ taken_by ws by) (ap (λ (x : Wakeup). x.thread) same ∙ is); is = refl }
-drops (w ∷ ws) (suc i) t by e at own is = go (w.by == by) refl
+drops (w ∷ ws) (suc i) t by e at own is = go (drops ws i t by e at own is) (w.by == by) refl
   where
-    later : Dropped ws i t by
-    later = drops ws i t by e at own is
-
     kept : (b : Bool) (vs : List Wakeup) → (w.by == by) ≡ b → taken_by (w ∷ vs) by ≡ map (λ (x : Wakeup). x.thread) (cond b (w ∷ filter (is_by by) vs) (filter (is_by by) vs))
     kept b vs e = ap (λ (b : Bool). map (λ (x : Wakeup). x.thread) (cond b (w ∷ filter (is_by by) vs) (filter (is_by by) vs))) e
 
-    go : (b : Bool) → (w.by == by) ≡ b → Dropped (w ∷ ws) (suc i) t by
-    go true e = record { before = w.thread ∷ later.before; behind = later.behind; was = kept true ws e ∙ ap (λ us. w.thread ∷ us) later.was; is = kept true (remove ws i) e ∙ ap (λ us. w.thread ∷ us) later.is }
-    go false e = record { before = later.before; behind = later.behind; was = kept false ws e ∙ later.was; is = kept false (remove ws i) e ∙ later.is }
+    go : Dropped ws i t by → (b : Bool) → (w.by == by) ≡ b → Dropped (w ∷ ws) (suc i) t by
+    go later true e = record { before = w.thread ∷ later.before; behind = later.behind; was = kept true ws e ∙ ap (λ us. w.thread ∷ us) later.was; is = kept true (remove ws i) e ∙ ap (λ us. w.thread ∷ us) later.is }
+    go later false e = record { before = later.before; behind = later.behind; was = kept false ws e ∙ later.was; is = kept false (remove ws i) e ∙ later.is }

@@ -43,5 +43,5 @@ pub record LateActsAreSteps : Type 0 where
   pub quits : (s : State) (t : ℕ) (c : Call) → is_back c.core ≡ true → lot.Sound (quitted s t c).lot → Keeps t c s (quitted s t c)
   -- and all are paid for
   pub returns_pay : (s : State) (t : ℕ) (c : Call) → comes_late c.core ≡ true → call_at s t ≡ Some c → Pays t s (returned s t c)
-  pub finds_pay : (s : State) (t : ℕ) (c : Call) (by : ℕ) (said : WakeResult) → comes_late c.core ≡ true → call_at s t ≡ Some c → Pays t s (found s t c by said)
+  pub finds_pay : (s : State) (t : ℕ) (c : Call) (by : ℕ) (said : WakeResult) → comes_late c.core ≡ true → FitsTogether s → call_at s t ≡ Some c → Pays t s (found s t c by said)
   pub quits_pay : (s : State) (t : ℕ) (c : Call) → is_back c.core ≡ true → call_at s t ≡ Some c → Pays t s (quitted s t c)
