@@ -1,5 +1,5 @@
 -- Calls on the lot of a thread whose moment has passed are never refused.
-use Rattle.std.proofs.Common.{◌≡◌, ℕ, ◌&&◌, ◌||◌, Bool, true, false, cond, [], ◌∷◌, Option, Some, None, is_some, Result, refl, ap, ◌∙◌, subst, eq-eqb, slice_set}
+use Rattle.std.proofs.Common.{◌≡◌, ℕ, ◌&&◌, ◌||◌, Bool, true, false, cond, [], ◌∷◌, Option, Some, None, is_some, Result, refl, ap, ◌∙◌, subst, eq-eqb, slice_set, slice_get}
 use Rattle.std.specs.Option.{option_map, option_map_or}
 use Rattle.parking_lot_core_lot.specs.declared.fault.LotFault.{LotFault}
 use Rattle.parking_lot_core_lot.specs.declared.fault.LotFault.TheVariants.{Busy, WrongStatus}
@@ -16,7 +16,7 @@ use Rattle.parking_lot_core_lot.proofs.Sequences.{sound_after_all, sound_returne
 use Rattle.parking_lot_core_lot.specs.Places.{has_joined, has_slept, may_return, may_store, place_at}
 use Rattle.parking_lot_world.specs.declared.seat.QueuePosition.{QueuePosition}
 use Rattle.parking_lot_world.specs.declared.open_call.Call.{Call}
-use Rattle.parking_lot_world.specs.Rows.{State, call_at}
+use Rattle.parking_lot_world.specs.Rows.{State, call_at, is_for}
 use Rattle.parking_lot_rules.specs.Classes.{bit}
 use Rattle.parking_lot_world.specs.Kinds.{recursive_in}
 use Rattle.parking_lot_world.specs.RowFits.{FitsTogether, IsAt, WaitsIn}
@@ -27,7 +27,9 @@ use Rattle.parking_lot_world.proofs.LotActs.{seat_of}
 use Rattle.parking_lot_world.proofs.LotCalls.{may_step, own_section}
 use Rattle.parking_lot_world.specs.RowActs.{told_of}
 use Rattle.parking_lot_world.specs.declared.seat.WakeResult.{WakeResult}
-use Rattle.parking_lot_world.proofs.LateFinds.{told_there}
+use Rattle.parking_lot_world.proofs.LateFinds.{told_there, owing}
+use Rattle.std.specs.List.{position_or_len}
+use Rattle.parking_lot_world.specs.declared.seat.Wakeup.{Wakeup}
 
 -- what isn't refused is done
 pub unless_none : {T : Type 0} (f : Option LotFault) (result : Result T LotFault) (old new : Machine) (Done : Type 0) → f ≡ None → Unless f result old new Done → Done
@@ -98,6 +100,13 @@ module _ (s : State) (h : FitsTogether s) (t : ℕ) (c : Call) (here : call_at s
   taken_there by said late off free =
       let come = comes (recursive_in s.kinds c.lock) c.others c.core late (h.rules.prepared t c here) in
       told_there by said (place_at s.lot.places t) s.lot.section (late_key c) free (subst (λ (a : QueuePosition). IsAt a (place_at s.lot.places t) s.lot.section (late_key c)) off (seat_of s h.lots t c (Asleep (bit (is_pending c.core)) come.park) here come.lies).0)
+
+  -- and is to be woken
+  pub entry_there : (by : ℕ) (said : WakeResult) → comes_late c.core ≡ true → c.spot ≡ QueuePosition.Off by said → (e : Wakeup) × (slice_get s.wakes (position_or_len (is_for t) s.wakes) ≡ Some e)
+  entry_there by said late off =
+      let come = comes (recursive_in s.kinds c.lock) c.others c.core late (h.rules.prepared t c here) in
+      let o = owing s t c (bit (is_pending c.core)) come.park by said h.lots here come.lies off in
+      (o.entry, o.at)
 
   pub found_sound : (by : ℕ) (said : WakeResult) → comes_late c.core ≡ true → c.spot ≡ QueuePosition.Off by said → s.lot.section ≡ None → Sound (found s t c by said).lot
   found_sound by said late off free = let x = taken_there by said late off free in sound_found s.lot t (late_key c) x.0 x.1 h.lots.sound free x.2

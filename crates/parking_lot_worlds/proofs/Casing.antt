@@ -5,10 +5,11 @@ use Rattle.parking_lot_once_rules.specs.Once.{Step}
 use Rattle.parking_lot_once_world.specs.OnceSteps.{IsLawful}
 use Rattle.parking_lot_once_world.specs.OnceRanks as once_ranks
 use Rattle.parking_lot_once_world.specs.Onces.{Onces, once_at}
-use Rattle.parking_lot_rules.specs.Any.{AnyLock, MxStep, Mx, Rw, any_after, any_allowed}
+use Rattle.parking_lot_rules.specs.Any.{AnyLock, MxStep, Mx, Rw, any_after, any_allowed, AnyStep, RwStep}
 use Rattle.parking_lot_rules.specs.Any as any
 use Rattle.parking_lot_rules.specs.Mutex as mutex
 use Rattle.parking_lot_rules.specs.MutexOwners as mutex_owners
+use Rattle.parking_lot_rules.specs.Owners as rw_owners
 use Rattle.parking_lot_rules.proofs.MutexCasing.{steps_are_cases}
 use Rattle.parking_lot_world.specs.Kinds.{recursive_in}
 use Rattle.parking_lot_world.specs.Machines as rows
@@ -23,6 +24,8 @@ use Rattle.parking_lot_worlds.specs.WorldCalls.{asked, is_once, step_thread}
 use Rattle.parking_lot_worlds.specs.WorldLaws.{AsLock, AsOnce, IsCaseAt, IsFit, IsStepAt, StepsAreCases, StepsArePaid, lock_at, steps_left}
 use Rattle.parking_lot_worlds.specs.Worlds.{IsAsked, IsGone, IsLate, IsMade, Shown, is_in_once, is_once_at, may_ask, may_make}
 use Rattle.parking_lot_worlds.proofs.Whole.{both_true, not_true}
+use Rattle.parking_lot_world.specs.LateLaws.{expire_step}
+use Rattle.parking_lot_rules.proofs.Casing.{step_case}
 
 module _ (w v : Shown) (kinds : v.kinds ≡ w.kinds) where
   at : (i : ℕ) → is_once_at v i ≡ is_once_at w i
@@ -58,17 +61,19 @@ module _ (w v : Shown) (kinds : v.kinds ≡ w.kinds) where
 
 -- THE STEPS, ONE BY ONE
 
--- a deadline that comes changes neither owners nor lists
-late_is_case : (recursive : ℕ → Bool) (t j : ℕ) (l : AnyLock) → any.AnySound l → any_allowed recursive j t (MxStep (mutex.Alone mutex.Expire)) l → of_locks.IsCaseAt (recursive j) t l (any_after t (MxStep (mutex.Alone mutex.Expire)) l)
-late_is_case recursive t j (Mx m) sound may = (mutex_owners.case_of (mutex.Alone mutex.Expire), steps_are_cases m sound t (mutex.Alone mutex.Expire) may)
-late_is_case recursive t j (Rw l) sound may = absurd may
+-- a deadline that comes is a step of its lock, and so a case
+late_is_case : (recursive : ℕ → Bool) (t j : ℕ) (step : AnyStep) (l : AnyLock) → any.AnySound l → any_allowed recursive j t step l → of_locks.IsCaseAt (recursive j) t l (any_after t step l)
+late_is_case recursive t j (RwStep step) (Rw l) sound may = (rw_owners.case_of step, step_case (recursive j) t l sound step may)
+late_is_case recursive t j (MxStep step) (Mx m) sound may = (mutex_owners.case_of step, steps_are_cases m sound t step may)
+late_is_case recursive t j (RwStep step) (Mx m) sound may = absurd may
+late_is_case recursive t j (MxStep step) (Rw l) sound may = absurd may
 
 late_step : (s u : State) (t : ℕ) → FitsTogether s → (x : rows.IsExpired t s u) → of_locks.IsStepAt t x.call.lock s u
 late_step s u t h x =
     let j = x.call.lock in
     let made = x.lawful.goes in
     record {
-      case = subst (of_locks.IsCaseAt (recursive_in s.kinds j) t (row.lock_at s j)) (sym made.here) (late_is_case (recursive_in s.kinds) t j (row.lock_at s j) (h.rules.sound.sound j) made.allowed);
+      case = subst (of_locks.IsCaseAt (recursive_in s.kinds j) t (row.lock_at s j)) (sym made.here) (late_is_case (recursive_in s.kinds) t j (expire_step x.call.core x.call.spot) (row.lock_at s j) (h.rules.sound.sound j) made.allowed);
       elsewhere = made.elsewhere;
     }
 
