@@ -122,8 +122,8 @@ module _ (s u : State) (t : ℕ) (c : Call) (fair : Bool) (h : FitsTogether s) (
   wake asked x =
       elim x [
         | inl y ↦
-            plain (Act.Section section.Wake) asked refl x (woke s t c (y.0).thread y.1 y.2) y.4 (tells.laws.wake s t c y.0 y.1 y.2 asked y.3 (woke_sound s h.lots (y.0).thread (Taken y.2 y.3.sleep false) y.3.place (λ k. refl))) (wakes_pay s t c (y.0).thread y.1 y.2 h here y.3.there asked)
-        | inr y ↦ plain (Act.Section section.Wake) asked refl x (woke_nobody s t c) y.1 (tells.laws.nobody s t c asked y.0) (nobody_pays s t c h here asked)
+            plain (Act.Section section.Wake) asked refl (inl y) (woke s t c (y.0).thread y.1 y.2) y.4 (tells.laws.wake s t c y.0 y.1 y.2 asked y.3 (woke_sound s h.lots (y.0).thread (Taken y.2 y.3.sleep false) y.3.place (λ k. refl))) (wakes_pay s t c (y.0).thread y.1 y.2 h here y.3.there asked)
+        | inr y ↦ plain (Act.Section section.Wake) asked refl (inr y) (woke_nobody s t c) y.1 (tells.laws.nobody s t c asked y.0) (nobody_pays s t c h here asked)
       ]
 
   -- whose moment has passed
