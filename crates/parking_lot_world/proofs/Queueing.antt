@@ -133,7 +133,7 @@ slept_weighs : (n : ℕ) (at : QueuePosition) (us : List ℕ) (k : RwSleeper) �
 slept_weighs n at us k h = by_sleeper (WeighsSo n at us) (wanting_weighs n at us) (draining_weighs n at us) (λ want i. seeking_weighs n at us want) (upgrading_weighs n at us) k h.1 h.0
 
 -- and one that was taken and is back waits no more
-TakenWeighs : ℕ → QueuePosition → List ℕ → ℕ → Bool → RwSleeper → Type 0
+abbrev TakenWeighs : ℕ → QueuePosition → List ℕ → ℕ → Bool → RwSleeper → Type 0
 TakenWeighs n at us by handed k = (weight Waiting1 (late_rw_role n (rw_spot at) us (LateRwPhase.WasTaken k by handed)) ≡ bit (waits_as 0 at (late_rw_stance (LateRwPhase.WasTaken k by handed)))) × (weight Waiting2 (late_rw_role n (rw_spot at) us (LateRwPhase.WasTaken k by handed)) ≡ bit (waits_as 1 at (late_rw_stance (LateRwPhase.WasTaken k by handed))))
 
 taken_weighs : (n : ℕ) (at : QueuePosition) (us : List ℕ) (k : RwSleeper) (by : ℕ) (handed : Bool) → HasSlept k → TakenWeighs n at us by handed k
