@@ -4,7 +4,7 @@ use Rattle.std.proofs.Math.Nat.{suc-mul}
 use Rattle.std.specs.List.{sum_by}
 use Rattle.std.specs.Option.{option_and_then}
 use Rattle.std.specs.Prelude.{if◌then◌else◌}
-use Rattle.std.proofs.lemmas.List.Sums.{count_by-le-length, sum_by-cons}
+use Rattle.std.proofs.lemmas.List.Sums.{sum_by-cons}
 use Rattle.parking_lot_protocol.specs.declared.mutex_phase.Giving.{Giving}
 use Rattle.parking_lot_protocol.specs.declared.mutex_phase.MutexPhase.{MutexPhase}
 use Rattle.parking_lot_protocol.specs.declared.rw_phase.AfterWake.{AfterWake}
@@ -20,11 +20,10 @@ use Rattle.parking_lot_world.specs.declared.seat.Core.{Core}
 use Rattle.parking_lot_world.specs.declared.open_call.Call.{Call}
 use Rattle.parking_lot_world.specs.Ranks.{Unseen, comes_after, core_steps, late_steps, far_steps, mutex_asks, mutex_ends, mutex_steps, rw_ends, rw_steps, vain}
 use Rattle.parking_lot_world.specs.Rounds.{FewRounds, mutex_rounds, rw_rounds}
-use Rattle.parking_lot_world.specs.RowFits.{FitsTogether, is_away}
-use Rattle.parking_lot_world.specs.Rows.{State, call_at, is_by, word_at}
+use Rattle.parking_lot_world.specs.RowFits.{FitsTogether}
+use Rattle.parking_lot_world.specs.Rows.{State, call_at, word_at}
 use Rattle.parking_lot_world.specs.SoundLaws.{StepsAreFew, most_steps}
 use Rattle.parking_lot_world.specs.Stances.{rw_taken, taken_count}
-use Rattle.parking_lot_world.proofs.Carrying.{taken_by-count}
 use Rattle.parking_lot_world.proofs.Meeting.{in_range}
 use Rattle.parking_lot_world.proofs.Paying.{none_more, IsGood, IsGoodLate, is_good}
 use Rattle.parking_lot_world.proofs.Summing.{others_and_one}

@@ -322,7 +322,6 @@ module _ (s u : State) (h : LotFits s) (carries : (v : ℕ) → Carries (call_at
     untaken = λ t is. no_length (taken_by u.wakes t) (subst (Tallied (length u.calls) (length (taken_by u.wakes t))) is (now t));
     wakeful = λ t. (carries t).wakeful (h.wakeful t);
   }
-
     where
       now : (t : ℕ) → Tallied (length u.calls) (length (taken_by u.wakes t)) (call_at u t)
       now t =

@@ -39,7 +39,7 @@ use Rattle.parking_lot_world.specs.Kinds.{Manner, AsMutex, AsRw, manner_of}
 use Rattle.parking_lot_world.specs.LateRoles.{late_rw_role, sleeper_role, stays}
 use Rattle.parking_lot_world.specs.RowFits.{IsOfKind, IsOfManner, IsCounted, IsInside}
 use Rattle.parking_lot_world.specs.Rows.{State, word_at, hold_at, call_at, everybody, taken_by, owned_of, owns_mutex, rw_spot, mutex_spot, first_of_all, mark_of, late_role, rw_role_in, mutex_role_in, rw_core_role, mutex_core_role, mutex_word_of, any_lock, lock_as, lock_at, queue_at, mutex_role}
-use Rattle.parking_lot_world.specs.Stances.{Asleep, core_next, late_next, late_rw_stance, late_stance, lying, mutex_stance, pending_from, quits_as, rw_stance, seeks_stance, sleeper_stance, stance, upgrade_stance, mutex_taken, sign, Out, In, resumed_as, sleeper_asleep}
+use Rattle.parking_lot_world.specs.Stances.{Asleep, core_next, late_next, late_rw_stance, late_stance, lying, mutex_stance, pending_from, quits_as, rw_stance, seeks_stance, sleeper_stance, stance, upgrade_stance, mutex_taken, sign, resumed_as, sleeper_asleep}
 use Rattle.parking_lot_world.proofs.Everybody.{all, change-all, get-all, same-all}
 use Rattle.parking_lot_protocol.specs.declared.act.Act.{Act}
 

@@ -44,7 +44,7 @@ use Rattle.parking_lot_world.specs.Kinds.{AsMutex, manner_of, recursive_in, AsRw
 use Rattle.parking_lot_world.specs.LateActs.{comes_late, expired, is_back, is_pending, is_sleeping, late_comes, late_is_back, late_key, late_of, late_rw_comes, late_rw_is_back, others_left, out_of_list, quitted, quitted_as, returned, sleeps_in_time, found, found_as, is_handed}
 use Rattle.parking_lot_world.specs.LateLaws.{Expires, LateActsAreSteps, expire_step}
 use Rattle.parking_lot_world.specs.LateRoles.{expiring as expiring_step, expiring_taken}
-use Rattle.parking_lot_world.specs.LateRoles.{expires_as, late_rw_role, quitting, quitting_as, reentering, sleeper_role, sleeper_wants}
+use Rattle.parking_lot_world.specs.LateRoles.{late_rw_role, quitting, quitting_as, reentering, sleeper_role, sleeper_wants}
 use Rattle.parking_lot_world.specs.Ranks.{Pays, Unseen, core_steps, far_steps, late_cost, own_steps, steps_left, view_of}
 use Rattle.parking_lot_world.specs.RowActs.{hears, with_call, with_lot}
 use Rattle.parking_lot_world.specs.RowFits.{FitsTogether, IsOfKind, IsPrepared, LotFits, RulesFit, WaitsIn, sleeper_prepared}

@@ -1,34 +1,32 @@
 -- One whose moment has passed and that was taken comes back and finds that out. That is two steps of the rules: its taker drops it from those that it is to
 -- wake, and it enters the section. The machine stays fit.
-use Rattle.std.proofs.Common.{◌≡◌, ◌≢◌, ◌<◌, ◌≤◌, ℕ, ◌+◌, ◌*◌, ◌==◌, inl, inr, Bool, true, false, cond, List, [], ◌∷◌, ◌++◌, length, remove, Option, Some, None, slice_get, slice_set, refl, sym, ap, ◌∙◌, subst, arith}
+use Rattle.std.proofs.Common.{◌≡◌, ◌≢◌, ◌≤◌, ℕ, ◌+◌, ◌*◌, ◌==◌, inl, inr, Bool, true, false, cond, List, length, Option, Some, None, slice_get, slice_set, refl, sym, ap, ◌∙◌, subst, arith}
 use Rattle.std.specs.List.{position_or_len}
 use Rattle.std.specs.Option.{option_and_then}
-use Rattle.std.proofs.lemmas.Bool.{cases_eq, ne_eqb, eqb-false}
+use Rattle.std.proofs.lemmas.Bool.{cases_eq, ne_eqb}
 use Rattle.std.proofs.lemmas.List.{length-set}
 use Rattle.std.proofs.lemmas.List.Edits.{length-remove}
 use Rattle.std.proofs.lemmas.Option.{none-some, slice_get_within}
-use Rattle.parking_lot_core_lot.specs.declared.parking.ParkToken.{ParkToken}
 use Rattle.parking_lot_core_lot.specs.declared.parking.UnparkToken.{UnparkToken}
 use Rattle.parking_lot_core_lot.specs.declared.place.Phase.{Phase}
 use Rattle.parking_lot_core_lot.specs.declared.place.Section.{Section}
 use Rattle.parking_lot_core_lot.specs.declared.place.Waiter.{Waiter}
 use Rattle.parking_lot_core_lot.specs.Sound as lot
 use Rattle.parking_lot_core_lot.proofs.Numbers.{flag, count_by-set}
-use Rattle.parking_lot_rules.specs.Any.{AnyStep, Mx, MxStep, Rw, RwStep}
+use Rattle.parking_lot_rules.specs.Any.{Mx, MxStep, Rw, RwStep}
 use Rattle.parking_lot_rules.specs.Classes.{bit}
 use Rattle.parking_lot_rules.specs.Lock.{Note, note_of}
 use Rattle.parking_lot_rules.specs.Mutex as mutex
 use Rattle.parking_lot_rules.specs.Roles.{Back, Late, Mark, Mode, Owned, Role}
 use Rattle.parking_lot_rules.specs.Roles as rules
-use Rattle.parking_lot_rules.specs.Steps.{Alone, Pass}
-use Rattle.parking_lot_rules.specs.Plain.{from, to}
+use Rattle.parking_lot_rules.specs.Steps.{Pass}
+use Rattle.parking_lot_rules.specs.Plain.{from}
 use Rattle.parking_lot_protocol.specs.MutexRules as of_mutex
 use Rattle.parking_lot_protocol.specs.RwRules as of_rw
 use Rattle.parking_lot_protocol.specs.declared.act.Act.TheVariants as act
 use Rattle.parking_lot_protocol.specs.declared.act.ActResult.{ActResult}
 use Rattle.parking_lot_protocol.specs.declared.act.ActResult.TheVariants as seen
 use Rattle.parking_lot_protocol.specs.declared.act.SectionAct.TheVariants as section
-use Rattle.parking_lot_protocol.specs.declared.mutex_core.MutexCore.{MutexCore}
 use Rattle.parking_lot_protocol.specs.declared.mutex_phase.MutexPhase.{MutexPhase}
 use Rattle.parking_lot_protocol.specs.Acts.{word_after}
 use Rattle.parking_lot_world.specs.declared.late_rw.LateRwPhase.{LateRwPhase}
@@ -40,21 +38,21 @@ use Rattle.parking_lot_world.specs.declared.seat.WakeResult.{WakeResult}
 use Rattle.parking_lot_world.specs.declared.seat.Wakeup.{Wakeup}
 use Rattle.parking_lot_world.specs.declared.open_call.Call.{Call}
 use Rattle.parking_lot_world.specs.ActLaws.{Acts}
-use Rattle.parking_lot_world.specs.Kinds.{AsMutex, AsRw, Manner, manner_of, recursive_in}
+use Rattle.parking_lot_world.specs.Kinds.{AsMutex, Manner, manner_of, recursive_in}
 use Rattle.parking_lot_world.specs.LateActs.{comes_late, found, found_as, found_lot, is_handed, is_pending, late_comes, late_rw_comes, unowed}
-use Rattle.parking_lot_world.specs.LateRoles.{finding, finds_as, late_rw_role, sleeper_role, sleeper_wants, stays}
+use Rattle.parking_lot_world.specs.LateRoles.{finding, finds_as, sleeper_role, sleeper_wants, stays}
 use Rattle.parking_lot_world.specs.RowActs.{key_of, told_of}
 use Rattle.parking_lot_world.specs.RowFits.{FitsTogether, IsOfKind, IsOfManner, IsPrepared, KnowsList, LotFits, PassesFit, RulesFit, WakesFit, is_away, is_off, IsAt}
 use Rattle.parking_lot_world.specs.RowSteps.{IsMade, IsMoveOf, IsMutexFound, IsRwFound}
-use Rattle.parking_lot_world.specs.Rows.{State, call_at, hold_at, inside, is_for, late_role, mark_of, mutex_at, mutex_spot, queue_at, rw_lock_at, rw_spot, taken_by, word_at}
+use Rattle.parking_lot_world.specs.Rows.{State, call_at, hold_at, inside, is_for, late_role, mark_of, mutex_at, mutex_spot, queue_at, rw_lock_at, taken_by, word_at}
 use Rattle.parking_lot_world.specs.Stances.{Asleep, In, Stance, Takes, Tells, core_act, has_begun, pending_from, sign, sleeper_asleep, stance, taken_count}
 use Rattle.parking_lot_world.specs.Rounds.{rounds}
 use Rattle.parking_lot_world.proofs.Calling.{call-here, call-elsewhere, calls-change, slot}
-use Rattle.parking_lot_world.proofs.Carrying.{dropped, same_call}
+use Rattle.parking_lot_world.proofs.Carrying.{same_call}
 use Rattle.parking_lot_world.proofs.Indexing.{kept_remove}
-use Rattle.parking_lot_world.proofs.KindTable.{Elsewhere, IsThere, Kind, MutexCall, Plain, RwCall, Tardy, in_its_place, of_mutexes, of_rws, one_changed, role_at, role_now, role_stays, roles_at, rw_call, mutex_call, same, shown}
+use Rattle.parking_lot_world.proofs.KindTable.{Elsewhere, IsThere, Kind, MutexCall, Plain, Tardy, in_its_place, of_mutexes, of_rws, one_changed, role_at, role_stays, roles_at, mutex_call, same, shown}
 use Rattle.parking_lot_world.proofs.KindTable.{Late as CallLate}
-use Rattle.parking_lot_world.proofs.LateFinds.{Owing, found_fits, owing, told_there, was_told}
+use Rattle.parking_lot_world.proofs.LateFinds.{Owing, found_fits, owing, told_there}
 use Rattle.parking_lot_world.proofs.LateKinds.{Comes, comes, sleeper_plays, PlaysOff}
 use Rattle.parking_lot_world.proofs.LateRules.{find_crosses, find_writes, may_find_so}
 use Rattle.parking_lot_world.proofs.LotActs.{seat_of}
@@ -68,7 +66,7 @@ use Rattle.parking_lot_world.proofs.Ruling.{CallFits, call_fits, rules_after}
 use Rattle.parking_lot_world.proofs.Owning.{OwnAct, own-elsewhere, own-there, own_after}
 use Rattle.parking_lot_world.proofs.Sleepers.{ready_sleeper, sleeps_there}
 use Rattle.parking_lot_world.specs.Stances as stances
-use Rattle.parking_lot_world.proofs.RwCalls.{call_role, tardy_wakes}
+use Rattle.parking_lot_world.proofs.RwCalls.{call_role}
 use Rattle.parking_lot_world.proofs.RwPasses.{call_passes}
 use Rattle.parking_lot_world.proofs.TakersOut.{Dropped, drops, takers_out}
 use Rattle.parking_lot_core_lot.specs.Places.{place_at}
@@ -269,9 +267,12 @@ module _ (s : State) (t : ℕ) (c : Call) (by : ℕ) (said : WakeResult) (late :
         mark,
         drop.before,
         drop.behind,
-        (passing, made of_mutexes mid u t c.lock (own-there mid u t c seen.Made _ QueuePosition.Listed a) (own-elsewhere mid u t c seen.Made _ QueuePosition.Listed a) kind_is (MxStep (mutex.Alone (mutex.ReenterTaken by mark)))
-            (mine_mid, total_of_nobody (mutex_at mid c.lock).roles (sound_in_mutex mid still nobody c.lock kind_is))
-            (ap Mx (own_after of_mutexes mid u t c seen.Made (CallLate (LatePhase.WasTaken by handed)) QueuePosition.Listed a (word_at s c.lock) refl)) (nobody, refl)),
+        (
+          passing,
+          made of_mutexes mid u t c.lock (own-there mid u t c seen.Made _ QueuePosition.Listed a) (own-elsewhere mid u t c seen.Made _ QueuePosition.Listed a) kind_is (MxStep (mutex.Alone (mutex.ReenterTaken by mark)))
+              (mine_mid, total_of_nobody (mutex_at mid c.lock).roles (sound_in_mutex mid still nobody c.lock kind_is))
+              (ap Mx (own_after of_mutexes mid u t c seen.Made (CallLate (LatePhase.WasTaken by handed)) QueuePosition.Listed a (word_at s c.lock) refl)) (nobody, refl),
+        ),
       )
     where
       same_role : {a b : mutex.Role} → Some a ≡ Some b → a ≡ b
@@ -304,11 +305,14 @@ module _ (s : State) (t : ℕ) (c : Call) (by : ℕ) (said : WakeResult) (late :
         p.owns,
         drop.before,
         drop.behind,
-        (passing, made of_rws mid u t c.lock (own-there mid u t c seen.Made _ QueuePosition.Listed a) (own-elsewhere mid u t c seen.Made _ QueuePosition.Listed a) kind_is (finding k by mark)
-            (mine_mid, may_find_so (recursive_in s.kinds c.lock) (pending_from k) (sleeper_wants k) by mark (rw_lock_at mid c.lock) (sound_first mid still nobody c.lock kind_is) (sound_second mid still nobody c.lock kind_is))
-            (ap Rw (own_after of_rws mid u t c seen.Made (Tardy (LateRwPhase.WasTaken k by handed)) QueuePosition.Listed a (word_at s c.lock) refl)
-            ∙ ap (λ r. Rw (record (rw_lock_at mid c.lock) { roles = slice_set (rw_lock_at mid c.lock).roles t r })) (role (taken_by mid.wakes t)).3 ∙ find_writes (pending_from k) (sleeper_wants k) by mark (rw_lock_at mid c.lock) t)
-            (find_crosses (pending_from k) (sleeper_wants k) by mark t (inside s) nobody)),
+        (
+          passing,
+          made of_rws mid u t c.lock (own-there mid u t c seen.Made _ QueuePosition.Listed a) (own-elsewhere mid u t c seen.Made _ QueuePosition.Listed a) kind_is (finding k by mark)
+              (mine_mid, may_find_so (recursive_in s.kinds c.lock) (pending_from k) (sleeper_wants k) by mark (rw_lock_at mid c.lock) (sound_first mid still nobody c.lock kind_is) (sound_second mid still nobody c.lock kind_is))
+              (ap Rw (own_after of_rws mid u t c seen.Made (Tardy (LateRwPhase.WasTaken k by handed)) QueuePosition.Listed a (word_at s c.lock) refl)
+              ∙ ap (λ r. Rw (record (rw_lock_at mid c.lock) { roles = slice_set (rw_lock_at mid c.lock).roles t r })) (role (taken_by mid.wakes t)).3 ∙ find_writes (pending_from k) (sleeper_wants k) by mark (rw_lock_at mid c.lock) t)
+              (find_crosses (pending_from k) (sleeper_wants k) by mark t (inside s) nobody),
+        ),
       )
     where
       same_role : {a b : Role} → Some a ≡ Some b → a ≡ b

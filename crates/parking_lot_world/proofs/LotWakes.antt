@@ -1,5 +1,5 @@
 -- Waking one that was taken keeps what fits of the lot.
-use Rattle.std.proofs.Common.{◌≡◌, ◌<◌, ℕ, ◌+◌, ◌-◌, ◌*◌, ◌==◌, ◌⊎◌, inl, inr, false, length, remove, Option, Some, slice_get, slice_set, count_by, refl, sym, ap, ◌∙◌, subst, arith, eq-eqb}
+use Rattle.std.proofs.Common.{◌≡◌, ◌<◌, ℕ, ◌+◌, ◌-◌, ◌*◌, ◌==◌, ◌⊎◌, inl, inr, false, length, Option, Some, slice_get, slice_set, refl, sym, ap, ◌∙◌, subst, arith, eq-eqb}
 use Rattle.std.specs.List.{position_or_len}
 use Rattle.std.specs.Option.{option_map_or}
 use Rattle.std.proofs.lemmas.Bool.{ne_eqb, eqb-false}
@@ -14,7 +14,7 @@ use Rattle.parking_lot_core_lot.specs.declared.place.Waiter.{Waiter}
 use Rattle.parking_lot_core_lot.specs.Places.{place_at, mark_of}
 use Rattle.parking_lot_core_lot.specs.Sound.{Sound}
 use Rattle.parking_lot_core_lot.proofs.Kept.{eqb_false_symm}
-use Rattle.parking_lot_core_lot.proofs.Numbers.{flag, count_by-remove}
+use Rattle.parking_lot_core_lot.proofs.Numbers.{flag}
 use Rattle.parking_lot_core_lot.proofs.Sounds.{by_eqb, place_at-set_same, place_at-set_other}
 use Rattle.parking_lot_protocol.specs.declared.act.ActResult.TheVariants as seen
 use Rattle.parking_lot_world.specs.declared.seat.WakeResult.{WakeResult}

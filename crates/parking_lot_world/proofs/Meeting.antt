@@ -27,7 +27,7 @@ use Rattle.parking_lot_world.specs.declared.seat.LatePhase.{LatePhase}
 use Rattle.parking_lot_world.specs.declared.seat.Core.{Core}
 use Rattle.parking_lot_world.specs.declared.open_call.Call.{Call}
 use Rattle.parking_lot_world.specs.Rows.{State, word_at, hold_at, call_at, is_by, taken_by, owned_of, rw_role_in, rw_role_at, rw_core_role, rw_lock_at, mutex_at, mutex_spot, late_role, first_of_all, lock_as, rw_spot}
-use Rattle.parking_lot_world.specs.Stances.{core_next, has_begun, taken_count, mutex_taken}
+use Rattle.parking_lot_world.specs.Stances.{core_next, has_begun, mutex_taken}
 use Rattle.parking_lot_protocol.specs.MutexTable as mutex_table
 use Rattle.parking_lot_protocol.specs.declared.act.SectionAct.TheVariants as section
 use Rattle.parking_lot_world.specs.RowFits.{FitsTogether, is_away, IsOfKind, IsPrepared, KnowsList, IsCounted}

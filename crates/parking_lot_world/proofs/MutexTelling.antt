@@ -29,7 +29,7 @@ use Rattle.parking_lot_world.specs.declared.seat.QueuePosition.{QueuePosition}
 use Rattle.parking_lot_world.specs.declared.seat.LatePhase.{LatePhase}
 use Rattle.parking_lot_world.specs.declared.seat.Core.{Core}
 use Rattle.parking_lot_world.specs.declared.open_call.Call.{Call}
-use Rattle.parking_lot_world.specs.Rows.{mark_of, late_role, mutex_spot, mutex_core_role, owns_mutex, first_of_all, mutex_role}
+use Rattle.parking_lot_world.specs.Rows.{mark_of, late_role, mutex_spot, mutex_core_role, owns_mutex, mutex_role}
 use Rattle.parking_lot_world.specs.RowActs.{settled_spot, mutex_hold_after}
 use Rattle.parking_lot_world.specs.RowFits.{mutex_knows}
 use Rattle.parking_lot_world.specs.MutexLaws.{TellingsSettle, HoldsAreAnswered, TakersKnow, MutexIsShown, settle_spot}

@@ -13,7 +13,6 @@ use Rattle.parking_lot_rules.specs.Mutex as mutex
 use Rattle.parking_lot_rules.specs.Any.{Rw, AnySound}
 use Rattle.parking_lot_protocol.specs.declared.mutex_phase.MutexPhase.{MutexPhase}
 use Rattle.parking_lot_protocol.specs.declared.rw_phase.RwPhase.{RwPhase}
-use Rattle.parking_lot_protocol.specs.MutexRules as of_mutex
 use Rattle.parking_lot_protocol.specs.RwRules as of_rw
 use Rattle.parking_lot_protocol.specs.declared.act.CoreAnswer.{CoreAnswer}
 use Rattle.parking_lot_upgrades.specs.UpgradeRoles as of_upgrade
@@ -30,7 +29,7 @@ use Rattle.parking_lot_world.specs.declared.seat.LatePhase.{LatePhase}
 use Rattle.parking_lot_world.specs.declared.seat.Core.{Core}
 use Rattle.parking_lot_world.specs.declared.open_call.Call.{Call}
 use Rattle.parking_lot_world.specs.RowFits.{FitsTogether, IsOfKind, IsOfManner, Awaits}
-use Rattle.parking_lot_world.specs.Rows.{State, lock_as, call_at, first_key, first_of_all, hold_at, late_role, lock_at, mutex_at, mutex_spot, owned_of, owns_mutex, queue_at, rw_lock_at, rw_spot, second_key, taken_by}
+use Rattle.parking_lot_world.specs.Rows.{State, lock_as, call_at, first_key, hold_at, late_role, lock_at, mutex_at, mutex_spot, owned_of, owns_mutex, queue_at, rw_lock_at, rw_spot, second_key, taken_by}
 use Rattle.parking_lot_world.specs.SoundLaws.{ListsAreWaiters, waits_as, waits_in}
 use Rattle.parking_lot_world.specs.Stances.{late_stance, mutex_stance, rw_stance, stance}
 use Rattle.parking_lot_world.proofs.KindTable.{Kind, MutexCall, Plain, Late, mutex_call, mutex_plays, of_mutexes, of_rws, role_at, roles_at}

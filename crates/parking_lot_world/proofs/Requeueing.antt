@@ -21,7 +21,7 @@ use Rattle.parking_lot_world.specs.Kinds.{AsMutex, manner_of}
 use Rattle.parking_lot_world.specs.Requeues.{MayCome}
 use Rattle.parking_lot_world.specs.Rounds.{IsUnderWay}
 use Rattle.parking_lot_world.specs.RowFits.{FitsTogether, RulesFit, WakesFit, is_away, mutex_knows}
-use Rattle.parking_lot_world.specs.Rows.{State, call_at, first_of_all, hold_at, inside, lock_at, lock_as, mutex_at, owns_mutex, taken_by, word_at, mutex_role}
+use Rattle.parking_lot_world.specs.Rows.{State, call_at, hold_at, inside, lock_at, lock_as, mutex_at, owns_mutex, taken_by, word_at, mutex_role}
 use Rattle.parking_lot_world.specs.Stances.{In, stance}
 use Rattle.parking_lot_world.proofs.Calling.{call-here, call-elsewhere}
 use Rattle.parking_lot_world.proofs.Carrying.{same_call}

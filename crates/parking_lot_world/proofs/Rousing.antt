@@ -17,7 +17,7 @@ use Rattle.parking_lot_world.specs.declared.seat.QueuePosition.{QueuePosition}
 use Rattle.parking_lot_world.specs.declared.open_call.Call.{Call}
 use Rattle.parking_lot_world.specs.declared.seat.Wakeup.{Wakeup}
 use Rattle.parking_lot_world.specs.Rows.{State, word_at, hold_at, call_at, is_by, taken_by, mark_of, first_of_all, mutex_spot, rw_lock_at, mutex_at, queue_at, mutex_role}
-use Rattle.parking_lot_world.specs.Stances.{In, Takes, Out, Asleep, late_act, stance, taken_count, core_act, core_next}
+use Rattle.parking_lot_world.specs.Stances.{In, Takes, Out, Asleep, late_act, stance, core_act, core_next}
 use Rattle.parking_lot_world.specs.RowActs.{hears, woke, told_of}
 use Rattle.parking_lot_world.specs.RowFits.{FitsTogether, LotFits, PassesFit, RulesFit, WakesFit, IsOfKind, IsTaken, IsPrepared, KnowsList, is_away, is_off, mutex_knows, IsCounted}
 use Rattle.parking_lot_world.specs.TellLaws.{IsDue}
@@ -31,9 +31,8 @@ use Rattle.parking_lot_world.proofs.LotWakes.{woken_off, due_place, other, call_
 use Rattle.parking_lot_world.proofs.Making.{move_sound, mutex_goes, rw_goes}
 use Rattle.parking_lot_world.proofs.Ruling.{CallFits, Fitted, call_fits, fits_next, rules_after}
 use Rattle.parking_lot_world.proofs.Everybody.{all, change-two}
-use Rattle.parking_lot_world.proofs.Meeting.{in_range, meets, plays, rw_hears, plays_waking}
+use Rattle.parking_lot_world.proofs.Meeting.{in_range, meets, rw_hears, plays_waking}
 use Rattle.parking_lot_world.proofs.MutexMoving.{steps}
-use Rattle.parking_lot_world.proofs.MutexRoles.{roles}
 use Rattle.parking_lot_world.proofs.OwnActs.{two_kinds}
 use Rattle.parking_lot_core_lot.specs.declared.place.Waiter.{Waiter}
 use Rattle.parking_lot_protocol.specs.MutexRules as of_mutex
@@ -48,7 +47,6 @@ use Rattle.parking_lot_protocol.specs.declared.mutex_phase.MutexPhase.{MutexPhas
 use Rattle.parking_lot_world.proofs.RwCalls.{CallMeets, as_move, call_role, call_wakes, tardy_wakes}
 use Rattle.parking_lot_world.proofs.RwSleeps.{call_woken as woken_call_is}
 use Rattle.parking_lot_world.specs.RowSteps.{IsRwMove}
-use Rattle.parking_lot_world.specs.MutexLaws.{Plays}
 use Rattle.parking_lot_world.specs.declared.seat.LatePhase.{LatePhase}
 use Rattle.parking_lot_world.specs.declared.seat.Core.{Core}
 

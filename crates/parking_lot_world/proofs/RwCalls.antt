@@ -34,7 +34,7 @@ use Rattle.parking_lot_upgrades.specs.declared.upgrade_phase.Hold as hold_type
 use Rattle.parking_lot_upgrades.specs.declared.upgrade_phase.Release.{Release}
 use Rattle.parking_lot_upgrades.specs.declared.upgrade_phase.UpgradePhase.{UpgradePhase}
 use Rattle.parking_lot_world.specs.Passes.{asks}
-use Rattle.parking_lot_world.specs.RowFits.{IsPrepared, KnowsList, late_rw_prepared, rw_prepared, sleeper_prepared, upgrade_prepared, IsCounted, IsInside, IsOfWorld, rw_keeps, upgrade_keeps}
+use Rattle.parking_lot_world.specs.RowFits.{IsPrepared, KnowsList, late_rw_prepared, rw_prepared, sleeper_prepared, upgrade_prepared, IsCounted, IsInside, IsOfWorld, rw_keeps}
 use Rattle.parking_lot_world.specs.RowSteps.{IsLateRwMove, IsMoveOf, IsRwMove}
 use Rattle.parking_lot_world.specs.Rows.{State, rw_core_role, rw_spot}
 use Rattle.parking_lot_world.specs.RwLaws.{Finds, IsStep, Learns, Meets, with_role, count_shared}
@@ -371,10 +371,11 @@ tardy_makes recursive l t n at us (LateRwPhase.LeavesPending from) x ActResult.M
     ((h.here, tt), ap (λ w. record l { word = w; roles = slice_set l.roles t (call_role n QueuePosition.Listed us (Upgradable (record { phase = UpgradePhase.YieldLoads from }))) }) h.word)
 tardy_makes recursive l t n at us (LateRwPhase.WasTaken k by handed) x ActResult.Made h told step e =
     let r = resumed recursive n us k by handed h.stands.0 h.stands.1 in
-    subst (λ q. IsStep recursive t (Alone q) l (call_lock l t n us (Tardy (LateRwPhase.WasTaken k by handed)) ActResult.Made x)) (ap step_of e)
-    ((h.here ∙ ap Some r.0, resumes_may recursive (pending_from k) (sleeper_wants k) by handed l),
-    resumes_write (pending_from k) (sleeper_wants k) by handed l t ∙ ap (λ q. record l { roles = slice_set l.roles t q }) (sym r.1) ∙ ap (λ b. record l { roles = slice_set l.roles t (call_role n QueuePosition.Listed us (resumed_call b k handed)) }) (sym h.stands.0)
-    ∙ ap (λ w. record l { word = w; roles = slice_set l.roles t (call_role n QueuePosition.Listed us (resumed_call (sleeper_asleep k) k handed)) }) h.word)
+    subst (λ q. IsStep recursive t (Alone q) l (call_lock l t n us (Tardy (LateRwPhase.WasTaken k by handed)) ActResult.Made x)) (ap step_of e) (
+      (h.here ∙ ap Some r.0, resumes_may recursive (pending_from k) (sleeper_wants k) by handed l),
+      resumes_write (pending_from k) (sleeper_wants k) by handed l t ∙ ap (λ q. record l { roles = slice_set l.roles t q }) (sym r.1) ∙ ap (λ b. record l { roles = slice_set l.roles t (call_role n QueuePosition.Listed us (resumed_call b k handed)) }) (sym h.stands.0)
+          ∙ ap (λ w. record l { word = w; roles = slice_set l.roles t (call_role n QueuePosition.Listed us (resumed_call (sleeper_asleep k) k handed)) }) h.word,
+    )
 tardy_makes recursive l t n at us (LateRwPhase.Expires k) x (ActResult.Woken token) h told step e = absurd cc
 tardy_makes recursive l t n at us p x s h told step e = absurd told
 

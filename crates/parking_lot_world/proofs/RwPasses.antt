@@ -1,5 +1,5 @@
 -- One that is to wake others is to the lock what those are that are left, and so it is once it has woken one: at a reader-writer lock.
-use Rattle.std.proofs.Common.{cond, ◌≡◌, ℕ, ◌-◌, Bool, true, false, List, ◌∷◌, refl}
+use Rattle.std.proofs.Common.{cond, ◌≡◌, ℕ, ◌-◌, Bool, true, false, List, refl}
 use Rattle.std.specs.Prelude.{nat_lt}
 use Rattle.parking_lot_core_lot.specs.declared.place.Waiter.{Waiter}
 use Rattle.parking_lot_rules.specs.Roles.{Owned, Role, Shares}

@@ -17,7 +17,6 @@ use Rattle.parking_lot_protocol.specs.declared.mutex_phase.MutexPhase.{MutexPhas
 use Rattle.parking_lot_protocol.specs.declared.rw_phase.RwPhase.{RwPhase}
 use Rattle.parking_lot_protocol.specs.declared.act.CoreAnswer.TheVariants as answer
 use Rattle.parking_lot_protocol.specs.declared.rw_phase.AfterWake.TheVariants as rest
-use Rattle.parking_lot_protocol.specs.MutexRules as rules_of_mutex
 use Rattle.parking_lot_protocol.specs.RwRules as rules_of_rw
 use Rattle.parking_lot_protocol.specs.MutexTable as of_mutex
 use Rattle.parking_lot_protocol.specs.RwTable as of_rw
@@ -40,8 +39,8 @@ use Rattle.parking_lot_world.specs.declared.seat.Core.{Core}
 use Rattle.parking_lot_world.specs.declared.open_call.Call.{Call}
 use Rattle.parking_lot_world.specs.CallViews.{mutex_mode, rw_mode}
 use Rattle.parking_lot_world.specs.Machines.{can_move, can_move_in, goes_late, is_asleep, is_possible, is_taken, sleeps}
-use Rattle.parking_lot_world.specs.RowFits.{FitsTogether, IsOfKind, IsOfManner, IsTaken, Stands, Seated}
-use Rattle.parking_lot_world.specs.Rows.{State, first_of_all, mutex_spot, rw_spot, lock_as, mutex_at, rw_lock_at, call_at, everybody, hold_at, lock_at, mutex_role_at, rw_role_at, taken_by}
+use Rattle.parking_lot_world.specs.RowFits.{FitsTogether, IsOfKind, IsOfManner, Stands, Seated}
+use Rattle.parking_lot_world.specs.Rows.{State, mutex_spot, rw_spot, lock_as, mutex_at, rw_lock_at, call_at, everybody, hold_at, lock_at, mutex_role_at, rw_role_at, taken_by}
 use Rattle.parking_lot_world.specs.SoundLaws.{IsApart, SomebodyCanMove, SomebodyKeeps}
 use Rattle.parking_lot_world.specs.Stances.{Stance, Out, In, Doing, late_act, late_stance, taken_count, mutex_taken, rw_taken, core_act, mutex_stance, rw_stance, stance}
 use Rattle.parking_lot_world.specs.Stances as stances
@@ -49,7 +48,6 @@ use Rattle.parking_lot_world.specs.Worlds.{mode_in}
 use Rattle.parking_lot_world.proofs.Everybody.{get-all, within-all, was-all}
 use Rattle.parking_lot_world.proofs.Viewing.{apart_role}
 use Rattle.parking_lot_world.proofs.KindTable.{MutexCall, Plain, Late, mutex_call, Kind, of_mutexes, of_rws, role_at, role_now}
-use Rattle.parking_lot_world.proofs.Carrying.{taken_some}
 use Rattle.parking_lot_world.proofs.Meeting.{in_range, mutex_sound, rw_sound}
 use Rattle.parking_lot_world.specs.declared.late_rw.LateRwPhase.{LateRwPhase}
 use Rattle.parking_lot_world.specs.LateActs.{comes_late, is_back, is_pending, late_is_back, late_rw_is_back}

@@ -31,7 +31,7 @@ use Rattle.parking_lot_world.specs.RowActs.{key_of, took}
 use Rattle.parking_lot_world.specs.RowFits.{FitsTogether, IsOfKind, IsPrepared}
 use Rattle.parking_lot_world.proofs.TakeSleepers.{rw_waits}
 use Rattle.parking_lot_world.specs.Rows.{State, word_at, call_at, taken_by, rw_spot, rw_lock_at, first_of_all, mutex_spot, mutex_at}
-use Rattle.parking_lot_world.specs.Stances.{Takes, In, mutex_stance, stance, taken_count, core_next}
+use Rattle.parking_lot_world.specs.Stances.{Takes, In, mutex_stance, stance, core_next}
 use Rattle.parking_lot_world.specs.declared.open_call.Call.{Call}
 use Rattle.parking_lot_world.specs.declared.seat.Core.{Core}
 

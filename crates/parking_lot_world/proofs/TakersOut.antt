@@ -1,5 +1,5 @@
 -- One that has taken others and is in no section is to wake them.
-use Rattle.std.proofs.Common.{◌≡◌, ℕ, ◌≤◌, arith, Bool, true, false, List, [], ◌∷◌, ◌++◌, ◌==◌, cond, map, filter, remove, Some, zero, suc, slice_get, refl, sym, ap, ◌∙◌, subst, eq-eqb}
+use Rattle.std.proofs.Common.{◌≡◌, ℕ, ◌≤◌, arith, Bool, true, false, List, [], ◌∷◌, ◌++◌, ◌==◌, cond, map, filter, remove, Some, zero, suc, slice_get, refl, ap, ◌∙◌, eq-eqb}
 use Rattle.std.proofs.lemmas.Option.{none-some}
 use Rattle.parking_lot_protocol.specs.declared.act.Act.{Act}
 use Rattle.parking_lot_protocol.specs.declared.act.SectionAct.TheVariants as section

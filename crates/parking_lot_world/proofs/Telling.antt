@@ -34,7 +34,7 @@ use Rattle.parking_lot_world.specs.RowActs.{settled_spot, settled, told_of}
 use Rattle.parking_lot_world.specs.RowFits.{FitsTogether, IsOfKind, IsPrepared, KnowsList, IsOfManner}
 use Rattle.parking_lot_world.specs.Rows.{State, inside, word_at, call_at, hold_at, taken_by, mark_of, rw_lock_at, first_of_all, mutex_spot, mutex_word_of, mutex_at, queue_at}
 use Rattle.parking_lot_world.specs.RowSteps.{IsMutexMove, IsRwMove}
-use Rattle.parking_lot_world.specs.Stances.{Doing, In, Asleep, Stores, sign, late_act, mutex_stance, stance, taken_count, core_act, core_next, core_tells}
+use Rattle.parking_lot_world.specs.Stances.{Doing, In, Asleep, Stores, sign, late_act, mutex_stance, stance, core_act, core_next, core_tells}
 use Rattle.parking_lot_world.specs.declared.open_call.Call.{Call}
 use Rattle.parking_lot_world.specs.declared.seat.LatePhase.{LatePhase}
 use Rattle.parking_lot_world.specs.declared.seat.Core.{Core}

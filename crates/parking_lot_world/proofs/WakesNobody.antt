@@ -17,16 +17,15 @@ use Rattle.parking_lot_world.specs.declared.seat.Core.{Core}
 use Rattle.parking_lot_world.specs.declared.seat.QueuePosition.{QueuePosition}
 use Rattle.parking_lot_world.specs.declared.open_call.Call.{Call}
 use Rattle.parking_lot_world.specs.ActLaws.{Keeps}
-use Rattle.parking_lot_world.specs.Rows.{State, word_at, call_at, taken_by, rw_lock_at, mutex_at, inside}
+use Rattle.parking_lot_world.specs.Rows.{State, word_at, call_at, taken_by}
 use Rattle.parking_lot_world.specs.RowActs.{hears, woke_nobody}
 use Rattle.parking_lot_world.specs.RowFits.{FitsTogether, IsOfKind, IsPrepared}
-use Rattle.parking_lot_world.specs.RowSteps.{IsMutexMove, IsQuiet, IsRwMove}
+use Rattle.parking_lot_world.specs.RowSteps.{IsMutexMove, IsRwMove}
 use Rattle.parking_lot_world.specs.Stances.{In, Takes, Out, Asleep, core_act, core_next, stance}
 use Rattle.parking_lot_world.proofs.KindTable.{Plain, RwCall, Simple, Upgradable, next_is, of_mutexes, of_rws, roles_at, rw_call, rw_next, same, in_its_place}
 use Rattle.parking_lot_world.proofs.LotNobody.{nobody_fits}
 use Rattle.parking_lot_world.proofs.Making.{quiet}
 use Rattle.parking_lot_world.proofs.Meeting.{in_range, meets, rw_hears}
-use Rattle.parking_lot_world.proofs.OwnActs.{two_kinds}
 use Rattle.parking_lot_world.proofs.Owning.{OwnAct, own-there, own-elsewhere, own_after, set-same}
 use Rattle.parking_lot_world.proofs.Passing.{own_passes}
 use Rattle.parking_lot_world.proofs.Rousing.{late_wakes, mutex_wakes}

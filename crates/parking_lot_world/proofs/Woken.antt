@@ -1,5 +1,5 @@
 -- How the code of waking finds whom it wakes, and what it leaves.
-use Rattle.std.proofs.Common.{◌≡◌, ℕ, List, Option, Some, remove, slice_get, slice_set, slice_index_or, sym, ap, ◌∙◌, subst, ◌≤◌, length, Bool, true, false, [], ◌∷◌, is_some, refl, arith}
+use Rattle.std.proofs.Common.{◌≡◌, ℕ, List, Option, Some, remove, slice_get, slice_set, slice_index_or, sym, ap, ◌∙◌, subst, ◌≤◌, length, true, false, [], ◌∷◌, is_some, refl, arith}
 use Rattle.std.proofs.lemmas.Option.{same_Some, slice_get_within, slice_get-get_or}
 use Rattle.std.specs.List.{position_or_len}
 use Rattle.parking_lot_core_lot.specs.declared.parking.UnparkToken.{UnparkToken}

@@ -239,7 +239,9 @@ fn late_rw_mode(phase: LateRwPhase, spot: QueuePosition, others: u8) -> Option<O
         LateRwPhase::Quits(sleeper) => late_sleeper_mode(sleeper, QueuePosition::Listed, others),
         LateRwPhase::LeavesPending(_) => Some(OwnMode::Pending),
         LateRwPhase::WasTaken(sleeper, by, handed) => late_sleeper_mode(
-            sleeper, QueuePosition::Off(by, told_as(handed)), others,
+            sleeper,
+            QueuePosition::Off(by, told_as(handed)),
+            others,
         ),
         LateRwPhase::Masks | LateRwPhase::Leaves | LateRwPhase::GivesUp => None,
     }

@@ -121,8 +121,7 @@ impl<A: Allocator> RowMachine<A> {
     fn goes_late(&self, call: &Call) -> bool
         ensures { result ≡ goes_late (state self.now) call.now call.now.core }
     {
-        call.core.is_back()
-            || (call.core.comes_late() && !self.lot.is_entered(call.lock))
+        call.core.is_back() || (call.core.comes_late() && !self.lot.is_entered(call.lock))
     }
 
     /// Whether a thread's deadline may come: it sleeps in a timed call, in its list or taken and not woken yet, and it hasn't come before.

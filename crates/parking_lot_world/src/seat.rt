@@ -317,9 +317,9 @@ impl LatePhase {
     {
         match (self, seen) {
             (LatePhase::Expires, ActResult::Woken(token)) => Core::Mutex(woken_mutex(token)),
-            (LatePhase::WasTaken(_, handed), ActResult::Made) => Core::Mutex(woken_mutex(
-                token_of(handed),
-            )),
+            (LatePhase::WasTaken(_, handed), ActResult::Made) => Core::Mutex(woken_mutex(token_of(
+                handed,
+            ))),
             (LatePhase::Expires, ActResult::Entered) => Core::Late(LatePhase::Quits),
             (LatePhase::Quits, ActResult::Took { token: _, left }) => Core::Late(if left {
                 LatePhase::Leaves
