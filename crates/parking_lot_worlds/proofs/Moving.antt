@@ -188,18 +188,18 @@ module _ (s : State) (h : FitsTogether s) where
       → ((goes_late s c (Core.Late p) || is_possible (is_taken s c) (core_act (Core.Late p))) ≡ true) × (core_enters (Core.Late p) ≡ false)
   late_inside c LatePhase.Expires k how e = absurd cc
   late_inside c LatePhase.Quits k how e = (refl, refl)
-  late_inside c LatePhase.Masks k how e = (or_else _ true refl, refl)
-  late_inside c LatePhase.Leaves k how e = (or_else _ true refl, refl)
+  late_inside c LatePhase.Masks k how e = (refl, refl)
+  late_inside c LatePhase.Leaves k how e = (refl, refl)
   late_inside c LatePhase.GivesUp k how e = absurd cc
-  late_inside c (LatePhase.WasTaken by handed) k how e = (or_else _ true refl, refl)
+  late_inside c (LatePhase.WasTaken by handed) k how e = (refl, refl)
 
   tardy_inside : (c : Call) (p : LateRwPhase) (k : ℕ) (how : Doing) → stance (Core.LateRw p) ≡ In k how
       → ((goes_late s c (Core.LateRw p) || is_possible (is_taken s c) (core_act (Core.LateRw p))) ≡ true) × (core_enters (Core.LateRw p) ≡ false)
   tardy_inside c (LateRwPhase.Expires z) k how e = absurd (lies_out (sleeper_stance z) k how e)
   tardy_inside c (LateRwPhase.Quits z) k how e = (refl, refl)
-  tardy_inside c LateRwPhase.Masks k how e = (or_else _ true refl, refl)
-  tardy_inside c LateRwPhase.Leaves k how e = (or_else _ true refl, refl)
-  tardy_inside c (LateRwPhase.LeavesPending from) k how e = (or_else _ true refl, refl)
+  tardy_inside c LateRwPhase.Masks k how e = (refl, refl)
+  tardy_inside c LateRwPhase.Leaves k how e = (refl, refl)
+  tardy_inside c (LateRwPhase.LeavesPending from) k how e = (refl, refl)
   tardy_inside c LateRwPhase.GivesUp k how e = absurd cc
   tardy_inside c (LateRwPhase.WasTaken z by handed) k how e = (or_else _ true refl, refl)
 
