@@ -1,8 +1,8 @@
 -- What threads are about, in a step: the thread's own call goes on or is over, and everybody else is about the same.
-use Rattle.std.proofs.Common.{◌+◌, ◌∷◌, [], not, suc, eqb-true, ◌⊎◌, ◌==◌, ◌≡◌, ◌≢◌, ℕ, ◌<◌, inl, inr, Bool, true, false, cond, List, map, length, Option, Some, None, get_or, slice_get, slice_set, refl, sym, ap, ◌∙◌, subst, arith}
+use Rattle.std.proofs.Common.{◌≡◌, ◌≢◌, ℕ, ◌<◌, inl, inr, Bool, true, false, cond, List, map, length, Option, Some, None, get_or, slice_get, slice_set, refl, sym, ap, ◌∙◌, subst, arith}
 use Rattle.std.specs.List.{position_or_len}
 use Rattle.std.specs.Option.{option_and_then, option_map}
-use Rattle.std.proofs.lemmas.Bool.{both_ways, cases_eq, false≢true}
+use Rattle.std.proofs.lemmas.Bool.{cases_eq, false≢true}
 use Rattle.std.proofs.lemmas.List.{length-set}
 use Rattle.std.proofs.lemmas.Option.{none-some, same_Some, slice_get_within, slice_get-get_or}
 use Rattle.parking_lot_core_lot.specs.declared.parking.UnparkToken.{UnparkToken}
@@ -23,8 +23,8 @@ use Rattle.parking_lot_world.specs.declared.seat.Wakeup.{Wakeup}
 use Rattle.parking_lot_world.specs.LateActs.{found_as}
 use Rattle.parking_lot_world.specs.Machines.{Became, BecameInside, IsStepped, end_of}
 use Rattle.parking_lot_world.specs.RowActs.{hears, off_list, settled}
-use Rattle.parking_lot_world.specs.RowFits.{HasGoneOn, IsTaken, FitsTogether, IsPrepared}
-use Rattle.parking_lot_world.specs.Rows.{is_taken_by, State, call_at, is_by}
+use Rattle.parking_lot_world.specs.RowFits.{FitsTogether, IsPrepared}
+use Rattle.parking_lot_world.specs.Rows.{State, call_at, is_by}
 use Rattle.parking_lot_world.specs.Stances.{Asleep, Stance, core_act, core_next, rw_stance, stance}
 use Rattle.parking_lot_world.specs.TellLaws.{IsDue}
 use Rattle.mapworld_locks.specs.Stands.{Stand, core_aim, core_tries, is_trying, stand_of}
@@ -137,18 +137,6 @@ module _ (s : State) (t : ℕ) (c : Call) (low : t < length s.calls) where
 -- A step that isn't an answer leaves its thread in its call.
 pub own_call : (s u : State) (t : ℕ) (fair : Bool) (x : IsStepped t fair None s u) → GoesOnBy x.call (call_at u t)
 own_call s u t fair x = own_goes s t x.call (slice_get_within s.calls t (Some x.call) (slot s.calls t x.call x.here)) (core_act x.call.core) fair u (sym x.answers) x.became
-
--- who is to be woken first is by whom wakes it
-first_by : (t : ℕ) (ws : List Wakeup) (e : Wakeup) → slice_get ws (position_or_len (is_by t) ws) ≡ Some e → e.by ≡ t
-first_by t [] e h = absurd (none-some e h)
-first_by t (w ∷ ws) e h = go (w.by == t) refl (first_by t ws e) h
-  where
-    one_more : (n : ℕ) → 1 + n ≡ suc n
-    one_more n = omega arith
-
-    go : (b : Bool) → (w.by == t) ≡ b → (slice_get ws (position_or_len (is_by t) ws) ≡ Some e → e.by ≡ t) → slice_get (w ∷ ws) (cond (not b) (1 + position_or_len (is_by t) ws) 0) ≡ Some e → e.by ≡ t
-    go true is later at = ap (λ (x : Wakeup). x.by) (sym (same_Some w e at)) ∙ eqb-true w.by t is
-    go false is later at = later (sym (ap (slice_get (w ∷ ws)) (one_more (position_or_len (is_by t) ws))) ∙ at)
 
 -- EVERYBODY ELSE
 
@@ -278,14 +266,9 @@ module _ (s : State) (h : FitsTogether s) (cores : (u : ℕ) (d : Call) → call
       woken : Option Call
       woken = Some (record (hears d (ActResult.Woken token)) { spot = QueuePosition.Listed })
 
-      still_taken : IsTaken s e ⊎ HasGoneOn s e → IsTaken s e
-      still_taken (inl x) = x
-      still_taken (inr x) =
-          absurd (both_ways (is_taken_by t (call_at s e.thread)) (ap (λ b. is_taken_by b (call_at s e.thread)) (sym (first_by t s.wakes e due.first)) ∙ x.on) (ap (is_taken_by t) due.there ∙ due.taken))
-
       asleep : sleeps (stance d.core) ≡ true
       asleep =
-          let taken = still_taken (h.lots.woken (position_or_len (is_by t) s.wakes) e due.first) in
+          let taken = h.lots.woken (position_or_len (is_by t) s.wakes) e due.first in
           ap (λ (x : Call). sleeps (stance x.core)) (same_Some d taken.call (sym due.there ∙ taken.here)) ∙ ap sleeps taken.asleep
 
   goes_inside : (k : SectionAct) (fair : Bool) (u : State) → FitsTogether u → BecameInside k t fair c s u → Same u.calls
