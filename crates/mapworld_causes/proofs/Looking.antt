@@ -115,7 +115,7 @@ module _ (s : State) (t : ℕ) (c : Call) (v : ℕ) (ne : v ≢ t) where
   kept Act.Spin fair u e = is u _ e (told _)
   kept (Act.Enter key) fair u e = is u _ e (told _)
   kept (Act.Section next) fair u b = kept-inside next fair u b
-  kept Act.Sleep fair u b = let l = late_is s u t c c.core refl b in is u _ l.2 (told _)
+  kept Act.Sleep fair u b = let l = late_is s u t c c.core refl b in is u _ l.3 (told _)
   kept (Act.Done answer) fair u e = is u _ e (told None)
 
 -- in a step another's call sees nothing that it hadn't seen
@@ -189,7 +189,7 @@ module _ (s : State) (t : ℕ) (c : Call) where
   told-by Act.Spin fair u e = was u _ e (heard _ _)
   told-by (Act.Enter key) fair u e = was u _ e (heard _ _)
   told-by (Act.Section next) fair u b = told-inside next fair u b
-  told-by Act.Sleep fair u b = let l = late_is s u t c c.core refl b in was u _ l.2 (late-told s.calls l.0 l.5)
+  told-by Act.Sleep fair u b = let l = late_is s u t c c.core refl b in was u _ l.3 (late-told s.calls l.0 l.6)
   told-by (Act.Done answer) fair u e = was u _ e ends
 
   -- it saw that before, or tries and the word isn't 0 now

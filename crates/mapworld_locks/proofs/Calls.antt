@@ -18,6 +18,7 @@ use Rattle.parking_lot_world.specs.declared.late_rw.LateRwPhase.{LateRwPhase}
 use Rattle.parking_lot_world.specs.declared.seat.LatePhase.{LatePhase}
 use Rattle.parking_lot_world.specs.declared.seat.QueuePosition.{QueuePosition}
 use Rattle.parking_lot_world.specs.declared.seat.WakeResult.{WakeResult}
+use Rattle.parking_lot_world.specs.declared.seat.Wakeup.{Wakeup}
 use Rattle.parking_lot_world.specs.LateActs.{came_back, comes_late, found_as, is_handed, others_left, quitted}
 use Rattle.parking_lot_world.specs.Machines.{Became, BecameInside, BecameLate, IsStepped}
 use Rattle.parking_lot_world.specs.RowActs.{hears, off_list, settled, with_call, with_lot}
@@ -34,18 +35,20 @@ call_of calls t = option_and_then (λ c. c) (slice_get calls t)
 abbrev pub Hears : Core → Core → Type 0
 Hears k m = ((told : ActResult) × (m ≡ core_next k told)) ⊎ ((by : ℕ) × (handed : Bool) × (comes_late k ≡ true) × (m ≡ found_as by handed k))
 
--- What one leaves whose moment has passed, as it comes back or takes itself out: its call goes on, and the lot has changed.
+-- What one leaves whose moment has passed, as it comes back or takes itself out: its call goes on, and the lot has changed, and
+-- who is still to be woken.
 abbrev pub LateGoes : State → ℕ → Call → State → Type 0
-LateGoes s t c u = (d : Call) × (l : Machine) × (u ≡ with_lot (with_call s t d) l) × (d.lock ≡ c.lock) × (d.others ≡ c.others) × Hears c.core d.core
+LateGoes s t c u =
+    (d : Call) × (l : Machine) × (ws : List Wakeup) × (u ≡ record (with_lot (with_call s t d) l) { wakes = ws }) × (d.lock ≡ c.lock) × (d.others ≡ c.others) × Hears c.core d.core
 
 module _ (s u : State) (t : ℕ) (c : Call) where
   late_back : (at : QueuePosition) → comes_late c.core ≡ true → u ≡ came_back at s t c → LateGoes s t c u
-  late_back QueuePosition.Listed comes e = (hears c ActResult.Entered, _, e, refl, refl, inl (ActResult.Entered, refl))
+  late_back QueuePosition.Listed comes e = (hears c ActResult.Entered, _, s.wakes, e, refl, refl, inl (ActResult.Entered, refl))
   late_back (QueuePosition.Off by said) comes e =
-      (record c { core = found_as by (is_handed said) c.core; spot = QueuePosition.Listed }, _, e, refl, refl, inr (by, is_handed said, comes, refl))
+      (record c { core = found_as by (is_handed said) c.core; spot = QueuePosition.Listed }, _, _, e, refl, refl, inr (by, is_handed said, comes, refl))
 
   late_out : u ≡ quitted s t c → LateGoes s t c u
-  late_out e = (hears c (ActResult.Took None (others_left s t c)), _, e, refl, refl, inl (ActResult.Took None (others_left s t c), refl))
+  late_out e = (hears c (ActResult.Took None (others_left s t c)), _, s.wakes, e, refl, refl, inl (ActResult.Took None (others_left s t c), refl))
 
   pub late_is : (k : Core) → c.core ≡ k → BecameLate k t c s u → LateGoes s t c u
   late_is (Core.Late LatePhase.Expires) same e = late_back c.spot (ap comes_late same) e
@@ -320,7 +323,7 @@ module _ (s : State) (t : ℕ) (c : Call) (here : call_at s t ≡ Some c) where
   goes Act.Spin fair u e = is u _ e (told _)
   goes (Act.Enter key) fair u e = is u _ e (told _)
   goes (Act.Section next) fair u b = goes_inside next fair u b
-  goes Act.Sleep fair u b = let l = late_is s u t c c.core refl b in is u _ l.2 (set_goes s.calls t c l.0 here (follows_heard c l.0 l.3 l.4 l.5))
+  goes Act.Sleep fair u b = let l = late_is s u t c c.core refl b in is u _ l.3 (set_goes s.calls t c l.0 here (follows_heard c l.0 l.4 l.5 l.6))
   goes (Act.Done answer) fair u e = is u _ e (ends_goes s.calls t c here)
 
 pub stepped_goes : (s u : State) (t : ℕ) (fair : Bool) (answer : Option CoreAnswer) → IsStepped t fair answer s u → GoesOn s.calls u.calls

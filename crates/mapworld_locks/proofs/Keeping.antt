@@ -151,7 +151,7 @@ module _ (s : State) (t : ℕ) (c : Call) (plain : IsPlain s) where
   goes here Act.Spin fair u e = is u _ e refl refl
   goes here (Act.Enter key) fair u e = is u _ e refl refl
   goes here (Act.Section next) fair u b = inside next fair u b
-  goes here Act.Sleep fair u b = let l = late_is s u t c c.core refl b in is u _ l.2 refl refl
+  goes here Act.Sleep fair u b = let l = late_is s u t c c.core refl b in is u _ l.3 refl refl
   goes here (Act.Done answer) fair u e = record {
     kinds = ap (λ (x : State). x.kinds) e;
     single = subst (All IsSingle) (sym (ap (λ (x : State). x.holds) e)) (all_set IsSingle s.holds (cell s t c.lock) (hold_after c.others c.core) plain.single (after c.core (plain.alone t c here) (plain.cores t c here)));

@@ -131,7 +131,7 @@ module _ (s : State) (t : ℕ) (c : Call) (low : t < length s.calls) where
   own_goes Act.Spin fair u none e = is_own u _ e (own_told _)
   own_goes (Act.Enter key) fair u none e = is_own u _ e (own_told _)
   own_goes (Act.Section next) fair u none b = own_inside next fair u b
-  own_goes Act.Sleep fair u none b = let l = late_is s u t c c.core refl b in is_own u _ l.2 (record { call = l.0; there = set_low s.calls t (Some l.0) low; lock = l.3; others = l.4; heard = l.5 })
+  own_goes Act.Sleep fair u none b = let l = late_is s u t c c.core refl b in is_own u _ l.3 (record { call = l.0; there = set_low s.calls t (Some l.0) low; lock = l.4; others = l.5; heard = l.6 })
   own_goes (Act.Done answer) fair u none e = absurd (none-some answer (sym none))
 
 -- A step that isn't an answer leaves its thread in its call.
@@ -300,7 +300,7 @@ module _ (s : State) (h : FitsTogether s) (cores : (u : ℕ) (d : Call) → call
   goes Act.Spin fair u g e = is u _ e (apart s.calls _)
   goes (Act.Enter key) fair u g e = is u _ e (apart s.calls _)
   goes (Act.Section next) fair u g b = goes_inside next fair u g b
-  goes Act.Sleep fair u g b = let l = late_is s u t c c.core refl b in is u _ l.2 (apart s.calls _)
+  goes Act.Sleep fair u g b = let l = late_is s u t c c.core refl b in is u _ l.3 (apart s.calls _)
   goes (Act.Done answer) fair u g e = is u _ e (apart s.calls _)
 
 -- In a step everybody else stays about the same.

@@ -174,7 +174,7 @@ module _ (s : State) (h : FitsTogether s) (t : ℕ) (c : Call) (here : call_at s
   goes Act.Spin fair u e = is u _ e (inl (apart _))
   goes (Act.Enter key) fair u e = is u _ e (inl (apart _))
   goes (Act.Section next) fair u b = goes_inside next fair u b
-  goes Act.Sleep fair u b = let l = late_is s u t c c.core refl b in is u _ l.2 (inl (apart _))
+  goes Act.Sleep fair u b = let l = late_is s u t c c.core refl b in is u _ l.3 (inl (apart _))
   goes (Act.Done answer) fair u e = is u _ e (inl (apart _))
 
 pub untold_or_taken : (s u : State) (t : ℕ) (fair : Bool) (answer : Option CoreAnswer) → FitsTogether s → IsStepped t fair answer s u
