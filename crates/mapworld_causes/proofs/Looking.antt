@@ -3,7 +3,6 @@ use Rattle.std.proofs.Common.{◌≡◌, ◌≢◌, ℕ, zero, suc, ◌+◌, ◌
 use Rattle.std.specs.Option.{option_map, option_and_then}
 use Rattle.std.proofs.lemmas.Bool.{cases_eq, false≢true, eqb-false, ne_eqb}
 use Rattle.std.proofs.lemmas.Option.{slice_get-map}
-use Rattle.parking_lot_core_lot.specs.Machine.{Machine}
 use Rattle.parking_lot_protocol.specs.declared.act.Act.{Act}
 use Rattle.parking_lot_protocol.specs.declared.act.SectionAct.{SectionAct}
 use Rattle.parking_lot_protocol.specs.declared.act.ActResult.{ActResult}
@@ -15,11 +14,9 @@ use Rattle.parking_lot_rules.proofs.Indexed.{get-set_other}
 use Rattle.parking_lot_protocol.specs.RwTable.{act_of, next_phase, share_of, tries}
 use Rattle.parking_lot_world.specs.declared.open_call.Call.{Call}
 use Rattle.parking_lot_world.specs.declared.seat.Core.{Core}
-use Rattle.parking_lot_world.specs.declared.late_rw.LateRwPhase.{LateRwPhase}
-use Rattle.parking_lot_world.specs.declared.seat.LatePhase.{LatePhase}
 use Rattle.parking_lot_world.specs.declared.seat.WakeResult.{WakeResult}
-use Rattle.parking_lot_world.specs.Machines.{Became, BecameInside, BecameLate, IsStepped}
-use Rattle.parking_lot_world.specs.RowActs.{hears, off_list, settled, loaded, exchanged, with_call, with_lot, with_word}
+use Rattle.parking_lot_world.specs.Machines.{Became, BecameInside, IsStepped}
+use Rattle.parking_lot_world.specs.RowActs.{hears, off_list, settled, loaded, exchanged, with_call, with_word}
 use Rattle.parking_lot_world.specs.Rows.{State, call_at, word_at}
 use Rattle.parking_lot_world.specs.Stances.{core_act, core_next}
 use Rattle.mapworld_locks.specs.Stands.{core_tries, is_trying}
@@ -150,7 +147,7 @@ module _ (s : State) (t : ℕ) (c : Call) where
   joined calls d k same seen = record { told = k; seen = sym (ap has_seen same) ∙ hears-here calls d seen }
 
   late-told : (calls : List (Option Call)) (d : Call) → Hears c.core d.core → WasTold (slice_set calls t (Some d))
-  late-told calls d (inl (told, core)) = joined calls d told core
+  late-told calls d (inl (told, core)) seen = joined calls d told core seen
   late-told calls d (inr (by, handed, comes, core)) seen =
       absurd (false≢true (sym (ap has_seen core ∙ found-unseen by handed c.core comes) ∙ hears-here calls d seen))
 

@@ -32,12 +32,12 @@ use Rattle.mapworld_locks.specs.Steps.{LockMoves}
 use Rattle.mapworld_locks.specs.Views.{Shown, held_as, held_at}
 use Rattle.mapworld_locks.proofs.Admitting.{AllSeated, IsSeated, seats_all}
 use Rattle.mapworld_locks.proofs.Answering.{stepped_fits}
-use Rattle.mapworld_locks.proofs.Calls.{heard_keeps, IsProper, next_keeps, slot, stepped_goes}
+use Rattle.mapworld_locks.proofs.Calls.{heard_keeps, IsProper, slot, stepped_goes}
 use Rattle.mapworld_locks.proofs.Ending.{held_by_role}
 use Rattle.mapworld_locks.proofs.Handing.{IsHandedOver, elsewhere, others, own, goes_by, no_mutex, within_kinds}
 use Rattle.mapworld_locks.proofs.Keeping.{stepped_kinds, stepped_plain}
 use Rattle.mapworld_locks.proofs.Moving.{Moved, Moves, moved}
-use Rattle.mapworld_locks.proofs.Standing.{heard_patient, GoesOnBy, core_patient, kept_proper, others_stand, own_call, sleeps}
+use Rattle.mapworld_locks.proofs.Standing.{heard_patient, GoesOnBy, kept_proper, others_stand, own_call, sleeps}
 use Rattle.mapworld_locks.proofs.Together.{go_together, holders_are_threads}
 use Rattle.mapworld_locks.proofs.Within.{within}
 
