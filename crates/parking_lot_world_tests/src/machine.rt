@@ -17,7 +17,7 @@ enum Line {
     Steps(usize, Option<CoreAnswer>),
     /// It goes on until it can't.
     Stops(usize),
-    /// The same so many steps, fairly.
+    /// It goes on by so many steps, fairly, and isn't answered.
     GoesFairly(usize, u32),
     /// Its moment passes.
     Expires(usize),
