@@ -5,3 +5,4 @@ pub mod Sequences
 pub mod Moves
 pub mod Notifying
 pub mod Replying
+pub mod Allowing
