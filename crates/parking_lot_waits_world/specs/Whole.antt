@@ -1,7 +1,6 @@
 -- What ties waits and mutexes together: which call each of a waiter's two numbers is in at the mutex, and what it owns there.
-use Rattle.std.specs.Prelude.{◌≡◌, ◌⊎◌, ℕ, ◌*◌, ◌==◌, ◌&&◌, if◌then◌else◌, Bool, true, false, length, Option, Some, None, slice_get}
+use Rattle.std.specs.Prelude.{◌≡◌, ◌⊎◌, ℕ, ◌*◌, ◌==◌, ◌&&◌, nat_lt, Bool, true, false, length, Option, Some, None, slice_get}
 use Rattle.std.specs.Option.{option_map}
-use Rattle.parking_lot_core_lot.specs.declared.parking.UnparkToken.{UnparkToken}
 use Rattle.parking_lot_waits.specs.declared.wait_core.WaitPhase.{WaitPhase}
 use Rattle.parking_lot_waits.specs.declared.wait_core.WaitPhase.TheVariants as w
 use Rattle.parking_lot_condvar_world.specs.declared.open_call.Core.{Core}
@@ -13,8 +12,8 @@ use Rattle.parking_lot_world.specs.Beginnings.{excludes, owns_nothing}
 use Rattle.parking_lot_world.specs.Rows.{State, call_at as row_call_at, hold_at, state}
 use Rattle.parking_lot_waits_world.specs.declared.turn.Turn.{Turn}
 use Rattle.parking_lot_waits_world.specs.declared.turn.Turn.TheVariants as turn
-use Rattle.parking_lot_waits_world.specs.Joint.{Joint, back_number, call_at, front_number, is_open_at_variables, row_goes, seat_at, var_at, var_goes}
-use Rattle.parking_lot_waits_world.specs.Turns.{mutex_of}
+use Rattle.parking_lot_waits_world.specs.Joint.{Joint, back_number, busy_number, call_at, front_number, is_open_at_variables, row_goes, seat_at, var_at, var_goes}
+use Rattle.parking_lot_waits_world.specs.Turns.{mutex_of, turn_of}
 
 -- A NUMBER AT A MUTEX
 
@@ -142,3 +141,15 @@ simply_turns turn.Locks j t v c = row_goes j (back_number j t)
 simply_turns turn.ComesBack j t v c = true
 simply_turns turn.Hears j t v c = true
 simply_turns turn.Moves j t v c = true
+
+abbrev pub simply_goes_as : Option OpenCall → Joint → ℕ → ℕ → Bool
+simply_goes_as None j t v = false
+simply_goes_as (Some c) j t v = simply_turns (turn_of c) j t v c
+
+abbrev pub simply_goes_at : Option ℕ → Joint → ℕ → Bool
+simply_goes_at None j t = row_goes j (busy_number j t)
+simply_goes_at (Some v) j t = simply_goes_as (call_at j v t) j t v
+
+-- A thread can make a step.
+abbrev pub simply_goes : Joint → ℕ → Bool
+simply_goes j t = nat_lt t (length j.seats) && simply_goes_at (seat_at j t).at j t
