@@ -6,3 +6,4 @@ pub mod Moves
 pub mod Notifying
 pub mod Replying
 pub mod Allowing
+pub mod Places
