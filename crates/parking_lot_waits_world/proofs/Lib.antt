@@ -5,3 +5,5 @@ pub mod Sequences
 pub mod Moves
 pub mod Notifying
 pub mod Replying
+pub mod Allowing
+pub mod Places

@@ -57,7 +57,7 @@ still_roused s u v w lock timed x ne may = still s u v w lock _ (ap (λ (y : Sta
 
 -- NUMBERS OF DIFFERENT THREADS DIFFER
 
-apart : (n a b : ℕ) (x y : Bool) → a < n → b < n → a ≢ b → cond x (n + a) a ≢ cond y (n + b) b
+pub apart : (n a b : ℕ) (x y : Bool) → a < n → b < n → a ≢ b → cond x (n + a) a ≢ cond y (n + b) b
 apart n a b true true la lb ne e = ne (omega (arith, e))
 apart n a b false false la lb ne e = ne e
 apart n a b true false la lb ne e = omega (arith, e, lb)

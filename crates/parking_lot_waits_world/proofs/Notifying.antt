@@ -28,11 +28,11 @@ use Rattle.parking_lot_waits_world.specs.Moving.{AreTaken, MayNotify, MayNotifyI
 use Rattle.parking_lot_waits_world.specs.Turns.{turn_by, turn_of, wait_turn, notify_turn}
 
 -- it is about to look whether the mutex is locked
-record Marking (c : OpenCall) : Type 0 where
+pub record Marking (c : OpenCall) : Type 0 where
   pub all : Bool
   pub is : c.core ≡ core.Notify (record { phase = n.Marks all })
 
-abbrev is_moving : Turn → Bool
+abbrev pub is_moving : Turn → Bool
 is_moving turn.Moves = true
 is_moving t = false
 
@@ -78,7 +78,7 @@ which (n.Wakes count) e = absurd cc
 which (n.Ends count) e = absurd cc
 which n.Invalid e = absurd cc
 
-marking : (c : OpenCall) → is_moving (turn_of c) ≡ true → Marking c
+pub marking : (c : OpenCall) → is_moving (turn_of c) ≡ true → Marking c
 marking c e = go c.core refl e
   where
     go : (k : Core) → c.core ≡ k → is_moving (turn_by c.listed k) ≡ true → Marking c

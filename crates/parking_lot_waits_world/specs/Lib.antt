@@ -3,4 +3,5 @@ pub mod Joint
 pub mod Moving
 pub mod JointMoves
 pub mod JointSteps
+pub mod Whole
 pub mod JointLaws

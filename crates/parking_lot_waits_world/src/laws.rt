@@ -1,5 +1,5 @@
-//! Laws of a machine's answers.
-ghost use Rattle.parking_lot_waits_world.specs.JointLaws.{RepliesFit};
+//! Laws of a machine's answers and steps.
+ghost use Rattle.parking_lot_waits_world.specs.JointLaws.{RepliesFit, StepsAskNoMore};
 
 use parking_lot_condvar_world::laws as of_variables;
 
@@ -8,4 +8,11 @@ pub fn replies_fit_their_calls()
     ensures { RepliesFit }
 {
     of_variables::replies_fit_their_calls();
+}
+
+/// Where each waiter's two numbers are at its mutex as its wait says, a thread may make a step exactly where it doesn't sleep and enters no section while
+/// one is open.
+pub fn steps_ask_no_more()
+    ensures { StepsAskNoMore }
+{
 }
