@@ -238,9 +238,12 @@ module _ (j : Joint) (h : IsWhole j) (v : ℕ) (x : Var) (at : var_at j v ≡ So
 
       by_slot : (o : Option (Option OpenCall)) → slice_get x.calls t ≡ o → option_and_then (λ (y : Option OpenCall). y) o ≡ Some c → ⊥
       by_slot None is e = absurd (none-some c e)
-      by_slot (Some o) is e = absurd (omega (arith, weighs,
+      by_slot (Some o) is e = absurd (omega (
+        arith,
+        weighs,
         ap (at_index (rules.weight rules.Waiting)) (slice_get-map phase_in x.calls t ∙ ap (option_map phase_in) is) ∙ ap (λ (y : Option OpenCall). rules.weight rules.Waiting (phase_in y)) e ∙ ap (λ (k : Core). rules.weight rules.Waiting (phase_by c.listed k)) m.is,
-        notify_waits (n.Marks m.all)))
+        notify_waits (n.Marks m.all),
+      ))
 
   moves_all : (t : ℕ) (c : OpenCall) → var_call_at x t ≡ Some c → Marking c → list_all (may_move j (x.word - 1)) x.queue ≡ true
   moves_all t c here m = all_may t (sym (known.0.seated t c here).section ∙ ap (λ (k : Core). is_inside_by c.listed k) m.is) (not_itself t c here m)

@@ -14,5 +14,4 @@ pub fn replies_fit_their_calls()
 /// one is open.
 pub fn steps_ask_no_more()
     ensures { StepsAskNoMore }
-{
-}
+{}
