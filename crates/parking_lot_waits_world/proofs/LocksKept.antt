@@ -40,7 +40,7 @@ module _ (i : Joint) (r : Rows) (h : IsWhole i) (kinds : (state r).kinds ≡ (st
   so_still Away k m x (none, owns) = (x.place ∙ none, ap owns_nothing (x.holds m) ∙ owns)
   so_still Busy k m x at = x.place ∙ at
   so_still Free k m x none = x.place ∙ none
-  so_still Never k m x no = no
+  so_still Never k m x never = never
 
   stand_still : (t : ℕ) (c : OpenCall) (k : Core) → ((second : Bool) → Same (state i.rows) (state r) (number i t second)) → Stands i t c k → Stands j t c k
   stand_still t c (core.Notify k) still s = tt
