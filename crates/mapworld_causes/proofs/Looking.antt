@@ -3,7 +3,6 @@ use Rattle.std.proofs.Common.{◌≡◌, ◌≢◌, ℕ, zero, suc, ◌+◌, ◌
 use Rattle.std.specs.Option.{option_map, option_and_then}
 use Rattle.std.proofs.lemmas.Bool.{cases_eq, false≢true, eqb-false, ne_eqb}
 use Rattle.std.proofs.lemmas.Option.{slice_get-map}
-use Rattle.parking_lot_core_lot.specs.Machine.{Machine}
 use Rattle.parking_lot_protocol.specs.declared.act.Act.{Act}
 use Rattle.parking_lot_protocol.specs.declared.act.SectionAct.{SectionAct}
 use Rattle.parking_lot_protocol.specs.declared.act.ActResult.{ActResult}
@@ -15,27 +14,18 @@ use Rattle.parking_lot_rules.proofs.Indexed.{get-set_other}
 use Rattle.parking_lot_protocol.specs.RwTable.{act_of, next_phase, share_of, tries}
 use Rattle.parking_lot_world.specs.declared.open_call.Call.{Call}
 use Rattle.parking_lot_world.specs.declared.seat.Core.{Core}
-use Rattle.parking_lot_world.specs.declared.late_rw.LateRwPhase.{LateRwPhase}
-use Rattle.parking_lot_world.specs.declared.seat.LatePhase.{LatePhase}
 use Rattle.parking_lot_world.specs.declared.seat.WakeResult.{WakeResult}
-use Rattle.parking_lot_world.specs.Machines.{Became, BecameInside, BecameLate, IsStepped}
-use Rattle.parking_lot_world.specs.RowActs.{hears, off_list, settled, loaded, exchanged, with_call, with_lot, with_word}
+use Rattle.parking_lot_world.specs.Machines.{Became, BecameInside, IsStepped}
+use Rattle.parking_lot_world.specs.RowActs.{hears, off_list, settled, loaded, exchanged, with_call, with_word}
 use Rattle.parking_lot_world.specs.Rows.{State, call_at, word_at}
 use Rattle.parking_lot_world.specs.Stances.{core_act, core_next}
 use Rattle.mapworld_locks.specs.Stands.{core_tries, is_trying}
+use Rattle.mapworld_locks.proofs.Calls.{Hears, late_is}
 use Rattle.mapworld_causes.specs.Causes.{has_seen, has_seen_in}
-use Rattle.mapworld_causes.proofs.Noticing.{blind, late-unseen, looks_in, tardy-unseen, woken-unseen, seen-tries}
+use Rattle.mapworld_causes.proofs.Noticing.{blind, found-unseen, late-unseen, looks_in, tardy-unseen, woken-unseen, seen-tries}
 
 abbrev pub call_of : List (Option Call) → ℕ → Option Call
 call_of calls t = option_and_then (λ c. c) (slice_get calls t)
-
--- What one leaves whose moment has passed, as it comes back or takes itself out: its call was told something, and the lot has changed.
-late_is : (s u : State) (t : ℕ) (c : Call) (k : Core) → BecameLate k t c s u → (told : ActResult) × (l : Machine) × (u ≡ with_lot (with_call s t (hears c told)) l)
-late_is s u t c (Core.Late LatePhase.Expires) e = (_, _, e)
-late_is s u t c (Core.Late LatePhase.Quits) e = (_, _, e)
-late_is s u t c (Core.LateRw (LateRwPhase.Expires k)) e = (_, _, e)
-late_is s u t c (Core.LateRw (LateRwPhase.Quits k)) e = (_, _, e)
-late_is s u t c k e = absurd e
 
 -- whether a call has seen a word that isn't 0, if there is one
 abbrev pub sees : Option Call → Bool
@@ -110,7 +100,8 @@ module _ (s : State) (t : ℕ) (c : Call) (v : ℕ) (ne : v ≢ t) where
   kept-inside (SectionAct.Append token) fair u (k, stands, e) = is u _ e (told _)
   kept-inside (SectionAct.Store plain handing) fair u e = is u _ e (says _ _)
   kept-inside SectionAct.Leave fair u e = is u _ e (told _)
-  kept-inside SectionAct.Wake fair u (e, d, token, due, is_it) =
+  kept-inside SectionAct.Wake fair u (inr (gone, is_it)) = is u _ is_it (told _)
+  kept-inside SectionAct.Wake fair u (inl (e, d, token, due, is_it)) =
       is u _ is_it (own _ _ (other e.thread _ (λ seen. absurd (false≢true (sym (woken-unseen d.core token) ∙ seen)))))
 
   kept : (a : Act) (fair : Bool) (u : State) → Became a t fair c s u → Kept u.calls
@@ -121,7 +112,7 @@ module _ (s : State) (t : ℕ) (c : Call) (v : ℕ) (ne : v ≢ t) where
   kept Act.Spin fair u e = is u _ e (told _)
   kept (Act.Enter key) fair u e = is u _ e (told _)
   kept (Act.Section next) fair u b = kept-inside next fair u b
-  kept Act.Sleep fair u b = let l = late_is s u t c c.core b in is u _ l.2 (told _)
+  kept Act.Sleep fair u b = let l = late_is s u t c c.core refl b in is u _ l.3 (told _)
   kept (Act.Done answer) fair u e = is u _ e (told None)
 
 -- in a step another's call sees nothing that it hadn't seen
@@ -155,6 +146,11 @@ module _ (s : State) (t : ℕ) (c : Call) where
   joined : (calls : List (Option Call)) (d : Call) (k : ActResult) → d.core ≡ core_next c.core k → WasTold (slice_set calls t (Some d))
   joined calls d k same seen = record { told = k; seen = sym (ap has_seen same) ∙ hears-here calls d seen }
 
+  late-told : (calls : List (Option Call)) (d : Call) → Hears c.core d.core → WasTold (slice_set calls t (Some d))
+  late-told calls d (inl (told, core)) seen = joined calls d told core seen
+  late-told calls d (inr (by, handed, comes, core)) seen =
+      absurd (false≢true (sym (ap has_seen core ∙ found-unseen by handed c.core comes) ∙ hears-here calls d seen))
+
   said : (calls : List (Option Call)) (k : ActResult) (r : WakeResult) → WasTold (map (option_map (settled t r)) (slice_set calls t (Some (hears c k))))
   said calls k r seen =
       heard calls k (sym (ap sees (map-of (settled t r) (slice_set calls t (Some (hears c k))) t) ∙ settled-sees t r (call_of (slice_set calls t (Some (hears c k))) t)) ∙ seen)
@@ -178,7 +174,8 @@ module _ (s : State) (t : ℕ) (c : Call) where
   told-inside (SectionAct.Append token) fair u (k, stands, e) = was u _ e (joined _ _ ActResult.Made refl)
   told-inside (SectionAct.Store plain handing) fair u e = was u _ e (said _ _ _)
   told-inside SectionAct.Leave fair u e = was u _ e (heard _ _)
-  told-inside SectionAct.Wake fair u (e, d, token, due, is_it) = was u _ is_it (heard _ _)
+  told-inside SectionAct.Wake fair u (inr (gone, is_it)) = was u _ is_it (heard _ _)
+  told-inside SectionAct.Wake fair u (inl (e, d, token, due, is_it)) = was u _ is_it (heard _ _)
 
   told-by : (a : Act) (fair : Bool) (u : State) → Became a t fair c s u → WasTold u.calls
   told-by Act.Load fair u e = was u _ e (heard _ _)
@@ -189,7 +186,7 @@ module _ (s : State) (t : ℕ) (c : Call) where
   told-by Act.Spin fair u e = was u _ e (heard _ _)
   told-by (Act.Enter key) fair u e = was u _ e (heard _ _)
   told-by (Act.Section next) fair u b = told-inside next fair u b
-  told-by Act.Sleep fair u b = let l = late_is s u t c c.core b in was u _ l.2 (heard _ _)
+  told-by Act.Sleep fair u b = let l = late_is s u t c c.core refl b in was u _ l.3 (late-told s.calls l.0 l.6)
   told-by (Act.Done answer) fair u e = was u _ e ends
 
   -- it saw that before, or tries and the word isn't 0 now

@@ -20,7 +20,8 @@ use Rattle.parking_lot_world.specs.declared.seat.Core.{Core}
 use Rattle.parking_lot_world.specs.declared.late_rw.LateRwPhase.{LateRwPhase}
 use Rattle.parking_lot_world.specs.declared.late_rw.RwSleeper.{RwSleeper}
 use Rattle.parking_lot_world.specs.declared.seat.LatePhase.{LatePhase}
-use Rattle.parking_lot_world.specs.Stances.{core_next, sleeper_told}
+use Rattle.parking_lot_world.specs.LateActs.{comes_late, found_as}
+use Rattle.parking_lot_world.specs.Stances.{core_next, resumed_as, sign, sleeper_asleep, sleeper_told}
 use Rattle.mapworld_causes.specs.Causes.{has_seen, has_seen_in}
 
 -- no phase that may follow comes of a word that was seen
@@ -171,6 +172,7 @@ late-unseen LatePhase.Expires ActResult.Entered = refl
 late-unseen LatePhase.Quits (ActResult.Took token left) = refl
 late-unseen LatePhase.Masks (ActResult.Before word) = refl
 late-unseen LatePhase.Leaves ActResult.Made = refl
+late-unseen (LatePhase.WasTaken by handed) ActResult.Made = refl
 late-unseen p told = refl
 
 -- nor has one that is woken
@@ -193,6 +195,10 @@ sleeper-unseen : (k : RwSleeper) (token : UnparkToken) → has_seen (sleeper_tol
 sleeper-unseen (RwSleeper.Simple c) token = rw-woken-unseen c.phase token
 sleeper-unseen (RwSleeper.Upgradable c) token = refl
 
+resumed-unseen : (asleep : Bool) (k : RwSleeper) (handed : Bool) → has_seen (resumed_as asleep k handed) ≡ false
+resumed-unseen true k handed = sleeper-unseen k (sign handed)
+resumed-unseen false k handed = refl
+
 pub tardy-unseen : (p : LateRwPhase) (told : ActResult) → has_seen (core_next (Core.LateRw p) told) ≡ false
 tardy-unseen (LateRwPhase.Expires k) (ActResult.Woken token) = sleeper-unseen k token
 tardy-unseen (LateRwPhase.Expires k) ActResult.Entered = refl
@@ -200,6 +206,7 @@ tardy-unseen (LateRwPhase.Quits k) (ActResult.Took token left) = refl
 tardy-unseen LateRwPhase.Masks (ActResult.Before word) = refl
 tardy-unseen LateRwPhase.Leaves ActResult.Made = refl
 tardy-unseen (LateRwPhase.LeavesPending from) ActResult.Made = refl
+tardy-unseen (LateRwPhase.WasTaken k by handed) ActResult.Made = resumed-unseen (sleeper_asleep k) k handed
 tardy-unseen p told = refl
 
 pub woken-unseen : (k : Core) (token : UnparkToken) → has_seen (core_next k (ActResult.Woken token)) ≡ false
@@ -208,6 +215,12 @@ woken-unseen (Core.Late p) token = late-unseen p (ActResult.Woken token)
 woken-unseen (Core.LateRw p) token = tardy-unseen p (ActResult.Woken token)
 woken-unseen (Core.Upgrade c) token = refl
 woken-unseen (Core.Rw c) token = rw-woken-unseen c.phase token
+
+-- nor has one that has found that it was taken
+pub found-unseen : (by : ℕ) (handed : Bool) (k : Core) → comes_late k ≡ true → has_seen (found_as by handed k) ≡ false
+found-unseen by handed (Core.Late p) comes = refl
+found-unseen by handed (Core.LateRw (LateRwPhase.Expires k)) comes = refl
+found-unseen by handed k comes = absurd (false≢true comes)
 
 -- A LOOK
 

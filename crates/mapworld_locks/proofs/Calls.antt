@@ -1,5 +1,5 @@
 -- How the calls of all threads follow from those before a step.
-use Rattle.std.proofs.Common.{◌≡◌, ◌≢◌, ℕ, zero, suc, inl, inr, Bool, true, false, cond, List, [], ◌∷◌, map, length, Option, Some, None, slice_get, slice_set, refl, sym, ap, ◌∙◌, subst}
+use Rattle.std.proofs.Common.{◌⊎◌, ◌≡◌, ◌≢◌, ℕ, zero, suc, inl, inr, Bool, true, false, cond, List, [], ◌∷◌, map, length, Option, Some, None, slice_get, slice_set, refl, sym, ap, ◌∙◌, subst}
 use Rattle.std.specs.Option.{option_and_then, option_map}
 use Rattle.std.proofs.lemmas.Bool.{cases_eq}
 use Rattle.std.proofs.lemmas.Option.{none-some, same_Some, slice_get-map}
@@ -10,7 +10,6 @@ use Rattle.parking_lot_core_lot.specs.Machine.{Machine}
 use Rattle.parking_lot_protocol.specs.declared.act.ActResult.{ActResult}
 use Rattle.parking_lot_protocol.specs.declared.act.CoreAnswer.{CoreAnswer}
 use Rattle.parking_lot_protocol.specs.declared.rw_phase.RwPhase.{RwPhase}
-use Rattle.parking_lot_protocol.specs.RwTable.{next_phase}
 use Rattle.parking_lot_rules.proofs.Indexed.{get-set_same, get-set_other}
 use Rattle.parking_lot_world.specs.declared.open_call.Call.{Call}
 use Rattle.parking_lot_world.specs.declared.seat.Core.{Core}
@@ -18,6 +17,8 @@ use Rattle.parking_lot_world.specs.declared.late_rw.LateRwPhase.{LateRwPhase}
 use Rattle.parking_lot_world.specs.declared.seat.LatePhase.{LatePhase}
 use Rattle.parking_lot_world.specs.declared.seat.QueuePosition.{QueuePosition}
 use Rattle.parking_lot_world.specs.declared.seat.WakeResult.{WakeResult}
+use Rattle.parking_lot_world.specs.declared.seat.Wakeup.{Wakeup}
+use Rattle.parking_lot_world.specs.LateActs.{came_back, comes_late, found_as, is_handed, others_left, quitted}
 use Rattle.parking_lot_world.specs.Machines.{Became, BecameInside, BecameLate, IsStepped}
 use Rattle.parking_lot_world.specs.RowActs.{hears, off_list, settled, with_call, with_lot}
 use Rattle.parking_lot_world.specs.Rows.{State, call_at}
@@ -29,13 +30,31 @@ use Rattle.mapworld_locks.proofs.Aiming.{next_aim}
 abbrev pub call_of : List (Option Call) → ℕ → Option Call
 call_of calls t = option_and_then (λ c. c) (slice_get calls t)
 
--- What one leaves whose moment has passed, as it comes back or takes itself out: its call was told something, and the lot has changed.
-pub late_is : (s u : State) (t : ℕ) (c : Call) (k : Core) → BecameLate k t c s u → (told : ActResult) × (l : Machine) × (u ≡ with_lot (with_call s t (hears c told)) l)
-late_is s u t c (Core.Late LatePhase.Expires) e = (_, _, e)
-late_is s u t c (Core.Late LatePhase.Quits) e = (_, _, e)
-late_is s u t c (Core.LateRw (LateRwPhase.Expires k)) e = (_, _, e)
-late_is s u t c (Core.LateRw (LateRwPhase.Quits k)) e = (_, _, e)
-late_is s u t c k e = absurd e
+-- A call goes on by what it was told; or its moment has passed, and it has found that another has taken it.
+abbrev pub Hears : Core → Core → Type 0
+Hears k m = ((told : ActResult) × (m ≡ core_next k told)) ⊎ ((by : ℕ) × (handed : Bool) × (comes_late k ≡ true) × (m ≡ found_as by handed k))
+
+-- What one leaves whose moment has passed, as it comes back or takes itself out: its call goes on, and the lot has changed, and
+-- who is still to be woken.
+abbrev pub LateGoes : State → ℕ → Call → State → Type 0
+LateGoes s t c u =
+    (d : Call) × (l : Machine) × (ws : List Wakeup) × (u ≡ record (with_lot (with_call s t d) l) { wakes = ws }) × (d.lock ≡ c.lock) × (d.others ≡ c.others) × Hears c.core d.core
+
+module _ (s u : State) (t : ℕ) (c : Call) where
+  late_back : (at : QueuePosition) → comes_late c.core ≡ true → u ≡ came_back at s t c → LateGoes s t c u
+  late_back QueuePosition.Listed comes e = (hears c ActResult.Entered, _, s.wakes, e, refl, refl, inl (ActResult.Entered, refl))
+  late_back (QueuePosition.Off by said) comes e =
+      (record c { core = found_as by (is_handed said) c.core; spot = QueuePosition.Listed }, _, _, e, refl, refl, inr (by, is_handed said, comes, refl))
+
+  late_out : u ≡ quitted s t c → LateGoes s t c u
+  late_out e = (hears c (ActResult.Took None (others_left s t c)), _, s.wakes, e, refl, refl, inl (ActResult.Took None (others_left s t c), refl))
+
+  pub late_is : (k : Core) → c.core ≡ k → BecameLate k t c s u → LateGoes s t c u
+  late_is (Core.Late LatePhase.Expires) same e = late_back c.spot (ap comes_late same) e
+  late_is (Core.Late LatePhase.Quits) same e = late_out e
+  late_is (Core.LateRw (LateRwPhase.Expires k)) same e = late_back c.spot (ap comes_late same) e
+  late_is (Core.LateRw (LateRwPhase.Quits k)) same e = late_out e
+  late_is k same e = absurd e
 
 -- the core isn't led astray
 abbrev pub IsProper : Core → Type 0
@@ -69,6 +88,7 @@ next_plain (Core.Late LatePhase.Expires) ActResult.Entered so = refl
 next_plain (Core.Late LatePhase.Quits) (ActResult.Took token left) so = refl
 next_plain (Core.Late LatePhase.Masks) (ActResult.Before word) so = refl
 next_plain (Core.Late LatePhase.Leaves) ActResult.Made so = refl
+next_plain (Core.Late (LatePhase.WasTaken by handed)) ActResult.Made so = refl
 next_plain (Core.Late p) told so = refl
 next_plain (Core.LateRw p) told so = absurd cc
 next_plain (Core.Upgrade c) told so = absurd cc
@@ -79,6 +99,7 @@ late_keeps LatePhase.Expires ActResult.Entered = refl
 late_keeps LatePhase.Quits (ActResult.Took token left) = refl
 late_keeps LatePhase.Masks (ActResult.Before word) = refl
 late_keeps LatePhase.Leaves ActResult.Made = refl
+late_keeps (LatePhase.WasTaken by handed) ActResult.Made = refl
 late_keeps p told = refl
 
 pub next_keeps : (k : Core) (told : ActResult) → is_plain k ≡ true → IsProper (core_next k told) → core_aim (core_next k told) ≡ core_aim k
@@ -94,6 +115,25 @@ follows_told c d told lock others core = record {
   others = others;
   plain = λ so. ap is_plain core ∙ next_plain c.core told so;
 }
+
+-- one that has found that it was taken is of its kind, and about the same
+found_plain : (by : ℕ) (handed : Bool) (k : Core) → is_plain (found_as by handed k) ≡ is_plain k
+found_plain by handed (Core.LateRw (LateRwPhase.Expires k)) = refl
+found_plain by handed (Core.LateRw p) = refl
+found_plain by handed k = refl
+
+found_aim : (by : ℕ) (handed : Bool) (k : Core) → core_aim (found_as by handed k) ≡ core_aim k
+found_aim by handed (Core.LateRw (LateRwPhase.Expires k)) = refl
+found_aim by handed (Core.LateRw p) = refl
+found_aim by handed k = refl
+
+pub follows_heard : (c d : Call) → d.lock ≡ c.lock → d.others ≡ c.others → Hears c.core d.core → Follows c d
+follows_heard c d lock others (inl (told, core)) = follows_told c d told lock others core
+follows_heard c d lock others (inr (by, handed, comes, core)) = record { lock = lock; others = others; plain = λ so. ap is_plain core ∙ found_plain by handed c.core ∙ so }
+
+pub heard_keeps : (k m : Core) → Hears k m → is_plain k ≡ true → IsProper m → core_aim m ≡ core_aim k
+heard_keeps k m (inl (told, core)) so proper = ap core_aim core ∙ next_keeps k told so (subst IsProper core proper)
+heard_keeps k m (inr (by, handed, comes, core)) so proper = ap core_aim core ∙ found_aim by handed k
 
 -- WHERE A CALL COMES FROM
 
@@ -270,7 +310,8 @@ module _ (s : State) (t : ℕ) (c : Call) (here : call_at s t ≡ Some c) where
   goes_inside (SectionAct.Append token) fair u (k, stands, e) = is u _ e (joined _ refl)
   goes_inside (SectionAct.Store plain handing) fair u e = is u _ e (says _ _)
   goes_inside SectionAct.Leave fair u e = is u _ e (told _)
-  goes_inside SectionAct.Wake fair u (e, d, token, due, is_it) =
+  goes_inside SectionAct.Wake fair u (inr (gone, is_it)) = is u _ is_it (told _)
+  goes_inside SectionAct.Wake fair u (inl (e, d, token, due, is_it)) =
       is u _ is_it (told_then e.thread _ _ (set_goes s.calls e.thread d _ due.there (follows_told d _ (ActResult.Woken token) refl refl refl)))
 
   goes : (a : Act) (fair : Bool) (u : State) → Became a t fair c s u → GoesOn s.calls u.calls
@@ -281,7 +322,7 @@ module _ (s : State) (t : ℕ) (c : Call) (here : call_at s t ≡ Some c) where
   goes Act.Spin fair u e = is u _ e (told _)
   goes (Act.Enter key) fair u e = is u _ e (told _)
   goes (Act.Section next) fair u b = goes_inside next fair u b
-  goes Act.Sleep fair u b = let l = late_is s u t c c.core b in is u _ l.2 (told _)
+  goes Act.Sleep fair u b = let l = late_is s u t c c.core refl b in is u _ l.3 (set_goes s.calls t c l.0 here (follows_heard c l.0 l.4 l.5 l.6))
   goes (Act.Done answer) fair u e = is u _ e (ends_goes s.calls t c here)
 
 pub stepped_goes : (s u : State) (t : ℕ) (fair : Bool) (answer : Option CoreAnswer) → IsStepped t fair answer s u → GoesOn s.calls u.calls

@@ -140,7 +140,8 @@ module _ (s : State) (t : ℕ) (c : Call) (plain : IsPlain s) where
   inside (SectionAct.Append token) fair u (k, stands, e) = is u _ e refl refl
   inside (SectionAct.Store plain_change handing) fair u e = is u _ e refl refl
   inside SectionAct.Leave fair u e = is u _ e refl refl
-  inside SectionAct.Wake fair u (e, d, token, due, is_it) = is u _ is_it refl refl
+  inside SectionAct.Wake fair u (inr (gone, is_it)) = is u _ is_it refl refl
+  inside SectionAct.Wake fair u (inl (e, d, token, due, is_it)) = is u _ is_it refl refl
 
   goes : (here : call_at s t ≡ Some c) (a : Act) (fair : Bool) (u : State) → Became a t fair c s u → Keeps u
   goes here Act.Load fair u e = is u _ e refl refl
@@ -150,7 +151,7 @@ module _ (s : State) (t : ℕ) (c : Call) (plain : IsPlain s) where
   goes here Act.Spin fair u e = is u _ e refl refl
   goes here (Act.Enter key) fair u e = is u _ e refl refl
   goes here (Act.Section next) fair u b = inside next fair u b
-  goes here Act.Sleep fair u b = let l = late_is s u t c c.core b in is u _ l.2 refl refl
+  goes here Act.Sleep fair u b = let l = late_is s u t c c.core refl b in is u _ l.3 refl refl
   goes here (Act.Done answer) fair u e = record {
     kinds = ap (λ (x : State). x.kinds) e;
     single = subst (All IsSingle) (sym (ap (λ (x : State). x.holds) e)) (all_set IsSingle s.holds (cell s t c.lock) (hold_after c.others c.core) plain.single (after c.core (plain.alone t c here) (plain.cores t c here)));

@@ -15,10 +15,12 @@ use Rattle.parking_lot_rules.proofs.Indexed.{get-set_same}
 use Rattle.parking_lot_world.specs.Kinds.{recursive_in}
 use Rattle.parking_lot_world.specs.declared.open_call.Call.{Call}
 use Rattle.parking_lot_world.specs.declared.seat.Core.{Core}
+use Rattle.parking_lot_world.specs.declared.late_rw.LateRwPhase.{LateRwPhase}
 use Rattle.parking_lot_world.specs.declared.seat.LatePhase.{LatePhase}
 use Rattle.parking_lot_world.specs.declared.seat.QueuePosition.{QueuePosition}
 use Rattle.parking_lot_world.specs.declared.seat.WakeResult.{WakeResult}
 use Rattle.parking_lot_world.specs.declared.seat.Wakeup.{Wakeup}
+use Rattle.parking_lot_world.specs.LateActs.{found_as}
 use Rattle.parking_lot_world.specs.Machines.{Became, BecameInside, IsStepped, end_of}
 use Rattle.parking_lot_world.specs.RowActs.{hears, off_list, settled}
 use Rattle.parking_lot_world.specs.RowFits.{FitsTogether, IsPrepared}
@@ -28,7 +30,7 @@ use Rattle.parking_lot_world.specs.TellLaws.{IsDue}
 use Rattle.mapworld_locks.specs.Stands.{Stand, core_aim, core_tries, is_trying, stand_of}
 use Rattle.mapworld_locks.proofs.Aiming.{next_patient}
 use Rattle.mapworld_locks.specs.Fits.{is_plain}
-use Rattle.mapworld_locks.proofs.Calls.{IsProper, call_of, late_is, map_of, next_keeps, set_elsewhere, set_here, set_nothing, slot}
+use Rattle.mapworld_locks.proofs.Calls.{Hears, IsProper, call_of, late_is, map_of, next_keeps, set_elsewhere, set_here, set_nothing, slot}
 
 -- a call that is kept isn't led astray
 pub kept_proper : (recursive : Bool) (n : ℕ) (k : Core) → IsPrepared recursive n k → IsProper k
@@ -44,6 +46,7 @@ late_patient LatePhase.Expires ActResult.Entered = refl
 late_patient LatePhase.Quits (ActResult.Took token left) = refl
 late_patient LatePhase.Masks (ActResult.Before word) = refl
 late_patient LatePhase.Leaves ActResult.Made = refl
+late_patient (LatePhase.WasTaken by handed) ActResult.Made = refl
 late_patient p told = refl
 
 -- one that isn't a try doesn't become one
@@ -54,6 +57,15 @@ core_patient (Core.Late p) told so calm = late_patient p told
 core_patient (Core.LateRw p) told so calm = absurd cc
 core_patient (Core.Upgrade c) told so calm = refl
 
+found_patient : (by : ℕ) (handed : Bool) (k : Core) → core_tries (found_as by handed k) ≡ core_tries k
+found_patient by handed (Core.LateRw (LateRwPhase.Expires k)) = refl
+found_patient by handed (Core.LateRw p) = refl
+found_patient by handed k = refl
+
+pub heard_patient : (k m : Core) → Hears k m → is_plain k ≡ true → core_tries k ≡ false → core_tries m ≡ false
+heard_patient k m (inl (told, core)) so calm = ap core_tries core ∙ core_patient k told so calm
+heard_patient k m (inr (by, handed, comes, core)) so calm = ap core_tries core ∙ found_patient by handed k ∙ calm
+
 -- THE THREAD ITSELF
 
 -- its call goes on with what its act gave
@@ -62,8 +74,7 @@ pub record GoesOnBy (c : Call) (o : Option Call) : Type 0 where
   pub there : o ≡ Some call
   pub lock : call.lock ≡ c.lock
   pub others : call.others ≡ c.others
-  pub told : ActResult
-  pub core : call.core ≡ core_next c.core told
+  pub heard : Hears c.core call.core
 
 pub set_low : (calls : List (Option Call)) (t : ℕ) (o : Option Call) → t < length calls → call_of (slice_set calls t o) t ≡ o
 set_low calls t o low = ap (option_and_then (λ y. y)) (get-set_same calls t (get_or calls t None) o (slice_get-get_or calls t None low))
@@ -80,7 +91,7 @@ module _ (s : State) (t : ℕ) (c : Call) (low : t < length s.calls) where
   own_either false u w g h = h
 
   heard : (calls : List (Option Call)) → length calls ≡ length s.calls → (k : ActResult) → GoesOnBy c (call_of (slice_set calls t (Some (hears c k))) t)
-  heard calls same k = record { call = hears c k; there = set_low calls t (Some (hears c k)) (omega (arith, low, same)); lock = refl; others = refl; told = k; core = refl }
+  heard calls same k = record { call = hears c k; there = set_low calls t (Some (hears c k)) (omega (arith, low, same)); lock = refl; others = refl; heard = inl (k, refl) }
 
   own_told : (k : ActResult) → GoesOnBy c (call_of (slice_set s.calls t (Some (hears c k))) t)
   own_told k = heard s.calls refl k
@@ -94,12 +105,11 @@ module _ (s : State) (t : ℕ) (c : Call) (low : t < length s.calls) where
     there = map_of (settled t r) (slice_set s.calls t (Some (hears c k))) t ∙ ap (option_map (settled t r)) (set_low s.calls t (Some (hears c k)) low);
     lock = refl;
     others = refl;
-    told = k;
-    core = refl;
+    heard = inl (k, refl);
   }
 
   own_joined : GoesOnBy c (call_of (slice_set s.calls t (Some (record (hears c ActResult.Made) { spot = QueuePosition.Listed }))) t)
-  own_joined = record { call = _; there = set_low s.calls t _ low; lock = refl; others = refl; told = ActResult.Made; core = refl }
+  own_joined = record { call = _; there = set_low s.calls t _ low; lock = refl; others = refl; heard = inl (ActResult.Made, refl) }
 
   own_inside : (k : SectionAct) (fair : Bool) (u : State) → BecameInside k t fair c s u → GoesOnBy c (call_of u.calls t)
   own_inside SectionAct.Check fair u e = is_own u _ e (own_told _)
@@ -110,7 +120,8 @@ module _ (s : State) (t : ℕ) (c : Call) (low : t < length s.calls) where
   own_inside (SectionAct.Append token) fair u (k, stands, e) = is_own u _ e own_joined
   own_inside (SectionAct.Store plain handing) fair u e = is_own u _ e (own_says _ _)
   own_inside SectionAct.Leave fair u e = is_own u _ e (own_told _)
-  own_inside SectionAct.Wake fair u (e, d, token, due, is_it) = is_own u _ is_it (own_after _ _ _)
+  own_inside SectionAct.Wake fair u (inr (gone, is_it)) = is_own u _ is_it (own_told _)
+  own_inside SectionAct.Wake fair u (inl (e, d, token, due, is_it)) = is_own u _ is_it (own_after _ _ _)
 
   own_goes : (a : Act) (fair : Bool) (u : State) → end_of a ≡ None → Became a t fair c s u → GoesOnBy c (call_of u.calls t)
   own_goes Act.Load fair u none e = is_own u _ e (own_told _)
@@ -120,7 +131,7 @@ module _ (s : State) (t : ℕ) (c : Call) (low : t < length s.calls) where
   own_goes Act.Spin fair u none e = is_own u _ e (own_told _)
   own_goes (Act.Enter key) fair u none e = is_own u _ e (own_told _)
   own_goes (Act.Section next) fair u none b = own_inside next fair u b
-  own_goes Act.Sleep fair u none b = let l = late_is s u t c c.core b in is_own u _ l.2 (own_told _)
+  own_goes Act.Sleep fair u none b = let l = late_is s u t c c.core refl b in is_own u _ l.3 (record { call = l.0; there = set_low s.calls t (Some l.0) low; lock = l.4; others = l.5; heard = l.6 })
   own_goes (Act.Done answer) fair u none e = absurd (none-some answer (sym none))
 
 -- A step that isn't an answer leaves its thread in its call.
@@ -269,7 +280,8 @@ module _ (s : State) (h : FitsTogether s) (cores : (u : ℕ) (d : Call) → call
   goes_inside (SectionAct.Append token) fair u g (k, stands, e) = is u _ e (apart s.calls _)
   goes_inside (SectionAct.Store plain handing) fair u g e = is u _ e (says _ _)
   goes_inside SectionAct.Leave fair u g e = is u _ e (apart s.calls _)
-  goes_inside SectionAct.Wake fair u g (e, d, token, due, is_it) = is u _ is_it (wakes e d token _ due proper)
+  goes_inside SectionAct.Wake fair u g (inr (gone, is_it)) = is u _ is_it (apart s.calls _)
+  goes_inside SectionAct.Wake fair u g (inl (e, d, token, due, is_it)) = is u _ is_it (wakes e d token _ due proper)
     where
       woken : Call
       woken = record (hears d (ActResult.Woken token)) { spot = QueuePosition.Listed }
@@ -288,7 +300,7 @@ module _ (s : State) (h : FitsTogether s) (cores : (u : ℕ) (d : Call) → call
   goes Act.Spin fair u g e = is u _ e (apart s.calls _)
   goes (Act.Enter key) fair u g e = is u _ e (apart s.calls _)
   goes (Act.Section next) fair u g b = goes_inside next fair u g b
-  goes Act.Sleep fair u g b = let l = late_is s u t c c.core b in is u _ l.2 (apart s.calls _)
+  goes Act.Sleep fair u g b = let l = late_is s u t c c.core refl b in is u _ l.3 (apart s.calls _)
   goes (Act.Done answer) fair u g e = is u _ e (apart s.calls _)
 
 -- In a step everybody else stays about the same.

@@ -1,10 +1,11 @@
 -- A release or a downgrade that has begun makes its first act at once, and after the first act of a downgrade the hold is a shared one.
-use Rattle.std.proofs.Common.{◌≡◌, ◌≢◌, ℕ, ◌<◌, ◌||◌, Bool, true, false, cond, List, length, Option, Some, None, refl, sym, ap, ◌∙◌, subst}
+use Rattle.std.proofs.Common.{◌≡◌, ◌≢◌, ℕ, ◌<◌, ◌||◌, Bool, true, false, cond, List, length, Option, Some, None, refl, sym, ap, ◌∙◌, subst, inl, inr}
 use Rattle.std.specs.Option.{option_and_then, option_map, option_map_or}
 use Rattle.std.proofs.lemmas.Bool.{false≢true}
 use Rattle.std.proofs.lemmas.Option.{same_Some}
 use Rattle.lock_api_desk.specs.declared.mode.Mode.TheVariants as held
 use Rattle.parking_lot_protocol.specs.declared.act.ActResult.{ActResult}
+use Rattle.parking_lot_protocol.specs.declared.rw_core.RwCore.{RwCore}
 use Rattle.parking_lot_protocol.specs.declared.rw_phase.Outcome.{Outcome}
 use Rattle.parking_lot_protocol.specs.declared.rw_phase.RwPhase.{RwPhase}
 use Rattle.parking_lot_protocol.specs.Acts.{word_before}
@@ -17,6 +18,7 @@ use Rattle.parking_lot_world.specs.declared.open_call.Call.{Call}
 use Rattle.parking_lot_world.specs.declared.seat.Core.{Core}
 use Rattle.parking_lot_world.specs.Beginnings.{core_of}
 use Rattle.parking_lot_world.specs.CallViews.{rw_mode}
+use Rattle.parking_lot_world.specs.LateActs.{comes_late}
 use Rattle.parking_lot_world.specs.Machines.{IsBegun, IsStepped, call_for, can_move, can_move_in, end_of, ended, is_possible}
 use Rattle.parking_lot_world.specs.RowActs.{hears}
 use Rattle.parking_lot_world.specs.RowFits.{FitsTogether}
@@ -25,7 +27,7 @@ use Rattle.parking_lot_world.specs.Stances.{core_act, core_next}
 use Rattle.mapworld_locks.specs.Fits.{IsPlain}
 use Rattle.mapworld_locks.specs.Stands.{gives}
 use Rattle.mapworld_locks.specs.Views.{held_as, held_at}
-use Rattle.mapworld_locks.proofs.Calls.{IsProper}
+use Rattle.mapworld_locks.proofs.Calls.{Hears, IsProper}
 use Rattle.mapworld_locks.proofs.Standing.{GoesOnBy, kept_proper, own_call, set_low}
 use Rattle.mapworld_locks.proofs.Stepping.{call_holds}
 
@@ -110,14 +112,20 @@ core_turned at us k told e proper =
     ap (λ x. held_as (rw_mode (rw_core_role 0 at us x))) e
     ∙ turned_mode (rw_spot at) us (word_before told) _ refl (subst IsProper e proper)
 
+-- one that reads or writes was told something
+rw_heard : (k m : Core) (c : RwCore) → k ≡ Core.Rw c → Hears k m → (told : ActResult) × (m ≡ core_next (Core.Rw c) told)
+rw_heard k m c is (inl (told, core)) = (told, core ∙ ap (λ x. core_next x told) is)
+rw_heard k m c is (inr (by, handed, comes, core)) = absurd (false≢true (ap comes_late (sym is) ∙ comes))
+
 pub start_turns : (s mid u : State) (t i : ℕ) (call : LockCall) (fair : Bool) → t < length s.calls → IsBegun t i call s mid → IsStepped t fair None mid u → FitsTogether u → IsPlain u → call ≡ LockCall.Downgrade
     → held_at u i t ≡ Some held.Shared
 start_turns s mid u t i call fair low begins x fits plain is =
     let own : GoesOnBy x.call (call_at u t) = own_call mid u t fair x in
     let begun : hears (call_for s t i call) ActResult.Start ≡ x.call = same_Some _ x.call (sym (begun_call s mid t i call low begins) ∙ x.here) in
     let lock : own.call.lock ≡ i = own.lock ∙ sym (ap (λ (c : Call). c.lock) begun) in
-    let core : own.call.core ≡ core_next (Core.Rw (record { phase = RwPhase.Downgrades })) own.told =
-    own.core ∙ ap (λ (c : Call). core_next c.core own.told) (sym begun) ∙ ap (λ k. core_next (core_next (core_of (kind_in s.kinds i) k) ActResult.Start) own.told) is in
+    let was : x.call.core ≡ Core.Rw (record { phase = RwPhase.Downgrades }) = ap (λ (c : Call). c.core) (sym begun) ∙ ap (λ k. core_next (core_of (kind_in s.kinds i) k) ActResult.Start) is in
+    let heard = rw_heard x.call.core own.call.core (record { phase = RwPhase.Downgrades }) was own.heard in
+    let core : own.call.core ≡ core_next (Core.Rw (record { phase = RwPhase.Downgrades })) heard.0 = heard.1 in
     ap (λ n. held_at u n t) (sym lock)
     ∙ call_holds u t own.call plain own.there
-    ∙ core_turned own.call.spot (taken_by u.wakes t) own.call.core own.told core (kept_proper (recursive_in u.kinds own.call.lock) own.call.others own.call.core (fits.rules.prepared t own.call own.there))
+    ∙ core_turned own.call.spot (taken_by u.wakes t) own.call.core heard.0 core (kept_proper (recursive_in u.kinds own.call.lock) own.call.others own.call.core (fits.rules.prepared t own.call own.there))

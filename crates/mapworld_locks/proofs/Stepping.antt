@@ -32,12 +32,12 @@ use Rattle.mapworld_locks.specs.Steps.{LockMoves}
 use Rattle.mapworld_locks.specs.Views.{Shown, held_as, held_at}
 use Rattle.mapworld_locks.proofs.Admitting.{AllSeated, IsSeated, seats_all}
 use Rattle.mapworld_locks.proofs.Answering.{stepped_fits}
-use Rattle.mapworld_locks.proofs.Calls.{IsProper, next_keeps, slot, stepped_goes}
+use Rattle.mapworld_locks.proofs.Calls.{heard_keeps, IsProper, slot, stepped_goes}
 use Rattle.mapworld_locks.proofs.Ending.{held_by_role}
 use Rattle.mapworld_locks.proofs.Handing.{IsHandedOver, elsewhere, others, own, goes_by, no_mutex, within_kinds}
 use Rattle.mapworld_locks.proofs.Keeping.{stepped_kinds, stepped_plain}
 use Rattle.mapworld_locks.proofs.Moving.{Moved, Moves, moved}
-use Rattle.mapworld_locks.proofs.Standing.{GoesOnBy, core_patient, kept_proper, others_stand, own_call, sleeps}
+use Rattle.mapworld_locks.proofs.Standing.{heard_patient, GoesOnBy, kept_proper, others_stand, own_call, sleeps}
 use Rattle.mapworld_locks.proofs.Together.{go_together, holders_are_threads}
 use Rattle.mapworld_locks.proofs.Within.{within}
 
@@ -210,7 +210,7 @@ module _ (laws : StepsAreCases) (agree : Always OwnersAgree) (old : Shown) (fit 
   proper = kept_proper (recursive_in u.kinds d.lock) d.others d.core (fits.rules.prepared t d own_goes.there)
 
   aim_same : core_aim d.core ≡ core_aim c.core
-  aim_same = ap core_aim own_goes.core ∙ next_keeps c.core own_goes.told (fit.plain.cores t c x.here) (subst IsProper own_goes.core proper)
+  aim_same = heard_keeps c.core d.core own_goes.heard (fit.plain.cores t c x.here) proper
 
   pub in_range : i < length old.desks
   in_range = omega (arith, of c.core (fit.fits.rules.kinds t c x.here), fit.count)
@@ -375,7 +375,7 @@ module _ (laws : StepsAreCases) (agree : Always OwnersAgree) (old : Shown) (fit 
         stands = ap (option_map stand_of) own_goes.there
             ∙ ap (λ n. Some (record { shard = n; aim = core_aim d.core; trying = core_tries d.core })) own_goes.lock
             ∙ ap (λ a. Some (record { shard = i; aim = a; trying = core_tries d.core })) aim_same;
-        patient = λ calm. ap core_tries own_goes.core ∙ core_patient c.core own_goes.told (fit.plain.cores t c x.here) calm;
+        patient = λ calm. heard_patient c.core d.core own_goes.heard (fit.plain.cores t c x.here) calm;
         others = stands_same;
         kept = kept;
         gained = gained;

@@ -163,7 +163,8 @@ module _ (s : State) (h : FitsTogether s) (t : ℕ) (c : Call) (here : call_at s
   goes_inside (SectionAct.Append token) fair u (k, stands, e) = is u _ e (inl (apart _))
   goes_inside (SectionAct.Store plain handing) fair u e = is u _ e (says _ _)
   goes_inside SectionAct.Leave fair u e = is u _ e (inl (apart _))
-  goes_inside SectionAct.Wake fair u (e, d2, token, due, is_it) = is u _ is_it (wakes e d2 token _ _ _ due)
+  goes_inside SectionAct.Wake fair u (inr (gone, is_it)) = is u _ is_it (inl (apart _))
+  goes_inside SectionAct.Wake fair u (inl (e, d2, token, due, is_it)) = is u _ is_it (wakes e d2 token _ _ _ due)
 
   goes : (a : Act) (fair : Bool) (u : State) → Became a t fair c s u → Result u
   goes Act.Load fair u e = is u _ e (inl (apart _))
@@ -173,7 +174,7 @@ module _ (s : State) (h : FitsTogether s) (t : ℕ) (c : Call) (here : call_at s
   goes Act.Spin fair u e = is u _ e (inl (apart _))
   goes (Act.Enter key) fair u e = is u _ e (inl (apart _))
   goes (Act.Section next) fair u b = goes_inside next fair u b
-  goes Act.Sleep fair u b = let l = late_is s u t c c.core b in is u _ l.2 (inl (apart _))
+  goes Act.Sleep fair u b = let l = late_is s u t c c.core refl b in is u _ l.3 (inl (apart _))
   goes (Act.Done answer) fair u e = is u _ e (inl (apart _))
 
 pub untold_or_taken : (s u : State) (t : ℕ) (fair : Bool) (answer : Option CoreAnswer) → FitsTogether s → IsStepped t fair answer s u

@@ -16,7 +16,8 @@ use Rattle.parking_lot_world.specs.declared.open_call.Call.{Call}
 use Rattle.parking_lot_world.specs.declared.seat.Core.{Core}
 use Rattle.parking_lot_world.specs.declared.late_rw.LateRwPhase.{LateRwPhase}
 use Rattle.parking_lot_world.specs.declared.seat.LatePhase.{LatePhase}
-use Rattle.parking_lot_world.specs.LateActs.{is_pending, others_left, out_of_list}
+use Rattle.parking_lot_world.specs.declared.seat.QueuePosition.{QueuePosition}
+use Rattle.parking_lot_world.specs.LateActs.{came_back, is_pending, others_left, out_of_list}
 use Rattle.parking_lot_world.specs.Machines.{Became, BecameInside, BecameLate, IsStepped}
 use Rattle.parking_lot_world.specs.RowActs.{hears, key_of, with_call, with_lot}
 use Rattle.parking_lot_world.specs.RowFits.{FitsTogether}
@@ -65,17 +66,22 @@ module _ (s : State) (t : ℕ) (c : Call) where
   goes_inside (SectionAct.Append token) fair u (k, stands, e) = is u _ e (inr (k, λ j. refl, λ key ne. other_list k _ key ne))
   goes_inside (SectionAct.Store plain handing) fair u e = is u _ e (inl (λ j ne. word_set _ j ne, λ key. refl))
   goes_inside SectionAct.Leave fair u e = is u _ e (inl nothing)
-  goes_inside SectionAct.Wake fair u (e, d, token, due, is_it) = is u _ is_it (inl nothing)
+  goes_inside SectionAct.Wake fair u (inr (gone, is_it)) = is u _ is_it (inl nothing)
+  goes_inside SectionAct.Wake fair u (inl (e, d, token, due, is_it)) = is u _ is_it (inl nothing)
 
   -- one whose moment has passed takes itself out of its list
   goes_out : (left b : Bool) → Result (with_lot (with_call s t (hears c (ActResult.Took None left))) (cond b (stored (out_of_list s t c) (sign false)) (out_of_list s t c)))
   goes_out left true = inr (bit (is_pending c.core), λ j. refl, λ key ne. other_list (bit (is_pending c.core)) _ key ne)
   goes_out left false = inr (bit (is_pending c.core), λ j. refl, λ key ne. other_list (bit (is_pending c.core)) _ key ne)
 
+  comes_back : (at : QueuePosition) (u : State) → u ≡ came_back at s t c → Result u
+  comes_back QueuePosition.Listed u e = is u _ e (inl nothing)
+  comes_back (QueuePosition.Off by said) u e = is u _ e (inl nothing)
+
   late_lists : (k : Core) (u : State) → BecameLate k t c s u → Result u
-  late_lists (Core.Late LatePhase.Expires) u e = is u _ e (inl nothing)
+  late_lists (Core.Late LatePhase.Expires) u e = comes_back c.spot u e
   late_lists (Core.Late LatePhase.Quits) u e = is u _ e (goes_out (others_left s t c) (others_left s t c || is_pending c.core))
-  late_lists (Core.LateRw (LateRwPhase.Expires k)) u e = is u _ e (inl nothing)
+  late_lists (Core.LateRw (LateRwPhase.Expires k)) u e = comes_back c.spot u e
   late_lists (Core.LateRw (LateRwPhase.Quits k)) u e = is u _ e (goes_out (others_left s t c) (others_left s t c || is_pending c.core))
   late_lists k u e = absurd e
 

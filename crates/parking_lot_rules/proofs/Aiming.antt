@@ -1,5 +1,5 @@
 -- All steps of the stepped thread at a lock fall, and those of the others don't rise but by a wake.
-use Rattle.std.proofs.Common.{◌≡◌, ◌≢◌, ℕ, ◌+◌, ◌-◌, ◌<◌, ◌≤◌, ◌⊎◌, ⊎_elim, Bool, true, false, cond, if◌then◌else◌, ◌==◌, [], ◌∷◌, length, map, Option, Some, None, option_map, slice_get, slice_set, refl, sym, ap, ◌∙◌, inl, inr, arith, length-append, eq-eqb}
+use Rattle.std.proofs.Common.{◌≡◌, ◌≢◌, ℕ, ◌+◌, ◌-◌, ◌<◌, ◌≤◌, ◌⊎◌, ⊎_elim, Bool, true, false, cond, if◌then◌else◌, ◌==◌, [], ◌∷◌, ◌++◌, length, map, Option, Some, None, option_map, slice_get, slice_set, refl, sym, ap, ◌∙◌, inl, inr, arith, length-append, eq-eqb}
 use Rattle.std.proofs.lemmas.List.Edits.{length-remove}
 use Rattle.std.proofs.lemmas.Option.{none-some, same_Some, slice_get-map, slice_get_within}
 use Rattle.parking_lot_rules.specs.Roles.{Mode, Shared, Exclusive, Upgradable, Shares, Stay, Fresh, Asleep, Late, Back, Mark, Open, Phase, Idle, Seeks, Drains, Yields, Queued1, Taken1, Queued2, Taken2, Stored1, Scans2, Wakes, Role}
@@ -17,6 +17,7 @@ use Rattle.parking_lot_rules.proofs.Indexed.{get-set_other, get-set_cases, two_a
 use Rattle.parking_lot_rules.proofs.Sounds.{waking_apart}
 use Rattle.parking_lot_rules.proofs.Changing.{taking_taken}
 use Rattle.parking_lot_rules.proofs.Ranking.{chosen, few1, to_come_few, phase_before, phase_after}
+use Rattle.parking_lot_rules.proofs.Waiting.{length-without}
 
 -- which of the two numbers it is
 abbrev Chosen : ℕ → ℕ → ℕ → Type 0
@@ -236,7 +237,7 @@ module _ (recursive : Bool) (t : ℕ) (l : Lock) (sound : IsSound l) (other1 oth
   step_turns how (Take2 o v f stay) may busy now knows clear = omega arith
   step_turns how (Store e s) may busy now knows clear = omega arith
   step_turns how (Wake o v us k stay) may busy now knows clear = omega arith
-  step_turns how (Pass o v us) may busy now knows clear = omega arith
+  step_turns how (Pass o ws v us) may busy now knows clear = omega (arith, length-without ws v us)
 
   -- all steps of the stepped thread, and what it pays for another
   pub own_falls : (aim : CallGoal) (sight : WordKnowledge) (step : Step) → is_stale sight ≡ false → Allowed recursive t step l → phase_before recursive t l sound step ≢ Idle → is_deadline step ≡ false
@@ -265,7 +266,7 @@ module _ (recursive : Bool) (t : ℕ) (l : Lock) (sound : IsSound l) (other1 oth
       go (Take1 s i v m stay) may busy now knows clear = ordinary (Take1 s i v m stay) refl refl may busy now knows clear
       go (Take2 o v f stay) may busy now knows clear = ordinary (Take2 o v f stay) refl refl may busy now knows clear
       go (Store e s) may busy now knows clear = ordinary (Store e s) refl refl may busy now knows clear
-      go (Pass o v us) may busy now knows clear = ordinary (Pass o v us) refl refl may busy now knows clear
+      go (Pass o ws v us) may busy now knows clear = ordinary (Pass o ws v us) refl refl may busy now knows clear
 
   -- another thread had a role before, and no fewer steps, but for a wake
   abbrev pub WasNoLess : Step → ℕ → Role → CallGoal → CallGoal → Type 0
@@ -336,4 +337,4 @@ module _ (recursive : Bool) (t : ℕ) (l : Lock) (sound : IsSound l) (other1 oth
       (get-set_cases l.roles v u (waking_from k t stay) r (waking_to k) may.1 x.1))
       (get-set_cases (slice_set l.roles v (waking_to k)) t u (record { owns = o; does = Wakes (v ∷ us) }) r (record { owns = o; does = Wakes us })
       (get-set_other l.roles v t (waking_to k) (λ e. waking_apart k t stay o (v ∷ us) (same_Some _ _ (sym may.0 ∙ ap (λ i. slice_get l.roles i) (sym e) ∙ may.1))) ∙ may.0) there)
-  others_turn (Pass o v us) may u ne r there new_aim aim aims = one_set (Pass o v us) u (record { owns = o; does = Wakes (v ∷ us) }) (record { owns = o; does = Wakes us }) r new_aim aim may.0 ne there aims
+  others_turn (Pass o ws v us) may u ne r there new_aim aim aims = one_set (Pass o ws v us) u (record { owns = o; does = Wakes (ws ++ v ∷ us) }) (record { owns = o; does = Wakes (ws ++ us) }) r new_aim aim may.0 ne there aims

@@ -50,7 +50,7 @@ mutex_length t (mutex.Free us) m = length-set (map (mutex.settle Normal) m.roles
 mutex_length t (mutex.Hand v) m = length-set (map (mutex.settle Handed) m.roles) t _ ∙ length-map m.roles (mutex.settle Handed)
 mutex_length t (mutex.Wake o v us stay) m = length-set (slice_set m.roles v _) t _ ∙ length-set m.roles v _
 mutex_length t (mutex.WakeOwner o v us stay) m = length-set (slice_set m.roles v _) t _ ∙ length-set m.roles v _
-mutex_length t (mutex.Pass o v us) m = length-set m.roles t _
+mutex_length t (mutex.Pass o ws v us) m = length-set m.roles t _
 
 mutex_falls : (stale : Bool) (t : ℕ) (step : mutex.Step) (m : mutex.Mutex) → mutex.IsSound m → mutex.Allowed t step m → IsWithinCall stale t (MxStep step) (Mx m) → lock_ranks false t (Mx (mutex.after t step m)) + 1 ≤ lock_ranks stale t (Mx m)
 mutex_falls stale t step m sound may within = go (slice_get m.roles t) refl within.0
@@ -131,7 +131,7 @@ mutex_begins t (mutex.Free us) m may idle = absurd (let e = sym (ap mutex_phase 
 mutex_begins t (mutex.Hand v) m may idle = absurd (let e = sym (ap mutex_phase may) ∙ idle in cc)
 mutex_begins t (mutex.Wake o v us stay) m may idle = absurd (let e = sym (ap mutex_phase may.0) ∙ idle in cc)
 mutex_begins t (mutex.WakeOwner o v us stay) m may idle = absurd (let e = sym (ap mutex_phase may.0) ∙ idle in cc)
-mutex_begins t (mutex.Pass o v us) m may idle = absurd (let e = sym (ap mutex_phase may.0) ∙ idle in cc)
+mutex_begins t (mutex.Pass o ws v us) m may idle = absurd (let e = sym (ap mutex_phase may.0) ∙ idle in cc)
 
 rw_there : (recursive : Bool) (t : ℕ) (step : Step) (l : Lock) → Allowed recursive t step l → (a : Role) × (slice_get l.roles t ≡ Some a)
 rw_there recursive t (Alone k) l may = (_, may.0)
@@ -140,7 +140,7 @@ rw_there recursive t (Take1 s i v m stay) l may = (_, may.0)
 rw_there recursive t (Take2 o v f stay) l may = (_, may.0)
 rw_there recursive t (Store e s) l may = (_, may.0)
 rw_there recursive t (Wake o v us k stay) l may = (_, may.0)
-rw_there recursive t (Pass o v us) l may = (_, may.0)
+rw_there recursive t (Pass o ws v us) l may = (_, may.0)
 
 rw_begins : (recursive : Bool) (t : ℕ) (step : Step) (l : Lock) → IsSound l → Allowed recursive t step l → IsFirstStep t (Rw l) → lock_ranks false t (Rw (after t step l)) ≤ lock_ranks false t (Rw l) + (18 * length l.roles + 9)
 rw_begins recursive t step l sound may idle =

@@ -301,4 +301,4 @@ module _ (recursive : Bool) (t : ℕ) (l : Lock) (sound : IsSound l) where
       ∙ threads-same l.roles v _ (waking_to k) may.1 (waking_stays k t stay))
       refl
       refl
-  step_case (Pass o v us) may = same_owners _ _ (threads-same l.roles t _ _ may.0 refl) refl refl
+  step_case (Pass o ws v us) may = same_owners _ _ (threads-same l.roles t _ _ may.0 refl) refl refl

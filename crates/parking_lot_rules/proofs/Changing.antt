@@ -10,7 +10,7 @@ use Rattle.parking_lot_rules.specs.Steps.{Listing, Join1, Join2, Quit1, QuitLast
 use Rattle.parking_lot_rules.proofs.Indexed.{get-set_same, get-set_other, get-set_cases, sum_by-set_at}
 use Rattle.parking_lot_rules.proofs.Totals.{counts_all, total-at, same_counts, away_weighs}
 use Rattle.parking_lot_rules.proofs.Fitting as fitting
-use Rattle.parking_lot_rules.proofs.Waiting.{lists-same, lists-push, lists-drop, occurs-push, occurs-cons, counted-same, counted-other}
+use Rattle.parking_lot_rules.proofs.Waiting.{lists-same, lists-push, lists-drop, occurs-push, occurs-cons, occurs-without, counted-same}
 use Rattle.parking_lot_rules.proofs.Noting.{noted-set, WillWake}
 use Rattle.parking_lot_rules.proofs.Alone.{fits-set}
 
@@ -73,11 +73,11 @@ scanning_grows s v m u (On1 Normal) = omega arith
 scanning_grows s v m u (On1 Handed) = omega arith
 scanning_grows s v m u On2 = omega arith
 
-pass_shrinks : (o : Owned) (v : ℕ) (us : List ℕ) (u : ℕ) (note : Note) → u ≢ v → occurs u (to_wake (Wakes (v ∷ us)) note) ≤ occurs u (to_wake (Wakes us) note)
-pass_shrinks o v us u (On1 Open) ne = omega arith
-pass_shrinks o v us u (On1 Normal) ne = omega (arith, occurs-cons u v us, counted-other u v ne)
-pass_shrinks o v us u (On1 Handed) ne = omega (arith, occurs-cons u v us, counted-other u v ne)
-pass_shrinks o v us u On2 ne = omega (arith, occurs-cons u v us, counted-other u v ne)
+pass_shrinks : (ws : List ℕ) (v : ℕ) (us : List ℕ) (u : ℕ) (note : Note) → u ≢ v → occurs u (to_wake (Wakes (ws ++ v ∷ us)) note) ≤ occurs u (to_wake (Wakes (ws ++ us)) note)
+pass_shrinks ws v us u (On1 Open) ne = omega arith
+pass_shrinks ws v us u (On1 Normal) ne = occurs-without u ws v us ne
+pass_shrinks ws v us u (On1 Handed) ne = occurs-without u ws v us ne
+pass_shrinks ws v us u On2 ne = occurs-without u ws v us ne
 
 scans2_grows : (v u : ℕ) (note : Note) → occurs u (to_wake (Scans2 []) note) ≤ occurs u (to_wake (Scans2 (v ∷ [])) note)
 scans2_grows v u (On1 Open) = omega arith
@@ -123,22 +123,22 @@ module _ (w : Word) (rs : List Role) (first second : List ℕ) (sound : Sound w 
   }
 
   -- the one that was to be woken is left alone, or was woken just now
-  pub sound_pass : (o : Owned) (v : ℕ) (us : List ℕ) → slice_get rs t ≡ Some (record { owns = o; does = Wakes (v ∷ us) })
-      → ((r : Role) (note : Note) → slice_get rs v ≡ Some r → note_of r.does ≢ Some (t, note)) → Sound w (slice_set rs t (record { owns = o; does = Wakes us })) first second
+  pub sound_pass : (o : Owned) (ws : List ℕ) (v : ℕ) (us : List ℕ) → slice_get rs t ≡ Some (record { owns = o; does = Wakes (ws ++ v ∷ us) })
+      → ((r : Role) (note : Note) → slice_get rs v ≡ Some r → note_of r.does ≢ Some (t, note)) → Sound w (slice_set rs t (record { owns = o; does = Wakes (ws ++ us) })) first second
   unfolding weight
-  sound_pass o v us at gone = record {
-    fits = fits-set w rs first second sound t w a b at (fitting.pass_fits w (λ c. total c (slice_set rs t away)) (counts_all (slice_set rs t away)) o (v ∷ us) us);
+  sound_pass o ws v us at gone = record {
+    fits = fits-set w rs first second sound t w a b at (fitting.pass_fits w (λ c. total c (slice_set rs t away)) (counts_all (slice_set rs t away)) o (ws ++ v ∷ us) (ws ++ us));
     waiting1 = lists-same (weight Waiting1) first rs t a b at sound.waiting1 refl;
     waiting2 = lists-same (weight Waiting2) second rs t a b at sound.waiting2 refl;
     noted = noted-set role_note role_wakes rs t a b at sound.noted (nothing_noted b (λ by note. WillWake rs by t note) refl)
-        (λ u r note here took. pass_shrinks o v us u note (λ e. still u r note (get-set_cases rs t u a r b at here) took e));
+        (λ u r note here took. pass_shrinks ws v us u note (λ e. still u r note (get-set_cases rs t u a r b at here) took e));
   }
     where
       a : Role
-      a = record { owns = o; does = Wakes (v ∷ us) }
+      a = record { owns = o; does = Wakes (ws ++ v ∷ us) }
 
       b : Role
-      b = record { owns = o; does = Wakes us }
+      b = record { owns = o; does = Wakes (ws ++ us) }
 
       still : (u : ℕ) (r : Role) (note : Note) → ((u ≡ t) × (r ≡ b)) ⊎ ((u ≢ t) × (slice_get rs u ≡ Some r)) → note_of r.does ≡ Some (t, note) → u ≢ v
       still u r note (inl x) took e = none-some (t, note) (sym (ap (λ y. note_of y.does) x.1) ∙ took)

@@ -1,5 +1,5 @@
 -- One that goes through a list has taken as many as it counts, and no more than there are threads.
-use Rattle.std.proofs.Common.{◌≡◌, ◌≢◌, ℕ, ◌+◌, ◌≤◌, ⊎_elim, Bool, true, false, List, [], ◌∷◌, length, map, Option, Some, None, option_map, slice_get, slice_set, refl, sym, ap, ◌∙◌, subst, arith, length-append}
+use Rattle.std.proofs.Common.{◌≡◌, ◌≢◌, ℕ, ◌+◌, ◌≤◌, ⊎_elim, Bool, true, false, List, [], ◌∷◌, ◌++◌, length, map, Option, Some, None, option_map, slice_get, slice_set, refl, sym, ap, ◌∙◌, subst, arith, length-append}
 use Rattle.std.proofs.lemmas.Bool.{cases_eq}
 use Rattle.std.proofs.lemmas.List.Sums.{sum_by-cons}
 use Rattle.std.proofs.lemmas.Option.{none-some, same_Some, slice_get-map, slice_get_within}
@@ -18,6 +18,7 @@ use Rattle.parking_lot_rules.proofs.Worlds.{world_step, world_sound}
 use Rattle.parking_lot_rules.proofs.Running.{all_away, rest_sound_family}
 use Rattle.parking_lot_rules.proofs.Ranking.{phase_after, role_after}
 use Rattle.parking_lot_rules.proofs.Planning.{after_length}
+use Rattle.parking_lot_rules.proofs.Waiting.{length-without}
 
 -- how many it has taken, among n threads
 abbrev pub IsCounted : ℕ → Phase → Type 0
@@ -148,7 +149,7 @@ module _ (recursive : Bool) (t : ℕ) (l : Lock) (sound : IsSound l) (counted : 
   counted_own (Take2 o v f stay) may = omega arith
   counted_own (Store e s) may = omega (arith, taken_few l sound t s may.0 (counted t (scanning s) may.0))
   counted_own (Wake o v us k stay) may = let c : length (v ∷ us) ≤ length l.roles = counted t _ may.0 in omega (arith, c)
-  counted_own (Pass o v us) may = let c : length (v ∷ us) ≤ length l.roles = counted t _ may.0 in omega (arith, c)
+  counted_own (Pass o ws v us) may = let c : length (ws ++ v ∷ us) ≤ length l.roles = counted t _ may.0 in omega (arith, c, length-without ws v us)
 
   one_other : (u : ℕ) (a b r : Role) → slice_get l.roles t ≡ Some a → u ≢ t → slice_get (slice_set l.roles t b) u ≡ Some r → IsCounted (length l.roles) r.does
   one_other u a b r at ne there = ⊎_elim (λ x. absurd (ne x.0)) (λ x. counted u r x.1) (get-set_cases l.roles t u a r b at there)
@@ -188,7 +189,7 @@ module _ (recursive : Bool) (t : ℕ) (l : Lock) (sound : IsSound l) (counted : 
       (get-set_cases l.roles v u (waking_from k t stay) r (waking_to k) may.1 x.1))
       (get-set_cases (slice_set l.roles v (waking_to k)) t u (record { owns = o; does = Wakes (v ∷ us) }) r (record { owns = o; does = Wakes us })
       (get-set_other l.roles v t (waking_to k) (λ e. waking_apart k t stay o (v ∷ us) (same_Some _ _ (sym may.0 ∙ ap (λ i. slice_get l.roles i) (sym e) ∙ may.1))) ∙ may.0) there)
-  counted_other (Pass o v us) may u ne r there = one_other u (record { owns = o; does = Wakes (v ∷ us) }) (record { owns = o; does = Wakes us }) r may.0 ne there
+  counted_other (Pass o ws v us) may u ne r there = one_other u (record { owns = o; does = Wakes (ws ++ v ∷ us) }) (record { owns = o; does = Wakes (ws ++ us) }) r may.0 ne there
 
   counted_after : (step : Step) → Allowed recursive t step l → AreCounted (after t step l)
   counted_after step may u r there = subst (λ n. IsCounted n r.does) (sym (after_length recursive t step l)) (⊎_elim

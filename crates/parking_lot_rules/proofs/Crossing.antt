@@ -1,5 +1,5 @@
 -- What a step does to the sections.
-use Rattle.std.proofs.Common.{◌≡◌, ◌≢◌, ℕ, ⊎_elim, Bool, true, false, List, [], ◌∷◌, map, Option, Some, None, option_map, slice_get, slice_set, refl, sym, ap, ◌∙◌, subst, arith}
+use Rattle.std.proofs.Common.{◌≡◌, ◌≢◌, ℕ, ⊎_elim, Bool, true, false, List, [], ◌∷◌, ◌++◌, map, Option, Some, None, option_map, slice_get, slice_set, refl, sym, ap, ◌∙◌, subst, arith}
 use Rattle.std.proofs.lemmas.Bool.{cases_eq}
 use Rattle.std.proofs.lemmas.Option.{slice_get-map, same_Some}
 use Rattle.parking_lot_rules.specs.Roles.{Mode, Shared, Exclusive, Upgradable, Owned, Shares, Stay, Mark, Open, Normal, Handed, Queued1, Taken1, Queued2, Taken2, Stored1, Scans2, Wakes, Role}
@@ -182,7 +182,7 @@ module _ (recursive : Bool) (t : ℕ) (l : Lock) (x : Key) where
       (get-set_other l.roles v t (waking_to k) (λ e. waking_apart k t stay o (v ∷ us) (same_Some _ _ (sym may.0 ∙ ap (λ i. slice_get l.roles i) (sym e) ∙ may.1))) ∙ may.0)
       (section_wake x o us (v ∷ us))
       ∙ weighs-same (section x) l.roles v u _ (waking_to k) may.1 (waking_crosses k t stay x may.2)
-  stay_all (Pass o v us) may apart u = weighs-same (section x) l.roles t u _ _ may.0 (section_wake x o us (v ∷ us))
+  stay_all (Pass o ws v us) may apart u = weighs-same (section x) l.roles t u _ _ may.0 (section_wake x o (ws ++ us) (ws ++ v ∷ us))
 
   -- another thread stays where it is
   pub step_others : (step : Step) → Allowed recursive t step l → (u : ℕ) → u ≢ t → weighs (section x) (slice_get (after t step l).roles u) ≡ weighs (section x) (slice_get l.roles u)
@@ -192,7 +192,7 @@ module _ (recursive : Bool) (t : ℕ) (l : Lock) (x : Key) where
   step_others (Take2 o v f stay) may u ne = stay_all (Take2 o v f stay) may (λ p e. cc) u
   step_others (Store e s) may u ne = stay_all (Store e s) may (λ p e. cc) u
   step_others (Wake o v us k stay) may u ne = stay_all (Wake o v us k stay) may (λ p e. cc) u
-  step_others (Pass o v us) may u ne = stay_all (Pass o v us) may (λ p e. cc) u
+  step_others (Pass o ws v us) may u ne = stay_all (Pass o ws v us) may (λ p e. cc) u
 
   -- and the one that makes the step crosses as stated
   pub step_crosses : (step : Step) → Allowed recursive t step l → weighs (section x) (slice_get (after t step l).roles t) ≡ crossed (crossing step) x (weighs (section x) (slice_get l.roles t))
@@ -203,7 +203,7 @@ module _ (recursive : Bool) (t : ℕ) (l : Lock) (x : Key) where
   step_crosses (Take2 o v f stay) may = stay_all (Take2 o v f stay) may (λ p e. cc) t
   step_crosses (Store e s) may = stay_all (Store e s) may (λ p e. cc) t
   step_crosses (Wake o v us k stay) may = stay_all (Wake o v us k stay) may (λ p e. cc) t
-  step_crosses (Pass o v us) may = stay_all (Pass o v us) may (λ p e. cc) t
+  step_crosses (Pass o ws v us) may = stay_all (Pass o ws v us) may (λ p e. cc) t
 
   -- who leaves a section was inside
   pub step_was : (step : Step) → Allowed recursive t step l → WasIn (crossing step) x (weighs (section x) (slice_get l.roles t))
@@ -213,4 +213,4 @@ module _ (recursive : Bool) (t : ℕ) (l : Lock) (x : Key) where
   step_was (Take2 o v f stay) may = tt
   step_was (Store e s) may = tt
   step_was (Wake o v us k stay) may = tt
-  step_was (Pass o v us) may = tt
+  step_was (Pass o ws v us) may = tt

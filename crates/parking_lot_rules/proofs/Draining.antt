@@ -195,7 +195,7 @@ deadlines_add_few bucket recursive t u j step old new reached passes = go step p
     go (Take2 o v f stay) may late is = absurd cc
     go (Store e s) may late is = absurd cc
     go (Wake o v us k stay) may late is = absurd cc
-    go (Pass o v us) may late is = absurd cc
+    go (Pass o ws v us) may late is = absurd cc
 
 -- runs go on
 runs_more : (bucket : ℕ → ℕ) (recursive : ℕ → Bool) (m : Move) (ms : List Move) (w v : World) → Runs bucket recursive w ms v → MayStep bucket recursive m.lock m.thread m.step v → Runs bucket recursive w (ms ++ m ∷ []) (moved bucket m v)

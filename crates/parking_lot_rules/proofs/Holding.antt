@@ -1,5 +1,5 @@
 -- The holds of each thread stay within the limit, and the word counts them.
-use Rattle.std.proofs.Common.{◌≡◌, ◌≢◌, ℕ, zero, suc, ◌+◌, ◌*◌, ◌≤◌, ⊎_elim, Bool, true, false, List, [], ◌∷◌, length, map, Option, Some, None, option_map, slice_get, slice_set, sum_by, refl, sym, ap, ◌∙◌, subst, arith, mul-suc}
+use Rattle.std.proofs.Common.{◌≡◌, ◌≢◌, ℕ, zero, suc, ◌+◌, ◌*◌, ◌≤◌, ⊎_elim, Bool, true, false, List, [], ◌∷◌, ◌++◌, length, map, Option, Some, None, option_map, slice_get, slice_set, sum_by, refl, sym, ap, ◌∙◌, subst, arith, mul-suc}
 use Rattle.std.proofs.lemmas.List.{length-map}
 use Rattle.std.proofs.lemmas.Bool.{cases_eq}
 use Rattle.std.proofs.lemmas.List.Sums.{sum_by-cons}
@@ -90,8 +90,8 @@ step_within limit some recursive t (Wake o v us k stay) l may room all =
     waking_apart OwnPending same e = let x = ap (λ (r : Role). r.does) (same_Some _ _ (same e)) in cc
     waking_apart OwnUpgradable same e = let x = ap (λ (r : Role). r.does) (same_Some _ _ (same e)) in cc
     waking_apart (Recheck f) same e = let x = ap (λ (r : Role). r.does) (same_Some _ _ (same e)) in cc
-step_within limit some recursive t (Pass o v us) l may room all =
-    within-set limit l.roles t _ (record { owns = o; does = Wakes us }) may.0 all (all t (record { owns = o; does = Wakes (v ∷ us) }) may.0)
+step_within limit some recursive t (Pass o ws v us) l may room all =
+    within-set limit l.roles t _ (record { owns = o; does = Wakes (ws ++ us) }) may.0 all (all t (record { owns = o; does = Wakes (ws ++ v ∷ us) }) may.0)
 
 module _ (bucket : ℕ → ℕ) (recursive : ℕ → Bool) (limit : ℕ) (some : 1 ≤ limit) (i : ℕ) where
   one_within : (w : World) (m : Move) → IsReached bucket recursive w → MayStep bucket recursive m.lock m.thread m.step w → HasRoom limit m.step → AllWithin limit (lock_at w i).roles → AllWithin limit (lock_at (moved bucket m w) i).roles

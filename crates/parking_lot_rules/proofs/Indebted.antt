@@ -1,5 +1,5 @@
 -- Who is in debt: where it begins and ends, and that the debts are kept.
-use Rattle.std.proofs.Common.{◌≡◌, ◌≢◌, ℕ, ⊎_elim, Bool, true, false, cond, List, [], ◌∷◌, map, Some, option_map, slice_get, slice_set, refl, sym, ap, ◌∙◌, subst, arith, eq-eqb}
+use Rattle.std.proofs.Common.{◌≡◌, ◌≢◌, ℕ, ⊎_elim, Bool, true, false, cond, List, [], ◌∷◌, ◌++◌, map, Some, option_map, slice_get, slice_set, refl, sym, ap, ◌∙◌, subst, arith, eq-eqb}
 use Rattle.std.proofs.lemmas.Bool.{cases_eq, ne_eqb}
 use Rattle.std.proofs.lemmas.Option.{same_Some, slice_get-map}
 use Rattle.parking_lot_rules.specs.Roles.{Mode, Shared, Exclusive, Upgradable, Shares, Stay, Fresh, Asleep, Late, Back, Mark, Open, Normal, Handed, Phase, Queued1, Taken1, Taken2, Queued2, Stored1, Scans2, Wakes, Role}
@@ -57,6 +57,10 @@ listing_owes k = (refl, refl)
 wakes_owe : (v : ℕ) (us : List ℕ) → owes_section (Wakes us) ≡ turned (ends_without us) (owes_section (Wakes (v ∷ us)))
 wakes_owe v [] = refl
 wakes_owe v (x ∷ us) = refl
+
+pass_owes : (ws : List ℕ) (v : ℕ) (us : List ℕ) → owes_section (Wakes (ws ++ us)) ≡ turned (ends_without (ws ++ us)) (owes_section (Wakes (ws ++ v ∷ us)))
+pass_owes [] v us = wakes_owe v us
+pass_owes (w ∷ ws) v us = refl
 
 pub taken_up : (stay : Stay) → is_up stay ≡ turned (begins_if (is_up stay)) false
 taken_up Fresh = refl
@@ -185,8 +189,8 @@ module _ (recursive : Bool) (t : ℕ) (l : Lock) where
       apart OwnPending may e = two_apart (λ (r : Role). r.does) l.roles t v _ _ may.0 may.1 (λ x. cc) (sym e)
       apart OwnUpgradable may e = two_apart (λ (r : Role). r.does) l.roles t v _ _ may.0 may.1 (λ x. cc) (sym e)
       apart (Recheck f) may e = two_apart (λ (r : Role). r.does) l.roles t v _ _ may.0 may.1 (λ x. cc) (sym e)
-  mover_booked (Pass o v us) may a b here there =
-      moved l.roles t (record { owns = o; does = Wakes (v ∷ us) }) (record { owns = o; does = Wakes us }) a b (Both (ends_without us) Remains) may.0 here there (wakes_owe v us, refl)
+  mover_booked (Pass o ws v us) may a b here there =
+      moved l.roles t (record { owns = o; does = Wakes (ws ++ v ∷ us) }) (record { owns = o; does = Wakes (ws ++ us) }) a b (Both (ends_without (ws ++ us)) Remains) may.0 here there (pass_owes ws v us, refl)
 
   others_booked : (step : Step) → Allowed recursive t step l → (u : ℕ) (a b : Role) → u ≢ t → slice_get l.roles u ≡ Some a → slice_get (after t step l).roles u ≡ Some b → Both Remains (retrying_other step u a.does) a b
   others_booked (Alone k) may u a b ne here there = unmoved Remains a b refl (neither_of_one t u (to k) a b ne here there)
@@ -224,7 +228,7 @@ module _ (recursive : Bool) (t : ℕ) (l : Lock) where
       (woken_owes k t stay may.2, woken_retries k t stay ∙ ap (λ x. turned x (retries (waking_from k t stay).does)) (sym (where-same u v (waking k) e)))))
       (λ other. unmoved (where_same u v (waking k)) a b (where-other u v _ other) (neither_of_two v t u _ _ a b other ne here there))
       (cases_eq u v)
-  others_booked (Pass o v us) may u a b ne here there = unmoved Remains a b refl (neither_of_one t u (record { owns = o; does = Wakes us }) a b ne here there)
+  others_booked (Pass o ws v us) may u a b ne here there = unmoved Remains a b refl (neither_of_one t u (record { owns = o; does = Wakes (ws ++ us) }) a b ne here there)
 
 pub debts_are_booked : (recursive : Bool) (t : ℕ) (step : Step) (l : Lock) → IsSound l → Allowed recursive t step l → DebtsAreBooked recursive t step l (after t step l)
 debts_are_booked recursive t step l sound may = record { mover = mover_booked recursive t l step may; others = others_booked recursive t l step may }

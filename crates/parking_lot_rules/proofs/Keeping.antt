@@ -42,4 +42,4 @@ readers_are_kept_out recursive t (Store Keep s) l sound may plain some back = om
 readers_are_kept_out recursive t (Store Hand s) l sound may plain some back = absurd (store_readers t l sound some s FromExclusive may.0 may.1 (omega arith))
 readers_are_kept_out recursive t (Store HandUpgradable s) l sound may plain some back = absurd (store_readers t l sound some s FromUpgradable may.0 may.1 (omega arith))
 readers_are_kept_out recursive t (Wake o v us k stay) l sound may plain some back = omega arith
-readers_are_kept_out recursive t (Pass o v us) l sound may plain some back = omega arith
+readers_are_kept_out recursive t (Pass o ws v us) l sound may plain some back = omega arith

@@ -115,7 +115,7 @@ module _ (m : Mutex) (sound : IsSound m) (t : ℕ) where
   )
   step_case (Wake o v us stay) may = same_owners _ _ (woken_case o v us _ (doing (Seeks true)) may.0 may.1 (λ e. cc) refl) refl
   step_case (WakeOwner o v us stay) may = same_owners _ _ (woken_case o v us _ (record { owns = true; does = Idle }) may.0 may.1 (λ e. cc) refl) refl
-  step_case (Pass o v us) may = same_owners _ _ (threads-same m.roles t _ _ may.0 refl) refl
+  step_case (Pass o ws v us) may = same_owners _ _ (threads-same m.roles t _ _ may.0 refl) refl
 
 pub steps_are_cases : (m : Mutex) → IsSound m → StepsAreCases m
 steps_are_cases m sound t step may = step_case m sound t step may

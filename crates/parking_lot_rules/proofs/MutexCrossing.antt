@@ -90,7 +90,7 @@ module _ (t : ℕ) (m : Mutex) where
       let ne : t ≢ v = two_apart (λ (r : Role). r.does) m.roles t v (record { owns = o; does = Wakes (v ∷ us) }) (doing (Taken t Handed stay)) may.0 may.1 (λ e. cc) in
       weighs-same (slice_set m.roles v (record { owns = true; does = Idle })) t u (record { owns = o; does = Wakes (v ∷ us) }) (record { owns = o; does = Wakes us }) (get-set_other m.roles v t _ (λ e. ne (sym e)) ∙ may.0) refl
       ∙ weighs-same m.roles v u (doing (Taken t Handed stay)) (record { owns = true; does = Idle }) may.1 (omega (arith, may.2))
-  stay_all (Pass o v us) may apart u = weighs-same m.roles t u _ _ may.0 refl
+  stay_all (Pass o ws v us) may apart u = weighs-same m.roles t u _ _ may.0 refl
 
   others : (step : Step) (k : Key) → Allowed t step m → (u : ℕ) → u ≢ t → mutex_inside (after t step m) k u ≡ mutex_inside m k u
   others step Second may u ne = refl
@@ -106,7 +106,7 @@ module _ (t : ℕ) (m : Mutex) where
   others (Hand v) First may u ne = stay_all (Hand v) may (λ p e. cc) u
   others (Wake o v us stay) First may u ne = stay_all (Wake o v us stay) may (λ p e. cc) u
   others (WakeOwner o v us stay) First may u ne = stay_all (WakeOwner o v us stay) may (λ p e. cc) u
-  others (Pass o v us) First may u ne = stay_all (Pass o v us) may (λ p e. cc) u
+  others (Pass o ws v us) First may u ne = stay_all (Pass o ws v us) may (λ p e. cc) u
 
   moves : (step : Step) (k : Key) → Allowed t step m → mutex_inside (after t step m) k t ≡ crossed (mutex_crossing step) k (mutex_inside m k t)
   moves (Alone k) First may =
@@ -123,7 +123,7 @@ module _ (t : ℕ) (m : Mutex) where
   moves (Hand v) First may = stay_all (Hand v) may (λ p e. cc) t
   moves (Wake o v us stay) First may = stay_all (Wake o v us stay) may (λ p e. cc) t
   moves (WakeOwner o v us stay) First may = stay_all (WakeOwner o v us stay) may (λ p e. cc) t
-  moves (Pass o v us) First may = stay_all (Pass o v us) may (λ p e. cc) t
+  moves (Pass o ws v us) First may = stay_all (Pass o ws v us) may (λ p e. cc) t
   moves Join Second may = refl
   moves step Second may = refl
 

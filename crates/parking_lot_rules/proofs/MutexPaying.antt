@@ -1,5 +1,5 @@
 -- The debts at a mutex: where they begin and end, and that they are paid and passed on.
-use Rattle.std.proofs.Common.{◌≡◌, ◌≢◌, ℕ, suc, ◌+◌, ◌<◌, ◌⊎◌, ⊎_elim, Bool, true, false, ◌||◌, IsTrue, List, [], ◌∷◌, length, map, Option, Some, None, option_map, slice_get, slice_set, refl, sym, ap, ◌∙◌, subst, inl, inr, arith}
+use Rattle.std.proofs.Common.{◌≡◌, ◌≢◌, ℕ, suc, ◌+◌, ◌<◌, ◌⊎◌, ⊎_elim, Bool, true, false, ◌||◌, IsTrue, List, [], ◌∷◌, ◌++◌, length, map, Option, Some, None, option_map, slice_get, slice_set, refl, sym, ap, ◌∙◌, subst, inl, inr, arith}
 use Rattle.std.proofs.lemmas.Bool.{cases_eq}
 use Rattle.std.proofs.lemmas.List.Sums.{sum_by-cons}
 use Rattle.std.proofs.lemmas.Option.{same_Some, slice_get-map}
@@ -29,6 +29,10 @@ plain_retries k = refl
 wakes_owe : (v : ℕ) (us : List ℕ) → owes_section (Wakes us) ≡ turned (ends_without us) (owes_section (Wakes (v ∷ us)))
 wakes_owe v [] = refl
 wakes_owe v (x ∷ us) = refl
+
+pass_owes : (ws : List ℕ) (v : ℕ) (us : List ℕ) → owes_section (Wakes (ws ++ us)) ≡ turned (ends_without (ws ++ us)) (owes_section (Wakes (ws ++ v ∷ us)))
+pass_owes [] v us = wakes_owe v us
+pass_owes (w ∷ ws) v us = refl
 
 told_owes : (h : Mark) (p : Phase) → owes_section (told h p) ≡ owes_section p
 told_owes h (Taken by Open s) = refl
@@ -89,7 +93,7 @@ module _ (t : ℕ) (m : Mutex) where
       moved (ends_without us) Remains _ _ a b may.0 here (second_now v t _ _ _ b (λ e. two_apart (λ (r : Role). r.does) m.roles t v _ _ may.0 may.1 (λ x. cc) (sym e)) may.0 there) (wakes_owe v us, refl)
   mover_booked (WakeOwner o v us stay) may a b here there =
       moved (ends_without us) Remains _ _ a b may.0 here (second_now v t _ _ _ b (λ e. two_apart (λ (r : Role). r.does) m.roles t v _ _ may.0 may.1 (λ x. cc) (sym e)) may.0 there) (wakes_owe v us, refl)
-  mover_booked (Pass o v us) may a b here there = moved (ends_without us) Remains _ _ a b may.0 here (now m.roles t _ _ b may.0 there) (wakes_owe v us, refl)
+  mover_booked (Pass o ws v us) may a b here there = moved (ends_without (ws ++ us)) Remains _ _ a b may.0 here (now m.roles t _ _ b may.0 there) (pass_owes ws v us, refl)
 
   -- one thread beside the mover changes
   other : (rs : List Role) (v : ℕ) (turn : DebtChange) (x y : Role) → slice_get m.roles v ≡ Some x → (u : ℕ) (a b : Role) → slice_get m.roles u ≡ Some a → slice_get rs u ≡ Some b
@@ -139,7 +143,7 @@ module _ (t : ℕ) (m : Mutex) where
   others_booked (WakeOwner o v us stay) may u a b ne here there =
       let apart : v ≢ t = λ e. two_apart (λ (r : Role). r.does) m.roles t v _ _ may.0 may.1 (λ x. cc) (sym e) in
       other (after t (WakeOwner o v us stay) m).roles v Ends _ (record { owns = true; does = Idle }) may.1 u a b here there (λ x. first_now v t _ _ _ b apart may.1 x) (λ x. neither v t u _ _ a b x ne here there) (sym (out_of_it stay may.2), refl)
-  others_booked (Pass o v us) may u a b ne here there = unmoved Remains a b refl (not_one t u _ a b ne here there)
+  others_booked (Pass o ws v us) may u a b ne here there = unmoved Remains a b refl (not_one t u _ a b ne here there)
 
 abbrev IsNoted : Phase → Type 0
 IsNoted p = (by : ℕ) × (mark : Mark) × (phase_note p ≡ Some (by, mark))
@@ -254,7 +258,7 @@ module _ (m : Mutex) (sound : IsSound m) where
   passed t (WakeOwner o v us stay) may b there some before none =
       let apart : v ≢ t = λ e. two_apart (λ (r : Role). r.does) m.roles t v _ _ may.0 may.1 (λ x. cc) (sym e) in
       absurd (omega (arith, before, none, owning_same (slice_set m.roles v (record { owns = true; does = Idle })) t _ (record { owns = o; does = Wakes us }) (get-set_other m.roles v t (record { owns = true; does = Idle }) apart ∙ may.0) refl, owning_same m.roles v _ (record { owns = true; does = Idle }) may.1 refl))
-  passed t (Pass o v us) may b there some before none = absurd (omega (arith, before, none, owning_same m.roles t _ (record { owns = o; does = Wakes us }) may.0 refl))
+  passed t (Pass o ws v us) may b there some before none = absurd (omega (arith, before, none, owning_same m.roles t _ (record { owns = o; does = Wakes (ws ++ us) }) may.0 refl))
 
   pub debts_are_booked : (t : ℕ) (step : Step) → Allowed t step m → MutexDebtsAreBooked t step m (after t step m)
   debts_are_booked t step may = record { booked = record { mover = mover_booked t m step may; others = others_booked t m step may }; passed = passed t step may }

@@ -1,5 +1,5 @@
 -- The ranks at a mutex fall as a thread is stepped.
-use Rattle.std.proofs.Common.{◌≡◌, ◌≢◌, ℕ, ◌+◌, ◌-◌, ◌≤◌, ◌⊎◌, Bool, true, false, IsTrue, List, [], ◌∷◌, map, Some, option_map, slice_get, slice_set, sum_by, refl, sym, ap, ◌∙◌, subst, inl, inr, arith}
+use Rattle.std.proofs.Common.{◌≡◌, ◌≢◌, ℕ, ◌+◌, ◌-◌, ◌≤◌, ◌⊎◌, Bool, true, false, IsTrue, List, [], ◌∷◌, ◌++◌, map, Some, option_map, slice_get, slice_set, sum_by, refl, sym, ap, ◌∙◌, subst, inl, inr, arith}
 use Rattle.std.proofs.lemmas.List.Sums.{sum_by-cons}
 use Rattle.std.proofs.lemmas.Option.{same_Some, slice_get-map}
 use Rattle.parking_lot_rules.specs.Roles.{Stay, Fresh, Asleep, Late, Back, Mark, Open, Normal, Handed}
@@ -9,6 +9,7 @@ use Rattle.parking_lot_rules.specs.Ranks.{where_some}
 use Rattle.parking_lot_rules.specs.MutexRanks.{asks, worst, fresh, rank_of_others, ranks, is_apart, KnowsTheWord, MutexRanksFall}
 use Rattle.parking_lot_rules.proofs.Indexed.{get-set_same, get-set_other, sum_by-set_at, two_apart}
 use Rattle.parking_lot_rules.proofs.Ranking.{chosen}
+use Rattle.parking_lot_rules.proofs.Waiting.{length-without}
 
 before : Bool → Word → Phase → ℕ
 before true w p = worst p
@@ -113,7 +114,7 @@ phase_before (Free taken) = Unlocks taken
 phase_before (Hand v) = Unlocks (v ∷ [])
 phase_before (Wake o v us stay) = Wakes (v ∷ us)
 phase_before (WakeOwner o v us stay) = Wakes (v ∷ us)
-phase_before (Pass o v us) = Wakes (v ∷ us)
+phase_before (Pass o ws v us) = Wakes (ws ++ v ∷ us)
 
 module _ (m : Mutex) (sound : IsSound m) (t : ℕ) where
   ranks_are : (stale : Bool) (p : Phase) → ranks stale m t p ≡ before stale m.word p + rank_of_others m.roles t
@@ -171,9 +172,9 @@ module _ (m : Mutex) (sound : IsSound m) (t : ℕ) where
       let same : Wakes us ≡ b.does = ap (λ (z : Role). z.does) (same_Some _ b (sym (get-set_same (slice_set m.roles v (record { owns = true; does = Idle })) t _ (record { owns = o; does = Wakes us }) (get-set_other m.roles v t (record { owns = true; does = Idle }) (λ e. ne (sym e)) ∙ may.0)) ∙ there)) in
       subst (λ p. ranks false (after t (WakeOwner o v us stay) m) t p + 1 ≤ ranks true m t (Wakes (v ∷ us))) same
       (omega (arith, others-before m.roles t v _ (record { owns = o; does = Wakes us }) (doing (Taken t Handed stay)) (record { owns = true; does = Idle }) may.0 may.1 (λ e. ne (sym e))))
-  step_falls true (Pass o v us) b may there busy now knows =
-      let same : Wakes us ≡ b.does = ap (λ (x : Role). x.does) (same_Some _ b (sym (get-set_same m.roles t _ (record { owns = o; does = Wakes us }) may.0) ∙ there)) in
-      subst (λ p. ranks false (after t (Pass o v us) m) t p + 1 ≤ ranks true m t (Wakes (v ∷ us))) same (omega (arith, others-set m.roles t _ (record { owns = o; does = Wakes us }) may.0))
+  step_falls true (Pass o ws v us) b may there busy now knows =
+      let same : Wakes (ws ++ us) ≡ b.does = ap (λ (x : Role). x.does) (same_Some _ b (sym (get-set_same m.roles t _ (record { owns = o; does = Wakes (ws ++ us) }) may.0) ∙ there)) in
+      subst (λ p. ranks false (after t (Pass o ws v us) m) t p + 1 ≤ ranks true m t (Wakes (ws ++ v ∷ us))) same (omega (arith, others-set m.roles t _ (record { owns = o; does = Wakes (ws ++ us) }) may.0, length-without ws v us))
   step_falls false (Take v stay) b may there busy now knows =
       let ne : t ≢ v = two_apart (λ (r : Role). r.does) m.roles t v (doing (Unlocks [])) (doing (Queued stay)) may.0 may.2 (λ e. cc) in
       let same : Unlocks (v ∷ []) ≡ b.does = ap (λ (x : Role). x.does) (same_Some _ b (sym (get-set_other (slice_set m.roles t (doing (Unlocks (v ∷ [])))) v t (doing (Taken t Open stay)) (λ e. ne (sym e)) ∙ get-set_same m.roles t _ (doing (Unlocks (v ∷ []))) may.0) ∙ there)) in
@@ -195,9 +196,9 @@ module _ (m : Mutex) (sound : IsSound m) (t : ℕ) where
       let same : Wakes us ≡ b.does = ap (λ (z : Role). z.does) (same_Some _ b (sym (get-set_same (slice_set m.roles v (record { owns = true; does = Idle })) t _ (record { owns = o; does = Wakes us }) (get-set_other m.roles v t (record { owns = true; does = Idle }) (λ e. ne (sym e)) ∙ may.0)) ∙ there)) in
       subst (λ p. ranks false (after t (WakeOwner o v us stay) m) t p + 1 ≤ ranks false m t (Wakes (v ∷ us))) same
       (omega (arith, others-before m.roles t v _ (record { owns = o; does = Wakes us }) (doing (Taken t Handed stay)) (record { owns = true; does = Idle }) may.0 may.1 (λ e. ne (sym e))))
-  step_falls false (Pass o v us) b may there busy now knows =
-      let same : Wakes us ≡ b.does = ap (λ (x : Role). x.does) (same_Some _ b (sym (get-set_same m.roles t _ (record { owns = o; does = Wakes us }) may.0) ∙ there)) in
-      subst (λ p. ranks false (after t (Pass o v us) m) t p + 1 ≤ ranks false m t (Wakes (v ∷ us))) same (omega (arith, others-set m.roles t _ (record { owns = o; does = Wakes us }) may.0))
+  step_falls false (Pass o ws v us) b may there busy now knows =
+      let same : Wakes (ws ++ us) ≡ b.does = ap (λ (x : Role). x.does) (same_Some _ b (sym (get-set_same m.roles t _ (record { owns = o; does = Wakes (ws ++ us) }) may.0) ∙ there)) in
+      subst (λ p. ranks false (after t (Pass o ws v us) m) t p + 1 ≤ ranks false m t (Wakes (ws ++ v ∷ us))) same (omega (arith, others-set m.roles t _ (record { owns = o; does = Wakes (ws ++ us) }) may.0, length-without ws v us))
 
   pub role_before : (step : Step) (a : Role) → Allowed t step m → slice_get m.roles t ≡ Some a → phase_before step ≡ a.does
   role_before (Alone k) a may at = ap (λ (x : Role). x.does) (same_Some _ a (sym may.0 ∙ at))
@@ -212,7 +213,7 @@ module _ (m : Mutex) (sound : IsSound m) (t : ℕ) where
   role_before (Hand v) a may at = ap (λ (x : Role). x.does) (same_Some _ a (sym may ∙ at))
   role_before (Wake o v us stay) a may at = ap (λ (x : Role). x.does) (same_Some _ a (sym may.0 ∙ at))
   role_before (WakeOwner o v us stay) a may at = ap (λ (x : Role). x.does) (same_Some _ a (sym may.0 ∙ at))
-  role_before (Pass o v us) a may at = ap (λ (x : Role). x.does) (same_Some _ a (sym may.0 ∙ at))
+  role_before (Pass o ws v us) a may at = ap (λ (x : Role). x.does) (same_Some _ a (sym may.0 ∙ at))
 
 quiet : (w : Word) (p : Phase) → (p ≡ Idle) ⊎ IsTrue (is_asleep p) → (worst p ≡ 0) × (fresh w p ≡ 0)
 quiet w p (inl e) = (ap worst e, ap (fresh w) e)

@@ -53,7 +53,7 @@ module _ (m : Mutex) (sound : IsSound m) (t : ℕ) where
   begins (Hand v) may b there idle = absurd cc
   begins (Wake o v us stay) may b there idle = absurd cc
   begins (WakeOwner o v us stay) may b there idle = absurd cc
-  begins (Pass o v us) may b there idle = absurd cc
+  begins (Pass o ws v us) may b there idle = absurd cc
 
   -- another thread that sleeps from here on, and did nothing
   others-moved : (v : ℕ) (a : Role) → slice_get m.roles t ≡ Some a → slice_get m.roles v ≡ Some away → t ≢ v → rank_of_others (slice_set m.roles v (doing (Queued Asleep))) t ≡ rank_of_others m.roles t

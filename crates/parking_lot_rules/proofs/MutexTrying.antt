@@ -30,7 +30,7 @@ module _ (u t : ℕ) (m : Mutex) (ne : u ≢ t) (at : slice_get m.roles t ≡ So
   left_alone (Hand v) may = told_so Handed (doing (Stored (v ∷ [])))
   left_alone (Wake o v us stay) may = get-set_other (slice_set m.roles v (doing (Seeks true))) u t _ ne ∙ get-set_other m.roles v t _ (not_this v _ may.1 (λ e. cc)) ∙ at
   left_alone (WakeOwner o v us stay) may = get-set_other (slice_set m.roles v (record { owns = true; does = Idle })) u t _ ne ∙ get-set_other m.roles v t _ (not_this v _ may.1 (λ e. cc)) ∙ at
-  left_alone (Pass o v us) may = get-set_other m.roles u t _ ne ∙ at
+  left_alone (Pass o ws v us) may = get-set_other m.roles u t _ ne ∙ at
 
 module _ (t : ℕ) where
   abbrev Stands : Mutex → Type 0

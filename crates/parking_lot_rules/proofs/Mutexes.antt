@@ -9,7 +9,7 @@ use Rattle.parking_lot_rules.specs.Lists.{occurs, at_index, IsListOf, AreNotedBy
 use Rattle.parking_lot_rules.specs.Classes.{inside}
 use Rattle.parking_lot_rules.specs.Mutex.{Phase, Idle, Seeks, Checked, Queued, Taken, Masks, Leaves, Unlocks, Stored, Wakes, Comes, Moves, Role, away, Class, Owning, Inside, Waiting, Masking, Called, Untold, Counted, weight, total, Word, Fits, Counts, phase_note, phase_wakes, note_of, wakes, Mutex, Sound, IsSound, Plain, Begin, Refuse, Lock, Flag, Enter, Check, Retreat, Rest, Expire, ExpireTaken, Reenter, ReenterTaken, Mask, Leave, Resume, Receive, Unlock, Look, Depart, Finish, Come, MarkParked, GoUnmarked, Go, from, to, May, written, are_left, told, settle, Step, Alone, Join, Quit, QuitLast, Requeue, Pull, Follow, Take, Free, Hand, Wake, WakeOwner, Pass, doing, Allowed, after, Runs, unlocked, AlwaysOfMutex}
 use Rattle.parking_lot_rules.proofs.Indexed.{get-set_same, get-set_other, get-set_cases, sum_by-set_at}
-use Rattle.parking_lot_rules.proofs.Waiting.{lists-same, lists-push, lists-drop, occurs-cons, counted-same, counted-other}
+use Rattle.parking_lot_rules.proofs.Waiting.{lists-same, lists-push, lists-drop, occurs-cons, occurs-without, counted-same}
 use Rattle.parking_lot_rules.proofs.Noting.{noted-set, WillWakeBy}
 use Rattle.parking_lot_rules.proofs.Fitting.{zero_or}
 
@@ -267,10 +267,10 @@ take_grows v u Open = omega arith
 take_grows v u Normal = omega arith
 take_grows v u Handed = omega arith
 
-pass_shrinks : (v : ℕ) (us : List ℕ) (u : ℕ) (mark : Mark) → u ≢ v → occurs u (phase_wakes (Wakes (v ∷ us)) mark) ≤ occurs u (phase_wakes (Wakes us) mark)
-pass_shrinks v us u Open ne = omega arith
-pass_shrinks v us u Normal ne = omega (arith, occurs-cons u v us, counted-other u v ne)
-pass_shrinks v us u Handed ne = omega (arith, occurs-cons u v us, counted-other u v ne)
+pass_shrinks : (ws : List ℕ) (v : ℕ) (us : List ℕ) (u : ℕ) (mark : Mark) → u ≢ v → occurs u (phase_wakes (Wakes (ws ++ v ∷ us)) mark) ≤ occurs u (phase_wakes (Wakes (ws ++ us)) mark)
+pass_shrinks ws v us u Open ne = omega arith
+pass_shrinks ws v us u Normal ne = occurs-without u ws v us ne
+pass_shrinks ws v us u Handed ne = occurs-without u ws v us ne
 
 module _ (w : Word) (rs : List Role) (q : List ℕ) (sound : Sound w rs q) (t : ℕ) where
   fits-set : (w' : Word) (a b : Role) → slice_get rs t ≡ Some a
@@ -342,21 +342,21 @@ module _ (w : Word) (rs : List Role) (q : List ℕ) (sound : Sound w rs q) (t : 
     noted = noted-quiet x y at none (λ u mark. omega (arith, ap (λ us. occurs u us) (same mark)));
   }
 
-  sound_pass : (o : Bool) (v : ℕ) (us : List ℕ) → slice_get rs t ≡ Some (record { owns = o; does = Wakes (v ∷ us) })
-      → ((r : Role) (mark : Mark) → slice_get rs v ≡ Some r → note_of r ≢ Some (t, mark)) → Sound w (slice_set rs t (record { owns = o; does = Wakes us })) q
+  sound_pass : (o : Bool) (ws : List ℕ) (v : ℕ) (us : List ℕ) → slice_get rs t ≡ Some (record { owns = o; does = Wakes (ws ++ v ∷ us) })
+      → ((r : Role) (mark : Mark) → slice_get rs v ≡ Some r → note_of r ≢ Some (t, mark)) → Sound w (slice_set rs t (record { owns = o; does = Wakes (ws ++ us) })) q
   unfolding weight
-  sound_pass o v us at gone = record {
-    fits = fits-set w a b at (pass_fits w _ (counts_all (slice_set rs t away)) o (v ∷ us) us);
+  sound_pass o ws v us at gone = record {
+    fits = fits-set w a b at (pass_fits w _ (counts_all (slice_set rs t away)) o (ws ++ v ∷ us) (ws ++ us));
     waiting = lists-same (weight Waiting) q rs t a b at sound.waiting refl;
     noted = noted-set note_of wakes rs t a b at sound.noted (nothing_noted b (λ by mark. WillWakeBy wakes rs by t mark) refl)
-        (λ u r mark here took. pass_shrinks v us u mark (λ e. still u r mark (get-set_cases rs t u a r b at here) took e));
+        (λ u r mark here took. pass_shrinks ws v us u mark (λ e. still u r mark (get-set_cases rs t u a r b at here) took e));
   }
     where
       a : Role
-      a = record { owns = o; does = Wakes (v ∷ us) }
+      a = record { owns = o; does = Wakes (ws ++ v ∷ us) }
 
       b : Role
-      b = record { owns = o; does = Wakes us }
+      b = record { owns = o; does = Wakes (ws ++ us) }
 
       still : (u : ℕ) (r : Role) (mark : Mark) → ((u ≡ t) × (r ≡ b)) ⊎ ((u ≢ t) × (slice_get rs u ≡ Some r)) → note_of r ≡ Some (t, mark) → u ≢ v
       still u r mark (inl x) took e = none-some (t, mark) (sym (ap note_of x.1) ∙ took)
@@ -566,7 +566,7 @@ woken : (t : ℕ) (m : Mutex) → IsSound m → (o : Bool) (v : ℕ) (us : List 
     → Sound m.word (slice_set (slice_set m.roles v y) t (record { owns = o; does = Wakes us })) m.queue
 woken t m sound o v us x y at there apart none same waits keeps =
     let mid = sound_woken m.word m.roles m.queue sound v x y there none same waits keeps in
-    sound_pass m.word (slice_set m.roles v y) m.queue mid t o v us
+    sound_pass m.word (slice_set m.roles v y) m.queue mid t o [] v us
     (get-set_other m.roles v t y (λ e. apart (ap (λ (r : Role). r.does) (same_Some _ x (sym at ∙ ap (λ i. slice_get m.roles i) (sym e) ∙ there)))) ∙ at)
     (λ r mark here took. none-some (t, mark) (sym none ∙ ap note_of (same_Some y r (sym (get-set_same m.roles v x y there) ∙ here)) ∙ took))
 
@@ -590,7 +590,7 @@ step_sound t (Wake o v us stay) m sound may = woken t m sound o v us (doing (Tak
     (wake_fits m.word (λ x. total x (slice_set m.roles v away)) (counts_all (slice_set m.roles v away)) t stay may.2)
 step_sound t (WakeOwner o v us stay) m sound may = woken t m sound o v us (doing (Taken t Handed stay)) (record { owns = true; does = Idle }) may.0 may.1 (λ e. cc) refl (λ mark. refl) (waits_same Handed (record { owns = true; does = Idle }) stay t owner_waits)
     (wake_owner_fits m.word (λ x. total x (slice_set m.roles v away)) (counts_all (slice_set m.roles v away)) t stay may.2)
-step_sound t (Pass o v us) m sound may = sound_pass m.word m.roles m.queue sound t o v us may.0 may.1
+step_sound t (Pass o ws v us) m sound may = sound_pass m.word m.roles m.queue sound t o ws v us may.0 may.1
 
 all_away : (n u : ℕ) (r : Role) → slice_get (replicate n away) u ≡ Some r → r ≡ away
 all_away zero u r at = absurd (none-some r at)

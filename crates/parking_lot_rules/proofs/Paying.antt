@@ -1,5 +1,5 @@
 -- The debts at a lock are paid, and passed on.
-use Rattle.std.proofs.Common.{◌≡◌, ◌≢◌, ℕ, zero, suc, ◌+◌, ◌<◌, ◌⊎◌, ⊎_elim, Bool, true, false, cond, ◌||◌, IsTrue, List, [], ◌∷◌, length, map, Option, Some, None, option_map, slice_get, slice_set, refl, sym, ap, ◌∙◌, subst, inl, inr, arith}
+use Rattle.std.proofs.Common.{◌≡◌, ◌≢◌, ℕ, zero, suc, ◌+◌, ◌<◌, ◌⊎◌, ⊎_elim, Bool, true, false, cond, ◌||◌, IsTrue, List, [], ◌∷◌, ◌++◌, length, map, Option, Some, None, option_map, slice_get, slice_set, refl, sym, ap, ◌∙◌, subst, inl, inr, arith}
 use Rattle.std.proofs.lemmas.Option.{same_Some, slice_get-map}
 use Rattle.parking_lot_rules.specs.Roles.{Owned, Shares, Excludes, Upgrades, Stay, Fresh, Asleep, Late, Back, Open, Normal, Handed, Phase, Seeks, Enters1, Queued1, Taken1, Queued2, Taken2, Owes1, Scans1, Stored1, Owes2, Scans2, Masked2, Wakes, Role, away}
 use Rattle.parking_lot_rules.specs.Classes.{Class, Readers, Upgraders, Pending, Writers, Waiting1, Waiting2, Owing1, Owing2, Called, OpenWriters, OpenUpgraders, Strange, weight, total, bit}
@@ -314,7 +314,7 @@ module _ (recursive : Bool) (t : ℕ) (l : Lock) (sound : IsSound l) where
       (sym (get-set_same (map (settle (ends_saying e)) l.roles) t (settle (ends_saying e) (scanning s)) (record { owns = s.owns; does = Stored1 s.taken })
       (slice_get-map (settle (ends_saying e)) l.roles t ∙ ap (option_map (settle (ends_saying e))) may.0)) ∙ there)) refl)
   other_step (Wake o v us k stay) apart may b there = inr (wake_same l.roles t v o us (v ∷ us) k stay (waking_apart k t v stay l.roles o (v ∷ us) may.0 may.1) may.0 may.1)
-  other_step (Pass o v us) apart may b there = inr (pass_same l.roles t o us (v ∷ us) may.0)
+  other_step (Pass o ws v us) apart may b there = inr (pass_same l.roles t o (ws ++ us) (ws ++ v ∷ us) may.0)
 
   first_passed : (step : Step) → Allowed recursive t step l → (b : Role) → slice_get (after t step l).roles t ≡ Some b → 0 < length l.first → 0 < total Writers l.roles + total Pending l.roles + total Upgraders l.roles
       → total Writers (after t step l).roles + total Pending (after t step l).roles + total Upgraders (after t step l).roles ≡ 0 → IsTrue (is_in_debt b.does)

@@ -42,7 +42,7 @@ sum_paid (List_changes k) n = omega (arith, sum_none n)
 sum_paid (Take1 s i v m stay) n = omega (arith, sum_none n)
 sum_paid (Take2 o v f stay) n = omega (arith, sum_none n)
 sum_paid (Store e s) n = omega (arith, sum_none n)
-sum_paid (Pass o v us) n = omega (arith, sum_none n)
+sum_paid (Pass o ws v us) n = omega (arith, sum_none n)
 
 module _ (f g x : ℕ → ℕ) (t : ℕ) (others : (u : ℕ) → u ≢ t → g u ≤ f u + x u) where
   sum_others : (n : ℕ) → n ≤ t → sum_to g n ≤ sum_to f n + sum_to x n
@@ -92,7 +92,7 @@ after_length recursive t (Take1 s i v m stay) l = length-set (slice_set l.roles 
 after_length recursive t (Take2 o v f stay) l = length-set (slice_set l.roles t _) v _ ∙ length-set l.roles t _
 after_length recursive t (Store e s) l = length-set (map (settle (ends_saying e)) l.roles) t _ ∙ length-map l.roles (settle (ends_saying e))
 after_length recursive t (Wake o v us k stay) l = length-set (slice_set l.roles v _) t _ ∙ length-set l.roles v _
-after_length recursive t (Pass o v us) l = length-set l.roles t _
+after_length recursive t (Pass o ws v us) l = length-set l.roles t _
 
 -- what stands behind a role
 pub map_got : (i : ℕ) (ps : List Place) (u : ℕ) (r : Role) → slice_get (map (role_at i) ps) u ≡ Some r → (p : Place) × (slice_get ps u ≡ Some p) × (role_at i p ≡ r)
@@ -132,7 +132,7 @@ woken_extra (List_changes k) u e = absurd e
 woken_extra (Take1 s i v m stay) u e = absurd e
 woken_extra (Take2 o v f stay) u e = absurd e
 woken_extra (Store end s) u e = absurd e
-woken_extra (Pass o v us) u e = absurd e
+woken_extra (Pass o ws v us) u e = absurd e
 
 -- a step at lock j, by thread t
 module _ (bucket : ℕ → ℕ) (recursive : ℕ → Bool) (j t : ℕ) (step : Step) (w : World) (sound : IsSoundFamily bucket (family w)) (may : MayStep bucket recursive j t step w) where

@@ -1,5 +1,5 @@
 -- A thread that is in no call stays so, whatever another does; so scenes stay proper.
-use Rattle.std.proofs.Common.{◌≡◌, ◌≢◌, ℕ, ◌⊎◌, ⊎_elim, Bool, true, ◌==◌, [], ◌∷◌, map, Option, Some, None, option_map, slice_get, slice_set, refl, sym, ap, ◌∙◌, subst, inl, inr}
+use Rattle.std.proofs.Common.{◌≡◌, ◌≢◌, ℕ, ◌⊎◌, ⊎_elim, Bool, true, ◌==◌, [], ◌∷◌, ◌++◌, map, Option, Some, None, option_map, slice_get, slice_set, refl, sym, ap, ◌∙◌, subst, inl, inr}
 use Rattle.std.proofs.lemmas.Bool.{cases_eq}
 use Rattle.std.proofs.lemmas.Option.{none-some, same_Some, slice_get-map}
 use Rattle.parking_lot_rules.specs.Roles.{Shares, Open, Idle, Queued1, Taken1, Queued2, Taken2, Stored1, Scans2, Wakes, Role}
@@ -62,7 +62,7 @@ module _ (recursive : Bool) (t : ℕ) (l : Lock) where
       (get-set_cases l.roles v u (waking_from k t stay) r (waking_to k) may.1 x.1))
       (get-set_cases (slice_set l.roles v (waking_to k)) t u (record { owns = o; does = Wakes (v ∷ us) }) r (record { owns = o; does = Wakes us })
       (get-set_other l.roles v t (waking_to k) (λ e. waking_apart k t stay o (v ∷ us) (same_Some _ _ (sym may.0 ∙ ap (λ i. slice_get l.roles i) (sym e) ∙ may.1))) ∙ may.0) there)
-  others_idle (Pass o v us) may u ne r there = one_idle u (record { owns = o; does = Wakes (v ∷ us) }) (record { owns = o; does = Wakes us }) r may.0 ne there
+  others_idle (Pass o ws v us) may u ne r there = one_idle u (record { owns = o; does = Wakes (ws ++ v ∷ us) }) (record { owns = o; does = Wakes (ws ++ us) }) r may.0 ne there
 
 module _ (bucket : ℕ → ℕ) (recursive : ℕ → Bool) (j t : ℕ) (step : Step) (w : World) (sound : IsSoundFamily bucket (family w)) (may : MayStep bucket recursive j t step w) where
   abbrev next : World
@@ -103,7 +103,7 @@ deadline_busy bucket recursive u j (Take1 s i v m stay) w may late idle = absurd
 deadline_busy bucket recursive u j (Take2 o v f stay) w may late idle = absurd cc
 deadline_busy bucket recursive u j (Store e s) w may late idle = absurd cc
 deadline_busy bucket recursive u j (Wake o v us k stay) w may late idle = absurd cc
-deadline_busy bucket recursive u j (Pass o v us) w may late idle = absurd cc
+deadline_busy bucket recursive u j (Pass o ws v us) w may late idle = absurd cc
 
 -- where a thread in no call starts one, or ends one
 put_proper : (s : ProgressState) (t : ℕ) (x : CallProgress) → phase s t ≡ Idle → IsProper s → (u : ℕ) → (phase s u ≡ Idle) ⊎ (put s.stages t x u ≡ Works)

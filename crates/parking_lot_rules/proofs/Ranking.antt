@@ -1,5 +1,5 @@
 -- The ranks fall as a thread is stepped.
-use Rattle.std.proofs.Common.{◌≡◌, ◌≢◌, ℕ, zero, suc, ◌+◌, ◌-◌, ◌*◌, ◌<◌, ◌≤◌, ◌⊎◌, Bool, true, false, IsTrue, List, [], ◌∷◌, length, map, remove, Some, option_map, slice_get, slice_set, sum_by, refl, sym, ap, ◌∙◌, subst, inl, inr, arith, length-append}
+use Rattle.std.proofs.Common.{◌≡◌, ◌≢◌, ℕ, zero, suc, ◌+◌, ◌-◌, ◌*◌, ◌<◌, ◌≤◌, ◌⊎◌, Bool, true, false, IsTrue, List, [], ◌∷◌, ◌++◌, length, map, remove, Some, option_map, slice_get, slice_set, sum_by, refl, sym, ap, ◌∙◌, subst, inl, inr, arith, length-append}
 use Rattle.std.proofs.lemmas.List.{length-set, length-map}
 use Rattle.std.proofs.lemmas.List.Edits.{length-remove}
 use Rattle.std.proofs.lemmas.List.Sums.{sum_by-cons}
@@ -15,6 +15,7 @@ use Rattle.parking_lot_rules.specs.Ranks.{where_some, to_come, asks, drains, wor
 use Rattle.parking_lot_rules.proofs.Indexed.{get-set_same, get-set_other, sum_by-set_at, two_apart}
 use Rattle.parking_lot_rules.proofs.Changing.{taking_taken}
 use Rattle.parking_lot_rules.proofs.Sounds.{waking_apart}
+use Rattle.parking_lot_rules.proofs.Waiting.{length-without}
 
 -- two threads whose phases differ
 -- which of the two numbers it is
@@ -249,7 +250,7 @@ module _ (recursive : Bool) (t : ℕ) (l : Lock) (sound : IsSound l) where
   phase_after (Take2 o v f stay) = Scans2 (v ∷ [])
   phase_after (Store e s) = Stored1 s.taken
   phase_after (Wake o v us k stay) = Wakes us
-  phase_after (Pass o v us) = Wakes us
+  phase_after (Pass o ws v us) = Wakes (ws ++ us)
 
   abbrev pub phase_before : Step → Phase
   phase_before (Alone k) = (from k).does
@@ -258,7 +259,7 @@ module _ (recursive : Bool) (t : ℕ) (l : Lock) (sound : IsSound l) where
   phase_before (Take2 o v f stay) = Scans2 []
   phase_before (Store e s) = (scanning s).does
   phase_before (Wake o v us k stay) = Wakes (v ∷ us)
-  phase_before (Pass o v us) = Wakes (v ∷ us)
+  phase_before (Pass o ws v us) = Wakes (ws ++ v ∷ us)
 
   step_falls : (stale : Bool) (step : Step) → Allowed recursive t step l → phase_before step ≢ Idle → is_deadline step ≡ false → KnowsTheWord stale step l.word
       → ranks false (after t step l) t (phase_after step) + 1 ≤ ranks stale l t (phase_before step)
@@ -340,8 +341,8 @@ module _ (recursive : Bool) (t : ℕ) (l : Lock) (sound : IsSound l) where
             (λ e. waking_apart k t stay o (v ∷ us) (same_Some _ _ (sym may.0 ∙ ap (λ i. slice_get l.roles i) (sym e) ∙ may.1))),
         woken_more (length l.roles) t k stay,
       ))
-  step_falls true (Pass o v us) may busy now knows = falls true (after t (Pass o v us) l) (Wakes (v ∷ us)) (Wakes us) (length-set l.roles t _)
-      (omega (arith, others-set (length l.roles) l.roles t _ (record { owns = o; does = Wakes us }) may.0))
+  step_falls true (Pass o ws v us) may busy now knows = falls true (after t (Pass o ws v us) l) (Wakes (ws ++ v ∷ us)) (Wakes (ws ++ us)) (length-set l.roles t _)
+      (omega (arith, others-set (length l.roles) l.roles t _ (record { owns = o; does = Wakes (ws ++ us) }) may.0, length-without ws v us))
   step_falls false (Wake o v us k stay) may busy now knows = falls false (after t (Wake o v us k stay) l) (Wakes (v ∷ us)) (Wakes us)
       (length-set (slice_set l.roles v _) t _ ∙ length-set l.roles v _)
       (omega (
@@ -350,8 +351,8 @@ module _ (recursive : Bool) (t : ℕ) (l : Lock) (sound : IsSound l) where
             (λ e. waking_apart k t stay o (v ∷ us) (same_Some _ _ (sym may.0 ∙ ap (λ i. slice_get l.roles i) (sym e) ∙ may.1))),
         woken_more (length l.roles) t k stay,
       ))
-  step_falls false (Pass o v us) may busy now knows = falls false (after t (Pass o v us) l) (Wakes (v ∷ us)) (Wakes us) (length-set l.roles t _)
-      (omega (arith, others-set (length l.roles) l.roles t _ (record { owns = o; does = Wakes us }) may.0))
+  step_falls false (Pass o ws v us) may busy now knows = falls false (after t (Pass o ws v us) l) (Wakes (ws ++ v ∷ us)) (Wakes (ws ++ us)) (length-set l.roles t _)
+      (omega (arith, others-set (length l.roles) l.roles t _ (record { owns = o; does = Wakes (ws ++ us) }) may.0, length-without ws v us))
 
   -- the thread's role before the step and after it
   pub role_before : (step : Step) → Allowed recursive t step l → (r : Role) → slice_get l.roles t ≡ Some r → phase_before step ≡ r.does
@@ -361,7 +362,7 @@ module _ (recursive : Bool) (t : ℕ) (l : Lock) (sound : IsSound l) where
   role_before (Take2 o v f stay) may r at = ap (λ (x : Role). x.does) (same_Some _ r (sym may.0 ∙ at))
   role_before (Store e s) may r at = ap (λ (x : Role). x.does) (same_Some _ r (sym may.0 ∙ at))
   role_before (Wake o v us k stay) may r at = ap (λ (x : Role). x.does) (same_Some _ r (sym may.0 ∙ at))
-  role_before (Pass o v us) may r at = ap (λ (x : Role). x.does) (same_Some _ r (sym may.0 ∙ at))
+  role_before (Pass o ws v us) may r at = ap (λ (x : Role). x.does) (same_Some _ r (sym may.0 ∙ at))
 
   pub role_after : (step : Step) → Allowed recursive t step l → (r : Role) → slice_get (after t step l).roles t ≡ Some r → phase_after step ≡ r.does
   role_after (Alone k) may r at = ap (λ (x : Role). x.does) (same_Some _ r (sym (get-set_same l.roles t _ (to k) may.0) ∙ at))
@@ -379,7 +380,7 @@ module _ (recursive : Bool) (t : ℕ) (l : Lock) (sound : IsSound l) where
   role_after (Wake o v us k stay) may r at =
       ap (λ (x : Role). x.does) (same_Some _ r (sym (get-set_same (slice_set l.roles v (waking_to k)) t _ (record { owns = o; does = Wakes us })
       (get-set_other l.roles v t (waking_to k) (λ e. waking_apart k t stay o (v ∷ us) (same_Some _ _ (sym may.0 ∙ ap (λ i. slice_get l.roles i) (sym e) ∙ may.1))) ∙ may.0)) ∙ at))
-  role_after (Pass o v us) may r at = ap (λ (x : Role). x.does) (same_Some _ r (sym (get-set_same l.roles t _ (record { owns = o; does = Wakes us }) may.0) ∙ at))
+  role_after (Pass o ws v us) may r at = ap (λ (x : Role). x.does) (same_Some _ r (sym (get-set_same l.roles t _ (record { owns = o; does = Wakes (ws ++ us) }) may.0) ∙ at))
 
 -- within a call each step of the stepped thread lowers the ranks
 pub ranks_fall : (recursive : Bool) (t : ℕ) (step : Step) (l : Lock) → IsSound l → Allowed recursive t step l → RanksFall recursive t step l (after t step l)
@@ -443,4 +444,4 @@ ranks_begin recursive t step l sound may a b at there idle = begins step may (ro
     begins (Take2 o v f stay) may was now = absurd cc
     begins (Store e s) may was now = absurd cc
     begins (Wake o v us k stay) may was now = absurd cc
-    begins (Pass o v us) may was now = absurd cc
+    begins (Pass o ws v us) may was now = absurd cc

@@ -60,7 +60,7 @@ module _ (recursive : Bool) (t : ℕ) (l : Lock) (sound : IsSound l) (counted : 
   step_leaves aim sight (Take2 o v f stay) may inside = omega arith
   step_leaves aim sight (Store e s) may inside = omega arith
   step_leaves aim sight (Wake o v us k stay) may inside = absurd cc
-  step_leaves aim sight (Pass o v us) may inside = absurd cc
+  step_leaves aim sight (Pass o ws v us) may inside = absurd cc
 
 module _ (bucket : ℕ → ℕ) (recursive : ℕ → Bool) (t : ℕ) (step : Step) (sight : WordKnowledge) (old new : ProgressState) (reached : IsReached bucket recursive old.world) (within : t < threads old) (inside : IsTrue (is_inside (phase old t)))
     (turned : Turned bucket recursive t (Next_step step sight) old new) where

@@ -158,7 +158,7 @@ step_sound recursive t (Take2 o v f stay) l sound may = sound_take2 l.word l.rol
 step_sound recursive t (Store e s) l sound may = sound_store l.word l.roles l.first l.second sound t e s may.0 may.1 may.3
 step_sound recursive t (Wake o v us k stay) l sound may =
     let mid = sound_wake l.word l.roles l.first l.second sound t v k stay may.1 may.2 in
-    sound_pass l.word (slice_set l.roles v (waking_to k)) l.first l.second mid t o v us
+    sound_pass l.word (slice_set l.roles v (waking_to k)) l.first l.second mid t o [] v us
     (get-set_other l.roles v t (waking_to k) (λ e. waking_apart k t stay o (v ∷ us) (same_Some _ _ (sym may.0 ∙ ap (λ i. slice_get l.roles i) (sym e) ∙ may.1))) ∙ may.0)
     (λ r note here took. none-some (t, note) (sym (waking_note k) ∙ ap (λ (y : Role). note_of y.does) (same_Some (waking_to k) r (sym (get-set_same l.roles v (waking_from k t stay) (waking_to k) may.1) ∙ here)) ∙ took))
-step_sound recursive t (Pass o v us) l sound may = sound_pass l.word l.roles l.first l.second sound t o v us may.0 may.1
+step_sound recursive t (Pass o ws v us) l sound may = sound_pass l.word l.roles l.first l.second sound t o ws v us may.0 may.1

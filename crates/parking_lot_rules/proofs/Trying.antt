@@ -65,7 +65,7 @@ module _ (recursive : Bool) (u t : ℕ) (l : Lock) (ne : u ≢ t) (r : Role) (at
       get-set_other (map (settle (ends_saying e)) l.roles) u t (record { owns = s.owns; does = Stored1 s.taken }) ne
       ∙ (slice_get-map (settle (ends_saying e)) l.roles t ∙ (ap (option_map (settle (ends_saying e))) at ∙ ap (λ p. Some (record { owns = r.owns; does = p })) (told_apart (ends_saying e) r.does quiet)))
   left_alone (Wake o v us k stay) may = get-set_other (slice_set l.roles v (waking_to k)) u t _ ne ∙ get-set_other l.roles v t _ (not_this v _ may.1 (woken_apart k u stay)) ∙ at
-  left_alone (Pass o v us) may = get-set_other l.roles u t _ ne ∙ at
+  left_alone (Pass o ws v us) may = get-set_other l.roles u t _ ne ∙ at
 
 module _ (bucket : ℕ → ℕ) (recursive : ℕ → Bool) (i t : ℕ) (r : Role) (quiet : is_apart r.does ≡ true) where
   -- where a run leads, the thread that tries stands as it stood

@@ -132,7 +132,7 @@ module _ (bucket : ℕ → ℕ) (recursive : ℕ → Bool) (t j : ℕ) (step : S
       go (Take2 o v f stay) is first = absurd first
       go (Store e s) is first = absurd first
       go (Wake o v us k stay) is first = absurd first
-      go (Pass o v us) is first = absurd first
+      go (Pass o ws v us) is first = absurd first
 
 same_scene : (bucket : ℕ → ℕ) (t : ℕ) (old new : ProgressState) (w : World) (stages : ℕ → CallProgress) (calls : ℕ → List (ℕ × Call)) → new.world ≡ w → new.stages ≡ stages → new.calls ≡ calls
     → all_steps bucket (record { world = w; aims = new.aims; stages = stages; calls = calls }) t + 1 ≤ all_steps bucket old t → all_steps bucket new t + 1 ≤ all_steps bucket old t

@@ -1,5 +1,5 @@
 -- The lists hold exactly the threads that wait: kept where one role changes.
-use Rattle.std.proofs.Common.{◌≡◌, ◌≢◌, ℕ, ◌+◌, ◌<◌, ◌⊎◌, ⊎_elim, cond, ◌==◌, List, [], ◌∷◌, ◌++◌, remove, Option, Some, None, slice_get, slice_set, refl, sym, ap, ◌∙◌, subst, inl, inr, arith, length-append, eq-eqb}
+use Rattle.std.proofs.Common.{◌≡◌, ◌≢◌, ℕ, ◌+◌, ◌<◌, ◌≤◌, ◌⊎◌, ⊎_elim, cond, ◌==◌, List, [], ◌∷◌, ◌++◌, length, remove, Option, Some, None, slice_get, slice_set, refl, sym, ap, ◌∙◌, subst, inl, inr, arith, length-append, eq-eqb}
 use Rattle.std.proofs.lemmas.Bool.{cases_eq, ne_eqb}
 use Rattle.std.proofs.lemmas.Option.{slice_get_within, get_or_from_slice_get}
 use Rattle.std.proofs.lemmas.List.Sums as sums
@@ -27,6 +27,16 @@ occurs-remove u q i t at =
 
 pub occurs-cons : (u t : ℕ) (q : List ℕ) → occurs u (t ∷ q) ≡ counted u t + occurs u q
 occurs-cons u t q = sums.sum_by-cons (λ x. cond (x == u) 1 0) t q
+
+pub occurs-join : (u : ℕ) (p q : List ℕ) → occurs u (p ++ q) ≡ occurs u p + occurs u q
+occurs-join u p q = sums.sum_by-append (λ x. cond (x == u) 1 0) p q
+
+-- a list without one that stood in it has every other as often, and is shorter by one
+pub occurs-without : (u : ℕ) (ws : List ℕ) (v : ℕ) (us : List ℕ) → u ≢ v → occurs u (ws ++ v ∷ us) ≤ occurs u (ws ++ us)
+occurs-without u ws v us ne = omega (arith, occurs-join u ws (v ∷ us), occurs-join u ws us, occurs-cons u v us, counted-other u v ne)
+
+pub length-without : (ws : List ℕ) (v : ℕ) (us : List ℕ) → length (ws ++ v ∷ us) ≡ length (ws ++ us) + 1
+length-without ws v us = omega (arith, length-append ws (v ∷ us), length-append ws us)
 
 module _ {R : Type 0} (f : R → ℕ) (q : List ℕ) (rs : List R) (t : ℕ) (a b : R) (at : slice_get rs t ≡ Some a) (lists : IsListOf f q rs) where
   -- what a thread weighs then: the one that changes, or another

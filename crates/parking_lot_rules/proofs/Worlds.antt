@@ -1,5 +1,5 @@
 -- A step of a world is a step at one lock of its family.
-use Rattle.std.proofs.Common.{◌≡◌, ◌≢◌, ℕ, zero, suc, ◌⊎◌, ⊎_elim, Bool, true, false, cond, ◌==◌, List, [], ◌∷◌, map, Option, Some, None, option_map, slice_get, slice_set, refl, sym, ap, ◌∙◌, subst, inl, inr, arith, eq-eqb}
+use Rattle.std.proofs.Common.{◌≡◌, ◌≢◌, ℕ, zero, suc, ◌⊎◌, ⊎_elim, Bool, true, false, cond, ◌==◌, List, [], ◌∷◌, ◌++◌, map, Option, Some, None, option_map, slice_get, slice_set, refl, sym, ap, ◌∙◌, subst, inl, inr, arith, eq-eqb}
 use Rattle.std.proofs.lemmas.Bool.{cases_eq, ne_eqb}
 use Rattle.std.proofs.lemmas.Option.{none-some, same_Some, slice_get-map}
 use Rattle.parking_lot_rules.specs.Roles.{Mode, Owned, Shares, Stay, Mark, Open, Phase, Idle, Taken1, Taken2, Scans2, Stored1, Wakes, Role}
@@ -145,7 +145,7 @@ module _ (bucket : ℕ → ℕ) (recursive : ℕ → Bool) (j t : ℕ) (w : Worl
   roles_here (Wake o v us k stay) sound may =
       roles-given j _ (change (with_role j (waking_to k)) w.places v) t
       ∙ ap (λ rs. slice_set rs t (record { owns = o; does = Wakes us })) (roles-given j (waking_to k) w.places v)
-  roles_here (Pass o v us) sound may = roles-given j (record { owns = o; does = Wakes us }) w.places t
+  roles_here (Pass o ws v us) sound may = roles-given j (record { owns = o; does = Wakes (ws ++ us) }) w.places t
 
   -- who does something at a lock is there
   is_there : (u : ℕ) (r : Role) → slice_get (map (role_at j) w.places) u ≡ Some r → r.does ≢ Idle → (p : Place) → slice_get w.places u ≡ Some p → IsThere j p
@@ -181,7 +181,7 @@ module _ (bucket : ℕ → ℕ) (recursive : ℕ → Bool) (j t : ℕ) (w : Worl
   roles_elsewhere (Wake o v us k stay) may there i ne =
       roles-elsewhere i j _ (change (with_role j (waking_to k)) w.places v) t ne (still_there j (waking_to k) w.places v t there)
       ∙ roles-elsewhere i j (waking_to k) w.places v ne (is_there v _ may.1 (waking_busy k t stay))
-  roles_elsewhere (Pass o v us) may there i ne = roles-elsewhere i j (record { owns = o; does = Wakes us }) w.places t ne there
+  roles_elsewhere (Pass o ws v us) may there i ne = roles-elsewhere i j (record { owns = o; does = Wakes (ws ++ us) }) w.places t ne there
 
   -- the step of the world is one of its family
   pub world_step : (step : Step) → IsSoundFamily bucket (family w) → MayStep bucket recursive j t step w → FamilyStep bucket recursive j t step (family w) (family (world_after bucket j t step w))

@@ -1,5 +1,5 @@
 -- Who is in debt: the threads that owe a section or a wake, and those that are about to try again.
-use Rattle.std.specs.Prelude.{◌≡◌, ◌≢◌, ℕ, suc, ◌+◌, ◌<◌, Bool, true, false, ◌||◌, ◌⊎◌, if◌then◌else◌, ◌==◌, List, [], ◌∷◌, length, slice_get, Some, IsTrue}
+use Rattle.std.specs.Prelude.{◌≡◌, ◌≢◌, ℕ, suc, ◌+◌, ◌<◌, Bool, true, false, ◌||◌, ◌⊎◌, if◌then◌else◌, ◌==◌, List, [], ◌∷◌, ◌++◌, length, slice_get, Some, IsTrue}
 use Rattle.parking_lot_rules.specs.Roles.{Mode, Shared, Exclusive, Upgradable, Stay, Fresh, Asleep, Late, Back, Mark, Open, Normal, Handed, Phase, Seeks, Enters1, Checked1, Queued1, Taken1, Masks1, Leaves1, Drains, Enters2, Checked2, Queued2, Taken2, Leaves2, Owes1, Scans1, Stored1, Owes2, Scans2, Masked2, Wakes, Role}
 use Rattle.parking_lot_rules.specs.Classes.{Readers, Upgraders, Pending, Writers, weight, bit}
 use Rattle.parking_lot_rules.specs.Lists.{occurs}
@@ -121,7 +121,7 @@ owing (Alone (Downgrade saw)) = begins_if saw
 owing (Alone (DowngradeToUpgradable saw)) = begins_if saw
 owing (Alone (DowngradeUpgradable saw)) = begins_if saw
 owing (Wake owns v taken k stay) = ends_without taken
-owing (Pass owns v taken) = ends_without taken
+owing (Pass owns before v taken) = ends_without (before ++ taken)
 owing step = by_crossing (crossing step) (left_to_wake step)
 
 -- it ends where the thread was handed what it wants, and begins where it is awake, and was told to try

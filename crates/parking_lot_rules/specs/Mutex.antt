@@ -325,7 +325,8 @@ pub data Step : Type 0 where
   Hand : (v : ℕ) → Step
   Wake : (owns : Bool) → (v : ℕ) → (taken : List ℕ) → (stay : Stay) → Step
   WakeOwner : (owns : Bool) → (v : ℕ) → (taken : List ℕ) → (stay : Stay) → Step
-  Pass : (owns : Bool) → (v : ℕ) → (taken : List ℕ) → Step
+  -- one of those that are to be woken has gone on by itself
+  Pass : (owns : Bool) → (before : List ℕ) → (v : ℕ) → (taken : List ℕ) → Step
 
 -- a thread is so, and owns nothing
 abbrev pub doing : Phase → Role
@@ -345,7 +346,7 @@ Allowed t (Free taken) m = (slice_get m.roles t ≡ Some (doing (Unlocks taken))
 Allowed t (Hand v) m = slice_get m.roles t ≡ Some (doing (Unlocks (v ∷ [])))
 Allowed t (Wake o v us stay) m = (slice_get m.roles t ≡ Some (record { owns = o; does = Wakes (v ∷ us) })) × (slice_get m.roles v ≡ Some (doing (Taken t Normal stay))) × (inside stay ≡ 0)
 Allowed t (WakeOwner o v us stay) m = (slice_get m.roles t ≡ Some (record { owns = o; does = Wakes (v ∷ us) })) × (slice_get m.roles v ≡ Some (doing (Taken t Handed stay))) × (inside stay ≡ 0)
-Allowed t (Pass o v us) m = (slice_get m.roles t ≡ Some (record { owns = o; does = Wakes (v ∷ us) })) × ((r : Role) (mark : Mark) → slice_get m.roles v ≡ Some r → note_of r ≢ Some (t, mark))
+Allowed t (Pass o ws v us) m = (slice_get m.roles t ≡ Some (record { owns = o; does = Wakes (ws ++ v ∷ us) })) × ((r : Role) (mark : Mark) → slice_get m.roles v ≡ Some r → note_of r ≢ Some (t, mark))
 
 -- the mutex after it
 abbrev pub after : ℕ → Step → Mutex → Mutex
@@ -361,7 +362,7 @@ after t (Free taken) m = record m { word = record { locked = 0; parked = are_lef
 after t (Hand v) m = record m { word = record { locked = 1; parked = are_left (length m.queue) }; roles = slice_set (map (settle Handed) m.roles) t (doing (Stored (v ∷ []))) }
 after t (Wake o v us stay) m = record m { roles = slice_set (slice_set m.roles v (doing (Seeks true))) t (record { owns = o; does = Wakes us }) }
 after t (WakeOwner o v us stay) m = record m { roles = slice_set (slice_set m.roles v (record { owns = true; does = Idle })) t (record { owns = o; does = Wakes us }) }
-after t (Pass o v us) m = record m { roles = slice_set m.roles t (record { owns = o; does = Wakes us }) }
+after t (Pass o ws v us) m = record m { roles = slice_set m.roles t (record { owns = o; does = Wakes (ws ++ us) }) }
 
 -- any schedule, of any number of threads
 abbrev pub Runs : Mutex → List (ℕ × Step) → Mutex → Type 0

@@ -1,5 +1,5 @@
 -- Who is in debt at a mutex, by the same words.
-use Rattle.std.specs.Prelude.{◌≡◌, ◌≢◌, ℕ, ◌<◌, Bool, true, false, ◌||◌, ◌⊎◌, List, [], ◌∷◌, length, slice_get, Some, IsTrue}
+use Rattle.std.specs.Prelude.{◌≡◌, ◌≢◌, ℕ, ◌<◌, Bool, true, false, ◌||◌, ◌⊎◌, List, [], ◌∷◌, ◌++◌, length, slice_get, Some, IsTrue}
 use Rattle.parking_lot_rules.specs.Roles.{Mark, Open, Normal, Handed}
 use Rattle.parking_lot_rules.specs.Classes.{bit}
 use Rattle.parking_lot_rules.specs.Lists.{occurs}
@@ -48,7 +48,7 @@ left_to_wake step = []
 abbrev pub owing : Step → DebtChange
 owing (Wake owns v taken stay) = ends_without taken
 owing (WakeOwner owns v taken stay) = ends_without taken
-owing (Pass owns v taken) = ends_without taken
+owing (Pass owns before v taken) = ends_without (before ++ taken)
 owing step = by_crossing (mutex_crossing step) (left_to_wake step)
 
 abbrev pub retrying : Step → DebtChange

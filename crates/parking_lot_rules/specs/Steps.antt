@@ -219,8 +219,8 @@ pub data Step : Type 0 where
   Take2 : (owns : Owned) → (v : ℕ) → (from : Bool) → (stay : Stay) → Step
   Store : (end : Ending) → (scan : Scan) → Step
   Wake : (owns : Owned) → (v : ℕ) → (taken : List ℕ) → (k : Waking) → (stay : Stay) → Step
-  -- the one that is to be woken has gone on by itself
-  Pass : (owns : Owned) → (v : ℕ) → (taken : List ℕ) → Step
+  -- one of those that are to be woken has gone on by itself
+  Pass : (owns : Owned) → (before : List ℕ) → (v : ℕ) → (taken : List ℕ) → Step
 
 -- when the step may be made
 abbrev pub Allowed : Bool → ℕ → Step → Lock → Type 0
@@ -234,8 +234,8 @@ Allowed recursive t (Store e s) l =
     (slice_get l.roles t ≡ Some (scanning s)) × (s.cause ≡ ends_for e) × MayEnd e s.taken × IsOver s l.roles l.first
 Allowed recursive t (Wake o v us k stay) l =
     (slice_get l.roles t ≡ Some (record { owns = o; does = Wakes (v ∷ us) })) × (slice_get l.roles v ≡ Some (waking_from k t stay)) × (inside stay ≡ 0)
-Allowed recursive t (Pass o v us) l =
-    (slice_get l.roles t ≡ Some (record { owns = o; does = Wakes (v ∷ us) })) × ((r : Role) (note : Note) → slice_get l.roles v ≡ Some r → note_of r.does ≢ Some (t, note))
+Allowed recursive t (Pass o ws v us) l =
+    (slice_get l.roles t ≡ Some (record { owns = o; does = Wakes (ws ++ v ∷ us) })) × ((r : Role) (note : Note) → slice_get l.roles v ≡ Some r → note_of r.does ≢ Some (t, note))
 
 -- the lock after the step
 abbrev pub after : ℕ → Step → Lock → Lock
@@ -254,4 +254,4 @@ after t (Store e s) l = record l {
   roles = slice_set (map (settle (ends_saying e)) l.roles) t (record { owns = s.owns; does = Stored1 s.taken });
 }
 after t (Wake o v us k stay) l = record l { roles = slice_set (slice_set l.roles v (waking_to k)) t (record { owns = o; does = Wakes us }) }
-after t (Pass o v us) l = record l { roles = slice_set l.roles t (record { owns = o; does = Wakes us }) }
+after t (Pass o ws v us) l = record l { roles = slice_set l.roles t (record { owns = o; does = Wakes (ws ++ us) }) }

@@ -1,5 +1,5 @@
 -- Threads and locks: each thread is at one lock at a time, and may own many.
-use Rattle.std.specs.Prelude.{◌≡◌, ℕ, zero, suc, Bool, true, false, ◌⊎◌, if◌then◌else◌, ◌==◌, List, [], ◌∷◌, map, Option, slice_get, Some}
+use Rattle.std.specs.Prelude.{◌≡◌, ℕ, zero, suc, Bool, true, false, ◌⊎◌, if◌then◌else◌, ◌==◌, List, [], ◌∷◌, ◌++◌, map, Option, slice_get, Some}
 use Rattle.parking_lot_rules.specs.Roles.{Owned, Shares, Mark, Open, Phase, Idle, Taken1, Taken2, Scans2, Stored1, Wakes, Role}
 use Rattle.parking_lot_rules.specs.Clauses.{Word}
 use Rattle.parking_lot_rules.specs.Lock.{Lock}
@@ -69,7 +69,7 @@ places_after j t (Take2 o v f stay) ps =
     change (with_role j (record { owns = Shares 0; does = Taken2 f t stay })) (change (with_role j (record { owns = o; does = Scans2 (v ∷ []) })) ps t) v
 places_after j t (Store e s) ps = change (with_role j (record { owns = s.owns; does = Stored1 s.taken })) (map (tell j t (ends_saying e)) ps) t
 places_after j t (Wake o v us k stay) ps = change (with_role j (record { owns = o; does = Wakes us })) (change (with_role j (waking_to k)) ps v) t
-places_after j t (Pass o v us) ps = change (with_role j (record { owns = o; does = Wakes us })) ps t
+places_after j t (Pass o ws v us) ps = change (with_role j (record { owns = o; does = Wakes (ws ++ us) })) ps t
 
 -- the world after it; `bucket` says which bucket a key is in
 abbrev pub world_after : (ℕ → ℕ) → ℕ → ℕ → Step → World → World

@@ -114,6 +114,7 @@ core_enters (core.Late late.Quits) = false
 core_enters (core.Late late.Masks) = false
 core_enters (core.Late late.Leaves) = false
 core_enters (core.Late late.GivesUp) = false
+core_enters (core.Late (late.WasTaken by handed)) = false
 core_enters (core.LateRw p) = late_rw_comes p
 
 abbrev pub enters_at_lock : Joint → ℕ → Bool

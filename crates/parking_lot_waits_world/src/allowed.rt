@@ -32,6 +32,7 @@ fn core_enters(core: Core) -> bool
         Core::Late(phase) => match phase {
             LatePhase::Expires => true,
             LatePhase::Quits | LatePhase::Masks | LatePhase::Leaves | LatePhase::GivesUp => false,
+            LatePhase::WasTaken(_, _) => false,
         },
         Core::LateRw(phase) => match phase {
             LateRwPhase::Expires(_) => true,

@@ -33,6 +33,7 @@ use Rattle.parking_lot_world.proofs.WakesKept.{wakes_own}
 use Rattle.parking_lot_core_lot.specs.Places.{passed_of}
 use Rattle.parking_lot_world.proofs.Passing.{IsAround, inside_mine, own_passes}
 use Rattle.parking_lot_world.proofs.Starting.{begins, ends, never}
+use Rattle.parking_lot_world.proofs.Takers.{others_free}
 
 out_takes : {k : ℕ} → Out ≡ In k Takes → ⊥
 out_takes e = cc
@@ -167,7 +168,7 @@ enter s t c key asked free sound h here =
     (λ key. refl)
     (subst (λ (y : Act). Gives y (word_at s c.lock) ActResult.Entered) (sym asked) tt) (subst IsOwnAct (sym asked) tt)
     (subst (λ (y : Act). AfterAct y t (inside s) (inside (entered s t c key))) (sym asked) (ap (option_and_then (λ x. x.thread)) free, refl))
-    (entered_fits s t c h.lots here key free sound leads.0 leads.1 leads.2) (inr (inl refl)) (λ k o e at. ap (λ (x : Option Section). option_map_or (λ (y : Section). passed_of y.phase) x 0) (sym at))
+    (entered_fits s t c h.lots here key free sound leads.0 leads.1 leads.2 (others_free c.core (Act.Enter key) asked refl)) (inr (inl refl)) (λ k o e at. ap (λ (x : Option Section). option_map_or (λ (y : Section). passed_of y.phase) x 0) (sym at))
 
 check : (s : State) (t : ℕ) (c : Call) → core_act c.core ≡ Act.Section section.Check → lot.Sound (checked s t c).lot → Keeps t c s (checked s t c)
 check s t c asked sound h here =

@@ -16,7 +16,7 @@ use Rattle.parking_lot_protocol.specs.RwTable as of_rw
 use Rattle.parking_lot_protocol.proofs.MutexFollowing.{either}
 use Rattle.parking_lot_upgrades.specs.UpgradeTable as ut
 use Rattle.parking_lot_upgrades.specs.declared.upgrade_phase.UpgradePhase.{UpgradePhase}
-use Rattle.parking_lot_world.specs.Stances.{upgrade_begun, late_rw_next}
+use Rattle.parking_lot_world.specs.Stances.{upgrade_begun, late_rw_next, sign, resumed_as, sleeper_asleep}
 use Rattle.parking_lot_world.specs.declared.seat.LatePhase.{LatePhase}
 use Rattle.parking_lot_world.specs.declared.seat.Core.{Core}
 use Rattle.parking_lot_world.specs.Stances.{mutex_begun, rw_begun, has_begun, core_next, late_next}
@@ -167,6 +167,7 @@ late_on LatePhase.Quits (Took token left) = refl
 late_on LatePhase.Masks (Before word) = refl
 late_on LatePhase.Leaves Made = refl
 late_on LatePhase.GivesUp s = refl
+late_on (LatePhase.WasTaken by handed) Made = mutex_on MutexPhase.Sleeps (Woken (sign handed))
 late_on p s = refl
 
 -- AN UPGRADABLE CALL
@@ -214,6 +215,11 @@ upgrade_on (UpgradePhase.Frees r core) s = upgrade_pick (ut.asks_now r core.phas
 upgrade_on (UpgradePhase.Owes kept end core) s = refl
 upgrade_on p s = own_on p s
 
+resumed_on : (k : RwSleeper) (handed b : Bool) → has_begun (resumed_as b k handed) ≡ true
+resumed_on (RwSleeper.Simple c) handed true = rw_on c.phase (Woken (sign handed))
+resumed_on (RwSleeper.Upgradable c) handed true = upgrade_on c.phase (Woken (sign handed))
+resumed_on k handed false = refl
+
 tardy_on : (p : LateRwPhase) (s : ActResult) → has_begun (late_rw_next p s) ≡ true
 tardy_on (LateRwPhase.Expires (RwSleeper.Simple c)) (Woken token) = rw_on c.phase (Woken token)
 tardy_on (LateRwPhase.Expires (RwSleeper.Upgradable c)) (Woken token) = upgrade_on c.phase (Woken token)
@@ -222,6 +228,7 @@ tardy_on (LateRwPhase.Quits k) (Took token left) = refl
 tardy_on LateRwPhase.Masks (Before word) = refl
 tardy_on LateRwPhase.Leaves Made = refl
 tardy_on (LateRwPhase.LeavesPending from) Made = refl
+tardy_on (LateRwPhase.WasTaken k by handed) Made = resumed_on k handed (sleeper_asleep k)
 tardy_on p s = refl
 
 pub goes_on : (c : Core) (s : ActResult) → has_begun (core_next c s) ≡ true

@@ -4,7 +4,7 @@ use Rattle.std.proofs.Math.Nat.{suc-mul}
 use Rattle.std.specs.List.{sum_by}
 use Rattle.std.specs.Option.{option_and_then}
 use Rattle.std.specs.Prelude.{if◌then◌else◌}
-use Rattle.std.proofs.lemmas.List.Sums.{count_by-le-length, sum_by-cons}
+use Rattle.std.proofs.lemmas.List.Sums.{sum_by-cons}
 use Rattle.parking_lot_protocol.specs.declared.mutex_phase.Giving.{Giving}
 use Rattle.parking_lot_protocol.specs.declared.mutex_phase.MutexPhase.{MutexPhase}
 use Rattle.parking_lot_protocol.specs.declared.rw_phase.AfterWake.{AfterWake}
@@ -20,11 +20,10 @@ use Rattle.parking_lot_world.specs.declared.seat.Core.{Core}
 use Rattle.parking_lot_world.specs.declared.open_call.Call.{Call}
 use Rattle.parking_lot_world.specs.Ranks.{Unseen, comes_after, core_steps, late_steps, far_steps, mutex_asks, mutex_ends, mutex_steps, rw_ends, rw_steps, vain}
 use Rattle.parking_lot_world.specs.Rounds.{FewRounds, mutex_rounds, rw_rounds}
-use Rattle.parking_lot_world.specs.RowFits.{FitsTogether, is_away}
-use Rattle.parking_lot_world.specs.Rows.{State, call_at, is_by, word_at}
+use Rattle.parking_lot_world.specs.RowFits.{FitsTogether}
+use Rattle.parking_lot_world.specs.Rows.{State, call_at, word_at}
 use Rattle.parking_lot_world.specs.SoundLaws.{StepsAreFew, most_steps}
 use Rattle.parking_lot_world.specs.Stances.{rw_taken, taken_count}
-use Rattle.parking_lot_world.proofs.Carrying.{taken_by-count}
 use Rattle.parking_lot_world.proofs.Meeting.{in_range}
 use Rattle.parking_lot_world.proofs.Paying.{none_more, IsGood, IsGoodLate, is_good}
 use Rattle.parking_lot_world.proofs.Summing.{others_and_one}
@@ -121,6 +120,7 @@ late_most n LatePhase.Quits = omega arith
 late_most n LatePhase.Masks = omega arith
 late_most n LatePhase.Leaves = omega arith
 late_most n LatePhase.GivesUp = omega arith
+late_most n (LatePhase.WasTaken by handed) = omega arith
 
 quits_most : (n : ℕ) (o : Option Bool) → quits_steps n o ≤ 110 * n + 11
 quits_most n None = omega arith
@@ -133,6 +133,7 @@ sleeper_most n k few (e, r) = by_sleeper (λ k. sleeper_rounds k ≤ 10 → slee
 late_rw_most : (n : ℕ) (p : LateRwPhase) → 1 ≤ n → late_rw_rounds p ≤ 10 → IsGoodLate p → late_rw_steps n Unseen p ≤ 219 * n + 200
 late_rw_most n (LateRwPhase.Expires k) some few good = omega (arith, sleeper_most n k few good, quits_most n (pending_from k))
 late_rw_most n (LateRwPhase.Quits k) some few good = omega (arith, quits_most n (pending_from k))
+late_rw_most n (LateRwPhase.WasTaken k by handed) some few good = omega (arith, sleeper_most n k few good)
 late_rw_most n p some few good = omega arith
 
 pub core_most : (n x : ℕ) (c : Core) → IsGood c x → 1 ≤ n → FewRounds c → taken_count c ≤ n → core_steps n Unseen c ≤ 219 * n + 200
@@ -153,8 +154,7 @@ module _ (s : State) (h : FitsTogether s) where
   some t c here = omega (arith, in_range s t c here)
 
   few : (t : ℕ) (c : Call) → call_at s t ≡ Some c → taken_count c.core ≤ length s.calls
-  few t c here =
-      omega (arith, h.lots.counted t c here, taken_by-count s.wakes t, count_by-le-length (is_by t) s.wakes, h.wakes.room, count_by-le-length is_away s.calls)
+  few t c here = (h.lots.counted t c here).few
 
   far_few : (t : ℕ) (c : Call) → call_at s t ≡ Some c → far_steps (length s.calls) (Some c) ≤ most_steps (length s.calls)
   far_few t c here = core_most (length s.calls) (word_at s c.lock) c.core (is_good s h t c here) (some t c here) (h.rules.begun t c here).few (few t c here)

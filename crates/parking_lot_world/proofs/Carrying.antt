@@ -1,5 +1,5 @@
 -- What an act that changes a thread's call keeps of the lot's lists and of who is to be woken.
-use Rattle.std.proofs.Common.{◌≡◌, ◌≤◌, ◌<◌, ℕ, ◌+◌, ◌*◌, ◌==◌, false, cond, List, [], ◌∷◌, length, filter, Option, Some, None, slice_get, slice_set, refl, sym, ap, ◌∙◌, subst, arith, eq-eqb, count_by, zero, suc}
+use Rattle.std.proofs.Common.{◌≡◌, ◌≤◌, ◌<◌, ◌⊎◌, inl, inr, ℕ, ◌+◌, ◌*◌, ◌==◌, false, cond, List, [], ◌∷◌, length, filter, remove, Option, Some, None, slice_get, slice_set, refl, sym, ap, ◌∙◌, subst, arith, eq-eqb, count_by, zero, suc}
 use Rattle.std.specs.Option.{option_map, option_map_or, option_and_then}
 use Rattle.std.proofs.lemmas.List.{length-map}
 use Rattle.std.proofs.lemmas.List.Sums.{length-filter}
@@ -9,7 +9,7 @@ use Rattle.parking_lot_core_lot.specs.declared.place.Section.{Section}
 use Rattle.parking_lot_core_lot.specs.declared.place.Waiter.{Waiter}
 use Rattle.parking_lot_core_lot.specs.Places.{place_at, mark_of}
 use Rattle.parking_lot_core_lot.specs.Sound.{Sound}
-use Rattle.parking_lot_core_lot.proofs.Numbers.{slice_get-set_other, count_by-at}
+use Rattle.parking_lot_core_lot.proofs.Numbers.{flag, slice_get-set_other, count_by-at, count_by-remove}
 use Rattle.parking_lot_core_lot.proofs.Sounds.{none≢some}
 use Rattle.parking_lot_world.specs.declared.seat.WakeResult.{WakeResult}
 use Rattle.parking_lot_world.specs.declared.seat.QueuePosition.{QueuePosition}
@@ -18,7 +18,7 @@ use Rattle.parking_lot_world.specs.declared.seat.Wakeup.{Wakeup}
 use Rattle.parking_lot_world.specs.Rows.{State, call_at, is_by, taken_by}
 use Rattle.parking_lot_world.specs.Stances.{Looks, TurnsBack, Joins, Joined, Takes, Stores, Tells, Stance, Out, In, Asleep, stance, taken_count}
 use Rattle.parking_lot_world.specs.RowActs.{settled_spot, settled}
-use Rattle.parking_lot_world.specs.RowFits.{Seated, Awaits, IsTaken, IsOwed, WakesSome, LotFits}
+use Rattle.parking_lot_world.specs.RowFits.{Seated, Awaits, IsCounted, IsInside, IsTaken, IsOwed, WakesSome, LotFits}
 
 -- CALLS, BY THREAD
 
@@ -46,6 +46,16 @@ set_elsewhere calls t v o e = ap (option_and_then (λ x. x)) (slice_get-set_othe
 abbrev pub tally : Option Call → ℕ
 tally o = option_map_or (λ c. taken_count c.core) o 0
 
+-- that many are still to be woken by a thread in that call, of so many threads
+abbrev pub Tallied : ℕ → ℕ → Option Call → Type 0
+Tallied threads n None = n ≡ 0
+Tallied threads n (Some c) = IsCounted threads n c.core
+
+-- it is in a call, and in a section there
+abbrev pub InsideOf : Option Call → Type 0
+InsideOf None = ⊥
+InsideOf (Some c) = IsInside (stance c.core)
+
 -- where it is to wake somebody it has taken somebody
 abbrev pub Wakeful : Option Call → Type 0
 Wakeful o = (c : Call) → o ≡ Some c → WakesSome c.core
@@ -64,6 +74,8 @@ pub record Carries (old new : Option Call) : Type 0 where
   -- who has taken somebody stays at its lock, and has taken as many
   pub taker : (c : Call) → old ≡ Some c → 1 ≤ taken_count c.core → (d : Call) × (new ≡ Some d) × (d.lock ≡ c.lock)
   pub counts : tally new ≡ tally old
+  -- who is in a section was in one, or has taken nobody
+  pub stays : InsideOf new → InsideOf old ⊎ (tally old ≡ 0)
   -- and has somebody to wake, where it is to wake
   pub wakeful : Wakeful old → Wakeful new
 
@@ -74,6 +86,7 @@ carries_same old new e = record {
   slept = λ k token by said d is asleep at. (d, sym e ∙ is, asleep, said, at);
   taker = λ c is some. (c, e ∙ is, refl);
   counts = ap tally e;
+  stays = λ i. inl (subst InsideOf e i);
   wakeful = λ w c is. w c (sym e ∙ is);
 }
 
@@ -95,6 +108,10 @@ carries_both a b c h k = record {
       let z = k.taker y.0 y.1 (let same = sym (ap tally y.1) ∙ (h.counts ∙ ap tally is) in omega arith) in
       (z.0, z.1, z.2 ∙ y.2);
   counts = k.counts ∙ h.counts;
+  stays = λ i. elim (k.stays i) [
+    | inl j ↦ h.stays j
+    | inr z ↦ inr (sym h.counts ∙ z)
+  ];
   wakeful = λ w. k.wakeful (h.wakeful w);
 }
 
@@ -127,13 +144,14 @@ pub up_sleeps : (k : ℕ) (token : ParkToken) (a : Stance) → IsUp a → a ≡ 
 up_sleeps k token a h e = subst IsUp e h
 
 -- an awake thread goes on, awake
-pub carries_awake : (c d : Call) → IsAwake (stance c.core) → IsUp (stance d.core) → d.lock ≡ c.lock → taken_count d.core ≡ taken_count c.core → WakesSome d.core → Carries (Some c) (Some d)
-carries_awake c d awake up lock counts some = record {
+pub carries_awake : (c d : Call) → IsAwake (stance c.core) → IsUp (stance d.core) → d.lock ≡ c.lock → taken_count d.core ≡ taken_count c.core → (IsInside (stance d.core) → IsInside (stance c.core) ⊎ (taken_count c.core ≡ 0)) → WakesSome d.core → Carries (Some c) (Some d)
+carries_awake c d awake up lock counts stays some = record {
   listed = λ k token x is at waits. absurd (awake_waits k token (stance c.core) awake (subst (λ (y : Call). Awaits k token (stance y.core)) (sym (same_call is)) waits));
   sleeps = λ k token by said x is asleep at. absurd (awake_sleeps k token (stance c.core) awake (ap (λ (y : Call). stance y.core) (same_call is) ∙ asleep));
   slept = λ k token by said x is asleep at. absurd (up_sleeps k token (stance d.core) up (ap (λ (y : Call). stance y.core) (same_call is) ∙ asleep));
   taker = λ x is more. (d, refl, lock ∙ ap (λ (y : Call). y.lock) (same_call is));
   counts = counts;
+  stays = stays;
   wakeful = λ w x is. subst (λ (y : Call). WakesSome y.core) (same_call is) some;
 }
 
@@ -145,6 +163,7 @@ carries_lain c d key park from to lock at at' counts some = record {
   slept = λ k token by said x is asleep here. absurd (listed≢off (sym at' ∙ (ap (λ (y : Call). y.spot) (same_call is) ∙ here)));
   taker = λ x is more. (d, refl, lock ∙ ap (λ (y : Call). y.lock) (same_call is));
   counts = counts;
+  stays = λ i. absurd (subst IsInside to i);
   wakeful = λ w x is. subst (λ (y : Call). WakesSome y.core) (same_call is) some;
 }
   where
@@ -159,6 +178,7 @@ carries_begun d up counts some = record {
   slept = λ k token by said x is asleep at. absurd (up_sleeps k token (stance d.core) up (ap (λ (y : Call). stance y.core) (same_call is) ∙ asleep));
   taker = λ x is some. absurd (none≢some is);
   counts = counts;
+  stays = λ i. inr refl;
   wakeful = λ w x is. subst (λ (y : Call). WakesSome y.core) (same_call is) some;
 }
 
@@ -169,6 +189,7 @@ carries_ended c awake counts = record {
   slept = λ k token by said x is asleep at. absurd (none≢some is);
   taker = λ x is some. absurd (let same = ap (λ (y : Call). taken_count y.core) (same_call is) in omega arith);
   counts = sym counts;
+  stays = λ i. absurd i;
   wakeful = λ w x is. absurd (none≢some is);
 }
 
@@ -202,6 +223,7 @@ carries_settled t said (Some c) = record {
       (c, refl, ap (λ (z : Call). stance z.core) (same_call is) ∙ asleep, before.0, before.1);
   taker = λ x is some. (settled t said c, refl, ap (λ (y : Call). y.lock) (same_call is));
   counts = refl;
+  stays = λ i. inl i;
   wakeful = λ w x is. subst (λ (y : Call). WakesSome y.core) (same_call is) (w c refl);
 }
 
@@ -215,16 +237,36 @@ no_length (x ∷ xs) h = absurd (omega arith)
 pub taken_by-count : (wakes : List Wakeup) (t : ℕ) → length (taken_by wakes t) ≡ count_by (is_by t) wakes
 taken_by-count wakes t = length-map (filter (is_by t) wakes) (λ w. w.thread) ∙ length-filter (is_by t) wakes
 
+-- and without one that is in the list
+pub dropped : (wakes : List Wakeup) (i : ℕ) (e : Wakeup) → slice_get wakes i ≡ Some e → (x : ℕ) → length (taken_by (remove wakes i) x) + flag (e.by == x) ≡ length (taken_by wakes x)
+dropped wakes i e at x = omega (arith, count_by-remove (is_by x) wakes i e at, taken_by-count wakes x, taken_by-count (remove wakes i) x)
+
 -- who is to be woken was taken
 pub taken_some : (wakes : List Wakeup) (n : ℕ) (e : Wakeup) → slice_get wakes n ≡ Some e → 1 ≤ length (taken_by wakes e.by)
 taken_some wakes n e at = let some = count_by-at (is_by e.by) wakes n e at (eq-eqb e.by e.by refl) in let same = taken_by-count wakes e.by in omega arith
 
-pub tallied : (s : State) → LotFits s → (t : ℕ) → length (taken_by s.wakes t) ≡ tally (call_at s t)
+pub tallied : (s : State) → LotFits s → (t : ℕ) → Tallied (length s.calls) (length (taken_by s.wakes t)) (call_at s t)
 tallied s h t = go (call_at s t) refl
   where
-    go : (o : Option Call) → call_at s t ≡ o → length (taken_by s.wakes t) ≡ tally o
+    go : (o : Option Call) → call_at s t ≡ o → Tallied (length s.calls) (length (taken_by s.wakes t)) o
     go None e = ap length (h.untaken t e)
     go (Some c) e = h.counted t c e
+
+-- and no more than it counts
+pub tally_most : (threads n : ℕ) (o : Option Call) → Tallied threads n o → n ≤ tally o
+tally_most threads n None h = omega (arith, h)
+tally_most threads n (Some c) h = h.most
+
+-- what is carried is counted as before
+pub tallied_on : (threads n : ℕ) (old new : Option Call) → Carries old new → Tallied threads n old → Tallied threads n new
+tallied_on threads n None None h k = k
+tallied_on threads n None (Some d) h k = let e : taken_count d.core ≡ 0 = h.counts in record { most = omega (arith, k, e); few = omega (arith, e); all = λ i. omega (arith, k, e) }
+tallied_on threads n (Some c) None h k = let e : 0 ≡ taken_count c.core = h.counts in omega (arith, k.most, e)
+tallied_on threads n (Some c) (Some d) h k = let e : taken_count d.core ≡ taken_count c.core = h.counts in record { most = omega (arith, k.most, e); few = omega (arith, k.few, e); all = λ i. still e (h.stays i) }
+  where
+    still : taken_count d.core ≡ taken_count c.core → IsInside (stance c.core) ⊎ (taken_count c.core ≡ 0) → n ≡ taken_count d.core
+    still e (inl j) = omega (arith, k.all j, e)
+    still e (inr z) = omega (arith, k.most, z, e)
 
 module _ (s u : State) (h : LotFits s) (carries : (v : ℕ) → Carries (call_at s v) (call_at u v)) where
   pub waits_carried : (j k n : ℕ) (w : Waiter) → k < 2 → slice_get (s.lot.queues (2 * j + k)) n ≡ Some w
@@ -239,7 +281,7 @@ module _ (s u : State) (h : LotFits s) (carries : (v : ℕ) → Carries (call_at
   woken_carried n e at marks =
       let old = h.woken n e at in
       let some = taken_some s.wakes n e at in
-      let count = h.counted e.by old.taker old.there in
+      let count = (h.counted e.by old.taker old.there).most in
       let taker = (carries e.by).taker old.taker old.there (omega arith) in
       let call = (carries e.thread).sleeps old.key old.token e.by old.said old.call old.here old.asleep old.spot in
       record {
@@ -257,13 +299,13 @@ module _ (s u : State) (h : LotFits s) (carries : (v : ℕ) → Carries (call_at
       }
 
   -- where nobody more is to be woken
-  pub carried_by : Sound u.lot → u.wakes ≡ s.wakes
+  pub carried_by : length u.calls ≡ length s.calls → Sound u.lot → u.wakes ≡ s.wakes
       → ((j k n : ℕ) (w : Waiter) → k < 2 → slice_get (u.lot.queues (2 * j + k)) n ≡ Some w → (c : Call) × (call_at u w.thread ≡ Some c) × (c.lock ≡ j) × (c.spot ≡ QueuePosition.Listed) × Awaits k w.token (stance c.core))
       → ((v k : ℕ) (token : ParkToken) (c : Call) → call_at s v ≡ Some c → stance c.core ≡ Asleep k token → option_map_or mark_of (place_at u.lot.places v) 0 ≡ option_map_or mark_of (place_at s.lot.places v) 0)
       → ((t : ℕ) → t < length u.calls → Seated t (call_at u t) (place_at u.lot.places t) u.lot.section)
       → ((section : Section) → u.lot.section ≡ Some section → (t : ℕ) × (section.thread ≡ Some t) × (t < length u.calls))
       → LotFits u
-  carried_by sound wakes waits marks seated opened = record {
+  carried_by threads sound wakes waits marks seated opened = record {
     sound = sound;
     seated = seated;
     opened = opened;
@@ -276,16 +318,22 @@ module _ (s u : State) (h : LotFits s) (carries : (v : ℕ) → Carries (call_at
         let old = h.woken n e here in
         woken_carried n e here (marks e.thread old.key old.token old.call old.here old.asleep);
     once = λ n m e f at at' same. h.once n m e f (ap (λ (ws : List Wakeup). slice_get ws n) (sym wakes) ∙ at) (ap (λ (ws : List Wakeup). slice_get ws m) (sym wakes) ∙ at') same;
-    counted = λ t c is. ap (λ (ws : List Wakeup). length (taken_by ws t)) wakes ∙ (tallied s h t ∙ (sym (carries t).counts ∙ ap tally is));
-    untaken = λ t is. no_length (taken_by u.wakes t) (ap (λ (ws : List Wakeup). length (taken_by ws t)) wakes ∙ (tallied s h t ∙ (sym (carries t).counts ∙ ap tally is)));
+    counted = λ t c is. subst (Tallied (length u.calls) (length (taken_by u.wakes t))) is (now t);
+    untaken = λ t is. no_length (taken_by u.wakes t) (subst (Tallied (length u.calls) (length (taken_by u.wakes t))) is (now t));
     wakeful = λ t. (carries t).wakeful (h.wakeful t);
   }
+    where
+      now : (t : ℕ) → Tallied (length u.calls) (length (taken_by u.wakes t)) (call_at u t)
+      now t =
+          subst (λ (n : ℕ). Tallied n (length (taken_by u.wakes t)) (call_at u t)) (sym threads)
+          (subst (λ (ws : List Wakeup). Tallied (length s.calls) (length (taken_by ws t)) (call_at u t)) (sym wakes)
+          (tallied_on (length s.calls) (length (taken_by s.wakes t)) (call_at s t) (call_at u t) (carries t) (tallied s h t)))
 
   -- nor the lists change
-  pub carried : Sound u.lot → u.wakes ≡ s.wakes → u.lot.queues ≡ s.lot.queues
+  pub carried : length u.calls ≡ length s.calls → Sound u.lot → u.wakes ≡ s.wakes → u.lot.queues ≡ s.lot.queues
       → ((v k : ℕ) (token : ParkToken) (c : Call) → call_at s v ≡ Some c → stance c.core ≡ Asleep k token → option_map_or mark_of (place_at u.lot.places v) 0 ≡ option_map_or mark_of (place_at s.lot.places v) 0)
       → ((t : ℕ) → t < length u.calls → Seated t (call_at u t) (place_at u.lot.places t) u.lot.section)
       → ((section : Section) → u.lot.section ≡ Some section → (t : ℕ) × (section.thread ≡ Some t) × (t < length u.calls))
       → LotFits u
-  carried sound wakes queues marks seated opened =
-      carried_by sound wakes (λ j k n w two at. waits_carried j k n w two (ap (λ (qs : ℕ → List Waiter). slice_get (qs (2 * j + k)) n) (sym queues) ∙ at)) marks seated opened
+  carried threads sound wakes queues marks seated opened =
+      carried_by threads sound wakes (λ j k n w two at. waits_carried j k n w two (ap (λ (qs : ℕ → List Waiter). slice_get (qs (2 * j + k)) n) (sym queues) ∙ at)) marks seated opened

@@ -1,5 +1,5 @@
 -- A kind of locks, as the machine shows one; and what a thread does at one lock leaves the other locks as they are.
-use Rattle.std.proofs.Common.{◌≡◌, ◌≢◌, ℕ, ◌+◌, ◌*◌, ◌<◌, ◌⊎◌, inl, inr, cond, List, length, Option, Some, None, slice_get, slice_set, refl, sym, ap, ◌∙◌, arith, eq-eqb}
+use Rattle.std.proofs.Common.{◌≡◌, ◌≢◌, ℕ, ◌+◌, ◌*◌, ◌<◌, ◌⊎◌, inl, inr, cond, List, length, Option, Some, None, slice_get, slice_set, refl, sym, ap, ◌∙◌, arith, eq-eqb, ◌∷◌, Bool, true, false, [], ◌≤◌}
 use Rattle.std.proofs.lemmas.Bool.{ne_eqb}
 use Rattle.std.proofs.lemmas.Option.{none-some, slice_get_within}
 use Rattle.parking_lot_core_lot.specs.Machine.{threads_of}
@@ -9,6 +9,7 @@ use Rattle.parking_lot_rules.specs.Roles.{Asleep as AsleepStill, Late as LateSti
 use Rattle.parking_lot_rules.specs.Classes.{inside as inside_of}
 use Rattle.parking_lot_core_lot.specs.declared.parking.UnparkToken.{UnparkToken}
 use Rattle.parking_lot_protocol.specs.declared.act.ActResult.{ActResult}
+use Rattle.parking_lot_protocol.specs.declared.act.SectionAct.TheVariants as section
 use Rattle.parking_lot_protocol.specs.MutexTable as mutex_table
 use Rattle.parking_lot_protocol.specs.RwTable as rw_table
 use Rattle.parking_lot_upgrades.specs.UpgradeRoles as of_upgrade
@@ -36,10 +37,11 @@ use Rattle.parking_lot_world.specs.declared.seat.Hold.{Hold}
 use Rattle.parking_lot_world.specs.declared.seat.QueuePosition.{QueuePosition}
 use Rattle.parking_lot_world.specs.Kinds.{Manner, AsMutex, AsRw, manner_of}
 use Rattle.parking_lot_world.specs.LateRoles.{late_rw_role, sleeper_role, stays}
-use Rattle.parking_lot_world.specs.RowFits.{IsOfKind, IsOfManner}
-use Rattle.parking_lot_world.specs.Rows.{State, word_at, hold_at, call_at, everybody, taken_by, owned_of, owns_mutex, rw_spot, mutex_spot, first_of_all, mark_of, late_role, rw_role_in, mutex_role_in, rw_core_role, mutex_core_role, mutex_word_of, any_lock, lock_as, lock_at, queue_at}
-use Rattle.parking_lot_world.specs.Stances.{Asleep, core_next, late_next, late_rw_stance, late_stance, lying, mutex_stance, pending_from, quits_as, rw_stance, seeks_stance, sleeper_stance, stance, upgrade_stance}
+use Rattle.parking_lot_world.specs.RowFits.{IsOfKind, IsOfManner, IsCounted, IsInside}
+use Rattle.parking_lot_world.specs.Rows.{State, word_at, hold_at, call_at, everybody, taken_by, owned_of, owns_mutex, rw_spot, mutex_spot, first_of_all, mark_of, late_role, rw_role_in, mutex_role_in, rw_core_role, mutex_core_role, mutex_word_of, any_lock, lock_as, lock_at, queue_at, mutex_role}
+use Rattle.parking_lot_world.specs.Stances.{Asleep, core_next, late_next, late_rw_stance, late_stance, lying, mutex_stance, pending_from, quits_as, rw_stance, seeks_stance, sleeper_stance, stance, upgrade_stance, mutex_taken, sign, resumed_as, sleeper_asleep}
 use Rattle.parking_lot_world.proofs.Everybody.{all, change-all, get-all, same-all}
+use Rattle.parking_lot_protocol.specs.declared.act.Act.{Act}
 
 -- What the machine shows of a kind of locks. C is the core of a call at one, R what a thread is to it, and L the lock of the rules. A thread is
 -- what its call's core plays, beside so many other holds, at that place in the lists, with those taken; and else what it owns makes it.
@@ -82,9 +84,29 @@ upgrade_listed n us (UpgradePhase.Frees way core) at h = ap (λ (r : Role). reco
 upgrade_listed n us (UpgradePhase.Owes hold end core) at h = ap (λ (r : Role). record { owns = of_upgrade.owns n (UpgradePhase.Owes hold end core); does = r.does }) (rw_listed n us core.phase at h)
 upgrade_listed n us p at h = refl
 
-pub mutex_listed : (v : ℕ) (q : MutexPhase) (at : QueuePosition) → ((k : ℕ) (token : ParkToken) → mutex_stance q ≡ Asleep k token → at ≡ QueuePosition.Listed) → of_mutex.role (mutex_spot at) v q ≡ of_mutex.role of_mutex.Listed v q
-mutex_listed v MutexPhase.Sleeps at h = ap (λ x. of_mutex.role (mutex_spot x) v MutexPhase.Sleeps) (h _ _ refl)
-mutex_listed v q at h = refl
+pub mutex_listed : (us : List ℕ) (q : MutexPhase) (at : QueuePosition) → ((k : ℕ) (token : ParkToken) → mutex_stance q ≡ Asleep k token → at ≡ QueuePosition.Listed) → mutex_role (mutex_spot at) us q ≡ mutex_role of_mutex.Listed us q
+mutex_listed us MutexPhase.Sleeps at h = ap (λ x. mutex_role (mutex_spot x) us MutexPhase.Sleeps) (h _ _ refl)
+mutex_listed us q at h = refl
+
+-- who has taken as many as its phase says is to the mutex what the phase says
+pub role_by : (at : of_mutex.QueuePosition) (us : List ℕ) (p : MutexPhase) → length us ≡ mutex_taken p → mutex_role at us p ≡ of_mutex.role at (first_of_all us) p
+role_by at us (MutexPhase.Wakes giving) e = one us e
+  where
+    one : (us : List ℕ) → length us ≡ 1 → mutex_role at us (MutexPhase.Wakes giving) ≡ of_mutex.role at (first_of_all us) (MutexPhase.Wakes giving)
+    one [] e = absurd (omega (arith, e))
+    one (v ∷ []) e = refl
+    one (v ∷ w ∷ us) e = absurd (omega (arith, e))
+role_by at us p e = refl
+
+-- and one that is to wake nobody has taken as many
+pub mutex_exact : (threads n : ℕ) (k : MutexCore) → IsCounted threads n (Core.Mutex k) → (mutex_table.act_of k.phase ≡ Act.Section section.Wake → ⊥) → n ≡ mutex_taken k.phase
+mutex_exact threads n k h ne = by_phase k.phase h.most h.all ne
+  where
+    by_phase : (p : MutexPhase) → n ≤ mutex_taken p → (IsInside (mutex_stance p) → n ≡ mutex_taken p) → (mutex_table.act_of p ≡ Act.Section section.Wake → ⊥) → n ≡ mutex_taken p
+    by_phase (MutexPhase.Stores giving took left) most all ne = all tt
+    by_phase (MutexPhase.Leaves giving took handed) most all ne = all tt
+    by_phase (MutexPhase.Wakes giving) most all ne = absurd (ne refl)
+    by_phase p most all ne = omega (arith, most)
 
 -- a call at a mutex, in time or late
 pub data MutexCall : Type 0 where
@@ -96,7 +118,7 @@ mutex_call (Plain k) = Core.Mutex k
 mutex_call (Late p) = Core.Late p
 
 abbrev pub mutex_plays : QueuePosition → List ℕ → MutexCall → mutex.Role
-mutex_plays at us (Plain k) = of_mutex.role (mutex_spot at) (first_of_all us) k.phase
+mutex_plays at us (Plain k) = mutex_role (mutex_spot at) us k.phase
 mutex_plays at us (Late p) = late_role (mutex_spot at) p
 
 pub plays_so : (at : QueuePosition) (us : List ℕ) (k : MutexCall) → mutex_core_role at us (mutex_call k) ≡ mutex_plays at us k
@@ -112,7 +134,7 @@ late_listed LatePhase.Expires at h = ap (λ x. late_role (mutex_spot x) LatePhas
 late_listed p at h = refl
 
 pub mutex_stays : (us : List ℕ) (k : MutexCall) (at : QueuePosition) → ((key : ℕ) (token : ParkToken) → stance (mutex_call k) ≡ Asleep key token → at ≡ QueuePosition.Listed) → mutex_plays at us k ≡ mutex_plays QueuePosition.Listed us k
-mutex_stays us (Plain k) at h = mutex_listed (first_of_all us) k.phase at h
+mutex_stays us (Plain k) at h = mutex_listed us k.phase at h
 mutex_stays us (Late p) at h = late_listed p at h
 
 -- a call at a reader-writer lock, of shared and exclusive holds or of the upgradable one, or one whose moment has passed
@@ -147,6 +169,10 @@ abbrev pub sleeper_next : RwSleeper → ActResult → RwCall
 sleeper_next (RwSleeper.Simple k) told = Simple (record k { phase = rw_table.next_phase k.phase told })
 sleeper_next (RwSleeper.Upgradable k) told = Upgradable (record k { phase = upgrade_table.next_phase k.phase told })
 
+abbrev pub resumed_call : Bool → RwSleeper → Bool → RwCall
+resumed_call true k handed = sleeper_next k (ActResult.Woken (sign handed))
+resumed_call false k handed = Simple (record { phase = RwPhase.Invalid })
+
 abbrev pub tardy_next : LateRwPhase → ActResult → RwCall
 tardy_next (LateRwPhase.Expires k) (ActResult.Woken token) = sleeper_next k (ActResult.Woken token)
 tardy_next (LateRwPhase.Expires k) ActResult.Entered = Tardy (LateRwPhase.Quits k)
@@ -154,6 +180,7 @@ tardy_next (LateRwPhase.Quits k) (ActResult.Took token left) = Tardy (quits_as (
 tardy_next LateRwPhase.Masks (ActResult.Before word) = Tardy LateRwPhase.Leaves
 tardy_next LateRwPhase.Leaves ActResult.Made = Tardy LateRwPhase.GivesUp
 tardy_next (LateRwPhase.LeavesPending from) ActResult.Made = Upgradable (record { phase = UpgradePhase.YieldLoads from })
+tardy_next (LateRwPhase.WasTaken k by handed) ActResult.Made = resumed_call (sleeper_asleep k) k handed
 tardy_next p told = Simple (record { phase = RwPhase.Invalid })
 
 -- what follows what one is told
@@ -161,6 +188,11 @@ abbrev pub rw_next : RwCall → ActResult → RwCall
 rw_next (Simple k) told = Simple (record k { phase = rw_table.next_phase k.phase told })
 rw_next (Upgradable k) told = Upgradable (record k { phase = upgrade_table.next_phase k.phase told })
 rw_next (Tardy p) told = tardy_next p told
+
+resumed_is : (b : Bool) (k : RwSleeper) (handed : Bool) → resumed_as b k handed ≡ rw_call (resumed_call b k handed)
+resumed_is true (RwSleeper.Simple k) handed = refl
+resumed_is true (RwSleeper.Upgradable k) handed = refl
+resumed_is false k handed = refl
 
 tardy_is : (p : LateRwPhase) (told : ActResult) → core_next (Core.LateRw p) told ≡ rw_call (tardy_next p told)
 tardy_is (LateRwPhase.Expires (RwSleeper.Simple k)) (ActResult.Woken token) = refl
@@ -170,6 +202,7 @@ tardy_is (LateRwPhase.Quits k) (ActResult.Took token left) = refl
 tardy_is LateRwPhase.Masks (ActResult.Before word) = refl
 tardy_is LateRwPhase.Leaves ActResult.Made = refl
 tardy_is (LateRwPhase.LeavesPending from) ActResult.Made = refl
+tardy_is (LateRwPhase.WasTaken k by handed) ActResult.Made = resumed_is (sleeper_asleep k) k handed
 tardy_is p told = refl
 
 pub next_is : (k : RwCall) (told : ActResult) → core_next (rw_call k) told ≡ rw_call (rw_next k told)

@@ -40,22 +40,22 @@ use Rattle.parking_lot_world.specs.declared.seat.Core.{Core}
 use Rattle.parking_lot_world.specs.declared.seat.QueuePosition.{QueuePosition}
 use Rattle.parking_lot_world.specs.declared.open_call.Call.{Call}
 use Rattle.parking_lot_world.specs.ActLaws.{Acts}
-use Rattle.parking_lot_world.specs.Kinds.{AsMutex, manner_of, recursive_in}
-use Rattle.parking_lot_world.specs.LateActs.{comes_late, expired, is_back, is_pending, is_sleeping, late_comes, late_is_back, late_key, late_of, late_rw_comes, late_rw_is_back, others_left, out_of_list, quitted, quitted_as, returned, sleeps_in_time}
+use Rattle.parking_lot_world.specs.Kinds.{AsMutex, manner_of, recursive_in, AsRw}
+use Rattle.parking_lot_world.specs.LateActs.{comes_late, expired, is_back, is_pending, is_sleeping, late_comes, late_is_back, late_key, late_of, late_rw_comes, late_rw_is_back, others_left, out_of_list, quitted, quitted_as, returned, sleeps_in_time, found, found_as, is_handed}
 use Rattle.parking_lot_world.specs.LateLaws.{Expires, LateActsAreSteps, expire_step}
-use Rattle.parking_lot_world.specs.LateRoles.{expiring as expiring_step}
-use Rattle.parking_lot_world.specs.LateRoles.{expires_as, late_rw_role, quitting, quitting_as, reentering, sleeper_role, sleeper_wants}
+use Rattle.parking_lot_world.specs.LateRoles.{expiring as expiring_step, expiring_taken}
+use Rattle.parking_lot_world.specs.LateRoles.{late_rw_role, quitting, quitting_as, reentering, sleeper_role, sleeper_wants}
 use Rattle.parking_lot_world.specs.Ranks.{Pays, Unseen, core_steps, far_steps, late_cost, own_steps, steps_left, view_of}
 use Rattle.parking_lot_world.specs.RowActs.{hears, with_call, with_lot}
 use Rattle.parking_lot_world.specs.RowFits.{FitsTogether, IsOfKind, IsPrepared, LotFits, RulesFit, WaitsIn, sleeper_prepared}
 use Rattle.parking_lot_world.specs.RowSteps.{IsLateMove, IsMade, IsMoveOf}
-use Rattle.parking_lot_world.specs.Rows.{State, call_at, first_of_all, inside, late_role, mutex_at, mutex_spot, queue_at, rw_lock_at, rw_spot, taken_by, word_at}
+use Rattle.parking_lot_world.specs.Rows.{State, call_at, first_of_all, inside, late_role, mutex_at, mutex_spot, queue_at, rw_lock_at, rw_spot, taken_by, word_at, mark_of}
 use Rattle.parking_lot_world.specs.Stances.{Asleep, In, Joined, Stores, Takes, Tells, core_next, pending_from, quits_as, sign, sleeper_asleep, stance}
-use Rattle.parking_lot_world.proofs.Calling.{call_of, call-elsewhere, calls-change}
-use Rattle.parking_lot_world.proofs.KindTable.{Kind, Tardy, as_call, of_mutexes, of_rws, roles_at, rw_call, same, shown}
+use Rattle.parking_lot_world.proofs.Calling.{call_of, call-elsewhere, calls-change, call-here, slot}
+use Rattle.parking_lot_world.proofs.KindTable.{Kind, Tardy, as_call, of_mutexes, of_rws, roles_at, rw_call, same, shown, Elsewhere, IsThere, one_changed, role_at, role_now, role_stays}
 use Rattle.parking_lot_world.proofs.KindTable.{Late as CallLate}
-use Rattle.parking_lot_world.proofs.LateKinds.{Comes, IsBack, Lapses, Quits, backs, comes, lapses, quits_less, quits_so, returns_less, sleeper_plays}
-use Rattle.parking_lot_world.proofs.LateRules.{expire_crosses, expire_writes, may_expire_so, may_reenter_so, quit_lists, reenter_crosses, reenter_writes}
+use Rattle.parking_lot_world.proofs.LateKinds.{Comes, IsBack, Lapses, Quits, backs, comes, lapses, quits_less, quits_so, returns_less, sleeper_plays, finds_less}
+use Rattle.parking_lot_world.proofs.LateRules.{expire_crosses, expire_writes, may_expire_so, may_reenter_so, quit_lists, reenter_crosses, reenter_writes, may_expire_off, expire_off_writes, expire_off_crosses}
 use Rattle.parking_lot_world.proofs.LateLots.{expired_fits, quit_fits, returned_fits}
 use Rattle.parking_lot_world.proofs.LotActs.{seat_of}
 use Rattle.parking_lot_world.proofs.LotLists.{one_key}
@@ -64,7 +64,7 @@ use Rattle.parking_lot_world.proofs.Meeting.{in_range, meets, plays, plays_late}
 use Rattle.parking_lot_world.proofs.MutexMoving.{total_of_nobody}
 use Rattle.parking_lot_world.proofs.OwnActs.{nobody_first, nobody_in_mutex, nobody_second}
 use Rattle.parking_lot_world.proofs.Owning.{OwnAct, own-elsewhere, own-there, own_after}
-use Rattle.parking_lot_world.proofs.Passing.{own_passes}
+use Rattle.parking_lot_world.proofs.Passing.{own_passes, passes_after}
 use Rattle.parking_lot_world.proofs.Paying.{call-within, pays}
 use Rattle.parking_lot_world.proofs.RwCalls.{call_role}
 use Rattle.parking_lot_world.proofs.Ruling.{CallFits, Fitted, call_fits, rules_after, rules_own}
@@ -72,6 +72,9 @@ use Rattle.parking_lot_world.proofs.Summing.{others_change, others_same}
 use Rattle.parking_lot_world.proofs.TakeParts.{others_out, out_knows}
 use Rattle.parking_lot_world.proofs.WakesActs.{wakes_still}
 use Rattle.parking_lot_world.proofs.WakesKept.{wakes_own}
+use Rattle.parking_lot_world.specs.declared.seat.WakeResult.{WakeResult}
+use Rattle.parking_lot_world.proofs.Carrying.{same_call}
+use Rattle.parking_lot_world.proofs.LateTaken.{finds}
 
 sleep_wakes : Act.Sleep ≡ Act.Section section.Wake → ⊥
 sleep_wakes e = cc
@@ -116,7 +119,7 @@ module _ {C R L : Type 0} (K : Kind C R L) (s u : State) (t : ℕ) (c : Call) (t
 
 -- THE MOMENT PASSES
 
-module _ (s : State) (t : ℕ) (c : Call) (asleep : sleeps_in_time c.core ≡ true) (listed : c.spot ≡ QueuePosition.Listed) (h : FitsTogether s) (here : call_at s t ≡ Some c) where
+module _ (s : State) (t : ℕ) (c : Call) (asleep : sleeps_in_time c.core ≡ true) (h : FitsTogether s) (here : call_at s t ≡ Some c) where
   abbrev late_call : Call
   late_call = record c { core = late_of c.core }
 
@@ -126,52 +129,104 @@ module _ (s : State) (t : ℕ) (c : Call) (asleep : sleeps_in_time c.core ≡ tr
   lapse : Lapses (recursive_in s.kinds c.lock) c.others c.core
   lapse = lapses (recursive_in s.kinds c.lock) c.others c.core asleep (h.rules.prepared t c here)
 
-  own_expired : OwnAct s late_state t c seen.Made (late_of c.core) c.spot
-  own_expired = record {
-    here = here;
-    calls = refl;
+  late_here : call_at late_state t ≡ Some late_call
+  late_here = call-here s.calls t (Some c) (Some late_call) (slot s.calls t c here)
+
+  late_others : (x : ℕ) → x ≢ t → call_at late_state x ≡ call_at s x
+  late_others x ne = call-elsewhere s.calls t x (Some late_call) ne
+
+  late_there : IsThere c.lock (call_at s t)
+  late_there = subst (IsThere c.lock) (sym here) refl
+
+  late_elsewhere : Elsewhere c.lock s late_state
+  late_elsewhere = record {
     kinds = refl;
-    wakes = refl;
-    holds = refl;
-    sizes = refl;
-    word = sym (ap (λ a. word_after a seen.Made (word_at s c.lock)) lapse.act);
-    words = λ i ne. refl;
-    queues = λ i k ne b. refl;
-    listed = λ k token e. listed;
+    threads = length-set s.calls t (Some late_call);
+    words = λ j ne. refl;
+    queues = λ j k ne b. refl;
+    holds = λ x j ne. refl;
+    calls = λ x. elim (cases_eq x t) [
+      | inl f ↦ inr (subst (λ n. IsThere c.lock (call_at s n)) (sym f) late_there, subst (λ n. IsThere c.lock (call_at late_state n)) (sym f) (subst (IsThere c.lock) (sym late_here) refl))
+      | inr ne ↦ inl (late_others x ne, refl)
+    ];
   }
 
-  expired_of : (x : Core) → c.core ≡ x → OwnAct s late_state t c seen.Made (late_of x) c.spot
-  expired_of x e = subst (λ (y : Core). OwnAct s late_state t c seen.Made (late_of y) c.spot) e own_expired
+  -- only its own role changes
+  module _ {C R L : Type 0} (K : Kind C R L) (q : C) (next : late_of c.core ≡ K.core q) (kind_is : manner_of (slice_get s.kinds c.lock) ≡ Some K.manner) where
+    late_after : shown K late_state c.lock ≡ K.lock (word_at s c.lock) (slice_set (roles_at K s c.lock) t (K.plays c.others c.spot (taken_by s.wakes t) q)) (queue_at s (2 * c.lock)) (queue_at s (2 * c.lock + 1))
+    late_after =
+        same K _ _ _ _ _ _ _ _ refl
+        (one_changed (role_at K s c.lock) (role_at K late_state c.lock) (length s.calls) (length late_state.calls) t _ (in_range s t c here) (length-set s.calls t (Some late_call))
+        (λ y ne. role_stays K s late_state c.lock y (late_others y ne) refl refl)
+        (role_now K late_state t (taken_by s.wakes t) late_call q late_here refl next))
+        refl refl
 
-  expiring_mutex : (q : MutexPhase) (y : MutexCore) → c.core ≡ Core.Mutex (record y { phase = q }) → is_sleeping q ≡ true → IsMade c.lock t (MxStep (mutex.Alone mutex.Expire)) s late_state
-  expiring_mutex MutexPhase.Sleeps y e is =
-      let z : MutexCore = record y { phase = MutexPhase.Sleeps } in
-      lapse_made of_mutexes s late_state t c seen.Made (CallLate LatePhase.Expires) c.spot (expired_of (Core.Mutex z) e) (subst (IsOfKind (slice_get s.kinds c.lock)) e (h.rules.kinds t c here)) (MxStep (mutex.Alone mutex.Expire)) refl
-      ((plays s h t c z e here).here ∙ ap (λ at. Some (of_mutex.role (mutex_spot at) (first_of_all (taken_by s.wakes t)) MutexPhase.Sleeps)) listed, tt) refl refl
-  expiring_mutex q y e is = absurd cc
+    late_made : (step : AnyStep) → any_allowed (recursive_in s.kinds) c.lock t step (K.any (shown K s c.lock))
+        → K.any (K.lock (word_at s c.lock) (slice_set (roles_at K s c.lock) t (K.plays c.others c.spot (taken_by s.wakes t) q)) (queue_at s (2 * c.lock)) (queue_at s (2 * c.lock + 1))) ≡ any_after t step (K.any (shown K s c.lock)) → Crossed (any_crossing step) t (inside s) (inside s)
+        → IsMade c.lock t step s late_state
+    late_made step allowed leads crossed = made K s late_state t c.lock late_there late_elsewhere kind_is step allowed (ap K.any late_after ∙ leads) crossed
 
-  expiring_rw : (k : RwSleeper) → c.core ≡ rw_call (as_call k) → late_of c.core ≡ Core.LateRw (LateRwPhase.Expires k) → sleeper_asleep k ≡ true → sleeper_prepared (recursive_in s.kinds c.lock) c.others k → IsMade c.lock t (expiring_step k) s late_state
-  expiring_rw k e next slept ready =
-      let us = taken_by s.wakes t in
-      let role = sleeper_plays (recursive_in s.kinds c.lock) c.others us k slept ready in
-      let kind_is = of_rws.of_kind (slice_get s.kinds c.lock) (as_call k) (subst (IsOfKind (slice_get s.kinds c.lock)) e (h.rules.kinds t c here)) in
-      let mine : slice_get (rw_lock_at s c.lock).roles t ≡ Some (sleeper_role c.others of_rw.Listed us k) =
-      (meets s h t c (as_call k) e here).here ∙ ap (λ at. Some (call_role c.others at us (as_call k))) listed ∙ ap Some (role_so c.others QueuePosition.Listed us k) in
-      let step = expires_as (pending_from k) (sleeper_wants k) in
-      lapse_made of_rws s late_state t c seen.Made (Tardy (LateRwPhase.Expires k)) c.spot (subst (λ (y : Core). OwnAct s late_state t c seen.Made y c.spot) next own_expired) kind_is (expiring_step k) refl
-      (mine ∙ ap Some role.0, may_expire_so (recursive_in s.kinds c.lock) (pending_from k) (sleeper_wants k) (rw_lock_at s c.lock))
-      (ap (λ r. Rw (record (rw_lock_at s c.lock) { roles = slice_set (rw_lock_at s c.lock).roles t r })) role.1 ∙ expire_writes (pending_from k) (sleeper_wants k) (rw_lock_at s c.lock) t)
-      (expire_crosses (pending_from k) (sleeper_wants k) t (inside s))
-
-  expiring : IsMade c.lock t (expire_step c.core) s late_state
-  expiring = go c.core refl asleep
+  expiring_mutex : (q : MutexPhase) (y : MutexCore) → c.core ≡ Core.Mutex (record y { phase = q }) → is_sleeping q ≡ true → (at : QueuePosition) → c.spot ≡ at → IsMade c.lock t (expire_step (Core.Mutex (record y { phase = q })) at) s late_state
+  expiring_mutex MutexPhase.Sleeps y e is at f = go at f
     where
-      go : (x : Core) → c.core ≡ x → sleeps_in_time x ≡ true → IsMade c.lock t (expire_step x) s late_state
-      go (Core.Mutex k) e is = expiring_mutex k.phase k e is
-      go (Core.Rw k) e is = expiring_rw (RwSleeper.Simple k) e (ap late_of e) is (subst (IsPrepared (recursive_in s.kinds c.lock) c.others) e (h.rules.prepared t c here))
-      go (Core.Upgrade k) e is = expiring_rw (RwSleeper.Upgradable k) e (ap late_of e) is (subst (IsPrepared (recursive_in s.kinds c.lock) c.others) e (h.rules.prepared t c here))
-      go (Core.Late p) e is = absurd cc
-      go (Core.LateRw p) e is = absurd cc
+      z : MutexCore
+      z = record y { phase = MutexPhase.Sleeps }
+
+      kind_is : manner_of (slice_get s.kinds c.lock) ≡ Some AsMutex
+      kind_is = subst (IsOfKind (slice_get s.kinds c.lock)) e (h.rules.kinds t c here)
+
+      mine : slice_get (mutex_at s c.lock).roles t ≡ Some (of_mutex.role (mutex_spot c.spot) (first_of_all (taken_by s.wakes t)) MutexPhase.Sleeps)
+      mine = (plays s h t c z e here (λ w. sleep_wakes w)).here
+
+      go : (at : QueuePosition) → c.spot ≡ at → IsMade c.lock t (expire_step (Core.Mutex z) at) s late_state
+      go QueuePosition.Listed f =
+          late_made of_mutexes (CallLate LatePhase.Expires) (ap late_of e) kind_is (MxStep (mutex.Alone mutex.Expire))
+          (mine ∙ ap (λ p. Some (of_mutex.role (mutex_spot p) (first_of_all (taken_by s.wakes t)) MutexPhase.Sleeps)) f, tt)
+          (ap (λ p. Mx (record (mutex_at s c.lock) { roles = slice_set (mutex_at s c.lock).roles t (late_role (mutex_spot p) LatePhase.Expires) })) f) refl
+      go (QueuePosition.Off by said) f =
+          late_made of_mutexes (CallLate LatePhase.Expires) (ap late_of e) kind_is (MxStep (mutex.Alone (mutex.ExpireTaken by (mark_of said))))
+          (mine ∙ ap (λ p. Some (of_mutex.role (mutex_spot p) (first_of_all (taken_by s.wakes t)) MutexPhase.Sleeps)) f, tt)
+          (ap (λ p. Mx (record (mutex_at s c.lock) { roles = slice_set (mutex_at s c.lock).roles t (late_role (mutex_spot p) LatePhase.Expires) })) f) refl
+  expiring_mutex q y e is at f = absurd cc
+
+  module _ (k : RwSleeper) (e : c.core ≡ rw_call (as_call k)) (next : late_of c.core ≡ Core.LateRw (LateRwPhase.Expires k)) (slept : sleeper_asleep k ≡ true) (ready : sleeper_prepared (recursive_in s.kinds c.lock) c.others k) where
+    rw_there : manner_of (slice_get s.kinds c.lock) ≡ Some AsRw
+    rw_there = of_rws.of_kind (slice_get s.kinds c.lock) (as_call k) (subst (IsOfKind (slice_get s.kinds c.lock)) e (h.rules.kinds t c here))
+
+    rw_mine : (at : QueuePosition) → c.spot ≡ at → slice_get (rw_lock_at s c.lock).roles t ≡ Some (sleeper_role c.others (rw_spot at) (taken_by s.wakes t) k)
+    rw_mine at f = (meets s h t c (as_call k) e here).here ∙ ap Some (role_so c.others c.spot (taken_by s.wakes t) k) ∙ ap (λ p. Some (sleeper_role c.others (rw_spot p) (taken_by s.wakes t) k)) f
+
+    rw_late : (at : QueuePosition) → c.spot ≡ at → Rw (record (rw_lock_at s c.lock) { roles = slice_set (rw_lock_at s c.lock).roles t (late_rw_role c.others (rw_spot c.spot) (taken_by s.wakes t) (LateRwPhase.Expires k)) })
+        ≡ Rw (record (rw_lock_at s c.lock) { roles = slice_set (rw_lock_at s c.lock).roles t (late_rw_role c.others (rw_spot at) (taken_by s.wakes t) (LateRwPhase.Expires k)) })
+    rw_late at f = ap (λ p. Rw (record (rw_lock_at s c.lock) { roles = slice_set (rw_lock_at s c.lock).roles t (late_rw_role c.others (rw_spot p) (taken_by s.wakes t) (LateRwPhase.Expires k)) })) f
+
+    expiring_listed : c.spot ≡ QueuePosition.Listed → IsMade c.lock t (expiring_step k) s late_state
+    expiring_listed f =
+        let role = sleeper_plays (recursive_in s.kinds c.lock) c.others (taken_by s.wakes t) k slept ready in
+        late_made of_rws (Tardy (LateRwPhase.Expires k)) next rw_there (expiring_step k)
+        (rw_mine QueuePosition.Listed f ∙ ap Some role.0, may_expire_so (recursive_in s.kinds c.lock) (pending_from k) (sleeper_wants k) (rw_lock_at s c.lock))
+        (rw_late QueuePosition.Listed f ∙ ap (λ r. Rw (record (rw_lock_at s c.lock) { roles = slice_set (rw_lock_at s c.lock).roles t r })) role.1 ∙ expire_writes (pending_from k) (sleeper_wants k) (rw_lock_at s c.lock) t)
+        (expire_crosses (pending_from k) (sleeper_wants k) t (inside s))
+
+    expiring_off : (by : ℕ) (said : WakeResult) → c.spot ≡ QueuePosition.Off by said → IsMade c.lock t (expiring_taken k by (mark_of said)) s late_state
+    expiring_off by said f =
+        let role = (sleeper_plays (recursive_in s.kinds c.lock) c.others (taken_by s.wakes t) k slept ready).5 by (mark_of said) in
+        late_made of_rws (Tardy (LateRwPhase.Expires k)) next rw_there (expiring_taken k by (mark_of said))
+        (rw_mine (QueuePosition.Off by said) f ∙ ap Some role.0, may_expire_off (recursive_in s.kinds c.lock) (pending_from k) (sleeper_wants k) by (mark_of said) (rw_lock_at s c.lock))
+        (rw_late (QueuePosition.Off by said) f ∙ ap (λ r. Rw (record (rw_lock_at s c.lock) { roles = slice_set (rw_lock_at s c.lock).roles t r })) role.1 ∙ expire_off_writes (pending_from k) (sleeper_wants k) by (mark_of said) (rw_lock_at s c.lock) t)
+        (expire_off_crosses (pending_from k) (sleeper_wants k) by (mark_of said) t (inside s))
+
+  expiring : IsMade c.lock t (expire_step c.core c.spot) s late_state
+  expiring = go c.core c.spot refl refl asleep
+    where
+      go : (x : Core) (at : QueuePosition) → c.core ≡ x → c.spot ≡ at → sleeps_in_time x ≡ true → IsMade c.lock t (expire_step x at) s late_state
+      go (Core.Mutex k) at e f is = expiring_mutex k.phase k e is at f
+      go (Core.Rw k) QueuePosition.Listed e f is = expiring_listed (RwSleeper.Simple k) e (ap late_of e) is (subst (IsPrepared (recursive_in s.kinds c.lock) c.others) e (h.rules.prepared t c here)) f
+      go (Core.Rw k) (QueuePosition.Off by said) e f is = expiring_off (RwSleeper.Simple k) e (ap late_of e) is (subst (IsPrepared (recursive_in s.kinds c.lock) c.others) e (h.rules.prepared t c here)) by said f
+      go (Core.Upgrade k) QueuePosition.Listed e f is = expiring_listed (RwSleeper.Upgradable k) e (ap late_of e) is (subst (IsPrepared (recursive_in s.kinds c.lock) c.others) e (h.rules.prepared t c here)) f
+      go (Core.Upgrade k) (QueuePosition.Off by said) e f is = expiring_off (RwSleeper.Upgradable k) e (ap late_of e) is (subst (IsPrepared (recursive_in s.kinds c.lock) c.others) e (h.rules.prepared t c here)) by said f
+      go (Core.Late p) at e f is = absurd cc
+      go (Core.LateRw p) at e f is = absurd cc
 
   expired_rules : RulesFit late_state
   expired_rules = rules_after s late_state c.lock h.rules (record {
@@ -184,7 +239,7 @@ module _ (s : State) (t : ℕ) (c : Call) (asleep : sleeps_in_time c.core ≡ tr
     few = h.rules.few;
     elsewhere = λ i ne. refl;
     bits = h.rules.bits c.lock;
-    sound = made_sound s late_state t c.lock (expire_step c.core) expiring h.rules.sound;
+    sound = made_sound s late_state t c.lock (expire_step c.core c.spot) expiring h.rules.sound;
   })
 
   -- how many steps it adds
@@ -221,7 +276,8 @@ module _ (s : State) (t : ℕ) (c : Call) (asleep : sleeps_in_time c.core ≡ tr
   expires = record {
     fits = record {
       lots = expired_lots;
-      passes = own_passes s late_state t c seen.Made (late_of c.core) c.spot own_expired expired_lots h.passes (inr (inr (refl, λ key. refl))) (λ k o e. absurd (lies_takes (sym lapse.lies_on ∙ e)));
+      passes = passes_after s late_state t expired_lots h.passes (inr (inr (refl, λ key. refl))) (λ v d k ne at is. (d, sym (late_others v ne) ∙ at, refl, refl))
+          (λ d k o at is sec. absurd (lies_takes (sym lapse.lies_on ∙ ap (λ (y : Call). stance y.core) (same_call (sym late_here ∙ at)) ∙ is)));
       wakes = wakes_still s late_state t c late_call h.wakes here refl refl refl;
       rules = expired_rules;
     };
@@ -291,7 +347,7 @@ module _ (s : State) (t : ℕ) (c : Call) (late : comes_late c.core ≡ true) (l
 
   pub returns : (told : ActResult) × Acts t c told s back_state
   returns =
-      let lots = returned_fits s t c (hears c seen.Entered) (bit (is_pending c.core)) come.park h.lots here come.lies come.back refl listed listed (come.none_on ∙ sym come.none) (λ e. absurd (sleep_wakes (sym come.act_on ∙ e))) free in
+      let lots = returned_fits s t c (hears c seen.Entered) (bit (is_pending c.core)) come.park h.lots here come.lies come.back refl listed listed (come.none_on ∙ sym come.none) come.none (λ e. absurd (sleep_wakes (sym come.act_on ∙ e))) free in
       let both = rules_own s back_state t c seen.Entered c.spot own_back h (λ v e ne at. h.rules.knows v e at) back_fitted in (
         seen.Entered,
         record {
@@ -525,6 +581,12 @@ returns_pay s t c late here =
     let d = hears c seen.Entered in
     late_pays s u t c d here refl (returns_less (length s.calls) (view_of u t d) (view_of s t c) c.core late)
 
+pub finds_pay : (s : State) (t : ℕ) (c : Call) (by : ℕ) (said : WakeResult) → comes_late c.core ≡ true → FitsTogether s → call_at s t ≡ Some c → Pays t s (found s t c by said)
+finds_pay s t c by said late h here =
+    let u = found s t c by said in
+    let d : Call = record c { core = found_as by (is_handed said) c.core; spot = QueuePosition.Listed } in
+    late_pays s u t c d here refl (finds_less (length s.calls) (view_of u t d) (view_of s t c) c.core by (is_handed said) late (recursive_in s.kinds c.lock) c.others (h.rules.prepared t c here))
+
 pub quits_pay : (s : State) (t : ℕ) (c : Call) → is_back c.core ≡ true → call_at s t ≡ Some c → Pays t s (quitted s t c)
 quits_pay s t c late here =
     let left = others_left s t c in
@@ -534,9 +596,11 @@ quits_pay s t c late here =
 
 pub laws : LateActsAreSteps
 laws = record {
-  expires = λ s t c asleep listed h here. expires s t c asleep listed h here;
+  expires = λ s t c asleep h here. expires s t c asleep h here;
   returns = λ s t c late listed free sound h here. returns s t c late listed free sound h here;
+  finds = λ s t c by said late off free sound h here. finds s t c by said late off free sound h here;
   quits = λ s t c late sound h here. quits s t c late h here sound;
   returns_pay = returns_pay;
+  finds_pay = finds_pay;
   quits_pay = quits_pay;
 }

@@ -5,7 +5,7 @@ use Rattle.parking_lot_core_lot.specs.declared.place.Waiter.{Waiter}
 use Rattle.parking_lot_rules.specs.Classes.{bit}
 use Rattle.parking_lot_rules.specs.Plain.{from, to}
 use Rattle.parking_lot_rules.specs.Owners.{owner_of}
-use Rattle.parking_lot_rules.specs.Roles.{Back, Handed, Late, Normal, Open, Owned, Phase, Queued1, Queued2, Role, Stay, Taken1, Taken2}
+use Rattle.parking_lot_rules.specs.Roles.{Back, Handed, Late, Normal, Open, Owned, Phase, Queued1, Queued2, Role, Stay, Taken1, Taken2, Mark}
 use Rattle.parking_lot_rules.specs.Steps.{listing_from, listing_to}
 use Rattle.parking_lot_protocol.specs.RwRules as of_rw
 use Rattle.parking_lot_protocol.specs.declared.act.Act.{Act}
@@ -13,11 +13,11 @@ use Rattle.parking_lot_protocol.specs.declared.act.ActResult.TheVariants as seen
 use Rattle.parking_lot_protocol.specs.declared.act.SectionAct.TheVariants as section
 use Rattle.parking_lot_protocol.specs.declared.mutex_phase.MutexPhase.{MutexPhase}
 use Rattle.parking_lot_protocol.specs.declared.rw_phase.LockMode.{LockMode}
-use Rattle.parking_lot_world.specs.CallViews.{mode_of, rw_mode}
+use Rattle.parking_lot_world.specs.CallViews.{mode_of, rw_mode, IsReadySleeper}
 use Rattle.parking_lot_world.specs.Kinds.{Manner}
-use Rattle.parking_lot_world.specs.LateActs.{comes_late, is_back, is_pending, is_sleeping, late_of, sleeps_in_time}
-use Rattle.parking_lot_world.specs.LateRoles.{expires_as, late_rw_role, quitting_as, reenters_as, sleeper_role, sleeper_wants, staying, stays}
-use Rattle.parking_lot_world.specs.Ranks.{View, core_steps, late_cost, late_rw_steps, quits_steps}
+use Rattle.parking_lot_world.specs.LateActs.{comes_late, is_back, is_pending, is_sleeping, late_of, sleeps_in_time, found_as}
+use Rattle.parking_lot_world.specs.LateRoles.{expires_as, late_rw_role, quitting_as, reenters_as, sleeper_role, sleeper_wants, staying, stays, expires_taken_as, finds_as}
+use Rattle.parking_lot_world.specs.Ranks.{View, core_steps, late_cost, late_rw_steps, quits_steps, sleeper_steps}
 use Rattle.parking_lot_world.specs.Rounds.{rounds}
 use Rattle.parking_lot_world.specs.RowFits.{IsOfManner, IsPrepared, KnowsList, late_rw_prepared, sleeper_prepared}
 use Rattle.parking_lot_world.specs.Stances.{Asleep, In, Joined, Stores, Takes, Tells, back_as, core_act, core_next, has_begun, late_rw_act, late_rw_stance, sign, lying, pending_from, quits_as, sleeper_asleep, stance, taken_count}
@@ -26,7 +26,7 @@ use Rattle.parking_lot_world.specs.declared.late_rw.RwSleeper.{RwSleeper}
 use Rattle.parking_lot_world.specs.declared.seat.Core.{Core}
 use Rattle.parking_lot_world.specs.declared.seat.LatePhase.{LatePhase}
 use Rattle.parking_lot_world.proofs.KindTable.{as_call, rw_call}
-use Rattle.parking_lot_world.proofs.Sleepers.{by_sleeper, ready_sleeper, seeking, sleeps_there, takes_nobody, wanting}
+use Rattle.parking_lot_world.proofs.Sleepers.{by_sleeper, ready_sleeper, seeking, sleeps_there, takes_nobody, wanting, no_hold}
 
 -- THE MOMENT PASSES
 
@@ -184,12 +184,21 @@ backs recursive n (Core.Upgrade k) e h = absurd cc
 
 -- WHAT IT IS TO A READER-WRITER LOCK
 
+-- and where another has taken it
+abbrev pub PlaysOff : ℕ → List ℕ → RwSleeper → ℕ → Mark → Type 0
+PlaysOff n us k by mark =
+    let o = pending_from k in
+    let m = sleeper_wants k in
+    let off = sleeper_role n (of_rw.Off by mark) us k in
+    (off ≡ from (expires_taken_as o m by mark)) × (stays Late off ≡ to (expires_taken_as o m by mark)) × (stays Late off ≡ from (finds_as o m by mark)) × (stays Back off ≡ to (finds_as o m by mark))
+
 abbrev Plays : ℕ → List ℕ → RwSleeper → Type 0
 Plays n us k =
     let o = pending_from k in
     let m = sleeper_wants k in
     (sleeper_role n of_rw.Listed us k ≡ from (expires_as o m)) × (stays Late (sleeper_role n of_rw.Listed us k) ≡ to (expires_as o m)) × (stays Late (sleeper_role n of_rw.Listed us k) ≡ from (reenters_as o m)) × (stays Back (sleeper_role n of_rw.Listed us k) ≡ to (reenters_as o m))
     × ((left : Bool) (i : ℕ) → (stays Back (sleeper_role n of_rw.Listed us k) ≡ listing_from (quitting_as o m left i)) × ((at : of_rw.QueuePosition) → late_rw_role n at us (quits_as o left) ≡ listing_to (quitting_as o m left i)))
+    × ((by : ℕ) (mark : Mark) → PlaysOff n us k by mark)
 
 wants_quit : (us : List ℕ) (want : LockMode) (left : Bool) (i : ℕ) → (stays Back (sleeper_role 0 of_rw.Listed us (wanting want)) ≡ listing_from (quitting_as None (of_rw.mode_of want) left i)) × ((at : of_rw.QueuePosition) → late_rw_role 0 at us (quits_as None left) ≡ listing_to (quitting_as None (of_rw.mode_of want) left i))
 wants_quit us want true i = (refl, λ at. refl)
@@ -213,15 +222,10 @@ mode_stays stay r = go r.owns r.does
     go o (Taken2 was by old) = refl
     go o p = refl
 
--- it has no other hold
-no_hold : (recursive : Bool) (n : ℕ) (k : RwSleeper) → sleeper_asleep k ≡ true → sleeper_prepared recursive n k → n ≡ 0
-no_hold recursive n k e h =
-    by_sleeper (λ k. sleeper_prepared recursive n k → n ≡ 0) (λ want h. h.1.1) (λ rounds h. h.1) (λ want i h. h.0) (λ rounds h. h.0) k (ready_sleeper recursive n k h) e h
-
 pub sleeper_plays : (recursive : Bool) (n : ℕ) (us : List ℕ) (k : RwSleeper) → sleeper_asleep k ≡ true → sleeper_prepared recursive n k → Plays n us k
 sleeper_plays recursive n us k e h =
     subst (λ m. Plays m us k) (sym (no_hold recursive n k e h))
-    (by_sleeper (Plays 0 us) (λ want. (refl, refl, refl, refl, wants_quit us want)) (λ rounds. (refl, refl, refl, refl, λ left i. (refl, λ at. refl))) (λ want i. (refl, refl, refl, refl, seeks_quit us want)) (λ rounds. (refl, refl, refl, refl, λ left i. (refl, λ at. refl))) k (ready_sleeper recursive n k h) e)
+    (by_sleeper (Plays 0 us) (λ want. (refl, refl, refl, refl, wants_quit us want, λ by mark. (refl, refl, refl, refl))) (λ rounds. (refl, refl, refl, refl, λ left i. (refl, λ at. refl), λ by mark. (refl, refl, refl, refl))) (λ want i. (refl, refl, refl, refl, seeks_quit us want, λ by mark. (refl, refl, refl, refl))) (λ rounds. (refl, refl, refl, refl, λ left i. (refl, λ at. refl), λ by mark. (refl, refl, refl, refl))) k (ready_sleeper recursive n k h) e)
 
 -- OFF ITS LIST
 
@@ -302,3 +306,22 @@ quits_less n v w (Core.LateRw p) left e = tardy_falls n v w p left e
 quits_less n v w (Core.Mutex k) left e = absurd cc
 quits_less n v w (Core.Rw k) left e = absurd cc
 quits_less n v w (Core.Upgrade k) left e = absurd cc
+
+-- what one sees doesn't count while it sleeps
+slept_same : (n : ℕ) (v w : View) (k : RwSleeper) → IsReadySleeper k → sleeper_asleep k ≡ true → sleeper_steps n v k ≡ sleeper_steps n w k
+slept_same n v w k r e = by_sleeper (λ k. sleeper_steps n v k ≡ sleeper_steps n w k) (λ want. refl) (λ rounds. refl) (λ want i. refl) (λ rounds. refl) k r e
+
+late_finds_less : (n : ℕ) (v w : View) (p : LatePhase) (by : ℕ) (handed : Bool) → comes_late (Core.Late p) ≡ true → core_steps n v (found_as by handed (Core.Late p)) + 1 ≤ core_steps n w (Core.Late p)
+late_finds_less n v w LatePhase.Expires by handed e = omega arith
+late_finds_less n v w p by handed e = absurd cc
+
+tardy_finds_less : (n : ℕ) (v w : View) (p : LateRwPhase) (by : ℕ) (handed : Bool) → comes_late (Core.LateRw p) ≡ true → (recursive : Bool) (m : ℕ) → IsPrepared recursive m (Core.LateRw p) → core_steps n v (found_as by handed (Core.LateRw p)) + 1 ≤ core_steps n w (Core.LateRw p)
+tardy_finds_less n v w (LateRwPhase.Expires k) by handed e recursive m h = omega (arith, slept_same n v w k (ready_sleeper recursive m k h.1) h.0)
+tardy_finds_less n v w p by handed e recursive m h = absurd cc
+
+pub finds_less : (n : ℕ) (v w : View) (x : Core) (by : ℕ) (handed : Bool) → comes_late x ≡ true → (recursive : Bool) (m : ℕ) → IsPrepared recursive m x → core_steps n v (found_as by handed x) + 1 ≤ core_steps n w x
+finds_less n v w (Core.Late p) by handed e recursive m h = late_finds_less n v w p by handed e
+finds_less n v w (Core.LateRw p) by handed e recursive m h = tardy_finds_less n v w p by handed e recursive m h
+finds_less n v w (Core.Mutex k) by handed e recursive m h = absurd cc
+finds_less n v w (Core.Rw k) by handed e recursive m h = absurd cc
+finds_less n v w (Core.Upgrade k) by handed e recursive m h = absurd cc

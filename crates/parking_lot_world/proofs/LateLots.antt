@@ -1,5 +1,5 @@
 -- The acts of a call whose moment has passed keep what fits of the lot.
-use Rattle.std.proofs.Common.{◌≡◌, ◌<◌, ◌≤◌, ℕ, ◌+◌, ◌*◌, ◌==◌, false, List, length, remove, Option, Some, None, slice_get, count_by, refl, sym, ap, ◌∙◌, subst, arith, eq-eqb}
+use Rattle.std.proofs.Common.{◌≡◌, ◌<◌, ◌≤◌, ℕ, ◌+◌, ◌*◌, ◌==◌, inr, false, List, length, remove, Option, Some, None, slice_get, count_by, refl, sym, ap, ◌∙◌, subst, arith, eq-eqb}
 use Rattle.std.specs.List.{position_or_len}
 use Rattle.std.specs.Option.{option_map_or}
 use Rattle.std.proofs.lemmas.Bool.{ne_eqb}
@@ -24,9 +24,9 @@ use Rattle.parking_lot_world.specs.declared.seat.Wakeup.{Wakeup}
 use Rattle.parking_lot_world.specs.Rows.{State, call_at, taken_by}
 use Rattle.parking_lot_world.specs.Stances.{Doing, In, Asleep, Joined, stance, taken_count}
 use Rattle.parking_lot_world.specs.RowActs.{key_of, with_call, with_lot}
-use Rattle.parking_lot_world.specs.RowFits.{Awaits, IsAt, IsOwed, IsTaken, LotFits, Seated, Stands, WaitsIn, WakesSome}
+use Rattle.parking_lot_world.specs.RowFits.{Awaits, IsAt, IsCounted, IsInside, IsOwed, IsTaken, LotFits, Seated, Stands, WaitsIn, WakesSome}
 use Rattle.parking_lot_world.proofs.Indexing.{get_remove}
-use Rattle.parking_lot_world.proofs.Carrying.{same_call, call_within, Carries, tally, tallied, no_length}
+use Rattle.parking_lot_world.proofs.Carrying.{same_call, call_within, Carries, Tallied, tallied, no_length}
 use Rattle.parking_lot_world.proofs.LotActs.{same_section, seat_of, changed_here, changed_there, seats_one, same_length, acted, quiet, sits, nobody_off, seats_still, seated_apart, outside_of, lies_still}
 
 in_asleep : {k j : ℕ} {how : Doing} {token : ParkToken} → In k how ≡ Asleep j token → ⊥
@@ -46,6 +46,7 @@ carries_lying c d key park from to lock at counts some = record {
   slept = λ k token by said x is asleep here. (c, refl, from ∙ sym to ∙ ap (λ (y : Call). stance y.core) (same_call is) ∙ asleep, said, sym at ∙ ap (λ (y : Call). y.spot) (same_call is) ∙ here);
   taker = λ x is more. (d, refl, lock ∙ ap (λ (y : Call). y.lock) (same_call is));
   counts = counts;
+  stays = λ i. absurd (subst IsInside to i);
   wakeful = λ w x is. subst (λ (y : Call). WakesSome y.core) (same_call is) some;
 }
 
@@ -60,19 +61,20 @@ expired_fits s t c d key park h here from to lock at counts some =
 
 -- IT IS BACK IN ITS SECTION
 
-carries_back : (c d : Call) (key : ℕ) (park : ParkToken) → stance c.core ≡ Asleep key park → stance d.core ≡ In key (Joined park) → d.lock ≡ c.lock → c.spot ≡ QueuePosition.Listed → d.spot ≡ QueuePosition.Listed → taken_count d.core ≡ taken_count c.core → WakesSome d.core
+carries_back : (c d : Call) (key : ℕ) (park : ParkToken) → stance c.core ≡ Asleep key park → stance d.core ≡ In key (Joined park) → d.lock ≡ c.lock → c.spot ≡ QueuePosition.Listed → d.spot ≡ QueuePosition.Listed → taken_count d.core ≡ taken_count c.core → taken_count c.core ≡ 0 → WakesSome d.core
     → Carries (Some c) (Some d)
-carries_back c d key park from to lock at at' counts some = record {
+carries_back c d key park from to lock at at' counts none some = record {
   listed = λ k token x is here waits. (d, refl, lock ∙ ap (λ (y : Call). y.lock) (same_call is), at', subst (Awaits k token) (sym to) (subst (Awaits k token) (sym (ap (λ (y : Call). stance y.core) (same_call is)) ∙ from) waits));
   sleeps = λ k token by said x is asleep here. absurd (listed_off (sym at ∙ (ap (λ (y : Call). y.spot) (same_call is) ∙ here)));
   slept = λ k token by said x is asleep here. absurd (in_asleep (sym to ∙ (ap (λ (y : Call). stance y.core) (same_call is) ∙ asleep)));
   taker = λ x is more. (d, refl, lock ∙ ap (λ (y : Call). y.lock) (same_call is));
   counts = counts;
+  stays = λ i. inr none;
   wakeful = λ w x is. subst (λ (y : Call). WakesSome y.core) (same_call is) some;
 }
 
 module _ (s : State) (t : ℕ) (c d : Call) (key : ℕ) (park : ParkToken) (h : LotFits s) (here : call_at s t ≡ Some c) (from : stance c.core ≡ Asleep key park) (to : stance d.core ≡ In key (Joined park)) (lock : d.lock ≡ c.lock) (at : c.spot ≡ QueuePosition.Listed)
-    (at' : d.spot ≡ QueuePosition.Listed) (counts : taken_count d.core ≡ taken_count c.core) (some : WakesSome d.core) (free : s.lot.section ≡ None) where
+    (at' : d.spot ≡ QueuePosition.Listed) (counts : taken_count d.core ≡ taken_count c.core) (none : taken_count c.core ≡ 0) (some : WakesSome d.core) (free : s.lot.section ≡ None) where
   abbrev back_section : Section
   back_section = record { thread = Some t; key = key_of c key; phase = Phase.Joined; token = record { 0 = 0 } }
 
@@ -82,7 +84,7 @@ module _ (s : State) (t : ℕ) (c d : Call) (key : ℕ) (park : ParkToken) (h : 
   pub returned_fits : LotFits (with_lot (with_call s t d) (lot.returned s.lot t (key_of c key)))
   returned_fits =
       acted s t h (call_within s t c here) (Some d) (lot.returned s.lot t (key_of c key))
-      (subst (λ (o : Option Call). Carries o (Some d)) (sym here) (carries_back c d key park from to lock at at' counts some))
+      (subst (λ (o : Option Call). Carries o (Some d)) (sym here) (carries_back c d key park from to lock at at' counts none some))
       (sound_returned s.lot t (key_of c key) h.sound) refl
       (λ v k token x is asleep. refl)
       (sits t d (In key (Joined park)) (place_at s.lot.places t) (Some back_section) to
@@ -169,10 +171,15 @@ module _ (s : State) (t : ℕ) (c d : Call) (key : ℕ) (two : key < 2) (how : D
         mark = ap (λ (p : Option Place). option_map_or mark_of p 0) (others e.thread f) ∙ old.mark;
       }
 
-  quit_tally : (x : ℕ) → tally (call_at u x) ≡ tally (call_at s x)
-  quit_tally x = by_eqb x t (tally (call_at u x) ≡ tally (call_at s x))
-      (λ e. ap (λ y. tally (call_at u y)) e ∙ (ap tally there ∙ (still ∙ (sym none ∙ (sym (ap tally here) ∙ ap (λ y. tally (call_at s y)) (sym e))))))
-      (λ e. ap tally (apart x e))
+  quit_tally : (x : ℕ) → Tallied (length u.calls) (length (taken_by s.wakes x)) (call_at u x)
+  quit_tally x =
+      subst (λ (n : ℕ). Tallied n (length (taken_by s.wakes x)) (call_at u x)) (sym (same_length s t h low (Some d) out))
+      (by_eqb x t (Tallied (length s.calls) (length (taken_by s.wakes x)) (call_at u x))
+      (λ e. subst (λ (y : ℕ). Tallied (length s.calls) (length (taken_by s.wakes y)) (call_at u y)) (sym e) (subst (Tallied (length s.calls) (length (taken_by s.wakes t))) (sym there) mine))
+      (λ e. subst (Tallied (length s.calls) (length (taken_by s.wakes x))) (sym (apart x e)) (tallied s h x)))
+    where
+      mine : IsCounted (length s.calls) (length (taken_by s.wakes t)) d.core
+      mine = let before = (h.counted t c here).most in record { most = omega (arith, before, none); few = omega (arith, still); all = λ i. omega (arith, before, none, still) }
 
   pub quit_fits : LotFits u
   quit_fits = record {
@@ -186,8 +193,8 @@ module _ (s : State) (t : ℕ) (c d : Call) (key : ℕ) (two : key < 2) (how : D
     owed = quit_owed;
     woken = quit_woken;
     once = h.once;
-    counted = λ x z at. tallied s h x ∙ (sym (quit_tally x) ∙ ap tally at);
-    untaken = λ x at. no_length (taken_by s.wakes x) (tallied s h x ∙ (sym (quit_tally x) ∙ ap tally at));
+    counted = λ x z at. subst (Tallied (length u.calls) (length (taken_by s.wakes x))) at (quit_tally x);
+    untaken = λ x at. no_length (taken_by s.wakes x) (subst (Tallied (length u.calls) (length (taken_by s.wakes x))) at (quit_tally x));
     wakeful = λ x z at. by_eqb x t (WakesSome z.core)
         (λ e. subst (λ (y : Call). WakesSome y.core) (same_call (sym there ∙ (ap (call_at u) (sym e) ∙ at))) some)
         (λ e. h.wakeful x z (sym (apart x e) ∙ at));

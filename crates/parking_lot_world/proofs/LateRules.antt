@@ -5,9 +5,9 @@ use Rattle.parking_lot_rules.specs.Any.{Rw, RwStep, any_after, any_crossing}
 use Rattle.parking_lot_rules.specs.Classes.{Inside1, Inside2, total}
 use Rattle.parking_lot_rules.specs.Lock.{Lock}
 use Rattle.parking_lot_rules.specs.Plain.{May, to}
-use Rattle.parking_lot_rules.specs.Roles.{Mode}
+use Rattle.parking_lot_rules.specs.Roles.{Mode, Mark}
 use Rattle.parking_lot_rules.specs.Steps.{Alone, MayList, first_after, second_after}
-use Rattle.parking_lot_world.specs.LateRoles.{expires_as, quitting_as, reenters_as}
+use Rattle.parking_lot_world.specs.LateRoles.{expires_as, quitting_as, reenters_as, expires_taken_as, finds_as}
 use Rattle.parking_lot_world.specs.RwLaws.{NobodyIs}
 use Rattle.parking_lot_world.proofs.Making.{Crossed}
 use Rattle.parking_lot_world.proofs.RwMoving.{nobody}
@@ -26,6 +26,19 @@ pub expire_crosses : (o : Option Bool) (m : Mode) (t : ℕ) (old : Option ℕ) �
 expire_crosses None m t old = refl
 expire_crosses (Some from) m t old = refl
 
+-- and so where another has taken it
+pub may_expire_off : (recursive : Bool) (o : Option Bool) (m : Mode) (by : ℕ) (mark : Mark) (l : Lock) → May recursive (expires_taken_as o m by mark) l.word (λ c. total c l.roles)
+may_expire_off recursive None m by mark l = tt
+may_expire_off recursive (Some from) m by mark l = tt
+
+pub expire_off_writes : (o : Option Bool) (m : Mode) (by : ℕ) (mark : Mark) (l : Lock) (t : ℕ) → Rw (record l { roles = slice_set l.roles t (to (expires_taken_as o m by mark)) }) ≡ any_after t (RwStep (Alone (expires_taken_as o m by mark))) (Rw l)
+expire_off_writes None m by mark l t = refl
+expire_off_writes (Some from) m by mark l t = refl
+
+pub expire_off_crosses : (o : Option Bool) (m : Mode) (by : ℕ) (mark : Mark) (t : ℕ) (old : Option ℕ) → Crossed (any_crossing (RwStep (Alone (expires_taken_as o m by mark)))) t old old
+expire_off_crosses None m by mark t old = refl
+expire_off_crosses (Some from) m by mark t old = refl
+
 -- IT COMES BACK
 
 pub may_reenter_so : (recursive : Bool) (o : Option Bool) (m : Mode) (l : Lock) → NobodyIs Inside1 l.roles → NobodyIs Inside2 l.roles → May recursive (reenters_as o m) l.word (λ c. total c l.roles)
@@ -39,6 +52,19 @@ reenter_writes (Some from) m l t = refl
 pub reenter_crosses : (o : Option Bool) (m : Mode) (t : ℕ) (old : Option ℕ) → old ≡ None → Crossed (any_crossing (RwStep (Alone (reenters_as o m)))) t old (Some t)
 reenter_crosses None m t old free = (free, refl)
 reenter_crosses (Some from) m t old free = (free, refl)
+
+-- and finds that it was taken
+pub may_find_so : (recursive : Bool) (o : Option Bool) (m : Mode) (by : ℕ) (mark : Mark) (l : Lock) → NobodyIs Inside1 l.roles → NobodyIs Inside2 l.roles → May recursive (finds_as o m by mark) l.word (λ c. total c l.roles)
+may_find_so recursive None m by mark l first second = nobody Inside1 l.roles first
+may_find_so recursive (Some from) m by mark l first second = nobody Inside2 l.roles second
+
+pub find_writes : (o : Option Bool) (m : Mode) (by : ℕ) (mark : Mark) (l : Lock) (t : ℕ) → Rw (record l { roles = slice_set l.roles t (to (finds_as o m by mark)) }) ≡ any_after t (RwStep (Alone (finds_as o m by mark))) (Rw l)
+find_writes None m by mark l t = refl
+find_writes (Some from) m by mark l t = refl
+
+pub find_crosses : (o : Option Bool) (m : Mode) (by : ℕ) (mark : Mark) (t : ℕ) (old : Option ℕ) → old ≡ None → Crossed (any_crossing (RwStep (Alone (finds_as o m by mark)))) t old (Some t)
+find_crosses None m by mark t old free = (free, refl)
+find_crosses (Some from) m by mark t old free = (free, refl)
 
 -- IT TAKES ITSELF OUT
 

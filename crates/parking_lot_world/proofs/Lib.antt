@@ -101,3 +101,11 @@ mod RequeueActs
 mod RequeueMoves
 mod RequeueMays
 mod RequeueCases
+mod Takers
+mod RwPasses
+mod WakesRoom
+mod WakesNobody
+mod TakersOut
+mod LotNobody
+mod LateFinds
+mod LateTaken

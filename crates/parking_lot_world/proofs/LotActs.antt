@@ -19,7 +19,7 @@ use Rattle.parking_lot_world.specs.declared.open_call.Call.{Call}
 use Rattle.parking_lot_world.specs.Rows.{State, call_at, word_at, taken_by}
 use Rattle.parking_lot_world.specs.Stances.{Stance, Out, In, Asleep, stance, taken_count, Doing, Looks, TurnsBack, Joins, Joined, Takes, Stores, Tells}
 use Rattle.parking_lot_world.specs.RowActs.{with_call, with_lot, hears, told_of, key_of, joins, entered, checked, took_nobody, left}
-use Rattle.parking_lot_world.specs.RowFits.{IsOutside, IsAt, SaidIn, Stands, Seated, LotFits, HasCome, WakesSome}
+use Rattle.parking_lot_world.specs.RowFits.{IsInside, IsOutside, IsAt, SaidIn, Stands, Seated, LotFits, HasCome, WakesSome}
 use Rattle.parking_lot_world.specs.StanceLaws.{StaysOut, LeavesFor}
 use Rattle.parking_lot_world.proofs.Stancing.{wakes_some}
 use Rattle.parking_lot_world.proofs.Carrying.{call_within, set_here, set_elsewhere, Carries, carries_same, IsAwake, IsUp, carries_awake, carries_begun, carries_ended, carried, carries_lain, taken_some}
@@ -73,7 +73,7 @@ pub same_parts : (s u : State) → u.calls ≡ s.calls → u.wakes ≡ s.wakes �
 same_parts s u calls wakes lot h =
     let at : (v : ℕ) → call_at u v ≡ call_at s v = λ v. ap (λ (cs : List (Option Call)). option_and_then (λ x. x) (slice_get cs v)) calls in
     let place : (v : ℕ) → place_at u.lot.places v ≡ place_at s.lot.places v = λ v. ap (λ (m : Machine). place_at m.places v) lot in
-    carried s u h (λ v. carries_same (call_at s v) (call_at u v) (at v)) (subst Sound (sym lot) h.sound) wakes (ap (λ (m : Machine). m.queues) lot)
+    carried s u h (λ v. carries_same (call_at s v) (call_at u v) (at v)) (ap length calls) (subst Sound (sym lot) h.sound) wakes (ap (λ (m : Machine). m.queues) lot)
     (λ v k token c is asleep. ap (λ o. option_map_or mark_of o 0) (place v))
     (λ v low. subst (λ (o : Option Call). Seated v o (place_at u.lot.places v) u.lot.section) (sym (at v))
     (subst (λ (m : Machine). Seated v (call_at s v) (place_at m.places v) m.section) (sym lot) (h.seated v (subst (λ (cs : List (Option Call)). v < length cs) calls low))))
@@ -122,7 +122,7 @@ module _ (s : State) (t : ℕ) (h : LotFits s) (low : t < length s.calls) where
         → ((section : Section) → lot.section ≡ Some section → (w : ℕ) × (section.thread ≡ Some w) × (w < length s.calls))
         → LotFits (with_lot (record s { calls = slice_set s.calls t o }) lot)
     acted carries sound queues marks own others opened =
-        carried s (with_lot (record s { calls = slice_set s.calls t o }) lot) h (carries_one carries) sound refl queues marks (seats_one own others)
+        carried s (with_lot (record s { calls = slice_set s.calls t o }) lot) h (carries_one carries) same_length sound refl queues marks (seats_one own others)
         (λ section is. let x = opened section is in (x.0, x.1, subst (λ (n : ℕ). x.0 < n) (sym same_length) x.2))
 
   -- nothing of the lot changes
@@ -148,7 +148,7 @@ pub stays_out : (s : State) (t : ℕ) (c : Call) (told : ActResult) → LotFits 
 stays_out s t c told h here x =
     let d = hears c told in
     quiet s t h (call_within s t c here) (Some d)
-    (subst (λ (o : Option Call). Carries o (Some d)) (sym here) (carries_awake c d (awake_by (stance c.core) Out x.0 tt) (up_by (stance d.core) Out x.1 tt) refl x.2 (wakes_some c.core told)))
+    (subst (λ (o : Option Call). Carries o (Some d)) (sym here) (carries_awake c d (awake_by (stance c.core) Out x.0 tt) (up_by (stance d.core) Out x.1 tt) refl x.2 (λ i. absurd (subst IsInside x.1 i)) (wakes_some c.core told)))
     (subst (λ (a : Stance). Stands t d.lock a d.spot (place_at s.lot.places t) s.lot.section) (sym x.1) (seat_of s h t c Out here x.0))
 
 pub begun_fits : (s : State) (t : ℕ) (c : Call) → LotFits s → t < length s.calls → call_at s t ≡ None → let d = hears c ActResult.Start in
@@ -174,7 +174,8 @@ pub nobody_off : (s : State) → LotFits s → (t : ℕ) (c : Call) → call_at 
 nobody_off s h t c here none v k token x by said same is asleep at =
     let o = h.owed v x k token by said is asleep at in
     let some : 1 ≤ length (taken_by s.wakes o.1.by) = taken_some s.wakes o.0 o.1 o.2 in
-    let count : length (taken_by s.wakes o.1.by) ≡ taken_count c.core = ap (λ (w : ℕ). length (taken_by s.wakes w)) (o.3 ∙ same) ∙ h.counted t c here in
+    let count : length (taken_by s.wakes o.1.by) ≡ length (taken_by s.wakes t) = ap (λ (w : ℕ). length (taken_by s.wakes w)) (o.3 ∙ same) in
+    let most : length (taken_by s.wakes t) ≤ taken_count c.core = (h.counted t c here).most in
     omega arith
 
 -- a stance, as the seat of a call
@@ -182,9 +183,11 @@ pub sits : (t : ℕ) (d : Call) (a : Stance) (place : Option Place) (sec : Optio
 sits t d a place sec is h = subst (λ (b : Stance). Stands t d.lock b d.spot place sec) (sym is) h
 
 pub carried_awake : (s : State) (t : ℕ) (c d : Call) (a b : Stance) → call_at s t ≡ Some c → stance c.core ≡ a → stance d.core ≡ b → IsAwake a → IsUp b → d.lock ≡ c.lock → taken_count d.core ≡ taken_count c.core
-    → WakesSome d.core → Carries (call_at s t) (Some d)
-carried_awake s t c d a b here from to awake up lock counts some =
-    subst (λ (o : Option Call). Carries o (Some d)) (sym here) (carries_awake c d (awake_by (stance c.core) a from awake) (up_by (stance d.core) b to up) lock counts some)
+    → (IsInside b → IsInside a ⊎ (taken_count c.core ≡ 0)) → WakesSome d.core → Carries (call_at s t) (Some d)
+carried_awake s t c d a b here from to awake up lock counts stays some =
+    subst (λ (o : Option Call). Carries o (Some d)) (sym here)
+    (carries_awake c d (awake_by (stance c.core) a from awake) (up_by (stance d.core) b to up) lock counts
+    (λ i. elim (stays (subst IsInside to i)) [ inl j ↦ inl (subst IsInside (sym from) j) | inr z ↦ inr z ]) some)
 
 -- ENTERING
 
@@ -195,11 +198,11 @@ module _ (s : State) (t : ℕ) (c : Call) (h : LotFits s) (here : call_at s t �
   abbrev enters_section : Section
   enters_section = record { thread = Some t; key = key_of c k; phase = Phase.Fresh; token = record { 0 = 0 } }
 
-  entered_as : (b : Stance) → stance c.core ≡ Out → stance enters.core ≡ b → IsUp b → taken_count enters.core ≡ taken_count c.core
+  entered_as : (b : Stance) → stance c.core ≡ Out → stance enters.core ≡ b → IsUp b → taken_count enters.core ≡ taken_count c.core → taken_count c.core ≡ 0
       → (place_at s.lot.places t ≡ Some Running → Stands t c.lock b c.spot (place_at s.lot.places t) (Some enters_section)) → LotFits (entered s t c k)
-  entered_as b from to up counts own =
+  entered_as b from to up counts idle own =
       acted s t h (call_within s t c here) (Some enters) (opened s.lot (Some t) (key_of c k))
-      (carried_awake s t c enters Out b here from to tt up refl counts (wakes_some c.core seen.Entered))
+      (carried_awake s t c enters Out b here from to tt up refl counts (λ i. inr idle) (wakes_some c.core seen.Entered))
       sound refl
       (λ v j token x is asleep. refl)
       (sits t enters b (place_at s.lot.places t) (Some enters_section) to (own (seat_of s h t c Out here from).0))
@@ -210,9 +213,9 @@ module _ (s : State) (t : ℕ) (c : Call) (h : LotFits s) (here : call_at s t �
       (λ j token x is asleep. lies_still x.spot (place_at s.lot.places v) s.lot.section (Some enters_section) (2 * x.lock + j) (λ by said o at sec. absurd (none≢some (sym free ∙ sec)))))
       (λ section is. (t, ap (λ (y : Section). y.thread) (sym (same_section is)), call_within s t c here))
 
-  pub entered_fits : stance c.core ≡ Out → (stance enters.core ≡ In k Looks) ⊎ (stance enters.core ≡ In k Takes) → taken_count enters.core ≡ taken_count c.core → LotFits (entered s t c k)
-  entered_fits from (inl to) counts = entered_as (In k Looks) from to tt counts (λ runs. (enters_section, refl, refl, refl, refl, runs))
-  entered_fits from (inr to) counts = entered_as (In k Takes) from to tt counts (λ runs. (enters_section, refl, refl, refl, refl, runs))
+  pub entered_fits : stance c.core ≡ Out → (stance enters.core ≡ In k Looks) ⊎ (stance enters.core ≡ In k Takes) → taken_count enters.core ≡ taken_count c.core → taken_count c.core ≡ 0 → LotFits (entered s t c k)
+  entered_fits from (inl to) counts idle = entered_as (In k Looks) from to tt counts idle (λ runs. (enters_section, refl, refl, refl, refl, runs))
+  entered_fits from (inr to) counts idle = entered_as (In k Takes) from to tt counts idle (λ runs. (enters_section, refl, refl, refl, refl, runs))
 
 -- IN THE SECTION
 
@@ -266,7 +269,7 @@ module _ (s : State) (t : ℕ) (c : Call) (h : LotFits s) (here : call_at s t �
       let o : Section = seat.0 in
       let o' : Section = record o { phase = phase_by (stance checks.core) } in
       goes_on s t c checks h here (in_phase s.lot (phase_by (stance checks.core))) o o' seat.1 (ap (option_map {T = Section} (λ x. record x { phase = phase_by (stance checks.core) })) seat.1) seat.2 seat.2
-      (carried_awake s t c checks (In k Looks) (In k how) here from to tt tt refl (still ∙ sym none) (wakes_some c.core (seen.Word (word_at s c.lock))))
+      (carried_awake s t c checks (In k Looks) (In k how) here from to tt tt refl (still ∙ sym none) (λ i. inl tt) (wakes_some c.core (seen.Word (word_at s c.lock))))
       sound refl refl
       (λ v j token x by said same at asleep off in_it. absurd (nobody_off s h t c here none v j token x by said same at asleep off))
       (sits t checks (In k how) (place_at s.lot.places t) (Some o') to
@@ -298,7 +301,7 @@ took_nobody_fits s t c k h here from to counts sound =
     let o : Section = seat.0 in
     let o' : Section = record o { phase = Phase.Ended } in
     goes_on s t c d h here (in_phase s.lot Phase.Ended) o o' seat.1 (ap (option_map {T = Section} (λ x. record x { phase = Phase.Ended })) seat.1) seat.2 seat.2
-    (carried_awake s t c d (In k Takes) (In k Stores) here from to tt tt refl counts (wakes_some c.core (seen.Took None (is_left (s.lot.queues (key_of c k))))))
+    (carried_awake s t c d (In k Takes) (In k Stores) here from to tt tt refl counts (λ i. inl tt) (wakes_some c.core (seen.Took None (is_left (s.lot.queues (key_of c k))))))
     sound refl refl
     (λ v j token x by said same at asleep off in_it. still_said o Phase.Ended said seat.4 refl in_it)
     (sits t d (In k Stores) (place_at s.lot.places t) (Some o') to (o', refl, seat.2, seat.3, refl, seat.5))
@@ -361,7 +364,7 @@ module _ (s : State) (t : ℕ) (c : Call) (h : LotFits s) (here : call_at s t �
   pub left_fits : LeavesFor (stance c.core) (stance leaves.core) (taken_count c.core) (taken_count leaves.core) → LotFits (left s t c)
   left_fits (inl x) =
       let seat = seat_of s h t c (In x.0 TurnsBack) here x.1 in
-      left_as x.0 TurnsBack Out x.1 (carries_awake c leaves (awake_by (stance c.core) (In x.0 TurnsBack) x.1 tt) (up_by (stance leaves.core) Out x.2 tt) refl (x.4 ∙ sym x.3) (wakes_some c.core seen.Made)) x.2
+      left_as x.0 TurnsBack Out x.1 (carries_awake c leaves (awake_by (stance c.core) (In x.0 TurnsBack) x.1 tt) (up_by (stance leaves.core) Out x.2 tt) refl (x.4 ∙ sym x.3) (λ i. absurd (subst IsInside x.2 i)) (wakes_some c.core seen.Made)) x.2
       (λ o sec whose come v j token y by said same at asleep off in_it. absurd (nobody_off s h t c here x.3 v j token y by said same at asleep off))
       (ap (option_map (told (token_of s.lot) false)) seat.5, outside_none None t refl)
   left_fits (inr (inl x)) =
@@ -374,7 +377,7 @@ module _ (s : State) (t : ℕ) (c : Call) (h : LotFits s) (here : call_at s t �
       )
   left_fits (inr (inr x)) =
       let seat = seat_of s h t c (In x.0 (Tells x.1)) here x.2 in
-      left_as x.0 (Tells x.1) Out x.2 (carries_awake c leaves (awake_by (stance c.core) (In x.0 (Tells x.1)) x.2 tt) (up_by (stance leaves.core) Out x.3 tt) refl x.4 (wakes_some c.core seen.Made)) x.3
+      left_as x.0 (Tells x.1) Out x.2 (carries_awake c leaves (awake_by (stance c.core) (In x.0 (Tells x.1)) x.2 tt) (up_by (stance leaves.core) Out x.3 tt) refl x.4 (λ i. absurd (subst IsInside x.3 i)) (wakes_some c.core seen.Made)) x.3
       (λ o sec whose come v j token y by said same at asleep off in_it. tells o sec come.0 said in_it)
       (ap (option_map (told (token_of s.lot) false)) seat.5, outside_none None t refl)
     where

@@ -1,5 +1,5 @@
 -- The lot refuses no call that an act makes.
-use Rattle.std.proofs.Common.{◌≡◌, ◌≢◌, ◌≤◌, ℕ, ◌==◌, ◌&&◌, inl, inr, Bool, true, false, cond, Option, Some, None, is_some, List, slice_get, count_by, refl, sym, ap, ◌∙◌, subst, eq-eqb}
+use Rattle.std.proofs.Common.{◌≡◌, ◌≢◌, ◌≤◌, ℕ, ◌==◌, ◌&&◌, inl, inr, Bool, true, false, cond, Option, Some, None, is_some, List, length, slice_get, refl, ap, ◌∙◌, subst, eq-eqb}
 use Rattle.std.specs.List.{position_or_len}
 use Rattle.std.specs.Option.{option_map, option_map_or, option_and_then}
 use Rattle.std.proofs.lemmas.Bool.{eqb-false, eqb-true}
@@ -22,8 +22,8 @@ use Rattle.parking_lot_protocol.specs.declared.act.SectionAct.TheVariants as sec
 use Rattle.parking_lot_protocol.specs.declared.act.ActResult.TheVariants as seen
 use Rattle.parking_lot_world.specs.declared.open_call.Call.{Call}
 use Rattle.parking_lot_world.specs.declared.seat.Wakeup.{Wakeup}
-use Rattle.parking_lot_world.specs.Rows.{State, call_at, is_by}
-use Rattle.parking_lot_world.specs.Stances.{Doing, Looks, TurnsBack, Joins, Joined, Takes, Stores, Tells, Stance, Out, In, stance, taken_count}
+use Rattle.parking_lot_world.specs.Rows.{State, call_at, is_by, taken_by}
+use Rattle.parking_lot_world.specs.Stances.{Doing, Looks, TurnsBack, Joins, Joined, Takes, Stores, Tells, Stance, Out, In, stance}
 use Rattle.parking_lot_world.specs.StanceLaws.{LeavesFor}
 use Rattle.parking_lot_world.specs.RowActs.{key_of}
 use Rattle.parking_lot_world.specs.RowFits.{HasCome, LotFits}
@@ -123,11 +123,9 @@ wakes_as s t c h here from e first by_t =
     let d = due_place s t c h here e taken.call first by_t taken.here from in
     due_of s t e taken.call (eqb-false e.thread t (other s t c h here e taken.call first by_t taken.here from)) taken.here d.0 d.1 d.2 d.3 d.4
 
-wakes : (s : State) (t : ℕ) (c : Call) → Asks s t c (Act.Section section.Wake) → (e : Wakeup) × (slice_get s.wakes (position_or_len (is_by t) s.wakes) ≡ Some e) × (e.by ≡ t) × IsDue s t e
-wakes s t c x =
-    let some : 1 ≤ taken_count c.core = x.0.wakeful t c x.1 x.2 in
-    let count : count_by (is_by t) s.wakes ≡ taken_count c.core = sym (taken_by-count s.wakes t) ∙ x.0.counted t c x.1 in
-    let first = first_passes (is_by t) s.wakes (subst (λ (n : ℕ). 1 ≤ n) (sym count) some) in
+wakes : (s : State) (t : ℕ) (c : Call) → Asks s t c (Act.Section section.Wake) → 1 ≤ length (taken_by s.wakes t) → (e : Wakeup) × (slice_get s.wakes (position_or_len (is_by t) s.wakes) ≡ Some e) × (e.by ≡ t) × IsDue s t e
+wakes s t c x some =
+    let first = first_passes (is_by t) s.wakes (subst (λ (n : ℕ). 1 ≤ n) (taken_by-count s.wakes t) some) in
     let by_t = eqb-true first.0.by t first.2 in
     let l = leads_by c.core (Act.Section section.Wake) 0 seen.Made x.2 tt in
     (first.0, first.1, by_t, wakes_as s t c x.0 x.1 l.0 first.0 first.1 by_t)

@@ -1,5 +1,5 @@
 -- Each act keeps what fits of the lot.
-use Rattle.std.proofs.Common.{◌≡◌, ◌<◌, ℕ, ◌+◌, ◌%◌, ◌^◌, ◌==◌, ◌⊎◌, Bool, true, false, cond, bit_and, remove, Option, Some, None, length, slice_get, slice_set, refl, sym, ap, ◌∙◌, subst}
+use Rattle.std.proofs.Common.{◌≡◌, ◌<◌, ℕ, ◌+◌, ◌%◌, ◌^◌, ◌==◌, ◌⊎◌, Bool, true, false, cond, bit_and, [], remove, Option, Some, None, length, slice_get, slice_set, refl, sym, ap, ◌∙◌, subst, arith}
 use Rattle.std.specs.List.{position_or_len}
 use Rattle.std.proofs.lemmas.Bool.{eqb-false, eqb-true}
 use Rattle.parking_lot_core_lot.specs.declared.parking.ParkToken.{ParkToken}
@@ -16,10 +16,10 @@ use Rattle.parking_lot_protocol.specs.declared.act.ActResult.TheVariants as seen
 use Rattle.parking_lot_protocol.specs.declared.act.WordChange.{WordChange}
 use Rattle.parking_lot_world.specs.declared.open_call.Call.{Call}
 use Rattle.parking_lot_world.specs.declared.seat.Wakeup.{Wakeup}
-use Rattle.parking_lot_world.specs.Rows.{State, word_at, call_at, is_by}
+use Rattle.parking_lot_world.specs.Rows.{State, word_at, call_at, is_by, taken_by}
 use Rattle.parking_lot_world.specs.Stances.{Joins, Joined, Takes, Stores, In, stance, taken_count, core_tells, sign}
 use Rattle.parking_lot_world.specs.StanceLaws.{Counts, IsOver}
-use Rattle.parking_lot_world.specs.RowActs.{with_call, with_word, with_lot, settles, hears, key_of, told_of, loaded, exchanged, added, masked, spun, entered, checked, appended, took, took_nobody, told_all, left, woke, answered, begun, joins}
+use Rattle.parking_lot_world.specs.RowActs.{with_call, with_word, with_lot, settles, hears, key_of, told_of, loaded, exchanged, added, masked, spun, entered, checked, appended, took, took_nobody, told_all, left, woke, woke_nobody, answered, begun, joins}
 use Rattle.parking_lot_world.specs.RowFits.{LotFits}
 use Rattle.parking_lot_world.specs.LotLaws.{Keeps, IsTaking, ActsKeepFits}
 use Rattle.parking_lot_world.proofs.Indexing.{first_is}
@@ -28,6 +28,8 @@ use Rattle.parking_lot_world.proofs.LotActs.{same_parts, stays_out, begun_fits, 
 use Rattle.parking_lot_world.proofs.LotLists.{appended_fits, stores_fit}
 use Rattle.parking_lot_world.proofs.LotTakes.{took_fits}
 use Rattle.parking_lot_world.proofs.LotWakes.{due_place, woke_fits}
+use Rattle.parking_lot_world.proofs.LotNobody.{nobody_fits}
+use Rattle.parking_lot_world.proofs.Takers.{others_free}
 use Rattle.parking_lot_world.proofs.LotSound.{entered_sound, checked_sound, took_nobody_sound, stored_sound, left_sound, appended_sound, took_sound, woke_sound}
 
 -- a key is that of one stance
@@ -63,7 +65,7 @@ spins s t c h here is = stays_out s t c (seen.Spun true) h here (leads_by c.core
 enters : (s : State) (t : ℕ) (c : Call) (k : ℕ) → s.lot.section ≡ None → Keeps s t c (Act.Enter k) (entered s t c k)
 enters s t c k free h here is =
     let x = leads_by c.core (Act.Enter k) 0 seen.Entered is tt in
-    entered_fits s t c h here k free (entered_sound s t c h here k x.0) x.0 x.1 x.2
+    entered_fits s t c h here k free (entered_sound s t c h here k x.0) x.0 x.1 x.2 (others_free c.core (Act.Enter k) is refl)
 
 checks : (s : State) (t : ℕ) (c : Call) → Keeps s t c (Act.Section section.Check) (checked s t c)
 checks s t c h here is =
@@ -129,6 +131,11 @@ wakes s t c e d token first there h here is =
     let due = due_place s t c h here e d first (by_first s t e first) there x.0 in
     woke_fits s t c h here e d first (by_first s t e first) there x.0 token x.1 x.2 (woke_sound s h e.thread (Taken due.0 due.1 false) due.2 (λ k. refl))
 
+wakes_nobody : (s : State) (t : ℕ) (c : Call) → taken_by s.wakes t ≡ [] → Keeps s t c (Act.Section section.Wake) (woke_nobody s t c)
+wakes_nobody s t c none h here is =
+    let x = leads_by c.core (Act.Section section.Wake) 0 seen.Made is tt in
+    nobody_fits s t c (hears c seen.Made) h here x.0 x.1 refl (omega (arith, x.2)) none (wakes_some c.core seen.Made)
+
 begins : (s : State) (t : ℕ) (c : Call) → LotFits s → t < length s.calls → call_at s t ≡ None → LotFits (begun s t c)
 begins s t c h low here = let x = calls_begin c.core in begun_fits s t c h low here x.0 x.1
 
@@ -152,6 +159,7 @@ acts_keep_fits = record {
   masks = masks;
   leaves = leaves;
   wakes = wakes;
+  wakes_nobody = wakes_nobody;
   begins = begins;
   ends = ends;
 }

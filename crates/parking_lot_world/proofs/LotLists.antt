@@ -53,12 +53,12 @@ module _ (s : State) (t : ℕ) (c : Call) (h : LotFits s) (here : call_at s t �
       let o' : Section = record o { phase = phase.Joined } in
       let is : list_lot.section ≡ Some o' = ap (option_map {T = Section} (λ x. record x { phase = phase.Joined })) seat.1 in
       let low = call_within s t c here in
-      let carries = carried_awake s t c lists (In k (Joins token)) (In k (Joined token)) here from to tt tt refl (still ∙ sym none) (wakes_some c.core seen.Made) in
+      let carries = carried_awake s t c lists (In k (Joins token)) (In k (Joined token)) here from to tt tt refl (still ∙ sym none) (λ i. inl tt) (wakes_some c.core seen.Made) in
       let u : State = appended s t c (key_of c k) token in
       let place : place_at list_lot.places t ≡ Some (Waiting (key_of c k) list_sleep) = place_at-set_same s.lot.places t Running (Some (Waiting (key_of c k) list_sleep)) seat.5 in
       let others : (v : ℕ) → (v == t) ≡ false → place_at list_lot.places v ≡ place_at s.lot.places v = λ v e. place_at-set_other s.lot.places t v (Some (Waiting (key_of c k) list_sleep)) e in
       let w : Waiter = record { thread = t; token = token } in
-      carried_by s u h (carries_one s t h low (Some lists) list_lot carries) sound refl
+      carried_by s u h (carries_one s t h low (Some lists) list_lot carries) (same_length s t h low (Some lists) list_lot) sound refl
       (λ j l n x low_l at. by_eqb (2 * j + l) (key_of c k) ((d : Call) × (call_at u x.thread ≡ Some d) × (d.lock ≡ j) × (d.spot ≡ spot.Listed) × Awaits l x.token (stance d.core))
       (λ e. new u carries low j l n x low_l e (get_push (s.lot.queues (key_of c k)) w n x (sym (ap (λ (qs : List Waiter). slice_get qs n) (updated_at s.lot.queues (key_of c k) (s.lot.queues (key_of c k) ++ w ∷ []))) ∙ (ap (λ (key : ℕ). slice_get (list_lot.queues key) n) (sym e) ∙ at))) to)
       (λ e. waits_carried s u h (carries_one s t h low (Some lists) list_lot carries) j l n x low_l (sym (ap (λ (qs : List Waiter). slice_get qs n) (updated_other s.lot.queues (key_of c k) (s.lot.queues (key_of c k) ++ w ∷ []) (2 * j + l) e)) ∙ at)))
@@ -153,7 +153,7 @@ module _ (s : State) (t : ℕ) (c d : Call) (h : LotFits s) (here : call_at s t 
   stored_carries : (v : ℕ) → Carries (call_at s v) (call_at stores v)
   stored_carries v =
       carries_both (call_at s v) (call_at (with_call s t d) v) (call_at stores v)
-      (carries_one s t h (call_within s t c here) (Some d) s.lot (carried_awake s t c d (In k Stores) (In k (Tells token)) here from to tt tt lock counts some) v)
+      (carries_one s t h (call_within s t c here) (Some d) s.lot (carried_awake s t c d (In k Stores) (In k (Tells token)) here from to tt tt lock counts (λ i. inl tt) some) v)
       (subst (Carries (call_at (with_call s t d) v)) (sym (stored_at v)) (carries_settled t (told_of token) (call_at (with_call s t d) v)))
 
   stored_length : length stores.calls ≡ length s.calls
@@ -166,7 +166,7 @@ module _ (s : State) (t : ℕ) (c d : Call) (h : LotFits s) (here : call_at s t 
       let o' : Section = record o { phase = phase.Stored; token = token } in
       let is : (stored s.lot token).section ≡ Some o' = ap (option_map {T = Section} (λ x. record x { phase = phase.Stored; token = token })) seat.1 in
       let low = call_within s t c here in
-      carried s stores h stored_carries sound refl refl
+      carried s stores h stored_carries stored_length sound refl refl
       (λ v j park x at asleep. refl)
       (λ v within. by_eqb v t (Seated v (call_at stores v) (place_at s.lot.places v) (stored s.lot token).section)
       (λ e. subst (λ (w : ℕ). Seated w (call_at stores w) (place_at s.lot.places w) (stored s.lot token).section) (sym e)

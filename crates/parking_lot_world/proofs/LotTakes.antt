@@ -25,10 +25,12 @@ use Rattle.parking_lot_world.specs.declared.seat.Wakeup.{Wakeup}
 use Rattle.parking_lot_world.specs.Rows.{State, call_at, is_by, taken_by}
 use Rattle.parking_lot_world.specs.Stances.{Doing, Looks, TurnsBack, Joins, Joined, Takes, Stores, Tells, Stance, Out, In, Asleep, stance, taken_count}
 use Rattle.parking_lot_world.specs.RowActs.{hears, key_of, off_list, took}
-use Rattle.parking_lot_world.specs.RowFits.{IsAt, Stands, Seated, Awaits, IsTaken, IsOwed, WakesSome, LotFits}
+use Rattle.parking_lot_world.specs.RowFits.{IsAt, IsCounted, IsInside, Stands, Seated, Awaits, IsTaken, IsOwed, WakesSome, LotFits}
 use Rattle.parking_lot_world.proofs.Indexing.{get_push, get_front, get_remove}
 use Rattle.parking_lot_world.proofs.Stancing.{wakes_some}
-use Rattle.parking_lot_world.proofs.Carrying.{same_call, call_within, set_here, set_elsewhere, tally, tallied, taken_by-count, no_length, awake_sleeps}
+use Rattle.parking_lot_world.proofs.Carrying.{same_call, call_within, set_here, set_elsewhere, Tallied, tallied, taken_by-count, no_length, awake_sleeps}
+use Rattle.parking_lot_world.proofs.WakesRoom.{wakes_few}
+use Rattle.std.proofs.lemmas.List.Sums.{count_by-le-length}
 use Rattle.parking_lot_world.proofs.LotActs.{same_section, outside_of, seat_of, awake_by, sits, seats_still, still_said}
 
 -- who waits has joined the list, or sleeps
@@ -262,22 +264,30 @@ module _ (s : State) (t : ℕ) (c : Call) (h : LotFits s) (here : call_at s t �
         go (inr x) (inl y) = absurd (not_yet m f y (sym same ∙ ap (λ (g : Wakeup). g.thread) x.0))
         go (inr x) (inr y) = x.1 ∙ sym y.1
 
-    took_tally : (x : ℕ) → length (taken_by u.wakes x) ≡ tally (call_at u x)
-    took_tally x =
-        let more : length (taken_by u.wakes x) ≡ length (taken_by s.wakes x) + flag (t == x) = taken_by-count u.wakes x ∙ (count_by-push (is_by x) s.wakes entry ∙ ap (λ (n : ℕ). n + flag (t == x)) (sym (taken_by-count s.wakes x))) in
-        let old : length (taken_by s.wakes x) ≡ tally (call_at s x) = tallied s h x in
-        by_eqb x t (length (taken_by u.wakes x) ≡ tally (call_at u x))
-        (λ e.
-        let one : flag (t == x) ≡ 1 = ap flag (eq-eqb t x (sym e)) in
-        let before : tally (call_at s x) ≡ taken_count c.core = ap (λ (y : ℕ). tally (call_at s y)) e ∙ ap tally here in
-        let now : tally (call_at u x) ≡ taken_count takes.core = ap (λ (y : ℕ). tally (call_at u y)) e ∙ ap tally call_mine in
-        more ∙ omega arith)
-        (λ e.
-        let zero_more : flag (t == x) ≡ 0 = ap flag (eqb_false_symm x t e) in
-        let same : tally (call_at u x) ≡ tally (call_at s x) = by_eqb x v (tally (call_at u x) ≡ tally (call_at s x))
-        (λ f. ap (λ (y : ℕ). tally (call_at u y)) f ∙ (ap tally call_taken ∙ (sym (ap tally z.there) ∙ ap (λ (y : ℕ). tally (call_at s y)) (sym f))))
-        (λ f. ap tally (call_other x e f)) in
-        more ∙ omega arith)
+    took_more : (x : ℕ) → length (taken_by u.wakes x) ≡ length (taken_by s.wakes x) + flag (t == x)
+    took_more x = taken_by-count u.wakes x ∙ (count_by-push (is_by x) s.wakes entry ∙ ap (λ (n : ℕ). n + flag (t == x)) (sym (taken_by-count s.wakes x)))
+
+    -- it counts one more
+    took_mine : IsCounted (length u.calls) (length (taken_by u.wakes t)) takes.core
+    took_mine =
+        let one : flag (t == t) ≡ 1 = ap flag (eq-eqb t t refl) in
+        let before : length (taken_by s.wakes t) ≡ taken_count c.core = (h.counted t c here).all (subst IsInside (sym from) tt) in
+        let now : length (taken_by u.wakes t) ≡ taken_count takes.core = omega (arith, took_more t, one, before, counts) in
+        let all : length u.wakes ≤ length u.calls = wakes_few (length u.calls) u.wakes (λ i e at. let x = took_woken i e at in call_within u e.thread x.call x.here) took_once in
+        let some : count_by (is_by t) u.wakes ≤ length u.wakes = count_by-le-length (is_by t) u.wakes in
+        record { most = omega (arith, now); few = omega (arith, now, all, some, taken_by-count u.wakes t); all = λ i. now }
+
+    took_same : (x : ℕ) → (x == t) ≡ false → length (taken_by u.wakes x) ≡ length (taken_by s.wakes x)
+    took_same x e = let none : flag (t == x) ≡ 0 = ap flag (eqb_false_symm x t e) in omega (arith, took_more x, none)
+
+    took_tally : (x : ℕ) → Tallied (length u.calls) (length (taken_by u.wakes x)) (call_at u x)
+    took_tally x = by_eqb x t (Tallied (length u.calls) (length (taken_by u.wakes x)) (call_at u x))
+        (λ e. subst (λ (y : ℕ). Tallied (length u.calls) (length (taken_by u.wakes y)) (call_at u y)) (sym e) (subst (Tallied (length u.calls) (length (taken_by u.wakes t))) (sym call_mine) took_mine))
+        (λ e. subst (λ (n : ℕ). Tallied n (length (taken_by u.wakes x)) (call_at u x)) (sym took_length)
+        (subst (λ (n : ℕ). Tallied (length s.calls) n (call_at u x)) (sym (took_same x e))
+        (by_eqb x v (Tallied (length s.calls) (length (taken_by s.wakes x)) (call_at u x))
+        (λ f. subst (λ (y : ℕ). Tallied (length s.calls) (length (taken_by s.wakes y)) (call_at u y)) (sym f) (subst (Tallied (length s.calls) (length (taken_by s.wakes v))) (sym call_taken) (h.counted v z.call z.there)))
+        (λ f. subst (Tallied (length s.calls) (length (taken_by s.wakes x))) (sym (call_other x e f)) (tallied s h x)))))
 
     took_wakeful : (x : ℕ) (d : Call) → call_at u x ≡ Some d → WakesSome d.core
     took_wakeful x d is = by_eqb x t (WakesSome d.core)
@@ -298,8 +308,8 @@ module _ (s : State) (t : ℕ) (c : Call) (h : LotFits s) (here : call_at s t �
           owed = took_owed;
           woken = took_woken;
           once = took_once;
-          counted = λ x d there. took_tally x ∙ ap tally there;
-          untaken = λ x there. no_length (taken_by u.wakes x) (took_tally x ∙ ap tally there);
+          counted = λ x d there. subst (Tallied (length u.calls) (length (taken_by u.wakes x))) there (took_tally x);
+          untaken = λ x there. no_length (taken_by u.wakes x) (subst (Tallied (length u.calls) (length (taken_by u.wakes x))) there (took_tally x));
           wakeful = took_wakeful;
         }
 

@@ -1,5 +1,5 @@
 -- Waking one that was taken keeps what fits of the lot.
-use Rattle.std.proofs.Common.{◌≡◌, ◌<◌, ℕ, ◌+◌, ◌-◌, ◌*◌, ◌==◌, ◌⊎◌, inl, inr, false, length, remove, Option, Some, slice_get, slice_set, count_by, refl, sym, ap, ◌∙◌, subst, arith, eq-eqb}
+use Rattle.std.proofs.Common.{◌≡◌, ◌<◌, ℕ, ◌+◌, ◌-◌, ◌*◌, ◌==◌, ◌⊎◌, inl, inr, false, length, Option, Some, slice_get, slice_set, refl, sym, ap, ◌∙◌, subst, arith, eq-eqb}
 use Rattle.std.specs.List.{position_or_len}
 use Rattle.std.specs.Option.{option_map_or}
 use Rattle.std.proofs.lemmas.Bool.{ne_eqb, eqb-false}
@@ -14,7 +14,7 @@ use Rattle.parking_lot_core_lot.specs.declared.place.Waiter.{Waiter}
 use Rattle.parking_lot_core_lot.specs.Places.{place_at, mark_of}
 use Rattle.parking_lot_core_lot.specs.Sound.{Sound}
 use Rattle.parking_lot_core_lot.proofs.Kept.{eqb_false_symm}
-use Rattle.parking_lot_core_lot.proofs.Numbers.{flag, count_by-remove}
+use Rattle.parking_lot_core_lot.proofs.Numbers.{flag}
 use Rattle.parking_lot_core_lot.proofs.Sounds.{by_eqb, place_at-set_same, place_at-set_other}
 use Rattle.parking_lot_protocol.specs.declared.act.ActResult.TheVariants as seen
 use Rattle.parking_lot_world.specs.declared.seat.WakeResult.{WakeResult}
@@ -24,10 +24,10 @@ use Rattle.parking_lot_world.specs.declared.seat.Wakeup.{Wakeup}
 use Rattle.parking_lot_world.specs.Rows.{State, call_at, is_by, taken_by}
 use Rattle.parking_lot_world.specs.Stances.{Out, Asleep, stance, taken_count}
 use Rattle.parking_lot_world.specs.RowActs.{hears, woke, told_of}
-use Rattle.parking_lot_world.specs.RowFits.{IsAt, IsOutside, SaidIn, Seated, Awaits, IsTaken, IsOwed, WakesSome, LotFits}
+use Rattle.parking_lot_world.specs.RowFits.{IsAt, IsCounted, IsInside, IsOutside, SaidIn, Seated, Awaits, IsTaken, IsOwed, WakesSome, LotFits}
 use Rattle.parking_lot_world.proofs.Stancing.{sleepers_wake, wakes_some}
 use Rattle.parking_lot_world.proofs.Indexing.{get_remove, kept_remove, apart_before, not_removed}
-use Rattle.parking_lot_world.proofs.Carrying.{same_call, call_within, set_here, set_elsewhere, tally, tallied, taken_by-count, no_length}
+use Rattle.parking_lot_world.proofs.Carrying.{same_call, call_within, set_here, set_elsewhere, Tallied, dropped, tallied, no_length}
 use Rattle.parking_lot_world.proofs.LotActs.{seat_of, sits}
 
 same_wakeup : {e f : Wakeup} → Some e ≡ Some f → e ≡ f
@@ -185,24 +185,29 @@ module _ (s : State) (t : ℕ) (c : Call) (h : LotFits s) (here : call_at s t �
           let b = get_remove s.wakes i m g is' in
           apart_before i n m a.0 b.0 a.2 b.2 (h.once a.0 b.0 f g a.1 b.1 same)
 
-      woke_tally : (x : ℕ) → length (taken_by u.wakes x) ≡ tally (call_at u x)
-      woke_tally x =
-          let less : count_by (is_by x) (remove s.wakes i) + flag (e.by == x) ≡ count_by (is_by x) s.wakes = count_by-remove (is_by x) s.wakes i e first in
-          let now : length (taken_by u.wakes x) ≡ count_by (is_by x) (remove s.wakes i) = taken_by-count u.wakes x in
-          let was : length (taken_by s.wakes x) ≡ count_by (is_by x) s.wakes = taken_by-count s.wakes x in
-          let old : length (taken_by s.wakes x) ≡ tally (call_at s x) = tallied s h x in
-          by_eqb x t (length (taken_by u.wakes x) ≡ tally (call_at u x))
-          (λ f.
-          let one : flag (e.by == x) ≡ 1 = ap flag (eq-eqb e.by x (by_t ∙ sym f)) in
-          let before : tally (call_at s x) ≡ taken_count c.core = ap (λ (y : ℕ). tally (call_at s y)) f ∙ ap tally here in
-          let after : tally (call_at u x) ≡ taken_count rouses.core = ap (λ (y : ℕ). tally (call_at u y)) f ∙ ap tally call_mine in
-          omega arith)
-          (λ f.
-          let none : flag (e.by == x) ≡ 0 = ap flag (ne_eqb e.by x (λ same. eqb-false x t f (sym same ∙ by_t))) in
-          let same : tally (call_at u x) ≡ tally (call_at s x) = by_eqb x e.thread (tally (call_at u x) ≡ tally (call_at s x))
-          (λ g. ap (λ (y : ℕ). tally (call_at u y)) g ∙ (ap tally call_woken ∙ (awake.2 ∙ (sym awake.0 ∙ (sym (ap tally there) ∙ ap (λ (y : ℕ). tally (call_at s y)) (sym g))))))
-          (λ g. ap tally (call_other x f g)) in
-          omega arith)
+      -- it counts one fewer
+      woke_mine : IsCounted (length u.calls) (length (taken_by u.wakes t)) rouses.core
+      woke_mine =
+          let less = dropped s.wakes i e first t in
+          let one : flag (e.by == t) ≡ 1 = ap flag (eq-eqb e.by t by_t) in
+          let before = h.counted t c here in
+          record { most = omega (arith, less, one, before.most, counts); few = omega (arith, before.few, counts, woke_length); all = λ q. absurd (subst IsInside to q) }
+
+      -- and the one that is woken has taken nobody
+      woke_its : IsCounted (length s.calls) (length (taken_by s.wakes e.thread)) roused_call.core
+      woke_its = let before = h.counted e.thread d there in record { most = omega (arith, before.most, awake.0); few = omega (arith, awake.2); all = λ q. absurd (subst IsInside awake.1 q) }
+
+      woke_same : (x : ℕ) → (x == t) ≡ false → length (taken_by u.wakes x) ≡ length (taken_by s.wakes x)
+      woke_same x f = let none : flag (e.by == x) ≡ 0 = ap flag (ne_eqb e.by x (λ same. eqb-false x t f (sym same ∙ by_t))) in omega (arith, dropped s.wakes i e first x, none)
+
+      woke_tally : (x : ℕ) → Tallied (length u.calls) (length (taken_by u.wakes x)) (call_at u x)
+      woke_tally x = by_eqb x t (Tallied (length u.calls) (length (taken_by u.wakes x)) (call_at u x))
+          (λ f. subst (λ (y : ℕ). Tallied (length u.calls) (length (taken_by u.wakes y)) (call_at u y)) (sym f) (subst (Tallied (length u.calls) (length (taken_by u.wakes t))) (sym call_mine) woke_mine))
+          (λ f. subst (λ (n : ℕ). Tallied n (length (taken_by u.wakes x)) (call_at u x)) (sym woke_length)
+          (subst (λ (n : ℕ). Tallied (length s.calls) n (call_at u x)) (sym (woke_same x f))
+          (by_eqb x e.thread (Tallied (length s.calls) (length (taken_by s.wakes x)) (call_at u x))
+          (λ g. subst (λ (y : ℕ). Tallied (length s.calls) (length (taken_by s.wakes y)) (call_at u y)) (sym g) (subst (Tallied (length s.calls) (length (taken_by s.wakes e.thread))) (sym call_woken) woke_its))
+          (λ g. subst (Tallied (length s.calls) (length (taken_by s.wakes x))) (sym (call_other x f g)) (tallied s h x)))))
 
       woke_wakeful : (x : ℕ) (z : Call) → call_at u x ≡ Some z → WakesSome z.core
       woke_wakeful x z is = by_eqb x t (WakesSome z.core)
@@ -220,7 +225,7 @@ module _ (s : State) (t : ℕ) (c : Call) (h : LotFits s) (here : call_at s t �
         owed = woke_owed;
         woken = woke_woken;
         once = woke_once;
-        counted = λ x z is. woke_tally x ∙ ap tally is;
-        untaken = λ x is. no_length (taken_by u.wakes x) (woke_tally x ∙ ap tally is);
+        counted = λ x z is. subst (Tallied (length u.calls) (length (taken_by u.wakes x))) is (woke_tally x);
+        untaken = λ x is. no_length (taken_by u.wakes x) (subst (Tallied (length u.calls) (length (taken_by u.wakes x))) is (woke_tally x));
         wakeful = woke_wakeful;
       }

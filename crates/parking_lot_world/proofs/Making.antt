@@ -22,6 +22,7 @@ use Rattle.parking_lot_rules.proofs.MutexCrossing.{families_stay_sound}
 use Rattle.parking_lot_world.proofs.Everybody.{was-all}
 use Rattle.parking_lot_world.proofs.KindTable.{Kind, of_rws, of_mutexes, IsThere, Elsewhere, elsewhere, idle_in, role_at, shown}
 use Rattle.parking_lot_world.proofs.Moves.{goes, ends}
+use Rattle.parking_lot_world.specs.LateActs.{unowed}
 
 -- who is inside, where thread t crosses so
 abbrev pub Crossed : Crossing → ℕ → Option ℕ → Option ℕ → Type 0
@@ -98,7 +99,8 @@ made_sound s u t j step made sound = families_stay_sound (recursive_in s.kinds) 
 
 -- whichever move it is
 pub move_sound : (s u : State) (x : Core) (n : ℕ) (us : List ℕ) (told : ActResult) (j t : ℕ) → IsMoveOf x n us told j t s u → IsSoundState s → IsSoundState u
-move_sound s u x n us told j t h sound = goes s u (λ t j. IsSoundState u) (λ t j q. quiet_sound s u q sound) (λ t j step m. made_sound s u t j step m sound) x n us told j t h
+move_sound s u x n us told j t h sound = goes s u (λ t j. IsSoundState u) (λ t j q. quiet_sound s u q sound) (λ t j step m. made_sound s u t j step m sound)
+    (λ t j by passing finding passes f. made_sound (unowed s t) u t j finding f.1 (made_sound s (unowed s t) by j passing f.0 sound)) x n us told j t h
 
 pub last_sound : (s u : State) (x : Core) (n j t : ℕ) → IsLastOf x n j t s u → IsSoundState s → IsSoundState u
 last_sound s u x n j t h sound = ends s u (λ t j. IsSoundState u) (λ t j q. quiet_sound s u q sound) (λ t j step m. made_sound s u t j step m sound) x n j t h
@@ -116,22 +118,29 @@ RwLeadsBy recursive (of_rw.Tells end left) t l n = (scan : Scan) × IsStep recur
 RwLeadsBy recursive of_rw.WakesOne t l n = (owns : Owned) × (v : ℕ) × (us : List ℕ) × (k : _) × (stay : Stay) × IsStep recursive t (Wake owns v us k stay) l n
 RwLeadsBy recursive (of_rw.IsWoken k) t l n = ⊥
 
-pub rw_goes : (s u : State) (t j : ℕ) (m : of_rw.Move) (n : Lock) → IsThere j (call_at s t) → Elsewhere j s u → manner_of (slice_get s.kinds j) ≡ Some AsRw → RwLeadsBy (recursive_in s.kinds j) m t (rw_lock_at s j) n → rw_lock_at u j ≡ n
-    → Crossed (rw_laws.move_crossing m) t (inside s) (inside u) → IsRwMove m j t s u
-rw_goes s u t j of_rw.Stays n there others k leads here crossed = quiet of_rws s u t j there others k (here ∙ leads) crossed
-rw_goes s u t j (of_rw.Makes x) n there others k leads here crossed = made of_rws s u t j there others k (RwStep (Alone x)) leads.0 (ap Rw (here ∙ sym leads.1)) crossed
-rw_goes s u t j (of_rw.Joins x) n there others k leads here crossed = made of_rws s u t j there others k (RwStep (List_changes x)) leads.0 (ap Rw (here ∙ sym leads.1)) crossed
-rw_goes s u t j (of_rw.TakesOne mode) n there others k (scan, i, v, stay, leads) here crossed = (scan, i, v, stay, made of_rws s u t j there others k (RwStep (Take1 scan i v mode stay)) leads.0 (ap Rw (here ∙ sym leads.1)) crossed)
-rw_goes s u t j of_rw.TakesWriter n there others k (owns, v, from, stay, leads) here crossed = (owns, v, from, stay, made of_rws s u t j there others k (RwStep (Take2 owns v from stay)) leads.0 (ap Rw (here ∙ sym leads.1)) crossed)
-rw_goes s u t j (of_rw.Tells end left) n there others k (scan, leads) here crossed = (scan, made of_rws s u t j there others k (RwStep (Store end scan)) leads.0 (ap Rw (here ∙ sym leads.1)) crossed)
-rw_goes s u t j of_rw.WakesOne n there others k (owns, v, us, w, stay, leads) here crossed = (owns, v, us, w, stay, made of_rws s u t j there others k (RwStep (Wake owns v us w stay)) leads.0 (ap Rw (here ∙ sym leads.1)) crossed)
-rw_goes s u t j (of_rw.IsWoken x) n there others k leads here crossed = absurd leads
+-- one that wakes has somebody to wake
+abbrev pub SomeFor : of_rw.Move → List ℕ → Type 0
+SomeFor of_rw.WakesOne [] = ⊥
+SomeFor m us = Unit {0}
+
+pub rw_goes : (s u : State) (t j : ℕ) (m : of_rw.Move) (us : List ℕ) (n : Lock) → IsThere j (call_at s t) → Elsewhere j s u → manner_of (slice_get s.kinds j) ≡ Some AsRw → RwLeadsBy (recursive_in s.kinds j) m t (rw_lock_at s j) n → rw_lock_at u j ≡ n
+    → Crossed (rw_laws.move_crossing m) t (inside s) (inside u) → SomeFor m us → IsRwMove m us j t s u
+rw_goes s u t j of_rw.Stays us n there others k leads here crossed some = quiet of_rws s u t j there others k (here ∙ leads) crossed
+rw_goes s u t j (of_rw.Makes x) us n there others k leads here crossed some = made of_rws s u t j there others k (RwStep (Alone x)) leads.0 (ap Rw (here ∙ sym leads.1)) crossed
+rw_goes s u t j (of_rw.Joins x) us n there others k leads here crossed some = made of_rws s u t j there others k (RwStep (List_changes x)) leads.0 (ap Rw (here ∙ sym leads.1)) crossed
+rw_goes s u t j (of_rw.TakesOne mode) us n there others k (scan, i, v, stay, leads) here crossed some = (scan, i, v, stay, made of_rws s u t j there others k (RwStep (Take1 scan i v mode stay)) leads.0 (ap Rw (here ∙ sym leads.1)) crossed)
+rw_goes s u t j of_rw.TakesWriter us n there others k (owns, v, from, stay, leads) here crossed some = (owns, v, from, stay, made of_rws s u t j there others k (RwStep (Take2 owns v from stay)) leads.0 (ap Rw (here ∙ sym leads.1)) crossed)
+rw_goes s u t j (of_rw.Tells end left) us n there others k (scan, leads) here crossed some = (scan, made of_rws s u t j there others k (RwStep (Store end scan)) leads.0 (ap Rw (here ∙ sym leads.1)) crossed)
+rw_goes s u t j of_rw.WakesOne [] n there others k leads here crossed some = absurd some
+rw_goes s u t j of_rw.WakesOne (first ∷ more) n there others k (owns, v, us, w, stay, leads) here crossed some = (owns, v, us, w, stay, made of_rws s u t j there others k (RwStep (Wake owns v us w stay)) leads.0 (ap Rw (here ∙ sym leads.1)) crossed)
+rw_goes s u t j (of_rw.IsWoken x) us n there others k leads here crossed some = absurd leads
 
 -- THE MOVES OF A MUTEX
 
--- one that tells has taken those whom its phase says
+-- one that tells has taken those whom its phase says, and one that wakes has just the one to wake
 abbrev pub TellsOf : of_mutex.Move → List ℕ → ℕ → Type 0
 TellsOf (of_mutex.Tells taken handed left) us v = us ≡ of_mutex.taken_of v taken
+TellsOf of_mutex.WakesOne us v = us ≡ v ∷ []
 TellsOf m us v = Unit {0}
 
 pub mutex_goes : (s u : State) (t j v : ℕ) (us : List ℕ) (n : mutex.Mutex) (m : of_mutex.Move) → IsThere j (call_at s t) → Elsewhere j s u → manner_of (slice_get s.kinds j) ≡ Some AsMutex
@@ -149,6 +158,7 @@ mutex_goes s u t j v us n (of_mutex.Tells taken handed left) there others k lead
     stores true [] = crossed
     stores false vs = crossed
 mutex_goes s u t j v us n of_mutex.WakesOne there others k leads here crossed tells =
+    subst (λ (vs : List ℕ). IsMutexMove of_mutex.WakesOne vs j t s u) (sym tells)
     (leads.0, v, [], leads.1, made of_mutexes s u t j there others k (MxStep (wake_step_of leads.1 leads.0 v [])) leads.2.0 (ap Mx (here ∙ sym leads.2.1)) (wakes leads.0))
   where
     wakes : (b : Bool) → Crossed (mutex_crossing (wake_step_of leads.1 b v [])) t (inside s) (inside u)

@@ -1,5 +1,5 @@
 -- A thread in a call at a lock of the machine, as one lock sees it.
-use Rattle.std.proofs.Common.{◌≡◌, ℕ, ◌+◌, ◌*◌, ◌<◌, ◌≤◌, ◌^◌, inl, inr, ◌==◌, cond, Bool, true, false, List, length, Option, Some, None, slice_get, refl, sym, ap, ◌∙◌, subst, arith}
+use Rattle.std.proofs.Common.{◌≡◌, ℕ, ◌+◌, ◌*◌, ◌<◌, ◌≤◌, ◌^◌, inl, inr, ◌==◌, cond, Bool, true, false, List, length, Option, Some, None, slice_get, refl, sym, ap, ◌∙◌, subst, arith, [], ◌∷◌}
 use Rattle.std.proofs.lemmas.Bool.{cases_lt}
 use Rattle.std.proofs.lemmas.Option.{none-some, slice_get_past}
 use Rattle.std.proofs.lemmas.List.{length-map}
@@ -27,8 +27,10 @@ use Rattle.parking_lot_world.specs.declared.seat.LatePhase.{LatePhase}
 use Rattle.parking_lot_world.specs.declared.seat.Core.{Core}
 use Rattle.parking_lot_world.specs.declared.open_call.Call.{Call}
 use Rattle.parking_lot_world.specs.Rows.{State, word_at, hold_at, call_at, is_by, taken_by, owned_of, rw_role_in, rw_role_at, rw_core_role, rw_lock_at, mutex_at, mutex_spot, late_role, first_of_all, lock_as, rw_spot}
-use Rattle.parking_lot_world.specs.Stances.{core_next, has_begun, taken_count}
-use Rattle.parking_lot_world.specs.RowFits.{FitsTogether, is_away, IsOfKind, IsPrepared, KnowsList}
+use Rattle.parking_lot_world.specs.Stances.{core_next, has_begun, mutex_taken}
+use Rattle.parking_lot_protocol.specs.MutexTable as mutex_table
+use Rattle.parking_lot_protocol.specs.declared.act.SectionAct.TheVariants as section
+use Rattle.parking_lot_world.specs.RowFits.{FitsTogether, is_away, IsOfKind, IsPrepared, KnowsList, IsCounted}
 use Rattle.parking_lot_world.specs.MutexLaws.{Plays}
 use Rattle.parking_lot_world.proofs.MutexRoles.{words}
 use Rattle.parking_lot_upgrades.specs.UpgradeRoles as of_upgrade
@@ -37,10 +39,13 @@ use Rattle.parking_lot_upgrades.specs.declared.upgrade_phase.Hold.TheVariants as
 use Rattle.parking_lot_upgrades.specs.declared.upgrade_phase.UpgradePhase.{UpgradePhase}
 use Rattle.parking_lot_world.proofs.RwCalls.{CallLearns, CallMeets, CallTold, CallWants, call_few, call_goes_on, call_knows, call_room, stands_prepared}
 use Rattle.parking_lot_world.proofs.Everybody.{was-all, length-all}
-use Rattle.parking_lot_world.proofs.KindTable.{Plain, Late, RwCall, in_its_place, next_is, of_mutexes, of_rws, rw_call}
+use Rattle.parking_lot_world.proofs.KindTable.{Plain, Late, RwCall, in_its_place, next_is, of_mutexes, of_rws, rw_call, mutex_exact, role_by}
 use Rattle.parking_lot_world.specs.declared.late_rw.LateRwPhase.{LateRwPhase}
 use Rattle.parking_lot_world.specs.declared.late_rw.RwSleeper.{RwSleeper}
 use Rattle.parking_lot_world.specs.LateRoles.{late_rw_role}
+use Rattle.parking_lot_protocol.specs.declared.act.Act.{Act}
+use Rattle.parking_lot_protocol.specs.declared.mutex_phase.Giving.{Giving}
+use Rattle.parking_lot_protocol.specs.declared.mutex_phase.MutexPhase.{MutexPhase}
 
 -- who is in a call is a thread of the machine
 pub in_range : (s : State) (t : ℕ) (c : Call) → call_at s t ≡ Some c → t < length s.calls
@@ -96,6 +101,8 @@ tardy_few n at us (LateRwPhase.Expires (RwSleeper.Simple c)) = owns_few n c.phas
 tardy_few n at us (LateRwPhase.Expires (RwSleeper.Upgradable c)) = upgrade_few n c.phase
 tardy_few n at us (LateRwPhase.Quits (RwSleeper.Simple c)) = owns_few n c.phase
 tardy_few n at us (LateRwPhase.Quits (RwSleeper.Upgradable c)) = upgrade_few n c.phase
+tardy_few n at us (LateRwPhase.WasTaken (RwSleeper.Simple c) by handed) = owns_few n c.phase
+tardy_few n at us (LateRwPhase.WasTaken (RwSleeper.Upgradable c) by handed) = upgrade_few n c.phase
 tardy_few n at us p = omega arith
 
 module _ (s : State) (h : FitsTogether s) where
@@ -129,21 +136,32 @@ module _ (s : State) (h : FitsTogether s) where
   pub meets : (t : ℕ) (c : Call) (k : RwCall) → c.core ≡ rw_call k → call_at s t ≡ Some c → CallMeets (recursive_in s.kinds c.lock) (rw_lock_at s c.lock) t c.others c.spot (taken_by s.wakes t) k (word_at s c.lock)
   meets t c k e here =
       let ready = subst (IsPrepared (recursive_in s.kinds c.lock) c.others) e (h.rules.prepared t c here) in
-      let counted = h.lots.counted t c here ∙ ap taken_count e in
+      let counted = subst (IsCounted (length s.calls) (length (taken_by s.wakes t))) e (h.lots.counted t c here) in
       record {
         sound = rw_sound c.lock (of_rws.of_kind (slice_get s.kinds c.lock) k (subst (IsOfKind (slice_get s.kinds c.lock)) e (h.rules.kinds t c here)));
         word = refl;
         here = in_its_place of_rws s t c k (in_range s t c here) here e;
-        stands = stands_prepared (recursive_in s.kinds c.lock) c.others (taken_by s.wakes t) k ready counted (call_few (taken_by s.wakes t) k (few_taken s h t) counted);
+        stands = stands_prepared (recursive_in s.kinds c.lock) (length s.calls) c.others (taken_by s.wakes t) k ready counted (call_few k (omega (arith, counted.few, h.rules.small)));
         threads = omega (arith, length-all (rw_role_at s c.lock) 0 (length s.calls), h.rules.small);
         few = λ u x at. subst (λ (q : Role). shared_holds q.owns ≤ 256) (sym (was-all (rw_role_at s c.lock) (length s.calls) u x at)) (role_few c.lock u (call_at s u) refl);
       }
 
+  -- whom it has taken are as many as its phase says, where it doesn't wake them
+  pub exact : (t : ℕ) (c : Call) (k : MutexCore) → c.core ≡ Core.Mutex k → call_at s t ≡ Some c → (mutex_table.act_of k.phase ≡ Act.Section section.Wake → ⊥) → length (taken_by s.wakes t) ≡ mutex_taken k.phase
+  exact t c k e here awake = mutex_exact (length s.calls) (length (taken_by s.wakes t)) k (subst (IsCounted (length s.calls) (length (taken_by s.wakes t))) e (h.lots.counted t c here)) awake
+
   -- thread t plays the part of its call's phase
-  pub plays : (t : ℕ) (c : Call) (k : MutexCore) → c.core ≡ Core.Mutex k → call_at s t ≡ Some c → Plays (mutex_at s c.lock) (word_at s c.lock) t (of_mutex.role (mutex_spot c.spot) (first_of_all (taken_by s.wakes t)) k.phase)
-  plays t c k e here =
+  pub plays : (t : ℕ) (c : Call) (k : MutexCore) → c.core ≡ Core.Mutex k → call_at s t ≡ Some c → (mutex_table.act_of k.phase ≡ Act.Section section.Wake → ⊥) → Plays (mutex_at s c.lock) (word_at s c.lock) t (of_mutex.role (mutex_spot c.spot) (first_of_all (taken_by s.wakes t)) k.phase)
+  plays t c k e here awake =
       let kind_is = subst (IsOfKind (slice_get s.kinds c.lock)) e (h.rules.kinds t c here) in
-      record { sound = mutex_sound c.lock kind_is; word = sym (words.forth (word_at s c.lock) (h.rules.bits c.lock kind_is)); here = in_its_place of_mutexes s t c (Plain k) (in_range s t c here) here e }
+      record { sound = mutex_sound c.lock kind_is; word = sym (words.forth (word_at s c.lock) (h.rules.bits c.lock kind_is)); here = in_its_place of_mutexes s t c (Plain k) (in_range s t c here) here e ∙ ap Some (role_by (mutex_spot c.spot) (taken_by s.wakes t) k.phase (exact t c k e here awake)) }
+
+  -- one that is to wake somebody waits for just that one
+  pub plays_waking : (t : ℕ) (c : Call) (g : Giving) (k : MutexCore) → c.core ≡ Core.Mutex (record k { phase = MutexPhase.Wakes g }) → call_at s t ≡ Some c → (v : ℕ) → taken_by s.wakes t ≡ v ∷ []
+      → Plays (mutex_at s c.lock) (word_at s c.lock) t (of_mutex.role (mutex_spot c.spot) v (MutexPhase.Wakes g))
+  plays_waking t c g k e here v one =
+      let kind_is = subst (IsOfKind (slice_get s.kinds c.lock)) e (h.rules.kinds t c here) in
+      record { sound = mutex_sound c.lock kind_is; word = sym (words.forth (word_at s c.lock) (h.rules.bits c.lock kind_is)); here = in_its_place of_mutexes s t c (Plain (record k { phase = MutexPhase.Wakes g })) (in_range s t c here) here e ∙ ap (λ us. Some (mutex.doing (mutex.Wakes us))) one }
 
   -- and so does one whose moment has passed
   pub plays_late : (t : ℕ) (c : Call) (p : LatePhase) → c.core ≡ Core.Late p → call_at s t ≡ Some c → Plays (mutex_at s c.lock) (word_at s c.lock) t (late_role (mutex_spot c.spot) p)

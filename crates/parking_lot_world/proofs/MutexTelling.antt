@@ -29,7 +29,7 @@ use Rattle.parking_lot_world.specs.declared.seat.QueuePosition.{QueuePosition}
 use Rattle.parking_lot_world.specs.declared.seat.LatePhase.{LatePhase}
 use Rattle.parking_lot_world.specs.declared.seat.Core.{Core}
 use Rattle.parking_lot_world.specs.declared.open_call.Call.{Call}
-use Rattle.parking_lot_world.specs.Rows.{mark_of, late_role, mutex_spot, mutex_core_role, owns_mutex, first_of_all}
+use Rattle.parking_lot_world.specs.Rows.{mark_of, late_role, mutex_spot, mutex_core_role, owns_mutex, mutex_role}
 use Rattle.parking_lot_world.specs.RowActs.{settled_spot, mutex_hold_after}
 use Rattle.parking_lot_world.specs.RowFits.{mutex_knows}
 use Rattle.parking_lot_world.specs.MutexLaws.{TellingsSettle, HoldsAreAnswered, TakersKnow, MutexIsShown, settle_spot}
@@ -56,9 +56,9 @@ sleeper_of m t u us v (QueuePosition.Off by WakeResult.TryAgain) sound here ther
 sleeper_of m t u us v (QueuePosition.Off by WakeResult.HandedOver) sound here there = tt
 
 module _ (m : rules.Mutex) (t u : ℕ) (us vs : List ℕ) (said : WakeResult) (sound : rules.IsSound m) (here : slice_get m.roles t ≡ Some (rules.doing (rules.Unlocks us))) where
-  pub tells_phase : (v : ℕ) (at : QueuePosition) (p : MutexPhase) → slice_get m.roles u ≡ Some (role (mutex_spot at) v p) → role (mutex_spot (settled_spot t said at)) v p ≡ rules.settle (mark_of said) (role (mutex_spot at) v p)
-  tells_phase v at Sleeps there = ap (λ x. role x v Sleeps) (settles_spot t said at (sleeper_of m t u us v at sound here there)) ∙ sym (settled_role (mark_of said) (mutex_spot at) v Sleeps)
-  tells_phase v at p there = refl
+  pub tells_phase : (at : QueuePosition) (p : MutexPhase) → slice_get m.roles u ≡ Some (mutex_role (mutex_spot at) vs p) → mutex_role (mutex_spot (settled_spot t said at)) vs p ≡ rules.settle (mark_of said) (mutex_role (mutex_spot at) vs p)
+  tells_phase at Sleeps there = ap (λ x. role x 0 Sleeps) (settles_spot t said at (sleeper_of m t u us 0 at sound here there)) ∙ sym (settled_role (mark_of said) (mutex_spot at) 0 Sleeps)
+  tells_phase at p there = refl
 
   pub tells_late : (at : QueuePosition) (p : LatePhase) → slice_get m.roles u ≡ Some (late_role (mutex_spot at) p) → late_role (mutex_spot (settled_spot t said at)) p ≡ rules.settle (mark_of said) (late_role (mutex_spot at) p)
   tells_late QueuePosition.Listed LatePhase.Expires there = refl
@@ -66,14 +66,16 @@ module _ (m : rules.Mutex) (t u : ℕ) (us vs : List ℕ) (said : WakeResult) (s
       ap (λ b. rules.doing (rules.Taken by (mark_of (cond b said WakeResult.Nothing)) Late)) (eq-eqb by t (opener m t u by us (rules.doing (rules.Taken by Open Late)) sound here there refl))
   tells_late (QueuePosition.Off by WakeResult.TryAgain) LatePhase.Expires there = refl
   tells_late (QueuePosition.Off by WakeResult.HandedOver) LatePhase.Expires there = refl
+  tells_late at (LatePhase.WasTaken by true) there = refl
+  tells_late at (LatePhase.WasTaken by false) there = refl
   tells_late at p there = refl
 
   pub tells_call : (at : QueuePosition) (k : MutexCall) → slice_get m.roles u ≡ Some (mutex_plays at vs k) → mutex_plays (settled_spot t said at) vs k ≡ rules.settle (mark_of said) (mutex_plays at vs k)
-  tells_call at (Plain k) there = tells_phase (first_of_all vs) at k.phase there
+  tells_call at (Plain k) there = tells_phase at k.phase there
   tells_call at (CallLate p) there = tells_late at p there
 
   tells_core : (at : QueuePosition) (k : Core) → slice_get m.roles u ≡ Some (mutex_core_role at vs k) → mutex_core_role (settled_spot t said at) vs k ≡ rules.settle (mark_of said) (mutex_core_role at vs k)
-  tells_core at (Core.Mutex c) there = tells_phase (first_of_all vs) at c.phase there
+  tells_core at (Core.Mutex c) there = tells_phase at c.phase there
   tells_core at (Core.Rw c) there = refl
   tells_core at (Core.Upgrade c) there = refl
   tells_core at (Core.LateRw p) there = refl
@@ -205,12 +207,12 @@ module _ (m : rules.Mutex) (t u : ℕ) (vs : List ℕ) (said : WakeResult) (soun
       let same : w.0 ≡ rules.doing rules.Masks = same_Some _ _ (sym w.1 ∙ ap (slice_get m.roles) e ∙ here) in
       absurd (omega (arith, subst (λ (r : rules.Role). 0 < occurs u (rules.wakes r Open)) same w.2)))
 
-  masks_plain : (v : ℕ) (at : QueuePosition) (p : MutexPhase) → slice_get m.roles u ≡ Some (role (mutex_spot at) v p) → role (mutex_spot (settled_spot t said at)) v p ≡ role (mutex_spot at) v p
-  masks_plain v QueuePosition.Listed Sleeps there = refl
-  masks_plain v (QueuePosition.Off by WakeResult.Nothing) Sleeps there = ap (λ b. rules.doing (rules.Taken by (mark_of (cond b said WakeResult.Nothing)) Asleep)) (none_of by Asleep there)
-  masks_plain v (QueuePosition.Off by WakeResult.TryAgain) Sleeps there = refl
-  masks_plain v (QueuePosition.Off by WakeResult.HandedOver) Sleeps there = refl
-  masks_plain v at p there = refl
+  masks_plain : (at : QueuePosition) (p : MutexPhase) → slice_get m.roles u ≡ Some (mutex_role (mutex_spot at) vs p) → mutex_role (mutex_spot (settled_spot t said at)) vs p ≡ mutex_role (mutex_spot at) vs p
+  masks_plain QueuePosition.Listed Sleeps there = refl
+  masks_plain (QueuePosition.Off by WakeResult.Nothing) Sleeps there = ap (λ b. rules.doing (rules.Taken by (mark_of (cond b said WakeResult.Nothing)) Asleep)) (none_of by Asleep there)
+  masks_plain (QueuePosition.Off by WakeResult.TryAgain) Sleeps there = refl
+  masks_plain (QueuePosition.Off by WakeResult.HandedOver) Sleeps there = refl
+  masks_plain at p there = refl
 
   masks_late : (at : QueuePosition) (p : LatePhase) → slice_get m.roles u ≡ Some (late_role (mutex_spot at) p) → late_role (mutex_spot (settled_spot t said at)) p ≡ late_role (mutex_spot at) p
   masks_late QueuePosition.Listed LatePhase.Expires there = refl
@@ -220,5 +222,5 @@ module _ (m : rules.Mutex) (t u : ℕ) (vs : List ℕ) (said : WakeResult) (soun
   masks_late at p there = refl
 
   pub masks_call : (at : QueuePosition) (k : MutexCall) → slice_get m.roles u ≡ Some (mutex_plays at vs k) → mutex_plays (settled_spot t said at) vs k ≡ mutex_plays at vs k
-  masks_call at (Plain k) there = masks_plain (first_of_all vs) at k.phase there
+  masks_call at (Plain k) there = masks_plain at k.phase there
   masks_call at (CallLate p) there = masks_late at p there

@@ -1,12 +1,12 @@
 -- A thread's own acts, at a lock of either kind: they are steps of the rules, and keep the side of the rules.
-use Rattle.std.proofs.Common.{◌≡◌, ◌≢◌, ℕ, zero, suc, ◌+◌, ◌*◌, ◌<◌, ◌≤◌, ◌==◌, cond, Bool, true, false, List, [], Option, Some, None, slice_get, refl, sym, ap, ◌∙◌, subst, arith}
+use Rattle.std.proofs.Common.{◌≡◌, ◌≢◌, ℕ, zero, suc, ◌+◌, ◌*◌, ◌<◌, ◌≤◌, ◌==◌, cond, Bool, true, false, List, [], Option, Some, None, slice_get, refl, sym, ap, ◌∙◌, subst, arith, slice_set, length, inl, inr}
 use Rattle.std.proofs.lemmas.Bool.{both_ways}
 use Rattle.std.proofs.lemmas.Option.{none-some}
 use Rattle.parking_lot_core_lot.specs.Machine.{threads_of}
 use Rattle.parking_lot_rules.specs.Lists.{at_index}
 use Rattle.parking_lot_rules.specs.Classes.{Inside1, Inside2, weighs}
 use Rattle.parking_lot_rules.specs.Mutex as mutex
-use Rattle.parking_lot_rules.specs.Any.{AnyLock, Mx, MxStep, any_inside}
+use Rattle.parking_lot_rules.specs.Any.{AnyLock, Mx, MxStep, any_inside, mutex_crossing}
 use Rattle.parking_lot_rules.specs.Family.{Key, First, Second, Crossing}
 use Rattle.parking_lot_rules.proofs.MutexCrossing.{any_are_rules}
 use Rattle.parking_lot_protocol.specs.declared.act.Act.{Act}
@@ -18,30 +18,35 @@ use Rattle.parking_lot_world.specs.Kinds.{AsMutex, AsRw, manner_of, Manner, recu
 use Rattle.parking_lot_world.specs.declared.seat.LatePhase.{LatePhase}
 use Rattle.parking_lot_world.specs.declared.seat.Core.{Core}
 use Rattle.parking_lot_world.specs.declared.open_call.Call.{Call}
-use Rattle.parking_lot_world.specs.Rows.{State, word_at, taken_by, first_of_all, mutex_spot, rw_lock_at, mutex_at, lock_as, lock_at, inside}
-use Rattle.parking_lot_world.specs.Stances.{has_begun, core_act, core_next, late_act}
-use Rattle.parking_lot_world.specs.RowFits.{FitsTogether, RulesFit, IsOfKind, IsPrepared}
-use Rattle.parking_lot_world.specs.RowSteps.{Goes}
+use Rattle.parking_lot_world.specs.Rows.{State, word_at, taken_by, first_of_all, mutex_spot, rw_lock_at, mutex_at, lock_as, lock_at, inside, mutex_role}
+use Rattle.parking_lot_world.specs.Stances.{has_begun, core_act, core_next, late_act, sign, Stance, mutex_taken}
+use Rattle.parking_lot_world.specs.RowFits.{FitsTogether, RulesFit, IsOfKind, IsPrepared, mutex_knows}
+use Rattle.parking_lot_world.specs.RowSteps.{Goes, resume_step}
 use Rattle.parking_lot_world.specs.RwLaws.{Finds, NobodyIs}
 use Rattle.parking_lot_protocol.specs.MutexTable as of_mutex_table
 use Rattle.parking_lot_protocol.specs.declared.mutex_phase.MutexPhase.{MutexPhase}
 use Rattle.parking_lot_protocol.specs.MutexRules as of_mutex
 use Rattle.parking_lot_world.specs.MutexLaws.{is_own}
 use Rattle.parking_lot_world.proofs.MutexMoving.{steps}
-use Rattle.parking_lot_world.proofs.KindTable.{Late, Plain, RwCall, Simple, Upgradable, next_is, of_mutexes, of_rws, rw_call, rw_next, same, Tardy}
-use Rattle.parking_lot_world.proofs.Making.{Crossed, TellsOf, made, mutex_goes, rw_goes}
-use Rattle.parking_lot_world.proofs.Meeting.{meets, plays, plays_late, rw_hears}
-use Rattle.parking_lot_world.proofs.OwnMoves.{AfterAct, IsOwnAct}
+use Rattle.parking_lot_world.proofs.KindTable.{Late, Plain, RwCall, Simple, Upgradable, next_is, of_mutexes, of_rws, rw_call, rw_next, same, Tardy, role_by}
+use Rattle.parking_lot_world.proofs.Making.{Crossed, TellsOf, made, mutex_goes, rw_goes, IsSoundState}
+use Rattle.parking_lot_world.proofs.Meeting.{meets, plays, plays_late, rw_hears, exact}
+use Rattle.parking_lot_world.proofs.OwnMoves.{AfterAct, IsOwnAct, own_some}
 use Rattle.parking_lot_world.proofs.RwCalls.{as_move, call_hears, call_learns, call_move, call_own, own_wants}
 use Rattle.parking_lot_world.proofs.Owning.{OwnAct, own-there, own-elsewhere, own_after, rw_leads}
 use Rattle.parking_lot_world.proofs.Knowing.{mutex_learns}
 use Rattle.parking_lot_world.proofs.Ruling.{Fitted, knows_same, rules_own}
+use Rattle.parking_lot_rules.specs.Roles.{Back}
+use Rattle.parking_lot_core_lot.specs.declared.place.Waiter.{Waiter}
+use Rattle.parking_lot_core_lot.specs.declared.parking.UnparkToken.{UnparkToken}
+use Rattle.parking_lot_world.specs.StanceLaws.{Leads}
+use Rattle.parking_lot_world.proofs.Stancing.{leads_by}
 
 -- NOBODY IS INSIDE
 
-module _ (s : State) (h : FitsTogether s) (free : inside s ≡ None) where
+module _ (s : State) (sound : IsSoundState s) (free : inside s ≡ None) where
   nobody_at : (i u : ℕ) (k : Key) → any_inside (lock_at s i) k u ≢ 1
-  nobody_at i u k e = none-some u (sym free ∙ h.rules.sound.entered i k u e)
+  nobody_at i u k e = none-some u (sym free ∙ sound.entered i k u e)
 
   at_most : (l : AnyLock) (u : ℕ) (k : Key) → any_inside l k u ≤ 1
   at_most l u First = omega (arith, (any_are_rules (λ i. false)).one l u)
@@ -50,14 +55,24 @@ module _ (s : State) (h : FitsTogether s) (free : inside s ≡ None) where
   none_inside : (i u : ℕ) (k : Key) (o : Option Manner) → manner_of (slice_get s.kinds i) ≡ o → any_inside (lock_as o s i) k u ≡ 0
   none_inside i u k o e = omega (arith, at_most (lock_as o s i) u k, λ (x : any_inside (lock_as o s i) k u ≡ 1). nobody_at i u k (ap (λ q. any_inside (lock_as q s i) k u) e ∙ x))
 
+  pub sound_first : (i : ℕ) → manner_of (slice_get s.kinds i) ≡ Some AsRw → NobodyIs Inside1 (rw_lock_at s i).roles
+  sound_first i e u r at = sym (ap (weighs Inside1) at) ∙ none_inside i u First (Some AsRw) e
+
+  pub sound_second : (i : ℕ) → manner_of (slice_get s.kinds i) ≡ Some AsRw → NobodyIs Inside2 (rw_lock_at s i).roles
+  sound_second i e u r at = sym (ap (weighs Inside2) at) ∙ none_inside i u Second (Some AsRw) e
+
+  pub sound_in_mutex : (i : ℕ) → manner_of (slice_get s.kinds i) ≡ Some AsMutex → (u : ℕ) (r : mutex.Role) → slice_get (mutex_at s i).roles u ≡ Some r → mutex.weight mutex.Inside r ≡ 0
+  sound_in_mutex i e u r at = sym (ap (at_index (mutex.weight mutex.Inside)) at) ∙ none_inside i u First (Some AsMutex) e
+
+module _ (s : State) (h : FitsTogether s) (free : inside s ≡ None) where
   pub nobody_first : (i : ℕ) → manner_of (slice_get s.kinds i) ≡ Some AsRw → NobodyIs Inside1 (rw_lock_at s i).roles
-  nobody_first i e u r at = sym (ap (weighs Inside1) at) ∙ none_inside i u First (Some AsRw) e
+  nobody_first = sound_first s h.rules.sound free
 
   pub nobody_second : (i : ℕ) → manner_of (slice_get s.kinds i) ≡ Some AsRw → NobodyIs Inside2 (rw_lock_at s i).roles
-  nobody_second i e u r at = sym (ap (weighs Inside2) at) ∙ none_inside i u Second (Some AsRw) e
+  nobody_second = sound_second s h.rules.sound free
 
   pub nobody_in_mutex : (i : ℕ) → manner_of (slice_get s.kinds i) ≡ Some AsMutex → (u : ℕ) (r : mutex.Role) → slice_get (mutex_at s i).roles u ≡ Some r → mutex.weight mutex.Inside r ≡ 0
-  nobody_in_mutex i e u r at = sym (ap (at_index (mutex.weight mutex.Inside)) at) ∙ none_inside i u First (Some AsMutex) e
+  nobody_in_mutex = sound_in_mutex s h.rules.sound free
 
 no_start : false ≡ true → ⊥
 no_start e = both_ways false refl e
@@ -100,6 +115,26 @@ own_tells v us (MutexPhase.Stores giving taken left) s own = absurd own
 own_tells v us (MutexPhase.Wakes giving) s own = absurd own
 own_tells v us p s own = tt
 
+-- such an act takes nobody, and wakes nobody
+own_counts : (a : Act) (told : ActResult) (x y : Stance) (n m : ℕ) (tells : UnparkToken) → IsOwnAct a → Leads a told x y n m tells → m ≡ n
+own_counts Act.Load told x y n m tells own l = l.2
+own_counts (Act.Exchange from to) told x y n m tells own l = l.2
+own_counts (Act.Add by) told x y n m tells own l = l.2
+own_counts (Act.FetchAnd keep) told x y n m tells own l = l.3
+own_counts Act.Spin told x y n m tells own l = l.2
+own_counts (Act.Enter k) told x y n m tells own l = l.2
+own_counts (Act.Section section.Check) told x y n m tells own l = l.4 ∙ sym l.3
+own_counts (Act.Section section.Leave) told x y n m tells own (inl l) = l.4 ∙ sym l.3
+own_counts (Act.Section section.Leave) told x y n m tells own (inr (inl l)) = l.5 ∙ sym l.4
+own_counts (Act.Section section.Leave) told x y n m tells own (inr (inr l)) = l.4
+own_counts (Act.Section section.TakeFirst) told x y n m tells own l = absurd own
+own_counts (Act.Section (section.TakeNext sum)) told x y n m tells own l = absurd own
+own_counts (Act.Section (section.Append token)) told x y n m tells own l = absurd own
+own_counts (Act.Section (section.Store plain fair)) told x y n m tells own l = absurd own
+own_counts (Act.Section section.Wake) told x y n m tells own l = absurd own
+own_counts Act.Sleep told x y n m tells own l = absurd own
+own_counts (Act.Done answer) told x y n m tells own l = absurd own
+
 -- AT A LOCK OF EITHER KIND
 
 module _ (s u : State) (t : ℕ) (h : FitsTogether s) where
@@ -127,6 +162,44 @@ module _ (s u : State) (t : ℕ) (h : FitsTogether s) where
         tt,
         λ m. subst (λ n. n < 4) (sym word) (h.rules.bits c.lock m),
       )
+  own_late c (LatePhase.WasTaken by handed) ActResult.Made lists_same e a gives own around =
+      let kind_is = subst (IsOfKind (slice_get s.kinds c.lock)) e (h.rules.kinds t c a.here) in
+      let word : word_at u c.lock ≡ word_at s c.lock = a.word ∙ ap (λ y. word_after (core_act y) ActResult.Made (word_at s c.lock)) e in
+      let k : MutexCore = record { phase = of_mutex_table.next_phase MutexPhase.Sleeps (ActResult.Woken (sign handed)) } in
+      let n = mutex_at s c.lock in (
+        made of_mutexes s u t c.lock (own-there s u t c ActResult.Made _ c.spot a) (own-elsewhere s u t c ActResult.Made _ c.spot a) kind_is (MxStep (mutex.Alone (resume_step handed by)))
+            ((plays_late s h t c (LatePhase.WasTaken by handed) e a.here).here ∙ ap Some (was_taken by handed), resume_may by handed n)
+            (ap Mx (own_after of_mutexes s u t c ActResult.Made (Plain k) c.spot a _ word ∙ same of_mutexes _ _ _ _ _ _ [] [] refl (ap (slice_set n.roles t) (goes_on by handed (taken_by s.wakes t))) (ap threads_of (lists_same (2 * c.lock))) refl
+            ∙ ap (λ w. record { word = w; roles = slice_set n.roles t (mutex.to (resume_step handed by)); queue = n.queue }) (resume_writes by handed n.word))) (resume_leaves by handed around),
+        subst (IsPrepared (recursive_in s.kinds c.lock) c.others) e (h.rules.prepared t c a.here),
+        resume_knows handed (u.lot.queues (2 * c.lock)),
+        λ m. subst (λ n. n < 4) (sym word) (h.rules.bits c.lock m),
+      )
+    where
+      was_taken : (by : ℕ) (b : Bool) → mutex.doing (mutex.Taken by (of_mutex.mark_of b) Back) ≡ mutex.from (resume_step b by)
+      was_taken by true = refl
+      was_taken by false = refl
+
+      goes_on : (by : ℕ) (b : Bool) (us : List ℕ) → mutex_role of_mutex.Listed us (of_mutex_table.next_phase MutexPhase.Sleeps (ActResult.Woken (sign b))) ≡ mutex.to (resume_step b by)
+      goes_on by true us = refl
+      goes_on by false us = refl
+
+      resume_may : (by : ℕ) (b : Bool) (n : mutex.Mutex) → mutex.May (resume_step b by) n.word (λ c. mutex.total c n.roles)
+      resume_may by true n = tt
+      resume_may by false n = tt
+
+      resume_writes : (by : ℕ) (b : Bool) (w : mutex.Word) → w ≡ mutex.written (resume_step b by) w
+      resume_writes by true w = refl
+      resume_writes by false w = refl
+
+      resume_leaves : (by : ℕ) (b : Bool) → Crossed (mutex_crossing (mutex.Alone mutex.Leave)) t (inside s) (inside u) → Crossed (mutex_crossing (mutex.Alone (resume_step b by))) t (inside s) (inside u)
+      resume_leaves by true x = x
+      resume_leaves by false x = x
+
+      resume_knows : (b : Bool) (q : List Waiter) → mutex_knows (of_mutex_table.next_phase MutexPhase.Sleeps (ActResult.Woken (sign b))) q
+      resume_knows true q = tt
+      resume_knows false q = tt
+  own_late c (LatePhase.WasTaken by handed) told lists_same e a gives own around = absurd gives
   own_late c LatePhase.Expires told lists_same e a gives own around = absurd own
   own_late c LatePhase.Quits told lists_same e a gives own around = absurd own
   own_late c LatePhase.Masks told lists_same e a gives own around = absurd own
@@ -146,10 +219,10 @@ module _ (s u : State) (t : ℕ) (h : FitsTogether s) where
         (call_own t (inside s) (inside u) (recursive_in s.kinds c.lock) c.others us k x told heard ready own around) in
         let well = rw_hears s h t c k e a.here told heard (own_wants x k told own gives) u.lot.queues (call_learns k told own (u.lot.queues (2 * c.lock)) (u.lot.queues (2 * c.lock + 1))) in (
           as_move k c.others us told c.lock t s u
-              (rw_goes s u t c.lock (call_move c.others us k told) _ (own-there s u t c told _ c.spot a) (own-elsewhere s u t c told _ c.spot a) kind_is leads.0
+              (rw_goes s u t c.lock (call_move c.others us k told) us _ (own-there s u t c told _ c.spot a) (own-elsewhere s u t c told _ c.spot a) kind_is leads.0
               (own_after of_rws s u t c told (rw_next k told) c.spot a _ (a.word ∙ ap (λ y. word_after (core_act y) told x) e)
               ∙ same of_rws _ _ _ _ _ _ _ _ refl refl (ap threads_of (lists_same (2 * c.lock))) (ap threads_of (lists_same (2 * c.lock + 1))))
-              leads.1),
+              leads.1 (own_some (call_move c.others us k told) us t (inside s) (inside u) (call_own t (inside s) (inside u) (recursive_in s.kinds c.lock) c.others us k x told heard ready own around))),
           well.0,
           well.1,
           λ m. absurd (two_kinds (sym kind_is ∙ m)),
@@ -162,10 +235,12 @@ module _ (s u : State) (t : ℕ) (h : FitsTogether s) where
         let x = word_at s c.lock in
         let kind_is = subst (IsOfKind (slice_get s.kinds c.lock)) e (h.rules.kinds t c a.here) in
         let word = a.word ∙ ap (λ y. word_after (core_act y) told x) e in
-        let step = steps.own (mutex_at s c.lock) x t (first_of_all us) (mutex_spot c.spot) k.phase told (plays s h t c k e a.here) gives (own_is (of_mutex_table.act_of k.phase) own)
-        (λ key is. nobody_in_mutex s h (subst (λ (y : Act). AfterAct y t (inside s) (inside u)) is around).0 c.lock kind_is) in (
+        let step = steps.own (mutex_at s c.lock) x t (first_of_all us) (mutex_spot c.spot) k.phase told (plays s h t c k e a.here (λ w. subst IsOwnAct w own)) gives (own_is (of_mutex_table.act_of k.phase) own)
+        (λ key is. nobody_in_mutex s h (subst (λ (y : Act). AfterAct y t (inside s) (inside u)) is around).0 c.lock kind_is) in
+        let leads = leads_by (Core.Mutex k) (of_mutex_table.act_of k.phase) x told refl gives in
+        let counts : length us ≡ mutex_taken (of_mutex_table.next_phase k.phase told) = exact s h t c k e a.here (λ w. subst IsOwnAct w own) ∙ sym (own_counts (of_mutex_table.act_of k.phase) told _ _ _ _ _ own leads) in (
           mutex_goes s u t c.lock (first_of_all us) us _ (of_mutex.move (first_of_all us) k.phase told) (own-there s u t c told _ c.spot a) (own-elsewhere s u t c told _ c.spot a) kind_is step.leads
-              (own_after of_mutexes s u t c told (Plain (record k { phase = of_mutex_table.next_phase k.phase told })) c.spot a _ word ∙ same of_mutexes _ _ _ _ _ _ [] [] refl refl (ap threads_of (lists_same (2 * c.lock))) refl)
+              (own_after of_mutexes s u t c told (Plain (record k { phase = of_mutex_table.next_phase k.phase told })) c.spot a _ word ∙ same of_mutexes _ _ _ _ _ _ [] [] refl (ap (slice_set (mutex_at s c.lock).roles t) (role_by of_mutex.Listed us (of_mutex_table.next_phase k.phase told) counts)) (ap threads_of (lists_same (2 * c.lock))) refl)
               (subst (λ (y : Crossing). Crossed y t (inside s) (inside u)) (sym step.crossing) around) (own_tells (first_of_all us) us k.phase told own),
           subst (IsPrepared (recursive_in s.kinds c.lock) c.others) e (h.rules.prepared t c a.here),
           mutex_learns (Core.Mutex k) (of_mutex_table.next_phase k.phase told) x told refl refl own gives (u.lot.queues (2 * c.lock)),

@@ -14,7 +14,7 @@ use Rattle.parking_lot_protocol.specs.declared.rw_phase.RwPhase.TheVariants.{Adm
 use Rattle.parking_lot_protocol.specs.RwTable.{act_of, is_parked, is_writer_parked, is_barred, has_readers}
 use Rattle.parking_lot_protocol.specs.RwRules.{Move, Stays, Makes, move, mode_of, admission, try_admission, IsTold}
 use Rattle.parking_lot_world.specs.MutexLaws.{crossing_of}
-use Rattle.parking_lot_world.proofs.Making.{Crossed}
+use Rattle.parking_lot_world.proofs.Making.{Crossed, SomeFor}
 
 -- who is inside after an act of thread t
 abbrev pub AfterAct : Act → ℕ → Option ℕ → Option ℕ → Type 0
@@ -36,6 +36,12 @@ abbrev pub OwnMove : Move → ℕ → Option ℕ → Option ℕ → Type 0
 OwnMove Stays t old new = new ≡ old
 OwnMove (Makes k) t old new = Crossed (crossing (Alone k)) t old new
 OwnMove m t old new = ⊥
+
+-- and such a move wakes nobody
+pub own_some : (m : Move) (us : List ℕ) (t : ℕ) (old new : Option ℕ) → OwnMove m t old new → SomeFor m us
+own_some Stays us t old new h = tt
+own_some (Makes k) us t old new h = tt
+own_some m us t old new h = absurd h
 
 module _ (t : ℕ) (old new : Option ℕ) where
   drains : (d : Draining) (b : Bool) → new ≡ old → OwnMove (cond b Stays (Makes (plain.Drain false d.woken))) t old new

@@ -15,10 +15,10 @@ use Rattle.parking_lot_world.specs.declared.seat.LatePhase.{LatePhase}
 use Rattle.parking_lot_world.specs.declared.seat.Core.{Core}
 use Rattle.parking_lot_world.specs.declared.open_call.Call.{Call}
 use Rattle.parking_lot_world.specs.Rows.{State, word_at, call_at, first_key, inside, rw_lock_at, taken_by, rw_role_at}
-use Rattle.parking_lot_world.specs.Stances.{core_act, core_next, late_act, late_next, late_stance, mutex_stance, rw_stance, seeks_stance, upgrade_stance, Doing, Joins, In, Takes, sign, stance, core_tells, Out, taken_count, late_rw_act, late_rw_next, sleeper_asleep}
+use Rattle.parking_lot_world.specs.Stances.{core_act, core_next, late_act, late_next, late_stance, mutex_stance, rw_stance, seeks_stance, upgrade_stance, Doing, Joins, In, Takes, sign, stance, core_tells, Out, taken_count, late_rw_act, late_rw_next, sleeper_asleep, resumed_as}
 use Rattle.parking_lot_world.specs.RowFits.{FitsTogether, IsOfKind, IsOfWorld, IsPrepared, IsOfManner, late_rw_prepared}
 use Rattle.parking_lot_world.specs.RankLaws.{Can, Leaves, StopsAt}
-use Rattle.parking_lot_world.specs.Ranks.{Sees, core_steps, late_steps, far_steps, is_shut_to, own_steps, view_of, Pays, View, Unseen, wake, cost, Costs, AnyMayBeStepped, late_rw_steps, sleeper_steps}
+use Rattle.parking_lot_world.specs.Ranks.{Sees, core_steps, late_steps, far_steps, is_shut_to, own_steps, view_of, Pays, View, Unseen, wake, cost, Costs, AnyMayBeStepped, late_rw_steps, sleeper_steps, rw_steps, upgrade_steps}
 use Rattle.parking_lot_world.proofs.Ruling.{same_kind}
 use Rattle.parking_lot_world.proofs.Meeting.{meets, in_range, rw_sound}
 use Rattle.parking_lot_world.proofs.KindTable.{Simple, Upgradable, of_rws}
@@ -40,7 +40,7 @@ use Rattle.parking_lot_protocol.specs.declared.rw_phase.RwPhase.{RwPhase}
 use Rattle.parking_lot_core_lot.specs.Lists.{updated}
 use Rattle.parking_lot_world.specs.declared.seat.WakeResult.{WakeResult}
 use Rattle.parking_lot_world.specs.StanceLaws.{LeavesFor}
-use Rattle.parking_lot_world.specs.RowActs.{key_of, with_word, with_call, hears, settled, off_list, told_of, loaded, exchanged, added, masked, spun, entered, checked, appended, took, took_nobody, told_all, left, answered, begun, woke}
+use Rattle.parking_lot_world.specs.RowActs.{key_of, with_word, with_call, hears, settled, off_list, told_of, loaded, exchanged, added, masked, spun, entered, checked, appended, took, took_nobody, told_all, left, answered, begun, woke, woke_nobody}
 use Rattle.parking_lot_world.proofs.Acting.{has_word, word-here, still_inside}
 use Rattle.parking_lot_world.proofs.Calling.{call_of, call-here}
 use Rattle.parking_lot_world.proofs.LotActs.{seat_of}
@@ -74,10 +74,12 @@ use Rattle.parking_lot_world.proofs.Sleepers.{by_sleeper, ready_sleeper, tardy_t
 -- one that slept is ready
 abbrev pub IsGoodLate : LateRwPhase → Type 0
 IsGoodLate (LateRwPhase.Expires k) = (sleeper_asleep k ≡ true) × IsReadySleeper k
+IsGoodLate (LateRwPhase.WasTaken k by handed) = (sleeper_asleep k ≡ true) × IsReadySleeper k
 IsGoodLate p = Unit {0}
 
 good_late : (recursive : Bool) (n : ℕ) (p : LateRwPhase) → late_rw_prepared recursive n p → IsGoodLate p
 good_late recursive n (LateRwPhase.Expires k) h = (h.0, ready_sleeper recursive n k h.1)
+good_late recursive n (LateRwPhase.WasTaken k by handed) h = (h.0, ready_sleeper recursive n k h.1)
 good_late recursive n p h = tt
 
 -- what the word and the phase are in time
@@ -106,24 +108,47 @@ late_falls n LatePhase.Expires x told v shut gives can = absurd can
 late_falls n LatePhase.Quits x told v shut gives can = absurd can
 late_falls n LatePhase.Masks x (ActResult.Before word) v shut gives can = omega arith
 late_falls n LatePhase.Leaves x ActResult.Made v shut gives can = omega arith
+late_falls n (LatePhase.WasTaken by handed) x ActResult.Made v shut gives can = resumes v handed
+  where
+    resumes : (v : View) (b : Bool) → core_steps n v (Core.Mutex (record { phase = mutex_table.next_phase MutexPhase.Sleeps (seen.Woken (sign b)) })) + 1 ≤ 52
+    resumes Unseen true = omega arith
+    resumes Unseen false = omega arith
+    resumes (Sees word first false) true = omega arith
+    resumes (Sees word first true) true = omega arith
+    resumes (Sees word first false) false = omega arith
+    resumes (Sees word first true) false = omega arith
 late_falls n p x told v shut gives can = absurd gives
 
-late_rw_falls : (n : ℕ) (p : LateRwPhase) (x : ℕ) (told : ActResult) (word first after : ℕ) (shut : Bool) → (late_rw_act p ≡ Act.Section section.Leave → after ≤ n) → Gives (late_rw_act p) x told → Can (late_rw_act p) shut told → core_steps n (Sees word after shut) (late_rw_next p told) + 1 ≤ late_rw_steps n (Sees x first shut) p
-late_rw_falls n (LateRwPhase.Expires k) x told word first after shut few gives can = absurd can
-late_rw_falls n (LateRwPhase.Quits k) x told word first after shut few gives can = absurd can
-late_rw_falls n LateRwPhase.Masks x (ActResult.Before seen) word first after shut few gives can = omega arith
-late_rw_falls n LateRwPhase.Leaves x ActResult.Made word first after shut few gives can = omega arith
-late_rw_falls n (LateRwPhase.LeavesPending from) x ActResult.Made word first after shut few gives can = omega (arith, found shut)
+-- what one sees doesn't count while it sleeps
+slept_same : (n : ℕ) (v w : View) (k : RwSleeper) → IsReadySleeper k → sleeper_asleep k ≡ true → sleeper_steps n v k ≡ sleeper_steps n w k
+slept_same n v w k r e = by_sleeper (λ k. sleeper_steps n v k ≡ sleeper_steps n w k) (λ want. refl) (λ rounds. refl) (λ want i. refl) (λ rounds. refl) k r e
+
+-- one that was taken goes on as one that was woken
+tardy_resumes : (n word after x first : ℕ) (shut : Bool) (k : RwSleeper) (handed : Bool) → sleeper_asleep k ≡ true → IsReadySleeper k → after ≤ n → core_steps n (Sees word after shut) (resumed_as (sleeper_asleep k) k handed) + 1 ≤ sleeper_steps n (Sees x first shut) k + wake
+tardy_resumes n word after x first shut (RwSleeper.Simple c) handed slept ready few =
+    subst (λ b. core_steps n (Sees word after shut) (resumed_as b (RwSleeper.Simple c) handed) + 1 ≤ rw_steps n (Sees x first shut) c.phase + wake) (sym slept)
+    (omega (arith, of_rw.steps_fall.few n word after shut (rw_table.next_phase c.phase (seen.Woken (sign handed))) few, of_rw.steps_fall.woken n c.phase (sign handed), slept_same n Unseen (Sees x first shut) (RwSleeper.Simple c) ready slept))
+tardy_resumes n word after x first shut (RwSleeper.Upgradable c) handed slept ready few =
+    subst (λ b. core_steps n (Sees word after shut) (resumed_as b (RwSleeper.Upgradable c) handed) + 1 ≤ upgrade_steps n (Sees x first shut) c.phase + wake) (sym slept)
+    (omega (arith, of_upgrade.upgrade_steps_fall.few n word after shut (upgrade_table.next_phase c.phase (seen.Woken (sign handed))) few, of_upgrade.upgrade_steps_fall.woken n c.phase (sign handed) ready.0 ready.1, slept_same n Unseen (Sees x first shut) (RwSleeper.Upgradable c) ready slept))
+
+late_rw_falls : (n : ℕ) (p : LateRwPhase) (x : ℕ) (told : ActResult) (word first after : ℕ) (shut : Bool) → IsGoodLate p → (late_rw_act p ≡ Act.Section section.Leave → after ≤ n) → Gives (late_rw_act p) x told → Can (late_rw_act p) shut told → core_steps n (Sees word after shut) (late_rw_next p told) + 1 ≤ late_rw_steps n (Sees x first shut) p
+late_rw_falls n (LateRwPhase.Expires k) x told word first after shut good few gives can = absurd can
+late_rw_falls n (LateRwPhase.Quits k) x told word first after shut good few gives can = absurd can
+late_rw_falls n LateRwPhase.Masks x (ActResult.Before seen) word first after shut good few gives can = omega arith
+late_rw_falls n LateRwPhase.Leaves x ActResult.Made word first after shut good few gives can = omega arith
+late_rw_falls n (LateRwPhase.LeavesPending from) x ActResult.Made word first after shut good few gives can = omega (arith, found shut)
   where
     found : (b : Bool) → cond b n after ≤ n
     found true = omega arith
     found false = few refl
-late_rw_falls n p x told word first after shut few gives can = absurd gives
+late_rw_falls n (LateRwPhase.WasTaken k by handed) x ActResult.Made word first after shut good few gives can = tardy_resumes n word after x first shut k handed good.0 good.1 (few refl)
+late_rw_falls n p x told word first after shut good few gives can = absurd gives
 
 pub core_falls : (n : ℕ) (c : Core) (x : ℕ) (told : ActResult) (first after : ℕ) (shut : Bool) → IsGood c x → (core_act c ≡ Act.Section section.Leave → IsOfManner (Some AsRw) c → after ≤ n) → Gives (core_act c) x told → Can (core_act c) shut told → Leaves (core_act c) told first after
     → core_steps n (Sees (word_after (core_act c) told x) after shut) (core_next c told) + 1 ≤ core_steps n (Sees x first shut) c
 core_falls n (Core.Mutex k) x told first after shut good few gives can leaves = of_mutex.steps_fall.falls k.phase told x first after shut good gives can
-core_falls n (Core.LateRw p) x told first after shut good few gives can leaves = late_rw_falls n p x told (word_after (late_rw_act p) told x) first after shut (λ e. few e refl) gives can
+core_falls n (Core.LateRw p) x told first after shut good few gives can leaves = late_rw_falls n p x told (word_after (late_rw_act p) told x) first after shut good (λ e. few e refl) gives can
 core_falls n (Core.Late p) x told first after shut good few gives can leaves = late_falls n p x told (Sees (word_after (late_act p) told x) after shut) shut gives can
 core_falls n (Core.Rw k) x told first after shut good few gives can leaves = of_rw.steps_fall.falls n k.phase told x first after shut good.0 good.1 gives can leaves
 core_falls n (Core.Upgrade k) x told first after shut good few gives can leaves = of_upgrade.upgrade_steps_fall.falls n k.phase told x first after shut good.0 good.1 good.2 gives can leaves
@@ -229,6 +254,7 @@ late_first LatePhase.Quits sum k e f = absurd cc
 late_first LatePhase.Masks sum k e f = absurd cc
 late_first LatePhase.Leaves sum k e f = absurd cc
 late_first LatePhase.GivesUp sum k e f = absurd cc
+late_first (LatePhase.WasTaken by handed) sum k e f = absurd cc
 
 seeks_first : (q : RwPhase) (sum k : ℕ) → upgrade_table.seeks_act q ≡ Act.Section (section.TakeNext sum) → seeks_stance q ≡ In k Takes → k ≡ 0
 seeks_first (RwPhase.Scans a) sum k e f = cc
@@ -410,6 +436,7 @@ late_wakes LatePhase.Quits e = cc
 late_wakes LatePhase.Masks e = cc
 late_wakes LatePhase.Leaves e = cc
 late_wakes LatePhase.GivesUp e = cc
+late_wakes (LatePhase.WasTaken by handed) e = cc
 
 late_woken : (n : ℕ) (p : LatePhase) (token : UnparkToken) → core_steps n Unseen (late_next p (seen.Woken token)) + 1 ≤ late_steps p + wake
 late_woken n LatePhase.Expires token = omega (arith, of_mutex.steps_fall.woken MutexPhase.Sleeps token)
@@ -421,6 +448,7 @@ late_ends LatePhase.Quits = omega arith
 late_ends LatePhase.Masks = omega arith
 late_ends LatePhase.Leaves = omega arith
 late_ends LatePhase.GivesUp = omega arith
+late_ends (LatePhase.WasTaken by handed) = omega arith
 
 core_wakes : (n : ℕ) (c : Core) (v : View) (x : ℕ) → IsGood c x → core_act c ≡ Act.Section section.Wake → 1 ≤ taken_count c → core_steps n v (core_next c seen.Made) + wake ≤ core_steps n v c
 core_wakes n (Core.Mutex c) v x good asked some = of_mutex.steps_fall.wakes c.phase v asked
@@ -448,6 +476,7 @@ late_rw_ends n v (LateRwPhase.Quits k) answer e = absurd cc
 late_rw_ends n v LateRwPhase.Masks answer e = omega arith
 late_rw_ends n v LateRwPhase.Leaves answer e = omega arith
 late_rw_ends n v (LateRwPhase.LeavesPending from) answer e = omega arith
+late_rw_ends n v (LateRwPhase.WasTaken k by handed) answer e = omega arith
 
 core_ends : (n : ℕ) (c : Core) (v : View) (answer : CoreAnswer) → core_act c ≡ Act.Done answer → 1 ≤ core_steps n v c
 core_ends n (Core.Mutex c) v answer asked = of_mutex.steps_fall.ends c.phase v answer asked
@@ -462,6 +491,7 @@ sleeper_still n v k (e, r) = by_sleeper (λ k. sleeper_steps n Unseen k ≡ slee
 
 late_rw_stops : (n : ℕ) (p : LateRwPhase) (v : View) → IsGoodLate p → late_rw_steps n Unseen p ≤ late_rw_steps n v p
 late_rw_stops n (LateRwPhase.Expires k) v good = omega (arith, sleeper_still n v k good)
+late_rw_stops n (LateRwPhase.WasTaken k by handed) v good = omega (arith, sleeper_still n v k good)
 late_rw_stops n p v good = omega arith
 
 core_stops : (n x : ℕ) (c : Core) (word first : ℕ) (shut : Bool) → IsGood c x → StopsAt (core_act c) shut → core_steps n Unseen c ≤ core_steps n (Sees word first shut) c
@@ -484,6 +514,13 @@ wakes_pay s t c v d token h here there asked =
     (omega (arith, others_same n news t (Some (hears c seen.Made)), others_change n s.calls t v 108 (Some e) (omega (arith, core_woken n d.core token (word_at s d.lock) (is_good s h v d there), ap (far_steps n) there))))
     (omega (arith, core_wakes n c.core (view_of s t c) (word_at s c.lock) (is_good s h t c here) asked (h.lots.wakeful t c here asked)))
 
+pub nobody_pays : (s : State) (t : ℕ) (c : Call) → FitsTogether s → call_at s t ≡ Some c → core_act c.core ≡ Act.Section section.Wake → Pays t s (woke_nobody s t c)
+nobody_pays s t c h here asked =
+    let n = length s.calls in
+    let d = hears c seen.Made in
+    pays s (woke_nobody s t c) t 0 c d here (call-within s.calls t (Some d) (in_range s t c here)) (length-set s.calls t (Some d)) (omega (arith, others_same n s.calls t (Some d)))
+    (omega (arith, core_wakes n c.core (view_of s t c) (word_at s c.lock) (is_good s h t c here) asked (h.lots.wakeful t c here asked)))
+
 pub ends_pay : (s : State) (t : ℕ) (c : Call) (answer : CoreAnswer) → call_at s t ≡ Some c → core_act c.core ≡ Act.Done answer → Pays t s (answered s t c)
 ends_pay s t c answer here asked =
     let n = length s.calls in
@@ -502,6 +539,8 @@ ends_pay s t c answer here asked =
 late_rw_few : (n word first : ℕ) (shut : Bool) (p : LateRwPhase) → first ≤ n → late_rw_steps n (Sees word first shut) p ≤ late_rw_steps n Unseen p
 late_rw_few n word first shut (LateRwPhase.Expires (RwSleeper.Simple c)) few = omega (arith, of_rw.steps_fall.few n word first shut c.phase few)
 late_rw_few n word first shut (LateRwPhase.Expires (RwSleeper.Upgradable c)) few = omega (arith, of_upgrade.upgrade_steps_fall.few n word first shut c.phase few)
+late_rw_few n word first shut (LateRwPhase.WasTaken (RwSleeper.Simple c) by handed) few = omega (arith, of_rw.steps_fall.few n word first shut c.phase few)
+late_rw_few n word first shut (LateRwPhase.WasTaken (RwSleeper.Upgradable c) by handed) few = omega (arith, of_upgrade.upgrade_steps_fall.few n word first shut c.phase few)
 late_rw_few n word first shut p few = omega arith
 
 own_few : (s : State) → FitsTogether s → (word j : ℕ) (shut : Bool) (c : Core) → IsOfKind (slice_get s.kinds j) c → core_steps (length s.calls) (Sees word (length (s.lot.queues (first_key j))) shut) c ≤ core_steps (length s.calls) Unseen c

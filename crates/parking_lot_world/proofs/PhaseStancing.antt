@@ -216,6 +216,8 @@ late_leads LatePhase.Expires word (ActResult.Woken token) g =
 late_leads LatePhase.Quits word (ActResult.Woken token) g = λ k park e. (refl, refl, refl)
 late_leads LatePhase.Masks word (ActResult.Before w) g = (0, refl, refl, refl)
 late_leads LatePhase.Leaves word ActResult.Made g = inr (inr (0, sign false, refl, refl, refl))
+late_leads (LatePhase.WasTaken by handed) word ActResult.Made g =
+    let i = pick Idle ((sign handed).0 == 1) (MutexPhase.Ends answer.Owned) (MutexPhase.Loads (mt.begins true)) (refl, refl) (refl, refl) in inr (inr (0, sign false, refl, i.0, i.1))
 late_leads p word s g = absurd g
 
 -- WHOM A CALL HAS TAKEN
@@ -256,6 +258,7 @@ late_takes LatePhase.Quits word token left g = absurd g
 late_takes LatePhase.Masks word token left g = absurd g
 late_takes LatePhase.Leaves word token left g = absurd g
 late_takes LatePhase.GivesUp word token left g = absurd g
+late_takes (LatePhase.WasTaken by handed) word token left g = absurd g
 
 -- WHERE CALLS BEGIN AND END
 
@@ -273,6 +276,7 @@ late_begins LatePhase.Quits = (refl, refl)
 late_begins LatePhase.Masks = (refl, refl)
 late_begins LatePhase.Leaves = (refl, refl)
 late_begins LatePhase.GivesUp = (refl, refl)
+late_begins (LatePhase.WasTaken by handed) = (refl, refl)
 
 pub mutex_ends : (p : MutexPhase) → IsOver (mt.act_of p) (mutex_stance p) (mutex_taken p)
 mutex_ends (MutexPhase.Finishes a) = pick (λ (b : Act). IsOver b Out 0) a.again Act.Load (Act.Done answer.Released) tt (refl, refl)
@@ -503,6 +507,7 @@ late_some LatePhase.Expires ActResult.Entered e = cc
 late_some LatePhase.Masks (ActResult.Before word) e = cc
 late_some LatePhase.Leaves ActResult.Made e = cc
 late_some LatePhase.GivesUp s e = cc
+late_some (LatePhase.WasTaken by handed) ActResult.Made e = mutex_some (mt.next_phase MutexPhase.Sleeps (ActResult.Woken (sign handed))) e
 late_some p s e = cc
 
 -- A LOCK HAS TWO KEYS

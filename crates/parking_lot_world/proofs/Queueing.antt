@@ -1,5 +1,5 @@
 -- A lock's lists have exactly the threads that wait there.
-use Rattle.std.proofs.Common.{◌≡◌, ◌≢◌, ℕ, ◌==◌, ◌&&◌, inl, inr, false, List, [], ◌∷◌, length, Option, Some, None, slice_get, refl, sym, ap, ◌∙◌, subst, arith}
+use Rattle.std.proofs.Common.{◌≡◌, ◌≢◌, ℕ, ◌==◌, ◌&&◌, inl, inr, false, List, [], ◌∷◌, length, Option, Some, None, slice_get, refl, sym, ap, ◌∙◌, subst, arith, Bool}
 use Rattle.std.specs.Option.{option_and_then, option_map_or}
 use Rattle.std.proofs.lemmas.Bool.{cases_eq, cases_lt, eq-eqb, ne_eqb}
 use Rattle.std.proofs.lemmas.Option.{slice_get_past}
@@ -13,14 +13,13 @@ use Rattle.parking_lot_rules.specs.Mutex as mutex
 use Rattle.parking_lot_rules.specs.Any.{Rw, AnySound}
 use Rattle.parking_lot_protocol.specs.declared.mutex_phase.MutexPhase.{MutexPhase}
 use Rattle.parking_lot_protocol.specs.declared.rw_phase.RwPhase.{RwPhase}
-use Rattle.parking_lot_protocol.specs.MutexRules as of_mutex
 use Rattle.parking_lot_protocol.specs.RwRules as of_rw
 use Rattle.parking_lot_protocol.specs.declared.act.CoreAnswer.{CoreAnswer}
 use Rattle.parking_lot_upgrades.specs.UpgradeRoles as of_upgrade
 use Rattle.parking_lot_upgrades.specs.declared.upgrade_phase.Hold.{Hold as Kept}
 use Rattle.parking_lot_upgrades.specs.declared.upgrade_phase.Release.{Release}
 use Rattle.parking_lot_upgrades.specs.declared.upgrade_phase.UpgradePhase.{UpgradePhase}
-use Rattle.parking_lot_world.specs.Rows.{rw_core_role}
+use Rattle.parking_lot_world.specs.Rows.{rw_core_role, mutex_role}
 use Rattle.parking_lot_world.specs.Stances.{seeks_stance, upgrade_stance, late_rw_stance}
 use Rattle.parking_lot_world.proofs.KindTable.{RwCall, Simple, Upgradable, rw_call, Tardy}
 use Rattle.parking_lot_world.specs.Kinds.{AsMutex, manner_of, Manner, AsRw}
@@ -30,7 +29,7 @@ use Rattle.parking_lot_world.specs.declared.seat.LatePhase.{LatePhase}
 use Rattle.parking_lot_world.specs.declared.seat.Core.{Core}
 use Rattle.parking_lot_world.specs.declared.open_call.Call.{Call}
 use Rattle.parking_lot_world.specs.RowFits.{FitsTogether, IsOfKind, IsOfManner, Awaits}
-use Rattle.parking_lot_world.specs.Rows.{State, lock_as, call_at, first_key, first_of_all, hold_at, late_role, lock_at, mutex_at, mutex_spot, owned_of, owns_mutex, queue_at, rw_lock_at, rw_spot, second_key, taken_by}
+use Rattle.parking_lot_world.specs.Rows.{State, lock_as, call_at, first_key, hold_at, late_role, lock_at, mutex_at, mutex_spot, owned_of, owns_mutex, queue_at, rw_lock_at, rw_spot, second_key, taken_by}
 use Rattle.parking_lot_world.specs.SoundLaws.{ListsAreWaiters, waits_as, waits_in}
 use Rattle.parking_lot_world.specs.Stances.{late_stance, mutex_stance, rw_stance, stance}
 use Rattle.parking_lot_world.proofs.KindTable.{Kind, MutexCall, Plain, Late, mutex_call, mutex_plays, of_mutexes, of_rws, role_at, roles_at}
@@ -132,10 +131,19 @@ upgrading_weighs n (QueuePosition.Off by said) us rounds = (refl, refl, refl, re
 slept_weighs : (n : ℕ) (at : QueuePosition) (us : List ℕ) (k : RwSleeper) → HasSlept k → WeighsSo n at us k
 slept_weighs n at us k h = by_sleeper (WeighsSo n at us) (wanting_weighs n at us) (draining_weighs n at us) (λ want i. seeking_weighs n at us want) (upgrading_weighs n at us) k h.1 h.0
 
+-- and one that was taken and is back waits no more
+abbrev TakenWeighs : ℕ → QueuePosition → List ℕ → ℕ → Bool → RwSleeper → Type 0
+TakenWeighs n at us by handed k = (weight Waiting1 (late_rw_role n (rw_spot at) us (LateRwPhase.WasTaken k by handed)) ≡ bit (waits_as 0 at (late_rw_stance (LateRwPhase.WasTaken k by handed)))) × (weight Waiting2 (late_rw_role n (rw_spot at) us (LateRwPhase.WasTaken k by handed)) ≡ bit (waits_as 1 at (late_rw_stance (LateRwPhase.WasTaken k by handed))))
+
+taken_weighs : (n : ℕ) (at : QueuePosition) (us : List ℕ) (k : RwSleeper) (by : ℕ) (handed : Bool) → HasSlept k → TakenWeighs n at us by handed k
+unfolding weight
+taken_weighs n at us k by handed h = by_sleeper (TakenWeighs n at us by handed) (λ want. (refl, refl)) (λ rounds. (refl, refl)) (λ want i. (refl, refl)) (λ rounds. (refl, refl)) k h.1 h.0
+
 tardy_weighs : (n : ℕ) (at : QueuePosition) (us : List ℕ) (p : LateRwPhase) → IsLateInOrder p → (weight Waiting1 (late_rw_role n (rw_spot at) us p) ≡ bit (waits_as 0 at (late_rw_stance p))) × (weight Waiting2 (late_rw_role n (rw_spot at) us p) ≡ bit (waits_as 1 at (late_rw_stance p)))
 unfolding weight
 tardy_weighs n at us (LateRwPhase.Expires k) h = let w = slept_weighs n at us k h in (w.0, w.1)
 tardy_weighs n at us (LateRwPhase.Quits k) h = let w = slept_weighs n at us k h in (w.2, w.3)
+tardy_weighs n at us (LateRwPhase.WasTaken k by handed) h = taken_weighs n at us k by handed h
 tardy_weighs n at us p h = (refl, refl)
 
 rw_weighs_first : (n : ℕ) (at : QueuePosition) (us : List ℕ) (k : RwCall) → IsLateAsSlept (rw_call k) → weight Waiting1 (rw_core_role n at us (rw_call k)) ≡ bit (waits_as 0 at (stance (rw_call k)))
@@ -148,11 +156,11 @@ rw_weighs_second n at us (Simple k) h = rw_second n at us k.phase
 rw_weighs_second n at us (Upgradable k) h = (upgrade_weigh n at us k.phase).1
 rw_weighs_second n at us (Tardy p) h = (tardy_weighs n at us p h).1
 
-mutex_first : (at : QueuePosition) (v : ℕ) (p : MutexPhase) → mutex.weight mutex.Waiting (of_mutex.role (mutex_spot at) v p) ≡ bit (waits_as 0 at (mutex_stance p))
+mutex_first : (at : QueuePosition) (us : List ℕ) (p : MutexPhase) → mutex.weight mutex.Waiting (mutex_role (mutex_spot at) us p) ≡ bit (waits_as 0 at (mutex_stance p))
 unfolding mutex.weight
-mutex_first QueuePosition.Listed v MutexPhase.Sleeps = refl
-mutex_first (QueuePosition.Off by said) v MutexPhase.Sleeps = refl
-mutex_first at v p = refl
+mutex_first QueuePosition.Listed us MutexPhase.Sleeps = refl
+mutex_first (QueuePosition.Off by said) us MutexPhase.Sleeps = refl
+mutex_first at us p = refl
 
 -- nobody waits in a second list of a mutex
 mutex_never : (at : QueuePosition) (p : MutexPhase) → waits_as 1 at (mutex_stance p) ≡ false
@@ -183,7 +191,7 @@ late_token p token e = e
 
 -- in time or late
 call_first : (at : QueuePosition) (us : List ℕ) (k : MutexCall) → mutex.weight mutex.Waiting (mutex_plays at us k) ≡ bit (waits_as 0 at (stance (mutex_call k)))
-call_first at us (Plain k) = mutex_first at (first_of_all us) k.phase
+call_first at us (Plain k) = mutex_first at us k.phase
 call_first at us (Late p) = late_first at p
 
 call_never : (at : QueuePosition) (k : MutexCall) → waits_as 1 at (stance (mutex_call k)) ≡ false

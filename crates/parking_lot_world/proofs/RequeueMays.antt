@@ -8,6 +8,8 @@ use Rattle.parking_lot_rules.specs.Classes.{bit}
 use Rattle.parking_lot_rules.specs.Mutex.{Called, total, weight}
 use Rattle.parking_lot_rules.proofs.Mutexes.{total-at}
 use Rattle.parking_lot_protocol.specs.MutexRules as of_mutex
+use Rattle.parking_lot_protocol.specs.MutexTable as mutex_table
+use Rattle.parking_lot_protocol.specs.declared.act.SectionAct.TheVariants as section
 use Rattle.parking_lot_protocol.specs.declared.mutex_phase.MutexPhase.{MutexPhase}
 use Rattle.parking_lot_protocol.proofs.RwWords.{both}
 use Rattle.parking_lot_world.specs.declared.calls.LockCall.{LockCall}
@@ -18,6 +20,7 @@ use Rattle.parking_lot_world.specs.Requeues.{IsAttended, core_retries, may_rouse
 use Rattle.parking_lot_world.specs.RowFits.{FitsTogether}
 use Rattle.parking_lot_world.specs.Rows.{State, call_at, first_of_all, mutex_at, mutex_spot, taken_by, word_at}
 use Rattle.parking_lot_world.proofs.Meeting.{plays}
+use Rattle.parking_lot_protocol.specs.declared.act.Act.{Act}
 
 -- one that is about to try again is called
 called_weighs : (at : of_mutex.QueuePosition) (v : ℕ) (p : MutexPhase) → phase_retries p ≡ true → 1 ≤ weight Called (of_mutex.role at v p)
@@ -30,6 +33,17 @@ called_weighs at v (MutexPhase.Enters woken) e = omega (arith, ap bit e)
 called_weighs at v (MutexPhase.Checks woken) e = omega (arith, ap bit e)
 called_weighs at v (MutexPhase.Retreats woken) e = omega (arith, ap bit e)
 called_weighs at v p e = absurd (both_ways false refl e)
+
+-- and wakes nobody
+retries_awake : (p : MutexPhase) → phase_retries p ≡ true → mutex_table.act_of p ≡ Act.Section section.Wake → ⊥
+retries_awake (MutexPhase.Loads a) e w = cc
+retries_awake (MutexPhase.Locks a waiters) e w = cc
+retries_awake (MutexPhase.Spins a) e w = cc
+retries_awake (MutexPhase.Parks a) e w = cc
+retries_awake (MutexPhase.Enters woken) e w = cc
+retries_awake (MutexPhase.Checks woken) e w = cc
+retries_awake (MutexPhase.Retreats woken) e w = cc
+retries_awake p e w = both_ways false refl e
 
 some_retries : (lock : ℕ) (o : Option Call) → retries_at lock o ≡ true → (c : Call) × (o ≡ Some c) × (c.lock ≡ lock) × (core_retries c.core ≡ true)
 some_retries lock None e = absurd (both_ways false refl e)
@@ -51,7 +65,7 @@ module _ (s : State) (h : FitsTogether s) (lock : ℕ) where
   retried : (t : ℕ) (c : Call) (x : Core) → c.core ≡ x → call_at s t ≡ Some c → c.lock ≡ lock → core_retries x ≡ true → 1 ≤ total Called (mutex_at s lock).roles
   retried t c (Core.Mutex k) is here at e =
       subst (λ i. 1 ≤ total Called (mutex_at s i).roles) at
-      (omega (arith, total-at (mutex_at s c.lock).roles t _ (plays s h t c k is here).here Called, called_weighs (mutex_spot c.spot) (first_of_all (taken_by s.wakes t)) k.phase e))
+      (omega (arith, total-at (mutex_at s c.lock).roles t _ (plays s h t c k is here (retries_awake k.phase e)).here Called, called_weighs (mutex_spot c.spot) (first_of_all (taken_by s.wakes t)) k.phase e))
   retried t c (Core.Rw k) is here at e = absurd (both_ways false refl e)
   retried t c (Core.Late p) is here at e = absurd (both_ways false refl e)
   retried t c (Core.Upgrade k) is here at e = absurd (both_ways false refl e)

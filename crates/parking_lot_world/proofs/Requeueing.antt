@@ -21,7 +21,7 @@ use Rattle.parking_lot_world.specs.Kinds.{AsMutex, manner_of}
 use Rattle.parking_lot_world.specs.Requeues.{MayCome}
 use Rattle.parking_lot_world.specs.Rounds.{IsUnderWay}
 use Rattle.parking_lot_world.specs.RowFits.{FitsTogether, RulesFit, WakesFit, is_away, mutex_knows}
-use Rattle.parking_lot_world.specs.Rows.{State, call_at, first_of_all, hold_at, inside, lock_at, lock_as, mutex_at, owns_mutex, taken_by, word_at}
+use Rattle.parking_lot_world.specs.Rows.{State, call_at, hold_at, inside, lock_at, lock_as, mutex_at, owns_mutex, taken_by, word_at, mutex_role}
 use Rattle.parking_lot_world.specs.Stances.{In, stance}
 use Rattle.parking_lot_world.proofs.Calling.{call-here, call-elsewhere}
 use Rattle.parking_lot_world.proofs.Carrying.{same_call}
@@ -66,7 +66,7 @@ module _ (s : State) (v lock : ℕ) (h : FitsTogether s) (low : v < length s.cal
   all_out : (t : ℕ) (e : Call) → call_at s t ≡ Some e → IsOut (stance e.core)
   all_out t e at k how is = let seat = seat_of s h.lots t e (In k how) at is in absurd (none-some seat.0 (sym free ∙ seat.1))
 
-  module _ (ws : List ℕ) (l : Machine) (p : MutexPhase) (timed : Bool) (y : mutex.Role) (plays : (us : List ℕ) → of_mutex.role of_mutex.Listed (first_of_all us) p ≡ y) (outside : mutex.weight mutex.Inside y ≡ 0) where
+  module _ (ws : List ℕ) (l : Machine) (p : MutexPhase) (timed : Bool) (y : mutex.Role) (plays : (us : List ℕ) → mutex_role of_mutex.Listed us p ≡ y) (outside : mutex.weight mutex.Inside y ≡ 0) where
     abbrev d : Call
     d = record { lock = lock; others = 0; core = Core.Mutex (record { phase = p }); spot = QueuePosition.Listed; timed = timed }
 

@@ -16,10 +16,10 @@ use Rattle.parking_lot_world.specs.declared.seat.WakeResult.{WakeResult}
 use Rattle.parking_lot_world.specs.declared.seat.QueuePosition.{QueuePosition}
 use Rattle.parking_lot_world.specs.declared.open_call.Call.{Call}
 use Rattle.parking_lot_world.specs.declared.seat.Wakeup.{Wakeup}
-use Rattle.parking_lot_world.specs.Rows.{State, word_at, hold_at, call_at, is_by, taken_by, mark_of, first_of_all, mutex_spot, rw_lock_at, mutex_at, queue_at}
-use Rattle.parking_lot_world.specs.Stances.{In, Takes, Out, Asleep, late_act, stance, taken_count, core_act, core_next}
+use Rattle.parking_lot_world.specs.Rows.{State, word_at, hold_at, call_at, is_by, taken_by, mark_of, first_of_all, mutex_spot, rw_lock_at, mutex_at, queue_at, mutex_role}
+use Rattle.parking_lot_world.specs.Stances.{In, Takes, Out, Asleep, late_act, stance, core_act, core_next}
 use Rattle.parking_lot_world.specs.RowActs.{hears, woke, told_of}
-use Rattle.parking_lot_world.specs.RowFits.{FitsTogether, LotFits, PassesFit, RulesFit, WakesFit, IsOfKind, IsTaken, IsPrepared, KnowsList, is_away, is_off, mutex_knows}
+use Rattle.parking_lot_world.specs.RowFits.{FitsTogether, LotFits, PassesFit, RulesFit, WakesFit, IsOfKind, IsTaken, IsPrepared, KnowsList, is_away, is_off, mutex_knows, IsCounted}
 use Rattle.parking_lot_world.specs.TellLaws.{IsDue}
 use Rattle.parking_lot_world.proofs.Calling.{slot}
 use Rattle.parking_lot_world.proofs.Passing.{passes_after}
@@ -31,9 +31,8 @@ use Rattle.parking_lot_world.proofs.LotWakes.{woken_off, due_place, other, call_
 use Rattle.parking_lot_world.proofs.Making.{move_sound, mutex_goes, rw_goes}
 use Rattle.parking_lot_world.proofs.Ruling.{CallFits, Fitted, call_fits, fits_next, rules_after}
 use Rattle.parking_lot_world.proofs.Everybody.{all, change-two}
-use Rattle.parking_lot_world.proofs.Meeting.{in_range, meets, plays, rw_hears}
+use Rattle.parking_lot_world.proofs.Meeting.{in_range, meets, rw_hears, plays_waking}
 use Rattle.parking_lot_world.proofs.MutexMoving.{steps}
-use Rattle.parking_lot_world.proofs.MutexRoles.{roles}
 use Rattle.parking_lot_world.proofs.OwnActs.{two_kinds}
 use Rattle.parking_lot_core_lot.specs.declared.place.Waiter.{Waiter}
 use Rattle.parking_lot_protocol.specs.MutexRules as of_mutex
@@ -48,7 +47,6 @@ use Rattle.parking_lot_protocol.specs.declared.mutex_phase.MutexPhase.{MutexPhas
 use Rattle.parking_lot_world.proofs.RwCalls.{CallMeets, as_move, call_role, call_wakes, tardy_wakes}
 use Rattle.parking_lot_world.proofs.RwSleeps.{call_woken as woken_call_is}
 use Rattle.parking_lot_world.specs.RowSteps.{IsRwMove}
-use Rattle.parking_lot_world.specs.MutexLaws.{Plays}
 use Rattle.parking_lot_world.specs.declared.seat.LatePhase.{LatePhase}
 use Rattle.parking_lot_world.specs.declared.seat.Core.{Core}
 
@@ -104,10 +102,10 @@ others_taken x (w ∷ ws) (suc i) e h ne = go (w.by == x) (others_taken x ws i e
     go false same = same
 
 -- one that is to wake somebody has somebody to wake
-pub is_due : (s : State) (t : ℕ) (c : Call) → FitsTogether s → call_at s t ≡ Some c → stance c.core ≡ Out → 1 ≤ taken_count c.core
+pub is_due : (s : State) (t : ℕ) (c : Call) → FitsTogether s → call_at s t ≡ Some c → stance c.core ≡ Out → 1 ≤ length (taken_by s.wakes t)
     → (e : Wakeup) × (d : Call) × (token : UnparkToken) × (x : IsDue s t e d token) × (e.by ≡ t) × (x.sleep.mark ≡ e.mark)
 is_due s t c h here out some =
-    let x = first_there t s.wakes (let n = h.lots.counted t c here in omega arith) in
+    let x = first_there t s.wakes some in
     let by_t = first_is_by t s.wakes x.0 x.1 in
     let w : IsTaken s x.0 = h.lots.woken (position_or_len (is_by t) s.wakes) x.0 x.1 in
     let p = due_place s t c h.lots here x.0 w.call x.1 by_t w.here out in
@@ -284,7 +282,7 @@ module _ (s : State) (t : ℕ) (c : Call) (h : FitsTogether s) (here : call_at s
 -- AT A MUTEX
 
 -- one that is to wake
-mutex_wakes : (p : MutexPhase) → mutex_table.act_of p ≡ act.Section section.Wake → (g : Giving) × (p ≡ MutexPhase.Wakes g)
+pub mutex_wakes : (p : MutexPhase) → mutex_table.act_of p ≡ act.Section section.Wake → (g : Giving) × (p ≡ MutexPhase.Wakes g)
 mutex_wakes (MutexPhase.Wakes g) e = (g, refl)
 mutex_wakes (MutexPhase.Finishes g) e = absurd (finishes g.again e)
   where
@@ -292,6 +290,19 @@ mutex_wakes (MutexPhase.Finishes g) e = absurd (finishes g.again e)
     finishes true e = cc
     finishes false e = cc
 mutex_wakes p e = absurd cc
+
+-- and just one
+only_one : (v : ℕ) (vs us : List ℕ) → us ≡ v ∷ vs → length us ≤ 1 → us ≡ v ∷ []
+only_one v [] us e most = e
+only_one v (x ∷ vs) us e most = absurd (omega (arith, most, ap (λ (zs : List ℕ). length zs) e))
+
+-- whom it wakes is to wake nobody
+mutex_woken : (us : List ℕ) (token : UnparkToken) → mutex_role of_mutex.Listed us (mutex_table.next_phase MutexPhase.Sleeps (seen.Woken token)) ≡ of_mutex.role of_mutex.Listed 0 (mutex_table.next_phase MutexPhase.Sleeps (seen.Woken token))
+mutex_woken us token = go (token.0 == 1)
+  where
+    go : (b : Bool) → mutex_role of_mutex.Listed us (cond b (MutexPhase.Ends Owned) (MutexPhase.Loads (mutex_table.begins true))) ≡ of_mutex.role of_mutex.Listed 0 (cond b (MutexPhase.Ends Owned) (MutexPhase.Loads (mutex_table.begins true)))
+    go true = refl
+    go false = refl
 
 -- what it knows once it was woken
 woken_knows : (token : UnparkToken) (waiters : List Waiter) → mutex_knows (mutex_table.next_phase MutexPhase.Sleeps (seen.Woken token)) waiters
@@ -306,12 +317,13 @@ late_ready : (b : Bool) (n : ℕ) (q : MutexCall) → IsPrepared b n (mutex_call
 late_ready b n (Plain q) h = h
 late_ready b n (Late p) h = h
 
-late_wakes : (p : LatePhase) → late_act p ≡ act.Section section.Wake → ⊥
+pub late_wakes : (p : LatePhase) → late_act p ≡ act.Section section.Wake → ⊥
 late_wakes LatePhase.Expires e = cc
 late_wakes LatePhase.Quits e = cc
 late_wakes LatePhase.Masks e = cc
 late_wakes LatePhase.Leaves e = cc
 late_wakes LatePhase.GivesUp e = cc
+late_wakes (LatePhase.WasTaken by handed) e = cc
 
 marks : (b : Bool) → mark_of (cond b WakeResult.HandedOver WakeResult.TryAgain) ≡ of_mutex.mark_of b
 marks true = refl
@@ -353,9 +365,10 @@ module _ (s : State) (t : ℕ) (c : Call) (h : FitsTogether s) (here : call_at s
       let others = rw_hears s h v d q de due.there (seen.Woken token) woken.told tt s.lot.queues (woken.learns (s.lot.queues (2 * d.lock)) (s.lot.queues (2 * d.lock + 1))) in (
         (
           as_move k c.others us seen.Made c.lock t s u
-              (subst (λ m. IsRwMove m c.lock t s u) (sym (wakes.move us))
-              (rw_goes s u t c.lock of_rw.WakesOne _ (subst (IsThere c.lock) (sym here) refl) (woke_elsewhere s t c h here e d token due from) kind_is (wakes.owns, v, vs, woken.how, woken.stay, wakes.step)
-              (roused_after s t c h here e d token due from of_rws k q (rw_next k seen.Made) (rw_next q (seen.Woken token)) mine_is de its_is to x refl) refl)),
+              (subst (λ m. IsRwMove m us c.lock t s u) (sym (wakes.move us))
+              (subst (λ zs. IsRwMove of_rw.WakesOne zs c.lock t s u) (sym (taken_mine s t c h here e d token due from))
+              (rw_goes s u t c.lock of_rw.WakesOne (v ∷ vs) _ (subst (IsThere c.lock) (sym here) refl) (woke_elsewhere s t c h here e d token due from) kind_is (wakes.owns, v, vs, woken.how, woken.stay, wakes.step)
+              (roused_after s t c h here e d token due from of_rws k q (rw_next k seen.Made) (rw_next q (seen.Woken token)) mine_is de its_is to x refl) refl tt))),
           mine.0,
           mine.1,
           h.rules.bits c.lock,
@@ -372,19 +385,17 @@ module _ (s : State) (t : ℕ) (c : Call) (h : FitsTogether s) (here : call_at s
       let lies : stance (mutex_call q) ≡ Asleep off.0 off.1 = sym (ap stance de) ∙ off.3 in
       let so = sleeps_so q off.0 off.1 lies in
       let goes = woken_so q off.0 off.1 token lies in
-      let first : first_of_all us ≡ v = ap first_of_all (taken_mine s t c h here e d token due from) in
       let mine = ap (λ (x : Core). core_next x seen.Made) ce in
       let its = ap (λ (x : Core). core_next x (seen.Woken token)) de ∙ goes in
       let sleeps = sleeps_off s t c h here e d token due from of_mutexes (Plain k) q (Plain k') (woken_plain token) mine de its to ∙ ap Some (so.3 t (told_of token) ws) in
-      let woken : of_mutex.role of_mutex.Listed (first_of_all ws) (mutex_table.next_phase MutexPhase.Sleeps (seen.Woken token)) ≡ of_mutex.role of_mutex.Listed 0 (mutex_table.next_phase MutexPhase.Sleeps (seen.Woken token)) =
-      roles.woken of_mutex.Listed (first_of_all ws) token ∙ sym (roles.woken of_mutex.Listed 0 token) in
+      let one : taken_by s.wakes t ≡ v ∷ [] = only_one v vs us (taken_mine s t c h here e d token due from) (subst (IsCounted (length s.calls) (length us)) ce (h.lots.counted t c here)).most in
       let waking = steps.wakes (mutex_at s c.lock) (word_at s c.lock) t v (mutex_spot c.spot) (MutexPhase.Wakes g) (mark_of (told_of token)) so.0 token
-      (subst (λ n. Plays (mutex_at s c.lock) (word_at s c.lock) t (of_mutex.role (mutex_spot c.spot) n (MutexPhase.Wakes g))) first (plays s h t c k ce here)) refl sleeps so.1 in (
+      (plays_waking s h t c g y ce here v one) refl sleeps so.1 in (
         (
           mutex_goes s u t c.lock v us _ of_mutex.WakesOne (subst (IsThere c.lock) (sym here) refl) (woke_elsewhere s t c h here e d token due from) (subst (IsOfKind (slice_get s.kinds c.lock)) ce (h.rules.kinds t c here)) (token.0 == 1, so.0, waking.leads (marks (token.0 == 1)))
               (roused_after s t c h here e d token due from of_mutexes (Plain k) q (Plain k') (woken_plain token) mine de its to (word_at s c.lock) refl
-              ∙ same of_mutexes _ _ _ _ _ _ [] [] refl (ap (λ x. slice_set (slice_set (roles_at of_mutexes s c.lock) v x) t (of_mutex.role of_mutex.Listed (first_of_all vs) k'.phase)) woken) refl refl)
-              refl tt,
+              ∙ same of_mutexes _ _ _ _ _ _ [] [] refl (ap (λ x. slice_set (slice_set (roles_at of_mutexes s c.lock) v x) t (of_mutex.role of_mutex.Listed (first_of_all vs) k'.phase)) (mutex_woken ws token)) refl refl)
+              refl one,
           subst (IsPrepared (recursive_in s.kinds c.lock) c.others) ce (h.rules.prepared t c here),
           tt,
           h.rules.bits c.lock,

@@ -1,5 +1,5 @@
 -- The side of the rules is kept where one thread's call has changed.
-use Rattle.std.proofs.Common.{◌≡◌, ◌≢◌, ℕ, ◌+◌, ◌*◌, ◌<◌, ◌≤◌, ◌^◌, inl, inr, List, length, Option, Some, slice_get, sym, ap, ◌∙◌, subst}
+use Rattle.std.proofs.Common.{◌≡◌, ◌≢◌, ℕ, ◌+◌, ◌*◌, ◌<◌, ◌≤◌, ◌^◌, inl, inr, List, length, Option, Some, slice_get, sym, ap, ◌∙◌, subst, Bool, true, false}
 use Rattle.std.proofs.lemmas.Bool.{cases_eq}
 use Rattle.std.proofs.lemmas.List.{length-set}
 use Rattle.parking_lot_core_lot.specs.declared.place.Waiter.{Waiter}
@@ -16,7 +16,7 @@ use Rattle.parking_lot_world.specs.Rows.{State, word_at, hold_at, call_at, taken
 use Rattle.parking_lot_world.specs.Rounds.{IsUnderWay}
 use Rattle.parking_lot_world.specs.RowFits.{FitsTogether, RulesFit, IsOfKind, IsOfManner, IsPrepared, KnowsList, mutex_knows, rw_knows}
 use Rattle.parking_lot_world.specs.RowSteps.{Goes, IsMoveOf}
-use Rattle.parking_lot_world.specs.Stances.{core_next, late_next, late_rw_next}
+use Rattle.parking_lot_world.specs.Stances.{core_next, late_next, late_rw_next, resumed_as, sleeper_asleep}
 use Rattle.parking_lot_world.proofs.Making.{IsSoundState, move_sound}
 use Rattle.parking_lot_world.proofs.Calling.{call_of, calls-change, same-holds}
 use Rattle.parking_lot_world.proofs.Owning.{OwnAct, call_after}
@@ -82,7 +82,13 @@ late_kind LatePhase.Expires ActResult.Entered m h = h
 late_kind LatePhase.Masks (ActResult.Before word) m h = h
 late_kind LatePhase.Leaves ActResult.Made m h = h
 late_kind LatePhase.GivesUp told m h = h
+late_kind (LatePhase.WasTaken by handed) ActResult.Made m h = h
 late_kind p told m h = h
+
+resumed_kind : (k : RwSleeper) (handed b : Bool) (m : Option Manner) → m ≡ Some AsRw → IsOfManner m (resumed_as b k handed)
+resumed_kind (RwSleeper.Simple c) handed true m h = h
+resumed_kind (RwSleeper.Upgradable c) handed true m h = h
+resumed_kind k handed false m h = h
 
 late_rw_kind : (p : LateRwPhase) (told : ActResult) (m : Option Manner) → m ≡ Some AsRw → IsOfManner m (late_rw_next p told)
 late_rw_kind (LateRwPhase.Expires (RwSleeper.Simple c)) (ActResult.Woken token) m h = h
@@ -92,6 +98,7 @@ late_rw_kind (LateRwPhase.Quits k) (ActResult.Took token left) m h = h
 late_rw_kind LateRwPhase.Masks (ActResult.Before word) m h = h
 late_rw_kind LateRwPhase.Leaves ActResult.Made m h = h
 late_rw_kind (LateRwPhase.LeavesPending from) ActResult.Made m h = h
+late_rw_kind (LateRwPhase.WasTaken k by handed) ActResult.Made m h = resumed_kind k handed (sleeper_asleep k) m h
 late_rw_kind p told m h = h
 
 -- a call stays of its kind

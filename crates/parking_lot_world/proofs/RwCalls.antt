@@ -4,12 +4,14 @@ use Rattle.std.proofs.lemmas.Bool.{both_ways}
 use Rattle.parking_lot_core_lot.specs.declared.parking.FilterOp.TheVariants.{Unpark}
 use Rattle.parking_lot_core_lot.specs.declared.parking.ParkToken.{ParkToken}
 use Rattle.parking_lot_core_lot.specs.declared.place.Waiter.{Waiter}
-use Rattle.parking_lot_rules.specs.Classes.{inside as inside_of}
+use Rattle.parking_lot_rules.specs.Classes.{inside as inside_of, total}
 use Rattle.parking_lot_rules.specs.Clauses.{IsWord, Word, number, word_of}
 use Rattle.parking_lot_rules.specs.Holds.{shared_holds}
 use Rattle.parking_lot_rules.specs.Lock.{Lock, IsSound}
-use Rattle.parking_lot_rules.specs.Plain.{Leave1, Leave2, Mask1, Plain}
-use Rattle.parking_lot_rules.specs.Roles.{Owned, Role, Stay}
+use Rattle.parking_lot_rules.specs.Plain.{Leave1, Leave2, Mask1, Plain, May, from, to}
+use Rattle.parking_lot_rules.specs.Roles.{Owned, Role, Stay, Back, Mode}
+use Rattle.parking_lot_rules.specs.Roles as rules
+use Rattle.parking_lot_protocol.specs.MutexRules.{mark_of as marks_as}
 use Rattle.parking_lot_rules.specs.Steps.{Alone, after, Own, Waking, Wake, waking_from, waking_to}
 use Rattle.parking_lot_protocol.specs.Acts.{Gives, word_after}
 use Rattle.parking_lot_protocol.specs.RwRules as of_rw
@@ -32,30 +34,31 @@ use Rattle.parking_lot_upgrades.specs.declared.upgrade_phase.Hold as hold_type
 use Rattle.parking_lot_upgrades.specs.declared.upgrade_phase.Release.{Release}
 use Rattle.parking_lot_upgrades.specs.declared.upgrade_phase.UpgradePhase.{UpgradePhase}
 use Rattle.parking_lot_world.specs.Passes.{asks}
-use Rattle.parking_lot_world.specs.RowFits.{IsPrepared, KnowsList, late_rw_prepared, rw_prepared, sleeper_prepared, upgrade_prepared}
+use Rattle.parking_lot_world.specs.RowFits.{IsPrepared, KnowsList, late_rw_prepared, rw_prepared, sleeper_prepared, upgrade_prepared, IsCounted, IsInside, IsOfWorld, rw_keeps}
 use Rattle.parking_lot_world.specs.RowSteps.{IsLateRwMove, IsMoveOf, IsRwMove}
 use Rattle.parking_lot_world.specs.Rows.{State, rw_core_role, rw_spot}
 use Rattle.parking_lot_world.specs.RwLaws.{Finds, IsStep, Learns, Meets, with_role, count_shared}
-use Rattle.parking_lot_world.specs.Stances.{core_act, core_next, core_tells, has_begun, late_rw_act, late_rw_stance, pending_from, sleeper_asleep, stance, taken_count}
+use Rattle.parking_lot_world.specs.Stances.{core_act, core_next, core_tells, has_begun, late_rw_act, late_rw_stance, pending_from, sleeper_asleep, stance, taken_count, sign}
 use Rattle.parking_lot_world.specs.Stances as stances
 use Rattle.parking_lot_world.specs.UpgradeLaws.{MeetsUpgrade, UpgradeLeads, WantsTaken, upgrade_shared}
 use Rattle.parking_lot_world.specs.CallViews.{IsReadySleeper}
-use Rattle.parking_lot_world.specs.LateRoles.{reenters_as, sleeper_wants}
+use Rattle.parking_lot_world.specs.LateRoles.{reenters_as, sleeper_wants, resumes_as, sleeper_role, stays}
 use Rattle.parking_lot_world.specs.declared.late_rw.LateRwPhase.{LateRwPhase}
 use Rattle.parking_lot_world.specs.declared.late_rw.RwSleeper.{RwSleeper}
 use Rattle.parking_lot_world.specs.declared.seat.QueuePosition.{QueuePosition}
-use Rattle.parking_lot_world.proofs.KindTable.{RwCall, Simple, Tardy, Upgradable, as_call, rw_call, rw_next, rw_listed, tardy_next, upgrade_listed}
+use Rattle.parking_lot_world.proofs.KindTable.{RwCall, Simple, Tardy, Upgradable, as_call, rw_call, rw_next, rw_listed, tardy_next, upgrade_listed, resumed_call}
 use Rattle.parking_lot_world.proofs.RwCrossing.{lists_are_known}
 use Rattle.parking_lot_world.proofs.RwKeeping.{calls_keep}
 use Rattle.parking_lot_world.proofs.RwWaking.{wakes_one}
 use Rattle.parking_lot_world.proofs.RwMoving.{answers_are_moves, counted, makes_are_steps, number-word, same_word, sound_word, stays_are_steps, total_most}
-use Rattle.parking_lot_world.proofs.Sleepers.{by_sleeper, ready_sleeper, takes_nobody, woken_knows, woken_prepared}
+use Rattle.parking_lot_world.proofs.Sleepers.{by_sleeper, ready_sleeper, takes_nobody, woken_knows, woken_prepared, wanting, draining, seeking, upgrading, no_hold}
 use Rattle.parking_lot_rules.proofs.Sounds.{step_sound}
 use Rattle.parking_lot_upgrades.proofs.UpgradeWords.{high}
 use Rattle.parking_lot_world.proofs.OwnMoves.{AfterAct, IsOwnAct, OwnMove, own_moves}
 use Rattle.parking_lot_world.proofs.UpgradeGoing.{UpgradeLearns, knows, upgrades_keep}
 use Rattle.parking_lot_world.proofs.UpgradeMoving.{upgrades_are_steps}
 use Rattle.parking_lot_world.proofs.UpgradeOwning.{upgrade_moves, upgrade_told}
+use Rattle.parking_lot_protocol.specs.declared.rw_phase.LockMode.{LockMode}
 
 -- WHAT A CALL IS
 
@@ -68,6 +71,7 @@ tardy_move (LateRwPhase.Expires k) ActResult.Entered = of_rw.Makes (reenters_as 
 tardy_move LateRwPhase.Masks (ActResult.Before word) = of_rw.Makes Mask1
 tardy_move LateRwPhase.Leaves ActResult.Made = of_rw.Makes Leave1
 tardy_move (LateRwPhase.LeavesPending from) ActResult.Made = of_rw.Makes (Leave2 from)
+tardy_move (LateRwPhase.WasTaken k by handed) ActResult.Made = of_rw.Makes (resumes_as (pending_from k) (sleeper_wants k) by handed)
 tardy_move p s = of_rw.IsWoken Own
 
 abbrev pub call_move : ℕ → List ℕ → RwCall → ActResult → Move
@@ -95,6 +99,7 @@ HasStood recursive n us k = (sleeper_asleep k ≡ true) × sleeper_prepared recu
 abbrev pub TardyStands : Bool → ℕ → List ℕ → LateRwPhase → Type 0
 TardyStands recursive n us (LateRwPhase.Expires k) = HasStood recursive n us k
 TardyStands recursive n us (LateRwPhase.Quits k) = HasStood recursive n us k
+TardyStands recursive n us (LateRwPhase.WasTaken k by handed) = HasStood recursive n us k
 TardyStands recursive n us p = n ≡ 0
 
 abbrev pub CallStands : Bool → ℕ → List ℕ → RwCall → Type 0
@@ -131,6 +136,42 @@ as_upgrade recursive l t n at us k x h = record { sound = h.sound; word = h.word
 counts_none : (k : RwSleeper) → IsReadySleeper k → sleeper_asleep k ≡ true → call_shared (as_call k) ≤ 2 ^ 18
 counts_none k r e = by_sleeper (λ k. call_shared (as_call k) ≤ 2 ^ 18) (λ want. omega arith) (λ rounds. omega arith) (λ want i. omega arith) (λ rounds. omega arith) k r e
 
+-- WHOM IT HAS TAKEN
+
+abbrev is_wakes : RwPhase → Bool
+is_wakes (RwPhase.Wakes rest count) = true
+is_wakes p = false
+
+-- while it doesn't wake them they are as many as it counts
+rw_exact : (n : ℕ) (p : RwPhase) → is_wakes p ≡ false → n ≤ stances.rw_taken p → (IsInside (stances.rw_stance p) → n ≡ stances.rw_taken p) → n ≡ stances.rw_taken p
+rw_exact n (RwPhase.ClearWriterParked rest took) awake most all = all tt
+rw_exact n (RwPhase.LeaveWriterWakeSection rest took) awake most all = all tt
+rw_exact n (RwPhase.Scans a) awake most all = all tt
+rw_exact n (RwPhase.Stores a left) awake most all = all tt
+rw_exact n (RwPhase.Leaves rest count handed) awake most all = all tt
+rw_exact n (RwPhase.Wakes rest count) awake most all = absurd cc
+rw_exact n p awake most all = omega (arith, most)
+
+rw_stand : (recursive : Bool) (n : ℕ) (us : List ℕ) (p : RwPhase) → rw_keeps recursive n p → length us ≤ stances.rw_taken p → (IsInside (stances.rw_stance p) → length us ≡ stances.rw_taken p) → count_shared p ≤ 2 ^ 18 → rw_prepared recursive n us p
+rw_stand recursive n us (RwPhase.Wakes rest count) h most all few = tt
+rw_stand recursive n us p h most all few = calls_keep.prepared recursive n us p h (rw_exact (length us) p refl most all) few
+
+frees_stand : (us : List ℕ) (r : Release) (q : RwPhase) → IsOfWorld (UpgradePhase.Frees r (record { phase = q })) → length us ≤ stances.rw_taken q → (IsInside (stances.rw_stance q) → length us ≡ stances.rw_taken q) → upgrade_shared (UpgradePhase.Frees r (record { phase = q })) ≤ 2 ^ 18 → upgrade_prepared us (UpgradePhase.Frees r (record { phase = q }))
+frees_stand us r (RwPhase.Wakes rest count) h most all few = tt
+frees_stand us r q h most all few = upgrades_keep.prepared us (UpgradePhase.Frees r (record { phase = q })) h (rw_exact (length us) q refl most all) few
+
+owes_stand : (us : List ℕ) (kept : hold_type.Hold) (end : CoreAnswer) (q : RwPhase) → IsOfWorld (UpgradePhase.Owes kept end (record { phase = q })) → length us ≤ stances.rw_taken q → (IsInside (stances.rw_stance q) → length us ≡ stances.rw_taken q) → upgrade_shared (UpgradePhase.Owes kept end (record { phase = q })) ≤ 2 ^ 18 → upgrade_prepared us (UpgradePhase.Owes kept end (record { phase = q }))
+owes_stand us kept end (RwPhase.Wakes rest count) h most all few = tt
+owes_stand us kept end q h most all few = upgrades_keep.prepared us (UpgradePhase.Owes kept end (record { phase = q })) h (rw_exact (length us) q refl most all) few
+
+upgrade_stand : (us : List ℕ) (p : UpgradePhase) → IsOfWorld p → length us ≤ stances.upgrade_taken p → (IsInside (stances.upgrade_stance p) → length us ≡ stances.upgrade_taken p) → upgrade_shared p ≤ 2 ^ 18 → upgrade_prepared us p
+upgrade_stand us (UpgradePhase.Plain core) h most all few = absurd h
+upgrade_stand us (UpgradePhase.Seeks core) h most all few = tt
+upgrade_stand us (UpgradePhase.Drains core) h most all few = tt
+upgrade_stand us (UpgradePhase.Frees r core) h most all few = frees_stand us r core.phase h most all few
+upgrade_stand us (UpgradePhase.Owes kept end core) h most all few = owes_stand us kept end core.phase h most all few
+upgrade_stand us p h most all few = upgrades_keep.prepared us p h (omega (arith, most)) few
+
 sleeper_stands : (recursive : Bool) (n : ℕ) (us : List ℕ) (k : RwSleeper) → sleeper_prepared recursive n k → length us ≡ taken_count (rw_call (as_call k)) → call_shared (as_call k) ≤ 2 ^ 18 → SleeperStands recursive n us k
 sleeper_stands recursive n us (RwSleeper.Simple k) h counted few = (h.0, calls_keep.prepared recursive n us k.phase h.1 counted few)
 sleeper_stands recursive n us (RwSleeper.Upgradable k) h counted few = (h.1, upgrades_keep.prepared us k.phase h.2 counted few)
@@ -145,12 +186,13 @@ tardy_stands recursive n us LateRwPhase.Masks h _ = h
 tardy_stands recursive n us LateRwPhase.Leaves h _ = h
 tardy_stands recursive n us LateRwPhase.GivesUp h _ = h
 tardy_stands recursive n us (LateRwPhase.LeavesPending from) h _ = h
+tardy_stands recursive n us (LateRwPhase.WasTaken k by handed) h counted = has_stood recursive n us k h.0 h.1 counted
 
 -- what follows from what a machine keeps of it
-pub stands_prepared : (recursive : Bool) (n : ℕ) (us : List ℕ) (k : RwCall) → IsPrepared recursive n (rw_call k) → length us ≡ taken_count (rw_call k) → call_shared k ≤ 2 ^ 18 → CallStands recursive n us k
-stands_prepared recursive n us (Simple k) h counted few = (h.0, calls_keep.prepared recursive n us k.phase h.1 counted few)
-stands_prepared recursive n us (Upgradable k) h counted few = (h.1, upgrades_keep.prepared us k.phase h.2 counted few)
-stands_prepared recursive n us (Tardy p) h counted few = tardy_stands recursive n us p h counted
+pub stands_prepared : (recursive : Bool) (threads n : ℕ) (us : List ℕ) (k : RwCall) → IsPrepared recursive n (rw_call k) → IsCounted threads (length us) (rw_call k) → call_shared k ≤ 2 ^ 18 → CallStands recursive n us k
+stands_prepared recursive threads n us (Simple k) h counted few = (h.0, rw_stand recursive n us k.phase h.1 counted.most counted.all few)
+stands_prepared recursive threads n us (Upgradable k) h counted few = (h.1, upgrade_stand us k.phase h.2 counted.most counted.all few)
+stands_prepared recursive threads n us (Tardy p) h counted few = tardy_stands recursive n us p h (omega (arith, counted.most))
 
 -- WHAT IT HEARS
 
@@ -201,6 +243,7 @@ tardy_goes_on recursive n x (LateRwPhase.Expires k) (ActResult.Woken token) h to
 tardy_goes_on recursive n x LateRwPhase.Masks (ActResult.Before word) h told = h
 tardy_goes_on recursive n x LateRwPhase.Leaves ActResult.Made h told = h
 tardy_goes_on recursive n x (LateRwPhase.LeavesPending from) ActResult.Made h told = (h, tt, tt, tt)
+tardy_goes_on recursive n x (LateRwPhase.WasTaken k by handed) ActResult.Made h told = subst (λ b. IsPrepared recursive n (rw_call (resumed_call b k handed))) (sym h.0) (woken_prepared recursive n k (sign handed) h.0 h.1)
 tardy_goes_on recursive n x p s h told = absurd told
 
 tardy_knows : (recursive : Bool) (n x : ℕ) (p : LateRwPhase) (s : ActResult) (j : ℕ) (queues : ℕ → List Waiter) → late_rw_prepared recursive n p → TardyTold p x s → KnowsList (rw_call (tardy_next p s)) queues j
@@ -208,6 +251,7 @@ tardy_knows recursive n x (LateRwPhase.Expires k) (ActResult.Woken token) j queu
 tardy_knows recursive n x LateRwPhase.Masks (ActResult.Before word) j queues h told = tt
 tardy_knows recursive n x LateRwPhase.Leaves ActResult.Made j queues h told = tt
 tardy_knows recursive n x (LateRwPhase.LeavesPending from) ActResult.Made j queues h told = tt
+tardy_knows recursive n x (LateRwPhase.WasTaken k by handed) ActResult.Made j queues h told = subst (λ b. KnowsList (rw_call (resumed_call b k handed)) queues j) (sym h.0) (woken_knows k (sign handed) queues j (ready_sleeper recursive n k h.1) h.0)
 tardy_knows recursive n x p s j queues h told = absurd told
 
 module _ (recursive : Bool) (l : Lock) (t n : ℕ) (at : QueuePosition) (us : List ℕ) (x : ℕ) (s : ActResult) where
@@ -248,6 +292,7 @@ makes_no_stay (LateRwPhase.Expires k) ActResult.Entered = refl
 makes_no_stay LateRwPhase.Masks (ActResult.Before word) = refl
 makes_no_stay LateRwPhase.Leaves ActResult.Made = refl
 makes_no_stay (LateRwPhase.LeavesPending from) ActResult.Made = refl
+makes_no_stay (LateRwPhase.WasTaken k by handed) ActResult.Made = refl
 makes_no_stay p s = refl
 
 tardy_moves : (p : LateRwPhase) (s : ActResult) → tardy_move p s ≡ of_rw.Stays → ⊥
@@ -261,6 +306,58 @@ step_of m = Leave1
 mask_is : (x : ℕ) (w : Word) → IsWord w → w.readers < 2 ^ 60 - 1 → x ≡ number w → bit_and x (2 ^ 64 - 2) ≡ number (record w { parked1 = 0 })
 mask_is x w h few e = let p = h.parked1 in ap (λ y. bit_and y (2 ^ 64 - 2)) e ∙ (let z = high w h few in omega arith)
 
+-- ONE THAT WAS TAKEN LEAVES THE SECTION
+
+-- what it was to the lock, and what it is as it goes on
+abbrev Resumes : ℕ → List ℕ → ℕ → Bool → RwSleeper → Type 0
+Resumes n us by handed k =
+    let step = resumes_as (pending_from k) (sleeper_wants k) by handed in
+    (stays Back (sleeper_role n (of_rw.Off by (marks_as handed)) us k) ≡ from step) × (call_role n QueuePosition.Listed us (resumed_call true k handed) ≡ to step)
+
+wants_resume : (us : List ℕ) (by : ℕ) (want : LockMode) (handed : Bool) → Resumes 0 us by handed (wanting want)
+wants_resume us by (LockMode.Shared again) true = (refl, refl)
+wants_resume us by (LockMode.Shared again) false = (refl, refl)
+wants_resume us by LockMode.Exclusive true = (refl, refl)
+wants_resume us by LockMode.Exclusive false = (refl, refl)
+
+drains_resume : (us : List ℕ) (by rounds : ℕ) (handed : Bool) → Resumes 0 us by handed (draining rounds)
+drains_resume us by rounds true = (refl, refl)
+drains_resume us by rounds false = (refl, refl)
+
+seeks_resume : (us : List ℕ) (by : ℕ) (want : LockMode) (handed : Bool) → want ≡ LockMode.Exclusive → Resumes 0 us by handed (seeking want)
+seeks_resume us by want true i = subst (λ w. Resumes 0 us by true (seeking w)) (sym i) (refl, refl)
+seeks_resume us by want false i = subst (λ w. Resumes 0 us by false (seeking w)) (sym i) (refl, refl)
+
+upgrades_resume : (us : List ℕ) (by rounds : ℕ) (handed : Bool) → Resumes 0 us by handed (upgrading rounds)
+upgrades_resume us by rounds true = (refl, refl)
+upgrades_resume us by rounds false = (refl, refl)
+
+resumed : (recursive : Bool) (n : ℕ) (us : List ℕ) (k : RwSleeper) (by : ℕ) (handed : Bool) → sleeper_asleep k ≡ true → sleeper_prepared recursive n k → Resumes n us by handed k
+resumed recursive n us k by handed e h =
+    subst (λ m. Resumes m us by handed k) (sym (no_hold recursive n k e h))
+    (by_sleeper (Resumes 0 us by handed) (λ want. wants_resume us by want handed) (λ rounds. drains_resume us by rounds handed) (λ want i. seeks_resume us by want handed i) (λ rounds. upgrades_resume us by rounds handed) k (ready_sleeper recursive n k h) e)
+
+resumes_may : (recursive : Bool) (o : Option Bool) (m : Mode) (by : ℕ) (handed : Bool) (l : Lock) → May recursive (resumes_as o m by handed) l.word (λ c. total c l.roles)
+resumes_may recursive (Some was) m by handed l = tt
+resumes_may recursive None m by false l = tt
+resumes_may recursive None rules.Shared by true l = tt
+resumes_may recursive None rules.Exclusive by true l = tt
+resumes_may recursive None rules.Upgradable by true l = tt
+
+resumes_write : (o : Option Bool) (m : Mode) (by : ℕ) (handed : Bool) (l : Lock) (t : ℕ) → after t (Alone (resumes_as o m by handed)) l ≡ record l { roles = slice_set l.roles t (to (resumes_as o m by handed)) }
+resumes_write (Some was) m by handed l t = refl
+resumes_write None m by false l t = refl
+resumes_write None rules.Shared by true l t = refl
+resumes_write None rules.Exclusive by true l t = refl
+resumes_write None rules.Upgradable by true l t = refl
+
+resumes_own : (o : Option Bool) (m : Mode) (by : ℕ) (handed : Bool) (t : ℕ) (old new : Option ℕ) → AfterAct (Act.Section section.Leave) t old new → OwnMove (of_rw.Makes (resumes_as o m by handed)) t old new
+resumes_own (Some was) m by handed t old new around = around
+resumes_own None m by false t old new around = around
+resumes_own None rules.Shared by true t old new around = around
+resumes_own None rules.Exclusive by true t old new around = around
+resumes_own None rules.Upgradable by true t old new around = around
+
 pub tardy_makes : (recursive : Bool) (l : Lock) (t n : ℕ) (at : QueuePosition) (us : List ℕ) (p : LateRwPhase) (x : ℕ) (s : ActResult) → CallMeets recursive l t n at us (Tardy p) x → TardyTold p x s → (step : Plain) → tardy_move p s ≡ of_rw.Makes step → IsStep recursive t (Alone step) l (call_lock l t n us (Tardy p) s x)
 tardy_makes recursive l t n at us LateRwPhase.Masks x (ActResult.Before word) h told step e =
     let few : l.word.readers < 2 ^ 60 - 1 = let f = h.sound.fits in omega (arith, f.readers, f.upgradable, f.one, total_most 256 l.roles h.few, h.threads) in
@@ -272,6 +369,13 @@ tardy_makes recursive l t n at us LateRwPhase.Leaves x ActResult.Made h told ste
 tardy_makes recursive l t n at us (LateRwPhase.LeavesPending from) x ActResult.Made h told step e =
     subst (λ k. IsStep recursive t (Alone k) l (call_lock l t n us (Tardy (LateRwPhase.LeavesPending from)) ActResult.Made x)) (ap step_of e)
     ((h.here, tt), ap (λ w. record l { word = w; roles = slice_set l.roles t (call_role n QueuePosition.Listed us (Upgradable (record { phase = UpgradePhase.YieldLoads from }))) }) h.word)
+tardy_makes recursive l t n at us (LateRwPhase.WasTaken k by handed) x ActResult.Made h told step e =
+    let r = resumed recursive n us k by handed h.stands.0 h.stands.1 in
+    subst (λ q. IsStep recursive t (Alone q) l (call_lock l t n us (Tardy (LateRwPhase.WasTaken k by handed)) ActResult.Made x)) (ap step_of e) (
+      (h.here ∙ ap Some r.0, resumes_may recursive (pending_from k) (sleeper_wants k) by handed l),
+      resumes_write (pending_from k) (sleeper_wants k) by handed l t ∙ ap (λ q. record l { roles = slice_set l.roles t q }) (sym r.1) ∙ ap (λ b. record l { roles = slice_set l.roles t (call_role n QueuePosition.Listed us (resumed_call b k handed)) }) (sym h.stands.0)
+          ∙ ap (λ w. record l { word = w; roles = slice_set l.roles t (call_role n QueuePosition.Listed us (resumed_call (sleeper_asleep k) k handed)) }) h.word,
+    )
 tardy_makes recursive l t n at us (LateRwPhase.Expires k) x (ActResult.Woken token) h told step e = absurd cc
 tardy_makes recursive l t n at us p x s h told step e = absurd told
 
@@ -295,6 +399,7 @@ call_makes recursive l t n at us (Tardy p) x s step h told e found = tardy_makes
 tardy_own : (t : ℕ) (old new : Option ℕ) (p : LateRwPhase) (x : ℕ) (s : ActResult) → TardyTold p x s → IsOwnAct (late_rw_act p) → AfterAct (late_rw_act p) t old new → OwnMove (tardy_move p s) t old new
 tardy_own t old new LateRwPhase.Leaves x ActResult.Made told own around = around
 tardy_own t old new (LateRwPhase.LeavesPending from) x ActResult.Made told own around = around
+tardy_own t old new (LateRwPhase.WasTaken k by handed) x ActResult.Made told own around = resumes_own (pending_from k) (sleeper_wants k) by handed t old new around
 tardy_own t old new (LateRwPhase.Expires k) x s told own around = absurd own
 tardy_own t old new (LateRwPhase.Quits k) x s told own around = absurd own
 tardy_own t old new LateRwPhase.Masks x s told own around = absurd own
@@ -314,20 +419,20 @@ call_room recursive l t n at us k x h =
     omega (arith, same, f.readers, f.upgradable, f.one, total_most 256 l.roles h.few, h.threads)
 
 -- one that scans counts few
-scans_few : (us : List ℕ) (p : RwPhase) → length us < 2 ^ 18 → length us ≡ stances.rw_taken p → count_shared p ≤ 2 ^ 18
-scans_few us (RwPhase.Scans a) b e = omega (arith, b, e)
-scans_few us (RwPhase.Stores a left) b e = omega (arith, b, e)
-scans_few us p b e = omega arith
+scans_few : (p : RwPhase) → stances.rw_taken p < 2 ^ 18 → count_shared p ≤ 2 ^ 18
+scans_few (RwPhase.Scans a) b = omega (arith, b)
+scans_few (RwPhase.Stores a left) b = omega (arith, b)
+scans_few p b = omega arith
 
-upgrades_few : (us : List ℕ) (p : UpgradePhase) → length us < 2 ^ 18 → length us ≡ stances.upgrade_taken p → upgrade_shared p ≤ 2 ^ 18
-upgrades_few us (UpgradePhase.Frees r core) b e = scans_few us core.phase b e
-upgrades_few us (UpgradePhase.Owes kept end core) b e = scans_few us core.phase b e
-upgrades_few us p b e = omega arith
+upgrades_few : (p : UpgradePhase) → stances.upgrade_taken p < 2 ^ 18 → upgrade_shared p ≤ 2 ^ 18
+upgrades_few (UpgradePhase.Frees r core) b = scans_few core.phase b
+upgrades_few (UpgradePhase.Owes kept end core) b = scans_few core.phase b
+upgrades_few p b = omega arith
 
-pub call_few : (us : List ℕ) (k : RwCall) → length us < 2 ^ 18 → length us ≡ taken_count (rw_call k) → call_shared k ≤ 2 ^ 18
-call_few us (Simple k) b e = scans_few us k.phase b e
-call_few us (Upgradable k) b e = upgrades_few us k.phase b e
-call_few us (Tardy p) b e = omega arith
+pub call_few : (k : RwCall) → taken_count (rw_call k) < 2 ^ 18 → call_shared k ≤ 2 ^ 18
+call_few (Simple k) b = scans_few k.phase b
+call_few (Upgradable k) b = upgrades_few k.phase b
+call_few (Tardy p) b = omega arith
 
 -- WHO WAKES
 
@@ -352,17 +457,17 @@ simple_wakes recursive l t n at v vs (RwPhase.Finishes AfterWake.FreedShared) x 
 simple_wakes recursive l t n at v vs p x how stay q h e from out to = absurd cc
 
 -- an upgradable call that is to wake is one of two parts
-abbrev UpgradeWakes : UpgradePhase → Type 0
+abbrev pub UpgradeWakes : UpgradePhase → Type 0
 UpgradeWakes p = ((n : ℕ) (us : List ℕ) → of_upgrade_moves.move n us p ActResult.Made ≡ of_rw.WakesOne) × ((x : ℕ) → upgrade_rules.IsTold p x ActResult.Made) × ((f : List Waiter) → UpgradeLearns p ActResult.Made f)
 
-abbrev is_wake : Act → Bool
+abbrev pub is_wake : Act → Bool
 is_wake (Act.Section section.Wake) = true
 is_wake a = false
 
-not_wake : (a : Act) → is_wake a ≡ false → a ≡ Act.Section section.Wake → ⊥
+pub not_wake : (a : Act) → is_wake a ≡ false → a ≡ Act.Section section.Wake → ⊥
 not_wake a f e = both_ways (is_wake a) f (ap is_wake e)
 
-seeks_wake : (q : RwPhase) → upgrade_rules.IsSeeking q → is_wake (upgrade_table.seeks_act q) ≡ false
+pub seeks_wake : (q : RwPhase) → upgrade_rules.IsSeeking q → is_wake (upgrade_table.seeks_act q) ≡ false
 seeks_wake (RwPhase.Admits a word) i = by (rw_table.has_room word)
   where
     by : (b : Bool) → is_wake (cond b (Act.Exchange word ((word + 20) % 2 ^ 64)) Act.Load) ≡ false
@@ -372,7 +477,7 @@ seeks_wake (RwPhase.Wakes rest count) i = absurd i
 seeks_wake (RwPhase.Finishes rest) i = absurd i
 seeks_wake q i = refl
 
-drains_wake : (q : RwPhase) → upgrade_rules.IsDraining q → is_wake (rw_table.act_of q) ≡ false
+pub drains_wake : (q : RwPhase) → upgrade_rules.IsDraining q → is_wake (rw_table.act_of q) ≡ false
 drains_wake (RwPhase.Wakes rest count) i = absurd i
 drains_wake (RwPhase.Finishes rest) i = absurd i
 drains_wake q i = refl
@@ -390,7 +495,7 @@ owes_wake : (kept : hold_type.Hold) (end : CoreAnswer) (q : RwPhase) → upgrade
 owes_wake kept end (RwPhase.Wakes rest count) e = (λ n us. refl, λ x. tt, λ f. tt)
 owes_wake kept end q e = absurd cc
 
-upgrade_wakes : (us : List ℕ) (p : UpgradePhase) → upgrade_rules.IsReady p → upgrade_prepared us p → upgrade_table.act_of p ≡ Act.Section section.Wake → UpgradeWakes p
+pub upgrade_wakes : (us : List ℕ) (p : UpgradePhase) → upgrade_rules.IsReady p → upgrade_prepared us p → upgrade_table.act_of p ≡ Act.Section section.Wake → UpgradeWakes p
 upgrade_wakes us (UpgradePhase.Plain core) i o e = absurd o
 upgrade_wakes us (UpgradePhase.Seeks core) i o e = absurd (not_wake _ (seeks_wake core.phase i.0) e)
 upgrade_wakes us (UpgradePhase.Drains core) i o e = absurd (not_wake _ (drains_wake core.phase i.0) e)
@@ -405,6 +510,7 @@ tardy_wakes LateRwPhase.Masks e = cc
 tardy_wakes LateRwPhase.Leaves e = cc
 tardy_wakes LateRwPhase.GivesUp e = cc
 tardy_wakes (LateRwPhase.LeavesPending from) e = cc
+tardy_wakes (LateRwPhase.WasTaken k by handed) e = cc
 
 pub call_wakes : (recursive : Bool) (l : Lock) (t n : ℕ) (at : QueuePosition) (v : ℕ) (vs : List ℕ) (k : RwCall) (x : ℕ) (how : Waking) (stay : Stay) (q : Role) → CallMeets recursive l t n at (v ∷ vs) k x → core_act (rw_call k) ≡ Act.Section section.Wake → slice_get l.roles v ≡ Some (waking_from how t stay) → inside_of stay ≡ 0 → q ≡ waking_to how
     → CallWakes recursive l t n v vs k x how stay q
@@ -424,19 +530,21 @@ call_wakes recursive l t n at v vs (Upgradable k) x how stay q h e from out to =
 
 -- THE REST
 
-tardy_as : (p : LateRwPhase) (s : ActResult) (j t : ℕ) (a b : State) → IsRwMove (tardy_move p s) j t a b → IsLateRwMove p s j t a b
-tardy_as (LateRwPhase.Expires k) ActResult.Entered j t a b h = h
-tardy_as (LateRwPhase.Quits k) (ActResult.Took token left) j t a b h = absurd h
-tardy_as LateRwPhase.Masks (ActResult.Before word) j t a b h = h
-tardy_as LateRwPhase.Leaves ActResult.Made j t a b h = h
-tardy_as (LateRwPhase.LeavesPending from) ActResult.Made j t a b h = h
-tardy_as p s j t a b h = absurd h
+tardy_as : (p : LateRwPhase) (us : List ℕ) (s : ActResult) (j t : ℕ) (a b : State) → IsRwMove (tardy_move p s) us j t a b → IsLateRwMove p s j t a b
+tardy_as (LateRwPhase.Expires k) us ActResult.Entered j t a b h = h
+tardy_as (LateRwPhase.Expires k) us ActResult.Made j t a b h = absurd h
+tardy_as (LateRwPhase.WasTaken k by handed) us ActResult.Made j t a b h = h
+tardy_as (LateRwPhase.Quits k) us (ActResult.Took token left) j t a b h = absurd h
+tardy_as LateRwPhase.Masks us (ActResult.Before word) j t a b h = h
+tardy_as LateRwPhase.Leaves us ActResult.Made j t a b h = h
+tardy_as (LateRwPhase.LeavesPending from) us ActResult.Made j t a b h = h
+tardy_as p us s j t a b h = absurd h
 
 -- the move of a call is the step that the machine names
-pub as_move : (k : RwCall) (n : ℕ) (us : List ℕ) (s : ActResult) (j t : ℕ) (a b : State) → IsRwMove (call_move n us k s) j t a b → IsMoveOf (rw_call k) n us s j t a b
+pub as_move : (k : RwCall) (n : ℕ) (us : List ℕ) (s : ActResult) (j t : ℕ) (a b : State) → IsRwMove (call_move n us k s) us j t a b → IsMoveOf (rw_call k) n us s j t a b
 as_move (Simple k) n us s j t a b h = h
 as_move (Upgradable k) n us s j t a b h = h
-as_move (Tardy p) n us s j t a b h = tardy_as p s j t a b h
+as_move (Tardy p) n us s j t a b h = tardy_as p us s j t a b h
 
 -- an own act takes nobody
 simple_learns : (p : RwPhase) (s : ActResult) → IsOwnAct (rw_table.act_of p) → (f g : List Waiter) → Learns p s f g

@@ -363,6 +363,7 @@ tardy_stores LateRwPhase.Masks e = cc
 tardy_stores LateRwPhase.Leaves e = cc
 tardy_stores LateRwPhase.GivesUp e = cc
 tardy_stores (LateRwPhase.LeavesPending from) e = cc
+tardy_stores (LateRwPhase.WasTaken k by handed) e = cc
 
 pub call_stores : (recursive : Bool) (l : Lock) (t n : ℕ) (at : QueuePosition) (us : List ℕ) (k : RwCall) (x : ℕ) (fair : Bool) (plain change : WordChange) (key j : ℕ) (queues : ℕ → List Waiter) → CallMeets recursive l t n at us k x → IsPrepared recursive n (rw_call k) → at ≡ QueuePosition.Listed → stance (rw_call k) ≡ In key Stores
     → core_act (rw_call k) ≡ Act.Section (section.Store plain change) → is_left l.first ≡ is_left (queues (2 * j)) → SkipsOf l (queues (2 * j)) → KnowsList (rw_call k) queues j → CallStores recursive l t n us k x fair
@@ -484,6 +485,7 @@ tardy_masks (LateRwPhase.Quits k) e = absurd cc
 tardy_masks LateRwPhase.Leaves e = absurd cc
 tardy_masks LateRwPhase.GivesUp e = absurd cc
 tardy_masks (LateRwPhase.LeavesPending from) e = absurd cc
+tardy_masks (LateRwPhase.WasTaken k by handed) e = absurd cc
 
 -- only the last reader masks, and one whose moment has passed that stood last in the first list
 pub call_masks : (recursive : Bool) (n keep : ℕ) (y : RwCall) → IsPrepared recursive n (rw_call y) → core_act (rw_call y) ≡ Act.FetchAnd keep → ((rest : AfterWake) × (has : Bool) × (y ≡ Simple (record { phase = RwPhase.ClearWriterParked rest has }))) ⊎ (y ≡ Tardy LateRwPhase.Masks)

@@ -30,7 +30,7 @@ use Rattle.parking_lot_world.specs.declared.late_rw.RwSleeper.{RwSleeper}
 use Rattle.parking_lot_world.specs.declared.seat.QueuePosition.{QueuePosition}
 use Rattle.parking_lot_world.specs.declared.seat.WakeResult.{WakeResult}
 use Rattle.parking_lot_world.proofs.KindTable.{RwCall, Simple, Tardy, Upgradable, as_call, rw_call, rw_next}
-use Rattle.parking_lot_world.proofs.Sleepers.{back_up, lies_so}
+use Rattle.parking_lot_world.proofs.Sleepers.{back_up, lies_so, found_up}
 use Rattle.parking_lot_world.proofs.RwCalls.{CallLearns, CallStands, CallTold, HasStood, TardyStands, call_role}
 
 -- WHO SLEEPS
@@ -143,6 +143,7 @@ slept_so recursive n us (RwSleeper.Upgradable k) key park h e = upgrade_sleeps n
 tardy_sleeps : (recursive : Bool) (n : ℕ) (us : List ℕ) (p : LateRwPhase) (key : ℕ) (park : ParkToken) → TardyStands recursive n us p → late_rw_stance p ≡ stances.Asleep key park → CallSleeps n us (Tardy p) key park
 tardy_sleeps recursive n us (LateRwPhase.Expires k) key park h e = late_sleeps n us k key park (slept_so recursive n us k key park h (lies_so (stances.sleeper_stance k) key park e))
 tardy_sleeps recursive n us (LateRwPhase.Quits k) key park h e = absurd (back_up (stances.sleeper_stance k) key park e)
+tardy_sleeps recursive n us (LateRwPhase.WasTaken k by handed) key park h e = absurd (found_up (stances.sleeper_stance k) key park e)
 tardy_sleeps recursive n us p key park h e = absurd cc
 
 pub call_sleeps : (recursive : Bool) (n : ℕ) (us : List ℕ) (k : RwCall) (key : ℕ) (park : ParkToken) → CallStands recursive n us k → stance (rw_call k) ≡ stances.Asleep key park → CallSleeps n us k key park
@@ -238,6 +239,7 @@ woke_so recursive m t ws (RwSleeper.Upgradable k) x token key park h e = upgrade
 tardy_woken : (recursive : Bool) (m t : ℕ) (ws : List ℕ) (p : LateRwPhase) (x : ℕ) (token : UnparkToken) (key : ℕ) (park : ParkToken) → TardyStands recursive m ws p → late_rw_stance p ≡ stances.Asleep key park → CallWoken m t ws (Tardy p) x token
 tardy_woken recursive m t ws (LateRwPhase.Expires k) x token key park h e = late_woken m t ws k x token (woke_so recursive m t ws k x token key park h (lies_so (stances.sleeper_stance k) key park e))
 tardy_woken recursive m t ws (LateRwPhase.Quits k) x token key park h e = absurd (back_up (stances.sleeper_stance k) key park e)
+tardy_woken recursive m t ws (LateRwPhase.WasTaken k by handed) x token key park h e = absurd (found_up (stances.sleeper_stance k) key park e)
 tardy_woken recursive m t ws p x token key park h e = absurd cc
 
 pub call_woken : (recursive : Bool) (m t : ℕ) (ws : List ℕ) (k : RwCall) (x : ℕ) (token : UnparkToken) (key : ℕ) (park : ParkToken) → CallStands recursive m ws k → stance (rw_call k) ≡ stances.Asleep key park → CallWoken m t ws k x token

@@ -75,6 +75,8 @@ module _ (l : Lock) (t u n : ℕ) (at : QueuePosition) (us : List ℕ) (scan : S
   tardy_told : (p : LateRwPhase) → slice_get l.roles u ≡ Some (late_rw_role n (rw_spot at) us p) → late_rw_role n (rw_spot (settled_spot t said at)) us p ≡ settle (mark_of said) (late_rw_role n (rw_spot at) us p)
   tardy_told (LateRwPhase.Expires k) there = sleeper_told rules.Late at k there
   tardy_told (LateRwPhase.Quits k) there = sleeper_told rules.Back QueuePosition.Listed k there
+  tardy_told (LateRwPhase.WasTaken k by true) there = sleeper_told rules.Back (QueuePosition.Off by WakeResult.HandedOver) k there
+  tardy_told (LateRwPhase.WasTaken k by false) there = sleeper_told rules.Back (QueuePosition.Off by WakeResult.TryAgain) k there
   tardy_told p there = refl
 
   pub call_told_here : (k : RwCall) → slice_get l.roles u ≡ Some (call_role n at us k) → call_role n (settled_spot t said at) us k ≡ settle (mark_of said) (call_role n at us k)
@@ -106,6 +108,8 @@ module _ (l : Lock) (t u n : ℕ) (at : QueuePosition) (us : List ℕ) (own : Ro
   tardy_kept : (p : LateRwPhase) → slice_get l.roles u ≡ Some (late_rw_role n (rw_spot at) us p) → late_rw_role n (rw_spot (settled_spot t said at)) us p ≡ late_rw_role n (rw_spot at) us p
   tardy_kept (LateRwPhase.Expires k) there = sleeper_kept rules.Late at k there
   tardy_kept (LateRwPhase.Quits k) there = sleeper_kept rules.Back QueuePosition.Listed k there
+  tardy_kept (LateRwPhase.WasTaken k by true) there = refl
+  tardy_kept (LateRwPhase.WasTaken k by false) there = refl
   tardy_kept p there = refl
 
   pub call_kept_here : (k : RwCall) → slice_get l.roles u ≡ Some (call_role n at us k) → call_role n (settled_spot t said at) us k ≡ call_role n at us k
@@ -288,6 +292,7 @@ tardy_ends n at us (LateRwPhase.Quits k) answer e = absurd cc
 tardy_ends n at us LateRwPhase.Masks answer e = absurd cc
 tardy_ends n at us LateRwPhase.Leaves answer e = absurd cc
 tardy_ends n at us (LateRwPhase.LeavesPending from) answer e = absurd cc
+tardy_ends n at us (LateRwPhase.WasTaken k by handed) answer e = absurd cc
 
 pub call_ends : (recursive : Bool) (l : Lock) (t n : ℕ) (at : QueuePosition) (us : List ℕ) (k : RwCall) (x : ℕ) (answer : CoreAnswer) → CallMeets recursive l t n at us k x → has_begun (rw_call k) ≡ true → core_act (rw_call k) ≡ Act.Done answer
     → IsLastStep recursive (call_last n k) l t (call_role n at us k) x (record { owns = owned_of (hold_after n (rw_call k)); does = Idle })

@@ -1,6 +1,5 @@
 -- A scan has room to count whom it takes.
-use Rattle.std.proofs.Common.{◌≡◌, ◌≤◌, ◌<◌, ℕ, ◌+◌, ◌^◌, inl, inr, Bool, true, false, Option, Some, length, count_by, slice_get, refl, sym, ap, ◌∙◌, subst, arith}
-use Rattle.std.proofs.lemmas.List.Sums.{count_by-le-length}
+use Rattle.std.proofs.Common.{◌≡◌, ◌<◌, ℕ, ◌+◌, ◌^◌, inl, inr, Bool, true, false, Option, Some, slice_get, refl, sym, ap, ◌∙◌, subst, arith}
 use Rattle.parking_lot_core_lot.specs.declared.place.Waiter.{Waiter}
 use Rattle.parking_lot_protocol.specs.declared.rw_phase.RwPhase.{RwPhase}
 use Rattle.parking_lot_protocol.specs.RwRules.{IsToken}
@@ -9,15 +8,14 @@ use Rattle.std.proofs.lemmas.Bool.{both_ways}
 use Rattle.parking_lot_world.specs.Kinds.{AsRw, Manner, manner_of, recursive_in}
 use Rattle.parking_lot_world.specs.declared.open_call.Call.{Call}
 use Rattle.parking_lot_world.specs.declared.seat.Core.{Core}
-use Rattle.parking_lot_world.specs.Rows.{State, call_at, is_by, taken_by}
+use Rattle.parking_lot_world.specs.Rows.{State, call_at, taken_by}
 use Rattle.parking_lot_core_lot.specs.declared.parking.FilterOp.TheVariants.{Unpark}
 use Rattle.parking_lot_world.specs.Passes.{asks, look_by}
 use Rattle.parking_lot_world.specs.Stances.{Takes, In, core_act, stance, taken_count}
 use Rattle.parking_lot_world.specs.StanceLaws.{Counts, rw_counts}
 use Rattle.parking_lot_world.specs.RowActs.{key_of}
-use Rattle.parking_lot_world.specs.RowFits.{FitsTogether, IsOfKind, IsOfManner, IsPrepared, is_away}
+use Rattle.parking_lot_world.specs.RowFits.{FitsTogether, IsOfKind, IsOfManner, IsPrepared}
 use Rattle.parking_lot_world.proofs.Stancing.{small_key}
-use Rattle.parking_lot_world.proofs.Carrying.{taken_by-count}
 use Rattle.parking_lot_world.proofs.KindTable.{RwCall, Simple, Upgradable, of_rws, rw_call}
 use Rattle.parking_lot_world.proofs.Meeting.{meets}
 use Rattle.parking_lot_world.proofs.RwSleeps.{call_sleeps}
@@ -37,14 +35,7 @@ not_taken false y more e = refl
 module _ (s : State) (h : FitsTogether s) (t : ℕ) (c : Call) (here : call_at s t ≡ Some c) where
   -- few are to be woken
   few : taken_count c.core < 2 ^ 18
-  few =
-      let count : length (taken_by s.wakes t) ≡ taken_count c.core = h.lots.counted t c here in
-      let own : length (taken_by s.wakes t) ≡ count_by (is_by t) s.wakes = taken_by-count s.wakes t in
-      let all : count_by (is_by t) s.wakes ≤ length s.wakes = count_by-le-length (is_by t) s.wakes in
-      let room : length s.wakes ≡ count_by is_away s.calls = h.wakes.room in
-      let away : count_by is_away s.calls ≤ length s.calls = count_by-le-length is_away s.calls in
-      let small : length s.calls < 2 ^ 18 = h.rules.small in
-      omega arith
+  few = let counted = h.lots.counted t c here in omega (arith, counted.few, h.rules.small)
 
   pub scans_have_room : (k nth : ℕ) (w : Waiter) → stance c.core ≡ In k Takes → slice_get (s.lot.queues (key_of c k)) nth ≡ Some w → asks (core_act c.core) w.token.0 ≡ Unpark → Counts c.core w.token
   scans_have_room k nth w from at wanted = by_core c.core refl

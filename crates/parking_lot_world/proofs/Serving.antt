@@ -17,7 +17,6 @@ use Rattle.parking_lot_protocol.specs.declared.mutex_phase.MutexPhase.{MutexPhas
 use Rattle.parking_lot_protocol.specs.declared.rw_phase.RwPhase.{RwPhase}
 use Rattle.parking_lot_protocol.specs.declared.act.CoreAnswer.TheVariants as answer
 use Rattle.parking_lot_protocol.specs.declared.rw_phase.AfterWake.TheVariants as rest
-use Rattle.parking_lot_protocol.specs.MutexRules as rules_of_mutex
 use Rattle.parking_lot_protocol.specs.RwRules as rules_of_rw
 use Rattle.parking_lot_protocol.specs.MutexTable as of_mutex
 use Rattle.parking_lot_protocol.specs.RwTable as of_rw
@@ -29,7 +28,7 @@ use Rattle.parking_lot_upgrades.specs.declared.upgrade_phase.Hold.{Hold as Kept}
 use Rattle.parking_lot_upgrades.specs.declared.upgrade_phase.Release.{Release}
 use Rattle.parking_lot_upgrades.specs.declared.upgrade_phase.UpgradePhase.{UpgradePhase}
 use Rattle.parking_lot_world.specs.Stances.{seeks_stance, upgrade_stance, upgrade_taken, late_rw_act, late_rw_pending, late_rw_stance, sleeper_stance}
-use Rattle.parking_lot_world.specs.Rows.{rw_core_role}
+use Rattle.parking_lot_world.specs.Rows.{rw_core_role, mutex_does}
 use Rattle.parking_lot_world.proofs.KindTable as KindTable
 use Rattle.parking_lot_world.proofs.KindTable.{RwCall, Simple, rw_call, Tardy}
 use Rattle.parking_lot_world.specs.Kinds.{AsMutex, AsRw, manner_of, Manner}
@@ -39,9 +38,9 @@ use Rattle.parking_lot_world.specs.declared.seat.LatePhase.{LatePhase}
 use Rattle.parking_lot_world.specs.declared.seat.Core.{Core}
 use Rattle.parking_lot_world.specs.declared.open_call.Call.{Call}
 use Rattle.parking_lot_world.specs.CallViews.{mutex_mode, rw_mode}
-use Rattle.parking_lot_world.specs.Machines.{can_move, can_move_in, goes_late, is_asleep, is_possible, is_taken, sleeps, is_listed}
-use Rattle.parking_lot_world.specs.RowFits.{FitsTogether, IsOfKind, IsOfManner, IsTaken, Stands, Seated}
-use Rattle.parking_lot_world.specs.Rows.{State, first_of_all, mutex_spot, rw_spot, lock_as, mutex_at, rw_lock_at, call_at, everybody, hold_at, lock_at, mutex_role_at, rw_role_at, taken_by}
+use Rattle.parking_lot_world.specs.Machines.{can_move, can_move_in, goes_late, is_asleep, is_possible, is_taken, sleeps}
+use Rattle.parking_lot_world.specs.RowFits.{FitsTogether, IsOfKind, IsOfManner, Stands, Seated}
+use Rattle.parking_lot_world.specs.Rows.{State, mutex_spot, rw_spot, lock_as, mutex_at, rw_lock_at, call_at, everybody, hold_at, lock_at, mutex_role_at, rw_role_at, taken_by}
 use Rattle.parking_lot_world.specs.SoundLaws.{IsApart, SomebodyCanMove, SomebodyKeeps}
 use Rattle.parking_lot_world.specs.Stances.{Stance, Out, In, Doing, late_act, late_stance, taken_count, mutex_taken, rw_taken, core_act, mutex_stance, rw_stance, stance}
 use Rattle.parking_lot_world.specs.Stances as stances
@@ -49,7 +48,6 @@ use Rattle.parking_lot_world.specs.Worlds.{mode_in}
 use Rattle.parking_lot_world.proofs.Everybody.{get-all, within-all, was-all}
 use Rattle.parking_lot_world.proofs.Viewing.{apart_role}
 use Rattle.parking_lot_world.proofs.KindTable.{MutexCall, Plain, Late, mutex_call, Kind, of_mutexes, of_rws, role_at, role_now}
-use Rattle.parking_lot_world.proofs.Carrying.{taken_some}
 use Rattle.parking_lot_world.proofs.Meeting.{in_range, mutex_sound, rw_sound}
 use Rattle.parking_lot_world.specs.declared.late_rw.LateRwPhase.{LateRwPhase}
 use Rattle.parking_lot_world.specs.LateActs.{comes_late, is_back, is_pending, late_is_back, late_rw_is_back}
@@ -63,12 +61,11 @@ or_else true e = refl
 or_else false e = e
 
 -- one whose moment has passed
-comes_on : (a b c d e : Bool) → b ≡ true → c ≡ true → d ≡ true → ((a || (b && (c && d))) || e) ≡ true
-comes_on true b c d e x y z = refl
-comes_on false true true true e x y z = refl
-comes_on false true true false e x y z = absurd cc
-comes_on false true false d e x y z = absurd cc
-comes_on false false c d e x y z = absurd cc
+comes_on : (a b c e : Bool) → b ≡ true → c ≡ true → ((a || (b && c)) || e) ≡ true
+comes_on true b c e x y = refl
+comes_on false true true e x y = refl
+comes_on false true false e x y = absurd cc
+comes_on false false c e x y = absurd cc
 
 backs_on : (a b e : Bool) → a ≡ true → ((a || b) || e) ≡ true
 backs_on true b e x = refl
@@ -112,6 +109,7 @@ late_inside : (p : LatePhase) (b : Bool) (taken : ℕ → Bool) (k : ℕ) (how :
 late_inside LatePhase.Quits b taken k how e = refl
 late_inside LatePhase.Masks b taken k how e = or_else b refl
 late_inside LatePhase.Leaves b taken k how e = or_else b refl
+late_inside (LatePhase.WasTaken by handed) b taken k how e = or_else b refl
 late_inside p b taken k how e = absurd cc
 
 tardy_inside : (p : LateRwPhase) (b : Bool) (taken : ℕ → Bool) (k : ℕ) (how : Doing) → late_rw_stance p ≡ In k how → ((late_rw_is_back p || b) || is_possible taken (late_rw_act p)) ≡ true
@@ -120,6 +118,7 @@ tardy_inside (LateRwPhase.Quits q) b taken k how e = refl
 tardy_inside LateRwPhase.Masks b taken k how e = or_else b refl
 tardy_inside LateRwPhase.Leaves b taken k how e = or_else b refl
 tardy_inside (LateRwPhase.LeavesPending from) b taken k how e = or_else b refl
+tardy_inside (LateRwPhase.WasTaken q by handed) b taken k how e = or_else b refl
 tardy_inside LateRwPhase.GivesUp b taken k how e = absurd cc
 
 seeks_inside : (q : RwPhase) (k : ℕ) (how : Doing) (taken : ℕ → Bool) → seeks_stance q ≡ In k how → is_possible taken (upgrade_table.seeks_act q) ≡ true
@@ -148,15 +147,15 @@ upgrade_inside (UpgradePhase.Owes kept end core) k how taken e = owes_inside kep
 upgrade_inside p k how taken e = absurd cc
 
 inside_possible : (s : State) (d : Call) (c : Core) (k : ℕ) (how : Doing) → stance c ≡ In k how → (goes_late s d c || is_possible (is_taken s d) (core_act c)) ≡ true
-inside_possible s d (Core.Late p) k how e = late_inside p (comes_late (Core.Late p) && (is_listed d.spot && not (is_taken s d 0))) (is_taken s d) k how e
-inside_possible s d (Core.LateRw p) k how e = tardy_inside p (comes_late (Core.LateRw p) && (is_listed d.spot && not (is_taken s d (bit (late_rw_pending p))))) (is_taken s d) k how e
+inside_possible s d (Core.Late p) k how e = late_inside p (comes_late (Core.Late p) && not (is_taken s d 0)) (is_taken s d) k how e
+inside_possible s d (Core.LateRw p) k how e = tardy_inside p (comes_late (Core.LateRw p) && not (is_taken s d (bit (late_rw_pending p)))) (is_taken s d) k how e
 inside_possible s d (Core.Mutex c) k how e = mutex_inside c.phase k how (is_taken s d) e
 inside_possible s d (Core.Rw c) k how e = rw_inside c.phase k how (is_taken s d) e
 inside_possible s d (Core.Upgrade c) k how e = upgrade_inside c.phase k how (is_taken s d) e
 
 -- A SLEEPER, AS THE RULES SEE IT
 
-mutex_sleeps : (at : QueuePosition) (us : List ℕ) (p : MutexPhase) → sleeps (of_mutex.act_of p) ≡ true → mutex_laws.is_asleep (rules_of_mutex.does (mutex_spot at) (first_of_all us) p) ≡ true
+mutex_sleeps : (at : QueuePosition) (us : List ℕ) (p : MutexPhase) → sleeps (of_mutex.act_of p) ≡ true → mutex_laws.is_asleep (mutex_does (mutex_spot at) us p) ≡ true
 mutex_sleeps QueuePosition.Listed us MutexPhase.Sleeps e = refl
 mutex_sleeps (QueuePosition.Off by said) us MutexPhase.Sleeps e = refl
 mutex_sleeps at us (MutexPhase.Finishes giving) e = absurd (goes_on giving.again e)
@@ -364,30 +363,25 @@ module _ (s : State) (h : FitsTogether s) where
               ]
         ]
 
-  -- one whose moment has passed can come back, or who took it can move, or the one inside a section
-  late_sleeps : (v : ℕ) (d : Call) (at : QueuePosition) → call_at s v ≡ Some d → comes_late d.core ≡ true → d.spot ≡ at → Moves
-  late_sleeps v d QueuePosition.Listed there e listed = go s.lot.section refl
+  -- one whose moment has passed can come back, or the one inside a section can move
+  late_sleeps : (v : ℕ) (d : Call) → call_at s v ≡ Some d → comes_late d.core ≡ true → Moves
+  late_sleeps v d there e = go s.lot.section refl
     where
       go : (o : Option Section) → s.lot.section ≡ o → Moves
-      go None is = (v, ap (can_move_in s) there ∙ comes_on (is_back d.core) (comes_late d.core) (is_listed d.spot) (not (is_taken s d (bit (is_pending d.core)))) (is_possible (is_taken s d) (core_act d.core)) e (ap is_listed listed) (ap (λ o. not (is_some o)) is))
+      go None is = (v, ap (can_move_in s) there ∙ comes_on (is_back d.core) (comes_late d.core) (not (is_taken s d (bit (is_pending d.core)))) (is_possible (is_taken s d) (core_act d.core)) e (ap (λ o. not (is_some o)) is))
       go (Some o) is = inside_moves o is
-  late_sleeps v d (QueuePosition.Off by said) there e off =
-      let owed = h.wakes.off v by d said there off in
-      let taken : IsTaken s owed.1 = h.lots.woken owed.0 owed.1 owed.2 in
-      let some : 1 ≤ length (taken_by s.wakes owed.1.by) = taken_some s.wakes owed.0 owed.1 owed.2 in
-      awake_moves owed.1.by taken.taker taken.there (takers_wake taken.taker.core (omega (arith, some, h.lots.counted owed.1.by taken.taker taken.there)))
 
   -- and one that is back takes itself out
   back_moves : (v : ℕ) (d : Call) → call_at s v ≡ Some d → is_back d.core ≡ true → Moves
   back_moves v d there e = (v, ap (can_move_in s) there ∙ backs_on (is_back d.core) _ (is_possible (is_taken s d) (core_act d.core)) e)
 
   late_moves : (v : ℕ) (d : Call) (p : LatePhase) → call_at s v ≡ Some d → d.core ≡ Core.Late p → sleeps (late_act p) ≡ true → Moves
-  late_moves v d LatePhase.Expires there e asleep = late_sleeps v d d.spot there (ap comes_late e) refl
+  late_moves v d LatePhase.Expires there e asleep = late_sleeps v d there (ap comes_late e)
   late_moves v d LatePhase.Quits there e asleep = back_moves v d there (ap is_back e)
   late_moves v d p there e asleep = absurd cc
 
   tardy_moves : (v : ℕ) (d : Call) (p : LateRwPhase) → call_at s v ≡ Some d → d.core ≡ Core.LateRw p → sleeps (late_rw_act p) ≡ true → Moves
-  tardy_moves v d (LateRwPhase.Expires k) there e asleep = late_sleeps v d d.spot there (ap comes_late e) refl
+  tardy_moves v d (LateRwPhase.Expires k) there e asleep = late_sleeps v d there (ap comes_late e)
   tardy_moves v d (LateRwPhase.Quits k) there e asleep = back_moves v d there (ap is_back e)
   tardy_moves v d p there e asleep = absurd cc
 

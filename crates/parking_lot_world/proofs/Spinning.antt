@@ -15,8 +15,8 @@ use Rattle.parking_lot_protocol.specs.MutexTable as of_mutex
 use Rattle.parking_lot_protocol.specs.RwTable as of_rw
 use Rattle.parking_lot_upgrades.specs.UpgradeTable as ut
 use Rattle.parking_lot_upgrades.specs.declared.upgrade_phase.UpgradePhase.{UpgradePhase}
-use Rattle.parking_lot_world.specs.Rounds.{upgrade_rounds, late_rw_rounds, rounds}
-use Rattle.parking_lot_world.specs.Stances.{upgrade_begun, late_rw_next, pending_from, quits_as}
+use Rattle.parking_lot_world.specs.Rounds.{upgrade_rounds, late_rw_rounds, rounds, sleeper_rounds}
+use Rattle.parking_lot_world.specs.Stances.{upgrade_begun, late_rw_next, pending_from, quits_as, sign, resumed_as, sleeper_asleep}
 use Rattle.parking_lot_world.specs.declared.seat.LatePhase.{LatePhase}
 use Rattle.parking_lot_world.specs.declared.seat.Core.{Core}
 use Rattle.parking_lot_world.specs.Rounds.{FewRounds, IsUnderWay, mutex_rounds, rw_rounds}
@@ -184,6 +184,7 @@ late_on LatePhase.Quits (Took token left) = no_rounds
 late_on LatePhase.Masks (Before word) = no_rounds
 late_on LatePhase.Leaves Made = no_rounds
 late_on LatePhase.GivesUp s = no_rounds
+late_on (LatePhase.WasTaken by handed) Made = mutex_on MutexPhase.Sleeps (Woken (sign handed)) no_rounds
 late_on p s = no_rounds
 
 -- an upgradable call goes on as such a one, or begins to
@@ -232,6 +233,11 @@ upgrade_on (UpgradePhase.Frees r core) s h = few_rounds (ut.asks_now r core.phas
 upgrade_on (UpgradePhase.Owes kept end core) s h = rw_on core.phase s h
 upgrade_on p s h = own_rounds p s
 
+resumed_on : (k : RwSleeper) (handed b : Bool) → sleeper_rounds k ≤ 10 → rounds (resumed_as b k handed) ≤ 10
+resumed_on (RwSleeper.Simple c) handed true h = rw_on c.phase (Woken (sign handed)) h
+resumed_on (RwSleeper.Upgradable c) handed true h = upgrade_on c.phase (Woken (sign handed)) h
+resumed_on k handed false h = no_rounds
+
 tardy_on : (p : LateRwPhase) (s : ActResult) → late_rw_rounds p ≤ 10 → rounds (late_rw_next p s) ≤ 10
 tardy_on (LateRwPhase.Expires (RwSleeper.Simple c)) (Woken token) h = rw_on c.phase (Woken token) h
 tardy_on (LateRwPhase.Expires (RwSleeper.Upgradable c)) (Woken token) h = upgrade_on c.phase (Woken token) h
@@ -245,6 +251,7 @@ tardy_on (LateRwPhase.Quits k) (Took token left) h = quits_rounds (pending_from 
 tardy_on LateRwPhase.Masks (Before word) h = no_rounds
 tardy_on LateRwPhase.Leaves Made h = no_rounds
 tardy_on (LateRwPhase.LeavesPending from) Made h = no_rounds
+tardy_on (LateRwPhase.WasTaken k by handed) Made h = resumed_on k handed (sleeper_asleep k) h
 tardy_on p s h = no_rounds
 
 pub spins_few : (c : Core) (s : ActResult) → FewRounds c → FewRounds (core_next c s)

@@ -18,7 +18,7 @@ use Rattle.parking_lot_world.specs.declared.seat.LatePhase.{LatePhase}
 use Rattle.parking_lot_world.specs.declared.seat.Core.{Core}
 use Rattle.parking_lot_world.specs.declared.open_call.Call.{Call}
 use Rattle.parking_lot_world.specs.declared.seat.QueuePosition.{QueuePosition}
-use Rattle.parking_lot_world.specs.Rows.{State, word_at, call_at, hold_at, taken_by, first_of_all, mutex_at, rw_role_at, rw_lock_at, queue_at, inside, owned_of, owns_mutex, mutex_spot}
+use Rattle.parking_lot_world.specs.Rows.{State, word_at, call_at, hold_at, taken_by, first_of_all, mutex_at, rw_role_at, rw_lock_at, queue_at, inside, owned_of, owns_mutex, mutex_spot, mutex_role}
 use Rattle.parking_lot_world.specs.Stances.{Takes, has_begun, mutex_begun, late_act, core_act, core_next, Stance, Out, In, Asleep, stance, taken_count}
 use Rattle.parking_lot_core_lot.specs.Places.{passed_of}
 use Rattle.parking_lot_world.specs.Passes.{ArePassed, asks}
@@ -37,7 +37,7 @@ use Rattle.parking_lot_world.proofs.MutexMoving.{steps}
 use Rattle.parking_lot_world.proofs.MutexRoles.{words}
 use Rattle.parking_lot_world.proofs.Stancing.{calls_begin, calls_end}
 use Rattle.parking_lot_world.proofs.Meeting.{rw_sound, mutex_sound, role_few, in_range, meets, plays, plays_late}
-use Rattle.parking_lot_world.proofs.OwnMoves.{OwnMove}
+use Rattle.parking_lot_world.proofs.OwnMoves.{OwnMove, own_some}
 use Rattle.parking_lot_world.proofs.Ruling.{CallFits, Fitted, call_fits, rules_after, same_kind}
 use Rattle.parking_lot_world.proofs.KindTable.{Plain, RwCall, Simple, Upgradable, next_is, rw_call, rw_next, within_kinds, Kind, of_rws, of_mutexes, IsThere, Elsewhere, one_changed, role_at, role_now, role_stays, roles_at, same, shown, Tardy}
 use Rattle.parking_lot_world.proofs.Everybody.{get-all, was-all, length-all}
@@ -90,6 +90,14 @@ begin_mutex v us MutexPhase.Trying q b = (tt, refl, tt)
 begin_mutex v us (MutexPhase.Unlocking fair) q b = (tt, refl, tt)
 begin_mutex v us MutexPhase.Bumping q b = (tt, refl, tt)
 begin_mutex v us p q b = absurd (both_ways true b refl)
+
+-- one that begins is to wake nobody
+starts_as : (us : List ℕ) (p : MutexPhase) → mutex_begun p ≡ false → mutex_role of_mutex.Listed us (of_mutex_table.next_phase p seen.Start) ≡ of_mutex.role of_mutex.Listed (first_of_all us) (of_mutex_table.next_phase p seen.Start)
+starts_as us MutexPhase.Locking b = refl
+starts_as us MutexPhase.Trying b = refl
+starts_as us (MutexPhase.Unlocking fair) b = refl
+starts_as us MutexPhase.Bumping b = refl
+starts_as us p b = absurd (both_ways true b refl)
 
 out_takes : {k : ℕ} → Out ≡ In k Takes → ⊥
 out_takes e = cc
@@ -156,8 +164,8 @@ module _ (s : State) (t : ℕ) (c : Call) (may : MayBegin s t c) (h : FitsTogeth
       let well = call_started (recursive_in s.kinds c.lock) l t c.others c.spot us k x (hold_at s t c.lock) c.lock s.lot.queues owns met z.told in
       let same_next = sym (next_is k seen.Start) in (
         as_move k c.others us seen.Start c.lock t s next
-            (rw_goes s next t c.lock (call_move c.others us k seen.Start) _ none_there begun_elsewhere kind_is leads.0
-            (begun_after of_rws (rw_next k seen.Start) (ap (λ (y : Core). core_next y seen.Start) e ∙ next_is k seen.Start) ∙ same of_rws _ _ _ _ _ _ _ _ (ap (λ y. word_after (core_act y) seen.Start x) e) refl refl refl) leads.1),
+            (rw_goes s next t c.lock (call_move c.others us k seen.Start) us _ none_there begun_elsewhere kind_is leads.0
+            (begun_after of_rws (rw_next k seen.Start) (ap (λ (y : Core). core_next y seen.Start) e ∙ next_is k seen.Start) ∙ same of_rws _ _ _ _ _ _ _ _ (ap (λ y. word_after (core_act y) seen.Start x) e) refl refl refl) leads.1 (own_some (call_move c.others us k seen.Start) us t (inside s) (inside next) z.own)),
         subst (IsPrepared (recursive_in s.kinds c.lock) c.others) same_next well.0,
         subst (λ (y : Core). KnowsList y s.lot.queues c.lock) same_next well.1,
         h.rules.bits c.lock,
@@ -170,7 +178,7 @@ module _ (s : State) (t : ℕ) (c : Call) (may : MayBegin s t c) (h : FitsTogeth
       let step = steps.begins (mutex_at s c.lock) x t v k.phase owns.0
       (record { sound = mutex_sound s h c.lock kind_is; word = sym (words.forth x (h.rules.bits c.lock kind_is)); here = free_role of_mutexes ∙ ap Some (ap (λ (o : Bool). record { owns = o; does = mutex.Idle }) owns.2) }) in (
         mutex_goes s next t c.lock v us _ (of_mutex.move v k.phase seen.Start) none_there begun_elsewhere kind_is step.leads
-            (begun_after of_mutexes (Plain (record k { phase = of_mutex_table.next_phase k.phase seen.Start })) (ap (λ (y : Core). core_next y seen.Start) e) ∙ same of_mutexes _ _ _ _ _ _ [] [] (ap (λ y. word_after (core_act y) seen.Start x) e) refl refl refl)
+            (begun_after of_mutexes (Plain (record k { phase = of_mutex_table.next_phase k.phase seen.Start })) (ap (λ (y : Core). core_next y seen.Start) e) ∙ same of_mutexes _ _ _ _ _ _ [] [] (ap (λ y. word_after (core_act y) seen.Start x) e) (ap (slice_set (mutex_at s c.lock).roles t) (starts_as us k.phase owns.0)) refl refl)
             (subst (λ (y : Crossing). Crossed y t (inside s) (inside next)) (sym (step.crossing ∙ well.1)) refl) well.0,
         owns.1,
         well.2,
@@ -425,16 +433,17 @@ module _ (s : State) (h : FitsTogether s) (t : ℕ) (c : Call) (here : call_at s
   late_last LatePhase.Quits e asked = absurd cc
   late_last LatePhase.Masks e asked = absurd cc
   late_last LatePhase.Leaves e asked = absurd cc
+  late_last (LatePhase.WasTaken by handed) e asked = absurd cc
 
   module _ (answer : CoreAnswer) where
-    last_rw : (k : RwCall) → c.core ≡ rw_call k → core_act (rw_call k) ≡ Act.Done answer → IsRwMove (call_last c.others k) c.lock t s u
+    last_rw : (k : RwCall) → c.core ≡ rw_call k → core_act (rw_call k) ≡ Act.Done answer → IsRwMove (call_last c.others k) [] c.lock t s u
     last_rw k e asked =
         let met = meets s h t c k e here in
         let kind_is = of_rws.of_kind (slice_get s.kinds c.lock) k (subst (IsOfKind (slice_get s.kinds c.lock)) e (h.rules.kinds t c here)) in
         let leads = last_leads (recursive_in s.kinds c.lock) (call_last c.others k) (rw_lock_at s c.lock) (word_at s c.lock) _ _ (inside s) refl met.here (call_last_own t c.others k (inside s))
         (call_ends (recursive_in s.kinds c.lock) (rw_lock_at s c.lock) t c.others c.spot (taken_by s.wakes t) k (word_at s c.lock) answer met (subst (λ (x : Core). has_begun x ≡ true) e (h.rules.begun t c here).begun) asked) in
-        rw_goes s u t c.lock (call_last c.others k) _ there_before ends_elsewhere kind_is leads.0
-        (ended of_rws ∙ ap (λ (y : Core). with_role (rw_lock_at s c.lock) (word_at s c.lock) t (record { owns = owned_of (hold_after c.others y); does = Idle })) e) leads.1
+        rw_goes s u t c.lock (call_last c.others k) [] _ there_before ends_elsewhere kind_is leads.0
+        (ended of_rws ∙ ap (λ (y : Core). with_role (rw_lock_at s c.lock) (word_at s c.lock) t (record { owns = owned_of (hold_after c.others y); does = Idle })) e) leads.1 (own_some (call_last c.others k) [] t (inside s) (inside s) (call_last_own t c.others k (inside s)))
 
     last_of : (x : Core) → c.core ≡ x → core_act x ≡ Act.Done answer → IsLastOf x c.others c.lock t s u
     last_of (Core.Rw k) e asked = last_rw (Simple k) e asked
@@ -443,7 +452,7 @@ module _ (s : State) (h : FitsTogether s) (t : ℕ) (c : Call) (here : call_at s
     last_of (Core.Mutex k) e asked =
         let begun : mutex_begun k.phase ≡ true = subst (λ (x : Core). has_begun x ≡ true) e (h.rules.begun t c here).begun in
         let v = first_of_all (taken_by s.wakes t) in
-        let step = steps.ends (mutex_at s c.lock) (word_at s c.lock) t v (mutex_spot c.spot) k.phase answer (plays s h t c k e here) begun asked in
+        let step = steps.ends (mutex_at s c.lock) (word_at s c.lock) t v (mutex_spot c.spot) k.phase answer (plays s h t c k e here (λ w. let never : Act.Done answer ≡ Act.Section section.Wake = sym asked ∙ w in cc)) begun asked in
         mutex_goes s u t c.lock v [] _ (of_mutex.last_move k.phase) there_before ends_elsewhere (subst (IsOfKind (slice_get s.kinds c.lock)) e (h.rules.kinds t c here)) step.0
         (ended of_mutexes ∙ ap (λ (b : Bool). mutex_of (word_at s c.lock) (slice_set (mutex_at s c.lock).roles t (record { owns = b; does = mutex.Idle })) (mutex_at s c.lock).queue) (ap (λ (y : Core). owns_mutex (hold_after c.others y)) e ∙ shown_as.ends k.phase answer begun asked))
         (subst (λ (x : Crossing). Crossed x t (inside s) (inside u)) (sym step.1) refl) (last_tells v [] k.phase)

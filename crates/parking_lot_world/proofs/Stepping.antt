@@ -12,10 +12,10 @@ use Rattle.parking_lot_protocol.specs.declared.act.WordChange.{WordChange}
 use Rattle.parking_lot_world.specs.declared.open_call.Call.{Call}
 use Rattle.parking_lot_world.specs.Rows.{State, call_at}
 use Rattle.parking_lot_world.specs.Stances.{Takes, sign, late_act, late_rw_act, core_act, core_next, core_tells}
-use Rattle.parking_lot_world.specs.RowActs.{key_of, added, appended, answered, checked, entered, exchanged, left, loaded, masked, spun, told_all, took, took_nobody, woke}
+use Rattle.parking_lot_world.specs.RowActs.{key_of, added, appended, answered, checked, entered, exchanged, left, loaded, masked, spun, told_all, took, took_nobody, woke, woke_nobody}
 use Rattle.parking_lot_world.specs.RowFits.{FitsTogether}
 use Rattle.parking_lot_world.specs.ActLaws.{Acts, Ends, Keeps}
-use Rattle.parking_lot_world.specs.Machines.{is_listed, may_expire_in, is_possible, is_taken, can_move_in, can_move, end_of, goes_late, Became, BecameLate, IsJoined, IsStepped, IsTakenFrom, IsWoken}
+use Rattle.parking_lot_world.specs.Machines.{may_expire_in, is_possible, is_taken, can_move_in, can_move, end_of, goes_late, Became, BecameLate, IsJoined, IsStepped, IsTakenFrom, IsWoken}
 use Rattle.parking_lot_core_lot.specs.declared.place.Place.TheVariants.{Taken}
 use Rattle.parking_lot_protocol.specs.declared.act.ActResult.TheVariants as seen
 use Rattle.parking_lot_world.specs.Ranks.{Pays}
@@ -24,7 +24,7 @@ use Rattle.parking_lot_world.proofs.LotKept.{acts_keep_fits}
 use Rattle.parking_lot_world.proofs.LotSound.{appended_sound, left_sound, stored_sound, took_sound, took_nobody_sound, woke_sound}
 use Rattle.parking_lot_core_lot.specs.Sound as lot
 use Rattle.parking_lot_core_lot.proofs.Sequences.{sound_returned}
-use Rattle.parking_lot_world.specs.LateActs.{comes_late, is_back, is_pending, late_key, quitted, returned, sleeps_in_time}
+use Rattle.parking_lot_world.specs.LateActs.{comes_late, is_back, is_pending, late_key, quitted, returned, sleeps_in_time, came_back, found}
 use Rattle.parking_lot_world.specs.declared.late_rw.LateRwPhase.{LateRwPhase}
 use Rattle.parking_lot_rules.specs.Classes.{bit}
 use Rattle.parking_lot_world.specs.declared.seat.LatePhase.{LatePhase}
@@ -33,9 +33,10 @@ use Rattle.parking_lot_world.specs.declared.seat.QueuePosition.{QueuePosition}
 use Rattle.parking_lot_world.proofs.Acting.{laws}
 use Rattle.parking_lot_world.proofs.LateActs.{laws as late_laws}
 use Rattle.parking_lot_world.proofs.Paying as pays
-use Rattle.parking_lot_world.proofs.Paying.{IsTaking, wakes_pay, ends_pay}
+use Rattle.parking_lot_world.proofs.Paying.{IsTaking, wakes_pay, nobody_pays, ends_pay}
 use Rattle.parking_lot_world.proofs.TakeLaws as takes
 use Rattle.parking_lot_world.proofs.TellActs as tells
+use Rattle.parking_lot_world.specs.declared.seat.WakeResult.{WakeResult}
 
 -- one whose moment has passed does what its core says
 comes_act : (k : Core) → comes_late k ≡ true → core_act k ≡ Act.Sleep
@@ -43,7 +44,7 @@ comes_act (Core.Late LatePhase.Expires) e = refl
 comes_act (Core.LateRw (LateRwPhase.Expires z)) e = refl
 comes_act k e = absurd cc
 
-comes_became : (t : ℕ) (c : Call) (s u : State) (k : Core) → comes_late k ≡ true → u ≡ returned s t c → BecameLate k t c s u
+comes_became : (t : ℕ) (c : Call) (s u : State) (k : Core) → comes_late k ≡ true → u ≡ came_back c.spot s t c → BecameLate k t c s u
 comes_became t c s u (Core.Late LatePhase.Expires) e same = same
 comes_became t c s u (Core.LateRw (LateRwPhase.Expires z)) e same = same
 comes_became t c s u k e same = absurd cc
@@ -119,12 +120,20 @@ module _ (s u : State) (t : ℕ) (c : Call) (fair : Bool) (h : FitsTogether s) (
 
   pub wake : core_act c.core ≡ Act.Section section.Wake → IsWoken t c s u → IsStepped t fair None s u
   wake asked x =
-      plain (Act.Section section.Wake) asked refl x (woke s t c (x.0).thread x.1 x.2) x.4 (tells.laws.wake s t c x.0 x.1 x.2 asked x.3 (woke_sound s h.lots (x.0).thread (Taken x.2 x.3.sleep false) x.3.place (λ k. refl))) (wakes_pay s t c (x.0).thread x.1 x.2 h here x.3.there asked)
+      elim x [
+        | inl y ↦
+            plain (Act.Section section.Wake) asked refl (inl y) (woke s t c (y.0).thread y.1 y.2) y.4 (tells.laws.wake s t c y.0 y.1 y.2 asked y.3 (woke_sound s h.lots (y.0).thread (Taken y.2 y.3.sleep false) y.3.place (λ k. refl))) (wakes_pay s t c (y.0).thread y.1 y.2 h here y.3.there asked)
+        | inr y ↦ plain (Act.Section section.Wake) asked refl (inr y) (woke_nobody s t c) y.1 (tells.laws.nobody s t c asked y.0) (nobody_pays s t c h here asked)
+      ]
 
   -- whose moment has passed
   pub come_back : comes_late c.core ≡ true → c.spot ≡ QueuePosition.Listed → s.lot.section ≡ None → u ≡ returned s t c → IsStepped t fair None s u
   come_back late listed free e =
-      plain Act.Sleep (comes_act c.core late) refl (comes_became t c s u c.core late e) (returned s t c) e (late_laws.returns s t c late listed free (sound_returned s.lot t (late_key c) h.lots.sound)) (late_laws.returns_pay s t c late here)
+      plain Act.Sleep (comes_act c.core late) refl (comes_became t c s u c.core late (e ∙ ap (λ at. came_back at s t c) (sym listed))) (returned s t c) e (late_laws.returns s t c late listed free (sound_returned s.lot t (late_key c) h.lots.sound)) (late_laws.returns_pay s t c late here)
+
+  pub find : (by : ℕ) (said : WakeResult) → comes_late c.core ≡ true → c.spot ≡ QueuePosition.Off by said → s.lot.section ≡ None → lot.Sound (found s t c by said).lot → u ≡ found s t c by said → IsStepped t fair None s u
+  find by said late off free sound e =
+      plain Act.Sleep (comes_act c.core late) refl (comes_became t c s u c.core late (e ∙ ap (λ at. came_back at s t c) (sym off))) (found s t c by said) e (late_laws.finds s t c by said late off free sound) (late_laws.finds_pay s t c by said late h here)
 
   pub quit : is_back c.core ≡ true → lot.Sound (quitted s t c).lot → u ≡ quitted s t c → IsStepped t fair None s u
   quit late sound e = plain Act.Sleep (back_act c.core late) refl (back_became t c s u c.core late e) (quitted s t c) e (late_laws.quits s t c late sound) (late_laws.quits_pay s t c late here)
@@ -149,6 +158,7 @@ late_enters LatePhase.Quits key e = cc
 late_enters LatePhase.Masks key e = cc
 late_enters LatePhase.Leaves key e = cc
 late_enters LatePhase.GivesUp key e = cc
+late_enters (LatePhase.WasTaken by handed) key e = cc
 
 tardy_enters : (p : LateRwPhase) (key : ℕ) → late_rw_act p ≡ Act.Enter key → ⊥
 tardy_enters (LateRwPhase.Expires z) key e = cc
@@ -157,6 +167,7 @@ tardy_enters LateRwPhase.Masks key e = cc
 tardy_enters LateRwPhase.Leaves key e = cc
 tardy_enters LateRwPhase.GivesUp key e = cc
 tardy_enters (LateRwPhase.LeavesPending from) key e = cc
+tardy_enters (LateRwPhase.WasTaken z by handed) key e = cc
 
 not_late : (s : State) (c : Call) (k : Core) (key : ℕ) → core_act k ≡ Act.Enter key → goes_late s c k ≡ false
 not_late s c (Core.Mutex q) key e = refl
@@ -164,10 +175,6 @@ not_late s c (Core.Rw q) key e = refl
 not_late s c (Core.Upgrade q) key e = refl
 not_late s c (Core.Late p) key e = absurd (late_enters p key e)
 not_late s c (Core.LateRw p) key e = absurd (tardy_enters p key e)
-
-listed_so : (at : QueuePosition) → is_listed at ≡ true → at ≡ QueuePosition.Listed
-listed_so QueuePosition.Listed e = refl
-listed_so (QueuePosition.Off by said) e = absurd cc
 
 both_true : (a b : Bool) → (a && b) ≡ true → (a ≡ true) × (b ≡ true)
 both_true true b e = (refl, e)
@@ -177,13 +184,12 @@ other_true : (a b : Bool) → a ≡ false → (a || b) ≡ true → b ≡ true
 other_true false b f e = e
 other_true true b f e = absurd cc
 
--- one that comes back is in its list, and nobody is in a section
-pub comes_so : (s : State) (c : Call) → is_back c.core ≡ false → goes_late s c c.core ≡ true → (comes_late c.core ≡ true) × (c.spot ≡ QueuePosition.Listed) × (s.lot.section ≡ None)
+-- one that comes back finds nobody in a section
+pub comes_so : (s : State) (c : Call) → is_back c.core ≡ false → goes_late s c c.core ≡ true → (comes_late c.core ≡ true) × (s.lot.section ≡ None)
 comes_so s c e goes =
     let free = not (is_taken s c (bit (is_pending c.core))) in
-    let x = both_true (comes_late c.core) (is_listed c.spot && free) (other_true (is_back c.core) _ e goes) in
-    let y = both_true (is_listed c.spot) free x.1 in
-    (x.0, listed_so c.spot y.0, none_open s.lot.section y.1)
+    let x = both_true (comes_late c.core) free (other_true (is_back c.core) _ e goes) in
+    (x.0, none_open s.lot.section x.1)
 
 -- one that sleeps and can move is late
 pub can_late : (s : State) (t : ℕ) (c : Call) → can_move s t ≡ true → call_at s t ≡ Some c → core_act c.core ≡ Act.Sleep → goes_late s c c.core ≡ true
@@ -193,12 +199,9 @@ can_late s t c can here asked = or_none (goes_late s c c.core) (ap (λ a. goes_l
     or_none true e = refl
     or_none false e = e
 
--- one whose moment may pass sleeps in its list
-pub expires_so : (c : Call) → may_expire_in (Some c) ≡ true → (sleeps_in_time c.core ≡ true) × (c.spot ≡ QueuePosition.Listed)
-expires_so c e =
-    let x = both_true c.timed (is_listed c.spot && sleeps_in_time c.core) e in
-    let y = both_true (is_listed c.spot) (sleeps_in_time c.core) x.1 in
-    (y.1, listed_so c.spot y.0)
+-- one whose moment may pass sleeps
+pub expires_so : (c : Call) → may_expire_in (Some c) ≡ true → sleeps_in_time c.core ≡ true
+expires_so c e = (both_true c.timed (sleeps_in_time c.core) e).1
 
 -- one that may enter a section finds none open
 pub can_enter : (s : State) (t : ℕ) (c : Call) (key : ℕ) → can_move s t ≡ true → call_at s t ≡ Some c → core_act c.core ≡ Act.Enter key → s.lot.section ≡ None

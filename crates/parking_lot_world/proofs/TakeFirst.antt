@@ -21,7 +21,7 @@ use Rattle.parking_lot_world.proofs.RwCalls.{as_simple}
 use Rattle.parking_lot_world.proofs.RwSleeps.{CallSleepsSecond}
 use Rattle.parking_lot_world.specs.declared.seat.WakeResult.{WakeResult}
 use Rattle.parking_lot_world.proofs.Making.{mutex_goes, rw_goes}
-use Rattle.parking_lot_world.proofs.Meeting.{meets, plays, rw_hears, rw_sound}
+use Rattle.parking_lot_world.proofs.Meeting.{meets, plays, rw_hears, rw_sound, exact}
 use Rattle.parking_lot_world.proofs.MutexMoving.{steps}
 use Rattle.parking_lot_world.proofs.RwCrossing.{lists_are_known}
 use Rattle.parking_lot_world.proofs.RwTaking.{writers_are_taken}
@@ -31,7 +31,7 @@ use Rattle.parking_lot_world.specs.RowActs.{key_of, took}
 use Rattle.parking_lot_world.specs.RowFits.{FitsTogether, IsOfKind, IsPrepared}
 use Rattle.parking_lot_world.proofs.TakeSleepers.{rw_waits}
 use Rattle.parking_lot_world.specs.Rows.{State, word_at, call_at, taken_by, rw_spot, rw_lock_at, first_of_all, mutex_spot, mutex_at}
-use Rattle.parking_lot_world.specs.Stances.{Takes, In, mutex_stance, stance, taken_count, core_next}
+use Rattle.parking_lot_world.specs.Stances.{Takes, In, mutex_stance, stance, core_next}
 use Rattle.parking_lot_world.specs.declared.open_call.Call.{Call}
 use Rattle.parking_lot_world.specs.declared.seat.Core.{Core}
 
@@ -74,10 +74,10 @@ module _ (s : State) (t : ℕ) (c : Call) (k : ℕ) (w : Waiter) (from : stance 
       let none = took_list s t c k 0 w from at h here (2 * c.lock + 1) second ∙ one_left (s.lot.queues (key_of c k)) (subst (λ n. length (threads_of (s.lot.queues n)) ≤ 1) second few) in
       let well = rw_hears s h t c (Simple x) e here (took_told s c k 0 w) tt refl u.lot.queues none in (
         (
-          rw_goes s u t c.lock of_rw.TakesWriter _ there (took_elsewhere s t c k 0 w from at h here) kind_is (Shares c.others, v, sleeps.from, sleeps.stay, step)
+          rw_goes s u t c.lock of_rw.TakesWriter us _ there (took_elsewhere s t c k 0 w from at h here) kind_is (Shares c.others, v, sleeps.from, sleeps.stay, step)
               (took_after s t c k 0 w from at h here of_rws o its (rw_next (Simple x) (took_told s c k 0 w)) (ap (λ (x : Core). core_next x (took_told s c k 0 w)) e) _ refl (record { owns = Shares 0; does = Taken2 sleeps.from t sleeps.stay }) (sleeps.off t WakeResult.Nothing) _ _
               (list_there s t c k 0 w from at h here (2 * c.lock) (λ f. omega (arith, one, f))) (list_here s t c k 0 w from at h here (2 * c.lock + 1) second))
-              (still_inside s.lot.section (phase.Taking 0)),
+              (still_inside s.lot.section (phase.Taking 0)) tt,
           well.0,
           well.1,
           h.rules.bits c.lock,
@@ -100,8 +100,8 @@ module _ (s : State) (t : ℕ) (c : Call) (k : ℕ) (w : Waiter) (from : stance 
       let kind_is = subst (IsOfKind (slice_get s.kinds c.lock)) e (h.rules.kinds t c here) in
       let o = waits_so s t c k 0 w from at h here of_mutexes kind_is in
       let asleep = sleeps_so o.0 k w.token (ap stance (sym o.1) ∙ (the_sleeper s t c k 0 w from at h here).asleep) in
-      let nobody : us ≡ [] = no_length us (h.lots.counted t c here ∙ ap taken_count e) in
-      let step = steps.takes (mutex_at s c.lock) (word_at s c.lock) t v (mutex_spot c.spot) (MutexPhase.Takes giving) w.token left asleep.0 (plays s h t c x e here) refl (nth_there s t c k 0 w from at h here (2 * c.lock) first)
+      let nobody : us ≡ [] = no_length us (exact s h t c x e here (λ w. cc)) in
+      let step = steps.takes (mutex_at s c.lock) (word_at s c.lock) t v (mutex_spot c.spot) (MutexPhase.Takes giving) w.token left asleep.0 (plays s h t c x e here (λ w. cc)) refl (nth_there s t c k 0 w from at h here (2 * c.lock) first)
       (waits_listed s t c k 0 w from at h here of_mutexes o.0 o.1 ∙ ap Some (asleep.2 ws)) in (
         (
           mutex_goes s u t c.lock v us _ of_mutex.TakesOne there (took_elsewhere s t c k 0 w from at h here) kind_is (asleep.0, step.leads)

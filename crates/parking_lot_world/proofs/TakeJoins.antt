@@ -53,7 +53,7 @@ use Rattle.parking_lot_world.specs.Passes.{ArePassed, asks}
 use Rattle.parking_lot_world.proofs.Wanting.{passed_as}
 use Rattle.parking_lot_world.specs.RowSteps.{IsMoveOf, IsRwMove}
 use Rattle.parking_lot_world.specs.RwLaws.{Finds}
-use Rattle.parking_lot_world.proofs.OwnMoves.{OwnMove}
+use Rattle.parking_lot_world.proofs.OwnMoves.{OwnMove, own_some}
 use Rattle.parking_lot_core_lot.specs.declared.place.Phase.TheVariants as phase
 use Rattle.parking_lot_core_lot.specs.Sound as lot
 use Rattle.parking_lot_protocol.specs.declared.act.SectionAct.TheVariants as section
@@ -69,6 +69,7 @@ late_joins LatePhase.Quits k token e = cc
 late_joins LatePhase.Masks k token e = cc
 late_joins LatePhase.Leaves k token e = cc
 late_joins LatePhase.GivesUp k token e = cc
+late_joins (LatePhase.WasTaken by handed) k token e = cc
 
 pub late_takes : (p : LatePhase) (k : ℕ) → late_stance p ≡ In k Takes → ⊥
 late_takes LatePhase.Expires k e = cc
@@ -76,6 +77,7 @@ late_takes LatePhase.Quits k e = cc
 late_takes LatePhase.Masks k e = cc
 late_takes LatePhase.Leaves k e = cc
 late_takes LatePhase.GivesUp k e = cc
+late_takes (LatePhase.WasTaken by handed) k e = cc
 
 module _ (s : State) (t : ℕ) (c : Call) (k : ℕ) (token : ParkToken) (asked : core_act c.core ≡ Act.Section (section.Append token)) (from : stance c.core ≡ In k (Joins token))
     (sound : lot.Sound (appended s t c (key_of c k) token).lot) (h : FitsTogether s) (here : call_at s t ≡ Some c) where
@@ -144,15 +146,15 @@ module _ (s : State) (t : ℕ) (c : Call) (k : ℕ) (token : ParkToken) (asked :
       let z = call_joins (recursive_in s.kinds c.lock) (rw_lock_at s c.lock) t c.others c.spot owed y (word_at s c.lock) k token (meets s h t c y e here) (ap stance (sym e) ∙ from) in
       let well = rw_hears s h t c y e here ActResult.Made z.told tt u.lot.queues (z.learns (u.lot.queues (2 * c.lock)) (u.lot.queues (2 * c.lock + 1))) in
       let after = own_after of_rws s u t c ActResult.Made (rw_next y ActResult.Made) QueuePosition.Listed a (word_at s c.lock) refl in
-      let goes : IsRwMove (of_rw.Joins z.list) c.lock t s u = elim z.step [
+      let goes : IsRwMove (of_rw.Joins z.list) owed c.lock t s u = elim z.step [
         | inl x ↦
-            rw_goes s u t c.lock (of_rw.Joins z.list) _ (own-there s u t c ActResult.Made _ QueuePosition.Listed a) (own-elsewhere s u t c ActResult.Made _ QueuePosition.Listed a) kind_is x.1
-            (after ∙ same of_rws _ _ _ _ _ _ _ _ refl refl (list_here (2 * c.lock) (omega (arith, x.0))) (list_there (2 * c.lock + 1) (λ f. omega (arith, x.0, f)))) (still_inside s.lot.section phase.Joined)
+            rw_goes s u t c.lock (of_rw.Joins z.list) owed _ (own-there s u t c ActResult.Made _ QueuePosition.Listed a) (own-elsewhere s u t c ActResult.Made _ QueuePosition.Listed a) kind_is x.1
+            (after ∙ same of_rws _ _ _ _ _ _ _ _ refl refl (list_here (2 * c.lock) (omega (arith, x.0))) (list_there (2 * c.lock + 1) (λ f. omega (arith, x.0, f)))) (still_inside s.lot.section phase.Joined) tt
         | inr x ↦
-            rw_goes s u t c.lock (of_rw.Joins z.list) _ (own-there s u t c ActResult.Made _ QueuePosition.Listed a) (own-elsewhere s u t c ActResult.Made _ QueuePosition.Listed a) kind_is x.1
-            (after ∙ same of_rws _ _ _ _ _ _ _ _ refl refl (list_there (2 * c.lock) (λ f. omega (arith, x.0, f))) (list_here (2 * c.lock + 1) (omega (arith, x.0)))) (still_inside s.lot.section phase.Joined)
+            rw_goes s u t c.lock (of_rw.Joins z.list) owed _ (own-there s u t c ActResult.Made _ QueuePosition.Listed a) (own-elsewhere s u t c ActResult.Made _ QueuePosition.Listed a) kind_is x.1
+            (after ∙ same of_rws _ _ _ _ _ _ _ _ refl refl (list_there (2 * c.lock) (λ f. omega (arith, x.0, f))) (list_here (2 * c.lock + 1) (omega (arith, x.0)))) (still_inside s.lot.section phase.Joined) tt
       ] in
-      (as_move y c.others owed ActResult.Made c.lock t s u (subst (λ m. IsRwMove m c.lock t s u) (sym z.move) goes), well.0, well.1, h.rules.bits c.lock)
+      (as_move y c.others owed ActResult.Made c.lock t s u (subst (λ m. IsRwMove m owed c.lock t s u) (sym z.move) goes), well.0, well.1, h.rules.bits c.lock)
 
   -- AT A MUTEX
 
@@ -162,7 +164,7 @@ module _ (s : State) (t : ℕ) (c : Call) (k : ℕ) (token : ParkToken) (asked :
       let a = own_of (Core.Mutex z) e in
       let zero : 0 ≡ k = cc in (
         mutex_goes s u t c.lock (first_of_all owed) owed _ of_mutex.Joins (own-there s u t c ActResult.Made _ QueuePosition.Listed a) (own-elsewhere s u t c ActResult.Made _ QueuePosition.Listed a) (subst (IsOfKind (slice_get s.kinds c.lock)) e (h.rules.kinds t c here))
-            (steps.joins (mutex_at s c.lock) (word_at s c.lock) t (first_of_all owed) (mutex_spot c.spot) MutexPhase.Appends (record { 0 = 0 }) (plays s h t c z e here) refl).leads
+            (steps.joins (mutex_at s c.lock) (word_at s c.lock) t (first_of_all owed) (mutex_spot c.spot) MutexPhase.Appends (record { 0 = 0 }) (plays s h t c z e here (λ w. cc)) refl).leads
             (own_after of_mutexes s u t c ActResult.Made (Plain (record z { phase = of_mutex_table.next_phase MutexPhase.Appends ActResult.Made })) QueuePosition.Listed a (word_at s c.lock) refl ∙ same of_mutexes _ _ _ _ _ _ [] [] refl refl (list_here (2 * c.lock) (omega (arith, zero))) refl)
             (still_inside s.lot.section phase.Joined) tt,
         subst (IsPrepared (recursive_in s.kinds c.lock) c.others) e (h.rules.prepared t c here),
@@ -303,8 +305,8 @@ module _ (s : State) (t : ℕ) (c : Call) (k : ℕ) (from : stance c.core ≡ In
       let kind_is = of_rws.of_kind (slice_get s.kinds c.lock) y (subst (IsOfKind (slice_get s.kinds c.lock)) e (h.rules.kinds t c here)) in
       let leads_on = rw_leads (recursive_in s.kinds c.lock) (rw_lock_at s c.lock) t c.others c.spot owed_here y (word_at s c.lock) finds_none (meets s h t c y e here) heard finds a.listed (inside s) (inside found_state) moves in
       as_move y c.others owed_here finds_none c.lock t s found_state
-      (rw_goes s found_state t c.lock (call_move c.others owed_here y finds_none) _ (own-there s found_state t c finds_none _ c.spot a) (own-elsewhere s found_state t c finds_none _ c.spot a) kind_is leads_on.0
-      (own_after of_rws s found_state t c finds_none (rw_next y finds_none) c.spot a _ (a.word ∙ ap (λ y. word_after (core_act y) finds_none (word_at s c.lock)) e)) leads_on.1)
+      (rw_goes s found_state t c.lock (call_move c.others owed_here y finds_none) owed_here _ (own-there s found_state t c finds_none _ c.spot a) (own-elsewhere s found_state t c finds_none _ c.spot a) kind_is leads_on.0
+      (own_after of_rws s found_state t c finds_none (rw_next y finds_none) c.spot a _ (a.word ∙ ap (λ y. word_after (core_act y) finds_none (word_at s c.lock)) e)) leads_on.1 (own_some (call_move c.others owed_here y finds_none) owed_here t (inside s) (inside found_state) moves))
 
   -- the pending writer's list is empty
   finds_writer : (rest : AfterWake) → c.core ≡ Core.Rw (record { phase = RwPhase.TakeWriter rest }) → 1 ≡ k → Fitted s found_state t c finds_none (Core.Rw (record { phase = RwPhase.TakeWriter rest }))
@@ -342,7 +344,7 @@ module _ (s : State) (t : ℕ) (c : Call) (k : ℕ) (from : stance c.core ≡ In
       let a = find_of (Core.Mutex z) e in
       let zero : 0 ≡ k = cc in (
         mutex_goes s found_state t c.lock (first_of_all owed_here) owed_here _ of_mutex.Stays (own-there s found_state t c finds_none _ c.spot a) (own-elsewhere s found_state t c finds_none _ c.spot a) (subst (IsOfKind (slice_get s.kinds c.lock)) e (h.rules.kinds t c here))
-            (steps.takes_nobody (mutex_at s c.lock) (word_at s c.lock) t (first_of_all owed_here) (mutex_spot c.spot) (MutexPhase.Takes giving) left_over (plays s h t c z e here) refl).leads
+            (steps.takes_nobody (mutex_at s c.lock) (word_at s c.lock) t (first_of_all owed_here) (mutex_spot c.spot) (MutexPhase.Takes giving) left_over (plays s h t c z e here (λ w. cc)) refl).leads
             (own_after of_mutexes s found_state t c finds_none (Plain (record z { phase = of_mutex_table.next_phase (MutexPhase.Takes giving) finds_none })) c.spot a (word_at s c.lock) refl) (still_inside s.lot.section phase.Ended) tt,
         subst (IsPrepared (recursive_in s.kinds c.lock) c.others) e (h.rules.prepared t c here),
         (ap (λ n. is_left (s.lot.queues n)) (omega (arith, zero)), λ f. ap is_left (is_empty (λ token. ap (λ (x : Core). asks (core_act x) token) e))),

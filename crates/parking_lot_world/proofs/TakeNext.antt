@@ -98,11 +98,11 @@ module _ (s : State) (t : ℕ) (c : Call) (k nth : ℕ) (w : Waiter) (from : sta
       (sc.learns w.token left (u.lot.queues (2 * c.lock)) (u.lot.queues (2 * c.lock + 1)) (ap is_left (took_list s t c k nth w from at h here (2 * c.lock) first))) in (
         (
           as_move y c.others us (took_told s c k nth w) c.lock t s u
-              (subst (λ m. IsRwMove m c.lock t s u) (sym (sc.move us w.token left))
-              (rw_goes s u t c.lock (of_rw.TakesOne mode) _ there (took_elsewhere s t c k nth w from at h here) kind_is (step.0, nth, v, sleeps.stay, step.1)
+              (subst (λ m. IsRwMove m us c.lock t s u) (sym (sc.move us w.token left))
+              (rw_goes s u t c.lock (of_rw.TakesOne mode) us _ there (took_elsewhere s t c k nth w from at h here) kind_is (step.0, nth, v, sleeps.stay, step.1)
               (took_after s t c k nth w from at h here of_rws o its (rw_next y (took_told s c k nth w)) (ap (λ (x : Core). core_next x (took_told s c k nth w)) e ∙ next_is y (took_told s c k nth w)) _ refl (record { owns = Shares 0; does = Taken1 mode t Open sleeps.stay }) (sleeps.off t WakeResult.Nothing) _ _
               (list_here s t c k nth w from at h here (2 * c.lock) first) (list_there s t c k nth w from at h here (2 * c.lock + 1) (λ f. omega (arith, nought, f))))
-              (still_inside s.lot.section (phase.Taking nth)))),
+              (still_inside s.lot.section (phase.Taking nth)) tt)),
           well.0,
           well.1,
           h.rules.bits c.lock,

@@ -1,5 +1,5 @@
 -- The acts that tell and wake: each keeps the machine fit, and is a step of the rules.
-use Rattle.std.proofs.Common.{◌≡◌, ℕ, cond, Bool, false, Option, None, Some, inl, inr, refl, sym, ap, ◌∙◌}
+use Rattle.std.proofs.Common.{◌≡◌, ℕ, cond, Bool, false, Option, None, Some, inl, inr, refl, sym, ap, ◌∙◌, ◌≤◌, length}
 use Rattle.parking_lot_core_lot.specs.declared.parking.UnparkToken.{UnparkToken}
 use Rattle.parking_lot_core_lot.specs.Sound as lot
 use Rattle.parking_lot_protocol.specs.declared.act.Act.TheVariants as act
@@ -10,7 +10,7 @@ use Rattle.parking_lot_protocol.specs.Acts.{change_of}
 use Rattle.std.specs.Prelude.{bit_and}
 use Rattle.parking_lot_world.specs.declared.open_call.Call.{Call}
 use Rattle.parking_lot_world.specs.declared.seat.Wakeup.{Wakeup}
-use Rattle.parking_lot_world.specs.Rows.{State, word_at, call_at}
+use Rattle.parking_lot_world.specs.Rows.{State, word_at, call_at, taken_by}
 use Rattle.parking_lot_world.specs.Stances.{In, Stores, Takes, Tells, sign, stance, taken_count, core_act, core_next, core_tells}
 use Rattle.parking_lot_world.specs.RowActs.{settled, with_lot, with_call, settles, hears, told_all, masked, woke, told_of}
 use Rattle.parking_lot_world.specs.RowFits.{FitsTogether, LotFits, PassesFit}
@@ -29,6 +29,7 @@ use Rattle.parking_lot_world.proofs.Passing.{inside_mine, passes_after}
 use Rattle.std.specs.Option.{option_map}
 use Rattle.std.proofs.lemmas.Option.{none-some}
 use Rattle.parking_lot_world.specs.declared.seat.WakeResult.{WakeResult}
+use Rattle.parking_lot_world.proofs.WakesNobody.{wakes_nobody}
 
 -- What fits of the lot, whatever word is stored.
 lots_told : (s : State) (t : ℕ) (c : Call) (heard : ActResult) (token : UnparkToken) (word k : ℕ) → LotFits s → call_at s t ≡ Some c → stance c.core ≡ In k Stores → stance (core_next c.core heard) ≡ In k (Tells token)
@@ -75,9 +76,9 @@ mask s t c keep asked sound h here =
 
 -- WAKING
 
-due : (s : State) (t : ℕ) (c : Call) → core_act c.core ≡ act.Section section.Wake → FitsTogether s → call_at s t ≡ Some c
+due : (s : State) (t : ℕ) (c : Call) → core_act c.core ≡ act.Section section.Wake → FitsTogether s → call_at s t ≡ Some c → 1 ≤ length (taken_by s.wakes t)
     → (e : Wakeup) × (d : Call) × (token : UnparkToken) × (x : IsDue s t e d token) × (e.by ≡ t) × (x.sleep.mark ≡ e.mark)
-due s t c asked h here = is_due s t c h here (leads_by c.core (act.Section section.Wake) (word_at s c.lock) ActResult.Made asked tt).0 (h.lots.wakeful t c here asked)
+due s t c asked h here some = is_due s t c h here (leads_by c.core (act.Section section.Wake) (word_at s c.lock) ActResult.Made asked tt).0 some
 
 wake : (s : State) (t : ℕ) (c : Call) (e : Wakeup) (d : Call) (token : UnparkToken) → core_act c.core ≡ act.Section section.Wake → IsDue s t e d token
     → lot.Sound (woke s t c e.thread d token).lot → Keeps t c s (woke s t c e.thread d token)
@@ -103,5 +104,6 @@ laws = record {
   mask = mask;
   due = due;
   wake = wake;
+  nobody = wakes_nobody;
   goes_on = goes_on;
 }

@@ -34,7 +34,7 @@ use Rattle.parking_lot_world.specs.RowActs.{settled_spot, settled, told_of}
 use Rattle.parking_lot_world.specs.RowFits.{FitsTogether, IsOfKind, IsPrepared, KnowsList, IsOfManner}
 use Rattle.parking_lot_world.specs.Rows.{State, inside, word_at, call_at, hold_at, taken_by, mark_of, rw_lock_at, first_of_all, mutex_spot, mutex_word_of, mutex_at, queue_at}
 use Rattle.parking_lot_world.specs.RowSteps.{IsMutexMove, IsRwMove}
-use Rattle.parking_lot_world.specs.Stances.{Doing, In, Asleep, Stores, sign, late_act, mutex_stance, stance, taken_count, core_act, core_next, core_tells}
+use Rattle.parking_lot_world.specs.Stances.{Doing, In, Asleep, Stores, sign, late_act, mutex_stance, stance, core_act, core_next, core_tells}
 use Rattle.parking_lot_world.specs.declared.open_call.Call.{Call}
 use Rattle.parking_lot_world.specs.declared.seat.LatePhase.{LatePhase}
 use Rattle.parking_lot_world.specs.declared.seat.Core.{Core}
@@ -43,7 +43,7 @@ use Rattle.parking_lot_world.proofs.Acting.{word-here, has_word}
 use Rattle.parking_lot_world.proofs.Everybody.{all, get-all, settle-all}
 use Rattle.parking_lot_world.proofs.KindTable.{Plain, Late, RwCall, Simple, Upgradable, mutex_plays, next_is, rw_call, rw_next, Kind, of_rws, of_mutexes, IsThere, role_at, role_now, roles_at, same, shown, Tardy}
 use Rattle.parking_lot_world.proofs.Making.{made, mutex_goes, rw_goes, Crossed}
-use Rattle.parking_lot_world.proofs.Meeting.{in_range, meets, plays, plays_late, rw_hears}
+use Rattle.parking_lot_world.proofs.Meeting.{in_range, meets, plays, plays_late, rw_hears, exact}
 use Rattle.parking_lot_world.proofs.MutexMoving.{steps}
 use Rattle.parking_lot_world.proofs.MutexRoles.{roles}
 use Rattle.parking_lot_world.proofs.MutexTelling.{masks_call, tells_call}
@@ -125,6 +125,7 @@ late_stores LatePhase.Quits e = cc
 late_stores LatePhase.Masks e = cc
 late_stores LatePhase.Leaves e = cc
 late_stores LatePhase.GivesUp e = cc
+late_stores (LatePhase.WasTaken by handed) e = cc
 
 -- the parked bit is off
 masks_word : (x : ℕ) → x < 4 → (mutex_word_of (bit_and x (2 ^ 64 - 3)) ≡ record (mutex_word_of x) { parked = 0 }) × (bit_and x (2 ^ 64 - 3) < 4)
@@ -169,12 +170,12 @@ module _ (s : State) (t : ℕ) (c : Call) (plain fair : WordChange) (is_fair : B
       let tells = leads_by (rw_call y) (Act.Section (section.Store plain fair)) (word_at s c.lock) heard asks tt in
       let well = rw_hears s h t c y e here heard z.told tt s.lot.queues (z.learns (s.lot.queues (2 * c.lock)) (s.lot.queues (2 * c.lock + 1))) in (
         as_move y c.others taken heard c.lock t s next
-            (subst (λ m. IsRwMove m c.lock t s next) (sym z.move)
-            (rw_goes s next t c.lock (of_rw.Tells z.end z.left) _ there (told_elsewhere s t c heard token word h here) kind_is (z.scan, z.step)
+            (subst (λ m. IsRwMove m taken c.lock t s next) (sym z.move)
+            (rw_goes s next t c.lock (of_rw.Tells z.end z.left) taken _ there (told_elsewhere s t c heard token word h here) kind_is (z.scan, z.step)
             (told_after of_rws s t c heard token word h here y (rw_next y heard) e (ap (λ (x : Core). core_next x heard) e ∙ next_is y heard) (λ at park w. in_asleep (sym tells.2 ∙ ap stance (next_is y heard) ∙ w)) (settle (ends_saying z.end)) (λ o. refl)
             (λ x n at vs p there_is. subst (λ v. call_role n (settled_spot t (told_of token) at) vs p ≡ settle v (call_role n at vs p)) says (call_told_here l t x n at vs z.scan (told_of token) met.sound z.mine p there_is))
             (word_after (core_act (rw_call y)) heard (word_at s c.lock)) (ap (λ (x : Act). word_after x heard (word_at s c.lock)) (sym asks)))
-            (inside_stored token s.lot.section))),
+            (inside_stored token s.lot.section) tt)),
         well.0,
         well.1,
         λ x. absurd (two_kinds (sym kind_is ∙ x)),
@@ -185,7 +186,7 @@ module _ (s : State) (t : ℕ) (c : Call) (plain fair : WordChange) (is_fair : B
       let z : MutexCore = record y { phase = MutexPhase.Stores giving has left } in
       let kind_is = subst (IsOfKind (slice_get s.kinds c.lock)) e (h.rules.kinds t c here) in
       let first = first_of_all taken in
-      let playing = plays s h t c z e here in
+      let playing = plays s h t c z e here (λ w. cc) in
       let telling : IsTelling (mutex_at s c.lock) (word_at s c.lock) t first (MutexPhase.Stores giving has left) heard =
       steps.tells (mutex_at s c.lock) (word_at s c.lock) t first (mutex_spot c.spot) (MutexPhase.Stores giving has left) plain fair is_fair (s.lot.queues (2 * c.lock)) playing asks refl (subst (λ (x : Core). KnowsList x s.lot.queues c.lock) e (h.rules.knows t c here)) in
       let says : mark_of (told_of token) ≡ of_mutex.mark_of telling.handed = ap (λ (x : Core). mark_of (told_of (core_tells (core_next x heard)))) e ∙ ap (λ v. mark_of (told_of v)) telling.token ∙ marks telling.handed in
@@ -197,7 +198,7 @@ module _ (s : State) (t : ℕ) (c : Call) (plain fair : WordChange) (is_fair : B
             (tells_call (mutex_at s c.lock) t x (of_mutex.taken_of first has) vs (told_of token) playing.sound playing.here at p there_is))
             (word_after (of_mutex_table.act_of (MutexPhase.Stores giving has left)) heard (word_at s c.lock)) written)
             (inside_stored token s.lot.section)
-            (roles.taken (MutexPhase.Stores giving has left) taken telling.taken (h.lots.counted t c here ∙ ap taken_count e) telling.count)),
+            (roles.taken (MutexPhase.Stores giving has left) taken telling.taken (exact s h t c z e here (λ w. cc)) telling.count)),
         subst (IsPrepared (recursive_in s.kinds c.lock) c.others) e (h.rules.prepared t c here),
         tt,
         λ x. subst (λ n. n < 4) (sym (word-here s.words c.lock word (has_word s h t c here) ∙ written)) telling.small,
@@ -236,13 +237,13 @@ module _ (s : State) (t : ℕ) (c : Call) (keep : ℕ) (asked : core_act c.core 
       let met = meets s h t c z e here in
       let well = rw_hears s h t c z e here before told wants s.lot.queues (learns (s.lot.queues (2 * c.lock)) (s.lot.queues (2 * c.lock + 1))) in (
         as_move z c.others us before c.lock t s mask_then
-            (subst (λ m. IsRwMove m c.lock t s mask_then) (sym moves)
-            (rw_goes s mask_then t c.lock (of_rw.Makes step) _ (subst (IsThere c.lock) (sym here) refl) (told_elsewhere s t c before (sign false) (bit_and (word_at s c.lock) keep) h here) kind_is leads
+            (subst (λ m. IsRwMove m us c.lock t s mask_then) (sym moves)
+            (rw_goes s mask_then t c.lock (of_rw.Makes step) us _ (subst (IsThere c.lock) (sym here) refl) (told_elsewhere s t c before (sign false) (bit_and (word_at s c.lock) keep) h here) kind_is leads
             (told_after of_rws s t c before (sign false) (bit_and (word_at s c.lock) keep) h here z (rw_next z before) e (ap (λ (x : Core). core_next x before) e ∙ next_is z before) awake (λ x. x) (λ o. refl)
             (λ x n at vs p there_is. call_kept_here l t x n at vs (call_role c.others c.spot us z) (told_of (sign false)) met.sound met.here nobody p there_is)
             (word_after (core_act (rw_call z)) before (word_at s c.lock)) (ap (λ (x : Act). word_after x before (word_at s c.lock)) (sym asks))
             ∙ same of_rws _ _ _ _ _ _ _ _ refl (ap (λ rs. slice_set rs t (call_role c.others QueuePosition.Listed us (rw_next z before))) (map_none l.roles)) refl refl)
-            crossed)),
+            crossed tt)),
         well.0,
         well.1,
         λ x. absurd (two_kinds (sym kind_is ∙ x)),
@@ -298,6 +299,7 @@ module _ (s : State) (t : ℕ) (c : Call) (keep : ℕ) (asked : core_act c.core 
   mask_late LatePhase.Quits e asks = absurd cc
   mask_late LatePhase.Leaves e asks = absurd cc
   mask_late LatePhase.GivesUp e asks = absurd cc
+  mask_late (LatePhase.WasTaken by handed) e asks = absurd cc
 
   pub mask_fits : (key : ℕ) → stance c.core ≡ In key Stores → Fitted s mask_then t c before c.core
   mask_fits key from = go c.core refl

@@ -142,6 +142,7 @@ module _ (s : State) (t : ℕ) where
 late_order : (recursive : Bool) (n : ℕ) (p : LateRwPhase) → late_rw_prepared recursive n p → IsLateInOrder p
 late_order recursive n (LateRwPhase.Expires k) h = (h.0, ready_sleeper recursive n k h.1)
 late_order recursive n (LateRwPhase.Quits k) h = (h.0, ready_sleeper recursive n k h.1)
+late_order recursive n (LateRwPhase.WasTaken k by handed) h = (h.0, ready_sleeper recursive n k h.1)
 late_order recursive n p h = tt
 
 -- and one whose moment has passed slept

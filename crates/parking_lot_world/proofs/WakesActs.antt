@@ -15,7 +15,7 @@ use Rattle.parking_lot_world.specs.declared.open_call.Call.{Call}
 use Rattle.parking_lot_world.specs.declared.seat.Wakeup.{Wakeup}
 use Rattle.parking_lot_world.specs.Rows.{State, call_at, word_at, is_by}
 use Rattle.parking_lot_world.specs.Stances.{stance, Joins, Takes, Stance, Out, In, taken_count, core_tells}
-use Rattle.parking_lot_world.specs.RowActs.{settled_spot, settled, off_list, with_call, with_word, hears, key_of, told_of, loaded, exchanged, added, masked, spun, entered, checked, appended, took, took_nobody, told_all, left, woke, answered, begun}
+use Rattle.parking_lot_world.specs.RowActs.{settled_spot, settled, off_list, with_call, with_word, hears, key_of, told_of, loaded, exchanged, added, masked, spun, entered, checked, appended, took, took_nobody, told_all, left, woke, answered, begun, woke_nobody}
 use Rattle.parking_lot_world.specs.RowFits.{LotFits, WakesFit, IsOwed, is_off, is_away}
 use Rattle.parking_lot_world.proofs.Indexing.{get_front, kept_remove}
 use Rattle.parking_lot_world.proofs.Carrying.{same_call, call_within, set_here, set_elsewhere, unsettled_off, IsUp, up_sleeps}
@@ -246,6 +246,7 @@ acts_keep_wakes = record {
   masks = λ s t c keep h w here is. tells s (masked s t c keep) t c (ActResult.Before (word_at s c.lock)) WakeResult.TryAgain w here refl refl;
   leaves = λ s t c h w here is. hears_still s (left s t c) t c ActResult.Made w here refl refl;
   wakes = wakes;
+  wakes_nobody = λ s t c h w here is. hears_still s (woke_nobody s t c) t c ActResult.Made w here refl refl;
   begins = λ s t c w low here listed.
       wakes_listed s (begun s t c) t (Some (hears c ActResult.Start)) w low refl refl (ap is_away here) (λ d some. ap (λ (y : Call). y.spot) (sym (same_call some)) ∙ listed);
   ends = ends;

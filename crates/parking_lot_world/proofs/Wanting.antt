@@ -20,7 +20,7 @@ use Rattle.parking_lot_world.specs.Passes.{ArePassed}
 use Rattle.parking_lot_world.specs.RowFits.{Awaits, FitsTogether, IsOfManner}
 use Rattle.parking_lot_world.specs.Rows.{State, rw_lock_at, taken_by}
 use Rattle.parking_lot_world.specs.RwLaws.{WantAsTold}
-use Rattle.parking_lot_world.specs.Stances.{rw_stance, seeks_stance, stance, upgrade_stance, Asleep, In, Out, Stance, back_as, late_rw_stance, lying, sleeper_stance}
+use Rattle.parking_lot_world.specs.Stances.{rw_stance, seeks_stance, stance, upgrade_stance, Asleep, In, Out, Stance, back_as, late_rw_stance, lying, sleeper_stance, found_as}
 use Rattle.parking_lot_world.specs.declared.open_call.Call.{Call}
 use Rattle.parking_lot_world.proofs.KindTable.{RwCall, Simple, in_its_place, of_rws, rw_call, Tardy}
 use Rattle.parking_lot_world.proofs.Meeting.{in_range}
@@ -79,6 +79,11 @@ back_waits (Asleep key park) token e = e
 back_waits Out token e = absurd e
 back_waits (In key how) token e = absurd e
 
+found_waits : (a : Stance) (token : ParkToken) → Awaits 0 token (found_as a) → ⊥
+found_waits (Asleep key park) token e = e
+found_waits Out token e = e
+found_waits (In key how) token e = e
+
 sleeper_want : (n : ℕ) (us : List ℕ) (stay : Stay) (k : RwSleeper) (token : ParkToken) → Awaits 0 token (sleeper_stance k) → IsToken (Some token) × (wants (staying stay (sleeper_role n of_rw.Listed us k).does) ≡ mode_by token)
 sleeper_want n us stay (RwSleeper.Simple c) token e = let z = rw_wants n us c.phase token e in (z.0, staying_wants stay (of_rw.role n of_rw.Listed us c.phase).does ∙ z.1)
 sleeper_want n us stay (RwSleeper.Upgradable c) token e = let z = upgrade_want n us c.phase token e in (z.0, staying_wants stay (of_upgrade.role n of_rw.Listed us c.phase).does ∙ z.1)
@@ -86,6 +91,7 @@ sleeper_want n us stay (RwSleeper.Upgradable c) token e = let z = upgrade_want n
 tardy_want : (n : ℕ) (us : List ℕ) (p : LateRwPhase) (token : ParkToken) → Awaits 0 token (late_rw_stance p) → IsToken (Some token) × (wants (late_rw_role n of_rw.Listed us p).does ≡ mode_by token)
 tardy_want n us (LateRwPhase.Expires k) token e = sleeper_want n us Late k token (lying_waits (sleeper_stance k) token e)
 tardy_want n us (LateRwPhase.Quits k) token e = sleeper_want n us Back k token (back_waits (sleeper_stance k) token e)
+tardy_want n us (LateRwPhase.WasTaken k by handed) token e = absurd (found_waits (sleeper_stance k) token e)
 tardy_want n us p token e = absurd e
 
 call_want : (n : ℕ) (us : List ℕ) (k : RwCall) (token : ParkToken) → Awaits 0 token (stance (rw_call k)) → IsToken (Some token) × (wants (call_role n QueuePosition.Listed us k).does ≡ mode_by token)

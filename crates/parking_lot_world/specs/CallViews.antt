@@ -1,5 +1,5 @@
 -- What a call says of its thread at its lock: how it owns the lock, whether it is in debt there, and whether it sleeps.
-use Rattle.std.specs.Prelude.{◌≡◌, ◌<◌, ℕ, zero, suc, Bool, true, false, List, Option, Some, None}
+use Rattle.std.specs.Prelude.{◌≡◌, ◌<◌, ℕ, zero, suc, Bool, true, false, List, [], ◌∷◌, Option, Some, None}
 use Rattle.parking_lot_rules.specs.Roles.{Role}
 use Rattle.parking_lot_rules.specs.Classes.{Readers, Upgraders, Pending, Writers, Strange, weight}
 use Rattle.parking_lot_rules.specs.Owners.{Owner, Reading, Upgrading, Awaiting, Writing, owner_of}
@@ -95,6 +95,11 @@ core_asleep n at us (core.Late p) = of_mutex.is_asleep (mutex_core_role at us (c
 core_asleep n at us (core.LateRw p) = of_rw.is_asleep (rw_core_role n at us (core.LateRw p)).does
 core_asleep n at us (core.Upgrade c) = of_rw.is_asleep (rw_core_role n at us (core.Upgrade c)).does
 
+-- whether anybody is in a list
+abbrev pub are_some : List ℕ → Bool
+are_some [] = false
+are_some (v ∷ us) = true
+
 abbrev pub call_mode : List ℕ → Call → Option OwnMode
 call_mode us c = core_mode c.others c.spot us c.core
 
@@ -175,6 +180,7 @@ HasSlept k = (sleeper_asleep k ≡ true) × IsReadySleeper k
 abbrev pub IsLateInOrder : LateRwPhase → Type 0
 IsLateInOrder (late_rw.Expires k) = HasSlept k
 IsLateInOrder (late_rw.Quits k) = HasSlept k
+IsLateInOrder (late_rw.WasTaken k by handed) = HasSlept k
 IsLateInOrder p = Unit {0}
 
 -- whether one that was taken, and handed the lock, is to look whether readers are left

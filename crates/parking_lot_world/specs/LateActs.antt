@@ -1,10 +1,12 @@
 -- What the acts leave of the machine of a call whose moment has passed as it slept.
-use Rattle.std.specs.Prelude.{ℕ, ◌||◌, Bool, true, false, if◌then◌else◌, None}
+use Rattle.std.specs.Prelude.{ℕ, ◌||◌, Bool, true, false, if◌then◌else◌, Some, None, remove, slice_set}
+use Rattle.std.specs.List.{position_or_len}
 use Rattle.parking_lot_rules.specs.Classes.{bit}
 use Rattle.parking_lot_core_lot.specs.Machine as lot
 use Rattle.parking_lot_core_lot.specs.Machine.{Machine, given_up, in_phase, stored}
 use Rattle.parking_lot_core_lot.specs.Results.{is_left}
 use Rattle.parking_lot_core_lot.specs.declared.place.Phase.TheVariants as phase
+use Rattle.parking_lot_core_lot.specs.declared.place.Place.TheVariants.{Running}
 use Rattle.parking_lot_protocol.specs.declared.act.ActResult.TheVariants as seen
 use Rattle.parking_lot_protocol.specs.declared.mutex_phase.MutexPhase.{MutexPhase}
 use Rattle.parking_lot_protocol.specs.declared.mutex_phase.MutexPhase.TheVariants as m
@@ -16,7 +18,11 @@ use Rattle.parking_lot_world.specs.declared.late_rw.RwSleeper.TheVariants as sle
 use Rattle.parking_lot_world.specs.declared.seat.Core.{Core}
 use Rattle.parking_lot_world.specs.declared.seat.Core.TheVariants as core
 use Rattle.parking_lot_world.specs.declared.open_call.Call.{Call}
-use Rattle.parking_lot_world.specs.Rows.{State}
+use Rattle.parking_lot_world.specs.declared.seat.QueuePosition.{QueuePosition}
+use Rattle.parking_lot_world.specs.declared.seat.QueuePosition.TheVariants as spot
+use Rattle.parking_lot_world.specs.declared.seat.WakeResult.{WakeResult}
+use Rattle.parking_lot_world.specs.declared.seat.WakeResult.TheVariants as told
+use Rattle.parking_lot_world.specs.Rows.{State, is_for}
 use Rattle.parking_lot_world.specs.Stances.{late_rw_pending, rw_asleep, sign, upgrade_asleep}
 use Rattle.parking_lot_world.specs.RowActs.{hears, key_of, with_call, with_lot}
 
@@ -78,9 +84,35 @@ late_key c = key_of c (bit (is_pending c.core))
 abbrev pub expired : State → ℕ → Call → State
 expired s t c = with_call s t (record c { core = late_of c.core })
 
--- it comes back into the section of its list
+-- it comes back into the section of its list, where it stands
 abbrev pub returned : State → ℕ → Call → State
 returned s t c = with_lot (with_call s t (hears c seen.Entered)) (lot.returned s.lot t (late_key c))
+
+-- Or another has taken it, and it finds that out there: it runs, takes nobody, and has nothing to store.
+abbrev pub found_lot : State → ℕ → Call → Machine
+found_lot s t c = stored (in_phase (record (lot.returned s.lot t (late_key c)) { places = slice_set s.lot.places t (Some Running) }) phase.Ended) (sign false)
+
+abbrev pub is_handed : WakeResult → Bool
+is_handed told.Nothing = false
+is_handed told.TryAgain = false
+is_handed told.HandedOver = true
+
+abbrev pub found_as : ℕ → Bool → Core → Core
+found_as by handed (core.Late p) = core.Late (late.WasTaken by handed)
+found_as by handed (core.LateRw (late_rw.Expires k)) = core.LateRw (late_rw.WasTaken k by handed)
+found_as by handed k = k
+
+-- from there on nobody is to wake it
+abbrev pub unowed : State → ℕ → State
+unowed s t = record s { wakes = remove s.wakes (position_or_len (is_for t) s.wakes) }
+
+abbrev pub found : State → ℕ → Call → ℕ → WakeResult → State
+found s t c by said = with_lot (with_call (unowed s t) t (record c { core = found_as by (is_handed said) c.core; spot = spot.Listed })) (found_lot s t c)
+
+-- it comes back, by where it stood
+abbrev pub came_back : QueuePosition → State → ℕ → Call → State
+came_back spot.Listed s t c = returned s t c
+came_back (spot.Off by said) s t c = found s t c by said
 
 -- The lot once it has taken itself out, and whether others are left in its list. Then there is nothing to be stored, and nor is there for a pending
 -- writer, which takes its bit back outside.

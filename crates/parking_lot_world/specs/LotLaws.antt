@@ -1,5 +1,5 @@
 -- What fits of the lot still fits after each act, and the lot refuses no call that an act makes.
-use Rattle.std.specs.Prelude.{◌≡◌, ◌≢◌, ℕ, ◌+◌, ◌<◌, Bool, true, false, Some, None, length, slice_get, slice_set, [], replicate}
+use Rattle.std.specs.Prelude.{◌≡◌, ◌≢◌, ℕ, ◌+◌, ◌<◌, ◌≤◌, Bool, true, false, Some, None, length, slice_get, slice_set, [], replicate}
 use Rattle.std.specs.List.{position_or_len}
 use Rattle.std.specs.Option.{option_map_or}
 use Rattle.parking_lot_core_lot.specs.declared.parking.ParkToken.{ParkToken}
@@ -19,7 +19,7 @@ use Rattle.parking_lot_protocol.specs.declared.act.WordChange.{WordChange}
 use Rattle.parking_lot_world.specs.declared.seat.QueuePosition.TheVariants as spot
 use Rattle.parking_lot_world.specs.declared.open_call.Call.{Call}
 use Rattle.parking_lot_world.specs.declared.seat.Wakeup.{Wakeup}
-use Rattle.parking_lot_world.specs.Rows.{State, call_at, is_by}
+use Rattle.parking_lot_world.specs.Rows.{State, call_at, is_by, taken_by}
 use Rattle.parking_lot_world.specs.Stances.{Doing, Joins, Takes, In, Asleep, stance, core_act}
 use Rattle.parking_lot_world.specs.StanceLaws.{Counts}
 use Rattle.parking_lot_core_lot.specs.declared.parking.FilterOp.TheVariants.{Unpark}
@@ -59,6 +59,8 @@ pub record ActsKeepFits : Type 0 where
   -- the first whom it is to wake
   pub wakes : (s : State) (t : ℕ) (c : Call) (e : Wakeup) (d : Call) (token : UnparkToken) → slice_get s.wakes (position_or_len (is_by t) s.wakes) ≡ Some e → call_at s e.thread ≡ Some d
       → Keeps s t c (act.Section section.Wake) (acts.woke s t c e.thread d token)
+  -- or nobody, where all of them have gone on by themselves
+  pub wakes_nobody : (s : State) (t : ℕ) (c : Call) → taken_by s.wakes t ≡ [] → Keeps s t c (act.Section section.Wake) (acts.woke_nobody s t c)
   -- calls begin and end
   pub begins : (s : State) (t : ℕ) (c : Call) → LotFits s → t < length s.calls → call_at s t ≡ None → LotFits (acts.begun s t c)
   pub ends : (s : State) (t : ℕ) (c : Call) (answer : CoreAnswer) → Keeps s t c (act.Done answer) (acts.answered s t c)
@@ -113,8 +115,8 @@ pub record LotNeverRefuses : Type 0 where
   pub inside : (s : State) (t : ℕ) (c : Call) (k : ℕ) (how : Doing) → LotFits s → call_at s t ≡ Some c → stance c.core ≡ In k how → IsInside s t (acts.key_of c k)
   -- whom it may take there
   pub waiters : (s : State) (t : ℕ) (c : Call) (k nth : ℕ) (w : Waiter) → LotFits s → call_at s t ≡ Some c → stance c.core ≡ In k Takes → slice_get (s.lot.queues (acts.key_of c k)) nth ≡ Some w → IsWaiter s t k c w
-  -- one that is to wake somebody finds the one, and wakes it
-  pub wakes : (s : State) (t : ℕ) (c : Call) → Asks s t c (act.Section section.Wake) → (e : Wakeup) × (slice_get s.wakes (position_or_len (is_by t) s.wakes) ≡ Some e) × (e.by ≡ t) × IsDue s t e
+  -- one that is to wake somebody, who hasn't gone on by itself, finds the one, and wakes it
+  pub wakes : (s : State) (t : ℕ) (c : Call) → Asks s t c (act.Section section.Wake) → 1 ≤ length (taken_by s.wakes t) → (e : Wakeup) × (slice_get s.wakes (position_or_len (is_by t) s.wakes) ≡ Some e) × (e.by ≡ t) × IsDue s t e
 
 -- WHO IS TO BE WOKEN
 
@@ -138,6 +140,7 @@ pub record ActsKeepWakes : Type 0 where
   pub leaves : (s : State) (t : ℕ) (c : Call) → KeepsWakes s t c (act.Section section.Leave) (acts.left s t c)
   pub wakes : (s : State) (t : ℕ) (c : Call) (e : Wakeup) (d : Call) (token : UnparkToken) → slice_get s.wakes (position_or_len (is_by t) s.wakes) ≡ Some e → call_at s e.thread ≡ Some d
       → KeepsWakes s t c (act.Section section.Wake) (acts.woke s t c e.thread d token)
+  pub wakes_nobody : (s : State) (t : ℕ) (c : Call) → KeepsWakes s t c (act.Section section.Wake) (acts.woke_nobody s t c)
   -- a call begins as if its thread stood in a list
   pub begins : (s : State) (t : ℕ) (c : Call) → WakesFit s → t < length s.calls → call_at s t ≡ None → c.spot ≡ spot.Listed → WakesFit (acts.begun s t c)
   pub ends : (s : State) (t : ℕ) (c : Call) (answer : CoreAnswer) → KeepsWakes s t c (act.Done answer) (acts.answered s t c)

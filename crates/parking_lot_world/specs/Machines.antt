@@ -14,7 +14,6 @@ use Rattle.parking_lot_world.specs.declared.calls.LockCall.{LockCall}
 use Rattle.parking_lot_world.specs.declared.calls.LockKind.{LockKind}
 use Rattle.parking_lot_world.specs.declared.open_call.Call.{Call}
 use Rattle.parking_lot_world.specs.declared.seat.Hold.TheVariants as hold
-use Rattle.parking_lot_world.specs.declared.seat.QueuePosition.{QueuePosition}
 use Rattle.parking_lot_world.specs.declared.seat.QueuePosition.TheVariants as spot
 use Rattle.parking_lot_rules.specs.Classes.{bit}
 use Rattle.parking_lot_world.specs.declared.late_rw.LateRwPhase.{LateRwPhase}
@@ -25,18 +24,18 @@ use Rattle.parking_lot_world.specs.declared.seat.Core.TheVariants as core
 use Rattle.parking_lot_world.specs.Calls.{is_timed, takes}
 use Rattle.parking_lot_world.specs.Kinds.{kind_in}
 use Rattle.parking_lot_world.specs.Beginnings.{core_of, holds_beside, is_allowed}
-use Rattle.parking_lot_world.specs.Rows.{State, call_at, hold_at, open_at}
+use Rattle.parking_lot_world.specs.Rows.{State, call_at, hold_at, open_at, taken_by}
 use Rattle.parking_lot_core_lot.specs.declared.parking.ParkToken.{ParkToken}
 use Rattle.parking_lot_core_lot.specs.declared.parking.UnparkToken.{UnparkToken}
 use Rattle.parking_lot_core_lot.specs.declared.place.Taking.{Taking}
 use Rattle.parking_lot_core_lot.specs.declared.place.Waiter.{Waiter}
 use Rattle.parking_lot_world.specs.declared.seat.Wakeup.{Wakeup}
 use Rattle.parking_lot_world.specs.Stances.{In, Joins, Takes, stance, core_act}
-use Rattle.parking_lot_world.specs.RowActs.{key_of, loaded, exchanged, added, masked, spun, entered, checked, appended, took, took_nobody, told_all, left, woke, begun, answered, off_list}
+use Rattle.parking_lot_world.specs.RowActs.{key_of, loaded, exchanged, added, masked, spun, entered, checked, appended, took, took_nobody, told_all, left, woke, woke_nobody, begun, answered, off_list}
 use Rattle.parking_lot_world.specs.Passes.{ArePassed, IsNext, asks}
 use Rattle.parking_lot_world.specs.TellLaws.{IsDue}
 use Rattle.parking_lot_world.specs.ActLaws.{Acts, Ends}
-use Rattle.parking_lot_world.specs.LateActs.{comes_late, expired, is_back, is_pending, quitted, returned, sleeps_in_time}
+use Rattle.parking_lot_world.specs.LateActs.{came_back, comes_late, expired, is_back, is_pending, quitted, sleeps_in_time}
 use Rattle.parking_lot_world.specs.LateLaws.{Expires}
 use Rattle.parking_lot_world.specs.Ranks.{Costs, Pays}
 
@@ -49,14 +48,9 @@ is_possible taken other = true
 abbrev pub is_taken : State → Call → ℕ → Bool
 is_taken s c k = is_some (open_at s (key_of c k))
 
-abbrev pub is_listed : QueuePosition → Bool
-is_listed spot.Listed = true
-is_listed (spot.Off by said) = false
-
--- One whose moment has passed comes back from its list, where no section is taken, and takes itself out there. Where another has taken it in the
--- meantime it waits for that one.
+-- One whose moment has passed comes back, where no section is taken, and takes itself out of its list there, or finds that another has taken it.
 abbrev pub goes_late : State → Call → Core → Bool
-goes_late s c k = is_back k || (comes_late k && (is_listed c.spot && not (is_taken s c (bit (is_pending k)))))
+goes_late s c k = is_back k || (comes_late k && not (is_taken s c (bit (is_pending k))))
 
 abbrev pub can_move_in : State → Option Call → Bool
 can_move_in s None = false
@@ -113,9 +107,10 @@ IsTakenFrom t c s u =
 abbrev pub IsJoined : ℕ → Call → ParkToken → State → State → Type 0
 IsJoined t c token s u = (k : ℕ) × (stance c.core ≡ In k (Joins token)) × (u ≡ appended s t c (key_of c k) token)
 
--- it wakes the first whom it has taken
+-- it wakes the first of those whom it has taken and who haven't gone on by themselves, or nobody where all have
 abbrev pub IsWoken : ℕ → Call → State → State → Type 0
-IsWoken t c s u = (e : Wakeup) × (d : Call) × (token : UnparkToken) × IsDue s t e d token × (u ≡ woke s t c e.thread d token)
+IsWoken t c s u =
+    ((e : Wakeup) × (d : Call) × (token : UnparkToken) × IsDue s t e d token × (u ≡ woke s t c e.thread d token)) ⊎ ((taken_by s.wakes t ≡ []) × (u ≡ woke_nobody s t c))
 
 -- The machine after an act in a section, or after one, whole. A release that stores goes by what the schedule says.
 abbrev pub BecameInside : SectionAct → ℕ → Bool → Call → State → State → Type 0
@@ -127,14 +122,14 @@ BecameInside (section.Store plain handing) t fair c s u = u ≡ told_all s t c (
 BecameInside section.Leave t fair c s u = u ≡ left s t c
 BecameInside section.Wake t fair c s u = IsWoken t c s u
 
--- One whose moment has passed goes on as it sleeps, or takes itself out of its list.
+-- One whose moment has passed comes back as it sleeps, or takes itself out of its list.
 abbrev pub BecameLateRw : LateRwPhase → ℕ → Call → State → State → Type 0
-BecameLateRw (late_rw.Expires k) t c s u = u ≡ returned s t c
+BecameLateRw (late_rw.Expires k) t c s u = u ≡ came_back c.spot s t c
 BecameLateRw (late_rw.Quits k) t c s u = u ≡ quitted s t c
 BecameLateRw p t c s u = ⊥
 
 abbrev pub BecameLate : Core → ℕ → Call → State → State → Type 0
-BecameLate (core.Late late.Expires) t c s u = u ≡ returned s t c
+BecameLate (core.Late late.Expires) t c s u = u ≡ came_back c.spot s t c
 BecameLate (core.Late late.Quits) t c s u = u ≡ quitted s t c
 BecameLate (core.LateRw p) t c s u = BecameLateRw p t c s u
 BecameLate k t c s u = ⊥
@@ -157,10 +152,10 @@ pub record IsBegun (t lock : ℕ) (call : LockCall) (s u : State) : Type 0 where
   pub acts : Acts t (call_for s t lock call) seen.Start s u
   pub costs : Costs t call s u
 
--- whether a thread's moment may pass: it is in a call that has one, and sleeps in its list
+-- whether a thread's moment may pass: it is in a call that has one, and sleeps there, in its list or taken off it
 abbrev pub may_expire_in : Option Call → Bool
 may_expire_in None = false
-may_expire_in (Some c) = c.timed && (is_listed c.spot && sleeps_in_time c.core)
+may_expire_in (Some c) = c.timed && sleeps_in_time c.core
 
 abbrev pub may_expire : State → ℕ → Bool
 may_expire s t = may_expire_in (call_at s t)

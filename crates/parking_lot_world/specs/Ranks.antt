@@ -201,16 +201,17 @@ upgrade_steps n v phase = 1
 
 -- ONE WHOSE MOMENT HAS PASSED
 
--- it comes back, takes itself out, masks the parked bit off, leaves, and is answered
+-- it comes back, takes itself out, masks the parked bit off, leaves, and is answered; or it was taken, leaves, and asks again from the beginning
 abbrev pub late_steps : LatePhase → ℕ
-late_steps late.Expires = 5
+late_steps late.Expires = 53
 late_steps late.Quits = 4
 late_steps late.Masks = 3
 late_steps late.Leaves = 2
 late_steps late.GivesUp = 1
+late_steps (late.WasTaken by handed) = 52
 
 -- At a reader-writer lock so too, but that a pending writer looks at the word after it has left, takes its bit back by an exchange that may be lost
--- once, and goes through the list of those that it kept out. Where it is woken after all, it goes on as it slept.
+-- once, and goes through the list of those that it kept out. Where it was taken it goes on as it slept.
 abbrev pub sleeper_steps : ℕ → View → RwSleeper → ℕ
 sleeper_steps n v (sleeper.Simple c) = rw_steps n v c.phase
 sleeper_steps n v (sleeper.Upgradable c) = upgrade_steps n v c.phase
@@ -220,18 +221,19 @@ quits_steps n None = 4
 quits_steps n (Some from) = (wake + 1) * n + 11
 
 abbrev pub late_rw_steps : ℕ → View → LateRwPhase → ℕ
-late_rw_steps n v (late_rw.Expires k) = sleeper_steps n v k + quits_steps n (pending_from k) + 1
+late_rw_steps n v (late_rw.Expires k) = sleeper_steps n v k + wake + quits_steps n (pending_from k) + 1
 late_rw_steps n v (late_rw.Quits k) = quits_steps n (pending_from k)
 late_rw_steps n v late_rw.Masks = 3
 late_rw_steps n v late_rw.Leaves = 2
 late_rw_steps n v late_rw.GivesUp = 1
 late_rw_steps n v (late_rw.LeavesPending from) = (wake + 1) * n + 10
+late_rw_steps n v (late_rw.WasTaken k by handed) = sleeper_steps n v k + wake
 
 -- what a deadline adds, by who sleeps
 abbrev pub late_cost : ℕ → Core → ℕ
-late_cost n (core.Rw c) = quits_steps n (pending_from (sleeper.Simple c)) + 1
-late_cost n (core.Upgrade c) = quits_steps n (pending_from (sleeper.Upgradable c)) + 1
-late_cost n k = 5
+late_cost n (core.Rw c) = wake + quits_steps n (pending_from (sleeper.Simple c)) + 1
+late_cost n (core.Upgrade c) = wake + quits_steps n (pending_from (sleeper.Upgradable c)) + 1
+late_cost n k = 53
 
 -- ALL THREADS
 

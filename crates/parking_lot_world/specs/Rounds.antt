@@ -52,6 +52,7 @@ sleeper_rounds (sleeper.Upgradable c) = upgrade_rounds c.phase
 -- one whose moment has passed keeps those that it has left where it is woken after all
 abbrev pub late_rw_rounds : LateRwPhase → ℕ
 late_rw_rounds (late_rw.Expires k) = sleeper_rounds k
+late_rw_rounds (late_rw.WasTaken k by handed) = sleeper_rounds k
 late_rw_rounds p = 0
 
 abbrev pub rounds : Core → ℕ

@@ -147,6 +147,10 @@ woke s t c v d token =
       lot = record s.lot { places = slice_set s.lot.places v (Some Running) };
     }
 
+-- those whom it was to wake have gone on by themselves
+abbrev pub woke_nobody : State → ℕ → Call → State
+woke_nobody s t c = with_call s t (hears c seen.Made)
+
 -- WHAT A THREAD OWNS WHERE ITS CALL ENDS
 
 abbrev pub rest_hold : ℕ → AfterWake → Hold

@@ -278,6 +278,7 @@ sleeper_prepared recursive n (sleeper.Upgradable c) = (n ≡ 0) × of_upgrade.Is
 abbrev pub late_rw_prepared : Bool → ℕ → LateRwPhase → Type 0
 late_rw_prepared recursive n (late_rw.Expires k) = (sleeper_asleep k ≡ true) × sleeper_prepared recursive n k
 late_rw_prepared recursive n (late_rw.Quits k) = (sleeper_asleep k ≡ true) × sleeper_prepared recursive n k
+late_rw_prepared recursive n (late_rw.WasTaken k by handed) = (sleeper_asleep k ≡ true) × sleeper_prepared recursive n k
 late_rw_prepared recursive n p = n ≡ 0
 
 -- what a call that is kept stands on
@@ -337,6 +338,18 @@ pub record IsTaken (s : State) (e : Wakeup) : Type 0 where
 abbrev pub IsOwed : List Wakeup → ℕ → ℕ → Type 0
 IsOwed wakes by t = (n : ℕ) × (e : Wakeup) × (slice_get wakes n ≡ Some e) × (e.by ≡ by) × (e.thread ≡ t)
 
+-- whether it is in a section
+abbrev pub IsInside : Stance → Type 0
+IsInside Out = ⊥
+IsInside (In k how) = Unit {0}
+IsInside (Asleep k token) = ⊥
+
+-- One that is to wake n others counts as many, while it is in its section; once it has left some of those that it counts may have gone on by themselves.
+pub record IsCounted (threads n : ℕ) (c : Core) : Type 0 where
+  pub most : n ≤ taken_count c
+  pub few : taken_count c ≤ threads
+  pub all : IsInside (stance c) → n ≡ taken_count c
+
 -- one that is to wake somebody has taken somebody
 abbrev pub WakesSome : Core → Type 0
 WakesSome c = core_act c ≡ act.Section section.Wake → 1 ≤ taken_count c
@@ -355,7 +368,7 @@ pub record LotFits (s : State) : Type 0 where
   -- each is taken once, and its taker counts it
   pub woken : (n : ℕ) (e : Wakeup) → slice_get s.wakes n ≡ Some e → IsTaken s e
   pub once : (n m : ℕ) (e f : Wakeup) → slice_get s.wakes n ≡ Some e → slice_get s.wakes m ≡ Some f → e.thread ≡ f.thread → n ≡ m
-  pub counted : (t : ℕ) (c : Call) → call_at s t ≡ Some c → length (taken_by s.wakes t) ≡ taken_count c.core
+  pub counted : (t : ℕ) (c : Call) → call_at s t ≡ Some c → IsCounted (length s.calls) (length (taken_by s.wakes t)) c.core
   pub untaken : (t : ℕ) → call_at s t ≡ None → taken_by s.wakes t ≡ []
   pub wakeful : (t : ℕ) (c : Call) → call_at s t ≡ Some c → WakesSome c.core
 

@@ -11,6 +11,8 @@ use Rattle.parking_lot_rules.specs.Mutex as mutex
 use Rattle.parking_lot_rules.specs.Any.{AnyLock, Rw, Mx}
 use Rattle.parking_lot_rules.specs.Family.{Family}
 use Rattle.parking_lot_protocol.specs.MutexRules as of_mutex
+use Rattle.parking_lot_protocol.specs.declared.mutex_phase.MutexPhase.{MutexPhase}
+use Rattle.parking_lot_protocol.specs.declared.mutex_phase.MutexPhase.TheVariants as m
 use Rattle.parking_lot_protocol.specs.RwRules as of_rw
 use Rattle.parking_lot_upgrades.specs.UpgradeRoles as of_upgrade
 use Rattle.parking_lot_world.specs.declared.calls.LockKind.{LockKind}
@@ -74,6 +76,10 @@ call_at s t = option_and_then (λ c. c) (slice_get s.calls t)
 abbrev pub is_by : ℕ → Wakeup → Bool
 is_by t w = w.by == t
 
+-- the one that is to be woken
+abbrev pub is_for : ℕ → Wakeup → Bool
+is_for t w = w.thread == t
+
 abbrev pub taken_by : List Wakeup → ℕ → List ℕ
 taken_by wakes t = map (λ w. w.thread) (filter (is_by t) wakes)
 
@@ -107,6 +113,14 @@ abbrev pub first_of_all : List ℕ → ℕ
 first_of_all [] = 0
 first_of_all (v ∷ us) = v
 
+-- what one is to a mutex that has taken those and is still to wake them: where they have gone on by themselves it has nobody to wake
+abbrev pub mutex_does : of_mutex.QueuePosition → List ℕ → MutexPhase → mutex.Phase
+mutex_does at us (m.Wakes giving) = mutex.Wakes us
+mutex_does at us phase = of_mutex.does at (first_of_all us) phase
+
+abbrev pub mutex_role : of_mutex.QueuePosition → List ℕ → MutexPhase → mutex.Role
+mutex_role at us p = record { owns = of_mutex.owns p; does = mutex_does at us p }
+
 -- a core that isn't of the lock's kind is in no role
 abbrev pub rw_core_role : ℕ → QueuePosition → List ℕ → Core → Role
 rw_core_role n at us (core.Rw c) = of_rw.role n (rw_spot at) us c.phase
@@ -126,12 +140,13 @@ late_does at late.Quits = mutex.Queued Back
 late_does at late.Masks = mutex.Masks
 late_does at late.Leaves = mutex.Leaves
 late_does at late.GivesUp = mutex.Idle
+late_does at (late.WasTaken by handed) = mutex.Taken by (of_mutex.mark_of handed) Back
 
 abbrev pub late_role : of_mutex.QueuePosition → LatePhase → mutex.Role
 late_role at p = mutex.doing (late_does at p)
 
 abbrev pub mutex_core_role : QueuePosition → List ℕ → Core → mutex.Role
-mutex_core_role at us (core.Mutex c) = of_mutex.role (mutex_spot at) (first_of_all us) c.phase
+mutex_core_role at us (core.Mutex c) = mutex_role (mutex_spot at) us c.phase
 mutex_core_role at us (core.Rw c) = mutex.away
 mutex_core_role at us (core.Late p) = late_role (mutex_spot at) p
 mutex_core_role at us (core.LateRw p) = mutex.away

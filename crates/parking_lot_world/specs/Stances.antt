@@ -94,13 +94,15 @@ upgrade_stance (u.Frees release core) = rw_stance core.phase
 upgrade_stance (u.Owes hold answer core) = rw_stance core.phase
 upgrade_stance phase = Out
 
--- one whose moment has passed stands as one that sleeps, until it is back in its section, and then as one that has joined its list
+-- one whose moment has passed stands as one that sleeps, until it is back in its section, and then as one that has joined its list, or as one that has
+-- nothing to tell where it was taken
 abbrev pub late_stance : LatePhase → Stance
 late_stance late.Expires = Asleep 0 (record { 0 = 0 })
 late_stance late.Quits = In 0 (Joined (record { 0 = 0 }))
 late_stance late.Masks = In 0 Stores
 late_stance late.Leaves = In 0 (Tells (sign false))
 late_stance late.GivesUp = Out
+late_stance (late.WasTaken by handed) = In 0 (Tells (sign false))
 
 -- who sleeps at a reader-writer lock
 abbrev pub rw_asleep : RwPhase → Bool
@@ -146,6 +148,10 @@ abbrev pub back_as : Stance → Stance
 back_as (Asleep key token) = In key (Joined token)
 back_as other = Out
 
+abbrev pub found_as : Stance → Stance
+found_as (Asleep key token) = In key (Tells (sign false))
+found_as other = In 0 (Tells (sign false))
+
 abbrev pub late_rw_stance : LateRwPhase → Stance
 late_rw_stance (late_rw.Expires k) = lying (sleeper_stance k)
 late_rw_stance (late_rw.Quits k) = back_as (sleeper_stance k)
@@ -153,6 +159,7 @@ late_rw_stance late_rw.Masks = In 0 Stores
 late_rw_stance late_rw.Leaves = In 0 (Tells (sign false))
 late_rw_stance late_rw.GivesUp = Out
 late_rw_stance (late_rw.LeavesPending from) = In 1 (Tells (sign false))
+late_rw_stance (late_rw.WasTaken k by handed) = found_as (sleeper_stance k)
 
 abbrev pub stance : Core → Stance
 stance (core.Mutex c) = mutex_stance c.phase
@@ -199,15 +206,17 @@ late_act late.Quits = act.Sleep
 late_act late.Masks = act.FetchAnd (2 ^ 64 - 3)
 late_act late.Leaves = act.Section section.Leave
 late_act late.GivesUp = act.Done answer.Refused
+late_act (late.WasTaken by handed) = act.Section section.Leave
 
--- It was woken after all, or is back; it is told whether others are left where it stood; the parked bit is off, and the section left. What
--- doesn't fit leads astray.
+-- It was woken after all, or is back; it is told whether others are left where it stood; the parked bit is off, and the section left. One that was
+-- taken goes on from there as one that was woken. What doesn't fit leads astray.
 abbrev pub late_next : LatePhase → ActResult → Core
 late_next late.Expires (seen.Woken token) = core.Mutex (record { phase = of_mutex.next_phase m.Sleeps (seen.Woken token) })
 late_next late.Expires seen.Entered = core.Late late.Quits
 late_next late.Quits (seen.Took token left) = core.Late (if left then late.Leaves else late.Masks)
 late_next late.Masks (seen.Before word) = core.Late late.Leaves
 late_next late.Leaves seen.Made = core.Late late.GivesUp
+late_next (late.WasTaken by handed) seen.Made = core.Mutex (record { phase = of_mutex.next_phase m.Sleeps (seen.Woken (sign handed)) })
 late_next p s = core.Mutex (record { phase = m.Invalid })
 
 -- the same at a reader-writer lock
@@ -218,6 +227,7 @@ late_rw_act late_rw.Masks = act.FetchAnd (2 ^ 64 - 2)
 late_rw_act late_rw.Leaves = act.Section section.Leave
 late_rw_act late_rw.GivesUp = act.Done answer.Refused
 late_rw_act (late_rw.LeavesPending from) = act.Section section.Leave
+late_rw_act (late_rw.WasTaken k by handed) = act.Section section.Leave
 
 -- off its list: one that waited for readers leaves, to take its bit back, and one that wants the lock masks the parked bit as the last one
 abbrev pub quits_as : Option Bool → Bool → LateRwPhase
@@ -228,6 +238,11 @@ abbrev pub sleeper_told : RwSleeper → ActResult → Core
 sleeper_told (sleeper.Simple c) seen = core.Rw (record c { phase = of_rw.next_phase c.phase seen })
 sleeper_told (sleeper.Upgradable c) seen = core.Upgrade (record c { phase = of_upgrade.next_phase c.phase seen })
 
+-- one that was taken goes on as one that was woken
+abbrev pub resumed_as : Bool → RwSleeper → Bool → Core
+resumed_as true k handed = sleeper_told k (seen.Woken (sign handed))
+resumed_as false k handed = core.Rw (record { phase = r.Invalid })
+
 abbrev pub late_rw_next : LateRwPhase → ActResult → Core
 late_rw_next (late_rw.Expires k) (seen.Woken token) = sleeper_told k (seen.Woken token)
 late_rw_next (late_rw.Expires k) seen.Entered = core.LateRw (late_rw.Quits k)
@@ -235,6 +250,7 @@ late_rw_next (late_rw.Quits k) (seen.Took token left) = core.LateRw (quits_as (p
 late_rw_next late_rw.Masks (seen.Before word) = core.LateRw late_rw.Leaves
 late_rw_next late_rw.Leaves seen.Made = core.LateRw late_rw.GivesUp
 late_rw_next (late_rw.LeavesPending from) seen.Made = core.Upgrade (record { phase = u.YieldLoads from })
+late_rw_next (late_rw.WasTaken k by handed) seen.Made = resumed_as (sleeper_asleep k) k handed
 late_rw_next p s = core.Rw (record { phase = r.Invalid })
 
 -- whether it comes back to the lock's second list

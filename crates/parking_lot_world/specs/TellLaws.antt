@@ -1,5 +1,5 @@
 -- What acts of the machine keep that tell those whom a thread has taken, or wake them, and which steps of the rules they are.
-use Rattle.std.specs.Prelude.{◌≡◌, ℕ, Bool, true, false, if◌then◌else◌, Some, None, slice_get, slice_set}
+use Rattle.std.specs.Prelude.{◌≡◌, ◌≤◌, ℕ, Bool, true, false, if◌then◌else◌, [], length, Some, None, slice_get, slice_set}
 use Rattle.std.specs.List.{position_or_len}
 use Rattle.std.specs.Option.{option_map_or}
 use Rattle.parking_lot_core_lot.specs.declared.parking.UnparkToken.{UnparkToken}
@@ -13,9 +13,9 @@ use Rattle.parking_lot_protocol.specs.declared.act.SectionAct.TheVariants as sec
 use Rattle.parking_lot_protocol.specs.declared.act.WordChange.{WordChange}
 use Rattle.parking_lot_world.specs.declared.open_call.Call.{Call}
 use Rattle.parking_lot_world.specs.declared.seat.Wakeup.{Wakeup}
-use Rattle.parking_lot_world.specs.Rows.{State, call_at, is_by}
+use Rattle.parking_lot_world.specs.Rows.{State, call_at, is_by, taken_by}
 use Rattle.parking_lot_world.specs.Stances.{core_act}
-use Rattle.parking_lot_world.specs.RowActs.{told_all, masked, woke}
+use Rattle.parking_lot_world.specs.RowActs.{told_all, masked, woke, woke_nobody}
 use Rattle.parking_lot_world.specs.RowFits.{FitsTogether}
 use Rattle.parking_lot_world.specs.ActLaws.{Keeps}
 
@@ -38,9 +38,11 @@ pub record TellsAreSteps : Type 0 where
   pub store : (s : State) (t : ℕ) (c : Call) (plain fair : WordChange) (is_fair : Bool) → core_act c.core ≡ act.Section (section.Store plain fair)
       → lot.Sound (told_all s t c (if is_fair then fair else plain) is_fair).lot → Keeps t c s (told_all s t c (if is_fair then fair else plain) is_fair)
   pub mask : (s : State) (t : ℕ) (c : Call) (keep : ℕ) → core_act c.core ≡ act.FetchAnd keep → lot.Sound (masked s t c keep).lot → Keeps t c s (masked s t c keep)
-  -- one that is to wake somebody has somebody to wake, who was taken by it and bears the mark of its sleep
-  pub due : (s : State) (t : ℕ) (c : Call) → core_act c.core ≡ act.Section section.Wake → FitsTogether s → call_at s t ≡ Some c
+  -- The first of those whom one is still to wake was taken by it and bears the mark of its sleep.
+  pub due : (s : State) (t : ℕ) (c : Call) → core_act c.core ≡ act.Section section.Wake → FitsTogether s → call_at s t ≡ Some c → 1 ≤ length (taken_by s.wakes t)
       → (e : Wakeup) × (d : Call) × (token : UnparkToken) × (x : IsDue s t e d token) × (e.by ≡ t) × (x.sleep.mark ≡ e.mark)
   pub wake : (s : State) (t : ℕ) (c : Call) (e : Wakeup) (d : Call) (token : UnparkToken) → core_act c.core ≡ act.Section section.Wake → IsDue s t e d token
       → lot.Sound (woke s t c e.thread d token).lot → Keeps t c s (woke s t c e.thread d token)
+  -- where all of them have gone on by themselves it wakes nobody
+  pub nobody : (s : State) (t : ℕ) (c : Call) → core_act c.core ≡ act.Section section.Wake → taken_by s.wakes t ≡ [] → Keeps t c s (woke_nobody s t c)
   pub goes_on : (m : Machine) (v : ℕ) (token : UnparkToken) (sleep : Sleep) → place_at m.places v ≡ Some (Taken token sleep false) → sleep.late ≡ false → GoesOn m v token sleep

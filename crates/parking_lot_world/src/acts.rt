@@ -1,5 +1,5 @@
 //! What each act of a call does to the machine.
-ghost use Rattle.std.specs.Prelude.{◌≡◌, ◌<◌, ◌≤◌, ℕ, ◌+◌, ◌*◌, ◌%◌, ◌^◌, length, map, slice_get, Some, None, if◌then◌else◌, vec_capacity, vec_len};
+ghost use Rattle.std.specs.Prelude.{◌≡◌, ◌<◌, ◌≤◌, ℕ, ◌+◌, ◌*◌, ◌%◌, ◌^◌, [], length, map, slice_get, Some, None, if◌then◌else◌, vec_capacity, vec_len};
 ghost use Rattle.std.specs.Option.{option_map, option_and_then, option_map_or};
 ghost use Rattle.std.specs.List.{position_or_len, position};
 ghost use Rattle.parking_lot_protocol.specs.declared.act.ActResult.TheVariants as seen;
@@ -12,10 +12,14 @@ ghost use Rattle.parking_lot_protocol.specs.declared.act.SectionAct.TheVariants 
 ghost use Rattle.parking_lot_protocol.specs.declared.act.CoreAnswer.{CoreAnswer};
 ghost use Rattle.parking_lot_protocol.specs.declared.act.WordChange.{WordChange};
 ghost use Rattle.parking_lot_world.specs.ActLaws.{MayBegin};
-ghost use Rattle.parking_lot_world.specs.Rows.{call_at, is_by, state, word_at};
+ghost use Rattle.parking_lot_world.specs.Rows.{call_at, is_by, state, taken_by, word_at};
 ghost use Rattle.parking_lot_world.specs.Stances.{In, Joins, Takes, core_act, stance};
 ghost use Rattle.parking_lot_world.specs.Machines.{IsTakenFrom, IsWoken, owes_to, takes_off_by};
-ghost use Rattle.parking_lot_world.specs.RowActs.{added, answered, appended, begun, checked, entered, exchanged, hears, key_of, left, loaded, masked, off_list, settled, spun, told_all, took, took_nobody, woke};
+ghost use Rattle.parking_lot_world.specs.TellLaws.{IsDue};
+ghost use Rattle.parking_lot_core_lot.specs.declared.parking.UnparkToken.{UnparkToken};
+ghost use Rattle.parking_lot_world.specs.declared.open_call.Call.{Call};
+ghost use Rattle.parking_lot_world.specs.declared.seat.Wakeup.{Wakeup};
+ghost use Rattle.parking_lot_world.specs.RowActs.{added, answered, appended, begun, checked, entered, exchanged, hears, key_of, left, loaded, masked, off_list, settled, spun, told_all, took, took_nobody, woke, woke_nobody};
 
 use crate::lot_calls;
 use crate::open_call::Call;
@@ -257,11 +261,36 @@ impl<A: Allocator> RowMachine<A> {
         self.calls[thread] = Some(call.told(ActResult::Made));
     }
 
-    /// It wakes the first whom it has taken.
+    /// It wakes the first of those whom it has taken and who haven't gone on by themselves, or nobody where all have.
     pub(crate) fn wake(&mut self, thread: usize, call: Call)
         requires here { call_at (state self.old) thread ≡ Some call }
         requires asked { core_act call.core ≡ act.Section section.Wake }
         ensures { IsWoken thread call (state self.old) (state self.new) }
+    {
+        let _ = &self.wakes;
+        if self.taken(thread, 0).is_some() {
+            self.wake_first(thread, call);
+        } else {
+            self.wake_nobody(thread, call);
+        }
+    }
+
+    /// All whom it has taken have gone on by themselves.
+    fn wake_nobody(&mut self, thread: usize, call: Call)
+        requires here { call_at (state self.old) thread ≡ Some call }
+        requires asked { core_act call.core ≡ act.Section section.Wake }
+        requires gone { taken_by (state self.old).wakes thread ≡ [] }
+        ensures { state self.new ≡ woke_nobody (state self.old) thread call }
+    {
+        self.calls[thread] = Some(call.told(ActResult::Made));
+    }
+
+    /// It wakes the first of those whom it has taken.
+    fn wake_first(&mut self, thread: usize, call: Call)
+        requires here { call_at (state self.old) thread ≡ Some call }
+        requires asked { core_act call.core ≡ act.Section section.Wake }
+        requires some { 1 ≤ length (taken_by (state self.old).wakes thread) }
+        ensures { (e : Wakeup) × (d : Call) × (token : UnparkToken) × IsDue (state self.old) thread e d token × (state self.new ≡ woke (state self.old) thread call e.thread d token) }
     {
         let at = first_by(&self.wakes, thread);
         let wakeup = self.wakes.remove(at);

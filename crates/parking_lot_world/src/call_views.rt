@@ -1,5 +1,5 @@
 //! What a call says of its thread: how it owns the lock now, whether it is in debt, and whether it sleeps.
-ghost use Rattle.std.specs.Prelude.{◌≡◌, ℕ, Bool, List, [], length};
+ghost use Rattle.std.specs.Prelude.{◌≡◌, ℕ, Bool, List, []};
 ghost use Rattle.parking_lot_rules.specs.Roles.{Scans1};
 ghost use Rattle.parking_lot_rules.specs.Debts as rw_debts;
 ghost use Rattle.parking_lot_rules.specs.MutexDebts as mutex_debts;
@@ -7,10 +7,9 @@ ghost use Rattle.parking_lot_rules.specs.Owners.{Reading, owner_for_good, owner_
 ghost use Rattle.parking_lot_protocol.specs.MutexRules as of_mutex;
 ghost use Rattle.parking_lot_protocol.specs.RwRules as of_rw;
 ghost use Rattle.parking_lot_protocol.specs.declared.rw_phase.RwPhase.TheVariants as phase;
-ghost use Rattle.parking_lot_world.specs.CallViews.{HasSlept, IsInOrder, IsLateAsSlept, IsLateInOrder, call_asleep, call_in_debt, call_looks, call_mode, mode_of, mutex_mode, rw_mode, still_looks};
+ghost use Rattle.parking_lot_world.specs.CallViews.{HasSlept, IsInOrder, IsLateAsSlept, IsLateInOrder, are_some, call_asleep, call_in_debt, call_looks, call_mode, mode_of, mutex_mode, rw_mode, still_looks};
 ghost use Rattle.parking_lot_world.specs.LateRoles.{late_rw_role, sleeper_role};
-ghost use Rattle.parking_lot_world.specs.Rows.{late_does, late_role, mutex_spot, rw_spot};
-ghost use Rattle.parking_lot_world.specs.Stances.{rw_taken, taken_count};
+ghost use Rattle.parking_lot_world.specs.Rows.{late_does, late_role, mark_of, mutex_does, mutex_role, mutex_spot, rw_spot};
 
 use crate::calls::OwnMode;
 use crate::late_rw::{LateRwPhase, RwSleeper};
@@ -33,7 +32,7 @@ fn readers_mode(holds: u8) -> Option<OwnMode>
 
 /// How one owns a mutex in such a phase.
 fn mutex_mode(phase: MutexPhase, spot: QueuePosition) -> Option<OwnMode>
-    ensures { (v : ℕ) → result ≡ mutex_mode (of_mutex.role (mutex_spot spot) v phase) }
+    ensures { (us : List ℕ) → result ≡ mutex_mode (mutex_role (mutex_spot spot) us phase) }
 {
     match phase {
         MutexPhase::Unlocking(_) | MutexPhase::Bumping | MutexPhase::BumpLoads => {
@@ -137,16 +136,17 @@ fn rw_mode(phase: RwPhase, spot: QueuePosition, others: u8) -> Option<OwnMode>
     }
 }
 
-/// Whether one is in debt at a mutex in such a phase: it is inside a section, is still to wake another, or was woken to try again.
-fn mutex_in_debt(phase: MutexPhase) -> bool
-    ensures { (at : of_mutex.QueuePosition) (v : ℕ) → result ≡ mutex_debts.is_in_debt (of_mutex.does at v phase) }
+/// Whether one is in debt at a mutex in such a phase: it is inside a section, is still to wake another, as it is told, or was woken to try again.
+fn mutex_in_debt(phase: MutexPhase, wakes: bool) -> bool
+    ensures { (at : of_mutex.QueuePosition) (us : List ℕ) → are_some us ≡ wakes → result ≡ mutex_debts.is_in_debt (mutex_does at us phase) }
 {
     use MutexPhase::*;
     match phase {
         Loads(asking) | Locks(asking, _) | Spins(asking) | Parks(asking) => asking.woken,
         Enters(woken) => woken,
         Checks(_) | Retreats(_) | Appends | Rests => true,
-        Takes(_) | Stores(_, _, _) | Leaves(_, _, _) | Wakes(_) => true,
+        Takes(_) | Stores(_, _, _) | Leaves(_, _, _) => true,
+        Wakes(_) => wakes,
         Sleeps => false,
         Locking | Trying | Unlocking(_) | Bumping => false,
         TryLoads | TryLocks(_, _) | Refuses | BumpLoads | Relocks => false,
@@ -155,8 +155,8 @@ fn mutex_in_debt(phase: MutexPhase) -> bool
 }
 
 /// The same at a reader-writer lock.
-pub(crate) fn rw_in_debt(phase: RwPhase) -> bool
-    ensures { (at : of_rw.QueuePosition) (us : List ℕ) → length us ≡ rw_taken phase → result ≡ rw_debts.is_in_debt (of_rw.does at us phase) }
+pub(crate) fn rw_in_debt(phase: RwPhase, wakes: bool) -> bool
+    ensures { (at : of_rw.QueuePosition) (us : List ℕ) → are_some us ≡ wakes → result ≡ rw_debts.is_in_debt (of_rw.does at us phase) }
 {
     use RwPhase::*;
     match phase {
@@ -172,8 +172,7 @@ pub(crate) fn rw_in_debt(phase: RwPhase) -> bool
         | ClearWriterParked(_, _)
         | LeaveWriterWakeSection(_, _) => true,
         EnterWakeSection | Scans(_) | Stores(_, _) | Leaves(_, _, _) => true,
-        Wakes(_, count) => count > 0,
-        Finishes(_) => false,
+        Wakes(_, _) | Finishes(_) => wakes,
         Sleeps(_) => false,
         DrainSleeps(_) => false,
         Locking(_) | Trying(_) | UnlockingShared | UnlockingExclusive(_) => false,
@@ -192,6 +191,7 @@ fn late_mode(phase: LatePhase, spot: QueuePosition) -> Option<OwnMode>
         (LatePhase::Expires, QueuePosition::Off(_, WakeResult::HandedOver)) => {
             Some(OwnMode::Exclusive)
         }
+        (LatePhase::WasTaken(_, true), _) => Some(OwnMode::Exclusive),
         _ => None,
     }
 }
@@ -205,6 +205,7 @@ fn late_in_debt(phase: LatePhase, spot: QueuePosition) -> bool
         (LatePhase::Expires, QueuePosition::Off(_, _)) => true,
         (LatePhase::Expires, QueuePosition::Listed) | (LatePhase::GivesUp, _) => false,
         (LatePhase::Quits | LatePhase::Masks | LatePhase::Leaves, _) => true,
+        (LatePhase::WasTaken(_, _), _) => true,
     }
 }
 
@@ -218,6 +219,17 @@ fn late_sleeper_mode(sleeper: RwSleeper, spot: QueuePosition, others: u8) -> Opt
     }
 }
 
+/// What one was told that was handed the lock, or is to try again.
+fn told_as(handed: bool) -> WakeResult
+    ensures { mark_of result ≡ of_mutex.mark_of handed }
+{
+    if handed {
+        WakeResult::HandedOver
+    } else {
+        WakeResult::TryAgain
+    }
+}
+
 /// How one owns a reader-writer lock whose moment has passed: as it did when it slept, or was taken, until it has left its list.
 fn late_rw_mode(phase: LateRwPhase, spot: QueuePosition, others: u8) -> Option<OwnMode>
     ensures { IsLateInOrder phase → (us : List ℕ) → result ≡ rw_mode (late_rw_role others (rw_spot spot) us phase) }
@@ -226,6 +238,11 @@ fn late_rw_mode(phase: LateRwPhase, spot: QueuePosition, others: u8) -> Option<O
         LateRwPhase::Expires(sleeper) => late_sleeper_mode(sleeper, spot, others),
         LateRwPhase::Quits(sleeper) => late_sleeper_mode(sleeper, QueuePosition::Listed, others),
         LateRwPhase::LeavesPending(_) => Some(OwnMode::Pending),
+        LateRwPhase::WasTaken(sleeper, by, handed) => late_sleeper_mode(
+            sleeper,
+            QueuePosition::Off(by, told_as(handed)),
+            others,
+        ),
         LateRwPhase::Masks | LateRwPhase::Leaves | LateRwPhase::GivesUp => None,
     }
 }
@@ -275,17 +292,17 @@ impl Call {
         }
     }
 
-    /// Whether its thread is in debt at the lock: it is inside a section, is still to wake others, or was woken to try again. It has
-    /// taken as many as its core counts, and where its moment has passed, it slept.
-    pub fn is_in_debt(&self) -> bool
-        ensures { IsLateAsSlept self.now.core → (us : List ℕ) → length us ≡ taken_count self.now.core → result ≡ call_in_debt us self.now }
+    /// Whether its thread is in debt at the lock: it is inside a section, is still to wake others, or was woken to try again. `wakes` says whether any
+    /// of those that it has taken is still to be woken. Where its moment has passed, it slept.
+    pub fn is_in_debt(&self, wakes: bool) -> bool
+        ensures { IsLateAsSlept self.now.core → (us : List ℕ) → are_some us ≡ wakes → result ≡ call_in_debt us self.now }
     {
         match &self.core {
-            Core::Mutex(core) => mutex_in_debt(core.phase()),
-            Core::Rw(core) => rw_in_debt(core.phase()),
+            Core::Mutex(core) => mutex_in_debt(core.phase(), wakes),
+            Core::Rw(core) => rw_in_debt(core.phase(), wakes),
             Core::Late(phase) => late_in_debt(*phase, self.spot),
             Core::LateRw(phase) => late_rw_in_debt(*phase, self.spot),
-            Core::Upgrade(core) => upgrade_in_debt(core.phase()),
+            Core::Upgrade(core) => upgrade_in_debt(core.phase(), wakes),
         }
     }
 

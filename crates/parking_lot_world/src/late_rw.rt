@@ -21,7 +21,8 @@ pub enum RwSleeper {
 /// Where a call at a reader-writer lock stands whose moment has passed as it slept.
 #[derive(Clone, Copy)]
 pub enum LateRwPhase {
-    /// It comes back into the section of its list. It still stands there, or was taken in the meantime, and then waits for its waker.
+    /// It comes back into the section of its list. It still stands there, or was taken in the meantime. Where its taker wakes it first it goes on
+    /// from where it sleeps.
     Expires(RwSleeper),
     /// It takes itself out of its list.
     Quits(RwSleeper),
@@ -33,6 +34,9 @@ pub enum LateRwPhase {
     GivesUp,
     /// Off the second list, it leaves that one's section, to take its bit back: whether it had the upgradable hold before.
     LeavesPending(bool),
+    /// Back in the section it has found that it was taken: by that thread, and whether it was handed what it wants. It leaves the section, and goes
+    /// on as one that was woken.
+    WasTaken(RwSleeper, usize, bool),
 }
 
 impl RwSleeper {
@@ -72,6 +76,7 @@ impl LateRwPhase {
             LateRwPhase::Expires(_) | LateRwPhase::Quits(_) => Act::Sleep,
             LateRwPhase::Masks => Act::FetchAnd(u64::MAX - PARKED),
             LateRwPhase::Leaves | LateRwPhase::LeavesPending(_) => Act::Section(SectionAct::Leave),
+            LateRwPhase::WasTaken(_, _, _) => Act::Section(SectionAct::Leave),
             LateRwPhase::GivesUp => Act::Done(CoreAnswer::Refused),
         }
     }

@@ -80,6 +80,30 @@ pub(crate) fn come_back<A: Allocator>(lot: &mut Lot<A>, thread: usize, key: usiz
     lot.known();
 }
 
+/// Opens a section of the key of a thread that slept there and was taken. It runs from then on; its section has taken nobody and has nothing to
+/// store, and says so.
+pub(crate) fn find<A: Allocator>(lot: &mut Lot<A>, thread: usize, key: usize)
+    requires free { return_fault (machine lot.old) thread key ≡ None }
+    requires off { (token : UnparkToken) × (sleep : Sleep) × (place_at (machine lot.old).places thread ≡ Some (Taken token sleep false)) }
+    ensures found { machine lot.new ≡ stored (in_phase (record (returned (machine lot.old) thread key) { places = slice_set (machine lot.old).places thread (Some Running) }) phase.Ended) (record { 0 = 0 }) }
+    ensures sound { Sound (machine lot.new) }
+{
+    come_back(lot, thread, key);
+    quit_taken(lot, thread);
+    store(lot, thread, DEFAULT_UNPARK_TOKEN);
+}
+
+/// Has a thread run that came back into its section and was taken.
+fn quit_taken<A: Allocator>(lot: &mut Lot<A>, thread: usize)
+    requires there { quit_fault (machine lot.old) thread ≡ None }
+    requires off { (token : UnparkToken) × (sleep : Sleep) × (place_at (machine lot.old).places thread ≡ Some (Taken token sleep false)) }
+    requires inside { (s : Section) × ((machine lot.old).section ≡ Some s) × (s.thread ≡ Some thread) }
+    ensures runs { machine lot.new ≡ in_phase (record (machine lot.old) { places = slice_set (machine lot.old).places thread (Some Running) }) phase.Ended }
+    ensures store { step_fault may_store (machine lot.new) thread ≡ None }
+{
+    let _ = lot.quit(thread);
+}
+
 /// Takes a thread that came back out of its list. Answers whether others are left there; then its section has nothing to store, and says so, as it
 /// does where the caller says so.
 pub(crate) fn quit<A: Allocator>(lot: &mut Lot<A>, thread: usize, key: usize, stores: bool) -> bool

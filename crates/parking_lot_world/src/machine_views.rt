@@ -67,7 +67,7 @@ impl<A: Allocator> RowMachine<A> {
     {
         self.known();
         match self.call(thread) {
-            Some(call) => call.looks() || call.is_in_debt(),
+            Some(call) => call.looks() || call.is_in_debt(self.taken(thread, 0).is_some()),
             None => false,
         }
     }

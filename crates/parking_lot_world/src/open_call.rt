@@ -2,6 +2,7 @@
 ghost use Rattle.std.specs.Prelude.{◌≡◌, ◌≤◌, ◌^◌};
 ghost use Rattle.parking_lot_protocol.specs.declared.act.ActResult.TheVariants as seen;
 ghost use Rattle.parking_lot_world.specs.declared.seat.QueuePosition.TheVariants as spot;
+ghost use Rattle.parking_lot_world.specs.LateActs.{found_as, is_handed};
 ghost use Rattle.parking_lot_world.specs.RowActs.{hears, key_of, off_list, settled};
 
 use crate::seat::{Core, QueuePosition, WakeResult};
@@ -68,6 +69,17 @@ impl Call {
     {
         Call {
             spot: QueuePosition::Off(by, WakeResult::Nothing),
+            ..self
+        }
+    }
+
+    /// The call of a sleeper whose moment has passed and that is back in its section, where it has found that a thread has taken it.
+    pub(crate) fn found(self, by: usize, said: WakeResult) -> Call
+        ensures { result ≡ record self { core = found_as by (is_handed said) self.core; spot = spot.Listed } }
+    {
+        Call {
+            core: self.core.found(by, said.is_handed()),
+            spot: QueuePosition::Listed,
             ..self
         }
     }

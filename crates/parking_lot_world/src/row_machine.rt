@@ -121,23 +121,24 @@ impl<A: Allocator> RowMachine<A> {
     fn goes_late(&self, call: &Call) -> bool
         ensures { result ≡ goes_late (state self.now) call.now call.now.core }
     {
-        call.core.is_back()
-            || (call.core.comes_late() && call.spot.is_listed() && !self.lot.is_entered(call.lock))
+        call.core.is_back() || (call.core.comes_late() && !self.lot.is_entered(call.lock))
     }
 
-    /// Whether a thread's deadline may come: it sleeps in its list in a timed call, and it hasn't come before.
+    /// Whether a thread's deadline may come: it sleeps in a timed call, in its list or taken and not woken yet, and it hasn't come before.
     pub fn may_expire(&self, thread: usize) -> bool
         ensures { result ≡ may_expire (state self.now) thread }
     {
         match self.call(thread) {
-            Some(call) => call.timed && call.spot.is_listed() && call.core.sleeps_in_time(),
+            Some(call) => call.timed && call.core.sleeps_in_time(),
             None => false,
         }
     }
 
     /// A thread's deadline comes as it sleeps. From then on it can move: it comes back into the section of its list, takes itself out there,
     /// masks the parked bit off where it was the last, and is answered that it has given up. As a pending writer it takes its bit back instead,
-    /// and goes through those that it kept out. Where another takes it before it is back it waits for that one, and goes on as it is woken.
+    /// and goes through those that it kept out. Where another has taken it before it is back it finds that out in the section, leaves it, and goes on
+    /// as it was told: it owns what it was handed, or tries again. Its taker wakes it no more then. Where that wake comes first it goes on from where it
+    /// sleeps.
     pub fn deadline(&mut self, thread: usize)
         requires may { may_expire (state self.old) thread ≡ true }
         ensures { IsExpired thread (state self.old) (state self.new) }
@@ -235,7 +236,10 @@ impl<A: Allocator> RowMachine<A> {
         if call.core.is_back() {
             self.quit(thread, call);
         } else {
-            self.come_back(thread, call);
+            match call.spot {
+                QueuePosition::Listed => self.come_back(thread, call),
+                QueuePosition::Off(by, said) => self.find(thread, call, by, said),
+            }
         }
     }
 

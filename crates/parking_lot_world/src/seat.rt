@@ -1,13 +1,13 @@
 //! What a machine of locks keeps of each thread.
 ghost use Rattle.std.specs.Prelude.{◌≡◌, ◌≤◌, ℕ};
 ghost use Rattle.parking_lot_rules.specs.Classes.{bit};
+ghost use Rattle.parking_lot_protocol.specs.MutexTable.{next_phase};
 ghost use Rattle.parking_lot_protocol.specs.declared.act.ActResult.TheVariants as seen;
 ghost use Rattle.parking_lot_protocol.specs.declared.mutex_phase.MutexPhase.TheVariants.{Invalid, Sleeps};
 ghost use Rattle.parking_lot_protocol.specs.declared.rw_phase.RwPhase.TheVariants as rw_phase;
 ghost use Rattle.parking_lot_upgrades.specs.declared.upgrade_phase.UpgradePhase.TheVariants.{YieldLoads};
-ghost use Rattle.parking_lot_world.specs.LateActs.{comes_late, is_back, is_pending, late_of, sleeps_in_time};
-ghost use Rattle.parking_lot_world.specs.Machines.{is_listed};
-ghost use Rattle.parking_lot_world.specs.Stances.{In, Takes, core_act, core_next, core_tells, late_act, late_next, late_rw_next, rw_stance, sleeper_told, stance, upgrade_stance, upgrade_tells};
+ghost use Rattle.parking_lot_world.specs.LateActs.{comes_late, found_as, is_back, is_handed, is_pending, late_of, sleeps_in_time};
+ghost use Rattle.parking_lot_world.specs.Stances.{In, Takes, core_act, core_next, core_tells, late_act, late_next, late_rw_next, resumed_as, rw_stance, sign, sleeper_asleep, sleeper_told, stance, upgrade_stance, upgrade_tells};
 ghost use Rattle.parking_lot_world.specs.RowActs.{hold_after, kept_hold, mutex_hold_after, upgrade_hold_after, rw_hold_after, joins, settled_spot, told_of};
 
 use crate::late_rw::{LateRwPhase, RwSleeper};
@@ -58,7 +58,8 @@ pub enum QueuePosition {
 /// Where a call at a mutex stands whose moment has passed as it slept.
 #[derive(Clone, Copy, PartialEq, Eq, Debug)]
 pub enum LatePhase {
-    /// It comes back into the section of its list. It still stands there, or was taken in the meantime, and then waits for its waker.
+    /// It comes back into the section of its list. It still stands there, or was taken in the meantime. Where its taker wakes it first it goes on
+    /// from where it sleeps.
     Expires,
     /// It takes itself out of its list.
     Quits,
@@ -68,6 +69,9 @@ pub enum LatePhase {
     Leaves,
     /// It has given up, and owns nothing.
     GivesUp,
+    /// Back in the section it has found that it was taken: by that thread, and whether it was handed the mutex. It leaves the section, and goes
+    /// on as one that was woken.
+    WasTaken(usize, bool),
 }
 
 /// The core of a call, by the kind of its lock.
@@ -107,6 +111,16 @@ impl WakeResult {
             WakeResult::TryAgain
         }
     }
+
+    /// Whether it says that the lock was handed over.
+    pub(crate) fn is_handed(self) -> bool
+        ensures { result ≡ is_handed self }
+    {
+        match self {
+            WakeResult::HandedOver => true,
+            WakeResult::Nothing | WakeResult::TryAgain => false,
+        }
+    }
 }
 
 impl QueuePosition {
@@ -119,18 +133,6 @@ impl QueuePosition {
                 taker, said,
             ),
             spot => spot,
-        }
-    }
-}
-
-impl QueuePosition {
-    /// Whether it is in its list.
-    pub(crate) fn is_listed(self) -> bool
-        ensures { result ≡ is_listed self }
-    {
-        match self {
-            QueuePosition::Listed => true,
-            QueuePosition::Off(_, _) => false,
         }
     }
 }
@@ -160,6 +162,20 @@ impl Core {
             Core::Rw(core) => Core::LateRw(LateRwPhase::Expires(RwSleeper::Simple(core))),
             Core::Upgrade(core) => Core::LateRw(LateRwPhase::Expires(RwSleeper::Upgradable(core))),
             late => late,
+        }
+    }
+
+    /// The core of one whose moment has passed and that is back in its section, where it has found that a thread has taken it, and whether that
+    /// one handed the lock over.
+    pub(crate) fn found(self, by: usize, handed: bool) -> Core
+        ensures { result ≡ found_as by handed self }
+    {
+        match self {
+            Core::Late(_) => Core::Late(LatePhase::WasTaken(by, handed)),
+            Core::LateRw(LateRwPhase::Expires(sleeper)) => Core::LateRw(LateRwPhase::WasTaken(
+                sleeper, by, handed,
+            )),
+            other => other,
         }
     }
 
@@ -290,7 +306,7 @@ impl LatePhase {
         match self {
             LatePhase::Expires | LatePhase::Quits => Act::Sleep,
             LatePhase::Masks => Act::FetchAnd(u64::MAX - PARKED),
-            LatePhase::Leaves => Act::Section(SectionAct::Leave),
+            LatePhase::Leaves | LatePhase::WasTaken(_, _) => Act::Section(SectionAct::Leave),
             LatePhase::GivesUp => Act::Done(CoreAnswer::Refused),
         }
     }
@@ -300,11 +316,10 @@ impl LatePhase {
         ensures { result ≡ late_next self seen }
     {
         match (self, seen) {
-            (LatePhase::Expires, ActResult::Woken(token)) => {
-                let mut core = sleeper();
-                core.next(ActResult::Woken(token));
-                Core::Mutex(core)
-            }
+            (LatePhase::Expires, ActResult::Woken(token)) => Core::Mutex(woken_mutex(token)),
+            (LatePhase::WasTaken(_, handed), ActResult::Made) => Core::Mutex(woken_mutex(token_of(
+                handed,
+            ))),
             (LatePhase::Expires, ActResult::Entered) => Core::Late(LatePhase::Quits),
             (LatePhase::Quits, ActResult::Took { token: _, left }) => Core::Late(if left {
                 LatePhase::Leaves
@@ -333,8 +348,25 @@ fn late_rw_told(phase: LateRwPhase, seen: ActResult) -> Core
         (LateRwPhase::Masks, ActResult::Before(_)) => Core::LateRw(LateRwPhase::Leaves),
         (LateRwPhase::Leaves, ActResult::Made) => Core::LateRw(LateRwPhase::GivesUp),
         (LateRwPhase::LeavesPending(from), ActResult::Made) => Core::Upgrade(yielding(from)),
+        (LateRwPhase::WasTaken(sleeper, _, handed), ActResult::Made) => resumed(sleeper, handed),
         _ => Core::Rw(astray_rw()),
     }
+}
+
+/// The token of one that was handed the lock, or is to try again.
+fn token_of(handed: bool) -> UnparkToken
+    ensures { result ≡ sign handed }
+{
+    if handed { HAND_OVER } else { TRY_AGAIN }
+}
+
+/// A mutex's core that slept and was woken with that token.
+fn woken_mutex(token: UnparkToken) -> MutexCore
+    ensures { result.phase ≡ next_phase Sleeps (seen.Woken token) }
+{
+    let mut core = sleeper();
+    core.next(ActResult::Woken(token));
+    core
 }
 
 /// A sleeper's core, woken after all.
@@ -350,6 +382,17 @@ fn woken(sleeper: RwSleeper, token: UnparkToken) -> Core
             core.next(ActResult::Woken(token));
             Core::Upgrade(core)
         }
+    }
+}
+
+/// The core of a sleeper that was taken, and whether it was handed what it wants, as it goes on.
+fn resumed(sleeper: RwSleeper, handed: bool) -> Core
+    ensures { result ≡ resumed_as (sleeper_asleep sleeper) sleeper handed }
+{
+    if sleeper.is_asleep() {
+        woken(sleeper, token_of(handed))
+    } else {
+        Core::Rw(astray_rw())
     }
 }
 

@@ -1,9 +1,9 @@
 //! What an upgradable call says of its thread: how it owns the lock now, whether it is in debt, and whether it sleeps.
-ghost use Rattle.std.specs.Prelude.{◌≡◌, ℕ, List, length};
+ghost use Rattle.std.specs.Prelude.{◌≡◌, ℕ, List};
 ghost use Rattle.parking_lot_rules.specs.Debts as rw_debts;
 ghost use Rattle.parking_lot_upgrades.specs.UpgradeRoles as of_upgrade;
-ghost use Rattle.parking_lot_world.specs.CallViews.{drainer_mode, freer_mode, kept_mode, seeker_mode, upgrade_looks, upgrade_mode};
-ghost use Rattle.parking_lot_world.specs.Stances.{rw_asleep, upgrade_asleep, upgrade_taken};
+ghost use Rattle.parking_lot_world.specs.CallViews.{are_some, drainer_mode, freer_mode, kept_mode, seeker_mode, upgrade_looks, upgrade_mode};
+ghost use Rattle.parking_lot_world.specs.Stances.{rw_asleep, upgrade_asleep};
 ghost use Rattle.parking_lot_protocol.specs.Positions as positions;
 
 use crate::call_views::rw_in_debt;
@@ -80,16 +80,16 @@ pub(crate) fn upgrade_mode(phase: UpgradePhase, spot: QueuePosition) -> Option<O
     }
 }
 
-/// Whether one is in debt in such a phase: it is inside a section, is still to wake another, or was woken to try again.
-pub(crate) fn upgrade_in_debt(phase: UpgradePhase) -> bool
-    ensures { (at : positions.QueuePosition) (us : List ℕ) → length us ≡ upgrade_taken phase → result ≡ rw_debts.is_in_debt (of_upgrade.does at us phase) }
+/// Whether one is in debt in such a phase: it is inside a section, is still to wake another, as it is told, or was woken to try again.
+pub(crate) fn upgrade_in_debt(phase: UpgradePhase, wakes: bool) -> bool
+    ensures { (at : positions.QueuePosition) (us : List ℕ) → are_some us ≡ wakes → result ≡ rw_debts.is_in_debt (of_upgrade.does at us phase) }
 {
     match phase {
-        UpgradePhase::Plain(core) => rw_in_debt(core.phase()),
-        UpgradePhase::Seeks(core) => rw_in_debt(core.phase()),
-        UpgradePhase::Drains(core) => rw_in_debt(core.phase()),
-        UpgradePhase::Frees(_, core) => rw_in_debt(core.phase()),
-        UpgradePhase::Owes(_, _, core) => rw_in_debt(core.phase()),
+        UpgradePhase::Plain(core) => rw_in_debt(core.phase(), wakes),
+        UpgradePhase::Seeks(core) => rw_in_debt(core.phase(), wakes),
+        UpgradePhase::Drains(core) => rw_in_debt(core.phase(), wakes),
+        UpgradePhase::Frees(_, core) => rw_in_debt(core.phase(), wakes),
+        UpgradePhase::Owes(_, _, core) => rw_in_debt(core.phase(), wakes),
         _ => false,
     }
 }

@@ -2,8 +2,8 @@
 
 use parking_lot_core_lot::ParkToken;
 use parking_lot_world::{
-    ActResult, Call, Core, HAND_OVER, MutexCore, OwnMode, QueuePosition, RwCore, TRY_AGAIN,
-    WakeResult,
+    Act, ActResult, Call, Core, HAND_OVER, MutexCore, OwnMode, QueuePosition, RwCore, SectionAct,
+    TRY_AGAIN, WakeResult,
 };
 use std::process::Abort;
 
@@ -21,12 +21,23 @@ fn call_of(core: Core) -> Call {
 /// What a call is told, and how its thread owns the lock then, whether it looks next, is in debt, and sleeps.
 type Line = (ActResult, Option<OwnMode>, bool, bool, bool);
 
+/// One that is to wake others has some to wake.
+fn is_to_wake(call: &Call) -> bool {
+    let act = match &call.core {
+        Core::Mutex(core) => core.act(),
+        Core::Rw(core) => core.act(),
+        Core::Upgrade(core) => core.act(),
+        _ => return false,
+    };
+    act == Act::Section(SectionAct::Wake)
+}
+
 fn follow(rt: &impl Abort, call: Call, lines: &[Line]) -> Call {
     let mut call = call;
     for (seen, owns, looks, in_debt, asleep) in lines {
         call = call.told(*seen);
         let is_owned = (call.owns() == *owns) & (call.looks() == *looks);
-        let is_about = (call.is_in_debt() == *in_debt) & (call.is_asleep() == *asleep);
+        let is_about = (call.is_in_debt(is_to_wake(&call)) == *in_debt) & (call.is_asleep() == *asleep);
         assert!(rt; is_owned & is_about, "told {seen:?}");
     }
     call
@@ -40,7 +51,7 @@ fn owns_off_list(rt: &impl Abort, call: Call, told: WakeResult, owns: Option<Own
     };
     let is_owned = call.owns() == owns;
     assert!(rt;
-        call.is_asleep() & !call.is_in_debt() & is_owned,
+        call.is_asleep() & !call.is_in_debt(false) & is_owned,
         "told {told:?}"
     );
 }

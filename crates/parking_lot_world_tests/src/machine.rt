@@ -17,6 +17,10 @@ enum Line {
     Steps(usize, Option<CoreAnswer>),
     /// It goes on until it can't.
     Stops(usize),
+    /// It goes on by so many steps, fairly, and isn't answered.
+    GoesFairly(usize, u32),
+    /// Its moment passes.
+    Expires(usize),
     Owns(usize, Option<OwnMode>),
     Ended(usize, Option<CoreAnswer>),
     Sleeps(usize, bool),
@@ -47,6 +51,18 @@ fn stops(machine: &mut RowMachine, thread: usize) -> bool {
     false
 }
 
+/// Goes on by so many steps, fairly, and isn't answered.
+fn goes_fairly(machine: &mut RowMachine, thread: usize, steps: u32) -> bool {
+    let mut is_so = true;
+    for _ in 0..steps {
+        if !machine.can_move(thread) {
+            return false;
+        }
+        is_so = is_so & machine.advance(thread, true).is_none();
+    }
+    is_so
+}
+
 fn holds(machine: &mut RowMachine, line: Line) -> bool {
     match line {
         Line::Starts(thread, call, answer) => {
@@ -64,6 +80,14 @@ fn holds(machine: &mut RowMachine, line: Line) -> bool {
             machine.can_move(thread) && machine.step(thread, false) == answer
         }
         Line::Stops(thread) => stops(machine, thread),
+        Line::GoesFairly(thread, steps) => goes_fairly(machine, thread, steps),
+        Line::Expires(thread) => {
+            let may = machine.may_expire(thread);
+            if may {
+                machine.deadline(thread);
+            }
+            may
+        }
         Line::Owns(thread, mode) => machine.owner(thread, 0) == mode,
         Line::Ended(thread, answer) => machine.ended(thread) == answer,
         Line::Sleeps(thread, asleep) => machine.is_asleep(thread) == asleep,
@@ -169,6 +193,57 @@ fn whoever_is_taken_is_told_in_the_order_of_the_list(rt: HostRuntime) -> Result<
         Line::Stops(2),
         Line::Owns(1, Some(OwnMode::Shared)),
         Line::Owns(2, Some(OwnMode::Shared)),
+    ];
+    follow(&rt, 3, LockKind::Rw, &script)
+}
+
+#[test]
+fn one_that_was_handed_the_mutex_comes_back_by_itself(rt: HostRuntime) -> Result<(), Fail> {
+    let script = [
+        Line::Starts(0, LockCall::Lock, None),
+        Line::Goes(0, 1, OWNED),
+        Line::Starts(1, LockCall::LockUntil, None),
+        Line::Stops(1),
+        Line::Sleeps(1, true),
+        Line::Starts(0, LockCall::Unlock, None),
+        Line::GoesFairly(0, 4),
+        Line::Has(0, Some(1), None),
+        Line::Owns(1, EXCLUSIVE),
+        Line::Expires(1),
+        Line::Goes(1, 1, None),
+        Line::Has(0, None, None),
+        Line::Sleeps(1, false),
+        Line::Goes(1, 1, OWNED),
+        Line::Goes(0, 1, RELEASED),
+        Line::Owns(1, EXCLUSIVE),
+        Line::Owns(0, None),
+    ];
+    follow(&rt, 2, LockKind::Mutex, &script)
+}
+
+#[test]
+fn one_of_two_readers_that_were_taken_comes_back_by_itself(rt: HostRuntime) -> Result<(), Fail> {
+    let script = [
+        Line::Starts(0, LockCall::Write, None),
+        Line::Stops(0),
+        Line::Starts(2, LockCall::ReadUntil, None),
+        Line::Stops(2),
+        Line::Starts(1, LockCall::Read, None),
+        Line::Stops(1),
+        Line::Starts(0, LockCall::UnlockWrite, None),
+        Line::Goes(0, 5, None),
+        Line::Has(0, Some(2), Some(1)),
+        Line::Expires(2),
+        Line::Goes(2, 1, None),
+        Line::Has(0, Some(1), None),
+        Line::Stops(2),
+        Line::Owns(2, Some(OwnMode::Shared)),
+        Line::Sleeps(1, true),
+        Line::Goes(0, 1, None),
+        Line::Has(0, None, None),
+        Line::Goes(0, 1, RELEASED),
+        Line::Stops(1),
+        Line::Owns(1, Some(OwnMode::Shared)),
     ];
     follow(&rt, 3, LockKind::Rw, &script)
 }

@@ -63,7 +63,7 @@ module _ (of_rows : of_locks.StepsAreCases) (w v : Shown) (fit : IsFit w) where
   goes_on t fair true kinds (reply, x, same, answers) = (x.call.once, once_step w v kinds t x.call.once x.step (fit.whole.at_onces t x.call x.here) x.lawful same)
 
   is_late : (t : ℕ) → v.kinds ≡ w.kinds → IsLate t w v → (i : ℕ) × IsStepAt t i w v
-  is_late t kinds (x, same, answers) = (x.call.lock, lock_step w v kinds t x.call.lock (fit.whole.at_locks t x.call x.here).0 (made (state w.rows) (state v.rows) fit.rows t x.call.lock (expire_step x.call.core) x.lawful.goes) same)
+  is_late t kinds (x, same, answers) = (x.call.lock, lock_step w v kinds t x.call.lock (fit.whole.at_locks t x.call x.here).0 (made (state w.rows) (state v.rows) fit.rows t x.call.lock (expire_step x.call.core x.call.spot) x.lawful.goes) same)
 
   is_case : (s : WorldStep) → may_make w s ≡ true → IsMade s w v → (i : ℕ) × IsStepAt (step_thread s) i w v
   is_case (WorldStep.Begin t i call) may made = (i, asks t i (asked call) made.2 may made.0)

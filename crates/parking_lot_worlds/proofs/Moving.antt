@@ -187,6 +187,7 @@ module _ (s : State) (h : FitsTogether s) where
   late_inside c LatePhase.Masks k how e = (refl, refl)
   late_inside c LatePhase.Leaves k how e = (refl, refl)
   late_inside c LatePhase.GivesUp k how e = absurd cc
+  late_inside c (LatePhase.WasTaken by handed) k how e = (refl, refl)
 
   tardy_inside : (c : Call) (p : LateRwPhase) (k : ℕ) (how : Doing) → stance (Core.LateRw p) ≡ In k how
       → ((goes_late s c (Core.LateRw p) || is_possible (is_taken s c) (core_act (Core.LateRw p))) ≡ true) × (core_enters (Core.LateRw p) ≡ false)
@@ -196,6 +197,7 @@ module _ (s : State) (h : FitsTogether s) where
   tardy_inside c LateRwPhase.Leaves k how e = (refl, refl)
   tardy_inside c (LateRwPhase.LeavesPending from) k how e = (refl, refl)
   tardy_inside c LateRwPhase.GivesUp k how e = absurd cc
+  tardy_inside c (LateRwPhase.WasTaken z by handed) k how e = (refl, refl)
 
   inside_goes : (c : Call) (d : Core) (k : ℕ) (how : Doing) → stance d ≡ In k how → ((goes_late s c d || is_possible (is_taken s c) (core_act d)) ≡ true) × (core_enters d ≡ false)
   inside_goes c (Core.Mutex m) k how e = work_goes (of_mutex.act_of m.phase) (is_taken s c) (mutex_works m.phase k how e)

@@ -17,6 +17,8 @@ use Rattle.parking_lot_world.specs.Rows.{State, call_at}
 use Rattle.parking_lot_world.specs.Stances.{core_act}
 use Rattle.parking_lot_worlds.specs.Worlds.{core_enters, is_entry}
 use Rattle.parking_lot_worlds.proofs.Coming.{Stays, all_stay, both, end_stays, next_stays, other_stays, own_stays}
+use Rattle.parking_lot_world.specs.declared.seat.QueuePosition.{QueuePosition}
+use Rattle.parking_lot_world.specs.LateActs.{came_back}
 
 abbrev pub lock_of : Call → ℕ
 lock_of c = c.lock
@@ -57,7 +59,8 @@ module _ (s : State) (t : ℕ) (c : Call) (here : call_at s t ≡ Some c) where
   inside (SectionAct.Append token) fair u (k, stands, e) = is u _ e (record { calls = next_stays lock_of s.calls t c _ here refl; kinds = refl; closed = λ b o. none_of _ o })
   inside (SectionAct.Store plain handing) fair u e = is u _ e (record { calls = says _ _; kinds = refl; closed = λ b o. none_of _ o })
   inside SectionAct.Leave fair u e = is u _ e (record { calls = own _; kinds = refl; closed = λ b o. refl })
-  inside SectionAct.Wake fair u (e, d, token, due, is_it) = is u _ is_it (record {
+  inside SectionAct.Wake fair u (inr (gone, is_it)) = is u _ is_it (record { calls = own _; kinds = refl; closed = λ b o. o })
+  inside SectionAct.Wake fair u (inl (e, d, token, due, is_it)) = is u _ is_it (record {
     calls = own_stays lock_of s.calls e.thread _ t c _ here refl (next_stays lock_of s.calls e.thread d _ due.there refl);
     kinds = refl;
     closed = λ b o. o;
@@ -67,10 +70,14 @@ module _ (s : State) (t : ℕ) (c : Call) (here : call_at s t ≡ Some c) where
   quits true l m a b = a
   quits false l m a b = b
 
+  comes : (at : QueuePosition) (u : State) → u ≡ came_back at s t c → Kept true s u
+  comes QueuePosition.Listed u e = is u _ e (record { calls = own _; kinds = refl; closed = λ b o. absurd cc })
+  comes (QueuePosition.Off by said) u e = is u _ e (record { calls = next_stays lock_of s.calls t c _ here refl; kinds = refl; closed = λ b o. absurd cc })
+
   late : (k : Core) (u : State) → BecameLate k t c s u → Kept (core_enters k) s u
-  late (Core.Late LatePhase.Expires) u e = is u _ e (record { calls = own _; kinds = refl; closed = λ b o. absurd cc })
+  late (Core.Late LatePhase.Expires) u e = comes c.spot u e
   late (Core.Late LatePhase.Quits) u e = is u _ e (record { calls = own _; kinds = refl; closed = λ b o. quits _ _ _ (ap (option_map _) (none_of _ o)) (none_of _ o) })
-  late (Core.LateRw (LateRwPhase.Expires z)) u e = is u _ e (record { calls = own _; kinds = refl; closed = λ b o. absurd cc })
+  late (Core.LateRw (LateRwPhase.Expires z)) u e = comes c.spot u e
   late (Core.LateRw (LateRwPhase.Quits z)) u e = is u _ e (record { calls = own _; kinds = refl; closed = λ b o. quits _ _ _ (ap (option_map _) (none_of _ o)) (none_of _ o) })
   late k u e = absurd e
 

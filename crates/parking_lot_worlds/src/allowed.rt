@@ -30,7 +30,8 @@ fn core_enters(core: Core) -> bool
         Core::Upgrade(core) => is_entry(core.act()),
         Core::Late(phase) => match phase {
             LatePhase::Expires => true,
-            LatePhase::Quits | LatePhase::Masks | LatePhase::Leaves | LatePhase::GivesUp => false,
+            LatePhase::Quits | LatePhase::Masks | LatePhase::Leaves => false,
+            LatePhase::GivesUp | LatePhase::WasTaken(_, _) => false,
         },
         Core::LateRw(phase) => match phase {
             LateRwPhase::Expires(_) => true,

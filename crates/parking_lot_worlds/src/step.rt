@@ -12,7 +12,8 @@ pub enum WorldStep {
     /// A thread makes one step of its call. Where it gives the lock up by a section and stores in this step, the release is fair if
     /// this says so.
     Go(usize, bool),
-    /// A thread's deadline comes, as it sleeps in the list of a timed call. It gives up from then on, unless it is woken first.
+    /// A thread's deadline comes, as it sleeps in a timed call. It gives up from then on, unless it was taken off its list, before that or after:
+    /// then it goes on as its taker has told it, woken or by itself.
     Deadline(usize),
 }
 

@@ -205,7 +205,7 @@ impl<A: Allocator> World<A> {
     /// - `Begin` where the thread is in a call, the world has no such lock or it is of another kind, or the call gives up what the thread
     ///   doesn't own or asks for a lock that it owns, but for a reader of a recursive lock that reads again and has fewer than 255 holds;
     /// - `Go` where the thread is in no call, sleeps, or is before a section while one is open;
-    /// - `Deadline` where the thread doesn't sleep in its list in a timed call, or its deadline has come before.
+    /// - `Deadline` where the thread doesn't sleep in a timed call, or its deadline has come before in that sleep.
     pub fn run(&mut self, steps: &[WorldStep]) -> Result<(), WorldFault>
         ensures ran { Ran self.old (take (steps_done result (length steps.now)) steps.now) self.new }
         ensures refused { IfErr result (λ fault. (step : _) × (slice_get steps.now fault.done ≡ Some step) × (refusal self.new step ≡ Some fault.fault)) }

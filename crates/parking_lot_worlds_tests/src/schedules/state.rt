@@ -309,6 +309,8 @@ impl Tardy {
             LateRwPhase::GivesUp => is_off(4),
             LateRwPhase::LeavesPending(false) => is_off(5),
             LateRwPhase::LeavesPending(true) => is_off(6),
+            LateRwPhase::WasTaken(sleeper, _, false) => has_slept(7, sleeper),
+            LateRwPhase::WasTaken(sleeper, _, true) => has_slept(8, sleeper),
         }
     }
 }

@@ -18,6 +18,6 @@ returns g c =
 
 pub invariant_of-self : goal.invariant_of-self
 invariant_of-self g c = (
-  subst FitsTogether (sym (returns g c)) (laws.expires (state c.args.self.now) c.args.thread c.args.call c.requires.asleep c.requires.listed (fits c.self.view_is c.self.invariant.0) c.requires.here).fits,
+  subst FitsTogether (sym (returns g c)) (laws.expires (state c.args.self.now) c.args.thread c.args.call c.requires.asleep (fits c.self.view_is c.self.invariant.0) c.requires.here).fits,
   room_set _ _ _ _ c.self.invariant.1,
 )
