@@ -42,7 +42,7 @@ use Rattle.parking_lot_waits_world.specs.JointLaws.{StepsAskNoMore}
 use Rattle.parking_lot_waits_world.specs.JointMoves.{may_go_as, may_go_at, may_move, may_move_all, may_turn}
 use Rattle.parking_lot_waits_world.specs.JointSteps.{KnownIn}
 use Rattle.parking_lot_waits_world.specs.Turns.{is_at_mutex, mutex_of, notify_turn, turn_by, turn_of, wait_turn}
-use Rattle.parking_lot_waits_world.specs.Whole.{AtMutex, Owns, Away, Busy, Free, Never, IsSo, IsWhole, Stands, Waits, back_of, front_of, named, place_of, simply_goes_as, simply_goes_at, simply_turns}
+use Rattle.parking_lot_waits_world.specs.Whole.{AtMutex, Owns, Away, Asks, IsSo, IsWhole, Stands, Waits, back_of, front_of, named, place_of, simply_goes_as, simply_goes_at, simply_turns}
 
 both : (a b : Bool) → a ≡ true → b ≡ true → (a && b) ≡ true
 both true b x y = y
@@ -53,10 +53,6 @@ both false b x y = absurd cc
 in_none : (o : Option Call) → option_map (λ (c : Call). c.lock) o ≡ None → o ≡ None
 in_none None e = refl
 in_none (Some c) e = absurd cc
-
-is_at : (o : Option Call) (m : ℕ) → option_map (λ (c : Call). c.lock) o ≡ Some m → (d : Call) × (o ≡ Some d) × (d.lock ≡ m)
-is_at None m e = absurd (none-some m e)
-is_at (Some d) m e = (d, refl, same_Some d.lock m e)
 
 module _ (s : State) (k m : ℕ) (low : k < length s.calls) (mutex : slice_get s.kinds m ≡ Some kind.Mutex) where
   idle : place_of s k ≡ None → is_none (row_call_at s k) ≡ true
@@ -78,11 +74,10 @@ at_mutex (row_core.LateRw p) is = absurd cc
 at_mutex (row_core.Upgrade k) is = absurd cc
 
 -- one that is in a call there is at a mutex
-pub is_there : (s : State) (k m : ℕ) → FitsTogether s → slice_get s.kinds m ≡ Some kind.Mutex → IsSo Busy s k m → option_map_or (λ (c : Call). is_at_mutex c.core) (row_call_at s k) false ≡ true
-is_there s k m fits mutex busy =
-    let (d, here, lock) = is_at (row_call_at s k) m busy in
-    ap (λ (o : Option Call). option_map_or (λ (c : Call). is_at_mutex c.core) o false) here
-    ∙ at_mutex d.core (subst (λ (o : Option LockKind). IsOfKind o d.core) (ap (slice_get s.kinds) lock ∙ mutex) (fits.rules.kinds k d here))
+pub is_there : (s : State) (k m : ℕ) → FitsTogether s → slice_get s.kinds m ≡ Some kind.Mutex → IsSo Asks s k m → option_map_or (λ (c : Call). is_at_mutex c.core) (row_call_at s k) false ≡ true
+is_there s k m fits mutex is =
+    ap (λ (o : Option Call). option_map_or (λ (c : Call). is_at_mutex c.core) o false) is.here
+    ∙ at_mutex is.call.core (subst (λ (o : Option LockKind). IsOfKind o is.call.core) (ap (slice_get s.kinds) is.lock ∙ mutex) (fits.rules.kinds k is.call is.here))
 
 -- WHO WAITS AT A VARIABLE
 
@@ -207,7 +202,7 @@ module _ (j : Joint) (h : IsWhole j) (v : ℕ) (x : Var) (at : var_at j v ≡ So
   by_core u c (core.Wait k) here some agrees out stands closed =
       let (away, word) = waiting_case c.listed k.phase (mutex_of c.call) x.word some agrees stands.names out in
       let low = thread_low u c here in
-      let may = may_lock (state j.rows) (back_number j u) (mutex_of c.call) (subst (λ m. back_number j u < m) (sym h.numbers) (number_low (length j.seats) u (seat_at j u).second low)) stands.mutex
+      let may = may_lock (state j.rows) (back_number j u) (mutex_of c.call) (subst (λ m. back_number j u < m) (sym h.numbers) (number_low (length j.seats) u (seat_at j u).second low)) stands.mutex.kind
       (subst (λ (a : AtMutex). IsSo a (state j.rows) (back_number j u) (mutex_of c.call)) away stands.back) in
       both _ _ (lt-ltb u _ low) (both _ _ (subst (λ m. may_begin (state j.rows) (back_number j u) m call.Lock ≡ true) (omega (arith, word)) may) (ap (λ (o : Option Section). not (is_some o)) closed))
 
@@ -258,7 +253,7 @@ and_right false b e = refl
 abbrev Needs : Turn → AtMutex → AtMutex → Type 0
 Needs turn.GivesUp front back = front ≡ Owns
 Needs turn.LocksAgain front back = back ≡ Away
-Needs turn.Follows front back = back ≡ Busy
+Needs turn.Follows front back = back ≡ Asks
 Needs turn.Moves front back = ⊥
 Needs x front back = Unit {0}
 
@@ -319,12 +314,12 @@ module _ (j : Joint) (h : IsWhole j) (fits : FitsTogether (state j.rows)) (v t :
   by_turn p turn.Sleeps low s need = refl
   by_turn p turn.Acts low s need = refl
   by_turn p turn.GivesUp low s need =
-      and_right _ _ (may_unlock (state j.rows) (front_number j t) (mutex_of c.call) (low_number (not (seat_at j t).second) low) s.mutex (subst (λ (a : AtMutex). IsSo a (state j.rows) (front_number j t) (mutex_of c.call)) need s.front))
+      and_right _ _ (may_unlock (state j.rows) (front_number j t) (mutex_of c.call) (low_number (not (seat_at j t).second) low) s.mutex.kind (subst (λ (a : AtMutex). IsSo a (state j.rows) (front_number j t) (mutex_of c.call)) need s.front))
   by_turn p turn.LocksAgain low s need =
-      and_right _ _ (may_lock (state j.rows) (back_number j t) (mutex_of c.call) (low_number (seat_at j t).second low) s.mutex (subst (λ (a : AtMutex). IsSo a (state j.rows) (back_number j t) (mutex_of c.call)) need s.back))
+      and_right _ _ (may_lock (state j.rows) (back_number j t) (mutex_of c.call) (low_number (seat_at j t).second low) s.mutex.kind (subst (λ (a : AtMutex). IsSo a (state j.rows) (back_number j t) (mutex_of c.call)) need s.back))
   by_turn p turn.Unlocks low s need = refl
   by_turn p turn.Follows low s need =
-      and_right _ _ (is_there (state j.rows) (back_number j t) (mutex_of c.call) fits s.mutex (subst (λ (a : AtMutex). IsSo a (state j.rows) (back_number j t) (mutex_of c.call)) need s.back))
+      and_right _ _ (is_there (state j.rows) (back_number j t) (mutex_of c.call) fits s.mutex.kind (subst (λ (a : AtMutex). IsSo a (state j.rows) (back_number j t) (mutex_of c.call)) need s.back))
   by_turn p turn.Locks low s need = refl
   by_turn p turn.ComesBack low s need = refl
   by_turn p turn.Hears low s need = refl
