@@ -43,7 +43,7 @@ fn core_enters(core: Core) -> bool
 
 impl<A: Allocator> WaitMachine<A> {
     /// Whether a number's next act at a lock enters a section.
-    fn enters_at_lock(&self, number: usize) -> bool
+    pub(crate) fn enters_at_lock(&self, number: usize) -> bool
         ensures { result ≡ enters_at_lock self.now number }
     {
         match self.rows.call(number) {
@@ -92,7 +92,7 @@ impl<A: Allocator> WaitMachine<A> {
     }
 
     /// Whether a thread is in no call.
-    fn is_free(&self, thread: usize) -> bool
+    pub(crate) fn is_free(&self, thread: usize) -> bool
         requires low { thread < length self.now.seats }
         ensures { result ≡ is_free self.now thread }
     {

@@ -8,6 +8,7 @@ mod moving;
 mod new_machine;
 mod parts;
 mod seat;
+mod sides;
 mod steps;
 mod turn;
 mod views;

@@ -1,11 +1,14 @@
 //! What is seen of a machine of locks and condition variables.
-ghost use Rattle.std.specs.Prelude.{◌≡◌};
+ghost use Rattle.std.specs.Prelude.{◌≡◌, map, IfErr, IfOk};
+ghost use Rattle.parking_lot_core_lot.specs.declared.fault.SizeFault.TheVariants.{NoMemory};
 ghost use Rattle.parking_lot_world.specs.RowFits.{FitsTogether};
 ghost use Rattle.parking_lot_world.specs.Rows.{state};
-ghost use Rattle.parking_lot_waits_world.specs.Joint.{mode_at, thread_of, var_at, word_at};
+ghost use Rattle.parking_lot_waits_world.specs.Joint.{mode_at, thread_of, var_at, waiters_of, word_at};
+ghost use Rattle.parking_lot_waits_world.specs.JointSides.{queue_at};
 ghost use Rattle.parking_lot_waits_world.specs.JointSteps.{KnownIn};
 
 use crate::wait_machine::WaitMachine;
+use parking_lot_core_lot::SizeFault;
 use parking_lot_world::OwnMode;
 use std::alloc::Allocator;
 
@@ -57,6 +60,47 @@ impl<A: Allocator> WaitMachine<A> {
             number
         } else {
             number - self.threads()
+        }
+    }
+}
+
+impl<A: Allocator + Clone + Drop> WaitMachine<A> {
+    /// The threads of those numbers at the locks.
+    fn threads_of(&self, numbers: &[usize]) -> Result<Vec<usize, A>, SizeFault>
+        ensures ok { IfOk result (λ threads. threads.items ≡ map (thread_of self.now) numbers.now) }
+        ensures err { IfErr result (λ fault. fault ≡ NoMemory) }
+    {
+        let alloc = self.seats.allocator().clone()?;
+        let mut threads = Vec::with_capacity(alloc, numbers.len())?;
+        for number in numbers {
+            threads.push_reserved(self.thread_of(*number));
+        }
+        Ok(threads)
+    }
+
+    /// Who waits at a condition variable, as a list of its own.
+    fn waiters_at(&self, variable: usize) -> Result<Vec<usize, A>, SizeFault>
+        ensures ok { IfOk result (λ threads. threads.items ≡ waiters_of (var_at self.now variable)) }
+        ensures err { IfErr result (λ fault. fault ≡ NoMemory) }
+    {
+        let alloc = self.seats.allocator().clone()?;
+        Ok(self.waiters(variable).to_vec(alloc)?)
+    }
+
+    /// The threads of that key's list, in order. A lock has two keys: twice its number, and one more; the list of a condition variable is the first.
+    pub fn queue(&self, key: usize) -> Result<Vec<usize, A>, SizeFault>
+        ensures ok { IfOk result (λ threads. threads.items ≡ queue_at self.now key) }
+        ensures err { IfErr result (λ fault. fault ≡ NoMemory) }
+    {
+        let lock = key / 2;
+        if !self.is_variable(lock) {
+            let numbers = self.rows.queue(key)?;
+            self.threads_of(&numbers)
+        } else if key == 2 * lock {
+            self.waiters_at(lock)
+        } else {
+            let alloc = self.seats.allocator().clone()?;
+            Ok(Vec::new(alloc))
         }
     }
 }

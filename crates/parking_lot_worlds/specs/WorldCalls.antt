@@ -5,6 +5,11 @@ use Rattle.parking_lot_protocol.specs.declared.act.CoreAnswer.TheVariants as fro
 use Rattle.parking_lot_once_world.specs.declared.calls.OnceCall.TheVariants as once
 use Rattle.parking_lot_once_world.specs.declared.calls.OnceReply.{OnceReply}
 use Rattle.parking_lot_once_world.specs.declared.calls.OnceReply.TheVariants as reply
+use Rattle.parking_lot_condvar_world.specs.declared.calls.CondvarCall.TheVariants as variable
+use Rattle.parking_lot_condvar_world.specs.declared.calls.CondvarReply.{CondvarReply}
+use Rattle.parking_lot_condvar_world.specs.declared.calls.CondvarReply.TheVariants as told
+use Rattle.parking_lot_waits_world.specs.declared.ended.Ended.{Ended}
+use Rattle.parking_lot_waits_world.specs.declared.ended.Ended.TheVariants as ended
 use Rattle.parking_lot_world.specs.declared.calls.LockCall.TheVariants as row
 use Rattle.parking_lot_world.specs.declared.calls.LockKind.{LockKind as RowKind}
 use Rattle.parking_lot_world.specs.declared.calls.LockKind.TheVariants as rows
@@ -14,7 +19,7 @@ use Rattle.parking_lot_worlds.specs.declared.calls.LockKind.TheVariants as kind
 use Rattle.parking_lot_worlds.specs.declared.calls.LockCall.{LockCall}
 use Rattle.parking_lot_worlds.specs.declared.calls.LockCall.TheVariants as call
 use Rattle.parking_lot_worlds.specs.declared.calls.Asked.{Asked}
-use Rattle.parking_lot_worlds.specs.declared.calls.Asked.TheVariants.{OfLock, OfOnce}
+use Rattle.parking_lot_worlds.specs.declared.calls.Asked.TheVariants.{OfLock, OfVariable, OfOnce}
 use Rattle.parking_lot_worlds.specs.declared.calls.LockAnswer.{LockAnswer}
 use Rattle.parking_lot_worlds.specs.declared.calls.LockAnswer.TheVariants as answer
 use Rattle.parking_lot_worlds.specs.declared.step.WorldStep.{WorldStep}
@@ -25,15 +30,25 @@ is_once kind.Mutex = false
 is_once kind.FairMutex = false
 is_once kind.Rw = false
 is_once kind.RwRecursive = false
+is_once kind.Condvar = false
 is_once kind.Once = true
 
--- the row of a machine of locks: that of a once is a mutex, at which nobody is ever in a call
+abbrev pub is_variable : LockKind → Bool
+is_variable kind.Mutex = false
+is_variable kind.FairMutex = false
+is_variable kind.Rw = false
+is_variable kind.RwRecursive = false
+is_variable kind.Condvar = true
+is_variable kind.Once = false
+
+-- The row of a machine of locks. At that of a condition variable and of a once nobody is ever in a call; that of a once is no mutex, so nobody waits with it.
 abbrev pub row_kind : LockKind → RowKind
 row_kind kind.Mutex = rows.Mutex
 row_kind kind.FairMutex = rows.FairMutex
 row_kind kind.Rw = rows.Rw
 row_kind kind.RwRecursive = rows.RwRecursive
-row_kind kind.Once = rows.Mutex
+row_kind kind.Condvar = rows.Mutex
+row_kind kind.Once = rows.Rw
 
 abbrev pub asked : LockCall → Asked
 asked call.Lock = OfLock row.Lock
@@ -58,6 +73,10 @@ asked call.ReadUntil = OfLock row.ReadUntil
 asked call.WriteUntil = OfLock row.WriteUntil
 asked call.UpgradableUntil = OfLock row.UpgradableUntil
 asked call.UpgradeUntil = OfLock row.UpgradeUntil
+asked (call.Wait m) = OfVariable (variable.Wait m)
+asked (call.WaitUntil m) = OfVariable (variable.WaitUntil m)
+asked call.NotifyOne = OfVariable variable.NotifyOne
+asked call.NotifyAll = OfVariable variable.NotifyAll
 asked (call.CallOnce well) = OfOnce (once.CallOnce well)
 asked (call.CallOnceForce well) = OfOnce (once.CallOnceForce well)
 asked call.OnceWait = OfOnce once.OnceWait
@@ -78,6 +97,18 @@ of_timed from_core.Released = answer.TimedOut
 abbrev pub said : Option Call → CoreAnswer → LockAnswer
 said None a = of_core a
 said (Some c) a = if c.timed then of_timed a else of_core a
+
+abbrev pub of_condvar : CondvarReply → LockAnswer
+of_condvar told.Woken = answer.Owned
+of_condvar told.TimedOut = answer.TimedOut
+of_condvar told.WrongMutex = answer.WrongMutex
+of_condvar (told.Flag some) = answer.Flag some
+of_condvar (told.Count count) = answer.Count count
+
+-- what a thread is answered whose call at a lock or a condition variable ends so; one at a lock was in that call
+abbrev pub of_ended : Option Call → Ended → LockAnswer
+of_ended call (ended.AtLock a) = said call a
+of_ended call (ended.AtVariable reply) = of_condvar reply
 
 abbrev pub of_reply : OnceReply → LockAnswer
 of_reply (reply.Ran before) = answer.Ran before

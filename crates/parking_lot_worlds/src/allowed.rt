@@ -1,13 +1,11 @@
 //! Which steps a world allows.
 ghost use Rattle.std.specs.Prelude.{◌≡◌};
-ghost use Rattle.parking_lot_world.specs.Rows.{state};
-ghost use Rattle.parking_lot_worlds.specs.Worlds.{core_enters, goes, is_entry, is_in_once, is_once_at, lock_enters, may_ask, may_go, may_make, once_enters, once_side, row_side};
+ghost use Rattle.parking_lot_worlds.specs.Worlds.{goes, is_entry, is_in_once, is_once_at, is_variable_at, may_ask, may_go, may_make, once_enters, once_side, wait_side};
 
 use crate::calls::Asked;
 use crate::step::WorldStep;
 use crate::world::World;
 use parking_lot_protocol::Act;
-use parking_lot_world::{Core, LatePhase, LateRwPhase};
 use std::alloc::Allocator;
 
 /// Whether an act enters a section.
@@ -17,26 +15,6 @@ fn is_entry(act: Act) -> bool
     match act {
         Act::Enter(_) => true,
         _ => false,
-    }
-}
-
-/// Whether a core's next act enters a section. One whose moment has passed comes back into that of its list.
-fn core_enters(core: Core) -> bool
-    ensures { result ≡ core_enters core }
-{
-    match core {
-        Core::Mutex(core) => is_entry(core.act()),
-        Core::Rw(core) => is_entry(core.act()),
-        Core::Upgrade(core) => is_entry(core.act()),
-        Core::Late(phase) => match phase {
-            LatePhase::Expires => true,
-            LatePhase::Quits | LatePhase::Masks | LatePhase::Leaves => false,
-            LatePhase::GivesUp | LatePhase::WasTaken(_, _) => false,
-        },
-        Core::LateRw(phase) => match phase {
-            LateRwPhase::Expires(_) => true,
-            _ => false,
-        },
     }
 }
 
@@ -51,6 +29,16 @@ impl<A: Allocator> World<A> {
         }
     }
 
+    /// Whether a lock is a condition variable.
+    pub(crate) fn is_variable(&self, lock: usize) -> bool
+        ensures { result ≡ is_variable_at self.now lock }
+    {
+        match self.kinds.get(lock) {
+            Some(kind) => kind.is_variable(),
+            None => false,
+        }
+    }
+
     /// Whether a thread is in a call at a once.
     pub(crate) fn is_in_once(&self, thread: usize) -> bool
         ensures { result ≡ is_in_once self.now thread }
@@ -58,17 +46,7 @@ impl<A: Allocator> World<A> {
         self.onces.call(thread).is_some()
     }
 
-    /// Whether a thread's call at a lock is before a section.
-    fn lock_enters(&self, thread: usize) -> bool
-        ensures { result ≡ lock_enters (state self.now.rows) thread }
-    {
-        match self.rows.call(thread) {
-            Some(call) => core_enters(call.core),
-            None => false,
-        }
-    }
-
-    /// Whether a thread's call at a once is.
+    /// Whether a thread's call at a once is before a section.
     fn once_enters(&self, thread: usize) -> bool
         ensures { result ≡ once_enters self.now.onces thread }
     {
@@ -78,18 +56,19 @@ impl<A: Allocator> World<A> {
         }
     }
 
-    /// Whether a thread may make a step of its call at a lock.
-    fn lock_goes(&self, thread: usize) -> bool
-        ensures { result ≡ goes (row_side (state self.now.rows)) (once_side self.now.onces) thread }
+    /// Whether a thread may make a step of its call at a lock or a condition variable.
+    fn wait_goes(&self, thread: usize) -> bool
+        ensures { result ≡ goes (wait_side self.now.waits) (once_side self.now.onces) thread }
     {
-        self.rows.can_move(thread) && !(self.lock_enters(thread) && self.onces.inside().is_some())
+        self.waits.may_go(thread)
+            && !(self.waits.enters(thread) && self.onces.inside().is_some())
     }
 
     /// Whether a thread may make a step of its call at a once.
     fn once_goes(&self, thread: usize) -> bool
-        ensures { result ≡ goes (once_side self.now.onces) (row_side (state self.now.rows)) thread }
+        ensures { result ≡ goes (once_side self.now.onces) (wait_side self.now.waits) thread }
     {
-        self.onces.can_move(thread) && !(self.once_enters(thread) && self.rows.lot().is_entered(0))
+        self.onces.can_move(thread) && !(self.once_enters(thread) && self.waits.is_open())
     }
 
     /// Whether a thread may begin a call now.
@@ -100,11 +79,14 @@ impl<A: Allocator> World<A> {
             Asked::OfLock(call) => {
                 !self.is_once(lock)
                     && self.onces.call(thread).is_none()
-                    && self.rows.may_begin(thread, lock, call)
+                    && self.waits.may_ask(thread, lock, call)
+            }
+            Asked::OfVariable(call) => {
+                self.onces.call(thread).is_none() && self.waits.may_call_at(thread, lock, call)
             }
             Asked::OfOnce(_) => {
                 self.is_once(lock)
-                    && self.rows.call(thread).is_none()
+                    && !self.waits.is_busy(thread)
                     && self.onces.may_begin(thread, lock)
             }
         }
@@ -117,7 +99,7 @@ impl<A: Allocator> World<A> {
         if self.is_in_once(thread) {
             self.once_goes(thread)
         } else {
-            self.lock_goes(thread)
+            self.wait_goes(thread)
         }
     }
 
@@ -128,7 +110,7 @@ impl<A: Allocator> World<A> {
         match step {
             WorldStep::Begin(thread, lock, call) => self.may_ask(thread, lock, call.asked()),
             WorldStep::Go(thread, _) => self.may_go(thread),
-            WorldStep::Deadline(thread) => self.rows.may_expire(thread),
+            WorldStep::Deadline(thread) => self.waits.may_expire(thread),
         }
     }
 }

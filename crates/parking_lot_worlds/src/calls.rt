@@ -1,9 +1,10 @@
-//! What threads ask of the locks and onces of a world.
+//! What threads ask of the locks, condition variables and onces of a world.
 ghost use Rattle.std.specs.Prelude.{◌≡◌};
-ghost use Rattle.parking_lot_worlds.specs.WorldCalls.{asked, is_once, of_core, of_reply, of_timed, row_kind, said};
+ghost use Rattle.parking_lot_worlds.specs.WorldCalls.{asked, is_once, is_variable, of_condvar, of_core, of_ended, of_reply, of_timed, row_kind, said};
 
 use parking_lot_once_world::{OnceCall, OnceReply, OnceState};
 use parking_lot_protocol::CoreAnswer;
+use parking_lot_waits_world::{CondvarCall, CondvarReply, Ended};
 use parking_lot_world::{Call, LockCall as RowCall, LockKind as RowKind};
 
 /// The kind of a lock.
@@ -17,6 +18,8 @@ pub enum LockKind {
     Rw,
     /// One writer, or readers, who may read again, also past a writer that waits.
     RwRecursive,
+    /// A condition variable, which nobody owns.
+    Condvar,
     /// A one-time initialization, which nobody owns.
     Once,
 }
@@ -69,6 +72,15 @@ pub enum LockCall {
     /// It makes its upgradable hold the exclusive one, and waits until its deadline for the readers to leave. Where it gives up it has the
     /// upgradable hold again.
     UpgradeUntil,
+    /// At a condition variable: it gives the mutex of that number up, which it owns, waits until it is notified, and locks the mutex again. Where
+    /// others wait with another mutex it is refused, and owns its mutex still.
+    Wait(usize),
+    /// The same, until its deadline. Where it comes before anybody has notified it, it locks the mutex again, too.
+    WaitUntil(usize),
+    /// It notifies the one that waits longest, if anybody waits.
+    NotifyOne,
+    /// It notifies all that wait.
+    NotifyAll,
     /// At a once: it runs its closure where none has run, waits while one runs, and is refused where the last one has failed. This says whether
     /// its closure ends well, if it is run.
     CallOnce(bool),
@@ -80,11 +92,13 @@ pub enum LockCall {
     OnceWaitForce,
 }
 
-/// A call, by what it is asked of: of a lock that is owned, or of a once.
+/// A call, by what it is asked of: of a lock that is owned, of a condition variable, or of a once.
 #[derive(Clone, Copy, PartialEq, Eq, Debug)]
 pub enum Asked {
     /// Of a lock.
     OfLock(RowCall),
+    /// Of a condition variable.
+    OfVariable(CondvarCall),
     /// Of a once.
     OfOnce(OnceCall),
 }
@@ -92,14 +106,21 @@ pub enum Asked {
 /// How a call ended.
 #[derive(Clone, Copy, PartialEq, Eq, Debug)]
 pub enum LockAnswer {
-    /// The thread owns the lock as it asked for it; after a downgrade as a reader, or as the upgradable one.
+    /// The thread owns the lock as it asked for it; after a downgrade as a reader, or as the upgradable one. After a wait it owns its mutex again.
     Owned,
     /// A try found the lock taken; one to upgrade keeps its hold.
     Refused,
     /// The thread owns the lock no more.
     Released,
-    /// The deadline came first, and the thread has given up. It owns nothing; after a timed upgrade it has its upgradable hold again.
+    /// The deadline came first, and the thread has given up. It owns nothing; after a timed upgrade it has its upgradable hold again, and after a
+    /// wait its mutex.
     TimedOut,
+    /// At a condition variable: others wait with another mutex. Nothing has changed, and the thread owns its mutex still.
+    WrongMutex,
+    /// Whether one that waited was notified.
+    Flag(bool),
+    /// How many were.
+    Count(usize),
     /// At a once: its own closure ran and ended well; it was handed this state.
     Ran(OnceState),
     /// Its own closure ran and failed.
@@ -117,18 +138,31 @@ impl LockKind {
     {
         match self {
             LockKind::Once => true,
-            LockKind::Mutex | LockKind::FairMutex | LockKind::Rw | LockKind::RwRecursive => false,
+            LockKind::Mutex | LockKind::FairMutex | LockKind::Condvar => false,
+            LockKind::Rw | LockKind::RwRecursive => false,
         }
     }
 
-    /// The row of a machine of locks that a lock of this kind has: that of a once is a mutex, at which nobody is ever in a call.
+    /// Whether it is a condition variable.
+    pub(crate) fn is_variable(&self) -> bool
+        ensures { result ≡ is_variable self.now }
+    {
+        match self {
+            LockKind::Condvar => true,
+            LockKind::Mutex | LockKind::FairMutex | LockKind::Once => false,
+            LockKind::Rw | LockKind::RwRecursive => false,
+        }
+    }
+
+    /// The row of a machine of locks that a lock of this kind has. At that of a condition variable and of a once nobody is ever in a call; that of
+    /// a once is no mutex, so nobody waits with it.
     pub(crate) fn row(&self) -> RowKind
         ensures { result ≡ row_kind self.now }
     {
         match self {
-            LockKind::Mutex | LockKind::Once => RowKind::Mutex,
+            LockKind::Mutex | LockKind::Condvar => RowKind::Mutex,
             LockKind::FairMutex => RowKind::FairMutex,
-            LockKind::Rw => RowKind::Rw,
+            LockKind::Rw | LockKind::Once => RowKind::Rw,
             LockKind::RwRecursive => RowKind::RwRecursive,
         }
     }
@@ -162,6 +196,10 @@ impl LockCall {
             LockCall::WriteUntil => Asked::OfLock(RowCall::WriteUntil),
             LockCall::UpgradableUntil => Asked::OfLock(RowCall::UpgradableUntil),
             LockCall::UpgradeUntil => Asked::OfLock(RowCall::UpgradeUntil),
+            LockCall::Wait(mutex) => Asked::OfVariable(CondvarCall::Wait(mutex as u64)),
+            LockCall::WaitUntil(mutex) => Asked::OfVariable(CondvarCall::WaitUntil(mutex as u64)),
+            LockCall::NotifyOne => Asked::OfVariable(CondvarCall::NotifyOne),
+            LockCall::NotifyAll => Asked::OfVariable(CondvarCall::NotifyAll),
             LockCall::CallOnce(well) => Asked::OfOnce(OnceCall::CallOnce(well)),
             LockCall::CallOnceForce(well) => Asked::OfOnce(OnceCall::CallOnceForce(well)),
             LockCall::OnceWait => Asked::OfOnce(OnceCall::OnceWait),
@@ -172,7 +210,7 @@ impl LockCall {
 
 impl LockAnswer {
     /// What a thread is answered whose call at a lock ends so.
-    pub(crate) fn said(call: Option<Call>, answer: CoreAnswer) -> LockAnswer
+    fn said(call: Option<Call>, answer: CoreAnswer) -> LockAnswer
         ensures { result ≡ said call answer }
     {
         match call {
@@ -199,6 +237,29 @@ impl LockAnswer {
             CoreAnswer::Owned => LockAnswer::Owned,
             CoreAnswer::Refused => LockAnswer::Refused,
             CoreAnswer::Released => LockAnswer::Released,
+        }
+    }
+
+    /// What a thread is answered where its call at a condition variable has ended so.
+    fn of_condvar(reply: CondvarReply) -> LockAnswer
+        ensures { result ≡ of_condvar reply }
+    {
+        match reply {
+            CondvarReply::Woken => LockAnswer::Owned,
+            CondvarReply::TimedOut => LockAnswer::TimedOut,
+            CondvarReply::WrongMutex => LockAnswer::WrongMutex,
+            CondvarReply::Flag(some) => LockAnswer::Flag(some),
+            CondvarReply::Count(count) => LockAnswer::Count(count),
+        }
+    }
+
+    /// What a thread is answered whose call at a lock or a condition variable ends so; one at a lock was in that call.
+    pub(crate) fn of_ended(call: Option<Call>, ended: Ended) -> LockAnswer
+        ensures { result ≡ of_ended call ended }
+    {
+        match ended {
+            Ended::AtLock(answer) => LockAnswer::said(call, answer),
+            Ended::AtVariable(reply) => LockAnswer::of_condvar(reply),
         }
     }
 

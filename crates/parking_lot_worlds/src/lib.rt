@@ -1,4 +1,4 @@
-//! Worlds of locks and one-time initializations: threads' calls at them, one atomic step at a time, by any schedule.
+//! Worlds of locks, condition variables and one-time initializations: threads' calls at them, one atomic step at a time, by any schedule.
 #![tactic(auto)]
 
 mod allowed;
@@ -14,6 +14,7 @@ pub use calls::{Asked, LockAnswer, LockCall, LockKind};
 pub use fault::{WorldFault, WorldRefusal};
 pub use parking_lot_core_lot::SizeFault;
 pub use parking_lot_once_world::{OnceCall, OnceMachine, OnceReply, OnceState};
+pub use parking_lot_waits_world::{CondvarCall, WaitMachine};
 pub use parking_lot_world::{OwnMode, RowMachine};
 pub use step::WorldStep;
 pub use world::World;

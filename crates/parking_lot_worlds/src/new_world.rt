@@ -2,20 +2,23 @@
 ghost use Rattle.std.specs.Prelude.{◌≡◌, ◌<◌, ◌↔◌, ◌⊎◌, ◌^◌, ◌≢◌, length, map, replicate, None, IsErrOf, IfErr, IfOk};
 ghost use Rattle.parking_lot_core_lot.specs.declared.fault.SizeFault.TheVariants.{BadSize, NoMemory};
 ghost use Rattle.parking_lot_once_world.specs.OnceActs as once;
+ghost use Rattle.parking_lot_waits_world.specs.Joint.{nowhere};
+ghost use Rattle.parking_lot_waits_world.specs.JointSteps.{var_of};
 ghost use Rattle.parking_lot_world.specs.Machines as rows;
 ghost use Rattle.parking_lot_world.specs.Rows.{state};
-ghost use Rattle.parking_lot_worlds.specs.WorldCalls.{row_kind};
+ghost use Rattle.parking_lot_worlds.specs.WorldCalls.{is_variable, row_kind};
 
 use crate::calls::LockKind;
 use crate::world::World;
 use parking_lot_core_lot::SizeFault;
 use parking_lot_once_world::OnceMachine;
-use parking_lot_world::{LockKind as RowKind, RowMachine};
+use parking_lot_waits_world::WaitMachine;
+use parking_lot_world::LockKind as RowKind;
 use std::alloc::Allocator;
 
 impl<A: Allocator + Clone + Drop> World<A> {
-    /// So many threads, in no call, and locks of these kinds, which nobody owns: 1 to 65,536 threads, and 1 to 2^20 locks. Every word is 0, and
-    /// the onces are new.
+    /// So many threads, in no call, and locks of these kinds, which nobody owns: 1 to 65,536 threads, and 1 to 2^20 locks. Every word is 0, nobody
+    /// waits at a condition variable, and the onces are new.
     ///
     /// # Errors
     ///
@@ -23,16 +26,20 @@ impl<A: Allocator + Clone + Drop> World<A> {
     pub fn new(alloc: A, threads: usize, locks: Vec<LockKind, A>) -> Result<World<A>, SizeFault>
         ensures size { IsErrOf result BadSize ↔ ((threads ≡ 0) ⊎ (65536 < threads) ⊎ (length locks.items ≡ 0) ⊎ (2 ^ 20 < length locks.items)) }
         ensures kinds { IfOk result (λ world. world.kinds ≡ locks.items) }
-        ensures rows { IfOk result (λ world. state world.rows ≡ rows.at_rest threads (map row_kind locks.items)) }
+        ensures rows { IfOk result (λ world. state world.waits.rows ≡ rows.at_rest (2 * threads) (map row_kind locks.items)) }
+        ensures variables { IfOk result (λ world. world.waits.vars ≡ map (var_of threads) (map is_variable locks.items)) }
+        ensures seats { IfOk result (λ world. world.waits.seats ≡ replicate threads nowhere) }
         ensures onces { IfOk result (λ world. world.onces ≡ once.at_rest threads (length locks.items)) }
         ensures answers { IfOk result (λ world. world.answers ≡ replicate threads None) }
     {
         let onces = OnceMachine::new(&alloc, threads, locks.len())?;
-        let rows = RowMachine::new(&alloc, threads, rows_of(alloc.clone()?, &locks)?)?;
+        let rows = rows_of(alloc.clone()?, &locks)?;
+        let variables = variables_of(alloc.clone()?, &locks)?;
+        let waits = WaitMachine::new(&alloc, threads, rows, &variables)?;
         let answers = vec![in alloc; None; threads]?;
         Ok(World {
             kinds: locks,
-            rows,
+            waits,
             onces,
             answers,
         })
@@ -49,4 +56,19 @@ fn rows_of<A: Allocator + Drop>(alloc: A, kinds: &[LockKind]) -> Result<Vec<RowK
         rows.push_reserved(kind.row());
     }
     Ok(rows)
+}
+
+/// Which of these are condition variables.
+fn variables_of<A: Allocator + Drop>(
+    alloc: A,
+    kinds: &[LockKind],
+) -> Result<Vec<bool, A>, SizeFault>
+    ensures ok { IfOk result (λ variables. variables.items ≡ map is_variable kinds.now) }
+    ensures err { IfErr result (λ fault. fault ≡ NoMemory) }
+{
+    let mut variables = Vec::with_capacity(alloc, kinds.len())?;
+    for kind in kinds {
+        variables.push_reserved(kind.is_variable());
+    }
+    Ok(variables)
 }

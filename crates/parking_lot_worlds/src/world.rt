@@ -1,8 +1,7 @@
-//! Worlds of locks and onces: threads at them, moved by a schedule.
+//! Worlds of locks, condition variables and onces: threads at them, moved by a schedule.
 ghost use Rattle.std.specs.Prelude.{◌≡◌, length, take, slice_get, slice_set, None, Some, true, false, IfErr, MatchResult};
-ghost use Rattle.parking_lot_world.specs.Machines as rows;
-ghost use Rattle.parking_lot_world.specs.Rows.{state};
-ghost use Rattle.parking_lot_worlds.specs.declared.calls.Asked.TheVariants.{OfLock, OfOnce};
+ghost use Rattle.parking_lot_waits_world.specs.JointMoves as joint;
+ghost use Rattle.parking_lot_worlds.specs.declared.calls.Asked.TheVariants.{OfLock, OfOnce, OfVariable};
 ghost use Rattle.parking_lot_worlds.specs.WorldLaws.{DoneStays, IsSoundWorld};
 ghost use Rattle.parking_lot_worlds.specs.Worlds.{IsAsked, IsGone, IsLate, IsMade, IsWhole, Ran, is_in_once, may_ask, may_go, may_make, refusal, steps_done};
 
@@ -11,11 +10,12 @@ use crate::fault::{WorldFault, WorldRefusal};
 use crate::step::WorldStep;
 use parking_lot_once_world::laws::what_is_done_stays_done;
 use parking_lot_once_world::{OnceCall, OnceMachine};
-use parking_lot_world::{LockCall as RowCall, RowMachine, laws as of_locks};
+use parking_lot_waits_world::{CondvarCall, WaitMachine};
+use parking_lot_world::{LockCall as RowCall, laws as of_locks};
 use std::alloc::{Allocator, Global};
 use std::marker::Model;
 
-/// Threads, and locks and onces, stepped by a schedule.
+/// Threads, and locks, condition variables and onces, stepped by a schedule.
 ///
 /// It is deterministic. Nothing in it moves by itself: [`run`](World::run) is told which thread makes each step, and the same world with the
 /// same steps ends the same. A step is one atomic act of a thread's call, as a load of the lock's word, an exchange, entering a section, or
@@ -32,7 +32,7 @@ use std::marker::Model;
 #[derive(Drop)]
 pub struct World<A: Allocator = Global> {
     pub(crate) kinds: Vec<LockKind, A>,
-    pub(crate) rows: RowMachine<A>,
+    pub(crate) waits: WaitMachine<A>,
     pub(crate) onces: OnceMachine<A>,
     /// What each thread's last call answered; `None` while it isn't answered.
     pub(crate) answers: Vec<Option<LockAnswer>, A>,
@@ -43,9 +43,9 @@ impl<A: Allocator> Model for World<A> {
 
     ghost Value = { Shown };
 
-    ghost view = { λ w. record { kinds = w.kinds.items; rows = w.rows; onces = w.onces; answers = w.answers.items } };
+    ghost view = { λ w. record { kinds = w.kinds.items; waits = w.waits; onces = w.onces; answers = w.answers.items } };
 
-    ghost invariant = { λ w. IsWhole (record { kinds = w.kinds.items; rows = w.rows; onces = w.onces; answers = w.answers.items }) };
+    ghost invariant = { λ w. IsWhole (record { kinds = w.kinds.items; waits = w.waits; onces = w.onces; answers = w.answers.items }) };
 }
 
 impl<A: Allocator> World<A> {
@@ -53,7 +53,7 @@ impl<A: Allocator> World<A> {
     pub fn known(&self)
         ensures { IsSoundWorld self.now }
     {
-        self.rows.known();
+        self.waits.known();
         self.onces.known();
         of_locks::owners_agree();
         of_locks::lists_are_waiters();
@@ -70,7 +70,18 @@ impl<A: Allocator> World<A> {
         ensures answers { self.new.answers ≡ slice_set self.old.answers thread None }
         ensures kinds { self.new.kinds ≡ self.old.kinds }
     {
-        self.rows.begin(thread, lock, call);
+        self.waits.ask(thread, lock, call);
+        self.answers[thread] = None;
+    }
+
+    /// A thread begins a call at a condition variable.
+    fn ask_variable(&mut self, thread: usize, lock: usize, call: CondvarCall)
+        requires allowed { may_ask self.old thread lock (OfVariable call) ≡ true }
+        ensures asked { IsAsked thread lock (OfVariable call) self.old self.new }
+        ensures answers { self.new.answers ≡ slice_set self.old.answers thread None }
+        ensures kinds { self.new.kinds ≡ self.old.kinds }
+    {
+        self.waits.call(thread, lock, call);
         self.answers[thread] = None;
     }
 
@@ -85,16 +96,16 @@ impl<A: Allocator> World<A> {
         self.answers[thread] = None;
     }
 
-    /// A thread makes a step of its call at a lock.
+    /// A thread makes a step of its call at a lock or a condition variable.
     fn go_lock(&mut self, thread: usize, fair: bool)
         requires there { is_in_once self.old thread ≡ false }
         requires allowed { may_go self.old thread ≡ true }
         ensures gone { IsGone false thread fair self.old self.new }
         ensures kinds { self.new.kinds ≡ self.old.kinds }
     {
-        let call = self.rows.call(thread);
-        if let Some(answer) = self.rows.step(thread, fair) {
-            self.answers[thread] = Some(LockAnswer::said(call, answer));
+        let call = self.waits.lock_call(thread);
+        if let Some(ended) = self.waits.step(thread, fair) {
+            self.answers[thread] = Some(LockAnswer::of_ended(call, ended));
         }
     }
 
@@ -113,11 +124,11 @@ impl<A: Allocator> World<A> {
 
     /// A thread's deadline comes.
     fn expire(&mut self, thread: usize)
-        requires allowed { rows.may_expire (state self.old.rows) thread ≡ true }
+        requires allowed { joint.may_expire self.old.waits thread ≡ true }
         ensures late { IsLate thread self.old self.new }
         ensures kinds { self.new.kinds ≡ self.old.kinds }
     {
-        self.rows.deadline(thread);
+        self.waits.deadline(thread);
     }
 
     /// A thread begins a call.
@@ -129,6 +140,7 @@ impl<A: Allocator> World<A> {
     {
         match call {
             Asked::OfLock(call) => self.ask_lock(thread, lock, call),
+            Asked::OfVariable(call) => self.ask_variable(thread, lock, call),
             Asked::OfOnce(call) => self.ask_once(thread, lock, call),
         }
     }
@@ -195,7 +207,8 @@ impl<A: Allocator> World<A> {
 
     /// Makes the steps, one after another, up to the first that is refused. It takes no memory.
     ///
-    /// Each is a step of the rules of the lock or once that the thread's call is at, and after it each is still sound.
+    /// Each is steps of the rules of the lock, the condition variable or the once that the thread's call is at, and after it each is still sound. A
+    /// wait gives its mutex up and locks it again by steps at the mutex.
     ///
     /// # Errors
     ///
@@ -203,7 +216,8 @@ impl<A: Allocator> World<A> {
     /// aren't tried. `NoSuchThread` where the world doesn't have the thread; else `CannotMove` where the step isn't allowed now:
     ///
     /// - `Begin` where the thread is in a call, the world has no such lock or it is of another kind, or the call gives up what the thread
-    ///   doesn't own or asks for a lock that it owns, but for a reader of a recursive lock that reads again and has fewer than 255 holds;
+    ///   doesn't own or asks for a lock that it owns, but for a reader of a recursive lock that reads again and has fewer than 255 holds; that of a
+    ///   wait also where its mutex is no lock of the kind `Mutex` that the thread owns;
     /// - `Go` where the thread is in no call, sleeps, or is before a section while one is open;
     /// - `Deadline` where the thread doesn't sleep in a timed call, or its deadline has come before in that sleep.
     pub fn run(&mut self, steps: &[WorldStep]) -> Result<(), WorldFault>

@@ -8,15 +8,16 @@ use crate::calls::{LockAnswer, LockKind};
 use crate::world::World;
 use parking_lot_core_lot::SizeFault;
 use parking_lot_once_world::OnceMachine;
-use parking_lot_world::{OwnMode, RowMachine};
+use parking_lot_waits_world::WaitMachine;
+use parking_lot_world::OwnMode;
 use std::alloc::Allocator;
 
 impl<A: Allocator> World<A> {
-    /// The machine of the locks.
-    pub fn rows(&self) -> &RowMachine<A>
-        ensures { result.now ≡ self.now.rows }
+    /// The machine of the locks and condition variables.
+    pub fn waits(&self) -> &WaitMachine<A>
+        ensures { result.now ≡ self.now.waits }
     {
-        &self.rows
+        &self.waits
     }
 
     /// The machine of the onces.
@@ -34,14 +35,15 @@ impl<A: Allocator> World<A> {
     }
 
     /// The lock's word; 0 of one that the world doesn't have. That of a once is 0 where it is new, 1 where it is done, 2 where it is poisoned, 4
-    /// while a closure runs, and 8 more where callers may wait.
+    /// while a closure runs, and 8 more where callers may wait. That of a condition variable is 0 where nobody waits, and else the number of the
+    /// mutex that all wait with, and 1 more.
     pub fn word(&self, lock: usize) -> u64
         ensures { result ≡ word_at self.now lock }
     {
         if self.is_once(lock) {
             self.onces.word(lock)
         } else {
-            self.rows.word(lock)
+            self.waits.word(lock)
         }
     }
 
@@ -52,14 +54,14 @@ impl<A: Allocator> World<A> {
         self.answers.get(thread).copied().flatten()
     }
 
-    /// How a thread owns a lock now. Nobody owns a once.
+    /// How a thread owns a lock now. Nobody owns a condition variable or a once.
     pub fn owner(&self, thread: usize, lock: usize) -> Option<OwnMode>
         ensures { result ≡ mode_at self.now lock thread }
     {
-        if self.is_once(lock) {
+        if self.is_once(lock) || self.is_variable(lock) {
             None
         } else {
-            self.rows.owner(thread, lock)
+            self.waits.owner(thread, lock)
         }
     }
 
@@ -67,7 +69,7 @@ impl<A: Allocator> World<A> {
     pub fn is_in_debt(&self, thread: usize) -> bool
         ensures { result ≡ is_indebted self.now thread }
     {
-        self.onces.is_in_debt(thread) || self.rows.is_in_debt(thread)
+        self.onces.is_in_debt(thread) || self.waits.is_in_debt(thread)
     }
 }
 
@@ -88,14 +90,15 @@ impl<A: Allocator + Clone + Drop> World<A> {
         Ok(owners)
     }
 
-    /// The threads of that key's list, in order. A lock has two keys: twice its number, and one more; the list of a once is the first.
+    /// The threads of that key's list, in order. A lock has two keys: twice its number, and one more; the list of a once and that of a condition
+    /// variable is the first.
     pub fn queue(&self, key: usize) -> Result<Vec<usize, A>, SizeFault>
         ensures ok { IfOk result (λ threads. threads.items ≡ queue_at self.now key) }
         ensures err { IfErr result (λ fault. fault ≡ NoMemory) }
     {
         let lock = key / 2;
         if !self.is_once(lock) {
-            self.rows.queue(key)
+            self.waits.queue(key)
         } else if key == 2 * lock {
             self.onces.queue(lock)
         } else {

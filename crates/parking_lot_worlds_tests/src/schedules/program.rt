@@ -31,6 +31,8 @@ pub fn mode_before(call: LockCall) -> Option<OwnMode> {
         LockCall::UpgradableRead | LockCall::TryUpgradableRead => None,
         LockCall::UpgradableUntil => None,
         LockCall::Write | LockCall::TryWrite | LockCall::WriteUntil => None,
+        LockCall::Wait(_) | LockCall::WaitUntil(_) => None,
+        LockCall::NotifyOne | LockCall::NotifyAll => None,
         LockCall::CallOnce(_) | LockCall::CallOnceForce(_) => None,
         LockCall::OnceWait | LockCall::OnceWaitForce => None,
     }
@@ -49,6 +51,8 @@ pub fn mode_behind(call: LockCall) -> Option<OwnMode> {
         LockCall::UpgradeUntil => Some(OwnMode::Exclusive),
         LockCall::Unlock | LockCall::UnlockRead | LockCall::UnlockWrite => None,
         LockCall::UnlockUpgradable => None,
+        LockCall::Wait(_) | LockCall::WaitUntil(_) => None,
+        LockCall::NotifyOne | LockCall::NotifyAll => None,
         LockCall::CallOnce(_) | LockCall::CallOnceForce(_) => None,
         LockCall::OnceWait | LockCall::OnceWaitForce => None,
     }
@@ -145,6 +149,7 @@ pub fn may_answer(call: LockCall, answer: LockAnswer) -> bool {
         LockAnswer::Refused => is_try(call),
         LockAnswer::Released => mode_behind(call).is_none(),
         LockAnswer::TimedOut => is_timed(call),
+        LockAnswer::WrongMutex | LockAnswer::Flag(_) | LockAnswer::Count(_) => false,
         LockAnswer::Ran(_) | LockAnswer::Failed => false,
         LockAnswer::Poisoned | LockAnswer::Completed => false,
     }

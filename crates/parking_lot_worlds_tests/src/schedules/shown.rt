@@ -31,6 +31,7 @@ fn parked_bits(kind: LockKind) -> (u64, u64) {
         LockKind::Mutex | LockKind::FairMutex => (2, 0),
         LockKind::Rw | LockKind::RwRecursive => (1, 2),
         LockKind::Once => (8, 0),
+        LockKind::Condvar => (0, 0),
     }
 }
 

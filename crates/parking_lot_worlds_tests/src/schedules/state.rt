@@ -412,7 +412,7 @@ struct Seat {
 
 impl Seat {
     fn of(world: &World, thread: usize) -> Seat {
-        let machine = world.rows();
+        let machine = world.waits().rows();
         Seat {
             standing: machine.call(thread).map(Standing::of),
             hold: machine.hold(thread, 0),
@@ -424,7 +424,7 @@ impl Seat {
 
 /// Who is still to be woken: each of two threads at most once.
 fn wakes_of(world: &World) -> [Option<Wakeup>; 2] {
-    let wakes = world.rows().wakes();
+    let wakes = world.waits().rows().wakes();
     [wakes.first().copied(), wakes.get(1).copied()]
 }
 
