@@ -6,3 +6,4 @@ pub mod JointSides
 pub mod JointSteps
 pub mod Whole
 pub mod JointLaws
+pub mod JointCases

@@ -1,7 +1,9 @@
 //! Laws of a machine's answers and steps.
+ghost use Rattle.parking_lot_waits_world.specs.JointCases.{StepsAreCases};
 ghost use Rattle.parking_lot_waits_world.specs.JointLaws.{RepliesFit, StepsAskNoMore};
 
 use parking_lot_condvar_world::laws as of_variables;
+use parking_lot_world::moves_are_cases;
 
 /// A wait is answered that its deadline came only if it has one; and a notification says how many it has taken, one at most if it is of one.
 pub fn replies_fit_their_calls()
@@ -15,3 +17,11 @@ pub fn replies_fit_their_calls()
 pub fn steps_ask_no_more()
     ensures { StepsAskNoMore }
 {}
+
+/// Each beginning, step and deadline is, at one lock, cases of a lock without a word by the thread's numbers, one after another, or nothing; and at one
+/// condition variable it is steps of its rules, or nothing. It leaves every other lock and variable as it was.
+pub fn each_step_is_a_case()
+    ensures { StepsAreCases }
+{
+    moves_are_cases();
+}

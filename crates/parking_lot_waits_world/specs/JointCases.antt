@@ -1,0 +1,42 @@
+-- What a step of the machine is to its locks and to its condition variables, each by itself.
+use Rattle.std.specs.Prelude.{◌≡◌, ◌≢◌, ℕ, ◌+◌, if◌then◌else◌, Bool, true, List, [], ◌∷◌, length, Option, Some, None}
+use Rattle.parking_lot_rules.specs.Variable as rules
+use Rattle.parking_lot_condvar_world.specs.declared.calls.CondvarCall.{CondvarCall}
+use Rattle.parking_lot_condvar_world.specs.Machines.{State as Var, variable}
+use Rattle.parking_lot_condvar_world.specs.Steps.{Runs}
+use Rattle.parking_lot_world.specs.declared.calls.LockCall.{LockCall}
+use Rattle.parking_lot_world.specs.Rows.{State, lock_at, state}
+use Rattle.parking_lot_world.specs.SoundLaws.{IsStepAt}
+use Rattle.parking_lot_waits_world.specs.declared.ended.Ended.{Ended}
+use Rattle.parking_lot_waits_world.specs.Joint.{Joint, var_at}
+use Rattle.parking_lot_waits_world.specs.JointLaws.{PartsFit}
+use Rattle.parking_lot_waits_world.specs.JointSteps.{IsAsked, IsCalled, IsGone, IsLate}
+
+-- Of n threads, thread t has made these cases of a lock without a word at lock m, one after another, each by its second number or its first; all other
+-- locks are as they were.
+abbrev pub AreCases : ℕ → ℕ → ℕ → List Bool → State → State → Type 0
+AreCases n t m [] s u = (i : ℕ) → lock_at u i ≡ lock_at s i
+AreCases n t m (second ∷ by) s u = (x : State) × IsStepAt (if second then n + t else t) m s x × AreCases n t m by x u
+
+-- it has made steps of the rules of a variable
+abbrev pub RunsIn : ℕ → Option Var → Option Var → Type 0
+RunsIn t None None = Unit {0}
+RunsIn t (Some x) (Some y) = (steps : List rules.Step) × Runs t steps (variable x) (variable y)
+RunsIn t None (Some y) = ⊥
+RunsIn t (Some x) None = ⊥
+
+-- What a thread does at once, at one lock and at one variable. All else is as it was.
+pub record IsCase (t : ℕ) (i j : Joint) : Type 0 where
+  pub lock : ℕ
+  pub by : List Bool
+  pub cases : AreCases (length i.seats) t lock by (state i.rows) (state j.rows)
+  pub at : ℕ
+  pub runs : RunsIn t (var_at i at) (var_at j at)
+  pub elsewhere : (v : ℕ) → v ≢ at → var_at j v ≡ var_at i v
+
+-- Each beginning, step and deadline is that.
+pub record StepsAreCases : Type 0 where
+  pub asks : (t lock : ℕ) (c : LockCall) (i j : Joint) → PartsFit i → IsAsked t lock c i j → IsCase t i j
+  pub calls : (t v : ℕ) (c : CondvarCall) (i j : Joint) → PartsFit i → IsCalled t v c i j → IsCase t i j
+  pub steps : (t : ℕ) (fair : Bool) (end : Option Ended) (i j : Joint) → PartsFit i → IsGone t fair end i j → IsCase t i j
+  pub deadlines : (t : ℕ) (i j : Joint) → PartsFit i → IsLate t i j → IsCase t i j
