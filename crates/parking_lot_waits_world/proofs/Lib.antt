@@ -7,3 +7,4 @@ pub mod Notifying
 pub mod Replying
 pub mod Allowing
 pub mod Places
+pub mod Keeping
