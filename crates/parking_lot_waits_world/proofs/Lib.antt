@@ -6,5 +6,6 @@ pub mod Moves
 pub mod Notifying
 pub mod Replying
 pub mod Allowing
+pub mod Stages
 pub mod Places
 pub mod Keeping
