@@ -8,3 +8,4 @@ pub mod Replying
 pub mod Allowing
 pub mod Places
 pub mod Keeping
+pub mod Seating
