@@ -9,3 +9,4 @@ pub mod Allowing
 pub mod Places
 pub mod Keeping
 pub mod Seating
+pub mod LocksKept
