@@ -120,7 +120,7 @@ far_apart n k t true high low e = omega (arith, high, low, e)
 far_apart n k t false high low e = omega (arith, high, low, e)
 
 differs : (f : ℕ → Bool) (a b : ℕ) → f a ≡ false → f b ≡ true → a ≢ b
-differs f a b no yes e = go (f b) (ap f (sym e) ∙ no) yes
+differs f a b off on e = go (f b) (ap f (sym e) ∙ off) on
   where
     go : (x : Bool) → x ≡ false → x ≡ true → ⊥
     go true e f = absurd cc
@@ -155,14 +155,15 @@ module _ (i j : Joint) (mine : ℕ → Bool) (f : Frame i j mine) where
 
 -- ONE OF THE OTHERS
 
-module _ (i j : Joint) (mine : ℕ → Bool) (h : IsWhole i) (f : Frame i j mine) where
-  low_at : (v u : ℕ) (c : OpenCall) → call_at i v u ≡ Some c → u < length i.seats
-  low_at v u c here = go (var_at i v) refl here
-    where
-      go : (o : Option Var) → var_at i v ≡ o → call_in o u ≡ Some c → u < length i.seats
-      go None at e = absurd (none-some c e)
-      go (Some x) at e = subst (λ m. u < m) (h.threads v x at) (within x.calls u c e)
+-- whoever is in a call at a variable is a thread
+pub low_at : (i : Joint) → IsWhole i → (v u : ℕ) (c : OpenCall) → call_at i v u ≡ Some c → u < length i.seats
+low_at i h v u c here = go (var_at i v) refl here
+  where
+    go : (o : Option Var) → var_at i v ≡ o → call_in o u ≡ Some c → u < length i.seats
+    go None at e = absurd (none-some c e)
+    go (Some x) at e = subst (λ m. u < m) (h.threads v x at) (within x.calls u c e)
 
+module _ (i j : Joint) (mine : ℕ → Bool) (h : IsWhole i) (f : Frame i j mine) where
   mutex_still : (m : ℕ) → IsMutex i m → IsMutex j m
   mutex_still m x = record { kind = ap (λ (ks : List LockKind). slice_get ks m) f.rows.kinds ∙ x.kind; plain = f.vars.plain m x.plain }
 
@@ -216,7 +217,7 @@ module _ (i j : Joint) (mine : ℕ → Bool) (h : IsWhole i) (f : Frame i j mine
 
   stands : (v t : ℕ) (c : OpenCall) (b : Bool) → mine t ≡ b → call_at j v t ≡ Some c → Stands j t c c.core
   stands v t c true e here = (anew t e).stands v c here
-  stands v t c false e here = let was = sym (f.vars.calls v t e) ∙ here in stand_still i j mine h f t c c.core (low_at i j mine h f v t c was) e (h.stands v t c was)
+  stands v t c false e here = let was = sym (f.vars.calls v t e) ∙ here in stand_still i j mine h f t c c.core (low_at i h v t c was) e (h.stands v t c was)
 
   sits : (v t : ℕ) (b : Bool) → mine t ≡ b → (seat_at j t).at ≡ Some v → (c : OpenCall) × (call_at j v t ≡ Some c)
   sits v t true e at = (anew t e).sits v at
@@ -267,13 +268,13 @@ rows_same i j mine e = record {
 
 pub vars_same : (i j : Joint) (mine : ℕ → Bool) → j.vars ≡ i.vars → VarsKept i j mine
 vars_same i j mine e = record {
-  calls = λ v u no. ap (λ (vs : List (Option Var)). call_in (var_in vs v) u) e;
+  calls = λ v u out. ap (λ (vs : List (Option Var)). call_in (var_in vs v) u) e;
   plain = λ v none. ap (λ (vs : List (Option Var)). var_in vs v) e ∙ none;
   there = λ v y at. (y, sym (ap (λ (vs : List (Option Var)). var_in vs v) e) ∙ at, refl);
 }
 
 pub seats_same : (i j : Joint) (mine : ℕ → Bool) → j.seats ≡ i.seats → SeatsKept i j mine
-seats_same i j mine e = record { count = ap (λ (ss : List Seat). length ss) e; seats = λ u no. ap (λ (ss : List Seat). unwrap_or (slice_get ss u) nowhere) e }
+seats_same i j mine e = record { count = ap (λ (ss : List Seat). length ss) e; seats = λ u out. ap (λ (ss : List Seat). unwrap_or (slice_get ss u) nowhere) e }
 
 -- WHERE ONE THREAD'S ARE WRITTEN
 
@@ -295,7 +296,7 @@ rows_by i j t b count kinds others = record { count = count; kinds = kinds; othe
 pub seats_at : (i j : Joint) (t : ℕ) (x : Seat) → j.seats ≡ slice_set i.seats t x → SeatsKept i j (is t)
 seats_at i j t x e = record {
   count = ap (λ (ss : List Seat). length ss) e ∙ length-set i.seats t x;
-  seats = λ u no. ap (λ (ss : List Seat). unwrap_or (slice_get ss u) nowhere) e ∙ ap (λ (o : Option Seat). unwrap_or o nowhere) (get-set_other i.seats t u x (λ e'. is_not t u no (sym e')));
+  seats = λ u out. ap (λ (ss : List Seat). unwrap_or (slice_get ss u) nowhere) e ∙ ap (λ (o : Option Seat). unwrap_or o nowhere) (get-set_other i.seats t u x (λ e'. is_not t u out (sym e')));
 }
 
 -- the variable that is written, and others
@@ -307,11 +308,11 @@ var_elsewhere i j v w y ne e = ap (λ (vs : List (Option Var)). var_in vs w) e �
 
 module _ (i j : Joint) (t v : ℕ) (x y : Var) (o : Option OpenCall) (at : var_at i v ≡ Some x) (calls : y.calls ≡ slice_set x.calls t o) (vars : j.vars ≡ slice_set i.vars v (Some y)) where
   call_still : (w u : ℕ) (b : Bool) → (w == v) ≡ b → is t u ≡ false → call_at j w u ≡ call_at i w u
-  call_still w u true e no =
+  call_still w u true e out =
       let same = eqb-true w v e in
       subst (λ (n : ℕ). call_at j n u ≡ call_at i n u) (sym same)
-      (ap (λ (z : Option Var). call_in z u) (var_here i j v x (Some y) at vars) ∙ ap (λ (cs : List (Option OpenCall)). var_call_in cs u) calls ∙ call_elsewhere x.calls t u o (is_not t u no) ∙ sym (ap (λ (z : Option Var). call_in z u) at))
-  call_still w u false e no = ap (λ (z : Option Var). call_in z u) (var_elsewhere i j v w (Some y) (is_not v w e) vars)
+      (ap (λ (z : Option Var). call_in z u) (var_here i j v x (Some y) at vars) ∙ ap (λ (cs : List (Option OpenCall)). var_call_in cs u) calls ∙ call_elsewhere x.calls t u o (is_not t u out) ∙ sym (ap (λ (z : Option Var). call_in z u) at))
+  call_still w u false e out = ap (λ (z : Option Var). call_in z u) (var_elsewhere i j v w (Some y) (is_not v w e) vars)
 
   plain_still : (w : ℕ) (b : Bool) → (w == v) ≡ b → var_at i w ≡ None → var_at j w ≡ None
   plain_still w true e none = absurd (none-some x (sym none ∙ ap (λ (n : ℕ). var_at i n) (eqb-true w v e) ∙ at))
@@ -326,7 +327,7 @@ module _ (i j : Joint) (t v : ℕ) (x y : Var) (o : Option OpenCall) (at : var_a
 
   -- of the variables one call
   pub vars_at : VarsKept i j (is t)
-  vars_at = record { calls = λ w u no. call_still w u (w == v) refl no; plain = λ w none. plain_still w (w == v) refl none; there = λ w z here. there_still w z (w == v) refl here }
+  vars_at = record { calls = λ w u out. call_still w u (w == v) refl out; plain = λ w none. plain_still w (w == v) refl none; there = λ w z here. there_still w z (w == v) refl here }
 
 -- WHICH SECTIONS ARE OPEN
 
@@ -349,11 +350,11 @@ open_at (x ∷ xs) (suc v) e = go (is_entered x) (open_at xs v e)
 
 pub open_somewhere : (vars : List (Option Var)) → list_any is_entered vars ≡ true → (v : ℕ) × (is_entered (var_in vars v) ≡ true)
 open_somewhere [] e = absurd cc
-open_somewhere (x ∷ xs) e = go (is_entered x) refl e
+open_somewhere (x ∷ xs) e = go (is_entered x) refl e (open_somewhere xs)
   where
-    go : (b : Bool) → is_entered x ≡ b → (b || list_any is_entered xs) ≡ true → (v : ℕ) × (is_entered (var_in (x ∷ xs) v) ≡ true)
-    go true is e = (0, is)
-    go false is e = let (v, at) = open_somewhere xs e in (suc v, at)
+    go : (b : Bool) → is_entered x ≡ b → (b || list_any is_entered xs) ≡ true → (list_any is_entered xs ≡ true → (v : ℕ) × (is_entered (var_in xs v) ≡ true)) → (v : ℕ) × (is_entered (var_in (x ∷ xs) v) ≡ true)
+    go true here e later = (0, here)
+    go false here e later = let (v, at) = later e in (suc v, at)
 
 module _ (i j : Joint) (h : IsWhole i) (fewer : (v : ℕ) → is_entered_at j v ≡ true → is_entered_at i v ≡ true) where
   shut_still : (b : Bool) → is_open_at_variables j ≡ b → is_open_at_variables i ≡ false → is_open_at_variables j ≡ false

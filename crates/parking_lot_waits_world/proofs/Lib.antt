@@ -9,3 +9,5 @@ pub mod Allowing
 pub mod Stages
 pub mod Places
 pub mod Keeping
+pub mod Seating
+pub mod LocksKept

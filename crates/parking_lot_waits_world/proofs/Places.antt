@@ -179,7 +179,7 @@ set_same s u t o calls holds kinds k ne = record {
 rows_apart : (n x i t l : ℕ) → i < n → x < t → x * n + i ≢ t * n + l
 rows_apart n x i t l low less e = omega (arith, mul-add-lt x n i t less low, e)
 
-cells_apart : (n x i t l : ℕ) → i < n → l < n → x ≢ t → x * n + i ≢ t * n + l
+pub cells_apart : (n x i t l : ℕ) → i < n → l < n → x ≢ t → x * n + i ≢ t * n + l
 cells_apart n x i t l bi bl ne e = elim (cases_lt x t) [
   | inl b ↦ rows_apart n x i t l bi b e
   | inr b ↦ rows_apart n t l x i bl (omega (arith, b, ne)) (sym e)

@@ -1,5 +1,5 @@
 //! Laws of a machine's answers and steps.
-ghost use Rattle.parking_lot_waits_world.specs.JointLaws.{RepliesFit, StepsAskNoMore};
+ghost use Rattle.parking_lot_waits_world.specs.JointLaws.{RepliesFit, StaysWhole, StepsAskNoMore};
 
 use parking_lot_condvar_world::laws as of_variables;
 
@@ -14,4 +14,9 @@ pub fn replies_fit_their_calls()
 /// one is open.
 pub fn steps_ask_no_more()
     ensures { StepsAskNoMore }
+{}
+
+/// Where waits and mutexes are tied together, a beginning, a step or a deadline that is allowed leaves them so.
+pub fn stays_whole()
+    ensures { StaysWhole }
 {}
