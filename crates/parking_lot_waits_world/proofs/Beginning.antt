@@ -62,14 +62,13 @@ module _ (agree : Always OwnersAgree) (s : State) (fits : FitsTogether s) (n : �
 -- THE CALL THAT BEGINS
 
 -- whoever may give a mutex up owns it
-may_give_up : (s : State) (k n : ℕ) → may_begin s k n lock_call.Unlock ≡ true → excludes (hold_at s k n) ≡ true
-may_give_up s k n may = (both_true _ _ (both_true _ _ (rest may)).1).1
-  where
-    abbrev Rest : Bool
-    Rest = is_none (row_call_at s k) && (takes (slice_get s.kinds n) lock_call.Unlock && is_allowed (kind_in s.kinds n) (hold_at s k n) lock_call.Unlock)
+abbrev MayOf : State → ℕ → ℕ → Bool
+MayOf s k n = is_none (row_call_at s k) && (takes (slice_get s.kinds n) lock_call.Unlock && is_allowed (kind_in s.kinds n) (hold_at s k n) lock_call.Unlock)
 
-    rest : (nat_lt k (length s.calls) && Rest) ≡ true → Rest ≡ true
-    rest e = (both_true (nat_lt k (length s.calls)) Rest e).1
+may_give_up : (s : State) (k n : ℕ) → may_begin s k n lock_call.Unlock ≡ true → excludes (hold_at s k n) ≡ true
+may_give_up s k n may =
+    let rest : MayOf s k n ≡ true = (both_true (nat_lt k (length s.calls)) (MayOf s k n) may).1 in
+    (both_true _ _ (both_true _ _ rest).1).1
 
 not_not : (b : Bool) → not (not b) ≡ b
 not_not true = refl
