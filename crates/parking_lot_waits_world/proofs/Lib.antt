@@ -11,3 +11,4 @@ pub mod Places
 pub mod Keeping
 pub mod Seating
 pub mod LocksKept
+pub mod Ending
