@@ -12,3 +12,4 @@ pub mod Keeping
 pub mod Seating
 pub mod LocksKept
 pub mod Beginning
+pub mod Ending
