@@ -6,5 +6,11 @@ pub mod Moves
 pub mod Notifying
 pub mod Replying
 pub mod Allowing
+pub mod Stages
 pub mod Places
 pub mod Casing
+pub mod Keeping
+pub mod Seating
+pub mod LocksKept
+pub mod Beginning
+pub mod Ending

@@ -1,6 +1,6 @@
 //! Laws of a machine's answers and steps.
 ghost use Rattle.parking_lot_waits_world.specs.JointCases.{StepsAreCases};
-ghost use Rattle.parking_lot_waits_world.specs.JointLaws.{RepliesFit, StepsAskNoMore};
+ghost use Rattle.parking_lot_waits_world.specs.JointLaws.{RepliesFit, StaysWhole, StepsAskNoMore};
 
 use parking_lot_condvar_world::laws as of_variables;
 use parking_lot_world::moves_are_cases;
@@ -25,3 +25,8 @@ pub fn each_step_is_a_case()
 {
     moves_are_cases();
 }
+
+/// Where waits and mutexes are tied together, a beginning, a step or a deadline that is allowed leaves them so.
+pub fn stays_whole()
+    ensures { StaysWhole }
+{}

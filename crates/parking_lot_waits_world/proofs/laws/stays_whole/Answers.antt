@@ -1,0 +1,8 @@
+use Rattle.parking_lot_waits_world.proofs.Beginning.{call_keeps}
+use Rattle.parking_lot_waits_world.proofs.LocksKept.{step_keeps}
+use Rattle.parking_lot_waits_world.proofs.Keeping.{whole_still}
+use Rattle.parking_lot_waits_world.proofs.Seating.{goes_on}
+use Rattle.parking_lot_waits_world.proofs.laws.stays_whole.Goals as goal
+
+pub returns : goal.returns
+returns c = ?
