@@ -48,7 +48,7 @@ after_both t x y z (ss, a) (ts, b) = (ss ++ ts, both_runs t ss ts (variable x) (
 
 all_taken : (t n : ℕ) (x y : Var) → AreTaken t n x y → Ran t x y
 all_taken t zero x y e = ([], ap variable e)
-all_taken t (suc n) x y (z, before, w, last) = after_both t x z y (all_taken t n x z before) (_, last.lawful)
+all_taken t (suc n) x y (z, before, w, last) = after_both t x z y (all_taken t n x z before) (rules.Release w last.mutex last.stay ∷ [], last.lawful)
 
 acts_in : (t : ℕ) (reply : Option CondvarReply) (o p : Option Var) → ActsIn t reply o p → RunsIn t o p
 acts_in t reply (Some x) (Some y) h = (_, h.lawful)
@@ -189,7 +189,7 @@ module _ (t : ℕ) (i j : Joint) (fits : FitsTogether (state i.rows)) where
 
 -- WAITERS ARE MOVED
 
-firsts : {X : Type 0} → List X → List Bool
+abbrev firsts : {X : Type 0} → List X → List Bool
 firsts [] = []
 firsts (x ∷ xs) = false ∷ firsts xs
 
