@@ -14,3 +14,4 @@ pub mod Seating
 pub mod LocksKept
 pub mod Beginning
 pub mod Ending
+pub mod Leaving

@@ -7,3 +7,4 @@ pub mod JointSteps
 pub mod Whole
 pub mod JointLaws
 pub mod JointCases
+pub mod JointStays
