@@ -1,3 +1,4 @@
+pub mod MutexTurns
 pub mod Hearing
 pub mod Again
 pub mod Turning
