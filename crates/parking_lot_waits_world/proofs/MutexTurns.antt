@@ -14,7 +14,7 @@ use Rattle.parking_lot_condvar_world.specs.declared.open_call.Core.TheVariants a
 use Rattle.parking_lot_condvar_world.specs.declared.open_call.OpenCall.{OpenCall}
 use Rattle.parking_lot_condvar_world.specs.declared.outside.Outside.{Outside}
 use Rattle.parking_lot_condvar_world.specs.declared.outside.Outside.TheVariants as outside
-use Rattle.parking_lot_condvar_world.specs.Calls.{reply_by, reply_of}
+use Rattle.parking_lot_condvar_world.specs.Calls.{reply_by, reply_in_wait, reply_of}
 use Rattle.parking_lot_condvar_world.specs.Fitting.{Knows}
 use Rattle.parking_lot_condvar_world.specs.Machines.{State as Var, call_at as var_call_at, is_left}
 use Rattle.parking_lot_condvar_world.specs.Outsides.{told, told_by, wait_hears}
@@ -81,6 +81,10 @@ front_differs i t = own_apart (length i.seats) t (seat_at i t).second
 back_differs : (i : Joint) (t : ℕ) → t < length i.seats → back_number i t ≢ front_number i t
 back_differs i t low e = front_differs i t low (sym e)
 
+none_open : (o : Option ℕ) → o ≡ None → is_some o ≡ true → ⊥
+none_open None e f = absurd cc
+none_open (Some k) e f = absurd cc
+
 -- A WAIT AT ITS MUTEX
 
 module _ (i j : Joint) (t v : ℕ) (c : OpenCall) (p : WaitPhase) (h : IsWhole i) (fits : PartsFit i) (here : call_at i v t ≡ Some c) (core_is : c.core ≡ core.Wait (record { phase = p })) where
@@ -127,3 +131,60 @@ module _ (i j : Joint) (t v : ℕ) (c : OpenCall) (p : WaitPhase) (h : IsWhole i
         go None y at b e = absurd b
         go (Some x) None at b e = absurd b
         go (Some x) (Some y) at b e = heard_in seen x y at b e stands
+
+  -- AN ACT AT THE VARIABLE, WHICH LEAVES ITS SECTION
+
+  module _ (rows : RowsKept i j (is t)) (holds : HoldsWhole u) (sections : (u.lot.section ≡ None) ⊎ (is_open_at_variables i ≡ false)) (reply : Option CondvarReply) (seats : j.seats ≡ freed t reply i.seats) (q : WaitPhase)
+      (goes : (x : Var) → wait_goes c (record { phase = p }) (wait_sees x.word (is_left (queue_after_wait t p x.queue)) p) p ≡ Some (with_phase c q)) (closed : (x : Var) → inside_after_wait t p x.inside ≡ None) (silent : reply_in_wait p ≡ None) where
+    abbrev Stands_as : Type 0
+    Stands_as = j.seats ≡ i.seats → ((n : ℕ) → var_at i n ≡ None → var_at j n ≡ None) → Waits j t (with_phase c q) q
+
+    acted_in : (x y : Var) → var_at i v ≡ Some x → vars.IsStepped t reply x y → j.vars ≡ slice_set i.vars v (Some y) → Stands_as → IsWhole j
+    acted_in x y at act vars stands =
+        let same = same_Some act.call c (sym act.here ∙ ap (λ (z : Option Var). call_in z t) (sym at) ∙ here) in
+        let is_now : y ≡ stepped_by (core.Wait (record { phase = p })) x t c = act.became ∙ ap (stepped x t) same ∙ ap (λ (k : Core). stepped_by k x t c) core_is in
+        let none : reply ≡ None = act.replies ∙ ap reply_of same ∙ ap (reply_by c.call) core_is ∙ silent in
+        let stays : j.seats ≡ i.seats = seats ∙ ap (λ (r : Option CondvarReply). freed t r i.seats) none in
+        let calls : y.calls ≡ slice_set x.calls t (Some (with_phase c q)) = ap (λ (z : Var). z.calls) is_now ∙ ap (slice_set x.calls t) (goes x) in
+        goes_on i j t v c h here stays rows holds (var_shut i j h v x y at vars (λ e. absurd (none_open (y.inside) (ap (λ (z : Var). z.inside) is_now ∙ closed x) e)) sections) x y (with_phase c q) at calls vars
+        (stands stays (vars_at i j t v x y (Some (with_phase c q)) at calls vars).plain)
+
+    pub acted_whole : ActsAt t v reply i j → Stands_as → IsWhole j
+    acted_whole (y, acts, vars) stands = go (var_at i v) y refl acts vars
+      where
+        go : (o y : Option Var) → var_at i v ≡ o → ActsIn t reply o y → j.vars ≡ slice_set i.vars v y → IsWhole j
+        go None y at b e = absurd b
+        go (Some x) None at b e = absurd b
+        go (Some x) (Some y) at b e = acted_in x y at b e stands
+
+-- IT BEGINS TO GIVE THE MUTEX UP
+
+-- one that leaves the section to do so stands in the list
+rests_listed : (o : Option Var) (t : ℕ) (c : OpenCall) (n : ℕ) → KnownIn o → call_in o t ≡ Some c → c.core ≡ core.Wait (record { phase = w.Rests n }) → c.listed ≡ true
+rests_listed None t c n known here is = absurd (none-some c here)
+rests_listed (Some x) t c n known here is = (subst (λ (k : Core). Knows c.call c.listed (length x.calls) x.word (length x.queue) c.taken k) is (known.0.seated t c here).knows).1
+
+pub gives_up : (i j : Joint) (t v n : ℕ) (c : OpenCall) (reply : Option CondvarReply) → IsWhole i → PartsFit i → call_at i v t ≡ Some c → c.core ≡ core.Wait (record { phase = w.Rests n }) → j.seats ≡ freed t reply i.seats
+    → ActsAt t v reply i j → rows.IsBegun (front_number i t) (mutex_of c.call) call.Unlock (state i.rows) (state j.rows) → IsWhole j
+gives_up i j t v n c reply h fits here is seats acts x =
+    let low = low_at i h v t c here in
+    let rows = written_rows i j t (not (seat_at i t).second) _ x.became in
+    let stood = stood i j t v c (w.Rests n) h fits here is in
+    acted_whole i j t v c (w.Rests n) h fits here is rows (written_holds _ _ _ _ x.became h.holds) (written_sections i j _ _ h x.became) reply seats (w.Unlocks n) (λ y. refl) (λ y. refl) refl acts
+    (λ seats plain. stands_at i j t v c (w.Rests n) h fits here is (w.Unlocks n) rows plain stood.names
+        (front_now i j t seats Gives (mutex_of c.call) (begun_giving _ _ (front_number i t) _ x (number_low i h t _ low)))
+        (subst (λ (b : Bool). IsSo (away_or_asks b) (state j.rows) (back_number j t) (mutex_of c.call)) (sym (rests_listed (var_at i v) t c n (fits.vars v) here is))
+            (back_still i j t seats Away (mutex_of c.call) (written_stays _ _ _ _ x.became _ (back_differs i t low)) stood.back)))
+
+-- IT BEGINS TO LOCK IT AGAIN
+
+pub locks_again : (i j : Joint) (t v : ℕ) (c : OpenCall) (reply : Option CondvarReply) → IsWhole i → PartsFit i → call_at i v t ≡ Some c → c.core ≡ core.Wait (record { phase = w.Leaves true }) → j.seats ≡ freed t reply i.seats
+    → ActsAt t v reply i j → rows.IsBegun (back_number i t) (mutex_of c.call) call.Lock (state i.rows) (state j.rows) → IsWhole j
+locks_again i j t v c reply h fits here is seats acts x =
+    let low = low_at i h v t c here in
+    let rows = written_rows i j t (seat_at i t).second _ x.became in
+    let stood = stood i j t v c (w.Leaves true) h fits here is in
+    acted_whole i j t v c (w.Leaves true) h fits here is rows (written_holds _ _ _ _ x.became h.holds) (written_sections i j _ _ h x.became) reply seats (w.Locks true) (λ y. refl) (λ y. refl) refl acts
+    (λ seats plain. stands_at i j t v c (w.Leaves true) h fits here is (w.Locks true) rows plain refl
+        (front_still i j t seats Away (mutex_of c.call) (written_stays _ _ _ _ x.became _ (front_differs i t low)) stood.front)
+        (back_now i j t seats AsksOn (mutex_of c.call) (begun_asking _ _ (back_number i t) _ x (number_low i h t _ low))))
