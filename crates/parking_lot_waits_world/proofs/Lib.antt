@@ -1,3 +1,4 @@
+pub mod MutexSteps
 pub mod MutexTurns
 pub mod Hearing
 pub mod Again

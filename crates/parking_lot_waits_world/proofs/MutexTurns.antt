@@ -75,10 +75,10 @@ module _ (i j : Joint) (t : ℕ) (seats : j.seats ≡ i.seats) where
 pub mutex_stays : (i j : Joint) (n : ℕ) → (state j.rows).kinds ≡ (state i.rows).kinds → (var_at i n ≡ None → var_at j n ≡ None) → IsMutex i n → IsMutex j n
 mutex_stays i j n kinds plain x = record { kind = ap (λ (ks : List LockKind). slice_get ks n) kinds ∙ x.kind; plain = plain x.plain }
 
-front_differs : (i : Joint) (t : ℕ) → t < length i.seats → front_number i t ≢ back_number i t
+pub front_differs : (i : Joint) (t : ℕ) → t < length i.seats → front_number i t ≢ back_number i t
 front_differs i t = own_apart (length i.seats) t (seat_at i t).second
 
-back_differs : (i : Joint) (t : ℕ) → t < length i.seats → back_number i t ≢ front_number i t
+pub back_differs : (i : Joint) (t : ℕ) → t < length i.seats → back_number i t ≢ front_number i t
 back_differs i t low e = front_differs i t low (sym e)
 
 none_open : (o : Option ℕ) → o ≡ None → is_some o ≡ true → ⊥
@@ -97,7 +97,7 @@ module _ (i j : Joint) (t v : ℕ) (c : OpenCall) (p : WaitPhase) (h : IsWhole i
   abbrev lock : ℕ
   lock = mutex_of c.call
 
-  stood : Waits i t c p
+  pub stood : Waits i t c p
   stood = subst (Stands i t c) core_is (h.stands v t c here)
 
   low : t < length i.seats
@@ -105,7 +105,7 @@ module _ (i j : Joint) (t v : ℕ) (c : OpenCall) (p : WaitPhase) (h : IsWhole i
 
   -- it stands so at phase q, with the same call there
   module _ (q : WaitPhase) (rows : RowsKept i j (is t)) (plain : (n : ℕ) → var_at i n ≡ None → var_at j n ≡ None) where
-    stands_at : named q lock ≡ lock → IsSo (front_of q) u (front_number j t) lock → IsSo (back_of c.listed q) u (back_number j t) lock → Waits j t (with_phase c q) q
+    pub stands_at : named q lock ≡ lock → IsSo (front_of q) u (front_number j t) lock → IsSo (back_of c.listed q) u (back_number j t) lock → Waits j t (with_phase c q) q
     stands_at names front back = record { names = names; mutex = mutex_stays i j lock rows.kinds (plain lock) stood.mutex; front = front; back = back }
 
   -- TOLD OF WHAT WAS DONE THERE
