@@ -12,3 +12,5 @@ pub mod Keeping
 pub mod Seating
 pub mod LocksKept
 pub mod Ending
+pub mod ActsKept
+pub mod ActsTurns
