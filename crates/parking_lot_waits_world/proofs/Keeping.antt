@@ -368,6 +368,17 @@ module _ (i j : Joint) (h : IsWhole i) (fewer : (v : ℕ) → is_entered_at j v 
     alone = λ v u a b. h.alone v u (fewer v a) (fewer u b);
   }
 
+-- a variable is written, and its section is open only if it was
+pub var_shut : (i j : Joint) → IsWhole i → (v : ℕ) (x y : Var) → var_at i v ≡ Some x → j.vars ≡ slice_set i.vars v (Some y) → (is_entered (Some y) ≡ true → is_entered (Some x) ≡ true)
+    → ((state j.rows).lot.section ≡ None) ⊎ (is_open_at_variables i ≡ false) → AreShut j
+var_shut i j h v x y at vars less sections = fewer_open i j h (λ w e. go w (w == v) refl e) sections
+  where
+    go : (w : ℕ) (b : Bool) → (w == v) ≡ b → is_entered_at j w ≡ true → is_entered_at i w ≡ true
+    go w true e a =
+        let same = eqb-true w v e in
+        ap is_entered (ap (λ (n : ℕ). var_at i n) same ∙ at) ∙ less (ap is_entered (sym (var_here i j v x (Some y) at vars)) ∙ ap (is_entered_at j) (sym same) ∙ a)
+    go w false e a = ap is_entered (sym (var_elsewhere i j v w (Some y) (is_not v w e) vars)) ∙ a
+
 -- one is open, where none was
 pub now_open : (i j : Joint) (v : ℕ) (x : Var) (y : Option Var) → var_at i v ≡ Some x → j.vars ≡ slice_set i.vars v y → (state j.rows).lot.section ≡ None → is_open_at_variables i ≡ false → AreShut j
 now_open i j v x y at vars locks shut = record { sections = inl locks; alone = λ w u a b. here w (w == v) refl a ∙ sym (here u (u == v) refl b) }

@@ -1,3 +1,4 @@
+pub mod MutexTurns
 pub mod Hearing
 pub mod Again
 pub mod Turning
@@ -11,6 +12,7 @@ pub mod Places
 pub mod Keeping
 pub mod Seating
 pub mod LocksKept
+pub mod Beginning
 pub mod Ending
 pub mod ActsKept
 pub mod ActsTurns
