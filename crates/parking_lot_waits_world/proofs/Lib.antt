@@ -15,3 +15,5 @@ pub mod Seating
 pub mod LocksKept
 pub mod Beginning
 pub mod Ending
+pub mod ActsKept
+pub mod ActsTurns
