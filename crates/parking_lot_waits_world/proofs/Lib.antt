@@ -1,3 +1,5 @@
+pub mod MutexSteps
+pub mod MutexTurns
 pub mod Hearing
 pub mod Again
 pub mod Turning
@@ -15,3 +17,5 @@ pub mod LocksKept
 pub mod Beginning
 pub mod Ending
 pub mod Leaving
+pub mod ActsKept
+pub mod ActsTurns

@@ -1,3 +1,5 @@
+use Rattle.parking_lot_waits_world.proofs.MutexSteps.{unlocks}
+use Rattle.parking_lot_waits_world.proofs.MutexTurns.{heard_whole}
 use Rattle.parking_lot_waits_world.proofs.Beginning.{call_keeps}
 use Rattle.parking_lot_waits_world.proofs.LocksKept.{step_keeps}
 use Rattle.parking_lot_waits_world.proofs.Keeping.{whole_still}
