@@ -134,7 +134,7 @@ unfolding rules.weight
 nobody_idle e = absurd (omega (arith, e))
 
 -- what each of a list is, by standing there
-all_of : (f : ℕ → Bool) (ws : List ℕ) → ((u : ℕ) → 0 < occurs u ws → f u ≡ true) → list_all f ws ≡ true
+pub all_of : (f : ℕ → Bool) (ws : List ℕ) → ((u : ℕ) → 0 < occurs u ws → f u ≡ true) → list_all f ws ≡ true
 all_of f [] each = refl
 all_of f (u ∷ ws) each = both _ _ (each u (omega (arith, occurs-cons u u ws, counted-same u))) (all_of f ws (λ x some. each x (omega (arith, some, occurs-cons x u ws))))
 

@@ -124,10 +124,10 @@ module _ (P : ℕ → Type 0) (asked : Option ℕ) where
   left_roused enters s u v lock timed p x =
       left_written enters s u v (retrying_call lock timed) p (inr (inl x.kind)) (ap (λ (y : State). y.kinds) x.became) (ap (λ (y : State). y.calls) x.became) (λ o. x.free)
 
-  abbrev All : List (ℕ × Bool) → Type 0
-  All [] = Unit {0}
-  All (e ∷ es) = P e.0 × All es
+  abbrev pub OfEach : List (ℕ × Bool) → Type 0
+  OfEach [] = Unit {0}
+  OfEach (e ∷ es) = P e.0 × OfEach es
 
-  pub left_all_taken : (enters : Bool) (lock : ℕ) (es : List (ℕ × Bool)) (s u : State) → All es → AreTakenIn lock es s u → Left P asked enters s u
+  pub left_all_taken : (enters : Bool) (lock : ℕ) (es : List (ℕ × Bool)) (s u : State) → OfEach es → AreTakenIn lock es s u → Left P asked enters s u
   left_all_taken enters lock [] s u ps e = left_same enters s u e
   left_all_taken enters lock (e ∷ es) s u ps (x, first, rest) = left_both enters s x u (left_taken enters s x e.0 lock e.1 ps.0 first) (left_all_taken enters lock es x u ps.1 rest)

@@ -19,3 +19,5 @@ pub mod Ending
 pub mod Leaving
 pub mod ActsKept
 pub mod ActsTurns
+pub mod LeavingSteps
+pub mod LeavingTurns

@@ -12,7 +12,7 @@ use Rattle.parking_lot_world.specs.Rows.{State, call_at as row_call_at, state}
 use Rattle.parking_lot_waits_world.specs.declared.seat.Seat.{Seat}
 use Rattle.parking_lot_waits_world.specs.Joint.{Joint, back_number, call_at, call_in, front_number, nowhere, number, seat_at, var_at, var_in}
 use Rattle.parking_lot_waits_world.specs.Turns.{mutex_of}
-use Rattle.parking_lot_waits_world.specs.Whole.{AtMutex, Owns, Away, Gives, Asks, AsksOn, Never, IsSo, IsWhole, Stands, back_of, front_of, place_of}
+use Rattle.parking_lot_waits_world.specs.Whole.{AtMutex, Owns, Away, Gives, Asks, AsksOn, Never, IsMutex, IsSo, IsWhole, Stands, back_of, front_of, place_of}
 use Rattle.parking_lot_waits_world.proofs.Keeping.{Anew, AreShut, Frame, HoldsWhole, RowsKept, SeatsKept, VarsKept, is, is_not, low_at, seats_same, var_elsewhere, var_here, vars_at, vars_same, whole_still}
 
 -- NUMBERS
@@ -26,29 +26,32 @@ so_there Asks s k m c x here = ap (λ (d : Call). d.lock) (same_Some c x.call (s
 so_there AsksOn s k m c x here = ap (λ (d : Call). d.lock) (same_Some c x.call (sym here ∙ x.here)) ∙ x.lock
 so_there Never s k m c x here = absurd x
 
--- both numbers of a thread that stands so
-stands_clear : (j : Joint) (t : ℕ) (c : OpenCall) (k : Core) → Stands j t c k → (second : Bool) (d : Call) → row_call_at (state j.rows) (number j t second) ≡ Some d → var_at j d.lock ≡ None
-stands_clear j t c (core.Notify k) s true d here = absurd (none-some d (sym s.second ∙ here))
-stands_clear j t c (core.Notify k) s false d here = absurd (none-some d (sym s.first ∙ here))
-stands_clear j t c (core.Wait k) s second d here = go second (seat_at j t).second refl here
+-- A number of a thread that stands so is in a call at a plain mutex, if at all.
+pub stands_mutex : (j : Joint) (t : ℕ) (c : OpenCall) (k : Core) → Stands j t c k → (second : Bool) (d : Call) → row_call_at (state j.rows) (number j t second) ≡ Some d → IsMutex j d.lock
+stands_mutex j t c (core.Notify k) s true d here = absurd (none-some d (sym s.second ∙ here))
+stands_mutex j t c (core.Notify k) s false d here = absurd (none-some d (sym s.first ∙ here))
+stands_mutex j t c (core.Wait k) s second d here = go second (seat_at j t).second refl here
   where
-    plain_at : d.lock ≡ mutex_of c.call → var_at j d.lock ≡ None
-    plain_at e = subst (λ (m : ℕ). var_at j m ≡ None) (sym e) s.mutex.plain
+    mutex_at : d.lock ≡ mutex_of c.call → IsMutex j d.lock
+    mutex_at e = subst (IsMutex j) (sym e) s.mutex
 
-    back : row_call_at (state j.rows) (back_number j t) ≡ Some d → var_at j d.lock ≡ None
-    back here = plain_at (so_there (back_of c.listed k.phase) (state j.rows) (back_number j t) (mutex_of c.call) d s.back here)
+    back : row_call_at (state j.rows) (back_number j t) ≡ Some d → IsMutex j d.lock
+    back here = mutex_at (so_there (back_of c.listed k.phase) (state j.rows) (back_number j t) (mutex_of c.call) d s.back here)
 
-    front : row_call_at (state j.rows) (front_number j t) ≡ Some d → var_at j d.lock ≡ None
-    front here = plain_at (so_there (front_of k.phase) (state j.rows) (front_number j t) (mutex_of c.call) d s.front here)
+    front : row_call_at (state j.rows) (front_number j t) ≡ Some d → IsMutex j d.lock
+    front here = mutex_at (so_there (front_of k.phase) (state j.rows) (front_number j t) (mutex_of c.call) d s.front here)
 
-    by_seat : (x y : Bool) → (seat_at j t).second ≡ x → y ≡ not x → row_call_at (state j.rows) (number j t y) ≡ Some d → var_at j d.lock ≡ None
+    by_seat : (x y : Bool) → (seat_at j t).second ≡ x → y ≡ not x → row_call_at (state j.rows) (number j t y) ≡ Some d → IsMutex j d.lock
     by_seat x y e f here = front (ap (λ (b : Bool). row_call_at (state j.rows) (number j t (not b))) e ∙ ap (λ (b : Bool). row_call_at (state j.rows) (number j t b)) (sym f) ∙ here)
 
-    go : (y x : Bool) → (seat_at j t).second ≡ x → row_call_at (state j.rows) (number j t y) ≡ Some d → var_at j d.lock ≡ None
+    go : (y x : Bool) → (seat_at j t).second ≡ x → row_call_at (state j.rows) (number j t y) ≡ Some d → IsMutex j d.lock
     go true true e here = back (ap (λ (b : Bool). row_call_at (state j.rows) (number j t b)) e ∙ here)
     go false false e here = back (ap (λ (b : Bool). row_call_at (state j.rows) (number j t b)) e ∙ here)
     go true false e here = by_seat false true e refl here
     go false true e here = by_seat true false e refl here
+
+stands_clear : (j : Joint) (t : ℕ) (c : OpenCall) (k : Core) → Stands j t c k → (second : Bool) (d : Call) → row_call_at (state j.rows) (number j t second) ≡ Some d → var_at j d.lock ≡ None
+stands_clear j t c k s second d here = (stands_mutex j t c k s second d here).plain
 
 -- WHERE THE THREAD IS
 

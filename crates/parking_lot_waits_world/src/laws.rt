@@ -1,5 +1,6 @@
 //! Laws of a machine's answers and steps.
 ghost use Rattle.parking_lot_waits_world.specs.JointCases.{StepsAreCases};
+ghost use Rattle.parking_lot_waits_world.specs.JointStays.{StepsLeave};
 ghost use Rattle.parking_lot_waits_world.specs.JointLaws.{RepliesFit, StaysWhole, StepsAskNoMore};
 
 use parking_lot_condvar_world::laws as of_variables;
@@ -29,4 +30,10 @@ pub fn each_step_is_a_case()
 /// Where waits and mutexes are tied together, a beginning, a step or a deadline that is allowed leaves them so.
 pub fn stays_whole()
     ensures { StaysWhole }
+{}
+
+/// A beginning, a step or a deadline leaves the kinds of the locks, and which of them are variables; calls at locks are where there were some, or at a
+/// mutex, or at the lock that is asked; nobody else begins a call; and no section is open that wasn't, where none is entered.
+pub fn steps_leave_the_rest()
+    ensures { StepsLeave }
 {}
