@@ -1,3 +1,4 @@
+pub mod NewWhole
 pub mod MutexSteps
 pub mod MutexTurns
 pub mod Hearing
