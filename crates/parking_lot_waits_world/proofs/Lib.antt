@@ -18,3 +18,4 @@ pub mod Beginning
 pub mod Ending
 pub mod ActsKept
 pub mod ActsTurns
+pub mod FollowsKept
