@@ -161,15 +161,15 @@ module _ (i j : Joint) (t v : ℕ) (c : OpenCall) (reply : Option CondvarReply) 
 
 -- HEARING OF AN ACT ELSEWHERE
 
-resumes_front : (listed : Bool) (b : Bool) → front_of (cond b (w.Ends end.Woken) (w.Locks false)) ≡ Away
+pub resumes_front : (listed : Bool) (b : Bool) → front_of (cond b (w.Ends end.Woken) (w.Locks false)) ≡ Away
 resumes_front listed true = refl
 resumes_front listed false = refl
 
-resumes_back : (listed : Bool) (b : Bool) → back_of listed (cond b (w.Ends end.Woken) (w.Locks false)) ≡ woken_by b
+pub resumes_back : (listed : Bool) (b : Bool) → back_of listed (cond b (w.Ends end.Woken) (w.Locks false)) ≡ woken_by b
 resumes_back listed true = refl
 resumes_back listed false = refl
 
-resumes_names : (m : ℕ) (b : Bool) → named (cond b (w.Ends end.Woken) (w.Locks false)) m ≡ m
+pub resumes_names : (m : ℕ) (b : Bool) → named (cond b (w.Ends end.Woken) (w.Locks false)) m ≡ m
 resumes_names m true = refl
 resumes_names m false = refl
 

@@ -1,3 +1,4 @@
+pub mod NewWhole
 pub mod MutexSteps
 pub mod MutexTurns
 pub mod Hearing
@@ -21,3 +22,4 @@ pub mod ActsKept
 pub mod ActsTurns
 pub mod LeavingSteps
 pub mod LeavingTurns
+pub mod FollowsKept

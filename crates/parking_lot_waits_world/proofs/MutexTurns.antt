@@ -1,10 +1,7 @@
 -- What a wait does at its mutex leaves a machine whole: it gives it up, and locks it again.
-use Rattle.std.proofs.Common.{◌≡◌, ◌≢◌, ◌⊎◌, inl, inr, ℕ, ◌+◌, ◌<◌, Bool, true, false, not, cond, ◌&&◌, is_some, List, length, Option, Some, None, slice_get, slice_set, refl, sym, ap, ◌∙◌, subst}
-use Rattle.std.specs.Option.{option_map_or, unwrap_or}
-use Rattle.std.proofs.lemmas.List.{length-set}
+use Rattle.std.proofs.Common.{◌≡◌, ◌≢◌, ◌⊎◌, ℕ, ◌+◌, ◌<◌, Bool, true, false, not, cond, is_some, List, length, Option, Some, None, slice_get, slice_set, refl, sym, ap, ◌∙◌, subst}
+use Rattle.std.specs.Option.{unwrap_or}
 use Rattle.std.proofs.lemmas.Option.{none-some, same_Some}
-use Rattle.parking_lot_protocol.specs.declared.act.CoreAnswer.{CoreAnswer}
-use Rattle.parking_lot_waits.specs.declared.wait_core.WaitCore.{WaitCore}
 use Rattle.parking_lot_waits.specs.declared.wait_core.WaitPhase.{WaitPhase}
 use Rattle.parking_lot_waits.specs.declared.wait_core.WaitPhase.TheVariants as w
 use Rattle.parking_lot_waits.specs.WaitTable.{next_phase}
@@ -13,31 +10,26 @@ use Rattle.parking_lot_condvar_world.specs.declared.open_call.Core.{Core}
 use Rattle.parking_lot_condvar_world.specs.declared.open_call.Core.TheVariants as core
 use Rattle.parking_lot_condvar_world.specs.declared.open_call.OpenCall.{OpenCall}
 use Rattle.parking_lot_condvar_world.specs.declared.outside.Outside.{Outside}
-use Rattle.parking_lot_condvar_world.specs.declared.outside.Outside.TheVariants as outside
 use Rattle.parking_lot_condvar_world.specs.Calls.{reply_by, reply_in_wait, reply_of}
 use Rattle.parking_lot_condvar_world.specs.Fitting.{Knows}
-use Rattle.parking_lot_condvar_world.specs.Machines.{State as Var, call_at as var_call_at, is_left}
+use Rattle.parking_lot_condvar_world.specs.Machines.{State as Var, is_left}
 use Rattle.parking_lot_condvar_world.specs.Outsides.{told, told_by, wait_hears}
 use Rattle.parking_lot_condvar_world.specs.OwnSteps.{inside_after_wait, queue_after_wait, stepped, stepped_by, wait_goes, wait_sees}
 use Rattle.parking_lot_condvar_world.specs.Steps as vars
 use Rattle.parking_lot_world.specs.declared.calls.LockCall.TheVariants as call
 use Rattle.parking_lot_world.specs.declared.calls.LockKind.{LockKind}
-use Rattle.parking_lot_world.specs.declared.open_call.Call.{Call}
 use Rattle.parking_lot_world.specs.Machines as rows
-use Rattle.parking_lot_world.specs.RowFits.{FitsTogether}
-use Rattle.parking_lot_world.specs.Rows.{State, call_at as row_call_at, state}
+use Rattle.parking_lot_world.specs.Rows.{State, state}
 use Rattle.parking_lot_waits_world.specs.declared.seat.Seat.{Seat}
-use Rattle.parking_lot_waits_world.specs.Joint.{Joint, back_number, call_at, call_in, core_enters, front_number, is_open_at_variables, nowhere, number, row_goes, seat_at, var_at}
+use Rattle.parking_lot_waits_world.specs.Joint.{Joint, back_number, call_at, call_in, front_number, is_open_at_variables, nowhere, seat_at, var_at}
 use Rattle.parking_lot_waits_world.specs.JointLaws.{PartsFit}
-use Rattle.parking_lot_waits_world.specs.JointSteps.{ActsAt, ActsIn, HearsAt, HearsIn, HearsOf, KnownIn, freed}
+use Rattle.parking_lot_waits_world.specs.JointSteps.{ActsAt, ActsIn, HearsAt, HearsIn, KnownIn, freed}
 use Rattle.parking_lot_waits_world.specs.Turns.{mutex_of}
 use Rattle.parking_lot_waits_world.specs.Whole.{AtMutex, Away, Gives, AsksOn, IsMutex, IsSo, IsWhole, Stands, Waits, away_or_asks, back_of, front_of, named}
-use Rattle.parking_lot_waits_world.proofs.Ending.{begun_asking, begun_giving, gave, got}
-use Rattle.parking_lot_waits_world.proofs.Hearing.{both_true}
-use Rattle.parking_lot_waits_world.proofs.Keeping.{AreShut, HoldsWhole, RowsKept, Stays, is, low_at, rows_by, so_still, var_shut, vars_at}
-use Rattle.parking_lot_waits_world.proofs.LocksKept.{kept_holds, kept_stays, number_low, one_section, over_holds, over_stays, own_apart, same_shut, written_holds, written_rows, written_sections, written_stays}
-use Rattle.parking_lot_waits_world.proofs.Places.{Goes, Over, stepped_goes}
-use Rattle.parking_lot_waits_world.proofs.Seating.{goes_on, stays_there}
+use Rattle.parking_lot_waits_world.proofs.Ending.{begun_asking, begun_giving}
+use Rattle.parking_lot_waits_world.proofs.Keeping.{HoldsWhole, RowsKept, Stays, is, low_at, so_still, var_shut, vars_at}
+use Rattle.parking_lot_waits_world.proofs.LocksKept.{number_low, own_apart, written_holds, written_rows, written_sections, written_stays}
+use Rattle.parking_lot_waits_world.proofs.Seating.{goes_on}
 
 -- WHAT A WAIT IS AFTER AN ACT
 
@@ -172,9 +164,9 @@ gives_up i j t v n c reply h fits here is seats acts x =
     let stood = stood i j t v c (w.Rests n) h fits here is in
     acted_whole i j t v c (w.Rests n) h fits here is rows (written_holds _ _ _ _ x.became h.holds) (written_sections i j _ _ h x.became) reply seats (w.Unlocks n) (λ y. refl) (λ y. refl) refl acts
     (λ seats plain. stands_at i j t v c (w.Rests n) h fits here is (w.Unlocks n) rows plain stood.names
-        (front_now i j t seats Gives (mutex_of c.call) (begun_giving _ _ (front_number i t) _ x (number_low i h t _ low)))
-        (subst (λ (b : Bool). IsSo (away_or_asks b) (state j.rows) (back_number j t) (mutex_of c.call)) (sym (rests_listed (var_at i v) t c n (fits.vars v) here is))
-            (back_still i j t seats Away (mutex_of c.call) (written_stays _ _ _ _ x.became _ (back_differs i t low)) stood.back)))
+    (front_now i j t seats Gives (mutex_of c.call) (begun_giving _ _ (front_number i t) _ x (number_low i h t _ low)))
+    (subst (λ (b : Bool). IsSo (away_or_asks b) (state j.rows) (back_number j t) (mutex_of c.call)) (sym (rests_listed (var_at i v) t c n (fits.vars v) here is))
+    (back_still i j t seats Away (mutex_of c.call) (written_stays _ _ _ _ x.became _ (back_differs i t low)) stood.back)))
 
 -- IT BEGINS TO LOCK IT AGAIN
 
@@ -186,5 +178,5 @@ locks_again i j t v c reply h fits here is seats acts x =
     let stood = stood i j t v c (w.Leaves true) h fits here is in
     acted_whole i j t v c (w.Leaves true) h fits here is rows (written_holds _ _ _ _ x.became h.holds) (written_sections i j _ _ h x.became) reply seats (w.Locks true) (λ y. refl) (λ y. refl) refl acts
     (λ seats plain. stands_at i j t v c (w.Leaves true) h fits here is (w.Locks true) rows plain refl
-        (front_still i j t seats Away (mutex_of c.call) (written_stays _ _ _ _ x.became _ (front_differs i t low)) stood.front)
-        (back_now i j t seats AsksOn (mutex_of c.call) (begun_asking _ _ (back_number i t) _ x (number_low i h t _ low))))
+    (front_still i j t seats Away (mutex_of c.call) (written_stays _ _ _ _ x.became _ (front_differs i t low)) stood.front)
+    (back_now i j t seats AsksOn (mutex_of c.call) (begun_asking _ _ (back_number i t) _ x (number_low i h t _ low))))

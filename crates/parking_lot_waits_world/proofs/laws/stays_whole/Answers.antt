@@ -1,3 +1,4 @@
+use Rattle.parking_lot_waits_world.proofs.NewWhole.{new_whole}
 use Rattle.parking_lot_waits_world.proofs.MutexSteps.{unlocks}
 use Rattle.parking_lot_waits_world.proofs.MutexTurns.{heard_whole}
 use Rattle.parking_lot_waits_world.proofs.Beginning.{call_keeps}
