@@ -33,6 +33,7 @@ use Rattle.parking_lot_waits_world.specs.JointLaws.{PartsFit}
 use Rattle.parking_lot_waits_world.specs.JointSteps.{ActsAt, ActsIn, BeginsIn, ComesBackIf, FollowsAs, GoesAtVariable, HearsAt, HearsIn, HearsOf, IsGoneAt, IsLateAt, IsMoving, MovesIn, Turned, is_locked, takes_now}
 use Rattle.parking_lot_waits_world.specs.Moving.{AreMoved, AreMovedAs, AreTaken, Notifies, NotifiesIn, entry}
 use Rattle.parking_lot_waits_world.specs.Turns.{is_late, turn_of}
+use Rattle.parking_lot_waits_world.proofs.Leaving.{left_stepped}
 
 -- RUNS, ONE AFTER ANOTHER
 
@@ -91,11 +92,15 @@ module _ (n t m : ℕ) where
   none : (s u : State) → u ≡ s → AreCases n t m [] s u
   none s u e = λ i. ap (λ (v : State). lock_at v i) e
 
-  one : (b : Bool) (s u : State) → IsStepAt (if b then n + t else t) m s u → AreCases n t m (b ∷ []) s u
-  one b s u x = (u, x, λ i. refl)
+  one : (b : Bool) (s u : State) → IsStepAt (if b then n + t else t) m s u → u.kinds ≡ s.kinds → AreCases n t m (b ∷ []) s u
+  one b s u x kinds = (u, x, kinds, λ i. refl)
 
-  two : (b : Bool) (s x u : State) → IsStepAt (if b then n + t else t) m s x → IsStepAt (if b then n + t else t) m x u → AreCases n t m (b ∷ b ∷ []) s u
-  two b s x u first second = (x, first, one b x u second)
+  two : (b : Bool) (s x u : State) → IsStepAt (if b then n + t else t) m s x → x.kinds ≡ s.kinds → IsStepAt (if b then n + t else t) m x u → u.kinds ≡ x.kinds → AreCases n t m (b ∷ b ∷ []) s u
+  two b s x u first kinds second more = (x, first, kinds, one b x u second more)
+
+-- a step of a call leaves the kinds
+step_kinds : (s u : State) (k : ℕ) (fair : Bool) (a : Option CoreAnswer) → FitsTogether s → rows.IsStepped k fair a s u → u.kinds ≡ s.kinds
+step_kinds s u k fair a fits x = (left_stepped (λ n. Unit {0}) None s u k fair a fits x).kinds
 
 pub record AtLocks (t : ℕ) (i j : Joint) : Type 0 where
   lock : ℕ
@@ -106,8 +111,8 @@ module _ (t : ℕ) (i j : Joint) where
   quiet : j.rows ≡ i.rows → AtLocks t i j
   quiet e = record { lock = 0; by = []; cases = none (length i.seats) t 0 (state i.rows) (state j.rows) (ap state e) }
 
-  single : (b : Bool) (m : ℕ) → IsStepAt (number i t b) m (state i.rows) (state j.rows) → AtLocks t i j
-  single b m x = record { lock = m; by = b ∷ []; cases = one (length i.seats) t m b (state i.rows) (state j.rows) x }
+  single : (b : Bool) (m : ℕ) → IsStepAt (number i t b) m (state i.rows) (state j.rows) → (state j.rows).kinds ≡ (state i.rows).kinds → AtLocks t i j
+  single b m x kinds = record { lock = m; by = b ∷ []; cases = one (length i.seats) t m b (state i.rows) (state j.rows) x kinds }
 
   at_variable : (v : ℕ) (y : Option Var) → RunsIn t (var_at i v) y → j.vars ≡ slice_set i.vars v y → AtLocks t i j → IsCase t i j
   at_variable v y runs vars h = record {
@@ -154,13 +159,13 @@ module _ (t : ℕ) (i j : Joint) (fits : FitsTogether (state i.rows)) where
   u = state j.rows
 
   stepped : (b : Bool) (fair : Bool) (a : Option CoreAnswer) → rows.IsStepped (number i t b) fair a s u → AtLocks t i j
-  stepped b fair a x = single t i j b x.call.lock (steps_are_cases_of_locks.step s u (number i t b) fair a fits x)
+  stepped b fair a x = single t i j b x.call.lock (steps_are_cases_of_locks.step s u (number i t b) fair a fits x) (step_kinds s u (number i t b) fair a fits x)
 
   begun : (b : Bool) (m : ℕ) (c : LockCall) → rows.IsBegun (number i t b) m c s u → AtLocks t i j
-  begun b m c x = single t i j b m (steps_are_cases_of_locks.begin s u (number i t b) m c fits x)
+  begun b m c x = single t i j b m (steps_are_cases_of_locks.begin s u (number i t b) m c fits x) (ap (λ (y : State). y.kinds) x.became)
 
   expired : (b : Bool) → rows.IsExpired (number i t b) s u → AtLocks t i j
-  expired b x = single t i j b x.call.lock (made s u fits (number i t b) x.call.lock (expire_step x.call.core x.call.spot) x.lawful.goes)
+  expired b x = single t i j b x.call.lock (made s u fits (number i t b) x.call.lock (expire_step x.call.core x.call.spot) x.lawful.goes) (ap (λ (y : State). y.kinds) x.became)
 
   comes_back : (b may : Bool) → ComesBackIf may (number i t b) i j → AtLocks t i j
   comes_back b true x = expired b x
@@ -173,8 +178,8 @@ module _ (t : ℕ) (i j : Joint) (fits : FitsTogether (state i.rows)) where
       record {
         lock = x.call.lock;
         by = b ∷ b ∷ [];
-        cases = two (length i.seats) t x.call.lock b s mid u (steps_are_cases_of_locks.step s mid (number i t b) fair (Some a) fits x)
-            (subst (λ (m : ℕ). IsStepAt (number i t b) m mid u) (sym same) (steps_are_cases_of_locks.begin mid u (number i t b) d.lock LockCall.Lock x.lawful.fits begins));
+        cases = two (length i.seats) t x.call.lock b s mid u (steps_are_cases_of_locks.step s mid (number i t b) fair (Some a) fits x) (step_kinds s mid (number i t b) fair (Some a) fits x)
+            (subst (λ (m : ℕ). IsStepAt (number i t b) m mid u) (sym same) (steps_are_cases_of_locks.begin mid u (number i t b) d.lock LockCall.Lock x.lawful.fits begins)) (ap (λ (y : State). y.kinds) begins.became);
       }
 
   onward : (b fair late : Bool) (a : Option CoreAnswer) (v : ℕ) (c : OpenCall) (d : Call) (mid : State) → row.call_at s (number i t b) ≡ Some d → rows.IsStepped (number i t b) fair a s mid → FollowsAs late a t (number i t b) v c d i mid j → IsCase t i j
@@ -195,7 +200,7 @@ firsts (x ∷ xs) = false ∷ firsts xs
 
 taken : MovesAreCases → (n t m : ℕ) (es : List (ℕ × Bool)) (s u : State) → AreTakenIn m es s u → AreCases n t m (firsts es) s u
 taken moves n t m [] s u e = none n t m s u e
-taken moves n t m (e ∷ es) s u (x, first, rest) = (x, (moves.takes s x e.0 m t e.1 first).1, taken moves n t m es x u rest)
+taken moves n t m (e ∷ es) s u (x, first, rest) = (x, (moves.takes s x e.0 m t e.1 first).1, ap (λ (y : State). y.kinds) first.became, taken moves n t m es x u rest)
 
 module _ (moves : MovesAreCases) (t : ℕ) (i j : Joint) where
   all_moved : (x : Var) (m : ℕ) (ws : List ℕ) (s : State) → AreMoved i.seats x m ws s (state j.rows) → AreCases (length i.seats) t m (firsts (map (entry i.seats x) ws)) s (state j.rows)
@@ -208,7 +213,7 @@ module _ (moves : MovesAreCases) (t : ℕ) (i j : Joint) where
   moved (Some x) false m (w ∷ ws) (mid, first, rest) = record {
     lock = m;
     by = false ∷ firsts (map (entry i.seats x) ws);
-    cases = (mid, (moves.rouses (state i.rows) mid _ m t false first).1, all_moved x m ws mid rest);
+    cases = (mid, (moves.rouses (state i.rows) mid _ m t false first).1, ap (λ (y : State). y.kinds) first.became, all_moved x m ws mid rest);
   }
 
 -- THE STEPS

@@ -13,10 +13,10 @@ use Rattle.parking_lot_waits_world.specs.JointLaws.{PartsFit}
 use Rattle.parking_lot_waits_world.specs.JointSteps.{IsAsked, IsCalled, IsGone, IsLate}
 
 -- Of n threads, thread t has made these cases of a lock without a word at lock m, one after another, each by its second number or its first; all other
--- locks are as they were.
+-- locks are as they were, and all are of the kinds of which they were.
 abbrev pub AreCases : ℕ → ℕ → ℕ → List Bool → State → State → Type 0
 AreCases n t m [] s u = (i : ℕ) → lock_at u i ≡ lock_at s i
-AreCases n t m (second ∷ by) s u = (x : State) × IsStepAt (if second then n + t else t) m s x × AreCases n t m by x u
+AreCases n t m (second ∷ by) s u = (x : State) × IsStepAt (if second then n + t else t) m s x × (x.kinds ≡ s.kinds) × AreCases n t m by x u
 
 -- it has made steps of the rules of a variable
 abbrev pub RunsIn : ℕ → Option Var → Option Var → Type 0
