@@ -1,13 +1,13 @@
--- Where a machine is whole, a step asks for nothing but that its thread doesn't sleep and enters no section while one is open.
-use Rattle.std.proofs.Common.{◌≡◌, ◌≢◌, ◌||◌, inl, inr, ℕ, zero, suc, ◌+◌, ◌-◌, ◌*◌, ◌<◌, Bool, true, false, not, cond, nat_lt, ◌&&◌, is_some, is_none, List, [], ◌∷◌, length, Option, Some, None, slice_get, refl, sym, ap, ◌∙◌, subst, arith, eqb-true}
+-- Where a machine is whole, what a step needs at the locks is so.
+use Rattle.std.proofs.Common.{◌≡◌, ◌≢◌, ◌⊎◌, ◌||◌, inl, inr, ℕ, zero, suc, ◌+◌, ◌-◌, ◌*◌, ◌==◌, ◌<◌, ◌≤◌, Bool, true, false, not, cond, nat_lt, ◌&&◌, is_some, is_none, List, [], ◌∷◌, length, map, Option, Some, None, slice_get, refl, sym, ap, ◌∙◌, subst, arith, eq-eqb, eqb-true}
 use Rattle.std.specs.List.{list_all, list_any}
 use Rattle.std.specs.Option.{option_and_then, option_map, option_map_or}
-use Rattle.std.proofs.lemmas.Bool.{lt-ltb}
+use Rattle.std.proofs.lemmas.Bool.{lt-ltb, ltb-true}
 use Rattle.std.proofs.lemmas.Option.{none-some, same_Some, slice_get-map, slice_get_within}
 use Rattle.parking_lot_core_lot.specs.declared.place.Section.{Section}
 use Rattle.parking_lot_rules.specs.Lists.{at_index, occurs}
 use Rattle.parking_lot_rules.specs.Variable as rules
-use Rattle.parking_lot_rules.proofs.Waiting.{counted-same, occurs-cons}
+use Rattle.parking_lot_rules.proofs.Waiting.{counted, counted-same, occurs-cons}
 use Rattle.parking_lot_waits.specs.declared.notify_core.NotifyPhase.{NotifyPhase}
 use Rattle.parking_lot_waits.specs.declared.notify_core.NotifyPhase.TheVariants as n
 use Rattle.parking_lot_waits.specs.declared.wait_core.WaitPhase.{WaitPhase}
@@ -17,28 +17,32 @@ use Rattle.parking_lot_waits.specs.WaitRules as waits
 use Rattle.parking_lot_condvar_world.specs.declared.open_call.Core.{Core}
 use Rattle.parking_lot_condvar_world.specs.declared.open_call.Core.TheVariants as core
 use Rattle.parking_lot_condvar_world.specs.declared.open_call.OpenCall.{OpenCall}
-use Rattle.parking_lot_condvar_world.specs.Fitting.{is_the}
+use Rattle.parking_lot_condvar_world.specs.Fitting.{Fits, is_the}
+use Rattle.parking_lot_condvar_world.specs.MachineLaws.{ListIsWaiters}
 use Rattle.parking_lot_condvar_world.specs.Machines.{State as Var, call_at as var_call_at, phase_by, phase_in, spot_of, variable}
-use Rattle.parking_lot_condvar_world.specs.Turns.{is_inside, is_inside_by, wait_is_inside}
+use Rattle.parking_lot_condvar_world.specs.Turns.{is_inside, is_inside_by, notify_is_inside, wait_is_inside}
+use Rattle.parking_lot_world.specs.declared.calls.LockCall.{LockCall}
 use Rattle.parking_lot_world.specs.declared.calls.LockCall.TheVariants as call
 use Rattle.parking_lot_world.specs.declared.calls.LockKind.{LockKind}
 use Rattle.parking_lot_world.specs.declared.calls.LockKind.TheVariants as kind
 use Rattle.parking_lot_world.specs.declared.open_call.Call.{Call}
 use Rattle.parking_lot_world.specs.declared.seat.Core.{Core as RowCore}
 use Rattle.parking_lot_world.specs.declared.seat.Core.TheVariants as row_core
+use Rattle.parking_lot_world.specs.Beginnings.{excludes, is_allowed, owns_nothing}
 use Rattle.parking_lot_world.specs.Calls.{takes}
+use Rattle.parking_lot_world.specs.Kinds.{kind_in, manner_of}
 use Rattle.parking_lot_world.specs.Machines.{may_begin}
 use Rattle.parking_lot_world.specs.RowFits.{FitsTogether, IsOfKind}
-use Rattle.parking_lot_world.specs.Rows.{State, call_at as row_call_at, state}
+use Rattle.parking_lot_world.specs.Rows.{State, call_at as row_call_at, hold_at, state}
 use Rattle.parking_lot_waits_world.proofs.Notifying.{Marking, is_moving, marking}
 use Rattle.parking_lot_waits_world.specs.declared.turn.Turn.{Turn}
 use Rattle.parking_lot_waits_world.specs.declared.turn.Turn.TheVariants as turn
-use Rattle.parking_lot_waits_world.specs.Joint.{Joint, back_number, call_at, call_in, front_number, is_entered, seat_at, var_at}
-use Rattle.parking_lot_waits_world.specs.JointLaws.{StepsAskNoMore}
-use Rattle.parking_lot_waits_world.specs.JointMoves.{may_go_as, may_go_at, may_move, may_move_all, may_turn}
+use Rattle.parking_lot_waits_world.specs.Joint.{Joint, back_number, call_at, call_in, front_number, is_entered, is_open_at_variables, lock_of, row_goes, seat_at, var_at, waiters_of}
+use Rattle.parking_lot_waits_world.specs.JointLaws.{PartsFit}
 use Rattle.parking_lot_waits_world.specs.JointSteps.{KnownIn}
+use Rattle.parking_lot_waits_world.specs.Ready.{call_is_ready, is_ready, may_move, may_move_all, seat_is_ready, turn_is_ready}
 use Rattle.parking_lot_waits_world.specs.Turns.{is_at_mutex, mutex_of, notify_turn, turn_by, turn_of, wait_turn}
-use Rattle.parking_lot_waits_world.specs.Whole.{AtMutex, Owns, Away, Asks, IsSo, IsWhole, Stands, Waits, back_of, front_of, named, place_of, simply_goes_as, simply_goes_at, simply_turns}
+use Rattle.parking_lot_waits_world.specs.Whole.{AtMutex, Owns, Away, Asks, IsSo, IsWhole, Stands, Waits, back_of, front_of, named, place_of}
 
 both : (a b : Bool) → a ≡ true → b ≡ true → (a && b) ≡ true
 both true b x y = y
@@ -77,19 +81,19 @@ is_there s k m fits mutex is =
 
 -- WHO WAITS AT A VARIABLE
 
--- One that is listed outside the section is in no call at the mutex that is shown, and owns nothing of it; off the list it asks for it.
+-- One that is listed outside the section owns nothing of the mutex that is shown, and is in no call there.
 waiting_case : (listed : Bool) (p : WaitPhase) (m word : ℕ) → 0 < rules.weight rules.Waiting (waits.does (spot_of listed) p) → rules.Agrees word (waits.does (spot_of listed) p) → named p m ≡ m → wait_is_inside listed p ≡ false
-    → (back_of listed p ≡ Away) × (back_of false p ≡ Asks) × (word ≡ m + 1)
+    → (back_of listed p ≡ Away) × (word ≡ m + 1)
 unfolding rules.weight
 waiting_case listed (w.Shows k) m word some agrees names out = absurd cc
 waiting_case listed (w.Rests k) m word some agrees names out = absurd cc
 waiting_case true (w.Quits k) m word some agrees names out = absurd cc
 waiting_case false (w.Quits k) m word some agrees names out = absurd (omega (arith, some))
-waiting_case true (w.Unlocks k) m word some agrees names out = (refl, refl, agrees ∙ ap (λ n. n + 1) names)
+waiting_case true (w.Unlocks k) m word some agrees names out = (refl, agrees ∙ ap (λ n. n + 1) names)
 waiting_case false (w.Unlocks k) m word some agrees names out = absurd (omega (arith, some))
-waiting_case true (w.Sleeps k) m word some agrees names out = (refl, refl, agrees ∙ ap (λ n. n + 1) names)
+waiting_case true (w.Sleeps k) m word some agrees names out = (refl, agrees ∙ ap (λ n. n + 1) names)
 waiting_case false (w.Sleeps k) m word some agrees names out = absurd (omega (arith, some))
-waiting_case true (w.Expires k) m word some agrees names out = (refl, refl, agrees ∙ ap (λ n. n + 1) names)
+waiting_case true (w.Expires k) m word some agrees names out = (refl, agrees ∙ ap (λ n. n + 1) names)
 waiting_case false (w.Expires k) m word some agrees names out = absurd (omega (arith, some))
 waiting_case listed (w.Waiting k) m word some agrees names out = absurd (omega (arith, some))
 waiting_case listed w.Stranger m word some agrees names out = absurd (omega (arith, some))
@@ -170,7 +174,7 @@ in_var vars v x e = go (slice_get vars v) refl
     go (Some y) is = is ∙ ap Some (sym (ap (option_and_then (λ (o : Option Var). o)) is) ∙ e)
 
 -- where a section of a variable is open, none of a lock is
-pub locks_closed : (j : Joint) (v t : ℕ) (x : Var) → IsWhole j → var_at j v ≡ Some x → is_the x.inside t ≡ true → (state j.rows).lot.section ≡ None
+locks_closed : (j : Joint) (v t : ℕ) (x : Var) → IsWhole j → var_at j v ≡ Some x → is_the x.inside t ≡ true → (state j.rows).lot.section ≡ None
 locks_closed j v t x h here inside = elim h.sections [
   | inl e ↦ e
   | inr e ↦ not_open _ (any_of is_entered j.vars v (Some x) (in_var j.vars v x here) (has_entered x t inside)) e
@@ -180,21 +184,11 @@ number_low : (n t : ℕ) (second : Bool) → t < n → cond second (n + t) t < 2
 number_low n t true low = omega (arith, low)
 number_low n t false low = omega (arith, low)
 
--- One that waits in its list, to be moved to the mutex that the variable shows.
-pub record Waiter (x : Var) (u : ℕ) : Type 0 where
-  pub call : OpenCall
-  pub here : var_call_at x u ≡ Some call
-  pub phase : WaitPhase
-  pub core : call.core ≡ core.Wait (record { phase = phase })
-  pub away : back_of call.listed phase ≡ Away
-  pub off : back_of false phase ≡ Asks
-  pub word : x.word ≡ mutex_of call.call + 1
-
 module _ (j : Joint) (h : IsWhole j) (v : ℕ) (x : Var) (at : var_at j v ≡ Some x) (known : KnownIn (Some x)) where
-  pub here_too : (u : ℕ) (c : OpenCall) → var_call_at x u ≡ Some c → call_at j v u ≡ Some c
+  here_too : (u : ℕ) (c : OpenCall) → var_call_at x u ≡ Some c → call_at j v u ≡ Some c
   here_too u c here = ap (λ (o : Option Var). call_in o u) at ∙ here
 
-  pub thread_low : (u : ℕ) (c : OpenCall) → var_call_at x u ≡ Some c → u < length j.seats
+  thread_low : (u : ℕ) (c : OpenCall) → var_call_at x u ≡ Some c → u < length j.seats
   thread_low u c here = subst (λ m. u < m) (h.threads v x at) (slice_get_within x.calls u (Some c) (slot_of (slice_get x.calls u) here))
     where
       slot_of : (o : Option (Option OpenCall)) → option_and_then (λ (y : Option OpenCall). y) o ≡ Some c → o ≡ Some (Some c)
@@ -202,42 +196,36 @@ module _ (j : Joint) (h : IsWhole j) (v : ℕ) (x : Var) (at : var_at j v ≡ So
       slot_of (Some y) e = ap Some e
 
   -- one in a call at the variable that waits in its list, where another is in the section
-  by_core : (u : ℕ) (c : OpenCall) (k : Core) → var_call_at x u ≡ Some c → c.core ≡ k → 0 < rules.weight rules.Waiting (phase_by c.listed k) → rules.Agrees x.word (phase_by c.listed k) → is_inside_by c.listed k ≡ false → Stands j u c k → Waiter x u
-  by_core u c (core.Notify k) here is some agrees out stands = absurd (omega (arith, some, notify_waits k.phase))
-  by_core u c (core.Wait k) here is some agrees out stands =
-      let (away, off, word) = waiting_case c.listed k.phase (mutex_of c.call) x.word some agrees stands.names out in
-      record { call = c; here = here; phase = k.phase; core = is; away = away; off = off; word = word }
+  by_core : (u : ℕ) (c : OpenCall) (k : Core) → var_call_at x u ≡ Some c → 0 < rules.weight rules.Waiting (phase_by c.listed k) → rules.Agrees x.word (phase_by c.listed k) → is_inside_by c.listed k ≡ false → Stands j u c k
+      → (state j.rows).lot.section ≡ None → may_move j (x.word - 1) u ≡ true
+  by_core u c (core.Notify k) here some agrees out stands closed = absurd (omega (arith, some, notify_waits k.phase))
+  by_core u c (core.Wait k) here some agrees out stands closed =
+      let (away, word) = waiting_case c.listed k.phase (mutex_of c.call) x.word some agrees stands.names out in
+      let low = thread_low u c here in
+      let may = may_lock (state j.rows) (back_number j u) (mutex_of c.call) (subst (λ m. back_number j u < m) (sym h.numbers) (number_low (length j.seats) u (seat_at j u).second low)) stands.mutex.kind
+      (subst (λ (a : AtMutex). IsSo a (state j.rows) (back_number j u) (mutex_of c.call)) away stands.back) in
+      both _ _ (lt-ltb u _ low) (both _ _ (subst (λ m. may_begin (state j.rows) (back_number j u) m call.Lock ≡ true) (omega (arith, word)) may) (ap (λ (o : Option Section). not (is_some o)) closed))
 
-  by_call : (t u : ℕ) (o : Option OpenCall) → var_call_at x u ≡ o → 0 < rules.weight rules.Waiting (phase_in o) → rules.Agrees x.word (phase_in o) → is_the x.inside t ≡ true → u ≢ t → Waiter x u
+  by_call : (t u : ℕ) (o : Option OpenCall) → var_call_at x u ≡ o → 0 < rules.weight rules.Waiting (phase_in o) → rules.Agrees x.word (phase_in o) → is_the x.inside t ≡ true → u ≢ t → may_move j (x.word - 1) u ≡ true
   by_call t u None here some agrees inside other = nobody_idle some
-  by_call t u (Some c) here some agrees inside other = by_core u c c.core here refl some agrees (outside (is_inside c) (known.0.seated u c here).section) (h.stands v u c (here_too u c here))
+  by_call t u (Some c) here some agrees inside other =
+      by_core u c c.core here some agrees (outside (is_inside c) (known.0.seated u c here).section) (h.stands v u c (here_too u c here)) (locks_closed j v t x h at inside)
     where
       outside : (b : Bool) → b ≡ is_the x.inside u → b ≡ false
       outside true e = absurd (other (same_thread x.inside u t (sym e) inside))
       outside false e = refl
 
-  pub waiter : (t u : ℕ) → is_the x.inside t ≡ true → u ≢ t → 0 < occurs u x.queue → Waiter x u
-  waiter t u inside other some = by_slot (slice_get x.calls u) refl (subst (λ m. 0 < m) (known.1.lists u ∙ ap (at_index (rules.weight rules.Waiting)) (slice_get-map phase_in x.calls u)) some)
-    where
-      by_slot : (o : Option (Option OpenCall)) → slice_get x.calls u ≡ o → 0 < at_index (rules.weight rules.Waiting) (option_map phase_in o) → Waiter x u
-      by_slot None is some = absurd (omega (arith, some))
-      by_slot (Some o) is some =
-          by_call t u o (ap (option_and_then (λ (y : Option OpenCall). y)) is) some (known.0.sound.agrees u (phase_in o) (slice_get-map phase_in x.calls u ∙ ap (option_map phase_in) is)) inside other
-
-  may_be_moved : (u : ℕ) → (state j.rows).lot.section ≡ None → Waiter x u → may_move j (x.word - 1) u ≡ true
-  may_be_moved u closed y =
-      let stands : Waits j u y.call y.phase = subst (Stands j u y.call) y.core (h.stands v u y.call (here_too u y.call y.here)) in
-      let low = thread_low u y.call y.here in
-      let may = may_lock (state j.rows) (back_number j u) (mutex_of y.call.call) (subst (λ m. back_number j u < m) (sym h.numbers) (number_low (length j.seats) u (seat_at j u).second low)) stands.mutex.kind
-      (subst (λ (a : AtMutex). IsSo a (state j.rows) (back_number j u) (mutex_of y.call.call)) y.away stands.back) in
-      both _ _ (lt-ltb u _ low) (both _ _ (subst (λ m. may_begin (state j.rows) (back_number j u) m call.Lock ≡ true) (omega (arith, y.word)) may) (ap (λ (o : Option Section). not (is_some o)) closed))
-
   -- whoever stands in its list may be moved, where a notification is in the section
   all_may : (t : ℕ) → is_the x.inside t ≡ true → ((u : ℕ) → 0 < occurs u x.queue → u ≢ t) → list_all (may_move j (x.word - 1)) x.queue ≡ true
-  all_may t inside others = all_of (may_move j (x.word - 1)) x.queue (λ u some. may_be_moved u (locks_closed j v t x h at inside) (waiter t u inside (others u some) some))
+  all_may t inside others = all_of (may_move j (x.word - 1)) x.queue (λ u some. by_slot u (slice_get x.calls u) refl (subst (λ m. 0 < m) (known.1.lists u ∙ ap (at_index (rules.weight rules.Waiting)) (slice_get-map phase_in x.calls u)) some) (others u some))
+    where
+      by_slot : (u : ℕ) (o : Option (Option OpenCall)) → slice_get x.calls u ≡ o → 0 < at_index (rules.weight rules.Waiting) (option_map phase_in o) → u ≢ t → may_move j (x.word - 1) u ≡ true
+      by_slot u None is some other = absurd (omega (arith, some))
+      by_slot u (Some o) is some other =
+          by_call t u o (ap (option_and_then (λ (y : Option OpenCall). y)) is) some (known.0.sound.agrees u (phase_in o) (slice_get-map phase_in x.calls u ∙ ap (option_map phase_in) is)) inside other
 
   -- a notification itself doesn't stand there
-  pub not_itself : (t : ℕ) (c : OpenCall) → var_call_at x t ≡ Some c → (m : Marking c) → (u : ℕ) → 0 < occurs u x.queue → u ≢ t
+  not_itself : (t : ℕ) (c : OpenCall) → var_call_at x t ≡ Some c → (m : Marking c) → (u : ℕ) → 0 < occurs u x.queue → u ≢ t
   not_itself t c here m u some e = by_slot (slice_get x.calls t) refl here
     where
       weighs : 0 < at_index (rules.weight rules.Waiting) (slice_get (variable x).phases t)
@@ -256,10 +244,6 @@ module _ (j : Joint) (h : IsWhole j) (v : ℕ) (x : Var) (at : var_at j v ≡ So
   moves_all t c here m = all_may t (sym (known.0.seated t c here).section ∙ ap (λ (k : Core). is_inside_by c.listed k) m.is) (not_itself t c here m)
 
 -- WHAT A TURN NEEDS
-
-and_right : (a b : Bool) → b ≡ true → (a && b) ≡ a
-and_right true b e = e
-and_right false b e = refl
 
 -- what its thread's numbers are at the mutex then
 abbrev Needs : Turn → AtMutex → AtMutex → Type 0
@@ -322,22 +306,22 @@ module _ (j : Joint) (h : IsWhole j) (fits : FitsTogether (state j.rows)) (v t :
   low_number : (second : Bool) → t < length j.seats → cond second (length j.seats + t) t < length (state j.rows).calls
   low_number second low = subst (λ m. cond second (length j.seats + t) t < m) (sym h.numbers) (number_low (length j.seats) t second low)
 
-  by_turn : (p : WaitPhase) (x : Turn) → t < length j.seats → Waits j t c p → Needs x (front_of p) (back_of c.listed p) → may_turn x j t v c ≡ simply_turns x j t v c
+  by_turn : (p : WaitPhase) (x : Turn) → t < length j.seats → Waits j t c p → Needs x (front_of p) (back_of c.listed p) → turn_is_ready x j t v c ≡ true
   by_turn p turn.Sleeps low s need = refl
   by_turn p turn.Acts low s need = refl
   by_turn p turn.GivesUp low s need =
-      and_right _ _ (may_unlock (state j.rows) (front_number j t) (mutex_of c.call) (low_number (not (seat_at j t).second) low) s.mutex.kind (subst (λ (a : AtMutex). IsSo a (state j.rows) (front_number j t) (mutex_of c.call)) need s.front))
+      may_unlock (state j.rows) (front_number j t) (mutex_of c.call) (low_number (not (seat_at j t).second) low) s.mutex.kind (subst (λ (a : AtMutex). IsSo a (state j.rows) (front_number j t) (mutex_of c.call)) need s.front)
   by_turn p turn.LocksAgain low s need =
-      and_right _ _ (may_lock (state j.rows) (back_number j t) (mutex_of c.call) (low_number (seat_at j t).second low) s.mutex.kind (subst (λ (a : AtMutex). IsSo a (state j.rows) (back_number j t) (mutex_of c.call)) need s.back))
+      may_lock (state j.rows) (back_number j t) (mutex_of c.call) (low_number (seat_at j t).second low) s.mutex.kind (subst (λ (a : AtMutex). IsSo a (state j.rows) (back_number j t) (mutex_of c.call)) need s.back)
   by_turn p turn.Unlocks low s need = refl
   by_turn p turn.Follows low s need =
-      and_right _ _ (is_there (state j.rows) (back_number j t) (mutex_of c.call) fits s.mutex.kind (subst (λ (a : AtMutex). IsSo a (state j.rows) (back_number j t) (mutex_of c.call)) need s.back))
+      is_there (state j.rows) (back_number j t) (mutex_of c.call) fits s.mutex.kind (subst (λ (a : AtMutex). IsSo a (state j.rows) (back_number j t) (mutex_of c.call)) need s.back)
   by_turn p turn.Locks low s need = refl
   by_turn p turn.ComesBack low s need = refl
   by_turn p turn.Hears low s need = refl
   by_turn p turn.Moves low s need = absurd need
 
-  by_notice : (x : Turn) → (is_moving x ≡ true → may_move_all j (var_at j v) ≡ true) → NotOfWait x → may_turn x j t v c ≡ simply_turns x j t v c
+  by_notice : (x : Turn) → (is_moving x ≡ true → may_move_all j (var_at j v) ≡ true) → NotOfWait x → turn_is_ready x j t v c ≡ true
   by_notice turn.Sleeps moves is = refl
   by_notice turn.Acts moves is = refl
   by_notice turn.GivesUp moves is = absurd is
@@ -349,23 +333,23 @@ module _ (j : Joint) (h : IsWhole j) (fits : FitsTogether (state j.rows)) (v t :
   by_notice turn.Hears moves is = refl
   by_notice turn.Moves moves is = moves refl
 
-  at_var : (o : Option Var) → var_at j v ≡ o → KnownIn o → call_in o t ≡ Some c → (k : Core) → c.core ≡ k → Stands j t c k → may_turn (turn_by c.listed k) j t v c ≡ simply_turns (turn_by c.listed k) j t v c
+  at_var : (o : Option Var) → var_at j v ≡ o → KnownIn o → call_in o t ≡ Some c → (k : Core) → c.core ≡ k → Stands j t c k → turn_is_ready (turn_by c.listed k) j t v c ≡ true
   at_var None at known here k is stands = absurd (none-some c here)
   at_var (Some x) at known here (core.Wait k) is stands = by_turn k.phase (wait_turn c.listed k.phase) (thread_low j h v x at known t c here) stands (stood c.listed k.phase)
   at_var (Some x) at known here (core.Notify k) is stands =
       by_notice (notify_turn k.phase) (λ e. ap (λ (o : Option Var). may_move_all j o) at ∙ moves_all j h v x at known t c here (marking c (ap (λ (d : Core). is_moving (turn_by c.listed d)) is ∙ e))) (not_of_wait k.phase)
 
-  pub turns_simply : KnownIn (var_at j v) → call_at j v t ≡ Some c → may_turn (turn_of c) j t v c ≡ simply_turns (turn_of c) j t v c
-  turns_simply known here = at_var (var_at j v) refl known here c.core refl (h.stands v t c here)
+  pub turn_ready : KnownIn (var_at j v) → call_at j v t ≡ Some c → turn_is_ready (turn_of c) j t v c ≡ true
+  turn_ready known here = at_var (var_at j v) refl known here c.core refl (h.stands v t c here)
 
--- so a thread may make a step exactly where it can
-pub goes_simply : StepsAskNoMore
-goes_simply j t h fits known = ap (λ b. nat_lt t (length j.seats) && b) (by_seat (seat_at j t).at)
+-- so what a thread's step needs is so
+pub is_ready_then : (j : Joint) (t : ℕ) → IsWhole j → PartsFit j t → is_ready j t ≡ true
+is_ready_then j t h fits = by_seat (seat_at j t).at refl
   where
-    by_call : (v : ℕ) (o : Option OpenCall) → call_at j v t ≡ o → may_go_as o j t v ≡ simply_goes_as o j t v
-    by_call v None here = refl
-    by_call v (Some c) here = turns_simply j h fits v t c (known v) here
+    by_call : (v : ℕ) (o : Option OpenCall) → KnownIn (var_at j v) → call_at j v t ≡ o → call_is_ready o j t v ≡ true
+    by_call v None known here = refl
+    by_call v (Some c) known here = turn_ready j h fits.rows v t c known here
 
-    by_seat : (o : Option ℕ) → may_go_at o j t ≡ simply_goes_at o j t
-    by_seat None = refl
-    by_seat (Some v) = by_call v (call_at j v t) refl
+    by_seat : (o : Option ℕ) → (seat_at j t).at ≡ o → seat_is_ready o j t ≡ true
+    by_seat None at = refl
+    by_seat (Some v) at = by_call v (call_at j v t) (fits.vars v at) refl

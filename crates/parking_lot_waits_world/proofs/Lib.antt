@@ -1,3 +1,4 @@
+pub mod KeptWhole
 pub mod NewWhole
 pub mod MutexSteps
 pub mod MutexTurns

@@ -8,3 +8,4 @@ pub mod Whole
 pub mod JointLaws
 pub mod JointCases
 pub mod JointStays
+pub mod Ready

@@ -5,13 +5,13 @@ ghost use Rattle.parking_lot_waits_world.specs.JointSides.{call_owes, enters, en
 ghost use Rattle.parking_lot_condvar_world.specs.Turns.{wait_is_inside};
 
 use crate::turn::{Turn, turn_of};
-use crate::wait_machine::WaitMachine;
+use crate::machines::Machines;
 use parking_lot_condvar_world::{Core, OpenCall};
 use parking_lot_waits::{NotifyPhase, WaitPhase};
 use parking_lot_world::Call;
 use std::alloc::Allocator;
 
-impl<A: Allocator> WaitMachine<A> {
+impl<A: Allocator> Machines<A> {
     /// Whether a thread is in a call.
     pub fn is_busy(&self, thread: usize) -> bool
         ensures { result ≡ is_busy self.now thread }
@@ -103,7 +103,7 @@ fn call_owes(call: &OpenCall) -> bool
     }
 }
 
-impl<A: Allocator> WaitMachine<A> {
+impl<A: Allocator> Machines<A> {
     /// Whether a thread owes at the variable that it is in a call at.
     fn owes_at(&self, thread: usize) -> bool
         ensures { result ≡ owes_at (seat_at self.now thread).at self.now thread }

@@ -1,18 +1,19 @@
-//! What is seen of a machine of locks and condition variables.
+//! What is seen of the machines.
 ghost use Rattle.std.specs.Prelude.{◌≡◌, map, IfErr, IfOk};
 ghost use Rattle.parking_lot_core_lot.specs.declared.fault.SizeFault.TheVariants.{NoMemory};
 ghost use Rattle.parking_lot_world.specs.RowFits.{FitsTogether};
 ghost use Rattle.parking_lot_world.specs.Rows.{state};
 ghost use Rattle.parking_lot_waits_world.specs.Joint.{mode_at, thread_of, var_at, waiters_of, word_at};
+ghost use Rattle.parking_lot_waits_world.specs.JointLaws.{PartsFit};
 ghost use Rattle.parking_lot_waits_world.specs.JointSides.{queue_at};
 ghost use Rattle.parking_lot_waits_world.specs.JointSteps.{KnownIn};
 
-use crate::wait_machine::WaitMachine;
+use crate::machines::Machines;
 use parking_lot_core_lot::SizeFault;
 use parking_lot_world::OwnMode;
 use std::alloc::Allocator;
 
-impl<A: Allocator> WaitMachine<A> {
+impl<A: Allocator> Machines<A> {
     /// What holds of the machine at every moment. It does nothing.
     pub fn known(&self)
         ensures locks { FitsTogether (state self.now.rows) }
@@ -26,6 +27,16 @@ impl<A: Allocator> WaitMachine<A> {
     {
         if let Some(Some(machine)) = self.vars.get(variable) {
             machine.known();
+        }
+    }
+
+    /// What holds of the locks, and of the variable at which a thread has its seat, at every moment. It does nothing.
+    pub fn known_of(&self, thread: usize)
+        ensures { PartsFit self.now thread }
+    {
+        self.known();
+        if let Some(variable) = self.seat(thread).at {
+            self.known_at(variable);
         }
     }
 
@@ -64,7 +75,7 @@ impl<A: Allocator> WaitMachine<A> {
     }
 }
 
-impl<A: Allocator + Clone + Drop> WaitMachine<A> {
+impl<A: Allocator + Clone + Drop> Machines<A> {
     /// The threads of those numbers at the locks.
     fn threads_of(&self, numbers: &[usize]) -> Result<Vec<usize, A>, SizeFault>
         ensures ok { IfOk result (λ threads. threads.items ≡ map (thread_of self.now) numbers.now) }
