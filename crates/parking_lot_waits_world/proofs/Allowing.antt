@@ -343,7 +343,7 @@ module _ (j : Joint) (h : IsWhole j) (fits : FitsTogether (state j.rows)) (v t :
   turn_ready known here = at_var (var_at j v) refl known here c.core refl (h.stands v t c here)
 
 -- so what a thread's step needs is so
-pub is_ready_then : (j : Joint) (t : ℕ) → IsWhole j → PartsFit j t → is_ready j t ≡ true
+pub is_ready_then : (j : Joint) (t : ℕ) → IsWhole j → PartsFit j → is_ready j t ≡ true
 is_ready_then j t h fits = by_seat (seat_at j t).at refl
   where
     by_call : (v : ℕ) (o : Option OpenCall) → KnownIn (var_at j v) → call_at j v t ≡ o → call_is_ready o j t v ≡ true
@@ -352,4 +352,4 @@ is_ready_then j t h fits = by_seat (seat_at j t).at refl
 
     by_seat : (o : Option ℕ) → (seat_at j t).at ≡ o → seat_is_ready o j t ≡ true
     by_seat None at = refl
-    by_seat (Some v) at = by_call v (call_at j v t) (fits.vars v at) refl
+    by_seat (Some v) at = by_call v (call_at j v t) (fits.vars v) refl

@@ -77,7 +77,7 @@ phase_of c (core.Notify k) e = notify_phase k.phase c
 silent : (i j : Joint) (t : ℕ) (reply : Option CondvarReply) → j.seats ≡ freed t reply i.seats → reply ≡ None → j.seats ≡ i.seats
 silent i j t reply seats none = seats ∙ ap (λ (r : Option CondvarReply). freed t r i.seats) none
 
-module _ (i j : Joint) (t v : ℕ) (fair : Bool) (c : OpenCall) (reply : Option CondvarReply) (h : IsWhole i) (fits : PartsFit i t) (here : call_at i v t ≡ Some c) (seats : j.seats ≡ freed t reply i.seats) where
+module _ (i j : Joint) (t v : ℕ) (fair : Bool) (c : OpenCall) (reply : Option CondvarReply) (h : IsWhole i) (fits : PartsFit i) (here : call_at i v t ≡ Some c) (seats : j.seats ≡ freed t reply i.seats) where
   turned : (x : Turn) → turn_of c ≡ x → HasPhase x c → may_turn x i t v c ≡ true → Turned x t v fair c reply i j → IsWhole j
   turned turn.Sleeps is has may h' = absurd h'
   turned turn.Acts is has may (acts, rows) = acts_keep i j t v c reply h here rows seats is may acts
@@ -90,7 +90,7 @@ module _ (i j : Joint) (t v : ℕ) (fair : Bool) (c : OpenCall) (reply : Option 
   turned turn.Hears is has may (none, hears, rows) = hears_keep i j t v c h here rows (silent i j t reply seats none) is hears
   turned turn.Moves is has may (none, moves) = ?
 
-step_whole : (t : ℕ) (fair : Bool) (end : Option Ended) (i j : Joint) → IsWhole i → PartsFit i t → may_go i t ≡ true → IsGone t fair end i j → IsWhole j
+step_whole : (t : ℕ) (fair : Bool) (end : Option Ended) (i j : Joint) → IsWhole i → PartsFit i → may_go i t ≡ true → IsGone t fair end i j → IsWhole j
 step_whole t fair end i j h fits may gone = go (seat_at i t).at refl (both_true _ _ may).1 gone
   where
     low : t < length i.seats
@@ -106,7 +106,7 @@ step_whole t fair end i j h fits may gone = go (seat_at i t).at refl (both_true 
 
 -- A DEADLINE
 
-late_whole : (t : ℕ) (i j : Joint) → IsWhole i → PartsFit i t → may_expire i t ≡ true → IsLate t i j → IsWhole j
+late_whole : (t : ℕ) (i j : Joint) → IsWhole i → PartsFit i → may_expire i t ≡ true → IsLate t i j → IsWhole j
 late_whole t i j h fits may late = go (seat_at i t).at refl (both_true _ _ may).1 late
   where
     low : t < length i.seats

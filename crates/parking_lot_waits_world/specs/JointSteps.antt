@@ -23,7 +23,7 @@ use Rattle.parking_lot_waits_world.specs.declared.ended.Ended.TheVariants as end
 use Rattle.parking_lot_waits_world.specs.declared.seat.Seat.{Seat}
 use Rattle.parking_lot_waits_world.specs.declared.turn.Turn.{Turn}
 use Rattle.parking_lot_waits_world.specs.declared.turn.Turn.TheVariants as turn
-use Rattle.parking_lot_waits_world.specs.Joint.{Joint, asking_number, back_number, busy_number, call_at, front_number, has_by_second, lock_of, nowhere, seat_at, var_at}
+use Rattle.parking_lot_waits_world.specs.Joint.{Joint, asking_number, back_number, busy_number, call_at, front_number, has_by_second, lock_of, nowhere, seat_at, var_at, var_in}
 use Rattle.parking_lot_waits_world.specs.Moving.{AreMovedAs, MayMoveAs, NotifiesIn, taken_of}
 use Rattle.parking_lot_waits_world.specs.Turns.{handed, is_late, is_wait, mutex_of, retried, turn_of, wakes_with}
 
@@ -122,6 +122,9 @@ MovesIn (Some x) locked seats lock ws s u = AreMovedAs locked seats x lock ws s 
 abbrev pub KnownIn : Option Var → Type 0
 KnownIn None = Unit {0}
 KnownIn (Some x) = Fits x × IsSoundMachine x
+
+abbrev pub AreKnown : List (Option Var) → Type 0
+AreKnown vars = (v : ℕ) → KnownIn (var_in vars v)
 
 abbrev pub MayMoveIn : Option Var → Bool → List Seat → ℕ → List ℕ → State → Type 0
 MayMoveIn None locked seats lock ws s = ⊥

@@ -22,12 +22,13 @@ pub struct Machines<A: Allocator = Global> {
 impl<A: Allocator> Model for Machines<A> {
     ghost use Rattle.std.specs.Prelude.{◌≤◌, length};
     ghost use Rattle.parking_lot_waits_world.specs.Joint.{Joint};
+    ghost use Rattle.parking_lot_waits_world.specs.JointSteps.{AreKnown};
 
     ghost Value = { Joint };
 
     ghost view = { λ m. record { rows = m.rows; vars = m.vars.items; seats = m.seats.items } };
 
-    ghost invariant = { λ m. length m.seats.items ≤ 65536 };
+    ghost invariant = { λ m. (length m.seats.items ≤ 65536) × AreKnown m.vars.items };
 }
 
 impl<A: Allocator> Machines<A> {

@@ -2,7 +2,7 @@
 ghost use Rattle.std.specs.Prelude.{◌≡◌, ◌<◌, length, slice_set, Some, true};
 ghost use Rattle.parking_lot_world.specs.Rows.{state};
 ghost use Rattle.parking_lot_waits_world.specs.Joint.{call_at, lock_of, var_at};
-ghost use Rattle.parking_lot_waits_world.specs.JointSteps.{IsMoving, MayMoveIn, MovesIn, is_locked, takes_now};
+ghost use Rattle.parking_lot_waits_world.specs.JointSteps.{IsMoving, KnownIn, MayMoveIn, MovesIn, is_locked, takes_now};
 ghost use Rattle.parking_lot_waits_world.specs.declared.turn.Turn.TheVariants as turn;
 ghost use Rattle.parking_lot_waits_world.specs.Ready.{may_move_all};
 ghost use Rattle.parking_lot_waits_world.specs.Turns.{turn_of};
@@ -55,13 +55,15 @@ pub(crate) fn notify_in<A: Allocator>(
     count: usize,
 )
     requires may { MayNotifyIn thread locked count place.old }
-    ensures { NotifiesIn thread locked count place.old place.new }
+    ensures notifies { NotifiesIn thread locked count place.old place.new }
+    ensures known { KnownIn place.new }
 {
     match place {
         Some(machine) => {
             machine.tell(thread, Outside::Marked(locked));
             take_all(machine, thread, count);
             machine.tell(thread, moved_of(locked, count));
+            machine.known();
         }
         None => (),
     }
@@ -183,7 +185,7 @@ impl<A: Allocator> Machines<A> {
         ensures seats { self.new.seats ≡ self.old.seats }
     {
         let _ = &self.seats;
-        self.known_at(variable);
+        self.known();
         let (lock, locked) = self.shown(variable);
         let count = self.move_waiters(variable, call.call, lock, locked);
         self.notify_at(thread, variable, locked, count);

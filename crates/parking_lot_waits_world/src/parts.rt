@@ -7,7 +7,7 @@ ghost use Rattle.parking_lot_world.specs.Rows as row;
 ghost use Rattle.parking_lot_condvar_world.specs.declared.outside.Outside.TheVariants.{Made};
 ghost use Rattle.parking_lot_waits_world.specs.Joint.{row_goes, var_acts, var_at, var_hears};
 ghost use Rattle.parking_lot_waits_world.specs.JointMoves.{may_call};
-ghost use Rattle.parking_lot_waits_world.specs.JointSteps.{ActsAt, ActsIn, BeginsIn, HearsAt, HearsIn, HearsOf};
+ghost use Rattle.parking_lot_waits_world.specs.JointSteps.{ActsAt, ActsIn, BeginsIn, HearsAt, HearsIn, HearsOf, KnownIn};
 
 use crate::machines::Machines;
 use parking_lot_condvar_world::{CondvarCall, CondvarMachine, CondvarReply, Outside};
@@ -21,9 +21,14 @@ fn act_in<A: Allocator>(
 ) -> Option<CondvarReply>
     requires can { var_acts place.old thread ≡ true }
     ensures acts { ActsIn thread result place.old place.new }
+    ensures known { KnownIn place.new }
 {
     match place {
-        Some(machine) => machine.step(thread),
+        Some(machine) => {
+            let reply = machine.step(thread);
+            machine.known();
+            reply
+        }
         None => None,
     }
 }
@@ -32,9 +37,13 @@ fn act_in<A: Allocator>(
 fn hear_in<A: Allocator>(place: &mut Option<CondvarMachine<A>>, thread: usize, seen: Outside)
     requires can { var_hears place.old thread seen ≡ true }
     ensures hears { HearsIn thread seen place.old place.new }
+    ensures known { KnownIn place.new }
 {
     match place {
-        Some(machine) => machine.tell(thread, seen),
+        Some(machine) => {
+            machine.tell(thread, seen);
+            machine.known();
+        }
         None => (),
     }
 }
@@ -43,9 +52,13 @@ fn hear_in<A: Allocator>(place: &mut Option<CondvarMachine<A>>, thread: usize, s
 fn begin_in<A: Allocator>(place: &mut Option<CondvarMachine<A>>, thread: usize, call: CondvarCall)
     requires may { may_call place.old thread call ≡ true }
     ensures begins { BeginsIn thread call place.old place.new }
+    ensures known { KnownIn place.new }
 {
     match place {
-        Some(machine) => machine.begin(thread, call),
+        Some(machine) => {
+            machine.begin(thread, call);
+            machine.known();
+        }
         None => (),
     }
 }

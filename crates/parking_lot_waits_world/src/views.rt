@@ -4,9 +4,8 @@ ghost use Rattle.parking_lot_core_lot.specs.declared.fault.SizeFault.TheVariants
 ghost use Rattle.parking_lot_world.specs.RowFits.{FitsTogether};
 ghost use Rattle.parking_lot_world.specs.Rows.{state};
 ghost use Rattle.parking_lot_waits_world.specs.Joint.{mode_at, thread_of, var_at, waiters_of, word_at};
-ghost use Rattle.parking_lot_waits_world.specs.JointLaws.{PartsFit};
 ghost use Rattle.parking_lot_waits_world.specs.JointSides.{queue_at};
-ghost use Rattle.parking_lot_waits_world.specs.JointSteps.{KnownIn};
+ghost use Rattle.parking_lot_waits_world.specs.JointSteps.{AreKnown};
 
 use crate::machines::Machines;
 use parking_lot_core_lot::SizeFault;
@@ -14,30 +13,12 @@ use parking_lot_world::OwnMode;
 use std::alloc::Allocator;
 
 impl<A: Allocator> Machines<A> {
-    /// What holds of the machine at every moment. It does nothing.
+    /// What holds of the machines at every moment. It does nothing.
     pub fn known(&self)
         ensures locks { FitsTogether (state self.now.rows) }
+        ensures variables { AreKnown self.now.vars }
     {
         self.rows.known();
-    }
-
-    /// What holds of a condition variable at every moment. It does nothing.
-    pub fn known_at(&self, variable: usize)
-        ensures { KnownIn (var_at self.now variable) }
-    {
-        if let Some(Some(machine)) = self.vars.get(variable) {
-            machine.known();
-        }
-    }
-
-    /// What holds of the locks, and of the variable at which a thread has its seat, at every moment. It does nothing.
-    pub fn known_of(&self, thread: usize)
-        ensures { PartsFit self.now thread }
-    {
-        self.known();
-        if let Some(variable) = self.seat(thread).at {
-            self.known_at(variable);
-        }
     }
 
     /// The word of a lock. That of a condition variable is 0 where nobody waits, and else the number of the mutex that all wait with, and 1 more.

@@ -1,12 +1,13 @@
 //! The machine of locks and condition variables: threads at both, moved one atomic step at a time.
-ghost use Rattle.std.specs.Prelude.{◌≡◌, ◌<◌, ◌≤◌, ◌*◌, ◌↔◌, ◌⊎◌, ◌^◌, length, map, replicate, true, IsErrOf, IfOk};
-ghost use Rattle.parking_lot_core_lot.specs.declared.fault.SizeFault.TheVariants.{BadSize};
+ghost use Rattle.std.specs.Prelude.{◌≡◌, ◌<◌, ◌≤◌, ◌*◌, ◌↔◌, ◌⊎◌, ◌^◌, length, map, replicate, true, IsErrOf, IfErr, IfOk};
+ghost use Rattle.parking_lot_core_lot.specs.declared.fault.SizeFault.TheVariants.{BadSize, NoMemory};
 ghost use Rattle.parking_lot_world.specs.Machines.{at_rest};
-ghost use Rattle.parking_lot_world.specs.RowFits.{FitsTogether};
 ghost use Rattle.parking_lot_world.specs.Rows.{state};
 ghost use Rattle.parking_lot_waits_world.specs.Joint.{call_at, is_var, mode_at, nowhere, seat_at, thread_of, var_at, waiters_of, word_at};
 ghost use Rattle.parking_lot_waits_world.specs.JointMoves.{may_ask, may_call_at, may_expire, may_go};
-ghost use Rattle.parking_lot_waits_world.specs.JointSteps.{IsAsked, IsCalled, IsGone, IsLate, KnownIn, var_of};
+ghost use Rattle.parking_lot_waits_world.specs.JointLaws.{PartsFit};
+ghost use Rattle.parking_lot_waits_world.specs.JointSides.{enters, is_busy, is_indebted, is_open, lock_call, queue_at};
+ghost use Rattle.parking_lot_waits_world.specs.JointSteps.{IsAsked, IsCalled, IsGone, IsLate, var_of};
 ghost use Rattle.parking_lot_waits_world.specs.Whole.{IsWhole};
 
 use crate::ended::Ended;
@@ -15,7 +16,7 @@ use crate::machines::Machines;
 use crate::seat::Seat;
 use parking_lot_condvar_world::{CondvarCall, OpenCall};
 use parking_lot_core_lot::SizeFault;
-use parking_lot_world::{LockCall, LockKind, OwnMode, RowMachine};
+use parking_lot_world::{Call, LockCall, LockKind, OwnMode, RowMachine};
 use std::alloc::{Allocator, Global};
 use std::marker::Model;
 
@@ -123,19 +124,57 @@ impl<A: Allocator> WaitMachine<A> {
         self.machines.thread_of(number)
     }
 
+    /// Whether a thread is in a call.
+    pub fn is_busy(&self, thread: usize) -> bool
+        ensures { result ≡ is_busy self.now thread }
+    {
+        self.machines.is_busy(thread)
+    }
+
+    /// Whether a thread's next step enters a section, of a lock or a variable.
+    pub fn enters(&self, thread: usize) -> bool
+        ensures { result ≡ enters self.now thread }
+    {
+        self.machines.enters(thread)
+    }
+
+    /// Whether a section is open, of a lock or a variable.
+    pub fn is_open(&self) -> bool
+        ensures { result ≡ is_open self.now }
+    {
+        self.machines.is_open()
+    }
+
+    /// The call that a thread is in at a lock.
+    pub fn lock_call(&self, thread: usize) -> Option<Call>
+        ensures { result ≡ lock_call self.now thread }
+    {
+        self.machines.lock_call(thread)
+    }
+
+    /// Whether a thread owes a section or a wake, or is about to retry: by one of its numbers at the locks, or at a variable.
+    pub fn is_in_debt(&self, thread: usize) -> bool
+        ensures { result ≡ is_indebted self.now thread }
+    {
+        self.machines.is_in_debt(thread)
+    }
+
     /// What holds of the machine at every moment. It does nothing.
     pub fn known(&self)
-        ensures locks { FitsTogether (state self.now.rows) }
         ensures whole { IsWhole self.now }
+        ensures parts { PartsFit self.now }
     {
         self.machines.known();
     }
+}
 
-    /// What holds of a condition variable at every moment. It does nothing.
-    pub fn known_at(&self, variable: usize)
-        ensures { KnownIn (var_at self.now variable) }
+impl<A: Allocator + Clone + Drop> WaitMachine<A> {
+    /// The threads of that key's list, in order. A lock has two keys: twice its number, and one more; the list of a condition variable is the first.
+    pub fn queue(&self, key: usize) -> Result<Vec<usize, A>, SizeFault>
+        ensures ok { IfOk result (λ threads. threads.items ≡ queue_at self.now key) }
+        ensures err { IfErr result (λ fault. fault ≡ NoMemory) }
     {
-        self.machines.known_at(variable);
+        self.machines.queue(key)
     }
 }
 
@@ -194,7 +233,7 @@ impl<A: Allocator> WaitMachine<A> {
         ensures { IsGone thread fair result self.old self.new }
     {
         stays_whole();
-        self.machines.known_of(thread);
+        self.machines.known();
         self.machines.step(thread, fair)
     }
 
@@ -205,7 +244,7 @@ impl<A: Allocator> WaitMachine<A> {
         ensures { IsLate thread self.old self.new }
     {
         stays_whole();
-        self.machines.known_of(thread);
+        self.machines.known();
         self.machines.deadline(thread);
     }
 }

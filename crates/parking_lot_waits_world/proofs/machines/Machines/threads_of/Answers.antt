@@ -1,7 +1,7 @@
 use Rattle.std.proofs.Common.{◌++◌, ◌∷◌, [], length, map, take, slice_index_or, sym, ap, ◌∙◌, arith}
 use Rattle.std.proofs.lemmas.List.{length_push, take_more, take_all, map-append}
 use Rattle.parking_lot_waits_world.specs.Joint.{thread_of}
-use Rattle.parking_lot_waits_world.proofs.wait_machine.WaitMachine.threads_of.Goals as goal
+use Rattle.parking_lot_waits_world.proofs.machines.Machines.threads_of.Goals as goal
 
 pub loop-number-init : goal.loop-number-init
 loop-number-init g c = record { listed = c.in_ok-threads.ensures.items; few = omega (arith, ap length c.in_ok-threads.ensures.items); room = omega (arith, c.in_ok-threads.ensures.capacity) }

@@ -1,7 +1,7 @@
 use Rattle.std.proofs.Common.{◌≡◌, ◌≤◌, length, map, take}
 use Rattle.std.specs.Prelude.{vec_capacity}
 use Rattle.parking_lot_waits_world.specs.Joint.{thread_of}
-use Rattle.parking_lot_waits_world.proofs.wait_machine.WaitMachine.threads_of.Given as goal
+use Rattle.parking_lot_waits_world.proofs.machines.Machines.threads_of.Given as goal
 
 -- the threads of the numbers so far, and room for the rest
 abbrev pub invariant-loop-number : goal.invariant-loop-number
