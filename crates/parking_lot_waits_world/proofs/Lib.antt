@@ -19,3 +19,4 @@ pub mod Ending
 pub mod ActsKept
 pub mod ActsTurns
 pub mod FollowsKept
+pub mod TakenOff
