@@ -1,5 +1,5 @@
--- Where a machine is whole, a step asks for nothing but that its thread doesn't sleep and enters no section while one is open.
-use Rattle.std.proofs.Common.{◌≡◌, ◌≢◌, ◌||◌, inl, inr, ℕ, zero, suc, ◌+◌, ◌-◌, ◌*◌, ◌<◌, Bool, true, false, not, cond, nat_lt, ◌&&◌, is_some, is_none, List, [], ◌∷◌, length, Option, Some, None, slice_get, refl, sym, ap, ◌∙◌, subst, arith, eqb-true}
+-- Where a machine is whole, what a step needs at the locks is so.
+use Rattle.std.proofs.Common.{◌≡◌, ◌≢◌, ◌||◌, inl, inr, ℕ, zero, suc, ◌+◌, ◌-◌, ◌*◌, ◌<◌, Bool, true, false, not, cond, ◌&&◌, is_some, is_none, List, [], ◌∷◌, length, Option, Some, None, slice_get, refl, sym, ap, ◌∙◌, subst, arith, eqb-true}
 use Rattle.std.specs.List.{list_all, list_any}
 use Rattle.std.specs.Option.{option_and_then, option_map, option_map_or}
 use Rattle.std.proofs.lemmas.Bool.{lt-ltb}
@@ -34,11 +34,11 @@ use Rattle.parking_lot_waits_world.proofs.Notifying.{Marking, is_moving, marking
 use Rattle.parking_lot_waits_world.specs.declared.turn.Turn.{Turn}
 use Rattle.parking_lot_waits_world.specs.declared.turn.Turn.TheVariants as turn
 use Rattle.parking_lot_waits_world.specs.Joint.{Joint, back_number, call_at, call_in, front_number, is_entered, seat_at, var_at}
-use Rattle.parking_lot_waits_world.specs.JointLaws.{StepsAskNoMore}
-use Rattle.parking_lot_waits_world.specs.JointMoves.{may_go_as, may_go_at, may_move, may_move_all, may_turn}
+use Rattle.parking_lot_waits_world.specs.JointLaws.{PartsFit}
 use Rattle.parking_lot_waits_world.specs.JointSteps.{KnownIn}
+use Rattle.parking_lot_waits_world.specs.Ready.{call_is_ready, is_ready, may_move, may_move_all, seat_is_ready, turn_is_ready}
 use Rattle.parking_lot_waits_world.specs.Turns.{is_at_mutex, mutex_of, notify_turn, turn_by, turn_of, wait_turn}
-use Rattle.parking_lot_waits_world.specs.Whole.{AtMutex, Owns, Away, Asks, IsSo, IsWhole, Stands, Waits, back_of, front_of, named, place_of, simply_goes_as, simply_goes_at, simply_turns}
+use Rattle.parking_lot_waits_world.specs.Whole.{AtMutex, Owns, Away, Asks, IsSo, IsWhole, Stands, Waits, back_of, front_of, named, place_of}
 
 both : (a b : Bool) → a ≡ true → b ≡ true → (a && b) ≡ true
 both true b x y = y
@@ -257,10 +257,6 @@ module _ (j : Joint) (h : IsWhole j) (v : ℕ) (x : Var) (at : var_at j v ≡ So
 
 -- WHAT A TURN NEEDS
 
-and_right : (a b : Bool) → b ≡ true → (a && b) ≡ a
-and_right true b e = e
-and_right false b e = refl
-
 -- what its thread's numbers are at the mutex then
 abbrev Needs : Turn → AtMutex → AtMutex → Type 0
 Needs turn.GivesUp front back = front ≡ Owns
@@ -322,22 +318,22 @@ module _ (j : Joint) (h : IsWhole j) (fits : FitsTogether (state j.rows)) (v t :
   low_number : (second : Bool) → t < length j.seats → cond second (length j.seats + t) t < length (state j.rows).calls
   low_number second low = subst (λ m. cond second (length j.seats + t) t < m) (sym h.numbers) (number_low (length j.seats) t second low)
 
-  by_turn : (p : WaitPhase) (x : Turn) → t < length j.seats → Waits j t c p → Needs x (front_of p) (back_of c.listed p) → may_turn x j t v c ≡ simply_turns x j t v c
+  by_turn : (p : WaitPhase) (x : Turn) → t < length j.seats → Waits j t c p → Needs x (front_of p) (back_of c.listed p) → turn_is_ready x j t v c ≡ true
   by_turn p turn.Sleeps low s need = refl
   by_turn p turn.Acts low s need = refl
   by_turn p turn.GivesUp low s need =
-      and_right _ _ (may_unlock (state j.rows) (front_number j t) (mutex_of c.call) (low_number (not (seat_at j t).second) low) s.mutex.kind (subst (λ (a : AtMutex). IsSo a (state j.rows) (front_number j t) (mutex_of c.call)) need s.front))
+      may_unlock (state j.rows) (front_number j t) (mutex_of c.call) (low_number (not (seat_at j t).second) low) s.mutex.kind (subst (λ (a : AtMutex). IsSo a (state j.rows) (front_number j t) (mutex_of c.call)) need s.front)
   by_turn p turn.LocksAgain low s need =
-      and_right _ _ (may_lock (state j.rows) (back_number j t) (mutex_of c.call) (low_number (seat_at j t).second low) s.mutex.kind (subst (λ (a : AtMutex). IsSo a (state j.rows) (back_number j t) (mutex_of c.call)) need s.back))
+      may_lock (state j.rows) (back_number j t) (mutex_of c.call) (low_number (seat_at j t).second low) s.mutex.kind (subst (λ (a : AtMutex). IsSo a (state j.rows) (back_number j t) (mutex_of c.call)) need s.back)
   by_turn p turn.Unlocks low s need = refl
   by_turn p turn.Follows low s need =
-      and_right _ _ (is_there (state j.rows) (back_number j t) (mutex_of c.call) fits s.mutex.kind (subst (λ (a : AtMutex). IsSo a (state j.rows) (back_number j t) (mutex_of c.call)) need s.back))
+      is_there (state j.rows) (back_number j t) (mutex_of c.call) fits s.mutex.kind (subst (λ (a : AtMutex). IsSo a (state j.rows) (back_number j t) (mutex_of c.call)) need s.back)
   by_turn p turn.Locks low s need = refl
   by_turn p turn.ComesBack low s need = refl
   by_turn p turn.Hears low s need = refl
   by_turn p turn.Moves low s need = absurd need
 
-  by_notice : (x : Turn) → (is_moving x ≡ true → may_move_all j (var_at j v) ≡ true) → NotOfWait x → may_turn x j t v c ≡ simply_turns x j t v c
+  by_notice : (x : Turn) → (is_moving x ≡ true → may_move_all j (var_at j v) ≡ true) → NotOfWait x → turn_is_ready x j t v c ≡ true
   by_notice turn.Sleeps moves is = refl
   by_notice turn.Acts moves is = refl
   by_notice turn.GivesUp moves is = absurd is
@@ -349,23 +345,23 @@ module _ (j : Joint) (h : IsWhole j) (fits : FitsTogether (state j.rows)) (v t :
   by_notice turn.Hears moves is = refl
   by_notice turn.Moves moves is = moves refl
 
-  at_var : (o : Option Var) → var_at j v ≡ o → KnownIn o → call_in o t ≡ Some c → (k : Core) → c.core ≡ k → Stands j t c k → may_turn (turn_by c.listed k) j t v c ≡ simply_turns (turn_by c.listed k) j t v c
+  at_var : (o : Option Var) → var_at j v ≡ o → KnownIn o → call_in o t ≡ Some c → (k : Core) → c.core ≡ k → Stands j t c k → turn_is_ready (turn_by c.listed k) j t v c ≡ true
   at_var None at known here k is stands = absurd (none-some c here)
   at_var (Some x) at known here (core.Wait k) is stands = by_turn k.phase (wait_turn c.listed k.phase) (thread_low j h v x at known t c here) stands (stood c.listed k.phase)
   at_var (Some x) at known here (core.Notify k) is stands =
       by_notice (notify_turn k.phase) (λ e. ap (λ (o : Option Var). may_move_all j o) at ∙ moves_all j h v x at known t c here (marking c (ap (λ (d : Core). is_moving (turn_by c.listed d)) is ∙ e))) (not_of_wait k.phase)
 
-  pub turns_simply : KnownIn (var_at j v) → call_at j v t ≡ Some c → may_turn (turn_of c) j t v c ≡ simply_turns (turn_of c) j t v c
-  turns_simply known here = at_var (var_at j v) refl known here c.core refl (h.stands v t c here)
+  pub turn_ready : KnownIn (var_at j v) → call_at j v t ≡ Some c → turn_is_ready (turn_of c) j t v c ≡ true
+  turn_ready known here = at_var (var_at j v) refl known here c.core refl (h.stands v t c here)
 
--- so a thread may make a step exactly where it can
-pub goes_simply : StepsAskNoMore
-goes_simply j t h fits known = ap (λ b. nat_lt t (length j.seats) && b) (by_seat (seat_at j t).at)
+-- so what a thread's step needs is so
+pub is_ready_then : (j : Joint) (t : ℕ) → IsWhole j → PartsFit j t → is_ready j t ≡ true
+is_ready_then j t h fits = by_seat (seat_at j t).at refl
   where
-    by_call : (v : ℕ) (o : Option OpenCall) → call_at j v t ≡ o → may_go_as o j t v ≡ simply_goes_as o j t v
-    by_call v None here = refl
-    by_call v (Some c) here = turns_simply j h fits v t c (known v) here
+    by_call : (v : ℕ) (o : Option OpenCall) → KnownIn (var_at j v) → call_at j v t ≡ o → call_is_ready o j t v ≡ true
+    by_call v None known here = refl
+    by_call v (Some c) known here = turn_ready j h fits.rows v t c known here
 
-    by_seat : (o : Option ℕ) → may_go_at o j t ≡ simply_goes_at o j t
-    by_seat None = refl
-    by_seat (Some v) = by_call v (call_at j v t) refl
+    by_seat : (o : Option ℕ) → (seat_at j t).at ≡ o → seat_is_ready o j t ≡ true
+    by_seat None at = refl
+    by_seat (Some v) at = by_call v (call_at j v t) (fits.vars v at) refl

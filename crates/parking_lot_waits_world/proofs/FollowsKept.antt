@@ -55,7 +55,7 @@ still_asleep : {X : Type 0} (b : Bool) → sleeps_or b turn.Follows ≡ turn.Com
 still_asleep true e = absurd cc
 still_asleep false e = absurd cc
 
-module _ (i j : Joint) (t v : ℕ) (c : OpenCall) (h : IsWhole i) (fits : PartsFit i) (here : call_at i v t ≡ Some c) (seats : j.seats ≡ i.seats) where
+module _ (i j : Joint) (t v : ℕ) (c : OpenCall) (h : IsWhole i) (fits : PartsFit i t) (here : call_at i v t ≡ Some c) (seats : j.seats ≡ i.seats) where
   abbrev back : ℕ
   back = back_number i t
 
@@ -119,7 +119,7 @@ not_late : (c : RowCore) → is_late c ≡ false → asks c ≡ true → asks_on
 not_late (row_core.Mutex k) e f = f
 not_late c e f = absurd cc
 
-stays_on : (s m u : State) (k : ℕ) → Stays s m k → Stays m u k → Stays s u k
+pub stays_on : (s m u : State) (k : ℕ) → Stays s m k → Stays m u k → Stays s u k
 stays_on s m u k x y = record {
   same = record { place = y.same.place ∙ x.same.place; holds = λ n. y.same.holds n ∙ x.same.holds n };
   giving = λ n at. y.giving n (x.giving n at);
@@ -138,7 +138,7 @@ pub record Off (c : OpenCall) (p : WaitPhase) : Type 0 where
   pub fronts : (token : UnparkToken) → front_of (to token) ≡ Away
   pub backs : (token : UnparkToken) → back_of c.listed (to token) ≡ woken_by (token.0 == 1)
 
-module _ (i j : Joint) (t v : ℕ) (c : OpenCall) (p : WaitPhase) (h : IsWhole i) (fits : PartsFit i) (here : call_at i v t ≡ Some c) (seats : j.seats ≡ i.seats) (o : Off c p) where
+module _ (i j : Joint) (t v : ℕ) (c : OpenCall) (p : WaitPhase) (h : IsWhole i) (fits : PartsFit i t) (here : call_at i v t ≡ Some c) (seats : j.seats ≡ i.seats) (o : Off c p) where
   abbrev s : State
   s = state i.rows
 
@@ -293,7 +293,7 @@ off_by c (w.Leaves true) at e = absurd cc
 off_by c (w.Leaves false) at e = absurd cc
 off_by c p at e = absurd cc
 
-pub follows_keep : (i j : Joint) (t v : ℕ) (fair : Bool) (c : OpenCall) → IsWhole i → PartsFit i → call_at i v t ≡ Some c → j.seats ≡ i.seats → turn_of c ≡ turn.Follows → row_goes i (back_number i t) ≡ true → IsFollowing t v (back_number i t) fair c i j → IsWhole j
+pub follows_keep : (i j : Joint) (t v : ℕ) (fair : Bool) (c : OpenCall) → IsWhole i → PartsFit i t → call_at i v t ≡ Some c → j.seats ≡ i.seats → turn_of c ≡ turn.Follows → row_goes i (back_number i t) ≡ true → IsFollowing t v (back_number i t) fair c i j → IsWhole j
 follows_keep i j t v fair c h fits here seats e can x = by_core c.core refl e
   where
     notify_never : {X : Type 0} (p : NotifyPhase) → notify_turn p ≡ turn.Follows → X

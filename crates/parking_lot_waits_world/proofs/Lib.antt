@@ -1,3 +1,4 @@
+pub mod KeptWhole
 pub mod NewWhole
 pub mod MutexSteps
 pub mod MutexTurns
@@ -20,3 +21,4 @@ pub mod ActsKept
 pub mod ActsTurns
 pub mod FollowsKept
 pub mod TakenOff
+pub mod TakenIn

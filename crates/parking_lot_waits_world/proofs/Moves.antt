@@ -22,7 +22,7 @@ use Rattle.parking_lot_world.specs.Requeues.{IsAttended, IsRousedIn, IsTakenIn, 
 use Rattle.parking_lot_world.specs.Rows.{State, hold_in, state, word_at}
 use Rattle.parking_lot_waits_world.specs.declared.seat.Seat.{Seat}
 use Rattle.parking_lot_waits_world.specs.Joint.{Joint, lock_of, nowhere}
-use Rattle.parking_lot_waits_world.specs.JointMoves.{may_move_all}
+use Rattle.parking_lot_waits_world.specs.Ready.{may_move_all}
 use Rattle.parking_lot_waits_world.specs.JointSteps.{KnownIn, MayMoveIn, is_locked, takes_now}
 use Rattle.parking_lot_waits_world.specs.Moving.{MayMove, MayMoveAs, back_in, taken_of, timed_in}
 use Rattle.parking_lot_waits_world.proofs.Hearing.{both_true}

@@ -35,7 +35,7 @@ use Rattle.parking_lot_waits_world.proofs.Seating.{stays_there}
 
 -- A STEP AT THE MUTEX BY ONE OF ITS NUMBERS
 
-module _ (i j : Joint) (t v : ℕ) (c : OpenCall) (p : WaitPhase) (h : IsWhole i) (fits : PartsFit i) (here : call_at i v t ≡ Some c) (core_is : c.core ≡ core.Wait (record { phase = p })) (seats : j.seats ≡ i.seats) where
+module _ (i j : Joint) (t v : ℕ) (c : OpenCall) (p : WaitPhase) (h : IsWhole i) (fits : PartsFit i t) (here : call_at i v t ≡ Some c) (core_is : c.core ≡ core.Wait (record { phase = p })) (seats : j.seats ≡ i.seats) where
   abbrev s : State
   s = state i.rows
 
@@ -79,7 +79,7 @@ enters_beside i k fair a u can x = ap (λ (o : Option Call). not (option_map_or 
 
 -- IT GIVES THE MUTEX UP
 
-module _ (i j : Joint) (t v n : ℕ) (c : OpenCall) (fair : Bool) (h : IsWhole i) (fits : PartsFit i) (here : call_at i v t ≡ Some c) (core_is : c.core ≡ core.Wait (record { phase = w.Unlocks n })) (seats : j.seats ≡ i.seats) where
+module _ (i j : Joint) (t v n : ℕ) (c : OpenCall) (fair : Bool) (h : IsWhole i) (fits : PartsFit i t) (here : call_at i v t ≡ Some c) (core_is : c.core ≡ core.Wait (record { phase = w.Unlocks n })) (seats : j.seats ≡ i.seats) where
   gave_up : (enters : Bool) (a : Option CoreAnswer) → not (enters && is_open_at_variables i) ≡ true → Goes a enters (front_number i t) (state i.rows) (state j.rows) → HearsOf a t v i j → IsWhole j
   gave_up enters None may x vars =
       goes_there i j t v c (w.Unlocks n) h fits here core_is seats enters (went_rows i j t v c (w.Unlocks n) h fits here core_is seats (not (seat_at i t).second) enters None x)
@@ -114,7 +114,7 @@ back_ends : (timed_out listed : Bool) → back_of listed (end_phase timed_out) �
 back_ends true listed = refl
 back_ends false listed = refl
 
-module _ (i j : Joint) (t v : ℕ) (timed_out : Bool) (c : OpenCall) (fair : Bool) (h : IsWhole i) (fits : PartsFit i) (here : call_at i v t ≡ Some c) (core_is : c.core ≡ core.Wait (record { phase = w.Locks timed_out })) (seats : j.seats ≡ i.seats) where
+module _ (i j : Joint) (t v : ℕ) (timed_out : Bool) (c : OpenCall) (fair : Bool) (h : IsWhole i) (fits : PartsFit i t) (here : call_at i v t ≡ Some c) (core_is : c.core ≡ core.Wait (record { phase = w.Locks timed_out })) (seats : j.seats ≡ i.seats) where
   locked : (enters : Bool) (a : Option CoreAnswer) → not (enters && is_open_at_variables i) ≡ true → Goes a enters (back_number i t) (state i.rows) (state j.rows) → HearsOf a t v i j → IsWhole j
   locked enters None may x vars =
       goes_there i j t v c (w.Locks timed_out) h fits here core_is seats enters (went_rows i j t v c (w.Locks timed_out) h fits here core_is seats (seat_at i t).second enters None x)
@@ -149,7 +149,7 @@ expires_as : (c : OpenCall) (left : Bool) (k : Core) → c.core ≡ k → hears_
 expires_as c left (core.Wait k) e may = let (n, p) = sleeps_as (is_timed c.call) c.listed k.phase may in (n, e ∙ ap (λ (q : WaitPhase). core.Wait (record { phase = q })) p)
 expires_as c left (core.Notify k) e may = absurd (not_of_notice c.taken left k.phase may)
 
-module _ (i j : Joint) (t v : ℕ) (c : OpenCall) (h : IsWhole i) (fits : PartsFit i) (here : call_at i v t ≡ Some c) (same_rows : j.rows ≡ i.rows) (seats : j.seats ≡ i.seats) where
+module _ (i j : Joint) (t v : ℕ) (c : OpenCall) (h : IsWhole i) (fits : PartsFit i t) (here : call_at i v t ≡ Some c) (same_rows : j.rows ≡ i.rows) (seats : j.seats ≡ i.seats) where
   all_stay : (k : ℕ) → Stays (state i.rows) (state j.rows) k
   all_stay k = (rows_same i j (λ x. false) same_rows).others k (λ u second e. absurd cc)
 

@@ -79,7 +79,7 @@ none_open (Some k) e f = absurd cc
 
 -- A WAIT AT ITS MUTEX
 
-module _ (i j : Joint) (t v : ℕ) (c : OpenCall) (p : WaitPhase) (h : IsWhole i) (fits : PartsFit i) (here : call_at i v t ≡ Some c) (core_is : c.core ≡ core.Wait (record { phase = p })) where
+module _ (i j : Joint) (t v : ℕ) (c : OpenCall) (p : WaitPhase) (h : IsWhole i) (fits : PartsFit i t) (here : call_at i v t ≡ Some c) (core_is : c.core ≡ core.Wait (record { phase = p })) where
   abbrev s : State
   s = state i.rows
 
@@ -156,7 +156,7 @@ rests_listed : (o : Option Var) (t : ℕ) (c : OpenCall) (n : ℕ) → KnownIn o
 rests_listed None t c n known here is = absurd (none-some c here)
 rests_listed (Some x) t c n known here is = (subst (λ (k : Core). Knows c.call c.listed (length x.calls) x.word (length x.queue) c.taken k) is (known.0.seated t c here).knows).1
 
-pub gives_up : (i j : Joint) (t v n : ℕ) (c : OpenCall) (reply : Option CondvarReply) → IsWhole i → PartsFit i → call_at i v t ≡ Some c → c.core ≡ core.Wait (record { phase = w.Rests n }) → j.seats ≡ freed t reply i.seats
+pub gives_up : (i j : Joint) (t v n : ℕ) (c : OpenCall) (reply : Option CondvarReply) → IsWhole i → PartsFit i t → call_at i v t ≡ Some c → c.core ≡ core.Wait (record { phase = w.Rests n }) → j.seats ≡ freed t reply i.seats
     → ActsAt t v reply i j → rows.IsBegun (front_number i t) (mutex_of c.call) call.Unlock (state i.rows) (state j.rows) → IsWhole j
 gives_up i j t v n c reply h fits here is seats acts x =
     let low = low_at i h v t c here in
@@ -165,12 +165,12 @@ gives_up i j t v n c reply h fits here is seats acts x =
     acted_whole i j t v c (w.Rests n) h fits here is rows (written_holds _ _ _ _ x.became h.holds) (written_sections i j _ _ h x.became) reply seats (w.Unlocks n) (λ y. refl) (λ y. refl) refl acts
     (λ seats plain. stands_at i j t v c (w.Rests n) h fits here is (w.Unlocks n) rows plain stood.names
     (front_now i j t seats Gives (mutex_of c.call) (begun_giving _ _ (front_number i t) _ x (number_low i h t _ low)))
-    (subst (λ (b : Bool). IsSo (away_or_asks b) (state j.rows) (back_number j t) (mutex_of c.call)) (sym (rests_listed (var_at i v) t c n (fits.vars v) here is))
+    (subst (λ (b : Bool). IsSo (away_or_asks b) (state j.rows) (back_number j t) (mutex_of c.call)) (sym (rests_listed (var_at i v) t c n (fits.vars v (h.seated v t c here)) here is))
     (back_still i j t seats Away (mutex_of c.call) (written_stays _ _ _ _ x.became _ (back_differs i t low)) stood.back)))
 
 -- IT BEGINS TO LOCK IT AGAIN
 
-pub locks_again : (i j : Joint) (t v : ℕ) (c : OpenCall) (reply : Option CondvarReply) → IsWhole i → PartsFit i → call_at i v t ≡ Some c → c.core ≡ core.Wait (record { phase = w.Leaves true }) → j.seats ≡ freed t reply i.seats
+pub locks_again : (i j : Joint) (t v : ℕ) (c : OpenCall) (reply : Option CondvarReply) → IsWhole i → PartsFit i t → call_at i v t ≡ Some c → c.core ≡ core.Wait (record { phase = w.Leaves true }) → j.seats ≡ freed t reply i.seats
     → ActsAt t v reply i j → rows.IsBegun (back_number i t) (mutex_of c.call) call.Lock (state i.rows) (state j.rows) → IsWhole j
 locks_again i j t v c reply h fits here is seats acts x =
     let low = low_at i h v t c here in

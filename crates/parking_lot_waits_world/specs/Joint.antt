@@ -23,7 +23,6 @@ use Rattle.parking_lot_world.specs.Rows as row
 use Rattle.parking_lot_world.specs.Stances.{core_act}
 use Rattle.parking_lot_world.specs.Worlds.{mode_in}
 use Rattle.parking_lot_waits_world.specs.declared.seat.Seat.{Seat}
-use Rattle.parking_lot_waits_world.specs.Turns.{is_at_mutex}
 
 pub record Joint : Type 0 where
   -- The locks. Of n threads, thread t has the numbers t and n + t there.
@@ -147,10 +146,6 @@ lock_of (Some x) = x.word - 1
 abbrev pub waiters_of : Option Var → List ℕ
 waiters_of None = []
 waiters_of (Some x) = x.queue
-
--- number k goes on at a mutex
-abbrev pub follows : Joint → ℕ → Bool
-follows j k = row_goes j k && option_map_or (λ c. is_at_mutex c.core) (row.call_at (state j.rows) k) false
 
 -- WHAT IS SEEN
 

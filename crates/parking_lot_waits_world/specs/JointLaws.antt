@@ -6,30 +6,24 @@ use Rattle.parking_lot_condvar_world.specs.MachineLaws.{MayReply}
 use Rattle.parking_lot_world.specs.declared.calls.LockCall.{LockCall}
 use Rattle.parking_lot_world.specs.RowFits.{FitsTogether}
 use Rattle.parking_lot_world.specs.Rows.{state}
-use Rattle.parking_lot_waits_world.specs.Joint.{Joint, var_at}
+use Rattle.parking_lot_waits_world.specs.Joint.{Joint, seat_at, var_at}
 use Rattle.parking_lot_waits_world.specs.declared.ended.Ended.{Ended}
 use Rattle.parking_lot_waits_world.specs.JointMoves.{may_ask, may_call_at, may_expire, may_go}
 use Rattle.parking_lot_waits_world.specs.JointSteps.{GoesAtVariable, IsAsked, IsCalled, IsGone, IsLate, KnownIn}
-use Rattle.parking_lot_waits_world.specs.Whole.{IsWhole, simply_goes}
+use Rattle.parking_lot_waits_world.specs.Whole.{IsWhole}
 
 -- A wait is answered that its deadline came only if it has one; a notification says how many it has taken, one at most if it is of one.
 abbrev pub RepliesFit : Type 0
 RepliesFit = (t v : ℕ) (fair : Bool) (reply : CondvarReply) (i j : Joint) → KnownIn (var_at i v) → (x : GoesAtVariable t v fair (Some reply) i j) → MayReply x.call reply
 
--- Where waits and mutexes are tied together, a thread may make a step exactly where it doesn't sleep and enters no section while one is open.
-abbrev pub StepsAskNoMore : Type 0
-StepsAskNoMore = (j : Joint) (t : ℕ) → IsWhole j → FitsTogether (state j.rows) → ((v : ℕ) → KnownIn (var_at j v)) → may_go j t ≡ simply_goes j t
-
--- EACH STEP LEAVES THEM TIED TOGETHER
-
--- what each of the two machines keeps by itself
-pub record PartsFit (j : Joint) : Type 0 where
+-- what each of the two machines keeps by itself: the locks, and the variable at which a thread has its seat
+pub record PartsFit (j : Joint) (t : ℕ) : Type 0 where
   pub rows : FitsTogether (state j.rows)
-  pub vars : (v : ℕ) → KnownIn (var_at j v)
+  pub vars : (v : ℕ) → (seat_at j t).at ≡ Some v → KnownIn (var_at j v)
 
 -- Where waits and mutexes are tied together, a beginning, a step or a deadline that is allowed leaves them so.
 pub record StaysWhole : Type 0 where
-  pub asks : (t lock : ℕ) (c : LockCall) (i j : Joint) → IsWhole i → PartsFit i → PartsFit j → may_ask i t lock c ≡ true → IsAsked t lock c i j → IsWhole j
-  pub calls : (t v : ℕ) (c : CondvarCall) (i j : Joint) → IsWhole i → PartsFit i → PartsFit j → may_call_at i t v c ≡ true → IsCalled t v c i j → IsWhole j
-  pub steps : (t : ℕ) (fair : Bool) (end : Option Ended) (i j : Joint) → IsWhole i → PartsFit i → PartsFit j → may_go i t ≡ true → IsGone t fair end i j → IsWhole j
-  pub deadlines : (t : ℕ) (i j : Joint) → IsWhole i → PartsFit i → PartsFit j → may_expire i t ≡ true → IsLate t i j → IsWhole j
+  pub asks : (t lock : ℕ) (c : LockCall) (i j : Joint) → IsWhole i → may_ask i t lock c ≡ true → IsAsked t lock c i j → IsWhole j
+  pub calls : (t v : ℕ) (c : CondvarCall) (i j : Joint) → IsWhole i → FitsTogether (state i.rows) → may_call_at i t v c ≡ true → IsCalled t v c i j → IsWhole j
+  pub steps : (t : ℕ) (fair : Bool) (end : Option Ended) (i j : Joint) → IsWhole i → PartsFit i t → may_go i t ≡ true → IsGone t fair end i j → IsWhole j
+  pub deadlines : (t : ℕ) (i j : Joint) → IsWhole i → PartsFit i t → may_expire i t ≡ true → IsLate t i j → IsWhole j

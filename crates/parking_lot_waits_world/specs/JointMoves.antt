@@ -1,6 +1,5 @@
 -- Which calls a thread may begin, and which steps it may make.
-use Rattle.std.specs.Prelude.{ℕ, ◌&&◌, ◌||◌, not, nat_lt, Bool, true, false, length, Option, Some, None, is_some, is_none, slice_get}
-use Rattle.std.specs.List.{list_all}
+use Rattle.std.specs.Prelude.{ℕ, ◌&&◌, ◌||◌, not, nat_lt, Bool, true, false, length, Option, Some, None, is_none, slice_get}
 use Rattle.parking_lot_condvar_world.specs.declared.calls.CondvarCall.{CondvarCall}
 use Rattle.parking_lot_condvar_world.specs.declared.outside.Outside.TheVariants as outside
 use Rattle.parking_lot_condvar_world.specs.declared.open_call.OpenCall.{OpenCall}
@@ -11,12 +10,10 @@ use Rattle.parking_lot_world.specs.declared.calls.LockCall.TheVariants as call
 use Rattle.parking_lot_world.specs.declared.calls.LockKind.{LockKind}
 use Rattle.parking_lot_world.specs.declared.calls.LockKind.TheVariants as kind
 use Rattle.parking_lot_world.specs.Machines as rows
-use Rattle.parking_lot_world.specs.Requeues.{may_rouse_in}
 use Rattle.parking_lot_world.specs.Rows.{state}
 use Rattle.parking_lot_waits_world.specs.declared.turn.Turn.{Turn}
 use Rattle.parking_lot_waits_world.specs.declared.turn.Turn.TheVariants as turn
-use Rattle.parking_lot_waits_world.specs.Joint.{Joint, asking_number, back_number, busy_number, call_at, follows, front_number, is_idle, is_var, row_goes, lock_of, seat_at, var_at, var_goes, var_hears, waiters_of}
-use Rattle.parking_lot_waits_world.specs.Moving.{back_in}
+use Rattle.parking_lot_waits_world.specs.Joint.{Joint, asking_number, back_number, busy_number, call_at, front_number, is_idle, is_var, row_goes, seat_at, var_at, var_goes, var_hears}
 use Rattle.parking_lot_waits_world.specs.Turns.{is_wait, mutex_of, turn_of}
 
 -- whether a thread is in no call
@@ -45,28 +42,20 @@ may_call (Some x) t c = var.may_begin x t c
 abbrev pub may_call_at : Joint → ℕ → ℕ → CondvarCall → Bool
 may_call_at j t v c = nat_lt t (length j.seats) && (is_free j t && (may_call (var_at j v) t c && (not (is_wait c) || has_mutex j t (mutex_of c))))
 
--- WHO WAITS
-
--- the waiter may be woken to ask for the mutex, or moved into its list
-abbrev pub may_move : Joint → ℕ → ℕ → Bool
-may_move j lock t = nat_lt t (length j.seats) && may_rouse_in (state j.rows) (back_in j.seats t) lock
-
-abbrev pub may_move_all : Joint → Option Var → Bool
-may_move_all j o = is_some o && list_all (may_move j (lock_of o)) (waiters_of o)
-
 -- STEPS
 
+-- A thread's turn can be taken: it doesn't sleep, and enters no section while one is open.
 abbrev pub may_turn : Turn → Joint → ℕ → ℕ → OpenCall → Bool
 may_turn turn.Sleeps j t v c = false
 may_turn turn.Acts j t v c = var_goes j t c (var_at j v)
-may_turn turn.GivesUp j t v c = var_goes j t c (var_at j v) && rows.may_begin (state j.rows) (front_number j t) (mutex_of c.call) call.Unlock
-may_turn turn.LocksAgain j t v c = var_goes j t c (var_at j v) && rows.may_begin (state j.rows) (back_number j t) (mutex_of c.call) call.Lock
+may_turn turn.GivesUp j t v c = var_goes j t c (var_at j v)
+may_turn turn.LocksAgain j t v c = var_goes j t c (var_at j v)
 may_turn turn.Unlocks j t v c = row_goes j (front_number j t)
-may_turn turn.Follows j t v c = follows j (back_number j t)
+may_turn turn.Follows j t v c = row_goes j (back_number j t)
 may_turn turn.Locks j t v c = row_goes j (back_number j t)
 may_turn turn.ComesBack j t v c = true
 may_turn turn.Hears j t v c = true
-may_turn turn.Moves j t v c = may_move_all j (var_at j v)
+may_turn turn.Moves j t v c = true
 
 abbrev pub may_go_as : Option OpenCall → Joint → ℕ → ℕ → Bool
 may_go_as None j t v = false

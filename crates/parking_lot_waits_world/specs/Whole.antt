@@ -1,5 +1,5 @@
 -- What ties waits and mutexes together: which call each of a waiter's two numbers is in at the mutex, and what it owns there.
-use Rattle.std.specs.Prelude.{◌≡◌, ◌≢◌, ◌⊎◌, ℕ, ◌*◌, ◌==◌, ◌&&◌, not, nat_lt, Bool, true, false, length, Option, Some, None, slice_get}
+use Rattle.std.specs.Prelude.{◌≡◌, ◌≢◌, ◌⊎◌, ℕ, ◌*◌, ◌==◌, not, Bool, true, false, length, Option, Some, None, slice_get}
 use Rattle.std.specs.Option.{option_map}
 use Rattle.parking_lot_protocol.specs.declared.act.CoreAnswer.TheVariants as answer
 use Rattle.parking_lot_protocol.specs.declared.mutex_phase.MutexPhase.{MutexPhase}
@@ -19,10 +19,9 @@ use Rattle.parking_lot_world.specs.declared.seat.Core.{Core as RowCore}
 use Rattle.parking_lot_world.specs.declared.seat.Core.TheVariants as row_core
 use Rattle.parking_lot_world.specs.Beginnings.{excludes, owns_nothing}
 use Rattle.parking_lot_world.specs.Rows.{State, call_at as row_call_at, hold_at, state}
-use Rattle.parking_lot_waits_world.specs.declared.turn.Turn.{Turn}
 use Rattle.parking_lot_waits_world.specs.declared.turn.Turn.TheVariants as turn
-use Rattle.parking_lot_waits_world.specs.Joint.{Joint, back_number, busy_number, call_at, front_number, is_entered, is_open_at_variables, number, row_goes, seat_at, var_at, var_goes}
-use Rattle.parking_lot_waits_world.specs.Turns.{mutex_of, notify_turn, turn_of}
+use Rattle.parking_lot_waits_world.specs.Joint.{Joint, back_number, call_at, front_number, is_entered, is_open_at_variables, number, seat_at, var_at}
+use Rattle.parking_lot_waits_world.specs.Turns.{mutex_of, notify_turn}
 
 -- WHAT A CALL AT A MUTEX IS FOR
 
@@ -224,30 +223,3 @@ pub record IsWhole (j : Joint) : Type 0 where
   -- no section of a variable is open beside one of a lock, or of another variable
   pub sections : ((state j.rows).lot.section ≡ None) ⊎ (is_open_at_variables j ≡ false)
   pub alone : (v u : ℕ) → is_entered_at j v ≡ true → is_entered_at j u ≡ true → v ≡ u
-
--- WHICH STEPS ARE POSSIBLE THEN
-
--- A thread's turn can be taken: it doesn't sleep, and enters no section while one is open. Nothing is asked of the other machine.
-abbrev pub simply_turns : Turn → Joint → ℕ → ℕ → OpenCall → Bool
-simply_turns turn.Sleeps j t v c = false
-simply_turns turn.Acts j t v c = var_goes j t c (var_at j v)
-simply_turns turn.GivesUp j t v c = var_goes j t c (var_at j v)
-simply_turns turn.LocksAgain j t v c = var_goes j t c (var_at j v)
-simply_turns turn.Unlocks j t v c = row_goes j (front_number j t)
-simply_turns turn.Follows j t v c = row_goes j (back_number j t)
-simply_turns turn.Locks j t v c = row_goes j (back_number j t)
-simply_turns turn.ComesBack j t v c = true
-simply_turns turn.Hears j t v c = true
-simply_turns turn.Moves j t v c = true
-
-abbrev pub simply_goes_as : Option OpenCall → Joint → ℕ → ℕ → Bool
-simply_goes_as None j t v = false
-simply_goes_as (Some c) j t v = simply_turns (turn_of c) j t v c
-
-abbrev pub simply_goes_at : Option ℕ → Joint → ℕ → Bool
-simply_goes_at None j t = row_goes j (busy_number j t)
-simply_goes_at (Some v) j t = simply_goes_as (call_at j v t) j t v
-
--- A thread can make a step.
-abbrev pub simply_goes : Joint → ℕ → Bool
-simply_goes j t = nat_lt t (length j.seats) && simply_goes_at (seat_at j t).at j t

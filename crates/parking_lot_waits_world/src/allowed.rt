@@ -1,11 +1,10 @@
 //! Which calls a thread may begin, and which steps it may make.
 ghost use Rattle.std.specs.Prelude.{◌≡◌, ◌<◌, length, Some};
-ghost use Rattle.std.specs.List.{list_all};
-ghost use Rattle.parking_lot_waits_world.specs.Joint.{core_enters, enters_at_lock, follows, is_entry, lock_of, row_goes, var_at, var_goes, var_hears, waiters_of};
-ghost use Rattle.parking_lot_waits_world.specs.JointMoves.{has_mutex, is_free, may_ask, may_call, may_call_at, may_expire, may_expire_as, may_go, may_go_as, may_move, may_move_all, may_turn, sleeps_on};
+ghost use Rattle.parking_lot_waits_world.specs.Joint.{core_enters, enters_at_lock, is_entry, lock_of, row_goes, var_at, var_goes, var_hears, waiters_of};
+ghost use Rattle.parking_lot_waits_world.specs.JointMoves.{has_mutex, is_free, may_ask, may_call, may_call_at, may_expire, may_expire_as, may_go, may_go_as, sleeps_on};
 
-use crate::turn::{Turn, is_at_mutex, is_wait, mutex_of, turn_of};
-use crate::wait_machine::WaitMachine;
+use crate::turn::{Turn, is_wait, mutex_of, turn_of};
+use crate::machines::Machines;
 use parking_lot_condvar_world::{CondvarCall, OpenCall, Outside};
 use parking_lot_protocol::Act;
 use parking_lot_world::{Core, LatePhase, LateRwPhase, LockCall, LockKind};
@@ -41,7 +40,7 @@ fn core_enters(core: Core) -> bool
     }
 }
 
-impl<A: Allocator> WaitMachine<A> {
+impl<A: Allocator> Machines<A> {
     /// Whether a number's next act at a lock enters a section.
     fn enters_at_lock(&self, number: usize) -> bool
         ensures { result ≡ enters_at_lock self.now number }
@@ -57,17 +56,6 @@ impl<A: Allocator> WaitMachine<A> {
         ensures { result ≡ row_goes self.now number }
     {
         self.rows.can_move(number) && !(self.enters_at_lock(number) && self.is_open_at_variables())
-    }
-
-    /// The same, at a mutex.
-    fn follows(&self, number: usize) -> bool
-        ensures { result ≡ follows self.now number }
-    {
-        self.row_goes(number)
-            && match self.rows.call(number) {
-                Some(call) => is_at_mutex(call.core),
-                None => false,
-            }
     }
 
     /// Whether a thread can make its own step at a variable.
@@ -143,13 +131,6 @@ impl<A: Allocator> WaitMachine<A> {
             && (!is_wait(call) || self.has_mutex(thread, mutex_of(call)))
     }
 
-    /// Whether a waiter may be woken to ask for the mutex, or moved into its list.
-    fn may_move(&self, lock: usize, waiter: usize) -> bool
-        ensures { result ≡ may_move self.now lock waiter }
-    {
-        waiter < self.threads() && self.rows.may_rouse_in(self.back_number(waiter), lock)
-    }
-
     /// The number of the mutex that a variable shows; 0 where it shows none.
     pub(crate) fn lock_of(&self, variable: usize) -> usize
         ensures { result ≡ lock_of (var_at self.now variable) }
@@ -170,43 +151,17 @@ impl<A: Allocator> WaitMachine<A> {
         }
     }
 
-    /// Whether each of these waiters may be woken to ask for the mutex, or moved into its list.
-    fn may_move_each(&self, lock: usize, waiters: &[usize]) -> bool
-        ensures { result ≡ list_all (may_move self.now lock) waiters.now }
-    {
-        waiters.iter().all(|waiter| self.may_move(lock, *waiter))
-    }
-
-    /// Whether all may be that wait at a variable.
-    fn may_move_all(&self, variable: usize) -> bool
-        ensures { result ≡ may_move_all self.now (var_at self.now variable) }
-    {
-        self.is_variable(variable)
-            && self.may_move_each(self.lock_of(variable), self.waiters(variable))
-    }
-
     /// Whether a thread in that call at a variable may make its step.
     fn may_turn(&self, thread: usize, variable: usize, call: &OpenCall) -> bool
         requires low { thread < length self.now.seats }
         ensures { result ≡ may_go_as (Some call.now) self.now thread variable }
     {
-        let mutex = mutex_of(call.call);
         match turn_of(call) {
             Turn::Sleeps => false,
-            Turn::Acts => self.var_goes(thread, variable, call),
-            Turn::GivesUp => self.var_goes(thread, variable, call)
-                && self
-                    .rows
-                    .may_begin(self.front_number(thread), mutex, LockCall::Unlock),
-            Turn::LocksAgain => self.var_goes(thread, variable, call)
-                && self
-                    .rows
-                    .may_begin(self.back_number(thread), mutex, LockCall::Lock),
+            Turn::Acts | Turn::GivesUp | Turn::LocksAgain => self.var_goes(thread, variable, call),
             Turn::Unlocks => self.row_goes(self.front_number(thread)),
-            Turn::Follows => self.follows(self.back_number(thread)),
-            Turn::Locks => self.row_goes(self.back_number(thread)),
-            Turn::ComesBack | Turn::Hears => true,
-            Turn::Moves => self.may_move_all(variable),
+            Turn::Follows | Turn::Locks => self.row_goes(self.back_number(thread)),
+            Turn::ComesBack | Turn::Hears | Turn::Moves => true,
         }
     }
 

@@ -1,7 +1,8 @@
 //! Laws of a machine's answers and steps.
-ghost use Rattle.parking_lot_waits_world.specs.JointLaws.{RepliesFit, StaysWhole, StepsAskNoMore};
+ghost use Rattle.parking_lot_waits_world.specs.JointLaws.{RepliesFit, StaysWhole};
 
 use parking_lot_condvar_world::laws as of_variables;
+use parking_lot_world::laws as of_locks;
 
 /// A wait is answered that its deadline came only if it has one; and a notification says how many it has taken, one at most if it is of one.
 pub fn replies_fit_their_calls()
@@ -10,13 +11,9 @@ pub fn replies_fit_their_calls()
     of_variables::replies_fit_their_calls();
 }
 
-/// Where each waiter's two numbers are at its mutex as its wait says, a thread may make a step exactly where it doesn't sleep and enters no section while
-/// one is open.
-pub fn steps_ask_no_more()
-    ensures { StepsAskNoMore }
-{}
-
 /// Where waits and mutexes are tied together, a beginning, a step or a deadline that is allowed leaves them so.
 pub fn stays_whole()
     ensures { StaysWhole }
-{}
+{
+    of_locks::owners_agree();
+}

@@ -4,6 +4,7 @@
 mod allowed;
 mod ended;
 pub mod laws;
+mod machines;
 mod moving;
 mod new_machine;
 mod parts;

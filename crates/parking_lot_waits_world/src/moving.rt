@@ -4,12 +4,12 @@ ghost use Rattle.parking_lot_world.specs.Rows.{state};
 ghost use Rattle.parking_lot_waits_world.specs.Joint.{call_at, lock_of, var_at};
 ghost use Rattle.parking_lot_waits_world.specs.JointSteps.{IsMoving, MayMoveIn, MovesIn, is_locked, takes_now};
 ghost use Rattle.parking_lot_waits_world.specs.declared.turn.Turn.TheVariants as turn;
-ghost use Rattle.parking_lot_waits_world.specs.JointMoves.{may_move_all};
+ghost use Rattle.parking_lot_waits_world.specs.Ready.{may_move_all};
 ghost use Rattle.parking_lot_waits_world.specs.Turns.{turn_of};
 ghost use Rattle.parking_lot_waits_world.specs.Moving.{AreMoved, AreMovedAs, AreTaken, MayMove, MayMoveAs, MayNotifyIn, MayTake, NotifiesIn, back_in, moved_of, taken_of, timed_in};
 
 use crate::seat::{NOWHERE, Seat};
-use crate::wait_machine::WaitMachine;
+use crate::machines::Machines;
 use parking_lot_condvar_world::{CondvarCall, CondvarMachine, OpenCall, Outside};
 use parking_lot_world::RowMachine;
 use std::alloc::Allocator;
@@ -126,7 +126,7 @@ pub(crate) fn move_all<A: Allocator>(
     }
 }
 
-impl<A: Allocator> WaitMachine<A> {
+impl<A: Allocator> Machines<A> {
     /// The mutex that a variable shows, and whether it is locked.
     fn shown(&self, variable: usize) -> (usize, bool)
         ensures lock { result.0 ≡ lock_of (var_at self.now variable) }

@@ -7,13 +7,13 @@ ghost use Rattle.parking_lot_waits_world.specs.Joint.{nowhere};
 ghost use Rattle.parking_lot_waits_world.specs.JointSteps.{var_of};
 
 use crate::seat::NOWHERE;
-use crate::wait_machine::WaitMachine;
+use crate::machines::Machines;
 use parking_lot_condvar_world::CondvarMachine;
 use parking_lot_core_lot::SizeFault;
 use parking_lot_world::{LockKind, RowMachine};
 use std::alloc::Allocator;
 
-impl<A: Allocator + Clone + Drop> WaitMachine<A> {
+impl<A: Allocator + Clone + Drop> Machines<A> {
     /// A machine of so many threads, in no call, of locks of these kinds, which nobody owns, and of condition variables on which nobody waits: 1 to
     /// 65,536 threads, and 1 to 2^20 locks. `variables` says of each lock whether it is a condition variable; the row of such a one is never asked. All
     /// memory that its steps need is taken here.
@@ -22,14 +22,14 @@ impl<A: Allocator + Clone + Drop> WaitMachine<A> {
         threads: usize,
         kinds: Vec<LockKind, A>,
         variables: &[bool],
-    ) -> Result<WaitMachine<A>, SizeFault>
+    ) -> Result<Machines<A>, SizeFault>
         ensures size { IsErrOf result BadSize ↔ ((threads ≡ 0) ⊎ (65536 < threads) ⊎ (length kinds.items ≡ 0) ⊎ (2 ^ 20 < length kinds.items)) }
         ensures rows { IfOk result (λ machine. state machine.rows ≡ at_rest (2 * threads) kinds.items) }
         ensures vars { IfOk result (λ machine. machine.vars ≡ map (var_of threads) variables.now) }
         ensures seats { IfOk result (λ machine. machine.seats ≡ replicate threads nowhere) }
     {
         let rows = RowMachine::new_double(alloc, threads, kinds)?;
-        WaitMachine::over(alloc, threads, rows, variables)
+        Machines::over(alloc, threads, rows, variables)
     }
 
     /// The machine over that one of the locks.
@@ -38,7 +38,7 @@ impl<A: Allocator + Clone + Drop> WaitMachine<A> {
         threads: usize,
         rows: RowMachine<A>,
         variables: &[bool],
-    ) -> Result<WaitMachine<A>, SizeFault>
+    ) -> Result<Machines<A>, SizeFault>
         requires some { 0 < threads }
         requires few { threads ≤ 65536 }
         ensures rows { IfOk result (λ machine. machine.rows ≡ rows) }
@@ -46,7 +46,7 @@ impl<A: Allocator + Clone + Drop> WaitMachine<A> {
         ensures seats { IfOk result (λ machine. machine.seats ≡ replicate threads nowhere) }
         ensures err { IfErr result (λ fault. fault ≡ NoMemory) }
     {
-        Ok(WaitMachine {
+        Ok(Machines {
             rows,
             vars: vars_of(alloc, threads, variables)?,
             seats: vec![in alloc.clone()?; NOWHERE; threads]?,

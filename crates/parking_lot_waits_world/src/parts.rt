@@ -5,11 +5,11 @@ ghost use Rattle.parking_lot_world.specs.Machines as rows;
 ghost use Rattle.parking_lot_world.specs.Rows.{state};
 ghost use Rattle.parking_lot_world.specs.Rows as row;
 ghost use Rattle.parking_lot_condvar_world.specs.declared.outside.Outside.TheVariants.{Made};
-ghost use Rattle.parking_lot_waits_world.specs.Joint.{follows, row_goes, var_acts, var_at, var_hears};
+ghost use Rattle.parking_lot_waits_world.specs.Joint.{row_goes, var_acts, var_at, var_hears};
 ghost use Rattle.parking_lot_waits_world.specs.JointMoves.{may_call};
 ghost use Rattle.parking_lot_waits_world.specs.JointSteps.{ActsAt, ActsIn, BeginsIn, HearsAt, HearsIn, HearsOf};
 
-use crate::wait_machine::WaitMachine;
+use crate::machines::Machines;
 use parking_lot_condvar_world::{CondvarCall, CondvarMachine, CondvarReply, Outside};
 use parking_lot_protocol::CoreAnswer;
 use std::alloc::Allocator;
@@ -50,7 +50,7 @@ fn begin_in<A: Allocator>(place: &mut Option<CondvarMachine<A>>, thread: usize, 
     }
 }
 
-impl<A: Allocator> WaitMachine<A> {
+impl<A: Allocator> Machines<A> {
     /// A call begins at a variable.
     pub(crate) fn begin_at(&mut self, thread: usize, variable: usize, call: CondvarCall)
         requires may { may_call (var_at self.old variable) thread call ≡ true }

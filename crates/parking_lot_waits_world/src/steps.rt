@@ -6,21 +6,22 @@ ghost use Rattle.parking_lot_world.specs.Machines as rows;
 ghost use Rattle.parking_lot_world.specs.Rows.{state};
 ghost use Rattle.parking_lot_world.specs.Rows as row;
 ghost use Rattle.parking_lot_waits_world.specs.declared.turn.Turn.TheVariants as turn;
-ghost use Rattle.parking_lot_waits_world.specs.Joint.{back_number, call_at, follows, nowhere, row_goes, var_acts, var_at, var_hears};
+ghost use Rattle.parking_lot_waits_world.specs.Joint.{back_number, call_at, nowhere, row_goes, var_acts, var_at, var_hears};
 ghost use Rattle.parking_lot_waits_world.specs.JointMoves.{may_ask, may_call_at, may_expire, may_go, may_go_as, may_turn};
 ghost use Rattle.parking_lot_waits_world.specs.JointSteps.{ActsAt, ComesBackIf, GoesAtVariable, HearsAt, IsAsked, IsCalled, IsFollowing, IsGone, IsLate, Turned};
+ghost use Rattle.parking_lot_waits_world.specs.Ready.{call_is_ready, is_ready, is_there, turn_is_ready};
 ghost use Rattle.parking_lot_waits_world.specs.Turns.{is_at_mutex, retried, turn_of, wakes_with};
 
 use crate::ended::Ended;
 use crate::seat::{NOWHERE, Seat};
 use crate::turn::{Turn, is_late, is_wait, mutex_of, turn_of, wakes_with};
-use crate::wait_machine::WaitMachine;
+use crate::machines::Machines;
 use parking_lot_condvar_world::{CondvarCall, CondvarReply, Core, OpenCall, Outside};
 use parking_lot_protocol::{CoreAnswer, HAND_OVER, TRY_AGAIN};
 use parking_lot_world::{Call as RowCall, LockCall};
 use std::alloc::Allocator;
 
-impl<A: Allocator> WaitMachine<A> {
+impl<A: Allocator> Machines<A> {
     /// A thread begins a call at a lock.
     pub fn ask(&mut self, thread: usize, lock: usize, call: LockCall)
         requires may { may_ask self.old thread lock call ≡ true }
@@ -151,7 +152,8 @@ impl<A: Allocator> WaitMachine<A> {
         requires low { thread < length self.old.seats }
         requires here { call_at self.old variable thread ≡ Some call }
         requires turn { turn_of call ≡ turn.Follows }
-        requires can { follows self.old (back_number self.old thread) ≡ true }
+        requires can { row_goes self.old (back_number self.old thread) ≡ true }
+        requires there { is_there self.old (back_number self.old thread) ≡ true }
         ensures follows { IsFollowing thread variable (back_number self.old thread) fair call self.old self.new }
         ensures seats { self.new.seats ≡ self.old.seats }
     {
@@ -174,6 +176,7 @@ impl<A: Allocator> WaitMachine<A> {
         requires low { thread < length self.old.seats }
         requires here { call_at self.old variable thread ≡ Some call }
         requires can { may_turn (turn_of call) self.old thread variable call ≡ true }
+        requires ready { turn_is_ready (turn_of call) self.old thread variable call ≡ true }
         ensures turned { Turned (turn_of call) thread variable fair call result self.old self.new }
         ensures seats { self.new.seats ≡ self.old.seats }
     {
@@ -217,6 +220,7 @@ impl<A: Allocator> WaitMachine<A> {
     fn go_at(&mut self, thread: usize, variable: usize, fair: bool) -> Option<CondvarReply>
         requires low { thread < length self.old.seats }
         requires can { may_go_as (call_at self.old variable thread) self.old thread variable ≡ true }
+        requires ready { call_is_ready (call_at self.old variable thread) self.old thread variable ≡ true }
         ensures { GoesAtVariable thread variable fair result self.old self.new }
     {
         let _ = &self.rows;
@@ -241,6 +245,7 @@ impl<A: Allocator> WaitMachine<A> {
     /// where it did.
     pub fn step(&mut self, thread: usize, fair: bool) -> Option<Ended>
         requires can { may_go self.old thread ≡ true }
+        requires ready { is_ready self.old thread ≡ true }
         ensures { IsGone thread fair result self.old self.new }
     {
         let _ = &self.rows;

@@ -1,15 +1,16 @@
-//! What is seen of a machine of locks and condition variables.
+//! What is seen of the machines.
 ghost use Rattle.std.specs.Prelude.{◌≡◌};
 ghost use Rattle.parking_lot_world.specs.RowFits.{FitsTogether};
 ghost use Rattle.parking_lot_world.specs.Rows.{state};
 ghost use Rattle.parking_lot_waits_world.specs.Joint.{mode_at, thread_of, var_at, word_at};
+ghost use Rattle.parking_lot_waits_world.specs.JointLaws.{PartsFit};
 ghost use Rattle.parking_lot_waits_world.specs.JointSteps.{KnownIn};
 
-use crate::wait_machine::WaitMachine;
+use crate::machines::Machines;
 use parking_lot_world::OwnMode;
 use std::alloc::Allocator;
 
-impl<A: Allocator> WaitMachine<A> {
+impl<A: Allocator> Machines<A> {
     /// What holds of the machine at every moment. It does nothing.
     pub fn known(&self)
         ensures locks { FitsTogether (state self.now.rows) }
@@ -23,6 +24,16 @@ impl<A: Allocator> WaitMachine<A> {
     {
         if let Some(Some(machine)) = self.vars.get(variable) {
             machine.known();
+        }
+    }
+
+    /// What holds of the locks, and of the variable at which a thread has its seat, at every moment. It does nothing.
+    pub fn known_of(&self, thread: usize)
+        ensures { PartsFit self.now thread }
+    {
+        self.known();
+        if let Some(variable) = self.seat(thread).at {
+            self.known_at(variable);
         }
     }
 

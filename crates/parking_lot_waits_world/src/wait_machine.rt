@@ -1,11 +1,21 @@
 //! The machine of locks and condition variables: threads at both, moved one atomic step at a time.
-ghost use Rattle.std.specs.Prelude.{◌≡◌, ◌<◌, length, slice_get, true};
+ghost use Rattle.std.specs.Prelude.{◌≡◌, ◌<◌, ◌≤◌, ◌*◌, ◌↔◌, ◌⊎◌, ◌^◌, length, map, replicate, true, IsErrOf, IfOk};
+ghost use Rattle.parking_lot_core_lot.specs.declared.fault.SizeFault.TheVariants.{BadSize};
+ghost use Rattle.parking_lot_world.specs.Machines.{at_rest};
+ghost use Rattle.parking_lot_world.specs.RowFits.{FitsTogether};
 ghost use Rattle.parking_lot_world.specs.Rows.{state};
-ghost use Rattle.parking_lot_waits_world.specs.Joint.{asking_number, back_number, busy_number, call_at, front_number, has_by_second, is_entered, is_idle, is_open_at_locks, is_open_at_variables, is_var, number, seat_at};
+ghost use Rattle.parking_lot_waits_world.specs.Joint.{call_at, is_var, mode_at, nowhere, seat_at, thread_of, var_at, waiters_of, word_at};
+ghost use Rattle.parking_lot_waits_world.specs.JointMoves.{may_ask, may_call_at, may_expire, may_go};
+ghost use Rattle.parking_lot_waits_world.specs.JointSteps.{IsAsked, IsCalled, IsGone, IsLate, KnownIn, var_of};
+ghost use Rattle.parking_lot_waits_world.specs.Whole.{IsWhole};
 
-use crate::seat::{NOWHERE, Seat};
-use parking_lot_condvar_world::{CondvarMachine, OpenCall};
-use parking_lot_world::{Hold, RowMachine};
+use crate::ended::Ended;
+use crate::laws::stays_whole;
+use crate::machines::Machines;
+use crate::seat::Seat;
+use parking_lot_condvar_world::{CondvarCall, OpenCall};
+use parking_lot_core_lot::SizeFault;
+use parking_lot_world::{LockCall, LockKind, OwnMode, RowMachine};
 use std::alloc::{Allocator, Global};
 use std::marker::Model;
 
@@ -15,22 +25,38 @@ use std::marker::Model;
 /// it to the mutex's list while it is still giving the mutex up.
 #[derive(Drop)]
 pub struct WaitMachine<A: Allocator = Global> {
-    pub(crate) rows: RowMachine<A>,
-    /// By the number of the lock: the condition variables.
-    pub(crate) vars: Vec<Option<CondvarMachine<A>>, A>,
-    /// By the number of the thread.
-    pub(crate) seats: Vec<Seat, A>,
+    machines: Machines<A>,
 }
 
 impl<A: Allocator> Model for WaitMachine<A> {
-    ghost use Rattle.std.specs.Prelude.{◌≤◌, length};
     ghost use Rattle.parking_lot_waits_world.specs.Joint.{Joint};
+    ghost use Rattle.parking_lot_waits_world.specs.Whole.{IsWhole};
 
     ghost Value = { Joint };
 
-    ghost view = { λ m. record { rows = m.rows; vars = m.vars.items; seats = m.seats.items } };
+    ghost view = { λ m. m.machines };
 
-    ghost invariant = { λ m. length m.seats.items ≤ 65536 };
+    ghost invariant = { λ m. IsWhole m.machines };
+}
+
+impl<A: Allocator + Clone + Drop> WaitMachine<A> {
+    /// A machine of so many threads, in no call, of locks of these kinds, which nobody owns, and of condition variables on which nobody waits: 1 to
+    /// 65,536 threads, and 1 to 2^20 locks. `variables` says of each lock whether it is a condition variable; the row of such a one is never asked. All
+    /// memory that its steps need is taken here.
+    pub fn new(
+        alloc: &A,
+        threads: usize,
+        kinds: Vec<LockKind, A>,
+        variables: &[bool],
+    ) -> Result<WaitMachine<A>, SizeFault>
+        ensures size { IsErrOf result BadSize ↔ ((threads ≡ 0) ⊎ (65536 < threads) ⊎ (length kinds.items ≡ 0) ⊎ (2 ^ 20 < length kinds.items)) }
+        ensures rows { IfOk result (λ machine. state machine.rows ≡ at_rest (2 * threads) kinds.items) }
+        ensures vars { IfOk result (λ machine. machine.vars ≡ map (var_of threads) variables.now) }
+        ensures seats { IfOk result (λ machine. machine.seats ≡ replicate threads nowhere) }
+    {
+        let machines = Machines::new(alloc, threads, kinds, variables)?;
+        Ok(WaitMachine { machines })
+    }
 }
 
 impl<A: Allocator> WaitMachine<A> {
@@ -38,132 +64,148 @@ impl<A: Allocator> WaitMachine<A> {
     pub fn threads(&self) -> usize
         ensures { result ≡ length self.now.seats }
     {
-        self.seats.len()
+        self.machines.threads()
     }
 
     /// The machine of the locks. Of n threads, thread t has the numbers t and n + t there.
     pub fn rows(&self) -> &RowMachine<A>
         ensures { result.now ≡ self.now.rows }
     {
-        &self.rows
+        self.machines.rows()
     }
 
     /// Where a thread is in a call at a condition variable.
     pub fn seat(&self, thread: usize) -> Seat
         ensures { result ≡ seat_at self.now thread }
     {
-        self.seats.get(thread).copied().unwrap_or(NOWHERE)
+        self.machines.seat(thread)
     }
 
     /// Whether a lock is a condition variable.
     pub fn is_variable(&self, lock: usize) -> bool
         ensures { result ≡ is_var self.now lock }
     {
-        match self.vars.get(lock) {
-            Some(Some(_)) => true,
-            _ => false,
-        }
+        self.machines.is_variable(lock)
     }
 
     /// The call that a thread is in at a condition variable.
     pub fn call_at(&self, variable: usize, thread: usize) -> Option<OpenCall>
         ensures { result ≡ call_at self.now variable thread }
     {
-        match self.vars.get(variable) {
-            Some(Some(machine)) => machine.call(thread),
-            _ => None,
-        }
+        self.machines.call_at(variable, thread)
     }
 
-    /// One of a thread's two numbers at the locks.
-    pub(crate) fn number(&self, thread: usize, second: bool) -> usize
-        requires low { thread < length self.now.seats }
-        ensures { result ≡ number self.now thread second }
+    /// Who waits at a variable, in the order in which they came.
+    pub fn waiters(&self, variable: usize) -> &[usize]
+        ensures { result.now ≡ waiters_of (var_at self.now variable) }
     {
-        if second {
-            thread + self.seats.len()
-        } else {
-            thread
-        }
+        self.machines.waiters(variable)
+    }
+
+    /// The word of a lock. That of a condition variable is 0 where nobody waits, and else the number of the mutex that all wait with, and 1 more.
+    pub fn word(&self, lock: usize) -> u64
+        ensures { result ≡ word_at self.now lock }
+    {
+        self.machines.word(lock)
+    }
+
+    /// How a thread owns a lock now, by one of its numbers.
+    pub fn owner(&self, thread: usize, lock: usize) -> Option<OwnMode>
+        ensures { result ≡ mode_at self.now thread lock }
+    {
+        self.machines.owner(thread, lock)
+    }
+
+    /// The thread of a number at the locks.
+    pub fn thread_of(&self, number: usize) -> usize
+        ensures { result ≡ thread_of self.now number }
+    {
+        self.machines.thread_of(number)
+    }
+
+    /// What holds of the machine at every moment. It does nothing.
+    pub fn known(&self)
+        ensures locks { FitsTogether (state self.now.rows) }
+        ensures whole { IsWhole self.now }
+    {
+        self.machines.known();
+    }
+
+    /// What holds of a condition variable at every moment. It does nothing.
+    pub fn known_at(&self, variable: usize)
+        ensures { KnownIn (var_at self.now variable) }
+    {
+        self.machines.known_at(variable);
     }
 }
 
 impl<A: Allocator> WaitMachine<A> {
-    /// The number that a wait of the thread sleeps with, and locks its mutex again.
-    pub(crate) fn back_number(&self, thread: usize) -> usize
-        requires low { thread < length self.now.seats }
-        ensures { result ≡ back_number self.now thread }
+    /// Whether a thread may begin a call at a lock: it is in none, the lock is no variable, and what it owns there allows it.
+    pub fn may_ask(&self, thread: usize, lock: usize, call: LockCall) -> bool
+        ensures { result ≡ may_ask self.now thread lock call }
     {
-        self.number(thread, self.seat(thread).second)
+        self.machines.may_ask(thread, lock, call)
     }
 
-    /// The number that gives it up.
-    pub(crate) fn front_number(&self, thread: usize) -> usize
-        requires low { thread < length self.now.seats }
-        ensures { result ≡ front_number self.now thread }
+    /// Whether a thread may begin a call at a condition variable: it is in none, and a wait is with a mutex that it owns.
+    pub fn may_call_at(&self, thread: usize, variable: usize, call: CondvarCall) -> bool
+        ensures { result ≡ may_call_at self.now thread variable call }
     {
-        self.number(thread, !self.seat(thread).second)
+        self.machines.may_call_at(thread, variable, call)
     }
 
-    /// Whether the thread has a lock by its second number.
-    pub(crate) fn has_by_second(&self, thread: usize, lock: usize) -> bool
-        requires low { thread < length self.now.seats }
-        ensures { result ≡ has_by_second self.now thread lock }
+    /// Whether a thread may make a step of its call: it doesn't sleep, and isn't before a section while one is open.
+    pub fn may_go(&self, thread: usize) -> bool
+        ensures { result ≡ may_go self.now thread }
     {
-        match self.rows.hold(self.number(thread, true), lock) {
-            Hold::Excludes => true,
-            Hold::Shares(_) | Hold::Upgrades => false,
-        }
+        self.machines.may_go(thread)
     }
 
-    /// The number by which the thread asks for a lock, and gives it up.
-    pub(crate) fn asking_number(&self, thread: usize, lock: usize) -> usize
-        requires low { thread < length self.now.seats }
-        ensures { result ≡ asking_number self.now thread lock }
+    /// Whether a thread's deadline may come: it sleeps in a list in a timed call, and it hasn't come before.
+    pub fn may_expire(&self, thread: usize) -> bool
+        ensures { result ≡ may_expire self.now thread }
     {
-        self.number(thread, self.has_by_second(thread, lock))
+        self.machines.may_expire(thread)
     }
 
-    /// The number by which the thread is in a call at a lock.
-    pub(crate) fn busy_number(&self, thread: usize) -> usize
-        requires low { thread < length self.now.seats }
-        ensures { result ≡ busy_number self.now thread }
+    /// A thread begins a call at a lock.
+    pub fn ask(&mut self, thread: usize, lock: usize, call: LockCall)
+        requires may { may_ask self.old thread lock call ≡ true }
+        ensures { IsAsked thread lock call self.old self.new }
     {
-        match self.rows.call(thread) {
-            Some(_) => thread,
-            None => self.number(thread, true),
-        }
+        stays_whole();
+        self.machines.ask(thread, lock, call);
     }
 
-    /// Whether the thread is in no call at a lock.
-    pub(crate) fn is_idle(&self, thread: usize) -> bool
-        requires low { thread < length self.now.seats }
-        ensures { result ≡ is_idle self.now thread }
+    /// A thread begins a call at a condition variable.
+    pub fn call(&mut self, thread: usize, variable: usize, call: CondvarCall)
+        requires may { may_call_at self.old thread variable call ≡ true }
+        ensures { IsCalled thread variable call self.old self.new }
     {
-        self.rows.call(thread).is_none() && self.rows.call(self.number(thread, true)).is_none()
+        stays_whole();
+        self.machines.known();
+        self.machines.call(thread, variable, call);
     }
 
-    /// Whether a section of a condition variable is open.
-    pub(crate) fn is_open_at_variables(&self) -> bool
-        ensures { result ≡ is_open_at_variables self.now }
+    /// A thread makes a step. `fair` says whether it hands a lock over, where it stores in the section of an exclusive release. Answers how the call ended,
+    /// where it did.
+    pub fn step(&mut self, thread: usize, fair: bool) -> Option<Ended>
+        requires can { may_go self.old thread ≡ true }
+        ensures { IsGone thread fair result self.old self.new }
     {
-        self.vars.iter().any(|machine| is_entered(machine))
+        stays_whole();
+        self.machines.known_of(thread);
+        self.machines.step(thread, fair)
     }
 
-    /// Whether a section of a lock is open.
-    pub(crate) fn is_open_at_locks(&self) -> bool
-        ensures { result ≡ is_open_at_locks self.now }
+    /// A thread's deadline comes as it sleeps in a list of a timed call. From then on it can move, and takes itself off that list, unless it is taken
+    /// first.
+    pub fn deadline(&mut self, thread: usize)
+        requires may { may_expire self.old thread ≡ true }
+        ensures { IsLate thread self.old self.new }
     {
-        self.rows.lot().is_entered(0)
-    }
-}
-
-/// Whether a section is open at that place, if there is a variable.
-fn is_entered<A: Allocator>(machine: &Option<CondvarMachine<A>>) -> bool
-    ensures { result ≡ is_entered machine.now }
-{
-    match machine {
-        Some(machine) => machine.inside().is_some(),
-        None => false,
+        stays_whole();
+        self.machines.known_of(thread);
+        self.machines.deadline(thread);
     }
 }

@@ -1,11 +1,5 @@
-use Rattle.parking_lot_waits_world.proofs.NewWhole.{new_whole}
-use Rattle.parking_lot_waits_world.proofs.MutexSteps.{unlocks}
-use Rattle.parking_lot_waits_world.proofs.MutexTurns.{heard_whole}
-use Rattle.parking_lot_waits_world.proofs.Beginning.{call_keeps}
-use Rattle.parking_lot_waits_world.proofs.LocksKept.{step_keeps}
-use Rattle.parking_lot_waits_world.proofs.Keeping.{whole_still}
-use Rattle.parking_lot_waits_world.proofs.Seating.{goes_on}
+use Rattle.parking_lot_waits_world.proofs.KeptWhole.{all_stays}
 use Rattle.parking_lot_waits_world.proofs.laws.stays_whole.Goals as goal
 
 pub returns : goal.returns
-returns c = ?
+returns c = all_stays c.owners_agree.ensures

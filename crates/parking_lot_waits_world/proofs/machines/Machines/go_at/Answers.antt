@@ -3,7 +3,7 @@ use Rattle.parking_lot_waits_world.specs.Joint.{Joint, nowhere}
 use Rattle.parking_lot_waits_world.specs.JointSteps.{GoesAtVariable}
 use Rattle.parking_lot_waits_world.specs.Turns.{turn_of}
 use Rattle.parking_lot_waits_world.proofs.Turning.{freed_some, reseated}
-use Rattle.parking_lot_waits_world.proofs.wait_machine.WaitMachine.go_at.Goals as goal
+use Rattle.parking_lot_waits_world.proofs.machines.Machines.go_at.Goals as goal
 
 pub returns-then-is_some : goal.returns-then-is_some
 returns-then-is_some g c =

@@ -5,7 +5,7 @@ use Rattle.parking_lot_waits_world.specs.JointSteps.{MayMoveIn, is_locked, takes
 use Rattle.parking_lot_waits_world.specs.Moving.{MayNotifyIn}
 use Rattle.parking_lot_waits_world.proofs.Moves.{may_moves}
 use Rattle.parking_lot_waits_world.proofs.Notifying.{may_notifies}
-use Rattle.parking_lot_waits_world.proofs.wait_machine.WaitMachine.move_at.Goals as goal
+use Rattle.parking_lot_waits_world.proofs.machines.Machines.move_at.Goals as goal
 
 pub move_waiters-count-requires : goal.move_waiters-count-requires
 move_waiters-count-requires g c =

@@ -5,7 +5,7 @@ use Rattle.parking_lot_world.specs.Rows.{call_at, state}
 use Rattle.parking_lot_waits_world.specs.Joint.{Joint, follows}
 use Rattle.parking_lot_waits_world.specs.Turns.{is_at_mutex}
 use Rattle.parking_lot_waits_world.proofs.Hearing.{both_true}
-use Rattle.parking_lot_waits_world.proofs.wait_machine.WaitMachine.follow_on.Goals as goal
+use Rattle.parking_lot_waits_world.proofs.machines.Machines.follow_on.Goals as goal
 
 pub follow-requires-clause-can : goal.follow-requires-clause-can
 follow-requires-clause-can g c = (both_true _ _ (subst (λ k. follows c.args.self.now k ≡ true) (sym c.back_number-number.ensures) c.requires.can)).0

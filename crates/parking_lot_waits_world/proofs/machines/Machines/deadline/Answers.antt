@@ -2,7 +2,7 @@ use Rattle.std.proofs.Common.{nat_lt, length, ap, sym, ◌∙◌}
 use Rattle.parking_lot_waits_world.specs.Joint.{seat_at}
 use Rattle.parking_lot_waits_world.specs.JointMoves.{may_expire_at}
 use Rattle.parking_lot_waits_world.proofs.Hearing.{both_true, can_expire}
-use Rattle.parking_lot_waits_world.proofs.wait_machine.WaitMachine.deadline.Goals as goal
+use Rattle.parking_lot_waits_world.proofs.machines.Machines.deadline.Goals as goal
 
 pub hear-requires : goal.hear-requires
 hear-requires g c =

@@ -5,7 +5,7 @@ use Rattle.parking_lot_waits_world.specs.Joint.{Joint, call_in, var_in}
 use Rattle.parking_lot_waits_world.specs.Turns.{retried}
 use Rattle.parking_lot_waits_world.proofs.Again.{asks_again}
 use Rattle.parking_lot_waits_world.proofs.Hearing.{hears_waking, is_following}
-use Rattle.parking_lot_waits_world.proofs.wait_machine.WaitMachine.follow.Goals as goal
+use Rattle.parking_lot_waits_world.proofs.machines.Machines.follow.Goals as goal
 
 pub ask_again-requires : goal.ask_again-requires
 ask_again-requires g c = record {
