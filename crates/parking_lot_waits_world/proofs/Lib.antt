@@ -22,3 +22,4 @@ pub mod ActsTurns
 pub mod FollowsKept
 pub mod TakenOff
 pub mod TakenIn
+pub mod MovesKept
