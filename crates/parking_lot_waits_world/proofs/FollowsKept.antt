@@ -119,7 +119,7 @@ not_late : (c : RowCore) → is_late c ≡ false → asks c ≡ true → asks_on
 not_late (row_core.Mutex k) e f = f
 not_late c e f = absurd cc
 
-stays_on : (s m u : State) (k : ℕ) → Stays s m k → Stays m u k → Stays s u k
+pub stays_on : (s m u : State) (k : ℕ) → Stays s m k → Stays m u k → Stays s u k
 stays_on s m u k x y = record {
   same = record { place = y.same.place ∙ x.same.place; holds = λ n. y.same.holds n ∙ x.same.holds n };
   giving = λ n at. y.giving n (x.giving n at);

@@ -20,3 +20,6 @@ pub mod Ending
 pub mod ActsKept
 pub mod ActsTurns
 pub mod FollowsKept
+pub mod TakenOff
+pub mod TakenIn
+pub mod MovesKept
