@@ -29,6 +29,7 @@ use Rattle.parking_lot_waits_world.proofs.Beginning.{call_keeps}
 use Rattle.parking_lot_waits_world.proofs.FollowsKept.{comes_back, follows_keep}
 use Rattle.parking_lot_waits_world.proofs.Hearing.{both_true}
 use Rattle.parking_lot_waits_world.proofs.LocksKept.{ask_keeps, deadline_keeps, step_keeps}
+use Rattle.parking_lot_waits_world.proofs.MovesKept.{moving_keeps}
 use Rattle.parking_lot_waits_world.proofs.MutexSteps.{expires, locks, unlocks}
 use Rattle.parking_lot_waits_world.proofs.MutexTurns.{gives_up, locks_again}
 
@@ -88,7 +89,7 @@ module _ (i j : Joint) (t v : ℕ) (fair : Bool) (c : OpenCall) (reply : Option 
   turned turn.Follows is has may (none, follows) = follows_keep i j t v fair c h fits here (silent i j t reply seats none) is may follows
   turned turn.ComesBack is has may (none, hears, comes) = comes_back i j t v c h fits here (silent i j t reply seats none) is hears _ comes
   turned turn.Hears is has may (none, hears, rows) = hears_keep i j t v c h here rows (silent i j t reply seats none) is hears
-  turned turn.Moves is has may (none, moves) = ?
+  turned turn.Moves is has may (none, moves) = moving_keeps i j t v c h fits here (silent i j t reply seats none) is moves
 
 step_whole : (t : ℕ) (fair : Bool) (end : Option Ended) (i j : Joint) → IsWhole i → PartsFit i t → may_go i t ≡ true → IsGone t fair end i j → IsWhole j
 step_whole t fair end i j h fits may gone = go (seat_at i t).at refl (both_true _ _ may).1 gone
