@@ -90,8 +90,8 @@ module _ (i j : Joint) (t v n : ℕ) (c : OpenCall) (fair : Bool) (h : IsWhole i
       heard_whole i j t v c (w.Unlocks n) h fits here core_is seats rows (went_holds i j t v c (w.Unlocks n) h fits here core_is seats (not (seat_at i t).second) enters (Some a) x)
       (went_sections i j t v c (w.Unlocks n) h fits here core_is seats (not (seat_at i t).second) enters (Some a) may x) outside.Made hears
       (λ plain. stands_at i j t v c (w.Unlocks n) h fits here core_is (w.Sleeps n) rows plain stood.names
-          (front_now i j t seats Away (mutex_of c.call) (gave (state i.rows) (state j.rows) (front_number i t) a fits.rows x (mutex_of c.call) stood.front).1)
-          (back_still i j t seats (away_or_asks c.listed) (mutex_of c.call) (over_stays (state i.rows) (state j.rows) (front_number i t) a fits.rows x (back_number i t) (back_differs i t (low_at i h v t c here))) stood.back))
+      (front_now i j t seats Away (mutex_of c.call) (gave (state i.rows) (state j.rows) (front_number i t) a fits.rows x (mutex_of c.call) stood.front).1)
+      (back_still i j t seats (away_or_asks c.listed) (mutex_of c.call) (over_stays (state i.rows) (state j.rows) (front_number i t) a fits.rows x (back_number i t) (back_differs i t (low_at i h v t c here))) stood.back))
 
   pub unlocks : (a : Option CoreAnswer) → row_goes i (front_number i t) ≡ true → rows.IsStepped (front_number i t) fair a (state i.rows) (state j.rows) → HearsOf a t v i j → IsWhole j
   unlocks a can x hears = gave_up (core_enters x.call.core) a (enters_beside i (front_number i t) fair a (state j.rows) can x) (stepped_goes (state i.rows) (state j.rows) (front_number i t) fair a fits.rows x) hears
@@ -126,10 +126,10 @@ module _ (i j : Joint) (t v : ℕ) (timed_out : Bool) (c : OpenCall) (fair : Boo
       heard_whole i j t v c (w.Locks timed_out) h fits here core_is seats rows (went_holds i j t v c (w.Locks timed_out) h fits here core_is seats (seat_at i t).second enters (Some a) x)
       (went_sections i j t v c (w.Locks timed_out) h fits here core_is seats (seat_at i t).second enters (Some a) may x) outside.Made hears
       (λ plain. stands_at i j t v c (w.Locks timed_out) h fits here core_is (end_phase timed_out) rows plain (names_end timed_out lock)
-          (subst (λ (at : AtMutex). IsSo at (state j.rows) (front_number j t) lock) (sym (front_ends timed_out))
-              (front_still i j t seats Away lock (over_stays (state i.rows) (state j.rows) (back_number i t) a fits.rows x (front_number i t) (front_differs i t (low_at i h v t c here))) stood.front))
-          (subst (λ (at : AtMutex). IsSo at (state j.rows) (back_number j t) lock) (sym (back_ends timed_out c.listed))
-              (back_now i j t seats Owns lock (got (state i.rows) (state j.rows) (back_number i t) a fits.rows x lock stood.back).1)))
+      (subst (λ (at : AtMutex). IsSo at (state j.rows) (front_number j t) lock) (sym (front_ends timed_out))
+      (front_still i j t seats Away lock (over_stays (state i.rows) (state j.rows) (back_number i t) a fits.rows x (front_number i t) (front_differs i t (low_at i h v t c here))) stood.front))
+      (subst (λ (at : AtMutex). IsSo at (state j.rows) (back_number j t) lock) (sym (back_ends timed_out c.listed))
+      (back_now i j t seats Owns lock (got (state i.rows) (state j.rows) (back_number i t) a fits.rows x lock stood.back).1)))
 
   pub locks : (a : Option CoreAnswer) → row_goes i (back_number i t) ≡ true → rows.IsStepped (back_number i t) fair a (state i.rows) (state j.rows) → HearsOf a t v i j → IsWhole j
   locks a can x hears = locked (core_enters x.call.core) a (enters_beside i (back_number i t) fair a (state j.rows) can x) (stepped_goes (state i.rows) (state j.rows) (back_number i t) fair a fits.rows x) hears
@@ -160,7 +160,7 @@ module _ (i j : Joint) (t v : ℕ) (c : OpenCall) (h : IsWhole i) (fits : PartsF
       heard_whole i j t v c (w.Sleeps n) h fits here core_is seats rows (subst (λ (r : Rows). HoldsWhole (state r)) (sym same_rows) h.holds)
       (subst (λ (r : Rows). ((state r).lot.section ≡ None) ⊎ (is_open_at_variables i ≡ false)) (sym same_rows) h.sections) outside.Expired hears
       (λ plain. stands_at i j t v c (w.Sleeps n) h fits here core_is (w.Expires n) rows plain stood.names (front_still i j t seats Away (mutex_of c.call) (all_stay (front_number i t)) stood.front)
-          (back_still i j t seats (away_or_asks c.listed) (mutex_of c.call) (all_stay (back_number i t)) stood.back))
+      (back_still i j t seats (away_or_asks c.listed) (mutex_of c.call) (all_stay (back_number i t)) stood.back))
 
   pub expires : var_hears (var_at i v) t outside.Expired ≡ true → HearsAt t v outside.Expired i j → IsWhole j
   expires may hears = go (var_at i v) refl may
