@@ -44,6 +44,15 @@ untouched s u k e holds = record {
   asking_on = λ m. in_still asks_on s u k m e;
 }
 
+-- and where it stays twice
+pub stays_on : (s m u : State) (k : ℕ) → Stays s m k → Stays m u k → Stays s u k
+stays_on s m u k x y = record {
+  same = record { place = y.same.place ∙ x.same.place; holds = λ n. y.same.holds n ∙ x.same.holds n };
+  giving = λ n at. y.giving n (x.giving n at);
+  asking = λ n at. y.asking n (x.asking n at);
+  asking_on = λ n at. y.asking_on n (x.asking_on n at);
+}
+
 pub so_still : (a : AtMutex) (s u : State) (k m : ℕ) → Stays s u k → IsSo a s k m → IsSo a u k m
 so_still Owns s u k m x (none, owns) = (x.same.place ∙ none, ap excludes (x.same.holds m) ∙ owns)
 so_still Away s u k m x (none, owns) = (x.same.place ∙ none, ap owns_nothing (x.same.holds m) ∙ owns)

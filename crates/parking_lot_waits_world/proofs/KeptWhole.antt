@@ -1,8 +1,6 @@
 -- A beginning, a step or a deadline that is allowed leaves a machine whole.
-use Rattle.std.proofs.Common.{◌≡◌, ◌≢◌, ℕ, ◌<◌, Bool, true, false, not, nat_lt, ◌&&◌, length, Option, Some, None, refl, sym, ap, ◌∙◌, subst}
+use Rattle.std.proofs.Common.{◌≡◌, ℕ, ◌<◌, Bool, true, false, nat_lt, length, Option, Some, None, refl, ap, ◌∙◌, subst}
 use Rattle.std.proofs.lemmas.Bool.{ltb-true}
-use Rattle.std.proofs.lemmas.Option.{none-some, same_Some}
-use Rattle.parking_lot_protocol.specs.declared.act.CoreAnswer.{CoreAnswer}
 use Rattle.parking_lot_waits.specs.declared.notify_core.NotifyPhase.{NotifyPhase}
 use Rattle.parking_lot_waits.specs.declared.notify_core.NotifyPhase.TheVariants as n
 use Rattle.parking_lot_waits.specs.declared.wait_core.WaitPhase.{WaitPhase}
@@ -12,16 +10,14 @@ use Rattle.parking_lot_condvar_world.specs.declared.open_call.Core.{Core}
 use Rattle.parking_lot_condvar_world.specs.declared.open_call.Core.TheVariants as core
 use Rattle.parking_lot_condvar_world.specs.declared.open_call.OpenCall.{OpenCall}
 use Rattle.parking_lot_condvar_world.specs.declared.outside.Outside.TheVariants as outside
-use Rattle.parking_lot_world.specs.Machines as rows
-use Rattle.parking_lot_world.specs.Rows.{state}
 use Rattle.parking_lot_world.specs.SoundLaws.{Always, OwnersAgree}
 use Rattle.parking_lot_waits_world.specs.declared.ended.Ended.{Ended}
 use Rattle.parking_lot_waits_world.specs.declared.turn.Turn.{Turn}
 use Rattle.parking_lot_waits_world.specs.declared.turn.Turn.TheVariants as turn
-use Rattle.parking_lot_waits_world.specs.Joint.{Joint, back_number, busy_number, call_at, front_number, row_goes, seat_at, var_at, var_hears}
+use Rattle.parking_lot_waits_world.specs.Joint.{Joint, call_at, seat_at, var_at, var_hears}
 use Rattle.parking_lot_waits_world.specs.JointLaws.{PartsFit, StaysWhole}
 use Rattle.parking_lot_waits_world.specs.JointMoves.{may_expire, may_expire_as, may_expire_at, may_go, may_go_as, may_go_at, may_turn, sleeps_on}
-use Rattle.parking_lot_waits_world.specs.JointSteps.{ActsAt, GoesAtVariable, IsGone, IsGoneAt, IsLate, IsLateAt, Turned, freed}
+use Rattle.parking_lot_waits_world.specs.JointSteps.{GoesAtVariable, IsGone, IsGoneAt, IsLate, IsLateAt, Turned, freed}
 use Rattle.parking_lot_waits_world.specs.Turns.{acts_or, notify_turn, sleeps_or, turn_by, turn_of, wait_turn}
 use Rattle.parking_lot_waits_world.specs.Whole.{IsWhole}
 use Rattle.parking_lot_waits_world.proofs.ActsTurns.{acts_keep, hears_keep}

@@ -1,6 +1,7 @@
 -- A notification that takes waiters off the list, and wakes them or moves them to their mutex, leaves a machine whole.
 use Rattle.std.proofs.Common.{◌≡◌, ◌≢◌, ℕ, ◌+◌, ◌-◌, ◌==◌, ◌<◌, ◌||◌, Bool, true, false, not, is_some, cond, List, length, take, Option, Some, None, option_map, slice_get, slice_set, inl, refl, sym, ap, ◌∙◌, subst, arith, eqb-true}
 use Rattle.std.specs.Option.{unwrap_or}
+use Rattle.std.proofs.lemmas.Bool.{or_right}
 use Rattle.std.proofs.lemmas.Option.{same_Some}
 use Rattle.parking_lot_waits.specs.declared.notify_core.NotifyPhase.TheVariants as n
 use Rattle.parking_lot_condvar_world.specs.declared.open_call.Core.{Core}
@@ -27,14 +28,6 @@ use Rattle.parking_lot_waits_world.proofs.Notifying.{Marking, is_moving, marking
 use Rattle.parking_lot_waits_world.proofs.Seating.{anew_seated}
 use Rattle.parking_lot_waits_world.proofs.TakenIn.{RowsMoved, moves, now_asks, now_stays, rows_moved}
 use Rattle.parking_lot_waits_world.proofs.TakenOff.{Notified, length_low, member, member_occurs, notified, off_if, take_length}
-
-left_or : (a b : Bool) → a ≡ true → (a || b) ≡ true
-left_or true b e = refl
-left_or false b e = absurd cc
-
-right_or : (a b : Bool) → b ≡ true → (a || b) ≡ true
-right_or true b e = refl
-right_or false b e = e
 
 neither : (a b : Bool) → (a || b) ≡ false → (a ≡ false) × (b ≡ false)
 neither true b e = absurd cc
@@ -77,7 +70,7 @@ module _ (i j : Joint) (t v : ℕ) (c : OpenCall) (x y : Var) (h : IsWhole i) (a
   -- THE LOCKS
 
   others_stay : (k : ℕ) → ((w : ℕ) (second : Bool) → mine w ≡ true → k ≢ number i w second) → Stays s u k
-  others_stay k ne = now_stays i.seats x (x.word - 1) k ws s u moved (λ w e. ne w (seat_at i w).second (right_or (is t w) (member w ws) e))
+  others_stay k ne = now_stays i.seats x (x.word - 1) k ws s u moved (λ w e. ne w (seat_at i w).second (or_right (is t w) (member w ws) e))
 
   rows : RowsKept i j mine
   rows = record { count = moved.count; kinds = moved.kinds; others = others_stay }

@@ -1,6 +1,7 @@
 -- What it leaves of each number at the locks that waiters are moved to a mutex: those ask for it, and all others stay.
 use Rattle.std.proofs.Common.{◌≡◌, ◌≢◌, ℕ, ◌==◌, ◌<◌, ◌||◌, Bool, true, false, List, [], ◌∷◌, length, Option, Some, None, slice_set, refl, sym, ap, ◌∙◌, subst, eq-eqb, eqb-true}
 use Rattle.std.specs.List.{list_any}
+use Rattle.std.proofs.lemmas.Bool.{or_left, or_right}
 use Rattle.std.proofs.lemmas.List.{length-set}
 use Rattle.parking_lot_condvar_world.specs.Machines.{State as Var}
 use Rattle.parking_lot_world.specs.declared.calls.LockKind.{LockKind}
@@ -10,8 +11,7 @@ use Rattle.parking_lot_waits_world.specs.declared.seat.Seat.{Seat}
 use Rattle.parking_lot_waits_world.specs.Moving.{AreMoved, AreMovedAs, back_in, timed_in}
 use Rattle.parking_lot_waits_world.specs.Whole.{IsIn, asks}
 use Rattle.parking_lot_waits_world.proofs.Ending.{roused_asking, taken_asking}
-use Rattle.parking_lot_waits_world.proofs.FollowsKept.{stays_on}
-use Rattle.parking_lot_waits_world.proofs.Keeping.{Stays, is_not, untouched}
+use Rattle.parking_lot_waits_world.proofs.Keeping.{Stays, is_not, stays_on, untouched}
 use Rattle.parking_lot_waits_world.proofs.Stages.{call_of, set_else}
 use Rattle.parking_lot_waits_world.proofs.TakenOff.{member}
 
@@ -67,14 +67,10 @@ module _ (seats : List Seat) (x : Var) (lock : ℕ) where
       join k false false e y = stays_on s m u k (stays_first k (is_not (back_in seats w) k e)) y
 
   first_low : (w : ℕ) (ws : List ℕ) (s : State) → AreLow seats (w ∷ ws) s → back_in seats w < length s.calls
-  first_low w ws s low = low w (ap (λ b. b || member w ws) (eq-eqb w w refl))
+  first_low w ws s low = low w (or_left (w == w) (member w ws) (eq-eqb w w refl))
 
   rest_low : (w : ℕ) (ws : List ℕ) (s m : State) → length m.calls ≡ length s.calls → AreLow seats (w ∷ ws) s → AreLow seats ws m
-  rest_low w ws s m count low = λ v is. subst (λ (n : ℕ). back_in seats v < n) (sym count) (low v (later (w == v) (member v ws) is))
-    where
-      later : (a b : Bool) → b ≡ true → (a || b) ≡ true
-      later true b e = refl
-      later false b e = e
+  rest_low w ws s m count low v is = subst (λ (n : ℕ). back_in seats v < n) (sym count) (low v (or_right (w == v) (member v ws) is))
 
   -- all are moved into the list
   all_moved : (ws : List ℕ) (s u : State) → AreLow seats ws s → AreMoved seats x lock ws s u → RowsMoved seats lock ws s u
@@ -100,24 +96,16 @@ module _ (seats : List Seat) (x : Var) (lock : ℕ) where
   is_moved w (v ∷ ws) e = by (v == w) refl (is_moved w ws) e
     where
       by : (b : Bool) → (v == w) ≡ b → (member w ws ≡ true → moves seats (back_in seats w) ws ≡ true) → (b || member w ws) ≡ true → ((back_in seats w == back_in seats v) || moves seats (back_in seats w) ws) ≡ true
-      by true s rest e = ap (λ b. b || moves seats (back_in seats w) ws) (eq-eqb _ _ (ap (back_in seats) (sym (eqb-true v w s))))
-      by false s rest e = later (back_in seats w == back_in seats v) (rest e)
-        where
-          later : (a : Bool) → moves seats (back_in seats w) ws ≡ true → (a || moves seats (back_in seats w) ws) ≡ true
-          later true e = refl
-          later false e = e
+      by true s rest e = or_left (back_in seats w == back_in seats v) (moves seats (back_in seats w) ws) (eq-eqb _ _ (ap (back_in seats) (sym (eqb-true v w s))))
+      by false s rest e = or_right (back_in seats w == back_in seats v) (moves seats (back_in seats w) ws) (rest e)
 
   pub moved_by : (k : ℕ) (ws : List ℕ) → moves seats k ws ≡ true → (w : ℕ) × (member w ws ≡ true) × (k ≡ back_in seats w)
   moved_by k [] e = absurd cc
   moved_by k (v ∷ ws) e = by (k == back_in seats v) refl (moved_by k ws) e
     where
       by : (b : Bool) → (k == back_in seats v) ≡ b → (moves seats k ws ≡ true → (w : ℕ) × (member w ws ≡ true) × (k ≡ back_in seats w)) → (b || moves seats k ws) ≡ true → (w : ℕ) × (member w (v ∷ ws) ≡ true) × (k ≡ back_in seats w)
-      by true s rest e = (v, ap (λ b. b || member v ws) (eq-eqb v v refl), eqb-true k (back_in seats v) s)
-      by false s rest e = let (w, is, at) = rest e in (w, later (v == w) (member w ws) is, at)
-        where
-          later : (a b : Bool) → b ≡ true → (a || b) ≡ true
-          later true b e = refl
-          later false b e = e
+      by true s rest e = (v, or_left (v == v) (member v ws) (eq-eqb v v refl), eqb-true k (back_in seats v) s)
+      by false s rest e = let (w, is, at) = rest e in (w, or_right (v == w) (member w ws) is, at)
 
   -- one of them asks for the mutex, and a number of nobody among them stays
   pub now_asks : (w : ℕ) (ws : List ℕ) (s u : State) → RowsMoved seats lock ws s u → member w ws ≡ true → IsIn asks u (back_in seats w) lock

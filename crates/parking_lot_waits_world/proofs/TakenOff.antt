@@ -1,6 +1,7 @@
 -- What a notification leaves of the calls at its variable: those whom it has taken are off the list, its own has gone on, and others stay.
 use Rattle.std.proofs.Common.{◌≡◌, ◌≢◌, ℕ, zero, suc, ◌-◌, ◌==◌, ◌<◌, ◌≤◌, ◌||◌, Bool, true, false, not, cond, nat_lt, ◌&&◌, List, [], ◌∷◌, ◌++◌, length, take, drop, remove, Option, Some, None, option_map, slice_get, slice_set, refl, sym, ap, ◌∙◌, arith, eqb-true}
 use Rattle.std.specs.List.{list_any}
+use Rattle.std.proofs.Math.Bool.{or-false}
 use Rattle.std.proofs.lemmas.List.{length-set}
 use Rattle.std.proofs.lemmas.Option.{none-some, same_Some}
 use Rattle.parking_lot_rules.specs.Lists.{occurs}
@@ -28,12 +29,8 @@ use Rattle.parking_lot_waits_world.proofs.Notifying.{looked, taken_all}
 abbrev pub member : ℕ → List ℕ → Bool
 member u ws = list_any (λ w. w == u) ws
 
-or_false : (b : Bool) → (b || false) ≡ b
-or_false true = refl
-or_false false = refl
-
 member_push : (u w : ℕ) (ws : List ℕ) → member u (ws ++ w ∷ []) ≡ (member u ws || (w == u))
-member_push u w [] = or_false (w == u)
+member_push u w [] = or-false (w == u)
 member_push u w (v ∷ ws) = by (v == u) (member_push u w ws)
   where
     by : (b : Bool) → member u (ws ++ w ∷ []) ≡ (member u ws || (w == u)) → (b || member u (ws ++ w ∷ [])) ≡ ((b || member u ws) || (w == u))
