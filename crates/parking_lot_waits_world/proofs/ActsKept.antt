@@ -87,12 +87,6 @@ pub record Onto (listed after : Bool) (m : ℕ) (p q : WaitPhase) : Type 0 where
 pub rebuilt : (j : Joint) (rows : Rows) (vars : List (Option Var)) (seats : List Seat) → j.rows ≡ rows → j.vars ≡ vars → j.seats ≡ seats → IsWhole (record { rows = rows; vars = vars; seats = seats }) → IsWhole j
 rebuilt j rows vars seats e f g = subst IsWhole (λ i. record { rows = sym e i; vars = sym f i; seats = sym g i })
 
-no_call_of : (a : AtMutex) (s : State) (k m : ℕ) → (a ≡ Owns) ⊎ (a ≡ Away) → IsSo a s k m → row_call_at s k ≡ None
-no_call_of Owns s k m e x = place_in (row_call_at s k) x.0
-no_call_of Away s k m e x = place_in (row_call_at s k) x.0
-no_call_of a s k m (inl e) x = absurd cc
-no_call_of a s k m (inr e) x = absurd cc
-
 module _ (i : Joint) (t v : ℕ) (c : OpenCall) (x y : Var) (h : IsWhole i) (here : call_at i v t ≡ Some c) (at : var_at i v ≡ Some x) where
   abbrev pub goes : Joint
   goes = record i { vars = slice_set i.vars v (Some y) }

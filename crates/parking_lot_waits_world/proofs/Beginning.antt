@@ -3,11 +3,10 @@ use Rattle.std.proofs.Common.{◌≡◌, ◌≢◌, ◌⊎◌, inl, inr, ℕ, �
 use Rattle.std.specs.Option.{unwrap_or}
 use Rattle.std.proofs.lemmas.Bool.{ltb-true}
 use Rattle.std.proofs.lemmas.List.{length-set}
-use Rattle.std.proofs.lemmas.Option.{none-some, same_Some}
+use Rattle.std.proofs.lemmas.Option.{none-some}
 use Rattle.parking_lot_rules.proofs.Indexed.{get-set_same}
 use Rattle.parking_lot_condvar_world.specs.declared.calls.CondvarCall.{CondvarCall}
 use Rattle.parking_lot_condvar_world.specs.declared.calls.CondvarCall.TheVariants as call
-use Rattle.parking_lot_condvar_world.specs.declared.open_call.OpenCall.{OpenCall}
 use Rattle.parking_lot_condvar_world.specs.Calls.{call_for}
 use Rattle.parking_lot_condvar_world.specs.Machines.{State as Var}
 use Rattle.parking_lot_condvar_world.specs.Steps as vars
@@ -29,7 +28,7 @@ use Rattle.parking_lot_world.specs.SoundLaws.{Always, OwnersAgree, agrees}
 use Rattle.parking_lot_world.specs.Worlds.{hold_mode, mode_in}
 use Rattle.parking_lot_world.proofs.Viewing.{IsApart, apart_owner}
 use Rattle.parking_lot_waits_world.specs.declared.seat.Seat.{Seat}
-use Rattle.parking_lot_waits_world.specs.Joint.{Joint, back_number, call_at, front_number, has_by_second, is_open_at_variables, nowhere, number, seat_at, var_at}
+use Rattle.parking_lot_waits_world.specs.Joint.{Joint, back_number, front_number, has_by_second, is_open_at_variables, nowhere, number, seat_at, var_at}
 use Rattle.parking_lot_waits_world.specs.JointMoves.{has_mutex, is_free, is_mutex, may_call, may_call_at}
 use Rattle.parking_lot_waits_world.specs.JointSteps.{BeginsIn, IsCalled, waits_by_second}
 use Rattle.parking_lot_waits_world.specs.Turns.{is_wait, mutex_of}

@@ -134,11 +134,3 @@ module _ (s u : State) (t : ℕ) where
       let same = same_Some y.call x.call (sym y.here ∙ x.here) in
       let late = written asks (record x.call { core = late_of x.call.core }) (ap (λ (v : State). v.calls) x.became) (within s.calls t x.call x.here) (late_asks x.call.core (ap (λ (c : Call). asks c.core) (sym same) ∙ y.is)) in
       subst (λ (n : ℕ). IsIn asks u t n) (ap (λ (c : Call). c.lock) (sym same) ∙ y.lock) late
-
--- One that asks and doesn't give up asks.
-pub also_asks : (s : State) (t m : ℕ) → IsIn asks_on s t m → IsIn asks s t m
-also_asks s t m x = record { call = x.call; here = x.here; lock = x.lock; is = on x.call.core x.is }
-  where
-    on : (c : Core) → asks_on c ≡ true → asks c ≡ true
-    on (Core.Mutex k) e = e
-    on c e = absurd cc

@@ -124,10 +124,6 @@ second_apart : (n k t : ℕ) (second : Bool) → n ≤ k → t < n → k - n ≢
 second_apart n k t true high low ne e = ne (omega (arith, e))
 second_apart n k t false high low ne e = omega (arith, high, low, e)
 
-far_apart : (n k t : ℕ) (second : Bool) → n + n ≤ k → t < n → k ≢ cond second (n + t) t
-far_apart n k t true high low e = omega (arith, high, low, e)
-far_apart n k t false high low e = omega (arith, high, low, e)
-
 differs : (f : ℕ → Bool) (a b : ℕ) → f a ≡ false → f b ≡ true → a ≢ b
 differs f a b off on e = go (f b) (ap f (sym e) ∙ off) on
   where

@@ -26,10 +26,10 @@ use Rattle.parking_lot_world.specs.RowActs.{answered, hold_after, mutex_hold_aft
 use Rattle.parking_lot_world.specs.RowFits.{FitsTogether, IsOfKind}
 use Rattle.parking_lot_world.specs.Rows.{State, call_at as row_call_at, hold_at, hold_in, state}
 use Rattle.parking_lot_waits_world.specs.declared.seat.Seat.{Seat}
-use Rattle.parking_lot_waits_world.specs.Joint.{Joint, asking_number, busy_by, busy_number, call_at, call_in, core_enters, enters_at_lock, has_by_second, is_entered, is_idle, is_open_at_variables, is_var, nowhere, number, row_goes, seat_at, var_at, var_in}
+use Rattle.parking_lot_waits_world.specs.Joint.{Joint, busy_by, busy_number, call_in, core_enters, has_by_second, is_entered, is_open_at_variables, nowhere, number, row_goes, seat_at, var_at, var_in}
 use Rattle.parking_lot_waits_world.specs.JointMoves.{is_free, may_ask}
 use Rattle.parking_lot_waits_world.specs.JointSteps.{IsAsked}
-use Rattle.parking_lot_waits_world.specs.Whole.{IsIn, IsWhole, asks, asks_on, gives, is_entered_at, place_of}
+use Rattle.parking_lot_waits_world.specs.Whole.{IsIn, IsWhole, asks, asks_on, gives, place_of}
 use Rattle.parking_lot_waits_world.proofs.Hearing.{both_true}
 use Rattle.parking_lot_waits_world.proofs.Keeping.{Anew, AreShut, HoldsWhole, RowsKept, Stays, fewer_open, has_place, is, is_not, none_still, rows_by, seats_same, untouched, vars_same, whole_still}
 use Rattle.parking_lot_waits_world.proofs.Places.{Goes, Kept, Over, cells_apart, kept_same, over_same, stepped_goes}
