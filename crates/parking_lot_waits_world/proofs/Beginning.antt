@@ -168,11 +168,11 @@ module _ (agree : Always OwnersAgree) (i j : Joint) (t v : ℕ) (c : CondvarCall
       let here = written i j t v x y (call_for c) at calls written_vars (subst (λ (n : ℕ). t < n) (sym (h.threads v x at)) low) in
       whole_still i j (is t) h (record { rows = rows_same i j (is t) rows; vars = kept; seats = seats_at i j t _ seats; low = λ u e. subst (λ (n : ℕ). n < length i.seats) (sym (eqb-true u t e)) low })
       (λ u e. subst (Anew j) (sym (eqb-true u t e))
-          (anew_seated j t v (call_for c) (ap (λ (z : Seat). z.at) seated) here
-              (only_there i j t v x y (call_for c) at calls written_vars (λ w d there. absurd (none-some d (sym (free_at i h t unseated w) ∙ there))))
-              (stand c refl kept.plain)))
+      (anew_seated j t v (call_for c) (ap (λ (z : Seat). z.at) seated) here
+      (only_there i j t v x y (call_for c) at calls written_vars (λ w d there. absurd (none-some d (sym (free_at i h t unseated w) ∙ there))))
+      (stand c refl kept.plain)))
       (var_shut i j h v x y at written_vars (λ e. ap (λ (z : Var). is_some z.inside) (sym begins.became) ∙ e)
-          (subst (λ (r : Rows). ((state r).lot.section ≡ None) ⊎ (is_open_at_variables i ≡ false)) (sym rows) h.sections))
+      (subst (λ (r : Rows). ((state r).lot.section ≡ None) ⊎ (is_open_at_variables i ≡ false)) (sym rows) h.sections))
       (subst (λ (r : Rows). HoldsWhole (state r)) (sym rows) h.holds)
 
 -- It begins there.
