@@ -19,9 +19,9 @@ use Rattle.parking_lot_waits_world.specs.declared.seat.Seat.{Seat}
 use Rattle.parking_lot_waits_world.specs.declared.turn.Turn.TheVariants as turn
 use Rattle.parking_lot_waits_world.specs.Joint.{Joint, back_number, call_at, call_in, front_number, is_open_at_locks, is_open_at_variables, nowhere, number, var_at, var_goes}
 use Rattle.parking_lot_waits_world.specs.Turns.{mutex_of, notify_turn}
-use Rattle.parking_lot_waits_world.specs.Whole.{AtMutex, Owns, Away, IsSo, IsWhole, Notifies, Waits, back_of, front_of, is_entered_at, named}
+use Rattle.parking_lot_waits_world.specs.Whole.{AtMutex, Owns, Away, IsSo, IsWhole, Notifies, Waits, back_of, front_of, named}
 use Rattle.parking_lot_waits_world.proofs.Hearing.{both_true}
-use Rattle.parking_lot_waits_world.proofs.Keeping.{Anew, AreShut, fewer_open, is, is_not, low_at, now_open, place_in, rows_same, seats_at, var_elsewhere, var_here, vars_at, whole_still}
+use Rattle.parking_lot_waits_world.proofs.Keeping.{Anew, AreShut, is, is_not, low_at, now_open, place_in, rows_same, seats_at, var_elsewhere, var_here, var_shut, vars_at, whole_still}
 use Rattle.parking_lot_waits_world.proofs.Seating.{anew_free, goes_on}
 
 -- WHICH SECTIONS ARE OPEN
@@ -48,18 +48,8 @@ call_opens x t c (core.Wait k) own = wait_opens c.listed t k.phase x.inside own
 call_opens x t c (core.Notify k) own = notify_opens t k.phase x.inside
 
 module _ (i j : Joint) (v : ℕ) (x y : Var) (h : IsWhole i) (at : var_at i v ≡ Some x) (vars : j.vars ≡ slice_set i.vars v (Some y)) where
-  fewer_at : Fewer x.inside y.inside → (u : ℕ) → is_entered_at j u ≡ true → is_entered_at i u ≡ true
-  fewer_at fewer u e = by (u == v) refl
-    where
-      by : (b : Bool) → (u == v) ≡ b → is_entered_at i u ≡ true
-      by true s =
-          let same = eqb-true u v s in
-          ap (λ (m : ℕ). is_entered_at i m) same ∙ ap (λ (o : Option Var). option_map_or (λ (z : Var). is_some z.inside) o false) at
-          ∙ fewer (ap (λ (o : Option Var). option_map_or (λ (z : Var). is_some z.inside) o false) (sym (var_here i j v x (Some y) at vars)) ∙ ap (λ (m : ℕ). is_entered_at j m) (sym same) ∙ e)
-      by false s = ap (λ (o : Option Var). option_map_or (λ (z : Var). is_some z.inside) o false) (sym (var_elsewhere i j v u (Some y) (is_not v u s) vars)) ∙ e
-
   pub fewer_shut : Fewer x.inside y.inside → (state j.rows).lot.section ≡ (state i.rows).lot.section → AreShut j
-  fewer_shut fewer same = fewer_open i j h (fewer_at fewer) (elim h.sections [ inl e ↦ inl (same ∙ e) | inr e ↦ inr e ])
+  fewer_shut fewer same = var_shut i j h v x y at vars fewer (elim h.sections [ inl e ↦ inl (same ∙ e) | inr e ↦ inr e ])
 
   shut_out : (enters a b : Bool) → not (enters && (a || b)) ≡ true → enters ≡ true → (a ≡ false) × (b ≡ false)
   shut_out true true b e f = absurd cc
@@ -96,12 +86,6 @@ pub record Onto (listed after : Bool) (m : ℕ) (p q : WaitPhase) : Type 0 where
 
 pub rebuilt : (j : Joint) (rows : Rows) (vars : List (Option Var)) (seats : List Seat) → j.rows ≡ rows → j.vars ≡ vars → j.seats ≡ seats → IsWhole (record { rows = rows; vars = vars; seats = seats }) → IsWhole j
 rebuilt j rows vars seats e f g = subst IsWhole (λ i. record { rows = sym e i; vars = sym f i; seats = sym g i })
-
-no_call_of : (a : AtMutex) (s : State) (k m : ℕ) → (a ≡ Owns) ⊎ (a ≡ Away) → IsSo a s k m → row_call_at s k ≡ None
-no_call_of Owns s k m e x = place_in (row_call_at s k) x.0
-no_call_of Away s k m e x = place_in (row_call_at s k) x.0
-no_call_of a s k m (inl e) x = absurd cc
-no_call_of a s k m (inr e) x = absurd cc
 
 module _ (i : Joint) (t v : ℕ) (c : OpenCall) (x y : Var) (h : IsWhole i) (here : call_at i v t ≡ Some c) (at : var_at i v ≡ Some x) where
   abbrev pub goes : Joint

@@ -1,5 +1,5 @@
 -- Where a machine is whole, what a step needs at the locks is so.
-use Rattle.std.proofs.Common.{◌≡◌, ◌≢◌, ◌⊎◌, ◌||◌, inl, inr, ℕ, zero, suc, ◌+◌, ◌-◌, ◌*◌, ◌==◌, ◌<◌, ◌≤◌, Bool, true, false, not, cond, nat_lt, ◌&&◌, is_some, is_none, List, [], ◌∷◌, length, map, Option, Some, None, slice_get, refl, sym, ap, ◌∙◌, subst, arith, eq-eqb, eqb-true}
+use Rattle.std.proofs.Common.{◌≡◌, ◌≢◌, ◌||◌, inl, inr, ℕ, zero, suc, ◌+◌, ◌-◌, ◌*◌, ◌<◌, Bool, true, false, not, cond, ◌&&◌, is_some, is_none, List, [], ◌∷◌, length, Option, Some, None, slice_get, refl, sym, ap, ◌∙◌, subst, arith, eqb-true}
 use Rattle.std.specs.List.{list_all, list_any}
 use Rattle.std.specs.Option.{option_and_then, option_map, option_map_or}
 use Rattle.std.proofs.lemmas.Bool.{lt-ltb, ltb-true}
@@ -37,7 +37,7 @@ use Rattle.parking_lot_world.specs.Rows.{State, call_at as row_call_at, hold_at,
 use Rattle.parking_lot_waits_world.proofs.Notifying.{Marking, is_moving, marking}
 use Rattle.parking_lot_waits_world.specs.declared.turn.Turn.{Turn}
 use Rattle.parking_lot_waits_world.specs.declared.turn.Turn.TheVariants as turn
-use Rattle.parking_lot_waits_world.specs.Joint.{Joint, back_number, call_at, call_in, front_number, is_entered, is_open_at_variables, lock_of, row_goes, seat_at, var_at, waiters_of}
+use Rattle.parking_lot_waits_world.specs.Joint.{Joint, back_number, call_at, call_in, front_number, is_entered, seat_at, var_at}
 use Rattle.parking_lot_waits_world.specs.JointLaws.{PartsFit}
 use Rattle.parking_lot_waits_world.specs.JointSteps.{KnownIn}
 use Rattle.parking_lot_waits_world.specs.Ready.{call_is_ready, is_ready, may_move, may_move_all, seat_is_ready, turn_is_ready}

@@ -3,11 +3,10 @@ use Rattle.std.proofs.Common.{◌≡◌, ◌≢◌, ◌⊎◌, inl, inr, ℕ, �
 use Rattle.std.specs.Option.{unwrap_or}
 use Rattle.std.proofs.lemmas.Bool.{ltb-true}
 use Rattle.std.proofs.lemmas.List.{length-set}
-use Rattle.std.proofs.lemmas.Option.{none-some, same_Some}
+use Rattle.std.proofs.lemmas.Option.{none-some}
 use Rattle.parking_lot_rules.proofs.Indexed.{get-set_same}
 use Rattle.parking_lot_condvar_world.specs.declared.calls.CondvarCall.{CondvarCall}
 use Rattle.parking_lot_condvar_world.specs.declared.calls.CondvarCall.TheVariants as call
-use Rattle.parking_lot_condvar_world.specs.declared.open_call.OpenCall.{OpenCall}
 use Rattle.parking_lot_condvar_world.specs.Calls.{call_for}
 use Rattle.parking_lot_condvar_world.specs.Machines.{State as Var}
 use Rattle.parking_lot_condvar_world.specs.Steps as vars
@@ -29,7 +28,7 @@ use Rattle.parking_lot_world.specs.SoundLaws.{Always, OwnersAgree, agrees}
 use Rattle.parking_lot_world.specs.Worlds.{hold_mode, mode_in}
 use Rattle.parking_lot_world.proofs.Viewing.{IsApart, apart_owner}
 use Rattle.parking_lot_waits_world.specs.declared.seat.Seat.{Seat}
-use Rattle.parking_lot_waits_world.specs.Joint.{Joint, back_number, call_at, front_number, has_by_second, is_open_at_variables, nowhere, number, seat_at, var_at}
+use Rattle.parking_lot_waits_world.specs.Joint.{Joint, back_number, front_number, has_by_second, is_open_at_variables, nowhere, number, seat_at, var_at}
 use Rattle.parking_lot_waits_world.specs.JointMoves.{has_mutex, is_free, is_mutex, may_call, may_call_at}
 use Rattle.parking_lot_waits_world.specs.JointSteps.{BeginsIn, IsCalled, waits_by_second}
 use Rattle.parking_lot_waits_world.specs.Turns.{is_wait, mutex_of}
@@ -168,11 +167,11 @@ module _ (agree : Always OwnersAgree) (i j : Joint) (t v : ℕ) (c : CondvarCall
       let here = written i j t v x y (call_for c) at calls written_vars (subst (λ (n : ℕ). t < n) (sym (h.threads v x at)) low) in
       whole_still i j (is t) h (record { rows = rows_same i j (is t) rows; vars = kept; seats = seats_at i j t _ seats; low = λ u e. subst (λ (n : ℕ). n < length i.seats) (sym (eqb-true u t e)) low })
       (λ u e. subst (Anew j) (sym (eqb-true u t e))
-          (anew_seated j t v (call_for c) (ap (λ (z : Seat). z.at) seated) here
-              (only_there i j t v x y (call_for c) at calls written_vars (λ w d there. absurd (none-some d (sym (free_at i h t unseated w) ∙ there))))
-              (stand c refl kept.plain)))
+      (anew_seated j t v (call_for c) (ap (λ (z : Seat). z.at) seated) here
+      (only_there i j t v x y (call_for c) at calls written_vars (λ w d there. absurd (none-some d (sym (free_at i h t unseated w) ∙ there))))
+      (stand c refl kept.plain)))
       (var_shut i j h v x y at written_vars (λ e. ap (λ (z : Var). is_some z.inside) (sym begins.became) ∙ e)
-          (subst (λ (r : Rows). ((state r).lot.section ≡ None) ⊎ (is_open_at_variables i ≡ false)) (sym rows) h.sections))
+      (subst (λ (r : Rows). ((state r).lot.section ≡ None) ⊎ (is_open_at_variables i ≡ false)) (sym rows) h.sections))
       (subst (λ (r : Rows). HoldsWhole (state r)) (sym rows) h.holds)
 
 -- It begins there.

@@ -65,6 +65,14 @@ core_asked c n a e f = absurd cc
 
 -- ONE WHOSE CALL IS OVER
 
+-- what it owns of its lock then
+pub owned_after : (s : State) (t : ℕ) (c : Call) → FitsTogether s → call_at s t ≡ Some c → hold_at (answered s t c) t c.lock ≡ hold_after c.others c.core
+owned_after s t c fits here =
+    let lock = lock_low s t c fits here in
+    let there = has_slot s.holds (t * length s.kinds + c.lock) (omega (arith, mul-add-lt t (length s.kinds) c.lock (length s.calls) (within s.calls t c here) lock, fits.rules.size_holds)) in
+    ap (λ b. cond b (option_map_or (λ (h : Hold). h) (slice_get (answered s t c).holds (t * length s.kinds + c.lock)) (Hold.Shares 0)) (Hold.Shares 0)) (lt-ltb c.lock (length s.kinds) lock)
+    ∙ ap (λ o. option_map_or (λ (h : Hold). h) o (Hold.Shares 0)) (get-set_same s.holds (t * length s.kinds + c.lock) there.0 (hold_after c.others c.core) there.1)
+
 module _ (s u : State) (t : ℕ) (a : CoreAnswer) (fits : FitsTogether s) (x : Over t a s u) where
   low : t < length s.calls
   low = within s.calls t x.call x.here
@@ -73,12 +81,7 @@ module _ (s u : State) (t : ℕ) (a : CoreAnswer) (fits : FitsTogether s) (x : O
   gone = ap (λ (v : State). place_of v t) x.became ∙ ap (option_map (λ (c : Call). c.lock)) (call_here s.calls t None low)
 
   owned : hold_at u t x.call.lock ≡ hold_after x.call.others x.call.core
-  owned =
-      let lock = lock_low s t x.call fits x.here in
-      let there = has_slot s.holds (t * length s.kinds + x.call.lock) (omega (arith, mul-add-lt t (length s.kinds) x.call.lock (length s.calls) low lock, fits.rules.size_holds)) in
-      ap (λ (v : State). hold_at v t x.call.lock) x.became
-      ∙ ap (λ b. cond b (option_map_or (λ (h : Hold). h) (slice_get (answered s t x.call).holds (t * length s.kinds + x.call.lock)) (Hold.Shares 0)) (Hold.Shares 0)) (lt-ltb x.call.lock (length s.kinds) lock)
-      ∙ ap (λ o. option_map_or (λ (h : Hold). h) o (Hold.Shares 0)) (get-set_same s.holds (t * length s.kinds + x.call.lock) there.0 (hold_after x.call.others x.call.core) there.1)
+  owned = ap (λ (v : State). hold_at v t x.call.lock) x.became ∙ owned_after s t x.call fits x.here
 
   -- what is said of its core, and of what it owns at its lock
   same_core : (sort : Core → Bool) (m : ℕ) → IsIn sort s t m → sort x.call.core ≡ true
@@ -134,11 +137,3 @@ module _ (s u : State) (t : ℕ) where
       let same = same_Some y.call x.call (sym y.here ∙ x.here) in
       let late = written asks (record x.call { core = late_of x.call.core }) (ap (λ (v : State). v.calls) x.became) (within s.calls t x.call x.here) (late_asks x.call.core (ap (λ (c : Call). asks c.core) (sym same) ∙ y.is)) in
       subst (λ (n : ℕ). IsIn asks u t n) (ap (λ (c : Call). c.lock) (sym same) ∙ y.lock) late
-
--- One that asks and doesn't give up asks.
-pub also_asks : (s : State) (t m : ℕ) → IsIn asks_on s t m → IsIn asks s t m
-also_asks s t m x = record { call = x.call; here = x.here; lock = x.lock; is = on x.call.core x.is }
-  where
-    on : (c : Core) → asks_on c ≡ true → asks c ≡ true
-    on (Core.Mutex k) e = e
-    on c e = absurd cc

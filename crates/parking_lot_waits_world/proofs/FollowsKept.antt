@@ -1,6 +1,5 @@
 -- What a waiter does at its mutex that was taken off the variable's list leaves a machine whole: it comes back into the mutex's list, or goes on there.
-use Rattle.std.proofs.Common.{◌≡◌, ◌≢◌, ◌⊎◌, inl, inr, ℕ, ◌==◌, ◌<◌, Bool, true, false, not, cond, ◌&&◌, List, length, Option, Some, None, refl, sym, ap, ◌∙◌, subst}
-use Rattle.std.specs.Option.{option_map_or}
+use Rattle.std.proofs.Common.{◌≡◌, ◌≢◌, ◌⊎◌, inl, inr, ℕ, ◌==◌, ◌<◌, Bool, true, false, not, cond, ◌&&◌, length, Option, Some, None, refl, sym, ap, ◌∙◌, subst}
 use Rattle.std.proofs.lemmas.List.{length-set}
 use Rattle.std.proofs.lemmas.Option.{same_Some}
 use Rattle.parking_lot_core_lot.specs.declared.parking.UnparkToken.{UnparkToken}
@@ -26,20 +25,18 @@ use Rattle.parking_lot_world.specs.Machines as rows
 use Rattle.parking_lot_world.specs.Rows.{State, call_at as row_call_at, state}
 use Rattle.parking_lot_waits_world.specs.declared.turn.Turn.{Turn}
 use Rattle.parking_lot_waits_world.specs.declared.turn.Turn.TheVariants as turn
-use Rattle.parking_lot_waits_world.specs.Joint.{Joint, back_number, call_at, core_enters, front_number, is_open_at_variables, row_goes, seat_at, var_in}
-use Rattle.parking_lot_condvar_world.specs.Machines.{State as Var}
+use Rattle.parking_lot_waits_world.specs.Joint.{Joint, back_number, call_at, core_enters, front_number, is_open_at_variables, row_goes, seat_at}
 use Rattle.parking_lot_waits_world.specs.JointLaws.{PartsFit}
 use Rattle.parking_lot_waits_world.specs.JointSteps.{ComesBackIf, FollowsAs, HearsAt, IsFollowing}
 use Rattle.parking_lot_waits_world.specs.Turns.{acts_or, handed, is_late, mutex_of, notify_turn, retried, sleeps_or, turn_by, turn_of, wait_turn, wait_wakes, wakes_with}
-use Rattle.parking_lot_waits_world.specs.Whole.{AtMutex, Away, Asks, IsIn, IsSo, IsWhole, Stands, Waits, asks, asks_on, away_or_asks, back_of, front_of, named, woken_by}
+use Rattle.parking_lot_waits_world.specs.Whole.{AtMutex, Away, Asks, IsIn, IsSo, IsWhole, Waits, asks, asks_on, away_or_asks, back_of, front_of, named, woken_by}
 use Rattle.parking_lot_waits_world.proofs.ActsTurns.{resumes_back, resumes_front, resumes_names}
 use Rattle.parking_lot_waits_world.proofs.Ending.{begun_asking, expired_asking, got_or_not}
-use Rattle.parking_lot_waits_world.proofs.Hearing.{both_true}
-use Rattle.parking_lot_waits_world.proofs.Keeping.{HoldsWhole, RowsKept, Stays, is, low_at, rows_by, rows_same}
-use Rattle.parking_lot_waits_world.proofs.LocksKept.{kept_holds, kept_stays, number_low, one_section, over_holds, over_stays, own_apart, same_shut, written_holds, written_rows, written_sections, written_stays}
-use Rattle.parking_lot_waits_world.proofs.MutexTurns.{back_now, back_still, front_still, heard_whole, mutex_stays, stands_at, stood, with_phase}
+use Rattle.parking_lot_waits_world.proofs.Keeping.{HoldsWhole, RowsKept, Stays, is, low_at, rows_by, rows_same, stays_on}
+use Rattle.parking_lot_waits_world.proofs.LocksKept.{kept_stays, number_low, over_holds, over_stays, written_holds, written_rows, written_sections, written_stays}
+use Rattle.parking_lot_waits_world.proofs.MutexSteps.{enters_beside, goes_there, went_holds, went_rows, went_sections}
+use Rattle.parking_lot_waits_world.proofs.MutexTurns.{back_now, back_still, front_differs, front_still, heard_whole, stands_at, stood, with_phase}
 use Rattle.parking_lot_waits_world.proofs.Places.{Goes, Kept, Over, stepped_goes}
-use Rattle.parking_lot_waits_world.proofs.Seating.{stays_there}
 
 -- IT COMES BACK INTO THE MUTEX'S LIST
 
@@ -78,7 +75,7 @@ module _ (i j : Joint) (t v : ℕ) (c : OpenCall) (h : IsWhole i) (fits : PartsF
         let kept = written_rows i j t (seat_at i t).second _ x.became in
         heard_whole i j t v c (w.Expires k) h fits here is_core seats kept (written_holds _ _ _ _ x.became h.holds) (written_sections i j _ _ h x.became) outside.Made hears
         (λ plain. stands_at i j t v c (w.Expires k) h fits here is_core (w.Quits k) kept plain stood_there.names
-        (front_still i j t seats Away (mutex_of c.call) (written_stays _ _ _ _ x.became _ (own_apart (length i.seats) t (seat_at i t).second low)) stood_there.front)
+        (front_still i j t seats Away (mutex_of c.call) (written_stays _ _ _ _ x.became _ (front_differs i t low)) stood_there.front)
         (back_for (back_now i j t seats Asks (mutex_of c.call) (expired_asking _ _ back _ x back_there))))
     back_again false same =
         let kept = rows_same i j (is t) same in
@@ -119,14 +116,6 @@ not_late : (c : RowCore) → is_late c ≡ false → asks c ≡ true → asks_on
 not_late (row_core.Mutex k) e f = f
 not_late c e f = absurd cc
 
-stays_on : (s m u : State) (k : ℕ) → Stays s m k → Stays m u k → Stays s u k
-stays_on s m u k x y = record {
-  same = record { place = y.same.place ∙ x.same.place; holds = λ n. y.same.holds n ∙ x.same.holds n };
-  giving = λ n at. y.giving n (x.giving n at);
-  asking = λ n at. y.asking n (x.asking n at);
-  asking_on = λ n at. y.asking_on n (x.asking_on n at);
-}
-
 -- a wait off the list, and where it goes once it is woken
 pub record Off (c : OpenCall) (p : WaitPhase) : Type 0 where
   pub core : c.core ≡ core.Wait (record { phase = p })
@@ -160,8 +149,8 @@ module _ (i j : Joint) (t v : ℕ) (c : OpenCall) (p : WaitPhase) (h : IsWhole i
   asked : IsIn asks s own lock
   asked = subst (λ (a : AtMutex). IsSo a s own lock) o.back was.back
 
-  others : own ≡ own → front_number i t ≢ own
-  others e = own_apart (length i.seats) t (seat_at i t).second within
+  others : front_number i t ≢ own
+  others = front_differs i t within
 
   -- it was told so, and owns the mutex or goes on asking for it
   told_whole : (token : UnparkToken) → RowsKept i j (is t) → HoldsWhole u → (u.lot.section ≡ None) ⊎ (is_open_at_variables i ≡ false) → HearsAt t v (wakes_with c.core token) i j
@@ -172,34 +161,28 @@ module _ (i j : Joint) (t v : ℕ) (c : OpenCall) (p : WaitPhase) (h : IsWhole i
       (subst (λ (a : AtMutex). IsSo a u (front_number j t) lock) (sym (o.fronts token)) (front_still i j t seats Away lock front (subst (λ (a : AtMutex). IsSo a s (front_number i t) lock) o.front was.front)))
       (subst (λ (a : AtMutex). IsSo a u (back_number j t) lock) (sym (o.backs token)) (back_now i j t seats (woken_by (token.0 == 1)) lock so))))
 
-  kept_rows : {b : Bool} → Kept b s u → RowsKept i j (is t)
-  kept_rows x = rows_by i j t (seat_at i t).second x.calls.count x.kinds (λ k ne. kept_stays s u x k)
+  -- what its step leaves of the machine
+  rows_after : (enters : Bool) (a : Option CoreAnswer) → Goes a enters own s u → RowsKept i j (is t)
+  rows_after = went_rows i j t v c p h fits here o.core seats (seat_at i t).second
 
-  over_rows : (a : CoreAnswer) → Over own a s u → RowsKept i j (is t)
-  over_rows a x = rows_by i j t (seat_at i t).second (ap (λ (y : State). length y.calls) x.became ∙ length-set s.calls own None) (ap (λ (y : State). y.kinds) x.became) (over_stays s u own a fits.rows x)
+  holds_after : (enters : Bool) (a : Option CoreAnswer) → Goes a enters own s u → HoldsWhole u
+  holds_after = went_holds i j t v c p h fits here o.core seats (seat_at i t).second
+
+  shut_after : (enters : Bool) (a : Option CoreAnswer) → not (enters && is_open_at_variables i) ≡ true → Goes a enters own s u → (u.lot.section ≡ None) ⊎ (is_open_at_variables i ≡ false)
+  shut_after = went_sections i j t v c p h fits here o.core seats (seat_at i t).second
 
   -- its call goes on
   module _ (enters : Bool) (may : not (enters && is_open_at_variables i) ≡ true) (x : Kept enters s u) where
-    shut : (u.lot.section ≡ None) ⊎ (is_open_at_variables i ≡ false)
-    shut = one_section enters (is_open_at_variables i) s.lot.section u.lot.section x.closed may h.sections
-
     stays_late : j.vars ≡ i.vars → IsWhole j
-    stays_late vars =
-        stays_there i j t v c h here seats (kept_rows x) (kept_holds s u x.kinds x.holds h.holds) (same_shut i j h vars shut) vars (subst (λ (k : Core). Stands j t c k) (sym o.core) (record {
-          names = was.names;
-          mutex = mutex_stays i j lock x.kinds (λ none. ap (λ (vs : List (Option Var)). var_in vs lock) vars ∙ none) was.mutex;
-          front = front_still i j t seats (front_of p) lock (kept_stays s u x _) was.front;
-          back = back_still i j t seats (back_of c.listed p) lock (kept_stays s u x _) was.back;
-        }))
+    stays_late vars = goes_there i j t v c p h fits here o.core seats enters (rows_after enters None x) (holds_after enters None x) (shut_after enters None may x) x vars
 
     goes_awake : IsIn asks_on s own lock → HearsAt t v (wakes_with c.core retried) i j → IsWhole j
-    goes_awake on hears = told_whole retried (kept_rows x) (kept_holds s u x.kinds x.holds h.holds) shut hears (kept_stays s u x _) ((kept_stays s u x own).asking_on lock on)
+    goes_awake on hears = told_whole retried (rows_after enters None x) (holds_after enters None x) (shut_after enters None may x) hears (kept_stays s u x _) ((kept_stays s u x own).asking_on lock on)
 
   -- it has the mutex
-  has_it : Over own answer.Owned s u → HearsAt t v (wakes_with c.core handed) i j → IsWhole j
-  has_it x hears = elim (got_or_not s u own answer.Owned fits.rows x lock asked) [
-    | inl e ↦ told_whole handed (over_rows answer.Owned x) (over_holds s u own answer.Owned fits.rows x h.holds)
-        (subst (λ (y : State). (y.lot.section ≡ None) ⊎ (is_open_at_variables i ≡ false)) (sym x.became) h.sections) hears (over_stays s u own answer.Owned fits.rows x _ (others refl)) e.1
+  has_it : (enters : Bool) → not (enters && is_open_at_variables i) ≡ true → Over own answer.Owned s u → HearsAt t v (wakes_with c.core handed) i j → IsWhole j
+  has_it enters may x hears = elim (got_or_not s u own answer.Owned fits.rows x lock asked) [
+    | inl e ↦ told_whole handed (rows_after enters (Some answer.Owned) x) (holds_after enters (Some answer.Owned) x) (shut_after enters (Some answer.Owned) may x) hears (over_stays s u own answer.Owned fits.rows x _ others) e.1
     | inr e ↦ owned_refused e.0
   ]
     where
@@ -213,7 +196,7 @@ module _ (i j : Joint) (t v : ℕ) (c : OpenCall) (p : WaitPhase) (h : IsWhole i
       (rows_by i j t (seat_at i t).second (ap (λ (y : State). length y.calls) begins.became ∙ length-set mid.calls own _ ∙ count) (ap (λ (y : State). y.kinds) begins.became ∙ ap (λ (y : State). y.kinds) x.became) others_stay)
       (written_holds mid u own _ begins.became (over_holds s mid own answer.Refused fits.rows x h.holds))
       (subst (λ (l : Machine). (l.section ≡ None) ⊎ (is_open_at_variables i ≡ false)) (sym (ap (λ (y : State). y.lot) begins.became ∙ ap (λ (y : State). y.lot) x.became)) h.sections)
-      hears (others_stay _ (others refl)) (subst (λ (m : ℕ). IsIn asks_on u own m) at (begun_asking mid u own d.lock begins (subst (λ (m : ℕ). own < m) (sym count) (number_low i h t (seat_at i t).second within))))
+      hears (others_stay _ others) (subst (λ (m : ℕ). IsIn asks_on u own m) at (begun_asking mid u own d.lock begins (subst (λ (m : ℕ). own < m) (sym count) (number_low i h t (seat_at i t).second within))))
     where
       count : length mid.calls ≡ length s.calls
       count = ap (λ (y : State). length y.calls) x.became ∙ length-set s.calls own None
@@ -241,8 +224,8 @@ module _ (i j : Joint) (t v : ℕ) (c : OpenCall) (p : WaitPhase) (h : IsWhole i
     onward : (late : Bool) (a : Option CoreAnswer) → is_late d.core ≡ late → Goes a enters own s mid → FollowsAs late a t own v c d i mid j → IsWhole j
     onward true None e g (to, vars) = stays_late enters may (subst (Kept enters s) (sym to) g) vars
     onward false None e g (to, hears) = goes_awake enters may (subst (Kept enters s) (sym to) g) (on e) hears
-    onward true (Some answer.Owned) e g (to, hears) = has_it (subst (Over own answer.Owned s) (sym to) g) hears
-    onward false (Some answer.Owned) e g (to, hears) = has_it (subst (Over own answer.Owned s) (sym to) g) hears
+    onward true (Some answer.Owned) e g (to, hears) = has_it enters may (subst (Over own answer.Owned s) (sym to) g) hears
+    onward false (Some answer.Owned) e g (to, hears) = has_it enters may (subst (Over own answer.Owned s) (sym to) g) hears
     onward true (Some answer.Refused) e g (begins, hears) = asks_again d mid at_lock g begins hears
     onward false (Some answer.Refused) e g (begins, hears) = asks_again d mid at_lock g begins hears
     onward true (Some answer.Released) e g x = released g
@@ -251,7 +234,7 @@ module _ (i j : Joint) (t v : ℕ) (c : OpenCall) (p : WaitPhase) (h : IsWhole i
   pub off_follows : (fair : Bool) → row_goes i own ≡ true → IsFollowing t v own fair c i j → IsWhole j
   off_follows fair can x =
       onward x.d x.there x.mid (core_enters x.step.call.core)
-      (ap (λ (y : Option Call). not (option_map_or (λ (e : Call). core_enters e.core) y false && is_open_at_variables i)) (sym x.step.here) ∙ (both_true _ _ can).1)
+      (enters_beside i own fair x.answer x.mid can x.step)
       (is_late x.d.core) x.answer refl (stepped_goes s x.mid own fair x.answer fits.rows x.step) x.onward
 
 -- by where it stands

@@ -20,7 +20,7 @@ use Rattle.parking_lot_world.specs.Rows.{Rows, State, call_at as row_call_at, ho
 use Rattle.parking_lot_waits_world.specs.declared.seat.Seat.{Seat}
 use Rattle.parking_lot_waits_world.specs.Joint.{Joint, back_number, call_at, call_in, front_number, is_entered, is_open_at_variables, nowhere, number, seat_at, var_at, var_in}
 use Rattle.parking_lot_waits_world.specs.Turns.{mutex_of}
-use Rattle.parking_lot_waits_world.specs.Whole.{AtMutex, Owns, Away, Gives, Asks, AsksOn, Never, IsIn, IsMutex, IsSo, IsWhole, Notifies, Stands, Waits, asks, asks_on, back_of, front_of, gives, is_entered_at, place_of}
+use Rattle.parking_lot_waits_world.specs.Whole.{AtMutex, Owns, Away, Gives, Asks, AsksOn, Never, IsIn, IsMutex, IsSo, IsWhole, Stands, asks, asks_on, back_of, front_of, gives, is_entered_at}
 use Rattle.parking_lot_waits_world.proofs.Places.{Same}
 
 -- WHAT STAYS OF A NUMBER
@@ -42,6 +42,15 @@ untouched s u k e holds = record {
   giving = λ m. in_still gives s u k m e;
   asking = λ m. in_still asks s u k m e;
   asking_on = λ m. in_still asks_on s u k m e;
+}
+
+-- and where it stays twice
+pub stays_on : (s m u : State) (k : ℕ) → Stays s m k → Stays m u k → Stays s u k
+stays_on s m u k x y = record {
+  same = record { place = y.same.place ∙ x.same.place; holds = λ n. y.same.holds n ∙ x.same.holds n };
+  giving = λ n at. y.giving n (x.giving n at);
+  asking = λ n at. y.asking n (x.asking n at);
+  asking_on = λ n at. y.asking_on n (x.asking_on n at);
 }
 
 pub so_still : (a : AtMutex) (s u : State) (k m : ℕ) → Stays s u k → IsSo a s k m → IsSo a u k m
@@ -114,10 +123,6 @@ first_apart n k t false low ne e = ne e
 second_apart : (n k t : ℕ) (second : Bool) → n ≤ k → t < n → k - n ≢ t → k ≢ cond second (n + t) t
 second_apart n k t true high low ne e = ne (omega (arith, e))
 second_apart n k t false high low ne e = omega (arith, high, low, e)
-
-far_apart : (n k t : ℕ) (second : Bool) → n + n ≤ k → t < n → k ≢ cond second (n + t) t
-far_apart n k t true high low e = omega (arith, high, low, e)
-far_apart n k t false high low e = omega (arith, high, low, e)
 
 differs : (f : ℕ → Bool) (a b : ℕ) → f a ≡ false → f b ≡ true → a ≢ b
 differs f a b off on e = go (f b) (ap f (sym e) ∙ off) on
@@ -306,12 +311,10 @@ var_here i j v x y at e = ap (λ (vs : List (Option Var)). var_in vs v) e ∙ ca
 pub var_elsewhere : (i j : Joint) (v w : ℕ) (y : Option Var) → w ≢ v → j.vars ≡ slice_set i.vars v y → var_at j w ≡ var_at i w
 var_elsewhere i j v w y ne e = ap (λ (vs : List (Option Var)). var_in vs w) e ∙ call_elsewhere i.vars v w y ne
 
-module _ (i j : Joint) (t v : ℕ) (x y : Var) (o : Option OpenCall) (at : var_at i v ≡ Some x) (calls : y.calls ≡ slice_set x.calls t o) (vars : j.vars ≡ slice_set i.vars v (Some y)) where
-  call_still : (w u : ℕ) (b : Bool) → (w == v) ≡ b → is t u ≡ false → call_at j w u ≡ call_at i w u
-  call_still w u true e out =
-      let same = eqb-true w v e in
-      subst (λ (n : ℕ). call_at j n u ≡ call_at i n u) (sym same)
-      (ap (λ (z : Option Var). call_in z u) (var_here i j v x (Some y) at vars) ∙ ap (λ (cs : List (Option OpenCall)). var_call_in cs u) calls ∙ call_elsewhere x.calls t u o (is_not t u out) ∙ sym (ap (λ (z : Option Var). call_in z u) at))
+-- of one variable the calls of some threads
+module _ (i j : Joint) (mine : ℕ → Bool) (v : ℕ) (x y : Var) (at : var_at i v ≡ Some x) (count : length y.calls ≡ length x.calls) (same : (u : ℕ) → mine u ≡ false → var_call_in y.calls u ≡ var_call_in x.calls u) (vars : j.vars ≡ slice_set i.vars v (Some y)) where
+  call_still : (w u : ℕ) (b : Bool) → (w == v) ≡ b → mine u ≡ false → call_at j w u ≡ call_at i w u
+  call_still w u true e out = subst (λ (n : ℕ). call_at j n u ≡ call_at i n u) (sym (eqb-true w v e)) (ap (λ (z : Option Var). call_in z u) (var_here i j v x (Some y) at vars) ∙ same u out ∙ sym (ap (λ (z : Option Var). call_in z u) at))
   call_still w u false e out = ap (λ (z : Option Var). call_in z u) (var_elsewhere i j v w (Some y) (is_not v w e) vars)
 
   plain_still : (w : ℕ) (b : Bool) → (w == v) ≡ b → var_at i w ≡ None → var_at j w ≡ None
@@ -320,14 +323,18 @@ module _ (i j : Joint) (t v : ℕ) (x y : Var) (o : Option OpenCall) (at : var_a
 
   there_still : (w : ℕ) (z : Var) (b : Bool) → (w == v) ≡ b → var_at j w ≡ Some z → (q : Var) × (var_at i w ≡ Some q) × (length z.calls ≡ length q.calls)
   there_still w z true e here =
-      let same = eqb-true w v e in
-      let is_y = same_Some z y (sym here ∙ ap (λ (n : ℕ). var_at j n) same ∙ var_here i j v x (Some y) at vars) in
-      (x, ap (λ (n : ℕ). var_at i n) same ∙ at, ap (λ (p : Var). length p.calls) is_y ∙ ap (λ (cs : List (Option OpenCall)). length cs) calls ∙ length-set x.calls t o)
+      let that = eqb-true w v e in
+      let is_y = same_Some z y (sym here ∙ ap (λ (n : ℕ). var_at j n) that ∙ var_here i j v x (Some y) at vars) in
+      (x, ap (λ (n : ℕ). var_at i n) that ∙ at, ap (λ (p : Var). length p.calls) is_y ∙ count)
   there_still w z false e here = (z, sym (var_elsewhere i j v w (Some y) (is_not v w e) vars) ∙ here, refl)
 
-  -- of the variables one call
-  pub vars_at : VarsKept i j (is t)
-  vars_at = record { calls = λ w u out. call_still w u (w == v) refl out; plain = λ w none. plain_still w (w == v) refl none; there = λ w z here. there_still w z (w == v) refl here }
+  pub vars_among : VarsKept i j mine
+  vars_among = record { calls = λ w u out. call_still w u (w == v) refl out; plain = λ w none. plain_still w (w == v) refl none; there = λ w z here. there_still w z (w == v) refl here }
+
+-- or one call
+pub vars_at : (i j : Joint) (t v : ℕ) (x y : Var) (o : Option OpenCall) → var_at i v ≡ Some x → y.calls ≡ slice_set x.calls t o → j.vars ≡ slice_set i.vars v (Some y) → VarsKept i j (is t)
+vars_at i j t v x y o at calls vars =
+    vars_among i j (is t) v x y at (ap (λ (cs : List (Option OpenCall)). length cs) calls ∙ length-set x.calls t o) (λ u no. ap (λ (cs : List (Option OpenCall)). var_call_in cs u) calls ∙ call_elsewhere x.calls t u o (is_not t u no)) vars
 
 -- WHICH SECTIONS ARE OPEN
 

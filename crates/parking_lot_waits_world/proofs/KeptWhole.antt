@@ -1,8 +1,6 @@
 -- A beginning, a step or a deadline that is allowed leaves a machine whole.
-use Rattle.std.proofs.Common.{◌≡◌, ◌≢◌, ℕ, ◌<◌, Bool, true, false, not, nat_lt, ◌&&◌, length, Option, Some, None, refl, sym, ap, ◌∙◌, subst}
+use Rattle.std.proofs.Common.{◌≡◌, ℕ, ◌<◌, Bool, true, false, nat_lt, length, Option, Some, None, refl, ap, ◌∙◌, subst}
 use Rattle.std.proofs.lemmas.Bool.{ltb-true}
-use Rattle.std.proofs.lemmas.Option.{none-some, same_Some}
-use Rattle.parking_lot_protocol.specs.declared.act.CoreAnswer.{CoreAnswer}
 use Rattle.parking_lot_waits.specs.declared.notify_core.NotifyPhase.{NotifyPhase}
 use Rattle.parking_lot_waits.specs.declared.notify_core.NotifyPhase.TheVariants as n
 use Rattle.parking_lot_waits.specs.declared.wait_core.WaitPhase.{WaitPhase}
@@ -12,16 +10,14 @@ use Rattle.parking_lot_condvar_world.specs.declared.open_call.Core.{Core}
 use Rattle.parking_lot_condvar_world.specs.declared.open_call.Core.TheVariants as core
 use Rattle.parking_lot_condvar_world.specs.declared.open_call.OpenCall.{OpenCall}
 use Rattle.parking_lot_condvar_world.specs.declared.outside.Outside.TheVariants as outside
-use Rattle.parking_lot_world.specs.Machines as rows
-use Rattle.parking_lot_world.specs.Rows.{state}
 use Rattle.parking_lot_world.specs.SoundLaws.{Always, OwnersAgree}
 use Rattle.parking_lot_waits_world.specs.declared.ended.Ended.{Ended}
 use Rattle.parking_lot_waits_world.specs.declared.turn.Turn.{Turn}
 use Rattle.parking_lot_waits_world.specs.declared.turn.Turn.TheVariants as turn
-use Rattle.parking_lot_waits_world.specs.Joint.{Joint, back_number, busy_number, call_at, front_number, row_goes, seat_at, var_at, var_hears}
+use Rattle.parking_lot_waits_world.specs.Joint.{Joint, call_at, seat_at, var_at, var_hears}
 use Rattle.parking_lot_waits_world.specs.JointLaws.{PartsFit, StaysWhole}
 use Rattle.parking_lot_waits_world.specs.JointMoves.{may_expire, may_expire_as, may_expire_at, may_go, may_go_as, may_go_at, may_turn, sleeps_on}
-use Rattle.parking_lot_waits_world.specs.JointSteps.{ActsAt, GoesAtVariable, IsGone, IsGoneAt, IsLate, IsLateAt, Turned, freed}
+use Rattle.parking_lot_waits_world.specs.JointSteps.{GoesAtVariable, IsGone, IsGoneAt, IsLate, IsLateAt, Turned, freed}
 use Rattle.parking_lot_waits_world.specs.Turns.{acts_or, notify_turn, sleeps_or, turn_by, turn_of, wait_turn}
 use Rattle.parking_lot_waits_world.specs.Whole.{IsWhole}
 use Rattle.parking_lot_waits_world.proofs.ActsTurns.{acts_keep, hears_keep}
@@ -29,6 +25,7 @@ use Rattle.parking_lot_waits_world.proofs.Beginning.{call_keeps}
 use Rattle.parking_lot_waits_world.proofs.FollowsKept.{comes_back, follows_keep}
 use Rattle.parking_lot_waits_world.proofs.Hearing.{both_true}
 use Rattle.parking_lot_waits_world.proofs.LocksKept.{ask_keeps, deadline_keeps, step_keeps}
+use Rattle.parking_lot_waits_world.proofs.MovesKept.{moving_keeps}
 use Rattle.parking_lot_waits_world.proofs.MutexSteps.{expires, locks, unlocks}
 use Rattle.parking_lot_waits_world.proofs.MutexTurns.{gives_up, locks_again}
 
@@ -88,7 +85,7 @@ module _ (i j : Joint) (t v : ℕ) (fair : Bool) (c : OpenCall) (reply : Option 
   turned turn.Follows is has may (none, follows) = follows_keep i j t v fair c h fits here (silent i j t reply seats none) is may follows
   turned turn.ComesBack is has may (none, hears, comes) = comes_back i j t v c h fits here (silent i j t reply seats none) is hears _ comes
   turned turn.Hears is has may (none, hears, rows) = hears_keep i j t v c h here rows (silent i j t reply seats none) is hears
-  turned turn.Moves is has may (none, moves) = ?
+  turned turn.Moves is has may (none, moves) = moving_keeps i j t v c h fits here (silent i j t reply seats none) is moves
 
 step_whole : (t : ℕ) (fair : Bool) (end : Option Ended) (i j : Joint) → IsWhole i → PartsFit i → may_go i t ≡ true → IsGone t fair end i j → IsWhole j
 step_whole t fair end i j h fits may gone = go (seat_at i t).at refl (both_true _ _ may).1 gone

@@ -24,3 +24,6 @@ pub mod ActsTurns
 pub mod LeavingSteps
 pub mod LeavingTurns
 pub mod FollowsKept
+pub mod TakenOff
+pub mod TakenIn
+pub mod MovesKept

@@ -26,10 +26,10 @@ use Rattle.parking_lot_world.specs.RowActs.{answered, hold_after, mutex_hold_aft
 use Rattle.parking_lot_world.specs.RowFits.{FitsTogether, IsOfKind}
 use Rattle.parking_lot_world.specs.Rows.{State, call_at as row_call_at, hold_at, hold_in, state}
 use Rattle.parking_lot_waits_world.specs.declared.seat.Seat.{Seat}
-use Rattle.parking_lot_waits_world.specs.Joint.{Joint, asking_number, busy_by, busy_number, call_at, call_in, core_enters, enters_at_lock, has_by_second, is_entered, is_idle, is_open_at_variables, is_var, nowhere, number, row_goes, seat_at, var_at, var_in}
+use Rattle.parking_lot_waits_world.specs.Joint.{Joint, busy_by, busy_number, call_in, core_enters, has_by_second, is_entered, is_open_at_variables, nowhere, number, row_goes, seat_at, var_at, var_in}
 use Rattle.parking_lot_waits_world.specs.JointMoves.{is_free, may_ask}
 use Rattle.parking_lot_waits_world.specs.JointSteps.{IsAsked}
-use Rattle.parking_lot_waits_world.specs.Whole.{IsIn, IsWhole, asks, asks_on, gives, is_entered_at, place_of}
+use Rattle.parking_lot_waits_world.specs.Whole.{IsIn, IsWhole, asks, asks_on, gives, place_of}
 use Rattle.parking_lot_waits_world.proofs.Hearing.{both_true}
 use Rattle.parking_lot_waits_world.proofs.Keeping.{Anew, AreShut, HoldsWhole, RowsKept, Stays, fewer_open, has_place, is, is_not, none_still, rows_by, seats_same, untouched, vars_same, whole_still}
 use Rattle.parking_lot_waits_world.proofs.Places.{Goes, Kept, Over, cells_apart, kept_same, over_same, stepped_goes}
@@ -107,7 +107,7 @@ module _ (i j : Joint) (t : ℕ) (h : IsWhole i) (low : t < length i.seats) (fre
   free_whole b rows other own holds sections =
       whole_still i j (is t) h (record { rows = rows; vars = vars_same i j (is t) vars; seats = seats_same i j (is t) seats; low = low_of })
       (λ u e. subst (Anew j) (sym (eqb-true u t e))
-          (anew_free j t (ap (λ (ss : List Seat). (unwrap_or (slice_get ss t) nowhere).at) seats ∙ free) (λ v. ap (λ (vs : List (Option Var)). call_in (var_in vs v) t) vars ∙ free_at i h t free v) (one_of b other) clear))
+      (anew_free j t (ap (λ (ss : List Seat). (unwrap_or (slice_get ss t) nowhere).at) seats ∙ free) (λ v. ap (λ (vs : List (Option Var)). call_in (var_in vs v) t) vars ∙ free_at i h t free v) (one_of b other) clear))
       (same_shut i j h vars sections) holds
     where
       moved : (c : Call) (x y : Bool) → x ≡ y → row_call_at (state j.rows) (number j t x) ≡ Some c → row_call_at (state j.rows) (number i t y) ≡ Some c
@@ -243,7 +243,7 @@ over_holds s u t a fits x h = subst HoldsWhole (sym x.became) at
       | inl e ↦ subst (λ (o : Option Hold). Whole (option_map_or (λ (y : Hold). y) o (hold.Shares 0))) (sym e) was
       | inr e ↦ subst (λ (o : Option Hold). Whole (option_map_or (λ (y : Hold). y) o (hold.Shares 0))) (sym e.1)
           (after_call x.call.others x.call.core (subst (λ (o : Option LockKind). IsOfKind o x.call.core)
-              (ap (slice_get s.kinds) (sym (same_cell (length s.kinds) k n t x.call.lock low (lock_low s t x.call fits x.here) e.0)) ∙ kind) (fits.rules.kinds t x.call x.here)))
+          (ap (slice_get s.kinds) (sym (same_cell (length s.kinds) k n t x.call.lock low (lock_low s t x.call fits x.here) e.0)) ∙ kind) (fits.rules.kinds t x.call x.here)))
     ]
 
     at : HoldsWhole (answered s t x.call)

@@ -1,8 +1,7 @@
 -- A wait's steps of giving its mutex up and of locking it again leave a machine whole, and so does its deadline.
-use Rattle.std.proofs.Common.{◌≡◌, ◌≢◌, ◌⊎◌, inl, inr, ℕ, Bool, true, false, not, cond, ◌&&◌, length, Option, Some, None, slice_set, refl, sym, ap, ◌∙◌, subst}
+use Rattle.std.proofs.Common.{◌≡◌, ◌⊎◌, ℕ, Bool, true, false, not, ◌&&◌, length, Option, Some, None, refl, sym, ap, ◌∙◌, subst}
 use Rattle.std.specs.Option.{option_map_or}
 use Rattle.std.proofs.lemmas.List.{length-set}
-use Rattle.std.proofs.lemmas.Option.{none-some}
 use Rattle.parking_lot_protocol.specs.declared.act.CoreAnswer.{CoreAnswer}
 use Rattle.parking_lot_waits.specs.declared.wait_act.WaitSeen.TheVariants as wait_seen
 use Rattle.parking_lot_waits.specs.declared.notify_core.NotifyPhase.{NotifyPhase}
@@ -16,21 +15,21 @@ use Rattle.parking_lot_condvar_world.specs.declared.open_call.OpenCall.{OpenCall
 use Rattle.parking_lot_condvar_world.specs.declared.outside.Outside.TheVariants as outside
 use Rattle.parking_lot_condvar_world.specs.Calls.{is_timed}
 use Rattle.parking_lot_condvar_world.specs.Machines.{State as Var, is_left}
-use Rattle.parking_lot_condvar_world.specs.Outsides.{can_be_told, hears_by, may_hear, notify_fits, wait_fits}
+use Rattle.parking_lot_condvar_world.specs.Outsides.{hears_by, may_hear, notify_fits, wait_fits}
 use Rattle.parking_lot_world.specs.declared.open_call.Call.{Call}
 use Rattle.parking_lot_world.specs.Machines as rows
-use Rattle.parking_lot_world.specs.Rows.{Rows, State, call_at as row_call_at, state}
+use Rattle.parking_lot_world.specs.Rows.{Rows, State, state}
 use Rattle.parking_lot_waits_world.specs.Joint.{Joint, back_number, call_at, call_in, core_enters, front_number, is_open_at_variables, number, row_goes, seat_at, var_at, var_hears}
 use Rattle.parking_lot_waits_world.specs.JointLaws.{PartsFit}
 use Rattle.parking_lot_waits_world.specs.JointSteps.{HearsAt, HearsOf}
 use Rattle.parking_lot_waits_world.specs.Turns.{mutex_of}
-use Rattle.parking_lot_waits_world.specs.Whole.{AtMutex, Owns, Away, Gives, AsksOn, IsSo, IsWhole, Stands, Waits, away_or_asks, back_of, front_of, named}
+use Rattle.parking_lot_waits_world.specs.Whole.{AtMutex, Owns, Away, IsSo, IsWhole, Stands, Waits, away_or_asks, back_of, front_of, named}
 use Rattle.parking_lot_waits_world.proofs.Ending.{gave, got}
 use Rattle.parking_lot_waits_world.proofs.Hearing.{both_true}
-use Rattle.parking_lot_waits_world.proofs.Keeping.{HoldsWhole, RowsKept, Stays, is, low_at, rows_by, rows_same, untouched, vars_same}
-use Rattle.parking_lot_waits_world.proofs.LocksKept.{kept_holds, kept_stays, number_low, one_section, over_holds, over_stays, same_shut}
-use Rattle.parking_lot_waits_world.proofs.MutexTurns.{back_differs, back_now, back_still, front_differs, front_now, front_still, heard_whole, mutex_stays, stands_at, stood, with_phase}
-use Rattle.parking_lot_waits_world.proofs.Places.{Goes, Kept, Over, stepped_goes}
+use Rattle.parking_lot_waits_world.proofs.Keeping.{HoldsWhole, RowsKept, Stays, is, low_at, rows_by, rows_same, vars_same}
+use Rattle.parking_lot_waits_world.proofs.LocksKept.{kept_holds, kept_stays, one_section, over_holds, over_stays, same_shut}
+use Rattle.parking_lot_waits_world.proofs.MutexTurns.{back_differs, back_now, back_still, front_differs, front_now, front_still, heard_whole, mutex_stays, stands_at, stood}
+use Rattle.parking_lot_waits_world.proofs.Places.{Goes, Kept, stepped_goes}
 use Rattle.parking_lot_waits_world.proofs.Seating.{stays_there}
 
 -- A STEP AT THE MUTEX BY ONE OF ITS NUMBERS
@@ -74,7 +73,7 @@ module _ (i j : Joint) (t v : ℕ) (c : OpenCall) (p : WaitPhase) (h : IsWhole i
       }))
 
 -- whether a section is entered by that step
-enters_beside : (i : Joint) (k : ℕ) (fair : Bool) (a : Option CoreAnswer) (u : State) → row_goes i k ≡ true → (x : rows.IsStepped k fair a (state i.rows) u) → not (core_enters x.call.core && is_open_at_variables i) ≡ true
+pub enters_beside : (i : Joint) (k : ℕ) (fair : Bool) (a : Option CoreAnswer) (u : State) → row_goes i k ≡ true → (x : rows.IsStepped k fair a (state i.rows) u) → not (core_enters x.call.core && is_open_at_variables i) ≡ true
 enters_beside i k fair a u can x = ap (λ (o : Option Call). not (option_map_or (λ (c : Call). core_enters c.core) o false && is_open_at_variables i)) (sym x.here) ∙ (both_true _ _ can).1
 
 -- IT GIVES THE MUTEX UP
@@ -90,8 +89,8 @@ module _ (i j : Joint) (t v n : ℕ) (c : OpenCall) (fair : Bool) (h : IsWhole i
       heard_whole i j t v c (w.Unlocks n) h fits here core_is seats rows (went_holds i j t v c (w.Unlocks n) h fits here core_is seats (not (seat_at i t).second) enters (Some a) x)
       (went_sections i j t v c (w.Unlocks n) h fits here core_is seats (not (seat_at i t).second) enters (Some a) may x) outside.Made hears
       (λ plain. stands_at i j t v c (w.Unlocks n) h fits here core_is (w.Sleeps n) rows plain stood.names
-          (front_now i j t seats Away (mutex_of c.call) (gave (state i.rows) (state j.rows) (front_number i t) a fits.rows x (mutex_of c.call) stood.front).1)
-          (back_still i j t seats (away_or_asks c.listed) (mutex_of c.call) (over_stays (state i.rows) (state j.rows) (front_number i t) a fits.rows x (back_number i t) (back_differs i t (low_at i h v t c here))) stood.back))
+      (front_now i j t seats Away (mutex_of c.call) (gave (state i.rows) (state j.rows) (front_number i t) a fits.rows x (mutex_of c.call) stood.front).1)
+      (back_still i j t seats (away_or_asks c.listed) (mutex_of c.call) (over_stays (state i.rows) (state j.rows) (front_number i t) a fits.rows x (back_number i t) (back_differs i t (low_at i h v t c here))) stood.back))
 
   pub unlocks : (a : Option CoreAnswer) → row_goes i (front_number i t) ≡ true → rows.IsStepped (front_number i t) fair a (state i.rows) (state j.rows) → HearsOf a t v i j → IsWhole j
   unlocks a can x hears = gave_up (core_enters x.call.core) a (enters_beside i (front_number i t) fair a (state j.rows) can x) (stepped_goes (state i.rows) (state j.rows) (front_number i t) fair a fits.rows x) hears
@@ -126,10 +125,10 @@ module _ (i j : Joint) (t v : ℕ) (timed_out : Bool) (c : OpenCall) (fair : Boo
       heard_whole i j t v c (w.Locks timed_out) h fits here core_is seats rows (went_holds i j t v c (w.Locks timed_out) h fits here core_is seats (seat_at i t).second enters (Some a) x)
       (went_sections i j t v c (w.Locks timed_out) h fits here core_is seats (seat_at i t).second enters (Some a) may x) outside.Made hears
       (λ plain. stands_at i j t v c (w.Locks timed_out) h fits here core_is (end_phase timed_out) rows plain (names_end timed_out lock)
-          (subst (λ (at : AtMutex). IsSo at (state j.rows) (front_number j t) lock) (sym (front_ends timed_out))
-              (front_still i j t seats Away lock (over_stays (state i.rows) (state j.rows) (back_number i t) a fits.rows x (front_number i t) (front_differs i t (low_at i h v t c here))) stood.front))
-          (subst (λ (at : AtMutex). IsSo at (state j.rows) (back_number j t) lock) (sym (back_ends timed_out c.listed))
-              (back_now i j t seats Owns lock (got (state i.rows) (state j.rows) (back_number i t) a fits.rows x lock stood.back).1)))
+      (subst (λ (at : AtMutex). IsSo at (state j.rows) (front_number j t) lock) (sym (front_ends timed_out))
+      (front_still i j t seats Away lock (over_stays (state i.rows) (state j.rows) (back_number i t) a fits.rows x (front_number i t) (front_differs i t (low_at i h v t c here))) stood.front))
+      (subst (λ (at : AtMutex). IsSo at (state j.rows) (back_number j t) lock) (sym (back_ends timed_out c.listed))
+      (back_now i j t seats Owns lock (got (state i.rows) (state j.rows) (back_number i t) a fits.rows x lock stood.back).1)))
 
   pub locks : (a : Option CoreAnswer) → row_goes i (back_number i t) ≡ true → rows.IsStepped (back_number i t) fair a (state i.rows) (state j.rows) → HearsOf a t v i j → IsWhole j
   locks a can x hears = locked (core_enters x.call.core) a (enters_beside i (back_number i t) fair a (state j.rows) can x) (stepped_goes (state i.rows) (state j.rows) (back_number i t) fair a fits.rows x) hears
@@ -160,7 +159,7 @@ module _ (i j : Joint) (t v : ℕ) (c : OpenCall) (h : IsWhole i) (fits : PartsF
       heard_whole i j t v c (w.Sleeps n) h fits here core_is seats rows (subst (λ (r : Rows). HoldsWhole (state r)) (sym same_rows) h.holds)
       (subst (λ (r : Rows). ((state r).lot.section ≡ None) ⊎ (is_open_at_variables i ≡ false)) (sym same_rows) h.sections) outside.Expired hears
       (λ plain. stands_at i j t v c (w.Sleeps n) h fits here core_is (w.Expires n) rows plain stood.names (front_still i j t seats Away (mutex_of c.call) (all_stay (front_number i t)) stood.front)
-          (back_still i j t seats (away_or_asks c.listed) (mutex_of c.call) (all_stay (back_number i t)) stood.back))
+      (back_still i j t seats (away_or_asks c.listed) (mutex_of c.call) (all_stay (back_number i t)) stood.back))
 
   pub expires : var_hears (var_at i v) t outside.Expired ≡ true → HearsAt t v outside.Expired i j → IsWhole j
   expires may hears = go (var_at i v) refl may

@@ -1,5 +1,5 @@
 -- A machine where nobody has done anything is whole.
-use Rattle.std.proofs.Common.{◌≡◌, ◌⊎◌, inl, inr, ℕ, zero, suc, ◌+◌, ◌*◌, Bool, true, false, cond, nat_lt, List, [], ◌∷◌, length, map, replicate, Option, Some, None, slice_get, refl, sym, ap, ◌∙◌, subst}
+use Rattle.std.proofs.Common.{◌≡◌, inl, inr, ℕ, zero, suc, ◌+◌, ◌*◌, Bool, true, false, cond, nat_lt, List, [], ◌∷◌, length, map, replicate, Option, Some, None, slice_get, refl, sym, ap, ◌∙◌}
 use Rattle.std.specs.Option.{option_and_then, option_map_or, unwrap_or}
 use Rattle.std.proofs.lemmas.Option.{none-some, same_Some}
 use Rattle.parking_lot_condvar_world.specs.declared.open_call.OpenCall.{OpenCall}
@@ -8,7 +8,7 @@ use Rattle.parking_lot_world.specs.declared.calls.LockKind.{LockKind}
 use Rattle.parking_lot_world.specs.declared.open_call.Call.{Call}
 use Rattle.parking_lot_world.specs.declared.seat.Hold.{Hold}
 use Rattle.parking_lot_world.specs.declared.seat.Hold.TheVariants as hold
-use Rattle.parking_lot_world.specs.Beginnings.{excludes, owns_nothing}
+use Rattle.parking_lot_world.specs.Beginnings.{owns_nothing}
 use Rattle.parking_lot_world.specs.Machines.{at_rest}
 use Rattle.parking_lot_world.specs.Rows.{State, call_at as row_call_at, hold_at, state}
 use Rattle.parking_lot_waits_world.specs.declared.seat.Seat.{Seat}

@@ -86,7 +86,7 @@ marking c e = go c.core refl e
     go (core.Notify k) is e = (let p = which k.phase e in record { all = p.0; is = is ∙ ap (λ (q : NotifyPhase). core.Notify (record { phase = q })) p.1 })
 
 -- it is taking waiters, has taken so many, and so many are left
-record Taking (t : ℕ) (all locked : Bool) (done left : ℕ) (x : Var) : Type 0 where
+pub record Taking (t : ℕ) (all locked : Bool) (done left : ℕ) (x : Var) : Type 0 where
   pub call : OpenCall
   pub here : call_at x t ≡ Some call
   pub core : call.core ≡ core.Notify (record { phase = n.Moves all locked })
@@ -137,14 +137,14 @@ module _ (t : ℕ) (all locked : Bool) where
   so_many : (a b c d : ℕ) (z : Var) → a ≡ c → b ≡ d → Taking t all locked a b z → Taking t all locked c d z
   so_many a b c d z e f k = subst (λ n. Taking t all locked c n z) f (subst (λ n. Taking t all locked n b z) e k)
 
-  taken_all : (n done left : ℕ) (x z : Var) → Taking t all locked done left x → n ≤ left → AreTaken t n x z → Taking t all locked (done + n) (left - n) z
+  pub taken_all : (n done left : ℕ) (x z : Var) → Taking t all locked done left x → n ≤ left → AreTaken t n x z → Taking t all locked (done + n) (left - n) z
   taken_all zero done left x z k low same = so_many done left (done + 0) (left - 0) z (omega arith) (omega arith) (subst (λ (y : Var). Taking t all locked done left y) (sym same) k)
   taken_all (suc n) done left x z k low (y, before, w, s) =
       so_many (done + n + 1) (left - n - 1) (done + suc n) (left - suc n) z (omega arith) (omega arith)
       (taken_more (done + n) (left - n) w y z (taken_all n done left x y k (omega (arith, low)) before) s)
 
 -- it has looked whether the mutex is locked
-looked : (t : ℕ) (all locked : Bool) (c : OpenCall) (x y : Var) → call_at x t ≡ Some c → c.core ≡ core.Notify (record { phase = n.Marks all }) → c.taken ≡ 0 → IsTold t (outside.Marked locked) x y → Taking t all locked 0 (length x.queue) y
+pub looked : (t : ℕ) (all locked : Bool) (c : OpenCall) (x y : Var) → call_at x t ≡ Some c → c.core ≡ core.Notify (record { phase = n.Marks all }) → c.taken ≡ 0 → IsTold t (outside.Marked locked) x y → Taking t all locked 0 (length x.queue) y
 looked t all locked c x y here is none s =
     let same : s.call ≡ c = same_Some s.call c (sym s.here ∙ here) in
     let its : s.call.core ≡ core.Notify (record { phase = n.Marks all }) = ap (λ (d : OpenCall). d.core) same ∙ is in
@@ -218,7 +218,7 @@ notifies t all locked c x here is none =
     by_all false y k = may_first t false locked (first_of (length x.queue)) (length x.queue) y k (first_low (length x.queue)) (first_two (length x.queue))
 
 -- what is known of it there
-marks_knows : (x : Var) (t : ℕ) (c : OpenCall) (all : Bool) → Fits x → call_at x t ≡ Some c → c.core ≡ core.Notify (record { phase = n.Marks all }) → IsNotify c.call × ((all ≡ is_of_all c.call) × (c.taken ≡ 0))
+pub marks_knows : (x : Var) (t : ℕ) (c : OpenCall) (all : Bool) → Fits x → call_at x t ≡ Some c → c.core ≡ core.Notify (record { phase = n.Marks all }) → IsNotify c.call × ((all ≡ is_of_all c.call) × (c.taken ≡ 0))
 marks_knows x t c all fits here is = subst (λ (k : Core). Knows c.call c.listed (length x.calls) x.word (length x.queue) c.taken k) is (fits.seated t c here).knows
 
 count_is : (c : CondvarCall) (n : ℕ) → IsNotify c → count_of (is_of_all c) n ≡ taken_of c n

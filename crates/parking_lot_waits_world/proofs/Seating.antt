@@ -1,5 +1,5 @@
 -- One thread after its step: in no call at a variable, or in one where it stands as that says. All others stay.
-use Rattle.std.proofs.Common.{◌≡◌, ◌≢◌, ◌⊎◌, inl, inr, ℕ, ◌+◌, ◌==◌, ◌<◌, Bool, true, false, not, cond, List, length, Option, Some, None, option_map, slice_get, slice_set, refl, sym, ap, ◌∙◌, subst, eqb-true}
+use Rattle.std.proofs.Common.{◌≡◌, ◌⊎◌, ℕ, ◌==◌, ◌<◌, Bool, true, false, not, List, length, Option, Some, None, option_map, slice_get, slice_set, refl, sym, ap, ◌∙◌, subst, eqb-true}
 use Rattle.std.specs.Option.{unwrap_or}
 use Rattle.std.proofs.lemmas.Option.{none-some, same_Some}
 use Rattle.parking_lot_condvar_world.specs.declared.open_call.Core.{Core}
@@ -12,8 +12,8 @@ use Rattle.parking_lot_world.specs.Rows.{State, call_at as row_call_at, state}
 use Rattle.parking_lot_waits_world.specs.declared.seat.Seat.{Seat}
 use Rattle.parking_lot_waits_world.specs.Joint.{Joint, back_number, call_at, call_in, front_number, nowhere, number, seat_at, var_at, var_in}
 use Rattle.parking_lot_waits_world.specs.Turns.{mutex_of}
-use Rattle.parking_lot_waits_world.specs.Whole.{AtMutex, Owns, Away, Gives, Asks, AsksOn, Never, IsMutex, IsSo, IsWhole, Stands, back_of, front_of, place_of}
-use Rattle.parking_lot_waits_world.proofs.Keeping.{Anew, AreShut, Frame, HoldsWhole, RowsKept, SeatsKept, VarsKept, is, is_not, low_at, seats_same, var_elsewhere, var_here, vars_at, vars_same, whole_still}
+use Rattle.parking_lot_waits_world.specs.Whole.{AtMutex, Owns, Away, Gives, Asks, AsksOn, Never, IsMutex, IsSo, IsWhole, Stands, back_of, front_of}
+use Rattle.parking_lot_waits_world.proofs.Keeping.{Anew, AreShut, HoldsWhole, RowsKept, is, is_not, low_at, seats_same, var_elsewhere, var_here, vars_at, vars_same, whole_still}
 
 -- NUMBERS
 

@@ -3,8 +3,8 @@ ghost use Rattle.std.specs.Prelude.{◌≡◌, ◌<◌, length, Some};
 ghost use Rattle.parking_lot_waits_world.specs.Joint.{core_enters, enters_at_lock, is_entry, lock_of, row_goes, var_at, var_goes, var_hears, waiters_of};
 ghost use Rattle.parking_lot_waits_world.specs.JointMoves.{has_mutex, is_free, may_ask, may_call, may_call_at, may_expire, may_expire_as, may_go, may_go_as, sleeps_on};
 
-use crate::turn::{Turn, is_wait, mutex_of, turn_of};
 use crate::machines::Machines;
+use crate::turn::{Turn, is_wait, mutex_of, turn_of};
 use parking_lot_condvar_world::{CondvarCall, OpenCall, Outside};
 use parking_lot_protocol::Act;
 use parking_lot_world::{Core, LatePhase, LateRwPhase, LockCall, LockKind};

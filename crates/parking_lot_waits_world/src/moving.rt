@@ -8,8 +8,8 @@ ghost use Rattle.parking_lot_waits_world.specs.Ready.{may_move_all};
 ghost use Rattle.parking_lot_waits_world.specs.Turns.{turn_of};
 ghost use Rattle.parking_lot_waits_world.specs.Moving.{AreMoved, AreMovedAs, AreTaken, MayMove, MayMoveAs, MayNotifyIn, MayTake, NotifiesIn, back_in, moved_of, taken_of, timed_in};
 
-use crate::seat::{NOWHERE, Seat};
 use crate::machines::Machines;
+use crate::seat::{NOWHERE, Seat};
 use parking_lot_condvar_world::{CondvarCall, CondvarMachine, OpenCall, Outside};
 use parking_lot_world::RowMachine;
 use std::alloc::Allocator;

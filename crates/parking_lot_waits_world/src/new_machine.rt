@@ -6,8 +6,8 @@ ghost use Rattle.parking_lot_world.specs.Rows.{state};
 ghost use Rattle.parking_lot_waits_world.specs.Joint.{nowhere};
 ghost use Rattle.parking_lot_waits_world.specs.JointSteps.{var_of};
 
-use crate::seat::NOWHERE;
 use crate::machines::Machines;
+use crate::seat::NOWHERE;
 use parking_lot_condvar_world::CondvarMachine;
 use parking_lot_core_lot::SizeFault;
 use parking_lot_world::{LockKind, RowMachine};

@@ -13,9 +13,9 @@ ghost use Rattle.parking_lot_waits_world.specs.Ready.{call_is_ready, is_ready, i
 ghost use Rattle.parking_lot_waits_world.specs.Turns.{is_at_mutex, retried, turn_of, wakes_with};
 
 use crate::ended::Ended;
+use crate::machines::Machines;
 use crate::seat::{NOWHERE, Seat};
 use crate::turn::{Turn, is_late, is_wait, mutex_of, turn_of, wakes_with};
-use crate::machines::Machines;
 use parking_lot_condvar_world::{CondvarCall, CondvarReply, Core, OpenCall, Outside};
 use parking_lot_protocol::{CoreAnswer, HAND_OVER, TRY_AGAIN};
 use parking_lot_world::{Call as RowCall, LockCall};

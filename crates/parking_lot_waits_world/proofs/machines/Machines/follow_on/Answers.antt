@@ -2,15 +2,15 @@ use Rattle.std.proofs.Common.{◌≡◌, true, false, ap, sym, ◌∙◌, subst}
 use Rattle.std.specs.Option.{option_map_or}
 use Rattle.parking_lot_world.specs.declared.open_call.Call.{Call}
 use Rattle.parking_lot_world.specs.Rows.{call_at, state}
-use Rattle.parking_lot_waits_world.specs.Joint.{Joint, follows}
+use Rattle.parking_lot_waits_world.specs.Joint.{Joint, row_goes}
+use Rattle.parking_lot_waits_world.specs.Ready.{is_there}
 use Rattle.parking_lot_waits_world.specs.Turns.{is_at_mutex}
-use Rattle.parking_lot_waits_world.proofs.Hearing.{both_true}
 use Rattle.parking_lot_waits_world.proofs.machines.Machines.follow_on.Goals as goal
 
 pub follow-requires-clause-can : goal.follow-requires-clause-can
-follow-requires-clause-can g c = (both_true _ _ (subst (λ k. follows c.args.self.now k ≡ true) (sym c.back_number-number.ensures) c.requires.can)).0
+follow-requires-clause-can g c = subst (λ k. row_goes c.args.self.now k ≡ true) (sym c.back_number-number.ensures) c.requires.can
 
 pub follow-requires-clause-mutex : goal.follow-requires-clause-mutex
 follow-requires-clause-mutex g c =
-    let may = (both_true _ _ (subst (λ k. follows c.args.self.now k ≡ true) (sym c.back_number-number.ensures) c.requires.can)).1 in
+    let may = subst (λ k. is_there c.args.self.now k ≡ true) (sym c.back_number-number.ensures) c.requires.there in
     sym (ap (λ o. option_map_or (λ (d : Call). is_at_mutex d.core) o false) (ap (λ (j : Joint). call_at (state j.rows) c.back_number-number.result) (sym c.self.view_is) ∙ sym c.call.ensures ∙ c.in-Some.is)) ∙ may
