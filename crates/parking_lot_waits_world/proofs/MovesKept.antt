@@ -171,7 +171,7 @@ module _ (i j : Joint) (t v : ℕ) (c : OpenCall) (x y : Var) (h : IsWhole i) (a
       (kept_holds s u moved.kinds moved.holds h.holds)
 
 -- It takes all, or the first.
-module _ (i j : Joint) (t v : ℕ) (c : OpenCall) (h : IsWhole i) (fits : PartsFit i t) (here : call_at i v t ≡ Some c) (seats : j.seats ≡ i.seats) (mark : Marking c) where
+module _ (i j : Joint) (t v : ℕ) (c : OpenCall) (h : IsWhole i) (fits : PartsFit i) (here : call_at i v t ≡ Some c) (seats : j.seats ≡ i.seats) (mark : Marking c) where
   by_vars : (o p : Option Var) → var_at i v ≡ o → KnownIn o → MovesIn o (is_locked i (lock_of o)) i.seats (lock_of o) (takes_now c.call o) (state i.rows) (state j.rows)
       → NotifiesIn t (is_locked i (lock_of o)) (length (takes_now c.call o)) o p → j.vars ≡ slice_set i.vars v p → IsWhole j
   by_vars None p at known moves notifies vars = absurd moves
@@ -200,7 +200,7 @@ module _ (i j : Joint) (t v : ℕ) (c : OpenCall) (h : IsWhole i) (fits : PartsF
           number_low i h w (seat_at i w).second (thread_low i h v x at known w z.call z.here)
 
   pub moves_keep : IsMoving t v c i j → IsWhole j
-  moves_keep x = let (p, notifies, vars) = x.notifies in by_vars (var_at i v) p refl (fits.vars v (h.seated v t c here)) x.moves notifies vars
+  moves_keep x = let (p, notifies, vars) = x.notifies in by_vars (var_at i v) p refl (fits.vars v) x.moves notifies vars
 
-pub moving_keeps : (i j : Joint) (t v : ℕ) (c : OpenCall) → IsWhole i → PartsFit i t → call_at i v t ≡ Some c → j.seats ≡ i.seats → turn_of c ≡ turn.Moves → IsMoving t v c i j → IsWhole j
+pub moving_keeps : (i j : Joint) (t v : ℕ) (c : OpenCall) → IsWhole i → PartsFit i → call_at i v t ≡ Some c → j.seats ≡ i.seats → turn_of c ≡ turn.Moves → IsMoving t v c i j → IsWhole j
 moving_keeps i j t v c h fits here seats is_turn x = moves_keep i j t v c h fits here seats (marking c (ap is_moving is_turn)) x
