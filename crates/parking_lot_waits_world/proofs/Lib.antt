@@ -7,3 +7,6 @@ pub mod Notifying
 pub mod Replying
 pub mod Allowing
 pub mod Places
+pub mod RankParts
+pub mod Ranking
+pub mod RankOthers

@@ -5,3 +5,4 @@ pub mod JointMoves
 pub mod JointSteps
 pub mod Whole
 pub mod JointLaws
+pub mod JointRanks

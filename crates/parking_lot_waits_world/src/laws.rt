@@ -1,7 +1,9 @@
 //! Laws of a machine's answers and steps.
 ghost use Rattle.parking_lot_waits_world.specs.JointLaws.{RepliesFit, StepsAskNoMore};
+ghost use Rattle.parking_lot_waits_world.specs.JointRanks.{StepsAreFew, StepsArePaidFor};
 
 use parking_lot_condvar_world::laws as of_variables;
+use parking_lot_world::laws as of_locks;
 
 /// A wait is answered that its deadline came only if it has one; and a notification says how many it has taken, one at most if it is of one.
 pub fn replies_fit_their_calls()
@@ -15,3 +17,16 @@ pub fn replies_fit_their_calls()
 pub fn steps_ask_no_more()
     ensures { StepsAskNoMore }
 {}
+
+/// Each step is paid for by the steps that were left, and with it all that it makes others do: of all threads in their calls, where one of them is stepped
+/// until it can't move. What begins adds a stated number of steps.
+pub fn steps_are_paid_for()
+    ensures { StepsArePaidFor }
+{}
+
+/// At every moment all threads together have few steps left: so many for each of their numbers at a lock, and those of one call at a variable each.
+pub fn steps_are_few()
+    ensures { StepsAreFew }
+{
+    of_locks::steps_are_few();
+}
