@@ -10,3 +10,4 @@ pub mod Places
 pub mod RankParts
 pub mod Ranking
 pub mod RankOthers
+pub mod RankFew

@@ -1,8 +1,8 @@
 -- What begins and what comes late costs a stated number of steps; and one that can't move lets any other be stepped.
-use Rattle.std.proofs.Common.{◌≡◌, ℕ, ◌+◌, ◌*◌, ◌<◌, ◌≤◌, ◌&&◌, Bool, true, false, not, cond, nat_lt, is_none, List, length, Option, Some, None, slice_set, refl, sym, ap, ◌∙◌, subst, arith}
+use Rattle.std.proofs.Common.{◌≡◌, ℕ, ◌+◌, ◌*◌, ◌<◌, ◌≤◌, ◌&&◌, Bool, true, false, not, cond, is_none, List, length, Option, Some, None, slice_set, refl, sym, ap, ◌∙◌, subst, arith}
 use Rattle.std.specs.Option.{option_map_or}
 use Rattle.std.proofs.lemmas.Bool.{lt-ltb}
-use Rattle.std.proofs.lemmas.Option.{none-some, same_Some}
+use Rattle.std.proofs.lemmas.Option.{none-some}
 use Rattle.parking_lot_waits.specs.declared.notify_core.NotifyPhase.{NotifyPhase}
 use Rattle.parking_lot_waits.specs.declared.notify_core.NotifyPhase.TheVariants as n
 use Rattle.parking_lot_waits.specs.declared.wait_act.WaitSeen.TheVariants as seen
@@ -20,21 +20,18 @@ use Rattle.parking_lot_condvar_world.specs.Machines.{State as Var, is_left}
 use Rattle.parking_lot_condvar_world.specs.Outsides.{hears_by, may_hear, notify_fits, told, told_by, wait_fits}
 use Rattle.parking_lot_condvar_world.specs.Ranks as vars
 use Rattle.parking_lot_world.specs.declared.calls.LockCall.{LockCall}
-use Rattle.parking_lot_world.specs.declared.open_call.Call.{Call}
 use Rattle.parking_lot_world.specs.Machines as rows
 use Rattle.parking_lot_world.specs.Ranks as row
-use Rattle.parking_lot_world.specs.Rows.{Rows, State, call_at as row_call_at, state}
+use Rattle.parking_lot_world.specs.Rows.{Rows, call_at as row_call_at, state}
 use Rattle.parking_lot_world.proofs.Paying.{any_may_be_stepped}
 use Rattle.parking_lot_waits_world.specs.declared.seat.Seat.{Seat}
-use Rattle.parking_lot_waits_world.specs.declared.turn.Turn.{Turn}
-use Rattle.parking_lot_waits_world.specs.declared.turn.Turn.TheVariants as turn
 use Rattle.parking_lot_waits_world.specs.Joint.{Joint, back_number, busy_number, call_at, call_in, enters_at_lock, front_number, has_by_second, is_open_at_variables, number, row_goes, seat_at, var_at, var_hears}
 use Rattle.parking_lot_waits_world.specs.JointLaws.{PartsFit}
-use Rattle.parking_lot_waits_world.specs.JointMoves.{is_free, may_ask, may_call, may_call_at, may_expire, may_expire_at}
+use Rattle.parking_lot_waits_world.specs.JointMoves.{is_free, may_ask, may_call_at, may_expire}
 use Rattle.parking_lot_waits_world.specs.JointRanks.{IsLateFor, is_in_front, left_at_variables, phase_in_front, stepping_number, steps_left, weight}
-use Rattle.parking_lot_waits_world.specs.JointSteps.{BeginsIn, HearsAt, IsAsked, IsCalled, IsLate, IsLateAt}
-use Rattle.parking_lot_waits_world.specs.Turns.{notify_turn, turn_by, turn_of, wait_turn}
-use Rattle.parking_lot_waits_world.specs.Whole.{AtMutex, IsSo, IsWhole, Notifies, Stands, Waits, back_of, front_of, simply_goes, simply_goes_as, simply_goes_at, simply_turns}
+use Rattle.parking_lot_waits_world.specs.JointSteps.{BeginsIn, IsAsked, IsCalled, IsLate, IsLateAt}
+use Rattle.parking_lot_waits_world.specs.Turns.{turn_by, wait_turn}
+use Rattle.parking_lot_waits_world.specs.Whole.{IsWhole, Notifies, Stands, Waits, back_of, front_of, simply_goes, simply_goes_as, simply_goes_at, simply_turns}
 use Rattle.parking_lot_waits_world.proofs.Hearing.{both_true, can_expire}
 use Rattle.parking_lot_waits_world.proofs.Ranking.{Idle, away_idle, end_idle, listed_idle, owns_idle}
 use Rattle.parking_lot_waits_world.proofs.RankParts.{busy_is, busy_least, free_number, hears_pay, idle_most, number_is, same_number, told_there, var_changes}

@@ -1,11 +1,10 @@
 -- The parts of which the steps that are left consist: at the locks, and at each variable.
 use Rattle.std.proofs.Common.{◌≡◌, ℕ, zero, suc, ◌+◌, ◌*◌, ◌<◌, ◌≤◌, ◌⊎◌, inl, inr, Bool, true, false, not, cond, List, [], ◌∷◌, length, Option, Some, None, option_map, slice_get, slice_set, sum_by, refl, sym, ap, ◌∙◌, subst, arith}
-use Rattle.std.specs.Option.{option_and_then, unwrap_or}
-use Rattle.std.proofs.lemmas.Option.{none-some, same_Some}
+use Rattle.std.specs.Option.{unwrap_or}
+use Rattle.std.proofs.lemmas.Option.{same_Some}
 use Rattle.parking_lot_protocol.specs.declared.act.Act.{Act}
 use Rattle.parking_lot_protocol.specs.declared.act.CoreAnswer.{CoreAnswer}
 use Rattle.parking_lot_rules.proofs.Indexed.{sum_by-set_at}
-use Rattle.parking_lot_condvar_world.specs.declared.calls.CondvarCall.{CondvarCall}
 use Rattle.parking_lot_condvar_world.specs.declared.calls.CondvarReply.{CondvarReply}
 use Rattle.parking_lot_condvar_world.specs.declared.open_call.OpenCall.{OpenCall}
 use Rattle.parking_lot_condvar_world.specs.declared.outside.Outside.{Outside}
@@ -13,9 +12,8 @@ use Rattle.parking_lot_condvar_world.specs.Calls.{reply_of}
 use Rattle.parking_lot_condvar_world.specs.Machines as var
 use Rattle.parking_lot_condvar_world.specs.Machines.{State as Var}
 use Rattle.parking_lot_condvar_world.specs.OwnSteps.{stepped}
-use Rattle.parking_lot_condvar_world.specs.Outsides.{heard, told}
+use Rattle.parking_lot_condvar_world.specs.Outsides.{told}
 use Rattle.parking_lot_condvar_world.specs.Ranks.{left}
-use Rattle.parking_lot_condvar_world.specs.Steps as vars
 use Rattle.parking_lot_condvar_world.proofs.Slots.{call_here, slot, within}
 use Rattle.parking_lot_world.specs.declared.open_call.Call.{Call}
 use Rattle.parking_lot_world.specs.Machines as rows

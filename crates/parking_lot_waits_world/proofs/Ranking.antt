@@ -1,6 +1,6 @@
 -- Each step at locks and condition variables is paid for by the steps that were left.
-use Rattle.std.proofs.Common.{◌≡◌, ℕ, ◌+◌, ◌*◌, ◌<◌, ◌≤◌, ◌==◌, Bool, true, false, not, cond, List, length, Option, Some, None, option_map, slice_set, refl, sym, ap, ◌∙◌, subst, arith}
-use Rattle.std.proofs.lemmas.Option.{none-some, same_Some}
+use Rattle.std.proofs.Common.{◌≡◌, ℕ, ◌+◌, ◌<◌, ◌≤◌, ◌==◌, Bool, true, false, not, cond, List, length, Option, Some, None, slice_set, refl, sym, ap, ◌∙◌, subst, arith}
+use Rattle.std.proofs.lemmas.Option.{same_Some}
 use Rattle.parking_lot_core_lot.specs.declared.parking.UnparkToken.{UnparkToken}
 use Rattle.parking_lot_protocol.specs.declared.act.CoreAnswer.{CoreAnswer}
 use Rattle.parking_lot_protocol.specs.declared.act.CoreAnswer.TheVariants as answer
@@ -22,7 +22,6 @@ use Rattle.parking_lot_condvar_world.specs.Machines as var
 use Rattle.parking_lot_condvar_world.specs.Machines.{State as Var, is_left}
 use Rattle.parking_lot_condvar_world.specs.OwnSteps.{stepped_by}
 use Rattle.parking_lot_condvar_world.specs.Outsides.{told, told_by, wait_hears}
-use Rattle.parking_lot_condvar_world.specs.Ranks.{left}
 use Rattle.parking_lot_condvar_world.proofs.Slots.{call_here}
 use Rattle.parking_lot_world.specs.declared.calls.LockCall.{LockCall}
 use Rattle.parking_lot_world.specs.declared.calls.LockCall.TheVariants as call
@@ -34,14 +33,12 @@ use Rattle.parking_lot_world.specs.Ranks as row
 use Rattle.parking_lot_world.specs.Rows.{Rows, State, call_at as row_call_at, state}
 use Rattle.parking_lot_waits_world.specs.declared.ended.Ended.{Ended}
 use Rattle.parking_lot_waits_world.specs.declared.seat.Seat.{Seat}
-use Rattle.parking_lot_waits_world.specs.declared.turn.Turn.{Turn}
-use Rattle.parking_lot_waits_world.specs.declared.turn.Turn.TheVariants as turn
-use Rattle.parking_lot_waits_world.specs.Joint.{Joint, back_number, busy_number, call_at, call_in, front_number, is_open_at_variables, lock_of, number, seat_at, var_at}
+use Rattle.parking_lot_waits_world.specs.Joint.{Joint, back_number, call_at, front_number, lock_of, number, seat_at, var_at}
 use Rattle.parking_lot_waits_world.specs.JointLaws.{PartsFit}
-use Rattle.parking_lot_waits_world.specs.JointRanks.{is_in_front, left_at_variables, left_in, phase_in_front, steps_left, stepping_number}
+use Rattle.parking_lot_waits_world.specs.JointRanks.{is_in_front, left_at_variables, phase_in_front, steps_left, stepping_number}
 use Rattle.parking_lot_waits_world.specs.JointSteps.{ActsAt, ComesBackIf, FollowsAs, GoesAtLock, HearsAt, HearsOf, IsFollowing, IsGone, IsGoneAt, IsMoving, MovesIn, Turned, freed, is_locked, takes_now}
 use Rattle.parking_lot_waits_world.specs.Moving.{NotifiesIn}
-use Rattle.parking_lot_waits_world.specs.Turns.{handed, is_late, notify_turn, retried, turn_by, turn_of, wait_turn, wait_wakes, wakes_with}
+use Rattle.parking_lot_waits_world.specs.Turns.{handed, is_late, notify_turn, retried, turn_by, wait_turn, wait_wakes, wakes_with}
 use Rattle.parking_lot_waits_world.specs.Whole.{AtMutex, Owns, Away, Asks, IsSo, IsWhole, Notifies, Stands, Waits, asks, back_at_end, back_of, front_of}
 use Rattle.parking_lot_waits_world.proofs.RankParts.{acted_there, acts_pay, acts_reply, busy_is, busy_least, free_number, hears_pay, idle_most, idle_of, moved_costs, number_is, over_idle, same_number, taken_pay, told_there, var_changes}
 

@@ -11,14 +11,13 @@ use Rattle.parking_lot_condvar_world.specs.Machines.{State as Var}
 use Rattle.parking_lot_condvar_world.specs.Ranks as vars
 use Rattle.parking_lot_world.specs.declared.calls.LockCall.{LockCall}
 use Rattle.parking_lot_world.specs.declared.open_call.Call.{Call}
-use Rattle.parking_lot_world.specs.Machines as rows
 use Rattle.parking_lot_world.specs.Ranks as row
 use Rattle.parking_lot_world.specs.Rows.{call_at as row_call_at, state}
 use Rattle.parking_lot_world.specs.SoundLaws.{most_steps}
 use Rattle.parking_lot_waits_world.specs.declared.ended.Ended.{Ended}
 use Rattle.parking_lot_waits_world.specs.Joint.{Joint, back_number, busy_number, call_at, front_number, is_open_at_variables, seat_at}
 use Rattle.parking_lot_waits_world.specs.JointLaws.{PartsFit}
-use Rattle.parking_lot_waits_world.specs.JointMoves.{is_free, may_ask, may_call_at, may_expire, may_go}
+use Rattle.parking_lot_waits_world.specs.JointMoves.{may_ask, may_call_at, may_expire}
 use Rattle.parking_lot_waits_world.specs.JointSteps.{IsAsked, IsCalled, IsGone, IsLate}
 use Rattle.parking_lot_waits_world.specs.Whole.{IsWhole, simply_goes}
 
