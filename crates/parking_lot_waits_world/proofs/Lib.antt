@@ -11,3 +11,4 @@ pub mod RankParts
 pub mod Ranking
 pub mod RankOthers
 pub mod RankFew
+pub mod Progress

@@ -6,3 +6,4 @@ pub mod JointSteps
 pub mod Whole
 pub mod JointLaws
 pub mod JointRanks
+pub mod JointProgress

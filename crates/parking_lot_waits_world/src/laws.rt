@@ -1,5 +1,6 @@
 //! Laws of a machine's answers and steps.
 ghost use Rattle.parking_lot_waits_world.specs.JointLaws.{RepliesFit, StepsAskNoMore};
+ghost use Rattle.parking_lot_waits_world.specs.JointProgress.{SomebodyCanMove};
 ghost use Rattle.parking_lot_waits_world.specs.JointRanks.{StepsAreFew, StepsArePaidFor};
 
 use parking_lot_condvar_world::laws as of_variables;
@@ -29,4 +30,13 @@ pub fn steps_are_few()
     ensures { StepsAreFew }
 {
     of_locks::steps_are_few();
+}
+
+/// Where a thread is in a call, some thread can move; or that thread sleeps in a variable's list, or one of its numbers at a lock that somebody keeps who is
+/// in no call there. So sleepers never wait for one another alone.
+pub fn somebody_can_move()
+    ensures { SomebodyCanMove }
+{
+    of_locks::awake_can_move();
+    of_locks::somebody_can_move();
 }

@@ -1,0 +1,41 @@
+-- That some thread can move, or one waits for what only another can give.
+use Rattle.std.specs.Prelude.{◌≡◌, ◌≢◌, ◌⊎◌, ℕ, ◌<◌, Bool, true, false, length, Some}
+use Rattle.parking_lot_waits.specs.declared.wait_core.WaitPhase.TheVariants as w
+use Rattle.parking_lot_condvar_world.specs.declared.open_call.Core.TheVariants as core
+use Rattle.parking_lot_condvar_world.specs.declared.open_call.OpenCall.{OpenCall}
+use Rattle.parking_lot_world.specs.declared.open_call.Call.{Call}
+use Rattle.parking_lot_world.specs.Machines.{is_asleep}
+use Rattle.parking_lot_world.specs.Rows.{call_at as row_call_at, inside, state}
+use Rattle.parking_lot_world.specs.SoundLaws.{SomebodyKeeps}
+use Rattle.parking_lot_waits_world.specs.declared.turn.Turn.TheVariants as turn
+use Rattle.parking_lot_waits_world.specs.Joint.{Joint, back_number, call_at, number}
+use Rattle.parking_lot_waits_world.specs.JointLaws.{PartsFit}
+use Rattle.parking_lot_waits_world.specs.JointMoves.{is_free}
+use Rattle.parking_lot_waits_world.specs.Turns.{turn_of}
+use Rattle.parking_lot_waits_world.specs.Whole.{IsWhole, simply_goes}
+
+-- A thread sleeps in the list of a variable, and waits for a notification or for its deadline.
+pub record IsListed (j : Joint) (t : ℕ) : Type 0 where
+  pub variable : ℕ
+  pub call : OpenCall
+  pub here : call_at j variable t ≡ Some call
+  pub listed : call.listed ≡ true
+  pub sleeps : turn_of call ≡ turn.Sleeps
+
+-- One of its numbers sleeps at a lock that somebody keeps who is in no call there.
+pub record IsKeptOut (j : Joint) (t : ℕ) : Type 0 where
+  pub second : Bool
+  pub call : Call
+  pub here : row_call_at (state j.rows) (number j t second) ≡ Some call
+  pub asleep : is_asleep (state j.rows) (number j t second) ≡ true
+  pub kept : SomebodyKeeps (state j.rows) call.lock
+
+-- Whoever gives its mutex up is in no section by its other number: that one is in no call, or was moved to the mutex's list, where it sleeps or was woken.
+abbrev pub GiversAreOut : Joint → Type 0
+GiversAreOut j = (v t m : ℕ) (c : OpenCall) → call_at j v t ≡ Some c → c.core ≡ core.Wait (record { phase = w.Unlocks m }) → inside (state j.rows) ≢ Some (back_number j t)
+
+-- Where a thread is in a call, some thread can move; or that thread itself waits in a list for a notification, its deadline, or an owner.
+abbrev pub SomebodyCanMove : Type 0
+SomebodyCanMove =
+    (j : Joint) (t : ℕ) → IsWhole j → PartsFit j → GiversAreOut j → t < length j.seats → is_free j t ≡ false
+    → ((u : ℕ) × (simply_goes j u ≡ true)) ⊎ (IsListed j t ⊎ IsKeptOut j t)
