@@ -12,3 +12,5 @@ pub mod Ranking
 pub mod RankOthers
 pub mod RankFew
 pub mod Progress
+pub mod Sections
+pub mod Givers

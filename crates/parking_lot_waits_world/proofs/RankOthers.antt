@@ -43,7 +43,7 @@ none_of None e = refl
 none_of (Some x) e = absurd cc
 
 -- whoever is in no call has no seat, and neither number is in one
-free_of : (j : Joint) (t : ℕ) → is_free j t ≡ true → ((seat_at j t).at ≡ None) × ((b : Bool) → row_call_at (state j.rows) (number j t b) ≡ None)
+pub free_of : (j : Joint) (t : ℕ) → is_free j t ≡ true → ((seat_at j t).at ≡ None) × ((b : Bool) → row_call_at (state j.rows) (number j t b) ≡ None)
 free_of j t e =
     let (seat, idle) = both_true _ _ e in
     let (first, second) = both_true _ _ idle in
@@ -53,7 +53,7 @@ free_of j t e =
     go true first second = second
     go false first second = first
 
-middle : (a b c : Bool) → (a && (b && c)) ≡ true → b ≡ true
+pub middle : (a b c : Bool) → (a && (b && c)) ≡ true → b ≡ true
 middle a b c e = (both_true b c (both_true a (b && c) e).1).0
 
 module _ (i j : Joint) (h : IsWhole i) (fi : PartsFit i) (t : ℕ) where

@@ -73,7 +73,7 @@ pub listed_idle : (c : OpenCall) (p : WaitPhase) → c.listed ≡ true → back_
 listed_idle c p e away = subst Idle (sym (ap (λ b. back_of b p) e ∙ away)) away_idle
 
 -- one that is woken locks the mutex again, or has it
-woken_back : (token : UnparkToken) → phase_in_front (begins_again token) ≡ false
+pub woken_back : (token : UnparkToken) → phase_in_front (begins_again token) ≡ false
 woken_back token = go (token.0 == 1)
   where
     go : (b : Bool) → phase_in_front (cond b (w.Ends end.Woken) (w.Locks false)) ≡ false

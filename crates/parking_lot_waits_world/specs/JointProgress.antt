@@ -1,16 +1,20 @@
 -- That some thread can move, or one waits for what only another can give.
-use Rattle.std.specs.Prelude.{◌≡◌, ◌≢◌, ◌⊎◌, ℕ, ◌<◌, Bool, true, false, length, Some}
+use Rattle.std.specs.Prelude.{◌≡◌, ◌≢◌, ◌⊎◌, ℕ, ◌<◌, Bool, true, false, length, Option, Some, None}
 use Rattle.parking_lot_waits.specs.declared.wait_core.WaitPhase.TheVariants as w
+use Rattle.parking_lot_condvar_world.specs.declared.calls.CondvarCall.{CondvarCall}
 use Rattle.parking_lot_condvar_world.specs.declared.open_call.Core.TheVariants as core
 use Rattle.parking_lot_condvar_world.specs.declared.open_call.OpenCall.{OpenCall}
+use Rattle.parking_lot_world.specs.declared.calls.LockCall.{LockCall}
 use Rattle.parking_lot_world.specs.declared.open_call.Call.{Call}
 use Rattle.parking_lot_world.specs.Machines.{is_asleep}
 use Rattle.parking_lot_world.specs.Rows.{call_at as row_call_at, inside, state}
 use Rattle.parking_lot_world.specs.SoundLaws.{SomebodyKeeps}
+use Rattle.parking_lot_waits_world.specs.declared.ended.Ended.{Ended}
 use Rattle.parking_lot_waits_world.specs.declared.turn.Turn.TheVariants as turn
 use Rattle.parking_lot_waits_world.specs.Joint.{Joint, back_number, call_at, number}
 use Rattle.parking_lot_waits_world.specs.JointLaws.{PartsFit}
-use Rattle.parking_lot_waits_world.specs.JointMoves.{is_free}
+use Rattle.parking_lot_waits_world.specs.JointMoves.{is_free, may_ask, may_call_at, may_expire, may_go}
+use Rattle.parking_lot_waits_world.specs.JointSteps.{IsAsked, IsCalled, IsGone, IsLate}
 use Rattle.parking_lot_waits_world.specs.Turns.{turn_of}
 use Rattle.parking_lot_waits_world.specs.Whole.{IsWhole, simply_goes}
 
@@ -39,3 +43,11 @@ abbrev pub SomebodyCanMove : Type 0
 SomebodyCanMove =
     (j : Joint) (t : ℕ) → IsWhole j → PartsFit j → GiversAreOut j → t < length j.seats → is_free j t ≡ false
     → ((u : ℕ) × (simply_goes j u ≡ true)) ⊎ (IsListed j t ⊎ IsKeptOut j t)
+
+-- So it is where nobody is in a call at a variable; and a beginning, a step or a deadline that is allowed keeps it, where waits and mutexes are tied together.
+pub record GiversStayOut : Type 0 where
+  pub starts : (j : Joint) → ((v t : ℕ) → call_at j v t ≡ None) → GiversAreOut j
+  pub asks : (t lock : ℕ) (c : LockCall) (i j : Joint) → IsWhole i → PartsFit i → GiversAreOut i → may_ask i t lock c ≡ true → IsAsked t lock c i j → GiversAreOut j
+  pub calls : (t v : ℕ) (c : CondvarCall) (i j : Joint) → IsWhole i → PartsFit i → GiversAreOut i → may_call_at i t v c ≡ true → IsCalled t v c i j → GiversAreOut j
+  pub steps : (t : ℕ) (fair : Bool) (end : Option Ended) (i j : Joint) → IsWhole i → PartsFit i → GiversAreOut i → may_go i t ≡ true → IsGone t fair end i j → GiversAreOut j
+  pub deadlines : (t : ℕ) (i j : Joint) → IsWhole i → PartsFit i → GiversAreOut i → may_expire i t ≡ true → IsLate t i j → GiversAreOut j

@@ -1,6 +1,6 @@
 //! Laws of a machine's answers and steps.
 ghost use Rattle.parking_lot_waits_world.specs.JointLaws.{RepliesFit, StepsAskNoMore};
-ghost use Rattle.parking_lot_waits_world.specs.JointProgress.{SomebodyCanMove};
+ghost use Rattle.parking_lot_waits_world.specs.JointProgress.{GiversStayOut, SomebodyCanMove};
 ghost use Rattle.parking_lot_waits_world.specs.JointRanks.{StepsAreFew, StepsArePaidFor};
 
 use parking_lot_condvar_world::laws as of_variables;
@@ -40,3 +40,8 @@ pub fn somebody_can_move()
     of_locks::awake_can_move();
     of_locks::somebody_can_move();
 }
+
+/// Whoever gives its mutex up is in no section by its other number: each beginning, step and deadline keeps that, where waits and mutexes are tied together.
+pub fn givers_stay_out()
+    ensures { GiversStayOut }
+{}
