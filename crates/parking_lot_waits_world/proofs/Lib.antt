@@ -14,3 +14,4 @@ pub mod RankFew
 pub mod Progress
 pub mod Sections
 pub mod Givers
+pub mod OnePlace

@@ -29,7 +29,7 @@ use Rattle.parking_lot_waits_world.specs.Joint.{Joint, back_number, busy_number,
 use Rattle.parking_lot_waits_world.specs.JointLaws.{PartsFit}
 use Rattle.parking_lot_waits_world.specs.JointMoves.{is_free, may_ask, may_call_at, may_expire}
 use Rattle.parking_lot_waits_world.specs.JointRanks.{IsLateFor, is_in_front, left_at_variables, phase_in_front, stepping_number, steps_left, weight}
-use Rattle.parking_lot_waits_world.specs.JointSteps.{BeginsIn, IsAsked, IsCalled, IsLate, IsLateAt}
+use Rattle.parking_lot_waits_world.specs.JointSteps.{BeginsIn, HearsAt, IsAsked, IsCalled, IsLate, IsLateAt}
 use Rattle.parking_lot_waits_world.specs.Turns.{turn_by, wait_turn}
 use Rattle.parking_lot_waits_world.specs.Whole.{IsWhole, Notifies, Stands, Waits, back_of, front_of, simply_goes, simply_goes_as, simply_goes_at, simply_turns}
 use Rattle.parking_lot_waits_world.proofs.Hearing.{both_true, can_expire}
@@ -149,18 +149,22 @@ may_hear_in (Some x) t c what here e = (is_left x.queue, sym (ap (λ o. option_m
 pub late_costs : (i j : Joint) (t v : ℕ) → IsWhole i → (seat_at i t).at ≡ Some v → may_expire i t ≡ true → IsLate t i j → steps_left j t ≤ steps_left i t
 late_costs i j t v h seat may late = go (subst (λ (o : Option ℕ). IsLateAt o t i j) seat late)
   where
-    go : IsLateAt (Some v) t i j → steps_left j t ≤ steps_left i t
-    go (heard, rows, seats) =
-        let (c, here) = h.sits v t seat in
-        let told_so = may_hear_in (var_at i v) t c outside.Expired here (can_expire (seat_at i t).at v i t seat (both_true _ _ may).1) in
-        let then = told_there t v outside.Expired c i j here heard in
-        let back = core_expires c told_so.0 c.core told_so.1 then.0 in
+    by : HearsAt t v outside.Expired i j → j.rows ≡ i.rows → stepping_number j t ≡ stepping_number i t → steps_left j t ≤ steps_left i t
+    by heard rows same =
         omega (
           arith,
           hears_pay t v outside.Expired i j heard,
           ap (λ (r : Rows). row.steps_left (state r) (stepping_number i t)) rows,
-          ap (row.steps_left (state j.rows)) (same_number i j t v c (told c then.0 outside.Expired) seats seat here then.1 (back.1 ∙ sym back.0)),
+          ap (row.steps_left (state j.rows)) same,
         )
+
+    go : IsLateAt (Some v) t i j → steps_left j t ≤ steps_left i t
+    go (heard, rows, seats) =
+        let (c, here) = h.sits v t seat in
+        let (left, hears) = may_hear_in (var_at i v) t c outside.Expired here (can_expire (seat_at i t).at v i t seat (both_true _ _ may).1) in
+        let (queue, there) = told_there t v outside.Expired c i j here heard in
+        let (before, after) = core_expires c left c.core hears queue in
+        by heard rows (same_number i j t v c (told c queue outside.Expired) seats seat here there (after ∙ sym before))
 
 -- ONE THAT CAN'T MOVE
 

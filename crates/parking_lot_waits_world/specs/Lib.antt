@@ -7,3 +7,4 @@ pub mod Whole
 pub mod JointLaws
 pub mod JointRanks
 pub mod JointProgress
+pub mod JointCases

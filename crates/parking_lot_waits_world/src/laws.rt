@@ -1,10 +1,11 @@
 //! Laws of a machine's answers and steps.
+ghost use Rattle.parking_lot_waits_world.specs.JointCases.{StepsAreCases};
 ghost use Rattle.parking_lot_waits_world.specs.JointLaws.{RepliesFit, StepsAskNoMore};
 ghost use Rattle.parking_lot_waits_world.specs.JointProgress.{GiversStayOut, SomebodyCanMove};
 ghost use Rattle.parking_lot_waits_world.specs.JointRanks.{StepsAreFew, StepsArePaidFor};
 
 use parking_lot_condvar_world::laws as of_variables;
-use parking_lot_world::laws as of_locks;
+use parking_lot_world::{laws as of_locks, moves_are_cases};
 
 /// A wait is answered that its deadline came only if it has one; and a notification says how many it has taken, one at most if it is of one.
 pub fn replies_fit_their_calls()
@@ -45,3 +46,11 @@ pub fn somebody_can_move()
 pub fn givers_stay_out()
     ensures { GiversStayOut }
 {}
+
+/// Each step, beginning and deadline changes one lock at most, by cases of a lock without a word, and one variable at most, by steps of its rules; and leaves
+/// all other locks and variables as they were.
+pub fn each_step_is_at_one_place()
+    ensures { StepsAreCases }
+{
+    moves_are_cases();
+}
