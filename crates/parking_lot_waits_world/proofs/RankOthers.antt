@@ -178,6 +178,9 @@ not_row false b o p e = refl
 row_stops : (j : Joint) (m : ℕ) → is_open_at_variables j ≡ false → row_goes j m ≡ false → rows.can_move (state j.rows) m ≡ false
 row_stops j m shut e = not_row (rows.can_move (state j.rows) m) (enters_at_lock j m) (is_open_at_variables j) shut e
 
+pub stopped_lets : (j : Joint) (t u : ℕ) → PartsFit j → rows.can_move (state j.rows) (stepping_number j t) ≡ false → steps_left j u ≤ steps_left j t
+stopped_lets j t u fits stops = omega (arith, any_may_be_stepped (state j.rows) fits.rows (stepping_number j t) stops (stepping_number j u))
+
 module _ (j : Joint) (h : IsWhole j) (fits : PartsFit j) (t : ℕ) (shut : is_open_at_variables j ≡ false) where
   abbrev Stops : Type 0
   Stops = rows.can_move (state j.rows) (stepping_number j t) ≡ false
@@ -249,4 +252,4 @@ module _ (j : Joint) (h : IsWhole j) (fits : PartsFit j) (t : ℕ) (shut : is_op
   pub others_go_on : (u : ℕ) → t < length j.seats → simply_goes j t ≡ false → steps_left j u ≤ steps_left j t
   others_go_on u low stops =
       let goes = sym (ap (λ b. b && simply_goes_at (seat_at j t).at j t) (lt-ltb t (length j.seats) low)) ∙ stops in
-      omega (arith, any_may_be_stepped (state j.rows) fits.rows (stepping_number j t) (by_seat (seat_at j t).at refl goes) (stepping_number j u))
+      stopped_lets j t u fits (by_seat (seat_at j t).at refl goes)

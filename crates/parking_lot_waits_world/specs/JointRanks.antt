@@ -11,6 +11,7 @@ use Rattle.parking_lot_condvar_world.specs.Machines.{State as Var}
 use Rattle.parking_lot_condvar_world.specs.Ranks as vars
 use Rattle.parking_lot_world.specs.declared.calls.LockCall.{LockCall}
 use Rattle.parking_lot_world.specs.declared.open_call.Call.{Call}
+use Rattle.parking_lot_world.specs.Machines as rows
 use Rattle.parking_lot_world.specs.Ranks as row
 use Rattle.parking_lot_world.specs.Rows.{call_at as row_call_at, state}
 use Rattle.parking_lot_world.specs.SoundLaws.{most_steps}
@@ -84,7 +85,9 @@ pub record StepsArePaidFor : Type 0 where
   pub deadlines : (t n : ℕ) (i j : Joint) → IsWhole i → PartsFit i → IsWhole j → PartsFit j → (seat_at i t).at ≡ None → IsLateFor i t n → IsLate t i j
       → steps_left j t ≤ steps_left i t + n
   pub deadlines_at_variables : (t v : ℕ) (i j : Joint) → IsWhole i → PartsFit i → (seat_at i t).at ≡ Some v → may_expire i t ≡ true → IsLate t i j → steps_left j t ≤ steps_left i t
-  -- where it can't move, and no section of a variable shuts it out, any other may be stepped from there on
+  -- where its number can't move at the locks, as where it is in no call there, any other may be stepped from there on
+  pub stops : (t u : ℕ) (j : Joint) → PartsFit j → rows.can_move (state j.rows) (stepping_number j t) ≡ false → steps_left j u ≤ steps_left j t
+  -- where the thread can't move, and no section of a variable shuts it out, any other may be stepped from there on
   pub others : (t u : ℕ) (j : Joint) → IsWhole j → PartsFit j → t < length j.seats → simply_goes j t ≡ false → is_open_at_variables j ≡ false → steps_left j u ≤ steps_left j t
 
 -- At every moment: of n threads, so many at a lock for each of their two numbers, and of each a call at one variable at most.
