@@ -27,3 +27,11 @@ pub mod FollowsKept
 pub mod TakenOff
 pub mod TakenIn
 pub mod MovesKept
+pub mod RankParts
+pub mod Ranking
+pub mod RankOthers
+pub mod RankFew
+pub mod Progress
+pub mod Sections
+pub mod Givers
+pub mod OpenGoes

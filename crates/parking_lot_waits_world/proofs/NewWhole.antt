@@ -14,6 +14,7 @@ use Rattle.parking_lot_world.specs.Rows.{State, call_at as row_call_at, hold_at,
 use Rattle.parking_lot_waits_world.specs.declared.seat.Seat.{Seat}
 use Rattle.parking_lot_waits_world.specs.Joint.{Joint, call_at, call_in, is_entered, nowhere, number, seat_at, var_at, var_in}
 use Rattle.parking_lot_waits_world.specs.JointSteps.{var_of}
+use Rattle.parking_lot_waits_world.specs.JointProgress.{GiversAreOut}
 use Rattle.parking_lot_waits_world.specs.Whole.{IsWhole, is_entered_at}
 
 count : {X : Type 0} (n : ℕ) (x : X) → length (replicate n x) ≡ n
@@ -78,3 +79,6 @@ module _ (j : Joint) (n : ℕ) (kinds : List LockKind) (variables : List Bool) (
     sections = inl (ap (λ (s : State). s.lot.section) rows);
     alone = λ v u e f. both_ways (is_entered_at j v) e (not_entered v (var_at j v) refl);
   }
+
+  pub new_givers : GiversAreOut j
+  new_givers v t m c here is = absurd (nobody v t c here)

@@ -9,3 +9,5 @@ pub mod JointLaws
 pub mod JointCases
 pub mod JointStays
 pub mod Ready
+pub mod JointRanks
+pub mod JointProgress

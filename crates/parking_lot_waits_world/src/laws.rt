@@ -1,7 +1,9 @@
 //! Laws of a machine's answers and steps.
 ghost use Rattle.parking_lot_waits_world.specs.JointCases.{StepsAreCases};
-ghost use Rattle.parking_lot_waits_world.specs.JointStays.{StepsLeave};
 ghost use Rattle.parking_lot_waits_world.specs.JointLaws.{RepliesFit, StaysWhole};
+ghost use Rattle.parking_lot_waits_world.specs.JointProgress.{GiversStayOut, SomebodyCanMove, SomebodyInsideGoes};
+ghost use Rattle.parking_lot_waits_world.specs.JointRanks.{StepsAreFew, StepsArePaidFor};
+ghost use Rattle.parking_lot_waits_world.specs.JointStays.{StepsLeave};
 
 use parking_lot_condvar_world::laws as of_variables;
 use parking_lot_world::{laws as of_locks, moves_are_cases};
@@ -32,4 +34,39 @@ pub fn each_step_is_a_case()
 /// mutex, or at the lock that is asked; nobody else begins a call; and no section is open that wasn't, where none is entered.
 pub fn steps_leave_the_rest()
     ensures { StepsLeave }
+{}
+
+/// Each step is paid for by the steps that were left, and with it all that it makes others do: of all threads in their calls, where one of them is stepped
+/// until it can't move. What begins adds a stated number of steps.
+pub fn steps_are_paid_for()
+    ensures { StepsArePaidFor }
+{}
+
+/// At every moment all threads together have few steps left: so many for each of their numbers at a lock, and those of one call at a variable each.
+pub fn steps_are_few()
+    ensures { StepsAreFew }
+{
+    of_locks::steps_are_few();
+}
+
+/// Where a thread is in a call, some thread can move; or that thread sleeps in a variable's list, or one of its numbers at a lock that somebody keeps who is
+/// in no call there. So sleepers never wait for one another alone.
+pub fn somebody_can_move()
+    ensures { SomebodyCanMove }
+{
+    of_locks::awake_can_move();
+    of_locks::somebody_can_move();
+}
+
+/// Where a section is open, of a lock or a variable, somebody can move who enters none.
+pub fn somebody_inside_goes()
+    ensures { SomebodyInsideGoes }
+{
+    of_locks::awake_can_move();
+    of_locks::somebody_can_move();
+}
+
+/// Whoever gives its mutex up is in no section by its other number: each beginning, step and deadline keeps that, where waits and mutexes are tied together.
+pub fn givers_stay_out()
+    ensures { GiversStayOut }
 {}

@@ -6,12 +6,13 @@ ghost use Rattle.parking_lot_world.specs.Rows.{state};
 ghost use Rattle.parking_lot_waits_world.specs.Joint.{call_at, is_var, mode_at, nowhere, seat_at, thread_of, var_at, waiters_of, word_at};
 ghost use Rattle.parking_lot_waits_world.specs.JointMoves.{may_ask, may_call_at, may_expire, may_go};
 ghost use Rattle.parking_lot_waits_world.specs.JointLaws.{PartsFit};
+ghost use Rattle.parking_lot_waits_world.specs.JointProgress.{GiversAreOut};
 ghost use Rattle.parking_lot_waits_world.specs.JointSides.{enters, is_busy, is_indebted, is_open, lock_call, queue_at};
 ghost use Rattle.parking_lot_waits_world.specs.JointSteps.{IsAsked, IsCalled, IsGone, IsLate, var_of};
 ghost use Rattle.parking_lot_waits_world.specs.Whole.{IsWhole};
 
 use crate::ended::Ended;
-use crate::laws::stays_whole;
+use crate::laws::{givers_stay_out, stays_whole};
 use crate::machines::Machines;
 use crate::seat::Seat;
 use parking_lot_condvar_world::{CondvarCall, OpenCall};
@@ -31,13 +32,14 @@ pub struct WaitMachine<A: Allocator = Global> {
 
 impl<A: Allocator> Model for WaitMachine<A> {
     ghost use Rattle.parking_lot_waits_world.specs.Joint.{Joint};
+    ghost use Rattle.parking_lot_waits_world.specs.JointProgress.{GiversAreOut};
     ghost use Rattle.parking_lot_waits_world.specs.Whole.{IsWhole};
 
     ghost Value = { Joint };
 
     ghost view = { λ m. m.machines };
 
-    ghost invariant = { λ m. IsWhole m.machines };
+    ghost invariant = { λ m. IsWhole m.machines × GiversAreOut m.machines };
 }
 
 impl<A: Allocator + Clone + Drop> WaitMachine<A> {
@@ -162,6 +164,7 @@ impl<A: Allocator> WaitMachine<A> {
     /// What holds of the machine at every moment. It does nothing.
     pub fn known(&self)
         ensures whole { IsWhole self.now }
+        ensures givers { GiversAreOut self.now }
         ensures parts { PartsFit self.now }
     {
         self.machines.known();
@@ -213,6 +216,8 @@ impl<A: Allocator> WaitMachine<A> {
         ensures { IsAsked thread lock call self.old self.new }
     {
         stays_whole();
+        givers_stay_out();
+        self.machines.known();
         self.machines.ask(thread, lock, call);
     }
 
@@ -222,6 +227,7 @@ impl<A: Allocator> WaitMachine<A> {
         ensures { IsCalled thread variable call self.old self.new }
     {
         stays_whole();
+        givers_stay_out();
         self.machines.known();
         self.machines.call(thread, variable, call);
     }
@@ -233,6 +239,7 @@ impl<A: Allocator> WaitMachine<A> {
         ensures { IsGone thread fair result self.old self.new }
     {
         stays_whole();
+        givers_stay_out();
         self.machines.known();
         self.machines.step(thread, fair)
     }
@@ -244,6 +251,7 @@ impl<A: Allocator> WaitMachine<A> {
         ensures { IsLate thread self.old self.new }
     {
         stays_whole();
+        givers_stay_out();
         self.machines.known();
         self.machines.deadline(thread);
     }

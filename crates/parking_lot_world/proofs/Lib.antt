@@ -12,7 +12,7 @@ mod Ruling
 mod NthTaken
 mod Agreeing
 mod Losing
-mod Serving
+pub mod Serving
 mod UpgradeViewing
 mod Spinning
 mod Bounding

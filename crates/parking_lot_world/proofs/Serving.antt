@@ -305,7 +305,7 @@ module _ (s : State) (h : FitsTogether s) where
     at_work c (In k how) e st = inside_possible s c c.core k how e
     at_work c (stances.Asleep k token) e st = absurd (st.1 o is (h.lots.opened o is).1)
 
-    goes_on : (call : Option Call) → Seated whose call (place_at s.lot.places whose) s.lot.section → can_move_in s call ≡ true
+    pub goes_on : (call : Option Call) → Seated whose call (place_at s.lot.places whose) s.lot.section → can_move_in s call ≡ true
     goes_on None seated = absurd (seated.1 o is (h.lots.opened o is).1)
     goes_on (Some c) seated = at_work c (stance c.core) refl seated
 
