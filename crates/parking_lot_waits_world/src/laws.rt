@@ -1,5 +1,5 @@
 //! Laws of a machine's answers and steps.
-ghost use Rattle.parking_lot_waits_world.specs.JointLaws.{RepliesFit, StaysWhole};
+ghost use Rattle.parking_lot_waits_world.specs.JointLaws.{RepliesFit, StaysWhole, WaitsEndOwning};
 
 use parking_lot_condvar_world::laws as of_variables;
 use parking_lot_world::laws as of_locks;
@@ -17,3 +17,8 @@ pub fn stays_whole()
 {
     of_locks::owners_agree();
 }
+
+/// A wait that is answered leaves its thread owning the mutex, however it ends.
+pub fn waits_end_owning()
+    ensures { WaitsEndOwning }
+{}
