@@ -2,12 +2,12 @@
 use Rattle.std.proofs.Common.{◌≡◌, ◌≢◌, ◌||◌, inl, inr, ℕ, zero, suc, ◌+◌, ◌-◌, ◌*◌, ◌<◌, Bool, true, false, not, cond, ◌&&◌, is_some, is_none, List, [], ◌∷◌, length, Option, Some, None, slice_get, refl, sym, ap, ◌∙◌, subst, arith, eqb-true}
 use Rattle.std.specs.List.{list_all, list_any}
 use Rattle.std.specs.Option.{option_and_then, option_map, option_map_or}
-use Rattle.std.proofs.lemmas.Bool.{lt-ltb, ltb-true}
+use Rattle.std.proofs.lemmas.Bool.{lt-ltb}
 use Rattle.std.proofs.lemmas.Option.{none-some, same_Some, slice_get-map, slice_get_within}
 use Rattle.parking_lot_core_lot.specs.declared.place.Section.{Section}
 use Rattle.parking_lot_rules.specs.Lists.{at_index, occurs}
 use Rattle.parking_lot_rules.specs.Variable as rules
-use Rattle.parking_lot_rules.proofs.Waiting.{counted, counted-same, occurs-cons}
+use Rattle.parking_lot_rules.proofs.Waiting.{counted-same, occurs-cons}
 use Rattle.parking_lot_waits.specs.declared.notify_core.NotifyPhase.{NotifyPhase}
 use Rattle.parking_lot_waits.specs.declared.notify_core.NotifyPhase.TheVariants as n
 use Rattle.parking_lot_waits.specs.declared.wait_core.WaitPhase.{WaitPhase}
@@ -17,23 +17,19 @@ use Rattle.parking_lot_waits.specs.WaitRules as waits
 use Rattle.parking_lot_condvar_world.specs.declared.open_call.Core.{Core}
 use Rattle.parking_lot_condvar_world.specs.declared.open_call.Core.TheVariants as core
 use Rattle.parking_lot_condvar_world.specs.declared.open_call.OpenCall.{OpenCall}
-use Rattle.parking_lot_condvar_world.specs.Fitting.{Fits, is_the}
-use Rattle.parking_lot_condvar_world.specs.MachineLaws.{ListIsWaiters}
+use Rattle.parking_lot_condvar_world.specs.Fitting.{is_the}
 use Rattle.parking_lot_condvar_world.specs.Machines.{State as Var, call_at as var_call_at, phase_by, phase_in, spot_of, variable}
-use Rattle.parking_lot_condvar_world.specs.Turns.{is_inside, is_inside_by, notify_is_inside, wait_is_inside}
-use Rattle.parking_lot_world.specs.declared.calls.LockCall.{LockCall}
+use Rattle.parking_lot_condvar_world.specs.Turns.{is_inside, is_inside_by, wait_is_inside}
 use Rattle.parking_lot_world.specs.declared.calls.LockCall.TheVariants as call
 use Rattle.parking_lot_world.specs.declared.calls.LockKind.{LockKind}
 use Rattle.parking_lot_world.specs.declared.calls.LockKind.TheVariants as kind
 use Rattle.parking_lot_world.specs.declared.open_call.Call.{Call}
 use Rattle.parking_lot_world.specs.declared.seat.Core.{Core as RowCore}
 use Rattle.parking_lot_world.specs.declared.seat.Core.TheVariants as row_core
-use Rattle.parking_lot_world.specs.Beginnings.{excludes, is_allowed, owns_nothing}
 use Rattle.parking_lot_world.specs.Calls.{takes}
-use Rattle.parking_lot_world.specs.Kinds.{kind_in, manner_of}
 use Rattle.parking_lot_world.specs.Machines.{may_begin}
 use Rattle.parking_lot_world.specs.RowFits.{FitsTogether, IsOfKind}
-use Rattle.parking_lot_world.specs.Rows.{State, call_at as row_call_at, hold_at, state}
+use Rattle.parking_lot_world.specs.Rows.{State, call_at as row_call_at, state}
 use Rattle.parking_lot_waits_world.proofs.Notifying.{Marking, is_moving, marking}
 use Rattle.parking_lot_waits_world.specs.declared.turn.Turn.{Turn}
 use Rattle.parking_lot_waits_world.specs.declared.turn.Turn.TheVariants as turn
@@ -81,19 +77,19 @@ is_there s k m fits mutex is =
 
 -- WHO WAITS AT A VARIABLE
 
--- One that is listed outside the section owns nothing of the mutex that is shown, and is in no call there.
+-- One that is listed outside the section is in no call at the mutex that is shown, and owns nothing of it; off the list it asks for it.
 waiting_case : (listed : Bool) (p : WaitPhase) (m word : ℕ) → 0 < rules.weight rules.Waiting (waits.does (spot_of listed) p) → rules.Agrees word (waits.does (spot_of listed) p) → named p m ≡ m → wait_is_inside listed p ≡ false
-    → (back_of listed p ≡ Away) × (word ≡ m + 1)
+    → (back_of listed p ≡ Away) × (back_of false p ≡ Asks) × (word ≡ m + 1)
 unfolding rules.weight
 waiting_case listed (w.Shows k) m word some agrees names out = absurd cc
 waiting_case listed (w.Rests k) m word some agrees names out = absurd cc
 waiting_case true (w.Quits k) m word some agrees names out = absurd cc
 waiting_case false (w.Quits k) m word some agrees names out = absurd (omega (arith, some))
-waiting_case true (w.Unlocks k) m word some agrees names out = (refl, agrees ∙ ap (λ n. n + 1) names)
+waiting_case true (w.Unlocks k) m word some agrees names out = (refl, refl, agrees ∙ ap (λ n. n + 1) names)
 waiting_case false (w.Unlocks k) m word some agrees names out = absurd (omega (arith, some))
-waiting_case true (w.Sleeps k) m word some agrees names out = (refl, agrees ∙ ap (λ n. n + 1) names)
+waiting_case true (w.Sleeps k) m word some agrees names out = (refl, refl, agrees ∙ ap (λ n. n + 1) names)
 waiting_case false (w.Sleeps k) m word some agrees names out = absurd (omega (arith, some))
-waiting_case true (w.Expires k) m word some agrees names out = (refl, agrees ∙ ap (λ n. n + 1) names)
+waiting_case true (w.Expires k) m word some agrees names out = (refl, refl, agrees ∙ ap (λ n. n + 1) names)
 waiting_case false (w.Expires k) m word some agrees names out = absurd (omega (arith, some))
 waiting_case listed (w.Waiting k) m word some agrees names out = absurd (omega (arith, some))
 waiting_case listed w.Stranger m word some agrees names out = absurd (omega (arith, some))
@@ -174,7 +170,7 @@ in_var vars v x e = go (slice_get vars v) refl
     go (Some y) is = is ∙ ap Some (sym (ap (option_and_then (λ (o : Option Var). o)) is) ∙ e)
 
 -- where a section of a variable is open, none of a lock is
-locks_closed : (j : Joint) (v t : ℕ) (x : Var) → IsWhole j → var_at j v ≡ Some x → is_the x.inside t ≡ true → (state j.rows).lot.section ≡ None
+pub locks_closed : (j : Joint) (v t : ℕ) (x : Var) → IsWhole j → var_at j v ≡ Some x → is_the x.inside t ≡ true → (state j.rows).lot.section ≡ None
 locks_closed j v t x h here inside = elim h.sections [
   | inl e ↦ e
   | inr e ↦ not_open _ (any_of is_entered j.vars v (Some x) (in_var j.vars v x here) (has_entered x t inside)) e
@@ -184,11 +180,21 @@ number_low : (n t : ℕ) (second : Bool) → t < n → cond second (n + t) t < 2
 number_low n t true low = omega (arith, low)
 number_low n t false low = omega (arith, low)
 
+-- One that waits in its list, to be moved to the mutex that the variable shows.
+pub record Waiter (x : Var) (u : ℕ) : Type 0 where
+  pub call : OpenCall
+  pub here : var_call_at x u ≡ Some call
+  pub phase : WaitPhase
+  pub core : call.core ≡ core.Wait (record { phase = phase })
+  pub away : back_of call.listed phase ≡ Away
+  pub off : back_of false phase ≡ Asks
+  pub word : x.word ≡ mutex_of call.call + 1
+
 module _ (j : Joint) (h : IsWhole j) (v : ℕ) (x : Var) (at : var_at j v ≡ Some x) (known : KnownIn (Some x)) where
-  here_too : (u : ℕ) (c : OpenCall) → var_call_at x u ≡ Some c → call_at j v u ≡ Some c
+  pub here_too : (u : ℕ) (c : OpenCall) → var_call_at x u ≡ Some c → call_at j v u ≡ Some c
   here_too u c here = ap (λ (o : Option Var). call_in o u) at ∙ here
 
-  thread_low : (u : ℕ) (c : OpenCall) → var_call_at x u ≡ Some c → u < length j.seats
+  pub thread_low : (u : ℕ) (c : OpenCall) → var_call_at x u ≡ Some c → u < length j.seats
   thread_low u c here = subst (λ m. u < m) (h.threads v x at) (slice_get_within x.calls u (Some c) (slot_of (slice_get x.calls u) here))
     where
       slot_of : (o : Option (Option OpenCall)) → option_and_then (λ (y : Option OpenCall). y) o ≡ Some c → o ≡ Some (Some c)
@@ -196,36 +202,42 @@ module _ (j : Joint) (h : IsWhole j) (v : ℕ) (x : Var) (at : var_at j v ≡ So
       slot_of (Some y) e = ap Some e
 
   -- one in a call at the variable that waits in its list, where another is in the section
-  by_core : (u : ℕ) (c : OpenCall) (k : Core) → var_call_at x u ≡ Some c → 0 < rules.weight rules.Waiting (phase_by c.listed k) → rules.Agrees x.word (phase_by c.listed k) → is_inside_by c.listed k ≡ false → Stands j u c k
-      → (state j.rows).lot.section ≡ None → may_move j (x.word - 1) u ≡ true
-  by_core u c (core.Notify k) here some agrees out stands closed = absurd (omega (arith, some, notify_waits k.phase))
-  by_core u c (core.Wait k) here some agrees out stands closed =
-      let (away, word) = waiting_case c.listed k.phase (mutex_of c.call) x.word some agrees stands.names out in
-      let low = thread_low u c here in
-      let may = may_lock (state j.rows) (back_number j u) (mutex_of c.call) (subst (λ m. back_number j u < m) (sym h.numbers) (number_low (length j.seats) u (seat_at j u).second low)) stands.mutex.kind
-      (subst (λ (a : AtMutex). IsSo a (state j.rows) (back_number j u) (mutex_of c.call)) away stands.back) in
-      both _ _ (lt-ltb u _ low) (both _ _ (subst (λ m. may_begin (state j.rows) (back_number j u) m call.Lock ≡ true) (omega (arith, word)) may) (ap (λ (o : Option Section). not (is_some o)) closed))
+  by_core : (u : ℕ) (c : OpenCall) (k : Core) → var_call_at x u ≡ Some c → c.core ≡ k → 0 < rules.weight rules.Waiting (phase_by c.listed k) → rules.Agrees x.word (phase_by c.listed k) → is_inside_by c.listed k ≡ false → Stands j u c k → Waiter x u
+  by_core u c (core.Notify k) here is some agrees out stands = absurd (omega (arith, some, notify_waits k.phase))
+  by_core u c (core.Wait k) here is some agrees out stands =
+      let (away, off, word) = waiting_case c.listed k.phase (mutex_of c.call) x.word some agrees stands.names out in
+      record { call = c; here = here; phase = k.phase; core = is; away = away; off = off; word = word }
 
-  by_call : (t u : ℕ) (o : Option OpenCall) → var_call_at x u ≡ o → 0 < rules.weight rules.Waiting (phase_in o) → rules.Agrees x.word (phase_in o) → is_the x.inside t ≡ true → u ≢ t → may_move j (x.word - 1) u ≡ true
+  by_call : (t u : ℕ) (o : Option OpenCall) → var_call_at x u ≡ o → 0 < rules.weight rules.Waiting (phase_in o) → rules.Agrees x.word (phase_in o) → is_the x.inside t ≡ true → u ≢ t → Waiter x u
   by_call t u None here some agrees inside other = nobody_idle some
-  by_call t u (Some c) here some agrees inside other =
-      by_core u c c.core here some agrees (outside (is_inside c) (known.0.seated u c here).section) (h.stands v u c (here_too u c here)) (locks_closed j v t x h at inside)
+  by_call t u (Some c) here some agrees inside other = by_core u c c.core here refl some agrees (outside (is_inside c) (known.0.seated u c here).section) (h.stands v u c (here_too u c here))
     where
       outside : (b : Bool) → b ≡ is_the x.inside u → b ≡ false
       outside true e = absurd (other (same_thread x.inside u t (sym e) inside))
       outside false e = refl
 
-  -- whoever stands in its list may be moved, where a notification is in the section
-  all_may : (t : ℕ) → is_the x.inside t ≡ true → ((u : ℕ) → 0 < occurs u x.queue → u ≢ t) → list_all (may_move j (x.word - 1)) x.queue ≡ true
-  all_may t inside others = all_of (may_move j (x.word - 1)) x.queue (λ u some. by_slot u (slice_get x.calls u) refl (subst (λ m. 0 < m) (known.1.lists u ∙ ap (at_index (rules.weight rules.Waiting)) (slice_get-map phase_in x.calls u)) some) (others u some))
+  pub waiter : (t u : ℕ) → is_the x.inside t ≡ true → u ≢ t → 0 < occurs u x.queue → Waiter x u
+  waiter t u inside other some = by_slot (slice_get x.calls u) refl (subst (λ m. 0 < m) (known.1.lists u ∙ ap (at_index (rules.weight rules.Waiting)) (slice_get-map phase_in x.calls u)) some)
     where
-      by_slot : (u : ℕ) (o : Option (Option OpenCall)) → slice_get x.calls u ≡ o → 0 < at_index (rules.weight rules.Waiting) (option_map phase_in o) → u ≢ t → may_move j (x.word - 1) u ≡ true
-      by_slot u None is some other = absurd (omega (arith, some))
-      by_slot u (Some o) is some other =
+      by_slot : (o : Option (Option OpenCall)) → slice_get x.calls u ≡ o → 0 < at_index (rules.weight rules.Waiting) (option_map phase_in o) → Waiter x u
+      by_slot None is some = absurd (omega (arith, some))
+      by_slot (Some o) is some =
           by_call t u o (ap (option_and_then (λ (y : Option OpenCall). y)) is) some (known.0.sound.agrees u (phase_in o) (slice_get-map phase_in x.calls u ∙ ap (option_map phase_in) is)) inside other
 
+  may_be_moved : (u : ℕ) → (state j.rows).lot.section ≡ None → Waiter x u → may_move j (x.word - 1) u ≡ true
+  may_be_moved u closed y =
+      let stands : Waits j u y.call y.phase = subst (Stands j u y.call) y.core (h.stands v u y.call (here_too u y.call y.here)) in
+      let low = thread_low u y.call y.here in
+      let may = may_lock (state j.rows) (back_number j u) (mutex_of y.call.call) (subst (λ m. back_number j u < m) (sym h.numbers) (number_low (length j.seats) u (seat_at j u).second low)) stands.mutex.kind
+      (subst (λ (a : AtMutex). IsSo a (state j.rows) (back_number j u) (mutex_of y.call.call)) y.away stands.back) in
+      both _ _ (lt-ltb u _ low) (both _ _ (subst (λ m. may_begin (state j.rows) (back_number j u) m call.Lock ≡ true) (omega (arith, y.word)) may) (ap (λ (o : Option Section). not (is_some o)) closed))
+
+  -- whoever stands in its list may be moved, where a notification is in the section
+  all_may : (t : ℕ) → is_the x.inside t ≡ true → ((u : ℕ) → 0 < occurs u x.queue → u ≢ t) → list_all (may_move j (x.word - 1)) x.queue ≡ true
+  all_may t inside others = all_of (may_move j (x.word - 1)) x.queue (λ u some. may_be_moved u (locks_closed j v t x h at inside) (waiter t u inside (others u some) some))
+
   -- a notification itself doesn't stand there
-  not_itself : (t : ℕ) (c : OpenCall) → var_call_at x t ≡ Some c → (m : Marking c) → (u : ℕ) → 0 < occurs u x.queue → u ≢ t
+  pub not_itself : (t : ℕ) (c : OpenCall) → var_call_at x t ≡ Some c → (m : Marking c) → (u : ℕ) → 0 < occurs u x.queue → u ≢ t
   not_itself t c here m u some e = by_slot (slice_get x.calls t) refl here
     where
       weighs : 0 < at_index (rules.weight rules.Waiting) (slice_get (variable x).phases t)

@@ -32,31 +32,20 @@ use Rattle.parking_lot_waits_world.specs.Joint.{Joint, back_number, front_number
 use Rattle.parking_lot_waits_world.specs.JointMoves.{has_mutex, is_free, is_mutex, may_call, may_call_at}
 use Rattle.parking_lot_waits_world.specs.JointSteps.{BeginsIn, IsCalled, waits_by_second}
 use Rattle.parking_lot_waits_world.specs.Turns.{is_wait, mutex_of}
-use Rattle.parking_lot_waits_world.specs.Whole.{Owns, Away, IsMutex, IsSo, IsWhole, Stands}
+use Rattle.parking_lot_waits_world.specs.Whole.{Owns, Away, IsMutex, IsSo, IsWhole, Stands, place_of}
 use Rattle.parking_lot_waits_world.proofs.Hearing.{both_true}
 use Rattle.parking_lot_waits_world.proofs.Keeping.{Anew, HoldsWhole, is, rows_same, seats_at, var_shut, vars_at, whole_still}
 use Rattle.parking_lot_waits_world.proofs.LocksKept.{is_no_var, is_nobody, own_apart}
+use Rattle.parking_lot_waits_world.proofs.Owning.{owner}
 use Rattle.parking_lot_waits_world.proofs.Seating.{anew_seated, free_at, only_there, written}
 
 -- NO TWO NUMBERS OWN A MUTEX
 
-owns_it : (x : Hold) → excludes x ≡ true → x ≡ hold.Excludes
-owns_it hold.Excludes e = refl
-owns_it (hold.Shares n) e = absurd cc
-owns_it hold.Upgrades e = absurd cc
+no_two : agrees mode.Exclusive mode.Exclusive ≡ true → ⊥
+no_two e = absurd cc
 
-module _ (agree : Always OwnersAgree) (s : State) (fits : FitsTogether s) (n : ℕ) (mutex : slice_get s.kinds n ≡ Some kind.Mutex) where
-  owner : (k : ℕ) → row_call_at s k ≡ None → excludes (hold_at s k n) ≡ true → mode_in (lock_at s n) k ≡ Some mode.Exclusive
-  owner k none owns =
-      apart_owner s k fits n (subst (λ (o : Option Call). IsApart n o) (sym none) tt)
-      ∙ ap (λ (o : Option LockKind). hold_mode o (hold_at s k n)) mutex
-      ∙ ap (λ (x : Hold). hold_mode (Some kind.Mutex) x) (owns_it (hold_at s k n) owns)
-
-  no_two : agrees mode.Exclusive mode.Exclusive ≡ true → ⊥
-  no_two e = absurd cc
-
-  pub two_owners : (k l : ℕ) → k ≢ l → row_call_at s k ≡ None → row_call_at s l ≡ None → excludes (hold_at s k n) ≡ true → excludes (hold_at s l n) ≡ true → ⊥
-  two_owners k l ne a b c d = no_two (agree s fits n k l mode.Exclusive mode.Exclusive ne (owner k a c) (owner l b d))
+pub two_owners : Always OwnersAgree → (s : State) → FitsTogether s → (n : ℕ) → slice_get s.kinds n ≡ Some kind.Mutex → (k l : ℕ) → k ≢ l → IsSo Owns s k n → IsSo Owns s l n → ⊥
+two_owners agree s fits n mutex k l ne a b = no_two (agree s fits n k l mode.Exclusive mode.Exclusive ne (owner s fits n mutex k a) (owner s fits n mutex l b))
 
 -- THE CALL THAT BEGINS
 
@@ -122,10 +111,14 @@ module _ (agree : Always OwnersAgree) (i j : Joint) (t v : ℕ) (c : CondvarCall
     owned : excludes (hold_at (state i.rows) (number i t by) n) ≡ true
     owned = may_give_up (state i.rows) (number i t by) n (both_true _ _ (both_true _ _ owns).1).1
 
+    in_none : (b : Bool) → place_of (state i.rows) (number i t b) ≡ None
+    in_none b = ap (option_map (λ (d : Call). d.lock)) (nowhere_else b)
+
     -- the other number owns nothing of it
     away : owns_nothing (hold_at (state i.rows) (number i t (not by)) n) ≡ true
     away = elim (h.holds (number i t (not by)) n mutex_here) [
-      | inl e ↦ absurd (two_owners agree (state i.rows) fits n mutex_here (number i t (not by)) (number i t by) (own_apart (length i.seats) t by low) (nowhere_else (not by)) (nowhere_else by) e owned)
+      | inl e ↦
+          absurd (two_owners agree (state i.rows) fits n mutex_here (number i t (not by)) (number i t by) (own_apart (length i.seats) t by low) (in_none (not by), e) (in_none by, owned))
       | inr e ↦ e
     ]
 
@@ -138,12 +131,12 @@ module _ (agree : Always OwnersAgree) (i j : Joint) (t v : ℕ) (c : CondvarCall
     pub front_owns : IsSo Owns (state j.rows) (front_number j t) n
     front_owns =
         subst (λ (r : Rows). IsSo Owns (state r) (front_number j t) n) (sym rows)
-        (subst (λ (k : ℕ). IsSo Owns (state i.rows) k n) (sym front_is) (ap (option_map (λ (d : Call). d.lock)) (nowhere_else by), owned))
+        (subst (λ (k : ℕ). IsSo Owns (state i.rows) k n) (sym front_is) (in_none by, owned))
 
     pub back_away : IsSo Away (state j.rows) (back_number j t) n
     back_away =
         subst (λ (r : Rows). IsSo Away (state r) (back_number j t) n) (sym rows)
-        (subst (λ (k : ℕ). IsSo Away (state i.rows) k n) (sym back_is) (ap (option_map (λ (d : Call). d.lock)) (nowhere_else (not by)), away))
+        (subst (λ (k : ℕ). IsSo Away (state i.rows) k n) (sym back_is) (in_none (not by), away))
 
     pub with_mutex : (var_at i n ≡ None → var_at j n ≡ None) → IsMutex j n
     with_mutex plain = record { kind = ap (λ (r : Rows). slice_get (state r).kinds n) rows ∙ mutex_here; plain = plain (is_no_var _ (both_true _ _ (both_true _ _ owns).1).0) }

@@ -1,3 +1,4 @@
+pub mod Owning
 pub mod KeptWhole
 pub mod NewWhole
 pub mod MutexSteps

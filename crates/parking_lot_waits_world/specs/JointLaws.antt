@@ -4,12 +4,14 @@ use Rattle.parking_lot_condvar_world.specs.declared.calls.CondvarCall.{CondvarCa
 use Rattle.parking_lot_condvar_world.specs.declared.calls.CondvarReply.{CondvarReply}
 use Rattle.parking_lot_condvar_world.specs.MachineLaws.{MayReply}
 use Rattle.parking_lot_world.specs.declared.calls.LockCall.{LockCall}
+use Rattle.parking_lot_world.specs.declared.calls.OwnMode.TheVariants as mode
 use Rattle.parking_lot_world.specs.RowFits.{FitsTogether}
 use Rattle.parking_lot_world.specs.Rows.{state}
-use Rattle.parking_lot_waits_world.specs.Joint.{Joint, var_at}
+use Rattle.parking_lot_waits_world.specs.Joint.{Joint, mode_at, var_at}
 use Rattle.parking_lot_waits_world.specs.declared.ended.Ended.{Ended}
 use Rattle.parking_lot_waits_world.specs.JointMoves.{may_ask, may_call_at, may_expire, may_go}
 use Rattle.parking_lot_waits_world.specs.JointSteps.{GoesAtVariable, IsAsked, IsCalled, IsGone, IsLate, AreKnown, KnownIn}
+use Rattle.parking_lot_waits_world.specs.Turns.{is_wait, mutex_of}
 use Rattle.parking_lot_waits_world.specs.Whole.{IsWhole}
 
 -- A wait is answered that its deadline came only if it has one; a notification says how many it has taken, one at most if it is of one.
@@ -27,3 +29,7 @@ pub record StaysWhole : Type 0 where
   pub calls : (t v : ℕ) (c : CondvarCall) (i j : Joint) → IsWhole i → FitsTogether (state i.rows) → may_call_at i t v c ≡ true → IsCalled t v c i j → IsWhole j
   pub steps : (t : ℕ) (fair : Bool) (end : Option Ended) (i j : Joint) → IsWhole i → PartsFit i → may_go i t ≡ true → IsGone t fair end i j → IsWhole j
   pub deadlines : (t : ℕ) (i j : Joint) → IsWhole i → PartsFit i → may_expire i t ≡ true → IsLate t i j → IsWhole j
+
+-- A wait that is answered leaves its thread owning the mutex, however it ends.
+abbrev pub WaitsEndOwning : Type 0
+WaitsEndOwning = (t v : ℕ) (fair : Bool) (reply : CondvarReply) (i j : Joint) → IsWhole i → PartsFit i → (x : GoesAtVariable t v fair (Some reply) i j) → is_wait x.call.call ≡ true → mode_at j t (mutex_of x.call.call) ≡ Some mode.Exclusive

@@ -1,6 +1,6 @@
 //! Laws of a machine's answers and steps.
 ghost use Rattle.parking_lot_waits_world.specs.JointCases.{StepsAreCases};
-ghost use Rattle.parking_lot_waits_world.specs.JointLaws.{RepliesFit, StaysWhole};
+ghost use Rattle.parking_lot_waits_world.specs.JointLaws.{RepliesFit, StaysWhole, WaitsEndOwning};
 ghost use Rattle.parking_lot_waits_world.specs.JointProgress.{GiversStayOut, SomebodyCanMove, SomebodyInsideGoes};
 ghost use Rattle.parking_lot_waits_world.specs.JointRanks.{StepsAreFew, StepsArePaidFor};
 ghost use Rattle.parking_lot_waits_world.specs.JointStays.{StepsLeave};
@@ -69,4 +69,9 @@ pub fn somebody_inside_goes()
 /// Whoever gives its mutex up is in no section by its other number: each beginning, step and deadline keeps that, where waits and mutexes are tied together.
 pub fn givers_stay_out()
     ensures { GiversStayOut }
+{}
+
+/// A wait that is answered leaves its thread owning the mutex, however it ends.
+pub fn waits_end_owning()
+    ensures { WaitsEndOwning }
 {}
