@@ -25,9 +25,9 @@ use Rattle.parking_lot_waits_world.proofs.Progress.{inside_moves}
 
 -- AT A LOCK
 
-module _ (s : State) (c : Call) (open : is_some s.lot.section ≡ true) where
+module _ (s : State) (c : Call) (opened : is_some s.lot.section ≡ true) where
   shut : not (is_some s.lot.section) ≡ true → ⊥
-  shut e = go (is_some s.lot.section) open e
+  shut e = go (is_some s.lot.section) opened e
     where
       go : (b : Bool) → b ≡ true → not b ≡ true → ⊥
       go true e f = cc
@@ -62,8 +62,8 @@ module _ (s : State) (c : Call) (open : is_some s.lot.section ≡ true) where
   core_out (Core.LateRw p) can = refl
 
 call_out : (s : State) (o : Option Call) → is_some s.lot.section ≡ true → can_move_in s o ≡ true → option_map_or (λ (d : Call). core_enters d.core) o false ≡ false
-call_out s None open can = refl
-call_out s (Some c) open can = core_out s c open c.core can
+call_out s None opened can = refl
+call_out s (Some c) opened can = core_out s c opened c.core can
 
 -- OF ANYBODY
 
@@ -75,20 +75,20 @@ and_not true b e f = absurd (go b e f)
     go false e f = cc
 and_not false b e f = refl
 
-module _ (j : Joint) (open : is_open j ≡ true) where
+module _ (j : Joint) (opened : is_open j ≡ true) where
   row_out : (k : ℕ) → row_goes j k ≡ true → enters_at_lock j k ≡ false
   row_out k goes = go (is_open_at_variables j) refl (is_open_at_locks j) refl
     where
       go : (b : Bool) → is_open_at_variables j ≡ b → (a : Bool) → is_open_at_locks j ≡ a → enters_at_lock j k ≡ false
       go true variables a locks = and_not (enters_at_lock j k) (is_open_at_variables j) (both_true _ _ goes).1 variables
       go false variables true locks = call_out (state j.rows) (row_call_at (state j.rows) k) locks (both_true _ _ goes).0
-      go false variables false locks = absurd (none (sym (ap (λ x. x || is_open_at_variables j) locks ∙ variables) ∙ open))
+      go false variables false locks = absurd (none (sym (ap (λ x. x || is_open_at_variables j) locks ∙ variables) ∙ opened))
         where
           none : false ≡ true → ⊥
           none e = cc
 
   var_out : (t : ℕ) (c : OpenCall) (o : Option Var) → var_goes j t c o ≡ true → var_turns.enters c ≡ false
-  var_out t c o goes = and_not (var_turns.enters c) (is_open_at_locks j || is_open_at_variables j) (both_true _ _ goes).1 open
+  var_out t c o goes = and_not (var_turns.enters c) (is_open_at_locks j || is_open_at_variables j) (both_true _ _ goes).1 opened
 
   turn_out : (x : Turn) (t v : ℕ) (c : OpenCall) → may_turn x j t v c ≡ true → turn_enters x j t c ≡ false
   turn_out turn.Sleeps t v c may = refl
@@ -118,4 +118,4 @@ module _ (j : Joint) (open : is_open j ≡ true) where
       last false b e = refl
 
 pub somebody_inside_goes : Always AwakeCanMove → Always RowSomebodyCanMove → SomebodyInsideGoes
-somebody_inside_goes awake somebody j h fits out open = (let x = inside_moves awake somebody j h fits out open in (x.0, x.1, goes_out j open x.0 x.1))
+somebody_inside_goes awake somebody j h fits out opened = (let x = inside_moves awake somebody j h fits out opened in (x.0, x.1, goes_out j opened x.0 x.1))

@@ -490,11 +490,11 @@ module _ (j : Joint) (h : IsWhole j) (fits : PartsFit j) where
 
 -- whoever is in a section that is open can move
 pub inside_moves : Always AwakeCanMove → Always RowSomebodyCanMove → (j : Joint) → IsWhole j → PartsFit j → GiversAreOut j → (is_open_at_locks j || is_open_at_variables j) ≡ true → (u : ℕ) × (may_go j u ≡ true)
-inside_moves awake somebody j h fits out open = by_variables (is_open_at_variables j) refl
+inside_moves awake somebody j h fits out opened = by_variables (is_open_at_variables j) refl
   where
     by_locks : is_open_at_variables j ≡ false → (o : Option Section) → (state j.rows).lot.section ≡ o → (u : ℕ) × (may_go j u ≡ true)
     by_locks shut (Some o) is = in_section j h fits out awake somebody shut o is
-    by_locks shut None is = absurd (nothing_open (sym (ap (λ (o : Option Section). is_some o || is_open_at_variables j) is ∙ shut) ∙ open))
+    by_locks shut None is = absurd (nothing_open (sym (ap (λ (o : Option Section). is_some o || is_open_at_variables j) is ∙ shut) ∙ opened))
       where
         nothing_open : false ≡ true → ⊥
         nothing_open e = cc

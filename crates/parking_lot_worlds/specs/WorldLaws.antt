@@ -17,7 +17,7 @@ use Rattle.parking_lot_condvar_world.specs.Machines.{State as Var, variable}
 use Rattle.parking_lot_condvar_world.specs.Steps.{Runs}
 use Rattle.parking_lot_waits_world.specs.Joint.{thread_of, var_at}
 use Rattle.parking_lot_waits_world.specs.JointLaws.{PartsFit}
-use Rattle.parking_lot_waits_world.specs.JointProgress.{IsKeptOut, IsListed}
+use Rattle.parking_lot_waits_world.specs.JointProgress.{GiversAreOut, IsKeptOut, IsListed}
 use Rattle.parking_lot_waits_world.specs.JointRanks as wait_ranks
 use Rattle.parking_lot_waits_world.specs.JointSides.{is_busy}
 use Rattle.parking_lot_waits_world.specs.Whole as waits
@@ -38,6 +38,7 @@ use Rattle.parking_lot_worlds.specs.Worlds.{IsMade, IsWhole, Shown, is_indebted,
 pub record IsFit (w : Shown) : Type 0 where
   pub whole : IsWhole w
   pub tied : waits.IsWhole w.waits
+  pub givers : GiversAreOut w.waits
   pub parts : PartsFit w.waits
   pub onces : Fits w.onces
 
