@@ -26,7 +26,7 @@ use Rattle.parking_lot_world.specs.RowActs.{answered, hold_after, mutex_hold_aft
 use Rattle.parking_lot_world.specs.RowFits.{FitsTogether, IsOfKind}
 use Rattle.parking_lot_world.specs.Rows.{State, call_at as row_call_at, hold_at, hold_in, state}
 use Rattle.parking_lot_waits_world.specs.declared.seat.Seat.{Seat}
-use Rattle.parking_lot_waits_world.specs.Joint.{Joint, busy_by, busy_number, call_in, core_enters, has_by_second, is_entered, is_open_at_variables, nowhere, number, row_goes, seat_at, var_at, var_in}
+use Rattle.parking_lot_waits_world.specs.Joint.{Joint, asking_number, busy_by, busy_number, call_in, core_enters, has_by_second, is_entered, is_open_at_variables, is_var, nowhere, number, row_goes, seat_at, var_at, var_in}
 use Rattle.parking_lot_waits_world.specs.JointMoves.{is_free, may_ask}
 use Rattle.parking_lot_waits_world.specs.JointSteps.{IsAsked}
 use Rattle.parking_lot_waits_world.specs.Whole.{IsIn, IsWhole, asks, asks_on, gives, place_of}
@@ -126,6 +126,10 @@ is_nobody (Some x) e = absurd cc
 pub is_no_var : {X : Type 0} (o : Option X) → not (is_some o) ≡ true → o ≡ None
 is_no_var None e = refl
 is_no_var (Some x) e = absurd cc
+
+-- one that may ask so may begin that by the number by which it asks
+pub may_there : (j : Joint) (t lock : ℕ) (c : LockCall) → may_ask j t lock c ≡ true → rows.may_begin (state j.rows) (asking_number j t lock) lock c ≡ true
+may_there j t lock c may = (both_true (not (is_var j lock)) _ (both_true (is_free j t) _ (both_true (nat_lt t (length j.seats)) _ may).1).1).1
 
 -- It begins a call there.
 module _ (i j : Joint) (t lock : ℕ) (c : LockCall) (h : IsWhole i) (may : may_ask i t lock c ≡ true) (x : IsAsked t lock c i j) where

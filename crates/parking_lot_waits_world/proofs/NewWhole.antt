@@ -1,5 +1,5 @@
 -- A machine where nobody has done anything is whole.
-use Rattle.std.proofs.Common.{◌≡◌, inl, inr, ℕ, zero, suc, ◌+◌, ◌*◌, Bool, true, false, cond, nat_lt, List, [], ◌∷◌, length, map, replicate, Option, Some, None, slice_get, refl, sym, ap, ◌∙◌}
+use Rattle.std.proofs.Common.{◌≡◌, inl, inr, ℕ, zero, suc, ◌+◌, ◌*◌, Bool, true, false, cond, nat_lt, List, [], ◌∷◌, ◌++◌, length, map, replicate, Option, Some, None, slice_get, refl, sym, ap, ◌∙◌}
 use Rattle.std.specs.Option.{option_and_then, option_map_or, unwrap_or}
 use Rattle.std.proofs.lemmas.Option.{none-some, same_Some}
 use Rattle.parking_lot_condvar_world.specs.declared.open_call.OpenCall.{OpenCall}
@@ -13,13 +13,20 @@ use Rattle.parking_lot_world.specs.Machines.{at_rest}
 use Rattle.parking_lot_world.specs.Rows.{State, call_at as row_call_at, hold_at, state}
 use Rattle.parking_lot_waits_world.specs.declared.seat.Seat.{Seat}
 use Rattle.parking_lot_waits_world.specs.Joint.{Joint, call_at, call_in, is_entered, nowhere, number, seat_at, var_at, var_in}
-use Rattle.parking_lot_waits_world.specs.JointSteps.{var_of}
+use Rattle.parking_lot_waits_world.specs.JointSteps.{AreKnown, KnownIn, var_of}
 use Rattle.parking_lot_waits_world.specs.JointProgress.{GiversAreOut}
 use Rattle.parking_lot_waits_world.specs.Whole.{IsWhole, is_entered_at}
 
 count : {X : Type 0} (n : ℕ) (x : X) → length (replicate n x) ≡ n
 count zero x = refl
 count (suc n) x = ap suc (count n x)
+
+-- variables that are known, and one more
+pub known_more : (xs : List (Option Var)) (y : Option Var) → AreKnown xs → KnownIn y → AreKnown (xs ++ y ∷ [])
+known_more [] y h k zero = k
+known_more [] y h k (suc v) = tt
+known_more (x ∷ xs) y h k zero = h zero
+known_more (x ∷ xs) y h k (suc v) = known_more xs y (λ u. h (suc u)) k v
 
 -- what is read of a list where all are the same
 read : {X Y : Type 0} (f : Option X → Y) (n k : ℕ) (x : X) (y : Y) → f None ≡ y → f (Some x) ≡ y → f (slice_get (replicate n x) k) ≡ y

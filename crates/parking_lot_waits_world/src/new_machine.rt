@@ -4,7 +4,7 @@ ghost use Rattle.parking_lot_core_lot.specs.declared.fault.SizeFault.TheVariants
 ghost use Rattle.parking_lot_world.specs.Machines.{at_rest};
 ghost use Rattle.parking_lot_world.specs.Rows.{state};
 ghost use Rattle.parking_lot_waits_world.specs.Joint.{nowhere};
-ghost use Rattle.parking_lot_waits_world.specs.JointSteps.{var_of};
+ghost use Rattle.parking_lot_waits_world.specs.JointSteps.{AreKnown, KnownIn, var_of};
 
 use crate::machines::Machines;
 use crate::seat::NOWHERE;
@@ -63,10 +63,13 @@ fn var_of<A: Allocator + Clone + Drop>(
     requires some { 0 < threads }
     requires few { threads ≤ 65536 }
     ensures ok { IfOk result (λ place. place ≡ var_of threads is_variable) }
+    ensures known { IfOk result (λ place. KnownIn place) }
     ensures err { IfErr result (λ fault. fault ≡ NoMemory) }
 {
     if is_variable {
-        Ok(Some(CondvarMachine::new(alloc, threads)?))
+        let machine = CondvarMachine::new(alloc, threads)?;
+        machine.known();
+        Ok(Some(machine))
     } else {
         Ok(None)
     }
@@ -81,6 +84,7 @@ fn vars_of<A: Allocator + Clone + Drop>(
     requires some { 0 < threads }
     requires few { threads ≤ 65536 }
     ensures ok { IfOk result (λ vars. vars.items ≡ map (var_of threads) variables.now) }
+    ensures known { IfOk result (λ vars. AreKnown vars.items) }
     ensures err { IfErr result (λ fault. fault ≡ NoMemory) }
 {
     let mut vars = Vec::with_capacity(alloc.clone()?, variables.len())?;
