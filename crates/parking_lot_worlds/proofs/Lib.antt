@@ -1,6 +1,5 @@
 pub mod Scheduling
 pub mod Coming
-pub mod RowsKept
 pub mod OncesKept
 pub mod Whole
 pub mod Sides
@@ -9,3 +8,4 @@ pub mod Casing
 pub mod Making
 pub mod Promising
 pub mod Listing
+pub mod Busy

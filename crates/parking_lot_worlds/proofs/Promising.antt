@@ -1,6 +1,8 @@
 -- All that is promised of a world, and what is done stays done there.
-use Rattle.std.proofs.Common.{◌≡◌, ◌+◌, ◌*◌, ◌/◌, ◌<◌, ◌≤◌, ◌==◌, ◌||◌, ℕ, Bool, true, false, cond, [], length, None, slice_get, refl, sym, ap, ◌∙◌, subst, arith}
-use Rattle.std.specs.Option.{option_map_or}
+use Rattle.std.proofs.Common.{◌≡◌, ◌+◌, ◌-◌, ◌*◌, ◌/◌, ◌<◌, ◌≤◌, ◌==◌, ◌&&◌, ◌||◌, ℕ, Bool, true, false, cond, nat_lt, is_some, List, [], length, map, Option, None, Some, slice_get, refl, sym, ap, ◌∙◌, subst, arith}
+use Rattle.std.specs.Option.{option_map_or, option_or}
+use Rattle.std.proofs.lemmas.Bool.{cases_lt, lt-ltb, ltb-true}
+use Rattle.std.proofs.lemmas.List.{length-map}
 use Rattle.std.proofs.lemmas.Option.{none-some}
 use Rattle.parking_lot_once_rules.specs.declared.once_state.OnceState.TheVariants.{Done}
 use Rattle.parking_lot_once_world.specs.Entries.{list_of}
@@ -10,64 +12,126 @@ use Rattle.parking_lot_once_world.specs.OnceMachineLasting as lasting
 use Rattle.parking_lot_once_world.specs.OnceMachineLaws as once_laws
 use Rattle.parking_lot_once_world.specs.OnceRanks as once_ranks
 use Rattle.parking_lot_once_world.specs.Onces.{Onces, once_at}
-use Rattle.parking_lot_world.specs.Ranks as row_ranks
-use Rattle.parking_lot_world.specs.RowFits.{FitsTogether}
-use Rattle.parking_lot_world.specs.Rows.{lock_at, state}
+use Rattle.parking_lot_waits_world.specs.Joint.{Joint, number, thread_of}
+use Rattle.parking_lot_waits_world.specs.Joint as joints
+use Rattle.parking_lot_waits_world.specs.JointLaws.{PartsFit}
+use Rattle.parking_lot_waits_world.specs.JointProgress.{GiversAreOut, SomebodyInsideGoes}
+use Rattle.parking_lot_waits_world.specs.JointProgress as wait_laws
+use Rattle.parking_lot_waits_world.specs.JointRanks as wait_ranks
+use Rattle.parking_lot_waits_world.specs.JointSides as sides
+use Rattle.parking_lot_waits_world.specs.Whole as waits
+use Rattle.parking_lot_waits_world.proofs.Moves.{apart}
+use Rattle.parking_lot_world.specs.declared.calls.OwnMode.{OwnMode}
+use Rattle.parking_lot_world.specs.declared.open_call.Call.{Call}
+use Rattle.parking_lot_world.specs.Rows.{call_at, lock_at}
 use Rattle.parking_lot_world.specs.Rows as rows
 use Rattle.parking_lot_world.specs.SoundLaws as row_laws
-use Rattle.parking_lot_world.specs.SoundLaws.{agrees, most_steps}
+use Rattle.parking_lot_world.specs.SoundLaws.{agrees}
 use Rattle.parking_lot_world.specs.Worlds.{is_indebted, mode_in}
+use Rattle.parking_lot_world.proofs.Carrying.{call_within}
 use Rattle.parking_lot_worlds.specs.declared.calls.Asked.{Asked}
 use Rattle.parking_lot_worlds.specs.declared.step.WorldStep.{WorldStep}
 use Rattle.parking_lot_worlds.specs.WorldCalls.{asked, is_once}
-use Rattle.parking_lot_worlds.specs.WorldLaws.{DebtsAreKept, DoneStays, IsSoundWorld, OwnersAgree, SomebodyIsInDebt, StepsAreFew}
-use Rattle.parking_lot_worlds.specs.Worlds.{IsAsked, IsGone, IsMade, IsWhole, Shown, is_in_once, is_once_at, mode_at, queue_at}
+use Rattle.parking_lot_worlds.specs.WorldLaws.{DebtsAreKept, DoneStays, IsOwned, IsSoundWorld, OwnersAgree, SomebodyIsInDebt, StepsAreFew}
+use Rattle.parking_lot_worlds.specs.Worlds.{IsAsked, IsGone, IsMade, IsWhole, Shown, is_in_once, is_once_at, is_variable_at, mode_at, queue_at, rows_of}
 use Rattle.parking_lot_worlds.proofs.Moving.{somebody_can_move}
 
-module _ (w : Shown) (whole : IsWhole w) (locks : row_laws.IsSoundMachine (state w.rows)) (onces : once_laws.IsSoundMachine w.onces) where
-  -- at a lock the views of a world are those of the machine of locks
-  mode_there : (i : ℕ) → is_once_at w i ≡ false → (v : ℕ) → mode_at w i v ≡ mode_in (lock_at (state w.rows) i) v
-  mode_there i e v = ap (λ d. cond d None (mode_in (lock_at (state w.rows) i) v)) e
+-- one that is either is the first or the second
+either : {X : Type 0} (o p : Option X) (x : X) → option_or o p ≡ Some x → (b : Bool) × (cond b p o ≡ Some x)
+either None p x e = (true, e)
+either (Some y) p x e = (false, e)
 
-  queue_there : (i key : ℕ) → key / 2 ≡ i → is_once_at w i ≡ false → queue_at w key ≡ rows.queue_at (state w.rows) key
-  queue_there i key half e = ap (λ d. cond d (cond (key == 2 * (key / 2)) (list_of w.onces.waiting (key / 2)) []) (rows.queue_at (state w.rows) key)) (ap (is_once_at w) half ∙ e)
+module _ (w : Shown) (whole : IsWhole w) (tied : waits.IsWhole w.waits) (givers : GiversAreOut w.waits) (parts : PartsFit w.waits) (locks : row_laws.IsSoundMachine (rows_of w)) (onces : once_laws.IsSoundMachine w.onces) where
+  abbrev n : ℕ
+  n = length w.waits.seats
+
+  -- who owns a lock does so by one of its numbers
+  owned_by : (i t : ℕ) (a : OwnMode) → mode_at w i t ≡ Some a → (b : Bool) × (t < n) × (mode_in (lock_at (rows_of w) i) (number w.waits t b) ≡ Some a)
+  owned_by i t a owns = go (is_once_at w i || is_variable_at w i) refl (nat_lt t n) refl
+    where
+      go : (c : Bool) → (is_once_at w i || is_variable_at w i) ≡ c → (d : Bool) → nat_lt t n ≡ d → (b : Bool) × (t < n) × (mode_in (lock_at (rows_of w) i) (number w.waits t b) ≡ Some a)
+      go true e d low = absurd (none-some a (sym (ap (λ c. cond c None (joints.mode_at w.waits t i)) e) ∙ owns))
+      go false e false low = absurd (none-some a (sym (ap (λ c. cond c (option_or (mode_in (lock_at (rows_of w) i) t) (mode_in (lock_at (rows_of w) i) (number w.waits t true))) None) low) ∙ sym (ap (λ c. cond c None (joints.mode_at w.waits t i)) e) ∙ owns))
+      go false e true low =
+          let x = either (mode_in (lock_at (rows_of w) i) t) (mode_in (lock_at (rows_of w) i) (number w.waits t true)) a
+              (sym (ap (λ c. cond c (option_or (mode_in (lock_at (rows_of w) i) t) (mode_in (lock_at (rows_of w) i) (number w.waits t true))) None) low) ∙ sym (ap (λ c. cond c None (joints.mode_at w.waits t i)) e) ∙ owns) in
+          (x.0, ltb-true t n low, at x.0 ∙ x.1)
+        where
+          at : (b : Bool) → mode_in (lock_at (rows_of w) i) (number w.waits t b) ≡ cond b (mode_in (lock_at (rows_of w) i) (number w.waits t true)) (mode_in (lock_at (rows_of w) i) t)
+          at true = refl
+          at false = refl
 
   owners : OwnersAgree w
-  owners i t u a b ne first second = go (is_once_at w i) refl
-    where
-      go : (c : Bool) → is_once_at w i ≡ c → agrees a b ≡ true
-      go true e = absurd (none-some a (sym (ap (λ d. cond d None (mode_in (lock_at (state w.rows) i) t)) e) ∙ first))
-      go false e = locks.owners i t u a b ne (sym (mode_there i e t) ∙ first) (sym (mode_there i e u) ∙ second)
+  owners i t u a b ne first second =
+      let x = owned_by i t a first in
+      let y = owned_by i u b second in
+      locks.owners i (number w.waits t x.0) (number w.waits u y.0) a b (apart n t u x.0 y.0 x.1 y.1 ne) x.2 y.2
 
   or_else : (a b : Bool) → b ≡ true → (a || b) ≡ true
   or_else true b e = refl
   or_else false b e = e
 
-  owed_there : (i : ℕ) → row_laws.SomebodyIsInDebt (state w.rows) i → SomebodyIsInDebt w i
-  owed_there i (u, c, here, there, owes) = (u, c, here, there, or_else (once_debts.is_in_debt w.onces u) (is_indebted (state w.rows) u) owes)
+  or_first : (a b : Bool) → a ≡ true → (a || b) ≡ true
+  or_first true b e = refl
+  or_first false b e = absurd cc
+
+  both : (a b : Bool) → a ≡ true → b ≡ true → (a && b) ≡ true
+  both true b e f = f
+  both false b e f = absurd cc
+
+  -- the thread of a number is in debt where the number is
+  owes_there : (k : ℕ) → k < length (rows_of w).calls → is_indebted (rows_of w) k ≡ true → sides.is_indebted w.waits (thread_of w.waits k) ≡ true
+  owes_there k low owes = elim (cases_lt k n) [
+    | inl less ↦ subst (λ (t : ℕ). sides.is_indebted w.waits t ≡ true) (sym (ap (λ (b : Bool). cond b k (k - n)) (lt-ltb k n less)))
+        (both _ _ (lt-ltb k n less) (or_else _ _ (or_first _ _ owes)))
+    | inr more ↦ subst (λ (t : ℕ). sides.is_indebted w.waits t ≡ true) (sym (ap (λ (b : Bool). cond b k (k - n)) (not_less k n more)))
+        (both _ _ (lt-ltb (k - n) n (omega (arith, low, tied.numbers, more))) (or_else _ _ (or_else _ _ (subst (λ (m : ℕ). is_indebted (rows_of w) m ≡ true) (omega (arith, more)) owes))))
+  ]
+    where
+      not_less : (a b : ℕ) → b ≤ a → nat_lt a b ≡ false
+      not_less a b le = go (nat_lt a b) refl
+        where
+          go : (c : Bool) → nat_lt a b ≡ c → nat_lt a b ≡ false
+          go false e = e
+          go true e = absurd (omega (arith, le, ltb-true a b e))
+
+  within : (k : ℕ) (c : Call) → call_at (rows_of w) k ≡ Some c → k < length (rows_of w).calls
+  within k c here = call_within (rows_of w) k c here
+
+  owed_there : (i : ℕ) → row_laws.SomebodyIsInDebt (rows_of w) i → SomebodyIsInDebt w i
+  owed_there i (k, c, here, there, owes) = (k, c, here, there, or_else (once_debts.is_in_debt w.onces (thread_of w.waits k)) (sides.is_indebted w.waits (thread_of w.waits k)) (owes_there k (within k c here) owes))
+
+  -- at a lock the lists are those of the machine of locks
+  queue_there : (i key : ℕ) → key / 2 ≡ i → IsOwned w i → queue_at w key ≡ map (thread_of w.waits) (rows.queue_at (rows_of w) key)
+  queue_there i key half owned =
+      ap (λ d. cond d (cond (key == 2 * (key / 2)) (list_of w.onces.waiting (key / 2)) []) (sides.queue_at w.waits key)) (ap (is_once_at w) half ∙ owned.no_once)
+      ∙ ap (λ d. cond d (cond (key == 2 * (key / 2)) (joints.waiters_of (joints.var_at w.waits (key / 2))) []) (map (thread_of w.waits) (rows.queue_at (rows_of w) key))) (whole.variables (key / 2) ∙ ap (is_variable_at w) half ∙ owned.no_variable)
+
+  some_there : (i key : ℕ) → key / 2 ≡ i → IsOwned w i → 0 < length (queue_at w key) → 0 < length (rows.queue_at (rows_of w) key)
+  some_there i key half owned some = subst (λ (m : ℕ). 0 < m) (ap (λ us. length us) (queue_there i key half owned) ∙ length-map (rows.queue_at (rows_of w) key) (thread_of w.waits)) some
 
   debts : DebtsAreKept w
   debts = record {
-    first = λ i e some only. owed_there i (locks.debts.first i (subst (λ us. 0 < length us) (queue_there i (2 * i) (omega arith) e) some) (λ u a owns. only u a (mode_there i e u ∙ owns)));
-    second = λ i e kind some none. owed_there i (locks.debts.second i kind (subst (λ us. 0 < length us) (queue_there i (2 * i + 1) (omega arith) e) some) (λ u a owns. none u a (mode_there i e u ∙ owns)));
+    first = λ i owned some only. owed_there i (locks.debts.first i (some_there i (2 * i) (omega arith) owned some) only);
+    second = λ i owned kind some none. owed_there i (locks.debts.second i kind (some_there i (2 * i + 1) (omega arith) owned some) none);
   }
 
-  few : StepsAreFew w
-  few t = omega (
+  few : wait_ranks.StepsAreFew → StepsAreFew w
+  few of_theirs t = omega (
     arith,
-    subst (λ n. row_ranks.steps_left (state w.rows) t ≤ n * most_steps n) whole.row_threads (locks.few.all t),
-    subst (λ n. once_ranks.left w.onces t ≤ n * once_ranks.most n) whole.once_threads (onces.few t),
+    subst (λ m. wait_ranks.steps_left w.waits t ≤ wait_ranks.most_left m) whole.wait_threads (of_theirs w.waits t tied parts),
+    subst (λ m. once_ranks.left w.onces t ≤ m * once_ranks.most m) whole.once_threads (onces.few t),
   )
 
-  pub sound_world : FitsTogether (state w.rows) → Fits w.onces → IsSoundWorld w
-  sound_world rows_fit onces_fit = record {
-    fit = record { whole = whole; rows = rows_fit; onces = onces_fit };
+  pub sound_world : SomebodyInsideGoes → wait_laws.SomebodyCanMove → wait_ranks.StepsAreFew → Fits w.onces → IsSoundWorld w
+  sound_world inside moves are_few onces_fit = record {
+    fit = record { whole = whole; tied = tied; givers = givers; parts = parts; onces = onces_fit };
     locks = locks;
     onces = onces;
     owners = owners;
     debts = debts;
-    moves = somebody_can_move w whole rows_fit onces_fit locks.moves onces.moves;
-    few = few;
+    moves = somebody_can_move inside w whole tied givers parts onces_fit moves onces.moves;
+    few = few are_few;
   }
 
 -- WHAT IS DONE STAYS DONE
@@ -84,10 +148,11 @@ module _ (law : lasting.DoneStays) (w v : Shown) (fits : Fits w.onces) where
 
   asks : (t i : ℕ) (call : Asked) → IsAsked t i call w v → Stays
   asks t i (Asked.OfLock call) (x, e) = same e
+  asks t i (Asked.OfVariable call) (x, e) = same e
   asks t i (Asked.OfOnce call) (x, e) = λ j done. law.begins w.onces v.onces t i j call fits x done
 
   goes : (t : ℕ) (fair b : Bool) → IsGone b t fair w v → Stays
-  goes t fair false (answer, x, e, answers) = same e
+  goes t fair false (end, x, e, answers) = same e
   goes t fair true (reply, x, e, answers) = λ j done. law.steps w.onces v.onces t j reply fits x done
 
   pub done_stays : (s : WorldStep) → IsMade s w v → DoneStays w v

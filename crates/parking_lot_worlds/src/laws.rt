@@ -1,19 +1,22 @@
 //! Laws of worlds.
 ghost use Rattle.parking_lot_worlds.specs.WorldLaws.{StepsAreCases, StepsArePaid};
 
-use parking_lot_world::laws as of_locks;
+use parking_lot_waits_world::laws as of_waits;
 
-/// Each step that is allowed is, at one lock, a case of a lock without a word, with named owners and two lists: it enters a list or leaves it, is
-/// admitted, hands the lock over, converts its hold, leaves, gives up, takes another off a list, or changes neither owners nor lists; or, at a
-/// once, it is a step of the rules of onces, or changes nothing. It leaves every other lock and once as it was.
+/// Each step that is allowed is, at one lock, cases of a lock without a word, with named owners and two lists: the thread enters a list or leaves it, is
+/// admitted, hands the lock over, converts its hold, leaves, gives up, takes another off a list or moves one into it, or changes neither owners nor lists;
+/// or, at a condition variable or at a once, it is steps of the rules of those, or changes nothing. A wait and a notification do both at once, at the
+/// variable and at its mutex. It leaves every other lock, variable and once as it was.
 pub fn each_step_is_a_case()
     ensures { StepsAreCases }
 {
-    of_locks::each_step_is_a_case();
+    of_waits::each_step_is_a_case();
 }
 
-/// Each step of a thread's call lowers the steps that are left of all threads' calls, at locks and at onces together, where the same thread is
-/// stepped on. So no thread can be stepped for ever.
+/// Each step of a thread's call lowers the steps that are left of all threads' calls, at locks, at condition variables and at onces together, where the
+/// same thread is stepped on. So no thread can be stepped for ever.
 pub fn each_step_is_paid_for()
     ensures { StepsArePaid }
-{}
+{
+    of_waits::steps_are_paid_for();
+}

@@ -1,5 +1,5 @@
 //! How a world is made.
-ghost use Rattle.std.specs.Prelude.{◌≡◌, ◌<◌, ◌↔◌, ◌⊎◌, ◌^◌, ◌≢◌, length, map, replicate, None, IsErrOf, IfErr, IfOk};
+ghost use Rattle.std.specs.Prelude.{◌≡◌, ◌<◌, ◌*◌, ◌↔◌, ◌⊎◌, ◌^◌, ◌≢◌, length, map, replicate, None, IsErrOf, IfErr, IfOk};
 ghost use Rattle.parking_lot_core_lot.specs.declared.fault.SizeFault.TheVariants.{BadSize, NoMemory};
 ghost use Rattle.parking_lot_once_world.specs.OnceActs as once;
 ghost use Rattle.parking_lot_waits_world.specs.Joint.{nowhere};

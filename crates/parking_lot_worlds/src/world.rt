@@ -10,7 +10,7 @@ use crate::fault::{WorldFault, WorldRefusal};
 use crate::step::WorldStep;
 use parking_lot_once_world::laws::what_is_done_stays_done;
 use parking_lot_once_world::{OnceCall, OnceMachine};
-use parking_lot_waits_world::{CondvarCall, WaitMachine};
+use parking_lot_waits_world::{CondvarCall, WaitMachine, laws as of_waits};
 use parking_lot_world::{LockCall as RowCall, laws as of_locks};
 use std::alloc::{Allocator, Global};
 use std::marker::Model;
@@ -61,6 +61,9 @@ impl<A: Allocator> World<A> {
         of_locks::awake_can_move();
         of_locks::somebody_can_move();
         of_locks::steps_are_few();
+        of_waits::somebody_can_move();
+        of_waits::somebody_inside_goes();
+        of_waits::steps_are_few();
     }
 
     /// A thread begins a call at a lock.
@@ -70,6 +73,7 @@ impl<A: Allocator> World<A> {
         ensures answers { self.new.answers ≡ slice_set self.old.answers thread None }
         ensures kinds { self.new.kinds ≡ self.old.kinds }
     {
+        self.waits.known();
         self.waits.ask(thread, lock, call);
         self.answers[thread] = None;
     }
@@ -81,6 +85,7 @@ impl<A: Allocator> World<A> {
         ensures answers { self.new.answers ≡ slice_set self.old.answers thread None }
         ensures kinds { self.new.kinds ≡ self.old.kinds }
     {
+        self.waits.known();
         self.waits.call(thread, lock, call);
         self.answers[thread] = None;
     }
@@ -92,6 +97,7 @@ impl<A: Allocator> World<A> {
         ensures answers { self.new.answers ≡ slice_set self.old.answers thread None }
         ensures kinds { self.new.kinds ≡ self.old.kinds }
     {
+        self.waits.known();
         self.onces.begin(thread, lock, call);
         self.answers[thread] = None;
     }
@@ -103,6 +109,7 @@ impl<A: Allocator> World<A> {
         ensures gone { IsGone false thread fair self.old self.new }
         ensures kinds { self.new.kinds ≡ self.old.kinds }
     {
+        self.waits.known();
         let call = self.waits.lock_call(thread);
         if let Some(ended) = self.waits.step(thread, fair) {
             self.answers[thread] = Some(LockAnswer::of_ended(call, ended));
@@ -117,6 +124,7 @@ impl<A: Allocator> World<A> {
         ensures kinds { self.new.kinds ≡ self.old.kinds }
     {
         let _ = fair;
+        self.waits.known();
         if let Some(reply) = self.onces.step(thread) {
             self.answers[thread] = Some(LockAnswer::of_reply(reply));
         }
@@ -128,6 +136,7 @@ impl<A: Allocator> World<A> {
         ensures late { IsLate thread self.old self.new }
         ensures kinds { self.new.kinds ≡ self.old.kinds }
     {
+        self.waits.known();
         self.waits.deadline(thread);
     }
 
