@@ -204,7 +204,7 @@ module _ (i j : Joint) (t v : ℕ) (fair : Bool) (c : OpenCall) (h : IsWhole i) 
       let first = stepped_of b (Some a) mid x in
       left_both (Own i t) None (enters_at_lock i (number i t b)) s mid u first
       (left_begun (Own i t) None (enters_at_lock i (number i t b)) mid u (number i t b) d.lock LockCall.Lock (own_first i t b low)
-          (inr (inl (ap (λ ks. manner_of (slice_get ks d.lock)) first.kinds ∙ as_mutex i d.lock (stands_mutex i t c c.core (h.stands v t c here) b d at)))) begins)
+      (inr (inl (ap (λ ks. manner_of (slice_get ks d.lock)) first.kinds ∙ as_mutex i d.lock (stands_mutex i t c c.core (h.stands v t c here) b d at)))) begins)
 
   onward : (b late : Bool) (a : Option CoreAnswer) (d : Call) (mid : State) → row_call_at s (number i t b) ≡ Some d → rows.IsStepped (number i t b) fair a s mid → FollowsAs late a t (number i t b) v c d i mid j
       → Left (Own i t) None (enters_at_lock i (number i t b)) s u × VarsLeft false i j
@@ -249,10 +249,10 @@ module _ (i j : Joint) (t v : ℕ) (fair : Bool) (c : OpenCall) (h : IsWhole i) 
 
   enters_is : turn_enters (turn_of c) i t c ≡ enters i t
   enters_is = sym (
-    ap (λ (b : Bool). b && enters_at (seat_at i t).at i t) (lt-ltb t (length i.seats) low)
-    ∙ ap (λ (o : Option ℕ). enters_at o i t) (h.seated v t c here)
-    ∙ ap (λ (o : Option OpenCall). enters_as o i t) here
-  )
+      ap (λ (b : Bool). b && enters_at (seat_at i t).at i t) (lt-ltb t (length i.seats) low)
+      ∙ ap (λ (o : Option ℕ). enters_at o i t) (h.seated v t c here)
+      ∙ ap (λ (o : Option OpenCall). enters_as o i t) here
+      )
 
   pub turned_leaves : (reply : Option CondvarReply) → Turned (turn_of c) t v fair c reply i j → Leaves t (enters i t) None i j
   turned_leaves reply z = subst (λ (e : Bool). Leaves t e None i j) enters_is (turned (turn_of c) reply refl z)

@@ -4,8 +4,8 @@ ghost use Rattle.parking_lot_waits_world.specs.Joint.{seat_at};
 ghost use Rattle.parking_lot_waits_world.specs.JointSides.{call_owes, enters, enters_as, is_busy, is_indebted, is_open, lock_call, notice_owes, owes_at};
 ghost use Rattle.parking_lot_condvar_world.specs.Turns.{wait_is_inside};
 
-use crate::turn::{Turn, turn_of};
 use crate::machines::Machines;
+use crate::turn::{Turn, turn_of};
 use parking_lot_condvar_world::{Core, OpenCall};
 use parking_lot_waits::{NotifyPhase, WaitPhase};
 use parking_lot_world::Call;

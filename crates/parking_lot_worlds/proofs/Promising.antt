@@ -1,5 +1,5 @@
 -- All that is promised of a world, and what is done stays done there.
-use Rattle.std.proofs.Common.{◌≡◌, ◌+◌, ◌-◌, ◌*◌, ◌/◌, ◌<◌, ◌≤◌, ◌==◌, ◌&&◌, ◌||◌, ℕ, Bool, true, false, cond, nat_lt, is_some, List, [], length, map, Option, None, Some, slice_get, refl, sym, ap, ◌∙◌, subst, arith}
+use Rattle.std.proofs.Common.{◌≡◌, inl, inr, ◌+◌, ◌-◌, ◌*◌, ◌/◌, ◌<◌, ◌≤◌, ◌==◌, ◌&&◌, ◌||◌, ℕ, Bool, true, false, cond, nat_lt, is_some, List, [], length, map, Option, None, Some, slice_get, refl, sym, ap, ◌∙◌, subst, arith}
 use Rattle.std.specs.Option.{option_map_or, option_or}
 use Rattle.std.proofs.lemmas.Bool.{cases_lt, lt-ltb, ltb-true}
 use Rattle.std.proofs.lemmas.List.{length-map}
@@ -54,7 +54,7 @@ module _ (w : Shown) (whole : IsWhole w) (tied : waits.IsWhole w.waits) (givers 
       go false e false low = absurd (none-some a (sym (ap (λ c. cond c (option_or (mode_in (lock_at (rows_of w) i) t) (mode_in (lock_at (rows_of w) i) (number w.waits t true))) None) low) ∙ sym (ap (λ c. cond c None (joints.mode_at w.waits t i)) e) ∙ owns))
       go false e true low =
           let x = either (mode_in (lock_at (rows_of w) i) t) (mode_in (lock_at (rows_of w) i) (number w.waits t true)) a
-              (sym (ap (λ c. cond c (option_or (mode_in (lock_at (rows_of w) i) t) (mode_in (lock_at (rows_of w) i) (number w.waits t true))) None) low) ∙ sym (ap (λ c. cond c None (joints.mode_at w.waits t i)) e) ∙ owns) in
+          (sym (ap (λ c. cond c (option_or (mode_in (lock_at (rows_of w) i) t) (mode_in (lock_at (rows_of w) i) (number w.waits t true))) None) low) ∙ sym (ap (λ c. cond c None (joints.mode_at w.waits t i)) e) ∙ owns) in
           (x.0, ltb-true t n low, at x.0 ∙ x.1)
         where
           at : (b : Bool) → mode_in (lock_at (rows_of w) i) (number w.waits t b) ≡ cond b (mode_in (lock_at (rows_of w) i) (number w.waits t true)) (mode_in (lock_at (rows_of w) i) t)

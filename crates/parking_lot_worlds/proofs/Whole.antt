@@ -159,6 +159,12 @@ closed_still w v h e out closed same = one_closed w v same (elim h.sections [ in
 
 -- CALLS THAT BEGIN
 
+pub ask_lock_there : (w : Shown) (t i : ℕ) (call : RowCall) → may_ask w t i (Asked.OfLock call) ≡ true → joint.may_ask w.waits t i call ≡ true
+ask_lock_there w t i call may = (both_true (is_none (onces.call_at w.onces t)) _ (both_true (not (is_once_at w i)) _ may).1).1
+
+pub ask_variable_there : (w : Shown) (t i : ℕ) (call : CondvarCall) → may_ask w t i (Asked.OfVariable call) ≡ true → joint.may_call_at w.waits t i call ≡ true
+ask_variable_there w t i call may = (both_true (is_none (onces.call_at w.onces t)) _ may).1
+
 module _ (w v : Shown) (h : IsWhole w) (tied : waits.IsWhole w.waits) (parts : PartsFit w.waits) (t i : ℕ) (answers : v.answers ≡ slice_set w.answers t None) (kinds : v.kinds ≡ w.kinds) where
   as_many : length v.answers ≡ length w.answers
   as_many = ap length answers ∙ length-set w.answers t None
@@ -201,6 +207,9 @@ module _ (w v : Shown) (h : IsWhole w) (tied : waits.IsWhole w.waits) (parts : P
 pub which_goes : (w : Shown) (t : ℕ) (b : Bool) → is_in_once w t ≡ b → may_go w t ≡ true → cond b (goes (once_side w.onces) (wait_side w.waits) t) (goes (wait_side w.waits) (once_side w.onces) t) ≡ true
 which_goes w t b there may = sym (ap (λ c. cond c (goes (once_side w.onces) (wait_side w.waits) t) (goes (wait_side w.waits) (once_side w.onces) t)) there) ∙ may
 
+pub waits_go : (w : Shown) (t : ℕ) → is_in_once w t ≡ false → may_go w t ≡ true → joint.may_go w.waits t ≡ true
+waits_go w t there may = (both_true (joint.may_go w.waits t) (not (enters w.waits t && is_some w.onces.inside)) (which_goes w t false there may)).0
+
 no_call : (o : Option OpenCall) → is_some o ≡ false → o ≡ None
 no_call None e = refl
 no_call (Some c) e = absurd cc
@@ -208,7 +217,7 @@ no_call (Some c) e = absurd cc
 module _ (w v : Shown) (h : IsWhole w) (tied : waits.IsWhole w.waits) (parts : PartsFit w.waits) (t : ℕ) (kinds : v.kinds ≡ w.kinds) where
   pub gone_whole : (fair b : Bool) → is_in_once w t ≡ b → may_go w t ≡ true → IsGone b t fair w v → IsWhole v
   gone_whole fair false there may (end, gone, same, answers) =
-      let can = both_true _ _ (which_goes w t false there may) in
+      let can = both_true (joint.may_go w.waits t) (not (enters w.waits t && is_some w.onces.inside)) (which_goes w t false there may) in
       let x = steps_leave.steps t fair end w.waits v.waits tied parts can.0 gone in
       waits_moved w v h kinds (ap length answers ∙ noted_length t _ w.answers) t (enters w.waits t) None x same (no_call (onces.call_at w.onces t) there) (λ n e. absurd (none-some n e))
       (one_closed w v same (first_closed (enters w.waits t) (is_open w.waits) (is_open v.waits) w.onces.inside x.closed can.1 h.sections))

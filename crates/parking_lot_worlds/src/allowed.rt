@@ -60,8 +60,7 @@ impl<A: Allocator> World<A> {
     fn wait_goes(&self, thread: usize) -> bool
         ensures { result ≡ goes (wait_side self.now.waits) (once_side self.now.onces) thread }
     {
-        self.waits.may_go(thread)
-            && !(self.waits.enters(thread) && self.onces.inside().is_some())
+        self.waits.may_go(thread) && !(self.waits.enters(thread) && self.onces.inside().is_some())
     }
 
     /// Whether a thread may make a step of its call at a once.

@@ -1,5 +1,5 @@
 //! How a world is made.
-ghost use Rattle.std.specs.Prelude.{◌≡◌, ◌<◌, ◌*◌, ◌↔◌, ◌⊎◌, ◌^◌, ◌≢◌, length, map, replicate, None, IsErrOf, IfErr, IfOk};
+ghost use Rattle.std.specs.Prelude.{◌≡◌, ◌<◌, ◌≤◌, ◌*◌, ◌↔◌, ◌⊎◌, ◌^◌, ◌≢◌, length, map, replicate, None, IsErrOf, IfErr, IfOk};
 ghost use Rattle.parking_lot_core_lot.specs.declared.fault.SizeFault.TheVariants.{BadSize, NoMemory};
 ghost use Rattle.parking_lot_once_world.specs.OnceActs as once;
 ghost use Rattle.parking_lot_waits_world.specs.Joint.{nowhere};
@@ -15,6 +15,11 @@ use parking_lot_once_world::OnceMachine;
 use parking_lot_waits_world::WaitMachine;
 use parking_lot_world::LockKind as RowKind;
 use std::alloc::Allocator;
+
+/// The most threads, and the most locks.
+const MAX_THREADS: usize = 65_536;
+
+const MAX_LOCKS: usize = 1 << 20;
 
 impl<A: Allocator + Clone + Drop> World<A> {
     /// So many threads, in no call, and locks of these kinds, which nobody owns: 1 to 65,536 threads, and 1 to 2^20 locks. Every word is 0, nobody
@@ -32,10 +37,27 @@ impl<A: Allocator + Clone + Drop> World<A> {
         ensures onces { IfOk result (λ world. world.onces ≡ once.at_rest threads (length locks.items)) }
         ensures answers { IfOk result (λ world. world.answers ≡ replicate threads None) }
     {
+        let count = locks.len();
+        if threads == 0 || threads > MAX_THREADS || count == 0 || count > MAX_LOCKS {
+            return Err(SizeFault::BadSize);
+        }
+        World::made(alloc, threads, locks)
+    }
+
+    /// A world of a size that it may have.
+    fn made(alloc: A, threads: usize, locks: Vec<LockKind, A>) -> Result<World<A>, SizeFault>
+        requires threads { (0 < threads) × (threads ≤ 65536) }
+        requires locks { (0 < length locks.items) × (length locks.items ≤ 2 ^ 20) }
+        ensures err { IfErr result (λ fault. fault ≡ NoMemory) }
+        ensures kinds { IfOk result (λ world. world.kinds ≡ locks.items) }
+        ensures rows { IfOk result (λ world. state world.waits.rows ≡ rows.at_rest (2 * threads) (map row_kind locks.items)) }
+        ensures variables { IfOk result (λ world. world.waits.vars ≡ map (var_of threads) (map is_variable locks.items)) }
+        ensures seats { IfOk result (λ world. world.waits.seats ≡ replicate threads nowhere) }
+        ensures onces { IfOk result (λ world. world.onces ≡ once.at_rest threads (length locks.items)) }
+        ensures answers { IfOk result (λ world. world.answers ≡ replicate threads None) }
+    {
         let onces = OnceMachine::new(&alloc, threads, locks.len())?;
-        let rows = rows_of(alloc.clone()?, &locks)?;
-        let variables = variables_of(alloc.clone()?, &locks)?;
-        let waits = WaitMachine::new(&alloc, threads, rows, &variables)?;
+        let waits = waits_of(&alloc, threads, &locks)?;
         let answers = vec![in alloc; None; threads]?;
         Ok(World {
             kinds: locks,
@@ -44,6 +66,24 @@ impl<A: Allocator + Clone + Drop> World<A> {
             answers,
         })
     }
+}
+
+/// The machine of so many threads, and of the locks and condition variables among locks of these kinds.
+fn waits_of<A: Allocator + Clone + Drop>(
+    alloc: &A,
+    threads: usize,
+    kinds: &[LockKind],
+) -> Result<WaitMachine<A>, SizeFault>
+    requires threads { (0 < threads) × (threads ≤ 65536) }
+    requires locks { (0 < length kinds.now) × (length kinds.now ≤ 2 ^ 20) }
+    ensures err { IfErr result (λ fault. fault ≡ NoMemory) }
+    ensures rows { IfOk result (λ machine. state machine.rows ≡ rows.at_rest (2 * threads) (map row_kind kinds.now)) }
+    ensures variables { IfOk result (λ machine. machine.vars ≡ map (var_of threads) (map is_variable kinds.now)) }
+    ensures seats { IfOk result (λ machine. machine.seats ≡ replicate threads nowhere) }
+{
+    let rows = rows_of(alloc.clone()?, kinds)?;
+    let variables = variables_of(alloc.clone()?, kinds)?;
+    WaitMachine::new(alloc, threads, rows, &variables)
 }
 
 /// The rows of locks of these kinds.

@@ -1,8 +1,13 @@
 use Rattle.std.proofs.Common.{◌≡◌, true, refl, slice_set, None, subst, sym}
 use Rattle.parking_lot_worlds.specs.declared.calls.Asked.{Asked}
 use Rattle.parking_lot_worlds.specs.Worlds.{Shown, may_ask}
-use Rattle.parking_lot_worlds.proofs.Whole.{asked_whole}
+use Rattle.parking_lot_worlds.proofs.Whole.{ask_variable_there, asked_whole}
 use Rattle.parking_lot_worlds.proofs.world.World.ask_variable.Goals as goal
+
+pub call-requires : goal.call-requires
+call-requires g c =
+    let w : Shown = record { kinds = c.self.inside.kinds.items; waits = c.self.inside.waits; onces = c.self.inside.onces; answers = c.self.inside.answers.items } in
+    record { may = ask_variable_there w c.args.thread c.args.lock c.args.call (subst (λ (x : Shown). may_ask x c.args.thread c.args.lock (Asked.OfVariable c.args.call) ≡ true) (sym c.self.view_is) c.requires.allowed) }
 
 pub invariant_of-self : goal.invariant_of-self
 invariant_of-self g c =

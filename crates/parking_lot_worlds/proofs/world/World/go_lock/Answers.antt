@@ -1,8 +1,13 @@
 use Rattle.std.proofs.Common.{◌≡◌, ◌∙◌, None, Some, false, true, ap, refl, slice_set, subst, sym}
 use Rattle.parking_lot_worlds.specs.WorldCalls.{of_ended}
 use Rattle.parking_lot_worlds.specs.Worlds.{Shown, is_in_once, may_go}
-use Rattle.parking_lot_worlds.proofs.Whole.{gone_whole}
+use Rattle.parking_lot_worlds.proofs.Whole.{gone_whole, waits_go}
 use Rattle.parking_lot_worlds.proofs.world.World.go_lock.Goals as goal
+
+pub step-requires : goal.step-requires
+step-requires g c =
+    let w : Shown = record { kinds = c.self.inside.kinds.items; waits = c.self.inside.waits; onces = c.self.inside.onces; answers = c.self.inside.answers.items } in
+    record { can = waits_go w c.args.thread (subst (λ (x : Shown). is_in_once x c.args.thread ≡ false) (sym c.self.view_is) c.requires.there) (subst (λ (x : Shown). may_go x c.args.thread ≡ true) (sym c.self.view_is) c.requires.allowed) }
 
 pub invariant_of-self : goal.invariant_of-self
 invariant_of-self g c =
