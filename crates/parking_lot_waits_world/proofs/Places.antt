@@ -17,7 +17,9 @@ use Rattle.parking_lot_world.specs.declared.open_call.Call.{Call}
 use Rattle.parking_lot_world.specs.declared.seat.Core.{Core}
 use Rattle.parking_lot_world.specs.declared.seat.Hold.{Hold}
 use Rattle.parking_lot_world.specs.declared.seat.LatePhase.{LatePhase}
+use Rattle.parking_lot_world.specs.declared.seat.QueuePosition.{QueuePosition}
 use Rattle.parking_lot_world.specs.declared.seat.WakeResult.{WakeResult}
+use Rattle.parking_lot_world.specs.LateActs.{came_back}
 use Rattle.parking_lot_world.specs.Machines.{Became, BecameInside, BecameLate, IsStepped, end_of}
 use Rattle.parking_lot_world.specs.RowActs.{answered, hears, hold_after, off_list, settled}
 use Rattle.parking_lot_world.specs.Rows.{State, call_at, hold_at, hold_in}
@@ -121,16 +123,21 @@ module _ (s : State) (t : ℕ) (c : Call) (here : call_at s t ≡ Some c) where
   inside (SectionAct.Append token) fair u (k, stands, e) = is u _ e (record { locks = set_lock s.calls t _ same; holds = refl; kinds = refl; closed = λ b o. none_of _ o })
   inside (SectionAct.Store plain handing) fair u e = is u _ e (record { locks = says _ _; holds = refl; kinds = refl; closed = λ b o. none_of _ o })
   inside SectionAct.Leave fair u e = is u _ e (record { locks = own _; holds = refl; kinds = refl; closed = λ b o. refl })
-  inside SectionAct.Wake fair u (e, d, token, due, is_it) = is u _ is_it (record { locks = set_both s.calls e.thread t _ _ (sym (ap lock_in due.there)) same; holds = refl; kinds = refl; closed = λ b o. o })
+  inside SectionAct.Wake fair u (inr (gone, is_it)) = is u _ is_it (record { locks = own _; holds = refl; kinds = refl; closed = λ b o. o })
+  inside SectionAct.Wake fair u (inl (e, d, token, due, is_it)) = is u _ is_it (record { locks = set_both s.calls e.thread t _ _ (sym (ap lock_in due.there)) same; holds = refl; kinds = refl; closed = λ b o. o })
 
   quits : (left : Bool) (l m : Machine) → l.section ≡ None → m.section ≡ None → (cond left l m).section ≡ None
   quits true l m a b = a
   quits false l m a b = b
 
+  comes : (at : QueuePosition) (u : State) → u ≡ came_back at s t c → Kept true s u
+  comes QueuePosition.Listed u e = is u _ e (record { locks = own _; holds = refl; kinds = refl; closed = λ b o. absurd cc })
+  comes (QueuePosition.Off by said) u e = is u _ e (record { locks = set_lock s.calls t _ same; holds = refl; kinds = refl; closed = λ b o. absurd cc })
+
   late : (k : Core) (u : State) → BecameLate k t c s u → Kept (core_enters k) s u
-  late (Core.Late LatePhase.Expires) u e = is u _ e (record { locks = own _; holds = refl; kinds = refl; closed = λ b o. absurd cc })
+  late (Core.Late LatePhase.Expires) u e = comes c.spot u e
   late (Core.Late LatePhase.Quits) u e = is u _ e (record { locks = own _; holds = refl; kinds = refl; closed = λ b o. quits _ _ _ (ap (option_map _) (none_of _ o)) (none_of _ o) })
-  late (Core.LateRw (LateRwPhase.Expires z)) u e = is u _ e (record { locks = own _; holds = refl; kinds = refl; closed = λ b o. absurd cc })
+  late (Core.LateRw (LateRwPhase.Expires z)) u e = comes c.spot u e
   late (Core.LateRw (LateRwPhase.Quits z)) u e = is u _ e (record { locks = own _; holds = refl; kinds = refl; closed = λ b o. quits _ _ _ (ap (option_map _) (none_of _ o)) (none_of _ o) })
   late k u e = absurd e
 
