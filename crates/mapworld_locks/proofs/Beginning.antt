@@ -35,7 +35,7 @@ use Rattle.mapworld_locks.specs.Steps.{LockBegins, MayAsk}
 use Rattle.mapworld_locks.specs.Views.{Shown, held_as, held_at}
 use Rattle.mapworld_locks.proofs.Calls.{call_of, set_elsewhere, slot}
 use Rattle.mapworld_locks.proofs.Ending.{held_by_role, idle_mode}
-use Rattle.mapworld_locks.proofs.Handing.{no_mutex, not_recursive}
+use Rattle.mapworld_locks.proofs.Handing.{not_recursive}
 use Rattle.mapworld_locks.proofs.Lists.{all_at}
 use Rattle.mapworld_locks.proofs.Standing.{set_low}
 use Rattle.mapworld_locks.proofs.Together.{holders_are_threads}

@@ -1,7 +1,7 @@
 mod Aiming
 mod Owning
 mod Within
-mod Calls
+pub mod Calls
 mod Taking
 pub mod Lists
 pub mod Handing

@@ -69,7 +69,7 @@ may_go_at (Some v) j t = may_go_as (call_at j v t) j t v
 abbrev pub may_go : Joint → ℕ → Bool
 may_go j t = nat_lt t (length j.seats) && may_go_at (seat_at j t).at j t
 
--- One that sleeps in a list of its mutex, or of the variable.
+-- One that sleeps in the variable's list, or at its mutex: in a list there, or taken off it and not woken yet.
 abbrev pub sleeps_on : OpenCall → Joint → ℕ → Bool
 sleeps_on c j t = c.listed || rows.may_expire (state j.rows) (back_number j t)
 

@@ -181,7 +181,7 @@ impl<A: Allocator> Machines<A> {
         }
     }
 
-    /// Whether a thread in that call sleeps in a list: of the variable, or of the mutex that it was moved to.
+    /// Whether a thread in that call sleeps: in the variable's list, or at the mutex that it was moved to, in its list or taken and not woken yet.
     fn sleeps_on(&self, thread: usize, call: &OpenCall) -> bool
         requires low { thread < length self.now.seats }
         ensures { result ≡ sleeps_on call.now self.now thread }
@@ -189,7 +189,8 @@ impl<A: Allocator> Machines<A> {
         call.listed || self.rows.may_expire(self.back_number(thread))
     }
 
-    /// Whether a thread's deadline may come: it sleeps in a list in a timed call, and it hasn't come before.
+    /// Whether a thread's deadline may come: it sleeps in a timed call, in a list or at a lock taken off it and not woken yet, and it hasn't come
+    /// before.
     pub fn may_expire(&self, thread: usize) -> bool
         ensures { result ≡ may_expire self.now thread }
     {

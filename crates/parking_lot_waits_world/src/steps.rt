@@ -46,8 +46,8 @@ impl<A: Allocator> Machines<A> {
         };
     }
 
-    /// A thread's deadline comes as it sleeps in a list of a timed call. From then on it can move, and takes itself off that list, unless it is taken
-    /// first.
+    /// A thread's deadline comes as it sleeps in a timed call. From then on it can move, and takes itself off its list, unless it was taken: at
+    /// a lock it finds that out then, and goes on as its taker told it, and off a variable's list it goes on at the mutex.
     pub fn deadline(&mut self, thread: usize)
         requires may { may_expire self.old thread ≡ true }
         ensures { IsLate thread self.old self.new }

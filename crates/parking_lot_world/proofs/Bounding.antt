@@ -25,7 +25,8 @@ use Rattle.parking_lot_world.specs.Rows.{State, call_at, word_at}
 use Rattle.parking_lot_world.specs.SoundLaws.{StepsAreFew, most_steps}
 use Rattle.parking_lot_world.specs.Stances.{rw_taken, taken_count}
 use Rattle.parking_lot_world.proofs.Meeting.{in_range}
-use Rattle.parking_lot_world.proofs.Paying.{none_more, IsGood, IsGoodLate, is_good}
+use Rattle.parking_lot_world.proofs.Paying.{IsGood, IsGoodLate, is_good}
+use Rattle.parking_lot_world.proofs.WakesPaying.{none_more}
 use Rattle.parking_lot_world.proofs.Summing.{others_and_one}
 use Rattle.parking_lot_world.specs.declared.late_rw.LateRwPhase.{LateRwPhase}
 use Rattle.parking_lot_world.specs.declared.late_rw.RwSleeper.{RwSleeper}

@@ -86,8 +86,10 @@ mod MutexPaying
 mod RwPaying
 mod UpgradePaying
 mod Summing
-pub mod Paying
+mod Paying
+pub mod WakesPaying
 pub mod LateLots
+mod LateQuits
 mod LateKinds
 mod LateRules
 pub mod LateActs

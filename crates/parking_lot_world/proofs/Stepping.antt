@@ -33,7 +33,8 @@ use Rattle.parking_lot_world.specs.declared.seat.QueuePosition.{QueuePosition}
 use Rattle.parking_lot_world.proofs.Acting.{laws}
 use Rattle.parking_lot_world.proofs.LateActs.{laws as late_laws}
 use Rattle.parking_lot_world.proofs.Paying as pays
-use Rattle.parking_lot_world.proofs.Paying.{IsTaking, wakes_pay, nobody_pays, ends_pay}
+use Rattle.parking_lot_world.proofs.Paying.{IsTaking}
+use Rattle.parking_lot_world.proofs.WakesPaying.{wakes_pay, nobody_pays, ends_pay}
 use Rattle.parking_lot_world.proofs.TakeLaws as takes
 use Rattle.parking_lot_world.proofs.TellActs as tells
 use Rattle.parking_lot_world.specs.declared.seat.WakeResult.{WakeResult}

@@ -9,7 +9,7 @@ use Rattle.parking_lot_world.specs.RowFits.{FitsTogether}
 use Rattle.parking_lot_world.specs.ActLaws.{MayBegin}
 use Rattle.parking_lot_world.specs.Machines.{call_for, IsBegun}
 use Rattle.parking_lot_world.proofs.Acting.{laws}
-use Rattle.parking_lot_world.proofs.Paying.{begins_cost}
+use Rattle.parking_lot_world.proofs.WakesPaying.{begins_cost}
 use Rattle.parking_lot_world.proofs.Requesting.{may_begins}
 use Rattle.parking_lot_world.proofs.row_machine.RowMachine.begin.Goals as goal
 

@@ -1,5 +1,5 @@
 use Rattle.parking_lot_world.specs.Rows.{state}
-use Rattle.parking_lot_world.proofs.Paying.{any_may_be_stepped}
+use Rattle.parking_lot_world.proofs.WakesPaying.{any_may_be_stepped}
 use Rattle.parking_lot_world.proofs.row_machine.RowMachine.others_go_on.Goals as goal
 
 pub returns : goal.returns
