@@ -16,17 +16,13 @@ use Rattle.parking_lot_world.specs.declared.calls.LockKind.{LockKind}
 use Rattle.parking_lot_world.specs.declared.calls.LockKind.TheVariants as kind
 use Rattle.parking_lot_world.specs.declared.calls.OwnMode.TheVariants as mode
 use Rattle.parking_lot_world.specs.declared.open_call.Call.{Call}
-use Rattle.parking_lot_world.specs.declared.seat.Hold.{Hold}
-use Rattle.parking_lot_world.specs.declared.seat.Hold.TheVariants as hold
 use Rattle.parking_lot_world.specs.Beginnings.{excludes, is_allowed, owns_nothing}
 use Rattle.parking_lot_world.specs.Calls.{takes}
 use Rattle.parking_lot_world.specs.Kinds.{kind_in}
 use Rattle.parking_lot_world.specs.Machines.{may_begin}
 use Rattle.parking_lot_world.specs.RowFits.{FitsTogether}
-use Rattle.parking_lot_world.specs.Rows.{Rows, State, call_at as row_call_at, hold_at, lock_at, state}
+use Rattle.parking_lot_world.specs.Rows.{Rows, State, call_at as row_call_at, hold_at, state}
 use Rattle.parking_lot_world.specs.SoundLaws.{Always, OwnersAgree, agrees}
-use Rattle.parking_lot_world.specs.Worlds.{hold_mode, mode_in}
-use Rattle.parking_lot_world.proofs.Viewing.{IsApart, apart_owner}
 use Rattle.parking_lot_waits_world.specs.declared.seat.Seat.{Seat}
 use Rattle.parking_lot_waits_world.specs.Joint.{Joint, back_number, front_number, has_by_second, is_open_at_variables, nowhere, number, seat_at, var_at}
 use Rattle.parking_lot_waits_world.specs.JointMoves.{has_mutex, is_free, is_mutex, may_call, may_call_at}

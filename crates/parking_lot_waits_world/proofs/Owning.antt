@@ -1,6 +1,6 @@
 -- How a number owns a mutex, by where it is there; and that a wait that is answered leaves its thread owning it.
-use Rattle.std.specs.Prelude.{if◌then◌else◌}
 use Rattle.std.proofs.Common.{◌≡◌, ◌⊎◌, inl, inr, ℕ, zero, suc, ◌+◌, ◌<◌, Bool, true, false, not, cond, nat_lt, List, length, Option, Some, None, slice_get, refl, sym, ap, ◌∙◌, subst}
+use Rattle.std.specs.Prelude.{if◌then◌else◌}
 use Rattle.std.specs.Option.{option_or}
 use Rattle.std.proofs.lemmas.Bool.{lt-ltb}
 use Rattle.std.proofs.lemmas.List.{length-set}
@@ -37,9 +37,9 @@ use Rattle.parking_lot_waits_world.specs.declared.turn.Turn.{Turn}
 use Rattle.parking_lot_waits_world.specs.declared.turn.Turn.TheVariants as turn
 use Rattle.parking_lot_waits_world.specs.Joint.{Joint, back_number, call_at, call_in, front_number, mode_at, nowhere, number, seat_at, var_at}
 use Rattle.parking_lot_waits_world.specs.JointLaws.{PartsFit, WaitsEndOwning}
-use Rattle.parking_lot_waits_world.specs.JointSteps.{ActsAt, ActsIn, GoesAtVariable, KnownIn, Turned}
+use Rattle.parking_lot_waits_world.specs.JointSteps.{ActsAt, ActsIn, KnownIn, Turned}
 use Rattle.parking_lot_waits_world.specs.Turns.{is_wait, mutex_of, notify_turn, turn_by, turn_of, wait_turn}
-use Rattle.parking_lot_waits_world.specs.Whole.{AtMutex, Owns, Away, IsSo, IsWhole, Stands, Waits, back_at_end, front_at_end}
+use Rattle.parking_lot_waits_world.specs.Whole.{Owns, Away, IsSo, IsWhole, Stands, Waits}
 use Rattle.parking_lot_waits_world.proofs.Keeping.{low_at, place_in}
 
 -- BY WHERE A NUMBER IS AT A MUTEX
@@ -74,10 +74,6 @@ OneOwns s a b n = (mode_in (lock_at s n) a ≡ Some mode.Exclusive) ⊎ ((mode_i
 of_one : (o p : Option OwnMode) → (o ≡ Some mode.Exclusive) ⊎ ((o ≡ None) × (p ≡ Some mode.Exclusive)) → option_or o p ≡ Some mode.Exclusive
 of_one o p (inl e) = ap (λ (x : Option OwnMode). option_or x p) e
 of_one o p (inr (e, f)) = ap (λ (x : Option OwnMode). option_or x p) e ∙ f
-
-either_order : (s : State) (a b n : ℕ) → OneOwns s a b n → OneOwns s b a n → (second : Bool) → OneOwns s (cond second b a) (cond second a b) n
-either_order s a b n x y true = y
-either_order s a b n x y false = x
 
 module _ (i : Joint) (t : ℕ) (c : OpenCall) (fits : FitsTogether (state i.rows)) where
   abbrev s : State
