@@ -14,14 +14,14 @@ use Rattle.parking_lot_condvar_world.specs.Machines.{State as Var, call_in as va
 use Rattle.parking_lot_condvar_world.specs.OwnSteps.{inside_after_notify, inside_after_wait, stepped_by}
 use Rattle.parking_lot_condvar_world.specs.Turns.{enters, enters_by, is_own, is_own_by, notify_enters, wait_enters, wait_is_own}
 use Rattle.parking_lot_condvar_world.proofs.Slots.{call_here, within}
-use Rattle.parking_lot_world.specs.Rows.{Rows, State, call_at as row_call_at, state}
+use Rattle.parking_lot_world.specs.Rows.{Rows, call_at as row_call_at, state}
 use Rattle.parking_lot_waits_world.specs.declared.seat.Seat.{Seat}
 use Rattle.parking_lot_waits_world.specs.declared.turn.Turn.TheVariants as turn
 use Rattle.parking_lot_waits_world.specs.Joint.{Joint, back_number, call_at, call_in, front_number, is_open_at_locks, is_open_at_variables, nowhere, number, var_at, var_goes}
 use Rattle.parking_lot_waits_world.specs.Turns.{mutex_of, notify_turn}
-use Rattle.parking_lot_waits_world.specs.Whole.{AtMutex, Owns, Away, IsSo, IsWhole, Notifies, Waits, back_of, front_of, named}
+use Rattle.parking_lot_waits_world.specs.Whole.{AtMutex, IsSo, IsWhole, Notifies, Waits, back_of, front_of, named}
 use Rattle.parking_lot_waits_world.proofs.Hearing.{both_true}
-use Rattle.parking_lot_waits_world.proofs.Keeping.{Anew, AreShut, is, is_not, low_at, now_open, place_in, rows_same, seats_at, var_elsewhere, var_here, var_shut, vars_at, whole_still}
+use Rattle.parking_lot_waits_world.proofs.Keeping.{Anew, AreShut, is, is_not, low_at, now_open, rows_same, seats_at, var_elsewhere, var_here, var_shut, vars_at, whole_still}
 use Rattle.parking_lot_waits_world.proofs.Seating.{anew_free, goes_on}
 
 -- WHICH SECTIONS ARE OPEN
