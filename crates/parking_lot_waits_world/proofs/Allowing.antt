@@ -225,7 +225,7 @@ module _ (j : Joint) (h : IsWhole j) (v : ℕ) (x : Var) (at : var_at j v ≡ So
           by_call t u o (ap (option_and_then (λ (y : Option OpenCall). y)) is) some (known.0.sound.agrees u (phase_in o) (slice_get-map phase_in x.calls u ∙ ap (option_map phase_in) is)) inside other
 
   -- a notification itself doesn't stand there
-  not_itself : (t : ℕ) (c : OpenCall) → var_call_at x t ≡ Some c → (m : Marking c) → (u : ℕ) → 0 < occurs u x.queue → u ≢ t
+  pub not_itself : (t : ℕ) (c : OpenCall) → var_call_at x t ≡ Some c → (m : Marking c) → (u : ℕ) → 0 < occurs u x.queue → u ≢ t
   not_itself t c here m u some e = by_slot (slice_get x.calls t) refl here
     where
       weighs : 0 < at_index (rules.weight rules.Waiting) (slice_get (variable x).phases t)

@@ -14,4 +14,5 @@ pub mod RankFew
 pub mod Progress
 pub mod Sections
 pub mod Givers
+pub mod MovingRuns
 pub mod OnePlace

@@ -17,7 +17,7 @@ use Rattle.parking_lot_world.specs.declared.open_call.Call.{Call}
 use Rattle.parking_lot_world.specs.LateLaws.{expire_step}
 use Rattle.parking_lot_world.specs.Machines as rows
 use Rattle.parking_lot_world.specs.Machines.{IsLawful}
-use Rattle.parking_lot_world.specs.Requeues.{MovesAreCases}
+use Rattle.parking_lot_world.specs.Requeues.{MovesAreCases, MovesAreRuns}
 use Rattle.parking_lot_world.specs.RowFits.{FitsTogether}
 use Rattle.parking_lot_world.specs.Rows.{State, lock_at, state}
 use Rattle.parking_lot_world.specs.SoundLaws.{IsStepAt}
@@ -32,6 +32,7 @@ use Rattle.parking_lot_waits_world.specs.JointLaws.{PartsFit}
 use Rattle.parking_lot_waits_world.specs.JointSteps.{ActsAt, ActsIn, BeginsIn, ComesBackIf, FollowsAs, HearsAt, HearsIn, HearsOf, IsAsked, IsCalled, IsFollowing, IsGoneAt, IsLateAt, IsMoving, MovesIn, Turned, is_locked, takes_now}
 use Rattle.parking_lot_waits_world.specs.Moving.{AreMoved, AreMovedAs, AreTaken, NotifiesIn}
 use Rattle.parking_lot_waits_world.specs.Turns.{is_late, turn_of}
+use Rattle.parking_lot_waits_world.proofs.MovingRuns.{moves_run}
 use Rattle.parking_lot_waits_world.proofs.RankParts.{busy_is, var_here}
 use Rattle.parking_lot_waits_world.proofs.Sections.{var_elsewhere}
 
@@ -241,10 +242,11 @@ module _ (t : ℕ) (i j : Joint) where
       go (Some a) at None begins e = absurd begins
       go (Some a) at (Some b) begins e = both (no_lock (ap state x.rows)) (one_variable v a b at e ([], begins.stays))
 
-pub steps_are_cases : MovesAreCases → StepsAreCases
-steps_are_cases cases = record {
+pub steps_are_cases : MovesAreCases → MovesAreRuns → StepsAreCases
+steps_are_cases cases runs = record {
   asks = λ t lock c i j fits x. asked t i j fits lock c x;
   calls = λ t v c i j x. called t i j v c x;
   steps = λ t fair end i j fits x. goes_at t i j fits cases (seat_at i t).at fair end x;
   deadlines = λ t i j fits x. late_at t i j fits (seat_at i t).at x;
+  moves = λ t v c i j h fits here turns x. moves_run runs t v c i j h fits here turns x;
 }

@@ -5,7 +5,7 @@ ghost use Rattle.parking_lot_waits_world.specs.JointProgress.{GiversStayOut, Som
 ghost use Rattle.parking_lot_waits_world.specs.JointRanks.{StepsAreFew, StepsArePaidFor};
 
 use parking_lot_condvar_world::laws as of_variables;
-use parking_lot_world::{laws as of_locks, moves_are_cases};
+use parking_lot_world::{laws as of_locks, moves_are_cases, moves_are_runs};
 
 /// A wait is answered that its deadline came only if it has one; and a notification says how many it has taken, one at most if it is of one.
 pub fn replies_fit_their_calls()
@@ -53,4 +53,5 @@ pub fn each_step_is_at_one_place()
     ensures { StepsAreCases }
 {
     moves_are_cases();
+    moves_are_runs();
 }
