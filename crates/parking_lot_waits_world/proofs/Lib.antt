@@ -36,3 +36,4 @@ pub mod Progress
 pub mod Sections
 pub mod Givers
 pub mod OpenGoes
+pub mod MovingRuns

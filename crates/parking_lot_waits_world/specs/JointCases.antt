@@ -1,16 +1,23 @@
 -- What a step of the machine is to its locks and to its condition variables, each by itself.
-use Rattle.std.specs.Prelude.{◌≡◌, ◌≢◌, ℕ, ◌+◌, if◌then◌else◌, Bool, true, List, [], ◌∷◌, length, Option, Some, None}
+use Rattle.std.specs.Prelude.{◌≡◌, ◌≢◌, ℕ, ◌+◌, if◌then◌else◌, Bool, true, false, List, [], ◌∷◌, length, map, Option, Some, None}
+use Rattle.parking_lot_rules.specs.Mutex.{Mutex, Runs as MutexRuns}
 use Rattle.parking_lot_rules.specs.Variable as rules
 use Rattle.parking_lot_condvar_world.specs.declared.calls.CondvarCall.{CondvarCall}
+use Rattle.parking_lot_condvar_world.specs.declared.open_call.OpenCall.{OpenCall}
 use Rattle.parking_lot_condvar_world.specs.Machines.{State as Var, variable}
 use Rattle.parking_lot_condvar_world.specs.Steps.{Runs}
 use Rattle.parking_lot_world.specs.declared.calls.LockCall.{LockCall}
-use Rattle.parking_lot_world.specs.Rows.{State, lock_at, state}
+use Rattle.parking_lot_world.specs.Requeues.{pull_run, requeue_run}
+use Rattle.parking_lot_world.specs.Rows.{State, hold_at, lock_at, mutex_at, owns_mutex, state}
 use Rattle.parking_lot_world.specs.SoundLaws.{IsStepAt}
 use Rattle.parking_lot_waits_world.specs.declared.ended.Ended.{Ended}
-use Rattle.parking_lot_waits_world.specs.Joint.{Joint, var_at}
+use Rattle.parking_lot_waits_world.specs.declared.turn.Turn.TheVariants as turn
+use Rattle.parking_lot_waits_world.specs.Joint.{Joint, call_at, lock_of, number, var_at}
 use Rattle.parking_lot_waits_world.specs.JointLaws.{PartsFit}
-use Rattle.parking_lot_waits_world.specs.JointSteps.{IsAsked, IsCalled, IsGone, IsLate}
+use Rattle.parking_lot_waits_world.specs.JointSteps.{IsAsked, IsCalled, IsGone, IsLate, IsMoving, is_locked, takes_now}
+use Rattle.parking_lot_waits_world.specs.Moving.{back_in}
+use Rattle.parking_lot_waits_world.specs.Turns.{turn_of}
+use Rattle.parking_lot_waits_world.specs.Whole.{IsWhole}
 
 -- Of n threads, thread t has made these cases of a lock without a word at lock m, one after another, each by its second number or its first; all other
 -- locks are as they were, and all are of the kinds of which they were.
@@ -40,3 +47,22 @@ pub record StepsAreCases : Type 0 where
   pub calls : (t v : ℕ) (c : CondvarCall) (i j : Joint) → PartsFit i → IsCalled t v c i j → IsCase t i j
   pub steps : (t : ℕ) (fair : Bool) (end : Option Ended) (i j : Joint) → PartsFit i → IsGone t fair end i j → IsCase t i j
   pub deadlines : (t : ℕ) (i j : Joint) → PartsFit i → IsLate t i j → IsCase t i j
+
+-- WHAT A NOTIFICATION DOES AT THE MUTEX
+
+-- To move waiters is a run of the rules' steps at the mutex, by the one that moves them: where it is locked all come into its list, and else the first is
+-- woken, and the others stand behind it.
+abbrev pub MovesAsRun : Bool → ℕ → Bool → List ℕ → Mutex → Mutex → Type 0
+MovesAsRun locked by o [] m n = n ≡ m
+MovesAsRun true by o (w ∷ ws) m n = MutexRuns m (requeue_run by o (w ∷ ws)) n
+MovesAsRun false by o (w ∷ ws) m n = MutexRuns m (pull_run by o w ws) n
+
+-- So it is what a notification does at the mutex that is shown, by the thread's first number.
+abbrev pub IsRunAt : ℕ → ℕ → ℕ → CondvarCall → Joint → Joint → Type 0
+IsRunAt t v lock c i j =
+    MovesAsRun (is_locked i lock) (number i t false) (owns_mutex (hold_at (state i.rows) (number i t false) lock)) (map (back_in i.seats) (takes_now c (var_at i v)))
+    (mutex_at (state i.rows) lock) (mutex_at (state j.rows) lock)
+
+-- That is so of each notification.
+abbrev pub NotificationsAreRuns : Type 0
+NotificationsAreRuns = (t v : ℕ) (c : OpenCall) (i j : Joint) → IsWhole i → PartsFit i → call_at i v t ≡ Some c → turn_of c ≡ turn.Moves → IsMoving t v c i j → IsRunAt t v (lock_of (var_at i v)) c.call i j

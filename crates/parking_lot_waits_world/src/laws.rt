@@ -1,12 +1,12 @@
 //! Laws of a machine's answers and steps.
-ghost use Rattle.parking_lot_waits_world.specs.JointCases.{StepsAreCases};
+ghost use Rattle.parking_lot_waits_world.specs.JointCases.{NotificationsAreRuns, StepsAreCases};
 ghost use Rattle.parking_lot_waits_world.specs.JointLaws.{RepliesFit, StaysWhole, WaitsEndOwning};
 ghost use Rattle.parking_lot_waits_world.specs.JointProgress.{GiversStayOut, SomebodyCanMove, SomebodyInsideGoes};
 ghost use Rattle.parking_lot_waits_world.specs.JointRanks.{StepsAreFew, StepsArePaidFor};
 ghost use Rattle.parking_lot_waits_world.specs.JointStays.{StepsLeave};
 
 use parking_lot_condvar_world::laws as of_variables;
-use parking_lot_world::{laws as of_locks, moves_are_cases};
+use parking_lot_world::{laws as of_locks, moves_are_cases, moves_are_runs};
 
 /// A wait is answered that its deadline came only if it has one; and a notification says how many it has taken, one at most if it is of one.
 pub fn replies_fit_their_calls()
@@ -75,3 +75,11 @@ pub fn givers_stay_out()
 pub fn waits_end_owning()
     ensures { WaitsEndOwning }
 {}
+
+/// What a notification does at the mutex that is shown is one run of the rules' steps of its thread: where the mutex is locked all whom it takes come into
+/// its list, and else the first is woken, and the others stand behind it.
+pub fn notifications_are_runs()
+    ensures { NotificationsAreRuns }
+{
+    moves_are_runs();
+}
