@@ -23,7 +23,7 @@ use Rattle.parking_lot_world.specs.declared.calls.LockCall.{LockCall}
 use Rattle.parking_lot_world.specs.Machines as rows
 use Rattle.parking_lot_world.specs.Ranks as row
 use Rattle.parking_lot_world.specs.Rows.{Rows, call_at as row_call_at, state}
-use Rattle.parking_lot_world.proofs.Paying.{any_may_be_stepped}
+use Rattle.parking_lot_world.proofs.WakesPaying.{any_may_be_stepped}
 use Rattle.parking_lot_waits_world.specs.declared.seat.Seat.{Seat}
 use Rattle.parking_lot_waits_world.specs.Joint.{Joint, back_number, busy_number, call_at, call_in, enters_at_lock, front_number, has_by_second, is_open_at_variables, number, row_goes, seat_at, var_at, var_hears}
 use Rattle.parking_lot_waits_world.specs.JointLaws.{PartsFit}

@@ -23,7 +23,7 @@ use Rattle.parking_lot_world.specs.RowFits.{FitsTogether}
 use Rattle.parking_lot_world.specs.Rows.{State, call_at as row_call_at, state}
 use Rattle.parking_lot_world.specs.Stances.{core_act}
 use Rattle.parking_lot_world.proofs.Carrying.{call_within, set_here}
-use Rattle.parking_lot_world.proofs.Paying.{any_may_be_stepped}
+use Rattle.parking_lot_world.proofs.WakesPaying.{any_may_be_stepped}
 use Rattle.parking_lot_waits_world.specs.declared.seat.Seat.{Seat}
 use Rattle.parking_lot_waits_world.specs.Joint.{Joint, busy_by, busy_number, call_at, call_in, back_number, front_number, nowhere, number, seat_at, var_at, var_in}
 use Rattle.parking_lot_waits_world.specs.JointRanks.{is_in_front, left_at_variables, left_in, stepping_as, stepping_at, stepping_number}
