@@ -26,7 +26,7 @@ use Rattle.parking_lot_world.specs.Rows.{State, call_at, hold_at, hold_in, word_
 use Rattle.parking_lot_world.specs.Stances.{Asleep, core_act, core_next, stance}
 use Rattle.parking_lot_waits_world.specs.Joint.{core_enters, is_entry}
 use Rattle.parking_lot_waits_world.specs.Whole.{asks, place_of}
-use Rattle.parking_lot_waits_world.proofs.Stages.{AllGo, Onward, Still, all_stay, all_told, call_of, heard, late_still, no_sort, one_goes, one_off, set_else, woken}
+use Rattle.parking_lot_waits_world.proofs.Stages.{AllGo, Onward, Still, all_stay, all_told, both_ways, call_of, heard, late_still, no_sort, one_goes, one_off, set_else, woken}
 
 -- A STEP THAT ENDS NO CALL
 
@@ -47,10 +47,6 @@ pub record Over (t : ℕ) (a : CoreAnswer) (s u : State) : Type 0 where
 abbrev pub Goes : Option CoreAnswer → Bool → ℕ → State → State → Type 0
 Goes None b t s u = Kept b s u
 Goes (Some a) b t s u = Over t a s u
-
--- it sleeps, or makes that act
-both_ways : {X : Type 0} {b : Bool} → b ≡ true → b ≡ false → X
-both_ways p q = absurd cc
 
 module _ (s : State) (t : ℕ) (c : Call) (fits : FitsTogether s) (here : call_at s t ≡ Some c) where
   is : {b : Bool} (u v : State) → u ≡ v → Kept b s v → Kept b s u

@@ -178,6 +178,9 @@ pub record AllGo (cs ds : List (Option Call)) : Type 0 where
 pub all_stay : (cs : List (Option Call)) → AllGo cs cs
 all_stay cs = record { count = refl; each = λ k. stays (call_of cs k) }
 
+pub both_ways : {X : Type 0} {b : Bool} → b ≡ true → b ≡ false → X
+both_ways p q = absurd cc
+
 -- what stands in a list where one was written, and elsewhere
 pub set_here : (cs : List (Option Call)) (t : ℕ) (c : Call) (o : Option Call) → call_of cs t ≡ Some c → call_of (slice_set cs t o) t ≡ o
 set_here [] t c o e = absurd (none-some c e)
@@ -197,9 +200,6 @@ one_goes cs ds t c o was all goes = record { count = length-set ds t o ∙ all.c
   where
     mine : GoesOn c (call_of (slice_set ds t o) t)
     mine = let there = still_there (call_of cs t) (call_of ds t) c was (all.each t) in subst (λ (p : Option Call). GoesOn c p) (sym (set_here ds t there.0 o there.1)) goes
-
-    both_ways : {X : Type 0} {b : Bool} → b ≡ true → b ≡ false → X
-    both_ways p q = absurd cc
 
     at : (k : ℕ) (b : Bool) → (k == t) ≡ b → Onward (call_of cs k) (call_of (slice_set ds t o) k)
     at k true e = subst (λ (n : ℕ). Onward (call_of cs n) (call_of (slice_set ds t o) n)) (sym (eqb-true k t e)) (subst (λ (p : Option Call). Onward p (call_of (slice_set ds t o) t)) (sym was) mine)
