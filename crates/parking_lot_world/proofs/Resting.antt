@@ -15,7 +15,7 @@ use Rattle.parking_lot_rules.specs.Family.{Key, First, Second, SoundFamilyOf, rw
 use Rattle.parking_lot_rules.specs.Runs as rules
 use Rattle.parking_lot_rules.specs.World as many
 use Rattle.parking_lot_rules.proofs.Running.{all_away, rest_sound_family}
-use Rattle.parking_lot_rules.proofs.Mutexes as mutexes
+use Rattle.parking_lot_rules.proofs.MutexRuns as mutexes
 use Rattle.parking_lot_world.specs.Kinds.{Manner, AsRw, AsMutex, manner_of}
 use Rattle.parking_lot_world.specs.declared.calls.LockKind.{LockKind}
 use Rattle.parking_lot_world.specs.declared.open_call.Call.{Call}
