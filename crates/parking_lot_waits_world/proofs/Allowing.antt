@@ -21,18 +21,19 @@ use Rattle.parking_lot_condvar_world.specs.Fitting.{Fits, is_the}
 use Rattle.parking_lot_condvar_world.specs.MachineLaws.{ListIsWaiters}
 use Rattle.parking_lot_condvar_world.specs.Machines.{State as Var, call_at as var_call_at, phase_by, phase_in, spot_of, variable}
 use Rattle.parking_lot_condvar_world.specs.Turns.{is_inside, is_inside_by, notify_is_inside, wait_is_inside}
-use Rattle.parking_lot_world.specs.declared.calls.LockCall.{LockCall}
-use Rattle.parking_lot_world.specs.declared.calls.LockCall.TheVariants as call
-use Rattle.parking_lot_world.specs.declared.calls.LockKind.{LockKind}
-use Rattle.parking_lot_world.specs.declared.calls.LockKind.TheVariants as kind
-use Rattle.parking_lot_world.specs.declared.open_call.Call.{Call}
-use Rattle.parking_lot_world.specs.declared.seat.Core.{Core as RowCore}
-use Rattle.parking_lot_world.specs.declared.seat.Core.TheVariants as row_core
-use Rattle.parking_lot_world.specs.Beginnings.{excludes, is_allowed, owns_nothing}
-use Rattle.parking_lot_world.specs.Calls.{takes}
-use Rattle.parking_lot_world.specs.Kinds.{kind_in, manner_of}
+use Rattle.parking_lot_world_calls.specs.declared.calls.LockCall.{LockCall}
+use Rattle.parking_lot_world_calls.specs.declared.calls.LockCall.TheVariants as call
+use Rattle.parking_lot_world_calls.specs.declared.calls.LockKind.{LockKind}
+use Rattle.parking_lot_world_calls.specs.declared.calls.LockKind.TheVariants as kind
+use Rattle.parking_lot_world_calls.specs.declared.open_call.Call.{Call}
+use Rattle.parking_lot_world_calls.specs.declared.seat.Core.{Core as RowCore}
+use Rattle.parking_lot_world_calls.specs.declared.seat.Core.TheVariants as row_core
+use Rattle.parking_lot_world_calls.specs.Beginnings.{excludes, is_allowed, owns_nothing}
+use Rattle.parking_lot_world_calls.specs.Calls.{takes}
+use Rattle.parking_lot_world_calls.specs.Kinds.{kind_in, manner_of}
 use Rattle.parking_lot_world.specs.Machines.{may_begin}
-use Rattle.parking_lot_world.specs.RowFits.{FitsTogether, IsOfKind}
+use Rattle.parking_lot_world.specs.RowFits.{FitsTogether}
+use Rattle.parking_lot_world_calls.specs.CallKinds.{IsOfKind}
 use Rattle.parking_lot_world.specs.Rows.{State, call_at as row_call_at, hold_at, state}
 use Rattle.parking_lot_waits_world.proofs.Notifying.{Marking, is_moving, marking}
 use Rattle.parking_lot_waits_world.specs.declared.turn.Turn.{Turn}

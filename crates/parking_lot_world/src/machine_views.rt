@@ -7,11 +7,10 @@ ghost use Rattle.parking_lot_world.specs.RowFits.{FitsTogether};
 ghost use Rattle.parking_lot_world.specs.Rows.{lock_at, queue_at, state, taken_by};
 ghost use Rattle.parking_lot_world.specs.Worlds.{hold_mode, is_indebted, mode_in};
 
-use crate::calls::{LockKind, OwnMode};
 use crate::row_machine::RowMachine;
-use crate::seat::{Hold, Wakeup};
 use parking_lot_core_lot::SizeFault;
 use parking_lot_protocol::{Act, CoreAnswer};
+use parking_lot_world_calls::{Hold, LockKind, OwnMode, Wakeup};
 use std::alloc::Allocator;
 
 impl Hold {

@@ -5,7 +5,7 @@ use Rattle.parking_lot_once_rules.specs.Once.{Step}
 use Rattle.parking_lot_once_world.specs.OnceSteps.{IsLawful}
 use Rattle.parking_lot_once_world.specs.OnceRanks as once_ranks
 use Rattle.parking_lot_once_world.specs.Onces.{Onces, once_at}
-use Rattle.parking_lot_world.specs.Kinds.{recursive_in}
+use Rattle.parking_lot_world_calls.specs.Kinds.{recursive_in}
 use Rattle.parking_lot_world.specs.LateLaws.{expire_step}
 use Rattle.parking_lot_world.specs.Ranks as row_ranks
 use Rattle.parking_lot_world.specs.Rows.{Rows, state}

@@ -22,17 +22,17 @@ use Rattle.parking_lot_upgrades.specs.UpgradeTable as of_upgrade
 use Rattle.parking_lot_upgrades.specs.declared.upgrade_phase.Hold as up
 use Rattle.parking_lot_upgrades.specs.declared.upgrade_phase.Release.{Release}
 use Rattle.parking_lot_upgrades.specs.declared.upgrade_phase.UpgradePhase.{UpgradePhase}
-use Rattle.parking_lot_world.specs.declared.open_call.Call.{Call}
-use Rattle.parking_lot_world.specs.declared.seat.Core.{Core}
-use Rattle.parking_lot_world.specs.declared.seat.LatePhase.{LatePhase}
-use Rattle.parking_lot_world.specs.declared.late_rw.LateRwPhase.{LateRwPhase}
-use Rattle.parking_lot_world.proofs.Sleepers.{lies_out}
+use Rattle.parking_lot_world_calls.specs.declared.open_call.Call.{Call}
+use Rattle.parking_lot_world_calls.specs.declared.seat.Core.{Core}
+use Rattle.parking_lot_world_calls.specs.declared.seat.LatePhase.{LatePhase}
+use Rattle.parking_lot_world_calls.specs.declared.late_rw.LateRwPhase.{LateRwPhase}
+use Rattle.parking_lot_world_calls.proofs.Lying.{lies_out}
 use Rattle.parking_lot_world.specs.Machines.{can_move, can_move_in, goes_late, is_possible, is_taken}
 use Rattle.parking_lot_world.specs.RowFits.{FitsTogether, Seated, Stands}
 use Rattle.parking_lot_world.specs.Rows.{State, call_at, state}
 use Rattle.parking_lot_world.specs.SoundLaws as row_laws
-use Rattle.parking_lot_world.specs.Stances.{Doing, In, Stance, core_act, mutex_stance, rw_stance, seeks_stance, sleeper_stance, stance, upgrade_stance}
-use Rattle.parking_lot_world.specs.Stances as stances
+use Rattle.parking_lot_world_calls.specs.Stances.{Doing, In, Stance, core_act, mutex_stance, rw_stance, seeks_stance, sleeper_stance, stance, upgrade_stance}
+use Rattle.parking_lot_world_calls.specs.Stances as stances
 use Rattle.parking_lot_worlds.specs.WorldLaws.{Moves, SomebodyCanMove}
 use Rattle.parking_lot_worlds.specs.Worlds.{IsWhole, Shown, core_enters, goes, is_entry, is_in_once, lock_enters, may_go, once_enters, once_side, row_side}
 use Rattle.parking_lot_worlds.proofs.Sides.{IsOrderly, somebody_goes}

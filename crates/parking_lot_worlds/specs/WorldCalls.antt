@@ -5,10 +5,10 @@ use Rattle.parking_lot_protocol.specs.declared.act.CoreAnswer.TheVariants as fro
 use Rattle.parking_lot_once_world.specs.declared.calls.OnceCall.TheVariants as once
 use Rattle.parking_lot_once_world.specs.declared.calls.OnceReply.{OnceReply}
 use Rattle.parking_lot_once_world.specs.declared.calls.OnceReply.TheVariants as reply
-use Rattle.parking_lot_world.specs.declared.calls.LockCall.TheVariants as row
-use Rattle.parking_lot_world.specs.declared.calls.LockKind.{LockKind as RowKind}
-use Rattle.parking_lot_world.specs.declared.calls.LockKind.TheVariants as rows
-use Rattle.parking_lot_world.specs.declared.open_call.Call.{Call}
+use Rattle.parking_lot_world_calls.specs.declared.calls.LockCall.TheVariants as row
+use Rattle.parking_lot_world_calls.specs.declared.calls.LockKind.{LockKind as RowKind}
+use Rattle.parking_lot_world_calls.specs.declared.calls.LockKind.TheVariants as rows
+use Rattle.parking_lot_world_calls.specs.declared.open_call.Call.{Call}
 use Rattle.parking_lot_worlds.specs.declared.calls.LockKind.{LockKind}
 use Rattle.parking_lot_worlds.specs.declared.calls.LockKind.TheVariants as kind
 use Rattle.parking_lot_worlds.specs.declared.calls.LockCall.{LockCall}

@@ -11,10 +11,10 @@ use Rattle.parking_lot_once_world.specs.declared.open_call.OpenCall.{OpenCall}
 use Rattle.parking_lot_once_world.specs.Onces.{once_at}
 use Rattle.parking_lot_once_world.specs.Onces as onces
 use Rattle.parking_lot_rules.specs.Any.{AnyLock}
-use Rattle.parking_lot_world.specs.declared.calls.OwnMode.{OwnMode}
-use Rattle.parking_lot_world.specs.declared.calls.OwnMode.TheVariants as mode
-use Rattle.parking_lot_world.specs.declared.open_call.Call.{Call}
-use Rattle.parking_lot_world.specs.Kinds.{AsRw, manner_of, recursive_in}
+use Rattle.parking_lot_world_calls.specs.declared.calls.OwnMode.{OwnMode}
+use Rattle.parking_lot_world_calls.specs.declared.calls.OwnMode.TheVariants as mode
+use Rattle.parking_lot_world_calls.specs.declared.open_call.Call.{Call}
+use Rattle.parking_lot_world_calls.specs.Kinds.{AsRw, manner_of, recursive_in}
 use Rattle.parking_lot_world.specs.Machines.{is_asleep}
 use Rattle.parking_lot_world.specs.Ranks as row_ranks
 use Rattle.parking_lot_world.specs.RowFits.{FitsTogether}

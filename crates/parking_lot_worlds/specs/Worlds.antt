@@ -16,16 +16,16 @@ use Rattle.parking_lot_once_world.specs.Onces as onces
 use Rattle.parking_lot_worlds.specs.declared.fault.WorldFault.{WorldFault}
 use Rattle.parking_lot_worlds.specs.declared.fault.WorldRefusal.{WorldRefusal}
 use Rattle.parking_lot_worlds.specs.declared.fault.WorldRefusal.TheVariants as refused
-use Rattle.parking_lot_world.specs.declared.calls.OwnMode.{OwnMode}
-use Rattle.parking_lot_world.specs.declared.open_call.Call.{Call}
-use Rattle.parking_lot_world.specs.declared.seat.Core.{Core}
-use Rattle.parking_lot_world.specs.declared.seat.Core.TheVariants as core
-use Rattle.parking_lot_world.specs.declared.seat.LatePhase.TheVariants as late
-use Rattle.parking_lot_world.specs.LateActs.{late_rw_comes}
+use Rattle.parking_lot_world_calls.specs.declared.calls.OwnMode.{OwnMode}
+use Rattle.parking_lot_world_calls.specs.declared.open_call.Call.{Call}
+use Rattle.parking_lot_world_calls.specs.declared.seat.Core.{Core}
+use Rattle.parking_lot_world_calls.specs.declared.seat.Core.TheVariants as core
+use Rattle.parking_lot_world_calls.specs.declared.seat.LatePhase.TheVariants as late
+use Rattle.parking_lot_world_calls.specs.LateCalls.{late_rw_comes}
 use Rattle.parking_lot_world.specs.Machines as rows
 use Rattle.parking_lot_world.specs.Rows.{Rows, State, state}
 use Rattle.parking_lot_world.specs.Rows as row
-use Rattle.parking_lot_world.specs.Stances.{core_act}
+use Rattle.parking_lot_world_calls.specs.Stances.{core_act}
 use Rattle.parking_lot_world.specs.Worlds as of_locks
 use Rattle.parking_lot_worlds.specs.declared.calls.Asked.{Asked}
 use Rattle.parking_lot_worlds.specs.declared.calls.Asked.TheVariants.{OfLock, OfOnce}
