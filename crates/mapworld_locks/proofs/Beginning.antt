@@ -27,7 +27,7 @@ use Rattle.parking_lot_world.specs.RowFits.{FitsTogether, Asks, IsPrepared}
 use Rattle.parking_lot_world.specs.Rows.{Rows, State, call_at, hold_at, rw_role_at, rw_role_in, state, taken_by}
 use Rattle.parking_lot_world_calls.specs.CallRoles.{owned_of, rw_core_role}
 use Rattle.parking_lot_world_calls.specs.Stances.{core_next}
-use Rattle.parking_lot_world.specs.Worlds.{hold_mode}
+use Rattle.parking_lot_world_calls.specs.CallViews.{hold_mode}
 use Rattle.mapworld_locks.specs.Aims.{aim_of}
 use Rattle.mapworld_locks.specs.Fits.{IsPlain, LocksFit, is_single, is_plain}
 use Rattle.mapworld_locks.specs.Seats.{seat_of}

@@ -21,7 +21,7 @@ use Rattle.parking_lot_world_calls.specs.CallActs.{rw_hold_after}
 use Rattle.parking_lot_world.specs.RowFits.{rw_keeps}
 use Rattle.parking_lot_world_calls.specs.CallRoles.{rw_spot}
 use Rattle.parking_lot_world_calls.specs.Stances.{Asleep, rw_stance}
-use Rattle.parking_lot_world.specs.Worlds.{hold_mode, shared_mode}
+use Rattle.parking_lot_world_calls.specs.CallViews.{hold_mode, shared_mode}
 use Rattle.mapworld_locks.specs.Aims.{aim_after, aim_for, is_within, phase_aim}
 use Rattle.mapworld_locks.specs.Views.{held_as}
 

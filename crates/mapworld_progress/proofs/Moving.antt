@@ -15,7 +15,7 @@ use Rattle.parking_lot_world.specs.Machines.{can_move, is_asleep}
 use Rattle.parking_lot_world.specs.Rows.{call_at, hold_at, state}
 use Rattle.parking_lot_world.specs.Rows as rows
 use Rattle.parking_lot_world.specs.SoundLaws.{Always, IsApart, SomebodyCanMove, SomebodyKeeps}
-use Rattle.parking_lot_world.specs.Worlds.{hold_mode}
+use Rattle.parking_lot_world_calls.specs.CallViews.{hold_mode}
 use Rattle.parking_lot_world.proofs.Viewing as viewing
 use Rattle.parking_lot_world.proofs.Viewing.{apart_owner}
 use Rattle.mapworld_calls.specs.declared.ask.Walk.{Walk}

@@ -21,7 +21,8 @@ use Rattle.parking_lot_world_calls.specs.CallRoles.{owned_of, owns_mutex}
 use Rattle.parking_lot_world.specs.RowFits.{FitsTogether}
 use Rattle.parking_lot_world_calls.specs.CallKinds.{IsOfKind}
 use Rattle.parking_lot_world_calls.specs.CallViews.{call_in_debt, call_looks, call_mode, core_in_debt, core_mode, mutex_mode, rw_mode}
-use Rattle.parking_lot_world.specs.Worlds.{hold_mode, in_debt_at, is_indebted, mode_in}
+use Rattle.parking_lot_world.specs.Worlds.{in_debt_at, is_indebted, mode_in}
+use Rattle.parking_lot_world_calls.specs.CallViews.{hold_mode}
 use Rattle.parking_lot_world.proofs.Everybody.{get-all, past}
 use Rattle.parking_lot_world.proofs.KindTable.{Simple, Upgradable, Plain, Late, Kind, of_mutexes, of_rws, in_its_place, Tardy}
 use Rattle.parking_lot_world.proofs.Meeting.{in_range}

@@ -25,8 +25,8 @@ pub use parking_lot_protocol::{
     wake_sum,
 };
 pub use parking_lot_world_calls::{
-    Call, Core, Hold, LatePhase, LateRwPhase, LockCall, LockKind, OwnMode, QueuePosition, RwSleeper,
-    WakeResult, Wakeup,
+    Call, Core, Hold, LatePhase, LateRwPhase, LockCall, LockKind, OwnMode, QueuePosition,
+    RwSleeper, WakeResult, Wakeup,
 };
 pub use requeue::{moves_are_cases, moves_are_runs, requeues_are_runs};
 pub use row_machine::RowMachine;

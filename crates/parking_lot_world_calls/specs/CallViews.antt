@@ -18,10 +18,14 @@ use Rattle.parking_lot_upgrades.specs.declared.upgrade_phase.UpgradePhase.{Upgra
 use Rattle.parking_lot_upgrades.specs.declared.upgrade_phase.UpgradePhase.TheVariants as u
 use Rattle.parking_lot_upgrades.specs.UpgradeRules as of_upgrade
 use Rattle.parking_lot_world_calls.specs.CallKinds.{IsOfWorld}
+use Rattle.parking_lot_world_calls.specs.declared.calls.LockKind.{LockKind}
+use Rattle.parking_lot_world_calls.specs.declared.calls.LockKind.TheVariants as kind
 use Rattle.parking_lot_world_calls.specs.declared.calls.OwnMode.{OwnMode}
 use Rattle.parking_lot_world_calls.specs.declared.calls.OwnMode.TheVariants as mode
 use Rattle.parking_lot_upgrades.specs.declared.upgrade_phase.Hold as up
 use Rattle.parking_lot_upgrades.specs.declared.upgrade_phase.Hold.TheVariants as up_hold
+use Rattle.parking_lot_world_calls.specs.declared.seat.Hold.{Hold}
+use Rattle.parking_lot_world_calls.specs.declared.seat.Hold.TheVariants as hold
 use Rattle.parking_lot_world_calls.specs.declared.seat.QueuePosition.{QueuePosition}
 use Rattle.parking_lot_world_calls.specs.declared.seat.QueuePosition.TheVariants as spot
 use Rattle.parking_lot_world_calls.specs.declared.seat.WakeResult.TheVariants as told
@@ -54,6 +58,28 @@ mutex_mode_if false = None
 
 abbrev pub mutex_mode : mutex.Role → Option OwnMode
 mutex_mode r = mutex_mode_if (mutex_owners.owner_of r.owns r.does)
+
+-- HOW ONE OWNS A LOCK THAT IS IN NO CALL THERE
+
+abbrev pub shared_mode : ℕ → Option OwnMode
+shared_mode zero = None
+shared_mode (suc n) = Some mode.Shared
+
+-- how one owns a lock of a kind that is in no call there
+abbrev pub hold_mode : Option LockKind → Hold → Option OwnMode
+hold_mode k hold.Excludes = Some mode.Exclusive
+hold_mode (Some kind.Mutex) hold.Upgrades = None
+hold_mode (Some kind.FairMutex) hold.Upgrades = None
+hold_mode (Some kind.Rw) hold.Upgrades = Some mode.Upgradable
+hold_mode (Some kind.RwRecursive) hold.Upgrades = Some mode.Upgradable
+hold_mode None hold.Upgrades = Some mode.Upgradable
+hold_mode (Some kind.Mutex) (hold.Shares n) = None
+hold_mode (Some kind.FairMutex) (hold.Shares n) = None
+hold_mode (Some kind.Rw) (hold.Shares n) = shared_mode n
+hold_mode (Some kind.RwRecursive) (hold.Shares n) = shared_mode n
+hold_mode None (hold.Shares n) = shared_mode n
+
+-- WHAT MODES WEIGH
 
 -- The classes of owners weigh what the mode says. One at least of the class, and of the others nobody.
 abbrev pub Weighs : (readers upgraders pending writers : ℕ) → Option OwnMode → Type 0

@@ -7,14 +7,14 @@ ghost use Rattle.parking_lot_rules.specs.Owners.{Reading, owner_for_good, owner_
 ghost use Rattle.parking_lot_protocol.specs.MutexRules as of_mutex;
 ghost use Rattle.parking_lot_protocol.specs.RwRules as of_rw;
 ghost use Rattle.parking_lot_protocol.specs.declared.rw_phase.RwPhase.TheVariants as phase;
-ghost use Rattle.parking_lot_world_calls.specs.CallViews.{HasSlept, IsInOrder, IsLateAsSlept, IsLateInOrder, are_some, call_asleep, call_in_debt, call_looks, call_mode, mode_of, mutex_mode, rw_mode, still_looks};
+ghost use Rattle.parking_lot_world_calls.specs.CallViews.{HasSlept, IsInOrder, IsLateAsSlept, IsLateInOrder, are_some, call_asleep, call_in_debt, call_looks, call_mode, hold_mode, mode_of, mutex_mode, rw_mode, still_looks};
 ghost use Rattle.parking_lot_world_calls.specs.LateRoles.{late_rw_role, sleeper_role};
 ghost use Rattle.parking_lot_world_calls.specs.CallRoles.{late_does, late_role, mark_of, mutex_does, mutex_role, mutex_spot, rw_spot};
 
-use crate::calls::OwnMode;
+use crate::calls::{LockKind, OwnMode};
 use crate::late_rw::{LateRwPhase, RwSleeper};
 use crate::open_call::Call;
-use crate::seat::{Core, LatePhase, QueuePosition, WakeResult};
+use crate::seat::{Core, Hold, LatePhase, QueuePosition, WakeResult};
 use crate::upgrade_views::{upgrade_asleep, upgrade_in_debt, upgrade_looks, upgrade_mode};
 use parking_lot_protocol::{AfterWake, CoreAnswer, LockMode, MutexPhase, Outcome, RwPhase};
 use parking_lot_upgrades::UpgradePhase;
@@ -274,6 +274,26 @@ fn late_rw_in_debt(phase: LateRwPhase, spot: QueuePosition) -> bool
         }
         (LateRwPhase::GivesUp, _) => false,
         _ => true,
+    }
+}
+
+impl Hold {
+    /// How a thread owns a lock of that kind that has such a hold of it, and is in no call there.
+    pub fn mode(&self, kind: Option<LockKind>) -> Option<OwnMode>
+        ensures { result ≡ hold_mode kind self.now }
+    {
+        match self {
+            Hold::Excludes => Some(OwnMode::Exclusive),
+            Hold::Upgrades => match kind {
+                Some(LockKind::Mutex | LockKind::FairMutex) => None,
+                _ => Some(OwnMode::Upgradable),
+            },
+            Hold::Shares(holds) => match kind {
+                Some(LockKind::Mutex | LockKind::FairMutex) => None,
+                _ if *holds > 0 => Some(OwnMode::Shared),
+                _ => None,
+            },
+        }
     }
 }
 

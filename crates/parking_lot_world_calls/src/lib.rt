@@ -13,6 +13,4 @@ mod upgrade_views;
 pub use calls::{LockCall, LockKind, OwnMode};
 pub use late_rw::{LateRwPhase, RwSleeper};
 pub use open_call::Call;
-pub use seat::{
-    Core, Hold, LatePhase, QueuePosition, WakeResult, Wakeup, sleeping_mutex,
-};
+pub use seat::{Core, Hold, LatePhase, QueuePosition, WakeResult, Wakeup, sleeping_mutex};
