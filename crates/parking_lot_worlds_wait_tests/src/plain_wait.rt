@@ -197,17 +197,16 @@ impl Plain {
             Stage::Free | Stage::Notified | Stage::GaveUp => Stay::AtMutex,
             Stage::Listed => Stay::AtVariable,
         };
-        End {
-            answers: caller.answers,
-            stay,
-        }
+        let answers = caller.answers;
+        End { answers, stay }
     }
 
     /// How all end.
     fn ends(self) -> Ends {
+        let order = self.order.0;
         Ends {
             threads: Three(self.end(0), self.end(1), self.end(2)),
-            order: self.order.0,
+            order,
         }
     }
 }

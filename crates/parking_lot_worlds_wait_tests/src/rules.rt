@@ -120,8 +120,9 @@ impl Snapshot {
 
     /// How a thread ends.
     fn end(&self, thread: usize) -> End {
+        let answers = self.callers.of(thread).answers;
         End {
-            answers: self.callers.of(thread).answers,
+            answers,
             stay: self.stay(thread).unwrap_or(Stay::Done),
         }
     }

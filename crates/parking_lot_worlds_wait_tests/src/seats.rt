@@ -214,7 +214,7 @@ fn number_at_variable(phase: Option<AtVariable>) -> u64 {
     match phase {
         None => 0,
         Some(AtVariable::Waits(phase, is_listed)) => {
-            number_of_wait(phase) + if is_listed { 1 } else { 20 }
+            number_of_wait(phase).wrapping_add(if is_listed { 0 } else { 20 })
         }
         Some(AtVariable::Notifies(phase, _)) => number_of_notification(phase),
     }
