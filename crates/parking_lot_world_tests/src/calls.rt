@@ -37,7 +37,8 @@ fn follow(rt: &impl Abort, call: Call, lines: &[Line]) -> Call {
     for (seen, owns, looks, in_debt, asleep) in lines {
         call = call.told(*seen);
         let is_owned = (call.owns() == *owns) & (call.looks() == *looks);
-        let is_about = (call.is_in_debt(is_to_wake(&call)) == *in_debt) & (call.is_asleep() == *asleep);
+        let is_about = (call.is_in_debt(is_to_wake(&call)) == *in_debt)
+            & (call.is_asleep() == *asleep);
         assert!(rt; is_owned & is_about, "told {seen:?}");
     }
     call
