@@ -23,7 +23,7 @@ use Rattle.mapworld_calls.specs.Pairs.{pair_of, opening_pair}
 use Rattle.mapworld_calls.specs.Setup.{Setup, Laws}
 use Rattle.mapworld_calls.specs.Placed.{WellPlaced}
 use Rattle.mapworld_state.specs.declared.step.Step.{Step}
-use Rattle.parking_lot_world.specs.declared.calls.LockKind.TheVariants as kind
+use Rattle.parking_lot_world_calls.specs.declared.calls.LockKind.TheVariants as kind
 use Rattle.parking_lot_world.specs.Rows as rows
 use Rattle.mapworld_locks.specs.Fresh.{AreFresh}
 use Rattle.mapworld_locks.specs.Stands.{stand_in}

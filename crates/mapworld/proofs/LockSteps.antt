@@ -7,16 +7,17 @@ use Rattle.lock_api_desk.specs.Desk.{DeskState}
 use Rattle.parking_lot_protocol.specs.declared.act.Act.{Act}
 use Rattle.parking_lot_protocol.specs.declared.act.ActResult.TheVariants.{Start}
 use Rattle.parking_lot_protocol.specs.declared.act.CoreAnswer.{CoreAnswer}
-use Rattle.parking_lot_world.specs.declared.calls.LockCall.{LockCall}
-use Rattle.parking_lot_world.specs.declared.calls.LockCall.TheVariants as ask
-use Rattle.parking_lot_world.specs.declared.calls.LockKind.{LockKind}
-use Rattle.parking_lot_world.specs.declared.open_call.Call.{Call}
-use Rattle.parking_lot_world.specs.Beginnings.{core_of}
-use Rattle.parking_lot_world.specs.Kinds.{kind_in}
+use Rattle.parking_lot_world_calls.specs.declared.calls.LockCall.{LockCall}
+use Rattle.parking_lot_world_calls.specs.declared.calls.LockCall.TheVariants as ask
+use Rattle.parking_lot_world_calls.specs.declared.calls.LockKind.{LockKind}
+use Rattle.parking_lot_world_calls.specs.declared.open_call.Call.{Call}
+use Rattle.parking_lot_world_calls.specs.Beginnings.{core_of}
+use Rattle.parking_lot_world_calls.specs.Kinds.{kind_in}
 use Rattle.parking_lot_world.specs.Machines.{Became, call_for, end_of}
-use Rattle.parking_lot_world.specs.RowActs.{answered, begun, hears}
+use Rattle.parking_lot_world.specs.RowActs.{answered, begun}
+use Rattle.parking_lot_world_calls.specs.CallActs.{hears}
 use Rattle.parking_lot_world.specs.Rows.{State, call_at, first_key, queue_at, second_key, state, word_at}
-use Rattle.parking_lot_world.specs.Stances.{core_act, core_next}
+use Rattle.parking_lot_world_calls.specs.Stances.{core_act, core_next}
 use Rattle.mapworld_locks.specs.Fits.{IsPlain, LocksFit, is_plain}
 use Rattle.mapworld_locks.specs.Footprints.{StepsTouchOneLock, TouchesOnly}
 use Rattle.mapworld_locks.specs.Seats.{seat_of}

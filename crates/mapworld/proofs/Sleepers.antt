@@ -6,12 +6,12 @@ use Rattle.lock_api_desk.specs.declared.mode.Mode.{Mode}
 use Rattle.parking_lot_core_lot.specs.declared.parking.ParkToken.{ParkToken}
 use Rattle.parking_lot_rules.specs.Classes.{bit}
 use Rattle.parking_lot_rules.specs.Lists.{occurs}
-use Rattle.parking_lot_world.specs.declared.open_call.Call.{Call}
-use Rattle.parking_lot_world.specs.declared.seat.QueuePosition.{QueuePosition}
+use Rattle.parking_lot_world_calls.specs.declared.open_call.Call.{Call}
+use Rattle.parking_lot_world_calls.specs.declared.seat.QueuePosition.{QueuePosition}
 use Rattle.parking_lot_world.specs.Machines.{is_asleep}
 use Rattle.parking_lot_world.specs.Rows.{State, call_at, state, queue_at, first_key, second_key}
 use Rattle.parking_lot_world.specs.SoundLaws.{waits_as, waits_in}
-use Rattle.parking_lot_world.specs.Stances.{Stance, Asleep, stance}
+use Rattle.parking_lot_world_calls.specs.Stances.{Stance, Asleep, stance}
 use Rattle.mapworld_locks.specs.Aims.{Gets}
 use Rattle.mapworld_locks.specs.Counts.{QueuesAreWaiters}
 use Rattle.mapworld_locks.specs.Fits.{LocksFit}

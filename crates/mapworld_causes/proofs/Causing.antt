@@ -9,10 +9,10 @@ use Rattle.parking_lot_protocol.specs.declared.rw_phase.AfterWake.{AfterWake}
 use Rattle.parking_lot_protocol.specs.declared.rw_phase.Outcome.{Outcome}
 use Rattle.parking_lot_protocol.specs.declared.rw_phase.RwPhase.{RwPhase}
 use Rattle.parking_lot_protocol.specs.RwTable.{act_of}
-use Rattle.parking_lot_world.specs.declared.open_call.Call.{Call}
-use Rattle.parking_lot_world.specs.declared.seat.Core.{Core}
+use Rattle.parking_lot_world_calls.specs.declared.open_call.Call.{Call}
+use Rattle.parking_lot_world_calls.specs.declared.seat.Core.{Core}
 use Rattle.parking_lot_world.specs.Machines.{end_of}
-use Rattle.parking_lot_world.specs.Stances.{core_act, has_begun, rw_begun}
+use Rattle.parking_lot_world_calls.specs.Stances.{core_act, has_begun, rw_begun}
 use Rattle.lock_api_desk.specs.declared.mode.Mode.{Mode}
 use Rattle.mapworld_state.specs.Holds.{at_desk}
 use Rattle.mapworld_calls.specs.declared.ask.Begin.{Begin}

@@ -2,7 +2,7 @@
 use Rattle.std.proofs.Common.{◌≡◌, ◌≢◌, ℕ, ◌+◌, ◌≤◌, ◌⊎◌, inl, inr, true, false, List, [], ◌∷◌, ◌++◌, length, Some, slice_get, sym, ap, ◌∙◌, subst, arith, length-append}
 use Rattle.std.specs.Option.{option_map_or}
 use Rattle.std.proofs.lemmas.Option.{same_Some}
-use Rattle.parking_lot_world.specs.declared.calls.LockCall.{LockCall}
+use Rattle.parking_lot_world_calls.specs.declared.calls.LockCall.{LockCall}
 use Rattle.parking_lot_world.specs.Rows.{call_at, state}
 use Rattle.mapworld_calls.specs.declared.block.Block.{Block}
 use Rattle.mapworld_calls.specs.Setup.{Setup}

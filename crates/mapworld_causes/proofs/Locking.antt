@@ -7,15 +7,15 @@ use Rattle.parking_lot_protocol.specs.declared.act.ActResult.{ActResult}
 use Rattle.parking_lot_protocol.specs.declared.act.CoreAnswer.{CoreAnswer}
 use Rattle.parking_lot_protocol.specs.declared.rw_phase.LockMode.{LockMode}
 use Rattle.parking_lot_protocol.specs.declared.rw_phase.RwPhase.{RwPhase}
-use Rattle.parking_lot_world.specs.Kinds.{kind_in}
-use Rattle.parking_lot_world.specs.declared.calls.LockCall.{LockCall}
-use Rattle.parking_lot_world.specs.declared.calls.LockKind.{LockKind}
-use Rattle.parking_lot_world.specs.declared.seat.Core.{Core}
-use Rattle.parking_lot_world.specs.Beginnings.{core_of}
+use Rattle.parking_lot_world_calls.specs.Kinds.{kind_in}
+use Rattle.parking_lot_world_calls.specs.declared.calls.LockCall.{LockCall}
+use Rattle.parking_lot_world_calls.specs.declared.calls.LockKind.{LockKind}
+use Rattle.parking_lot_world_calls.specs.declared.seat.Core.{Core}
+use Rattle.parking_lot_world_calls.specs.Beginnings.{core_of}
 use Rattle.parking_lot_world.specs.Machines.{call_for}
-use Rattle.parking_lot_world.specs.RowActs.{hears}
+use Rattle.parking_lot_world_calls.specs.CallActs.{hears}
 use Rattle.parking_lot_world.specs.Rows.{State, call_at, state}
-use Rattle.parking_lot_world.specs.Stances.{core_next}
+use Rattle.parking_lot_world_calls.specs.Stances.{core_next}
 use Rattle.mapworld_locks.specs.Aims.{Gets, aim_for, phase_aim}
 use Rattle.mapworld_locks.specs.Stands.{core_aim, core_tries, is_try, is_trying, stand_in, stand_of}
 use Rattle.mapworld_locks.specs.Steps.{LockBegins, LockEnds, LockMoves, LockStarts}

@@ -12,13 +12,14 @@ use Rattle.parking_lot_protocol.specs.declared.rw_phase.RwPhase.{RwPhase}
 use Rattle.parking_lot_protocol.specs.declared.rw_core.RwCore.{RwCore}
 use Rattle.parking_lot_rules.proofs.Indexed.{get-set_other}
 use Rattle.parking_lot_protocol.specs.RwTable.{act_of, next_phase, share_of, tries}
-use Rattle.parking_lot_world.specs.declared.open_call.Call.{Call}
-use Rattle.parking_lot_world.specs.declared.seat.Core.{Core}
-use Rattle.parking_lot_world.specs.declared.seat.WakeResult.{WakeResult}
+use Rattle.parking_lot_world_calls.specs.declared.open_call.Call.{Call}
+use Rattle.parking_lot_world_calls.specs.declared.seat.Core.{Core}
+use Rattle.parking_lot_world_calls.specs.declared.seat.WakeResult.{WakeResult}
 use Rattle.parking_lot_world.specs.Machines.{Became, BecameInside, IsStepped}
-use Rattle.parking_lot_world.specs.RowActs.{hears, off_list, settled, loaded, exchanged, with_call, with_word}
+use Rattle.parking_lot_world.specs.RowActs.{loaded, exchanged, with_call, with_word}
+use Rattle.parking_lot_world_calls.specs.CallActs.{hears, off_list, settled}
 use Rattle.parking_lot_world.specs.Rows.{State, call_at, word_at}
-use Rattle.parking_lot_world.specs.Stances.{core_act, core_next}
+use Rattle.parking_lot_world_calls.specs.Stances.{core_act, core_next}
 use Rattle.mapworld_locks.specs.Stands.{core_tries, is_trying}
 use Rattle.mapworld_locks.proofs.Calls.{Hears, late_is}
 use Rattle.mapworld_causes.specs.Causes.{has_seen, has_seen_in}

@@ -4,10 +4,10 @@ use Rattle.std.specs.Option.{option_and_then, option_map, option_map_or}
 use Rattle.std.proofs.lemmas.Bool.{false≢true}
 use Rattle.std.proofs.lemmas.Option.{none-some, same_Some, slice_get_cases, slice_get_within}
 use Rattle.lock_api_desk.specs.declared.mode.Mode.{Mode as DeskMode}
-use Rattle.parking_lot_world.specs.declared.open_call.Call.{Call}
+use Rattle.parking_lot_world_calls.specs.declared.open_call.Call.{Call}
 use Rattle.parking_lot_world.specs.Machines.{sleeps}
 use Rattle.parking_lot_world.specs.Rows.{call_at, state, word_at}
-use Rattle.parking_lot_world.specs.Stances.{core_act}
+use Rattle.parking_lot_world_calls.specs.Stances.{core_act}
 use Rattle.mapworld_calls.specs.Setup.{Setup}
 use Rattle.mapworld_locks.specs.Fits.{LocksFit}
 use Rattle.mapworld_locks.specs.Stands.{core_tries, stand_in, stand_of}

@@ -16,12 +16,12 @@ use Rattle.parking_lot_protocol.specs.declared.rw_phase.RwPhase.{RwPhase}
 use Rattle.parking_lot_protocol.specs.Acts.{is_start, is_entered, is_made, word_seen, word_before, exchange_seen, spun_seen, took_seen, stored_seen, woken_seen}
 use Rattle.parking_lot_rules.specs.Classes.{bit}
 use Rattle.parking_lot_protocol.specs.RwTable.{admits, after, begins, scans_for, is_admitted, is_barred, is_parked, is_writer_parked, is_written, is_tried, has_readers, asks_again, bumps, drains, goes_on, next_phase, once, over, scans, seeks, tries, wakes, with_taken, won_or}
-use Rattle.parking_lot_world.specs.declared.seat.Core.{Core}
-use Rattle.parking_lot_world.specs.declared.late_rw.LateRwPhase.{LateRwPhase}
-use Rattle.parking_lot_world.specs.declared.late_rw.RwSleeper.{RwSleeper}
-use Rattle.parking_lot_world.specs.declared.seat.LatePhase.{LatePhase}
-use Rattle.parking_lot_world.specs.LateActs.{comes_late, found_as}
-use Rattle.parking_lot_world.specs.Stances.{core_next, resumed_as, sign, sleeper_asleep, sleeper_told}
+use Rattle.parking_lot_world_calls.specs.declared.seat.Core.{Core}
+use Rattle.parking_lot_world_calls.specs.declared.late_rw.LateRwPhase.{LateRwPhase}
+use Rattle.parking_lot_world_calls.specs.declared.late_rw.RwSleeper.{RwSleeper}
+use Rattle.parking_lot_world_calls.specs.declared.seat.LatePhase.{LatePhase}
+use Rattle.parking_lot_world_calls.specs.LateCalls.{comes_late, found_as}
+use Rattle.parking_lot_world_calls.specs.Stances.{core_next, resumed_as, sign, sleeper_asleep, sleeper_told}
 use Rattle.mapworld_causes.specs.Causes.{has_seen, has_seen_in}
 
 -- no phase that may follow comes of a word that was seen

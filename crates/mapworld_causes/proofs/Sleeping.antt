@@ -15,16 +15,17 @@ use Rattle.parking_lot_rules.specs.Lock.{IsSound}
 use Rattle.parking_lot_rules.specs.Roles.{Excludes, Idle, Owned, Role, Shares}
 use Rattle.parking_lot_rules.specs.Roles as rules
 use Rattle.parking_lot_rules.proofs.Following.{somebody_can_move}
-use Rattle.parking_lot_world.specs.Kinds.{AsMutex, manner_of}
-use Rattle.parking_lot_world.specs.declared.open_call.Call.{Call}
-use Rattle.parking_lot_world.specs.declared.seat.Core.{Core}
-use Rattle.parking_lot_world.specs.declared.seat.Hold.{Hold}
-use Rattle.parking_lot_world.specs.declared.seat.QueuePosition.{QueuePosition}
-use Rattle.parking_lot_world.specs.CallViews.{rw_mode}
+use Rattle.parking_lot_world_calls.specs.Kinds.{AsMutex, manner_of}
+use Rattle.parking_lot_world_calls.specs.declared.open_call.Call.{Call}
+use Rattle.parking_lot_world_calls.specs.declared.seat.Core.{Core}
+use Rattle.parking_lot_world_calls.specs.declared.seat.Hold.{Hold}
+use Rattle.parking_lot_world_calls.specs.declared.seat.QueuePosition.{QueuePosition}
+use Rattle.parking_lot_world_calls.specs.CallViews.{rw_mode}
 use Rattle.parking_lot_world.specs.Machines.{sleeps}
-use Rattle.parking_lot_world.specs.Rows.{State, call_at, hold_at, owned_of, rw_core_role, rw_lock_at, rw_role_at, rw_role_in, rw_spot, state, taken_by}
-use Rattle.parking_lot_world.specs.RowFits.{IsOfKind}
-use Rattle.parking_lot_world.specs.Stances.{core_act}
+use Rattle.parking_lot_world.specs.Rows.{State, call_at, hold_at, rw_lock_at, rw_role_at, rw_role_in, state, taken_by}
+use Rattle.parking_lot_world_calls.specs.CallRoles.{owned_of, rw_core_role, rw_spot}
+use Rattle.parking_lot_world_calls.specs.CallKinds.{IsOfKind}
+use Rattle.parking_lot_world_calls.specs.Stances.{core_act}
 use Rattle.parking_lot_world.specs.Worlds.{mode_in}
 use Rattle.mapworld_locks.specs.Fits.{LocksFit, is_plain}
 use Rattle.mapworld_locks.specs.Views.{Shown, held_as, owner_in}

@@ -15,12 +15,13 @@ use Rattle.parking_lot_rules.proofs.Finding.{none_or, somebody}
 use Rattle.parking_lot_rules.proofs.Totals.{away_weighs}
 use Rattle.parking_lot_protocol.specs.declared.rw_phase.RwPhase.{RwPhase}
 use Rattle.parking_lot_protocol.specs.RwRules as of_rw
-use Rattle.parking_lot_world.specs.declared.open_call.Call.{Call}
-use Rattle.parking_lot_world.specs.declared.seat.Core.{Core}
-use Rattle.parking_lot_world.specs.declared.seat.Hold.{Hold}
-use Rattle.parking_lot_world.specs.declared.seat.QueuePosition.{QueuePosition}
-use Rattle.parking_lot_world.specs.Rows.{State, call_at, hold_at, owned_of, rw_core_role, rw_lock_at, rw_role_at, rw_role_in, rw_spot, state, taken_by, word_at}
-use Rattle.parking_lot_world.specs.CallViews.{rw_mode}
+use Rattle.parking_lot_world_calls.specs.declared.open_call.Call.{Call}
+use Rattle.parking_lot_world_calls.specs.declared.seat.Core.{Core}
+use Rattle.parking_lot_world_calls.specs.declared.seat.Hold.{Hold}
+use Rattle.parking_lot_world_calls.specs.declared.seat.QueuePosition.{QueuePosition}
+use Rattle.parking_lot_world.specs.Rows.{State, call_at, hold_at, rw_lock_at, rw_role_at, rw_role_in, state, taken_by, word_at}
+use Rattle.parking_lot_world_calls.specs.CallRoles.{owned_of, rw_core_role, rw_spot}
+use Rattle.parking_lot_world_calls.specs.CallViews.{rw_mode}
 use Rattle.parking_lot_world.specs.Worlds.{mode_in}
 use Rattle.parking_lot_world.proofs.RwMoving.{number-word}
 use Rattle.mapworld_locks.specs.Fits.{LocksFit}

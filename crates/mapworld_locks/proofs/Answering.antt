@@ -4,13 +4,13 @@ use Rattle.std.proofs.lemmas.Bool.{cases_eq}
 use Rattle.std.proofs.lemmas.Option.{none-some}
 use Rattle.parking_lot_protocol.specs.declared.act.Act.{Act}
 use Rattle.parking_lot_protocol.specs.declared.act.CoreAnswer.{CoreAnswer}
-use Rattle.parking_lot_world.specs.declared.open_call.Call.{Call}
+use Rattle.parking_lot_world_calls.specs.declared.open_call.Call.{Call}
 use Rattle.parking_lot_world.specs.Machines.{Became, IsStepped, end_of}
 use Rattle.parking_lot_world.specs.RowActs.{answered}
 use Rattle.parking_lot_world.specs.RowFits.{FitsTogether}
 use Rattle.parking_lot_world.specs.Rows.{State}
 use Rattle.parking_lot_world.specs.SoundLaws.{StepsAreCases}
-use Rattle.parking_lot_world.specs.Stances.{core_act}
+use Rattle.parking_lot_world_calls.specs.Stances.{core_act}
 use Rattle.mapworld_locks.specs.Fits.{IsPlain}
 use Rattle.mapworld_locks.specs.Views.{held_at}
 use Rattle.mapworld_locks.proofs.Ending.{answered_holds}

@@ -11,22 +11,23 @@ use Rattle.parking_lot_protocol.specs.declared.act.ActResult.{ActResult}
 use Rattle.parking_lot_protocol.specs.declared.rw_phase.LockMode.TheVariants as want
 use Rattle.parking_lot_rules.specs.Owners.{Reading}
 use Rattle.parking_lot_rules.specs.Roles.{Idle}
-use Rattle.parking_lot_world.specs.Kinds.{AsRw, is_manner, kind_in, recursive_in}
-use Rattle.parking_lot_world.specs.declared.calls.LockCall.{LockCall}
-use Rattle.parking_lot_world.specs.declared.calls.LockKind.{LockKind}
-use Rattle.parking_lot_world.specs.declared.calls.LockKind.TheVariants as kind
-use Rattle.parking_lot_world.specs.declared.open_call.Call.{Call}
-use Rattle.parking_lot_world.specs.declared.seat.Hold.{Hold}
-use Rattle.parking_lot_world.specs.declared.seat.QueuePosition.{QueuePosition}
-use Rattle.parking_lot_world.specs.Beginnings.{core_of, holds as shares_of, holds_beside, is_allowed, owns_nothing}
-use Rattle.parking_lot_world.specs.Calls.{is_timed, manner_for, takes}
-use Rattle.parking_lot_world.specs.CallViews.{mode_of, rw_mode}
+use Rattle.parking_lot_world_calls.specs.Kinds.{AsRw, is_manner, kind_in, recursive_in}
+use Rattle.parking_lot_world_calls.specs.declared.calls.LockCall.{LockCall}
+use Rattle.parking_lot_world_calls.specs.declared.calls.LockKind.{LockKind}
+use Rattle.parking_lot_world_calls.specs.declared.calls.LockKind.TheVariants as kind
+use Rattle.parking_lot_world_calls.specs.declared.open_call.Call.{Call}
+use Rattle.parking_lot_world_calls.specs.declared.seat.Hold.{Hold}
+use Rattle.parking_lot_world_calls.specs.declared.seat.QueuePosition.{QueuePosition}
+use Rattle.parking_lot_world_calls.specs.Beginnings.{core_of, holds as shares_of, holds_beside, is_allowed, owns_nothing}
+use Rattle.parking_lot_world_calls.specs.Calls.{is_timed, manner_for, takes}
+use Rattle.parking_lot_world_calls.specs.CallViews.{mode_of, rw_mode}
 use Rattle.parking_lot_world.specs.Machines.{IsBegun, call_for, may_begin}
-use Rattle.parking_lot_world.specs.RowActs.{hears}
+use Rattle.parking_lot_world_calls.specs.CallActs.{hears}
 use Rattle.parking_lot_world.specs.RowFits.{FitsTogether, Asks, IsPrepared}
-use Rattle.parking_lot_world.specs.Rows.{Rows, State, call_at, hold_at, owned_of, rw_core_role, rw_role_at, rw_role_in, state, taken_by}
-use Rattle.parking_lot_world.specs.Stances.{core_next}
-use Rattle.parking_lot_world.specs.Worlds.{hold_mode}
+use Rattle.parking_lot_world.specs.Rows.{Rows, State, call_at, hold_at, rw_role_at, rw_role_in, state, taken_by}
+use Rattle.parking_lot_world_calls.specs.CallRoles.{owned_of, rw_core_role}
+use Rattle.parking_lot_world_calls.specs.Stances.{core_next}
+use Rattle.parking_lot_world_calls.specs.CallViews.{hold_mode}
 use Rattle.mapworld_locks.specs.Aims.{aim_of}
 use Rattle.mapworld_locks.specs.Fits.{IsPlain, LocksFit, is_single, is_plain}
 use Rattle.mapworld_locks.specs.Seats.{seat_of}

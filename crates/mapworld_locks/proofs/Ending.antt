@@ -8,17 +8,20 @@ use Rattle.std.proofs.lemmas.Option.{slice_get-map, slice_get_within, slice_get-
 use Rattle.parking_lot_rules.specs.Owners.{standing}
 use Rattle.parking_lot_rules.specs.Roles.{Idle}
 use Rattle.parking_lot_rules.proofs.Indexed.{get-set_same}
-use Rattle.parking_lot_world.specs.Kinds.{AsMutex, recursive_in}
-use Rattle.parking_lot_world.specs.declared.calls.LockKind.TheVariants as kind
-use Rattle.parking_lot_world.specs.declared.open_call.Call.{Call}
-use Rattle.parking_lot_world.specs.declared.seat.Core.{Core}
-use Rattle.parking_lot_world.specs.declared.seat.Hold.{Hold}
-use Rattle.parking_lot_world.specs.CallViews.{rw_mode}
-use Rattle.parking_lot_world.specs.RowFits.{FitsTogether, IsOfKind, IsPrepared}
-use Rattle.parking_lot_world.specs.RowActs.{answered, hold_after}
-use Rattle.parking_lot_world.specs.Rows.{State, call_at, hold_at, owned_of, rw_core_role, rw_lock_at, rw_role_at, rw_role_in, rw_spot, taken_by}
-use Rattle.parking_lot_world.specs.Stances.{core_act}
-use Rattle.parking_lot_world.specs.Worlds.{hold_mode}
+use Rattle.parking_lot_world_calls.specs.Kinds.{AsMutex, recursive_in}
+use Rattle.parking_lot_world_calls.specs.declared.calls.LockKind.TheVariants as kind
+use Rattle.parking_lot_world_calls.specs.declared.open_call.Call.{Call}
+use Rattle.parking_lot_world_calls.specs.declared.seat.Core.{Core}
+use Rattle.parking_lot_world_calls.specs.declared.seat.Hold.{Hold}
+use Rattle.parking_lot_world_calls.specs.CallViews.{rw_mode}
+use Rattle.parking_lot_world.specs.RowFits.{FitsTogether, IsPrepared}
+use Rattle.parking_lot_world_calls.specs.CallKinds.{IsOfKind}
+use Rattle.parking_lot_world.specs.RowActs.{answered}
+use Rattle.parking_lot_world_calls.specs.CallActs.{hold_after}
+use Rattle.parking_lot_world.specs.Rows.{State, call_at, hold_at, rw_lock_at, rw_role_at, rw_role_in, taken_by}
+use Rattle.parking_lot_world_calls.specs.CallRoles.{owned_of, rw_core_role, rw_spot}
+use Rattle.parking_lot_world_calls.specs.Stances.{core_act}
+use Rattle.parking_lot_world_calls.specs.CallViews.{hold_mode}
 use Rattle.mapworld_locks.specs.Views.{held_as, held_at}
 use Rattle.mapworld_locks.specs.Fits.{is_plain}
 use Rattle.mapworld_locks.proofs.Calls.{set_here, slot}

@@ -12,15 +12,17 @@ use Rattle.parking_lot_protocol.specs.declared.rw_phase.Outcome.{Outcome}
 use Rattle.parking_lot_protocol.specs.declared.rw_phase.RwPhase.{RwPhase}
 use Rattle.parking_lot_protocol.specs.RwRules as of_rw
 use Rattle.parking_lot_protocol.specs.RwTable.{act_of}
-use Rattle.parking_lot_world.specs.Kinds.{recursive_in}
-use Rattle.parking_lot_world.specs.declared.open_call.Call.{Call}
-use Rattle.parking_lot_world.specs.declared.seat.Core.{Core}
-use Rattle.parking_lot_world.specs.CallViews.{rw_mode}
+use Rattle.parking_lot_world_calls.specs.Kinds.{recursive_in}
+use Rattle.parking_lot_world_calls.specs.declared.open_call.Call.{Call}
+use Rattle.parking_lot_world_calls.specs.declared.seat.Core.{Core}
+use Rattle.parking_lot_world_calls.specs.CallViews.{rw_mode}
 use Rattle.parking_lot_world.specs.Machines.{IsStepped, end_of}
-use Rattle.parking_lot_world.specs.RowFits.{FitsTogether, IsOfKind, IsPrepared, rw_keeps}
-use Rattle.parking_lot_world.specs.Rows.{Rows, State, call_at, rw_core_role, rw_spot, state, taken_by}
+use Rattle.parking_lot_world.specs.RowFits.{FitsTogether, IsPrepared, rw_keeps}
+use Rattle.parking_lot_world_calls.specs.CallKinds.{IsOfKind}
+use Rattle.parking_lot_world.specs.Rows.{Rows, State, call_at, state, taken_by}
+use Rattle.parking_lot_world_calls.specs.CallRoles.{rw_core_role, rw_spot}
 use Rattle.parking_lot_world.specs.SoundLaws.{StepsAreCases}
-use Rattle.parking_lot_world.specs.Stances.{core_act}
+use Rattle.parking_lot_world_calls.specs.Stances.{core_act}
 use Rattle.mapworld_locks.specs.Aims.{Aim, Gets, GivesUp, Turns, phase_aim}
 use Rattle.mapworld_locks.specs.Fits.{IsPlain, LocksFit, is_plain}
 use Rattle.mapworld_locks.specs.Stands.{core_aim, core_tries, is_trying, stand_of}

@@ -4,7 +4,7 @@ use Rattle.std.proofs.lemmas.Option.{same_Some}
 use Rattle.lock_api_desk.specs.declared.mode.Mode.{Mode}
 use Rattle.lock_api_desk.specs.Desk.{DeskState}
 use Rattle.parking_lot_protocol.specs.declared.act.CoreAnswer.{CoreAnswer}
-use Rattle.parking_lot_world.specs.declared.open_call.Call.{Call}
+use Rattle.parking_lot_world_calls.specs.declared.open_call.Call.{Call}
 use Rattle.parking_lot_world.specs.Machines.{IsStepped, ended}
 use Rattle.parking_lot_world.specs.Rows.{Rows, State, call_at, state, taken_by}
 use Rattle.parking_lot_world.specs.SoundLaws.{Always, OwnersAgree, StepsAreCases}

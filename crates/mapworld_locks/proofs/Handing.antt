@@ -11,18 +11,19 @@ use Rattle.parking_lot_rules.specs.Any.{AnyLock, Rw}
 use Rattle.parking_lot_rules.specs.Lock.{Lock}
 use Rattle.parking_lot_rules.specs.Owners.{Owner, Reading, Upgrading, Awaiting, Writing, Case, IsCase, Leaves, Standing, owners, standing}
 use Rattle.parking_lot_rules.specs.Roles.{Idle, Role}
-use Rattle.parking_lot_world.specs.Kinds.{Manner, AsMutex, AsRw, manner, manner_of, is_recursive, recursive_in}
-use Rattle.parking_lot_world.specs.declared.calls.LockKind.{LockKind}
-use Rattle.parking_lot_world.specs.declared.calls.LockKind.TheVariants as kind
-use Rattle.parking_lot_world.specs.declared.open_call.Call.{Call}
-use Rattle.parking_lot_world.specs.declared.seat.Core.{Core}
-use Rattle.parking_lot_world.specs.declared.seat.Hold.{Hold}
-use Rattle.parking_lot_world.specs.CallViews.{mode_of}
+use Rattle.parking_lot_world_calls.specs.Kinds.{Manner, AsMutex, AsRw, manner, manner_of, is_recursive, recursive_in}
+use Rattle.parking_lot_world_calls.specs.declared.calls.LockKind.{LockKind}
+use Rattle.parking_lot_world_calls.specs.declared.calls.LockKind.TheVariants as kind
+use Rattle.parking_lot_world_calls.specs.declared.open_call.Call.{Call}
+use Rattle.parking_lot_world_calls.specs.declared.seat.Core.{Core}
+use Rattle.parking_lot_world_calls.specs.declared.seat.Hold.{Hold}
+use Rattle.parking_lot_world_calls.specs.CallViews.{mode_of}
 use Rattle.parking_lot_world.specs.Machines.{IsStepped}
 use Rattle.parking_lot_world.specs.RowFits.{FitsTogether}
-use Rattle.parking_lot_world.specs.Rows.{State, any_lock, call_at, hold_at, lock_at, owned_of, rw_core_role, rw_lock_at, rw_role_at, rw_role_in, taken_by}
+use Rattle.parking_lot_world.specs.Rows.{State, any_lock, call_at, hold_at, lock_at, rw_lock_at, rw_role_at, rw_role_in, taken_by}
+use Rattle.parking_lot_world_calls.specs.CallRoles.{owned_of, rw_core_role}
 use Rattle.parking_lot_world.specs.SoundLaws.{IsCaseAt, IsStepAt, StepsAreCases}
-use Rattle.parking_lot_world.specs.Stances.{Asleep, stance}
+use Rattle.parking_lot_world_calls.specs.Stances.{Asleep, stance}
 use Rattle.parking_lot_world.specs.Worlds.{mode_in}
 use Rattle.mapworld_locks.specs.Views.{held_as, held_at}
 use Rattle.mapworld_locks.specs.Fits.{is_plain}

@@ -8,14 +8,14 @@ use Rattle.parking_lot_protocol.specs.declared.mutex_phase.MutexPhase.{MutexPhas
 use Rattle.parking_lot_protocol.specs.declared.rw_phase.AfterWake.{AfterWake}
 use Rattle.parking_lot_protocol.specs.declared.rw_phase.Outcome.{Outcome}
 use Rattle.parking_lot_protocol.specs.declared.rw_phase.RwPhase.{RwPhase}
-use Rattle.parking_lot_world.specs.declared.calls.LockKind.TheVariants as kind
-use Rattle.parking_lot_world.specs.declared.open_call.Call.{Call}
-use Rattle.parking_lot_world.specs.declared.seat.Core.{Core}
-use Rattle.parking_lot_world.specs.declared.seat.Hold.{Hold}
+use Rattle.parking_lot_world_calls.specs.declared.calls.LockKind.TheVariants as kind
+use Rattle.parking_lot_world_calls.specs.declared.open_call.Call.{Call}
+use Rattle.parking_lot_world_calls.specs.declared.seat.Core.{Core}
+use Rattle.parking_lot_world_calls.specs.declared.seat.Hold.{Hold}
 use Rattle.parking_lot_world.specs.Machines.{Became, BecameInside, IsStepped}
-use Rattle.parking_lot_world.specs.RowActs.{hold_after, mutex_hold_after, rw_hold_after}
+use Rattle.parking_lot_world_calls.specs.CallActs.{hold_after, mutex_hold_after, rw_hold_after}
 use Rattle.parking_lot_world.specs.Rows.{State, call_at, cell}
-use Rattle.parking_lot_world.specs.Stances.{core_act}
+use Rattle.parking_lot_world_calls.specs.Stances.{core_act}
 use Rattle.mapworld_locks.specs.Fits.{IsPlain, is_plain, is_single}
 use Rattle.mapworld_locks.proofs.Calls.{late_is, stepped_goes}
 use Rattle.mapworld_locks.proofs.Lists.{all_set}

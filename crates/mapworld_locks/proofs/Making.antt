@@ -7,13 +7,13 @@ use Rattle.std.proofs.lemmas.List.{length-replicate}
 use Rattle.std.proofs.lemmas.List.Elements.{All-replicate}
 use Rattle.std.proofs.lemmas.Option.{none-some}
 use Rattle.lock_api_desk.specs.Desk.{DeskState}
-use Rattle.parking_lot_world.specs.declared.calls.LockKind.TheVariants as kind
-use Rattle.parking_lot_world.specs.declared.open_call.Call.{Call}
-use Rattle.parking_lot_world.specs.declared.seat.Hold.{Hold}
+use Rattle.parking_lot_world_calls.specs.declared.calls.LockKind.TheVariants as kind
+use Rattle.parking_lot_world_calls.specs.declared.open_call.Call.{Call}
+use Rattle.parking_lot_world_calls.specs.declared.seat.Hold.{Hold}
 use Rattle.parking_lot_world.specs.Machines.{at_rest}
 use Rattle.parking_lot_world.specs.RowFits.{FitsTogether}
 use Rattle.parking_lot_world.specs.Rows.{Rows, State, call_at, hold_at, state}
-use Rattle.parking_lot_world.specs.Worlds.{hold_mode}
+use Rattle.parking_lot_world_calls.specs.CallViews.{hold_mode}
 use Rattle.mapworld_locks.specs.Fits.{IsPlain, LocksFit, is_single}
 use Rattle.mapworld_locks.specs.Fresh.{AreFresh, IsEmptyFor}
 use Rattle.mapworld_locks.specs.Seats.{guards_of, seat_of}

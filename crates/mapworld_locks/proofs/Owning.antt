@@ -11,8 +11,8 @@ use Rattle.parking_lot_rules.specs.Roles.{Mode, Role}
 use Rattle.parking_lot_rules.specs.Any.{Rw}
 use Rattle.parking_lot_rules.specs.Owners.{Owner, Reading, Upgrading, Awaiting, Writing, Stand, Apart, Waits, WaitsForReaders, Chosen, Standing, Owners, Case, IsCase, Leaves, Converts, appointed, dismissed, given, not_chosen, owner_given, owners, standing, with_standing}
 use Rattle.parking_lot_rules.proofs.Indexed.{get-set_same, get-set_other}
-use Rattle.parking_lot_world.specs.declared.calls.OwnMode.{OwnMode}
-use Rattle.parking_lot_world.specs.CallViews.{mode_of, rw_mode}
+use Rattle.parking_lot_world_calls.specs.declared.calls.OwnMode.{OwnMode}
+use Rattle.parking_lot_world_calls.specs.CallViews.{mode_of, rw_mode}
 use Rattle.parking_lot_world.specs.Worlds.{mode_in}
 
 abbrev pub mode_standing : Standing → Option OwnMode

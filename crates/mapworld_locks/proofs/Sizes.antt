@@ -1,7 +1,7 @@
 -- How many threads, shards and desks there are stays.
 use Rattle.std.proofs.Common.{◌≡◌, ℕ, Bool, length, refl, ap, ◌∙◌, length-set}
 use Rattle.parking_lot_protocol.specs.declared.act.CoreAnswer.{CoreAnswer}
-use Rattle.parking_lot_world.specs.declared.calls.LockCall.{LockCall}
+use Rattle.parking_lot_world_calls.specs.declared.calls.LockCall.{LockCall}
 use Rattle.parking_lot_world.specs.Rows.{state}
 use Rattle.mapworld_locks.specs.Views.{Shown}
 use Rattle.mapworld_locks.specs.Steps.{StaysWhole, LockBegins, LockMoves, LockStarts, LockEnds}

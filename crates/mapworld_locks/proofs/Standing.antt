@@ -12,20 +12,20 @@ use Rattle.parking_lot_protocol.specs.declared.act.ActResult.{ActResult}
 use Rattle.parking_lot_protocol.specs.declared.act.CoreAnswer.{CoreAnswer}
 use Rattle.parking_lot_protocol.specs.declared.rw_phase.RwPhase.{RwPhase}
 use Rattle.parking_lot_rules.proofs.Indexed.{get-set_same}
-use Rattle.parking_lot_world.specs.Kinds.{recursive_in}
-use Rattle.parking_lot_world.specs.declared.open_call.Call.{Call}
-use Rattle.parking_lot_world.specs.declared.seat.Core.{Core}
-use Rattle.parking_lot_world.specs.declared.late_rw.LateRwPhase.{LateRwPhase}
-use Rattle.parking_lot_world.specs.declared.seat.LatePhase.{LatePhase}
-use Rattle.parking_lot_world.specs.declared.seat.QueuePosition.{QueuePosition}
-use Rattle.parking_lot_world.specs.declared.seat.WakeResult.{WakeResult}
-use Rattle.parking_lot_world.specs.declared.seat.Wakeup.{Wakeup}
-use Rattle.parking_lot_world.specs.LateActs.{found_as}
+use Rattle.parking_lot_world_calls.specs.Kinds.{recursive_in}
+use Rattle.parking_lot_world_calls.specs.declared.open_call.Call.{Call}
+use Rattle.parking_lot_world_calls.specs.declared.seat.Core.{Core}
+use Rattle.parking_lot_world_calls.specs.declared.late_rw.LateRwPhase.{LateRwPhase}
+use Rattle.parking_lot_world_calls.specs.declared.seat.LatePhase.{LatePhase}
+use Rattle.parking_lot_world_calls.specs.declared.seat.QueuePosition.{QueuePosition}
+use Rattle.parking_lot_world_calls.specs.declared.seat.WakeResult.{WakeResult}
+use Rattle.parking_lot_world_calls.specs.declared.seat.Wakeup.{Wakeup}
+use Rattle.parking_lot_world_calls.specs.LateCalls.{found_as}
 use Rattle.parking_lot_world.specs.Machines.{Became, BecameInside, IsStepped, end_of}
-use Rattle.parking_lot_world.specs.RowActs.{hears, off_list, settled}
+use Rattle.parking_lot_world_calls.specs.CallActs.{hears, off_list, settled}
 use Rattle.parking_lot_world.specs.RowFits.{FitsTogether, IsPrepared}
 use Rattle.parking_lot_world.specs.Rows.{State, call_at, is_by}
-use Rattle.parking_lot_world.specs.Stances.{Asleep, Stance, core_act, core_next, rw_stance, stance}
+use Rattle.parking_lot_world_calls.specs.Stances.{Asleep, Stance, core_act, core_next, rw_stance, stance}
 use Rattle.parking_lot_world.specs.TellLaws.{IsDue}
 use Rattle.mapworld_locks.specs.Stands.{Stand, core_aim, core_tries, is_trying, stand_of}
 use Rattle.mapworld_locks.proofs.Aiming.{next_patient}

@@ -11,19 +11,20 @@ use Rattle.parking_lot_protocol.specs.declared.rw_phase.RwPhase.{RwPhase}
 use Rattle.parking_lot_protocol.specs.Acts.{word_before}
 use Rattle.parking_lot_protocol.specs.RwRules as of_rw
 use Rattle.parking_lot_protocol.specs.RwTable.{is_parked}
-use Rattle.parking_lot_world.specs.declared.calls.LockKind.{LockKind}
-use Rattle.parking_lot_world.specs.Kinds.{kind_in, recursive_in}
-use Rattle.parking_lot_world.specs.declared.calls.LockCall.{LockCall}
-use Rattle.parking_lot_world.specs.declared.open_call.Call.{Call}
-use Rattle.parking_lot_world.specs.declared.seat.Core.{Core}
-use Rattle.parking_lot_world.specs.Beginnings.{core_of}
-use Rattle.parking_lot_world.specs.CallViews.{rw_mode}
-use Rattle.parking_lot_world.specs.LateActs.{comes_late}
+use Rattle.parking_lot_world_calls.specs.declared.calls.LockKind.{LockKind}
+use Rattle.parking_lot_world_calls.specs.Kinds.{kind_in, recursive_in}
+use Rattle.parking_lot_world_calls.specs.declared.calls.LockCall.{LockCall}
+use Rattle.parking_lot_world_calls.specs.declared.open_call.Call.{Call}
+use Rattle.parking_lot_world_calls.specs.declared.seat.Core.{Core}
+use Rattle.parking_lot_world_calls.specs.Beginnings.{core_of}
+use Rattle.parking_lot_world_calls.specs.CallViews.{rw_mode}
+use Rattle.parking_lot_world_calls.specs.LateCalls.{comes_late}
 use Rattle.parking_lot_world.specs.Machines.{IsBegun, IsStepped, call_for, can_move, can_move_in, end_of, ended, is_possible}
-use Rattle.parking_lot_world.specs.RowActs.{hears}
+use Rattle.parking_lot_world_calls.specs.CallActs.{hears}
 use Rattle.parking_lot_world.specs.RowFits.{FitsTogether}
-use Rattle.parking_lot_world.specs.Rows.{State, call_at, rw_core_role, rw_spot, taken_by}
-use Rattle.parking_lot_world.specs.Stances.{core_act, core_next}
+use Rattle.parking_lot_world.specs.Rows.{State, call_at, taken_by}
+use Rattle.parking_lot_world_calls.specs.CallRoles.{rw_core_role, rw_spot}
+use Rattle.parking_lot_world_calls.specs.Stances.{core_act, core_next}
 use Rattle.mapworld_locks.specs.Fits.{IsPlain}
 use Rattle.mapworld_locks.specs.Stands.{gives}
 use Rattle.mapworld_locks.specs.Views.{held_as, held_at}

@@ -13,16 +13,18 @@ use Rattle.parking_lot_protocol.specs.declared.rw_phase.LockMode.{LockMode}
 use Rattle.parking_lot_protocol.specs.declared.rw_phase.RwPhase.{RwPhase}
 use Rattle.parking_lot_rules.specs.Roles.{Idle}
 use Rattle.parking_lot_rules.proofs.Indexed.{get-set_same, get-set_other}
-use Rattle.parking_lot_world.specs.Kinds.{AsMutex, manner_of, recursive_in}
-use Rattle.parking_lot_world.specs.declared.calls.LockKind.TheVariants as kind
-use Rattle.parking_lot_world.specs.declared.open_call.Call.{Call}
-use Rattle.parking_lot_world.specs.declared.seat.Core.{Core}
-use Rattle.parking_lot_world.specs.CallViews.{rw_mode}
+use Rattle.parking_lot_world_calls.specs.Kinds.{AsMutex, manner_of, recursive_in}
+use Rattle.parking_lot_world_calls.specs.declared.calls.LockKind.TheVariants as kind
+use Rattle.parking_lot_world_calls.specs.declared.open_call.Call.{Call}
+use Rattle.parking_lot_world_calls.specs.declared.seat.Core.{Core}
+use Rattle.parking_lot_world_calls.specs.CallViews.{rw_mode}
 use Rattle.parking_lot_world.specs.Machines.{IsLawful, IsStepped, end_of, ended}
-use Rattle.parking_lot_world.specs.RowFits.{FitsTogether, IsOfKind, IsPrepared}
-use Rattle.parking_lot_world.specs.Rows.{Rows, State, call_at, hold_at, owned_of, rw_core_role, rw_role_at, rw_role_in, rw_spot, state, taken_by}
+use Rattle.parking_lot_world.specs.RowFits.{FitsTogether, IsPrepared}
+use Rattle.parking_lot_world_calls.specs.CallKinds.{IsOfKind}
+use Rattle.parking_lot_world.specs.Rows.{Rows, State, call_at, hold_at, rw_role_at, rw_role_in, state, taken_by}
+use Rattle.parking_lot_world_calls.specs.CallRoles.{owned_of, rw_core_role, rw_spot}
 use Rattle.parking_lot_world.specs.SoundLaws.{Always, OwnersAgree, StepsAreCases}
-use Rattle.parking_lot_world.specs.Stances.{core_act, rw_stance, stance}
+use Rattle.parking_lot_world_calls.specs.Stances.{core_act, rw_stance, stance}
 use Rattle.mapworld_locks.specs.Aims.{Aim, Gets, GivesUp, Turns, is_within, phase_aim}
 use Rattle.mapworld_locks.specs.Fits.{DeskFits, IsPlain, LocksFit, is_plain}
 use Rattle.mapworld_locks.specs.Moves.{CanFollow, all_admitted, desk_after, has_left, own_moved}

@@ -11,15 +11,15 @@ use Rattle.parking_lot_core_lot.specs.Places.{place_at}
 use Rattle.parking_lot_protocol.specs.declared.act.Act.{Act}
 use Rattle.parking_lot_protocol.specs.declared.act.SectionAct.{SectionAct}
 use Rattle.parking_lot_protocol.specs.declared.act.CoreAnswer.{CoreAnswer}
-use Rattle.parking_lot_world.specs.declared.open_call.Call.{Call}
-use Rattle.parking_lot_world.specs.declared.seat.QueuePosition.{QueuePosition}
-use Rattle.parking_lot_world.specs.declared.seat.WakeResult.{WakeResult}
-use Rattle.parking_lot_world.specs.declared.seat.Wakeup.{Wakeup}
+use Rattle.parking_lot_world_calls.specs.declared.open_call.Call.{Call}
+use Rattle.parking_lot_world_calls.specs.declared.seat.QueuePosition.{QueuePosition}
+use Rattle.parking_lot_world_calls.specs.declared.seat.WakeResult.{WakeResult}
+use Rattle.parking_lot_world_calls.specs.declared.seat.Wakeup.{Wakeup}
 use Rattle.parking_lot_world.specs.Machines.{Became, BecameInside, IsStepped}
-use Rattle.parking_lot_world.specs.RowActs.{settled, settled_spot, told_of}
+use Rattle.parking_lot_world_calls.specs.CallActs.{settled, settled_spot, told_of}
 use Rattle.parking_lot_world.specs.RowFits.{FitsTogether, IsAt, Seated, Stands}
 use Rattle.parking_lot_world.specs.Rows.{State, call_at, is_by, taken_by}
-use Rattle.parking_lot_world.specs.Stances.{Asleep, Stance, core_act, stance}
+use Rattle.parking_lot_world_calls.specs.Stances.{Asleep, Stance, core_act, stance}
 use Rattle.parking_lot_world.specs.TellLaws.{IsDue}
 use Rattle.mapworld_locks.proofs.Calls.{call_of, late_is, set_elsewhere, slot}
 

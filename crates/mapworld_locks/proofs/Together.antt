@@ -9,8 +9,8 @@ use Rattle.lock_api_desk.specs.declared.mode.Mode.TheVariants as held
 use Rattle.lock_api_desk.specs.Guards.{excludes}
 use Rattle.parking_lot_rules.specs.Owners.{owners, standing}
 use Rattle.parking_lot_rules.specs.Roles.{Role}
-use Rattle.parking_lot_world.specs.declared.calls.LockKind.TheVariants as kind
-use Rattle.parking_lot_world.specs.declared.calls.OwnMode.{OwnMode}
+use Rattle.parking_lot_world_calls.specs.declared.calls.LockKind.TheVariants as kind
+use Rattle.parking_lot_world_calls.specs.declared.calls.OwnMode.{OwnMode}
 use Rattle.parking_lot_world.specs.Rows.{State, lock_at, rw_lock_at, rw_role_at}
 use Rattle.parking_lot_world.specs.SoundLaws.{OwnersAgree, agrees}
 use Rattle.parking_lot_world.specs.Worlds.{mode_in}

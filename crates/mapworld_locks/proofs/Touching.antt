@@ -12,18 +12,20 @@ use Rattle.parking_lot_rules.specs.Classes.{bit}
 use Rattle.parking_lot_rules.specs.Any.{AnyLock, Mx, Rw}
 use Rattle.parking_lot_rules.specs.Lock.{Lock}
 use Rattle.parking_lot_rules.proofs.Indexed.{get-set_other}
-use Rattle.parking_lot_world.specs.declared.open_call.Call.{Call}
-use Rattle.parking_lot_world.specs.declared.seat.Core.{Core}
-use Rattle.parking_lot_world.specs.declared.late_rw.LateRwPhase.{LateRwPhase}
-use Rattle.parking_lot_world.specs.declared.seat.LatePhase.{LatePhase}
-use Rattle.parking_lot_world.specs.declared.seat.QueuePosition.{QueuePosition}
-use Rattle.parking_lot_world.specs.LateActs.{came_back, is_pending, others_left, out_of_list}
+use Rattle.parking_lot_world_calls.specs.declared.open_call.Call.{Call}
+use Rattle.parking_lot_world_calls.specs.declared.seat.Core.{Core}
+use Rattle.parking_lot_world_calls.specs.declared.late_rw.LateRwPhase.{LateRwPhase}
+use Rattle.parking_lot_world_calls.specs.declared.seat.LatePhase.{LatePhase}
+use Rattle.parking_lot_world_calls.specs.declared.seat.QueuePosition.{QueuePosition}
+use Rattle.parking_lot_world.specs.LateActs.{came_back, others_left, out_of_list}
+use Rattle.parking_lot_world_calls.specs.LateCalls.{is_pending}
 use Rattle.parking_lot_world.specs.Machines.{Became, BecameInside, BecameLate, IsStepped}
-use Rattle.parking_lot_world.specs.RowActs.{hears, key_of, with_call, with_lot}
+use Rattle.parking_lot_world.specs.RowActs.{with_call, with_lot}
+use Rattle.parking_lot_world_calls.specs.CallActs.{hears, key_of}
 use Rattle.parking_lot_world.specs.RowFits.{FitsTogether}
 use Rattle.parking_lot_world.specs.Rows.{State, first_key, queue_at, rw_lock_at, second_key, word_at}
 use Rattle.parking_lot_world.specs.SoundLaws.{StepsAreCases}
-use Rattle.parking_lot_world.specs.Stances.{core_act, sign}
+use Rattle.parking_lot_world_calls.specs.Stances.{core_act, sign}
 use Rattle.mapworld_locks.specs.Fits.{IsPlain}
 use Rattle.mapworld_locks.specs.Footprints.{StaysAt, TouchesOnly}
 use Rattle.mapworld_locks.proofs.Handing.{is_rw}

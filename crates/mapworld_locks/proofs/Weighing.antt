@@ -12,15 +12,17 @@ use Rattle.parking_lot_protocol.specs.declared.rw_phase.RwPhase.{RwPhase}
 use Rattle.parking_lot_protocol.specs.RwRules as of_rw
 use Rattle.parking_lot_rules.specs.Classes.{Readers, bit, done, weight}
 use Rattle.parking_lot_rules.specs.Roles.{Handed, Idle, Normal, Open, Phase}
-use Rattle.parking_lot_world.specs.declared.calls.LockKind.TheVariants as kind
-use Rattle.parking_lot_world.specs.declared.calls.OwnMode.{OwnMode}
-use Rattle.parking_lot_world.specs.declared.open_call.Call.{Call}
-use Rattle.parking_lot_world.specs.declared.seat.Core.{Core}
-use Rattle.parking_lot_world.specs.declared.seat.Hold.{Hold}
-use Rattle.parking_lot_world.specs.CallViews.{Weighs, rw_mode}
-use Rattle.parking_lot_world.specs.RowFits.{FitsTogether, IsOfKind}
-use Rattle.parking_lot_world.specs.Rows.{State, call_at, hold_at, owned_of, rw_core_role, rw_role_at, rw_role_in, rw_spot, taken_by}
-use Rattle.parking_lot_world.specs.Worlds.{hold_mode}
+use Rattle.parking_lot_world_calls.specs.declared.calls.LockKind.TheVariants as kind
+use Rattle.parking_lot_world_calls.specs.declared.calls.OwnMode.{OwnMode}
+use Rattle.parking_lot_world_calls.specs.declared.open_call.Call.{Call}
+use Rattle.parking_lot_world_calls.specs.declared.seat.Core.{Core}
+use Rattle.parking_lot_world_calls.specs.declared.seat.Hold.{Hold}
+use Rattle.parking_lot_world_calls.specs.CallViews.{Weighs, rw_mode}
+use Rattle.parking_lot_world.specs.RowFits.{FitsTogether}
+use Rattle.parking_lot_world_calls.specs.CallKinds.{IsOfKind}
+use Rattle.parking_lot_world.specs.Rows.{State, call_at, hold_at, rw_role_at, rw_role_in, taken_by}
+use Rattle.parking_lot_world_calls.specs.CallRoles.{owned_of, rw_core_role, rw_spot}
+use Rattle.parking_lot_world_calls.specs.CallViews.{hold_mode}
 use Rattle.mapworld_locks.specs.Fits.{IsPlain, is_single, is_plain}
 use Rattle.mapworld_locks.specs.Views.{held_as, held_at}
 use Rattle.mapworld_locks.proofs.Beginning.{differ, single_hold}

@@ -13,15 +13,15 @@ use Rattle.parking_lot_protocol.specs.RwTable.{act_of}
 use Rattle.parking_lot_rules.specs.Roles as rules
 use Rattle.parking_lot_rules.specs.Owners.{Reading, Stand, Chosen, owner_of, stand_of}
 use Rattle.parking_lot_rules.specs.Roles.{Mark, Open, Normal, Handed, Mode}
-use Rattle.parking_lot_world.specs.declared.calls.LockKind.TheVariants as kind
-use Rattle.parking_lot_world.specs.declared.seat.QueuePosition.{QueuePosition}
-use Rattle.parking_lot_world.specs.declared.seat.WakeResult.{WakeResult}
-use Rattle.parking_lot_world.specs.CallViews.{mode_of, rw_mode}
-use Rattle.parking_lot_world.specs.RowActs.{rw_hold_after}
+use Rattle.parking_lot_world_calls.specs.declared.calls.LockKind.TheVariants as kind
+use Rattle.parking_lot_world_calls.specs.declared.seat.QueuePosition.{QueuePosition}
+use Rattle.parking_lot_world_calls.specs.declared.seat.WakeResult.{WakeResult}
+use Rattle.parking_lot_world_calls.specs.CallViews.{mode_of, rw_mode}
+use Rattle.parking_lot_world_calls.specs.CallActs.{rw_hold_after}
 use Rattle.parking_lot_world.specs.RowFits.{rw_keeps}
-use Rattle.parking_lot_world.specs.Rows.{rw_spot}
-use Rattle.parking_lot_world.specs.Stances.{Asleep, rw_stance}
-use Rattle.parking_lot_world.specs.Worlds.{hold_mode, shared_mode}
+use Rattle.parking_lot_world_calls.specs.CallRoles.{rw_spot}
+use Rattle.parking_lot_world_calls.specs.Stances.{Asleep, rw_stance}
+use Rattle.parking_lot_world_calls.specs.CallViews.{hold_mode, shared_mode}
 use Rattle.mapworld_locks.specs.Aims.{aim_after, aim_for, is_within, phase_aim}
 use Rattle.mapworld_locks.specs.Views.{held_as}
 

@@ -12,8 +12,8 @@ use Rattle.lock_api_desk.specs.Guards.{Guard, holds, is_mode}
 use Rattle.parking_lot_rules.specs.Any.{AnySound}
 use Rattle.parking_lot_rules.specs.Classes.{Class, Pending, Readers, Strange, Upgraders, Writers, bit, total, weight}
 use Rattle.parking_lot_rules.specs.Lock.{IsSound}
-use Rattle.parking_lot_world.specs.declared.calls.OwnMode.TheVariants as own
-use Rattle.parking_lot_world.specs.CallViews.{ModesAreWeighed, rw_mode}
+use Rattle.parking_lot_world_calls.specs.declared.calls.OwnMode.TheVariants as own
+use Rattle.parking_lot_world_calls.specs.CallViews.{ModesAreWeighed, rw_mode}
 use Rattle.parking_lot_world.specs.Rows.{State, lock_at, rw_lock_at, rw_role_at, state, word_at}
 use Rattle.parking_lot_world.specs.Worlds.{mode_in}
 use Rattle.mapworld_locks.specs.Counts.{CountsAsWord, NobodyIsPending}

@@ -4,7 +4,7 @@ use Rattle.lock_api_desk.specs.declared.mode.Mode.TheVariants as held
 use Rattle.lock_api_desk.specs.Desk.{DeskState}
 use Rattle.lock_api_desk.specs.Guards.{holds}
 use Rattle.parking_lot_protocol.specs.RwTable.{is_written}
-use Rattle.parking_lot_world.specs.declared.calls.OwnMode.TheVariants as own
+use Rattle.parking_lot_world_calls.specs.declared.calls.OwnMode.TheVariants as own
 use Rattle.parking_lot_world.specs.Rows.{State, lock_at, state, word_at}
 use Rattle.parking_lot_world.specs.SoundLaws.{ListsAreWaiters}
 use Rattle.parking_lot_world.specs.Worlds.{mode_in}

@@ -2,7 +2,7 @@
 use Rattle.std.specs.Prelude.{◌≡◌, ℕ, ◌≤◌, [], length, replicate, None}
 use Rattle.std.specs.List.{All}
 use Rattle.lock_api_desk.specs.Desk.{DeskState}
-use Rattle.parking_lot_world.specs.declared.calls.LockKind.TheVariants as kind
+use Rattle.parking_lot_world_calls.specs.declared.calls.LockKind.TheVariants as kind
 use Rattle.parking_lot_world.specs.Machines.{at_rest}
 use Rattle.parking_lot_world.specs.Rows.{state}
 use Rattle.mapworld_locks.specs.Stands.{stand_in}

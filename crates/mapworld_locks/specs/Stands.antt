@@ -4,12 +4,12 @@ use Rattle.std.specs.Option.{option_map}
 use Rattle.lock_api_desk.specs.declared.mode.Mode.{Mode}
 use Rattle.parking_lot_protocol.specs.declared.rw_phase.RwPhase.{RwPhase}
 use Rattle.parking_lot_protocol.specs.declared.rw_phase.RwPhase.TheVariants as r
-use Rattle.parking_lot_world.specs.declared.calls.LockCall.{LockCall}
-use Rattle.parking_lot_world.specs.declared.calls.LockCall.TheVariants as ask
-use Rattle.parking_lot_world.specs.declared.seat.Core.{Core}
-use Rattle.parking_lot_world.specs.declared.seat.Core.TheVariants as core
-use Rattle.parking_lot_world.specs.declared.open_call.Call.{Call}
-use Rattle.parking_lot_world.specs.Calls.{given_up}
+use Rattle.parking_lot_world_calls.specs.declared.calls.LockCall.{LockCall}
+use Rattle.parking_lot_world_calls.specs.declared.calls.LockCall.TheVariants as ask
+use Rattle.parking_lot_world_calls.specs.declared.seat.Core.{Core}
+use Rattle.parking_lot_world_calls.specs.declared.seat.Core.TheVariants as core
+use Rattle.parking_lot_world_calls.specs.declared.open_call.Call.{Call}
+use Rattle.parking_lot_world_calls.specs.Calls.{given_up}
 use Rattle.parking_lot_world.specs.Rows.{call_at, state}
 use Rattle.mapworld_locks.specs.Aims.{Aim, Turns, phase_aim}
 use Rattle.mapworld_locks.specs.Views.{Shown, held_as}

@@ -5,8 +5,8 @@ use Rattle.lock_api_desk.specs.declared.mode.Mode.TheVariants as held
 use Rattle.lock_api_desk.specs.Desk.{DeskState}
 use Rattle.parking_lot_protocol.specs.declared.act.CoreAnswer.{CoreAnswer}
 use Rattle.parking_lot_protocol.specs.declared.act.CoreAnswer.TheVariants.{Owned, Refused}
-use Rattle.parking_lot_world.specs.declared.calls.LockCall.{LockCall}
-use Rattle.parking_lot_world.specs.declared.calls.LockCall.TheVariants.{Downgrade}
+use Rattle.parking_lot_world_calls.specs.declared.calls.LockCall.{LockCall}
+use Rattle.parking_lot_world_calls.specs.declared.calls.LockCall.TheVariants.{Downgrade}
 use Rattle.parking_lot_world.specs.Machines.{IsBegun, IsStepped, ended}
 use Rattle.parking_lot_world.specs.Rows.{state, taken_by}
 use Rattle.mapworld_locks.specs.Aims.{Gets, GivesUp, Turns, aim_of}

@@ -3,8 +3,8 @@ use Rattle.std.specs.Prelude.{ℕ, List, Option, Some, None}
 use Rattle.lock_api_desk.specs.declared.mode.Mode.{Mode}
 use Rattle.lock_api_desk.specs.declared.mode.Mode.TheVariants as held
 use Rattle.lock_api_desk.specs.Desk.{DeskState}
-use Rattle.parking_lot_world.specs.declared.calls.OwnMode.{OwnMode}
-use Rattle.parking_lot_world.specs.declared.calls.OwnMode.TheVariants as own
+use Rattle.parking_lot_world_calls.specs.declared.calls.OwnMode.{OwnMode}
+use Rattle.parking_lot_world_calls.specs.declared.calls.OwnMode.TheVariants as own
 use Rattle.parking_lot_world.specs.Rows.{Rows, State, lock_at, state}
 use Rattle.parking_lot_world.specs.Worlds.{mode_in}
 

@@ -8,7 +8,7 @@ use Rattle.mapworld_calls.specs.declared.ask.Held.TheVariants as held
 use Rattle.mapworld_calls.specs.declared.ask.Keyed.TheVariants as keyed
 use Rattle.mapworld_calls.specs.declared.reply.Answer.{Answer}
 use Rattle.mapworld_calls.specs.Setup.{Setup, Laws}
-use Rattle.parking_lot_world.specs.declared.calls.LockCall.{LockCall}
+use Rattle.parking_lot_world_calls.specs.declared.calls.LockCall.{LockCall}
 use Rattle.parking_lot_world.specs.Ranks.{cost, steps_left}
 use Rattle.parking_lot_world.specs.Rows.{state}
 use Rattle.mapworld_locks.specs.Steps.{LockStarts}

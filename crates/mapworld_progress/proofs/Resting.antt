@@ -15,11 +15,12 @@ use Rattle.parking_lot_rules.specs.Lock.{IsSound}
 use Rattle.parking_lot_rules.specs.Roles.{Idle, Role, away}
 use Rattle.parking_lot_rules.proofs.Following.{nothing_is_left}
 use Rattle.parking_lot_world.proofs.RwMoving.{number-word}
-use Rattle.parking_lot_world.specs.declared.seat.Hold.{Hold as LockHold}
-use Rattle.parking_lot_world.specs.declared.open_call.Call.{Call}
-use Rattle.parking_lot_world.specs.CallViews.{rw_mode}
+use Rattle.parking_lot_world_calls.specs.declared.seat.Hold.{Hold as LockHold}
+use Rattle.parking_lot_world_calls.specs.declared.open_call.Call.{Call}
+use Rattle.parking_lot_world_calls.specs.CallViews.{rw_mode}
 use Rattle.parking_lot_world.specs.RowFits.{Seated}
-use Rattle.parking_lot_world.specs.Rows.{call_at, first_key, hold_at, inside, lock_at, owned_of, queue_at, rw_lock_at, rw_role_at, rw_role_in, second_key, state, taken_by, word_at}
+use Rattle.parking_lot_world.specs.Rows.{call_at, first_key, hold_at, inside, lock_at, queue_at, rw_lock_at, rw_role_at, rw_role_in, second_key, state, taken_by, word_at}
+use Rattle.parking_lot_world_calls.specs.CallRoles.{owned_of}
 use Rattle.parking_lot_world.specs.Rows as rows
 use Rattle.parking_lot_world.specs.SoundLaws.{Always, SomebodyCanMove}
 use Rattle.parking_lot_world.specs.Worlds.{mode_in}

@@ -11,14 +11,14 @@ use Rattle.parking_lot_protocol.specs.declared.rw_phase.AfterWake.{AfterWake}
 use Rattle.parking_lot_protocol.specs.declared.rw_phase.LockMode.{LockMode}
 use Rattle.parking_lot_protocol.specs.declared.rw_phase.RwPhase.{RwPhase}
 use Rattle.parking_lot_protocol.specs.RwTable.{act_of}
-use Rattle.parking_lot_world.specs.Kinds.{AsMutex, manner_of}
-use Rattle.parking_lot_world.specs.declared.calls.LockKind.{LockKind}
-use Rattle.parking_lot_world.specs.declared.open_call.Call.{Call}
-use Rattle.parking_lot_world.specs.declared.seat.Core.{Core}
+use Rattle.parking_lot_world_calls.specs.Kinds.{AsMutex, manner_of}
+use Rattle.parking_lot_world_calls.specs.declared.calls.LockKind.{LockKind}
+use Rattle.parking_lot_world_calls.specs.declared.open_call.Call.{Call}
+use Rattle.parking_lot_world_calls.specs.declared.seat.Core.{Core}
 use Rattle.parking_lot_world.specs.Machines.{is_asleep, sleeps}
-use Rattle.parking_lot_world.specs.RowFits.{IsOfKind}
+use Rattle.parking_lot_world_calls.specs.CallKinds.{IsOfKind}
 use Rattle.parking_lot_world.specs.Rows.{State, call_at, state}
-use Rattle.parking_lot_world.specs.Stances.{Stance, Asleep, core_act, rw_stance, stance}
+use Rattle.parking_lot_world_calls.specs.Stances.{Stance, Asleep, core_act, rw_stance, stance}
 use Rattle.mapworld_locks.proofs.Handing.{goes_by, no_mutex}
 use Rattle.mapworld_locks.specs.Aims.{Aim, Gets, aim_for, phase_aim}
 use Rattle.mapworld_locks.specs.Fits.{LocksFit, is_plain}

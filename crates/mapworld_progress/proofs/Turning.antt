@@ -4,7 +4,7 @@ use Rattle.std.specs.Option.{option_and_then, option_map}
 use Rattle.std.proofs.lemmas.Bool.{false≢true}
 use Rattle.std.proofs.lemmas.Option.{none-some, slice_get_cases}
 use Rattle.parking_lot_world.proofs.WakesPaying.{any_may_be_stepped}
-use Rattle.parking_lot_world.specs.declared.open_call.Call.{Call}
+use Rattle.parking_lot_world_calls.specs.declared.open_call.Call.{Call}
 use Rattle.parking_lot_world.specs.Machines.{can_move}
 use Rattle.parking_lot_world.specs.Machines as machine
 use Rattle.parking_lot_world.specs.Rows.{call_at, state}

@@ -8,8 +8,8 @@ use Rattle.lock_api_desk.specs.declared.mode.Mode.TheVariants as desk
 use Rattle.lock_api_desk.specs.Guards.{excludes}
 use Rattle.parking_lot_protocol.specs.declared.act.CoreAnswer.{CoreAnswer}
 use Rattle.parking_lot_protocol.specs.declared.act.CoreAnswer.TheVariants.{Refused}
-use Rattle.parking_lot_world.specs.declared.calls.LockCall.{LockCall}
-use Rattle.parking_lot_world.specs.declared.calls.LockCall.TheVariants.{Downgrade}
+use Rattle.parking_lot_world_calls.specs.declared.calls.LockCall.{LockCall}
+use Rattle.parking_lot_world_calls.specs.declared.calls.LockCall.TheVariants.{Downgrade}
 use Rattle.mapworld_locks.specs.Aims.{Aim, Gets, GivesUp, Turns, aim_of}
 use Rattle.mapworld_locks.specs.Views.{Shown, owner_in}
 use Rattle.mapworld_locks.specs.Stands.{Stand, stand_in, is_try}

@@ -11,7 +11,7 @@ use Rattle.mapworld_calls.specs.Calls.{shared, exclusive, held_answer, held_leav
 use Rattle.mapworld_calls.specs.Setup.{Setup, Laws, session_of}
 use Rattle.mapworld_calls.specs.Replay.{reached, found}
 use Rattle.mapworld_calls.specs.Agrees.{IsToldBy}
-use Rattle.parking_lot_world.specs.declared.calls.LockCall.TheVariants as call_of
+use Rattle.parking_lot_world_calls.specs.declared.calls.LockCall.TheVariants as call_of
 use Rattle.mapworld_state.specs.declared.holds.Mode.TheVariants.{Shared, Exclusive}
 use Rattle.mapworld_state.specs.declared.holds.Hold.{Hold}
 use Rattle.mapworld_state.specs.declared.step.Step.{Step}

@@ -28,7 +28,7 @@ use Rattle.mapworld_state.specs.declared.place.Phase.TheVariants as phase
 use Rattle.mapworld_state.specs.Places.{Place}
 use Rattle.parking_lot_protocol.specs.declared.act.CoreAnswer.{CoreAnswer}
 use Rattle.parking_lot_protocol.specs.declared.act.CoreAnswer.TheVariants as end
-use Rattle.parking_lot_world.specs.declared.calls.LockCall.TheVariants as call
+use Rattle.parking_lot_world_calls.specs.declared.calls.LockCall.TheVariants as call
 use Rattle.mapworld_locks.specs.Views.{Shown}
 use Rattle.mapworld_locks.specs.Stands.{stand_in}
 use Rattle.mapworld_locks.specs.Steps.{LockBegins, LockMoves, LockStarts, LockEnds}

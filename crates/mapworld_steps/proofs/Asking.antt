@@ -5,7 +5,7 @@ use Rattle.std.proofs.lemmas.Bool.{false≢true}
 use Rattle.dashmap_table.proofs.Cases.{option_cases}
 use Rattle.parking_lot_protocol.specs.declared.act.CoreAnswer.{CoreAnswer}
 use Rattle.parking_lot_protocol.specs.declared.act.CoreAnswer.TheVariants.{Owned, Refused}
-use Rattle.parking_lot_world.specs.declared.calls.LockCall.TheVariants as call
+use Rattle.parking_lot_world_calls.specs.declared.calls.LockCall.TheVariants as call
 use Rattle.mapworld_locks.specs.Views.{Shown, owner_in}
 use Rattle.mapworld_locks.specs.Stands.{Stand, stand_in, is_of_shards, needs, gives}
 use Rattle.mapworld_locks.specs.Steps.{MayAsk}

@@ -15,7 +15,7 @@ use Rattle.parking_lot_rules.proofs.Indexed.{get-set_same, get-set_other}
 use Rattle.parking_lot_rules.proofs.Crossing.{crossed, WasIn}
 use Rattle.parking_lot_rules.proofs.Families.{AreRules, any_family_sound}
 use Rattle.parking_lot_rules.proofs.Running.{rest_sound_family}
-use Rattle.parking_lot_rules.proofs.Mutexes as mutexes
+use Rattle.parking_lot_rules.proofs.MutexRuns as mutexes
 use Rattle.parking_lot_rules.proofs.MutexCrossing.{any_are_rules, mutex_are_rules}
 use Rattle.parking_lot_rules.proofs.Variables.{step_sound, quiet_sound}
 use Rattle.parking_lot_rules.proofs.TwoLockSteps.{both_sound}

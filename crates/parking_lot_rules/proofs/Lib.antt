@@ -21,6 +21,7 @@ pub mod Casing
 pub mod Keeping
 pub mod ExampleRun
 pub mod Mutexes
+pub mod MutexRuns
 pub mod MutexFollowing
 pub mod Ranking
 pub mod Sighting

@@ -7,7 +7,8 @@ use Rattle.parking_lot_rules.specs.Mutex.{Phase, Idle, Seeks, Enters, Queued, Ta
 use Rattle.parking_lot_rules.specs.MutexLaws.{MutexTells, NothingIsLeft, is_asleep, IsWaker, SleepersAreKnown, owes, SomebodyOwes, DebtsAreKept, is_at_work, SomebodyIsUp, SomebodyCanMove}
 use Rattle.parking_lot_rules.proofs.Indexed.{get-set_other}
 use Rattle.parking_lot_rules.proofs.Finding.{none_or}
-use Rattle.parking_lot_rules.proofs.Mutexes.{total-at, total-none, away_weighs}
+use Rattle.parking_lot_rules.proofs.MutexRuns.{total-none}
+use Rattle.parking_lot_rules.proofs.Mutexes.{total-at, away_weighs}
 
 somebody : (c : Class) (rs : List Role) → 0 < total c rs → (u : ℕ) × (r : Role) × (slice_get rs u ≡ Some r) × (0 < weight c r)
 somebody c [] some = absurd (omega arith)

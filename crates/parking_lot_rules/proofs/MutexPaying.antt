@@ -14,7 +14,8 @@ use Rattle.parking_lot_rules.proofs.Indexed.{get-set_same, get-set_other, sum_by
 use Rattle.parking_lot_rules.proofs.Finding.{none_or}
 use Rattle.parking_lot_rules.proofs.Indebted.{late, back, taken_up, out_of_it, where-same, where-other}
 use Rattle.parking_lot_rules.proofs.Paying.{passing-at}
-use Rattle.parking_lot_rules.proofs.Mutexes.{total-at, total-set, same_counts, run_sound}
+use Rattle.parking_lot_rules.proofs.MutexRuns.{run_sound}
+use Rattle.parking_lot_rules.proofs.Mutexes.{total-at, total-set, same_counts}
 
 plain_owes : (k : Plain) → owes_section (to k).does ≡ turned (owing (Alone k)) (owes_section (from k).does)
 plain_owes (Depart o []) = refl

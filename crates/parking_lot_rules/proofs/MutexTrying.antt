@@ -5,7 +5,7 @@ use Rattle.parking_lot_rules.specs.Roles.{Mark, Normal, Handed}
 use Rattle.parking_lot_rules.specs.Mutex.{Idle, Seeks, Unlocks, Stored, Role, Owning, weight, Word, Mutex, IsSound, to, settle, Step, Alone, Join, Quit, QuitLast, Requeue, Pull, Follow, Take, Free, Hand, Wake, WakeOwner, Pass, doing, Allowed, after, Runs, unlocked}
 use Rattle.parking_lot_rules.specs.Tries.{others_run_there, OwnerOf, IsReachedMutex, RefusedTriesAtAMutexHaveACause}
 use Rattle.parking_lot_rules.proofs.Indexed.{get-set_other}
-use Rattle.parking_lot_rules.proofs.Mutexes.{run_sound}
+use Rattle.parking_lot_rules.proofs.MutexRuns.{run_sound}
 use Rattle.parking_lot_rules.proofs.MutexPaying.{somebody}
 use Rattle.parking_lot_rules.proofs.Trying.{refused}
 

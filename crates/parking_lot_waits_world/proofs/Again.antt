@@ -8,19 +8,21 @@ use Rattle.parking_lot_protocol.specs.declared.act.CoreAnswer.{CoreAnswer}
 use Rattle.parking_lot_protocol.specs.declared.act.CoreAnswer.TheVariants as answer
 use Rattle.parking_lot_protocol.specs.declared.mutex_phase.MutexPhase.{MutexPhase}
 use Rattle.parking_lot_protocol.specs.declared.mutex_phase.MutexPhase.TheVariants as m
-use Rattle.parking_lot_world.specs.declared.calls.LockCall.TheVariants as call
-use Rattle.parking_lot_world.specs.declared.calls.LockKind.{LockKind}
-use Rattle.parking_lot_world.specs.declared.open_call.Call.{Call}
-use Rattle.parking_lot_world.specs.declared.seat.Core.{Core}
-use Rattle.parking_lot_world.specs.declared.seat.Core.TheVariants as core
-use Rattle.parking_lot_world.specs.Beginnings.{owns_nothing}
-use Rattle.parking_lot_world.specs.Calls.{manner_for}
-use Rattle.parking_lot_world.specs.Kinds.{AsMutex, is_manner, manner_of}
+use Rattle.parking_lot_world_calls.specs.declared.calls.LockCall.TheVariants as call
+use Rattle.parking_lot_world_calls.specs.declared.calls.LockKind.{LockKind}
+use Rattle.parking_lot_world_calls.specs.declared.open_call.Call.{Call}
+use Rattle.parking_lot_world_calls.specs.declared.seat.Core.{Core}
+use Rattle.parking_lot_world_calls.specs.declared.seat.Core.TheVariants as core
+use Rattle.parking_lot_world_calls.specs.Beginnings.{owns_nothing}
+use Rattle.parking_lot_world_calls.specs.Calls.{manner_for}
+use Rattle.parking_lot_world_calls.specs.Kinds.{AsMutex, is_manner, manner_of}
 use Rattle.parking_lot_world.specs.Machines.{IsStepped, may_begin}
-use Rattle.parking_lot_world.specs.RowActs.{answered, hold_after}
-use Rattle.parking_lot_world.specs.RowFits.{FitsTogether, IsOfKind}
+use Rattle.parking_lot_world.specs.RowActs.{answered}
+use Rattle.parking_lot_world_calls.specs.CallActs.{hold_after}
+use Rattle.parking_lot_world.specs.RowFits.{FitsTogether}
+use Rattle.parking_lot_world_calls.specs.CallKinds.{IsOfKind}
 use Rattle.parking_lot_world.specs.Rows.{State, call_at}
-use Rattle.parking_lot_world.specs.Stances.{core_act}
+use Rattle.parking_lot_world_calls.specs.Stances.{core_act}
 use Rattle.parking_lot_world.proofs.Carrying.{set_here}
 use Rattle.parking_lot_condvar_world.proofs.Slots.{within}
 use Rattle.parking_lot_waits_world.specs.Joint.{core_enters}

@@ -20,15 +20,16 @@ use Rattle.parking_lot_condvar_world.specs.declared.open_call.OpenCall.{OpenCall
 use Rattle.parking_lot_condvar_world.specs.Fitting.{is_the}
 use Rattle.parking_lot_condvar_world.specs.Machines.{State as Var, call_at as var_call_at, phase_by, phase_in, spot_of, variable}
 use Rattle.parking_lot_condvar_world.specs.Turns.{is_inside, is_inside_by, wait_is_inside}
-use Rattle.parking_lot_world.specs.declared.calls.LockCall.TheVariants as call
-use Rattle.parking_lot_world.specs.declared.calls.LockKind.{LockKind}
-use Rattle.parking_lot_world.specs.declared.calls.LockKind.TheVariants as kind
-use Rattle.parking_lot_world.specs.declared.open_call.Call.{Call}
-use Rattle.parking_lot_world.specs.declared.seat.Core.{Core as RowCore}
-use Rattle.parking_lot_world.specs.declared.seat.Core.TheVariants as row_core
-use Rattle.parking_lot_world.specs.Calls.{takes}
+use Rattle.parking_lot_world_calls.specs.declared.calls.LockCall.TheVariants as call
+use Rattle.parking_lot_world_calls.specs.declared.calls.LockKind.{LockKind}
+use Rattle.parking_lot_world_calls.specs.declared.calls.LockKind.TheVariants as kind
+use Rattle.parking_lot_world_calls.specs.declared.open_call.Call.{Call}
+use Rattle.parking_lot_world_calls.specs.declared.seat.Core.{Core as RowCore}
+use Rattle.parking_lot_world_calls.specs.declared.seat.Core.TheVariants as row_core
+use Rattle.parking_lot_world_calls.specs.Calls.{takes}
 use Rattle.parking_lot_world.specs.Machines.{may_begin}
-use Rattle.parking_lot_world.specs.RowFits.{FitsTogether, IsOfKind}
+use Rattle.parking_lot_world.specs.RowFits.{FitsTogether}
+use Rattle.parking_lot_world_calls.specs.CallKinds.{IsOfKind}
 use Rattle.parking_lot_world.specs.Rows.{State, call_at as row_call_at, state}
 use Rattle.parking_lot_waits_world.proofs.Notifying.{Marking, is_moving, marking}
 use Rattle.parking_lot_waits_world.specs.declared.turn.Turn.{Turn}

@@ -11,14 +11,14 @@ use Rattle.parking_lot_condvar_world.specs.Calls.{call_for}
 use Rattle.parking_lot_condvar_world.specs.Machines.{State as Var}
 use Rattle.parking_lot_condvar_world.specs.Steps as vars
 use Rattle.parking_lot_condvar_world.proofs.Slots.{has_slot}
-use Rattle.parking_lot_world.specs.declared.calls.LockCall.TheVariants as lock_call
-use Rattle.parking_lot_world.specs.declared.calls.LockKind.{LockKind}
-use Rattle.parking_lot_world.specs.declared.calls.LockKind.TheVariants as kind
-use Rattle.parking_lot_world.specs.declared.calls.OwnMode.TheVariants as mode
-use Rattle.parking_lot_world.specs.declared.open_call.Call.{Call}
-use Rattle.parking_lot_world.specs.Beginnings.{excludes, is_allowed, owns_nothing}
-use Rattle.parking_lot_world.specs.Calls.{takes}
-use Rattle.parking_lot_world.specs.Kinds.{kind_in}
+use Rattle.parking_lot_world_calls.specs.declared.calls.LockCall.TheVariants as lock_call
+use Rattle.parking_lot_world_calls.specs.declared.calls.LockKind.{LockKind}
+use Rattle.parking_lot_world_calls.specs.declared.calls.LockKind.TheVariants as kind
+use Rattle.parking_lot_world_calls.specs.declared.calls.OwnMode.TheVariants as mode
+use Rattle.parking_lot_world_calls.specs.declared.open_call.Call.{Call}
+use Rattle.parking_lot_world_calls.specs.Beginnings.{excludes, is_allowed, owns_nothing}
+use Rattle.parking_lot_world_calls.specs.Calls.{takes}
+use Rattle.parking_lot_world_calls.specs.Kinds.{kind_in}
 use Rattle.parking_lot_world.specs.Machines.{may_begin}
 use Rattle.parking_lot_world.specs.RowFits.{FitsTogether}
 use Rattle.parking_lot_world.specs.Rows.{Rows, State, call_at as row_call_at, hold_at, state}

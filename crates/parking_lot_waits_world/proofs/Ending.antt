@@ -10,19 +10,20 @@ use Rattle.parking_lot_protocol.specs.declared.mutex_phase.MutexPhase.{MutexPhas
 use Rattle.parking_lot_protocol.specs.MutexTable.{act_of}
 use Rattle.parking_lot_rules.proofs.Indexed.{get-set_same}
 use Rattle.parking_lot_condvar_world.proofs.Slots.{call_here, has_slot, within}
-use Rattle.parking_lot_world.specs.declared.calls.LockCall.{LockCall}
-use Rattle.parking_lot_world.specs.declared.open_call.Call.{Call}
-use Rattle.parking_lot_world.specs.declared.seat.Core.{Core}
-use Rattle.parking_lot_world.specs.declared.seat.Hold.{Hold}
-use Rattle.parking_lot_world.specs.declared.seat.LatePhase.{LatePhase}
-use Rattle.parking_lot_world.specs.Beginnings.{excludes, owns_nothing}
-use Rattle.parking_lot_world.specs.LateActs.{late_of}
+use Rattle.parking_lot_world_calls.specs.declared.calls.LockCall.{LockCall}
+use Rattle.parking_lot_world_calls.specs.declared.open_call.Call.{Call}
+use Rattle.parking_lot_world_calls.specs.declared.seat.Core.{Core}
+use Rattle.parking_lot_world_calls.specs.declared.seat.Hold.{Hold}
+use Rattle.parking_lot_world_calls.specs.declared.seat.LatePhase.{LatePhase}
+use Rattle.parking_lot_world_calls.specs.Beginnings.{excludes, owns_nothing}
+use Rattle.parking_lot_world_calls.specs.LateCalls.{late_of}
 use Rattle.parking_lot_world.specs.Machines.{IsBegun, IsExpired}
 use Rattle.parking_lot_world.specs.Requeues.{IsRousedIn, IsTakenIn}
-use Rattle.parking_lot_world.specs.RowActs.{answered, hold_after, mutex_hold_after}
+use Rattle.parking_lot_world.specs.RowActs.{answered}
+use Rattle.parking_lot_world_calls.specs.CallActs.{hold_after, mutex_hold_after}
 use Rattle.parking_lot_world.specs.RowFits.{FitsTogether}
 use Rattle.parking_lot_world.specs.Rows.{State, call_at, hold_at}
-use Rattle.parking_lot_world.specs.Stances.{core_act, late_act}
+use Rattle.parking_lot_world_calls.specs.Stances.{core_act, late_act}
 use Rattle.parking_lot_waits_world.specs.Whole.{Away, IsIn, IsSo, Owns, asks, asks_on, gives, phase_asks, phase_gives, place_of}
 use Rattle.parking_lot_waits_world.proofs.LocksKept.{lock_low}
 use Rattle.parking_lot_waits_world.proofs.Places.{Over}

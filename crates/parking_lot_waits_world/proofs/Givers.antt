@@ -27,9 +27,9 @@ use Rattle.parking_lot_condvar_world.specs.Machines.{State as Var, is_left}
 use Rattle.parking_lot_condvar_world.specs.Outsides.{told, told_by, wait_hears}
 use Rattle.parking_lot_condvar_world.proofs.Slots.{within}
 use Rattle.parking_lot_rules.proofs.Indexed.{get-set_other}
-use Rattle.parking_lot_world.specs.declared.calls.LockCall.{LockCall}
-use Rattle.parking_lot_world.specs.declared.calls.LockCall.TheVariants as call
-use Rattle.parking_lot_world.specs.declared.open_call.Call.{Call}
+use Rattle.parking_lot_world_calls.specs.declared.calls.LockCall.{LockCall}
+use Rattle.parking_lot_world_calls.specs.declared.calls.LockCall.TheVariants as call
+use Rattle.parking_lot_world_calls.specs.declared.open_call.Call.{Call}
 use Rattle.parking_lot_world.specs.Machines as rows
 use Rattle.parking_lot_world.specs.RowFits.{FitsTogether, Seated}
 use Rattle.parking_lot_world.specs.Rows.{Rows, State, call_at as row_call_at, inside, state}

@@ -11,11 +11,11 @@ use Rattle.parking_lot_condvar_world.specs.declared.open_call.Core.TheVariants a
 use Rattle.parking_lot_condvar_world.specs.declared.open_call.OpenCall.{OpenCall}
 use Rattle.parking_lot_condvar_world.specs.Machines.{State as Var, call_in as var_call_in}
 use Rattle.parking_lot_condvar_world.proofs.Slots.{call_elsewhere, call_here, within}
-use Rattle.parking_lot_world.specs.declared.calls.LockKind.{LockKind}
-use Rattle.parking_lot_world.specs.declared.calls.LockKind.TheVariants as kind
-use Rattle.parking_lot_world.specs.declared.open_call.Call.{Call}
-use Rattle.parking_lot_world.specs.declared.seat.Core.{Core as RowCore}
-use Rattle.parking_lot_world.specs.Beginnings.{excludes, owns_nothing}
+use Rattle.parking_lot_world_calls.specs.declared.calls.LockKind.{LockKind}
+use Rattle.parking_lot_world_calls.specs.declared.calls.LockKind.TheVariants as kind
+use Rattle.parking_lot_world_calls.specs.declared.open_call.Call.{Call}
+use Rattle.parking_lot_world_calls.specs.declared.seat.Core.{Core as RowCore}
+use Rattle.parking_lot_world_calls.specs.Beginnings.{excludes, owns_nothing}
 use Rattle.parking_lot_world.specs.Rows.{Rows, State, call_at as row_call_at, hold_at, state}
 use Rattle.parking_lot_waits_world.specs.declared.seat.Seat.{Seat}
 use Rattle.parking_lot_waits_world.specs.Joint.{Joint, back_number, call_at, call_in, front_number, is_entered, is_open_at_variables, nowhere, number, seat_at, var_at, var_in}

@@ -4,10 +4,10 @@ use Rattle.std.specs.List.{list_any}
 use Rattle.std.specs.Option.{option_and_then}
 use Rattle.std.proofs.lemmas.Option.{none-some, same_Some}
 use Rattle.parking_lot_protocol.specs.declared.act.CoreAnswer.{CoreAnswer}
-use Rattle.parking_lot_world.specs.declared.open_call.Call.{Call}
-use Rattle.parking_lot_world.specs.declared.calls.LockCall.{LockCall}
-use Rattle.parking_lot_world.specs.Kinds.{AsMutex, manner_of}
-use Rattle.parking_lot_world.specs.LateActs.{late_of}
+use Rattle.parking_lot_world_calls.specs.declared.open_call.Call.{Call}
+use Rattle.parking_lot_world_calls.specs.declared.calls.LockCall.{LockCall}
+use Rattle.parking_lot_world_calls.specs.Kinds.{AsMutex, manner_of}
+use Rattle.parking_lot_world_calls.specs.LateCalls.{late_of}
 use Rattle.parking_lot_world.specs.Machines as rows
 use Rattle.parking_lot_world.specs.Requeues.{AreTakenIn, IsRousedIn, IsTakenIn, retrying_call, sleeping_call, taken_in}
 use Rattle.parking_lot_world.specs.RowActs.{with_call}

@@ -23,9 +23,9 @@ use Rattle.parking_lot_condvar_world.specs.declared.outside.Outside.{Outside}
 use Rattle.parking_lot_condvar_world.specs.Machines.{State as Var, call_at as var_call_at, phase_in}
 use Rattle.parking_lot_condvar_world.specs.Turns as var_turns
 use Rattle.parking_lot_condvar_world.specs.Turns.{notify_enters, wait_enters}
-use Rattle.parking_lot_world.specs.declared.calls.LockCall.{LockCall}
-use Rattle.parking_lot_world.specs.declared.open_call.Call.{Call}
-use Rattle.parking_lot_world.specs.Kinds.{AsMutex, manner_of}
+use Rattle.parking_lot_world_calls.specs.declared.calls.LockCall.{LockCall}
+use Rattle.parking_lot_world_calls.specs.declared.open_call.Call.{Call}
+use Rattle.parking_lot_world_calls.specs.Kinds.{AsMutex, manner_of}
 use Rattle.parking_lot_world.specs.Machines as rows
 use Rattle.parking_lot_world.specs.Rows.{Rows, State, call_at as row_call_at, state}
 use Rattle.parking_lot_waits_world.specs.declared.ended.Ended.{Ended}

@@ -10,20 +10,22 @@ use Rattle.parking_lot_protocol.specs.declared.mutex_phase.MutexPhase.{MutexPhas
 use Rattle.parking_lot_protocol.specs.declared.mutex_phase.MutexPhase.TheVariants as m
 use Rattle.parking_lot_condvar_world.specs.Machines.{State as Var}
 use Rattle.parking_lot_condvar_world.proofs.Slots.{call_elsewhere, call_here}
-use Rattle.parking_lot_world.specs.declared.calls.LockCall.{LockCall}
-use Rattle.parking_lot_world.specs.declared.calls.LockKind.{LockKind}
-use Rattle.parking_lot_world.specs.declared.calls.LockKind.TheVariants as kind
-use Rattle.parking_lot_world.specs.declared.open_call.Call.{Call}
-use Rattle.parking_lot_world.specs.declared.seat.Core.{Core as RowCore}
-use Rattle.parking_lot_world.specs.declared.seat.Core.TheVariants as row_core
-use Rattle.parking_lot_world.specs.declared.seat.Hold.{Hold}
-use Rattle.parking_lot_world.specs.declared.seat.Hold.TheVariants as hold
-use Rattle.parking_lot_world.specs.Beginnings.{excludes, owns_nothing}
-use Rattle.parking_lot_world.specs.Kinds.{AsMutex, AsRw, Manner, manner_of}
-use Rattle.parking_lot_world.specs.LateActs.{late_of}
+use Rattle.parking_lot_world_calls.specs.declared.calls.LockCall.{LockCall}
+use Rattle.parking_lot_world_calls.specs.declared.calls.LockKind.{LockKind}
+use Rattle.parking_lot_world_calls.specs.declared.calls.LockKind.TheVariants as kind
+use Rattle.parking_lot_world_calls.specs.declared.open_call.Call.{Call}
+use Rattle.parking_lot_world_calls.specs.declared.seat.Core.{Core as RowCore}
+use Rattle.parking_lot_world_calls.specs.declared.seat.Core.TheVariants as row_core
+use Rattle.parking_lot_world_calls.specs.declared.seat.Hold.{Hold}
+use Rattle.parking_lot_world_calls.specs.declared.seat.Hold.TheVariants as hold
+use Rattle.parking_lot_world_calls.specs.Beginnings.{excludes, owns_nothing}
+use Rattle.parking_lot_world_calls.specs.Kinds.{AsMutex, AsRw, Manner, manner_of}
+use Rattle.parking_lot_world_calls.specs.LateCalls.{late_of}
 use Rattle.parking_lot_world.specs.Machines as rows
-use Rattle.parking_lot_world.specs.RowActs.{answered, hold_after, mutex_hold_after, with_call}
-use Rattle.parking_lot_world.specs.RowFits.{FitsTogether, IsOfKind}
+use Rattle.parking_lot_world.specs.RowActs.{answered, with_call}
+use Rattle.parking_lot_world_calls.specs.CallActs.{hold_after, mutex_hold_after}
+use Rattle.parking_lot_world.specs.RowFits.{FitsTogether}
+use Rattle.parking_lot_world_calls.specs.CallKinds.{IsOfKind}
 use Rattle.parking_lot_world.specs.Rows.{State, call_at as row_call_at, hold_at, hold_in, state}
 use Rattle.parking_lot_waits_world.specs.declared.seat.Seat.{Seat}
 use Rattle.parking_lot_waits_world.specs.Joint.{Joint, asking_number, busy_by, busy_number, call_in, core_enters, has_by_second, is_entered, is_open_at_variables, is_var, nowhere, number, row_goes, seat_at, var_at, var_in}

@@ -11,13 +11,13 @@ use Rattle.parking_lot_rules.specs.Lists.{at_index, occurs}
 use Rattle.parking_lot_rules.specs.Variable as rules
 use Rattle.parking_lot_rules.proofs.Indexed.{get-set_other}
 use Rattle.parking_lot_rules.proofs.Waiting.{counted, counted-same, occurs-cons}
-use Rattle.parking_lot_world.specs.declared.calls.LockCall.TheVariants as call
-use Rattle.parking_lot_world.specs.declared.calls.LockKind.{LockKind}
-use Rattle.parking_lot_world.specs.declared.open_call.Call.{Call}
-use Rattle.parking_lot_world.specs.declared.seat.Hold.{Hold}
-use Rattle.parking_lot_world.specs.Beginnings.{is_allowed}
-use Rattle.parking_lot_world.specs.Calls.{takes}
-use Rattle.parking_lot_world.specs.Kinds.{kind_in}
+use Rattle.parking_lot_world_calls.specs.declared.calls.LockCall.TheVariants as call
+use Rattle.parking_lot_world_calls.specs.declared.calls.LockKind.{LockKind}
+use Rattle.parking_lot_world_calls.specs.declared.open_call.Call.{Call}
+use Rattle.parking_lot_world_calls.specs.declared.seat.Hold.{Hold}
+use Rattle.parking_lot_world_calls.specs.Beginnings.{is_allowed}
+use Rattle.parking_lot_world_calls.specs.Calls.{takes}
+use Rattle.parking_lot_world_calls.specs.Kinds.{kind_in}
 use Rattle.parking_lot_world.specs.Requeues.{IsAttended, IsRousedIn, IsTakenIn, may_rouse_in}
 use Rattle.parking_lot_world.specs.Rows.{State, hold_in, state, word_at}
 use Rattle.parking_lot_waits_world.specs.declared.seat.Seat.{Seat}

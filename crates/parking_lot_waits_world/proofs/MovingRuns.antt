@@ -11,7 +11,8 @@ use Rattle.parking_lot_condvar_world.specs.declared.open_call.OpenCall.{OpenCall
 use Rattle.parking_lot_condvar_world.specs.Machines.{State as Var}
 use Rattle.parking_lot_condvar_world.proofs.Slots.{within}
 use Rattle.parking_lot_world.specs.Requeues.{AreOthers, MayMove, MovesAreRuns, pull_run, requeue_run, waiters}
-use Rattle.parking_lot_world.specs.Rows.{State, call_at as row_call_at, hold_at, mutex_at, owns_mutex, state, word_at}
+use Rattle.parking_lot_world.specs.Rows.{State, call_at as row_call_at, hold_at, mutex_at, state, word_at}
+use Rattle.parking_lot_world_calls.specs.CallRoles.{owns_mutex}
 use Rattle.parking_lot_waits_world.specs.declared.seat.Seat.{Seat}
 use Rattle.parking_lot_waits_world.specs.declared.turn.Turn.TheVariants as turn
 use Rattle.parking_lot_waits_world.specs.Joint.{Joint, call_at, call_in, lock_of, nowhere, var_at}

@@ -16,7 +16,7 @@ use Rattle.parking_lot_condvar_world.specs.declared.outside.Outside.TheVariants 
 use Rattle.parking_lot_condvar_world.specs.Calls.{is_timed}
 use Rattle.parking_lot_condvar_world.specs.Machines.{State as Var, is_left}
 use Rattle.parking_lot_condvar_world.specs.Outsides.{hears_by, may_hear, notify_fits, wait_fits}
-use Rattle.parking_lot_world.specs.declared.open_call.Call.{Call}
+use Rattle.parking_lot_world_calls.specs.declared.open_call.Call.{Call}
 use Rattle.parking_lot_world.specs.Machines as rows
 use Rattle.parking_lot_world.specs.Rows.{Rows, State, state}
 use Rattle.parking_lot_waits_world.specs.Joint.{Joint, back_number, call_at, call_in, core_enters, front_number, is_open_at_variables, number, row_goes, seat_at, var_at, var_hears}

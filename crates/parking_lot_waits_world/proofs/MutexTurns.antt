@@ -16,8 +16,8 @@ use Rattle.parking_lot_condvar_world.specs.Machines.{State as Var, is_left}
 use Rattle.parking_lot_condvar_world.specs.Outsides.{told, told_by, wait_hears}
 use Rattle.parking_lot_condvar_world.specs.OwnSteps.{inside_after_wait, queue_after_wait, stepped, stepped_by, wait_goes, wait_sees}
 use Rattle.parking_lot_condvar_world.specs.Steps as vars
-use Rattle.parking_lot_world.specs.declared.calls.LockCall.TheVariants as call
-use Rattle.parking_lot_world.specs.declared.calls.LockKind.{LockKind}
+use Rattle.parking_lot_world_calls.specs.declared.calls.LockCall.TheVariants as call
+use Rattle.parking_lot_world_calls.specs.declared.calls.LockKind.{LockKind}
 use Rattle.parking_lot_world.specs.Machines as rows
 use Rattle.parking_lot_world.specs.Rows.{State, state}
 use Rattle.parking_lot_waits_world.specs.declared.seat.Seat.{Seat}

@@ -20,17 +20,18 @@ use Rattle.parking_lot_condvar_world.specs.declared.open_call.OpenCall.{OpenCall
 use Rattle.parking_lot_condvar_world.specs.Calls.{reply_by, reply_in_wait, reply_of}
 use Rattle.parking_lot_condvar_world.specs.Fitting.{IsNotify, Knows}
 use Rattle.parking_lot_condvar_world.specs.Machines.{State as Var}
-use Rattle.parking_lot_world.specs.declared.calls.LockKind.{LockKind}
-use Rattle.parking_lot_world.specs.declared.calls.LockKind.TheVariants as kind
-use Rattle.parking_lot_world.specs.declared.calls.OwnMode.{OwnMode}
-use Rattle.parking_lot_world.specs.declared.calls.OwnMode.TheVariants as mode
-use Rattle.parking_lot_world.specs.declared.open_call.Call.{Call}
-use Rattle.parking_lot_world.specs.declared.seat.Hold.{Hold}
-use Rattle.parking_lot_world.specs.declared.seat.Hold.TheVariants as hold
-use Rattle.parking_lot_world.specs.Beginnings.{excludes, owns_nothing}
+use Rattle.parking_lot_world_calls.specs.declared.calls.LockKind.{LockKind}
+use Rattle.parking_lot_world_calls.specs.declared.calls.LockKind.TheVariants as kind
+use Rattle.parking_lot_world_calls.specs.declared.calls.OwnMode.{OwnMode}
+use Rattle.parking_lot_world_calls.specs.declared.calls.OwnMode.TheVariants as mode
+use Rattle.parking_lot_world_calls.specs.declared.open_call.Call.{Call}
+use Rattle.parking_lot_world_calls.specs.declared.seat.Hold.{Hold}
+use Rattle.parking_lot_world_calls.specs.declared.seat.Hold.TheVariants as hold
+use Rattle.parking_lot_world_calls.specs.Beginnings.{excludes, owns_nothing}
 use Rattle.parking_lot_world.specs.RowFits.{FitsTogether}
 use Rattle.parking_lot_world.specs.Rows.{Rows, State, call_at as row_call_at, hold_at, lock_at, state}
-use Rattle.parking_lot_world.specs.Worlds.{hold_mode, mode_in}
+use Rattle.parking_lot_world.specs.Worlds.{mode_in}
+use Rattle.parking_lot_world_calls.specs.CallViews.{hold_mode}
 use Rattle.parking_lot_world.proofs.Viewing.{IsApart, apart_owner}
 use Rattle.parking_lot_waits_world.specs.declared.seat.Seat.{Seat}
 use Rattle.parking_lot_waits_world.specs.declared.turn.Turn.{Turn}

@@ -12,18 +12,20 @@ use Rattle.parking_lot_protocol.specs.declared.act.CoreAnswer.{CoreAnswer}
 use Rattle.parking_lot_protocol.specs.declared.act.SectionAct.{SectionAct}
 use Rattle.parking_lot_protocol.specs.Acts.{Gives}
 use Rattle.parking_lot_rules.proofs.Indexed.{get-set_other}
-use Rattle.parking_lot_world.specs.declared.late_rw.LateRwPhase.{LateRwPhase}
-use Rattle.parking_lot_world.specs.declared.open_call.Call.{Call}
-use Rattle.parking_lot_world.specs.declared.seat.Core.{Core}
-use Rattle.parking_lot_world.specs.declared.seat.Hold.{Hold}
-use Rattle.parking_lot_world.specs.declared.seat.LatePhase.{LatePhase}
-use Rattle.parking_lot_world.specs.declared.seat.QueuePosition.{QueuePosition}
-use Rattle.parking_lot_world.specs.LateActs.{came_back, found_as, is_handed, quitted}
+use Rattle.parking_lot_world_calls.specs.declared.late_rw.LateRwPhase.{LateRwPhase}
+use Rattle.parking_lot_world_calls.specs.declared.open_call.Call.{Call}
+use Rattle.parking_lot_world_calls.specs.declared.seat.Core.{Core}
+use Rattle.parking_lot_world_calls.specs.declared.seat.Hold.{Hold}
+use Rattle.parking_lot_world_calls.specs.declared.seat.LatePhase.{LatePhase}
+use Rattle.parking_lot_world_calls.specs.declared.seat.QueuePosition.{QueuePosition}
+use Rattle.parking_lot_world.specs.LateActs.{came_back, quitted}
+use Rattle.parking_lot_world_calls.specs.LateCalls.{found_as, is_handed}
 use Rattle.parking_lot_world.specs.Machines.{Became, BecameInside, BecameLate, IsStepped, end_of, sleeps}
-use Rattle.parking_lot_world.specs.RowActs.{answered, hears, hold_after, loaded}
+use Rattle.parking_lot_world.specs.RowActs.{answered, loaded}
+use Rattle.parking_lot_world_calls.specs.CallActs.{hears, hold_after}
 use Rattle.parking_lot_world.specs.RowFits.{FitsTogether, IsTaken}
 use Rattle.parking_lot_world.specs.Rows.{State, call_at, hold_at, hold_in, word_at}
-use Rattle.parking_lot_world.specs.Stances.{Asleep, core_act, core_next, stance}
+use Rattle.parking_lot_world_calls.specs.Stances.{Asleep, core_act, core_next, stance}
 use Rattle.parking_lot_waits_world.specs.Joint.{core_enters, is_entry}
 use Rattle.parking_lot_waits_world.specs.Whole.{asks, place_of}
 use Rattle.parking_lot_waits_world.proofs.Stages.{AllGo, Onward, Still, all_stay, all_told, both_ways, call_of, heard, late_still, no_sort, one_goes, one_off, set_else, woken}

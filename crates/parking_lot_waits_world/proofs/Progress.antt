@@ -23,13 +23,13 @@ use Rattle.parking_lot_condvar_world.specs.Fitting.{is_the}
 use Rattle.parking_lot_condvar_world.specs.Machines.{State as Var, may_step}
 use Rattle.parking_lot_condvar_world.specs.Turns.{enters, enters_by, is_inside_by, is_own, is_own_by, notify_is_inside, wait_is_inside}
 use Rattle.parking_lot_condvar_world.proofs.Slots.{slot, within}
-use Rattle.parking_lot_world.specs.declared.open_call.Call.{Call}
-use Rattle.parking_lot_world.specs.declared.seat.Core.{Core as RowCore}
-use Rattle.parking_lot_world.specs.declared.seat.Core.TheVariants as row_core
+use Rattle.parking_lot_world_calls.specs.declared.open_call.Call.{Call}
+use Rattle.parking_lot_world_calls.specs.declared.seat.Core.{Core as RowCore}
+use Rattle.parking_lot_world_calls.specs.declared.seat.Core.TheVariants as row_core
 use Rattle.parking_lot_world.specs.Machines.{can_move, can_move_in, is_asleep, sleeps}
 use Rattle.parking_lot_world.specs.Rows.{State, call_at as row_call_at, inside, state}
 use Rattle.parking_lot_world.specs.SoundLaws.{Always, AwakeCanMove, SomebodyCanMove as RowSomebodyCanMove}
-use Rattle.parking_lot_world.specs.Stances.{core_act}
+use Rattle.parking_lot_world_calls.specs.Stances.{core_act}
 use Rattle.parking_lot_world.proofs.Carrying.{call_within}
 use Rattle.parking_lot_world.proofs.Serving.{goes_on}
 use Rattle.parking_lot_waits_world.specs.Joint.{Joint, back_number, busy_by, busy_number, call_at, call_in, enters_at_lock, front_number, is_entered, is_open_at_locks, is_open_at_variables, number, row_goes, seat_at, var_acts, var_at, var_goes}

@@ -19,7 +19,7 @@ use Rattle.parking_lot_condvar_world.specs.Calls.{is_timed}
 use Rattle.parking_lot_condvar_world.specs.Machines.{State as Var, is_left}
 use Rattle.parking_lot_condvar_world.specs.Outsides.{hears_by, may_hear, notify_fits, told, told_by, wait_fits}
 use Rattle.parking_lot_condvar_world.specs.Ranks as vars
-use Rattle.parking_lot_world.specs.declared.calls.LockCall.{LockCall}
+use Rattle.parking_lot_world_calls.specs.declared.calls.LockCall.{LockCall}
 use Rattle.parking_lot_world.specs.Machines as rows
 use Rattle.parking_lot_world.specs.Ranks as row
 use Rattle.parking_lot_world.specs.Rows.{Rows, call_at as row_call_at, state}

@@ -15,13 +15,13 @@ use Rattle.parking_lot_condvar_world.specs.OwnSteps.{stepped}
 use Rattle.parking_lot_condvar_world.specs.Outsides.{told}
 use Rattle.parking_lot_condvar_world.specs.Ranks.{left}
 use Rattle.parking_lot_condvar_world.proofs.Slots.{call_here, slot, within}
-use Rattle.parking_lot_world.specs.declared.open_call.Call.{Call}
+use Rattle.parking_lot_world_calls.specs.declared.open_call.Call.{Call}
 use Rattle.parking_lot_world.specs.Machines as rows
 use Rattle.parking_lot_world.specs.Machines.{end_of}
 use Rattle.parking_lot_world.specs.Ranks as row
 use Rattle.parking_lot_world.specs.RowFits.{FitsTogether}
 use Rattle.parking_lot_world.specs.Rows.{State, call_at as row_call_at, state}
-use Rattle.parking_lot_world.specs.Stances.{core_act}
+use Rattle.parking_lot_world_calls.specs.Stances.{core_act}
 use Rattle.parking_lot_world.proofs.Carrying.{call_within, set_here}
 use Rattle.parking_lot_world.proofs.WakesPaying.{any_may_be_stepped}
 use Rattle.parking_lot_waits_world.specs.declared.seat.Seat.{Seat}

@@ -23,11 +23,11 @@ use Rattle.parking_lot_condvar_world.specs.Machines.{State as Var, is_left}
 use Rattle.parking_lot_condvar_world.specs.OwnSteps.{stepped_by}
 use Rattle.parking_lot_condvar_world.specs.Outsides.{told, told_by, wait_hears}
 use Rattle.parking_lot_condvar_world.proofs.Slots.{call_here}
-use Rattle.parking_lot_world.specs.declared.calls.LockCall.{LockCall}
-use Rattle.parking_lot_world.specs.declared.calls.LockCall.TheVariants as call
-use Rattle.parking_lot_world.specs.declared.open_call.Call.{Call}
-use Rattle.parking_lot_world.specs.declared.seat.Core.{Core as RowCore}
-use Rattle.parking_lot_world.specs.declared.seat.Core.TheVariants as row_core
+use Rattle.parking_lot_world_calls.specs.declared.calls.LockCall.{LockCall}
+use Rattle.parking_lot_world_calls.specs.declared.calls.LockCall.TheVariants as call
+use Rattle.parking_lot_world_calls.specs.declared.open_call.Call.{Call}
+use Rattle.parking_lot_world_calls.specs.declared.seat.Core.{Core as RowCore}
+use Rattle.parking_lot_world_calls.specs.declared.seat.Core.TheVariants as row_core
 use Rattle.parking_lot_world.specs.Machines as rows
 use Rattle.parking_lot_world.specs.Ranks as row
 use Rattle.parking_lot_world.specs.Rows.{Rows, State, call_at as row_call_at, state}

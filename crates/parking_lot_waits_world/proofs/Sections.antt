@@ -23,16 +23,17 @@ use Rattle.parking_lot_condvar_world.specs.declared.calls.CondvarReply.{CondvarR
 use Rattle.parking_lot_condvar_world.specs.declared.outside.Outside.{Outside}
 use Rattle.parking_lot_condvar_world.specs.Steps as vars
 use Rattle.parking_lot_condvar_world.proofs.Slots.{call_elsewhere, call_here, find_call}
-use Rattle.parking_lot_world.specs.declared.late_rw.LateRwPhase.{LateRwPhase}
-use Rattle.parking_lot_world.specs.declared.open_call.Call.{Call}
-use Rattle.parking_lot_world.specs.declared.seat.Core.{Core}
-use Rattle.parking_lot_world.specs.declared.seat.LatePhase.{LatePhase}
-use Rattle.parking_lot_world.specs.declared.seat.QueuePosition.{QueuePosition}
-use Rattle.parking_lot_world.specs.LateActs.{came_back, is_pending, others_left, out_of_list, quitted_as}
+use Rattle.parking_lot_world_calls.specs.declared.late_rw.LateRwPhase.{LateRwPhase}
+use Rattle.parking_lot_world_calls.specs.declared.open_call.Call.{Call}
+use Rattle.parking_lot_world_calls.specs.declared.seat.Core.{Core}
+use Rattle.parking_lot_world_calls.specs.declared.seat.LatePhase.{LatePhase}
+use Rattle.parking_lot_world_calls.specs.declared.seat.QueuePosition.{QueuePosition}
+use Rattle.parking_lot_world.specs.LateActs.{came_back, others_left, out_of_list, quitted_as}
+use Rattle.parking_lot_world_calls.specs.LateCalls.{is_pending}
 use Rattle.parking_lot_world.specs.Machines.{Became, BecameInside, BecameLate, IsStepped}
 use Rattle.parking_lot_world.specs.RowActs.{entered, left}
 use Rattle.parking_lot_world.specs.Rows.{State, inside, word_at}
-use Rattle.parking_lot_world.specs.Stances.{core_act, sign}
+use Rattle.parking_lot_world_calls.specs.Stances.{core_act, sign}
 use Rattle.parking_lot_waits_world.specs.declared.seat.Seat.{Seat}
 use Rattle.parking_lot_waits_world.specs.Joint.{Joint, call_at, call_in, var_at, var_in}
 use Rattle.parking_lot_waits_world.specs.JointSteps.{ActsAt, ActsIn, HearsAt, HearsIn}

@@ -14,13 +14,13 @@ use Rattle.parking_lot_protocol.specs.Acts.{Gives}
 use Rattle.parking_lot_protocol.specs.MutexTable.{act_of, next_phase, seeks}
 use Rattle.parking_lot_protocol.proofs.MutexFollowing.{either}
 use Rattle.parking_lot_rules.proofs.Indexed.{get-set_other}
-use Rattle.parking_lot_world.specs.declared.open_call.Call.{Call}
-use Rattle.parking_lot_world.specs.declared.seat.Core.{Core}
-use Rattle.parking_lot_world.specs.declared.seat.LatePhase.{LatePhase}
-use Rattle.parking_lot_world.specs.declared.seat.WakeResult.{WakeResult}
+use Rattle.parking_lot_world_calls.specs.declared.open_call.Call.{Call}
+use Rattle.parking_lot_world_calls.specs.declared.seat.Core.{Core}
+use Rattle.parking_lot_world_calls.specs.declared.seat.LatePhase.{LatePhase}
+use Rattle.parking_lot_world_calls.specs.declared.seat.WakeResult.{WakeResult}
 use Rattle.parking_lot_world.specs.Machines.{sleeps}
-use Rattle.parking_lot_world.specs.RowActs.{off_list, settled}
-use Rattle.parking_lot_world.specs.Stances.{Asleep, core_act, core_next, late_act, late_next, late_stance, mutex_stance, stance}
+use Rattle.parking_lot_world_calls.specs.CallActs.{off_list, settled}
+use Rattle.parking_lot_world_calls.specs.Stances.{Asleep, core_act, core_next, late_act, late_next, late_stance, mutex_stance, stance}
 use Rattle.parking_lot_waits_world.specs.Whole.{asks, asks_on, gives, phase_asks, phase_gives}
 
 -- THE PHASES OF A CALL AT A MUTEX

@@ -4,7 +4,7 @@ use Rattle.parking_lot_protocol.specs.declared.act.CoreAnswer.{CoreAnswer}
 use Rattle.parking_lot_protocol.specs.declared.act.CoreAnswer.TheVariants as answer
 use Rattle.parking_lot_condvar_world.specs.declared.calls.CondvarReply.{CondvarReply}
 use Rattle.parking_lot_condvar_world.specs.declared.open_call.OpenCall.{OpenCall}
-use Rattle.parking_lot_world.specs.declared.open_call.Call.{Call}
+use Rattle.parking_lot_world_calls.specs.declared.open_call.Call.{Call}
 use Rattle.parking_lot_world.specs.Machines as rows
 use Rattle.parking_lot_world.specs.Rows.{State, state}
 use Rattle.parking_lot_waits_world.specs.declared.seat.Seat.{Seat}

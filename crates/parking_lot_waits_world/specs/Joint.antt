@@ -10,17 +10,17 @@ use Rattle.parking_lot_condvar_world.specs.Machines as var
 use Rattle.parking_lot_condvar_world.specs.Machines.{State as Var}
 use Rattle.parking_lot_condvar_world.specs.Outsides.{can_be_told}
 use Rattle.parking_lot_condvar_world.specs.Turns as var_turns
-use Rattle.parking_lot_world.specs.declared.calls.OwnMode.{OwnMode}
-use Rattle.parking_lot_world.specs.declared.open_call.Call.{Call}
-use Rattle.parking_lot_world.specs.declared.seat.Core.{Core}
-use Rattle.parking_lot_world.specs.declared.seat.Core.TheVariants as core
-use Rattle.parking_lot_world.specs.declared.seat.LatePhase.TheVariants as late
-use Rattle.parking_lot_world.specs.Beginnings.{excludes}
-use Rattle.parking_lot_world.specs.LateActs.{late_rw_comes}
+use Rattle.parking_lot_world_calls.specs.declared.calls.OwnMode.{OwnMode}
+use Rattle.parking_lot_world_calls.specs.declared.open_call.Call.{Call}
+use Rattle.parking_lot_world_calls.specs.declared.seat.Core.{Core}
+use Rattle.parking_lot_world_calls.specs.declared.seat.Core.TheVariants as core
+use Rattle.parking_lot_world_calls.specs.declared.seat.LatePhase.TheVariants as late
+use Rattle.parking_lot_world_calls.specs.Beginnings.{excludes}
+use Rattle.parking_lot_world_calls.specs.LateCalls.{late_rw_comes}
 use Rattle.parking_lot_world.specs.Machines as rows
 use Rattle.parking_lot_world.specs.Rows.{Rows, State, state}
 use Rattle.parking_lot_world.specs.Rows as row
-use Rattle.parking_lot_world.specs.Stances.{core_act}
+use Rattle.parking_lot_world_calls.specs.Stances.{core_act}
 use Rattle.parking_lot_world.specs.Worlds.{mode_in}
 use Rattle.parking_lot_waits_world.specs.declared.seat.Seat.{Seat}
 

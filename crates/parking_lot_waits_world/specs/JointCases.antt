@@ -6,9 +6,10 @@ use Rattle.parking_lot_condvar_world.specs.declared.calls.CondvarCall.{CondvarCa
 use Rattle.parking_lot_condvar_world.specs.declared.open_call.OpenCall.{OpenCall}
 use Rattle.parking_lot_condvar_world.specs.Machines.{State as Var, variable}
 use Rattle.parking_lot_condvar_world.specs.Steps.{Runs}
-use Rattle.parking_lot_world.specs.declared.calls.LockCall.{LockCall}
+use Rattle.parking_lot_world_calls.specs.declared.calls.LockCall.{LockCall}
 use Rattle.parking_lot_world.specs.Requeues.{pull_run, requeue_run}
-use Rattle.parking_lot_world.specs.Rows.{State, hold_at, lock_at, mutex_at, owns_mutex, state}
+use Rattle.parking_lot_world.specs.Rows.{State, hold_at, lock_at, mutex_at, state}
+use Rattle.parking_lot_world_calls.specs.CallRoles.{owns_mutex}
 use Rattle.parking_lot_world.specs.SoundLaws.{IsStepAt}
 use Rattle.parking_lot_waits_world.specs.declared.ended.Ended.{Ended}
 use Rattle.parking_lot_waits_world.specs.declared.turn.Turn.TheVariants as turn

@@ -3,8 +3,8 @@ use Rattle.std.specs.Prelude.{◌≡◌, ℕ, Bool, true, Option, Some}
 use Rattle.parking_lot_condvar_world.specs.declared.calls.CondvarCall.{CondvarCall}
 use Rattle.parking_lot_condvar_world.specs.declared.calls.CondvarReply.{CondvarReply}
 use Rattle.parking_lot_condvar_world.specs.MachineLaws.{MayReply}
-use Rattle.parking_lot_world.specs.declared.calls.LockCall.{LockCall}
-use Rattle.parking_lot_world.specs.declared.calls.OwnMode.TheVariants as mode
+use Rattle.parking_lot_world_calls.specs.declared.calls.LockCall.{LockCall}
+use Rattle.parking_lot_world_calls.specs.declared.calls.OwnMode.TheVariants as mode
 use Rattle.parking_lot_world.specs.RowFits.{FitsTogether}
 use Rattle.parking_lot_world.specs.Rows.{state}
 use Rattle.parking_lot_waits_world.specs.Joint.{Joint, mode_at, var_at}

@@ -4,8 +4,8 @@ use Rattle.parking_lot_waits.specs.declared.wait_core.WaitPhase.TheVariants as w
 use Rattle.parking_lot_condvar_world.specs.declared.calls.CondvarCall.{CondvarCall}
 use Rattle.parking_lot_condvar_world.specs.declared.open_call.Core.TheVariants as core
 use Rattle.parking_lot_condvar_world.specs.declared.open_call.OpenCall.{OpenCall}
-use Rattle.parking_lot_world.specs.declared.calls.LockCall.{LockCall}
-use Rattle.parking_lot_world.specs.declared.open_call.Call.{Call}
+use Rattle.parking_lot_world_calls.specs.declared.calls.LockCall.{LockCall}
+use Rattle.parking_lot_world_calls.specs.declared.open_call.Call.{Call}
 use Rattle.parking_lot_world.specs.Machines.{is_asleep}
 use Rattle.parking_lot_world.specs.Rows.{call_at as row_call_at, inside, state}
 use Rattle.parking_lot_world.specs.SoundLaws.{SomebodyKeeps}

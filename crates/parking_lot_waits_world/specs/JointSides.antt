@@ -8,7 +8,7 @@ use Rattle.parking_lot_condvar_world.specs.declared.open_call.Core.TheVariants a
 use Rattle.parking_lot_condvar_world.specs.declared.open_call.OpenCall.{OpenCall}
 use Rattle.parking_lot_condvar_world.specs.Turns.{notify_is_inside, wait_is_inside}
 use Rattle.parking_lot_condvar_world.specs.Turns as var_turns
-use Rattle.parking_lot_world.specs.declared.open_call.Call.{Call}
+use Rattle.parking_lot_world_calls.specs.declared.open_call.Call.{Call}
 use Rattle.parking_lot_world.specs.Rows.{call_at as row_call_at, state}
 use Rattle.parking_lot_world.specs.Rows as lists
 use Rattle.parking_lot_world.specs.Worlds as of_locks

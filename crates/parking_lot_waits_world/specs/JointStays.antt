@@ -1,9 +1,9 @@
 -- What a step leaves as it was, for one who has another machine beside this one.
 use Rattle.std.specs.Prelude.{◌≡◌, ◌≢◌, ◌⊎◌, ℕ, Bool, true, false, length, Option, Some, None, slice_get}
 use Rattle.parking_lot_condvar_world.specs.declared.calls.CondvarCall.{CondvarCall}
-use Rattle.parking_lot_world.specs.declared.calls.LockCall.{LockCall}
-use Rattle.parking_lot_world.specs.declared.open_call.Call.{Call}
-use Rattle.parking_lot_world.specs.Kinds.{AsMutex, manner_of}
+use Rattle.parking_lot_world_calls.specs.declared.calls.LockCall.{LockCall}
+use Rattle.parking_lot_world_calls.specs.declared.open_call.Call.{Call}
+use Rattle.parking_lot_world_calls.specs.Kinds.{AsMutex, manner_of}
 use Rattle.parking_lot_world.specs.Rows.{State, call_at as row_call_at, state}
 use Rattle.parking_lot_waits_world.specs.declared.ended.Ended.{Ended}
 use Rattle.parking_lot_waits_world.specs.Joint.{Joint, is_var}

@@ -13,9 +13,9 @@ use Rattle.parking_lot_condvar_world.specs.Machines.{State as Var}
 use Rattle.parking_lot_condvar_world.specs.Fitting.{Fits}
 use Rattle.parking_lot_condvar_world.specs.MachineLaws.{IsSoundMachine}
 use Rattle.parking_lot_condvar_world.specs.Steps as vars
-use Rattle.parking_lot_world.specs.declared.calls.LockCall.{LockCall}
-use Rattle.parking_lot_world.specs.declared.calls.LockCall.TheVariants as call
-use Rattle.parking_lot_world.specs.declared.open_call.Call.{Call}
+use Rattle.parking_lot_world_calls.specs.declared.calls.LockCall.{LockCall}
+use Rattle.parking_lot_world_calls.specs.declared.calls.LockCall.TheVariants as call
+use Rattle.parking_lot_world_calls.specs.declared.open_call.Call.{Call}
 use Rattle.parking_lot_world.specs.Machines as rows
 use Rattle.parking_lot_world.specs.Rows.{State, call_at as row_call_at, state, word_at}
 use Rattle.parking_lot_waits_world.specs.declared.ended.Ended.{Ended}

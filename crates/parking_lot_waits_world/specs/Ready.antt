@@ -4,7 +4,7 @@ use Rattle.std.specs.List.{list_all}
 use Rattle.std.specs.Option.{option_map_or}
 use Rattle.parking_lot_condvar_world.specs.declared.open_call.OpenCall.{OpenCall}
 use Rattle.parking_lot_condvar_world.specs.Machines.{State as Var}
-use Rattle.parking_lot_world.specs.declared.calls.LockCall.TheVariants as call
+use Rattle.parking_lot_world_calls.specs.declared.calls.LockCall.TheVariants as call
 use Rattle.parking_lot_world.specs.Machines as rows
 use Rattle.parking_lot_world.specs.Requeues.{may_rouse_in}
 use Rattle.parking_lot_world.specs.Rows.{call_at as row_call_at, state}

@@ -12,8 +12,8 @@ use Rattle.parking_lot_condvar_world.specs.declared.open_call.Core.TheVariants a
 use Rattle.parking_lot_condvar_world.specs.declared.outside.Outside.{Outside}
 use Rattle.parking_lot_condvar_world.specs.declared.outside.Outside.TheVariants as outside
 use Rattle.parking_lot_condvar_world.specs.declared.open_call.OpenCall.{OpenCall}
-use Rattle.parking_lot_world.specs.declared.seat.Core.{Core as RowCore}
-use Rattle.parking_lot_world.specs.declared.seat.Core.TheVariants as row_core
+use Rattle.parking_lot_world_calls.specs.declared.seat.Core.{Core as RowCore}
+use Rattle.parking_lot_world_calls.specs.declared.seat.Core.TheVariants as row_core
 use Rattle.parking_lot_waits_world.specs.declared.turn.Turn.{Turn}
 use Rattle.parking_lot_waits_world.specs.declared.turn.Turn.TheVariants as turn
 

@@ -1,6 +1,6 @@
 //! The parts of which steps consist.
 ghost use Rattle.std.specs.Prelude.{◌≡◌, ◌<◌, length, slice_set, Some, true};
-ghost use Rattle.parking_lot_world.specs.declared.calls.LockCall.TheVariants as call;
+ghost use Rattle.parking_lot_world_calls.specs.declared.calls.LockCall.TheVariants as call;
 ghost use Rattle.parking_lot_world.specs.Machines as rows;
 ghost use Rattle.parking_lot_world.specs.Rows.{state};
 ghost use Rattle.parking_lot_world.specs.Rows as row;

@@ -1,7 +1,7 @@
 //! The steps.
 ghost use Rattle.std.specs.Prelude.{◌≡◌, ◌<◌, length, slice_set, None, Some, true};
 ghost use Rattle.parking_lot_condvar_world.specs.declared.outside.Outside.TheVariants.{Made};
-ghost use Rattle.parking_lot_world.specs.declared.calls.LockCall.TheVariants as lock_call;
+ghost use Rattle.parking_lot_world_calls.specs.declared.calls.LockCall.TheVariants as lock_call;
 ghost use Rattle.parking_lot_world.specs.Machines as rows;
 ghost use Rattle.parking_lot_world.specs.Rows.{state};
 ghost use Rattle.parking_lot_world.specs.Rows as row;

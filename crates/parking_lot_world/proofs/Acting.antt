@@ -14,17 +14,19 @@ use Rattle.parking_lot_protocol.specs.declared.act.Act.{Act}
 use Rattle.parking_lot_protocol.specs.declared.act.SectionAct.TheVariants as section
 use Rattle.parking_lot_protocol.specs.declared.act.ActResult.{ActResult}
 use Rattle.parking_lot_protocol.specs.Acts.{Gives, word_after}
-use Rattle.parking_lot_world.specs.declared.seat.QueuePosition.TheVariants as spot
-use Rattle.parking_lot_world.specs.declared.seat.Core.{Core}
-use Rattle.parking_lot_world.specs.declared.open_call.Call.{Call}
+use Rattle.parking_lot_world_calls.specs.declared.seat.QueuePosition.TheVariants as spot
+use Rattle.parking_lot_world_calls.specs.declared.seat.Core.{Core}
+use Rattle.parking_lot_world_calls.specs.declared.open_call.Call.{Call}
 use Rattle.parking_lot_world.specs.Rows.{State, word_at, call_at, inside}
-use Rattle.parking_lot_world.specs.Stances.{Doing, Stance, Out, In, Joined, Joins, TurnsBack, Takes, Asleep, stance, taken_count, core_act, core_next}
-use Rattle.parking_lot_world.specs.StanceLaws.{StaysOut, LeavesFor}
-use Rattle.parking_lot_world.specs.RowActs.{with_call, with_word, hears, loaded, exchanged, added, spun, entered, checked, left}
-use Rattle.parking_lot_world.specs.RowFits.{FitsTogether, LotFits, IsOfKind}
+use Rattle.parking_lot_world_calls.specs.Stances.{Doing, Stance, Out, In, Joined, Joins, TurnsBack, Takes, Asleep, stance, taken_count, core_act, core_next}
+use Rattle.parking_lot_world_calls.specs.StanceLaws.{StaysOut, LeavesFor}
+use Rattle.parking_lot_world.specs.RowActs.{with_call, with_word, loaded, exchanged, added, spun, entered, checked, left}
+use Rattle.parking_lot_world_calls.specs.CallActs.{hears}
+use Rattle.parking_lot_world.specs.RowFits.{FitsTogether, LotFits}
+use Rattle.parking_lot_world_calls.specs.CallKinds.{IsOfKind}
 use Rattle.parking_lot_world.specs.ActLaws.{ActsAreSteps, Acts, Keeps}
 use Rattle.parking_lot_world.proofs.KindTable.{within_kinds}
-use Rattle.parking_lot_world.proofs.Stancing.{leads_by}
+use Rattle.parking_lot_world_calls.proofs.Stancing.{leads_by}
 use Rattle.parking_lot_world.proofs.LotActs.{stays_out, same_parts, seat_of, entered_fits, checked_fits, left_fits}
 use Rattle.parking_lot_world.proofs.OwnMoves.{AfterAct, IsOwnAct}
 use Rattle.parking_lot_world.proofs.Owning.{OwnAct}

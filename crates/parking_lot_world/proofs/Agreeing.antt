@@ -12,13 +12,13 @@ use Rattle.parking_lot_rules.proofs.Totals.{total-at}
 use Rattle.parking_lot_rules.proofs.Mutexes as mutexes
 use Rattle.parking_lot_rules.proofs.Following.{owners_exclude}
 use Rattle.parking_lot_rules.proofs.MutexFollowing.{mutex_tells}
-use Rattle.parking_lot_world.specs.declared.calls.OwnMode.{OwnMode}
-use Rattle.parking_lot_world.specs.CallViews.{Weighs, mutex_mode, owning_of, rw_mode}
+use Rattle.parking_lot_world_calls.specs.declared.calls.OwnMode.{OwnMode}
+use Rattle.parking_lot_world_calls.specs.CallViews.{Weighs, mutex_mode, owning_of, rw_mode}
 use Rattle.parking_lot_world.specs.RowFits.{FitsTogether}
 use Rattle.parking_lot_world.specs.Rows.{State, lock_at}
 use Rattle.parking_lot_world.specs.SoundLaws.{OwnersAgree, agrees}
 use Rattle.parking_lot_world.specs.Worlds.{mode_in}
-use Rattle.parking_lot_world.proofs.Weighing.{weighed}
+use Rattle.parking_lot_world_calls.proofs.Weighing.{weighed}
 
 -- what the weights of two owners allow
 by_weights : (a b : OwnMode) (r x p w r' x' p' w' : ℕ) → Weighs r x p w (Some a) → Weighs r' x' p' w' (Some b)

@@ -14,23 +14,23 @@ use Rattle.parking_lot_rules.specs.Classes.{bit}
 use Rattle.parking_lot_upgrades.specs.declared.upgrade_phase.UpgradePhase.{UpgradePhase}
 use Rattle.parking_lot_world.specs.Ranks.{upgrade_steps, late_rw_steps, sleeper_steps, quits_steps}
 use Rattle.parking_lot_world.specs.Rounds.{upgrade_rounds, late_rw_rounds, sleeper_rounds}
-use Rattle.parking_lot_world.specs.Stances.{upgrade_taken, pending_from, sleeper_asleep}
-use Rattle.parking_lot_world.specs.declared.seat.LatePhase.{LatePhase}
-use Rattle.parking_lot_world.specs.declared.seat.Core.{Core}
-use Rattle.parking_lot_world.specs.declared.open_call.Call.{Call}
+use Rattle.parking_lot_world_calls.specs.Stances.{upgrade_taken, pending_from, sleeper_asleep}
+use Rattle.parking_lot_world_calls.specs.declared.seat.LatePhase.{LatePhase}
+use Rattle.parking_lot_world_calls.specs.declared.seat.Core.{Core}
+use Rattle.parking_lot_world_calls.specs.declared.open_call.Call.{Call}
 use Rattle.parking_lot_world.specs.Ranks.{Unseen, comes_after, core_steps, late_steps, far_steps, mutex_asks, mutex_ends, mutex_steps, rw_ends, rw_steps, vain}
 use Rattle.parking_lot_world.specs.Rounds.{FewRounds, mutex_rounds, rw_rounds}
 use Rattle.parking_lot_world.specs.RowFits.{FitsTogether}
 use Rattle.parking_lot_world.specs.Rows.{State, call_at, word_at}
 use Rattle.parking_lot_world.specs.SoundLaws.{StepsAreFew, most_steps}
-use Rattle.parking_lot_world.specs.Stances.{rw_taken, taken_count}
+use Rattle.parking_lot_world_calls.specs.Stances.{rw_taken, taken_count}
 use Rattle.parking_lot_world.proofs.Meeting.{in_range}
 use Rattle.parking_lot_world.proofs.Paying.{IsGood, IsGoodLate, is_good}
 use Rattle.parking_lot_world.proofs.WakesPaying.{none_more}
 use Rattle.parking_lot_world.proofs.Summing.{others_and_one}
-use Rattle.parking_lot_world.specs.declared.late_rw.LateRwPhase.{LateRwPhase}
-use Rattle.parking_lot_world.specs.declared.late_rw.RwSleeper.{RwSleeper}
-use Rattle.parking_lot_world.specs.CallViews.{IsReadySleeper}
+use Rattle.parking_lot_world_calls.specs.declared.late_rw.LateRwPhase.{LateRwPhase}
+use Rattle.parking_lot_world_calls.specs.declared.late_rw.RwSleeper.{RwSleeper}
+use Rattle.parking_lot_world_calls.specs.CallViews.{IsReadySleeper}
 use Rattle.parking_lot_world.proofs.Sleepers.{by_sleeper}
 
 -- the parts of a call that goes on

@@ -5,7 +5,7 @@ use Rattle.std.proofs.lemmas.List.{length-set, length-map}
 use Rattle.std.proofs.lemmas.Option.{none-some, same_Some}
 use Rattle.std.specs.Option.{option_and_then}
 use Rattle.parking_lot_rules.proofs.Indexed.{get-set_same, get-set_other}
-use Rattle.parking_lot_world.specs.declared.open_call.Call.{Call}
+use Rattle.parking_lot_world_calls.specs.declared.open_call.Call.{Call}
 use Rattle.parking_lot_world.specs.Rows.{State, hold_at, hold_in}
 
 abbrev pub call_of : List (Option Call) → ℕ → Option Call

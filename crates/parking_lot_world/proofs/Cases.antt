@@ -6,7 +6,7 @@ use Rattle.parking_lot_rules.specs.MutexOwners as mutex_owners
 use Rattle.parking_lot_rules.specs.Owners as rw_owners
 use Rattle.parking_lot_rules.proofs.Casing.{step_case}
 use Rattle.parking_lot_rules.proofs.MutexCasing.{steps_are_cases}
-use Rattle.parking_lot_world.specs.Kinds.{recursive_in}
+use Rattle.parking_lot_world_calls.specs.Kinds.{recursive_in}
 use Rattle.parking_lot_world.specs.RowFits.{FitsTogether}
 use Rattle.parking_lot_world.specs.Rows.{State, lock_at}
 use Rattle.parking_lot_world.specs.RowSteps.{IsMade, IsQuiet, IsFound}

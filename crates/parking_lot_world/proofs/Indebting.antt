@@ -17,23 +17,23 @@ use Rattle.parking_lot_rules.proofs.Families.{total-none}
 use Rattle.parking_lot_rules.proofs.Mutexes as mutexes
 use Rattle.parking_lot_rules.proofs.Paying as rw_pays
 use Rattle.parking_lot_rules.proofs.MutexPaying as mutex_pays
-use Rattle.parking_lot_world.specs.Kinds.{Manner, AsRw, AsMutex, manner_of}
-use Rattle.parking_lot_world.specs.declared.calls.OwnMode.{OwnMode}
-use Rattle.parking_lot_world.specs.declared.open_call.Call.{Call}
-use Rattle.parking_lot_world.specs.CallViews.{Weighs, call_looks, mutex_mode, mutex_mode_if, owning_of, rw_mode}
+use Rattle.parking_lot_world_calls.specs.Kinds.{Manner, AsRw, AsMutex, manner_of}
+use Rattle.parking_lot_world_calls.specs.declared.calls.OwnMode.{OwnMode}
+use Rattle.parking_lot_world_calls.specs.declared.open_call.Call.{Call}
+use Rattle.parking_lot_world_calls.specs.CallViews.{Weighs, call_looks, mutex_mode, mutex_mode_if, owning_of, rw_mode}
 use Rattle.parking_lot_world.specs.Machines.{can_move_in, goes_late, is_taken, sleeps}
 use Rattle.parking_lot_world.specs.RowFits.{FitsTogether}
 use Rattle.parking_lot_world.specs.Rows.{State, lock_as, call_at, first_key, hold_at, lock_at, mutex_at, queue_at, rw_lock_at, second_key, taken_by}
 use Rattle.parking_lot_world.specs.SoundLaws.{AwakeCanMove, DebtsAreKept, IsApart, NoReaders, OnlyReaders, SomebodyIsInDebt}
-use Rattle.parking_lot_world.specs.Stances.{core_act}
+use Rattle.parking_lot_world_calls.specs.Stances.{core_act}
 use Rattle.parking_lot_world.specs.Worlds.{in_debt_at, mode_in}
 use Rattle.parking_lot_world.proofs.Agreeing.{role_weighs}
 use Rattle.parking_lot_world.proofs.Everybody.{get-all, within-all}
 use Rattle.parking_lot_world.proofs.Serving.{by_call, or_else, possible_alone}
 use Rattle.parking_lot_world.proofs.Viewing.{apart_role}
 use Rattle.parking_lot_world.proofs.KindTable.{Kind, of_mutexes, of_rws, role_at, roles_at}
-use Rattle.parking_lot_world.specs.declared.seat.Hold.{Hold}
-use Rattle.parking_lot_world.proofs.Weighing.{weighed}
+use Rattle.parking_lot_world_calls.specs.declared.seat.Hold.{Hold}
+use Rattle.parking_lot_world_calls.proofs.Weighing.{weighed}
 
 -- of an owner by shared holds alone, or of none, no other class weighs; and of one that doesn't read no class of readers
 keeps_nobody_out : (o : Option OwnMode) (r x p w : ℕ) → ((a : OwnMode) → o ≡ Some a → a ≡ OwnMode.Shared) → Weighs r x p w o → x + p + w ≡ 0

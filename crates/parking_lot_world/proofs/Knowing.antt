@@ -7,12 +7,12 @@ use Rattle.parking_lot_protocol.specs.declared.act.SectionAct.TheVariants as sec
 use Rattle.parking_lot_protocol.specs.declared.act.ActResult.{ActResult}
 use Rattle.parking_lot_protocol.specs.declared.mutex_phase.MutexPhase.{MutexPhase}
 use Rattle.parking_lot_protocol.specs.Acts.{Gives}
-use Rattle.parking_lot_world.specs.declared.seat.Core.{Core}
-use Rattle.parking_lot_world.specs.Stances.{Looks, TurnsBack, Joins, Joined, Takes, Stores, Tells, Stance, Out, In, Asleep, mutex_stance, stance, core_act, core_next}
-use Rattle.parking_lot_world.specs.StanceLaws.{Leads}
+use Rattle.parking_lot_world_calls.specs.declared.seat.Core.{Core}
+use Rattle.parking_lot_world_calls.specs.Stances.{Looks, TurnsBack, Joins, Joined, Takes, Stores, Tells, Stance, Out, In, Asleep, mutex_stance, stance, core_act, core_next}
+use Rattle.parking_lot_world_calls.specs.StanceLaws.{Leads}
 use Rattle.parking_lot_world.specs.RowFits.{mutex_knows}
 use Rattle.parking_lot_world.proofs.OwnMoves.{IsOwnAct}
-use Rattle.parking_lot_world.proofs.Stancing.{leads_by}
+use Rattle.parking_lot_world_calls.proofs.Stancing.{leads_by}
 
 -- it isn't about to store
 abbrev pub StoresNone : Stance → Type 0

@@ -18,24 +18,27 @@ use Rattle.parking_lot_protocol.specs.declared.act.SectionAct.TheVariants as sec
 use Rattle.parking_lot_protocol.specs.declared.act.ActResult.TheVariants as seen
 use Rattle.parking_lot_protocol.specs.declared.act.ActResult.{ActResult}
 use Rattle.parking_lot_protocol.specs.declared.mutex_phase.MutexPhase.{MutexPhase}
-use Rattle.parking_lot_world.specs.declared.late_rw.LateRwPhase.{LateRwPhase}
-use Rattle.parking_lot_world.specs.declared.late_rw.RwSleeper.{RwSleeper}
-use Rattle.parking_lot_world.specs.declared.seat.LatePhase.{LatePhase}
-use Rattle.parking_lot_world.specs.declared.seat.Core.{Core}
-use Rattle.parking_lot_world.specs.declared.seat.QueuePosition.{QueuePosition}
-use Rattle.parking_lot_world.specs.declared.open_call.Call.{Call}
+use Rattle.parking_lot_world_calls.specs.declared.late_rw.LateRwPhase.{LateRwPhase}
+use Rattle.parking_lot_world_calls.specs.declared.late_rw.RwSleeper.{RwSleeper}
+use Rattle.parking_lot_world_calls.specs.declared.seat.LatePhase.{LatePhase}
+use Rattle.parking_lot_world_calls.specs.declared.seat.Core.{Core}
+use Rattle.parking_lot_world_calls.specs.declared.seat.QueuePosition.{QueuePosition}
+use Rattle.parking_lot_world_calls.specs.declared.open_call.Call.{Call}
 use Rattle.parking_lot_world.specs.ActLaws.{Acts}
-use Rattle.parking_lot_world.specs.Kinds.{AsMutex, manner_of, recursive_in, AsRw}
-use Rattle.parking_lot_world.specs.LateActs.{comes_late, expired, is_back, is_pending, is_sleeping, late_comes, late_of, late_rw_comes, others_left, quitted, returned, sleeps_in_time, found, found_as, is_handed}
+use Rattle.parking_lot_world_calls.specs.Kinds.{AsMutex, manner_of, recursive_in, AsRw}
+use Rattle.parking_lot_world.specs.LateActs.{expired, others_left, quitted, returned, found}
+use Rattle.parking_lot_world_calls.specs.LateCalls.{comes_late, is_back, is_pending, is_sleeping, late_comes, late_of, late_rw_comes, sleeps_in_time, found_as, is_handed}
 use Rattle.parking_lot_world.specs.LateLaws.{Expires, LateActsAreSteps, expire_step}
-use Rattle.parking_lot_world.specs.LateRoles.{expiring as expiring_step, expiring_taken}
-use Rattle.parking_lot_world.specs.LateRoles.{late_rw_role, reentering, sleeper_role, sleeper_wants}
+use Rattle.parking_lot_world_calls.specs.LateRoles.{expiring as expiring_step, expiring_taken}
+use Rattle.parking_lot_world_calls.specs.LateRoles.{late_rw_role, reentering, sleeper_role, sleeper_wants}
 use Rattle.parking_lot_world.specs.Ranks.{Pays, Unseen, core_steps, far_steps, late_cost, own_steps, steps_left, view_of}
-use Rattle.parking_lot_world.specs.RowActs.{hears}
-use Rattle.parking_lot_world.specs.RowFits.{FitsTogether, IsOfKind, IsPrepared, LotFits, RulesFit, sleeper_prepared}
+use Rattle.parking_lot_world_calls.specs.CallActs.{hears}
+use Rattle.parking_lot_world.specs.RowFits.{FitsTogether, IsPrepared, LotFits, RulesFit, sleeper_prepared}
+use Rattle.parking_lot_world_calls.specs.CallKinds.{IsOfKind}
 use Rattle.parking_lot_world.specs.RowSteps.{IsMade, IsMoveOf}
-use Rattle.parking_lot_world.specs.Rows.{State, call_at, first_of_all, inside, late_role, mutex_at, mutex_spot, queue_at, rw_lock_at, rw_spot, taken_by, word_at, mark_of}
-use Rattle.parking_lot_world.specs.Stances.{Asleep, In, Joined, Takes, core_next, pending_from, sleeper_asleep, stance}
+use Rattle.parking_lot_world.specs.Rows.{State, call_at, inside, mutex_at, queue_at, rw_lock_at, taken_by, word_at}
+use Rattle.parking_lot_world_calls.specs.CallRoles.{first_of_all, late_role, mutex_spot, rw_spot, mark_of}
+use Rattle.parking_lot_world_calls.specs.Stances.{Asleep, In, Joined, Takes, core_next, pending_from, sleeper_asleep, stance}
 use Rattle.parking_lot_world.proofs.Calling.{call_of, call-elsewhere, calls-change, call-here, slot}
 use Rattle.parking_lot_world.proofs.KindTable.{Kind, Tardy, as_call, of_mutexes, of_rws, roles_at, rw_call, same, shown, Elsewhere, IsThere, one_changed, role_at, role_now, role_stays}
 use Rattle.parking_lot_world.proofs.KindTable.{Late as CallLate}
@@ -54,7 +57,7 @@ use Rattle.parking_lot_world.proofs.Ruling.{CallFits, Fitted, call_fits, rules_a
 use Rattle.parking_lot_world.proofs.Summing.{others_change, others_same}
 use Rattle.parking_lot_world.proofs.WakesActs.{wakes_still}
 use Rattle.parking_lot_world.proofs.WakesKept.{wakes_own}
-use Rattle.parking_lot_world.specs.declared.seat.WakeResult.{WakeResult}
+use Rattle.parking_lot_world_calls.specs.declared.seat.WakeResult.{WakeResult}
 use Rattle.parking_lot_world.proofs.Carrying.{same_call}
 use Rattle.parking_lot_world.proofs.LateTaken.{finds}
 use Rattle.parking_lot_world.proofs.LateQuits.{lapse_made, quits}

@@ -14,22 +14,23 @@ use Rattle.parking_lot_core_lot.specs.Sound.{Sound}
 use Rattle.parking_lot_core_lot.specs.declared.parking.UnparkToken.{UnparkToken}
 use Rattle.parking_lot_core_lot.proofs.Sequences.{sound_after_all, sound_returned}
 use Rattle.parking_lot_core_lot.specs.Places.{has_joined, has_slept, may_return, may_store, place_at}
-use Rattle.parking_lot_world.specs.declared.seat.QueuePosition.{QueuePosition}
-use Rattle.parking_lot_world.specs.declared.open_call.Call.{Call}
+use Rattle.parking_lot_world_calls.specs.declared.seat.QueuePosition.{QueuePosition}
+use Rattle.parking_lot_world_calls.specs.declared.open_call.Call.{Call}
 use Rattle.parking_lot_world.specs.Rows.{State, call_at, is_for}
 use Rattle.parking_lot_rules.specs.Classes.{bit}
-use Rattle.parking_lot_world.specs.Kinds.{recursive_in}
+use Rattle.parking_lot_world_calls.specs.Kinds.{recursive_in}
 use Rattle.parking_lot_world.specs.RowFits.{FitsTogether, IsAt, WaitsIn}
-use Rattle.parking_lot_world.specs.LateActs.{comes_late, is_back, is_pending, late_key, out_of_list, quitted_as, found}
-use Rattle.parking_lot_world.specs.Stances.{Asleep, In, Joined, sign}
+use Rattle.parking_lot_world.specs.LateActs.{out_of_list, quitted_as, found}
+use Rattle.parking_lot_world_calls.specs.LateCalls.{comes_late, is_back, is_pending, late_key}
+use Rattle.parking_lot_world_calls.specs.Stances.{Asleep, In, Joined, sign}
 use Rattle.parking_lot_world.proofs.LateKinds.{backs, comes}
 use Rattle.parking_lot_world.proofs.LotActs.{seat_of}
 use Rattle.parking_lot_world.proofs.LotCalls.{may_step, own_section}
-use Rattle.parking_lot_world.specs.RowActs.{told_of}
-use Rattle.parking_lot_world.specs.declared.seat.WakeResult.{WakeResult}
+use Rattle.parking_lot_world_calls.specs.CallActs.{told_of}
+use Rattle.parking_lot_world_calls.specs.declared.seat.WakeResult.{WakeResult}
 use Rattle.parking_lot_world.proofs.LateFinds.{told_there, owing}
 use Rattle.std.specs.List.{position_or_len}
-use Rattle.parking_lot_world.specs.declared.seat.Wakeup.{Wakeup}
+use Rattle.parking_lot_world_calls.specs.declared.seat.Wakeup.{Wakeup}
 
 -- what isn't refused is done
 pub unless_none : {T : Type 0} (f : Option LotFault) (result : Result T LotFault) (old new : Machine) (Done : Type 0) → f ≡ None → Unless f result old new Done → Done

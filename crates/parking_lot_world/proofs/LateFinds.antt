@@ -16,19 +16,20 @@ use Rattle.parking_lot_core_lot.specs.Places.{place_at, mark_of}
 use Rattle.parking_lot_core_lot.specs.Sound.{Sound}
 use Rattle.parking_lot_core_lot.proofs.Numbers.{flag}
 use Rattle.parking_lot_core_lot.proofs.Sounds.{none≢some, by_eqb, place_at-set_same, place_at-set_other}
-use Rattle.parking_lot_world.specs.declared.seat.WakeResult.{WakeResult}
-use Rattle.parking_lot_world.specs.declared.seat.QueuePosition.{QueuePosition}
-use Rattle.parking_lot_world.specs.declared.open_call.Call.{Call}
-use Rattle.parking_lot_world.specs.declared.seat.Wakeup.{Wakeup}
+use Rattle.parking_lot_world_calls.specs.declared.seat.WakeResult.{WakeResult}
+use Rattle.parking_lot_world_calls.specs.declared.seat.QueuePosition.{QueuePosition}
+use Rattle.parking_lot_world_calls.specs.declared.open_call.Call.{Call}
+use Rattle.parking_lot_world_calls.specs.declared.seat.Wakeup.{Wakeup}
 use Rattle.parking_lot_world.specs.Rows.{State, call_at, is_for, taken_by}
-use Rattle.parking_lot_world.specs.Stances.{Doing, In, Out, Asleep, Tells, Stance, sign, stance, taken_count}
+use Rattle.parking_lot_world_calls.specs.Stances.{Doing, In, Out, Asleep, Tells, Stance, sign, stance, taken_count}
 use Rattle.parking_lot_world.specs.LateActs.{unowed}
-use Rattle.parking_lot_world.specs.RowActs.{told_of, with_call, with_lot}
+use Rattle.parking_lot_world.specs.RowActs.{with_call, with_lot}
+use Rattle.parking_lot_world_calls.specs.CallActs.{told_of}
 use Rattle.parking_lot_world.specs.RowFits.{Awaits, IsAt, IsCounted, IsInside, IsOwed, IsTaken, LotFits, Seated, WakesSome}
 use Rattle.parking_lot_world.proofs.Carrying.{Tallied, call_within, dropped, no_length, same_call, tallied}
 use Rattle.parking_lot_world.proofs.Indexing.{apart_before, get_remove, kept_remove, not_removed}
 use Rattle.parking_lot_world.proofs.LotActs.{changed_here, changed_there, lies_still, outside_of, same_length, same_section, seat_of, seated_apart, seats_one, sits}
-use Rattle.parking_lot_world.proofs.Stancing.{sleepers_wake}
+use Rattle.parking_lot_world_calls.proofs.Stancing.{sleepers_wake}
 
 asleep_in : {k j : ℕ} {how : Doing} {token : ParkToken} → Asleep j token ≡ In k how → ⊥
 asleep_in e = cc

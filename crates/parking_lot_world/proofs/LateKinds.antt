@@ -4,8 +4,7 @@ use Rattle.parking_lot_core_lot.specs.declared.parking.ParkToken.{ParkToken}
 use Rattle.parking_lot_core_lot.specs.declared.place.Waiter.{Waiter}
 use Rattle.parking_lot_rules.specs.Classes.{bit}
 use Rattle.parking_lot_rules.specs.Plain.{from, to}
-use Rattle.parking_lot_rules.specs.Owners.{owner_of}
-use Rattle.parking_lot_rules.specs.Roles.{Back, Handed, Late, Normal, Open, Owned, Phase, Queued1, Queued2, Role, Stay, Taken1, Taken2, Mark}
+use Rattle.parking_lot_rules.specs.Roles.{Back, Late, Mark}
 use Rattle.parking_lot_rules.specs.Steps.{listing_from, listing_to}
 use Rattle.parking_lot_protocol.specs.RwRules as of_rw
 use Rattle.parking_lot_protocol.specs.declared.act.Act.{Act}
@@ -13,18 +12,19 @@ use Rattle.parking_lot_protocol.specs.declared.act.ActResult.TheVariants as seen
 use Rattle.parking_lot_protocol.specs.declared.act.SectionAct.TheVariants as section
 use Rattle.parking_lot_protocol.specs.declared.mutex_phase.MutexPhase.{MutexPhase}
 use Rattle.parking_lot_protocol.specs.declared.rw_phase.LockMode.{LockMode}
-use Rattle.parking_lot_world.specs.CallViews.{mode_of, rw_mode, IsReadySleeper}
-use Rattle.parking_lot_world.specs.Kinds.{Manner}
-use Rattle.parking_lot_world.specs.LateActs.{comes_late, is_back, is_pending, is_sleeping, late_of, sleeps_in_time, found_as}
-use Rattle.parking_lot_world.specs.LateRoles.{expires_as, late_rw_role, quitting_as, reenters_as, sleeper_role, sleeper_wants, staying, stays, expires_taken_as, finds_as}
+use Rattle.parking_lot_world_calls.specs.CallViews.{IsReadySleeper}
+use Rattle.parking_lot_world_calls.specs.Kinds.{Manner}
+use Rattle.parking_lot_world_calls.specs.LateCalls.{comes_late, is_back, is_pending, is_sleeping, late_of, sleeps_in_time, found_as}
+use Rattle.parking_lot_world_calls.specs.LateRoles.{expires_as, late_rw_role, quitting_as, reenters_as, sleeper_role, sleeper_wants, stays, expires_taken_as, finds_as}
 use Rattle.parking_lot_world.specs.Ranks.{View, core_steps, late_cost, late_rw_steps, quits_steps, sleeper_steps}
 use Rattle.parking_lot_world.specs.Rounds.{rounds}
-use Rattle.parking_lot_world.specs.RowFits.{IsOfManner, IsPrepared, KnowsList, late_rw_prepared, sleeper_prepared}
-use Rattle.parking_lot_world.specs.Stances.{Asleep, In, Joined, Stores, Takes, Tells, back_as, core_act, core_next, has_begun, late_rw_act, late_rw_stance, sign, lying, pending_from, quits_as, sleeper_asleep, stance, taken_count}
-use Rattle.parking_lot_world.specs.declared.late_rw.LateRwPhase.{LateRwPhase}
-use Rattle.parking_lot_world.specs.declared.late_rw.RwSleeper.{RwSleeper}
-use Rattle.parking_lot_world.specs.declared.seat.Core.{Core}
-use Rattle.parking_lot_world.specs.declared.seat.LatePhase.{LatePhase}
+use Rattle.parking_lot_world.specs.RowFits.{IsPrepared, KnowsList, late_rw_prepared, sleeper_prepared}
+use Rattle.parking_lot_world_calls.specs.CallKinds.{IsOfManner}
+use Rattle.parking_lot_world_calls.specs.Stances.{Asleep, In, Joined, Stores, Takes, Tells, back_as, core_act, core_next, has_begun, late_rw_act, late_rw_stance, sign, lying, pending_from, quits_as, sleeper_asleep, stance, taken_count}
+use Rattle.parking_lot_world_calls.specs.declared.late_rw.LateRwPhase.{LateRwPhase}
+use Rattle.parking_lot_world_calls.specs.declared.late_rw.RwSleeper.{RwSleeper}
+use Rattle.parking_lot_world_calls.specs.declared.seat.Core.{Core}
+use Rattle.parking_lot_world_calls.specs.declared.seat.LatePhase.{LatePhase}
 use Rattle.parking_lot_world.proofs.KindTable.{as_call, rw_call}
 use Rattle.parking_lot_world.proofs.Sleepers.{by_sleeper, ready_sleeper, seeking, sleeps_there, takes_nobody, wanting, no_hold}
 
@@ -208,19 +208,6 @@ seeks_quit : (us : List ℕ) (want : LockMode) (left : Bool) (i : ℕ)
     → (stays Back (sleeper_role 0 of_rw.Listed us (seeking want)) ≡ listing_from (quitting_as None (sleeper_wants (seeking want)) left i)) × ((at : of_rw.QueuePosition) → late_rw_role 0 at us (quits_as None left) ≡ listing_to (quitting_as None (sleeper_wants (seeking want)) left i))
 seeks_quit us want true i = (refl, λ at. refl)
 seeks_quit us want false i = (refl, λ at. refl)
-
--- it owns what it did, however far it has come
-pub mode_stays : (stay : Stay) (r : Role) → rw_mode (stays stay r) ≡ rw_mode r
-mode_stays stay r = go r.owns r.does
-  where
-    go : (o : Owned) (p : Phase) → mode_of (owner_of o (staying stay p)) ≡ mode_of (owner_of o p)
-    go o (Queued1 mode old) = refl
-    go o (Taken1 mode by Handed old) = refl
-    go o (Taken1 mode by Open old) = refl
-    go o (Taken1 mode by Normal old) = refl
-    go o (Queued2 was old) = refl
-    go o (Taken2 was by old) = refl
-    go o p = refl
 
 pub sleeper_plays : (recursive : Bool) (n : ℕ) (us : List ℕ) (k : RwSleeper) → sleeper_asleep k ≡ true → sleeper_prepared recursive n k → Plays n us k
 sleeper_plays recursive n us k e h =

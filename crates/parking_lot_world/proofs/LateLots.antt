@@ -17,13 +17,14 @@ use Rattle.parking_lot_core_lot.proofs.Kept.{updated_at, updated_other}
 use Rattle.parking_lot_core_lot.proofs.Numbers.{count_by-at}
 use Rattle.parking_lot_core_lot.proofs.Sequences.{sound_returned}
 use Rattle.parking_lot_core_lot.proofs.Sounds.{none≢some, by_eqb}
-use Rattle.parking_lot_world.specs.declared.seat.WakeResult.{WakeResult}
-use Rattle.parking_lot_world.specs.declared.seat.QueuePosition.{QueuePosition}
-use Rattle.parking_lot_world.specs.declared.open_call.Call.{Call}
-use Rattle.parking_lot_world.specs.declared.seat.Wakeup.{Wakeup}
+use Rattle.parking_lot_world_calls.specs.declared.seat.WakeResult.{WakeResult}
+use Rattle.parking_lot_world_calls.specs.declared.seat.QueuePosition.{QueuePosition}
+use Rattle.parking_lot_world_calls.specs.declared.open_call.Call.{Call}
+use Rattle.parking_lot_world_calls.specs.declared.seat.Wakeup.{Wakeup}
 use Rattle.parking_lot_world.specs.Rows.{State, call_at, taken_by}
-use Rattle.parking_lot_world.specs.Stances.{Doing, In, Asleep, Joined, stance, taken_count}
-use Rattle.parking_lot_world.specs.RowActs.{key_of, with_call, with_lot}
+use Rattle.parking_lot_world_calls.specs.Stances.{Doing, In, Asleep, Joined, stance, taken_count}
+use Rattle.parking_lot_world.specs.RowActs.{with_call, with_lot}
+use Rattle.parking_lot_world_calls.specs.CallActs.{key_of}
 use Rattle.parking_lot_world.specs.RowFits.{Awaits, IsAt, IsCounted, IsInside, IsOwed, IsTaken, LotFits, Seated, Stands, WaitsIn, WakesSome}
 use Rattle.parking_lot_world.proofs.Indexing.{get_remove}
 use Rattle.parking_lot_world.proofs.Carrying.{same_call, call_within, Carries, Tallied, tallied, no_length}

@@ -27,20 +27,23 @@ use Rattle.parking_lot_protocol.specs.Acts.{word_after}
 use Rattle.parking_lot_protocol.specs.RwRules as of_rw
 use Rattle.parking_lot_protocol.specs.declared.act.ActResult.TheVariants as seen
 use Rattle.parking_lot_protocol.specs.declared.act.ActResult.{ActResult}
-use Rattle.parking_lot_world.specs.declared.late_rw.LateRwPhase.{LateRwPhase}
-use Rattle.parking_lot_world.specs.declared.seat.LatePhase.{LatePhase}
-use Rattle.parking_lot_world.specs.declared.seat.Core.{Core}
-use Rattle.parking_lot_world.specs.declared.seat.QueuePosition.{QueuePosition}
-use Rattle.parking_lot_world.specs.declared.open_call.Call.{Call}
+use Rattle.parking_lot_world_calls.specs.declared.late_rw.LateRwPhase.{LateRwPhase}
+use Rattle.parking_lot_world_calls.specs.declared.seat.LatePhase.{LatePhase}
+use Rattle.parking_lot_world_calls.specs.declared.seat.Core.{Core}
+use Rattle.parking_lot_world_calls.specs.declared.seat.QueuePosition.{QueuePosition}
+use Rattle.parking_lot_world_calls.specs.declared.open_call.Call.{Call}
 use Rattle.parking_lot_world.specs.ActLaws.{Acts}
-use Rattle.parking_lot_world.specs.Kinds.{AsMutex, manner_of, recursive_in}
-use Rattle.parking_lot_world.specs.LateActs.{is_back, is_pending, late_is_back, late_key, late_rw_is_back, others_left, out_of_list, quitted, quitted_as}
-use Rattle.parking_lot_world.specs.LateRoles.{quitting, quitting_as, sleeper_wants}
-use Rattle.parking_lot_world.specs.RowActs.{hears, with_call, with_lot}
-use Rattle.parking_lot_world.specs.RowFits.{FitsTogether, IsOfKind, IsPrepared, LotFits, WaitsIn}
+use Rattle.parking_lot_world_calls.specs.Kinds.{AsMutex, manner_of, recursive_in}
+use Rattle.parking_lot_world.specs.LateActs.{others_left, out_of_list, quitted, quitted_as}
+use Rattle.parking_lot_world_calls.specs.LateCalls.{is_back, is_pending, late_is_back, late_key, late_rw_is_back}
+use Rattle.parking_lot_world_calls.specs.LateRoles.{quitting, quitting_as, sleeper_wants}
+use Rattle.parking_lot_world.specs.RowActs.{with_call, with_lot}
+use Rattle.parking_lot_world_calls.specs.CallActs.{hears}
+use Rattle.parking_lot_world.specs.RowFits.{FitsTogether, IsPrepared, LotFits, WaitsIn}
+use Rattle.parking_lot_world_calls.specs.CallKinds.{IsOfKind}
 use Rattle.parking_lot_world.specs.RowSteps.{IsLateMove, IsMade, IsMoveOf}
 use Rattle.parking_lot_world.specs.Rows.{State, call_at, inside, mutex_at, queue_at, rw_lock_at, taken_by, word_at}
-use Rattle.parking_lot_world.specs.Stances.{In, Joined, Stores, Tells, core_next, pending_from, quits_as, sign, stance}
+use Rattle.parking_lot_world_calls.specs.Stances.{In, Joined, Stores, Tells, core_next, pending_from, quits_as, sign, stance}
 use Rattle.parking_lot_world.proofs.KindTable.{Kind, Tardy, of_mutexes, of_rws, roles_at, same, shown}
 use Rattle.parking_lot_world.proofs.KindTable.{Late as CallLate}
 use Rattle.parking_lot_world.proofs.LateKinds.{IsBack, Quits, backs, quits_so, sleeper_plays}

@@ -7,7 +7,7 @@ use Rattle.parking_lot_rules.specs.Lock.{Lock}
 use Rattle.parking_lot_rules.specs.Plain.{May, to}
 use Rattle.parking_lot_rules.specs.Roles.{Mode, Mark}
 use Rattle.parking_lot_rules.specs.Steps.{Alone, MayList, first_after, second_after}
-use Rattle.parking_lot_world.specs.LateRoles.{expires_as, quitting_as, reenters_as, expires_taken_as, finds_as}
+use Rattle.parking_lot_world_calls.specs.LateRoles.{expires_as, quitting_as, reenters_as, expires_taken_as, finds_as}
 use Rattle.parking_lot_world.specs.RwLaws.{NobodyIs}
 use Rattle.parking_lot_world.proofs.Making.{Crossed}
 use Rattle.parking_lot_world.proofs.RwMoving.{nobody}

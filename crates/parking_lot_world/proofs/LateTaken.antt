@@ -29,23 +29,26 @@ use Rattle.parking_lot_protocol.specs.declared.act.ActResult.TheVariants as seen
 use Rattle.parking_lot_protocol.specs.declared.act.SectionAct.TheVariants as section
 use Rattle.parking_lot_protocol.specs.declared.mutex_phase.MutexPhase.{MutexPhase}
 use Rattle.parking_lot_protocol.specs.Acts.{word_after}
-use Rattle.parking_lot_world.specs.declared.late_rw.LateRwPhase.{LateRwPhase}
-use Rattle.parking_lot_world.specs.declared.late_rw.RwSleeper.{RwSleeper}
-use Rattle.parking_lot_world.specs.declared.seat.LatePhase.{LatePhase}
-use Rattle.parking_lot_world.specs.declared.seat.Core.{Core}
-use Rattle.parking_lot_world.specs.declared.seat.QueuePosition.{QueuePosition}
-use Rattle.parking_lot_world.specs.declared.seat.WakeResult.{WakeResult}
-use Rattle.parking_lot_world.specs.declared.seat.Wakeup.{Wakeup}
-use Rattle.parking_lot_world.specs.declared.open_call.Call.{Call}
+use Rattle.parking_lot_world_calls.specs.declared.late_rw.LateRwPhase.{LateRwPhase}
+use Rattle.parking_lot_world_calls.specs.declared.late_rw.RwSleeper.{RwSleeper}
+use Rattle.parking_lot_world_calls.specs.declared.seat.LatePhase.{LatePhase}
+use Rattle.parking_lot_world_calls.specs.declared.seat.Core.{Core}
+use Rattle.parking_lot_world_calls.specs.declared.seat.QueuePosition.{QueuePosition}
+use Rattle.parking_lot_world_calls.specs.declared.seat.WakeResult.{WakeResult}
+use Rattle.parking_lot_world_calls.specs.declared.seat.Wakeup.{Wakeup}
+use Rattle.parking_lot_world_calls.specs.declared.open_call.Call.{Call}
 use Rattle.parking_lot_world.specs.ActLaws.{Acts}
-use Rattle.parking_lot_world.specs.Kinds.{AsMutex, Manner, manner_of, recursive_in}
-use Rattle.parking_lot_world.specs.LateActs.{comes_late, found, found_as, found_lot, is_handed, is_pending, late_comes, late_rw_comes, unowed}
-use Rattle.parking_lot_world.specs.LateRoles.{finding, finds_as, sleeper_role, sleeper_wants, stays}
-use Rattle.parking_lot_world.specs.RowActs.{key_of, told_of}
-use Rattle.parking_lot_world.specs.RowFits.{FitsTogether, IsOfKind, IsOfManner, IsPrepared, KnowsList, LotFits, PassesFit, RulesFit, WakesFit, is_away, is_off, IsAt}
+use Rattle.parking_lot_world_calls.specs.Kinds.{AsMutex, Manner, manner_of, recursive_in}
+use Rattle.parking_lot_world.specs.LateActs.{found, found_lot, unowed}
+use Rattle.parking_lot_world_calls.specs.LateCalls.{comes_late, found_as, is_handed, is_pending, late_comes, late_rw_comes}
+use Rattle.parking_lot_world_calls.specs.LateRoles.{finding, finds_as, sleeper_role, sleeper_wants, stays}
+use Rattle.parking_lot_world_calls.specs.CallActs.{key_of, told_of}
+use Rattle.parking_lot_world.specs.RowFits.{FitsTogether, IsPrepared, KnowsList, LotFits, PassesFit, RulesFit, WakesFit, is_away, is_off, IsAt}
+use Rattle.parking_lot_world_calls.specs.CallKinds.{IsOfKind, IsOfManner}
 use Rattle.parking_lot_world.specs.RowSteps.{IsMade, IsMoveOf, IsMutexFound, IsRwFound}
-use Rattle.parking_lot_world.specs.Rows.{State, call_at, hold_at, inside, is_for, late_role, mark_of, mutex_at, mutex_spot, queue_at, rw_lock_at, taken_by, word_at}
-use Rattle.parking_lot_world.specs.Stances.{Asleep, In, Stance, Takes, Tells, core_act, has_begun, pending_from, sign, sleeper_asleep, stance, taken_count}
+use Rattle.parking_lot_world.specs.Rows.{State, call_at, hold_at, inside, is_for, mutex_at, queue_at, rw_lock_at, taken_by, word_at}
+use Rattle.parking_lot_world_calls.specs.CallRoles.{late_role, mark_of, mutex_spot}
+use Rattle.parking_lot_world_calls.specs.Stances.{Asleep, In, Stance, Takes, Tells, core_act, has_begun, pending_from, sign, sleeper_asleep, stance, taken_count}
 use Rattle.parking_lot_world.specs.Rounds.{rounds}
 use Rattle.parking_lot_world.proofs.Calling.{call-here, call-elsewhere, calls-change, slot}
 use Rattle.parking_lot_world.proofs.Carrying.{same_call}
@@ -65,7 +68,7 @@ use Rattle.parking_lot_world.proofs.Rousing.{late_wakes, mutex_wakes, others_tak
 use Rattle.parking_lot_world.proofs.Ruling.{CallFits, call_fits, rules_after}
 use Rattle.parking_lot_world.proofs.Owning.{OwnAct, own-elsewhere, own-there, own_after}
 use Rattle.parking_lot_world.proofs.Sleepers.{ready_sleeper, sleeps_there}
-use Rattle.parking_lot_world.specs.Stances as stances
+use Rattle.parking_lot_world_calls.specs.Stances as stances
 use Rattle.parking_lot_world.proofs.RwCalls.{call_role}
 use Rattle.parking_lot_world.proofs.RwPasses.{call_passes}
 use Rattle.parking_lot_world.proofs.TakersOut.{Dropped, drops, takers_out}

@@ -13,7 +13,6 @@ mod NthTaken
 mod Agreeing
 mod Losing
 pub mod Serving
-mod UpgradeViewing
 mod Spinning
 mod Bounding
 mod Queueing
@@ -27,10 +26,6 @@ mod RwScans
 mod RwTells
 mod OwnActs
 mod WakesKept
-mod PhaseStancing
-mod UpgradeStancing
-mod LateStancing
-pub mod Stancing
 mod UpgradeMoving
 mod UpgradeKeeping
 mod UpgradeParts
@@ -79,7 +74,6 @@ mod Resting
 mod Resuming
 mod TellActs
 pub mod RwTelling
-pub mod Weighing
 pub mod Woken
 pub mod Takings
 mod MutexPaying

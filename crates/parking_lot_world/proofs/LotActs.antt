@@ -13,15 +13,16 @@ use Rattle.parking_lot_core_lot.specs.Places.{place_at, mark_of, may_take, may_s
 use Rattle.parking_lot_core_lot.specs.Sound.{Sound}
 use Rattle.parking_lot_core_lot.proofs.Sounds.{none≢some, by_eqb, place_at-map}
 use Rattle.parking_lot_protocol.specs.declared.act.ActResult.{ActResult}
-use Rattle.parking_lot_world.specs.declared.seat.WakeResult.{WakeResult}
-use Rattle.parking_lot_world.specs.declared.seat.QueuePosition.{QueuePosition}
-use Rattle.parking_lot_world.specs.declared.open_call.Call.{Call}
+use Rattle.parking_lot_world_calls.specs.declared.seat.WakeResult.{WakeResult}
+use Rattle.parking_lot_world_calls.specs.declared.seat.QueuePosition.{QueuePosition}
+use Rattle.parking_lot_world_calls.specs.declared.open_call.Call.{Call}
 use Rattle.parking_lot_world.specs.Rows.{State, call_at, word_at, taken_by}
-use Rattle.parking_lot_world.specs.Stances.{Stance, Out, In, Asleep, stance, taken_count, Doing, Looks, TurnsBack, Joins, Joined, Takes, Stores, Tells}
-use Rattle.parking_lot_world.specs.RowActs.{with_call, with_lot, hears, told_of, key_of, joins, entered, checked, took_nobody, left}
+use Rattle.parking_lot_world_calls.specs.Stances.{Stance, Out, In, Asleep, stance, taken_count, Doing, Looks, TurnsBack, Joins, Joined, Takes, Stores, Tells}
+use Rattle.parking_lot_world.specs.RowActs.{with_call, with_lot, entered, checked, took_nobody, left}
+use Rattle.parking_lot_world_calls.specs.CallActs.{hears, told_of, key_of, joins}
 use Rattle.parking_lot_world.specs.RowFits.{IsInside, IsOutside, IsAt, SaidIn, Stands, Seated, LotFits, HasCome, WakesSome}
-use Rattle.parking_lot_world.specs.StanceLaws.{StaysOut, LeavesFor}
-use Rattle.parking_lot_world.proofs.Stancing.{wakes_some}
+use Rattle.parking_lot_world_calls.specs.StanceLaws.{StaysOut, LeavesFor}
+use Rattle.parking_lot_world_calls.proofs.Stancing.{wakes_some}
 use Rattle.parking_lot_world.proofs.Carrying.{call_within, set_here, set_elsewhere, Carries, carries_same, IsAwake, IsUp, carries_awake, carries_begun, carries_ended, carried, carries_lain, taken_some}
 use Rattle.parking_lot_core_lot.specs.declared.place.Phase.{Phase}
 use Rattle.parking_lot_core_lot.specs.Results.{is_left}

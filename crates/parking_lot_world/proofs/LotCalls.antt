@@ -20,16 +20,16 @@ use Rattle.parking_lot_core_lot.proofs.Sounds.{place_at-set_same}
 use Rattle.parking_lot_protocol.specs.declared.act.Act.{Act}
 use Rattle.parking_lot_protocol.specs.declared.act.SectionAct.TheVariants as section
 use Rattle.parking_lot_protocol.specs.declared.act.ActResult.TheVariants as seen
-use Rattle.parking_lot_world.specs.declared.open_call.Call.{Call}
-use Rattle.parking_lot_world.specs.declared.seat.Wakeup.{Wakeup}
+use Rattle.parking_lot_world_calls.specs.declared.open_call.Call.{Call}
+use Rattle.parking_lot_world_calls.specs.declared.seat.Wakeup.{Wakeup}
 use Rattle.parking_lot_world.specs.Rows.{State, call_at, is_by, taken_by}
-use Rattle.parking_lot_world.specs.Stances.{Doing, Looks, TurnsBack, Joins, Joined, Takes, Stores, Tells, Stance, Out, In, stance}
-use Rattle.parking_lot_world.specs.StanceLaws.{LeavesFor}
-use Rattle.parking_lot_world.specs.RowActs.{key_of}
+use Rattle.parking_lot_world_calls.specs.Stances.{Doing, Looks, TurnsBack, Joins, Joined, Takes, Stores, Tells, Stance, Out, In, stance}
+use Rattle.parking_lot_world_calls.specs.StanceLaws.{LeavesFor}
+use Rattle.parking_lot_world_calls.specs.CallActs.{key_of}
 use Rattle.parking_lot_world.specs.RowFits.{HasCome, LotFits}
 use Rattle.parking_lot_world.specs.LotLaws.{IsTaking, IsDue, IsWaiter, Asks, LotNeverRefuses}
 use Rattle.parking_lot_world.proofs.Indexing.{set_twice}
-use Rattle.parking_lot_world.proofs.Stancing.{leads_by, small_key}
+use Rattle.parking_lot_world_calls.proofs.Stancing.{leads_by, small_key}
 use Rattle.parking_lot_world.proofs.Carrying.{taken_by-count}
 use Rattle.parking_lot_world.proofs.LotActs.{seat_of}
 use Rattle.parking_lot_world.proofs.LotTakes.{sleeper}

@@ -14,16 +14,17 @@ use Rattle.parking_lot_protocol.specs.declared.act.CoreAnswer.{CoreAnswer}
 use Rattle.parking_lot_protocol.specs.declared.act.SectionAct.TheVariants as section
 use Rattle.parking_lot_protocol.specs.declared.act.ActResult.TheVariants as seen
 use Rattle.parking_lot_protocol.specs.declared.act.WordChange.{WordChange}
-use Rattle.parking_lot_world.specs.declared.open_call.Call.{Call}
-use Rattle.parking_lot_world.specs.declared.seat.Wakeup.{Wakeup}
+use Rattle.parking_lot_world_calls.specs.declared.open_call.Call.{Call}
+use Rattle.parking_lot_world_calls.specs.declared.seat.Wakeup.{Wakeup}
 use Rattle.parking_lot_world.specs.Rows.{State, word_at, call_at, is_by, taken_by}
-use Rattle.parking_lot_world.specs.Stances.{Joins, Joined, Takes, Stores, In, stance, taken_count, core_tells, sign}
-use Rattle.parking_lot_world.specs.StanceLaws.{Counts, IsOver}
-use Rattle.parking_lot_world.specs.RowActs.{with_call, with_word, with_lot, settles, hears, key_of, told_of, loaded, exchanged, added, masked, spun, entered, checked, appended, took, took_nobody, told_all, left, woke, woke_nobody, answered, begun, joins}
+use Rattle.parking_lot_world_calls.specs.Stances.{Joins, Joined, Takes, Stores, In, stance, taken_count, core_tells, sign}
+use Rattle.parking_lot_world_calls.specs.StanceLaws.{Counts, IsOver}
+use Rattle.parking_lot_world.specs.RowActs.{with_call, with_word, with_lot, settles, loaded, exchanged, added, masked, spun, entered, checked, appended, took, took_nobody, told_all, left, woke, woke_nobody, answered, begun}
+use Rattle.parking_lot_world_calls.specs.CallActs.{hears, key_of, told_of, joins}
 use Rattle.parking_lot_world.specs.RowFits.{LotFits}
 use Rattle.parking_lot_world.specs.LotLaws.{Keeps, IsTaking, ActsKeepFits}
 use Rattle.parking_lot_world.proofs.Indexing.{first_is}
-use Rattle.parking_lot_world.proofs.Stancing.{leads_by, takings_count, calls_begin, calls_end, wakes_some, small_key}
+use Rattle.parking_lot_world_calls.proofs.Stancing.{leads_by, takings_count, calls_begin, calls_end, wakes_some, small_key}
 use Rattle.parking_lot_world.proofs.LotActs.{same_parts, stays_out, begun_fits, ended_fits, entered_fits, checked_fits, took_nobody_fits, left_fits}
 use Rattle.parking_lot_world.proofs.LotLists.{appended_fits, stores_fit}
 use Rattle.parking_lot_world.proofs.LotTakes.{took_fits}

@@ -14,22 +14,23 @@ use Rattle.parking_lot_core_lot.specs.Places.{place_at, mark_of, may_store}
 use Rattle.parking_lot_core_lot.specs.Sound.{Sound}
 use Rattle.parking_lot_core_lot.proofs.Kept.{updated_at, updated_other}
 use Rattle.parking_lot_core_lot.proofs.Sounds.{by_eqb, place_at-set_same, place_at-set_other}
-use Rattle.parking_lot_world.specs.declared.open_call.Call.{Call}
+use Rattle.parking_lot_world_calls.specs.declared.open_call.Call.{Call}
 use Rattle.parking_lot_world.specs.Rows.{State, call_at}
-use Rattle.parking_lot_world.specs.Stances.{Joins, Joined, In, stance, taken_count, Stores, Tells}
-use Rattle.parking_lot_world.specs.RowActs.{hears, key_of, appended, with_call, with_lot, settled_spot, settled, settles, told_of}
+use Rattle.parking_lot_world_calls.specs.Stances.{Joins, Joined, In, stance, taken_count, Stores, Tells}
+use Rattle.parking_lot_world.specs.RowActs.{appended, with_call, with_lot, settles}
+use Rattle.parking_lot_world_calls.specs.CallActs.{hears, key_of, settled_spot, settled, told_of}
 use Rattle.parking_lot_world.specs.RowFits.{Awaits, LotFits, IsAt, SaidIn, Seated, WakesSome}
 use Rattle.parking_lot_world.proofs.Indexing.{get_push}
-use Rattle.parking_lot_world.proofs.Stancing.{wakes_some}
+use Rattle.parking_lot_world_calls.proofs.Stancing.{wakes_some}
 use Rattle.parking_lot_world.proofs.Carrying.{call_within, Carries, awake_sleeps, waits_carried, carried_by, carries_both, carries_settled, carried}
 use Rattle.parking_lot_world.proofs.LotActs.{same_section, seat_of, awake_by, changed_here, carries_one, seats_one, same_length, nobody_off, sits, carried_awake, seats_still, same_number, outside_of, apart, changed_there, stores_unstored}
 use Rattle.parking_lot_core_lot.specs.declared.parking.UnparkToken.{UnparkToken}
 use Rattle.parking_lot_core_lot.specs.declared.place.Place.{Place}
-use Rattle.parking_lot_world.specs.declared.seat.WakeResult.{WakeResult}
-use Rattle.parking_lot_world.specs.declared.seat.QueuePosition.{QueuePosition}
+use Rattle.parking_lot_world_calls.specs.declared.seat.WakeResult.{WakeResult}
+use Rattle.parking_lot_world_calls.specs.declared.seat.QueuePosition.{QueuePosition}
 use Rattle.parking_lot_core_lot.specs.declared.place.Phase.TheVariants as phase
 use Rattle.parking_lot_protocol.specs.declared.act.ActResult.TheVariants as seen
-use Rattle.parking_lot_world.specs.declared.seat.QueuePosition.TheVariants as spot
+use Rattle.parking_lot_world_calls.specs.declared.seat.QueuePosition.TheVariants as spot
 
 -- a key has one lock and one number
 pub one_key : (i j k l : ℕ) → k < 2 → l < 2 → 2 * i + k ≡ 2 * j + l → (i ≡ j) × (k ≡ l)

@@ -13,10 +13,11 @@ use Rattle.parking_lot_core_lot.specs.Machine.{opened, in_phase, stored, closed,
 use Rattle.parking_lot_core_lot.specs.Places.{place_at, may_join, waits_at}
 use Rattle.parking_lot_core_lot.specs.Sound.{Sound}
 use Rattle.parking_lot_core_lot.proofs.Sounds.{some≢none, sound_opened, sound_section, sound_closed, sound_joined, sound_left, sound_place}
-use Rattle.parking_lot_world.specs.declared.open_call.Call.{Call}
+use Rattle.parking_lot_world_calls.specs.declared.open_call.Call.{Call}
 use Rattle.parking_lot_world.specs.Rows.{State, call_at}
-use Rattle.parking_lot_world.specs.Stances.{Looks, Joins, Takes, Out, In, stance}
-use Rattle.parking_lot_world.specs.RowActs.{key_of, appended, took}
+use Rattle.parking_lot_world_calls.specs.Stances.{Looks, Joins, Takes, Out, In, stance}
+use Rattle.parking_lot_world.specs.RowActs.{appended, took}
+use Rattle.parking_lot_world_calls.specs.CallActs.{key_of}
 use Rattle.parking_lot_world.specs.RowFits.{LotFits}
 use Rattle.parking_lot_world.proofs.LotActs.{same_number, same_section, seat_of}
 use Rattle.parking_lot_world.proofs.LotTakes.{Sleeper, sleeper, took_places}

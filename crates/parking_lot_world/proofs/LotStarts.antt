@@ -9,8 +9,8 @@ use Rattle.parking_lot_core_lot.specs.Places.{place_at}
 use Rattle.parking_lot_core_lot.specs.Sound.{Sound}
 use Rattle.parking_lot_core_lot.proofs.Numbers.{flag, count_by-cons}
 use Rattle.parking_lot_core_lot.proofs.Sounds.{none≢some}
-use Rattle.parking_lot_world.specs.declared.open_call.Call.{Call}
-use Rattle.parking_lot_world.specs.declared.seat.Wakeup.{Wakeup}
+use Rattle.parking_lot_world_calls.specs.declared.open_call.Call.{Call}
+use Rattle.parking_lot_world_calls.specs.declared.seat.Wakeup.{Wakeup}
 use Rattle.parking_lot_world.specs.Rows.{State, call_at, taken_by}
 use Rattle.parking_lot_world.specs.RowFits.{Seated, LotFits, WakesFit, is_away}
 use Rattle.parking_lot_world.specs.LotLaws.{IsNew}

@@ -18,16 +18,17 @@ use Rattle.parking_lot_core_lot.proofs.Kept.{updated_at, updated_other, slice_ge
 use Rattle.parking_lot_core_lot.proofs.Numbers.{flag, count_by-at, count_by-push}
 use Rattle.parking_lot_core_lot.proofs.Sounds.{by_eqb, place_at-set_same, place_at-set_other}
 use Rattle.parking_lot_protocol.specs.declared.act.ActResult.TheVariants as seen
-use Rattle.parking_lot_world.specs.declared.seat.WakeResult.{WakeResult}
-use Rattle.parking_lot_world.specs.declared.seat.QueuePosition.{QueuePosition}
-use Rattle.parking_lot_world.specs.declared.open_call.Call.{Call}
-use Rattle.parking_lot_world.specs.declared.seat.Wakeup.{Wakeup}
+use Rattle.parking_lot_world_calls.specs.declared.seat.WakeResult.{WakeResult}
+use Rattle.parking_lot_world_calls.specs.declared.seat.QueuePosition.{QueuePosition}
+use Rattle.parking_lot_world_calls.specs.declared.open_call.Call.{Call}
+use Rattle.parking_lot_world_calls.specs.declared.seat.Wakeup.{Wakeup}
 use Rattle.parking_lot_world.specs.Rows.{State, call_at, is_by, taken_by}
-use Rattle.parking_lot_world.specs.Stances.{Doing, Looks, TurnsBack, Joins, Joined, Takes, Stores, Tells, Stance, Out, In, Asleep, stance, taken_count}
-use Rattle.parking_lot_world.specs.RowActs.{hears, key_of, off_list, took}
+use Rattle.parking_lot_world_calls.specs.Stances.{Doing, Looks, TurnsBack, Joins, Joined, Takes, Stores, Tells, Stance, Out, In, Asleep, stance, taken_count}
+use Rattle.parking_lot_world.specs.RowActs.{took}
+use Rattle.parking_lot_world_calls.specs.CallActs.{hears, key_of, off_list}
 use Rattle.parking_lot_world.specs.RowFits.{IsAt, IsCounted, IsInside, Stands, Seated, Awaits, IsTaken, IsOwed, WakesSome, LotFits}
 use Rattle.parking_lot_world.proofs.Indexing.{get_push, get_front, get_remove}
-use Rattle.parking_lot_world.proofs.Stancing.{wakes_some}
+use Rattle.parking_lot_world_calls.proofs.Stancing.{wakes_some}
 use Rattle.parking_lot_world.proofs.Carrying.{same_call, call_within, set_here, set_elsewhere, Tallied, tallied, taken_by-count, no_length, awake_sleeps}
 use Rattle.parking_lot_world.proofs.WakesRoom.{wakes_few}
 use Rattle.std.proofs.lemmas.List.Sums.{count_by-le-length}

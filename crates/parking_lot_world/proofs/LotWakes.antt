@@ -17,15 +17,16 @@ use Rattle.parking_lot_core_lot.proofs.Kept.{eqb_false_symm}
 use Rattle.parking_lot_core_lot.proofs.Numbers.{flag}
 use Rattle.parking_lot_core_lot.proofs.Sounds.{by_eqb, place_at-set_same, place_at-set_other}
 use Rattle.parking_lot_protocol.specs.declared.act.ActResult.TheVariants as seen
-use Rattle.parking_lot_world.specs.declared.seat.WakeResult.{WakeResult}
-use Rattle.parking_lot_world.specs.declared.seat.QueuePosition.{QueuePosition}
-use Rattle.parking_lot_world.specs.declared.open_call.Call.{Call}
-use Rattle.parking_lot_world.specs.declared.seat.Wakeup.{Wakeup}
+use Rattle.parking_lot_world_calls.specs.declared.seat.WakeResult.{WakeResult}
+use Rattle.parking_lot_world_calls.specs.declared.seat.QueuePosition.{QueuePosition}
+use Rattle.parking_lot_world_calls.specs.declared.open_call.Call.{Call}
+use Rattle.parking_lot_world_calls.specs.declared.seat.Wakeup.{Wakeup}
 use Rattle.parking_lot_world.specs.Rows.{State, call_at, is_by, taken_by}
-use Rattle.parking_lot_world.specs.Stances.{Out, Asleep, stance, taken_count}
-use Rattle.parking_lot_world.specs.RowActs.{hears, woke, told_of}
+use Rattle.parking_lot_world_calls.specs.Stances.{Out, Asleep, stance, taken_count}
+use Rattle.parking_lot_world.specs.RowActs.{woke}
+use Rattle.parking_lot_world_calls.specs.CallActs.{hears, told_of}
 use Rattle.parking_lot_world.specs.RowFits.{IsAt, IsCounted, IsInside, IsOutside, SaidIn, Seated, Awaits, IsTaken, IsOwed, WakesSome, LotFits}
-use Rattle.parking_lot_world.proofs.Stancing.{sleepers_wake, wakes_some}
+use Rattle.parking_lot_world_calls.proofs.Stancing.{sleepers_wake, wakes_some}
 use Rattle.parking_lot_world.proofs.Indexing.{get_remove, kept_remove, apart_before, not_removed}
 use Rattle.parking_lot_world.proofs.Carrying.{same_call, call_within, set_here, set_elsewhere, Tallied, dropped, tallied, no_length}
 use Rattle.parking_lot_world.proofs.LotActs.{seat_of, sits}

@@ -10,9 +10,9 @@ use Rattle.parking_lot_rules.specs.Family.{Crossing, Stays, Comes, Goes, SoundFa
 use Rattle.parking_lot_protocol.specs.declared.act.ActResult.{ActResult}
 use Rattle.parking_lot_protocol.specs.MutexRules as of_mutex
 use Rattle.parking_lot_protocol.specs.RwRules as of_rw
-use Rattle.parking_lot_world.specs.Kinds.{AsMutex, AsRw, manner_of, Manner, recursive_in}
-use Rattle.parking_lot_world.specs.declared.calls.LockKind.{LockKind}
-use Rattle.parking_lot_world.specs.declared.seat.Core.{Core}
+use Rattle.parking_lot_world_calls.specs.Kinds.{AsMutex, AsRw, manner_of, Manner, recursive_in}
+use Rattle.parking_lot_world_calls.specs.declared.calls.LockKind.{LockKind}
+use Rattle.parking_lot_world_calls.specs.declared.seat.Core.{Core}
 use Rattle.parking_lot_world.specs.Rows.{State, call_at, hold_at, taken_by, rw_lock_at, mutex_at, any_lock, lock_as, lock_at, inside, family, one_bucket}
 use Rattle.parking_lot_world.specs.MutexLaws as mutex_laws
 use Rattle.parking_lot_world.specs.RwLaws as rw_laws

@@ -20,17 +20,19 @@ use Rattle.parking_lot_protocol.specs.MutexRules as of_mutex
 use Rattle.parking_lot_protocol.specs.declared.act.ActResult.{ActResult}
 use Rattle.parking_lot_protocol.specs.declared.mutex_core.MutexCore.{MutexCore}
 use Rattle.parking_lot_core_lot.specs.declared.place.Waiter.{Waiter}
-use Rattle.parking_lot_world.specs.Kinds.{AsMutex, AsRw, manner_of, Manner, recursive_in}
-use Rattle.parking_lot_world.specs.declared.seat.Hold.{Hold}
-use Rattle.parking_lot_world.specs.declared.seat.QueuePosition.{QueuePosition}
-use Rattle.parking_lot_world.specs.declared.seat.LatePhase.{LatePhase}
-use Rattle.parking_lot_world.specs.declared.seat.Core.{Core}
-use Rattle.parking_lot_world.specs.declared.open_call.Call.{Call}
-use Rattle.parking_lot_world.specs.Rows.{State, word_at, hold_at, call_at, is_by, taken_by, owned_of, rw_role_in, rw_role_at, rw_core_role, rw_lock_at, mutex_at, mutex_spot, late_role, first_of_all, lock_as, rw_spot}
-use Rattle.parking_lot_world.specs.Stances.{core_next, has_begun, mutex_taken}
+use Rattle.parking_lot_world_calls.specs.Kinds.{AsMutex, AsRw, manner_of, Manner, recursive_in}
+use Rattle.parking_lot_world_calls.specs.declared.seat.Hold.{Hold}
+use Rattle.parking_lot_world_calls.specs.declared.seat.QueuePosition.{QueuePosition}
+use Rattle.parking_lot_world_calls.specs.declared.seat.LatePhase.{LatePhase}
+use Rattle.parking_lot_world_calls.specs.declared.seat.Core.{Core}
+use Rattle.parking_lot_world_calls.specs.declared.open_call.Call.{Call}
+use Rattle.parking_lot_world.specs.Rows.{State, word_at, hold_at, call_at, is_by, taken_by, rw_role_in, rw_role_at, rw_lock_at, mutex_at, lock_as}
+use Rattle.parking_lot_world_calls.specs.CallRoles.{owned_of, rw_core_role, mutex_spot, late_role, first_of_all, rw_spot}
+use Rattle.parking_lot_world_calls.specs.Stances.{core_next, has_begun, mutex_taken}
 use Rattle.parking_lot_protocol.specs.MutexTable as mutex_table
 use Rattle.parking_lot_protocol.specs.declared.act.SectionAct.TheVariants as section
-use Rattle.parking_lot_world.specs.RowFits.{FitsTogether, is_away, IsOfKind, IsPrepared, KnowsList, IsCounted}
+use Rattle.parking_lot_world.specs.RowFits.{FitsTogether, is_away, IsPrepared, KnowsList, IsCounted}
+use Rattle.parking_lot_world_calls.specs.CallKinds.{IsOfKind}
 use Rattle.parking_lot_world.specs.MutexLaws.{Plays}
 use Rattle.parking_lot_world.proofs.MutexRoles.{words}
 use Rattle.parking_lot_upgrades.specs.UpgradeRoles as of_upgrade
@@ -40,9 +42,9 @@ use Rattle.parking_lot_upgrades.specs.declared.upgrade_phase.UpgradePhase.{Upgra
 use Rattle.parking_lot_world.proofs.RwCalls.{CallLearns, CallMeets, CallTold, CallWants, call_few, call_goes_on, call_knows, call_room, stands_prepared}
 use Rattle.parking_lot_world.proofs.Everybody.{was-all, length-all}
 use Rattle.parking_lot_world.proofs.KindTable.{Plain, Late, RwCall, in_its_place, next_is, of_mutexes, of_rws, rw_call, mutex_exact, role_by}
-use Rattle.parking_lot_world.specs.declared.late_rw.LateRwPhase.{LateRwPhase}
-use Rattle.parking_lot_world.specs.declared.late_rw.RwSleeper.{RwSleeper}
-use Rattle.parking_lot_world.specs.LateRoles.{late_rw_role}
+use Rattle.parking_lot_world_calls.specs.declared.late_rw.LateRwPhase.{LateRwPhase}
+use Rattle.parking_lot_world_calls.specs.declared.late_rw.RwSleeper.{RwSleeper}
+use Rattle.parking_lot_world_calls.specs.LateRoles.{late_rw_role}
 use Rattle.parking_lot_protocol.specs.declared.act.Act.{Act}
 use Rattle.parking_lot_protocol.specs.declared.mutex_phase.Giving.{Giving}
 use Rattle.parking_lot_protocol.specs.declared.mutex_phase.MutexPhase.{MutexPhase}

@@ -27,7 +27,7 @@ use Rattle.parking_lot_rules.specs.Classes.{bit, inside as is_inside}
 use Rattle.parking_lot_protocol.specs.MutexRules.{QueuePosition, Listed, role, owns, owns_after, taken_of, Move, Stays, Makes, Joins, TakesOne, Tells, WakesOne, IsWoken, move, last_move, IsWord, IsPlain, IsMove, IsTold, mark_of}
 use Rattle.parking_lot_protocol.proofs.MutexFollowing.{either, follows}
 use Rattle.parking_lot_world.specs.Rows.{mutex_word_of}
-use Rattle.parking_lot_world.specs.Stances.{sign, mutex_begun}
+use Rattle.parking_lot_world_calls.specs.Stances.{sign, mutex_begun}
 use Rattle.parking_lot_world.specs.RowFits.{mutex_knows}
 use Rattle.parking_lot_world.specs.RowSteps.{store_step, wake_step_of}
 use Rattle.parking_lot_world.specs.MutexLaws.{Plays, NobodyIsInside, mutex_of, Leads, LeadsBy, is_own, crossing_of, move_crossing, woken_role, word_next, IsOwnStep, IsJoining, IsTaking, IsTelling, IsWaking, MutexAnswersAreSteps}

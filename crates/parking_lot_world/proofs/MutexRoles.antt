@@ -16,8 +16,9 @@ use Rattle.parking_lot_protocol.specs.declared.mutex_phase.MutexPhase.TheVariant
 use Rattle.parking_lot_protocol.specs.MutexTable.{begins, act_of, next_phase}
 use Rattle.parking_lot_rules.specs.Classes.{bit}
 use Rattle.parking_lot_protocol.specs.MutexRules.{QueuePosition, Listed, Off, role, taken_of, IsWord}
-use Rattle.parking_lot_world.specs.Rows.{mutex_word_of, first_of_all}
-use Rattle.parking_lot_world.specs.Stances.{mutex_taken}
+use Rattle.parking_lot_world.specs.Rows.{mutex_word_of}
+use Rattle.parking_lot_world_calls.specs.CallRoles.{first_of_all}
+use Rattle.parking_lot_world_calls.specs.Stances.{mutex_taken}
 use Rattle.parking_lot_world.specs.MutexLaws.{MutexWordsAreNumbers, MutexRolesAreKnown, settle_spot, woken_role}
 
 -- WORDS

@@ -23,14 +23,14 @@ use Rattle.parking_lot_protocol.specs.MutexTable.{act_of, next_phase, seeks, tri
 use Rattle.parking_lot_protocol.specs.MutexRules as of_mutex
 use Rattle.parking_lot_protocol.specs.MutexRules.{role, owns_after}
 use Rattle.parking_lot_protocol.proofs.MutexFollowing.{either}
-use Rattle.parking_lot_world.specs.declared.seat.Hold.{Hold}
-use Rattle.parking_lot_world.specs.declared.seat.WakeResult.{WakeResult}
-use Rattle.parking_lot_world.specs.declared.seat.QueuePosition.{QueuePosition}
-use Rattle.parking_lot_world.specs.declared.seat.LatePhase.{LatePhase}
-use Rattle.parking_lot_world.specs.declared.seat.Core.{Core}
-use Rattle.parking_lot_world.specs.declared.open_call.Call.{Call}
-use Rattle.parking_lot_world.specs.Rows.{mark_of, late_role, mutex_spot, mutex_core_role, owns_mutex, mutex_role}
-use Rattle.parking_lot_world.specs.RowActs.{settled_spot, mutex_hold_after}
+use Rattle.parking_lot_world_calls.specs.declared.seat.Hold.{Hold}
+use Rattle.parking_lot_world_calls.specs.declared.seat.WakeResult.{WakeResult}
+use Rattle.parking_lot_world_calls.specs.declared.seat.QueuePosition.{QueuePosition}
+use Rattle.parking_lot_world_calls.specs.declared.seat.LatePhase.{LatePhase}
+use Rattle.parking_lot_world_calls.specs.declared.seat.Core.{Core}
+use Rattle.parking_lot_world_calls.specs.declared.open_call.Call.{Call}
+use Rattle.parking_lot_world_calls.specs.CallRoles.{mark_of, late_role, mutex_spot, mutex_core_role, owns_mutex, mutex_role}
+use Rattle.parking_lot_world_calls.specs.CallActs.{settled_spot, mutex_hold_after}
 use Rattle.parking_lot_world.specs.RowFits.{mutex_knows}
 use Rattle.parking_lot_world.specs.MutexLaws.{TellingsSettle, HoldsAreAnswered, TakersKnow, MutexIsShown, settle_spot}
 use Rattle.parking_lot_world.proofs.MutexRoles.{settled as settled_role, opener}

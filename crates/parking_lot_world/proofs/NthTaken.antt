@@ -1,7 +1,7 @@
 -- Whom a thread has taken, counted from a wakeup on.
 use Rattle.std.proofs.Common.{◌≡◌, ℕ, suc, ◌+◌, ◌<◌, ◌==◌, Bool, true, false, cond, List, ◌∷◌, length, map, filter, drop, get_or, ap, ◌∙◌, arith}
 use Rattle.std.proofs.Math.Seq.{drop-cons}
-use Rattle.parking_lot_world.specs.declared.seat.Wakeup.{Wakeup}
+use Rattle.parking_lot_world_calls.specs.declared.seat.Wakeup.{Wakeup}
 use Rattle.parking_lot_world.specs.Rows.{is_by, taken_by}
 
 module _ (wakes : List Wakeup) (t i : ℕ) (d : Wakeup) (low : i < length wakes) where

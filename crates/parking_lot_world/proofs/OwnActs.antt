@@ -14,13 +14,15 @@ use Rattle.parking_lot_protocol.specs.declared.act.SectionAct.TheVariants as sec
 use Rattle.parking_lot_protocol.specs.declared.act.ActResult.{ActResult}
 use Rattle.parking_lot_protocol.specs.declared.mutex_core.MutexCore.{MutexCore}
 use Rattle.parking_lot_protocol.specs.Acts.{Gives, word_after}
-use Rattle.parking_lot_world.specs.Kinds.{AsMutex, AsRw, manner_of, Manner, recursive_in}
-use Rattle.parking_lot_world.specs.declared.seat.LatePhase.{LatePhase}
-use Rattle.parking_lot_world.specs.declared.seat.Core.{Core}
-use Rattle.parking_lot_world.specs.declared.open_call.Call.{Call}
-use Rattle.parking_lot_world.specs.Rows.{State, word_at, taken_by, first_of_all, mutex_spot, rw_lock_at, mutex_at, lock_as, lock_at, inside, mutex_role}
-use Rattle.parking_lot_world.specs.Stances.{has_begun, core_act, core_next, late_act, sign, Stance, mutex_taken}
-use Rattle.parking_lot_world.specs.RowFits.{FitsTogether, RulesFit, IsOfKind, IsPrepared, mutex_knows}
+use Rattle.parking_lot_world_calls.specs.Kinds.{AsMutex, AsRw, manner_of, Manner, recursive_in}
+use Rattle.parking_lot_world_calls.specs.declared.seat.LatePhase.{LatePhase}
+use Rattle.parking_lot_world_calls.specs.declared.seat.Core.{Core}
+use Rattle.parking_lot_world_calls.specs.declared.open_call.Call.{Call}
+use Rattle.parking_lot_world.specs.Rows.{State, word_at, taken_by, rw_lock_at, mutex_at, lock_as, lock_at, inside}
+use Rattle.parking_lot_world_calls.specs.CallRoles.{first_of_all, mutex_spot, mutex_role}
+use Rattle.parking_lot_world_calls.specs.Stances.{has_begun, core_act, core_next, late_act, sign, Stance, mutex_taken}
+use Rattle.parking_lot_world.specs.RowFits.{FitsTogether, RulesFit, IsPrepared, mutex_knows}
+use Rattle.parking_lot_world_calls.specs.CallKinds.{IsOfKind}
 use Rattle.parking_lot_world.specs.RowSteps.{Goes, resume_step}
 use Rattle.parking_lot_world.specs.RwLaws.{Finds, NobodyIs}
 use Rattle.parking_lot_protocol.specs.MutexTable as of_mutex_table
@@ -39,8 +41,8 @@ use Rattle.parking_lot_world.proofs.Ruling.{Fitted, knows_same, rules_own}
 use Rattle.parking_lot_rules.specs.Roles.{Back}
 use Rattle.parking_lot_core_lot.specs.declared.place.Waiter.{Waiter}
 use Rattle.parking_lot_core_lot.specs.declared.parking.UnparkToken.{UnparkToken}
-use Rattle.parking_lot_world.specs.StanceLaws.{Leads}
-use Rattle.parking_lot_world.proofs.Stancing.{leads_by}
+use Rattle.parking_lot_world_calls.specs.StanceLaws.{Leads}
+use Rattle.parking_lot_world_calls.proofs.Stancing.{leads_by}
 
 -- NOBODY IS INSIDE
 

@@ -8,11 +8,11 @@ use Rattle.parking_lot_protocol.specs.declared.act.ActResult.{ActResult}
 use Rattle.parking_lot_protocol.specs.Acts.{word_after}
 use Rattle.parking_lot_protocol.specs.RwRules as of_rw
 use Rattle.parking_lot_rules.specs.Lock.{Lock}
-use Rattle.parking_lot_world.specs.declared.seat.QueuePosition.{QueuePosition}
-use Rattle.parking_lot_world.specs.declared.seat.Core.{Core}
-use Rattle.parking_lot_world.specs.declared.open_call.Call.{Call}
+use Rattle.parking_lot_world_calls.specs.declared.seat.QueuePosition.{QueuePosition}
+use Rattle.parking_lot_world_calls.specs.declared.seat.Core.{Core}
+use Rattle.parking_lot_world_calls.specs.declared.open_call.Call.{Call}
 use Rattle.parking_lot_world.specs.Rows.{State, word_at, call_at, taken_by, queue_at}
-use Rattle.parking_lot_world.specs.Stances.{Asleep, core_act, stance}
+use Rattle.parking_lot_world_calls.specs.Stances.{Asleep, core_act, stance}
 use Rattle.parking_lot_world.specs.RwLaws.{Finds, move_crossing, with_role}
 use Rattle.parking_lot_world.proofs.KindTable.{Kind, IsThere, Elsewhere, one_changed, role_at, role_now, role_stays, roles_at, shown, same, RwCall, rw_call, rw_next}
 use Rattle.parking_lot_world.proofs.RwCalls.{CallMeets, CallTold, call_lock, call_makes, call_move, call_role, call_stays}

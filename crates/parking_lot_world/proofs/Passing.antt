@@ -12,10 +12,10 @@ use Rattle.parking_lot_protocol.specs.declared.act.ActResult.{ActResult}
 use Rattle.parking_lot_world.specs.Passes.{ArePassed, asks, look_by}
 use Rattle.parking_lot_world.specs.RowFits.{LotFits, PassesFit}
 use Rattle.parking_lot_world.specs.Rows.{State, call_at, inside}
-use Rattle.parking_lot_world.specs.Stances.{Doing, Takes, In, stance, core_act}
-use Rattle.parking_lot_world.specs.declared.open_call.Call.{Call}
-use Rattle.parking_lot_world.specs.declared.seat.Core.{Core}
-use Rattle.parking_lot_world.specs.declared.seat.QueuePosition.{QueuePosition}
+use Rattle.parking_lot_world_calls.specs.Stances.{Doing, Takes, In, stance, core_act}
+use Rattle.parking_lot_world_calls.specs.declared.open_call.Call.{Call}
+use Rattle.parking_lot_world_calls.specs.declared.seat.Core.{Core}
+use Rattle.parking_lot_world_calls.specs.declared.seat.QueuePosition.{QueuePosition}
 use Rattle.parking_lot_world.proofs.Carrying.{same_call}
 use Rattle.parking_lot_world.proofs.LotActs.{seat_of}
 use Rattle.parking_lot_world.proofs.Owning.{OwnAct, own-here, own-others}

@@ -23,27 +23,29 @@ use Rattle.parking_lot_upgrades.specs.UpgradeTable as upgrade_table
 use Rattle.parking_lot_upgrades.specs.declared.upgrade_phase.Hold.{Hold}
 use Rattle.parking_lot_upgrades.specs.declared.upgrade_phase.Release.{Release}
 use Rattle.parking_lot_upgrades.specs.declared.upgrade_phase.UpgradePhase.{UpgradePhase}
-use Rattle.parking_lot_world.specs.Kinds.{recursive_in}
-use Rattle.parking_lot_world.specs.RowFits.{IsOfWorld, IsPrepared, scan_keeps, sees_upgradable, upgrade_keeps}
+use Rattle.parking_lot_world_calls.specs.Kinds.{recursive_in}
+use Rattle.parking_lot_world.specs.RowFits.{IsPrepared, scan_keeps, sees_upgradable, upgrade_keeps}
+use Rattle.parking_lot_world_calls.specs.CallKinds.{IsOfWorld}
 use Rattle.parking_lot_world.proofs.RwScans.{drains_no_scan, seeks_nowhere}
 use Rattle.parking_lot_world.proofs.UpgradeParts.{frees_sums, owes_sums}
 use Rattle.parking_lot_world.specs.Passes.{ArePassed, IsNext, asks, look_by}
-use Rattle.parking_lot_world.specs.RowActs.{key_of, took}
+use Rattle.parking_lot_world.specs.RowActs.{took}
+use Rattle.parking_lot_world_calls.specs.CallActs.{key_of}
 use Rattle.parking_lot_world.specs.RowFits.{FitsTogether, LotFits, PassesFit}
 use Rattle.parking_lot_world.specs.Rows.{State, call_at, word_at}
-use Rattle.parking_lot_world.specs.StanceLaws.{Counts, rw_counts}
-use Rattle.parking_lot_world.specs.Stances.{Stores, Takes, In, Asleep, rw_stance, stance, core_act, core_next}
-use Rattle.parking_lot_world.specs.declared.open_call.Call.{Call}
-use Rattle.parking_lot_world.specs.declared.seat.Core.{Core}
+use Rattle.parking_lot_world_calls.specs.StanceLaws.{Counts, rw_counts}
+use Rattle.parking_lot_world_calls.specs.Stances.{Stores, Takes, In, Asleep, rw_stance, stance, core_act, core_next}
+use Rattle.parking_lot_world_calls.specs.declared.open_call.Call.{Call}
+use Rattle.parking_lot_world_calls.specs.declared.seat.Core.{Core}
 use Rattle.parking_lot_world.proofs.Carrying.{same_call}
 use Rattle.parking_lot_world.proofs.Indexing.{get_remove}
 use Rattle.parking_lot_world.proofs.LotActs.{seat_of}
 use Rattle.parking_lot_world.proofs.Passing.{passes_after, skip_on}
 use Rattle.parking_lot_world.proofs.RwTaking.{scans_go_by_tokens}
-use Rattle.parking_lot_world.proofs.Stancing.{takings_count}
+use Rattle.parking_lot_world_calls.proofs.Stancing.{takings_count}
 use Rattle.parking_lot_world.proofs.TakeJoins.{late_takes}
 use Rattle.parking_lot_world.proofs.TakeParts.{took_told, the_sleeper, taker_after, sleeper_after, others_after}
-use Rattle.parking_lot_world.proofs.Sleepers.{tardy_takes}
+use Rattle.parking_lot_world_calls.proofs.Lying.{tardy_takes}
 
 abbrev RwNext : Scanning → ℕ → Bool → RwPhase
 RwNext a token left = option_map_or (λ q. q) (of_rw.scans a (Some (record { 0 = token })) left) RwPhase.Invalid

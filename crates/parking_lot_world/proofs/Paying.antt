@@ -10,13 +10,14 @@ use Rattle.parking_lot_protocol.specs.declared.act.Act.{Act}
 use Rattle.parking_lot_protocol.specs.declared.act.ActResult.{ActResult}
 use Rattle.parking_lot_protocol.specs.Acts.{Gives, word_after, change_of}
 use Rattle.parking_lot_protocol.specs.RwRules.{IsReady}
-use Rattle.parking_lot_world.specs.Kinds.{AsRw, manner_of, recursive_in}
-use Rattle.parking_lot_world.specs.declared.seat.LatePhase.{LatePhase}
-use Rattle.parking_lot_world.specs.declared.seat.Core.{Core}
-use Rattle.parking_lot_world.specs.declared.open_call.Call.{Call}
+use Rattle.parking_lot_world_calls.specs.Kinds.{AsRw, manner_of, recursive_in}
+use Rattle.parking_lot_world_calls.specs.declared.seat.LatePhase.{LatePhase}
+use Rattle.parking_lot_world_calls.specs.declared.seat.Core.{Core}
+use Rattle.parking_lot_world_calls.specs.declared.open_call.Call.{Call}
 use Rattle.parking_lot_world.specs.Rows.{State, word_at, call_at, first_key, inside, rw_lock_at, taken_by, rw_role_at}
-use Rattle.parking_lot_world.specs.Stances.{core_act, core_next, late_act, late_next, late_stance, mutex_stance, rw_stance, seeks_stance, upgrade_stance, Doing, Joins, In, Takes, sign, stance, core_tells, late_rw_act, late_rw_next, sleeper_asleep, resumed_as}
-use Rattle.parking_lot_world.specs.RowFits.{FitsTogether, IsOfKind, IsOfWorld, IsPrepared, IsOfManner, late_rw_prepared}
+use Rattle.parking_lot_world_calls.specs.Stances.{core_act, core_next, late_act, late_next, late_stance, mutex_stance, rw_stance, seeks_stance, upgrade_stance, Doing, Joins, In, Takes, sign, stance, core_tells, late_rw_act, late_rw_next, sleeper_asleep, resumed_as}
+use Rattle.parking_lot_world.specs.RowFits.{FitsTogether, IsPrepared, late_rw_prepared}
+use Rattle.parking_lot_world_calls.specs.CallKinds.{IsOfKind, IsOfWorld, IsOfManner}
 use Rattle.parking_lot_world.specs.RankLaws.{Can, Leaves}
 use Rattle.parking_lot_world.specs.Ranks.{Sees, core_steps, late_steps, far_steps, is_shut_to, own_steps, view_of, Pays, View, Unseen, wake, late_rw_steps, sleeper_steps, rw_steps, upgrade_steps}
 use Rattle.parking_lot_world.proofs.Meeting.{meets, in_range, rw_sound}
@@ -37,14 +38,15 @@ use Rattle.parking_lot_protocol.specs.declared.act.WordChange.{WordChange}
 use Rattle.parking_lot_protocol.specs.declared.mutex_phase.MutexPhase.{MutexPhase}
 use Rattle.parking_lot_protocol.specs.declared.rw_phase.RwPhase.{RwPhase}
 use Rattle.parking_lot_core_lot.specs.Lists.{updated}
-use Rattle.parking_lot_world.specs.declared.seat.WakeResult.{WakeResult}
-use Rattle.parking_lot_world.specs.StanceLaws.{LeavesFor}
-use Rattle.parking_lot_world.specs.RowActs.{key_of, with_word, with_call, hears, settled, off_list, told_of, loaded, exchanged, added, masked, spun, entered, checked, appended, took, took_nobody, told_all, left}
+use Rattle.parking_lot_world_calls.specs.declared.seat.WakeResult.{WakeResult}
+use Rattle.parking_lot_world_calls.specs.StanceLaws.{LeavesFor}
+use Rattle.parking_lot_world.specs.RowActs.{with_word, with_call, loaded, exchanged, added, masked, spun, entered, checked, appended, took, took_nobody, told_all, left}
+use Rattle.parking_lot_world_calls.specs.CallActs.{key_of, hears, settled, off_list, told_of}
 use Rattle.parking_lot_world.proofs.Acting.{has_word, word-here, still_inside}
 use Rattle.parking_lot_world.proofs.Calling.{call_of, call-here}
 use Rattle.parking_lot_world.proofs.LotActs.{seat_of}
 use Rattle.parking_lot_world.proofs.LotLists.{call_at-map}
-use Rattle.parking_lot_world.proofs.Stancing.{leads_by}
+use Rattle.parking_lot_world_calls.proofs.Stancing.{leads_by}
 use Rattle.parking_lot_world.proofs.Summing.{others_change, others_same, others_told}
 use Rattle.parking_lot_protocol.specs.declared.act.CoreAnswer.{CoreAnswer}
 use Rattle.parking_lot_rules.proofs.Ranking.{few1}
@@ -55,12 +57,13 @@ use Rattle.parking_lot_core_lot.specs.declared.place.Phase.TheVariants as phase
 use Rattle.parking_lot_protocol.specs.declared.act.SectionAct.TheVariants as section
 use Rattle.parking_lot_protocol.specs.MutexTable as mutex_table
 use Rattle.parking_lot_protocol.specs.RwTable as rw_table
-use Rattle.parking_lot_world.specs.declared.seat.QueuePosition.TheVariants as spot
+use Rattle.parking_lot_world_calls.specs.declared.seat.QueuePosition.TheVariants as spot
 use Rattle.parking_lot_protocol.specs.declared.act.ActResult.TheVariants as seen
-use Rattle.parking_lot_world.specs.declared.late_rw.LateRwPhase.{LateRwPhase}
-use Rattle.parking_lot_world.specs.declared.late_rw.RwSleeper.{RwSleeper}
-use Rattle.parking_lot_world.specs.CallViews.{IsReadySleeper}
-use Rattle.parking_lot_world.proofs.Sleepers.{by_sleeper, ready_sleeper, tardy_takes}
+use Rattle.parking_lot_world_calls.specs.declared.late_rw.LateRwPhase.{LateRwPhase}
+use Rattle.parking_lot_world_calls.specs.declared.late_rw.RwSleeper.{RwSleeper}
+use Rattle.parking_lot_world_calls.specs.CallViews.{IsReadySleeper}
+use Rattle.parking_lot_world.proofs.Sleepers.{by_sleeper, ready_sleeper}
+use Rattle.parking_lot_world_calls.proofs.Lying.{tardy_takes}
 
 -- ONE CALL
 

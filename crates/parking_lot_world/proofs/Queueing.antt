@@ -19,25 +19,27 @@ use Rattle.parking_lot_upgrades.specs.UpgradeRoles as of_upgrade
 use Rattle.parking_lot_upgrades.specs.declared.upgrade_phase.Hold.{Hold as Kept}
 use Rattle.parking_lot_upgrades.specs.declared.upgrade_phase.Release.{Release}
 use Rattle.parking_lot_upgrades.specs.declared.upgrade_phase.UpgradePhase.{UpgradePhase}
-use Rattle.parking_lot_world.specs.Rows.{rw_core_role, mutex_role}
-use Rattle.parking_lot_world.specs.Stances.{seeks_stance, upgrade_stance, late_rw_stance}
+use Rattle.parking_lot_world_calls.specs.CallRoles.{rw_core_role, mutex_role}
+use Rattle.parking_lot_world_calls.specs.Stances.{seeks_stance, upgrade_stance, late_rw_stance}
 use Rattle.parking_lot_world.proofs.KindTable.{RwCall, Simple, Upgradable, rw_call, Tardy}
-use Rattle.parking_lot_world.specs.Kinds.{AsMutex, manner_of, Manner, AsRw}
-use Rattle.parking_lot_world.specs.declared.seat.Hold.{Hold}
-use Rattle.parking_lot_world.specs.declared.seat.QueuePosition.{QueuePosition}
-use Rattle.parking_lot_world.specs.declared.seat.LatePhase.{LatePhase}
-use Rattle.parking_lot_world.specs.declared.seat.Core.{Core}
-use Rattle.parking_lot_world.specs.declared.open_call.Call.{Call}
-use Rattle.parking_lot_world.specs.RowFits.{FitsTogether, IsOfKind, IsOfManner, Awaits}
-use Rattle.parking_lot_world.specs.Rows.{State, lock_as, call_at, first_key, hold_at, late_role, lock_at, mutex_at, mutex_spot, owned_of, owns_mutex, queue_at, rw_lock_at, rw_spot, second_key, taken_by}
+use Rattle.parking_lot_world_calls.specs.Kinds.{AsMutex, manner_of, Manner, AsRw}
+use Rattle.parking_lot_world_calls.specs.declared.seat.Hold.{Hold}
+use Rattle.parking_lot_world_calls.specs.declared.seat.QueuePosition.{QueuePosition}
+use Rattle.parking_lot_world_calls.specs.declared.seat.LatePhase.{LatePhase}
+use Rattle.parking_lot_world_calls.specs.declared.seat.Core.{Core}
+use Rattle.parking_lot_world_calls.specs.declared.open_call.Call.{Call}
+use Rattle.parking_lot_world.specs.RowFits.{FitsTogether, Awaits}
+use Rattle.parking_lot_world_calls.specs.CallKinds.{IsOfKind, IsOfManner}
+use Rattle.parking_lot_world.specs.Rows.{State, lock_as, call_at, first_key, hold_at, lock_at, mutex_at, queue_at, rw_lock_at, second_key, taken_by}
+use Rattle.parking_lot_world_calls.specs.CallRoles.{late_role, mutex_spot, owned_of, owns_mutex, rw_spot}
 use Rattle.parking_lot_world.specs.SoundLaws.{ListsAreWaiters, waits_as, waits_in}
-use Rattle.parking_lot_world.specs.Stances.{late_stance, mutex_stance, rw_stance, stance}
+use Rattle.parking_lot_world_calls.specs.Stances.{late_stance, mutex_stance, rw_stance, stance}
 use Rattle.parking_lot_world.proofs.KindTable.{Kind, MutexCall, Plain, Late, mutex_call, mutex_plays, of_mutexes, of_rws, role_at, roles_at}
 use Rattle.parking_lot_world.proofs.Everybody.{get-all, past}
-use Rattle.parking_lot_world.specs.declared.late_rw.LateRwPhase.{LateRwPhase}
-use Rattle.parking_lot_world.specs.declared.late_rw.RwSleeper.{RwSleeper}
-use Rattle.parking_lot_world.specs.LateRoles.{late_rw_role}
-use Rattle.parking_lot_world.specs.CallViews.{HasSlept, IsLateAsSlept, IsLateInOrder}
+use Rattle.parking_lot_world_calls.specs.declared.late_rw.LateRwPhase.{LateRwPhase}
+use Rattle.parking_lot_world_calls.specs.declared.late_rw.RwSleeper.{RwSleeper}
+use Rattle.parking_lot_world_calls.specs.LateRoles.{late_rw_role}
+use Rattle.parking_lot_world_calls.specs.CallViews.{HasSlept, IsLateAsSlept, IsLateInOrder}
 use Rattle.parking_lot_world.proofs.Sleepers.{by_sleeper, draining, seeking, upgrading, wanting}
 use Rattle.parking_lot_world.proofs.Viewing.{as_slept}
 use Rattle.parking_lot_protocol.specs.declared.rw_phase.LockMode.{LockMode}

@@ -6,16 +6,17 @@ use Rattle.parking_lot_rules.specs.Roles.{Shares}
 use Rattle.parking_lot_protocol.specs.declared.rw_phase.LockMode.TheVariants as want
 use Rattle.parking_lot_protocol.specs.declared.rw_phase.RwPhase.{RwPhase}
 use Rattle.parking_lot_protocol.proofs.RwWords.{both}
-use Rattle.parking_lot_world.specs.declared.seat.Core.{Core}
-use Rattle.parking_lot_world.specs.declared.calls.LockCall.{LockCall}
-use Rattle.parking_lot_world.specs.declared.calls.LockKind.{LockKind}
-use Rattle.parking_lot_world.specs.declared.seat.Hold.{Hold}
-use Rattle.parking_lot_world.specs.declared.open_call.Call.{Call}
-use Rattle.parking_lot_world.specs.Calls.{manner_for, takes}
-use Rattle.parking_lot_world.specs.Kinds.{Manner, AsMutex, AsRw, manner_of, is_manner, is_recursive, kind_in}
-use Rattle.parking_lot_world.specs.Beginnings.{core_of, holds, holds_beside, is_allowed, may_share}
+use Rattle.parking_lot_world_calls.specs.declared.seat.Core.{Core}
+use Rattle.parking_lot_world_calls.specs.declared.calls.LockCall.{LockCall}
+use Rattle.parking_lot_world_calls.specs.declared.calls.LockKind.{LockKind}
+use Rattle.parking_lot_world_calls.specs.declared.seat.Hold.{Hold}
+use Rattle.parking_lot_world_calls.specs.declared.open_call.Call.{Call}
+use Rattle.parking_lot_world_calls.specs.Calls.{manner_for, takes}
+use Rattle.parking_lot_world_calls.specs.Kinds.{Manner, AsMutex, AsRw, manner_of, is_manner, is_recursive, kind_in}
+use Rattle.parking_lot_world_calls.specs.Beginnings.{core_of, holds, holds_beside, is_allowed, may_share}
 use Rattle.parking_lot_world.specs.Rows.{State, call_at, hold_at}
-use Rattle.parking_lot_world.specs.RowFits.{RulesFit, IsOfManner}
+use Rattle.parking_lot_world.specs.RowFits.{RulesFit}
+use Rattle.parking_lot_world_calls.specs.CallKinds.{IsOfManner}
 use Rattle.parking_lot_world.specs.ActLaws.{OwnsFor, MayBegin}
 use Rattle.parking_lot_world.specs.Machines.{may_begin, call_for}
 

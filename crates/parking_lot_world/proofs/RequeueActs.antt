@@ -10,13 +10,14 @@ use Rattle.parking_lot_rules.specs.Roles.{Asleep}
 use Rattle.parking_lot_rules.specs.Mutex as mutex
 use Rattle.parking_lot_protocol.specs.MutexTable.{begins}
 use Rattle.parking_lot_protocol.specs.declared.mutex_phase.MutexPhase.{MutexPhase}
-use Rattle.parking_lot_world.specs.declared.calls.LockCall.{LockCall}
-use Rattle.parking_lot_world.specs.Kinds.{AsMutex, manner_of}
+use Rattle.parking_lot_world_calls.specs.declared.calls.LockCall.{LockCall}
+use Rattle.parking_lot_world_calls.specs.Kinds.{AsMutex, manner_of}
 use Rattle.parking_lot_world.specs.Machines.{may_begin}
 use Rattle.parking_lot_world.specs.Ranks.{Sees, is_shut_to, mutex_steps, steps_left}
 use Rattle.parking_lot_world.specs.Requeues.{IsAttended, IsRousedIn, IsTakenIn, filed, pull_run, requeue_run, retrying_call, roused, roused_in, sleeping_call, taken_in}
 use Rattle.parking_lot_world.specs.RowFits.{FitsTogether}
-use Rattle.parking_lot_world.specs.Rows.{State, call_at, first_key, hold_at, inside, mutex_at, mutex_word_of, owns_mutex, queue_at, word_at}
+use Rattle.parking_lot_world.specs.Rows.{State, call_at, first_key, hold_at, inside, mutex_at, mutex_word_of, queue_at, word_at}
+use Rattle.parking_lot_world_calls.specs.CallRoles.{owns_mutex}
 use Rattle.parking_lot_world.proofs.Acting.{word-elsewhere, word-here}
 use Rattle.parking_lot_world.proofs.KindTable.{within_kinds}
 use Rattle.parking_lot_world.proofs.LotLists.{one_key}

@@ -6,7 +6,7 @@ use Rattle.parking_lot_rules.specs.Any.{AnyLock, Mx}
 use Rattle.parking_lot_rules.specs.Roles.{Asleep}
 use Rattle.parking_lot_rules.specs.Mutex.{Mutex, Queued, Seeks, away, doing}
 use Rattle.parking_lot_rules.specs.MutexOwners.{Case, IsCase, Move, Nothing, owners, standing}
-use Rattle.parking_lot_world.specs.Kinds.{AsMutex, manner_of, recursive_in}
+use Rattle.parking_lot_world_calls.specs.Kinds.{AsMutex, manner_of, recursive_in}
 use Rattle.parking_lot_world.specs.Requeues.{IsCaseOf, MovesAreCases, filed, roused}
 use Rattle.parking_lot_world.specs.Rows.{State, any_lock, lock_as, lock_at, mutex_at}
 use Rattle.parking_lot_world.specs.SoundLaws.{IsCaseAt}

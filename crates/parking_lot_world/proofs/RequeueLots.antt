@@ -9,14 +9,15 @@ use Rattle.parking_lot_core_lot.specs.Places.{place_at}
 use Rattle.parking_lot_protocol.specs.MutexTable.{begins}
 use Rattle.parking_lot_protocol.specs.declared.act.ActResult.TheVariants as seen
 use Rattle.parking_lot_protocol.specs.declared.mutex_phase.MutexPhase.{MutexPhase}
-use Rattle.parking_lot_world.specs.declared.seat.Core.{Core}
-use Rattle.parking_lot_world.specs.declared.seat.QueuePosition.{QueuePosition}
-use Rattle.parking_lot_world.specs.declared.open_call.Call.{Call}
+use Rattle.parking_lot_world_calls.specs.declared.seat.Core.{Core}
+use Rattle.parking_lot_world_calls.specs.declared.seat.QueuePosition.{QueuePosition}
+use Rattle.parking_lot_world_calls.specs.declared.open_call.Call.{Call}
 use Rattle.parking_lot_world.specs.Requeues.{MayJoin, lot_with, retrying_call, roused_in, sleeping_call, taken_in}
-use Rattle.parking_lot_world.specs.RowActs.{appended, entered, hears, joins, key_of, left, with_call, with_lot, with_word}
+use Rattle.parking_lot_world.specs.RowActs.{appended, entered, left, with_call, with_lot, with_word}
+use Rattle.parking_lot_world_calls.specs.CallActs.{hears, joins, key_of}
 use Rattle.parking_lot_world.specs.RowFits.{LotFits, Seated, WakesSome}
 use Rattle.parking_lot_world.specs.Rows.{State, call_at, first_key}
-use Rattle.parking_lot_world.specs.Stances.{stance}
+use Rattle.parking_lot_world_calls.specs.Stances.{stance}
 use Rattle.parking_lot_world.proofs.Acting.{word-here}
 use Rattle.parking_lot_world.proofs.Carrying.{Carries, carries_begun, set_here}
 use Rattle.parking_lot_world.proofs.Indexing.{set_twice}

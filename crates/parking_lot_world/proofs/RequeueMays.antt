@@ -12,13 +12,14 @@ use Rattle.parking_lot_protocol.specs.MutexTable as mutex_table
 use Rattle.parking_lot_protocol.specs.declared.act.SectionAct.TheVariants as section
 use Rattle.parking_lot_protocol.specs.declared.mutex_phase.MutexPhase.{MutexPhase}
 use Rattle.parking_lot_protocol.proofs.RwWords.{both}
-use Rattle.parking_lot_world.specs.declared.calls.LockCall.{LockCall}
-use Rattle.parking_lot_world.specs.declared.open_call.Call.{Call}
-use Rattle.parking_lot_world.specs.declared.seat.Core.{Core}
+use Rattle.parking_lot_world_calls.specs.declared.calls.LockCall.{LockCall}
+use Rattle.parking_lot_world_calls.specs.declared.open_call.Call.{Call}
+use Rattle.parking_lot_world_calls.specs.declared.seat.Core.{Core}
 use Rattle.parking_lot_world.specs.Machines.{may_begin}
 use Rattle.parking_lot_world.specs.Requeues.{IsAttended, core_retries, may_rouse_in, phase_retries, retries_at}
 use Rattle.parking_lot_world.specs.RowFits.{FitsTogether}
-use Rattle.parking_lot_world.specs.Rows.{State, call_at, first_of_all, mutex_at, mutex_spot, taken_by, word_at}
+use Rattle.parking_lot_world.specs.Rows.{State, call_at, mutex_at, taken_by, word_at}
+use Rattle.parking_lot_world_calls.specs.CallRoles.{first_of_all, mutex_spot}
 use Rattle.parking_lot_world.proofs.Meeting.{plays}
 use Rattle.parking_lot_protocol.specs.declared.act.Act.{Act}
 

@@ -3,7 +3,8 @@ use Rattle.std.proofs.Common.{◌≡◌, ◌≢◌, ℕ, ◌+◌, ◌*◌, ◌�
 use Rattle.parking_lot_rules.specs.Mutex.{Mutex, Runs}
 use Rattle.parking_lot_world.specs.Ranks.{steps_left}
 use Rattle.parking_lot_world.specs.Requeues.{AreAway, AreOthers, AreTakenIn, MovesAreRuns, all_filed, pull_run, requeue_run, waiters}
-use Rattle.parking_lot_world.specs.Rows.{State, hold_at, lock_at, mutex_at, owns_mutex}
+use Rattle.parking_lot_world.specs.Rows.{State, hold_at, lock_at, mutex_at}
+use Rattle.parking_lot_world_calls.specs.CallRoles.{owns_mutex}
 use Rattle.parking_lot_world.proofs.RequeueRuns.{laws as runs}
 
 -- the mutex once all are in its list

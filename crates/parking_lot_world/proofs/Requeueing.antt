@@ -14,15 +14,16 @@ use Rattle.parking_lot_rules.specs.Mutex as mutex
 use Rattle.parking_lot_rules.proofs.Indexed.{get-set_same, get-set_other}
 use Rattle.parking_lot_protocol.specs.MutexRules as of_mutex
 use Rattle.parking_lot_protocol.specs.declared.mutex_phase.MutexPhase.{MutexPhase}
-use Rattle.parking_lot_world.specs.declared.seat.Core.{Core}
-use Rattle.parking_lot_world.specs.declared.seat.QueuePosition.{QueuePosition}
-use Rattle.parking_lot_world.specs.declared.open_call.Call.{Call}
-use Rattle.parking_lot_world.specs.Kinds.{AsMutex, manner_of}
+use Rattle.parking_lot_world_calls.specs.declared.seat.Core.{Core}
+use Rattle.parking_lot_world_calls.specs.declared.seat.QueuePosition.{QueuePosition}
+use Rattle.parking_lot_world_calls.specs.declared.open_call.Call.{Call}
+use Rattle.parking_lot_world_calls.specs.Kinds.{AsMutex, manner_of}
 use Rattle.parking_lot_world.specs.Requeues.{MayCome}
 use Rattle.parking_lot_world.specs.Rounds.{IsUnderWay}
 use Rattle.parking_lot_world.specs.RowFits.{FitsTogether, RulesFit, WakesFit, is_away, mutex_knows}
-use Rattle.parking_lot_world.specs.Rows.{State, call_at, hold_at, inside, lock_at, lock_as, mutex_at, owns_mutex, taken_by, word_at, mutex_role}
-use Rattle.parking_lot_world.specs.Stances.{In, stance}
+use Rattle.parking_lot_world.specs.Rows.{State, call_at, hold_at, inside, lock_at, lock_as, mutex_at, taken_by, word_at}
+use Rattle.parking_lot_world_calls.specs.CallRoles.{owns_mutex, mutex_role}
+use Rattle.parking_lot_world_calls.specs.Stances.{In, stance}
 use Rattle.parking_lot_world.proofs.Calling.{call-here, call-elsewhere}
 use Rattle.parking_lot_world.proofs.Carrying.{same_call}
 use Rattle.parking_lot_world.proofs.Everybody.{get-all}

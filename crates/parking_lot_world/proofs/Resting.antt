@@ -15,11 +15,11 @@ use Rattle.parking_lot_rules.specs.Family.{Key, First, Second, SoundFamilyOf, rw
 use Rattle.parking_lot_rules.specs.Runs as rules
 use Rattle.parking_lot_rules.specs.World as many
 use Rattle.parking_lot_rules.proofs.Running.{all_away, rest_sound_family}
-use Rattle.parking_lot_rules.proofs.Mutexes as mutexes
-use Rattle.parking_lot_world.specs.Kinds.{Manner, AsRw, AsMutex, manner_of}
-use Rattle.parking_lot_world.specs.declared.calls.LockKind.{LockKind}
-use Rattle.parking_lot_world.specs.declared.open_call.Call.{Call}
-use Rattle.parking_lot_world.specs.declared.seat.Hold.{Hold}
+use Rattle.parking_lot_rules.proofs.MutexRuns as mutexes
+use Rattle.parking_lot_world_calls.specs.Kinds.{Manner, AsRw, AsMutex, manner_of}
+use Rattle.parking_lot_world_calls.specs.declared.calls.LockKind.{LockKind}
+use Rattle.parking_lot_world_calls.specs.declared.open_call.Call.{Call}
+use Rattle.parking_lot_world_calls.specs.declared.seat.Hold.{Hold}
 use Rattle.parking_lot_world.specs.Rows.{State, lock_as, call_at, family, hold_at, lock_at, mutex_at, mutex_role_at, mutex_role_in, mutex_word_of, one_bucket, rw_lock_at, rw_role_at, rw_role_in, word_at}
 use Rattle.parking_lot_world.specs.RowFits.{FitsTogether}
 use Rattle.parking_lot_world.specs.LotLaws.{IsNew}

@@ -11,19 +11,22 @@ use Rattle.parking_lot_core_lot.specs.declared.place.Sleep.{Sleep}
 use Rattle.parking_lot_core_lot.proofs.Numbers.{flag, count_by-set}
 use Rattle.parking_lot_rules.proofs.Indexed.{get-set_other}
 use Rattle.parking_lot_protocol.specs.declared.act.ActResult.TheVariants as seen
-use Rattle.parking_lot_world.specs.Kinds.{recursive_in}
-use Rattle.parking_lot_world.specs.declared.seat.WakeResult.{WakeResult}
-use Rattle.parking_lot_world.specs.declared.seat.QueuePosition.{QueuePosition}
-use Rattle.parking_lot_world.specs.declared.open_call.Call.{Call}
-use Rattle.parking_lot_world.specs.declared.seat.Wakeup.{Wakeup}
-use Rattle.parking_lot_world.specs.Rows.{State, word_at, hold_at, call_at, is_by, taken_by, mark_of, first_of_all, mutex_spot, rw_lock_at, mutex_at, queue_at, mutex_role}
-use Rattle.parking_lot_world.specs.Stances.{In, Takes, Out, Asleep, late_act, stance, core_act, core_next}
-use Rattle.parking_lot_world.specs.RowActs.{hears, woke, told_of}
-use Rattle.parking_lot_world.specs.RowFits.{FitsTogether, LotFits, PassesFit, RulesFit, WakesFit, IsOfKind, IsTaken, IsPrepared, KnowsList, is_away, is_off, mutex_knows, IsCounted}
+use Rattle.parking_lot_world_calls.specs.Kinds.{recursive_in}
+use Rattle.parking_lot_world_calls.specs.declared.seat.WakeResult.{WakeResult}
+use Rattle.parking_lot_world_calls.specs.declared.seat.QueuePosition.{QueuePosition}
+use Rattle.parking_lot_world_calls.specs.declared.open_call.Call.{Call}
+use Rattle.parking_lot_world_calls.specs.declared.seat.Wakeup.{Wakeup}
+use Rattle.parking_lot_world.specs.Rows.{State, word_at, hold_at, call_at, is_by, taken_by, rw_lock_at, mutex_at, queue_at}
+use Rattle.parking_lot_world_calls.specs.CallRoles.{mark_of, first_of_all, mutex_spot, mutex_role}
+use Rattle.parking_lot_world_calls.specs.Stances.{In, Takes, Out, Asleep, late_act, stance, core_act, core_next}
+use Rattle.parking_lot_world.specs.RowActs.{woke}
+use Rattle.parking_lot_world_calls.specs.CallActs.{hears, told_of}
+use Rattle.parking_lot_world.specs.RowFits.{FitsTogether, LotFits, PassesFit, RulesFit, WakesFit, IsTaken, IsPrepared, KnowsList, is_away, is_off, mutex_knows, IsCounted}
+use Rattle.parking_lot_world_calls.specs.CallKinds.{IsOfKind}
 use Rattle.parking_lot_world.specs.TellLaws.{IsDue}
 use Rattle.parking_lot_world.proofs.Calling.{slot}
 use Rattle.parking_lot_world.proofs.Passing.{passes_after}
-use Rattle.parking_lot_world.proofs.Stancing.{sleepers_wake}
+use Rattle.parking_lot_world_calls.proofs.Stancing.{sleepers_wake}
 use Rattle.parking_lot_world.proofs.Carrying.{same_call}
 use Rattle.parking_lot_world.proofs.Indexing.{kept_remove}
 use Rattle.parking_lot_world.proofs.KindTable.{MutexCall, Plain, Late, RwCall, Simple, Upgradable, next_is, rw_call, rw_next, mutex_call, sleeps_so, woken_so, woken_plain, Kind, of_rws, of_mutexes, IsThere, Elsewhere, in_its_place, role_at, role_now, role_stays, roles_at, same, shown, Tardy}
@@ -47,8 +50,8 @@ use Rattle.parking_lot_protocol.specs.declared.mutex_phase.MutexPhase.{MutexPhas
 use Rattle.parking_lot_world.proofs.RwCalls.{CallMeets, as_move, call_role, call_wakes, tardy_wakes}
 use Rattle.parking_lot_world.proofs.RwSleeps.{call_woken as woken_call_is}
 use Rattle.parking_lot_world.specs.RowSteps.{IsRwMove}
-use Rattle.parking_lot_world.specs.declared.seat.LatePhase.{LatePhase}
-use Rattle.parking_lot_world.specs.declared.seat.Core.{Core}
+use Rattle.parking_lot_world_calls.specs.declared.seat.LatePhase.{LatePhase}
+use Rattle.parking_lot_world_calls.specs.declared.seat.Core.{Core}
 
 -- WHOM A THREAD IS TO WAKE
 

@@ -5,24 +5,25 @@ use Rattle.std.proofs.lemmas.List.{length-set}
 use Rattle.parking_lot_core_lot.specs.declared.place.Waiter.{Waiter}
 use Rattle.parking_lot_protocol.specs.declared.act.ActResult.{ActResult}
 use Rattle.parking_lot_world.specs.RowFits.{upgrade_knows}
-use Rattle.parking_lot_world.specs.Kinds.{AsMutex, Manner, manner_of, recursive_in, AsRw}
-use Rattle.parking_lot_world.specs.declared.calls.LockKind.{LockKind}
-use Rattle.parking_lot_world.specs.declared.seat.Hold.TheVariants as hold
-use Rattle.parking_lot_world.specs.declared.seat.QueuePosition.{QueuePosition}
-use Rattle.parking_lot_world.specs.declared.seat.LatePhase.{LatePhase}
-use Rattle.parking_lot_world.specs.declared.seat.Core.{Core}
-use Rattle.parking_lot_world.specs.declared.open_call.Call.{Call}
+use Rattle.parking_lot_world_calls.specs.Kinds.{AsMutex, Manner, manner_of, recursive_in, AsRw}
+use Rattle.parking_lot_world_calls.specs.declared.calls.LockKind.{LockKind}
+use Rattle.parking_lot_world_calls.specs.declared.seat.Hold.TheVariants as hold
+use Rattle.parking_lot_world_calls.specs.declared.seat.QueuePosition.{QueuePosition}
+use Rattle.parking_lot_world_calls.specs.declared.seat.LatePhase.{LatePhase}
+use Rattle.parking_lot_world_calls.specs.declared.seat.Core.{Core}
+use Rattle.parking_lot_world_calls.specs.declared.open_call.Call.{Call}
 use Rattle.parking_lot_world.specs.Rows.{State, word_at, hold_at, call_at, taken_by}
 use Rattle.parking_lot_world.specs.Rounds.{IsUnderWay}
-use Rattle.parking_lot_world.specs.RowFits.{FitsTogether, RulesFit, IsOfKind, IsOfManner, IsPrepared, KnowsList, mutex_knows, rw_knows}
+use Rattle.parking_lot_world.specs.RowFits.{FitsTogether, RulesFit, IsPrepared, KnowsList, mutex_knows, rw_knows}
+use Rattle.parking_lot_world_calls.specs.CallKinds.{IsOfKind, IsOfManner}
 use Rattle.parking_lot_world.specs.RowSteps.{Goes, IsMoveOf}
-use Rattle.parking_lot_world.specs.Stances.{core_next, late_next, late_rw_next, resumed_as, sleeper_asleep}
+use Rattle.parking_lot_world_calls.specs.Stances.{core_next, late_next, late_rw_next, resumed_as, sleeper_asleep}
 use Rattle.parking_lot_world.proofs.Making.{IsSoundState, move_sound}
 use Rattle.parking_lot_world.proofs.Calling.{call_of, calls-change, same-holds}
 use Rattle.parking_lot_world.proofs.Owning.{OwnAct, call_after}
 use Rattle.parking_lot_world.proofs.Spinning.{under_way}
-use Rattle.parking_lot_world.specs.declared.late_rw.LateRwPhase.{LateRwPhase}
-use Rattle.parking_lot_world.specs.declared.late_rw.RwSleeper.{RwSleeper}
+use Rattle.parking_lot_world_calls.specs.declared.late_rw.LateRwPhase.{LateRwPhase}
+use Rattle.parking_lot_world_calls.specs.declared.late_rw.RwSleeper.{RwSleeper}
 
 -- what holds of a call on the side of the rules
 pub record CallFits (kinds : List LockKind) (queues : ℕ → List Waiter) (e : Call) : Type 0 where

@@ -34,18 +34,20 @@ use Rattle.parking_lot_upgrades.specs.declared.upgrade_phase.Hold as hold_type
 use Rattle.parking_lot_upgrades.specs.declared.upgrade_phase.Release.{Release}
 use Rattle.parking_lot_upgrades.specs.declared.upgrade_phase.UpgradePhase.{UpgradePhase}
 use Rattle.parking_lot_world.specs.Passes.{asks}
-use Rattle.parking_lot_world.specs.RowFits.{IsPrepared, KnowsList, late_rw_prepared, rw_prepared, sleeper_prepared, upgrade_prepared, IsCounted, IsInside, IsOfWorld, rw_keeps}
+use Rattle.parking_lot_world.specs.RowFits.{IsPrepared, KnowsList, late_rw_prepared, rw_prepared, sleeper_prepared, upgrade_prepared, IsCounted, IsInside, rw_keeps}
+use Rattle.parking_lot_world_calls.specs.CallKinds.{IsOfWorld}
 use Rattle.parking_lot_world.specs.RowSteps.{IsLateRwMove, IsMoveOf, IsRwMove}
-use Rattle.parking_lot_world.specs.Rows.{State, rw_core_role, rw_spot}
+use Rattle.parking_lot_world.specs.Rows.{State}
+use Rattle.parking_lot_world_calls.specs.CallRoles.{rw_core_role, rw_spot}
 use Rattle.parking_lot_world.specs.RwLaws.{Finds, IsStep, Learns, Meets, with_role, count_shared}
-use Rattle.parking_lot_world.specs.Stances.{core_act, core_next, core_tells, has_begun, late_rw_act, late_rw_stance, pending_from, sleeper_asleep, stance, taken_count, sign}
-use Rattle.parking_lot_world.specs.Stances as stances
+use Rattle.parking_lot_world_calls.specs.Stances.{core_act, core_next, core_tells, has_begun, late_rw_act, late_rw_stance, pending_from, sleeper_asleep, stance, taken_count, sign}
+use Rattle.parking_lot_world_calls.specs.Stances as stances
 use Rattle.parking_lot_world.specs.UpgradeLaws.{MeetsUpgrade, UpgradeLeads, WantsTaken, upgrade_shared}
-use Rattle.parking_lot_world.specs.CallViews.{IsReadySleeper}
-use Rattle.parking_lot_world.specs.LateRoles.{reenters_as, sleeper_wants, resumes_as, sleeper_role, stays}
-use Rattle.parking_lot_world.specs.declared.late_rw.LateRwPhase.{LateRwPhase}
-use Rattle.parking_lot_world.specs.declared.late_rw.RwSleeper.{RwSleeper}
-use Rattle.parking_lot_world.specs.declared.seat.QueuePosition.{QueuePosition}
+use Rattle.parking_lot_world_calls.specs.CallViews.{IsReadySleeper}
+use Rattle.parking_lot_world_calls.specs.LateRoles.{reenters_as, sleeper_wants, resumes_as, sleeper_role, stays}
+use Rattle.parking_lot_world_calls.specs.declared.late_rw.LateRwPhase.{LateRwPhase}
+use Rattle.parking_lot_world_calls.specs.declared.late_rw.RwSleeper.{RwSleeper}
+use Rattle.parking_lot_world_calls.specs.declared.seat.QueuePosition.{QueuePosition}
 use Rattle.parking_lot_world.proofs.KindTable.{RwCall, Simple, Tardy, Upgradable, as_call, rw_call, rw_next, rw_listed, tardy_next, upgrade_listed, resumed_call}
 use Rattle.parking_lot_world.proofs.RwCrossing.{lists_are_known}
 use Rattle.parking_lot_world.proofs.RwKeeping.{calls_keep}

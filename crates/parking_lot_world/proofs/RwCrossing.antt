@@ -25,7 +25,7 @@ use Rattle.parking_lot_protocol.specs.declared.rw_phase.Seeking.{Seeking}
 use Rattle.parking_lot_protocol.specs.declared.rw_phase.Draining.{Draining}
 use Rattle.parking_lot_protocol.specs.Wake.{wake_answer}
 use Rattle.parking_lot_world.specs.Passes.{ArePassed}
-use Rattle.parking_lot_world.specs.Stances.{rw_stance}
+use Rattle.parking_lot_world_calls.specs.Stances.{rw_stance}
 use Rattle.parking_lot_world.specs.RowFits.{rw_knows}
 use Rattle.parking_lot_world.specs.RwLaws.{NobodyIs, act_crossing, move_crossing, in_first, in_second, ActsCross, FreeSectionsAreEmpty, Learns, ListsAreKnown}
 use Rattle.parking_lot_world.proofs.RwKeeping.{one_of}

@@ -4,7 +4,7 @@ use Rattle.std.specs.Option.{option_map_or}
 use Rattle.std.proofs.lemmas.Bool.{both_ways, cases_lt, lt-ltb}
 use Rattle.std.proofs.lemmas.List.Sums.{sum_by-cons}
 use Rattle.parking_lot_rules.proofs.Totals.{total-at}
-use Rattle.parking_lot_world.specs.Stances.{rw_taken}
+use Rattle.parking_lot_world_calls.specs.Stances.{rw_taken}
 use Rattle.parking_lot_core_lot.specs.declared.parking.ParkToken.{ParkToken}
 use Rattle.parking_lot_rules.specs.Classes.{OpenReaders, TakenReaders, weight, total}
 use Rattle.parking_lot_rules.specs.Roles.{Owned, Shares, Role}

@@ -19,7 +19,7 @@ use Rattle.parking_lot_rules.specs.Classes.{bit}
 use Rattle.parking_lot_protocol.specs.RwRules.{IsReady}
 use Rattle.parking_lot_core_lot.specs.declared.parking.UnparkToken.{UnparkToken}
 use Rattle.parking_lot_protocol.specs.declared.act.Act.{Act}
-use Rattle.parking_lot_world.specs.Stances.{rw_taken}
+use Rattle.parking_lot_world_calls.specs.Stances.{rw_taken}
 use Rattle.parking_lot_world.specs.RankLaws.{RwStepsFall, StopsAt}
 use Rattle.parking_lot_protocol.specs.RwTable as of_rw
 use Rattle.parking_lot_world.specs.RankLaws as laws

@@ -30,14 +30,15 @@ use Rattle.parking_lot_upgrades.specs.declared.upgrade_phase.Hold.{Hold}
 use Rattle.parking_lot_upgrades.specs.declared.upgrade_phase.Release.{Release}
 use Rattle.parking_lot_upgrades.specs.declared.upgrade_phase.UpgradePhase.{UpgradePhase}
 use Rattle.parking_lot_world.specs.Passes.{ArePassed, asks, look_by}
-use Rattle.parking_lot_world.specs.RowActs.{told_of}
-use Rattle.parking_lot_world.specs.RowFits.{IsOfWorld, IsPrepared, KnowsList, sees_upgradable, upgrade_keeps, upgrade_knows}
-use Rattle.parking_lot_world.specs.Rows.{mark_of, rw_spot}
+use Rattle.parking_lot_world_calls.specs.CallActs.{told_of}
+use Rattle.parking_lot_world.specs.RowFits.{IsPrepared, KnowsList, sees_upgradable, upgrade_keeps, upgrade_knows}
+use Rattle.parking_lot_world_calls.specs.CallKinds.{IsOfWorld}
+use Rattle.parking_lot_world_calls.specs.CallRoles.{mark_of, rw_spot}
 use Rattle.parking_lot_world.specs.RwLaws.{IsStep, Meets, ending_of, with_roles}
-use Rattle.parking_lot_world.specs.StanceLaws.{Counts, rw_counts}
-use Rattle.parking_lot_world.specs.Stances.{In, Stores, Takes, core_act, core_next, core_tells, rw_stance, seeks_stance, stance, taken_count, upgrade_stance, upgrade_tells, late_rw_act}
+use Rattle.parking_lot_world_calls.specs.StanceLaws.{Counts, rw_counts}
+use Rattle.parking_lot_world_calls.specs.Stances.{In, Stores, Takes, core_act, core_next, core_tells, rw_stance, seeks_stance, stance, taken_count, upgrade_stance, upgrade_tells, late_rw_act}
 use Rattle.parking_lot_world.specs.UpgradeLaws.{UpgradeLeads}
-use Rattle.parking_lot_world.specs.declared.seat.QueuePosition.{QueuePosition}
+use Rattle.parking_lot_world_calls.specs.declared.seat.QueuePosition.{QueuePosition}
 use Rattle.parking_lot_core_lot.specs.declared.place.Waiter.{Waiter}
 use Rattle.parking_lot_world.proofs.KindTable.{RwCall, Simple, Upgradable, rw_call, rw_next, Tardy}
 use Rattle.parking_lot_world.proofs.RwCalls.{CallLearns, CallMeets, CallTold, as_simple, as_upgrade, call_move, call_role}
@@ -45,8 +46,8 @@ use Rattle.parking_lot_world.proofs.RwTaking.{same_scan, scan_holds, scans_go_by
 use Rattle.parking_lot_world.proofs.RwWaking.{stores_are_steps, tokens_say}
 use Rattle.parking_lot_world.proofs.UpgradeMoving.{upgrades_are_steps}
 use Rattle.parking_lot_world.proofs.UpgradeParts.{frees_sums, owes_sums, sees_taken}
-use Rattle.parking_lot_world.proofs.Sleepers.{tardy_takes}
-use Rattle.parking_lot_world.specs.declared.late_rw.LateRwPhase.{LateRwPhase}
+use Rattle.parking_lot_world_calls.proofs.Lying.{tardy_takes}
+use Rattle.parking_lot_world_calls.specs.declared.late_rw.LateRwPhase.{LateRwPhase}
 
 -- WHO GOES THROUGH THE FIRST LIST
 

@@ -19,18 +19,18 @@ use Rattle.parking_lot_upgrades.specs.UpgradeRoles.{for_release, for_upgradable,
 use Rattle.parking_lot_upgrades.specs.UpgradeRules as upgrade_rules
 use Rattle.parking_lot_upgrades.specs.declared.upgrade_phase.Hold.TheVariants as upgrade_hold
 use Rattle.parking_lot_upgrades.specs.declared.upgrade_phase.UpgradePhase.{UpgradePhase}
-use Rattle.parking_lot_world.specs.RowActs.{told_of}
+use Rattle.parking_lot_world_calls.specs.CallActs.{told_of}
 use Rattle.parking_lot_world.specs.RowFits.{rw_prepared, upgrade_prepared}
-use Rattle.parking_lot_world.specs.Rows.{mark_of}
-use Rattle.parking_lot_world.specs.Stances.{core_act, core_next, core_tells, has_begun, late_rw_act, late_rw_stance, pending_from, sleeper_asleep, stance, taken_count}
-use Rattle.parking_lot_world.specs.Stances as stances
-use Rattle.parking_lot_world.specs.LateRoles.{stays}
-use Rattle.parking_lot_world.specs.declared.late_rw.LateRwPhase.{LateRwPhase}
-use Rattle.parking_lot_world.specs.declared.late_rw.RwSleeper.{RwSleeper}
-use Rattle.parking_lot_world.specs.declared.seat.QueuePosition.{QueuePosition}
-use Rattle.parking_lot_world.specs.declared.seat.WakeResult.{WakeResult}
+use Rattle.parking_lot_world_calls.specs.CallRoles.{mark_of}
+use Rattle.parking_lot_world_calls.specs.Stances.{core_act, core_next, core_tells, has_begun, late_rw_act, late_rw_stance, pending_from, sleeper_asleep, stance, taken_count}
+use Rattle.parking_lot_world_calls.specs.Stances as stances
+use Rattle.parking_lot_world_calls.specs.LateRoles.{stays}
+use Rattle.parking_lot_world_calls.specs.declared.late_rw.LateRwPhase.{LateRwPhase}
+use Rattle.parking_lot_world_calls.specs.declared.late_rw.RwSleeper.{RwSleeper}
+use Rattle.parking_lot_world_calls.specs.declared.seat.QueuePosition.{QueuePosition}
+use Rattle.parking_lot_world_calls.specs.declared.seat.WakeResult.{WakeResult}
 use Rattle.parking_lot_world.proofs.KindTable.{RwCall, Simple, Tardy, Upgradable, as_call, rw_call, rw_next}
-use Rattle.parking_lot_world.proofs.Sleepers.{back_up, lies_so, found_up}
+use Rattle.parking_lot_world_calls.proofs.Lying.{back_up, lies_so, found_up}
 use Rattle.parking_lot_world.proofs.RwCalls.{CallLearns, CallStands, CallTold, HasStood, TardyStands, call_role}
 
 -- WHO SLEEPS

@@ -23,15 +23,15 @@ use Rattle.parking_lot_protocol.specs.Wake.{wake_answer}
 use Rattle.parking_lot_protocol.specs.WakeRules.{answer_to}
 use Rattle.parking_lot_protocol.specs.declared.rw_phase.LockMode.{LockMode}
 use Rattle.parking_lot_protocol.specs.declared.rw_phase.RwPhase.{RwPhase}
-use Rattle.parking_lot_world.specs.Stances.{rw_stance}
+use Rattle.parking_lot_world_calls.specs.Stances.{rw_stance}
 use Rattle.parking_lot_world.specs.RowFits.{rw_prepared}
 use Rattle.parking_lot_protocol.specs.declared.rw_phase.Outcome.{Outcome}
-use Rattle.parking_lot_world.specs.Rows.{owned_of}
-use Rattle.parking_lot_world.specs.RowActs.{rest_hold, outcome_hold}
+use Rattle.parking_lot_world_calls.specs.CallRoles.{owned_of}
+use Rattle.parking_lot_world_calls.specs.CallActs.{rest_hold, outcome_hold}
 use Rattle.parking_lot_rules.specs.Roles as rules
 use Rattle.parking_lot_protocol.specs.declared.act.ActResult.TheVariants as seen
 use Rattle.parking_lot_protocol.specs.declared.rw_phase.LockMode.TheVariants as want
-use Rattle.parking_lot_world.specs.Stances as stance
+use Rattle.parking_lot_world_calls.specs.Stances as stance
 
 -- the scan of a role, whatever that of others
 unscan : rules.Role → Scan

@@ -14,11 +14,11 @@ use Rattle.parking_lot_protocol.specs.declared.rw_phase.RwPhase.{RwPhase}
 use Rattle.parking_lot_protocol.specs.declared.rw_phase.RwPhase.TheVariants.{Sleeps, DrainSleeps}
 use Rattle.parking_lot_protocol.specs.RwRules.{does, mode_of, owns}
 use Rattle.parking_lot_protocol.specs.RwRules as rules_of
-use Rattle.parking_lot_world.specs.declared.seat.QueuePosition.{QueuePosition}
-use Rattle.parking_lot_world.specs.declared.seat.WakeResult.{WakeResult}
-use Rattle.parking_lot_world.specs.Rows.{rw_spot, mark_of}
+use Rattle.parking_lot_world_calls.specs.declared.seat.QueuePosition.{QueuePosition}
+use Rattle.parking_lot_world_calls.specs.declared.seat.WakeResult.{WakeResult}
+use Rattle.parking_lot_world_calls.specs.CallRoles.{rw_spot, mark_of}
 use Rattle.parking_lot_world.specs.RwLaws.{told_by, StoresTell}
-use Rattle.parking_lot_world.specs.LateRoles.{staying}
+use Rattle.parking_lot_world_calls.specs.LateRoles.{staying}
 
 -- whom anybody has taken and told nothing, the one has that scans
 open_by : (l : Lock) (t u by : ℕ) (scan : Scan) (own : Owned) (m : Mode) (stay : rules.Stay) → IsSound l → slice_get l.roles t ≡ Some (scanning scan) → slice_get l.roles u ≡ Some (record { owns = own; does = rules.Taken1 m by rules.Open stay }) → by ≡ t

@@ -23,15 +23,15 @@ use Rattle.parking_lot_upgrades.specs.declared.upgrade_phase.Hold.TheVariants as
 use Rattle.parking_lot_upgrades.specs.declared.upgrade_phase.UpgradePhase.{UpgradePhase}
 use Rattle.parking_lot_upgrades.specs.UpgradeTable as upgrade_table
 use Rattle.parking_lot_world.specs.ActLaws.{OwnsFor}
-use Rattle.parking_lot_world.specs.RowActs.{hold_after, kept_hold, settled_spot, upgrade_hold_after}
+use Rattle.parking_lot_world_calls.specs.CallActs.{hold_after, kept_hold, settled_spot, upgrade_hold_after}
 use Rattle.parking_lot_world.specs.RowFits.{IsPrepared, KnowsList, rw_knows, rw_prepared, upgrade_begins, upgrade_knows}
-use Rattle.parking_lot_world.specs.Rows.{mark_of, owned_of, rw_spot}
+use Rattle.parking_lot_world_calls.specs.CallRoles.{mark_of, owned_of, rw_spot}
 use Rattle.parking_lot_world.specs.RwLaws.{Finds, IsLastStep, IsStep, Learns, Meets, rw_begins, with_role}
-use Rattle.parking_lot_world.specs.Stances.{In, Joins, core_act, has_begun, rw_begun, rw_stance, seeks_stance, stance, upgrade_stance, late_rw_act}
+use Rattle.parking_lot_world_calls.specs.Stances.{In, Joins, core_act, has_begun, rw_begun, rw_stance, seeks_stance, stance, upgrade_stance, late_rw_act}
 use Rattle.parking_lot_world.specs.UpgradeLaws.{upgrade_owned_after}
-use Rattle.parking_lot_world.specs.declared.seat.Hold.{Hold}
-use Rattle.parking_lot_world.specs.declared.seat.QueuePosition.{QueuePosition}
-use Rattle.parking_lot_world.specs.declared.seat.WakeResult.{WakeResult}
+use Rattle.parking_lot_world_calls.specs.declared.seat.Hold.{Hold}
+use Rattle.parking_lot_world_calls.specs.declared.seat.QueuePosition.{QueuePosition}
+use Rattle.parking_lot_world_calls.specs.declared.seat.WakeResult.{WakeResult}
 use Rattle.parking_lot_world.proofs.KindTable.{RwCall, Simple, Upgradable, rw_call, rw_next, Tardy}
 use Rattle.parking_lot_world.proofs.OwnMoves.{OwnMove}
 use Rattle.parking_lot_world.proofs.RwCalls.{CallLearns, CallMeets, CallStands, CallTold, as_simple, as_upgrade, call_move, call_role}
@@ -44,10 +44,10 @@ use Rattle.parking_lot_world.proofs.UpgradeGoing.{upgrades_keep}
 use Rattle.parking_lot_world.proofs.UpgradeKeeping.{upgrades_end}
 use Rattle.parking_lot_world.proofs.UpgradeMoving.{upgrades_are_steps}
 use Rattle.parking_lot_world.proofs.UpgradeOwning.{upgrade_starts}
-use Rattle.parking_lot_world.proofs.Sleepers.{tardy_joins}
-use Rattle.parking_lot_world.specs.LateRoles.{late_rw_role, sleeper_role, staying, stays}
-use Rattle.parking_lot_world.specs.declared.late_rw.LateRwPhase.{LateRwPhase}
-use Rattle.parking_lot_world.specs.declared.late_rw.RwSleeper.{RwSleeper}
+use Rattle.parking_lot_world_calls.proofs.Lying.{tardy_joins}
+use Rattle.parking_lot_world_calls.specs.LateRoles.{late_rw_role, sleeper_role, staying, stays}
+use Rattle.parking_lot_world_calls.specs.declared.late_rw.LateRwPhase.{LateRwPhase}
+use Rattle.parking_lot_world_calls.specs.declared.late_rw.RwSleeper.{RwSleeper}
 
 -- WHO IS TOLD BY A STORE
 

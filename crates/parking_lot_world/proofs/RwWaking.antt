@@ -20,10 +20,10 @@ use Rattle.parking_lot_protocol.specs.RwTable.{next_phase, hands, count_of, wake
 use Rattle.parking_lot_protocol.specs.Acts.{word_after}
 use Rattle.parking_lot_protocol.specs.RwRules.{QueuePosition, Listed, Off, role, mode_of, waking, ending, owned_at_last, scan_of}
 use Rattle.parking_lot_protocol.proofs.MutexFollowing.{either}
-use Rattle.parking_lot_world.specs.declared.seat.WakeResult.TheVariants as told
+use Rattle.parking_lot_world_calls.specs.declared.seat.WakeResult.TheVariants as told
 use Rattle.parking_lot_world.specs.RwLaws.{IsStep, Meets, ending_of, StoresAreSteps, TokensSay, WakesAreSteps, WokenAreTold, OnlySleepersStand}
-use Rattle.parking_lot_world.specs.Rows.{mark_of}
-use Rattle.parking_lot_world.specs.RowActs.{told_of}
+use Rattle.parking_lot_world_calls.specs.CallRoles.{mark_of}
+use Rattle.parking_lot_world_calls.specs.CallActs.{told_of}
 use Rattle.parking_lot_world.proofs.RwMoving.{moved, same_word}
 use Rattle.parking_lot_world.proofs.RwTaking.{same_scan, scan_holds}
 

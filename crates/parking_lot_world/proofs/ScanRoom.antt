@@ -5,17 +5,18 @@ use Rattle.parking_lot_protocol.specs.declared.rw_phase.RwPhase.{RwPhase}
 use Rattle.parking_lot_protocol.specs.RwRules.{IsToken}
 use Rattle.parking_lot_rules.specs.Classes.{bit}
 use Rattle.std.proofs.lemmas.Bool.{both_ways}
-use Rattle.parking_lot_world.specs.Kinds.{AsRw, Manner, manner_of, recursive_in}
-use Rattle.parking_lot_world.specs.declared.open_call.Call.{Call}
-use Rattle.parking_lot_world.specs.declared.seat.Core.{Core}
+use Rattle.parking_lot_world_calls.specs.Kinds.{AsRw, Manner, manner_of, recursive_in}
+use Rattle.parking_lot_world_calls.specs.declared.open_call.Call.{Call}
+use Rattle.parking_lot_world_calls.specs.declared.seat.Core.{Core}
 use Rattle.parking_lot_world.specs.Rows.{State, call_at, taken_by}
 use Rattle.parking_lot_core_lot.specs.declared.parking.FilterOp.TheVariants.{Unpark}
 use Rattle.parking_lot_world.specs.Passes.{asks, look_by}
-use Rattle.parking_lot_world.specs.Stances.{Takes, In, core_act, stance, taken_count}
-use Rattle.parking_lot_world.specs.StanceLaws.{Counts, rw_counts}
-use Rattle.parking_lot_world.specs.RowActs.{key_of}
-use Rattle.parking_lot_world.specs.RowFits.{FitsTogether, IsOfKind, IsOfManner, IsPrepared}
-use Rattle.parking_lot_world.proofs.Stancing.{small_key}
+use Rattle.parking_lot_world_calls.specs.Stances.{Takes, In, core_act, stance, taken_count}
+use Rattle.parking_lot_world_calls.specs.StanceLaws.{Counts, rw_counts}
+use Rattle.parking_lot_world_calls.specs.CallActs.{key_of}
+use Rattle.parking_lot_world.specs.RowFits.{FitsTogether, IsPrepared}
+use Rattle.parking_lot_world_calls.specs.CallKinds.{IsOfKind, IsOfManner}
+use Rattle.parking_lot_world_calls.proofs.Stancing.{small_key}
 use Rattle.parking_lot_world.proofs.KindTable.{RwCall, Simple, Upgradable, of_rws, rw_call}
 use Rattle.parking_lot_world.proofs.Meeting.{meets}
 use Rattle.parking_lot_world.proofs.RwSleeps.{call_sleeps}

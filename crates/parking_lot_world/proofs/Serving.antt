@@ -27,31 +27,33 @@ use Rattle.parking_lot_upgrades.specs.UpgradeTable as upgrade_table
 use Rattle.parking_lot_upgrades.specs.declared.upgrade_phase.Hold.{Hold as Kept}
 use Rattle.parking_lot_upgrades.specs.declared.upgrade_phase.Release.{Release}
 use Rattle.parking_lot_upgrades.specs.declared.upgrade_phase.UpgradePhase.{UpgradePhase}
-use Rattle.parking_lot_world.specs.Stances.{seeks_stance, upgrade_stance, upgrade_taken, late_rw_act, late_rw_pending, late_rw_stance, sleeper_stance}
-use Rattle.parking_lot_world.specs.Rows.{rw_core_role, mutex_does}
+use Rattle.parking_lot_world_calls.specs.Stances.{seeks_stance, upgrade_stance, upgrade_taken, late_rw_act, late_rw_pending, late_rw_stance, sleeper_stance}
+use Rattle.parking_lot_world_calls.specs.CallRoles.{rw_core_role, mutex_does}
 use Rattle.parking_lot_world.proofs.KindTable as KindTable
 use Rattle.parking_lot_world.proofs.KindTable.{RwCall, Simple, rw_call, Tardy}
-use Rattle.parking_lot_world.specs.Kinds.{AsMutex, AsRw, manner_of, Manner}
-use Rattle.parking_lot_world.specs.declared.calls.OwnMode.{OwnMode}
-use Rattle.parking_lot_world.specs.declared.seat.QueuePosition.{QueuePosition}
-use Rattle.parking_lot_world.specs.declared.seat.LatePhase.{LatePhase}
-use Rattle.parking_lot_world.specs.declared.seat.Core.{Core}
-use Rattle.parking_lot_world.specs.declared.open_call.Call.{Call}
-use Rattle.parking_lot_world.specs.CallViews.{mutex_mode, rw_mode}
+use Rattle.parking_lot_world_calls.specs.Kinds.{AsMutex, AsRw, manner_of, Manner}
+use Rattle.parking_lot_world_calls.specs.declared.calls.OwnMode.{OwnMode}
+use Rattle.parking_lot_world_calls.specs.declared.seat.QueuePosition.{QueuePosition}
+use Rattle.parking_lot_world_calls.specs.declared.seat.LatePhase.{LatePhase}
+use Rattle.parking_lot_world_calls.specs.declared.seat.Core.{Core}
+use Rattle.parking_lot_world_calls.specs.declared.open_call.Call.{Call}
+use Rattle.parking_lot_world_calls.specs.CallViews.{mutex_mode, rw_mode}
 use Rattle.parking_lot_world.specs.Machines.{can_move, can_move_in, goes_late, is_asleep, is_possible, is_taken, sleeps}
-use Rattle.parking_lot_world.specs.RowFits.{FitsTogether, IsOfKind, IsOfManner, Stands, Seated}
-use Rattle.parking_lot_world.specs.Rows.{State, mutex_spot, rw_spot, lock_as, mutex_at, rw_lock_at, call_at, everybody, hold_at, lock_at, mutex_role_at, rw_role_at, taken_by}
+use Rattle.parking_lot_world.specs.RowFits.{FitsTogether, Stands, Seated}
+use Rattle.parking_lot_world_calls.specs.CallKinds.{IsOfKind, IsOfManner}
+use Rattle.parking_lot_world.specs.Rows.{State, lock_as, mutex_at, rw_lock_at, call_at, everybody, hold_at, lock_at, mutex_role_at, rw_role_at, taken_by}
+use Rattle.parking_lot_world_calls.specs.CallRoles.{mutex_spot, rw_spot}
 use Rattle.parking_lot_world.specs.SoundLaws.{IsApart, SomebodyCanMove, SomebodyKeeps}
-use Rattle.parking_lot_world.specs.Stances.{Stance, Out, In, Doing, late_act, late_stance, taken_count, mutex_taken, rw_taken, core_act, mutex_stance, rw_stance, stance}
-use Rattle.parking_lot_world.specs.Stances as stances
+use Rattle.parking_lot_world_calls.specs.Stances.{Stance, Out, In, Doing, late_act, late_stance, taken_count, mutex_taken, rw_taken, core_act, mutex_stance, rw_stance, stance}
+use Rattle.parking_lot_world_calls.specs.Stances as stances
 use Rattle.parking_lot_world.specs.Worlds.{mode_in}
 use Rattle.parking_lot_world.proofs.Everybody.{get-all, within-all, was-all}
 use Rattle.parking_lot_world.proofs.Viewing.{apart_role}
 use Rattle.parking_lot_world.proofs.KindTable.{MutexCall, Plain, Late, mutex_call, Kind, of_mutexes, of_rws, role_at, role_now}
 use Rattle.parking_lot_world.proofs.Meeting.{in_range, mutex_sound, rw_sound}
-use Rattle.parking_lot_world.specs.declared.late_rw.LateRwPhase.{LateRwPhase}
-use Rattle.parking_lot_world.specs.LateActs.{comes_late, is_back, is_pending, late_is_back, late_rw_is_back}
-use Rattle.parking_lot_world.proofs.Sleepers.{lies_out}
+use Rattle.parking_lot_world_calls.specs.declared.late_rw.LateRwPhase.{LateRwPhase}
+use Rattle.parking_lot_world_calls.specs.LateCalls.{comes_late, is_back, is_pending, late_is_back, late_rw_is_back}
+use Rattle.parking_lot_world_calls.proofs.Lying.{lies_out}
 use Rattle.parking_lot_rules.specs.Classes.{bit}
 
 -- ACTS

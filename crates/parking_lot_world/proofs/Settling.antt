@@ -8,12 +8,13 @@ use Rattle.parking_lot_core_lot.specs.declared.parking.UnparkToken.{UnparkToken}
 use Rattle.parking_lot_core_lot.specs.Machine.{stored}
 use Rattle.parking_lot_core_lot.proofs.Numbers.{count_by-set, count_by-map_same}
 use Rattle.parking_lot_protocol.specs.declared.act.ActResult.{ActResult}
-use Rattle.parking_lot_world.specs.declared.seat.WakeResult.{WakeResult}
-use Rattle.parking_lot_world.specs.declared.seat.QueuePosition.{QueuePosition}
-use Rattle.parking_lot_world.specs.declared.open_call.Call.{Call}
-use Rattle.parking_lot_world.specs.declared.seat.Wakeup.{Wakeup}
+use Rattle.parking_lot_world_calls.specs.declared.seat.WakeResult.{WakeResult}
+use Rattle.parking_lot_world_calls.specs.declared.seat.QueuePosition.{QueuePosition}
+use Rattle.parking_lot_world_calls.specs.declared.open_call.Call.{Call}
+use Rattle.parking_lot_world_calls.specs.declared.seat.Wakeup.{Wakeup}
 use Rattle.parking_lot_world.specs.Rows.{State, word_at, call_at, taken_by}
-use Rattle.parking_lot_world.specs.RowActs.{with_call, with_lot, with_word, hears, settled_spot, settled, settles, told_of}
+use Rattle.parking_lot_world.specs.RowActs.{with_call, with_lot, with_word, settles}
+use Rattle.parking_lot_world_calls.specs.CallActs.{hears, settled_spot, settled, told_of}
 use Rattle.parking_lot_world.specs.RowFits.{FitsTogether, RulesFit, WakesFit, IsTaken, is_away, is_off}
 use Rattle.parking_lot_world.proofs.Acting.{word-elsewhere}
 use Rattle.parking_lot_world.proofs.Calling.{call_of, slot, call-here, call-elsewhere, calls-change}

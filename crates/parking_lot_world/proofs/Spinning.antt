@@ -16,15 +16,15 @@ use Rattle.parking_lot_protocol.specs.RwTable as of_rw
 use Rattle.parking_lot_upgrades.specs.UpgradeTable as ut
 use Rattle.parking_lot_upgrades.specs.declared.upgrade_phase.UpgradePhase.{UpgradePhase}
 use Rattle.parking_lot_world.specs.Rounds.{upgrade_rounds, late_rw_rounds, rounds, sleeper_rounds}
-use Rattle.parking_lot_world.specs.Stances.{upgrade_begun, late_rw_next, pending_from, quits_as, sign, resumed_as, sleeper_asleep}
-use Rattle.parking_lot_world.specs.declared.seat.LatePhase.{LatePhase}
-use Rattle.parking_lot_world.specs.declared.seat.Core.{Core}
+use Rattle.parking_lot_world_calls.specs.Stances.{upgrade_begun, late_rw_next, pending_from, quits_as, sign, resumed_as, sleeper_asleep}
+use Rattle.parking_lot_world_calls.specs.declared.seat.LatePhase.{LatePhase}
+use Rattle.parking_lot_world_calls.specs.declared.seat.Core.{Core}
 use Rattle.parking_lot_world.specs.Rounds.{FewRounds, IsUnderWay, mutex_rounds, rw_rounds}
-use Rattle.parking_lot_world.specs.Stances.{core_next, late_next, has_begun, mutex_begun, rw_begun}
+use Rattle.parking_lot_world_calls.specs.Stances.{core_next, late_next, has_begun, mutex_begun, rw_begun}
 use Rattle.parking_lot_world.proofs.Beginning.{goes_on}
 use Rattle.parking_lot_rules.specs.Classes.{bit}
-use Rattle.parking_lot_world.specs.declared.late_rw.LateRwPhase.{LateRwPhase}
-use Rattle.parking_lot_world.specs.declared.late_rw.RwSleeper.{RwSleeper}
+use Rattle.parking_lot_world_calls.specs.declared.late_rw.LateRwPhase.{LateRwPhase}
+use Rattle.parking_lot_world_calls.specs.declared.late_rw.RwSleeper.{RwSleeper}
 
 -- a call that doesn't spin, and one of two
 no_rounds : 0 ≤ 10

@@ -13,29 +13,32 @@ use Rattle.parking_lot_rules.specs.Family.{IsFree, entered_after, Crossing}
 use Rattle.parking_lot_protocol.specs.declared.act.Act.{Act}
 use Rattle.parking_lot_protocol.specs.Acts.{word_after}
 use Rattle.parking_lot_protocol.specs.declared.mutex_core.MutexCore.{MutexCore}
-use Rattle.parking_lot_world.specs.Kinds.{AsMutex, AsRw, manner_of, recursive_in}
-use Rattle.parking_lot_world.specs.declared.seat.LatePhase.{LatePhase}
-use Rattle.parking_lot_world.specs.declared.seat.Core.{Core}
-use Rattle.parking_lot_world.specs.declared.open_call.Call.{Call}
-use Rattle.parking_lot_world.specs.declared.seat.QueuePosition.{QueuePosition}
-use Rattle.parking_lot_world.specs.Rows.{State, word_at, call_at, hold_at, taken_by, first_of_all, mutex_at, rw_role_at, rw_lock_at, queue_at, inside, owned_of, owns_mutex, mutex_spot, mutex_role}
-use Rattle.parking_lot_world.specs.Stances.{Takes, has_begun, mutex_begun, late_act, core_act, core_next, Stance, Out, In, Asleep, stance, taken_count}
+use Rattle.parking_lot_world_calls.specs.Kinds.{AsMutex, AsRw, manner_of, recursive_in}
+use Rattle.parking_lot_world_calls.specs.declared.seat.LatePhase.{LatePhase}
+use Rattle.parking_lot_world_calls.specs.declared.seat.Core.{Core}
+use Rattle.parking_lot_world_calls.specs.declared.open_call.Call.{Call}
+use Rattle.parking_lot_world_calls.specs.declared.seat.QueuePosition.{QueuePosition}
+use Rattle.parking_lot_world.specs.Rows.{State, word_at, call_at, hold_at, taken_by, mutex_at, rw_role_at, rw_lock_at, queue_at, inside}
+use Rattle.parking_lot_world_calls.specs.CallRoles.{first_of_all, owned_of, owns_mutex, mutex_spot, mutex_role}
+use Rattle.parking_lot_world_calls.specs.Stances.{Takes, has_begun, mutex_begun, late_act, core_act, core_next, Stance, Out, In, Asleep, stance, taken_count}
 use Rattle.parking_lot_core_lot.specs.Places.{passed_of}
 use Rattle.parking_lot_world.specs.Passes.{ArePassed, asks}
-use Rattle.parking_lot_world.specs.RowActs.{answered, begun, hears, hold_after, kept_hold, mutex_hold_after, rw_hold_after, upgrade_hold_after}
-use Rattle.parking_lot_world.specs.RowFits.{FitsTogether, IsOfKind, IsPrepared, KnowsList, WakesFit, is_away, is_off, mutex_knows}
+use Rattle.parking_lot_world.specs.RowActs.{answered, begun}
+use Rattle.parking_lot_world_calls.specs.CallActs.{hears, hold_after, kept_hold, mutex_hold_after, rw_hold_after, upgrade_hold_after}
+use Rattle.parking_lot_world.specs.RowFits.{FitsTogether, IsPrepared, KnowsList, WakesFit, is_away, is_off, mutex_knows}
+use Rattle.parking_lot_world_calls.specs.CallKinds.{IsOfKind}
 use Rattle.parking_lot_rules.specs.Holds.{shared_holds}
 use Rattle.parking_lot_rules.specs.Lock.{Lock}
 use Rattle.parking_lot_protocol.specs.declared.rw_phase.RwPhase.{RwPhase}
 use Rattle.parking_lot_world.specs.RwLaws.{IsLastStep, move_crossing, with_role}
-use Rattle.parking_lot_world.specs.declared.seat.Wakeup.{Wakeup}
+use Rattle.parking_lot_world_calls.specs.declared.seat.Wakeup.{Wakeup}
 use Rattle.parking_lot_world.specs.MutexLaws.{crossing_of, mutex_of}
 use Rattle.parking_lot_world.specs.ActLaws.{Acts, OwnsFor, MayBegin, Ends}
 use Rattle.parking_lot_world.proofs.Spinning.{unbegun_few, under_way}
 use Rattle.parking_lot_world.proofs.LotActs.{begun_fits, same_parts, ended_fits}
 use Rattle.parking_lot_world.proofs.MutexMoving.{steps}
 use Rattle.parking_lot_world.proofs.MutexRoles.{words}
-use Rattle.parking_lot_world.proofs.Stancing.{calls_begin, calls_end}
+use Rattle.parking_lot_world_calls.proofs.Stancing.{calls_begin, calls_end}
 use Rattle.parking_lot_world.proofs.Meeting.{rw_sound, mutex_sound, role_few, in_range, meets, plays, plays_late}
 use Rattle.parking_lot_world.proofs.OwnMoves.{OwnMove, own_some}
 use Rattle.parking_lot_world.proofs.Ruling.{CallFits, Fitted, call_fits, rules_after, same_kind}
@@ -47,9 +50,9 @@ use Rattle.parking_lot_protocol.specs.declared.mutex_phase.MutexPhase.{MutexPhas
 use Rattle.parking_lot_world.proofs.Calling.{call_of, call-here, call-elsewhere, slot}
 use Rattle.parking_lot_core_lot.specs.declared.parking.ParkToken.{ParkToken}
 use Rattle.parking_lot_rules.proofs.Indexed.{get-set_same, get-set_other}
-use Rattle.parking_lot_world.specs.declared.seat.Hold.{Hold}
+use Rattle.parking_lot_world_calls.specs.declared.seat.Hold.{Hold}
 use Rattle.parking_lot_rules.specs.Clauses.{word_of}
-use Rattle.parking_lot_world.specs.StanceLaws.{IsOver}
+use Rattle.parking_lot_world_calls.specs.StanceLaws.{IsOver}
 use Rattle.parking_lot_protocol.specs.declared.act.CoreAnswer.{CoreAnswer}
 use Rattle.parking_lot_world.specs.RowSteps.{IsLastOf, IsQuiet, IsRwMove}
 use Rattle.parking_lot_world.proofs.MutexTelling.{shown as shown_as}

@@ -9,27 +9,29 @@ use Rattle.parking_lot_protocol.specs.declared.act.Act.{Act}
 use Rattle.parking_lot_protocol.specs.declared.act.SectionAct.TheVariants as section
 use Rattle.parking_lot_protocol.specs.declared.act.CoreAnswer.{CoreAnswer}
 use Rattle.parking_lot_protocol.specs.declared.act.WordChange.{WordChange}
-use Rattle.parking_lot_world.specs.declared.open_call.Call.{Call}
+use Rattle.parking_lot_world_calls.specs.declared.open_call.Call.{Call}
 use Rattle.parking_lot_world.specs.Rows.{State, call_at}
-use Rattle.parking_lot_world.specs.Stances.{Takes, sign, late_act, late_rw_act, core_act, core_next, core_tells}
-use Rattle.parking_lot_world.specs.RowActs.{key_of, added, appended, answered, checked, entered, exchanged, left, loaded, masked, spun, told_all, took, took_nobody, woke, woke_nobody}
+use Rattle.parking_lot_world_calls.specs.Stances.{Takes, sign, late_act, late_rw_act, core_act, core_next, core_tells}
+use Rattle.parking_lot_world.specs.RowActs.{added, appended, answered, checked, entered, exchanged, left, loaded, masked, spun, told_all, took, took_nobody, woke, woke_nobody}
+use Rattle.parking_lot_world_calls.specs.CallActs.{key_of}
 use Rattle.parking_lot_world.specs.RowFits.{FitsTogether}
 use Rattle.parking_lot_world.specs.ActLaws.{Acts, Ends, Keeps}
 use Rattle.parking_lot_world.specs.Machines.{may_expire_in, is_possible, is_taken, can_move_in, can_move, end_of, goes_late, Became, BecameLate, IsJoined, IsStepped, IsTakenFrom, IsWoken}
 use Rattle.parking_lot_core_lot.specs.declared.place.Place.TheVariants.{Taken}
 use Rattle.parking_lot_protocol.specs.declared.act.ActResult.TheVariants as seen
 use Rattle.parking_lot_world.specs.Ranks.{Pays}
-use Rattle.parking_lot_world.proofs.Stancing.{small_key}
+use Rattle.parking_lot_world_calls.proofs.Stancing.{small_key}
 use Rattle.parking_lot_world.proofs.LotKept.{acts_keep_fits}
 use Rattle.parking_lot_world.proofs.LotSound.{appended_sound, left_sound, stored_sound, took_sound, took_nobody_sound, woke_sound}
 use Rattle.parking_lot_core_lot.specs.Sound as lot
 use Rattle.parking_lot_core_lot.proofs.Sequences.{sound_returned}
-use Rattle.parking_lot_world.specs.LateActs.{comes_late, is_back, is_pending, late_key, quitted, returned, sleeps_in_time, came_back, found}
-use Rattle.parking_lot_world.specs.declared.late_rw.LateRwPhase.{LateRwPhase}
+use Rattle.parking_lot_world.specs.LateActs.{quitted, returned, came_back, found}
+use Rattle.parking_lot_world_calls.specs.LateCalls.{comes_late, is_back, is_pending, late_key, sleeps_in_time}
+use Rattle.parking_lot_world_calls.specs.declared.late_rw.LateRwPhase.{LateRwPhase}
 use Rattle.parking_lot_rules.specs.Classes.{bit}
-use Rattle.parking_lot_world.specs.declared.seat.LatePhase.{LatePhase}
-use Rattle.parking_lot_world.specs.declared.seat.Core.{Core}
-use Rattle.parking_lot_world.specs.declared.seat.QueuePosition.{QueuePosition}
+use Rattle.parking_lot_world_calls.specs.declared.seat.LatePhase.{LatePhase}
+use Rattle.parking_lot_world_calls.specs.declared.seat.Core.{Core}
+use Rattle.parking_lot_world_calls.specs.declared.seat.QueuePosition.{QueuePosition}
 use Rattle.parking_lot_world.proofs.Acting.{laws}
 use Rattle.parking_lot_world.proofs.LateActs.{laws as late_laws}
 use Rattle.parking_lot_world.proofs.Paying as pays
@@ -37,7 +39,7 @@ use Rattle.parking_lot_world.proofs.Paying.{IsTaking}
 use Rattle.parking_lot_world.proofs.WakesPaying.{wakes_pay, nobody_pays, ends_pay}
 use Rattle.parking_lot_world.proofs.TakeLaws as takes
 use Rattle.parking_lot_world.proofs.TellActs as tells
-use Rattle.parking_lot_world.specs.declared.seat.WakeResult.{WakeResult}
+use Rattle.parking_lot_world_calls.specs.declared.seat.WakeResult.{WakeResult}
 
 -- one whose moment has passed does what its core says
 comes_act : (k : Core) → comes_late k ≡ true → core_act k ≡ Act.Sleep

@@ -1,9 +1,9 @@
 -- The steps of sum_by (far_steps n) threads but one, where calls have changed.
 use Rattle.std.proofs.Common.{◌≡◌, ℕ, zero, suc, ◌+◌, ◌≤◌, List, [], ◌∷◌, map, Option, Some, None, option_map, slice_set, sum_by, refl, ap, arith}
 use Rattle.std.proofs.lemmas.List.Sums.{sum_by-cons}
-use Rattle.parking_lot_world.specs.declared.seat.WakeResult.{WakeResult}
-use Rattle.parking_lot_world.specs.declared.open_call.Call.{Call}
-use Rattle.parking_lot_world.specs.RowActs.{settled}
+use Rattle.parking_lot_world_calls.specs.declared.seat.WakeResult.{WakeResult}
+use Rattle.parking_lot_world_calls.specs.declared.open_call.Call.{Call}
+use Rattle.parking_lot_world_calls.specs.CallActs.{settled}
 use Rattle.parking_lot_world.specs.Ranks.{far_steps}
 use Rattle.parking_lot_world.proofs.Calling.{call_of}
 use Rattle.parking_lot_world.proofs.Indexing.{set_twice}

@@ -9,16 +9,17 @@ use Rattle.parking_lot_core_lot.specs.declared.parking.FilterOp.TheVariants.{Unp
 use Rattle.parking_lot_protocol.specs.declared.act.ActResult.{ActResult}
 use Rattle.parking_lot_world.proofs.KindTable.{RwCall, Simple, Upgradable, rw_call}
 use Rattle.parking_lot_world.proofs.RwScans.{scanner, takes_where}
-use Rattle.parking_lot_world.specs.declared.seat.Core.{Core}
-use Rattle.parking_lot_world.specs.declared.open_call.Call.{Call}
+use Rattle.parking_lot_world_calls.specs.declared.seat.Core.{Core}
+use Rattle.parking_lot_world_calls.specs.declared.open_call.Call.{Call}
 use Rattle.parking_lot_world.specs.Rows.{State, word_at, call_at, taken_by}
-use Rattle.parking_lot_world.specs.Stances.{Takes, Stores, Stance, In, Asleep, stance, core_act, core_next}
-use Rattle.parking_lot_world.specs.RowActs.{hears, key_of, off_list, took}
+use Rattle.parking_lot_world_calls.specs.Stances.{Takes, Stores, Stance, In, Asleep, stance, core_act, core_next}
+use Rattle.parking_lot_world.specs.RowActs.{took}
+use Rattle.parking_lot_world_calls.specs.CallActs.{hears, key_of, off_list}
 use Rattle.parking_lot_world.specs.RowFits.{FitsTogether, IsPrepared, LotFits, PassesFit, RulesFit}
 use Rattle.parking_lot_world.specs.ActLaws.{Acts}
-use Rattle.parking_lot_world.proofs.Stancing.{small_key, takings_count}
-use Rattle.parking_lot_world.specs.declared.seat.QueuePosition.TheVariants as spot
-use Rattle.parking_lot_world.specs.declared.seat.WakeResult.TheVariants as said
+use Rattle.parking_lot_world_calls.proofs.Stancing.{small_key, takings_count}
+use Rattle.parking_lot_world_calls.specs.declared.seat.QueuePosition.TheVariants as spot
+use Rattle.parking_lot_world_calls.specs.declared.seat.WakeResult.TheVariants as said
 use Rattle.parking_lot_world.proofs.Making.{move_sound}
 use Rattle.parking_lot_world.proofs.Carrying.{same_call}
 use Rattle.parking_lot_world.proofs.LotTakes.{took_fits}
@@ -28,9 +29,9 @@ use Rattle.parking_lot_world.proofs.TakeNext.{mutex_asks, takes_so}
 use Rattle.parking_lot_world.proofs.TakeJoins.{late_takes}
 use Rattle.parking_lot_world.proofs.Passing.{no_stop}
 use Rattle.parking_lot_world.proofs.PassingOn.{going_of, passes_taken}
-use Rattle.parking_lot_world.specs.Kinds.{recursive_in}
+use Rattle.parking_lot_world_calls.specs.Kinds.{recursive_in}
 use Rattle.parking_lot_world.specs.Passes.{IsNext, asks}
-use Rattle.parking_lot_world.proofs.Sleepers.{tardy_takes}
+use Rattle.parking_lot_world_calls.proofs.Lying.{tardy_takes}
 
 -- a sleeper is in no section
 asleep_out : (a : Stance) (k : ℕ) (token : ParkToken) → a ≡ Asleep k token → IsOut a

@@ -19,21 +19,24 @@ use Rattle.parking_lot_world.proofs.Carrying.{no_length}
 use Rattle.parking_lot_world.proofs.KindTable.{IsThere, Plain, RwCall, Simple, of_mutexes, of_rws, rw_call, rw_next, sleeps_so}
 use Rattle.parking_lot_world.proofs.RwCalls.{as_simple}
 use Rattle.parking_lot_world.proofs.RwSleeps.{CallSleepsSecond}
-use Rattle.parking_lot_world.specs.declared.seat.WakeResult.{WakeResult}
+use Rattle.parking_lot_world_calls.specs.declared.seat.WakeResult.{WakeResult}
 use Rattle.parking_lot_world.proofs.Making.{mutex_goes, rw_goes}
 use Rattle.parking_lot_world.proofs.Meeting.{meets, plays, rw_hears, rw_sound, exact}
 use Rattle.parking_lot_world.proofs.MutexMoving.{steps}
 use Rattle.parking_lot_world.proofs.RwCrossing.{lists_are_known}
 use Rattle.parking_lot_world.proofs.RwTaking.{writers_are_taken}
 use Rattle.parking_lot_world.proofs.TakeParts.{took_told, TakesSo, the_sleeper, list_here, list_there, nth_there, took_list, took_after, took_elsewhere, waits_listed, waits_so}
-use Rattle.parking_lot_world.specs.Kinds.{recursive_in}
-use Rattle.parking_lot_world.specs.RowActs.{key_of, took}
-use Rattle.parking_lot_world.specs.RowFits.{FitsTogether, IsOfKind, IsPrepared}
+use Rattle.parking_lot_world_calls.specs.Kinds.{recursive_in}
+use Rattle.parking_lot_world.specs.RowActs.{took}
+use Rattle.parking_lot_world_calls.specs.CallActs.{key_of}
+use Rattle.parking_lot_world.specs.RowFits.{FitsTogether, IsPrepared}
+use Rattle.parking_lot_world_calls.specs.CallKinds.{IsOfKind}
 use Rattle.parking_lot_world.proofs.TakeSleepers.{rw_waits}
-use Rattle.parking_lot_world.specs.Rows.{State, word_at, call_at, taken_by, rw_spot, rw_lock_at, first_of_all, mutex_spot, mutex_at}
-use Rattle.parking_lot_world.specs.Stances.{Takes, In, mutex_stance, stance, core_next}
-use Rattle.parking_lot_world.specs.declared.open_call.Call.{Call}
-use Rattle.parking_lot_world.specs.declared.seat.Core.{Core}
+use Rattle.parking_lot_world.specs.Rows.{State, word_at, call_at, taken_by, rw_lock_at, mutex_at}
+use Rattle.parking_lot_world_calls.specs.CallRoles.{rw_spot, first_of_all, mutex_spot}
+use Rattle.parking_lot_world_calls.specs.Stances.{Takes, In, mutex_stance, stance, core_next}
+use Rattle.parking_lot_world_calls.specs.declared.open_call.Call.{Call}
+use Rattle.parking_lot_world_calls.specs.declared.seat.Core.{Core}
 
 -- the one that waits there was the only one
 one_left : (q : List Waiter) → length (threads_of q) ≤ 1 → remove q 0 ≡ []

@@ -19,17 +19,20 @@ use Rattle.parking_lot_upgrades.specs.declared.upgrade_phase.Release.{Release}
 use Rattle.parking_lot_upgrades.specs.declared.upgrade_phase.UpgradePhase.{UpgradePhase}
 use Rattle.parking_lot_protocol.specs.declared.mutex_core.MutexCore.{MutexCore}
 use Rattle.parking_lot_protocol.specs.declared.mutex_phase.MutexPhase.{MutexPhase}
-use Rattle.parking_lot_world.specs.Kinds.{recursive_in}
-use Rattle.parking_lot_world.specs.declared.seat.QueuePosition.{QueuePosition}
-use Rattle.parking_lot_world.specs.declared.seat.LatePhase.{LatePhase}
-use Rattle.parking_lot_world.specs.declared.seat.Core.{Core}
-use Rattle.parking_lot_world.specs.declared.open_call.Call.{Call}
-use Rattle.parking_lot_world.specs.Rows.{State, word_at, call_at, taken_by, first_of_all, mutex_spot, rw_lock_at, mutex_at, inside}
-use Rattle.parking_lot_world.specs.Stances.{Joins, In, late_stance, rw_stance, seeks_stance, upgrade_stance, mutex_stance, stance, core_act, core_next, Takes, Stores, taken_count}
-use Rattle.parking_lot_world.specs.RowActs.{key_of, appended, took_nobody}
-use Rattle.parking_lot_world.specs.RowFits.{FitsTogether, LotFits, WakesFit, IsOfKind, IsPrepared, KnowsList}
+use Rattle.parking_lot_world_calls.specs.Kinds.{recursive_in}
+use Rattle.parking_lot_world_calls.specs.declared.seat.QueuePosition.{QueuePosition}
+use Rattle.parking_lot_world_calls.specs.declared.seat.LatePhase.{LatePhase}
+use Rattle.parking_lot_world_calls.specs.declared.seat.Core.{Core}
+use Rattle.parking_lot_world_calls.specs.declared.open_call.Call.{Call}
+use Rattle.parking_lot_world.specs.Rows.{State, word_at, call_at, taken_by, rw_lock_at, mutex_at, inside}
+use Rattle.parking_lot_world_calls.specs.CallRoles.{first_of_all, mutex_spot}
+use Rattle.parking_lot_world_calls.specs.Stances.{Joins, In, late_stance, rw_stance, seeks_stance, upgrade_stance, mutex_stance, stance, core_act, core_next, Takes, Stores, taken_count}
+use Rattle.parking_lot_world.specs.RowActs.{appended, took_nobody}
+use Rattle.parking_lot_world_calls.specs.CallActs.{key_of}
+use Rattle.parking_lot_world.specs.RowFits.{FitsTogether, LotFits, WakesFit, IsPrepared, KnowsList}
+use Rattle.parking_lot_world_calls.specs.CallKinds.{IsOfKind}
 use Rattle.parking_lot_world.specs.ActLaws.{Acts}
-use Rattle.parking_lot_world.proofs.Stancing.{leads_by}
+use Rattle.parking_lot_world_calls.proofs.Stancing.{leads_by}
 use Rattle.parking_lot_world.proofs.Carrying.{awake_sleeps, up_sleeps}
 use Rattle.parking_lot_world.proofs.LotActs.{awake_by, up_by, took_nobody_fits}
 use Rattle.parking_lot_world.proofs.LotLists.{one_key, appended_fits}
@@ -60,8 +63,8 @@ use Rattle.parking_lot_protocol.specs.declared.act.SectionAct.TheVariants as sec
 use Rattle.parking_lot_protocol.specs.RwRules as of_rw
 use Rattle.parking_lot_protocol.specs.MutexTable as of_mutex_table
 use Rattle.parking_lot_protocol.specs.MutexRules as of_mutex
-use Rattle.parking_lot_world.specs.Stances as stances
-use Rattle.parking_lot_world.proofs.Sleepers.{tardy_joins, tardy_takes}
+use Rattle.parking_lot_world_calls.specs.Stances as stances
+use Rattle.parking_lot_world_calls.proofs.Lying.{tardy_joins, tardy_takes}
 
 late_joins : (p : LatePhase) (k : ℕ) (token : ParkToken) → late_stance p ≡ In k (Joins token) → ⊥
 late_joins LatePhase.Expires k token e = cc

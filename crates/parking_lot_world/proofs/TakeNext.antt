@@ -11,7 +11,7 @@ use Rattle.parking_lot_protocol.specs.declared.mutex_phase.MutexPhase.{MutexPhas
 use Rattle.parking_lot_protocol.specs.declared.rw_phase.AfterWake.{AfterWake}
 use Rattle.parking_lot_protocol.specs.declared.act.Act.{Act}
 use Rattle.parking_lot_protocol.specs.Acts.{Gives}
-use Rattle.parking_lot_world.specs.declared.seat.WakeResult.{WakeResult}
+use Rattle.parking_lot_world_calls.specs.declared.seat.WakeResult.{WakeResult}
 use Rattle.parking_lot_protocol.specs.declared.rw_phase.RwPhase.{RwPhase}
 use Rattle.parking_lot_rules.specs.Roles.{Shares, Open, Taken1}
 use Rattle.parking_lot_world.proofs.Acting.{still_inside}
@@ -21,15 +21,17 @@ use Rattle.parking_lot_world.proofs.RwSleeps.{CallSleepsFirst}
 use Rattle.parking_lot_world.proofs.RwScans.{call_takes, scanner, takes_where}
 use Rattle.parking_lot_world.proofs.ScanRoom.{scans_have_room}
 use Rattle.parking_lot_world.specs.RowSteps.{IsRwMove}
-use Rattle.parking_lot_world.specs.StanceLaws.{Counts}
+use Rattle.parking_lot_world_calls.specs.StanceLaws.{Counts}
 use Rattle.parking_lot_world.proofs.TakeJoins.{late_takes}
 use Rattle.parking_lot_world.proofs.Making.{rw_goes}
 use Rattle.parking_lot_world.proofs.Meeting.{meets, rw_hears}
 use Rattle.parking_lot_world.proofs.RwTaking.{same_take, scans_go_by_tokens}
 use Rattle.parking_lot_world.proofs.TakeParts.{took_told, TakesSo, the_sleeper, list_here, list_there, nth_there, took_list, took_after, took_elsewhere, waits_listed}
-use Rattle.parking_lot_world.specs.Kinds.{recursive_in}
-use Rattle.parking_lot_world.specs.RowActs.{key_of, took}
-use Rattle.parking_lot_world.specs.RowFits.{FitsTogether, IsOfKind, IsPrepared}
+use Rattle.parking_lot_world_calls.specs.Kinds.{recursive_in}
+use Rattle.parking_lot_world.specs.RowActs.{took}
+use Rattle.parking_lot_world_calls.specs.CallActs.{key_of}
+use Rattle.parking_lot_world.specs.RowFits.{FitsTogether, IsPrepared}
+use Rattle.parking_lot_world_calls.specs.CallKinds.{IsOfKind}
 use Rattle.std.proofs.lemmas.Option.{none-some}
 use Rattle.parking_lot_rules.specs.Steps.{look}
 use Rattle.parking_lot_world.specs.Passes.{ArePassed, IsNext, asks, look_by}
@@ -37,10 +39,10 @@ use Rattle.parking_lot_world.proofs.TakeSleepers.{rw_waits}
 use Rattle.parking_lot_world.proofs.TakeFirst.{writes_first, takes_mutex}
 use Rattle.parking_lot_world.proofs.Wanting.{passed_as, want_as_told}
 use Rattle.parking_lot_world.specs.Rows.{State, word_at, call_at, taken_by, rw_lock_at}
-use Rattle.parking_lot_world.specs.Stances.{Takes, In, mutex_stance, stance, core_act, core_next}
-use Rattle.parking_lot_world.specs.declared.open_call.Call.{Call}
-use Rattle.parking_lot_world.specs.declared.seat.Core.{Core}
-use Rattle.parking_lot_world.proofs.Sleepers.{tardy_takes}
+use Rattle.parking_lot_world_calls.specs.Stances.{Takes, In, mutex_stance, stance, core_act, core_next}
+use Rattle.parking_lot_world_calls.specs.declared.open_call.Call.{Call}
+use Rattle.parking_lot_world_calls.specs.declared.seat.Core.{Core}
+use Rattle.parking_lot_world_calls.proofs.Lying.{tardy_takes}
 
 pub mutex_asks : (q : MutexPhase) (k token : ℕ) → mutex_stance q ≡ In k Takes → asks (of_mutex_table.act_of q) token ≡ Unpark
 mutex_asks (MutexPhase.Takes giving) k token is = refl

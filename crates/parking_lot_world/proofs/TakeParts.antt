@@ -13,14 +13,15 @@ use Rattle.parking_lot_protocol.specs.declared.rw_phase.RwPhase.{RwPhase}
 use Rattle.parking_lot_upgrades.specs.declared.upgrade_phase.Hold.{Hold}
 use Rattle.parking_lot_upgrades.specs.declared.upgrade_phase.UpgradePhase.{UpgradePhase}
 use Rattle.parking_lot_world.specs.RowFits.{scan_knows, upgrade_knows}
-use Rattle.parking_lot_world.specs.Stances.{upgrade_stance}
-use Rattle.parking_lot_world.specs.Kinds.{Manner, manner_of}
-use Rattle.parking_lot_world.specs.declared.seat.QueuePosition.{QueuePosition}
-use Rattle.parking_lot_world.specs.declared.seat.Core.{Core}
-use Rattle.parking_lot_world.specs.declared.open_call.Call.{Call}
+use Rattle.parking_lot_world_calls.specs.Stances.{upgrade_stance}
+use Rattle.parking_lot_world_calls.specs.Kinds.{Manner, manner_of}
+use Rattle.parking_lot_world_calls.specs.declared.seat.QueuePosition.{QueuePosition}
+use Rattle.parking_lot_world_calls.specs.declared.seat.Core.{Core}
+use Rattle.parking_lot_world_calls.specs.declared.open_call.Call.{Call}
 use Rattle.parking_lot_world.specs.Rows.{State, call_at, word_at, taken_by, is_by, queue_at}
-use Rattle.parking_lot_world.specs.Stances.{Doing, Takes, Stores, Stance, In, Asleep, mutex_stance, rw_stance, stance, core_act, core_next}
-use Rattle.parking_lot_world.specs.RowFits.{FitsTogether, LotFits, KnowsList, mutex_knows, rw_knows, WakesFit, is_away, is_off, IsOfManner}
+use Rattle.parking_lot_world_calls.specs.Stances.{Doing, Takes, Stores, Stance, In, Asleep, mutex_stance, rw_stance, stance, core_act, core_next}
+use Rattle.parking_lot_world.specs.RowFits.{FitsTogether, LotFits, KnowsList, mutex_knows, rw_knows, WakesFit, is_away, is_off}
+use Rattle.parking_lot_world_calls.specs.CallKinds.{IsOfManner}
 use Rattle.parking_lot_world.proofs.Carrying.{same_call, awake_sleeps}
 use Rattle.parking_lot_world.proofs.LotActs.{outside_of, seat_of, awake_by}
 use Rattle.parking_lot_core_lot.specs.Machine.{threads_of}
@@ -30,11 +31,12 @@ use Rattle.parking_lot_core_lot.proofs.Kept.{updated_at, updated_other, slice_ge
 use Rattle.parking_lot_core_lot.proofs.Numbers.{flag, count_by-set}
 use Rattle.parking_lot_protocol.specs.declared.act.ActResult.{ActResult}
 use Rattle.parking_lot_protocol.specs.Acts.{Gives}
-use Rattle.parking_lot_world.specs.declared.seat.WakeResult.{WakeResult}
-use Rattle.parking_lot_world.specs.declared.seat.Wakeup.{Wakeup}
-use Rattle.parking_lot_world.specs.RowActs.{hears, key_of, off_list, took}
-use Rattle.parking_lot_world.specs.StanceLaws.{Counts}
-use Rattle.parking_lot_world.proofs.Stancing.{small_key}
+use Rattle.parking_lot_world_calls.specs.declared.seat.WakeResult.{WakeResult}
+use Rattle.parking_lot_world_calls.specs.declared.seat.Wakeup.{Wakeup}
+use Rattle.parking_lot_world.specs.RowActs.{took}
+use Rattle.parking_lot_world_calls.specs.CallActs.{hears, key_of, off_list}
+use Rattle.parking_lot_world_calls.specs.StanceLaws.{Counts}
+use Rattle.parking_lot_world_calls.proofs.Stancing.{small_key}
 use Rattle.parking_lot_world.proofs.Indexing.{get_front}
 use Rattle.parking_lot_world.proofs.Everybody.{all, change-two}
 use Rattle.parking_lot_world.proofs.KindTable.{Kind, IsThere, Elsewhere, in_its_place, role_at, role_now, role_stays, roles_at, same, shown}

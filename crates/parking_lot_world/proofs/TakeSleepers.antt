@@ -5,12 +5,12 @@ use Rattle.parking_lot_world.proofs.KindTable.{RwCall, of_rws, rw_call}
 use Rattle.parking_lot_world.proofs.Meeting.{meets}
 use Rattle.parking_lot_world.proofs.RwSleeps.{CallSleeps, call_sleeps}
 use Rattle.parking_lot_world.proofs.TakeParts.{the_sleeper, waits_so}
-use Rattle.parking_lot_world.specs.Kinds.{AsRw, manner_of, recursive_in}
-use Rattle.parking_lot_world.specs.RowActs.{key_of}
+use Rattle.parking_lot_world_calls.specs.Kinds.{AsRw, manner_of, recursive_in}
+use Rattle.parking_lot_world_calls.specs.CallActs.{key_of}
 use Rattle.parking_lot_world.specs.RowFits.{FitsTogether}
 use Rattle.parking_lot_world.specs.Rows.{State, call_at, taken_by}
-use Rattle.parking_lot_world.specs.Stances.{Takes, In, stance}
-use Rattle.parking_lot_world.specs.declared.open_call.Call.{Call}
+use Rattle.parking_lot_world_calls.specs.Stances.{Takes, In, stance}
+use Rattle.parking_lot_world_calls.specs.declared.open_call.Call.{Call}
 
 module _ (s : State) (t : ℕ) (c : Call) (k nth : ℕ) (w : Waiter) (from : stance c.core ≡ In k Takes) (at : slice_get (s.lot.queues (key_of c k)) nth ≡ Some w) (h : FitsTogether s) (here : call_at s t ≡ Some c) where
   abbrev ws : List ℕ

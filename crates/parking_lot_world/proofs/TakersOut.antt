@@ -12,10 +12,10 @@ use Rattle.parking_lot_upgrades.specs.UpgradeTable as upgrade_table
 use Rattle.parking_lot_upgrades.specs.declared.upgrade_phase.Hold.{Hold as Kept}
 use Rattle.parking_lot_upgrades.specs.declared.upgrade_phase.Release.{Release}
 use Rattle.parking_lot_upgrades.specs.declared.upgrade_phase.UpgradePhase.{UpgradePhase}
-use Rattle.parking_lot_world.specs.declared.seat.Core.{Core}
-use Rattle.parking_lot_world.specs.declared.seat.Wakeup.{Wakeup}
+use Rattle.parking_lot_world_calls.specs.declared.seat.Core.{Core}
+use Rattle.parking_lot_world_calls.specs.declared.seat.Wakeup.{Wakeup}
 use Rattle.parking_lot_world.specs.Rows.{is_by, taken_by}
-use Rattle.parking_lot_world.specs.Stances.{Doing, In, Stance, core_act, mutex_stance, mutex_taken, rw_stance, rw_taken, seeks_stance, stance, taken_count, upgrade_stance, upgrade_taken}
+use Rattle.parking_lot_world_calls.specs.Stances.{Doing, In, Stance, core_act, mutex_stance, mutex_taken, rw_stance, rw_taken, seeks_stance, stance, taken_count, upgrade_stance, upgrade_taken}
 
 abbrev IsOutside : Stance → Type 0
 IsOutside a = (k : ℕ) (how : Doing) → a ≡ In k how → ⊥

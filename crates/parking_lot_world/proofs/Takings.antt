@@ -15,16 +15,16 @@ use Rattle.parking_lot_core_lot.specs.Sound as lot
 use Rattle.parking_lot_core_lot.proofs.Kept.{updated_at}
 use Rattle.parking_lot_core_lot.proofs.Numbers.{count_by-lt}
 use Rattle.parking_lot_protocol.specs.declared.act.ActResult.TheVariants as seen
-use Rattle.parking_lot_world.specs.declared.open_call.Call.{Call}
-use Rattle.parking_lot_world.specs.declared.seat.Wakeup.{Wakeup}
+use Rattle.parking_lot_world_calls.specs.declared.open_call.Call.{Call}
+use Rattle.parking_lot_world_calls.specs.declared.seat.Wakeup.{Wakeup}
 use Rattle.parking_lot_world.specs.NextTakings.{NextTaken}
 use Rattle.parking_lot_world.specs.LotLaws.{IsInside}
 use Rattle.parking_lot_world.specs.Passes.{ArePassed, asks}
 use Rattle.parking_lot_world.specs.Machines.{IsTakenFrom, owes_to, takes_off_by}
 use Rattle.parking_lot_world.specs.Rows.{Rows, State, state, call_at}
-use Rattle.parking_lot_world.specs.RowActs.{hears, key_of, off_list}
+use Rattle.parking_lot_world_calls.specs.CallActs.{hears, key_of, off_list}
 use Rattle.parking_lot_world.specs.RowFits.{FitsTogether, LotFits, is_away, is_off}
-use Rattle.parking_lot_world.specs.Stances.{In, Takes, stance, core_act}
+use Rattle.parking_lot_world_calls.specs.Stances.{In, Takes, stance, core_act}
 use Rattle.parking_lot_world.proofs.Calling.{slot}
 use Rattle.parking_lot_world.proofs.LotCalls.{lot_never_refuses}
 use Rattle.parking_lot_world.proofs.TakeLaws.{laws}

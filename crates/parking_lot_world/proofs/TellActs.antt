@@ -8,11 +8,12 @@ use Rattle.parking_lot_protocol.specs.declared.act.WordChange.{WordChange}
 use Rattle.parking_lot_protocol.specs.declared.act.ActResult.{ActResult}
 use Rattle.parking_lot_protocol.specs.Acts.{change_of}
 use Rattle.std.specs.Prelude.{bit_and}
-use Rattle.parking_lot_world.specs.declared.open_call.Call.{Call}
-use Rattle.parking_lot_world.specs.declared.seat.Wakeup.{Wakeup}
+use Rattle.parking_lot_world_calls.specs.declared.open_call.Call.{Call}
+use Rattle.parking_lot_world_calls.specs.declared.seat.Wakeup.{Wakeup}
 use Rattle.parking_lot_world.specs.Rows.{State, word_at, call_at, taken_by}
-use Rattle.parking_lot_world.specs.Stances.{In, Stores, Takes, Tells, sign, stance, taken_count, core_act, core_next, core_tells}
-use Rattle.parking_lot_world.specs.RowActs.{settled, with_lot, with_call, settles, hears, told_all, masked, woke, told_of}
+use Rattle.parking_lot_world_calls.specs.Stances.{In, Stores, Takes, Tells, sign, stance, taken_count, core_act, core_next, core_tells}
+use Rattle.parking_lot_world.specs.RowActs.{with_lot, with_call, settles, told_all, masked, woke}
+use Rattle.parking_lot_world_calls.specs.CallActs.{settled, hears, told_of}
 use Rattle.parking_lot_world.specs.RowFits.{FitsTogether, LotFits, PassesFit}
 use Rattle.parking_lot_world.specs.ActLaws.{Keeps}
 use Rattle.parking_lot_world.specs.TellLaws.{IsDue, TellsAreSteps}
@@ -22,13 +23,13 @@ use Rattle.parking_lot_world.proofs.LotWakes.{woke_fits}
 use Rattle.parking_lot_world.proofs.Resuming.{goes_on}
 use Rattle.parking_lot_world.proofs.Rousing.{is_due, first_is_by, passes_roused, roused, rules_roused, wakes_roused}
 use Rattle.parking_lot_world.proofs.Settling.{rules_told, told_here, told_others, told_state, wakes_told}
-use Rattle.parking_lot_world.proofs.Stancing.{leads_by, wakes_some}
+use Rattle.parking_lot_world_calls.proofs.Stancing.{leads_by, wakes_some}
 use Rattle.parking_lot_world.proofs.Telling.{inside_stored, mask_fits, store_fits}
 use Rattle.parking_lot_world.proofs.Carrying.{same_call}
 use Rattle.parking_lot_world.proofs.Passing.{inside_mine, passes_after}
 use Rattle.std.specs.Option.{option_map}
 use Rattle.std.proofs.lemmas.Option.{none-some}
-use Rattle.parking_lot_world.specs.declared.seat.WakeResult.{WakeResult}
+use Rattle.parking_lot_world_calls.specs.declared.seat.WakeResult.{WakeResult}
 use Rattle.parking_lot_world.proofs.WakesNobody.{wakes_nobody}
 
 -- What fits of the lot, whatever word is stored.

@@ -28,17 +28,19 @@ use Rattle.parking_lot_rules.specs.Plain.{Plain as PlainStep}
 use Rattle.parking_lot_rules.specs.Steps.{settle, ends_saying, Alone}
 use Rattle.parking_lot_rules.specs.Mutex as mutex
 use Rattle.parking_lot_rules.specs.Any.{Mx, MxStep}
-use Rattle.parking_lot_world.specs.Kinds.{Manner, manner_of, recursive_in}
+use Rattle.parking_lot_world_calls.specs.Kinds.{Manner, manner_of, recursive_in}
 use Rattle.parking_lot_world.specs.MutexLaws.{IsTelling}
-use Rattle.parking_lot_world.specs.RowActs.{settled_spot, settled, told_of}
-use Rattle.parking_lot_world.specs.RowFits.{FitsTogether, IsOfKind, IsPrepared, KnowsList, IsOfManner}
-use Rattle.parking_lot_world.specs.Rows.{State, inside, word_at, call_at, hold_at, taken_by, mark_of, rw_lock_at, first_of_all, mutex_spot, mutex_word_of, mutex_at, queue_at}
+use Rattle.parking_lot_world_calls.specs.CallActs.{settled_spot, settled, told_of}
+use Rattle.parking_lot_world.specs.RowFits.{FitsTogether, IsPrepared, KnowsList}
+use Rattle.parking_lot_world_calls.specs.CallKinds.{IsOfKind, IsOfManner}
+use Rattle.parking_lot_world.specs.Rows.{State, inside, word_at, call_at, hold_at, taken_by, rw_lock_at, mutex_word_of, mutex_at, queue_at}
+use Rattle.parking_lot_world_calls.specs.CallRoles.{mark_of, first_of_all, mutex_spot}
 use Rattle.parking_lot_world.specs.RowSteps.{IsMutexMove, IsRwMove}
-use Rattle.parking_lot_world.specs.Stances.{Doing, In, Asleep, Stores, sign, late_act, mutex_stance, stance, core_act, core_next, core_tells}
-use Rattle.parking_lot_world.specs.declared.open_call.Call.{Call}
-use Rattle.parking_lot_world.specs.declared.seat.LatePhase.{LatePhase}
-use Rattle.parking_lot_world.specs.declared.seat.Core.{Core}
-use Rattle.parking_lot_world.specs.declared.seat.QueuePosition.{QueuePosition}
+use Rattle.parking_lot_world_calls.specs.Stances.{Doing, In, Asleep, Stores, sign, late_act, mutex_stance, stance, core_act, core_next, core_tells}
+use Rattle.parking_lot_world_calls.specs.declared.open_call.Call.{Call}
+use Rattle.parking_lot_world_calls.specs.declared.seat.LatePhase.{LatePhase}
+use Rattle.parking_lot_world_calls.specs.declared.seat.Core.{Core}
+use Rattle.parking_lot_world_calls.specs.declared.seat.QueuePosition.{QueuePosition}
 use Rattle.parking_lot_world.proofs.Acting.{word-here, has_word}
 use Rattle.parking_lot_world.proofs.Everybody.{all, get-all, settle-all}
 use Rattle.parking_lot_world.proofs.KindTable.{Plain, Late, RwCall, Simple, Upgradable, mutex_plays, next_is, rw_call, rw_next, Kind, of_rws, of_mutexes, IsThere, role_at, role_now, roles_at, same, shown, Tardy}
@@ -52,14 +54,14 @@ use Rattle.parking_lot_world.proofs.Ruling.{Fitted}
 use Rattle.parking_lot_world.proofs.RwCalls.{as_move, call_makes, call_move, call_role, CallLearns, CallTold, CallWants, call_lock, tardy_makes}
 use Rattle.parking_lot_world.proofs.RwScans.{call_masks, call_stores}
 use Rattle.parking_lot_world.proofs.RwTells.{call_kept_here, call_told_here}
-use Rattle.parking_lot_world.proofs.Stancing.{leads_by}
+use Rattle.parking_lot_world_calls.proofs.Stancing.{leads_by}
 use Rattle.parking_lot_world.proofs.TakeParts.{awake_listed}
 use Rattle.parking_lot_world.specs.Passes.{ArePassed, look_by}
 use Rattle.parking_lot_rules.specs.Steps.{AreSkipped}
 use Rattle.parking_lot_world.proofs.RwTaking.{scans_go_by_tokens}
 use Rattle.parking_lot_world.proofs.Wanting.{want_as_told}
 use Rattle.parking_lot_world.proofs.Settling.{told_state, next_call, told_here, told_others, told_threads, told_elsewhere}
-use Rattle.parking_lot_world.specs.declared.late_rw.LateRwPhase.{LateRwPhase}
+use Rattle.parking_lot_world_calls.specs.declared.late_rw.LateRwPhase.{LateRwPhase}
 use Rattle.parking_lot_world.specs.RwLaws.{IsStep, move_crossing}
 use Rattle.parking_lot_rules.specs.Lock.{On1, to_wake}
 use Rattle.parking_lot_rules.specs.Roles.{Open}

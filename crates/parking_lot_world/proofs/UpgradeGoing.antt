@@ -10,9 +10,10 @@ use Rattle.parking_lot_upgrades.specs.UpgradeTable as ut
 use Rattle.parking_lot_upgrades.specs.declared.upgrade_phase.Hold.{Hold}
 use Rattle.parking_lot_upgrades.specs.declared.upgrade_phase.Release.{Release}
 use Rattle.parking_lot_upgrades.specs.declared.upgrade_phase.UpgradePhase.{UpgradePhase}
-use Rattle.parking_lot_world.specs.RowFits.{IsOfWorld, frees_prepared, keeps_hold, owes_prepared, scan_keeps, upgrade_begins, upgrade_keeps, upgrade_knows, upgrade_prepared}
+use Rattle.parking_lot_world.specs.RowFits.{frees_prepared, keeps_hold, owes_prepared, scan_keeps, upgrade_begins, upgrade_keeps, upgrade_knows, upgrade_prepared}
+use Rattle.parking_lot_world_calls.specs.CallKinds.{IsOfWorld}
 use Rattle.parking_lot_world.specs.RwLaws.{count_shared}
-use Rattle.parking_lot_world.specs.Stances.{rw_taken, upgrade_taken}
+use Rattle.parking_lot_world_calls.specs.Stances.{rw_taken, upgrade_taken}
 use Rattle.parking_lot_world.specs.UpgradeLaws.{UpgradesKeep, WantsTaken, upgrade_shared}
 use Rattle.parking_lot_world.proofs.UpgradeKeeping.{begins, goes_on}
 use Rattle.parking_lot_world.proofs.UpgradeParts.{PartLearns, PartWants, frees_sums, frees_told, owes_sums, owes_told, part_keeps, part_knows, pick}

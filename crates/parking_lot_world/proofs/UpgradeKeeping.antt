@@ -22,8 +22,9 @@ use Rattle.parking_lot_protocol.specs.Positions.{QueuePosition}
 use Rattle.parking_lot_upgrades.specs.UpgradeMoves.{last_move}
 use Rattle.parking_lot_world.specs.RwLaws.{IsLastStep}
 use Rattle.parking_lot_world.specs.UpgradeLaws.{MeetsUpgrade, UpgradesEnd, upgrade_owned_after}
-use Rattle.parking_lot_world.specs.RowFits.{IsOfWorld, frees_prepared, owes_prepared, seeks_room, upgrade_begins}
-use Rattle.parking_lot_world.specs.Stances.{upgrade_begun}
+use Rattle.parking_lot_world.specs.RowFits.{frees_prepared, owes_prepared, upgrade_begins}
+use Rattle.parking_lot_world_calls.specs.CallKinds.{IsOfWorld, seeks_room}
+use Rattle.parking_lot_world_calls.specs.Stances.{upgrade_begun}
 use Rattle.parking_lot_world.proofs.UpgradeParts.{pick}
 
 -- WHERE IT ENDS

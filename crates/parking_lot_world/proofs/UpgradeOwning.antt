@@ -18,8 +18,9 @@ use Rattle.parking_lot_upgrades.specs.UpgradeTable as ut
 use Rattle.parking_lot_upgrades.specs.declared.upgrade_phase.Hold.{Hold}
 use Rattle.parking_lot_upgrades.specs.declared.upgrade_phase.Release.{Release}
 use Rattle.parking_lot_upgrades.specs.declared.upgrade_phase.UpgradePhase.{UpgradePhase}
-use Rattle.parking_lot_world.specs.RowFits.{IsOfWorld, seeks_room, upgrade_begins, upgrade_prepared}
-use Rattle.parking_lot_world.specs.Stances.{upgrade_begun}
+use Rattle.parking_lot_world.specs.RowFits.{upgrade_begins, upgrade_prepared}
+use Rattle.parking_lot_world_calls.specs.CallKinds.{IsOfWorld, seeks_room}
+use Rattle.parking_lot_world_calls.specs.Stances.{upgrade_begun}
 use Rattle.parking_lot_world.proofs.OwnMoves.{AfterAct, IsOwnAct, OwnMove}
 
 -- WHAT IT IS TOLD

@@ -17,11 +17,11 @@ use Rattle.parking_lot_protocol.specs.RwRules as rw
 use Rattle.parking_lot_upgrades.specs.UpgradeTable as ut
 use Rattle.parking_lot_core_lot.specs.declared.parking.UnparkToken.{UnparkToken}
 use Rattle.parking_lot_protocol.specs.declared.act.SectionAct.TheVariants as section
-use Rattle.parking_lot_world.specs.Stances.{rw_taken, upgrade_taken}
+use Rattle.parking_lot_world_calls.specs.Stances.{rw_taken, upgrade_taken}
 use Rattle.parking_lot_world.specs.Ranks.{Sees, Unseen, View, comes_after, rw_steps, scan, wake}
 use Rattle.parking_lot_world.specs.RankLaws.{Can, Leaves, StopsAt}
 use Rattle.parking_lot_world.specs.UpgradeRanks.{UpgradeStepsFall}
-use Rattle.parking_lot_world.specs.RowFits.{IsOfWorld, seeks_room}
+use Rattle.parking_lot_world_calls.specs.CallKinds.{IsOfWorld, seeks_room}
 use Rattle.parking_lot_world.specs.Ranks.{upgrade_steps}
 use Rattle.parking_lot_world.proofs.RwPaying.{end_costs, steps_fall}
 

@@ -9,21 +9,24 @@ use Rattle.parking_lot_rules.specs.Roles.{Idle, Role}
 use Rattle.parking_lot_rules.specs.Debts as rw_debts
 use Rattle.parking_lot_rules.specs.Mutex as mutex
 use Rattle.parking_lot_rules.specs.MutexDebts as mutex_debts
-use Rattle.parking_lot_world.specs.CallViews.{IsInOrder, IsLateAsSlept, IsLateInOrder}
-use Rattle.parking_lot_world.specs.Kinds.{recursive_in}
+use Rattle.parking_lot_world_calls.specs.CallViews.{IsInOrder, IsLateAsSlept, IsLateInOrder}
+use Rattle.parking_lot_world_calls.specs.Kinds.{recursive_in}
 use Rattle.parking_lot_world.specs.RowFits.{IsPrepared, late_rw_prepared}
-use Rattle.parking_lot_world.specs.declared.calls.LockKind.{LockKind}
-use Rattle.parking_lot_world.specs.declared.seat.Hold.{Hold}
-use Rattle.parking_lot_world.specs.declared.seat.Core.{Core}
-use Rattle.parking_lot_world.specs.declared.open_call.Call.{Call}
-use Rattle.parking_lot_world.specs.Rows.{State, any_lock, lock_as, call_at, cell, everybody, hold_at, lock_at, mutex_role_at, owned_of, owns_mutex, rw_role_at, taken_by}
-use Rattle.parking_lot_world.specs.RowFits.{FitsTogether, IsOfKind}
-use Rattle.parking_lot_world.specs.CallViews.{call_in_debt, call_looks, call_mode, core_in_debt, core_mode, mutex_mode, rw_mode}
-use Rattle.parking_lot_world.specs.Worlds.{hold_mode, in_debt_at, is_indebted, mode_in}
+use Rattle.parking_lot_world_calls.specs.declared.calls.LockKind.{LockKind}
+use Rattle.parking_lot_world_calls.specs.declared.seat.Hold.{Hold}
+use Rattle.parking_lot_world_calls.specs.declared.seat.Core.{Core}
+use Rattle.parking_lot_world_calls.specs.declared.open_call.Call.{Call}
+use Rattle.parking_lot_world.specs.Rows.{State, any_lock, lock_as, call_at, cell, everybody, hold_at, lock_at, mutex_role_at, rw_role_at, taken_by}
+use Rattle.parking_lot_world_calls.specs.CallRoles.{owned_of, owns_mutex}
+use Rattle.parking_lot_world.specs.RowFits.{FitsTogether}
+use Rattle.parking_lot_world_calls.specs.CallKinds.{IsOfKind}
+use Rattle.parking_lot_world_calls.specs.CallViews.{call_in_debt, call_looks, call_mode, core_in_debt, core_mode, mutex_mode, rw_mode}
+use Rattle.parking_lot_world.specs.Worlds.{in_debt_at, is_indebted, mode_in}
+use Rattle.parking_lot_world_calls.specs.CallViews.{hold_mode}
 use Rattle.parking_lot_world.proofs.Everybody.{get-all, past}
 use Rattle.parking_lot_world.proofs.KindTable.{Simple, Upgradable, Plain, Late, Kind, of_mutexes, of_rws, in_its_place, Tardy}
 use Rattle.parking_lot_world.proofs.Meeting.{in_range}
-use Rattle.parking_lot_world.specs.declared.late_rw.LateRwPhase.{LateRwPhase}
+use Rattle.parking_lot_world_calls.specs.declared.late_rw.LateRwPhase.{LateRwPhase}
 use Rattle.parking_lot_world.proofs.Sleepers.{ready_sleeper}
 
 -- one that is in no call at the lock owns what it holds

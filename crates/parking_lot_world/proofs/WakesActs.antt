@@ -9,13 +9,14 @@ use Rattle.std.specs.List.{position_or_len}
 use Rattle.parking_lot_core_lot.proofs.Kept.{slice_get-seam, eqb_false_symm}
 use Rattle.parking_lot_core_lot.proofs.Numbers.{flag, count_by-set, count_by-map_same}
 use Rattle.parking_lot_core_lot.proofs.Sounds.{none≢some, by_eqb}
-use Rattle.parking_lot_world.specs.declared.seat.QueuePosition.{QueuePosition}
-use Rattle.parking_lot_world.specs.declared.seat.WakeResult.{WakeResult}
-use Rattle.parking_lot_world.specs.declared.open_call.Call.{Call}
-use Rattle.parking_lot_world.specs.declared.seat.Wakeup.{Wakeup}
+use Rattle.parking_lot_world_calls.specs.declared.seat.QueuePosition.{QueuePosition}
+use Rattle.parking_lot_world_calls.specs.declared.seat.WakeResult.{WakeResult}
+use Rattle.parking_lot_world_calls.specs.declared.open_call.Call.{Call}
+use Rattle.parking_lot_world_calls.specs.declared.seat.Wakeup.{Wakeup}
 use Rattle.parking_lot_world.specs.Rows.{State, call_at, word_at, is_by}
-use Rattle.parking_lot_world.specs.Stances.{stance, Joins, Takes, Stance, Out, In, taken_count, core_tells}
-use Rattle.parking_lot_world.specs.RowActs.{settled_spot, settled, off_list, with_call, with_word, hears, key_of, told_of, loaded, exchanged, added, masked, spun, entered, checked, appended, took, took_nobody, told_all, left, woke, answered, begun, woke_nobody}
+use Rattle.parking_lot_world_calls.specs.Stances.{stance, Joins, Takes, Stance, Out, In, taken_count, core_tells}
+use Rattle.parking_lot_world.specs.RowActs.{with_call, with_word, loaded, exchanged, added, masked, spun, entered, checked, appended, took, took_nobody, told_all, left, woke, answered, begun, woke_nobody}
+use Rattle.parking_lot_world_calls.specs.CallActs.{settled_spot, settled, off_list, hears, key_of, told_of}
 use Rattle.parking_lot_world.specs.RowFits.{LotFits, WakesFit, IsOwed, is_off, is_away}
 use Rattle.parking_lot_world.proofs.Indexing.{get_front, kept_remove}
 use Rattle.parking_lot_world.proofs.Carrying.{same_call, call_within, set_here, set_elsewhere, unsettled_off, IsUp, up_sleeps}
@@ -26,15 +27,15 @@ use Rattle.parking_lot_core_lot.specs.Results.{is_left}
 use Rattle.parking_lot_protocol.specs.declared.act.Act.{Act}
 use Rattle.parking_lot_protocol.specs.declared.act.CoreAnswer.{CoreAnswer}
 use Rattle.parking_lot_protocol.specs.declared.act.ActResult.{ActResult}
-use Rattle.parking_lot_world.specs.StanceLaws.{IsOver}
+use Rattle.parking_lot_world_calls.specs.StanceLaws.{IsOver}
 use Rattle.parking_lot_world.specs.LotLaws.{KeepsWakes, ActsKeepWakes}
-use Rattle.parking_lot_world.proofs.Stancing.{leads_by, calls_end, small_key}
+use Rattle.parking_lot_world_calls.proofs.Stancing.{leads_by, calls_end, small_key}
 use Rattle.parking_lot_world.proofs.LotActs.{up_by}
 use Rattle.parking_lot_world.proofs.LotTakes.{sleeper}
 use Rattle.parking_lot_world.proofs.LotWakes.{woken_off, other}
 use Rattle.parking_lot_world.proofs.LotKept.{by_first}
 use Rattle.parking_lot_protocol.specs.declared.act.SectionAct.TheVariants as section
-use Rattle.parking_lot_world.specs.declared.seat.QueuePosition.TheVariants as spot
+use Rattle.parking_lot_world_calls.specs.declared.seat.QueuePosition.TheVariants as spot
 
 abbrev call_of : List (Option Call) → ℕ → Option Call
 call_of calls v = option_and_then (λ x. x) (slice_get calls v)

@@ -3,10 +3,10 @@ use Rattle.std.proofs.Common.{◌≡◌, ℕ, List, length, Some, slice_get, sym
 use Rattle.std.specs.Prelude.{count_by}
 use Rattle.parking_lot_core_lot.proofs.Numbers.{count_by-set}
 use Rattle.parking_lot_protocol.specs.declared.act.ActResult.{ActResult}
-use Rattle.parking_lot_world.specs.declared.seat.QueuePosition.TheVariants as spot
-use Rattle.parking_lot_world.specs.declared.seat.Core.{Core}
-use Rattle.parking_lot_world.specs.declared.open_call.Call.{Call}
-use Rattle.parking_lot_world.specs.declared.seat.Wakeup.{Wakeup}
+use Rattle.parking_lot_world_calls.specs.declared.seat.QueuePosition.TheVariants as spot
+use Rattle.parking_lot_world_calls.specs.declared.seat.Core.{Core}
+use Rattle.parking_lot_world_calls.specs.declared.open_call.Call.{Call}
+use Rattle.parking_lot_world_calls.specs.declared.seat.Wakeup.{Wakeup}
 use Rattle.parking_lot_world.specs.Rows.{State}
 use Rattle.parking_lot_world.specs.RowFits.{WakesFit, is_away}
 use Rattle.parking_lot_world.proofs.Calling.{call_of, slot, calls-change}

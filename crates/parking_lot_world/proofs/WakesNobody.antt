@@ -12,16 +12,18 @@ use Rattle.parking_lot_protocol.specs.declared.mutex_phase.MutexPhase.{MutexPhas
 use Rattle.parking_lot_protocol.specs.MutexTable as mutex_table
 use Rattle.parking_lot_protocol.specs.RwRules as of_rw
 use Rattle.parking_lot_protocol.specs.MutexRules as of_mutex
-use Rattle.parking_lot_world.specs.Kinds.{recursive_in}
-use Rattle.parking_lot_world.specs.declared.seat.Core.{Core}
-use Rattle.parking_lot_world.specs.declared.seat.QueuePosition.{QueuePosition}
-use Rattle.parking_lot_world.specs.declared.open_call.Call.{Call}
+use Rattle.parking_lot_world_calls.specs.Kinds.{recursive_in}
+use Rattle.parking_lot_world_calls.specs.declared.seat.Core.{Core}
+use Rattle.parking_lot_world_calls.specs.declared.seat.QueuePosition.{QueuePosition}
+use Rattle.parking_lot_world_calls.specs.declared.open_call.Call.{Call}
 use Rattle.parking_lot_world.specs.ActLaws.{Keeps}
 use Rattle.parking_lot_world.specs.Rows.{State, word_at, call_at, taken_by}
-use Rattle.parking_lot_world.specs.RowActs.{hears, woke_nobody}
-use Rattle.parking_lot_world.specs.RowFits.{FitsTogether, IsOfKind, IsPrepared}
+use Rattle.parking_lot_world.specs.RowActs.{woke_nobody}
+use Rattle.parking_lot_world_calls.specs.CallActs.{hears}
+use Rattle.parking_lot_world.specs.RowFits.{FitsTogether, IsPrepared}
+use Rattle.parking_lot_world_calls.specs.CallKinds.{IsOfKind}
 use Rattle.parking_lot_world.specs.RowSteps.{IsMutexMove, IsRwMove}
-use Rattle.parking_lot_world.specs.Stances.{In, Takes, Out, Asleep, core_act, core_next, stance}
+use Rattle.parking_lot_world_calls.specs.Stances.{In, Takes, Out, Asleep, core_act, core_next, stance}
 use Rattle.parking_lot_world.proofs.KindTable.{Plain, RwCall, Simple, Upgradable, next_is, of_mutexes, of_rws, roles_at, rw_call, rw_next, same, in_its_place}
 use Rattle.parking_lot_world.proofs.LotNobody.{nobody_fits}
 use Rattle.parking_lot_world.proofs.Making.{quiet}
@@ -32,7 +34,7 @@ use Rattle.parking_lot_world.proofs.Rousing.{late_wakes, mutex_wakes}
 use Rattle.parking_lot_world.proofs.Ruling.{Fitted, knows_same, rules_own}
 use Rattle.parking_lot_world.proofs.RwCalls.{as_move, tardy_wakes}
 use Rattle.parking_lot_world.proofs.RwPasses.{call_passes}
-use Rattle.parking_lot_world.proofs.Stancing.{leads_by, wakes_some}
+use Rattle.parking_lot_world_calls.proofs.Stancing.{leads_by, wakes_some}
 use Rattle.parking_lot_world.proofs.WakesKept.{wakes_own}
 
 out_asleep : {key : ℕ} {park : ParkToken} → Out ≡ Asleep key park → ⊥

@@ -4,13 +4,14 @@ use Rattle.std.specs.Option.{option_and_then}
 use Rattle.std.proofs.lemmas.Bool.{ne_eqb, both_ways}
 use Rattle.std.proofs.lemmas.List.{length-set}
 use Rattle.parking_lot_protocol.specs.declared.act.Act.{Act}
-use Rattle.parking_lot_world.specs.Kinds.{kind_in}
-use Rattle.parking_lot_world.specs.declared.seat.LatePhase.{LatePhase}
-use Rattle.parking_lot_world.specs.declared.seat.Core.{Core}
-use Rattle.parking_lot_world.specs.declared.open_call.Call.{Call}
+use Rattle.parking_lot_world_calls.specs.Kinds.{kind_in}
+use Rattle.parking_lot_world_calls.specs.declared.seat.LatePhase.{LatePhase}
+use Rattle.parking_lot_world_calls.specs.declared.seat.Core.{Core}
+use Rattle.parking_lot_world_calls.specs.declared.open_call.Call.{Call}
 use Rattle.parking_lot_world.specs.Rows.{State, word_at, call_at, first_key, inside}
-use Rattle.parking_lot_world.specs.Stances.{core_act, core_next, late_act, late_next, Out, taken_count, late_rw_act, late_rw_next, sleeper_asleep}
-use Rattle.parking_lot_world.specs.RowFits.{FitsTogether, IsOfKind}
+use Rattle.parking_lot_world_calls.specs.Stances.{core_act, core_next, late_act, late_next, Out, taken_count, late_rw_act, late_rw_next, sleeper_asleep}
+use Rattle.parking_lot_world.specs.RowFits.{FitsTogether}
+use Rattle.parking_lot_world_calls.specs.CallKinds.{IsOfKind}
 use Rattle.parking_lot_world.specs.RankLaws.{StopsAt}
 use Rattle.parking_lot_world.specs.Ranks.{Sees, core_steps, late_steps, far_steps, is_shut_to, own_steps, view_of, Pays, View, Unseen, wake, cost, Costs, AnyMayBeStepped, late_rw_steps, sleeper_steps}
 use Rattle.parking_lot_world.proofs.Ruling.{same_kind}
@@ -19,25 +20,26 @@ use Rattle.parking_lot_world.proofs.RwCalls.{tardy_wakes}
 use Rattle.parking_lot_world.proofs.UpgradePaying as of_upgrade
 use Rattle.parking_lot_core_lot.specs.declared.place.Section.{Section}
 use Rattle.parking_lot_protocol.specs.declared.mutex_phase.MutexPhase.{MutexPhase}
-use Rattle.parking_lot_world.specs.RowActs.{hears, answered, begun, woke, woke_nobody}
+use Rattle.parking_lot_world.specs.RowActs.{answered, begun, woke, woke_nobody}
+use Rattle.parking_lot_world_calls.specs.CallActs.{hears}
 use Rattle.parking_lot_world.proofs.LotActs.{seat_of}
-use Rattle.parking_lot_world.proofs.Stancing.{leads_by}
+use Rattle.parking_lot_world_calls.proofs.Stancing.{leads_by}
 use Rattle.parking_lot_world.proofs.Summing.{others_change, others_same, others_and_one}
 use Rattle.parking_lot_core_lot.specs.declared.parking.UnparkToken.{UnparkToken}
 use Rattle.parking_lot_protocol.specs.declared.act.CoreAnswer.{CoreAnswer}
-use Rattle.parking_lot_world.specs.declared.calls.LockCall.{LockCall}
-use Rattle.parking_lot_world.specs.Beginnings.{core_of}
+use Rattle.parking_lot_world_calls.specs.declared.calls.LockCall.{LockCall}
+use Rattle.parking_lot_world_calls.specs.Beginnings.{core_of}
 use Rattle.parking_lot_world.specs.ActLaws.{MayBegin}
 use Rattle.parking_lot_world.specs.Machines.{can_move, can_move_in, goes_late, is_possible, is_taken}
 use Rattle.parking_lot_world.proofs.MutexPaying as of_mutex
 use Rattle.parking_lot_world.proofs.RwPaying as of_rw
 use Rattle.parking_lot_protocol.specs.declared.act.SectionAct.TheVariants as section
-use Rattle.parking_lot_world.specs.declared.seat.QueuePosition.TheVariants as spot
+use Rattle.parking_lot_world_calls.specs.declared.seat.QueuePosition.TheVariants as spot
 use Rattle.parking_lot_protocol.specs.declared.act.ActResult.TheVariants as seen
-use Rattle.parking_lot_world.specs.declared.calls.LockKind.{LockKind}
-use Rattle.parking_lot_world.specs.declared.late_rw.LateRwPhase.{LateRwPhase}
-use Rattle.parking_lot_world.specs.declared.late_rw.RwSleeper.{RwSleeper}
-use Rattle.parking_lot_world.specs.CallViews.{IsReadySleeper}
+use Rattle.parking_lot_world_calls.specs.declared.calls.LockKind.{LockKind}
+use Rattle.parking_lot_world_calls.specs.declared.late_rw.LateRwPhase.{LateRwPhase}
+use Rattle.parking_lot_world_calls.specs.declared.late_rw.RwSleeper.{RwSleeper}
+use Rattle.parking_lot_world_calls.specs.CallViews.{IsReadySleeper}
 use Rattle.parking_lot_world.proofs.Sleepers.{by_sleeper}
 use Rattle.parking_lot_world.proofs.Paying.{IsGood, IsGoodLate, is_good, few_in_list, call-within, pays}
 

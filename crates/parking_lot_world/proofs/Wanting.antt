@@ -11,23 +11,24 @@ use Rattle.parking_lot_rules.specs.Roles.{Phase, Queued1, Role, Upgradable, Back
 use Rattle.parking_lot_upgrades.specs.UpgradeRoles as of_upgrade
 use Rattle.parking_lot_upgrades.specs.UpgradeRoles.{for_release, for_upgradable, for_upgrade}
 use Rattle.parking_lot_upgrades.specs.declared.upgrade_phase.UpgradePhase.{UpgradePhase}
-use Rattle.parking_lot_world.specs.declared.seat.QueuePosition.{QueuePosition}
+use Rattle.parking_lot_world_calls.specs.declared.seat.QueuePosition.{QueuePosition}
 use Rattle.parking_lot_world.proofs.KindTable as KindTable
 use Rattle.parking_lot_world.proofs.RwCalls.{call_role}
 use Rattle.parking_lot_rules.specs.Steps.{wants}
-use Rattle.parking_lot_world.specs.Kinds.{AsRw, Manner, manner_of}
+use Rattle.parking_lot_world_calls.specs.Kinds.{AsRw, Manner, manner_of}
 use Rattle.parking_lot_world.specs.Passes.{ArePassed}
-use Rattle.parking_lot_world.specs.RowFits.{Awaits, FitsTogether, IsOfManner}
+use Rattle.parking_lot_world.specs.RowFits.{Awaits, FitsTogether}
+use Rattle.parking_lot_world_calls.specs.CallKinds.{IsOfManner}
 use Rattle.parking_lot_world.specs.Rows.{State, rw_lock_at, taken_by}
 use Rattle.parking_lot_world.specs.RwLaws.{WantAsTold}
-use Rattle.parking_lot_world.specs.Stances.{rw_stance, seeks_stance, stance, upgrade_stance, Asleep, In, Out, Stance, back_as, late_rw_stance, lying, sleeper_stance, found_as}
-use Rattle.parking_lot_world.specs.declared.open_call.Call.{Call}
+use Rattle.parking_lot_world_calls.specs.Stances.{rw_stance, seeks_stance, stance, upgrade_stance, Asleep, In, Out, Stance, back_as, late_rw_stance, lying, sleeper_stance, found_as}
+use Rattle.parking_lot_world_calls.specs.declared.open_call.Call.{Call}
 use Rattle.parking_lot_world.proofs.KindTable.{RwCall, Simple, in_its_place, of_rws, rw_call, Tardy}
 use Rattle.parking_lot_world.proofs.Meeting.{in_range}
 use Rattle.parking_lot_world.proofs.RwTaking.{tokens_tell}
-use Rattle.parking_lot_world.specs.declared.late_rw.LateRwPhase.{LateRwPhase}
-use Rattle.parking_lot_world.specs.declared.late_rw.RwSleeper.{RwSleeper}
-use Rattle.parking_lot_world.specs.LateRoles.{late_rw_role, sleeper_role, staying}
+use Rattle.parking_lot_world_calls.specs.declared.late_rw.LateRwPhase.{LateRwPhase}
+use Rattle.parking_lot_world_calls.specs.declared.late_rw.RwSleeper.{RwSleeper}
+use Rattle.parking_lot_world_calls.specs.LateRoles.{late_rw_role, sleeper_role, staying}
 
 -- the same of another filter that answers the same
 pub passed_as : (f g : ℕ → FilterOp) (q : List Waiter) (n : ℕ) → ((token : ℕ) → f token ≡ g token) → ArePassed f q n → ArePassed g q n

@@ -6,13 +6,14 @@ use Rattle.parking_lot_core_lot.specs.declared.parking.UnparkToken.{UnparkToken}
 use Rattle.parking_lot_core_lot.specs.declared.place.Place.TheVariants.{Running}
 use Rattle.parking_lot_core_lot.specs.Machine.{Machine}
 use Rattle.parking_lot_protocol.specs.declared.act.ActResult.TheVariants as seen
-use Rattle.parking_lot_world.specs.declared.open_call.Call.{Call}
-use Rattle.parking_lot_world.specs.declared.seat.QueuePosition.TheVariants as spot
-use Rattle.parking_lot_world.specs.declared.seat.Wakeup.{Wakeup}
+use Rattle.parking_lot_world_calls.specs.declared.open_call.Call.{Call}
+use Rattle.parking_lot_world_calls.specs.declared.seat.QueuePosition.TheVariants as spot
+use Rattle.parking_lot_world_calls.specs.declared.seat.Wakeup.{Wakeup}
 use Rattle.parking_lot_world.specs.Rows.{Rows, State, state, is_by, is_for, taken_by}
-use Rattle.parking_lot_world.specs.RowActs.{hears, woke}
+use Rattle.parking_lot_world.specs.RowActs.{woke}
+use Rattle.parking_lot_world_calls.specs.CallActs.{hears}
 use Rattle.parking_lot_world.specs.TellLaws.{IsDue}
-use Rattle.parking_lot_world.specs.CallViews.{are_some}
+use Rattle.parking_lot_world_calls.specs.CallViews.{are_some}
 
 -- where the first stands whom it is to wake
 pub stands : {wakes seen : List Wakeup} {at : ℕ} (t : ℕ) → at ≡ position_or_len (is_by t) seen → seen ≡ wakes → at ≡ position_or_len (is_by t) wakes

@@ -9,16 +9,18 @@ use Rattle.parking_lot_protocol.specs.declared.act.CoreAnswer.{CoreAnswer}
 use Rattle.parking_lot_protocol.specs.MutexRules as of_mutex
 use Rattle.parking_lot_protocol.specs.RwRules as of_rw
 use Rattle.parking_lot_upgrades.specs.UpgradeRoles as of_upgrade
-use Rattle.parking_lot_world.specs.declared.seat.Hold.{Hold}
-use Rattle.parking_lot_world.specs.declared.seat.QueuePosition.TheVariants as spot
-use Rattle.parking_lot_world.specs.declared.seat.Core.{Core}
-use Rattle.parking_lot_world.specs.declared.seat.Core.TheVariants as core
-use Rattle.parking_lot_world.specs.declared.open_call.Call.{Call}
-use Rattle.parking_lot_world.specs.Kinds.{recursive_in}
-use Rattle.parking_lot_world.specs.Rows.{State, call_at, hold_at, owned_of, owns_mutex}
-use Rattle.parking_lot_world.specs.Stances.{core_act, rw_begun, mutex_begun, upgrade_begun}
+use Rattle.parking_lot_world_calls.specs.declared.seat.Hold.{Hold}
+use Rattle.parking_lot_world_calls.specs.declared.seat.QueuePosition.TheVariants as spot
+use Rattle.parking_lot_world_calls.specs.declared.seat.Core.{Core}
+use Rattle.parking_lot_world_calls.specs.declared.seat.Core.TheVariants as core
+use Rattle.parking_lot_world_calls.specs.declared.open_call.Call.{Call}
+use Rattle.parking_lot_world_calls.specs.Kinds.{recursive_in}
+use Rattle.parking_lot_world.specs.Rows.{State, call_at, hold_at}
+use Rattle.parking_lot_world_calls.specs.CallRoles.{owned_of, owns_mutex}
+use Rattle.parking_lot_world_calls.specs.Stances.{core_act, rw_begun, mutex_begun, upgrade_begun}
 use Rattle.parking_lot_world.specs.RowActs.{loaded, exchanged, added, spun, entered, checked, left, begun, answered}
-use Rattle.parking_lot_world.specs.RowFits.{FitsTogether, IsOfKind, upgrade_begins}
+use Rattle.parking_lot_world.specs.RowFits.{FitsTogether, upgrade_begins}
+use Rattle.parking_lot_world_calls.specs.CallKinds.{IsOfKind}
 use Rattle.parking_lot_world.specs.RwLaws.{rw_begins}
 use Rattle.parking_lot_world.specs.RowSteps.{Goes, GoesAway}
 

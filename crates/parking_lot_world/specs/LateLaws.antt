@@ -3,20 +3,22 @@ use Rattle.std.specs.Prelude.{◌≡◌, ◌+◌, ◌≤◌, ℕ, true, length, 
 use Rattle.parking_lot_core_lot.specs.Sound as lot
 use Rattle.parking_lot_rules.specs.Any.{AnyStep, MxStep}
 use Rattle.parking_lot_rules.specs.Mutex as mutex
-use Rattle.parking_lot_world.specs.declared.late_rw.RwSleeper.TheVariants as sleeper
-use Rattle.parking_lot_world.specs.declared.seat.Core.{Core}
-use Rattle.parking_lot_world.specs.declared.seat.Core.TheVariants as core
-use Rattle.parking_lot_world.specs.declared.seat.QueuePosition.{QueuePosition}
-use Rattle.parking_lot_world.specs.declared.seat.QueuePosition.TheVariants as spot
-use Rattle.parking_lot_world.specs.declared.seat.WakeResult.{WakeResult}
-use Rattle.parking_lot_world.specs.declared.open_call.Call.{Call}
+use Rattle.parking_lot_world_calls.specs.declared.late_rw.RwSleeper.TheVariants as sleeper
+use Rattle.parking_lot_world_calls.specs.declared.seat.Core.{Core}
+use Rattle.parking_lot_world_calls.specs.declared.seat.Core.TheVariants as core
+use Rattle.parking_lot_world_calls.specs.declared.seat.QueuePosition.{QueuePosition}
+use Rattle.parking_lot_world_calls.specs.declared.seat.QueuePosition.TheVariants as spot
+use Rattle.parking_lot_world_calls.specs.declared.seat.WakeResult.{WakeResult}
+use Rattle.parking_lot_world_calls.specs.declared.open_call.Call.{Call}
 use Rattle.parking_lot_world.specs.ActLaws.{Keeps}
-use Rattle.parking_lot_world.specs.LateActs.{comes_late, expired, found, is_back, quitted, returned, sleeps_in_time}
-use Rattle.parking_lot_world.specs.LateRoles.{expiring, expiring_taken}
+use Rattle.parking_lot_world.specs.LateActs.{expired, found, quitted, returned}
+use Rattle.parking_lot_world_calls.specs.LateCalls.{comes_late, is_back, sleeps_in_time}
+use Rattle.parking_lot_world_calls.specs.LateRoles.{expiring, expiring_taken}
 use Rattle.parking_lot_world.specs.Ranks.{Pays, late_cost, steps_left}
 use Rattle.parking_lot_world.specs.RowFits.{FitsTogether}
 use Rattle.parking_lot_world.specs.RowSteps.{IsMade}
-use Rattle.parking_lot_world.specs.Rows.{State, call_at, mark_of}
+use Rattle.parking_lot_world.specs.Rows.{State, call_at}
+use Rattle.parking_lot_world_calls.specs.CallRoles.{mark_of}
 
 -- by which step of the rules a moment passes: in its list, or taken
 abbrev pub expire_step : Core → QueuePosition → AnyStep

@@ -1,7 +1,4 @@
-pub mod Kinds
 pub mod Rows
-pub mod Stances
-pub mod LateRoles
 pub mod Rounds
 pub mod Ranks
 pub mod RankLaws
@@ -12,14 +9,10 @@ pub mod RowSteps
 pub mod ActLaws
 pub mod TakeLaws
 pub mod TellLaws
-pub mod StanceLaws
 pub mod LotLaws
 pub mod RwLaws
 pub mod MutexLaws
-pub mod Calls
-pub mod CallViews
 pub mod NextTakings
-pub mod Beginnings
 pub mod Machines
 pub mod Worlds
 pub mod SoundLaws

@@ -16,15 +16,16 @@ use Rattle.parking_lot_protocol.specs.declared.act.Act.TheVariants as act
 use Rattle.parking_lot_protocol.specs.declared.act.CoreAnswer.{CoreAnswer}
 use Rattle.parking_lot_protocol.specs.declared.act.SectionAct.TheVariants as section
 use Rattle.parking_lot_protocol.specs.declared.act.WordChange.{WordChange}
-use Rattle.parking_lot_world.specs.declared.seat.QueuePosition.TheVariants as spot
-use Rattle.parking_lot_world.specs.declared.open_call.Call.{Call}
-use Rattle.parking_lot_world.specs.declared.seat.Wakeup.{Wakeup}
+use Rattle.parking_lot_world_calls.specs.declared.seat.QueuePosition.TheVariants as spot
+use Rattle.parking_lot_world_calls.specs.declared.open_call.Call.{Call}
+use Rattle.parking_lot_world_calls.specs.declared.seat.Wakeup.{Wakeup}
 use Rattle.parking_lot_world.specs.Rows.{State, call_at, is_by, taken_by}
-use Rattle.parking_lot_world.specs.Stances.{Doing, Joins, Takes, In, Asleep, stance, core_act}
-use Rattle.parking_lot_world.specs.StanceLaws.{Counts}
+use Rattle.parking_lot_world_calls.specs.Stances.{Doing, Joins, Takes, In, Asleep, stance, core_act}
+use Rattle.parking_lot_world_calls.specs.StanceLaws.{Counts}
 use Rattle.parking_lot_core_lot.specs.declared.parking.FilterOp.TheVariants.{Unpark}
 use Rattle.parking_lot_world.specs.Passes.{asks}
 use Rattle.parking_lot_world.specs.RowActs as acts
+use Rattle.parking_lot_world_calls.specs.CallActs as call_acts
 use Rattle.parking_lot_world.specs.RowFits.{FitsTogether, LotFits, WakesFit}
 
 -- A thread t in a call c that asks for that act: what fitted fits after it.
@@ -47,12 +48,12 @@ pub record ActsKeepFits : Type 0 where
   pub enters : (s : State) (t : ℕ) (c : Call) (k : ℕ) → s.lot.section ≡ None → Keeps s t c (act.Enter k) (acts.entered s t c k)
   -- to go to sleep
   pub checks : (s : State) (t : ℕ) (c : Call) → Keeps s t c (act.Section section.Check) (acts.checked s t c)
-  pub appends : (s : State) (t : ℕ) (c : Call) (k : ℕ) (token : ParkToken) → stance c.core ≡ In k (Joins token) → Keeps s t c (act.Section (section.Append token)) (acts.appended s t c (acts.key_of c k) token)
+  pub appends : (s : State) (t : ℕ) (c : Call) (k : ℕ) (token : ParkToken) → stance c.core ≡ In k (Joins token) → Keeps s t c (act.Section (section.Append token)) (acts.appended s t c (call_acts.key_of c k) token)
   -- to wake others: one of the list is taken, or nobody
-  pub takes : (s : State) (t : ℕ) (c : Call) (a : Act) (k nth : ℕ) (w : Waiter) → IsTaking a → stance c.core ≡ In k Takes → slice_get (s.lot.queues (acts.key_of c k)) nth ≡ Some w → Counts c.core w.token
-      → Keeps s t c a (acts.took s t c (acts.key_of c k) nth w)
+  pub takes : (s : State) (t : ℕ) (c : Call) (a : Act) (k nth : ℕ) (w : Waiter) → IsTaking a → stance c.core ≡ In k Takes → slice_get (s.lot.queues (call_acts.key_of c k)) nth ≡ Some w → Counts c.core w.token
+      → Keeps s t c a (acts.took s t c (call_acts.key_of c k) nth w)
   pub takes_nobody : (s : State) (t : ℕ) (c : Call) (a : Act) (k : ℕ) → IsTaking a → stance c.core ≡ In k Takes
-      → Keeps s t c a (acts.took_nobody s t c (acts.key_of c k))
+      → Keeps s t c a (acts.took_nobody s t c (call_acts.key_of c k))
   pub stores : (s : State) (t : ℕ) (c : Call) (plain fair change : WordChange) (is_fair : Bool) → Keeps s t c (act.Section (section.Store plain fair)) (acts.told_all s t c change is_fair)
   pub masks : (s : State) (t : ℕ) (c : Call) (keep : ℕ) → Keeps s t c (act.FetchAnd keep) (acts.masked s t c keep)
   pub leaves : (s : State) (t : ℕ) (c : Call) → Keeps s t c (act.Section section.Leave) (acts.left s t c)
@@ -94,7 +95,7 @@ pub record IsWaiter (s : State) (t k : ℕ) (c : Call) (w : Waiter) : Type 0 whe
   pub asleep : stance call.core ≡ Asleep k w.token
   pub other : w.thread ≢ t
   pub sleep : Sleep
-  pub place : place_at s.lot.places w.thread ≡ Some (Waiting (acts.key_of c k) sleep)
+  pub place : place_at s.lot.places w.thread ≡ Some (Waiting (call_acts.key_of c k) sleep)
   pub late : sleep.late ≡ false
 
 -- A thread t in a call c that asks for that act.
@@ -112,9 +113,9 @@ pub record LotNeverRefuses : Type 0 where
   pub masks : (s : State) (t : ℕ) (c : Call) (keep : ℕ) → Asks s t c (act.FetchAnd keep) → step_fault may_store s.lot t ≡ None
   pub leaves : (s : State) (t : ℕ) (c : Call) → Asks s t c (act.Section section.Leave) → step_fault any_phase s.lot t ≡ None
   -- in the section of the key that its stance says
-  pub inside : (s : State) (t : ℕ) (c : Call) (k : ℕ) (how : Doing) → LotFits s → call_at s t ≡ Some c → stance c.core ≡ In k how → IsInside s t (acts.key_of c k)
+  pub inside : (s : State) (t : ℕ) (c : Call) (k : ℕ) (how : Doing) → LotFits s → call_at s t ≡ Some c → stance c.core ≡ In k how → IsInside s t (call_acts.key_of c k)
   -- whom it may take there
-  pub waiters : (s : State) (t : ℕ) (c : Call) (k nth : ℕ) (w : Waiter) → LotFits s → call_at s t ≡ Some c → stance c.core ≡ In k Takes → slice_get (s.lot.queues (acts.key_of c k)) nth ≡ Some w → IsWaiter s t k c w
+  pub waiters : (s : State) (t : ℕ) (c : Call) (k nth : ℕ) (w : Waiter) → LotFits s → call_at s t ≡ Some c → stance c.core ≡ In k Takes → slice_get (s.lot.queues (call_acts.key_of c k)) nth ≡ Some w → IsWaiter s t k c w
   -- one that is to wake somebody, who hasn't gone on by itself, finds the one, and wakes it
   pub wakes : (s : State) (t : ℕ) (c : Call) → Asks s t c (act.Section section.Wake) → 1 ≤ length (taken_by s.wakes t) → (e : Wakeup) × (slice_get s.wakes (position_or_len (is_by t) s.wakes) ≡ Some e) × (e.by ≡ t) × IsDue s t e
 
@@ -132,8 +133,8 @@ pub record ActsKeepWakes : Type 0 where
   pub enters : (s : State) (t : ℕ) (c : Call) (k : ℕ) → KeepsWakes s t c (act.Enter k) (acts.entered s t c k)
   pub checks : (s : State) (t : ℕ) (c : Call) → KeepsWakes s t c (act.Section section.Check) (acts.checked s t c)
   pub appends : (s : State) (t : ℕ) (c : Call) (key : ℕ) (token : ParkToken) → KeepsWakes s t c (act.Section (section.Append token)) (acts.appended s t c key token)
-  pub takes : (s : State) (t : ℕ) (c : Call) (a : Act) (k nth : ℕ) (w : Waiter) → IsTaking a → stance c.core ≡ In k Takes → slice_get (s.lot.queues (acts.key_of c k)) nth ≡ Some w
-      → KeepsWakes s t c a (acts.took s t c (acts.key_of c k) nth w)
+  pub takes : (s : State) (t : ℕ) (c : Call) (a : Act) (k nth : ℕ) (w : Waiter) → IsTaking a → stance c.core ≡ In k Takes → slice_get (s.lot.queues (call_acts.key_of c k)) nth ≡ Some w
+      → KeepsWakes s t c a (acts.took s t c (call_acts.key_of c k) nth w)
   pub takes_nobody : (s : State) (t : ℕ) (c : Call) (a : Act) (key : ℕ) → IsTaking a → KeepsWakes s t c a (acts.took_nobody s t c key)
   pub stores : (s : State) (t : ℕ) (c : Call) (plain fair change : WordChange) (is_fair : Bool) → KeepsWakes s t c (act.Section (section.Store plain fair)) (acts.told_all s t c change is_fair)
   pub masks : (s : State) (t : ℕ) (c : Call) (keep : ℕ) → KeepsWakes s t c (act.FetchAnd keep) (acts.masked s t c keep)
@@ -164,4 +165,4 @@ RegisteredThreadsRun = (m : Machine) (n : ℕ) → m.places ≡ replicate n (Som
 
 -- Whoever takes a waiter that it wants can count it: there are few threads, and a scan that goes on has taken no writer.
 abbrev pub ScansHaveRoom : Type 0
-ScansHaveRoom = (s : State) → FitsTogether s → (t : ℕ) (c : Call) → call_at s t ≡ Some c → (k nth : ℕ) (w : Waiter) → stance c.core ≡ In k Takes → slice_get (s.lot.queues (acts.key_of c k)) nth ≡ Some w → asks (core_act c.core) w.token.0 ≡ Unpark → Counts c.core w.token
+ScansHaveRoom = (s : State) → FitsTogether s → (t : ℕ) (c : Call) → call_at s t ≡ Some c → (k nth : ℕ) (w : Waiter) → stance c.core ≡ In k Takes → slice_get (s.lot.queues (call_acts.key_of c k)) nth ≡ Some w → asks (core_act c.core) w.token.0 ≡ Unpark → Counts c.core w.token

@@ -10,32 +10,34 @@ use Rattle.parking_lot_protocol.specs.declared.act.SectionAct.TheVariants as sec
 use Rattle.parking_lot_protocol.specs.declared.act.CoreAnswer.{CoreAnswer}
 use Rattle.parking_lot_protocol.specs.declared.act.ActResult.{ActResult}
 use Rattle.parking_lot_protocol.specs.declared.act.ActResult.TheVariants as seen
-use Rattle.parking_lot_world.specs.declared.calls.LockCall.{LockCall}
-use Rattle.parking_lot_world.specs.declared.calls.LockKind.{LockKind}
-use Rattle.parking_lot_world.specs.declared.open_call.Call.{Call}
-use Rattle.parking_lot_world.specs.declared.seat.Hold.TheVariants as hold
-use Rattle.parking_lot_world.specs.declared.seat.QueuePosition.TheVariants as spot
+use Rattle.parking_lot_world_calls.specs.declared.calls.LockCall.{LockCall}
+use Rattle.parking_lot_world_calls.specs.declared.calls.LockKind.{LockKind}
+use Rattle.parking_lot_world_calls.specs.declared.open_call.Call.{Call}
+use Rattle.parking_lot_world_calls.specs.declared.seat.Hold.TheVariants as hold
+use Rattle.parking_lot_world_calls.specs.declared.seat.QueuePosition.TheVariants as spot
 use Rattle.parking_lot_rules.specs.Classes.{bit}
-use Rattle.parking_lot_world.specs.declared.late_rw.LateRwPhase.{LateRwPhase}
-use Rattle.parking_lot_world.specs.declared.late_rw.LateRwPhase.TheVariants as late_rw
-use Rattle.parking_lot_world.specs.declared.seat.LatePhase.TheVariants as late
-use Rattle.parking_lot_world.specs.declared.seat.Core.{Core}
-use Rattle.parking_lot_world.specs.declared.seat.Core.TheVariants as core
-use Rattle.parking_lot_world.specs.Calls.{is_timed, takes}
-use Rattle.parking_lot_world.specs.Kinds.{kind_in}
-use Rattle.parking_lot_world.specs.Beginnings.{core_of, holds_beside, is_allowed}
+use Rattle.parking_lot_world_calls.specs.declared.late_rw.LateRwPhase.{LateRwPhase}
+use Rattle.parking_lot_world_calls.specs.declared.late_rw.LateRwPhase.TheVariants as late_rw
+use Rattle.parking_lot_world_calls.specs.declared.seat.LatePhase.TheVariants as late
+use Rattle.parking_lot_world_calls.specs.declared.seat.Core.{Core}
+use Rattle.parking_lot_world_calls.specs.declared.seat.Core.TheVariants as core
+use Rattle.parking_lot_world_calls.specs.Calls.{is_timed, takes}
+use Rattle.parking_lot_world_calls.specs.Kinds.{kind_in}
+use Rattle.parking_lot_world_calls.specs.Beginnings.{core_of, holds_beside, is_allowed}
 use Rattle.parking_lot_world.specs.Rows.{State, call_at, hold_at, open_at, taken_by}
 use Rattle.parking_lot_core_lot.specs.declared.parking.ParkToken.{ParkToken}
 use Rattle.parking_lot_core_lot.specs.declared.parking.UnparkToken.{UnparkToken}
 use Rattle.parking_lot_core_lot.specs.declared.place.Taking.{Taking}
 use Rattle.parking_lot_core_lot.specs.declared.place.Waiter.{Waiter}
-use Rattle.parking_lot_world.specs.declared.seat.Wakeup.{Wakeup}
-use Rattle.parking_lot_world.specs.Stances.{In, Joins, Takes, stance, core_act}
-use Rattle.parking_lot_world.specs.RowActs.{key_of, loaded, exchanged, added, masked, spun, entered, checked, appended, took, took_nobody, told_all, left, woke, woke_nobody, begun, answered, off_list}
+use Rattle.parking_lot_world_calls.specs.declared.seat.Wakeup.{Wakeup}
+use Rattle.parking_lot_world_calls.specs.Stances.{In, Joins, Takes, stance, core_act}
+use Rattle.parking_lot_world.specs.RowActs.{loaded, exchanged, added, masked, spun, entered, checked, appended, took, took_nobody, told_all, left, woke, woke_nobody, begun, answered}
+use Rattle.parking_lot_world_calls.specs.CallActs.{key_of, off_list}
 use Rattle.parking_lot_world.specs.Passes.{ArePassed, IsNext, asks}
 use Rattle.parking_lot_world.specs.TellLaws.{IsDue}
 use Rattle.parking_lot_world.specs.ActLaws.{Acts, Ends}
-use Rattle.parking_lot_world.specs.LateActs.{came_back, comes_late, expired, is_back, is_pending, quitted, sleeps_in_time}
+use Rattle.parking_lot_world.specs.LateActs.{came_back, expired, quitted}
+use Rattle.parking_lot_world_calls.specs.LateCalls.{comes_late, is_back, is_pending, sleeps_in_time}
 use Rattle.parking_lot_world.specs.LateLaws.{Expires}
 use Rattle.parking_lot_world.specs.Ranks.{Costs, Pays}
 

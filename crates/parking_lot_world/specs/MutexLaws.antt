@@ -24,13 +24,14 @@ use Rattle.parking_lot_protocol.specs.Acts.{word_after, Gives}
 use Rattle.parking_lot_protocol.specs.MutexTable.{act_of, next_phase, wakes_with}
 use Rattle.parking_lot_rules.specs.Classes.{bit, inside as is_inside}
 use Rattle.parking_lot_protocol.specs.MutexRules.{QueuePosition, Listed, Off, role, owns, owns_after, taken_of, Move, Stays, Makes, Joins, TakesOne, Tells, WakesOne, IsWoken, move, last_move, IsWord, mark_of}
-use Rattle.parking_lot_world.specs.declared.seat.Hold.{Hold}
-use Rattle.parking_lot_world.specs.declared.seat.WakeResult.{WakeResult}
-use Rattle.parking_lot_world.specs.declared.open_call.Call.{Call}
-use Rattle.parking_lot_world.specs.Rows as rows
-use Rattle.parking_lot_world.specs.Rows.{mutex_word_of, first_of_all, owns_mutex, mutex_role_in}
-use Rattle.parking_lot_world.specs.RowActs.{settled, mutex_hold_after}
-use Rattle.parking_lot_world.specs.Stances.{sign, mutex_taken, mutex_begun}
+use Rattle.parking_lot_world_calls.specs.declared.seat.Hold.{Hold}
+use Rattle.parking_lot_world_calls.specs.declared.seat.WakeResult.{WakeResult}
+use Rattle.parking_lot_world_calls.specs.declared.open_call.Call.{Call}
+use Rattle.parking_lot_world_calls.specs.CallRoles as call_roles
+use Rattle.parking_lot_world.specs.Rows.{mutex_word_of, mutex_role_in}
+use Rattle.parking_lot_world_calls.specs.CallRoles.{first_of_all, owns_mutex}
+use Rattle.parking_lot_world_calls.specs.CallActs.{settled, mutex_hold_after}
+use Rattle.parking_lot_world_calls.specs.Stances.{sign, mutex_taken, mutex_begun}
 use Rattle.parking_lot_world.specs.RowFits.{mutex_knows}
 use Rattle.parking_lot_world.specs.RowSteps.{store_step, wake_step_of}
 
@@ -187,7 +188,7 @@ pub record MutexAnswersAreSteps : Type 0 where
 abbrev pub TellingsSettle : Type 0
 TellingsSettle =
     (m : Mutex) (t u i : ℕ) (us vs : List ℕ) (said : WakeResult) (h : Hold) (o : Option Call) → IsSound m → slice_get m.roles t ≡ Some (doing (Unlocks us)) → slice_get m.roles u ≡ Some (mutex_role_in i vs h o)
-    → mutex_role_in i vs h (option_map (settled t said) o) ≡ settle (rows.mark_of said) (mutex_role_in i vs h o)
+    → mutex_role_in i vs h (option_map (settled t said) o) ≡ settle (call_roles.mark_of said) (mutex_role_in i vs h o)
 
 -- What is kept of a thread, where its call ends, is what the answer says.
 abbrev pub HoldsAreAnswered : Type 0

@@ -13,7 +13,7 @@ use Rattle.parking_lot_protocol.specs.Acts.{Gives, word_after}
 use Rattle.parking_lot_protocol.specs.MutexTable as of_mutex
 use Rattle.parking_lot_protocol.specs.RwTable as of_rw
 use Rattle.parking_lot_protocol.specs.RwRules.{IsReady}
-use Rattle.parking_lot_world.specs.Stances.{rw_taken}
+use Rattle.parking_lot_world_calls.specs.Stances.{rw_taken}
 use Rattle.parking_lot_world.specs.Ranks.{View, Unseen, Sees, wake, mutex_steps, rw_steps}
 
 -- A thread can make the act: it doesn't sleep, spins a round, and isn't shut out of a section that it enters or is in.

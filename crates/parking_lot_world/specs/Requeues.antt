@@ -10,18 +10,19 @@ use Rattle.parking_lot_protocol.specs.declared.mutex_phase.MutexPhase.TheVariant
 use Rattle.parking_lot_rules.specs.Roles.{Asleep}
 use Rattle.parking_lot_rules.specs.MutexOwners as owners
 use Rattle.parking_lot_rules.specs.Mutex.{Alone, Called, Come, Depart, Finish, Follow, Go, Idle, Inside, MarkParked, Mutex, Pull, Queued, Requeue, Runs, Seeks, Step, Wake, away, doing, total}
-use Rattle.parking_lot_world.specs.declared.calls.LockCall.TheVariants as call
-use Rattle.parking_lot_world.specs.declared.open_call.Call.{Call}
-use Rattle.parking_lot_world.specs.declared.seat.Core.{Core}
-use Rattle.parking_lot_world.specs.declared.seat.Core.TheVariants as core
-use Rattle.parking_lot_world.specs.declared.seat.QueuePosition.TheVariants as spot
-use Rattle.parking_lot_world.specs.Kinds.{AsMutex, manner_of}
+use Rattle.parking_lot_world_calls.specs.declared.calls.LockCall.TheVariants as call
+use Rattle.parking_lot_world_calls.specs.declared.open_call.Call.{Call}
+use Rattle.parking_lot_world_calls.specs.declared.seat.Core.{Core}
+use Rattle.parking_lot_world_calls.specs.declared.seat.Core.TheVariants as core
+use Rattle.parking_lot_world_calls.specs.declared.seat.QueuePosition.TheVariants as spot
+use Rattle.parking_lot_world_calls.specs.Kinds.{AsMutex, manner_of}
 use Rattle.parking_lot_world.specs.Machines.{may_begin}
 use Rattle.parking_lot_world.specs.SoundLaws.{IsStepAt}
 use Rattle.parking_lot_world.specs.Ranks.{steps_left}
 use Rattle.parking_lot_world.specs.RowActs.{with_call, with_lot, with_word}
 use Rattle.parking_lot_world.specs.RowFits.{FitsTogether}
-use Rattle.parking_lot_world.specs.Rows.{State, call_at, first_key, lock_at, mutex_at, owns_mutex, hold_at, word_at}
+use Rattle.parking_lot_world.specs.Rows.{State, call_at, first_key, lock_at, mutex_at, hold_at, word_at}
+use Rattle.parking_lot_world_calls.specs.CallRoles.{owns_mutex}
 
 -- BY THE RULES
 

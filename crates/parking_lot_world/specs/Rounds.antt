@@ -6,13 +6,13 @@ use Rattle.parking_lot_protocol.specs.declared.rw_phase.RwPhase.{RwPhase}
 use Rattle.parking_lot_protocol.specs.declared.rw_phase.RwPhase.TheVariants as r
 use Rattle.parking_lot_upgrades.specs.declared.upgrade_phase.UpgradePhase.{UpgradePhase}
 use Rattle.parking_lot_upgrades.specs.declared.upgrade_phase.UpgradePhase.TheVariants as u
-use Rattle.parking_lot_world.specs.declared.late_rw.LateRwPhase.{LateRwPhase}
-use Rattle.parking_lot_world.specs.declared.late_rw.LateRwPhase.TheVariants as late_rw
-use Rattle.parking_lot_world.specs.declared.late_rw.RwSleeper.{RwSleeper}
-use Rattle.parking_lot_world.specs.declared.late_rw.RwSleeper.TheVariants as sleeper
-use Rattle.parking_lot_world.specs.declared.seat.Core.{Core}
-use Rattle.parking_lot_world.specs.declared.seat.Core.TheVariants as core
-use Rattle.parking_lot_world.specs.Stances.{has_begun}
+use Rattle.parking_lot_world_calls.specs.declared.late_rw.LateRwPhase.{LateRwPhase}
+use Rattle.parking_lot_world_calls.specs.declared.late_rw.LateRwPhase.TheVariants as late_rw
+use Rattle.parking_lot_world_calls.specs.declared.late_rw.RwSleeper.{RwSleeper}
+use Rattle.parking_lot_world_calls.specs.declared.late_rw.RwSleeper.TheVariants as sleeper
+use Rattle.parking_lot_world_calls.specs.declared.seat.Core.{Core}
+use Rattle.parking_lot_world_calls.specs.declared.seat.Core.TheVariants as core
+use Rattle.parking_lot_world_calls.specs.Stances.{has_begun}
 
 abbrev pub mutex_rounds : MutexPhase → ℕ
 mutex_rounds (m.Loads a) = a.rounds

@@ -1,5 +1,5 @@
 -- What each act of a call leaves of the machine.
-use Rattle.std.specs.Prelude.{ℕ, ◌+◌, ◌*◌, ◌%◌, ◌^◌, ◌==◌, Bool, true, false, if◌then◌else◌, bit_and, [], ◌∷◌, ◌++◌, map, remove, Some, None, slice_set}
+use Rattle.std.specs.Prelude.{ℕ, ◌+◌, ◌%◌, ◌^◌, ◌==◌, Bool, true, false, if◌then◌else◌, bit_and, [], ◌∷◌, ◌++◌, map, remove, Some, None, slice_set}
 use Rattle.std.specs.List.{position_or_len}
 use Rattle.std.specs.Option.{option_map, option_map_or}
 use Rattle.parking_lot_core_lot.specs.declared.parking.ParkToken.{ParkToken}
@@ -10,34 +10,16 @@ use Rattle.parking_lot_core_lot.specs.declared.place.Waiter.{Waiter}
 use Rattle.parking_lot_core_lot.specs.Results.{is_left}
 use Rattle.parking_lot_core_lot.specs.Places.{place_at, mark_of}
 use Rattle.parking_lot_core_lot.specs.Machine.{Machine, opened, in_phase, joined, taken, stored, closed}
-use Rattle.parking_lot_protocol.specs.declared.act.ActResult.{ActResult}
 use Rattle.parking_lot_protocol.specs.declared.act.ActResult.TheVariants as seen
 use Rattle.parking_lot_protocol.specs.declared.act.WordChange.{WordChange}
 use Rattle.parking_lot_protocol.specs.Acts.{change_of}
-use Rattle.parking_lot_protocol.specs.declared.act.CoreAnswer.TheVariants as answer
-use Rattle.parking_lot_protocol.specs.declared.mutex_phase.MutexPhase.{MutexPhase}
-use Rattle.parking_lot_protocol.specs.declared.mutex_phase.MutexPhase.TheVariants as m
-use Rattle.parking_lot_protocol.specs.declared.rw_phase.RwPhase.{RwPhase}
-use Rattle.parking_lot_protocol.specs.declared.rw_phase.RwPhase.TheVariants as r
-use Rattle.parking_lot_protocol.specs.declared.rw_phase.AfterWake.{AfterWake}
-use Rattle.parking_lot_protocol.specs.declared.rw_phase.AfterWake.TheVariants as rest
-use Rattle.parking_lot_protocol.specs.declared.rw_phase.Outcome.{Outcome}
-use Rattle.parking_lot_protocol.specs.declared.rw_phase.Outcome.TheVariants as outcome
-use Rattle.parking_lot_upgrades.specs.declared.upgrade_phase.UpgradePhase.{UpgradePhase}
-use Rattle.parking_lot_upgrades.specs.declared.upgrade_phase.UpgradePhase.TheVariants as u
-use Rattle.parking_lot_upgrades.specs.declared.upgrade_phase.Hold as up
-use Rattle.parking_lot_upgrades.specs.declared.upgrade_phase.Hold.TheVariants as up_hold
-use Rattle.parking_lot_world.specs.declared.seat.Hold.{Hold}
-use Rattle.parking_lot_world.specs.declared.seat.Hold.TheVariants as hold
-use Rattle.parking_lot_world.specs.declared.seat.WakeResult.{WakeResult}
-use Rattle.parking_lot_world.specs.declared.seat.WakeResult.TheVariants as told
-use Rattle.parking_lot_world.specs.declared.seat.QueuePosition.{QueuePosition}
-use Rattle.parking_lot_world.specs.declared.seat.QueuePosition.TheVariants as spot
-use Rattle.parking_lot_world.specs.declared.seat.Core.{Core}
-use Rattle.parking_lot_world.specs.declared.seat.Core.TheVariants as core
-use Rattle.parking_lot_world.specs.declared.open_call.Call.{Call}
+use Rattle.parking_lot_world_calls.specs.declared.seat.WakeResult.{WakeResult}
+use Rattle.parking_lot_world_calls.specs.declared.seat.WakeResult.TheVariants as told
+use Rattle.parking_lot_world_calls.specs.declared.seat.QueuePosition.TheVariants as spot
+use Rattle.parking_lot_world_calls.specs.declared.open_call.Call.{Call}
 use Rattle.parking_lot_world.specs.Rows.{State, word_at, call_at, cell, is_by}
-use Rattle.parking_lot_world.specs.Stances.{Doing, Joins, Stance, In, stance, sign, core_next, core_tells}
+use Rattle.parking_lot_world_calls.specs.Stances.{stance, sign, core_tells}
+use Rattle.parking_lot_world_calls.specs.CallActs.{hears, hold_after, joins, key_of, off_list, settled, told_of}
 
 -- PARTS OF THE MACHINE THAT ACTS CHANGE
 
@@ -50,43 +32,8 @@ with_word s j word = record s { words = slice_set s.words j word }
 abbrev pub with_lot : State → Machine → State
 with_lot s lot = record s { lot = lot }
 
--- a call is told what its act gave
-abbrev pub hears : Call → ActResult → Call
-hears c s = record c { core = core_next c.core s }
-
--- the lot's key: k is 0 for the lock's first, 1 for its second
-abbrev pub key_of : Call → ℕ → ℕ
-key_of c k = 2 * c.lock + k
-
--- whether it goes to sleep
-abbrev pub does_join : Doing → Bool
-does_join (Joins token) = true
-does_join how = false
-
-abbrev pub joins : Stance → Bool
-joins (In key how) = does_join how
-joins other = false
-
--- what sleepers are told by a token
-abbrev pub told_of : UnparkToken → WakeResult
-told_of token = if token.0 == 1 then told.HandedOver else told.TryAgain
-
--- a thread tells all whom it has taken and told nothing yet
-abbrev pub settled_spot : ℕ → WakeResult → QueuePosition → QueuePosition
-settled_spot t said spot.Listed = spot.Listed
-settled_spot t said (spot.Off by told.Nothing) = spot.Off by (if by == t then said else told.Nothing)
-settled_spot t said (spot.Off by told.TryAgain) = spot.Off by told.TryAgain
-settled_spot t said (spot.Off by told.HandedOver) = spot.Off by told.HandedOver
-
-abbrev pub settled : ℕ → WakeResult → Call → Call
-settled t said c = record c { spot = settled_spot t said c.spot }
-
 abbrev pub settles : State → ℕ → WakeResult → State
 settles s t said = record s { calls = map (option_map (settled t said)) s.calls }
-
--- a sleeper is off its list, taken by a thread
-abbrev pub off_list : ℕ → Call → Call
-off_list t c = record c { spot = spot.Off t told.Nothing }
 
 abbrev pub takes_off : State → ℕ → ℕ → State
 takes_off s v t = record s { calls = slice_set s.calls v (option_map (off_list t) (call_at s v)) }
@@ -150,50 +97,6 @@ woke s t c v d token =
 -- those whom it was to wake have gone on by themselves
 abbrev pub woke_nobody : State → ℕ → Call → State
 woke_nobody s t c = with_call s t (hears c seen.Made)
-
--- WHAT A THREAD OWNS WHERE ITS CALL ENDS
-
-abbrev pub rest_hold : ℕ → AfterWake → Hold
-rest_hold n rest.FreedShared = hold.Shares n
-rest_hold n rest.FreedExclusive = hold.Shares 0
-rest_hold n rest.Downgraded = hold.Shares 1
-rest_hold n rest.AgainShared = hold.Shares n
-rest_hold n rest.AgainExclusive = hold.Shares 0
-
-abbrev pub outcome_hold : ℕ → Outcome → Hold
-outcome_hold n outcome.Shared = hold.Shares (n + 1)
-outcome_hold n outcome.Exclusive = hold.Excludes
-outcome_hold n outcome.Downgraded = hold.Shares 1
-outcome_hold n outcome.FreedShared = hold.Shares n
-outcome_hold n outcome.FreedExclusive = hold.Shares 0
-
-abbrev pub rw_hold_after : ℕ → RwPhase → Hold
-rw_hold_after n (r.Finishes rest) = rest_hold n rest
-rw_hold_after n (r.Ends outcome) = outcome_hold n outcome
-rw_hold_after n phase = hold.Shares n
-
-abbrev pub mutex_hold_after : MutexPhase → Hold
-mutex_hold_after (m.Ends answer.Owned) = hold.Excludes
-mutex_hold_after phase = hold.Shares 0
-
-abbrev pub kept_hold : up.Hold → Hold
-kept_hold up_hold.Nothing = hold.Shares 0
-kept_hold up_hold.Shared = hold.Shares 1
-kept_hold up_hold.Upgradable = hold.Upgrades
-kept_hold up_hold.Exclusive = hold.Excludes
-
-abbrev pub upgrade_hold_after : UpgradePhase → Hold
-upgrade_hold_after (u.Drains core) = hold.Excludes
-upgrade_hold_after (u.Owes kept answer core) = kept_hold kept
-upgrade_hold_after (u.Ends kept answer) = kept_hold kept
-upgrade_hold_after phase = hold.Shares 0
-
-abbrev pub hold_after : ℕ → Core → Hold
-hold_after n (core.Mutex c) = mutex_hold_after c.phase
-hold_after n (core.Rw c) = rw_hold_after n c.phase
-hold_after n (core.Late p) = hold.Shares 0
-hold_after n (core.LateRw p) = hold.Shares 0
-hold_after n (core.Upgrade c) = upgrade_hold_after c.phase
 
 abbrev pub answered : State → ℕ → Call → State
 answered s t c = record s { calls = slice_set s.calls t None; holds = slice_set s.holds (cell s t c.lock) (hold_after c.others c.core) }

@@ -27,25 +27,24 @@ use Rattle.parking_lot_protocol.specs.declared.rw_phase.LockMode.TheVariants as 
 use Rattle.parking_lot_protocol.specs.declared.rw_phase.RwPhase.{RwPhase}
 use Rattle.parking_lot_protocol.specs.declared.rw_phase.RwPhase.TheVariants as r
 use Rattle.parking_lot_rules.specs.Clauses.{word_of}
-use Rattle.parking_lot_world.specs.declared.calls.LockKind.{LockKind}
-use Rattle.parking_lot_world.specs.declared.seat.Hold.TheVariants as hold
-use Rattle.parking_lot_world.specs.declared.seat.WakeResult.{WakeResult}
-use Rattle.parking_lot_world.specs.declared.seat.WakeResult.TheVariants as told
-use Rattle.parking_lot_world.specs.declared.seat.QueuePosition.{QueuePosition}
-use Rattle.parking_lot_world.specs.declared.seat.QueuePosition.TheVariants as spot
-use Rattle.parking_lot_world.specs.declared.late_rw.LateRwPhase.{LateRwPhase}
-use Rattle.parking_lot_world.specs.declared.late_rw.LateRwPhase.TheVariants as late_rw
-use Rattle.parking_lot_world.specs.declared.late_rw.RwSleeper.{RwSleeper}
-use Rattle.parking_lot_world.specs.declared.late_rw.RwSleeper.TheVariants as sleeper
-use Rattle.parking_lot_world.specs.declared.seat.Core.{Core}
-use Rattle.parking_lot_world.specs.declared.seat.Core.TheVariants as core
-use Rattle.parking_lot_world.specs.declared.open_call.Call.{Call}
-use Rattle.parking_lot_world.specs.declared.seat.Wakeup.{Wakeup}
-use Rattle.parking_lot_world.specs.Kinds.{Manner, AsMutex, AsRw, manner_of, recursive_in}
+use Rattle.parking_lot_world_calls.specs.declared.seat.Hold.TheVariants as hold
+use Rattle.parking_lot_world_calls.specs.declared.seat.WakeResult.{WakeResult}
+use Rattle.parking_lot_world_calls.specs.declared.seat.WakeResult.TheVariants as told
+use Rattle.parking_lot_world_calls.specs.declared.seat.QueuePosition.{QueuePosition}
+use Rattle.parking_lot_world_calls.specs.declared.seat.QueuePosition.TheVariants as spot
+use Rattle.parking_lot_world_calls.specs.declared.late_rw.LateRwPhase.{LateRwPhase}
+use Rattle.parking_lot_world_calls.specs.declared.late_rw.LateRwPhase.TheVariants as late_rw
+use Rattle.parking_lot_world_calls.specs.declared.late_rw.RwSleeper.{RwSleeper}
+use Rattle.parking_lot_world_calls.specs.declared.late_rw.RwSleeper.TheVariants as sleeper
+use Rattle.parking_lot_world_calls.specs.declared.seat.Core.{Core}
+use Rattle.parking_lot_world_calls.specs.declared.seat.Core.TheVariants as core
+use Rattle.parking_lot_world_calls.specs.declared.open_call.Call.{Call}
+use Rattle.parking_lot_world_calls.specs.declared.seat.Wakeup.{Wakeup}
+use Rattle.parking_lot_world_calls.specs.Kinds.{AsMutex, manner_of, recursive_in}
 use Rattle.parking_lot_world.specs.Rows.{State, word_at, hold_at, call_at, taken_by, family, one_bucket}
-use Rattle.parking_lot_world.specs.Stances.{Doing, Looks, TurnsBack, Joins, Joined, Takes, Stores, Tells, Stance, Out, In, Asleep, stance, taken_count, core_act, sleeper_asleep}
+use Rattle.parking_lot_world_calls.specs.Stances.{Doing, Looks, TurnsBack, Joins, Joined, Takes, Stores, Tells, Stance, Out, In, Asleep, stance, taken_count, core_act, sleeper_asleep}
 use Rattle.parking_lot_world.specs.Rounds.{IsUnderWay}
-use Rattle.parking_lot_protocol.specs.RwTable.{count_of, has_room, sum_of}
+use Rattle.parking_lot_protocol.specs.RwTable.{count_of, sum_of}
 use Rattle.parking_lot_protocol.specs.declared.rw_phase.Scanning.{Scanning}
 use Rattle.parking_lot_upgrades.specs.declared.upgrade_phase.UpgradePhase.{UpgradePhase}
 use Rattle.parking_lot_upgrades.specs.declared.upgrade_phase.UpgradePhase.TheVariants as u
@@ -56,7 +55,8 @@ use Rattle.parking_lot_upgrades.specs.UpgradeRules as of_upgrade
 use Rattle.parking_lot_upgrades.specs.UpgradeTable.{is_again}
 use Rattle.parking_lot_protocol.specs.Wake.{wake_answer}
 use Rattle.parking_lot_world.specs.Passes.{ArePassed, asks, look_by}
-use Rattle.parking_lot_world.specs.RowActs.{told_of}
+use Rattle.parking_lot_world_calls.specs.CallActs.{told_of}
+use Rattle.parking_lot_world_calls.specs.CallKinds.{IsOfKind, IsOfWorld}
 
 -- THE LOT
 
@@ -113,17 +113,6 @@ Awaits k token (Asleep key park) = (key ≡ k) × (park ≡ token)
 Awaits k token other = ⊥
 
 -- WHAT THE PARTS OF THE MACHINE SAY TO EACH OTHER
-
--- the call is of the lock's kind
-abbrev pub IsOfManner : Option Manner → Core → Type 0
-IsOfManner m (core.Mutex c) = m ≡ Some AsMutex
-IsOfManner m (core.Rw c) = m ≡ Some AsRw
-IsOfManner m (core.Late p) = m ≡ Some AsMutex
-IsOfManner m (core.LateRw p) = m ≡ Some AsRw
-IsOfManner m (core.Upgrade c) = m ≡ Some AsRw
-
-abbrev pub IsOfKind : Option LockKind → Core → Type 0
-IsOfKind k c = IsOfManner (manner_of k) c
 
 -- who may ask: one that has no other hold, or on a recursive lock a reader
 abbrev pub Asks : Bool → ℕ → LockMode → Type 0
@@ -237,22 +226,6 @@ upgrade_begins u.TryingToUpgrade = Unit {0}
 upgrade_begins u.DowngradingToShared = Unit {0}
 upgrade_begins u.DowngradingToUpgradable = Unit {0}
 upgrade_begins phase = ⊥
-
--- A call of a world asks where it has seen room for one reader more, and doesn't bump. One that gives up begins with its first look at the word.
-abbrev pub seeks_room : RwPhase → Type 0
-seeks_room (r.Admits a word) = has_room word ≡ true
-seeks_room phase = Unit {0}
-
-abbrev pub IsOfWorld : UpgradePhase → Type 0
-IsOfWorld (u.Plain core) = ⊥
-IsOfWorld (u.Seeks core) = seeks_room core.phase
-IsOfWorld (u.Frees release core) = is_again release ≡ false
-IsOfWorld (u.UnlockLoads release) = is_again release ≡ false
-IsOfWorld (u.Unlocks release word) = is_again release ≡ false
-IsOfWorld u.BumpLoads = ⊥
-IsOfWorld u.Relocks = ⊥
-IsOfWorld (u.GivingUp from) = ⊥
-IsOfWorld phase = Unit {0}
 
 -- Nobody goes through the list that keeps the exclusive hold. A scan that goes on has taken no writer, and beside the upgradable hold nobody that
 -- wants it.

@@ -12,18 +12,19 @@ use Rattle.parking_lot_protocol.specs.declared.act.ActResult.TheVariants as seen
 use Rattle.parking_lot_protocol.specs.MutexRules as of_mutex
 use Rattle.parking_lot_protocol.specs.RwRules as of_rw
 use Rattle.parking_lot_upgrades.specs.UpgradeMoves as of_upgrade
-use Rattle.parking_lot_world.specs.Kinds.{recursive_in}
-use Rattle.parking_lot_world.specs.LateRoles.{finding, quitting, reentering, resuming}
-use Rattle.parking_lot_world.specs.declared.seat.LatePhase.{LatePhase}
-use Rattle.parking_lot_world.specs.declared.seat.LatePhase.TheVariants as late
-use Rattle.parking_lot_world.specs.declared.late_rw.LateRwPhase.{LateRwPhase}
-use Rattle.parking_lot_world.specs.declared.late_rw.LateRwPhase.TheVariants as late_rw
-use Rattle.parking_lot_world.specs.declared.late_rw.RwSleeper.{RwSleeper}
-use Rattle.parking_lot_world.specs.declared.seat.Core.{Core}
-use Rattle.parking_lot_world.specs.declared.seat.Core.TheVariants as core
-use Rattle.parking_lot_world.specs.declared.open_call.Call.{Call}
+use Rattle.parking_lot_world_calls.specs.Kinds.{recursive_in}
+use Rattle.parking_lot_world_calls.specs.LateRoles.{finding, quitting, reentering, resuming}
+use Rattle.parking_lot_world_calls.specs.declared.seat.LatePhase.{LatePhase}
+use Rattle.parking_lot_world_calls.specs.declared.seat.LatePhase.TheVariants as late
+use Rattle.parking_lot_world_calls.specs.declared.late_rw.LateRwPhase.{LateRwPhase}
+use Rattle.parking_lot_world_calls.specs.declared.late_rw.LateRwPhase.TheVariants as late_rw
+use Rattle.parking_lot_world_calls.specs.declared.late_rw.RwSleeper.{RwSleeper}
+use Rattle.parking_lot_world_calls.specs.declared.seat.Core.{Core}
+use Rattle.parking_lot_world_calls.specs.declared.seat.Core.TheVariants as core
+use Rattle.parking_lot_world_calls.specs.declared.open_call.Call.{Call}
 use Rattle.parking_lot_world.specs.LateActs.{unowed}
-use Rattle.parking_lot_world.specs.Rows.{State, lock_at, inside, family, one_bucket, taken_by, first_of_all}
+use Rattle.parking_lot_world.specs.Rows.{State, lock_at, inside, family, one_bucket, taken_by}
+use Rattle.parking_lot_world_calls.specs.CallRoles.{first_of_all}
 
 -- nothing of the locks changes
 pub record IsQuiet (s u : State) : Type 0 where

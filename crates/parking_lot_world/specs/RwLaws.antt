@@ -24,10 +24,11 @@ use Rattle.parking_lot_world.specs.RowFits.{Asks, rw_prepared, rw_keeps, rw_know
 use Rattle.parking_lot_rules.specs.Roles as rules
 use Rattle.parking_lot_core_lot.specs.Results.{is_left}
 use Rattle.parking_lot_core_lot.specs.declared.parking.UnparkToken.{UnparkToken}
-use Rattle.parking_lot_world.specs.Rows.{mark_of, owned_of, one_bucket, rw_spot}
-use Rattle.parking_lot_world.specs.RowActs.{told_of, rw_hold_after, settled_spot}
-use Rattle.parking_lot_world.specs.Stances as stance
-use Rattle.parking_lot_world.specs.Stances.{rw_stance, rw_taken, Stance, rw_begun}
+use Rattle.parking_lot_world.specs.Rows.{one_bucket}
+use Rattle.parking_lot_world_calls.specs.CallRoles.{mark_of, owned_of, rw_spot}
+use Rattle.parking_lot_world_calls.specs.CallActs.{told_of, rw_hold_after, settled_spot}
+use Rattle.parking_lot_world_calls.specs.Stances as stance
+use Rattle.parking_lot_world_calls.specs.Stances.{rw_stance, rw_taken, Stance, rw_begun}
 use Rattle.parking_lot_protocol.specs.declared.rw_phase.RwPhase.TheVariants as r
 use Rattle.parking_lot_protocol.specs.declared.act.CoreAnswer.{CoreAnswer}
 use Rattle.parking_lot_core_lot.specs.declared.place.Waiter.{Waiter}
@@ -35,8 +36,8 @@ use Rattle.parking_lot_rules.specs.Family.{Family, SoundFamilyOf, Crossing, Come
 use Rattle.parking_lot_rules.specs.Family as crossings
 use Rattle.parking_lot_rules.specs.Any.{AnyLock, Rw, AnySound, any_inside}
 use Rattle.parking_lot_protocol.specs.declared.act.SectionAct.TheVariants.{Leave}
-use Rattle.parking_lot_world.specs.declared.seat.QueuePosition as seat
-use Rattle.parking_lot_world.specs.declared.seat.WakeResult.{WakeResult}
+use Rattle.parking_lot_world_calls.specs.declared.seat.QueuePosition as seat
+use Rattle.parking_lot_world_calls.specs.declared.seat.WakeResult.{WakeResult}
 use Rattle.parking_lot_protocol.specs.Wake.{wake_answer}
 use Rattle.parking_lot_core_lot.specs.Machine.{threads_of}
 use Rattle.parking_lot_protocol.specs.WakeRules.{answer_to}

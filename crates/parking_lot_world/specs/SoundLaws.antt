@@ -8,19 +8,19 @@ use Rattle.parking_lot_rules.specs.Classes.{bit}
 use Rattle.parking_lot_rules.specs.Lists.{occurs}
 use Rattle.parking_lot_rules.specs.MutexOwners as mutex
 use Rattle.parking_lot_rules.specs.Owners as rw
-use Rattle.parking_lot_world.specs.declared.calls.LockCall.{LockCall}
-use Rattle.parking_lot_world.specs.declared.calls.OwnMode.{OwnMode}
-use Rattle.parking_lot_world.specs.declared.calls.OwnMode.TheVariants as mode
-use Rattle.parking_lot_world.specs.declared.open_call.Call.{Call}
-use Rattle.parking_lot_world.specs.declared.seat.QueuePosition.{QueuePosition}
-use Rattle.parking_lot_world.specs.declared.seat.QueuePosition.TheVariants as spot
-use Rattle.parking_lot_world.specs.Kinds.{AsRw, manner_of, recursive_in}
+use Rattle.parking_lot_world_calls.specs.declared.calls.LockCall.{LockCall}
+use Rattle.parking_lot_world_calls.specs.declared.calls.OwnMode.{OwnMode}
+use Rattle.parking_lot_world_calls.specs.declared.calls.OwnMode.TheVariants as mode
+use Rattle.parking_lot_world_calls.specs.declared.open_call.Call.{Call}
+use Rattle.parking_lot_world_calls.specs.declared.seat.QueuePosition.{QueuePosition}
+use Rattle.parking_lot_world_calls.specs.declared.seat.QueuePosition.TheVariants as spot
+use Rattle.parking_lot_world_calls.specs.Kinds.{AsRw, manner_of, recursive_in}
 use Rattle.parking_lot_world.specs.Ranks.{own_steps, steps_left}
 use Rattle.parking_lot_world.specs.Machines.{can_move, is_asleep, IsBegun, IsStepped}
 use Rattle.parking_lot_world.specs.RowFits.{FitsTogether}
 use Rattle.parking_lot_world.specs.Rows.{State, call_at, first_key, lock_at, open_at, queue_at, second_key}
-use Rattle.parking_lot_world.specs.RowActs.{key_of}
-use Rattle.parking_lot_world.specs.Stances.{Doing, Joined, Stance, Out, In, Asleep, core_act, stance}
+use Rattle.parking_lot_world_calls.specs.CallActs.{key_of}
+use Rattle.parking_lot_world_calls.specs.Stances.{Doing, Joined, Stance, Out, In, Asleep, core_act, stance}
 use Rattle.parking_lot_world.specs.Worlds.{is_indebted, mode_in}
 
 -- The table of modes: whether one thread may own a lock so while another owns it so.

@@ -7,10 +7,11 @@ use Rattle.parking_lot_core_lot.specs.Sound as lot
 use Rattle.parking_lot_protocol.specs.declared.act.Act.TheVariants as act
 use Rattle.parking_lot_protocol.specs.declared.act.SectionAct.TheVariants as section
 use Rattle.parking_lot_world.specs.Passes.{ArePassed, IsNext, asks}
-use Rattle.parking_lot_world.specs.declared.open_call.Call.{Call}
+use Rattle.parking_lot_world_calls.specs.declared.open_call.Call.{Call}
 use Rattle.parking_lot_world.specs.Rows.{State, call_at}
-use Rattle.parking_lot_world.specs.Stances.{Joins, Takes, In, stance, core_act}
-use Rattle.parking_lot_world.specs.RowActs.{key_of, appended, took, took_nobody}
+use Rattle.parking_lot_world_calls.specs.Stances.{Joins, Takes, In, stance, core_act}
+use Rattle.parking_lot_world.specs.RowActs.{appended, took, took_nobody}
+use Rattle.parking_lot_world_calls.specs.CallActs.{key_of}
 use Rattle.parking_lot_world.specs.RowFits.{FitsTogether}
 use Rattle.parking_lot_world.specs.ActLaws.{Keeps}
 

@@ -21,11 +21,12 @@ use Rattle.parking_lot_upgrades.specs.UpgradeRoles.{owned, owns, role}
 use Rattle.parking_lot_upgrades.specs.UpgradeRules.{IsReady, IsTold}
 use Rattle.parking_lot_upgrades.specs.UpgradeTable.{act_of, next_phase}
 use Rattle.parking_lot_world.specs.RwLaws.{count_shared, Finds, IsLastStep, IsStep, with_role, with_roles}
-use Rattle.parking_lot_world.specs.Stances.{upgrade_begun}
+use Rattle.parking_lot_world_calls.specs.Stances.{upgrade_begun}
 use Rattle.parking_lot_core_lot.specs.declared.parking.FilterOp.TheVariants.{Unpark}
 use Rattle.parking_lot_world.specs.Passes.{asks}
-use Rattle.parking_lot_world.specs.Stances.{upgrade_taken}
-use Rattle.parking_lot_world.specs.RowFits.{IsOfWorld, upgrade_begins, upgrade_keeps, upgrade_prepared}
+use Rattle.parking_lot_world_calls.specs.Stances.{upgrade_taken}
+use Rattle.parking_lot_world.specs.RowFits.{upgrade_begins, upgrade_keeps, upgrade_prepared}
+use Rattle.parking_lot_world_calls.specs.CallKinds.{IsOfWorld}
 
 -- Thread t is in that phase of an upgradable call at a sound lock whose word is the number x, and has taken the threads us.
 pub record MeetsUpgrade (l : Lock) (t n : ℕ) (spot : QueuePosition) (us : List ℕ) (p : UpgradePhase) (x : ℕ) : Type 0 where

@@ -12,8 +12,8 @@ use Rattle.parking_lot_upgrades.specs.UpgradeRules.{IsReady}
 use Rattle.parking_lot_upgrades.specs.UpgradeTable.{act_of, next_phase}
 use Rattle.parking_lot_world.specs.RankLaws.{Can, Leaves, StopsAt}
 use Rattle.parking_lot_world.specs.Ranks.{View, Sees, Unseen, upgrade_steps, wake}
-use Rattle.parking_lot_world.specs.RowFits.{IsOfWorld}
-use Rattle.parking_lot_world.specs.Stances.{upgrade_taken}
+use Rattle.parking_lot_world_calls.specs.CallKinds.{IsOfWorld}
+use Rattle.parking_lot_world_calls.specs.Stances.{upgrade_taken}
 
 -- Each act of such a call lowers the steps that are left of it, as long as no reader count is at its limit; and what others see of them is as it
 -- is of calls of shared and exclusive holds.

@@ -3,7 +3,7 @@ ghost use Rattle.std.specs.Prelude.{◌≡◌, ◌<◌, ◌≤◌, ℕ, ◌+◌,
 ghost use Rattle.std.specs.Option.{option_map, option_and_then, option_map_or};
 ghost use Rattle.std.specs.List.{position_or_len, position};
 ghost use Rattle.parking_lot_protocol.specs.declared.act.ActResult.TheVariants as seen;
-ghost use Rattle.parking_lot_world.specs.declared.seat.QueuePosition.TheVariants as spot;
+ghost use Rattle.parking_lot_world_calls.specs.declared.seat.QueuePosition.TheVariants as spot;
 ghost use Rattle.parking_lot_core_lot.specs.declared.place.Taking.{Taking};
 ghost use Rattle.parking_lot_core_lot.specs.Machine.{machine};
 ghost use Rattle.parking_lot_core_lot.specs.Results.{is_left};
@@ -13,20 +13,20 @@ ghost use Rattle.parking_lot_protocol.specs.declared.act.CoreAnswer.{CoreAnswer}
 ghost use Rattle.parking_lot_protocol.specs.declared.act.WordChange.{WordChange};
 ghost use Rattle.parking_lot_world.specs.ActLaws.{MayBegin};
 ghost use Rattle.parking_lot_world.specs.Rows.{call_at, is_by, state, taken_by, word_at};
-ghost use Rattle.parking_lot_world.specs.Stances.{In, Joins, Takes, core_act, stance};
+ghost use Rattle.parking_lot_world_calls.specs.Stances.{In, Joins, Takes, core_act, stance};
 ghost use Rattle.parking_lot_world.specs.Machines.{IsTakenFrom, IsWoken, owes_to, takes_off_by};
 ghost use Rattle.parking_lot_world.specs.TellLaws.{IsDue};
 ghost use Rattle.parking_lot_core_lot.specs.declared.parking.UnparkToken.{UnparkToken};
-ghost use Rattle.parking_lot_world.specs.declared.open_call.Call.{Call};
-ghost use Rattle.parking_lot_world.specs.declared.seat.Wakeup.{Wakeup};
-ghost use Rattle.parking_lot_world.specs.RowActs.{added, answered, appended, begun, checked, entered, exchanged, hears, key_of, left, loaded, masked, off_list, settled, spun, told_all, took, took_nobody, woke, woke_nobody};
+ghost use Rattle.parking_lot_world_calls.specs.declared.open_call.Call.{Call};
+ghost use Rattle.parking_lot_world_calls.specs.declared.seat.Wakeup.{Wakeup};
+ghost use Rattle.parking_lot_world.specs.RowActs.{added, answered, appended, begun, checked, entered, exchanged, left, loaded, masked, spun, told_all, took, took_nobody, woke, woke_nobody};
+ghost use Rattle.parking_lot_world_calls.specs.CallActs.{hears, key_of, off_list, settled};
 
 use crate::lot_calls;
-use crate::open_call::Call;
 use crate::row_machine::RowMachine;
-use crate::seat::{WakeResult, Wakeup};
 use parking_lot_core_lot::{Lot, ParkToken, Taking, UnparkToken};
 use parking_lot_protocol::{ActResult, TRY_AGAIN, WordChange};
+use parking_lot_world_calls::{Call, WakeResult, Wakeup};
 use std::alloc::Allocator;
 
 /// One that took sleepers tells all of them whom it hasn't told yet.

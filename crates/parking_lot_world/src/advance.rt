@@ -3,9 +3,9 @@ ghost use Rattle.std.specs.Prelude.{◌≡◌, true};
 ghost use Rattle.parking_lot_world.specs.Machines.{can_move, may_begin, IsAdvanced, IsStarted};
 ghost use Rattle.parking_lot_world.specs.Rows.{state};
 
-use crate::calls::LockCall;
 use crate::row_machine::RowMachine;
 use parking_lot_protocol::CoreAnswer;
+use parking_lot_world_calls::LockCall;
 use std::alloc::Allocator;
 
 impl<A: Allocator> RowMachine<A> {

@@ -1,15 +1,15 @@
 //! What each act of a call does to the machine whose moment has passed as it slept.
 ghost use Rattle.std.specs.Prelude.{◌≡◌, ◌≤◌, ◌^◌, true, None, Some};
 ghost use Rattle.std.specs.List.{position, position_or_len};
-ghost use Rattle.parking_lot_world.specs.declared.seat.QueuePosition.TheVariants as spot;
-ghost use Rattle.parking_lot_world.specs.LateActs.{comes_late, expired, found, is_back, quitted, returned, sleeps_in_time};
+ghost use Rattle.parking_lot_world_calls.specs.declared.seat.QueuePosition.TheVariants as spot;
+ghost use Rattle.parking_lot_world.specs.LateActs.{expired, found, quitted, returned};
+ghost use Rattle.parking_lot_world_calls.specs.LateCalls.{comes_late, is_back, sleeps_in_time};
 ghost use Rattle.parking_lot_world.specs.Rows.{call_at, is_for, state};
 
 use crate::lot_calls;
-use crate::open_call::Call;
 use crate::row_machine::RowMachine;
-use crate::seat::{WakeResult, Wakeup};
 use parking_lot_protocol::ActResult;
+use parking_lot_world_calls::{Call, WakeResult, Wakeup};
 use std::alloc::Allocator;
 
 /// Where the one stands in the list of those to wake; behind the last, where it doesn't.

@@ -3,8 +3,7 @@ ghost use Rattle.parking_lot_world.specs.ActLaws.{ActsAreSteps};
 
 pub use crate::late_laws::late_acts_are_steps;
 pub use crate::lot_laws::{
-    acts_keep_places, new_machines_hold_together, nexts_are_taken, stances_follow_acts,
-    the_lot_never_refuses,
+    acts_keep_places, new_machines_hold_together, nexts_are_taken, the_lot_never_refuses,
 };
 pub use crate::mutex_laws::{
     a_mutex_is_shown_as_it_is, answers_are_steps_of_a_sound_mutex, calls_that_have_begun_go_on,
@@ -22,14 +21,15 @@ pub use crate::sound_laws::{
     awake_can_move, debts_are_kept, each_step_is_a_case, lists_are_waiters,
     lost_exchanges_have_causes, owners_agree, somebody_can_move, steps_are_few,
 };
-pub use crate::starts::allowed_calls_begin_well;
 pub use crate::take_laws::takes_are_steps_of_the_machine;
 pub use crate::tell_laws::tells_are_steps;
 pub use crate::upgrade_laws::{
     upgradable_answers_are_steps, upgradable_calls_keep, upgradable_ends_are_steps,
     upgrade_steps_fall,
 };
-pub use crate::view_laws::modes_are_weighed;
+pub use parking_lot_world_calls::laws::{
+    allowed_calls_begin_well, modes_are_weighed, stances_follow_acts,
+};
 
 /// Each act of the machine keeps it fit, and is the step of the rules that the core's table names.
 pub fn acts_are_steps()

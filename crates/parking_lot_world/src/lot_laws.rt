@@ -1,22 +1,8 @@
 //! Laws of the machine of rows: how its threads stand to the sections and lists of the lot.
-ghost use Rattle.parking_lot_world.specs.StanceLaws.{ActsLead, CallsBegin, CallsEnd, KeysAreTwo, SleepersWake, TakingsCount, WakersCount};
 ghost use Rattle.parking_lot_world.specs.NextTakings.{NextsAreTaken};
 ghost use Rattle.parking_lot_world.specs.LotLaws.{ActsKeepFits, ActsKeepWakes, LotNeverRefuses, NewMachinesFit, RegisteredThreadsRun, ScansHaveRoom};
 
 use parking_lot_core_lot::{FilterOp, ParkToken};
-
-/// What an act gives leads a call in or out of its section, from one thing that it does there to the next, to its sleep or
-/// out of it, and it counts whom it has taken and is still to wake. A scan counts one more while it has room for it: a
-/// reader, or the first writer. A sleeper has taken nobody, and whoever is to wake somebody has taken somebody.
-pub fn stances_follow_acts()
-    ensures acts { ActsLead }
-    ensures takings { TakingsCount }
-    ensures sleepers { SleepersWake }
-    ensures wakes { WakersCount }
-    ensures keys { KeysAreTwo }
-    ensures begins { CallsBegin }
-    ensures ends { CallsEnd }
-{}
 
 /// Whatever act a thread's call asks for, what held of the lot and the calls holds after it: each thread's place in the lot
 /// is that of its call, who waits in a list sleeps at that list's lock, and who was taken is still to be woken by its

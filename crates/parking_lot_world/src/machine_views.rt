@@ -5,34 +5,13 @@ ghost use Rattle.parking_lot_world.specs.Machines.{can_move, ended, is_asleep};
 ghost use Rattle.parking_lot_world.specs.Ranks.{AnyMayBeStepped};
 ghost use Rattle.parking_lot_world.specs.RowFits.{FitsTogether};
 ghost use Rattle.parking_lot_world.specs.Rows.{lock_at, queue_at, state, taken_by};
-ghost use Rattle.parking_lot_world.specs.Worlds.{hold_mode, is_indebted, mode_in};
+ghost use Rattle.parking_lot_world.specs.Worlds.{is_indebted, mode_in};
 
-use crate::calls::{LockKind, OwnMode};
 use crate::row_machine::RowMachine;
-use crate::seat::{Hold, Wakeup};
 use parking_lot_core_lot::SizeFault;
 use parking_lot_protocol::{Act, CoreAnswer};
+use parking_lot_world_calls::{Hold, LockKind, OwnMode, Wakeup};
 use std::alloc::Allocator;
-
-impl Hold {
-    /// How a thread owns a lock of that kind that has such a hold of it, and is in no call there.
-    pub(crate) fn mode(&self, kind: Option<LockKind>) -> Option<OwnMode>
-        ensures { result ≡ hold_mode kind self.now }
-    {
-        match self {
-            Hold::Excludes => Some(OwnMode::Exclusive),
-            Hold::Upgrades => match kind {
-                Some(LockKind::Mutex | LockKind::FairMutex) => None,
-                _ => Some(OwnMode::Upgradable),
-            },
-            Hold::Shares(holds) => match kind {
-                Some(LockKind::Mutex | LockKind::FairMutex) => None,
-                _ if *holds > 0 => Some(OwnMode::Shared),
-                _ => None,
-            },
-        }
-    }
-}
 
 impl<A: Allocator> RowMachine<A> {
     /// That all of the machine fits together, for who says what a run of it did: each lock is sound as the rules say. It does nothing.

@@ -1,8 +1,8 @@
 //! Laws of mutexes: what the calls' cores are told is a step of the rules.
 ghost use Rattle.std.specs.Prelude.{◌≡◌, true};
 ghost use Rattle.parking_lot_protocol.specs.declared.act.ActResult.{ActResult};
-ghost use Rattle.parking_lot_world.specs.declared.seat.Core.{Core};
-ghost use Rattle.parking_lot_world.specs.Stances.{core_next, has_begun};
+ghost use Rattle.parking_lot_world_calls.specs.declared.seat.Core.{Core};
+ghost use Rattle.parking_lot_world_calls.specs.Stances.{core_next, has_begun};
 ghost use Rattle.parking_lot_world.specs.MutexLaws.{MutexAnswersAreSteps, MutexIsShown, MutexRolesAreKnown, MutexWordsAreNumbers};
 
 /// What the core of a call at a sound mutex is told, is a step that the rules allow: the word and the roles after it are those that the

@@ -8,10 +8,9 @@ ghost use Rattle.parking_lot_core_lot.specs.declared.place.Place.TheVariants.{Ru
 ghost use Rattle.parking_lot_world.specs.Rows.{state};
 ghost use Rattle.parking_lot_world.specs.Machines.{at_rest};
 
-use crate::calls::LockKind;
 use crate::row_machine::RowMachine;
-use crate::seat::Hold;
 use parking_lot_core_lot::{Lot, SizeFault};
+use parking_lot_world_calls::{Hold, LockKind};
 use std::alloc::Allocator;
 
 /// The most threads.

@@ -5,13 +5,11 @@ ghost use Rattle.parking_lot_core_lot.specs.Machine.{machine};
 ghost use Rattle.parking_lot_world.specs.Requeues.{AllRequeuesAreRuns, IsRousedIn, IsTakenIn, MayJoin, MayTakeIn, MovesAreCases, MovesAreRuns, core_retries, lot_with, may_rouse_in, may_take_in, phase_retries, retries_at, retrying_call, sleeping_call};
 ghost use Rattle.parking_lot_world.specs.Rows.{state, word_at};
 
-use crate::calls::LockCall;
 use crate::lot_calls;
-use crate::open_call::Call;
 use crate::row_machine::RowMachine;
-use crate::seat::{Core, QueuePosition, sleeper};
 use parking_lot_core_lot::{DEFAULT_PARK_TOKEN, Lot};
 use parking_lot_protocol::{MutexPhase, TRY_AGAIN};
+use parking_lot_world_calls::{Call, Core, LockCall, QueuePosition, sleeping_mutex};
 use std::alloc::Allocator;
 
 impl<A: Allocator> RowMachine<A> {
@@ -118,7 +116,7 @@ fn sleeping(lock: usize, timed: bool) -> Call
     Call {
         lock,
         others: 0,
-        core: Core::Mutex(sleeper()),
+        core: Core::Mutex(sleeping_mutex()),
         spot: QueuePosition::Listed,
         timed,
     }

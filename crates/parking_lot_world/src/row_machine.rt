@@ -2,17 +2,15 @@
 ghost use Rattle.std.specs.Prelude.{◌≡◌, ◌<◌, ◌↔◌, ◌⊎◌, ◌^◌, length, slice_get, Some, None, true, if◌then◌else◌, IsErrOf, IfOk, IfErr, IsTrue};
 ghost use Rattle.parking_lot_core_lot.specs.declared.fault.SizeFault.TheVariants.{BadSize, NoMemory};
 ghost use Rattle.parking_lot_protocol.specs.declared.act.Act.TheVariants as act;
-ghost use Rattle.parking_lot_world.specs.Calls.{takes};
-ghost use Rattle.parking_lot_world.specs.Kinds.{kind_in};
-ghost use Rattle.parking_lot_world.specs.Stances.{core_act};
+ghost use Rattle.parking_lot_world_calls.specs.Calls.{takes};
+ghost use Rattle.parking_lot_world_calls.specs.Kinds.{kind_in};
+ghost use Rattle.parking_lot_world_calls.specs.Stances.{core_act};
 ghost use Rattle.parking_lot_world.specs.Rows.{call_at, hold_at, state, word_at};
 ghost use Rattle.parking_lot_world.specs.Machines.{at_rest, can_move, goes_late, may_expire, IsExpired, may_begin, IsBegun, IsStepped};
 
-use crate::calls::{LockCall, LockKind};
-use crate::open_call::Call;
-use crate::seat::{Hold, QueuePosition, Wakeup};
 use parking_lot_core_lot::{Lot, SizeFault};
 use parking_lot_protocol::{Act, CoreAnswer, SectionAct, WordChange};
+use parking_lot_world_calls::{Call, Hold, LockCall, LockKind, QueuePosition, Wakeup};
 use std::alloc::{Allocator, Global};
 use std::marker::Model;
 

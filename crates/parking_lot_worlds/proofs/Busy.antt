@@ -1,6 +1,6 @@
 -- Whoever may make a step at locks and condition variables, or whose deadline may come there, is in a call there.
 use Rattle.std.proofs.Common.{◌≡◌, ℕ, ◌+◌, Bool, true, false, not, cond, ◌&&◌, nat_lt, is_none, length, Option, Some, None, refl, sym, ap, ◌∙◌}
-use Rattle.parking_lot_world.specs.declared.open_call.Call.{Call}
+use Rattle.parking_lot_world_calls.specs.declared.open_call.Call.{Call}
 use Rattle.parking_lot_world.specs.Machines as rows
 use Rattle.parking_lot_world.specs.Rows.{State, call_at, state}
 use Rattle.parking_lot_waits_world.specs.Joint.{Joint, busy_by, busy_number, number, row_goes, seat_at}

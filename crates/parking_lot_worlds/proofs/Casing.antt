@@ -13,8 +13,8 @@ use Rattle.parking_lot_waits_world.specs.Joint.{Joint, var_at}
 use Rattle.parking_lot_waits_world.specs.JointCases.{IsCase, RunsIn}
 use Rattle.parking_lot_waits_world.specs.JointCases as of_waits
 use Rattle.parking_lot_waits_world.specs.JointRanks as wait_ranks
-use Rattle.parking_lot_world.specs.declared.calls.LockKind.{LockKind}
-use Rattle.parking_lot_world.specs.Kinds.{recursive_in}
+use Rattle.parking_lot_world_calls.specs.declared.calls.LockKind.{LockKind}
+use Rattle.parking_lot_world_calls.specs.Kinds.{recursive_in}
 use Rattle.parking_lot_world.specs.Rows.{State}
 use Rattle.parking_lot_world.specs.Rows as row
 use Rattle.parking_lot_world.specs.SoundLaws as of_locks

@@ -1,7 +1,7 @@
 -- Lists of threads that have one thread more to say of.
 use Rattle.std.proofs.Common.{◌≡◌, ℕ, suc, ◌+◌, Bool, true, false, [], ◌∷◌, ◌++◌, Option, None, Some, ap, sym, ◌∙◌, arith, if◌then◌else◌}
 use Rattle.std.proofs.lemmas.List.{append-nil}
-use Rattle.parking_lot_world.specs.declared.calls.OwnMode.{OwnMode}
+use Rattle.parking_lot_world_calls.specs.declared.calls.OwnMode.{OwnMode}
 use Rattle.parking_lot_worlds.specs.Worlds.{entry, owners_below, those_below}
 
 next : (n : ℕ) → n + 1 ≡ suc n

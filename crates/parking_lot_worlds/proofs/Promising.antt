@@ -21,8 +21,8 @@ use Rattle.parking_lot_waits_world.specs.JointRanks as wait_ranks
 use Rattle.parking_lot_waits_world.specs.JointSides as sides
 use Rattle.parking_lot_waits_world.specs.Whole as waits
 use Rattle.parking_lot_waits_world.proofs.Moves.{apart}
-use Rattle.parking_lot_world.specs.declared.calls.OwnMode.{OwnMode}
-use Rattle.parking_lot_world.specs.declared.open_call.Call.{Call}
+use Rattle.parking_lot_world_calls.specs.declared.calls.OwnMode.{OwnMode}
+use Rattle.parking_lot_world_calls.specs.declared.open_call.Call.{Call}
 use Rattle.parking_lot_world.specs.Rows.{call_at, lock_at}
 use Rattle.parking_lot_world.specs.Rows as rows
 use Rattle.parking_lot_world.specs.SoundLaws as row_laws

@@ -18,10 +18,10 @@ use Rattle.parking_lot_waits_world.specs.JointSides.{enters, is_busy, is_open}
 use Rattle.parking_lot_waits_world.specs.JointStays.{Leaves, WasThere}
 use Rattle.parking_lot_waits_world.specs.Whole as waits
 use Rattle.parking_lot_waits_world.proofs.LeavingTurns.{steps_leave}
-use Rattle.parking_lot_world.specs.declared.calls.LockCall.{LockCall as RowCall}
-use Rattle.parking_lot_world.specs.declared.calls.LockKind.{LockKind as RowKind}
-use Rattle.parking_lot_world.specs.declared.open_call.Call.{Call}
-use Rattle.parking_lot_world.specs.Kinds.{AsMutex, manner_of}
+use Rattle.parking_lot_world_calls.specs.declared.calls.LockCall.{LockCall as RowCall}
+use Rattle.parking_lot_world_calls.specs.declared.calls.LockKind.{LockKind as RowKind}
+use Rattle.parking_lot_world_calls.specs.declared.open_call.Call.{Call}
+use Rattle.parking_lot_world_calls.specs.Kinds.{AsMutex, manner_of}
 use Rattle.parking_lot_world.specs.Rows.{call_at}
 use Rattle.parking_lot_worlds.specs.declared.calls.Asked.{Asked}
 use Rattle.parking_lot_worlds.specs.declared.calls.LockAnswer.{LockAnswer}

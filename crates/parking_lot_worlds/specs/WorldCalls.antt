@@ -10,10 +10,10 @@ use Rattle.parking_lot_condvar_world.specs.declared.calls.CondvarReply.{CondvarR
 use Rattle.parking_lot_condvar_world.specs.declared.calls.CondvarReply.TheVariants as told
 use Rattle.parking_lot_waits_world.specs.declared.ended.Ended.{Ended}
 use Rattle.parking_lot_waits_world.specs.declared.ended.Ended.TheVariants as ended
-use Rattle.parking_lot_world.specs.declared.calls.LockCall.TheVariants as row
-use Rattle.parking_lot_world.specs.declared.calls.LockKind.{LockKind as RowKind}
-use Rattle.parking_lot_world.specs.declared.calls.LockKind.TheVariants as rows
-use Rattle.parking_lot_world.specs.declared.open_call.Call.{Call}
+use Rattle.parking_lot_world_calls.specs.declared.calls.LockCall.TheVariants as row
+use Rattle.parking_lot_world_calls.specs.declared.calls.LockKind.{LockKind as RowKind}
+use Rattle.parking_lot_world_calls.specs.declared.calls.LockKind.TheVariants as rows
+use Rattle.parking_lot_world_calls.specs.declared.open_call.Call.{Call}
 use Rattle.parking_lot_worlds.specs.declared.calls.LockKind.{LockKind}
 use Rattle.parking_lot_worlds.specs.declared.calls.LockKind.TheVariants as kind
 use Rattle.parking_lot_worlds.specs.declared.calls.LockCall.{LockCall}

@@ -21,10 +21,10 @@ use Rattle.parking_lot_waits_world.specs.JointProgress.{GiversAreOut, IsKeptOut,
 use Rattle.parking_lot_waits_world.specs.JointRanks as wait_ranks
 use Rattle.parking_lot_waits_world.specs.JointSides.{is_busy}
 use Rattle.parking_lot_waits_world.specs.Whole as waits
-use Rattle.parking_lot_world.specs.declared.calls.OwnMode.{OwnMode}
-use Rattle.parking_lot_world.specs.declared.calls.OwnMode.TheVariants as mode
-use Rattle.parking_lot_world.specs.declared.open_call.Call.{Call}
-use Rattle.parking_lot_world.specs.Kinds.{AsRw, manner_of, recursive_in}
+use Rattle.parking_lot_world_calls.specs.declared.calls.OwnMode.{OwnMode}
+use Rattle.parking_lot_world_calls.specs.declared.calls.OwnMode.TheVariants as mode
+use Rattle.parking_lot_world_calls.specs.declared.open_call.Call.{Call}
+use Rattle.parking_lot_world_calls.specs.Kinds.{AsRw, manner_of, recursive_in}
 use Rattle.parking_lot_world.specs.Rows.{first_key, second_key}
 use Rattle.parking_lot_world.specs.Rows as row
 use Rattle.parking_lot_world.specs.SoundLaws.{agrees}

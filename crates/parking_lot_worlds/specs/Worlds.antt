@@ -19,8 +19,8 @@ use Rattle.parking_lot_waits_world.specs.JointMoves as joint
 use Rattle.parking_lot_waits_world.specs.JointSides.{is_busy, lock_call}
 use Rattle.parking_lot_waits_world.specs.JointSides as sides
 use Rattle.parking_lot_waits_world.specs.JointSteps as joint_steps
-use Rattle.parking_lot_world.specs.declared.calls.OwnMode.{OwnMode}
-use Rattle.parking_lot_world.specs.declared.open_call.Call.{Call}
+use Rattle.parking_lot_world_calls.specs.declared.calls.OwnMode.{OwnMode}
+use Rattle.parking_lot_world_calls.specs.declared.open_call.Call.{Call}
 use Rattle.parking_lot_world.specs.Rows.{State, state}
 use Rattle.parking_lot_world.specs.Rows as row
 use Rattle.parking_lot_worlds.specs.declared.calls.Asked.{Asked}

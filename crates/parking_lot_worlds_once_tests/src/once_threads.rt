@@ -1,6 +1,7 @@
 //! Threads that call at one once, and what each of them has been answered.
 
 use parking_lot_worlds::{LockAnswer, LockCall, OnceState};
+use parking_lot_worlds_watch::Three;
 
 /// The calls of a thread, one after another.
 #[derive(Clone, Copy, PartialEq, Eq, Debug)]
@@ -9,30 +10,6 @@ pub struct Calls(pub Option<LockCall>, pub Option<LockCall>);
 /// What they were answered, in the same places; `None` for one that waits, and for that behind it.
 #[derive(Clone, Copy, PartialEq, Eq, Debug)]
 pub struct Answers(pub Option<LockAnswer>, pub Option<LockAnswer>);
-
-/// The same of each of three threads.
-#[derive(Clone, Copy, PartialEq, Eq, Debug)]
-pub struct Three<T>(pub T, pub T, pub T);
-
-impl<T: Copy> Three<T> {
-    /// That of one of the three.
-    pub fn of(self, thread: usize) -> T {
-        match thread {
-            0 => self.0,
-            1 => self.1,
-            _ => self.2,
-        }
-    }
-
-    /// The three, where that one has become another.
-    pub fn with(self, thread: usize, one: T) -> Three<T> {
-        match thread {
-            0 => Three(one, self.1, self.2),
-            1 => Three(self.0, one, self.2),
-            _ => Three(self.0, self.1, one),
-        }
-    }
-}
 
 /// How far a thread is.
 #[derive(Clone, Copy, PartialEq, Eq)]

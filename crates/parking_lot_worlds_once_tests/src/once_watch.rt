@@ -1,12 +1,12 @@
 //! What is watched of threads at one once.
 
-use crate::once_threads::{Answers, Caller, Calls, Three, answers_of, callers_of};
+use crate::once_threads::{Answers, Caller, Calls, answers_of, callers_of};
 use crate::plain_once::waits;
 use parking_lot_once_protocol::{OncePhase, state_of};
 use parking_lot_worlds::{
     LockAnswer, LockCall, LockKind, OnceCall, OnceState, SizeFault, World, WorldStep,
 };
-use parking_lot_worlds_watch::{Watch, first_broken, push};
+use parking_lot_worlds_watch::{Three, Watch, first_broken, push};
 
 /// Where a thread's call stands.
 #[derive(Clone, Copy, PartialEq, Eq)]
@@ -346,8 +346,8 @@ fn followed(callers: Three<Caller>, step: WorldStep, world: &World) -> Three<Cal
 impl Watch for OnceWatch {
     type Snapshot = OnceSnapshot;
 
-    fn kind(&self) -> LockKind {
-        LockKind::Once
+    fn kinds(&self) -> &[LockKind] {
+        &[LockKind::Once]
     }
 
     fn threads(&self) -> usize {

@@ -1,7 +1,8 @@
 //! A once whose calls are made whole, one after another: what all schedules have to come to.
 
-use crate::once_threads::{Answers, Caller, Calls, Three, answers_of, callers_of};
+use crate::once_threads::{Answers, Caller, Calls, answers_of, callers_of};
 use parking_lot_worlds::{LockAnswer, LockCall, OnceState};
+use parking_lot_worlds_watch::Three;
 use std::test::Fail;
 
 /// A once, and what a call at it is answered that is made whole.

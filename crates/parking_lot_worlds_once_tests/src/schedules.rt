@@ -1,10 +1,10 @@
 //! All schedules of threads at one once: they come to what calls come to that are made whole, one after another, and to nothing else.
 
-use crate::once_threads::{Calls, Three};
+use crate::once_threads::Calls;
 use crate::once_watch::OnceWatch;
 use crate::plain_once::ends;
 use parking_lot_worlds::LockCall;
-use parking_lot_worlds_watch::Explorer;
+use parking_lot_worlds_watch::{Explorer, Three};
 use std::process::Abort;
 use std::test::Fail;
 

@@ -16,12 +16,13 @@ const CANNOT_MOVE: WorldFault = WorldFault {
     fault: WorldRefusal::CannotMove,
 };
 
-/// What is watched on the way through all schedules at one lock, and what has to hold there. A rule that doesn't hold is named.
+/// What is watched on the way through all schedules at some locks, and what has to hold there. A rule that doesn't hold is named.
 pub trait Watch: Drop {
     /// All that the further steps depend on, and all that is shown.
     type Snapshot: PartialEq + Drop;
 
-    fn kind(&self) -> LockKind;
+    /// The kinds of the locks, by their numbers.
+    fn kinds(&self) -> &[LockKind];
 
     fn threads(&self) -> usize;
 
@@ -104,7 +105,7 @@ pub struct Broken {
     pub schedule: Vec<WorldStep>,
 }
 
-/// One that goes through all schedules of some programs at one lock, up to the first rule that doesn't hold.
+/// One that goes through all schedules of some programs at some locks, up to the first rule that doesn't hold.
 #[derive(Drop)]
 pub struct Explorer<'r, R, W: Drop> {
     rt: &'r R,
@@ -151,7 +152,7 @@ impl<'r, R: AllocGlobal, W: Watch> Explorer<'r, R, W> {
     }
 
     fn new_world(&self) -> Result<World, SizeFault> {
-        let kinds = vec![in self.rt.alloc(); self.watch.kind(); 1]?;
+        let kinds = self.watch.kinds().to_vec(self.rt.alloc())?;
         World::new(self.rt.alloc(), self.watch.threads(), kinds)
     }
 

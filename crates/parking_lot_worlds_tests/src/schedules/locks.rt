@@ -7,6 +7,7 @@ use super::state::{Progress, Snapshot, both_followed};
 use parking_lot_core_lot::SizeFault;
 use parking_lot_worlds::{LockKind, World, WorldStep};
 use parking_lot_worlds_watch::{Watch, push};
+use std::slice;
 
 /// Two threads at one lock, and what is found on the way through all their schedules.
 #[derive(Drop)]
@@ -36,8 +37,8 @@ impl LockWatch {
 impl Watch for LockWatch {
     type Snapshot = Snapshot;
 
-    fn kind(&self) -> LockKind {
-        self.kind
+    fn kinds(&self) -> &[LockKind] {
+        slice::from_ref(&self.kind)
     }
 
     fn threads(&self) -> usize {

@@ -1,5 +1,5 @@
 use Rattle.parking_lot_rules.specs.MutexLaws.{MutexTells}
-use Rattle.parking_lot_rules.proofs.Mutexes.{always}
+use Rattle.parking_lot_rules.proofs.MutexRuns.{always}
 use Rattle.parking_lot_rules.proofs.MutexFollowing.{mutex_tells}
 use Rattle.parking_lot_rules.proofs.mutex.a_mutex_tells_its_owner.Goals as goal
 

@@ -1,5 +1,5 @@
 use Rattle.parking_lot_rules.specs.MutexOwners.{StepsAreCases}
-use Rattle.parking_lot_rules.proofs.Mutexes.{always}
+use Rattle.parking_lot_rules.proofs.MutexRuns.{always}
 use Rattle.parking_lot_rules.proofs.MutexCasing.{steps_are_cases}
 use Rattle.parking_lot_rules.proofs.mutex.each_step_at_a_mutex_is_a_case.Goals as goal
 

@@ -1,5 +1,5 @@
 use Rattle.parking_lot_rules.specs.MutexLaws.{SomebodyCanMove}
-use Rattle.parking_lot_rules.proofs.Mutexes.{always}
+use Rattle.parking_lot_rules.proofs.MutexRuns.{always}
 use Rattle.parking_lot_rules.proofs.MutexFollowing.{somebody_can_move}
 use Rattle.parking_lot_rules.proofs.mutex.somebody_at_a_mutex_can_move.Goals as goal
 

@@ -2,7 +2,7 @@ use Rattle.std.proofs.Common.{◌∙◌, ◌<◌, None, ap, sym, get_or, length,
 use Rattle.std.specs.Option.{option_map}
 use Rattle.std.proofs.lemmas.List.Edits.{map_over_more}
 use Rattle.std.proofs.lemmas.Option.{slice_get-get_or, get_or_from_slice_get}
-use Rattle.parking_lot_world.specs.RowActs.{settled}
+use Rattle.parking_lot_world_calls.specs.CallActs.{settled}
 use Rattle.parking_lot_world.proofs.acts.settle_each.Goals as goal
 
 -- src/acts.rt:29:5

@@ -1,6 +1,6 @@
 use Rattle.std.proofs.Common.{◌≡◌, ◌++◌, map, take, drop}
 use Rattle.std.specs.Option.{option_map}
-use Rattle.parking_lot_world.specs.RowActs.{settled}
+use Rattle.parking_lot_world_calls.specs.CallActs.{settled}
 use Rattle.parking_lot_world.proofs.acts.settle_each.Given as goal
 
 -- those so far are told

@@ -1,6 +1,6 @@
 use Rattle.parking_lot_world.proofs.Calling.{room_set}
 use Rattle.std.proofs.Common.{◌+◌, ◌*◌, ℕ, None, length, slice_set, sym, ap, ◌∙◌, subst, arith}
-use Rattle.parking_lot_world.specs.declared.seat.Hold.{Hold}
+use Rattle.parking_lot_world_calls.specs.declared.seat.Hold.{Hold}
 use Rattle.parking_lot_world.specs.Rows.{Rows, State, state}
 use Rattle.parking_lot_world.specs.RowFits.{FitsTogether}
 use Rattle.parking_lot_world.proofs.Acting.{laws}

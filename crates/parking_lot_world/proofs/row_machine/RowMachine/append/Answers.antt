@@ -6,14 +6,15 @@ use Rattle.parking_lot_core_lot.specs.Sound.{Sound}
 use Rattle.parking_lot_protocol.specs.declared.act.Act.TheVariants as act
 use Rattle.parking_lot_protocol.specs.declared.act.SectionAct.TheVariants as section
 use Rattle.parking_lot_protocol.specs.declared.act.ActResult.TheVariants as seen
-use Rattle.parking_lot_world.specs.declared.open_call.Call.{Call}
+use Rattle.parking_lot_world_calls.specs.declared.open_call.Call.{Call}
 use Rattle.parking_lot_world.specs.Rows.{Rows, State, state}
-use Rattle.parking_lot_world.specs.Stances.{Joins}
-use Rattle.parking_lot_world.specs.RowActs.{with_call, with_lot, key_of}
+use Rattle.parking_lot_world_calls.specs.Stances.{Joins}
+use Rattle.parking_lot_world.specs.RowActs.{with_call, with_lot}
+use Rattle.parking_lot_world_calls.specs.CallActs.{key_of}
 use Rattle.parking_lot_world.specs.RowFits.{FitsTogether}
 use Rattle.parking_lot_world.proofs.Holding.{fits, held, low}
 use Rattle.parking_lot_world.proofs.LotCalls.{lot_never_refuses}
-use Rattle.parking_lot_world.proofs.Stancing.{leads_by}
+use Rattle.parking_lot_world_calls.proofs.Stancing.{leads_by}
 use Rattle.parking_lot_world.proofs.TakeLaws.{laws}
 use Rattle.parking_lot_world.proofs.row_machine.RowMachine.append.Goals as goal
 

@@ -4,10 +4,11 @@ use Rattle.parking_lot_core_lot.specs.declared.place.Phase.TheVariants as phase
 use Rattle.parking_lot_core_lot.specs.Machine.{Machine, in_phase, machine}
 use Rattle.parking_lot_core_lot.specs.Sound.{Sound}
 use Rattle.parking_lot_protocol.specs.declared.act.ActResult.TheVariants as seen
-use Rattle.parking_lot_world.specs.declared.open_call.Call.{Call}
+use Rattle.parking_lot_world_calls.specs.declared.open_call.Call.{Call}
 use Rattle.parking_lot_world.specs.Rows.{Rows, State, state}
-use Rattle.parking_lot_world.specs.Stances.{stance}
-use Rattle.parking_lot_world.specs.RowActs.{with_call, with_lot, hears, joins}
+use Rattle.parking_lot_world_calls.specs.Stances.{stance}
+use Rattle.parking_lot_world.specs.RowActs.{with_call, with_lot}
+use Rattle.parking_lot_world_calls.specs.CallActs.{hears, joins}
 use Rattle.parking_lot_world.specs.RowFits.{FitsTogether}
 use Rattle.parking_lot_world.proofs.Acting.{laws}
 use Rattle.parking_lot_world.proofs.Holding.{fits, held, low}

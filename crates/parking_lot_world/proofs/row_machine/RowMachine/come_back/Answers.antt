@@ -3,10 +3,11 @@ use Rattle.std.proofs.Common.{◌≡◌, None, sym, ap, ◌∙◌, subst, arith}
 use Rattle.parking_lot_core_lot.specs.Machine as lot
 use Rattle.parking_lot_core_lot.specs.Machine.{Machine, machine, return_fault}
 use Rattle.parking_lot_core_lot.specs.Sound.{Sound}
-use Rattle.parking_lot_world.specs.declared.open_call.Call.{Call}
-use Rattle.parking_lot_world.specs.LateActs.{late_key}
+use Rattle.parking_lot_world_calls.specs.declared.open_call.Call.{Call}
+use Rattle.parking_lot_world_calls.specs.LateCalls.{late_key}
 use Rattle.parking_lot_world.specs.Rows.{Rows, State, state}
-use Rattle.parking_lot_world.specs.RowActs.{with_call, with_lot, key_of}
+use Rattle.parking_lot_world.specs.RowActs.{with_call, with_lot}
+use Rattle.parking_lot_world_calls.specs.CallActs.{key_of}
 use Rattle.parking_lot_world.specs.RowFits.{FitsTogether}
 use Rattle.parking_lot_world.proofs.LateActs.{laws}
 use Rattle.parking_lot_world.proofs.LateCalls.{may_return_there, sleeps_there}

@@ -2,9 +2,10 @@ use Rattle.parking_lot_world.proofs.Calling.{room_set}
 use Rattle.std.proofs.Common.{Bool, cond, sym, ap, ◌∙◌, subst, arith, eq-eqb}
 use Rattle.std.proofs.lemmas.Bool.{ne_eqb}
 use Rattle.parking_lot_protocol.specs.declared.act.ActResult.TheVariants as seen
-use Rattle.parking_lot_world.specs.declared.open_call.Call.{Call}
+use Rattle.parking_lot_world_calls.specs.declared.open_call.Call.{Call}
 use Rattle.parking_lot_world.specs.Rows.{Rows, State, state, word_at}
-use Rattle.parking_lot_world.specs.RowActs.{with_call, with_word, hears, loaded}
+use Rattle.parking_lot_world.specs.RowActs.{with_call, with_word, loaded}
+use Rattle.parking_lot_world_calls.specs.CallActs.{hears}
 use Rattle.parking_lot_world.specs.RowFits.{FitsTogether}
 use Rattle.parking_lot_world.proofs.Acting.{laws}
 use Rattle.parking_lot_world.proofs.Holding.{fits, low, word_low}

@@ -1,6 +1,6 @@
 use Rattle.parking_lot_world.proofs.Calling.{room_set}
 use Rattle.std.proofs.Common.{sym, ap, ◌∙◌, subst, arith}
-use Rattle.parking_lot_world.specs.declared.seat.Core.{Core}
+use Rattle.parking_lot_world_calls.specs.declared.seat.Core.{Core}
 use Rattle.parking_lot_world.specs.Rows.{Rows, state}
 use Rattle.parking_lot_world.specs.RowActs.{with_call}
 use Rattle.parking_lot_world.specs.RowFits.{FitsTogether}

@@ -7,13 +7,14 @@ use Rattle.parking_lot_core_lot.specs.declared.place.Place.TheVariants.{Running}
 use Rattle.parking_lot_core_lot.specs.Machine as lot
 use Rattle.parking_lot_core_lot.specs.Machine.{Machine, in_phase, machine, return_fault, stored}
 use Rattle.parking_lot_core_lot.specs.Sound.{Sound}
-use Rattle.parking_lot_world.specs.declared.open_call.Call.{Call}
-use Rattle.parking_lot_world.specs.declared.seat.Wakeup.{Wakeup}
-use Rattle.parking_lot_world.specs.LateActs.{late_key}
+use Rattle.parking_lot_world_calls.specs.declared.open_call.Call.{Call}
+use Rattle.parking_lot_world_calls.specs.declared.seat.Wakeup.{Wakeup}
+use Rattle.parking_lot_world_calls.specs.LateCalls.{late_key}
 use Rattle.parking_lot_world.specs.Rows.{Rows, State, is_for, state}
-use Rattle.parking_lot_world.specs.RowActs.{with_call, with_lot, key_of}
+use Rattle.parking_lot_world.specs.RowActs.{with_call, with_lot}
+use Rattle.parking_lot_world_calls.specs.CallActs.{key_of}
 use Rattle.parking_lot_world.specs.RowFits.{FitsTogether}
-use Rattle.parking_lot_world.specs.Stances.{sign}
+use Rattle.parking_lot_world_calls.specs.Stances.{sign}
 use Rattle.parking_lot_world.proofs.LateActs.{laws}
 use Rattle.parking_lot_world.proofs.LateCalls.{entry_there, may_return_taken, taken_there}
 use Rattle.parking_lot_world.proofs.Holding.{fits, held, low}

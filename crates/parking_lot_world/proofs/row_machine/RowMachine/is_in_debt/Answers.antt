@@ -1,5 +1,5 @@
 use Rattle.std.proofs.Common.{◌||◌, sym, ap, ◌∙◌, is_some}
-use Rattle.parking_lot_world.specs.CallViews.{call_in_debt}
+use Rattle.parking_lot_world_calls.specs.CallViews.{call_in_debt}
 use Rattle.parking_lot_world.specs.Rows.{state, taken_by}
 use Rattle.parking_lot_world.proofs.Viewing.{as_slept, owing}
 use Rattle.parking_lot_world.proofs.row_machine.RowMachine.is_in_debt.Goals as goal

@@ -2,7 +2,7 @@ use Rattle.std.proofs.Common.{false, sym, ap, ◌∙◌, subst, arith}
 use Rattle.parking_lot_world.proofs.Calling.{room_set}
 use Rattle.parking_lot_core_lot.specs.Machine.{Machine, closed, machine}
 use Rattle.parking_lot_core_lot.specs.Sound.{Sound}
-use Rattle.parking_lot_world.specs.declared.open_call.Call.{Call}
+use Rattle.parking_lot_world_calls.specs.declared.open_call.Call.{Call}
 use Rattle.parking_lot_world.specs.Rows.{Rows, State, state}
 use Rattle.parking_lot_world.specs.RowActs.{with_call, with_lot}
 use Rattle.parking_lot_world.specs.RowFits.{FitsTogether}

@@ -2,7 +2,8 @@ use Rattle.parking_lot_world.proofs.Calling.{room_set}
 use Rattle.std.proofs.Common.{sym, ap, ◌∙◌, subst}
 use Rattle.parking_lot_protocol.specs.declared.act.ActResult.TheVariants as seen
 use Rattle.parking_lot_world.specs.Rows.{Rows, state}
-use Rattle.parking_lot_world.specs.RowActs.{with_call, hears}
+use Rattle.parking_lot_world.specs.RowActs.{with_call}
+use Rattle.parking_lot_world_calls.specs.CallActs.{hears}
 use Rattle.parking_lot_world.specs.RowFits.{FitsTogether}
 use Rattle.parking_lot_world.proofs.Acting.{laws}
 use Rattle.parking_lot_world.proofs.Holding.{fits}

@@ -4,11 +4,12 @@ use Rattle.std.specs.Option.{option_map}
 use Rattle.parking_lot_core_lot.specs.Machine.{Machine, stored, machine}
 use Rattle.parking_lot_core_lot.specs.Sound.{Sound}
 use Rattle.parking_lot_protocol.specs.declared.act.ActResult.TheVariants as seen
-use Rattle.parking_lot_world.specs.declared.open_call.Call.{Call}
-use Rattle.parking_lot_world.specs.declared.seat.WakeResult.TheVariants as told
+use Rattle.parking_lot_world_calls.specs.declared.open_call.Call.{Call}
+use Rattle.parking_lot_world_calls.specs.declared.seat.WakeResult.TheVariants as told
 use Rattle.parking_lot_world.specs.Rows.{Rows, State, state}
-use Rattle.parking_lot_world.specs.Stances.{sign}
-use Rattle.parking_lot_world.specs.RowActs.{with_word, settled, hears}
+use Rattle.parking_lot_world_calls.specs.Stances.{sign}
+use Rattle.parking_lot_world.specs.RowActs.{with_word}
+use Rattle.parking_lot_world_calls.specs.CallActs.{settled, hears}
 use Rattle.parking_lot_world.specs.RowFits.{FitsTogether}
 use Rattle.parking_lot_world.proofs.TellActs.{laws}
 use Rattle.parking_lot_world.proofs.Holding.{fits, held, low, word_low}

@@ -1,6 +1,7 @@
 use Rattle.std.proofs.Common.{slice_get, sym, ap, ◌∙◌, subst}
 use Rattle.parking_lot_world.specs.Rows.{call_at, lock_at, state, taken_by}
-use Rattle.parking_lot_world.specs.Worlds.{hold_mode, mode_in}
+use Rattle.parking_lot_world.specs.Worlds.{mode_in}
+use Rattle.parking_lot_world_calls.specs.CallViews.{hold_mode}
 use Rattle.parking_lot_world.proofs.Viewing.{IsApart, apart_owner, call_owns, in_order}
 use Rattle.parking_lot_world.proofs.row_machine.RowMachine.owner.Goals.{in_default-via-in-Some+else-call-lock, in_default-via-in_default}
 use Rattle.parking_lot_world.proofs.row_machine.RowMachine.owner.Goals as goal

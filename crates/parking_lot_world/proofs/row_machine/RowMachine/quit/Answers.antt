@@ -7,12 +7,14 @@ use Rattle.parking_lot_core_lot.specs.Machine.{Machine, given_up, in_phase, mach
 use Rattle.parking_lot_core_lot.specs.Places.{place_at}
 use Rattle.parking_lot_core_lot.specs.Results.{is_left}
 use Rattle.parking_lot_core_lot.specs.Sound.{Sound}
-use Rattle.parking_lot_world.specs.declared.open_call.Call.{Call}
-use Rattle.parking_lot_world.specs.LateActs.{is_pending, late_key, quitted_as}
+use Rattle.parking_lot_world_calls.specs.declared.open_call.Call.{Call}
+use Rattle.parking_lot_world.specs.LateActs.{quitted_as}
+use Rattle.parking_lot_world_calls.specs.LateCalls.{is_pending, late_key}
 use Rattle.parking_lot_world.specs.Rows.{Rows, State, state}
-use Rattle.parking_lot_world.specs.RowActs.{with_call, with_lot, key_of}
+use Rattle.parking_lot_world.specs.RowActs.{with_call, with_lot}
+use Rattle.parking_lot_world_calls.specs.CallActs.{key_of}
 use Rattle.parking_lot_world.specs.RowFits.{FitsTogether}
-use Rattle.parking_lot_world.specs.Stances.{sign}
+use Rattle.parking_lot_world_calls.specs.Stances.{sign}
 use Rattle.parking_lot_world.proofs.LateActs.{laws}
 use Rattle.parking_lot_world.proofs.LateCalls.{may_quit, stands_there}
 use Rattle.parking_lot_world.proofs.Holding.{fits, held, low}

@@ -6,11 +6,12 @@ use Rattle.parking_lot_core_lot.specs.Machine.{Machine, stored, machine}
 use Rattle.parking_lot_core_lot.specs.Sound.{Sound}
 use Rattle.parking_lot_protocol.specs.Acts.{change_of}
 use Rattle.parking_lot_protocol.specs.declared.act.WordChange.{WordChange}
-use Rattle.parking_lot_world.specs.declared.open_call.Call.{Call}
-use Rattle.parking_lot_world.specs.declared.seat.WakeResult.{WakeResult}
+use Rattle.parking_lot_world_calls.specs.declared.open_call.Call.{Call}
+use Rattle.parking_lot_world_calls.specs.declared.seat.WakeResult.{WakeResult}
 use Rattle.parking_lot_world.specs.Rows.{Rows, State, state, word_at}
-use Rattle.parking_lot_world.specs.Stances.{core_tells}
-use Rattle.parking_lot_world.specs.RowActs.{with_word, settled, told_of, told_all}
+use Rattle.parking_lot_world_calls.specs.Stances.{core_tells}
+use Rattle.parking_lot_world.specs.RowActs.{with_word, told_all}
+use Rattle.parking_lot_world_calls.specs.CallActs.{settled, told_of}
 use Rattle.parking_lot_world.specs.RowFits.{FitsTogether}
 use Rattle.parking_lot_world.proofs.TellActs.{laws}
 use Rattle.parking_lot_world.proofs.Holding.{fits, held, low, word_low}

@@ -8,10 +8,10 @@ use Rattle.parking_lot_world.specs.NextTakings.{NextTaken}
 use Rattle.parking_lot_world.specs.Passes.{ArePassed, asks}
 use Rattle.parking_lot_core_lot.specs.Places.{passed_of}
 use Rattle.parking_lot_world.specs.Rows.{Rows, state}
-use Rattle.parking_lot_world.specs.RowActs.{key_of}
+use Rattle.parking_lot_world_calls.specs.CallActs.{key_of}
 use Rattle.parking_lot_world.proofs.Holding.{fits, held, low, word_low}
 use Rattle.parking_lot_world.proofs.LotCalls.{lot_never_refuses}
-use Rattle.parking_lot_world.proofs.Stancing.{leads_by}
+use Rattle.parking_lot_world_calls.proofs.Stancing.{leads_by}
 use Rattle.parking_lot_world.proofs.Takings.{its, has_passed, is_taken, has_room, taken_in, takes_fit, same_slots}
 use Rattle.parking_lot_world.proofs.row_machine.RowMachine.take_first.Goals as goal
 

@@ -1,6 +1,6 @@
 use Rattle.std.proofs.Common.{ℕ, ◌+◌, ◌%◌, sym, ap, ◌∙◌, subst}
 use Rattle.parking_lot_core_lot.specs.Machine.{Machine, machine}
-use Rattle.parking_lot_world.specs.declared.open_call.Call.{Call}
+use Rattle.parking_lot_world_calls.specs.declared.open_call.Call.{Call}
 use Rattle.parking_lot_world.specs.Requeues.{IsTakenIn, lot_with, sleeping_call}
 use Rattle.parking_lot_world.specs.RowActs.{with_call, with_lot, with_word}
 use Rattle.parking_lot_world.specs.RowFits.{FitsTogether}

@@ -1,0 +1,11 @@
+pub mod Kinds
+pub mod Calls
+pub mod Stances
+pub mod StanceLaws
+pub mod CallActs
+pub mod LateCalls
+pub mod LateRoles
+pub mod CallRoles
+pub mod CallKinds
+pub mod CallViews
+pub mod Beginnings
