@@ -61,6 +61,7 @@ pub record GoesOn (c : Call) (o : Option Call) : Type 0 where
   pub here : o ≡ Some call
   pub lock : call.lock ≡ c.lock
   pub others : call.others ≡ c.others
+  pub timed : call.timed ≡ c.timed
   pub heard : (call.core ≡ c.core) ⊎ Hears c.core call.core
 
 abbrev pub Onward : Option Call → Option Call → Type 0
@@ -69,7 +70,7 @@ Onward (Some c) o = GoesOn c o
 
 stays : (o : Option Call) → Onward o o
 stays None = refl
-stays (Some c) = record { call = c; here = refl; lock = refl; others = refl; heard = inl refl }
+stays (Some c) = record { call = c; here = refl; lock = refl; others = refl; timed = refl; heard = inl refl }
 
 abbrev pub AllGo : List (Option Call) → List (Option Call) → Type 0
 AllGo cs ds = (k : ℕ) → Onward (call_of cs k) (call_of ds k)
@@ -102,7 +103,7 @@ all_told t said cs ds all k = subst (λ (p : Option Call). Onward (call_of cs k)
   where
     on : (o p : Option Call) → Onward o p → Onward o (option_map (settled t said) p)
     on None p e = ap (option_map (settled t said)) e
-    on (Some c) p x = record { call = settled t said x.call; here = ap (option_map (settled t said)) x.here; lock = x.lock; others = x.others; heard = x.heard }
+    on (Some c) p x = record { call = settled t said x.call; here = ap (option_map (settled t said)) x.here; lock = x.lock; others = x.others; timed = x.timed; heard = x.heard }
 
 -- and one is off its list
 one_off : (t v : ℕ) (cs : List (Option Call)) → AllGo cs (slice_set cs v (option_map (off_list t) (call_of cs v)))
@@ -110,7 +111,7 @@ one_off t v cs k = at cs v k
   where
     off : (o : Option Call) → Onward o (option_map (off_list t) o)
     off None = refl
-    off (Some d) = record { call = off_list t d; here = refl; lock = refl; others = refl; heard = inl refl }
+    off (Some d) = record { call = off_list t d; here = refl; lock = refl; others = refl; timed = refl; heard = inl refl }
 
     at : (cs : List (Option Call)) (v k : ℕ) → Onward (call_of cs k) (call_of (slice_set cs v (option_map (off_list t) (call_of cs v))) k)
     at [] v k = refl
@@ -128,11 +129,12 @@ record LateGoes (s : State) (t : ℕ) (c : Call) (u : State) : Type 0 where
   became : u ≡ record (with_lot (with_call s t call) lot) { wakes = wakes }
   lock : call.lock ≡ c.lock
   others : call.others ≡ c.others
+  timed : call.timed ≡ c.timed
   heard : Hears c.core call.core
 
 module _ (s u : State) (t : ℕ) (c : Call) where
   late_back : (at : QueuePosition) → comes_late c.core ≡ true → u ≡ came_back at s t c → LateGoes s t c u
-  late_back QueuePosition.Listed comes e = record { call = hears c ActResult.Entered; lot = _; wakes = s.wakes; became = e; lock = refl; others = refl; heard = Hears.Back comes refl }
+  late_back QueuePosition.Listed comes e = record { call = hears c ActResult.Entered; lot = _; wakes = s.wakes; became = e; lock = refl; others = refl; timed = refl; heard = Hears.Back comes refl }
   late_back (QueuePosition.Off by said) comes e = record {
     call = record c { core = found_as by (is_handed said) c.core; spot = QueuePosition.Listed };
     lot = _;
@@ -140,14 +142,15 @@ module _ (s u : State) (t : ℕ) (c : Call) where
     became = e;
     lock = refl;
     others = refl;
+    timed = refl;
     heard = Hears.Found by (is_handed said) comes refl;
   }
 
   late_is : (k : Core) → c.core ≡ k → BecameLate k t c s u → LateGoes s t c u
   late_is (Core.Late LatePhase.Expires) same e = late_back c.spot (ap comes_late same) e
-  late_is (Core.Late LatePhase.Quits) same e = record { call = _; lot = _; wakes = s.wakes; became = e; lock = refl; others = refl; heard = Hears.Out (others_left s t c) (ap is_back same) refl }
+  late_is (Core.Late LatePhase.Quits) same e = record { call = _; lot = _; wakes = s.wakes; became = e; lock = refl; others = refl; timed = refl; heard = Hears.Out (others_left s t c) (ap is_back same) refl }
   late_is (Core.LateRw (LateRwPhase.Expires k)) same e = late_back c.spot (ap comes_late same) e
-  late_is (Core.LateRw (LateRwPhase.Quits k)) same e = record { call = _; lot = _; wakes = s.wakes; became = e; lock = refl; others = refl; heard = Hears.Out (others_left s t c) (ap is_back same) refl }
+  late_is (Core.LateRw (LateRwPhase.Quits k)) same e = record { call = _; lot = _; wakes = s.wakes; became = e; lock = refl; others = refl; timed = refl; heard = Hears.Out (others_left s t c) (ap is_back same) refl }
   late_is k same e = absurd e
 
 -- THE ACTS
@@ -164,7 +167,7 @@ module _ (s : State) (h : FitsTogether s) (t : ℕ) (c : Call) (here : call_at s
   gave act asks word k g = Hears.Told word k (subst (λ (a : Act). Gives a word k) (sym asks) g) refl
 
   own : (k : ActResult) → Hears c.core (core_next c.core k) → GoesOn c (Some (hears c k))
-  own k heard = record { call = hears c k; here = refl; lock = refl; others = refl; heard = inr heard }
+  own k heard = record { call = hears c k; here = refl; lock = refl; others = refl; timed = refl; heard = inr heard }
 
   told : (k : ActResult) → Hears c.core (core_next c.core k) → AllGo s.calls (slice_set s.calls t (Some (hears c k)))
   told k heard = one_goes s.calls s.calls t c _ here (λ v. stays (call_of s.calls v)) (own k heard)
@@ -176,7 +179,7 @@ module _ (s : State) (h : FitsTogether s) (t : ℕ) (c : Call) (here : call_at s
   takes w k heard = one_goes s.calls _ t c _ here (one_off t w s.calls) (own k heard)
 
   joined : Hears c.core (core_next c.core ActResult.Made) → AllGo s.calls (slice_set s.calls t (Some (record (hears c ActResult.Made) { spot = QueuePosition.Listed })))
-  joined heard = one_goes s.calls s.calls t c _ here (λ v. stays (call_of s.calls v)) (record { call = _; here = refl; lock = refl; others = refl; heard = inr heard })
+  joined heard = one_goes s.calls s.calls t c _ here (λ v. stays (call_of s.calls v)) (record { call = _; here = refl; lock = refl; others = refl; timed = refl; heard = inr heard })
 
   -- whoever is woken sleeps
   wakes : (e : Wakeup) (d : Call) (token : UnparkToken) (k : ActResult) → IsDue s t e d token → Hears c.core (core_next c.core k)
@@ -189,7 +192,7 @@ module _ (s : State) (h : FitsTogether s) (t : ℕ) (c : Call) (here : call_at s
           sleeps_act d.core taken.key taken.token (ap (λ (x : Call). stance x.core) (same_Some d taken.call (sym due.there ∙ taken.here)) ∙ taken.asleep)
 
       woken : GoesOn d (Some (record (hears d (ActResult.Woken token)) { spot = QueuePosition.Listed }))
-      woken = record { call = _; here = refl; lock = refl; others = refl; heard = inr (Hears.Told 0 (ActResult.Woken token) (subst (λ (a : Act). Gives a 0 (ActResult.Woken token)) (sym asleep) tt) refl) }
+      woken = record { call = _; here = refl; lock = refl; others = refl; timed = refl; heard = inr (Hears.Told 0 (ActResult.Woken token) (subst (λ (a : Act). Gives a 0 (ActResult.Woken token)) (sym asleep) tt) refl) }
 
   goes_inside : (k : SectionAct) → core_act c.core ≡ Act.Section k → (fair : Bool) (u : State) → BecameInside k t fair c s u → Go u
   goes_inside SectionAct.Check asks fair u e = is u _ e (told _ (gave _ asks _ _ refl))
@@ -221,7 +224,7 @@ module _ (s : State) (h : FitsTogether s) (t : ℕ) (c : Call) (here : call_at s
   goes (Act.Section next) asks fair u none b = goes_inside next asks fair u b
   goes Act.Sleep asks fair u none b =
       let l = late_is s u t c c.core refl b in
-      is u _ l.became (one_goes s.calls s.calls t c _ here (λ v. stays (call_of s.calls v)) (record { call = l.call; here = refl; lock = l.lock; others = l.others; heard = inr l.heard }))
+      is u _ l.became (one_goes s.calls s.calls t c _ here (λ v. stays (call_of s.calls v)) (record { call = l.call; here = refl; lock = l.lock; others = l.others; timed = l.timed; heard = inr l.heard }))
   goes (Act.Done answer) asks fair u none e = absurd (none-some answer (sym none))
 
 -- A step that isn't an answer leaves every call, and each goes on.

@@ -9,6 +9,7 @@ use Rattle.parking_lot_world_calls.specs.Beginnings.{holds_beside}
 use Rattle.parking_lot_world_calls.specs.CallKinds.{IsOfKind}
 use Rattle.parking_lot_world_calls.specs.CallActs.{hold_after}
 use Rattle.parking_lot_world_calls.specs.CallViews.{hold_mode}
+use Rattle.parking_lot_world_calls.specs.Calls.{is_timed}
 use Rattle.parking_lot_world_calls.specs.Kinds.{Manner, kind_in, manner_of, recursive_in}
 use Rattle.parking_lot_world_calls.specs.LateCalls.{late_of, sleeps_in_time}
 use Rattle.parking_lot_world_calls.specs.Stances.{core_act}
@@ -44,7 +45,7 @@ module _ (s u : State) (fits : FitsTogether s) (then : FitsTogether u) (k : ℕ)
   onward None was go = go
   onward (Some c) was go = record {
     to = stage go.call;
-    kept = record { call = go.call; here = go.here; there = go.lock; beside = go.others; stands = refl };
+    kept = record { call = go.call; here = go.here; there = go.lock; beside = go.others; deadline = go.timed; stands = refl };
     leads = leads_on (recursive_in s.kinds c.lock) (recursive_in u.kinds go.call.lock) c go.call go.others (fits.rules.prepared k c was) (then.rules.prepared k go.call go.here) go.heard;
   }
 
@@ -115,12 +116,13 @@ module _ (s u : State) (t : ℕ) (fair : Bool) (answer : CoreAnswer) (fits : Fit
 
 -- A BEGINNING, AND A DEADLINE
 
-begins : (s u : State) (t lock : ℕ) (call : LockCall) → may_begin s t lock call ≡ true → IsBegun t lock call s u → (others : ℕ) × IsOpen (call_at u t) lock others (stage_of call)
+begins : (s u : State) (t lock : ℕ) (call : LockCall) → may_begin s t lock call ≡ true → IsBegun t lock call s u → (others : ℕ) × IsOpen (call_at u t) lock others (is_timed call) (stage_of call)
 begins s u t lock call may x = (_, record {
   call = _;
   here = ap (λ (w : State). call_at w t) x.became ∙ written s.calls t _ (ltb-true t (length s.calls) (first (nat_lt t (length s.calls)) _ may));
   there = refl;
   beside = refl;
+  deadline = refl;
   stands = begins_there (holds_beside call (hold_at s t lock)) (kind_in s.kinds lock) call;
 })
   where
@@ -137,12 +139,13 @@ sleeping (Some d) c e may = subst (λ (x : Call). sleeps_in_time x.core ≡ true
     second true b e = e
     second false b e = absurd (false≢true e)
 
-deadlines : (s u : State) (t : ℕ) → may_expire s t ≡ true → (x : IsExpired t s u) → IsOpen (call_at u t) x.call.lock x.call.others (quits (stage x.call))
+deadlines : (s u : State) (t : ℕ) → may_expire s t ≡ true → (x : IsExpired t s u) → IsOpen (call_at u t) x.call.lock x.call.others x.call.timed (quits (stage x.call))
 deadlines s u t may x = record {
   call = record x.call { core = late_of x.call.core };
   here = ap (λ (w : State). call_at w t) x.became ∙ set_here s.calls t x.call _ x.here;
   there = refl;
   beside = refl;
+  deadline = refl;
   stands = late_quits x.call.others x.call.core (sleeping (call_at s t) x.call x.here may);
 }
 

@@ -6,3 +6,4 @@ pub mod Ending
 pub mod Sleeping
 pub mod Calls
 pub mod Leading
+pub mod Standing

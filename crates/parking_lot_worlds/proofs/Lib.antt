@@ -9,3 +9,4 @@ pub mod Making
 pub mod Promising
 pub mod Listing
 pub mod Busy
+pub mod Leading
