@@ -116,15 +116,15 @@ module _ (s u : State) (t : ℕ) (fair : Bool) (answer : CoreAnswer) (fits : Fit
 
 -- A BEGINNING, AND A DEADLINE
 
-begins : (s u : State) (t lock : ℕ) (call : LockCall) → may_begin s t lock call ≡ true → IsBegun t lock call s u → (others : ℕ) × IsOpen (call_at u t) lock others (is_timed call) (stage_of call)
-begins s u t lock call may x = (_, record {
+begins : (s u : State) (t lock : ℕ) (call : LockCall) → may_begin s t lock call ≡ true → IsBegun t lock call s u → IsOpen (call_at u t) lock (holds_beside call (hold_at s t lock)) (is_timed call) (stage_of call)
+begins s u t lock call may x = record {
   call = _;
   here = ap (λ (w : State). call_at w t) x.became ∙ written s.calls t _ (ltb-true t (length s.calls) (first (nat_lt t (length s.calls)) _ may));
   there = refl;
   beside = refl;
   deadline = refl;
   stands = begins_there (holds_beside call (hold_at s t lock)) (kind_in s.kinds lock) call;
-})
+}
   where
     first : (a b : Bool) → a && b ≡ true → a ≡ true
     first true b e = refl

@@ -1,6 +1,7 @@
 -- How each step of a machine of locks leads calls to their answers.
 use Rattle.std.specs.Prelude.{◌≡◌, ◌≢◌, ℕ, Bool, true, Option, Some, None, slice_get}
 use Rattle.parking_lot_protocol.specs.declared.act.CoreAnswer.{CoreAnswer}
+use Rattle.parking_lot_world_calls.specs.Beginnings.{holds_beside}
 use Rattle.parking_lot_world_calls.specs.CallViews.{hold_mode}
 use Rattle.parking_lot_world_calls.specs.Calls.{is_timed}
 use Rattle.parking_lot_world_calls.specs.declared.calls.LockCall.{LockCall}
@@ -42,7 +43,7 @@ pub record IsAnswered (t : ℕ) (c : Call) (answer : CoreAnswer) (s u : State) :
 -- Of every machine that fits together.
 pub record CallsLead : Type 0 where
   -- a call begins where its table says, and nobody else's changes
-  pub begins : (s u : State) (t lock : ℕ) (call : LockCall) → may_begin s t lock call ≡ true → IsBegun t lock call s u → (others : ℕ) × IsOpen (call_at u t) lock others (is_timed call) (stage_of call)
+  pub begins : (s u : State) (t lock : ℕ) (call : LockCall) → may_begin s t lock call ≡ true → IsBegun t lock call s u → IsOpen (call_at u t) lock (holds_beside call (hold_at s t lock)) (is_timed call) (stage_of call)
   pub begins_alone : (s u : State) (t lock : ℕ) (call : LockCall) → IsBegun t lock call s u → (k : ℕ) → k ≢ t → call_at u k ≡ call_at s k
   -- a step that answers nothing leads every call on
   pub steps : (s u : State) (t : ℕ) (fair : Bool) → FitsTogether s → IsStepped t fair None s u → (k : ℕ) → Onward (call_at s k) (call_at u k)

@@ -25,7 +25,7 @@ last_not false b e = refl
 seated_busy : (j : Joint) (t v : ℕ) → nat_lt t (length j.seats) ≡ true → (seat_at j t).at ≡ Some v → is_busy j t ≡ true
 seated_busy j t v low seat = all_three _ _ low (first_not _ _ (ap (λ (o : Option ℕ). is_none o) seat))
 
-called_busy : (j : Joint) (t : ℕ) (b : Bool) (c : Call) → nat_lt t (length j.seats) ≡ true → call_at (state j.rows) (number j t b) ≡ Some c → is_busy j t ≡ true
+pub called_busy : (j : Joint) (t : ℕ) (b : Bool) (c : Call) → nat_lt t (length j.seats) ≡ true → call_at (state j.rows) (number j t b) ≡ Some c → is_busy j t ≡ true
 called_busy j t true c low here = all_three _ _ low (last_not _ _ (last_not _ _ (ap (λ (o : Option Call). is_none o) here)))
 called_busy j t false c low here = all_three _ _ low (last_not _ _ (first_not _ _ (ap (λ (o : Option Call). is_none o) here)))
 

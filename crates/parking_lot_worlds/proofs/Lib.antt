@@ -10,3 +10,5 @@ pub mod Promising
 pub mod Listing
 pub mod Busy
 pub mod Leading
+pub mod Fitting
+pub mod Answering

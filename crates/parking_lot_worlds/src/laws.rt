@@ -1,6 +1,8 @@
 //! Laws of worlds.
+ghost use Rattle.parking_lot_worlds.specs.WorldAnswers.{AnswersFit};
 ghost use Rattle.parking_lot_worlds.specs.WorldLaws.{StepsAreCases, StepsArePaid};
 
+use parking_lot_answers::laws::calls_lead;
 use parking_lot_waits_world::laws as of_waits;
 
 /// Each step that is allowed is, at one lock, cases of a lock without a word, with named owners and two lists: the thread enters a list or leaves it, is
@@ -19,4 +21,12 @@ pub fn each_step_is_paid_for()
     ensures { StepsArePaid }
 {
     of_waits::steps_are_paid_for();
+}
+
+/// Whatever the schedule, a call at a lock is answered only what it may be: one that asks for the lock, or turns its hold into another, `Owned`; a try that or
+/// `Refused`; one with a deadline `Owned`, or `TimedOut` where its deadline has come; and one that gives a hold up, `Released`.
+pub fn answers_fit_their_calls()
+    ensures { AnswersFit }
+{
+    calls_lead();
 }

@@ -1,0 +1,75 @@
+-- What a call at a lock of a world is answered, whatever the schedule.
+use Rattle.std.specs.Prelude.{◌≡◌, ℕ, ◌&&◌, ◌||◌, ◌==◌, Bool, true, false, List, ◌∷◌, Option, Some, slice_get}
+use Rattle.std.specs.List.{list_any}
+use Rattle.std.specs.Option.{option_and_then}
+use Rattle.parking_lot_world_calls.specs.declared.calls.LockCall.{LockCall as RowCall}
+use Rattle.parking_lot_world_calls.specs.declared.calls.LockCall.TheVariants as call
+use Rattle.parking_lot_worlds.specs.declared.calls.Asked.TheVariants.{OfLock}
+use Rattle.parking_lot_worlds.specs.declared.calls.LockAnswer.{LockAnswer}
+use Rattle.parking_lot_worlds.specs.declared.calls.LockAnswer.TheVariants as answer
+use Rattle.parking_lot_worlds.specs.declared.calls.LockCall.{LockCall}
+use Rattle.parking_lot_worlds.specs.declared.step.WorldStep.{WorldStep}
+use Rattle.parking_lot_worlds.specs.declared.step.WorldStep.TheVariants as step
+use Rattle.parking_lot_worlds.specs.WorldCalls.{asked}
+use Rattle.parking_lot_worlds.specs.Worlds.{IsFit, Ran, Shown}
+
+-- what the thread's last call answered
+abbrev pub answer_at : Shown → ℕ → Option LockAnswer
+answer_at w t = option_and_then (λ a. a) (slice_get w.answers t)
+
+-- the step begins a call of thread t, and it is its deadline
+abbrev pub begins_for : ℕ → WorldStep → Bool
+begins_for t (step.Begin thread lock call) = thread == t
+begins_for t s = false
+
+abbrev pub is_late_for : ℕ → WorldStep → Bool
+is_late_for t (step.Deadline thread) = thread == t
+is_late_for t s = false
+
+abbrev pub is_owned : LockAnswer → Bool
+is_owned answer.Owned = true
+is_owned a = false
+
+abbrev pub is_refused : LockAnswer → Bool
+is_refused answer.Refused = true
+is_refused a = false
+
+abbrev pub is_released : LockAnswer → Bool
+is_released answer.Released = true
+is_released a = false
+
+abbrev pub is_timed_out : LockAnswer → Bool
+is_timed_out answer.TimedOut = true
+is_timed_out a = false
+
+-- What a call may be answered, where its deadline has come or hasn't.
+abbrev pub may_answer : RowCall → Bool → LockAnswer → Bool
+may_answer call.Lock late a = is_owned a
+may_answer call.TryLock late a = is_owned a || is_refused a
+may_answer call.LockUntil late a = is_owned a || (late && is_timed_out a)
+may_answer call.Unlock late a = is_released a
+may_answer call.Read late a = is_owned a
+may_answer call.TryRead late a = is_owned a || is_refused a
+may_answer call.UnlockRead late a = is_released a
+may_answer call.Write late a = is_owned a
+may_answer call.TryWrite late a = is_owned a || is_refused a
+may_answer call.UnlockWrite late a = is_released a
+may_answer call.Downgrade late a = is_owned a
+may_answer call.UpgradableRead late a = is_owned a
+may_answer call.TryUpgradableRead late a = is_owned a || is_refused a
+may_answer call.UnlockUpgradable late a = is_released a
+may_answer call.Upgrade late a = is_owned a
+may_answer call.TryUpgrade late a = is_owned a || is_refused a
+may_answer call.DowngradeToUpgradable late a = is_owned a
+may_answer call.DowngradeUpgradable late a = is_owned a
+may_answer call.ReadUntil late a = is_owned a || (late && is_timed_out a)
+may_answer call.WriteUntil late a = is_owned a || (late && is_timed_out a)
+may_answer call.UpgradableUntil late a = is_owned a || (late && is_timed_out a)
+may_answer call.UpgradeUntil late a = is_owned a || (late && is_timed_out a)
+
+-- Behind every run that begins with a call of thread t, and begins no other of it: what the thread is answered fits the call, and it timed out only where
+-- its deadline is among the steps.
+abbrev pub AnswersFit : Type 0
+AnswersFit =
+    (w x : Shown) (t i : ℕ) (asks : LockCall) (c : RowCall) (steps : List WorldStep) (a : LockAnswer) → IsFit w → asked asks ≡ OfLock c → Ran w (step.Begin t i asks ∷ steps) x
+    → list_any (begins_for t) steps ≡ false → answer_at x t ≡ Some a → may_answer c (list_any (is_late_for t) steps) a ≡ true
