@@ -1,12 +1,10 @@
 -- What a step leaves of the calls of all threads.
-use Rattle.std.proofs.Common.{◌≡◌, ◌≢◌, ◌⊎◌, ◌==◌, inl, inr, ℕ, zero, suc, ◌+◌, ◌<◌, ◌%◌, ◌^◌, Bool, true, false, cond, List, [], ◌∷◌, map, length, Option, Some, None, slice_get, slice_set, refl, sym, ap, ◌∙◌, subst, arith}
+use Rattle.std.proofs.Common.{◌≡◌, ◌≢◌, ◌⊎◌, ◌==◌, inl, inr, ℕ, zero, suc, ◌<◌, Bool, true, false, cond, List, [], ◌∷◌, map, length, Option, Some, None, slice_get, slice_set, refl, sym, ap, ◌∙◌, subst, arith}
 use Rattle.std.specs.List.{position_or_len}
 use Rattle.std.specs.Option.{option_and_then, option_map}
 use Rattle.std.proofs.lemmas.Bool.{cases_eq, eq-eqb}
-use Rattle.std.proofs.lemmas.List.{length-set, length-map}
 use Rattle.std.proofs.lemmas.Option.{none-some, same_Some}
 use Rattle.parking_lot_core_lot.specs.Machine.{Machine}
-use Rattle.parking_lot_core_lot.specs.declared.parking.ParkToken.{ParkToken}
 use Rattle.parking_lot_core_lot.specs.declared.parking.UnparkToken.{UnparkToken}
 use Rattle.parking_lot_protocol.specs.Acts.{Gives}
 use Rattle.parking_lot_protocol.specs.declared.act.Act.{Act}
@@ -15,7 +13,7 @@ use Rattle.parking_lot_protocol.specs.declared.act.CoreAnswer.{CoreAnswer}
 use Rattle.parking_lot_protocol.specs.declared.act.SectionAct.{SectionAct}
 use Rattle.parking_lot_world_calls.specs.CallActs.{hears, off_list, settled}
 use Rattle.parking_lot_world_calls.specs.LateCalls.{comes_late, found_as, is_back, is_handed}
-use Rattle.parking_lot_world_calls.specs.Stances.{Asleep, core_act, core_next, stance}
+use Rattle.parking_lot_world_calls.specs.Stances.{core_act, core_next, stance}
 use Rattle.parking_lot_world_calls.specs.declared.late_rw.LateRwPhase.{LateRwPhase}
 use Rattle.parking_lot_world_calls.specs.declared.open_call.Call.{Call}
 use Rattle.parking_lot_world_calls.specs.declared.seat.Core.{Core}
@@ -24,8 +22,7 @@ use Rattle.parking_lot_world_calls.specs.declared.seat.QueuePosition.{QueuePosit
 use Rattle.parking_lot_world_calls.specs.declared.seat.WakeResult.{WakeResult}
 use Rattle.parking_lot_world_calls.specs.declared.seat.Wakeup.{Wakeup}
 use Rattle.parking_lot_rules.proofs.Indexed.{get-set_other}
-
-use Rattle.parking_lot_world.specs.LateActs.{came_back, others_left, quitted}
+use Rattle.parking_lot_world.specs.LateActs.{came_back, others_left}
 use Rattle.parking_lot_world.specs.Machines.{Became, BecameInside, BecameLate, IsStepped, end_of}
 use Rattle.parking_lot_world.specs.RowActs.{answered, with_call, with_lot}
 use Rattle.parking_lot_world.specs.RowFits.{FitsTogether}

@@ -1,5 +1,5 @@
 -- Where a call is at its end, it is over: it is answered so, and its thread owns the lock so.
-use Rattle.std.proofs.Common.{◌≡◌, ◌⊎◌, ℕ, ◌+◌, ◌%◌, ◌^◌, Bool, true, false, cond, Option, Some, None, refl, sym, ap, ◌∙◌, subst}
+use Rattle.std.proofs.Common.{◌≡◌, ℕ, ◌+◌, ◌%◌, ◌^◌, Bool, true, false, cond, Some, sym, ap, ◌∙◌}
 use Rattle.std.proofs.lemmas.Option.{same_Some}
 use Rattle.parking_lot_protocol.specs.RwTable as rw
 use Rattle.parking_lot_protocol.specs.MutexTable as mutex
@@ -11,7 +11,6 @@ use Rattle.parking_lot_protocol.specs.declared.mutex_phase.MutexPhase.TheVariant
 use Rattle.parking_lot_protocol.specs.declared.rw_phase.AfterWake.{AfterWake}
 use Rattle.parking_lot_protocol.specs.declared.rw_phase.AfterWake.TheVariants as rest
 use Rattle.parking_lot_protocol.specs.declared.rw_phase.Outcome.{Outcome}
-use Rattle.parking_lot_protocol.specs.declared.rw_phase.Outcome.TheVariants as outcome
 use Rattle.parking_lot_protocol.specs.declared.rw_phase.RwPhase.{RwPhase}
 use Rattle.parking_lot_protocol.specs.declared.rw_phase.RwPhase.TheVariants as r
 use Rattle.parking_lot_upgrades.specs.UpgradeRules.{IsDraining, IsFreeing, IsOwing, IsReady, IsSeeking}
@@ -32,7 +31,7 @@ use Rattle.parking_lot_world_calls.specs.declared.seat.LatePhase.{LatePhase}
 use Rattle.parking_lot_world_calls.specs.declared.seat.LatePhase.TheVariants as late
 use Rattle.parking_lot_world.specs.Machines.{end_of}
 use Rattle.parking_lot_world.specs.RowFits.{IsPrepared, late_rw_prepared, rw_keeps}
-use Rattle.parking_lot_answers.specs.Stages.{Stage, Asks, Over, core_stage, drains_stage, frees_stage, late_rw_stage, late_stage, mutex_stage, rw_stage, upgrade_stage}
+use Rattle.parking_lot_answers.specs.Stages.{Asks, Over, core_stage, drains_stage, frees_stage, late_rw_stage, late_stage, mutex_stage, rw_stage, upgrade_stage}
 
 -- one that is refused has no other hold
 refused_with : (n : ℕ) (a : CoreAnswer) → n ≡ 0 → Some a ≡ Some Refused → Over Refused (Hold.Shares n) ≡ Over a (Hold.Shares 0)

@@ -1,25 +1,19 @@
 -- What a call hears in a step leads it from stage to stage.
-use Rattle.std.proofs.Common.{◌≡◌, ◌≢◌, ◌⊎◌, inl, inr, ℕ, Bool, true, false, Option, Some, None, refl, sym, ap, ◌∙◌, subst}
+use Rattle.std.proofs.Common.{◌≡◌, inl, ℕ, Bool, true, None, refl, sym, subst}
 use Rattle.parking_lot_protocol.specs.Acts.{Gives}
-use Rattle.parking_lot_protocol.specs.MutexTable as mutex
-use Rattle.parking_lot_protocol.specs.RwTable as rw
 use Rattle.parking_lot_protocol.specs.declared.act.ActResult.{ActResult}
 use Rattle.parking_lot_protocol.specs.declared.act.ActResult.TheVariants.{Entered, Start, Took}
 use Rattle.parking_lot_protocol.specs.declared.mutex_phase.MutexPhase.{MutexPhase}
 use Rattle.parking_lot_protocol.specs.declared.mutex_phase.MutexPhase.TheVariants as mx
-use Rattle.parking_lot_protocol.specs.declared.rw_phase.RwPhase.{RwPhase}
-use Rattle.parking_lot_protocol.specs.declared.rw_phase.RwPhase.TheVariants as r
 use Rattle.parking_lot_world_calls.specs.Beginnings.{core_of}
 use Rattle.parking_lot_world_calls.specs.LateCalls.{comes_late, found_as, is_back, is_sleeping, late_of, sleeps_in_time}
 use Rattle.parking_lot_world_calls.specs.Stances.{core_act, core_next}
 use Rattle.parking_lot_world_calls.specs.declared.calls.LockCall.{LockCall}
 use Rattle.parking_lot_world_calls.specs.declared.calls.LockCall.TheVariants as call
 use Rattle.parking_lot_world_calls.specs.declared.calls.LockKind.{LockKind}
-use Rattle.parking_lot_world_calls.specs.declared.late_rw.LateRwPhase.{LateRwPhase}
 use Rattle.parking_lot_world_calls.specs.declared.late_rw.LateRwPhase.TheVariants as late_rw
 use Rattle.parking_lot_world_calls.specs.declared.seat.Core.{Core}
 use Rattle.parking_lot_world_calls.specs.declared.seat.Core.TheVariants as core
-use Rattle.parking_lot_world_calls.specs.declared.seat.LatePhase.{LatePhase}
 use Rattle.parking_lot_world_calls.specs.declared.seat.LatePhase.TheVariants as late
 use Rattle.parking_lot_world.specs.RowFits.{IsPrepared, rw_keeps}
 use Rattle.parking_lot_answers.specs.Stages.{Leads, core_stage, quits, stage_of}

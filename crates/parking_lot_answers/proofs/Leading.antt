@@ -1,6 +1,6 @@
 -- Each step of a machine leads every call on.
-use Rattle.std.proofs.Common.{◌≡◌, ◌≢◌, ◌⊎◌, inl, inr, ℕ, zero, suc, ◌+◌, ◌*◌, ◌<◌, ◌≤◌, nat_lt, ◌&&◌, Bool, true, false, cond, List, [], ◌∷◌, length, Option, Some, None, get_or, slice_get, slice_set, refl, sym, ap, ◌∙◌, subst, arith}
-use Rattle.std.specs.Option.{option_and_then, option_map_or}
+use Rattle.std.proofs.Common.{◌≡◌, ◌⊎◌, inl, inr, ℕ, zero, suc, ◌+◌, ◌*◌, ◌<◌, ◌≤◌, nat_lt, ◌&&◌, Bool, true, false, cond, List, length, Option, Some, None, get_or, slice_get, slice_set, refl, sym, ap, ◌∙◌, subst, arith}
+use Rattle.std.specs.Option.{option_map_or}
 use Rattle.std.proofs.lemmas.Bool.{cases_eq, false≢true, lt-ltb, ltb-true}
 use Rattle.std.proofs.lemmas.Option.{none-some, same_Some, slice_get-get_or, slice_get_within}
 use Rattle.parking_lot_protocol.specs.declared.act.CoreAnswer.{CoreAnswer}
@@ -23,11 +23,10 @@ use Rattle.parking_lot_world.proofs.Viewing.{IsApart, apart_owner}
 use Rattle.parking_lot_world.specs.Machines.{IsBegun, IsExpired, IsStepped, may_begin, may_expire, may_expire_in}
 use Rattle.parking_lot_world.specs.RowActs.{answered}
 use Rattle.parking_lot_world.specs.RowFits.{FitsTogether, IsPrepared}
-use Rattle.parking_lot_world.specs.Rows.{State, call_at, hold_at, lock_at}
-use Rattle.parking_lot_world.specs.Worlds.{mode_in}
+use Rattle.parking_lot_world.specs.Rows.{State, call_at, hold_at}
 use Rattle.parking_lot_answers.specs.AnswerLaws as laws
 use Rattle.parking_lot_answers.specs.AnswerLaws.{CallsLead, IsAnswered, IsOpen}
-use Rattle.parking_lot_answers.specs.Stages.{Leads, Over, core_stage, quits, stage, stage_of}
+use Rattle.parking_lot_answers.specs.Stages.{Leads, core_stage, quits, stage, stage_of}
 use Rattle.parking_lot_answers.proofs.Calls as calls
 use Rattle.parking_lot_answers.proofs.Calls.{answer_is, call_low, ended_goes, set_elsewhere, set_here, stepped_goes, written}
 use Rattle.parking_lot_answers.proofs.Ending.{core_done}

@@ -1,9 +1,7 @@
 -- How the phases of each core lead from stage to stage.
-use Rattle.std.proofs.Common.{◌≡◌, ◌≢◌, ◌⊎◌, inl, inr, ℕ, ◌/◌, ◌+◌, ◌-◌, ◌^◌, ◌%◌, ◌==◌, min, ◌&&◌, ◌||◌, Bool, true, false, cond, not, nat_lt, Option, Some, None, Result, Ok, Err, refl, sym, ap, ◌∙◌, subst}
-use Rattle.std.specs.Option.{option_map, option_map_or, option_and_then}
-use Rattle.std.proofs.lemmas.Option.{none-some, same_Some}
+use Rattle.std.proofs.Common.{◌≡◌, ◌≢◌, inl, inr, ℕ, ◌/◌, ◌-◌, ◌%◌, ◌==◌, ◌&&◌, ◌||◌, Bool, true, false, cond, not, nat_lt, Option, Some, None, refl, subst}
+use Rattle.std.specs.Option.{option_map, option_map_or}
 use Rattle.parking_lot_core_lot.specs.declared.parking.ParkToken.{ParkToken}
-use Rattle.parking_lot_core_lot.specs.declared.parking.UnparkToken.{UnparkToken}
 use Rattle.parking_lot_protocol.specs.Acts.{Gives}
 use Rattle.parking_lot_protocol.specs.declared.act.CoreAnswer.TheVariants.{Released}
 use Rattle.parking_lot_protocol.specs.MutexTable as mutex
@@ -18,14 +16,13 @@ use Rattle.parking_lot_protocol.specs.declared.rw_phase.AfterWake.{AfterWake}
 use Rattle.parking_lot_protocol.specs.declared.rw_phase.AfterWake.TheVariants as rest
 use Rattle.parking_lot_protocol.specs.declared.rw_phase.Draining.{Draining}
 use Rattle.parking_lot_protocol.specs.declared.rw_phase.LockMode.{LockMode}
-use Rattle.parking_lot_protocol.specs.declared.rw_phase.Outcome.{Outcome}
 use Rattle.parking_lot_protocol.specs.declared.rw_phase.RwPhase.{RwPhase}
 use Rattle.parking_lot_protocol.specs.declared.rw_phase.RwPhase.TheVariants as r
 use Rattle.parking_lot_protocol.specs.declared.rw_phase.Scanning.{Scanning}
 use Rattle.parking_lot_protocol.specs.declared.rw_phase.Seeking.{Seeking}
 use Rattle.parking_lot_rules.specs.Classes.{bit}
-use Rattle.parking_lot_answers.specs.Stages.{Stage, Asks, Tries, Quits, Frees, Turns, Over, Leads, Reaches, giving, last_stage, mode_for, mutex_stage, rest_stage, rw_stage}
-use Rattle.parking_lot_world_calls.specs.declared.calls.OwnMode.TheVariants.{Shared, Exclusive}
+use Rattle.parking_lot_answers.specs.Stages.{Stage, Asks, Tries, Frees, Leads, giving, last_stage, mode_for, mutex_stage, rest_stage, rw_stage}
+use Rattle.parking_lot_world_calls.specs.declared.calls.OwnMode.TheVariants.{Exclusive}
 
 -- EITHER OF TWO
 

@@ -1,5 +1,5 @@
 -- How a call leads from stage to stage whose deadline has come as it slept.
-use Rattle.std.proofs.Common.{◌≡◌, ◌⊎◌, inl, inr, ℕ, ◌==◌, Bool, true, false, cond, Option, Some, None, refl, sym, ap, ◌∙◌, subst}
+use Rattle.std.proofs.Common.{◌≡◌, inl, inr, ℕ, ◌==◌, Bool, true, false, None, refl, sym, subst}
 use Rattle.parking_lot_core_lot.specs.declared.parking.UnparkToken.{UnparkToken}
 use Rattle.parking_lot_protocol.specs.Acts.{Gives}
 use Rattle.parking_lot_protocol.specs.MutexTable as mutex
@@ -15,7 +15,7 @@ use Rattle.parking_lot_upgrades.specs.UpgradeTable as upgrade
 use Rattle.parking_lot_upgrades.specs.declared.upgrade_phase.UpgradePhase.{UpgradePhase}
 use Rattle.parking_lot_upgrades.specs.declared.upgrade_phase.UpgradePhase.TheVariants as u
 use Rattle.parking_lot_world_calls.specs.CallKinds.{IsOfWorld}
-use Rattle.parking_lot_world_calls.specs.Stances.{core_next, late_act, late_next, late_rw_act, late_rw_next, pending_from, quits_as, resumed_as, rw_asleep, sign, simple_pending, sleeper_asleep, sleeper_told, upgrade_asleep, upgrade_pending}
+use Rattle.parking_lot_world_calls.specs.Stances.{late_act, late_next, late_rw_act, late_rw_next, quits_as, resumed_as, rw_asleep, sign, simple_pending, sleeper_asleep, sleeper_told, upgrade_asleep, upgrade_pending}
 use Rattle.parking_lot_world_calls.specs.declared.late_rw.LateRwPhase.{LateRwPhase}
 use Rattle.parking_lot_world_calls.specs.declared.late_rw.LateRwPhase.TheVariants as late_rw
 use Rattle.parking_lot_world_calls.specs.declared.late_rw.RwSleeper.{RwSleeper}
@@ -24,7 +24,7 @@ use Rattle.parking_lot_world_calls.specs.declared.seat.LatePhase.{LatePhase}
 use Rattle.parking_lot_world_calls.specs.declared.seat.LatePhase.TheVariants as late
 use Rattle.parking_lot_world_calls.specs.declared.calls.OwnMode.TheVariants.{Exclusive}
 use Rattle.parking_lot_world.specs.RowFits.{IsPrepared, late_rw_prepared, sleeper_prepared}
-use Rattle.parking_lot_answers.specs.Stages.{Stage, Quits, Leads, core_stage, drains_stage, late_rw_stage, late_stage, mode_for, mutex_stage, quits, rw_stage, sleeper_stage, upgrade_stage}
+use Rattle.parking_lot_answers.specs.Stages.{Quits, Leads, core_stage, drains_stage, late_rw_stage, late_stage, mode_for, mutex_stage, quits, rw_stage, sleeper_stage, upgrade_stage}
 use Rattle.parking_lot_answers.proofs.Phases.{leads_cond}
 
 -- AT A MUTEX

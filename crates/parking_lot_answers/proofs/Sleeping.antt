@@ -1,5 +1,5 @@
 -- A call that sleeps asks for nothing but to be woken.
-use Rattle.std.proofs.Common.{◌≡◌, ℕ, refl, sym, ◌∙◌}
+use Rattle.std.proofs.Common.{◌≡◌, ℕ, refl}
 use Rattle.parking_lot_core_lot.specs.declared.parking.ParkToken.{ParkToken}
 use Rattle.parking_lot_protocol.specs.MutexTable as mutex
 use Rattle.parking_lot_protocol.specs.RwTable as rw

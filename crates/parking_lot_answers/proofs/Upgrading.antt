@@ -1,5 +1,5 @@
 -- How the phases of an upgradable call lead from stage to stage.
-use Rattle.std.proofs.Common.{◌≡◌, ◌≢◌, ◌⊎◌, inl, inr, ℕ, ◌/◌, ◌+◌, ◌-◌, ◌^◌, ◌==◌, ◌&&◌, Bool, true, false, cond, nat_lt, refl, sym, ap, ◌∙◌, subst}
+use Rattle.std.proofs.Common.{◌≡◌, inl, inr, ℕ, ◌-◌, ◌&&◌, Bool, true, false, cond, nat_lt, refl, sym, ap, subst}
 use Rattle.std.proofs.lemmas.Bool.{false≢true}
 use Rattle.parking_lot_protocol.specs.Acts.{Gives}
 use Rattle.parking_lot_protocol.specs.RwTable as rw
@@ -18,9 +18,9 @@ use Rattle.parking_lot_upgrades.specs.declared.upgrade_phase.UpgradePhase.{Upgra
 use Rattle.parking_lot_upgrades.specs.declared.upgrade_phase.UpgradePhase.TheVariants as u
 use Rattle.parking_lot_world_calls.specs.CallActs.{kept_hold}
 use Rattle.parking_lot_world_calls.specs.CallKinds.{IsOfWorld}
-use Rattle.parking_lot_world_calls.specs.declared.calls.OwnMode.TheVariants.{Shared, Upgradable, Exclusive}
+use Rattle.parking_lot_world_calls.specs.declared.calls.OwnMode.TheVariants.{Upgradable, Exclusive}
 use Rattle.parking_lot_world_calls.specs.declared.seat.Hold.{Hold}
-use Rattle.parking_lot_answers.specs.Stages.{Stage, Asks, Tries, Quits, Frees, Turns, Over, Leads, Reaches, drains_stage, frees_stage, upgrade_stage}
+use Rattle.parking_lot_answers.specs.Stages.{Stage, Asks, Tries, Quits, Frees, Over, Leads, drains_stage, frees_stage, upgrade_stage}
 use Rattle.parking_lot_answers.proofs.Phases.{leads_cond}
 
 abbrev pub upgrade_on : (n : ℕ) → UpgradePhase → Stage → Type 0

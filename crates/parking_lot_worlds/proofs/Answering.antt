@@ -7,10 +7,9 @@ use Rattle.std.proofs.lemmas.List.{length-set}
 use Rattle.std.proofs.lemmas.Option.{none-some, same_Some}
 use Rattle.parking_lot_answers.specs.AnswerLaws.{CallsLead, IsAnswered, IsOpen}
 use Rattle.parking_lot_answers.specs.Answers.{MayStand, may_end}
-use Rattle.parking_lot_answers.specs.Stages.{Over, Stage, quits, stage, stage_of}
+use Rattle.parking_lot_answers.specs.Stages.{Stage, quits, stage, stage_of}
 use Rattle.parking_lot_answers.proofs.Standing.{begins_so, ends_so, stands_late, stands_on}
 use Rattle.parking_lot_condvar_world.specs.declared.calls.CondvarReply.{CondvarReply}
-use Rattle.parking_lot_once_world.specs.declared.calls.OnceReply.{OnceReply}
 use Rattle.parking_lot_once_world.specs.Onces.{Onces}
 use Rattle.parking_lot_once_world.specs.Onces as onces
 use Rattle.parking_lot_once_world.specs.declared.open_call.OpenCall.{OpenCall}
@@ -18,12 +17,10 @@ use Rattle.parking_lot_protocol.specs.declared.act.CoreAnswer.{CoreAnswer}
 use Rattle.parking_lot_rules.proofs.Indexed.{get-set_other}
 use Rattle.parking_lot_waits_world.specs.declared.ended.Ended.{Ended}
 use Rattle.parking_lot_waits_world.specs.declared.seat.Seat.{Seat}
-use Rattle.parking_lot_waits_world.specs.Joint.{Joint, busy_number, has_by_second, is_idle, nowhere, number, seat_at}
+use Rattle.parking_lot_waits_world.specs.Joint.{Joint, busy_number, has_by_second, nowhere, number, seat_at}
 use Rattle.parking_lot_waits_world.specs.JointMoves as joint
 use Rattle.parking_lot_waits_world.specs.JointSides.{is_busy, lock_call}
-use Rattle.parking_lot_waits_world.specs.JointStays.{Leaves}
 use Rattle.parking_lot_waits_world.specs.JointSteps.{GoesAtLock, IsGoneAt, IsLateAt, freed}
-use Rattle.parking_lot_waits_world.specs.Whole as waits
 use Rattle.parking_lot_waits_world.proofs.LeavingTurns.{steps_leave}
 use Rattle.parking_lot_waits_world.proofs.LocksKept.{busy}
 use Rattle.parking_lot_world_calls.specs.Beginnings.{holds_beside}
@@ -31,7 +28,7 @@ use Rattle.parking_lot_world_calls.specs.Calls.{is_timed}
 use Rattle.parking_lot_world_calls.specs.declared.calls.LockCall.{LockCall as RowCall}
 use Rattle.parking_lot_world_calls.specs.declared.open_call.Call.{Call}
 use Rattle.parking_lot_world.specs.Machines as rows
-use Rattle.parking_lot_world.specs.Rows.{State, call_at, hold_at, state}
+use Rattle.parking_lot_world.specs.Rows.{call_at, hold_at, state}
 use Rattle.parking_lot_worlds.specs.declared.calls.Asked.{Asked}
 use Rattle.parking_lot_worlds.specs.declared.calls.LockAnswer.{LockAnswer}
 use Rattle.parking_lot_worlds.specs.declared.calls.LockCall.{LockCall}
@@ -45,7 +42,7 @@ use Rattle.parking_lot_worlds.proofs.Busy.{called_busy, expires_busy, goes_busy}
 use Rattle.parking_lot_worlds.proofs.Fitting.{answers_fit}
 use Rattle.parking_lot_worlds.proofs.Leading.{Led, asked_led, gone_led, late_led, led_on, same_led}
 use Rattle.parking_lot_worlds.proofs.OncesKept as of_onces
-use Rattle.parking_lot_worlds.proofs.Whole.{ask_lock_there, ask_variable_there, both_true, both_ways, not_true, waits_go, which_goes}
+use Rattle.parking_lot_worlds.proofs.Whole.{ask_lock_there, ask_variable_there, both_true, both_ways, waits_go}
 
 -- LISTS
 
@@ -307,8 +304,8 @@ module _ (law : CallsLead) (t i : ℕ) (c : RowCall) where
         inl (goes_on m fair z (ap (λ xs. option_and_then (λ a. a) (slice_get xs t)) (answers ∙ ap (λ e. noted t (option_map (of_ended (lock_call w.waits t)) e) w.answers) ends)))
     gone_itself fair m None seat end (Some a, z, ends) same answers =
         inr (is_over m fair a z same (
-          ap (λ xs. option_and_then (λ a. a) (slice_get xs t)) (answers ∙ ap (λ e. noted t (option_map (of_ended (lock_call w.waits t)) e) w.answers) ends)
-          ∙ written w.answers t (Some (said (lock_call w.waits t) a)) low
+        ap (λ xs. option_and_then (λ a. a) (slice_get xs t)) (answers ∙ ap (λ e. noted t (option_map (of_ended (lock_call w.waits t)) e) w.answers) ends)
+        ∙ written w.answers t (Some (said (lock_call w.waits t) a)) low
         ))
 
     goes_itself : (fair b : Bool) → is_in_once w t ≡ b → may_go w t ≡ true → IsGone b t fair w x → InLock w late ⊎ IsOver w late → InLock x late ⊎ IsOver x late
@@ -412,8 +409,8 @@ module _ (law : CallsLead) (t i : ℕ) (c : RowCall) where
       by (step.Begin u l call) there may (begun, answers, kinds) begins =
           let ne = not_it u begins in
           subst (On x) (sym (or_not late)) (
-            asked_by w x fit late u ne f.low there l (asked call) may begun
-            (ap (λ xs. option_and_then (λ a. a) (slice_get xs t)) answers ∙ elsewhere w.answers t u None ne) f.call
+          asked_by w x fit late u ne f.low there l (asked call) may begun
+          (ap (λ xs. option_and_then (λ a. a) (slice_get xs t)) answers ∙ elsewhere w.answers t u None ne) f.call
           )
       by (step.Go u fair) there may (gone, kinds) begins = subst (On x) (sym (or_not late)) (goes_by w x late u fair fit f.low there may gone f.call (u == t) refl)
       by (step.Deadline u) there may (came, kinds) begins = lates_by w x late u fit f.low there may came f.call (u == t) refl

@@ -1,10 +1,10 @@
 -- Whoever may make a step at locks and condition variables, or whose deadline may come there, is in a call there.
-use Rattle.std.proofs.Common.{◌≡◌, ℕ, ◌+◌, Bool, true, false, not, cond, ◌&&◌, nat_lt, is_none, length, Option, Some, None, refl, sym, ap, ◌∙◌}
+use Rattle.std.proofs.Common.{◌≡◌, ℕ, Bool, true, false, not, ◌&&◌, nat_lt, is_none, length, Option, Some, None, refl, sym, ap, ◌∙◌}
 use Rattle.parking_lot_world_calls.specs.declared.open_call.Call.{Call}
 use Rattle.parking_lot_world.specs.Machines as rows
-use Rattle.parking_lot_world.specs.Rows.{State, call_at, state}
+use Rattle.parking_lot_world.specs.Rows.{call_at, state}
 use Rattle.parking_lot_waits_world.specs.Joint.{Joint, busy_by, busy_number, number, row_goes, seat_at}
-use Rattle.parking_lot_waits_world.specs.JointMoves.{is_free, may_expire, may_expire_at, may_go, may_go_at}
+use Rattle.parking_lot_waits_world.specs.JointMoves.{may_expire, may_expire_at, may_go, may_go_at}
 use Rattle.parking_lot_waits_world.specs.JointSides.{is_busy}
 use Rattle.parking_lot_worlds.proofs.Whole.{both_true, both_ways}
 

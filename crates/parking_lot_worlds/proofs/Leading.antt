@@ -1,9 +1,8 @@
 -- What another thread's step leaves of a call at a lock: it leads it on.
-use Rattle.std.proofs.Common.{◌≡◌, ◌≢◌, ◌⊎◌, inl, inr, ℕ, zero, suc, ◌+◌, ◌<◌, ◌%◌, Bool, true, false, not, cond, ◌&&◌, nat_lt, is_some, List, [], ◌∷◌, length, map, take, Option, Some, None, slice_get, slice_set, refl, sym, ap, ◌∙◌, subst, arith}
+use Rattle.std.proofs.Common.{◌≡◌, ◌≢◌, inl, ℕ, zero, suc, ◌<◌, Bool, true, false, not, ◌&&◌, nat_lt, is_some, List, [], ◌∷◌, length, map, take, Option, Some, None, slice_get, refl, sym, ap, ◌∙◌, subst, arith}
 use Rattle.std.specs.List.{list_all}
-use Rattle.std.specs.Option.{option_and_then, option_map, unwrap_or}
+use Rattle.std.specs.Option.{option_and_then, option_map}
 use Rattle.std.proofs.lemmas.Bool.{lt-ltb, ltb-true}
-use Rattle.std.proofs.lemmas.List.{length-set}
 use Rattle.std.proofs.lemmas.Option.{none-some, slice_get-map}
 use Rattle.parking_lot_answers.specs.AnswerLaws.{CallsLead, GoesOn, IsOpen, Onward}
 use Rattle.parking_lot_answers.specs.Stages.{Leads, Stage, stage}
@@ -16,15 +15,13 @@ use Rattle.parking_lot_protocol.specs.declared.act.CoreAnswer.{CoreAnswer}
 use Rattle.parking_lot_protocol.specs.declared.act.CoreAnswer.TheVariants as answer
 use Rattle.parking_lot_rules.specs.Lists.{at_index}
 use Rattle.parking_lot_rules.specs.Variable as rules
-use Rattle.parking_lot_rules.proofs.Indexed.{get-set_other}
 use Rattle.parking_lot_waits_world.specs.declared.ended.Ended.{Ended}
-use Rattle.parking_lot_waits_world.specs.declared.seat.Seat.{Seat}
 use Rattle.parking_lot_waits_world.specs.declared.turn.Turn.{Turn}
 use Rattle.parking_lot_waits_world.specs.declared.turn.Turn.TheVariants as turn
-use Rattle.parking_lot_waits_world.specs.Joint.{Joint, back_number, busy_number, call_in, front_number, has_by_second, lock_of, nowhere, number, seat_at, var_at}
+use Rattle.parking_lot_waits_world.specs.Joint.{Joint, back_number, call_in, has_by_second, number, seat_at, var_at}
 use Rattle.parking_lot_waits_world.specs.JointLaws.{PartsFit}
-use Rattle.parking_lot_waits_world.specs.JointSteps.{ComesBackIf, FollowsAs, IsAsked, IsCalled, IsGone, IsGoneAt, IsLate, IsLateAt, KnownIn, MovesIn, Turned, freed, takes_now}
-use Rattle.parking_lot_waits_world.specs.Moving.{AreMoved, back_in, entry, taken_of}
+use Rattle.parking_lot_waits_world.specs.JointSteps.{ComesBackIf, FollowsAs, IsAsked, IsGoneAt, IsLateAt, KnownIn, MovesIn, Turned, takes_now}
+use Rattle.parking_lot_waits_world.specs.Moving.{back_in, entry, taken_of}
 use Rattle.parking_lot_waits_world.specs.Turns.{is_late, mutex_of, turn_of}
 use Rattle.parking_lot_waits_world.specs.Whole.{IsWhole}
 use Rattle.parking_lot_waits_world.proofs.Allowing.{all_of}
@@ -155,8 +152,8 @@ module _ (i : Joint) (h : IsWhole i) (v : ℕ) (x : Var) (at : var_at i v ≡ So
     moved_led m s u false (y ∷ ws) all (mid, first, rest) =
         let here = both_true _ _ all in
         same_led law (number i t b) s u (
-          taken_all_same law (number i t b) mid u m (map (entry i.seats x) ws) (none_moved ws here.1) rest
-          ∙ roused_same law (number i t b) s mid (back_in i.seats y) m false (not_moved b y here.0) first
+        taken_all_same law (number i t b) mid u m (map (entry i.seats x) ws) (none_moved ws here.1) rest
+        ∙ roused_same law (number i t b) s mid (back_in i.seats y) m false (not_moved b y here.0) first
         )
 
 -- THE STEPS OF ANOTHER THREAD u
