@@ -5,10 +5,10 @@ use Rattle.std.specs.Option.{option_and_then, option_map, unwrap_or}
 use Rattle.std.proofs.lemmas.Bool.{eq-eqb, eqb-true, lt-ltb, ltb-true}
 use Rattle.std.proofs.lemmas.List.{length-set}
 use Rattle.std.proofs.lemmas.Option.{none-some, same_Some}
-use Rattle.parking_lot_answers.specs.AnswerLaws.{CallsLead, IsAnswered, IsOpen}
-use Rattle.parking_lot_answers.specs.Answers.{MayStand, may_end}
-use Rattle.parking_lot_answers.specs.Stages.{Stage, quits, stage, stage_of}
-use Rattle.parking_lot_answers.proofs.Standing.{begins_so, ends_so, stands_late, stands_on}
+use Rattle.parking_lot_call_laws.specs.AnswerLaws.{CallsLead, IsAnswered, IsOpen}
+use Rattle.parking_lot_call_laws.specs.Answers.{MayStand, may_end}
+use Rattle.parking_lot_call_laws.specs.Stages.{Stage, quits, stage, stage_of}
+use Rattle.parking_lot_call_laws.proofs.Standing.{begins_so, ends_so, stands_late, stands_on}
 use Rattle.parking_lot_condvar_world.specs.declared.calls.CondvarReply.{CondvarReply}
 use Rattle.parking_lot_once_world.specs.Onces.{Onces}
 use Rattle.parking_lot_once_world.specs.Onces as onces

@@ -4,9 +4,9 @@ use Rattle.std.specs.List.{list_all}
 use Rattle.std.specs.Option.{option_and_then, option_map}
 use Rattle.std.proofs.lemmas.Bool.{lt-ltb, ltb-true}
 use Rattle.std.proofs.lemmas.Option.{none-some, slice_get-map}
-use Rattle.parking_lot_answers.specs.AnswerLaws.{CallsLead, GoesOn, IsOpen, Onward}
-use Rattle.parking_lot_answers.specs.Stages.{Leads, Stage, stage}
-use Rattle.parking_lot_answers.proofs.Calls.{set_elsewhere}
+use Rattle.parking_lot_call_laws.specs.AnswerLaws.{CallsLead, GoesOn, IsOpen, Onward}
+use Rattle.parking_lot_call_laws.specs.Stages.{Leads, Stage, stage}
+use Rattle.parking_lot_call_laws.proofs.Calls.{set_elsewhere}
 use Rattle.parking_lot_condvar_world.specs.declared.calls.CondvarCall.{CondvarCall}
 use Rattle.parking_lot_condvar_world.specs.declared.calls.CondvarReply.{CondvarReply}
 use Rattle.parking_lot_condvar_world.specs.declared.open_call.OpenCall.{OpenCall}

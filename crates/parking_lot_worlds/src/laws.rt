@@ -2,7 +2,7 @@
 ghost use Rattle.parking_lot_worlds.specs.WorldAnswers.{AnswersFit};
 ghost use Rattle.parking_lot_worlds.specs.WorldLaws.{StepsAreCases, StepsArePaid};
 
-use parking_lot_answers::laws::calls_lead;
+use parking_lot_call_laws::laws::calls_lead;
 use parking_lot_waits_world::laws as of_waits;
 
 /// Each step that is allowed is, at one lock, cases of a lock without a word, with named owners and two lists: the thread enters a list or leaves it, is

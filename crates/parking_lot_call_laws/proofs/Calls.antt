@@ -28,8 +28,8 @@ use Rattle.parking_lot_world.specs.RowActs.{answered, with_call, with_lot}
 use Rattle.parking_lot_world.specs.RowFits.{FitsTogether}
 use Rattle.parking_lot_world.specs.Rows.{State, call_at, is_by, word_at}
 use Rattle.parking_lot_world.specs.TellLaws.{IsDue}
-use Rattle.parking_lot_answers.proofs.Heard.{Hears}
-use Rattle.parking_lot_answers.proofs.Sleeping.{sleeps_act}
+use Rattle.parking_lot_call_laws.proofs.Heard.{Hears}
+use Rattle.parking_lot_call_laws.proofs.Sleeping.{sleeps_act}
 
 abbrev pub call_of : List (Option Call) → ℕ → Option Call
 call_of calls t = option_and_then (λ c. c) (slice_get calls t)

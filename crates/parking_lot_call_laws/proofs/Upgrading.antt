@@ -20,8 +20,8 @@ use Rattle.parking_lot_world_calls.specs.CallActs.{kept_hold}
 use Rattle.parking_lot_world_calls.specs.CallKinds.{IsOfWorld}
 use Rattle.parking_lot_world_calls.specs.declared.calls.OwnMode.TheVariants.{Upgradable, Exclusive}
 use Rattle.parking_lot_world_calls.specs.declared.seat.Hold.{Hold}
-use Rattle.parking_lot_answers.specs.Stages.{Stage, Asks, Tries, Quits, Frees, Over, Leads, drains_stage, frees_stage, upgrade_stage}
-use Rattle.parking_lot_answers.proofs.Phases.{leads_cond}
+use Rattle.parking_lot_call_laws.specs.Stages.{Stage, Asks, Tries, Quits, Frees, Over, Leads, drains_stage, frees_stage, upgrade_stage}
+use Rattle.parking_lot_call_laws.proofs.Phases.{leads_cond}
 
 abbrev pub upgrade_on : (n : ℕ) → UpgradePhase → Stage → Type 0
 upgrade_on n p a = Leads n a (upgrade_stage n p)

@@ -4,8 +4,8 @@ use Rattle.parking_lot_protocol.specs.declared.act.CoreAnswer.{CoreAnswer}
 use Rattle.parking_lot_protocol.specs.declared.act.CoreAnswer.TheVariants.{Owned, Refused, Released}
 use Rattle.parking_lot_world_calls.specs.declared.calls.LockCall.{LockCall}
 use Rattle.parking_lot_world_calls.specs.declared.calls.LockCall.TheVariants as call
-use Rattle.parking_lot_answers.specs.Answers.{EndsAt, MayStand, is_beginning, may_end}
-use Rattle.parking_lot_answers.specs.Stages.{Asks, Frees, Leads, Over, Quits, Reaches, Stage, Tries, Turns, quits, stage_of}
+use Rattle.parking_lot_call_laws.specs.Answers.{EndsAt, MayStand, is_beginning, may_end}
+use Rattle.parking_lot_call_laws.specs.Stages.{Asks, Frees, Leads, Over, Quits, Reaches, Stage, Tries, Turns, quits, stage_of}
 
 from_there : (n : ℕ) (start to : Stage) (late : Bool) → is_beginning start ≡ true → Reaches n start to → MayStand n start late to
 from_there n (Asks m from) (Over Owned h) late is r = inr (inr (refl, r))

@@ -24,8 +24,8 @@ use Rattle.parking_lot_world_calls.specs.declared.seat.LatePhase.{LatePhase}
 use Rattle.parking_lot_world_calls.specs.declared.seat.LatePhase.TheVariants as late
 use Rattle.parking_lot_world_calls.specs.declared.calls.OwnMode.TheVariants.{Exclusive}
 use Rattle.parking_lot_world.specs.RowFits.{IsPrepared, late_rw_prepared, sleeper_prepared}
-use Rattle.parking_lot_answers.specs.Stages.{Quits, Leads, core_stage, drains_stage, late_rw_stage, late_stage, mode_for, mutex_stage, quits, rw_stage, sleeper_stage, upgrade_stage}
-use Rattle.parking_lot_answers.proofs.Phases.{leads_cond}
+use Rattle.parking_lot_call_laws.specs.Stages.{Quits, Leads, core_stage, drains_stage, late_rw_stage, late_stage, mode_for, mutex_stage, quits, rw_stage, sleeper_stage, upgrade_stage}
+use Rattle.parking_lot_call_laws.proofs.Phases.{leads_cond}
 
 -- AT A MUTEX
 

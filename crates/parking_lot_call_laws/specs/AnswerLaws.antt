@@ -11,7 +11,7 @@ use Rattle.parking_lot_world.specs.Machines.{IsBegun, IsExpired, IsStepped, may_
 use Rattle.parking_lot_world.specs.RowFits.{FitsTogether}
 use Rattle.parking_lot_world.specs.Rows.{State, call_at, hold_at, lock_at}
 use Rattle.parking_lot_world.specs.Worlds.{mode_in}
-use Rattle.parking_lot_answers.specs.Stages.{Leads, Over, Stage, quits, stage, stage_of}
+use Rattle.parking_lot_call_laws.specs.Stages.{Leads, Over, Stage, quits, stage, stage_of}
 
 -- a call is open at that lock, beside so many shared holds, has a deadline or hasn't, and stands there
 pub record IsOpen (o : Option Call) (lock others : ℕ) (timed : Bool) (at : Stage) : Type 0 where

@@ -24,13 +24,13 @@ use Rattle.parking_lot_world.specs.Machines.{IsBegun, IsExpired, IsStepped, may_
 use Rattle.parking_lot_world.specs.RowActs.{answered}
 use Rattle.parking_lot_world.specs.RowFits.{FitsTogether, IsPrepared}
 use Rattle.parking_lot_world.specs.Rows.{State, call_at, hold_at}
-use Rattle.parking_lot_answers.specs.AnswerLaws as laws
-use Rattle.parking_lot_answers.specs.AnswerLaws.{CallsLead, IsAnswered, IsOpen}
-use Rattle.parking_lot_answers.specs.Stages.{Leads, core_stage, quits, stage, stage_of}
-use Rattle.parking_lot_answers.proofs.Calls as calls
-use Rattle.parking_lot_answers.proofs.Calls.{answer_is, call_low, ended_goes, set_elsewhere, set_here, stepped_goes, written}
-use Rattle.parking_lot_answers.proofs.Ending.{core_done}
-use Rattle.parking_lot_answers.proofs.Heard.{Hears, begins_there, heard_leads, late_quits}
+use Rattle.parking_lot_call_laws.specs.AnswerLaws as laws
+use Rattle.parking_lot_call_laws.specs.AnswerLaws.{CallsLead, IsAnswered, IsOpen}
+use Rattle.parking_lot_call_laws.specs.Stages.{Leads, core_stage, quits, stage, stage_of}
+use Rattle.parking_lot_call_laws.proofs.Calls as calls
+use Rattle.parking_lot_call_laws.proofs.Calls.{answer_is, call_low, ended_goes, set_elsewhere, set_here, stepped_goes, written}
+use Rattle.parking_lot_call_laws.proofs.Ending.{core_done}
+use Rattle.parking_lot_call_laws.proofs.Heard.{Hears, begins_there, heard_leads, late_quits}
 
 -- A STEP
 

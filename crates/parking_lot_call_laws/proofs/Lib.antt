@@ -7,3 +7,4 @@ pub mod Sleeping
 pub mod Calls
 pub mod Leading
 pub mod Standing
+pub mod SameCores

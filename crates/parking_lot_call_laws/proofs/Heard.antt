@@ -16,10 +16,10 @@ use Rattle.parking_lot_world_calls.specs.declared.seat.Core.{Core}
 use Rattle.parking_lot_world_calls.specs.declared.seat.Core.TheVariants as core
 use Rattle.parking_lot_world_calls.specs.declared.seat.LatePhase.TheVariants as late
 use Rattle.parking_lot_world.specs.RowFits.{IsPrepared, rw_keeps}
-use Rattle.parking_lot_answers.specs.Stages.{Leads, core_stage, quits, stage_of}
-use Rattle.parking_lot_answers.proofs.Phases.{mutex_leads, rw_leads}
-use Rattle.parking_lot_answers.proofs.Quitting.{late_leads, late_out, late_rw_leads, late_rw_out}
-use Rattle.parking_lot_answers.proofs.Upgrading.{upgrade_leads}
+use Rattle.parking_lot_call_laws.specs.Stages.{Leads, core_stage, quits, stage_of}
+use Rattle.parking_lot_call_laws.proofs.Phases.{mutex_leads, rw_leads}
+use Rattle.parking_lot_call_laws.proofs.Quitting.{late_leads, late_out, late_rw_leads, late_rw_out}
+use Rattle.parking_lot_call_laws.proofs.Upgrading.{upgrade_leads}
 
 -- What its act gave; or its deadline has come, and it is back in the section of its list, has found that it was taken, or has taken itself out.
 pub data Hears (k m : Core) : Type 0 where

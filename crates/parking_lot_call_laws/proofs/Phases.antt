@@ -21,7 +21,7 @@ use Rattle.parking_lot_protocol.specs.declared.rw_phase.RwPhase.TheVariants as r
 use Rattle.parking_lot_protocol.specs.declared.rw_phase.Scanning.{Scanning}
 use Rattle.parking_lot_protocol.specs.declared.rw_phase.Seeking.{Seeking}
 use Rattle.parking_lot_rules.specs.Classes.{bit}
-use Rattle.parking_lot_answers.specs.Stages.{Stage, Asks, Tries, Frees, Leads, giving, last_stage, mode_for, mutex_stage, rest_stage, rw_stage}
+use Rattle.parking_lot_call_laws.specs.Stages.{Stage, Asks, Tries, Frees, Leads, giving, last_stage, mode_for, mutex_stage, rest_stage, rw_stage}
 use Rattle.parking_lot_world_calls.specs.declared.calls.OwnMode.TheVariants.{Exclusive}
 
 -- EITHER OF TWO

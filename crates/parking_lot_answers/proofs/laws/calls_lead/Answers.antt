@@ -1,5 +1,0 @@
-use Rattle.parking_lot_answers.proofs.Leading.{calls_lead}
-use Rattle.parking_lot_answers.proofs.laws.calls_lead.Goals as goal
-
-pub returns : goal.returns
-returns c = calls_lead
