@@ -43,29 +43,15 @@ use Rattle.parking_lot_worlds.proofs.Fitting.{answers_fit}
 use Rattle.parking_lot_worlds.proofs.Leading.{Led, asked_led, gone_led, late_led, led_on, same_led}
 use Rattle.parking_lot_worlds.proofs.OncesKept as of_onces
 use Rattle.parking_lot_worlds.proofs.Whole.{ask_lock_there, ask_variable_there, both_true, both_ways, waits_go}
-
--- LISTS
-
-written : {X : Type 0} (xs : List (Option X)) (t : ℕ) (o : Option X) → t < length xs → option_and_then (λ y. y) (slice_get (slice_set xs t o) t) ≡ o
-written [] t o low = absurd (omega (arith, low))
-written (x ∷ xs) zero o low = refl
-written (x ∷ xs) (suc t) o low = written xs t o (omega (arith, low))
-
-elsewhere : {X : Type 0} (xs : List (Option X)) (t u : ℕ) (o : Option X) → t ≢ u → option_and_then (λ y. y) (slice_get (slice_set xs u o) t) ≡ option_and_then (λ y. y) (slice_get xs t)
-elsewhere xs t u o ne = ap (option_and_then (λ y. y)) (get-set_other xs u t o (λ e. ne (sym e)))
-
--- the answer of another stays
-noted_elsewhere : (t u : ℕ) (o : Option LockAnswer) (answers : List (Option LockAnswer)) → t ≢ u → option_and_then (λ a. a) (slice_get (noted u o answers) t) ≡ option_and_then (λ a. a) (slice_get answers t)
-noted_elsewhere t u None answers ne = refl
-noted_elsewhere t u (Some a) answers ne = elsewhere answers t u (Some a) ne
-
-noted_count : (u : ℕ) (o : Option LockAnswer) (answers : List (Option LockAnswer)) → length (noted u o answers) ≡ length answers
-noted_count u None answers = refl
-noted_count u (Some a) answers = length-set answers u (Some a)
-
--- A CALL AT A LOCK, BEGUN BY THREAD t
+use Rattle.parking_lot_worlds.proofs.Following.{Goes, IsOver, SeatsStay, answer_gone, answered_fits, elsewhere, not_it, or_not, or_so, seats_freed, seats_gone, seats_late, seats_same, seats_set, written, allowed}
 
 module _ (law : CallsLead) (t i : ℕ) (c : RowCall) where
+  abbrev Over : Shown → Bool → Type 0
+  Over w late = IsOver t (may_answer c) w late
+
+  abbrev Stay : Shown → Shown → Type 0
+  Stay w x = SeatsStay t (may_answer c) w x
+
   -- it is open, and its deadline has come or hasn't
   record InLock (w : Shown) (late : Bool) : Type 0 where
     free : (seat_at w.waits t).at ≡ None
@@ -76,25 +62,9 @@ module _ (law : CallsLead) (t i : ℕ) (c : RowCall) where
     stands : MayStand others (stage_of c) (is_timed c && late) at
     unanswered : answer_at w t ≡ None
 
-  -- or it is answered, and its thread is in no call
-  record IsOver (w : Shown) (late : Bool) : Type 0 where
-    idle : is_busy w.waits t ≡ false
-    out : onces.call_at w.onces t ≡ None
-    answer : LockAnswer
-    answered : answer_at w t ≡ Some answer
-    fits : may_answer c late answer ≡ true
-
-  record Follows (w : Shown) (late : Bool) : Type 0 where
-    low : t < length w.answers
-    call : InLock w late ⊎ IsOver w late
-
   -- THE STEPS OF ANOTHER
 
-  record SeatsStay (w x : Shown) : Type 0 where
-    count : length x.waits.seats ≡ length w.waits.seats
-    seat : seat_at x.waits t ≡ seat_at w.waits t
-
-  carry : (w x : Shown) (late : Bool) → (m : InLock w late) → SeatsStay w x → Led law (number w.waits t m.second) (rows_of w) (rows_of x) → answer_at x t ≡ answer_at w t → InLock x late
+  carry : (w x : Shown) (late : Bool) → (m : InLock w late) → Stay w x → Led law (number w.waits t m.second) (rows_of w) (rows_of x) → answer_at x t ≡ answer_at w t → InLock x late
   carry w x late m seats led same =
       let on = led_on (call_at (rows_of w) k) (call_at (rows_of x) k) i m.others (is_timed c) m.at m.open_call led in
       record {
@@ -110,35 +80,6 @@ module _ (law : CallsLead) (t i : ℕ) (c : RowCall) where
       k : ℕ
       k = number w.waits t m.second
 
-  -- no call of its own has begun
-  no_more : (b d : Bool) → (d ≡ true → b ≡ true) → b ≡ false → d ≡ false
-  no_more b true from e = both_ways b (from refl) e
-  no_more b false from e = refl
-
-  keep : (w x : Shown) (late : Bool) → IsOver w late → (is_busy x.waits t ≡ true → is_busy w.waits t ≡ true) → onces.call_at x.onces t ≡ None → answer_at x t ≡ answer_at w t → IsOver x late
-  keep w x late m from out same = record { idle = no_more (is_busy w.waits t) (is_busy x.waits t) from m.idle; out = out; answer = m.answer; answered = same ∙ m.answered; fits = m.fits }
-
-  seats_same : (w x : Shown) → x.waits.seats ≡ w.waits.seats → SeatsStay w x
-  seats_same w x e = record { count = ap (λ (ss : List Seat). length ss) e; seat = ap (λ (ss : List Seat). unwrap_or (slice_get ss t) nowhere) e }
-
-  seats_set : (w x : Shown) (u : ℕ) (s : Seat) → t ≢ u → x.waits.seats ≡ slice_set w.waits.seats u s → SeatsStay w x
-  seats_set w x u s ne e = record {
-    count = ap (λ (ss : List Seat). length ss) e ∙ length-set w.waits.seats u s;
-    seat = ap (λ (ss : List Seat). unwrap_or (slice_get ss t) nowhere) e ∙ ap (λ (o : Option Seat). unwrap_or o nowhere) (get-set_other w.waits.seats u t s (λ e. ne (sym e)));
-  }
-
-  seats_freed : (w x : Shown) (u : ℕ) (reply : Option CondvarReply) → t ≢ u → x.waits.seats ≡ freed u reply w.waits.seats → SeatsStay w x
-  seats_freed w x u None ne e = seats_same w x e
-  seats_freed w x u (Some r) ne e = seats_set w x u nowhere ne e
-
-  seats_gone : (w x : Shown) (u : ℕ) (at : Option ℕ) (fair : Bool) (end : Option Ended) → t ≢ u → IsGoneAt at u fair end w.waits x.waits → SeatsStay w x
-  seats_gone w x u None fair end ne (a, z, ends) = seats_same w x z.seats
-  seats_gone w x u (Some v) fair end ne (reply, z, ends) = seats_freed w x u reply ne z.seats
-
-  seats_late : (w x : Shown) (u : ℕ) (at : Option ℕ) → IsLateAt at u w.waits x.waits → SeatsStay w x
-  seats_late w x u None (late, vars, seats) = seats_same w x seats
-  seats_late w x u (Some v) (hears, same, seats) = seats_same w x seats
-
   module _ (w x : Shown) (fit : IsFit w) (late : Bool) (u : ℕ) (ne : t ≢ u) (low : t < length w.answers) (there : u < length w.answers) where
     seat_low : t < length w.waits.seats
     seat_low = omega (arith, low, fit.whole.wait_threads)
@@ -147,52 +88,28 @@ module _ (law : CallsLead) (t i : ℕ) (c : RowCall) where
     seat_there = omega (arith, there, fit.whole.wait_threads)
 
     same_waits : x.waits ≡ w.waits → answer_at x t ≡ answer_at w t → InLock w late → InLock x late
-    same_waits e same m = carry w x late m (seats_same w x (ap (λ (j : Joint). j.seats) e))
+    same_waits e same m = carry w x late m (seats_same t (may_answer c) w x (ap (λ (j : Joint). j.seats) e))
         (same_led law (number w.waits t m.second) (rows_of w) (rows_of x) (ap (λ (j : Joint). call_at (state j.rows) (number w.waits t m.second)) e)) same
 
-    -- another's call at a once is its own
-    once_out : (b : Bool) → of_onces.Kept b w.onces x.onces → onces.call_at w.onces t ≡ None → onces.call_at x.onces t ≡ None
-    once_out b kept none = go (onces.call_at x.onces t) refl
-      where
-        go : (o : Option OpenCall) → onces.call_at x.onces t ≡ o → onces.call_at x.onces t ≡ None
-        go None e = e
-        go (Some d) e = (let was = kept.calls.from t d e in absurd (none-some was.call (sym none ∙ was.is)))
-
-    still_out : x.onces ≡ w.onces → onces.call_at w.onces t ≡ None → onces.call_at x.onces t ≡ None
-    still_out e none = ap (λ (o : Onces). onces.call_at o t) e ∙ none
-
-    same_busy : x.waits ≡ w.waits → is_busy x.waits t ≡ true → is_busy w.waits t ≡ true
-    same_busy e is = ap (λ (j : Joint). is_busy j t) (sym e) ∙ is
-
     -- it begins a call
-    asked_by : (l : ℕ) (call : Asked) → may_ask w u l call ≡ true → IsAsked u l call w x → answer_at x t ≡ answer_at w t → InLock w late ⊎ IsOver w late → InLock x late ⊎ IsOver x late
-    asked_by l (Asked.OfLock d) may (begun, same) answers (inl m) =
-        inl (carry w x late m (seats_same w x begun.seats) (asked_led law w.waits x.waits fit.tied fit.parts t u ne seat_low seat_there m.free m.second l d begun) answers)
-    asked_by l (Asked.OfLock d) may (begun, same) answers (inr m) =
-        inr (keep w x late m ((steps_leave.asks u l d w.waits x.waits fit.tied fit.parts (ask_lock_there w u l d may) begun).busy t ne) (still_out same m.out) answers)
-    asked_by l (Asked.OfVariable d) may (begun, same) answers (inl m) =
-        inl (carry w x late m (seats_set w x u _ ne begun.seats) (same_led law (number w.waits t m.second) (rows_of w) (rows_of x) (ap (λ r. call_at (state r) (number w.waits t m.second)) begun.rows)) answers)
-    asked_by l (Asked.OfVariable d) may (begun, same) answers (inr m) =
-        inr (keep w x late m ((steps_leave.calls u l d w.waits x.waits fit.tied fit.parts (ask_variable_there w u l d may) begun).busy t ne) (still_out same m.out) answers)
-    asked_by l (Asked.OfOnce d) may (begun, same) answers (inl m) = inl (same_waits same answers m)
-    asked_by l (Asked.OfOnce d) may (begun, same) answers (inr m) =
-        inr (keep w x late m (same_busy same) (ap (λ (o : Onces). onces.call_at o t) begun.became ∙ elsewhere w.onces.calls t u _ ne ∙ m.out) answers)
+    asked_by : (l : ℕ) (call : Asked) → IsAsked u l call w x → answer_at x t ≡ answer_at w t → InLock w late → InLock x late
+    asked_by l (Asked.OfLock d) (begun, same) answers m =
+        carry w x late m (seats_same t (may_answer c) w x begun.seats) (asked_led law w.waits x.waits fit.tied fit.parts t u ne seat_low seat_there m.free m.second l d begun) answers
+    asked_by l (Asked.OfVariable d) (begun, same) answers m =
+        carry w x late m (seats_set t (may_answer c) w x u _ ne begun.seats) (same_led law (number w.waits t m.second) (rows_of w) (rows_of x) (ap (λ r. call_at (state r) (number w.waits t m.second)) begun.rows)) answers
+    asked_by l (Asked.OfOnce d) (begun, same) answers m = same_waits same answers m
 
     -- makes a step
-    gone_by : (fair b : Bool) → is_in_once w u ≡ b → may_go w u ≡ true → IsGone b u fair w x → answer_at x t ≡ answer_at w t → InLock w late ⊎ IsOver w late → InLock x late ⊎ IsOver x late
-    gone_by fair false is may (end, gone, same, told) answers (inl m) =
-        inl (carry w x late m (seats_gone w x u (seat_at w.waits u).at fair end ne gone) (gone_led law w.waits x.waits fit.tied fit.parts t u ne seat_low seat_there m.free m.second (seat_at w.waits u).at fair end gone) answers)
-    gone_by fair false is may (end, gone, same, told) answers (inr m) =
-        inr (keep w x late m ((steps_leave.steps u fair end w.waits x.waits fit.tied fit.parts (waits_go w u is may) gone).busy t ne) (still_out same m.out) answers)
-    gone_by fair true is may (reply, made, same, told) answers (inl m) = inl (same_waits same answers m)
-    gone_by fair true is may (reply, made, same, told) answers (inr m) = inr (keep w x late m (same_busy same) (once_out _ (of_onces.stepped_kept w.onces x.onces u reply made) m.out) answers)
+    gone_by : (fair b : Bool) → IsGone b u fair w x → answer_at x t ≡ answer_at w t → InLock w late → InLock x late
+    gone_by fair false (end, gone, same, told) answers m =
+        carry w x late m (seats_gone t (may_answer c) w x u (seat_at w.waits u).at fair end ne gone) (gone_led law w.waits x.waits fit.tied fit.parts t u ne seat_low seat_there m.free m.second (seat_at w.waits u).at fair end gone) answers
+    gone_by fair true (reply, made, same, told) answers m = same_waits same answers m
 
     -- or its deadline comes
-    late_by : joint.may_expire w.waits u ≡ true → IsLate u w x → InLock w late ⊎ IsOver w late → InLock x late ⊎ IsOver x late
-    late_by may (came, same, answers) (inl m) =
-        inl (carry w x late m (seats_late w x u (seat_at w.waits u).at came) (late_led law w.waits x.waits fit.tied fit.parts t u ne seat_low seat_there m.free m.second (seat_at w.waits u).at came) (ap (λ xs. option_and_then (λ a. a) (slice_get xs t)) answers))
-    late_by may (came, same, answers) (inr m) =
-        inr (keep w x late m ((steps_leave.deadlines u w.waits x.waits fit.tied fit.parts may came).busy t ne) (still_out same m.out) (ap (λ xs. option_and_then (λ a. a) (slice_get xs t)) answers))
+    late_by : IsLate u w x → InLock w late → InLock x late
+    late_by (came, same, answers) m =
+        carry w x late m (seats_late t (may_answer c) w x u (seat_at w.waits u).at came) (late_led law w.waits x.waits fit.tied fit.parts t u ne seat_low seat_there m.free m.second (seat_at w.waits u).at came)
+        (ap (λ xs. option_and_then (λ a. a) (slice_get xs t)) answers)
 
   -- ITS OWN STEPS
 
@@ -233,7 +150,7 @@ module _ (law : CallsLead) (t i : ℕ) (c : RowCall) where
 
     -- it goes on
     goes_on : (m : InLock w late) (fair : Bool) → GoesAtLock t fair None w.waits x.waits → answer_at x t ≡ answer_at w t → InLock x late
-    goes_on m fair z answers = carry w x late m (seats_same w x z.seats) (law.steps (rows_of w) (rows_of x) (busy_number w.waits t) fair fit.parts.rows z.step (number w.waits t m.second)) answers
+    goes_on m fair z answers = carry w x late m (seats_same t (may_answer c) w x z.seats) (law.steps (rows_of w) (rows_of x) (busy_number w.waits t) fair fit.parts.rows z.step (number w.waits t m.second)) answers
 
     -- or is answered
     module _ (m : InLock w late) (fair : Bool) (a : CoreAnswer) (z : GoesAtLock t fair (Some a) w.waits x.waits) where
@@ -272,8 +189,8 @@ module _ (law : CallsLead) (t i : ℕ) (c : RowCall) where
         | inr e ↦ ap (λ d. call_at (rows_of x) (number w.waits t d)) (sym e) ∙ that_none
       ]
 
-      seats : SeatsStay w x
-      seats = seats_same w x z.seats
+      seats : Stay w x
+      seats = seats_same t (may_answer c) w x z.seats
 
       idle_now : is_busy x.waits t ≡ false
       idle_now =
@@ -287,7 +204,7 @@ module _ (law : CallsLead) (t i : ℕ) (c : RowCall) where
           is_free b None (Some y) q e f g = absurd (none-some y (sym f))
           is_free b None None (Some y) e f g = absurd (none-some y (sym g))
 
-      is_over : x.onces ≡ w.onces → answer_at x t ≡ Some (said (lock_call w.waits t) a) → IsOver x late
+      is_over : x.onces ≡ w.onces → answer_at x t ≡ Some (said (lock_call w.waits t) a) → Over x late
       is_over same answers = record {
         idle = idle_now;
         out = ap (λ (o : Onces). onces.call_at o t) same ∙ no_once m;
@@ -298,7 +215,7 @@ module _ (law : CallsLead) (t i : ℕ) (c : RowCall) where
 
     -- its step
     gone_itself : (fair : Bool) (m : InLock w late) (at : Option ℕ) → (seat_at w.waits t).at ≡ at → (end : Option Ended) → IsGoneAt at t fair end w.waits x.waits → x.onces ≡ w.onces
-        → x.answers ≡ noted t (option_map (of_ended (lock_call w.waits t)) end) w.answers → InLock x late ⊎ IsOver x late
+        → x.answers ≡ noted t (option_map (of_ended (lock_call w.waits t)) end) w.answers → InLock x late ⊎ Over x late
     gone_itself fair m (Some v) seat end gone same answers = absurd (none-some v (sym m.free ∙ seat))
     gone_itself fair m None seat end (None, z, ends) same answers =
         inl (goes_on m fair z (ap (λ xs. option_and_then (λ a. a) (slice_get xs t)) (answers ∙ ap (λ e. noted t (option_map (of_ended (lock_call w.waits t)) e) w.answers) ends)))
@@ -308,11 +225,9 @@ module _ (law : CallsLead) (t i : ℕ) (c : RowCall) where
         ∙ written w.answers t (Some (said (lock_call w.waits t) a)) low
         ))
 
-    goes_itself : (fair b : Bool) → is_in_once w t ≡ b → may_go w t ≡ true → IsGone b t fair w x → InLock w late ⊎ IsOver w late → InLock x late ⊎ IsOver x late
-    goes_itself fair true is may gone (inl m) = both_ways (is_in_once w t) is (ap (λ (o : Option OpenCall). is_some o) (no_once m))
-    goes_itself fair false is may (end, gone, same, answers) (inl m) = gone_itself fair m (seat_at w.waits t).at refl end gone same answers
-    goes_itself fair true is may gone (inr m) = both_ways (is_in_once w t) is (ap (λ (o : Option OpenCall). is_some o) m.out)
-    goes_itself fair false is may gone (inr m) = both_ways (is_busy w.waits t) (goes_busy w.waits t (waits_go w t is may)) m.idle
+    goes_itself : (fair b : Bool) → is_in_once w t ≡ b → IsGone b t fair w x → InLock w late → InLock x late ⊎ Over x late
+    goes_itself fair true is gone m = both_ways (is_in_once w t) is (ap (λ (o : Option OpenCall). is_some o) (no_once m))
+    goes_itself fair false is (end, gone, same, answers) m = gone_itself fair m (seat_at w.waits t).at refl end gone same answers
 
     -- its deadline
     timed_now : (o : Option Call) (d : Call) → o ≡ Some d → rows.may_expire_in o ≡ true → d.timed ≡ true
@@ -343,91 +258,33 @@ module _ (law : CallsLead) (t i : ℕ) (c : RowCall) where
           unanswered = answers ∙ m.unanswered;
         }
 
-    expires_itself : joint.may_expire w.waits t ≡ true → IsLate t w x → InLock w late ⊎ IsOver w late → InLock x true ⊎ IsOver x true
-    expires_itself may (came, same, answers) (inl m) =
-        inl (late_itself m (seat_at w.waits t).at refl (both_true (nat_lt t (length w.waits.seats)) _ may).1 came (ap (λ xs. option_and_then (λ a. a) (slice_get xs t)) answers))
-    expires_itself may came (inr m) = both_ways (is_busy w.waits t) (expires_busy w.waits t may) m.idle
+    expires_itself : joint.may_expire w.waits t ≡ true → IsLate t w x → InLock w late → InLock x true
+    expires_itself may (came, same, answers) m =
+        late_itself m (seat_at w.waits t).at refl (both_true (nat_lt t (length w.waits.seats)) _ may).1 came (ap (λ xs. option_and_then (λ a. a) (slice_get xs t)) answers)
 
   -- ANY STEP BUT A BEGINNING OF ITS OWN
 
-  allowed : (w : Shown) (s : WorldStep) → refusal w s ≡ None → (step_thread s < length w.answers) × (may_make w s ≡ true)
-  allowed w s ok = go (nat_lt (step_thread s) (length w.answers)) refl (may_make w s) refl
-    where
-      refusal_by : Bool → Bool → Option WorldRefusal
-      refusal_by a b = cond a (cond b None (Some WorldRefusal.CannotMove)) (Some WorldRefusal.NoSuchThread)
+  goes_by : (w x : Shown) (late : Bool) (u : ℕ) (fair : Bool) → IsFit w → t < length w.answers → u < length w.answers → IsGone (is_in_once w u) u fair w x → InLock w late → (b : Bool) → (u == t) ≡ b → InLock x late ⊎ Over x late
+  goes_by w x late u fair fit low there gone m true e = goes_itself w x fit late low fair (is_in_once w t) refl (subst (λ n. IsGone (is_in_once w n) n fair w x) (eqb-true u t e) gone) m
+  goes_by w x late u fair fit low there gone m false e =
+      let ne = not_it t (may_answer c) u e in
+      inl (gone_by w x fit late u ne low there fair (is_in_once w u) gone (answer_gone t (may_answer c) w x u fair ne gone) m)
 
-      go : (a : Bool) → nat_lt (step_thread s) (length w.answers) ≡ a → (b : Bool) → may_make w s ≡ b → (step_thread s < length w.answers) × (may_make w s ≡ true)
-      go true e true f = (ltb-true (step_thread s) (length w.answers) e, f)
-      go true e false f = absurd (none-some WorldRefusal.CannotMove (sym ok ∙ ap (λ a. refusal_by a (may_make w s)) e ∙ ap (refusal_by true) f))
-      go false e b f = absurd (none-some WorldRefusal.NoSuchThread (sym ok ∙ ap (λ a. refusal_by a (may_make w s)) e))
-
-  not_it : (u : ℕ) → (u == t) ≡ false → t ≢ u
-  not_it u e same = both_ways (u == t) (eq-eqb u t (sym same)) e
-
-  or_not : (late : Bool) → (late || false) ≡ late
-  or_not true = refl
-  or_not false = refl
-
-  or_so : (late : Bool) → (late || true) ≡ true
-  or_so true = refl
-  or_so false = refl
-
-  answers_count : (w x : Shown) (s : WorldStep) → IsMade s w x → length x.answers ≡ length w.answers
-  answers_count w x (step.Begin u l call) (begun, answers, kinds) = ap (λ xs. length xs) answers ∙ length-set w.answers u None
-  answers_count w x (step.Go u fair) (gone, kinds) = by (is_in_once w u) gone
-    where
-      by : (b : Bool) → IsGone b u fair w x → length x.answers ≡ length w.answers
-      by false (end, z, same, answers) = ap (λ xs. length xs) answers ∙ noted_count u (option_map (of_ended (lock_call w.waits u)) end) w.answers
-      by true (reply, z, same, answers) = ap (λ xs. length xs) answers ∙ noted_count u (option_map of_reply reply) w.answers
-  answers_count w x (step.Deadline u) ((late, same, answers), kinds) = ap (λ xs. length xs) answers
-
-  gone_answers : (w x : Shown) (u : ℕ) (fair b : Bool) → t ≢ u → IsGone b u fair w x → answer_at x t ≡ answer_at w t
-  gone_answers w x u fair false ne (end, z, same, answers) = ap (λ xs. option_and_then (λ a. a) (slice_get xs t)) answers ∙ noted_elsewhere t u (option_map (of_ended (lock_call w.waits u)) end) w.answers ne
-  gone_answers w x u fair true ne (reply, z, same, answers) = ap (λ xs. option_and_then (λ a. a) (slice_get xs t)) answers ∙ noted_elsewhere t u (option_map of_reply reply) w.answers ne
+  lates_by : (w x : Shown) (late : Bool) (u : ℕ) → IsFit w → t < length w.answers → u < length w.answers → joint.may_expire w.waits u ≡ true → IsLate u w x → InLock w late → (b : Bool) → (u == t) ≡ b → InLock x (late || b)
+  lates_by w x late u fit low there may came m true e =
+      let same = eqb-true u t e in
+      subst (InLock x) (sym (or_so t (may_answer c) late)) (expires_itself w x fit late low (subst (λ n. joint.may_expire w.waits n ≡ true) same may) (subst (λ n. IsLate n w x) same came) m)
+  lates_by w x late u fit low there may came m false e = subst (InLock x) (sym (or_not t (may_answer c) late)) (late_by w x fit late u (not_it t (may_answer c) u e) low there came m)
 
   abbrev On : Shown → Bool → Type 0
-  On x late = InLock x late ⊎ IsOver x late
+  On x late = InLock x late ⊎ Over x late
 
-  goes_by : (w x : Shown) (late : Bool) (u : ℕ) (fair : Bool) → IsFit w → t < length w.answers → u < length w.answers → may_go w u ≡ true → IsGone (is_in_once w u) u fair w x → On w late → (b : Bool) → (u == t) ≡ b → On x late
-  goes_by w x late u fair fit low there may gone on true e =
-      let same = eqb-true u t e in
-      goes_itself w x fit late low fair (is_in_once w t) refl (subst (λ n. may_go w n ≡ true) same may) (subst (λ n. IsGone (is_in_once w n) n fair w x) same gone) on
-  goes_by w x late u fair fit low there may gone on false e =
-      let ne = not_it u e in
-      gone_by w x fit late u ne low there fair (is_in_once w u) refl may gone (gone_answers w x u fair (is_in_once w u) ne gone) on
-
-  lates_by : (w x : Shown) (late : Bool) (u : ℕ) → IsFit w → t < length w.answers → u < length w.answers → joint.may_expire w.waits u ≡ true → IsLate u w x → On w late → (b : Bool) → (u == t) ≡ b → On x (late || b)
-  lates_by w x late u fit low there may came on true e =
-      let same = eqb-true u t e in
-      subst (On x) (sym (or_so late)) (expires_itself w x fit late low (subst (λ n. joint.may_expire w.waits n ≡ true) same may) (subst (λ n. IsLate n w x) same came) on)
-  lates_by w x late u fit low there may came on false e = subst (On x) (sym (or_not late)) (late_by w x fit late u (not_it u e) low there may came on)
-
-  one_step : (w x : Shown) (late : Bool) (s : WorldStep) → IsFit w → refusal w s ≡ None → IsMade s w x → begins_for t s ≡ false → Follows w late → Follows x (late || is_late_for t s)
-  one_step w x late s fit ok made begins f = record { low = omega (arith, f.low, answers_count w x s made); call = by s (allowed w s ok).0 (allowed w s ok).1 made begins }
-    where
-      by : (s : WorldStep) → step_thread s < length w.answers → may_make w s ≡ true → IsMade s w x → begins_for t s ≡ false → On x (late || is_late_for t s)
-      by (step.Begin u l call) there may (begun, answers, kinds) begins =
-          let ne = not_it u begins in
-          subst (On x) (sym (or_not late)) (
-          asked_by w x fit late u ne f.low there l (asked call) may begun
-          (ap (λ xs. option_and_then (λ a. a) (slice_get xs t)) answers ∙ elsewhere w.answers t u None ne) f.call
-          )
-      by (step.Go u fair) there may (gone, kinds) begins = subst (On x) (sym (or_not late)) (goes_by w x late u fair fit f.low there may gone f.call (u == t) refl)
-      by (step.Deadline u) there may (came, kinds) begins = lates_by w x late u fit f.low there may came f.call (u == t) refl
-
-  or_then : (a b d : Bool) → ((a || b) || d) ≡ (a || (b || d))
-  or_then true b d = refl
-  or_then false b d = refl
-
-  parts : (a b : Bool) → (a || b) ≡ false → (a ≡ false) × (b ≡ false)
-  parts false b e = (refl, e)
-  parts true b e = absurd cc
-
-  run : (w x : Shown) (late : Bool) (steps : List WorldStep) → IsFit w → Follows w late → Ran w steps x → list_any (begins_for t) steps ≡ false → Follows x (late || list_any (is_late_for t) steps)
-  run w x late [] fit f e begins = subst (λ (y : Shown). Follows y (late || false)) (sym e) (subst (Follows w) (sym (or_not late)) f)
-  run w x late (s ∷ steps) fit f (mid, ok, made, fits, rest) begins =
-      let both = parts (begins_for t s) (list_any (begins_for t) steps) begins in
-      subst (Follows x) (or_then late (is_late_for t s) (list_any (is_late_for t) steps)) (run mid x (late || is_late_for t s) steps fits (one_step w mid late s fit ok made both.0 f) rest both.1)
+  goes : Goes t (may_answer c) InLock
+  goes w x late (step.Begin u l call) fit fits low there may (begun, answers, kinds) begins m =
+      let ne = not_it t (may_answer c) u begins in
+      inl (subst (InLock x) (sym (or_not t (may_answer c) late)) (asked_by w x fit late u ne low there l (asked call) begun (ap (λ xs. option_and_then (λ a. a) (slice_get xs t)) answers ∙ elsewhere w.answers t u None ne) m))
+  goes w x late (step.Go u fair) fit fits low there may (gone, kinds) begins m = subst (On x) (sym (or_not t (may_answer c) late)) (goes_by w x late u fair fit low there gone m (u == t) refl)
+  goes w x late (step.Deadline u) fit fits low there may (came, kinds) begins m = inl (lates_by w x late u fit low there may came m (u == t) refl)
 
   -- ITS BEGINNING
 
@@ -435,7 +292,7 @@ module _ (law : CallsLead) (t i : ℕ) (c : RowCall) where
   nobody None e = refl
   nobody (Some y) e = absurd cc
 
-  first : (w x : Shown) → IsFit w → t < length w.answers → may_ask w t i (Asked.OfLock c) ≡ true → IsAsked t i (Asked.OfLock c) w x → x.answers ≡ slice_set w.answers t None → Follows x false
+  first : (w x : Shown) → IsFit w → t < length w.answers → may_ask w t i (Asked.OfLock c) ≡ true → IsAsked t i (Asked.OfLock c) w x → x.answers ≡ slice_set w.answers t None → InLock x false
   first w x fit low may (begun, same) answers =
       let asks = both_true (nat_lt t (length w.waits.seats)) _ (ask_lock_there w t i c may) in
       let free = both_true (joint.is_free w.waits t) _ asks.1 in
@@ -443,28 +300,22 @@ module _ (law : CallsLead) (t i : ℕ) (c : RowCall) where
       let beside = holds_beside c (hold_at (rows_of w) (number w.waits t (has_by_second w.waits t i)) i) in
       let begins = law.begins (rows_of w) (rows_of x) (number w.waits t (has_by_second w.waits t i)) i c (both_true _ _ free.1).1 begun.begins in
       record {
-        low = (let many = ap (λ xs. length xs) answers ∙ length-set w.answers t None in omega (arith, low, many));
-        call = inl (record {
-          free = ap (λ (ss : List Seat). (unwrap_or (slice_get ss t) nowhere).at) begun.seats ∙ seat;
-          second = has_by_second w.waits t i;
-          others = beside;
-          at = stage_of c;
-          open_call = subst (λ n. IsOpen (call_at (rows_of x) n) i beside (is_timed c) (stage_of c)) (sym (ap (λ (ss : List Seat). cond (has_by_second w.waits t i) (length ss + t) t) begun.seats)) begins;
-          stands = inl refl;
-          unanswered = ap (λ xs. option_and_then (λ a. a) (slice_get xs t)) answers ∙ written w.answers t None low;
-        });
+        free = ap (λ (ss : List Seat). (unwrap_or (slice_get ss t) nowhere).at) begun.seats ∙ seat;
+        second = has_by_second w.waits t i;
+        others = beside;
+        at = stage_of c;
+        open_call = subst (λ n. IsOpen (call_at (rows_of x) n) i beside (is_timed c) (stage_of c)) (sym (ap (λ (ss : List Seat). cond (has_by_second w.waits t i) (length ss + t) t) begun.seats)) begins;
+        stands = inl refl;
+        unanswered = ap (λ xs. option_and_then (λ a. a) (slice_get xs t)) answers ∙ written w.answers t None low;
       }
 
   pub begun_fits : (w x : Shown) (asks : LockCall) (steps : List WorldStep) (a : LockAnswer) → IsFit w → asked asks ≡ Asked.OfLock c → Ran w (step.Begin t i asks ∷ steps) x
       → list_any (begins_for t) steps ≡ false → answer_at x t ≡ Some a → may_answer c (list_any (is_late_for t) steps) a ≡ true
   begun_fits w x asks steps a fit is (mid, ok, (begun, answers, kinds), fits, rest) begins said =
-      let may = allowed w (step.Begin t i asks) ok in
-      let f = first w mid fit may.0 (subst (λ q. may_ask w t i q ≡ true) is may.1) (subst (λ q. IsAsked t i q w mid) is begun) answers in
-      ends (run mid x false steps fits f rest begins).call
-    where
-      ends : On x (list_any (is_late_for t) steps) → may_answer c (list_any (is_late_for t) steps) a ≡ true
-      ends (inl m) = absurd (none-some a (sym m.unanswered ∙ said))
-      ends (inr m) = subst (λ b. may_answer c (list_any (is_late_for t) steps) b ≡ true) (same_Some m.answer a (sym m.answered ∙ said)) m.fits
+      let may = allowed t (may_answer c) w (step.Begin t i asks) ok in
+      let m = first w mid fit may.0 (subst (λ q. may_ask w t i q ≡ true) is may.1) (subst (λ q. IsAsked t i q w mid) is begun) answers in
+      let many = ap (λ xs. length xs) answers ∙ length-set w.answers t None in
+      answered_fits t (may_answer c) InLock goes (λ v late n. n.unanswered) mid x steps a fits (omega (arith, may.0, many)) m rest begins said
 
 pub answers_fit_their_calls : CallsLead → AnswersFit
 answers_fit_their_calls law w x t i asks c steps a fit is ran begins said = begun_fits law t i c w x asks steps a fit is ran begins said

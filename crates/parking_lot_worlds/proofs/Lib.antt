@@ -11,4 +11,5 @@ pub mod Listing
 pub mod Busy
 pub mod Leading
 pub mod Fitting
+pub mod Following
 pub mod Answering
