@@ -13,3 +13,4 @@ pub mod Leading
 pub mod Fitting
 pub mod Following
 pub mod Answering
+pub mod Waiting
