@@ -35,7 +35,7 @@ use Rattle.parking_lot_worlds.specs.declared.calls.LockCall.{LockCall}
 use Rattle.parking_lot_worlds.specs.declared.fault.WorldRefusal.{WorldRefusal}
 use Rattle.parking_lot_worlds.specs.declared.step.WorldStep.{WorldStep}
 use Rattle.parking_lot_worlds.specs.declared.step.WorldStep.TheVariants as step
-use Rattle.parking_lot_worlds.specs.WorldAnswers.{AnswersFit, answer_at, begins_for, is_late_for, may_answer}
+use Rattle.parking_lot_worlds.specs.WorldAnswers.{Fits, answer_at, begins_for, is_late_for, may_answer}
 use Rattle.parking_lot_worlds.specs.WorldCalls.{asked, of_core, of_ended, of_reply, of_timed, said, step_thread}
 use Rattle.parking_lot_worlds.specs.Worlds.{IsAsked, IsFit, IsGone, IsLate, IsMade, Ran, Shown, is_in_once, may_ask, may_go, may_make, noted, refusal, rows_of}
 use Rattle.parking_lot_worlds.proofs.Busy.{called_busy, expires_busy, goes_busy}
@@ -309,13 +309,9 @@ module _ (law : CallsLead) (t i : ℕ) (c : RowCall) where
         unanswered = ap (λ xs. option_and_then (λ a. a) (slice_get xs t)) answers ∙ written w.answers t None low;
       }
 
-  pub begun_fits : (w x : Shown) (asks : LockCall) (steps : List WorldStep) (a : LockAnswer) → IsFit w → asked asks ≡ Asked.OfLock c → Ran w (step.Begin t i asks ∷ steps) x
-      → list_any (begins_for t) steps ≡ false → answer_at x t ≡ Some a → may_answer c (list_any (is_late_for t) steps) a ≡ true
-  begun_fits w x asks steps a fit is (mid, ok, (begun, answers, kinds), fits, rest) begins said =
+  pub begun_fits : (asks : LockCall) → asked asks ≡ Asked.OfLock c → Fits (may_answer c) t i asks
+  begun_fits asks is w x steps a fit (mid, ok, (begun, answers, kinds), fits, rest) begins said =
       let may = allowed t (may_answer c) w (step.Begin t i asks) ok in
       let m = first w mid fit may.0 (subst (λ q. may_ask w t i q ≡ true) is may.1) (subst (λ q. IsAsked t i q w mid) is begun) answers in
       let many = ap (λ xs. length xs) answers ∙ length-set w.answers t None in
       answered_fits t (may_answer c) InLock goes (λ v late n. n.unanswered) mid x steps a fits (omega (arith, may.0, many)) m rest begins said
-
-pub answers_fit_their_calls : CallsLead → AnswersFit
-answers_fit_their_calls law w x t i asks c steps a fit is ran begins said = begun_fits law t i c w x asks steps a fit is ran begins said

@@ -22,7 +22,7 @@ last_not true b e = e
 last_not false b e = refl
 
 -- one that has a seat, and one of whose numbers is in a call
-seated_busy : (j : Joint) (t v : ℕ) → nat_lt t (length j.seats) ≡ true → (seat_at j t).at ≡ Some v → is_busy j t ≡ true
+pub seated_busy : (j : Joint) (t v : ℕ) → nat_lt t (length j.seats) ≡ true → (seat_at j t).at ≡ Some v → is_busy j t ≡ true
 seated_busy j t v low seat = all_three _ _ low (first_not _ _ (ap (λ (o : Option ℕ). is_none o) seat))
 
 pub called_busy : (j : Joint) (t : ℕ) (b : Bool) (c : Call) → nat_lt t (length j.seats) ≡ true → call_at (state j.rows) (number j t b) ≡ Some c → is_busy j t ≡ true
@@ -72,3 +72,14 @@ expires_busy j t may = go (seat_at j t).at refl
     go : (o : Option ℕ) → (seat_at j t).at ≡ o → is_busy j t ≡ true
     go (Some v) seat = seated_busy j t v low seat
     go None seat = late_busy j t low (ap (λ (o : Option ℕ). may_expire_at o j t) (sym seat) ∙ (both_true _ _ may).1)
+
+-- and one that has no seat, and none of whose numbers is in a call, is in none
+pub free_idle : (j : Joint) (t : ℕ) → (seat_at j t).at ≡ None → call_at (state j.rows) (number j t false) ≡ None → call_at (state j.rows) (number j t true) ≡ None → is_busy j t ≡ false
+free_idle j t seat first second = by (nat_lt t (length j.seats)) (seat_at j t).at (call_at (state j.rows) t) (call_at (state j.rows) (number j t true)) seat first second
+  where
+    by : (b : Bool) (o : Option ℕ) (p q : Option Call) → o ≡ None → p ≡ None → q ≡ None → (b && not (is_none o && (is_none p && is_none q))) ≡ false
+    by true None None None e f g = refl
+    by false None None None e f g = refl
+    by b (Some y) p q e f g = absurd cc
+    by b None (Some y) q e f g = absurd cc
+    by b None None (Some y) e f g = absurd cc

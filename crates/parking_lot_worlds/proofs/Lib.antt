@@ -14,3 +14,5 @@ pub mod Fitting
 pub mod Following
 pub mod Answering
 pub mod Waiting
+pub mod AnsweringWaits
+pub mod AllAnswers

@@ -1,10 +1,12 @@
--- What a call at a lock of a world is answered, whatever the schedule.
+-- What calls at locks and condition variables of a world are answered, whatever the schedule.
 use Rattle.std.specs.Prelude.{◌≡◌, ℕ, ◌&&◌, ◌||◌, ◌==◌, Bool, true, false, List, ◌∷◌, Option, Some, slice_get}
 use Rattle.std.specs.List.{list_any}
 use Rattle.std.specs.Option.{option_and_then}
+use Rattle.parking_lot_condvar_world.specs.declared.calls.CondvarCall.{CondvarCall}
+use Rattle.parking_lot_condvar_world.specs.declared.calls.CondvarCall.TheVariants as variable
 use Rattle.parking_lot_world_calls.specs.declared.calls.LockCall.{LockCall as RowCall}
 use Rattle.parking_lot_world_calls.specs.declared.calls.LockCall.TheVariants as call
-use Rattle.parking_lot_worlds.specs.declared.calls.Asked.TheVariants.{OfLock}
+use Rattle.parking_lot_worlds.specs.declared.calls.Asked.TheVariants.{OfLock, OfVariable}
 use Rattle.parking_lot_worlds.specs.declared.calls.LockAnswer.{LockAnswer}
 use Rattle.parking_lot_worlds.specs.declared.calls.LockAnswer.TheVariants as answer
 use Rattle.parking_lot_worlds.specs.declared.calls.LockCall.{LockCall}
@@ -42,7 +44,19 @@ abbrev pub is_timed_out : LockAnswer → Bool
 is_timed_out answer.TimedOut = true
 is_timed_out a = false
 
--- What a call may be answered, where its deadline has come or hasn't.
+abbrev pub is_wrong_mutex : LockAnswer → Bool
+is_wrong_mutex answer.WrongMutex = true
+is_wrong_mutex a = false
+
+abbrev pub is_flag : LockAnswer → Bool
+is_flag (answer.Flag some) = true
+is_flag a = false
+
+abbrev pub is_count : LockAnswer → Bool
+is_count (answer.Count count) = true
+is_count a = false
+
+-- What a call at a lock may be answered, where its deadline has come or hasn't.
 abbrev pub may_answer : RowCall → Bool → LockAnswer → Bool
 may_answer call.Lock late a = is_owned a
 may_answer call.TryLock late a = is_owned a || is_refused a
@@ -67,9 +81,21 @@ may_answer call.WriteUntil late a = is_owned a || (late && is_timed_out a)
 may_answer call.UpgradableUntil late a = is_owned a || (late && is_timed_out a)
 may_answer call.UpgradeUntil late a = is_owned a || (late && is_timed_out a)
 
+-- And one at a condition variable: a wait owns its mutex again, however it ends, but for one that is refused since others wait with another mutex.
+abbrev pub may_tell : CondvarCall → Bool → LockAnswer → Bool
+may_tell (variable.Wait m) late a = is_owned a || is_wrong_mutex a
+may_tell (variable.WaitUntil m) late a = is_owned a || (is_wrong_mutex a || (late && is_timed_out a))
+may_tell variable.NotifyOne late a = is_flag a
+may_tell variable.NotifyAll late a = is_count a
+
 -- Behind every run that begins with a call of thread t, and begins no other of it: what the thread is answered fits the call, and it timed out only where
 -- its deadline is among the steps.
-abbrev pub AnswersFit : Type 0
-AnswersFit =
-    (w x : Shown) (t i : ℕ) (asks : LockCall) (c : RowCall) (steps : List WorldStep) (a : LockAnswer) → IsFit w → asked asks ≡ OfLock c → Ran w (step.Begin t i asks ∷ steps) x
-    → list_any (begins_for t) steps ≡ false → answer_at x t ≡ Some a → may_answer c (list_any (is_late_for t) steps) a ≡ true
+abbrev pub Fits : (Bool → LockAnswer → Bool) → ℕ → ℕ → LockCall → Type 0
+Fits may t i asks =
+    (w x : Shown) (steps : List WorldStep) (a : LockAnswer) → IsFit w → Ran w (step.Begin t i asks ∷ steps) x → list_any (begins_for t) steps ≡ false → answer_at x t ≡ Some a
+    → may (list_any (is_late_for t) steps) a ≡ true
+
+-- So is each call at a lock or at a condition variable answered.
+pub record AnswersFit : Type 0 where
+  pub locks : (t i : ℕ) (asks : LockCall) (c : RowCall) → asked asks ≡ OfLock c → Fits (may_answer c) t i asks
+  pub variables : (t v : ℕ) (asks : LockCall) (c : CondvarCall) → asked asks ≡ OfVariable c → Fits (may_tell c) t v asks

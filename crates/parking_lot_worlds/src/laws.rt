@@ -23,10 +23,12 @@ pub fn each_step_is_paid_for()
     of_waits::steps_are_paid_for();
 }
 
-/// Whatever the schedule, a call at a lock is answered only what it may be: one that asks for the lock, or turns its hold into another, `Owned`; a try that or
-/// `Refused`; one with a deadline `Owned`, or `TimedOut` where its deadline has come; and one that gives a hold up, `Released`.
+/// Whatever the schedule, a call is answered only what it may be. One that asks for a lock, or turns its hold into another, is answered `Owned`; a try that or
+/// `Refused`; one with a deadline `Owned`, or `TimedOut` where its deadline has come since it began; one that gives a hold up `Released`; a wait `Owned`, `WrongMutex`,
+/// or `TimedOut` where its deadline has come; a notification `Flag` or `Count`.
 pub fn answers_fit_their_calls()
     ensures { AnswersFit }
 {
     calls_lead();
+    of_waits::replies_fit_their_calls();
 }
