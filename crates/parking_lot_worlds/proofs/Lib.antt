@@ -15,4 +15,5 @@ pub mod Following
 pub mod Answering
 pub mod Waiting
 pub mod AnsweringWaits
+pub mod OnceAsked
 pub mod AllAnswers
