@@ -1,27 +1,23 @@
 -- What a call at a lock is answered, whatever the schedule.
-use Rattle.std.proofs.Common.{◌≡◌, ◌≢◌, ◌⊎◌, inl, inr, ℕ, zero, suc, ◌+◌, ◌<◌, ◌==◌, Bool, true, false, not, cond, ◌&&◌, ◌||◌, nat_lt, is_some, is_none, List, [], ◌∷◌, length, Option, Some, None, slice_get, slice_set, refl, sym, ap, ◌∙◌, subst, arith}
-use Rattle.std.specs.List.{list_any}
+use Rattle.std.proofs.Common.{◌≡◌, ◌≢◌, ◌⊎◌, inl, inr, ℕ, ◌+◌, ◌<◌, ◌==◌, Bool, true, false, not, cond, ◌&&◌, ◌||◌, nat_lt, is_some, is_none, List, length, Option, Some, None, slice_get, slice_set, refl, sym, ap, ◌∙◌, subst, arith}
 use Rattle.std.specs.Option.{option_and_then, option_map, unwrap_or}
-use Rattle.std.proofs.lemmas.Bool.{eq-eqb, eqb-true, lt-ltb, ltb-true}
+use Rattle.std.proofs.lemmas.Bool.{eqb-true, lt-ltb}
 use Rattle.std.proofs.lemmas.List.{length-set}
 use Rattle.std.proofs.lemmas.Option.{none-some, same_Some}
 use Rattle.parking_lot_call_laws.specs.AnswerLaws.{CallsLead, IsAnswered, IsOpen}
 use Rattle.parking_lot_call_laws.specs.Answers.{MayStand, may_end}
 use Rattle.parking_lot_call_laws.specs.Stages.{Stage, quits, stage, stage_of}
 use Rattle.parking_lot_call_laws.proofs.Standing.{begins_so, ends_so, stands_late, stands_on}
-use Rattle.parking_lot_condvar_world.specs.declared.calls.CondvarReply.{CondvarReply}
 use Rattle.parking_lot_once_world.specs.Onces.{Onces}
 use Rattle.parking_lot_once_world.specs.Onces as onces
 use Rattle.parking_lot_once_world.specs.declared.open_call.OpenCall.{OpenCall}
 use Rattle.parking_lot_protocol.specs.declared.act.CoreAnswer.{CoreAnswer}
-use Rattle.parking_lot_rules.proofs.Indexed.{get-set_other}
 use Rattle.parking_lot_waits_world.specs.declared.ended.Ended.{Ended}
 use Rattle.parking_lot_waits_world.specs.declared.seat.Seat.{Seat}
 use Rattle.parking_lot_waits_world.specs.Joint.{Joint, busy_number, has_by_second, nowhere, number, seat_at}
 use Rattle.parking_lot_waits_world.specs.JointMoves as joint
 use Rattle.parking_lot_waits_world.specs.JointSides.{is_busy, lock_call}
-use Rattle.parking_lot_waits_world.specs.JointSteps.{GoesAtLock, IsGoneAt, IsLateAt, freed}
-use Rattle.parking_lot_waits_world.proofs.LeavingTurns.{steps_leave}
+use Rattle.parking_lot_waits_world.specs.JointSteps.{GoesAtLock, IsGoneAt, IsLateAt}
 use Rattle.parking_lot_waits_world.proofs.LocksKept.{busy}
 use Rattle.parking_lot_world_calls.specs.Beginnings.{holds_beside}
 use Rattle.parking_lot_world_calls.specs.Calls.{is_timed}
@@ -30,20 +26,16 @@ use Rattle.parking_lot_world_calls.specs.declared.open_call.Call.{Call}
 use Rattle.parking_lot_world.specs.Machines as rows
 use Rattle.parking_lot_world.specs.Rows.{call_at, hold_at, state}
 use Rattle.parking_lot_worlds.specs.declared.calls.Asked.{Asked}
-use Rattle.parking_lot_worlds.specs.declared.calls.LockAnswer.{LockAnswer}
 use Rattle.parking_lot_worlds.specs.declared.calls.LockCall.{LockCall}
-use Rattle.parking_lot_worlds.specs.declared.fault.WorldRefusal.{WorldRefusal}
-use Rattle.parking_lot_worlds.specs.declared.step.WorldStep.{WorldStep}
 use Rattle.parking_lot_worlds.specs.declared.step.WorldStep.TheVariants as step
-use Rattle.parking_lot_worlds.specs.WorldAnswers.{Fits, answer_at, begins_for, is_late_for, may_answer}
-use Rattle.parking_lot_worlds.specs.WorldCalls.{asked, of_core, of_ended, of_reply, of_timed, said, step_thread}
-use Rattle.parking_lot_worlds.specs.Worlds.{IsAsked, IsFit, IsGone, IsLate, IsMade, Ran, Shown, is_in_once, may_ask, may_go, may_make, noted, refusal, rows_of}
-use Rattle.parking_lot_worlds.proofs.Busy.{called_busy, expires_busy, goes_busy}
+use Rattle.parking_lot_worlds.specs.WorldAnswers.{Fits, answer_at, may_answer}
+use Rattle.parking_lot_worlds.specs.WorldCalls.{asked, of_core, of_ended, of_timed, said}
+use Rattle.parking_lot_worlds.specs.Worlds.{IsAsked, IsFit, IsGone, IsLate, Shown, is_in_once, may_ask, noted, rows_of}
+use Rattle.parking_lot_worlds.proofs.Busy.{called_busy}
 use Rattle.parking_lot_worlds.proofs.Fitting.{answers_fit}
 use Rattle.parking_lot_worlds.proofs.Leading.{Led, asked_led, gone_led, late_led, led_on, same_led}
-use Rattle.parking_lot_worlds.proofs.OncesKept as of_onces
-use Rattle.parking_lot_worlds.proofs.Whole.{ask_lock_there, ask_variable_there, both_true, both_ways, waits_go}
-use Rattle.parking_lot_worlds.proofs.Following.{Goes, IsOver, SeatsStay, answer_gone, answered_fits, elsewhere, not_it, or_not, or_so, seats_freed, seats_gone, seats_late, seats_same, seats_set, written, allowed}
+use Rattle.parking_lot_worlds.proofs.Whole.{ask_lock_there, both_true, both_ways}
+use Rattle.parking_lot_worlds.proofs.Following.{Goes, IsOver, SeatsStay, answer_gone, answered_fits, elsewhere, not_it, or_not, or_so, seats_gone, seats_late, seats_same, seats_set, written, allowed}
 
 module _ (law : CallsLead) (t i : ℕ) (c : RowCall) where
   abbrev Over : Shown → Bool → Type 0

@@ -1,48 +1,34 @@
 -- What a call at a condition variable is answered, whatever the schedule.
-use Rattle.std.proofs.Common.{◌≡◌, ◌≢◌, ◌⊎◌, inl, inr, ℕ, zero, suc, ◌+◌, ◌<◌, ◌==◌, Bool, true, false, not, cond, ◌&&◌, ◌||◌, nat_lt, is_some, is_none, List, [], ◌∷◌, length, Option, Some, None, slice_get, slice_set, refl, sym, ap, ◌∙◌, subst, arith}
-use Rattle.std.specs.List.{list_any}
+use Rattle.std.proofs.Common.{◌≡◌, ◌≢◌, ◌⊎◌, inl, inr, ℕ, zero, suc, ◌+◌, ◌<◌, ◌==◌, Bool, true, false, not, cond, ◌&&◌, ◌||◌, is_some, List, [], ◌∷◌, length, Option, Some, None, slice_get, slice_set, refl, sym, ap, ◌∙◌, subst, arith}
 use Rattle.std.specs.Option.{option_and_then, option_map, unwrap_or}
-use Rattle.std.proofs.lemmas.Bool.{eq-eqb, eqb-true, lt-ltb, ltb-true}
+use Rattle.std.proofs.lemmas.Bool.{eqb-true, lt-ltb}
 use Rattle.std.proofs.lemmas.List.{length-set}
 use Rattle.std.proofs.lemmas.Option.{none-some, same_Some}
 use Rattle.parking_lot_condvar_world.specs.declared.calls.CondvarReply.{CondvarReply}
 use Rattle.parking_lot_once_world.specs.Onces.{Onces}
 use Rattle.parking_lot_once_world.specs.Onces as onces
 use Rattle.parking_lot_once_world.specs.declared.open_call.OpenCall.{OpenCall}
-use Rattle.parking_lot_protocol.specs.declared.act.CoreAnswer.{CoreAnswer}
-use Rattle.parking_lot_rules.proofs.Indexed.{get-set_other}
 use Rattle.parking_lot_waits_world.specs.declared.ended.Ended.{Ended}
 use Rattle.parking_lot_waits_world.specs.declared.seat.Seat.{Seat}
-use Rattle.parking_lot_waits_world.specs.Joint.{Joint, busy_number, has_by_second, nowhere, number, seat_at}
-use Rattle.parking_lot_waits_world.specs.JointMoves as joint
-use Rattle.parking_lot_waits_world.specs.JointSides.{is_busy, lock_call}
-use Rattle.parking_lot_waits_world.specs.JointSteps.{GoesAtLock, IsGoneAt, IsLateAt, freed}
-use Rattle.parking_lot_waits_world.proofs.LeavingTurns.{steps_leave}
-use Rattle.parking_lot_waits_world.proofs.LocksKept.{busy}
-use Rattle.parking_lot_world_calls.specs.Beginnings.{holds_beside}
-use Rattle.parking_lot_world_calls.specs.declared.calls.LockCall.{LockCall as RowCall}
+use Rattle.parking_lot_waits_world.specs.Joint.{Joint, nowhere, number, seat_at}
+use Rattle.parking_lot_waits_world.specs.JointSides.{lock_call}
+use Rattle.parking_lot_waits_world.specs.JointSteps.{IsGoneAt, IsLateAt}
 use Rattle.parking_lot_world_calls.specs.declared.open_call.Call.{Call}
-use Rattle.parking_lot_world.specs.Machines as rows
 use Rattle.parking_lot_world.specs.Rows.{State, call_at, state}
 use Rattle.parking_lot_worlds.specs.declared.calls.Asked.{Asked}
-use Rattle.parking_lot_worlds.specs.declared.calls.LockAnswer.{LockAnswer}
 use Rattle.parking_lot_worlds.specs.declared.calls.LockCall.{LockCall}
-use Rattle.parking_lot_worlds.specs.declared.fault.WorldRefusal.{WorldRefusal}
-use Rattle.parking_lot_worlds.specs.declared.step.WorldStep.{WorldStep}
 use Rattle.parking_lot_worlds.specs.declared.step.WorldStep.TheVariants as step
-use Rattle.parking_lot_worlds.specs.WorldAnswers.{Fits, answer_at, begins_for, is_late_for, may_answer}
-use Rattle.parking_lot_worlds.specs.WorldCalls.{asked, of_core, of_ended, of_reply, of_timed, said, step_thread}
-use Rattle.parking_lot_worlds.specs.Worlds.{IsAsked, IsFit, IsGone, IsLate, IsMade, Ran, Shown, is_in_once, may_ask, may_go, may_make, noted, refusal, rows_of}
-use Rattle.parking_lot_worlds.proofs.Busy.{called_busy, expires_busy, goes_busy}
-use Rattle.parking_lot_worlds.proofs.OncesKept as of_onces
-use Rattle.parking_lot_worlds.proofs.Whole.{ask_lock_there, ask_variable_there, both_true, both_ways, waits_go}
+use Rattle.parking_lot_worlds.specs.WorldAnswers.{Fits, answer_at}
+use Rattle.parking_lot_worlds.specs.WorldCalls.{asked, of_ended, said}
+use Rattle.parking_lot_worlds.specs.Worlds.{IsAsked, IsFit, IsGone, IsLate, Shown, is_in_once, noted, rows_of}
+use Rattle.parking_lot_worlds.proofs.Whole.{both_ways}
 use Rattle.parking_lot_condvar_world.specs.declared.calls.CondvarCall.{CondvarCall}
 use Rattle.parking_lot_condvar_world.specs.declared.calls.CondvarCall.TheVariants as variable
 use Rattle.parking_lot_condvar_world.specs.declared.calls.CondvarReply.TheVariants as told_as
 use Rattle.parking_lot_condvar_world.specs.declared.open_call.Core.{Core}
 use Rattle.parking_lot_condvar_world.specs.declared.open_call.OpenCall.{OpenCall as Wait}
 use Rattle.parking_lot_condvar_world.specs.declared.outside.Outside.TheVariants as outside
-use Rattle.parking_lot_condvar_world.specs.Calls.{call_for, is_of_all, is_timed, reply_by, reply_in_notify, reply_in_wait, reply_of}
+use Rattle.parking_lot_condvar_world.specs.Calls.{call_for, is_of_all, reply_by, reply_in_notify, reply_in_wait, reply_of}
 use Rattle.parking_lot_condvar_world.specs.MachineLaws.{MayReply}
 use Rattle.parking_lot_condvar_world.specs.Machines.{State as Var, call_at as var_call_at, is_left}
 use Rattle.parking_lot_condvar_world.specs.Outsides.{told, told_by}
@@ -56,15 +42,15 @@ use Rattle.parking_lot_waits_world.specs.declared.turn.Turn.{Turn}
 use Rattle.parking_lot_waits_world.specs.declared.turn.Turn.TheVariants as turn
 use Rattle.parking_lot_waits_world.specs.Joint.{back_number, call_at as wait_at, call_in, front_number, var_at}
 use Rattle.parking_lot_waits_world.specs.JointLaws.{RepliesFit}
-use Rattle.parking_lot_waits_world.specs.JointSteps.{ActsAt, BeginsIn, GoesAtVariable, HearsAt, Turned}
+use Rattle.parking_lot_waits_world.specs.JointSteps.{BeginsIn, GoesAtVariable, HearsAt, Turned}
 use Rattle.parking_lot_waits_world.specs.Turns.{notify_turn, turn_by, turn_of, wait_turn}
 use Rattle.parking_lot_waits_world.specs.Whole.{IsSo, Stands, Waits, back_at_end, front_at_end}
 use Rattle.parking_lot_waits_world.proofs.RankParts.{acts_reply, told_there, var_here}
-use Rattle.parking_lot_worlds.specs.WorldAnswers.{is_count, is_flag, is_owned, is_timed_out, is_wrong_mutex, may_tell}
+use Rattle.parking_lot_worlds.specs.WorldAnswers.{may_tell}
 use Rattle.parking_lot_worlds.specs.WorldCalls.{of_condvar}
 use Rattle.parking_lot_worlds.proofs.Busy.{free_idle, seated_busy}
-use Rattle.parking_lot_worlds.proofs.Following.{Goes, IsOver, SeatsStay, answer_gone, answered_fits, elsewhere, not_it, or_not, or_so, seats_freed, seats_gone, seats_late, seats_same, seats_set, written, allowed}
-use Rattle.parking_lot_worlds.proofs.Waiting.{KeepsAt, WaitsOn, begun_other, core_late, late_other, same_keeps, turned_itself, turned_other}
+use Rattle.parking_lot_worlds.proofs.Following.{Goes, IsOver, answer_gone, answered_fits, elsewhere, not_it, or_not, or_so, seats_gone, seats_late, seats_same, seats_set, written, allowed}
+use Rattle.parking_lot_worlds.proofs.Waiting.{KeepsAt, begun_other, core_late, late_other, same_keeps, turned_itself, turned_other}
 
 -- WHERE A CALL IS ANSWERED
 
@@ -303,9 +289,9 @@ module _ (replies : RepliesFit) (t i : ℕ) (d : CondvarCall) where
             there : IsGoneAt (Some i) t fair end v.waits x.waits → InWait x late ⊎ Over x late
             there (None, z, ends) = inl (goes_on fair z (ap (λ xs. option_and_then (λ a. a) (slice_get xs t)) (answers ∙ ap (λ e. noted t (option_map (of_ended (lock_call v.waits t)) e) v.answers) ends)))
             there (Some r, z, ends) = inr (is_over fair r z same (
-              ap (λ xs. option_and_then (λ a. a) (slice_get xs t)) (answers ∙ ap (λ e. noted t (option_map (of_ended (lock_call v.waits t)) e) v.answers) ends)
-              ∙ written v.answers t (Some (of_condvar r)) low
-            ))
+                ap (λ xs. option_and_then (λ a. a) (slice_get xs t)) (answers ∙ ap (λ e. noted t (option_map (of_ended (lock_call v.waits t)) e) v.answers) ends)
+                ∙ written v.answers t (Some (of_condvar r)) low
+                ))
 
     goes_itself : (fair b : Bool) → is_in_once v t ≡ b → IsGone b t fair v x → InWait x late ⊎ Over x late
     goes_itself fair true is gone = both_ways (is_in_once v t) is (ap (λ (o : Option OpenCall). is_some o) no_once)
@@ -384,8 +370,8 @@ module _ (replies : RepliesFit) (t i : ℕ) (d : CondvarCall) where
       begun_call None at y begins e c here = absurd begins
       begun_call (Some z) at None begins e c here = absurd begins
       begun_call (Some z) at (Some y) begins e c here = written_call z.calls t (call_for d) c (
-        sym (ap (λ (o : Option Var). call_in o t) (var_here v.waits.vars x.waits.vars i z y at e) ∙ ap (λ (q : Var). var_call_at q t) begins.became) ∙ here
-      )
+          sym (ap (λ (o : Option Var). call_in o t) (var_here v.waits.vars x.waits.vars i z y at e) ∙ ap (λ (q : Var). var_call_at q t) begins.became) ∙ here
+          )
         where
           written_call : (cs : List (Option Wait)) (k : ℕ) (a b : Wait) → option_and_then (λ (o : Option Wait). o) (slice_get (slice_set cs k (Some a)) k) ≡ Some b → b ≡ a
           written_call [] k a b e = absurd (none-some b e)

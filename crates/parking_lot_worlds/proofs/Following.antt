@@ -1,48 +1,34 @@
 -- A thread's call goes on, whatever the schedule, until it is answered; then the thread is in no call.
-use Rattle.std.proofs.Common.{◌≡◌, ◌≢◌, ◌⊎◌, inl, inr, ℕ, zero, suc, ◌+◌, ◌<◌, ◌==◌, Bool, true, false, not, cond, ◌&&◌, ◌||◌, nat_lt, is_some, is_none, List, [], ◌∷◌, length, Option, Some, None, slice_get, slice_set, refl, sym, ap, ◌∙◌, subst, arith}
+use Rattle.std.proofs.Common.{◌≡◌, ◌≢◌, ◌⊎◌, inl, inr, ℕ, zero, suc, ◌<◌, ◌==◌, Bool, true, false, cond, ◌||◌, nat_lt, is_some, List, [], ◌∷◌, length, Option, Some, None, slice_get, slice_set, refl, sym, ap, ◌∙◌, subst, arith}
 use Rattle.std.specs.List.{list_any}
 use Rattle.std.specs.Option.{option_and_then, option_map, unwrap_or}
-use Rattle.std.proofs.lemmas.Bool.{eq-eqb, eqb-true, lt-ltb, ltb-true}
+use Rattle.std.proofs.lemmas.Bool.{eq-eqb, eqb-true, ltb-true}
 use Rattle.std.proofs.lemmas.List.{length-set}
 use Rattle.std.proofs.lemmas.Option.{none-some, same_Some}
-use Rattle.parking_lot_call_laws.specs.AnswerLaws.{CallsLead, IsAnswered, IsOpen}
-use Rattle.parking_lot_call_laws.specs.Answers.{MayStand, may_end}
-use Rattle.parking_lot_call_laws.specs.Stages.{Stage, quits, stage, stage_of}
-use Rattle.parking_lot_call_laws.proofs.Standing.{begins_so, ends_so, stands_late, stands_on}
 use Rattle.parking_lot_condvar_world.specs.declared.calls.CondvarReply.{CondvarReply}
 use Rattle.parking_lot_once_world.specs.Onces.{Onces}
 use Rattle.parking_lot_once_world.specs.Onces as onces
 use Rattle.parking_lot_once_world.specs.declared.open_call.OpenCall.{OpenCall}
-use Rattle.parking_lot_protocol.specs.declared.act.CoreAnswer.{CoreAnswer}
 use Rattle.parking_lot_rules.proofs.Indexed.{get-set_other}
 use Rattle.parking_lot_waits_world.specs.declared.ended.Ended.{Ended}
 use Rattle.parking_lot_waits_world.specs.declared.seat.Seat.{Seat}
-use Rattle.parking_lot_waits_world.specs.Joint.{Joint, busy_number, has_by_second, nowhere, number, seat_at}
+use Rattle.parking_lot_waits_world.specs.Joint.{Joint, nowhere, seat_at}
 use Rattle.parking_lot_waits_world.specs.JointMoves as joint
 use Rattle.parking_lot_waits_world.specs.JointSides.{is_busy, lock_call}
-use Rattle.parking_lot_waits_world.specs.JointSteps.{GoesAtLock, IsGoneAt, IsLateAt, freed}
+use Rattle.parking_lot_waits_world.specs.JointSteps.{IsGoneAt, IsLateAt, freed}
 use Rattle.parking_lot_waits_world.proofs.LeavingTurns.{steps_leave}
-use Rattle.parking_lot_waits_world.proofs.LocksKept.{busy}
-use Rattle.parking_lot_world_calls.specs.Beginnings.{holds_beside}
-use Rattle.parking_lot_world_calls.specs.Calls.{is_timed}
-use Rattle.parking_lot_world_calls.specs.declared.calls.LockCall.{LockCall as RowCall}
-use Rattle.parking_lot_world_calls.specs.declared.open_call.Call.{Call}
-use Rattle.parking_lot_world.specs.Machines as rows
-use Rattle.parking_lot_world.specs.Rows.{call_at, hold_at, state}
 use Rattle.parking_lot_worlds.specs.declared.calls.Asked.{Asked}
 use Rattle.parking_lot_worlds.specs.declared.calls.LockAnswer.{LockAnswer}
-use Rattle.parking_lot_worlds.specs.declared.calls.LockCall.{LockCall}
 use Rattle.parking_lot_worlds.specs.declared.fault.WorldRefusal.{WorldRefusal}
 use Rattle.parking_lot_worlds.specs.declared.step.WorldStep.{WorldStep}
 use Rattle.parking_lot_worlds.specs.declared.step.WorldStep.TheVariants as step
-use Rattle.parking_lot_worlds.specs.WorldAnswers.{AnswersFit, answer_at, begins_for, is_late_for, may_answer}
-use Rattle.parking_lot_worlds.specs.WorldCalls.{asked, of_core, of_ended, of_reply, of_timed, said, step_thread}
-use Rattle.parking_lot_worlds.specs.Worlds.{IsAsked, IsFit, IsGone, IsLate, IsMade, Ran, Shown, is_in_once, may_ask, may_go, may_make, noted, refusal, rows_of}
-use Rattle.parking_lot_worlds.proofs.Busy.{called_busy, expires_busy, goes_busy}
-use Rattle.parking_lot_worlds.proofs.Fitting.{answers_fit}
-use Rattle.parking_lot_worlds.proofs.Leading.{Led, asked_led, gone_led, late_led, led_on, same_led}
+use Rattle.parking_lot_worlds.specs.WorldAnswers.{answer_at, begins_for, is_late_for}
+use Rattle.parking_lot_worlds.specs.WorldCalls.{asked, of_ended, of_reply, said, step_thread}
+use Rattle.parking_lot_worlds.specs.Worlds.{IsAsked, IsFit, IsGone, IsLate, IsMade, Ran, Shown, is_in_once, may_ask, may_go, may_make, noted, refusal}
+use Rattle.parking_lot_worlds.proofs.Busy.{expires_busy, goes_busy}
 use Rattle.parking_lot_worlds.proofs.OncesKept as of_onces
-use Rattle.parking_lot_worlds.proofs.Whole.{ask_lock_there, ask_variable_there, both_true, both_ways, waits_go}
+use Rattle.parking_lot_worlds.proofs.Whole.{ask_lock_there, ask_variable_there, both_ways, waits_go}
+
 -- LISTS
 
 pub written : {X : Type 0} (xs : List (Option X)) (t : ℕ) (o : Option X) → t < length xs → option_and_then (λ y. y) (slice_get (slice_set xs t o) t) ≡ o
@@ -227,7 +213,6 @@ module _ (t : ℕ) (fits_call : Bool → LockAnswer → Bool) where
     parts : (a b : Bool) → (a || b) ≡ false → (a ≡ false) × (b ≡ false)
     parts false b e = (refl, e)
     parts true b e = absurd cc
-
 
     run : (w x : Shown) (late : Bool) (steps : List WorldStep) → IsFit w → Follows w late → Ran w steps x → list_any (begins_for t) steps ≡ false → Follows x (late || list_any (is_late_for t) steps)
     run w x late [] fit f e begins = subst (λ (y : Shown). Follows y (late || false)) (sym e) (subst (Follows w) (sym (or_not late)) f)

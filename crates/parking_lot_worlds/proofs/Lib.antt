@@ -16,4 +16,5 @@ pub mod Answering
 pub mod Waiting
 pub mod AnsweringWaits
 pub mod OnceAsked
+pub mod AnsweringOnces
 pub mod AllAnswers

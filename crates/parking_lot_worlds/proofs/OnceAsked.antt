@@ -1,6 +1,5 @@
 -- What each step leaves of a call at a once: what it was asked.
-use Rattle.std.proofs.Common.{◌≡◌, ◌≢◌, ◌⊎◌, inl, inr, ℕ, zero, suc, ◌==◌, Bool, true, false, cond, List, [], ◌∷◌, Option, Some, None, slice_get, slice_set, refl, sym, ap, ◌∙◌, subst}
-use Rattle.std.specs.List.{position}
+use Rattle.std.proofs.Common.{◌≡◌, ◌≢◌, inl, inr, ℕ, zero, suc, List, [], ◌∷◌, Option, Some, None, slice_get, slice_set, refl, sym, ap, ◌∙◌, subst}
 use Rattle.std.specs.Option.{option_and_then, option_map}
 use Rattle.std.proofs.lemmas.Bool.{cases_eq}
 use Rattle.std.proofs.lemmas.Option.{none-some, same_Some}
@@ -10,10 +9,7 @@ use Rattle.parking_lot_once_protocol.specs.declared.once_phase.OnceAnswer.{OnceA
 use Rattle.parking_lot_once_protocol.specs.declared.once_phase.OncePhase.{OncePhase}
 use Rattle.parking_lot_once_protocol.specs.declared.once_phase.OncePhase.TheVariants as at
 use Rattle.parking_lot_once_protocol.specs.OnceTable.{act_of, answer_of}
-use Rattle.parking_lot_once_rules.specs.declared.once_state.OnceState.{OnceState}
-use Rattle.parking_lot_once_world.specs.declared.calls.OnceCall.{OnceCall}
 use Rattle.parking_lot_once_world.specs.declared.calls.OnceReply.{OnceReply}
-use Rattle.parking_lot_once_world.specs.Entries.{is_in}
 use Rattle.parking_lot_once_world.specs.OnceActs.{ended_by, off_list, replied, stepped, took_by, woke_by, woken}
 use Rattle.parking_lot_once_world.specs.OnceCalls.{reply_by}
 use Rattle.parking_lot_once_world.specs.OnceSteps.{IsStepped}

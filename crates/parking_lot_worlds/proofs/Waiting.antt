@@ -25,7 +25,7 @@ use Rattle.parking_lot_waits.specs.declared.notify_core.NotifyPhase.TheVariants 
 use Rattle.parking_lot_waits.specs.declared.wait_act.WaitAnswer.TheVariants as end
 use Rattle.parking_lot_waits.specs.declared.notify_act.NotifySeen.{NotifySeen}
 use Rattle.parking_lot_waits.specs.declared.wait_act.WaitSeen.{WaitSeen}
-use Rattle.parking_lot_waits.specs.declared.wait_act.WaitSeen.TheVariants.{Start, Word, Made, Woken, Expired, Quit, WasTaken}
+use Rattle.parking_lot_waits.specs.declared.wait_act.WaitSeen.TheVariants.{Start, Word, Made, Woken, Expired}
 use Rattle.parking_lot_waits.specs.declared.wait_core.WaitCore.{WaitCore}
 use Rattle.parking_lot_waits.specs.declared.wait_core.WaitPhase.{WaitPhase}
 use Rattle.parking_lot_waits.specs.declared.wait_core.WaitPhase.TheVariants as w
@@ -155,8 +155,8 @@ module _ (t : ℕ) where
     | inl same ↦
         let mine = same_Some z.call c (sym z.here ∙ ap (var_call_at x) (sym same) ∙ here) in
         subst (WaitsOn c) (sym (
-          ap (λ (a : Var). var_call_at a t) z.became ∙ ap (λ v. at_slot (slice_set x.calls u (Some (told z.call x.queue seen))) v) same ∙ set_here x.calls u z.call _ z.here
-          ∙ ap (λ d. Some (told d x.queue seen)) mine
+        ap (λ (a : Var). var_call_at a t) z.became ∙ ap (λ v. at_slot (slice_set x.calls u (Some (told z.call x.queue seen))) v) same ∙ set_here x.calls u z.call _ z.here
+        ∙ ap (λ d. Some (told d x.queue seen)) mine
         )) (told_on c (is_left x.queue) seen c.core refl ne)
   ]
 
