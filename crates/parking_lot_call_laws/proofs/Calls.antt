@@ -1,7 +1,7 @@
 -- What a step leaves of the calls of all threads.
-use Rattle.std.proofs.Common.{◌≡◌, ◌≢◌, ◌⊎◌, ◌==◌, inl, inr, ℕ, zero, suc, ◌<◌, Bool, true, false, cond, List, [], ◌∷◌, map, length, Option, Some, None, slice_get, slice_set, refl, sym, ap, ◌∙◌, subst, arith}
+use Rattle.std.proofs.Common.{◌≡◌, ◌≢◌, ◌⊎◌, ◌==◌, inl, inr, ℕ, zero, suc, Bool, true, false, cond, List, [], ◌∷◌, map, Option, Some, None, slice_set, refl, sym, ap, ◌∙◌, subst}
 use Rattle.std.specs.List.{position_or_len}
-use Rattle.std.specs.Option.{option_and_then, option_map}
+use Rattle.std.specs.Option.{option_map}
 use Rattle.std.proofs.lemmas.Bool.{cases_eq, eq-eqb}
 use Rattle.std.proofs.lemmas.Option.{none-some, same_Some}
 use Rattle.parking_lot_core_lot.specs.Machine.{Machine}
@@ -21,7 +21,6 @@ use Rattle.parking_lot_world_calls.specs.declared.seat.LatePhase.{LatePhase}
 use Rattle.parking_lot_world_calls.specs.declared.seat.QueuePosition.{QueuePosition}
 use Rattle.parking_lot_world_calls.specs.declared.seat.WakeResult.{WakeResult}
 use Rattle.parking_lot_world_calls.specs.declared.seat.Wakeup.{Wakeup}
-use Rattle.parking_lot_rules.proofs.Indexed.{get-set_other}
 use Rattle.parking_lot_world.specs.LateActs.{came_back, others_left}
 use Rattle.parking_lot_world.specs.Machines.{Became, BecameInside, BecameLate, IsStepped, end_of}
 use Rattle.parking_lot_world.specs.RowActs.{answered, with_call, with_lot}
@@ -30,27 +29,7 @@ use Rattle.parking_lot_world.specs.Rows.{State, call_at, is_by, word_at}
 use Rattle.parking_lot_world.specs.TellLaws.{IsDue}
 use Rattle.parking_lot_call_laws.proofs.Heard.{Hears}
 use Rattle.parking_lot_call_laws.proofs.Sleeping.{sleeps_act}
-
-abbrev pub call_of : List (Option Call) → ℕ → Option Call
-call_of calls t = option_and_then (λ c. c) (slice_get calls t)
-
-pub set_here : (cs : List (Option Call)) (t : ℕ) (c : Call) (o : Option Call) → call_of cs t ≡ Some c → call_of (slice_set cs t o) t ≡ o
-set_here [] t c o e = absurd (none-some c e)
-set_here (x ∷ cs) zero c o e = refl
-set_here (x ∷ cs) (suc t) c o e = set_here cs t c o e
-
-pub written : (cs : List (Option Call)) (t : ℕ) (o : Option Call) → t < length cs → call_of (slice_set cs t o) t ≡ o
-written [] t o low = absurd (omega (arith, low))
-written (x ∷ cs) zero o low = refl
-written (x ∷ cs) (suc t) o low = written cs t o (omega (arith, low))
-
-pub call_low : (cs : List (Option Call)) (t : ℕ) (c : Call) → call_of cs t ≡ Some c → t < length cs
-call_low [] t c e = absurd (none-some c e)
-call_low (x ∷ cs) zero c e = omega arith
-call_low (x ∷ cs) (suc t) c e = let low = call_low cs t c e in omega (arith, low)
-
-pub set_elsewhere : (cs : List (Option Call)) (t k : ℕ) (o : Option Call) → k ≢ t → call_of (slice_set cs t o) k ≡ call_of cs k
-set_elsewhere cs t k o ne = ap (option_and_then (λ c. c)) (get-set_other cs t k o (λ e. ne (sym e)))
+use Rattle.parking_lot_call_laws.proofs.Slots.{at_slot as call_of, set_elsewhere, set_here}
 
 -- It goes on at its lock, with the same holds beside: as it was, or by what it has heard.
 pub record GoesOn (c : Call) (o : Option Call) : Type 0 where

@@ -28,7 +28,8 @@ use Rattle.parking_lot_call_laws.specs.AnswerLaws as laws
 use Rattle.parking_lot_call_laws.specs.AnswerLaws.{CallsLead, IsAnswered, IsOpen}
 use Rattle.parking_lot_call_laws.specs.Stages.{Leads, core_stage, quits, stage, stage_of}
 use Rattle.parking_lot_call_laws.proofs.Calls as calls
-use Rattle.parking_lot_call_laws.proofs.Calls.{answer_is, call_low, ended_goes, set_elsewhere, set_here, stepped_goes, written}
+use Rattle.parking_lot_call_laws.proofs.Calls.{answer_is, ended_goes, stepped_goes}
+use Rattle.parking_lot_call_laws.proofs.Slots.{set_elsewhere, set_here, set_there, slot_low}
 use Rattle.parking_lot_call_laws.proofs.Ending.{core_done}
 use Rattle.parking_lot_call_laws.proofs.Heard.{Hears, begins_there, heard_leads, late_quits}
 
@@ -90,7 +91,7 @@ answered_hold s t c fits here =
     low = within s.kinds c.lock c.core (fits.rules.kinds t c here)
 
     cell_low : t * length s.kinds + c.lock < length s.holds
-    cell_low = omega (arith, rows_apart (length s.kinds) t (length s.calls) (call_low s.calls t c here), low, fits.rules.size_holds)
+    cell_low = omega (arith, rows_apart (length s.kinds) t (length s.calls) (slot_low s.calls t c here), low, fits.rules.size_holds)
 
 module _ (s u : State) (t : ℕ) (fair : Bool) (answer : CoreAnswer) (fits : FitsTogether s) (x : IsStepped t fair (Some answer) s u) where
   became : u ≡ answered s t x.call
@@ -118,7 +119,7 @@ module _ (s u : State) (t : ℕ) (fair : Bool) (answer : CoreAnswer) (fits : Fit
 begins : (s u : State) (t lock : ℕ) (call : LockCall) → may_begin s t lock call ≡ true → IsBegun t lock call s u → IsOpen (call_at u t) lock (holds_beside call (hold_at s t lock)) (is_timed call) (stage_of call)
 begins s u t lock call may x = record {
   call = _;
-  here = ap (λ (w : State). call_at w t) x.became ∙ written s.calls t _ (ltb-true t (length s.calls) (first (nat_lt t (length s.calls)) _ may));
+  here = ap (λ (w : State). call_at w t) x.became ∙ set_there s.calls t _ (ltb-true t (length s.calls) (first (nat_lt t (length s.calls)) _ may));
   there = refl;
   beside = refl;
   deadline = refl;

@@ -60,12 +60,12 @@ drains_woken n (r.DrainSleeps rounds) token e ready = inr (refl, refl)
 drains_woken n (r.Sleeps want) token e ready = absurd ready
 drains_woken n p token e ready = absurd cc
 
-frees_awake : (p : RwPhase) → rw_asleep p ≡ true → IsFreeing p → ⊥
+pub frees_awake : (p : RwPhase) → rw_asleep p ≡ true → IsFreeing p → ⊥
 frees_awake (r.DrainSleeps rounds) e ready = ready
 frees_awake (r.Sleeps want) e ready = ready
 frees_awake p e ready = absurd cc
 
-owes_awake : (p : RwPhase) → rw_asleep p ≡ true → IsOwing p → ⊥
+pub owes_awake : (p : RwPhase) → rw_asleep p ≡ true → IsOwing p → ⊥
 owes_awake (r.DrainSleeps rounds) e ready = ready
 owes_awake (r.Sleeps want) e ready = ready
 owes_awake p e ready = absurd cc

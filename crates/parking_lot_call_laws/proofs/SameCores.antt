@@ -16,7 +16,7 @@ use Rattle.parking_lot_timed.specs.TimedTable as mutex
 use Rattle.parking_lot_timed.specs.declared.timed_act.TimedSeen.TheVariants.{Expired, Left, Quit, Reentered, WasTaken}
 use Rattle.parking_lot_timed.specs.declared.timed_core.TimedMutexPhase.{TimedMutexPhase}
 use Rattle.parking_lot_timed.specs.declared.timed_core.TimedMutexPhase.TheVariants as phase
-use Rattle.parking_lot_upgrades.specs.UpgradeRules.{IsDraining, IsFreeing, IsOwing, IsReady, IsSeeking}
+use Rattle.parking_lot_upgrades.specs.UpgradeRules.{IsDraining, IsReady, IsSeeking}
 use Rattle.parking_lot_upgrades.specs.declared.upgrade_core.UpgradeCore.{UpgradeCore}
 use Rattle.parking_lot_upgrades.specs.declared.upgrade_phase.UpgradePhase.{UpgradePhase}
 use Rattle.parking_lot_upgrades.specs.declared.upgrade_phase.UpgradePhase.TheVariants as u
@@ -32,6 +32,7 @@ use Rattle.parking_lot_world_calls.specs.declared.seat.Core.{Core}
 use Rattle.parking_lot_world_calls.specs.declared.seat.Core.TheVariants as core
 use Rattle.parking_lot_world_calls.specs.declared.seat.LatePhase.{LatePhase}
 use Rattle.parking_lot_world_calls.specs.declared.seat.LatePhase.TheVariants as late
+use Rattle.parking_lot_call_laws.proofs.Quitting.{frees_awake, owes_awake}
 use Rattle.parking_lot_call_laws.specs.SameCores.{CoresAreTheSame, act_as, hears_as, late_as, late_hears, late_rw_as, late_rw_hears, mutex_as, rw_as, sleeper_as}
 
 -- where it is at a phase, what is said of the phase
@@ -134,16 +135,6 @@ inner_expires : (from : Bool) (q : RwPhase) (k : UpgradeCore) → rw_asleep q �
 inner_expires from (r.Sleeps want) k e = refl
 inner_expires from (r.DrainSleeps rounds) k e = refl
 inner_expires from q k e = absurd cc
-
-frees_awake : (q : RwPhase) → rw_asleep q ≡ true → IsFreeing q → ⊥
-frees_awake (r.DrainSleeps rounds) e ready = ready
-frees_awake (r.Sleeps want) e ready = ready
-frees_awake q e ready = absurd cc
-
-owes_awake : (q : RwPhase) → rw_asleep q ≡ true → IsOwing q → ⊥
-owes_awake (r.DrainSleeps rounds) e ready = ready
-owes_awake (r.Sleeps want) e ready = ready
-owes_awake q e ready = absurd cc
 
 upgrade_expires : (q : UpgradePhase) → upgrade_asleep q ≡ true → IsReady q → IsOfWorld q → Some (rw_phase.Expires (record { phase = q })) ≡ Some (rw.expires (record { phase = q }))
 upgrade_expires (u.Seeks c) e ready world = inner_expires false c.phase _ e

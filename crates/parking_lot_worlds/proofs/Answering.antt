@@ -31,11 +31,12 @@ use Rattle.parking_lot_worlds.specs.declared.step.WorldStep.TheVariants as step
 use Rattle.parking_lot_worlds.specs.WorldAnswers.{Fits, answer_at, may_answer}
 use Rattle.parking_lot_worlds.specs.WorldCalls.{asked, of_core, of_ended, of_timed, said}
 use Rattle.parking_lot_worlds.specs.Worlds.{IsAsked, IsFit, IsGone, IsLate, Shown, is_in_once, may_ask, noted, rows_of}
+use Rattle.parking_lot_call_laws.proofs.Slots.{set_there}
 use Rattle.parking_lot_worlds.proofs.Busy.{called_busy}
 use Rattle.parking_lot_worlds.proofs.Fitting.{answers_fit}
 use Rattle.parking_lot_worlds.proofs.Leading.{Led, asked_led, gone_led, late_led, led_on, same_led}
 use Rattle.parking_lot_worlds.proofs.Whole.{ask_lock_there, both_true, both_ways}
-use Rattle.parking_lot_worlds.proofs.Following.{Goes, IsOver, SeatsStay, answer_gone, answered_fits, elsewhere, not_it, or_not, or_so, seats_gone, seats_late, seats_same, seats_set, written, allowed}
+use Rattle.parking_lot_worlds.proofs.Following.{Goes, IsOver, SeatsStay, answer_gone, answered_fits, elsewhere, not_it, or_not, or_so, seats_gone, seats_late, seats_same, seats_set, allowed}
 
 module _ (law : CallsLead) (t i : ℕ) (c : RowCall) where
   abbrev Over : Shown → Bool → Type 0
@@ -214,7 +215,7 @@ module _ (law : CallsLead) (t i : ℕ) (c : RowCall) where
     gone_itself fair m None seat end (Some a, z, ends) same answers =
         inr (is_over m fair a z same (
         ap (λ xs. option_and_then (λ a. a) (slice_get xs t)) (answers ∙ ap (λ e. noted t (option_map (of_ended (lock_call w.waits t)) e) w.answers) ends)
-        ∙ written w.answers t (Some (said (lock_call w.waits t) a)) low
+        ∙ set_there w.answers t (Some (said (lock_call w.waits t) a)) low
         ))
 
     goes_itself : (fair b : Bool) → is_in_once w t ≡ b → IsGone b t fair w x → InLock w late → InLock x late ⊎ Over x late
@@ -298,7 +299,7 @@ module _ (law : CallsLead) (t i : ℕ) (c : RowCall) where
         at = stage_of c;
         open_call = subst (λ n. IsOpen (call_at (rows_of x) n) i beside (is_timed c) (stage_of c)) (sym (ap (λ (ss : List Seat). cond (has_by_second w.waits t i) (length ss + t) t) begun.seats)) begins;
         stands = inl refl;
-        unanswered = ap (λ xs. option_and_then (λ a. a) (slice_get xs t)) answers ∙ written w.answers t None low;
+        unanswered = ap (λ xs. option_and_then (λ a. a) (slice_get xs t)) answers ∙ set_there w.answers t None low;
       }
 
   pub begun_fits : (asks : LockCall) → asked asks ≡ Asked.OfLock c → Fits (may_answer c) t i asks

@@ -16,6 +16,7 @@ use Rattle.parking_lot_worlds.specs.declared.step.WorldStep.TheVariants as step
 use Rattle.parking_lot_worlds.specs.WorldAnswers.{Fits, answer_at}
 use Rattle.parking_lot_worlds.specs.WorldCalls.{asked, of_reply, said}
 use Rattle.parking_lot_worlds.specs.Worlds.{IsAsked, IsFit, IsGone, IsLate, Shown, is_in_once, noted}
+use Rattle.parking_lot_call_laws.proofs.Slots.{set_there}
 use Rattle.parking_lot_worlds.proofs.Busy.{expires_busy}
 use Rattle.parking_lot_worlds.proofs.Whole.{both_ways}
 use Rattle.parking_lot_once_world.specs.declared.calls.OnceCall.{OnceCall}
@@ -26,7 +27,7 @@ use Rattle.parking_lot_once_world.specs.OnceActs as acts
 use Rattle.parking_lot_once_world.specs.OnceMachineLasting.{MayReply, RepliesFit}
 use Rattle.parking_lot_once_world.specs.OnceSteps.{IsStepped}
 use Rattle.parking_lot_worlds.specs.WorldAnswers.{may_end}
-use Rattle.parking_lot_worlds.proofs.Following.{Goes, IsOver, answer_gone, answered_fits, elsewhere, not_it, or_not, written, allowed}
+use Rattle.parking_lot_worlds.proofs.Following.{Goes, IsOver, answer_gone, answered_fits, elsewhere, not_it, or_not, allowed}
 use Rattle.parking_lot_worlds.proofs.OnceAsked.{another_begins, another_keeps, its_end, its_own}
 
 -- the answer fits
@@ -109,7 +110,7 @@ module _ (replies : RepliesFit) (t i : ℕ) (d : OnceCall) where
       idle = ap (λ (j : Joint). is_busy j t) same ∙ not_busy v late fit m;
       out = its_end t v.onces x.onces r made;
       answer = of_reply r;
-      answered = ap (λ xs. option_and_then (λ a. a) (slice_get xs t)) answers ∙ written v.answers t (Some (of_reply r)) low;
+      answered = ap (λ xs. option_and_then (λ a. a) (slice_get xs t)) answers ∙ set_there v.answers t (Some (of_reply r)) low;
       fits = ends_so m.call.call d r late m.asks (replies v.onces x.onces t m.call r fit.onces m.here made);
     })
 
@@ -147,9 +148,9 @@ module _ (replies : RepliesFit) (t i : ℕ) (d : OnceCall) where
   first : (v x : Shown) → IsFit v → t < length v.answers → IsAsked t i (Asked.OfOnce d) v x → x.answers ≡ slice_set v.answers t None → InOnce x false
   first v x fit low (begun, same) answers = record {
     call = acts.call_for i d;
-    here = ap (λ (o : Onces). onces.call_at o t) begun.became ∙ written v.onces.calls t (Some (acts.call_for i d)) (omega (arith, low, fit.whole.once_threads));
+    here = ap (λ (o : Onces). onces.call_at o t) begun.became ∙ set_there v.onces.calls t (Some (acts.call_for i d)) (omega (arith, low, fit.whole.once_threads));
     asks = refl;
-    unanswered = ap (λ xs. option_and_then (λ a. a) (slice_get xs t)) answers ∙ written v.answers t None low;
+    unanswered = ap (λ xs. option_and_then (λ a. a) (slice_get xs t)) answers ∙ set_there v.answers t None low;
   }
 
   pub begun_fits : (asks : LockCall) → asked asks ≡ Asked.OfOnce d → Fits (may_end d) t i asks

@@ -21,6 +21,7 @@ use Rattle.parking_lot_worlds.specs.declared.step.WorldStep.TheVariants as step
 use Rattle.parking_lot_worlds.specs.WorldAnswers.{Fits, answer_at}
 use Rattle.parking_lot_worlds.specs.WorldCalls.{asked, of_ended, said}
 use Rattle.parking_lot_worlds.specs.Worlds.{IsAsked, IsFit, IsGone, IsLate, Shown, is_in_once, noted, rows_of}
+use Rattle.parking_lot_call_laws.proofs.Slots.{read_back, set_there}
 use Rattle.parking_lot_worlds.proofs.Whole.{both_ways}
 use Rattle.parking_lot_condvar_world.specs.declared.calls.CondvarCall.{CondvarCall}
 use Rattle.parking_lot_condvar_world.specs.declared.calls.CondvarCall.TheVariants as variable
@@ -49,7 +50,7 @@ use Rattle.parking_lot_waits_world.proofs.RankParts.{acts_reply, told_there, var
 use Rattle.parking_lot_worlds.specs.WorldAnswers.{may_tell}
 use Rattle.parking_lot_worlds.specs.WorldCalls.{of_condvar}
 use Rattle.parking_lot_worlds.proofs.Busy.{free_idle, seated_busy}
-use Rattle.parking_lot_worlds.proofs.Following.{Goes, IsOver, answer_gone, answered_fits, elsewhere, not_it, or_not, or_so, seats_gone, seats_late, seats_same, seats_set, written, allowed}
+use Rattle.parking_lot_worlds.proofs.Following.{Goes, IsOver, answer_gone, answered_fits, elsewhere, not_it, or_not, or_so, seats_gone, seats_late, seats_same, seats_set, allowed}
 use Rattle.parking_lot_worlds.proofs.Waiting.{KeepsAt, begun_other, core_late, late_other, same_keeps, turned_itself, turned_other}
 
 -- WHERE A CALL IS ANSWERED
@@ -290,7 +291,7 @@ module _ (replies : RepliesFit) (t i : ℕ) (d : CondvarCall) where
             there (None, z, ends) = inl (goes_on fair z (ap (λ xs. option_and_then (λ a. a) (slice_get xs t)) (answers ∙ ap (λ e. noted t (option_map (of_ended (lock_call v.waits t)) e) v.answers) ends)))
             there (Some r, z, ends) = inr (is_over fair r z same (
                 ap (λ xs. option_and_then (λ a. a) (slice_get xs t)) (answers ∙ ap (λ e. noted t (option_map (of_ended (lock_call v.waits t)) e) v.answers) ends)
-                ∙ written v.answers t (Some (of_condvar r)) low
+                ∙ set_there v.answers t (Some (of_condvar r)) low
                 ))
 
     goes_itself : (fair b : Bool) → is_in_once v t ≡ b → IsGone b t fair v x → InWait x late ⊎ Over x late
@@ -369,14 +370,9 @@ module _ (replies : RepliesFit) (t i : ℕ) (d : CondvarCall) where
       begun_call : (o : Option Var) → var_at v.waits i ≡ o → (y : Option Var) → BeginsIn t d o y → x.waits.vars ≡ slice_set v.waits.vars i y → (c : Wait) → wait_at x.waits i t ≡ Some c → c ≡ call_for d
       begun_call None at y begins e c here = absurd begins
       begun_call (Some z) at None begins e c here = absurd begins
-      begun_call (Some z) at (Some y) begins e c here = written_call z.calls t (call_for d) c (
+      begun_call (Some z) at (Some y) begins e c here = sym (same_Some (call_for d) c (read_back z.calls t (Some (call_for d)) c (
           sym (ap (λ (o : Option Var). call_in o t) (var_here v.waits.vars x.waits.vars i z y at e) ∙ ap (λ (q : Var). var_call_at q t) begins.became) ∙ here
-          )
-        where
-          written_call : (cs : List (Option Wait)) (k : ℕ) (a b : Wait) → option_and_then (λ (o : Option Wait). o) (slice_get (slice_set cs k (Some a)) k) ≡ Some b → b ≡ a
-          written_call [] k a b e = absurd (none-some b e)
-          written_call (y ∷ cs) zero a b e = sym (same_Some a b e)
-          written_call (y ∷ cs) (suc k) a b e = written_call cs k a b e
+          )))
 
       go : (c : Wait) × (wait_at x.waits i t ≡ Some c) → InWait x false
       go (c, here) =
@@ -387,7 +383,7 @@ module _ (replies : RepliesFit) (t i : ℕ) (d : CondvarCall) where
             here = here;
             asks = ap (λ (o : Wait). o.call) is;
             in_time = λ e. ap (λ (o : Wait). core_late o.core) is ∙ starts_in_time d;
-            unanswered = ap (λ xs. option_and_then (λ a. a) (slice_get xs t)) answers ∙ written v.answers t None low;
+            unanswered = ap (λ xs. option_and_then (λ a. a) (slice_get xs t)) answers ∙ set_there v.answers t None low;
           }
 
   pub begun_fits : (asks : LockCall) → asked asks ≡ Asked.OfVariable d → Fits (may_tell d) t i asks

@@ -1,5 +1,5 @@
 -- A thread's call goes on, whatever the schedule, until it is answered; then the thread is in no call.
-use Rattle.std.proofs.Common.{◌≡◌, ◌≢◌, ◌⊎◌, inl, inr, ℕ, zero, suc, ◌<◌, ◌==◌, Bool, true, false, cond, ◌||◌, nat_lt, is_some, List, [], ◌∷◌, length, Option, Some, None, slice_get, slice_set, refl, sym, ap, ◌∙◌, subst, arith}
+use Rattle.std.proofs.Common.{◌≡◌, ◌≢◌, ◌⊎◌, inl, inr, ℕ, ◌<◌, ◌==◌, Bool, true, false, cond, ◌||◌, nat_lt, is_some, List, [], ◌∷◌, length, Option, Some, None, slice_get, slice_set, refl, sym, ap, ◌∙◌, subst, arith}
 use Rattle.std.specs.List.{list_any}
 use Rattle.std.specs.Option.{option_and_then, option_map, unwrap_or}
 use Rattle.std.proofs.lemmas.Bool.{eq-eqb, eqb-true, ltb-true}
@@ -30,11 +30,6 @@ use Rattle.parking_lot_worlds.proofs.OncesKept as of_onces
 use Rattle.parking_lot_worlds.proofs.Whole.{ask_lock_there, ask_variable_there, both_ways, waits_go}
 
 -- LISTS
-
-pub written : {X : Type 0} (xs : List (Option X)) (t : ℕ) (o : Option X) → t < length xs → option_and_then (λ y. y) (slice_get (slice_set xs t o) t) ≡ o
-written [] t o low = absurd (omega (arith, low))
-written (x ∷ xs) zero o low = refl
-written (x ∷ xs) (suc t) o low = written xs t o (omega (arith, low))
 
 pub elsewhere : {X : Type 0} (xs : List (Option X)) (t u : ℕ) (o : Option X) → t ≢ u → option_and_then (λ y. y) (slice_get (slice_set xs u o) t) ≡ option_and_then (λ y. y) (slice_get xs t)
 elsewhere xs t u o ne = ap (option_and_then (λ y. y)) (get-set_other xs u t o (λ e. ne (sym e)))

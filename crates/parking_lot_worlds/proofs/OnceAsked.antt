@@ -1,5 +1,5 @@
 -- What each step leaves of a call at a once: what it was asked.
-use Rattle.std.proofs.Common.{◌≡◌, ◌≢◌, inl, inr, ℕ, zero, suc, List, [], ◌∷◌, Option, Some, None, slice_get, slice_set, refl, sym, ap, ◌∙◌, subst}
+use Rattle.std.proofs.Common.{◌≡◌, ◌≢◌, inl, inr, ℕ, List, Option, Some, None, slice_set, refl, sym, ap, ◌∙◌, subst}
 use Rattle.std.specs.Option.{option_and_then, option_map}
 use Rattle.std.proofs.lemmas.Bool.{cases_eq}
 use Rattle.std.proofs.lemmas.Option.{none-some, same_Some}
@@ -15,18 +15,7 @@ use Rattle.parking_lot_once_world.specs.OnceCalls.{reply_by}
 use Rattle.parking_lot_once_world.specs.OnceSteps.{IsStepped}
 use Rattle.parking_lot_once_world.specs.declared.open_call.OpenCall.{OpenCall}
 use Rattle.parking_lot_once_world.specs.Onces.{Onces, call_at}
-use Rattle.parking_lot_rules.proofs.Indexed.{get-set_other}
-
-abbrev at_slot : List (Option OpenCall) → ℕ → Option OpenCall
-at_slot calls t = option_and_then (λ (o : Option OpenCall). o) (slice_get calls t)
-
-set_here : (cs : List (Option OpenCall)) (t : ℕ) (c : OpenCall) (o : Option OpenCall) → at_slot cs t ≡ Some c → at_slot (slice_set cs t o) t ≡ o
-set_here [] t c o e = absurd (none-some c e)
-set_here (x ∷ cs) zero c o e = refl
-set_here (x ∷ cs) (suc t) c o e = set_here cs t c o e
-
-set_elsewhere : (cs : List (Option OpenCall)) (t k : ℕ) (o : Option OpenCall) → k ≢ t → at_slot (slice_set cs t o) k ≡ at_slot cs k
-set_elsewhere cs t k o ne = ap (option_and_then (λ (c : Option OpenCall). c)) (get-set_other cs t k o (λ e. ne (sym e)))
+use Rattle.parking_lot_call_laws.proofs.Slots.{at_slot, set_elsewhere, set_here}
 
 -- it was asked the same
 pub record AsksOn (c : OpenCall) (o : Option OpenCall) : Type 0 where

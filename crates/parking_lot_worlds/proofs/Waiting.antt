@@ -1,6 +1,6 @@
 -- What each step leaves of a call at a condition variable: what it was asked, and that its deadline hasn't come.
-use Rattle.std.proofs.Common.{◌≡◌, ◌≢◌, ◌⊎◌, inl, inr, ℕ, zero, suc, ◌==◌, ◌||◌, Bool, true, false, cond, List, [], ◌∷◌, Option, Some, None, slice_get, slice_set, refl, sym, ap, ◌∙◌, subst}
-use Rattle.std.specs.Option.{option_and_then, option_map}
+use Rattle.std.proofs.Common.{◌≡◌, ◌≢◌, ◌⊎◌, inl, inr, ℕ, zero, suc, ◌==◌, ◌||◌, Bool, true, false, cond, List, Option, Some, None, slice_set, refl, sym, ap, ◌∙◌, subst}
+use Rattle.std.specs.Option.{option_map}
 use Rattle.std.proofs.lemmas.Bool.{cases_eq}
 use Rattle.std.proofs.lemmas.Option.{none-some, same_Some}
 use Rattle.parking_lot_condvar_world.specs.declared.calls.CondvarCall.{CondvarCall}
@@ -14,7 +14,7 @@ use Rattle.parking_lot_condvar_world.specs.Machines.{State as Var, call_at as va
 use Rattle.parking_lot_condvar_world.specs.Outsides.{told, told_by, wait_hears}
 use Rattle.parking_lot_condvar_world.specs.OwnSteps.{notify_goes, queue_after_wait, stepped, stepped_by, wait_goes, wait_sees}
 use Rattle.parking_lot_condvar_world.specs.Steps as vars
-use Rattle.parking_lot_rules.proofs.Indexed.{get-set_other}
+use Rattle.parking_lot_call_laws.proofs.Slots.{at_slot, set_elsewhere, set_here}
 use Rattle.parking_lot_protocol.specs.declared.act.CoreAnswer.{CoreAnswer}
 use Rattle.parking_lot_protocol.specs.declared.act.CoreAnswer.TheVariants as answer
 use Rattle.parking_lot_core_lot.specs.declared.parking.UnparkToken.{UnparkToken}
@@ -123,17 +123,6 @@ waits_itself c o e = record { call = c; here = e; same = refl; in_time = λ x. x
 
 waits_then : (c : OpenCall) (o p : Option OpenCall) (a : WaitsOn c o) → ((d : OpenCall) → o ≡ Some d → WaitsOn d p) → WaitsOn c p
 waits_then c o p a next = (let b = next a.call a.here in record { call = b.call; here = b.here; same = b.same ∙ a.same; in_time = λ x. b.in_time (a.in_time x) })
-
-abbrev at_slot : List (Option OpenCall) → ℕ → Option OpenCall
-at_slot calls t = option_and_then (λ (o : Option OpenCall). o) (slice_get calls t)
-
-set_here : (cs : List (Option OpenCall)) (t : ℕ) (c : OpenCall) (o : Option OpenCall) → at_slot cs t ≡ Some c → at_slot (slice_set cs t o) t ≡ o
-set_here [] t c o e = absurd (none-some c e)
-set_here (x ∷ cs) zero c o e = refl
-set_here (x ∷ cs) (suc t) c o e = set_here cs t c o e
-
-set_elsewhere : (cs : List (Option OpenCall)) (t k : ℕ) (o : Option OpenCall) → k ≢ t → at_slot (slice_set cs t o) k ≡ at_slot cs k
-set_elsewhere cs t k o ne = ap (option_and_then (λ (c : Option OpenCall). c)) (get-set_other cs t k o (λ e. ne (sym e)))
 
 -- AT ITS VARIABLE, BY ANY THREAD u
 
