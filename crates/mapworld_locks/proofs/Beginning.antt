@@ -34,7 +34,8 @@ use Rattle.mapworld_locks.specs.Seats.{seat_of}
 use Rattle.mapworld_locks.specs.Stands.{is_try, needs, stand_of, is_of_shards}
 use Rattle.mapworld_locks.specs.Steps.{LockBegins, MayAsk}
 use Rattle.mapworld_locks.specs.Views.{Shown, held_as, held_at}
-use Rattle.mapworld_locks.proofs.Calls.{call_of, set_elsewhere, slot}
+use Rattle.mapworld_locks.proofs.Calls.{call_of, slot}
+use Rattle.parking_lot_rules.proofs.Slots.{set_elsewhere}
 use Rattle.mapworld_locks.proofs.Ending.{held_by_role, idle_mode}
 use Rattle.mapworld_locks.proofs.Handing.{not_recursive}
 use Rattle.mapworld_locks.proofs.Lists.{all_at}

@@ -11,6 +11,7 @@ use Rattle.parking_lot_protocol.specs.declared.act.ActResult.{ActResult}
 use Rattle.parking_lot_protocol.specs.declared.act.CoreAnswer.{CoreAnswer}
 use Rattle.parking_lot_protocol.specs.declared.rw_phase.RwPhase.{RwPhase}
 use Rattle.parking_lot_rules.proofs.Indexed.{get-set_same, get-set_other}
+use Rattle.parking_lot_rules.proofs.Slots.{set_elsewhere, set_here}
 use Rattle.parking_lot_world_calls.specs.declared.open_call.Call.{Call}
 use Rattle.parking_lot_world_calls.specs.declared.seat.Core.{Core}
 use Rattle.parking_lot_world_calls.specs.declared.late_rw.LateRwPhase.{LateRwPhase}
@@ -162,12 +163,6 @@ slot calls t c h = at (slice_get calls t) refl
     at : (o : Option (Option Call)) → slice_get calls t ≡ o → slice_get calls t ≡ Some (Some c)
     at None e = absurd (none-some c (sym (ap (option_and_then (λ x. x)) e) ∙ h))
     at (Some x) e = e ∙ ap Some (sym (ap (option_and_then (λ y. y)) e) ∙ h)
-
-pub set_here : (calls : List (Option Call)) (t : ℕ) (c : Call) (o : Option Call) → call_of calls t ≡ Some c → call_of (slice_set calls t o) t ≡ o
-set_here calls t c o h = ap (option_and_then (λ y. y)) (get-set_same calls t (Some c) o (slot calls t c h))
-
-pub set_elsewhere : (calls : List (Option Call)) (t v : ℕ) (o : Option Call) → v ≢ t → call_of (slice_set calls t o) v ≡ call_of calls v
-set_elsewhere calls t v o ne = ap (option_and_then (λ y. y)) (get-set_other calls t v o (λ e. ne (sym e)))
 
 stays_itself : (o : Option Call) (d : Call) → o ≡ Some d → Comes o d
 stays_itself o d e = record { call = d; was = e; follows = follows_itself d d refl refl refl }

@@ -24,7 +24,8 @@ use Rattle.parking_lot_world_calls.specs.Stances.{core_act}
 use Rattle.parking_lot_world_calls.specs.CallViews.{hold_mode}
 use Rattle.mapworld_locks.specs.Views.{held_as, held_at}
 use Rattle.mapworld_locks.specs.Fits.{is_plain}
-use Rattle.mapworld_locks.proofs.Calls.{set_here, slot}
+use Rattle.mapworld_locks.proofs.Calls.{slot}
+use Rattle.parking_lot_rules.proofs.Slots.{set_here}
 use Rattle.mapworld_locks.proofs.Handing.{goes_by, held_is, no_mutex, within_kinds}
 use Rattle.mapworld_locks.proofs.Lists.{one_of_all}
 use Rattle.mapworld_locks.proofs.Owning.{mode_standing}

@@ -30,7 +30,8 @@ use Rattle.parking_lot_world.specs.TellLaws.{IsDue}
 use Rattle.mapworld_locks.specs.Stands.{Stand, core_aim, core_tries, is_trying, stand_of}
 use Rattle.mapworld_locks.proofs.Aiming.{next_patient}
 use Rattle.mapworld_locks.specs.Fits.{is_plain}
-use Rattle.mapworld_locks.proofs.Calls.{Hears, IsProper, call_of, late_is, map_of, next_keeps, set_elsewhere, set_here, set_nothing, slot}
+use Rattle.mapworld_locks.proofs.Calls.{Hears, IsProper, call_of, late_is, map_of, next_keeps, set_nothing, slot}
+use Rattle.parking_lot_rules.proofs.Slots.{set_elsewhere, set_here}
 
 -- a call that is kept isn't led astray
 pub kept_proper : (recursive : Bool) (n : ℕ) (k : Core) → IsPrepared recursive n k → IsProper k

@@ -21,7 +21,8 @@ use Rattle.parking_lot_world.specs.RowFits.{FitsTogether, IsAt, Seated, Stands}
 use Rattle.parking_lot_world.specs.Rows.{State, call_at, is_by, taken_by}
 use Rattle.parking_lot_world_calls.specs.Stances.{Asleep, Stance, core_act, stance}
 use Rattle.parking_lot_world.specs.TellLaws.{IsDue}
-use Rattle.mapworld_locks.proofs.Calls.{call_of, late_is, set_elsewhere, slot}
+use Rattle.mapworld_locks.proofs.Calls.{call_of, late_is, slot}
+use Rattle.parking_lot_rules.proofs.Slots.{set_elsewhere}
 
 -- a thread has taken another, and is to wake it
 abbrev pub HasTaken : List Wakeup → ℕ → ℕ → Type 0

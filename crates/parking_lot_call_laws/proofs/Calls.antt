@@ -29,7 +29,7 @@ use Rattle.parking_lot_world.specs.Rows.{State, call_at, is_by, word_at}
 use Rattle.parking_lot_world.specs.TellLaws.{IsDue}
 use Rattle.parking_lot_call_laws.proofs.Heard.{Hears}
 use Rattle.parking_lot_call_laws.proofs.Sleeping.{sleeps_act}
-use Rattle.parking_lot_call_laws.proofs.Slots.{at_slot as call_of, set_elsewhere, set_here}
+use Rattle.parking_lot_rules.proofs.Slots.{at_slot as call_of, set_elsewhere, set_here}
 
 -- It goes on at its lock, with the same holds beside: as it was, or by what it has heard.
 pub record GoesOn (c : Call) (o : Option Call) : Type 0 where

@@ -29,7 +29,7 @@ use Rattle.parking_lot_call_laws.specs.AnswerLaws.{CallsLead, IsAnswered, IsOpen
 use Rattle.parking_lot_call_laws.specs.Stages.{Leads, core_stage, quits, stage, stage_of}
 use Rattle.parking_lot_call_laws.proofs.Calls as calls
 use Rattle.parking_lot_call_laws.proofs.Calls.{answer_is, ended_goes, stepped_goes}
-use Rattle.parking_lot_call_laws.proofs.Slots.{set_elsewhere, set_here, set_there, slot_low}
+use Rattle.parking_lot_rules.proofs.Slots.{set_elsewhere, set_here, set_there, slot_low}
 use Rattle.parking_lot_call_laws.proofs.Ending.{core_done}
 use Rattle.parking_lot_call_laws.proofs.Heard.{Hears, begins_there, heard_leads, late_quits}
 

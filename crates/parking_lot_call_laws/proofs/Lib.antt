@@ -4,7 +4,6 @@ pub mod Quitting
 pub mod Heard
 pub mod Ending
 pub mod Sleeping
-pub mod Slots
 pub mod Calls
 pub mod Leading
 pub mod Standing

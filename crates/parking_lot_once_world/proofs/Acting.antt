@@ -13,7 +13,7 @@ use Rattle.parking_lot_once_world.specs.Entries.{list_of}
 use Rattle.parking_lot_once_world.specs.Onces.{OpenCall, Onces, word_at, call_in, call_at, known_of, role_in, role_at, word_of, once_at}
 use Rattle.parking_lot_once_world.specs.OnceFits.{Fits}
 use Rattle.parking_lot_once_world.specs.OnceSteps.{HasMade, IsLawful}
-use Rattle.parking_lot_once_world.proofs.Everybody.{all, change-all, change-two, get-all, same-all}
+use Rattle.parking_lot_rules.proofs.Everybody.{all, change-all, change-two, get-all, same-all}
 
 -- CALLS
 

@@ -1,5 +1,4 @@
 pub mod Listing
-pub mod Everybody
 pub mod Phases
 pub mod Acting
 pub mod Owning

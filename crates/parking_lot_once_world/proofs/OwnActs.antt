@@ -33,7 +33,7 @@ use Rattle.parking_lot_once_world.specs.OnceSteps.{IsActOfItsOwn, IsEntry, IsLaw
 use Rattle.parking_lot_once_world.specs.declared.open_call.OpenCall.{OpenCall}
 use Rattle.parking_lot_once_world.specs.Onces.{Onces, word_at, call_at, known_of, role_in, role_at, word_of, once_at}
 use Rattle.parking_lot_once_world.proofs.Acting.{plays, role_here, shows_word, word_here, word_elsewhere}
-use Rattle.parking_lot_once_world.proofs.Everybody.{was-all}
+use Rattle.parking_lot_rules.proofs.Everybody.{was-all}
 use Rattle.parking_lot_once_world.proofs.Listing.{short}
 use Rattle.parking_lot_once_world.proofs.Phases.{Led, in_after, leads, leaves, shows}
 use Rattle.parking_lot_once_world.proofs.Owning.{One, fits_one, makes_one, not_another, stays_one}

@@ -10,7 +10,7 @@ use Rattle.parking_lot_once_world.specs.Entries.{list_of}
 use Rattle.parking_lot_once_world.specs.declared.open_call.OpenCall.{OpenCall}
 use Rattle.parking_lot_once_world.specs.Onces.{Onces, call_at, role_in, role_at, once_at}
 use Rattle.parking_lot_once_world.proofs.Acting.{plays}
-use Rattle.parking_lot_once_world.proofs.Everybody.{was-all}
+use Rattle.parking_lot_rules.proofs.Everybody.{was-all}
 use Rattle.parking_lot_once_rules.specs.Once as rules
 
 -- one that isn't idle there is in a call there

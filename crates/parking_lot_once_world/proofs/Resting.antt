@@ -10,7 +10,7 @@ use Rattle.parking_lot_once_world.specs.OnceActs.{at_rest}
 use Rattle.parking_lot_once_world.specs.OnceFits.{Fits, lies}
 use Rattle.parking_lot_once_world.specs.Onces.{Onces, call_in, once_at, role_at, role_in, word_of}
 use Rattle.parking_lot_once_world.proofs.Acting.{same_once}
-use Rattle.parking_lot_once_world.proofs.Everybody.{all}
+use Rattle.parking_lot_rules.proofs.Everybody.{all}
 
 no_call : (n t : ℕ) → call_in (replicate n None) t ≡ None
 no_call zero t = refl

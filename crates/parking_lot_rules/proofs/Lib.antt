@@ -1,4 +1,6 @@
 pub mod Indexed
+pub mod Slots
+pub mod Everybody
 pub mod Totals
 pub mod Plain
 pub mod Fitting

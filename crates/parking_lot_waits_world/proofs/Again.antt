@@ -23,7 +23,7 @@ use Rattle.parking_lot_world.specs.RowFits.{FitsTogether}
 use Rattle.parking_lot_world_calls.specs.CallKinds.{IsOfKind}
 use Rattle.parking_lot_world.specs.Rows.{State, call_at}
 use Rattle.parking_lot_world_calls.specs.Stances.{core_act}
-use Rattle.parking_lot_world.proofs.Carrying.{set_here}
+use Rattle.parking_lot_rules.proofs.Slots.{set_there}
 use Rattle.parking_lot_condvar_world.proofs.Slots.{within}
 use Rattle.parking_lot_waits_world.specs.Joint.{core_enters}
 use Rattle.parking_lot_waits_world.specs.JointSteps.{is_owned}
@@ -67,7 +67,7 @@ module _ (s : State) (t : ℕ) (c : Call) (a : CoreAnswer) (h : FitsTogether s) 
   low = within s.calls t c here
 
   nobody : is_none (call_at (answered s t c) t) ≡ true
-  nobody = ap (λ (o : Option Call). is_none o) (set_here s.calls t None low)
+  nobody = ap (λ (o : Option Call). is_none o) (set_there s.calls t None low)
 
   pub may_again : may_begin (answered s t c) t c.lock call.Lock ≡ true
   may_again = both _ _ (lt-ltb t _ (subst (λ n. t < n) (sym (length-set s.calls t None)) low)) (both _ _ nobody (both _ _ (ap (λ k. is_manner k (manner_for call.Lock)) manner) (ap owns_nothing (owned_after s t c h here) ∙ owns_none c.others c.core a at asks loses)))

@@ -28,7 +28,8 @@ use Rattle.parking_lot_world.specs.Rows.{State, call_at, hold_at, hold_in, word_
 use Rattle.parking_lot_world_calls.specs.Stances.{Asleep, core_act, core_next, stance}
 use Rattle.parking_lot_waits_world.specs.Joint.{core_enters, is_entry}
 use Rattle.parking_lot_waits_world.specs.Whole.{asks, place_of}
-use Rattle.parking_lot_waits_world.proofs.Stages.{AllGo, Onward, Still, all_stay, all_told, both_ways, call_of, heard, late_still, no_sort, one_goes, one_off, set_else, woken}
+use Rattle.parking_lot_waits_world.proofs.Stages.{AllGo, Onward, Still, all_stay, all_told, both_ways, call_of, heard, late_still, no_sort, one_goes, one_off, woken}
+use Rattle.parking_lot_rules.proofs.Slots.{set_elsewhere}
 
 -- A STEP THAT ENDS NO CALL
 
@@ -170,7 +171,7 @@ kept_same s u x k = record {
 -- where one number's call is written, others stay
 pub set_same : (s u : State) (t : ℕ) (o : Option Call) → u.calls ≡ slice_set s.calls t o → u.holds ≡ s.holds → u.kinds ≡ s.kinds → (k : ℕ) → k ≢ t → Same s u k
 set_same s u t o calls holds kinds k ne = record {
-  place = ap (option_map (λ (c : Call). c.lock)) (ap (λ (cs : List (Option Call)). call_of cs k) calls ∙ set_else s.calls t k o ne);
+  place = ap (option_map (λ (c : Call). c.lock)) (ap (λ (cs : List (Option Call)). call_of cs k) calls ∙ set_elsewhere s.calls t k o ne);
   holds = λ m. ap (λ hs. hold_in hs (length u.kinds) k m) holds ∙ ap (λ ks. hold_in s.holds (length ks) k m) kinds;
 }
 
@@ -190,7 +191,7 @@ beyond false x y z e = refl
 -- where one's call is over, others stay
 pub over_same : (s u : State) (t : ℕ) (a : CoreAnswer) (x : Over t a s u) → x.call.lock < length s.kinds → (k : ℕ) → k ≢ t → Same s u k
 over_same s u t a x low k ne = subst (λ (v : State). Same s v k) (sym x.became) (record {
-  place = ap (option_map (λ (c : Call). c.lock)) (set_else s.calls t k None ne);
+  place = ap (option_map (λ (c : Call). c.lock)) (set_elsewhere s.calls t k None ne);
   holds = λ m. at m (nat_lt m (length s.kinds)) refl;
 })
   where

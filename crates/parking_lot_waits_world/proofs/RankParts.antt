@@ -22,7 +22,8 @@ use Rattle.parking_lot_world.specs.Ranks as row
 use Rattle.parking_lot_world.specs.RowFits.{FitsTogether}
 use Rattle.parking_lot_world.specs.Rows.{State, call_at as row_call_at, state}
 use Rattle.parking_lot_world_calls.specs.Stances.{core_act}
-use Rattle.parking_lot_world.proofs.Carrying.{call_within, set_here}
+use Rattle.parking_lot_world.proofs.Carrying.{call_within}
+use Rattle.parking_lot_rules.proofs.Slots.{set_there}
 use Rattle.parking_lot_world.proofs.WakesPaying.{any_may_be_stepped}
 use Rattle.parking_lot_waits_world.specs.declared.seat.Seat.{Seat}
 use Rattle.parking_lot_waits_world.specs.Joint.{Joint, busy_by, busy_number, call_at, call_in, back_number, front_number, nowhere, number, seat_at, var_at, var_in}
@@ -49,7 +50,7 @@ pub over_idle : (s u : State) (k : ℕ) (fair : Bool) (a : CoreAnswer) → rows.
 over_idle s u k fair a x = go (core_act x.call.core) x.answers x.became
   where
     go : (what : Act) → Some a ≡ end_of what → rows.Became what k fair x.call s u → row_call_at u k ≡ None
-    go (Act.Done b) ends e = subst (λ (v : State). row_call_at v k ≡ None) (sym e) (set_here s.calls k None (call_within s k x.call x.here))
+    go (Act.Done b) ends e = subst (λ (v : State). row_call_at v k ≡ None) (sym e) (set_there s.calls k None (call_within s k x.call x.here))
     go what ends e = absurd cc
 
 -- those that are moved to a mutex add so many steps each

@@ -22,6 +22,7 @@ use Rattle.parking_lot_world.specs.Machines.{sleeps}
 use Rattle.parking_lot_world_calls.specs.CallActs.{off_list, settled}
 use Rattle.parking_lot_world_calls.specs.Stances.{Asleep, core_act, core_next, late_act, late_next, late_stance, mutex_stance, stance}
 use Rattle.parking_lot_waits_world.specs.Whole.{asks, asks_on, gives, phase_asks, phase_gives}
+use Rattle.parking_lot_rules.proofs.Slots.{set_elsewhere, set_here}
 
 -- THE PHASES OF A CALL AT A MUTEX
 
@@ -182,14 +183,6 @@ pub both_ways : {X : Type 0} {b : Bool} → b ≡ true → b ≡ false → X
 both_ways p q = absurd cc
 
 -- what stands in a list where one was written, and elsewhere
-pub set_here : (cs : List (Option Call)) (t : ℕ) (c : Call) (o : Option Call) → call_of cs t ≡ Some c → call_of (slice_set cs t o) t ≡ o
-set_here [] t c o e = absurd (none-some c e)
-set_here (x ∷ cs) zero c o e = refl
-set_here (x ∷ cs) (suc t) c o e = set_here cs t c o e
-
-pub set_else : (cs : List (Option Call)) (t k : ℕ) (o : Option Call) → k ≢ t → call_of (slice_set cs t o) k ≡ call_of cs k
-set_else cs t k o ne = ap (λ (x : Option (Option Call)). option_and_then (λ (c : Option Call). c) x) (get-set_other cs t k o (λ e. ne (sym e)))
-
 still_there : (o p : Option Call) (c : Call) → o ≡ Some c → Onward o p → (d : Call) × (p ≡ Some d)
 still_there None p c e x = absurd (none-some c e)
 still_there (Some b) p c e x = (x.call, x.here)
@@ -203,7 +196,7 @@ one_goes cs ds t c o was all goes = record { count = length-set ds t o ∙ all.c
 
     at : (k : ℕ) (b : Bool) → (k == t) ≡ b → Onward (call_of cs k) (call_of (slice_set ds t o) k)
     at k true e = subst (λ (n : ℕ). Onward (call_of cs n) (call_of (slice_set ds t o) n)) (sym (eqb-true k t e)) (subst (λ (p : Option Call). Onward p (call_of (slice_set ds t o) t)) (sym was) mine)
-    at k false e = subst (λ (p : Option Call). Onward (call_of cs k) p) (sym (set_else ds t k o (λ f. both_ways (eq-eqb k t f) e))) (all.each k)
+    at k false e = subst (λ (p : Option Call). Onward (call_of cs k) p) (sym (set_elsewhere ds t k o (λ f. both_ways (eq-eqb k t f) e))) (all.each k)
 
 -- all are told something that says nothing of their sorts
 pub all_told : (t : ℕ) (said : WakeResult) (cs ds : List (Option Call)) → AllGo cs ds → AllGo cs (map (option_map (settled t said)) ds)

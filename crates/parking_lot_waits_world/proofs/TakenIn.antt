@@ -12,7 +12,8 @@ use Rattle.parking_lot_waits_world.specs.Moving.{AreMoved, AreMovedAs, back_in, 
 use Rattle.parking_lot_waits_world.specs.Whole.{IsIn, asks}
 use Rattle.parking_lot_waits_world.proofs.Ending.{roused_asking, taken_asking}
 use Rattle.parking_lot_waits_world.proofs.Keeping.{Stays, is_not, stays_on, untouched}
-use Rattle.parking_lot_waits_world.proofs.Stages.{call_of, set_else}
+use Rattle.parking_lot_waits_world.proofs.Stages.{call_of}
+use Rattle.parking_lot_rules.proofs.Slots.{set_elsewhere}
 use Rattle.parking_lot_waits_world.proofs.TakenOff.{member}
 
 -- the number with which one of them sleeps
@@ -57,7 +58,7 @@ module _ (seats : List Seat) (x : Var) (lock : ℕ) where
     where
       stays_first : (k : ℕ) → k ≢ back_in seats w → Stays s m k
       stays_first k ne =
-          untouched s m k (ap (λ (cs : List (Option Call)). call_of cs k) calls ∙ set_else s.calls (back_in seats w) k (Some d) ne)
+          untouched s m k (ap (λ (cs : List (Option Call)). call_of cs k) calls ∙ set_elsewhere s.calls (back_in seats w) k (Some d) ne)
           (λ n. ap (λ hs. hold_in hs (length m.kinds) k n) holds ∙ ap (λ (ks : List LockKind). hold_in s.holds (length ks) k n) kinds)
 
       join : (k : ℕ) (b c : Bool) → (k == back_in seats w) ≡ b → Now c lock m u k → Now (b || c) lock s u k

@@ -1,16 +1,17 @@
 -- What an act that changes a thread's call keeps of the lot's lists and of who is to be woken.
-use Rattle.std.proofs.Common.{◌≡◌, ◌≤◌, ◌<◌, ◌⊎◌, inl, inr, ℕ, ◌+◌, ◌*◌, ◌==◌, false, cond, List, [], ◌∷◌, length, filter, remove, Option, Some, None, slice_get, slice_set, refl, sym, ap, ◌∙◌, subst, arith, eq-eqb, count_by, zero, suc}
+use Rattle.std.proofs.Common.{◌≡◌, ◌≤◌, ◌<◌, ◌⊎◌, inl, inr, ℕ, ◌+◌, ◌*◌, ◌==◌, false, cond, List, [], ◌∷◌, length, filter, remove, Option, Some, None, slice_get, slice_set, refl, sym, ap, ◌∙◌, subst, arith, eq-eqb, count_by}
 use Rattle.std.specs.Option.{option_map, option_map_or, option_and_then}
 use Rattle.std.proofs.lemmas.List.{length-map}
 use Rattle.std.proofs.lemmas.List.Sums.{length-filter}
 use Rattle.std.proofs.lemmas.Option.{slice_get_within}
 use Rattle.parking_lot_core_lot.specs.declared.parking.ParkToken.{ParkToken}
+use Rattle.parking_lot_core_lot.specs.declared.place.Place.{Place}
 use Rattle.parking_lot_core_lot.specs.declared.place.Section.{Section}
 use Rattle.parking_lot_core_lot.specs.declared.place.Waiter.{Waiter}
 use Rattle.parking_lot_core_lot.specs.Places.{place_at, mark_of}
 use Rattle.parking_lot_core_lot.specs.Sound.{Sound}
 use Rattle.parking_lot_core_lot.proofs.Numbers.{flag, slice_get-set_other, count_by-at, count_by-remove}
-use Rattle.parking_lot_core_lot.proofs.Sounds.{none≢some}
+use Rattle.parking_lot_core_lot.proofs.Sounds.{none≢some, by_eqb}
 use Rattle.parking_lot_world_calls.specs.declared.seat.WakeResult.{WakeResult}
 use Rattle.parking_lot_world_calls.specs.declared.seat.QueuePosition.{QueuePosition}
 use Rattle.parking_lot_world_calls.specs.declared.open_call.Call.{Call}
@@ -34,13 +35,32 @@ pub call_within : (s : State) (t : ℕ) (c : Call) → call_at s t ≡ Some c �
 call_within s t c h = slice_get_within s.calls t (Some c) (some_call (slice_get s.calls t) c h)
 
 -- one call is changed
-pub set_here : (calls : List (Option Call)) (t : ℕ) (o : Option Call) → t < length calls → option_and_then (λ x. x) (slice_get (slice_set calls t o) t) ≡ o
-set_here [] t o h = absurd (omega arith)
-set_here (c ∷ calls) zero o h = refl
-set_here (c ∷ calls) (suc t) o h = set_here calls t o (omega arith)
-
 pub set_elsewhere : (calls : List (Option Call)) (t v : ℕ) (o : Option Call) → (v == t) ≡ false → option_and_then (λ x. x) (slice_get (slice_set calls t o) v) ≡ option_and_then (λ x. x) (slice_get calls v)
 set_elsewhere calls t v o e = ap (option_and_then (λ x. x)) (slice_get-set_other calls t v o e)
+
+-- the calls of all others stay, and one goes on at its lock: so each call is at its lock still
+pub lock_kept : (s u : State) (t : ℕ) (c d : Call) → call_at s t ≡ Some c → call_at u t ≡ Some d → d.lock ≡ c.lock → ((v : ℕ) → (v == t) ≡ false → call_at u v ≡ call_at s v)
+    → (x : ℕ) (y : Call) → call_at s x ≡ Some y → (z : Call) × (call_at u x ≡ Some z) × (z.lock ≡ y.lock)
+lock_kept s u t c d here there lock apart x y at = by_eqb x t ((z : Call) × (call_at u x ≡ Some z) × (z.lock ≡ y.lock))
+    (λ e. (d, ap (call_at u) e ∙ there, lock ∙ ap (λ (z : Call). z.lock) (same_call (sym here ∙ (ap (call_at s) (sym e) ∙ at)))))
+    (λ e. (y, apart x e ∙ at, refl))
+
+-- one that was taken stays so, where its call and its place stay, and its taker is at its lock still
+pub still_taken : (s u : State) (e : Wakeup) (old : IsTaken s e) → (z : Call) × (call_at u e.by ≡ Some z) × (z.lock ≡ old.taker.lock) → call_at u e.thread ≡ call_at s e.thread
+    → place_at u.lot.places e.thread ≡ place_at s.lot.places e.thread → IsTaken u e
+still_taken s u e old taker call place = record {
+  taker = taker.0;
+  there = taker.1;
+  call = old.call;
+  here = call ∙ old.here;
+  lock = old.lock ∙ sym taker.2;
+  said = old.said;
+  spot = old.spot;
+  key = old.key;
+  token = old.token;
+  asleep = old.asleep;
+  mark = ap (λ (p : Option Place). option_map_or mark_of p 0) place ∙ old.mark;
+}
 
 -- how many a thread in that call has taken
 abbrev pub tally : Option Call → ℕ

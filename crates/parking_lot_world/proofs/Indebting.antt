@@ -28,7 +28,7 @@ use Rattle.parking_lot_world.specs.SoundLaws.{AwakeCanMove, DebtsAreKept, IsApar
 use Rattle.parking_lot_world_calls.specs.Stances.{core_act}
 use Rattle.parking_lot_world.specs.Worlds.{in_debt_at, mode_in}
 use Rattle.parking_lot_world.proofs.Agreeing.{role_weighs}
-use Rattle.parking_lot_world.proofs.Everybody.{get-all, within-all}
+use Rattle.parking_lot_rules.proofs.Everybody.{get-all, within-all}
 use Rattle.parking_lot_world.proofs.Serving.{by_call, or_else, possible_alone}
 use Rattle.parking_lot_world.proofs.Viewing.{apart_role}
 use Rattle.parking_lot_world.proofs.KindTable.{Kind, of_mutexes, of_rws, role_at, roles_at}

@@ -42,7 +42,7 @@ use Rattle.parking_lot_world_calls.specs.CallKinds.{IsOfKind, IsOfManner}
 use Rattle.parking_lot_world.specs.Rows.{State, word_at, hold_at, call_at, everybody, taken_by, rw_role_in, mutex_role_in, mutex_word_of, any_lock, lock_as, lock_at, queue_at}
 use Rattle.parking_lot_world_calls.specs.CallRoles.{owned_of, owns_mutex, rw_spot, mutex_spot, first_of_all, mark_of, late_role, rw_core_role, mutex_core_role, mutex_role}
 use Rattle.parking_lot_world_calls.specs.Stances.{Asleep, core_next, late_next, late_rw_stance, late_stance, lying, mutex_stance, pending_from, quits_as, rw_stance, seeks_stance, sleeper_stance, stance, upgrade_stance, mutex_taken, sign, resumed_as, sleeper_asleep}
-use Rattle.parking_lot_world.proofs.Everybody.{all, change-all, get-all, same-all}
+use Rattle.parking_lot_rules.proofs.Everybody.{all, change-all, get-all, same-all}
 use Rattle.parking_lot_protocol.specs.declared.act.Act.{Act}
 
 -- What the machine shows of a kind of locks. C is the core of a call at one, R what a thread is to it, and L the lock of the rules. A thread is

@@ -1,7 +1,6 @@
 -- One whose moment has passed and that was taken comes back into its section and finds that out: what fits of the lot still fits.
 use Rattle.std.proofs.Common.{◌≡◌, ◌<◌, ◌≤◌, ℕ, zero, suc, ◌+◌, ◌*◌, ◌==◌, inl, inr, Bool, false, true, cond, not, List, [], ◌∷◌, length, Option, Some, None, slice_get, slice_set, refl, sym, ap, ◌∙◌, subst, arith, eq-eqb}
 use Rattle.std.specs.List.{position_or_len}
-use Rattle.std.specs.Option.{option_map_or}
 use Rattle.std.proofs.lemmas.Bool.{ne_eqb, eqb-false, eqb-true}
 use Rattle.parking_lot_core_lot.specs.declared.parking.ParkToken.{ParkToken}
 use Rattle.parking_lot_core_lot.specs.declared.parking.UnparkToken.{UnparkToken}
@@ -12,7 +11,7 @@ use Rattle.parking_lot_core_lot.specs.declared.place.Section.{Section}
 use Rattle.parking_lot_core_lot.specs.declared.place.Sleep.{Sleep}
 use Rattle.parking_lot_core_lot.specs.declared.place.Waiter.{Waiter}
 use Rattle.parking_lot_core_lot.specs.Machine.{Machine}
-use Rattle.parking_lot_core_lot.specs.Places.{place_at, mark_of}
+use Rattle.parking_lot_core_lot.specs.Places.{place_at}
 use Rattle.parking_lot_core_lot.specs.Sound.{Sound}
 use Rattle.parking_lot_core_lot.proofs.Numbers.{flag}
 use Rattle.parking_lot_core_lot.proofs.Sounds.{none≢some, by_eqb, place_at-set_same, place_at-set_other}
@@ -26,7 +25,7 @@ use Rattle.parking_lot_world.specs.LateActs.{unowed}
 use Rattle.parking_lot_world.specs.RowActs.{with_call, with_lot}
 use Rattle.parking_lot_world_calls.specs.CallActs.{told_of}
 use Rattle.parking_lot_world.specs.RowFits.{Awaits, IsAt, IsCounted, IsInside, IsOwed, IsTaken, LotFits, Seated, WakesSome}
-use Rattle.parking_lot_world.proofs.Carrying.{Tallied, call_within, dropped, no_length, same_call, tallied}
+use Rattle.parking_lot_world.proofs.Carrying.{Tallied, call_within, dropped, lock_kept, no_length, same_call, still_taken, tallied}
 use Rattle.parking_lot_world.proofs.Indexing.{apart_before, get_remove, kept_remove, not_removed}
 use Rattle.parking_lot_world.proofs.LotActs.{changed_here, changed_there, lies_still, outside_of, same_length, same_section, seat_of, seated_apart, seats_one, sits}
 use Rattle.parking_lot_world_calls.proofs.Stancing.{sleepers_wake}
@@ -131,11 +130,6 @@ module _ (s : State) (t : ℕ) (c d : Call) (key : ℕ) (park : ParkToken) (by :
   taker_apart : (by == t) ≡ false
   taker_apart = ne_eqb by t (λ f. let its = ap (λ (y : Call). taken_count y.core) (same_call (sym here ∙ (ap (call_at s) (sym f) ∙ owes.there))) in let more = owes.some in let zero_taken = not_taker in omega arith)
 
-  lock_kept : (x : ℕ) (y : Call) → call_at s x ≡ Some y → (z : Call) × (call_at u x ≡ Some z) × (z.lock ≡ y.lock)
-  lock_kept x y at = by_eqb x t ((z : Call) × (call_at u x ≡ Some z) × (z.lock ≡ y.lock))
-      (λ e. (d, ap (call_at u) e ∙ there, lock ∙ ap (λ (z : Call). z.lock) (same_call (sym here ∙ (ap (call_at s) (sym e) ∙ at)))))
-      (λ e. (y, apart x e ∙ at, refl))
-
   found_waits : (j l n : ℕ) (x : Waiter) → l < 2 → slice_get (out.queues (2 * j + l)) n ≡ Some x → (z : Call) × (call_at u x.thread ≡ Some z) × (z.lock ≡ j) × (z.spot ≡ QueuePosition.Listed) × Awaits l x.token (stance z.core)
   found_waits j l n x two at =
       let old = h.waits j l n x two (ap (λ (qs : ℕ → List Waiter). slice_get (qs (2 * j + l)) n) (sym queues) ∙ at) in
@@ -154,21 +148,9 @@ module _ (s : State) (t : ℕ) (c d : Call) (key : ℕ) (park : ParkToken) (by :
   found_woken n e at =
       let m = get_remove s.wakes i n e at in
       let old = h.woken m.0 e m.1 in
-      let taker = lock_kept e.by old.taker old.there in
+      let taker = lock_kept s u t c d here there lock apart e.by old.taker old.there in
       let f : (e.thread == t) ≡ false = ne_eqb e.thread t (λ same. not_removed i n m.0 m.2 (h.once m.0 i e owes.entry m.1 owes.at (same ∙ sym owes.thread))) in
-      record {
-        taker = taker.0;
-        there = taker.1;
-        call = old.call;
-        here = apart e.thread f ∙ old.here;
-        lock = old.lock ∙ sym taker.2;
-        said = old.said;
-        spot = old.spot;
-        key = old.key;
-        token = old.token;
-        asleep = old.asleep;
-        mark = ap (λ (p : Option Place). option_map_or mark_of p 0) (others e.thread f) ∙ old.mark;
-      }
+      still_taken s u e old taker (apart e.thread f) (others e.thread f)
 
   found_once : (n m : ℕ) (e f : Wakeup) → slice_get u.wakes n ≡ Some e → slice_get u.wakes m ≡ Some f → e.thread ≡ f.thread → n ≡ m
   found_once n m e f at at' same =

@@ -1,7 +1,6 @@
 -- The acts of a call whose moment has passed keep what fits of the lot.
 use Rattle.std.proofs.Common.{◌≡◌, ◌<◌, ◌≤◌, ℕ, ◌+◌, ◌*◌, ◌==◌, inr, false, List, length, remove, Option, Some, None, slice_get, count_by, refl, sym, ap, ◌∙◌, subst, arith, eq-eqb}
 use Rattle.std.specs.List.{position_or_len}
-use Rattle.std.specs.Option.{option_map_or}
 use Rattle.std.proofs.lemmas.Bool.{ne_eqb}
 use Rattle.parking_lot_core_lot.specs.declared.parking.ParkToken.{ParkToken}
 use Rattle.parking_lot_core_lot.specs.declared.place.Phase.{Phase}
@@ -11,7 +10,7 @@ use Rattle.parking_lot_core_lot.specs.declared.place.Section.{Section}
 use Rattle.parking_lot_core_lot.specs.declared.place.Waiter.{Waiter}
 use Rattle.parking_lot_core_lot.specs.Machine.{Machine, in_phase, is_thread, stored}
 use Rattle.parking_lot_core_lot.specs.Machine as lot
-use Rattle.parking_lot_core_lot.specs.Places.{place_at, mark_of}
+use Rattle.parking_lot_core_lot.specs.Places.{place_at}
 use Rattle.parking_lot_core_lot.specs.Sound.{Sound, times_at}
 use Rattle.parking_lot_core_lot.proofs.Kept.{updated_at, updated_other}
 use Rattle.parking_lot_core_lot.proofs.Numbers.{count_by-at}
@@ -27,7 +26,7 @@ use Rattle.parking_lot_world.specs.RowActs.{with_call, with_lot}
 use Rattle.parking_lot_world_calls.specs.CallActs.{key_of}
 use Rattle.parking_lot_world.specs.RowFits.{Awaits, IsAt, IsCounted, IsInside, IsOwed, IsTaken, LotFits, Seated, Stands, WaitsIn, WakesSome}
 use Rattle.parking_lot_world.proofs.Indexing.{get_remove}
-use Rattle.parking_lot_world.proofs.Carrying.{same_call, call_within, Carries, Tallied, tallied, no_length}
+use Rattle.parking_lot_world.proofs.Carrying.{Carries, Tallied, call_within, lock_kept, no_length, same_call, still_taken, tallied}
 use Rattle.parking_lot_world.proofs.LotActs.{same_section, seat_of, changed_here, changed_there, seats_one, same_length, acted, quiet, sits, nobody_off, seats_still, seated_apart, outside_of, lies_still}
 
 in_asleep : {k j : ℕ} {how : Doing} {token : ParkToken} → In k how ≡ Asleep j token → ⊥
@@ -119,11 +118,6 @@ module _ (s : State) (t : ℕ) (c d : Call) (key : ℕ) (two : key < 2) (how : D
   not_mine : (x j : ℕ) (token : ParkToken) (y : Call) → call_at s x ≡ Some y → stance y.core ≡ Asleep j token → (x == t) ≡ false
   not_mine x j token y at asleep = ne_eqb x t (λ e. in_asleep (sym from ∙ (ap (λ (z : Call). stance z.core) (same_call (sym here ∙ (ap (call_at s) (sym e) ∙ at))) ∙ asleep)))
 
-  lock_kept : (x : ℕ) (y : Call) → call_at s x ≡ Some y → (z : Call) × (call_at u x ≡ Some z) × (z.lock ≡ y.lock)
-  lock_kept x y at = by_eqb x t ((z : Call) × (call_at u x ≡ Some z) × (z.lock ≡ y.lock))
-      (λ e. (d, ap (call_at u) e ∙ there, lock ∙ ap (λ (z : Call). z.lock) (same_call (sym here ∙ (ap (call_at s) (sym e) ∙ at)))))
-      (λ e. (y, apart x e ∙ at, refl))
-
   -- it is in no list any more, and whoever is was there before
   gone : (j l n : ℕ) (x : Waiter) → slice_get (out.queues (2 * j + l)) n ≡ Some x → (x.thread == t) ≡ false
   gone j l n x at = ne_eqb x.thread t (λ e.
@@ -156,21 +150,9 @@ module _ (s : State) (t : ℕ) (c d : Call) (key : ℕ) (two : key < 2) (how : D
   quit_woken : (n : ℕ) (e : Wakeup) → slice_get s.wakes n ≡ Some e → IsTaken u e
   quit_woken n e at =
       let old = h.woken n e at in
-      let taker = lock_kept e.by old.taker old.there in
+      let taker = lock_kept s u t c d here there lock apart e.by old.taker old.there in
       let f = not_mine e.thread old.key old.token old.call old.here old.asleep in
-      record {
-        taker = taker.0;
-        there = taker.1;
-        call = old.call;
-        here = apart e.thread f ∙ old.here;
-        lock = old.lock ∙ sym taker.2;
-        said = old.said;
-        spot = old.spot;
-        key = old.key;
-        token = old.token;
-        asleep = old.asleep;
-        mark = ap (λ (p : Option Place). option_map_or mark_of p 0) (others e.thread f) ∙ old.mark;
-      }
+      still_taken s u e old taker (apart e.thread f) (others e.thread f)
 
   quit_tally : (x : ℕ) → Tallied (length u.calls) (length (taken_by s.wakes x)) (call_at u x)
   quit_tally x =

@@ -1,6 +1,5 @@
 mod KindTable
 pub mod Sleepers
-mod Everybody
 mod Making
 mod Meeting
 mod Calling

@@ -23,7 +23,8 @@ use Rattle.parking_lot_world_calls.specs.CallActs.{hears, told_of, key_of, joins
 use Rattle.parking_lot_world.specs.RowFits.{IsInside, IsOutside, IsAt, SaidIn, Stands, Seated, LotFits, HasCome, WakesSome}
 use Rattle.parking_lot_world_calls.specs.StanceLaws.{StaysOut, LeavesFor}
 use Rattle.parking_lot_world_calls.proofs.Stancing.{wakes_some}
-use Rattle.parking_lot_world.proofs.Carrying.{call_within, set_here, set_elsewhere, Carries, carries_same, IsAwake, IsUp, carries_awake, carries_begun, carries_ended, carried, carries_lain, taken_some}
+use Rattle.parking_lot_world.proofs.Carrying.{call_within, set_elsewhere, Carries, carries_same, IsAwake, IsUp, carries_awake, carries_begun, carries_ended, carried, carries_lain, taken_some}
+use Rattle.parking_lot_rules.proofs.Slots.{set_there}
 use Rattle.parking_lot_core_lot.specs.declared.place.Phase.{Phase}
 use Rattle.parking_lot_core_lot.specs.Results.{is_left}
 use Rattle.parking_lot_protocol.specs.declared.act.ActResult.TheVariants as seen
@@ -95,7 +96,7 @@ module _ (s : State) (t : ℕ) (h : LotFits s) (low : t < length s.calls) where
   -- One thread's call changes, and the lot in what the act does to it.
   module _ (o : Option Call) (lot : Machine) where
     pub changed_here : call_at (with_lot (record s { calls = slice_set s.calls t o }) lot) t ≡ o
-    changed_here = set_here s.calls t o low
+    changed_here = set_there s.calls t o low
 
     pub changed_there : (v : ℕ) → (v == t) ≡ false → call_at (with_lot (record s { calls = slice_set s.calls t o }) lot) v ≡ call_at s v
     changed_there v e = set_elsewhere s.calls t v o e

@@ -13,7 +13,7 @@ use Rattle.parking_lot_world.specs.Rows.{State, call_at, taken_by}
 use Rattle.parking_lot_world_calls.specs.Stances.{Out, Asleep, stance, taken_count}
 use Rattle.parking_lot_world.specs.RowActs.{with_call}
 use Rattle.parking_lot_world.specs.RowFits.{Awaits, IsCounted, IsInside, IsOwed, IsTaken, LotFits, WakesSome}
-use Rattle.parking_lot_world.proofs.Carrying.{Tallied, call_within, no_length, same_call, tallied}
+use Rattle.parking_lot_world.proofs.Carrying.{Tallied, call_within, lock_kept, no_length, same_call, still_taken, tallied}
 use Rattle.parking_lot_world.proofs.LotActs.{changed_here, changed_there, same_length, seat_of, seats_one, sits}
 
 out_asleep : {k : ℕ} {token : ParkToken} → Out ≡ Asleep k token → ⊥
@@ -36,11 +36,6 @@ module _ (s : State) (t : ℕ) (c d : Call) (h : LotFits s) (here : call_at s t 
   not_mine : (x j : ℕ) (token : ParkToken) (y : Call) → call_at s x ≡ Some y → stance y.core ≡ Asleep j token → (x == t) ≡ false
   not_mine x j token y at asleep = ne_eqb x t (λ e. out_asleep (sym from ∙ (ap (λ (z : Call). stance z.core) (same_call (sym here ∙ (ap (call_at s) (sym e) ∙ at))) ∙ asleep)))
 
-  lock_kept : (x : ℕ) (y : Call) → call_at s x ≡ Some y → (z : Call) × (call_at u x ≡ Some z) × (z.lock ≡ y.lock)
-  lock_kept x y at = by_eqb x t ((z : Call) × (call_at u x ≡ Some z) × (z.lock ≡ y.lock))
-      (λ e. (d, ap (call_at u) e ∙ there, lock ∙ ap (λ (z : Call). z.lock) (same_call (sym here ∙ (ap (call_at s) (sym e) ∙ at)))))
-      (λ e. (y, apart x e ∙ at, refl))
-
   nobody_waits : (j l n : ℕ) (x : Waiter) → l < 2 → slice_get (s.lot.queues (2 * j + l)) n ≡ Some x → (z : Call) × (call_at u x.thread ≡ Some z) × (z.lock ≡ j) × (z.spot ≡ QueuePosition.Listed) × Awaits l x.token (stance z.core)
   nobody_waits j l n x two at =
       let old = h.waits j l n x two at in
@@ -55,21 +50,9 @@ module _ (s : State) (t : ℕ) (c d : Call) (h : LotFits s) (here : call_at s t 
   nobody_woken : (n : ℕ) (e : Wakeup) → slice_get s.wakes n ≡ Some e → IsTaken u e
   nobody_woken n e at =
       let old = h.woken n e at in
-      let taker = lock_kept e.by old.taker old.there in
+      let taker = lock_kept s u t c d here there lock apart e.by old.taker old.there in
       let f = not_mine e.thread old.key old.token old.call old.here old.asleep in
-      record {
-        taker = taker.0;
-        there = taker.1;
-        call = old.call;
-        here = apart e.thread f ∙ old.here;
-        lock = old.lock ∙ sym taker.2;
-        said = old.said;
-        spot = old.spot;
-        key = old.key;
-        token = old.token;
-        asleep = old.asleep;
-        mark = old.mark;
-      }
+      still_taken s u e old taker (apart e.thread f) refl
 
   nobody_tally : (x : ℕ) → Tallied (length s.calls) (length (taken_by s.wakes x)) (call_at u x)
   nobody_tally x = by_eqb x t (Tallied (length s.calls) (length (taken_by s.wakes x)) (call_at u x))

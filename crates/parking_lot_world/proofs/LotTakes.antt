@@ -29,7 +29,8 @@ use Rattle.parking_lot_world_calls.specs.CallActs.{hears, key_of, off_list}
 use Rattle.parking_lot_world.specs.RowFits.{IsAt, IsCounted, IsInside, Stands, Seated, Awaits, IsTaken, IsOwed, WakesSome, LotFits}
 use Rattle.parking_lot_world.proofs.Indexing.{get_push, get_front, get_remove}
 use Rattle.parking_lot_world_calls.proofs.Stancing.{wakes_some}
-use Rattle.parking_lot_world.proofs.Carrying.{same_call, call_within, set_here, set_elsewhere, Tallied, tallied, taken_by-count, no_length, awake_sleeps}
+use Rattle.parking_lot_world.proofs.Carrying.{same_call, call_within, set_elsewhere, Tallied, tallied, taken_by-count, no_length, awake_sleeps}
+use Rattle.parking_lot_rules.proofs.Slots.{set_there}
 use Rattle.parking_lot_world.proofs.WakesRoom.{wakes_few}
 use Rattle.std.proofs.lemmas.List.Sums.{count_by-le-length}
 use Rattle.parking_lot_world.proofs.LotActs.{same_section, outside_of, seat_of, awake_by, sits, seats_still, still_said}
@@ -121,13 +122,13 @@ module _ (s : State) (t : ℕ) (c : Call) (h : LotFits s) (here : call_at s t �
   pub call_taken : call_at u v ≡ Some off
   call_taken =
       set_elsewhere (slice_set s.calls v (option_map (off_list t) (call_at s v))) t v (Some takes) z.other
-      ∙ (set_here s.calls v (option_map (off_list t) (call_at s v)) (call_within s v z.call z.there) ∙ ap (option_map (off_list t)) z.there)
+      ∙ (set_there s.calls v (option_map (off_list t) (call_at s v)) (call_within s v z.call z.there) ∙ ap (option_map (off_list t)) z.there)
 
   mine_within : t < length (slice_set s.calls v (option_map (off_list t) (call_at s v)))
   mine_within = subst (λ (n : ℕ). t < n) (sym (length-set s.calls v (option_map (off_list t) (call_at s v)))) (call_within s t c here)
 
   pub call_mine : call_at u t ≡ Some takes
-  call_mine = set_here (slice_set s.calls v (option_map (off_list t) (call_at s v))) t (Some takes) mine_within
+  call_mine = set_there (slice_set s.calls v (option_map (off_list t) (call_at s v))) t (Some takes) mine_within
 
   pub call_other : (x : ℕ) → (x == t) ≡ false → (x == v) ≡ false → call_at u x ≡ call_at s x
   call_other x e f =

@@ -28,7 +28,8 @@ use Rattle.parking_lot_world_calls.specs.CallActs.{hears, told_of}
 use Rattle.parking_lot_world.specs.RowFits.{IsAt, IsCounted, IsInside, IsOutside, SaidIn, Seated, Awaits, IsTaken, IsOwed, WakesSome, LotFits}
 use Rattle.parking_lot_world_calls.proofs.Stancing.{sleepers_wake, wakes_some}
 use Rattle.parking_lot_world.proofs.Indexing.{get_remove, kept_remove, apart_before, not_removed}
-use Rattle.parking_lot_world.proofs.Carrying.{same_call, call_within, set_here, set_elsewhere, Tallied, dropped, tallied, no_length}
+use Rattle.parking_lot_world.proofs.Carrying.{same_call, call_within, set_elsewhere, Tallied, dropped, tallied, no_length}
+use Rattle.parking_lot_rules.proofs.Slots.{set_there}
 use Rattle.parking_lot_world.proofs.LotActs.{seat_of, sits}
 
 same_wakeup : {e f : Wakeup} → Some e ≡ Some f → e ≡ f
@@ -99,13 +100,13 @@ module _ (s : State) (t : ℕ) (c : Call) (h : LotFits s) (here : call_at s t �
 
     pub call_mine : call_at u t ≡ Some rouses
     call_mine =
-        set_here (slice_set s.calls e.thread (Some roused_call)) t (Some rouses)
+        set_there (slice_set s.calls e.thread (Some roused_call)) t (Some rouses)
         (subst (λ (n : ℕ). t < n) (sym (length-set s.calls e.thread (Some roused_call))) (call_within s t c here))
 
     pub call_woken : call_at u e.thread ≡ Some roused_call
     call_woken =
         set_elsewhere (slice_set s.calls e.thread (Some roused_call)) t e.thread (Some rouses) other
-        ∙ set_here s.calls e.thread (Some roused_call) (call_within s e.thread d there)
+        ∙ set_there s.calls e.thread (Some roused_call) (call_within s e.thread d there)
 
     pub call_other : (x : ℕ) → (x == t) ≡ false → (x == e.thread) ≡ false → call_at u x ≡ call_at s x
     call_other x f g =

@@ -19,7 +19,7 @@ use Rattle.parking_lot_world.specs.RwLaws as rw_laws
 use Rattle.parking_lot_world.specs.RwLaws.{IsStep}
 use Rattle.parking_lot_world.specs.RowSteps.{IsLastOf, IsQuiet, IsMade, IsMoveOf, IsMutexMove, IsRwMove, store_step, wake_step_of}
 use Rattle.parking_lot_rules.proofs.MutexCrossing.{families_stay_sound}
-use Rattle.parking_lot_world.proofs.Everybody.{was-all}
+use Rattle.parking_lot_rules.proofs.Everybody.{was-all}
 use Rattle.parking_lot_world.proofs.KindTable.{Kind, of_rws, of_mutexes, IsThere, Elsewhere, elsewhere, idle_in, role_at, shown}
 use Rattle.parking_lot_world.proofs.Moves.{goes, ends}
 use Rattle.parking_lot_world.specs.LateActs.{unowed}

@@ -40,7 +40,7 @@ use Rattle.parking_lot_upgrades.specs.declared.upgrade_phase.Hold as kept_holds
 use Rattle.parking_lot_upgrades.specs.declared.upgrade_phase.Hold.TheVariants as keeps_up
 use Rattle.parking_lot_upgrades.specs.declared.upgrade_phase.UpgradePhase.{UpgradePhase}
 use Rattle.parking_lot_world.proofs.RwCalls.{CallLearns, CallMeets, CallTold, CallWants, call_few, call_goes_on, call_knows, call_room, stands_prepared}
-use Rattle.parking_lot_world.proofs.Everybody.{was-all, length-all}
+use Rattle.parking_lot_rules.proofs.Everybody.{was-all, length-all}
 use Rattle.parking_lot_world.proofs.KindTable.{Plain, Late, RwCall, in_its_place, next_is, of_mutexes, of_rws, rw_call, mutex_exact, role_by}
 use Rattle.parking_lot_world_calls.specs.declared.late_rw.LateRwPhase.{LateRwPhase}
 use Rattle.parking_lot_world_calls.specs.declared.late_rw.RwSleeper.{RwSleeper}

@@ -50,7 +50,7 @@ use Rattle.parking_lot_world_calls.proofs.Stancing.{leads_by}
 use Rattle.parking_lot_world.proofs.Summing.{others_change, others_same, others_told}
 use Rattle.parking_lot_protocol.specs.declared.act.CoreAnswer.{CoreAnswer}
 use Rattle.parking_lot_rules.proofs.Ranking.{few1}
-use Rattle.parking_lot_world.proofs.Everybody.{length-all}
+use Rattle.parking_lot_rules.proofs.Everybody.{length-all}
 use Rattle.parking_lot_world.proofs.MutexPaying as of_mutex
 use Rattle.parking_lot_world.proofs.RwPaying as of_rw
 use Rattle.parking_lot_core_lot.specs.declared.place.Phase.TheVariants as phase

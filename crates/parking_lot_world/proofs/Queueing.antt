@@ -35,7 +35,7 @@ use Rattle.parking_lot_world_calls.specs.CallRoles.{late_role, mutex_spot, owned
 use Rattle.parking_lot_world.specs.SoundLaws.{ListsAreWaiters, waits_as, waits_in}
 use Rattle.parking_lot_world_calls.specs.Stances.{late_stance, mutex_stance, rw_stance, stance}
 use Rattle.parking_lot_world.proofs.KindTable.{Kind, MutexCall, Plain, Late, mutex_call, mutex_plays, of_mutexes, of_rws, role_at, roles_at}
-use Rattle.parking_lot_world.proofs.Everybody.{get-all, past}
+use Rattle.parking_lot_rules.proofs.Everybody.{get-all, past}
 use Rattle.parking_lot_world_calls.specs.declared.late_rw.LateRwPhase.{LateRwPhase}
 use Rattle.parking_lot_world_calls.specs.declared.late_rw.RwSleeper.{RwSleeper}
 use Rattle.parking_lot_world_calls.specs.LateRoles.{late_rw_role}

@@ -19,7 +19,8 @@ use Rattle.parking_lot_world.specs.RowFits.{LotFits, Seated, WakesSome}
 use Rattle.parking_lot_world.specs.Rows.{State, call_at, first_key}
 use Rattle.parking_lot_world_calls.specs.Stances.{stance}
 use Rattle.parking_lot_world.proofs.Acting.{word-here}
-use Rattle.parking_lot_world.proofs.Carrying.{Carries, carries_begun, set_here}
+use Rattle.parking_lot_world.proofs.Carrying.{Carries, carries_begun}
+use Rattle.parking_lot_rules.proofs.Slots.{set_there}
 use Rattle.parking_lot_world.proofs.Indexing.{set_twice}
 use Rattle.parking_lot_world.proofs.LotActs.{quiet, same_parts, stays_out}
 use Rattle.parking_lot_world.proofs.LotCalls.{lot_never_refuses}
@@ -83,16 +84,16 @@ module _ (s : State) (v lock : ℕ) (timed : Bool) (h : LotFits s) (low : v < le
   h1 = acts_keep_fits.begins s0 v (call_in MutexPhase.Locking) (same_parts s s0 refl refl refl h) low alone
 
   h2 : LotFits s2
-  h2 = stays_out s1 v (call_in (MutexPhase.Loads (begins false))) (seen.Word 3) h1 (set_here s.calls v _ low) (refl, refl, refl)
+  h2 = stays_out s1 v (call_in (MutexPhase.Loads (begins false))) (seen.Word 3) h1 (set_there s.calls v _ low) (refl, refl, refl)
 
   here2 : call_at s2 v ≡ Some (call_in (MutexPhase.Enters false))
-  here2 = set_here s1.calls v _ low1
+  here2 = set_there s1.calls v _ low1
 
   h3 : LotFits s3
   h3 = acts_keep_fits.enters s2 v (call_in (MutexPhase.Enters false)) 0 free h2 here2 refl
 
   here3 : call_at s3 v ≡ Some (call_in (MutexPhase.Checks false))
-  here3 = set_here s2.calls v _ low2
+  here3 = set_there s2.calls v _ low2
 
   abbrev checked_at : ℕ → State
   checked_at w = let c = hears (call_in (MutexPhase.Checks false)) (seen.Word w) in with_lot (with_call s3 v c) (in_phase s3.lot (cond (joins (stance c.core)) phase.Valid phase.Invalid))
@@ -101,13 +102,13 @@ module _ (s : State) (v lock : ℕ) (timed : Bool) (h : LotFits s) (low : v < le
   h4 = subst (λ w. LotFits (checked_at w)) (word-here s.words lock 3 within) (acts_keep_fits.checks s3 v (call_in (MutexPhase.Checks false)) h3 here3 refl)
 
   here4 : call_at s4 v ≡ Some (call_in MutexPhase.Appends)
-  here4 = set_here s3.calls v _ low3
+  here4 = set_there s3.calls v _ low3
 
   h5 : LotFits s5
   h5 = acts_keep_fits.appends s4 v (call_in MutexPhase.Appends) 0 parked refl h4 here4 refl
 
   here5 : call_at s5 v ≡ Some (call_in MutexPhase.Rests)
-  here5 = set_here s4.calls v _ low4
+  here5 = set_there s4.calls v _ low4
 
   h6 : LotFits s6
   h6 = acts_keep_fits.leaves s5 v (call_in MutexPhase.Rests) h5 here5 refl

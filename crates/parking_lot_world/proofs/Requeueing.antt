@@ -26,7 +26,7 @@ use Rattle.parking_lot_world_calls.specs.CallRoles.{owns_mutex, mutex_role}
 use Rattle.parking_lot_world_calls.specs.Stances.{In, stance}
 use Rattle.parking_lot_world.proofs.Calling.{call-here, call-elsewhere}
 use Rattle.parking_lot_world.proofs.Carrying.{same_call}
-use Rattle.parking_lot_world.proofs.Everybody.{get-all}
+use Rattle.parking_lot_rules.proofs.Everybody.{get-all}
 use Rattle.parking_lot_world.proofs.KindTable.{Elsewhere, IsThere, Plain, elsewhere, of_mutexes, one_changed, role_at, role_now, role_stays}
 use Rattle.parking_lot_world.proofs.LotActs.{seat_of}
 use Rattle.parking_lot_world.proofs.Making.{IsSoundState}

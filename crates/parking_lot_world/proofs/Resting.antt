@@ -24,7 +24,7 @@ use Rattle.parking_lot_world.specs.Rows.{State, lock_as, call_at, family, hold_a
 use Rattle.parking_lot_world.specs.RowFits.{FitsTogether}
 use Rattle.parking_lot_world.specs.LotLaws.{IsNew}
 use Rattle.parking_lot_world.specs.Machines.{at_rest}
-use Rattle.parking_lot_world.proofs.Everybody.{all, same-all}
+use Rattle.parking_lot_rules.proofs.Everybody.{all, same-all}
 use Rattle.parking_lot_world.proofs.LotStarts.{new_machines_fit}
 
 -- what a list of the same shows at an index

@@ -33,7 +33,7 @@ use Rattle.parking_lot_world.proofs.KindTable.{MutexCall, Plain, Late, RwCall, S
 use Rattle.parking_lot_world.proofs.LotWakes.{woken_off, due_place, other, call_mine, call_woken, call_other, woke_length}
 use Rattle.parking_lot_world.proofs.Making.{move_sound, mutex_goes, rw_goes}
 use Rattle.parking_lot_world.proofs.Ruling.{CallFits, Fitted, call_fits, fits_next, rules_after}
-use Rattle.parking_lot_world.proofs.Everybody.{all, change-two}
+use Rattle.parking_lot_rules.proofs.Everybody.{all, change-two}
 use Rattle.parking_lot_world.proofs.Meeting.{in_range, meets, rw_hears, plays_waking}
 use Rattle.parking_lot_world.proofs.MutexMoving.{steps}
 use Rattle.parking_lot_world.proofs.OwnActs.{two_kinds}

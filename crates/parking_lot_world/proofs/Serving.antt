@@ -47,7 +47,7 @@ use Rattle.parking_lot_world.specs.SoundLaws.{IsApart, SomebodyCanMove, Somebody
 use Rattle.parking_lot_world_calls.specs.Stances.{Stance, Out, In, Doing, late_act, late_stance, taken_count, mutex_taken, rw_taken, core_act, mutex_stance, rw_stance, stance}
 use Rattle.parking_lot_world_calls.specs.Stances as stances
 use Rattle.parking_lot_world.specs.Worlds.{mode_in}
-use Rattle.parking_lot_world.proofs.Everybody.{get-all, within-all, was-all}
+use Rattle.parking_lot_rules.proofs.Everybody.{get-all, within-all, was-all}
 use Rattle.parking_lot_world.proofs.Viewing.{apart_role}
 use Rattle.parking_lot_world.proofs.KindTable.{MutexCall, Plain, Late, mutex_call, Kind, of_mutexes, of_rws, role_at, role_now}
 use Rattle.parking_lot_world.proofs.Meeting.{in_range, mutex_sound, rw_sound}

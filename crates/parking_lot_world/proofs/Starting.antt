@@ -43,7 +43,7 @@ use Rattle.parking_lot_world.proofs.Meeting.{rw_sound, mutex_sound, role_few, in
 use Rattle.parking_lot_world.proofs.OwnMoves.{OwnMove, own_some}
 use Rattle.parking_lot_world.proofs.Ruling.{CallFits, Fitted, call_fits, rules_after, same_kind}
 use Rattle.parking_lot_world.proofs.KindTable.{Plain, RwCall, Simple, Upgradable, next_is, rw_call, rw_next, within_kinds, Kind, of_rws, of_mutexes, IsThere, Elsewhere, one_changed, role_at, role_now, role_stays, roles_at, same, shown, Tardy}
-use Rattle.parking_lot_world.proofs.Everybody.{get-all, was-all, length-all}
+use Rattle.parking_lot_rules.proofs.Everybody.{get-all, was-all, length-all}
 use Rattle.parking_lot_world.proofs.Making.{Crossed, TellsOf, quiet, move_sound, rw_goes, mutex_goes, RwLeadsBy, last_sound}
 use Rattle.parking_lot_world.proofs.Owning.{rw_leads, set-same}
 use Rattle.parking_lot_protocol.specs.declared.mutex_phase.MutexPhase.{MutexPhase}

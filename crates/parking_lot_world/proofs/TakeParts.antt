@@ -38,7 +38,7 @@ use Rattle.parking_lot_world_calls.specs.CallActs.{hears, key_of, off_list}
 use Rattle.parking_lot_world_calls.specs.StanceLaws.{Counts}
 use Rattle.parking_lot_world_calls.proofs.Stancing.{small_key}
 use Rattle.parking_lot_world.proofs.Indexing.{get_front}
-use Rattle.parking_lot_world.proofs.Everybody.{all, change-two}
+use Rattle.parking_lot_rules.proofs.Everybody.{all, change-two}
 use Rattle.parking_lot_world.proofs.KindTable.{Kind, IsThere, Elsewhere, in_its_place, role_at, role_now, role_stays, roles_at, same, shown}
 use Rattle.parking_lot_world.proofs.Ruling.{Fitted}
 use Rattle.parking_lot_world.proofs.Meeting.{in_range}

@@ -42,7 +42,7 @@ use Rattle.parking_lot_world_calls.specs.declared.seat.LatePhase.{LatePhase}
 use Rattle.parking_lot_world_calls.specs.declared.seat.Core.{Core}
 use Rattle.parking_lot_world_calls.specs.declared.seat.QueuePosition.{QueuePosition}
 use Rattle.parking_lot_world.proofs.Acting.{word-here, has_word}
-use Rattle.parking_lot_world.proofs.Everybody.{all, get-all, settle-all}
+use Rattle.parking_lot_rules.proofs.Everybody.{all, get-all, settle-all}
 use Rattle.parking_lot_world.proofs.KindTable.{Plain, Late, RwCall, Simple, Upgradable, mutex_plays, next_is, rw_call, rw_next, Kind, of_rws, of_mutexes, IsThere, role_at, role_now, roles_at, same, shown, Tardy}
 use Rattle.parking_lot_world.proofs.Making.{made, mutex_goes, rw_goes, Crossed}
 use Rattle.parking_lot_world.proofs.Meeting.{in_range, meets, plays, plays_late, rw_hears, exact}

@@ -23,7 +23,7 @@ use Rattle.parking_lot_world_calls.specs.CallKinds.{IsOfKind}
 use Rattle.parking_lot_world_calls.specs.CallViews.{call_in_debt, call_looks, call_mode, core_in_debt, core_mode, mutex_mode, rw_mode}
 use Rattle.parking_lot_world.specs.Worlds.{in_debt_at, is_indebted, mode_in}
 use Rattle.parking_lot_world_calls.specs.CallViews.{hold_mode}
-use Rattle.parking_lot_world.proofs.Everybody.{get-all, past}
+use Rattle.parking_lot_rules.proofs.Everybody.{get-all, past}
 use Rattle.parking_lot_world.proofs.KindTable.{Simple, Upgradable, Plain, Late, Kind, of_mutexes, of_rws, in_its_place, Tardy}
 use Rattle.parking_lot_world.proofs.Meeting.{in_range}
 use Rattle.parking_lot_world_calls.specs.declared.late_rw.LateRwPhase.{LateRwPhase}

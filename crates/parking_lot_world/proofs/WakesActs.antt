@@ -19,7 +19,8 @@ use Rattle.parking_lot_world.specs.RowActs.{with_call, with_word, loaded, exchan
 use Rattle.parking_lot_world_calls.specs.CallActs.{settled_spot, settled, off_list, hears, key_of, told_of}
 use Rattle.parking_lot_world.specs.RowFits.{LotFits, WakesFit, IsOwed, is_off, is_away}
 use Rattle.parking_lot_world.proofs.Indexing.{get_front, kept_remove}
-use Rattle.parking_lot_world.proofs.Carrying.{same_call, call_within, set_here, set_elsewhere, unsettled_off, IsUp, up_sleeps}
+use Rattle.parking_lot_world.proofs.Carrying.{same_call, call_within, set_elsewhere, unsettled_off, IsUp, up_sleeps}
+use Rattle.parking_lot_rules.proofs.Slots.{set_there}
 use Rattle.parking_lot_core_lot.specs.declared.parking.UnparkToken.{UnparkToken}
 use Rattle.parking_lot_core_lot.specs.declared.place.Waiter.{Waiter}
 use Rattle.parking_lot_core_lot.specs.Places.{place_at, mark_of}
@@ -68,7 +69,7 @@ pub wakes_one : (s u : State) (t : ℕ) (o : Option Call) → WakesFit s → t <
 wakes_one s u t o w low calls wakes same back = record {
   off = λ v by d said at is. subst (λ (ws : List Wakeup). IsOwed ws by v) (sym wakes) (by_eqb v t (IsOwed s.wakes by v)
       (λ e.
-      let old = back d by said (sym (set_here s.calls t o low) ∙ (ap (call_of (slice_set s.calls t o)) (sym e) ∙ (ap (λ cs. call_of cs v) (sym calls) ∙ at))) is in
+      let old = back d by said (sym (set_there s.calls t o low) ∙ (ap (call_of (slice_set s.calls t o)) (sym e) ∙ (ap (λ cs. call_of cs v) (sym calls) ∙ at))) is in
       subst (IsOwed s.wakes by) (sym e) (w.off t by old.0 old.2 old.1 old.3))
       (λ e. w.off v by d said (sym (set_elsewhere s.calls t v o e) ∙ (ap (λ cs. call_of cs v) (sym calls) ∙ at)) is));
   room =
@@ -144,7 +145,7 @@ wakes_taken s u t v c d x e w apart here there listed at by_t is_v calls wakes =
 
     off : (y by : ℕ) (z : Call) (said : WakeResult) → call_of (slice_set s.calls v (Some (off_list t x))) y ≡ Some z → z.spot ≡ QueuePosition.Off by said → IsOwed (s.wakes ++ e ∷ []) by y
     off y by z said is out = by_eqb y v (IsOwed (s.wakes ++ e ∷ []) by y)
-        (λ f. (length s.wakes, e, slice_get-seam s.wakes e [], by_t ∙ same_by (ap (λ (q : Call). q.spot) (same_call (sym (set_here s.calls v (Some (off_list t x)) low) ∙ (ap (call_of (slice_set s.calls v (Some (off_list t x)))) (sym f) ∙ is))) ∙ out), is_v ∙ sym f))
+        (λ f. (length s.wakes, e, slice_get-seam s.wakes e [], by_t ∙ same_by (ap (λ (q : Call). q.spot) (same_call (sym (set_there s.calls v (Some (off_list t x)) low) ∙ (ap (call_of (slice_set s.calls v (Some (off_list t x)))) (sym f) ∙ is))) ∙ out), is_v ∙ sym f))
         (λ f. let old = w.off y by z said (sym (set_elsewhere s.calls v y (Some (off_list t x)) f) ∙ is) out in (old.0, old.1, get_front s.wakes (e ∷ []) old.0 old.1 old.2, old.3, old.4))
 
     room : length (s.wakes ++ e ∷ []) ≡ count_by is_away (slice_set s.calls v (Some (off_list t x)))
@@ -173,7 +174,7 @@ wakes_woken s u t i c d x y e by said h w apart first here there gone listed at 
 
     off : (q b : ℕ) (z : Call) (told : WakeResult) → call_of (slice_set s.calls e.thread (Some y)) q ≡ Some z → z.spot ≡ QueuePosition.Off b told → IsOwed (remove s.wakes i) b q
     off q b z told is out = by_eqb q e.thread (IsOwed (remove s.wakes i) b q)
-        (λ f. absurd (off_listed (sym out ∙ (ap (λ (a : Call). a.spot) (sym (same_call (sym (set_here s.calls e.thread (Some y) low) ∙ (ap (call_of (slice_set s.calls e.thread (Some y))) (sym f) ∙ is)))) ∙ listed))))
+        (λ f. absurd (off_listed (sym out ∙ (ap (λ (a : Call). a.spot) (sym (same_call (sym (set_there s.calls e.thread (Some y) low) ∙ (ap (call_of (slice_set s.calls e.thread (Some y))) (sym f) ∙ is)))) ∙ listed))))
         (λ f.
         let old = w.off q b z told (sym (set_elsewhere s.calls e.thread q (Some y) f) ∙ is) out in
         let left = kept_remove s.wakes i old.0 old.1 old.2 (λ at. eqb-false q e.thread f (sym old.4 ∙ ap (λ (a : Wakeup). a.thread) (same_wakeup (sym old.2 ∙ (ap (slice_get s.wakes) at ∙ first))))) in

@@ -10,7 +10,6 @@ use Rattle.parking_lot_rules.specs.Lock.{Lock}
 use Rattle.parking_lot_rules.specs.Mutex as mutex
 use Rattle.parking_lot_rules.specs.Any.{AnyLock, Rw, Mx}
 use Rattle.parking_lot_rules.specs.Family.{Family}
-use Rattle.parking_lot_protocol.specs.declared.mutex_phase.MutexPhase.TheVariants as m
 use Rattle.parking_lot_world_calls.specs.declared.calls.LockKind.{LockKind}
 use Rattle.parking_lot_world_calls.specs.declared.seat.Hold.{Hold}
 use Rattle.parking_lot_world_calls.specs.declared.seat.Hold.TheVariants as hold

@@ -31,7 +31,7 @@ use Rattle.parking_lot_worlds.specs.declared.step.WorldStep.TheVariants as step
 use Rattle.parking_lot_worlds.specs.WorldAnswers.{Fits, answer_at, may_answer}
 use Rattle.parking_lot_worlds.specs.WorldCalls.{asked, of_core, of_ended, of_timed, said}
 use Rattle.parking_lot_worlds.specs.Worlds.{IsAsked, IsFit, IsGone, IsLate, Shown, is_in_once, may_ask, noted, rows_of}
-use Rattle.parking_lot_call_laws.proofs.Slots.{set_there}
+use Rattle.parking_lot_rules.proofs.Slots.{set_there}
 use Rattle.parking_lot_worlds.proofs.Busy.{called_busy}
 use Rattle.parking_lot_worlds.proofs.Fitting.{answers_fit}
 use Rattle.parking_lot_worlds.proofs.Leading.{Led, asked_led, gone_led, late_led, led_on, same_led}

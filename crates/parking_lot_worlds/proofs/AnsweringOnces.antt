@@ -16,7 +16,7 @@ use Rattle.parking_lot_worlds.specs.declared.step.WorldStep.TheVariants as step
 use Rattle.parking_lot_worlds.specs.WorldAnswers.{Fits, answer_at}
 use Rattle.parking_lot_worlds.specs.WorldCalls.{asked, of_reply, said}
 use Rattle.parking_lot_worlds.specs.Worlds.{IsAsked, IsFit, IsGone, IsLate, Shown, is_in_once, noted}
-use Rattle.parking_lot_call_laws.proofs.Slots.{set_there}
+use Rattle.parking_lot_rules.proofs.Slots.{set_there}
 use Rattle.parking_lot_worlds.proofs.Busy.{expires_busy}
 use Rattle.parking_lot_worlds.proofs.Whole.{both_ways}
 use Rattle.parking_lot_once_world.specs.declared.calls.OnceCall.{OnceCall}

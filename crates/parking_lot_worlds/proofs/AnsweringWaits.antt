@@ -21,7 +21,7 @@ use Rattle.parking_lot_worlds.specs.declared.step.WorldStep.TheVariants as step
 use Rattle.parking_lot_worlds.specs.WorldAnswers.{Fits, answer_at}
 use Rattle.parking_lot_worlds.specs.WorldCalls.{asked, of_ended, said}
 use Rattle.parking_lot_worlds.specs.Worlds.{IsAsked, IsFit, IsGone, IsLate, Shown, is_in_once, noted, rows_of}
-use Rattle.parking_lot_call_laws.proofs.Slots.{read_back, set_there}
+use Rattle.parking_lot_rules.proofs.Slots.{read_back, set_there}
 use Rattle.parking_lot_worlds.proofs.Whole.{both_ways}
 use Rattle.parking_lot_condvar_world.specs.declared.calls.CondvarCall.{CondvarCall}
 use Rattle.parking_lot_condvar_world.specs.declared.calls.CondvarCall.TheVariants as variable

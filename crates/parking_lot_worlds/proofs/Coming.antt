@@ -4,7 +4,7 @@ use Rattle.std.specs.Option.{option_and_then, option_map}
 use Rattle.std.proofs.lemmas.Bool.{cases_eq}
 use Rattle.std.proofs.lemmas.Option.{none-some, same_Some, slice_get-map}
 use Rattle.std.proofs.lemmas.List.{length-set, length-map}
-use Rattle.parking_lot_call_laws.proofs.Slots.{at_slot as call_of, read_back, set_elsewhere}
+use Rattle.parking_lot_rules.proofs.Slots.{at_slot as call_of, read_back, set_elsewhere}
 
 module _ {C : Type 0} (place : C → ℕ) where
   -- one in a call there that goes on as d

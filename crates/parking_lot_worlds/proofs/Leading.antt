@@ -6,7 +6,7 @@ use Rattle.std.proofs.lemmas.Bool.{lt-ltb, ltb-true}
 use Rattle.std.proofs.lemmas.Option.{none-some, slice_get-map}
 use Rattle.parking_lot_call_laws.specs.AnswerLaws.{CallsLead, GoesOn, IsOpen, Onward}
 use Rattle.parking_lot_call_laws.specs.Stages.{Leads, Stage, stage}
-use Rattle.parking_lot_call_laws.proofs.Slots.{set_elsewhere}
+use Rattle.parking_lot_rules.proofs.Slots.{set_elsewhere}
 use Rattle.parking_lot_condvar_world.specs.declared.calls.CondvarCall.{CondvarCall}
 use Rattle.parking_lot_condvar_world.specs.declared.calls.CondvarReply.{CondvarReply}
 use Rattle.parking_lot_condvar_world.specs.declared.open_call.OpenCall.{OpenCall}

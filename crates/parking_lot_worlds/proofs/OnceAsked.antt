@@ -15,7 +15,7 @@ use Rattle.parking_lot_once_world.specs.OnceCalls.{reply_by}
 use Rattle.parking_lot_once_world.specs.OnceSteps.{IsStepped}
 use Rattle.parking_lot_once_world.specs.declared.open_call.OpenCall.{OpenCall}
 use Rattle.parking_lot_once_world.specs.Onces.{Onces, call_at}
-use Rattle.parking_lot_call_laws.proofs.Slots.{at_slot, set_elsewhere, set_here}
+use Rattle.parking_lot_rules.proofs.Slots.{at_slot, set_elsewhere, set_here}
 
 -- it was asked the same
 pub record AsksOn (c : OpenCall) (o : Option OpenCall) : Type 0 where

@@ -14,7 +14,7 @@ use Rattle.parking_lot_condvar_world.specs.Machines.{State as Var, call_at as va
 use Rattle.parking_lot_condvar_world.specs.Outsides.{told, told_by, wait_hears}
 use Rattle.parking_lot_condvar_world.specs.OwnSteps.{notify_goes, queue_after_wait, stepped, stepped_by, wait_goes, wait_sees}
 use Rattle.parking_lot_condvar_world.specs.Steps as vars
-use Rattle.parking_lot_call_laws.proofs.Slots.{at_slot, set_elsewhere, set_here}
+use Rattle.parking_lot_rules.proofs.Slots.{at_slot, set_elsewhere, set_here}
 use Rattle.parking_lot_protocol.specs.declared.act.CoreAnswer.{CoreAnswer}
 use Rattle.parking_lot_protocol.specs.declared.act.CoreAnswer.TheVariants as answer
 use Rattle.parking_lot_core_lot.specs.declared.parking.UnparkToken.{UnparkToken}
