@@ -5,7 +5,7 @@
 //!
 //! A [`Once`] of `parking_lot_once` runs one closure once.
 //!
-//! What the calls of locks and onces do under every schedule can be tried in a [`World`], whose steps are told one by one.
+//! What the calls of locks, condition variables and onces do under every schedule can be tried in a [`World`], whose steps are told one by one.
 //!
 //! Calls that may sleep take the data of a participant of the table's lot.
 //!

@@ -1,5 +1,5 @@
 -- Every step keeps a mutex sound.
-use Rattle.std.proofs.Common.{◌≡◌, ◌≢◌, ℕ, zero, suc, ◌+◌, ◌<◌, ◌≤◌, ◌⊎◌, ⊎_elim, Bool, true, List, [], ◌∷◌, ◌++◌, length, map, remove, replicate, Option, Some, None, option_map, slice_get, slice_set, refl, sym, ap, ◌∙◌, subst, inl, inr, arith}
+use Rattle.std.proofs.Common.{◌≡◌, ◌≢◌, ℕ, zero, suc, ◌+◌, ◌<◌, ◌≤◌, ◌⊎◌, ⊎_elim, Bool, true, List, [], ◌∷◌, ◌++◌, length, map, remove, Option, Some, None, option_map, slice_get, slice_set, refl, sym, ap, ◌∙◌, subst, inl, inr, arith}
 use Rattle.std.proofs.lemmas.List.{map-set}
 use Rattle.std.proofs.lemmas.List.Sums.{sum_by-cons}
 use Rattle.std.proofs.lemmas.Bool.{cases_eq}
@@ -7,7 +7,7 @@ use Rattle.std.proofs.lemmas.Option.{none-some, same_Some, slice_get-map}
 use Rattle.parking_lot_rules.specs.Roles.{Stay, Fresh, Asleep, Back, Mark, Open, Normal, Handed}
 use Rattle.parking_lot_rules.specs.Lists.{occurs, at_index, IsListOf, AreNotedBy}
 use Rattle.parking_lot_rules.specs.Classes.{inside}
-use Rattle.parking_lot_rules.specs.Mutex.{Phase, Idle, Seeks, Checked, Queued, Taken, Masks, Leaves, Unlocks, Stored, Wakes, Comes, Moves, Role, away, Class, Owning, Inside, Waiting, Masking, Called, Untold, Counted, weight, total, Word, Fits, Counts, phase_note, phase_wakes, note_of, wakes, Mutex, Sound, IsSound, Plain, Begin, Refuse, Lock, Flag, Enter, Check, Retreat, Rest, Expire, ExpireTaken, Reenter, ReenterTaken, Mask, Leave, Resume, Receive, Unlock, Look, Depart, Finish, Come, MarkParked, GoUnmarked, Go, from, to, May, written, are_left, told, settle, Step, Alone, Join, Quit, QuitLast, Requeue, Pull, Follow, Take, Free, Hand, Wake, WakeOwner, Pass, doing, Allowed, after, Runs, unlocked, AlwaysOfMutex}
+use Rattle.parking_lot_rules.specs.Mutex.{Phase, Idle, Seeks, Checked, Queued, Taken, Masks, Leaves, Unlocks, Stored, Wakes, Comes, Moves, Role, away, Class, Owning, Inside, Waiting, Masking, Called, Untold, Counted, weight, total, Word, Fits, Counts, phase_note, phase_wakes, note_of, wakes, Mutex, Sound, IsSound, Plain, Begin, Refuse, Lock, Flag, Enter, Check, Retreat, Rest, Expire, ExpireTaken, Reenter, ReenterTaken, Mask, Leave, Resume, Receive, Unlock, Look, Depart, Finish, Come, MarkParked, GoUnmarked, Go, from, to, May, written, are_left, told, settle, Step, Alone, Join, Quit, QuitLast, Requeue, Pull, Follow, Take, Free, Hand, Wake, WakeOwner, Pass, doing, Allowed, after}
 use Rattle.parking_lot_rules.proofs.Indexed.{get-set_same, get-set_other, get-set_cases, sum_by-set_at}
 use Rattle.parking_lot_rules.proofs.Waiting.{lists-same, lists-push, lists-drop, occurs-cons, occurs-without, counted-same}
 use Rattle.parking_lot_rules.proofs.Noting.{noted-set, WillWakeBy}

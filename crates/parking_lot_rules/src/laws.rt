@@ -3,12 +3,6 @@ ghost use Rattle.parking_lot_rules.specs.Laws.{DebtsAreKept, NothingIsLeft, Owne
 ghost use Rattle.parking_lot_rules.specs.Lock.{IsSound};
 ghost use Rattle.parking_lot_rules.specs.Runs.{Always};
 
-pub use crate::bounds::{
-    a_reader_comes_and_goes, all_ranks_begin_small, all_ranks_fall, all_steps_are_few,
-    another_may_be_stepped_anywhere, any_may_be_stepped, deadlines_add_few_steps, runs_are_short,
-    scenes_stay_proper, sections_lower_all_steps, switches_keep_all_steps, turns_are_few,
-    turns_lower_all_steps, visits_are_short,
-};
 pub use crate::debts::{
     debts_are_booked, debts_are_paid, debts_are_passed_on, debts_at_a_mutex_are_booked,
     debts_at_a_mutex_are_paid,
@@ -21,17 +15,15 @@ pub use crate::many::{
 };
 pub use crate::mutex::{
     a_mutex_tells_its_owner, debts_of_a_mutex_are_kept, each_step_at_a_mutex_is_a_case,
-    every_mutex_is_sound, looks_lower_the_full_ranks_at_a_mutex,
-    no_bit_of_a_mutex_outlives_the_calls, ranks_at_a_mutex_fall, sleepers_at_a_mutex_are_known,
-    somebody_at_a_mutex_can_move, steps_lower_the_full_ranks_at_a_mutex,
+    every_mutex_is_sound, no_bit_of_a_mutex_outlives_the_calls, sleepers_at_a_mutex_are_known,
+    somebody_at_a_mutex_can_move,
 };
 pub use crate::progress::{
     families_stay_sound, rising_locks_never_deadlock, sections_are_entered, sleepers_are_served,
 };
 pub use crate::steps::{
     a_call_begins_with_a_small_rank, a_step_stays_at_its_lock, another_thread_may_be_stepped,
-    each_step_is_a_case, looks_lower_the_full_ranks, ranks_fall, readers_are_kept_out,
-    steps_lower_the_full_ranks,
+    each_step_is_a_case, ranks_fall, readers_are_kept_out,
 };
 pub use crate::tries::{refused_tries_at_a_mutex_have_a_cause, refused_tries_have_a_cause};
 pub use crate::wrong::{

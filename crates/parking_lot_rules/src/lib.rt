@@ -2,7 +2,6 @@
 //! steps does to the lock's word and queues, and the proof that no waiter is ever forgotten, under every schedule.
 #![tactic(auto)]
 
-mod bounds;
 mod debts;
 mod example;
 mod holds;

@@ -2,7 +2,6 @@
 ghost use Rattle.parking_lot_rules.specs.Laws.{ReadersAreKeptOut};
 ghost use Rattle.parking_lot_rules.specs.Owners.{IsOfItsCase};
 ghost use Rattle.parking_lot_rules.specs.Ranks.{RanksBegin, RanksChange, RanksFall};
-ghost use Rattle.parking_lot_rules.specs.Sights.{LooksLower, StepsLower};
 ghost use Rattle.parking_lot_rules.specs.Runs.{Always, StaysAtItsLock, Throughout};
 
 /// Each step is a case of a lock without a word, which has named owners and two lists: it enters a list or quits it, is admitted, hands the
@@ -32,18 +31,6 @@ pub fn a_call_begins_with_a_small_rank()
 /// from there on, whatever that one has seen of the word.
 pub fn another_thread_may_be_stepped()
     ensures { Always RanksChange }
-{}
-
-/// A load, a spin and a lost exchange, of a thread that is stepped alone, change nothing at the lock and lower the full ranks: 22 for each
-/// rank, and the looks that can follow one another.
-pub fn looks_lower_the_full_ranks()
-    ensures { Always LooksLower }
-{}
-
-/// Each other step within a call, of a thread that is stepped alone, lowers the full ranks too. So the thread comes to the end of its call,
-/// or to its sleep, in as many steps of any kind as they are at most, or it stands before a bucket that another has entered.
-pub fn steps_lower_the_full_ranks()
-    ensures { Throughout StepsLower }
 {}
 
 /// A step at one lock changes nothing at another: not its word, its lists, nor what any thread owns of it or does there.

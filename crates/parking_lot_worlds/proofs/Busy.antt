@@ -1,10 +1,10 @@
 -- Whoever may make a step at locks and condition variables, or whose deadline may come there, is in a call there.
-use Rattle.std.proofs.Common.{◌≡◌, ℕ, ◌+◌, Bool, true, false, not, cond, ◌&&◌, nat_lt, is_none, length, Option, Some, None, refl, sym, ap, ◌∙◌}
+use Rattle.std.proofs.Common.{◌≡◌, ℕ, Bool, true, false, not, ◌&&◌, nat_lt, is_none, length, Option, Some, None, refl, sym, ap, ◌∙◌}
 use Rattle.parking_lot_world_calls.specs.declared.open_call.Call.{Call}
 use Rattle.parking_lot_world.specs.Machines as rows
-use Rattle.parking_lot_world.specs.Rows.{State, call_at, state}
+use Rattle.parking_lot_world.specs.Rows.{call_at, state}
 use Rattle.parking_lot_waits_world.specs.Joint.{Joint, busy_by, busy_number, number, row_goes, seat_at}
-use Rattle.parking_lot_waits_world.specs.JointMoves.{is_free, may_expire, may_expire_at, may_go, may_go_at}
+use Rattle.parking_lot_waits_world.specs.JointMoves.{may_expire, may_expire_at, may_go, may_go_at}
 use Rattle.parking_lot_waits_world.specs.JointSides.{is_busy}
 use Rattle.parking_lot_worlds.proofs.Whole.{both_true, both_ways}
 
@@ -22,10 +22,10 @@ last_not true b e = e
 last_not false b e = refl
 
 -- one that has a seat, and one of whose numbers is in a call
-seated_busy : (j : Joint) (t v : ℕ) → nat_lt t (length j.seats) ≡ true → (seat_at j t).at ≡ Some v → is_busy j t ≡ true
+pub seated_busy : (j : Joint) (t v : ℕ) → nat_lt t (length j.seats) ≡ true → (seat_at j t).at ≡ Some v → is_busy j t ≡ true
 seated_busy j t v low seat = all_three _ _ low (first_not _ _ (ap (λ (o : Option ℕ). is_none o) seat))
 
-called_busy : (j : Joint) (t : ℕ) (b : Bool) (c : Call) → nat_lt t (length j.seats) ≡ true → call_at (state j.rows) (number j t b) ≡ Some c → is_busy j t ≡ true
+pub called_busy : (j : Joint) (t : ℕ) (b : Bool) (c : Call) → nat_lt t (length j.seats) ≡ true → call_at (state j.rows) (number j t b) ≡ Some c → is_busy j t ≡ true
 called_busy j t true c low here = all_three _ _ low (last_not _ _ (last_not _ _ (ap (λ (o : Option Call). is_none o) here)))
 called_busy j t false c low here = all_three _ _ low (last_not _ _ (first_not _ _ (ap (λ (o : Option Call). is_none o) here)))
 
@@ -72,3 +72,14 @@ expires_busy j t may = go (seat_at j t).at refl
     go : (o : Option ℕ) → (seat_at j t).at ≡ o → is_busy j t ≡ true
     go (Some v) seat = seated_busy j t v low seat
     go None seat = late_busy j t low (ap (λ (o : Option ℕ). may_expire_at o j t) (sym seat) ∙ (both_true _ _ may).1)
+
+-- and one that has no seat, and none of whose numbers is in a call, is in none
+pub free_idle : (j : Joint) (t : ℕ) → (seat_at j t).at ≡ None → call_at (state j.rows) (number j t false) ≡ None → call_at (state j.rows) (number j t true) ≡ None → is_busy j t ≡ false
+free_idle j t seat first second = by (nat_lt t (length j.seats)) (seat_at j t).at (call_at (state j.rows) t) (call_at (state j.rows) (number j t true)) seat first second
+  where
+    by : (b : Bool) (o : Option ℕ) (p q : Option Call) → o ≡ None → p ≡ None → q ≡ None → (b && not (is_none o && (is_none p && is_none q))) ≡ false
+    by true None None None e f g = refl
+    by false None None None e f g = refl
+    by b (Some y) p q e f g = absurd cc
+    by b None (Some y) q e f g = absurd cc
+    by b None None (Some y) e f g = absurd cc

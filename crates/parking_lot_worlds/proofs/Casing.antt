@@ -21,8 +21,8 @@ use Rattle.parking_lot_world.specs.SoundLaws as of_locks
 use Rattle.parking_lot_worlds.specs.declared.calls.Asked.{Asked}
 use Rattle.parking_lot_worlds.specs.declared.step.WorldStep.{WorldStep}
 use Rattle.parking_lot_worlds.specs.WorldCalls.{asked, is_once, step_thread}
-use Rattle.parking_lot_worlds.specs.WorldLaws.{AreCases, AsLock, AsOnce, AsVariable, IsCaseAt, IsFit, IsStepAt, StepsAreCases, StepsArePaid, WorldLock, lock_at, lock_or, steps_left}
-use Rattle.parking_lot_worlds.specs.Worlds.{IsAsked, IsGone, IsLate, IsMade, Shown, is_in_once, is_once_at, may_ask, may_make, rows_of}
+use Rattle.parking_lot_worlds.specs.WorldLaws.{AreCases, AsLock, AsOnce, AsVariable, IsCaseAt, IsStepAt, StepsAreCases, StepsArePaid, WorldLock, lock_at, lock_or, steps_left}
+use Rattle.parking_lot_worlds.specs.Worlds.{IsFit, IsAsked, IsGone, IsLate, IsMade, Shown, is_in_once, is_once_at, may_ask, may_make, rows_of}
 use Rattle.parking_lot_worlds.proofs.Whole.{both_true}
 
 -- AT ONE LOCK

@@ -1,13 +1,10 @@
 -- Which calls stand in a list of all threads after a step: whoever is in a call was in one before, at the same place. It is said of any machine.
-use Rattle.std.proofs.Common.{◌≡◌, ◌≢◌, ◌⊎◌, ℕ, zero, suc, inl, inr, List, [], ◌∷◌, map, length, Option, Some, None, slice_get, slice_set, refl, sym, ap, ◌∙◌}
+use Rattle.std.proofs.Common.{◌≡◌, ◌≢◌, ◌⊎◌, ℕ, inl, inr, List, map, length, Option, Some, None, slice_get, slice_set, refl, sym, ap, ◌∙◌}
 use Rattle.std.specs.Option.{option_and_then, option_map}
 use Rattle.std.proofs.lemmas.Bool.{cases_eq}
 use Rattle.std.proofs.lemmas.Option.{none-some, same_Some, slice_get-map}
 use Rattle.std.proofs.lemmas.List.{length-set, length-map}
-use Rattle.parking_lot_rules.proofs.Indexed.{get-set_same, get-set_other}
-
-abbrev pub call_of : {C : Type 0} → List (Option C) → ℕ → Option C
-call_of calls t = option_and_then (λ c. c) (slice_get calls t)
+use Rattle.parking_lot_call_laws.proofs.Slots.{at_slot as call_of, read_back, set_elsewhere}
 
 module _ {C : Type 0} (place : C → ℕ) where
   -- one in a call there that goes on as d
@@ -21,23 +18,11 @@ module _ {C : Type 0} (place : C → ℕ) where
     pub from : (t : ℕ) (d : C) → call_of b t ≡ Some d → Was (call_of a t) d
     pub count : length b ≡ length a
 
-  set_nothing : (calls : List (Option C)) (t : ℕ) (o : Option C) → slice_get calls t ≡ None → slice_get (slice_set calls t o) t ≡ None
-  set_nothing [] t o e = refl
-  set_nothing (c ∷ cs) zero o e = absurd (none-some c (sym e))
-  set_nothing (c ∷ cs) (suc t) o e = set_nothing cs t o e
-
-  -- whoever is in a call after one entry is written is the one of the entry, or stands elsewhere
-  set_here : (calls : List (Option C)) (t : ℕ) (o : Option C) (d : C) → call_of (slice_set calls t o) t ≡ Some d → o ≡ Some d
-  set_here calls t o d at = go (slice_get calls t) refl
-    where
-      go : (x : Option (Option C)) → slice_get calls t ≡ x → o ≡ Some d
-      go (Some y) e = sym (ap (option_and_then (λ c. c)) (get-set_same calls t y o e)) ∙ at
-      go None e = absurd (none-some d (sym (ap (option_and_then (λ c. c)) (set_nothing calls t o e)) ∙ at))
-
+  -- whoever is in a call after one slot is written is the one of the slot, or stands elsewhere
   pub set_cases : (calls : List (Option C)) (t v : ℕ) (o : Option C) (d : C) → call_of (slice_set calls t o) v ≡ Some d → ((v ≡ t) × (o ≡ Some d)) ⊎ ((v ≢ t) × (call_of calls v ≡ Some d))
   set_cases calls t v o d at = elim (cases_eq v t) [
-    | inl e ↦ inl (e, set_here calls t o d (ap (call_of (slice_set calls t o)) (sym e) ∙ at))
-    | inr ne ↦ inr (ne, sym (ap (option_and_then (λ c. c)) (get-set_other calls t v o (λ e. ne (sym e)))) ∙ at)
+    | inl e ↦ inl (e, read_back calls t o d (ap (call_of (slice_set calls t o)) (sym e) ∙ at))
+    | inr ne ↦ inr (ne, sym (set_elsewhere calls t v o ne) ∙ at)
   ]
 
   pub itself : (calls : List (Option C)) → Stays calls calls

@@ -9,3 +9,12 @@ pub mod Making
 pub mod Promising
 pub mod Listing
 pub mod Busy
+pub mod Leading
+pub mod Fitting
+pub mod Following
+pub mod Answering
+pub mod Waiting
+pub mod AnsweringWaits
+pub mod OnceAsked
+pub mod AnsweringOnces
+pub mod AllAnswers

@@ -1,22 +1,21 @@
 -- A new world is whole.
-use Rattle.std.proofs.Common.{◌≡◌, ℕ, zero, suc, ◌*◌, ◌&&◌, not, nat_lt, inr, Bool, true, false, is_some, is_none, map, length, List, [], ◌∷◌, replicate, Option, None, Some, slice_get, refl, sym, ap, ◌∙◌}
-use Rattle.std.specs.Option.{option_and_then, option_map, option_map_or, unwrap_or}
+use Rattle.std.proofs.Common.{◌≡◌, ℕ, zero, suc, ◌*◌, ◌&&◌, not, nat_lt, inr, Bool, true, false, is_some, is_none, map, length, List, [], ◌∷◌, replicate, Option, None, slice_get, refl, sym, ap, ◌∙◌}
+use Rattle.std.specs.Option.{option_and_then, option_map_or, unwrap_or}
 use Rattle.std.proofs.lemmas.List.{length-replicate}
-use Rattle.std.proofs.lemmas.Option.{none-some, slice_get-map}
+use Rattle.std.proofs.lemmas.Option.{none-some}
 use Rattle.parking_lot_condvar_world.specs.Machines.{State as Var}
 use Rattle.parking_lot_once_world.specs.OnceActs as once
 use Rattle.parking_lot_once_world.specs.Onces.{Onces}
 use Rattle.parking_lot_once_world.specs.Onces as onces
 use Rattle.parking_lot_waits_world.specs.declared.seat.Seat.{Seat}
-use Rattle.parking_lot_waits_world.specs.Joint.{is_var, nowhere, number, seat_at, var_in}
-use Rattle.parking_lot_waits_world.specs.JointMoves.{is_free}
-use Rattle.parking_lot_waits_world.specs.JointSides.{is_busy, is_open}
+use Rattle.parking_lot_waits_world.specs.Joint.{nowhere, number, var_in}
+use Rattle.parking_lot_waits_world.specs.JointSides.{is_busy}
 use Rattle.parking_lot_waits_world.specs.JointSteps.{var_of}
 use Rattle.parking_lot_world.specs.Machines as rows
 use Rattle.parking_lot_world.specs.Rows.{State, call_at, state}
 use Rattle.parking_lot_worlds.specs.declared.calls.LockKind.{LockKind}
 use Rattle.parking_lot_worlds.specs.WorldCalls.{is_variable, row_kind}
-use Rattle.parking_lot_worlds.specs.Worlds.{IsWhole, Shown, is_variable_at}
+use Rattle.parking_lot_worlds.specs.Worlds.{IsWhole, Shown}
 use Rattle.parking_lot_worlds.proofs.Whole.{both_ways}
 
 nobody : {C : Type 0} (n t : ℕ) → option_and_then (λ (c : Option C). c) (slice_get (replicate n None) t) ≡ None

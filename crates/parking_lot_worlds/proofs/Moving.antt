@@ -1,5 +1,5 @@
 -- In a world somebody can move.
-use Rattle.std.proofs.Common.{◌≡◌, ◌⊎◌, ℕ, inl, inr, Bool, true, false, cond, not, ◌&&◌, nat_lt, is_some, is_none, length, Option, Some, None, refl, sym, ap, ◌∙◌}
+use Rattle.std.proofs.Common.{◌≡◌, ℕ, inl, inr, Bool, true, false, cond, is_some, is_none, length, Option, Some, None, refl, sym, ap, ◌∙◌}
 use Rattle.std.specs.Option.{option_map_or}
 use Rattle.std.proofs.lemmas.Bool.{ltb-true}
 use Rattle.parking_lot_once_protocol.specs.declared.once_phase.OncePhase.{OncePhase}
@@ -12,13 +12,11 @@ use Rattle.parking_lot_once_world.specs.Onces.{Onces}
 use Rattle.parking_lot_once_world.specs.Onces as onces
 use Rattle.parking_lot_once_world.proofs.Owning.{is_one}
 use Rattle.parking_lot_protocol.specs.declared.act.Act.{Act}
-use Rattle.parking_lot_waits_world.specs.Joint.{Joint}
 use Rattle.parking_lot_waits_world.specs.JointLaws.{PartsFit}
 use Rattle.parking_lot_waits_world.specs.JointMoves.{is_free}
 use Rattle.parking_lot_waits_world.specs.JointMoves as joint
 use Rattle.parking_lot_waits_world.specs.JointProgress.{GiversAreOut, SomebodyInsideGoes}
 use Rattle.parking_lot_waits_world.specs.JointProgress as wait_laws
-use Rattle.parking_lot_waits_world.specs.JointSides.{is_busy}
 use Rattle.parking_lot_waits_world.specs.Whole as waits
 use Rattle.parking_lot_worlds.specs.WorldLaws.{Moves, SomebodyCanMove}
 use Rattle.parking_lot_worlds.specs.Worlds.{IsWhole, Shown, goes, is_entry, is_in_once, may_go, once_enters, once_side, wait_side}

@@ -1,5 +1,5 @@
 -- A world stays whole, whatever step is made.
-use Rattle.std.proofs.Common.{◌≡◌, ◌≢◌, ◌⊎◌, ℕ, inl, inr, Bool, true, false, not, cond, ◌&&◌, is_some, is_none, List, map, length, Option, Some, None, slice_get, slice_set, refl, sym, ap, ◌∙◌, subst}
+use Rattle.std.proofs.Common.{◌≡◌, ◌⊎◌, ℕ, inl, inr, Bool, true, false, not, cond, ◌&&◌, is_some, is_none, List, map, length, Option, Some, None, slice_get, slice_set, refl, sym, ap, ◌∙◌, subst}
 use Rattle.std.specs.Option.{option_map, option_map_or}
 use Rattle.std.proofs.lemmas.Bool.{cases_eq}
 use Rattle.std.proofs.lemmas.List.{length-set}
@@ -20,7 +20,6 @@ use Rattle.parking_lot_waits_world.specs.Whole as waits
 use Rattle.parking_lot_waits_world.proofs.LeavingTurns.{steps_leave}
 use Rattle.parking_lot_world_calls.specs.declared.calls.LockCall.{LockCall as RowCall}
 use Rattle.parking_lot_world_calls.specs.declared.calls.LockKind.{LockKind as RowKind}
-use Rattle.parking_lot_world_calls.specs.declared.open_call.Call.{Call}
 use Rattle.parking_lot_world_calls.specs.Kinds.{AsMutex, manner_of}
 use Rattle.parking_lot_world.specs.Rows.{call_at}
 use Rattle.parking_lot_worlds.specs.declared.calls.Asked.{Asked}

@@ -2,3 +2,4 @@ pub mod Faults
 pub mod WorldCalls
 pub mod Worlds
 pub mod WorldLaws
+pub mod WorldAnswers

@@ -2,7 +2,6 @@
 use Rattle.std.specs.Prelude.{◌≡◌, ◌≢◌, ◌⊎◌, ℕ, ◌+◌, ◌*◌, ◌≤◌, ◌<◌, Bool, true, false, if◌then◌else◌, List, [], ◌∷◌, length, Option, Some, None, slice_get}
 use Rattle.parking_lot_once_rules.specs.declared.once_state.OnceState.TheVariants.{Done}
 use Rattle.parking_lot_once_rules.specs.Once.{Once, Step}
-use Rattle.parking_lot_once_world.specs.OnceFits.{Fits}
 use Rattle.parking_lot_once_world.specs.OnceMachineLaws.{OnlyWaits}
 use Rattle.parking_lot_once_world.specs.OnceMachineLaws as of_onces
 use Rattle.parking_lot_once_world.specs.OnceRanks as once_ranks
@@ -16,11 +15,9 @@ use Rattle.parking_lot_rules.specs.Variable.{Variable}
 use Rattle.parking_lot_condvar_world.specs.Machines.{State as Var, variable}
 use Rattle.parking_lot_condvar_world.specs.Steps.{Runs}
 use Rattle.parking_lot_waits_world.specs.Joint.{thread_of, var_at}
-use Rattle.parking_lot_waits_world.specs.JointLaws.{PartsFit}
-use Rattle.parking_lot_waits_world.specs.JointProgress.{GiversAreOut, IsKeptOut, IsListed}
+use Rattle.parking_lot_waits_world.specs.JointProgress.{IsKeptOut, IsListed}
 use Rattle.parking_lot_waits_world.specs.JointRanks as wait_ranks
 use Rattle.parking_lot_waits_world.specs.JointSides.{is_busy}
-use Rattle.parking_lot_waits_world.specs.Whole as waits
 use Rattle.parking_lot_world_calls.specs.declared.calls.OwnMode.{OwnMode}
 use Rattle.parking_lot_world_calls.specs.declared.calls.OwnMode.TheVariants as mode
 use Rattle.parking_lot_world_calls.specs.declared.open_call.Call.{Call}
@@ -32,15 +29,7 @@ use Rattle.parking_lot_world.specs.SoundLaws as of_locks
 use Rattle.parking_lot_world.specs.Worlds.{mode_in}
 use Rattle.parking_lot_worlds.specs.declared.step.WorldStep.{WorldStep}
 use Rattle.parking_lot_worlds.specs.WorldCalls.{step_thread}
-use Rattle.parking_lot_worlds.specs.Worlds.{IsMade, IsWhole, Shown, is_indebted, is_once_at, is_variable_at, may_go, may_make, mode_at, queue_at, rows_of}
-
--- what every world keeps: it is whole, and each of its machines fits together
-pub record IsFit (w : Shown) : Type 0 where
-  pub whole : IsWhole w
-  pub tied : waits.IsWhole w.waits
-  pub givers : GiversAreOut w.waits
-  pub parts : PartsFit w.waits
-  pub onces : Fits w.onces
+use Rattle.parking_lot_worlds.specs.Worlds.{IsFit, IsMade, Shown, is_indebted, is_once_at, is_variable_at, may_go, may_make, mode_at, queue_at, rows_of}
 
 -- WHO CAN MOVE
 

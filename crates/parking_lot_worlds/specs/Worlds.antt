@@ -8,6 +8,7 @@ use Rattle.parking_lot_once_world.specs.declared.calls.OnceReply.{OnceReply}
 use Rattle.parking_lot_once_world.specs.Entries.{list_of}
 use Rattle.parking_lot_once_world.specs.OnceDebts as once_debts
 use Rattle.parking_lot_once_world.specs.OnceActs as once
+use Rattle.parking_lot_once_world.specs.OnceFits.{Fits}
 use Rattle.parking_lot_once_world.specs.OnceSteps as once_steps
 use Rattle.parking_lot_once_world.specs.declared.open_call.OpenCall.{OpenCall}
 use Rattle.parking_lot_once_world.specs.Onces.{Onces}
@@ -15,10 +16,13 @@ use Rattle.parking_lot_once_world.specs.Onces as onces
 use Rattle.parking_lot_waits_world.specs.declared.ended.Ended.{Ended}
 use Rattle.parking_lot_waits_world.specs.Joint.{Joint, is_var}
 use Rattle.parking_lot_waits_world.specs.Joint as joints
+use Rattle.parking_lot_waits_world.specs.JointLaws.{PartsFit}
 use Rattle.parking_lot_waits_world.specs.JointMoves as joint
+use Rattle.parking_lot_waits_world.specs.JointProgress.{GiversAreOut}
 use Rattle.parking_lot_waits_world.specs.JointSides.{is_busy, lock_call}
 use Rattle.parking_lot_waits_world.specs.JointSides as sides
 use Rattle.parking_lot_waits_world.specs.JointSteps as joint_steps
+use Rattle.parking_lot_waits_world.specs.Whole as waits
 use Rattle.parking_lot_world_calls.specs.declared.calls.OwnMode.{OwnMode}
 use Rattle.parking_lot_world_calls.specs.declared.open_call.Call.{Call}
 use Rattle.parking_lot_world.specs.Rows.{State, state}
@@ -137,16 +141,6 @@ IsMade (step.Begin thread lock call) w v = IsAsked thread lock (asked call) w v 
 IsMade (step.Go thread fair) w v = IsGone (is_in_once w thread) thread fair w v × (v.kinds ≡ w.kinds)
 IsMade (step.Deadline thread) w v = IsLate thread w v × (v.kinds ≡ w.kinds)
 
--- the steps lead from one world to the other, one after another, and none is refused
-abbrev pub Ran : Shown → List WorldStep → Shown → Type 0
-Ran w [] v = v ≡ w
-Ran w (s ∷ steps) v = (mid : Shown) × (refusal w s ≡ None) × IsMade s w mid × Ran mid steps v
-
--- how many of n steps a run did
-abbrev pub steps_done : {X : Type 0} → Result X WorldFault → ℕ → ℕ
-steps_done (Ok x) n = n
-steps_done (Err f) n = f.done
-
 -- WHAT IS SEEN
 
 abbrev pub word_at : Shown → ℕ → ℕ
@@ -191,3 +185,23 @@ pub record IsWhole (w : Shown) : Type 0 where
   pub at_locks : (k : ℕ) (c : Call) → row.call_at (rows_of w) k ≡ Some c → is_once_at w c.lock ≡ false
   pub at_onces : (t : ℕ) (c : OpenCall) → onces.call_at w.onces t ≡ Some c → is_once_at w c.once ≡ true
   pub sections : (sides.is_open w.waits ≡ false) ⊎ (w.onces.inside ≡ None)
+
+-- RUNS
+
+-- what every world keeps: it is whole, and each of its machines fits together
+pub record IsFit (w : Shown) : Type 0 where
+  pub whole : IsWhole w
+  pub tied : waits.IsWhole w.waits
+  pub givers : GiversAreOut w.waits
+  pub parts : PartsFit w.waits
+  pub onces : Fits w.onces
+
+-- the steps lead from one world to the other, one after another; none is refused, and each leaves a world that fits together
+abbrev pub Ran : Shown → List WorldStep → Shown → Type 0
+Ran w [] v = v ≡ w
+Ran w (s ∷ steps) v = (mid : Shown) × (refusal w s ≡ None) × IsMade s w mid × IsFit mid × Ran mid steps v
+
+-- how many of n steps a run did
+abbrev pub steps_done : {X : Type 0} → Result X WorldFault → ℕ → ℕ
+steps_done (Ok x) n = n
+steps_done (Err f) n = f.done

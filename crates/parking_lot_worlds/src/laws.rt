@@ -1,6 +1,9 @@
 //! Laws of worlds.
+ghost use Rattle.parking_lot_worlds.specs.WorldAnswers.{AnswersFit};
 ghost use Rattle.parking_lot_worlds.specs.WorldLaws.{StepsAreCases, StepsArePaid};
 
+use parking_lot_call_laws::laws::calls_lead;
+use parking_lot_once_world::laws as of_onces;
 use parking_lot_waits_world::laws as of_waits;
 
 /// Each step that is allowed is, at one lock, cases of a lock without a word, with named owners and two lists: the thread enters a list or leaves it, is
@@ -19,4 +22,16 @@ pub fn each_step_is_paid_for()
     ensures { StepsArePaid }
 {
     of_waits::steps_are_paid_for();
+}
+
+/// Whatever the schedule, a call is answered only what it may be. One that asks for a lock, or turns its hold into another, is answered `Owned`; a try that or
+/// `Refused`; one with a deadline `Owned`, or `TimedOut` where its deadline has come since it began; one that gives a hold up `Released`; a wait `Owned`, `WrongMutex`,
+/// or `TimedOut` where its deadline has come; a notification `Flag` or `Count`; a call at a once `Ran` or `Failed` as its closure ends, `Poisoned` where it isn't forced,
+/// or `Completed`.
+pub fn answers_fit_their_calls()
+    ensures { AnswersFit }
+{
+    calls_lead();
+    of_waits::replies_fit_their_calls();
+    of_onces::answers_fit_their_calls();
 }

@@ -3,7 +3,7 @@ ghost use Rattle.std.specs.Prelude.{◌≡◌, length, take, slice_get, slice_se
 ghost use Rattle.parking_lot_waits_world.specs.JointMoves as joint;
 ghost use Rattle.parking_lot_worlds.specs.declared.calls.Asked.TheVariants.{OfLock, OfOnce, OfVariable};
 ghost use Rattle.parking_lot_worlds.specs.WorldLaws.{DoneStays, IsSoundWorld};
-ghost use Rattle.parking_lot_worlds.specs.Worlds.{IsAsked, IsGone, IsLate, IsMade, IsWhole, Ran, is_in_once, may_ask, may_go, may_make, refusal, steps_done};
+ghost use Rattle.parking_lot_worlds.specs.Worlds.{IsAsked, IsFit, IsGone, IsLate, IsMade, IsWhole, Ran, is_in_once, may_ask, may_go, may_make, refusal, steps_done};
 
 use crate::calls::{Asked, LockAnswer, LockKind};
 use crate::fault::{WorldFault, WorldRefusal};
@@ -184,9 +184,10 @@ impl<A: Allocator> World<A> {
         ensures made { MatchResult result
             (λ _. (refusal self.old step ≡ None) × IsMade step self.old self.new)
             (λ fault. (self.new ≡ self.old) × (refusal self.old step ≡ Some fault)) }
+        ensures fits { IsFit self.new }
         ensures lasts { DoneStays self.old self.new }
     {
-        self.onces.known();
+        self.known();
         what_is_done_stays_done();
         if step.thread() >= self.answers.len() {
             return Err(WorldRefusal::NoSuchThread);
@@ -195,6 +196,7 @@ impl<A: Allocator> World<A> {
             return Err(WorldRefusal::CannotMove);
         }
         self.make(step);
+        self.known();
         Ok(())
     }
 

@@ -25,7 +25,7 @@ loop-step-preserved g c =
     let one = get_or steps i (step.Begin 0 0 call.Lock) in
     record {
       ran = subst (λ ss. Ran c.args.self.now ss c.make_step.new.self) (sym (take_more steps i (step.Begin 0 0 call.Lock) c.loop-step-test.true))
-          (ran-more c.args.self.now (take i steps) c.loop-step.self one c.make_step.new.self c.loop-step.invariant.ran c.in_default.ensures.made.0 c.in_default.ensures.made.1);
+          (ran-more c.args.self.now (take i steps) c.loop-step.self one c.make_step.new.self c.loop-step.invariant.ran c.in_default.ensures.made.0 c.in_default.ensures.made.1 c.make_step.ensures.fits);
       done = ap (λ n. n + 1) c.loop-step.invariant.done;
       lasts = λ i done. c.make_step.ensures.lasts i (c.loop-step.invariant.lasts i done);
     }

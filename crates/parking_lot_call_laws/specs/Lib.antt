@@ -1,0 +1,4 @@
+pub mod Stages
+pub mod AnswerLaws
+pub mod Answers
+pub mod SameCores

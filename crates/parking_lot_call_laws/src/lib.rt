@@ -1,0 +1,4 @@
+//! What calls at locks are answered, and how their threads own the locks then.
+#![tactic(auto)]
+
+pub mod laws;
