@@ -118,6 +118,23 @@ fn the_checks_of_the_lock_pass(rt: HostRuntime) -> Result<(), Fail> {
     Ok(())
 }
 
+#[test]
+fn the_checks_of_the_recursive_lock_pass(rt: HostRuntime) -> Result<(), Fail> {
+    let lot = ParkingLot::new(rt, rt.alloc(), 2, 7)?;
+    let mut one = lot.thread_data()?;
+    let mut other = lot.thread_data()?;
+    let table = LockTable::new(rt.alloc(), &lot, 16)?;
+    let passed = of_lock::<RawRwLock<HostRuntime, 1>, HostRuntime, _>(
+        &rt,
+        rt.alloc(),
+        &table,
+        &mut one,
+        &mut other,
+    );
+    assert!(rt; passed == [true; 2]);
+    Ok(())
+}
+
 /// Whether each check of the reentrant mutex finds what it must.
 fn of_reentrant<R: RawMutexFair + MakeLock<S> + Drop, G: GetThreadId<Party = R::Party> + Drop, S>(
     alloc: Global,

@@ -4,4 +4,8 @@
 #[cfg(test)]
 mod checks;
 #[cfg(test)]
+mod in_time;
+#[cfg(test)]
+mod nested;
+#[cfg(test)]
 mod upgrade_checks;

@@ -82,7 +82,31 @@ fn the_checks_of_upgradable_arcs_pass(rt: HostRuntime) -> Result<(), Fail> {
     let mut me = lot.thread_data()?;
     let table = LockTable::new(rt.alloc(), &lot, 16)?;
     let plain = of_arcs::<RawRwLock<HostRuntime, 0>, _>(rt.alloc(), &table, &mut me);
-    assert!(rt; plain == [true; 2]);
+    let recursive = of_arcs::<RawRwLock<HostRuntime, 1>, _>(rt.alloc(), &table, &mut me);
+    assert!(rt; (plain == [true; 2]) & (recursive == [true; 2]));
+    Ok(())
+}
+
+/// Whether an upgradable guard and its lock print what they must.
+fn of_texts<R: RawRwLockUpgradeDowngrade + MakeLock<S> + Drop, S>(
+    alloc: Global,
+    source: S,
+    party: &mut R::Party,
+) -> bool
+where
+    R::Runtime: Wait,
+{
+    upgradable_checks::prints::<R, Global, S>(alloc, source, party).is_ok()
+}
+
+#[test]
+fn upgradable_guards_print_their_values(rt: HostRuntime) -> Result<(), Fail> {
+    let lot = ParkingLot::new(rt, rt.alloc(), 2, 7)?;
+    let mut me = lot.thread_data()?;
+    let table = LockTable::new(rt.alloc(), &lot, 2)?;
+    let plain = of_texts::<RawRwLock<HostRuntime, 0>, _>(rt.alloc(), &table, &mut me);
+    let recursive = of_texts::<RawRwLock<HostRuntime, 1>, _>(rt.alloc(), &table, &mut me);
+    assert!(rt; plain & recursive);
     Ok(())
 }
 
@@ -131,6 +155,9 @@ fn two_threads_upgrade_and_exclude_each_other(rt: HostRuntime) -> Result<(), Fai
     let plain = of_two::<RawRwLock<HostRuntime, 0>, HostRuntime, _>(
         &rt, &table, &mut one, &mut other,
     );
-    assert!(rt; plain);
+    let recursive = of_two::<RawRwLock<HostRuntime, 1>, HostRuntime, _>(
+        &rt, &table, &mut one, &mut other,
+    );
+    assert!(rt; plain & recursive);
     Ok(())
 }

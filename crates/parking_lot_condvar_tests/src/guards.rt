@@ -113,3 +113,60 @@ fn timed_waits_run_out(rt: HostRuntime) -> Result<(), Fail> {
     assert!(rt; is_shown(rt.alloc(), &condvar, "Condvar { .. }"));
     Ok(())
 }
+
+/// Whether waits that ask a condition end at once where it is false, also where the moment has come.
+fn end_at_once<'t, 'l, R: Wait, C: Clock>(
+    clock: &C,
+    condvar: &Condvar<RawCondvar<'t, 'l, R>>,
+    mutex: &Mutex<RawMutex<'t, 'l, R>, u64>,
+    me: &mut ThreadData,
+    past: Instant,
+) -> bool {
+    let mut guard = mutex.lock(me);
+    let whole = condvar.wait_while(&mut guard, me, |_| false);
+    let until = condvar.wait_while_until(&mut guard, past, clock, me, |_| false);
+    let timed = condvar.wait_while_for(&mut guard, Duration::MAX, clock, me, |_| false);
+    match (whole, until, timed) {
+        (Ok(()), Ok(one), Ok(two)) => !one.timed_out() & !two.timed_out(),
+        _ => false,
+    }
+}
+
+/// Whether a wait whose moment has come asks once more, and answers what it is told then. The condition counts how often it is asked.
+fn asks_once_more<'t, 'l, R: Wait, C: Clock>(
+    clock: &C,
+    condvar: &Condvar<RawCondvar<'t, 'l, R>>,
+    mutex: &Mutex<RawMutex<'t, 'l, R>, u64>,
+    me: &mut ThreadData,
+    past: Instant,
+    asks: u64,
+) -> Option<(bool, u64)> {
+    let mut guard = mutex.lock(me);
+    *guard = 0;
+    let waited = condvar.wait_while_until(&mut guard, past, clock, me, |asked| {
+        *asked = asked.wrapping_add(1);
+        *asked < asks
+    });
+    match waited {
+        Ok(result) => Some((result.timed_out(), *guard)),
+        Err(_fault) => None,
+    }
+}
+
+#[test]
+fn a_condition_decides_whether_the_time_ran_out(rt: HostRuntime) -> Result<(), Fail> {
+    let lot = ParkingLot::new(rt, rt.alloc(), 1, 7)?;
+    let mut me = lot.thread_data()?;
+    let table = LockTable::new(rt.alloc(), &lot, 2)?;
+    let rows = &table;
+    let condvar: Condvar<RawCondvar<HostRuntime>> = Condvar::default(rows)?;
+    let mutex = Mutex::new(rows, 0)?;
+    let past = Instant::now(&rt)?;
+    let at_once = end_at_once(&rt, &condvar, &mutex, &mut me, past);
+    let first = asks_once_more(&rt, &condvar, &mutex, &mut me, past, 1);
+    let second = asks_once_more(&rt, &condvar, &mutex, &mut me, past, 2);
+    let never = asks_once_more(&rt, &condvar, &mutex, &mut me, past, 9);
+    let are_told = (first == Some((false, 1))) & (second == Some((false, 2)));
+    assert!(rt; at_once & are_told & (never == Some((true, 2))) & !mutex.is_locked());
+    Ok(())
+}

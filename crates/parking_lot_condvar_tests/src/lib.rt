@@ -11,7 +11,11 @@ mod guards;
 #[cfg(test)]
 mod lots;
 #[cfg(test)]
+mod notified;
+#[cfg(test)]
 mod refused;
+#[cfg(test)]
+mod shared;
 #[cfg(test)]
 mod timed;
 #[cfg(test)]

@@ -80,7 +80,9 @@ fn an_error_poisons(rt: HostRuntime) -> Result<(), Fail> {
     let runs = Cell::new(0);
     let is_failed = matches!(fails(&once, &mut me, &runs), Some(OnceFault::Failed(5)));
     let is_poisoned = is_at(&once, &table, OnceState::Poisoned, 2);
-    let is_refused = matches!(fails(&once, &mut me, &runs), Some(OnceFault::Poisoned));
+    let is_refused = matches!(fails(&once, &mut me, &runs), Some(OnceFault::Poisoned))
+        & !runs_well(&once, &mut me, &runs)
+        & is_at(&once, &table, OnceState::Poisoned, 2);
     let is_told = (once.wait(&mut me) == Err(Poisoned)) & (runs.get() == 1);
     let fails_again = forces(&once, &mut me, false) == (Some(OnceState::Poisoned), false);
     let is_still = is_at(&once, &table, OnceState::Poisoned, 2);

@@ -14,23 +14,24 @@ fn section(rt: &impl Abort, waiters: &[usize], sum: u64, plain: u64, fair: u64) 
     let mut core = follow_rw(rt, RwCore::unlock_exclusive(), &begun);
     let mut act = core.next(ActResult::Entered);
     let mut so_far = 0u64;
-    for (i, number) in waiters.iter().enumerate() {
+    let mut waiting = waiters.len();
+    for number in waiters {
         let token = ParkToken(*number);
         if act == Act::Section(SectionAct::TakeNext(so_far))
             && wake_sum(so_far, token) == FilterOp::Unpark
         {
-            let left = i + 1 < waiters.len();
+            waiting = waiting.saturating_sub(1);
             act = core.next(ActResult::Took {
                 token: Some(token),
-                left,
+                left: waiting > 0,
             });
             so_far = so_far.wrapping_add(*number as u64);
         }
     }
-    if waiters.is_empty() {
+    if act == Act::Section(SectionAct::TakeNext(so_far)) {
         act = core.next(ActResult::Took {
             token: None,
-            left: false,
+            left: waiting > 0,
         });
     }
     let plain = WordChange {
@@ -59,12 +60,21 @@ fn one_reader_and_nobody(rt: HostRuntime) {
 }
 
 #[test]
+fn a_writer_and_a_second_upgradable_are_passed_behind_the_first(rt: HostRuntime) {
+    section(&rt, &[20, 8, 16, 20], 36, 1, 37);
+    section(&rt, &[20, 8], 20, 1, 21);
+    section(&rt, &[16, 20], 36, 0, 36);
+}
+
+#[test]
 fn behind_an_upgradable_owner_only_readers_go(rt: HostRuntime) {
     for (sum, token, op) in [
         (0, 20, FilterOp::Unpark),
         (20, 8, FilterOp::Skip),
         (20, 20, FilterOp::Skip),
         (20, 16, FilterOp::Unpark),
+        (36, 20, FilterOp::Skip),
+        (36, 8, FilterOp::Skip),
         (24, 16, FilterOp::Stop),
     ] {
         let is_so = wake_sum(sum, ParkToken(token)) == op;

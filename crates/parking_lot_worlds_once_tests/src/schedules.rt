@@ -70,52 +70,108 @@ fn two(call: LockCall, then: LockCall) -> Calls {
     Calls(Some(call), Some(then))
 }
 
-/// Two calls each, so that each call comes first and last, behind a closure that fails and one that doesn't.
-fn programs() -> [Calls; 9] {
-    [
-        two(LockCall::CallOnce(false), LockCall::CallOnce(true)),
-        two(LockCall::CallOnce(false), LockCall::CallOnceForce(true)),
-        two(LockCall::CallOnceForce(false), LockCall::OnceWaitForce),
-        two(LockCall::CallOnceForce(true), LockCall::CallOnce(false)),
-        two(LockCall::OnceWait, LockCall::CallOnceForce(true)),
-        two(LockCall::OnceWait, LockCall::OnceWaitForce),
-        two(LockCall::OnceWaitForce, LockCall::OnceWait),
-        two(LockCall::CallOnce(true), LockCall::OnceWait),
-        two(
-            LockCall::CallOnceForce(false),
-            LockCall::CallOnceForce(false),
-        ),
-    ]
+/// Each call that can be made at a once.
+const CALLS: [LockCall; 6] = [
+    LockCall::CallOnce(true),
+    LockCall::CallOnce(false),
+    LockCall::CallOnceForce(true),
+    LockCall::CallOnceForce(false),
+    LockCall::OnceWait,
+    LockCall::OnceWaitForce,
+];
+
+/// Adds each two calls of a thread, the first of which is this one.
+fn add_programs(programs: &mut Vec<Calls>, first: LockCall) -> Result<(), Fail> {
+    for then in CALLS {
+        programs.push(two(first, then))?;
+    }
+    Ok(())
+}
+
+/// Each two calls of a thread, six for each first call.
+fn programs(rt: &impl AllocGlobal) -> Result<Vec<Calls>, Fail> {
+    let mut programs = Vec::new(rt.alloc());
+    for first in CALLS {
+        add_programs(&mut programs, first)?;
+    }
+    Ok(programs)
+}
+
+/// Those of some of the programs, from that one on, each beside itself and all behind it.
+fn explore_two(
+    rt: &(impl AllocGlobal + Abort),
+    from: usize,
+    count: usize,
+    least: u64,
+) -> Result<(), Fail> {
+    let programs = programs(rt)?;
+    let behind = programs.get(from..).unwrap_or(&[]);
+    let states = explore_first(rt, behind, count)?;
+    assert!(rt; states >= least, "{states} states");
+    Ok(())
 }
 
 #[test]
 fn every_schedule_of_two_calls_is_one_of_whole_calls(rt: HostRuntime) -> Result<(), Fail> {
-    let calls = [
-        one(LockCall::CallOnce(true)),
-        one(LockCall::CallOnce(false)),
-        one(LockCall::CallOnceForce(true)),
-        one(LockCall::CallOnceForce(false)),
-        one(LockCall::OnceWait),
-        one(LockCall::OnceWaitForce),
-    ];
+    let mut calls = Vec::new(rt.alloc());
+    for call in CALLS {
+        calls.push(one(call))?;
+    }
     let states = explore_first(&rt, &calls, 6)?;
-    assert!(rt; states >= 5_000, "{states} states");
+    assert!(rt; states >= 14_100, "{states} states");
     Ok(())
 }
 
 #[test]
-fn every_schedule_of_a_failing_call_and_one_more(rt: HostRuntime) -> Result<(), Fail> {
-    let states = explore_first(&rt, &programs(), 2)?;
-    assert!(rt; states >= 5_000, "{states} states");
-    Ok(())
+fn every_schedule_of_a_call_that_ends_well_and_a_call(rt: HostRuntime) -> Result<(), Fail> {
+    explore_two(&rt, 0, 2, 201_000)
 }
 
 #[test]
-fn every_schedule_of_two_calls_each(rt: HostRuntime) -> Result<(), Fail> {
-    let programs = programs();
-    let states = explore_first(&rt, &programs[2..], 7)?;
-    assert!(rt; states >= 5_000, "{states} states");
-    Ok(())
+fn every_schedule_of_a_call_that_ends_well_and_a_forced_call(rt: HostRuntime) -> Result<(), Fail> {
+    explore_two(&rt, 2, 2, 365_000)
+}
+
+#[test]
+fn every_schedule_of_a_call_that_ends_well_and_a_wait(rt: HostRuntime) -> Result<(), Fail> {
+    explore_two(&rt, 4, 2, 264_000)
+}
+
+#[test]
+fn every_schedule_of_a_failing_call_and_a_call(rt: HostRuntime) -> Result<(), Fail> {
+    explore_two(&rt, 6, 2, 566_000)
+}
+
+#[test]
+fn every_schedule_of_a_failing_call_and_a_forced_call(rt: HostRuntime) -> Result<(), Fail> {
+    explore_two(&rt, 8, 2, 1_209_000)
+}
+
+#[test]
+fn every_schedule_of_a_failing_call_and_a_wait(rt: HostRuntime) -> Result<(), Fail> {
+    explore_two(&rt, 10, 2, 781_000)
+}
+
+#[test]
+fn every_schedule_of_a_forced_call_that_ends_well_and_one_more(
+    rt: HostRuntime,
+) -> Result<(), Fail> {
+    explore_two(&rt, 12, 6, 683_000)
+}
+
+#[test]
+fn every_schedule_of_a_forced_failure_and_one_more(rt: HostRuntime) -> Result<(), Fail> {
+    explore_two(&rt, 18, 6, 1_337_000)
+}
+
+#[test]
+fn every_schedule_of_a_wait_and_one_more(rt: HostRuntime) -> Result<(), Fail> {
+    explore_two(&rt, 24, 6, 54_800)
+}
+
+#[test]
+fn every_schedule_of_a_forced_wait_and_one_more(rt: HostRuntime) -> Result<(), Fail> {
+    explore_two(&rt, 30, 6, 20_200)
 }
 
 /// All schedules of three threads with one call each. A step that nobody else sees is made at once, as its order to others changes nothing.

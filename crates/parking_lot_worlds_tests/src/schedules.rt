@@ -1,5 +1,6 @@
 //! All schedules of two threads at one lock, each to its end.
 
+mod deadlines;
 mod locks;
 mod program;
 mod rules;
@@ -143,6 +144,19 @@ fn every_schedule_of_deadlines_at_a_fair_mutex_keeps_the_rules(
 ) -> Result<(), Fail> {
     let states = explore(&rt, LockKind::FairMutex, Pair(TIMED, TIMED))?;
     assert!(rt; states >= 500, "{states} states");
+    Ok(())
+}
+
+#[test]
+fn every_schedule_of_a_deadline_beside_others_at_a_fair_mutex_keeps_the_rules(
+    rt: HostRuntime,
+) -> Result<(), Fail> {
+    let others = [
+        two(LockCall::Lock, LockCall::Unlock),
+        two(LockCall::TryLock, LockCall::Unlock),
+    ];
+    let states = explore_with(&rt, LockKind::FairMutex, TIMED, &others)?;
+    assert!(rt; states >= 2_000, "{states} states");
     Ok(())
 }
 

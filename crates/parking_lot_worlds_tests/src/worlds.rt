@@ -128,6 +128,26 @@ fn tries_are_refused_beside_a_waiting_writer(rt: HostRuntime) -> Result<(), Fail
 }
 
 #[test]
+fn tries_to_write_are_refused_beside_an_upgradable_owner(rt: HostRuntime) -> Result<(), Fail> {
+    let script = [
+        Line::Calls(0, LockCall::UpgradableRead),
+        Line::Answered(0, OWNED),
+        Line::Calls(1, LockCall::TryWrite),
+        Line::Answered(1, REFUSED),
+        Line::Word(20),
+        Line::Owners(&[(0, OwnMode::Upgradable)]),
+        Line::Queues(&[], &[]),
+        Line::Debts(&[]),
+        Line::Calls(1, LockCall::TryRead),
+        Line::Answered(1, OWNED),
+        Line::Word(36),
+        Line::Calls(2, LockCall::TryWrite),
+        Line::Answered(2, REFUSED),
+    ];
+    follow(&rt, 3, LockKind::Rw, &[], &script)
+}
+
+#[test]
 fn a_downgrade_lets_readers_in(rt: HostRuntime) -> Result<(), Fail> {
     let script = [
         Line::Calls(0, LockCall::Write),

@@ -6,8 +6,8 @@ use parking_lot_worlds::{LockCall, LockKind};
 use std::process::Abort;
 use std::test::Fail;
 
-/// Each two calls, the first of which asks for the upgradable hold.
-fn upgradables() -> [Program; 8] {
+/// Each two calls, the first of which asks for the upgradable hold: the first four programs wait for it, the others try to get it.
+pub fn upgradables() -> [Program; 8] {
     [
         two(LockCall::UpgradableRead, LockCall::UnlockUpgradable),
         two(LockCall::UpgradableRead, LockCall::Upgrade),
@@ -21,18 +21,16 @@ fn upgradables() -> [Program; 8] {
 }
 
 /// Each two calls of one that has the lock alone, and goes on with the upgradable hold.
-fn turned() -> [Program; 2] {
+pub fn turned() -> [Program; 2] {
     [
         two(LockCall::Write, LockCall::DowngradeToUpgradable),
         two(LockCall::TryWrite, LockCall::DowngradeToUpgradable),
     ]
 }
 
-/// Each two calls without an upgradable one.
-fn plain() -> [Program; 6] {
+/// Each two calls of one that writes, without an upgradable one.
+pub fn writers() -> [Program; 4] {
     [
-        two(LockCall::Read, LockCall::UnlockRead),
-        two(LockCall::TryRead, LockCall::UnlockRead),
         two(LockCall::Write, LockCall::UnlockWrite),
         two(LockCall::TryWrite, LockCall::UnlockWrite),
         two(LockCall::Write, LockCall::Downgrade),
@@ -40,8 +38,16 @@ fn plain() -> [Program; 6] {
     ]
 }
 
+/// Each two calls of one that reads once.
+pub fn readers_once() -> [Program; 2] {
+    [
+        two(LockCall::Read, LockCall::UnlockRead),
+        two(LockCall::TryRead, LockCall::UnlockRead),
+    ]
+}
+
 /// Each two calls of one that reads again.
-fn readers() -> [Program; 4] {
+pub fn readers() -> [Program; 4] {
     [
         two(LockCall::Read, LockCall::Read),
         two(LockCall::Read, LockCall::TryRead),
@@ -72,7 +78,7 @@ fn given_up() -> [Program; 3] {
 }
 
 /// Makes all schedules of each of the first programs beside each of the others.
-fn explore_between(
+pub fn explore_between(
     rt: &(impl AllocGlobal + Abort),
     kind: LockKind,
     firsts: &[Program],
@@ -105,7 +111,9 @@ fn every_schedule_of_a_writer_that_turns_keeps_the_rules(rt: HostRuntime) -> Res
 fn every_schedule_of_an_upgradable_hold_beside_others_keeps_the_rules(
     rt: HostRuntime,
 ) -> Result<(), Fail> {
-    let states = explore_between(&rt, LockKind::Rw, &upgradables(), &plain())?;
+    let beside_readers = explore_between(&rt, LockKind::Rw, &upgradables(), &readers_once())?;
+    let beside_writers = explore_between(&rt, LockKind::Rw, &upgradables(), &writers())?;
+    let states = beside_readers.saturating_add(beside_writers);
     assert!(rt; states >= 36_400, "{states} states");
     Ok(())
 }
@@ -114,7 +122,9 @@ fn every_schedule_of_an_upgradable_hold_beside_others_keeps_the_rules(
 fn every_schedule_of_a_writer_that_turns_beside_others_keeps_the_rules(
     rt: HostRuntime,
 ) -> Result<(), Fail> {
-    let states = explore_between(&rt, LockKind::Rw, &turned(), &plain())?;
+    let beside_readers = explore_between(&rt, LockKind::Rw, &turned(), &readers_once())?;
+    let beside_writers = explore_between(&rt, LockKind::Rw, &turned(), &writers())?;
+    let states = beside_readers.saturating_add(beside_writers);
     assert!(rt; states >= 10_900, "{states} states");
     Ok(())
 }
@@ -134,6 +144,24 @@ fn every_schedule_of_a_writer_that_turns_beside_who_reads_again_keeps_the_rules(
 ) -> Result<(), Fail> {
     let states = explore_between(&rt, LockKind::RwRecursive, &turned(), &readers())?;
     assert!(rt; states >= 5_800, "{states} states");
+    Ok(())
+}
+
+#[test]
+fn every_schedule_of_two_upgradable_holds_at_a_recursive_lock_keeps_the_rules(
+    rt: HostRuntime,
+) -> Result<(), Fail> {
+    let states = explore_all(&rt, LockKind::RwRecursive, &upgradables())?;
+    assert!(rt; states >= 25_100, "{states} states");
+    Ok(())
+}
+
+#[test]
+fn every_schedule_of_an_upgradable_hold_beside_writers_at_a_recursive_lock_keeps_the_rules(
+    rt: HostRuntime,
+) -> Result<(), Fail> {
+    let states = explore_between(&rt, LockKind::RwRecursive, &upgradables(), &writers())?;
+    assert!(rt; states >= 31_200, "{states} states");
     Ok(())
 }
 
