@@ -176,6 +176,7 @@ where
     }
 
     /// Begins the first hold of the party, which was admitted by the raw token.
+    #[inline(always)]
     fn begin(&self, token: R::Guard, party: &R::Party) -> GuardNoSend
         requires { R.issued_by token ≡ R.number self.now.raw }
         ensures { result ≡ self.now.number }
@@ -191,6 +192,7 @@ where
     }
 
     /// Takes one from the count, and with the last the raw token.
+    #[inline(always)]
     fn leave(&self) -> Option<R::Guard>
         ensures issued { IfSome result (λ token. R.issued_by token ≡ R.number self.now.raw) }
         ensures left { Left result }
@@ -231,6 +233,7 @@ where
 
     /// Adds one to the count if the party is the owner, and else waits for the raw mutex. Where the count is full it
     /// refuses, with nothing changed.
+    #[inline(always)]
     pub fn lock(&self, party: &mut R::Party) -> Result<GuardNoSend, ReadersFull>
         ensures lock { IfOk result (λ token. token ≡ self.now.number) }
         ensures refused { OnErr result (party.new ≡ party.old) }
@@ -256,6 +259,7 @@ where
     }
 
     /// Takes one from the count, and releases the raw mutex with the last.
+    #[inline(always)]
     pub fn unlock(&self, guard: GuardNoSend)
         requires { guard ≡ self.now.number }
     {

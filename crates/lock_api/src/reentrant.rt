@@ -154,6 +154,7 @@ where
     }
 
     /// Waits for the raw mutex, unless the party is the owner already. A full count refuses, with nothing changed.
+    #[inline(always)]
     pub fn lock(
         &self,
         party: &mut R::Party,
@@ -271,6 +272,7 @@ where
         self.lock
     }
 
+    #[inline(always)]
     fn release(self) -> &'l ReentrantMutex<R, G, T> {
         let LockedReentrant { lock, token } = self;
         lock.raw.unlock(token);
