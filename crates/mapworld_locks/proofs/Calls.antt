@@ -10,7 +10,7 @@ use Rattle.parking_lot_core_lot.specs.Machine.{Machine}
 use Rattle.parking_lot_protocol.specs.declared.act.ActResult.{ActResult}
 use Rattle.parking_lot_protocol.specs.declared.act.CoreAnswer.{CoreAnswer}
 use Rattle.parking_lot_protocol.specs.declared.rw_phase.RwPhase.{RwPhase}
-use Rattle.parking_lot_rules.proofs.Indexed.{get-set_same, get-set_other}
+use Rattle.parking_lot_rules.proofs.Indexed.{get-set_same}
 use Rattle.parking_lot_rules.proofs.Slots.{set_elsewhere, set_here}
 use Rattle.parking_lot_world_calls.specs.declared.open_call.Call.{Call}
 use Rattle.parking_lot_world_calls.specs.declared.seat.Core.{Core}

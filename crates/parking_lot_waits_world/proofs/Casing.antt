@@ -1,5 +1,5 @@
 -- Each step is cases of a lock without a word at one lock, and steps of the rules at one variable.
-use Rattle.std.proofs.Common.{◌≡◌, ◌≢◌, ℕ, zero, suc, ◌+◌, Bool, true, false, not, List, [], ◌∷◌, ◌++◌, length, map, Option, Some, None, slice_get, slice_set, refl, sym, ap, ◌∙◌, subst, if◌then◌else◌}
+use Rattle.std.proofs.Common.{◌≡◌, ◌≢◌, ℕ, zero, suc, ◌+◌, Bool, true, false, not, List, [], ◌∷◌, ◌++◌, length, map, Option, Some, None, slice_set, refl, sym, ap, ◌∙◌, subst, if◌then◌else◌}
 use Rattle.std.specs.Option.{option_and_then}
 use Rattle.parking_lot_protocol.specs.declared.act.CoreAnswer.{CoreAnswer}
 use Rattle.parking_lot_protocol.specs.declared.act.CoreAnswer.TheVariants as answer
@@ -20,18 +20,15 @@ use Rattle.parking_lot_world.specs.Requeues.{AreTakenIn, MovesAreCases}
 use Rattle.parking_lot_world.specs.RowFits.{FitsTogether}
 use Rattle.parking_lot_world.specs.Rows.{State, lock_at, state}
 use Rattle.parking_lot_world.specs.Rows as row
-use Rattle.parking_lot_world.specs.SoundLaws as of_locks
 use Rattle.parking_lot_world.specs.SoundLaws.{IsStepAt}
 use Rattle.parking_lot_world.proofs.Cases.{made, steps_are_cases_of_locks}
 use Rattle.parking_lot_waits_world.specs.declared.ended.Ended.{Ended}
-use Rattle.parking_lot_waits_world.specs.declared.seat.Seat.{Seat}
 use Rattle.parking_lot_waits_world.specs.declared.turn.Turn.{Turn}
 use Rattle.parking_lot_waits_world.specs.declared.turn.Turn.TheVariants as turn
-use Rattle.parking_lot_waits_world.specs.Joint.{Joint, asking_number, back_number, busy_by, busy_number, front_number, has_by_second, lock_of, number, seat_at, var_at, var_in}
+use Rattle.parking_lot_waits_world.specs.Joint.{Joint, busy_by, busy_number, has_by_second, number, seat_at, var_at, var_in}
 use Rattle.parking_lot_waits_world.specs.JointCases.{AreCases, IsCase, RunsIn, StepsAreCases}
-use Rattle.parking_lot_waits_world.specs.JointLaws.{PartsFit}
-use Rattle.parking_lot_waits_world.specs.JointSteps.{ActsAt, ActsIn, BeginsIn, ComesBackIf, FollowsAs, GoesAtVariable, HearsAt, HearsIn, HearsOf, IsGoneAt, IsLateAt, IsMoving, MovesIn, Turned, is_locked, takes_now}
-use Rattle.parking_lot_waits_world.specs.Moving.{AreMoved, AreMovedAs, AreTaken, Notifies, NotifiesIn, entry}
+use Rattle.parking_lot_waits_world.specs.JointSteps.{ActsAt, ActsIn, BeginsIn, ComesBackIf, FollowsAs, HearsAt, HearsIn, HearsOf, IsGoneAt, IsLateAt, MovesIn, Turned}
+use Rattle.parking_lot_waits_world.specs.Moving.{AreMoved, AreTaken, NotifiesIn, entry}
 use Rattle.parking_lot_waits_world.specs.Turns.{is_late, turn_of}
 use Rattle.parking_lot_waits_world.proofs.Leaving.{left_stepped}
 

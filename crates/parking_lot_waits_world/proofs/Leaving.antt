@@ -1,15 +1,13 @@
 -- What a step leaves as it was: the locks and variables, where calls are, who is in one, and closed sections.
-use Rattle.std.proofs.Common.{◌≡◌, ◌≢◌, ◌⊎◌, inl, inr, ℕ, zero, suc, ◌+◌, ◌<◌, Bool, true, false, not, cond, ◌&&◌, ◌||◌, nat_lt, is_some, is_none, List, [], ◌∷◌, length, Option, Some, None, slice_get, slice_set, refl, sym, ap, ◌∙◌, subst}
-use Rattle.std.specs.List.{list_any}
-use Rattle.std.specs.Option.{option_and_then}
+use Rattle.std.proofs.Common.{◌≡◌, ◌⊎◌, inl, inr, ℕ, zero, suc, Bool, false, List, [], ◌∷◌, Option, Some, None, slice_get, slice_set, refl, sym, ap, ◌∙◌, subst}
 use Rattle.std.proofs.lemmas.Option.{none-some, same_Some}
 use Rattle.parking_lot_protocol.specs.declared.act.CoreAnswer.{CoreAnswer}
 use Rattle.parking_lot_world_calls.specs.declared.open_call.Call.{Call}
 use Rattle.parking_lot_world_calls.specs.declared.calls.LockCall.{LockCall}
-use Rattle.parking_lot_world_calls.specs.Kinds.{AsMutex, manner_of}
+use Rattle.parking_lot_world_calls.specs.Kinds.{manner_of}
 use Rattle.parking_lot_world_calls.specs.LateCalls.{late_of}
 use Rattle.parking_lot_world.specs.Machines as rows
-use Rattle.parking_lot_world.specs.Requeues.{AreTakenIn, IsRousedIn, IsTakenIn, retrying_call, sleeping_call, taken_in}
+use Rattle.parking_lot_world.specs.Requeues.{AreTakenIn, IsRousedIn, IsTakenIn, retrying_call, sleeping_call}
 use Rattle.parking_lot_world.specs.RowActs.{with_call}
 use Rattle.parking_lot_world.specs.RowFits.{FitsTogether}
 use Rattle.parking_lot_world.specs.Rows.{State, call_at}

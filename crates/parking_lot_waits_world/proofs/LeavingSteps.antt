@@ -1,12 +1,9 @@
 -- Each step leaves the locks and variables, where calls are, who is in one, and closed sections.
-use Rattle.std.proofs.Common.{◌≡◌, ◌≢◌, ◌⊎◌, inl, inr, ℕ, zero, suc, ◌+◌, ◌<◌, Bool, true, false, not, cond, ◌&&◌, ◌||◌, nat_lt, is_some, is_none, List, [], ◌∷◌, length, map, take, Option, Some, None, slice_get, slice_set, refl, sym, ap, ◌∙◌, subst, arith}
-use Rattle.std.specs.List.{list_all, list_any}
-use Rattle.std.specs.Option.{option_map, option_map_or, unwrap_or}
+use Rattle.std.proofs.Common.{◌≡◌, ◌≢◌, ◌⊎◌, inl, inr, ℕ, zero, suc, ◌+◌, ◌<◌, Bool, true, false, not, cond, ◌&&◌, ◌||◌, is_some, is_none, List, [], ◌∷◌, length, Option, Some, None, slice_get, slice_set, refl, sym, ap, ◌∙◌, subst}
+use Rattle.std.specs.List.{list_any}
+use Rattle.std.specs.Option.{unwrap_or}
 use Rattle.std.proofs.lemmas.Bool.{cases_eq, lt-ltb, ltb-true}
-use Rattle.std.proofs.lemmas.List.{length-set}
-use Rattle.std.proofs.lemmas.Option.{none-some, same_Some}
-use Rattle.parking_lot_protocol.specs.declared.act.CoreAnswer.{CoreAnswer}
-use Rattle.parking_lot_protocol.specs.declared.act.CoreAnswer.TheVariants as answer
+use Rattle.std.proofs.lemmas.Option.{same_Some}
 use Rattle.parking_lot_waits.specs.declared.notify_core.NotifyPhase.{NotifyPhase}
 use Rattle.parking_lot_waits.specs.declared.notify_core.NotifyPhase.TheVariants as n
 use Rattle.parking_lot_waits.specs.declared.wait_core.WaitPhase.{WaitPhase}
@@ -17,11 +14,11 @@ use Rattle.parking_lot_condvar_world.specs.declared.open_call.Core.{Core}
 use Rattle.parking_lot_condvar_world.specs.declared.open_call.Core.TheVariants as core
 use Rattle.parking_lot_condvar_world.specs.declared.open_call.OpenCall.{OpenCall}
 use Rattle.parking_lot_condvar_world.specs.declared.outside.Outside.{Outside}
-use Rattle.parking_lot_condvar_world.specs.Machines.{State as Var, call_at as var_call_at}
+use Rattle.parking_lot_condvar_world.specs.Machines.{State as Var}
 use Rattle.parking_lot_condvar_world.specs.OwnSteps.{inside_after_notify, inside_after_wait, stepped_by}
 use Rattle.parking_lot_condvar_world.specs.Turns as var_turns
 use Rattle.parking_lot_condvar_world.specs.Turns.{notify_enters, wait_enters}
-use Rattle.parking_lot_world.specs.Rows.{State, call_at as row_call_at, state}
+use Rattle.parking_lot_world.specs.Rows.{call_at as row_call_at, state}
 use Rattle.parking_lot_waits_world.specs.declared.seat.Seat.{Seat}
 use Rattle.parking_lot_waits_world.specs.declared.turn.Turn.{Turn}
 use Rattle.parking_lot_waits_world.specs.declared.turn.Turn.TheVariants as turn
@@ -31,7 +28,7 @@ use Rattle.parking_lot_waits_world.specs.JointSides.{is_busy, is_open}
 use Rattle.parking_lot_waits_world.specs.JointStays.{Leaves}
 use Rattle.parking_lot_waits_world.specs.JointSteps.{ActsAt, ActsIn, BeginsIn, HearsAt, HearsIn}
 use Rattle.parking_lot_waits_world.specs.Moving.{AreTaken, NotifiesIn}
-use Rattle.parking_lot_waits_world.specs.Turns.{notify_turn, turn_by, turn_of, wait_turn}
+use Rattle.parking_lot_waits_world.specs.Turns.{turn_by, turn_of, wait_turn}
 use Rattle.parking_lot_waits_world.proofs.Hearing.{both_true}
 use Rattle.parking_lot_waits_world.proofs.Leaving.{Left}
 use Rattle.parking_lot_waits_world.proofs.Moves.{apart}

@@ -1,13 +1,13 @@
 -- The turns of one in a call at a variable, beginnings, deadlines, and steps at a lock: each leaves what it doesn't change.
-use Rattle.std.proofs.Common.{◌≡◌, ◌≢◌, ◌⊎◌, inl, inr, ℕ, zero, suc, ◌<◌, Bool, true, false, not, cond, ◌&&◌, nat_lt, is_some, List, [], ◌∷◌, length, map, take, Option, Some, None, option_map, slice_get, slice_set, refl, sym, ap, ◌∙◌, subst, arith}
+use Rattle.std.proofs.Common.{◌≡◌, ◌≢◌, inl, inr, ℕ, zero, suc, ◌<◌, Bool, true, false, not, ◌&&◌, nat_lt, is_some, List, [], ◌∷◌, length, map, take, Option, Some, None, option_map, slice_get, refl, sym, ap, ◌∙◌, subst, arith}
 use Rattle.std.specs.List.{list_all}
 use Rattle.std.specs.Option.{option_and_then, option_map_or, unwrap_or}
 use Rattle.std.proofs.lemmas.Bool.{lt-ltb, ltb-true}
 use Rattle.std.proofs.lemmas.List.{length-set}
-use Rattle.std.proofs.lemmas.Option.{none-some, same_Some, slice_get-map}
+use Rattle.std.proofs.lemmas.Option.{none-some, slice_get-map}
 use Rattle.parking_lot_protocol.specs.declared.act.CoreAnswer.{CoreAnswer}
 use Rattle.parking_lot_protocol.specs.declared.act.CoreAnswer.TheVariants as answer
-use Rattle.parking_lot_rules.specs.Lists.{at_index, occurs}
+use Rattle.parking_lot_rules.specs.Lists.{at_index}
 use Rattle.parking_lot_rules.specs.Variable as rules
 use Rattle.parking_lot_rules.proofs.Indexed.{get-set_other}
 use Rattle.parking_lot_waits.specs.declared.notify_core.NotifyPhase.{NotifyPhase}
@@ -27,18 +27,17 @@ use Rattle.parking_lot_world_calls.specs.declared.calls.LockCall.{LockCall}
 use Rattle.parking_lot_world_calls.specs.declared.open_call.Call.{Call}
 use Rattle.parking_lot_world_calls.specs.Kinds.{AsMutex, manner_of}
 use Rattle.parking_lot_world.specs.Machines as rows
-use Rattle.parking_lot_world.specs.Rows.{Rows, State, call_at as row_call_at, state}
+use Rattle.parking_lot_world.specs.Rows.{State, call_at as row_call_at, state}
 use Rattle.parking_lot_waits_world.specs.declared.ended.Ended.{Ended}
 use Rattle.parking_lot_waits_world.specs.declared.seat.Seat.{Seat}
 use Rattle.parking_lot_waits_world.specs.declared.turn.Turn.{Turn}
 use Rattle.parking_lot_waits_world.specs.declared.turn.Turn.TheVariants as turn
-use Rattle.parking_lot_waits_world.specs.Joint.{Joint, back_number, busy_number, call_at, call_in, core_enters, enters_at_lock, front_number, has_by_second, nowhere, number, seat_at, var_at, var_in}
+use Rattle.parking_lot_waits_world.specs.Joint.{Joint, back_number, busy_number, call_at, call_in, core_enters, enters_at_lock, front_number, has_by_second, nowhere, number, seat_at, var_at}
 use Rattle.parking_lot_waits_world.specs.JointLaws.{PartsFit}
-use Rattle.parking_lot_waits_world.specs.JointMoves.{may_ask, may_call_at, may_expire, may_go}
 use Rattle.parking_lot_waits_world.specs.JointSides.{enters, enters_as, enters_at, turn_enters}
 use Rattle.parking_lot_waits_world.specs.JointStays.{Leaves, StepsLeave, WasThere}
 use Rattle.parking_lot_waits_world.specs.JointSteps.{ComesBackIf, FollowsAs, HearsOf, IsGoneAt, IsLateAt, KnownIn, MovesIn, Turned, freed, takes_now}
-use Rattle.parking_lot_waits_world.specs.Moving.{AreMoved, back_in, entry, taken_of}
+use Rattle.parking_lot_waits_world.specs.Moving.{back_in, entry, taken_of}
 use Rattle.parking_lot_waits_world.specs.Turns.{is_late, mutex_of, notify_turn, turn_by, turn_of, wait_turn}
 use Rattle.parking_lot_waits_world.specs.Whole.{IsMutex, IsWhole, Stands}
 use Rattle.parking_lot_waits_world.proofs.Allowing.{all_of}

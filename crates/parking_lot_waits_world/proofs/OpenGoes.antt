@@ -15,7 +15,7 @@ use Rattle.parking_lot_world.specs.SoundLaws.{Always, AwakeCanMove, SomebodyCanM
 use Rattle.parking_lot_world_calls.specs.Stances.{core_act}
 use Rattle.parking_lot_waits_world.specs.declared.turn.Turn.{Turn}
 use Rattle.parking_lot_waits_world.specs.declared.turn.Turn.TheVariants as turn
-use Rattle.parking_lot_waits_world.specs.Joint.{Joint, back_number, busy_number, call_at, core_enters, enters_at_lock, front_number, is_entry, is_open_at_locks, is_open_at_variables, row_goes, seat_at, var_acts, var_at, var_goes}
+use Rattle.parking_lot_waits_world.specs.Joint.{Joint, back_number, busy_number, call_at, core_enters, enters_at_lock, front_number, is_entry, is_open_at_locks, is_open_at_variables, row_goes, seat_at, var_at, var_goes}
 use Rattle.parking_lot_waits_world.specs.JointMoves.{may_go, may_go_as, may_go_at, may_turn}
 use Rattle.parking_lot_waits_world.specs.JointProgress.{SomebodyInsideGoes}
 use Rattle.parking_lot_waits_world.specs.JointSides.{enters, enters_as, enters_at, is_open, turn_enters}
