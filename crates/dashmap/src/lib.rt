@@ -20,26 +20,28 @@ pub mod rayon;
 pub mod setref;
 pub mod try_result;
 
-pub use dashmap_clone::{CloneMap, CloneView};
 pub use dashmap_guard::{SharedValue, map_in_place_2, ptr_size_bits};
 pub use dashmap_iter::LendingWalks;
+pub use dashmap_iter::shard_guards::{Looks, ShardReadGuard, ShardWriteGuard};
+pub use dashmap_iter::walks::Walks;
 pub use dashmap_map::mapref::entry::{Entry, OccupiedEntry, VacantEntry};
 pub use dashmap_map::{Map, NewFault, TryReserveError};
 pub use dashmap_parallel::{NoThreadData, ParExtendFault, ParallelMap, par_extend_shared};
+pub use dashmap_plain::clones::{CloneMap, CloneView};
 pub use dashmap_plain::{
     ExtendShards, Plain, Unlocked, from_par_iter, par_extend, par_extend_shards,
 };
-pub use dashmap_rayon::ParallelView;
 pub use dashmap_record::{
     Call, CallReply, Caller, Entered, GatherFault, RecordFault, Recorded, gather, next_stamp,
 };
-pub use dashmap_shards::{Looks, ShardReadGuard, ShardWriteGuard};
 pub use dashmap_table::{
     MapFault, NoMemory, Shard, ShardPairs, Shards, capacity_share, default_shards, is_shard_amount,
     route,
 };
+pub use dashmap_view::parallel::ParallelView;
 pub use dashmap_view::{Displaced, PlainView, ViewIter, ViewKeys, ViewValues};
-pub use dashmap_walks::Walks;
-pub use names::{DashMap, DashSet, ReadOnlyView, ShardsView};
-pub use parking_lot::{LockTable, RawRwLock, RwLock, RwLockReadGuard, RwLockWriteGuard};
+pub use names::{
+    DashMap, DashSet, ReadOnlyView, RwLock, RwLockReadGuard, RwLockWriteGuard, ShardsView,
+};
 pub use parking_lot_core::{ParkingLot, ThreadData};
+pub use parking_lot_rwlock::{LockTable, RawRwLock};

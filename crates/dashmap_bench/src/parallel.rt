@@ -6,7 +6,7 @@ use crate::work::{Map, Shared, map_over, put_all};
 use dashmap_parallel::ParallelMap;
 use lock_api_raw::RawRwLock;
 use parking_lot_core::{ParkingLot, ThreadData};
-use parking_lot_locks::LockTable;
+use parking_lot_rwlock::LockTable;
 use std::alloc::Global;
 use std::sync::Wait;
 use std::thread::Threads;

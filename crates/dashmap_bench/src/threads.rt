@@ -2,10 +2,10 @@
 
 use crate::fault::Fault;
 use crate::work::{Map, Shared, map_over};
-use dashmap_table_work::spread;
+use dashmap_workload::spread;
 use lock_api_raw::RawRwLock;
 use parking_lot_core::{ParkingLot, ThreadData};
-use parking_lot_locks::LockTable;
+use parking_lot_rwlock::LockTable;
 use std::alloc::Global;
 use std::sync::Wait;
 use std::thread;

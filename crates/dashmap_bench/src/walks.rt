@@ -3,7 +3,7 @@
 use crate::fault::Fault;
 use crate::work::Map;
 use dashmap_iter::LendingWalks;
-use dashmap_walks::Walks;
+use dashmap_iter::walks::Walks;
 use lock_api_raw::RawRwLock;
 use std::sync::Wait;
 

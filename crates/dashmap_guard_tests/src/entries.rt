@@ -2,8 +2,8 @@
 
 use dashmap_guard::mapref::entry::Entry;
 use dashmap_table::Shard;
-use lock_api_packed::PackedLock;
 use lock_api_rw::RwLock;
+use lock_api_spin::PackedLock;
 use std::test::Fail;
 
 #[test]

@@ -2,8 +2,8 @@
 
 use dashmap_guard::mapref::one::{Ref, RefMut};
 use dashmap_table::Shard;
-use lock_api_packed::{First, PackedLock};
 use lock_api_rw::RwLock;
+use lock_api_spin::{First, PackedLock};
 use std::test::Fail;
 
 #[test]

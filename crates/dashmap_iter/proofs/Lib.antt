@@ -1,2 +1,3 @@
 mod Leaving
 mod Writing
+pub mod WalksFacts

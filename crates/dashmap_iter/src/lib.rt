@@ -9,8 +9,10 @@ mod iter_mut;
 mod map;
 pub mod multiple;
 pub mod multiple_mut;
+pub mod shard_guards;
 mod shards;
 mod shared;
+pub mod walks;
 
 pub use iter::Iter;
 pub use iter_mut::{IterMut, WritingWalk};

@@ -2,7 +2,7 @@
 
 use crate::maps::{Map, map_of};
 use dashmap_iter::LendingWalks;
-use dashmap_shards::Looks;
+use dashmap_iter::shard_guards::Looks;
 use std::test::Fail;
 
 #[test]

@@ -1,9 +1,8 @@
 //! The maps of the tests.
 
 use dashmap_map::DashMap;
-use dashmap_table::MapFault;
-use lock_api_packed::PackedLock;
-use mapworld_calls::SpreadState;
+use dashmap_table::{MapFault, SpreadState};
+use lock_api_spin::PackedLock;
 use std::hash::Hash;
 
 /// A map whose locks are words that are tried again and again.

@@ -2,9 +2,8 @@
 
 use crate::maps::{Map, map_of};
 use dashmap_map::DashMap;
-use dashmap_table::Shards;
-use lock_api_packed::PackedLock;
-use mapworld_calls::SpreadState;
+use dashmap_table::{Shards, SpreadState};
+use lock_api_spin::PackedLock;
 use std::alloc::Global;
 use std::sync::Wait;
 use std::test::Fail;

@@ -2,9 +2,9 @@
 
 use crate::maps::map_of;
 use dashmap_map::{DashMap, Map};
-use lock_api_packed::PackedLock;
+use dashmap_table::SpreadState;
 use lock_api_raw::RawRwLock;
-use mapworld_calls::SpreadState;
+use lock_api_spin::PackedLock;
 use std::sync::Wait;
 use std::test::Fail;
 

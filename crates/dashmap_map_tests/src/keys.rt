@@ -4,7 +4,7 @@ use crate::maps::{Map, map_of};
 use dashmap_map::DashMap;
 use dashmap_map::mapref::entry::Entry;
 use dashmap_table::MapFault;
-use lock_api_packed::PackedLock;
+use lock_api_spin::PackedLock;
 use std::hash::{BuildHasher, Hasher};
 use std::test::Fail;
 

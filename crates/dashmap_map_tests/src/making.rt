@@ -2,9 +2,8 @@
 
 use crate::maps::{Map, map_of};
 use dashmap_map::{DashMap, NewFault};
-use dashmap_table::MapFault;
-use lock_api_packed::PackedLock;
-use mapworld_calls::SpreadState;
+use dashmap_table::{MapFault, SpreadState};
+use lock_api_spin::PackedLock;
 use std::hash::{BuildHasher, RandomState};
 use std::io;
 use std::random::RandomSource;

@@ -3,10 +3,9 @@
 use crate::maps::Map;
 use dashmap_map::DashMap;
 use dashmap_map::mapref::entry::Entry;
-use dashmap_table::MapFault;
+use dashmap_table::{MapFault, SpreadState};
 use linked_list_allocator::LocalHeap;
-use lock_api_packed::PackedLock;
-use mapworld_calls::SpreadState;
+use lock_api_spin::PackedLock;
 use std::sync::Wait;
 use std::test::Fail;
 

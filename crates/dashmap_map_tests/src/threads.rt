@@ -1,11 +1,10 @@
 //! Threads that share a map, over the locks of running threads.
 
 use dashmap_map::DashMap;
-use dashmap_table::MapFault;
+use dashmap_table::{MapFault, SpreadState};
 use linked_list_allocator::LocalHeap;
-use mapworld_calls::SpreadState;
 use parking_lot_core::{ParkingLot, ThreadData};
-use parking_lot_locks::{LockTable, RawRwLock};
+use parking_lot_rwlock::{LockTable, RawRwLock};
 use std::alloc::Global;
 use std::rt::Clock;
 use std::sync::Wait;

@@ -2,10 +2,9 @@
 
 use crate::maps::{Map, map_of};
 use dashmap_map::DashMap;
-use dashmap_table::MapFault;
+use dashmap_table::{MapFault, SpreadState};
 use linked_list_allocator::LocalHeap;
-use lock_api_packed::PackedLock;
-use mapworld_calls::SpreadState;
+use lock_api_spin::PackedLock;
 use std::test::Fail;
 
 #[test]

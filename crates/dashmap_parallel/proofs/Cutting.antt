@@ -5,7 +5,7 @@ use Rattle.std.proofs.Math.Nat.{min-le_left, min-le_right, le-min, div-add-mod}
 use Rattle.std.proofs.lemmas.Nat.{div_below}
 use Rattle.std.proofs.lemmas.Bool.{cases_lt}
 use Rattle.std.proofs.lemmas.List.Elements.{All-nil, All-append}
-use Rattle.dashmap_rayon.specs.Pieces.{first_shard}
+use Rattle.dashmap_view.specs.Parallel.Pieces.{first_shard}
 use Rattle.dashmap_parallel.specs.Visits.{piece}
 
 -- a piece begins no later than the next one

@@ -16,7 +16,7 @@ use Rattle.dashmap_table.specs.Slots.{count, slot_of}
 use Rattle.dashmap_table.specs.Table.{Table, PutsIn}
 use Rattle.dashmap_table.specs.Shards.{key_hash}
 use Rattle.dashmap_map.specs.Locked.{Locked, lock_of}
-use Rattle.dashmap_walks.specs.Held.{WhileHeld}
+use Rattle.dashmap_iter.specs.Walks.Held.{WhileHeld}
 
 -- the piece that a shard belongs to: the first pieces have one shard more as long as there is a rest
 abbrev pub piece_number : ℕ → ℕ → ℕ → ℕ

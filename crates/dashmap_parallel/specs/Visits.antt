@@ -11,7 +11,7 @@ use Rattle.crossbeam_utils.specs.Padded.{padded_value}
 use Rattle.lock_api_guards.specs.declared.guard.Guard.{Guard}
 use Rattle.lock_api_rw.specs.Holds.{Issued}
 use Rattle.dashmap_table.specs.Table.{Table}
-use Rattle.dashmap_rayon.specs.Pieces.{first_shard}
+use Rattle.dashmap_view.specs.Parallel.Pieces.{first_shard}
 
 -- f was called at a `&` to x and somebody's own
 pub record VisitsBy {F X D : Type 0} (g : Shared F (Bor X × (MutBor D × Unit {0})) (Unit {0} × (MutBor D × Unit {0}))) (f : F) (x : X) : Type 0 where

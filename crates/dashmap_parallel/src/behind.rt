@@ -2,12 +2,12 @@
 ghost use Rattle.std.specs.Prelude.{◌≡◌, All, IfOk};
 ghost use Rattle.std.specs.List.{AllZip};
 ghost use Rattle.dashmap_table.specs.Slots.{pairs_of};
-ghost use Rattle.dashmap_rayon.specs.Calls.{AnswersOf, WritesEach};
-ghost use Rattle.dashmap_walks.specs.Held.{WhileHeld};
+ghost use Rattle.dashmap_view.specs.Parallel.Calls.{AnswersOf, WritesEach};
+ghost use Rattle.dashmap_iter.specs.Walks.Held.{WhileHeld};
 ghost use Rattle.dashmap_parallel.specs.Visits.{WhileShared};
 
-use dashmap_rayon::visit::{answers_of, visit_each, write_each};
 use dashmap_table::{NoMemory, Shard};
+use dashmap_view::parallel::visit::{answers_of, visit_each, write_each};
 use lock_api_raw::RawRwLock;
 use lock_api_rw::RwLock;
 use std::alloc::Allocator;

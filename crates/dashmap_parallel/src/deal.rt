@@ -1,7 +1,7 @@
 //! Pairs that are dealt out to the pieces of a map's shards.
 ghost use Rattle.std.specs.Prelude.{◌≡◌, map as list_map, ◌+◌, ◌^◌, ◌<◌, ◌≤◌, [], ◌∷◌, ◌++◌, List, length, slice_index_or, slice_set, All, IfOk, OnOk};
 ghost use Rattle.std.specs.declared.vec.Vec.{Vec};
-ghost use Rattle.dashmap_rayon.specs.Pieces.{first_shard};
+ghost use Rattle.dashmap_view.specs.Parallel.Pieces.{first_shard};
 ghost use Rattle.dashmap_parallel.specs.Puts.{piece_number, piece_at, hashed, AreDealt};
 
 use dashmap_map::DashMap;

@@ -5,13 +5,13 @@ ghost use Rattle.std.specs.List.{AllZip};
 ghost use Rattle.std.specs.Thread.{IsSync, IsSend};
 ghost use denote.Param.Send.{Frees};
 ghost use Rattle.dashmap_table.specs.Slots.{pairs_of};
-ghost use Rattle.dashmap_rayon.specs.Calls.{AnswersOf};
+ghost use Rattle.dashmap_view.specs.Parallel.Calls.{AnswersOf};
 ghost use Rattle.dashmap_parallel.specs.Visits.{MadeInPieces, GatheredFrom};
 
 use crate::behind::answers_behind;
 use crossbeam_utils::CachePadded;
-use dashmap_rayon::first_of;
 use dashmap_table::{NoMemory, Shard};
+use dashmap_view::parallel::first_of;
 use lock_api_raw::RawRwLock;
 use lock_api_rw::RwLock;
 use std::alloc::Allocator;

@@ -3,15 +3,15 @@ ghost use Rattle.std.specs.Prelude.{◌≡◌, ◌<◌, length, All, IfOk};
 ghost use Rattle.std.specs.List.{AllZip};
 ghost use Rattle.crossbeam_utils.specs.Padded.{padded_value};
 ghost use Rattle.dashmap_table.specs.Slots.{pairs_of};
-ghost use Rattle.dashmap_rayon.specs.Calls.{AnswersOf};
+ghost use Rattle.dashmap_view.specs.Parallel.Calls.{AnswersOf};
 ghost use Rattle.dashmap_parallel.specs.Visits.{WhileShared, GatheredFrom};
 
 use crate::behind::visit_behind;
 use crate::gather::{answers_in_piece, made_in_pieces};
 use crate::pieces::in_pieces;
 use crossbeam_utils::CachePadded;
-use dashmap_rayon::join::joined;
 use dashmap_table::{NoMemory, Shard};
+use dashmap_view::parallel::join::joined;
 use lock_api_raw::RawRwLock;
 use lock_api_rw::RwLock;
 use std::alloc::{Allocator, Global};

@@ -2,7 +2,7 @@
 ghost use Rattle.std.specs.Prelude.{◌≡◌, ◌<◌, All, length};
 ghost use Rattle.dashmap_parallel.specs.Visits.{VisitsBy, piece};
 
-use dashmap_rayon::first_of;
+use dashmap_view::parallel::first_of;
 use std::thread;
 use std::thread::Threads;
 

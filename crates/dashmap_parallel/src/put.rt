@@ -4,7 +4,7 @@ ghost use Rattle.std.specs.Option.{option_map};
 ghost use Rattle.crossbeam_utils.specs.Padded.{padded_value};
 ghost use Rattle.dashmap_table.specs.Route.{IsShardAmount};
 ghost use Rattle.dashmap_table.specs.Table.{PutsIn};
-ghost use Rattle.dashmap_walks.specs.Held.{WhileHeld};
+ghost use Rattle.dashmap_iter.specs.Walks.Held.{WhileHeld};
 ghost use Rattle.dashmap_parallel.specs.Puts.{FindsNoRoom, PutAt, RefusedAt, PutUpTo};
 
 use crossbeam_utils::CachePadded;

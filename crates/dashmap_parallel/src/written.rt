@@ -1,8 +1,8 @@
 //! The values of a shared map, lent for writing.
 ghost use Rattle.std.specs.Prelude.{◌≡◌, ◌<◌, length, All};
 ghost use Rattle.crossbeam_utils.specs.Padded.{padded_value};
-ghost use Rattle.dashmap_rayon.specs.Calls.{WritesEach};
-ghost use Rattle.dashmap_walks.specs.Held.{WhileHeld};
+ghost use Rattle.dashmap_view.specs.Parallel.Calls.{WritesEach};
+ghost use Rattle.dashmap_iter.specs.Walks.Held.{WhileHeld};
 
 use crate::behind::write_behind;
 use crate::pieces::in_pieces;

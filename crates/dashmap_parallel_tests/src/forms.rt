@@ -2,10 +2,9 @@
 
 use dashmap_map::DashMap;
 use dashmap_parallel::ParallelMap;
-use dashmap_table::MapFault;
-use mapworld_calls::SpreadState;
+use dashmap_table::{MapFault, SpreadState};
 use parking_lot_core::{ParkingLot, ThreadData};
-use parking_lot_locks::{LockTable, RawRwLock};
+use parking_lot_rwlock::{LockTable, RawRwLock};
 use std::alloc::Global;
 use std::sync::Wait;
 use std::sync::atomic::{AtomicU64, Ordering};

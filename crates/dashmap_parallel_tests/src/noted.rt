@@ -1,8 +1,8 @@
 //! Raw locks that note in the party of whoever takes one which lock was taken.
 ghost use Rattle.std.specs.Prelude.{◌-◌, ◌^◌};
 
-use lock_api_packed::PackedLock;
 use lock_api_raw::{GuardSend, MakeLock, RawRwLock, TableFull};
+use lock_api_spin::PackedLock;
 use std::sync::Wait;
 use std::sync::atomic::{AtomicU64, Ordering};
 

@@ -1,2 +1,3 @@
 mod Regained
 pub mod Taken
+pub mod ClonesFacts

@@ -1,3 +1,4 @@
 pub mod Opened
 pub mod Extended
 pub mod Written
+pub mod Clones

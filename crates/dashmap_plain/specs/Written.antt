@@ -4,7 +4,7 @@ use Rattle.std.specs.List.{AllZip}
 use Rattle.std.specs.Borrow.{Bor, MutBor}
 use denote.Param.Members.{Shared}
 use Rattle.dashmap_table.specs.Table.{Table}
-use Rattle.dashmap_rayon.specs.Calls.{WritesEach}
+use Rattle.dashmap_view.specs.Parallel.Calls.{WritesEach}
 
 module _ {F K V : Type 0} (g : Shared F (Bor K × (MutBor V × Unit {0})) (Unit {0} × (MutBor V × Unit {0}))) (f : F) where
   -- there were so many plain shards, and each value of theirs became what a call of f left of it

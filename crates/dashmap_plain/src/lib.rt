@@ -5,6 +5,7 @@
 //! plain shards from its making.
 #![tactic(auto)]
 
+pub mod clones;
 mod exchange;
 mod extend;
 mod iter_mut;

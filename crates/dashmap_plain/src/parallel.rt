@@ -1,11 +1,11 @@
 //! Parallel forms for the one owner of a map or of a view: the pairs of one shard are one piece of work, and shards go side by side.
 ghost use Rattle.std.specs.Prelude.{◌≡◌};
 ghost use Rattle.std.specs.List.{AllZip};
-ghost use Rattle.dashmap_rayon.specs.Calls.{WritesEach};
+ghost use Rattle.dashmap_view.specs.Parallel.Calls.{WritesEach};
 
 use crate::read_only::ReadOnlyView;
 use crate::unlocked::Unlocked;
-use dashmap_rayon::{Iter, OwningIter, par_write};
+use dashmap_view::parallel::{Iter, OwningIter, par_write};
 use std::alloc::Allocator;
 use std::hash::{BuildHasher, Hash};
 use std::thread::Threads;

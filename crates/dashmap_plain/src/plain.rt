@@ -45,7 +45,7 @@ pub trait Plain<K: Eq + Hash, V, S: BuildHasher, Q, A: Allocator>: Sized {
         ensures value { result.map.now ≡ seen self.old };
 
     /// All pairs by value: the pairs of one shard are one piece of work, and shards go side by side. The locks go; their rows stay used.
-    fn into_par_iter(self) -> dashmap_rayon::OwningIter<K, V, A>
+    fn into_par_iter(self) -> dashmap_view::parallel::OwningIter<K, V, A>
         ensures { length result ≡ length (seen self).locks };
 }
 
@@ -66,7 +66,7 @@ impl<K: Eq + Hash + Drop, V: Drop, S: BuildHasher + Drop, Q: Drop, A: Allocator>
         Unlocked::of(self).into_pairs()
     }
 
-    fn into_par_iter(self) -> dashmap_rayon::OwningIter<K, V, A> {
+    fn into_par_iter(self) -> dashmap_view::parallel::OwningIter<K, V, A> {
         Unlocked::of(self).into_par_iter()
     }
 

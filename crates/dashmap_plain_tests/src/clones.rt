@@ -1,13 +1,12 @@
 //! Clones of maps and of views.
 
 use crate::maps::{has_all, map_of};
-use dashmap_clone::{CloneMap, CloneView};
 use dashmap_map::DashMap;
 use dashmap_plain::Plain;
-use dashmap_table::MapFault;
+use dashmap_plain::clones::{CloneMap, CloneView};
+use dashmap_table::{MapFault, SpreadState};
 use linked_list_allocator::LocalHeap;
-use lock_api_packed::PackedLock;
-use mapworld_calls::SpreadState;
+use lock_api_spin::PackedLock;
 use std::test::Fail;
 
 /// A map in a heap.

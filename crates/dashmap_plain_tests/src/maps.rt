@@ -1,8 +1,8 @@
 //! The maps of the tests.
 
 use dashmap_map::DashMap;
-use lock_api_packed::PackedLock;
-use mapworld_calls::SpreadState;
+use dashmap_table::SpreadState;
+use lock_api_spin::PackedLock;
 use std::sync::Wait;
 use std::test::Fail;
 

@@ -3,9 +3,8 @@
 use crate::maps::{has_all, map_of};
 use dashmap_map::DashMap;
 use dashmap_plain::{ExtendShards, Plain, Unlocked, from_par_iter, par_extend, par_extend_shards};
-use dashmap_table::Shards;
-use lock_api_packed::PackedLock;
-use mapworld_calls::SpreadState;
+use dashmap_table::{Shards, SpreadState};
+use lock_api_spin::PackedLock;
 use std::sync::atomic::{AtomicU64, Ordering};
 use std::test::Fail;
 

@@ -2,8 +2,7 @@
 
 use crate::maps::map_of;
 use dashmap_plain::Plain;
-use dashmap_table::{is_shard_amount, route};
-use mapworld_calls::SpreadState;
+use dashmap_table::{SpreadState, is_shard_amount, route};
 use std::hash::BuildHasher;
 use std::test::Fail;
 

@@ -1,7 +1,7 @@
 //! Shards that are held as a whole.
 
 use crate::maps::{Map, map_of};
-use dashmap_shards::Looks;
+use dashmap_iter::shard_guards::Looks;
 use std::sync::Wait;
 use std::test::Fail;
 

@@ -2,7 +2,7 @@
 
 use crate::maps::{Map, has_all, map_of};
 use dashmap_plain::Plain;
-use mapworld_calls::SpreadState;
+use dashmap_table::SpreadState;
 use std::hash::BuildHasher;
 use std::sync::Wait;
 use std::test::Fail;

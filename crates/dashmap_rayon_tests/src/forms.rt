@@ -1,9 +1,9 @@
 //! Each form beside the plain one.
 
 use super::made::{shards_of, values_of};
-use dashmap_rayon::{Iter, OwningIter, ParallelView, first_of, par_write};
 use dashmap_table::{is_shard_amount, route};
 use dashmap_view::PlainView;
+use dashmap_view::parallel::{Iter, OwningIter, ParallelView, first_of, par_write};
 use std::alloc::Global;
 use std::hash::{BuildHasher, BuildHasherDefault, FoldHasher};
 use std::sync::atomic::{AtomicU64, Ordering};

@@ -7,11 +7,11 @@ use Rattle.dashmap_table.specs.Slots.{pair_of, entry_of}
 use Rattle.dashmap_table.specs.Table.{Table}
 use Rattle.dashmap_table.proofs.Cases.{option_cases}
 use Rattle.dashmap_table.proofs.Finding.{entry_of-is}
-use Rattle.dashmap_record_history.specs.declared.entry.Call.{Call}
-use Rattle.dashmap_record_history.specs.declared.entry.Call.TheVariants.{Insert, GetCopied}
-use Rattle.dashmap_record_history.specs.declared.entry.CallReply.{CallReply}
-use Rattle.dashmap_record_history.specs.Entries.{key_of}
-use Rattle.dashmap_record_history.specs.Replay.{told, value_told}
+use Rattle.dashmap_record.specs.declared.history.entry.Call.{Call}
+use Rattle.dashmap_record.specs.declared.history.entry.Call.TheVariants.{Insert, GetCopied}
+use Rattle.dashmap_record.specs.declared.history.entry.CallReply.{CallReply}
+use Rattle.dashmap_record.specs.History.Entries.{key_of}
+use Rattle.dashmap_record.specs.History.Replay.{told, value_told}
 use Rattle.dashmap_record.specs.Recorded.{Calling, IsNew, AreNew, IsReply, value_reply}
 use Rattle.dashmap_record.specs.Replaying.{found}
 

@@ -14,8 +14,8 @@ use Rattle.dashmap_table.proofs.Places.{at-set_same}
 use Rattle.dashmap_table.proofs.Finding.{slot_of-is, entry_of-none, entry_of-same}
 use Rattle.dashmap_table.proofs.Changing.{at-changed, at-changed_other}
 use Rattle.dashmap_table.proofs.Effects.{finds-absent, finds-freed, finds-valued, finds-added}
-use Rattle.dashmap_record_history.specs.declared.entry.Call.TheVariants.{ReplaceIf}
-use Rattle.dashmap_record_history.specs.Replay.{PlainMap, has_value, with_value_at, after}
+use Rattle.dashmap_record.specs.declared.history.entry.Call.TheVariants.{ReplaceIf}
+use Rattle.dashmap_record.specs.History.Replay.{PlainMap, has_value, with_value_at, after}
 use Rattle.dashmap_record.specs.Replaying.{found, after_under}
 
 -- a choice between options, mapped

@@ -3,12 +3,12 @@ use Rattle.std.proofs.Common.{◌≡◌, ℕ, nat_eq, Bool, true, false, cond, L
 use Rattle.std.specs.Cmp.{IsEquivalence}
 use Rattle.std.specs.List.{list_all}
 use Rattle.std.proofs.lemmas.Bool.{cases_Bool, and_parts, and_from, eqb-true, false_from_ne_true, false≢true}
-use Rattle.dashmap_record_history.specs.declared.entry.CallReply.{CallReply}
-use Rattle.dashmap_record_history.specs.declared.entry.CallReply.TheVariants as reply
-use Rattle.dashmap_record_history.specs.declared.entry.Entered.{Entered}
-use Rattle.dashmap_record_history.specs.Entries.{key_of, same_reply}
-use Rattle.dashmap_record_history.specs.Replay.{PlainMap, nothing, told, after, replies_hold}
-use Rattle.dashmap_record_history.proofs.Framing.{after-agrees, after-others}
+use Rattle.dashmap_record.specs.declared.history.entry.CallReply.{CallReply}
+use Rattle.dashmap_record.specs.declared.history.entry.CallReply.TheVariants as reply
+use Rattle.dashmap_record.specs.declared.history.entry.Entered.{Entered}
+use Rattle.dashmap_record.specs.History.Entries.{key_of, same_reply}
+use Rattle.dashmap_record.specs.History.Replay.{PlainMap, nothing, told, after, replies_hold}
+use Rattle.dashmap_record.proofs.HistoryFacts.Framing.{after-agrees, after-others}
 use Rattle.dashmap_record.specs.Replaying.{PlainShard, no_pair, after_under, Replies, HoldsForJudges}
 
 module _ {K V : Type 0} (eq : K → K → Bool) (alike : V → V → Bool) (keys : IsEquivalence eq) (values : IsEquivalence alike) where

@@ -3,3 +3,4 @@ mod Replaying
 mod Ordering
 mod Answering
 mod Judging
+pub mod HistoryFacts

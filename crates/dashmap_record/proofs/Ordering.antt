@@ -3,8 +3,8 @@ use Rattle.std.proofs.Common.{◌≡◌, ℕ, ◌<◌, true, List, [], ◌∷◌
 use Rattle.std.specs.Prelude.{nat_le}
 use Rattle.std.specs.List.{list_all}
 use Rattle.std.proofs.lemmas.Bool.{and_parts, and_from, leb-true, le-leb, lt-ltb}
-use Rattle.dashmap_record_history.specs.declared.entry.Entered.{Entered}
-use Rattle.dashmap_record_history.specs.Match.{is_above, rises_above, rises}
+use Rattle.dashmap_record.specs.declared.history.entry.Entered.{Entered}
+use Rattle.dashmap_record.specs.History.Match.{is_above, rises_above, rises}
 use Rattle.dashmap_record.specs.Notes.{Noted, AreInOrder, with_entry}
 
 module _ {K V : Type 0} where

@@ -1,9 +1,9 @@
 -- A history with one entry more, replayed.
 use Rattle.std.proofs.Common.{◌≡◌, ℕ, Bool, List, [], ◌∷◌, ◌++◌, refl, sym, ap, ◌∙◌, subst}
 use Rattle.std.proofs.Math.Path.{fun_ext}
-use Rattle.dashmap_record_history.specs.declared.entry.Entered.{Entered}
-use Rattle.dashmap_record_history.specs.Entries.{key_of}
-use Rattle.dashmap_record_history.specs.Replay.{told}
+use Rattle.dashmap_record.specs.declared.history.entry.Entered.{Entered}
+use Rattle.dashmap_record.specs.History.Entries.{key_of}
+use Rattle.dashmap_record.specs.History.Replay.{told}
 use Rattle.dashmap_record.specs.Notes.{Noted, SameNotes, with_entry}
 use Rattle.dashmap_record.specs.Replaying.{PlainShard, no_pair, Kept, found, after_under, replayed, Replies, IsReplayed}
 

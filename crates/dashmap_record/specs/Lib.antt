@@ -3,3 +3,4 @@ pub mod Notes
 pub mod Replaying
 pub mod Recorded
 pub mod Looking
+pub mod History

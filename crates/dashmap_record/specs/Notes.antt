@@ -1,10 +1,10 @@
 -- Notes: entries whose stamps rise, and the last stamp that was given.
 use Rattle.std.specs.Prelude.{◌≡◌, ℕ, ◌≤◌, nat_le, IsTrue, List, [], ◌∷◌, ◌++◌, length}
 use Rattle.std.specs.List.{list_all}
-use Rattle.dashmap_record_history.specs.declared.entry.Call.{Call}
-use Rattle.dashmap_record_history.specs.declared.entry.CallReply.{CallReply}
-use Rattle.dashmap_record_history.specs.declared.entry.Entered.{Entered}
-use Rattle.dashmap_record_history.specs.Match.{rises}
+use Rattle.dashmap_record.specs.declared.history.entry.Call.{Call}
+use Rattle.dashmap_record.specs.declared.history.entry.CallReply.{CallReply}
+use Rattle.dashmap_record.specs.declared.history.entry.Entered.{Entered}
+use Rattle.dashmap_record.specs.History.Match.{rises}
 
 pub record Noted (K V : Type 0) : Type 0 where
   -- the entries, oldest first

@@ -6,12 +6,12 @@ use Rattle.std.specs.declared.hash.BuildHasher as builder
 use Rattle.std.specs.declared.hash.Hasher as hasher
 use Rattle.dashmap_table.specs.Route.{route_of}
 use Rattle.dashmap_table.specs.Shards.{key_hash}
-use Rattle.dashmap_record_history.specs.declared.entry.Call.{Call}
-use Rattle.dashmap_record_history.specs.declared.entry.CallReply.{CallReply}
-use Rattle.dashmap_record_history.specs.declared.entry.CallReply.TheVariants as reply
-use Rattle.dashmap_record_history.specs.declared.entry.Entered.{Entered}
-use Rattle.dashmap_record_history.specs.Entries.{key_of}
-use Rattle.dashmap_record_history.specs.Replay.{told}
+use Rattle.dashmap_record.specs.declared.history.entry.Call.{Call}
+use Rattle.dashmap_record.specs.declared.history.entry.CallReply.{CallReply}
+use Rattle.dashmap_record.specs.declared.history.entry.CallReply.TheVariants as reply
+use Rattle.dashmap_record.specs.declared.history.entry.Entered.{Entered}
+use Rattle.dashmap_record.specs.History.Entries.{key_of}
+use Rattle.dashmap_record.specs.History.Replay.{told}
 use Rattle.dashmap_record.specs.Notes.{Noted, SameNotes, written}
 
 -- a caller: its number and its log

@@ -4,10 +4,10 @@ use Rattle.std.specs.List.{list_all}
 use Rattle.std.specs.Option.{option_map}
 use Rattle.dashmap_table.specs.Slots.{pair_of, entry_of}
 use Rattle.dashmap_table.specs.Table.{Table}
-use Rattle.dashmap_record_history.specs.declared.entry.Call.{Call}
-use Rattle.dashmap_record_history.specs.declared.entry.Entered.{Entered}
-use Rattle.dashmap_record_history.specs.Entries.{key_of}
-use Rattle.dashmap_record_history.specs.Replay.{PlainMap, nothing, told, after, replies_hold}
+use Rattle.dashmap_record.specs.declared.history.entry.Call.{Call}
+use Rattle.dashmap_record.specs.declared.history.entry.Entered.{Entered}
+use Rattle.dashmap_record.specs.History.Entries.{key_of}
+use Rattle.dashmap_record.specs.History.Replay.{PlainMap, nothing, told, after, replies_hold}
 use Rattle.dashmap_record.specs.Notes.{Noted}
 
 -- what each key has under each hash

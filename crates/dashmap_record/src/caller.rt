@@ -1,10 +1,10 @@
 //! Who calls.
 ghost use Rattle.std.specs.Prelude.{◌≡◌, [], IsTrue};
-ghost use Rattle.dashmap_record_history.specs.Match.{rises};
+ghost use Rattle.dashmap_record.specs.History.Match.{rises};
 ghost use Rattle.dashmap_record.specs.Recorded.{IsOwn};
 
+use crate::history::Entered;
 use crate::notes::Notes;
-use dashmap_record_history::Entered;
 use std::alloc::{Allocator, Global};
 use std::marker::Model;
 

@@ -2,13 +2,13 @@
 ghost use Rattle.std.specs.Prelude.{◌≡◌, ℕ, ◌≤◌, None, IfOk, OnOk, OnErr};
 ghost use Rattle.std.specs.Option.{option_map};
 ghost use Rattle.dashmap_table.specs.Slots.{count};
-ghost use Rattle.dashmap_record_history.specs.declared.entry.Call.TheVariants.{Insert, Remove, ReplaceIf};
-ghost use Rattle.dashmap_record_history.specs.Entries.{key_of};
-ghost use Rattle.dashmap_record_history.specs.Replay.{has_value, told};
+ghost use Rattle.dashmap_record.specs.declared.history.entry.Call.TheVariants.{Insert, Remove, ReplaceIf};
+ghost use Rattle.dashmap_record.specs.History.Entries.{key_of};
+ghost use Rattle.dashmap_record.specs.History.Replay.{has_value, told};
 ghost use Rattle.dashmap_record.specs.Replaying.{found, after_under};
 
+use crate::history::{Call, CallReply};
 use crate::reply::{pair_reply, value_reply};
-use dashmap_record_history::{Call, CallReply};
 use dashmap_table::Shard;
 use lock_api_raw::NoMemory;
 use std::alloc::Allocator;

@@ -11,14 +11,15 @@
 mod caller;
 mod effect;
 mod fault;
+pub mod history;
 mod notes;
 mod recorded;
 mod reply;
 mod room;
 mod shard;
 
+pub use crate::history::{Call, CallReply, Entered, GatherFault, gather, next_stamp};
 pub use caller::Caller;
-pub use dashmap_record_history::{Call, CallReply, Entered, GatherFault, gather, next_stamp};
 pub use fault::RecordFault;
 pub use recorded::Recorded;
 pub use shard::RecordingShard;

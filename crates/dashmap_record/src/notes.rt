@@ -1,9 +1,9 @@
 //! Entries that are written down one after another.
 ghost use Rattle.std.specs.Prelude.{◌≡◌, ◌<◌, ◌≤◌, [], length, IsTrue, OnOk, OnErr};
-ghost use Rattle.dashmap_record_history.specs.Match.{rises};
+ghost use Rattle.dashmap_record.specs.History.Match.{rises};
 ghost use Rattle.dashmap_record.specs.Notes.{IsSpent, SameNotes, with_entry};
 
-use dashmap_record_history::Entered;
+use crate::history::Entered;
 use std::alloc::{AllocError, Allocator};
 use std::marker::Model;
 

@@ -1,9 +1,9 @@
 //! Replies, and what the calls that they belong to answer.
 ghost use Rattle.std.specs.Prelude.{◌≡◌, Option, Bool};
-ghost use Rattle.dashmap_record_history.specs.declared.entry.CallReply.{CallReply};
+ghost use Rattle.dashmap_record.specs.declared.history.entry.CallReply.{CallReply};
 ghost use Rattle.dashmap_record.specs.Recorded.{value_reply, pair_reply};
 
-use dashmap_record_history::CallReply;
+use crate::history::CallReply;
 
 /// A value that was there, or none, as it is written down.
 pub(crate) fn value_reply<K, V>(value: Option<V>) -> CallReply<K, V>

@@ -1,14 +1,14 @@
 //! What a recorded map is made of, before it is made.
 ghost use Rattle.std.specs.Prelude.{◌≡◌, ◌+◌, ◌≤◌, [], length, IsTrue, IfOk, vec_capacity};
 ghost use Rattle.std.specs.List.{All};
-ghost use Rattle.dashmap_record_history.specs.Match.{rises};
+ghost use Rattle.dashmap_record.specs.History.Match.{rises};
 ghost use Rattle.dashmap_record.specs.Recorded.{AreNew};
 ghost use Rattle.dashmap_record.specs.Replaying.{no_pair, Replies};
 
 use crate::caller::Caller;
+use crate::history::Entered;
 use crate::shard::RecordingShard;
 use crossbeam_utils::CachePadded;
-use dashmap_record_history::Entered;
 use lock_api_raw::{MAX_READERS, MakeLock, NoMemory, RawRwLock, TableFull};
 use lock_api_rw::RwLock;
 use std::alloc::Allocator;

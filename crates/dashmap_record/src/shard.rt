@@ -1,9 +1,9 @@
 //! One shard and its history.
 ghost use Rattle.std.specs.Prelude.{◌≡◌, ℕ, ◌+◌, ◌^◌, ◌≤◌, ◌↔◌, ◌⊎◌, [], max, Err, IsTrue, IfOk, OnOk, OnErr};
 ghost use Rattle.dashmap_table.specs.Slots.{count};
-ghost use Rattle.dashmap_record_history.specs.Entries.{key_of};
-ghost use Rattle.dashmap_record_history.specs.Match.{rises};
-ghost use Rattle.dashmap_record_history.specs.Replay.{told};
+ghost use Rattle.dashmap_record.specs.History.Entries.{key_of};
+ghost use Rattle.dashmap_record.specs.History.Match.{rises};
+ghost use Rattle.dashmap_record.specs.History.Replay.{told};
 ghost use Rattle.dashmap_record.specs.declared.fault.RecordFault.TheVariants.{StampsSpent, NoMemory};
 ghost use Rattle.dashmap_record.specs.Notes.{IsSpent, SameNotes, with_entry, written};
 ghost use Rattle.dashmap_record.specs.Replaying.{found, after_under, no_pair, Replies};
@@ -11,8 +11,8 @@ ghost use Rattle.dashmap_record.specs.Replaying.{found, after_under, no_pair, Re
 use crate::caller::Caller;
 use crate::effect::answer;
 use crate::fault::RecordFault;
+use crate::history::{Call, CallReply, Entered, next_stamp};
 use crate::notes::Notes;
-use dashmap_record_history::{Call, CallReply, Entered, next_stamp};
 use dashmap_table::Shard;
 use std::alloc::Allocator;
 use std::hash::Hash;

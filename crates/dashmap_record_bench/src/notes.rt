@@ -2,7 +2,7 @@
 
 use dashmap_record::{Caller, Entered, RecordFault, Recorded};
 use dashmap_table::MapFault;
-use lock_api_packed::PackedLock;
+use lock_api_spin::PackedLock;
 use std::alloc::{AllocError, AllocFailed, Allocator};
 use std::hash::{BuildHasherDefault, FoldHasher};
 use std::sync::Wait;

@@ -1,5 +1,5 @@
 //! Two callers at a map of two shards, and their notes doctored in each way.
-use dashmap_record_history::{Call, CallReply, Entered, GatherFault, gather};
+use dashmap_record::history::{Call, CallReply, Entered, GatherFault, gather};
 use dashmap_table::{is_shard_amount, route};
 use std::alloc::{AllocError, Allocator};
 use std::hash::{BuildHasher, BuildHasherDefault, FoldHasher};

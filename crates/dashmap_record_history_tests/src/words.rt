@@ -1,5 +1,5 @@
 //! Stamps, and what faults are called.
-use dashmap_record_history::{GatherFault, next_stamp};
+use dashmap_record::history::{GatherFault, next_stamp};
 use std::test::Fail;
 
 #[test]

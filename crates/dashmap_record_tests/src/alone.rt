@@ -2,7 +2,7 @@
 
 use dashmap_record::{Call, CallReply, Caller, RecordFault, Recorded, gather};
 use dashmap_table::MapFault;
-use lock_api_packed::PackedLock;
+use lock_api_spin::PackedLock;
 use std::alloc::Global;
 use std::hash::{BuildHasherDefault, FoldHasher};
 use std::test::Fail;

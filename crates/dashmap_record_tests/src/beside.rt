@@ -3,7 +3,7 @@
 use dashmap_record::{Caller, Recorded};
 use dashmap_table::{MapFault, is_shard_amount, route};
 use parking_lot_core::{ParkingLot, ThreadData};
-use parking_lot_locks::{LockTable, RawRwLock};
+use parking_lot_rwlock::{LockTable, RawRwLock};
 use std::alloc::Global;
 use std::hash::{BuildHasher, BuildHasherDefault, FoldHasher};
 use std::sync::Wait;

@@ -4,7 +4,7 @@ use dashmap_record::{CallReply, Caller, Entered, GatherFault, Recorded, gather};
 use dashmap_table::MapFault;
 use lock_api_raw::RawRwLock;
 use parking_lot_core::{ParkingLot, ThreadData};
-use parking_lot_locks::LockTable;
+use parking_lot_rwlock::LockTable;
 use std::alloc::{AllocError, Global};
 use std::hash::{BuildHasherDefault, FoldHasher};
 use std::sync::Wait;
@@ -19,7 +19,7 @@ type Shared<'t, 'l, R> = Recorded<
     u64,
     u64,
     Fold,
-    parking_lot_locks::RawRwLock<'t, 'l, R, 0, Global>,
+    parking_lot_rwlock::RawRwLock<'t, 'l, R, 0, Global>,
 >;
 
 type Entry = Entered<u64, u64>;

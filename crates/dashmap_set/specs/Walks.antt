@@ -3,7 +3,7 @@ use Rattle.std.specs.Prelude.{◌≡◌, ℕ, Bool}
 use Rattle.std.specs.Borrow.{Bor}
 use Rattle.std.specs.Fn.{Mut, Called}
 use Rattle.dashmap_table.specs.declared.entry.Entry.{Entry}
-use Rattle.dashmap_walks.specs.Visits.{Turn, StaysIf}
+use Rattle.dashmap_iter.specs.Walks.Visits.{Turn, StaysIf}
 
 -- f, called at k, may answer r and be g afterwards
 pub record AnswersKey {F K R : Type 0} (member : Mut F (Bor K × Unit {0}) R) (f : F) (k : K) (r : R) (g : F) : Type 0 where

@@ -3,7 +3,7 @@ ghost use Rattle.std.specs.Prelude.{◌≡◌, ◌⊎◌, length, IfOk, IfErr};
 ghost use Rattle.dashmap_table.specs.declared.fault.MapFault.{MapFault};
 
 use crate::set::DashSet;
-use dashmap_clone::CloneMap;
+use dashmap_plain::clones::CloneMap;
 use dashmap_table::MapFault;
 use lock_api_raw::{MakeLock, RawRwLock};
 use std::alloc::Allocator;

@@ -4,8 +4,8 @@ ghost use Rattle.dashmap_table.specs.Route.{IsShardAmount, route_of};
 ghost use Rattle.dashmap_table.specs.Shards.{key_hash};
 ghost use Rattle.dashmap_map.specs.Locked.{shard_of};
 
+use dashmap_iter::shard_guards::ShardsView;
 use dashmap_map::DashMap;
-use dashmap_shards::ShardsView;
 use std::alloc::{Allocator, Global};
 use std::hash::{BuildHasher, Hash};
 use std::marker::Model;

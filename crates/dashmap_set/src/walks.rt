@@ -1,15 +1,15 @@
 //! Walks over all shards of a set, each of which is held exclusively in its turn.
 ghost use Rattle.std.specs.Prelude.{◌≡◌, ℕ, false, None, IsSome, length};
 ghost use Rattle.dashmap_table.specs.Slots.{at};
-ghost use Rattle.dashmap_walks.specs.Held.{EachHeld, WhileHeld};
-ghost use Rattle.dashmap_walks.specs.Visits.{AtFull, Walked};
+ghost use Rattle.dashmap_iter.specs.Walks.Held.{EachHeld, WhileHeld};
+ghost use Rattle.dashmap_iter.specs.Walks.Visits.{AtFull, Walked};
 ghost use Rattle.dashmap_set.specs.Walks.{AnswersKey, KeepsKey};
 
 use crate::iter_set::Iter;
 use crate::set::DashSet;
 use dashmap_iter::LendingWalks;
+use dashmap_iter::walks::{Walks, lock_behind};
 use dashmap_table::Shard;
-use dashmap_walks::{Walks, lock_behind};
 use lock_api_raw::RawRwLock;
 use lock_api_rw::RwLock;
 use std::alloc::Allocator;

@@ -3,10 +3,9 @@
 use crate::sets::Set;
 use dashmap_map::NewFault;
 use dashmap_set::DashSet;
-use dashmap_table::MapFault;
+use dashmap_table::{MapFault, SpreadState};
 use linked_list_allocator::LocalHeap;
-use lock_api_packed::PackedLock;
-use mapworld_calls::SpreadState;
+use lock_api_spin::PackedLock;
 use std::hash::RandomState;
 use std::sync::Wait;
 use std::test::Fail;

@@ -2,9 +2,8 @@
 
 use dashmap_parallel::{NoThreadData, ParExtendFault};
 use dashmap_set::DashSet;
-use dashmap_table::MapFault;
-use lock_api_packed::PackedLock;
-use mapworld_calls::SpreadState;
+use dashmap_table::{MapFault, SpreadState};
+use lock_api_spin::PackedLock;
 use std::alloc::Global;
 use std::sync::Wait;
 use std::sync::atomic::{AtomicU64, Ordering};

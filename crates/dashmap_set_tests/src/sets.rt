@@ -1,9 +1,8 @@
 //! The sets of the tests.
 
 use dashmap_set::DashSet;
-use dashmap_table::MapFault;
-use lock_api_packed::PackedLock;
-use mapworld_calls::SpreadState;
+use dashmap_table::{MapFault, SpreadState};
+use lock_api_spin::PackedLock;
 use std::hash::Hash;
 
 /// A set whose locks are words that are tried again and again.

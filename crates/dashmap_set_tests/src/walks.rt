@@ -2,9 +2,9 @@
 
 use crate::sets::{Set, set_of};
 use dashmap_set::DashSet;
+use dashmap_table::SpreadState;
 use linked_list_allocator::LocalHeap;
-use lock_api_packed::PackedLock;
-use mapworld_calls::SpreadState;
+use lock_api_spin::PackedLock;
 use std::alloc::Global;
 use std::sync::Wait;
 use std::test::Fail;

@@ -2,8 +2,8 @@
 
 use crate::sets::{Set, set_of};
 use dashmap_set::DashSet;
-use lock_api_packed::PackedLock;
-use mapworld_calls::SpreadState;
+use dashmap_table::SpreadState;
+use lock_api_spin::PackedLock;
 use std::sync::Wait;
 use std::test::Fail;
 

@@ -10,3 +10,5 @@ pub mod Sharding
 pub mod Tagging
 pub mod TagChanges
 pub mod Moving
+pub mod TagsFacts
+mod SpreadHashes

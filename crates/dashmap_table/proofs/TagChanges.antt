@@ -8,7 +8,7 @@ use Rattle.std.proofs.lemmas.List.{get_or-set_same, get_or-set_other, get_or_pas
 use Rattle.std.proofs.lemmas.List.Sums.{sum_by-cons, sum_by-set}
 use mir.Val.{bool_byte}
 use Rattle.std.specs.declared.vec.Vec.{Vec}
-use Rattle.dashmap_table_tags.specs.Way.{tag_of}
+use Rattle.dashmap_table.specs.Tags.Way.{tag_of}
 use Rattle.dashmap_table.specs.declared.entry.Entry.{Entry}
 use Rattle.dashmap_table.specs.Slots.{at, count, slot_of, entry_of, AreDistinct, changed}
 use Rattle.dashmap_table.specs.Table.{Table, IsSound, Adds}

@@ -4,11 +4,11 @@ use Rattle.std.specs.Cmp.{IsEquivalence}
 use Rattle.std.proofs.lemmas.Bool.{cases_lt, cases_eq, and_parts, false_from_ne_true, false≢true, lt-ltb, ltb-true, le-leb, leb-true}
 use Rattle.std.proofs.lemmas.List.{get_or_past}
 use Rattle.std.proofs.lemmas.List.Sums.{sum_by-cons}
-use Rattle.dashmap_table_tags.specs.declared.lanes.Lanes.{Lanes}
-use Rattle.dashmap_table_tags.specs.declared.window.Wanted.TheVariants.{Tag, Free, Full}
-use Rattle.dashmap_table_tags.specs.Lanes.{HasLane, IsWanted}
-use Rattle.dashmap_table_tags.specs.Way.{tag_of, on_way}
-use Rattle.dashmap_table_tags.proofs.Ways.{way-comes, way-once, slot-window, lane-window}
+use Rattle.dashmap_table.specs.declared.tags.lanes.Lanes.{Lanes}
+use Rattle.dashmap_table.specs.declared.tags.window.Wanted.TheVariants.{Tag, Free, Full}
+use Rattle.dashmap_table.specs.Tags.Lanes.{HasLane, IsWanted}
+use Rattle.dashmap_table.specs.Tags.Way.{tag_of, on_way}
+use Rattle.dashmap_table.proofs.TagsFacts.Ways.{way-comes, way-once, slot-window, lane-window}
 use Rattle.dashmap_table.specs.declared.entry.Entry.{Entry}
 use Rattle.dashmap_table.specs.Slots.{at, count, holds, slot_of, AreDistinct, IsNextFull}
 use Rattle.dashmap_table.specs.Table.{Table}

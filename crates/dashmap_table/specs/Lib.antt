@@ -7,3 +7,5 @@ pub mod ShardLending
 pub mod Shards
 pub mod ShardsLending
 pub mod Tagged
+pub mod Tags
+pub mod Spread

@@ -1,6 +1,6 @@
 -- A table of tags: how the tags of its slots agree with what stands in them.
 use Rattle.std.specs.Prelude.{◌≡◌, ℕ, ◌+◌, ◌-◌, ◌/◌, ◌%◌, ◌<◌, ◌≤◌, ◌==◌, min, max, Bool, List, length, Option, Some, None, count_by, slice_index}
-use Rattle.dashmap_table_tags.specs.Way.{tag_of, windows_of, on_way}
+use Rattle.dashmap_table.specs.Tags.Way.{tag_of, windows_of, on_way}
 use Rattle.dashmap_table.specs.declared.entry.Entry.{Entry}
 use Rattle.dashmap_table.specs.Slots.{at, count, AreDistinct}
 

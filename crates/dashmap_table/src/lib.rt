@@ -16,12 +16,15 @@ mod routing;
 mod shard;
 mod shards;
 mod slot;
+mod spread;
 mod tag_table;
+pub mod tags;
 
-pub use dashmap_table_tags::{Lanes, WIDTH};
+pub use crate::tags::{Lanes, WIDTH};
 pub use fault::MapFault;
 pub use lock_api_raw::NoMemory;
 pub use pairs::ShardPairs;
 pub use routing::{capacity_share, default_shards, is_shard_amount, route};
 pub use shard::Shard;
 pub use shards::Shards;
+pub use spread::{SpreadHasher, SpreadState, spread_hash};

@@ -1,11 +1,11 @@
 //! What reads the tags and the slots of a table as two slices.
 ghost use Rattle.std.specs.Prelude.{◌≡◌, ℕ, ◌+◌, ◌/◌, ◌^◌, ◌<◌, ◌≤◌, true, false, length, slice_index, None, Some, IsSome, IfSome, IfNone, MatchOption, IfOk, IfErr, OnErr};
-ghost use Rattle.dashmap_table_tags.specs.Lanes.{HasLane};
+ghost use Rattle.dashmap_table.specs.Tags.Lanes.{HasLane};
 ghost use Rattle.dashmap_table.specs.Slots.{at, holds, slot_of, AreDistinct};
 ghost use Rattle.dashmap_table.specs.Tagged.{IsTagged, IsFree, IsEmpty, IsFullFrom, IsPlace, IsWhole, empties};
 
 use crate::entry::Entry;
-use dashmap_table_tags::{
+use crate::tags::{
     EMPTY, Lanes, REMOVED, WIDTH, Wanted, first_on_way, lanes_at, tag_of, whole_lanes_at,
     window_on_way, windows,
 };

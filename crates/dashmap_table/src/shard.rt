@@ -2,14 +2,14 @@
 ghost use Rattle.std.specs.Prelude.{◌≡◌, ℕ, ◌+◌, ◌*◌, ◌<◌, ◌≤◌, ◌↔◌, ◌==◌, [], length, None, Some, IsTrue, IsSome, IfSome, IfNone, MatchOption, IfOk, IfErr, OnOk, OnErr};
 ghost use Rattle.std.specs.Option.{option_map, option_copied_mut, is_some};
 ghost use Rattle.std.specs.Borrow.{sem};
-ghost use Rattle.dashmap_table_tags.specs.Lanes.{HasLane};
+ghost use Rattle.dashmap_table.specs.Tags.Lanes.{HasLane};
 ghost use Rattle.dashmap_table.specs.Slots.{at, count, slot_of, entry_with, pair_of, pairs_of, IsNextFull};
 ghost use Rattle.dashmap_table.specs.Table.{IsSound, Adds, Frees, SamePairs, with_value, with_pair};
 
 use crate::entry::Entry;
 use crate::pairs::ShardPairs;
 use crate::tag_table::TagTable;
-use dashmap_table_tags::Lanes;
+use crate::tags::Lanes;
 use lock_api_raw::NoMemory;
 use std::alloc::{Allocator, Global};
 use std::hash::Hash;

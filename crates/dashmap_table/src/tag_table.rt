@@ -4,14 +4,14 @@ ghost use Rattle.std.specs.Option.{option_map, option_copied_mut, is_some};
 ghost use Rattle.std.specs.Borrow.{sem};
 ghost use Rattle.dashmap_table.specs.Slots.{at, count, slot_of, entry_of, entry_with, pair_of, AreDistinct, IsNextFull};
 ghost use Rattle.dashmap_table.specs.Table.{IsSound, Adds, Frees, SamePairs, with_value, with_pair};
-ghost use Rattle.dashmap_table_tags.specs.Lanes.{HasLane};
-ghost use Rattle.dashmap_table_tags.specs.Way.{tag_of};
+ghost use Rattle.dashmap_table.specs.Tags.Lanes.{HasLane};
+ghost use Rattle.dashmap_table.specs.Tags.Way.{tag_of};
 ghost use Rattle.dashmap_table.specs.Tagged.{no_entry, room_of};
 
 use crate::entry::Entry;
 use crate::probe::{find_or_place, find_slot, free_slot, freed_tag, full_slot_from};
 use crate::slot::{lend_pair, lend_value, set_pair, set_value};
-use dashmap_table_tags::{EMPTY, Lanes, Tags, Wanted, lanes_at, tag_of};
+use crate::tags::{EMPTY, Lanes, Tags, Wanted, lanes_at, tag_of};
 use lock_api_raw::NoMemory;
 use std::alloc::Allocator;
 use std::hash::Hash;

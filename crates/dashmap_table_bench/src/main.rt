@@ -8,8 +8,8 @@
 //! nanoseconds the call takes. The first line is for a loop that makes and hashes keys and calls nothing.
 #![tactic(auto)]
 
-use dashmap_table_work::clock::report;
-use dashmap_table_work::{Bare, Call, Deed, Fault, run};
+use dashmap_workload::clock::report;
+use dashmap_workload::{Bare, Call, Deed, Fault, run};
 use std::alloc::Global;
 use std::process::ExitCode;
 use std::time::Instant;

@@ -1,6 +1,6 @@
 //! Each growth of a table refused in turn, by heaps of all small sizes.
 use dashmap_table::{MapFault, NoMemory, Shard, Shards};
-use dashmap_table_work::{Call, run};
+use dashmap_workload::{Call, run};
 use linked_list_allocator::LocalHeap;
 use std::hash::{BuildHasherDefault, FoldHasher};
 use std::test::Fail;

@@ -1,5 +1,5 @@
 //! The lanes of a window, beside a loop that looks at one tag after another.
-use dashmap_table_tags::{EMPTY, REMOVED, WIDTH, Wanted, lanes_at};
+use dashmap_table::tags::{EMPTY, REMOVED, WIDTH, Wanted, lanes_at};
 
 const SLOTS: usize = 64;
 

@@ -2,3 +2,4 @@ pub mod Walking
 mod Homes
 mod Cloning
 mod CloneViews
+pub mod ParallelFacts

@@ -9,6 +9,7 @@ mod counting;
 mod displaced;
 mod iter;
 mod owning;
+pub mod parallel;
 mod routed;
 mod view;
 

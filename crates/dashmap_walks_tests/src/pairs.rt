@@ -1,10 +1,9 @@
 //! Walks of one thread.
 
+use dashmap_iter::walks::Walks;
 use dashmap_map::DashMap;
-use dashmap_table::MapFault;
-use dashmap_walks::Walks;
-use lock_api_packed::PackedLock;
-use mapworld_calls::SpreadState;
+use dashmap_table::{MapFault, SpreadState};
+use lock_api_spin::PackedLock;
 use std::hash::Hash;
 use std::test::Fail;
 

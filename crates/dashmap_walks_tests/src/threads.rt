@@ -1,11 +1,10 @@
 //! Walks beside writers, over the locks of running threads.
 
+use dashmap_iter::walks::Walks;
 use dashmap_map::DashMap;
-use dashmap_table::MapFault;
-use dashmap_walks::Walks;
-use mapworld_calls::SpreadState;
+use dashmap_table::{MapFault, SpreadState};
 use parking_lot_core::{ParkingLot, ThreadData};
-use parking_lot_locks::{LockTable, RawRwLock};
+use parking_lot_rwlock::{LockTable, RawRwLock};
 use std::alloc::Global;
 use std::sync::Wait;
 use std::test::Fail;

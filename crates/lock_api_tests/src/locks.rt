@@ -5,10 +5,10 @@ mod reentrant;
 mod rwlocks;
 
 use crate::steps::all_right;
-use lock_api_packed::{PackedLock, PackedMutex, Parties};
 use lock_api_raw::{
     GetThreadId, MakeLock as _, RawMutex, RawMutexTimed, RawRwLock, RawRwLockUpgrade,
 };
+use lock_api_spin::{PackedLock, PackedMutex, Parties};
 use std::test::Fail;
 use std::time::Duration;
 

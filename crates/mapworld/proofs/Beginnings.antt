@@ -23,11 +23,11 @@ use Rattle.mapworld_calls.specs.Pairs.{pair_of, opening_pair}
 use Rattle.mapworld_calls.specs.Setup.{Setup, Laws}
 use Rattle.mapworld_calls.specs.Placed.{WellPlaced}
 use Rattle.mapworld_state.specs.declared.step.Step.{Step}
-use Rattle.parking_lot_world_calls.specs.declared.calls.LockKind.TheVariants as kind
-use Rattle.parking_lot_world.specs.Rows as rows
-use Rattle.mapworld_locks.specs.Fresh.{AreFresh}
-use Rattle.mapworld_locks.specs.Stands.{stand_in}
-use Rattle.mapworld_locks.specs.Views.{Shown, owner_in}
+use Rattle.parking_lot_machine_calls.specs.declared.calls.LockKind.TheVariants as kind
+use Rattle.parking_lot_machine.specs.Rows as rows
+use Rattle.mapworld_state.specs.Locks.Fresh.{AreFresh}
+use Rattle.mapworld_state.specs.Locks.Stands.{stand_in}
+use Rattle.mapworld_state.specs.Locks.Views.{Shown, owner_in}
 use Rattle.mapworld_state.specs.declared.holds.Hold.{Hold}
 use Rattle.mapworld_state.specs.declared.place.Phase.{Phase}
 use Rattle.mapworld_state.specs.declared.place.Phase.TheVariants as phase

@@ -1,12 +1,12 @@
 -- Each step of a run to the end keeps to its footprint, and keeps causes.
 use Rattle.std.proofs.Common.{◌≡◌, ℕ, List, [], ◌∷◌, sym, subst}
 use Rattle.mapworld_calls.specs.Setup.{Setup, Laws}
-use Rattle.mapworld_locks.specs.Footprints.{StepsTouchOneLock}
+use Rattle.mapworld_state.specs.Locks.Footprints.{StepsTouchOneLock}
 use Rattle.mapworld_state.specs.declared.step.Step.{Step}
 use Rattle.mapworld_state.specs.State.{State}
 use Rattle.mapworld_progress.specs.Drains.{Drains, DrainsBy}
-use Rattle.mapworld_causes.specs.Causes.{HasCauses}
-use Rattle.mapworld_causes.proofs.Keeping.{causes-step}
+use Rattle.mapworld_invariant.specs.Causes.Causes.{HasCauses}
+use Rattle.mapworld_invariant.proofs.CausesFacts.Keeping.{causes-step}
 use Rattle.mapworld.specs.Drained.{Drained, DrainedBy}
 use Rattle.mapworld.proofs.Footprints.{step_footprint}
 

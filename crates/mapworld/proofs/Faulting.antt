@@ -1,10 +1,10 @@
 -- Where a step is refused, the fault has the number of steps that were done.
 use Rattle.std.proofs.Common.{◌≡◌, ℕ, Bool, true, false, if◌then◌else◌, Some, None, nat_lt, length, ap, sym}
 use Rattle.std.proofs.lemmas.Option.{none-some, same_Some}
-use Rattle.mapworld_faults.specs.declared.fault.RunFault.{RunFault}
-use Rattle.mapworld_faults.specs.declared.fault.RunFault.TheVariants as fault
+use Rattle.mapworld_state.specs.declared.faults.fault.RunFault.{RunFault}
+use Rattle.mapworld_state.specs.declared.faults.fault.RunFault.TheVariants as fault
 use Rattle.mapworld_state.specs.declared.step.Step.{Step}
-use Rattle.mapworld_faults.specs.Faults.{run_fault_done}
+use Rattle.mapworld_state.specs.Faults.Faults.{run_fault_done}
 use Rattle.mapworld_state.specs.State.{State}
 use Rattle.mapworld_state.specs.Running.{can_move_in, has_numbers, refusal}
 

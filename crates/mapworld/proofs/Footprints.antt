@@ -10,10 +10,10 @@ use Rattle.mapworld_calls.specs.declared.reply.Reply.{Reply}
 use Rattle.mapworld_calls.specs.Setup.{Setup, Laws}
 use Rattle.mapworld_calls.specs.Pairs.{pair_of}
 use Rattle.mapworld_calls.proofs.Lists.{slice_get-set_same, slice_get-set_other}
-use Rattle.parking_lot_world.specs.Rows.{state, queue_at, first_key, second_key}
-use Rattle.mapworld_locks.specs.Fits.{LocksFit}
-use Rattle.mapworld_locks.specs.Footprints.{StepsTouchOneLock}
-use Rattle.mapworld_locks.specs.Views.{Shown}
+use Rattle.parking_lot_machine.specs.Rows.{state, queue_at, first_key, second_key}
+use Rattle.mapworld_state.specs.Locks.Fits.{LocksFit}
+use Rattle.mapworld_state.specs.Locks.Footprints.{StepsTouchOneLock}
+use Rattle.mapworld_state.specs.Locks.Views.{Shown}
 use Rattle.mapworld_state.specs.declared.place.Phase.{Phase}
 use Rattle.mapworld_state.specs.declared.place.Phase.TheVariants as phase
 use Rattle.mapworld_state.specs.declared.step.Step.{Step}
@@ -28,7 +28,7 @@ use Rattle.mapworld_progress.proofs.Visiting.{ItemPuts, item-puts}
 use Rattle.mapworld.proofs.LockSteps.{TouchesLock, begins_keep, ends_fit, ends_keep, given_kind, keeps_behind, moves_touch, starts_touch, touches_behind}
 use Rattle.mapworld.proofs.Viewing.{pair_at_route}
 use Rattle.mapworld.proofs.Outcomes.{element-at}
-use Rattle.mapworld_sound.proofs.Sounds.{sound-step}
+use Rattle.mapworld_invariant.proofs.Sounds.{sound-step}
 
 same_locks : (locks locks' : Shown) → locks' ≡ locks → KeepsLocks locks locks'
 same_locks locks locks' same i = record {

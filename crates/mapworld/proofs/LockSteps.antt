@@ -7,26 +7,26 @@ use Rattle.lock_api_desk.specs.Desk.{DeskState}
 use Rattle.parking_lot_protocol.specs.declared.act.Act.{Act}
 use Rattle.parking_lot_protocol.specs.declared.act.ActResult.TheVariants.{Start}
 use Rattle.parking_lot_protocol.specs.declared.act.CoreAnswer.{CoreAnswer}
-use Rattle.parking_lot_world_calls.specs.declared.calls.LockCall.{LockCall}
-use Rattle.parking_lot_world_calls.specs.declared.calls.LockCall.TheVariants as ask
-use Rattle.parking_lot_world_calls.specs.declared.calls.LockKind.{LockKind}
-use Rattle.parking_lot_world_calls.specs.declared.open_call.Call.{Call}
-use Rattle.parking_lot_world_calls.specs.Beginnings.{core_of}
-use Rattle.parking_lot_world_calls.specs.Kinds.{kind_in}
-use Rattle.parking_lot_world.specs.Machines.{Became, call_for, end_of}
-use Rattle.parking_lot_world.specs.RowActs.{answered, begun}
-use Rattle.parking_lot_world_calls.specs.CallActs.{hears}
-use Rattle.parking_lot_world.specs.Rows.{State, call_at, first_key, queue_at, second_key, state, word_at}
-use Rattle.parking_lot_world_calls.specs.Stances.{core_act, core_next}
-use Rattle.mapworld_locks.specs.Fits.{IsPlain, LocksFit, is_plain}
-use Rattle.mapworld_locks.specs.Footprints.{StepsTouchOneLock, TouchesOnly}
-use Rattle.mapworld_locks.specs.Seats.{seat_of}
-use Rattle.mapworld_locks.specs.Stands.{Stand, is_of_shards, stand_of}
-use Rattle.mapworld_locks.specs.Steps.{LockBegins, LockEnds, LockMoves, LockStarts}
-use Rattle.mapworld_locks.specs.Views.{Shown}
-use Rattle.mapworld_locks.proofs.Answering.{stepped_fits}
-use Rattle.mapworld_locks.proofs.Beginning.{begun_alone, same_holds}
-use Rattle.mapworld_locks.proofs.Keeping.{stepped_plain}
+use Rattle.parking_lot_machine_calls.specs.declared.calls.LockCall.{LockCall}
+use Rattle.parking_lot_machine_calls.specs.declared.calls.LockCall.TheVariants as ask
+use Rattle.parking_lot_machine_calls.specs.declared.calls.LockKind.{LockKind}
+use Rattle.parking_lot_machine_calls.specs.declared.open_call.Call.{Call}
+use Rattle.parking_lot_machine_calls.specs.Beginnings.{core_of}
+use Rattle.parking_lot_machine_calls.specs.Kinds.{kind_in}
+use Rattle.parking_lot_machine.specs.Machines.{Became, call_for, end_of}
+use Rattle.parking_lot_machine.specs.RowActs.{answered, begun}
+use Rattle.parking_lot_machine_calls.specs.CallActs.{hears}
+use Rattle.parking_lot_machine.specs.Rows.{State, call_at, first_key, queue_at, second_key, state, word_at}
+use Rattle.parking_lot_machine_calls.specs.Stances.{core_act, core_next}
+use Rattle.mapworld_state.specs.Locks.Fits.{IsPlain, LocksFit, is_plain}
+use Rattle.mapworld_state.specs.Locks.Footprints.{StepsTouchOneLock, TouchesOnly}
+use Rattle.mapworld_state.specs.Locks.Seats.{seat_of}
+use Rattle.mapworld_state.specs.Locks.Stands.{Stand, is_of_shards, stand_of}
+use Rattle.mapworld_state.specs.Locks.Steps.{LockBegins, LockEnds, LockMoves, LockStarts}
+use Rattle.mapworld_state.specs.Locks.Views.{Shown}
+use Rattle.mapworld_state.proofs.LocksFacts.Answering.{stepped_fits}
+use Rattle.mapworld_state.proofs.LocksFacts.Beginning.{begun_alone, same_holds}
+use Rattle.mapworld_state.proofs.LocksFacts.Keeping.{stepped_plain}
 use Rattle.mapworld_calls.proofs.Lists.{slice_get-set_other}
 use Rattle.mapworld_state.specs.declared.holds.Mode.{Mode}
 use Rattle.mapworld_state.specs.declared.holds.Mode.TheVariants.{Shared, Exclusive}

@@ -22,7 +22,7 @@ use Rattle.mapworld_state.specs.Held.{holds_before, HoldByPhase}
 use Rattle.mapworld_state.specs.Sound.{HoldsByGuard, HoldsShard, IsInSession, KeepsOver, Claim, Sound}
 use Rattle.mapworld_state.specs.Walks.{hands_over, walk_mode}
 use Rattle.mapworld_state.specs.World.{AgreesWithBlocks, setup_of}
-use Rattle.mapworld_moves.proofs.Keys.{setup-laws}
+use Rattle.mapworld_transitions.proofs.Keys.{setup-laws}
 use Rattle.mapworld.proofs.Viewing.{pairs_distinct, pair_at_route}
 
 -- an index below the length has an element

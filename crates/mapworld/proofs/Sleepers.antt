@@ -3,20 +3,20 @@ use Rattle.std.proofs.Common.{◌≡◌, ◌≢◌, ◌⊎◌, ℕ, zero, suc, �
 use Rattle.std.specs.Option.{option_map_or}
 use Rattle.std.proofs.lemmas.Bool.{eq-eqb}
 use Rattle.lock_api_desk.specs.declared.mode.Mode.{Mode}
-use Rattle.parking_lot_core_lot.specs.declared.parking.ParkToken.{ParkToken}
+use Rattle.parking_lot_core_model.specs.declared.parking.ParkToken.{ParkToken}
 use Rattle.parking_lot_rules.specs.Classes.{bit}
 use Rattle.parking_lot_rules.specs.Lists.{occurs}
-use Rattle.parking_lot_world_calls.specs.declared.open_call.Call.{Call}
-use Rattle.parking_lot_world_calls.specs.declared.seat.QueuePosition.{QueuePosition}
-use Rattle.parking_lot_world.specs.Machines.{is_asleep}
-use Rattle.parking_lot_world.specs.Rows.{State, call_at, state, queue_at, first_key, second_key}
-use Rattle.parking_lot_world.specs.SoundLaws.{waits_as, waits_in}
-use Rattle.parking_lot_world_calls.specs.Stances.{Stance, Asleep, stance}
-use Rattle.mapworld_locks.specs.Aims.{Gets}
-use Rattle.mapworld_locks.specs.Counts.{QueuesAreWaiters}
-use Rattle.mapworld_locks.specs.Fits.{LocksFit}
-use Rattle.mapworld_locks.specs.Stands.{core_aim}
-use Rattle.mapworld_locks.specs.Views.{Shown}
+use Rattle.parking_lot_machine_calls.specs.declared.open_call.Call.{Call}
+use Rattle.parking_lot_machine_calls.specs.declared.seat.QueuePosition.{QueuePosition}
+use Rattle.parking_lot_machine.specs.Machines.{is_asleep}
+use Rattle.parking_lot_machine.specs.Rows.{State, call_at, state, queue_at, first_key, second_key}
+use Rattle.parking_lot_machine.specs.SoundLaws.{waits_as, waits_in}
+use Rattle.parking_lot_machine_calls.specs.Stances.{Stance, Asleep, stance}
+use Rattle.mapworld_state.specs.Locks.Aims.{Gets}
+use Rattle.mapworld_state.specs.Locks.Counts.{QueuesAreWaiters}
+use Rattle.mapworld_state.specs.Locks.Fits.{LocksFit}
+use Rattle.mapworld_state.specs.Locks.Stands.{core_aim}
+use Rattle.mapworld_state.specs.Locks.Views.{Shown}
 use Rattle.mapworld_progress.proofs.Sleepers.{sleeper as sleeps-on}
 use Rattle.mapworld.specs.Asleep.{IsWaiting}
 

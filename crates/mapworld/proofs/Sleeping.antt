@@ -4,13 +4,13 @@ use Rattle.std.specs.Option.{option_map}
 use Rattle.std.proofs.lemmas.Option.{none-some, same_Some, slice_get_within}
 use Rattle.std.proofs.lemmas.Bool.{cond-true, eqb-true}
 use Rattle.dashmap_table.proofs.Cases.{option_cases}
-use Rattle.parking_lot_world.specs.Machines.{is_asleep}
-use Rattle.parking_lot_world.specs.Rows.{state}
-use Rattle.mapworld_locks.specs.Aims.{Aim}
-use Rattle.mapworld_locks.specs.Counts.{QueuesAreWaiters}
-use Rattle.mapworld_locks.specs.Fits.{LocksFit}
-use Rattle.mapworld_locks.specs.Stands.{Stand, stand_in, stand_of}
-use Rattle.mapworld_locks.specs.Views.{Shown}
+use Rattle.parking_lot_machine.specs.Machines.{is_asleep}
+use Rattle.parking_lot_machine.specs.Rows.{state}
+use Rattle.mapworld_state.specs.Locks.Aims.{Aim}
+use Rattle.mapworld_state.specs.Locks.Counts.{QueuesAreWaiters}
+use Rattle.mapworld_state.specs.Locks.Fits.{LocksFit}
+use Rattle.mapworld_state.specs.Locks.Stands.{Stand, stand_in, stand_of}
+use Rattle.mapworld_state.specs.Locks.Views.{Shown}
 use Rattle.mapworld_state.specs.Held.{MayOwe, StandsBefore}
 use Rattle.mapworld_calls.specs.declared.ask.Ask.{Ask}
 use Rattle.mapworld_calls.specs.Setup.{Setup}

@@ -1,13 +1,13 @@
 -- When a thread is asleep, and when it has finished.
 use Rattle.std.specs.Prelude.{◌≡◌, ◌⊎◌, ℕ, ◌+◌, true, List, length, Some, slice_get}
 use Rattle.parking_lot_rules.specs.Lists.{occurs}
-use Rattle.parking_lot_world.specs.Machines.{is_asleep}
-use Rattle.parking_lot_world.specs.RowFits.{IsOwed}
-use Rattle.parking_lot_world.specs.Rows.{state, queue_at, first_key, second_key}
+use Rattle.parking_lot_machine.specs.Machines.{is_asleep}
+use Rattle.parking_lot_machine.specs.RowFits.{IsOwed}
+use Rattle.parking_lot_machine.specs.Rows.{state, queue_at, first_key, second_key}
 use Rattle.mapworld_calls.specs.declared.ask.Ask.{Ask}
 use Rattle.mapworld_calls.specs.declared.ask.Walk.{Walk}
 use Rattle.mapworld_calls.specs.Placed.{answered_of}
-use Rattle.mapworld_locks.specs.Views.{Shown}
+use Rattle.mapworld_state.specs.Locks.Views.{Shown}
 use Rattle.mapworld_state.specs.declared.place.Request.{Request}
 use Rattle.mapworld_state.specs.declared.place.Phase.{Phase}
 use Rattle.mapworld_state.specs.declared.place.Phase.TheVariants as phase

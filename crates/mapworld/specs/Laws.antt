@@ -3,7 +3,7 @@ use Rattle.std.specs.Prelude.{◌≡◌, Some, None, slice_get}
 use Rattle.mapworld_calls.specs.declared.ask.Keyed.TheVariants as keyed
 use Rattle.mapworld_calls.specs.Pairs.{pair_of}
 use Rattle.mapworld_calls.specs.Setup.{Setup, Laws}
-use Rattle.mapworld_locks.specs.Fits.{LocksFit}
+use Rattle.mapworld_state.specs.Locks.Fits.{LocksFit}
 use Rattle.mapworld_state.specs.declared.place.Phase.TheVariants as phase
 use Rattle.mapworld_state.specs.declared.place.Request.TheVariants as request
 use Rattle.mapworld_state.specs.declared.step.Step.{Step}

@@ -4,10 +4,10 @@ use Rattle.std.specs.List.{list_all}
 use Rattle.mapworld_calls.specs.declared.ask.Ask.{Ask}
 use Rattle.mapworld_calls.specs.Programs.{one_guard, numbers_of}
 use Rattle.mapworld_calls.specs.Pairs.{pair_of, opening_pair}
-use Rattle.mapworld_faults.specs.declared.fault.WorldNewFault.{WorldNewFault}
-use Rattle.mapworld_faults.specs.declared.fault.WorldNewFault.TheVariants as fault
+use Rattle.mapworld_state.specs.declared.faults.fault.WorldNewFault.{WorldNewFault}
+use Rattle.mapworld_state.specs.declared.faults.fault.WorldNewFault.TheVariants as fault
 use Rattle.dashmap_table.specs.Route.{log2}
-use Rattle.mapworld_locks.specs.Fresh.{AreFresh}
+use Rattle.mapworld_state.specs.Locks.Fresh.{AreFresh}
 use Rattle.mapworld_state.specs.State.{State, pairs_of}
 use Rattle.mapworld.specs.Beginning.{AreAtStart}
 

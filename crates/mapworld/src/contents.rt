@@ -10,7 +10,7 @@ ghost use Rattle.mapworld.specs.Views.{shown};
 use dashmap_table::Shard;
 use dashmap_view::ViewIter;
 use lock_api_raw::NoMemory;
-use mapworld_moves::pairs::{find_pair, pair_at};
+use mapworld_transitions::pairs::{find_pair, pair_at};
 use std::alloc::Allocator;
 use std::hash::{BuildHasher, Hash};
 

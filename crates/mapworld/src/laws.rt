@@ -7,7 +7,9 @@ ghost use Rattle.mapworld_state.specs.State.{State};
 ghost use Rattle.mapworld_state.specs.World.{setup_of};
 
 use mapworld_calls::Deed;
-pub use mapworld_locks::laws::{desks_count_as_words, queues_are_waiters, steps_touch_one_lock};
+pub use mapworld_state::locks::laws::{
+    desks_count_as_words, queues_are_waiters, steps_touch_one_lock,
+};
 use std::hash::{BuildHasher, Hash};
 
 /// Equal keys are routed to one shard, by every lawful hasher and for every number of shards. So no two shards of a world

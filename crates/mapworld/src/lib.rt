@@ -10,12 +10,12 @@ mod making;
 mod stops;
 mod world;
 
+pub use dashmap_table::{SpreadHasher, SpreadState};
 pub use dashmap_view::ViewIter as Pairs;
 pub use lock_api_raw::NoMemory;
 pub use mapworld_calls::{
-    Answer, Ask, Begin, Block, Deed, Held, Keyed, Reply, SpreadHasher, SpreadState, Walk,
-    guard_numbers, holds_one_guard,
+    Answer, Ask, Begin, Block, Deed, Held, Keyed, Reply, Walk, guard_numbers, holds_one_guard,
 };
-pub use mapworld_faults::{RunFault, WorldNewFault};
+pub use mapworld_state::faults::{RunFault, WorldNewFault};
 pub use mapworld_state::{Status, Step};
 pub use world::MapWorld;

@@ -5,7 +5,7 @@ ghost use Rattle.mapworld_calls.specs.Programs.{one_guard, numbers_of};
 ghost use Rattle.mapworld.specs.Making.{new_refusal};
 
 use mapworld_calls::{Ask, guard_numbers, holds_one_guard};
-use mapworld_faults::WorldNewFault;
+use mapworld_state::faults::WorldNewFault;
 use mapworld_steps::is_world_amount;
 use std::alloc::Allocator;
 

@@ -2,12 +2,12 @@
 ghost use Rattle.std.specs.Prelude.{◌≡◌, ◌<◌, ◌≤◌, ◌^◌, length, map, sum_by, IfOk};
 ghost use Rattle.mapworld_calls.specs.Programs.{numbers_of};
 ghost use Rattle.mapworld.specs.Making.{new_refusal, IsNew};
-ghost use Rattle.mapworld_locks.specs.Fits.{LocksFit};
-ghost use Rattle.mapworld_locks.specs.Fresh.{AreFresh};
+ghost use Rattle.mapworld_state.specs.Locks.Fits.{LocksFit};
+ghost use Rattle.mapworld_state.specs.Locks.Fresh.{AreFresh};
 ghost use Rattle.mapworld_state.specs.World.{AgreesWithBlocks, HasPlacedBlocks};
 ghost use Rattle.mapworld_state.specs.Held.{HoldsMatch};
 ghost use Rattle.mapworld_progress.specs.Drains.{IsInTime};
-ghost use Rattle.mapworld_causes.specs.World.{CoreHasCauses, TriesHaveCauses};
+ghost use Rattle.mapworld_invariant.specs.Causes.World.{CoreHasCauses, TriesHaveCauses};
 ghost use Rattle.mapworld_state.specs.Core.{state_of, IsSoundCore, IsSlotted, Room};
 
 use crate::beginning::{empty_shards, fill, places_of};
@@ -15,9 +15,9 @@ use crate::limits;
 use crate::stops::programs_fit;
 use lock_api_raw::NoMemory;
 use mapworld_calls::{Ask, Deed};
-use mapworld_locks::ShardLocks;
 use mapworld_state::Core;
-use parking_lot_world::laws::steps_are_few;
+use mapworld_state::locks::ShardLocks;
+use parking_lot_machine::laws::steps_are_few;
 use past::Past;
 use std::alloc::Allocator;
 use std::hash::{BuildHasher, Hash};

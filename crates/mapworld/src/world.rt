@@ -11,24 +11,24 @@ ghost use Rattle.mapworld.specs.Making.{new_refusal, IsMadeUnless, IsNew};
 ghost use Rattle.mapworld_state.specs.Steps.{IsStep};
 ghost use Rattle.mapworld_state.specs.World.{setup_of, AgreesWithBlocks, HasPlacedBlocks, OnlyAddsTo};
 ghost use Rattle.mapworld_state.specs.Sound.{Sound};
-ghost use Rattle.parking_lot_world.specs.Rows.{state, queue_at};
-ghost use Rattle.mapworld_locks.specs.Fits.{LocksFit};
+ghost use Rattle.parking_lot_machine.specs.Rows.{state, queue_at};
+ghost use Rattle.mapworld_state.specs.Locks.Fits.{LocksFit};
 ghost use Rattle.mapworld_state.specs.Footprint.{word_of};
 ghost use Rattle.mapworld_state.specs.Held.{HoldsMatch, HoldByPhase};
 ghost use Rattle.mapworld_progress.specs.Rest.{IsAtRest};
 ghost use Rattle.mapworld.specs.Drained.{DrainedBy};
 ghost use Rattle.mapworld_calls.specs.Placed.{OnlyAdds};
-ghost use Rattle.mapworld_causes.specs.World.{TriesHaveCauses, TakenShardsAreUsed, NobodyWaitsAlone};
+ghost use Rattle.mapworld_invariant.specs.Causes.World.{TriesHaveCauses, TakenShardsAreUsed, NobodyWaitsAlone};
 
 use crate::laws::{queues_are_waiters, steps_touch_one_lock};
 use crate::{contents, counts, limits, making};
 use dashmap_view::ViewIter;
 use lock_api_raw::NoMemory;
 use mapworld_calls::{Ask, Block, Deed, Reply};
-use mapworld_faults::{RunFault, WorldNewFault};
+use mapworld_state::faults::{RunFault, WorldNewFault};
 use mapworld_state::{Core, Status, Step};
 use mapworld_steps as steps;
-use parking_lot_world::laws::steps_are_few;
+use parking_lot_machine::laws::steps_are_few;
 use std::alloc::{Allocator, Global};
 use std::hash::{BuildHasher, Hash};
 use std::marker::Model;
@@ -73,7 +73,7 @@ impl<K: Eq + Hash, V, S: BuildHasher, D: Deed<K, V>, A: Allocator> Model
 
     ghost use Rattle.mapworld_state.specs.Core.{state_of, IsSoundCore, IsSlotted, Room};
     ghost use Rattle.mapworld_progress.specs.Drains.{IsInTime};
-    ghost use Rattle.mapworld_causes.specs.World.{CoreHasCauses};
+    ghost use Rattle.mapworld_invariant.specs.Causes.World.{CoreHasCauses};
 
     ghost view = { λ w. state_of w.core };
 

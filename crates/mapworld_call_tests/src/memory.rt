@@ -2,13 +2,13 @@
 
 use linked_list_allocator::LocalHeap;
 use mapworld::SpreadState;
-use mapworld_plain::checks::broken_at_end;
-use mapworld_plain::replay::{Broken, Made};
-use mapworld_plain::worlds::Call::{
+use mapworld_oracle::checks::broken_at_end;
+use mapworld_oracle::replay::{Broken, Made};
+use mapworld_oracle::worlds::Call::{
     self, Clear, Enter, Get, Insert, KeepBelow, Leave, PutIn, ReadAll, ReadAndAddToAll, Remove,
     Shrink, TryEnter,
 };
-use mapworld_plain::worlds::{
+use mapworld_oracle::worlds::{
     Said, World, has_pairs, is_at_rest, step_once, step_round, step_times, told, world_of,
 };
 use std::alloc::Global;

@@ -1,15 +1,15 @@
 //! Random programs of random threads, run by random steps to a random moment and drained from there, beside the plain map.
 
 use mapworld::Step;
-use mapworld_plain::checks::{Halfway, broken, shown_now, shows_ends};
-use mapworld_plain::plain::is_opening;
-use mapworld_plain::replay::{Broken, Made};
-use mapworld_plain::worlds::Call::{
+use mapworld_oracle::checks::{Halfway, broken, shown_now, shows_ends};
+use mapworld_oracle::plain::is_opening;
+use mapworld_oracle::replay::{Broken, Made};
+use mapworld_oracle::worlds::Call::{
     self, Add, AddOrTakeFrom, AddTo, AddToAll, Capacity, Clear, Enter, Get, GetMut, HandBack, Has,
     Insert, IsEmpty, KeepBelow, Leave, Len, Lend, Look, PutIn, Read, ReadAll, ReadAndAddToAll,
     Remove, Replace, Share, Shrink, TakeFrom, TakePair, TakeValue, TryEnter, TryGet, TryGetMut,
 };
-use mapworld_plain::worlds::{World, world_of};
+use mapworld_oracle::worlds::{World, world_of};
 use std::alloc::Global;
 use std::hash::{BuildHasherDefault, FoldHasher};
 use std::test::Fail;

@@ -2,11 +2,11 @@
 
 use super::scripts::{Line, Setting, failed_line};
 use mapworld::{MapWorld, RunFault, SpreadState, Status, WorldNewFault};
-use mapworld_plain::worlds::Call::{
+use mapworld_oracle::worlds::Call::{
     self, AddToAll, Capacity, Clear, Get, Insert, IsEmpty, KeepBelow, Leave, Len, ReadAll,
     ReadAndAddToAll, Remove, Shrink, TryEnter, TryGet, TryGetMut,
 };
-use mapworld_plain::worlds::{Asked, Said, World, ask_of, program_of, world_of};
+use mapworld_oracle::worlds::{Asked, Said, World, ask_of, program_of, world_of};
 use std::alloc::Global;
 use std::test::Fail;
 

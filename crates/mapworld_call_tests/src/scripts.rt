@@ -1,7 +1,7 @@
 //! Scripts: what is done with a world, and what is to be seen of it, line by line.
 
 use mapworld::{RunFault, SpreadState, Status};
-use mapworld_plain::worlds::{
+use mapworld_oracle::worlds::{
     Call, Said, World, has_pairs, is_at_rest, step, step_once, told, world_of,
 };
 use std::alloc::Global;

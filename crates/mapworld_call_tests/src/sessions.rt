@@ -2,10 +2,10 @@
 
 use super::scripts::{Line, Setting, failed_line};
 use mapworld::Status;
-use mapworld_plain::worlds::Call::{
+use mapworld_oracle::worlds::Call::{
     Add, Enter, Get, GetMut, Insert, Leave, Read, Remove, Share, TakeValue,
 };
-use mapworld_plain::worlds::Said;
+use mapworld_oracle::worlds::Said;
 
 #[test]
 fn a_guard_that_is_shared_wakes_a_reader(rt: HostRuntime) {

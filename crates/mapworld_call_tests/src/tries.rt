@@ -2,8 +2,8 @@
 
 use super::scripts::{Line, Setting, failed_line};
 use mapworld::{SpreadState, Status};
-use mapworld_plain::worlds::Call::{Get, Insert, Leave, PutIn, Read, TryEnter, TryGet, TryGetMut};
-use mapworld_plain::worlds::{
+use mapworld_oracle::worlds::Call::{Get, Insert, Leave, PutIn, Read, TryEnter, TryGet, TryGetMut};
+use mapworld_oracle::worlds::{
     Call, Said, World, step_once, step_through, step_times, told, world_of,
 };
 use std::alloc::Global;

@@ -2,11 +2,11 @@
 
 use super::scripts::{Line, Setting, failed_line};
 use mapworld::{SpreadState, Status};
-use mapworld_plain::worlds::Call::{
+use mapworld_oracle::worlds::Call::{
     self, AddOrTakeFrom, AddToAll, Capacity, Clear, GetMut, Insert, IsEmpty, KeepBelow, Leave, Len,
     Look, ReadAll, ReadAndAddToAll, Remove, Shrink,
 };
-use mapworld_plain::worlds::{Said, told, world_of};
+use mapworld_oracle::worlds::{Said, told, world_of};
 use std::alloc::Global;
 
 #[test]

@@ -13,5 +13,5 @@ pub mod Growing
 pub mod Placing
 pub mod Tables
 pub mod Programs
-pub mod Hashes
 pub mod Handed
+pub mod HistoryLawsFacts

@@ -8,7 +8,7 @@ pub mod Agrees
 pub mod Placed
 pub mod Laws
 pub mod Sessions
-pub mod Spread
 pub mod Frame
 pub mod Growth
 pub mod Shards
+pub mod HistoryLaws

@@ -6,14 +6,13 @@
 mod ask;
 mod block;
 mod deed;
+pub mod history_laws;
 pub mod laws;
 mod program;
 mod reply;
-mod spread;
 
 pub use ask::{Ask, Begin, Held, Keyed, Walk};
 pub use block::Block;
 pub use deed::Deed;
 pub use program::{guard_numbers, holds_one_guard};
 pub use reply::{Answer, Reply};
-pub use spread::{SpreadHasher, SpreadState, spread_hash};

@@ -1,6 +1,6 @@
 //! What a world of two threads and two shards shows between two steps.
 
-use mapworld_plain::worlds::World;
+use mapworld_oracle::worlds::World;
 use std::alloc::{AllocError, Global};
 use std::test::Fail;
 

@@ -2,9 +2,9 @@
 //! give.
 
 use crate::look::{Look, first_key, second_key, shard_of};
-use mapworld_plain::plain::{is_opening, is_try, is_walk, key_of, stop_of};
-use mapworld_plain::worlds::Call;
-use parking_lot_core_lot::ParkToken;
+use mapworld_oracle::plain::{is_opening, is_try, is_walk, key_of, stop_of};
+use mapworld_oracle::worlds::Call;
+use parking_lot_core_model::ParkToken;
 use parking_lot_protocol::word::{READER, WRITER};
 use parking_lot_protocol::{
     Act, ActResult, CoreAnswer, HAND_OVER, LockMode, RwPhase, SectionAct, TRY_AGAIN,

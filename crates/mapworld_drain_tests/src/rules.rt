@@ -3,7 +3,7 @@
 use crate::look::Look;
 use crate::progress::{Progress, Stage};
 use mapworld::{RunFault, Status, Step};
-use mapworld_plain::worlds::World;
+use mapworld_oracle::worlds::World;
 use std::alloc::Global;
 use std::test::Fail;
 

@@ -3,12 +3,12 @@
 use crate::explorer::{Explorer, Found, Two};
 use crate::look::shard_of;
 use mapworld::SpreadState;
-use mapworld_plain::worlds::Call::{
+use mapworld_oracle::worlds::Call::{
     self, Add, AddToAll, Capacity, Clear, Enter, Get, GetMut, Has, Insert, IsEmpty, KeepBelow,
     Leave, Len, Look, PutIn, ReadAll, ReadAndAddToAll, Remove, Share, Shrink, TakePair, TryEnter,
     TryGet, TryGetMut,
 };
-use mapworld_plain::worlds::world_of;
+use mapworld_oracle::worlds::world_of;
 use std::process::Abort;
 use std::test::Fail;
 

@@ -2,7 +2,7 @@
 
 use crate::trace::{Trace, Turn};
 use lock_api_desk::Mode;
-use parking_lot_world::{CoreAnswer, LockCall};
+use parking_lot_machine::{CoreAnswer, LockCall};
 use std::test::Fail;
 
 const OWNED: Option<CoreAnswer> = Some(CoreAnswer::Owned);

@@ -2,9 +2,9 @@
 
 use linked_list_allocator::LocalHeap;
 use lock_api_desk::Mode;
-use mapworld_locks::ShardLocks;
-use parking_lot_core_lot::SizeFault;
-use parking_lot_world::LockCall;
+use mapworld_state::locks::ShardLocks;
+use parking_lot_core_model::SizeFault;
+use parking_lot_machine::LockCall;
 use std::process::Abort;
 use std::test::Fail;
 

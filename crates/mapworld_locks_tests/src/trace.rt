@@ -1,8 +1,8 @@
 //! A schedule at the first shard, and what is seen on the way.
 
 use lock_api_desk::Mode;
-use mapworld_locks::ShardLocks;
-use parking_lot_world::{CoreAnswer, LockCall};
+use mapworld_state::locks::ShardLocks;
+use parking_lot_machine::{CoreAnswer, LockCall};
 use std::process::Abort;
 use std::test::Fail;
 

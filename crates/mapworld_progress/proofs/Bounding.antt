@@ -6,9 +6,9 @@ use Rattle.std.proofs.lemmas.Nat.{mul-le}
 use Rattle.mapworld_calls.specs.declared.ask.Ask.{Ask}
 use Rattle.mapworld_calls.specs.declared.ask.Ask.TheVariants as ask
 use Rattle.mapworld_calls.specs.Setup.{Setup}
-use Rattle.parking_lot_world.specs.Rows.{state}
-use Rattle.parking_lot_world.specs.SoundLaws.{Always, StepsAreFew, most_steps}
-use Rattle.mapworld_locks.specs.Fits.{LocksFit}
+use Rattle.parking_lot_machine.specs.Rows.{state}
+use Rattle.parking_lot_machine.specs.SoundLaws.{Always, StepsAreFew, most_steps}
+use Rattle.mapworld_state.specs.Locks.Fits.{LocksFit}
 use Rattle.mapworld_state.specs.declared.place.Phase.{Phase}
 use Rattle.mapworld_state.specs.declared.place.Phase.TheVariants as phase
 use Rattle.mapworld_state.specs.Core.{adds, is_walk, may_add, owed, owes}

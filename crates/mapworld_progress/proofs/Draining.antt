@@ -10,7 +10,7 @@ use Rattle.mapworld_calls.specs.declared.ask.Ask.{Ask}
 use Rattle.mapworld_calls.specs.declared.deed.Deed as deed
 use Rattle.mapworld_calls.specs.Placed.{OnlyAdds}
 use Rattle.mapworld_calls.specs.Setup.{Setup, Laws}
-use Rattle.mapworld_locks.specs.Fits.{LocksFit}
+use Rattle.mapworld_state.specs.Locks.Fits.{LocksFit}
 use Rattle.mapworld_state.specs.declared.step.Step.{Step}
 use Rattle.mapworld_state.specs.declared.world_core.Core.{Core}
 use Rattle.mapworld_state.specs.Core.{AreLocksOf, Room, state_of}
@@ -22,9 +22,9 @@ use Rattle.mapworld_state.specs.Sound.{Sound}
 use Rattle.mapworld_state.specs.State.{State, threads_of}
 use Rattle.mapworld_state.specs.Steps.{IsStep}
 use Rattle.mapworld_state.specs.World.{deeds_of, setup_of}
-use Rattle.mapworld_moves.proofs.Keys.{setup-laws}
-use Rattle.mapworld_sound.proofs.Adding.{adds-more, adds-none, fixed-more, step-adds}
-use Rattle.mapworld_sound.proofs.Sounds.{sound-step}
+use Rattle.mapworld_transitions.proofs.Keys.{setup-laws}
+use Rattle.mapworld_invariant.proofs.Adding.{adds-more, adds-none, fixed-more, step-adds}
+use Rattle.mapworld_invariant.proofs.Sounds.{sound-step}
 use Rattle.mapworld_progress.specs.Drains.{Drains, DrainsBy, Makes}
 use Rattle.mapworld_progress.specs.Left.{left}
 use Rattle.mapworld_progress.specs.Sizes.{IsSized}

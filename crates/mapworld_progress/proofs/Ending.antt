@@ -3,9 +3,9 @@ use Rattle.std.proofs.Common.{◌≡◌, ℕ, ◌+◌, ◌-◌, ◌*◌, ◌≤�
 use Rattle.mapworld_calls.specs.declared.ask.Walk.{Walk}
 use Rattle.mapworld_calls.specs.declared.reply.Answer.TheVariants as answer
 use Rattle.mapworld_calls.specs.Setup.{Setup, Laws}
-use Rattle.mapworld_locks.specs.Views.{Shown}
-use Rattle.parking_lot_world.specs.Ranks.{steps_left}
-use Rattle.parking_lot_world.specs.Rows.{state}
+use Rattle.mapworld_state.specs.Locks.Views.{Shown}
+use Rattle.parking_lot_machine.specs.Ranks.{steps_left}
+use Rattle.parking_lot_machine.specs.Rows.{state}
 use Rattle.mapworld_state.specs.declared.holds.Hold.{Hold}
 use Rattle.mapworld_state.specs.declared.step.Step.{Step}
 use Rattle.mapworld_state.specs.declared.place.Phase.{Phase}

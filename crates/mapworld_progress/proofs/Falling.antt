@@ -8,11 +8,11 @@ use Rattle.mapworld_calls.specs.declared.ask.Held.TheVariants as held
 use Rattle.mapworld_calls.specs.declared.ask.Keyed.TheVariants as keyed
 use Rattle.mapworld_calls.specs.declared.reply.Answer.{Answer}
 use Rattle.mapworld_calls.specs.Setup.{Setup, Laws}
-use Rattle.parking_lot_world_calls.specs.declared.calls.LockCall.{LockCall}
-use Rattle.parking_lot_world.specs.Ranks.{cost, steps_left}
-use Rattle.parking_lot_world.specs.Rows.{state}
-use Rattle.mapworld_locks.specs.Steps.{LockStarts}
-use Rattle.mapworld_locks.specs.Views.{Shown}
+use Rattle.parking_lot_machine_calls.specs.declared.calls.LockCall.{LockCall}
+use Rattle.parking_lot_machine.specs.Ranks.{cost, steps_left}
+use Rattle.parking_lot_machine.specs.Rows.{state}
+use Rattle.mapworld_state.specs.Locks.Steps.{LockStarts}
+use Rattle.mapworld_state.specs.Locks.Views.{Shown}
 use Rattle.mapworld_state.specs.declared.holds.Mode.{Mode}
 use Rattle.mapworld_state.specs.declared.holds.Mode.TheVariants.{Shared, Exclusive}
 use Rattle.mapworld_state.specs.declared.place.Growth.{Growth}

@@ -7,23 +7,23 @@ use Rattle.std.proofs.lemmas.List.Sums.{sum_by-cons}
 use Rattle.std.proofs.lemmas.Option.{none-some, same_Some}
 use Rattle.lock_api_desk.specs.declared.mode.Mode.{Mode as DeskMode}
 use Rattle.lock_api_desk.specs.declared.mode.Mode.TheVariants as held
-use Rattle.parking_lot_world_calls.specs.declared.calls.LockKind.{LockKind}
-use Rattle.parking_lot_world_calls.specs.declared.calls.OwnMode.{OwnMode}
-use Rattle.parking_lot_world_calls.specs.declared.seat.Hold.{Hold as LockHold}
-use Rattle.parking_lot_world_calls.specs.declared.open_call.Call.{Call}
-use Rattle.parking_lot_world.specs.Machines.{can_move, is_asleep}
-use Rattle.parking_lot_world.specs.Rows.{call_at, hold_at, state}
-use Rattle.parking_lot_world.specs.Rows as rows
-use Rattle.parking_lot_world.specs.SoundLaws.{Always, IsApart, SomebodyCanMove, SomebodyKeeps}
-use Rattle.parking_lot_world_calls.specs.CallViews.{hold_mode}
-use Rattle.parking_lot_world.proofs.Viewing as viewing
-use Rattle.parking_lot_world.proofs.Viewing.{apart_owner}
+use Rattle.parking_lot_machine_calls.specs.declared.calls.LockKind.{LockKind}
+use Rattle.parking_lot_machine_calls.specs.declared.calls.OwnMode.{OwnMode}
+use Rattle.parking_lot_machine_calls.specs.declared.seat.Hold.{Hold as LockHold}
+use Rattle.parking_lot_machine_calls.specs.declared.open_call.Call.{Call}
+use Rattle.parking_lot_machine.specs.Machines.{can_move, is_asleep}
+use Rattle.parking_lot_machine.specs.Rows.{call_at, hold_at, state}
+use Rattle.parking_lot_machine.specs.Rows as rows
+use Rattle.parking_lot_machine.specs.SoundLaws.{Always, IsApart, SomebodyCanMove, SomebodyKeeps}
+use Rattle.parking_lot_machine_calls.specs.CallViews.{hold_mode}
+use Rattle.parking_lot_machine.proofs.Viewing as viewing
+use Rattle.parking_lot_machine.proofs.Viewing.{apart_owner}
 use Rattle.mapworld_calls.specs.declared.ask.Walk.{Walk}
 use Rattle.mapworld_calls.specs.Setup.{Setup, session_of}
-use Rattle.mapworld_locks.specs.Aims.{Aim}
-use Rattle.mapworld_locks.specs.Stands.{Stand, stand_in, stand_of}
-use Rattle.mapworld_locks.specs.Views.{held_as, owner_in}
-use Rattle.mapworld_locks.proofs.Together.{holders_are_threads}
+use Rattle.mapworld_state.specs.Locks.Aims.{Aim}
+use Rattle.mapworld_state.specs.Locks.Stands.{Stand, stand_in, stand_of}
+use Rattle.mapworld_state.specs.Locks.Views.{held_as, owner_in}
+use Rattle.mapworld_state.proofs.LocksFacts.Together.{holders_are_threads}
 use Rattle.mapworld_state.specs.declared.holds.Mode.{Mode}
 use Rattle.mapworld_state.specs.declared.holds.Hold.{Hold}
 use Rattle.mapworld_state.specs.declared.place.Guard.{Guard}
@@ -37,8 +37,8 @@ use Rattle.mapworld_state.specs.Sound.{IsBetweenVisits, IsInSession, KeepsOver, 
 use Rattle.mapworld_state.specs.State.{State, threads_of}
 use Rattle.mapworld_state.specs.Walks.{kept_over, walk_mode}
 use Rattle.mapworld_state.proofs.HoldsTable.{none-there, only-first}
-use Rattle.mapworld_sound.proofs.Building.{claim-at, session-is, taken-at}
-use Rattle.mapworld_sound.proofs.Holding.{stand-at}
+use Rattle.mapworld_invariant.proofs.Building.{claim-at, session-is, taken-at}
+use Rattle.mapworld_invariant.proofs.Holding.{stand-at}
 use Rattle.mapworld_progress.specs.Whole.{IsWhole}
 use Rattle.mapworld_progress.proofs.Sessions.{none-at-end}
 use Rattle.mapworld_progress.proofs.Sleepers.{sleeper}

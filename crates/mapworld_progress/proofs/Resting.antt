@@ -8,29 +8,29 @@ use Rattle.lock_api_desk.specs.declared.mode.Mode.{Mode as DeskMode}
 use Rattle.lock_api_desk.specs.declared.mode.Mode.TheVariants as held
 use Rattle.lock_api_desk.specs.Desk.{DeskState}
 use Rattle.lock_api_desk.specs.Guards.{Guard as DeskGuard}
-use Rattle.parking_lot_core_lot.specs.declared.place.Section.{Section}
-use Rattle.parking_lot_core_lot.specs.Places.{place_at}
+use Rattle.parking_lot_core_model.specs.declared.place.Section.{Section}
+use Rattle.parking_lot_core_model.specs.Places.{place_at}
 use Rattle.parking_lot_rules.specs.Any.{AnySound}
 use Rattle.parking_lot_rules.specs.Lock.{IsSound}
 use Rattle.parking_lot_rules.specs.Roles.{Idle, Role, away}
 use Rattle.parking_lot_rules.proofs.Following.{nothing_is_left}
-use Rattle.parking_lot_world.proofs.RwMoving.{number-word}
-use Rattle.parking_lot_world_calls.specs.declared.seat.Hold.{Hold as LockHold}
-use Rattle.parking_lot_world_calls.specs.declared.open_call.Call.{Call}
-use Rattle.parking_lot_world_calls.specs.CallViews.{rw_mode}
-use Rattle.parking_lot_world.specs.RowFits.{Seated}
-use Rattle.parking_lot_world.specs.Rows.{call_at, first_key, hold_at, inside, lock_at, queue_at, rw_lock_at, rw_role_at, rw_role_in, second_key, state, taken_by, word_at}
-use Rattle.parking_lot_world_calls.specs.CallRoles.{owned_of}
-use Rattle.parking_lot_world.specs.Rows as rows
-use Rattle.parking_lot_world.specs.SoundLaws.{Always, SomebodyCanMove}
-use Rattle.parking_lot_world.specs.Worlds.{mode_in}
+use Rattle.parking_lot_machine.proofs.RwMoving.{number-word}
+use Rattle.parking_lot_machine_calls.specs.declared.seat.Hold.{Hold as LockHold}
+use Rattle.parking_lot_machine_calls.specs.declared.open_call.Call.{Call}
+use Rattle.parking_lot_machine_calls.specs.CallViews.{rw_mode}
+use Rattle.parking_lot_machine.specs.RowFits.{Seated}
+use Rattle.parking_lot_machine.specs.Rows.{call_at, first_key, hold_at, inside, lock_at, queue_at, rw_lock_at, rw_role_at, rw_role_in, second_key, state, taken_by, word_at}
+use Rattle.parking_lot_machine_calls.specs.CallRoles.{owned_of}
+use Rattle.parking_lot_machine.specs.Rows as rows
+use Rattle.parking_lot_machine.specs.SoundLaws.{Always, SomebodyCanMove}
+use Rattle.parking_lot_machine.specs.Worlds.{mode_in}
 use Rattle.mapworld_calls.specs.Setup.{Setup, session_of}
-use Rattle.mapworld_locks.specs.Seats.{guards_of, is_of, seat_of}
-use Rattle.mapworld_locks.specs.Stands.{stand_in, stand_of}
-use Rattle.mapworld_locks.specs.Views.{held_as, owner_in}
-use Rattle.mapworld_locks.proofs.Handing.{is_rw}
-use Rattle.mapworld_locks.proofs.Lists.{among_all}
-use Rattle.mapworld_locks.proofs.Together.{holders_are_threads}
+use Rattle.mapworld_state.specs.Locks.Seats.{guards_of, is_of, seat_of}
+use Rattle.mapworld_state.specs.Locks.Stands.{stand_in, stand_of}
+use Rattle.mapworld_state.specs.Locks.Views.{held_as, owner_in}
+use Rattle.mapworld_state.proofs.LocksFacts.Handing.{is_rw}
+use Rattle.mapworld_state.proofs.LocksFacts.Lists.{among_all}
+use Rattle.mapworld_state.proofs.LocksFacts.Together.{holders_are_threads}
 use Rattle.mapworld_state.specs.declared.place.Phase.{Phase}
 use Rattle.mapworld_state.specs.declared.place.Phase.TheVariants as phase
 use Rattle.mapworld_state.specs.Core.{owed, owes}
@@ -40,8 +40,8 @@ use Rattle.mapworld_state.specs.Sound.{HasNoWalk, IsInSession, Stands, Walks}
 use Rattle.mapworld_state.specs.State.{State, threads_of}
 use Rattle.mapworld_state.proofs.HoldsTable.{none-there}
 use Rattle.mapworld_calls.proofs.Lists.{sum_by-at}
-use Rattle.mapworld_sound.proofs.Building.{claim-at, taken-at}
-use Rattle.mapworld_sound.proofs.Holding.{stand-at}
+use Rattle.mapworld_invariant.proofs.Building.{claim-at, taken-at}
+use Rattle.mapworld_invariant.proofs.Holding.{stand-at}
 use Rattle.mapworld_progress.specs.Whole.{IsWhole}
 use Rattle.mapworld_progress.specs.Rest.{HasEnded, IsAtRest}
 use Rattle.mapworld_progress.proofs.Moving.{session-goes, somebody_moves}

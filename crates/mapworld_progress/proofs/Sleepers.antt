@@ -6,24 +6,24 @@ use Rattle.std.proofs.lemmas.List.Elements.{All-head, All-tail}
 use Rattle.std.proofs.lemmas.Option.{none-some, same_Some}
 use Rattle.lock_api_desk.specs.declared.mode.Mode.{Mode}
 use Rattle.lock_api_desk.specs.declared.mode.Mode.TheVariants as held
-use Rattle.parking_lot_core_lot.specs.declared.parking.ParkToken.{ParkToken}
+use Rattle.parking_lot_core_model.specs.declared.parking.ParkToken.{ParkToken}
 use Rattle.parking_lot_protocol.specs.declared.rw_phase.AfterWake.{AfterWake}
 use Rattle.parking_lot_protocol.specs.declared.rw_phase.LockMode.{LockMode}
 use Rattle.parking_lot_protocol.specs.declared.rw_phase.RwPhase.{RwPhase}
 use Rattle.parking_lot_protocol.specs.RwTable.{act_of}
-use Rattle.parking_lot_world_calls.specs.Kinds.{AsMutex, manner_of}
-use Rattle.parking_lot_world_calls.specs.declared.calls.LockKind.{LockKind}
-use Rattle.parking_lot_world_calls.specs.declared.open_call.Call.{Call}
-use Rattle.parking_lot_world_calls.specs.declared.seat.Core.{Core}
-use Rattle.parking_lot_world.specs.Machines.{is_asleep, sleeps}
-use Rattle.parking_lot_world_calls.specs.CallKinds.{IsOfKind}
-use Rattle.parking_lot_world.specs.Rows.{State, call_at, state}
-use Rattle.parking_lot_world_calls.specs.Stances.{Stance, Asleep, core_act, rw_stance, stance}
-use Rattle.mapworld_locks.proofs.Handing.{goes_by, no_mutex}
-use Rattle.mapworld_locks.specs.Aims.{Aim, Gets, aim_for, phase_aim}
-use Rattle.mapworld_locks.specs.Fits.{LocksFit, is_plain}
-use Rattle.mapworld_locks.specs.Stands.{core_aim}
-use Rattle.mapworld_locks.specs.Views.{Shown}
+use Rattle.parking_lot_machine_calls.specs.Kinds.{AsMutex, manner_of}
+use Rattle.parking_lot_machine_calls.specs.declared.calls.LockKind.{LockKind}
+use Rattle.parking_lot_machine_calls.specs.declared.open_call.Call.{Call}
+use Rattle.parking_lot_machine_calls.specs.declared.seat.Core.{Core}
+use Rattle.parking_lot_machine.specs.Machines.{is_asleep, sleeps}
+use Rattle.parking_lot_machine_calls.specs.CallKinds.{IsOfKind}
+use Rattle.parking_lot_machine.specs.Rows.{State, call_at, state}
+use Rattle.parking_lot_machine_calls.specs.Stances.{Stance, Asleep, core_act, rw_stance, stance}
+use Rattle.mapworld_state.proofs.LocksFacts.Handing.{goes_by, no_mutex}
+use Rattle.mapworld_state.specs.Locks.Aims.{Aim, Gets, aim_for, phase_aim}
+use Rattle.mapworld_state.specs.Locks.Fits.{LocksFit, is_plain}
+use Rattle.mapworld_state.specs.Locks.Stands.{core_aim}
+use Rattle.mapworld_state.specs.Locks.Views.{Shown}
 
 -- what is so of all elements is so of each
 pub all_at : {X : Type 0} (P : X → Type 0) (xs : List X) (i : ℕ) (x : X) → All P xs → slice_get xs i ≡ Some x → P x

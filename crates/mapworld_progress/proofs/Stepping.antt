@@ -5,10 +5,10 @@ use Rattle.mapworld_calls.specs.Calls.{held_answer, keyed_leaves, held_leaves, p
 use Rattle.mapworld_calls.specs.Pairs.{pair_of}
 use Rattle.mapworld_calls.specs.Programs.{keyed_key}
 use Rattle.mapworld_calls.specs.Setup.{Setup, Laws}
-use Rattle.parking_lot_world_calls.specs.declared.calls.LockCall.TheVariants as call
-use Rattle.parking_lot_world.specs.Ranks.{steps_left}
-use Rattle.parking_lot_world.specs.Rows.{state}
-use Rattle.mapworld_locks.specs.Views.{Shown}
+use Rattle.parking_lot_machine_calls.specs.declared.calls.LockCall.TheVariants as call
+use Rattle.parking_lot_machine.specs.Ranks.{steps_left}
+use Rattle.parking_lot_machine.specs.Rows.{state}
+use Rattle.mapworld_state.specs.Locks.Views.{Shown}
 use Rattle.mapworld_state.specs.declared.step.Step.{Step}
 use Rattle.mapworld_state.specs.Core.{adds}
 use Rattle.mapworld_state.specs.Shards.{ShardPairs, Puts, has_room, number_of}

@@ -7,10 +7,10 @@ use Rattle.std.proofs.lemmas.Option.{slice_get_past}
 use Rattle.std.specs.Hash.{HashWrites}
 use Rattle.std.specs.declared.hash.BuildHasher as builder
 use Rattle.std.specs.declared.hash.Hasher as hasher
-use Rattle.parking_lot_world.specs.SoundLaws.{Always, StepsAreFew}
+use Rattle.parking_lot_machine.specs.SoundLaws.{Always, StepsAreFew}
 use Rattle.mapworld_calls.specs.declared.deed.Deed as deed
 use Rattle.mapworld_calls.specs.Setup.{Setup, Laws}
-use Rattle.mapworld_locks.specs.Fits.{LocksFit}
+use Rattle.mapworld_state.specs.Locks.Fits.{LocksFit}
 use Rattle.mapworld_state.specs.declared.step.Step.{Step}
 use Rattle.mapworld_state.specs.declared.world_core.Core.{Core}
 use Rattle.mapworld_state.specs.Core.{Room, state_of}
@@ -20,7 +20,7 @@ use Rattle.mapworld_state.specs.Sound.{Sound}
 use Rattle.mapworld_state.specs.State.{State, pairs_of}
 use Rattle.mapworld_state.specs.Steps.{IsStep}
 use Rattle.mapworld_state.specs.World.{setup_of}
-use Rattle.mapworld_sound.proofs.Adding.{step-adds}
+use Rattle.mapworld_invariant.proofs.Adding.{step-adds}
 use Rattle.mapworld_progress.specs.Drains.{DrainsBy, HasTime, IsInTime}
 use Rattle.mapworld_progress.specs.Left.{left, most_left, visit_left, walk_left}
 use Rattle.mapworld_progress.specs.Sizes.{IsSized}

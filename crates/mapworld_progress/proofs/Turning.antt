@@ -3,21 +3,21 @@ use Rattle.std.proofs.Common.{◌≡◌, ℕ, ◌<◌, ◌≤◌, inl, inr, ◌|
 use Rattle.std.specs.Option.{option_and_then, option_map}
 use Rattle.std.proofs.lemmas.Bool.{false≢true}
 use Rattle.std.proofs.lemmas.Option.{none-some, slice_get_cases}
-use Rattle.parking_lot_world.proofs.WakesPaying.{any_may_be_stepped}
-use Rattle.parking_lot_world_calls.specs.declared.open_call.Call.{Call}
-use Rattle.parking_lot_world.specs.Machines.{can_move}
-use Rattle.parking_lot_world.specs.Machines as machine
-use Rattle.parking_lot_world.specs.Rows.{call_at, state}
-use Rattle.parking_lot_world.specs.Rows as rows
+use Rattle.parking_lot_machine.proofs.WakesPaying.{any_may_be_stepped}
+use Rattle.parking_lot_machine_calls.specs.declared.open_call.Call.{Call}
+use Rattle.parking_lot_machine.specs.Machines.{can_move}
+use Rattle.parking_lot_machine.specs.Machines as machine
+use Rattle.parking_lot_machine.specs.Rows.{call_at, state}
+use Rattle.parking_lot_machine.specs.Rows as rows
 use Rattle.mapworld_calls.specs.Setup.{Setup}
-use Rattle.mapworld_locks.specs.Stands.{Stand, stand_in, stand_of}
+use Rattle.mapworld_state.specs.Locks.Stands.{Stand, stand_in, stand_of}
 use Rattle.mapworld_state.specs.declared.place.Phase.{Phase}
 use Rattle.mapworld_state.specs.declared.place.Phase.TheVariants as phase
 use Rattle.mapworld_state.specs.Held.{HoldsMatch, StandsBefore}
 use Rattle.mapworld_state.specs.Places.{Place}
 use Rattle.mapworld_state.specs.Running.{can_move_in, moves_at, moves_before}
 use Rattle.mapworld_state.specs.State.{State}
-use Rattle.mapworld_sound.proofs.Holding.{stand-at}
+use Rattle.mapworld_invariant.proofs.Holding.{stand-at}
 use Rattle.mapworld_progress.specs.Left.{left}
 use Rattle.mapworld_progress.specs.Whole.{IsWhole}
 

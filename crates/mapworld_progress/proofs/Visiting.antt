@@ -10,7 +10,7 @@ use Rattle.mapworld_calls.specs.Pairs.{pair_of, AreDistinct}
 use Rattle.mapworld_calls.specs.Programs.{saturated}
 use Rattle.mapworld_calls.specs.Setup.{Setup, Laws}
 use Rattle.mapworld_calls.proofs.Lists.{slice_get-set_same}
-use Rattle.parking_lot_world.specs.Rows.{state}
+use Rattle.parking_lot_machine.specs.Rows.{state}
 use Rattle.mapworld_state.specs.declared.step.Step.{Step}
 use Rattle.mapworld_state.specs.declared.place.Phase.{Phase}
 use Rattle.mapworld_state.specs.declared.place.Phase.TheVariants as phase

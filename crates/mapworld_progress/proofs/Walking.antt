@@ -8,8 +8,8 @@ use Rattle.mapworld_calls.specs.declared.ask.Ask.TheVariants as ask
 use Rattle.mapworld_calls.specs.declared.ask.Walk.{Walk}
 use Rattle.mapworld_calls.specs.Programs.{stop_of}
 use Rattle.mapworld_calls.specs.Setup.{Setup, Laws}
-use Rattle.parking_lot_world.specs.Ranks.{cost, steps_left}
-use Rattle.parking_lot_world.specs.Rows.{state}
+use Rattle.parking_lot_machine.specs.Ranks.{cost, steps_left}
+use Rattle.parking_lot_machine.specs.Rows.{state}
 use Rattle.mapworld_state.specs.declared.step.Step.{Step}
 use Rattle.mapworld_state.specs.declared.place.Phase.{Phase}
 use Rattle.mapworld_state.specs.declared.place.Phase.TheVariants as phase

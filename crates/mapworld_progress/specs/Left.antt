@@ -1,8 +1,8 @@
 -- How many steps are left of a world where one thread is stepped until it can't move, and then another.
 use Rattle.std.specs.Prelude.{ℕ, suc, ◌+◌, ◌-◌, ◌*◌, Bool, not, List, [], length, drop, count_by, Option, Some, None, slice_get, sum_by}
-use Rattle.parking_lot_world.specs.Ranks.{steps_left}
-use Rattle.parking_lot_world.specs.Rows.{state}
-use Rattle.parking_lot_world.specs.SoundLaws.{most_steps}
+use Rattle.parking_lot_machine.specs.Ranks.{steps_left}
+use Rattle.parking_lot_machine.specs.Rows.{state}
+use Rattle.parking_lot_machine.specs.SoundLaws.{most_steps}
 use Rattle.mapworld_calls.specs.declared.ask.Ask.{Ask}
 use Rattle.mapworld_calls.specs.declared.ask.Ask.TheVariants as ask
 use Rattle.mapworld_calls.specs.declared.block.Block.{Block}

@@ -1,9 +1,9 @@
 -- A world whose calls are all answered.
 use Rattle.std.specs.Prelude.{◌≡◌, ℕ, [], None, Some, slice_get}
 use Rattle.lock_api_desk.specs.Desk.{DeskState}
-use Rattle.parking_lot_world.specs.Rows.{state, inside, queue_at}
-use Rattle.mapworld_locks.specs.Stands.{stand_in}
-use Rattle.mapworld_locks.specs.Views.{Shown, owner_in}
+use Rattle.parking_lot_machine.specs.Rows.{state, inside, queue_at}
+use Rattle.mapworld_state.specs.Locks.Stands.{stand_in}
+use Rattle.mapworld_state.specs.Locks.Views.{Shown, owner_in}
 use Rattle.mapworld_state.specs.declared.place.Phase.TheVariants as phase
 use Rattle.mapworld_state.specs.Footprint.{word_of}
 use Rattle.mapworld_state.specs.Places.{Place}

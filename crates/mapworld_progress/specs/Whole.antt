@@ -1,6 +1,6 @@
 -- What holds of a world at every moment.
 use Rattle.mapworld_calls.specs.Setup.{Setup}
-use Rattle.mapworld_locks.specs.Fits.{LocksFit}
+use Rattle.mapworld_state.specs.Locks.Fits.{LocksFit}
 use Rattle.mapworld_state.specs.Sound.{Sound}
 use Rattle.mapworld_state.specs.State.{State}
 use Rattle.mapworld_progress.specs.Sizes.{IsSized}

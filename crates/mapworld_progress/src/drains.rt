@@ -9,7 +9,7 @@ ghost use Rattle.mapworld_progress.specs.Rest.{IsAtRest};
 use mapworld_calls::Deed;
 use mapworld_state::{Core, Step};
 use mapworld_steps::advance;
-use parking_lot_world::laws;
+use parking_lot_machine::laws;
 use std::alloc::Allocator;
 use std::hash::{BuildHasher, Hash};
 

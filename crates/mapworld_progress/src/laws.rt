@@ -10,7 +10,7 @@ pub fn steps_fall<K, V, S, D, T, A>()
 pub fn steps_are_few<K, V, S, D, T, A>()
     ensures { StepsAreFew K V S D T A }
 {
-    parking_lot_world::laws::steps_are_few();
+    parking_lot_machine::laws::steps_are_few();
 }
 
 /// Where a thread can't move, any other may be stepped from there on, and no more steps are left.
@@ -27,12 +27,12 @@ pub fn walks_rise<K, V, S, D, T, A>()
 pub fn somebody_moves<K, V, S, D, T, A>()
     ensures { SomebodyMoves K V S D T A }
 {
-    parking_lot_world::laws::somebody_can_move();
+    parking_lot_machine::laws::somebody_can_move();
 }
 
 /// Where nobody can move, every call is answered, nobody holds anything or waits, no bit of a word is set, and no desk has a guard.
 pub fn ends_at_rest<K, V, S, D, T, A>()
     ensures { EndsAtRest K V S D T A }
 {
-    parking_lot_world::laws::somebody_can_move();
+    parking_lot_machine::laws::somebody_can_move();
 }

@@ -4,11 +4,11 @@
 
 ghost use Rattle.mapworld_report.specs.Report.{LeavesOnFault};
 
+use crate::callers::{CallersFault, gathered};
 use mapworld::{
     Answer, Ask, Begin, Deed, Held, Keyed, MapWorld, NoMemory, Reply, RunFault, SpreadState, Step,
     WorldNewFault,
 };
-use mapworld_callers::{CallersFault, gathered};
 use std::alloc::{AllocError, AllocFailed, Allocator, Global};
 use std::io;
 use std::sync::Wait;
@@ -226,3 +226,5 @@ fn tell_reply<A: Allocator>(
         Answer::NoMemory => writeln!(text, "no memory"),
     }
 }
+
+pub mod callers;

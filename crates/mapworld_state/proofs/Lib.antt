@@ -3,3 +3,4 @@ pub mod Tables
 pub mod HoldsTable
 pub mod Owning
 pub mod Views
+pub mod LocksFacts

@@ -10,8 +10,8 @@ use Rattle.mapworld_calls.specs.declared.ask.Ask.TheVariants as ask
 use Rattle.mapworld_calls.specs.declared.ask.Walk.{Walk}
 use Rattle.mapworld_calls.specs.Programs.{numbers_of}
 use Rattle.mapworld_calls.specs.Setup.{Setup}
-use Rattle.parking_lot_world.specs.Rows.{state}
-use Rattle.mapworld_locks.specs.Views.{Shown}
+use Rattle.parking_lot_machine.specs.Rows.{state}
+use Rattle.mapworld_state.specs.Locks.Views.{Shown}
 use Rattle.mapworld_state.specs.declared.holds.Hold.{Hold}
 use Rattle.mapworld_state.specs.declared.place.Phase.{Phase}
 use Rattle.mapworld_state.specs.declared.place.Phase.TheVariants as phase

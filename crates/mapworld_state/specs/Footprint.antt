@@ -1,9 +1,9 @@
 -- What one step reaches: the place of its thread, and at most one pair, one word or one queue.
 use Rattle.std.specs.Prelude.{◌≡◌, ◌≢◌, ℕ, ◌⊎◌, Bool, false, [], ◌∷◌, ◌++◌, slice_get}
-use Rattle.parking_lot_world.specs.Rows.{state, word_at, queue_at, first_key, second_key}
+use Rattle.parking_lot_machine.specs.Rows.{state, word_at, queue_at, first_key, second_key}
 use Rattle.mapworld_calls.specs.declared.reply.Reply.{Reply}
 use Rattle.mapworld_calls.specs.Pairs.{pair_of}
-use Rattle.mapworld_locks.specs.Views.{Shown}
+use Rattle.mapworld_state.specs.Locks.Views.{Shown}
 use Rattle.mapworld_state.specs.declared.step.Step.{Step}
 use Rattle.mapworld_state.specs.State.{State, pairs_of}
 

@@ -1,9 +1,9 @@
 -- Which threads hold shards, and what the shards' locks know of it.
 use Rattle.std.specs.Prelude.{◌≡◌, ◌≢◌, ℕ, ◌⊎◌, Bool, false, if◌then◌else◌, List, [], ◌∷◌, length, Option, Some, None, slice_get}
 use Rattle.lock_api_desk.specs.declared.mode.Mode.{Mode as DeskMode}
-use Rattle.mapworld_locks.specs.Aims.{Aim, Gets, GivesUp, Turns}
-use Rattle.mapworld_locks.specs.Views.{Shown, owner_in}
-use Rattle.mapworld_locks.specs.Stands.{Stand, stand_in}
+use Rattle.mapworld_state.specs.Locks.Aims.{Aim, Gets, GivesUp, Turns}
+use Rattle.mapworld_state.specs.Locks.Views.{Shown, owner_in}
+use Rattle.mapworld_state.specs.Locks.Stands.{Stand, stand_in}
 use Rattle.mapworld_state.specs.declared.holds.Mode.{Mode}
 use Rattle.mapworld_state.specs.declared.holds.Mode.TheVariants.{Shared}
 use Rattle.mapworld_state.specs.declared.holds.Hold.{Hold}

@@ -14,3 +14,5 @@ pub mod Route
 pub mod World
 pub mod Slots
 pub mod Core
+pub mod Faults
+pub mod Locks

@@ -1,11 +1,11 @@
 -- Which steps are refused, and what a run of steps leads to.
 use Rattle.std.specs.Prelude.{◌≡◌, ℕ, ◌+◌, ◌-◌, ◌*◌, ◌^◌, Bool, true, false, ◌||◌, is_none, if◌then◌else◌, nat_lt, nat_le, List, [], ◌∷◌, length, Option, Some, None, Result, Ok, Err, slice_get, sum_by, ◌==◌}
 use Rattle.mapworld_calls.specs.Setup.{Setup}
-use Rattle.parking_lot_world.specs.Rows.{state, call_at}
-use Rattle.parking_lot_world.specs.Machines.{can_move, is_asleep}
-use Rattle.mapworld_locks.specs.Views.{Shown}
-use Rattle.mapworld_faults.specs.declared.fault.RunFault.{RunFault}
-use Rattle.mapworld_faults.specs.declared.fault.RunFault.TheVariants as fault
+use Rattle.parking_lot_machine.specs.Rows.{state, call_at}
+use Rattle.parking_lot_machine.specs.Machines.{can_move, is_asleep}
+use Rattle.mapworld_state.specs.Locks.Views.{Shown}
+use Rattle.mapworld_state.specs.declared.faults.fault.RunFault.{RunFault}
+use Rattle.mapworld_state.specs.declared.faults.fault.RunFault.TheVariants as fault
 use Rattle.mapworld_state.specs.declared.step.Step.{Step}
 use Rattle.mapworld_state.specs.declared.step.Status.{Status}
 use Rattle.mapworld_state.specs.declared.step.Status.TheVariants as status
@@ -15,7 +15,7 @@ use Rattle.mapworld_state.specs.Classes.{class_of, status_in, moves_in}
 use Rattle.mapworld_state.specs.State.{State, pairs_of}
 use Rattle.mapworld_state.specs.Steps.{IsStep}
 use Rattle.mapworld_state.specs.Footprint.{HasFootprint}
-use Rattle.mapworld_faults.specs.Faults.{run_fault_done}
+use Rattle.mapworld_state.specs.Faults.Faults.{run_fault_done}
 
 -- how many calls aren't answered
 abbrev pub unanswered_of : {K V S D T A : Type 0} → State K V S D T A → ℕ

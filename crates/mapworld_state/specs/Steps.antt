@@ -28,10 +28,10 @@ use Rattle.mapworld_state.specs.declared.place.Phase.TheVariants as phase
 use Rattle.mapworld_state.specs.Places.{Place}
 use Rattle.parking_lot_protocol.specs.declared.act.CoreAnswer.{CoreAnswer}
 use Rattle.parking_lot_protocol.specs.declared.act.CoreAnswer.TheVariants as end
-use Rattle.parking_lot_world_calls.specs.declared.calls.LockCall.TheVariants as call
-use Rattle.mapworld_locks.specs.Views.{Shown}
-use Rattle.mapworld_locks.specs.Stands.{stand_in}
-use Rattle.mapworld_locks.specs.Steps.{LockBegins, LockMoves, LockStarts, LockEnds}
+use Rattle.parking_lot_machine_calls.specs.declared.calls.LockCall.TheVariants as call
+use Rattle.mapworld_state.specs.Locks.Views.{Shown}
+use Rattle.mapworld_state.specs.Locks.Stands.{stand_in}
+use Rattle.mapworld_state.specs.Locks.Steps.{LockBegins, LockMoves, LockStarts, LockEnds}
 use Rattle.mapworld_state.specs.Classes.{class_of, owes_in}
 use Rattle.mapworld_state.specs.Holds.{asks_for, wants_for, gives_up}
 use Rattle.mapworld_state.specs.Walks.{walk_mode, entered_phase, is_visited, all_visited, looked_keys, looked_count, IsLookedAt, IsItemOf, walk_ends, LeadsOn}

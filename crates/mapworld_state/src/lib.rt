@@ -3,7 +3,9 @@
 //! The definitions of its steps, of what holds between two steps and of what runs promise stand in `specs/`.
 #![tactic(auto)]
 
+pub mod faults;
 mod holds;
+pub mod locks;
 mod place;
 mod step;
 mod world_core;

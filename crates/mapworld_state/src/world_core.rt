@@ -1,10 +1,10 @@
 //! What the code keeps of a world.
 
+use crate::locks::ShardLocks;
 use crate::place::Place;
 use crate::step::Step;
 use dashmap_table::Shard;
 use mapworld_calls::{Ask, Block, Reply};
-use mapworld_locks::ShardLocks;
 use past::Past;
 use std::alloc::Allocator;
 use std::hash::Hash;

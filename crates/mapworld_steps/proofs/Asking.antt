@@ -5,10 +5,10 @@ use Rattle.std.proofs.lemmas.Bool.{false≢true}
 use Rattle.dashmap_table.proofs.Cases.{option_cases}
 use Rattle.parking_lot_protocol.specs.declared.act.CoreAnswer.{CoreAnswer}
 use Rattle.parking_lot_protocol.specs.declared.act.CoreAnswer.TheVariants.{Owned, Refused}
-use Rattle.parking_lot_world_calls.specs.declared.calls.LockCall.TheVariants as call
-use Rattle.mapworld_locks.specs.Views.{Shown, owner_in}
-use Rattle.mapworld_locks.specs.Stands.{Stand, stand_in, is_of_shards, needs, gives}
-use Rattle.mapworld_locks.specs.Steps.{MayAsk}
+use Rattle.parking_lot_machine_calls.specs.declared.calls.LockCall.TheVariants as call
+use Rattle.mapworld_state.specs.Locks.Views.{Shown, owner_in}
+use Rattle.mapworld_state.specs.Locks.Stands.{Stand, stand_in, is_of_shards, needs, gives}
+use Rattle.mapworld_state.specs.Locks.Steps.{MayAsk}
 use Rattle.mapworld_state.specs.declared.holds.Mode.{Mode}
 use Rattle.mapworld_state.specs.declared.holds.Mode.TheVariants.{Shared, Exclusive}
 use Rattle.mapworld_state.specs.declared.holds.Hold.{Hold}
@@ -22,7 +22,7 @@ use Rattle.mapworld_state.specs.Moves.{mode_of, request_tries}
 use Rattle.mapworld_state.specs.Walks.{walk_mode}
 use Rattle.mapworld_state.specs.Steps.{EntersBy}
 use Rattle.mapworld_state.proofs.HoldsTable.{none-there}
-use Rattle.mapworld_locks.proofs.Sizes.{KeepsSize, same_size, begins-size}
+use Rattle.mapworld_state.proofs.LocksFacts.Sizes.{KeepsSize, same_size, begins-size}
 
 -- what is asked of a lock, and what it needs
 asked-needs : (tries : Bool) (mode : Mode) → (is_of_shards (wants_for tries mode) ≡ true) × (needs (wants_for tries mode) ≡ None)

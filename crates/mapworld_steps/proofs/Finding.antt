@@ -13,9 +13,9 @@ use Rattle.mapworld_calls.specs.Programs.{key_of, keyed_key, opening_key}
 use Rattle.mapworld_calls.specs.Setup.{Setup, ask_at}
 use Rattle.mapworld_calls.specs.Replay.{block_key}
 use Rattle.mapworld_calls.proofs.Lists.{slice_get-push_at}
-use Rattle.mapworld_moves.specs.declared.blocks.Started.{Started}
-use Rattle.mapworld_moves.specs.Listing.{AddsBlock}
-use Rattle.mapworld_moves.proofs.Slots.{slot-lent, slot-unlent}
+use Rattle.mapworld_transitions.specs.declared.blocks.Started.{Started}
+use Rattle.mapworld_transitions.specs.Listing.{AddsBlock}
+use Rattle.mapworld_transitions.proofs.Slots.{slot-lent, slot-unlent}
 use Rattle.mapworld_state.specs.declared.place.Growth.{Growth}
 use Rattle.mapworld_state.specs.declared.place.Growth.TheVariants as growth
 use Rattle.mapworld_state.specs.declared.place.Guard.{Guard}

@@ -10,7 +10,7 @@ use Rattle.mapworld_state.specs.declared.place.Place.{Place as KeptPlace}
 use Rattle.mapworld_state.specs.Places.{Place, place_of}
 use Rattle.mapworld_state.specs.Core.{IsBefore}
 use Rattle.mapworld_state.proofs.Views.{view-at, view-from}
-use Rattle.mapworld_moves.proofs.Facts.{read_at}
+use Rattle.mapworld_transitions.proofs.Facts.{read_at}
 
 -- a thread that stands before a phase
 module _ {K V D T A : Type 0} (places : List (KeptPlace K V D T A)) {t : ℕ} {ph : Phase K V D T A} (b : IsBefore (map place_of places) t ph) (r : KeptPlace K V D T A) (read : r ≡ get_or places t r) where

@@ -21,7 +21,7 @@ use Rattle.mapworld_state.specs.Moves.{stops_at}
 use Rattle.mapworld_state.specs.Shards.{ShardPairs}
 use Rattle.mapworld_state.specs.Walks.{gives_items, is_visited, entered_phase, IsLookedAt, IsTold}
 use Rattle.mapworld_calls.proofs.Lists.{slice_get-push_at}
-use Rattle.mapworld_moves.proofs.Visits.{full-has, left-from}
+use Rattle.mapworld_transitions.proofs.Visits.{full-has, left-from}
 use Rattle.mapworld_state.specs.Slots.{phase_key, FitsReads, IsNextSlot, SlotIsNext}
 use Rattle.mapworld_state.specs.Core.{owes, adds, lists, walk_lists, phase_lists, IsBefore}
 use Rattle.mapworld_state.proofs.HoldsTable.{none-there, only-first}

@@ -3,10 +3,10 @@ use Rattle.std.proofs.Common.{◌≡◌, ℕ, zero, suc, ◌<◌, ◌==◌, Bool
 use Rattle.std.specs.Option.{option_map}
 use Rattle.std.proofs.lemmas.Bool.{false≢true}
 use Rattle.std.proofs.lemmas.Option.{same_Some}
-use Rattle.parking_lot_world.specs.Rows.{state, call_at}
-use Rattle.parking_lot_world.specs.Machines.{can_move}
-use Rattle.mapworld_locks.specs.Views.{Shown}
-use Rattle.mapworld_locks.specs.Stands.{Stand, stand_in, stand_of}
+use Rattle.parking_lot_machine.specs.Rows.{state, call_at}
+use Rattle.parking_lot_machine.specs.Machines.{can_move}
+use Rattle.mapworld_state.specs.Locks.Views.{Shown}
+use Rattle.mapworld_state.specs.Locks.Stands.{Stand, stand_in, stand_of}
 use Rattle.mapworld_state.specs.declared.place.Phase.{Phase}
 use Rattle.mapworld_state.specs.declared.place.Phase.TheVariants as phase
 use Rattle.mapworld_state.specs.Places.{Place}

@@ -29,9 +29,9 @@ use Rattle.mapworld_state.specs.Slots.{phase_key, SlotIsNext, HasSlots}
 use Rattle.mapworld_state.specs.Classes.{class_of, walks_in}
 use Rattle.mapworld_state.specs.Core.{state_of, is_walk}
 use Rattle.mapworld_state.proofs.Views.{view-at}
-use Rattle.mapworld_moves.proofs.Facts.{claim_at}
-use Rattle.mapworld_moves.proofs.Slots.{KeepsCalls, slots-same_free, slots-kept}
-use Rattle.mapworld_moves.proofs.Walking.{walking, or-left}
+use Rattle.mapworld_transitions.proofs.Facts.{claim_at}
+use Rattle.mapworld_transitions.proofs.Slots.{KeepsCalls, slots-same_free, slots-kept}
+use Rattle.mapworld_transitions.proofs.Walking.{walking, or-left}
 
 -- a thread is to be admitted to its shard
 abbrev pub waits : {K V D T A : Type 0} → Phase K V D T A → Bool

@@ -1,6 +1,6 @@
 //! The steps that end a hold and a call.
 ghost use Rattle.std.specs.Prelude.{◌≡◌, ◌+◌, ◌<◌, ◌^◌, [], ◌∷◌, true, if◌then◌else◌, vec_capacity};
-ghost use Rattle.mapworld_locks.specs.Stands.{stand_in};
+ghost use Rattle.mapworld_state.specs.Locks.Stands.{stand_in};
 ghost use Rattle.mapworld_state.specs.declared.place.Phase.TheVariants as phase;
 ghost use Rattle.mapworld_state.specs.Running.{has_next};
 ghost use Rattle.mapworld_state.specs.Core.{state_of, Room, IsBefore, IsSoundCore, IsSlotted, MakesStep};
@@ -8,11 +8,11 @@ ghost use Rattle.mapworld_state.specs.Steps.{Downgrades, Releases, Answers};
 
 use arrayvec::ArrayVec;
 use mapworld_calls::{Answer, Deed, Reply};
-use mapworld_moves::blocks::{count_in, end_call};
-use mapworld_moves::holds::gives_up;
-use mapworld_moves::moves::{enter, release_counts};
 use mapworld_state::{Core, Guard, Hold, Mode, Phase, Place, Step, Way};
-use parking_lot_world::LockCall;
+use mapworld_transitions::blocks::{count_in, end_call};
+use mapworld_transitions::holds::gives_up;
+use mapworld_transitions::moves::{enter, release_counts};
+use parking_lot_machine::LockCall;
 use std::alloc::Allocator;
 use std::hash::{BuildHasher, Hash};
 use std::mem;

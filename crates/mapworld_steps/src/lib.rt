@@ -10,6 +10,6 @@ mod starts;
 mod walking;
 mod walks;
 
-pub use mapworld_moves::{is_world_amount, shard_of};
+pub use mapworld_transitions::{is_world_amount, shard_of};
 pub use one_step::advance;
 pub use standing::{can_move, status};

@@ -6,10 +6,12 @@ ghost use Rattle.mapworld_state.specs.Core.{state_of, Room, IsBefore, IsSoundCor
 ghost use Rattle.mapworld_state.specs.Steps.{Finds, Grows};
 
 use mapworld_calls::{Answer, Deed};
-use mapworld_moves::blocks::{Started, list_block};
-use mapworld_moves::moves::{block_behind, enter, found, found_done, request_key, request_of};
-use mapworld_moves::pairs::{self, find_pair, has_room};
 use mapworld_state::{Core, Phase, Step};
+use mapworld_transitions::blocks::{Started, list_block};
+use mapworld_transitions::moves::{
+    block_behind, enter, found, found_done, request_key, request_of,
+};
+use mapworld_transitions::pairs::{self, find_pair, has_room};
 use std::alloc::Allocator;
 use std::hash::{BuildHasher, Hash};
 use std::mem;

@@ -12,7 +12,7 @@ use crate::starts::start;
 use crate::walking::{idle, onward, reach, visit};
 use crate::walks::{give, part, seek};
 use mapworld_calls::Deed;
-use mapworld_deeds::{append, apply, change, fill, item, read, view};
+use mapworld_effects::{append, apply, change, fill, item, read, view};
 use mapworld_state::{Core, Phase, Step};
 use std::alloc::Allocator;
 use std::hash::{BuildHasher, Hash};

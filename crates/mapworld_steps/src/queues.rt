@@ -1,9 +1,9 @@
 //! The steps at a shard's lock, and what ends them.
 ghost use Rattle.std.specs.Prelude.{◌≡◌, ◌≢◌, true, Some, None, is_some, slice_get};
-ghost use Rattle.parking_lot_world.specs.Machines.{can_move, ended};
-ghost use Rattle.parking_lot_world.specs.Rows.{state};
+ghost use Rattle.parking_lot_machine.specs.Machines.{can_move, ended};
+ghost use Rattle.parking_lot_machine.specs.Rows.{state};
 ghost use Rattle.parking_lot_protocol.specs.declared.act.CoreAnswer.TheVariants.{Refused};
-ghost use Rattle.mapworld_locks.specs.Stands.{stand_in};
+ghost use Rattle.mapworld_state.specs.Locks.Stands.{stand_in};
 ghost use Rattle.mapworld_state.specs.declared.place.Phase.TheVariants as phase;
 ghost use Rattle.mapworld_state.specs.Running.{has_next, goes_on};
 ghost use Rattle.mapworld_state.specs.Core.{state_of, Room, IsBefore, IsSoundCore, IsSlotted, MakesStep};
@@ -13,8 +13,8 @@ ghost use Rattle.mapworld_state.specs.Steps.{Enters, IsLocked, Leaves, MovesLock
 use crate::ends::answer;
 use crate::looks::find;
 use mapworld_calls::{Answer, Deed};
-use mapworld_moves::moves::{enter, mode_of};
 use mapworld_state::{Core, Hold, Phase, Step};
+use mapworld_transitions::moves::{enter, mode_of};
 use parking_lot_protocol::CoreAnswer;
 use std::alloc::Allocator;
 use std::hash::{BuildHasher, Hash};

@@ -3,7 +3,7 @@ ghost use Rattle.std.specs.Prelude.{◌≡◌, length};
 ghost use Rattle.mapworld_state.specs.Running.{status_before, status_of, moves_before, can_move_in};
 ghost use Rattle.mapworld_state.specs.Core.{state_of};
 
-use mapworld_locks::ShardLocks;
+use mapworld_state::locks::ShardLocks;
 use mapworld_state::{Core, Phase, Place, Status};
 use std::alloc::Allocator;
 use std::hash::Hash;

@@ -1,6 +1,6 @@
 //! The starts of calls.
 ghost use Rattle.std.specs.Prelude.{◌≡◌, ◌<◌, true, length, slice_get};
-ghost use Rattle.mapworld_locks.specs.Steps.{MayAsk};
+ghost use Rattle.mapworld_state.specs.Locks.Steps.{MayAsk};
 ghost use Rattle.mapworld_state.specs.declared.place.Phase.TheVariants as phase;
 ghost use Rattle.mapworld_state.specs.Holds.{asks_for, wants_for};
 ghost use Rattle.mapworld_state.specs.Moves.{mode_of, request_tries};
@@ -10,14 +10,14 @@ ghost use Rattle.mapworld_state.specs.Core.{state_of, Room, IsBefore, IsSoundCor
 ghost use Rattle.mapworld_state.specs.Steps.{EntersBy, Starts};
 
 use mapworld_calls::Deed;
-use mapworld_locks::ShardLocks;
-use mapworld_moves::blocks::count_in;
-use mapworld_moves::holds::{asks_for, wants_for};
-use mapworld_moves::moves::{
+use mapworld_state::locks::ShardLocks;
+use mapworld_state::{Core, Phase, Step};
+use mapworld_transitions::blocks::count_in;
+use mapworld_transitions::holds::{asks_for, wants_for};
+use mapworld_transitions::moves::{
     enter, is_last, mode_of, request_tries, start_call, start_counts, start_shard,
 };
-use mapworld_moves::walks::walk_mode;
-use mapworld_state::{Core, Phase, Step};
+use mapworld_transitions::walks::walk_mode;
 use std::alloc::Allocator;
 use std::hash::{BuildHasher, Hash};
 use std::mem;

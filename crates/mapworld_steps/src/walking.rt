@@ -1,8 +1,8 @@
 //! The steps of walks that wait for a shard's lock, or owe something to one.
 ghost use Rattle.std.specs.Prelude.{◌≡◌, true, None, MatchBool, is_some};
-ghost use Rattle.parking_lot_world.specs.Machines.{can_move, ended};
-ghost use Rattle.parking_lot_world.specs.Rows.{state};
-ghost use Rattle.mapworld_locks.specs.Stands.{stand_in};
+ghost use Rattle.parking_lot_machine.specs.Machines.{can_move, ended};
+ghost use Rattle.parking_lot_machine.specs.Rows.{state};
+ghost use Rattle.mapworld_state.specs.Locks.Stands.{stand_in};
 ghost use Rattle.mapworld_state.specs.declared.place.Phase.TheVariants as phase;
 ghost use Rattle.mapworld_state.specs.Running.{has_next, goes_on};
 ghost use Rattle.mapworld_state.specs.Core.{state_of, Room, IsBefore, IsSoundCore, IsSlotted, MakesStep};
@@ -12,9 +12,9 @@ use crate::ends::answer;
 use crate::queues::{leave_lock, move_lock};
 use crate::walks::{look, part, start_visit};
 use mapworld_calls::Deed;
-use mapworld_moves::moves::enter;
-use mapworld_moves::walks::{entered_phase, walk_answer, walk_mode};
 use mapworld_state::{Core, Hold, Phase, Step};
+use mapworld_transitions::moves::enter;
+use mapworld_transitions::walks::{entered_phase, walk_answer, walk_mode};
 use std::alloc::Allocator;
 use std::hash::{BuildHasher, Hash};
 use std::mem;

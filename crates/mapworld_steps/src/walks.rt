@@ -1,7 +1,7 @@
 //! The steps of walks between their shards and within them, but for the deeds.
 ghost use Rattle.std.specs.Prelude.{◌≡◌, true, None, ◌∷◌};
-ghost use Rattle.mapworld_locks.specs.Steps.{LockStarts, MayAsk};
-ghost use Rattle.mapworld_locks.specs.Stands.{stand_in};
+ghost use Rattle.mapworld_state.specs.Locks.Steps.{LockStarts, MayAsk};
+ghost use Rattle.mapworld_state.specs.Locks.Stands.{stand_in};
 ghost use Rattle.mapworld_state.specs.declared.place.Phase.TheVariants as phase;
 ghost use Rattle.mapworld_state.specs.Holds.{gives_up};
 ghost use Rattle.mapworld_state.specs.Running.{has_next};
@@ -12,14 +12,14 @@ ghost use Rattle.mapworld_steps.specs.Visits.{LooksOrIsRefused, Gives, PartsOnly
 use crate::ends::take_first;
 use arrayvec::ArrayVec;
 use mapworld_calls::{Answer, Deed};
-use mapworld_locks::ShardLocks;
-use mapworld_moves::blocks::{Started, list_visit};
-use mapworld_moves::holds::{asks_for, gives_up};
-use mapworld_moves::moves::enter;
-use mapworld_moves::walks::{
+use mapworld_state::locks::ShardLocks;
+use mapworld_state::{Core, Hold, Phase, Step};
+use mapworld_transitions::blocks::{Started, list_visit};
+use mapworld_transitions::holds::{asks_for, gives_up};
+use mapworld_transitions::moves::enter;
+use mapworld_transitions::walks::{
     first_slot, lead_on, looked_count, looked_keys, make_ready, walk_mode,
 };
-use mapworld_state::{Core, Hold, Phase, Step};
 use std::alloc::Allocator;
 use std::hash::{BuildHasher, Hash};
 use std::mem;

@@ -1,9 +1,9 @@
 //! What no clause says: that the definitions of the programs and of the hash are the ones meant, the printed text, and
 //! that blocks are compared by what they show.
 
+use dashmap_table::{SpreadState, spread_hash};
 use mapworld_calls::{
-    Answer, Ask, Begin, Block, Held, Keyed, Reply, SpreadState, guard_numbers, holds_one_guard,
-    spread_hash,
+    Answer, Ask, Begin, Block, Held, Keyed, Reply, guard_numbers, holds_one_guard,
 };
 use past::Past;
 use std::alloc::Global;

@@ -2,7 +2,7 @@
 //! threads, and that the counter of the docs counts.
 
 use past::Past;
-use past_example::{Counter, three_steps};
+use past::example::{Counter, three_steps};
 
 fn is_send_and_sync<T: Send + Sync + Drop>(_value: T) {}
 

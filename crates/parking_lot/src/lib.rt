@@ -1,6 +1,6 @@
 //! The locks for real threads: raw locks on the rows of a lock table, and the generic locks of `lock_api` over them.
 //!
-//! The raw locks and the table are those of `parking_lot_locks`. Nothing is promised of a word, nor that a call comes back: what
+//! The raw locks and the table are those of `parking_lot_mutex` and `parking_lot_rwlock`. Nothing is promised of a word, nor that a call comes back: what
 //! keeps two writers from one value is the std lock in which a generic lock keeps it.
 //!
 //! A [`Once`] of `parking_lot_once` runs one closure once.
@@ -29,18 +29,19 @@ pub use names::{
     RecursiveRwLockWriteGuard, ReentrantMutex, ReentrantMutexGuard, RwLock, RwLockReadGuard,
     RwLockUpgradableReadGuard, RwLockWriteGuard,
 };
-pub use parking_lot_condvar::RawCondvar;
-pub use parking_lot_locks::{
-    Act, ActResult, CoreAnswer, LockTable, MutexCore, RawFairMutex, RawMutex, RawRwLock,
-    RawThreadId, Row, RwCore, SectionAct, WordChange, laws, to_deadline, wake_sum,
+pub use parking_lot_mutex::condvar::RawCondvar;
+pub use parking_lot_mutex::{
+    Act, ActResult, CoreAnswer, LockTable, MutexCore, RawFairMutex, RawMutex, RawThreadId, Row,
+    SectionAct, WordChange, laws, to_deadline, wake_sum,
 };
 pub use parking_lot_once::{Once, OnceCore, OnceFault, OnceState, Poisoned};
-pub use parking_lot_rw_timed::TimedRwCore;
-pub use parking_lot_timed::{TimedAct, TimedMutexCore, TimedSeen};
-pub use parking_lot_upgrades::UpgradeCore;
-pub use parking_lot_waits::{
+pub use parking_lot_protocol::timed::{TimedAct, TimedMutexCore, TimedSeen};
+pub use parking_lot_protocol_rw::UpgradeCore;
+pub use parking_lot_protocol_rw::timed::TimedRwCore;
+pub use parking_lot_protocol_waits::{
     NotifyAct, NotifyCore, NotifySeen, WaitAct, WaitAnswer, WaitCore, WaitSeen,
 };
-pub use parking_lot_worlds::{
+pub use parking_lot_rwlock::{RawRwLock, RwCore, laws as rw_laws};
+pub use parking_lot_world::{
     LockAnswer, LockCall, LockKind, OwnMode, World, WorldFault, WorldRefusal, WorldStep,
 };

@@ -1,10 +1,11 @@
-//! The generic locks of `lock_api` over the raw locks of `parking_lot_locks`, under their usual names.
+//! The generic locks of `lock_api` over the raw locks of `parking_lot_mutex` and `parking_lot_rwlock`, under their usual names.
 //!
 //! Of each, `T` is the type of the value, `R` the lot's runtime and `A` the lot's allocator; a guard's first lifetime is that of
 //! the lock, and the others are those of the lock table and of the lot.
 
-use parking_lot_condvar::RawCondvar;
-use parking_lot_locks::{RawFairMutex, RawMutex, RawRwLock, RawThreadId};
+use parking_lot_mutex::condvar::RawCondvar;
+use parking_lot_mutex::{RawFairMutex, RawMutex, RawThreadId};
+use parking_lot_rwlock::RawRwLock;
 use std::alloc::Global;
 
 /// A mutex and a value.

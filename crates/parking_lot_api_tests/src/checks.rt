@@ -5,7 +5,8 @@ use lock_api_raw::{
     GetThreadId, MakeLock, RawMutexFair, RawMutexTimed, RawRwLockDowngrade, RawRwLockFair,
 };
 use parking_lot_core::ParkingLot;
-use parking_lot_locks::{LockTable, RawFairMutex, RawMutex, RawRwLock, RawThreadId};
+use parking_lot_mutex::{RawFairMutex, RawMutex, RawThreadId};
+use parking_lot_rwlock::{LockTable, RawRwLock};
 use std::alloc::Global;
 use std::sync::Wait;
 use std::test::Fail;

@@ -2,7 +2,7 @@
 
 use lock_api::{ArcMutexGuard, Mutex, NoMemory, ReadersFull, ReentrantMutex, ReentrantMutexGuard};
 use parking_lot_core::{ParkingLot, ThreadData};
-use parking_lot_locks::{LockTable, RawMutex, RawThreadId};
+use parking_lot_mutex::{LockTable, RawMutex, RawThreadId};
 use std::alloc::Global;
 use std::sync::{Arc, Wait};
 use std::test::Fail;

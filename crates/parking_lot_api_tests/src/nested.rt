@@ -2,7 +2,7 @@
 
 use lock_api::ReentrantMutex;
 use parking_lot_core::{ParkingLot, ThreadData};
-use parking_lot_locks::{LockTable, RawMutex, RawThreadId};
+use parking_lot_mutex::{LockTable, RawMutex, RawThreadId};
 use std::sync::Wait;
 use std::sync::atomic::{AtomicU64, Ordering};
 use std::test::Fail;

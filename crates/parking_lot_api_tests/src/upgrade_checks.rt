@@ -1,12 +1,12 @@
 //! Each check of upgradable guards, and of waits that give up, over the running lock.
 
+use lock_api_checks::upgrades::{rwlock_timed_checks, upgradable_arc_checks, upgradable_checks};
 use lock_api_raw::{
     MakeLock, RawRwLockTimed, RawRwLockUpgradeDowngrade, RawRwLockUpgradeFair,
     RawRwLockUpgradeTimed,
 };
-use lock_api_upgrade_checks::{rwlock_timed_checks, upgradable_arc_checks, upgradable_checks};
 use parking_lot_core::ParkingLot;
-use parking_lot_locks::{LockTable, RawRwLock};
+use parking_lot_rwlock::{LockTable, RawRwLock};
 use std::alloc::Global;
 use std::sync::Wait;
 use std::test::Fail;

@@ -3,7 +3,7 @@ ghost use Rattle.std.specs.Prelude.{◌≤◌, IfOk};
 
 use crate::fault::Fault;
 use lock_api::{Mutex, RwLock, RwLockReadGuard, RwLockWriteGuard, TableFull};
-use lock_api_packed::{First, PackedLock, PackedMutex};
+use lock_api_spin::{First, PackedLock, PackedMutex};
 use std::alloc::Global;
 use std::sync;
 use std::sync::Wait;

@@ -7,7 +7,7 @@ use lock_api_raw::{
     MakeLock as _, RawMutex, RawRwLock as _, RawRwLockTimed as _, RawRwLockUpgrade as _,
 };
 use parking_lot_core::{ParkingLot, ThreadData};
-use parking_lot_locks::{LockTable, RawRwLock};
+use parking_lot_rwlock::{LockTable, RawRwLock};
 use std::alloc::Global;
 use std::sync;
 use std::sync::Wait;
@@ -104,7 +104,7 @@ pub fn pairs_of<R: Wait + Clock + Copy + Drop>(
     let mut me = lot.thread_data()?;
     match pair {
         Pair::Mutex => by_mutex(
-            &parking_lot_locks::RawMutex::new(&table, 1)?,
+            &parking_lot_mutex::RawMutex::new(&table, 1)?,
             &mut me,
             pairs,
         ),
@@ -120,7 +120,7 @@ pub fn pairs_of<R: Wait + Clock + Copy + Drop>(
             let moment = Instant::now(&rt)?;
             writes_in_time(&rt, &RawRwLock::new(&table, 100)?, moment, &mut me, pairs);
         }
-        Pair::Guard => by_guard::<parking_lot_locks::RawMutex<R>>(
+        Pair::Guard => by_guard::<parking_lot_mutex::RawMutex<R>>(
             &Mutex::new(&table, 0)?,
             &mut me,
             pairs,
@@ -136,7 +136,7 @@ pub fn pairs_of<R: Wait + Clock + Copy + Drop>(
 
 #[inline(never)]
 fn by_mutex<R: Wait>(
-    mutex: &parking_lot_locks::RawMutex<'_, '_, R>,
+    mutex: &parking_lot_mutex::RawMutex<'_, '_, R>,
     me: &mut ThreadData,
     pairs: u32,
 ) {

@@ -1,7 +1,7 @@
 //! Calls of a condition variable, told what they see.
 
 use parking_lot_core::{RequeueOp, UnparkToken};
-use parking_lot_waits::{
+use parking_lot_protocol_waits::{
     NotifyAct, NotifyCore, NotifySeen, WaitAct, WaitAnswer, WaitCore, WaitSeen,
 };
 use std::process::Abort;

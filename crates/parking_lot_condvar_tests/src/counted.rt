@@ -1,9 +1,9 @@
 //! A hundred thousand notifications between four threads, of which none may be lost: else a thread waits for ever.
 
 use lock_api::{Condvar, Mutex, TableFull};
-use parking_lot_condvar::RawCondvar;
 use parking_lot_core::ParkingLot;
-use parking_lot_locks::{LockTable, RawMutex};
+use parking_lot_mutex::condvar::RawCondvar;
+use parking_lot_mutex::{LockTable, RawMutex};
 use std::sync::Wait;
 use std::test::Fail;
 use std::thread;

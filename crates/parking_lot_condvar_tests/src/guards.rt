@@ -4,9 +4,9 @@ ghost use Rattle.std.specs.Sync.Mutex.{mutex_guard_value};
 
 use crate::lots::{two_lots, two_tables};
 use lock_api::{Condvar, Mutex, MutexGuard, WaitFault};
-use parking_lot_condvar::RawCondvar;
 use parking_lot_core::{ParkingLot, ThreadData};
-use parking_lot_locks::{LockTable, RawFairMutex, RawMutex};
+use parking_lot_mutex::condvar::RawCondvar;
+use parking_lot_mutex::{LockTable, RawFairMutex, RawMutex};
 use std::alloc::Global;
 use std::fmt::Debug;
 use std::sync::Wait;

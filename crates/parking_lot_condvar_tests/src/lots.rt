@@ -1,9 +1,9 @@
 //! What the tests stand on: a condition variable with its mutexes, which threads are lent together, and two lots with a table on each.
 
 use lock_api_raw::{MakeCondvar as _, MakeLock as _, TableFull};
-use parking_lot_condvar::RawCondvar;
 use parking_lot_core::ParkingLot;
-use parking_lot_locks::{LockTable, RawMutex};
+use parking_lot_mutex::condvar::RawCondvar;
+use parking_lot_mutex::{LockTable, RawMutex};
 use std::alloc::Global;
 use std::test::Fail;
 

@@ -3,7 +3,7 @@
 use crate::shared::{Number, Shared};
 use lock_api::{MutexGuard, WaitFault, WaitTimeoutResult};
 use parking_lot_core::{ParkingLot, ThreadData};
-use parking_lot_locks::{LockTable, RawMutex};
+use parking_lot_mutex::{LockTable, RawMutex};
 use std::sync::Wait;
 use std::test::Fail;
 use std::thread;

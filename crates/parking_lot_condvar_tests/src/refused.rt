@@ -5,9 +5,9 @@ use crate::words::{are_words, has_come};
 use lock_api_raw::{
     MakeCondvar as _, MakeLock as _, RawCondvar as _, RawMutex as _, TableFull, WaitFault,
 };
-use parking_lot_condvar::RawCondvar;
 use parking_lot_core::ThreadData;
-use parking_lot_locks::RawMutex;
+use parking_lot_mutex::RawMutex;
+use parking_lot_mutex::condvar::RawCondvar;
 use std::sync::Wait;
 use std::test::Fail;
 use std::thread;

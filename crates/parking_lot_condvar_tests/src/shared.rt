@@ -2,9 +2,9 @@
 
 use crate::words::are_counted;
 use lock_api::{Condvar, Mutex, TableFull};
-use parking_lot_condvar::RawCondvar;
 use parking_lot_core::ThreadData;
-use parking_lot_locks::{LockTable, RawMutex};
+use parking_lot_mutex::condvar::RawCondvar;
+use parking_lot_mutex::{LockTable, RawMutex};
 use std::sync::Wait;
 use std::sync::atomic::{AtomicU64, Ordering};
 use std::time::Clock;

@@ -4,9 +4,9 @@ use crate::words::are_words;
 use lock_api_raw::{
     MakeCondvar as _, MakeLock as _, RawCondvar as _, RawCondvarTimed, RawMutex as _,
 };
-use parking_lot_condvar::RawCondvar;
 use parking_lot_core::ParkingLot;
-use parking_lot_locks::{LockTable, RawMutex};
+use parking_lot_mutex::condvar::RawCondvar;
+use parking_lot_mutex::{LockTable, RawMutex};
 use std::test::Fail;
 use std::time::{Duration, Instant};
 

@@ -3,9 +3,9 @@
 use crate::lots::Pair;
 use crate::words::{are_counted, are_words};
 use lock_api_raw::{MakeCondvar as _, RawCondvar as _, RawMutex as _};
-use parking_lot_condvar::RawCondvar;
 use parking_lot_core::{ParkingLot, ThreadData};
-use parking_lot_locks::LockTable;
+use parking_lot_mutex::LockTable;
+use parking_lot_mutex::condvar::RawCondvar;
 use std::sync::Wait;
 use std::sync::atomic::{AtomicU64, Ordering};
 use std::test::Fail;

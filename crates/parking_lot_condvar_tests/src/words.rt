@@ -1,6 +1,6 @@
 //! Looks at the words of a table.
 
-use parking_lot_locks::LockTable;
+use parking_lot_mutex::LockTable;
 use std::sync::atomic::{AtomicU64, Ordering};
 use std::thread;
 use std::time::{Clock, Duration};

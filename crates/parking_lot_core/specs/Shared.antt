@@ -1,21 +1,21 @@
 -- What calls on the lot for threads say, where the lock alone knows the lot.
 use Rattle.std.specs.Prelude.{◌≡◌, ◌⊎◌, ℕ, nat_lt, Bool, true, false, if◌then◌else◌, MatchBool, List, [], length, Option, Some, Result, Ok}
 use Rattle.std.specs.Option.{option_map_or}
-use Rattle.parking_lot_core_lot.specs.declared.fault.LotFault.{LotFault}
-use Rattle.parking_lot_core_lot.specs.declared.fault.LotFault.TheVariants.{TooManyThreads, NoMemory}
-use Rattle.parking_lot_core_lot.specs.declared.parking.ParkToken.{ParkToken}
-use Rattle.parking_lot_core_lot.specs.declared.parking.UnparkToken.{UnparkToken}
-use Rattle.parking_lot_core_lot.specs.declared.parking.UnparkResult.{UnparkResult}
-use Rattle.parking_lot_core_lot.specs.declared.parking.RequeueOp.{RequeueOp}
-use Rattle.parking_lot_core_lot.specs.declared.parking.FilterOp.{FilterOp}
-use Rattle.parking_lot_core_lot.specs.declared.place.Place.{Place}
-use Rattle.parking_lot_core_lot.specs.declared.place.Place.TheVariants.{Running, Waiting, Held, Taken}
-use Rattle.parking_lot_core_lot.specs.declared.place.Waiter.{Waiter}
-use Rattle.parking_lot_core_lot.specs.Results.{Answers, is_stop, is_left, unpark_result, chosen_by, passed_by}
-use Rattle.parking_lot_core_lot.specs.Machine.{Machine, free_number, register_fault, tokens_of}
-use Rattle.parking_lot_core_lot.specs.Operations.{is_abort}
-use Rattle.parking_lot_core_lot.specs.Places.{place_at, is_waiting}
-use Rattle.parking_lot_core_lot.specs.Sound.{Sound}
+use Rattle.parking_lot_core_model.specs.declared.fault.LotFault.{LotFault}
+use Rattle.parking_lot_core_model.specs.declared.fault.LotFault.TheVariants.{TooManyThreads, NoMemory}
+use Rattle.parking_lot_core_model.specs.declared.parking.ParkToken.{ParkToken}
+use Rattle.parking_lot_core_model.specs.declared.parking.UnparkToken.{UnparkToken}
+use Rattle.parking_lot_core_model.specs.declared.parking.UnparkResult.{UnparkResult}
+use Rattle.parking_lot_core_model.specs.declared.parking.RequeueOp.{RequeueOp}
+use Rattle.parking_lot_core_model.specs.declared.parking.FilterOp.{FilterOp}
+use Rattle.parking_lot_core_model.specs.declared.place.Place.{Place}
+use Rattle.parking_lot_core_model.specs.declared.place.Place.TheVariants.{Running, Waiting, Held, Taken}
+use Rattle.parking_lot_core_model.specs.declared.place.Waiter.{Waiter}
+use Rattle.parking_lot_core_model.specs.Results.{Answers, is_stop, is_left, unpark_result, chosen_by, passed_by}
+use Rattle.parking_lot_core_model.specs.Machine.{Machine, free_number, register_fault, tokens_of}
+use Rattle.parking_lot_core_model.specs.Operations.{is_abort}
+use Rattle.parking_lot_core_model.specs.Places.{place_at, is_waiting}
+use Rattle.parking_lot_core_model.specs.Sound.{Sound}
 
 -- on some sound lot this is what a call did that answered so
 abbrev pub OnSomeLot : {T : Type 0} → (Machine → Result T LotFault → Machine → Type 0) → T → Type 0

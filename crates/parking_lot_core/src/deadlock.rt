@@ -1,11 +1,11 @@
 //! Records of the resources that participants have. Nothing here looks for deadlocks.
 ghost use Rattle.std.specs.Prelude.{◌≡◌, ◌++◌, ◌∷◌, ◌==◌, [], IfOk, IfErr, OnOk, OnErr, position};
 ghost use Rattle.std.specs.List.{position_or_len};
-ghost use Rattle.parking_lot_core_lot.specs.Lists.{without_first};
-ghost use Rattle.parking_lot_core_lot.specs.declared.fault.LotFault.TheVariants.{NoMemory};
+ghost use Rattle.parking_lot_core_model.specs.Lists.{without_first};
+ghost use Rattle.parking_lot_core_model.specs.declared.fault.LotFault.TheVariants.{NoMemory};
 
 use crate::thread_data::ThreadData;
-use parking_lot_core_lot::LotFault;
+use parking_lot_core_model::LotFault;
 use std::alloc::Allocator;
 
 /// Records one more occurrence of a resource, or changes nothing where memory is refused.

@@ -16,7 +16,7 @@ mod word_lock;
 
 pub use parking_calls::{park, unpark_all, unpark_filter, unpark_one, unpark_requeue};
 pub use parking_lot::ParkingLot;
-pub use parking_lot_core_lot::{
+pub use parking_lot_core_model::{
     DEFAULT_PARK_TOKEN, DEFAULT_UNPARK_TOKEN, FilterOp, Lot, LotFault, ParkResult, ParkToken,
     Place, RequeueOp, SizeFault, Sleep, Taking, ThreadStatus, UnparkResult, UnparkToken, laws,
 };

@@ -1,9 +1,9 @@
 //! Parking and unparking of real threads.
 ghost use Rattle.std.specs.Prelude.{◌≡◌, ◌<◌, ◌≤◌, ℕ, Bool, true, if◌then◌else◌, None, Some, IsSome, is_some, MatchBool, ◌≢◌};
-ghost use Rattle.parking_lot_core_lot.specs.declared.parking.ParkResult.TheVariants.{Invalid, TimedOut};
-ghost use Rattle.parking_lot_core_lot.specs.declared.parking.UnparkToken.{UnparkToken};
-ghost use Rattle.parking_lot_core_lot.specs.Operations.{Parks, Resumes, UnparksOne, UnparksAll, UnparksAndRequeues, UnparksByFilter};
-ghost use Rattle.parking_lot_core_lot.specs.Machine.{machine, busy, enter_fault, resume_fault, Does};
+ghost use Rattle.parking_lot_core_model.specs.declared.parking.ParkResult.TheVariants.{Invalid, TimedOut};
+ghost use Rattle.parking_lot_core_model.specs.declared.parking.UnparkToken.{UnparkToken};
+ghost use Rattle.parking_lot_core_model.specs.Operations.{Parks, Resumes, UnparksOne, UnparksAll, UnparksAndRequeues, UnparksByFilter};
+ghost use Rattle.parking_lot_core_model.specs.Machine.{machine, busy, enter_fault, resume_fault, Does};
 ghost use Rattle.parking_lot_core.specs.Shared.{OnSomeLot, Counts, Tells, waits_in};
 ghost use Rattle.std.specs.Sync.Mutex.{mutex_guard_value};
 
@@ -11,7 +11,9 @@ use crate::parking_lot::ParkingLot;
 use crate::state::State;
 use crate::thread_data::ThreadData;
 use crate::thread_parker::{Timed, time_left};
-use parking_lot_core_lot::{FilterOp, ParkResult, ParkToken, RequeueOp, UnparkResult, UnparkToken};
+use parking_lot_core_model::{
+    FilterOp, ParkResult, ParkToken, RequeueOp, UnparkResult, UnparkToken,
+};
 use std::alloc::Allocator;
 use std::convert::Infallible;
 use std::sync::{Arc, Condvar, CondvarTimeouts, MutexGuard, Wait};

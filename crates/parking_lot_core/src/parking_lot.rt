@@ -1,14 +1,14 @@
 //! The lot for real threads.
 ghost use Rattle.std.specs.Prelude.{◌≡◌, ◌<◌, ◌↔◌, ◌⊎◌, IsTrue, IsErrOf, IfOk, IfErr, []};
-ghost use Rattle.parking_lot_core_lot.specs.declared.fault.SizeFault.TheVariants.{BadSize};
+ghost use Rattle.parking_lot_core_model.specs.declared.fault.SizeFault.TheVariants.{BadSize};
 ghost use Rattle.parking_lot_core.specs.Shared.{IsRefused, OnSomeLot};
-ghost use Rattle.parking_lot_core_lot.specs.Machine.{retire_fault, retired, Does, Makes};
-ghost use Rattle.parking_lot_core_lot.specs.declared.fault.LotFault.TheVariants.{TooManyThreads, NoMemory};
+ghost use Rattle.parking_lot_core_model.specs.Machine.{retire_fault, retired, Does, Makes};
+ghost use Rattle.parking_lot_core_model.specs.declared.fault.LotFault.TheVariants.{TooManyThreads, NoMemory};
 
 use crate::parking_calls::stuck;
 use crate::state::State;
 use crate::thread_data::ThreadData;
-use parking_lot_core_lot::{Lot, LotFault, SizeFault};
+use parking_lot_core_model::{Lot, LotFault, SizeFault};
 use std::alloc::{Allocator, Global};
 use std::sync::atomic::{AtomicUsize, Ordering};
 use std::sync::{Mutex, Wait};

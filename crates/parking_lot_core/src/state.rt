@@ -3,14 +3,14 @@
 //! No clause can name what a lock guards. So each call on a [`ParkingLot`](crate::ParkingLot) takes the lock and calls one
 //! of the functions here, whose clauses say what it does.
 ghost use Rattle.std.specs.Prelude.{◌≡◌, ◌<◌, ◌+◌, ◌%◌, ◌==◌, ◌⊎◌, IfOk, IfErr, IfSome, IsSome, Some, Err, true, []};
-ghost use Rattle.parking_lot_core_lot.specs.Machine.{machine, free_number, busy, enter_fault, resume_fault, retire_fault, registered, retired, Does, Makes};
-ghost use Rattle.parking_lot_core_lot.specs.Operations.{Parks, Resumes, UnparksOne, UnparksAll, UnparksByFilter, UnparksAndRequeues};
+ghost use Rattle.parking_lot_core_model.specs.Machine.{machine, free_number, busy, enter_fault, resume_fault, retire_fault, registered, retired, Does, Makes};
+ghost use Rattle.parking_lot_core_model.specs.Operations.{Parks, Resumes, UnparksOne, UnparksAll, UnparksByFilter, UnparksAndRequeues};
 ghost use Rattle.parking_lot_core.specs.Shared.{admit_fault, waits_in, taken_in};
-ghost use Rattle.parking_lot_core_lot.specs.Sound.{Sound};
-ghost use Rattle.parking_lot_core_lot.specs.declared.fault.LotFault.TheVariants.{NoMemory};
+ghost use Rattle.parking_lot_core_model.specs.Sound.{Sound};
+ghost use Rattle.parking_lot_core_model.specs.declared.fault.LotFault.TheVariants.{NoMemory};
 
 use crate::thread_data::ThreadData;
-use parking_lot_core_lot::{
+use parking_lot_core_model::{
     FilterOp, Lot, LotFault, ParkResult, ParkToken, Place, RequeueOp, UnparkResult, UnparkToken,
 };
 use std::alloc::{AllocError, Allocator};

@@ -2,7 +2,7 @@
 
 use crate::Two;
 use lock_api::Guard;
-use lock_api_packed::First;
+use lock_api_spin::First;
 use parking_lot::{
     LockTable, MappedRecursiveRwLockReadGuard, MappedRecursiveRwLockWriteGuard,
     MappedRwLockReadGuard, MappedRwLockWriteGuard, RecursiveRwLock, RecursiveRwLockReadGuard,

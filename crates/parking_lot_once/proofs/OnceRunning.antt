@@ -1,20 +1,20 @@
 -- A call that ran to its end has an answer, which it may give.
 use Rattle.std.proofs.Common.{◌≡◌, ℕ, List, [], ◌∷◌, Some, refl, sym, ap, ◌∙◌, subst}
-use Rattle.parking_lot_runs.specs.Runs.{IsRun, WasTold, told_all}
+use Rattle.parking_lot_driver.specs.Runs.{IsRun, WasTold, told_all}
 use Rattle.parking_lot_protocol.specs.Acts.{Gives}
 use Rattle.parking_lot_protocol.specs.declared.act.Act.{Act}
 use Rattle.parking_lot_protocol.specs.declared.act.Act.TheVariants.{Done}
 use Rattle.parking_lot_protocol.specs.declared.act.ActResult.{ActResult}
 use Rattle.parking_lot_protocol.specs.declared.act.ActResult.TheVariants.{Start, Word}
 use Rattle.parking_lot_protocol.specs.declared.act.CoreAnswer.{CoreAnswer}
-use Rattle.parking_lot_once_rules.specs.declared.wish.Wish.{Wish}
-use Rattle.parking_lot_once_protocol.specs.declared.once_phase.OnceAnswer.{OnceAnswer}
-use Rattle.parking_lot_once_protocol.specs.declared.once_phase.OnceAnswer.TheVariants.{Completed}
-use Rattle.parking_lot_once_protocol.specs.declared.once_phase.OncePhase.{OncePhase}
-use Rattle.parking_lot_once_protocol.specs.declared.once_phase.OncePhase.TheVariants.{Asking}
-use Rattle.parking_lot_once_protocol.specs.OnceTable.{act_of, answer_of, next_phase}
-use Rattle.parking_lot_once_protocol.specs.OnceAnswers.{IsUnderWay, MayAnswer}
-use Rattle.parking_lot_once_protocol.proofs.OnceAnswering.{goes_on, ends_by_an_answer}
+use Rattle.parking_lot_rules.specs.declared.once.wish.Wish.{Wish}
+use Rattle.parking_lot_protocol_waits.specs.declared.once.once_phase.OnceAnswer.{OnceAnswer}
+use Rattle.parking_lot_protocol_waits.specs.declared.once.once_phase.OnceAnswer.TheVariants.{Completed}
+use Rattle.parking_lot_protocol_waits.specs.declared.once.once_phase.OncePhase.{OncePhase}
+use Rattle.parking_lot_protocol_waits.specs.declared.once.once_phase.OncePhase.TheVariants.{Asking}
+use Rattle.parking_lot_protocol_waits.specs.Once.OnceTable.{act_of, answer_of, next_phase}
+use Rattle.parking_lot_protocol_waits.specs.Once.OnceAnswers.{IsUnderWay, MayAnswer}
+use Rattle.parking_lot_protocol_waits.proofs.OnceFacts.OnceAnswering.{goes_on, ends_by_an_answer}
 use Rattle.parking_lot_once.specs.declared.calls.RowCore.{RowCore}
 use Rattle.parking_lot_once.specs.OnceRuns.{Answered}
 

@@ -1,14 +1,14 @@
 -- What whoever calls a one-time initialization gets.
 use Rattle.std.specs.Prelude.{◌≡◌, ◌⊎◌, Bool, true, false, List, Some, Result, Ok, Err}
-use Rattle.parking_lot_runs.specs.Runs.{IsRun, told_all}
+use Rattle.parking_lot_driver.specs.Runs.{IsRun, told_all}
 use Rattle.parking_lot_protocol.specs.declared.act.ActResult.{ActResult}
-use Rattle.parking_lot_once_rules.specs.declared.once_state.OnceState.{OnceState}
-use Rattle.parking_lot_once_rules.specs.declared.wish.Wish.{Wish}
-use Rattle.parking_lot_once_protocol.specs.declared.once_phase.OnceAnswer.{OnceAnswer}
-use Rattle.parking_lot_once_protocol.specs.declared.once_phase.OnceAnswer.TheVariants as answer
-use Rattle.parking_lot_once_protocol.specs.declared.once_phase.OncePhase.{OncePhase}
-use Rattle.parking_lot_once_protocol.specs.declared.once_phase.OncePhase.TheVariants.{Asking, Returning}
-use Rattle.parking_lot_once_protocol.specs.OnceTable.{act_of, answer_of, next_phase}
+use Rattle.parking_lot_rules.specs.declared.once.once_state.OnceState.{OnceState}
+use Rattle.parking_lot_rules.specs.declared.once.wish.Wish.{Wish}
+use Rattle.parking_lot_protocol_waits.specs.declared.once.once_phase.OnceAnswer.{OnceAnswer}
+use Rattle.parking_lot_protocol_waits.specs.declared.once.once_phase.OnceAnswer.TheVariants as answer
+use Rattle.parking_lot_protocol_waits.specs.declared.once.once_phase.OncePhase.{OncePhase}
+use Rattle.parking_lot_protocol_waits.specs.declared.once.once_phase.OncePhase.TheVariants.{Asking, Returning}
+use Rattle.parking_lot_protocol_waits.specs.Once.OnceTable.{act_of, answer_of, next_phase}
 use Rattle.parking_lot_once.specs.declared.fault.OnceFault.{OnceFault}
 use Rattle.parking_lot_once.specs.declared.fault.OnceFault.TheVariants.{Poisoned, Failed}
 

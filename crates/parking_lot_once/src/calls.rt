@@ -1,11 +1,11 @@
 //! The calls of a one-time initialization, for the runner of the locks.
 ghost use Rattle.std.specs.Prelude.{true, false};
 ghost use Rattle.parking_lot_once.specs.OnceRuns.{plain, forced, waiting, waiting_on};
-ghost use Rattle.parking_lot_once_protocol.specs.declared.once_phase.OncePhase.TheVariants.{Asking, Returning};
+ghost use Rattle.parking_lot_protocol_waits.specs.declared.once.once_phase.OncePhase.TheVariants.{Asking, Returning};
 
 use parking_lot_core::UnparkToken;
-use parking_lot_once_protocol::OnceCore;
-use parking_lot_runs::{Act, ActResult, Call, DecisionCore};
+use parking_lot_driver::{Act, ActResult, Call, DecisionCore};
+use parking_lot_protocol_waits::once::OnceCore;
 
 /// A core that runs on a row.
 #[derive(Clone, Copy)]
@@ -14,7 +14,7 @@ pub(crate) struct RowCore {
 }
 
 impl DecisionCore for RowCore {
-    ghost use Rattle.parking_lot_once_protocol.specs.OnceTable.{act_of, next_phase};
+    ghost use Rattle.parking_lot_protocol_waits.specs.Once.OnceTable.{act_of, next_phase};
 
     ghost told = { λ row seen. record row { core = record row.core { phase = next_phase row.core.phase seen } } };
 

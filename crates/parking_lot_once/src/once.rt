@@ -1,21 +1,21 @@
 //! One-time initialization on a row of a lock table.
 ghost use Rattle.std.specs.Prelude.{◌≡◌, IfOk, true};
 ghost use Rattle.parking_lot_once.specs.OnceRuns.{Answered, Calls, CallsUnlessPoisoned, MayRun, WaitEnds, ended_well, forced, plain, waiting_on};
-ghost use Rattle.parking_lot_once_rules.specs.declared.once_state.OnceState.{OnceState};
-ghost use Rattle.parking_lot_once_rules.specs.declared.once_state.OnceState.TheVariants.{New};
-ghost use Rattle.parking_lot_once_rules.specs.declared.wish.Wish.{Wish};
-ghost use Rattle.parking_lot_once_protocol.specs.OnceAnswers.{IsUnderWay, MayAnswer};
-ghost use Rattle.parking_lot_once_protocol.specs.OnceTable.{next_phase};
-ghost use Rattle.parking_lot_once_protocol.specs.declared.once_phase.OncePhase.TheVariants.{Asking, Returning};
-ghost use Rattle.parking_lot_once_protocol.specs.declared.once_phase.OnceAnswer.TheVariants as answer;
+ghost use Rattle.parking_lot_rules.specs.declared.once.once_state.OnceState.{OnceState};
+ghost use Rattle.parking_lot_rules.specs.declared.once.once_state.OnceState.TheVariants.{New};
+ghost use Rattle.parking_lot_rules.specs.declared.once.wish.Wish.{Wish};
+ghost use Rattle.parking_lot_protocol_waits.specs.Once.OnceAnswers.{IsUnderWay, MayAnswer};
+ghost use Rattle.parking_lot_protocol_waits.specs.Once.OnceTable.{next_phase};
+ghost use Rattle.parking_lot_protocol_waits.specs.declared.once.once_phase.OncePhase.TheVariants.{Asking, Returning};
+ghost use Rattle.parking_lot_protocol_waits.specs.declared.once.once_phase.OnceAnswer.TheVariants as answer;
 ghost use Rattle.parking_lot_protocol.specs.declared.act.ActResult.TheVariants.{Start};
 
 use crate::calls::{Await, AwaitForce, CallOnce, CallOnceForce, EndFailed, EndWell, RowCore};
 use crate::fault::{OnceFault, Poisoned};
 use lock_api_raw::TableFull;
 use parking_lot_core::ThreadData;
-use parking_lot_once_protocol::{OnceAnswer, OnceState, state_of};
-use parking_lot_runs::{Call, LockTable, Row, run_to_its_end};
+use parking_lot_driver::{Call, LockTable, Row, run_to_its_end};
+use parking_lot_protocol_waits::once::{OnceAnswer, OnceState, state_of};
 use std::alloc::{Allocator, Global};
 use std::fmt;
 use std::sync::Wait;

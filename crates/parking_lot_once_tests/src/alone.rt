@@ -2,8 +2,8 @@
 
 use lock_api_raw::TableFull;
 use parking_lot_core::{ParkingLot, ThreadData};
+use parking_lot_driver::LockTable;
 use parking_lot_once::{Once, OnceFault, OnceState, Poisoned};
-use parking_lot_runs::LockTable;
 use std::alloc::Global;
 use std::cell::Cell;
 use std::fmt::Debug;

@@ -2,8 +2,8 @@
 
 use crate::flags::{has_come, is_raised};
 use parking_lot_core::{ParkingLot, ThreadData};
+use parking_lot_driver::LockTable;
 use parking_lot_once::{Once, OnceFault, OnceState, Poisoned};
-use parking_lot_runs::LockTable;
 use std::sync::Wait;
 use std::sync::atomic::{AtomicU64, Ordering};
 use std::test::Fail;

@@ -1,7 +1,7 @@
 //! Calls that are told one thing after another.
 
-use parking_lot_once_protocol::{OnceAnswer, OnceCore, OnceState};
-use parking_lot_runs::{Act, ActResult, CoreAnswer, SectionAct, WordChange};
+use parking_lot_driver::{Act, ActResult, CoreAnswer, SectionAct, WordChange};
+use parking_lot_protocol_waits::once::{OnceAnswer, OnceCore, OnceState};
 use std::test::Fail;
 
 /// Whether a core that is told these, one after another, asks for those acts.

@@ -1,8 +1,8 @@
 //! Many threads at once.
 
 use parking_lot_core::ParkingLot;
+use parking_lot_driver::LockTable;
 use parking_lot_once::Once;
-use parking_lot_runs::LockTable;
 use std::sync::Wait;
 use std::sync::atomic::{AtomicU64, Ordering};
 use std::test::Fail;

@@ -1,6 +1,6 @@
 //! What threads wait for in the tests.
 
-use parking_lot_runs::LockTable;
+use parking_lot_driver::LockTable;
 use std::sync::atomic::{AtomicU64, Ordering};
 use std::thread;
 use std::time::{Clock, Duration};

@@ -2,8 +2,8 @@
 
 use crate::fault::Fault;
 use lock_api_raw::RawCondvar as _;
-use parking_lot_condvar::RawCondvar;
 use parking_lot_core::ThreadData;
+use parking_lot_mutex::condvar::RawCondvar;
 use parking_lot_once::Once;
 use std::sync::Wait;
 

@@ -4,13 +4,14 @@ use crate::fault::Fault;
 use lock_api::{Mutex, ReentrantMutex, RwLock};
 use lock_api_raw::RawMutex;
 use parking_lot_core::ThreadData;
-use parking_lot_locks::{RawRwLock, RawThreadId};
+use parking_lot_mutex::RawThreadId;
+use parking_lot_rwlock::RawRwLock;
 use std::sync;
 use std::sync::Wait;
 
 /// A reentrant mutex over the raw mutex.
 pub type Reentrant<'t, 'l, R> = ReentrantMutex<
-    parking_lot_locks::RawMutex<'t, 'l, R>,
+    parking_lot_mutex::RawMutex<'t, 'l, R>,
     RawThreadId,
     u64,
 >;

@@ -5,7 +5,8 @@ use lock_api_raw::{
     RawRwLockUpgradeTimed as _,
 };
 use parking_lot_core::ThreadData;
-use parking_lot_locks::{RawMutex, RawRwLock};
+use parking_lot_mutex::RawMutex;
+use parking_lot_rwlock::RawRwLock;
 use std::sync::Wait;
 use std::time::{Clock, Instant};
 

@@ -2,7 +2,8 @@
 
 use lock_api_raw::{RawMutex as _, RawMutexFair as _, RawRwLock as _, RawRwLockDowngrade as _};
 use parking_lot_core::ThreadData;
-use parking_lot_locks::{RawFairMutex, RawMutex, RawRwLock};
+use parking_lot_mutex::{RawFairMutex, RawMutex};
+use parking_lot_rwlock::RawRwLock;
 use std::sync::Wait;
 
 #[inline(never)]

@@ -2,7 +2,7 @@
 
 use lock_api_raw::{RawRwLock as _, RawRwLockUpgrade as _, RawRwLockUpgradeDowngrade as _};
 use parking_lot_core::ThreadData;
-use parking_lot_locks::RawRwLock;
+use parking_lot_rwlock::RawRwLock;
 use std::sync::Wait;
 
 #[inline(never)]

@@ -2,3 +2,4 @@ pub mod MutexFollowing
 pub mod RwWords
 pub mod RwFollowing
 pub mod WakeFollowing
+pub mod TimedFacts

@@ -23,7 +23,7 @@ use Rattle.parking_lot_rules.specs.Steps.{Scan, scanning, Hand, Free, Keep, stor
 use Rattle.parking_lot_rules.specs.Classes.{bit}
 use Rattle.parking_lot_protocol.specs.Acts.{Gives, change_of}
 use Rattle.parking_lot_protocol.specs.declared.rw_phase.Scanning.{Scanning}
-use Rattle.parking_lot_core_lot.specs.declared.parking.ParkToken.{ParkToken}
+use Rattle.parking_lot_core_model.specs.declared.parking.ParkToken.{ParkToken}
 use Rattle.std.specs.Option.{option_map_or}
 use Rattle.parking_lot_rules.specs.Roles.{Fresh}
 use Rattle.parking_lot_rules.specs.Roles.{Normal, Handed, Asleep}

@@ -6,8 +6,8 @@ use Rattle.parking_lot_protocol.specs.declared.rw_phase.Scanning.{Scanning}
 use Rattle.parking_lot_protocol.specs.declared.rw_phase.AfterWake.{AfterWake}
 use Rattle.parking_lot_protocol.specs.declared.rw_phase.AfterWake.TheVariants.{FreedShared, FreedExclusive, Downgraded, AgainShared, AgainExclusive}
 use Rattle.parking_lot_rules.specs.Classes.{bit}
-use Rattle.parking_lot_core_lot.specs.declared.parking.FilterOp.{FilterOp}
-use Rattle.parking_lot_core_lot.specs.declared.parking.FilterOp.TheVariants.{Unpark, Skip, Stop}
+use Rattle.parking_lot_core_model.specs.declared.parking.FilterOp.{FilterOp}
+use Rattle.parking_lot_core_model.specs.declared.parking.FilterOp.TheVariants.{Unpark, Skip, Stop}
 use Rattle.parking_lot_protocol.specs.Wake.{wake_answer}
 use Rattle.parking_lot_protocol.specs.RwTable.{sum_of, base_of, taken_sum}
 use Rattle.parking_lot_protocol.specs.RwRules.{scan_of}

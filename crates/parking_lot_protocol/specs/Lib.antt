@@ -6,3 +6,4 @@ pub mod Wake
 pub mod RwTable
 pub mod RwRules
 pub mod WakeRules
+pub mod Timed

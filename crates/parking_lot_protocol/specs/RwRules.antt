@@ -1,6 +1,6 @@
 -- Which step of the rules each answer to a reader-writer lock's core is, and in which role its thread is.
 use Rattle.std.specs.Prelude.{◌≡◌, ◌≤◌, ◌<◌, ℕ, ◌+◌, ◌-◌, ◌/◌, ◌^◌, ◌==◌, ◌&&◌, ◌||◌, ◌⊎◌, Bool, true, false, if◌then◌else◌, List, [], ◌∷◌, ◌++◌, length, Option, Some, None}
-use Rattle.parking_lot_core_lot.specs.declared.parking.ParkToken.{ParkToken}
+use Rattle.parking_lot_core_model.specs.declared.parking.ParkToken.{ParkToken}
 use Rattle.parking_lot_rules.specs.Roles.{Mode, Mark, Normal, Handed, Fresh, Asleep, Cause, Owned, Shares, Excludes, Upgrades, Role}
 use Rattle.parking_lot_rules.specs.Roles as rules
 use Rattle.parking_lot_rules.specs.Clauses.{Word, IsWord, number}

@@ -1,8 +1,8 @@
 -- The calls of a reader-writer lock: the act that each phase has asked for, and the phase that follows what it gives.
 use Rattle.std.specs.Prelude.{ℕ, ◌+◌, ◌-◌, ◌/◌, ◌%◌, ◌*◌, ◌^◌, ◌==◌, nat_lt, ◌&&◌, ◌||◌, not, min, Bool, true, false, if◌then◌else◌, Option, Some, None, is_some, Result, Ok, Err}
 use Rattle.std.specs.Option.{option_map, option_map_or, option_and_then}
-use Rattle.parking_lot_core_lot.specs.declared.parking.ParkToken.{ParkToken}
-use Rattle.parking_lot_core_lot.specs.declared.parking.UnparkToken.{UnparkToken}
+use Rattle.parking_lot_core_model.specs.declared.parking.ParkToken.{ParkToken}
+use Rattle.parking_lot_core_model.specs.declared.parking.UnparkToken.{UnparkToken}
 use Rattle.parking_lot_protocol.specs.declared.act.Act.{Act}
 use Rattle.parking_lot_protocol.specs.declared.act.Act.TheVariants as act
 use Rattle.parking_lot_protocol.specs.declared.act.SectionAct.TheVariants as section

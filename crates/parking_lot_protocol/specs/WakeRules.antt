@@ -1,7 +1,7 @@
 -- What a waking section does at a waiter is what the rules say.
 use Rattle.std.specs.Prelude.{◌≡◌, ℕ, List}
-use Rattle.parking_lot_core_lot.specs.declared.parking.FilterOp.{FilterOp}
-use Rattle.parking_lot_core_lot.specs.declared.parking.FilterOp.TheVariants as op
+use Rattle.parking_lot_core_model.specs.declared.parking.FilterOp.{FilterOp}
+use Rattle.parking_lot_core_model.specs.declared.parking.FilterOp.TheVariants as op
 use Rattle.parking_lot_rules.specs.Roles.{Mode, Shared, Exclusive, Upgradable}
 use Rattle.parking_lot_rules.specs.Steps.{Look, Stop, Skip, Take, look, holds_upgradable}
 use Rattle.parking_lot_protocol.specs.declared.rw_phase.Scanning.{Scanning}

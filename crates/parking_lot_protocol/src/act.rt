@@ -2,7 +2,7 @@
 ghost use Rattle.std.specs.Prelude.{◌≡◌};
 ghost use Rattle.parking_lot_protocol.specs.Acts.{change_of, is_start, is_entered, is_made, word_seen, exchange_seen, spun_seen, took_seen, stored_seen, woken_seen};
 
-use parking_lot_core_lot::{ParkToken, UnparkToken};
+use parking_lot_core_model::{ParkToken, UnparkToken};
 
 /// The token with which a lock is handed over to those that are woken: they own it, or its first part, at once.
 pub const HAND_OVER: UnparkToken = UnparkToken(1);

@@ -16,6 +16,7 @@ mod rw_act;
 mod rw_core;
 mod rw_next;
 mod rw_phase;
+pub mod timed;
 mod wake;
 pub mod word;
 

@@ -6,7 +6,7 @@ ghost use Rattle.parking_lot_protocol.specs.declared.mutex_phase.MutexPhase.TheV
 
 use crate::act::{Act, ActResult, HAND_OVER, TRY_AGAIN};
 use crate::mutex_phase::MutexPhase;
-use parking_lot_core_lot::UnparkToken;
+use parking_lot_core_model::UnparkToken;
 
 /// The state of one call at a mutex. It is told what its last act gave, and answers the next one.
 ///

@@ -7,7 +7,7 @@ ghost use Rattle.parking_lot_protocol.specs.MutexTable.{act_of, after, begins, o
 ghost use Rattle.parking_lot_rules.specs.Classes.{bit};
 
 use crate::act::{Act, ActResult, CoreAnswer, HAND_OVER, SectionAct, Taking, WordChange};
-use parking_lot_core_lot::{DEFAULT_PARK_TOKEN, UnparkToken};
+use parking_lot_core_model::{DEFAULT_PARK_TOKEN, UnparkToken};
 
 /// How many rounds a call spins before it sets the parked bit.
 pub(crate) const ROUNDS: u8 = 10;

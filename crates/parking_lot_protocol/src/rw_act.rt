@@ -8,7 +8,7 @@ ghost use Rattle.parking_lot_protocol.specs.RwTable.{act_of, answer_of, base_of,
 use crate::act::{Act, CoreAnswer, SectionAct, WordChange};
 use crate::rw_phase::{AfterWake, LockMode, Outcome, RwPhase, Scanning};
 use crate::word::{PARKED, READER, UPGRADABLE, WRITER, WRITER_PARKED};
-use parking_lot_core_lot::ParkToken;
+use parking_lot_core_model::ParkToken;
 
 impl LockMode {
     /// What an admission adds to the word, and the token of one that waits for it.

@@ -7,7 +7,7 @@ ghost use Rattle.parking_lot_protocol.specs.RwTable.{act_of, next_phase, wakes_w
 
 use crate::act::{Act, ActResult, HAND_OVER, TRY_AGAIN};
 use crate::rw_phase::{LockMode, RwPhase};
-use parking_lot_core_lot::UnparkToken;
+use parking_lot_core_model::UnparkToken;
 
 /// The state of one call at a reader-writer lock. It is told what its last act gave, and answers the next one.
 ///

@@ -12,7 +12,7 @@ use crate::word::{
     READER, UPGRADABLE, WRITER, has_readers, has_room, is_parked, is_upgradable, is_writer_parked,
     is_written, readers,
 };
-use parking_lot_core_lot::{ParkToken, UnparkToken};
+use parking_lot_core_model::{ParkToken, UnparkToken};
 
 impl LockMode {
     /// Whether somebody is in its way who is to be waited for.

@@ -4,7 +4,7 @@ ghost use Rattle.parking_lot_protocol.specs.Wake.{wake_answer};
 ghost use Rattle.parking_lot_protocol.specs.WakeRules.{LooksRightly};
 
 use crate::word::{READER, UPGRADABLE, WRITER, is_upgradable, is_written};
-use parking_lot_core_lot::{FilterOp, ParkToken};
+use parking_lot_core_model::{FilterOp, ParkToken};
 
 /// What a waking section does at a waiter with that token, where the tokens that it has taken so far, and what its own thread
 /// keeps, come to `sum`: it stops behind a writer, skips one that wants more than a shared hold beside an upgradable owner, and

@@ -38,3 +38,4 @@ pub mod Alive
 pub mod Trying
 pub mod MutexTrying
 pub mod Holding
+pub mod OnceFacts

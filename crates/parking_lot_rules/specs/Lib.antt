@@ -24,3 +24,4 @@ pub mod Variable
 pub mod Every
 pub mod Tries
 pub mod Holds
+pub mod Once

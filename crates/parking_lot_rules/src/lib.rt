@@ -8,6 +8,7 @@ mod holds;
 pub mod laws;
 mod many;
 mod mutex;
+pub mod once;
 mod progress;
 mod steps;
 mod tries;

@@ -1,6 +1,6 @@
 //! Moments at which waits are given up.
 
-use parking_lot_locks::to_deadline;
+use parking_lot_rwlock::to_deadline;
 use std::test::Fail;
 use std::time::{Duration, Instant};
 

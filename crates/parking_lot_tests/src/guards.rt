@@ -3,7 +3,7 @@
 use lock_api::{Mutex, RwLock};
 use lock_api_raw::{RawMutex, RawRwLock};
 use parking_lot_core::ParkingLot;
-use parking_lot_locks::LockTable;
+use parking_lot_rwlock::LockTable;
 use std::sync::Wait;
 use std::test::Fail;
 
@@ -48,8 +48,8 @@ fn each_pair_finds_its_value(rt: HostRuntime) -> Result<(), Fail> {
     let lot = ParkingLot::new(rt, rt.alloc(), 1, 7)?;
     let mut me = lot.thread_data()?;
     let table = LockTable::new(rt.alloc(), &lot, 2)?;
-    let mutex: Mutex<parking_lot_locks::RawMutex<HostRuntime>, u64> = Mutex::new(&table, 0)?;
-    let lock: RwLock<parking_lot_locks::RawRwLock<HostRuntime, 0>, u64> = RwLock::new(
+    let mutex: Mutex<parking_lot_mutex::RawMutex<HostRuntime>, u64> = Mutex::new(&table, 0)?;
+    let lock: RwLock<parking_lot_rwlock::RawRwLock<HostRuntime, 0>, u64> = RwLock::new(
         &table, 5, 0,
     )?;
     let locked = locks(&mutex, &mut me);

@@ -13,7 +13,6 @@ mod mutex_calls;
 #[cfg(test)]
 mod mutexes;
 #[cfg(test)]
-mod named;
 #[cfg(test)]
 mod readers;
 #[cfg(test)]

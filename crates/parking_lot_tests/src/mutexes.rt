@@ -3,7 +3,7 @@
 use crate::words::has_come;
 use lock_api_raw::{MakeLock as _, RawMutex as _, RawMutexFair};
 use parking_lot_core::{DEFAULT_UNPARK_TOKEN, ParkingLot, unpark_one};
-use parking_lot_locks::{LockTable, RawFairMutex, RawMutex};
+use parking_lot_mutex::{LockTable, RawFairMutex, RawMutex};
 use std::alloc::Global;
 use std::sync::Wait;
 use std::sync::atomic::{AtomicU64, Ordering};

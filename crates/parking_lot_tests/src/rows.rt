@@ -2,7 +2,8 @@
 
 use lock_api_raw::{MakeLock as _, RawMutex as _, RawRwLock as _, TableFull};
 use parking_lot_core::{ParkingLot, SizeFault};
-use parking_lot_locks::{Act, ActResult, CoreAnswer, LockTable, RawMutex, RawRwLock, Row, RwCore};
+use parking_lot_mutex::RawMutex;
+use parking_lot_rwlock::{Act, ActResult, CoreAnswer, LockTable, RawRwLock, Row, RwCore};
 use std::test::Fail;
 
 #[test]

@@ -4,7 +4,7 @@ use crate::waiting::has_begun;
 use crate::words::has_come;
 use lock_api::{Guard, RwLock};
 use parking_lot_core::{ParkingLot, ThreadData};
-use parking_lot_locks::{LockTable, RawRwLock};
+use parking_lot_rwlock::{LockTable, RawRwLock};
 use std::sync::Wait;
 use std::sync::atomic::{AtomicU64, Ordering};
 use std::test::Fail;

@@ -3,7 +3,7 @@ ghost use Rattle.std.specs.Prelude.{◌≡◌, IfSome};
 
 use lock_api_raw::{MakeLock as _, RawMutex as _, RawMutexTimed};
 use parking_lot_core::ParkingLot;
-use parking_lot_locks::{LockTable, RawFairMutex, RawMutex};
+use parking_lot_mutex::{LockTable, RawFairMutex, RawMutex};
 use std::sync::Wait;
 use std::sync::atomic::{AtomicU64, Ordering};
 use std::test::Fail;

@@ -3,7 +3,7 @@
 use crate::words::has_come;
 use lock_api_raw::{MakeLock as _, RawRwLock as _, RawRwLockTimed as _, RawRwLockUpgrade as _};
 use parking_lot_core::{ParkingLot, ThreadData};
-use parking_lot_locks::{LockTable, RawRwLock};
+use parking_lot_rwlock::{LockTable, RawRwLock};
 use std::sync::Wait;
 use std::test::Fail;
 use std::thread;

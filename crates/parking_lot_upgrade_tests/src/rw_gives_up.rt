@@ -7,7 +7,7 @@ use lock_api_raw::{
     RawRwLockUpgradeTimed as _,
 };
 use parking_lot_core::{ParkingLot, ThreadData};
-use parking_lot_locks::{LockTable, RawRwLock};
+use parking_lot_rwlock::{LockTable, RawRwLock};
 use std::sync::Wait;
 use std::sync::atomic::{AtomicU64, Ordering};
 use std::test::Fail;

@@ -1,9 +1,9 @@
 //! Calls at locks as data: what each is told stands beside the act that it must ask for then.
 
+use parking_lot_protocol::timed::{TimedAct, TimedSeen};
 use parking_lot_protocol::{Act, ActResult};
-use parking_lot_rw_timed::TimedRwCore;
-use parking_lot_timed::{TimedAct, TimedSeen};
-use parking_lot_upgrades::UpgradeCore;
+use parking_lot_protocol_rw::UpgradeCore;
+use parking_lot_protocol_rw::timed::TimedRwCore;
 use std::process::Abort;
 
 /// Tells a call each of these, and looks whether it asks for what it must.

@@ -2,9 +2,9 @@
 
 use crate::script::follow_in_time;
 use parking_lot_core::ParkToken;
+use parking_lot_protocol::timed::{TimedAct, TimedSeen};
 use parking_lot_protocol::{Act, ActResult, CoreAnswer, HAND_OVER, SectionAct};
-use parking_lot_rw_timed::TimedRwCore;
-use parking_lot_timed::{TimedAct, TimedSeen};
+use parking_lot_protocol_rw::timed::TimedRwCore;
 use std::process::Abort;
 
 /// A reader that sleeps behind a writer, as the last in its list or not, and where it stood its moment passes.

@@ -5,7 +5,7 @@ use parking_lot_core::ParkToken;
 use parking_lot_protocol::{
     Act, ActResult, CoreAnswer, HAND_OVER, SectionAct, TRY_AGAIN, WordChange,
 };
-use parking_lot_upgrades::UpgradeCore;
+use parking_lot_protocol_rw::UpgradeCore;
 
 /// Minus so much, modulo 2^64.
 fn less(by: u64) -> u64 {

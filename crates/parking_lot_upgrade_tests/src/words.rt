@@ -1,6 +1,6 @@
 //! Looks at the word of a table's first row.
 
-use parking_lot_locks::LockTable;
+use parking_lot_rwlock::LockTable;
 use std::thread;
 use std::time::{Clock, Duration};
 

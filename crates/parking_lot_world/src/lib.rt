@@ -1,32 +1,21 @@
-//! The machine of locks: threads' calls at them, one atomic step at a time, in any order.
+//! Worlds of locks, condition variables and one-time initializations: threads' calls at them, one atomic step at a time, by any schedule.
 #![tactic(auto)]
 
-mod acts;
-mod advance;
-mod late_acts;
-mod late_laws;
+mod allowed;
+pub mod call_laws;
+mod calls;
+mod fault;
 pub mod laws;
-mod lot_calls;
-mod lot_laws;
-mod machine_views;
-mod mutex_laws;
-mod new_machine;
-mod rank_laws;
-mod requeue;
-mod row_machine;
-mod rw_laws;
-mod sound_laws;
-mod take_laws;
-mod tell_laws;
-mod upgrade_laws;
+mod new_world;
+mod step;
+mod world;
+mod world_views;
 
-pub use parking_lot_protocol::{
-    Act, ActResult, CoreAnswer, HAND_OVER, MutexCore, RwCore, SectionAct, TRY_AGAIN, WordChange,
-    wake_sum,
-};
-pub use parking_lot_world_calls::{
-    Call, Core, Hold, LatePhase, LateRwPhase, LockCall, LockKind, OwnMode, QueuePosition,
-    RwSleeper, WakeResult, Wakeup,
-};
-pub use requeue::{moves_are_cases, moves_are_runs, requeues_are_runs};
-pub use row_machine::RowMachine;
+pub use calls::{Asked, LockAnswer, LockCall, LockKind};
+pub use fault::{WorldFault, WorldRefusal};
+pub use parking_lot_core_model::SizeFault;
+pub use parking_lot_machine::{OwnMode, RowMachine};
+pub use parking_lot_machine_sides::once::{OnceCall, OnceMachine, OnceReply, OnceState};
+pub use parking_lot_machine_waits::{CondvarCall, WaitMachine};
+pub use step::WorldStep;
+pub use world::World;

@@ -1,12 +1,14 @@
-//! Tests of the machine of locks, for what no clause of it says: calls told one thing after another, which calls are refused to whom, and the
-//! machine step by step.
+//! Tests of worlds at their locks, for what no clause of them says: schedules worked by hand and all those of two threads, the printed text, and
+//! heaps that are full.
 #![tactic(auto)]
 
 #[cfg(test)]
-mod calls;
+mod deadlines;
 #[cfg(test)]
-mod machine;
+mod heaps;
 #[cfg(test)]
 mod refusals;
 #[cfg(test)]
-mod requeues;
+mod schedules;
+#[cfg(test)]
+mod worlds;

@@ -11,6 +11,8 @@
 ghost use Rattle.std.specs.Prelude.{◌≡◌, List, [], ◌∷◌, ◌++◌};
 ghost use Rattle.std.specs.Borrow.{ftrue};
 
+pub mod example;
+
 use std::marker::{Model, PhantomData};
 
 /// All that was noted so far, oldest first, as a list that exists for proofs alone.

@@ -2,4 +2,4 @@
 
 pub use dashmap_parallel::{SharedIter, SharedIterMut};
 pub use dashmap_plain::IterMut;
-pub use dashmap_rayon::{Iter, OwningIter};
+pub use dashmap_view::parallel::{Iter, OwningIter};

@@ -4,7 +4,7 @@ ghost use Rattle.std.specs.List.{AllZip};
 ghost use Rattle.dashmap_view.specs.Views.{all_pairs};
 ghost use Rattle.dashmap_set.specs.Parallel.{MakesOfKey};
 
-use dashmap_rayon::OwningIter as Pairs;
+use dashmap_view::parallel::OwningIter as Pairs;
 use lock_api_raw::NoMemory;
 use std::alloc::{Allocator, Global};
 use std::hash::Hash;

@@ -2,7 +2,7 @@
 
 use crate::steps::all_right;
 use lock_api::{MappedMutexGuard, Mutex, MutexGuard, RwLock, RwLockReadGuard, RwLockWriteGuard};
-use lock_api_packed::{First, Inside, PackedLock, PackedMutex};
+use lock_api_spin::{First, Inside, PackedLock, PackedMutex};
 use std::test::Fail;
 
 #[test]

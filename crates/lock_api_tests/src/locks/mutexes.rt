@@ -1,7 +1,7 @@
 //! The checks of the mutex, on the raw mutex of the tests.
 
 use lock_api_checks::{mutex_checks, raw_checks};
-use lock_api_packed::PackedMutex;
+use lock_api_spin::PackedMutex;
 use std::test::Fail;
 
 type Raw = PackedMutex<HostRuntime>;

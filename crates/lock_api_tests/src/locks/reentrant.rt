@@ -2,7 +2,7 @@
 
 use lock_api::ReentrantArcFault;
 use lock_api_checks::reentrant_checks;
-use lock_api_packed::{PackedMutex, Parties};
+use lock_api_spin::{PackedMutex, Parties};
 use std::test::Fail;
 
 type Raw = PackedMutex<HostRuntime>;

@@ -1,8 +1,8 @@
 //! The checks of the reader-writer lock, on the raw lock of the tests.
 
+use lock_api_checks::upgrades::{rwlock_timed_checks, upgradable_arc_checks, upgradable_checks};
 use lock_api_checks::{raw_checks, rwlock_arc_checks, rwlock_checks};
-use lock_api_packed::PackedLock;
-use lock_api_upgrade_checks::{rwlock_timed_checks, upgradable_arc_checks, upgradable_checks};
+use lock_api_spin::PackedLock;
 use std::test::Fail;
 
 type Raw = PackedLock<HostRuntime>;

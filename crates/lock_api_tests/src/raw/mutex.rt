@@ -1,11 +1,11 @@
 //! The raw traits of mutexes and of condition variables.
 
 use crate::steps::all_right;
-use lock_api_packed::PackedMutex;
 use lock_api_raw::{
     GuardSend, MakeCondvar, MakeLock as _, RawCondvar, RawCondvarTimed, RawMutex, RawMutexFair,
     TableFull, WaitFault,
 };
+use lock_api_spin::PackedMutex;
 use std::rt::Clock;
 use std::sync::Wait;
 use std::time::{Duration, Instant};

@@ -1,11 +1,11 @@
 //! The raw traits of reader-writer locks.
 
 use crate::steps::all_right;
-use lock_api_packed::PackedLock;
 use lock_api_raw::{
     MakeLock as _, RawRwLock, RawRwLockDowngrade, RawRwLockUpgradeDowngrade, RawRwLockUpgradeFair,
     TableFull,
 };
+use lock_api_spin::PackedLock;
 use std::sync::Wait;
 
 /// Takes the lock upgradable, upgrades it and hands it back, by the traits alone.

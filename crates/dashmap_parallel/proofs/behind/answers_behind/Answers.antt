@@ -2,7 +2,7 @@ use Rattle.std.proofs.Common.{subst}
 use Rattle.std.specs.List.{AllZip}
 use Rattle.std.proofs.lemmas.Result.{IfOk-weaker}
 use Rattle.dashmap_table.specs.Slots.{pairs_of}
-use Rattle.dashmap_rayon.specs.Calls.{AnswersOf}
+use Rattle.dashmap_view.specs.Parallel.Calls.{AnswersOf}
 use Rattle.dashmap_parallel.specs.Visits.{WhileShared}
 use Rattle.dashmap_parallel.proofs.behind.answers_behind.Goals as goal
 

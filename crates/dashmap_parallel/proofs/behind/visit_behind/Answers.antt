@@ -1,7 +1,7 @@
 use Rattle.std.proofs.Common.{subst}
 use Rattle.std.specs.Prelude.{All}
 use Rattle.dashmap_table.specs.Slots.{pairs_of}
-use Rattle.dashmap_rayon.specs.Calls.{AnswersOf}
+use Rattle.dashmap_view.specs.Parallel.Calls.{AnswersOf}
 use Rattle.dashmap_parallel.proofs.behind.visit_behind.Goals as goal
 
 pub returns : goal.returns

@@ -1,5 +1,5 @@
 use Rattle.std.proofs.Common.{subst}
-use Rattle.dashmap_rayon.specs.Calls.{WritesEach}
+use Rattle.dashmap_view.specs.Parallel.Calls.{WritesEach}
 use Rattle.dashmap_parallel.proofs.behind.write_behind.Goals as goal
 
 pub returns : goal.returns

@@ -2,7 +2,7 @@ use Rattle.std.proofs.Common.{take, ◌+◌, refl, sym, subst, arith}
 use Rattle.std.specs.List.{AllZip}
 use Rattle.std.proofs.lemmas.List.{take_all}
 use Rattle.dashmap_table.specs.Slots.{pairs_of}
-use Rattle.dashmap_rayon.specs.Calls.{AnswersOf}
+use Rattle.dashmap_view.specs.Parallel.Calls.{AnswersOf}
 use Rattle.dashmap_parallel.specs.Visits.{WhileShared, GatheredFrom}
 use Rattle.dashmap_parallel.proofs.Gathering.{gathered-none, gathered-more}
 use Rattle.dashmap_parallel.proofs.gather.answers_in_piece.Goals as goal

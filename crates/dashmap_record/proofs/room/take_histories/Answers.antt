@@ -4,7 +4,7 @@ use Rattle.std.specs.List.{All}
 use Rattle.std.specs.Vec.Iter.{into_iter_items, into_iter_len}
 use Rattle.std.proofs.lemmas.Option.{MatchOption-at_some}
 use Rattle.std.proofs.lemmas.List.Elements.{All-push}
-use Rattle.dashmap_record_history.specs.Match.{rises}
+use Rattle.dashmap_record.specs.History.Match.{rises}
 use Rattle.dashmap_record.specs.Replaying.{no_pair, Replies}
 use Rattle.dashmap_record.proofs.Answering.{count-taken}
 use Rattle.dashmap_record.proofs.room.take_histories.Goals as goal

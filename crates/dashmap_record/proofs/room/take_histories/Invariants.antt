@@ -2,7 +2,7 @@ use Rattle.std.proofs.Common.{◌≡◌, ◌+◌, length}
 use Rattle.std.specs.Prelude.{IsTrue, vec_capacity}
 use Rattle.std.specs.List.{All}
 use Rattle.std.specs.Vec.Iter.{into_iter_items}
-use Rattle.dashmap_record_history.specs.Match.{rises}
+use Rattle.dashmap_record.specs.History.Match.{rises}
 use Rattle.dashmap_record.specs.Replaying.{no_pair, Replies}
 use Rattle.dashmap_record.proofs.room.take_histories.Given as goal
 

@@ -1,7 +1,7 @@
 use Rattle.std.proofs.Common.{◌∙◌, arith}
-use Rattle.dashmap_walks.specs.Visits.{AtFull}
+use Rattle.dashmap_iter.specs.Walks.Visits.{AtFull}
 use Rattle.dashmap_set.specs.Walks.{KeepsKey}
-use Rattle.dashmap_walks.proofs.Walking.{next_full, none_from, walked_next, walked_to, passes_free, full_within}
+use Rattle.dashmap_iter.proofs.WalksFacts.Walking.{next_full, none_from, walked_next, walked_to, passes_free, full_within}
 use Rattle.dashmap_set.proofs.walks.retain_in.Goals as goal
 
 pub loop-slot-preserved : goal.loop-slot-preserved

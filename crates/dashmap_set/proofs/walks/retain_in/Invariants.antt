@@ -1,5 +1,5 @@
 use Rattle.std.proofs.Common.{◌≡◌, ◌≤◌, ◌-◌, ◌^◌, length}
-use Rattle.dashmap_walks.specs.Visits.{Walked, AtFull}
+use Rattle.dashmap_iter.specs.Walks.Visits.{Walked, AtFull}
 use Rattle.dashmap_set.specs.Walks.{KeepsKey}
 use Rattle.dashmap_set.proofs.walks.retain_in.Given as goal
 

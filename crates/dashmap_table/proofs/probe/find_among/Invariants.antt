@@ -1,5 +1,5 @@
 use Rattle.std.proofs.Common.{◌≡◌, ℕ, ◌+◌, false}
-use Rattle.dashmap_table_tags.specs.Lanes.{HasLane}
+use Rattle.dashmap_table.specs.Tags.Lanes.{HasLane}
 use Rattle.dashmap_table.specs.Slots.{at, holds}
 use Rattle.dashmap_table.proofs.probe.find_among.Given as goal
 

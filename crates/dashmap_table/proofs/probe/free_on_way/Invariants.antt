@@ -1,5 +1,5 @@
 use Rattle.std.proofs.Common.{◌≡◌, ℕ, ◌/◌, ◌<◌, length, slice_index}
-use Rattle.dashmap_table_tags.specs.Way.{on_way}
+use Rattle.dashmap_table.specs.Tags.Way.{on_way}
 use Rattle.dashmap_table.specs.Tagged.{windows_in, IsFree}
 use Rattle.dashmap_table.proofs.probe.free_on_way.Given as goal
 

@@ -1,7 +1,7 @@
 use Rattle.std.proofs.Common.{sym, ap, ◌∙◌}
 use Rattle.std.specs.Option.{option_map}
 use Rattle.dashmap_table.specs.Slots.{pair_of as entry_pair}
-use Rattle.mapworld_moves.proofs.Slotted.{pair-at_key}
+use Rattle.mapworld_transitions.proofs.Slotted.{pair-at_key}
 use Rattle.mapworld.proofs.contents.pair_in.Goals as goal
 
 pub returns-in-Some : goal.returns-in-Some

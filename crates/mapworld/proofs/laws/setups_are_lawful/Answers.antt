@@ -1,4 +1,4 @@
-use Rattle.mapworld_moves.proofs.Keys.{setup-laws}
+use Rattle.mapworld_transitions.proofs.Keys.{setup-laws}
 use Rattle.mapworld.proofs.laws.setups_are_lawful.Goals as goal
 
 pub returns : goal.returns

@@ -2,12 +2,12 @@ use Rattle.std.proofs.Common.{◌≡◌, length, map, sum_by, false, refl, ap, s
 use Rattle.std.specs.List.{list_all}
 use Rattle.std.proofs.lemmas.List.{length-map}
 use Rattle.mapworld_calls.specs.Programs.{one_guard, numbers_of}
-use Rattle.mapworld_locks.specs.Fresh.{AreFresh}
+use Rattle.mapworld_state.specs.Locks.Fresh.{AreFresh}
 use Rattle.mapworld_state.specs.Core.{AreLocksOf}
 use Rattle.mapworld_state.specs.Places.{place_of}
 use Rattle.mapworld_state.specs.Shards.{shard_pairs}
 use Rattle.mapworld_state.specs.Route.{IsWorldAmount, key_route}
-use Rattle.mapworld_causes.proofs.Keeping.{causes-new}
+use Rattle.mapworld_invariant.proofs.CausesFacts.Keeping.{causes-new}
 use Rattle.mapworld_progress.proofs.Timing.{time-first}
 use Rattle.mapworld.specs.Beginning.{AreAtStart, AreFilled, HaveLists}
 use Rattle.mapworld.specs.Stops.{AllStopsFit}

@@ -3,14 +3,14 @@ use Rattle.mapworld_state.specs.Places.{Place, place_of}
 use Rattle.mapworld_state.specs.Moves.{lent_way}
 use Rattle.mapworld_state.specs.Slots.{phase_key}
 use Rattle.mapworld_state.specs.declared.place.Place.{Place as KeptPlace}
-use Rattle.mapworld_moves.proofs.Slots.{calls-over, slots-kept}
-use Rattle.mapworld_moves.proofs.Walking.{walking, plain-visits, plain-lists}
+use Rattle.mapworld_transitions.proofs.Slots.{calls-over, slots-kept}
+use Rattle.mapworld_transitions.proofs.Walking.{walking, plain-visits, plain-lists}
 use Rattle.std.proofs.lemmas.Option.{slice_get_within}
 use Rattle.mapworld_state.specs.declared.place.Phase.TheVariants as phase
 use Rattle.mapworld_state.specs.Core.{owed, owes, may_list, lists, may_add, adds}
-use Rattle.mapworld_locks.proofs.Sizes.{same_size}
-use Rattle.mapworld_moves.proofs.Rooms.{shifted, answer_left}
-use Rattle.mapworld_moves.proofs.Facts.{claim_at, call_fits, kept_block, stepped-by}
+use Rattle.mapworld_state.proofs.LocksFacts.Sizes.{same_size}
+use Rattle.mapworld_transitions.proofs.Rooms.{shifted, answer_left}
+use Rattle.mapworld_transitions.proofs.Facts.{claim_at, call_fits, kept_block, stepped-by}
 use Rattle.mapworld_steps.proofs.Kept.{kept_here, stands_here, phase_here}
 use Rattle.mapworld_steps.proofs.ends.answer.Goals as goal
 

@@ -1,6 +1,6 @@
 use Rattle.std.proofs.Common.{◌≡◌, [], ◌∷◌, is_some, length, Some, refl, ap, ◌∙◌, arith, length-append, ◌-◌, ◌+◌}
 use Rattle.std.proofs.lemmas.Option.{slice_get_within}
-use Rattle.parking_lot_world_calls.specs.declared.calls.LockCall.TheVariants as call
+use Rattle.parking_lot_machine_calls.specs.declared.calls.LockCall.TheVariants as call
 use Rattle.mapworld_state.specs.declared.place.Phase.TheVariants as phase
 use Rattle.mapworld_state.specs.declared.holds.Mode.TheVariants.{Shared}
 use Rattle.mapworld_state.specs.declared.holds.Hold.{Hold}
@@ -10,14 +10,14 @@ use Rattle.std.proofs.lemmas.List.{map-set}
 use Rattle.mapworld_state.specs.Moves.{lent_way}
 use Rattle.mapworld_state.specs.Slots.{phase_key}
 use Rattle.mapworld_state.proofs.HoldsTable.{first-there, only-first}
-use Rattle.mapworld_moves.proofs.Walking.{walking, plain-visits, plain-lists}
-use Rattle.mapworld_moves.proofs.Slots.{calls-counted, slots-kept}
+use Rattle.mapworld_transitions.proofs.Walking.{walking, plain-visits, plain-lists}
+use Rattle.mapworld_transitions.proofs.Slots.{calls-counted, slots-kept}
 use Rattle.mapworld_state.specs.Core.{owes, lists, adds}
-use Rattle.mapworld_locks.proofs.Sizes.{starts-size}
-use Rattle.mapworld_moves.proofs.Rooms.{shifted}
+use Rattle.mapworld_state.proofs.LocksFacts.Sizes.{starts-size}
+use Rattle.mapworld_transitions.proofs.Rooms.{shifted}
 use Rattle.mapworld_steps.proofs.Asking.{may-share, out-of-call}
 use Rattle.mapworld_state.specs.Places.{place_of}
-use Rattle.mapworld_moves.proofs.Facts.{claim_at, next_fits, session_counts, stepped-by}
+use Rattle.mapworld_transitions.proofs.Facts.{claim_at, next_fits, session_counts, stepped-by}
 use Rattle.mapworld_steps.proofs.Kept.{kept_here, stands_here, phase_here, only_hold}
 use Rattle.mapworld_steps.proofs.ends.downgrade.Goals as goal
 

@@ -6,11 +6,11 @@ use Rattle.mapworld_state.specs.Core.{owes, lists, adds}
 use Rattle.mapworld_state.proofs.HoldsTable.{first-there, none-there}
 use Rattle.std.proofs.lemmas.List.{map-set}
 use Rattle.mapworld_state.specs.Slots.{phase_key}
-use Rattle.mapworld_locks.proofs.Sizes.{starts-size}
-use Rattle.mapworld_moves.proofs.Walking.{walking, plain-visits, plain-lists}
-use Rattle.mapworld_moves.proofs.Rooms.{shifted}
-use Rattle.mapworld_moves.proofs.Facts.{claim_at, next_fits, release_listed, stepped-by}
-use Rattle.mapworld_moves.proofs.Slots.{calls-counted, slots-kept}
+use Rattle.mapworld_state.proofs.LocksFacts.Sizes.{starts-size}
+use Rattle.mapworld_transitions.proofs.Walking.{walking, plain-visits, plain-lists}
+use Rattle.mapworld_transitions.proofs.Rooms.{shifted}
+use Rattle.mapworld_transitions.proofs.Facts.{claim_at, next_fits, release_listed, stepped-by}
+use Rattle.mapworld_transitions.proofs.Slots.{calls-counted, slots-kept}
 use Rattle.mapworld_steps.proofs.Asking.{may-leave, given-gives, out-of-call}
 use Rattle.mapworld_steps.proofs.Kept.{kept_here, stands_here, phase_here, only_hold}
 use Rattle.mapworld_steps.proofs.ends.release.Goals as goal

@@ -1,7 +1,7 @@
 use Rattle.std.proofs.Common.{ℕ, ◌+◌, length, Option, IfSome, is_some, refl, sym, ap, ap₂, ◌∙◌, subst, arith, length-append, ◌-◌}
 use Rattle.mapworld_state.specs.Core.{state_of, owes, lists, adds}
-use Rattle.mapworld_moves.specs.Listing.{AddsBlock}
-use Rattle.mapworld_moves.specs.declared.blocks.Started.{Started}
+use Rattle.mapworld_transitions.specs.Listing.{AddsBlock}
+use Rattle.mapworld_transitions.specs.declared.blocks.Started.{Started}
 use Rattle.mapworld_state.specs.Moves.{found_done, found_guard, found_phase, block_behind}
 use Rattle.mapworld_steps.proofs.Finding.{of-found, stands-as, found-key}
 use Rattle.mapworld_calls.specs.Pairs.{pair_of}
@@ -10,14 +10,14 @@ use Rattle.mapworld_state.specs.Slots.{HasKeyAt}
 use Rattle.mapworld_state.specs.World.{setup_of}
 use Rattle.mapworld_state.proofs.Views.{view-at}
 use Rattle.std.proofs.lemmas.List.{map-set, length-map}
-use Rattle.mapworld_moves.proofs.Walking.{next-free, plain-visits, plain-lists}
-use Rattle.mapworld_moves.proofs.Slots.{calls-listed, slots-same}
-use Rattle.mapworld_moves.proofs.Rooms.{shifted, block_left}
-use Rattle.mapworld_locks.proofs.Sizes.{same_size}
+use Rattle.mapworld_transitions.proofs.Walking.{next-free, plain-visits, plain-lists}
+use Rattle.mapworld_transitions.proofs.Slots.{calls-listed, slots-same}
+use Rattle.mapworld_transitions.proofs.Rooms.{shifted, block_left}
+use Rattle.mapworld_state.proofs.LocksFacts.Sizes.{same_size}
 use Rattle.mapworld_state.specs.Places.{place_of}
-use Rattle.mapworld_moves.proofs.Facts.{claim_at, way_fits, stepped-by}
+use Rattle.mapworld_transitions.proofs.Facts.{claim_at, way_fits, stepped-by}
 use Rattle.mapworld_steps.proofs.Kept.{kept_here, stands_here, phase_here, shard-read}
-use Rattle.mapworld_moves.proofs.Weights.{found_weighs, found_lists, none_lost, behind_listed, lists_block}
+use Rattle.mapworld_transitions.proofs.Weights.{found_weighs, found_lists, none_lost, behind_listed, lists_block}
 use Rattle.mapworld_steps.proofs.looks.find.Goals as goal
 
 pub unreachable-requires : goal.unreachable-requires

@@ -8,15 +8,15 @@ use Rattle.mapworld_state.specs.Slots.{phase_key, IsAt, SlotIsNext}
 use Rattle.mapworld_state.specs.Core.{state_of, owes, lists, adds}
 use Rattle.mapworld_state.specs.Moves.{request_of, lent_way, found_phase, found_guard, found_done, ListsBlock}
 use Rattle.mapworld_state.proofs.Views.{view-at}
-use Rattle.mapworld_moves.specs.declared.blocks.Started.{Started}
-use Rattle.mapworld_moves.specs.Listing.{AddsBlock}
-use Rattle.mapworld_moves.proofs.Walking.{walking, next-free, plain-visits, plain-lists}
-use Rattle.mapworld_moves.proofs.Rooms.{shifted, block_left}
-use Rattle.mapworld_locks.proofs.Sizes.{same_size}
-use Rattle.mapworld_moves.proofs.Facts.{claim_at, kept-within, kept-shard, stepped-by}
-use Rattle.mapworld_moves.proofs.Slots.{calls-same, calls-listed, slots-kept, slots-alone}
-use Rattle.mapworld_moves.proofs.Slotted.{hashes-alike}
-use Rattle.mapworld_moves.proofs.Weights.{found_weighs, grown_lists, lists_block, pairs_kept}
+use Rattle.mapworld_transitions.specs.declared.blocks.Started.{Started}
+use Rattle.mapworld_transitions.specs.Listing.{AddsBlock}
+use Rattle.mapworld_transitions.proofs.Walking.{walking, next-free, plain-visits, plain-lists}
+use Rattle.mapworld_transitions.proofs.Rooms.{shifted, block_left}
+use Rattle.mapworld_state.proofs.LocksFacts.Sizes.{same_size}
+use Rattle.mapworld_transitions.proofs.Facts.{claim_at, kept-within, kept-shard, stepped-by}
+use Rattle.mapworld_transitions.proofs.Slots.{calls-same, calls-listed, slots-kept, slots-alone}
+use Rattle.mapworld_transitions.proofs.Slotted.{hashes-alike}
+use Rattle.mapworld_transitions.proofs.Weights.{found_weighs, grown_lists, lists_block, pairs_kept}
 use Rattle.mapworld_state.specs.World.{setup_of}
 use Rattle.mapworld_steps.proofs.Kept.{kept_here, stands_here, phase_here}
 use Rattle.mapworld_steps.proofs.Finding.{stands-as, found-key, grown-block}

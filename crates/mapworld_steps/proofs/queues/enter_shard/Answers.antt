@@ -3,9 +3,9 @@ use Rattle.std.proofs.lemmas.Option.{none-some, same_Some}
 use Rattle.std.proofs.lemmas.List.{map-set, length-map}
 use Rattle.mapworld_calls.proofs.Lists.{slice_get-set_same}
 use Rattle.parking_lot_protocol.specs.declared.act.CoreAnswer.{CoreAnswer}
-use Rattle.mapworld_locks.specs.Stands.{Stand}
-use Rattle.mapworld_locks.specs.Steps.{LockEnds}
-use Rattle.mapworld_locks.proofs.Sizes.{ends-size}
+use Rattle.mapworld_state.specs.Locks.Stands.{Stand}
+use Rattle.mapworld_state.specs.Locks.Steps.{LockEnds}
+use Rattle.mapworld_state.proofs.LocksFacts.Sizes.{ends-size}
 use Rattle.mapworld_state.specs.declared.holds.Hold.{Hold}
 use Rattle.mapworld_state.specs.declared.place.Phase.TheVariants as phase
 use Rattle.mapworld_state.specs.Places.{place_of}
@@ -16,12 +16,12 @@ use Rattle.mapworld_state.specs.Shards.{shard_pairs}
 use Rattle.mapworld_state.specs.Core.{state_of, owes, lists, adds}
 use Rattle.mapworld_state.proofs.Views.{view-at}
 use Rattle.mapworld_state.proofs.HoldsTable.{only-first}
-use Rattle.mapworld_sound.proofs.Admitting.{sound-enters}
-use Rattle.mapworld_sound.proofs.Holding.{stand-at}
-use Rattle.mapworld_moves.proofs.Slots.{calls-same, slots-kept}
-use Rattle.mapworld_moves.proofs.Rooms.{moved}
-use Rattle.mapworld_moves.proofs.Walking.{walking, plain-visits, plain-lists}
-use Rattle.mapworld_moves.proofs.Facts.{claim_at, way_fits}
+use Rattle.mapworld_invariant.proofs.Admitting.{sound-enters}
+use Rattle.mapworld_invariant.proofs.Holding.{stand-at}
+use Rattle.mapworld_transitions.proofs.Slots.{calls-same, slots-kept}
+use Rattle.mapworld_transitions.proofs.Rooms.{moved}
+use Rattle.mapworld_transitions.proofs.Walking.{walking, plain-visits, plain-lists}
+use Rattle.mapworld_transitions.proofs.Facts.{claim_at, way_fits}
 use Rattle.mapworld_steps.proofs.Kept.{kept_here, stands_here}
 use Rattle.mapworld_steps.proofs.Asking.{owned-unless}
 use Rattle.mapworld_steps.proofs.queues.enter_shard.Goals as goal

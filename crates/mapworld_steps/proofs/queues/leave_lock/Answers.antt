@@ -2,9 +2,9 @@ use Rattle.std.proofs.Common.{refl, sym, arith}
 use Rattle.mapworld_state.specs.Places.{place_of}
 use Rattle.mapworld_state.specs.Core.{state_of}
 use Rattle.mapworld_state.proofs.Views.{view-at, view-from}
-use Rattle.mapworld_locks.proofs.Sizes.{ends-size}
-use Rattle.mapworld_moves.proofs.Rooms.{moved}
-use Rattle.mapworld_sound.proofs.Admitting.{sound-leaves}
+use Rattle.mapworld_state.proofs.LocksFacts.Sizes.{ends-size}
+use Rattle.mapworld_transitions.proofs.Rooms.{moved}
+use Rattle.mapworld_invariant.proofs.Admitting.{sound-leaves}
 use Rattle.mapworld_steps.proofs.PutBack.{put_there}
 use Rattle.mapworld_steps.proofs.queues.leave_lock.Goals as goal
 

@@ -1,9 +1,9 @@
 use Rattle.std.proofs.Common.{length, refl, sym, ap, ap₂, arith, length-append}
-use Rattle.mapworld_locks.proofs.Sizes.{moves-size}
+use Rattle.mapworld_state.proofs.LocksFacts.Sizes.{moves-size}
 use Rattle.mapworld_state.specs.Places.{place_of}
 use Rattle.mapworld_state.specs.Core.{state_of}
 use Rattle.mapworld_state.proofs.Views.{view-at, view-from}
-use Rattle.mapworld_moves.proofs.Rooms.{shifted}
+use Rattle.mapworld_transitions.proofs.Rooms.{shifted}
 use Rattle.mapworld_steps.proofs.PutBack.{put_there}
 use Rattle.mapworld_steps.proofs.queues.move_lock.Goals as goal
 

@@ -4,19 +4,19 @@ use Rattle.std.proofs.lemmas.List.{map-set}
 use Rattle.mapworld_calls.specs.declared.reply.Answer.TheVariants as answer
 use Rattle.mapworld_calls.proofs.Lists.{slice_get-set_same}
 use Rattle.parking_lot_protocol.specs.declared.act.CoreAnswer.{CoreAnswer}
-use Rattle.mapworld_locks.specs.Steps.{LockEnds}
-use Rattle.mapworld_locks.proofs.Sizes.{ends-size}
+use Rattle.mapworld_state.specs.Locks.Steps.{LockEnds}
+use Rattle.mapworld_state.proofs.LocksFacts.Sizes.{ends-size}
 use Rattle.mapworld_state.specs.Places.{place_of}
 use Rattle.mapworld_state.specs.Moves.{lent_way}
 use Rattle.mapworld_state.specs.Slots.{phase_key}
 use Rattle.mapworld_state.specs.Steps.{locked}
 use Rattle.mapworld_state.specs.Core.{state_of, owes, lists, adds}
 use Rattle.mapworld_state.proofs.Views.{view-at}
-use Rattle.mapworld_sound.proofs.Concluding.{sound-left}
-use Rattle.mapworld_moves.proofs.Slots.{calls-same, slots-kept}
-use Rattle.mapworld_moves.proofs.Walking.{walking, plain-visits, plain-lists}
-use Rattle.mapworld_moves.proofs.Rooms.{moved}
-use Rattle.mapworld_moves.proofs.Facts.{claim_at}
+use Rattle.mapworld_invariant.proofs.Concluding.{sound-left}
+use Rattle.mapworld_transitions.proofs.Slots.{calls-same, slots-kept}
+use Rattle.mapworld_transitions.proofs.Walking.{walking, plain-visits, plain-lists}
+use Rattle.mapworld_transitions.proofs.Rooms.{moved}
+use Rattle.mapworld_transitions.proofs.Facts.{claim_at}
 use Rattle.mapworld_steps.proofs.Kept.{kept_here, stands_here, phase_here}
 use Rattle.mapworld_steps.proofs.queues.refuse_try.Goals as goal
 

@@ -4,9 +4,9 @@ use Rattle.std.proofs.lemmas.List.{length-map}
 use Rattle.std.proofs.lemmas.Option.{slice_get_within}
 use Rattle.mapworld_state.specs.declared.place.Phase.TheVariants as phase
 use Rattle.mapworld_state.specs.Shards.{shard_pairs}
-use Rattle.mapworld_moves.proofs.Rooms.{shifted}
+use Rattle.mapworld_transitions.proofs.Rooms.{shifted}
 use Rattle.mapworld_state.specs.Places.{place_of}
-use Rattle.mapworld_moves.proofs.Facts.{claim_at, next_fits, session_counts, stepped-by}
+use Rattle.mapworld_transitions.proofs.Facts.{claim_at, next_fits, session_counts, stepped-by}
 use Rattle.mapworld_steps.proofs.Kept.{kept_here, stands_here, phase_here}
 use Rattle.mapworld_steps.proofs.Starting.{waits, started-slots, started-enters, start-walks}
 use Rattle.mapworld_steps.proofs.Asking.{may-enter, out-of-call, enters-size}
@@ -16,9 +16,9 @@ use Rattle.mapworld_state.specs.Walks.{walk_mode}
 use Rattle.mapworld_state.proofs.HoldsTable.{none-there}
 use Rattle.mapworld_calls.specs.Programs.{numbers_of}
 use Rattle.std.proofs.lemmas.List.Sums.{sum_by-cons}
-use Rattle.mapworld_moves.proofs.Slots.{calls-same, calls-counted}
+use Rattle.mapworld_transitions.proofs.Slots.{calls-same, calls-counted}
 use Rattle.mapworld_state.proofs.Owning.{starts-own}
-use Rattle.mapworld_moves.proofs.Weights.{Weighs, started_weighs}
+use Rattle.mapworld_transitions.proofs.Weights.{Weighs, started_weighs}
 use Rattle.mapworld_steps.proofs.starts.start.Goals as goal
 
 pub count_in-requires-clause-listed : goal.count_in-requires-clause-listed

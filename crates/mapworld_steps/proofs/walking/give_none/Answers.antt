@@ -2,7 +2,7 @@ use Rattle.std.proofs.Common.{◌≡◌, ◌+◌, ◌-◌, inr, length, slice_se
 use Rattle.std.proofs.lemmas.List.{map-set}
 use Rattle.mapworld_calls.specs.declared.reply.Answer.{Answer}
 use Rattle.mapworld_calls.proofs.Lists.{slice_get-set_same}
-use Rattle.mapworld_locks.proofs.Sizes.{same_size}
+use Rattle.mapworld_state.proofs.LocksFacts.Sizes.{same_size}
 use Rattle.mapworld_state.specs.declared.place.Phase.TheVariants as phase
 use Rattle.mapworld_state.specs.Places.{place_of}
 use Rattle.mapworld_state.specs.Walks.{IsTold}
@@ -10,11 +10,11 @@ use Rattle.mapworld_state.specs.Slots.{phase_key}
 use Rattle.mapworld_state.specs.Steps.{idle}
 use Rattle.mapworld_state.specs.Core.{state_of, owes, lists, adds, phase_lists}
 use Rattle.mapworld_state.proofs.Views.{view-at}
-use Rattle.mapworld_sound.proofs.Concluding.{sound-left}
-use Rattle.mapworld_moves.proofs.Slots.{calls-same, slots-same_free}
-use Rattle.mapworld_moves.proofs.Walking.{walking, next-free, plain-visits}
-use Rattle.mapworld_moves.proofs.Rooms.{moved}
-use Rattle.mapworld_moves.proofs.Facts.{claim_at, walks_at}
+use Rattle.mapworld_invariant.proofs.Concluding.{sound-left}
+use Rattle.mapworld_transitions.proofs.Slots.{calls-same, slots-same_free}
+use Rattle.mapworld_transitions.proofs.Walking.{walking, next-free, plain-visits}
+use Rattle.mapworld_transitions.proofs.Rooms.{moved}
+use Rattle.mapworld_transitions.proofs.Facts.{claim_at, walks_at}
 use Rattle.mapworld_steps.proofs.Asking.{out-of-call}
 use Rattle.mapworld_steps.proofs.Kept.{kept_here, stands_here, phase_here}
 use Rattle.mapworld_steps.proofs.Reaching.{told-none}

@@ -3,16 +3,16 @@ use Rattle.mapworld_state.specs.Places.{place_of}
 use Rattle.mapworld_state.specs.Classes.{class_of, walks_in}
 use Rattle.mapworld_state.specs.Slots.{phase_key, SlotIsNext}
 use Rattle.mapworld_state.specs.Core.{state_of, owes, lists, adds, phase_lists}
-use Rattle.mapworld_moves.proofs.Rooms.{shifted}
-use Rattle.mapworld_moves.proofs.Leading.{in-walk}
-use Rattle.mapworld_moves.proofs.Facts.{claim_at, stepped-by}
-use Rattle.mapworld_moves.proofs.Slots.{calls-same, slots-same_free}
+use Rattle.mapworld_transitions.proofs.Rooms.{shifted}
+use Rattle.mapworld_transitions.proofs.Leading.{in-walk}
+use Rattle.mapworld_transitions.proofs.Facts.{claim_at, stepped-by}
+use Rattle.mapworld_transitions.proofs.Slots.{calls-same, slots-same_free}
 use Rattle.mapworld_steps.proofs.Kept.{kept_here, stands_here, phase_here}
 use Rattle.std.proofs.lemmas.Option.{slice_get_within}
 use Rattle.mapworld_state.specs.declared.place.Phase.TheVariants as phase
 use Rattle.mapworld_state.specs.Holds.{gives_up}
 use Rattle.mapworld_state.proofs.HoldsTable.{first-there}
-use Rattle.mapworld_locks.proofs.Sizes.{starts-size}
+use Rattle.mapworld_state.proofs.LocksFacts.Sizes.{starts-size}
 use Rattle.mapworld_steps.proofs.Asking.{may-leave, out-of-call}
 use Rattle.mapworld_steps.proofs.walks.give.Goals as goal
 

@@ -16,17 +16,17 @@ use Rattle.mapworld_state.specs.Slots.{phase_key, IsAt, FitsReads, IsNextSlot, S
 use Rattle.mapworld_state.specs.Walks.{walk_mode, gives_items, all_visited, looked_keys}
 use Rattle.mapworld_state.specs.Core.{state_of, owes, lists, adds, ask_lists, phase_lists}
 use Rattle.mapworld_state.proofs.Views.{view-at}
-use Rattle.mapworld_locks.proofs.Sizes.{same_size}
-use Rattle.mapworld_moves.specs.declared.blocks.Started.{Started}
-use Rattle.mapworld_moves.proofs.Rooms.{shifted, block_left}
-use Rattle.mapworld_moves.proofs.Leading.{led, led-next, in-walk, goes-below, leads-same}
-use Rattle.mapworld_moves.proofs.Facts.{claim_at, walks_at, stepped-by}
-use Rattle.mapworld_moves.proofs.Items.{item-following}
-use Rattle.mapworld_moves.proofs.Slots.{calls-same, calls-visit, slots-same_free, slots-walked}
-use Rattle.mapworld_moves.proofs.Slotted.{hashes-alike}
-use Rattle.mapworld_moves.proofs.Visits.{looked-done}
-use Rattle.mapworld_moves.proofs.Walking.{walking, plain-visits, plain-lists, next-free}
-use Rattle.mapworld_moves.proofs.Weights.{visit_added, pairs_kept}
+use Rattle.mapworld_state.proofs.LocksFacts.Sizes.{same_size}
+use Rattle.mapworld_transitions.specs.declared.blocks.Started.{Started}
+use Rattle.mapworld_transitions.proofs.Rooms.{shifted, block_left}
+use Rattle.mapworld_transitions.proofs.Leading.{led, led-next, in-walk, goes-below, leads-same}
+use Rattle.mapworld_transitions.proofs.Facts.{claim_at, walks_at, stepped-by}
+use Rattle.mapworld_transitions.proofs.Items.{item-following}
+use Rattle.mapworld_transitions.proofs.Slots.{calls-same, calls-visit, slots-same_free, slots-walked}
+use Rattle.mapworld_transitions.proofs.Slotted.{hashes-alike}
+use Rattle.mapworld_transitions.proofs.Visits.{looked-done}
+use Rattle.mapworld_transitions.proofs.Walking.{walking, plain-visits, plain-lists, next-free}
+use Rattle.mapworld_transitions.proofs.Weights.{visit_added, pairs_kept}
 use Rattle.mapworld_steps.proofs.Kept.{kept_here, stands_here, phase_here}
 use Rattle.mapworld_steps.proofs.PutBack.{put_back}
 use Rattle.mapworld_steps.proofs.Reaching.{looked-many, first-next, gives-some}

@@ -3,17 +3,17 @@ use Rattle.mapworld_state.specs.Places.{place_of}
 use Rattle.mapworld_state.specs.Classes.{class_of, walks_in}
 use Rattle.mapworld_state.specs.Slots.{phase_key, SlotIsNext}
 use Rattle.mapworld_state.specs.Core.{state_of, owes, lists, adds, phase_lists}
-use Rattle.mapworld_moves.proofs.Rooms.{shifted}
-use Rattle.mapworld_moves.proofs.Leading.{in-walk}
-use Rattle.mapworld_moves.proofs.Facts.{claim_at, walks_at, stepped-by}
-use Rattle.mapworld_moves.proofs.Slots.{calls-same, slots-same_free}
+use Rattle.mapworld_transitions.proofs.Rooms.{shifted}
+use Rattle.mapworld_transitions.proofs.Leading.{in-walk}
+use Rattle.mapworld_transitions.proofs.Facts.{claim_at, walks_at, stepped-by}
+use Rattle.mapworld_transitions.proofs.Slots.{calls-same, slots-same_free}
 use Rattle.mapworld_steps.proofs.Kept.{kept_here, stands_here, phase_here}
 use Rattle.std.proofs.lemmas.List.{length-map}
 use Rattle.std.proofs.lemmas.Option.{slice_get_within}
 use Rattle.mapworld_state.specs.Holds.{asks_for}
 use Rattle.mapworld_state.specs.Shards.{shard_pairs}
 use Rattle.mapworld_state.specs.Walks.{walk_mode, hands_over}
-use Rattle.mapworld_locks.proofs.Sizes.{begins-size}
+use Rattle.mapworld_state.proofs.LocksFacts.Sizes.{begins-size}
 use Rattle.mapworld_steps.proofs.Asking.{may-enter}
 use Rattle.mapworld_steps.proofs.Reaching.{between-apart}
 use Rattle.mapworld_steps.proofs.walks.start_visit.Goals as goal

@@ -1,5 +1,5 @@
 use Rattle.std.proofs.Common.{◌∙◌, ◌==◌, ap, ℕ, unwrap_or, length}
-use Rattle.parking_lot_core_lot.proofs.Numbers.{unwrap_or-position}
+use Rattle.parking_lot_core_model.proofs.Numbers.{unwrap_or-position}
 use Rattle.parking_lot_core.proofs.deadlock.place_of.Goals as goal
 
 pub returns : goal.returns

@@ -2,12 +2,12 @@ use Rattle.std.proofs.Common.{◌≡◌, ◌∙◌, ap, sym, subst, Bool, true, 
 use Rattle.std.specs.Result.{result_ok, is_ok}
 use Rattle.std.specs.Option.{option_and_then}
 use Rattle.std.proofs.lemmas.Bool.{false≢true}
-use Rattle.parking_lot_core_lot.specs.declared.fault.LotFault.{LotFault}
-use Rattle.parking_lot_core_lot.specs.declared.parking.ParkResult.{ParkResult}
-use Rattle.parking_lot_core_lot.specs.declared.parking.ParkResult.TheVariants.{Invalid}
-use Rattle.parking_lot_core_lot.specs.declared.parking.ParkToken.{ParkToken}
-use Rattle.parking_lot_core_lot.specs.Operations.{Parks}
-use Rattle.parking_lot_core_lot.specs.Machine.{Machine, machine, Unless, Does, enter_fault}
+use Rattle.parking_lot_core_model.specs.declared.fault.LotFault.{LotFault}
+use Rattle.parking_lot_core_model.specs.declared.parking.ParkResult.{ParkResult}
+use Rattle.parking_lot_core_model.specs.declared.parking.ParkResult.TheVariants.{Invalid}
+use Rattle.parking_lot_core_model.specs.declared.parking.ParkToken.{ParkToken}
+use Rattle.parking_lot_core_model.specs.Operations.{Parks}
+use Rattle.parking_lot_core_model.specs.Machine.{Machine, machine, Unless, Does, enter_fault}
 use Rattle.parking_lot_core.proofs.parking_calls.begin.Goals as goal
 
 abbrev told_of : Result (Option ParkResult) LotFault → Option ParkResult

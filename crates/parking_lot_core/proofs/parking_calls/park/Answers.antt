@@ -2,14 +2,14 @@ use Rattle.std.proofs.Common.{◌≡◌, ◌≢◌, ◌∙◌, ap, sym, subst, i
 use Rattle.std.specs.Result.{is_ok, result_ok}
 use Rattle.std.specs.Option.{option_map_or}
 use Rattle.std.proofs.lemmas.Bool.{false≢true}
-use Rattle.parking_lot_core_lot.specs.declared.fault.LotFault.{LotFault}
-use Rattle.parking_lot_core_lot.specs.declared.place.Place.{Place}
-use Rattle.parking_lot_core_lot.specs.declared.place.Place.TheVariants.{Running, Waiting, Held, Taken}
-use Rattle.parking_lot_core_lot.specs.declared.parking.ParkResult.{ParkResult}
-use Rattle.parking_lot_core_lot.specs.declared.parking.ParkResult.TheVariants.{Unparked, Invalid, TimedOut}
-use Rattle.parking_lot_core_lot.specs.Operations.{Parks, Resumes, ResumesFrom}
-use Rattle.parking_lot_core_lot.specs.Places.{place_at}
-use Rattle.parking_lot_core_lot.specs.Machine.{Machine, machine, Unless, Does, enter_fault, resume_fault}
+use Rattle.parking_lot_core_model.specs.declared.fault.LotFault.{LotFault}
+use Rattle.parking_lot_core_model.specs.declared.place.Place.{Place}
+use Rattle.parking_lot_core_model.specs.declared.place.Place.TheVariants.{Running, Waiting, Held, Taken}
+use Rattle.parking_lot_core_model.specs.declared.parking.ParkResult.{ParkResult}
+use Rattle.parking_lot_core_model.specs.declared.parking.ParkResult.TheVariants.{Unparked, Invalid, TimedOut}
+use Rattle.parking_lot_core_model.specs.Operations.{Parks, Resumes, ResumesFrom}
+use Rattle.parking_lot_core_model.specs.Places.{place_at}
+use Rattle.parking_lot_core_model.specs.Machine.{Machine, machine, Unless, Does, enter_fault, resume_fault}
 use Rattle.parking_lot_core.specs.Shared.{OnSomeLot}
 use Rattle.parking_lot_core.proofs.parking_calls.park.Goals as goal
 

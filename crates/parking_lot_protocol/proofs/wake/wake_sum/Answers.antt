@@ -1,5 +1,5 @@
 use Rattle.std.proofs.Common.{sym, subst}
-use Rattle.parking_lot_core_lot.specs.declared.parking.FilterOp.{FilterOp}
+use Rattle.parking_lot_core_model.specs.declared.parking.FilterOp.{FilterOp}
 use Rattle.parking_lot_protocol.specs.WakeRules.{LooksRightly}
 use Rattle.parking_lot_protocol.proofs.WakeFollowing.{looks_rightly}
 use Rattle.parking_lot_protocol.proofs.wake.wake_sum.Goals as goal

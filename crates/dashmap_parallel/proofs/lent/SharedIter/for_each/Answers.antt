@@ -2,7 +2,7 @@ use Rattle.std.proofs.Common.{subst}
 use Rattle.std.specs.Prelude.{All}
 use Rattle.crossbeam_utils.specs.Padded.{padded_value}
 use Rattle.dashmap_table.specs.Slots.{pairs_of}
-use Rattle.dashmap_rayon.specs.Calls.{AnswersOf}
+use Rattle.dashmap_view.specs.Parallel.Calls.{AnswersOf}
 use Rattle.dashmap_parallel.specs.Visits.{WhileShared}
 use Rattle.dashmap_parallel.proofs.lent.SharedIter.for_each.Goals as goal
 

@@ -1,8 +1,8 @@
 use Rattle.std.proofs.Common.{subst}
 use Rattle.std.specs.Prelude.{All}
 use Rattle.crossbeam_utils.specs.Padded.{padded_value}
-use Rattle.dashmap_rayon.specs.Calls.{WritesEach}
-use Rattle.dashmap_walks.specs.Held.{WhileHeld}
+use Rattle.dashmap_view.specs.Parallel.Calls.{WritesEach}
+use Rattle.dashmap_iter.specs.Walks.Held.{WhileHeld}
 use Rattle.dashmap_parallel.proofs.written.SharedIterMut.for_each.Goals as goal
 
 pub returns : goal.returns

@@ -1,6 +1,6 @@
 use Rattle.std.proofs.Common.{◌≡◌, ℕ, None, subst}
 use Rattle.dashmap_table.specs.Slots.{at}
-use Rattle.dashmap_walks.specs.Held.{EachHeld}
+use Rattle.dashmap_iter.specs.Walks.Held.{EachHeld}
 use Rattle.dashmap_set.proofs.set.DashSet.clear.Goals as goal
 
 pub returns : goal.returns

@@ -1,8 +1,8 @@
 use Rattle.std.proofs.Common.{◌≡◌, length, ap, ◌∙◌, arith}
 use Rattle.dashmap_map.specs.Locked.{Locked}
-use Rattle.dashmap_walks.specs.Visits.{Walked, AtFull}
+use Rattle.dashmap_iter.specs.Walks.Visits.{Walked, AtFull}
 use Rattle.dashmap_set.specs.Walks.{KeepsKey}
-use Rattle.dashmap_walks.proofs.Holding.{found_at, held_next, held_same}
+use Rattle.dashmap_iter.proofs.WalksFacts.Holding.{found_at, held_next, held_same}
 use Rattle.dashmap_set.proofs.set.DashSet.retain.Goals as goal
 
 pub loop-shard-preserved : goal.loop-shard-preserved

@@ -1,7 +1,7 @@
 use Rattle.std.proofs.Common.{◌≤◌, length}
-use Rattle.dashmap_walks.specs.Visits.{Walked, AtFull}
+use Rattle.dashmap_iter.specs.Walks.Visits.{Walked, AtFull}
 use Rattle.dashmap_set.specs.Walks.{KeepsKey}
-use Rattle.dashmap_walks.specs.Held.{HeldUpTo}
+use Rattle.dashmap_iter.specs.Walks.Held.{HeldUpTo}
 use Rattle.dashmap_set.proofs.set.DashSet.retain.Given as goal
 
 -- the shards below one were held, one after another

@@ -1,8 +1,8 @@
 use Rattle.mapworld_state.specs.Core.{state_of}
 use Rattle.mapworld_state.specs.World.{setup_of}
-use Rattle.mapworld_moves.proofs.Keys.{setup-laws}
+use Rattle.mapworld_transitions.proofs.Keys.{setup-laws}
 use Rattle.std.proofs.Common.{sym, subst}
-use Rattle.mapworld_causes.specs.Causes.{HasCauses}
+use Rattle.mapworld_invariant.specs.Causes.Causes.{HasCauses}
 use Rattle.mapworld_progress.proofs.Draining.{adds-by, fixed-by, setup-fixed}
 use Rattle.mapworld.proofs.Drains.{caused-by, drained-by}
 use Rattle.mapworld.proofs.Outcomes.{world-agrees, hold_by_phase}

@@ -3,12 +3,12 @@ use Rattle.mapworld_state.specs.Core.{state_of}
 use Rattle.mapworld_state.specs.State.{State}
 use Rattle.mapworld_state.specs.World.{setup_of}
 use Rattle.mapworld_state.specs.Sound.{Sound}
-use Rattle.mapworld_moves.proofs.Keys.{setup-laws}
-use Rattle.mapworld_moves.proofs.Rooms.{next_too}
-use Rattle.mapworld_sound.proofs.Sounds.{sound-step}
-use Rattle.mapworld_sound.proofs.Adding.{step-adds}
-use Rattle.mapworld_causes.specs.Causes.{HasCauses}
-use Rattle.mapworld_causes.proofs.Keeping.{causes-step}
+use Rattle.mapworld_transitions.proofs.Keys.{setup-laws}
+use Rattle.mapworld_transitions.proofs.Rooms.{next_too}
+use Rattle.mapworld_invariant.proofs.Sounds.{sound-step}
+use Rattle.mapworld_invariant.proofs.Adding.{step-adds}
+use Rattle.mapworld_invariant.specs.Causes.Causes.{HasCauses}
+use Rattle.mapworld_invariant.proofs.CausesFacts.Keeping.{causes-step}
 use Rattle.mapworld_progress.specs.Drains.{HasTime}
 use Rattle.mapworld_progress.proofs.Draining.{setup-fixed, sized}
 use Rattle.mapworld_progress.proofs.Timing.{time-after}

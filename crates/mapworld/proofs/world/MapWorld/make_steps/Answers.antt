@@ -5,11 +5,11 @@ use Rattle.std.proofs.lemmas.Result.{err_from_is_err_and}
 use Rattle.mapworld_state.specs.Running.{refusal, Ran}
 use Rattle.mapworld_state.specs.Steps.{IsStep}
 use Rattle.mapworld_state.specs.World.{setup_of}
-use Rattle.mapworld_faults.specs.Faults.{run_fault_done}
-use Rattle.mapworld_sound.proofs.Adding.{step-adds, adds-more, fixed-more}
+use Rattle.mapworld_state.specs.Faults.Faults.{run_fault_done}
+use Rattle.mapworld_invariant.proofs.Adding.{step-adds, adds-more, fixed-more}
 use Rattle.mapworld.proofs.Runs.{Ran-more}
 use Rattle.mapworld_progress.proofs.Draining.{setup-fixed}
-use Rattle.mapworld_moves.proofs.Keys.{setup-laws}
+use Rattle.mapworld_transitions.proofs.Keys.{setup-laws}
 use Rattle.mapworld.proofs.Footprints.{step_footprint}
 use Rattle.mapworld.proofs.Faulting.{refusal-done}
 use Rattle.mapworld.proofs.world.MapWorld.make_steps.Goals as goal

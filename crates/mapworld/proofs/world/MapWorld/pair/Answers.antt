@@ -5,7 +5,7 @@ use Rattle.mapworld_state.proofs.Views.{view-at}
 use Rattle.std.proofs.lemmas.Option.{slice_get_read}
 use Rattle.mapworld_state.specs.Core.{state_of}
 use Rattle.dashmap_table.specs.Route.{route_of, hash_of}
-use Rattle.mapworld_moves.proofs.Keys.{setup-laws}
+use Rattle.mapworld_transitions.proofs.Keys.{setup-laws}
 use Rattle.mapworld.proofs.Viewing.{pair_in_shard}
 use Rattle.mapworld.proofs.world.MapWorld.pair.Goals as goal
 

@@ -1,7 +1,7 @@
 use Rattle.std.proofs.Common.{sym}
 use Rattle.mapworld_state.specs.Core.{state_of}
 use Rattle.mapworld_state.specs.World.{setup_of}
-use Rattle.mapworld_causes.proofs.Meeting.{sleepers-have_company, words-have_calls}
+use Rattle.mapworld_invariant.proofs.CausesFacts.Meeting.{sleepers-have_company, words-have_calls}
 use Rattle.mapworld_progress.proofs.Draining.{sized}
 use Rattle.mapworld.proofs.Outcomes.{world-agrees, hold_by_phase}
 use Rattle.mapworld.proofs.world.MapWorld.run.Goals as goal

@@ -1,5 +1,5 @@
 use Rattle.std.proofs.Common.{subst}
-use Rattle.parking_lot_core_lot.specs.Machine.{machine, retire_fault, retired, Does, Makes}
+use Rattle.parking_lot_core_model.specs.Machine.{machine, retire_fault, retired, Does, Makes}
 use Rattle.parking_lot_core.specs.Shared.{OnSomeLot}
 use Rattle.parking_lot_core.proofs.parking_lot.ParkingLot.retire.Goals as goal
 

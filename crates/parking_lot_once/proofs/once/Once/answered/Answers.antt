@@ -1,6 +1,6 @@
 use Rattle.std.proofs.Common.{◌∙◌, sym, subst}
 use Rattle.std.proofs.lemmas.Option.{none-some, same_Some}
-use Rattle.parking_lot_once_protocol.specs.OnceAnswers.{MayAnswer}
+use Rattle.parking_lot_protocol_waits.specs.Once.OnceAnswers.{MayAnswer}
 use Rattle.parking_lot_once.proofs.OnceRunning.{answered, ends}
 use Rattle.parking_lot_once.proofs.once.Once.answered.Goals as goal
 

@@ -1,7 +1,7 @@
 use Rattle.std.proofs.Common.{subst}
 use Rattle.std.specs.Prelude.{All}
 use Rattle.dashmap_table.specs.Slots.{pairs_of}
-use Rattle.dashmap_rayon.specs.Calls.{AnswersOf}
+use Rattle.dashmap_view.specs.Parallel.Calls.{AnswersOf}
 use Rattle.dashmap_parallel.specs.Visits.{WhileShared}
 use Rattle.dashmap_parallel.proofs.lent.fn.SharedIter.for_each.in_pieces.Goals as goal
 

@@ -1,6 +1,6 @@
 use Rattle.std.proofs.Common.{subst}
-use Rattle.dashmap_rayon.specs.Calls.{WritesEach}
-use Rattle.dashmap_walks.specs.Held.{WhileHeld}
+use Rattle.dashmap_view.specs.Parallel.Calls.{WritesEach}
+use Rattle.dashmap_iter.specs.Walks.Held.{WhileHeld}
 use Rattle.dashmap_parallel.proofs.written.fn.SharedIterMut.for_each.in_pieces.Goals as goal
 
 pub returns : goal.returns

@@ -1,0 +1,78 @@
+//! A look at the shards of a map.
+ghost use Rattle.std.specs.Prelude.{◌≡◌, ◌<◌, ◌≤◌, length, Some, MatchOption};
+ghost use Rattle.dashmap_table.specs.Route.{IsShardAmount};
+ghost use Rattle.dashmap_map.specs.Locked.{lock_at};
+
+use crate::shard_guards::guard::{ShardReadGuard, hold_to_read};
+use dashmap_map::DashMap;
+use dashmap_table::Shard;
+use lock_api_raw::RawRwLock;
+use lock_api_rw::RwLock;
+use std::alloc::{Allocator, Global};
+use std::hash::{BuildHasher, Hash};
+use std::marker::Model;
+use std::sync::Wait;
+
+/// The shards of a map, to be counted and read. It borrows the map and holds no shard.
+///
+/// A contract sees what it sees of the map: the raw locks and the hasher (`Locked`).
+///
+/// ```text
+/// let shards = map.shards();
+/// let first = shards.read(0, &mut me).ok_or("none")?;   // the shard, lent until the guard is dropped
+/// ```
+#[derive(Drop)]
+pub struct ShardsView<'m, K: Eq + Hash, V, S: BuildHasher, Q, A: Allocator = Global> {
+    map: &'m DashMap<K, V, S, Q, A>,
+}
+
+impl<'m, K: Eq + Hash, V, S: BuildHasher, Q, A: Allocator> Model for ShardsView<'m, K, V, S, Q, A> {
+    ghost use Rattle.dashmap_map.specs.Locked.{Locked};
+
+    ghost Value = { Locked Q S };
+
+    ghost view = { λ v. v.map.now };
+}
+
+impl<'m, K: Eq + Hash, V, S: BuildHasher, Q, A: Allocator> ShardsView<'m, K, V, S, Q, A> {
+    /// The shards of a map.
+    pub fn of(map: &'m DashMap<K, V, S, Q, A>) -> ShardsView<'m, K, V, S, Q, A>
+        ensures { result ≡ map.now }
+    {
+        ShardsView { map }
+    }
+
+    /// How many shards there are.
+    pub fn count(&self) -> usize
+        ensures count { result ≡ length self.now.locks }
+        ensures amount { IsShardAmount result }
+    {
+        self.map.shard_locks().len()
+    }
+
+    /// Waits for a shared hold of a shard; None from `count` on.
+    pub fn read<'d>(
+        &self,
+        shard: usize,
+        td: &'d mut Q::Party,
+    ) -> Option<ShardReadGuard<'m, 'd, K, V, Q, A>>
+    where
+        Q: RawRwLock,
+        Q::Runtime: Wait,
+        ensures { MatchOption result (length self.now.locks ≤ shard) (λ g. lock_at self.now shard ≡ Some g.held.0.place.now) }
+    {
+        if shard < self.count() {
+            Some(hold_to_read(self.lock(shard), td))
+        } else {
+            None
+        }
+    }
+
+    /// A shard behind its lock.
+    pub(crate) fn lock(&self, shard: usize) -> &'m RwLock<Q, Shard<K, V, A>>
+        requires { shard < length self.now.locks }
+        ensures { lock_at self.now shard ≡ Some result.now }
+    {
+        &*self.map.shard_locks()[shard]
+    }
+}

@@ -1,0 +1,195 @@
+//! Walks over all shards of a map, each of which is held exclusively in its turn.
+ghost use Rattle.std.specs.Prelude.{◌≡◌, ◌<◌, ℕ, None, Some, length, slice_get};
+ghost use Rattle.std.specs.Option.{option_map};
+ghost use Rattle.crossbeam_utils.specs.Padded.{padded_value};
+ghost use Rattle.dashmap_table.specs.Slots.{at};
+ghost use Rattle.dashmap_map.specs.Locked.{Locked};
+ghost use Rattle.dashmap_iter.specs.Walks.Visits.{Walked, AtFull, Keeps, Alters};
+ghost use Rattle.dashmap_iter.specs.Walks.Held.{WhileHeld, EachHeld};
+
+use crate::walks::each::{alter_each_in, clear_in, retain_in};
+use crossbeam_utils::CachePadded;
+use dashmap_map::DashMap;
+use dashmap_table::Shard;
+use lock_api_raw::RawRwLock;
+use lock_api_rw::{RwLock, RwLockWriteGuard};
+use std::alloc::Allocator;
+use std::hash::{BuildHasher, Hash};
+use std::sync::Wait;
+
+/// Walks over a map, which takes its shards in their order. What waits is lent what the thread has last.
+///
+/// What lies behind a lock is known to its holder alone, so each contract says what happens to each shard while it is held: each shard
+/// once, from the first on. What others do to a shard before or after, no clause can say.
+///
+/// ```text
+/// map.retain(|_, age| *age > 20, &mut me);
+/// map.alter_all(|_, age| age + 1, &mut me);
+/// map.clear(&mut me);
+/// ```
+pub trait Walks<K: Eq + Hash, V, S, Q: RawRwLock>
+where
+    Q::Runtime: Wait,
+{
+    /// The locks and the hasher of a map.
+    ghost seen: { Self → Locked Q S };
+
+    /// Asks the closure of each pair, whose value it may write, and takes those out of which it answers false. One shard is held at a
+    /// time.
+    fn retain<F: FnMut(&K, &mut V) -> bool + Drop>(&self, f: F, td: &mut Q::Party)
+    where
+        K: Drop,
+        V: Drop,
+        requires { F.IsAlwaysCallable f }
+        ensures { (last : F) × EachHeld Q.ExclusiveGuard Q.Runtime Q.Party (seen self.now) (λ p q. Walked (AtFull (Keeps F.FnMut)) (length p.1.slots) p q) f last };
+
+    /// Stores what the closure makes of each value. The next shard is held before the last one is given back.
+    fn alter_all<F: FnMut(&K, V) -> V + Drop>(&self, f: F, td: &mut Q::Party)
+        requires { F.IsAlwaysCallable f }
+        ensures { (last : F) × EachHeld Q.ExclusiveGuard Q.Runtime Q.Party (seen self.now) (λ p q. Walked (AtFull (Alters F.FnMut)) (length p.1.slots) p q) f last };
+
+    /// Takes every pair out; the room stays. One shard is held at a time.
+    fn clear(&self, td: &mut Q::Party)
+    where
+        K: Drop,
+        V: Drop,
+        ensures { EachHeld {K = K} {V = V} Q.ExclusiveGuard Q.Runtime Q.Party {F = Unit {0}} (seen self.now) (λ p q. (i : ℕ) → at q.1.slots i ≡ None) tt tt };
+
+    /// As `retain`.
+    fn _retain<F: FnMut(&K, &mut V) -> bool + Drop>(&self, f: F, td: &mut Q::Party)
+    where
+        K: Drop,
+        V: Drop,
+        requires { F.IsAlwaysCallable f }
+        ensures { (last : F) × EachHeld Q.ExclusiveGuard Q.Runtime Q.Party (seen self.now) (λ p q. Walked (AtFull (Keeps F.FnMut)) (length p.1.slots) p q) f last };
+
+    /// As `alter_all`.
+    fn _alter_all<F: FnMut(&K, V) -> V + Drop>(&self, f: F, td: &mut Q::Party)
+        requires { F.IsAlwaysCallable f }
+        ensures { (last : F) × EachHeld Q.ExclusiveGuard Q.Runtime Q.Party (seen self.now) (λ p q. Walked (AtFull (Alters F.FnMut)) (length p.1.slots) p q) f last };
+
+    /// As `clear`.
+    fn _clear(&self, td: &mut Q::Party)
+    where
+        K: Drop,
+        V: Drop,
+        ensures { EachHeld {K = K} {V = V} Q.ExclusiveGuard Q.Runtime Q.Party {F = Unit {0}} (seen self.now) (λ p q. (i : ℕ) → at q.1.slots i ≡ None) tt tt };
+}
+
+/// The lock of a shard. For the layer above.
+pub fn lock_behind<K: Eq + Hash, V, Q, A: Allocator>(
+    locks: &[CachePadded<RwLock<Q, Shard<K, V, A>>>],
+    shard: usize,
+) -> &RwLock<Q, Shard<K, V, A>>
+    requires { shard < length locks.now }
+    ensures { option_map padded_value (slice_get locks.now shard) ≡ Some result.now }
+{
+    &*locks[shard]
+}
+
+/// `retain` for one shard, which is held meanwhile.
+fn retain_behind<
+    K: Eq + Hash + Drop,
+    V: Drop,
+    Q: RawRwLock,
+    A: Allocator,
+    F: FnMut(&K, &mut V) -> bool + Drop,
+>(lock: &RwLock<Q, Shard<K, V, A>>, f: F, td: &mut Q::Party) -> F
+where
+    Q::Runtime: Wait,
+    requires { F.IsAlwaysCallable f }
+    ensures held { WhileHeld Q.ExclusiveGuard Q.Runtime Q.Party lock.now (λ old new. Walked (AtFull (Keeps F.FnMut)) (length old.slots) (f, old) (result, new)) }
+    ensures again { F.IsAlwaysCallable result }
+{
+    let mut guard = lock.write(td);
+    retain_in(&mut *guard, f)
+}
+
+/// `clear` for one shard, which is held meanwhile.
+fn clear_behind<K: Eq + Hash + Drop, V: Drop, Q: RawRwLock, A: Allocator>(
+    lock: &RwLock<Q, Shard<K, V, A>>,
+    td: &mut Q::Party,
+)
+where
+    Q::Runtime: Wait,
+    ensures { WhileHeld {K = K} {V = V} Q.ExclusiveGuard Q.Runtime Q.Party lock.now (λ old new. (i : ℕ) → at new.slots i ≡ None) }
+{
+    let mut guard = lock.write(td);
+    clear_in(&mut *guard);
+}
+
+/// Holds the next shard, and then gives the last one back.
+fn hold_next<'m, K: Eq + Hash, V, Q: RawRwLock, A: Allocator>(
+    lock: &'m RwLock<Q, Shard<K, V, A>>,
+    last: RwLockWriteGuard<'m, Q, Shard<K, V, A>>,
+    td: &mut Q::Party,
+) -> RwLockWriteGuard<'m, Q, Shard<K, V, A>>
+where
+    Q::Runtime: Wait,
+    ensures { result.held.0.place.now ≡ lock.now }
+{
+    let next = lock.write(td);
+    drop(last);
+    next
+}
+
+impl<K: Eq + Hash, V, S: BuildHasher, Q: RawRwLock, A: Allocator> Walks<K, V, S, Q>
+    for DashMap<K, V, S, Q, A>
+where
+    Q::Runtime: Wait,
+{
+    ghost seen = { λ map. map };
+
+    fn retain<F: FnMut(&K, &mut V) -> bool + Drop>(&self, f: F, td: &mut Q::Party)
+    where
+        K: Drop,
+        V: Drop,
+    {
+        let locks = self.shard_locks();
+        let mut f = f;
+        for shard in 0..locks.len() {
+            f = retain_behind(lock_behind(locks, shard), f, td);
+        }
+    }
+
+    fn alter_all<F: FnMut(&K, V) -> V + Drop>(&self, f: F, td: &mut Q::Party) {
+        let locks = self.shard_locks();
+        let mut held = lock_behind(locks, 0).write(td);
+        let mut f = alter_each_in(&mut *held, f);
+        for shard in 1..locks.len() {
+            held = hold_next(lock_behind(locks, shard), held, td);
+            f = alter_each_in(&mut *held, f);
+        }
+    }
+
+    fn clear(&self, td: &mut Q::Party)
+    where
+        K: Drop,
+        V: Drop,
+    {
+        let locks = self.shard_locks();
+        for shard in 0..locks.len() {
+            clear_behind(lock_behind(locks, shard), td);
+        }
+    }
+
+    fn _retain<F: FnMut(&K, &mut V) -> bool + Drop>(&self, f: F, td: &mut Q::Party)
+    where
+        K: Drop,
+        V: Drop,
+    {
+        self.retain(f, td);
+    }
+
+    fn _alter_all<F: FnMut(&K, V) -> V + Drop>(&self, f: F, td: &mut Q::Party) {
+        self.alter_all(f, td);
+    }
+
+    fn _clear(&self, td: &mut Q::Party)
+    where
+        K: Drop,
+        V: Drop,
+    {
+        self.clear(td);
+    }
+}

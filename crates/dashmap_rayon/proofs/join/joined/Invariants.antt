@@ -1,6 +1,0 @@
-use Rattle.dashmap_rayon.specs.Calls.{AreJoined}
-use Rattle.dashmap_rayon.proofs.join.joined.Given as goal
-
--- the lists so far stand one behind another
-abbrev pub invariant-loop-list : goal.invariant-loop-list
-invariant-loop-list g l = AreJoined l.yielded l.all.items

@@ -1,7 +1,0 @@
-use Rattle.std.proofs.Common.{◌≡◌, None, drop}
-use Rattle.dashmap_record_history.specs.Match.{rises_above}
-use Rattle.dashmap_record_history.proofs.matching.rises.Given as goal
-
--- the whole rises where the rest rises above the last
-abbrev pub invariant-loop-entry : goal.invariant-loop-entry
-invariant-loop-entry g l = rises_above None l.list ≡ rises_above l.last (drop l.entry-index l.list)

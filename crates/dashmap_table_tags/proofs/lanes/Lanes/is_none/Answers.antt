@@ -1,7 +1,0 @@
-use Rattle.std.proofs.Common.{eqb-true, eq-eqb, rules}
-use Rattle.dashmap_table_tags.proofs.Bits.{none_of_zero, zero_of_none}
-use Rattle.dashmap_table_tags.proofs.lanes.Lanes.is_none.Goals as goal
-
-pub returns : goal.returns
-returns c =
-    (λ zero k. none_of_zero c.args.self.bits k (eqb-true c.args.self.bits 0 zero), λ none. eq-eqb c.args.self.bits 0 (zero_of_none c.args.self.bits (search rules) none))

@@ -1,4 +1,0 @@
-use Rattle.dashmap_walks.proofs.walks.clear_behind.Goals as goal
-
-pub returns : goal.returns
-returns g c = (c.write-guard.result, c.clear_in.new.shard, c.write-guard.ensures, c.clear_in.ensures.empty)

@@ -1,6 +1,0 @@
-use Rattle.std.proofs.Common.{◌∙◌}
-use Rattle.mapworld_calls.proofs.Hashes.{spread_u64}
-use Rattle.mapworld_calls.proofs.spread.spread_hash.Goals as goal
-
-pub returns : goal.returns
-returns c = c.hash_one.ensures ∙ spread_u64 c.args.key

@@ -1,4 +1,0 @@
-//! The proof that a try which finds its shard locked has a cause: a call of another thread was on that shard.
-#![tactic(auto)]
-
-pub mod laws;

@@ -1,6 +1,0 @@
-//! Why a world of maps isn't made, and why a run of it stops.
-#![tactic(auto)]
-
-mod fault;
-
-pub use fault::{RunFault, WorldNewFault};

@@ -1,5 +1,0 @@
-use Rattle.mapworld_laws.proofs.Missed.{refusals-may_find}
-use Rattle.mapworld_laws.proofs.laws.refusals_may_find_their_key.Goals as goal
-
-pub returns : goal.returns
-returns g c = refusals-may_find

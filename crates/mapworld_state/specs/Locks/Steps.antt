@@ -1,0 +1,89 @@
+-- What each act of a thread leaves of shards' locks.
+use Rattle.std.specs.Prelude.{◌≡◌, ◌≢◌, ◌⊎◌, ℕ, ◌<◌, Bool, true, false, length, Some, None, slice_get, slice_set}
+use Rattle.lock_api_desk.specs.declared.mode.Mode.{Mode}
+use Rattle.lock_api_desk.specs.declared.mode.Mode.TheVariants as held
+use Rattle.lock_api_desk.specs.Desk.{DeskState}
+use Rattle.parking_lot_protocol.specs.declared.act.CoreAnswer.{CoreAnswer}
+use Rattle.parking_lot_protocol.specs.declared.act.CoreAnswer.TheVariants.{Owned, Refused}
+use Rattle.parking_lot_machine_calls.specs.declared.calls.LockCall.{LockCall}
+use Rattle.parking_lot_machine_calls.specs.declared.calls.LockCall.TheVariants.{Downgrade}
+use Rattle.parking_lot_machine.specs.Machines.{IsBegun, IsStepped, ended}
+use Rattle.parking_lot_machine.specs.Rows.{state, taken_by}
+use Rattle.mapworld_state.specs.Locks.Aims.{Gets, GivesUp, Turns, aim_of}
+use Rattle.mapworld_state.specs.Locks.Moves.{desk_after}
+use Rattle.mapworld_state.specs.Locks.Seats.{GoTogether}
+use Rattle.mapworld_state.specs.Locks.Stands.{Stand, is_of_shards, is_try, needs, stand_in}
+use Rattle.mapworld_state.specs.Locks.Views.{Shown, owner_in}
+
+-- threads stay, and locks stay what they are
+pub record StaysWhole (old new : Shown) : Type 0 where
+  pub threads : length new.rows.calls ≡ length old.rows.calls
+  pub kinds : new.rows.kinds ≡ old.rows.kinds
+
+-- The thread may begin the call: it is in none, and holds the shard as the call needs it.
+pub record MayAsk (t shard : ℕ) (call : LockCall) (sh : Shown) : Type 0 where
+  pub thread : t < length sh.rows.calls
+  pub there : shard < length sh.rows.kinds
+  pub of_kind : is_of_shards call ≡ true
+  pub free : stand_in sh t ≡ None
+  pub holds : owner_in sh shard t ≡ needs call
+
+-- It has begun the call, and nobody's hold has changed.
+pub record LockBegins (t shard : ℕ) (call : LockCall) (old new : Shown) : Type 0 where
+  pub became : IsBegun t shard call (state old.rows) (state new.rows)
+  pub whole : StaysWhole old new
+  pub desks : new.desks ≡ old.desks
+  pub stand : stand_in new t ≡ Some (record { shard = shard; aim = aim_of call; trying = is_try call })
+  pub others : (v : ℕ) → v ≢ t → stand_in new v ≡ stand_in old v
+  pub holds : (v i : ℕ) → owner_in new i v ≡ owner_in old i v
+
+-- It has made one step that isn't an answer.
+pub record LockMoves (t : ℕ) (fair : Bool) (old new : Shown) : Type 0 where
+  pub stand : Stand
+  pub stood : stand_in old t ≡ Some stand
+  pub steps : IsStepped t fair None (state old.rows) (state new.rows)
+  pub whole : StaysWhole old new
+  -- the desk of its shard follows the owners there
+  pub desk : DeskState (Unit {0})
+  pub at_shard : slice_get old.desks stand.shard ≡ Some desk
+  pub desks : new.desks ≡ slice_set old.desks stand.shard (desk_after (owner_in old stand.shard) (owner_in new stand.shard) t (taken_by new.rows.wakes t) desk)
+  -- it is about what it was, and one that can't be refused stays so
+  pub trying : Bool
+  pub stands : stand_in new t ≡ Some (record stand { trying = trying })
+  pub patient : stand.trying ≡ false → trying ≡ false
+  pub others : (v : ℕ) → v ≢ t → stand_in new v ≡ stand_in old v
+  -- what others hold stays theirs; they gain only what they are about
+  pub kept : (v i : ℕ) (m : Mode) → v ≢ t → owner_in old i v ≡ Some m → owner_in new i v ≡ Some m
+  pub gained : (v i : ℕ) (m : Mode) → v ≢ t → owner_in new i v ≡ Some m
+      → (owner_in old i v ≡ Some m) ⊎ ((sv : Stand) × (stand_in old v ≡ Some sv) × (sv.shard ≡ i) × (sv.aim ≡ Gets m))
+  pub elsewhere : (i : ℕ) → i ≢ stand.shard → owner_in new i t ≡ owner_in old i t
+  -- at other shards nobody's hold changes
+  pub apart : (v i : ℕ) → i ≢ stand.shard → owner_in new i v ≡ owner_in old i v
+  pub turned : stand.aim ≡ Turns → owner_in old stand.shard t ≡ Some held.Shared → owner_in new stand.shard t ≡ Some held.Shared
+
+-- It has begun to give its hold up or to turn it, and has made the first act of that.
+pub record LockStarts (t shard : ℕ) (call : LockCall) (fair : Bool) (old new : Shown) : Type 0 where
+  pub mid : Shown
+  pub begins : LockBegins t shard call old mid
+  pub moves : LockMoves t fair mid new
+  pub turned : call ≡ Downgrade → owner_in new shard t ≡ Some held.Shared
+
+-- Only the answer was left, and is given.
+pub record LockEnds (t : ℕ) (answer : CoreAnswer) (old new : Shown) : Type 0 where
+  pub stand : Stand
+  pub stood : stand_in old t ≡ Some stand
+  pub over : ended (state old.rows) t ≡ Some answer
+  pub steps : IsStepped t false (Some answer) (state old.rows) (state new.rows)
+  pub whole : StaysWhole old new
+  pub desks : new.desks ≡ old.desks
+  pub gone : stand_in new t ≡ None
+  pub others : (v : ℕ) → v ≢ t → stand_in new v ≡ stand_in old v
+  pub holds : (v i : ℕ) → owner_in new i v ≡ owner_in old i v
+  -- it holds what it was about, unless it was refused: only a try is
+  pub owned : (m : Mode) → stand.aim ≡ Gets m → answer ≡ Owned → owner_in new stand.shard t ≡ Some m
+  pub patient : (m : Mode) → stand.aim ≡ Gets m → stand.trying ≡ false → answer ≡ Owned
+  pub settled : (m : Mode) → stand.aim ≡ Gets m → (answer ≡ Owned) ⊎ (answer ≡ Refused)
+  pub refused : (m : Mode) → stand.aim ≡ Gets m → answer ≡ Refused → owner_in new stand.shard t ≡ None
+  pub freed : (m : Mode) → stand.aim ≡ GivesUp m → owner_in new stand.shard t ≡ None
+  pub turned : stand.aim ≡ Turns → owner_in new stand.shard t ≡ Some held.Shared
+  pub together : (i : ℕ) → GoTogether (owner_in new i)

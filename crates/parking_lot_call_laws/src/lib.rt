@@ -1,4 +1,0 @@
-//! What calls at locks are answered, and how their threads own the locks then.
-#![tactic(auto)]
-
-pub mod laws;

@@ -1,5 +1,0 @@
-use Rattle.parking_lot_core_lot.proofs.Whole.{going_on_in_steps}
-use Rattle.parking_lot_core_lot.proofs.laws.going_on_is_its_steps.Goals as goal
-
-pub returns : goal.returns
-returns c = going_on_in_steps

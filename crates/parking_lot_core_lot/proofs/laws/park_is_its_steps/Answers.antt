@@ -1,5 +1,0 @@
-use Rattle.parking_lot_core_lot.proofs.Whole.{park_in_steps, invalid_in_steps}
-use Rattle.parking_lot_core_lot.proofs.laws.park_is_its_steps.Goals as goal
-
-pub returns : goal.returns
-returns c = record { valid = park_in_steps; invalid = invalid_in_steps }

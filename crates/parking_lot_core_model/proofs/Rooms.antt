@@ -1,0 +1,38 @@
+-- There stays room for each registered thread to wait.
+use Rattle.std.proofs.Common.{◌≡◌, ℕ, ◌+◌, ◌<◌, ◌≤◌, Bool, true, false, List, [], ◌∷◌, ◌++◌, length, Option, Some, None, slice_get, slice_set, refl, sym, ap, ◌∙◌, subst, arith, count_by, map}
+use Rattle.std.specs.Option.{option_map, option_map_or}
+use Rattle.std.proofs.lemmas.Bool.{cond-true, cond-false}
+use Rattle.std.proofs.Math.ListN.{length-set}
+use Rattle.parking_lot_core_model.specs.declared.lists.Lists.{Lists}
+use Rattle.parking_lot_core_model.specs.declared.place.Place.{Place}
+use Rattle.parking_lot_core_model.specs.declared.place.Place.TheVariants.{Running, Waiting, Held, Taken}
+use Rattle.parking_lot_core_model.specs.declared.place.Waiter.{Waiter}
+use Rattle.parking_lot_core_model.specs.Lists.{total, room}
+use Rattle.parking_lot_core_model.specs.Places.{place_at, is_waiting}
+use Rattle.parking_lot_core_model.specs.Sound.{Room}
+use Rattle.parking_lot_core_model.proofs.Numbers.{flag, count_by-set, count_by-lt}
+use Rattle.parking_lot_core_model.proofs.Sounds.{some_slot}
+
+-- a place that waits
+abbrev pub waits : Option Place → Bool
+waits place = option_map_or is_waiting place false
+
+module _ {A : Type 0} where
+  -- a thread's place and the lists change, and the lists grow no more than the waiting do
+  pub room_next : (w v : Lists Waiter A) (ps : List (Option Place)) (max t : ℕ) (p : Place) (o : Option Place) → Room w ps max → place_at ps t ≡ Some p
+      → room v ≡ room w → total v + flag (is_waiting p) ≤ total w + flag (waits o) → Room v (slice_set ps t o) max
+  room_next w v ps max t p o h at same fits =
+      let c : count_by waits (slice_set ps t o) + flag (is_waiting p) ≡ count_by waits ps + flag (waits o) = count_by-set waits ps t (Some p) o (some_slot (slice_get ps t) p at) in
+      let l : length (slice_set ps t o) ≡ length ps = length-set ps t o in
+      let a = h.waits in
+      let b = h.room in
+      let d = h.threads in
+      record { waits = omega arith; room = omega arith; threads = omega arith; limit = h.limit }
+
+  -- a running thread finds room
+  pub room_left : (w : Lists Waiter A) (ps : List (Option Place)) (max t : ℕ) → Room w ps max → place_at ps t ≡ Some Running → total w < room w
+  room_left w ps max t h at =
+      let c : count_by waits ps < length ps = count_by-lt waits ps t (Some Running) (some_slot (slice_get ps t) Running at) refl in
+      let a = h.waits in
+      let b = h.room in
+      omega arith

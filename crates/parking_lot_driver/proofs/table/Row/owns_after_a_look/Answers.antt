@@ -1,0 +1,23 @@
+use Rattle.std.proofs.Common.{◌∷◌, [], sym, subst, refl}
+use Rattle.parking_lot_protocol.specs.Timed.Courses.{EndedAt}
+use Rattle.parking_lot_protocol.specs.Acts.{Gives}
+use Rattle.parking_lot_protocol.specs.declared.act.ActResult.TheVariants.{Word, Exchanged}
+use Rattle.parking_lot_driver.proofs.table.Row.owns_after_a_look.Goals as goal
+
+-- the core was told of the word, that the exchange was won, and of the word that this left
+pub returns-then-is_ok : goal.returns-then-is_ok
+unfolding EndedAt
+returns-then-is_ok g c =
+    let word = c.args.word in
+    let to = c.args.to in
+    λ _. (
+      Word to ∷ Exchanged ∷ Word word ∷ [],
+      (
+        (to, subst (λ act. Gives act to (Word to)) (sym c.requires.look) refl),
+        (
+          (word, subst (λ act. Gives act word Exchanged) (sym c.requires.then) refl),
+          ((word, subst (λ act. Gives act word (Word word)) (sym c.requires.first) refl), tt),
+        ),
+      ),
+      c.requires.last,
+    )

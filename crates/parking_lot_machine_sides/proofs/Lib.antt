@@ -1,0 +1,2 @@
+pub mod CondvarFacts
+pub mod OnceFacts

@@ -1,0 +1,27 @@
+//! Mutexes of running threads, on the rows of a lock table: the raw mutex, the raw mutex whose every release is fair, how participants
+//! are told apart, and the condition variable.
+//!
+//! A raw lock owns one row. Each of its calls runs a decision core there, by `parking_lot_driver`. Where one exchange is enough it is
+//! made before a core is set up: that is the core's own first way, cut short.
+//!
+//! **An admission issues one token, a release spends it on its own row:** tokens bear the first key of their row, and two rows of
+//! a lot never have the same. Nothing is promised of a word, nor that a call comes back: what keeps two writers from one value
+//! is the std lock in which a generic lock keeps it.
+//!
+//! Calls that may sleep take the data of a participant of the table's lot. A participant of another lot can't sleep; it yields and
+//! asks again. A release may wait for the lot's short sections, in which sleeping threads are woken.
+#![tactic(auto)]
+
+pub mod condvar;
+pub mod laws;
+mod raw_fair_mutex;
+mod raw_mutex;
+mod thread_id;
+
+pub use parking_lot_driver::{Call, DecisionCore, LockTable, Row, run_to_its_end, to_deadline};
+pub use parking_lot_protocol::{
+    Act, ActResult, CoreAnswer, MutexCore, SectionAct, WordChange, wake_sum,
+};
+pub use raw_fair_mutex::RawFairMutex;
+pub use raw_mutex::RawMutex;
+pub use thread_id::RawThreadId;

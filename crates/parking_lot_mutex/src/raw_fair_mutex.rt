@@ -1,0 +1,173 @@
+//! The raw mutex whose every release is fair.
+ghost use Rattle.std.specs.Prelude.{◌≡◌, ◌+◌, ◌*◌, ◌%◌, ◌^◌, IfSome, MatchOption, true};
+ghost use Rattle.parking_lot_driver.specs.Ends.{MutexEnded, OwnedInTime, TimedEnded};
+ghost use Rattle.parking_lot_protocol.specs.declared.act.CoreAnswer.{CoreAnswer};
+ghost use Rattle.parking_lot_protocol.specs.declared.act.CoreAnswer.TheVariants.{Owned};
+ghost use Rattle.parking_lot_protocol.specs.declared.mutex_phase.MutexPhase.TheVariants.{Locking, Unlocking, Bumping};
+ghost use Rattle.parking_lot_protocol.specs.declared.timed.timed_act.TimedAct.TheVariants.{GivesUp};
+
+use crate::raw_mutex::RawMutex;
+use lock_api_raw::{GuardSend, MakeLock, RawMutex as _, RawMutexFair, RawMutexTimed, TableFull};
+use parking_lot_core::ThreadData;
+use parking_lot_driver::LockTable;
+use std::alloc::{Allocator, Global};
+use std::sync::Wait;
+use std::time::{Clock, Duration, Instant};
+
+/// A mutex on one row of a lock table that is handed over to the first that waits at every release, plain ones too. So nobody who
+/// comes later gets it before those that sleep.
+///
+/// Its word is that of a [`RawMutex`]: where threads sleep it stays locked over a release.
+#[derive(Drop)]
+pub struct RawFairMutex<'t, 'l, R, A: Allocator = Global> {
+    mutex: RawMutex<'t, 'l, R, A>,
+}
+
+impl<'t, 'l, R: Wait, A: Allocator> RawFairMutex<'t, 'l, R, A> {
+    /// Waits until the mutex is owned, or until the moment by the clock that is handed in: then it is off the list, and `None` is the
+    /// answer.
+    ///
+    /// The moment is looked at where the thread sleeps. So a mutex that can be had at once is had, also where the moment is past.
+    #[inline(always)]
+    pub fn lock_until<C: Clock>(
+        &self,
+        deadline: Instant,
+        clock: &C,
+        party: &mut ThreadData<A>,
+    ) -> Option<GuardSend>
+        ensures issued { IfSome result (λ token. token ≡ (self.now.mutex.row.table.now.first_key + 2 * self.now.mutex.row.number) % 2 ^ 64) }
+        ensures call { MatchOption result (TimedEnded GivesUp) (λ _. OwnedInTime) }
+    {
+        self.mutex.lock_until(deadline, clock, party)
+    }
+
+    /// As [`lock_until`](RawFairMutex::lock_until), with the moment that lies `timeout` ahead. Where no moment can say that, it waits as long as
+    /// it takes.
+    pub fn lock_for<C: Clock>(
+        &self,
+        timeout: Duration,
+        clock: &C,
+        party: &mut ThreadData<A>,
+    ) -> Option<GuardSend>
+        ensures issued { IfSome result (λ token. token ≡ (self.now.mutex.row.table.now.first_key + 2 * self.now.mutex.row.number) % 2 ^ 64) }
+        ensures call { MatchOption result (TimedEnded GivesUp) (λ _. OwnedInTime) }
+    {
+        self.mutex.lock_for(timeout, clock, party)
+    }
+}
+
+impl<'t, 'l, R, A: Allocator> MakeLock<&'t LockTable<'l, R, A>> for RawFairMutex<'t, 'l, R, A> {
+    ghost limit = { λ _. 1 };
+
+    ghost own_limit = { 1 };
+
+    fn new(
+        source: &'t LockTable<'l, R, A>,
+        readers: u64,
+    ) -> Result<RawFairMutex<'t, 'l, R, A>, TableFull> {
+        Ok(RawFairMutex {
+            mutex: RawMutex::new(source, readers)?,
+        })
+    }
+}
+
+impl<'t, 'l, R, A: Allocator> lock_api_raw::RawMutex for RawFairMutex<'t, 'l, R, A> {
+    type Runtime = R;
+
+    type Party = ThreadData<A>;
+
+    type Guard = GuardSend;
+
+    ghost number = { λ fair. (fair.mutex.row.table.now.first_key + 2 * fair.mutex.row.number) % 2 ^ 64 };
+
+    ghost issued_by = { λ token. token };
+
+    ghost runtime_of = { λ fair. fair.mutex.row.table.now.lot.now.rt };
+
+    ghost locked = { λ _. MutexEnded Locking Owned };
+
+    ghost unlocked = { λ _. (answer : CoreAnswer) × MutexEnded (Unlocking true) answer };
+
+    fn runtime(&self) -> &R {
+        self.mutex.runtime()
+    }
+
+    #[inline(always)]
+    fn lock(&self, party: &mut ThreadData<A>) -> GuardSend
+    where
+        R: Wait,
+    {
+        self.mutex.lock(party)
+    }
+
+    #[inline(always)]
+    fn try_lock(&self) -> Option<GuardSend> {
+        self.mutex.try_lock()
+    }
+
+    #[inline(always)]
+    fn unlock(&self, guard: GuardSend)
+    where
+        R: Wait,
+    {
+        self.unlock_fair(guard);
+    }
+
+    fn is_locked(&self) -> bool {
+        self.mutex.is_locked()
+    }
+}
+
+impl<'t, 'l, R, A: Allocator> RawMutexFair for RawFairMutex<'t, 'l, R, A> {
+    ghost spent_fairly = { λ _. (answer : CoreAnswer) × MutexEnded (Unlocking true) answer };
+
+    ghost bumped = { λ _ _. MutexEnded Bumping Owned };
+
+    #[inline(always)]
+    fn unlock_fair(&self, guard: GuardSend)
+    where
+        R: Wait,
+    {
+        self.mutex.unlock_fair(guard);
+    }
+
+    fn bump(&self, guard: GuardSend, party: &mut ThreadData<A>) -> GuardSend
+    where
+        R: Wait,
+    {
+        self.mutex.bump(guard, party)
+    }
+}
+
+impl<'t, 'l, R, A: Allocator> RawMutexTimed for RawFairMutex<'t, 'l, R, A> {
+    type Duration = Duration;
+
+    type Instant = Instant;
+
+    ghost locked_in_time = { λ answer. MatchOption answer (TimedEnded GivesUp) (λ _. OwnedInTime) };
+
+    fn try_lock_for<C: Clock>(
+        &self,
+        timeout: Duration,
+        clock: &C,
+        party: &mut ThreadData<A>,
+    ) -> Option<GuardSend>
+    where
+        R: Wait,
+    {
+        self.lock_for(timeout, clock, party)
+    }
+
+    #[inline(always)]
+    fn try_lock_until<C: Clock>(
+        &self,
+        deadline: Instant,
+        clock: &C,
+        party: &mut ThreadData<A>,
+    ) -> Option<GuardSend>
+    where
+        R: Wait,
+    {
+        self.lock_until(deadline, clock, party)
+    }
+}

@@ -1,5 +1,0 @@
-use Rattle.parking_lot_once_protocol.proofs.OnceAnswering.{ends_by_an_answer}
-use Rattle.parking_lot_once_protocol.proofs.once_core.OnceCore.answer.Goals as goal
-
-pub returns-clause-ends : goal.returns-clause-ends
-returns-clause-ends c = ends_by_an_answer _

@@ -1,9 +1,0 @@
--- The example run can be made.
-use Rattle.std.proofs.Common.{refl}
-use Rattle.parking_lot_once_rules.specs.Once.{weight}
-use Rattle.parking_lot_once_rules.specs.OnceExample.{RunIsThere}
-
-pub run_is_there : RunIsThere
-unfolding weight
-run_is_there =
-    ((refl, tt), ((refl, (refl, refl)), ((refl, tt), ((refl, (refl, refl)), ((refl, refl), ((refl, (refl, refl)), (refl, ((refl, tt), ((refl, tt), ((refl, refl), ((refl, refl, refl), ((refl, refl), ((refl, tt), ((refl, refl), ((refl, tt), ((refl, refl), refl))))))))))))))))

@@ -1,5 +1,0 @@
-use Rattle.parking_lot_once_rules.proofs.History.{closures_are_counted}
-use Rattle.parking_lot_once_rules.proofs.laws.one_closure_ends_well_at_most.Goals as goal
-
-pub returns : goal.returns
-returns c = closures_are_counted

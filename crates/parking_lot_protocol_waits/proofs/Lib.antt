@@ -1,0 +1,3 @@
+mod NotifyFollowing
+mod WaitFollowing
+pub mod OnceFacts

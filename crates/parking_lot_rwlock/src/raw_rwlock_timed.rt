@@ -1,0 +1,349 @@
+//! Calls of the raw reader-writer lock that may give up.
+ghost use Rattle.std.specs.Prelude.{◌≡◌, ◌+◌, ◌*◌, ◌%◌, ◌^◌, ◌==◌, IfSome, MatchBool, MatchOption, MatchResult};
+ghost use Rattle.parking_lot_driver.specs.Ends.{RwEnded, RwOwned, TimedRwEnded, UpgradeEnded, asking_in_time, reading_in_time, upgrading_in_time, writing_in_time};
+ghost use Rattle.parking_lot_protocol.specs.declared.act.Act.TheVariants.{Done};
+ghost use Rattle.parking_lot_protocol.specs.declared.act.CoreAnswer.TheVariants.{Owned};
+ghost use Rattle.parking_lot_protocol.specs.declared.rw_phase.LockMode.TheVariants.{Shared, Exclusive};
+ghost use Rattle.parking_lot_protocol.specs.declared.rw_phase.RwPhase.TheVariants.{Locking};
+ghost use Rattle.parking_lot_protocol.specs.declared.timed.timed_act.TimedAct.TheVariants.{Makes, GivesUp};
+ghost use Rattle.parking_lot_protocol_rw.specs.declared.upgrade_phase.UpgradePhase.TheVariants as call;
+
+use crate::raw_rwlock::RawRwLock;
+use lock_api_raw::{
+    GuardSend, RawRwLock as _, RawRwLockTimed, RawRwLockUpgrade as _, RawRwLockUpgradeTimed,
+};
+use parking_lot_core::{ThreadData, thread_yield};
+use parking_lot_driver::{
+    AskUpgradablyInTime, Disown, ReadInTime, UpgradeInTime, WriteInTime, to_deadline,
+};
+use parking_lot_protocol::ActResult;
+use std::alloc::Allocator;
+use std::sync::Wait;
+use std::time::{Clock, Duration, Instant};
+
+impl<'t, 'l, R: Wait, const RECURSIVE: u8, A: Allocator> RawRwLock<'t, 'l, R, RECURSIVE, A> {
+    /// Asks to read until the moment. A hold beyond the most readers is given back, and asked for again.
+    #[cold]
+    #[inline(never)]
+    fn read_in_time<C: Clock>(
+        &self,
+        deadline: Instant,
+        clock: &C,
+        party: &mut ThreadData<A>,
+    ) -> bool
+        ensures { MatchBool result (TimedRwEnded (reading_in_time RECURSIVE) (Makes (Done Owned))) (TimedRwEnded (reading_in_time RECURSIVE) GivesUp) }
+    {
+        for _call in self.row().lot().runtime().forever() {
+            let call = ReadInTime::<RECURSIVE>;
+            if !self.place().own_in_time(call, deadline, clock, party) {
+                return false;
+            }
+            if !self.is_overfull() {
+                return true;
+            }
+            self.unlock_shared(self.token());
+            thread_yield();
+        }
+        unreachable!()
+    }
+
+    /// Asks for the upgradable hold until the moment. A hold beyond the most readers is given back, and asked for again.
+    #[cold]
+    #[inline(never)]
+    fn own_upgradable_in_time<C: Clock>(
+        &self,
+        deadline: Instant,
+        clock: &C,
+        party: &mut ThreadData<A>,
+    ) -> bool
+        ensures { MatchBool result (TimedRwEnded asking_in_time (Makes (Done Owned))) (TimedRwEnded asking_in_time GivesUp) }
+    {
+        for _call in self.row().lot().runtime().forever() {
+            let call = AskUpgradablyInTime;
+            if !self.place().own_in_time(call, deadline, clock, party) {
+                return false;
+            }
+            if !self.is_overfull() {
+                return true;
+            }
+            self.disown(Disown);
+            thread_yield();
+        }
+        unreachable!()
+    }
+
+    /// Waits until a shared hold is owned, or until the moment by the clock that is handed in: then it is off the list, and `None` is
+    /// the answer.
+    ///
+    /// The moment is looked at where the thread sleeps. So a lock that can be had at once is had, also where the moment is past.
+    #[inline(always)]
+    pub fn read_until<C: Clock>(
+        &self,
+        deadline: Instant,
+        clock: &C,
+        party: &mut ThreadData<A>,
+    ) -> Option<GuardSend>
+        ensures issued { IfSome result (λ token. token ≡ (self.now.row.table.now.first_key + 2 * self.now.row.number) % 2 ^ 64) }
+        ensures call { MatchOption result (TimedRwEnded (reading_in_time RECURSIVE) GivesUp) (λ _. RwOwned (RwEnded (Locking (Shared (RECURSIVE == 1))) Owned) (reading_in_time RECURSIVE)) }
+    {
+        if self.reads_at_once() || self.read_in_time(deadline, clock, party) {
+            Some(self.token())
+        } else {
+            None
+        }
+    }
+
+    /// As [`read_until`](RawRwLock::read_until), with the moment that lies `timeout` ahead. Where no moment can say that, it waits as
+    /// long as it takes.
+    pub fn read_for<C: Clock>(
+        &self,
+        timeout: Duration,
+        clock: &C,
+        party: &mut ThreadData<A>,
+    ) -> Option<GuardSend>
+        ensures issued { IfSome result (λ token. token ≡ (self.now.row.table.now.first_key + 2 * self.now.row.number) % 2 ^ 64) }
+        ensures call { MatchOption result (TimedRwEnded (reading_in_time RECURSIVE) GivesUp) (λ _. RwOwned (RwEnded (Locking (Shared (RECURSIVE == 1))) Owned) (reading_in_time RECURSIVE)) }
+    {
+        match to_deadline(clock, timeout) {
+            Some(deadline) => self.read_until(deadline, clock, party),
+            None => Some(self.lock_shared(party)),
+        }
+    }
+
+    /// As [`read_until`](RawRwLock::read_until), of the exclusive hold. One that waits for readers to leave gives up there too: the lock
+    /// is as if it had never asked, and those that it kept out are looked after.
+    #[inline(always)]
+    pub fn write_until<C: Clock>(
+        &self,
+        deadline: Instant,
+        clock: &C,
+        party: &mut ThreadData<A>,
+    ) -> Option<GuardSend>
+        ensures issued { IfSome result (λ token. token ≡ (self.now.row.table.now.first_key + 2 * self.now.row.number) % 2 ^ 64) }
+        ensures call { MatchOption result (TimedRwEnded writing_in_time GivesUp) (λ _. RwOwned (RwEnded (Locking Exclusive) Owned) writing_in_time) }
+    {
+        if self.writes_at_once()
+            || self
+                .place()
+                .own_in_time(WriteInTime, deadline, clock, party)
+        {
+            Some(self.token())
+        } else {
+            None
+        }
+    }
+
+    /// As [`write_until`](RawRwLock::write_until), with the moment that lies `timeout` ahead.
+    pub fn write_for<C: Clock>(
+        &self,
+        timeout: Duration,
+        clock: &C,
+        party: &mut ThreadData<A>,
+    ) -> Option<GuardSend>
+        ensures issued { IfSome result (λ token. token ≡ (self.now.row.table.now.first_key + 2 * self.now.row.number) % 2 ^ 64) }
+        ensures call { MatchOption result (TimedRwEnded writing_in_time GivesUp) (λ _. RwOwned (RwEnded (Locking Exclusive) Owned) writing_in_time) }
+    {
+        match to_deadline(clock, timeout) {
+            Some(deadline) => self.write_until(deadline, clock, party),
+            None => Some(self.lock_exclusive(party)),
+        }
+    }
+
+    /// As [`read_until`](RawRwLock::read_until), of the upgradable hold.
+    #[inline(always)]
+    pub fn upgradable_until<C: Clock>(
+        &self,
+        deadline: Instant,
+        clock: &C,
+        party: &mut ThreadData<A>,
+    ) -> Option<GuardSend>
+        ensures issued { IfSome result (λ token. token ≡ (self.now.row.table.now.first_key + 2 * self.now.row.number) % 2 ^ 64) }
+        ensures call { MatchOption result (TimedRwEnded asking_in_time GivesUp) (λ _. RwOwned (UpgradeEnded call.Locking Owned) asking_in_time) }
+    {
+        if self.upgradable_at_once() || self.own_upgradable_in_time(deadline, clock, party) {
+            Some(self.token())
+        } else {
+            None
+        }
+    }
+
+    /// As [`upgradable_until`](RawRwLock::upgradable_until), with the moment that lies `timeout` ahead.
+    pub fn upgradable_for<C: Clock>(
+        &self,
+        timeout: Duration,
+        clock: &C,
+        party: &mut ThreadData<A>,
+    ) -> Option<GuardSend>
+        ensures issued { IfSome result (λ token. token ≡ (self.now.row.table.now.first_key + 2 * self.now.row.number) % 2 ^ 64) }
+        ensures call { MatchOption result (TimedRwEnded asking_in_time GivesUp) (λ _. RwOwned (UpgradeEnded call.Locking Owned) asking_in_time) }
+    {
+        match to_deadline(clock, timeout) {
+            Some(deadline) => self.upgradable_until(deadline, clock, party),
+            None => Some(self.lock_upgradable(party)),
+        }
+    }
+
+    /// Makes the upgradable hold the exclusive one, or gives up at the moment: then it is the upgradable one again, with nobody
+    /// exclusive in between, and the token comes back.
+    #[inline(always)]
+    pub fn upgraded_until<C: Clock>(
+        &self,
+        guard: GuardSend,
+        deadline: Instant,
+        clock: &C,
+        party: &mut ThreadData<A>,
+    ) -> Result<GuardSend, GuardSend>
+        ensures token { MatchResult result (λ token. token ≡ guard) (λ token. token ≡ guard) }
+        ensures call { MatchResult result (λ _. RwOwned (UpgradeEnded call.Upgrading Owned) upgrading_in_time) (λ _. TimedRwEnded upgrading_in_time GivesUp) }
+    {
+        let Err(word) = self.upgrades_at_once() else {
+            return Ok(guard);
+        };
+        let first = ActResult::Before(word);
+        if self
+            .place()
+            .own_in_time_after(UpgradeInTime, first, deadline, clock, party)
+        {
+            Ok(guard)
+        } else {
+            Err(guard)
+        }
+    }
+
+    /// As [`upgraded_until`](RawRwLock::upgraded_until), with the moment that lies `timeout` ahead.
+    pub fn upgraded_for<C: Clock>(
+        &self,
+        guard: GuardSend,
+        timeout: Duration,
+        clock: &C,
+        party: &mut ThreadData<A>,
+    ) -> Result<GuardSend, GuardSend>
+        ensures token { MatchResult result (λ token. token ≡ guard) (λ token. token ≡ guard) }
+        ensures call { MatchResult result (λ _. RwOwned (UpgradeEnded call.Upgrading Owned) upgrading_in_time) (λ _. TimedRwEnded upgrading_in_time GivesUp) }
+    {
+        match to_deadline(clock, timeout) {
+            Some(deadline) => self.upgraded_until(guard, deadline, clock, party),
+            None => Ok(self.upgraded(guard, party)),
+        }
+    }
+}
+
+impl<'t, 'l, R, const RECURSIVE: u8, A: Allocator> RawRwLockTimed
+    for RawRwLock<'t, 'l, R, RECURSIVE, A> {
+    type Duration = Duration;
+
+    type Instant = Instant;
+
+    ghost shared_locked_in_time = { λ answer. MatchOption answer (TimedRwEnded (reading_in_time RECURSIVE) GivesUp) (λ _. RwOwned (RwEnded (Locking (Shared (RECURSIVE == 1))) Owned) (reading_in_time RECURSIVE)) };
+
+    ghost exclusive_locked_in_time = { λ answer. MatchOption answer (TimedRwEnded writing_in_time GivesUp) (λ _. RwOwned (RwEnded (Locking Exclusive) Owned) writing_in_time) };
+
+    fn try_lock_shared_for<C: Clock>(
+        &self,
+        timeout: Duration,
+        clock: &C,
+        party: &mut ThreadData<A>,
+    ) -> Option<GuardSend>
+    where
+        R: Wait,
+    {
+        self.read_for(timeout, clock, party)
+    }
+
+    #[inline(always)]
+    fn try_lock_shared_until<C: Clock>(
+        &self,
+        deadline: Instant,
+        clock: &C,
+        party: &mut ThreadData<A>,
+    ) -> Option<GuardSend>
+    where
+        R: Wait,
+    {
+        self.read_until(deadline, clock, party)
+    }
+
+    fn try_lock_exclusive_for<C: Clock>(
+        &self,
+        timeout: Duration,
+        clock: &C,
+        party: &mut ThreadData<A>,
+    ) -> Option<GuardSend>
+    where
+        R: Wait,
+    {
+        self.write_for(timeout, clock, party)
+    }
+
+    #[inline(always)]
+    fn try_lock_exclusive_until<C: Clock>(
+        &self,
+        deadline: Instant,
+        clock: &C,
+        party: &mut ThreadData<A>,
+    ) -> Option<GuardSend>
+    where
+        R: Wait,
+    {
+        self.write_until(deadline, clock, party)
+    }
+}
+
+impl<'t, 'l, R, const RECURSIVE: u8, A: Allocator> RawRwLockUpgradeTimed
+    for RawRwLock<'t, 'l, R, RECURSIVE, A> {
+    ghost upgradable_locked_in_time = { λ answer. MatchOption answer (TimedRwEnded asking_in_time GivesUp) (λ _. RwOwned (UpgradeEnded call.Locking Owned) asking_in_time) };
+
+    ghost upgraded_in_time = { λ _ tried. MatchResult tried (λ _. RwOwned (UpgradeEnded call.Upgrading Owned) upgrading_in_time) (λ _. TimedRwEnded upgrading_in_time GivesUp) };
+
+    fn try_lock_upgradable_for<C: Clock>(
+        &self,
+        timeout: Duration,
+        clock: &C,
+        party: &mut ThreadData<A>,
+    ) -> Option<GuardSend>
+    where
+        R: Wait,
+    {
+        self.upgradable_for(timeout, clock, party)
+    }
+
+    fn try_upgrade_for<C: Clock>(
+        &self,
+        guard: GuardSend,
+        timeout: Duration,
+        clock: &C,
+        party: &mut ThreadData<A>,
+    ) -> Result<GuardSend, GuardSend>
+    where
+        R: Wait,
+    {
+        self.upgraded_for(guard, timeout, clock, party)
+    }
+
+    #[inline(always)]
+    fn try_lock_upgradable_until<C: Clock>(
+        &self,
+        deadline: Instant,
+        clock: &C,
+        party: &mut ThreadData<A>,
+    ) -> Option<GuardSend>
+    where
+        R: Wait,
+    {
+        self.upgradable_until(deadline, clock, party)
+    }
+
+    #[inline(always)]
+    fn try_upgrade_until<C: Clock>(
+        &self,
+        guard: GuardSend,
+        deadline: Instant,
+        clock: &C,
+        party: &mut ThreadData<A>,
+    ) -> Result<GuardSend, GuardSend>
+    where
+        R: Wait,
+    {
+        self.upgraded_until(guard, deadline, clock, party)
+    }
+}

@@ -1,5 +1,0 @@
-pub mod InnerFollowing
-pub mod SectionFollowing
-pub mod UpgradeFollowing
-pub mod UpgradeLooking
-pub mod UpgradeWords

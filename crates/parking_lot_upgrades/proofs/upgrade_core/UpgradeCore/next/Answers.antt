@@ -1,8 +1,0 @@
-use Rattle.parking_lot_upgrades.proofs.UpgradeFollowing.{upgrade_ends, upgrade_follows}
-use Rattle.parking_lot_upgrades.proofs.upgrade_core.UpgradeCore.next.Goals as goal
-
-pub returns-clause-rules : goal.returns-clause-rules
-returns-clause-rules c = upgrade_follows _ _
-
-pub returns-clause-end : goal.returns-clause-end
-returns-clause-end c = upgrade_ends _

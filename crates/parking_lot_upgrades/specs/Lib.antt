@@ -1,5 +1,0 @@
-pub mod UpgradeLooks
-pub mod UpgradeMoves
-pub mod UpgradeRoles
-pub mod UpgradeRules
-pub mod UpgradeTable

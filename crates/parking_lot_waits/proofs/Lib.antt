@@ -1,2 +1,0 @@
-mod NotifyFollowing
-mod WaitFollowing

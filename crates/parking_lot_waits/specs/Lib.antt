@@ -1,4 +1,0 @@
-pub mod NotifyRules
-pub mod NotifyTable
-pub mod WaitRules
-pub mod WaitTable

@@ -1,5 +1,0 @@
-use Rattle.parking_lot_waits_world.proofs.Givers.{givers_stay_out}
-use Rattle.parking_lot_waits_world.proofs.laws.givers_stay_out.Goals as goal
-
-pub returns : goal.returns
-returns c = givers_stay_out

@@ -1,5 +1,0 @@
-use Rattle.parking_lot_waits_world.proofs.MovingRuns.{moves_run}
-use Rattle.parking_lot_waits_world.proofs.laws.notifications_are_runs.Goals as goal
-
-pub returns : goal.returns
-returns c = moves_run c.moves_are_runs.ensures

@@ -1,5 +1,0 @@
-use Rattle.parking_lot_waits_world.proofs.Progress.{somebody_can_move}
-use Rattle.parking_lot_waits_world.proofs.laws.somebody_can_move.Goals as goal
-
-pub returns : goal.returns
-returns c = somebody_can_move c.awake_can_move.ensures c.somebody_can_move.ensures

@@ -1,6 +1,0 @@
-use Rattle.std.proofs.Common.{subst}
-use Rattle.parking_lot_waits_world.specs.JointProgress.{GiversAreOut}
-use Rattle.parking_lot_waits_world.proofs.wait_machine.WaitMachine.known.Goals as goal
-
-pub returns-clause-givers : goal.returns-clause-givers
-returns-clause-givers g c = subst GiversAreOut c.self.view_is c.self.invariant.1

@@ -1,7 +1,0 @@
-use Rattle.std.proofs.Common.{◌∙◌, ap, unwrap_or, length}
-use Rattle.parking_lot_core_lot.proofs.Numbers.{unwrap_or-position}
-use Rattle.parking_lot_world.specs.Rows.{is_by}
-use Rattle.parking_lot_world.proofs.acts.first_by.Goals as goal
-
-pub returns : goal.returns
-returns c = c.unwrap_or.ensures ∙ (ap (λ o. unwrap_or o (length c.args.wakes.now)) c.place_by.ensures ∙ unwrap_or-position (is_by c.args.by) c.args.wakes.now)

@@ -1,5 +1,0 @@
-use Rattle.parking_lot_world.proofs.Acting.{laws}
-use Rattle.parking_lot_world.proofs.laws.acts_are_steps.Goals as goal
-
-pub returns : goal.returns
-returns c = laws

@@ -1,5 +1,0 @@
-use Rattle.parking_lot_world.proofs.Beginning.{goes_on}
-use Rattle.parking_lot_world.proofs.mutex_laws.calls_that_have_begun_go_on.Goals as goal
-
-pub returns : goal.returns
-returns c = goes_on

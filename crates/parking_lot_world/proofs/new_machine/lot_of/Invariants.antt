@@ -1,9 +1,0 @@
-use Rattle.std.proofs.Common.{◌≡◌, replicate, Some}
-use Rattle.parking_lot_core_lot.specs.Machine.{machine}
-use Rattle.parking_lot_core_lot.specs.Runs.{fresh}
-use Rattle.parking_lot_core_lot.specs.declared.place.Place.TheVariants.{Running}
-use Rattle.parking_lot_world.proofs.new_machine.lot_of.Given as goal
-
--- those that are registered so far run
-abbrev pub invariant-loop : goal.invariant-loop
-invariant-loop g l = machine l.lot ≡ record (fresh l.threads 0) { places = replicate l.counter (Some Running) }

@@ -1,5 +1,0 @@
-use Rattle.parking_lot_world.proofs.RwPaying.{steps_fall}
-use Rattle.parking_lot_world.proofs.rank_laws.rw_steps_fall.Goals as goal
-
-pub returns : goal.returns
-returns c = steps_fall

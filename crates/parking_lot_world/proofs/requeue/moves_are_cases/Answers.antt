@@ -1,5 +1,0 @@
-use Rattle.parking_lot_world.proofs.RequeueCases.{laws}
-use Rattle.parking_lot_world.proofs.requeue.moves_are_cases.Goals as goal
-
-pub returns : goal.returns
-returns c = laws

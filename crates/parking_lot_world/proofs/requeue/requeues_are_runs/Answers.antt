@@ -1,5 +1,0 @@
-use Rattle.parking_lot_world.proofs.RequeueRuns.{laws}
-use Rattle.parking_lot_world.proofs.requeue.requeues_are_runs.Goals as goal
-
-pub returns : goal.returns
-returns c = laws

@@ -1,6 +1,0 @@
-use Rattle.parking_lot_world.specs.Rows.{state}
-use Rattle.parking_lot_world.proofs.WakesPaying.{any_may_be_stepped}
-use Rattle.parking_lot_world.proofs.row_machine.RowMachine.others_go_on.Goals as goal
-
-pub returns : goal.returns
-returns g c = any_may_be_stepped (state c.args.self.now) c.known.ensures c.args.thread

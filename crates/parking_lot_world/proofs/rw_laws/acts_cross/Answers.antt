@@ -1,5 +1,0 @@
-use Rattle.parking_lot_world.proofs.RwCrossing.{acts_cross}
-use Rattle.parking_lot_world.proofs.rw_laws.acts_cross.Goals as goal
-
-pub returns : goal.returns
-returns c = acts_cross

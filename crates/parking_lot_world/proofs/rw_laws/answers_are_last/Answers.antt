@@ -1,5 +1,0 @@
-use Rattle.parking_lot_world.proofs.RwTaking.{answers_are_last}
-use Rattle.parking_lot_world.proofs.rw_laws.answers_are_last.Goals as goal
-
-pub returns : goal.returns
-returns c = answers_are_last

@@ -1,5 +1,0 @@
-use Rattle.parking_lot_world.proofs.RwCrossing.{free_sections_are_empty}
-use Rattle.parking_lot_world.proofs.rw_laws.free_sections_are_empty.Goals as goal
-
-pub returns : goal.returns
-returns c = free_sections_are_empty

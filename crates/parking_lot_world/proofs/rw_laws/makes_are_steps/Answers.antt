@@ -1,5 +1,0 @@
-use Rattle.parking_lot_world.proofs.RwMoving.{makes_are_steps}
-use Rattle.parking_lot_world.proofs.rw_laws.makes_are_steps.Goals as goal
-
-pub returns : goal.returns
-returns c = makes_are_steps

@@ -1,5 +1,0 @@
-use Rattle.parking_lot_world.proofs.RwMoving.{stays_are_steps}
-use Rattle.parking_lot_world.proofs.rw_laws.stays_are_steps.Goals as goal
-
-pub returns : goal.returns
-returns c = stays_are_steps

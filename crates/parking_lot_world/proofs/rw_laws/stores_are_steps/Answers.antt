@@ -1,5 +1,0 @@
-use Rattle.parking_lot_world.proofs.RwWaking.{stores_are_steps}
-use Rattle.parking_lot_world.proofs.rw_laws.stores_are_steps.Goals as goal
-
-pub returns : goal.returns
-returns c = stores_are_steps

@@ -1,5 +1,0 @@
-use Rattle.parking_lot_world.proofs.RwTelling.{stores_tell}
-use Rattle.parking_lot_world.proofs.rw_laws.stores_tell.Goals as goal
-
-pub returns : goal.returns
-returns c = stores_tell

@@ -1,5 +1,0 @@
-use Rattle.parking_lot_world.proofs.RwTaking.{takes_are_steps}
-use Rattle.parking_lot_world.proofs.rw_laws.takes_are_steps.Goals as goal
-
-pub returns : goal.returns
-returns c = takes_are_steps

@@ -1,5 +1,0 @@
-use Rattle.parking_lot_world.proofs.RwWaking.{tokens_say}
-use Rattle.parking_lot_world.proofs.rw_laws.tokens_say.Goals as goal
-
-pub returns : goal.returns
-returns c = tokens_say

@@ -1,5 +1,0 @@
-use Rattle.parking_lot_world.proofs.RwTaking.{tokens_tell}
-use Rattle.parking_lot_world.proofs.rw_laws.tokens_tell.Goals as goal
-
-pub returns : goal.returns
-returns c = tokens_tell

@@ -1,5 +1,0 @@
-use Rattle.parking_lot_world.proofs.RwWaking.{woken_are_told}
-use Rattle.parking_lot_world.proofs.rw_laws.woken_are_told.Goals as goal
-
-pub returns : goal.returns
-returns c = woken_are_told

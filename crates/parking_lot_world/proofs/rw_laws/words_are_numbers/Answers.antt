@@ -1,5 +1,0 @@
-use Rattle.parking_lot_world.proofs.RwMoving.{words_are_numbers}
-use Rattle.parking_lot_world.proofs.rw_laws.words_are_numbers.Goals as goal
-
-pub returns : goal.returns
-returns c = words_are_numbers

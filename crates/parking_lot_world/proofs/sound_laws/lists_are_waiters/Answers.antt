@@ -1,5 +1,0 @@
-use Rattle.parking_lot_world.proofs.Queueing.{lists_are_waiters}
-use Rattle.parking_lot_world.proofs.sound_laws.lists_are_waiters.Goals as goal
-
-pub returns : goal.returns
-returns c = lists_are_waiters

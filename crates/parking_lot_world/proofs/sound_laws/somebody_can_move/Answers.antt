@@ -1,5 +1,0 @@
-use Rattle.parking_lot_world.proofs.Serving.{somebody_can_move}
-use Rattle.parking_lot_world.proofs.sound_laws.somebody_can_move.Goals as goal
-
-pub returns : goal.returns
-returns c = somebody_can_move

@@ -1,5 +1,0 @@
-use Rattle.parking_lot_world.proofs.Bounding.{steps_are_few}
-use Rattle.parking_lot_world.proofs.sound_laws.steps_are_few.Goals as goal
-
-pub returns : goal.returns
-returns c = steps_are_few

@@ -1,5 +1,0 @@
-use Rattle.parking_lot_world.proofs.TakeLaws.{laws}
-use Rattle.parking_lot_world.proofs.take_laws.takes_are_steps_of_the_machine.Goals as goal
-
-pub returns : goal.returns
-returns c = laws

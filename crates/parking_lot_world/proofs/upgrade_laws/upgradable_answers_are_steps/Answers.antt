@@ -1,5 +1,0 @@
-use Rattle.parking_lot_world.proofs.UpgradeMoving.{upgrades_are_steps}
-use Rattle.parking_lot_world.proofs.upgrade_laws.upgradable_answers_are_steps.Goals as goal
-
-pub returns : goal.returns
-returns c = upgrades_are_steps

@@ -1,0 +1,115 @@
+//! Which steps a world allows.
+ghost use Rattle.std.specs.Prelude.{◌≡◌};
+ghost use Rattle.parking_lot_world.specs.Worlds.{goes, is_entry, is_in_once, is_once_at, is_variable_at, may_ask, may_go, may_make, once_enters, once_side, wait_side};
+
+use crate::calls::Asked;
+use crate::step::WorldStep;
+use crate::world::World;
+use parking_lot_protocol::Act;
+use std::alloc::Allocator;
+
+/// Whether an act enters a section.
+fn is_entry(act: Act) -> bool
+    ensures { result ≡ is_entry act }
+{
+    match act {
+        Act::Enter(_) => true,
+        _ => false,
+    }
+}
+
+impl<A: Allocator> World<A> {
+    /// Whether a lock is a once.
+    pub(crate) fn is_once(&self, lock: usize) -> bool
+        ensures { result ≡ is_once_at self.now lock }
+    {
+        match self.kinds.get(lock) {
+            Some(kind) => kind.is_once(),
+            None => false,
+        }
+    }
+
+    /// Whether a lock is a condition variable.
+    pub(crate) fn is_variable(&self, lock: usize) -> bool
+        ensures { result ≡ is_variable_at self.now lock }
+    {
+        match self.kinds.get(lock) {
+            Some(kind) => kind.is_variable(),
+            None => false,
+        }
+    }
+
+    /// Whether a thread is in a call at a once.
+    pub(crate) fn is_in_once(&self, thread: usize) -> bool
+        ensures { result ≡ is_in_once self.now thread }
+    {
+        self.onces.call(thread).is_some()
+    }
+
+    /// Whether a thread's call at a once is before a section.
+    fn once_enters(&self, thread: usize) -> bool
+        ensures { result ≡ once_enters self.now.onces thread }
+    {
+        match self.onces.call(thread) {
+            Some(call) => is_entry(call.core.act()),
+            None => false,
+        }
+    }
+
+    /// Whether a thread may make a step of its call at a lock or a condition variable.
+    fn wait_goes(&self, thread: usize) -> bool
+        ensures { result ≡ goes (wait_side self.now.waits) (once_side self.now.onces) thread }
+    {
+        self.waits.may_go(thread) && !(self.waits.enters(thread) && self.onces.inside().is_some())
+    }
+
+    /// Whether a thread may make a step of its call at a once.
+    fn once_goes(&self, thread: usize) -> bool
+        ensures { result ≡ goes (once_side self.now.onces) (wait_side self.now.waits) thread }
+    {
+        self.onces.can_move(thread) && !(self.once_enters(thread) && self.waits.is_open())
+    }
+
+    /// Whether a thread may begin a call now.
+    fn may_ask(&self, thread: usize, lock: usize, call: Asked) -> bool
+        ensures { result ≡ may_ask self.now thread lock call }
+    {
+        match call {
+            Asked::OfLock(call) => {
+                !self.is_once(lock)
+                    && self.onces.call(thread).is_none()
+                    && self.waits.may_ask(thread, lock, call)
+            }
+            Asked::OfVariable(call) => {
+                self.onces.call(thread).is_none() && self.waits.may_call_at(thread, lock, call)
+            }
+            Asked::OfOnce(_) => {
+                self.is_once(lock)
+                    && !self.waits.is_busy(thread)
+                    && self.onces.may_begin(thread, lock)
+            }
+        }
+    }
+
+    /// Whether a thread may make a step of its call now.
+    fn may_go(&self, thread: usize) -> bool
+        ensures { result ≡ may_go self.now thread }
+    {
+        if self.is_in_once(thread) {
+            self.once_goes(thread)
+        } else {
+            self.wait_goes(thread)
+        }
+    }
+
+    /// Whether a thread may make that step now.
+    pub(crate) fn may_make(&self, step: WorldStep) -> bool
+        ensures { result ≡ may_make self.now step }
+    {
+        match step {
+            WorldStep::Begin(thread, lock, call) => self.may_ask(thread, lock, call.asked()),
+            WorldStep::Go(thread, _) => self.may_go(thread),
+            WorldStep::Deadline(thread) => self.waits.may_expire(thread),
+        }
+    }
+}

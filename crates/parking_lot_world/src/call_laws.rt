@@ -1,0 +1,3 @@
+//! What calls at locks are answered, and how their threads own the locks then.
+
+pub mod laws;

@@ -1,5 +1,0 @@
-use Rattle.parking_lot_world_calls.proofs.Weighing.{weighed}
-use Rattle.parking_lot_world_calls.proofs.laws.modes_are_weighed.Goals as goal
-
-pub returns : goal.returns
-returns c = weighed

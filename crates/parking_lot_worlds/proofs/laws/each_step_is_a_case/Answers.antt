@@ -1,5 +1,0 @@
-use Rattle.parking_lot_worlds.proofs.Casing.{each_step_is_a_case}
-use Rattle.parking_lot_worlds.proofs.laws.each_step_is_a_case.Goals as goal
-
-pub returns : goal.returns
-returns c = each_step_is_a_case c.each_step_is_a_case.ensures

@@ -1,5 +1,0 @@
-pub mod Faults
-pub mod WorldCalls
-pub mod Worlds
-pub mod WorldLaws
-pub mod WorldAnswers
