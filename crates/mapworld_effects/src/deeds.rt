@@ -31,9 +31,9 @@ pub fn append<K: Eq + Hash + Drop, V: Drop, S: BuildHasher, D: Deed<K, V> + Drop
     ensures room { Room core.new }
 {
     let place = &mut core.places[step.thread];
-    let Phase::Append(key, value) = mem::replace(&mut place.phase, Phase::Release(Answer::None))
-    else {
-        unreachable!()
+    let (key, value) = match mem::replace(&mut place.phase, Phase::Release(Answer::None)) {
+        Phase::Append(key, value) => (key, value),
+        _ => unreachable!(),
     };
     let shard = &mut core.tables[place.shard];
     let _slot = add_pair(shard, &core.hasher, key, value);
@@ -66,8 +66,9 @@ pub fn apply<K: Eq + Hash + Drop, V: Drop, S: BuildHasher, D: Deed<K, V> + Drop,
     ensures room { Room core.new }
 {
     let place = &mut core.places[step.thread];
-    let Phase::Apply(call) = mem::replace(&mut place.phase, Phase::Rest) else {
-        unreachable!()
+    let call = match mem::replace(&mut place.phase, Phase::Rest) {
+        Phase::Apply(call) => call,
+        _ => unreachable!(),
     };
     let shard = &mut core.tables[place.shard];
     let (answer, gone) = apply_at(shard, place.slot, call);
@@ -98,8 +99,9 @@ pub fn view<K: Eq + Hash + Drop, V: Drop, S: BuildHasher, D: Deed<K, V> + Drop, 
     let Some(start) = place.started else {
         unreachable!()
     };
-    let Phase::View(_, deed) = mem::replace(&mut place.phase, Phase::Rest) else {
-        unreachable!()
+    let deed = match mem::replace(&mut place.phase, Phase::Rest) {
+        Phase::View(_, deed) => deed,
+        _ => unreachable!(),
     };
     let (key, value) = pair_at(&core.tables[place.shard], place.slot);
     enter(
@@ -132,8 +134,9 @@ pub fn read<K: Eq + Hash + Drop, V: Drop, S: BuildHasher, D: Deed<K, V> + Drop, 
     ensures room { Room core.new }
 {
     let place = &mut core.places[step.thread];
-    let Phase::Read(deed) = mem::replace(&mut place.phase, Phase::Rest) else {
-        unreachable!()
+    let deed = match mem::replace(&mut place.phase, Phase::Rest) {
+        Phase::Read(deed) => deed,
+        _ => unreachable!(),
     };
     let (key, value) = pair_at(&core.tables[place.shard], place.slot);
     enter(
@@ -160,8 +163,9 @@ pub fn change<K: Eq + Hash + Drop, V: Drop, S: BuildHasher, D: Deed<K, V> + Drop
     ensures room { Room core.new }
 {
     let place = &mut core.places[step.thread];
-    let Phase::Change(call) = mem::replace(&mut place.phase, Phase::Rest) else {
-        unreachable!()
+    let call = match mem::replace(&mut place.phase, Phase::Rest) {
+        Phase::Change(call) => call,
+        _ => unreachable!(),
     };
     let Some(way) = lent_way(mem::replace(&mut place.guard, None)) else {
         unreachable!()
@@ -193,8 +197,9 @@ pub fn fill<K: Eq + Hash + Drop, V: Drop, S: BuildHasher, D: Deed<K, V> + Drop, 
     ensures room { Room core.new }
 {
     let place = &mut core.places[step.thread];
-    let Phase::Fill(value) = mem::replace(&mut place.phase, Phase::Answer(Answer::Held)) else {
-        unreachable!()
+    let value = match mem::replace(&mut place.phase, Phase::Answer(Answer::Held)) {
+        Phase::Fill(value) => value,
+        _ => unreachable!(),
     };
     let Some(key) = vacant_key(mem::replace(&mut place.guard, None)) else {
         unreachable!()

@@ -29,8 +29,9 @@ pub fn item<K: Eq + Hash + Drop, V: Drop, S: BuildHasher, D: Deed<K, V> + Drop, 
 {
     let shards = core.tables.len();
     let place = &mut core.places[step.thread];
-    let Phase::Item(walk) = mem::replace(&mut place.phase, Phase::Rest) else {
-        unreachable!()
+    let walk = match mem::replace(&mut place.phase, Phase::Rest) {
+        Phase::Item(walk) => walk,
+        _ => unreachable!(),
     };
     let block = &mut core.blocks[place.visits[place.shard]];
     let shard = &mut core.tables[place.shard];

@@ -105,8 +105,9 @@ pub(crate) fn release<
 {
     let place = &mut core.places[step.thread];
     let hold = take_first(&mut place.holds);
-    let Phase::Release(answer) = mem::replace(&mut place.phase, Phase::Rest) else {
-        unreachable!()
+    let answer = match mem::replace(&mut place.phase, Phase::Rest) {
+        Phase::Release(answer) => answer,
+        _ => unreachable!(),
     };
     let counts = release_counts(&place.guard, place.block);
     place.guard = None;

@@ -39,8 +39,9 @@ pub(crate) fn find<
     let Some(start) = place.started else {
         unreachable!()
     };
-    let Phase::Find(request) = mem::replace(&mut place.phase, Phase::Rest) else {
-        unreachable!()
+    let request = match mem::replace(&mut place.phase, Phase::Rest) {
+        Phase::Find(request) => request,
+        _ => unreachable!(),
     };
     let shard = &core.tables[place.shard];
     let room = has_room(shard);
@@ -85,8 +86,9 @@ pub(crate) fn grow<
     let Some(start) = place.started else {
         unreachable!()
     };
-    let Phase::Grow(call) = mem::replace(&mut place.phase, Phase::Rest) else {
-        unreachable!()
+    let call = match mem::replace(&mut place.phase, Phase::Rest) {
+        Phase::Grow(call) => call,
+        _ => unreachable!(),
     };
     core.count = number;
     core.steps = core.steps.appended(&step);

@@ -63,8 +63,9 @@ fn enter_shard<K: Eq + Hash + Drop, V: Drop, S: BuildHasher, D: Deed<K, V> + Dro
     ensures numbers { has_next (state_of core.new) ≡ has_next (state_of core.old) }
 {
     let place = &mut core.places[thread];
-    let Phase::Admit(request) = mem::replace(&mut place.phase, Phase::Rest) else {
-        unreachable!()
+    let request = match mem::replace(&mut place.phase, Phase::Rest) {
+        Phase::Admit(request) => request,
+        _ => unreachable!(),
     };
     place.holds.push(Hold {
         shard: place.shard,

@@ -41,8 +41,9 @@ fn reach_shard<K: Eq + Hash + Drop, V: Drop, S: BuildHasher, D: Deed<K, V> + Dro
     ensures numbers { has_next (state_of core.new) ≡ has_next (state_of core.old) }
 {
     let place = &mut core.places[thread];
-    let Phase::Reach(walk) = mem::replace(&mut place.phase, Phase::Rest) else {
-        unreachable!()
+    let walk = match mem::replace(&mut place.phase, Phase::Rest) {
+        Phase::Reach(walk) => walk,
+        _ => unreachable!(),
     };
     let hold = Hold {
         shard: place.shard,
@@ -157,8 +158,9 @@ fn give_none<K: Eq + Hash + Drop, V: Drop, S: BuildHasher, D: Deed<K, V> + Drop,
     ensures numbers { has_next (state_of core.new) ≡ has_next (state_of core.old) }
 {
     let place = &mut core.places[thread];
-    let Phase::Idle(walk) = mem::replace(&mut place.phase, Phase::Rest) else {
-        unreachable!()
+    let walk = match mem::replace(&mut place.phase, Phase::Rest) {
+        Phase::Idle(walk) => walk,
+        _ => unreachable!(),
     };
     let answer = walk_answer(&walk, &mut place.reads, &mut place.lists, 0);
     enter(&mut place.phase, Phase::Answer(answer));

@@ -52,8 +52,9 @@ pub(crate) fn part<
     ensures slots { IsSlotted D.Deed S.BuildHasher S.Hasher.Hasher K.eq K.hash_input core.new }
 {
     let place = &mut core.places[step.thread];
-    let Phase::Part(walk) = mem::replace(&mut place.phase, Phase::Rest) else {
-        unreachable!()
+    let walk = match mem::replace(&mut place.phase, Phase::Rest) {
+        Phase::Part(walk) => walk,
+        _ => unreachable!(),
     };
     give_first(&mut core.locks, &mut place.holds, step);
     enter(&mut place.phase, Phase::Visit(walk));
@@ -79,8 +80,9 @@ pub(crate) fn give<
     ensures slots { IsSlotted D.Deed S.BuildHasher S.Hasher.Hasher K.eq K.hash_input core.new }
 {
     let place = &mut core.places[step.thread];
-    let Phase::Give(walk) = mem::replace(&mut place.phase, Phase::Rest) else {
-        unreachable!()
+    let walk = match mem::replace(&mut place.phase, Phase::Rest) {
+        Phase::Give(walk) => walk,
+        _ => unreachable!(),
     };
     give_first(&mut core.locks, &mut place.holds, step);
     enter(&mut place.phase, Phase::Onward(walk));
@@ -106,8 +108,9 @@ pub(crate) fn seek<
     ensures slots { IsSlotted D.Deed S.BuildHasher S.Hasher.Hasher K.eq K.hash_input core.new }
 {
     let place = &mut core.places[step.thread];
-    let Phase::Seek(walk) = mem::replace(&mut place.phase, Phase::Rest) else {
-        unreachable!()
+    let walk = match mem::replace(&mut place.phase, Phase::Rest) {
+        Phase::Seek(walk) => walk,
+        _ => unreachable!(),
     };
     enter(&mut place.phase, Phase::Item(walk));
     core.count += 1;
@@ -133,8 +136,9 @@ pub(crate) fn start_visit<
     ensures slots { IsSlotted D.Deed S.BuildHasher S.Hasher.Hasher K.eq K.hash_input core.new }
 {
     let place = &mut core.places[step.thread];
-    let Phase::Onward(walk) = mem::replace(&mut place.phase, Phase::Rest) else {
-        unreachable!()
+    let walk = match mem::replace(&mut place.phase, Phase::Rest) {
+        Phase::Onward(walk) => walk,
+        _ => unreachable!(),
     };
     place.shard += 1;
     let call = asks_for(walk_mode(&walk));
@@ -169,8 +173,9 @@ pub(crate) fn look<
     let Some(start) = place.started else {
         unreachable!()
     };
-    let Phase::Visit(walk) = mem::replace(&mut place.phase, Phase::Rest) else {
-        unreachable!()
+    let walk = match mem::replace(&mut place.phase, Phase::Rest) {
+        Phase::Visit(walk) => walk,
+        _ => unreachable!(),
     };
     core.count = number;
     core.steps = core.steps.appended(&step);
