@@ -1,16 +1,9 @@
 //! What gathering costs: callers that take turns make calls of all kinds on a recorded map, and what they noted is gathered.
-//!
-//! Without arguments it makes one small run and prints its checksums. With a number it makes so many calls, and prints how many
-//! nanoseconds each of them took, to make and to gather.
-#![tactic(auto)]
 
-mod notes;
-
+use crate::fault::Fault;
+use crate::notes::{Fold, Lists, noted};
 use dashmap_record::{Entered, gather};
-use notes::{Fault, Fold, Lists, noted};
 use std::alloc::Global;
-use std::env;
-use std::process::ExitCode;
 use std::sync::Wait;
 use std::time::{Clock, Instant};
 
@@ -36,7 +29,7 @@ fn checksum(entries: &[Entered<u64, u64>]) -> u64 {
 }
 
 /// What the small run tells: how many calls were gathered, and their checksum.
-fn small<R: Wait + Copy + Drop>(rt: R, alloc: Global) -> Result<String, Fault> {
+pub fn small<R: Wait + Copy + Drop>(rt: R, alloc: Global) -> Result<String, Fault> {
     let all = all_of(alloc, noted(rt, alloc, SMALL)?)?;
     Ok(format!(in alloc; "gathered {} checksum {}", all.len(), checksum(&all))?)
 }
@@ -48,7 +41,11 @@ fn each<R: Clock>(rt: &R, start: Instant, count: u64) -> Result<u128, Fault> {
 }
 
 /// How long so many calls take, to make and to gather.
-fn timed<R: Wait + Clock + Copy + Drop>(rt: R, alloc: Global, count: u64) -> Result<String, Fault> {
+pub fn timed<R: Wait + Clock + Copy + Drop>(
+    rt: R,
+    alloc: Global,
+    count: u64,
+) -> Result<String, Fault> {
     let start = Instant::now(&rt).map_err(|_| Fault)?;
     let notes = noted(rt, alloc, count)?;
     let made = each(&rt, start, count)?;
@@ -59,23 +56,4 @@ fn timed<R: Wait + Clock + Copy + Drop>(rt: R, alloc: Global, count: u64) -> Res
         "{} calls, {made} ns to make and {gathered} ns to gather each",
         all.len()
     )?)
-}
-
-/// How many calls are asked for, if the arguments say so.
-fn asked(rt: &HostRuntime) -> Option<u64> {
-    env::args(rt).ok()?.nth(1)?.parse().ok()
-}
-
-fn main(rt: HostRuntime) -> ExitCode {
-    let told = match asked(&rt) {
-        Some(count) => timed(rt, rt.alloc(), count),
-        None => small(rt, rt.alloc()),
-    };
-    let Ok(line) = told else {
-        return ExitCode::FAILURE;
-    };
-    match println!(rt; "{line}") {
-        Ok(()) => ExitCode::SUCCESS,
-        Err(_) => ExitCode::FAILURE,
-    }
 }

@@ -1,9 +1,10 @@
 //! Histories and logs of so many calls.
 
+use crate::fault::Fault;
 use dashmap_record::{Caller, Entered, RecordFault, Recorded};
 use dashmap_table::MapFault;
 use lock_api_spin::PackedLock;
-use std::alloc::{AllocError, AllocFailed, Allocator};
+use std::alloc::Allocator;
 use std::hash::{BuildHasherDefault, FoldHasher};
 use std::sync::Wait;
 
@@ -18,34 +19,6 @@ type Map<R, A> = Recorded<u64, u64, Fold, PackedLock<R>, A>;
 const SHARDS: usize = 8;
 
 const CALLERS: usize = 4;
-
-/// The calls can't be made, noted, gathered or told of.
-#[derive(Debug, Drop)]
-pub struct Fault;
-
-impl From<MapFault> for Fault {
-    fn from(_refused: MapFault) -> Fault {
-        Fault
-    }
-}
-
-impl From<RecordFault> for Fault {
-    fn from(_refused: RecordFault) -> Fault {
-        Fault
-    }
-}
-
-impl From<AllocError> for Fault {
-    fn from(_refused: AllocError) -> Fault {
-        Fault
-    }
-}
-
-impl<T: Drop> From<AllocFailed<T>> for Fault {
-    fn from(_refused: AllocFailed<T>) -> Fault {
-        Fault
-    }
-}
 
 /// Makes call number `i`, on one of so many keys.
 fn call<R: Wait + Drop, A: Allocator + Clone>(

@@ -1,8 +1,8 @@
 //! So many pairs of a kind, on a lock of their own.
 
 use crate::fault::Fault;
-use crate::pair::Pair;
-use crate::{at_once, guards, in_time, raw, upgrades};
+use crate::pairs::pair::Pair;
+use crate::pairs::{at_once, guards, in_time, raw, upgrades};
 use lock_api::{Mutex, ReentrantMutex, RwLock};
 use lock_api_raw::{MakeCondvar as _, MakeLock as _};
 use parking_lot_core::{ParkingLot, ThreadData};
