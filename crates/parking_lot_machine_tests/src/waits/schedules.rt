@@ -1,6 +1,6 @@
 //! Many schedules: threads that wait until something is so, and one that makes it so and notifies.
 
-use crate::calls::{MUTEX, VARIABLE, expires, machine};
+use super::{MUTEX, VARIABLE, expires, machine};
 use parking_lot_machine_waits::{CondvarCall, Ended, LockCall, WaitMachine};
 use std::test::Fail;
 

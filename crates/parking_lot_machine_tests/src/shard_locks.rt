@@ -1,9 +1,11 @@
-//! Schedules at one shard.
+//! Schedules at the lock of one shard.
 
-use crate::trace::{Trace, Turn};
+mod trace;
+
 use lock_api_desk::Mode;
 use parking_lot_machine::{CoreAnswer, LockCall};
 use std::test::Fail;
+use trace::{Trace, Turn};
 
 const OWNED: Option<CoreAnswer> = Some(CoreAnswer::Owned);
 
