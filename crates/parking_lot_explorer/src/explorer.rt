@@ -5,6 +5,7 @@ use crate::plain::add;
 use crate::state::WorldState;
 use parking_lot_world::{LockKind, SizeFault, World, WorldFault, WorldRefusal, WorldStep};
 use std::alloc::AllocError;
+use std::mem;
 
 /// More steps than any programs of the tests make.
 const MOST_STEPS: u32 = 1000;
@@ -114,7 +115,8 @@ impl<'r, R: AllocGlobal, W: Watch> Explorer<'r, R, W> {
             if layer.is_empty || self.broken.is_some() {
                 return Ok(());
             }
-            layer = self.next_layer(&layer)?;
+            let next = self.next_layer(&layer)?;
+            drop(mem::replace(&mut layer, next));
         }
         let never = Vec::new(self.rt.alloc());
         self.must_hold(Some("every schedule comes to its end"), &never)
@@ -235,11 +237,33 @@ impl<'r, R: AllocGlobal, W: Watch> Explorer<'r, R, W> {
             ran,
             world,
         } = self.stepped(&state.schedule, step)?;
-        if let Err(fault) = ran {
-            let broken = broken_by_refusal(fault, world == state.seen.world);
-            self.must_hold(broken, &state.schedule)?;
-            return Ok(false);
+        match ran {
+            Err(fault) => self.refuse(state, fault, &world),
+            Ok(()) => self.go_on(state, step, is_there, world, next),
         }
+    }
+
+    /// Looks at a step that was refused.
+    fn refuse(
+        &mut self,
+        state: &Reached<W::Notes>,
+        fault: WorldFault,
+        world: &WorldState,
+    ) -> Result<bool, SizeFault> {
+        let broken = broken_by_refusal(fault, *world == state.seen.world);
+        self.must_hold(broken, &state.schedule)?;
+        Ok(false)
+    }
+
+    /// Looks at a step that was made, and goes on from the world behind it.
+    fn go_on(
+        &mut self,
+        state: &Reached<W::Notes>,
+        step: WorldStep,
+        is_there: bool,
+        world: WorldState,
+        next: &mut Layer<W::Notes>,
+    ) -> Result<bool, SizeFault> {
         let notes = self.watch.behind(&state.seen, step, &world);
         let seen = Seen { notes, world };
         let broken = self.watch.look_at_step(&state.seen, step, &seen);
@@ -272,7 +296,8 @@ impl<'r, R: AllocGlobal, W: Watch> Explorer<'r, R, W> {
         match broken {
             Some(rule) if self.broken.is_none() => {
                 let schedule = schedule.clone()?;
-                self.broken = Some(Broken { rule, schedule });
+                let first = Some(Broken { rule, schedule });
+                drop(mem::replace(&mut self.broken, first));
                 Ok(())
             }
             _ => Ok(()),

@@ -12,6 +12,7 @@ mod plain_once;
 mod plain_waits;
 pub mod programs;
 mod seats;
+pub mod shown;
 mod sides;
 mod state;
 mod three;

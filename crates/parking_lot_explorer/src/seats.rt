@@ -6,7 +6,7 @@ use crate::upgradable::{Tardy, Upgradable};
 use parking_lot_core_model::{Place, Sleep, ThreadStatus};
 use parking_lot_machine::{Call, Core, Hold, LatePhase, QueuePosition, Wakeup};
 use parking_lot_protocol::{Giving, MutexPhase, RwPhase};
-use parking_lot_world::World;
+use parking_lot_world::{LockKind, World};
 
 /// Where a call at a lock stands.
 #[derive(Clone, Copy, PartialEq)]
@@ -125,8 +125,17 @@ struct Number {
 }
 
 impl Number {
+    /// Of one of a thread's numbers. In a world of a once alone nobody is ever at a lock.
     fn of(world: &World, number: usize, counts: bool) -> Number {
         let rows = world.waits().rows();
+        if world.kind(0) == Some(LockKind::Once) && world.kind(1).is_none() {
+            return Number {
+                standing: None,
+                place: None,
+                status: None,
+                holds: Three(Hold::Shares(0), Hold::Shares(0), Hold::Shares(0)),
+            };
+        }
         Number {
             standing: rows.call(number).map(Standing::of),
             place: rows

@@ -17,7 +17,6 @@ macro_rules! calls {
 mod deadlines;
 mod progress;
 mod rules;
-mod shown;
 mod upgrades;
 mod watch;
 

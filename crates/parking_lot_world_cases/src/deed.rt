@@ -145,10 +145,7 @@ fn owners(alloc: Global, world: &World, lock: usize) -> Result<String, AllocErro
 }
 
 /// Some threads in their order.
-fn of_threads(
-    alloc: Global,
-    threads: Result<Vec<usize>, SizeFault>,
-) -> Result<String, AllocError> {
+fn of_threads(alloc: Global, threads: Result<Vec<usize>, SizeFault>) -> Result<String, AllocError> {
     match threads {
         Ok(threads) => format!(in alloc; "{threads:?}"),
         Err(fault) => format!(in alloc; "{fault:?}"),

@@ -23,7 +23,11 @@ impl Found {
 
 impl fmt::Display for Found {
     fn fmt<W: fmt::Write>(&self, f: &mut fmt::Formatter<W>) -> fmt::Result {
-        write!(f, "{} cases, {} lines, {} wrong", self.cases, self.lines, self.wrong)
+        write!(
+            f,
+            "{} cases, {} lines, {} wrong",
+            self.cases, self.lines, self.wrong
+        )
     }
 }
 
@@ -125,11 +129,7 @@ impl<'r, R: AllocGlobal + Print> Script<'r, R> {
 }
 
 /// Follows a file of cases. Lines that don't come true are printed, with what came in their place.
-pub fn follow(
-    rt: &(impl AllocGlobal + Print),
-    file: &str,
-    text: &str,
-) -> Result<Found, io::Error> {
+pub fn follow(rt: &(impl AllocGlobal + Print), file: &str, text: &str) -> Result<Found, io::Error> {
     let kinds = vec![in rt.alloc(); LockKind::Mutex]?;
     let Ok(world) = World::new(rt.alloc(), 1, kinds) else {
         return Err(AllocError.into());

@@ -1,10 +1,10 @@
 //! How far two threads are in their programs, and what is noted of their calls.
 
-use super::shown::Shown;
 use parking_lot_explorer::Seen;
 use parking_lot_explorer::programs::{
     End, Program, is_timed, may_answer, owned_before, owned_behind, shares_behind,
 };
+use parking_lot_explorer::shown::Shown;
 use parking_lot_world::{LockAnswer, LockCall, LockKind, OwnMode, WorldStep};
 
 /// A call that isn't answered, and what was seen since it began.

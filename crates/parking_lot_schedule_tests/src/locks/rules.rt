@@ -1,9 +1,9 @@
 //! What has to hold whatever the schedule: of every state, of every step, and where no step is left.
 
 use super::progress::{Moment, Progress, Stage, other};
-use super::shown::Shown;
 use parking_lot_explorer::first_broken;
 use parking_lot_explorer::programs::{keeps_out, may_own, may_sleep};
+use parking_lot_explorer::shown::Shown;
 use parking_lot_world::{OwnMode, WorldStep};
 
 /// A rule of states that this one breaks.

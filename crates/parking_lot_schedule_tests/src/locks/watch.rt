@@ -2,8 +2,8 @@
 
 use super::progress::{Moment, Progress, both_followed};
 use super::rules::{broken_by_end, broken_by_state, broken_by_step, hands_over};
-use super::shown::Shown;
 use parking_lot_explorer::programs::{End, Pair};
+use parking_lot_explorer::shown::Shown;
 use parking_lot_explorer::{Seen, Watch, WorldState};
 use parking_lot_world::{LockKind, WorldStep};
 use std::slice;

@@ -1,6 +1,6 @@
 //! What a world shows of a state.
 
-use parking_lot_explorer::{LockShown, WorldState};
+use crate::state::{LockShown, WorldState};
 use parking_lot_world::{LockAnswer, LockKind, OwnMode};
 
 /// What a world of two threads and one lock shows.
