@@ -4,7 +4,7 @@ use crate::fault::Fault;
 use lock_api_raw::RawCondvar as _;
 use parking_lot_core::ThreadData;
 use parking_lot_mutex::condvar::RawCondvar;
-use parking_lot_once::Once;
+use parking_lot_mutex::once::Once;
 use std::sync::Wait;
 
 #[inline(never)]
