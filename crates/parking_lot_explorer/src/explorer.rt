@@ -73,12 +73,14 @@ pub struct Broken {
     pub schedule: Vec<WorldStep>,
 }
 
-/// A world behind a schedule and one step more: whether the schedule could be run again, and what came of the step.
+/// A world behind the schedule of a state, from which steps are tried. One that is refused leaves it there, and the next is tried in the same world.
 #[derive(Drop)]
-struct Stepped {
+struct Trial {
+    world: World,
+    /// Whether the schedule could be run again.
     is_there: bool,
-    ran: Result<(), WorldFault>,
-    world: WorldState,
+    /// Whether a step was made in it.
+    is_spent: bool,
 }
 
 /// One that goes through all schedules of some programs at some locks, up to the first rule that doesn't hold.
@@ -171,9 +173,10 @@ impl<'r, R: AllocGlobal, W: Watch> Explorer<'r, R, W> {
         let broken = self.watch.look(&state.seen);
         self.must_hold(broken, &state.schedule)?;
         self.states = self.states.saturating_add(1);
+        let mut trial = self.trial(&state.schedule)?;
         let mut is_moved = false;
         for thread in 0..self.watch.threads() {
-            is_moved = is_moved | self.make_each(state, thread, next)?;
+            is_moved = is_moved | self.make_each(state, thread, &mut trial, next)?;
         }
         if is_moved { Ok(()) } else { self.end(state) }
     }
@@ -201,28 +204,36 @@ impl<'r, R: AllocGlobal, W: Watch> Explorer<'r, R, W> {
         &mut self,
         state: &Reached<W::Notes>,
         thread: usize,
+        trial: &mut Trial,
         next: &mut Layer<W::Notes>,
     ) -> Result<bool, SizeFault> {
         let mut is_moved = false;
         for step in self.steps(&state.seen, thread) {
             if let Some(step) = step {
-                is_moved = is_moved | self.make(state, step, next)?;
+                is_moved = is_moved | self.make(state, step, trial, next)?;
             }
         }
         Ok(is_moved)
     }
 
-    /// The world behind a schedule and one step more.
-    fn stepped(&self, schedule: &[WorldStep], step: WorldStep) -> Result<Stepped, SizeFault> {
+    /// A new world behind a schedule.
+    fn trial(&self, schedule: &[WorldStep]) -> Result<Trial, SizeFault> {
         let mut world = self.new_world()?;
         let is_there = world.run(schedule).is_ok();
-        let ran = world.run(&[step]);
-        let world = self.state_of(&world)?;
-        Ok(Stepped {
-            is_there,
-            ran,
+        Ok(Trial {
             world,
+            is_there,
+            is_spent: false,
         })
+    }
+
+    /// A world in which a step can be tried.
+    fn renew(&self, trial: &mut Trial, schedule: &[WorldStep]) -> Result<(), SizeFault> {
+        if trial.is_spent {
+            let fresh = self.trial(schedule)?;
+            drop(mem::replace(trial, fresh));
+        }
+        Ok(())
     }
 
     /// Makes a step from a state, and adds the state that it leads to. Answers whether it was allowed.
@@ -230,16 +241,18 @@ impl<'r, R: AllocGlobal, W: Watch> Explorer<'r, R, W> {
         &mut self,
         state: &Reached<W::Notes>,
         step: WorldStep,
+        trial: &mut Trial,
         next: &mut Layer<W::Notes>,
     ) -> Result<bool, SizeFault> {
-        let Stepped {
-            is_there,
-            ran,
-            world,
-        } = self.stepped(&state.schedule, step)?;
+        self.renew(trial, &state.schedule)?;
+        let ran = trial.world.run(&[step]);
+        let world = self.state_of(&trial.world)?;
         match ran {
             Err(fault) => self.refuse(state, fault, &world),
-            Ok(()) => self.go_on(state, step, is_there, world, next),
+            Ok(()) => {
+                trial.is_spent = true;
+                self.go_on(state, step, trial.is_there, world, next)
+            }
         }
     }
 
@@ -272,7 +285,7 @@ impl<'r, R: AllocGlobal, W: Watch> Explorer<'r, R, W> {
         Ok(true)
     }
 
-    /// Adds the state that a step leads to, and notes the rule that the step has broken.
+    /// Adds the state that a step leads to, if it isn't there, and notes the rule that the step has broken.
     fn reach(
         &mut self,
         state: &Reached<W::Notes>,
@@ -281,6 +294,9 @@ impl<'r, R: AllocGlobal, W: Watch> Explorer<'r, R, W> {
         broken: Option<&'static str>,
         next: &mut Layer<W::Notes>,
     ) -> Result<(), SizeFault> {
+        if broken.is_none() && next.has(&seen) {
+            return Ok(());
+        }
         let schedule = longer(&state.schedule, step)?;
         self.must_hold(broken, &schedule)?;
         next.add(Reached { schedule, seen })?;

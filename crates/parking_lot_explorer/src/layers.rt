@@ -41,16 +41,25 @@ impl<N: Copy + PartialEq> Layer<N> {
         })
     }
 
-    /// Adds a state, if it isn't there.
+    /// Whether a state is there.
+    pub(crate) fn has(&self, seen: &Seen<N>) -> bool {
+        match self.lists.get(list_of(&seen.world)) {
+            Some(list) => list.iter().any(|known| known.seen == *seen),
+            None => false,
+        }
+    }
+
+    /// Adds a state that isn't there.
     pub(crate) fn add(&mut self, state: Reached<N>) -> Result<(), AllocError> {
-        let number = state.seen.world.number();
-        let Some(list) = self.lists.get_mut((number % LISTS) as usize) else {
-            return Ok(());
-        };
-        if !list.iter().any(|known| known.seen == state.seen) {
+        if let Some(list) = self.lists.get_mut(list_of(&state.seen.world)) {
             list.push(state)?;
         }
         self.is_empty = false;
         Ok(())
     }
+}
+
+/// The list that a state belongs to.
+fn list_of(world: &WorldState) -> usize {
+    (world.number() % LISTS) as usize
 }
