@@ -28,7 +28,7 @@ fn add_among<P: Copy>(
     count: usize,
 ) -> Result<(), AllocError> {
     for (at, first) in programs.iter().enumerate().take(count) {
-        add_with(pairs, *first, &programs[at..])?;
+        add_with(pairs, *first, programs.get(at..).unwrap_or(&[]))?;
     }
     Ok(())
 }

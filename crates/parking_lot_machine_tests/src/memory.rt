@@ -65,7 +65,7 @@ fn serve_from_a_size_on(
     let mut refused = false;
     let mut made = false;
     for size in 0..sizes {
-        let heap = LocalHeap::new(rt.alloc(), size * 16)?;
+        let heap = LocalHeap::new(rt.alloc(), size.saturating_mul(16))?;
         let run = if are_worlds {
             world_is_run(&heap)
         } else {
