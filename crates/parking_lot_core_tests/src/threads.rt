@@ -45,7 +45,7 @@ struct Alone {
 
 /// How such a park ended, whether it was about to sleep, and what it was told of its moment.
 #[derive(Clone, Copy, PartialEq)]
-struct Parked(Option<ParkResult>, bool, Option<(usize, bool)>);
+struct ParkEnd(Option<ParkResult>, bool, Option<(usize, bool)>);
 
 /// Parks a thread under key 3.
 fn parked<R: Wait + Clock>(
@@ -53,9 +53,9 @@ fn parked<R: Wait + Clock>(
     me: &mut ThreadData,
     timeout: Option<(Instant, &R)>,
     how: Alone,
-) -> Parked {
+) -> ParkEnd {
     if !lot.same_lot(me) {
-        return Parked(None, false, None);
+        return ParkEnd(None, false, None);
     }
     let mut slept = false;
     let mut told = None;
@@ -74,11 +74,11 @@ fn parked<R: Wait + Clock>(
         DEFAULT_PARK_TOKEN,
         timeout,
     );
-    Parked(Some(ended), slept, told)
+    ParkEnd(Some(ended), slept, told)
 }
 
 /// The same in a new lot.
-fn parked_alone<R: Wait + Clock + AllocGlobal + Copy>(rt: &R, how: Alone) -> Result<Parked, Fail> {
+fn parked_alone<R: Wait + Clock + AllocGlobal + Copy>(rt: &R, how: Alone) -> Result<ParkEnd, Fail> {
     let lot = ParkingLot::new(*rt, rt.alloc(), 2, 7)?;
     let mut me = lot.thread_data()?;
     let timeout = if how.late {
@@ -94,14 +94,14 @@ fn parked_alone<R: Wait + Clock + AllocGlobal + Copy>(rt: &R, how: Alone) -> Res
 fn one_parks_alone(rt: HostRuntime) -> Result<(), Fail> {
     let unparked = ParkResult::Unparked(UnparkToken(42));
     let table = [
-        ((true, true, false), Parked(Some(unparked), true, None)),
+        ((true, true, false), ParkEnd(Some(unparked), true, None)),
         (
             (false, false, false),
-            Parked(Some(ParkResult::Invalid), false, None),
+            ParkEnd(Some(ParkResult::Invalid), false, None),
         ),
         (
             (true, false, true),
-            Parked(Some(ParkResult::TimedOut), true, Some((3, true))),
+            ParkEnd(Some(ParkResult::TimedOut), true, Some((3, true))),
         ),
     ];
     for ((valid, unparks, late), must) in table {

@@ -63,7 +63,7 @@ pub trait Watch: Drop {
     fn look_at_end(&self, at: &Seen<Self::Notes>) -> Option<&'static str>;
 
     /// How the threads end there.
-    fn end(&self, at: &Seen<Self::Notes>) -> Self::End;
+    fn ends_as(&self, at: &Seen<Self::Notes>) -> Self::End;
 }
 
 /// A rule that doesn't hold, and a schedule behind which it doesn't.
@@ -173,7 +173,7 @@ impl<'r, R: AllocGlobal, W: Watch> Explorer<'r, R, W> {
         let broken = self.watch.look(&state.seen);
         self.must_hold(broken, &state.schedule)?;
         self.states = self.states.saturating_add(1);
-        let mut trial = self.trial(&state.schedule)?;
+        let mut trial = self.new_trial(&state.schedule)?;
         let mut is_moved = false;
         for thread in 0..self.watch.threads() {
             is_moved = is_moved | self.make_each(state, thread, &mut trial, next)?;
@@ -183,7 +183,7 @@ impl<'r, R: AllocGlobal, W: Watch> Explorer<'r, R, W> {
 
     /// Looks at a state without a further step.
     fn end(&mut self, state: &Reached<W::Notes>) -> Result<(), SizeFault> {
-        let end = self.watch.end(&state.seen);
+        let end = self.watch.ends_as(&state.seen);
         add(&mut self.ends, end)?;
         let broken = self.watch.look_at_end(&state.seen);
         self.must_hold(broken, &state.schedule)
@@ -217,7 +217,7 @@ impl<'r, R: AllocGlobal, W: Watch> Explorer<'r, R, W> {
     }
 
     /// A new world behind a schedule.
-    fn trial(&self, schedule: &[WorldStep]) -> Result<Trial, SizeFault> {
+    fn new_trial(&self, schedule: &[WorldStep]) -> Result<Trial, SizeFault> {
         let mut world = self.new_world()?;
         let is_there = world.run(schedule).is_ok();
         Ok(Trial {
@@ -230,7 +230,7 @@ impl<'r, R: AllocGlobal, W: Watch> Explorer<'r, R, W> {
     /// A world in which a step can be tried.
     fn renew(&self, trial: &mut Trial, schedule: &[WorldStep]) -> Result<(), SizeFault> {
         if trial.is_spent {
-            let fresh = self.trial(schedule)?;
+            let fresh = self.new_trial(schedule)?;
             drop(mem::replace(trial, fresh));
         }
         Ok(())

@@ -3,10 +3,9 @@
 #![tactic(auto)]
 
 mod callers;
-mod ends;
 mod explorer;
 mod layers;
-mod pairs;
+mod pairing;
 mod plain;
 mod plain_once;
 mod plain_waits;
@@ -15,16 +14,17 @@ mod seats;
 pub mod shown;
 mod sides;
 mod state;
+mod thread_ends;
 mod three;
 mod upgradable;
 
 pub use callers::{Answers, Ask, Caller, Calls, callers_of};
-pub use ends::{Ends, Stay, ThreadEnd};
 pub use explorer::{Broken, Explorer, Watch, first_broken};
 pub use layers::Seen;
-pub use pairs::{Pairs, pairs};
+pub use pairing::{Pairs, pairs_of};
 pub use plain::{Plain, ends};
 pub use plain_once::{PlainOnce, ends_of, waits};
 pub use plain_waits::PlainWait;
 pub use state::{LockShown, WorldState};
+pub use thread_ends::{Ends, Stay, ThreadEnd};
 pub use three::Three;

@@ -11,7 +11,7 @@ pub trait Plain: Copy + PartialEq {
     fn after(self, thread: usize) -> Option<Self>;
 
     /// How they end, where nobody makes a further move.
-    fn end(self) -> Self::End;
+    fn ends_as(self) -> Self::End;
 }
 
 /// Adds one to a list where it isn't there.
@@ -32,7 +32,7 @@ fn go_on<P: Plain>(at: P, next: &mut Vec<P>, ends: &mut Vec<P::End>) -> Result<(
         }
     }
     if is_last {
-        add(ends, at.end())?;
+        add(ends, at.ends_as())?;
     }
     Ok(())
 }

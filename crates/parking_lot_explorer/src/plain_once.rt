@@ -1,8 +1,8 @@
 //! A once whose calls are made whole, one after another: what all schedules have to come to.
 
 use crate::callers::{Caller, Calls, callers_of};
-use crate::ends::{Ends, ThreadEnd};
 use crate::plain::Plain;
+use crate::thread_ends::{Ends, ThreadEnd};
 use crate::three::Three;
 use parking_lot_world::{LockAnswer, LockCall, OnceState};
 
@@ -76,7 +76,7 @@ impl Plain for PlainOnce {
         Some(PlainOnce { state, callers })
     }
 
-    fn end(self) -> Ends {
+    fn ends_as(self) -> Ends {
         ends_of(self.callers)
     }
 }

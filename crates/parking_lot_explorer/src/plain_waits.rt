@@ -1,8 +1,8 @@
 //! A condition variable and its mutexes whose calls are made whole, one after another: what all schedules have to come to.
 
 use crate::callers::{Ask, Caller, Calls, callers_of};
-use crate::ends::{Ends, Stay, ThreadEnd};
 use crate::plain::Plain;
+use crate::thread_ends::{Ends, Stay, ThreadEnd};
 use crate::three::Three;
 use parking_lot_world::{LockAnswer, LockCall};
 
@@ -201,7 +201,7 @@ impl Plain for PlainWait {
         }
     }
 
-    fn end(self) -> Ends {
+    fn ends_as(self) -> Ends {
         let order = self.order.0;
         Ends {
             threads: Three(self.end_of(0), self.end_of(1), self.end_of(2)),

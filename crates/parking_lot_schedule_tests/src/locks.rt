@@ -22,7 +22,7 @@ mod watch;
 
 use parking_lot_explorer::Pairs::{self, Among, Between};
 use parking_lot_explorer::programs::{End, Pair, Program};
-use parking_lot_explorer::{Explorer, pairs};
+use parking_lot_explorer::{Explorer, pairs_of};
 use parking_lot_world::LockCall;
 use parking_lot_world::LockKind::{self, FairMutex, Mutex, Rw, RwRecursive};
 use std::process::Abort;
@@ -64,13 +64,13 @@ fn explore(rt: &(impl AllocGlobal + Abort), kind: LockKind, pair: Pair) -> Resul
 
 /// A search of all schedules of some pairs of programs at a lock of that kind, and how many states it has at least. Were there fewer, different
 /// ones might have been taken for one.
-type Search<'s> = (LockKind, &'s [Pairs<'s, Program>], u64);
+type Row<'s> = (LockKind, &'s [Pairs<'s, Program>], u64);
 
 /// Makes each of the searches.
-fn search(rt: &(impl AllocGlobal + Abort), searches: &[Search<'_>]) -> Result<(), Fail> {
+fn search(rt: &(impl AllocGlobal + Abort), searches: &[Row<'_>]) -> Result<(), Fail> {
     for (at, (kind, groups, least)) in searches.iter().enumerate() {
         let mut states = 0u64;
-        for (first, second) in &pairs(rt.alloc(), groups)? {
+        for (first, second) in &pairs_of(rt.alloc(), groups)? {
             let found = explore(rt, *kind, Pair(*first, *second))?;
             states = states.saturating_add(found);
         }

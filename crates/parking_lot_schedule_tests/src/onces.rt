@@ -4,7 +4,7 @@ mod rules;
 mod watch;
 
 use crate::ends::end_so;
-use parking_lot_explorer::{Ask, Calls, Explorer, Pairs, PlainOnce, Three, ends, pairs};
+use parking_lot_explorer::{Ask, Calls, Explorer, Pairs, PlainOnce, Three, ends, pairs_of};
 use parking_lot_world::LockCall;
 use std::process::Abort;
 use std::test::Fail;
@@ -25,7 +25,7 @@ fn explore(
     Ok(found.states)
 }
 
-fn ask(call: LockCall) -> Option<Ask> {
+fn asked(call: LockCall) -> Option<Ask> {
     Some(Ask { lock: 0, call })
 }
 
@@ -43,7 +43,7 @@ const CALLS: [LockCall; 6] = [
 fn of_one(rt: &impl AllocGlobal) -> Result<Vec<Calls>, Fail> {
     let mut programs = Vec::new(rt.alloc());
     for call in CALLS {
-        programs.push([ask(call), None, None])?;
+        programs.push([asked(call), None, None])?;
     }
     Ok(programs)
 }
@@ -54,7 +54,7 @@ fn of_two(rt: &impl AllocGlobal) -> Result<Vec<Calls>, Fail> {
     for at in 0..36usize {
         let first = CALLS.get(at / 6).copied();
         let then = CALLS.get(at % 6).copied();
-        programs.push([first.and_then(ask), then.and_then(ask), None])?;
+        programs.push([first.and_then(asked), then.and_then(asked), None])?;
     }
     Ok(programs)
 }
@@ -68,7 +68,7 @@ fn search(
     least: u64,
 ) -> Result<(), Fail> {
     let mut states = 0u64;
-    for (first, second) in &pairs(rt.alloc(), &[Pairs::FirstOf(programs, count)])? {
+    for (first, second) in &pairs_of(rt.alloc(), &[Pairs::FirstOf(programs, count)])? {
         let found = explore(rt, Three(*first, *second, NONE), 2)?;
         states = states.saturating_add(found);
     }
@@ -171,7 +171,7 @@ const OF_THREE: [[LockCall; 3]; 4] = [
 fn of_three_threads(rt: HostRuntime) -> Result<(), Fail> {
     for calls in OF_THREE {
         let [first, second, third] = calls;
-        let of = |call| [ask(call), None, None];
+        let of = |call| [asked(call), None, None];
         let programs = Three(of(first), of(second), of(third));
         let states = explore(&rt, programs, 3)?;
         assert!(rt; states >= 2_000, "{states} states of {programs:?}");

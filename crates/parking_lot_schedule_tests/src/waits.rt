@@ -7,7 +7,7 @@ mod three;
 mod watch;
 
 use crate::ends::end_so;
-use parking_lot_explorer::{Ask, Calls, Explorer, Pairs, PlainWait, Three, ends, pairs};
+use parking_lot_explorer::{Ask, Calls, Explorer, Pairs, PlainWait, Three, ends, pairs_of};
 use parking_lot_world::LockCall;
 use std::process::Abort;
 use std::test::Fail;
@@ -38,7 +38,7 @@ fn search(
     least: u64,
 ) -> Result<(), Fail> {
     let mut states = 0u64;
-    for (first, second) in &pairs(rt.alloc(), groups)? {
+    for (first, second) in &pairs_of(rt.alloc(), groups)? {
         let found = explore(rt, Three(*first, *second, NONE), 2)?;
         states = states.saturating_add(found);
     }
@@ -47,7 +47,7 @@ fn search(
 }
 
 /// A call at that lock.
-macro_rules! ask {
+macro_rules! ask_at {
     ($lock:expr, $call:expr) => {
         Some(Ask {
             lock: $lock,
@@ -56,26 +56,26 @@ macro_rules! ask {
     };
 }
 
-const LOCK: Option<Ask> = ask!(M, LockCall::Lock);
+const LOCK: Option<Ask> = ask_at!(M, LockCall::Lock);
 
-const UNLOCK: Option<Ask> = ask!(M, LockCall::Unlock);
+const UNLOCK: Option<Ask> = ask_at!(M, LockCall::Unlock);
 
-const WAIT: Option<Ask> = ask!(V, LockCall::Wait(M));
+const WAIT: Option<Ask> = ask_at!(V, LockCall::Wait(M));
 
-const WAIT_UNTIL: Option<Ask> = ask!(V, LockCall::WaitUntil(M));
+const WAIT_UNTIL: Option<Ask> = ask_at!(V, LockCall::WaitUntil(M));
 
-const NOTIFY_ONE: Option<Ask> = ask!(V, LockCall::NotifyOne);
+const NOTIFY_ONE: Option<Ask> = ask_at!(V, LockCall::NotifyOne);
 
-const NOTIFY_ALL: Option<Ask> = ask!(V, LockCall::NotifyAll);
+const NOTIFY_ALL: Option<Ask> = ask_at!(V, LockCall::NotifyAll);
 
 /// The same with the other mutex.
-const LOCK_OTHER: Option<Ask> = ask!(OTHER, LockCall::Lock);
+const LOCK_OTHER: Option<Ask> = ask_at!(OTHER, LockCall::Lock);
 
-const UNLOCK_OTHER: Option<Ask> = ask!(OTHER, LockCall::Unlock);
+const UNLOCK_OTHER: Option<Ask> = ask_at!(OTHER, LockCall::Unlock);
 
-const WAIT_OTHER: Option<Ask> = ask!(V, LockCall::Wait(OTHER));
+const WAIT_OTHER: Option<Ask> = ask_at!(V, LockCall::Wait(OTHER));
 
-const WAIT_OTHER_UNTIL: Option<Ask> = ask!(V, LockCall::WaitUntil(OTHER));
+const WAIT_OTHER_UNTIL: Option<Ask> = ask_at!(V, LockCall::WaitUntil(OTHER));
 
 /// Those that wait without a deadline.
 const WAITERS: [Calls; 3] = [[LOCK, WAIT, UNLOCK], [LOCK, WAIT, None], [LOCK, WAIT, WAIT]];

@@ -33,7 +33,7 @@ pub struct Outcome {
 }
 
 /// A deed by its words; `None` where the line isn't one.
-fn deed(line: &str) -> Option<Deed> {
+fn read_deed(line: &str) -> Option<Deed> {
     let mut words = line.split_whitespace();
     let verb = words.next()?;
     if verb == "debts" {
@@ -183,7 +183,7 @@ fn steps_of(alloc: Global, line: &str) -> Result<Option<Vec<WorldStep>>, AllocEr
 
 /// Makes the deed that a line says, or its steps in one run.
 pub fn make(alloc: Global, world: &mut World, line: &str) -> Result<Outcome, AllocError> {
-    if let Some(deed) = deed(line) {
+    if let Some(deed) = read_deed(line) {
         return made(alloc, world, deed);
     }
     match steps_of(alloc, line)? {

@@ -77,7 +77,7 @@ impl Watch for LockWatch {
         broken_by_end(at.threads, at.shown)
     }
 
-    fn end(&self, at: &Seen<[Progress; 2]>) -> (End, End) {
+    fn ends_as(&self, at: &Seen<[Progress; 2]>) -> (End, End) {
         let [first, second] = at.notes;
         (first.end(), second.end())
     }

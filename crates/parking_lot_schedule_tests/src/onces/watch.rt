@@ -71,7 +71,7 @@ pub struct OnceWatch {
 }
 
 /// A state.
-fn moment(at: &Seen<Notes>) -> Moment<'_> {
+fn moment_of(at: &Seen<Notes>) -> Moment<'_> {
     Moment {
         callers: at.notes.callers,
         world: &at.world,
@@ -137,7 +137,7 @@ impl Watch for OnceWatch {
     }
 
     fn look(&mut self, at: &Seen<Notes>) -> Option<&'static str> {
-        broken_by_state(moment(at))
+        broken_by_state(moment_of(at))
     }
 
     fn look_at_step(
@@ -148,14 +148,14 @@ impl Watch for OnceWatch {
     ) -> Option<&'static str> {
         let thread = step.thread();
         let met = before.notes.met.of(thread);
-        broken_by_step(moment(before), thread, met, moment(behind))
+        broken_by_step(moment_of(before), thread, met, moment_of(behind))
     }
 
     fn look_at_end(&self, at: &Seen<Notes>) -> Option<&'static str> {
-        broken_by_end(moment(at))
+        broken_by_end(moment_of(at))
     }
 
-    fn end(&self, at: &Seen<Notes>) -> Ends {
+    fn ends_as(&self, at: &Seen<Notes>) -> Ends {
         ends_of(at.notes.callers)
     }
 }

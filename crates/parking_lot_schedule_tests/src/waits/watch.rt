@@ -152,7 +152,7 @@ impl Watch for WaitWatch {
         broken_by_end(Moment::of(at))
     }
 
-    fn end(&self, at: &Seen<Notes>) -> Ends {
+    fn ends_as(&self, at: &Seen<Notes>) -> Ends {
         ends_of(Moment::of(at))
     }
 }

@@ -34,7 +34,10 @@ fn add_among<P: Copy>(
 }
 
 /// All of some pairs.
-pub fn pairs<P: Copy>(alloc: Global, groups: &[Pairs<'_, P>]) -> Result<Vec<(P, P)>, AllocError> {
+pub fn pairs_of<P: Copy>(
+    alloc: Global,
+    groups: &[Pairs<'_, P>],
+) -> Result<Vec<(P, P)>, AllocError> {
     let mut pairs = Vec::new(alloc);
     for group in groups {
         match *group {
