@@ -112,7 +112,8 @@ impl<'r, R: AllocGlobal, W: Watch> Explorer<'r, R, W> {
     /// Goes from the states that so many steps lead to on to those of one step more, until there are none.
     fn make_all(&mut self) -> Result<(), SizeFault> {
         let mut layer = Layer::new(self.rt.alloc())?;
-        layer.add(self.first()?)?;
+        let first = self.first()?;
+        layer.add(Vec::new(self.rt.alloc()), first)?;
         for _ in 0..MOST_STEPS {
             if layer.is_empty || self.broken.is_some() {
                 return Ok(());
@@ -125,13 +126,10 @@ impl<'r, R: AllocGlobal, W: Watch> Explorer<'r, R, W> {
     }
 
     /// Before the first step.
-    fn first(&self) -> Result<Reached<W::Notes>, SizeFault> {
+    fn first(&self) -> Result<Seen<W::Notes>, SizeFault> {
         let world = self.state_of(&self.new_world()?)?;
         let notes = self.watch.first();
-        Ok(Reached {
-            schedule: Vec::new(self.rt.alloc()),
-            seen: Seen { notes, world },
-        })
+        Ok(Seen { notes, world })
     }
 
     fn new_world(&self) -> Result<World, SizeFault> {
@@ -139,8 +137,12 @@ impl<'r, R: AllocGlobal, W: Watch> Explorer<'r, R, W> {
         World::new(self.rt.alloc(), self.watch.threads(), kinds)
     }
 
-    fn state_of(&self, world: &World) -> Result<WorldState, SizeFault> {
-        WorldState::of(self.rt.alloc(), world, self.watch.counts_sleeps())
+    fn state_of(&self, world: &World) -> Result<Box<WorldState>, SizeFault> {
+        let state = WorldState::of(self.rt.alloc(), world, self.watch.counts_sleeps())?;
+        match Box::new(self.rt.alloc(), state) {
+            Ok(state) => Ok(state),
+            Err(_) => Err(SizeFault::NoMemory),
+        }
     }
 
     /// The states that one step leads to from these.
@@ -263,7 +265,7 @@ impl<'r, R: AllocGlobal, W: Watch> Explorer<'r, R, W> {
         fault: WorldFault,
         world: &WorldState,
     ) -> Result<bool, SizeFault> {
-        let broken = broken_by_refusal(fault, *world == state.seen.world);
+        let broken = broken_by_refusal(fault, *world == *state.seen.world);
         self.must_hold(broken, &state.schedule)?;
         Ok(false)
     }
@@ -274,7 +276,7 @@ impl<'r, R: AllocGlobal, W: Watch> Explorer<'r, R, W> {
         state: &Reached<W::Notes>,
         step: WorldStep,
         is_there: bool,
-        world: WorldState,
+        world: Box<WorldState>,
         next: &mut Layer<W::Notes>,
     ) -> Result<bool, SizeFault> {
         let notes = self.watch.behind(&state.seen, step, &world);
@@ -299,7 +301,7 @@ impl<'r, R: AllocGlobal, W: Watch> Explorer<'r, R, W> {
         }
         let schedule = longer(&state.schedule, step)?;
         self.must_hold(broken, &schedule)?;
-        next.add(Reached { schedule, seen })?;
+        next.add(schedule, seen)?;
         Ok(())
     }
 

@@ -152,21 +152,21 @@ impl Number {
     }
 
     /// Whether its next step may store in the section in which it gives a mutex up.
-    fn stores(self) -> bool {
+    fn stores(&self) -> bool {
         match self.standing {
             Some(standing) => matches!(standing.phase, Phase::Mutex(MutexPhase::Stores(..))),
             None => false,
         }
     }
 
-    fn is_alone(self) -> bool {
+    fn is_alone(&self) -> bool {
         match self.standing {
             Some(standing) => standing.phase.is_alone(),
             None => false,
         }
     }
 
-    fn number(self) -> u64 {
+    fn number(&self) -> u64 {
         match self.standing {
             Some(standing) => standing.phase.number(),
             None => 0,
@@ -198,12 +198,12 @@ impl Seat {
     }
 
     /// Whether its next step may store in the section in which it gives a mutex up.
-    pub(crate) fn may_hand(self) -> bool {
+    pub(crate) fn may_hand(&self) -> bool {
         self.front.stores() || self.back.stores()
     }
 
     /// Whether it was taken off the list of a once, and isn't woken yet.
-    pub(crate) fn is_taken(self) -> bool {
+    pub(crate) fn is_taken(&self) -> bool {
         match self.once {
             Some(once) => once.taker.is_some(),
             None => false,
@@ -211,7 +211,7 @@ impl Seat {
     }
 
     /// Whether its next step is seen by nobody else: it spins, ends, or looks at what others leave alone.
-    pub(crate) fn is_alone(self) -> bool {
+    pub(crate) fn is_alone(&self) -> bool {
         let at_once = match self.once {
             Some(once) => once.is_alone(),
             None => false,
@@ -224,7 +224,7 @@ impl Seat {
     }
 
     /// A number that few others share.
-    pub(crate) fn number(self) -> u64 {
+    pub(crate) fn number(&self) -> u64 {
         let at_once = match self.once {
             Some(once) => once.number(),
             None => 0,

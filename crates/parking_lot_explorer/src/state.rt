@@ -102,6 +102,14 @@ impl WorldState {
         })
     }
 
+    fn seat(&self, thread: usize) -> &Seat {
+        match thread {
+            0 => &self.seats.0,
+            1 => &self.seats.1,
+            _ => &self.seats.2,
+        }
+    }
+
     /// What a thread's last call was answered; `None` while it isn't answered.
     pub fn answer(&self, thread: usize) -> Option<LockAnswer> {
         self.answers.of(thread)
@@ -109,7 +117,7 @@ impl WorldState {
 
     /// Whether the next step of a thread may store in the section in which it gives a mutex up, so that a fair one comes to something else.
     pub fn may_hand(&self, thread: usize) -> bool {
-        self.seats.of(thread).may_hand()
+        self.seat(thread).may_hand()
     }
 
     /// Whether a thread has taken one off a list that it is still to wake.
@@ -123,7 +131,7 @@ impl WorldState {
 
     /// Whether a caller of a once was taken off its list and isn't woken yet.
     pub fn is_taken(&self, thread: usize) -> bool {
-        self.seats.of(thread).is_taken()
+        self.seat(thread).is_taken()
     }
 
     /// How often a thread stands in a list, or is in debt.
@@ -157,6 +165,6 @@ impl WorldState {
             .number()
             .wrapping_add(second.number())
             .wrapping_add(third.number());
-        seats.wrapping_add(locks) % 65_521
+        seats.wrapping_mul(31).wrapping_add(locks)
     }
 }
