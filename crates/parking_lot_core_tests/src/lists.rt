@@ -1,9 +1,9 @@
 //! What unparks, filters and requeues do with lists.
 
-use crate::script::{Answer, Call, Line, follow, lot_of, make, outcome};
+use crate::script::{Answer, Call, Line, follow, outcome};
 use parking_lot_core::{
-    DEFAULT_PARK_TOKEN, DEFAULT_UNPARK_TOKEN, FilterOp, Lot, ParkResult, ParkToken, RequeueOp,
-    UnparkResult, UnparkToken,
+    DEFAULT_PARK_TOKEN, DEFAULT_UNPARK_TOKEN, ParkResult, ParkToken, RequeueOp, UnparkResult,
+    UnparkToken,
 };
 use std::process::Abort;
 use std::test::Fail;
@@ -18,21 +18,6 @@ const TWO_LISTS: [Line; 3] = [
     (Call::Park(1, 1), WAITS),
     (Call::Park(2, 2), WAITS),
 ];
-
-/// A lot with them.
-fn two_lists(rt: &(impl AllocGlobal + Abort)) -> Result<Lot, Fail> {
-    let mut lot = lot_of(rt, 3)?;
-    make(rt, &mut lot, &TWO_LISTS);
-    Ok(lot)
-}
-
-/// Whether the threads of a key's list are these.
-fn is_queue(lot: &Lot, key: usize, threads: &[usize]) -> bool {
-    match lot.queue(key) {
-        Ok(found) => found.as_slice() == threads,
-        Err(_) => false,
-    }
-}
 
 #[test]
 fn a_filter_skips_takes_and_stops(rt: HostRuntime) -> Result<(), Fail> {
@@ -53,15 +38,11 @@ fn a_filter_skips_takes_and_stops(rt: HostRuntime) -> Result<(), Fail> {
 
 #[test]
 fn nothing_is_shown_behind_a_stop(rt: HostRuntime) -> Result<(), Fail> {
-    let mut lot = two_lists(&rt)?;
-    let mut shown = 0u8;
-    let filter = |_: ParkToken| {
-        shown = shown.saturating_add(1);
-        FilterOp::Stop
-    };
-    let result = lot.unpark_filter(1, filter, |_| DEFAULT_UNPARK_TOKEN);
-    assert!(rt; (result == Ok(outcome(0, 0, true))) & (shown == 1));
-    Ok(())
+    let script = [(
+        Call::UnparkStopping(1),
+        Answer::Counted(outcome(0, 0, true), 1),
+    )];
+    follow(&rt, 3, &TWO_LISTS, &script)
 }
 
 /// The second list and the first after a requeue from the first, which answers so.
@@ -106,16 +87,14 @@ fn one_is_woken_and_the_rest_stays(rt: HostRuntime) -> Result<(), Fail> {
 
 #[test]
 fn an_aborted_requeue_calls_nobody_back(rt: HostRuntime) -> Result<(), Fail> {
-    let mut lot = two_lists(&rt)?;
-    let mut called = false;
-    let callback = |_, _| {
-        called = true;
-        DEFAULT_UNPARK_TOKEN
-    };
-    let result = lot.unpark_requeue(1, 2, || RequeueOp::Abort, callback);
-    let is_unmoved = is_queue(&lot, 1, &[0, 1]);
-    assert!(rt; (result == Ok(UnparkResult::default())) & !called & is_unmoved);
-    Ok(())
+    let script = [
+        (
+            Call::RequeueCounting(1, 2, RequeueOp::Abort),
+            Answer::Counted(outcome(0, 0, false), 0),
+        ),
+        (Call::IsQueue(1, &[0, 1]), IS),
+    ];
+    follow(&rt, 3, &TWO_LISTS, &script)
 }
 
 #[test]
@@ -144,15 +123,15 @@ fn all_are_woken(rt: HostRuntime) -> Result<(), Fail> {
 
 #[test]
 fn a_callback_is_called_where_nobody_waits(rt: HostRuntime) -> Result<(), Fail> {
-    let mut lot = lot_of(&rt, 1)?;
-    let nobody = outcome(0, 0, false);
-    let mut seen = None;
-    let callback = |told| {
-        seen = Some(told);
-        DEFAULT_UNPARK_TOKEN
-    };
-    let result = lot.unpark_one(1, callback);
+    let script = [(
+        Call::UnparkCounting(1),
+        Answer::Counted(outcome(0, 0, false), 1),
+    )];
+    follow(&rt, 1, &[], &script)
+}
+
+#[test]
+fn defaults_are_zero(rt: HostRuntime) {
     let are_zero = (DEFAULT_PARK_TOKEN == ParkToken(0)) & (DEFAULT_UNPARK_TOKEN == UnparkToken(0));
-    assert!(rt; (result == Ok(nobody)) & (seen == Some(nobody)) & are_zero);
-    Ok(())
+    assert!(rt; are_zero & (UnparkResult::default() == outcome(0, 0, false)));
 }

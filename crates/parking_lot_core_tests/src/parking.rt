@@ -1,6 +1,6 @@
 //! Sizes, participants and sleeps of an exclusive lot.
 
-use crate::script::{Answer, Call, WRONG, follow, lot_of, make, outcome};
+use crate::script::{Answer, Call, WRONG, follow, outcome};
 use parking_lot_core::{Lot, LotFault, ParkResult, SizeFault, ThreadStatus, UnparkToken};
 use std::process::Abort;
 use std::test::Fail;
@@ -107,16 +107,8 @@ fn an_invalid_park_leaves_the_list(rt: HostRuntime) -> Result<(), Fail> {
     follow(&rt, 1, &[], &script)
 }
 
-/// What a thread's deadline tells where it resumes, and how its park ended.
-fn resumed(lot: &mut Lot, thread: usize) -> (Result<ParkResult, LotFault>, Option<(usize, bool)>) {
-    let mut told = None;
-    let ended = lot.resume(thread, |key, last| told = Some((key, last)));
-    (ended, told)
-}
-
 #[test]
 fn a_deadline_ends_a_timed_sleep(rt: HostRuntime) -> Result<(), Fail> {
-    let mut lot = lot_of(&rt, 2)?;
     let script = [
         (Call::Deadline(0), WRONG),
         (Call::Park(1, 3), WAITS),
@@ -126,17 +118,18 @@ fn a_deadline_ends_a_timed_sleep(rt: HostRuntime) -> Result<(), Fail> {
         (Call::Deadline(0), Answer::Done),
         (Call::Status(0), LATE),
         (Call::Deadline(0), WRONG),
+        (
+            Call::ResumeLate(0),
+            Answer::Late(ParkResult::TimedOut, Some((3, false))),
+        ),
+        (Call::IsQueue(3, &[1]), IS),
     ];
-    make(&rt, &mut lot, &script);
-    let ended = resumed(&mut lot, 0) == (Ok(ParkResult::TimedOut), Some((3, false)));
-    assert!(rt; ended);
-    make(&rt, &mut lot, &[(Call::IsQueue(3, &[1]), IS)]);
-    Ok(())
+    follow(&rt, 2, &[], &script)
 }
 
 #[test]
 fn a_late_thread_that_was_taken_is_unparked(rt: HostRuntime) -> Result<(), Fail> {
-    let mut lot = lot_of(&rt, 1)?;
+    let woken = ParkResult::Unparked(UnparkToken(5));
     let script = [
         (Call::ParkTimed(0, 3), WAITS),
         (Call::Deadline(0), Answer::Done),
@@ -145,11 +138,9 @@ fn a_late_thread_that_was_taken_is_unparked(rt: HostRuntime) -> Result<(), Fail>
             Answer::Unparked(outcome(1, 0, false)),
         ),
         (Call::Status(0), LATE),
+        (Call::ResumeLate(0), Answer::Late(woken, None)),
     ];
-    make(&rt, &mut lot, &script);
-    let ended = resumed(&mut lot, 0) == (Ok(ParkResult::Unparked(UnparkToken(5))), None);
-    assert!(rt; ended);
-    Ok(())
+    follow(&rt, 1, &[], &script)
 }
 
 /// Whether a refusal has that number and prints that name.

@@ -22,11 +22,22 @@ pub enum Call {
     ParkInvalid(usize, usize),
     Deadline(usize),
     Resume(usize),
+    /// Resumes a thread, and says what its deadline tells.
+    ResumeLate(usize),
+    /// A thread comes back into the section of its key, by itself, and takes itself off its list there.
+    ComeBack(usize, usize),
+    Quit(usize),
+    /// Wakes a thread out of the sleep that was marked first, or second.
+    Wake(usize, usize),
     Enter(usize, usize),
     Check(usize, bool),
     /// Appends a thread, with a deadline where this says so.
     Append(usize, bool),
     TakeNext(usize),
+    /// Takes the next waiter, and marks its sleep.
+    TakeMarked(usize),
+    /// Skips the next waiter, and takes the one behind it.
+    TakeBehindOne(usize),
     /// Says that a section's word is stored, with a token.
     Store(usize, usize),
     Leave(usize),
@@ -35,7 +46,13 @@ pub enum Call {
     UnparkAll(usize, usize),
     /// Unparks those of a key that the filter wants: it skips thread 0, takes 1, and stops at any other.
     UnparkFilter(usize, usize),
+    /// Unparks those of a key by a filter that stops at once, and counts whom it is shown.
+    UnparkStopping(usize),
+    /// Unparks the first of a key, and counts the callbacks that are told what the call answers.
+    UnparkCounting(usize),
     Requeue(usize, usize, RequeueOp),
+    /// The same, and counts the callbacks.
+    RequeueCounting(usize, usize, RequeueOp),
     Status(usize),
     /// Whether the threads of a key's list are these.
     IsQueue(usize, &'static [usize]),
@@ -53,6 +70,11 @@ pub enum Answer {
     Ended(Option<ParkResult>),
     Taken(Option<usize>),
     Unparked(UnparkResult),
+    /// The same, and how often a closure was called.
+    Counted(UnparkResult, usize),
+    /// How a park has ended, and what its deadline told.
+    Late(ParkResult, Option<(usize, bool)>),
+    Left(Option<UnparkToken>),
     Stands(Option<ThreadStatus>),
 }
 
@@ -103,6 +125,13 @@ fn unparked(answered: Result<UnparkResult, LotFault>) -> Answer {
     }
 }
 
+fn counted(answered: Result<UnparkResult, LotFault>, count: usize) -> Answer {
+    match answered {
+        Ok(outcome) => Answer::Counted(outcome, count),
+        Err(fault) => Answer::Refused(fault),
+    }
+}
+
 fn are(answered: Result<Vec<usize>, LotFault>, numbers: &[usize]) -> Answer {
     match answered {
         Ok(found) => Answer::Is(found.as_slice() == numbers),
@@ -119,26 +148,100 @@ fn by_thread(token: ParkToken) -> FilterOp {
 }
 
 /// Parks a thread with its number as the token.
-fn park(
-    lot: &mut Lot,
-    thread: usize,
-    key: usize,
-    valid: bool,
-    timed: bool,
-) -> Result<Option<ParkResult>, LotFault> {
-    lot.park(thread, key, || valid, ParkToken(thread), timed)
+fn park(lot: &mut Lot, thread: usize, key: usize, valid: bool, timed: bool) -> Answer {
+    ended(lot.park(thread, key, || valid, ParkToken(thread), timed))
 }
 
-/// The first waiter that a section hasn't passed.
-fn next_taken(lot: &mut Lot, thread: usize) -> Answer {
-    match lot.take_next(thread, |_| FilterOp::Unpark) {
+/// Resumes a thread, and says what its deadline tells.
+fn resumed(lot: &mut Lot, thread: usize) -> Answer {
+    let mut told = None;
+    match lot.resume(thread, |key, last| told = Some((key, last))) {
+        Ok(end) => Answer::Late(end, told),
+        Err(fault) => Answer::Refused(fault),
+    }
+}
+
+/// The first waiter that a section hasn't passed, or the one behind it.
+fn next_taken(lot: &mut Lot, thread: usize, skips: bool) -> Answer {
+    let mut skips = skips;
+    let taken = lot.take_next(thread, |_| {
+        let op = if skips {
+            FilterOp::Skip
+        } else {
+            FilterOp::Unpark
+        };
+        skips = false;
+        op
+    });
+    match taken {
         Ok(taking) => Answer::Taken(taking.map(|taking| taking.thread)),
         Err(fault) => Answer::Refused(fault),
     }
 }
 
-/// Makes a call of a section, or one of a thread.
-fn section_call(lot: &mut Lot, call: Call) -> Answer {
+/// The first waiter that a section hasn't passed, whose sleep is marked.
+fn marked(lot: &mut Lot, marks: &mut Marks, thread: usize) -> Answer {
+    match lot.take_next(thread, |_| FilterOp::Unpark) {
+        Ok(Some(taking)) => {
+            *marks = Marks(marks.1, taking.mark);
+            Answer::Taken(Some(taking.thread))
+        }
+        Ok(None) => Answer::Taken(None),
+        Err(fault) => Answer::Refused(fault),
+    }
+}
+
+fn stopped(lot: &mut Lot, key: usize) -> Answer {
+    let mut shown = 0usize;
+    let filter = |_: ParkToken| {
+        shown = shown.saturating_add(1);
+        FilterOp::Stop
+    };
+    let answered = lot.unpark_filter(key, filter, |_| DEFAULT_UNPARK_TOKEN);
+    counted(answered, shown)
+}
+
+fn unparked_counting(lot: &mut Lot, key: usize) -> Answer {
+    let mut seen = None;
+    let callback = |told| {
+        seen = Some(told);
+        DEFAULT_UNPARK_TOKEN
+    };
+    let answered = lot.unpark_one(key, callback);
+    let is_told = seen.is_some() && seen == answered.ok();
+    counted(answered, usize::from(is_told))
+}
+
+fn requeued_counting(lot: &mut Lot, from: usize, to: usize, op: RequeueOp) -> Answer {
+    let mut calls = 0usize;
+    let callback = |_, _| {
+        calls = calls.saturating_add(1);
+        DEFAULT_UNPARK_TOKEN
+    };
+    let answered = lot.unpark_requeue(from, to, || op, callback);
+    counted(answered, calls)
+}
+
+/// Makes a call that unparks.
+fn unpark_call(lot: &mut Lot, call: Call) -> Answer {
+    match call {
+        Call::UnparkOne(key, token) => unparked(lot.unpark_one(key, |_| UnparkToken(token))),
+        Call::UnparkAll(key, token) => number(lot.unpark_all(key, UnparkToken(token))),
+        Call::UnparkFilter(key, token) => {
+            unparked(lot.unpark_filter(key, by_thread, |_| UnparkToken(token)))
+        }
+        Call::UnparkStopping(key) => stopped(lot, key),
+        Call::UnparkCounting(key) => unparked_counting(lot, key),
+        Call::Requeue(from, to, op) => {
+            unparked(lot.unpark_requeue(from, to, || op, |_, _| DEFAULT_UNPARK_TOKEN))
+        }
+        Call::RequeueCounting(from, to, op) => requeued_counting(lot, from, to, op),
+        _ => Answer::Done,
+    }
+}
+
+/// Makes a call of a section.
+fn section_call(lot: &mut Lot, marks: &mut Marks, call: Call) -> Answer {
     match call {
         Call::Enter(thread, key) => done(lot.enter(thread, key)),
         Call::Check(thread, valid) => match lot.check(thread, valid) {
@@ -146,66 +249,83 @@ fn section_call(lot: &mut Lot, call: Call) -> Answer {
             Err(fault) => Answer::Refused(fault),
         },
         Call::Append(thread, timed) => done(lot.append(thread, ParkToken(thread), timed)),
-        Call::TakeNext(thread) => next_taken(lot, thread),
+        Call::TakeNext(thread) => next_taken(lot, thread, false),
+        Call::TakeBehindOne(thread) => next_taken(lot, thread, true),
+        Call::TakeMarked(thread) => marked(lot, marks, thread),
+        Call::Wake(thread, nth) => Answer::Is(lot.wake(thread, marks.of(nth))),
         Call::Store(thread, token) => done(lot.store_done(thread, UnparkToken(token))),
         Call::Leave(thread) => done(lot.leave(thread)),
-        Call::Register => number(lot.register()),
-        Call::Retire(thread) => done(lot.retire(thread)),
-        Call::Acquire(thread, key) => done(lot.acquire_resource(thread, key)),
-        Call::Release(thread, key) => done(lot.release_resource(thread, key)),
-        Call::AreResources(thread, keys) => are(lot.resources(thread), keys),
+        call => unpark_call(lot, call),
+    }
+}
+
+/// Makes a call of a thread, or looks at one.
+fn thread_call(lot: &mut Lot, call: Call) -> Answer {
+    match call {
+        Call::Park(thread, key) => park(lot, thread, key, true, false),
+        Call::ParkTimed(thread, key) => park(lot, thread, key, true, true),
+        Call::ParkInvalid(thread, key) => park(lot, thread, key, false, false),
+        Call::Deadline(thread) => done(lot.deadline(thread)),
+        Call::Resume(thread) => ended(lot.resume(thread, |_, _| {}).map(Some)),
+        Call::ResumeLate(thread) => resumed(lot, thread),
+        Call::ComeBack(thread, key) => done(lot.come_back(thread, key)),
+        Call::Quit(thread) => match lot.quit(thread) {
+            Ok(token) => Answer::Left(token),
+            Err(fault) => Answer::Refused(fault),
+        },
         _ => Answer::Done,
     }
 }
 
 /// Makes a call, and says what it answers.
-fn make_call(lot: &mut Lot, call: Call) -> Answer {
+fn make_call(lot: &mut Lot, marks: &mut Marks, call: Call) -> Answer {
     match call {
-        Call::Park(thread, key) => ended(park(lot, thread, key, true, false)),
-        Call::ParkTimed(thread, key) => ended(park(lot, thread, key, true, true)),
-        Call::ParkInvalid(thread, key) => ended(park(lot, thread, key, false, false)),
-        Call::Deadline(thread) => done(lot.deadline(thread)),
-        Call::Resume(thread) => ended(lot.resume(thread, |_, _| {}).map(Some)),
-        Call::UnparkOne(key, token) => unparked(lot.unpark_one(key, |_| UnparkToken(token))),
-        Call::UnparkAll(key, token) => number(lot.unpark_all(key, UnparkToken(token))),
-        Call::UnparkFilter(key, token) => {
-            unparked(lot.unpark_filter(key, by_thread, |_| UnparkToken(token)))
-        }
-        Call::Requeue(from, to, op) => {
-            unparked(lot.unpark_requeue(from, to, || op, |_, _| DEFAULT_UNPARK_TOKEN))
-        }
+        Call::Register => number(lot.register()),
+        Call::Retire(thread) => done(lot.retire(thread)),
+        Call::Acquire(thread, key) => done(lot.acquire_resource(thread, key)),
+        Call::Release(thread, key) => done(lot.release_resource(thread, key)),
+        Call::AreResources(thread, keys) => are(lot.resources(thread), keys),
         Call::Status(thread) => Answer::Stands(lot.status(thread)),
         Call::IsQueue(key, threads) => are(lot.queue(key), threads),
-        call => section_call(lot, call),
+        Call::Park(..) | Call::ParkTimed(..) | Call::ParkInvalid(..) => thread_call(lot, call),
+        Call::Deadline(_) | Call::Resume(_) | Call::ResumeLate(_) => thread_call(lot, call),
+        Call::ComeBack(..) | Call::Quit(_) => thread_call(lot, call),
+        call => section_call(lot, marks, call),
     }
 }
 
-/// A lot with so many threads, numbered from 0.
-pub fn lot_of(rt: &impl AllocGlobal, threads: usize) -> Result<Lot, Fail> {
-    let mut lot = Lot::new(rt.alloc(), 8, 7)?;
-    for _thread in 0..threads {
-        lot.register()?;
-    }
-    Ok(lot)
-}
+/// The marks of the last two sleeps that were marked.
+#[derive(Clone, Copy)]
+struct Marks(u64, u64);
 
-/// Makes each call on a lot, and looks whether it answers as it must.
-pub fn make(rt: &impl Abort, lot: &mut Lot, script: &[Line]) {
-    for (at, (call, must)) in script.iter().enumerate() {
-        let is_answered = make_call(lot, *call) == *must;
-        assert!(rt; is_answered, "line {at}");
+impl Marks {
+    /// That of the last but one, or of the last.
+    fn of(&self, nth: usize) -> u64 {
+        if nth == 0 { self.0 } else { self.1 }
     }
 }
 
-/// Makes each call on a new lot with so many threads: those of `before`, and then the others.
+/// Makes each call on a new lot with so many threads, numbered from 0, those of `before` and then the others, and looks whether it answers as it
+/// must.
 pub fn follow(
     rt: &(impl AllocGlobal + Abort),
     threads: usize,
     before: &[Line],
     script: &[Line],
 ) -> Result<(), Fail> {
-    let mut lot = lot_of(rt, threads)?;
-    make(rt, &mut lot, before);
-    make(rt, &mut lot, script);
+    let mut lot = Lot::new(rt.alloc(), 8, 7)?;
+    for _thread in 0..threads {
+        lot.register()?;
+    }
+    make(rt, &mut lot, before, script);
     Ok(())
+}
+
+/// Makes each call, and looks whether it answers as it must.
+fn make(rt: &impl Abort, lot: &mut Lot, before: &[Line], script: &[Line]) {
+    let mut marks = Marks(u64::MAX, u64::MAX);
+    for (at, (call, must)) in before.iter().chain(script.iter()).enumerate() {
+        let is_answered = make_call(lot, &mut marks, *call) == *must;
+        assert!(rt; is_answered, "line {at}");
+    }
 }

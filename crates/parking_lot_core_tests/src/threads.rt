@@ -2,12 +2,13 @@
 
 use parking_lot_core::{
     DEFAULT_PARK_TOKEN, DEFAULT_UNPARK_TOKEN, LotFault, ParkResult, ParkingLot, RequeueOp,
-    SizeFault, SpinWait, UnparkResult, UnparkToken, WordLock, deadlock, park, unpark_all,
-    unpark_one, unpark_requeue,
+    SizeFault, SpinWait, ThreadData, UnparkResult, UnparkToken, WordLock, deadlock, park,
+    unpark_all, unpark_one, unpark_requeue,
 };
+use std::sync::Wait;
 use std::test::Fail;
 use std::thread;
-use std::time::Instant;
+use std::time::{Clock, Instant};
 
 const NO_TIMEOUT: Option<(Instant, &HostRuntime)> = None;
 
@@ -33,68 +34,85 @@ fn participants_are_counted(rt: HostRuntime) -> Result<(), Fail> {
     Ok(())
 }
 
-#[test]
-fn before_sleep_may_unpark(rt: HostRuntime) -> Result<(), Fail> {
-    let lot = ParkingLot::new(rt, rt.alloc(), 2, 7)?;
+/// A park of a thread that is alone: whether its validation says yes, whether it unparks itself right before it sleeps, and whether its moment is
+/// past.
+#[derive(Clone, Copy)]
+struct Alone {
+    valid: bool,
+    unparks: bool,
+    late: bool,
+}
+
+/// How such a park ended, whether it was about to sleep, and what it was told of its moment.
+#[derive(Clone, Copy, PartialEq)]
+struct ParkEnd(Option<ParkResult>, bool, Option<(usize, bool)>);
+
+/// Parks a thread under key 3.
+fn parked<R: Wait + Clock>(
+    lot: &ParkingLot<R>,
+    me: &mut ThreadData,
+    timeout: Option<(Instant, &R)>,
+    how: Alone,
+) -> ParkEnd {
+    if !lot.same_lot(me) {
+        return ParkEnd(None, false, None);
+    }
+    let mut slept = false;
+    let mut told = None;
+    let ended = park(
+        lot,
+        me,
+        3,
+        || how.valid,
+        || {
+            slept = true;
+            if how.unparks {
+                unpark_one(lot, 3, |_| UnparkToken(42));
+            }
+        },
+        |key, last| told = Some((key, last)),
+        DEFAULT_PARK_TOKEN,
+        timeout,
+    );
+    ParkEnd(Some(ended), slept, told)
+}
+
+/// The same in a new lot.
+fn parked_alone<R: Wait + Clock + AllocGlobal + Copy>(rt: &R, how: Alone) -> Result<ParkEnd, Fail> {
+    let lot = ParkingLot::new(*rt, rt.alloc(), 2, 7)?;
     let mut me = lot.thread_data()?;
-    assert!(rt; lot.same_lot(&me));
-    let before = || {
-        unpark_one(&lot, 3, |_| UnparkToken(42));
+    let timeout = if how.late {
+        Some((Instant::now(rt)?, rt))
+    } else {
+        None
     };
-    let ended = park(
-        &lot,
-        &mut me,
-        3,
-        || true,
-        before,
-        |_, _| {},
-        DEFAULT_PARK_TOKEN,
-        NO_TIMEOUT,
-    );
-    assert!(rt; ended == ParkResult::Unparked(UnparkToken(42)));
-    Ok(())
+    Ok(parked(&lot, &mut me, timeout, how))
 }
 
+/// One unparks itself before it sleeps; an invalid park runs nothing else; and a moment that is past ends a park.
 #[test]
-fn an_invalid_park_runs_nothing_else(rt: HostRuntime) -> Result<(), Fail> {
-    let lot = ParkingLot::new(rt, rt.alloc(), 2, 7)?;
-    let mut me = lot.thread_data()?;
-    assert!(rt; lot.same_lot(&me));
-    let mut ran = false;
-    let mut late = false;
-    let ended = park(
-        &lot,
-        &mut me,
-        3,
-        || false,
-        || ran = true,
-        |_, _| late = true,
-        DEFAULT_PARK_TOKEN,
-        NO_TIMEOUT,
-    );
-    assert!(rt; (ended == ParkResult::Invalid) & !ran & !late);
-    Ok(())
-}
-
-#[test]
-fn a_moment_that_is_past_ends_a_park(rt: HostRuntime) -> Result<(), Fail> {
-    let lot = ParkingLot::new(rt, rt.alloc(), 2, 7)?;
-    let mut me = lot.thread_data()?;
-    assert!(rt; lot.same_lot(&me));
-    let now = Instant::now(&rt)?;
-    let mut late = None;
-    let told = |key, last| late = Some((key, last));
-    let ended = park(
-        &lot,
-        &mut me,
-        3,
-        || true,
-        || {},
-        told,
-        DEFAULT_PARK_TOKEN,
-        Some((now, &rt)),
-    );
-    assert!(rt; (ended == ParkResult::TimedOut) & (late == Some((3, true))));
+fn one_parks_alone(rt: HostRuntime) -> Result<(), Fail> {
+    let unparked = ParkResult::Unparked(UnparkToken(42));
+    let table = [
+        ((true, true, false), ParkEnd(Some(unparked), true, None)),
+        (
+            (false, false, false),
+            ParkEnd(Some(ParkResult::Invalid), false, None),
+        ),
+        (
+            (true, false, true),
+            ParkEnd(Some(ParkResult::TimedOut), true, Some((3, true))),
+        ),
+    ];
+    for ((valid, unparks, late), must) in table {
+        let how = Alone {
+            valid,
+            unparks,
+            late,
+        };
+        let is_so = parked_alone(&rt, how)? == must;
+        assert!(rt; is_so, "valid {valid}, unparks {unparks}, late {late}");
+    }
     Ok(())
 }
 

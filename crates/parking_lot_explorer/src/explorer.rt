@@ -1,14 +1,14 @@
 //! Every schedule of some programs, by the states to which they lead.
 
-use parking_lot_core_model::SizeFault;
-use parking_lot_world::{LockKind, World, WorldFault, WorldRefusal, WorldStep};
+use crate::layers::{Layer, Reached, Seen};
+use crate::plain::add;
+use crate::state::WorldState;
+use parking_lot_world::{LockKind, SizeFault, World, WorldFault, WorldRefusal, WorldStep};
 use std::alloc::AllocError;
+use std::mem;
 
 /// More steps than any programs of the tests make.
 const MOST_STEPS: u32 = 1000;
-
-/// Over how many lists the states are spread that so many steps lead to.
-const LISTS: u64 = 256;
 
 /// What a step is met by that isn't allowed.
 const CANNOT_MOVE: WorldFault = WorldFault {
@@ -18,84 +18,52 @@ const CANNOT_MOVE: WorldFault = WorldFault {
 
 /// What is watched on the way through all schedules at some locks, and what has to hold there. A rule that doesn't hold is named.
 pub trait Watch: Drop {
-    /// All that the further steps depend on, and all that is shown.
-    type Snapshot: PartialEq + Drop;
+    /// What is noted of the threads on the way.
+    type Notes: Copy + PartialEq;
 
-    /// The kinds of the locks, by their numbers.
+    /// How the threads end.
+    type End: Copy + PartialEq;
+
+    /// The kinds of the locks, by their numbers: three at most.
     fn kinds(&self) -> &[LockKind];
 
+    /// How many threads there are: three at most. Of three, one whose next step nobody else sees makes it at once, as its order to others changes
+    /// nothing.
     fn threads(&self) -> usize;
 
-    /// A number for a state, which few others share.
-    fn number(&self, at: &Self::Snapshot) -> u64;
+    /// Whether states are told apart also by how often the threads have slept.
+    fn counts_sleeps(&self) -> bool;
 
     /// Before the first step.
-    fn first(&self, world: &World) -> Result<Self::Snapshot, SizeFault>;
+    fn first(&self) -> Self::Notes;
 
-    /// Behind a step, or behind none.
+    /// Behind a step.
     fn behind(
         &self,
-        before: &Self::Snapshot,
-        step: Option<WorldStep>,
-        world: &World,
-    ) -> Result<Self::Snapshot, SizeFault>;
+        before: &Seen<Self::Notes>,
+        step: WorldStep,
+        world: &WorldState,
+    ) -> Self::Notes;
 
     /// What may be the next steps of a thread. Others are never allowed.
-    fn steps(&self, at: &Self::Snapshot, thread: usize) -> [Option<WorldStep>; 3];
+    fn steps(&self, at: &Seen<Self::Notes>, thread: usize) -> [Option<WorldStep>; 3];
 
     /// Looks at a state.
-    fn look(&mut self, at: &Self::Snapshot) -> Option<&'static str>;
+    fn look(&mut self, at: &Seen<Self::Notes>) -> Option<&'static str>;
 
     /// Looks at a step.
     fn look_at_step(
         &mut self,
-        before: &Self::Snapshot,
+        before: &Seen<Self::Notes>,
         step: WorldStep,
-        behind: &Self::Snapshot,
+        behind: &Seen<Self::Notes>,
     ) -> Option<&'static str>;
 
     /// Looks at a state without a further step.
-    fn look_at_end(&mut self, at: &Self::Snapshot) -> Result<Option<&'static str>, SizeFault>;
-}
+    fn look_at_end(&self, at: &Seen<Self::Notes>) -> Option<&'static str>;
 
-/// A state, and a schedule that leads there.
-#[derive(Drop)]
-struct State<S: Drop> {
-    schedule: Vec<WorldStep>,
-    snapshot: S,
-}
-
-/// The states that so many steps lead to, each once, by their numbers.
-#[derive(Drop)]
-struct Layer<S: Drop> {
-    lists: Vec<Vec<State<S>>>,
-    is_empty: bool,
-}
-
-impl<S: PartialEq + Drop> Layer<S> {
-    /// No state is known.
-    fn new(rt: &impl AllocGlobal) -> Result<Layer<S>, SizeFault> {
-        let mut lists = Vec::new(rt.alloc());
-        for _ in 0..LISTS {
-            push(&mut lists, Vec::new(rt.alloc()))?;
-        }
-        Ok(Layer {
-            lists,
-            is_empty: true,
-        })
-    }
-
-    /// Adds a state of that number, if it isn't there.
-    fn add(&mut self, number: u64, state: State<S>) -> Result<(), SizeFault> {
-        let Some(list) = self.lists.get_mut((number % LISTS) as usize) else {
-            return Ok(());
-        };
-        if !list.iter().any(|known| known.snapshot == state.snapshot) {
-            push(list, state)?;
-        }
-        self.is_empty = false;
-        Ok(())
-    }
+    /// How the threads end there.
+    fn ends_as(&self, at: &Seen<Self::Notes>) -> Self::End;
 }
 
 /// A rule that doesn't hold, and a schedule behind which it doesn't.
@@ -105,13 +73,25 @@ pub struct Broken {
     pub schedule: Vec<WorldStep>,
 }
 
+/// A world behind the schedule of a state, from which steps are tried. One that is refused leaves it there, and the next is tried in the same world.
+#[derive(Drop)]
+struct Trial {
+    world: World,
+    /// Whether the schedule could be run again.
+    is_there: bool,
+    /// Whether a step was made in it.
+    is_spent: bool,
+}
+
 /// One that goes through all schedules of some programs at some locks, up to the first rule that doesn't hold.
 #[derive(Drop)]
-pub struct Explorer<'r, R, W: Drop> {
+pub struct Explorer<'r, R, W: Watch> {
     rt: &'r R,
     /// How many states there are. One that is reached by several numbers of steps counts for each.
     pub states: u64,
     pub watch: W,
+    /// How the threads end, each way once.
+    pub ends: Vec<W::End>,
     pub broken: Option<Broken>,
 }
 
@@ -122,6 +102,7 @@ impl<'r, R: AllocGlobal, W: Watch> Explorer<'r, R, W> {
             rt,
             states: 0,
             watch,
+            ends: Vec::new(rt.alloc()),
             broken: None,
         };
         explorer.make_all()?;
@@ -130,25 +111,25 @@ impl<'r, R: AllocGlobal, W: Watch> Explorer<'r, R, W> {
 
     /// Goes from the states that so many steps lead to on to those of one step more, until there are none.
     fn make_all(&mut self) -> Result<(), SizeFault> {
+        let mut layer = Layer::new(self.rt.alloc())?;
         let first = self.first()?;
-        let mut layer = Layer::new(self.rt)?;
-        layer.add(self.watch.number(&first.snapshot), first)?;
+        layer.add(Vec::new(self.rt.alloc()), first)?;
         for _ in 0..MOST_STEPS {
             if layer.is_empty || self.broken.is_some() {
                 return Ok(());
             }
-            layer = self.next_layer(&layer)?;
+            let next = self.next_layer(&layer)?;
+            drop(mem::replace(&mut layer, next));
         }
         let never = Vec::new(self.rt.alloc());
         self.must_hold(Some("every schedule comes to its end"), &never)
     }
 
     /// Before the first step.
-    fn first(&self) -> Result<State<W::Snapshot>, SizeFault> {
-        let schedule = Vec::new(self.rt.alloc());
-        let world = self.new_world()?;
-        let snapshot = self.watch.first(&world)?;
-        Ok(State { schedule, snapshot })
+    fn first(&self) -> Result<Seen<W::Notes>, SizeFault> {
+        let world = self.state_of(&self.new_world()?)?;
+        let notes = self.watch.first();
+        Ok(Seen { notes, world })
     }
 
     fn new_world(&self) -> Result<World, SizeFault> {
@@ -156,9 +137,17 @@ impl<'r, R: AllocGlobal, W: Watch> Explorer<'r, R, W> {
         World::new(self.rt.alloc(), self.watch.threads(), kinds)
     }
 
+    fn state_of(&self, world: &World) -> Result<Box<WorldState>, SizeFault> {
+        let state = WorldState::of(self.rt.alloc(), world, self.watch.counts_sleeps())?;
+        match Box::new(self.rt.alloc(), state) {
+            Ok(state) => Ok(state),
+            Err(_) => Err(SizeFault::NoMemory),
+        }
+    }
+
     /// The states that one step leads to from these.
-    fn next_layer(&mut self, layer: &Layer<W::Snapshot>) -> Result<Layer<W::Snapshot>, SizeFault> {
-        let mut next = Layer::new(self.rt)?;
+    fn next_layer(&mut self, layer: &Layer<W::Notes>) -> Result<Layer<W::Notes>, SizeFault> {
+        let mut next = Layer::new(self.rt.alloc())?;
         for states in &layer.lists {
             self.visit_all(states, &mut next)?;
         }
@@ -168,8 +157,8 @@ impl<'r, R: AllocGlobal, W: Watch> Explorer<'r, R, W> {
     /// Looks at some of them, and adds those that one step leads to.
     fn visit_all(
         &mut self,
-        states: &[State<W::Snapshot>],
-        next: &mut Layer<W::Snapshot>,
+        states: &[Reached<W::Notes>],
+        next: &mut Layer<W::Notes>,
     ) -> Result<(), SizeFault> {
         for state in states {
             self.visit(state, next)?;
@@ -180,65 +169,140 @@ impl<'r, R: AllocGlobal, W: Watch> Explorer<'r, R, W> {
     /// Looks at a state, and adds those that one step leads to.
     fn visit(
         &mut self,
-        state: &State<W::Snapshot>,
-        next: &mut Layer<W::Snapshot>,
+        state: &Reached<W::Notes>,
+        next: &mut Layer<W::Notes>,
     ) -> Result<(), SizeFault> {
-        let broken = self.watch.look(&state.snapshot);
+        let broken = self.watch.look(&state.seen);
         self.must_hold(broken, &state.schedule)?;
         self.states = self.states.saturating_add(1);
+        let mut trial = self.new_trial(&state.schedule)?;
         let mut is_moved = false;
         for thread in 0..self.watch.threads() {
-            let steps = self.watch.steps(&state.snapshot, thread);
-            is_moved = is_moved | self.make_each(state, steps, next)?;
+            is_moved = is_moved | self.make_each(state, thread, &mut trial, next)?;
         }
-        if !is_moved {
-            let broken = self.watch.look_at_end(&state.snapshot)?;
-            self.must_hold(broken, &state.schedule)?;
-        }
-        Ok(())
+        if is_moved { Ok(()) } else { self.end(state) }
     }
 
-    /// Makes each of the steps from a state, and adds the states that they lead to. Answers whether one was allowed.
+    /// Looks at a state without a further step.
+    fn end(&mut self, state: &Reached<W::Notes>) -> Result<(), SizeFault> {
+        let end = self.watch.ends_as(&state.seen);
+        add(&mut self.ends, end)?;
+        let broken = self.watch.look_at_end(&state.seen);
+        self.must_hold(broken, &state.schedule)
+    }
+
+    /// What may be the next steps of a thread.
+    fn steps(&self, seen: &Seen<W::Notes>, thread: usize) -> [Option<WorldStep>; 3] {
+        let alone = seen.world.alone();
+        if self.watch.threads() == 3 && alone.is_some() && alone != Some(thread) {
+            [None; 3]
+        } else {
+            self.watch.steps(seen, thread)
+        }
+    }
+
+    /// Makes each step of a thread from a state, and adds the states that they lead to. Answers whether one was allowed.
     fn make_each(
         &mut self,
-        state: &State<W::Snapshot>,
-        steps: [Option<WorldStep>; 3],
-        next: &mut Layer<W::Snapshot>,
+        state: &Reached<W::Notes>,
+        thread: usize,
+        trial: &mut Trial,
+        next: &mut Layer<W::Notes>,
     ) -> Result<bool, SizeFault> {
         let mut is_moved = false;
-        for step in steps.into_iter().flatten() {
-            if let Some(behind) = self.make(state, step)? {
-                is_moved = true;
-                next.add(self.watch.number(&behind.snapshot), behind)?;
+        for step in self.steps(&state.seen, thread) {
+            if let Some(step) = step {
+                is_moved = is_moved | self.make(state, step, trial, next)?;
             }
         }
         Ok(is_moved)
     }
 
-    /// Makes a step from a state; `None` where it isn't allowed.
+    /// A new world behind a schedule.
+    fn new_trial(&self, schedule: &[WorldStep]) -> Result<Trial, SizeFault> {
+        let mut world = self.new_world()?;
+        let is_there = world.run(schedule).is_ok();
+        Ok(Trial {
+            world,
+            is_there,
+            is_spent: false,
+        })
+    }
+
+    /// A world in which a step can be tried.
+    fn renew(&self, trial: &mut Trial, schedule: &[WorldStep]) -> Result<(), SizeFault> {
+        if trial.is_spent {
+            let fresh = self.new_trial(schedule)?;
+            drop(mem::replace(trial, fresh));
+        }
+        Ok(())
+    }
+
+    /// Makes a step from a state, and adds the state that it leads to. Answers whether it was allowed.
     fn make(
         &mut self,
-        state: &State<W::Snapshot>,
+        state: &Reached<W::Notes>,
         step: WorldStep,
-    ) -> Result<Option<State<W::Snapshot>>, SizeFault> {
-        let mut world = self.new_world()?;
-        let is_there = world.run(&state.schedule).is_ok();
-        if let Err(fault) = world.run(&[step]) {
-            let unmoved = self.watch.behind(&state.snapshot, None, &world)?;
-            let broken = broken_by_refusal(fault, unmoved == state.snapshot);
-            self.must_hold(broken, &state.schedule)?;
-            return Ok(None);
+        trial: &mut Trial,
+        next: &mut Layer<W::Notes>,
+    ) -> Result<bool, SizeFault> {
+        self.renew(trial, &state.schedule)?;
+        let ran = trial.world.run(&[step]);
+        let world = self.state_of(&trial.world)?;
+        match ran {
+            Err(fault) => self.refuse(state, fault, &world),
+            Ok(()) => {
+                trial.is_spent = true;
+                self.go_on(state, step, trial.is_there, world, next)
+            }
         }
-        let snapshot = self.watch.behind(&state.snapshot, Some(step), &world)?;
-        let mut schedule = state.schedule.clone()?;
-        push(&mut schedule, step)?;
-        let broken = if is_there {
-            self.watch.look_at_step(&state.snapshot, step, &snapshot)
-        } else {
-            Some("a schedule that was run can be run again")
-        };
+    }
+
+    /// Looks at a step that was refused.
+    fn refuse(
+        &mut self,
+        state: &Reached<W::Notes>,
+        fault: WorldFault,
+        world: &WorldState,
+    ) -> Result<bool, SizeFault> {
+        let broken = broken_by_refusal(fault, *world == *state.seen.world);
+        self.must_hold(broken, &state.schedule)?;
+        Ok(false)
+    }
+
+    /// Looks at a step that was made, and goes on from the world behind it.
+    fn go_on(
+        &mut self,
+        state: &Reached<W::Notes>,
+        step: WorldStep,
+        is_there: bool,
+        world: Box<WorldState>,
+        next: &mut Layer<W::Notes>,
+    ) -> Result<bool, SizeFault> {
+        let notes = self.watch.behind(&state.seen, step, &world);
+        let seen = Seen { notes, world };
+        let broken = self.watch.look_at_step(&state.seen, step, &seen);
+        let again = first_broken(&[(is_there, "a schedule that was run can be run again")]);
+        self.reach(state, step, seen, again.or(broken), next)?;
+        Ok(true)
+    }
+
+    /// Adds the state that a step leads to, if it isn't there, and notes the rule that the step has broken.
+    fn reach(
+        &mut self,
+        state: &Reached<W::Notes>,
+        step: WorldStep,
+        seen: Seen<W::Notes>,
+        broken: Option<&'static str>,
+        next: &mut Layer<W::Notes>,
+    ) -> Result<(), SizeFault> {
+        if broken.is_none() && next.has(&seen) {
+            return Ok(());
+        }
+        let schedule = longer(&state.schedule, step)?;
         self.must_hold(broken, &schedule)?;
-        Ok(Some(State { schedule, snapshot }))
+        next.add(schedule, seen)?;
+        Ok(())
     }
 
     /// Notes a rule that is broken behind a schedule, the first one.
@@ -247,14 +311,23 @@ impl<'r, R: AllocGlobal, W: Watch> Explorer<'r, R, W> {
         broken: Option<&'static str>,
         schedule: &Vec<WorldStep>,
     ) -> Result<(), SizeFault> {
-        if let Some(rule) = broken {
-            if self.broken.is_none() {
+        match broken {
+            Some(rule) if self.broken.is_none() => {
                 let schedule = schedule.clone()?;
-                self.broken = Some(Broken { rule, schedule });
+                let first = Some(Broken { rule, schedule });
+                drop(mem::replace(&mut self.broken, first));
+                Ok(())
             }
+            _ => Ok(()),
         }
-        Ok(())
     }
+}
+
+/// A schedule with one step more.
+fn longer(schedule: &Vec<WorldStep>, step: WorldStep) -> Result<Vec<WorldStep>, AllocError> {
+    let mut schedule = schedule.clone()?;
+    schedule.push(step)?;
+    Ok(schedule)
 }
 
 /// A step that isn't allowed is refused as such, and changes nothing.
@@ -276,10 +349,4 @@ pub fn first_broken(rules: &[(bool, &'static str)]) -> Option<&'static str> {
         }
     }
     None
-}
-
-/// Adds one to the end of a list.
-pub fn push<T: Drop>(list: &mut Vec<T>, one: T) -> Result<(), AllocError> {
-    list.push(one)?;
-    Ok(())
 }
