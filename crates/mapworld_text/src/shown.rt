@@ -1,15 +1,15 @@
 //! What calls are answered, as it is written.
 
 use mapworld_calls::Answer;
-use std::alloc::Global;
+use std::alloc::{Allocator, Global};
 use std::fmt;
 
 /// What a call of a text's program is answered.
-pub type Answered = Answer<u64, u64, (u64, u64), Global>;
+pub type Answered<A = Global> = Answer<u64, u64, (u64, u64), A>;
 
 /// An answer as it is written in a text.
 #[derive(Clone, Copy)]
-pub struct Shown<'a>(pub &'a Answered);
+pub struct Shown<'a, A: Allocator = Global>(pub &'a Answered<A>);
 
 /// Writes what a walk has read.
 fn write_reads<W: fmt::Write>(reads: &[(u64, u64)], f: &mut fmt::Formatter<W>) -> fmt::Result {
@@ -23,7 +23,7 @@ fn write_reads<W: fmt::Write>(reads: &[(u64, u64)], f: &mut fmt::Formatter<W>) -
     Ok(())
 }
 
-impl fmt::Display for Shown<'_> {
+impl<A: Allocator> fmt::Display for Shown<'_, A> {
     fn fmt<W: fmt::Write>(&self, f: &mut fmt::Formatter<W>) -> fmt::Result {
         match self.0 {
             Answer::Done => f.write_str("done"),

@@ -2,8 +2,9 @@
 //! give.
 
 use crate::look::{Look, first_key, second_key, shard_of};
+use mapworld::{Ask, Begin, Held, Keyed, Walk};
 use mapworld_oracle::plain::{is_opening, is_try, is_walk, key_of, stop_of};
-use mapworld_oracle::worlds::Call;
+use mapworld_text::{Asked, Change};
 use parking_lot_core_model::ParkToken;
 use parking_lot_protocol::word::{READER, WRITER};
 use parking_lot_protocol::{
@@ -11,7 +12,7 @@ use parking_lot_protocol::{
 };
 
 /// Where a thread is in its call.
-#[derive(Clone, Copy, PartialEq, Eq, Debug)]
+#[derive(Clone, Copy, PartialEq)]
 pub enum Stage {
     /// Between two calls.
     Rest,
@@ -30,7 +31,7 @@ pub enum Stage {
 }
 
 /// What comes behind the steps that a thread makes in its shard.
-#[derive(Clone, Copy, PartialEq, Eq, Debug)]
+#[derive(Clone, Copy, PartialEq)]
 pub enum Then {
     /// The hold ends or is shared.
     End,
@@ -43,7 +44,7 @@ pub enum Then {
 }
 
 /// How far a thread is in its program.
-#[derive(Clone, Copy, PartialEq, Eq, Debug)]
+#[derive(Clone, Copy, PartialEq)]
 pub struct Progress {
     /// The number of the call that it is in, or that is next.
     pub call: usize,
@@ -62,29 +63,42 @@ pub struct Progress {
 }
 
 /// How a call asks for its shards.
-fn wants(call: Call) -> LockMode {
+fn wants(call: &Asked) -> LockMode {
     match call {
-        Call::Look(_) | Call::Has(_) | Call::Get(_) | Call::TryGet(_) => LockMode::Shared(false),
-        Call::ReadAll(_) | Call::Len | Call::IsEmpty | Call::Capacity => LockMode::Shared(false),
+        Ask::Keyed(Keyed::View(..) | Keyed::ContainsKey(_)) => LockMode::Shared(false),
+        Ask::Begin(Begin::Get(_) | Begin::TryGet(_)) => LockMode::Shared(false),
+        Ask::Walk(Walk::Iter(..) | Walk::Len | Walk::IsEmpty | Walk::Capacity) => {
+            LockMode::Shared(false)
+        }
         _ => LockMode::Exclusive,
     }
 }
 
+/// Whether a call makes its guard a shared one.
+fn is_downgrade(call: &Asked) -> bool {
+    matches!(call, Ask::Held(Held::Downgrade))
+}
+
+/// Whether a call opens an entry.
+fn is_entry(call: &Asked) -> bool {
+    matches!(call, Ask::Begin(Begin::Entry(_) | Begin::TryEntry(_)))
+}
+
 /// Whether a walk takes the next shard before it gives the last one back.
-fn hands_over(call: Call) -> bool {
+fn hands_over(call: &Asked) -> bool {
     matches!(
         call,
-        Call::ReadAll(_) | Call::ReadAndAddToAll(..) | Call::AddToAll(_)
+        Ask::Walk(Walk::Iter(..) | Walk::IterMut(..) | Walk::AlterAll(_))
     )
 }
 
 /// Whether a walk does something at each pair.
-fn has_items(call: Call) -> bool {
-    hands_over(call) || matches!(call, Call::KeepBelow(..) | Call::Clear)
+fn has_items(call: &Asked) -> bool {
+    hands_over(call) || matches!(call, Ask::Walk(Walk::Retain(_) | Walk::Clear))
 }
 
 /// The token with which one waits that makes this call.
-fn token_of(call: Call) -> ParkToken {
+fn token_of(call: &Asked) -> ParkToken {
     match wants(call) {
         LockMode::Exclusive => ParkToken(WRITER as usize),
         LockMode::Shared(_) => ParkToken(READER as usize),
@@ -111,7 +125,7 @@ pub struct Seen<'a> {
     pub pairs: u64,
     pub fair: bool,
     /// The call that the other thread is in.
-    pub others: Option<Call>,
+    pub others: Option<&'a Asked>,
 }
 
 impl Seen<'_> {
@@ -199,10 +213,10 @@ impl Progress {
     }
 
     /// The call of a lock that its next step begins, with the first act of it.
-    fn begins(&self, call: Call) -> Option<RwPhase> {
+    fn begins(&self, call: &Asked) -> Option<RwPhase> {
         let mode = self.holds?;
         let begun = match (self.stage, self.then) {
-            (Stage::Inside(0), Then::End) if call == Call::Share => RwPhase::Downgrading,
+            (Stage::Inside(0), Then::End) if is_downgrade(call) => RwPhase::Downgrading,
             (Stage::Inside(0), Then::End | Then::Give) => release(mode),
             (Stage::Asks(_), _) if self.keeps && self.is_over().is_some() => release(wants(call)),
             _ => return None,
@@ -211,7 +225,7 @@ impl Progress {
     }
 
     /// The phase of the lock's call whose act it makes next, in that call.
-    fn acting(&self, call: Call) -> Option<RwPhase> {
+    fn acting(&self, call: &Asked) -> Option<RwPhase> {
         match self.begins(call) {
             Some(phase) => Some(phase),
             None => self
@@ -221,7 +235,7 @@ impl Progress {
     }
 
     /// The act at a lock that it makes next, in that call.
-    pub fn act(&self, call: Call) -> Option<Act> {
+    pub fn act(&self, call: &Asked) -> Option<Act> {
         self.acting(call).map(|phase| phase.act())
     }
 
@@ -275,7 +289,7 @@ impl Progress {
     }
 
     /// Once it has made an act of the lock's call, which is there now.
-    fn moved(&self, call: Call, phase: RwPhase) -> Progress {
+    fn moved(&self, call: &Asked, phase: RwPhase) -> Progress {
         let hands = match phase {
             RwPhase::Leaves(_, _, hands) => hands,
             _ => self.hands,
@@ -303,7 +317,7 @@ impl Progress {
             },
             _ => Progress {
                 stage: Stage::Ends(phase),
-                holds: if call == Call::Share {
+                holds: if is_downgrade(call) {
                     Some(LockMode::Shared(false))
                 } else {
                     None
@@ -314,7 +328,7 @@ impl Progress {
     }
 
     /// Asks for a shard in that call.
-    fn asking(&self, call: Call, shard: usize) -> Option<Progress> {
+    fn asking(&self, call: &Asked, shard: usize) -> Option<Progress> {
         let begun = if is_try(call) {
             RwPhase::Trying(wants(call))
         } else {
@@ -328,18 +342,13 @@ impl Progress {
     }
 
     /// Once it has started that call.
-    fn started(&self, call: Call, seen: &Seen<'_>) -> Option<Progress> {
-        if let Some(key) = key_of(call) {
-            return self.asking(call, shard_of(key));
+    fn started(&self, call: &Asked, seen: &Seen<'_>) -> Option<Progress> {
+        match (call, key_of(call)) {
+            (_, Some(key)) => self.asking(call, shard_of(key)),
+            (Ask::Held(held), _) => Some(self.on_guard(held, seen)),
+            _ if stop_of(call) == Some(0) => Some(self.at(Stage::Answers)),
+            _ => self.asking(call, 0),
         }
-        if is_walk(call) {
-            return if stop_of(call) == Some(0) {
-                Some(self.at(Stage::Answers))
-            } else {
-                self.asking(call, 0)
-            };
-        }
-        Some(self.on_guard(call, seen))
     }
 
     fn at(&self, stage: Stage) -> Progress {
@@ -355,26 +364,26 @@ impl Progress {
     }
 
     /// Once it has started a call on a guard, of those that the tests make.
-    fn on_guard(&self, call: Call, seen: &Seen<'_>) -> Progress {
+    fn on_guard(&self, call: &Held<u64, Change>, seen: &Seen<'_>) -> Progress {
         match (call, self.holds) {
             (_, None) => self.at(Stage::Answers),
-            (Call::Leave, _) | (Call::Share, Some(LockMode::Exclusive)) => self.inside(
+            (Held::Drop, _) | (Held::Downgrade, Some(LockMode::Exclusive)) => self.inside(
                 0,
                 Then::End,
             ),
             // A vacant guard, which has no pair.
-            (Call::Read | Call::Add(_) | Call::TakePair, _) if !seen.present => self.at(
+            (Held::Read(_) | Held::Write(_) | Held::RemoveEntry, _) if !seen.present => self.at(
                 Stage::Answers,
             ),
-            (Call::Read | Call::Add(_), _) => self.inside(1, Then::Answer),
-            (Call::PutIn(_), _) => self.inside(1, Then::Answer),
-            (Call::TakePair, _) => self.inside(1, Then::End),
+            (Held::Read(_) | Held::Write(_), _) => self.inside(1, Then::Answer),
+            (Held::Insert(_), _) => self.inside(1, Then::Answer),
+            (Held::RemoveEntry, _) => self.inside(1, Then::End),
             _ => self.at(Stage::Answers),
         }
     }
 
     /// Once it has looked for its key.
-    fn found(&self, call: Call, seen: &Seen<'_>) -> Progress {
+    fn found(&self, call: &Asked, seen: &Seen<'_>) -> Progress {
         let listed = seen.behind.blocks() > seen.before.blocks();
         let held = Progress {
             holds: Some(wants(call)),
@@ -383,19 +392,19 @@ impl Progress {
         match call {
             call if is_opening(call) && seen.present => held.at(Stage::Answers),
             // A vacant one, which may have to grow its shard.
-            Call::Enter(_) | Call::TryEnter(_) if listed => held.at(Stage::Answers),
-            Call::Enter(_) | Call::TryEnter(_) => held.inside(1, Then::Answer),
-            Call::Insert(..) if listed => held.inside(1, Then::End),
-            Call::Insert(..) => held.inside(2, Then::End),
-            Call::Look(_) if !listed => held.inside(1, Then::End),
-            Call::Look(_) | Call::Has(_) => held.inside(0, Then::End),
+            call if is_entry(call) && listed => held.at(Stage::Answers),
+            call if is_entry(call) => held.inside(1, Then::Answer),
+            Ask::Keyed(Keyed::Insert(..)) if listed => held.inside(1, Then::End),
+            Ask::Keyed(Keyed::Insert(..)) => held.inside(2, Then::End),
+            Ask::Keyed(Keyed::View(..)) if !listed => held.inside(1, Then::End),
+            Ask::Keyed(Keyed::View(..) | Keyed::ContainsKey(_)) => held.inside(0, Then::End),
             _ if is_opening(call) || !seen.present => held.inside(0, Then::End),
             _ => held.inside(1, Then::End),
         }
     }
 
     /// Once its walk has looked into its shard.
-    fn looked(&self, call: Call, seen: &Seen<'_>) -> Progress {
+    fn looked(&self, call: &Asked, seen: &Seen<'_>) -> Progress {
         let left = match stop_of(call) {
             Some(stop) => stop.saturating_sub(self.given),
             None => u64::MAX,
@@ -434,7 +443,7 @@ impl Progress {
     }
 
     /// Once it has made a step in its shard, or left that.
-    fn inside_after(&self, call: Call, steps: u64) -> Option<Progress> {
+    fn inside_after(&self, call: &Asked, steps: u64) -> Option<Progress> {
         match (steps, self.then) {
             (0, Then::Keep) => {
                 let keeping = Progress {
@@ -449,7 +458,7 @@ impl Progress {
     }
 
     /// Behind its step in that call; `None` where the step can't be one of the protocol.
-    pub fn after(&self, call: Call, seen: &Seen<'_>) -> Option<Progress> {
+    pub fn after(&self, call: &Asked, seen: &Seen<'_>) -> Option<Progress> {
         if let Some(phase) = self.acting(call) {
             let given = seen.given(phase.act(), self.act_shard())?;
             return Some(self.moved(call, phase.after(given)?));

@@ -1,6 +1,6 @@
 //! What a world of two threads and two shards shows between two steps.
 
-use mapworld_oracle::worlds::World;
+use crate::worlds::World;
 use std::alloc::{AllocError, Global};
 use std::test::Fail;
 
@@ -20,7 +20,7 @@ pub fn second_key(shard: usize) -> usize {
 }
 
 /// The words, who waits in which queue, and the blocks by their threads, calls and visits.
-#[derive(PartialEq, Eq, Drop)]
+#[derive(PartialEq, Drop)]
 pub struct Look {
     words: [u64; 2],
     waiting: Vec<(usize, usize)>,

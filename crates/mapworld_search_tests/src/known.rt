@@ -9,7 +9,7 @@ use std::alloc::{AllocError, Global};
 const LISTS: u64 = 4096;
 
 /// What two states are told apart by: how far their threads are, and what is shown.
-#[derive(PartialEq, Eq, Drop)]
+#[derive(PartialEq, Drop)]
 pub struct Key {
     pub threads: [Progress; 2],
     pub look: Look,

@@ -2,8 +2,8 @@
 
 use crate::look::Look;
 use crate::progress::{Progress, Stage};
+use crate::worlds::World;
 use mapworld::{RunFault, Status, Step};
-use mapworld_oracle::worlds::World;
 use std::alloc::Global;
 use std::test::Fail;
 

@@ -4,11 +4,11 @@ use crate::known::{Key, Known};
 use crate::look::Look;
 use crate::progress::{Progress, Seen};
 use crate::rules::{broken_by_threads, can_move, refuses};
-use mapworld::{SpreadState, Step};
-use mapworld_oracle::checks::{broken, shown_now, shows_ends};
+use crate::worlds::{World, broken, shown_now, world_of};
+use mapworld::Step;
 use mapworld_oracle::plain::key_of;
 use mapworld_oracle::replay::Made;
-use mapworld_oracle::worlds::{Call, World, world_of};
+use mapworld_text::Asked;
 use parking_lot_protocol::{Act, SectionAct};
 use std::process::Abort;
 use std::test::Fail;
@@ -23,7 +23,7 @@ const KEYS: u64 = 8;
 #[derive(Clone, Copy)]
 pub struct Two<'a> {
     pub pairs: &'a [(u64, u64)],
-    pub programs: [&'a [Call]; 2],
+    pub programs: &'a [Vec<Asked>],
 }
 
 /// A world behind a schedule: how far its threads are, and what it shows.
@@ -45,6 +45,15 @@ pub struct Found {
     pub share: u64,
 }
 
+impl Found {
+    /// Before the first state.
+    pub const NOTHING: Found = Found {
+        states: 0,
+        ends: 0,
+        share: 0,
+    };
+}
+
 /// One that goes through all schedules of two programs.
 #[derive(Drop)]
 pub struct Explorer<'r, 'p, R> {
@@ -57,11 +66,7 @@ pub struct Explorer<'r, 'p, R> {
 impl<'r, 'p, R: AllocGlobal + Abort> Explorer<'r, 'p, R> {
     /// Makes every schedule of the two programs, to its end.
     pub fn explore(rt: &'r R, two: Two<'p>) -> Result<Found, Fail> {
-        let found = Found {
-            states: 0,
-            ends: 0,
-            share: 0,
-        };
+        let found = Found::NOTHING;
         let known = Known::new(rt.alloc())?;
         let mut explorer = Explorer {
             rt,
@@ -97,9 +102,7 @@ impl<'r, 'p, R: AllocGlobal + Abort> Explorer<'r, 'p, R> {
 
     /// A world behind a schedule.
     fn world_behind(&self, schedule: &[Step]) -> Result<World, Fail> {
-        let two = self.two;
-        let made = world_of(self.rt.alloc(), 2, SpreadState, two.pairs, &two.programs);
-        let mut world = made.ok_or("no world")?;
+        let mut world = world_of(self.rt.alloc(), self.two.pairs, self.two.programs)?;
         world.run(schedule)?;
         Ok(world)
     }
@@ -146,8 +149,8 @@ impl<'r, 'p, R: AllocGlobal + Abort> Explorer<'r, 'p, R> {
     }
 
     fn calls(&self) -> usize {
-        let [first, second] = self.two.programs;
-        first.len().saturating_add(second.len())
+        let lengths = self.two.programs.iter().map(|program| program.len());
+        lengths.fold(0_usize, |sum, length| sum.saturating_add(length))
     }
 
     /// Drains a world behind a schedule, and looks at what it showed before and shows then.
@@ -163,8 +166,7 @@ impl<'r, 'p, R: AllocGlobal + Abort> Explorer<'r, 'p, R> {
         for step in schedule {
             threads.push(step.thread)?;
         }
-        let is_shown = shows_ends(&world);
-        let halfway = shown_now(self.rt.alloc(), &world, threads)?;
+        let (halfway, is_shown) = shown_now(self.rt.alloc(), &world, threads)?;
         let bound = world.bound();
         let steps = world.drain();
         let share = steps.saturating_mul(1000).checked_div(bound).unwrap_or(0);
@@ -179,24 +181,24 @@ impl<'r, 'p, R: AllocGlobal + Abort> Explorer<'r, 'p, R> {
             alloc: self.rt.alloc(),
             shards: 2,
             pairs: self.two.pairs,
-            programs: &self.two.programs,
+            programs: self.two.programs,
         };
         self.must_hold(broken(made, &world, KEYS, &halfway)?, schedule);
         Ok(())
     }
 
     /// The call that a thread is in, or the next one.
-    fn call(&self, state: &State, thread: usize) -> Option<Call> {
+    fn call(&self, state: &State, thread: usize) -> Option<&'p Asked> {
         let progress = state.threads[thread & 1];
-        self.two.programs[thread & 1].get(progress.call).copied()
+        self.two.programs.get(thread)?.get(progress.call)
     }
 
     /// The key of the thread's call, or of the opening before it.
     fn key(&self, state: &State, thread: usize) -> Option<u64> {
         let progress = state.threads[thread & 1];
-        let calls = self.two.programs[thread & 1];
+        let calls = self.two.programs.get(thread)?;
         let so_far = calls.get(..progress.call.saturating_add(1))?;
-        so_far.iter().rev().find_map(|call| key_of(*call))
+        so_far.iter().rev().find_map(key_of)
     }
 
     /// Makes the thread's step from a state, where it stores unfairly and fairly, and adds the states that it leads to.
@@ -229,7 +231,7 @@ impl<'r, 'p, R: AllocGlobal + Abort> Explorer<'r, 'p, R> {
         &mut self,
         state: &State,
         step: Step,
-        call: Call,
+        call: &Asked,
         next: &mut Vec<State>,
     ) -> Result<(), Fail> {
         let mut world = self.world_behind(&state.schedule)?;
@@ -246,7 +248,7 @@ impl<'r, 'p, R: AllocGlobal + Abort> Explorer<'r, 'p, R> {
             present,
             pairs,
             fair: step.fair,
-            others: self.call(state, step.thread.wrapping_add(1) & 1),
+            others: self.call(state, (step.thread & 1) ^ 1),
         };
         let Some(threads) = followed(state.threads, step.thread, call, &seen) else {
             self.must_hold(
@@ -274,7 +276,7 @@ impl<'r, 'p, R: AllocGlobal + Abort> Explorer<'r, 'p, R> {
 fn followed(
     threads: [Progress; 2],
     thread: usize,
-    call: Call,
+    call: &Asked,
     seen: &Seen<'_>,
 ) -> Option<[Progress; 2]> {
     let own = threads[thread & 1];

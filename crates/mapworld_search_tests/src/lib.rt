@@ -13,3 +13,5 @@ mod progress;
 mod rules;
 #[cfg(test)]
 mod schedules;
+#[cfg(test)]
+mod worlds;
