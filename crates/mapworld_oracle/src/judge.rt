@@ -61,8 +61,16 @@ pub fn broken_halfway<D: Deed<u64, u64, Answer = (u64, u64)> + Copy>(
     halfway: &Halfway,
 ) -> Result<Broken, AllocError> {
     let until = halfway.schedule.len() as u64;
-    let answered = seen.replies.iter().filter(|reply| reply.end <= until).count();
-    let listed = seen.blocks.iter().filter(|block| block.position <= until).count();
+    let answered = seen
+        .replies
+        .iter()
+        .filter(|reply| reply.end <= until)
+        .count();
+    let listed = seen
+        .blocks
+        .iter()
+        .filter(|block| block.position <= until)
+        .count();
     if answered != halfway.replies || listed != halfway.blocks {
         return Ok(Some("steps only add replies and blocks"));
     }

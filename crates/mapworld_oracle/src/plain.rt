@@ -162,10 +162,7 @@ fn on_absent<D>(call: &Keyed<u64, u64, D>) -> Told {
 }
 
 /// What a call on a present key is answered.
-fn on_present<D: Deed<u64, u64, Answer = (u64, u64)>>(
-    call: &Keyed<u64, u64, D>,
-    old: u64,
-) -> Told {
+fn on_present<D: Deed<u64, u64, Answer = (u64, u64)>>(call: &Keyed<u64, u64, D>, old: u64) -> Told {
     match call {
         Keyed::Insert(key, new) => leaving(Said::Value(old), *key, Some(*new)),
         Keyed::Remove(key) => leaving(Said::Pair(*key, old), *key, None),
