@@ -2,8 +2,7 @@
 
 use crate::seen::write_seen;
 use crate::traced::{Traced, World};
-use dashmap_table::SpreadState;
-use mapworld::{MapWorld, Step, WorldNewFault};
+use mapworld::{MapWorld, SpreadState, Step, WorldNewFault};
 use mapworld_text::{Asked, Case, Line, Order, View};
 use std::alloc::{AllocError, Global};
 use std::fmt;

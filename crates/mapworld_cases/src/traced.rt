@@ -1,7 +1,6 @@
 //! A world that is stepped, and the words that its shards have had.
 
-use dashmap_table::SpreadState;
-use mapworld::{MapWorld, RunFault, Step};
+use mapworld::{MapWorld, RunFault, SpreadState, Step};
 use mapworld_text::Change;
 use std::alloc::{AllocError, Global};
 

@@ -1,7 +1,6 @@
 //! Worlds of two threads and two shards, and what they show beside the plain map of `mapworld_oracle`.
 
-use dashmap_table::SpreadState;
-use mapworld::MapWorld;
+use mapworld::{MapWorld, SpreadState};
 use mapworld_oracle::judge::{Halfway, broken_at_end, broken_halfway, shows_ends};
 use mapworld_oracle::replay::{Broken, Made, Seen};
 use mapworld_oracle::said::replies_of;

@@ -3,7 +3,7 @@
 use crate::flags::{has_come, is_raised};
 use parking_lot_core::{ParkingLot, ThreadData};
 use parking_lot_driver::LockTable;
-use parking_lot_once::{Once, OnceFault, OnceState, Poisoned};
+use parking_lot_mutex::once::{Once, OnceFault, OnceState, Poisoned};
 use std::sync::Wait;
 use std::sync::atomic::{AtomicU64, Ordering};
 use std::test::Fail;
