@@ -52,7 +52,10 @@ fn blocks_of(world: &World, thread: usize, call: usize) -> usize {
 /// How many pairs a walk was answered.
 fn write_items(world: &World, thread: usize, call: usize, out: &mut String) -> Written {
     for reply in world.replies() {
-        if reply.thread == thread && reply.call == call && let Answer::Reads(reads) = &reply.answer {
+        if reply.thread == thread
+            && reply.call == call
+            && let Answer::Reads(reads) = &reply.answer
+        {
             return write!(out, "{}", reads.len());
         }
     }

@@ -23,7 +23,10 @@ const SIZE: usize = 16384;
 const KEYS: u64 = 40;
 
 /// Takes all memory that is left, in pieces.
-fn hoard<'h>(alloc: Global, heap: &'h LocalHeap) -> Result<Vec<Vec<u8, &'h LocalHeap>>, AllocError> {
+fn hoard<'h>(
+    alloc: Global,
+    heap: &'h LocalHeap,
+) -> Result<Vec<Vec<u8, &'h LocalHeap>>, AllocError> {
     let mut pieces = Vec::new(alloc);
     for size in [4096, 1024, 256, 64, 16] {
         for _ in 0..SIZE {
@@ -78,17 +81,25 @@ fn try_sizes(rt: &(impl AllocGlobal + Abort), row: Refused) -> Result<(), Fail> 
 }
 
 #[test]
-fn a_refused_growth_changes_nothing_and_leaves_neither_hold_nor_guard(rt: HostRuntime) -> Result<(), Fail> {
-    try_sizes(&rt, Refused {
-        programs: "thread a\n  insert 1 10\nthread b\n  get 1\n    drop\n",
-        refused: "no-memory, blocks 0; none, no-guard, blocks 1; ",
-        done: "none, blocks 1; held, done, blocks 1; ",
-    })?;
-    try_sizes(&rt, Refused {
-        programs: "thread a\n  entry 1\n    insert 10\n    drop\nthread b\n  get 1\n    drop\n",
-        refused: "no-memory, no-guard, no-guard, blocks 0; none, no-guard, blocks 1; ",
-        done: "vacant, held, done, blocks 1; held, done, blocks 1; ",
-    })
+fn a_refused_growth_changes_nothing_and_leaves_neither_hold_nor_guard(
+    rt: HostRuntime,
+) -> Result<(), Fail> {
+    try_sizes(
+        &rt,
+        Refused {
+            programs: "thread a\n  insert 1 10\nthread b\n  get 1\n    drop\n",
+            refused: "no-memory, blocks 0; none, no-guard, blocks 1; ",
+            done: "none, blocks 1; held, done, blocks 1; ",
+        },
+    )?;
+    try_sizes(
+        &rt,
+        Refused {
+            programs: "thread a\n  entry 1\n    insert 10\n    drop\nthread b\n  get 1\n    drop\n",
+            refused: "no-memory, no-guard, no-guard, blocks 0; none, no-guard, blocks 1; ",
+            done: "vacant, held, done, blocks 1; held, done, blocks 1; ",
+        },
+    )
 }
 
 #[test]
@@ -106,7 +117,10 @@ fn an_insert_on_a_present_key_needs_no_memory(rt: HostRuntime) -> Result<(), Fai
         let text = told(rt.alloc(), &world)?;
         let is_told = text.as_str() == "value 5, blocks 1; " && world.pair(&1) == Some((&1, &6));
         // Start, load, exchange, look for readers, find, deed, release, answer: no step is a growth.
-        assert!(rt; is_done && is_told && world.steps() == 8, "of size {size}: {text}");
+        assert!(rt;
+            is_done && is_told && world.steps() == 8,
+            "of size {size}: {text}"
+        );
         has_done = true;
     }
     assert!(rt; has_done);
@@ -125,7 +139,10 @@ fn a_shard_grows_to_thousands_of_pairs(rt: HostRuntime) -> Result<(), Fail> {
     let made = world_of(rt.alloc(), 2, SpreadState, &[], &programs);
     let mut world: World = made.ok_or("no world")?;
     step_through(&mut world, 0);
-    let are_added = world.replies().iter().all(|reply| matches!(reply.answer, Answer::None));
+    let are_added = world
+        .replies()
+        .iter()
+        .all(|reply| matches!(reply.answer, Answer::None));
     let count = world.contents()?.len();
     assert!(rt; are_finished(&world) && are_added && count == 3000);
     assert!(rt; world.pair(&5998) == Some((&5998, &2999)));
@@ -203,7 +220,9 @@ fn outcome_without(made: Made<'_, Change>, when: When) -> Result<Outcome, Fail> 
     };
     run_without(made.alloc, &heap, &mut world, when)?;
     let replies = world.replies().iter();
-    let refused = replies.filter(|reply| matches!(reply.answer, Answer::NoMemory)).count();
+    let refused = replies
+        .filter(|reply| matches!(reply.answer, Answer::NoMemory))
+        .count();
     let first = at_first(made.alloc, made.pairs)?;
     let broken = broken(made, &world, KEYS, &first)?;
     Ok((refused > 0, broken))
@@ -240,7 +259,10 @@ fn try_each(rt: &(impl AllocGlobal + Abort), row: Shortage) -> Result<(), Fail> 
     for number in 0..row.steps {
         for when in [When::Step(number), When::Drain(number)] {
             let (refused, broken) = outcome_without(made, when)?;
-            assert!(rt; broken.is_none(), "without memory at {when:?}: {broken:?} in\n{text}");
+            assert!(rt;
+                broken.is_none(),
+                "without memory at {when:?}: {broken:?} in\n{text}"
+            );
             has_refused |= refused;
             has_done |= !refused;
         }
@@ -260,12 +282,15 @@ const GROWTHS: [&str; 3] = [
 #[test]
 fn a_refused_call_changes_nothing_and_leaves_no_hold(rt: HostRuntime) -> Result<(), Fail> {
     for programs in GROWTHS {
-        try_each(&rt, Shortage {
-            pairs: &[],
-            programs,
-            steps: 16,
-            refusals: Refusals::AtSome,
-        })?;
+        try_each(
+            &rt,
+            Shortage {
+                pairs: &[],
+                programs,
+                steps: 16,
+                refusals: Refusals::AtSome,
+            },
+        )?;
     }
     Ok(())
 }
@@ -296,24 +321,30 @@ const TEN: &[(u64, u64)] = &[
 #[test]
 fn a_refused_visit_leaves_those_before_it(rt: HostRuntime) -> Result<(), Fail> {
     for programs in WALKS {
-        try_each(&rt, Shortage {
-            pairs: TEN,
-            programs,
-            steps: 50,
-            refusals: Refusals::AtSome,
-        })?;
+        try_each(
+            &rt,
+            Shortage {
+                pairs: TEN,
+                programs,
+                steps: 50,
+                refusals: Refusals::AtSome,
+            },
+        )?;
     }
     Ok(())
 }
 
 #[test]
 fn calls_that_need_no_memory_are_never_refused(rt: HostRuntime) -> Result<(), Fail> {
-    try_each(&rt, Shortage {
-        pairs: &[(1, 5), (2, 6), (3, 7)],
-        programs: "thread a\n  insert 1 6\n  entry 2\n    insert 9\n    drop\n  retain add 1 keep value < 9\nthread b\n  iter stop 0\n  try-entry 3\n    insert 8\n    drop\n  clear\n",
-        steps: 60,
-        refusals: Refusals::Never,
-    })
+    try_each(
+        &rt,
+        Shortage {
+            pairs: &[(1, 5), (2, 6), (3, 7)],
+            programs: "thread a\n  insert 1 6\n  entry 2\n    insert 9\n    drop\n  retain add 1 keep value < 9\nthread b\n  iter stop 0\n  try-entry 3\n    insert 8\n    drop\n  clear\n",
+            steps: 60,
+            refusals: Refusals::Never,
+        },
+    )
 }
 
 /// A world of an insertion of a new key beside a thread that waits for its shard, behind the step before the growth.
@@ -322,7 +353,11 @@ fn before_growth<'h>(heap: &'h LocalHeap, programs: &[Vec<Asked>]) -> Option<Sma
     // Start, load, exchange, look for readers, find; and the other waits.
     let done = step_times(&mut world, 0, 5);
     step_through(&mut world, 1);
-    if done && world.status(1) == Status::Asleep { Some(world) } else { None }
+    if done && world.status(1) == Status::Asleep {
+        Some(world)
+    } else {
+        None
+    }
 }
 
 #[test]

@@ -119,7 +119,8 @@ fn any_kind(random: &mut Random) -> u64 {
 fn kind_of(random: &mut Random, shape: Shape, thread: u64) -> u64 {
     match shape {
         Shape::Kind(kind) if thread & 1 == 0 => kind,
-        Shape::Long => random.below(10),
+        Shape::Long if random.below(2) == 0 => random.below(7),
+        Shape::Long => random.below(3).saturating_add(7),
         _ => any_kind(random),
     }
 }

@@ -145,7 +145,12 @@ fn shards(random: &mut Random) -> usize {
 }
 
 /// Tries a world of some threads and shards, run to a random moment.
-fn broken_in(alloc: Global, seed: u64, shape: Shape, tally: &mut Tally) -> Result<Broken, AllocError> {
+fn broken_in(
+    alloc: Global,
+    seed: u64,
+    shape: Shape,
+    tally: &mut Tally,
+) -> Result<Broken, AllocError> {
     let mut random = Random::new(seed);
     let threads = random.below(8).saturating_add(1);
     let shards = shards(&mut random);
@@ -234,7 +239,9 @@ fn worlds_of_one_kind_of_calls_are_one_plain_map(rt: HostRuntime) -> Result<(), 
 }
 
 #[test]
-fn long_programs_are_one_plain_map_with_each_pair_on_its_shard(rt: HostRuntime) -> Result<(), Fail> {
+fn long_programs_are_one_plain_map_with_each_pair_on_its_shard(
+    rt: HostRuntime,
+) -> Result<(), Fail> {
     let mut tally = Tally::NONE;
     try_worlds(&rt, 60, Shape::Long, &mut tally)?;
     print(&rt, tally)

@@ -66,7 +66,9 @@ fn a_key_has_one_shard(rt: HostRuntime) -> Result<(), Fail> {
     let hasher: BuildHasherDefault<FoldHasher> = BuildHasherDefault::new();
     let made = world_of(rt.alloc(), 16, hasher, &pairs, &programs);
     let world = made.ok_or("no world")?;
-    let are_found = pairs.iter().all(|pair| world.pair(&pair.0) == Some((&pair.0, &pair.1)));
+    let are_found = pairs
+        .iter()
+        .all(|pair| world.pair(&pair.0) == Some((&pair.0, &pair.1)));
     assert!(rt; are_found);
     Ok(())
 }

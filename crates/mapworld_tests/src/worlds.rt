@@ -34,7 +34,10 @@ fn copies_of<A: Allocator + Copy>(
 }
 
 /// The same pairs, in another memory.
-fn pairs_of<A: Allocator>(alloc: A, pairs: &[(u64, u64)]) -> Result<Vec<(u64, u64), A>, AllocError> {
+fn pairs_of<A: Allocator>(
+    alloc: A,
+    pairs: &[(u64, u64)],
+) -> Result<Vec<(u64, u64), A>, AllocError> {
     let mut copy = Vec::with_capacity(alloc, pairs.len())?;
     for pair in pairs {
         copy.push(*pair)?;
@@ -57,23 +60,33 @@ pub fn world_of<S: BuildHasher + Drop, A: Allocator + Copy + Drop>(
 }
 
 /// Makes as many steps of the thread, and says whether all of them were done.
-pub fn step_times<K: Eq + Hash + Drop, V: Drop, S: BuildHasher, D: Deed<K, V> + Drop, A: Allocator + Clone>(
-    world: &mut MapWorld<K, V, S, D, A>,
-    thread: usize,
-    times: usize,
-) -> bool {
+pub fn step_times<
+    K: Eq + Hash + Drop,
+    V: Drop,
+    S: BuildHasher,
+    D: Deed<K, V> + Drop,
+    A: Allocator + Clone,
+>(world: &mut MapWorld<K, V, S, D, A>, thread: usize, times: usize) -> bool {
     let mut done = true;
     for _ in 0..times {
-        done &= world.run(&[Step { thread, fair: false }]).is_ok();
+        done &= world
+            .run(&[Step {
+                thread,
+                fair: false,
+            }])
+            .is_ok();
     }
     done
 }
 
 /// Steps the thread while it can move.
-pub fn step_through<K: Eq + Hash + Drop, V: Drop, S: BuildHasher, D: Deed<K, V> + Drop, A: Allocator + Clone>(
-    world: &mut MapWorld<K, V, S, D, A>,
-    thread: usize,
-) {
+pub fn step_through<
+    K: Eq + Hash + Drop,
+    V: Drop,
+    S: BuildHasher,
+    D: Deed<K, V> + Drop,
+    A: Allocator + Clone,
+>(world: &mut MapWorld<K, V, S, D, A>, thread: usize) {
     for _ in 0..world.bound() {
         if !world.can_move(thread) {
             break;
@@ -83,9 +96,13 @@ pub fn step_through<K: Eq + Hash + Drop, V: Drop, S: BuildHasher, D: Deed<K, V> 
 }
 
 /// Steps the threads in turn, each once if it can move, until none can; and says whether all steps were done.
-pub fn step_round<K: Eq + Hash + Drop, V: Drop, S: BuildHasher, D: Deed<K, V> + Drop, A: Allocator + Clone>(
-    world: &mut MapWorld<K, V, S, D, A>,
-) -> bool {
+pub fn step_round<
+    K: Eq + Hash + Drop,
+    V: Drop,
+    S: BuildHasher,
+    D: Deed<K, V> + Drop,
+    A: Allocator + Clone,
+>(world: &mut MapWorld<K, V, S, D, A>) -> bool {
     let mut done = true;
     for _ in 0..world.bound() {
         let mut moved = false;
