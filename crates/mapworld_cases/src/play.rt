@@ -125,10 +125,7 @@ fn step_until(
 /// Comes to the end, where all is at rest.
 fn ends(traced: &mut Traced, case: &Case<'_>, ending: Ending) -> Result<bool, AllocError> {
     let is_done = match ending {
-        Ending::Round => {
-            traced.step_round()?;
-            true
-        }
+        Ending::Round => traced.step_round()?,
         Ending::Drain => traced.drains()?,
     };
     Ok(is_done && traced.is_at_rest(calls_of(case)))
@@ -169,20 +166,9 @@ fn holds(
         }
         Order::Expect(View::Words(_)) if ending == Ending::Drain => Ok(true),
         Order::Expect(view) => is_seen(traced, case, view, line, found),
-        order => {
-            go_on(traced, order)?;
-            Ok(true)
-        }
-    }
-}
-
-/// Carries out a line that can't fail.
-fn go_on(traced: &mut Traced, order: Order) -> Result<(), AllocError> {
-    match order {
         Order::Through(thread) => traced.step_through(thread),
         Order::Round => traced.step_round(),
         Order::Seed { seed, steps } => traced.step_at_random(seed, steps),
-        _ => Ok(()),
     }
 }
 

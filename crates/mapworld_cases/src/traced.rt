@@ -80,36 +80,43 @@ impl Traced {
         Ok(true)
     }
 
-    /// Steps a thread while it can move.
-    pub fn step_through(&mut self, thread: usize) -> Result<(), AllocError> {
+    /// Steps a thread while it can move, and says whether each of these steps was done.
+    pub fn step_through(&mut self, thread: usize) -> Result<bool, AllocError> {
         for _ in 0..self.world.bound() {
             if !self.world.can_move(thread) {
                 break;
             }
-            let _ = self.step(thread, false)?;
+            if self.step(thread, false)?.is_some() {
+                return Ok(false);
+            }
         }
-        Ok(())
+        Ok(true)
     }
 
-    /// Gives each thread in turn one step, if it can move. Answers whether one was made.
-    fn step_each(&mut self) -> Result<bool, AllocError> {
-        let mut moved = false;
+    /// Gives each thread in turn one step, if it can move. Answers how many were made, or none where one of them was refused.
+    fn step_each(&mut self) -> Result<Option<u64>, AllocError> {
+        let mut made: u64 = 0;
         for thread in 0..self.world.threads() {
             if self.world.can_move(thread) {
-                moved |= self.step(thread, false)?.is_none();
+                if self.step(thread, false)?.is_some() {
+                    return Ok(None);
+                }
+                made = made.saturating_add(1);
             }
         }
-        Ok(moved)
+        Ok(Some(made))
     }
 
-    /// Steps the threads in turn, each once if it can move, until none can.
-    pub fn step_round(&mut self) -> Result<(), AllocError> {
+    /// Steps the threads in turn, each once if it can move, until none can; and says whether each of these steps was done.
+    pub fn step_round(&mut self) -> Result<bool, AllocError> {
         for _ in 0..self.world.bound() {
-            if !self.step_each()? {
-                break;
+            match self.step_each()? {
+                Some(0) => break,
+                Some(_) => {}
+                None => return Ok(false),
             }
         }
-        Ok(())
+        Ok(true)
     }
 
     /// Whether a drain takes no more steps than the bound, and a second one makes none.
@@ -122,8 +129,8 @@ impl Traced {
         Ok(made <= bound && is_counted && self.world.drain() == 0)
     }
 
-    /// Makes so many steps, of threads that are picked by numbers from a seed; one that can't move makes none.
-    pub fn step_at_random(&mut self, seed: u64, steps: u64) -> Result<(), AllocError> {
+    /// Makes so many steps, of threads that are picked by numbers from a seed; one that can't move makes none. Says whether each was done.
+    pub fn step_at_random(&mut self, seed: u64, steps: u64) -> Result<bool, AllocError> {
         let mut state = seed;
         for _ in 0..steps {
             state = state
@@ -131,11 +138,11 @@ impl Traced {
                 .wrapping_add(1442695040888963407);
             let threads = self.world.threads() as u64;
             let thread = (state >> 33).checked_rem(threads).unwrap_or(0) as usize;
-            if self.world.can_move(thread) {
-                let _ = self.step(thread, state >> 63 == 1)?;
+            if self.world.can_move(thread) && self.step(thread, state >> 63 == 1)?.is_some() {
+                return Ok(false);
             }
         }
-        Ok(())
+        Ok(true)
     }
 
     fn nobody_waits(&self) -> bool {

@@ -43,11 +43,9 @@ fn hoard<'h>(
 /// slept between, and both are finished.
 fn runs_to_the_end(world: &mut Small<'_>) -> bool {
     // Start, load and exchange: the shard is thread 0's.
-    let is_begun = step_times(world, 0, 3);
-    step_through(world, 1);
+    let is_begun = step_times(world, 0, 3) & step_through(world, 1);
     let sleeps = world.status(1) == Status::Asleep;
-    step_through(world, 0);
-    is_begun & sleeps & step_round(world) & are_finished(world)
+    is_begun & sleeps & step_through(world, 0) & step_round(world) & are_finished(world)
 }
 
 /// Programs of two threads, and what their calls are answered where the first one's growth is refused, and where it isn't.
@@ -138,13 +136,13 @@ fn a_shard_grows_to_thousands_of_pairs(rt: HostRuntime) -> Result<(), Fail> {
     programs.push(program)?;
     let made = world_of(rt.alloc(), 2, SpreadState, &[], &programs);
     let mut world: World = made.ok_or("no world")?;
-    step_through(&mut world, 0);
+    let is_done = step_through(&mut world, 0);
     let are_added = world
         .replies()
         .iter()
         .all(|reply| matches!(reply.answer, Answer::None));
     let count = world.contents()?.len();
-    assert!(rt; are_finished(&world) && are_added && count == 3000);
+    assert!(rt; is_done && are_finished(&world) && are_added && count == 3000);
     assert!(rt; world.pair(&5998) == Some((&5998, &2999)));
     Ok(())
 }
@@ -166,46 +164,52 @@ fn next_thread(world: &Small<'_>, last: usize) -> Option<usize> {
         .find(|thread| world.can_move(*thread))
 }
 
-/// Steps the threads in turn up to so many steps, and gives who made the last one.
-fn step_some(world: &mut Small<'_>, steps: u64) -> usize {
+/// Steps the threads in turn up to so many steps, and gives who made the last one; none where a step of a thread that can move isn't done.
+fn step_some(world: &mut Small<'_>, steps: u64) -> Option<usize> {
     let mut thread = 0;
     for _ in 0..steps {
         match next_thread(world, thread) {
-            Some(next) => {
-                thread = next;
-                let _ = step_times(world, thread, 1);
-            }
+            Some(next) => thread = next,
             None => break,
         }
+        if !step_times(world, thread, 1) {
+            return None;
+        }
     }
-    thread
+    Some(thread)
 }
 
-/// Runs the world to its end, without memory when that is to be.
+/// Makes a step of the next thread in turn, if one can move, and says whether it was done.
+fn step_next(world: &mut Small<'_>, last: Option<usize>) -> bool {
+    match last {
+        Some(last) => match next_thread(world, last) {
+            Some(next) => step_times(world, next, 1),
+            None => true,
+        },
+        None => false,
+    }
+}
+
+/// Runs the world to its end, without memory when that is to be; and says whether all steps of threads that can move were done.
 fn run_without(
     alloc: Global,
     heap: &LocalHeap,
     world: &mut Small<'_>,
     when: When,
-) -> Result<(), AllocError> {
-    match when {
-        When::Step(number) => {
-            let last = step_some(world, number);
-            let pieces = hoard(alloc, heap)?;
-            if let Some(next) = next_thread(world, last) {
-                let _ = step_times(world, next, 1);
-            }
-            drop(pieces);
+) -> Result<bool, AllocError> {
+    let (When::Step(number) | When::Drain(number)) = when;
+    let last = step_some(world, number);
+    let pieces = hoard(alloc, heap)?;
+    let done = match when {
+        When::Step(_) => step_next(world, last),
+        When::Drain(_) => {
             let _ = world.drain();
+            last.is_some()
         }
-        When::Drain(number) => {
-            let _ = step_some(world, number);
-            let pieces = hoard(alloc, heap)?;
-            let _ = world.drain();
-            drop(pieces);
-        }
-    }
-    Ok(())
+    };
+    drop(pieces);
+    let _ = world.drain();
+    Ok(done)
 }
 
 /// Whether a call was refused, and the rule that is broken, if one is.
@@ -218,7 +222,9 @@ fn outcome_without(made: Made<'_, Change>, when: When) -> Result<Outcome, Fail> 
     let Some(mut world) = made_world else {
         return Ok((false, Some("a world is made")));
     };
-    run_without(made.alloc, &heap, &mut world, when)?;
+    if !run_without(made.alloc, &heap, &mut world, when)? {
+        return Ok((false, Some("a step of a thread that can move is made")));
+    }
     let replies = world.replies().iter();
     let refused = replies
         .filter(|reply| matches!(reply.answer, Answer::NoMemory))
@@ -351,8 +357,7 @@ fn calls_that_need_no_memory_are_never_refused(rt: HostRuntime) -> Result<(), Fa
 fn before_growth<'h>(heap: &'h LocalHeap, programs: &[Vec<Asked>]) -> Option<Small<'h>> {
     let mut world = world_of(heap, 2, SpreadState, &[], programs)?;
     // Start, load, exchange, look for readers, find; and the other waits.
-    let done = step_times(&mut world, 0, 5);
-    step_through(&mut world, 1);
+    let done = step_times(&mut world, 0, 5) & step_through(&mut world, 1);
     if done && world.status(1) == Status::Asleep {
         Some(world)
     } else {
@@ -384,10 +389,11 @@ fn is_refused_at_second(alloc: Global, programs: &[Vec<Asked>], number: u64) -> 
     let heap = LocalHeap::new(alloc, SIZE)?;
     let made = world_of(&heap, 2, SpreadState, &[(1, 0), (2, 0)], programs);
     let mut world = made.ok_or("no world")?;
-    run_without(alloc, &heap, &mut world, When::Step(number))?;
+    let is_run = run_without(alloc, &heap, &mut world, When::Step(number))?;
     let text = told(alloc, &world)?;
     let has_first = world.pair(&1) == Some((&1, &0)) && world.pair(&2) == Some((&2, &1));
-    Ok(text.as_str() == "no-memory, blocks 1; " && has_first && is_at_rest(&world, 1, 2))
+    let is_told = text.as_str() == "no-memory, blocks 1; ";
+    Ok(is_run && is_told && has_first && is_at_rest(&world, 1, 2))
 }
 
 #[test]

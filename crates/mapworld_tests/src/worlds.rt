@@ -79,20 +79,22 @@ pub fn step_times<
     done
 }
 
-/// Steps the thread while it can move.
+/// Steps the thread while it can move, and says whether all steps were done.
 pub fn step_through<
     K: Eq + Hash + Drop,
     V: Drop,
     S: BuildHasher,
     D: Deed<K, V> + Drop,
     A: Allocator + Clone,
->(world: &mut MapWorld<K, V, S, D, A>, thread: usize) {
+>(world: &mut MapWorld<K, V, S, D, A>, thread: usize) -> bool {
+    let mut done = true;
     for _ in 0..world.bound() {
         if !world.can_move(thread) {
             break;
         }
-        let _ = step_times(world, thread, 1);
+        done &= step_times(world, thread, 1);
     }
+    done
 }
 
 /// Steps the threads in turn, each once if it can move, until none can; and says whether all steps were done.
