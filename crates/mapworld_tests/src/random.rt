@@ -73,7 +73,7 @@ fn run_some<S: BuildHasher>(
 ) -> Result<Broken, AllocError> {
     let threads = world.threads() as u64;
     for _ in 0..run.limit {
-        if !(0..world.threads()).any(|thread| world.can_move(thread)) {
+        if run.looks && !(0..world.threads()).any(|thread| world.can_move(thread)) {
             break;
         }
         let thread = random.below(threads) as usize;
