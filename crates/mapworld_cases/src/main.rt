@@ -30,6 +30,15 @@ impl Tally {
     }
 }
 
+/// The text, or another where it has no word.
+fn or_else<'a>(text: &'a str, other: &'a str) -> &'a str {
+    if text.trim_start().is_empty() {
+        other
+    } else {
+        text.trim_start()
+    }
+}
+
 /// The words that a line wants, with spaces between them.
 fn wanted(alloc: Global, line: Option<&Line<'_>>) -> io::Result<String> {
     let mut text = String::new(alloc);
@@ -57,7 +66,8 @@ fn tell<R: Print + AllocGlobal>(
         None => case.number,
     };
     let want = wanted(rt.alloc(), line)?;
-    let found = failure.found.as_str();
+    let want = or_else(want.as_str(), "that it can be done");
+    let found = or_else(failure.found.as_str(), "that it can't");
     let name = case.name;
     let way = failure.way;
     println!(rt; "{file}:{number}: in `{name}`, {way}: expected `{want}`, found `{found}`")
