@@ -1,12 +1,17 @@
 //! Where the blocks of a finished world stand, which replies have none, and what stood beside a try that is locked.
 
-use crate::plain::{is_opening, is_try, is_walk, key_of, may_grow, stop_of};
-use crate::replay::{Broken, Made, Replied, Seen};
-use crate::worlds::{Call, Said};
-use mapworld::Block;
+use crate::plain::{is_drop, is_opening, is_try, is_walk, key_of, may_grow, stop_of};
+use crate::replay::{Broken, Made, Seen};
+use crate::said::{Replied, Said};
+use mapworld_calls::{Ask, Block};
 
 /// Whether the number of a call's blocks is one that its answer may have.
-fn has_its_blocks(made: Made<'_>, seen: Seen<'_>, reply: &Replied<'_>, call: Call) -> bool {
+fn has_its_blocks<D>(
+    made: &Made<'_, D>,
+    seen: Seen<'_>,
+    reply: &Replied<'_>,
+    call: &Ask<u64, u64, D>,
+) -> bool {
     let blocks = seen.blocks_of(reply.thread, reply.call);
     if is_walk(call) {
         return match reply.answer {
@@ -26,9 +31,9 @@ fn has_its_blocks(made: Made<'_>, seen: Seen<'_>, reply: &Replied<'_>, call: Cal
 }
 
 /// Whether a call on a guard is answered `NoGuard` where its session has no block.
-fn is_guarded(made: Made<'_>, seen: Seen<'_>, reply: &Replied<'_>) -> bool {
+fn is_guarded<D>(made: &Made<'_, D>, seen: Seen<'_>, reply: &Replied<'_>) -> bool {
     let opening = (0..reply.call).rev().find(|call| match made.call(reply.thread, *call) {
-        Some(before) => key_of(before).is_some() || is_walk(before) || before == Call::Leave,
+        Some(before) => key_of(before).is_some() || is_walk(before) || is_drop(before),
         None => false,
     });
     let has_block = match opening {
@@ -42,7 +47,7 @@ fn is_guarded(made: Made<'_>, seen: Seen<'_>, reply: &Replied<'_>) -> bool {
 }
 
 /// The rule of replies that is broken, if one is.
-pub fn broken_by_replies(made: Made<'_>, seen: Seen<'_>) -> Broken {
+pub fn broken_by_replies<D>(made: &Made<'_, D>, seen: Seen<'_>) -> Broken {
     let mut last = 0;
     for reply in seen.replies {
         let Some(call) = made.call(reply.thread, reply.call) else {
@@ -104,7 +109,12 @@ pub fn broken_by_blocks(seen: Seen<'_>, schedule: &[usize]) -> Broken {
 type On = Option<(u64, u64)>;
 
 /// When a call that finds its key is on its shard: a session until the answer of the call that ends its guard.
-fn keyed_on(made: Made<'_>, seen: Seen<'_>, reply: &Replied<'_>, call: Call) -> On {
+fn keyed_on<D>(
+    made: &Made<'_, D>,
+    seen: Seen<'_>,
+    reply: &Replied<'_>,
+    call: &Ask<u64, u64, D>,
+) -> On {
     let mut end = reply.end;
     if is_opening(call) {
         let calls = made.programs.get(reply.thread)?;
@@ -113,7 +123,7 @@ fn keyed_on(made: Made<'_>, seen: Seen<'_>, reply: &Replied<'_>, call: Call) -> 
             if of_guard.answer != Said::NoGuard {
                 end = of_guard.end;
             }
-            if *call == Call::Leave {
+            if is_drop(call) {
                 break;
             }
         }
@@ -140,7 +150,7 @@ fn walk_on(seen: Seen<'_>, reply: &Replied<'_>, shard: usize) -> On {
 }
 
 /// When a call is on a shard.
-fn call_on(made: Made<'_>, seen: Seen<'_>, reply: &Replied<'_>, shard: usize) -> On {
+fn call_on<D>(made: &Made<'_, D>, seen: Seen<'_>, reply: &Replied<'_>, shard: usize) -> On {
     let call = made.call(reply.thread, reply.call)?;
     match key_of(call) {
         Some(key) if seen.route(key) == shard => keyed_on(made, seen, reply, call),
@@ -150,7 +160,12 @@ fn call_on(made: Made<'_>, seen: Seen<'_>, reply: &Replied<'_>, shard: usize) ->
 }
 
 /// Whether another thread's call is on a try's shard at a step of the try.
-fn has_cause(made: Made<'_>, seen: Seen<'_>, locked: &Replied<'_>, call: Call) -> bool {
+fn has_cause<D>(
+    made: &Made<'_, D>,
+    seen: Seen<'_>,
+    locked: &Replied<'_>,
+    call: &Ask<u64, u64, D>,
+) -> bool {
     let Some(key) = key_of(call) else {
         return false;
     };

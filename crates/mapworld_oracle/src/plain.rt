@@ -1,6 +1,7 @@
 //! The plain map: a list of pairs, and what each call is answered there and leaves. It knows no shards, no locks and no steps.
 
-use crate::worlds::{Call, Said};
+use crate::said::Said;
+use mapworld_calls::{Ask, Begin, Deed, Held, Keyed, Walk};
 use std::alloc::{AllocError, Global};
 
 /// A list of pairs with distinct keys.
@@ -63,7 +64,7 @@ impl Plain {
 }
 
 /// What a guard is.
-#[derive(Clone, Copy, PartialEq, Eq)]
+#[derive(Clone, Copy, PartialEq)]
 pub enum Kind {
     Shared,
     Exclusive,
@@ -72,160 +73,194 @@ pub enum Kind {
 }
 
 /// The key of a call that has one.
-pub fn key_of(call: Call) -> Option<u64> {
+pub fn key_of<D>(call: &Ask<u64, u64, D>) -> Option<u64> {
     match call {
-        Call::Insert(key, _) | Call::Remove(key) | Call::TakeFrom(key, _) => Some(key),
-        Call::AddOrTakeFrom(key, _, _) | Call::AddTo(key, _) => Some(key),
-        Call::Look(key) | Call::Has(key) => Some(key),
-        Call::Get(key) | Call::GetMut(key) | Call::Enter(key) => Some(key),
-        Call::TryGet(key) | Call::TryGetMut(key) | Call::TryEnter(key) => Some(key),
+        Ask::Keyed(keyed) => Some(key_of_keyed(keyed)),
+        Ask::Begin(begin) => Some(key_of_begin(begin)),
         _ => None,
     }
 }
 
+fn key_of_keyed<D>(call: &Keyed<u64, u64, D>) -> u64 {
+    match call {
+        Keyed::Insert(key, _) | Keyed::Remove(key) | Keyed::RemoveIf(key, _) => *key,
+        Keyed::RemoveIfMut(key, _) | Keyed::Alter(key, _) | Keyed::View(key, _) => *key,
+        Keyed::ContainsKey(key) => *key,
+    }
+}
+
+fn key_of_begin(call: &Begin<u64>) -> u64 {
+    match call {
+        Begin::Get(key) | Begin::GetMut(key) | Begin::Entry(key) => *key,
+        Begin::TryGet(key) | Begin::TryGetMut(key) | Begin::TryEntry(key) => *key,
+    }
+}
+
 /// Whether a call opens a guard.
-pub fn is_opening(call: Call) -> bool {
-    matches!(call, Call::Get(_) | Call::GetMut(_) | Call::Enter(_)) || is_try(call)
+pub fn is_opening<D>(call: &Ask<u64, u64, D>) -> bool {
+    matches!(call, Ask::Begin(_))
 }
 
 /// Whether a call waits for nobody.
-pub fn is_try(call: Call) -> bool {
+pub fn is_try<D>(call: &Ask<u64, u64, D>) -> bool {
     matches!(
         call,
-        Call::TryGet(_) | Call::TryGetMut(_) | Call::TryEnter(_)
+        Ask::Begin(Begin::TryGet(_) | Begin::TryGetMut(_) | Begin::TryEntry(_))
     )
 }
 
 /// Whether a call goes over all shards.
-pub fn is_walk(call: Call) -> bool {
-    match call {
-        Call::ReadAll(_) | Call::ReadAndAddToAll(..) | Call::KeepBelow(..) => true,
-        Call::AddToAll(_) | Call::Clear | Call::Len | Call::IsEmpty => true,
-        Call::Capacity | Call::Shrink => true,
-        _ => false,
-    }
+pub fn is_walk<D>(call: &Ask<u64, u64, D>) -> bool {
+    matches!(call, Ask::Walk(_))
+}
+
+/// Whether a call ends its guard in any case.
+pub fn is_drop<D>(call: &Ask<u64, u64, D>) -> bool {
+    matches!(call, Ask::Held(Held::Drop))
 }
 
 /// Whether a call on one key, or an opening, may be refused for memory.
-pub fn may_grow(call: Call) -> bool {
-    matches!(call, Call::Insert(..) | Call::Enter(_) | Call::TryEnter(_))
+pub fn may_grow<D>(call: &Ask<u64, u64, D>) -> bool {
+    matches!(
+        call,
+        Ask::Keyed(Keyed::Insert(..)) | Ask::Begin(Begin::Entry(_) | Begin::TryEntry(_))
+    )
 }
 
-/// What a call on a key of that value is answered, where it isn't an opening.
-pub fn keyed(call: Call, value: Option<u64>) -> Told {
-    match (call, value) {
-        (Call::Insert(key, new), None) => leaving(Said::None, key, Some(new)),
-        (Call::Insert(key, new), Some(old)) => leaving(Said::Value(old), key, Some(new)),
-        (Call::AddTo(key, more), Some(old)) => {
-            leaving(Said::Done, key, Some(old.wrapping_add(more)))
-        }
-        (Call::AddTo(..), None) => quiet(Said::Done),
-        (Call::Has(_), found) => quiet(Said::Flag(found.is_some())),
-        (_, None) => quiet(Said::None),
-        (Call::Look(key), Some(old)) => quiet(Said::Read((key, old))),
-        (call, Some(old)) => taken(call, old),
+/// After how many items a walk is dropped, if it is dropped early.
+pub fn stop_of<D>(call: &Ask<u64, u64, D>) -> Option<u64> {
+    match call {
+        Ask::Walk(Walk::Iter(_, stop) | Walk::IterMut(_, stop)) => *stop,
+        _ => None,
     }
 }
 
-/// What a removal of a present key is answered.
-fn taken(call: Call, old: u64) -> Told {
+/// Whether a walk tells what it reads of its pairs.
+pub fn gives_reads<D>(call: &Ask<u64, u64, D>) -> bool {
+    matches!(call, Ask::Walk(Walk::Iter(..) | Walk::IterMut(..)))
+}
+
+/// What a call on a key of that value is answered.
+pub fn keyed<D: Deed<u64, u64, Answer = (u64, u64)>>(
+    call: &Keyed<u64, u64, D>,
+    value: Option<u64>,
+) -> Told {
+    match value {
+        Some(old) => on_present(call, old),
+        None => on_absent(call),
+    }
+}
+
+/// What a call on an absent key is answered.
+fn on_absent<D>(call: &Keyed<u64, u64, D>) -> Told {
     match call {
-        Call::TakeFrom(_, least) if old < least => quiet(Said::None),
-        Call::TakeFrom(key, _) | Call::Remove(key) => leaving(Said::Pair(key, old), key, None),
-        Call::AddOrTakeFrom(key, more, least) => {
-            let new = old.wrapping_add(more);
-            if old < least {
-                leaving(Said::None, key, Some(new))
-            } else {
-                leaving(Said::Pair(key, new), key, None)
-            }
-        }
+        Keyed::Insert(key, new) => leaving(Said::None, *key, Some(*new)),
+        Keyed::Alter(..) => quiet(Said::Done),
+        Keyed::ContainsKey(_) => quiet(Said::Flag(false)),
         _ => quiet(Said::None),
     }
 }
 
-/// What an opening is answered that comes to its shard, by whether its key is there; and the guard that it gives.
-pub fn opened(call: Call, is_there: bool) -> (Said<'static>, Option<Kind>) {
+/// What a call on a present key is answered.
+fn on_present<D: Deed<u64, u64, Answer = (u64, u64)>>(call: &Keyed<u64, u64, D>, old: u64) -> Told {
     match call {
-        Call::Enter(_) | Call::TryEnter(_) if is_there => (Said::Held, Some(Kind::Occupied)),
-        Call::Enter(_) | Call::TryEnter(_) => (Said::Vacant, Some(Kind::Vacant)),
-        Call::Get(_) | Call::TryGet(_) if is_there => (Said::Held, Some(Kind::Shared)),
+        Keyed::Insert(key, new) => leaving(Said::Value(old), *key, Some(*new)),
+        Keyed::Remove(key) => leaving(Said::Pair(*key, old), *key, None),
+        Keyed::RemoveIf(key, deed) => {
+            if deed.keep(key, &old) {
+                quiet(Said::None)
+            } else {
+                leaving(Said::Pair(*key, old), *key, None)
+            }
+        }
+        Keyed::RemoveIfMut(key, deed) => {
+            let new = deed.effect(key, old);
+            if deed.keep(key, &old) {
+                leaving(Said::None, *key, Some(new))
+            } else {
+                leaving(Said::Pair(*key, new), *key, None)
+            }
+        }
+        Keyed::Alter(key, deed) => leaving(Said::Done, *key, Some(deed.effect(key, old))),
+        Keyed::View(key, deed) => quiet(Said::Read(deed.answer(key, &old))),
+        Keyed::ContainsKey(_) => quiet(Said::Flag(true)),
+    }
+}
+
+/// What an opening is answered that comes to its shard, by whether its key is there; and the guard that it gives.
+pub fn opened(call: &Begin<u64>, is_there: bool) -> (Said<'static>, Option<Kind>) {
+    match call {
+        Begin::Entry(_) | Begin::TryEntry(_) if is_there => (Said::Held, Some(Kind::Occupied)),
+        Begin::Entry(_) | Begin::TryEntry(_) => (Said::Vacant, Some(Kind::Vacant)),
+        Begin::Get(_) | Begin::TryGet(_) if is_there => (Said::Held, Some(Kind::Shared)),
         _ if is_there => (Said::Held, Some(Kind::Exclusive)),
         _ => (Said::None, None),
     }
 }
 
 /// What a call is answered under a guard of a key that has that value, and the guard that is left.
-pub fn held(call: Call, kind: Kind, key: u64, value: u64) -> (Told, Option<Kind>) {
+pub fn held<D: Deed<u64, u64, Answer = (u64, u64)>>(
+    call: &Held<u64, D>,
+    kind: Kind,
+    key: u64,
+    value: u64,
+) -> (Told, Option<Kind>) {
     match (call, kind) {
-        (Call::Leave, _) => (quiet(Said::Done), None),
-        (Call::HandBack, Kind::Occupied | Kind::Vacant) => (quiet(Said::Key(key)), None),
-        (Call::PutIn(new), Kind::Vacant) => {
-            (leaving(Said::Held, key, Some(new)), Some(Kind::Exclusive))
+        (Held::Drop, _) => (quiet(Said::Done), None),
+        (Held::IntoKey, Kind::Occupied | Kind::Vacant) => (quiet(Said::Key(key)), None),
+        (Held::Insert(new), Kind::Vacant) => {
+            (leaving(Said::Held, key, Some(*new)), Some(Kind::Exclusive))
         }
-        (Call::Read, Kind::Shared | Kind::Exclusive | Kind::Occupied) => {
-            (quiet(Said::Read((key, value))), Some(kind))
+        (Held::Read(deed), Kind::Shared | Kind::Exclusive | Kind::Occupied) => {
+            (quiet(Said::Read(deed.answer(&key, &value))), Some(kind))
         }
-        (Call::Add(more), Kind::Exclusive | Kind::Occupied) => {
-            let new = value.wrapping_add(more);
+        (Held::Write(deed), Kind::Exclusive | Kind::Occupied) => {
+            let new = deed.effect(&key, value);
             (leaving(Said::Done, key, Some(new)), Some(kind))
         }
-        (Call::Share, Kind::Exclusive) => (quiet(Said::Held), Some(Kind::Shared)),
+        (Held::Downgrade, Kind::Exclusive) => (quiet(Said::Held), Some(Kind::Shared)),
         (call, Kind::Occupied) => occupied(call, key, value),
         (_, kind) => (quiet(Said::WrongGuard), Some(kind)),
     }
 }
 
 /// What a call is answered that is for occupied guards alone.
-fn occupied(call: Call, key: u64, value: u64) -> (Told, Option<Kind>) {
+fn occupied<D>(call: &Held<u64, D>, key: u64, value: u64) -> (Told, Option<Kind>) {
     match call {
-        Call::Lend => (quiet(Said::Held), Some(Kind::Exclusive)),
-        Call::PutIn(new) => {
+        Held::IntoRef => (quiet(Said::Held), Some(Kind::Exclusive)),
+        Held::Insert(new) => {
             (
-                leaving(Said::Value(value), key, Some(new)),
+                leaving(Said::Value(value), key, Some(*new)),
                 Some(Kind::Occupied),
             )
         }
-        Call::TakeValue => (leaving(Said::Value(value), key, None), None),
-        Call::TakePair => (leaving(Said::Pair(key, value), key, None), None),
-        Call::Replace(new) => (leaving(Said::Pair(key, value), key, Some(new)), None),
+        Held::Remove => (leaving(Said::Value(value), key, None), None),
+        Held::RemoveEntry => (leaving(Said::Pair(key, value), key, None), None),
+        Held::ReplaceEntry(new) => (leaving(Said::Pair(key, value), key, Some(*new)), None),
         _ => (quiet(Said::WrongGuard), Some(Kind::Occupied)),
     }
 }
 
 /// What a walk leaves of a pair, where it changes that.
-pub fn visited(call: Call, pair: (u64, u64)) -> Option<Left> {
+pub fn visited<D: Deed<u64, u64>>(call: &Walk<D>, pair: (u64, u64)) -> Option<Left> {
     let (key, value) = pair;
     match call {
-        Call::ReadAndAddToAll(more, _) | Call::AddToAll(more) => {
-            Some((key, Some(value.wrapping_add(more))))
+        Walk::IterMut(deed, _) | Walk::AlterAll(deed) => {
+            Some((key, Some(deed.effect(&key, value))))
         }
-        Call::KeepBelow(more, below) if value < below => {
-            Some((key, Some(value.wrapping_add(more))))
+        Walk::Retain(deed) if deed.keep(&key, &value) => {
+            Some((key, Some(deed.effect(&key, value))))
         }
-        Call::KeepBelow(..) | Call::Clear => Some((key, None)),
+        Walk::Retain(_) | Walk::Clear => Some((key, None)),
         _ => None,
     }
-}
-
-/// After how many items a walk is dropped, if it is dropped early.
-pub fn stop_of(call: Call) -> Option<u64> {
-    match call {
-        Call::ReadAll(stop) | Call::ReadAndAddToAll(_, stop) => stop,
-        _ => None,
-    }
-}
-
-/// Whether a walk tells what it reads of its pairs.
-pub fn gives_reads(call: Call) -> bool {
-    matches!(call, Call::ReadAll(_) | Call::ReadAndAddToAll(..))
 }
 
 /// What a walk is answered that has counted so many pairs, where it tells no reads and not how much room there is.
-pub fn walked(call: Call, count: usize) -> Said<'static> {
+pub fn walked<D>(call: &Walk<D>, count: usize) -> Said<'static> {
     match call {
-        Call::Len => Said::Count(count),
-        Call::IsEmpty => Said::Flag(count == 0),
+        Walk::Len => Said::Count(count),
+        Walk::IsEmpty => Said::Flag(count == 0),
         _ => Said::Done,
     }
 }

@@ -1,37 +1,25 @@
 //! The replay: a plain map takes the blocks of a world in their order. Replies and contents must be what it says.
 
 use crate::plain::{
-    Kind, Left, Plain, Told, gives_reads, held, is_opening, is_walk, key_of, keyed, opened,
-    stop_of, visited, walked,
+    Kind, Left, Plain, Told, gives_reads, held, is_drop, key_of, keyed, opened, stop_of, visited,
+    walked,
 };
-use crate::worlds::{Call, Said, World, what_is_said};
-use mapworld::Block;
-use std::alloc::{Allocator, Global};
-use std::hash::BuildHasher;
-use std::test::Fail;
-
-/// A reply, in whatever memory the world lies.
-#[derive(Clone, Copy)]
-pub struct Replied<'a> {
-    pub thread: usize,
-    pub call: usize,
-    pub start: u64,
-    pub end: u64,
-    pub answer: Said<'a>,
-}
+use crate::said::{Replied, Said};
+use mapworld_calls::{Ask, Begin, Block, Deed, Held, Keyed, Walk};
+use std::alloc::{AllocError, Global};
 
 /// What a world was made with.
 #[derive(Clone, Copy)]
-pub struct Made<'a> {
+pub struct Made<'a, D> {
     pub alloc: Global,
     pub shards: usize,
     pub pairs: &'a [(u64, u64)],
-    pub programs: &'a [&'a [Call]],
+    pub programs: &'a [Vec<Ask<u64, u64, D>>],
 }
 
-impl Made<'_> {
-    pub fn call(&self, thread: usize, call: usize) -> Option<Call> {
-        self.programs.get(thread)?.get(call).copied()
+impl<'a, D> Made<'a, D> {
+    pub fn call(&self, thread: usize, call: usize) -> Option<&'a Ask<u64, u64, D>> {
+        self.programs.get(thread)?.get(call)
     }
 
     /// How many calls there are.
@@ -95,8 +83,8 @@ enum Done {
 
 /// A replay up to a step of the world.
 #[derive(Drop)]
-pub struct Replay<'a> {
-    made: Made<'a>,
+pub struct Replay<'a, D> {
+    made: Made<'a, D>,
     seen: Seen<'a>,
     /// The step at which the contents are asked of.
     until: u64,
@@ -109,9 +97,13 @@ pub struct Replay<'a> {
 /// A rule that is broken.
 pub type Broken = Option<&'static str>;
 
-impl<'a> Replay<'a> {
+impl<'a, D: Deed<u64, u64, Answer = (u64, u64)> + Copy> Replay<'a, D> {
     /// The replay of all blocks until that step, or the rule that is broken.
-    pub fn of(made: Made<'a>, seen: Seen<'a>, until: u64) -> Result<(Replay<'a>, Broken), Fail> {
+    pub fn of(
+        made: Made<'a, D>,
+        seen: Seen<'a>,
+        until: u64,
+    ) -> Result<(Replay<'a, D>, Broken), AllocError> {
         let mut walks = Vec::new(made.alloc);
         for _ in made.programs {
             walks.push(Walked {
@@ -133,7 +125,7 @@ impl<'a> Replay<'a> {
         Ok((replay, broken))
     }
 
-    fn take_all(&mut self) -> Result<Broken, Fail> {
+    fn take_all(&mut self) -> Result<Broken, AllocError> {
         for (i, block) in self.seen.blocks.iter().enumerate() {
             if block.position > self.until {
                 break;
@@ -147,18 +139,16 @@ impl<'a> Replay<'a> {
     }
 
     /// Takes a block.
-    fn take(&mut self, i: usize, block: &Block<u64>) -> Result<Broken, Fail> {
+    fn take(&mut self, i: usize, block: &Block<u64>) -> Result<Broken, AllocError> {
         let Some(call) = self.made.call(block.thread, block.call) else {
             return Ok(Some("a block is of a call of its program"));
         };
-        if is_walk(call) {
-            self.take_visit(i, block, call)
-        } else if block.visit != 0 {
-            Ok(Some("only walks have visits"))
-        } else if is_opening(call) {
-            self.take_session(i, block, call)
-        } else {
-            self.take_keyed(i, block, call)
+        match call {
+            Ask::Walk(walk) => self.take_visit(i, block, call, walk),
+            _ if block.visit != 0 => Ok(Some("only walks have visits")),
+            Ask::Begin(begin) => self.take_session(i, block, call, begin),
+            Ask::Keyed(asked) => self.take_keyed(i, block, call, asked),
+            Ask::Held(_) => Ok(Some("a call on a guard has no block of its own")),
         }
     }
 
@@ -198,7 +188,7 @@ impl<'a> Replay<'a> {
     }
 
     /// Leaves at a key what it is to have, if that is done.
-    fn leave(&mut self, left: Left, done: Done) -> Result<(), Fail> {
+    fn leave(&mut self, left: Left, done: Done) -> Result<(), AllocError> {
         match done {
             Done::Yes => self.plain.leave(left)?,
             Done::Maybe => self.open.push(left)?,
@@ -214,7 +204,7 @@ impl<'a> Replay<'a> {
         shard: usize,
         reply: &Replied<'_>,
         told: Told,
-    ) -> Result<Broken, Fail> {
+    ) -> Result<Broken, AllocError> {
         if self.is_told(reply) && reply.answer != told.answer {
             return Ok(Some("a reply is that of the replay"));
         }
@@ -225,30 +215,47 @@ impl<'a> Replay<'a> {
         Ok(None)
     }
 
-    fn take_keyed(&mut self, i: usize, block: &Block<u64>, call: Call) -> Result<Broken, Fail> {
+    fn take_keyed(
+        &mut self,
+        i: usize,
+        block: &Block<u64>,
+        call: &Ask<u64, u64, D>,
+        asked: &Keyed<u64, u64, D>,
+    ) -> Result<Broken, AllocError> {
         let (Some(reply), Some(key)) = (self.seen.reply(block.thread, block.call), key_of(call))
         else {
             return Ok(Some("a block is of a call that is answered"));
         };
-        let told = keyed(call, self.plain.value(key));
+        let told = keyed(asked, self.plain.value(key));
         let shard = self.seen.route(key);
         self.tell(i, shard, reply, told)
     }
 
-    fn take_session(&mut self, i: usize, block: &Block<u64>, call: Call) -> Result<Broken, Fail> {
+    fn take_session(
+        &mut self,
+        i: usize,
+        block: &Block<u64>,
+        call: &Ask<u64, u64, D>,
+        begin: &Begin<u64>,
+    ) -> Result<Broken, AllocError> {
         let (Some(reply), Some(key)) = (self.seen.reply(block.thread, block.call), key_of(call))
         else {
             return Ok(Some("a block is of an opening that is answered"));
         };
-        let (want, kind) = opened(call, self.plain.value(key).is_some());
+        let (want, kind) = opened(begin, self.plain.value(key).is_some());
         if self.is_told(reply) && reply.answer != want {
             return Ok(Some("an opening's reply is that of the replay"));
         }
-        let calls = self.made.programs.get(block.thread).ok_or("no program")?;
+        let Some(calls) = self.made.programs.get(block.thread) else {
+            return Ok(Some("a block is of a thread of the world"));
+        };
         let mut kind = kind;
         for (j, call) in calls.iter().enumerate().skip(block.call.saturating_add(1)) {
-            let broken = self.take_held(i, (block.thread, j), *call, key, &mut kind)?;
-            if broken.is_some() || *call == Call::Leave {
+            let Ask::Held(asked) = call else {
+                return Ok(Some("in a session stand calls on its guard"));
+            };
+            let broken = self.take_held(i, (block.thread, j), asked, key, &mut kind)?;
+            if broken.is_some() || is_drop(call) {
                 return Ok(broken);
             }
         }
@@ -260,10 +267,10 @@ impl<'a> Replay<'a> {
         &mut self,
         i: usize,
         place: (usize, usize),
-        call: Call,
+        asked: &Held<u64, D>,
         key: u64,
         kind: &mut Option<Kind>,
-    ) -> Result<Broken, Fail> {
+    ) -> Result<Broken, AllocError> {
         let Some(reply) = self.seen.reply(place.0, place.1) else {
             return Ok(Some("each call of a session is answered"));
         };
@@ -272,7 +279,7 @@ impl<'a> Replay<'a> {
             return Ok(is_wrong.then_some("without a guard it is NoGuard"));
         };
         let value = self.plain.value(key).unwrap_or(0);
-        let (told, after) = held(call, guard, key, value);
+        let (told, after) = held(asked, guard, key, value);
         *kind = after;
         let shard = self.seen.route(key);
         self.tell(i, shard, reply, told)
@@ -282,10 +289,10 @@ impl<'a> Replay<'a> {
     fn visit_pairs(
         &self,
         block: &Block<u64>,
-        call: Call,
+        call: &Ask<u64, u64, D>,
         given: usize,
         reply: &Replied<'_>,
-    ) -> Result<Option<Vec<(u64, u64)>>, Fail> {
+    ) -> Result<Option<Vec<(u64, u64)>>, AllocError> {
         let mut here = Vec::new(self.made.alloc);
         for pair in &self.plain.pairs {
             if self.seen.route(pair.0) == block.visit {
@@ -310,7 +317,7 @@ impl<'a> Replay<'a> {
     }
 
     /// How far the thread's walk is before that visit, if that is its next one.
-    fn walk_before(&self, block: &Block<u64>, call: Call) -> Option<Walked> {
+    fn walk_before(&self, block: &Block<u64>, call: &Ask<u64, u64, D>) -> Option<Walked> {
         let walk = self.walks.get(block.thread).copied()?;
         let before = if block.visit == 0 {
             Walked {
@@ -327,7 +334,13 @@ impl<'a> Replay<'a> {
         (is_next && !stops && block.visit < self.made.shards).then_some(before)
     }
 
-    fn take_visit(&mut self, i: usize, block: &Block<u64>, call: Call) -> Result<Broken, Fail> {
+    fn take_visit(
+        &mut self,
+        i: usize,
+        block: &Block<u64>,
+        call: &Ask<u64, u64, D>,
+        asked: &Walk<D>,
+    ) -> Result<Broken, AllocError> {
         let Some(reply) = self.seen.reply(block.thread, block.call) else {
             return Ok(Some("a block is of a walk that is answered"));
         };
@@ -339,7 +352,7 @@ impl<'a> Replay<'a> {
         };
         let done = self.visit_done(i, block, reply);
         for pair in &pairs {
-            if let Some(left) = visited(call, *pair) {
+            if let Some(left) = visited(asked, *pair) {
                 self.leave(left, done)?;
             }
         }
@@ -353,7 +366,7 @@ impl<'a> Replay<'a> {
             *place = walk;
         }
         let is_last = self.seen.blocks_of(block.thread, block.call) == walk.visits;
-        if is_last && !self.is_walked(call, walk, reply.answer) {
+        if is_last && !self.is_walked(call, asked, walk, reply.answer) {
             return Ok(Some("a walk's reply is that of its visits"));
         }
         Ok(None)
@@ -374,15 +387,21 @@ impl<'a> Replay<'a> {
     }
 
     /// Whether a walk may be answered so behind its last visit.
-    fn is_walked(&self, call: Call, walk: Walked, answer: Said<'_>) -> bool {
+    fn is_walked(
+        &self,
+        call: &Ask<u64, u64, D>,
+        asked: &Walk<D>,
+        walk: Walked,
+        answer: Said<'_>,
+    ) -> bool {
         let stops = stop_of(call).is_some_and(|stop| walk.given as u64 >= stop);
         let is_over = walk.visits == self.made.shards || stops;
-        match (call, answer) {
+        match (asked, answer) {
             (_, Said::NoMemory) => walk.visits < self.made.shards && !stops,
-            (Call::Capacity, Said::Count(room)) => is_over && room >= walk.count,
-            (Call::Capacity, _) => false,
+            (Walk::Capacity, Said::Count(room)) => is_over && room >= walk.count,
+            (Walk::Capacity, _) => false,
             (_, Said::Reads(reads)) => { is_over && gives_reads(call) && reads.len() == walk.given }
-            _ => is_over && !gives_reads(call) && answer == walked(call, walk.count),
+            _ => is_over && !gives_reads(call) && answer == walked(asked, walk.count),
         }
     }
 
@@ -404,35 +423,4 @@ impl<'a> Replay<'a> {
     pub fn open_keys(&self) -> usize {
         self.open.len()
     }
-}
-
-/// The replies of a world.
-pub fn replies_of<S: BuildHasher, A: Allocator>(
-    alloc: Global,
-    world: &World<S, A>,
-) -> Result<Vec<Replied<'_>>, Fail> {
-    let mut replies = Vec::new(alloc);
-    for reply in world.replies() {
-        replies.push(Replied {
-            thread: reply.thread,
-            call: reply.call,
-            start: reply.start,
-            end: reply.end,
-            answer: what_is_said(&reply.answer),
-        })?;
-    }
-    Ok(replies)
-}
-
-/// The shard of each key below that number.
-pub fn routes_of<S: BuildHasher, A: Allocator>(
-    alloc: Global,
-    world: &World<S, A>,
-    keys: u64,
-) -> Result<Vec<usize>, Fail> {
-    let mut routes = Vec::new(alloc);
-    for key in 0..keys {
-        routes.push(world.shard_of(&key))?;
-    }
-    Ok(routes)
 }

@@ -1,0 +1,531 @@
+//! All schedules of two threads with calls of each pair of kinds, each state of them drained.
+//!
+//! Programs are written as in a file of `mapworld_cases`; each thread of a text stands for one that is tried.
+
+use crate::explorer::{Explorer, Found, Two};
+use crate::look::shard_of;
+use crate::worlds::{copy_of, programs_of, world_of};
+use std::process::Abort;
+use std::test::Fail;
+
+/// Calls on one key of shard 1.
+const KEYED: &str = "
+thread a
+  view 1
+thread b
+  insert 3 7
+thread c
+  remove 1
+";
+
+/// Sessions with a guard of each kind on shard 1.
+const GUARDED: &str = "
+thread shared
+  get 1
+    drop
+thread exclusive
+  get-mut 1
+    add 1
+    drop
+thread downgraded
+  get-mut 1
+    downgrade
+    drop
+thread occupied
+  entry 1
+    remove-entry
+    drop
+thread vacant
+  entry 3
+    insert 4
+    drop
+";
+
+/// Tries on shard 1.
+const TRIES: &str = "
+thread shared
+  try-get 1
+    drop
+thread exclusive
+  try-get-mut 1
+    drop
+thread entry
+  try-entry 3
+    drop
+";
+
+/// Walks of all kinds.
+const WALKS: &str = "
+thread reads
+  iter
+thread reads-and-adds
+  iter-mut add 1
+thread keeps
+  retain add 1 keep value < 6
+thread adds
+  alter-all add 1
+thread clears
+  clear
+thread counts
+  len
+thread asks-if-empty
+  is-empty
+thread asks-for-room
+  capacity
+thread shrinks
+  shrink-to-fit
+";
+
+/// A reading call.
+const VIEW: &str = "
+thread a
+  view 1
+";
+
+/// An insertion of an absent key.
+const INSERT: &str = "
+thread a
+  insert 3 7
+";
+
+/// A removal.
+const REMOVE: &str = "
+thread a
+  remove 1
+";
+
+/// A session with a shared guard.
+const SHARED: &str = "
+thread a
+  get 1
+    drop
+";
+
+/// A session with an exclusive guard.
+const EXCLUSIVE: &str = "
+thread a
+  get-mut 1
+    add 1
+    drop
+";
+
+/// A session with a guard that becomes shared.
+const DOWNGRADED: &str = "
+thread a
+  get-mut 1
+    downgrade
+    drop
+";
+
+/// Sessions with an occupied and with a vacant entry.
+const ENTRIES: &str = "
+thread a
+  entry 1
+    remove-entry
+    drop
+thread b
+  entry 3
+    insert 4
+    drop
+";
+
+/// A session with a vacant entry.
+const VACANT: &str = "
+thread a
+  entry 3
+    insert 4
+    drop
+";
+
+/// A walk that reads.
+const READS: &str = "
+thread a
+  iter
+";
+
+/// A walk that reads, and changes each value.
+const READS_AND_ADDS: &str = "
+thread a
+  iter-mut add 1
+";
+
+/// A walk that keeps some pairs.
+const KEEPS: &str = "
+thread a
+  retain add 1 keep value < 6
+";
+
+/// A walk that counts.
+const COUNTS: &str = "
+thread a
+  len
+";
+
+/// A walk that changes each value.
+const ADDS: &str = "
+thread a
+  alter-all add 1
+";
+
+/// Two calls that read.
+const TWO_LOOKS: &str = "
+thread a
+  view 1
+  contains 3
+";
+
+/// Two calls that read, and two that change.
+const TWO_OTHERS: &str = "
+thread a
+  contains 1
+  view 3
+thread b
+  insert 3 7
+  remove 1
+";
+
+/// An insertion of a present key, and a removal.
+const REPLACES: &str = "
+thread a
+  insert 1 6
+  remove 1
+";
+
+/// A removal, and an insertion.
+const PUTS_BACK: &str = "
+thread a
+  remove 1
+  insert 1 7
+";
+
+/// An insertion, and a call that reads, on shard 1.
+const INSERT_AND_VIEW: &str = "
+thread a
+  insert 1 6
+  view 1
+";
+
+/// A removal, and an insertion, on shard 0.
+const PUTS_BACK_BESIDE: &str = "
+thread a
+  remove 2
+  insert 2 7
+";
+
+/// A call on shard 1, and one on shard 0.
+const FIRST_THEN_SECOND: &str = "
+thread a
+  insert 1 6
+  remove 2
+";
+
+/// A call on shard 0, and one on shard 1.
+const SECOND_THEN_FIRST: &str = "
+thread a
+  insert 2 7
+  view 1
+";
+
+/// Walks beside one that takes the next shard before it gives one back.
+const BESIDE_A_HANDOVER: &str = "
+thread a
+  iter-mut add 1
+thread b
+  clear
+thread c
+  len
+thread d
+  shrink-to-fit
+";
+
+/// Walks beside one of a shard at a time.
+const BESIDE_A_RETAIN: &str = "
+thread a
+  alter-all add 1
+thread b
+  retain add 1 keep value < 6
+thread c
+  is-empty
+thread d
+  shrink-to-fit
+";
+
+/// Walks beside one that counts.
+const BESIDE_A_COUNT: &str = "
+thread a
+  alter-all add 1
+thread b
+  clear
+thread c
+  len
+thread d
+  capacity
+thread e
+  shrink-to-fit
+";
+
+/// Calls of each kind on shard 0.
+const ON_SHARD_0: &str = "
+thread a
+  view 2
+thread b
+  insert 4 7
+thread c
+  remove 2
+thread d
+  get 2
+    drop
+thread e
+  get-mut 2
+    downgrade
+    drop
+thread f
+  entry 4
+    insert 4
+    drop
+thread g
+  try-get-mut 2
+    drop
+";
+
+/// A removal on shard 0.
+const REMOVE_2: &str = "
+thread a
+  remove 2
+";
+
+/// Sessions with guards on shard 0.
+const GUARDS_ON_SHARD_0: &str = "
+thread a
+  get 2
+    drop
+thread b
+  try-get-mut 2
+    drop
+";
+
+/// Walks that stop.
+const STOPS: &str = "
+thread a
+  iter stop 1
+thread b
+  iter-mut stop 1 add 1
+thread c
+  iter-mut stop 2 add 1
+thread d
+  iter stop 0
+";
+
+/// Calls that change a pair of one shard.
+const CHANGES: &str = "
+thread a
+  insert 1 9
+thread b
+  remove 2
+";
+
+/// Walks that read, and that keep some pairs.
+const READS_AND_KEEPS: &str = "
+thread a
+  iter
+thread b
+  retain add 1 keep value < 7
+";
+
+/// Sums up what is found.
+fn sum(found: Found, more: Found) -> Found {
+    Found {
+        states: found.states.saturating_add(more.states),
+        ends: found.ends.saturating_add(more.ends),
+        share: found.share.max(more.share),
+    }
+}
+
+/// Makes all schedules of each of the first programs with each of the others, and prints how many states there are. Were there fewer than that
+/// number, different ones might have been taken for one.
+fn explore(
+    rt: &(impl AllocGlobal + Abort + Print),
+    pairs: &[(u64, u64)],
+    firsts: &str,
+    others: &str,
+    least: u64,
+) -> Result<(), Fail> {
+    let alloc = rt.alloc();
+    let firsts = programs_of(alloc, firsts)?;
+    let others = programs_of(alloc, others)?;
+    let mut found = Found::NOTHING;
+    for first in &firsts {
+        for other in &others {
+            let programs = vec![in alloc; copy_of(alloc, first)?, copy_of(alloc, other)?]?;
+            let two = Two {
+                pairs,
+                programs: &programs,
+            };
+            found = sum(found, Explorer::explore(rt, two)?);
+        }
+    }
+    let Found {
+        states,
+        ends,
+        share,
+    } = found;
+    assert!(rt; states >= least && ends > 0, "{states} states, {ends} ends");
+    println!(rt; "{states} states, {ends} ends, at most {share} thousandths of a bound")?;
+    Ok(())
+}
+
+/// The one pair that a world of one shard in use begins with.
+const ONE: &[(u64, u64)] = &[(1, 5)];
+
+/// A pair on each shard.
+const BOTH: &[(u64, u64)] = &[(1, 5), (2, 6)];
+
+#[test]
+fn the_tests_know_the_shards(rt: HostRuntime) -> Result<(), Fail> {
+    let world = world_of(rt.alloc(), &[], &programs_of(rt.alloc(), VIEW)?)?;
+    for key in 0..8 {
+        assert!(rt; world.shard_of(&key) == shard_of(key), "of key {key}");
+    }
+    Ok(())
+}
+
+#[test]
+fn programs_of_two_calls(rt: HostRuntime) -> Result<(), Fail> {
+    explore(&rt, ONE, TWO_LOOKS, TWO_OTHERS, 4_900)?;
+    explore(&rt, ONE, REPLACES, PUTS_BACK, 3_700)
+}
+
+#[test]
+fn programs_of_two_calls_on_two_shards(rt: HostRuntime) -> Result<(), Fail> {
+    explore(&rt, BOTH, INSERT_AND_VIEW, PUTS_BACK_BESIDE, 500)?;
+    explore(&rt, BOTH, FIRST_THEN_SECOND, SECOND_THEN_FIRST, 2_600)
+}
+
+#[test]
+fn calls_on_keys_beside_each_other(rt: HostRuntime) -> Result<(), Fail> {
+    explore(&rt, ONE, KEYED, KEYED, 3_800)
+}
+
+#[test]
+fn guards_beside_calls_on_keys(rt: HostRuntime) -> Result<(), Fail> {
+    explore(&rt, ONE, GUARDED, KEYED, 9_300)
+}
+
+#[test]
+fn shared_guards_beside_guards(rt: HostRuntime) -> Result<(), Fail> {
+    explore(&rt, ONE, SHARED, GUARDED, 2_800)
+}
+
+#[test]
+fn exclusive_guards_beside_guards(rt: HostRuntime) -> Result<(), Fail> {
+    explore(&rt, ONE, EXCLUSIVE, GUARDED, 4_000)
+}
+
+#[test]
+fn guards_that_become_shared_beside_guards(rt: HostRuntime) -> Result<(), Fail> {
+    explore(&rt, ONE, DOWNGRADED, GUARDED, 5_700)
+}
+
+#[test]
+fn entries_beside_guards(rt: HostRuntime) -> Result<(), Fail> {
+    explore(&rt, ONE, ENTRIES, GUARDED, 8_200)
+}
+
+#[test]
+fn tries_beside_calls_on_keys_and_tries(rt: HostRuntime) -> Result<(), Fail> {
+    explore(&rt, ONE, TRIES, KEYED, 2_500)?;
+    explore(&rt, ONE, TRIES, TRIES, 1_000)
+}
+
+#[test]
+fn tries_beside_guards(rt: HostRuntime) -> Result<(), Fail> {
+    explore(&rt, ONE, TRIES, GUARDED, 5_000)
+}
+
+#[test]
+fn walks_beside_a_reading_call(rt: HostRuntime) -> Result<(), Fail> {
+    explore(&rt, ONE, VIEW, WALKS, 4_100)
+}
+
+#[test]
+fn walks_beside_an_insertion(rt: HostRuntime) -> Result<(), Fail> {
+    explore(&rt, ONE, INSERT, WALKS, 6_400)
+}
+
+#[test]
+fn walks_beside_a_removal(rt: HostRuntime) -> Result<(), Fail> {
+    explore(&rt, ONE, REMOVE, WALKS, 6_300)
+}
+
+#[test]
+fn walks_beside_a_shared_guard(rt: HostRuntime) -> Result<(), Fail> {
+    explore(&rt, ONE, SHARED, WALKS, 4_800)
+}
+
+#[test]
+fn walks_beside_an_exclusive_guard(rt: HostRuntime) -> Result<(), Fail> {
+    explore(&rt, ONE, EXCLUSIVE, WALKS, 8_800)
+}
+
+#[test]
+fn walks_beside_a_guard_that_becomes_shared(rt: HostRuntime) -> Result<(), Fail> {
+    explore(&rt, ONE, DOWNGRADED, WALKS, 13_400)
+}
+
+#[test]
+fn walks_beside_entries(rt: HostRuntime) -> Result<(), Fail> {
+    explore(&rt, ONE, VACANT, WALKS, 8_900)
+}
+
+#[test]
+fn walks_beside_tries(rt: HostRuntime) -> Result<(), Fail> {
+    explore(&rt, ONE, TRIES, WALKS, 13_700)
+}
+
+#[test]
+fn a_reading_walk_beside_walks(rt: HostRuntime) -> Result<(), Fail> {
+    explore(&rt, ONE, READS, WALKS, 14_600)
+}
+
+#[test]
+fn a_walk_that_hands_over_beside_walks(rt: HostRuntime) -> Result<(), Fail> {
+    explore(&rt, ONE, READS_AND_ADDS, BESIDE_A_HANDOVER, 11_000)
+}
+
+#[test]
+fn walks_of_one_shard_at_a_time_beside_walks(rt: HostRuntime) -> Result<(), Fail> {
+    explore(&rt, ONE, KEEPS, BESIDE_A_RETAIN, 13_200)
+}
+
+#[test]
+fn walks_that_count_beside_walks(rt: HostRuntime) -> Result<(), Fail> {
+    explore(&rt, ONE, COUNTS, BESIDE_A_COUNT, 8_100)
+}
+
+#[test]
+fn calls_on_two_shards(rt: HostRuntime) -> Result<(), Fail> {
+    explore(&rt, BOTH, KEYED, ON_SHARD_0, 2_200)?;
+    explore(&rt, BOTH, GUARDED, ON_SHARD_0, 5_600)?;
+    explore(&rt, BOTH, TRIES, ON_SHARD_0, 2_400)
+}
+
+#[test]
+fn walks_over_two_shards_beside_a_removal(rt: HostRuntime) -> Result<(), Fail> {
+    explore(&rt, BOTH, REMOVE_2, WALKS, 7_200)
+}
+
+#[test]
+fn walks_over_two_shards_beside_guards(rt: HostRuntime) -> Result<(), Fail> {
+    explore(&rt, BOTH, GUARDS_ON_SHARD_0, WALKS, 9_300)
+}
+
+#[test]
+fn walks_over_two_shards_that_stop(rt: HostRuntime) -> Result<(), Fail> {
+    explore(&rt, BOTH, STOPS, CHANGES, 3_000)
+}
+
+#[test]
+fn two_walks_over_two_shards(rt: HostRuntime) -> Result<(), Fail> {
+    explore(&rt, BOTH, READS_AND_ADDS, READS_AND_KEEPS, 5_800)?;
+    explore(&rt, BOTH, ADDS, COUNTS, 2_400)
+}
