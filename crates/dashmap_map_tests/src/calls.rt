@@ -1,55 +1,119 @@
-//! The map's calls by its trait.
+//! Calls as data, and what they answer.
 
-use crate::maps::map_of;
-use dashmap_map::{DashMap, Map};
-use dashmap_table::SpreadState;
+use crate::entries::{Entering, enter};
+use crate::keyed::{Keyed, call_key};
+use crate::many::{Many, call_many};
+use crate::operators::{Operator, operate};
+use crate::tries::{Hold, Try, call_at_once, call_beside};
+use crate::walks::{Walk, make_walk};
+use dashmap_map::DashMap;
 use lock_api_raw::RawRwLock;
-use lock_api_spin::PackedLock;
+use std::alloc::Allocator;
+use std::hash::BuildHasher;
 use std::sync::Wait;
-use std::test::Fail;
 
-/// Uses the calls that give no guard on any map with the pair 7 and 1 alone. It is without pairs and without room afterwards.
-fn uses_values<M: Map<u64, u64, SpreadState>>(
-    map: &M,
-    me: &mut <M::Lock as RawRwLock>::Party,
-) -> bool
+/// A map of numbers, over any lock.
+pub type Numbers<S, Q, A> = DashMap<u64, u64, S, Q, A>;
+
+/// A call on a map of numbers.
+#[derive(Clone, Copy, Debug)]
+pub enum Call {
+    /// A call on one key.
+    Key(Keyed),
+    /// What is done at the place of a key.
+    Entry(u64, Entering),
+    /// A call by an operator.
+    Operator(Operator),
+    /// A call that doesn't wait.
+    Try(Try),
+    /// A call that doesn't wait, while something holds a shard.
+    Beside(Hold, Try),
+    /// Calls on many keys, one after another.
+    Many(Many),
+    /// A walk over all pairs.
+    Walk(Walk),
+    /// How many pairs there are.
+    Len,
+    /// Whether there is no pair.
+    IsEmpty,
+    /// Whether there is room for so many pairs.
+    HasRoom(usize),
+    /// Whether there is no room at all.
+    HasNoRoom,
+    /// Gives up the room that no pair needs.
+    ShrinkToFit,
+}
+
+/// What a call answers.
+#[derive(Clone, Copy, PartialEq, Eq, Debug)]
+pub enum Answer {
+    /// It is done.
+    Done,
+    /// There is no such pair.
+    Absent,
+    /// Another holds the shard.
+    Locked,
+    /// No memory for this key.
+    Refused(u64),
+    /// No memory for this pair, which comes back.
+    Back(u64, u64),
+    /// Whether something is so.
+    Flag(bool),
+    /// A key, a value or an amount.
+    Number(u64),
+    /// A key and its value.
+    Pair(u64, u64),
+    /// How many pairs a walk met, the sum of their keys, and how many of them had the value that was looked for.
+    Met(u64, u64, u64),
+}
+
+impl Answer {
+    /// A value that may be there.
+    pub fn of_value(value: Option<u64>) -> Answer {
+        match value {
+            Some(value) => Answer::Number(value),
+            None => Answer::Absent,
+        }
+    }
+
+    /// A pair that may be there.
+    pub fn of_pair(pair: Option<(u64, u64)>) -> Answer {
+        match pair {
+            Some((key, value)) => Answer::Pair(key, value),
+            None => Answer::Absent,
+        }
+    }
+
+    /// What an insertion answers.
+    pub fn of_insertion(outcome: Result<Option<u64>, (u64, u64)>) -> Answer {
+        match outcome {
+            Ok(old) => Answer::of_value(old),
+            Err((key, value)) => Answer::Back(key, value),
+        }
+    }
+}
+
+/// Makes a call.
+pub fn make<S: BuildHasher, Q: RawRwLock, A: Allocator + Clone>(
+    map: &Numbers<S, Q, A>,
+    call: Call,
+    me: &mut Q::Party,
+) -> Answer
 where
-    <M::Lock as RawRwLock>::Runtime: Wait,
+    Q::Runtime: Wait,
 {
-    map._alter(&7, |_, value| value.wrapping_mul(70), me);
-    let mut right = (map._len(me) == 1) & !map._is_empty(me) & (map._capacity(me) >= 1);
-    right = right & map._contains_key(&7, me) & !map._contains_key(&8, me);
-    right = right & (map._view(&7, |_, value| *value, me) == Some(70));
-    right = right & map._remove_if(&7, |_, value| *value == 1, me).is_none();
-    right = right & (map._remove_if_mut(&7, |_, value| *value == 70, me) == Some((7, 70)));
-    right = right & (map._insert(7, 2, me) == Ok(None)) & (map._remove(&7, me) == Some((7, 2)));
-    right & map._shrink_to_fit(me).is_ok() & (map._capacity(me) == 0) & (map._shard_count() == 4)
-}
-
-/// Uses the calls that give guards and entries on a map without pairs. It has the pair 7 and 1 afterwards.
-fn uses_guards<R: Wait + Drop>(
-    map: &DashMap<u64, u64, SpreadState, PackedLock<R>>,
-    me: &mut u32,
-) -> bool {
-    let mut right = true;
-    match map._entry(7, me) {
-        Ok(entry) => right = right & (*entry.or_insert(1) == 1),
-        Err(_) => right = false,
+    match call {
+        Call::Key(call) => call_key(map, call, me),
+        Call::Entry(key, entering) => enter(map, key, entering, me),
+        Call::Operator(call) => operate(map, call, me),
+        Call::Try(call) => call_at_once(map, call),
+        Call::Beside(hold, call) => call_beside(map, hold, call, me),
+        Call::Many(calls) => Answer::Number(call_many(map, calls, me)),
+        Call::Walk(call) => make_walk(map, call, me),
+        Call::Len => Answer::Number(map.len(me) as u64),
+        Call::IsEmpty => Answer::Flag(map.is_empty(me)),
+        Call::HasRoom(pairs) => Answer::Flag(map.capacity(me) >= pairs),
+        Call::HasNoRoom => Answer::Flag(map.capacity(me) == 0),
+        Call::ShrinkToFit => Answer::Flag(map.shrink_to_fit(me).is_ok()),
     }
-    match map._try_entry(7) {
-        Ok(Some(entry)) => right = right & (entry.into_key() == 7),
-        Ok(None) | Err(_) => right = false,
-    }
-    right = right & map._get(&8, me).is_none();
-    right = right & map._get_mut(&7, me).is_some();
-    right = right & map._try_get(&7).is_present();
-    right & map._try_get_mut(&8).is_absent()
-}
-
-#[test]
-fn the_trait_calls_the_map(rt: HostRuntime) -> Result<(), Fail> {
-    let map = map_of(rt, 4)?;
-    let right = uses_guards(&map, &mut 1) & uses_values(&map, &mut 1);
-    assert!(rt; right & (map._hasher()? == SpreadState));
-    Ok(())
 }

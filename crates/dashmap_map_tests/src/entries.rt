@@ -1,88 +1,215 @@
-//! Entries of a map.
+//! What is done at the place of a key, and tables of it.
 
-use crate::maps::{Map, map_of};
+use crate::calls::{Answer, Call, Numbers};
+use crate::keyed::Keyed;
+use crate::tables::{Row, check};
+use crate::tries::Try;
 use dashmap_map::mapref::entry::Entry;
+use lock_api_raw::RawRwLock;
+use std::alloc::Allocator;
+use std::hash::BuildHasher;
+use std::sync::Wait;
 use std::test::Fail;
+
+/// What is done at a place, by its name there. The answer is the value that stands there afterwards, where nothing else is said.
+#[derive(Clone, Copy, Debug)]
+pub enum Entering {
+    OrInsert(u64),
+    OrInsertWith(u64),
+    /// Puts 0 in where nothing is, and adds this by the guard.
+    OrInsertAndAdd(u64),
+    /// Adds to a value that is there, and else puts in the second.
+    AndModify(u64, u64),
+    /// Fails with this error where nothing is there.
+    OrTryInsertWith(u64),
+    OrDefault,
+    Insert(u64),
+    InsertEntry(u64),
+    /// Answers the key.
+    IntoKey,
+    /// Of a vacant place alone.
+    VacantInsert(u64),
+    /// Of a vacant place alone.
+    VacantInsertEntry(u64),
+    /// Of an occupied place alone. Answers the value that was there.
+    OccupiedInsert(u64),
+    /// Of an occupied place alone. Writes this value by a borrow, takes the pair out, and answers it.
+    OccupiedWriteAndRemove(u64),
+}
+
+/// Enters the place of a key.
+pub fn enter<S: BuildHasher, Q: RawRwLock, A: Allocator + Clone>(
+    map: &Numbers<S, Q, A>,
+    key: u64,
+    entering: Entering,
+    me: &mut Q::Party,
+) -> Answer
+where
+    Q::Runtime: Wait,
+{
+    match entering {
+        Entering::OrInsert(_)
+        | Entering::OrInsertWith(_)
+        | Entering::OrInsertAndAdd(_)
+        | Entering::AndModify(_, _)
+        | Entering::OrTryInsertWith(_)
+        | Entering::OrDefault => enter_or_add(map, key, entering, me),
+        _ => enter_by_kind(map, key, entering, me),
+    }
+}
+
+/// Enters a place by a call that adds a pair where none is.
+fn enter_or_add<S: BuildHasher, Q: RawRwLock, A: Allocator + Clone>(
+    map: &Numbers<S, Q, A>,
+    key: u64,
+    entering: Entering,
+    me: &mut Q::Party,
+) -> Answer
+where
+    Q::Runtime: Wait,
+{
+    let entry = match map.entry(key, me) {
+        Ok(entry) => entry,
+        Err(key) => return Answer::Refused(key),
+    };
+    match entering {
+        Entering::OrInsert(value) => Answer::Number(*entry.or_insert(value)),
+        Entering::OrInsertWith(value) => Answer::Number(*entry.or_insert_with(|| value)),
+        Entering::OrInsertAndAdd(by) => {
+            let mut guard = entry.or_insert(0);
+            *guard = guard.wrapping_add(by);
+            Answer::Number(*guard)
+        }
+        Entering::AndModify(by, value) => {
+            let entry = entry.and_modify(|old| *old = old.wrapping_add(by));
+            Answer::Number(*entry.or_insert(value))
+        }
+        Entering::OrTryInsertWith(error) => {
+            match entry.or_try_insert_with(|| Err::<u64, u64>(error)) {
+                Ok(guard) => Answer::Number(*guard),
+                Err(error) => Answer::Refused(error),
+            }
+        }
+        _ => Answer::Number(*entry.or_default()),
+    }
+}
+
+/// Enters a place by a call on what is found there.
+fn enter_by_kind<S: BuildHasher, Q: RawRwLock, A: Allocator + Clone>(
+    map: &Numbers<S, Q, A>,
+    key: u64,
+    entering: Entering,
+    me: &mut Q::Party,
+) -> Answer
+where
+    Q::Runtime: Wait,
+{
+    let entry = match map.entry(key, me) {
+        Ok(entry) => entry,
+        Err(key) => return Answer::Refused(key),
+    };
+    match (entering, entry) {
+        (Entering::Insert(value), entry) => Answer::Number(*entry.insert(value)),
+        (Entering::InsertEntry(value), entry) => match entry.insert_entry(value) {
+            Ok(entry) => Answer::Number(*entry.get()),
+            Err(_) => Answer::Refused(key),
+        },
+        (Entering::VacantInsert(value), Entry::Vacant(vacant)) => {
+            Answer::Number(*vacant.insert(value))
+        }
+        (Entering::VacantInsertEntry(value), Entry::Vacant(vacant)) => {
+            match vacant.insert_entry(value) {
+                Ok(entry) => Answer::Number(*entry.get()),
+                Err(_) => Answer::Refused(key),
+            }
+        }
+        (Entering::OccupiedInsert(value), Entry::Occupied(mut occupied)) => {
+            Answer::Number(occupied.insert(value))
+        }
+        (Entering::OccupiedWriteAndRemove(value), Entry::Occupied(mut occupied)) => {
+            *occupied.get_mut() = value;
+            Answer::of_pair(Some(occupied.remove_entry()))
+        }
+        (Entering::IntoKey, entry) => Answer::Number(entry.into_key()),
+        (_, Entry::Vacant(_)) => Answer::Absent,
+        (_, Entry::Occupied(_)) => Answer::Flag(false),
+    }
+}
+
+const ADDS_ONCE: &[Row] = &[
+    (Call::Entry(9, Entering::OrInsertWith(4)), Answer::Number(4)),
+    (Call::Entry(9, Entering::AndModify(1, 0)), Answer::Number(5)),
+    (
+        Call::Entry(8, Entering::OrTryInsertWith(3)),
+        Answer::Refused(3),
+    ),
+    (Call::Key(Keyed::ContainsKey(8)), Answer::Flag(false)),
+    (Call::Try(Try::TryGet(8)), Answer::Absent),
+    (
+        Call::Entry(9, Entering::OrTryInsertWith(3)),
+        Answer::Number(5),
+    ),
+    (Call::Entry(9, Entering::OrInsert(7)), Answer::Number(5)),
+    (Call::Entry(8, Entering::AndModify(1, 6)), Answer::Number(6)),
+    (
+        Call::Entry(8, Entering::OrInsertAndAdd(1)),
+        Answer::Number(7),
+    ),
+];
 
 #[test]
 fn an_entry_adds_once(rt: HostRuntime) -> Result<(), Fail> {
-    let map: Map<u64, u64> = map_of(rt, 4)?;
-    let mut me = 1;
-    let guard = map.entry(9, &mut me)?.or_insert_with(|| 4);
-    let mut right = *guard == 4;
-    drop(guard);
-    let guard = map
-        .entry(9, &mut me)?
-        .and_modify(|value| *value = value.wrapping_add(1))
-        .or_insert(0);
-    right = right & (*guard == 5);
-    drop(guard);
-    let refused = map
-        .entry(8, &mut me)?
-        .or_try_insert_with(|| Err::<u64, u64>(3));
-    right = right & (refused.err() == Some(3)) & !map.contains_key(&8, &mut me);
-    assert!(rt; right & map.try_get(&8).is_absent());
-    Ok(())
+    check(rt, rt.alloc(), 4, ADDS_ONCE)
 }
+
+const KINDS: &[Row] = &[
+    (Call::Entry(1, Entering::OccupiedInsert(3)), Answer::Absent),
+    (
+        Call::Entry(1, Entering::VacantInsertEntry(1000)),
+        Answer::Number(1000),
+    ),
+    (
+        Call::Entry(1, Entering::VacantInsertEntry(2)),
+        Answer::Flag(false),
+    ),
+    (
+        Call::Entry(1, Entering::OccupiedInsert(2)),
+        Answer::Number(1000),
+    ),
+    (Call::Key(Keyed::Remove(1)), Answer::Pair(1, 2)),
+];
 
 #[test]
 fn an_entry_is_vacant_or_occupied(rt: HostRuntime) -> Result<(), Fail> {
-    let map: Map<u64, u64> = map_of(rt, 4)?;
-    let mut me = 1;
-    let Entry::Vacant(vacant) = map.entry(1, &mut me)? else {
-        return Err("occupied".into());
-    };
-    let Ok(entry) = vacant.insert_entry(1000) else {
-        return Err("no memory".into());
-    };
-    let mut right = *entry.get() == 1000;
-    drop(entry);
-    let Entry::Occupied(mut entry) = map.entry(1, &mut me)? else {
-        return Err("vacant".into());
-    };
-    right = right & (entry.insert(2) == 1000);
-    drop(entry);
-    assert!(rt; right & (map.remove(&1, &mut me) == Some((1, 2))));
-    Ok(())
+    check(rt, rt.alloc(), 4, KINDS)
 }
+
+const STAYS: &[Row] = &[
+    (Call::Entry(1, Entering::InsertEntry(2)), Answer::Number(2)),
+    (Call::Entry(1, Entering::InsertEntry(3)), Answer::Number(3)),
+    (Call::Entry(1, Entering::Insert(4)), Answer::Number(4)),
+    (Call::Key(Keyed::View(1)), Answer::Number(4)),
+];
 
 #[test]
 fn an_entry_stays_where_it_stored(rt: HostRuntime) -> Result<(), Fail> {
-    let map: Map<u64, u64> = map_of(rt, 4)?;
-    let mut me = 1;
-    let Ok(entry) = map.entry(1, &mut me)?.insert_entry(2) else {
-        return Err("no memory".into());
-    };
-    let mut right = *entry.get() == 2;
-    drop(entry);
-    let Ok(entry) = map.entry(1, &mut me)?.insert_entry(3) else {
-        return Err("no memory".into());
-    };
-    right = right & (*entry.get() == 3);
-    drop(entry);
-    let guard = map.entry(1, &mut me)?.insert(4);
-    right = right & (*guard == 4);
-    drop(guard);
-    assert!(rt; right & (map.view(&1, |_, value| *value, &mut me) == Some(4)));
-    Ok(())
+    check(rt, rt.alloc(), 4, STAYS)
 }
+
+const KEY_AND_PAIR: &[Row] = &[
+    (Call::Entry(7, Entering::IntoKey), Answer::Number(7)),
+    (Call::Key(Keyed::ContainsKey(7)), Answer::Flag(false)),
+    (Call::Entry(7, Entering::OrDefault), Answer::Number(0)),
+    (Call::Entry(7, Entering::IntoKey), Answer::Number(7)),
+    (Call::Key(Keyed::ContainsKey(7)), Answer::Flag(true)),
+    (
+        Call::Entry(7, Entering::OccupiedWriteAndRemove(8)),
+        Answer::Pair(7, 8),
+    ),
+    (Call::IsEmpty, Answer::Flag(true)),
+];
 
 #[test]
 fn an_entry_gives_its_key_and_its_pair(rt: HostRuntime) -> Result<(), Fail> {
-    let map: Map<u64, u64> = map_of(rt, 4)?;
-    let mut me = 1;
-    let mut right = map.entry(7, &mut me)?.into_key() == 7;
-    right = right & !map.contains_key(&7, &mut me);
-    let guard = map.entry(7, &mut me)?.or_default();
-    right = right & (*guard == 0);
-    drop(guard);
-    right = right & (map.entry(7, &mut me)?.into_key() == 7);
-    right = right & map.contains_key(&7, &mut me);
-    let Entry::Occupied(mut entry) = map.entry(7, &mut me)? else {
-        return Err("vacant".into());
-    };
-    *entry.get_mut() = 8;
-    right = right & (entry.remove_entry() == (7, 8));
-    assert!(rt; right & map.is_empty(&mut me));
-    Ok(())
+    check(rt, rt.alloc(), 4, KEY_AND_PAIR)
 }

@@ -1,29 +1,261 @@
-//! Tries beside guards.
+//! Calls that don't wait, beside what holds a shard meanwhile.
 
-use crate::maps::{Map, map_of};
+use crate::calls::{Answer, Call, Numbers};
+use crate::keyed::Keyed;
+use crate::tables::{Row, check};
+use dashmap_guard::TryResult;
+use dashmap_iter::LendingWalks;
+use lock_api_raw::RawRwLock;
+use std::alloc::Allocator;
+use std::hash::BuildHasher;
+use std::sync::Wait;
 use std::test::Fail;
+
+/// A call that doesn't wait, by its name in the map.
+#[derive(Clone, Copy, Debug)]
+pub enum Try {
+    TryGet(u64),
+    /// Writes this value by the guard, and answers the value that was there.
+    TryGetMut(u64, u64),
+    /// Answers the key.
+    TryEntry(u64),
+}
+
+/// What holds a shard.
+#[derive(Clone, Copy, Debug)]
+pub enum Hold {
+    /// A guard of a key that reads.
+    Reader(u64),
+    /// A guard of a key that writes.
+    Writer(u64),
+    /// A guard of a key that wrote this value and was let down to read.
+    LetDown(u64, u64),
+    /// The one item of a walk that reads, once the walk is over.
+    Item,
+    /// A walk that writes, after so many steps.
+    WritingWalk(u32),
+}
+
+/// Makes a call that doesn't wait.
+pub fn call_at_once<S: BuildHasher, Q: RawRwLock, A: Allocator + Clone>(
+    map: &Numbers<S, Q, A>,
+    call: Try,
+) -> Answer
+where
+    Q::Runtime: Wait,
+{
+    match call {
+        Try::TryGet(key) => match map.try_get(&key) {
+            TryResult::Present(guard) => Answer::Number(*guard),
+            TryResult::Absent => Answer::Absent,
+            TryResult::Locked => Answer::Locked,
+        },
+        Try::TryGetMut(key, value) => match map.try_get_mut(&key) {
+            TryResult::Present(mut guard) => {
+                let old = *guard;
+                *guard = value;
+                Answer::Number(old)
+            }
+            TryResult::Absent => Answer::Absent,
+            TryResult::Locked => Answer::Locked,
+        },
+        Try::TryEntry(key) => match map.try_entry(key) {
+            Ok(Some(entry)) => Answer::Number(entry.into_key()),
+            Ok(None) => Answer::Locked,
+            Err(key) => Answer::Refused(key),
+        },
+    }
+}
+
+/// Makes a call that doesn't wait while something holds a shard.
+pub fn call_beside<S: BuildHasher, Q: RawRwLock, A: Allocator + Clone>(
+    map: &Numbers<S, Q, A>,
+    hold: Hold,
+    call: Try,
+    me: &mut Q::Party,
+) -> Answer
+where
+    Q::Runtime: Wait,
+{
+    match hold {
+        Hold::Reader(key) => match map.get(&key, me) {
+            Some(_guard) => call_at_once(map, call),
+            None => Answer::Absent,
+        },
+        Hold::Writer(key) => match map.get_mut(&key, me) {
+            Some(_guard) => call_at_once(map, call),
+            None => Answer::Absent,
+        },
+        Hold::LetDown(key, value) => call_beside_one_let_down(map, key, value, call, me),
+        Hold::Item => call_beside_item(map, call, me),
+        Hold::WritingWalk(steps) => call_beside_writing_walk(map, steps, call, me),
+    }
+}
+
+/// Makes the call beside a guard that wrote a value and was let down. The guard has to lend what it wrote.
+fn call_beside_one_let_down<S: BuildHasher, Q: RawRwLock, A: Allocator + Clone>(
+    map: &Numbers<S, Q, A>,
+    key: u64,
+    value: u64,
+    call: Try,
+    me: &mut Q::Party,
+) -> Answer
+where
+    Q::Runtime: Wait,
+{
+    let Some(mut guard) = map.get_mut(&key, me) else {
+        return Answer::Absent;
+    };
+    *guard = value;
+    let guard = guard.downgrade();
+    let answer = call_at_once(map, call);
+    if *guard == value {
+        answer
+    } else {
+        Answer::Flag(false)
+    }
+}
+
+/// Makes the call beside the one item of a walk that is over.
+fn call_beside_item<S: BuildHasher, Q: RawRwLock, A: Allocator + Clone>(
+    map: &Numbers<S, Q, A>,
+    call: Try,
+    me: &mut Q::Party,
+) -> Answer
+where
+    Q::Runtime: Wait,
+{
+    let mut walk = map.iter(me);
+    let Some(Ok(_pair)) = walk.next() else {
+        return Answer::Absent;
+    };
+    let is_over = walk.next().is_none();
+    drop(walk);
+    let answer = call_at_once(map, call);
+    if is_over { answer } else { Answer::Flag(false) }
+}
+
+/// Makes the call beside a walk that writes, after so many steps.
+fn call_beside_writing_walk<S: BuildHasher, Q: RawRwLock, A: Allocator + Clone>(
+    map: &Numbers<S, Q, A>,
+    steps: u32,
+    call: Try,
+    me: &mut Q::Party,
+) -> Answer
+where
+    Q::Runtime: Wait,
+{
+    let mut walk = map.iter_mut(me);
+    for _ in 0..steps {
+        let _has_pair = walk.next_mut().is_some();
+    }
+    call_at_once(map, call)
+}
+
+const BESIDE_GUARDS: &[Row] = &[
+    (Call::Key(Keyed::Insert(1, 21)), Answer::Absent),
+    (Call::Try(Try::TryGet(1)), Answer::Number(21)),
+    (
+        Call::Beside(Hold::Writer(1), Try::TryGet(1)),
+        Answer::Locked,
+    ),
+    (
+        Call::Beside(Hold::Writer(1), Try::TryGetMut(1, 3)),
+        Answer::Locked,
+    ),
+    (
+        Call::Beside(Hold::Writer(1), Try::TryEntry(1)),
+        Answer::Locked,
+    ),
+    (Call::Try(Try::TryEntry(1)), Answer::Number(1)),
+    (Call::Try(Try::TryGetMut(1, 22)), Answer::Number(21)),
+    (Call::Try(Try::TryGet(2)), Answer::Absent),
+    (Call::Try(Try::TryGetMut(2, 1)), Answer::Absent),
+    (Call::Try(Try::TryGet(1)), Answer::Number(22)),
+    (Call::Key(Keyed::View(1)), Answer::Number(22)),
+    (
+        Call::Beside(Hold::Reader(1), Try::TryGet(1)),
+        Answer::Number(22),
+    ),
+    (
+        Call::Beside(Hold::Reader(1), Try::TryGetMut(1, 3)),
+        Answer::Locked,
+    ),
+    (
+        Call::Beside(Hold::Writer(1), Try::TryGet(2)),
+        Answer::Absent,
+    ),
+];
 
 #[test]
 fn a_try_beside_a_guard_is_told_that_it_is_locked(rt: HostRuntime) -> Result<(), Fail> {
-    let map: Map<u64, u64> = map_of(rt, 4)?;
-    let mut me = 1;
-    let _ = map.insert(1, 21, &mut me)?;
-    let seen = map.try_get(&1).try_unwrap().ok_or("locked")?;
-    let mut right = *seen == 21;
-    drop(seen);
-    let guard = map.get_mut(&1, &mut me).ok_or("gone")?;
-    right = right & map.try_get(&1).is_locked() & map.try_get_mut(&1).is_locked();
-    let is_entered = match map.try_entry(1)? {
-        Some(entry) => entry.into_key() == 1,
-        None => false,
-    };
-    right = right & !is_entered;
-    drop(guard);
-    let mut guard = map.try_get_mut(&1).try_unwrap().ok_or("locked")?;
-    *guard = guard.wrapping_add(1);
-    drop(guard);
-    right = right & map.try_get(&2).is_absent() & map.try_get(&1).is_present();
-    right = right & (map.view(&1, |_, value| *value, &mut me) == Some(22));
-    assert!(rt; right);
-    Ok(())
+    check(rt, rt.alloc(), 4, BESIDE_GUARDS)
+}
+
+const LET_DOWN: &[Row] = &[
+    (Call::Key(Keyed::Insert(1, 5)), Answer::Absent),
+    (
+        Call::Beside(Hold::LetDown(1, 6), Try::TryGet(1)),
+        Answer::Locked,
+    ),
+    (Call::Try(Try::TryGet(1)), Answer::Number(6)),
+    (Call::Try(Try::TryGetMut(1, 6)), Answer::Number(6)),
+    (Call::Key(Keyed::Get(1)), Answer::Pair(1, 6)),
+];
+
+#[test]
+fn a_guard_that_is_let_down_keeps_its_hold(rt: HostRuntime) -> Result<(), Fail> {
+    check(rt, rt.alloc(), 4, LET_DOWN)
+}
+
+const BESIDE_AN_ITEM: &[Row] = &[
+    (Call::Key(Keyed::Insert(0, 1000)), Answer::Absent),
+    (
+        Call::Beside(Hold::Item, Try::TryGetMut(0, 7)),
+        Answer::Locked,
+    ),
+    (
+        Call::Beside(Hold::Item, Try::TryGet(0)),
+        Answer::Number(1000),
+    ),
+    (Call::Try(Try::TryGetMut(0, 1000)), Answer::Number(1000)),
+];
+
+#[test]
+fn an_item_keeps_its_shard(rt: HostRuntime) -> Result<(), Fail> {
+    check(rt, rt.alloc(), 2, BESIDE_AN_ITEM)
+}
+
+/// Key 0 is on the first of two shards, and key 1 on the last, which a walk that writes keeps until it is dropped.
+const BESIDE_A_WRITING_WALK: &[Row] = &[
+    (Call::Key(Keyed::Insert(0, 1000)), Answer::Absent),
+    (
+        Call::Beside(Hold::WritingWalk(0), Try::TryGetMut(0, 1000)),
+        Answer::Number(1000),
+    ),
+    (
+        Call::Beside(Hold::WritingWalk(1), Try::TryGet(0)),
+        Answer::Locked,
+    ),
+    (
+        Call::Beside(Hold::WritingWalk(2), Try::TryGet(0)),
+        Answer::Number(1000),
+    ),
+    (Call::Try(Try::TryGetMut(0, 1000)), Answer::Number(1000)),
+    (Call::Key(Keyed::Remove(0)), Answer::Pair(0, 1000)),
+    (Call::Key(Keyed::Insert(1, 1000)), Answer::Absent),
+    (
+        Call::Beside(Hold::WritingWalk(1), Try::TryGet(1)),
+        Answer::Locked,
+    ),
+    (
+        Call::Beside(Hold::WritingWalk(2), Try::TryGet(1)),
+        Answer::Locked,
+    ),
+    (Call::Try(Try::TryGetMut(1, 1000)), Answer::Number(1000)),
+];
+
+#[test]
+fn a_writing_walk_keeps_the_last_shard(rt: HostRuntime) -> Result<(), Fail> {
+    check(rt, rt.alloc(), 2, BESIDE_A_WRITING_WALK)
 }
