@@ -78,7 +78,7 @@ const DECIDED: &[Row] = &[
         Call::Key(Keyed::RemoveIfMut(1, 8, true)),
         Answer::Pair(1, 8),
     ),
-    (Call::Try(Try::TryGet(1)), Answer::Absent),
+    (Call::Try(Try::Get(1)), Answer::Absent),
 ];
 
 #[test]

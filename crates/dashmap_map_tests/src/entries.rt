@@ -144,7 +144,7 @@ const ADDS_ONCE: &[Row] = &[
         Answer::Refused(3),
     ),
     (Call::Key(Keyed::ContainsKey(8)), Answer::Flag(false)),
-    (Call::Try(Try::TryGet(8)), Answer::Absent),
+    (Call::Try(Try::Get(8)), Answer::Absent),
     (
         Call::Entry(9, Entering::OrTryInsertWith(3)),
         Answer::Number(5),

@@ -87,15 +87,15 @@ fn a_refused_entry_hands_the_key_back(rt: HostRuntime) -> Result<(), Fail> {
         let answer = make(&map, Call::Entry(count, Entering::VacantInsert(5)), &mut 1);
         if answer == Answer::Refused(count) {
             refused = true;
-            let mut right = answers(&map, Call::Try(Try::TryEntry(count)), answer);
-            right &= answers(&map, Call::Try(Try::TryGet(count)), Answer::Absent);
+            let mut right = answers(&map, Call::Try(Try::Entry(count)), answer);
+            right &= answers(&map, Call::Try(Try::Get(count)), Answer::Absent);
             assert!(rt; right && has_all(&map, count), "of {size}");
         } else {
             entered = true;
             assert!(rt; answer == Answer::Number(5), "of {size}");
         }
         for key in 0..count {
-            let write = Call::Try(Try::TryGetMut(key, key));
+            let write = Call::Try(Try::GetMut(key, key));
             assert!(rt; answers(&map, write, Answer::Number(key)), "of {size}");
         }
     }

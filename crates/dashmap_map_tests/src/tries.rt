@@ -11,14 +11,14 @@ use std::hash::BuildHasher;
 use std::sync::Wait;
 use std::test::Fail;
 
-/// A call that doesn't wait, by its name in the map.
+/// A call that doesn't wait: `try_get`, `try_get_mut` or `try_entry`.
 #[derive(Clone, Copy, Debug)]
 pub enum Try {
-    TryGet(u64),
+    Get(u64),
     /// Writes this value by the guard, and answers the value that was there.
-    TryGetMut(u64, u64),
+    GetMut(u64, u64),
     /// Answers the key.
-    TryEntry(u64),
+    Entry(u64),
 }
 
 /// What holds a shard.
@@ -33,7 +33,7 @@ pub enum Hold {
     /// The one item of a walk that reads, once the walk is over.
     Item,
     /// A walk that writes, after so many steps.
-    WritingWalk(u32),
+    Walk(u32),
 }
 
 /// Makes a call that doesn't wait.
@@ -45,12 +45,12 @@ where
     Q::Runtime: Wait,
 {
     match call {
-        Try::TryGet(key) => match map.try_get(&key) {
+        Try::Get(key) => match map.try_get(&key) {
             TryResult::Present(guard) => Answer::Number(*guard),
             TryResult::Absent => Answer::Absent,
             TryResult::Locked => Answer::Locked,
         },
-        Try::TryGetMut(key, value) => match map.try_get_mut(&key) {
+        Try::GetMut(key, value) => match map.try_get_mut(&key) {
             TryResult::Present(mut guard) => {
                 let old = *guard;
                 *guard = value;
@@ -59,7 +59,7 @@ where
             TryResult::Absent => Answer::Absent,
             TryResult::Locked => Answer::Locked,
         },
-        Try::TryEntry(key) => match map.try_entry(key) {
+        Try::Entry(key) => match map.try_entry(key) {
             Ok(Some(entry)) => Answer::Number(entry.into_key()),
             Ok(None) => Answer::Locked,
             Err(key) => Answer::Refused(key),
@@ -88,7 +88,7 @@ where
         },
         Hold::LetDown(key, value) => call_beside_one_let_down(map, key, value, call, me),
         Hold::Item => call_beside_item(map, call, me),
-        Hold::WritingWalk(steps) => call_beside_writing_walk(map, steps, call, me),
+        Hold::Walk(steps) => call_beside_writing_walk(map, steps, call, me),
     }
 }
 
@@ -154,37 +154,28 @@ where
 
 const BESIDE_GUARDS: &[Row] = &[
     (Call::Key(Keyed::Insert(1, 21)), Answer::Absent),
-    (Call::Try(Try::TryGet(1)), Answer::Number(21)),
+    (Call::Try(Try::Get(1)), Answer::Number(21)),
+    (Call::Beside(Hold::Writer(1), Try::Get(1)), Answer::Locked),
     (
-        Call::Beside(Hold::Writer(1), Try::TryGet(1)),
+        Call::Beside(Hold::Writer(1), Try::GetMut(1, 3)),
         Answer::Locked,
     ),
-    (
-        Call::Beside(Hold::Writer(1), Try::TryGetMut(1, 3)),
-        Answer::Locked,
-    ),
-    (
-        Call::Beside(Hold::Writer(1), Try::TryEntry(1)),
-        Answer::Locked,
-    ),
-    (Call::Try(Try::TryEntry(1)), Answer::Number(1)),
-    (Call::Try(Try::TryGetMut(1, 22)), Answer::Number(21)),
-    (Call::Try(Try::TryGet(2)), Answer::Absent),
-    (Call::Try(Try::TryGetMut(2, 1)), Answer::Absent),
-    (Call::Try(Try::TryGet(1)), Answer::Number(22)),
+    (Call::Beside(Hold::Writer(1), Try::Entry(1)), Answer::Locked),
+    (Call::Try(Try::Entry(1)), Answer::Number(1)),
+    (Call::Try(Try::GetMut(1, 22)), Answer::Number(21)),
+    (Call::Try(Try::Get(2)), Answer::Absent),
+    (Call::Try(Try::GetMut(2, 1)), Answer::Absent),
+    (Call::Try(Try::Get(1)), Answer::Number(22)),
     (Call::Key(Keyed::View(1)), Answer::Number(22)),
     (
-        Call::Beside(Hold::Reader(1), Try::TryGet(1)),
+        Call::Beside(Hold::Reader(1), Try::Get(1)),
         Answer::Number(22),
     ),
     (
-        Call::Beside(Hold::Reader(1), Try::TryGetMut(1, 3)),
+        Call::Beside(Hold::Reader(1), Try::GetMut(1, 3)),
         Answer::Locked,
     ),
-    (
-        Call::Beside(Hold::Writer(1), Try::TryGet(2)),
-        Answer::Absent,
-    ),
+    (Call::Beside(Hold::Writer(1), Try::Get(2)), Answer::Absent),
 ];
 
 #[test]
@@ -195,11 +186,11 @@ fn a_try_beside_a_guard_is_told_that_it_is_locked(rt: HostRuntime) -> Result<(),
 const LET_DOWN: &[Row] = &[
     (Call::Key(Keyed::Insert(1, 5)), Answer::Absent),
     (
-        Call::Beside(Hold::LetDown(1, 6), Try::TryGet(1)),
+        Call::Beside(Hold::LetDown(1, 6), Try::Get(1)),
         Answer::Locked,
     ),
-    (Call::Try(Try::TryGet(1)), Answer::Number(6)),
-    (Call::Try(Try::TryGetMut(1, 6)), Answer::Number(6)),
+    (Call::Try(Try::Get(1)), Answer::Number(6)),
+    (Call::Try(Try::GetMut(1, 6)), Answer::Number(6)),
     (Call::Key(Keyed::Get(1)), Answer::Pair(1, 6)),
 ];
 
@@ -210,15 +201,9 @@ fn a_guard_that_is_let_down_keeps_its_hold(rt: HostRuntime) -> Result<(), Fail> 
 
 const BESIDE_AN_ITEM: &[Row] = &[
     (Call::Key(Keyed::Insert(0, 1000)), Answer::Absent),
-    (
-        Call::Beside(Hold::Item, Try::TryGetMut(0, 7)),
-        Answer::Locked,
-    ),
-    (
-        Call::Beside(Hold::Item, Try::TryGet(0)),
-        Answer::Number(1000),
-    ),
-    (Call::Try(Try::TryGetMut(0, 1000)), Answer::Number(1000)),
+    (Call::Beside(Hold::Item, Try::GetMut(0, 7)), Answer::Locked),
+    (Call::Beside(Hold::Item, Try::Get(0)), Answer::Number(1000)),
+    (Call::Try(Try::GetMut(0, 1000)), Answer::Number(1000)),
 ];
 
 #[test]
@@ -228,31 +213,19 @@ fn an_item_keeps_its_shard(rt: HostRuntime) -> Result<(), Fail> {
 
 /// Key 0 is on the first of two shards, and key 1 on the last, which a walk that writes keeps until it is dropped.
 const BESIDE_A_WRITING_WALK: &[Row] = &[
-    (Call::Key(Keyed::Insert(0, 1000)), Answer::Absent),
+    (Call::Key(Keyed::Insert(0, 10)), Answer::Absent),
     (
-        Call::Beside(Hold::WritingWalk(0), Try::TryGetMut(0, 1000)),
-        Answer::Number(1000),
+        Call::Beside(Hold::Walk(0), Try::GetMut(0, 10)),
+        Answer::Number(10),
     ),
-    (
-        Call::Beside(Hold::WritingWalk(1), Try::TryGet(0)),
-        Answer::Locked,
-    ),
-    (
-        Call::Beside(Hold::WritingWalk(2), Try::TryGet(0)),
-        Answer::Number(1000),
-    ),
-    (Call::Try(Try::TryGetMut(0, 1000)), Answer::Number(1000)),
-    (Call::Key(Keyed::Remove(0)), Answer::Pair(0, 1000)),
-    (Call::Key(Keyed::Insert(1, 1000)), Answer::Absent),
-    (
-        Call::Beside(Hold::WritingWalk(1), Try::TryGet(1)),
-        Answer::Locked,
-    ),
-    (
-        Call::Beside(Hold::WritingWalk(2), Try::TryGet(1)),
-        Answer::Locked,
-    ),
-    (Call::Try(Try::TryGetMut(1, 1000)), Answer::Number(1000)),
+    (Call::Beside(Hold::Walk(1), Try::Get(0)), Answer::Locked),
+    (Call::Beside(Hold::Walk(2), Try::Get(0)), Answer::Number(10)),
+    (Call::Try(Try::GetMut(0, 10)), Answer::Number(10)),
+    (Call::Key(Keyed::Remove(0)), Answer::Pair(0, 10)),
+    (Call::Key(Keyed::Insert(1, 10)), Answer::Absent),
+    (Call::Beside(Hold::Walk(1), Try::Get(1)), Answer::Locked),
+    (Call::Beside(Hold::Walk(2), Try::Get(1)), Answer::Locked),
+    (Call::Try(Try::GetMut(1, 10)), Answer::Number(10)),
 ];
 
 #[test]

@@ -10,7 +10,7 @@ ghost use Rattle.mapworld.specs.Beginning.{at_start, AreAtStart, AreFilled, HasL
 
 use arrayvec::ArrayVec;
 use dashmap_table::Shard;
-use lock_api_raw::NoMemory;
+use dashmap_table::NoMemory;
 use mapworld_calls::{Ask, Walk};
 use mapworld_state::{Phase, Place};
 use mapworld_steps::shard_of;

@@ -9,7 +9,7 @@ ghost use Rattle.mapworld.specs.Views.{shown};
 
 use dashmap_table::Shard;
 use dashmap_view::ViewIter;
-use lock_api_raw::NoMemory;
+use dashmap_table::NoMemory;
 use mapworld_transitions::pairs::{find_pair, pair_at};
 use std::alloc::Allocator;
 use std::hash::{BuildHasher, Hash};
