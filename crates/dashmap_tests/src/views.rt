@@ -1,6 +1,6 @@
 //! Maps that become views, and views that become maps again.
 
-use crate::maps::{Map, has_all, map_of};
+use crate::maps::{Map, has_all, map_of, view_of};
 use dashmap_plain::Plain;
 use dashmap_table::SpreadState;
 use std::hash::BuildHasher;
@@ -9,9 +9,7 @@ use std::test::Fail;
 
 #[test]
 fn a_hundred_keys_become_a_view_and_a_map_again(rt: HostRuntime) -> Result<(), Fail> {
-    let Ok(view) = map_of(rt, 100)?.into_read_only() else {
-        return Err("no view".into());
-    };
+    let view = view_of(rt, 100)?;
     let mut right = view.len() == 100 && !view.is_empty() && view.capacity() >= 100;
     for key in 0..100u64 {
         right &= view.get(&key) == Some(&key.wrapping_mul(2)) && view.contains_key(&key);
@@ -37,9 +35,7 @@ fn a_hundred_keys_become_a_view_and_a_map_again(rt: HostRuntime) -> Result<(), F
 
 #[test]
 fn a_map_that_was_a_view_takes_pairs_and_becomes_one_again(rt: HostRuntime) -> Result<(), Fail> {
-    let Ok(view) = map_of(rt, 10)?.into_read_only() else {
-        return Err("no view".into());
-    };
+    let view = view_of(rt, 10)?;
     let mut map = view.into_inner();
     let mut right = map.insert_mut(10, 20) == Ok(None);
     right &= has_all(&map, 11);
@@ -95,9 +91,7 @@ fn a_pair_in_a_wrong_shard_gives_the_map_back(rt: HostRuntime) -> Result<(), Fai
 
 #[test]
 fn a_view_prints_as_a_map(rt: HostRuntime) -> Result<(), Fail> {
-    let Ok(view) = map_of(rt, 2)?.into_read_only() else {
-        return Err("no view".into());
-    };
+    let view = view_of(rt, 2)?;
     let text = format!(in rt.alloc(); "{view:?}")?;
     assert!(rt; text.as_str() == "{0: 0, 1: 2}" || text.as_str() == "{1: 2, 0: 0}");
     Ok(())

@@ -1,4 +1,4 @@
-//! Each parallel form on sets of one, two and eight shards, beside the plain one.
+//! Each parallel form on sets of four, eight and sixteen shards, beside the plain one.
 
 use dashmap_parallel::{NoThreadData, ParExtendFault};
 use dashmap_set::DashSet;

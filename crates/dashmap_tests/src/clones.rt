@@ -1,6 +1,6 @@
 //! Clones of maps and of views.
 
-use crate::maps::{has_all, map_of};
+use crate::maps::{has_all, map_of, view_of};
 use dashmap_map::DashMap;
 use dashmap_plain::Plain;
 use dashmap_plain::clones::{CloneMap, CloneView};
@@ -39,9 +39,7 @@ fn the_pairs_of_a_clone_are_in_the_shards_of_their_routes(rt: HostRuntime) -> Re
 
 #[test]
 fn a_view_has_a_clone(rt: HostRuntime) -> Result<(), Fail> {
-    let Ok(view) = map_of(rt, 100)?.into_read_only() else {
-        return Err("no view".into());
-    };
+    let view = view_of(rt, 100)?;
     let clone = CloneView::clone(&view, rt)?;
     let mut right = clone.len() == 100 && view.len() == 100;
     for key in 0..101u64 {

@@ -1,6 +1,6 @@
 //! Parallel forms of what a map becomes, and plain shards that are extended.
 
-use crate::maps::{has_all, map_of};
+use crate::maps::{has_all, map_of, view_of};
 use dashmap_map::DashMap;
 use dashmap_plain::{ExtendShards, Plain, Unlocked, from_par_iter, par_extend, par_extend_shards};
 use dashmap_table::{Shards, SpreadState};
@@ -10,9 +10,7 @@ use std::test::Fail;
 
 #[test]
 fn a_view_answers_in_pieces_as_one_thread_would(rt: HostRuntime) -> Result<(), Fail> {
-    let Ok(view) = map_of(rt, 100)?.into_read_only() else {
-        return Err("no view".into());
-    };
+    let view = view_of(rt, 100)?;
     let doubles = view
         .par_iter()
         .map_collect(&rt, rt.alloc(), |_: &u64, value: &u64| *value)?;

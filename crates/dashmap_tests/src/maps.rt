@@ -1,6 +1,7 @@
 //! The maps of the tests.
 
 use dashmap_map::DashMap;
+use dashmap_plain::{Plain, ReadOnlyView};
 use dashmap_table::SpreadState;
 use lock_api_spin::PackedLock;
 use std::sync::Wait;
@@ -20,6 +21,17 @@ pub fn map_of(rt: HostRuntime, keys: u64) -> Result<Map<HostRuntime>, Fail> {
         Ok(map)
     } else {
         Err("no memory for a map".into())
+    }
+}
+
+/// A view of such a map.
+pub type View<R> = ReadOnlyView<u64, u64, SpreadState, PackedLock<R>>;
+
+/// A view of the keys below `keys`, each with its double, on four shards.
+pub fn view_of(rt: HostRuntime, keys: u64) -> Result<View<HostRuntime>, Fail> {
+    match map_of(rt, keys)?.into_read_only() {
+        Ok(view) => Ok(view),
+        Err(_) => Err("no view".into()),
     }
 }
 
