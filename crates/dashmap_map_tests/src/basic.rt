@@ -18,6 +18,8 @@ const IN_AND_OUT: &[Row] = &[
     (Call::HasNoRoom, Answer::Flag(true)),
     (Call::Key(Keyed::Insert(0, 0)), Answer::Absent),
     (Call::Key(Keyed::Get(0)), Answer::Pair(0, 0)),
+    (Call::Key(Keyed::GetPair(0)), Answer::Pair(0, 0)),
+    (Call::Key(Keyed::GetPair(1)), Answer::Absent),
     (Call::Key(Keyed::Get(1)), Answer::Absent),
     (Call::Key(Keyed::GetMut(1, 1)), Answer::Absent),
     (Call::Key(Keyed::Insert(0, 9)), Answer::Number(0)),

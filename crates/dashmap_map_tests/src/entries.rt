@@ -15,6 +15,7 @@ use std::test::Fail;
 #[derive(Clone, Copy, Debug)]
 pub enum Entering {
     OrInsert(u64),
+    /// Answers the pair that the guard lends.
     OrInsertWith(u64),
     /// Puts 0 in where nothing is, and adds this by the guard.
     OrInsertAndAdd(u64),
@@ -33,6 +34,10 @@ pub enum Entering {
     VacantInsertEntry(u64),
     /// Of an occupied place alone. Answers the value that was there.
     OccupiedInsert(u64),
+    /// Of an occupied place alone. Answers the pair.
+    OccupiedGet,
+    /// Of an occupied place alone. Answers the pair that was there.
+    OccupiedReplaceEntry(u64),
     /// Of an occupied place alone. Writes this value by a borrow, takes the pair out, and answers it.
     OccupiedWriteAndRemove(u64),
 }
@@ -74,7 +79,10 @@ where
     };
     match entering {
         Entering::OrInsert(value) => Answer::Number(*entry.or_insert(value)),
-        Entering::OrInsertWith(value) => Answer::Number(*entry.or_insert_with(|| value)),
+        Entering::OrInsertWith(value) => {
+            let guard = entry.or_insert_with(|| value);
+            Answer::Pair(*guard.key(), *guard)
+        }
         Entering::OrInsertAndAdd(by) => {
             let mut guard = entry.or_insert(0);
             *guard = guard.wrapping_add(by);
@@ -126,6 +134,12 @@ where
         (Entering::OccupiedInsert(value), Entry::Occupied(mut occupied)) => {
             Answer::Number(occupied.insert(value))
         }
+        (Entering::OccupiedGet, Entry::Occupied(occupied)) => {
+            Answer::Pair(*occupied.key(), *occupied.get())
+        }
+        (Entering::OccupiedReplaceEntry(value), Entry::Occupied(occupied)) => {
+            Answer::of_pair(Some(occupied.replace_entry(value)))
+        }
         (Entering::OccupiedWriteAndRemove(value), Entry::Occupied(mut occupied)) => {
             *occupied.get_mut() = value;
             Answer::of_pair(Some(occupied.remove_entry()))
@@ -137,7 +151,10 @@ where
 }
 
 const ADDS_ONCE: &[Row] = &[
-    (Call::Entry(9, Entering::OrInsertWith(4)), Answer::Number(4)),
+    (
+        Call::Entry(9, Entering::OrInsertWith(4)),
+        Answer::Pair(9, 4),
+    ),
     (Call::Entry(9, Entering::AndModify(1, 0)), Answer::Number(5)),
     (
         Call::Entry(8, Entering::OrTryInsertWith(3)),
@@ -189,6 +206,13 @@ const STAYS: &[Row] = &[
     (Call::Entry(1, Entering::InsertEntry(3)), Answer::Number(3)),
     (Call::Entry(1, Entering::Insert(4)), Answer::Number(4)),
     (Call::Key(Keyed::View(1)), Answer::Number(4)),
+    (
+        Call::Entry(1, Entering::OccupiedReplaceEntry(3)),
+        Answer::Pair(1, 4),
+    ),
+    (Call::Entry(1, Entering::IntoKey), Answer::Number(1)),
+    (Call::Entry(1, Entering::OccupiedGet), Answer::Pair(1, 3)),
+    (Call::Try(Try::GetMut(1, 3)), Answer::Number(3)),
 ];
 
 #[test]

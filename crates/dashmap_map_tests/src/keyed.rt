@@ -13,6 +13,8 @@ pub enum Keyed {
     Insert(u64, u64),
     /// Answers the pair that the guard lends.
     Get(u64),
+    /// Answers the pair that the guard lends as one.
+    GetPair(u64),
     /// Writes this value by the guard, and answers the value that was there.
     GetMut(u64, u64),
     /// Answers the value.
@@ -41,6 +43,14 @@ where
     match call {
         Keyed::Insert(key, value) => Answer::of_insertion(map.insert(key, value, me)),
         Keyed::Get(key) => read(map, key, me),
+        Keyed::GetPair(key) => match map.get(&key, me) {
+            Some(guard) if *guard.value() == *guard.pair().1 => Answer::Pair(
+                *guard.pair().0,
+                *guard.value(),
+            ),
+            Some(_) => Answer::Flag(false),
+            None => Answer::Absent,
+        },
         Keyed::GetMut(key, value) => write(map, key, value, me),
         Keyed::View(key) => Answer::of_value(map.view(&key, |_, value| *value, me)),
         Keyed::ViewIs(key, sought) => {

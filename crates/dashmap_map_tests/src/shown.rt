@@ -42,13 +42,24 @@ fn a_map_is_shown(rt: HostRuntime) -> Result<(), Fail> {
     Ok(())
 }
 
-/// What is printed of a value that a guard lends.
-fn text_of_value<R: Wait + Drop>(
+/// What is printed of a guard that reads key 1, and of the value that it lends.
+fn text_of_reader<R: Wait + Drop>(
+    map: &Spun<u64, u64, R>,
+    alloc: Global,
+) -> Result<Option<(String, String)>, AllocError> {
+    match map.get(&1, &mut 1) {
+        Some(guard) => Ok(Some((text_of(&guard, alloc)?, text_of(&*guard, alloc)?))),
+        None => Ok(None),
+    }
+}
+
+/// What is printed of a guard that writes key 1.
+fn text_of_writer<R: Wait + Drop>(
     map: &Spun<u64, u64, R>,
     alloc: Global,
 ) -> Result<Option<String>, AllocError> {
-    match map.get(&1, &mut 1) {
-        Some(guard) => Ok(Some(text_of(&*guard, alloc)?)),
+    match map.get_mut(&1, &mut 1) {
+        Some(guard) => Ok(Some(text_of(&guard, alloc)?)),
         None => Ok(None),
     }
 }
@@ -65,10 +76,13 @@ fn text_of_item<R: Wait + Drop>(
 }
 
 #[test]
-fn what_a_guard_lends_and_an_item_are_shown(rt: HostRuntime) -> Result<(), Fail> {
+fn guards_and_items_are_shown(rt: HostRuntime) -> Result<(), Fail> {
     let map: Spun<u64, u64, HostRuntime> = map_of(rt, rt.alloc(), 2)?;
     let mut right = map.insert(1, 2, &mut 1) == Ok(None);
-    right &= text_of_value(&map, rt.alloc())?.ok_or("gone")?.as_str() == "2";
+    let (reader, value) = text_of_reader(&map, rt.alloc())?.ok_or("gone")?;
+    right &= reader.as_str() == "Ref { k: 1, v: 2 }" && value.as_str() == "2";
+    let writer = text_of_writer(&map, rt.alloc())?.ok_or("gone")?;
+    right &= writer.as_str() == "RefMut { k: 1, v: 2 }";
     let text = text_of_item(&map, rt.alloc())?.ok_or("no item")?;
     assert!(rt; right && text.as_str() == "RefMutMulti { k: 1, v: 2 }");
     Ok(())

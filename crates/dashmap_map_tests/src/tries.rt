@@ -30,6 +30,8 @@ pub enum Hold {
     Writer(u64),
     /// A guard of a key that wrote this value and was let down to read.
     LetDown(u64, u64),
+    /// The place of a key.
+    Place(u64),
     /// The one item of a walk that reads, once the walk is over.
     Item,
     /// A walk that writes, after so many steps.
@@ -86,6 +88,10 @@ where
             Some(_guard) => call_at_once(map, call),
             None => Answer::Absent,
         },
+        Hold::Place(key) => match map.entry(key, me) {
+            Ok(_entry) => call_at_once(map, call),
+            Err(key) => Answer::Refused(key),
+        },
         Hold::LetDown(key, value) => call_beside_one_let_down(map, key, value, call, me),
         Hold::Item => call_beside_item(map, call, me),
         Hold::Walk(steps) => call_beside_writing_walk(map, steps, call, me),
@@ -106,7 +112,9 @@ where
     let Some(mut guard) = map.get_mut(&key, me) else {
         return Answer::Absent;
     };
-    *guard = value;
+    *guard = value.wrapping_sub(1);
+    let lent = guard.value_mut();
+    *lent = lent.wrapping_add(1);
     let guard = guard.downgrade();
     let answer = call_at_once(map, call);
     if *guard == value {
@@ -176,6 +184,9 @@ const BESIDE_GUARDS: &[Row] = &[
         Answer::Locked,
     ),
     (Call::Beside(Hold::Writer(1), Try::Get(2)), Answer::Absent),
+    (Call::Beside(Hold::Place(1), Try::Get(1)), Answer::Locked),
+    (Call::Beside(Hold::Place(1), Try::Entry(1)), Answer::Locked),
+    (Call::Try(Try::GetMut(1, 22)), Answer::Number(22)),
 ];
 
 #[test]

@@ -29,10 +29,10 @@ pub fn put(shards: &mut Plain, shard: usize, hash: u64, key: u64) -> bool {
     }
 }
 
-/// The shard of a hash, of four.
-pub fn shard_of(hash: u64) -> usize {
-    if is_shard_amount(4) {
-        route(hash, 4)
+/// The shard of a hash, of so many.
+pub fn shard_of(hash: u64, shards: usize) -> usize {
+    if is_shard_amount(shards) {
+        route(hash, shards)
     } else {
         0
     }
@@ -44,7 +44,7 @@ pub fn view_of(alloc: Global, keys: u64) -> Result<View, Fail> {
     let mut right = shards.len() == 4;
     for key in 0..keys {
         let hash = Fold::new().hash_one(&key);
-        right &= put(&mut shards, shard_of(hash), hash, key);
+        right &= put(&mut shards, shard_of(hash, 4), hash, key);
     }
     match view_if_routed(shards) {
         Some(view) if right => Ok(view),

@@ -1,13 +1,43 @@
-//! Each form beside the plain one.
+//! Each parallel form of plain shards and of views beside the plain one.
 
-use super::made::{shards_of, values_of};
-use dashmap_table::{is_shard_amount, route};
-use dashmap_view::PlainView;
+use crate::views::{Fold, Plain, View, empty_shards, put, shard_of, view_if_routed};
+use dashmap_table::Shard;
 use dashmap_view::parallel::{Iter, OwningIter, ParallelView, first_of, par_write};
 use std::alloc::Global;
-use std::hash::{BuildHasher, BuildHasherDefault, FoldHasher};
+use std::hash::BuildHasher;
 use std::sync::atomic::{AtomicU64, Ordering};
 use std::test::Fail;
+
+/// The keys below `keys`, each with its double, key by key on the next of so many shards.
+fn shards_of(alloc: Global, amount: usize, keys: u64) -> Result<Plain, Fail> {
+    let mut shards = empty_shards(alloc, amount)?;
+    let mut right = true;
+    for key in 0..keys {
+        let shard = (key as usize).checked_rem(amount).unwrap_or(0);
+        right &= match shards.get_mut(shard) {
+            Some(shard) => shard.insert(key, key, key.wrapping_mul(2)).is_ok(),
+            None => false,
+        };
+    }
+    if right {
+        Ok(shards)
+    } else {
+        Err("no shards".into())
+    }
+}
+
+/// What one thread finds: the values in the order of the shards and of their slots.
+fn values_of(alloc: Global, shards: &[Shard<u64, u64>]) -> Result<Vec<u64>, Fail> {
+    let mut values = Vec::new(alloc);
+    for shard in shards {
+        for slot in 0..shard.slots() {
+            if let Some((_, value)) = shard.pair(slot) {
+                values.push(*value)?;
+            }
+        }
+    }
+    Ok(values)
+}
 
 const AMOUNTS: [usize; 3] = [1, 2, 8];
 
@@ -103,33 +133,14 @@ fn eight_shards_are_cut_in_three_pieces(rt: HostRuntime) {
     assert!(rt; even == [0, 4, 8]);
 }
 
-type Fold = BuildHasherDefault<FoldHasher>;
-
-/// A view of one pair on two shards.
-fn small_view(alloc: Global) -> Result<PlainView<u64, u64, Fold>, Fail> {
+/// A view of key 1 with its double, on two shards.
+fn small_view(alloc: Global) -> Result<View, Fail> {
     let hash = Fold::new().hash_one(&1u64);
-    let mut shards = shards_of(alloc, 2, 0)?;
-    let right = match shards.get_mut(route_of(hash)) {
-        Some(shard) => shard.insert(hash, 1, 2).is_ok(),
-        None => false,
-    };
-    let view = if is_shard_amount(shards.len()) {
-        PlainView::of(shards, Fold::new()).ok()
-    } else {
-        None
-    };
-    match view {
+    let mut shards = empty_shards(alloc, 2)?;
+    let right = put(&mut shards, shard_of(hash, 2), hash, 1);
+    match view_if_routed(shards) {
         Some(view) if right => Ok(view),
         _ => Err("no view".into()),
-    }
-}
-
-/// The shard of a hash, of two.
-fn route_of(hash: u64) -> usize {
-    if is_shard_amount(2) {
-        route(hash, 2)
-    } else {
-        0
     }
 }
 

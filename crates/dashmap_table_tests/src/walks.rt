@@ -1,6 +1,6 @@
 //! Walks over views.
 
-use super::made::view_of;
+use crate::views::view_of;
 use std::test::Fail;
 
 #[test]

@@ -1,6 +1,6 @@
 //! What views find, and which shards make none.
 
-use super::made::{Fold, View, empty_shards, put, shard_of, view_if_routed, view_of};
+use crate::views::{Fold, View, empty_shards, put, shard_of, view_if_routed, view_of};
 use dashmap_view::Displaced;
 use std::hash::BuildHasher;
 use std::test::Fail;
@@ -65,7 +65,7 @@ fn a_pair_under_another_hash_or_in_another_shard_makes_no_view(
     rt: HostRuntime,
 ) -> Result<(), Fail> {
     let hash = Fold::new().hash_one(&7u64);
-    let shard = shard_of(hash);
+    let shard = shard_of(hash, 4);
     let mut home = empty_shards(rt.alloc(), 4)?;
     let mut right = put(&mut home, shard, hash, 7);
     right &= view_if_routed(home).is_some();
