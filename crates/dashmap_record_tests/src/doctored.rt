@@ -1,18 +1,17 @@
 //! Two callers at a map of two shards, and their notes doctored in each way.
+use crate::calls::Fold;
 use dashmap_record::history::{Call, CallReply, Entered, GatherFault, gather};
 use dashmap_table::{is_shard_amount, route};
 use std::alloc::{AllocError, Allocator};
-use std::hash::{BuildHasher, BuildHasherDefault, FoldHasher};
+use std::hash::BuildHasher;
 use std::test::Fail;
-
-type Fold = BuildHasherDefault<FoldHasher>;
 
 type Entry = Entered<u64, u64>;
 
 type Lists<A> = Vec<Vec<Entry, A>, A>;
 
 /// The first key of a shard of two.
-fn key_on(shard: usize) -> u64 {
+pub fn key_on(shard: usize) -> u64 {
     let hasher = Fold::new();
     for key in 0..64u64 {
         if is_shard_amount(2) && route(hasher.hash_one(key), 2) == shard {
