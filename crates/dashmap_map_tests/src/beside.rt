@@ -1,7 +1,7 @@
 //! A map beside plain shards, over many calls.
 
 use crate::calls::{Answer, Call, Numbers, make};
-use crate::entries::Entering;
+use crate::entries::Place;
 use crate::keyed::Keyed;
 use crate::many::{Many, call_many};
 use crate::tables::{map_of, parked};
@@ -29,7 +29,7 @@ fn call_of(number: u64) -> Call {
         5 => Call::Key(Keyed::Get(key)),
         2 => Call::Key(Keyed::Remove(key)),
         6 => Call::Key(Keyed::ContainsKey(key)),
-        3 => Call::Entry(key, Entering::OrInsert(number)),
+        3 => Call::Entry(key, Place::OrInsert(number)),
         _ => Call::Key(Keyed::Alter(key, number)),
     }
 }
@@ -65,7 +65,7 @@ fn answer_of(plain: &mut Plain, call: Call) -> Answer {
             }
             Answer::Done
         }
-        Call::Entry(key, Entering::OrInsert(value)) => {
+        Call::Entry(key, Place::OrInsert(value)) => {
             if value_of(plain, key).is_none() {
                 put(plain, key, value);
             }

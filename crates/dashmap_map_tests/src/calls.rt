@@ -1,6 +1,6 @@
 //! Calls as data, and what they answer.
 
-use crate::entries::{Entering, enter};
+use crate::entries::{Place, enter};
 use crate::keyed::{Keyed, call_key};
 use crate::many::{Many, call_many};
 use crate::operators::{Operator, operate};
@@ -21,7 +21,7 @@ pub enum Call {
     /// A call on one key.
     Key(Keyed),
     /// What is done at the place of a key.
-    Entry(u64, Entering),
+    Entry(u64, Place),
     /// A call by an operator.
     Operator(Operator),
     /// A call that doesn't wait.
@@ -104,7 +104,7 @@ where
 {
     match call {
         Call::Key(call) => call_key(map, call, me),
-        Call::Entry(key, entering) => enter(map, key, entering, me),
+        Call::Entry(key, place) => enter(map, key, place, me),
         Call::Operator(call) => operate(map, call, me),
         Call::Try(call) => call_at_once(map, call),
         Call::Beside(hold, call) => call_beside(map, hold, call, me),

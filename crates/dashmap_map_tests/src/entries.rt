@@ -13,12 +13,12 @@ use std::test::Fail;
 
 /// What is done at a place, by its name there. The answer is the value that stands there afterwards, where nothing else is said.
 #[derive(Clone, Copy, Debug)]
-pub enum Entering {
+pub enum Place {
     OrInsert(u64),
     /// Answers the pair that the guard lends.
     OrInsertWith(u64),
     /// Puts 0 in where nothing is, and adds this by the guard.
-    OrInsertAndAdd(u64),
+    AddTo(u64),
     /// Adds to a value that is there, and else puts in the second.
     AndModify(u64, u64),
     /// Fails with this error where nothing is there.
@@ -33,33 +33,33 @@ pub enum Entering {
     /// Of a vacant place alone.
     VacantInsertEntry(u64),
     /// Of an occupied place alone. Answers the value that was there.
-    OccupiedInsert(u64),
+    Replace(u64),
     /// Of an occupied place alone. Answers the pair.
-    OccupiedGet,
+    Get,
     /// Of an occupied place alone. Answers the pair that was there.
-    OccupiedReplaceEntry(u64),
+    ReplaceEntry(u64),
     /// Of an occupied place alone. Writes this value by a borrow, takes the pair out, and answers it.
-    OccupiedWriteAndRemove(u64),
+    Take(u64),
 }
 
 /// Enters the place of a key.
 pub fn enter<S: BuildHasher, Q: RawRwLock, A: Allocator + Clone>(
     map: &Numbers<S, Q, A>,
     key: u64,
-    entering: Entering,
+    place: Place,
     me: &mut Q::Party,
 ) -> Answer
 where
     Q::Runtime: Wait,
 {
-    match entering {
-        Entering::OrInsert(_)
-        | Entering::OrInsertWith(_)
-        | Entering::OrInsertAndAdd(_)
-        | Entering::AndModify(_, _)
-        | Entering::OrTryInsertWith(_)
-        | Entering::OrDefault => enter_or_add(map, key, entering, me),
-        _ => enter_by_kind(map, key, entering, me),
+    match place {
+        Place::OrInsert(_)
+        | Place::OrInsertWith(_)
+        | Place::AddTo(_)
+        | Place::AndModify(_, _)
+        | Place::OrTryInsertWith(_)
+        | Place::OrDefault => enter_or_add(map, key, place, me),
+        _ => enter_by_kind(map, key, place, me),
     }
 }
 
@@ -67,7 +67,7 @@ where
 fn enter_or_add<S: BuildHasher, Q: RawRwLock, A: Allocator + Clone>(
     map: &Numbers<S, Q, A>,
     key: u64,
-    entering: Entering,
+    place: Place,
     me: &mut Q::Party,
 ) -> Answer
 where
@@ -77,22 +77,22 @@ where
         Ok(entry) => entry,
         Err(key) => return Answer::Refused(key),
     };
-    match entering {
-        Entering::OrInsert(value) => Answer::Number(*entry.or_insert(value)),
-        Entering::OrInsertWith(value) => {
+    match place {
+        Place::OrInsert(value) => Answer::Number(*entry.or_insert(value)),
+        Place::OrInsertWith(value) => {
             let guard = entry.or_insert_with(|| value);
             Answer::Pair(*guard.key(), *guard)
         }
-        Entering::OrInsertAndAdd(by) => {
+        Place::AddTo(by) => {
             let mut guard = entry.or_insert(0);
             *guard = guard.wrapping_add(by);
             Answer::Number(*guard)
         }
-        Entering::AndModify(by, value) => {
+        Place::AndModify(by, value) => {
             let entry = entry.and_modify(|old| *old = old.wrapping_add(by));
             Answer::Number(*entry.or_insert(value))
         }
-        Entering::OrTryInsertWith(error) => {
+        Place::OrTryInsertWith(error) => {
             match entry.or_try_insert_with(|| Err::<u64, u64>(error)) {
                 Ok(guard) => Answer::Number(*guard),
                 Err(error) => Answer::Refused(error),
@@ -106,7 +106,7 @@ where
 fn enter_by_kind<S: BuildHasher, Q: RawRwLock, A: Allocator + Clone>(
     map: &Numbers<S, Q, A>,
     key: u64,
-    entering: Entering,
+    place: Place,
     me: &mut Q::Party,
 ) -> Answer
 where
@@ -116,62 +116,53 @@ where
         Ok(entry) => entry,
         Err(key) => return Answer::Refused(key),
     };
-    match (entering, entry) {
-        (Entering::Insert(value), entry) => Answer::Number(*entry.insert(value)),
-        (Entering::InsertEntry(value), entry) => match entry.insert_entry(value) {
+    match (place, entry) {
+        (Place::Insert(value), entry) => Answer::Number(*entry.insert(value)),
+        (Place::InsertEntry(value), entry) => match entry.insert_entry(value) {
             Ok(entry) => Answer::Number(*entry.get()),
             Err(_) => Answer::Refused(key),
         },
-        (Entering::VacantInsert(value), Entry::Vacant(vacant)) => {
+        (Place::VacantInsert(value), Entry::Vacant(vacant)) => {
             Answer::Number(*vacant.insert(value))
         }
-        (Entering::VacantInsertEntry(value), Entry::Vacant(vacant)) => {
+        (Place::VacantInsertEntry(value), Entry::Vacant(vacant)) => {
             match vacant.insert_entry(value) {
                 Ok(entry) => Answer::Number(*entry.get()),
                 Err(_) => Answer::Refused(key),
             }
         }
-        (Entering::OccupiedInsert(value), Entry::Occupied(mut occupied)) => {
+        (Place::Replace(value), Entry::Occupied(mut occupied)) => {
             Answer::Number(occupied.insert(value))
         }
-        (Entering::OccupiedGet, Entry::Occupied(occupied)) => {
+        (Place::Get, Entry::Occupied(occupied)) => {
             Answer::Pair(*occupied.key(), *occupied.get())
         }
-        (Entering::OccupiedReplaceEntry(value), Entry::Occupied(occupied)) => {
+        (Place::ReplaceEntry(value), Entry::Occupied(occupied)) => {
             Answer::of_pair(Some(occupied.replace_entry(value)))
         }
-        (Entering::OccupiedWriteAndRemove(value), Entry::Occupied(mut occupied)) => {
+        (Place::Take(value), Entry::Occupied(mut occupied)) => {
             *occupied.get_mut() = value;
             Answer::of_pair(Some(occupied.remove_entry()))
         }
-        (Entering::IntoKey, entry) => Answer::Number(entry.into_key()),
+        (Place::IntoKey, entry) => Answer::Number(entry.into_key()),
         (_, Entry::Vacant(_)) => Answer::Absent,
         (_, Entry::Occupied(_)) => Answer::Flag(false),
     }
 }
 
 const ADDS_ONCE: &[Row] = &[
+    (Call::Entry(9, Place::OrInsertWith(4)), Answer::Pair(9, 4)),
+    (Call::Entry(9, Place::AndModify(1, 0)), Answer::Number(5)),
     (
-        Call::Entry(9, Entering::OrInsertWith(4)),
-        Answer::Pair(9, 4),
-    ),
-    (Call::Entry(9, Entering::AndModify(1, 0)), Answer::Number(5)),
-    (
-        Call::Entry(8, Entering::OrTryInsertWith(3)),
+        Call::Entry(8, Place::OrTryInsertWith(3)),
         Answer::Refused(3),
     ),
     (Call::Key(Keyed::ContainsKey(8)), Answer::Flag(false)),
     (Call::Try(Try::Get(8)), Answer::Absent),
-    (
-        Call::Entry(9, Entering::OrTryInsertWith(3)),
-        Answer::Number(5),
-    ),
-    (Call::Entry(9, Entering::OrInsert(7)), Answer::Number(5)),
-    (Call::Entry(8, Entering::AndModify(1, 6)), Answer::Number(6)),
-    (
-        Call::Entry(8, Entering::OrInsertAndAdd(1)),
-        Answer::Number(7),
-    ),
+    (Call::Entry(9, Place::OrTryInsertWith(3)), Answer::Number(5)),
+    (Call::Entry(9, Place::OrInsert(7)), Answer::Number(5)),
+    (Call::Entry(8, Place::AndModify(1, 6)), Answer::Number(6)),
+    (Call::Entry(8, Place::AddTo(1)), Answer::Number(7)),
 ];
 
 #[test]
@@ -180,19 +171,16 @@ fn an_entry_adds_once(rt: HostRuntime) -> Result<(), Fail> {
 }
 
 const KINDS: &[Row] = &[
-    (Call::Entry(1, Entering::OccupiedInsert(3)), Answer::Absent),
+    (Call::Entry(1, Place::Replace(3)), Answer::Absent),
     (
-        Call::Entry(1, Entering::VacantInsertEntry(1000)),
+        Call::Entry(1, Place::VacantInsertEntry(1000)),
         Answer::Number(1000),
     ),
     (
-        Call::Entry(1, Entering::VacantInsertEntry(2)),
+        Call::Entry(1, Place::VacantInsertEntry(2)),
         Answer::Flag(false),
     ),
-    (
-        Call::Entry(1, Entering::OccupiedInsert(2)),
-        Answer::Number(1000),
-    ),
+    (Call::Entry(1, Place::Replace(2)), Answer::Number(1000)),
     (Call::Key(Keyed::Remove(1)), Answer::Pair(1, 2)),
 ];
 
@@ -202,16 +190,13 @@ fn an_entry_is_vacant_or_occupied(rt: HostRuntime) -> Result<(), Fail> {
 }
 
 const STAYS: &[Row] = &[
-    (Call::Entry(1, Entering::InsertEntry(2)), Answer::Number(2)),
-    (Call::Entry(1, Entering::InsertEntry(3)), Answer::Number(3)),
-    (Call::Entry(1, Entering::Insert(4)), Answer::Number(4)),
+    (Call::Entry(1, Place::InsertEntry(2)), Answer::Number(2)),
+    (Call::Entry(1, Place::InsertEntry(3)), Answer::Number(3)),
+    (Call::Entry(1, Place::Insert(4)), Answer::Number(4)),
     (Call::Key(Keyed::View(1)), Answer::Number(4)),
-    (
-        Call::Entry(1, Entering::OccupiedReplaceEntry(3)),
-        Answer::Pair(1, 4),
-    ),
-    (Call::Entry(1, Entering::IntoKey), Answer::Number(1)),
-    (Call::Entry(1, Entering::OccupiedGet), Answer::Pair(1, 3)),
+    (Call::Entry(1, Place::ReplaceEntry(3)), Answer::Pair(1, 4)),
+    (Call::Entry(1, Place::IntoKey), Answer::Number(1)),
+    (Call::Entry(1, Place::Get), Answer::Pair(1, 3)),
     (Call::Try(Try::GetMut(1, 3)), Answer::Number(3)),
 ];
 
@@ -221,15 +206,12 @@ fn an_entry_stays_where_it_stored(rt: HostRuntime) -> Result<(), Fail> {
 }
 
 const KEY_AND_PAIR: &[Row] = &[
-    (Call::Entry(7, Entering::IntoKey), Answer::Number(7)),
+    (Call::Entry(7, Place::IntoKey), Answer::Number(7)),
     (Call::Key(Keyed::ContainsKey(7)), Answer::Flag(false)),
-    (Call::Entry(7, Entering::OrDefault), Answer::Number(0)),
-    (Call::Entry(7, Entering::IntoKey), Answer::Number(7)),
+    (Call::Entry(7, Place::OrDefault), Answer::Number(0)),
+    (Call::Entry(7, Place::IntoKey), Answer::Number(7)),
     (Call::Key(Keyed::ContainsKey(7)), Answer::Flag(true)),
-    (
-        Call::Entry(7, Entering::OccupiedWriteAndRemove(8)),
-        Answer::Pair(7, 8),
-    ),
+    (Call::Entry(7, Place::Take(8)), Answer::Pair(7, 8)),
     (Call::IsEmpty, Answer::Flag(true)),
 ];
 

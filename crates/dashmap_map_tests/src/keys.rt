@@ -3,7 +3,7 @@
 use crate::calls::{Answer, Call, Numbers};
 use crate::keyed::Keyed;
 use crate::many::Many;
-use crate::tables::{Row, Spun, check, first_wrong, map_of, none_wrong};
+use crate::tables::{Row, Spun, check, map_of, run};
 use dashmap_map::DashMap;
 use dashmap_map::mapref::entry::Entry;
 use dashmap_table::MapFault;
@@ -121,7 +121,7 @@ const OF_ONE_HASH: &[Row] = &[
 fn keys_of_one_hash_stay_apart(rt: HostRuntime) -> Result<(), Fail> {
     let made: Result<Numbers<OneHash, PackedLock<HostRuntime>, Global>, MapFault> =
         DashMap::with_hasher_and_shard_amount(rt.alloc(), OneHash, 8, rt);
-    none_wrong(first_wrong(&made?, OF_ONE_HASH, &mut 1))
+    run(&made?, OF_ONE_HASH, &mut 1)
 }
 
 const ENDS: &[Row] = &[

@@ -21,8 +21,6 @@ mod making;
 #[cfg(test)]
 mod many;
 #[cfg(test)]
-mod names;
-#[cfg(test)]
 mod operators;
 #[cfg(test)]
 mod refused;

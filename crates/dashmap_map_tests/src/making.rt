@@ -2,7 +2,7 @@
 
 use crate::calls::{Answer, Call, Numbers};
 use crate::keyed::Keyed;
-use crate::tables::{Row, Spun, first_wrong, none_wrong};
+use crate::tables::{Row, Spun, run};
 use dashmap_map::{DashMap, NewFault};
 use dashmap_table::{MapFault, SpreadState};
 use lock_api_spin::PackedLock;
@@ -112,7 +112,7 @@ fn has_shards<R: Wait + Drop>(
     if map.determine_shard(usize::MAX).wrapping_add(1) != shards || map.capacity(&mut 1) < room {
         return Err("other shards, or less room".into());
     }
-    none_wrong(first_wrong(&map, TAKES_TWO, &mut 1))
+    run(&map, TAKES_TWO, &mut 1)
 }
 
 #[test]
@@ -131,7 +131,7 @@ fn a_map_makes_its_own_hasher(rt: HostRuntime) -> Result<(), Fail> {
 fn a_map_takes_a_hasher(rt: HostRuntime) -> Result<(), Fail> {
     let map: Spun<u64, u64, HostRuntime> = DashMap::with_hasher(rt.alloc(), SpreadState, 4, rt)?;
     assert!(rt; *map.hasher() == SpreadState);
-    none_wrong(first_wrong(&map, TAKES_TWO, &mut 1))?;
+    run(&map, TAKES_TWO, &mut 1)?;
     let map: Spun<u64, u64, HostRuntime> = DashMap::with_capacity_and_hasher(
         rt.alloc(),
         2,
@@ -139,7 +139,7 @@ fn a_map_takes_a_hasher(rt: HostRuntime) -> Result<(), Fail> {
         4,
         rt,
     )?;
-    none_wrong(first_wrong(&map, TAKES_TWO, &mut 1))?;
+    run(&map, TAKES_TWO, &mut 1)?;
     let hasher = RandomState::new(&rt)?;
     let map: Random<HostRuntime> = DashMap::with_hasher_and_shard_amount(
         rt.alloc(),
@@ -147,7 +147,7 @@ fn a_map_takes_a_hasher(rt: HostRuntime) -> Result<(), Fail> {
         32,
         rt,
     )?;
-    none_wrong(first_wrong(&map, TAKES_TWO, &mut 1))
+    run(&map, TAKES_TWO, &mut 1)
 }
 
 #[test]

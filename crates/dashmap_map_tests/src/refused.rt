@@ -1,7 +1,7 @@
 //! Each growth of a map, and each item of a walk, refused in turn, by heaps of all small sizes.
 
 use crate::calls::{Answer, Call, Numbers, make};
-use crate::entries::Entering;
+use crate::entries::Place;
 use crate::keyed::Keyed;
 use crate::many::{Many, call_many};
 use crate::tables::Spun;
@@ -84,7 +84,7 @@ fn a_refused_entry_hands_the_key_back(rt: HostRuntime) -> Result<(), Fail> {
             continue;
         };
         let count = filled(&map, 2);
-        let answer = make(&map, Call::Entry(count, Entering::VacantInsert(5)), &mut 1);
+        let answer = make(&map, Call::Entry(count, Place::VacantInsert(5)), &mut 1);
         if answer == Answer::Refused(count) {
             refused = true;
             let mut right = answers(&map, Call::Try(Try::Entry(count)), answer);

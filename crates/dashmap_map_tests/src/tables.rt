@@ -17,18 +17,18 @@ pub type Row = (Call, Answer);
 
 /// A row of a table that was answered otherwise.
 #[derive(Clone, Copy, Debug)]
-pub struct Wrong {
+struct Wrong {
     row: usize,
     call: Call,
     answer: Answer,
 }
 
-/// The first row of a table that a map answers otherwise.
-pub fn first_wrong<S: BuildHasher, Q: RawRwLock, A: Allocator + Clone>(
+/// Makes the calls of a table, and fails with the first row that is answered otherwise.
+pub fn run<S: BuildHasher, Q: RawRwLock, A: Allocator + Clone>(
     map: &Numbers<S, Q, A>,
     rows: &[Row],
     me: &mut Q::Party,
-) -> Option<Wrong>
+) -> Result<(), Fail>
 where
     Q::Runtime: Wait,
 {
@@ -36,18 +36,10 @@ where
         let (call, wanted) = rows[row];
         let answer = make(map, call, me);
         if answer != wanted {
-            return Some(Wrong { row, call, answer });
+            return Err(Fail::from(Wrong { row, call, answer }));
         }
     }
-    None
-}
-
-/// Fails with the row that is wrong, if one is.
-pub fn none_wrong(wrong: Option<Wrong>) -> Result<(), Fail> {
-    match wrong {
-        Some(wrong) => Err(Fail::from(wrong)),
-        None => Ok(()),
-    }
+    Ok(())
 }
 
 /// A map whose locks are words that are tried again and again.
@@ -85,9 +77,9 @@ pub fn check<R: Wait + Copy + Drop>(
     shards: usize,
     rows: &[Row],
 ) -> Result<(), Fail> {
-    none_wrong(first_wrong(&map_of(rt, alloc, shards)?, rows, &mut 1))?;
+    run(&map_of(rt, alloc, shards)?, rows, &mut 1)?;
     let lot = ParkingLot::new(rt, alloc, 1, 7)?;
     let table = LockTable::new(alloc, &lot, shards)?;
     let mut me = lot.thread_data()?;
-    none_wrong(first_wrong(&parked(alloc, &table, shards)?, rows, &mut me))
+    run(&parked(alloc, &table, shards)?, rows, &mut me)
 }

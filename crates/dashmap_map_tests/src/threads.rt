@@ -1,7 +1,7 @@
 //! Threads that share a map, over the locks of running threads.
 
 use crate::calls::{Answer, Call, Numbers, make};
-use crate::entries::Entering;
+use crate::entries::Place;
 use crate::keyed::Keyed;
 use crate::many::{Many, call_many};
 use crate::tables::{Parked, parked};
@@ -46,7 +46,7 @@ impl Work {
     fn call(self, turn: u64) -> Call {
         let key = turn % KEYS;
         match self {
-            Work::Enter => Call::Entry(key, Entering::OrInsertAndAdd(1)),
+            Work::Enter => Call::Entry(key, Place::AddTo(1)),
             Work::Alter => Call::Key(Keyed::Alter(key, 1)),
             Work::WriteEach => Call::Walk(Walk::IterMut(1)),
             Work::AlterAll => Call::Walk(Walk::AlterAll(1)),

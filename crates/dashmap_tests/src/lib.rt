@@ -13,6 +13,8 @@ mod forms;
 #[cfg(test)]
 mod maps;
 #[cfg(test)]
+mod names;
+#[cfg(test)]
 mod noted;
 #[cfg(test)]
 mod parts;

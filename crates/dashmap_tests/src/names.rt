@@ -1,18 +1,33 @@
 //! Keys and values that are texts.
 
-use crate::tables::{Spun, map_of};
 use dashmap_iter::LendingWalks;
 use dashmap_iter::shard_guards::Looks;
 use dashmap_iter::walks::Walks;
+use dashmap_map::DashMap;
+use dashmap_table::{MapFault, SpreadState};
+use lock_api_spin::PackedLock;
+use std::alloc::Global;
+use std::hash::Hash;
 use std::sync::Wait;
 use std::test::Fail;
+
+/// A map whose locks are words that are tried again and again.
+type Spun<K, V, R> = DashMap<K, V, SpreadState, PackedLock<R>>;
 
 /// Numbers by names.
 type Named<R> = Spun<&'static str, u64, R>;
 
+/// An empty map of four shards.
+fn four<K: Eq + Hash + Drop, V: Drop, R: Drop + Copy>(
+    rt: R,
+    alloc: Global,
+) -> Result<Spun<K, V, R>, MapFault> {
+    DashMap::with_hasher_and_shard_amount(alloc, SpreadState, 4, rt)
+}
+
 #[test]
 fn a_closure_looks_at_a_text(rt: HostRuntime) -> Result<(), Fail> {
-    let map: Spun<u64, &'static str, HostRuntime> = map_of(rt, rt.alloc(), 4)?;
+    let map: Spun<u64, &'static str, HostRuntime> = four(rt, rt.alloc())?;
     let mut right = map.insert(9, "Potato", &mut 1) == Ok(None);
     right &= map.insert(12, "Chicken", &mut 1) == Ok(None);
     right &= map.view(&9, |_, food| *food == "Potato", &mut 1) == Some(true);
@@ -23,7 +38,7 @@ fn a_closure_looks_at_a_text(rt: HostRuntime) -> Result<(), Fail> {
 
 #[test]
 fn walks_change_what_names_have(rt: HostRuntime) -> Result<(), Fail> {
-    let map: Named<HostRuntime> = map_of(rt, rt.alloc(), 4)?;
+    let map: Named<HostRuntime> = four(rt, rt.alloc())?;
     let mut right = map.insert("Albin", 15, &mut 1) == Ok(None);
     right &= map.insert("Jones", 22, &mut 1) == Ok(None);
     right &= map.insert("Charlie", 27, &mut 1) == Ok(None);
@@ -77,7 +92,7 @@ fn counted_up<R: Wait + Drop>(map: &Named<R>) -> Option<(&'static str, u64)> {
 
 #[test]
 fn a_pair_is_counted_in_each_way(rt: HostRuntime) -> Result<(), Fail> {
-    let map: Named<HostRuntime> = map_of(rt, rt.alloc(), 4)?;
+    let map: Named<HostRuntime> = four(rt, rt.alloc())?;
     let mut right = map.insert("Johnny", 21, &mut 1) == Ok(None);
     right &= map.len(&mut 1) == 1 && pairs_in_shards(&map) == 1 && items(&map) == 1;
     right &= map.shards().read(4, &mut 1).is_none();
