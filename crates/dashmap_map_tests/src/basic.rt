@@ -15,7 +15,7 @@ use std::test::Fail;
 
 const IN_AND_OUT: &[Row] = &[
     (Call::IsEmpty, Answer::Flag(true)),
-    (Call::HasNoRoom, Answer::Flag(true)),
+    (Call::HasRoom(1), Answer::Flag(false)),
     (Call::Key(Keyed::Insert(0, 0)), Answer::Absent),
     (Call::Key(Keyed::Get(0)), Answer::Pair(0, 0)),
     (Call::Key(Keyed::GetPair(0)), Answer::Pair(0, 0)),
@@ -30,7 +30,7 @@ const IN_AND_OUT: &[Row] = &[
     (Call::Key(Keyed::ContainsKey(0)), Answer::Flag(false)),
     (Call::IsEmpty, Answer::Flag(true)),
     (Call::ShrinkToFit, Answer::Flag(true)),
-    (Call::HasNoRoom, Answer::Flag(true)),
+    (Call::HasRoom(1), Answer::Flag(false)),
 ];
 
 #[test]

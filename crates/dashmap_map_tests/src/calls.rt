@@ -38,8 +38,6 @@ pub enum Call {
     IsEmpty,
     /// Whether there is room for so many pairs.
     HasRoom(usize),
-    /// Whether there is no room at all.
-    HasNoRoom,
     /// Gives up the room that no pair needs.
     ShrinkToFit,
 }
@@ -113,7 +111,6 @@ where
         Call::Len => Answer::Number(map.len(me) as u64),
         Call::IsEmpty => Answer::Flag(map.is_empty(me)),
         Call::HasRoom(pairs) => Answer::Flag(map.capacity(me) >= pairs),
-        Call::HasNoRoom => Answer::Flag(map.capacity(me) == 0),
         Call::ShrinkToFit => Answer::Flag(map.shrink_to_fit(me).is_ok()),
     }
 }

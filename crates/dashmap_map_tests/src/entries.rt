@@ -5,6 +5,7 @@ use crate::keyed::Keyed;
 use crate::tables::{Row, check};
 use crate::tries::Try;
 use dashmap_map::mapref::entry::Entry;
+use dashmap_map::mapref::one::RefMut;
 use lock_api_raw::RawRwLock;
 use std::alloc::Allocator;
 use std::hash::BuildHasher;
@@ -42,6 +43,14 @@ pub enum Place {
     Take(u64),
 }
 
+/// The value that a guard lends.
+fn told<Q: RawRwLock, A: Allocator>(guard: RefMut<'_, '_, u64, u64, Q, A>) -> Answer
+where
+    Q::Runtime: Wait,
+{
+    Answer::Number(*guard)
+}
+
 /// Enters the place of a key.
 pub fn enter<S: BuildHasher, Q: RawRwLock, A: Allocator + Clone>(
     map: &Numbers<S, Q, A>,
@@ -53,13 +62,16 @@ where
     Q::Runtime: Wait,
 {
     match place {
-        Place::OrInsert(_)
-        | Place::OrInsertWith(_)
-        | Place::AddTo(_)
-        | Place::AndModify(_, _)
-        | Place::OrTryInsertWith(_)
-        | Place::OrDefault => enter_or_add(map, key, place, me),
-        _ => enter_by_kind(map, key, place, me),
+        Place::Insert(_) | Place::InsertEntry(_) | Place::IntoKey => {
+            enter_any(map, key, place, me)
+        }
+        Place::VacantInsert(_) | Place::VacantInsertEntry(_) => {
+            enter_vacant(map, key, place, me)
+        }
+        Place::Get | Place::Replace(_) | Place::ReplaceEntry(_) | Place::Take(_) => {
+            enter_occupied(map, key, place, me)
+        }
+        _ => enter_or_add(map, key, place, me),
     }
 }
 
@@ -78,10 +90,10 @@ where
         Err(key) => return Answer::Refused(key),
     };
     match place {
-        Place::OrInsert(value) => Answer::Number(*entry.or_insert(value)),
+        Place::OrInsert(value) => told(entry.or_insert(value)),
         Place::OrInsertWith(value) => {
             let guard = entry.or_insert_with(|| value);
-            Answer::Pair(*guard.key(), *guard)
+            Answer::Pair(*guard.key(), *guard.value())
         }
         Place::AddTo(by) => {
             let mut guard = entry.or_insert(0);
@@ -90,20 +102,20 @@ where
         }
         Place::AndModify(by, value) => {
             let entry = entry.and_modify(|old| *old = old.wrapping_add(by));
-            Answer::Number(*entry.or_insert(value))
+            told(entry.or_insert(value))
         }
         Place::OrTryInsertWith(error) => {
             match entry.or_try_insert_with(|| Err::<u64, u64>(error)) {
-                Ok(guard) => Answer::Number(*guard),
+                Ok(guard) => told(guard),
                 Err(error) => Answer::Refused(error),
             }
         }
-        _ => Answer::Number(*entry.or_default()),
+        _ => told(entry.or_default()),
     }
 }
 
-/// Enters a place by a call on what is found there.
-fn enter_by_kind<S: BuildHasher, Q: RawRwLock, A: Allocator + Clone>(
+/// Enters a place by a call that puts a pair in or gives the key.
+fn enter_any<S: BuildHasher, Q: RawRwLock, A: Allocator + Clone>(
     map: &Numbers<S, Q, A>,
     key: u64,
     place: Place,
@@ -116,37 +128,64 @@ where
         Ok(entry) => entry,
         Err(key) => return Answer::Refused(key),
     };
-    match (place, entry) {
-        (Place::Insert(value), entry) => Answer::Number(*entry.insert(value)),
-        (Place::InsertEntry(value), entry) => match entry.insert_entry(value) {
+    match place {
+        Place::Insert(value) => told(entry.insert(value)),
+        Place::InsertEntry(value) => match entry.insert_entry(value) {
             Ok(entry) => Answer::Number(*entry.get()),
             Err(_) => Answer::Refused(key),
         },
-        (Place::VacantInsert(value), Entry::Vacant(vacant)) => {
-            Answer::Number(*vacant.insert(value))
-        }
-        (Place::VacantInsertEntry(value), Entry::Vacant(vacant)) => {
-            match vacant.insert_entry(value) {
-                Ok(entry) => Answer::Number(*entry.get()),
-                Err(_) => Answer::Refused(key),
-            }
-        }
-        (Place::Replace(value), Entry::Occupied(mut occupied)) => {
-            Answer::Number(occupied.insert(value))
-        }
-        (Place::Get, Entry::Occupied(occupied)) => {
-            Answer::Pair(*occupied.key(), *occupied.get())
-        }
-        (Place::ReplaceEntry(value), Entry::Occupied(occupied)) => {
-            Answer::of_pair(Some(occupied.replace_entry(value)))
-        }
-        (Place::Take(value), Entry::Occupied(mut occupied)) => {
+        _ => Answer::Number(entry.into_key()),
+    }
+}
+
+/// Enters a place where nothing is.
+fn enter_vacant<S: BuildHasher, Q: RawRwLock, A: Allocator + Clone>(
+    map: &Numbers<S, Q, A>,
+    key: u64,
+    place: Place,
+    me: &mut Q::Party,
+) -> Answer
+where
+    Q::Runtime: Wait,
+{
+    let vacant = match map.entry(key, me) {
+        Ok(Entry::Vacant(vacant)) => vacant,
+        Ok(Entry::Occupied(_)) => return Answer::Flag(false),
+        Err(key) => return Answer::Refused(key),
+    };
+    match place {
+        Place::VacantInsertEntry(value) => match vacant.insert_entry(value) {
+            Ok(entry) => Answer::Number(*entry.get()),
+            Err(_) => Answer::Refused(key),
+        },
+        Place::VacantInsert(value) => told(vacant.insert(value)),
+        _ => Answer::Absent,
+    }
+}
+
+/// Enters a place where a pair is.
+fn enter_occupied<S: BuildHasher, Q: RawRwLock, A: Allocator + Clone>(
+    map: &Numbers<S, Q, A>,
+    key: u64,
+    place: Place,
+    me: &mut Q::Party,
+) -> Answer
+where
+    Q::Runtime: Wait,
+{
+    let mut occupied = match map.entry(key, me) {
+        Ok(Entry::Occupied(occupied)) => occupied,
+        Ok(Entry::Vacant(_)) => return Answer::Absent,
+        Err(key) => return Answer::Refused(key),
+    };
+    match place {
+        Place::Replace(value) => Answer::Number(occupied.insert(value)),
+        Place::ReplaceEntry(value) => Answer::of_pair(Some(occupied.replace_entry(value))),
+        Place::Take(value) => {
             *occupied.get_mut() = value;
             Answer::of_pair(Some(occupied.remove_entry()))
         }
-        (Place::IntoKey, entry) => Answer::Number(entry.into_key()),
-        (_, Entry::Vacant(_)) => Answer::Absent,
-        (_, Entry::Occupied(_)) => Answer::Flag(false),
+        _ => Answer::Pair(*occupied.key(), *occupied.get()),
     }
 }
 

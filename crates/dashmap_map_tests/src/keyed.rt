@@ -43,14 +43,7 @@ where
     match call {
         Keyed::Insert(key, value) => Answer::of_insertion(map.insert(key, value, me)),
         Keyed::Get(key) => read(map, key, me),
-        Keyed::GetPair(key) => match map.get(&key, me) {
-            Some(guard) if *guard.value() == *guard.pair().1 => Answer::Pair(
-                *guard.pair().0,
-                *guard.value(),
-            ),
-            Some(_) => Answer::Flag(false),
-            None => Answer::Absent,
-        },
+        Keyed::GetPair(key) => read_pair(map, key, me),
         Keyed::GetMut(key, value) => write(map, key, value, me),
         Keyed::View(key) => Answer::of_value(map.view(&key, |_, value| *value, me)),
         Keyed::ViewIs(key, sought) => {
@@ -91,6 +84,26 @@ where
     match map.get(&key, me) {
         Some(guard) => Answer::Pair(*guard.key(), *guard),
         None => Answer::Absent,
+    }
+}
+
+/// The pair that a shared guard lends as one.
+fn read_pair<S: BuildHasher, Q: RawRwLock, A: Allocator>(
+    map: &Numbers<S, Q, A>,
+    key: u64,
+    me: &mut Q::Party,
+) -> Answer
+where
+    Q::Runtime: Wait,
+{
+    let Some(guard) = map.get(&key, me) else {
+        return Answer::Absent;
+    };
+    let (key, value) = guard.pair();
+    if *value == *guard.value() {
+        Answer::Pair(*key, *value)
+    } else {
+        Answer::Flag(false)
     }
 }
 

@@ -141,13 +141,8 @@ fn a_map_takes_a_hasher(rt: HostRuntime) -> Result<(), Fail> {
     )?;
     run(&map, TAKES_TWO, &mut 1)?;
     let hasher = RandomState::new(&rt)?;
-    let map: Random<HostRuntime> = DashMap::with_hasher_and_shard_amount(
-        rt.alloc(),
-        hasher,
-        32,
-        rt,
-    )?;
-    run(&map, TAKES_TWO, &mut 1)
+    let made = DashMap::with_hasher_and_shard_amount(rt.alloc(), hasher, 32, rt);
+    has_shards(made.map_err(NewFault::Map), 32, 0)
 }
 
 #[test]

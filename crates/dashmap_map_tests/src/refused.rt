@@ -18,9 +18,14 @@ use std::test::Fail;
 /// A map in a heap.
 type Small<'h, R> = Numbers<SpreadState, PackedLock<R>, &'h LocalHeap>;
 
-/// A map of two shards in that heap.
-fn small<'h, R: Copy + Drop>(rt: R, heap: &'h LocalHeap) -> Result<Small<'h, R>, MapFault> {
-    DashMap::with_hasher_and_shard_amount(heap, SpreadState, 2, rt)
+/// A map in that heap.
+fn small<'h, R: Copy + Drop>(
+    rt: R,
+    heap: &'h LocalHeap,
+    capacity: usize,
+    shards: usize,
+) -> Result<Small<'h, R>, MapFault> {
+    DashMap::with_capacity_and_hasher_and_shard_amount(heap, capacity, SpreadState, shards, rt)
 }
 
 /// Whether a call answers this.
@@ -49,7 +54,7 @@ fn a_refused_insertion_hands_the_pair_back(rt: HostRuntime) -> Result<(), Fail> 
     let (mut unmade, mut refused) = (false, false);
     for size in 0..60 {
         let heap = LocalHeap::new(rt.alloc(), size * 64)?;
-        match small(rt, &heap) {
+        match small(rt, &heap, 0, 2) {
             Ok(map) => {
                 let count = filled(&map, 12);
                 if count < 12 {
@@ -80,7 +85,7 @@ fn a_refused_entry_hands_the_key_back(rt: HostRuntime) -> Result<(), Fail> {
     let (mut refused, mut entered) = (false, false);
     for size in 0..60 {
         let heap = LocalHeap::new(rt.alloc(), size * 64)?;
-        let Ok(map) = small(rt, &heap) else {
+        let Ok(map) = small(rt, &heap, 0, 2) else {
             continue;
         };
         let count = filled(&map, 2);
@@ -108,7 +113,7 @@ fn the_owner_is_refused_alike(rt: HostRuntime) -> Result<(), Fail> {
     let (mut refused, mut unreserved, mut reserved) = (false, false, false);
     for size in 0..60 {
         let heap = LocalHeap::new(rt.alloc(), size * 64)?;
-        let Ok(mut map) = small(rt, &heap) else {
+        let Ok(mut map) = small(rt, &heap, 0, 2) else {
             continue;
         };
         let count = filled(&map, 3);
@@ -141,10 +146,14 @@ fn the_owner_is_refused_alike(rt: HostRuntime) -> Result<(), Fail> {
     Ok(())
 }
 
-/// Small blocks that take up what a heap still has.
-fn filling<'h>(alloc: Global, heap: &'h LocalHeap) -> Result<Vec<Vec<u8, &'h LocalHeap>>, Fail> {
+/// As many small blocks as are asked for, or as a heap still has.
+fn filling<'h>(
+    alloc: Global,
+    heap: &'h LocalHeap,
+    most: u64,
+) -> Result<Vec<Vec<u8, &'h LocalHeap>>, Fail> {
     let mut blocks = Vec::new(alloc);
-    for _ in 0..400 {
+    for _ in 0..most {
         match Vec::with_capacity(heap, 16) {
             Ok(block) => blocks.push(block)?,
             Err(_) => break,
@@ -158,18 +167,15 @@ fn a_refused_shrink_keeps_the_pairs(rt: HostRuntime) -> Result<(), Fail> {
     let (mut refused, mut done) = (false, false);
     for size in 8..80 {
         let heap = LocalHeap::new(rt.alloc(), size * 64)?;
-        let Ok(map) = small(rt, &heap) else {
+        let Ok(map) = small(rt, &heap, 0, 2) else {
             continue;
         };
         let count = filled(&map, 24);
         let gone = call_many(&map, Many::Remove(2, count, 0), &mut 1);
         assert!(rt; gone == count.saturating_sub(2), "of {size}");
         let room = map.capacity(&mut 1);
-        let blocks = if size % 2 == 0 {
-            Some(filling(rt.alloc(), &heap)?)
-        } else {
-            None
-        };
+        let most = if size % 2 == 0 { 400 } else { 0 };
+        let blocks = filling(rt.alloc(), &heap, most)?;
         if answers(&map, Call::ShrinkToFit, Answer::Flag(true)) {
             done = true;
         } else {
@@ -193,14 +199,7 @@ fn a_map_is_refused_for_its_amount_first(rt: HostRuntime) -> Result<(), Fail> {
         (usize::MAX, 4, MapFault::CapacityOverflow),
         (0, 2, MapFault::NoMemory),
     ] {
-        let made: Result<Small<'_, HostRuntime>, MapFault> =
-            DashMap::with_capacity_and_hasher_and_shard_amount(
-                &heap,
-                capacity,
-                SpreadState,
-                shards,
-                rt,
-            );
+        let made = small(rt, &heap, capacity, shards);
         assert!(rt; made.err() == Some(fault), "of {shards}");
     }
     let made: Result<Spun<u64, u64, HostRuntime>, MapFault> = DashMap::with_hasher(
@@ -218,7 +217,7 @@ fn each_item_is_refused_in_turn(rt: HostRuntime) -> Result<(), Fail> {
     let (mut at_first, mut at_second, mut never) = (false, false, false);
     for size in 0..160 {
         let heap = LocalHeap::new(rt.alloc(), size * 32)?;
-        let Ok(map) = small(rt, &heap) else {
+        let Ok(map) = small(rt, &heap, 0, 2) else {
             continue;
         };
         if filled(&map, 2) < 2 {

@@ -32,8 +32,10 @@ pub enum Hold {
     LetDown(u64, u64),
     /// The place of a key.
     Place(u64),
-    /// The one item of a walk that reads, once the walk is over.
-    Item,
+    /// The guard of a key that was put in with 0 where it wasn't there.
+    Added(u64),
+    /// The one item of a walk that reads, which has this value, once the walk is over.
+    Item(u64),
     /// A walk that writes, after so many steps.
     Walk(u32),
 }
@@ -92,8 +94,15 @@ where
             Ok(_entry) => call_at_once(map, call),
             Err(key) => Answer::Refused(key),
         },
+        Hold::Added(key) => match map.entry(key, me) {
+            Ok(entry) => {
+                let _guard = entry.or_insert(0);
+                call_at_once(map, call)
+            }
+            Err(key) => Answer::Refused(key),
+        },
         Hold::LetDown(key, value) => call_beside_one_let_down(map, key, value, call, me),
-        Hold::Item => call_beside_item(map, call, me),
+        Hold::Item(value) => call_beside_item(map, value, call, me),
         Hold::Walk(steps) => call_beside_writing_walk(map, steps, call, me),
     }
 }
@@ -127,6 +136,7 @@ where
 /// Makes the call beside the one item of a walk that is over.
 fn call_beside_item<S: BuildHasher, Q: RawRwLock, A: Allocator + Clone>(
     map: &Numbers<S, Q, A>,
+    value: u64,
     call: Try,
     me: &mut Q::Party,
 ) -> Answer
@@ -134,7 +144,7 @@ where
     Q::Runtime: Wait,
 {
     let mut walk = map.iter(me);
-    let Some(Ok(_pair)) = walk.next() else {
+    let Some(Ok(pair)) = walk.next() else {
         return Answer::Absent;
     };
     let is_over = walk.next().is_none();
@@ -187,6 +197,8 @@ const BESIDE_GUARDS: &[Row] = &[
     (Call::Beside(Hold::Place(1), Try::Get(1)), Answer::Locked),
     (Call::Beside(Hold::Place(1), Try::Entry(1)), Answer::Locked),
     (Call::Try(Try::GetMut(1, 22)), Answer::Number(22)),
+    (Call::Beside(Hold::Added(3), Try::Get(3)), Answer::Locked),
+    (Call::Key(Keyed::Remove(3)), Answer::Pair(3, 0)),
 ];
 
 #[test]
@@ -211,10 +223,16 @@ fn a_guard_that_is_let_down_keeps_its_hold(rt: HostRuntime) -> Result<(), Fail> 
 }
 
 const BESIDE_AN_ITEM: &[Row] = &[
-    (Call::Key(Keyed::Insert(0, 1000)), Answer::Absent),
-    (Call::Beside(Hold::Item, Try::GetMut(0, 7)), Answer::Locked),
-    (Call::Beside(Hold::Item, Try::Get(0)), Answer::Number(1000)),
-    (Call::Try(Try::GetMut(0, 1000)), Answer::Number(1000)),
+    (Call::Key(Keyed::Insert(0, 10)), Answer::Absent),
+    (
+        Call::Beside(Hold::Item(10), Try::GetMut(0, 7)),
+        Answer::Locked,
+    ),
+    (
+        Call::Beside(Hold::Item(10), Try::Get(0)),
+        Answer::Number(10),
+    ),
+    (Call::Try(Try::GetMut(0, 10)), Answer::Number(10)),
 ];
 
 #[test]

@@ -21,6 +21,7 @@ pub enum Walk {
     RetainAll,
     /// Adds to each value.
     AlterAll(u64),
+    /// Answers whether there is no more room than before.
     Clear,
     /// A walk that reads, and looks for values that are so much more than their keys.
     Iter(u64),
@@ -45,8 +46,9 @@ where
             Answer::Done
         }
         Walk::Clear => {
+            let room = map.capacity(me);
             map.clear(me);
-            Answer::Done
+            Answer::Flag(map.capacity(me) <= room)
         }
         Walk::Iter(more) => read_each(map, more, me),
         Walk::IterMut(by) => write_each(map, by, me),
@@ -96,7 +98,7 @@ where
     Answer::Number(met)
 }
 
-/// Reads each pair by a walk that lends it, up to an item that is refused.
+/// Reads each pair by a walk that lends it. Where one item is refused it answers how many were lent.
 fn read_each<S: BuildHasher, Q: RawRwLock, A: Allocator + Clone>(
     map: &Numbers<S, Q, A>,
     more: u64,
@@ -105,17 +107,23 @@ fn read_each<S: BuildHasher, Q: RawRwLock, A: Allocator + Clone>(
 where
     Q::Runtime: Wait,
 {
-    let (mut met, mut sum, mut right) = (0u64, 0u64, 0u64);
+    let (mut met, mut sum, mut right, mut refused) = (0u64, 0u64, 0u64, 0u64);
     for item in map.iter(me) {
-        let Ok(pair) = item else {
-            return Answer::Refused(met);
-        };
-        let key = *pair.key();
-        met = met.wrapping_add(1);
-        sum = sum.wrapping_add(key);
-        right = right.wrapping_add(u64::from(*pair == key.wrapping_add(more)));
+        match item {
+            Ok(pair) => {
+                let key = *pair.key();
+                met = met.wrapping_add(1);
+                sum = sum.wrapping_add(key);
+                right = right.wrapping_add(u64::from(*pair == key.wrapping_add(more)));
+            }
+            Err(_) => refused = refused.wrapping_add(1),
+        }
     }
-    Answer::Met(met, sum, right)
+    match refused {
+        0 => Answer::Met(met, sum, right),
+        1 => Answer::Refused(met),
+        _ => Answer::Flag(false),
+    }
 }
 
 /// How many pairs a walk that writes is asked for at most.
@@ -180,13 +188,13 @@ fn each_pair_is_lent_once(rt: HostRuntime) -> Result<(), Fail> {
 const CLEARED: &[Row] = &[
     (Call::Many(Many::Insert(0, 100, 0)), Answer::Number(100)),
     (Call::HasRoom(100), Answer::Flag(true)),
-    (Call::Walk(Walk::Clear), Answer::Done),
+    (Call::Walk(Walk::Clear), Answer::Flag(true)),
     (Call::IsEmpty, Answer::Flag(true)),
     (Call::Key(Keyed::Insert(7, 7)), Answer::Absent),
     (Call::Len, Answer::Number(1)),
-    (Call::Walk(Walk::Clear), Answer::Done),
+    (Call::Walk(Walk::Clear), Answer::Flag(true)),
     (Call::ShrinkToFit, Answer::Flag(true)),
-    (Call::HasNoRoom, Answer::Flag(true)),
+    (Call::HasRoom(1), Answer::Flag(false)),
 ];
 
 #[test]

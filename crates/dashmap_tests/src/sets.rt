@@ -144,7 +144,7 @@ where
     }
 }
 
-/// How many keys a walk lends, and their sum. It ends at an item that is refused.
+/// How many keys a walk lends, and their sum. Where one item is refused it answers how many were lent.
 fn met<S: BuildHasher, Q: RawRwLock, A: Allocator + Clone>(
     set: &Numbers<S, Q, A>,
     me: &mut Q::Party,
@@ -152,16 +152,22 @@ fn met<S: BuildHasher, Q: RawRwLock, A: Allocator + Clone>(
 where
     Q::Runtime: Wait,
 {
-    let (mut count, mut sum) = (0u64, 0u64);
+    let (mut count, mut sum, mut wrong, mut refused) = (0u64, 0u64, 0u64, 0u64);
     for item in set.iter(me) {
         match item {
-            Ok(key) if *key == *key.key() => sum = sum.wrapping_add(*key),
-            Ok(_) => return Answer::Flag(false),
-            Err(_) => return Answer::Refused(count),
+            Ok(key) => {
+                count = count.wrapping_add(1);
+                sum = sum.wrapping_add(*key);
+                wrong = wrong.wrapping_add(u64::from(*key != *key.key()));
+            }
+            Err(_) => refused = refused.wrapping_add(1),
         }
-        count = count.wrapping_add(1);
     }
-    Answer::Met(count, sum)
+    match (wrong, refused) {
+        (0, 0) => Answer::Met(count, sum),
+        (0, 1) => Answer::Refused(count),
+        _ => Answer::Flag(false),
+    }
 }
 
 /// Puts in the keys below a number.
