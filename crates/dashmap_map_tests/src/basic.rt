@@ -3,11 +3,8 @@
 use crate::calls::{Answer, Call};
 use crate::keyed::Keyed;
 use crate::many::Many;
-use crate::tables::{Row, check, map_of};
+use crate::tables::{Row, Spun, check, map_of};
 use crate::tries::Try;
-use dashmap_map::DashMap;
-use dashmap_table::SpreadState;
-use lock_api_spin::PackedLock;
 use std::alloc::Global;
 use std::string::String;
 use std::sync::Wait;
@@ -95,12 +92,11 @@ struct Large {
     byte: u8,
 }
 
+/// A map of such values.
+type Larges<R> = Spun<u8, Large, R>;
+
 /// Whether the value of a key has this text, and the key as its byte.
-fn has<R: Wait + Drop>(
-    map: &DashMap<u8, Large, SpreadState, PackedLock<R>>,
-    key: u8,
-    text: &str,
-) -> bool {
+fn has<R: Wait + Drop>(map: &Larges<R>, key: u8, text: &str) -> bool {
     match map.get(&key, &mut 1) {
         Some(guard) => guard.text.as_str() == text && guard.byte == key,
         None => false,
@@ -108,11 +104,7 @@ fn has<R: Wait + Drop>(
 }
 
 /// Puts in the value of a key, and tells whether it is new and found.
-fn put<R: Wait + Drop>(
-    map: &DashMap<u8, Large, SpreadState, PackedLock<R>>,
-    alloc: Global,
-    byte: u8,
-) -> Result<bool, Fail> {
+fn put<R: Wait + Drop>(map: &Larges<R>, alloc: Global, byte: u8) -> Result<bool, Fail> {
     let large = Large {
         text: format!(in alloc; "{byte}")?,
         byte,

@@ -46,12 +46,10 @@ where
         Keyed::GetPair(key) => read_pair(map, key, me),
         Keyed::GetMut(key, value) => write(map, key, value, me),
         Keyed::View(key) => Answer::of_value(map.view(&key, |_, value| *value, me)),
-        Keyed::ViewIs(key, sought) => {
-            match map.view(&key, |stored, value| *stored == key && *value == sought, me) {
-                Some(flag) => Answer::Flag(flag),
-                None => Answer::Absent,
-            }
-        }
+        Keyed::ViewIs(key, sought) => match map.view(&key, |_, value| *value == sought, me) {
+            Some(flag) => Answer::Flag(flag),
+            None => Answer::Absent,
+        },
         Keyed::ContainsKey(key) => Answer::Flag(map.contains_key(&key, me)),
         Keyed::Remove(key) => Answer::of_pair(map.remove(&key, me)),
         Keyed::RemoveIf(key, sought) => {

@@ -78,10 +78,9 @@ fn does<Q: RawRwLock<Party = ThreadData<Global>>>(
 where
     Q::Runtime: Wait,
 {
-    let (work, turns) = job;
     let mut right = true;
-    for turn in 0..turns {
-        right &= work.is_right(make(map, work.call(turn), &mut me));
+    for turn in 0..job.1 {
+        right &= job.0.is_right(make(map, job.0.call(turn), &mut me));
     }
     right
 }
@@ -101,8 +100,7 @@ where
     Some(sum)
 }
 
-/// Has four threads share a map of 64 zeros, each with a job. It answers what the numbers add up to, if each call was answered as it is to
-/// be.
+/// Has four threads share a map of 64 zeros. It answers what the numbers add up to, if each call was answered as it is to be.
 fn shared<R: Wait + Threads + Sync + Copy>(
     rt: R,
     alloc: Global,
