@@ -16,7 +16,7 @@ use std::sync::Wait;
 pub type Numbers<S, Q, A> = DashMap<u64, u64, S, Q, A>;
 
 /// A call on a map of numbers.
-#[derive(Clone, Copy, Debug)]
+#[derive(Clone, Copy)]
 pub enum Call {
     /// A call on one key.
     Key(Keyed),
@@ -61,8 +61,8 @@ pub enum Answer {
     Number(u64),
     /// A key and its value.
     Pair(u64, u64),
-    /// How many pairs a walk met, the sum of their keys, and how many of them had the value that was looked for.
-    Met(u64, u64, u64),
+    /// Three numbers. Of a walk: how many pairs it met, the sum of their keys, and how many had the value that was looked for.
+    Three(u64, u64, u64),
 }
 
 impl Answer {

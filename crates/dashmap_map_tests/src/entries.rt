@@ -13,7 +13,7 @@ use std::sync::Wait;
 use std::test::Fail;
 
 /// What is done at a place, by its name there. The answer is the value that stands there afterwards, where nothing else is said.
-#[derive(Clone, Copy, Debug)]
+#[derive(Clone, Copy)]
 pub enum Place {
     OrInsert(u64),
     /// Answers the pair that the guard lends.

@@ -7,13 +7,13 @@ use std::hash::BuildHasher;
 use std::sync::Wait;
 
 /// A call on one key, by its name in the map.
-#[derive(Clone, Copy, Debug)]
+#[derive(Clone, Copy)]
 pub enum Keyed {
     /// Answers the value that was there.
     Insert(u64, u64),
     /// Answers the pair that the guard lends.
     Get(u64),
-    /// Answers the pair that the guard lends as one.
+    /// Answers the key and the value that the guard lends as one, and the value alone.
     GetPair(u64),
     /// Writes this value by the guard, and answers the value that was there.
     GetMut(u64, u64),
@@ -85,7 +85,7 @@ where
     }
 }
 
-/// The pair that a shared guard lends as one.
+/// The pair that a shared guard lends as one. Then the value that it lends alone.
 fn read_pair<S: BuildHasher, Q: RawRwLock, A: Allocator>(
     map: &Numbers<S, Q, A>,
     key: u64,
@@ -94,14 +94,12 @@ fn read_pair<S: BuildHasher, Q: RawRwLock, A: Allocator>(
 where
     Q::Runtime: Wait,
 {
-    let Some(guard) = map.get(&key, me) else {
-        return Answer::Absent;
-    };
-    let (key, value) = guard.pair();
-    if *value == *guard.value() {
-        Answer::Pair(*key, *value)
-    } else {
-        Answer::Flag(false)
+    match map.get(&key, me) {
+        Some(guard) => {
+            let (key, value) = guard.pair();
+            Answer::Three(*key, *value, *guard.value())
+        }
+        None => Answer::Absent,
     }
 }
 

@@ -8,7 +8,7 @@ use std::hash::BuildHasher;
 use std::sync::Wait;
 
 /// Calls on each key from the first number up to below the second. Each counts the answers that were as they are to be.
-#[derive(Clone, Copy, Debug)]
+#[derive(Clone, Copy)]
 pub enum Many {
     /// Puts in new keys, each with so much more than itself.
     Insert(u64, u64, u64),

@@ -9,7 +9,7 @@ use std::sync::Wait;
 use std::test::Fail;
 
 /// A call by an operator.
-#[derive(Clone, Copy, Debug)]
+#[derive(Clone, Copy)]
 pub enum Operator {
     /// `map << (key, value)` puts a pair in.
     Shl(u64, u64),

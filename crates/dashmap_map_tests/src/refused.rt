@@ -228,7 +228,7 @@ fn each_item_is_refused_in_turn(rt: HostRuntime) -> Result<(), Fail> {
             Answer::Refused(1) => at_second = true,
             answer => {
                 never = true;
-                assert!(rt; answer == Answer::Met(2, 1, 2), "of {size}");
+                assert!(rt; answer == Answer::Three(2, 1, 2), "of {size}");
             }
         }
         assert!(rt; has_all(&map, 2), "of {size}");

@@ -15,11 +15,10 @@ use std::test::Fail;
 /// A call, and what it is to answer.
 pub type Row = (Call, Answer);
 
-/// A row of a table that was answered otherwise.
+/// The number of a row of a table, the first of which is 0, and what was answered in place of its answer.
 #[derive(Clone, Copy, Debug)]
 struct Wrong {
     row: usize,
-    call: Call,
     answer: Answer,
 }
 
@@ -36,7 +35,7 @@ where
         let (call, wanted) = rows[row];
         let answer = make(map, call, me);
         if answer != wanted {
-            return Err(Fail::from(Wrong { row, call, answer }));
+            return Err(Fail::from(Wrong { row, answer }));
         }
     }
     Ok(())

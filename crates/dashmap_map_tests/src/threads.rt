@@ -61,7 +61,7 @@ impl Work {
             Work::Enter => matches!(answer, Answer::Number(_)),
             Work::Alter | Work::AlterAll => answer == Answer::Done,
             Work::WriteEach | Work::KeepAll => answer == Answer::Number(KEYS),
-            Work::ReadEach => matches!(answer, Answer::Met(KEYS, 2016, _)),
+            Work::ReadEach => matches!(answer, Answer::Three(KEYS, 2016, _)),
         }
     }
 }

@@ -12,7 +12,7 @@ use std::sync::Wait;
 use std::test::Fail;
 
 /// A call that doesn't wait: `try_get`, `try_get_mut` or `try_entry`.
-#[derive(Clone, Copy, Debug)]
+#[derive(Clone, Copy)]
 pub enum Try {
     Get(u64),
     /// Writes this value by the guard, and answers the value that was there.
@@ -22,7 +22,7 @@ pub enum Try {
 }
 
 /// What holds a shard.
-#[derive(Clone, Copy, Debug)]
+#[derive(Clone, Copy)]
 pub enum Hold {
     /// A guard of a key that reads.
     Reader(u64),

@@ -13,7 +13,7 @@ use std::sync::Wait;
 use std::test::Fail;
 
 /// A walk over all pairs, by its name in the map.
-#[derive(Clone, Copy, Debug)]
+#[derive(Clone, Copy)]
 pub enum Walk {
     /// Adds to each value, and keeps the pairs whose key leaves this rest where it is divided by two.
     Retain(u64, u64),
@@ -76,7 +76,7 @@ where
         },
         me,
     );
-    Answer::Met(met, sum, 0)
+    Answer::Three(met, sum, 0)
 }
 
 /// Keeps all pairs.
@@ -120,7 +120,7 @@ where
         }
     }
     match refused {
-        0 => Answer::Met(met, sum, right),
+        0 => Answer::Three(met, sum, right),
         1 => Answer::Refused(met),
         _ => Answer::Flag(false),
     }
@@ -150,17 +150,20 @@ where
 
 const MET_ONCE: &[Row] = &[
     (Call::Many(Many::Insert(0, 100, 0)), Answer::Number(100)),
-    (Call::Walk(Walk::Retain(0, 1000)), Answer::Met(100, 4950, 0)),
+    (
+        Call::Walk(Walk::Retain(0, 1000)),
+        Answer::Three(100, 4950, 0),
+    ),
     (Call::Len, Answer::Number(50)),
     (Call::Walk(Walk::RetainAll), Answer::Number(50)),
-    (Call::Walk(Walk::Iter(1000)), Answer::Met(50, 2450, 50)),
+    (Call::Walk(Walk::Iter(1000)), Answer::Three(50, 2450, 50)),
     (Call::Key(Keyed::View(0)), Answer::Number(1000)),
     (Call::Key(Keyed::View(1)), Answer::Absent),
     (Call::Key(Keyed::View(98)), Answer::Number(1098)),
     (Call::Key(Keyed::View(99)), Answer::Absent),
     (Call::Walk(Walk::AlterAll(1)), Answer::Done),
-    (Call::Walk(Walk::Iter(1001)), Answer::Met(50, 2450, 50)),
-    (Call::Walk(Walk::Retain(1, 0)), Answer::Met(50, 2450, 0)),
+    (Call::Walk(Walk::Iter(1001)), Answer::Three(50, 2450, 50)),
+    (Call::Walk(Walk::Retain(1, 0)), Answer::Three(50, 2450, 0)),
     (Call::IsEmpty, Answer::Flag(true)),
 ];
 
@@ -170,12 +173,12 @@ fn each_pair_is_met_once(rt: HostRuntime) -> Result<(), Fail> {
 }
 
 const LENT: &[Row] = &[
-    (Call::Walk(Walk::Iter(0)), Answer::Met(0, 0, 0)),
+    (Call::Walk(Walk::Iter(0)), Answer::Three(0, 0, 0)),
     (Call::Walk(Walk::IterMut(1)), Answer::Number(0)),
     (Call::Many(Many::Insert(0, 100, 1000)), Answer::Number(100)),
-    (Call::Walk(Walk::Iter(1000)), Answer::Met(100, 4950, 100)),
+    (Call::Walk(Walk::Iter(1000)), Answer::Three(100, 4950, 100)),
     (Call::Walk(Walk::IterMut(1)), Answer::Number(100)),
-    (Call::Walk(Walk::Iter(1001)), Answer::Met(100, 4950, 100)),
+    (Call::Walk(Walk::Iter(1001)), Answer::Three(100, 4950, 100)),
     (Call::Many(Many::Remove(0, 100, 1001)), Answer::Number(100)),
     (Call::IsEmpty, Answer::Flag(true)),
 ];

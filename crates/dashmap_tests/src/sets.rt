@@ -12,7 +12,7 @@ use std::sync::Wait;
 use std::test::Fail;
 
 /// A call on a set of numbers, by its name in the set.
-#[derive(Clone, Copy, Debug)]
+#[derive(Clone, Copy)]
 pub enum Call {
     /// Answers whether the key is new.
     Insert(u64),
@@ -205,11 +205,10 @@ where
 /// A call, and what it is to answer.
 pub type Row = (Call, Answer);
 
-/// A row of a table that was answered otherwise.
+/// The number of a row of a table, the first of which is 0, and what was answered in place of its answer.
 #[derive(Clone, Copy, Debug)]
 struct Wrong {
     row: usize,
-    call: Call,
     answer: Answer,
 }
 
@@ -226,7 +225,7 @@ where
         let (call, wanted) = rows[row];
         let answer = make(set, call, me);
         if answer != wanted {
-            return Err(Fail::from(Wrong { row, call, answer }));
+            return Err(Fail::from(Wrong { row, answer }));
         }
     }
     Ok(())
