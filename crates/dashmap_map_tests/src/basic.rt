@@ -1,10 +1,7 @@
 //! Calls on one key, and a map's room.
 
-use crate::calls::{Answer, Call};
-use crate::keyed::Keyed;
-use crate::many::Many;
 use crate::tables::{Row, Spun, check, map_of};
-use crate::tries::Try;
+use dashmap_calls::{Answer, Call, Keyed, Many, Try};
 use std::alloc::Global;
 use std::string::String;
 use std::sync::Wait;

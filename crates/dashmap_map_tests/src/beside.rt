@@ -1,10 +1,7 @@
 //! A map beside plain shards, over many calls.
 
-use crate::calls::{Answer, Call, Numbers, make};
-use crate::entries::Place;
-use crate::keyed::Keyed;
-use crate::many::{Many, call_many};
 use crate::tables::{map_of, parked};
+use dashmap_calls::{Answer, Call, Keyed, Many, Numbers, Place, call_many, make};
 use dashmap_table::{Shards, SpreadState};
 use lock_api_raw::RawRwLock;
 use parking_lot_core::ParkingLot;

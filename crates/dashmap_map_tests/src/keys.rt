@@ -1,9 +1,7 @@
 //! Odd keys: equal ones that differ, one that stands alone, ones that share a hash, and the least and the greatest.
 
-use crate::calls::{Answer, Call, Numbers};
-use crate::keyed::Keyed;
-use crate::many::Many;
-use crate::tables::{Row, Spun, check, map_of, run};
+use crate::tables::{Row, Spun, check, map_of};
+use dashmap_calls::{Answer, Call, Keyed, Many, Numbers, run};
 use dashmap_map::DashMap;
 use dashmap_map::mapref::entry::Entry;
 use dashmap_table::MapFault;

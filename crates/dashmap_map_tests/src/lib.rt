@@ -1,6 +1,6 @@
 //! Tests of the running map, for what no clause says: that calls answer as they do on plain shards, that a guard keeps others out until
 //! it ends, and what is refused when.
-//! A call is data ([`calls::Call`]), and so is what it answers: a case is a row of a table, which is run on a map over each kind of lock.
+//! A call is data (`dashmap_calls`), and so is what it answers: a case is a row of a table, which is run on a map over each kind of lock.
 #![tactic(auto)]
 
 #[cfg(test)]
@@ -8,17 +8,11 @@ mod basic;
 #[cfg(test)]
 mod beside;
 #[cfg(test)]
-mod calls;
-#[cfg(test)]
 mod entries;
-#[cfg(test)]
-mod keyed;
 #[cfg(test)]
 mod keys;
 #[cfg(test)]
 mod making;
-#[cfg(test)]
-mod many;
 #[cfg(test)]
 mod operators;
 #[cfg(test)]

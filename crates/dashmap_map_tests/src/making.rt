@@ -1,8 +1,7 @@
 //! How maps are made, and what they are refused as.
 
-use crate::calls::{Answer, Call, Numbers};
-use crate::keyed::Keyed;
-use crate::tables::{Row, Spun, run};
+use crate::tables::{Row, Spun};
+use dashmap_calls::{Answer, Call, Keyed, Numbers, run};
 use dashmap_map::{DashMap, NewFault};
 use dashmap_table::{MapFault, SpreadState};
 use lock_api_spin::PackedLock;

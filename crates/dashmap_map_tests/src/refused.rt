@@ -1,12 +1,7 @@
 //! Each growth of a map, and each item of a walk, refused in turn, by heaps of all small sizes.
 
-use crate::calls::{Answer, Call, Numbers, make};
-use crate::entries::Place;
-use crate::keyed::Keyed;
-use crate::many::{Many, call_many};
 use crate::tables::Spun;
-use crate::tries::Try;
-use crate::walks::Walk;
+use dashmap_calls::{Answer, Call, Keyed, Many, Numbers, Place, Try, Walk, call_many, make};
 use dashmap_map::DashMap;
 use dashmap_table::{MapFault, SpreadState};
 use linked_list_allocator::LocalHeap;

@@ -1,8 +1,7 @@
 //! A map's text, its guards' and its items', and many pairs at once.
 
-use crate::calls::{Answer, Call, make};
-use crate::keyed::Keyed;
 use crate::tables::{Spun, map_of};
+use dashmap_calls::{Answer, Call, Keyed, make};
 use dashmap_iter::LendingWalks;
 use dashmap_map::DashMap;
 use dashmap_table::{MapFault, SpreadState};

@@ -1,45 +1,16 @@
-//! Tables of calls and their answers, and the maps that they are run on.
+//! The maps that tables are run on.
 
-use crate::calls::{Answer, Call, Numbers, make};
+pub use dashmap_calls::Row;
+use dashmap_calls::{Numbers, run};
 use dashmap_map::DashMap;
 use dashmap_table::{MapFault, SpreadState};
-use lock_api_raw::RawRwLock;
 use lock_api_spin::PackedLock;
 use parking_lot_core::ParkingLot;
 use parking_lot_rwlock::LockTable;
-use std::alloc::{Allocator, Global};
-use std::hash::{BuildHasher, Hash};
+use std::alloc::Global;
+use std::hash::Hash;
 use std::sync::Wait;
 use std::test::Fail;
-
-/// A call, and what it is to answer.
-pub type Row = (Call, Answer);
-
-/// The number of a row of a table, the first of which is 0, and what was answered in place of its answer.
-#[derive(Clone, Copy, Debug)]
-struct Wrong {
-    row: usize,
-    answer: Answer,
-}
-
-/// Makes the calls of a table, and fails with the first row that is answered otherwise.
-pub fn run<S: BuildHasher, Q: RawRwLock, A: Allocator + Clone>(
-    map: &Numbers<S, Q, A>,
-    rows: &[Row],
-    me: &mut Q::Party,
-) -> Result<(), Fail>
-where
-    Q::Runtime: Wait,
-{
-    for row in 0..rows.len() {
-        let (call, wanted) = rows[row];
-        let answer = make(map, call, me);
-        if answer != wanted {
-            return Err(Fail::from(Wrong { row, answer }));
-        }
-    }
-    Ok(())
-}
 
 /// A map whose locks are words that are tried again and again.
 pub type Spun<K, V, R> = DashMap<K, V, SpreadState, PackedLock<R>>;

@@ -1,11 +1,7 @@
 //! Threads that share a map, over the locks of running threads.
 
-use crate::calls::{Answer, Call, Numbers, make};
-use crate::entries::Place;
-use crate::keyed::Keyed;
-use crate::many::{Many, call_many};
 use crate::tables::{Parked, parked};
-use crate::walks::Walk;
+use dashmap_calls::{Answer, Call, Keyed, Many, Numbers, Place, Walk, call_many, make};
 use dashmap_map::DashMap;
 use dashmap_table::{MapFault, SpreadState};
 use linked_list_allocator::LocalHeap;
@@ -107,12 +103,13 @@ fn shared<R: Wait + Threads + Sync + Copy>(
     jobs: [Job; 4],
 ) -> Result<Option<u64>, Fail> {
     let lot = ParkingLot::new(rt, alloc, 5, 7)?;
-    let table = LockTable::new(alloc, &lot, 8)?;
-    let map = parked(alloc, &table, 8)?;
     let mut me = lot.thread_data()?;
-    let mut right = call_many(&map, Many::Zero(0, KEYS), &mut me) == KEYS;
     let (one, two) = (lot.thread_data()?, lot.thread_data()?);
     let (three, four) = (lot.thread_data()?, lot.thread_data()?);
+    let table = LockTable::new(alloc, &lot, 8)?;
+    let made: Result<Parked<'_, '_, R>, MapFault> = parked(alloc, &table, 8);
+    let map = made?;
+    let mut right = call_many(&map, Many::Zero(0, KEYS), &mut me) == KEYS;
     let ended = thread::join(
         &rt,
         || thread::join(

@@ -1,7 +1,7 @@
 //! The map's calls and walks by their underscored names.
 
-use crate::calls::Numbers;
 use crate::tables::map_of;
+use dashmap_calls::Numbers;
 use dashmap_iter::walks::Walks;
 use dashmap_map::Map;
 use dashmap_table::SpreadState;

@@ -153,7 +153,11 @@ where
     Q::Runtime: Wait,
 {
     let (mut count, mut sum, mut wrong, mut refused) = (0u64, 0u64, 0u64, 0u64);
-    for item in set.iter(me) {
+    let walk = {
+        let me = &mut *me;
+        set.iter(me)
+    };
+    for item in walk {
         match item {
             Ok(key) => {
                 count = count.wrapping_add(1);
