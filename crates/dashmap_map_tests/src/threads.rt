@@ -96,6 +96,35 @@ where
     Some(sum)
 }
 
+/// A job, and what the thread that does it has.
+type Worker = (Job, ThreadData<Global>);
+
+/// Has two threads do their jobs.
+fn two_do<R: Wait + Threads + Sync>(
+    rt: &R,
+    map: &Parked<'_, '_, R>,
+    (one, my): Worker,
+    (two, their): Worker,
+) -> bool {
+    let (first, second) = thread::join(rt, || does(map, one, my), || does(map, two, their));
+    first & second
+}
+
+/// Has four threads do their jobs.
+fn four_do<R: Wait + Threads + Sync>(
+    rt: &R,
+    map: &Parked<'_, '_, R>,
+    (one, two): (Worker, Worker),
+    (three, four): (Worker, Worker),
+) -> bool {
+    let (first, second) = thread::join(
+        rt,
+        || two_do(rt, map, one, two),
+        || two_do(rt, map, three, four),
+    );
+    first & second
+}
+
 /// Has four threads share a map of 64 zeros. It answers what the numbers add up to, if each call was answered as it is to be.
 fn shared<R: Wait + Threads + Sync + Copy>(
     rt: R,
@@ -110,20 +139,12 @@ fn shared<R: Wait + Threads + Sync + Copy>(
     let made: Result<Parked<'_, '_, R>, MapFault> = parked(alloc, &table, 8);
     let map = made?;
     let mut right = call_many(&map, Many::Zero(0, KEYS), &mut me) == KEYS;
-    let ended = thread::join(
+    right &= four_do(
         &rt,
-        || thread::join(
-            &rt,
-            || does(&map, jobs[0], one),
-            || does(&map, jobs[1], two),
-        ),
-        || thread::join(
-            &rt,
-            || does(&map, jobs[2], three),
-            || does(&map, jobs[3], four),
-        ),
+        &map,
+        ((jobs[0], one), (jobs[1], two)),
+        ((jobs[2], three), (jobs[3], four)),
     );
-    right &= ended == ((true, true), (true, true));
     right &= make(&map, Call::Len, &mut me) == Answer::Number(KEYS);
     let sum = sum_of(&map, &mut me);
     right &= make(&map, Call::IsEmpty, &mut me) == Answer::Flag(true);
