@@ -1,77 +1,86 @@
-//! Calls on one key.
+//! Calls on one key, and a map's room.
 
-use crate::maps::{Map, map_of};
+use crate::tables::{Row, Spun, check, map_of};
+use dashmap_calls::{Answer, Call, Keyed, Many, Try};
+use std::alloc::Global;
 use std::string::String;
+use std::sync::Wait;
 use std::test::Fail;
+
+const IN_AND_OUT: &[Row] = &[
+    (Call::IsEmpty, Answer::Flag(true)),
+    (Call::HasRoom(1), Answer::Flag(false)),
+    (Call::Key(Keyed::Insert(0, 0)), Answer::Absent),
+    (Call::Key(Keyed::Get(0)), Answer::Pair(0, 0)),
+    (Call::Key(Keyed::GetPair(0)), Answer::Three(0, 0, 0)),
+    (Call::Key(Keyed::GetPair(1)), Answer::Absent),
+    (Call::Key(Keyed::Get(1)), Answer::Absent),
+    (Call::Key(Keyed::GetMut(1, 1)), Answer::Absent),
+    (Call::Key(Keyed::Insert(0, 9)), Answer::Number(0)),
+    (Call::Key(Keyed::GetPair(0)), Answer::Three(0, 9, 9)),
+    (Call::Len, Answer::Number(1)),
+    (Call::Key(Keyed::GetMut(0, 7)), Answer::Number(9)),
+    (Call::Key(Keyed::Remove(0)), Answer::Pair(0, 7)),
+    (Call::Key(Keyed::Remove(0)), Answer::Absent),
+    (Call::Key(Keyed::ContainsKey(0)), Answer::Flag(false)),
+    (Call::IsEmpty, Answer::Flag(true)),
+    (Call::ShrinkToFit, Answer::Flag(true)),
+    (Call::HasRoom(1), Answer::Flag(false)),
+];
 
 #[test]
 fn a_pair_is_put_in_and_taken_out(rt: HostRuntime) -> Result<(), Fail> {
-    let map: Map<u64, u64> = map_of(rt, 4)?;
-    let mut me = 1;
-    let mut right = map.is_empty(&mut me) & map.insert(0, 0, &mut me)?.is_none();
-    let guard = map.get(&0, &mut me).ok_or("gone")?;
-    right = right & (*guard == 0) & (*guard.key() == 0);
-    drop(guard);
-    right = right & (map.insert(0, 9, &mut me)? == Some(0)) & (map.len(&mut me) == 1);
-    let mut guard = map.get_mut(&0, &mut me).ok_or("gone")?;
-    *guard = 7;
-    drop(guard);
-    right = right & (map.remove(&0, &mut me) == Some((0, 7))) & !map.contains_key(&0, &mut me);
-    assert!(rt; right & map.is_empty(&mut me));
-    Ok(())
+    check(rt, rt.alloc(), 4, IN_AND_OUT)
 }
+
+const HUNDRED: &[Row] = &[
+    (Call::Many(Many::Insert(0, 100, 0)), Answer::Number(100)),
+    (Call::Many(Many::Replace(1, 100)), Answer::Number(99)),
+    (Call::Many(Many::View(1, 100, 0)), Answer::Number(99)),
+    (Call::Key(Keyed::View(0)), Answer::Number(99)),
+    (Call::Len, Answer::Number(100)),
+    (Call::Many(Many::Miss(100, 200)), Answer::Number(100)),
+];
 
 #[test]
 fn a_hundred_keys(rt: HostRuntime) -> Result<(), Fail> {
-    let map: Map<u64, u64> = map_of(rt, 8)?;
-    let mut me = 1;
-    let mut right = true;
-    for i in 0..100 {
-        let _ = map.insert(0, i, &mut me)?;
-        let _ = map.insert(i, i, &mut me)?;
-    }
-    for i in 1..100 {
-        right = right
-            & (map.view(&i, |key, value| *key == i && *value == i, &mut me) == Some(true));
-    }
-    right = right & (map.view(&0, |_, value| *value, &mut me) == Some(99));
-    assert!(rt; right & (map.len(&mut me) == 100));
-    Ok(())
+    check(rt, rt.alloc(), 8, HUNDRED)
 }
+
+const LOOKED_AT: &[Row] = &[
+    (Call::Key(Keyed::Insert(9, 50)), Answer::Absent),
+    (Call::Key(Keyed::Insert(12, 60)), Answer::Absent),
+    (Call::Key(Keyed::ViewIs(9, 50)), Answer::Flag(true)),
+    (Call::Key(Keyed::ViewIs(12, 50)), Answer::Flag(false)),
+    (Call::Key(Keyed::ViewIs(30, 50)), Answer::Absent),
+];
 
 #[test]
 fn a_closure_looks_at_a_pair(rt: HostRuntime) -> Result<(), Fail> {
-    let map: Map<u64, &'static str> = map_of(rt, 4)?;
-    let mut me = 1;
-    let _ = map.insert(9, "Potato", &mut me)?;
-    let _ = map.insert(12, "Chicken", &mut me)?;
-    let mut right = map.view(&9, |_, food| *food == "Potato", &mut me) == Some(true);
-    right = right & (map.view(&12, |_, food| *food == "Potato", &mut me) == Some(false));
-    right = right & map.view(&30, |_, _| false, &mut me).is_none();
-    assert!(rt; right);
-    Ok(())
+    check(rt, rt.alloc(), 4, LOOKED_AT)
 }
+
+const DECIDED: &[Row] = &[
+    (Call::Key(Keyed::Insert(1, 5)), Answer::Absent),
+    (Call::Key(Keyed::RemoveIf(1, 6)), Answer::Absent),
+    (Call::Key(Keyed::RemoveIf(2, 5)), Answer::Absent),
+    (Call::Key(Keyed::RemoveIfMut(1, 9, false)), Answer::Absent),
+    (Call::Key(Keyed::View(1)), Answer::Number(9)),
+    (Call::Key(Keyed::Alter(1, 9)), Answer::Done),
+    (Call::Key(Keyed::Alter(2, 9)), Answer::Done),
+    (Call::Key(Keyed::RemoveIf(1, 18)), Answer::Pair(1, 18)),
+    (Call::Key(Keyed::ContainsKey(1)), Answer::Flag(false)),
+    (Call::Key(Keyed::Insert(1, 5)), Answer::Absent),
+    (
+        Call::Key(Keyed::RemoveIfMut(1, 8, true)),
+        Answer::Pair(1, 8),
+    ),
+    (Call::Try(Try::Get(1)), Answer::Absent),
+];
 
 #[test]
 fn a_closure_decides_what_goes(rt: HostRuntime) -> Result<(), Fail> {
-    let map: Map<u64, u64> = map_of(rt, 4)?;
-    let mut me = 1;
-    let _ = map.insert(1, 5, &mut me)?;
-    let mut right = map.remove_if(&1, |_, value| *value == 6, &mut me).is_none();
-    let kept = map.remove_if_mut(
-        &1,
-        |_, value| {
-            *value = 9;
-            false
-        },
-        &mut me,
-    );
-    right = right & kept.is_none();
-    right = right & (map.view(&1, |_, value| *value, &mut me) == Some(9));
-    map.alter(&1, |_, value| value.wrapping_mul(2), &mut me);
-    right = right & (map.remove_if(&1, |_, value| *value == 18, &mut me) == Some((1, 18)));
-    assert!(rt; right & !map.contains_key(&1, &mut me));
-    Ok(())
+    check(rt, rt.alloc(), 4, DECIDED)
 }
 
 /// A value that owns memory.
@@ -81,40 +90,34 @@ struct Large {
     byte: u8,
 }
 
-#[test]
-fn values_may_own_memory(rt: HostRuntime) -> Result<(), Fail> {
-    let map: Map<u8, Large> = map_of(rt, 4)?;
-    let mut me = 1;
-    let mut right = true;
-    for i in 0..10u8 {
-        let large = Large {
-            text: format!(in rt.alloc(); "{i}")?,
-            byte: i,
-        };
-        right = right & matches!(map.insert(i, large, &mut me), Ok(None));
-        let guard = map.get(&i, &mut me).ok_or("gone")?;
-        let text = format!(in rt.alloc(); "{i}")?;
-        right = right & (guard.text == text) & (guard.byte == i);
+/// A map of such values.
+type Larges<R> = Spun<u8, Large, R>;
+
+/// Whether the value of a key has this text, and the key as its byte.
+fn has<R: Wait + Drop>(map: &Larges<R>, key: u8, text: &str) -> bool {
+    match map.get(&key, &mut 1) {
+        Some(guard) => guard.text.as_str() == text && guard.byte == key,
+        None => false,
     }
-    assert!(rt; right & (map.len(&mut me) == 10));
-    Ok(())
+}
+
+/// Puts in the value of a key, and tells whether it is new and found.
+fn put<R: Wait + Drop>(map: &Larges<R>, alloc: Global, byte: u8) -> Result<bool, Fail> {
+    let large = Large {
+        text: format!(in alloc; "{byte}")?,
+        byte,
+    };
+    let is_new = matches!(map.insert(byte, large, &mut 1), Ok(None));
+    let text = format!(in alloc; "{byte}")?;
+    Ok(is_new && has(map, byte, text.as_str()))
 }
 
 #[test]
-fn a_guard_is_narrowed_and_let_down(rt: HostRuntime) -> Result<(), Fail> {
-    let map: Map<u64, u64> = map_of(rt, 4)?;
-    let mut me = 1;
-    let _ = map.insert(1, 5, &mut me)?;
-    let mut guard = map.get_mut(&1, &mut me).ok_or("gone")?;
-    *guard = 6;
-    let guard = guard.downgrade();
-    let mut right = (*guard == 6) & map.try_get(&1).is_locked();
-    drop(guard);
-    right = right & map.try_get(&1).is_present();
-    let guard = map.get(&1, &mut me).ok_or("gone")?;
-    let text = format!(in rt.alloc(); "{:?}", *guard)?;
-    right = right & (text.as_str() == "6");
-    drop(guard);
-    assert!(rt; right & map.try_get_mut(&1).is_present());
+fn values_may_own_memory(rt: HostRuntime) -> Result<(), Fail> {
+    let map = map_of(rt, rt.alloc(), 4)?;
+    for byte in 0..10u8 {
+        assert!(rt; put(&map, rt.alloc(), byte)?, "of {byte}");
+    }
+    assert!(rt; map.len(&mut 1) == 10);
     Ok(())
 }

@@ -1,35 +1,33 @@
-//! A map beside plain shards.
+//! A map beside plain shards, over many calls.
 
-use crate::maps::{Map, map_of};
-use dashmap_map::DashMap;
+use crate::tables::{map_of, parked};
+use dashmap_calls::{Answer, Call, Keyed, Many, Numbers, Place, call_many, make};
 use dashmap_table::{Shards, SpreadState};
-use lock_api_spin::PackedLock;
-use std::alloc::Global;
+use lock_api_raw::RawRwLock;
+use parking_lot_core::ParkingLot;
+use parking_lot_rwlock::LockTable;
+use std::alloc::{Allocator, Global};
+use std::hash::BuildHasher;
 use std::sync::Wait;
 use std::test::Fail;
 
 /// Plain shards with the hasher of the tests.
 type Plain = Shards<u64, u64, SpreadState, Global>;
 
-/// Makes one of four calls on both, and tells whether they answer alike.
-fn agree_on<R: Wait + Drop>(
-    map: &DashMap<u64, u64, SpreadState, PackedLock<R>>,
-    plain: &mut Plain,
-    i: u64,
-    me: &mut u32,
-) -> Result<bool, Fail> {
-    let key = (i / 3) % 64;
-    match i % 4 {
-        0 => Ok(map.insert(key, i, me)? == plain.insert(key, i)?),
-        1 => Ok(map.view(&key, |_, value| *value, me) == value_of(plain, key)),
-        2 => Ok(map.remove(&key, me) == plain.remove(&key)),
-        _ => {
-            let there = *map.entry(key, me)?.or_insert(i);
-            if value_of(plain, key).is_none() {
-                let _ = plain.insert(key, i)?;
-            }
-            Ok(value_of(plain, key) == Some(there))
-        }
+/// How many keys there are.
+const KEYS: u64 = 64;
+
+/// The call of a number.
+fn call_of(number: u64) -> Call {
+    let key = (number / 3) % KEYS;
+    match number % 8 {
+        0 | 4 => Call::Key(Keyed::Insert(key, number)),
+        1 => Call::Key(Keyed::View(key)),
+        5 => Call::Key(Keyed::Get(key)),
+        2 => Call::Key(Keyed::Remove(key)),
+        6 => Call::Key(Keyed::ContainsKey(key)),
+        3 => Call::Entry(key, Place::OrInsert(number)),
+        _ => Call::Key(Keyed::Alter(key, number)),
     }
 }
 
@@ -40,21 +38,73 @@ fn value_of(plain: &Plain, key: u64) -> Option<u64> {
     Some(*value)
 }
 
+/// What a call answers on plain shards.
+fn answer_of(plain: &mut Plain, call: Call) -> Answer {
+    match call {
+        Call::Key(Keyed::Insert(key, value)) => Answer::of_insertion(plain.insert(key, value)),
+        Call::Key(Keyed::View(key)) => Answer::of_value(value_of(plain, key)),
+        Call::Key(Keyed::Get(key)) => Answer::of_pair(value_of(plain, key).map(|value| (
+            key, value,
+        ))),
+        Call::Key(Keyed::ContainsKey(key)) => Answer::Flag(plain.find(&key).is_some()),
+        Call::Key(Keyed::Remove(key)) => Answer::of_pair(plain.remove(&key)),
+        Call::Key(Keyed::Alter(key, by)) => {
+            if let Some(value) = value_of(plain, key) {
+                let _old = plain.insert(key, value.wrapping_add(by)).is_ok();
+            }
+            Answer::Done
+        }
+        Call::Entry(key, Place::OrInsert(value)) => {
+            if value_of(plain, key).is_none() {
+                let _is_new = plain.insert(key, value).is_ok();
+            }
+            Answer::of_value(value_of(plain, key))
+        }
+        _ => Answer::Flag(false),
+    }
+}
+
+/// The number of the first call, if any, that a map answers otherwise than plain shards do. In the end both have the same pairs.
+fn first_difference<S: BuildHasher, Q: RawRwLock, A: Allocator + Clone>(
+    map: &Numbers<S, Q, A>,
+    plain: &mut Plain,
+    me: &mut Q::Party,
+) -> Option<u64>
+where
+    Q::Runtime: Wait,
+{
+    for number in 0..10_000 {
+        let call = call_of(number);
+        if make(map, call, me) != answer_of(plain, call) {
+            return Some(number);
+        }
+    }
+    let mut count = 0u64;
+    for key in 0..KEYS {
+        let value = value_of(plain, key);
+        count = count.wrapping_add(u64::from(value.is_some()));
+        if make(map, Call::Key(Keyed::View(key)), me) != Answer::of_value(value) {
+            return Some(key);
+        }
+    }
+    if make(map, Call::Len, me) == Answer::Number(count)
+        && call_many(map, Many::Miss(64, 99), me) == 35
+    {
+        None
+    } else {
+        Some(count)
+    }
+}
+
 #[test]
 fn a_map_answers_as_plain_shards_do(rt: HostRuntime) -> Result<(), Fail> {
-    let map: Map<u64, u64> = map_of(rt, 8)?;
     let mut plain = Shards::new(rt.alloc(), 8, SpreadState)?;
-    let mut me = 1;
-    let mut right = true;
-    for i in 0..10_000 {
-        right = right & agree_on(&map, &mut plain, i, &mut me)?;
-    }
-    let mut count: usize = 0;
-    for key in 0..64 {
-        let value = value_of(&plain, key);
-        right = right & (map.view(&key, |_, value| *value, &mut me) == value);
-        count = count.wrapping_add(usize::from(value.is_some()));
-    }
-    assert!(rt; right & (map.len(&mut me) == count));
+    let spun = first_difference(&map_of(rt, rt.alloc(), 8)?, &mut plain, &mut 1);
+    let lot = ParkingLot::new(rt, rt.alloc(), 1, 7)?;
+    let table = LockTable::new(rt.alloc(), &lot, 8)?;
+    let mut plain = Shards::new(rt.alloc(), 8, SpreadState)?;
+    let mut me = lot.thread_data()?;
+    let parked = first_difference(&parked(rt.alloc(), &table, 8)?, &mut plain, &mut me);
+    assert!(rt; spun.is_none() && parked.is_none(), "{spun:?} {parked:?}");
     Ok(())
 }

@@ -1,88 +1,75 @@
-//! Entries of a map.
+//! Tables of what is done at the place of a key.
 
-use crate::maps::{Map, map_of};
-use dashmap_map::mapref::entry::Entry;
+use crate::tables::{Row, check};
+use dashmap_calls::{Answer, Call, Keyed, Place, Try};
 use std::test::Fail;
+
+const ADDS_ONCE: &[Row] = &[
+    (Call::Entry(9, Place::OrInsertWith(4)), Answer::Pair(9, 4)),
+    (Call::Entry(9, Place::AndModify(1, 0)), Answer::Number(5)),
+    (
+        Call::Entry(8, Place::OrTryInsertWith(3)),
+        Answer::Refused(3),
+    ),
+    (Call::Key(Keyed::ContainsKey(8)), Answer::Flag(false)),
+    (Call::Try(Try::Get(8)), Answer::Absent),
+    (Call::Entry(9, Place::OrTryInsertWith(3)), Answer::Number(5)),
+    (Call::Entry(9, Place::OrInsert(7)), Answer::Number(5)),
+    (Call::Entry(8, Place::AndModify(1, 6)), Answer::Number(6)),
+    (Call::Entry(8, Place::AddTo(1)), Answer::Number(7)),
+];
 
 #[test]
 fn an_entry_adds_once(rt: HostRuntime) -> Result<(), Fail> {
-    let map: Map<u64, u64> = map_of(rt, 4)?;
-    let mut me = 1;
-    let guard = map.entry(9, &mut me)?.or_insert_with(|| 4);
-    let mut right = *guard == 4;
-    drop(guard);
-    let guard = map
-        .entry(9, &mut me)?
-        .and_modify(|value| *value = value.wrapping_add(1))
-        .or_insert(0);
-    right = right & (*guard == 5);
-    drop(guard);
-    let refused = map
-        .entry(8, &mut me)?
-        .or_try_insert_with(|| Err::<u64, u64>(3));
-    right = right & (refused.err() == Some(3)) & !map.contains_key(&8, &mut me);
-    assert!(rt; right & map.try_get(&8).is_absent());
-    Ok(())
+    check(rt, rt.alloc(), 4, ADDS_ONCE)
 }
+
+const KINDS: &[Row] = &[
+    (Call::Entry(1, Place::Replace(3)), Answer::Absent),
+    (
+        Call::Entry(1, Place::VacantInsertEntry(1000)),
+        Answer::Number(1000),
+    ),
+    (
+        Call::Entry(1, Place::VacantInsertEntry(2)),
+        Answer::Flag(false),
+    ),
+    (Call::Entry(1, Place::Replace(2)), Answer::Number(1000)),
+    (Call::Key(Keyed::Remove(1)), Answer::Pair(1, 2)),
+];
 
 #[test]
 fn an_entry_is_vacant_or_occupied(rt: HostRuntime) -> Result<(), Fail> {
-    let map: Map<u64, u64> = map_of(rt, 4)?;
-    let mut me = 1;
-    let Entry::Vacant(vacant) = map.entry(1, &mut me)? else {
-        return Err("occupied".into());
-    };
-    let Ok(entry) = vacant.insert_entry(1000) else {
-        return Err("no memory".into());
-    };
-    let mut right = *entry.get() == 1000;
-    drop(entry);
-    let Entry::Occupied(mut entry) = map.entry(1, &mut me)? else {
-        return Err("vacant".into());
-    };
-    right = right & (entry.insert(2) == 1000);
-    drop(entry);
-    assert!(rt; right & (map.remove(&1, &mut me) == Some((1, 2))));
-    Ok(())
+    check(rt, rt.alloc(), 4, KINDS)
 }
+
+const STAYS: &[Row] = &[
+    (Call::Entry(1, Place::InsertEntry(2)), Answer::Number(2)),
+    (Call::Entry(1, Place::InsertEntry(3)), Answer::Number(3)),
+    (Call::Entry(1, Place::Insert(4)), Answer::Number(4)),
+    (Call::Key(Keyed::View(1)), Answer::Number(4)),
+    (Call::Entry(1, Place::ReplaceEntry(3)), Answer::Pair(1, 4)),
+    (Call::Entry(1, Place::IntoKey), Answer::Number(1)),
+    (Call::Entry(1, Place::Get), Answer::Pair(1, 3)),
+    (Call::Try(Try::GetMut(1, 3)), Answer::Number(3)),
+];
 
 #[test]
 fn an_entry_stays_where_it_stored(rt: HostRuntime) -> Result<(), Fail> {
-    let map: Map<u64, u64> = map_of(rt, 4)?;
-    let mut me = 1;
-    let Ok(entry) = map.entry(1, &mut me)?.insert_entry(2) else {
-        return Err("no memory".into());
-    };
-    let mut right = *entry.get() == 2;
-    drop(entry);
-    let Ok(entry) = map.entry(1, &mut me)?.insert_entry(3) else {
-        return Err("no memory".into());
-    };
-    right = right & (*entry.get() == 3);
-    drop(entry);
-    let guard = map.entry(1, &mut me)?.insert(4);
-    right = right & (*guard == 4);
-    drop(guard);
-    assert!(rt; right & (map.view(&1, |_, value| *value, &mut me) == Some(4)));
-    Ok(())
+    check(rt, rt.alloc(), 4, STAYS)
 }
+
+const KEY_AND_PAIR: &[Row] = &[
+    (Call::Entry(7, Place::IntoKey), Answer::Number(7)),
+    (Call::Key(Keyed::ContainsKey(7)), Answer::Flag(false)),
+    (Call::Entry(7, Place::OrDefault), Answer::Number(0)),
+    (Call::Entry(7, Place::IntoKey), Answer::Number(7)),
+    (Call::Key(Keyed::ContainsKey(7)), Answer::Flag(true)),
+    (Call::Entry(7, Place::Take(8)), Answer::Pair(7, 8)),
+    (Call::IsEmpty, Answer::Flag(true)),
+];
 
 #[test]
 fn an_entry_gives_its_key_and_its_pair(rt: HostRuntime) -> Result<(), Fail> {
-    let map: Map<u64, u64> = map_of(rt, 4)?;
-    let mut me = 1;
-    let mut right = map.entry(7, &mut me)?.into_key() == 7;
-    right = right & !map.contains_key(&7, &mut me);
-    let guard = map.entry(7, &mut me)?.or_default();
-    right = right & (*guard == 0);
-    drop(guard);
-    right = right & (map.entry(7, &mut me)?.into_key() == 7);
-    right = right & map.contains_key(&7, &mut me);
-    let Entry::Occupied(mut entry) = map.entry(7, &mut me)? else {
-        return Err("vacant".into());
-    };
-    *entry.get_mut() = 8;
-    right = right & (entry.remove_entry() == (7, 8));
-    assert!(rt; right & map.is_empty(&mut me));
-    Ok(())
+    check(rt, rt.alloc(), 4, KEY_AND_PAIR)
 }

@@ -1,11 +1,14 @@
 //! Odd keys: equal ones that differ, one that stands alone, ones that share a hash, and the least and the greatest.
 
-use crate::maps::{Map, map_of};
+use crate::tables::{Row, Spun, check, map_of};
+use dashmap_calls::{Answer, Call, Keyed, Many, Numbers, run};
 use dashmap_map::DashMap;
 use dashmap_map::mapref::entry::Entry;
 use dashmap_table::MapFault;
 use lock_api_spin::PackedLock;
+use std::alloc::Global;
 use std::hash::{BuildHasher, Hasher};
+use std::sync::Wait;
 use std::test::Fail;
 
 /// A letter that is compared without its case.
@@ -55,67 +58,82 @@ impl BuildHasher for OneHash {
     }
 }
 
+/// A map of letters.
+type Letters<R> = Spun<Letter, u64, R>;
+
+/// Writes a value at the place of a letter that is there. Answers the value that was there, and the letter as it is stored.
+fn written<R: Wait + Drop>(map: &Letters<R>, letter: u8, value: u64) -> Option<(u64, u8)> {
+    match map.entry(Letter::of(letter), &mut 1) {
+        Ok(Entry::Occupied(mut entry)) => {
+            let old = entry.insert(value);
+            Some((old, entry.key().shown))
+        }
+        Ok(Entry::Vacant(_)) | Err(_) => None,
+    }
+}
+
+/// Replaces the pair at the place of a letter that is there, and answers the old one.
+fn replaced<R: Wait + Drop>(map: &Letters<R>, letter: u8, value: u64) -> Option<(u8, u64)> {
+    match map.entry(Letter::of(letter), &mut 1) {
+        Ok(Entry::Occupied(entry)) => {
+            let (stored, old) = entry.replace_entry(value);
+            Some((stored.shown, old))
+        }
+        Ok(Entry::Vacant(_)) | Err(_) => None,
+    }
+}
+
 #[test]
 fn a_stored_key_stays_until_it_is_replaced(rt: HostRuntime) -> Result<(), Fail> {
-    let map: Map<Letter, u64> = map_of(rt, 4)?;
-    let mut me = 1;
-    let mut right = map.insert(Letter::of(b'k'), 1, &mut me)?.is_none();
-    let Entry::Occupied(mut entry) = map.entry(Letter::of(b'K'), &mut me)? else {
-        return Err("vacant".into());
-    };
-    right = right & (entry.insert(2) == 1) & (entry.key().shown == b'k');
-    drop(entry);
-    let Entry::Occupied(entry) = map.entry(Letter::of(b'K'), &mut me)? else {
-        return Err("vacant".into());
-    };
-    let (stored, value) = entry.replace_entry(3);
-    right = right & (stored.shown == b'k') & (value == 2);
+    let map: Letters<HostRuntime> = map_of(rt, rt.alloc(), 4)?;
+    let is_new = map.insert(Letter::of(b'k'), 1, &mut 1) == Ok(None);
+    assert!(rt; is_new && written(&map, b'K', 2) == Some((1, b'k')));
+    assert!(rt; replaced(&map, b'K', 3) == Some((b'k', 2)));
     let (stored, value) = map
-        .remove(&Letter::of(b'k'), &mut me)
+        .remove(&Letter::of(b'k'), &mut 1)
         .ok_or("nothing is there")?;
-    assert!(rt; right & (stored.shown == b'K') & (value == 3));
+    assert!(rt; stored.shown == b'K' && value == 3);
     Ok(())
 }
 
 #[test]
 fn there_is_one_unit(rt: HostRuntime) -> Result<(), Fail> {
-    let map: Map<(), u64> = map_of(rt, 2)?;
-    let mut me = 1;
-    let mut right = map.insert((), 1, &mut me)?.is_none();
-    right = right & (map.insert((), 2, &mut me)? == Some(1));
-    right = right & (map.len(&mut me) == 1) & (map.determine_map(&()) < 2);
-    assert!(rt; right & (map.remove(&(), &mut me) == Some(((), 2))));
+    let map: Spun<(), u64, HostRuntime> = map_of(rt, rt.alloc(), 2)?;
+    let mut right = map.insert((), 1, &mut 1) == Ok(None);
+    right &= map.insert((), 2, &mut 1) == Ok(Some(1));
+    right &= map.len(&mut 1) == 1 && map.determine_map(&()) < 2;
+    assert!(rt; right && map.remove(&(), &mut 1) == Some(((), 2)));
     Ok(())
 }
+
+const OF_ONE_HASH: &[Row] = &[
+    (Call::Many(Many::Insert(0, 100, 0)), Answer::Number(100)),
+    (Call::Many(Many::Remove(0, 50, 0)), Answer::Number(50)),
+    (Call::Many(Many::View(50, 100, 0)), Answer::Number(50)),
+    (Call::Many(Many::Miss(0, 50)), Answer::Number(50)),
+    (Call::Len, Answer::Number(50)),
+    (Call::Key(Keyed::ContainsKey(0)), Answer::Flag(false)),
+];
 
 #[test]
 fn keys_of_one_hash_stay_apart(rt: HostRuntime) -> Result<(), Fail> {
-    let made: Result<DashMap<u64, u64, OneHash, PackedLock<HostRuntime>>, MapFault> =
+    let made: Result<Numbers<OneHash, PackedLock<HostRuntime>, Global>, MapFault> =
         DashMap::with_hasher_and_shard_amount(rt.alloc(), OneHash, 8, rt);
-    let map = made?;
-    let mut me = 1;
-    let mut right = true;
-    for i in 0..100 {
-        right = right & map.insert(i, i, &mut me)?.is_none();
-    }
-    for i in 0..50 {
-        right = right & (map.remove(&i, &mut me) == Some((i, i)));
-    }
-    for i in 50..100 {
-        right = right & (map.view(&i, |_, value| *value, &mut me) == Some(i));
-    }
-    assert!(rt; right & (map.len(&mut me) == 50) & !map.contains_key(&0, &mut me));
-    Ok(())
+    run(&made?, OF_ONE_HASH, &mut 1)
 }
+
+const ENDS: &[Row] = &[
+    (Call::Key(Keyed::Insert(0, 1)), Answer::Absent),
+    (Call::Key(Keyed::Insert(u64::MAX, 2)), Answer::Absent),
+    (Call::Key(Keyed::Insert(u64::MAX, 3)), Answer::Number(2)),
+    (Call::Key(Keyed::Remove(0)), Answer::Pair(0, 1)),
+    (
+        Call::Key(Keyed::Remove(u64::MAX)),
+        Answer::Pair(u64::MAX, 3),
+    ),
+];
 
 #[test]
 fn the_least_and_the_greatest_key(rt: HostRuntime) -> Result<(), Fail> {
-    let map: Map<u64, u64> = map_of(rt, 2)?;
-    let mut me = 1;
-    let mut right = map.insert(0, 1, &mut me)?.is_none();
-    right = right & map.insert(u64::MAX, 2, &mut me)?.is_none();
-    right = right & (map.insert(u64::MAX, 3, &mut me)? == Some(2));
-    right = right & (map.remove(&0, &mut me) == Some((0, 1)));
-    assert!(rt; right & (map.remove(&u64::MAX, &mut me) == Some((u64::MAX, 3))));
-    Ok(())
+    check(rt, rt.alloc(), 2, ENDS)
 }

@@ -1,5 +1,6 @@
 //! Tests of the running map, for what no clause says: that calls answer as they do on plain shards, that a guard keeps others out until
 //! it ends, and what is refused when.
+//! A call is data (`dashmap_calls`), and so is what it answers: a case is a row of a table, which is run on a map over each kind of lock.
 #![tactic(auto)]
 
 #[cfg(test)]
@@ -7,20 +8,24 @@ mod basic;
 #[cfg(test)]
 mod beside;
 #[cfg(test)]
-mod calls;
-#[cfg(test)]
 mod entries;
 #[cfg(test)]
 mod keys;
 #[cfg(test)]
 mod making;
 #[cfg(test)]
-mod maps;
+mod operators;
 #[cfg(test)]
 mod refused;
+#[cfg(test)]
+mod shown;
+#[cfg(test)]
+mod tables;
 #[cfg(test)]
 mod threads;
 #[cfg(test)]
 mod tries;
 #[cfg(test)]
-mod whole;
+mod underscored;
+#[cfg(test)]
+mod walks;

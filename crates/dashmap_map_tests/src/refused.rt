@@ -1,131 +1,154 @@
-//! Each growth of a map refused in turn, by heaps of all small sizes.
+//! Each growth of a map, and each item of a walk, refused in turn, by heaps of all small sizes.
 
-use crate::maps::Map;
+use crate::tables::Spun;
+use dashmap_calls::{Answer, Call, Keyed, Many, Numbers, Place, Try, Walk, call_many, make};
 use dashmap_map::DashMap;
-use dashmap_map::mapref::entry::Entry;
 use dashmap_table::{MapFault, SpreadState};
 use linked_list_allocator::LocalHeap;
 use lock_api_spin::PackedLock;
+use std::alloc::Global;
 use std::sync::Wait;
 use std::test::Fail;
 
 /// A map in a heap.
-type Small<'h, R> = DashMap<u64, u64, SpreadState, PackedLock<R>, &'h LocalHeap>;
+type Small<'h, R> = Numbers<SpreadState, PackedLock<R>, &'h LocalHeap>;
 
-/// A map of two shards in that heap.
-fn small<'h>(rt: HostRuntime, heap: &'h LocalHeap) -> Result<Small<'h, HostRuntime>, MapFault> {
-    DashMap::with_hasher_and_shard_amount(heap, SpreadState, 2, rt)
+/// A map in that heap.
+fn small<'h, R: Copy + Drop>(
+    rt: R,
+    heap: &'h LocalHeap,
+    capacity: usize,
+    shards: usize,
+) -> Result<Small<'h, R>, MapFault> {
+    DashMap::with_capacity_and_hasher_and_shard_amount(heap, capacity, SpreadState, shards, rt)
 }
 
-/// Puts in as many of the keys up to a number as the heap has room for, and tells how many.
-fn filled<R: Wait + Drop>(map: &Small<'_, R>, most: u64, me: &mut u32) -> u64 {
+/// Whether a call answers this.
+fn answers<R: Wait + Drop>(map: &Small<'_, R>, call: Call, answer: Answer) -> bool {
+    make(map, call, &mut 1) == answer
+}
+
+/// Puts in as many of the keys up to a number, each with itself, as the heap has room for, and tells how many.
+fn filled<R: Wait + Drop>(map: &Small<'_, R>, most: u64) -> u64 {
     for key in 0..most {
-        if map.insert(key, key, me).is_err() {
+        if !answers(map, Call::Key(Keyed::Insert(key, key)), Answer::Absent) {
             return key;
         }
     }
     most
 }
 
+/// Whether the keys below a number are there, each with itself, and no others.
+fn has_all<R: Wait + Drop>(map: &Small<'_, R>, count: u64) -> bool {
+    call_many(map, Many::View(0, count, 0), &mut 1) == count
+        && answers(map, Call::Len, Answer::Number(count))
+}
+
 #[test]
 fn a_refused_insertion_hands_the_pair_back(rt: HostRuntime) -> Result<(), Fail> {
-    let mut me = 1;
-    let mut right = true;
     let (mut unmade, mut refused) = (false, false);
     for size in 0..60 {
         let heap = LocalHeap::new(rt.alloc(), size * 64)?;
-        match small(rt, &heap) {
+        match small(rt, &heap, 0, 2) {
             Ok(map) => {
-                let count = filled(&map, 12, &mut me);
+                let count = filled(&map, 12);
                 if count < 12 {
                     refused = true;
-                    right = right & (map.insert(count, 7, &mut me) == Err((count, 7)));
-                    right = right & !map.contains_key(&count, &mut me);
+                    let put = Call::Key(Keyed::Insert(count, 7));
+                    assert!(rt; answers(&map, put, Answer::Back(count, 7)), "of {size}");
+                    let look = Call::Key(Keyed::ContainsKey(count));
+                    assert!(rt; answers(&map, look, Answer::Flag(false)), "of {size}");
                 }
                 for key in 0..count {
-                    right = right & (map.insert(key, 100, &mut me) == Ok(Some(key)));
+                    let put = Call::Key(Keyed::Insert(key, key));
+                    assert!(rt; answers(&map, put, Answer::Number(key)), "of {size}");
                 }
-                right = right & (map.len(&mut me) as u64 == count);
+                assert!(rt; has_all(&map, count), "of {size}");
             }
             Err(fault) => {
                 unmade = true;
-                right = right & (fault == MapFault::NoMemory);
+                assert!(rt; fault == MapFault::NoMemory, "of {size}");
             }
         }
     }
-    assert!(rt; right & unmade & refused);
+    assert!(rt; unmade && refused);
     Ok(())
 }
 
 #[test]
 fn a_refused_entry_hands_the_key_back(rt: HostRuntime) -> Result<(), Fail> {
-    let mut me = 1;
-    let mut right = true;
     let (mut refused, mut entered) = (false, false);
     for size in 0..60 {
         let heap = LocalHeap::new(rt.alloc(), size * 64)?;
-        let Ok(map) = small(rt, &heap) else {
+        let Ok(map) = small(rt, &heap, 0, 2) else {
             continue;
         };
-        let count = filled(&map, 2, &mut me);
-        match map.entry(count, &mut me) {
-            Ok(Entry::Vacant(entry)) => {
-                entered = true;
-                right = right & (*entry.insert(5) == 5);
-            }
-            Ok(Entry::Occupied(_entry)) => right = false,
-            Err(back) => {
-                refused = true;
-                right = right & (back == count);
-                let tried = map.try_entry(count);
-                right = right & matches!(tried, Err(key) if key == count);
-                right = right & map.try_get(&count).is_absent();
-            }
+        let count = filled(&map, 2);
+        let answer = make(&map, Call::Entry(count, Place::VacantInsert(5)), &mut 1);
+        if answer == Answer::Refused(count) {
+            refused = true;
+            let mut right = answers(&map, Call::Try(Try::Entry(count)), answer);
+            right &= answers(&map, Call::Try(Try::Get(count)), Answer::Absent);
+            assert!(rt; right && has_all(&map, count), "of {size}");
+        } else {
+            entered = true;
+            assert!(rt; answer == Answer::Number(5), "of {size}");
         }
         for key in 0..count {
-            right = right & map.try_get_mut(&key).is_present();
+            let write = Call::Try(Try::GetMut(key, key));
+            assert!(rt; answers(&map, write, Answer::Number(key)), "of {size}");
         }
     }
-    assert!(rt; right & refused & entered);
+    assert!(rt; refused && entered);
     Ok(())
 }
 
 #[test]
 fn the_owner_is_refused_alike(rt: HostRuntime) -> Result<(), Fail> {
-    let mut me = 1;
-    let mut right = true;
     let (mut refused, mut unreserved, mut reserved) = (false, false, false);
     for size in 0..60 {
         let heap = LocalHeap::new(rt.alloc(), size * 64)?;
-        let Ok(mut map) = small(rt, &heap) else {
+        let Ok(mut map) = small(rt, &heap, 0, 2) else {
             continue;
         };
-        let count = filled(&map, 3, &mut me);
+        let count = filled(&map, 3);
         if map.try_reserve(10).is_ok() {
             reserved = true;
-            right = right & (map.capacity(&mut me) >= 20);
+            assert!(rt;
+                answers(&map, Call::HasRoom(20), Answer::Flag(true)),
+                "of {size}"
+            );
         } else {
             unreserved = true;
         }
-        right = right & (map.len(&mut me) as u64 == count);
+        assert!(rt; has_all(&map, count), "of {size}");
         for key in count..20 {
             if let Err(back) = map.insert_mut(key, 7) {
                 refused = true;
-                right = right & (back == (key, 7)) & !map.contains_key(&key, &mut me);
+                let look = Call::Key(Keyed::ContainsKey(key));
+                assert!(rt;
+                    back == (key, 7) && answers(&map, look, Answer::Flag(false)),
+                    "of {size}"
+                );
             }
         }
-        if count > 0 {
-            right = right & (map.insert_mut(0, 9) == Ok(Some(0)));
-        }
+        assert!(rt;
+            count == 0 || map.insert_mut(0, 9) == Ok(Some(0)),
+            "of {size}"
+        );
     }
-    assert!(rt; right & refused & unreserved & reserved);
+    assert!(rt; refused && unreserved && reserved);
     Ok(())
 }
 
-/// Small blocks that take up what a heap still has.
-fn filling<'h>(rt: HostRuntime, heap: &'h LocalHeap) -> Result<Vec<Vec<u8, &'h LocalHeap>>, Fail> {
-    let mut blocks = Vec::new(rt.alloc());
-    for _ in 0..400 {
+/// As many small blocks as are asked for, or as a heap still has.
+fn filling<'h>(
+    alloc: Global,
+    heap: &'h LocalHeap,
+    most: u64,
+) -> Result<Vec<Vec<u8, &'h LocalHeap>>, Fail> {
+    let mut blocks = Vec::new(alloc);
+    for _ in 0..most {
         match Vec::with_capacity(heap, 16) {
             Ok(block) => blocks.push(block)?,
             Err(_) => break,
@@ -136,52 +159,75 @@ fn filling<'h>(rt: HostRuntime, heap: &'h LocalHeap) -> Result<Vec<Vec<u8, &'h L
 
 #[test]
 fn a_refused_shrink_keeps_the_pairs(rt: HostRuntime) -> Result<(), Fail> {
-    let mut me = 1;
-    let mut right = true;
     let (mut refused, mut done) = (false, false);
     for size in 8..80 {
         let heap = LocalHeap::new(rt.alloc(), size * 64)?;
-        let Ok(map) = small(rt, &heap) else {
+        let Ok(map) = small(rt, &heap, 0, 2) else {
             continue;
         };
-        let count = filled(&map, 24, &mut me);
-        for key in 2..count {
-            right = right & (map.remove(&key, &mut me) == Some((key, key)));
-        }
-        let room = map.capacity(&mut me);
-        let _blocks = if size % 2 == 0 {
-            Some(filling(rt, &heap)?)
-        } else {
-            None
-        };
-        if map.shrink_to_fit(&mut me).is_ok() {
+        let count = filled(&map, 24);
+        let gone = call_many(&map, Many::Remove(2, count, 0), &mut 1);
+        assert!(rt; gone == count.saturating_sub(2), "of {size}");
+        let room = map.capacity(&mut 1);
+        let most = if size % 2 == 0 { 400 } else { 0 };
+        let blocks = filling(rt.alloc(), &heap, most)?;
+        if answers(&map, Call::ShrinkToFit, Answer::Flag(true)) {
             done = true;
         } else {
             refused = true;
         }
-        right = right & (map.capacity(&mut me) <= room);
-        right = right & ((count < 1) | map.contains_key(&0, &mut me));
+        drop(blocks);
+        assert!(rt;
+            map.capacity(&mut 1) <= room && has_all(&map, count.min(2)),
+            "of {size}"
+        );
     }
-    assert!(rt; right & refused & done);
+    assert!(rt; refused && done);
     Ok(())
 }
 
 #[test]
 fn a_map_is_refused_for_its_amount_first(rt: HostRuntime) -> Result<(), Fail> {
     let heap = LocalHeap::new(rt.alloc(), 0)?;
-    let made: Result<Small<'_, HostRuntime>, MapFault> =
-        DashMap::with_capacity_and_hasher_and_shard_amount(&heap, usize::MAX, SpreadState, 3, rt);
-    let mut right = made.err() == Some(MapFault::BadShards);
-    let made: Result<Small<'_, HostRuntime>, MapFault> =
-        DashMap::with_capacity_and_hasher_and_shard_amount(&heap, usize::MAX, SpreadState, 4, rt);
-    right = right & (made.err() == Some(MapFault::CapacityOverflow));
-    right = right & (small(rt, &heap).err() == Some(MapFault::NoMemory));
-    let made: Result<Map<u64, u64>, MapFault> = DashMap::with_hasher(
+    for (capacity, shards, fault) in [
+        (usize::MAX, 3, MapFault::BadShards),
+        (usize::MAX, 4, MapFault::CapacityOverflow),
+        (0, 2, MapFault::NoMemory),
+    ] {
+        let made = small(rt, &heap, capacity, shards);
+        assert!(rt; made.err() == Some(fault), "of {shards}");
+    }
+    let made: Result<Spun<u64, u64, HostRuntime>, MapFault> = DashMap::with_hasher(
         rt.alloc(),
         SpreadState,
         16_385,
         rt,
     );
-    assert!(rt; right & (made.err() == Some(MapFault::BadShards)));
+    assert!(rt; made.err() == Some(MapFault::BadShards));
+    Ok(())
+}
+
+#[test]
+fn each_item_is_refused_in_turn(rt: HostRuntime) -> Result<(), Fail> {
+    let (mut at_first, mut at_second, mut never) = (false, false, false);
+    for size in 0..160 {
+        let heap = LocalHeap::new(rt.alloc(), size * 32)?;
+        let Ok(map) = small(rt, &heap, 0, 2) else {
+            continue;
+        };
+        if filled(&map, 2) < 2 {
+            continue;
+        }
+        match make(&map, Call::Walk(Walk::Iter(0)), &mut 1) {
+            Answer::Refused(0) => at_first = true,
+            Answer::Refused(1) => at_second = true,
+            answer => {
+                never = true;
+                assert!(rt; answer == Answer::Three(2, 1, 2), "of {size}");
+            }
+        }
+        assert!(rt; has_all(&map, 2), "of {size}");
+    }
+    assert!(rt; at_first && at_second && never);
     Ok(())
 }

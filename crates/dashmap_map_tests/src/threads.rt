@@ -1,68 +1,184 @@
 //! Threads that share a map, over the locks of running threads.
 
+use crate::tables::{Parked, parked};
+use dashmap_calls::{Answer, Call, Keyed, Many, Numbers, Place, Walk, call_many, make};
 use dashmap_map::DashMap;
 use dashmap_table::{MapFault, SpreadState};
 use linked_list_allocator::LocalHeap;
+use lock_api_raw::RawRwLock;
 use parking_lot_core::{ParkingLot, ThreadData};
-use parking_lot_rwlock::{LockTable, RawRwLock};
+use parking_lot_rwlock::LockTable;
 use std::alloc::Global;
 use std::rt::Clock;
 use std::sync::Wait;
 use std::sync::atomic::{AtomicBool, Ordering};
 use std::test::Fail;
 use std::thread;
+use std::thread::Threads;
 use std::time::Duration;
-
-/// A map of numbers over rows of a table.
-type Shared<'t, 'l, R> = DashMap<u64, u64, SpreadState, RawRwLock<'t, 'l, R, 0, Global>>;
-
-/// How many calls a thread makes.
-const CALLS: u64 = 25_000;
 
 /// How many keys there are.
 const KEYS: u64 = 64;
 
-/// Adds one to the numbers of all keys in turn, and tells whether no call was refused.
-fn adds<R: Wait>(map: &Shared<'_, '_, R>, mut me: ThreadData<Global>) -> bool {
-    let mut right = true;
-    for i in 0..CALLS {
-        match map.entry(i % KEYS, &mut me) {
-            Ok(entry) => {
-                let mut number = entry.or_insert(0);
-                *number = number.wrapping_add(1);
-            }
-            Err(_) => right = false,
+/// What a thread does again and again.
+#[derive(Clone, Copy)]
+enum Work {
+    /// Adds one to the numbers of all keys in turn, at their places.
+    Enter,
+    /// Adds one to the numbers of all keys in turn.
+    Alter,
+    /// Adds one to every number by a walk that lends.
+    WriteEach,
+    /// Adds one to every number.
+    AlterAll,
+    /// Looks at every pair by a walk that lends.
+    ReadEach,
+    /// Looks at every pair, and keeps all.
+    KeepAll,
+}
+
+impl Work {
+    /// The call of a turn.
+    fn call(self, turn: u64) -> Call {
+        let key = turn % KEYS;
+        match self {
+            Work::Enter => Call::Entry(key, Place::AddTo(1)),
+            Work::Alter => Call::Key(Keyed::Alter(key, 1)),
+            Work::WriteEach => Call::Walk(Walk::IterMut(1)),
+            Work::AlterAll => Call::Walk(Walk::AlterAll(1)),
+            Work::ReadEach => Call::Walk(Walk::Iter(0)),
+            Work::KeepAll => Call::Walk(Walk::RetainAll),
         }
+    }
+
+    /// Whether a call was answered as it is to be: where it is a walk, it met each key.
+    fn is_right(self, answer: Answer) -> bool {
+        match self {
+            Work::Enter => matches!(answer, Answer::Number(_)),
+            Work::Alter | Work::AlterAll => answer == Answer::Done,
+            Work::WriteEach | Work::KeepAll => answer == Answer::Number(KEYS),
+            Work::ReadEach => matches!(answer, Answer::Three(KEYS, 2016, _)),
+        }
+    }
+}
+
+/// What a thread does, and how often.
+type Job = (Work, u64);
+
+/// Does a job, and tells whether each call was answered as it is to be.
+fn does<Q: RawRwLock<Party = ThreadData<Global>>>(
+    map: &Numbers<SpreadState, Q, Global>,
+    job: Job,
+    mut me: ThreadData<Global>,
+) -> bool
+where
+    Q::Runtime: Wait,
+{
+    let mut right = true;
+    for turn in 0..job.1 {
+        right &= job.0.is_right(make(map, job.0.call(turn), &mut me));
     }
     right
 }
 
-#[test]
-fn four_threads_count_together(rt: HostRuntime) -> Result<(), Fail> {
-    let lot = ParkingLot::new(rt, rt.alloc(), 5, 7)?;
-    let table = LockTable::new(rt.alloc(), &lot, 8)?;
-    let made: Result<Shared<'_, '_, HostRuntime>, MapFault> = DashMap::with_hasher_and_shard_amount(
-        rt.alloc(),
-        SpreadState,
-        8,
-        &table,
+/// The sum of the numbers, each of which is taken out, if the keys are all there.
+fn sum_of<Q: RawRwLock>(map: &Numbers<SpreadState, Q, Global>, me: &mut Q::Party) -> Option<u64>
+where
+    Q::Runtime: Wait,
+{
+    let mut sum = 0u64;
+    for key in 0..KEYS {
+        match make(map, Call::Key(Keyed::Remove(key)), me) {
+            Answer::Pair(_, number) => sum = sum.wrapping_add(number),
+            _ => return None,
+        }
+    }
+    Some(sum)
+}
+
+/// A job, and what the thread that does it has.
+type Worker = (Job, ThreadData<Global>);
+
+/// Has two threads do their jobs.
+fn two_do<R: Wait + Threads + Sync>(
+    rt: &R,
+    map: &Parked<'_, '_, R>,
+    (one, my): Worker,
+    (two, their): Worker,
+) -> bool {
+    let (first, second) = thread::join(rt, || does(map, one, my), || does(map, two, their));
+    first & second
+}
+
+/// Has four threads do their jobs.
+fn four_do<R: Wait + Threads + Sync>(
+    rt: &R,
+    map: &Parked<'_, '_, R>,
+    (one, two): (Worker, Worker),
+    (three, four): (Worker, Worker),
+) -> bool {
+    let (first, second) = thread::join(
+        rt,
+        || two_do(rt, map, one, two),
+        || two_do(rt, map, three, four),
     );
-    let map = made?;
+    first & second
+}
+
+/// Has four threads share a map of 64 zeros. It answers what the numbers add up to, if each call was answered as it is to be.
+fn shared<R: Wait + Threads + Sync + Copy>(
+    rt: R,
+    alloc: Global,
+    jobs: [Job; 4],
+) -> Result<Option<u64>, Fail> {
+    let lot = ParkingLot::new(rt, alloc, 5, 7)?;
     let mut me = lot.thread_data()?;
     let (one, two) = (lot.thread_data()?, lot.thread_data()?);
     let (three, four) = (lot.thread_data()?, lot.thread_data()?);
-    let ended = thread::join(
+    let table = LockTable::new(alloc, &lot, 8)?;
+    let made: Result<Parked<'_, '_, R>, MapFault> = parked(alloc, &table, 8);
+    let map = made?;
+    let mut right = call_many(&map, Many::Zero(0, KEYS), &mut me) == KEYS;
+    right &= four_do(
         &rt,
-        || thread::join(&rt, || adds(&map, one), || adds(&map, two)),
-        || thread::join(&rt, || adds(&map, three), || adds(&map, four)),
+        &map,
+        ((jobs[0], one), (jobs[1], two)),
+        ((jobs[2], three), (jobs[3], four)),
     );
-    let mut sum = 0u64;
-    for key in 0..KEYS {
-        let number = map.view(&key, |_, number| *number, &mut me).unwrap_or(0);
-        sum = sum.wrapping_add(number);
+    right &= make(&map, Call::Len, &mut me) == Answer::Number(KEYS);
+    let sum = sum_of(&map, &mut me);
+    right &= make(&map, Call::IsEmpty, &mut me) == Answer::Flag(true);
+    Ok(if right { sum } else { None })
+}
+
+/// Jobs of four threads, and the sum that they make of 64 zeros.
+const JOBS: [([Job; 4], u64); 3] = [
+    ([(Work::Enter, 25_000); 4], 100_000),
+    (
+        [
+            (Work::WriteEach, 200),
+            (Work::ReadEach, 200),
+            (Work::Alter, 10_000),
+            (Work::ReadEach, 0),
+        ],
+        22_800,
+    ),
+    (
+        [
+            (Work::AlterAll, 200),
+            (Work::KeepAll, 200),
+            (Work::Alter, 10_000),
+            (Work::KeepAll, 0),
+        ],
+        22_800,
+    ),
+];
+
+#[test]
+fn threads_count_and_walk_together(rt: HostRuntime) -> Result<(), Fail> {
+    for (jobs, sum) in JOBS {
+        assert!(rt; shared(rt, rt.alloc(), jobs)? == Some(sum), "to {sum}");
     }
-    assert!(rt; (ended == ((true, true), (true, true))) & (sum == 100_000));
-    assert!(rt; map.len(&mut me) == 64);
     Ok(())
 }
 
@@ -83,7 +199,7 @@ fn saw<C: Clock>(clock: &C, flag: &AtomicBool) -> bool {
 /// Holds key 0 until the other thread's insertion was answered, and tells whether it was.
 fn holds<R: Wait + Clock>(
     rt: &R,
-    map: &Shared<'_, '_, R>,
+    map: &Parked<'_, '_, R>,
     mut me: ThreadData<Global>,
     held: &AtomicBool,
     answered: &AtomicBool,
@@ -100,7 +216,7 @@ fn holds<R: Wait + Clock>(
 /// Puts a key of the other shard in while key 0 is held.
 fn inserts<R: Wait + Clock>(
     rt: &R,
-    map: &Shared<'_, '_, R>,
+    map: &Parked<'_, '_, R>,
     mut me: ThreadData<Global>,
     held: &AtomicBool,
     answered: &AtomicBool,
@@ -115,17 +231,11 @@ fn inserts<R: Wait + Clock>(
 fn two_shards_are_held_at_once(rt: HostRuntime) -> Result<(), Fail> {
     let lot = ParkingLot::new(rt, rt.alloc(), 3, 7)?;
     let table = LockTable::new(rt.alloc(), &lot, 2)?;
-    let made: Result<Shared<'_, '_, HostRuntime>, MapFault> = DashMap::with_hasher_and_shard_amount(
-        rt.alloc(),
-        SpreadState,
-        2,
-        &table,
-    );
-    let map = made?;
+    let map = parked(rt.alloc(), &table, 2)?;
     let mut me = lot.thread_data()?;
     let (one, two) = (lot.thread_data()?, lot.thread_data()?);
     let mut right = map.insert(0, 0, &mut me) == Ok(None);
-    right = right & (map.determine_map(&0) == 0) & (map.determine_map(&1) == 1);
+    right &= map.determine_map(&0) == 0 && map.determine_map(&1) == 1;
     let held = AtomicBool::new(false);
     let answered = AtomicBool::new(false);
     let ended = thread::join(
@@ -133,44 +243,30 @@ fn two_shards_are_held_at_once(rt: HostRuntime) -> Result<(), Fail> {
         || holds(&rt, &map, one, &held, &answered),
         || inserts(&rt, &map, two, &held, &answered),
     );
-    right = right & (map.remove(&0, &mut me) == Some((0, 9)));
-    assert!(rt; right & (ended == (true, true)) & map.contains_key(&1, &mut me));
-    Ok(())
-}
-
-#[test]
-fn a_table_with_too_few_rows_is_full(rt: HostRuntime) -> Result<(), Fail> {
-    let lot = ParkingLot::new(rt, rt.alloc(), 1, 7)?;
-    let table = LockTable::new(rt.alloc(), &lot, 3)?;
-    let made: Result<Shared<'_, '_, HostRuntime>, MapFault> = DashMap::with_hasher_and_shard_amount(
-        rt.alloc(),
-        SpreadState,
-        4,
-        &table,
-    );
-    assert!(rt; made.err() == Some(MapFault::TableFull));
+    right &= map.remove(&0, &mut me) == Some((0, 9));
+    assert!(rt; right && ended == (true, true) && map.contains_key(&1, &mut me));
     Ok(())
 }
 
 /// A map in a heap over rows of a table.
-type Small<'t, 'l, 'h, R> = DashMap<
-    u64,
-    u64,
+type Small<'t, 'l, 'h, R> = Numbers<
     SpreadState,
-    RawRwLock<'t, 'l, R, 0, Global>,
+    parking_lot_rwlock::RawRwLock<'t, 'l, R, 0, Global>,
     &'h LocalHeap,
 >;
 
 #[test]
 fn a_full_table_is_told_before_want_of_memory(rt: HostRuntime) -> Result<(), Fail> {
     let lot = ParkingLot::new(rt, rt.alloc(), 1, 7)?;
+    let table = LockTable::new(rt.alloc(), &lot, 3)?;
+    let made = parked(rt.alloc(), &table, 4);
+    assert!(rt; made.err() == Some(MapFault::TableFull));
     let table = LockTable::new(rt.alloc(), &lot, 6)?;
     let heap = LocalHeap::new(rt.alloc(), 0)?;
-    let made: Result<Small<'_, '_, '_, HostRuntime>, MapFault> =
-        DashMap::with_hasher_and_shard_amount(&heap, SpreadState, 4, &table);
-    let right = made.err() == Some(MapFault::NoMemory);
-    let made: Result<Small<'_, '_, '_, HostRuntime>, MapFault> =
-        DashMap::with_hasher_and_shard_amount(&heap, SpreadState, 4, &table);
-    assert!(rt; right & (made.err() == Some(MapFault::TableFull)));
+    for fault in [MapFault::NoMemory, MapFault::TableFull] {
+        let made: Result<Small<'_, '_, '_, HostRuntime>, MapFault> =
+            DashMap::with_hasher_and_shard_amount(&heap, SpreadState, 4, &table);
+        assert!(rt; made.err() == Some(fault));
+    }
     Ok(())
 }

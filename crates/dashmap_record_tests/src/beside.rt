@@ -1,34 +1,23 @@
 //! A call on one shard while another shard is held.
 
+use crate::calls::{Fold, Numbers};
+use crate::doctored::key_on;
 use dashmap_record::{Caller, Recorded};
-use dashmap_table::{MapFault, is_shard_amount, route};
+use dashmap_table::MapFault;
 use parking_lot_core::{ParkingLot, ThreadData};
 use parking_lot_rwlock::{LockTable, RawRwLock};
 use std::alloc::Global;
-use std::hash::{BuildHasher, BuildHasherDefault, FoldHasher};
 use std::sync::Wait;
 use std::sync::atomic::{AtomicU64, Ordering};
 use std::test::Fail;
 use std::thread;
 use std::time::{Clock, Duration};
 
-type Fold = BuildHasherDefault<FoldHasher>;
-
 /// A map of numbers over rows of a table.
-type Shared<'t, 'l, R> = Recorded<u64, u64, Fold, RawRwLock<'t, 'l, R, 0, Global>>;
+type Shared<'t, 'l, R> = Numbers<RawRwLock<'t, 'l, R, 0, Global>, Global>;
 
 /// How many turns of one millisecond a flag is awaited for.
 const TURNS: u32 = 10_000;
-
-/// The first key of a shard of two.
-fn key_on(shard: usize) -> u64 {
-    for key in 0..64u64 {
-        if is_shard_amount(2) && route(Fold::new().hash_one(key), 2) == shard {
-            return key;
-        }
-    }
-    64
-}
 
 /// Waits until a flag is as high, and answers whether it is.
 fn has_come<R: Clock>(rt: &R, flag: &AtomicU64, height: u64) -> bool {

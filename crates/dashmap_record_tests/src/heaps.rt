@@ -1,14 +1,12 @@
 //! Each growth of a call and of the gathering refused in turn, by heaps of all small sizes.
 
 use crate::alone::{Made, Map};
-use dashmap_record::{Caller, Entered, GatherFault, RecordFault, Recorded, gather};
+use crate::calls::{Fold, make};
+use dashmap_record::{Call, Caller, Entered, GatherFault, RecordFault, Recorded, gather};
 use dashmap_table::MapFault;
 use linked_list_allocator::LocalHeap;
-use std::hash::{BuildHasherDefault, FoldHasher};
 use std::sync::Wait;
 use std::test::Fail;
-
-type Fold = BuildHasherDefault<FoldHasher>;
 
 type List<'h> = Vec<Entered<u64, u64>, &'h LocalHeap>;
 
@@ -31,7 +29,7 @@ fn inserted<'h, R: Wait + Drop>(
     me: &mut Caller<u64, u64, &'h LocalHeap>,
 ) -> u64 {
     for key in 0..KEYS {
-        if map.insert(key, key, me, &mut 1).is_err() {
+        if make(map, Call::Insert(key, key), me, &mut 1).is_err() {
             return key;
         }
     }
@@ -84,7 +82,7 @@ fn fill<R: Wait + Copy>(rt: R, heap: &LocalHeap, seen: &mut Seen) -> Result<bool
     let mut is_right = true;
     if count < KEYS {
         seen.refused = true;
-        let again = map.insert(count, count, &mut me, &mut 1);
+        let again = make(&map, Call::Insert(count, count), &mut me, &mut 1);
         is_right = (again == Err(RecordFault::NoMemory)) & (me.last() == last);
     } else {
         seen.done = true;

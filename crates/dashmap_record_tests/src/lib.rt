@@ -1,4 +1,6 @@
-//! Tests of the recorded map: worked examples, refused growths, and callers in threads.
+//! Tests of the recorded map and of recorded histories: worked examples, notes that are doctored, refused growths, and callers in threads.
+//!
+//! A call is data, and so is its reply: one function makes it on a map over any lock.
 #![tactic(auto)]
 
 #[cfg(test)]
@@ -6,6 +8,12 @@ mod alone;
 #[cfg(test)]
 mod beside;
 #[cfg(test)]
+mod calls;
+#[cfg(test)]
+mod doctored;
+#[cfg(test)]
 mod heaps;
 #[cfg(test)]
 mod threads;
+#[cfg(test)]
+mod words;

@@ -1,26 +1,19 @@
 //! Callers in threads, and what is gathered of them.
 
-use dashmap_record::{CallReply, Caller, Entered, GatherFault, Recorded, gather};
+use crate::calls::{Fold, Numbers, make};
+use dashmap_record::{Call, CallReply, Caller, Entered, GatherFault, Recorded, gather};
 use dashmap_table::MapFault;
 use lock_api_raw::RawRwLock;
 use parking_lot_core::{ParkingLot, ThreadData};
 use parking_lot_rwlock::LockTable;
 use std::alloc::{AllocError, Global};
-use std::hash::{BuildHasherDefault, FoldHasher};
 use std::sync::Wait;
 use std::test::Fail;
 use std::thread;
 use std::thread::Threads;
 
-type Fold = BuildHasherDefault<FoldHasher>;
-
 /// A map of numbers over rows of a table.
-type Shared<'t, 'l, R> = Recorded<
-    u64,
-    u64,
-    Fold,
-    parking_lot_rwlock::RawRwLock<'t, 'l, R, 0, Global>,
->;
+type Shared<'t, 'l, R> = Numbers<parking_lot_rwlock::RawRwLock<'t, 'l, R, 0, Global>, Global>;
 
 type Entry = Entered<u64, u64>;
 
@@ -40,9 +33,20 @@ struct Part {
     is_answered: bool,
 }
 
-/// Makes so many calls of all kinds on all keys in turn.
+/// The call of a number: all kinds on all keys in turn.
+fn call_of(number: u64) -> Call<u64, u64> {
+    let key = number.wrapping_mul(7) % KEYS;
+    match number % 5 {
+        0 | 1 => Call::Insert(key, number),
+        2 => Call::ReplaceIf(key, number.wrapping_sub(1), number),
+        3 => Call::GetCopied(key),
+        _ => Call::Remove(key),
+    }
+}
+
+/// Makes so many calls.
 fn calls<Q: RawRwLock<Party = ThreadData<Global>>>(
-    map: &Recorded<u64, u64, Fold, Q, Global>,
+    map: &Numbers<Q, Global>,
     part: &mut Part,
     count: u64,
 )
@@ -54,17 +58,8 @@ where
         me,
         is_answered,
     } = part;
-    for i in 0..count {
-        let key = i.wrapping_mul(7) % KEYS;
-        let is_ok = match i % 5 {
-            0 | 1 => map.insert(key, i, caller, me).is_ok(),
-            2 => map
-                .replace_if(&key, i.wrapping_sub(1), i, caller, me)
-                .is_ok(),
-            3 => map.get_copied(&key, caller, me).is_ok(),
-            _ => map.remove(&key, caller, me).is_ok(),
-        };
-        *is_answered = *is_answered & is_ok;
+    for number in 0..count {
+        *is_answered &= make(map, call_of(number), caller, me).is_ok();
     }
 }
 
@@ -98,7 +93,7 @@ fn parts(
 /// Lets each caller make so many calls, in a thread of its own.
 fn call_all<R: Threads + Sync, Q: RawRwLock<Party = ThreadData<Global>> + Sync>(
     rt: &R,
-    map: &Recorded<u64, u64, Fold, Q, Global>,
+    map: &Numbers<Q, Global>,
     parts: &mut [Part],
     count: u64,
 )

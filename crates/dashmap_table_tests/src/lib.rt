@@ -1,6 +1,11 @@
-//! Tests of the tables: what no contract of theirs says. A growth that is refused is tried on heaps of all small sizes.
+//! Tests of what stands below the locks: shards and their tables of tags, views, parallel forms of both, and small things of guards. They
+//! try what no contract says. A call on a shard of numbers is data, and so is what it answers: a case is a row of a table.
 #![tactic(auto)]
 
+#[cfg(test)]
+mod calls;
+#[cfg(test)]
+mod found;
 #[cfg(test)]
 mod heaps;
 #[cfg(test)]
@@ -8,12 +13,20 @@ mod kernel;
 #[cfg(test)]
 mod keys;
 #[cfg(test)]
+mod pieces;
+#[cfg(test)]
 mod routes;
 #[cfg(test)]
 mod shard;
 #[cfg(test)]
 mod shards;
 #[cfg(test)]
+mod small;
+#[cfg(test)]
 mod twins;
+#[cfg(test)]
+mod views;
+#[cfg(test)]
+mod walks;
 #[cfg(test)]
 mod words;

@@ -1,40 +1,71 @@
 //! One shard: its room, its keys and its pairs.
 
-use super::words::{Word, spelled};
-use dashmap_table::{NoMemory, Shard};
+use crate::calls::{Answer, Call, Hashes, Row, run};
+use crate::words::{Word, spelled};
+use dashmap_table::Shard;
 use std::test::Fail;
+
+const ROOM: &[Row] = &[
+    (Call::HasRoomAtMost(0), Answer::Flag(true)),
+    (Call::Len, Answer::Number(0)),
+    (Call::Reserve(10), Answer::Flag(true)),
+    (Call::HasRoom(10), Answer::Flag(true)),
+    (Call::Len, Answer::Number(0)),
+    (Call::Insert(7, 1, 2), Answer::Absent),
+    (Call::Len, Answer::Number(1)),
+    (Call::Remove(7, 1), Answer::Pair(1, 2)),
+    (Call::Remove(7, 1), Answer::Absent),
+    (Call::Shrink, Answer::Flag(true)),
+    (Call::HasRoomAtMost(0), Answer::Flag(true)),
+];
 
 #[test]
 fn room_comes_and_goes(rt: HostRuntime) -> Result<(), Fail> {
+    run(&mut Shard::new(rt.alloc()), ROOM)
+}
+
+const TOO_MUCH: &[Row] = &[
+    (Call::Reserve(usize::MAX), Answer::Flag(false)),
+    (Call::Len, Answer::Number(1)),
+    (Call::Find(7, 1), Answer::Number(2)),
+];
+
+const RESERVED: &[Row] = &[
+    (Call::InsertEach(Hashes::Own, 2, 22), Answer::Number(20)),
+    (Call::Len, Answer::Number(21)),
+];
+
+#[test]
+fn room_stays_where_it_is_enough_or_refused(rt: HostRuntime) -> Result<(), Fail> {
     let mut shard = Shard::new(rt.alloc());
-    let mut right = shard.capacity() == 0 && shard.is_empty();
-    right &= shard.reserve(10).is_ok() & (shard.capacity() >= 10) & shard.is_empty();
-    let (slot, old) = shard.insert(7, 1u64, 2u64)?;
-    right &= old.is_none() & (shard.len() == 1) & (shard.remove(slot) == Some((1, 2)));
-    right &= shard.remove(slot).is_none() & shard.shrink().is_ok();
-    assert!(rt; right && shard.capacity() == 0);
+    let mut right = shard.is_empty() && shard.insert(7, 1, 2).is_ok() && !shard.is_empty();
+    let capacity = shard.capacity();
+    run(&mut shard, TOO_MUCH)?;
+    right &= shard.capacity() == capacity && shard.reserve(21).is_ok();
+    let capacity = shard.capacity();
+    run(&mut shard, RESERVED)?;
+    assert!(rt; right && shard.capacity() == capacity);
     Ok(())
 }
 
-#[test]
-fn too_much_room_is_refused(rt: HostRuntime) {
-    let mut shard = Shard::new(rt.alloc());
-    let mut right = shard.insert(7, 1u64, 2u64).is_ok();
-    let capacity = shard.capacity();
-    right &= shard.reserve(usize::MAX) == Err(NoMemory);
-    right &= (shard.len() == 1) & (shard.capacity() == capacity);
-    assert!(rt; right && shard.find(7, &1).is_some());
-}
+const ADDED: &[Row] = &[
+    (Call::Add(7, 1, 10), Answer::Done),
+    (Call::Add(7, 2, 20), Answer::Done),
+    (Call::Add(7, 1, 30), Answer::Absent),
+    (Call::Len, Answer::Number(2)),
+    (Call::Find(7, 1), Answer::Number(10)),
+    (Call::Remove(7, 2), Answer::Pair(2, 20)),
+    (Call::Remove(7, 1), Answer::Pair(1, 10)),
+];
 
 #[test]
-fn reserved_insertions_take_no_memory(rt: HostRuntime) {
+fn a_key_that_is_known_to_be_absent_is_added(rt: HostRuntime) -> Result<(), Fail> {
     let mut shard = Shard::new(rt.alloc());
-    let mut right = shard.insert(0, 100u64, 0u64).is_ok() & shard.reserve(20).is_ok();
+    shard.reserve(3)?;
     let capacity = shard.capacity();
-    for key in 0..20 {
-        right &= shard.insert(key, key, key).is_ok();
-    }
-    assert!(rt; right && shard.len() == 21 && shard.capacity() == capacity);
+    run(&mut shard, ADDED)?;
+    assert!(rt; shard.capacity() == capacity);
+    Ok(())
 }
 
 #[test]
@@ -50,47 +81,28 @@ fn full_slots_are_shown_together(rt: HostRuntime) {
     }
 }
 
-/// Adds a key that isn't there where there is room.
-fn added(shard: &mut Shard<u64, u64>, hash: u64, key: u64, value: u64) -> Option<usize> {
-    if shard.find(hash, &key).is_none() && shard.len() < shard.capacity() {
-        Some(shard.add(hash, key, value))
-    } else {
-        None
-    }
-}
+const OF_ONE_HASH: &[Row] = &[
+    (
+        Call::InsertEach(Hashes::One(0), 0, 200),
+        Answer::Number(200),
+    ),
+    (
+        Call::RemoveEach(Hashes::One(0), 0, 0, 200),
+        Answer::Number(100),
+    ),
+    (Call::Len, Answer::Number(100)),
+    (
+        Call::FindEach(Hashes::One(0), 1, 0, 200),
+        Answer::Number(100),
+    ),
+    (Call::FindEach(Hashes::One(0), 0, 0, 200), Answer::Number(0)),
+    (Call::FindEach(Hashes::One(1), 0, 0, 200), Answer::Number(0)),
+    (Call::FindEach(Hashes::One(1), 1, 0, 200), Answer::Number(0)),
+];
 
 #[test]
-fn a_key_that_is_known_to_be_absent_is_added(rt: HostRuntime) -> Result<(), Fail> {
-    let mut shard = Shard::new(rt.alloc());
-    shard.reserve(3)?;
-    let capacity = shard.capacity();
-    let first = added(&mut shard, 7, 1, 10).ok_or("no room")?;
-    let second = added(&mut shard, 7, 2, 20).ok_or("no room for two")?;
-    let mut right = added(&mut shard, 7, 1, 30).is_none() & (shard.len() == 2);
-    right &= (shard.find(7, &1) == Some(first)) & (shard.remove(second) == Some((2, 20)));
-    assert!(rt; right && shard.remove(first) == Some((1, 10)) && shard.capacity() == capacity);
-    Ok(())
-}
-
-#[test]
-fn one_hash_keeps_all_keys_apart(rt: HostRuntime) {
-    let mut shard = Shard::new(rt.alloc());
-    let mut right = true;
-    for key in 0u64..200 {
-        right &= shard.insert(0, key, key).is_ok();
-    }
-    for key in 0u64..100 {
-        right &= match shard.find(0, &(2 * key)) {
-            Some(slot) => shard.remove(slot).is_some(),
-            None => false,
-        };
-    }
-    assert!(rt; right && shard.len() == 100);
-    for key in 0u64..200 {
-        let is_found = shard.find(0, &key).is_some();
-        right &= (is_found == (key % 2 == 1)) & shard.find(1, &key).is_none();
-    }
-    assert!(rt; right, "of some key");
+fn one_hash_keeps_all_keys_apart(rt: HostRuntime) -> Result<(), Fail> {
+    run(&mut Shard::new(rt.alloc()), OF_ONE_HASH)
 }
 
 #[test]
@@ -174,23 +186,21 @@ fn slots_lend_their_pairs(rt: HostRuntime) -> Result<(), Fail> {
     Ok(())
 }
 
+const SHRUNK: &[Row] = &[
+    (Call::InsertEach(Hashes::Own, 0, 40), Answer::Number(40)),
+    (Call::RemoveEach(Hashes::Own, 0, 0, 39), Answer::Number(20)),
+    (Call::RemoveEach(Hashes::Own, 1, 0, 39), Answer::Number(19)),
+    (Call::Shrink, Answer::Flag(true)),
+    (Call::Len, Answer::Number(1)),
+    (Call::HasRoomAtMost(4), Answer::Flag(true)),
+    (Call::Find(39, 39), Answer::Number(39)),
+    (Call::Replace(39, 39, 40), Answer::Pair(39, 39)),
+    (Call::Remove(39, 39), Answer::Pair(39, 40)),
+];
+
 #[test]
 fn a_shard_that_shrinks_keeps_its_pairs(rt: HostRuntime) -> Result<(), Fail> {
-    let mut shard = Shard::new(rt.alloc());
-    let mut right = true;
-    for key in 0u64..40 {
-        right &= shard.insert(key, key, key).is_ok();
-    }
-    for key in 0u64..39 {
-        right &= match shard.find(key, &key) {
-            Some(slot) => shard.remove(slot).is_some(),
-            None => false,
-        };
-    }
-    right &= shard.shrink().is_ok() & (shard.len() == 1) & (shard.capacity() <= 4);
-    let slot = shard.find(39, &39).ok_or("the last pair is gone")?;
-    assert!(rt; right && shard.remove(slot) == Some((39, 39)));
-    Ok(())
+    run(&mut Shard::new(rt.alloc()), SHRUNK)
 }
 
 #[test]

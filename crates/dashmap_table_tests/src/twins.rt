@@ -1,4 +1,5 @@
 //! One shard beside a hash map and beside a plain list of pairs, over many calls.
+use crate::calls::{taken, value_of};
 use dashmap_table::Shard;
 use std::alloc::Global;
 use std::collections::HashMap;
@@ -29,24 +30,13 @@ fn hash_of(key: u64, is_poor: bool) -> u64 {
     }
 }
 
-/// The value of a key, taken out.
-fn taken(shard: &mut Shard<u64, u64>, hash: u64, key: u64) -> Option<u64> {
-    let slot = shard.find(hash, &key)?;
-    match shard.remove(slot) {
-        Some((stored, value)) if stored == key => Some(value),
-        _ => None,
-    }
-}
-
-fn value_of(shard: &Shard<u64, u64>, hash: u64, key: u64) -> Option<u64> {
-    let (_, value) = shard.pair(shard.find(hash, &key)?)?;
-    Some(*value)
-}
-
 /// What a call did: the value that a key had before it.
 fn done(shard: &mut Shard<u64, u64>, call: u64, hash: u64, key: u64, value: u64) -> Option<u64> {
     match call % 4 {
-        0 => taken(shard, hash, key),
+        0 => match taken(shard, hash, key) {
+            Some((stored, value)) if stored == key => Some(value),
+            _ => None,
+        },
         1 => value_of(shard, hash, key),
         _ => match shard.insert(hash, key, value) {
             Ok((_, old)) => old,

@@ -1,0 +1,55 @@
+//! The maps that tables are run on.
+
+pub use dashmap_calls::Row;
+use dashmap_calls::{Numbers, run};
+use dashmap_map::DashMap;
+use dashmap_table::{MapFault, SpreadState};
+use lock_api_spin::PackedLock;
+use parking_lot_core::ParkingLot;
+use parking_lot_rwlock::LockTable;
+use std::alloc::Global;
+use std::hash::Hash;
+use std::sync::Wait;
+use std::test::Fail;
+
+/// A map whose locks are words that are tried again and again.
+pub type Spun<K, V, R> = DashMap<K, V, SpreadState, PackedLock<R>>;
+
+/// A map with so many shards.
+pub fn map_of<K: Eq + Hash + Drop, V: Drop, R: Drop + Copy>(
+    rt: R,
+    alloc: Global,
+    shards: usize,
+) -> Result<Spun<K, V, R>, MapFault> {
+    DashMap::with_hasher_and_shard_amount(alloc, SpreadState, shards, rt)
+}
+
+/// A map of numbers whose locks are rows of a table.
+pub type Parked<'t, 'l, R> = Numbers<
+    SpreadState,
+    parking_lot_rwlock::RawRwLock<'t, 'l, R, 0, Global>,
+    Global,
+>;
+
+/// A map of numbers over the rows of a table.
+pub fn parked<'t, 'l, R: Wait>(
+    alloc: Global,
+    table: &'t LockTable<'l, R, Global>,
+    shards: usize,
+) -> Result<Parked<'t, 'l, R>, MapFault> {
+    DashMap::with_hasher_and_shard_amount(alloc, SpreadState, shards, table)
+}
+
+/// Makes the calls of a table on an empty map over each kind of lock. Where an answer is another, it fails with the row.
+pub fn check<R: Wait + Copy + Drop>(
+    rt: R,
+    alloc: Global,
+    shards: usize,
+    rows: &[Row],
+) -> Result<(), Fail> {
+    run(&map_of(rt, alloc, shards)?, rows, &mut 1)?;
+    let lot = ParkingLot::new(rt, alloc, 1, 7)?;
+    let table = LockTable::new(alloc, &lot, shards)?;
+    let mut me = lot.thread_data()?;
+    run(&parked(alloc, &table, shards)?, rows, &mut me)
+}

@@ -1,0 +1,73 @@
+//! The map's calls and walks by their underscored names.
+
+use crate::tables::map_of;
+use dashmap_calls::Numbers;
+use dashmap_iter::walks::Walks;
+use dashmap_map::Map;
+use dashmap_table::SpreadState;
+use lock_api_raw::RawRwLock;
+use std::alloc::Allocator;
+use std::hash::BuildHasher;
+use std::sync::Wait;
+use std::test::Fail;
+
+/// Uses the calls that give no guard on any map with the pair 7 and 1 alone. It is without pairs and without room afterwards.
+fn uses_values<M: Map<u64, u64, SpreadState>>(
+    map: &M,
+    me: &mut <M::Lock as RawRwLock>::Party,
+) -> bool
+where
+    <M::Lock as RawRwLock>::Runtime: Wait,
+{
+    map._alter(&7, |_, value| value.wrapping_mul(70), me);
+    let mut right = (map._len(me) == 1) & !map._is_empty(me) & (map._capacity(me) >= 1);
+    right = right & map._contains_key(&7, me) & !map._contains_key(&8, me);
+    right = right & (map._view(&7, |_, value| *value, me) == Some(70));
+    right = right & map._remove_if(&7, |_, value| *value == 1, me).is_none();
+    right = right & (map._remove_if_mut(&7, |_, value| *value == 70, me) == Some((7, 70)));
+    right = right & (map._insert(7, 2, me) == Ok(None)) & (map._remove(&7, me) == Some((7, 2)));
+    right & map._shrink_to_fit(me).is_ok() & (map._capacity(me) == 0) & (map._shard_count() == 4)
+}
+
+/// Uses the calls that give guards and entries on a map without pairs. It has the pair 7 and 1 afterwards.
+fn uses_guards<S: BuildHasher, Q: RawRwLock, A: Allocator + Clone>(
+    map: &Numbers<S, Q, A>,
+    me: &mut Q::Party,
+) -> bool
+where
+    Q::Runtime: Wait,
+{
+    let mut right = match map._entry(7, me) {
+        Ok(entry) => *entry.or_insert(1) == 1,
+        Err(_) => false,
+    };
+    right &= match map._try_entry(7) {
+        Ok(Some(entry)) => entry.into_key() == 7,
+        Ok(None) | Err(_) => false,
+    };
+    right &= map._get(&8, me).is_none();
+    right &= map._get_mut(&7, me).is_some();
+    right &= map._try_get(&7).is_present();
+    right & map._try_get_mut(&8).is_absent()
+}
+
+#[test]
+fn the_trait_calls_the_map(rt: HostRuntime) -> Result<(), Fail> {
+    let map = map_of(rt, rt.alloc(), 4)?;
+    let right = uses_guards(&map, &mut 1) & uses_values(&map, &mut 1);
+    assert!(rt; right & (map._hasher()? == SpreadState));
+    Ok(())
+}
+
+#[test]
+fn walks_by_their_underscored_names_do_the_same(rt: HostRuntime) -> Result<(), Fail> {
+    let mut map = map_of(rt, rt.alloc(), 8)?;
+    let mut right = map.extend((0..100u64).map(|key| (key, key))).is_ok();
+    map._retain(|key, _| *key % 2 == 1, &mut 1);
+    map._alter_all(|key, value| value.wrapping_add(*key), &mut 1);
+    right &= map.len(&mut 1) == 50 && !map.contains_key(&10, &mut 1);
+    right &= map.view(&11, |_, value| *value, &mut 1) == Some(22);
+    map._clear(&mut 1);
+    assert!(rt; right && map.is_empty(&mut 1));
+    Ok(())
+}

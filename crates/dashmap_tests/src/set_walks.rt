@@ -1,0 +1,131 @@
+//! An item of a set's walk, calls of its owner, its clones, its shards, its text, and threads that share it.
+
+use crate::sets::{Answer, Call, Spun, make, set_of};
+use dashmap_set::DashSet;
+use dashmap_table::SpreadState;
+use std::alloc::{AllocError, Global};
+use std::string::String;
+use std::sync::Wait;
+use std::test::Fail;
+use std::thread;
+use std::thread::Threads;
+
+/// What is printed of a set.
+fn text_of<R: Wait + Drop>(set: &Spun<u64, R>, alloc: Global) -> Result<String, AllocError> {
+    format!(in alloc; "{set:?}")
+}
+
+/// The key of the first item of a walk that is over, and what is printed of the set while the item is kept.
+fn kept_item<R: Wait + Drop>(
+    set: &Spun<u64, R>,
+    alloc: Global,
+) -> Result<Option<(u64, String)>, AllocError> {
+    let mut me = 1;
+    let mut walk = set.iter(&mut me);
+    let Some(Ok(item)) = walk.next() else {
+        return Ok(None);
+    };
+    let is_over = walk.next().is_none();
+    drop(walk);
+    let text = text_of(set, alloc)?;
+    Ok(if is_over { Some((*item, text)) } else { None })
+}
+
+#[test]
+fn an_item_keeps_the_hold_of_its_shard(rt: HostRuntime) -> Result<(), Fail> {
+    let mut set: Spun<u64, HostRuntime> = set_of(rt, rt.alloc())?;
+    let mut right = set.insert_mut(5) == Ok(true);
+    right &= text_of(&set, rt.alloc())?.as_str() == "{5: ()}";
+    let (key, text) = kept_item(&set, rt.alloc())?.ok_or("no item")?;
+    assert!(rt; right && key == 5 && text.as_str() == "{5: ()}");
+    assert!(rt; make(&set, Call::Remove(5), &mut 1) == Answer::Number(5));
+    Ok(())
+}
+
+#[test]
+fn keys_are_put_in_one_after_another_and_come_once_each(rt: HostRuntime) -> Result<(), Fail> {
+    let mut set: Spun<u64, HostRuntime> = set_of(rt, rt.alloc())?;
+    let mut right = set.extend(vec![in rt.alloc(); 1u64, 2, 1]?.into_iter()) == Ok(());
+    right &= make(&set, Call::Len, &mut 1) == Answer::Number(2);
+    right &= set.insert_mut(2) == Ok(false) && set.insert_mut(3) == Ok(true);
+    let mut sum = 0u64;
+    let mut keys = 0u64;
+    for key in set {
+        sum = sum.wrapping_add(key);
+        keys = keys.wrapping_add(1);
+    }
+    assert!(rt; right && keys == 3 && sum == 6);
+    Ok(())
+}
+
+#[test]
+fn a_set_is_made_of_an_iterator(rt: HostRuntime) -> Result<(), Fail> {
+    let keys = vec![in rt.alloc(); 1u64, 2, 1]?.into_iter();
+    let set: Spun<u64, HostRuntime> = DashSet::from_iter(rt.alloc(), keys, SpreadState, 2, rt)?;
+    let right = make(&set, Call::Iter, &mut 1) == Answer::Met(2, 3);
+    let other = make(&set, Call::Contains(3), &mut 1);
+    assert!(rt; right && other == Answer::Flag(false) && set.shards().count() == 8);
+    Ok(())
+}
+
+/// How many keys the shards of a set have, each read in its turn.
+fn keys_in_shards<R: Wait + Drop>(set: &Spun<u64, R>) -> usize {
+    let mut keys = 0usize;
+    let shards = set.shards();
+    for number in 0..shards.count() {
+        if let Some(shard) = shards.read(number, &mut 1) {
+            keys = keys.wrapping_add(shard.len());
+        }
+    }
+    keys
+}
+
+#[test]
+fn a_clone_of_a_set_goes_its_own_way(rt: HostRuntime) -> Result<(), Fail> {
+    let set: Spun<u64, HostRuntime> = set_of(rt, rt.alloc())?;
+    let mut right = make(&set, Call::InsertBelow(3), &mut 1) == Answer::Number(3);
+    let clone = set.clone(rt, &mut 1)?;
+    right &= make(&clone, Call::Remove(1), &mut 1) == Answer::Number(1);
+    right &= make(&clone, Call::Iter, &mut 1) == Answer::Met(2, 2);
+    assert!(rt; right && make(&set, Call::Iter, &mut 1) == Answer::Met(3, 3));
+    assert!(rt; keys_in_shards(&set) == 3);
+    Ok(())
+}
+
+/// The room of a set, before it is cleared and after it.
+fn room_around_a_clear<R: Wait + Drop>(set: &Spun<u64, R>) -> (usize, usize) {
+    let room = set.capacity(&mut 1);
+    set.clear(&mut 1);
+    (room, set.capacity(&mut 1))
+}
+
+#[test]
+fn a_cleared_set_is_empty_and_keeps_its_room(rt: HostRuntime) -> Result<(), Fail> {
+    let set: Spun<u64, HostRuntime> = set_of(rt, rt.alloc())?;
+    let right = make(&set, Call::InsertBelow(3), &mut 1) == Answer::Number(3);
+    let (before, after) = room_around_a_clear(&set);
+    assert!(rt; right && before == after && before >= 3);
+    assert!(rt; make(&set, Call::Insert(2), &mut 1) == Answer::Flag(true));
+    Ok(())
+}
+
+/// How many of the keys below a number are new to a set that another thread fills, too.
+fn new_keys<R: Wait + Drop>(set: &Spun<u64, R>, end: u64, mut me: u32) -> Answer {
+    make(set, Call::InsertBelow(end), &mut me)
+}
+
+/// What two threads are told that fill a set with the same keys.
+fn both<R: Threads + Wait + Sync + Drop>(rt: &R, set: &Spun<u64, R>, end: u64) -> (Answer, Answer) {
+    thread::join(rt, || new_keys(set, end, 1), || new_keys(set, end, 2))
+}
+
+#[test]
+fn each_key_is_new_once(rt: HostRuntime) -> Result<(), Fail> {
+    let set: Spun<u64, HostRuntime> = set_of(rt, rt.alloc())?;
+    let (Answer::Number(one), Answer::Number(two)) = both(&rt, &set, 1_000) else {
+        return Err("a refused key".into());
+    };
+    assert!(rt; one.wrapping_add(two) == 1_000);
+    assert!(rt; make(&set, Call::Len, &mut 1) == Answer::Number(1_000));
+    Ok(())
+}

@@ -1,0 +1,358 @@
+//! Calls on a set as data, and tables of them.
+
+use dashmap_set::DashSet;
+use dashmap_table::{MapFault, SpreadState};
+use lock_api_raw::RawRwLock;
+use lock_api_spin::PackedLock;
+use parking_lot_core::ParkingLot;
+use parking_lot_rwlock::LockTable;
+use std::alloc::{Allocator, Global};
+use std::hash::{BuildHasher, Hash};
+use std::sync::Wait;
+use std::test::Fail;
+
+/// A call on a set of numbers, by its name in the set.
+#[derive(Clone, Copy)]
+pub enum Call {
+    /// Answers whether the key is new.
+    Insert(u64),
+    Contains(u64),
+    /// Answers the key that the guard lends.
+    Get(u64),
+    Remove(u64),
+    /// Takes the key out where it leaves this rest when it is divided by two.
+    RemoveIf(u64, u64),
+    Len,
+    IsEmpty,
+    /// Whether there is room for so many keys.
+    HasRoom(usize),
+    /// Whether there is no room at all.
+    HasNoRoom,
+    ShrinkToFit,
+    /// Keeps the keys that leave this rest when they are divided by two, and answers the sum of all.
+    Retain(u64),
+    Clear,
+    /// A walk that lends: answers how many keys it met, and their sum.
+    Iter,
+    /// Puts in the keys below a number, and answers how many were new.
+    InsertBelow(u64),
+    /// Takes out the keys below a number, and answers how many were there.
+    RemoveBelow(u64),
+}
+
+/// What a call answers.
+#[derive(Clone, Copy, PartialEq, Eq, Debug)]
+pub enum Answer {
+    Done,
+    /// There is no such key.
+    Absent,
+    /// No memory for this key.
+    Refused(u64),
+    Flag(bool),
+    /// A key, an amount or a sum.
+    Number(u64),
+    /// An amount of keys and their sum.
+    Met(u64, u64),
+}
+
+impl Answer {
+    /// A key that may be there.
+    fn of_key(key: Option<u64>) -> Answer {
+        match key {
+            Some(key) => Answer::Number(key),
+            None => Answer::Absent,
+        }
+    }
+}
+
+/// A set of numbers, over any lock.
+pub type Numbers<S, Q, A> = DashSet<u64, S, Q, A>;
+
+/// Makes a call.
+pub fn make<S: BuildHasher, Q: RawRwLock, A: Allocator + Clone>(
+    set: &Numbers<S, Q, A>,
+    call: Call,
+    me: &mut Q::Party,
+) -> Answer
+where
+    Q::Runtime: Wait,
+{
+    match call {
+        Call::Insert(key) => match set.insert(key, me) {
+            Ok(is_new) => Answer::Flag(is_new),
+            Err(key) => Answer::Refused(key),
+        },
+        Call::Contains(key) => Answer::Flag(set.contains(&key, me)),
+        Call::Get(key) => got(set, key, me),
+        Call::Remove(key) => Answer::of_key(set.remove(&key, me)),
+        Call::RemoveIf(key, rest) => {
+            Answer::of_key(set.remove_if(&key, |stored| *stored % 2 == rest, me))
+        }
+        Call::InsertBelow(end) => Answer::Number(insert_below(set, end, me)),
+        Call::RemoveBelow(end) => Answer::Number(remove_below(set, end, me)),
+        _ => make_on_all(set, call, me),
+    }
+}
+
+/// Makes a call on all keys.
+fn make_on_all<S: BuildHasher, Q: RawRwLock, A: Allocator + Clone>(
+    set: &Numbers<S, Q, A>,
+    call: Call,
+    me: &mut Q::Party,
+) -> Answer
+where
+    Q::Runtime: Wait,
+{
+    match call {
+        Call::Len => Answer::Number(set.len(me) as u64),
+        Call::IsEmpty => Answer::Flag(set.is_empty(me)),
+        Call::HasRoom(keys) => Answer::Flag(set.capacity(me) >= keys),
+        Call::HasNoRoom => Answer::Flag(set.capacity(me) == 0),
+        Call::ShrinkToFit => Answer::Flag(set.shrink_to_fit(me).is_ok()),
+        Call::Retain(rest) => {
+            let mut sum = 0u64;
+            set.retain(
+                |key| {
+                    sum = sum.wrapping_add(*key);
+                    *key % 2 == rest
+                },
+                me,
+            );
+            Answer::Number(sum)
+        }
+        Call::Iter => met(set, me),
+        _ => {
+            set.clear(me);
+            Answer::Done
+        }
+    }
+}
+
+/// The key that a guard lends.
+fn got<S: BuildHasher, Q: RawRwLock, A: Allocator>(
+    set: &Numbers<S, Q, A>,
+    key: u64,
+    me: &mut Q::Party,
+) -> Answer
+where
+    Q::Runtime: Wait,
+{
+    match set.get(&key, me) {
+        Some(guard) if *guard == *guard.key() => Answer::Number(*guard),
+        Some(_) => Answer::Flag(false),
+        None => Answer::Absent,
+    }
+}
+
+/// How many keys a walk lends, and their sum. Where one item is refused it answers how many were lent.
+fn met<S: BuildHasher, Q: RawRwLock, A: Allocator + Clone>(
+    set: &Numbers<S, Q, A>,
+    me: &mut Q::Party,
+) -> Answer
+where
+    Q::Runtime: Wait,
+{
+    let (mut count, mut sum, mut wrong, mut refused) = (0u64, 0u64, 0u64, 0u64);
+    let walk = {
+        let me = &mut *me;
+        set.iter(me)
+    };
+    for item in walk {
+        match item {
+            Ok(key) => {
+                count = count.wrapping_add(1);
+                sum = sum.wrapping_add(*key);
+                wrong = wrong.wrapping_add(u64::from(*key != *key.key()));
+            }
+            Err(_) => refused = refused.wrapping_add(1),
+        }
+    }
+    match (wrong, refused) {
+        (0, 0) => Answer::Met(count, sum),
+        (0, 1) => Answer::Refused(count),
+        _ => Answer::Flag(false),
+    }
+}
+
+/// Puts in the keys below a number.
+fn insert_below<S: BuildHasher, Q: RawRwLock, A: Allocator + Clone>(
+    set: &Numbers<S, Q, A>,
+    end: u64,
+    me: &mut Q::Party,
+) -> u64
+where
+    Q::Runtime: Wait,
+{
+    let mut count = 0u64;
+    for key in 0..end {
+        count = count.wrapping_add(u64::from(set.insert(key, me) == Ok(true)));
+    }
+    count
+}
+
+/// Takes out the keys below a number.
+fn remove_below<S: BuildHasher, Q: RawRwLock, A: Allocator + Clone>(
+    set: &Numbers<S, Q, A>,
+    end: u64,
+    me: &mut Q::Party,
+) -> u64
+where
+    Q::Runtime: Wait,
+{
+    let mut count = 0u64;
+    for key in 0..end {
+        count = count.wrapping_add(u64::from(set.remove(&key, me) == Some(key)));
+    }
+    count
+}
+
+/// A call, and what it is to answer.
+pub type Row = (Call, Answer);
+
+/// The number of a row of a table, the first of which is 0, and what was answered in place of its answer.
+#[derive(Clone, Copy, Debug)]
+struct Wrong {
+    row: usize,
+    answer: Answer,
+}
+
+/// Makes the calls of a table, and fails with the first row that is answered otherwise.
+pub fn run<S: BuildHasher, Q: RawRwLock, A: Allocator + Clone>(
+    set: &Numbers<S, Q, A>,
+    rows: &[Row],
+    me: &mut Q::Party,
+) -> Result<(), Fail>
+where
+    Q::Runtime: Wait,
+{
+    for row in 0..rows.len() {
+        let (call, wanted) = rows[row];
+        let answer = make(set, call, me);
+        if answer != wanted {
+            return Err(Fail::from(Wrong { row, answer }));
+        }
+    }
+    Ok(())
+}
+
+/// A set whose locks are words that are tried again and again.
+pub type Spun<K, R> = DashSet<K, SpreadState, PackedLock<R>>;
+
+/// An empty set of eight shards.
+pub fn set_of<K: Eq + Hash + Drop, R: Drop + Copy>(
+    rt: R,
+    alloc: Global,
+) -> Result<Spun<K, R>, MapFault> {
+    DashSet::with_hasher(alloc, SpreadState, 2, rt)
+}
+
+/// A set of numbers whose locks are rows of a table.
+type Parked<'t, 'l, R> = Numbers<
+    SpreadState,
+    parking_lot_rwlock::RawRwLock<'t, 'l, R, 0, Global>,
+    Global,
+>;
+
+/// Makes the calls of a table on an empty set over each kind of lock.
+fn check<R: Wait + Copy + Drop>(rt: R, alloc: Global, rows: &[Row]) -> Result<(), Fail> {
+    run(&set_of(rt, alloc)?, rows, &mut 1)?;
+    let lot = ParkingLot::new(rt, alloc, 1, 7)?;
+    let table = LockTable::new(alloc, &lot, 8)?;
+    let mut me = lot.thread_data()?;
+    let made: Result<Parked<'_, '_, R>, MapFault> = DashSet::with_hasher(
+        alloc,
+        SpreadState,
+        2,
+        &table,
+    );
+    run(&made?, rows, &mut me)
+}
+
+const ONCE: &[Row] = &[
+    (Call::IsEmpty, Answer::Flag(true)),
+    (Call::Insert(1), Answer::Flag(true)),
+    (Call::Insert(1), Answer::Flag(false)),
+    (Call::Contains(1), Answer::Flag(true)),
+    (Call::Len, Answer::Number(1)),
+    (Call::Remove(1), Answer::Number(1)),
+    (Call::Remove(1), Answer::Absent),
+    (Call::Contains(1), Answer::Flag(false)),
+    (Call::IsEmpty, Answer::Flag(true)),
+];
+
+#[test]
+fn a_key_is_put_in_once(rt: HostRuntime) -> Result<(), Fail> {
+    check(rt, rt.alloc(), ONCE)
+}
+
+const LENT: &[Row] = &[
+    (Call::Insert(0), Answer::Flag(true)),
+    (Call::Get(1), Answer::Absent),
+    (Call::Get(0), Answer::Number(0)),
+    (Call::Remove(0), Answer::Number(0)),
+];
+
+#[test]
+fn a_guard_lends_the_key(rt: HostRuntime) -> Result<(), Fail> {
+    check(rt, rt.alloc(), LENT)
+}
+
+const COME_AND_GO: &[Row] = &[
+    (Call::InsertBelow(100), Answer::Number(100)),
+    (Call::InsertBelow(100), Answer::Number(0)),
+    (Call::Len, Answer::Number(100)),
+    (Call::HasRoom(100), Answer::Flag(true)),
+    (Call::Iter, Answer::Met(100, 4950)),
+    (Call::RemoveBelow(100), Answer::Number(100)),
+    (Call::RemoveBelow(100), Answer::Number(0)),
+    (Call::IsEmpty, Answer::Flag(true)),
+    (Call::InsertBelow(100), Answer::Number(100)),
+    (Call::InsertBelow(100), Answer::Number(0)),
+    (Call::Len, Answer::Number(100)),
+    (Call::RemoveBelow(100), Answer::Number(100)),
+    (Call::RemoveBelow(100), Answer::Number(0)),
+    (Call::IsEmpty, Answer::Flag(true)),
+    (Call::Iter, Answer::Met(0, 0)),
+    (Call::ShrinkToFit, Answer::Flag(true)),
+    (Call::HasNoRoom, Answer::Flag(true)),
+];
+
+#[test]
+fn a_hundred_keys_come_and_go(rt: HostRuntime) -> Result<(), Fail> {
+    check(rt, rt.alloc(), COME_AND_GO)
+}
+
+const DECIDED: &[Row] = &[
+    (Call::Insert(2), Answer::Flag(true)),
+    (Call::RemoveIf(2, 1), Answer::Absent),
+    (Call::Contains(2), Answer::Flag(true)),
+    (Call::RemoveIf(3, 1), Answer::Absent),
+    (Call::Contains(3), Answer::Flag(false)),
+    (Call::RemoveIf(2, 0), Answer::Number(2)),
+    (Call::IsEmpty, Answer::Flag(true)),
+];
+
+#[test]
+fn a_closure_decides_what_goes(rt: HostRuntime) -> Result<(), Fail> {
+    check(rt, rt.alloc(), DECIDED)
+}
+
+const KEPT: &[Row] = &[
+    (Call::InsertBelow(6), Answer::Number(6)),
+    (Call::Retain(1), Answer::Number(15)),
+    (Call::Len, Answer::Number(3)),
+    (Call::Contains(1), Answer::Flag(true)),
+    (Call::Contains(3), Answer::Flag(true)),
+    (Call::Contains(5), Answer::Flag(true)),
+    (Call::Contains(2), Answer::Flag(false)),
+    (Call::HasRoom(3), Answer::Flag(true)),
+    (Call::Clear, Answer::Done),
+    (Call::IsEmpty, Answer::Flag(true)),
+    (Call::HasRoom(3), Answer::Flag(true)),
+    (Call::Insert(2), Answer::Flag(true)),
+];
+
+#[test]
+fn keys_of_which_the_closure_says_no_go(rt: HostRuntime) -> Result<(), Fail> {
+    check(rt, rt.alloc(), KEPT)
+}
