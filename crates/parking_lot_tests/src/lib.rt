@@ -3,22 +3,21 @@
 #![tactic(auto)]
 
 #[cfg(test)]
-mod beside;
+mod checks;
+#[cfg(test)]
+mod crowds;
+#[cfg(test)]
+mod mutex_plays;
+#[cfg(test)]
+mod rw_plays;
+#[cfg(test)]
+mod stage;
 #[cfg(test)]
 mod deadlines;
 #[cfg(test)]
-mod guards;
-#[cfg(test)]
 mod mutex_calls;
 #[cfg(test)]
-mod mutexes;
-#[cfg(test)]
-#[cfg(test)]
-mod readers;
-#[cfg(test)]
 mod rows;
-#[cfg(test)]
-mod rw_beside;
 #[cfg(test)]
 mod rw_calls;
 #[cfg(test)]
@@ -28,8 +27,6 @@ mod script;
 #[cfg(test)]
 mod sections;
 #[cfg(test)]
-mod timed;
+mod timed_calls;
 #[cfg(test)]
-mod waiting;
-#[cfg(test)]
-mod words;
+mod upgrade_calls;
