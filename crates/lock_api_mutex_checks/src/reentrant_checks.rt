@@ -33,6 +33,7 @@ where
         Ok(mutex) => Ok(mutex),
         Err(_refused) => Err(Wrong {
             what: "no memory for an Arc",
+            row: 0,
         }),
     }
 }

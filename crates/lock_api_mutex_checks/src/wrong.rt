@@ -11,19 +11,25 @@ use std::fmt;
 pub struct Wrong {
     /// What it is about.
     pub what: &'static str,
+    /// The row, where that is a table of calls.
+    pub row: usize,
 }
 
 impl fmt::Display for Wrong {
     fn fmt<W: fmt::Write>(&self, f: &mut fmt::Formatter<W>) -> fmt::Result {
-        f.write_str(self.what)
+        write!(f, "{}, row {}", self.what, self.row)
     }
 }
 
 /// Goes on where `holds` is true, and else says what is wrong.
 pub fn expect(holds: bool, what: &'static str) -> Result<(), Wrong>
-    ensures { result ≡ if holds then Ok tt else Err (record { what = what.entry }) }
+    ensures { result ≡ if holds then Ok tt else Err (record { what = what.entry; row = 0 }) }
 {
-    if holds { Ok(()) } else { Err(Wrong { what }) }
+    if holds {
+        Ok(())
+    } else {
+        Err(Wrong { what, row: 0 })
+    }
 }
 
 /// Goes on where each step is right, and else says what is the first that isn't.
@@ -36,7 +42,10 @@ pub fn expect_all(steps: &[(bool, &'static str)]) -> Result<(), Wrong> {
 
 impl From<TableFull> for Wrong {
     fn from(_fault: TableFull) -> Wrong {
-        Wrong { what: "TableFull" }
+        Wrong {
+            what: "TableFull",
+            row: 0,
+        }
     }
 }
 
@@ -44,19 +53,26 @@ impl From<ReadersFull> for Wrong {
     fn from(_fault: ReadersFull) -> Wrong {
         Wrong {
             what: "ReadersFull",
+            row: 0,
         }
     }
 }
 
 impl From<NoMemory> for Wrong {
     fn from(_fault: NoMemory) -> Wrong {
-        Wrong { what: "NoMemory" }
+        Wrong {
+            what: "NoMemory",
+            row: 0,
+        }
     }
 }
 
 impl From<WaitFault> for Wrong {
     fn from(_fault: WaitFault) -> Wrong {
-        Wrong { what: "WaitFault" }
+        Wrong {
+            what: "WaitFault",
+            row: 0,
+        }
     }
 }
 
@@ -64,6 +80,7 @@ impl From<AllocError> for Wrong {
     fn from(_error: AllocError) -> Wrong {
         Wrong {
             what: "no memory for the check itself",
+            row: 0,
         }
     }
 }
@@ -72,6 +89,7 @@ impl From<ReentrantArcFault> for Wrong {
     fn from(_fault: ReentrantArcFault) -> Wrong {
         Wrong {
             what: "ReentrantArcFault",
+            row: 0,
         }
     }
 }

@@ -186,15 +186,27 @@ fn locks_are_taken_and_given_back(rt: HostRuntime) -> Result<(), Fail> {
     let mut me = lot.thread_data()?;
     let table = LockTable::new(rt.alloc(), &lot, 5)?;
     let rows = &table;
-    assert!(rt; is_mutex_taken(Mutex::new(rows, (1, 2))?, &mut me), "the mutex");
-    assert!(rt; is_fair_mutex_taken(FairMutex::new(rows, (1, 2))?, &mut me), "the fair mutex");
+    assert!(rt;
+        is_mutex_taken(Mutex::new(rows, (1, 2))?, &mut me),
+        "the mutex"
+    );
+    assert!(rt;
+        is_fair_mutex_taken(FairMutex::new(rows, (1, 2))?, &mut me),
+        "the fair mutex"
+    );
     let lock = RwLock::new(rows, 4, (1, 2))?;
     assert!(rt; is_read_and_written(lock, rows, 2, &mut me), "the lock");
     let lock = RecursiveRwLock::new(rows, 4, (1, 2))?;
-    assert!(rt; is_recursive_read_and_written(lock, rows, 3, &mut me), "the recursive lock");
+    assert!(rt;
+        is_recursive_read_and_written(lock, rows, 3, &mut me),
+        "the recursive lock"
+    );
     let nested = ReentrantMutex::new(rows, 2, (1, 2))?;
     assert!(rt; is_taken_twice(&nested, &mut me), "the reentrant mutex");
-    assert!(rt; nested.into_inner() == (1, 2), "the reentrant mutex in the end");
+    assert!(rt;
+        nested.into_inner() == (1, 2),
+        "the reentrant mutex in the end"
+    );
     for row in 0..5 {
         assert!(rt; table.word(row) == Some(0), "row {row}");
     }

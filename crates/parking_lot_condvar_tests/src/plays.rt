@@ -5,20 +5,29 @@ use std::test::Fail;
 
 /// A mutex is taken, and let go.
 const LOCK: Line = (Step::Lock(Which::First), Answer::Done);
+
 const LOCK_SECOND: Line = (Step::Lock(Which::Second), Answer::Done);
+
 const LOCK_STRANGE: Line = (Step::Lock(Which::Strange), Answer::Done);
+
 const UNLOCK: Line = (Step::Unlock, Answer::Done);
 
 /// It is locked, or not.
 const LOCKED: Line = (Step::Locked(Which::First), Answer::Yes);
+
 const UNLOCKED: Line = (Step::Locked(Which::First), Answer::No);
+
 const SECOND_IS_LOCKED: Line = (Step::Locked(Which::Second), Answer::Yes);
+
 const SECOND_IS_UNLOCKED: Line = (Step::Locked(Which::Second), Answer::No);
+
 const STRANGE_IS_LOCKED: Line = (Step::Locked(Which::Strange), Answer::Yes);
+
 const STRANGE_IS_UNLOCKED: Line = (Step::Locked(Which::Strange), Answer::No);
 
 /// One that is about to wait says so, and one that has come back.
 const ABOUT: Line = (Step::Counts(Counter::About), Answer::Done);
+
 const BACK: Line = (Step::Counts(Counter::Back), Answer::Done);
 
 /// A wait that is woken, in time or without a limit.
@@ -72,7 +81,9 @@ macro_rules! are_about {
 
 /// One is notified, or nobody; so many are.
 const NOTIFY_ONE: Line = (Step::NotifyOne, Answer::Yes);
+
 const NOTIFY_NOBODY: Line = (Step::NotifyOne, Answer::No);
+
 macro_rules! notify_all {
     ($count:expr) => {
         (Step::NotifyAll, Answer::Number($count))
@@ -273,6 +284,7 @@ const WAITS: &[Line] = &[LOCK, ABOUT, woken!(Form::Wait), BACK, UNLOCK];
 
 /// Somebody waits with the first mutex, which is free.
 const ONE_WAITS: Line = (Step::Comes(0, 3), Answer::Yes);
+
 const FIRST_IS_FREE: Line = (Step::Comes(1, 0), Answer::Yes);
 
 /// Waits with the second mutex are refused in each form beside one that waits with the first, and keep the guard.
@@ -340,5 +352,11 @@ const NOTIFIES_FREELY: &[Line] = &[
 fn waiters_are_moved_or_woken(rt: HostRuntime) -> Result<(), Fail> {
     let alloc = rt.alloc();
     play(rt, alloc, "moved", 7, [WAITS, WAITS, MOVES_TWO])?;
-    play(rt, alloc, "all at a free mutex", 7, [WAITS, WAITS, NOTIFIES_FREELY])
+    play(
+        rt,
+        alloc,
+        "all at a free mutex",
+        7,
+        [WAITS, WAITS, NOTIFIES_FREELY],
+    )
 }

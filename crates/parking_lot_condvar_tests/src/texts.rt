@@ -3,8 +3,8 @@
 use lock_api::Condvar;
 use lock_api_raw::{MakeCondvar as _, TableFull};
 use parking_lot_core::ParkingLot;
-use parking_lot_mutex::condvar::RawCondvar;
 use parking_lot_driver::LockTable;
+use parking_lot_mutex::condvar::RawCondvar;
 use parking_lot_once::{Once, OnceFault, Poisoned};
 use std::alloc::Global;
 use std::fmt::Debug;

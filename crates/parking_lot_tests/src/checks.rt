@@ -1,7 +1,8 @@
 //! Each check of the generic locks, on the raw locks of a lock table.
 
 use lock_api_checks::{
-    Wrong, mutex_checks, reentrant_checks, rwlock_arc_checks, rwlock_checks, upgrades,
+    Wrong, mutex_checks, reentrant_checks, rwlock_arc_checks, rwlock_checks, rwlock_tables,
+    upgrades,
 };
 use lock_api_raw::{
     GetThreadId, MakeLock, RawMutexFair, RawMutexTimed, RawRwLockUpgradeDowngrade,
@@ -31,8 +32,7 @@ where
     R::Party: Send,
     R::Runtime: Wait,
 {
-    mutex_checks::all::<R, T, Global, S>(rt, alloc, source, one, other)?;
-    mutex_checks::gives_up_in_time::<R, T, S>(source, rt, one)
+    mutex_checks::all::<R, T, Global, S>(rt, alloc, source, one, other)
 }
 
 /// The same of the reader-writer lock.
@@ -49,10 +49,11 @@ where
     R::Party: Send,
     R::Runtime: Wait,
 {
-    rwlock_checks::all::<R, T, Global, S>(rt, alloc, source, one, other)?;
+    rwlock_tables::all::<R, T, S>(rt, source, one, other)?;
+    rwlock_checks::all::<R, Global, S>(alloc, source, one)?;
     rwlock_arc_checks::all::<R, Global, S>(alloc, source, one)?;
-    upgrades::all::<R, T, Global, S>(rt, alloc, source, one, other)?;
-    upgrades::all_in_time::<R, T, Global, S>(alloc, source, rt, one)
+    upgrades::all::<R, T, Global, S>(alloc, source, rt, one)?;
+    rwlock_tables::excludes::<R, T, S>(rt, source, one, other)
 }
 
 /// And of the reentrant mutex.

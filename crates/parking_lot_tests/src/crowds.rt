@@ -1,7 +1,7 @@
 //! Four threads that take a lock in many rounds beside each other.
 
 use crate::stage::{Kind, Scenario, on, stage};
-use lock_api_plays::{How, Round};
+use lock_api_checks::plays::{How, Round};
 use std::test::Fail;
 
 /// A wait that gives up after 20 microseconds.
@@ -28,7 +28,10 @@ fn four_threads_exclude_each_other(rt: HostRuntime) -> Result<(), Fail> {
     let nests = Scenario::Crowd(&[Round::Nests(How::Waits)], 5_000);
     let nested = stage(rt, alloc, "a reentrant mutex", on(Kind::Reentrant), nests)?;
     assert!(rt; nested == 20_000);
-    let upgrades = [Round::Upgrades(How::Waits, How::Waits), Round::Reads(How::Waits)];
+    let upgrades = [
+        Round::Upgrades(How::Waits, How::Waits),
+        Round::Reads(How::Waits),
+    ];
     let upgrades = Scenario::Crowd(&upgrades, 2_500);
     let upgraded = stage(rt, alloc, "upgrades", on(Kind::ReadWrite(9)), upgrades)?;
     assert!(rt; upgraded == 10_000);
@@ -56,7 +59,11 @@ fn four_threads_that_give_up_exclude_each_other(rt: HostRuntime) -> Result<(), F
     let alloc = rt.alloc();
     let adds = Scenario::Crowd(&[Round::Adds(SHORT)], 2_000);
     let added = stage(rt, alloc, "a mutex", on(Kind::Plain), adds)?;
-    let all = [Round::Adds(SHORT), Round::Upgrades(SHORT, SHORT), Round::Reads(SHORT)];
+    let all = [
+        Round::Adds(SHORT),
+        Round::Upgrades(SHORT, SHORT),
+        Round::Reads(SHORT),
+    ];
     let all = Scenario::Crowd(&all, 667);
     let upgraded = stage(rt, alloc, "a lock", on(Kind::ReadWrite(9)), all)?;
     assert!(rt; (added > 0) & (upgraded > 0));

@@ -7,25 +7,25 @@ mod checks;
 #[cfg(test)]
 mod crowds;
 #[cfg(test)]
-mod mutex_plays;
-#[cfg(test)]
-mod rw_plays;
-#[cfg(test)]
-mod stage;
-#[cfg(test)]
 mod deadlines;
 #[cfg(test)]
 mod mutex_calls;
 #[cfg(test)]
+mod mutex_plays;
+#[cfg(test)]
 mod rows;
 #[cfg(test)]
 mod rw_calls;
+#[cfg(test)]
+mod rw_plays;
 #[cfg(test)]
 mod rw_words;
 #[cfg(test)]
 mod script;
 #[cfg(test)]
 mod sections;
+#[cfg(test)]
+mod stage;
 #[cfg(test)]
 mod timed_calls;
 #[cfg(test)]

@@ -1,7 +1,7 @@
 //! Plays at the running reader-writer locks.
 
 use crate::stage::{Kind, Setting, on, play};
-use lock_api_plays::{Answer, Aside, Deed, How, Line, Mode, Step, Turn};
+use lock_api_checks::plays::{Answer, Aside, Deed, How, Line, Mode, Step, Turn};
 use std::test::Fail;
 
 /// A lock of so many readers.
@@ -11,29 +11,41 @@ const fn of(readers: u64) -> Setting {
 
 /// What the first hand asks for, and has.
 const READ: Line = (Step::Ask(Mode::Shared, How::Waits), Answer::Had);
+
 const UPGRADABLE: Line = (Step::Ask(Mode::Upgradable, How::Waits), Answer::Had);
+
 const WRITE: Line = (Step::Ask(Mode::Exclusive, How::Waits), Answer::Had);
 
 /// The same of the other hand.
 const READ_TOO: Line = (Step::AskToo(Mode::Shared, How::Waits), Answer::Had);
+
 const UPGRADABLE_TOO: Line = (Step::AskToo(Mode::Upgradable, How::Waits), Answer::Had);
 
 /// What is tried in vain.
 const NO_READER: Line = (Step::Probe(Mode::Shared, How::Tries), Answer::Refused);
+
 const NO_UPGRADABLE: Line = (Step::Probe(Mode::Upgradable, How::Tries), Answer::Refused);
+
 const NO_WRITER: Line = (Step::Probe(Mode::Exclusive, How::Tries), Answer::Refused);
 
 /// Holds end, or give way.
 const END: Line = (Step::Do(Deed::End), Answer::Done);
+
 const END_FAIRLY: Line = (Step::Do(Deed::EndFairly), Answer::Done);
+
 const BUMP: Line = (Step::Do(Deed::Bump), Answer::Done);
+
 const END_TOO: Line = (Step::DoToo(Deed::End), Answer::Done);
+
 const END_TOO_FAIRLY: Line = (Step::DoToo(Deed::EndFairly), Answer::Done);
+
 const BUMP_TOO: Line = (Step::DoToo(Deed::Bump), Answer::Done);
 
 /// Holds are turned into others.
 const DOWNGRADE: Line = (Step::Do(Deed::Becomes(Turn::Downgrade)), Answer::Had);
+
 const LOWER: Line = (Step::Do(Deed::Becomes(Turn::Lower)), Answer::Had);
+
 const LOWER_TOO: Line = (Step::DoToo(Deed::Becomes(Turn::Lower)), Answer::Had);
 
 /// Turns the other hand's hold into the exclusive one, or is refused.
@@ -101,8 +113,11 @@ macro_rules! hear {
 
 /// The lock says that it is held, and that it is held alone, or doesn't.
 const LOCKED: Line = (Step::Aside(Aside::Locked), Answer::Yes);
+
 const UNLOCKED: Line = (Step::Aside(Aside::Locked), Answer::No);
+
 const ALONE: Line = (Step::Aside(Aside::Alone), Answer::Yes);
+
 const NOT_ALONE: Line = (Step::Aside(Aside::Alone), Answer::No);
 
 /// Words count two readers of two.
@@ -251,15 +266,51 @@ const IN_TIME: &[Line] = &[
 #[test]
 fn one_thread_has_a_lock_or_gives_up(rt: HostRuntime) -> Result<(), Fail> {
     let alloc = rt.alloc();
-    play(rt, alloc, "two readers", of(2), [TWO_READERS, &[], &[], &[]])?;
+    play(
+        rt,
+        alloc,
+        "two readers",
+        of(2),
+        [TWO_READERS, &[], &[], &[]],
+    )?;
     play(rt, alloc, "a writer", of(0), [A_WRITER, &[], &[], &[]])?;
-    play(rt, alloc, "an upgradable owner", of(5), [AN_UPGRADABLE_OWNER, &[], &[], &[]])?;
-    play(rt, alloc, "a refused upgrade", of(5), [A_REFUSED_UPGRADE, &[], &[], &[]])?;
-    play(rt, alloc, "an upgrade in time", of(5), [AN_UPGRADE_IN_TIME, &[], &[], &[]])?;
-    play(rt, alloc, "the one reader", of(1), [THE_ONE_READER, &[], &[], &[]])?;
+    play(
+        rt,
+        alloc,
+        "an upgradable owner",
+        of(5),
+        [AN_UPGRADABLE_OWNER, &[], &[], &[]],
+    )?;
+    play(
+        rt,
+        alloc,
+        "a refused upgrade",
+        of(5),
+        [A_REFUSED_UPGRADE, &[], &[], &[]],
+    )?;
+    play(
+        rt,
+        alloc,
+        "an upgrade in time",
+        of(5),
+        [AN_UPGRADE_IN_TIME, &[], &[], &[]],
+    )?;
+    play(
+        rt,
+        alloc,
+        "the one reader",
+        of(1),
+        [THE_ONE_READER, &[], &[], &[]],
+    )?;
     play(rt, alloc, "in time", of(5), [IN_TIME, &[], &[], &[]])?;
     let recursive = on(Kind::Recursive(5));
-    play(rt, alloc, "in time, recursive", recursive, [IN_TIME, &[], &[], &[]])
+    play(
+        rt,
+        alloc,
+        "in time, recursive",
+        recursive,
+        [IN_TIME, &[], &[], &[]],
+    )
 }
 
 /// It writes once another thread reads.
@@ -282,7 +333,13 @@ const READS_BEHIND: &[Line] = &[
 #[test]
 fn readers_and_writers_wait(rt: HostRuntime) -> Result<(), Fail> {
     let alloc = rt.alloc();
-    play(rt, alloc, "a writer", of(5), [READS_BEFORE, WRITES_BEHIND, &[], &[]])?;
+    play(
+        rt,
+        alloc,
+        "a writer",
+        of(5),
+        [READS_BEFORE, WRITES_BEHIND, &[], &[]],
+    )?;
     let readers: [&[Line]; 4] = [WRITES_BEFORE, READS_BEHIND, READS_BEHIND, &[]];
     play(rt, alloc, "readers of one", of(1), readers)?;
     play(rt, alloc, "readers of five", of(5), readers)
@@ -302,6 +359,7 @@ const ADDS_BEHIND_A_WRITER: &[Line] = &[
     hear!(1),
     END,
 ];
+
 const ADDS_BEHIND_A_READER: &[Line] = &[
     comes!(16),
     WRITE,
@@ -320,7 +378,9 @@ const STOPS_WRITING: &[Line] = &[
     NO_READER,
     say!(1),
 ];
+
 const GIVES_WAY_AS_WRITER: &[Line] = &[WRITE, put!(1), comes!(9), say!(1), BUMP, get!(11), END];
+
 const STOPS_READING: &[Line] = &[
     READ,
     comes!(26),
@@ -330,6 +390,7 @@ const STOPS_READING: &[Line] = &[
     NO_READER,
     say!(1),
 ];
+
 const GIVES_WAY_AS_READER: &[Line] = &[READ, comes!(26), get!(0), say!(1), BUMP, get!(10), END];
 
 #[test]
@@ -340,11 +401,41 @@ fn a_writer_that_sleeps_comes_first(rt: HostRuntime) -> Result<(), Fail> {
     let left_11: &[Line] = &[READ, get!(11), END];
     let writer = ADDS_BEHIND_A_WRITER;
     let reader = ADDS_BEHIND_A_READER;
-    play(rt, alloc, "reads 0", of(9), [READS_0, WRITES_6, &[], left_6])?;
-    play(rt, alloc, "stops writing", of(9), [STOPS_WRITING, writer, &[], left_11])?;
-    play(rt, alloc, "gives way as writer", of(9), [GIVES_WAY_AS_WRITER, writer, &[], left_11])?;
-    play(rt, alloc, "stops reading", of(9), [STOPS_READING, reader, &[], left_10])?;
-    play(rt, alloc, "gives way as reader", of(9), [GIVES_WAY_AS_READER, reader, &[], left_10])
+    play(
+        rt,
+        alloc,
+        "reads 0",
+        of(9),
+        [READS_0, WRITES_6, &[], left_6],
+    )?;
+    play(
+        rt,
+        alloc,
+        "stops writing",
+        of(9),
+        [STOPS_WRITING, writer, &[], left_11],
+    )?;
+    play(
+        rt,
+        alloc,
+        "gives way as writer",
+        of(9),
+        [GIVES_WAY_AS_WRITER, writer, &[], left_11],
+    )?;
+    play(
+        rt,
+        alloc,
+        "stops reading",
+        of(9),
+        [STOPS_READING, reader, &[], left_10],
+    )?;
+    play(
+        rt,
+        alloc,
+        "gives way as reader",
+        of(9),
+        [GIVES_WAY_AS_READER, reader, &[], left_10],
+    )
 }
 
 /// It reads until a writer sleeps, and asks again as a reader and as an upgradable owner: past the writer, or in vain.
@@ -355,6 +446,7 @@ const READS_AGAIN: &[Line] = &[
     NO_UPGRADABLE,
     END,
 ];
+
 const ASKS_IN_VAIN: &[Line] = &[READ, comes!(26), NO_READER, NO_UPGRADABLE, END];
 
 /// It reads twice more past the writer, by a call that waits and by one that may give up.
@@ -372,9 +464,27 @@ const READS_ON: &[Line] = &[
 fn one_that_reads_may_read_again_on_a_recursive_lock(rt: HostRuntime) -> Result<(), Fail> {
     let alloc = rt.alloc();
     let recursive = on(Kind::Recursive(5));
-    play(rt, alloc, "reads again", recursive, [READS_AGAIN, WRITES_BEHIND, &[], &[]])?;
-    play(rt, alloc, "reads on", recursive, [READS_ON, WRITES_BEHIND, &[], &[]])?;
-    play(rt, alloc, "asks in vain", of(5), [ASKS_IN_VAIN, WRITES_BEHIND, &[], &[]])
+    play(
+        rt,
+        alloc,
+        "reads again",
+        recursive,
+        [READS_AGAIN, WRITES_BEHIND, &[], &[]],
+    )?;
+    play(
+        rt,
+        alloc,
+        "reads on",
+        recursive,
+        [READS_ON, WRITES_BEHIND, &[], &[]],
+    )?;
+    play(
+        rt,
+        alloc,
+        "asks in vain",
+        of(5),
+        [ASKS_IN_VAIN, WRITES_BEHIND, &[], &[]],
+    )
 }
 
 /// It reads alone while another asks to write for a while and gives up, and goes on until one more has looked.

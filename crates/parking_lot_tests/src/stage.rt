@@ -1,9 +1,10 @@
 //! Where plays take place: a running lock on a lot, with up to three threads that follow their lines.
 
 use lock_api::{Mutex, ReentrantMutex, RwLock};
-use lock_api_plays::{
+use lock_api_checks::plays::{
     Answer, Line, Played, Round, Scene, Tally, Verdict, Words, follow, take_turns,
 };
+use lock_api_checks::rwlock_played::Whole;
 use parking_lot_core::{DEFAULT_UNPARK_TOKEN, ParkingLot, ThreadData, unpark_one};
 use parking_lot_mutex::{RawFairMutex, RawMutex, RawThreadId};
 use parking_lot_rwlock::{LockTable, RawRwLock};
@@ -106,12 +107,12 @@ where
 }
 
 /// Has the threads follow their lines beside each other, the first on the first lot.
-fn play_together<R: Wait + Sync, L: Played<Party = ThreadData> + Sync, C: Threads + Clock + Sync, W: Words + Sync>(
-    lots: [&ParkingLot<R>; 2],
-    lock: &L,
-    scene: &Scene<C, W>,
-    lines: Lines,
-) -> [Verdict; 4]
+fn play_together<
+    R: Wait + Sync,
+    L: Played<Party = ThreadData> + Sync,
+    C: Threads + Clock + Sync,
+    W: Words + Sync,
+>(lots: [&ParkingLot<R>; 2], lock: &L, scene: &Scene<C, W>, lines: Lines) -> [Verdict; 4]
 where
     L::Runtime: Wait,
 {
@@ -229,11 +230,11 @@ fn perform_at<R: Wait + Threads + Clock + Sync>(
         }
         Kind::ReadWrite(limit) => {
             let lock: RwLock<RawRwLock<R, 0>, u64> = RwLock::new(table, limit, 0)?;
-            Ok(perform(lots, &&lock, scene, scenario))
+            Ok(perform(lots, &Whole(&lock), scene, scenario))
         }
         Kind::Recursive(limit) => {
             let lock: RwLock<RawRwLock<R, 1>, u64> = RwLock::new(table, limit, 0)?;
-            Ok(perform(lots, &&lock, scene, scenario))
+            Ok(perform(lots, &Whole(&lock), scene, scenario))
         }
         Kind::Reentrant => {
             let mutex: ReentrantMutex<RawMutex<R>, RawThreadId, u64> = ReentrantMutex::new(

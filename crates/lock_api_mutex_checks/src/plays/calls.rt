@@ -1,7 +1,9 @@
 //! What a thread asks for, and what it is answered.
 
+use crate::seen::Seen;
+
 /// Which hold is asked for.
-#[derive(Clone, Copy, PartialEq, Eq)]
+#[derive(Clone, Copy, PartialEq)]
 pub enum Mode {
     Shared,
     Upgradable,
@@ -9,7 +11,7 @@ pub enum Mode {
 }
 
 /// How long a call may wait.
-#[derive(Clone, Copy, PartialEq, Eq)]
+#[derive(Clone, Copy)]
 pub enum How {
     /// As long as it takes.
     Waits,
@@ -35,7 +37,7 @@ pub enum Asked<H> {
 }
 
 /// What a hold becomes.
-#[derive(Clone, Copy, PartialEq, Eq)]
+#[derive(Clone, Copy)]
 pub enum Turn {
     /// From upgradable to exclusive.
     Upgrade(How),
@@ -46,7 +48,7 @@ pub enum Turn {
 }
 
 /// What is done with a hold.
-#[derive(Clone, Copy, PartialEq, Eq)]
+#[derive(Clone, Copy)]
 pub enum Deed {
     /// It ends, fairly or not.
     End,
@@ -63,14 +65,14 @@ pub enum Deed {
     /// It adds 10.
     AddTen,
     Becomes(Turn),
-    /// It writes a number as an exclusive hold, and is upgradable again: whether it was alone meanwhile.
+    /// It writes a number as an exclusive hold, and is upgradable again: how the lock was held meanwhile.
     PutUpgraded(How, u64),
     /// How the lock that it names is held.
     Lock,
 }
 
 /// What is looked at beside holds, and what threads tell each other.
-#[derive(Clone, Copy, PartialEq, Eq)]
+#[derive(Clone, Copy)]
 pub enum Aside {
     /// How the lock is held, as it shows itself.
     State,
@@ -89,7 +91,7 @@ pub enum Aside {
 }
 
 /// One step of a thread, which has two hands.
-#[derive(Clone, Copy, PartialEq, Eq)]
+#[derive(Clone, Copy)]
 pub enum Step {
     /// Asks for a hold, to be kept in the first hand.
     Ask(Mode, How),
@@ -106,7 +108,7 @@ pub enum Step {
 }
 
 /// What a step is answered.
-#[derive(Clone, Copy, PartialEq, Eq)]
+#[derive(Clone, Copy, PartialEq)]
 pub enum Answer {
     Had,
     /// It was had, and this was the word then.
@@ -120,21 +122,6 @@ pub enum Answer {
     Seen(Seen),
     /// There is no such hold, call or word.
     Unknown,
-}
-
-/// How a lock is held, as it shows itself.
-#[derive(Clone, Copy, PartialEq, Eq)]
-pub enum Seen {
-    /// It says that nobody holds it, and lets in whoever comes.
-    Free,
-    /// It says that it is held, and lets in another reader and no writer.
-    Read,
-    /// It says that it is held, but not alone, and lets in nobody, since it has no room for another reader.
-    Full,
-    /// It says that it is held alone, and lets in nobody.
-    Alone,
-    /// What it says isn't how it answers.
-    Odd,
 }
 
 /// A step, and what it is to be answered.

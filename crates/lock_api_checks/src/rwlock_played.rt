@@ -1,10 +1,12 @@
 //! The reader-writer lock, asked by calls that are data.
+//!
+//! What is done with a guard stands in functions over any hold: at a named lock each such call would cost a proof ten times as long.
 
-use crate::calls::{Asked, How, Mode, Seen, Turn};
-use crate::held::{asked, end, get, leave, put};
-use crate::played::Played;
-use crate::scene::Time;
 use lock_api::{Guard, RwLock, RwLockReadGuard, RwLockUpgradableReadGuard, RwLockWriteGuard};
+use lock_api_guards::{Access, Hold, Lender, LenderMut, RestoreHold, TimedUpgradeHold};
+use lock_api_mutex_checks::guard_checks::writes;
+use lock_api_mutex_checks::plays::{Asked, How, Mode, Played, Time, Turn, end, get, leave};
+use lock_api_mutex_checks::{Look, Seen};
 use lock_api_raw::{
     RawRwLock, RawRwLockUpgradeDowngrade, RawRwLockUpgradeFair, RawRwLockUpgradeTimed,
 };
@@ -22,21 +24,9 @@ where
     Writes(RwLockWriteGuard<'m, R, u64>),
 }
 
-/// How a lock is held, as it shows itself.
-pub(crate) fn seen<R: RawRwLock>(lock: &RwLock<R, u64>) -> Seen
-where
-    R::Runtime: Wait,
-{
-    let reads = lock.try_read().is_some();
-    let writes = lock.try_write().is_some();
-    match (lock.is_locked(), lock.is_locked_exclusive(), reads, writes) {
-        (false, false, true, true) => Seen::Free,
-        (true, false, true, false) => Seen::Read,
-        (true, false, false, false) => Seen::Full,
-        (true, true, false, false) => Seen::Alone,
-        _ => Seen::Odd,
-    }
-}
+/// A lock that is asked so.
+#[derive(Drop)]
+pub struct Whole<'m, R>(pub &'m RwLock<R, u64>);
 
 /// What is asked for to read.
 fn reader<'m, R, C: Clock>(
@@ -100,16 +90,17 @@ where
     }
 }
 
-/// The writer that an upgradable guard becomes, or the same guard.
-fn upgraded<'m, R, C: Clock>(
-    guard: RwLockUpgradableReadGuard<'m, R, u64>,
+/// The exclusive guard that an upgradable one becomes, or the same guard.
+fn upgraded<W: Drop, H: TimedUpgradeHold<Duration = Duration, Instant = Instant>, C: Clock>(
+    guard: Guard<W, H>,
     how: How,
     time: &Time<C>,
-    party: &mut R::Party,
-) -> Result<RwLockWriteGuard<'m, R, u64>, RwLockUpgradableReadGuard<'m, R, u64>>
+    party: &mut H::Party,
+) -> Result<Guard<<H::Alone as Access>::Inner, H::Alone>, Guard<W, H>>
 where
-    R: RawRwLockUpgradeTimed<Duration = Duration, Instant = Instant>,
-    R::Runtime: Wait,
+    H::Alone: Access,
+    H::Runtime: Wait,
+    <H::Alone as Hold>::Runtime: Wait,
 {
     match how {
         How::Waits => Ok(Guard::upgrade(guard, party)),
@@ -122,12 +113,91 @@ where
     }
 }
 
+/// Writes a number by an upgradable guard as an exclusive one, and tells what the closure says then.
+fn put_upgraded<
+    W: Lender<Part = u64> + Drop,
+    H: RestoreHold + TimedUpgradeHold<Duration = Duration, Instant = Instant> + Access<Inner = W>,
+    C: Clock,
+    F: Fn() -> Seen,
+>(
+    guard: &mut Guard<W, H>,
+    how: How,
+    number: u64,
+    time: &Time<C>,
+    party: &mut H::Party,
+    look: &F,
+) -> Option<Seen>
+where
+    H::Alone: Access,
+    <H::Alone as Access>::Inner: LenderMut<Part = u64>,
+    H::Runtime: Wait,
+    <H::Alone as Hold>::Runtime: Wait,
+    requires { F.IsAlwaysCallable look.now }
+{
+    let write = |value: &mut u64| {
+        *value = number;
+        look()
+    };
+    match how {
+        How::Waits => Some(Guard::with_upgraded(guard, party, write)),
+        How::Tries => Guard::try_with_upgraded(guard, write),
+        How::For(micros) => {
+            let limit = Duration::from_micros(micros);
+            Guard::try_with_upgraded_for(guard, limit, time.clock, party, write)
+        }
+        How::Past => Guard::try_with_upgraded_until(guard, time.past, time.clock, party, write),
+        How::Always => {
+            Guard::try_with_upgraded_for(guard, Duration::MAX, time.clock, party, write)
+        }
+    }
+}
+
+/// Turns an upgradable guard.
+fn turn_upgrader<'m, R, C: Clock>(
+    guard: RwLockUpgradableReadGuard<'m, R, u64>,
+    turn: Turn,
+    time: &Time<C>,
+    party: &mut R::Party,
+) -> (Held<'m, R>, Option<bool>)
+where
+    R: RawRwLockUpgradeFair + RawRwLockUpgradeDowngrade,
+    R: RawRwLockUpgradeTimed<Duration = Duration, Instant = Instant>,
+    R::Runtime: Wait,
+{
+    match turn {
+        Turn::Upgrade(how) => match upgraded(guard, how, time, party) {
+            Ok(writer) => (Held::Writes(writer), Some(true)),
+            Err(same) => (Held::Upgrades(same), Some(false)),
+        },
+        Turn::Downgrade => (Held::Reads(Guard::downgrade(guard)), Some(true)),
+        Turn::Lower => (Held::Upgrades(guard), None),
+    }
+}
+
+/// Turns a guard that writes.
+fn turn_writer<'m, R: RawRwLockUpgradeFair + RawRwLockUpgradeDowngrade>(
+    guard: RwLockWriteGuard<'m, R, u64>,
+    turn: Turn,
+) -> (Held<'m, R>, Option<bool>)
+where
+    R::Runtime: Wait,
+{
+    match turn {
+        Turn::Upgrade(_) => (Held::Writes(guard), None),
+        Turn::Downgrade => (Held::Reads(Guard::downgrade(guard)), Some(true)),
+        Turn::Lower => (
+            Held::Upgrades(Guard::downgrade_to_upgradable(guard)),
+            Some(true),
+        ),
+    }
+}
+
 impl<
     'm,
     R: RawRwLockUpgradeFair
         + RawRwLockUpgradeDowngrade
         + RawRwLockUpgradeTimed<Duration = Duration, Instant = Instant>,
-> Played for &'m RwLock<R, u64>
+> Played for Whole<'m, R>
 where
     R::Runtime: Wait,
 {
@@ -138,15 +208,15 @@ where
     type Held = Held<'m, R>;
 
     fn seen(&self) -> Seen {
-        seen(*self)
+        Look::look(self.0)
     }
 
     fn is_locked(&self) -> bool {
-        RwLock::is_locked(*self)
+        RwLock::is_locked(self.0)
     }
 
     fn is_alone(&self) -> bool {
-        RwLock::is_locked_exclusive(*self)
+        RwLock::is_locked_exclusive(self.0)
     }
 
     fn ask<C: Clock>(
@@ -156,7 +226,7 @@ where
         time: &Time<C>,
         party: &mut R::Party,
     ) -> Asked<Held<'m, R>> {
-        let lock: &'m RwLock<R, u64> = *self;
+        let lock: &'m RwLock<R, u64> = self.0;
         match mode {
             Mode::Shared => match reader(lock, how, time, party) {
                 Some(guard) => Asked::Had(Held::Reads(guard)),
@@ -190,11 +260,12 @@ where
     }
 
     fn leave(&self, held: &mut Held<'m, R>, fairly: bool, party: &mut R::Party) -> Seen {
-        let lock: &'m RwLock<R, u64> = *self;
+        let lock: &'m RwLock<R, u64> = self.0;
+        let look = || lock.look();
         match held {
-            Held::Reads(guard) => leave(guard, fairly, party, &|| seen(lock)),
-            Held::Upgrades(guard) => leave(guard, fairly, party, &|| seen(lock)),
-            Held::Writes(guard) => leave(guard, fairly, party, &|| seen(lock)),
+            Held::Reads(guard) => leave(guard, fairly, party, &look),
+            Held::Upgrades(guard) => leave(guard, fairly, party, &look),
+            Held::Writes(guard) => leave(guard, fairly, party, &look),
         }
     }
 
@@ -208,8 +279,9 @@ where
 
     fn put(held: &mut Held<'m, R>, number: u64) -> Option<bool> {
         match held {
-            Held::Writes(guard) => Some(put(guard, number)),
-            _ => None,
+            Held::Writes(guard) => Some(writes(guard, number)),
+            Held::Reads(_) => None,
+            Held::Upgrades(_) => None,
         }
     }
 
@@ -219,34 +291,36 @@ where
         time: &Time<C>,
         party: &mut R::Party,
     ) -> (Held<'m, R>, Option<bool>) {
-        match (held, turn) {
-            (Held::Upgrades(guard), Turn::Upgrade(how)) => {
-                match upgraded(guard, how, time, party) {
-                    Ok(writer) => (Held::Writes(writer), Some(true)),
-                    Err(same) => (Held::Upgrades(same), Some(false)),
-                }
+        match held {
+            Held::Reads(guard) => (Held::Reads(guard), None),
+            Held::Upgrades(guard) => turn_upgrader(guard, turn, time, party),
+            Held::Writes(guard) => turn_writer(guard, turn),
+        }
+    }
+
+    fn put_upgraded<C: Clock>(
+        &self,
+        held: &mut Held<'m, R>,
+        how: How,
+        number: u64,
+        time: &Time<C>,
+        party: &mut R::Party,
+    ) -> Option<Seen> {
+        let lock: &'m RwLock<R, u64> = self.0;
+        match held {
+            Held::Upgrades(guard) => {
+                put_upgraded(guard, how, number, time, party, &|| lock.look())
             }
-            (Held::Upgrades(guard), Turn::Downgrade) => {
-                (Held::Reads(Guard::downgrade(guard)), Some(true))
-            }
-            (Held::Writes(guard), Turn::Downgrade) => {
-                (Held::Reads(Guard::downgrade(guard)), Some(true))
-            }
-            (Held::Writes(guard), Turn::Lower) => {
-                (
-                    Held::Upgrades(Guard::downgrade_to_upgradable(guard)),
-                    Some(true),
-                )
-            }
-            (held, _) => (held, None),
+            Held::Reads(_) => None,
+            Held::Writes(_) => None,
         }
     }
 
     fn lock_of(held: &Held<'m, R>) -> Seen {
         match held {
-            Held::Reads(guard) => seen(Guard::rwlock(guard)),
-            Held::Upgrades(guard) => seen(Guard::rwlock(guard)),
-            Held::Writes(guard) => seen(Guard::rwlock(guard)),
+            Held::Reads(guard) => Guard::rwlock(guard).look(),
+            Held::Upgrades(guard) => Guard::rwlock(guard).look(),
+            Held::Writes(guard) => Guard::rwlock(guard).look(),
         }
     }
 }

@@ -1,11 +1,15 @@
 //! Threads that take a lock in many rounds, beside each other.
 
-use crate::calls::{Asked, How, Mode, Turn};
-use crate::played::Played;
-use crate::scene::{Scene, Words};
+use crate::moments::moment;
+use crate::plays::calls::{Asked, How, Mode, Turn};
+use crate::plays::played::Played;
+use crate::plays::scene::{NoWords, Scene, Words};
+use crate::raw_checks::TURNS;
+use crate::wrong::{Wrong, expect};
 use std::sync::Wait;
 use std::sync::atomic::{AtomicU64, Ordering};
 use std::thread;
+use std::thread::Threads;
 use std::time::Clock;
 
 /// What a thread does in one round, if it has the hold that it asks for.
@@ -71,7 +75,7 @@ where
 {
     match lock.ask(Mode::Exclusive, how, &scene.time, party) {
         Asked::Had(held) => {
-            let next = count_up(&scene.said, how == How::For(20));
+            let next = count_up(&scene.said, matches!(how, How::For(_)));
             let is_word = word.is_none() | (word == scene.words.word(0));
             if !reads {
                 L::end(held, false);
@@ -230,4 +234,31 @@ where
         }
     }
     all
+}
+
+/// Two threads that make the rounds a thousand times each add so much, and nobody writes between.
+pub fn exclude_each_other<L: Played + Sync, T: Threads + Clock + Sync>(
+    rt: &T,
+    lock: &L,
+    rounds: &[Round],
+    total: u64,
+    one: &mut L::Party,
+    other: &mut L::Party,
+) -> Result<(), Wrong>
+where
+    L::Party: Send,
+    L::Runtime: Wait,
+{
+    let scene = Scene::new(rt, moment(rt)?, &NoWords);
+    let (first, second) = thread::join(
+        rt,
+        || take_turns(lock, &scene, rounds, TURNS, one),
+        || take_turns(lock, &scene, rounds, TURNS, other),
+    );
+    let added = first.added.wrapping_add(second.added);
+    let is_added = (added == total) & (scene.said() == total);
+    expect(
+        is_added & first.right & second.right,
+        "two threads that make rounds",
+    )
 }

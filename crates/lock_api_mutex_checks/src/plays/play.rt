@@ -1,8 +1,10 @@
 //! Threads that follow their lines.
 
-use crate::calls::{Answer, Aside, Asked, Deed, How, Line, Mode, Step};
-use crate::played::Played;
-use crate::scene::{Scene, Words};
+use crate::moments::moment;
+use crate::plays::calls::{Answer, Aside, Asked, Deed, How, Line, Mode, Step};
+use crate::plays::played::Played;
+use crate::plays::scene::{NoWords, Scene, Time, Words};
+use crate::wrong::Wrong;
 use std::sync::Wait;
 use std::sync::atomic::Ordering;
 use std::time::Clock;
@@ -96,7 +98,13 @@ where
 }
 
 /// Does with a hold what keeps it.
-fn does_by<L: Played>(lock: &L, held: &mut L::Held, deed: Deed, party: &mut L::Party) -> Answer
+fn does_by<L: Played, C: Clock>(
+    lock: &L,
+    time: &Time<C>,
+    held: &mut L::Held,
+    deed: Deed,
+    party: &mut L::Party,
+) -> Answer
 where
     L::Runtime: Wait,
 {
@@ -112,6 +120,12 @@ where
         Deed::AddTen => {
             let number = L::get(held).wrapping_add(10);
             put::<L>(held, number)
+        }
+        Deed::PutUpgraded(how, number) => {
+            match lock.put_upgraded(held, how, number, time, party) {
+                Some(seen) => Answer::Seen(seen),
+                None => Answer::Refused,
+            }
         }
         Deed::Lock => Answer::Seen(L::lock_of(held)),
         _ => Answer::Unknown,
@@ -149,7 +163,7 @@ where
         }
         _ => {
             let mut held = held;
-            let answer = does_by(lock, &mut held, deed, party);
+            let answer = does_by(lock, &scene.time, &mut held, deed, party);
             (Some(held), answer)
         }
     }
@@ -228,4 +242,23 @@ where
         }
     }
     None
+}
+
+/// Follows lines at a lock that shows no words. What is wrong is told by the name of the table, and the row.
+pub fn follow_table<L: Played, C: Clock>(
+    lock: &L,
+    clock: &C,
+    table: &'static str,
+    lines: &[Line],
+    me: &mut L::Party,
+    other: &mut L::Party,
+) -> Result<(), Wrong>
+where
+    L::Runtime: Wait,
+{
+    let scene = Scene::new(clock, moment(clock)?, &NoWords);
+    match follow(lock, &scene, lines, me, other) {
+        None => Ok(()),
+        Some((row, _answer)) => Err(Wrong { what: table, row }),
+    }
 }

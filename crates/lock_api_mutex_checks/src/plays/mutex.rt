@@ -1,26 +1,15 @@
 //! The mutex, asked by calls that are data.
 
-use crate::calls::{Asked, How, Mode, Seen, Turn};
-use crate::held::{asked, end, get, leave, put};
-use crate::played::Played;
-use crate::scene::Time;
+use crate::guard_checks::writes;
+use crate::plays::calls::{Asked, How, Mode, Turn};
+use crate::plays::held::{asked, end, get, leave};
+use crate::plays::played::Played;
+use crate::plays::scene::Time;
+use crate::seen::{Look, Seen};
 use lock_api::{Guard, Mutex, MutexGuard};
-use lock_api_raw::{RawMutex, RawMutexFair, RawMutexTimed};
+use lock_api_raw::{RawMutexFair, RawMutexTimed};
 use std::sync::Wait;
 use std::time::{Clock, Duration, Instant};
-
-/// How a mutex is held, as it shows itself.
-pub(crate) fn seen<R: RawMutex>(mutex: &Mutex<R, u64>) -> Seen
-where
-    R::Runtime: Wait,
-{
-    let admitted = mutex.try_lock().is_some();
-    match (mutex.is_locked(), admitted) {
-        (false, true) => Seen::Free,
-        (true, false) => Seen::Alone,
-        _ => Seen::Odd,
-    }
-}
 
 impl<'m, R: RawMutexFair + RawMutexTimed<Duration = Duration, Instant = Instant>> Played
     for &'m Mutex<R, u64>
@@ -34,7 +23,7 @@ where
     type Held = MutexGuard<'m, R, u64>;
 
     fn seen(&self) -> Seen {
-        seen(*self)
+        Look::look(*self)
     }
 
     fn is_locked(&self) -> bool {
@@ -78,7 +67,7 @@ where
 
     fn leave(&self, held: &mut MutexGuard<'m, R, u64>, fairly: bool, party: &mut R::Party) -> Seen {
         let mutex: &'m Mutex<R, u64> = *self;
-        leave(held, fairly, party, &|| seen(mutex))
+        leave(held, fairly, party, &|| mutex.look())
     }
 
     fn get(held: &MutexGuard<'m, R, u64>) -> u64 {
@@ -86,7 +75,7 @@ where
     }
 
     fn put(held: &mut MutexGuard<'m, R, u64>, number: u64) -> Option<bool> {
-        Some(put(held, number))
+        Some(writes(held, number))
     }
 
     fn turn<C: Clock>(
@@ -98,7 +87,18 @@ where
         (held, None)
     }
 
+    fn put_upgraded<C: Clock>(
+        &self,
+        _held: &mut MutexGuard<'m, R, u64>,
+        _how: How,
+        _number: u64,
+        _time: &Time<C>,
+        _party: &mut R::Party,
+    ) -> Option<Seen> {
+        None
+    }
+
     fn lock_of(held: &MutexGuard<'m, R, u64>) -> Seen {
-        seen(Guard::mutex(held))
+        Guard::mutex(held).look()
     }
 }

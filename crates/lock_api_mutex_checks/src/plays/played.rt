@@ -1,7 +1,8 @@
 //! Locks that are asked by calls that are data.
 
-use crate::calls::{Asked, How, Mode, Seen, Turn};
-use crate::scene::Time;
+use crate::plays::calls::{Asked, How, Mode, Turn};
+use crate::plays::scene::Time;
+use crate::seen::Seen;
 use std::sync::Wait;
 use std::time::Clock;
 
@@ -70,6 +71,18 @@ pub trait Played {
         time: &Time<C>,
         party: &mut Self::Party,
     ) -> (Self::Held, Option<bool>)
+    where
+        Self::Runtime: Wait;
+
+    /// Writes a number as an exclusive hold, and tells how the lock is held then; `None` where that is not had, or there is no such call.
+    fn put_upgraded<C: Clock>(
+        &self,
+        held: &mut Self::Held,
+        how: How,
+        number: u64,
+        time: &Time<C>,
+        party: &mut Self::Party,
+    ) -> Option<Seen>
     where
         Self::Runtime: Wait;
 

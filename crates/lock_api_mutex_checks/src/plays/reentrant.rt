@@ -1,11 +1,12 @@
 //! The reentrant mutex, asked by calls that are data.
 
-use crate::calls::{Asked, How, Mode, Seen, Turn};
-use crate::held::{end, get, leave};
-use crate::played::Played;
-use crate::scene::Time;
+use crate::plays::calls::{Asked, How, Mode, Turn};
+use crate::plays::held::{end, get, leave};
+use crate::plays::played::Played;
+use crate::plays::scene::Time;
+use crate::seen::{Look, Seen};
 use lock_api::{Guard, ReentrantMutex, ReentrantMutexGuard};
-use lock_api_raw::{GetThreadId, RawMutex, RawMutexFair, RawMutexTimed, ReadersFull};
+use lock_api_raw::{GetThreadId, RawMutexFair, RawMutexTimed, ReadersFull};
 use std::sync::Wait;
 use std::time::{Clock, Duration, Instant};
 
@@ -15,20 +16,6 @@ fn asked<H>(answer: Result<Option<H>, ReadersFull>) -> Asked<H> {
         Ok(Some(held)) => Asked::Had(held),
         Ok(None) => Asked::Refused,
         Err(ReadersFull) => Asked::Full,
-    }
-}
-
-/// Whether the mutex is held, as it says.
-fn seen<R: RawMutex + Drop, G: GetThreadId<Party = R::Party> + Drop>(
-    mutex: &ReentrantMutex<R, G, u64>,
-) -> Seen
-where
-    R::Runtime: Wait,
-{
-    if mutex.is_locked() {
-        Seen::Alone
-    } else {
-        Seen::Free
     }
 }
 
@@ -47,7 +34,7 @@ where
     type Held = ReentrantMutexGuard<'m, R, G, u64>;
 
     fn seen(&self) -> Seen {
-        seen(*self)
+        Look::look(*self)
     }
 
     fn is_locked(&self) -> bool {
@@ -99,7 +86,7 @@ where
         party: &mut R::Party,
     ) -> Seen {
         let mutex: &'m ReentrantMutex<R, G, u64> = *self;
-        leave(held, fairly, party, &|| seen(mutex))
+        leave(held, fairly, party, &|| mutex.look())
     }
 
     fn get(held: &ReentrantMutexGuard<'m, R, G, u64>) -> u64 {
@@ -119,7 +106,18 @@ where
         (held, None)
     }
 
+    fn put_upgraded<C: Clock>(
+        &self,
+        _held: &mut ReentrantMutexGuard<'m, R, G, u64>,
+        _how: How,
+        _number: u64,
+        _time: &Time<C>,
+        _party: &mut R::Party,
+    ) -> Option<Seen> {
+        None
+    }
+
     fn lock_of(held: &ReentrantMutexGuard<'m, R, G, u64>) -> Seen {
-        seen(Guard::remutex(held))
+        Guard::remutex(held).look()
     }
 }
