@@ -5,8 +5,8 @@
 
 use crate::arc_guard_checks::{is_refused, unlocks_an_arc_for_a_while, writes_by_closures};
 use crate::guard_checks::{
-    Pair, comes_back, is_lent_by, is_put_by, is_written_by, narrows_at_once, narrows_step_by_step,
-    prints_beside, read_by, shows,
+    Pair, add_one_by, comes_back, is_lent_by, is_put_by, is_written_by, narrows_at_once,
+    narrows_step_by_step, prints_beside, read_by, shows,
 };
 use crate::plays::{
     Answer, Aside, Deed, How, Line, Mode, Round, Step, exclude_each_other, follow_table,
@@ -35,12 +35,14 @@ where
     let at_first = read_by(mutex.lock(party));
     let wrote = is_written_by(mutex.lock(party), 3);
     let written = read_by(mutex.lock(party));
+    let added = add_one_by(mutex.lock(party));
     *mutex.get_mut() = 4;
     let taken = mutex.into_inner();
     let (raw, value) = Mutex::from_raw(R::new(source, 1)?, 5_u64).into_inner_with_raw();
     expect_all(&[
         (at_first == 0, "the default of a number"),
         (wrote & (written == 3), "what was written is read next"),
+        (added == 4, "what was added to it too"),
         (taken == 4, "get_mut writes, into_inner takes out"),
         (value == 5, "into_inner_with_raw gives the value"),
         (!raw.is_locked(), "into_inner_with_raw gives the raw mutex"),

@@ -9,6 +9,8 @@ mod crowds;
 #[cfg(test)]
 mod deadlines;
 #[cfg(test)]
+mod guards;
+#[cfg(test)]
 mod mutex_calls;
 #[cfg(test)]
 mod mutex_plays;

@@ -59,11 +59,8 @@ fn release(rt: &impl Abort, core: MutexCore, plain: u64, fair: bool, hands: bool
         ],
     );
     let token = Some(DEFAULT_PARK_TOKEN);
-    let plain = WordChange {
-        keep: 0,
-        add: plain,
-    };
-    let fairly = WordChange { keep: 0, add: 3 };
+    let plain = change!(0, plain);
+    let fairly = change!(0, 3 );
     let store = SectionAct::Store {
         plain,
         fair: fairly,
@@ -72,7 +69,7 @@ fn release(rt: &impl Abort, core: MutexCore, plain: u64, fair: bool, hands: bool
         rt,
         core,
         &[
-            (ActResult::Took { token, left: true }, Act::Section(store)),
+            (took!(token, true), Act::Section(store)),
             (ActResult::Stored { fair }, Act::Section(SectionAct::Leave)),
         ],
     );

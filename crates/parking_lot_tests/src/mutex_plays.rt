@@ -1,6 +1,6 @@
 //! Plays at the running mutexes.
 
-use crate::stage::{Kind, Setting, on, play};
+use crate::stage::{Kind, Setting, alone, on, pair, play};
 use lock_api_checks::plays::{Answer, Aside, Deed, How, Line, Mode, Step};
 use std::test::Fail;
 
@@ -71,27 +71,9 @@ const IN_TIME: &[Line] = &[
 
 #[test]
 fn one_thread_has_a_mutex_or_gives_up(rt: HostRuntime) -> Result<(), Fail> {
-    play(
-        rt,
-        rt.alloc(),
-        "alone",
-        on(Kind::Plain),
-        [ALONE, &[], &[], &[]],
-    )?;
-    play(
-        rt,
-        rt.alloc(),
-        "plain in time",
-        on(Kind::Plain),
-        [IN_TIME, &[], &[], &[]],
-    )?;
-    play(
-        rt,
-        rt.alloc(),
-        "fair in time",
-        on(Kind::Fair),
-        [IN_TIME, &[], &[], &[]],
-    )
+    alone(rt, rt.alloc(), "alone", on(Kind::Plain), ALONE)?;
+    alone(rt, rt.alloc(), "plain in time", on(Kind::Plain), IN_TIME)?;
+    alone(rt, rt.alloc(), "fair in time", on(Kind::Fair), IN_TIME)
 }
 
 /// The second thread, which sleeps behind the first, finds what that has said, and answers.
@@ -110,42 +92,26 @@ const UNLOCKS_FOR_ANYBODY: &[Line] = &[LOCK, PARKED, SAY_1, END, LOCK, END];
 #[test]
 fn a_mutex_is_handed_over(rt: HostRuntime) -> Result<(), Fail> {
     let fair = on(Kind::Fair);
-    play(
-        rt,
-        rt.alloc(),
-        "fair, unlocked",
-        fair,
-        [UNLOCKS, SECOND, &[], &[]],
-    )?;
-    play(
+    pair(rt, rt.alloc(), "fair, unlocked", fair, UNLOCKS, SECOND)?;
+    pair(
         rt,
         rt.alloc(),
         "fair, handed over",
         fair,
-        [HANDS_OVER, SECOND, &[], &[]],
+        HANDS_OVER,
+        SECOND,
     )?;
-    play(
-        rt,
-        rt.alloc(),
-        "fair, bumped",
-        fair,
-        [BUMPS, SECOND, &[], &[]],
-    )?;
+    pair(rt, rt.alloc(), "fair, bumped", fair, BUMPS, SECOND)?;
     let plain = on(Kind::Plain);
-    play(
+    pair(
         rt,
         rt.alloc(),
         "plain, handed over",
         plain,
-        [HANDS_OVER, SECOND, &[], &[]],
+        HANDS_OVER,
+        SECOND,
     )?;
-    play(
-        rt,
-        rt.alloc(),
-        "plain, bumped",
-        plain,
-        [BUMPS, SECOND, &[], &[]],
-    )
+    pair(rt, rt.alloc(), "plain, bumped", plain, BUMPS, SECOND)
 }
 
 /// The lot's 64th unpark asks for a fair release.
@@ -167,12 +133,13 @@ fn a_sleeper_is_woken(rt: HostRuntime) -> Result<(), Fail> {
     let lines = [UNLOCKS_FOR_ANYBODY, SECOND, &[], &[]];
     play(rt, rt.alloc(), "a sleeper", on(Kind::Plain), lines)?;
     play(rt, rt.alloc(), "of another lot", OF_ANOTHER_LOT, lines)?;
-    play(
+    pair(
         rt,
         rt.alloc(),
         "fair by the lot",
         FAIR_BY_THE_LOT,
-        [UNLOCKS, SECOND, &[], &[]],
+        UNLOCKS,
+        SECOND,
     )
 }
 
@@ -223,13 +190,7 @@ const WRITES: &[Line] = &[
 
 #[test]
 fn a_guard_of_a_fair_mutex_lends_what_was_written(rt: HostRuntime) -> Result<(), Fail> {
-    play(
-        rt,
-        rt.alloc(),
-        "writes",
-        on(Kind::Fair),
-        [WRITES, &[], &[], &[]],
-    )
+    alone(rt, rt.alloc(), "writes", on(Kind::Fair), WRITES)
 }
 
 /// Of a reentrant mutex of two holds the owner has a second one, in time too, and no third one, and another party none.
@@ -284,12 +245,13 @@ const LOCKS_BEHIND: &[Line] = &[LOCKED, LOCK, SAID_1, END];
 fn holds_of_a_reentrant_mutex_nest(rt: HostRuntime) -> Result<(), Fail> {
     let alloc = rt.alloc();
     let reentrant = on(Kind::Reentrant);
-    play(rt, alloc, "nested", reentrant, [NESTED, &[], &[], &[]])?;
-    play(
+    alone(rt, alloc, "nested", reentrant, NESTED)?;
+    pair(
         rt,
         alloc,
         "behind the last",
         reentrant,
-        [NESTS_BEFORE, LOCKS_BEHIND, &[], &[]],
+        NESTS_BEFORE,
+        LOCKS_BEHIND,
     )
 }

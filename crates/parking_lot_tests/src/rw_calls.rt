@@ -63,7 +63,7 @@ fn the_last_reader_wakes_the_writer(rt: HostRuntime) {
         core,
         &[
             (
-                ActResult::Took { token, left: false },
+                took!(token, false),
                 Act::FetchAnd(18_446_744_073_709_551_613),
             ),
             (ActResult::Before(10), Act::Section(SectionAct::Leave)),
@@ -109,16 +109,13 @@ fn a_fair_release_hands_the_lock_over(rt: HostRuntime) {
         ],
     );
     let token = Some(ParkToken(16));
-    let change = WordChange { keep: 0, add: 16 };
-    let store = SectionAct::Store {
-        plain: change,
-        fair: change,
-    };
+    let change = change!(0, 16 );
+    let store = store!(change, change);
     let core = follow_rw(
         &rt,
         core,
         &[
-            (ActResult::Took { token, left: false }, Act::Section(store)),
+            (took!(token, false), Act::Section(store)),
             (
                 ActResult::Stored { fair: false },
                 Act::Section(SectionAct::Leave),
@@ -148,18 +145,12 @@ fn a_downgrade_lets_others_try(rt: HostRuntime) {
         ],
     );
     let token = Some(ParkToken(16));
-    let change = WordChange {
-        keep: u64::MAX - 1,
-        add: 0,
-    };
-    let store = SectionAct::Store {
-        plain: change,
-        fair: change,
-    };
+    let change = change!(u64::MAX - 1, 0);
+    let store = store!(change, change);
     let core = follow_rw(
         &rt,
         core,
-        &[(ActResult::Took { token, left: false }, Act::Section(store))],
+        &[(took!(token, false), Act::Section(store))],
     );
     assert!(rt; change.of(17) == 16);
     let core = follow_rw(

@@ -1,6 +1,6 @@
 //! Plays at the running reader-writer locks.
 
-use crate::stage::{Kind, Setting, on, play};
+use crate::stage::{Kind, Setting, alone, on, pair, play};
 use lock_api_checks::plays::{Answer, Aside, Deed, How, Line, Mode, Step, Turn};
 use std::test::Fail;
 
@@ -263,54 +263,39 @@ const IN_TIME: &[Line] = &[
     word!(0),
 ];
 
+/// A hold of any mode is kept as one: it reads, and writes where it may.
+const READS_OR_WRITES: &[Line] = &[
+    WRITE,
+    put!(6),
+    get!(6),
+    ALONE,
+    END,
+    READ,
+    (Step::Do(Deed::Put(7)), Answer::Unknown),
+    get!(6),
+    get!(6),
+    NOT_ALONE,
+    END,
+    WRITE,
+    get!(6),
+    ALONE,
+    END,
+    UNLOCKED,
+];
+
 #[test]
 fn one_thread_has_a_lock_or_gives_up(rt: HostRuntime) -> Result<(), Fail> {
     let alloc = rt.alloc();
-    play(
-        rt,
-        alloc,
-        "two readers",
-        of(2),
-        [TWO_READERS, &[], &[], &[]],
-    )?;
-    play(rt, alloc, "a writer", of(0), [A_WRITER, &[], &[], &[]])?;
-    play(
-        rt,
-        alloc,
-        "an upgradable owner",
-        of(5),
-        [AN_UPGRADABLE_OWNER, &[], &[], &[]],
-    )?;
-    play(
-        rt,
-        alloc,
-        "a refused upgrade",
-        of(5),
-        [A_REFUSED_UPGRADE, &[], &[], &[]],
-    )?;
-    play(
-        rt,
-        alloc,
-        "an upgrade in time",
-        of(5),
-        [AN_UPGRADE_IN_TIME, &[], &[], &[]],
-    )?;
-    play(
-        rt,
-        alloc,
-        "the one reader",
-        of(1),
-        [THE_ONE_READER, &[], &[], &[]],
-    )?;
-    play(rt, alloc, "in time", of(5), [IN_TIME, &[], &[], &[]])?;
+    alone(rt, alloc, "two readers", of(2), TWO_READERS)?;
+    alone(rt, alloc, "a writer", of(0), A_WRITER)?;
+    alone(rt, alloc, "an upgradable owner", of(5), AN_UPGRADABLE_OWNER)?;
+    alone(rt, alloc, "a refused upgrade", of(5), A_REFUSED_UPGRADE)?;
+    alone(rt, alloc, "an upgrade in time", of(5), AN_UPGRADE_IN_TIME)?;
+    alone(rt, alloc, "the one reader", of(1), THE_ONE_READER)?;
+    alone(rt, alloc, "in time", of(5), IN_TIME)?;
+    alone(rt, alloc, "reads or writes", of(5), READS_OR_WRITES)?;
     let recursive = on(Kind::Recursive(5));
-    play(
-        rt,
-        alloc,
-        "in time, recursive",
-        recursive,
-        [IN_TIME, &[], &[], &[]],
-    )
+    alone(rt, alloc, "in time, recursive", recursive, IN_TIME)
 }
 
 /// It writes once another thread reads.
@@ -333,13 +318,7 @@ const READS_BEHIND: &[Line] = &[
 #[test]
 fn readers_and_writers_wait(rt: HostRuntime) -> Result<(), Fail> {
     let alloc = rt.alloc();
-    play(
-        rt,
-        alloc,
-        "a writer",
-        of(5),
-        [READS_BEFORE, WRITES_BEHIND, &[], &[]],
-    )?;
+    pair(rt, alloc, "a writer", of(5), READS_BEFORE, WRITES_BEHIND)?;
     let readers: [&[Line]; 4] = [WRITES_BEFORE, READS_BEHIND, READS_BEHIND, &[]];
     play(rt, alloc, "readers of one", of(1), readers)?;
     play(rt, alloc, "readers of five", of(5), readers)
@@ -464,26 +443,22 @@ const READS_ON: &[Line] = &[
 fn one_that_reads_may_read_again_on_a_recursive_lock(rt: HostRuntime) -> Result<(), Fail> {
     let alloc = rt.alloc();
     let recursive = on(Kind::Recursive(5));
-    play(
+    pair(
         rt,
         alloc,
         "reads again",
         recursive,
-        [READS_AGAIN, WRITES_BEHIND, &[], &[]],
+        READS_AGAIN,
+        WRITES_BEHIND,
     )?;
-    play(
-        rt,
-        alloc,
-        "reads on",
-        recursive,
-        [READS_ON, WRITES_BEHIND, &[], &[]],
-    )?;
-    play(
+    pair(rt, alloc, "reads on", recursive, READS_ON, WRITES_BEHIND)?;
+    pair(
         rt,
         alloc,
         "asks in vain",
         of(5),
-        [ASKS_IN_VAIN, WRITES_BEHIND, &[], &[]],
+        ASKS_IN_VAIN,
+        WRITES_BEHIND,
     )
 }
 

@@ -292,3 +292,26 @@ pub fn play<R: Wait + Threads + Clock + Abort + Sync + Copy + Drop>(
     stage(rt, alloc, name, setting, Scenario::Play(lines))?;
     Ok(())
 }
+
+/// Has one thread follow the lines at a new lock.
+pub fn alone<R: Wait + Threads + Clock + Abort + Sync + Copy + Drop>(
+    rt: R,
+    alloc: Global,
+    name: &str,
+    setting: Setting,
+    lines: &[Line],
+) -> Result<(), Fail> {
+    play(rt, alloc, name, setting, [lines, &[], &[], &[]])
+}
+
+/// Has two threads follow their lines at a new lock.
+pub fn pair<R: Wait + Threads + Clock + Abort + Sync + Copy + Drop>(
+    rt: R,
+    alloc: Global,
+    name: &str,
+    setting: Setting,
+    first: &[Line],
+    second: &[Line],
+) -> Result<(), Fail> {
+    play(rt, alloc, name, setting, [first, second, &[], &[]])
+}

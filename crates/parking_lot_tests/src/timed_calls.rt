@@ -7,36 +7,25 @@ use parking_lot_protocol::{Act, ActResult, CoreAnswer, HAND_OVER, SectionAct};
 use parking_lot_protocol_rw::timed::TimedRwCore;
 use std::process::Abort;
 
+/// What a call sees and does as one that doesn't give up.
+macro_rules! plain {
+    ($seen:expr, $act:expr) => {
+        (TimedSeen::Plain($seen), TimedAct::Makes($act))
+    };
+}
+
 /// A reader that sleeps behind a writer, as the last in its list or not, and where it stood its moment passes.
 fn expires(rt: &impl Abort) -> TimedRwCore {
     follow_in_time(
         rt,
         TimedRwCore::lock_shared_until(false),
         &[
-            (
-                TimedSeen::Plain(ActResult::Start),
-                TimedAct::Makes(Act::Load),
-            ),
-            (
-                TimedSeen::Plain(ActResult::Word(9)),
-                TimedAct::Makes(Act::Enter(0)),
-            ),
-            (
-                TimedSeen::Plain(ActResult::Entered),
-                TimedAct::Makes(Act::Section(SectionAct::Check)),
-            ),
-            (
-                TimedSeen::Plain(ActResult::Word(9)),
-                TimedAct::Makes(Act::Section(SectionAct::Append(ParkToken(16)))),
-            ),
-            (
-                TimedSeen::Plain(ActResult::Made),
-                TimedAct::Makes(Act::Section(SectionAct::Leave)),
-            ),
-            (
-                TimedSeen::Plain(ActResult::Made),
-                TimedAct::Makes(Act::Sleep),
-            ),
+            plain!(ActResult::Start, Act::Load),
+            plain!(ActResult::Word(9), Act::Enter(0)),
+            plain!(ActResult::Entered, Act::Section(SectionAct::Check)),
+            plain!(ActResult::Word(9), Act::Section(SectionAct::Append(ParkToken(16)))),
+            plain!(ActResult::Made, Act::Section(SectionAct::Leave)),
+            plain!(ActResult::Made, Act::Sleep),
             (TimedSeen::Expired, TimedAct::Reenters),
             (TimedSeen::Reentered, TimedAct::TakesItself),
         ],
@@ -91,14 +80,8 @@ fn gives_up_pending(rt: &impl Abort, core: TimedRwCore, lines: &[(TimedSeen, Tim
             rt,
             core,
             &[
-                (
-                    TimedSeen::Plain(ActResult::Word(24)),
-                    TimedAct::Makes(Act::Spin),
-                ),
-                (
-                    TimedSeen::Plain(ActResult::Spun(true)),
-                    TimedAct::Makes(Act::Load),
-                ),
+                plain!(ActResult::Word(24), Act::Spin),
+                plain!(ActResult::Spun(true), Act::Load),
             ],
         );
     }
@@ -106,30 +89,12 @@ fn gives_up_pending(rt: &impl Abort, core: TimedRwCore, lines: &[(TimedSeen, Tim
         rt,
         core,
         &[
-            (
-                TimedSeen::Plain(ActResult::Word(24)),
-                TimedAct::Makes(Act::Exchange(24, 26)),
-            ),
-            (
-                TimedSeen::Plain(ActResult::Exchanged),
-                TimedAct::Makes(Act::Enter(1)),
-            ),
-            (
-                TimedSeen::Plain(ActResult::Entered),
-                TimedAct::Makes(Act::Section(SectionAct::Check)),
-            ),
-            (
-                TimedSeen::Plain(ActResult::Word(26)),
-                TimedAct::Makes(Act::Section(SectionAct::Append(ParkToken(8)))),
-            ),
-            (
-                TimedSeen::Plain(ActResult::Made),
-                TimedAct::Makes(Act::Section(SectionAct::Leave)),
-            ),
-            (
-                TimedSeen::Plain(ActResult::Made),
-                TimedAct::Makes(Act::Sleep),
-            ),
+            plain!(ActResult::Word(24), Act::Exchange(24, 26)),
+            plain!(ActResult::Exchanged, Act::Enter(1)),
+            plain!(ActResult::Entered, Act::Section(SectionAct::Check)),
+            plain!(ActResult::Word(26), Act::Section(SectionAct::Append(ParkToken(8)))),
+            plain!(ActResult::Made, Act::Section(SectionAct::Leave)),
+            plain!(ActResult::Made, Act::Sleep),
             (TimedSeen::Expired, TimedAct::Reenters),
             (TimedSeen::Reentered, TimedAct::TakesItself),
             (TimedSeen::Quit { last: true }, TimedAct::Leaves),
@@ -144,32 +109,17 @@ fn a_pending_writer_takes_its_bits_back(rt: HostRuntime) {
         &rt,
         TimedRwCore::lock_exclusive_until(),
         &[
-            (
-                TimedSeen::Plain(ActResult::Start),
-                TimedAct::Makes(Act::Load),
-            ),
-            (
-                TimedSeen::Plain(ActResult::Word(16)),
-                TimedAct::Makes(Act::Exchange(16, 24)),
-            ),
-            (
-                TimedSeen::Plain(ActResult::Exchanged),
-                TimedAct::Makes(Act::Load),
-            ),
+            plain!(ActResult::Start, Act::Load),
+            plain!(ActResult::Word(16), Act::Exchange(16, 24)),
+            plain!(ActResult::Exchanged, Act::Load),
         ],
     );
     gives_up_pending(
         &rt,
         TimedRwCore::upgrade_until(),
         &[
-            (
-                TimedSeen::Plain(ActResult::Start),
-                TimedAct::Makes(Act::Add(12u64.wrapping_neg())),
-            ),
-            (
-                TimedSeen::Plain(ActResult::Before(36)),
-                TimedAct::Makes(Act::Load),
-            ),
+            plain!(ActResult::Start, Act::Add(12u64.wrapping_neg())),
+            plain!(ActResult::Before(36), Act::Load),
         ],
     );
 }

@@ -52,14 +52,8 @@ fn one_that_asks_sleeps_and_is_handed_the_lock(rt: HostRuntime) {
 fn a_fair_release_hands_over_to_those_that_fit(rt: HostRuntime) {
     let first = Some(ParkToken(20));
     let third = Some(ParkToken(16));
-    let change = WordChange {
-        keep: u64::MAX - 1,
-        add: 17,
-    };
-    let store = SectionAct::Store {
-        plain: change,
-        fair: change,
-    };
+    let change = change!(u64::MAX - 1, 17);
+    let store = store!(change, change);
     let core = follow(
         &rt,
         UpgradeCore::unlock_fair(),
@@ -68,24 +62,15 @@ fn a_fair_release_hands_over_to_those_that_fit(rt: HostRuntime) {
             (ActResult::Word(21), Act::Enter(0)),
             (ActResult::Entered, Act::Section(SectionAct::TakeNext(0))),
             (
-                ActResult::Took {
-                    token: first,
-                    left: true,
-                },
+                took!(first, true),
                 Act::Section(SectionAct::TakeNext(20)),
             ),
             (
-                ActResult::Took {
-                    token: third,
-                    left: true,
-                },
+                took!(third, true),
                 Act::Section(SectionAct::TakeNext(36)),
             ),
             (
-                ActResult::Took {
-                    token: None,
-                    left: true,
-                },
+                took!(None, true),
                 Act::Section(store),
             ),
             (
@@ -109,14 +94,8 @@ fn a_fair_release_hands_over_to_those_that_fit(rt: HostRuntime) {
 #[test]
 fn a_plain_release_tells_them_to_try_again(rt: HostRuntime) {
     let token = Some(ParkToken(8));
-    let plain = WordChange {
-        keep: u64::MAX - 1,
-        add: less(20),
-    };
-    let fair = WordChange {
-        keep: u64::MAX - 1,
-        add: less(12),
-    };
+    let plain = change!(u64::MAX - 1, less(20));
+    let fair = change!(u64::MAX - 1, less(12));
     let core = follow(
         &rt,
         UpgradeCore::unlock(),
@@ -126,7 +105,7 @@ fn a_plain_release_tells_them_to_try_again(rt: HostRuntime) {
             (ActResult::Word(37), Act::Enter(0)),
             (ActResult::Entered, Act::Section(SectionAct::TakeNext(0))),
             (
-                ActResult::Took { token, left: false },
+                took!(token, false),
                 Act::Section(SectionAct::Store { plain, fair }),
             ),
             (
@@ -198,14 +177,8 @@ fn conversions_owe_sleepers_a_look(rt: HostRuntime) {
         ],
     );
     let token = Some(ParkToken(16));
-    let keep = WordChange {
-        keep: u64::MAX - 1,
-        add: 0,
-    };
-    let store = SectionAct::Store {
-        plain: keep,
-        fair: keep,
-    };
+    let keep = change!(u64::MAX - 1, 0);
+    let store = store!(keep, keep);
     follow(
         &rt,
         UpgradeCore::downgrade_to_upgradable(),
@@ -213,7 +186,7 @@ fn conversions_owe_sleepers_a_look(rt: HostRuntime) {
             (ActResult::Start, Act::Add(12)),
             (ActResult::Before(9), Act::Enter(0)),
             (ActResult::Entered, Act::Section(SectionAct::TakeNext(20))),
-            (ActResult::Took { token, left: false }, Act::Section(store)),
+            (took!(token, false), Act::Section(store)),
             (
                 ActResult::Stored { fair: true },
                 Act::Section(SectionAct::Leave),
@@ -279,14 +252,8 @@ fn a_bump_lets_sleepers_go_first(rt: HostRuntime) {
         ],
     );
     let token = None;
-    let change = WordChange {
-        keep: u64::MAX - 1,
-        add: less(20),
-    };
-    let store = SectionAct::Store {
-        plain: change,
-        fair: change,
-    };
+    let change = change!(u64::MAX - 1, less(20));
+    let store = store!(change, change);
     follow(
         &rt,
         UpgradeCore::bump(),
@@ -294,7 +261,7 @@ fn a_bump_lets_sleepers_go_first(rt: HostRuntime) {
             (ActResult::Start, Act::Load),
             (ActResult::Word(21), Act::Enter(0)),
             (ActResult::Entered, Act::Section(SectionAct::TakeNext(0))),
-            (ActResult::Took { token, left: false }, Act::Section(store)),
+            (took!(token, false), Act::Section(store)),
             (
                 ActResult::Stored { fair: false },
                 Act::Section(SectionAct::Leave),

@@ -25,8 +25,7 @@ pub enum How {
     Always,
 }
 
-/// What such a call comes to.
-#[derive(Drop)]
+/// What such a call comes to. A hold that was had has to be ended.
 pub enum Asked<H> {
     Had(H),
     Refused,
@@ -34,6 +33,18 @@ pub enum Asked<H> {
     Full,
     /// There is no such call.
     Unknown,
+}
+
+impl<H> Asked<H> {
+    /// The hold that was had.
+    pub fn hold(self) -> Option<H> {
+        match self {
+            Asked::Had(held) => Some(held),
+            Asked::Refused => None,
+            Asked::Full => None,
+            Asked::Unknown => None,
+        }
+    }
 }
 
 /// What a hold becomes.

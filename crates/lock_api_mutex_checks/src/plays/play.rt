@@ -85,6 +85,35 @@ where
     }
 }
 
+/// The same with a hand, which must be free.
+fn ask_with<L: Played, C: Clock, W: Words>(
+    lock: &L,
+    scene: &Scene<C, W>,
+    hand: Option<L::Held>,
+    mode: Mode,
+    how: How,
+    party: &mut L::Party,
+) -> (Option<L::Held>, Answer)
+where
+    L::Runtime: Wait,
+{
+    match hand {
+        Some(held) => (Some(held), Answer::Unknown),
+        None => ask(lock, scene, mode, how, party),
+    }
+}
+
+/// Ends what a hand holds.
+fn let_go<L: Played>(hand: Option<L::Held>)
+where
+    L::Runtime: Wait,
+{
+    match hand {
+        Some(held) => L::end(held, false),
+        None => {}
+    }
+}
+
 /// Writes by a hold.
 fn put<L: Played>(held: &mut L::Held, number: u64) -> Answer
 where
@@ -201,11 +230,11 @@ where
     let (first, second) = hands;
     match step {
         Step::Ask(mode, how) => {
-            let (first, answer) = ask(lock, scene, mode, how, me);
+            let (first, answer) = ask_with(lock, scene, first, mode, how, me);
             ((first, second), answer)
         }
         Step::AskToo(mode, how) => {
-            let (second, answer) = ask(lock, scene, mode, how, me);
+            let (second, answer) = ask_with(lock, scene, second, mode, how, me);
             ((first, second), answer)
         }
         Step::Do(deed) => {
@@ -234,14 +263,19 @@ where
     L::Runtime: Wait,
 {
     let mut hands = (None, None);
+    let mut verdict = None;
     for (at, (step, expected)) in lines.iter().enumerate() {
         let (held, answer) = make(lock, scene, hands, *step, me, other);
         hands = held;
         if answer != *expected {
-            return Some((at, answer));
+            verdict = Some((at, answer));
+            break;
         }
     }
-    None
+    let (first, second) = hands;
+    let_go::<L>(first);
+    let_go::<L>(second);
+    verdict
 }
 
 /// Follows lines at a lock that shows no words. What is wrong is told by the name of the table, and the row.

@@ -14,8 +14,8 @@ pub trait Played {
     /// What a thread lends to a call that may wait.
     type Party;
 
-    /// A hold of any mode.
-    type Held: Drop;
+    /// A hold of any mode, which has to be ended: threads share no lock whose holds are known to be let go by themselves.
+    type Held;
 
     /// How the lock is held.
     fn seen(&self) -> Seen

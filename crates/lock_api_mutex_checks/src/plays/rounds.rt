@@ -1,7 +1,7 @@
 //! Threads that take a lock in many rounds, beside each other.
 
 use crate::moments::moment;
-use crate::plays::calls::{Asked, How, Mode, Turn};
+use crate::plays::calls::{How, Mode, Turn};
 use crate::plays::played::Played;
 use crate::plays::scene::{NoWords, Scene, Words};
 use crate::raw_checks::TURNS;
@@ -73,8 +73,8 @@ fn adds<L: Played, C: Clock, W: Words>(
 where
     L::Runtime: Wait,
 {
-    match lock.ask(Mode::Exclusive, how, &scene.time, party) {
-        Asked::Had(held) => {
+    match lock.ask(Mode::Exclusive, how, &scene.time, party).hold() {
+        Some(held) => {
             let next = count_up(&scene.said, matches!(how, How::For(_)));
             let is_word = word.is_none() | (word == scene.words.word(0));
             if !reads {
@@ -86,7 +86,7 @@ where
             L::end(held, false);
             one(same)
         }
-        _ => NOTHING,
+        None => NOTHING,
     }
 }
 
@@ -100,14 +100,14 @@ fn reads<L: Played, C: Clock, W: Words>(
 where
     L::Runtime: Wait,
 {
-    match lock.ask(Mode::Shared, how, &scene.time, party) {
-        Asked::Had(held) => {
+    match lock.ask(Mode::Shared, how, &scene.time, party).hold() {
+        Some(held) => {
             let seen = scene.said();
             let right = scene.said() == seen;
             L::end(held, false);
             Tally { added: 0, right }
         }
-        _ => NOTHING,
+        None => NOTHING,
     }
 }
 
@@ -122,8 +122,8 @@ fn finds<L: Played, C: Clock, W: Words>(
 where
     L::Runtime: Wait,
 {
-    match lock.ask(mode, how, &scene.time, party) {
-        Asked::Had(mut held) => {
+    match lock.ask(mode, how, &scene.time, party).hold() {
+        Some(mut held) => {
             let right = L::get(&held) == scene.said();
             let added = u64::from(mode == Mode::Exclusive);
             if mode == Mode::Exclusive {
@@ -133,7 +133,7 @@ where
             L::end(held, false);
             Tally { added, right }
         }
-        _ => NOTHING,
+        None => NOTHING,
     }
 }
 
@@ -172,18 +172,21 @@ fn adds_nested<L: Played, C: Clock, W: Words>(
 where
     L::Runtime: Wait,
 {
-    match lock.ask(Mode::Exclusive, how, &scene.time, party) {
-        Asked::Had(outer) => {
+    match lock.ask(Mode::Exclusive, how, &scene.time, party).hold() {
+        Some(outer) => {
             let seen = scene.said();
             thread::yield_now();
-            let inner = lock.ask(Mode::Exclusive, how, &scene.time, party);
-            let right = matches!(&inner, Asked::Had(_));
+            let inner = lock.ask(Mode::Exclusive, how, &scene.time, party).hold();
+            let right = inner.is_some();
             scene.said.store(seen.wrapping_add(1), Ordering::SeqCst);
-            drop(inner);
+            match inner {
+                Some(inner) => L::end(inner, false),
+                None => {}
+            }
             L::end(outer, false);
             one(right)
         }
-        _ => NOTHING,
+        None => NOTHING,
     }
 }
 
@@ -205,9 +208,12 @@ where
         Round::Writes(how) => finds(lock, scene, Mode::Exclusive, how, party),
         Round::Rereads(how) => finds(lock, scene, Mode::Shared, how, party),
         Round::Nests(how) => adds_nested(lock, scene, how, party),
-        Round::Upgrades(ask, how) => match lock.ask(Mode::Upgradable, ask, &scene.time, party) {
-            Asked::Had(held) => adds_upgraded(lock, scene, held, how, party),
-            _ => NOTHING,
+        Round::Upgrades(ask, how) => match lock
+            .ask(Mode::Upgradable, ask, &scene.time, party)
+            .hold()
+        {
+            Some(held) => adds_upgraded(lock, scene, held, how, party),
+            None => NOTHING,
         },
     }
 }
