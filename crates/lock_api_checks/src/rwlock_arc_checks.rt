@@ -26,7 +26,6 @@ pub fn lock_in_arc<R: RawRwLock + MakeLock<S> + Drop, A: Allocator, S>(
         Ok(lock) => Ok(lock),
         Err(_refused) => Err(Wrong {
             what: "no memory for an Arc",
-            row: 0,
         }),
     }
 }

@@ -104,6 +104,16 @@ where
     guard.is_some()
 }
 
+/// How the lock shows itself beside a guard, which is gone afterwards.
+pub fn beside_guard<W: Drop, H: Hold, L: Look>(guard: Guard<W, H>, lock: &L) -> Seen
+where
+    H::Runtime: Wait,
+    L::Runtime: Wait,
+{
+    let _guard = guard;
+    lock.look()
+}
+
 /// Narrows a guard of (Some(7), 2) to its first field and then to the inside, and reads both.
 pub fn reads_step_by_step<W: Lender<Part = Pair> + Drop, H: FairHold>(
     guard: Guard<W, H>,

@@ -9,7 +9,6 @@ pub mod arc_guard_checks;
 pub mod guard_checks;
 mod moments;
 pub mod mutex_checks;
-pub mod plays;
 pub mod raw_checks;
 pub mod reentrant_checks;
 mod seen;

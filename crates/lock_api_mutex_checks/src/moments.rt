@@ -15,7 +15,6 @@ pub fn moment<C: Clock>(clock: &C) -> Result<Instant, Wrong> {
         Ok(now) => Ok(now),
         Err(_unread) => Err(Wrong {
             what: "the clock can't be read",
-            row: 0,
         }),
     }
 }

@@ -5,22 +5,44 @@
 
 use crate::arc_guard_checks::{is_refused, unlocks_an_arc_for_a_while, writes_by_closures};
 use crate::guard_checks::{
-    Pair, add_one_by, comes_back, is_lent_by, is_put_by, is_written_by, narrows_at_once,
-    narrows_step_by_step, prints_beside, read_by, shows,
+    Pair, add_one_by, beside_guard, comes_back, is_had, is_lent_by, is_put_by, is_written_by,
+    narrows_at_once, narrows_step_by_step, prints_beside, read_by, shows,
+    unlocks_for_a_while as lets_go_for_a_while,
 };
-use crate::plays::{
-    Answer, Aside, Deed, How, Line, Mode, Round, Step, exclude_each_other, follow_table,
-};
-use crate::seen::{Look, Seen, is_free};
+use crate::moments::{moment, short};
+use crate::raw_checks::TURNS;
+use crate::seen::{Look, Seen, is_alone, is_free};
 use crate::wrong::{Wrong, expect, expect_all};
-use lock_api::{ArcGuard, Mutex};
-use lock_api_guards::{ArcHold, FairHold, HasValue, HasValueMut, WriteHold};
+use lock_api::{ArcGuard, Guard, Mutex};
+use lock_api_guards::{
+    Access, ArcHold, FairHold, HasValue, HasValueMut, Lender, MutexHold, WriteHold,
+};
 use lock_api_raw::{MakeLock, NoMemory, RawMutex, RawMutexFair, RawMutexTimed};
 use std::alloc::Allocator;
 use std::rt::Clock;
 use std::sync::{Arc, Wait};
+use std::thread;
 use std::thread::Threads;
 use std::time::{Duration, Instant};
+
+/// A held mutex admits nobody, and a free one somebody.
+pub fn admits_one<R: RawMutex + MakeLock<S> + Drop, S>(
+    source: S,
+    party: &mut R::Party,
+) -> Result<(), Wrong>
+where
+    R::Runtime: Wait,
+{
+    let mutex = Mutex::<R, u64>::new(source, 5)?;
+    let new = is_free(&mutex);
+    let held = beside_guard(mutex.lock(party), &mutex) == Seen::Alone;
+    expect_all(&[
+        (new, "a new mutex is unlocked"),
+        (held, "beside a guard"),
+        (is_free(&mutex), "a dropped guard releases"),
+        (!mutex.is_locked(), "a guard of a try releases"),
+    ])
+}
 
 /// What was written is what is read next, and what is taken out.
 pub fn keeps_its_value<R: RawMutex + MakeLock<S> + Drop, S>(
@@ -35,17 +57,90 @@ where
     let at_first = read_by(mutex.lock(party));
     let wrote = is_written_by(mutex.lock(party), 3);
     let written = read_by(mutex.lock(party));
-    let added = add_one_by(mutex.lock(party));
     *mutex.get_mut() = 4;
     let taken = mutex.into_inner();
     let (raw, value) = Mutex::from_raw(R::new(source, 1)?, 5_u64).into_inner_with_raw();
     expect_all(&[
         (at_first == 0, "the default of a number"),
         (wrote & (written == 3), "what was written is read next"),
-        (added == 4, "what was added to it too"),
         (taken == 4, "get_mut writes, into_inner takes out"),
         (value == 5, "into_inner_with_raw gives the value"),
         (!raw.is_locked(), "into_inner_with_raw gives the raw mutex"),
+    ])
+}
+
+/// Whether both timed locks are answered so: Some, or None.
+fn locks_in_time<R: RawMutexTimed<Duration = Duration, Instant = Instant>, C: Clock>(
+    mutex: &Mutex<R, u64>,
+    past: Instant,
+    clock: &C,
+    party: &mut R::Party,
+    some: bool,
+) -> bool
+where
+    R::Runtime: Wait,
+{
+    let waited = is_had(mutex.try_lock_for(short(), clock, party)) == some;
+    let at_once = is_had(mutex.try_lock_until(past, clock, party)) == some;
+    waited & at_once
+}
+
+/// Timed forms give up beside a guard, and have a free mutex.
+pub fn gives_up_in_time<
+    R: RawMutexTimed<Duration = Duration, Instant = Instant> + MakeLock<S> + Drop,
+    C: Clock,
+    S,
+>(source: S, clock: &C, party: &mut R::Party) -> Result<(), Wrong>
+where
+    R::Runtime: Wait,
+{
+    let mutex = Mutex::<R, u64>::new(source, 5)?;
+    let past = moment(clock)?;
+    let guard = mutex.lock(party);
+    let none = locks_in_time(&mutex, past, clock, party, false);
+    drop(guard);
+    let some = locks_in_time(&mutex, past, clock, party, true);
+    expect_all(&[
+        (none, "timed locks beside a guard: None"),
+        (some, "timed locks of a free mutex: Some"),
+    ])
+}
+
+/// Whether a guard of 5 is let go for a while and held again, and names its mutex. It ends fairly.
+fn lets_go<W: Lender<Part = u64> + Drop, H: FairHold + MutexHold + Access<Inner = W>, L: Look>(
+    guard: Guard<W, H>,
+    mutex: &L,
+    party: &mut H::Party,
+) -> bool
+where
+    H::Lock: Look,
+    <H::Lock as Look>::Runtime: Wait,
+    H::Runtime: Wait,
+    L::Runtime: Wait,
+{
+    let mut guard = guard;
+    let let_go = lets_go_for_a_while(&mut guard, party, mutex, Seen::Alone).is_ok();
+    let of_it = is_alone(Guard::mutex(&guard));
+    Guard::unlock_fair(guard);
+    let_go & of_it
+}
+
+/// `unlocked` lets go for the closure's time, and the guard is held again afterwards.
+pub fn unlocks_for_a_while<R: RawMutexFair + MakeLock<S> + Drop, S>(
+    source: S,
+    party: &mut R::Party,
+) -> Result<(), Wrong>
+where
+    R::Runtime: Wait,
+{
+    let mutex = Mutex::<R, u64>::new(source, 5)?;
+    let let_go = lets_go(mutex.lock(party), &mutex, party);
+    expect_all(&[
+        (
+            let_go,
+            "let go for a while and held again, and of its mutex",
+        ),
+        (is_free(&mutex), "unlock_fair releases"),
     ])
 }
 
@@ -165,117 +260,48 @@ where
     is_free(&*arc)
 }
 
-/// A held mutex admits nobody, and a free one somebody.
-const ADMITS_ONE: &[Line] = &[
-    FREE,
-    LOCK,
-    ALONE,
-    END,
-    FREE,
-    (Step::Ask(Mode::Exclusive, How::Tries), Answer::Had),
-    ALONE,
-    END,
-    FREE,
-    (Step::Aside(Aside::Locked), Answer::No),
-];
-
-/// Calls give up beside a guard, and have a free mutex.
-const GIVES_UP_IN_TIME: &[Line] = &[
-    LOCK,
-    (
-        Step::Probe(Mode::Exclusive, How::For(1_000)),
-        Answer::Refused,
-    ),
-    (Step::Probe(Mode::Exclusive, How::Past), Answer::Refused),
-    END,
-    (Step::Probe(Mode::Exclusive, How::For(1_000)), Answer::Had),
-    (Step::Probe(Mode::Exclusive, How::Past), Answer::Had),
-    (Step::Probe(Mode::Exclusive, How::Always), Answer::Had),
-];
-
-/// A guard is let go for a while and held again, gives way, names its mutex, and ends fairly.
-const LETS_GO: &[Line] = &[
-    LOCK,
-    (Step::Do(Deed::Leave), Answer::Seen(Seen::Free)),
-    ALONE,
-    (Step::Do(Deed::LeaveFairly), Answer::Seen(Seen::Free)),
-    ALONE,
-    (Step::Do(Deed::Bump), Answer::Done),
-    ALONE,
-    (Step::Do(Deed::Get), Answer::Number(5)),
-    (Step::Do(Deed::Lock), Answer::Seen(Seen::Alone)),
-    (Step::Do(Deed::EndFairly), Answer::Done),
-    FREE,
-];
-
-/// The lines above in short.
-const LOCK: Line = (Step::Ask(Mode::Exclusive, How::Waits), Answer::Had);
-
-const END: Line = (Step::Do(Deed::End), Answer::Done);
-
-const FREE: Line = (Step::Aside(Aside::State), Answer::Seen(Seen::Free));
-
-const ALONE: Line = (Step::Aside(Aside::State), Answer::Seen(Seen::Alone));
-
-/// Follows the tables at one mutex of 5 after the other.
-pub fn follows_tables<
-    R: RawMutexFair + RawMutexTimed<Duration = Duration, Instant = Instant> + MakeLock<S> + Drop,
-    C: Clock,
-    S,
->(clock: &C, source: S, one: &mut R::Party, other: &mut R::Party) -> Result<(), Wrong>
+/// Adds 1 under the mutex, a thousand times.
+fn adds<R: RawMutex + Drop>(mutex: &Mutex<R, u64>, party: &mut R::Party)
 where
     R::Runtime: Wait,
 {
-    let mutex = Mutex::<R, u64>::new(source, 5)?;
-    follow_table(&&mutex, clock, "admits one", ADMITS_ONE, one, other)?;
-    follow_table(
-        &&mutex,
-        clock,
-        "gives up in time",
-        GIVES_UP_IN_TIME,
-        one,
-        other,
-    )?;
-    follow_table(&&mutex, clock, "lets go", LETS_GO, one, other)
+    for _ in 0..TURNS {
+        let _sum = add_one_by(mutex.lock(party));
+    }
 }
 
 /// Two threads that each add 1 a thousand times make 2,000.
-pub fn excludes<
-    R: RawMutexFair
-        + RawMutexTimed<Duration = Duration, Instant = Instant>
-        + MakeLock<S>
-        + Drop
-        + Sync,
-    T: Threads + Clock + Sync,
-    S,
->(rt: &T, source: S, one: &mut R::Party, other: &mut R::Party) -> Result<(), Wrong>
+pub fn excludes<R: RawMutex + MakeLock<S> + Drop + Sync, T: Threads + Sync, S>(
+    rt: &T,
+    source: S,
+    one: &mut R::Party,
+    other: &mut R::Party,
+) -> Result<(), Wrong>
 where
     R::Party: Send,
     R::Runtime: Wait,
 {
     let mutex = Mutex::<R, u64>::new(source, 0)?;
-    exclude_each_other(rt, &&mutex, &[Round::Writes(How::Waits)], 2_000, one, other)?;
+    thread::join(rt, || adds(&mutex, one), || adds(&mutex, other));
     expect(mutex.into_inner() == 2_000, "two threads add up to 2,000")
 }
 
-/// Each check here, one after the other: the first that finds something wrong says so.
-pub fn all<
-    R: RawMutexFair
-        + RawMutexTimed<Duration = Duration, Instant = Instant>
-        + MakeLock<S>
-        + Drop
-        + Sync,
-    T: Threads + Clock + Sync,
-    A: Allocator + Copy,
-    S,
->(rt: &T, alloc: A, source: S, one: &mut R::Party, other: &mut R::Party) -> Result<(), Wrong>
+/// Each check here that asks for no clock, one after the other: the first that finds something wrong says so.
+pub fn all<R: RawMutexFair + MakeLock<S> + Drop + Sync, T: Threads + Sync, A: Allocator + Copy, S>(
+    rt: &T,
+    alloc: A,
+    source: S,
+    one: &mut R::Party,
+    other: &mut R::Party,
+) -> Result<(), Wrong>
 where
     S: Copy,
     R::Party: Send,
     R::Runtime: Wait,
 {
-    follows_tables::<R, T, S>(rt, source, one, other)?;
+    admits_one::<R, S>(source, one)?;
     keeps_its_value::<R, S>(source, one)?;
+    unlocks_for_a_while::<R, S>(source, one)?;
     narrows::<R, S>(source, one)?;
     prints::<R, A, S>(alloc, source, one)?;
     owns_an_arc::<R, A, S>(alloc, source, one)?;

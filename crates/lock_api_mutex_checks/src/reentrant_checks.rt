@@ -33,7 +33,6 @@ where
         Ok(mutex) => Ok(mutex),
         Err(_refused) => Err(Wrong {
             what: "no memory for an Arc",
-            row: 0,
         }),
     }
 }

@@ -11,25 +11,19 @@ use std::fmt;
 pub struct Wrong {
     /// What it is about.
     pub what: &'static str,
-    /// The row, where that is a table of calls.
-    pub row: usize,
 }
 
 impl fmt::Display for Wrong {
     fn fmt<W: fmt::Write>(&self, f: &mut fmt::Formatter<W>) -> fmt::Result {
-        write!(f, "{}, row {}", self.what, self.row)
+        f.write_str(self.what)
     }
 }
 
 /// Goes on where `holds` is true, and else says what is wrong.
 pub fn expect(holds: bool, what: &'static str) -> Result<(), Wrong>
-    ensures { result ≡ if holds then Ok tt else Err (record { what = what.entry; row = 0 }) }
+    ensures { result ≡ if holds then Ok tt else Err (record { what = what.entry }) }
 {
-    if holds {
-        Ok(())
-    } else {
-        Err(Wrong { what, row: 0 })
-    }
+    if holds { Ok(()) } else { Err(Wrong { what }) }
 }
 
 /// Goes on where each step is right, and else says what is the first that isn't.
@@ -42,10 +36,7 @@ pub fn expect_all(steps: &[(bool, &'static str)]) -> Result<(), Wrong> {
 
 impl From<TableFull> for Wrong {
     fn from(_fault: TableFull) -> Wrong {
-        Wrong {
-            what: "TableFull",
-            row: 0,
-        }
+        Wrong { what: "TableFull" }
     }
 }
 
@@ -53,26 +44,19 @@ impl From<ReadersFull> for Wrong {
     fn from(_fault: ReadersFull) -> Wrong {
         Wrong {
             what: "ReadersFull",
-            row: 0,
         }
     }
 }
 
 impl From<NoMemory> for Wrong {
     fn from(_fault: NoMemory) -> Wrong {
-        Wrong {
-            what: "NoMemory",
-            row: 0,
-        }
+        Wrong { what: "NoMemory" }
     }
 }
 
 impl From<WaitFault> for Wrong {
     fn from(_fault: WaitFault) -> Wrong {
-        Wrong {
-            what: "WaitFault",
-            row: 0,
-        }
+        Wrong { what: "WaitFault" }
     }
 }
 
@@ -80,7 +64,6 @@ impl From<AllocError> for Wrong {
     fn from(_error: AllocError) -> Wrong {
         Wrong {
             what: "no memory for the check itself",
-            row: 0,
         }
     }
 }
@@ -89,7 +72,6 @@ impl From<ReentrantArcFault> for Wrong {
     fn from(_fault: ReentrantArcFault) -> Wrong {
         Wrong {
             what: "ReentrantArcFault",
-            row: 0,
         }
     }
 }

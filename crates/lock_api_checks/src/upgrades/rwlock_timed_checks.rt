@@ -1,13 +1,16 @@
-//! Checks of the waits that give up of guards that own an Arc of their lock.
+//! Checks of the waits of the reader-writer lock that give up.
 //!
 //! What is done with a guard stands in functions over any hold: at a named lock each such call would cost a proof ten
 //! times as long.
 
 use crate::arc_guard_checks::{is_given, is_refused, lends_to_closures};
+use crate::guard_checks::{is_had, lends};
 use crate::rwlock_arc_checks::lock_in_arc;
 use crate::{Look, Wrong, expect_all, is_alone, is_free, is_read, moment, short};
 use lock_api::{ArcGuard, Guard, RwLock};
-use lock_api_guards::{HasValue, HasValueMut, Hold, RestoreHold, TimedUpgradeHold};
+use lock_api_guards::{
+    Access, HasValue, HasValueMut, Hold, Lender, LenderMut, RestoreHold, TimedUpgradeHold,
+};
 use lock_api_raw::{
     MakeLock, NoMemory, RawRwLockTimed, RawRwLockUpgradeDowngrade, RawRwLockUpgradeTimed,
 };
@@ -15,6 +18,62 @@ use std::alloc::Allocator;
 use std::rt::Clock;
 use std::sync::Wait;
 use std::time::{Duration, Instant};
+
+/// Whether one guard was had and another beside it wasn't.
+fn is_had_alone<W: Drop, H: Hold>(one: Option<Guard<W, H>>, other: Option<Guard<W, H>>) -> bool
+where
+    H::Runtime: Wait,
+{
+    one.is_some() & other.is_none()
+}
+
+/// Whether the timed reads are both answered so, and the timed writes: Some, or None.
+fn answers_in_time<R: RawRwLockTimed<Duration = Duration, Instant = Instant>, C: Clock>(
+    lock: &RwLock<R, u64>,
+    past: Instant,
+    clock: &C,
+    party: &mut R::Party,
+    reads: bool,
+    writes: bool,
+) -> bool
+where
+    R::Runtime: Wait,
+{
+    let read_waited = is_had(lock.try_read_for(short(), clock, party)) == reads;
+    let read_at_once = is_had(lock.try_read_until(past, clock, party)) == reads;
+    let write_waited = is_had(lock.try_write_for(short(), clock, party)) == writes;
+    let write_at_once = is_had(lock.try_write_until(past, clock, party)) == writes;
+    read_waited & read_at_once & write_waited & write_at_once
+}
+
+/// Timed forms give up beside a guard that excludes them, and have a free lock. A moment that has come gives up at once.
+pub fn gives_up_in_time<
+    R: RawRwLockTimed<Duration = Duration, Instant = Instant> + MakeLock<S> + Drop,
+    C: Clock,
+    S,
+>(source: S, clock: &C, party: &mut R::Party) -> Result<(), Wrong>
+where
+    R::Runtime: Wait,
+{
+    let lock = RwLock::<R, u64>::new(source, 4, 5)?;
+    let past = moment(clock)?;
+    let writer = lock.write(party);
+    let beside_a_writer = answers_in_time(&lock, past, clock, party, false, false);
+    drop(writer);
+    let reader = lock.read(party);
+    let beside_a_reader = answers_in_time(&lock, past, clock, party, true, false);
+    drop(reader);
+    let free = answers_in_time(&lock, past, clock, party, true, true);
+    expect_all(&[
+        (
+            beside_a_writer,
+            "timed reads and writes beside a writer: None",
+        ),
+        (beside_a_reader, "beside a reader timed reads alone: Some"),
+        (free, "timed reads and writes of a free lock: Some"),
+        (is_free(&lock), "each of them released"),
+    ])
+}
 
 /// Timed Arc forms give up beside a guard that excludes them, and have a free lock.
 pub fn gives_up_an_arc_in_time<
@@ -46,6 +105,136 @@ where
         (unread, "try_read_arc_until beside a writer: Ok(None)"),
         (is_free(&*lock), "a dropped Arc guard releases"),
     ])
+}
+
+/// An upgrade that gives up gives the same guard back, still held, and one beside nobody succeeds. Writing under an
+/// upgraded guard gives up beside a reader, and then the closure isn't called.
+pub fn gives_up_an_upgrade<
+    R: RawRwLockUpgradeTimed<Duration = Duration, Instant = Instant>
+        + RawRwLockUpgradeDowngrade
+        + MakeLock<S>
+        + Drop,
+    C: Clock,
+    S,
+>(source: S, clock: &C, party: &mut R::Party) -> Result<(), Wrong>
+where
+    R::Runtime: Wait,
+{
+    let lock = RwLock::<R, u64>::new(source, 4, 5)?;
+    let past = moment(clock)?;
+    let upgradable = lock.try_upgradable_read_for(short(), clock, party);
+    let other = lock.try_upgradable_read_until(past, clock, party);
+    let alone = is_had_alone(upgradable, other);
+    let upgradable = lock.upgradable_read(party);
+    let upgraded = upgrades_in_time(upgradable, lock.read(party), &lock, past, clock, party);
+    let upgradable = lock.upgradable_read(party);
+    let wrote = writes_in_time(upgradable, lock.read(party), &lock, past, clock, party);
+    expect_all(&[
+        (
+            alone,
+            "try_upgradable_read_for of a free lock: Some, and try_upgradable_read_until beside it: None",
+        ),
+        (
+            upgraded,
+            "timed upgrades beside a reader: the same guard, and beside nobody a write guard",
+        ),
+        (
+            wrote,
+            "writing upgraded in time: None beside a reader, and beside nobody it wrote",
+        ),
+    ])
+}
+
+/// The upgradable guard, where each timed upgrade of it gives it back.
+fn stays<W: Drop, H: TimedUpgradeHold<Duration = Duration, Instant = Instant>, C: Clock>(
+    upgradable: Guard<W, H>,
+    past: Instant,
+    clock: &C,
+    party: &mut H::Party,
+) -> Option<Guard<W, H>>
+where
+    H::Alone: Access,
+    H::Runtime: Wait,
+    <H::Alone as Hold>::Runtime: Wait,
+{
+    let Err(upgradable) = Guard::try_upgrade_for(upgradable, short(), clock, party) else {
+        return None;
+    };
+    Guard::try_upgrade_until(upgradable, past, clock, party).err()
+}
+
+/// Whether an upgradable guard of 5 comes back from its waits beside a reader, holds and reads, and is upgraded by a wait
+/// beside nobody.
+fn upgrades_in_time<
+    W: Lender<Part = u64> + Drop,
+    H: TimedUpgradeHold<Duration = Duration, Instant = Instant>,
+    S: Hold,
+    L: Look,
+    C: Clock,
+>(
+    upgradable: Guard<W, H>,
+    reader: Guard<W, S>,
+    lock: &L,
+    past: Instant,
+    clock: &C,
+    party: &mut H::Party,
+) -> bool
+where
+    H::Alone: Access,
+    H::Runtime: Wait,
+    S::Runtime: Wait,
+    <H::Alone as Hold>::Runtime: Wait,
+    L::Runtime: Wait,
+{
+    let stayed = stays(upgradable, past, clock, party);
+    drop(reader);
+    let Some(upgradable) = stayed else {
+        return false;
+    };
+    let held = is_read(lock) & lends(&upgradable, 5);
+    let upgraded = Guard::try_upgrade_for(upgradable, short(), clock, party);
+    held & upgraded.is_ok() & is_alone(lock)
+}
+
+/// Whether writing under an upgradable guard of 5 gives up beside a reader with no closure called, and writes beside
+/// nobody. The guard isn't alone afterwards.
+fn writes_in_time<
+    W: Lender<Part = u64> + Drop,
+    H: RestoreHold + TimedUpgradeHold<Duration = Duration, Instant = Instant> + Access<Inner = W>,
+    S: Hold,
+    L: Look,
+    C: Clock,
+>(
+    upgradable: Guard<W, H>,
+    reader: Guard<W, S>,
+    lock: &L,
+    past: Instant,
+    clock: &C,
+    party: &mut H::Party,
+) -> bool
+where
+    H::Alone: Access,
+    <H::Alone as Access>::Inner: LenderMut<Part = u64>,
+    H::Runtime: Wait,
+    S::Runtime: Wait,
+    <H::Alone as Hold>::Runtime: Wait,
+    L::Runtime: Wait,
+{
+    let mut upgradable = upgradable;
+    let waited = Guard::try_with_upgraded_for(&mut upgradable, short(), clock, party, |value| {
+        *value = 6;
+    });
+    let at_once = Guard::try_with_upgraded_until(&mut upgradable, past, clock, party, |value| {
+        *value = 7;
+    });
+    let uncalled = lends(&upgradable, 5);
+    drop(reader);
+    let alone = Guard::try_with_upgraded_until(&mut upgradable, past, clock, party, |value| {
+        *value = 8;
+    });
+    let refused = waited.is_none() & at_once.is_none() & uncalled;
+    let wrote = alone.is_some() & lends(&upgradable, 8);
+    refused & wrote & is_read(lock)
 }
 
 /// Timed upgrades of Arc guards, and writing under a guard that was upgraded so.

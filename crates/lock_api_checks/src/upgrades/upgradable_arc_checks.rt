@@ -4,9 +4,9 @@
 //! times as long.
 
 use crate::arc_guard_checks::{is_refused, lends_to_closures};
-use crate::guard_checks::{prints_its_value, shows};
 use crate::rwlock_arc_checks::lock_in_arc;
-use crate::{Look, Seen, Wrong, expect_all, is_alone, is_free, is_read};
+use crate::upgrades::upgradable_checks::{LookUpgradably, is_shared};
+use crate::{Look, Wrong, expect_all, is_alone, is_free, is_read};
 use lock_api::{ArcGuard, Guard, RwLock};
 use lock_api_guards::{
     DowngradeHold, DowngradeToUpgradable, HasValue, HasValueMut, Hold, RestoreHold, UpgradeHold,
@@ -14,32 +14,6 @@ use lock_api_guards::{
 use lock_api_raw::{MakeLock, NoMemory, RawRwLockUpgrade, RawRwLockUpgradeDowngrade};
 use std::alloc::Allocator;
 use std::sync::Wait;
-
-/// A lock that can be looked at, and may let in an upgradable reader.
-trait LookUpgradably: Look {
-    /// How the lock shows itself, and whether it lets in an upgradable reader.
-    fn look_upgradably(&self) -> (Seen, bool)
-    where
-        Self::Runtime: Wait;
-}
-
-impl<R: RawRwLockUpgrade, T> LookUpgradably for RwLock<R, T> {
-    fn look_upgradably(&self) -> (Seen, bool)
-    where
-        R::Runtime: Wait,
-    {
-        let upgradable = self.try_upgradable_read().is_some();
-        (self.look(), upgradable)
-    }
-}
-
-/// Readers hold the lock, and none of them is upgradable.
-fn is_shared<L: LookUpgradably>(lock: &L) -> bool
-where
-    L::Runtime: Wait,
-{
-    lock.look_upgradably() == (Seen::Read, true)
-}
 
 /// An Arc guard is upgraded where no reader is left, and else comes back, still held.
 pub fn upgrades<R: RawRwLockUpgrade + MakeLock<S> + Drop, A: Allocator + Copy, S>(
@@ -198,27 +172,4 @@ where
     let reader = ArcGuard::downgrade(upgradable);
     let shared = is_shared(lock);
     refused & uncalled & tried & shared & lends_to_closures(&reader, 7)
-}
-
-/// An upgradable guard prints its value, and so does the lock, which a reader may take beside it.
-pub fn prints<R: RawRwLockUpgrade + MakeLock<S> + Drop, A: Allocator + Copy, S>(
-    alloc: A,
-    source: S,
-    party: &mut R::Party,
-) -> Result<(), Wrong>
-where
-    R::Runtime: Wait,
-{
-    let lock = RwLock::<R, u64>::new(source, 4, 5)?;
-    let upgradable = lock.upgradable_read(party);
-    expect_all(&[
-        (
-            shows(alloc, &lock, "RwLock { data: 5 }"),
-            "Debug of a lock that is read",
-        ),
-        (
-            prints_its_value(alloc, &upgradable, "5 5"),
-            "Debug and Display of an upgradable guard",
-        ),
-    ])
 }
