@@ -1,7 +1,8 @@
 //! Why a run can't be made.
 
+use dashmap_record::RecordFault;
 use dashmap_table::{MapFault, NoMemory};
-use parking_lot_core::{LotFault, SizeFault, ThreadData};
+use parking_lot_core::{LotFault, SizeFault};
 use std::alloc::{AllocError, AllocFailed};
 use std::io;
 
@@ -39,14 +40,14 @@ impl From<io::Error> for Fault {
     }
 }
 
-impl From<AllocFailed<u64>> for Fault {
-    fn from(_refused: AllocFailed<u64>) -> Fault {
+impl<T: Drop> From<AllocFailed<T>> for Fault {
+    fn from(_refused: AllocFailed<T>) -> Fault {
         Fault
     }
 }
 
-impl From<AllocFailed<ThreadData>> for Fault {
-    fn from(_refused: AllocFailed<ThreadData>) -> Fault {
+impl From<RecordFault> for Fault {
+    fn from(_refused: RecordFault) -> Fault {
         Fault
     }
 }

@@ -1,1 +1,1 @@
-mod Gathering
+pub mod Gathering

@@ -1,2 +1,2 @@
-mod Gathering
-mod Writing
+pub mod Gathering
+pub mod Writing

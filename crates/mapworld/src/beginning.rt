@@ -9,8 +9,7 @@ ghost use Rattle.mapworld_state.specs.Slots.{key_hash};
 ghost use Rattle.mapworld.specs.Beginning.{at_start, AreAtStart, AreFilled, HasLists, HaveLists, pairs_in, AreEmpty, AreHashed};
 
 use arrayvec::ArrayVec;
-use dashmap_table::Shard;
-use lock_api_raw::NoMemory;
+use dashmap_table::{NoMemory, Shard};
 use mapworld_calls::{Ask, Walk};
 use mapworld_state::{Phase, Place};
 use mapworld_steps::shard_of;

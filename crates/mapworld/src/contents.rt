@@ -7,9 +7,8 @@ ghost use Rattle.mapworld_state.specs.Slots.{HasHashes, key_hash};
 ghost use Rattle.dashmap_view.specs.Views.{all_pairs};
 ghost use Rattle.mapworld.specs.Views.{shown};
 
-use dashmap_table::Shard;
+use dashmap_table::{NoMemory, Shard};
 use dashmap_view::ViewIter;
-use lock_api_raw::NoMemory;
 use mapworld_transitions::pairs::{find_pair, pair_at};
 use std::alloc::Allocator;
 use std::hash::{BuildHasher, Hash};

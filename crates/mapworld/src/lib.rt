@@ -10,9 +10,8 @@ mod making;
 mod stops;
 mod world;
 
-pub use dashmap_table::{SpreadHasher, SpreadState};
+pub use dashmap_table::{NoMemory, SpreadHasher, SpreadState};
 pub use dashmap_view::ViewIter as Pairs;
-pub use lock_api_raw::NoMemory;
 pub use mapworld_calls::{
     Answer, Ask, Begin, Block, Deed, Held, Keyed, Reply, Walk, guard_numbers, holds_one_guard,
 };

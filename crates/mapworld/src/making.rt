@@ -13,7 +13,7 @@ ghost use Rattle.mapworld_state.specs.Core.{state_of, IsSoundCore, IsSlotted, Ro
 use crate::beginning::{empty_shards, fill, places_of};
 use crate::limits;
 use crate::stops::programs_fit;
-use lock_api_raw::NoMemory;
+use dashmap_table::NoMemory;
 use mapworld_calls::{Ask, Deed};
 use mapworld_state::Core;
 use mapworld_state::locks::ShardLocks;

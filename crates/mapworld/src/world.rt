@@ -22,8 +22,8 @@ ghost use Rattle.mapworld_invariant.specs.Causes.World.{TriesHaveCauses, TakenSh
 
 use crate::laws::{queues_are_waiters, steps_touch_one_lock};
 use crate::{contents, counts, limits, making};
+use dashmap_table::NoMemory;
 use dashmap_view::ViewIter;
-use lock_api_raw::NoMemory;
 use mapworld_calls::{Ask, Block, Deed, Reply};
 use mapworld_state::faults::{RunFault, WorldNewFault};
 use mapworld_state::{Core, Status, Step};

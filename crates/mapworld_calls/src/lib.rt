@@ -13,6 +13,7 @@ mod reply;
 
 pub use ask::{Ask, Begin, Held, Keyed, Walk};
 pub use block::Block;
+pub use dashmap_table::{SpreadHasher, SpreadState, spread_hash};
 pub use deed::Deed;
 pub use program::{guard_numbers, holds_one_guard};
 pub use reply::{Answer, Reply};

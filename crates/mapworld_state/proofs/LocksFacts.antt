@@ -1,27 +1,27 @@
-mod Aiming
-mod Owning
-mod Within
+pub mod Aiming
+pub mod Owning
+pub mod Within
 pub mod Calls
-mod Taking
+pub mod Taking
 pub mod Lists
 pub mod Handing
-mod Seating
-mod Counting
-mod Admitting
-mod Moving
-mod Taken
+pub mod Seating
+pub mod Counting
+pub mod Admitting
+pub mod Moving
+pub mod Taken
 pub mod Keeping
 pub mod Together
-mod Ending
+pub mod Ending
 pub mod Answering
-mod Standing
+pub mod Standing
 pub mod Beginning
-mod Stepping
-mod Following
-mod Finishing
-mod Starting
-mod Making
+pub mod Stepping
+pub mod Following
+pub mod Finishing
+pub mod Starting
+pub mod Making
 pub mod Sizes
-mod Touching
-mod Weighing
-mod Wording
+pub mod Touching
+pub mod Weighing
+pub mod Wording

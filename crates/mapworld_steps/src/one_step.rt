@@ -12,8 +12,8 @@ use crate::starts::start;
 use crate::walking::{idle, onward, reach, visit};
 use crate::walks::{give, part, seek};
 use mapworld_calls::Deed;
-use mapworld_effects::{append, apply, change, fill, item, read, view};
 use mapworld_state::{Core, Phase, Step};
+use mapworld_transitions::effects::{append, apply, change, fill, item, read, view};
 use std::alloc::Allocator;
 use std::hash::{BuildHasher, Hash};
 

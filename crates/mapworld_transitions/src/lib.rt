@@ -4,6 +4,7 @@
 
 pub mod blocks;
 mod effect;
+pub mod effects;
 pub mod holds;
 pub mod moves;
 pub mod pairs;

@@ -17,6 +17,7 @@ use mapworld_calls::{Answer, Ask, Begin, Held, Keyed, Walk};
 use mapworld_state::{Growth, Guard, Mode, Phase, Request, Way};
 use std::alloc::Allocator;
 use std::hash::{BuildHasher, Hash};
+use std::mem;
 
 /// The key of a call on one key.
 fn keyed_key<K, V, D>(call: &Keyed<K, V, D>) -> &K
@@ -439,5 +440,5 @@ pub fn enter<K: Drop, V: Drop, D: Drop, T: Drop, A: Allocator>(
 )
     ensures { phase.new ≡ next }
 {
-    *phase = next;
+    drop(mem::replace(phase, next));
 }

@@ -14,8 +14,7 @@ ghost use Rattle.mapworld_state.specs.World.{deeds_of};
 ghost use Rattle.mapworld_transitions.specs.Slots.{LeavesAt, HashesAlike};
 
 use crate::effect::store_effect;
-use dashmap_table::Shard;
-use lock_api_raw::NoMemory;
+use dashmap_table::{NoMemory, Shard};
 use mapworld_calls::{Answer, Deed, Held, Keyed};
 use mapworld_state::{Guard, Way};
 use std::alloc::Allocator;

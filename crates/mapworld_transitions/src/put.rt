@@ -5,8 +5,7 @@ ghost use Rattle.mapworld_calls.specs.Pairs.{pair_of};
 ghost use Rattle.mapworld_state.specs.Shards.{shard_pairs, Puts};
 ghost use Rattle.mapworld_state.specs.Slots.{HasHashes, key_hash};
 
-use dashmap_table::Shard;
-use lock_api_raw::NoMemory;
+use dashmap_table::{NoMemory, Shard};
 use std::alloc::Allocator;
 use std::hash::{BuildHasher, Hash};
 

@@ -3,7 +3,7 @@
 //! The raw locks and the table are those of `parking_lot_mutex` and `parking_lot_rwlock`. Nothing is promised of a word, nor that a call comes back: what
 //! keeps two writers from one value is the std lock in which a generic lock keeps it.
 //!
-//! A [`Once`] of `parking_lot_once` runs one closure once.
+//! A [`Once`] of `parking_lot_mutex` runs one closure once.
 //!
 //! What the calls of locks, condition variables and onces do under every schedule can be tried in a [`World`], whose steps are told one by one.
 //!
@@ -30,11 +30,11 @@ pub use names::{
     RwLockUpgradableReadGuard, RwLockWriteGuard,
 };
 pub use parking_lot_mutex::condvar::RawCondvar;
+pub use parking_lot_mutex::once::{Once, OnceCore, OnceFault, OnceState, Poisoned};
 pub use parking_lot_mutex::{
     Act, ActResult, CoreAnswer, LockTable, MutexCore, RawFairMutex, RawMutex, RawThreadId, Row,
     SectionAct, WordChange, laws, to_deadline, wake_sum,
 };
-pub use parking_lot_once::{Once, OnceCore, OnceFault, OnceState, Poisoned};
 pub use parking_lot_protocol::timed::{TimedAct, TimedMutexCore, TimedSeen};
 pub use parking_lot_protocol_rw::UpgradeCore;
 pub use parking_lot_protocol_rw::timed::TimedRwCore;

@@ -1,6 +1,6 @@
 //! Why a run can't be made.
 
-use lock_api_raw::TableFull;
+use lock_api_raw::{ReadersFull, TableFull};
 use parking_lot_core::{LotFault, SizeFault};
 use std::alloc::AllocError;
 use std::io;
@@ -23,6 +23,12 @@ impl From<SizeFault> for Fault {
 
 impl From<TableFull> for Fault {
     fn from(_fault: TableFull) -> Fault {
+        Fault
+    }
+}
+
+impl From<ReadersFull> for Fault {
+    fn from(_fault: ReadersFull) -> Fault {
         Fault
     }
 }

@@ -9,21 +9,21 @@
 //!   without a lock `none`. It prints how many pairs found the value that they must find.
 //! - `lot pair ROUNDS` hands a turn to and fro between two threads, by the lot and by condition variables, and prints what one
 //!   turn took of each; `lot empty ROUNDS` unparks the first waiter of a key that has none.
-//! - `locks PAIR PAIRS` locks and unlocks so many times with nobody beside it: `mutex`, `read` and `write` by the raw locks, `upgradable` and
-//!   `upgrade` by their upgradable holds, `read-in-time` and `write-in-time` by their calls that may give up, `guard`, `reader` and `writer` by the generic locks over them, and `std-mutex`, `std-read` and `std-write` by the locks of
-//!   std. `locks turns ROUNDS` has two threads hand each kind of lock to one another, and prints what one turn took.
+//! - `locks PAIR PAIRS` locks and unlocks so many times with nobody beside it, in the form that is named (`mutex`, `read-in-time`,
+//!   `upgrade-try`, `fair-guard`, `nested`, `std-write` ..), and prints what is left in the word.
+//! - `locks turns ROUNDS` has two threads hand each kind of lock to one another, and prints what one turn took.
 #![tactic(auto)]
 
 mod fault;
 mod generic;
-mod locks;
 mod lot;
+mod pairs;
 mod times;
 mod turns;
 
 use fault::Fault;
 use generic::Kind;
-use locks::Pair;
+use pairs::Pair;
 use std::alloc::Global;
 use std::env;
 use std::process::ExitCode;
@@ -70,7 +70,7 @@ fn told_small<R: Wait + Threads + Clock + Sync + Copy + Drop>(
     let generic = generic::small_run(rt, alloc, u64::from(SMALL))?;
     let (parked, waited) = lot::both_ways(rt, alloc, SMALL)?;
     let fair = lot::fair_turns(rt, alloc, SMALL)?;
-    let words = locks::all_pairs(rt, alloc, SMALL)?;
+    let words = pairs::all_pairs(rt, alloc, SMALL)?;
     let (mutex, lock) = turns::both_ways(rt, alloc, SMALL)?;
     Ok(format!(in alloc;
         "{generic}\nturns {parked} by parking, {waited} by condvars, {fair} fair\nleft {words}, turns {mutex} by the mutex, {lock} by the lock"
@@ -98,7 +98,7 @@ fn told<R: Wait + Threads + Clock + Sync + Copy + Drop>(
             Ok(format!(in alloc; "{fair} fair")?)
         }
         Call::Locks(pair, count) => {
-            let word = locks::pairs_of(rt, alloc, pair, count)?;
+            let word = pairs::pairs_of(rt, alloc, pair, count)?;
             Ok(format!(in alloc; "word {word}")?)
         }
         Call::Turns(rounds) => {

@@ -2,7 +2,7 @@
 
 use parking_lot_core::ParkingLot;
 use parking_lot_driver::LockTable;
-use parking_lot_once::Once;
+use parking_lot_mutex::once::Once;
 use std::sync::Wait;
 use std::sync::atomic::{AtomicU64, Ordering};
 use std::test::Fail;

@@ -1,7 +1,7 @@
 //! Plays at a once.
 
 use crate::once_stage::{Answer, End, Ended, Line, Made, Meanwhile, Ran, Step, play};
-use parking_lot_once::OnceState::{Done, InProgress, New, Poisoned};
+use parking_lot_mutex::once::OnceState::{Done, InProgress, New, Poisoned};
 use std::test::Fail;
 
 /// Calls with a closure that looks for nothing.

@@ -3,7 +3,7 @@
 use crate::words::has_come;
 use parking_lot_core::{ParkingLot, ThreadData};
 use parking_lot_driver::LockTable;
-use parking_lot_once::{Once, OnceFault, OnceState, Poisoned};
+use parking_lot_mutex::once::{Once, OnceFault, OnceState, Poisoned};
 use std::alloc::Global;
 use std::cell::Cell;
 use std::process::Abort;

@@ -5,7 +5,7 @@ use lock_api_raw::{MakeCondvar as _, TableFull};
 use parking_lot_core::ParkingLot;
 use parking_lot_driver::LockTable;
 use parking_lot_mutex::condvar::RawCondvar;
-use parking_lot_once::{Once, OnceFault, Poisoned};
+use parking_lot_mutex::once::{Once, OnceFault, Poisoned};
 use std::alloc::Global;
 use std::fmt::Debug;
 use std::test::Fail;

@@ -1,1 +1,2 @@
 pub mod Condvar
+pub mod Once

@@ -1,5 +1,5 @@
 //! Mutexes of running threads, on the rows of a lock table: the raw mutex, the raw mutex whose every release is fair, how participants
-//! are told apart, and the condition variable.
+//! are told apart; and what waits beside them, the condition variable in [`condvar`] and one-time initialization in [`once`].
 //!
 //! A raw lock owns one row. Each of its calls runs a decision core there, by `parking_lot_driver`. Where one exchange is enough it is
 //! made before a core is set up: that is the core's own first way, cut short.
@@ -14,6 +14,7 @@
 
 pub mod condvar;
 pub mod laws;
+pub mod once;
 mod raw_fair_mutex;
 mod raw_mutex;
 mod thread_id;

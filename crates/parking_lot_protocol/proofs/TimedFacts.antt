@@ -1,1 +1,1 @@
-mod TimedFollowing
+pub mod TimedFollowing

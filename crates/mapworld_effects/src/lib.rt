@@ -1,8 +1,0 @@
-//! The steps of a world of maps that change or read a pair, one function for each kind.
-#![tactic(auto)]
-
-mod deeds;
-mod items;
-
-pub use deeds::{append, apply, change, fill, read, view};
-pub use items::item;
