@@ -1,9 +1,7 @@
 //! Each check of the generic locks, on the raw locks of a lock table.
 
-use lock_api_checks::{
-    Wrong, mutex_checks, reentrant_checks, rwlock_arc_checks, rwlock_checks, rwlock_tables,
-    upgrades,
-};
+use lock_api_checks::upgrades::{rwlock_timed_checks, upgradable_arc_checks, upgradable_checks};
+use lock_api_checks::{Wrong, mutex_checks, reentrant_checks, rwlock_arc_checks, rwlock_checks};
 use lock_api_raw::{
     GetThreadId, MakeLock, RawMutexFair, RawMutexTimed, RawRwLockUpgradeDowngrade,
     RawRwLockUpgradeFair, RawRwLockUpgradeTimed,
@@ -32,11 +30,12 @@ where
     R::Party: Send,
     R::Runtime: Wait,
 {
-    mutex_checks::all::<R, T, Global, S>(rt, alloc, source, one, other)
+    mutex_checks::all::<R, T, Global, S>(rt, alloc, source, one, other)?;
+    mutex_checks::gives_up_in_time::<R, T, S>(source, rt, one)
 }
 
-/// The same of the reader-writer lock.
-fn of_lock<R, T: Threads + Clock + Sync, S: Copy>(
+/// The same of the reader-writer lock, and of guards that own an Arc of it.
+fn of_lock<R, T: Threads + Sync, S: Copy>(
     rt: &T,
     alloc: Global,
     source: S,
@@ -44,16 +43,50 @@ fn of_lock<R, T: Threads + Clock + Sync, S: Copy>(
     other: &mut R::Party,
 ) -> Result<(), Wrong>
 where
-    R: RawRwLockUpgradeFair + RawRwLockUpgradeDowngrade,
-    R: RawRwLockUpgradeTimed<Duration = Duration, Instant = Instant> + MakeLock<S> + Drop + Sync,
+    R: RawRwLockUpgradeFair + RawRwLockUpgradeDowngrade + MakeLock<S> + Drop + Sync,
     R::Party: Send,
     R::Runtime: Wait,
 {
-    rwlock_tables::all::<R, T, S>(rt, source, one, other)?;
-    rwlock_checks::all::<R, Global, S>(alloc, source, one)?;
+    rwlock_checks::all::<R, T, Global, S>(rt, alloc, source, one, other)?;
     rwlock_arc_checks::all::<R, Global, S>(alloc, source, one)?;
-    upgrades::all::<R, T, Global, S>(alloc, source, rt, one)?;
-    rwlock_tables::excludes::<R, T, S>(rt, source, one, other)
+    upgradable_checks::excludes::<R, T, S>(rt, source, one, other)
+}
+
+/// And of upgradable guards.
+fn of_upgrades<R, S: Copy>(alloc: Global, source: S, party: &mut R::Party) -> Result<(), Wrong>
+where
+    R: RawRwLockUpgradeFair + RawRwLockUpgradeDowngrade + MakeLock<S> + Drop,
+    R::Runtime: Wait,
+{
+    upgradable_checks::admits_one::<R, S>(source, party)?;
+    upgradable_checks::counts_among_readers::<R, S>(source, party)?;
+    upgradable_checks::upgrades::<R, S>(source, party)?;
+    upgradable_checks::writes_upgraded::<R, S>(source, party)?;
+    upgradable_checks::downgrades::<R, S>(source, party)?;
+    upgradable_checks::unlocks_for_a_while::<R, S>(source, party)?;
+    upgradable_checks::prints::<R, Global, S>(alloc, source, party)?;
+    upgradable_arc_checks::upgrades::<R, Global, S>(alloc, source, party)?;
+    upgradable_arc_checks::writes_upgraded::<R, Global, S>(alloc, source, party)
+}
+
+/// And of waits that give up.
+fn of_waits<R, C: Clock, S: Copy>(
+    clock: &C,
+    alloc: Global,
+    source: S,
+    party: &mut R::Party,
+) -> Result<(), Wrong>
+where
+    R: RawRwLockUpgradeDowngrade + MakeLock<S> + Drop,
+    R: RawRwLockUpgradeTimed<Duration = Duration, Instant = Instant>,
+    R::Runtime: Wait,
+{
+    rwlock_timed_checks::gives_up_in_time::<R, C, S>(source, clock, party)?;
+    rwlock_timed_checks::gives_up_an_upgrade::<R, C, S>(source, clock, party)?;
+    rwlock_timed_checks::gives_up_an_arc_in_time::<R, C, Global, S>(alloc, source, clock, party)?;
+    rwlock_timed_checks::gives_up_an_upgrade_of_an_arc::<R, C, Global, S>(
+        alloc, source, clock, party,
+    )
 }
 
 /// And of the reentrant mutex.
@@ -96,8 +129,16 @@ fn the_checks_pass(rt: HostRuntime) -> Result<(), Fail> {
     expect(&rt, "the fair mutex", passed);
     let passed = of_lock::<RawRwLock<HostRuntime, 0>, _, _>(&rt, alloc, rows, &mut a, &mut b);
     expect(&rt, "the lock", passed);
+    let passed = of_upgrades::<RawRwLock<HostRuntime, 0>, _>(alloc, rows, &mut a);
+    expect(&rt, "the lock's upgrades", passed);
+    let passed = of_waits::<RawRwLock<HostRuntime, 0>, _, _>(&rt, alloc, rows, &mut a);
+    expect(&rt, "the lock's waits", passed);
     let passed = of_lock::<RawRwLock<HostRuntime, 1>, _, _>(&rt, alloc, rows, &mut a, &mut b);
     expect(&rt, "the recursive lock", passed);
+    let passed = of_upgrades::<RawRwLock<HostRuntime, 1>, _>(alloc, rows, &mut a);
+    expect(&rt, "the recursive lock's upgrades", passed);
+    let passed = of_waits::<RawRwLock<HostRuntime, 1>, _, _>(&rt, alloc, rows, &mut a);
+    expect(&rt, "the recursive lock's waits", passed);
     let passed = of_reentrant::<RawMutex<HostRuntime>, RawThreadId, _, _>(
         &rt, alloc, rows, &mut a, &mut b,
     );

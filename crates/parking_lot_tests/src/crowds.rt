@@ -1,7 +1,7 @@
 //! Four threads that take a lock in many rounds beside each other.
 
+use crate::calls::{How, Round};
 use crate::stage::{Kind, Scenario, on, stage};
-use lock_api_checks::plays::{How, Round};
 use std::test::Fail;
 
 /// A wait that gives up after 20 microseconds.
@@ -9,7 +9,7 @@ const SHORT: How = How::For(20);
 
 /// Each eighth round writes and reads that as it becomes a reader, another one writes, and the others read.
 const WRITES_AND_READS: &[Round] = &[
-    Round::AddsAndReads(How::Waits),
+    Round::AddsAndReads,
     Round::Reads(How::Waits),
     Round::Reads(How::Waits),
     Round::Reads(How::Waits),
@@ -25,7 +25,7 @@ fn four_threads_exclude_each_other(rt: HostRuntime) -> Result<(), Fail> {
     let locks = Scenario::Crowd(&[Round::Adds(How::Waits)], 25_000);
     let locked = stage(rt, alloc, "a mutex", on(Kind::Plain), locks)?;
     assert!(rt; locked == 100_000);
-    let nests = Scenario::Crowd(&[Round::Nests(How::Waits)], 5_000);
+    let nests = Scenario::Crowd(&[Round::Nests], 5_000);
     let nested = stage(rt, alloc, "a reentrant mutex", on(Kind::Reentrant), nests)?;
     assert!(rt; nested == 20_000);
     let upgrades = [

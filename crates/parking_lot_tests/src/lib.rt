@@ -3,6 +3,8 @@
 #![tactic(auto)]
 
 #[cfg(test)]
+mod calls;
+#[cfg(test)]
 mod checks;
 #[cfg(test)]
 mod crowds;
@@ -11,24 +13,20 @@ mod deadlines;
 #[cfg(test)]
 mod guards;
 #[cfg(test)]
-mod mutex_calls;
+mod held;
 #[cfg(test)]
 mod mutex_plays;
 #[cfg(test)]
-mod rows;
+mod mutex_steps;
 #[cfg(test)]
-mod rw_calls;
+mod reentrant_steps;
+#[cfg(test)]
+mod rows;
 #[cfg(test)]
 mod rw_plays;
 #[cfg(test)]
-mod rw_words;
+mod rw_steps;
 #[cfg(test)]
-mod script;
-#[cfg(test)]
-mod sections;
+mod scene;
 #[cfg(test)]
 mod stage;
-#[cfg(test)]
-mod timed_calls;
-#[cfg(test)]
-mod upgrade_calls;

@@ -1,7 +1,7 @@
 //! Plays at the running mutexes.
 
+use crate::calls::{Answer, Aside, Deed, How, Line, Mode, Step};
 use crate::stage::{Kind, Setting, alone, on, pair, play};
-use lock_api_checks::plays::{Answer, Aside, Deed, How, Line, Mode, Step};
 use std::test::Fail;
 
 /// Asks, and has it.
@@ -18,14 +18,14 @@ const END_FAIRLY: Line = (Step::Do(Deed::EndFairly), Answer::Done);
 const BUMP: Line = (Step::Do(Deed::Bump), Answer::Done);
 
 /// The word is this one.
-const WORD_IS_0: Line = (Step::Aside(Aside::Word(0)), Answer::Number(0));
+const WORD_IS_0: Line = (Step::Aside(Aside::Word), Answer::Number(0));
 
-const WORD_IS_1: Line = (Step::Aside(Aside::Word(0)), Answer::Number(1));
+const WORD_IS_1: Line = (Step::Aside(Aside::Word), Answer::Number(1));
 
 /// The word becomes so: somebody has the mutex, and somebody is about to sleep.
-const LOCKED: Line = (Step::Aside(Aside::Comes(0, 1)), Answer::Yes);
+const LOCKED: Line = (Step::Aside(Aside::Comes(1)), Answer::Yes);
 
-const PARKED: Line = (Step::Aside(Aside::Comes(0, 3)), Answer::Yes);
+const PARKED: Line = (Step::Aside(Aside::Comes(3)), Answer::Yes);
 
 /// What the threads tell each other.
 const SAY_1: Line = (Step::Aside(Aside::Says(1)), Answer::Done);
@@ -233,7 +233,7 @@ const NESTS_BEFORE: &[Line] = &[
     PARKED,
     (Step::AskToo(Mode::Exclusive, How::Waits), Answer::Had),
     (Step::DoToo(Deed::End), Answer::Done),
-    (Step::Aside(Aside::Word(0)), Answer::Number(3)),
+    (Step::Aside(Aside::Word), Answer::Number(3)),
     SAY_1,
     END,
 ];

@@ -1,7 +1,7 @@
 //! Plays at the running reader-writer locks.
 
+use crate::calls::{Answer, Aside, Deed, How, Line, Mode, Step, Turn};
 use crate::stage::{Kind, Setting, alone, on, pair, play};
-use lock_api_checks::plays::{Answer, Aside, Deed, How, Line, Mode, Step, Turn};
 use std::test::Fail;
 
 /// A lock of so many readers.
@@ -58,14 +58,14 @@ macro_rules! upgrade_too {
 /// The word is this one.
 macro_rules! word {
     ($word:expr) => {
-        (Step::Aside(Aside::Word(0)), Answer::Number($word))
+        (Step::Aside(Aside::Word), Answer::Number($word))
     };
 }
 
 /// The word becomes this one.
 macro_rules! comes {
     ($word:expr) => {
-        (Step::Aside(Aside::Comes(0, $word)), Answer::Yes)
+        (Step::Aside(Aside::Comes($word)), Answer::Yes)
     };
 }
 

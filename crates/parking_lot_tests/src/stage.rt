@@ -1,16 +1,16 @@
-//! Where plays take place: a running lock on a lot, with up to three threads that follow their lines.
+//! Where plays take place: a running lock on a lot, with up to three threads that follow their lines, or four that make rounds.
 
+use crate::calls::{Line, Round, Tally, Verdict, WRONG, sum};
+use crate::scene::Scene;
+use crate::{mutex_steps, reentrant_steps, rw_steps};
 use lock_api::{Mutex, ReentrantMutex, RwLock};
-use lock_api_checks::plays::{
-    Answer, Line, Played, Round, Scene, Tally, Verdict, Words, follow, take_turns,
-};
-use lock_api_checks::rwlock_played::Whole;
 use parking_lot_core::{DEFAULT_UNPARK_TOKEN, ParkingLot, ThreadData, unpark_one};
 use parking_lot_mutex::{RawFairMutex, RawMutex, RawThreadId};
 use parking_lot_rwlock::{LockTable, RawRwLock};
 use std::alloc::Global;
 use std::process::Abort;
 use std::sync::Wait;
+use std::sync::atomic::AtomicU64;
 use std::test::Fail;
 use std::thread;
 use std::thread::Threads;
@@ -25,16 +25,6 @@ pub enum Kind {
     Recursive(u64),
     /// A reentrant mutex of two holds.
     Reentrant,
-}
-
-/// The words of a table.
-#[derive(Drop)]
-struct Rows<'t, 'l, R>(&'t LockTable<'l, R>);
-
-impl<R> Words for Rows<'_, '_, R> {
-    fn word(&self, row: usize) -> Option<u64> {
-        self.0.word(row)
-    }
 }
 
 /// What a play is given.
@@ -68,62 +58,94 @@ pub enum Scenario<'s> {
     Crowd(&'s [Round], u32),
 }
 
-/// What came of it: of each thread the first line that was answered otherwise, and what the rounds have added.
-#[derive(Clone, Copy)]
-struct Outcome {
-    verdicts: [Verdict; 4],
-    tally: Tally,
+/// A lock of any kind.
+#[derive(Drop)]
+enum Lock<'t, 'l, R: Wait> {
+    Plain(Mutex<RawMutex<'t, 'l, R>, u64>),
+    Fair(Mutex<RawFairMutex<'t, 'l, R>, u64>),
+    ReadWrite(RwLock<RawRwLock<'t, 'l, R, 0>, u64>),
+    Recursive(RwLock<RawRwLock<'t, 'l, R, 1>, u64>),
+    Reentrant(ReentrantMutex<RawMutex<'t, 'l, R>, RawThreadId, u64>),
 }
 
-/// Nothing was answered otherwise, and nothing added.
-const QUIET: Outcome = Outcome {
-    verdicts: [None; 4],
-    tally: Tally {
-        added: 0,
-        right: true,
-    },
-};
+/// A new lock of that kind.
+fn made<'t, 'l, R: Wait>(kind: Kind, table: &'t LockTable<'l, R>) -> Result<Lock<'t, 'l, R>, Fail> {
+    match kind {
+        Kind::Plain => Ok(Lock::Plain(Mutex::new(table, 0)?)),
+        Kind::Fair => Ok(Lock::Fair(Mutex::new(table, 0)?)),
+        Kind::ReadWrite(limit) => Ok(Lock::ReadWrite(RwLock::new(table, limit, 0)?)),
+        Kind::Recursive(limit) => Ok(Lock::Recursive(RwLock::new(table, limit, 0)?)),
+        Kind::Reentrant => Ok(Lock::Reentrant(ReentrantMutex::new(table, 2, 5)?)),
+    }
+}
+
+/// Follows the lines.
+fn follow<R: Wait + Clock>(
+    lock: &Lock<'_, '_, R>,
+    scene: &Scene<'_, '_, R>,
+    lines: &[Line],
+    me: &mut ThreadData,
+    other: &mut ThreadData,
+) -> Verdict {
+    match lock {
+        Lock::Plain(mutex) => mutex_steps::follow(mutex, scene, lines, me, other),
+        Lock::Fair(mutex) => mutex_steps::follow(mutex, scene, lines, me, other),
+        Lock::ReadWrite(lock) => rw_steps::follow(lock, scene, lines, me, other),
+        Lock::Recursive(lock) => rw_steps::follow(lock, scene, lines, me, other),
+        Lock::Reentrant(mutex) => reentrant_steps::follow(mutex, scene, lines, me, other),
+    }
+}
+
+/// Makes the rounds.
+fn take_turns<R: Wait + Clock>(
+    lock: &Lock<'_, '_, R>,
+    scene: &Scene<'_, '_, R>,
+    rounds: &[Round],
+    times: u32,
+    me: &mut ThreadData,
+) -> Tally {
+    match lock {
+        Lock::Plain(mutex) => mutex_steps::take_turns(mutex, scene, rounds, times, me),
+        Lock::Fair(mutex) => mutex_steps::take_turns(mutex, scene, rounds, times, me),
+        Lock::ReadWrite(lock) => rw_steps::take_turns(lock, scene, rounds, times, me),
+        Lock::Recursive(lock) => rw_steps::take_turns(lock, scene, rounds, times, me),
+        Lock::Reentrant(mutex) => reentrant_steps::take_turns(mutex, scene, times, me),
+    }
+}
 
 /// Follows the lines as a participant of the lot.
-fn act<R: Wait, L: Played<Party = ThreadData>, C: Clock, W: Words>(
+fn act<R: Wait + Clock>(
     lot: &ParkingLot<R>,
-    lock: &L,
-    scene: &Scene<C, W>,
+    lock: &Lock<'_, '_, R>,
+    scene: &Scene<'_, '_, R>,
     lines: &[Line],
-) -> Verdict
-where
-    L::Runtime: Wait,
-{
+) -> Verdict {
     if lines.is_empty() {
         return None;
     }
     let Ok(mut me) = lot.thread_data() else {
-        return Some((0, Answer::Unknown));
+        return Some(0);
     };
     let Ok(mut other) = lot.thread_data() else {
-        return Some((0, Answer::Unknown));
+        return Some(0);
     };
     follow(lock, scene, lines, &mut me, &mut other)
 }
 
 /// Has the threads follow their lines beside each other, the first on the first lot.
-fn play_together<
-    R: Wait + Sync,
-    L: Played<Party = ThreadData> + Sync,
-    C: Threads + Clock + Sync,
-    W: Words + Sync,
->(lots: [&ParkingLot<R>; 2], lock: &L, scene: &Scene<C, W>, lines: Lines) -> [Verdict; 4]
-where
-    L::Runtime: Wait,
-{
-    let rt = scene.time.clock;
+fn play_together<R: Wait + Threads + Clock + Sync>(
+    lots: [&ParkingLot<R>; 2],
+    lock: &Lock<'_, '_, R>,
+    scene: &Scene<'_, '_, R>,
+    lines: Lines,
+) -> [Verdict; 4] {
     let [own, others] = lots;
     let [first, second, third, last] = lines;
     let (one, (two, three)) = thread::join(
-        rt,
+        scene.rt,
         || act(own, lock, scene, first),
         || thread::join(
-            rt,
+            scene.rt,
             || act(others, lock, scene, second),
             || act(others, lock, scene, third),
         ),
@@ -132,53 +154,36 @@ where
 }
 
 /// Makes the rounds as a participant of the lot.
-fn turns<R: Wait, L: Played<Party = ThreadData>, C: Clock, W: Words>(
+fn turns<R: Wait + Clock>(
     lot: &ParkingLot<R>,
-    lock: &L,
-    scene: &Scene<C, W>,
+    lock: &Lock<'_, '_, R>,
+    scene: &Scene<'_, '_, R>,
     rounds: &[Round],
     times: u32,
-) -> Tally
-where
-    L::Runtime: Wait,
-{
+) -> Tally {
     match lot.thread_data() {
         Ok(mut me) => take_turns(lock, scene, rounds, times, &mut me),
-        Err(_full) => Tally {
-            added: 0,
-            right: false,
-        },
-    }
-}
-
-/// What two have added.
-fn sum(one: Tally, other: Tally) -> Tally {
-    Tally {
-        added: one.added.wrapping_add(other.added),
-        right: one.right & other.right,
+        Err(_full) => WRONG,
     }
 }
 
 /// Has four threads make the rounds beside each other.
-fn crowd<
-    R: Wait + Sync,
-    L: Played<Party = ThreadData> + Sync,
-    C: Threads + Clock + Sync,
-    W: Words + Sync,
->(lot: &ParkingLot<R>, lock: &L, scene: &Scene<C, W>, rounds: &[Round], times: u32) -> Tally
-where
-    L::Runtime: Wait,
-{
-    let rt = scene.time.clock;
+fn crowd<R: Wait + Threads + Clock + Sync>(
+    lot: &ParkingLot<R>,
+    lock: &Lock<'_, '_, R>,
+    scene: &Scene<'_, '_, R>,
+    rounds: &[Round],
+    times: u32,
+) -> Tally {
     let two = || {
         let (one, other) = thread::join(
-            rt,
+            scene.rt,
             || turns(lot, lock, scene, rounds, times),
             || turns(lot, lock, scene, rounds, times),
         );
         sum(one, other)
     };
-    let (one, other) = thread::join(rt, two, two);
+    let (one, other) = thread::join(scene.rt, two, two);
     sum(one, other)
 }
 
@@ -189,67 +194,34 @@ fn unpark_nobody<R: Wait>(lot: &ParkingLot<R>, times: u32) {
     }
 }
 
-/// Has it done at this lock.
-fn perform<
-    R: Wait + Sync,
-    L: Played<Party = ThreadData> + Sync,
-    C: Threads + Clock + Sync,
-    W: Words + Sync,
->(lots: [&ParkingLot<R>; 2], lock: &L, scene: &Scene<C, W>, scenario: Scenario) -> Outcome
-where
-    L::Runtime: Wait,
-{
-    match scenario {
-        Scenario::Play(lines) => Outcome {
-            verdicts: play_together(lots, lock, scene, lines),
-            ..QUIET
-        },
-        Scenario::Crowd(rounds, times) => Outcome {
-            tally: crowd(lots[0], lock, scene, rounds, times),
-            ..QUIET
-        },
-    }
-}
-
-/// The same at a new lock of that kind.
-fn perform_at<R: Wait + Threads + Clock + Sync>(
-    kind: Kind,
-    lots: [&ParkingLot<R>; 2],
-    table: &LockTable<R>,
-    scene: &Scene<R, Rows<R>>,
-    scenario: Scenario,
-) -> Result<Outcome, Fail> {
-    match kind {
-        Kind::Plain => {
-            let mutex: Mutex<RawMutex<R>, u64> = Mutex::new(table, 0)?;
-            Ok(perform(lots, &&mutex, scene, scenario))
-        }
-        Kind::Fair => {
-            let mutex: Mutex<RawFairMutex<R>, u64> = Mutex::new(table, 0)?;
-            Ok(perform(lots, &&mutex, scene, scenario))
-        }
-        Kind::ReadWrite(limit) => {
-            let lock: RwLock<RawRwLock<R, 0>, u64> = RwLock::new(table, limit, 0)?;
-            Ok(perform(lots, &Whole(&lock), scene, scenario))
-        }
-        Kind::Recursive(limit) => {
-            let lock: RwLock<RawRwLock<R, 1>, u64> = RwLock::new(table, limit, 0)?;
-            Ok(perform(lots, &Whole(&lock), scene, scenario))
-        }
-        Kind::Reentrant => {
-            let mutex: ReentrantMutex<RawMutex<R>, RawThreadId, u64> = ReentrantMutex::new(
-                table, 2, 5,
-            )?;
-            Ok(perform(lots, &&mutex, scene, scenario))
-        }
-    }
-}
-
 /// Looks whether each line was answered as it must be.
 fn judge(rt: &impl Abort, name: &str, verdicts: &[Verdict]) {
     for (thread, verdict) in verdicts.iter().enumerate() {
-        if let Some((line, _answer)) = verdict {
+        if let Some(line) = verdict {
             assert!(rt; false, "{name}: thread {thread}, line {line}");
+        }
+    }
+}
+
+/// Has it done at this lock. It answers what the rounds have added, which must be the count.
+fn perform<R: Wait + Threads + Clock + Abort + Sync>(
+    lots: [&ParkingLot<R>; 2],
+    lock: &Lock<'_, '_, R>,
+    scene: &Scene<'_, '_, R>,
+    name: &str,
+    scenario: Scenario,
+) -> u64 {
+    let rt = scene.rt;
+    match scenario {
+        Scenario::Play(lines) => {
+            judge(rt, name, &play_together(lots, lock, scene, lines));
+            0
+        }
+        Scenario::Crowd(rounds, times) => {
+            let tally = crowd(lots[0], lock, scene, rounds, times);
+            assert!(rt; tally.right, "{name}: what was read");
+            assert!(rt; scene.said() == tally.added, "{name}: the count");
+            tally.added
         }
     }
 }
@@ -266,19 +238,17 @@ pub fn stage<R: Wait + Threads + Clock + Abort + Sync + Copy + Drop>(
     let others = ParkingLot::new(rt, alloc, 8, setting.lot)?;
     unpark_nobody(&own, setting.unparks);
     let table = LockTable::new(alloc, &own, 1)?;
-    let rows = Rows(&table);
-    let scene = Scene::new(&rt, Instant::now(&rt)?, &rows);
+    let lock = made(setting.kind, &table)?;
+    let scene = Scene {
+        rt: &rt,
+        table: &table,
+        past: Instant::now(&rt)?,
+        said: AtomicU64::new(0),
+    };
     let second = if setting.lot == 7 { &own } else { &others };
-    let outcome = perform_at(setting.kind, [&own, second], &table, &scene, scenario)?;
-    judge(&rt, name, &outcome.verdicts);
-    assert!(rt; outcome.tally.right, "{name}: what was read");
-    let is_released = table.word(0) == Some(0);
-    assert!(rt; is_released, "{name}: the word in the end");
-    if let Scenario::Crowd(_, _) = scenario {
-        let is_counted = scene.said() == outcome.tally.added;
-        assert!(rt; is_counted, "{name}: the count");
-    }
-    Ok(outcome.tally.added)
+    let added = perform([&own, second], &lock, &scene, name, scenario);
+    assert!(rt; table.word(0) == Some(0), "{name}: the word in the end");
+    Ok(added)
 }
 
 /// Plays at a new lock.

@@ -7,6 +7,26 @@ use parking_lot_protocol::{
 };
 use std::process::Abort;
 
+/// One was taken with this token, and others are left or not.
+macro_rules! took {
+    ($token:expr, $left:expr) => {
+        ActResult::Took {
+            token: $token,
+            left: $left,
+        }
+    };
+}
+
+/// What a store does to the word.
+macro_rules! change {
+    ($keep:expr, $add:expr) => {
+        WordChange {
+            keep: $keep,
+            add: $add,
+        }
+    };
+}
+
 #[test]
 fn a_locker_sleeps_and_tries_again(rt: HostRuntime) {
     follow_mutex(
@@ -60,7 +80,7 @@ fn release(rt: &impl Abort, core: MutexCore, plain: u64, fair: bool, hands: bool
     );
     let token = Some(DEFAULT_PARK_TOKEN);
     let plain = change!(0, plain);
-    let fairly = change!(0, 3 );
+    let fairly = change!(0, 3);
     let store = SectionAct::Store {
         plain,
         fair: fairly,

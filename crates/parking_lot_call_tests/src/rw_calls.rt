@@ -6,6 +6,36 @@ use parking_lot_protocol::{
     Act, ActResult, CoreAnswer, HAND_OVER, RwCore, SectionAct, TRY_AGAIN, WordChange,
 };
 
+/// One was taken with this token, and others are left or not.
+macro_rules! took {
+    ($token:expr, $left:expr) => {
+        ActResult::Took {
+            token: $token,
+            left: $left,
+        }
+    };
+}
+
+/// What a store does to the word.
+macro_rules! change {
+    ($keep:expr, $add:expr) => {
+        WordChange {
+            keep: $keep,
+            add: $add,
+        }
+    };
+}
+
+/// A store of either change.
+macro_rules! store {
+    ($plain:expr, $fair:expr) => {
+        SectionAct::Store {
+            plain: $plain,
+            fair: $fair,
+        }
+    };
+}
+
 #[test]
 fn a_writer_waits_for_a_reader_and_is_woken(rt: HostRuntime) {
     let mut core = follow_rw(
@@ -109,7 +139,7 @@ fn a_fair_release_hands_the_lock_over(rt: HostRuntime) {
         ],
     );
     let token = Some(ParkToken(16));
-    let change = change!(0, 16 );
+    let change = change!(0, 16);
     let store = store!(change, change);
     let core = follow_rw(
         &rt,
@@ -147,11 +177,7 @@ fn a_downgrade_lets_others_try(rt: HostRuntime) {
     let token = Some(ParkToken(16));
     let change = change!(u64::MAX - 1, 0);
     let store = store!(change, change);
-    let core = follow_rw(
-        &rt,
-        core,
-        &[(took!(token, false), Act::Section(store))],
-    );
+    let core = follow_rw(&rt, core, &[(took!(token, false), Act::Section(store))]);
     assert!(rt; change.of(17) == 16);
     let core = follow_rw(
         &rt,

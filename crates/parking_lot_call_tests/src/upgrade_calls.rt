@@ -7,6 +7,36 @@ use parking_lot_protocol::{
 };
 use parking_lot_protocol_rw::UpgradeCore;
 
+/// One was taken with this token, and others are left or not.
+macro_rules! took {
+    ($token:expr, $left:expr) => {
+        ActResult::Took {
+            token: $token,
+            left: $left,
+        }
+    };
+}
+
+/// What a store does to the word.
+macro_rules! change {
+    ($keep:expr, $add:expr) => {
+        WordChange {
+            keep: $keep,
+            add: $add,
+        }
+    };
+}
+
+/// A store of either change.
+macro_rules! store {
+    ($plain:expr, $fair:expr) => {
+        SectionAct::Store {
+            plain: $plain,
+            fair: $fair,
+        }
+    };
+}
+
 /// Minus so much, modulo 2^64.
 fn less(by: u64) -> u64 {
     by.wrapping_neg()
@@ -61,18 +91,9 @@ fn a_fair_release_hands_over_to_those_that_fit(rt: HostRuntime) {
             (ActResult::Start, Act::Load),
             (ActResult::Word(21), Act::Enter(0)),
             (ActResult::Entered, Act::Section(SectionAct::TakeNext(0))),
-            (
-                took!(first, true),
-                Act::Section(SectionAct::TakeNext(20)),
-            ),
-            (
-                took!(third, true),
-                Act::Section(SectionAct::TakeNext(36)),
-            ),
-            (
-                took!(None, true),
-                Act::Section(store),
-            ),
+            (took!(first, true), Act::Section(SectionAct::TakeNext(20))),
+            (took!(third, true), Act::Section(SectionAct::TakeNext(36))),
+            (took!(None, true), Act::Section(store)),
             (
                 ActResult::Stored { fair: false },
                 Act::Section(SectionAct::Leave),

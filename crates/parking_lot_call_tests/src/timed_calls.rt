@@ -23,7 +23,10 @@ fn expires(rt: &impl Abort) -> TimedRwCore {
             plain!(ActResult::Start, Act::Load),
             plain!(ActResult::Word(9), Act::Enter(0)),
             plain!(ActResult::Entered, Act::Section(SectionAct::Check)),
-            plain!(ActResult::Word(9), Act::Section(SectionAct::Append(ParkToken(16)))),
+            plain!(
+                ActResult::Word(9),
+                Act::Section(SectionAct::Append(ParkToken(16)))
+            ),
             plain!(ActResult::Made, Act::Section(SectionAct::Leave)),
             plain!(ActResult::Made, Act::Sleep),
             (TimedSeen::Expired, TimedAct::Reenters),
@@ -92,7 +95,10 @@ fn gives_up_pending(rt: &impl Abort, core: TimedRwCore, lines: &[(TimedSeen, Tim
             plain!(ActResult::Word(24), Act::Exchange(24, 26)),
             plain!(ActResult::Exchanged, Act::Enter(1)),
             plain!(ActResult::Entered, Act::Section(SectionAct::Check)),
-            plain!(ActResult::Word(26), Act::Section(SectionAct::Append(ParkToken(8)))),
+            plain!(
+                ActResult::Word(26),
+                Act::Section(SectionAct::Append(ParkToken(8)))
+            ),
             plain!(ActResult::Made, Act::Section(SectionAct::Leave)),
             plain!(ActResult::Made, Act::Sleep),
             (TimedSeen::Expired, TimedAct::Reenters),
