@@ -53,13 +53,13 @@ fn read_together<
     W: Lender<Part = Two> + Drop,
     H: Hold,
     F: Fn() -> bool,
->(whole: Guard<V, S>, part: Mapped<W, H, First>, pair: Two, are_held: &F) -> bool
+>(whole: &Guard<V, S>, part: Mapped<W, H, First>, pair: Two, are_held: &F) -> bool
 where
     S::Runtime: Wait,
     H::Runtime: Wait,
     requires { F.IsAlwaysCallable are_held.now }
 {
-    (*whole == pair) & (*part == pair.0) & are_held()
+    (**whole == pair) & (*part == pair.0) & are_held()
 }
 
 /// The guard, narrowed to the first number.
@@ -71,7 +71,10 @@ fn narrowed<'m, 't, 'l, R: Wait>(
 
 /// A mutex is taken and given back.
 fn is_mutex_taken<R: Wait>(mutex: Mutex<'_, '_, Two, R>, me: &mut ThreadData) -> bool {
-    let changed = changes_first(narrowed(mutex.lock(me)), &|| mutex.is_locked());
+    let changed = changes_first(
+        narrowed(mutex.lock(me)),
+        &|| { mutex.is_locked() & mutex.try_lock().is_none() },
+    );
     changed & !mutex.is_locked() & (mutex.into_inner() == (5, 6))
 }
 
@@ -84,7 +87,10 @@ fn fairly_narrowed<'m, 't, 'l, R: Wait>(
 
 /// A fair mutex is taken and given back.
 fn is_fair_mutex_taken<R: Wait>(mutex: FairMutex<'_, '_, Two, R>, me: &mut ThreadData) -> bool {
-    let changed = changes_first(fairly_narrowed(mutex.lock(me)), &|| mutex.is_locked());
+    let changed = changes_first(
+        fairly_narrowed(mutex.lock(me)),
+        &|| { mutex.is_locked() & mutex.try_lock().is_none() },
+    );
     changed & !mutex.is_locked() & (mutex.into_inner() == (5, 6))
 }
 
@@ -102,8 +108,10 @@ fn is_taken_twice<R: Wait>(mutex: &ReentrantMutex<'_, '_, Two, R>, me: &mut Thre
     };
     let is_full = mutex.lock(me).is_err();
     let part = nested_and_narrowed(inner);
-    let are_read = read_together(outer, part, (1, 2), &|| mutex.is_locked());
-    is_full & are_read & !mutex.is_locked()
+    let are_read = read_together(&outer, part, (1, 2), &|| mutex.is_locked());
+    let is_owned = mutex.is_owned_by_current_thread(me) & mutex.is_locked();
+    drop(outer);
+    is_full & are_read & is_owned & !mutex.is_locked()
 }
 
 /// The guard that reads, narrowed to the first number.
@@ -139,7 +147,8 @@ fn is_read_and_written<R: Wait>(
     let changed = changes_first(write, &|| table.word(row) == Some(8));
     let review = upgradable(&lock, me);
     let read = narrowed_reader(lock.read(me));
-    let are_read = read_together(review, read, (5, 2), &|| table.word(row) == Some(36));
+    let are_read = read_together(&review, read, (5, 2), &|| table.word(row) == Some(36));
+    drop(review);
     changed & are_read & !lock.is_locked() & (lock.into_inner() == (5, 2))
 }
 
@@ -176,7 +185,8 @@ fn is_recursive_read_and_written<R: Wait>(
     let changed = changes_first(write, &|| table.word(row) == Some(8));
     let review = recursive_upgradable(&lock, me);
     let read = recursive_narrowed_reader(lock.read(me));
-    let are_read = read_together(review, read, (5, 2), &|| table.word(row) == Some(36));
+    let are_read = read_together(&review, read, (5, 2), &|| table.word(row) == Some(36));
+    drop(review);
     changed & are_read & !lock.is_locked() & (lock.into_inner() == (5, 2))
 }
 
