@@ -122,7 +122,7 @@ impl<'s, 't, 'l, R: Clock> Scene<'s, 't, 'l, R> {
 }
 
 /// How a call has ended.
-fn ended(answer: Result<(), OnceFault<u8>>) -> Ended {
+fn how_it_ended(answer: Result<(), OnceFault<u8>>) -> Ended {
     match answer {
         Ok(()) => Ended::Well,
         Err(OnceFault::Failed(5)) => Ended::Failed,
@@ -152,7 +152,7 @@ fn call<R: Wait + Clock>(
         ran.set(scene.run(rt, OnceState::New, meanwhile));
         answer_of(end)
     });
-    Answer::Called(ran.get(), ended(called))
+    Answer::Called(ran.get(), how_it_ended(called))
 }
 
 /// The same of a call that is forced.
