@@ -3,33 +3,30 @@
 #![tactic(auto)]
 
 #[cfg(test)]
-mod beside;
+mod calls;
+#[cfg(test)]
+mod checks;
+#[cfg(test)]
+mod crowds;
 #[cfg(test)]
 mod deadlines;
 #[cfg(test)]
 mod guards;
 #[cfg(test)]
-mod mutex_calls;
+mod held;
 #[cfg(test)]
-mod mutexes;
+mod mutex_plays;
 #[cfg(test)]
+mod mutex_steps;
 #[cfg(test)]
-mod readers;
+mod reentrant_steps;
 #[cfg(test)]
 mod rows;
 #[cfg(test)]
-mod rw_beside;
+mod rw_plays;
 #[cfg(test)]
-mod rw_calls;
+mod rw_steps;
 #[cfg(test)]
-mod rw_words;
+mod scene;
 #[cfg(test)]
-mod script;
-#[cfg(test)]
-mod sections;
-#[cfg(test)]
-mod timed;
-#[cfg(test)]
-mod waiting;
-#[cfg(test)]
-mod words;
+mod stage;
