@@ -1,7 +1,7 @@
 //! Each check of the generic locks, on the raw locks of a lock table.
 
 use lock_api_checks::upgrades::{rwlock_timed_checks, upgradable_arc_checks, upgradable_checks};
-use lock_api_checks::{Wrong, mutex_checks, reentrant_checks, rwlock_arc_checks, rwlock_checks};
+use lock_api_checks::{mutex_checks, reentrant_checks, rwlock_arc_checks, rwlock_checks};
 use lock_api_raw::{
     GetThreadId, MakeLock, RawMutexFair, RawMutexTimed, RawRwLockUpgradeDowngrade,
     RawRwLockUpgradeFair, RawRwLockUpgradeTimed,
@@ -23,15 +23,16 @@ fn of_mutex<R, T: Threads + Clock + Sync, S: Copy>(
     source: S,
     one: &mut R::Party,
     other: &mut R::Party,
-) -> Result<(), Wrong>
+) -> bool
 where
     R: RawMutexFair + RawMutexTimed<Duration = Duration, Instant = Instant>,
     R: MakeLock<S> + Drop + Sync,
     R::Party: Send,
     R::Runtime: Wait,
 {
-    mutex_checks::all::<R, T, Global, S>(rt, alloc, source, one, other)?;
-    mutex_checks::gives_up_in_time::<R, T, S>(source, rt, one)
+    let passed_0 = mutex_checks::all::<R, T, Global, S>(rt, alloc, source, one, other).is_ok();
+    let last = mutex_checks::gives_up_in_time::<R, T, S>(source, rt, one).is_ok();
+    passed_0 & last
 }
 
 /// The same of the reader-writer lock, and of guards that own an Arc of it.
@@ -41,52 +42,54 @@ fn of_lock<R, T: Threads + Sync, S: Copy>(
     source: S,
     one: &mut R::Party,
     other: &mut R::Party,
-) -> Result<(), Wrong>
+) -> bool
 where
     R: RawRwLockUpgradeFair + RawRwLockUpgradeDowngrade + MakeLock<S> + Drop + Sync,
     R::Party: Send,
     R::Runtime: Wait,
 {
-    rwlock_checks::all::<R, T, Global, S>(rt, alloc, source, one, other)?;
-    rwlock_arc_checks::all::<R, Global, S>(alloc, source, one)?;
-    upgradable_checks::excludes::<R, T, S>(rt, source, one, other)
+    let passed_0 = rwlock_checks::all::<R, T, Global, S>(rt, alloc, source, one, other).is_ok();
+    let passed_1 = rwlock_arc_checks::all::<R, Global, S>(alloc, source, one).is_ok();
+    let last = upgradable_checks::excludes::<R, T, S>(rt, source, one, other).is_ok();
+    passed_0 & passed_1 & last
 }
 
 /// And of upgradable guards.
-fn of_upgrades<R, S: Copy>(alloc: Global, source: S, party: &mut R::Party) -> Result<(), Wrong>
+fn of_upgrades<R, S: Copy>(alloc: Global, source: S, party: &mut R::Party) -> bool
 where
     R: RawRwLockUpgradeFair + RawRwLockUpgradeDowngrade + MakeLock<S> + Drop,
     R::Runtime: Wait,
 {
-    upgradable_checks::admits_one::<R, S>(source, party)?;
-    upgradable_checks::counts_among_readers::<R, S>(source, party)?;
-    upgradable_checks::upgrades::<R, S>(source, party)?;
-    upgradable_checks::writes_upgraded::<R, S>(source, party)?;
-    upgradable_checks::downgrades::<R, S>(source, party)?;
-    upgradable_checks::unlocks_for_a_while::<R, S>(source, party)?;
-    upgradable_checks::prints::<R, Global, S>(alloc, source, party)?;
-    upgradable_arc_checks::upgrades::<R, Global, S>(alloc, source, party)?;
-    upgradable_arc_checks::writes_upgraded::<R, Global, S>(alloc, source, party)
+    let passed_0 = upgradable_checks::admits_one::<R, S>(source, party).is_ok();
+    let passed_1 = upgradable_checks::counts_among_readers::<R, S>(source, party).is_ok();
+    let passed_2 = upgradable_checks::upgrades::<R, S>(source, party).is_ok();
+    let passed_3 = upgradable_checks::writes_upgraded::<R, S>(source, party).is_ok();
+    let passed_4 = upgradable_checks::downgrades::<R, S>(source, party).is_ok();
+    let passed_5 = upgradable_checks::unlocks_for_a_while::<R, S>(source, party).is_ok();
+    let passed_6 = upgradable_checks::prints::<R, Global, S>(alloc, source, party).is_ok();
+    let passed_7 = upgradable_arc_checks::upgrades::<R, Global, S>(alloc, source, party).is_ok();
+    let last = upgradable_arc_checks::writes_upgraded::<R, Global, S>(alloc, source, party).is_ok();
+    passed_0 & passed_1 & passed_2 & passed_3 & passed_4 & passed_5 & passed_6 & passed_7 & last
 }
 
 /// And of waits that give up.
-fn of_waits<R, C: Clock, S: Copy>(
-    clock: &C,
-    alloc: Global,
-    source: S,
-    party: &mut R::Party,
-) -> Result<(), Wrong>
+fn of_waits<R, C: Clock, S: Copy>(clock: &C, alloc: Global, source: S, party: &mut R::Party) -> bool
 where
     R: RawRwLockUpgradeDowngrade + MakeLock<S> + Drop,
     R: RawRwLockUpgradeTimed<Duration = Duration, Instant = Instant>,
     R::Runtime: Wait,
 {
-    rwlock_timed_checks::gives_up_in_time::<R, C, S>(source, clock, party)?;
-    rwlock_timed_checks::gives_up_an_upgrade::<R, C, S>(source, clock, party)?;
-    rwlock_timed_checks::gives_up_an_arc_in_time::<R, C, Global, S>(alloc, source, clock, party)?;
-    rwlock_timed_checks::gives_up_an_upgrade_of_an_arc::<R, C, Global, S>(
+    let passed_0 = rwlock_timed_checks::gives_up_in_time::<R, C, S>(source, clock, party).is_ok();
+    let passed_1 = rwlock_timed_checks::gives_up_an_upgrade::<R, C, S>(
+        source, clock, party,
+    ).is_ok();
+    let passed_2 = rwlock_timed_checks::gives_up_an_arc_in_time::<R, C, Global, S>(
         alloc, source, clock, party,
-    )
+    ).is_ok();
+    let last = rwlock_timed_checks::gives_up_an_upgrade_of_an_arc::<R, C, Global, S>(
+        alloc, source, clock, party,
+    ).is_ok();
+    passed_0 & passed_1 & passed_2 & last
 }
 
 /// And of the reentrant mutex.
@@ -96,20 +99,21 @@ fn of_reentrant<R, G: GetThreadId<Party = R::Party> + Drop, C: Clock, S: Copy>(
     source: S,
     one: &mut R::Party,
     other: &mut R::Party,
-) -> Result<(), Wrong>
+) -> bool
 where
     R: RawMutexFair + RawMutexTimed<Duration = Duration, Instant = Instant> + MakeLock<S> + Drop,
     R::Runtime: Wait,
 {
-    reentrant_checks::all::<R, G, Global, S>(alloc, source, one, other)?;
-    reentrant_checks::gives_up_in_time::<R, G, C, Global, S>(alloc, source, clock, one, other)
+    let passed_0 = reentrant_checks::all::<R, G, Global, S>(alloc, source, one, other).is_ok();
+    let last = reentrant_checks::gives_up_in_time::<R, G, C, Global, S>(
+        alloc, source, clock, one, other,
+    ).is_ok();
+    passed_0 & last
 }
 
 /// Looks whether the checks of a lock have passed.
-fn expect(rt: &impl Abort, lock: &str, passed: Result<(), Wrong>) {
-    if let Err(wrong) = passed {
-        assert!(rt; false, "{lock}: {wrong}");
-    }
+fn expect(rt: &impl Abort, lock: &str, passed: bool) {
+    assert!(rt; passed, "{lock}");
 }
 
 #[test]

@@ -185,18 +185,27 @@ where
     L::Runtime: Wait,
 {
     match held {
-        Held::Reads(guard) => match read_by(guard, deed, party) {
-            (Some(guard), answer) => (Some(Held::Reads(guard)), answer),
-            (None, answer) => (None, answer),
-        },
-        Held::Upgrades(guard) => match read_by(guard, deed, party) {
-            (Some(guard), answer) => (Some(Held::Upgrades(guard)), answer),
-            (None, answer) => (None, answer),
-        },
-        Held::Writes(guard) => match write_by(guard, deed, party) {
-            (Some(guard), answer) => (Some(Held::Writes(guard)), answer),
-            (None, answer) => (None, answer),
-        },
+        Held::Reads(guard) => {
+            let (left, answer) = read_by(guard, deed, party);
+            match left {
+                Some(guard) => (Some(Held::Reads(guard)), answer),
+                None => (None, answer),
+            }
+        }
+        Held::Upgrades(guard) => {
+            let (left, answer) = read_by(guard, deed, party);
+            match left {
+                Some(guard) => (Some(Held::Upgrades(guard)), answer),
+                None => (None, answer),
+            }
+        }
+        Held::Writes(guard) => {
+            let (left, answer) = write_by(guard, deed, party);
+            match left {
+                Some(guard) => (Some(Held::Writes(guard)), answer),
+                None => (None, answer),
+            }
+        }
     }
 }
 

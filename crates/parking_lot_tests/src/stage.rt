@@ -49,15 +49,6 @@ pub const fn on(kind: Kind) -> Setting {
 /// A play: what each thread does, and what is done once they have ended.
 pub type Lines<'s> = [&'s [Line]; 4];
 
-/// What is done at a lock.
-#[derive(Clone, Copy)]
-pub enum Scenario<'s> {
-    /// Each thread follows lines of its own.
-    Play(Lines<'s>),
-    /// Four threads make these rounds so many times.
-    Crowd(&'s [Round], u32),
-}
-
 /// A lock of any kind.
 #[derive(Drop)]
 enum Lock<'t, 'l, R: Wait> {
@@ -134,12 +125,12 @@ fn act<R: Wait + Clock>(
 
 /// Has the threads follow their lines beside each other, the first on the first lot.
 fn play_together<R: Wait + Threads + Clock + Sync>(
-    lots: [&ParkingLot<R>; 2],
+    own: &ParkingLot<R>,
+    others: &ParkingLot<R>,
     lock: &Lock<'_, '_, R>,
     scene: &Scene<'_, '_, R>,
     lines: Lines,
 ) -> [Verdict; 4] {
-    let [own, others] = lots;
     let [first, second, third, last] = lines;
     let (one, (two, three)) = thread::join(
         scene.rt,
@@ -167,23 +158,35 @@ fn turns<R: Wait + Clock>(
     }
 }
 
-/// Has four threads make the rounds beside each other.
-fn crowd<R: Wait + Threads + Clock + Sync>(
+/// Has two threads make the rounds beside each other.
+fn two<R: Wait + Threads + Clock + Sync>(
     lot: &ParkingLot<R>,
     lock: &Lock<'_, '_, R>,
     scene: &Scene<'_, '_, R>,
     rounds: &[Round],
     times: u32,
 ) -> Tally {
-    let two = || {
-        let (one, other) = thread::join(
-            scene.rt,
-            || turns(lot, lock, scene, rounds, times),
-            || turns(lot, lock, scene, rounds, times),
-        );
-        sum(one, other)
-    };
-    let (one, other) = thread::join(scene.rt, two, two);
+    let (one, other) = thread::join(
+        scene.rt,
+        || turns(lot, lock, scene, rounds, times),
+        || turns(lot, lock, scene, rounds, times),
+    );
+    sum(one, other)
+}
+
+/// Has four threads make them.
+fn four<R: Wait + Threads + Clock + Sync>(
+    lot: &ParkingLot<R>,
+    lock: &Lock<'_, '_, R>,
+    scene: &Scene<'_, '_, R>,
+    rounds: &[Round],
+    times: u32,
+) -> Tally {
+    let (one, other) = thread::join(
+        scene.rt,
+        || two(lot, lock, scene, rounds, times),
+        || two(lot, lock, scene, rounds, times),
+    );
     sum(one, other)
 }
 
@@ -203,37 +206,39 @@ fn judge(rt: &impl Abort, name: &str, verdicts: &[Verdict]) {
     }
 }
 
-/// Has it done at this lock. It answers what the rounds have added, which must be the count.
-fn perform<R: Wait + Threads + Clock + Abort + Sync>(
-    lots: [&ParkingLot<R>; 2],
-    lock: &Lock<'_, '_, R>,
-    scene: &Scene<'_, '_, R>,
+/// Has four threads make the rounds so many times at a new lock of that kind. It answers what they have added, which must be the count.
+pub fn crowd<R: Wait + Threads + Clock + Abort + Sync + Copy + Drop>(
+    rt: R,
+    alloc: Global,
     name: &str,
-    scenario: Scenario,
-) -> u64 {
-    let rt = scene.rt;
-    match scenario {
-        Scenario::Play(lines) => {
-            judge(rt, name, &play_together(lots, lock, scene, lines));
-            0
-        }
-        Scenario::Crowd(rounds, times) => {
-            let tally = crowd(lots[0], lock, scene, rounds, times);
-            assert!(rt; tally.right, "{name}: what was read");
-            assert!(rt; scene.said() == tally.added, "{name}: the count");
-            tally.added
-        }
-    }
+    kind: Kind,
+    rounds: &[Round],
+    times: u32,
+) -> Result<u64, Fail> {
+    let lot = ParkingLot::new(rt, alloc, 8, 7)?;
+    let table = LockTable::new(alloc, &lot, 1)?;
+    let lock = made(kind, &table)?;
+    let scene = Scene {
+        rt: &rt,
+        table: &table,
+        past: Instant::now(&rt)?,
+        said: AtomicU64::new(0),
+    };
+    let tally = four(&lot, &lock, &scene, rounds, times);
+    assert!(rt; tally.right, "{name}: what was read");
+    assert!(rt; scene.said() == tally.added, "{name}: the count");
+    assert!(rt; table.word(0) == Some(0), "{name}: the word in the end");
+    Ok(tally.added)
 }
 
-/// Has it done at a new lock, whose word must be 0 in the end. It answers what the rounds have added.
-pub fn stage<R: Wait + Threads + Clock + Abort + Sync + Copy + Drop>(
+/// Plays at a new lock, whose word must be 0 in the end.
+pub fn play<R: Wait + Threads + Clock + Abort + Sync + Copy + Drop>(
     rt: R,
     alloc: Global,
     name: &str,
     setting: Setting,
-    scenario: Scenario,
-) -> Result<u64, Fail> {
+    lines: Lines,
+) -> Result<(), Fail> {
     let own = ParkingLot::new(rt, alloc, 8, 7)?;
     let others = ParkingLot::new(rt, alloc, 8, setting.lot)?;
     unpark_nobody(&own, setting.unparks);
@@ -245,21 +250,13 @@ pub fn stage<R: Wait + Threads + Clock + Abort + Sync + Copy + Drop>(
         past: Instant::now(&rt)?,
         said: AtomicU64::new(0),
     };
-    let second = if setting.lot == 7 { &own } else { &others };
-    let added = perform([&own, second], &lock, &scene, name, scenario);
+    let verdicts = if setting.lot == 7 {
+        play_together(&own, &own, &lock, &scene, lines)
+    } else {
+        play_together(&own, &others, &lock, &scene, lines)
+    };
+    judge(&rt, name, &verdicts);
     assert!(rt; table.word(0) == Some(0), "{name}: the word in the end");
-    Ok(added)
-}
-
-/// Plays at a new lock.
-pub fn play<R: Wait + Threads + Clock + Abort + Sync + Copy + Drop>(
-    rt: R,
-    alloc: Global,
-    name: &str,
-    setting: Setting,
-    lines: Lines,
-) -> Result<(), Fail> {
-    stage(rt, alloc, name, setting, Scenario::Play(lines))?;
     Ok(())
 }
 
