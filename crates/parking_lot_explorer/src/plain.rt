@@ -44,7 +44,8 @@ pub fn ends<P: Plain>(
     most: u32,
 ) -> Result<Vec<P::End>, AllocError> {
     let mut ends = Vec::new(rt.alloc());
-    let mut states = vec![in rt.alloc(); first]?;
+    let mut states = Vec::new(rt.alloc());
+    states.push(first)?;
     for _move in 0..most {
         let mut next = Vec::new(rt.alloc());
         for state in &states {

@@ -18,17 +18,32 @@ fn ran(well: bool, before: OnceState) -> Made {
     }
 }
 
+/// What a call leaves of a new once.
+fn made_at_new(call: LockCall) -> Made {
+    match call {
+        LockCall::CallOnce(well) => ran(well, OnceState::New),
+        LockCall::CallOnceForce(well) => ran(well, OnceState::New),
+        _ => None,
+    }
+}
+
+/// What a call leaves of a poisoned once.
+fn made_at_poisoned(call: LockCall) -> Made {
+    match call {
+        LockCall::CallOnceForce(well) => ran(well, OnceState::Poisoned),
+        LockCall::CallOnce(_) => Some((OnceState::Poisoned, LockAnswer::Poisoned)),
+        LockCall::OnceWait => Some((OnceState::Poisoned, LockAnswer::Poisoned)),
+        _ => None,
+    }
+}
+
 /// What a call leaves of a once in that state, and its answer; `None` where it has to wait, as all have to while a closure runs.
 fn made(call: LockCall, state: OnceState) -> Made {
-    match (state, call) {
-        (OnceState::InProgress, _) => None,
-        (OnceState::Done, _) => Some((OnceState::Done, LockAnswer::Completed)),
-        (OnceState::New, LockCall::CallOnce(well)) => ran(well, state),
-        (_, LockCall::CallOnceForce(well)) => ran(well, state),
-        (OnceState::Poisoned, LockCall::CallOnce(_) | LockCall::OnceWait) => {
-            Some((OnceState::Poisoned, LockAnswer::Poisoned))
-        }
-        _ => None,
+    match state {
+        OnceState::InProgress => None,
+        OnceState::Done => Some((OnceState::Done, LockAnswer::Completed)),
+        OnceState::New => made_at_new(call),
+        OnceState::Poisoned => made_at_poisoned(call),
     }
 }
 
