@@ -235,6 +235,23 @@ pub enum Made {
     Completed,
 }
 
+/// Has two threads follow their lines beside each other: of each the first line that is answered otherwise.
+fn follow_together<R: Wait + Threads + Clock + Sync>(
+    rt: &R,
+    own: &ParkingLot<R>,
+    others: &ParkingLot<R>,
+    scene: &Scene<'_, '_, '_, R>,
+    lines: [&[Line]; 2],
+) -> [Option<usize>; 2] {
+    let [first, second] = lines;
+    let (one, other) = thread::join(
+        rt,
+        || follow(rt, own, scene, first),
+        || follow(rt, others, scene, second),
+    );
+    [one, other]
+}
+
 /// Has two threads follow their lines at a new once, the second as a participant of a lot of that number.
 pub fn play<R: Wait + Threads + Clock + Abort + Sync + Copy + Drop>(
     rt: R,
@@ -257,13 +274,12 @@ pub fn play<R: Wait + Threads + Clock + Abort + Sync + Copy + Drop>(
         table: &table,
         said: AtomicU64::new(0),
     };
-    let second = if number == 7 { &own } else { &others };
-    let (one, other) = thread::join(
-        &rt,
-        || follow(&rt, &own, &scene, lines[0]),
-        || follow(&rt, second, &scene, lines[1]),
-    );
-    for (thread, line) in [one, other].iter().enumerate() {
+    let ended = if number == 7 {
+        follow_together(&rt, &own, &own, &scene, lines)
+    } else {
+        follow_together(&rt, &own, &others, &scene, lines)
+    };
+    for (thread, line) in ended.iter().enumerate() {
         if let Some(line) = line {
             assert!(rt; false, "{name}: thread {thread}, line {line}");
         }

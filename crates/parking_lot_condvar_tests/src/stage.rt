@@ -331,6 +331,27 @@ fn follow<R: Wait + Clock>(
     None
 }
 
+/// Has three threads follow their lines beside each other: of each the first line that is answered otherwise.
+fn follow_together<R: Wait + Threads + Clock + Sync>(
+    rt: &R,
+    own: &ParkingLot<R>,
+    others: &ParkingLot<R>,
+    scene: &Scene<'_, '_, R>,
+    lines: [&[Line]; 3],
+) -> [Option<usize>; 3] {
+    let [first, second, third] = lines;
+    let (one, (two, three)) = thread::join(
+        rt,
+        || follow(rt, own, scene, first),
+        || thread::join(
+            rt,
+            || follow(rt, own, scene, second),
+            || follow(rt, others, scene, third),
+        ),
+    );
+    [one, two, three]
+}
+
 /// Has three threads follow their lines at a new condition variable, the third as a participant of a lot of that number. All words
 /// must be 0 in the end.
 pub fn play<R: Wait + Threads + Clock + Abort + Sync + Copy + Drop>(
@@ -356,17 +377,12 @@ pub fn play<R: Wait + Threads + Clock + Abort + Sync + Copy + Drop>(
         past: now,
         later: now.checked_add(Duration::from_secs(50)).unwrap_or(now),
     };
-    let third = if number == 7 { &lots.one } else { &lots.other };
-    let (one, (two, three)) = thread::join(
-        &rt,
-        || follow(&rt, &lots.one, &scene, lines[0]),
-        || thread::join(
-            &rt,
-            || follow(&rt, &lots.one, &scene, lines[1]),
-            || follow(&rt, third, &scene, lines[2]),
-        ),
-    );
-    for (thread, line) in [one, two, three].iter().enumerate() {
+    let ended = if number == 7 {
+        follow_together(&rt, &lots.one, &lots.one, &scene, lines)
+    } else {
+        follow_together(&rt, &lots.one, &lots.other, &scene, lines)
+    };
+    for (thread, line) in ended.iter().enumerate() {
         if let Some(line) = line {
             assert!(rt; false, "{name}: thread {thread}, line {line}");
         }
