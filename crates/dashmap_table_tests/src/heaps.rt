@@ -162,12 +162,22 @@ fn a_shard_without_spare_room_shrinks_without_memory(rt: HostRuntime) -> Result<
 /// Plain shards in a heap.
 type SmallShards<'h> = Shards<u64, u64, Fold, &'h LocalHeap>;
 
+/// On shards: whether each of the first two has room for one more, or makes it.
+fn have_room(map: &mut SmallShards<'_>) -> bool {
+    for shard in 0..2 {
+        if shard >= map.count() || map.reserve(shard).is_err() {
+            return false;
+        }
+    }
+    true
+}
+
 /// On shards: whether room that was had is had again, and is enough for a pair; `None` where none was had.
 fn room_is_had_again(map: &mut SmallShards<'_>) -> Option<bool> {
-    if map.reserve(0).is_err() || map.reserve(1).is_err() {
+    if !have_room(map) {
         return None;
     }
-    let is_reserved = map.reserve(0).is_ok() & map.reserve(1).is_ok();
+    let is_reserved = have_room(map);
     Some(is_reserved && map.insert(0u64, 0u64) == Ok(None))
 }
 

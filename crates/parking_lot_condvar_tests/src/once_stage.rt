@@ -252,6 +252,23 @@ fn follow_together<R: Wait + Threads + Clock + Sync>(
     [one, other]
 }
 
+/// Has them follow their lines over a scene of their own.
+fn played<'s, 't, 'l, R: Wait + Threads + Clock + Sync>(
+    rt: &R,
+    own: &ParkingLot<R>,
+    others: &ParkingLot<R>,
+    once: &'s Once<'t, 'l, R>,
+    table: &'s LockTable<'l, R>,
+    lines: [&[Line]; 2],
+) -> [Option<usize>; 2] {
+    let scene = Scene {
+        once,
+        table,
+        said: AtomicU64::new(0),
+    };
+    follow_together(rt, own, others, &scene, lines)
+}
+
 /// Has two threads follow their lines at a new once, the second as a participant of a lot of that number.
 pub fn play<R: Wait + Threads + Clock + Abort + Sync + Copy + Drop>(
     rt: R,
@@ -269,15 +286,10 @@ pub fn play<R: Wait + Threads + Clock + Abort + Sync + Copy + Drop>(
         Made::ByDefault => Once::default(&table)?,
         Made::Completed => Once::new_completed(&table)?,
     };
-    let scene = Scene {
-        once: &once,
-        table: &table,
-        said: AtomicU64::new(0),
-    };
     let ended = if number == 7 {
-        follow_together(&rt, &own, &own, &scene, lines)
+        played(&rt, &own, &own, &once, &table, lines)
     } else {
-        follow_together(&rt, &own, &others, &scene, lines)
+        played(&rt, &own, &others, &once, &table, lines)
     };
     for (thread, line) in ended.iter().enumerate() {
         if let Some(line) = line {

@@ -206,6 +206,46 @@ fn judge(rt: &impl Abort, name: &str, verdicts: &[Verdict]) {
     }
 }
 
+/// Has four threads make the rounds over a scene of their own: what they have added and read, and the count in the end.
+fn counted<'s, 'l, R: Wait + Threads + Clock + Sync>(
+    rt: &'s R,
+    table: &'s LockTable<'l, R>,
+    lot: &ParkingLot<R>,
+    lock: &Lock<'_, '_, R>,
+    past: Instant,
+    turns: (&[Round], u32),
+) -> (Tally, u64) {
+    let (rounds, times) = turns;
+    let scene = Scene {
+        rt,
+        table,
+        past,
+        said: AtomicU64::new(0),
+    };
+    let tally = four(lot, lock, &scene, rounds, times);
+    let said = scene.said();
+    (tally, said)
+}
+
+/// Has the threads follow their lines over a scene of their own.
+fn played<'s, 'l, R: Wait + Threads + Clock + Sync>(
+    rt: &'s R,
+    table: &'s LockTable<'l, R>,
+    lots: (&ParkingLot<R>, &ParkingLot<R>),
+    lock: &Lock<'_, '_, R>,
+    past: Instant,
+    lines: Lines,
+) -> [Verdict; 4] {
+    let (own, others) = lots;
+    let scene = Scene {
+        rt,
+        table,
+        past,
+        said: AtomicU64::new(0),
+    };
+    play_together(own, others, lock, &scene, lines)
+}
+
 /// Has four threads make the rounds so many times at a new lock of that kind. It answers what they have added, which must be the count.
 pub fn crowd<R: Wait + Threads + Clock + Abort + Sync + Copy + Drop>(
     rt: R,
@@ -218,15 +258,10 @@ pub fn crowd<R: Wait + Threads + Clock + Abort + Sync + Copy + Drop>(
     let lot = ParkingLot::new(rt, alloc, 8, 7)?;
     let table = LockTable::new(alloc, &lot, 1)?;
     let lock = made(kind, &table)?;
-    let scene = Scene {
-        rt: &rt,
-        table: &table,
-        past: Instant::now(&rt)?,
-        said: AtomicU64::new(0),
-    };
-    let tally = four(&lot, &lock, &scene, rounds, times);
+    let past = Instant::now(&rt)?;
+    let (tally, said) = counted(&rt, &table, &lot, &lock, past, (rounds, times));
     assert!(rt; tally.right, "{name}: what was read");
-    assert!(rt; scene.said() == tally.added, "{name}: the count");
+    assert!(rt; said == tally.added, "{name}: the count");
     assert!(rt; table.word(0) == Some(0), "{name}: the word in the end");
     Ok(tally.added)
 }
@@ -244,16 +279,11 @@ pub fn play<R: Wait + Threads + Clock + Abort + Sync + Copy + Drop>(
     unpark_nobody(&own, setting.unparks);
     let table = LockTable::new(alloc, &own, 1)?;
     let lock = made(setting.kind, &table)?;
-    let scene = Scene {
-        rt: &rt,
-        table: &table,
-        past: Instant::now(&rt)?,
-        said: AtomicU64::new(0),
-    };
+    let past = Instant::now(&rt)?;
     let verdicts = if setting.lot == 7 {
-        play_together(&own, &own, &lock, &scene, lines)
+        played(&rt, &table, (&own, &own), &lock, past, lines)
     } else {
-        play_together(&own, &others, &lock, &scene, lines)
+        played(&rt, &table, (&own, &others), &lock, past, lines)
     };
     judge(&rt, name, &verdicts);
     assert!(rt; table.word(0) == Some(0), "{name}: the word in the end");
