@@ -1,6 +1,5 @@
-//! Tests of the condition variable and of one-time initialization, for what no clause of them says: their words, calls told one thing
-//! after another, which waiters are moved and woken, that no notification is lost, and that one closure at most ends well. The names of
-//! `parking_lot` are each used here, too.
+//! Tests of the condition variable of running threads and of its calls, for what no clause of them says: their words, calls told one
+//! thing after another, which waiters are moved and woken, and that no notification is lost.
 #![tactic(auto)]
 
 #[cfg(test)]
@@ -8,22 +7,18 @@ mod calls;
 #[cfg(test)]
 mod counted;
 #[cfg(test)]
+mod guards;
+#[cfg(test)]
 mod lots;
 #[cfg(test)]
-mod names;
+mod notified;
 #[cfg(test)]
-mod once_calls;
+mod refused;
 #[cfg(test)]
-mod once_crowd;
+mod shared;
 #[cfg(test)]
-mod once_plays;
+mod timed;
 #[cfg(test)]
-mod once_stage;
-#[cfg(test)]
-mod plays;
-#[cfg(test)]
-mod stage;
-#[cfg(test)]
-mod texts;
+mod waiters;
 #[cfg(test)]
 mod words;

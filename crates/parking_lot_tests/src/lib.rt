@@ -3,30 +3,33 @@
 #![tactic(auto)]
 
 #[cfg(test)]
-mod calls;
-#[cfg(test)]
-mod checks;
-#[cfg(test)]
-mod crowds;
+mod beside;
 #[cfg(test)]
 mod deadlines;
 #[cfg(test)]
 mod guards;
 #[cfg(test)]
-mod held;
+mod mutex_calls;
 #[cfg(test)]
-mod mutex_plays;
+mod mutexes;
 #[cfg(test)]
-mod mutex_steps;
 #[cfg(test)]
-mod reentrant_steps;
+mod readers;
 #[cfg(test)]
 mod rows;
 #[cfg(test)]
-mod rw_plays;
+mod rw_beside;
 #[cfg(test)]
-mod rw_steps;
+mod rw_calls;
 #[cfg(test)]
-mod scene;
+mod rw_words;
 #[cfg(test)]
-mod stage;
+mod script;
+#[cfg(test)]
+mod sections;
+#[cfg(test)]
+mod timed;
+#[cfg(test)]
+mod waiting;
+#[cfg(test)]
+mod words;
