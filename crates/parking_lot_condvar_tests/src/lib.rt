@@ -1,5 +1,6 @@
-//! Tests of the condition variable of running threads and of its calls, for what no clause of them says: their words, calls told one
-//! thing after another, which waiters are moved and woken, and that no notification is lost.
+//! Tests of the condition variable and of one-time initialization, for what no clause of them says: their words, calls told one thing
+//! after another, which waiters are moved and woken, that no notification is lost, and that one closure at most ends well. The names of
+//! `parking_lot` are each used here, too.
 #![tactic(auto)]
 
 #[cfg(test)]
@@ -7,18 +8,22 @@ mod calls;
 #[cfg(test)]
 mod counted;
 #[cfg(test)]
-mod guards;
-#[cfg(test)]
 mod lots;
 #[cfg(test)]
-mod notified;
+mod names;
 #[cfg(test)]
-mod refused;
+mod once_calls;
 #[cfg(test)]
-mod shared;
+mod once_crowd;
 #[cfg(test)]
-mod timed;
+mod once_plays;
 #[cfg(test)]
-mod waiters;
+mod once_stage;
+#[cfg(test)]
+mod plays;
+#[cfg(test)]
+mod stage;
+#[cfg(test)]
+mod texts;
 #[cfg(test)]
 mod words;

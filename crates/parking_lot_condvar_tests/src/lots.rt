@@ -1,30 +1,9 @@
-//! What the tests stand on: a condition variable with its mutexes, which threads are lent together, and two lots with a table on each.
+//! What the tests stand on: two lots with a table on each.
 
-use lock_api_raw::{MakeCondvar as _, MakeLock as _, TableFull};
 use parking_lot_core::ParkingLot;
-use parking_lot_mutex::condvar::RawCondvar;
-use parking_lot_mutex::{LockTable, RawMutex};
+use parking_lot_mutex::LockTable;
 use std::alloc::Global;
 use std::test::Fail;
-
-/// A condition variable on the first row of a table, and a mutex on the second.
-#[derive(Drop)]
-pub struct Pair<'t, 'l, R> {
-    pub condvar: RawCondvar<'t, 'l, R>,
-    pub mutex: RawMutex<'t, 'l, R>,
-    pub table: &'t LockTable<'l, R>,
-}
-
-impl<'t, 'l, R> Pair<'t, 'l, R> {
-    /// On a table of which no row was handed out.
-    pub fn new(table: &'t LockTable<'l, R>) -> Result<Pair<'t, 'l, R>, TableFull> {
-        Ok(Pair {
-            condvar: RawCondvar::new(table)?,
-            mutex: RawMutex::new(table, 1)?,
-            table,
-        })
-    }
-}
 
 /// Two lots, with a lifetime in common where they are lent together.
 #[derive(Drop)]
@@ -36,8 +15,8 @@ pub struct Lots<R> {
 /// Lots of the numbers 7 and 8.
 pub fn two_lots<R: Drop + Copy>(rt: R, alloc: Global) -> Result<Lots<R>, Fail> {
     Ok(Lots {
-        one: ParkingLot::new(rt, alloc, 2, 7)?,
-        other: ParkingLot::new(rt, alloc, 2, 8)?,
+        one: ParkingLot::new(rt, alloc, 4, 7)?,
+        other: ParkingLot::new(rt, alloc, 4, 8)?,
     })
 }
 

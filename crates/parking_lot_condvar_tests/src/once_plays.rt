@@ -1,0 +1,209 @@
+//! Plays at a once.
+
+use crate::once_stage::{Answer, End, Ended, Line, Made, Meanwhile, Ran, Step, play};
+use parking_lot_mutex::once::OnceState::{Done, InProgress, New, Poisoned};
+use std::test::Fail;
+
+/// Calls with a closure that looks for nothing.
+const CALL: Step = Step::Call(End::Well, Meanwhile::Nothing);
+
+const CALL_THAT_FAILS: Step = Step::Call(End::Fails, Meanwhile::Nothing);
+
+const FORCE: Step = Step::Force(End::Well, Meanwhile::Nothing);
+
+const FORCE_THAT_FAILS: Step = Step::Force(End::Fails, Meanwhile::Nothing);
+
+/// How they end.
+const RUN: Answer = Answer::Called(Ran::Right(New), Ended::Well);
+
+const RUN_AND_FAILED: Answer = Answer::Called(Ran::Right(New), Ended::Failed);
+
+const RUN_AGAIN: Answer = Answer::Called(Ran::Right(Poisoned), Ended::Well);
+
+const RUN_AGAIN_AND_FAILED: Answer = Answer::Called(Ran::Right(Poisoned), Ended::Failed);
+
+const LEFT_OUT: Answer = Answer::Called(Ran::No, Ended::Well);
+
+const REFUSED: Answer = Answer::Called(Ran::No, Ended::Poisoned);
+
+/// The state and the word are these.
+const IS_NEW: Line = (Step::Is(New, 0), Answer::Yes);
+
+const IS_DONE: Line = (Step::Is(Done, 1), Answer::Yes);
+
+const IS_POISONED: Line = (Step::Is(Poisoned, 2), Answer::Yes);
+
+/// A closure runs once.
+const ONCE: &[Line] = &[
+    IS_NEW,
+    (CALL, RUN),
+    IS_DONE,
+    (CALL, LEFT_OUT),
+    (CALL_THAT_FAILS, LEFT_OUT),
+    (FORCE_THAT_FAILS, LEFT_OUT),
+    (Step::Wait, Answer::Done),
+    (Step::WaitForce, Answer::Done),
+    IS_DONE,
+];
+
+/// An error poisons, until a forced call ends well.
+const POISONED: &[Line] = &[
+    (CALL_THAT_FAILS, RUN_AND_FAILED),
+    IS_POISONED,
+    (CALL_THAT_FAILS, REFUSED),
+    (CALL, REFUSED),
+    IS_POISONED,
+    (Step::Wait, Answer::Poisoned),
+    (FORCE_THAT_FAILS, RUN_AGAIN_AND_FAILED),
+    IS_POISONED,
+    (FORCE, RUN_AGAIN),
+    IS_DONE,
+    (CALL, LEFT_OUT),
+];
+
+/// A forced call runs a new one.
+const FORCED: &[Line] = &[(FORCE, RUN), IS_DONE];
+
+/// A completed one runs nothing.
+const COMPLETED: &[Line] = &[(CALL_THAT_FAILS, LEFT_OUT), IS_DONE];
+
+/// A closure sees that it runs.
+const SEEN: &[Line] = &[(Step::Call(End::Well, Meanwhile::Shows(InProgress, 4)), RUN)];
+
+#[test]
+fn one_thread_calls(rt: HostRuntime) -> Result<(), Fail> {
+    let alloc = rt.alloc();
+    play(rt, alloc, "once", Made::New, 7, [ONCE, &[]])?;
+    play(rt, alloc, "poisoned", Made::New, 7, [POISONED, &[]])?;
+    play(rt, alloc, "forced", Made::ByDefault, 7, [FORCED, &[]])?;
+    play(rt, alloc, "completed", Made::Completed, 7, [COMPLETED, &[]])?;
+    play(rt, alloc, "seen", Made::New, 7, [SEEN, &[]])
+}
+
+/// Runs a closure until another thread sleeps beside it.
+const RUNS_WELL: &[Line] = &[(Step::Force(End::Well, Meanwhile::Comes(12)), RUN)];
+
+const RUNS_AND_FAILS: &[Line] = &[(
+    Step::Force(End::Fails, Meanwhile::Comes(12)),
+    RUN_AND_FAILED,
+)];
+
+/// A closure runs.
+const RUNNING: Line = (Step::Comes(4), Answer::Yes);
+
+/// Calls beside it, which are left out, refused, or run their own closure.
+const WAITS: &[Line] = &[RUNNING, (CALL, LEFT_OUT), IS_DONE];
+
+const IS_REFUSED: &[Line] = &[RUNNING, (CALL, REFUSED), IS_POISONED];
+
+const FORCES_BESIDE: &[Line] = &[RUNNING, (FORCE, LEFT_OUT), IS_DONE];
+
+const FORCES_BEHIND: &[Line] = &[RUNNING, (FORCE, RUN_AGAIN), IS_DONE];
+
+#[test]
+fn a_caller_waits_for_a_closure(rt: HostRuntime) -> Result<(), Fail> {
+    let alloc = rt.alloc();
+    play(rt, alloc, "waits", Made::New, 7, [RUNS_WELL, WAITS])?;
+    play(
+        rt,
+        alloc,
+        "of another lot",
+        Made::New,
+        8,
+        [RUNS_WELL, WAITS],
+    )?;
+    play(
+        rt,
+        alloc,
+        "refused",
+        Made::New,
+        7,
+        [RUNS_AND_FAILS, IS_REFUSED],
+    )?;
+    play(
+        rt,
+        alloc,
+        "forces beside",
+        Made::New,
+        7,
+        [RUNS_WELL, FORCES_BESIDE],
+    )?;
+    play(
+        rt,
+        alloc,
+        "forces behind",
+        Made::New,
+        7,
+        [RUNS_AND_FAILS, FORCES_BEHIND],
+    )
+}
+
+/// Somebody sleeps before anybody has called.
+const SLEEPING: Line = (Step::Comes(8), Answer::Yes);
+
+/// Runs a closure behind a sleeper, who stays asleep until its end.
+const RUNS_BEHIND: &[Line] = &[
+    SLEEPING,
+    (Step::Call(End::Well, Meanwhile::IsSilent(12)), RUN),
+];
+
+const FAILS_BEHIND: &[Line] = &[
+    SLEEPING,
+    (
+        Step::Call(End::Fails, Meanwhile::IsSilent(12)),
+        RUN_AND_FAILED,
+    ),
+];
+
+/// It waits, and says that it is awake.
+const AWAITS: &[Line] = &[
+    (Step::Wait, Answer::Done),
+    (Step::Says(1), Answer::Done),
+    IS_DONE,
+];
+
+const AWAITS_IN_VAIN: &[Line] = &[
+    (Step::Wait, Answer::Poisoned),
+    (Step::Says(1), Answer::Done),
+    IS_POISONED,
+];
+
+/// A closure that fails leaves one that waits whatever comes asleep, until another one ends well.
+const FAILS_AND_MENDS: &[Line] = &[
+    SLEEPING,
+    (
+        Step::Call(End::Fails, Meanwhile::IsSilent(12)),
+        RUN_AND_FAILED,
+    ),
+    (Step::Comes(10), Answer::Yes),
+    (Step::Said, Answer::Number(0)),
+    (FORCE, RUN_AGAIN),
+];
+
+const AWAITS_WHATEVER_COMES: &[Line] = &[
+    (Step::WaitForce, Answer::Done),
+    (Step::Says(1), Answer::Done),
+    IS_DONE,
+];
+
+#[test]
+fn one_that_waits_is_woken_by_the_end(rt: HostRuntime) -> Result<(), Fail> {
+    let alloc = rt.alloc();
+    play(rt, alloc, "awaits", Made::New, 7, [RUNS_BEHIND, AWAITS])?;
+    play(
+        rt,
+        alloc,
+        "in vain",
+        Made::New,
+        7,
+        [FAILS_BEHIND, AWAITS_IN_VAIN],
+    )?;
+    play(
+        rt,
+        alloc,
+        "mended",
+        Made::New,
+        7,
+        [FAILS_AND_MENDS, AWAITS_WHATEVER_COMES],
+    )
+}
