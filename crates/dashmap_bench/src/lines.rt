@@ -6,7 +6,7 @@ use crate::parallel::{TIMES, sum_often};
 use crate::threads::{Mix, Team, run};
 use crate::walks::{count_all, keep_all, read_all, write_all};
 use crate::work::{Map, Shared, churn, enter_all, look_up_all, map_over, put_all, take_all};
-use dashmap_workload::clock::report;
+use dashmap_calls::workload::clock::report;
 use lock_api_raw::RawRwLock;
 use parking_lot_core::ParkingLot;
 use parking_lot_rwlock::LockTable;

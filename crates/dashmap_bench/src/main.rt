@@ -23,7 +23,7 @@ mod threads;
 mod walks;
 mod work;
 
-use dashmap_workload::Call;
+use dashmap_calls::workload::Call;
 use fault::Fault;
 use lines::{fill, print_calls, print_parallel, print_teams, small_run};
 use std::env;

@@ -1,7 +1,7 @@
 //! What the calls of plain shards, and of one bare shard, cost.
 
-use dashmap_workload::clock::report;
-use dashmap_workload::{Bare, Call, Deed, run};
+use dashmap_calls::workload::clock::report;
+use dashmap_calls::workload::{Bare, Call, Deed, run};
 use std::io;
 use std::time::Instant;
 

@@ -2,7 +2,7 @@
 
 use crate::fault::Fault;
 use crate::work::{Map, Shared, map_over};
-use dashmap_workload::spread;
+use dashmap_calls::workload::spread;
 use lock_api_raw::RawRwLock;
 use parking_lot_core::{ParkingLot, ThreadData};
 use parking_lot_rwlock::LockTable;

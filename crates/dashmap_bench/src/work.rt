@@ -2,9 +2,9 @@
 
 use crate::fault::Fault;
 use crate::keys::Way;
+use dashmap_calls::workload::spread;
 use dashmap_map::DashMap;
 use dashmap_table::MapFault;
-use dashmap_workload::spread;
 use lock_api_raw::{MakeLock, RawRwLock};
 use parking_lot_rwlock::RawRwLock as RawRwLockOfRows;
 use std::alloc::Global;

@@ -9,6 +9,7 @@ mod operators;
 mod tables;
 mod tries;
 mod walks;
+pub mod workload;
 
 pub use calls::{Answer, Call, Numbers, make};
 pub use entries::Place;

@@ -61,7 +61,7 @@ where
 /// ```text
 /// let mut walk = map.iter_mut(&mut me);
 /// while let Some(mut pair) = walk.next_mut() {
-///     *pair += 1;
+///     *pair = pair.wrapping_add(1);
 /// }
 /// ```
 pub type IterMut<'m, 'd, K, V, Q, A = Global> = WritingWalk<

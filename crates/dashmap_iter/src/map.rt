@@ -16,11 +16,11 @@ use std::sync::Wait;
 /// ```text
 /// for item in map.iter(&mut me) {
 ///     let pair = item?;
-///     sum += *pair;
+///     sum = sum.wrapping_add(*pair);
 /// }
 /// let mut walk = map.iter_mut(&mut me);
 /// while let Some(mut pair) = walk.next_mut() {
-///     *pair += 1;
+///     *pair = pair.wrapping_add(1);
 /// }
 /// ```
 pub trait LendingWalks<K: Eq + Hash, V, S, Q: RawRwLock, A: Allocator>

@@ -40,7 +40,7 @@ where
 /// ```text
 /// for item in map.iter(&mut me) {
 ///     let pair = item?;
-///     sum += *pair;                 // the value; `pair.key()` lends the key
+///     sum = sum.wrapping_add(*pair);  // the value; `pair.key()` lends the key
 /// }
 /// ```
 pub type RefMulti<'m, 'd, K, V, Q, A = Global> = MultiGuard<

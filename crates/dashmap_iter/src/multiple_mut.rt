@@ -44,7 +44,7 @@ where
 /// ```text
 /// let mut walk = map.iter_mut(&mut me);
 /// while let Some(mut pair) = walk.next_mut() {
-///     *pair += 1;                   // the value; `pair.key()` lends the key
+///     *pair = pair.wrapping_add(1);  // the value; `pair.key()` lends the key
 /// }
 /// ```
 pub type RefMutMulti<'w, 'm, 'd, K, V, Q, A = Global> = MultiGuardMut<

@@ -1,4 +1,4 @@
-//! A map whose every call is written down.
+//! A map that writes down each call that isn't refused.
 //!
 //! Each shard of a [`Recorded`] map keeps the history of the calls on it, under its lock, and each [`Caller`] the log of the calls that it
 //! made. Afterwards [`gather`] tests that histories and logs belong together, and answers all entries in one order: one legal history of

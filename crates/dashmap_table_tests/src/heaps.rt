@@ -1,8 +1,8 @@
 //! Each growth of a table refused in turn, by heaps of all small sizes.
 
 use crate::calls::{Answer, Call, Hashes, Numbers, make};
+use dashmap_calls::workload;
 use dashmap_table::{MapFault, Shard, Shards};
-use dashmap_workload as workload;
 use linked_list_allocator::LocalHeap;
 use std::alloc::Global;
 use std::hash::{BuildHasherDefault, FoldHasher};

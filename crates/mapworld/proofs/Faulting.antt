@@ -8,12 +8,15 @@ use Rattle.mapworld_state.specs.Faults.Faults.{run_fault_done}
 use Rattle.mapworld_state.specs.State.{State}
 use Rattle.mapworld_state.specs.Running.{can_move_in, has_numbers, refusal}
 
-done_of : (a b c : Bool) (n : ℕ) (f : RunFault) → (if a then (if b then (if c then None else Some (fault.StepsShort n)) else Some (fault.CannotMove n)) else Some (fault.NoSuchThread n)) ≡ Some f → run_fault_done f ≡ n
+done_of : (a b c : Bool) (n : ℕ) (f : RunFault)
+    → (if a then (if b then (if c then None else Some (fault.StepsShort n)) else Some (fault.CannotMove n)) else Some
+    (fault.NoSuchThread n)) ≡ Some f → run_fault_done f ≡ n
 done_of true true true n f h = absurd (none-some f h)
 done_of true true false n f h = ap run_fault_done (sym (same_Some (fault.StepsShort n) f h))
 done_of true false c n f h = ap run_fault_done (sym (same_Some (fault.CannotMove n) f h))
 done_of false b c n f h = ap run_fault_done (sym (same_Some (fault.NoSuchThread n) f h))
 
-pub refusal-done : {K V S D T A : Type 0} (w : State K V S D T A) (n : ℕ) (s : Step) (f : RunFault) → refusal w n s ≡ Some f → run_fault_done f ≡ n
+pub refusal-done : {K V S D T A : Type 0} (w : State K V S D T A) (n : ℕ) (s : Step) (f : RunFault)
+    → refusal w n s ≡ Some f → run_fault_done f ≡ n
 refusal-done w n s f h =
     done_of (nat_lt s.thread (length w.programs)) (can_move_in w s.thread) (has_numbers w) n f h

@@ -20,20 +20,27 @@ use Rattle.mapworld.proofs.Viewing.{pair_at_route}
 
 module _ {K V S D T A : Type 0} (x : Setup K V D T) (w : State K V S D T A) (s : Step) (w' : State K V S D T A) where
   -- an insertion that finds the pair of its key
-  pub applied : (f : Finds x w s w') (k : K) (v : V) (pair : K × V) → f.request ≡ request.Keyed (keyed.Insert k v) → pair_of x.eq f.table.items k ≡ Some pair
+  pub applied : (f : Finds x w s w') (k : K) (v : V) (pair : K × V) → f.request ≡ request.Keyed (keyed.Insert k v)
+      → pair_of x.eq f.table.items k ≡ Some pair
       → (p : Place K V D T A) × (slice_get w'.places s.thread ≡ Some p) × (p.phase ≡ phase.Apply (keyed.Insert k v))
   applied f k v pair asked found = (
     _,
-    ap (λ (u : State K V S D T A). slice_get u.places s.thread) f.after ∙ slice_get-set_same w.places s.thread f.place _ f.stands,
-    ap (λ (r : Request K V D). behind r (is_some (pair_of x.eq f.table.items (request_key r)))) asked ∙ ap (λ o. behind (request.Keyed (keyed.Insert k v)) (is_some o)) found,
+    ap (λ (u : State K V S D T A). slice_get u.places s.thread) f.after
+        ∙ slice_get-set_same w.places s.thread f.place _ f.stands,
+    ap (λ (r : Request K V D). behind r (is_some (pair_of x.eq f.table.items (request_key r)))) asked
+        ∙ ap (λ o. behind (request.Keyed (keyed.Insert k v)) (is_some o)) found,
   )
     where
       behind : Request K V D → Bool → Phase K V D T A
       behind r there = found_phase r there (has_room f.table)
 
 -- a call for which a shard has to grow
-pub of_new_key : {K V S D T A : Type 0} (x : Setup K V D T) → Laws x → (w : State K V S D T A) (t : _) → Sound x w → (p : Place K V D T A) (c : Growth K V) (table : ShardPairs K V)
-    → slice_get w.places t ≡ Some p → p.phase ≡ phase.Grow c → slice_get w.tables p.shard ≡ Some table → pair_of x.eq table.items (growth_key c) ≡ None → pair_of x.eq (pairs_of w) (growth_key c) ≡ None
+pub of_new_key : {K V S D T A : Type 0} (x : Setup K V D T) → Laws x → (w : State K V S D T A) (t : _) → Sound x w
+    → (p : Place K V D T A) (c : Growth K V) (table : ShardPairs K V)
+    → slice_get w.places t ≡ Some p → p.phase ≡ phase.Grow c → slice_get w.tables p.shard ≡ Some table
+    → pair_of x.eq table.items (growth_key c) ≡ None → pair_of x.eq (pairs_of w) (growth_key c) ≡ None
 of_new_key {K} {V} {S} {D} {T} {A} x laws w t sound p c table at before held absent =
-    let claim = subst (λ (f : Phase K V D T A). Claim x (threads_of w) w.blocks w.tables t p f) before (sound.stands t p at).claim in
-    pair_at_route x w.blocks w.tables laws sound.tables (growth_key c) table (ap (λ i. slice_get w.tables i) (sym claim.1.shard) ∙ held) ∙ absent
+    let claim = subst (λ (f : Phase K V D T A). Claim x (threads_of w) w.blocks w.tables t p f) before
+    (sound.stands t p at).claim in
+    pair_at_route x w.blocks w.tables laws sound.tables (growth_key c) table
+    (ap (λ i. slice_get w.tables i) (sym claim.1.shard) ∙ held) ∙ absent

@@ -11,7 +11,8 @@ use Rattle.mapworld_state.proofs.Finds.{same_option}
 use Rattle.mapworld_state.proofs.Tables.{pair_of-is, pair_of-none, pair_of-none_from, pair_of-at, AreDistinct-none}
 
 -- an element of one of the lists stands in the joined list
-pub joined-there : {X : Type 0} (tables : List (List X)) (i j : ℕ) (table : List X) (x : X) → slice_get tables i ≡ Some table → slice_get table j ≡ Some x → (n : ℕ) × (slice_get (joined tables) n ≡ Some x)
+pub joined-there : {X : Type 0} (tables : List (List X)) (i j : ℕ) (table : List X) (x : X)
+    → slice_get tables i ≡ Some table → slice_get table j ≡ Some x → (n : ℕ) × (slice_get (joined tables) n ≡ Some x)
 joined-there [] i j table x ht hx = absurd (none-some table ht)
 joined-there (t ∷ ts) zero j table x ht hx =
     (j, slice_get-append_left t (joined ts) j x (ap (λ l. slice_get l j) (same_Some t table ht) ∙ hx))
@@ -20,7 +21,8 @@ joined-there (t ∷ ts) (suc i) j table x ht hx =
     (length t + r.0, slice_get-append_right t (joined ts) r.0 ∙ r.1)
 
 -- an element of the joined list stands in one of them
-pub joined-from : {X : Type 0} (tables : List (List X)) (n : ℕ) (x : X) → slice_get (joined tables) n ≡ Some x → (i j : ℕ) × (table : List X) × (slice_get tables i ≡ Some table) × (slice_get table j ≡ Some x)
+pub joined-from : {X : Type 0} (tables : List (List X)) (n : ℕ) (x : X) → slice_get (joined tables) n ≡ Some x
+    → (i j : ℕ) × (table : List X) × (slice_get tables i ≡ Some table) × (slice_get table j ≡ Some x)
 joined-from [] n x h = absurd (none-some x h)
 joined-from (t ∷ ts) n x h = elim (slice_get-append_cases t (joined ts) n x h) [
   | inl a ↦ (0, n, t, refl, a)
@@ -28,7 +30,9 @@ joined-from (t ∷ ts) n x h = elim (slice_get-append_cases t (joined ts) n x h)
 ]
 
 module _ {K V : Type 0} (eq : K → K → Bool) (laws : IsEquivalence eq) where
-  AreDistinct-append : (ps qs : List (K × V)) → AreDistinct eq ps → AreDistinct eq qs → ((i j : ℕ) (p r : K × V) → slice_get ps i ≡ Some p → slice_get qs j ≡ Some r → IsTrue (eq p.0 r.0) → ⊥) → AreDistinct eq (ps ++ qs)
+  AreDistinct-append : (ps qs : List (K × V)) → AreDistinct eq ps → AreDistinct eq qs
+      → ((i j : ℕ) (p r : K × V) → slice_get ps i ≡ Some p → slice_get qs j ≡ Some r → IsTrue (eq p.0 r.0) → ⊥)
+      → AreDistinct eq (ps ++ qs)
   AreDistinct-append ps qs first second apart i j p r hp hr e = elim (slice_get-append_cases ps qs i p hp) [
     | inl a ↦ elim (slice_get-append_cases ps qs j r hr) [
       | inl b ↦ first i j p r a b e
@@ -46,7 +50,8 @@ module _ {K V : Type 0} (eq : K → K → Bool) (laws : IsEquivalence eq) where
       (i j k l : ℕ) (s t : List (K × V)) (p r : K × V) → slice_get tables i ≡ Some s → slice_get tables j ≡ Some t
       → slice_get s k ≡ Some p → slice_get t l ≡ Some r → IsTrue (eq p.0 r.0) → i ≡ j
 
-  distinct_joined : (tables : List (List (K × V))) → AreEachDistinct eq tables → AreInOneTable tables → AreDistinct eq (joined tables)
+  distinct_joined : (tables : List (List (K × V))) → AreEachDistinct eq tables → AreInOneTable tables
+      → AreDistinct eq (joined tables)
   distinct_joined [] each one = AreDistinct-none {V = V} eq laws
   distinct_joined (t ∷ ts) each one =
       AreDistinct-append t (joined ts) (each 0 t refl)
@@ -58,13 +63,17 @@ module _ {K V : Type 0} (eq : K → K → Bool) (laws : IsEquivalence eq) where
       omega (arith, h))
 
   -- with each pair at its key's route, and equal keys at one route, the tables joined have no key twice
-  pub AreDistinct-joined : (route : K → ℕ) (tables : List (List (K × V))) → ((j k : K) → IsTrue (eq j k) → route j ≡ route k) → AreRouted route tables → AreEachDistinct eq tables → AreDistinct eq (joined tables)
+  pub AreDistinct-joined : (route : K → ℕ) (tables : List (List (K × V)))
+      → ((j k : K) → IsTrue (eq j k) → route j ≡ route k) → AreRouted route tables → AreEachDistinct eq tables
+      → AreDistinct eq (joined tables)
   AreDistinct-joined route tables routes routed each =
       distinct_joined tables each
       (λ i j k l s t p r hs ht hp hr e. sym (routed i k s p hs hp) ∙ (routes p.0 r.0 e ∙ routed j l t r ht hr))
 
   -- a key finds in the tables joined what it finds in the table of its route
-  pub pair_of-joined : (route : K → ℕ) (tables : List (List (K × V))) → ((j k : K) → IsTrue (eq j k) → route j ≡ route k) → AreRouted route tables → AreEachDistinct eq tables → (q : K) → pair_of eq (joined tables) q ≡ option_and_then (λ ps. pair_of eq ps q) (slice_get tables (route q))
+  pub pair_of-joined : (route : K → ℕ) (tables : List (List (K × V)))
+      → ((j k : K) → IsTrue (eq j k) → route j ≡ route k) → AreRouted route tables → AreEachDistinct eq tables
+      → (q : K) → pair_of eq (joined tables) q ≡ option_and_then (λ ps. pair_of eq ps q) (slice_get tables (route q))
   pair_of-joined route tables routes routed each q =
       let distinct = AreDistinct-joined route tables routes routed each in
       let own = option_and_then (λ (ps : List (K × V)). pair_of eq ps q) (slice_get tables (route q)) in
@@ -77,5 +86,6 @@ module _ {K V : Type 0} (eq : K → K → Bool) (laws : IsEquivalence eq) where
       let r = joined-from tables n p at in
       let place : slice_get tables (route q) ≡ Some r.2 =
       ap (λ k. slice_get tables k) (sym (routes p.0 q e) ∙ routed r.0 r.1 r.2 p r.3 r.4) ∙ r.3 in
-      let none : pair_of eq r.2 q ≡ None = sym (ap (λ o. option_and_then (λ (ps : List (K × V)). pair_of eq ps q) o) place) ∙ h in
+      let none : pair_of eq r.2 q ≡ None = sym (ap (λ o. option_and_then (λ (ps : List (K × V)). pair_of eq ps q) o)
+      place) ∙ h in
       false≢true (sym (pair_of-none eq laws r.2 q none r.1 p r.4) ∙ e))))

@@ -16,3 +16,15 @@ pub mod Faulting
 pub mod Growths
 pub mod Bounds
 pub mod Drains
+pub mod LockFits
+pub mod Keeping
+pub mod Reached
+pub mod Refusing
+pub mod Absences
+pub mod Cores
+pub mod Tries
+pub mod Awake
+pub mod Counted
+pub mod Guarding
+pub mod Histories
+pub mod Overs

@@ -33,7 +33,6 @@ use Rattle.mapworld_state.specs.declared.holds.Mode.TheVariants.{Shared, Exclusi
 use Rattle.mapworld_state.specs.Holds.{gives_up}
 use Rattle.mapworld_state.specs.Footprint.{ChangesLock, KeepsLock, KeepsLocks, first_queue, second_queue, the_word}
 use Rattle.mapworld.proofs.Filling.{length-slice_set}
-use Rattle.mapworld_progress.proofs.Sleepers.{all_at}
 
 -- A CALL BEGINS: nothing is changed but who is in a call, and the locks fit together still
 
@@ -51,7 +50,8 @@ given_kind Shared = refl
 given_kind Exclusive = refl
 
 -- a shard's call goes by a core of readers and writers
-shards_core : (x : LockKind) (call : LockCall) → is_of_shards call ≡ true → is_plain (core_next (core_of x call) Start) ≡ true
+shards_core : (x : LockKind) (call : LockCall) → is_of_shards call ≡ true
+    → is_plain (core_next (core_of x call) Start) ≡ true
 shards_core x ask.Read k = refl
 shards_core x ask.TryRead k = refl
 shards_core x ask.UnlockRead k = refl
@@ -61,23 +61,30 @@ shards_core x ask.UnlockWrite k = refl
 shards_core x ask.Downgrade k = refl
 shards_core x other k = absurd (false≢true k)
 
-begun_plain : (s : State) (t : ℕ) (c : Call) → IsPlain s → c.others ≡ 0 → is_plain (hears c Start).core ≡ true → IsPlain (begun s t c)
+begun_plain : (s : State) (t : ℕ) (c : Call) → IsPlain s → c.others ≡ 0 → is_plain (hears c Start).core ≡ true
+    → IsPlain (begun s t c)
 begun_plain s t c plain none so = record {
   kinds = plain.kinds;
   single = plain.single;
   alone = λ v d at. elim (cases_eq v t) [
     | inl e ↦
         let now : Call = hears c Start in
-        let here = set_at s.calls t (Some now) (Some d) (ap (λ u. slice_get (slice_set s.calls t (Some now)) u) (sym e) ∙ there (slice_get (begun s t c).calls v) d at) in
+        let here = set_at s.calls t (Some now) (Some d)
+        (ap (λ u. slice_get (slice_set s.calls t (Some now)) u) (sym e)
+        ∙ there (slice_get (begun s t c).calls v) d at) in
         ap (λ (b : Call). b.others) (same_Some d now here) ∙ none
-    | inr ne ↦ plain.alone v d (ap (λ o. option_and_then (λ b. b) o) (sym (slice_get-set_other s.calls t v _ (λ e. ne (sym e)))) ∙ at)
+    | inr ne ↦ plain.alone v d (ap (λ o. option_and_then (λ b. b) o)
+        (sym (slice_get-set_other s.calls t v _ (λ e. ne (sym e)))) ∙ at)
   ];
   cores = λ v d at. elim (cases_eq v t) [
     | inl e ↦
         let now : Call = hears c Start in
-        let here = set_at s.calls t (Some now) (Some d) (ap (λ u. slice_get (slice_set s.calls t (Some now)) u) (sym e) ∙ there (slice_get (begun s t c).calls v) d at) in
+        let here = set_at s.calls t (Some now) (Some d)
+        (ap (λ u. slice_get (slice_set s.calls t (Some now)) u) (sym e)
+        ∙ there (slice_get (begun s t c).calls v) d at) in
         ap (λ (b : Call). is_plain b.core) (same_Some d now here) ∙ so
-    | inr ne ↦ plain.cores v d (ap (λ o. option_and_then (λ b. b) o) (sym (slice_get-set_other s.calls t v _ (λ e. ne (sym e)))) ∙ at)
+    | inr ne ↦ plain.cores v d (ap (λ o. option_and_then (λ b. b) o)
+        (sym (slice_get-set_other s.calls t v _ (λ e. ne (sym e)))) ∙ at)
   ];
 }
 
@@ -96,7 +103,10 @@ module _ (t shard : ℕ) (call : LockCall) (old mid : Shown) (b : LockBegins t s
       let calls = ap (λ (u : State). length u.calls) b.became.became ∙ length-slice_set s.calls t _ in
       record {
         fits = b.became.acts.fits;
-        plain = subst IsPlain (sym b.became.became) (begun_plain s t (call_for s t shard call) fit.plain (begun_alone s (state mid.rows) t shard call fit.plain.kinds fit.plain.single (called (call_at (state mid.rows) t) _ b.stand).0 (called (call_at (state mid.rows) t) _ b.stand).1 b.became) (shards_core (kind_in s.kinds shard) call kind));
+        plain = subst IsPlain (sym b.became.became) (begun_plain s t (call_for s t shard call) fit.plain
+            (begun_alone s (state mid.rows) t shard call fit.plain.kinds fit.plain.single
+            (called (call_at (state mid.rows) t) _ b.stand).0 (called (call_at (state mid.rows) t) _ b.stand).1
+            b.became) (shards_core (kind_in s.kinds shard) call kind));
         count = ap length b.desks ∙ (fit.count ∙ sym kinds);
         desks_fit = λ i desk at.
             let d = fit.desks_fit i desk (ap (λ (ds : List (DeskState _)). slice_get ds i) (sym b.desks) ∙ at) in
@@ -118,7 +128,8 @@ module _ (t shard : ℕ) (call : LockCall) (old mid : Shown) (b : LockBegins t s
 
 -- A CALL ENDS
 
-is_answered : (a : Act) (answer : CoreAnswer) (t : ℕ) (fair : Bool) (c : Call) (s u : State) → Some answer ≡ end_of a → Became a t fair c s u → u ≡ answered s t c
+pub is_answered : (a : Act) (answer : CoreAnswer) (t : ℕ) (fair : Bool) (c : Call) (s u : State)
+    → Some answer ≡ end_of a → Became a t fair c s u → u ≡ answered s t c
 is_answered (Act.Done x) answer t fair c s u ends became = became
 is_answered Act.Load answer t fair c s u ends became = absurd (none-some answer (sym ends))
 is_answered (Act.Exchange from to) answer t fair c s u ends became = absurd (none-some answer (sym ends))
@@ -131,7 +142,8 @@ is_answered Act.Sleep answer t fair c s u ends became = absurd (none-some answer
 
 pub ends_keep : (t : ℕ) (answer : CoreAnswer) (old new : Shown) → LockEnds t answer old new → KeepsLocks old new
 ends_keep t answer old new e i =
-    let became = is_answered (core_act e.steps.call.core) answer t false e.steps.call (state old.rows) (state new.rows) e.steps.answers e.steps.became in
+    let became = is_answered (core_act e.steps.call.core) answer t false e.steps.call (state old.rows)
+    (state new.rows) e.steps.answers e.steps.became in
     record {
       word = ap (λ (u : State). word_at u i) became;
       first = ap (λ (u : State). queue_at u (first_key i)) became;
@@ -143,7 +155,8 @@ ends_keep t answer old new e i =
 pub ends_fit : (t : ℕ) (answer : CoreAnswer) (old new : Shown) → LocksFit old → LockEnds t answer old new → LocksFit new
 ends_fit t answer old new fit e =
     subst (λ (ds : List (DeskState _)). LocksFit (record { rows = new.rows; desks = ds })) (sym e.desks)
-    (same_holds old fit new.rows (stepped_fits (state old.rows) (state new.rows) t false (Some answer) e.steps) (stepped_plain (state old.rows) (state new.rows) t false (Some answer) fit.plain e.steps)
+    (same_holds old fit new.rows (stepped_fits (state old.rows) (state new.rows) t false (Some answer) e.steps)
+    (stepped_plain (state old.rows) (state new.rows) t false (Some answer) fit.plain e.steps)
     e.whole.kinds e.whole.threads (λ v i. e.holds v i))
 
 -- A CALL MOVES
@@ -154,7 +167,8 @@ pub record TouchesLock (old new : Shown) : Type 0 where
   pub others : (i : ℕ) → i ≢ shard → KeepsLock old new i
   pub here : ChangesLock old new shard
 
-changes : (old new : Shown) (shard : ℕ) → TouchesOnly shard (state old.rows) (state new.rows) → ChangesLock old new shard
+changes : (old new : Shown) (shard : ℕ) → TouchesOnly shard (state old.rows) (state new.rows)
+    → ChangesLock old new shard
 changes old new shard only = elim only.word_or_queues [
   | inl word ↦ elim only.one_queue [
     | inl first ↦ second_queue word first
@@ -163,7 +177,8 @@ changes old new shard only = elim only.word_or_queues [
   | inr queues ↦ the_word queues.0 queues.1
 ]
 
-pub moves_touch : StepsTouchOneLock → (t : ℕ) (fair : Bool) (old new : Shown) → LocksFit old → LockMoves t fair old new → TouchesLock old new
+pub moves_touch : StepsTouchOneLock → (t : ℕ) (fair : Bool) (old new : Shown) → LocksFit old
+    → LockMoves t fair old new → TouchesLock old new
 moves_touch touch t fair old new fit m =
     let only = touch t fair old new fit m in
     record {
@@ -174,14 +189,21 @@ moves_touch touch t fair old new fit m =
             word = stays.word;
             first = stays.first;
             second = stays.second;
-            desk = ap (λ (ds : List (DeskState _)). slice_get ds i) m.desks ∙ slice_get-set_other old.desks m.stand.shard i _ (λ e. ne (sym e));
+            desk = ap (λ (ds : List (DeskState _)). slice_get ds i) m.desks
+                ∙ slice_get-set_other old.desks m.stand.shard i _ (λ e. ne (sym e));
           };
       here = changes old new m.stand.shard only;
     }
 
 -- what stayed before it doesn't count
 keeps_both : (old mid new : Shown) (i : ℕ) → KeepsLock old mid i → KeepsLock mid new i → KeepsLock old new i
-keeps_both old mid new i a b = record { word = b.word ∙ a.word; first = b.first ∙ a.first; second = b.second ∙ a.second; desk = b.desk ∙ a.desk }
+keeps_both old mid new i a b = record {
+  word = b.word ∙ a.word;
+  first = b.first ∙ a.first;
+  second = b.second
+      ∙ a.second;
+  desk = b.desk ∙ a.desk;
+}
 
 changes_behind : (old mid new : Shown) (i : ℕ) → KeepsLock old mid i → ChangesLock mid new i → ChangesLock old new i
 changes_behind old mid new i a (the_word first second) = the_word (first ∙ a.first) (second ∙ a.second)
@@ -192,8 +214,15 @@ pub keeps_behind : (old mid new : Shown) → KeepsLocks old mid → KeepsLocks m
 keeps_behind old mid new a b i = keeps_both old mid new i (a i) (b i)
 
 pub touches_behind : (old mid new : Shown) → KeepsLocks old mid → TouchesLock mid new → TouchesLock old new
-touches_behind old mid new a b = record { shard = b.shard; others = λ i ne. keeps_both old mid new i (a i) (b.others i ne); here = changes_behind old mid new b.shard (a b.shard) b.here }
+touches_behind old mid new a b = record {
+  shard = b.shard;
+  others = λ i ne. keeps_both old mid new i (a i)
+      (b.others i ne);
+  here = changes_behind old mid new b.shard (a b.shard) b.here;
+}
 
-pub starts_touch : StepsTouchOneLock → (t shard : ℕ) (call : LockCall) (fair : Bool) (old new : Shown) → is_of_shards call ≡ true → LocksFit old → LockStarts t shard call fair old new → TouchesLock old new
+pub starts_touch : StepsTouchOneLock → (t shard : ℕ) (call : LockCall) (fair : Bool) (old new : Shown)
+    → is_of_shards call ≡ true → LocksFit old → LockStarts t shard call fair old new → TouchesLock old new
 starts_touch touch t shard call fair old new kind fit x =
-    touches_behind old x.mid new (begins_keep t shard call old x.mid x.begins) (moves_touch touch t fair x.mid new (begins_fit t shard call old x.mid x.begins kind fit) x.moves)
+    touches_behind old x.mid new (begins_keep t shard call old x.mid x.begins)
+    (moves_touch touch t fair x.mid new (begins_fit t shard call old x.mid x.begins kind fit) x.moves)

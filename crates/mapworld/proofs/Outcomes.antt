@@ -1,5 +1,5 @@
 -- What holds of every world: it agrees with the replay, and exactly the threads between admission and release hold.
-use Rattle.std.proofs.Common.{◌≡◌, ℕ, ◌+◌, ◌<◌, inl, inr, Bool, true, false, not, ◌&&◌, ◌==◌, MatchBool, IsTrue, if◌then◌else◌, List, [], ◌∷◌, length, map, Option, Some, None, is_some, slice_get, refl, sym, ap, ◌∙◌, arith}
+use Rattle.std.proofs.Common.{◌≡◌, ℕ, ◌+◌, ◌<◌, inl, inr, Bool, true, false, not, ◌&&◌, ◌==◌, MatchBool, IsTrue, if◌then◌else◌, List, [], ◌∷◌, length, Option, Some, None, is_some, slice_get, refl, sym, ap, ◌∙◌, arith}
 use Rattle.mapworld_state.specs.Shards.{ShardPairs}
 use Rattle.std.specs.Hash.{HashWrites}
 use Rattle.std.specs.Cmp.{IsEquivalence}
@@ -17,7 +17,7 @@ use Rattle.mapworld_state.specs.declared.place.Guard.TheVariants as guard
 use Rattle.mapworld_state.specs.declared.place.Phase.{Phase}
 use Rattle.mapworld_state.specs.declared.place.Phase.TheVariants as phase
 use Rattle.mapworld_state.specs.Places.{Place}
-use Rattle.mapworld_state.specs.State.{State, pairs_of, threads_of, started_of}
+use Rattle.mapworld_state.specs.State.{State, pairs_of, threads_of}
 use Rattle.mapworld_state.specs.Held.{holds_before, HoldByPhase}
 use Rattle.mapworld_state.specs.Sound.{HoldsByGuard, HoldsShard, IsInSession, KeepsOver, Claim, Sound}
 use Rattle.mapworld_state.specs.Walks.{hands_over, walk_mode}
@@ -27,19 +27,24 @@ use Rattle.mapworld.proofs.Viewing.{pairs_distinct, pair_at_route}
 
 -- an index below the length has an element
 pub element-at : {X : Type 0} (xs : List X) (i : ℕ) → i < length xs → (y : X) × (slice_get xs i ≡ Some y)
-element-at xs i lt = elim (slice_get_cases xs i).1 [ inl here ↦ (here.0, here.2) | inr past ↦ absurd (let le = past.0 in omega arith) ]
+element-at xs i lt = elim (slice_get_cases xs i).1
+    [ inl here ↦ (here.0, here.2) | inr past ↦ absurd (let le = past.0 in omega arith) ]
 
-pub agrees : {K V S D T A : Type 0} (x : Setup K V D T) → Laws x → (w : State K V S D T A) → Sound x w → Agrees x w.blocks (pairs_of w) w.replies
+pub agrees : {K V S D T A : Type 0} (x : Setup K V D T) → Laws x → (w : State K V S D T A) → Sound x w
+    → Agrees x w.blocks (pairs_of w) w.replies
 agrees x laws w sound = record {
   distinct = pairs_distinct x w.blocks w.tables laws sound.tables;
   contents_are = λ q.
       let table = element-at w.tables (x.route q) (sound.routes q) in
-      pair_at_route x w.blocks w.tables laws sound.tables q table.0 table.1 ∙ sound.tables.contents_are q table.0 table.1;
+      pair_at_route x w.blocks w.tables laws sound.tables q table.0 table.1
+      ∙ sound.tables.contents_are q table.0 table.1;
   replies_are = sound.replies;
 }
 
 -- so it is with a world's own setup
-pub world-agrees : {K V S H D T A : Type 0} (d : deed.Ghosts D K V T) (b : builder.Ghosts S H) (h : hasher.Ghosts H) (eq : K → K → Bool) (writes : K → HashWrites) (w : State K V S D T A) → IsEquivalence eq → ((j k : K) → IsTrue (eq j k) → writes j ≡ writes k)
+pub world-agrees : {K V S H D T A : Type 0} (d : deed.Ghosts D K V T) (b : builder.Ghosts S H) (h : hasher.Ghosts H)
+    (eq : K → K → Bool) (writes : K → HashWrites) (w : State K V S D T A) → IsEquivalence eq
+    → ((j k : K) → IsTrue (eq j k) → writes j ≡ writes k)
     → Sound (setup_of d b h eq writes w) w → AgreesWithBlocks d b h eq writes w
 world-agrees d b h eq writes w lawful respects sound =
     agrees (setup_of d b h eq writes w) (setup-laws d b h eq writes w lawful respects) w sound
@@ -48,16 +53,21 @@ world-agrees d b h eq writes w lawful respects sound =
 one_hold : (hs : List Hold) (h : Hold) → hs ≡ h ∷ [] → length hs ≡ 1
 one_hold hs h is = ap length is
 
-module _ {K V D T A : Type 0} (x : Setup K V D T) (threads : List ℕ) (bs : List (Block K)) (tables : List (ShardPairs K V)) (t : ℕ) (p : Place K V D T A) where
+module _ {K V D T A : Type 0} (x : Setup K V D T) (threads : List ℕ) (bs : List (Block K))
+    (tables : List (ShardPairs K V)) (t : ℕ) (p : Place K V D T A) where
   -- a guard's thread holds its shard
-  guard_holds : (n : ℕ) (g : Guard K) (session block : Option ℕ) → p.guard ≡ Some g → IsInSession x bs tables t p n session block → length p.holds ≡ 1
+  guard_holds : (n : ℕ) (g : Guard K) (session block : Option ℕ) → p.guard ≡ Some g
+      → IsInSession x bs tables t p n session block → length p.holds ≡ 1
   guard_holds n g None block guarded h = absurd (none-some g (sym h.0 ∙ guarded))
   guard_holds n g (Some c) None guarded h = absurd (none-some g (sym h.0 ∙ guarded))
-  guard_holds n (guard.Pair kind) (Some c) (Some i) guarded h = let g = rw guarded at h.guard in one_hold p.holds g.2.hold g.2.has
-  guard_holds n (guard.Vacant k) (Some c) (Some i) guarded h = let g = rw guarded at h.guard in one_hold p.holds g.1.hold g.1.has
+  guard_holds n (guard.Pair kind) (Some c) (Some i) guarded h = let g = rw guarded at h.guard in one_hold p.holds
+      g.2.hold g.2.has
+  guard_holds n (guard.Vacant k) (Some c) (Some i) guarded h = let g = rw guarded at h.guard in one_hold p.holds
+      g.1.hold g.1.has
 
   -- between two calls, and before an answer, a thread holds where it has a guard
-  by_guard : (n : ℕ) (session block : Option ℕ) (g : Option (Guard K)) → p.guard ≡ g → HoldsByGuard p → IsInSession x bs tables t p n session block → length p.holds ≡ (if is_some g then 1 else 0)
+  by_guard : (n : ℕ) (session block : Option ℕ) (g : Option (Guard K)) → p.guard ≡ g → HoldsByGuard p
+      → IsInSession x bs tables t p n session block → length p.holds ≡ (if is_some g then 1 else 0)
   by_guard n session block None is free ready = ap length (free is)
   by_guard n session block (Some g) is free ready = guard_holds n g session block is ready
 
@@ -66,7 +76,8 @@ module _ {K V D T A : Type 0} (x : Setup K V D T) (threads : List ℕ) (bs : Lis
   kept mode true c = one_hold p.holds c.0 c.1
   kept mode false c = ap length c
 
-  between : (mode : Mode) (b : Bool) → MatchBool b (HoldsShard p mode) (p.holds ≡ []) → length p.holds ≡ (if b then 1 else 0)
+  between : (mode : Mode) (b : Bool) → MatchBool b (HoldsShard p mode) (p.holds ≡ [])
+      → length p.holds ≡ (if b then 1 else 0)
   between mode true c = one_hold p.holds c.hold c.has
   between mode false c = ap length c
 
@@ -93,5 +104,6 @@ module _ {K V D T A : Type 0} (x : Setup K V D T) (threads : List ℕ) (bs : Lis
   by_claim (phase.Release r) c = one_hold p.holds c.1 c.3
   by_claim (phase.Answer r) c = by_guard (p.next + 1) _ _ p.guard refl c.2 c.4
 
-pub hold_by_phase : {K V S D T A : Type 0} (x : Setup K V D T) (w : State K V S D T A) → Sound x w → HoldByPhase w.places
+pub hold_by_phase : {K V S D T A : Type 0} (x : Setup K V D T) (w : State K V S D T A) → Sound x w
+    → HoldByPhase w.places
 hold_by_phase x w sound t p at = by_claim x (threads_of w) w.blocks w.tables t p p.phase (sound.stands t p at).claim

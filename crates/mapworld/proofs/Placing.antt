@@ -10,7 +10,8 @@ use Rattle.mapworld_state.specs.Places.{Place, place_of}
 use Rattle.mapworld_state.specs.declared.place.Place.{Place as KeptPlace}
 use Rattle.mapworld.specs.Beginning.{at_start, AreAtStart, AreEmpty, HasLists, HaveLists}
 
-pub AreEmpty-push : {K V : Type 0} (tables tables' : List (Table K V)) (table : Table K V) → AreEmpty tables → table.slots ≡ [] → tables' ≡ tables ++ table ∷ [] → AreEmpty tables'
+pub AreEmpty-push : {K V : Type 0} (tables tables' : List (Table K V)) (table : Table K V) → AreEmpty tables
+    → table.slots ≡ [] → tables' ≡ tables ++ table ∷ [] → AreEmpty tables'
 AreEmpty-push {K} {V} tables tables' table empty none more i t at =
     elim (slice_get-push_cases tables i t table (ap (λ (ts : List (Table K V)). slice_get ts i) (sym more) ∙ at)) [
       | inl old ↦ empty i t old
@@ -18,16 +19,21 @@ AreEmpty-push {K} {V} tables tables' table empty none more i t at =
     ]
 
 module _ {K V D T A : Type 0} where
-  pub AreAtStart-none : (places : List (KeptPlace K V D T A)) → places ≡ [] → AreAtStart {K = K} {V = V} {D = D} {T = T} {A = A} [] (map place_of places)
+  pub AreAtStart-none : (places : List (KeptPlace K V D T A)) → places ≡ []
+      → AreAtStart {K = K} {V = V} {D = D} {T = T} {A = A} [] (map place_of places)
   AreAtStart-none places none =
-      subst (λ (ps : List (KeptPlace K V D T A)). AreAtStart [] (map place_of ps)) (sym none) (record { programs_are = refl; each = λ t p at. absurd (none-some p at) })
+      subst (λ (ps : List (KeptPlace K V D T A)). AreAtStart [] (map place_of ps)) (sym none)
+      (record { programs_are = refl; each = λ t p at. absurd (none-some p at) })
 
-  pub AreAtStart-push : (programs programs' : List (Vec (Ask K V D) A)) (places places' : List (KeptPlace K V D T A)) (program : Vec (Ask K V D) A) (place : KeptPlace K V D T A)
-      → AreAtStart (map (λ v. v.items) programs) (map place_of places) → place_of place ≡ at_start program.items → programs' ≡ programs ++ program ∷ [] → places' ≡ places ++ place ∷ []
+  pub AreAtStart-push : (programs programs' : List (Vec (Ask K V D) A)) (places places' : List (KeptPlace K V D T A))
+      (program : Vec (Ask K V D) A) (place : KeptPlace K V D T A)
+      → AreAtStart (map (λ v. v.items) programs) (map place_of places) → place_of place ≡ at_start program.items
+      → programs' ≡ programs ++ program ∷ [] → places' ≡ places ++ place ∷ []
       → AreAtStart (map (λ v. v.items) programs') (map place_of places')
   AreAtStart-push programs programs' places places' program place start begins more added =
       let seen : map place_of places' ≡ map place_of places ++ at_start program.items ∷ [] =
-      ap (λ ps. map place_of ps) added ∙ (map_push place_of places place ∙ ap (λ (p : Place K V D T A). map place_of places ++ p ∷ []) begins) in
+      ap (λ ps. map place_of ps) added ∙ (map_push place_of places place
+      ∙ ap (λ (p : Place K V D T A). map place_of places ++ p ∷ []) begins) in
       record {
         programs_are =
             ap (λ (ps : List (Place K V D T A)). map (λ (p : Place K V D T A). p.asks) ps) seen
@@ -36,18 +42,23 @@ module _ {K V D T A : Type 0} where
             ∙ (sym (map_push (λ (v : Vec (Ask K V D) A). v.items) programs program)
             ∙ sym (ap (λ ps. map (λ (v : Vec (Ask K V D) A). v.items) ps) more))));
         each = λ t p at.
-            elim (slice_get-push_cases (map place_of places) t p (at_start program.items) (ap (λ (ps : List (Place K V D T A)). slice_get ps t) (sym seen) ∙ at)) [
+            elim (slice_get-push_cases (map place_of places) t p (at_start program.items)
+            (ap (λ (ps : List (Place K V D T A)). slice_get ps t) (sym seen) ∙ at)) [
               | inl old ↦ start.each t p old
-              | inr new ↦ new.1 ∙ ap (λ (l : List (Ask K V D)). at_start l) (ap (λ (q : Place K V D T A). q.asks) (sym new.1))
+              | inr new ↦ new.1 ∙ ap (λ (l : List (Ask K V D)). at_start l)
+                  (ap (λ (q : Place K V D T A). q.asks) (sym new.1))
             ];
       }
 
   pub HaveLists-none : (shards : ℕ) (places : List (KeptPlace K V D T A)) → places ≡ [] → HaveLists shards places
-  HaveLists-none shards places none t p at = absurd (none-some p (sym (ap (λ (ps : List (KeptPlace K V D T A)). slice_get ps t) none) ∙ at))
+  HaveLists-none shards places none t p at = absurd
+      (none-some p (sym (ap (λ (ps : List (KeptPlace K V D T A)). slice_get ps t) none) ∙ at))
 
-  pub HaveLists-push : (shards : ℕ) (places places' : List (KeptPlace K V D T A)) (place : KeptPlace K V D T A) → HaveLists shards places → HasLists shards place → places' ≡ places ++ place ∷ [] → HaveLists shards places'
+  pub HaveLists-push : (shards : ℕ) (places places' : List (KeptPlace K V D T A)) (place : KeptPlace K V D T A)
+      → HaveLists shards places → HasLists shards place → places' ≡ places ++ place ∷ [] → HaveLists shards places'
   HaveLists-push shards places places' place have has added t p at =
-      elim (slice_get-push_cases places t p place (ap (λ (ps : List (KeptPlace K V D T A)). slice_get ps t) (sym added) ∙ at)) [
+      elim (slice_get-push_cases places t p place (ap (λ (ps : List (KeptPlace K V D T A)). slice_get ps t)
+      (sym added) ∙ at)) [
         | inl old ↦ have t p old
         | inr new ↦ subst (λ (q : KeptPlace K V D T A). HasLists shards q) (sym new.1) has
       ]

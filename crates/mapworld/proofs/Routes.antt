@@ -11,10 +11,12 @@ use Rattle.mapworld_state.specs.Route.{IsWorldAmount, key_route}
 pub IsShardAmount-of : (n : ℕ) → IsWorldAmount n → IsShardAmount n
 IsShardAmount-of n amount = (amount.0, amount.1, omega (arith, amount.2))
 
-module _ {K S H : Type 0} (b : builder.Ghosts S H) (h : hasher.Ghosts H) (input : K → HashWrites) (hasher : S) (shards : ℕ) where
+module _ {K S H : Type 0} (b : builder.Ghosts S H) (h : hasher.Ghosts H) (input : K → HashWrites) (hasher : S)
+    (shards : ℕ) where
   pub key_route-below : IsWorldAmount shards → (k : K) → key_route b h input hasher shards k < shards
   key_route-below amount k = route_of-below (hash_of b h hasher (input k)) shards (IsShardAmount-of shards amount)
 
   -- keys that write alike have one route
-  pub key_route-equal : (eq : K → K → Bool) → ((j k : K) → IsTrue (eq j k) → input j ≡ input k) → (j k : K) → IsTrue (eq j k) → key_route b h input hasher shards j ≡ key_route b h input hasher shards k
+  pub key_route-equal : (eq : K → K → Bool) → ((j k : K) → IsTrue (eq j k) → input j ≡ input k) → (j k : K)
+      → IsTrue (eq j k) → key_route b h input hasher shards j ≡ key_route b h input hasher shards k
   key_route-equal eq respects j k e = ap (λ writes. route_of (hash_of b h hasher writes) shards) (respects j k e)

@@ -1,5 +1,5 @@
 -- A thread is asleep where it is before an admission and waits for its shard's lock, and finished where all its calls are answered.
-use Rattle.std.proofs.Common.{◌≡◌, ◌↔◌, ◌⊎◌, ℕ, ◌+◌, ◌-◌, ◌≤◌, inl, inr, Bool, true, false, if◌then◌else◌, List, length, drop, Option, Some, None, slice_get, refl, ap, sym, ◌∙◌, subst, ◌==◌, arith, length-drop}
+use Rattle.std.proofs.Common.{◌≡◌, ◌↔◌, ℕ, ◌+◌, ◌-◌, ◌≤◌, inl, inr, Bool, true, false, if◌then◌else◌, List, length, drop, Option, Some, None, slice_get, refl, ap, sym, ◌∙◌, subst, ◌==◌, arith, length-drop}
 use Rattle.std.specs.Option.{option_map}
 use Rattle.std.proofs.lemmas.Option.{none-some, same_Some, slice_get_within}
 use Rattle.std.proofs.lemmas.Bool.{cond-true, eqb-true}
@@ -36,7 +36,8 @@ may_sleep true h = refl
 may_sleep false h = cc
 
 module _ {K V D T A : Type 0} (locks : Shown) (t left : ℕ) where
-  sleeps_before : (f : Phase K V D T A) → status_before locks t left f ≡ status.Asleep → is_asleep (state locks.rows) t ≡ true
+  sleeps_before : (f : Phase K V D T A) → status_before locks t left f ≡ status.Asleep
+      → is_asleep (state locks.rows) t ≡ true
   sleeps_before phase.Rest h = absurd (never (left == 0) h)
   sleeps_before (phase.Admit r) h = may_sleep (is_asleep (state locks.rows) t) h
   sleeps_before (phase.Idle f) h = may_sleep (is_asleep (state locks.rows) t) h
@@ -60,22 +61,28 @@ module _ {K V D T A : Type 0} (locks : Shown) (t left : ℕ) where
   sleeps_before (phase.Release a) h = cc
 
   -- and a sleeper that is before an admission is asleep
-  sleeps_there : (f : Phase K V D T A) → IsAsking f → is_asleep (state locks.rows) t ≡ true → status_before locks t left f ≡ status.Asleep
-  sleeps_there f (inl (r, is)) h = ap (status_before locks t left) is ∙ cond-true (is_asleep (state locks.rows) t) status.Asleep status.Running h
-  sleeps_there f (inr (g, is)) h = ap (status_before locks t left) is ∙ cond-true (is_asleep (state locks.rows) t) status.Asleep status.Running h
+  sleeps_there : (f : Phase K V D T A) → IsAsking f → is_asleep (state locks.rows) t ≡ true
+      → status_before locks t left f ≡ status.Asleep
+  sleeps_there f (inl (r, is)) h = ap (status_before locks t left) is
+      ∙ cond-true (is_asleep (state locks.rows) t) status.Asleep status.Running h
+  sleeps_there f (inr (g, is)) h = ap (status_before locks t left) is
+      ∙ cond-true (is_asleep (state locks.rows) t) status.Asleep status.Running h
 
-stands_there : {K V D T A : Type 0} (locks : Shown) (t : ℕ) (o : Option (Place K V D T A)) → status_at locks t o ≡ status.Asleep
+stands_there : {K V D T A : Type 0} (locks : Shown) (t : ℕ) (o : Option (Place K V D T A))
+    → status_at locks t o ≡ status.Asleep
     → (p : Place K V D T A) × (o ≡ Some p) × (is_asleep (state locks.rows) t ≡ true)
 stands_there locks t None h = cc
 stands_there locks t (Some p) h = (p, refl, sleeps_before locks t (length p.asks) p.phase h)
 
-module _ {K V S D T A : Type 0} (x : Setup K V D T) (w : State K V S D T A) (sound : Sound x w) (fit : LocksFit w.locks) (lists : QueuesAreWaiters) (t : ℕ) where
+module _ {K V S D T A : Type 0} (x : Setup K V D T) (w : State K V S D T A) (sound : Sound x w)
+    (fit : LocksFit w.locks) (lists : QueuesAreWaiters) (t : ℕ) where
   -- how a sleeper stands at the lock
   stand : (b : Sleeper w.locks t) → stand_in w.locks t ≡ Some (stand_of b.call)
   stand b = ap (option_map stand_of) b.there
 
   -- one that sleeps is before an admission to its own shard: what is owed to a lock never sleeps
-  asks_by : (p : Place K V D T A) (b : Sleeper w.locks t) (f : Phase K V D T A) → StandsBefore p f (Some (stand_of b.call)) → IsAsking f × (b.call.lock ≡ p.shard)
+  asks_by : (p : Place K V D T A) (b : Sleeper w.locks t) (f : Phase K V D T A)
+      → StandsBefore p f (Some (stand_of b.call)) → IsAsking f × (b.call.lock ≡ p.shard)
   asks_by p b (phase.Admit r) h = (inl (r, refl), ap (λ (st : Stand). st.shard) (same_Some (stand_of b.call) _ h.is))
   asks_by p b (phase.Reach f) h = (inr (f, refl), ap (λ (st : Stand). st.shard) (same_Some (stand_of b.call) _ h.is))
   asks_by p b (phase.Visit f) h = absurd (subst (λ (aim : Aim). MayOwe p b.call.lock aim) b.aim_is h)
@@ -102,7 +109,8 @@ module _ {K V S D T A : Type 0} (x : Setup K V D T) (w : State K V S D T A) (sou
   asleep_there h =
       let a = stands_there w.locks t (slice_get w.places t) h in
       let b = sleeper lists w.locks fit t a.2 in
-      let asks = asks_by a.0 b a.0.phase (subst (λ (o : Option Stand). StandsBefore a.0 a.0.phase o) (stand b) (sound.holds.stands t a.0 a.1)) in
+      let asks = asks_by a.0 b a.0.phase (subst (λ (o : Option Stand). StandsBefore a.0 a.0.phase o) (stand b)
+      (sound.holds.stands t a.0 a.1)) in
       record {
         place = a.0;
         stands = a.1;
@@ -113,7 +121,8 @@ module _ {K V S D T A : Type 0} (x : Setup K V D T) (w : State K V S D T A) (sou
 
   asleep_back : IsAsleep w t → status_of w t ≡ status.Asleep
   asleep_back a =
-      ap (λ o. status_at w.locks t o) a.stands ∙ sleeps_there w.locks t (length a.place.asks) a.place.phase a.asks a.sleeps
+      ap (λ o. status_at w.locks t o) a.stands ∙ sleeps_there w.locks t (length a.place.asks) a.place.phase a.asks
+      a.sleeps
 
   pub status-asleep : (r : Status) → r ≡ status_of w t → (r ≡ status.Asleep) ↔ IsAsleep w t
   status-asleep r is = (λ h. asleep_there (sym is ∙ h), λ h. is ∙ asleep_back h)
@@ -162,7 +171,8 @@ rests_at_the_end : (b : Bool) (next n : ℕ) → (if b then next else next + 1) 
 rests_at_the_end true next n within same = refl
 rests_at_the_end false next n within same = absurd (omega (arith, within, same))
 
-taken_at_rest : {X : Type 0} (b : Bool) (next : ℕ) (xs : List X) → b ≡ true → length (drop (if b then next else next + 1) xs) ≡ length xs - next
+taken_at_rest : {X : Type 0} (b : Bool) (next : ℕ) (xs : List X) → b ≡ true
+    → length (drop (if b then next else next + 1) xs) ≡ length xs - next
 taken_at_rest true next xs h = length-drop next xs
 taken_at_rest false next xs h = cc
 
@@ -170,7 +180,8 @@ rests_within : (b : Bool) (next n : ℕ) → b ≡ true → (if b then next else
 rests_within true next n h within = within
 rests_within false next n h within = cc
 
-module _ {K V S D T A : Type 0} (x : Setup K V D T) (w : State K V S D T A) (sound : Sound x w) (same : x.programs ≡ w.programs) (t : ℕ)
+module _ {K V S D T A : Type 0} (x : Setup K V D T) (w : State K V S D T A) (sound : Sound x w)
+    (same : x.programs ≡ w.programs) (t : ℕ)
     (p : Place K V D T A) (at : slice_get w.places t ≡ Some p) where
   status_there : status_of w t ≡ status_before w.locks t (length p.asks) p.phase
   status_there = ap (λ o. status_at w.locks t o) at
@@ -189,16 +200,19 @@ module _ {K V S D T A : Type 0} (x : Setup K V D T) (w : State K V S D T A) (sou
   finished_back : IsFinished w t → status_of w t ≡ status.Finished
   finished_back f =
       let st = sound.stands t p at in
-      let count : p.next ≡ length st.program = st.answered ∙ f st.program (ap (λ ps. slice_get ps t) (sym same) ∙ st.has) in
+      let count : p.next ≡ length st.program = st.answered
+      ∙ f st.program (ap (λ ps. slice_get ps t) (sym same) ∙ st.has) in
       let rests = rests_at_the_end (is_resting p.phase) p.next (length st.program) st.within count in
       let left = ap length st.asks_left ∙ taken_at_rest (is_resting p.phase) p.next st.program rests in
-      status_there ∙ over_at_rest (is_asleep (state w.locks.rows) t) (length p.asks) (class_of p.phase) rests (omega (arith, left, count))
+      status_there ∙ over_at_rest (is_asleep (state w.locks.rows) t) (length p.asks) (class_of p.phase) rests
+      (omega (arith, left, count))
 
   pub status-finished : (r : Status) → r ≡ status_of w t → (r ≡ status.Finished) ↔ IsFinished w t
   status-finished r is = (λ h. finished_there (sym is ∙ h), λ h. is ∙ finished_back h)
 
 -- and a thread that the world doesn't have is finished, and has no program
-module _ {K V S D T A : Type 0} (x : Setup K V D T) (w : State K V S D T A) (sound : Sound x w) (same : x.programs ≡ w.programs) (long : length w.places ≡ length w.programs) (t : ℕ) where
+module _ {K V S D T A : Type 0} (x : Setup K V D T) (w : State K V S D T A) (sound : Sound x w)
+    (same : x.programs ≡ w.programs) (long : length w.places ≡ length w.programs) (t : ℕ) where
   no_program : slice_get w.places t ≡ None → (program : List (Ask K V D)) → slice_get w.programs t ≡ Some program → ⊥
   no_program none program has =
       let within = slice_get_within w.programs t program has in

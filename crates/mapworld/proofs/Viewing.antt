@@ -16,21 +16,25 @@ use Rattle.dashmap_table.proofs.Cases.{option_cases}
 use Rattle.mapworld.proofs.Joins.{AreDistinct-joined, pair_of-joined}
 
 -- the pairs of all shards are those that contracts see
-pub seen-pairs : {K V : Type 0} (tables : List (Table K V)) → all_pairs tables ≡ flat_map (λ (t : ShardPairs K V). t.items) (map shard_pairs tables)
+pub seen-pairs : {K V : Type 0} (tables : List (Table K V))
+    → all_pairs tables ≡ flat_map (λ (t : ShardPairs K V). t.items) (map shard_pairs tables)
 seen-pairs {K} {V} tables = sym (flat_map-map (λ (t : ShardPairs K V). t.items) shard_pairs tables)
 
 -- a mapped list's elements
-pub map_at : {X Y : Type 0} (f : X → Y) (xs : List X) (i : ℕ) (y : Y) → slice_get (map f xs) i ≡ Some y → (x : X) × (slice_get xs i ≡ Some x) × (f x ≡ y)
+pub map_at : {X Y : Type 0} (f : X → Y) (xs : List X) (i : ℕ) (y : Y) → slice_get (map f xs) i ≡ Some y → (x : X)
+    × (slice_get xs i ≡ Some x) × (f x ≡ y)
 map_at f xs i y at = elim (option_cases (slice_get xs i)) [
   | inl none ↦ absurd (none-some y (sym (slice_get-map f xs i ∙ ap (λ o. option_map f o) none) ∙ at))
   | inr some ↦
       (some.0, some.1, same_Some (f some.0) y (sym (slice_get-map f xs i ∙ ap (λ o. option_map f o) some.1) ∙ at))
 ]
 
-pub map_to : {X Y : Type 0} (f : X → Y) (xs : List X) (i : ℕ) (x : X) → slice_get xs i ≡ Some x → slice_get (map f xs) i ≡ Some (f x)
+pub map_to : {X Y : Type 0} (f : X → Y) (xs : List X) (i : ℕ) (x : X) → slice_get xs i ≡ Some x
+    → slice_get (map f xs) i ≡ Some (f x)
 map_to f xs i x at = slice_get-map f xs i ∙ ap (λ o. option_map f o) at
 
-module _ {K V D T : Type 0} (x : Setup K V D T) (bs : List (Block K)) (tables : List (ShardPairs K V)) (laws : Laws x) (agree : TablesAgree x bs tables) where
+module _ {K V D T : Type 0} (x : Setup K V D T) (bs : List (Block K)) (tables : List (ShardPairs K V))
+    (laws : Laws x) (agree : TablesAgree x bs tables) where
   pairs_are : flat_map (λ (t : ShardPairs K V). t.items) tables ≡ joined (map (λ t. t.items) tables)
   pairs_are = sym (flat_map-map (λ (table : List (K × V)). table) (λ (t : ShardPairs K V). t.items) tables)
 
@@ -51,14 +55,18 @@ module _ {K V D T : Type 0} (x : Setup K V D T) (bs : List (Block K)) (tables : 
       (AreDistinct-joined x.eq laws.equivalence x.route (map (λ t. t.items) tables) laws.routes routed each)
 
   -- a key's pair is the one in its shard's table
-  pub pair_at_route : (q : K) (table : ShardPairs K V) → slice_get tables (x.route q) ≡ Some table → pair_of x.eq (flat_map (λ t. t.items) tables) q ≡ pair_of x.eq table.items q
+  pub pair_at_route : (q : K) (table : ShardPairs K V) → slice_get tables (x.route q) ≡ Some table
+      → pair_of x.eq (flat_map (λ t. t.items) tables) q ≡ pair_of x.eq table.items q
   pair_at_route q table at =
       ap (λ (l : List (K × V)). pair_of x.eq l q) pairs_are
       ∙ (pair_of-joined x.eq laws.equivalence x.route (map (λ t. t.items) tables) laws.routes routed each q
-      ∙ ap (λ (o : Option (List (K × V))). option_and_then (λ ps. pair_of x.eq ps q) o) (map_to (λ (t : ShardPairs K V). t.items) tables (x.route q) table at))
+      ∙ ap (λ (o : Option (List (K × V))). option_and_then (λ ps. pair_of x.eq ps q) o)
+      (map_to (λ (t : ShardPairs K V). t.items) tables (x.route q) table at))
 
   -- what was found in the table of the key's shard is found among all pairs
-  pub pair_in_shard : (q : K) (shard : ℕ) (table : ShardPairs K V) (ps : List (K × V)) (o : Option (K × V)) → shard ≡ x.route q → slice_get tables shard ≡ Some table → ps ≡ table.items → o ≡ pair_of x.eq ps q → o ≡ pair_of x.eq (flat_map (λ t. t.items) tables) q
+  pub pair_in_shard : (q : K) (shard : ℕ) (table : ShardPairs K V) (ps : List (K × V)) (o : Option (K × V))
+      → shard ≡ x.route q → slice_get tables shard ≡ Some table → ps ≡ table.items → o ≡ pair_of x.eq ps q
+      → o ≡ pair_of x.eq (flat_map (λ t. t.items) tables) q
   pair_in_shard q shard table ps o route at same is =
       is
       ∙ (ap (λ (l : List (K × V)). pair_of x.eq l q) same

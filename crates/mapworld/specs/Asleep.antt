@@ -17,7 +17,8 @@ use Rattle.mapworld_state.specs.State.{State}
 -- The thread stands in one of the shard's two queues, and once; or it was taken from there by a thread that is still to wake it.
 abbrev pub IsWaiting : Shown → ℕ → ℕ → Type 0
 IsWaiting locks t shard =
-    (occurs t (queue_at (state locks.rows) (first_key shard)) + occurs t (queue_at (state locks.rows) (second_key shard)) ≡ 1)
+    (occurs t (queue_at (state locks.rows) (first_key shard)) + occurs t
+    (queue_at (state locks.rows) (second_key shard)) ≡ 1)
     ⊎ ((by : ℕ) × IsOwed locks.rows.wakes by t)
 
 -- it is before an admission, of a call on one key or of a walk
@@ -34,4 +35,5 @@ pub record IsAsleep {K V S D T A : Type 0} (w : State K V S D T A) (t : ℕ) : T
 
 -- all calls of the thread's program are answered; a thread that the world doesn't have has none
 abbrev pub IsFinished : {K V S D T A : Type 0} → State K V S D T A → ℕ → Type 0
-IsFinished {K} {V} {S} {D} w t = (program : List (Ask K V D)) → slice_get w.programs t ≡ Some program → answered_of w.replies t ≡ length program
+IsFinished {K} {V} {S} {D} w t = (program : List (Ask K V D)) → slice_get w.programs t ≡ Some program
+    → answered_of w.replies t ≡ length program

@@ -29,15 +29,19 @@ at_start asks = record {
 }
 
 -- each program has a thread, which is before its first call
-pub record AreAtStart {K V D T A : Type 0} (programs : List (List (Ask K V D))) (places : List (Place K V D T A)) : Type 0 where
+pub record AreAtStart {K V D T A : Type 0} (programs : List (List (Ask K V D)))
+    (places : List (Place K V D T A)) : Type 0 where
   pub programs_are : map (λ p. p.asks) places ≡ programs
   pub each : (t : ℕ) (p : Place K V D T A) → slice_get places t ≡ Some p → p ≡ at_start p.asks
 
 -- the tables have the opening pairs, each in its shard's table
-pub record AreFilled {K V : Type 0} (eq : K → K → Bool) (route : K → ℕ) (pairs : List (K × V)) (tables : List (ShardPairs K V)) : Type 0 where
-  pub routed : (i j : ℕ) (table : ShardPairs K V) (p : K × V) → slice_get tables i ≡ Some table → slice_get table.items j ≡ Some p → route p.0 ≡ i
+pub record AreFilled {K V : Type 0} (eq : K → K → Bool) (route : K → ℕ) (pairs : List (K × V))
+    (tables : List (ShardPairs K V)) : Type 0 where
+  pub routed : (i j : ℕ) (table : ShardPairs K V) (p : K × V) → slice_get tables i ≡ Some table
+      → slice_get table.items j ≡ Some p → route p.0 ≡ i
   pub distinct : (i : ℕ) (table : ShardPairs K V) → slice_get tables i ≡ Some table → AreDistinct eq table.items
-  pub contents_are : (q : K) (table : ShardPairs K V) → slice_get tables (route q) ≡ Some table → pair_of eq table.items q ≡ opening_pair eq pairs q
+  pub contents_are : (q : K) (table : ShardPairs K V) → slice_get tables (route q) ≡ Some table
+      → pair_of eq table.items q ≡ opening_pair eq pairs q
 
 -- how many pairs all tables have
 abbrev pub pairs_in : {K V : Type 0} → List (ShardPairs K V) → ℕ
@@ -57,4 +61,5 @@ pub record HasLists {K V D T A : Type 0} (shards : ℕ) (p : KeptPlace K V D T A
   pub lists : sum_by ask_lists p.asks.items ≤ length p.lists.items
 
 abbrev pub HaveLists : {K V D T A : Type 0} → ℕ → List (KeptPlace K V D T A) → Type 0
-HaveLists {K} {V} {D} {T} {A} shards places = (t : ℕ) (p : KeptPlace K V D T A) → slice_get places t ≡ Some p → HasLists shards p
+HaveLists {K} {V} {D} {T} {A} shards places = (t : ℕ) (p : KeptPlace K V D T A) → slice_get places t ≡ Some p
+    → HasLists shards p

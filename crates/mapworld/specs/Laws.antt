@@ -1,33 +1,19 @@
 -- Laws of a world's steps.
-use Rattle.std.specs.Prelude.{◌≡◌, Some, None, slice_get}
+use Rattle.std.specs.Prelude.{◌≡◌, Some, slice_get}
 use Rattle.mapworld_calls.specs.declared.ask.Keyed.TheVariants as keyed
 use Rattle.mapworld_calls.specs.Pairs.{pair_of}
-use Rattle.mapworld_calls.specs.Setup.{Setup, Laws}
-use Rattle.mapworld_state.specs.Locks.Fits.{LocksFit}
+use Rattle.mapworld_calls.specs.Setup.{Setup}
 use Rattle.mapworld_state.specs.declared.place.Phase.TheVariants as phase
 use Rattle.mapworld_state.specs.declared.place.Request.TheVariants as request
 use Rattle.mapworld_state.specs.declared.step.Step.{Step}
-use Rattle.mapworld_state.specs.Footprint.{HasFootprint}
-use Rattle.mapworld_state.specs.Moves.{growth_key}
 use Rattle.mapworld_state.specs.Places.{Place}
-use Rattle.mapworld_state.specs.Sound.{Sound}
-use Rattle.mapworld_state.specs.State.{State, pairs_of}
-use Rattle.mapworld_state.specs.Steps.{Finds, GrowsShard, IsRefusedGrowth, IsStep}
-
--- a step of any kind reaches no more than its footprint
-abbrev pub StepsHaveFootprints : (K V S D T A : Type 0) → Type 0
-StepsHaveFootprints K V S D T A =
-    (x : Setup K V D T) → Laws x → (w : State K V S D T A) (s : Step) (w' : State K V S D T A) → Sound x w → LocksFit w.locks → IsStep x w s w' → HasFootprint x.eq w s w'
+use Rattle.mapworld_state.specs.State.{State}
+use Rattle.mapworld_state.specs.Steps.{Finds}
 
 -- an insertion whose look finds the key's pair goes on to its deed, and to nothing before it
 abbrev pub FoundInsertsAreApplied : (K V S D T A : Type 0) → Type 0
 FoundInsertsAreApplied K V S D T A =
-    (x : Setup K V D T) (w : State K V S D T A) (s : Step) (w' : State K V S D T A) (f : Finds x w s w') (k : K) (v : V) (pair : K × V)
+    (x : Setup K V D T) (w : State K V S D T A) (s : Step) (w' : State K V S D T A) (f : Finds x w s w') (k : K)
+    (v : V) (pair : K × V)
     → f.request ≡ request.Keyed (keyed.Insert k v) → pair_of x.eq f.table.items k ≡ Some pair
     → (p : Place K V D T A) × (slice_get w'.places s.thread ≡ Some p) × (p.phase ≡ phase.Apply (keyed.Insert k v))
-
--- where a shard has to grow, and where that is refused, the map has no pair of the call's key
-abbrev pub GrowthsAreForNewKeys : (K V S D T A : Type 0) → Type 0
-GrowthsAreForNewKeys K V S D T A =
-    (x : Setup K V D T) → Laws x → (w : State K V S D T A) (s : Step) (w' : State K V S D T A) → Sound x w
-    → ((g : GrowsShard x w s w') → pair_of x.eq (pairs_of w) (growth_key g.call) ≡ None) × ((g : IsRefusedGrowth x w s w') → pair_of x.eq (pairs_of w) (growth_key g.call) ≡ None)

@@ -6,3 +6,9 @@ pub mod Views
 pub mod Beginning
 pub mod Laws
 pub mod Drained
+pub mod Reachable
+pub mod ReachableLaws
+pub mod Atomic
+pub mod History
+pub mod Guarded
+pub mod Over

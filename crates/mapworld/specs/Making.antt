@@ -39,7 +39,8 @@ IsMadeUnless None made = IsOk made ⊎ (made ≡ Err fault.NoMemory)
 
 -- a new world has what it was made with, a thread for each program that is before the first of its calls, and a lock for each shard, which
 -- nobody holds or asks for; and nothing has happened in it
-pub record IsNew {K V S D T A : Type 0} (eq : K → K → Bool) (shards : ℕ) (hasher : S) (pairs : List (K × V)) (programs : List (List (Ask K V D))) (w : State K V S D T A) : Type 0 where
+pub record IsNew {K V S D T A : Type 0} (eq : K → K → Bool) (shards : ℕ) (hasher : S) (pairs : List (K × V))
+    (programs : List (List (Ask K V D))) (w : State K V S D T A) : Type 0 where
   pub hasher_is : w.hasher ≡ hasher
   pub shards_are : length w.tables ≡ shards
   pub opening : w.opening ≡ pairs

@@ -15,4 +15,5 @@ abbrev pub StopsFit : {K V D : Type 0} → List (Ask K V D) → Type 0
 StopsFit {K} {V} {D} program = (c : ℕ) (a : Ask K V D) → slice_get program c ≡ Some a → StopFits a
 
 abbrev pub AllStopsFit : {K V D : Type 0} → List (List (Ask K V D)) → Type 0
-AllStopsFit {K} {V} {D} programs = (t : ℕ) (program : List (Ask K V D)) → slice_get programs t ≡ Some program → StopsFit program
+AllStopsFit {K} {V} {D} programs = (t : ℕ) (program : List (Ask K V D)) → slice_get programs t ≡ Some program
+    → StopsFit program

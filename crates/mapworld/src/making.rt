@@ -2,23 +2,24 @@
 ghost use Rattle.std.specs.Prelude.{◌≡◌, ◌<◌, ◌≤◌, ◌^◌, length, map, sum_by, IfOk};
 ghost use Rattle.mapworld_calls.specs.Programs.{numbers_of};
 ghost use Rattle.mapworld.specs.Making.{new_refusal, IsNew};
-ghost use Rattle.mapworld_state.specs.Locks.Fits.{LocksFit};
+ghost use Rattle.mapworld.specs.Reachable.{CoreIsReachable};
+ghost use Rattle.mapworld.specs.Guarded.{GuardsAreOwners};
+ghost use Rattle.mapworld.specs.History.{history_of, HistoryAgrees, HistoryHasCauses, HistoryIsPlaced};
 ghost use Rattle.mapworld_state.specs.Locks.Fresh.{AreFresh};
-ghost use Rattle.mapworld_state.specs.World.{AgreesWithBlocks, HasPlacedBlocks};
-ghost use Rattle.mapworld_state.specs.Held.{HoldsMatch};
 ghost use Rattle.mapworld_progress.specs.Drains.{IsInTime};
-ghost use Rattle.mapworld_invariant.specs.Causes.World.{CoreHasCauses, TriesHaveCauses};
+ghost use Rattle.mapworld_state.specs.Invariant.Causes.World.{CoreHasCauses};
 ghost use Rattle.mapworld_state.specs.Core.{state_of, IsSoundCore, IsSlotted, Room};
 
 use crate::beginning::{empty_shards, fill, places_of};
+use crate::laws::desks_count_as_words;
 use crate::limits;
 use crate::stops::programs_fit;
 use dashmap_table::NoMemory;
+use mapworld_calls::past::Past;
 use mapworld_calls::{Ask, Deed};
 use mapworld_state::Core;
 use mapworld_state::locks::ShardLocks;
 use parking_lot_machine::laws::steps_are_few;
-use past::Past;
 use std::alloc::Allocator;
 use std::hash::{BuildHasher, Hash};
 use std::snapshot::Snapshot;
@@ -76,15 +77,16 @@ pub(crate) fn core_of<
     ensures sound { IfOk result (IsSoundCore D.Deed S.BuildHasher S.Hasher.Hasher K.eq K.hash_input) }
     ensures room { IfOk result Room }
     ensures slots { IfOk result (IsSlotted D.Deed S.BuildHasher S.Hasher.Hasher K.eq K.hash_input) }
-    ensures agrees { IfOk result (λ core. AgreesWithBlocks D.Deed S.BuildHasher S.Hasher.Hasher K.eq K.hash_input (state_of core)) }
-    ensures placed { IfOk result (λ core. HasPlacedBlocks D.Deed S.BuildHasher S.Hasher.Hasher K.eq K.hash_input (state_of core)) }
-    ensures held { IfOk result (λ core. HoldsMatch (state_of core).places (state_of core).locks) }
-    ensures fit { IfOk result (λ core. LocksFit (state_of core).locks) }
+    ensures agrees { IfOk result (λ core. HistoryAgrees D.Deed S.BuildHasher S.Hasher.Hasher K.eq K.hash_input (history_of (state_of core))) }
+    ensures placed { IfOk result (λ core. HistoryIsPlaced D.Deed S.BuildHasher S.Hasher.Hasher K.eq K.hash_input (history_of (state_of core))) }
+    ensures guards { IfOk result (λ core. GuardsAreOwners (state_of core).locks) }
     ensures time { IfOk result (IsInTime D.Deed S.BuildHasher S.Hasher.Hasher K.eq K.hash_input) }
     ensures causes { IfOk result (CoreHasCauses D.Deed S.BuildHasher S.Hasher.Hasher K.eq K.hash_input) }
-    ensures tries { IfOk result (λ core. TriesHaveCauses D.Deed S.BuildHasher S.Hasher.Hasher K.eq K.hash_input (state_of core)) }
+    ensures reachable { IfOk result (CoreIsReachable D.Deed S.BuildHasher S.Hasher.Hasher K.eq K.hash_input) }
+    ensures tries { IfOk result (λ core. HistoryHasCauses D.Deed S.BuildHasher S.Hasher.Hasher K.eq K.hash_input (history_of (state_of core))) }
 {
     steps_are_few();
+    desks_count_as_words();
     let opening = Snapshot::of(&pairs);
     let kept = Snapshot::of(&programs);
     programs_fit(&programs);

@@ -9,18 +9,21 @@ ghost use Rattle.mapworld.specs.Asleep.{IsAsleep, IsFinished};
 ghost use Rattle.mapworld.specs.Views.{shown};
 ghost use Rattle.mapworld.specs.Making.{new_refusal, IsMadeUnless, IsNew};
 ghost use Rattle.mapworld_state.specs.Steps.{IsStep};
-ghost use Rattle.mapworld_state.specs.World.{setup_of, AgreesWithBlocks, HasPlacedBlocks, OnlyAddsTo};
+ghost use Rattle.mapworld_state.specs.World.{setup_of};
 ghost use Rattle.mapworld_state.specs.Sound.{Sound};
 ghost use Rattle.parking_lot_machine.specs.Rows.{state, queue_at};
 ghost use Rattle.mapworld_state.specs.Locks.Fits.{LocksFit};
 ghost use Rattle.mapworld_state.specs.Footprint.{word_of};
-ghost use Rattle.mapworld_state.specs.Held.{HoldsMatch, HoldByPhase};
-ghost use Rattle.mapworld_progress.specs.Rest.{IsAtRest};
+ghost use Rattle.mapworld_state.specs.Held.{HoldByPhase};
 ghost use Rattle.mapworld.specs.Drained.{DrainedBy};
+ghost use Rattle.mapworld.specs.Guarded.{GuardsAreOwners};
+ghost use Rattle.mapworld.specs.History.{history_of, HistoryAddsTo, HistoryAgrees, HistoryHasCauses, HistoryIsPlaced, HistoryStaysFixed};
+ghost use Rattle.mapworld.specs.Over.{IsOver};
+ghost use Rattle.mapworld.specs.Reachable.{IsReachable};
 ghost use Rattle.mapworld_calls.specs.Placed.{OnlyAdds};
-ghost use Rattle.mapworld_invariant.specs.Causes.World.{TriesHaveCauses, TakenShardsAreUsed, NobodyWaitsAlone};
+ghost use Rattle.mapworld_state.specs.Invariant.Causes.World.{TakenShardsAreUsed, NobodyWaitsAlone};
 
-use crate::laws::{queues_are_waiters, steps_touch_one_lock};
+use crate::laws::{desks_count_as_words, queues_are_waiters, steps_touch_one_lock};
 use crate::{contents, counts, limits, making};
 use dashmap_table::NoMemory;
 use dashmap_view::ViewIter;
@@ -28,26 +31,26 @@ use mapworld_calls::{Ask, Block, Deed, Reply};
 use mapworld_state::faults::{RunFault, WorldNewFault};
 use mapworld_state::{Core, Status, Step};
 use mapworld_steps as steps;
-use parking_lot_machine::laws::steps_are_few;
+use parking_lot_machine::laws::{each_step_is_a_case, owners_agree, steps_are_few};
 use std::alloc::{Allocator, Global};
 use std::hash::{BuildHasher, Hash};
 use std::marker::Model;
 
 /// A world: some threads, each with a finite program of map calls, and the one map that serves them all.
 ///
-/// It is deterministic. Nothing in it moves by itself: [`run`](MapWorld::run) is told which thread makes each step, and
-/// the same world with the same steps ends the same. A step is small, as the start of a call, one access to the word of
-/// a shard's lock, one act in the section of a queue, a look for a key, one change of a pair or an answer, and it is
-/// done whole; so every order in which the steps of real threads may fall can be written as a list of steps, and looked
-/// at.
+/// Nothing in it moves by itself: [`run`](MapWorld::run) is told which thread makes each step. A step is small, as the
+/// start of a call, one access to the word of a shard's lock, one act in the section of a queue, a look for a key, one
+/// change of a pair or an answer, and it is done whole; so every order of these steps can be written as a list, and
+/// looked at. That threads which run take such steps no clause says.
 ///
 /// Each shard has a lock of a word and two queues, as the locks of running maps are: threads take it, wait for it in a
 /// queue, are handed it or woken to try again, step by step, and the [`word`](MapWorld::word) and the
 /// [`queue`](MapWorld::queue)s can be looked at between any two steps.
 ///
 /// Contracts see a world as a `State`: what it was made with, the steps so far, where each thread stands, the pairs of
-/// each shard, the locks of the shards, and the blocks and replies so far. `run` says of it that its replies and its
-/// contents are those of one plain map that takes the blocks in their order.
+/// each shard, the locks of the shards, and the blocks and replies so far. What callers can look at of it is its
+/// `History`, and `run` says that it is linearizable: replies and contents are those of one plain map that takes the
+/// blocks in their order, each of which stands at a step between the start of its call and the answer.
 ///
 /// `K` is a key, `V` a value, `S` makes the hasher that picks a key's shard, and `D` is what a program does with a pair
 /// that it is lent. The world keeps the allocator that it was made with, and takes all that it needs for its threads,
@@ -73,11 +76,12 @@ impl<K: Eq + Hash, V, S: BuildHasher, D: Deed<K, V>, A: Allocator> Model
 
     ghost use Rattle.mapworld_state.specs.Core.{state_of, IsSoundCore, IsSlotted, Room};
     ghost use Rattle.mapworld_progress.specs.Drains.{IsInTime};
-    ghost use Rattle.mapworld_invariant.specs.Causes.World.{CoreHasCauses};
+    ghost use Rattle.mapworld_state.specs.Invariant.Causes.World.{CoreHasCauses};
+    ghost use Rattle.mapworld.specs.Reachable.{CoreIsReachable};
 
     ghost view = { λ w. state_of w.core };
 
-    ghost invariant = { λ w. IsSoundCore D.Deed S.BuildHasher S.Hasher.Hasher K.eq K.hash_input w.core × Room w.core × IsSlotted D.Deed S.BuildHasher S.Hasher.Hasher K.eq K.hash_input w.core × IsInTime D.Deed S.BuildHasher S.Hasher.Hasher K.eq K.hash_input w.core × CoreHasCauses D.Deed S.BuildHasher S.Hasher.Hasher K.eq K.hash_input w.core };
+    ghost invariant = { λ w. IsSoundCore D.Deed S.BuildHasher S.Hasher.Hasher K.eq K.hash_input w.core × Room w.core × IsSlotted D.Deed S.BuildHasher S.Hasher.Hasher K.eq K.hash_input w.core × IsInTime D.Deed S.BuildHasher S.Hasher.Hasher K.eq K.hash_input w.core × CoreHasCauses D.Deed S.BuildHasher S.Hasher.Hasher K.eq K.hash_input w.core × CoreIsReachable D.Deed S.BuildHasher S.Hasher.Hasher K.eq K.hash_input w.core };
 }
 
 impl<K: Eq + Hash, V, S: BuildHasher, D: Deed<K, V>, A: Allocator> MapWorld<K, V, S, D, A> {
@@ -185,6 +189,13 @@ impl<K: Eq + Hash, V, S: BuildHasher, D: Deed<K, V>, A: Allocator> MapWorld<K, V
         self.core.locks.word(shard)
     }
 
+    /// A law, which does nothing when it runs: the state is reachable, so all laws of reachable states hold of it.
+    pub fn known(&self)
+        ensures { IsReachable D.Deed S.BuildHasher S.Hasher.Hasher K.eq K.hash_input self.now }
+    {
+        let _ = &self.core;
+    }
+
     /// How many steps are to be enough from here, by the world's size alone: its threads, shards and pairs, and the
     /// calls that aren't answered. It takes no memory and cannot fail.
     pub fn bound(&self) -> u64
@@ -266,11 +277,11 @@ where
             IsMadeUnless (new_refusal shards (length pairs.items) asked) result }
         ensures made { let asked = map (λ program. program.items) programs.items in
             IfOk result (λ world. IsNew K.eq shards hasher pairs.items asked world) }
-        ensures agrees { IfOk result (AgreesWithBlocks D.Deed S.BuildHasher S.Hasher.Hasher K.eq K.hash_input) }
-        ensures placed { IfOk result (HasPlacedBlocks D.Deed S.BuildHasher S.Hasher.Hasher K.eq K.hash_input) }
-        ensures held { IfOk result (λ world. HoldsMatch world.places world.locks) }
-        ensures fit { IfOk result (λ world. LocksFit world.locks) }
-        ensures causes { IfOk result (TriesHaveCauses D.Deed S.BuildHasher S.Hasher.Hasher K.eq K.hash_input) }
+        ensures agrees { IfOk result (λ world. HistoryAgrees D.Deed S.BuildHasher S.Hasher.Hasher K.eq K.hash_input (history_of world)) }
+        ensures placed { IfOk result (λ world. HistoryIsPlaced D.Deed S.BuildHasher S.Hasher.Hasher K.eq K.hash_input (history_of world)) }
+        ensures guards { IfOk result (λ world. GuardsAreOwners world.locks) }
+        ensures causes { IfOk result (λ world. HistoryHasCauses D.Deed S.BuildHasher S.Hasher.Hasher K.eq K.hash_input (history_of world)) }
+        ensures reachable { IfOk result (IsReachable D.Deed S.BuildHasher S.Hasher.Hasher K.eq K.hash_input) }
     {
         if let Some(fault) = limits::refusal(shards, pairs.len(), &programs) {
             return Err(fault);
@@ -300,6 +311,8 @@ where
             (λ fault. (self.new ≡ self.old) × (refusal self.old done step ≡ Some fault)) }
     {
         steps_are_few();
+        each_step_is_a_case();
+        owners_agree();
         self.core.locks.known();
         if step.thread >= self.core.places.len() {
             return Err(RunFault::NoSuchThread(done));
@@ -340,9 +353,10 @@ where
     ///
     /// Behind it, also behind an error, the replies and the contents are those of one plain map that takes the blocks
     /// in their order; each block stands at a step of its own thread between the start of its call and the answer; what
-    /// was listed and answered before is still there; and no two holds of a shard are at one time, unless both share
-    /// it. A try that was answered `Locked` had a cause: at some step of it a call of another thread was on its shard. A
-    /// word that isn't 0 and a thread that sleeps have one too: a call on that shard now, and of another thread.
+    /// was listed and answered before is still there. Each shard's guards are the owners of its lock, as its word counts
+    /// them, and none of them excludes another. A try that was answered `Locked` had a cause: at some step of it a call of
+    /// another thread was on its shard. A word that isn't 0 and a thread that sleeps have one too: a call on that shard
+    /// now, and of another thread.
     ///
     /// # Errors
     ///
@@ -368,26 +382,28 @@ where
         ensures ran { let setup = setup_of D.Deed S.BuildHasher S.Hasher.Hasher K.eq K.hash_input self.old in
             Ran setup 0 self.old (take (steps_done result (length steps.now)) steps.now) self.new }
         ensures refused { IfErr result (StopsAt self.new steps.now) }
-        ensures agrees { AgreesWithBlocks D.Deed S.BuildHasher S.Hasher.Hasher K.eq K.hash_input self.new }
-        ensures placed { HasPlacedBlocks D.Deed S.BuildHasher S.Hasher.Hasher K.eq K.hash_input self.new }
-        ensures adds { OnlyAddsTo self.old self.new }
-        ensures fixed { StaysFixed self.old self.new }
-        ensures held { HoldsMatch self.new.places self.new.locks }
+        ensures agrees { HistoryAgrees D.Deed S.BuildHasher S.Hasher.Hasher K.eq K.hash_input (history_of self.new) }
+        ensures placed { HistoryIsPlaced D.Deed S.BuildHasher S.Hasher.Hasher K.eq K.hash_input (history_of self.new) }
+        ensures adds { HistoryAddsTo (history_of self.old) (history_of self.new) }
+        ensures fixed { HistoryStaysFixed (history_of self.old) (history_of self.new) }
+        ensures guards { GuardsAreOwners self.new.locks }
         ensures by_phase { HoldByPhase self.new.places }
-        ensures fit { LocksFit self.new.locks }
-        ensures causes { TriesHaveCauses D.Deed S.BuildHasher S.Hasher.Hasher K.eq K.hash_input self.new }
+        ensures causes { HistoryHasCauses D.Deed S.BuildHasher S.Hasher.Hasher K.eq K.hash_input (history_of self.new) }
+        ensures reachable { IsReachable D.Deed S.BuildHasher S.Hasher.Hasher K.eq K.hash_input self.new }
         ensures used { TakenShardsAreUsed D.Deed S.BuildHasher S.Hasher.Hasher K.eq K.hash_input self.new }
         ensures waits { NobodyWaitsAlone D.Deed S.BuildHasher S.Hasher.Hasher K.eq K.hash_input self.new }
     {
+        desks_count_as_words();
         let result = self.make_steps(steps);
         self.core.locks.known();
         result
     }
 
-    /// Runs the world until every call is answered and every section left, and answers how many steps that took: each thread is
-    /// stepped on as far as it can go, never fair, and then the next, until nobody can move. There are fewer than the
-    /// [`bound`](MapWorld::bound) at the call, and nobody waits behind it: every word is 0, every queue is empty, no shard is held and no
-    /// guard is left.
+    /// Runs the world until every call is answered and every section left, and answers how many steps that took: threads that can
+    /// move are stepped, in an order of its own, until nobody can move. There are fewer than the
+    /// [`bound`](MapWorld::bound) at the call. Behind it each call of each program has its reply, every thread is finished, every word is 0
+    /// and every queue is empty; so no shard is held and no guard is left
+    /// ([`finished_worlds_are_at_rest`](crate::laws::finished_worlds_are_at_rest)).
     ///
     /// It is never refused, and goes on from whatever state a [`run`](MapWorld::run) has left, calls half done included. It takes memory only
     /// where a shard grows or shrinks, and for what a walk reads. A second one in a row has nothing left to do, and answers 0.
@@ -400,17 +416,20 @@ where
         ensures ran { let setup = setup_of D.Deed S.BuildHasher S.Hasher.Hasher K.eq K.hash_input self.old in
             DrainedBy setup self.old result self.new }
         ensures few { result < bound_of self.old }
-        ensures rest { IsAtRest self.new }
-        ensures agrees { AgreesWithBlocks D.Deed S.BuildHasher S.Hasher.Hasher K.eq K.hash_input self.new }
-        ensures placed { HasPlacedBlocks D.Deed S.BuildHasher S.Hasher.Hasher K.eq K.hash_input self.new }
-        ensures adds { OnlyAddsTo self.old self.new }
-        ensures fixed { StaysFixed self.old self.new }
-        ensures held { HoldsMatch self.new.places self.new.locks }
+        ensures rest { IsOver self.new }
+        ensures agrees { HistoryAgrees D.Deed S.BuildHasher S.Hasher.Hasher K.eq K.hash_input (history_of self.new) }
+        ensures placed { HistoryIsPlaced D.Deed S.BuildHasher S.Hasher.Hasher K.eq K.hash_input (history_of self.new) }
+        ensures adds { HistoryAddsTo (history_of self.old) (history_of self.new) }
+        ensures fixed { HistoryStaysFixed (history_of self.old) (history_of self.new) }
+        ensures guards { GuardsAreOwners self.new.locks }
         ensures by_phase { HoldByPhase self.new.places }
-        ensures fit { LocksFit self.new.locks }
-        ensures causes { TriesHaveCauses D.Deed S.BuildHasher S.Hasher.Hasher K.eq K.hash_input self.new }
+        ensures causes { HistoryHasCauses D.Deed S.BuildHasher S.Hasher.Hasher K.eq K.hash_input (history_of self.new) }
+        ensures reachable { IsReachable D.Deed S.BuildHasher S.Hasher.Hasher K.eq K.hash_input self.new }
     {
         steps_touch_one_lock();
+        each_step_is_a_case();
+        owners_agree();
+        desks_count_as_words();
         let steps = mapworld_progress::drain(&mut self.core);
         self.core.locks.known();
         steps

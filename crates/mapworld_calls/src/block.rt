@@ -1,6 +1,6 @@
 //! The parts of the work that the map takes whole.
 
-use past::Past;
+use crate::past::Past;
 use std::fmt;
 use std::snapshot::Snapshot;
 

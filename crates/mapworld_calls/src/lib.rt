@@ -8,6 +8,7 @@ mod block;
 mod deed;
 pub mod history_laws;
 pub mod laws;
+pub mod past;
 mod program;
 mod reply;
 

@@ -23,8 +23,8 @@ use Rattle.mapworld_state.specs.State.{State, threads_of}
 use Rattle.mapworld_state.specs.Steps.{IsStep}
 use Rattle.mapworld_state.specs.World.{deeds_of, setup_of}
 use Rattle.mapworld_transitions.proofs.Keys.{setup-laws}
-use Rattle.mapworld_invariant.proofs.Adding.{adds-more, adds-none, fixed-more, step-adds}
-use Rattle.mapworld_invariant.proofs.Sounds.{sound-step}
+use Rattle.mapworld_state.proofs.InvariantFacts.Adding.{adds-more, adds-none, fixed-more, step-adds}
+use Rattle.mapworld_state.proofs.InvariantFacts.Sounds.{sound-step}
 use Rattle.mapworld_progress.specs.Drains.{Drains, DrainsBy, Makes}
 use Rattle.mapworld_progress.specs.Left.{left}
 use Rattle.mapworld_progress.specs.Sizes.{IsSized}

@@ -37,8 +37,8 @@ use Rattle.mapworld_state.specs.Sound.{IsBetweenVisits, IsInSession, KeepsOver, 
 use Rattle.mapworld_state.specs.State.{State, threads_of}
 use Rattle.mapworld_state.specs.Walks.{kept_over, walk_mode}
 use Rattle.mapworld_state.proofs.HoldsTable.{none-there, only-first}
-use Rattle.mapworld_invariant.proofs.Building.{claim-at, session-is, taken-at}
-use Rattle.mapworld_invariant.proofs.Holding.{stand-at}
+use Rattle.mapworld_state.proofs.InvariantFacts.Building.{claim-at, session-is, taken-at}
+use Rattle.mapworld_state.proofs.InvariantFacts.Holding.{stand-at}
 use Rattle.mapworld_progress.specs.Whole.{IsWhole}
 use Rattle.mapworld_progress.proofs.Sessions.{none-at-end}
 use Rattle.mapworld_progress.proofs.Sleepers.{sleeper}

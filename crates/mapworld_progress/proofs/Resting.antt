@@ -40,8 +40,8 @@ use Rattle.mapworld_state.specs.Sound.{HasNoWalk, IsInSession, Stands, Walks}
 use Rattle.mapworld_state.specs.State.{State, threads_of}
 use Rattle.mapworld_state.proofs.HoldsTable.{none-there}
 use Rattle.mapworld_calls.proofs.Lists.{sum_by-at}
-use Rattle.mapworld_invariant.proofs.Building.{claim-at, taken-at}
-use Rattle.mapworld_invariant.proofs.Holding.{stand-at}
+use Rattle.mapworld_state.proofs.InvariantFacts.Building.{claim-at, taken-at}
+use Rattle.mapworld_state.proofs.InvariantFacts.Holding.{stand-at}
 use Rattle.mapworld_progress.specs.Whole.{IsWhole}
 use Rattle.mapworld_progress.specs.Rest.{HasEnded, IsAtRest}
 use Rattle.mapworld_progress.proofs.Moving.{session-goes, somebody_moves}

@@ -20,7 +20,7 @@ use Rattle.mapworld_state.specs.Sound.{Sound}
 use Rattle.mapworld_state.specs.State.{State, pairs_of}
 use Rattle.mapworld_state.specs.Steps.{IsStep}
 use Rattle.mapworld_state.specs.World.{setup_of}
-use Rattle.mapworld_invariant.proofs.Adding.{step-adds}
+use Rattle.mapworld_state.proofs.InvariantFacts.Adding.{step-adds}
 use Rattle.mapworld_progress.specs.Drains.{DrainsBy, HasTime, IsInTime}
 use Rattle.mapworld_progress.specs.Left.{left, most_left, visit_left, walk_left}
 use Rattle.mapworld_progress.specs.Sizes.{IsSized}

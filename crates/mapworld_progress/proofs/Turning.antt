@@ -17,7 +17,7 @@ use Rattle.mapworld_state.specs.Held.{HoldsMatch, StandsBefore}
 use Rattle.mapworld_state.specs.Places.{Place}
 use Rattle.mapworld_state.specs.Running.{can_move_in, moves_at, moves_before}
 use Rattle.mapworld_state.specs.State.{State}
-use Rattle.mapworld_invariant.proofs.Holding.{stand-at}
+use Rattle.mapworld_state.proofs.InvariantFacts.Holding.{stand-at}
 use Rattle.mapworld_progress.specs.Left.{left}
 use Rattle.mapworld_progress.specs.Whole.{IsWhole}
 

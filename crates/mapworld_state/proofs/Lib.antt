@@ -4,3 +4,4 @@ pub mod HoldsTable
 pub mod Owning
 pub mod Views
 pub mod LocksFacts
+pub mod InvariantFacts

@@ -16,3 +16,4 @@ pub mod Slots
 pub mod Core
 pub mod Faults
 pub mod Locks
+pub mod Invariant

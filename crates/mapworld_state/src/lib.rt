@@ -5,6 +5,7 @@
 
 pub mod faults;
 mod holds;
+pub mod invariant;
 pub mod locks;
 mod place;
 mod step;

@@ -2,10 +2,10 @@
 //! that blocks are compared by what they show.
 
 use dashmap_table::{SpreadState, spread_hash};
+use mapworld_calls::past::Past;
 use mapworld_calls::{
     Answer, Ask, Begin, Block, Held, Keyed, Reply, guard_numbers, holds_one_guard,
 };
-use past::Past;
 use std::alloc::Global;
 use std::hash::BuildHasher;
 use std::snapshot::Snapshot;

@@ -1,8 +1,8 @@
 //! What no clause says: that a history takes no bytes beside what it is kept with, that it may cross
 //! threads, and that the counter of the docs counts.
 
-use past::Past;
-use past::example::{Counter, three_steps};
+use mapworld_calls::past::Past;
+use mapworld_calls::past::example::{Counter, three_steps};
 
 fn is_send_and_sync<T: Send + Sync + Drop>(_value: T) {}
 

@@ -1,7 +1,6 @@
 //! Keys that are equal though they differ, and keys that share a hash.
 
-use super::worlds::Call::{Get, Insert, Leave, Read, Remove};
-use super::worlds::{program_of, step_round};
+use super::worlds::{programs_of, step_round, told};
 use mapworld::{Answer, Ask, Begin, Deed, Held, Keyed, MapWorld, SpreadState};
 use std::alloc::Global;
 use std::hash::{BuildHasher, Hasher};
@@ -92,7 +91,7 @@ fn equal_keys_are_one_key(rt: HostRuntime) -> Result<(), Fail> {
     let pairs = vec![in rt.alloc(); (letter_of(b'k'), 0), (letter_of(b'K'), 1)]?;
     let programs = vec![in rt.alloc(); program]?;
     let mut world = MapWorld::new(rt.alloc(), 2, SpreadState, pairs, programs)?;
-    let is_done = step_round(&mut world, 1);
+    let is_done = step_round(&mut world);
     let answers = world.replies();
     assert!(rt; is_done && answers.len() == 5);
     // Of equal keys the last value and the first key were there at the start, and the insert left the stored key.
@@ -128,7 +127,7 @@ fn an_entry_keeps_the_key_that_it_was_handed(rt: HostRuntime) -> Result<(), Fail
     let pairs = vec![in rt.alloc(); (letter_of(b'k'), 0)]?;
     let programs = vec![in rt.alloc(); program]?;
     let mut world = MapWorld::new(rt.alloc(), 2, SpreadState, pairs, programs)?;
-    let is_done = step_round(&mut world, 1);
+    let is_done = step_round(&mut world);
     let answers = world.replies();
     assert!(rt; is_done && answers.len() == 9);
     // The stored key stays at an insertion, and the handed-in one is given back or put in its place.
@@ -141,16 +140,14 @@ fn an_entry_keeps_the_key_that_it_was_handed(rt: HostRuntime) -> Result<(), Fail
 
 #[test]
 fn keys_of_one_hash_stay_apart(rt: HostRuntime) -> Result<(), Fail> {
-    let calls = [Insert(1, 10), Insert(2, 20), Remove(1), Get(2), Read, Leave];
-    let program = program_of(rt.alloc(), &calls).ok_or("no program")?;
+    let text = "thread a\n  insert 1 10\n  insert 2 20\n  remove 1\n  get 2\n    read\n    drop\n";
+    let programs = programs_of(rt.alloc(), text)?;
     let pairs = vec![in rt.alloc(); (1, 5), (3, 30)]?;
-    let programs = vec![in rt.alloc(); program]?;
     let mut world = MapWorld::new(rt.alloc(), 4, OneHash, pairs, programs)?;
-    let is_done = step_round(&mut world, 1);
-    let answers = world.replies();
-    assert!(rt; is_done && answers.len() == 6);
-    assert!(rt; answers[0].answer == Answer::Value(5) && answers[2].answer == Answer::Pair(1, 10));
-    assert!(rt; answers[4].answer == Answer::Read(20));
+    let is_done = step_round(&mut world);
+    let text = told(rt.alloc(), &world)?;
+    let want = "value 5, none, pair 1=10, held, read 2=20, done, blocks 4; ";
+    assert!(rt; is_done && text.as_str() == want, "{text}");
     assert!(rt;
         world.pair(&1).is_none()
             && world.pair(&2) == Some((&2, &20))

@@ -1,34 +1,24 @@
-//! Tests of the world of maps and of what stands below it: what no contract of theirs says.
+//! Tests of the world of maps and of what stands below it: what no contract of theirs says, and no file of `mapworld_cases` can.
 #![tactic(auto)]
 
 #[cfg(test)]
 mod calls;
 #[cfg(test)]
-mod conditions;
-#[cfg(test)]
-mod entries;
-#[cfg(test)]
 mod faults;
 #[cfg(test)]
 mod histories;
 #[cfg(test)]
-mod keys;
+mod judged;
 #[cfg(test)]
-mod limits;
+mod keys;
 #[cfg(test)]
 mod memory;
 #[cfg(test)]
+mod programs;
+#[cfg(test)]
 mod random;
 #[cfg(test)]
-mod routes;
-#[cfg(test)]
-mod rows;
-#[cfg(test)]
-mod scripts;
-#[cfg(test)]
-mod sessions;
-#[cfg(test)]
-mod shards;
+mod sizes;
 #[cfg(test)]
 mod text;
 #[cfg(test)]

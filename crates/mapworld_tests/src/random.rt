@@ -1,364 +1,259 @@
-//! Random programs over every call, stepped at random, beside a plain map that takes the blocks one after another.
+//! Random programs of random threads, run by random steps to a random moment and drained from there, beside the plain map.
 
-use super::worlds::Call::{
-    Add, AddOrTakeFrom, AddTo, Enter, Get, GetMut, HandBack, Has, Insert, Leave, Lend, Look, PutIn,
-    Read, Remove, Replace, Set, Share, TakeFrom, TakePair, TakeValue,
-};
-use super::worlds::{Call, Said, World, step, told, world_of};
-use mapworld::Block;
-use std::alloc::Global;
+use super::judged::{broken, shown_now};
+use super::programs::{KEYS, KINDS, Random, Shape, pairs, programs};
+use super::worlds::{World, world_of};
+use dashmap_table::SpreadState;
+use mapworld::{Answer, Step};
+use mapworld_oracle::judge::Halfway;
+use mapworld_oracle::replay::{Broken, Made};
+use mapworld_text::Change;
+use std::alloc::{AllocError, Global};
+use std::hash::{BuildHasher, BuildHasherDefault, FoldHasher};
+use std::process::Abort;
 use std::test::Fail;
 
-/// How many keys the programs use.
-const KEYS: usize = 4;
+type Fold = BuildHasherDefault<FoldHasher>;
 
-/// How many worlds are run.
-const WORLDS: u64 = 60;
-
-/// Numbers that follow no simple rule, and are the same at each run.
-#[derive(Drop)]
-pub struct Random {
-    state: u64,
-}
-
-impl Random {
-    pub fn new(seed: u64) -> Random {
-        Random { state: seed }
-    }
-
-    /// The bits of the next number that the mask has.
-    pub fn next(&mut self, mask: u64) -> u64 {
-        self.state = self
-            .state
-            .wrapping_mul(6364136223846793005)
-            .wrapping_add(1442695040888963407);
-        (self.state >> 33) & mask
-    }
-
-    fn key(&mut self) -> u64 {
-        self.next(3)
-    }
-}
-
-/// A call on one key.
-fn keyed_call(random: &mut Random) -> Call {
-    let key = random.key();
-    let value = random.next(7);
-    match random.next(7) {
-        0 => Remove(key),
-        1 => TakeFrom(key, value),
-        2 => AddOrTakeFrom(key, random.next(3), value),
-        3 => AddTo(key, value),
-        4 => Look(key),
-        5 => Has(key),
-        _ => Insert(key, value),
-    }
-}
-
-/// A call on the guard that isn't its last.
-fn held_call(random: &mut Random) -> Call {
-    match random.next(15) {
-        0 => Add(random.next(7)),
-        1 => Set(random.next(7)),
-        2 => Share,
-        3 | 4 => PutIn(random.next(7)),
-        5 => Lend,
-        6 => TakeValue,
-        7 => TakePair,
-        8 => Replace(random.next(7)),
-        9 => HandBack,
-        _ => Read,
-    }
-}
-
-/// An opening.
-fn opening(random: &mut Random) -> Call {
-    let key = random.key();
-    match random.next(3) {
-        0 => Get(key),
-        1 => GetMut(key),
-        _ => Enter(key),
-    }
-}
-
-/// A program of calls on one key, and of openings that each have three more calls and their end behind them.
-pub fn program(alloc: Global, random: &mut Random) -> Option<Vec<Call>> {
-    let mut calls = Vec::new(alloc);
-    for _ in 0..12 {
-        if random.next(1) == 0 {
-            calls.push(keyed_call(random)).ok()?;
-        } else {
-            calls.push(opening(random)).ok()?;
-            calls.push(held_call(random)).ok()?;
-            calls.push(held_call(random)).ok()?;
-            calls.push(held_call(random)).ok()?;
-            calls.push(Leave).ok()?;
-        }
-    }
-    Some(calls)
-}
-
-/// What a guard of the plain map is.
-#[derive(Clone, Copy, PartialEq, Eq)]
-enum Kind {
-    Shared,
-    Exclusive,
-    Occupied,
-    Vacant,
-}
-
-/// A guard of the plain map, with its pair's value, if it has a pair.
+/// What is seen of worlds.
 #[derive(Clone, Copy)]
-struct Guard {
-    value: u64,
-    key: u64,
-    kind: Kind,
+struct Tally {
+    worlds: u64,
+    steps: u64,
+    drained: u64,
+    /// The greatest share of the bound that a drain took, in thousandths.
+    share: u64,
+    locked: usize,
 }
 
-/// A map as a value for each of the keys, if it has one, and the guard that is held of one.
-#[derive(Drop)]
-struct Plain {
-    values: [Option<u64>; KEYS],
-    guard: Option<Guard>,
-}
+impl Tally {
+    const NONE: Tally = Tally {
+        worlds: 0,
+        steps: 0,
+        drained: 0,
+        share: 0,
+        locked: 0,
+    };
 
-impl Plain {
-    fn value(&self, key: u64) -> Option<u64> {
-        *self.values.get(key as usize)?
-    }
-
-    fn set(&mut self, key: u64, value: Option<u64>) {
-        if let Some(slot) = self.values.get_mut(key as usize) {
-            *slot = value;
-        }
-    }
-
-    /// Holds a guard of that pair.
-    fn lend(&mut self, key: u64, value: u64, kind: Kind) -> Said {
-        self.guard = Some(Guard { value, key, kind });
-        Said::Held
-    }
-
-    /// Leaves the value where the pair is kept, and takes the pair out otherwise.
-    fn leave(&mut self, key: u64, value: u64, keeps: bool) -> Said {
-        if keeps {
-            self.set(key, Some(value));
-            Said::None
-        } else {
-            self.set(key, None);
-            Said::Pair(key, value)
-        }
+    /// Counts a world whose drain took so many steps of so many.
+    fn add<S: BuildHasher>(&mut self, world: &World<S>, made: u64, bound: u64) {
+        let share = made.saturating_mul(1000).checked_div(bound).unwrap_or(0);
+        let replies = world.replies().iter();
+        let locked = replies.filter(|reply| matches!(reply.answer, Answer::Locked));
+        self.worlds = self.worlds.saturating_add(1);
+        self.steps = self.steps.saturating_add(world.steps());
+        self.drained = self.drained.saturating_add(made);
+        self.share = self.share.max(share);
+        self.locked = self.locked.saturating_add(locked.count());
     }
 }
 
-/// What a call on a key that has this value is answered, and what it does.
-fn present_answer(plain: &mut Plain, call: Call, value: u64) -> Said {
-    match call {
-        Insert(key, new) => {
-            plain.set(key, Some(new));
-            Said::Value(value)
+/// Whether one pair alone has that key.
+fn is_alone<S: BuildHasher>(world: &World<S>, key: u64) -> bool {
+    let mut count: usize = 0;
+    for (other, _) in world.pairs() {
+        if *other == key {
+            count = count.saturating_add(1);
         }
-        Remove(key) => plain.leave(key, value, false),
-        TakeFrom(key, least) => plain.leave(key, value, value < least),
-        AddOrTakeFrom(key, more, least) => {
-            plain.leave(key, value.wrapping_add(more), value < least)
-        }
-        AddTo(key, more) => {
-            plain.set(key, Some(value.wrapping_add(more)));
-            Said::Done
-        }
-        Look(_) => Said::Read(value),
-        Has(_) => Said::Flag(true),
-        Get(key) => plain.lend(key, value, Kind::Shared),
-        GetMut(key) => plain.lend(key, value, Kind::Exclusive),
-        Enter(key) => plain.lend(key, value, Kind::Occupied),
-        _ => Said::NoGuard,
     }
+    count == 1
 }
 
-/// What a call on a key without a value is answered, and what it does.
-fn absent_answer(plain: &mut Plain, call: Call) -> Said {
-    match call {
-        Insert(key, value) => {
-            plain.set(key, Some(value));
-            Said::None
+/// Whether each pair is the one that its key finds, which is looked for on the key's shard alone, and no two have equal keys.
+fn pairs_are_placed<S: BuildHasher>(world: &World<S>, shards: usize) -> bool {
+    world.pairs().all(|pair| {
+        let is_found = world.shard_of(pair.0) < shards && world.pair(pair.0) == Some(pair);
+        is_found && is_alone(world, *pair.0)
+    })
+}
+
+/// How a world is run: up to so many random steps, and whether all pairs are looked at behind each.
+#[derive(Clone, Copy)]
+struct Run {
+    limit: u64,
+    shards: usize,
+    looks: bool,
+}
+
+/// Makes random steps, and notes whose they are. Answers the rule that is broken, if one is.
+fn run_some<S: BuildHasher>(
+    world: &mut World<S>,
+    random: &mut Random,
+    run: Run,
+    schedule: &mut Vec<usize>,
+) -> Result<Broken, AllocError> {
+    let threads = world.threads() as u64;
+    for _ in 0..run.limit {
+        if run.looks && !(0..world.threads()).any(|thread| world.can_move(thread)) {
+            break;
         }
-        AddTo(_, _) => Said::Done,
-        Has(_) => Said::Flag(false),
-        Enter(key) => {
-            let _ = plain.lend(key, 0, Kind::Vacant);
-            Said::Vacant
-        }
-        _ => {
-            if key_of(call).is_some() {
-                Said::None
-            } else {
-                Said::NoGuard
+        let thread = random.below(threads) as usize;
+        if world.can_move(thread) {
+            let fair = random.below(4) == 0;
+            if world.run(&[Step { thread, fair }]).is_err() {
+                return Ok(Some("a step of a thread that can move is made"));
+            }
+            schedule.push(thread)?;
+            if run.looks && !pairs_are_placed(world, run.shards) {
+                return Ok(Some("each key has one pair at most, on its shard"));
             }
         }
     }
+    Ok(None)
 }
 
-/// What a call is answered that stores a value under an exclusive or an occupied guard.
-fn stored(plain: &mut Plain, guard: Guard, value: u64) -> Said {
-    plain.set(guard.key, Some(value));
-    let _ = plain.lend(guard.key, value, guard.kind);
-    Said::Done
+/// Drains a world, and gives the rule that is broken, if one is.
+fn drained<S: BuildHasher>(
+    made: Made<'_, Change>,
+    world: &mut World<S>,
+    moment: &Halfway,
+    tally: &mut Tally,
+) -> Result<Broken, AllocError> {
+    let bound = world.bound();
+    let before = world.steps();
+    let steps = world.drain();
+    if steps > bound || world.steps() != before.wrapping_add(steps) {
+        return Ok(Some("a drain takes no more steps than the bound"));
+    }
+    if world.drain() != 0 {
+        return Ok(Some("behind a drain there is nothing left to do"));
+    }
+    tally.add(world, steps, bound);
+    broken(made, world, KEYS, moment)
 }
 
-/// What a call on an occupied guard is answered that is for no other kind, and what it does.
-fn occupied_answer(plain: &mut Plain, call: Call, guard: Guard) -> Said {
-    if matches!(call, Lend) {
-        return plain.lend(guard.key, guard.value, Kind::Exclusive);
-    }
-    if let PutIn(value) = call {
-        let _ = stored(plain, guard, value);
-        return Said::Value(guard.value);
-    }
-    plain.guard = None;
-    match call {
-        TakeValue => {
-            plain.set(guard.key, None);
-            Said::Value(guard.value)
-        }
-        TakePair => plain.leave(guard.key, guard.value, false),
-        Replace(value) => {
-            plain.set(guard.key, Some(value));
-            Said::Pair(guard.key, guard.value)
-        }
-        _ => Said::Key(guard.key),
-    }
-}
-
-/// What a call on a vacant guard is answered, and what it does.
-fn vacant_answer(plain: &mut Plain, call: Call, guard: Guard) -> Said {
-    match call {
-        PutIn(value) => {
-            plain.set(guard.key, Some(value));
-            plain.lend(guard.key, value, Kind::Exclusive)
-        }
-        HandBack => {
-            plain.guard = None;
-            Said::Key(guard.key)
-        }
-        _ => Said::WrongGuard,
-    }
-}
-
-/// What a call on this guard is answered, and what it does.
-fn held_answer(plain: &mut Plain, call: Call, guard: Guard) -> Said {
-    if matches!(call, Leave) {
-        plain.guard = None;
-        return Said::Done;
-    }
-    if guard.kind == Kind::Vacant {
-        return vacant_answer(plain, call, guard);
-    }
-    if matches!(call, Read) {
-        return Said::Read(guard.value);
-    }
-    if guard.kind == Kind::Shared {
-        return Said::WrongGuard;
-    }
-    let stores = match call {
-        Add(more) => Some(guard.value.wrapping_add(more)),
-        Set(value) => Some(value),
-        _ => None,
+/// Makes a world, runs it to a random moment and drains it; and gives the rule that is broken, if one is.
+fn broken_on<S: BuildHasher + Drop>(
+    made: Made<'_, Change>,
+    hasher: S,
+    random: &mut Random,
+    run: Run,
+    tally: &mut Tally,
+) -> Result<Broken, AllocError> {
+    let Some(mut world) = world_of(made.alloc, made.shards, hasher, made.pairs, made.programs)
+    else {
+        return Ok(Some("a world is made"));
     };
-    if let Some(value) = stores {
-        return stored(plain, guard, value);
+    let mut schedule = Vec::new(made.alloc);
+    let by_steps = run_some(&mut world, random, run, &mut schedule)?;
+    if by_steps.is_some() {
+        return Ok(by_steps);
     }
-    if matches!(call, Share) && guard.kind == Kind::Exclusive {
-        return plain.lend(guard.key, guard.value, Kind::Shared);
-    }
-    if matches!(call, Share) || guard.kind == Kind::Exclusive {
-        return Said::WrongGuard;
-    }
-    occupied_answer(plain, call, guard)
-}
-
-/// The key of a call that has one.
-fn key_of(call: Call) -> Option<u64> {
-    match call {
-        Insert(key, _) | Remove(key) | TakeFrom(key, _) | AddOrTakeFrom(key, _, _) => Some(key),
-        AddTo(key, _) | Look(key) | Has(key) => Some(key),
-        Get(key) | GetMut(key) | Enter(key) => Some(key),
-        _ => None,
+    match shown_now(made.alloc, &world, schedule)? {
+        Some(moment) => drained(made, &mut world, &moment, tally),
+        None => Ok(Some("a block shows its end exactly where its call is answered")),
     }
 }
 
-/// What the call is answered by the plain map, and what it does.
-fn answer(plain: &mut Plain, call: Call) -> Said {
-    if let Some(guard) = plain.guard {
-        return held_answer(plain, call, guard);
-    }
-    match key_of(call).and_then(|key| plain.value(key)) {
-        Some(value) => present_answer(plain, call, value),
-        None => absent_answer(plain, call),
+/// An amount of shards, up to 16.
+fn shards(random: &mut Random) -> usize {
+    match random.below(4) {
+        0 => 2,
+        1 => 4,
+        2 => 8,
+        _ => 16,
     }
 }
 
-/// Whether each call of the block was answered as the plain map answers it, in its turn.
-fn agrees(world: &World<Global>, plain: &mut Plain, block: &Block<u64>, calls: &[Call]) -> bool {
-    for (i, call) in calls.iter().enumerate().skip(block.call) {
-        let want = answer(plain, *call);
-        if !told(world, block.thread, i, want) {
-            return false;
-        }
-        // A keyed call's block ends with it, and a session's with its drop.
-        let is_keyed = key_of(*call).is_some() && !matches!(call, Get(_) | GetMut(_) | Enter(_));
-        if is_keyed || matches!(call, Leave) {
-            return true;
-        }
-    }
-    true
-}
-
-/// Makes random steps until every call is answered, and says whether it came to that.
-fn run_through(world: &mut World<Global>, random: &mut Random, calls: usize) -> bool {
-    for _ in 0..world.bound() {
-        if world.replies().len() == calls {
-            return true;
-        }
-        let thread = random.next(3) as usize;
-        if world.can_move(thread) && world.run(&[step(thread)]).is_err() {
-            return false;
-        }
-    }
-    false
-}
-
-/// Whether a world of random programs, run at random, answers and leaves what the plain map does.
-fn world_agrees(alloc: Global, seed: u64) -> Option<bool> {
+/// Tries a world of some threads and shards, run to a random moment.
+fn broken_in(
+    alloc: Global,
+    seed: u64,
+    shape: Shape,
+    tally: &mut Tally,
+) -> Result<Broken, AllocError> {
     let mut random = Random::new(seed);
-    let first = program(alloc, &mut random)?;
-    let second = program(alloc, &mut random)?;
-    let third = program(alloc, &mut random)?;
-    let programs: [&[Call]; 3] = [&first, &second, &third];
-    let mut world = world_of(alloc, &[(0, 5), (1, 6)], &programs)?;
-    let count = first.len() + second.len() + third.len();
-    if !run_through(&mut world, &mut random, count) {
-        return Some(false);
-    }
-    let mut plain = Plain {
-        values: [Some(5), Some(6), None, None],
-        guard: None,
+    let threads = random.below(8).saturating_add(1);
+    let shards = shards(&mut random);
+    let pairs = pairs(alloc, &mut random)?;
+    let programs = programs(alloc, &mut random, threads, shape)?;
+    let made = Made {
+        alloc,
+        shards,
+        pairs: &pairs,
+        programs: &programs,
     };
-    for block in world.blocks() {
-        plain.guard = None;
-        let calls = programs.get(block.thread)?;
-        if !agrees(&world, &mut plain, block, calls) {
-            return Some(false);
-        }
+    // Some worlds are drained that never ran.
+    let limit = random.below(1200).checked_sub(200).unwrap_or(0);
+    let run = Run {
+        limit,
+        shards,
+        looks: false,
+    };
+    broken_on(made, Fold::new(), &mut random, run, tally)
+}
+
+/// Tries a world of three threads and two shards, run to its end, whose pairs are looked at behind each step.
+fn broken_in_long(alloc: Global, seed: u64, tally: &mut Tally) -> Result<Broken, AllocError> {
+    let mut random = Random::new(seed);
+    let programs = programs(alloc, &mut random, 3, Shape::Long)?;
+    let made = Made {
+        alloc,
+        shards: 2,
+        pairs: &[(0, 5), (1, 6)],
+        programs: &programs,
+    };
+    let run = Run {
+        limit: 1_000_000,
+        shards: 2,
+        looks: true,
+    };
+    broken_on(made, SpreadState, &mut random, run, tally)
+}
+
+/// Tries so many worlds of programs of that shape.
+fn try_worlds(
+    rt: &(impl AllocGlobal + Abort),
+    seeds: u64,
+    shape: Shape,
+    tally: &mut Tally,
+) -> Result<(), AllocError> {
+    for seed in 0..seeds {
+        let broken = match shape {
+            Shape::Long => broken_in_long(rt.alloc(), seed, tally)?,
+            _ => broken_in(rt.alloc(), seed, shape, tally)?,
+        };
+        assert!(rt; broken.is_none(), "world {seed} of {shape:?}: {broken:?}");
     }
-    Some((0..4).all(|key| world.pair(&key).map(|pair| *pair.1) == plain.value(key)))
+    Ok(())
+}
+
+/// Prints what was seen.
+fn print(rt: &impl Print, tally: Tally) -> Result<(), Fail> {
+    let Tally {
+        worlds,
+        steps,
+        drained,
+        share,
+        locked,
+    } = tally;
+    println!(rt;
+        "{worlds} worlds, {steps} steps, {drained} by drains, at most {share} thousandths of a bound; {locked} tries locked"
+    )?;
+    Ok(())
 }
 
 #[test]
-fn random_programs_are_one_plain_map(rt: HostRuntime) -> Result<(), Fail> {
-    for seed in 0..WORLDS {
-        let agrees = world_agrees(rt.alloc(), seed).ok_or("no world")?;
-        assert!(rt; agrees, "world {seed}");
+fn worlds_of_any_calls_are_one_plain_map(rt: HostRuntime) -> Result<(), Fail> {
+    let mut tally = Tally::NONE;
+    try_worlds(&rt, 1000, Shape::Any, &mut tally)?;
+    print(&rt, tally)
+}
+
+#[test]
+fn worlds_of_one_kind_of_calls_are_one_plain_map(rt: HostRuntime) -> Result<(), Fail> {
+    let mut tally = Tally::NONE;
+    for kind in 0..KINDS {
+        try_worlds(&rt, 25, Shape::Kind(kind), &mut tally)?;
     }
-    Ok(())
+    print(&rt, tally)
+}
+
+#[test]
+fn long_programs_are_one_plain_map_with_each_pair_on_its_shard(
+    rt: HostRuntime,
+) -> Result<(), Fail> {
+    let mut tally = Tally::NONE;
+    try_worlds(&rt, 60, Shape::Long, &mut tally)?;
+    print(&rt, tally)
 }

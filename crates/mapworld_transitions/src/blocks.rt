@@ -4,7 +4,7 @@ ghost use Rattle.mapworld_state.specs.Moves.{CountsCall, EndsBlock, EndsVisits, 
 ghost use Rattle.mapworld_transitions.specs.Listing.{CanCount, AddsBlock, AddsVisit};
 
 use mapworld_calls::Block;
-use past::Past;
+use mapworld_calls::past::Past;
 use std::alloc::Allocator;
 use std::snapshot::Snapshot;
 

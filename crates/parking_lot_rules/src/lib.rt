@@ -1,5 +1,6 @@
-//! The rules of a reader-writer lock whose waiters sleep in queues: what a thread can be doing at the lock, what each of its
-//! steps does to the lock's word and queues, and the proof that no waiter is ever forgotten, under every schedule.
+//! The rules of locks whose waiters sleep in queues (mutex, reader-writer lock, condition variable, one-time
+//! initialization): what a thread can be doing there, what each of its steps does to the word and the queues, and the
+//! proof that in every run of these steps somebody is in debt for those who wait, so that no wakeup is lost.
 #![tactic(auto)]
 
 mod debts;

@@ -3,33 +3,24 @@
 #![tactic(auto)]
 
 #[cfg(test)]
-mod beside;
+mod calls;
+#[cfg(test)]
+mod crowds;
 #[cfg(test)]
 mod deadlines;
 #[cfg(test)]
-mod guards;
+mod held;
 #[cfg(test)]
-mod mutex_calls;
+mod mutex_plays;
 #[cfg(test)]
-mod mutexes;
+mod mutex_steps;
 #[cfg(test)]
+mod reentrant_steps;
 #[cfg(test)]
-mod readers;
+mod rw_plays;
 #[cfg(test)]
-mod rows;
+mod rw_steps;
 #[cfg(test)]
-mod rw_beside;
+mod scene;
 #[cfg(test)]
-mod rw_calls;
-#[cfg(test)]
-mod rw_words;
-#[cfg(test)]
-mod script;
-#[cfg(test)]
-mod sections;
-#[cfg(test)]
-mod timed;
-#[cfg(test)]
-mod waiting;
-#[cfg(test)]
-mod words;
+mod stage;

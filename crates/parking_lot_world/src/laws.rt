@@ -17,7 +17,7 @@ pub fn each_step_is_a_case()
 }
 
 /// Each step of a thread's call lowers the steps that are left of all threads' calls, at locks, at condition variables and at onces together, where the
-/// same thread is stepped on. So no thread can be stepped for ever.
+/// same thread is stepped on. So no thread goes on for ever in the calls that have begun.
 pub fn each_step_is_paid_for()
     ensures { StepsArePaid }
 {

@@ -17,9 +17,10 @@ use std::marker::Model;
 
 /// Threads, and locks, condition variables and onces, stepped by a schedule.
 ///
-/// It is deterministic. Nothing in it moves by itself: [`run`](World::run) is told which thread makes each step, and the same world with the
-/// same steps ends the same. A step is one atomic act of a thread's call, as a load of the lock's word, an exchange, entering a section, or
-/// running a closure, and it is done whole. At most one section is open in the whole world.
+/// Nothing in it moves by itself: [`run`](World::run) is told which thread makes each step. A step is one atomic act of a
+/// thread's call, as a load of the lock's word, an exchange, entering a section, or running a closure, and it is done
+/// whole. At most one section is open in the whole world. Its code takes nothing from outside, so a run can be repeated;
+/// no clause says that it ends the same.
 ///
 /// The locks have the numbers of their kinds in the list that the world is made with, and threads are numbered from 0. It takes all memory
 /// that its runs need where it is made.

@@ -59,7 +59,7 @@ pub type Ref<K, V, A, W, H, D> = PairGuard<K, V, A, W, H, D, Reads>;
 ///
 /// ```rust
 /// let mut guard = map.get_mut(&"seven", &mut me).ok_or("gone")?;
-/// *guard += 1;
+/// *guard = guard.wrapping_add(1);
 /// ```
 pub type RefMut<K, V, A, W, H, D> = PairGuard<K, V, A, W, H, D, Writes>;
 

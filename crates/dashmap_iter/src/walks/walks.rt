@@ -24,7 +24,7 @@ use std::sync::Wait;
 ///
 /// ```text
 /// map.retain(|_, age| *age > 20, &mut me);
-/// map.alter_all(|_, age| age + 1, &mut me);
+/// map.alter_all(|_, age| age.wrapping_add(1), &mut me);
 /// map.clear(&mut me);
 /// ```
 pub trait Walks<K: Eq + Hash, V, S, Q: RawRwLock>

@@ -5,6 +5,14 @@ use Rattle.mapworld.proofs.beginning.at_start.Goals as goal
 
 pub returns-clause-lists : goal.returns-clause-lists
 returns-clause-lists g c = record {
-  visits = λ walks. c.in_ok-visits.ensures.room (c.has_walk.ensures ∙ (ap (list_any is_walk) c.deref.ensures.value ∙ (ap (list_any is_walk) (sym c.from.ensures.0) ∙ walks)));
-  lists = omega (arith, ap (sum_by ask_lists) c.from.ensures.0, ap (sum_by ask_lists) c.deref-2.ensures.value, c.program_lists.ensures, c.in_ok-lists.ensures);
+  visits = λ walks. c.in_ok-visits.ensures.room
+      (c.has_walk.ensures ∙ (ap (list_any is_walk) c.deref.ensures.value
+      ∙ (ap (list_any is_walk) (sym c.from.ensures.0) ∙ walks)));
+  lists = omega (
+    arith,
+    ap (sum_by ask_lists) c.from.ensures.0,
+    ap (sum_by ask_lists) c.deref-2.ensures.value,
+    c.program_lists.ensures,
+    c.in_ok-lists.ensures,
+  );
 }

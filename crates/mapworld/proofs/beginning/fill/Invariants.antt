@@ -7,7 +7,8 @@ use Rattle.mapworld.proofs.beginning.fill.Given as goal
 
 abbrev pub invariant-loop-key : goal.invariant-loop-key
 invariant-loop-key g l = record {
-  filled : AreFilled g.K.PartialEq.eq (key_route g.S.BuildHasher g.S.Hasher.Hasher g.K.Hash.hash_input l.hasher (length l.initial.tables.items)) l.yielded (map shard_pairs l.tables.items);
+  filled : AreFilled g.K.PartialEq.eq (key_route g.S.BuildHasher g.S.Hasher.Hasher g.K.Hash.hash_input l.hasher
+      (length l.initial.tables.items)) l.yielded (map shard_pairs l.tables.items);
   hashed : AreHashed (key_hash g.S.BuildHasher g.S.Hasher.Hasher g.K.Hash.hash_input l.hasher) l.tables.items;
   shards : length l.tables.items ≡ length l.initial.tables.items;
   count : l.count ≡ pairs_in (map shard_pairs l.tables.items);

@@ -7,4 +7,6 @@ use Rattle.mapworld.proofs.contents.pair_in.Goals as goal
 pub returns-in-Some : goal.returns-in-Some
 returns-in-Some g c =
     let k = c.in-Some.ensures.there in
-    sym c.pair_at.ensures ∙ (ap (option_map entry_pair) k.there ∙ sym (pair-at_key g.K.PartialEq.eq g.met.K.Eq.laws c.args.shard.now c.in-Some.slot c.args.key.now c.requires.distinct k))
+    sym c.pair_at.ensures ∙ (ap (option_map entry_pair) k.there
+    ∙ sym (pair-at_key g.K.PartialEq.eq g.met.K.Eq.laws c.args.shard.now c.in-Some.slot c.args.key.now
+    c.requires.distinct k))

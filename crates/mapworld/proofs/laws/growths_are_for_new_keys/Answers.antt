@@ -1,8 +1,7 @@
-use Rattle.mapworld.proofs.Growths.{of_new_key}
+use Rattle.mapworld.proofs.Reached.{growths}
 use Rattle.mapworld.proofs.laws.growths_are_for_new_keys.Goals as goal
 
 pub returns : goal.returns
-returns g c = λ x laws w s w' sound. (
-  λ a. of_new_key x laws w s.thread sound a.place a.call a.table a.stands a.before a.held a.absent,
-  λ a. of_new_key x laws w s.thread sound a.place a.call a.table a.stands a.before a.held a.absent,
-)
+returns g c w s w' r =
+    growths g.D.Deed g.S.BuildHasher g.S.Hasher.Hasher g.K.PartialEq.eq g.K.Hash.hash_input g.met.K.Eq.laws
+    g.met.K.Hash.respects_eq c.each_step_is_a_case.ensures c.owners_agree.ensures w s w' r

@@ -14,11 +14,13 @@ returns-then-not-are_guarded g c =
 pub returns-then-is_none-2 : goal.returns-then-is_none-2
 returns-then-is_none-2 g c =
     let e = list_all-map (one_guard false) (λ program. program.items) c.args.programs.now in
-    let n = sum_by-map (λ program. sum_by (numbers_of c.args.shards) program) (λ program. program.items) c.args.programs.now in
+    let n = sum_by-map (λ program. sum_by (numbers_of c.args.shards) program) (λ program. program.items)
+    c.args.programs.now in
     grind (arith, common_steps, e, n)
 
 pub returns : goal.returns
 returns g c =
     let e = list_all-map (one_guard false) (λ program. program.items) c.args.programs.now in
-    let n = sum_by-map (λ program. sum_by (numbers_of c.args.shards) program) (λ program. program.items) c.args.programs.now in
+    let n = sum_by-map (λ program. sum_by (numbers_of c.args.shards) program) (λ program. program.items)
+    c.args.programs.now in
     grind (arith, common_steps, e, n)

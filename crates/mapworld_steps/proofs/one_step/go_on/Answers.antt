@@ -2,7 +2,7 @@ use Rattle.std.proofs.Common.{inl, refl}
 use Rattle.mapworld_state.specs.declared.place.Phase.TheVariants as phase
 use Rattle.mapworld_state.specs.Core.{state_of}
 use Rattle.mapworld_state.specs.Steps.{find, deed_fills, visit_parts, visit_seeks, visit_does, visit_gives}
-use Rattle.mapworld_invariant.proofs.Holding.{stand-at}
+use Rattle.mapworld_state.proofs.InvariantFacts.Holding.{stand-at}
 use Rattle.mapworld_steps.proofs.Kept.{is_before}
 use Rattle.mapworld_steps.proofs.Running.{has-calls, goes-on, can-move, same-phase}
 use Rattle.mapworld_steps.proofs.one_step.go_on.Goals as goal

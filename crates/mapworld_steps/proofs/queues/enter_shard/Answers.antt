@@ -16,8 +16,8 @@ use Rattle.mapworld_state.specs.Shards.{shard_pairs}
 use Rattle.mapworld_state.specs.Core.{state_of, owes, lists, adds}
 use Rattle.mapworld_state.proofs.Views.{view-at}
 use Rattle.mapworld_state.proofs.HoldsTable.{only-first}
-use Rattle.mapworld_invariant.proofs.Admitting.{sound-enters}
-use Rattle.mapworld_invariant.proofs.Holding.{stand-at}
+use Rattle.mapworld_state.proofs.InvariantFacts.Admitting.{sound-enters}
+use Rattle.mapworld_state.proofs.InvariantFacts.Holding.{stand-at}
 use Rattle.mapworld_transitions.proofs.Slots.{calls-same, slots-kept}
 use Rattle.mapworld_transitions.proofs.Rooms.{moved}
 use Rattle.mapworld_transitions.proofs.Walking.{walking, plain-visits, plain-lists}

@@ -4,7 +4,7 @@ use Rattle.mapworld_state.specs.Core.{state_of}
 use Rattle.mapworld_state.proofs.Views.{view-at, view-from}
 use Rattle.mapworld_state.proofs.LocksFacts.Sizes.{ends-size}
 use Rattle.mapworld_transitions.proofs.Rooms.{moved}
-use Rattle.mapworld_invariant.proofs.Admitting.{sound-leaves}
+use Rattle.mapworld_state.proofs.InvariantFacts.Admitting.{sound-leaves}
 use Rattle.mapworld_steps.proofs.PutBack.{put_there}
 use Rattle.mapworld_steps.proofs.queues.leave_lock.Goals as goal
 

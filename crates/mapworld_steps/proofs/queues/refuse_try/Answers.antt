@@ -12,7 +12,7 @@ use Rattle.mapworld_state.specs.Slots.{phase_key}
 use Rattle.mapworld_state.specs.Steps.{locked}
 use Rattle.mapworld_state.specs.Core.{state_of, owes, lists, adds}
 use Rattle.mapworld_state.proofs.Views.{view-at}
-use Rattle.mapworld_invariant.proofs.Concluding.{sound-left}
+use Rattle.mapworld_state.proofs.InvariantFacts.Concluding.{sound-left}
 use Rattle.mapworld_transitions.proofs.Slots.{calls-same, slots-kept}
 use Rattle.mapworld_transitions.proofs.Walking.{walking, plain-visits, plain-lists}
 use Rattle.mapworld_transitions.proofs.Rooms.{moved}

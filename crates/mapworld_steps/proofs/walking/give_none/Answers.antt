@@ -10,7 +10,7 @@ use Rattle.mapworld_state.specs.Slots.{phase_key}
 use Rattle.mapworld_state.specs.Steps.{idle}
 use Rattle.mapworld_state.specs.Core.{state_of, owes, lists, adds, phase_lists}
 use Rattle.mapworld_state.proofs.Views.{view-at}
-use Rattle.mapworld_invariant.proofs.Concluding.{sound-left}
+use Rattle.mapworld_state.proofs.InvariantFacts.Concluding.{sound-left}
 use Rattle.mapworld_transitions.proofs.Slots.{calls-same, slots-same_free}
 use Rattle.mapworld_transitions.proofs.Walking.{walking, next-free, plain-visits}
 use Rattle.mapworld_transitions.proofs.Rooms.{moved}

@@ -16,8 +16,8 @@ use Rattle.mapworld_state.specs.Slots.{phase_key, SlotIsNext}
 use Rattle.mapworld_state.specs.Shards.{shard_pairs}
 use Rattle.mapworld_state.specs.Core.{state_of, owes, lists, adds, phase_lists}
 use Rattle.mapworld_state.proofs.Views.{view-at}
-use Rattle.mapworld_invariant.proofs.Holding.{stand-at}
-use Rattle.mapworld_invariant.proofs.Walking.{sound-reaches}
+use Rattle.mapworld_state.proofs.InvariantFacts.Holding.{stand-at}
+use Rattle.mapworld_state.proofs.InvariantFacts.Walking.{sound-reaches}
 use Rattle.mapworld_transitions.proofs.Slots.{calls-same, slots-same_free}
 use Rattle.mapworld_transitions.proofs.Rooms.{moved}
 use Rattle.mapworld_transitions.proofs.Leading.{in-walk}

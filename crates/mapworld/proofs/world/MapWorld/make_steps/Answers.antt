@@ -6,7 +6,7 @@ use Rattle.mapworld_state.specs.Running.{refusal, Ran}
 use Rattle.mapworld_state.specs.Steps.{IsStep}
 use Rattle.mapworld_state.specs.World.{setup_of}
 use Rattle.mapworld_state.specs.Faults.Faults.{run_fault_done}
-use Rattle.mapworld_invariant.proofs.Adding.{step-adds, adds-more, fixed-more}
+use Rattle.mapworld_state.proofs.InvariantFacts.Adding.{step-adds, adds-more, fixed-more}
 use Rattle.mapworld.proofs.Runs.{Ran-more}
 use Rattle.mapworld_progress.proofs.Draining.{setup-fixed}
 use Rattle.mapworld_transitions.proofs.Keys.{setup-laws}
@@ -25,7 +25,8 @@ returns-in_err-make_step-clause-refused g c =
     let done : run_fault_done f ≡ c.loop-step.done = refusal-done mid c.loop-step.done step f m.1 in
     rw (p.1, p.2) (
       step,
-      ap (λ n. slice_get c.args.steps.now n) (done ∙ c.loop-step.invariant.done) ∙ slice_get-get_or c.args.steps.now i (record { thread = 0; fair = false }) c.loop-step-test.true,
+      ap (λ n. slice_get c.args.steps.now n) (done ∙ c.loop-step.invariant.done)
+          ∙ slice_get-get_or c.args.steps.now i (record { thread = 0; fair = false }) c.loop-step-test.true,
       ap (λ w. refusal w (run_fault_done f) step) m.0 ∙ (ap (λ n. refusal mid n step) done ∙ m.1),
     )
 
@@ -40,17 +41,22 @@ loop-step-preserved g c =
     let step = get_or steps i (record { thread = 0; fair = false }) in
     let x = setup_of g.D.Deed g.S.BuildHasher g.S.Hasher.Hasher g.K.PartialEq.eq g.K.Hash.hash_input first in
     let m = c.in_ok-make_step.ensures.made in
-    let same = setup-fixed g.D.Deed g.S.BuildHasher g.S.Hasher.Hasher g.K.PartialEq.eq g.K.Hash.hash_input first mid c.loop-step.invariant.fixed in
+    let same = setup-fixed g.D.Deed g.S.BuildHasher g.S.Hasher.Hasher g.K.PartialEq.eq g.K.Hash.hash_input first mid
+    c.loop-step.invariant.fixed in
     let made = subst (λ y. IsStep y mid step new) same m.1 in
-    let added = step-adds (setup_of g.D.Deed g.S.BuildHasher g.S.Hasher.Hasher g.K.PartialEq.eq g.K.Hash.hash_input mid) mid step new c.in_ok-make_step.ensures.sound m.1 in
+    let added = step-adds (setup_of g.D.Deed g.S.BuildHasher g.S.Hasher.Hasher g.K.PartialEq.eq g.K.Hash.hash_input
+    mid) mid step new c.in_ok-make_step.ensures.sound m.1 in
     let own = setup_of g.D.Deed g.S.BuildHasher g.S.Hasher.Hasher g.K.PartialEq.eq g.K.Hash.hash_input mid in
-    let laws = setup-laws g.D.Deed g.S.BuildHasher g.S.Hasher.Hasher g.K.PartialEq.eq g.K.Hash.hash_input mid g.met.K.Eq.laws g.met.K.Hash.respects_eq in
-    let footprint = step_footprint own laws mid step new c.in_ok-make_step.ensures.sound c.steps_touch_one_lock.ensures c.in_ok-make_step.ensures.fit m.1 in
+    let laws = setup-laws g.D.Deed g.S.BuildHasher g.S.Hasher.Hasher g.K.PartialEq.eq g.K.Hash.hash_input mid
+    g.met.K.Eq.laws g.met.K.Hash.respects_eq in
+    let footprint = step_footprint own laws mid step new c.in_ok-make_step.ensures.sound
+    c.steps_touch_one_lock.ensures c.in_ok-make_step.ensures.fit m.1 in
     let taken : length (take i steps) ≡ i = length-take-le i steps (omega arith) in
     let count : 0 + length (take i steps) ≡ c.loop-step.done = omega (arith, taken, c.loop-step.invariant.done) in
     record {
       ran = subst (λ ss. Ran x 0 first ss new) (sym (take_more steps i (record { thread = 0; fair = false }) lt))
-          (Ran-more x 0 first (take i steps) mid step new c.loop-step.invariant.ran (ap (λ n. refusal mid n step) count ∙ m.0) made footprint);
+          (Ran-more x 0 first (take i steps) mid step new c.loop-step.invariant.ran
+          (ap (λ n. refusal mid n step) count ∙ m.0) made footprint);
       done = ap (λ n. n + 1) c.loop-step.invariant.done;
       adds = adds-more first mid new step c.loop-step.invariant.adds added;
       fixed = fixed-more first mid new c.loop-step.invariant.fixed added.fixed;

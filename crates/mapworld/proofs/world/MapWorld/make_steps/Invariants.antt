@@ -8,8 +8,10 @@ use Rattle.mapworld.proofs.world.MapWorld.make_steps.Given as goal
 
 abbrev pub invariant-loop-step : goal.invariant-loop-step
 invariant-loop-step g l = record {
-  ran : Ran (setup_of g.D.Deed g.S.BuildHasher g.S.Hasher.Hasher g.K.PartialEq.eq g.K.Hash.hash_input l.initial.self) 0 l.initial.self (take l.step-index l.steps) l.self;
+  ran : Ran (setup_of g.D.Deed g.S.BuildHasher g.S.Hasher.Hasher g.K.PartialEq.eq g.K.Hash.hash_input l.initial.self)
+      0 l.initial.self (take l.step-index l.steps) l.self;
   done : l.done ≡ l.step-index;
-  adds : OnlyAdds (threads_of l.initial.self) (threads_of l.self) l.initial.self.blocks l.self.blocks l.initial.self.replies l.self.replies;
+  adds : OnlyAdds (threads_of l.initial.self) (threads_of l.self) l.initial.self.blocks l.self.blocks
+      l.initial.self.replies l.self.replies;
   fixed : StaysFixed l.initial.self l.self;
 }

@@ -12,7 +12,9 @@ returns-in-Some g c =
     let p = c.in-Some.place.now in
     let within : t < length list = ltb-true t (length list) (sym c.in-Some.ensures.lookup.0) in
     let here = slice_get_read list (length list) t p refl within c.in-Some.ensures.lookup.1 in
-    rw (← c.self.view_is) (sym (ap (λ o. option_and_then (λ (q : Place _ _ _ _ _). q.started) o) (view-at place_of c.self.inside.core.places.items t p (ap (λ ps. slice_get ps t) (sym c.deref.ensures.value) ∙ here))))
+    rw (← c.self.view_is) (sym (ap (λ o. option_and_then (λ (q : Place _ _ _ _ _). q.started) o)
+    (view-at place_of c.self.inside.core.places.items t p
+    (ap (λ ps. slice_get ps t) (sym c.deref.ensures.value) ∙ here))))
 
 pub returns-in-None : goal.returns-in-None
 returns-in-None g c =
@@ -23,5 +25,6 @@ returns-in-None g c =
     let long = ap length c.deref.ensures.value in
     rw (← c.self.view_is) (elim (slice_get_cases places t).1 [
       | inl here ↦ absurd (let within = slice_get_within places t here.0 here.2 in omega (arith, within, past, long))
-      | inr none ↦ sym (ap (λ o. option_and_then (λ (q : Place _ _ _ _ _). q.started) o) (slice_get-map place_of places t ∙ ap (option_map place_of) none.1))
+      | inr none ↦ sym (ap (λ o. option_and_then (λ (q : Place _ _ _ _ _). q.started) o)
+          (slice_get-map place_of places t ∙ ap (option_map place_of) none.1))
     ])

@@ -1,4 +1,0 @@
-use Rattle.dashmap_workload.proofs.bare.Bare.window_sum.Given as goal
-
-abbrev pub decreases-loop-lane : goal.decreases-loop-lane
-decreases-loop-lane g l = l.left.bits

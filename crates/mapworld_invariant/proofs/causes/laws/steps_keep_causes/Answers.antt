@@ -1,5 +1,0 @@
-use Rattle.mapworld_invariant.proofs.CausesFacts.Keeping.{causes-step}
-use Rattle.mapworld_invariant.proofs.causes.laws.steps_keep_causes.Goals as goal
-
-pub returns : goal.returns
-returns g c = λ x laws w s w' sound locks causes step. causes-step x laws w s w' sound locks.fit locks.threads causes step

@@ -1,5 +1,0 @@
-use Rattle.mapworld_invariant.proofs.CausesFacts.Meeting.{words-have_calls}
-use Rattle.mapworld_invariant.proofs.causes.laws.words_have_calls.Goals as goal
-
-pub returns : goal.returns
-returns g c = λ x w sound locks causes. words-have_calls x w sound locks.fit locks.threads causes

@@ -1,0 +1,168 @@
+-- A try that is told that it is locked has a cause.
+use Rattle.std.proofs.Common.{◌≡◌, ℕ, ◌+◌, ◌≤◌, ◌⊎◌, inl, inr, Bool, true, false, List, [], ◌∷◌, ◌++◌, length, Some, slice_get, refl, sym, ap, ◌∙◌, subst, arith}
+use Rattle.std.specs.Option.{option_map}
+use Rattle.std.proofs.lemmas.Bool.{false≢true}
+use Rattle.std.proofs.lemmas.Option.{same_Some}
+use Rattle.parking_lot_protocol.specs.declared.act.CoreAnswer.{CoreAnswer}
+use Rattle.parking_lot_protocol.specs.declared.act.CoreAnswer.TheVariants.{Refused}
+use Rattle.parking_lot_protocol.specs.declared.rw_phase.AfterWake.{AfterWake}
+use Rattle.parking_lot_protocol.specs.declared.rw_phase.Outcome.{Outcome}
+use Rattle.parking_lot_protocol.specs.declared.rw_phase.RwPhase.{RwPhase}
+use Rattle.parking_lot_protocol.specs.RwTable.{act_of}
+use Rattle.parking_lot_machine_calls.specs.declared.open_call.Call.{Call}
+use Rattle.parking_lot_machine_calls.specs.declared.seat.Core.{Core}
+use Rattle.parking_lot_machine.specs.Machines.{end_of}
+use Rattle.parking_lot_machine_calls.specs.Stances.{core_act, has_begun, rw_begun}
+use Rattle.lock_api_desk.specs.declared.mode.Mode.{Mode}
+use Rattle.mapworld_state.specs.Holds.{at_desk}
+use Rattle.mapworld_calls.specs.declared.ask.Begin.{Begin}
+use Rattle.mapworld_calls.specs.declared.reply.Reply.{Reply}
+use Rattle.mapworld_calls.specs.declared.reply.Answer.{Answer}
+use Rattle.mapworld_calls.specs.declared.reply.Answer.TheVariants as answer
+use Rattle.mapworld_calls.specs.Programs.{opening_key}
+use Rattle.mapworld_calls.specs.Setup.{Setup, ask_at}
+use Rattle.mapworld_calls.specs.Shards.{HasCause, IsOnShard}
+use Rattle.mapworld_calls.proofs.Lists.{slice_get-set_same}
+use Rattle.mapworld_state.specs.Locks.Aims.{Gets, phase_aim}
+use Rattle.mapworld_state.specs.Locks.Fits.{LocksFit}
+use Rattle.mapworld_state.specs.Locks.Stands.{core_aim, stand_in, stand_of}
+use Rattle.mapworld_state.specs.declared.place.Phase.{Phase}
+use Rattle.mapworld_state.specs.declared.place.Phase.TheVariants as phase
+use Rattle.mapworld_state.specs.declared.place.Request.{Request}
+use Rattle.mapworld_state.specs.declared.place.Request.TheVariants as request
+use Rattle.mapworld_state.specs.declared.step.Step.{Step}
+use Rattle.mapworld_state.specs.Held.{IsWanting, StandsBefore}
+use Rattle.mapworld_state.specs.Moves.{ask_of, mode_of, request_key, request_tries}
+use Rattle.mapworld_state.specs.Places.{Place}
+use Rattle.mapworld_state.specs.Sound.{Sound}
+use Rattle.mapworld_state.specs.State.{State, next_step, started_of, threads_of}
+use Rattle.mapworld_state.specs.Steps.{Answers, Concludes, owed, locked, idle, IsLocked}
+use Rattle.mapworld_state.proofs.InvariantFacts.Adding.{Step-adds}
+use Rattle.mapworld_state.proofs.InvariantFacts.Building.{Goes, claim-at}
+use Rattle.mapworld_state.specs.Invariant.Causes.Causes.{HasCauses, HasMet, IsTold, has_seen, has_seen_in, is_locked}
+use Rattle.mapworld_state.proofs.InvariantFacts.CausesFacts.Shapes.{Shape}
+use Rattle.mapworld_state.proofs.InvariantFacts.CausesFacts.Staying.{on-kept}
+
+-- a call that was to get a lock and is refused has seen a word that isn't 0
+refused-seen : (k : Core) (m : Mode) → has_begun k ≡ true → core_aim k ≡ Gets m → end_of (core_act k) ≡ Some Refused → has_seen k ≡ true
+refused-seen (Core.Mutex c) m begun aim end = absurd cc
+refused-seen (Core.Late c) m begun aim end = absurd cc
+refused-seen (Core.LateRw p) m begun aim end = absurd cc
+refused-seen (Core.Upgrade c) m begun aim end = absurd cc
+refused-seen (Core.Rw c) m begun aim end = by c.phase begun aim end
+  where
+    by : (p : RwPhase) → rw_begun p ≡ true → phase_aim p ≡ Gets m → end_of (act_of p) ≡ Some Refused → has_seen_in p ≡ true
+    by (RwPhase.Refuses want) h a e = refl
+    by (RwPhase.Finishes AfterWake.FreedShared) h a e = absurd cc
+    by (RwPhase.Finishes AfterWake.FreedExclusive) h a e = absurd cc
+    by (RwPhase.Finishes AfterWake.Downgraded) h a e = absurd cc
+    by (RwPhase.Finishes AfterWake.AgainShared) h a e = absurd cc
+    by (RwPhase.Finishes AfterWake.AgainExclusive) h a e = absurd cc
+    by (RwPhase.Ends Outcome.Shared) h a e = absurd cc
+    by (RwPhase.Ends Outcome.Exclusive) h a e = absurd cc
+    by (RwPhase.Ends Outcome.Downgraded) h a e = absurd cc
+    by (RwPhase.Ends Outcome.FreedShared) h a e = absurd cc
+    by (RwPhase.Ends Outcome.FreedExclusive) h a e = absurd cc
+    by p h a e = absurd cc
+
+-- so a try that is told that its shard is locked has met another's call
+module _ {K V S D T A : Type 0} (x : Setup K V D T) (w : State K V S D T A) (sound : Sound x w) (fit : LocksFit w.locks) (causes : HasCauses x w) (t : ℕ) (v : State K V S D T A) (e : IsLocked w t v) where
+  wants : IsWanting e.place (mode_of e.request) (request_tries e.request) (stand_in w.locks t)
+  wants = subst (λ (g : Phase K V D T A). StandsBefore e.place g (stand_in w.locks t)) e.before (sound.holds.stands t e.place e.stands)
+
+  abbrev c : Call
+  c = e.ends.steps.call
+
+  is-stand : stand_of c ≡ record { shard = e.place.shard; aim = Gets (at_desk (mode_of e.request)); trying = wants.trying }
+  is-stand = same_Some (stand_of c) _ (sym (ap (option_map stand_of) e.ends.steps.here) ∙ wants.is)
+
+  pub met : HasMet x w t e.place
+  met = causes.met t e.place c e.stands e.ends.steps.here
+      (refused-seen c.core (at_desk (mode_of e.request)) (fit.fits.rules.begun t c e.ends.steps.here).begun (ap (λ z. z.aim) is-stand) (sym e.ends.steps.answers))
+
+  -- it is an opening that tries
+  pub opening : (g : Begin K) × (e.request ≡ request.Begin g)
+  opening = by e.request refl
+    where
+      tries : wants.trying ≡ true
+      tries = by-bool wants.trying refl
+        where
+          by-bool : (b : Bool) → wants.trying ≡ b → b ≡ true
+          by-bool true is = refl
+          by-bool false is =
+              let same = same_Some e.ends.stand _ (sym e.ends.stood ∙ wants.is) in
+              let owned : Refused ≡ CoreAnswer.Owned = e.ends.patient (at_desk (mode_of e.request)) (ap (λ z. z.aim) same) (ap (λ z. z.trying) same ∙ is) in
+              absurd cc
+
+      by : (r : Request K V D) → e.request ≡ r → (g : Begin K) × (e.request ≡ request.Begin g)
+      by (request.Begin g) is = (g, is)
+      by (request.Keyed k) is = absurd (false≢true (sym (wants.patient (ap request_tries is)) ∙ tries))
+
+-- THE ANSWER
+
+-- of what it was told at a step each thread's place tells still
+told-at : {K V D T A : Type 0} (f : Phase K V D T A) (a : Answer K V T A) → f ≡ phase.Answer a → IsTold f → is_locked a ≡ false
+told-at f a is told = subst IsTold is told
+
+last-of : {X : Type 0} (xs : List X) (y z : X) → xs ++ y ∷ [] ≡ xs ++ z ∷ [] → y ≡ z
+last-of [] y z e = cc
+last-of (x ∷ xs) y z e = last-of xs y z (let same : x ∷ (xs ++ y ∷ []) ≡ x ∷ (xs ++ z ∷ []) = e in cc)
+
+module _ {K V S D T A : Type 0} (x : Setup K V D T) (w : State K V S D T A) (s : Step) (w' : State K V S D T A) (sound : Sound x w) (fit : LocksFit w.locks) (goes : Goes x s.thread w w') (shape : Shape w w' s) (adds : Step-adds w w' s)
+    (causes : HasCauses x w) where
+  abbrev t : ℕ
+  t = s.thread
+
+  -- a cause stays one
+  pub cause-on : (r : Reply K V T A) → r.end ≤ next_step w → HasCause x (started_of w) w.blocks w.replies r → HasCause x (started_of w') w'.blocks w'.replies r
+  cause-on r le h = record {
+    opening = h.opening;
+    asked = h.asked;
+    step = h.step;
+    from = h.from;
+    until = h.until;
+    other = h.other;
+    another = h.another;
+    on = on-kept x w s w' sound goes shape adds h.other (x.route (opening_key h.opening)) h.step (inl (let u = h.until in omega (arith, u, le))) h.on;
+  }
+
+  module _ (v : State K V S D T A) (a : Answers x v s w') (p : Place K V D T A) (at : slice_get w.places t ≡ Some p) where
+    -- the answer of a place that stood before it
+    unlocked : p.phase ≡ phase.Answer a.answer → is_locked a.answer ≡ false
+    unlocked is = told-at p.phase a.answer is (causes.untold t p at)
+
+  -- the reply of a try that was told so
+  locked-cause : (v : State K V S D T A) (e : IsLocked w t v) (a : Answers x v s w') (steps : v.steps ≡ w.steps)
+      → HasCause x (started_of w') w'.blocks w'.replies (record { thread = t; call = a.place.next; start = a.start; end = next_step v; answer = a.answer })
+  locked-cause v e a steps =
+      let m = met x w sound fit causes t v e in
+      let g = opening x w sound fit causes t v e in
+      let claim = claim-at x (threads_of w) w.blocks w.replies w.tables t e.place (phase.Admit e.request) e.before (sound.stands t e.place e.stands) in
+      let now : Place K V D T A = record (e.place) { phase = phase.Answer answer.Locked } in
+      let here : a.place ≡ now = same_Some a.place now (sym a.stands ∙ ap (λ z. slice_get z.places t) e.after ∙ slice_get-set_same w.places t e.place now e.stands) in
+      let begun : a.start ≡ m.start = same_Some a.start m.start (sym a.begun ∙ ap (λ z. z.started) here ∙ m.started) in
+      let end : next_step v ≡ next_step w = ap (λ z. length z + 1) steps in
+      record {
+        opening = g.0;
+        asked = ap (λ z. ask_at x t z.next) here ∙ claim.0.asked ∙ ap (λ z. Some (ask_of z)) g.1;
+        step = m.step;
+        from = (let le = m.from in omega (arith, le, begun));
+        until = (let le = m.until in omega (arith, le, end));
+        other = m.other;
+        another = m.another;
+        on = subst (λ (n : ℕ). IsOnShard x (started_of w') w'.blocks w'.replies m.other n m.step) (claim.1.shard ∙ ap (λ z. x.route (request_key z)) g.1)
+            (on-kept x w s w' sound goes shape adds m.other e.place.shard m.step (inl m.until) m.on);
+      }
+
+  pub answer-cause : (v : State K V S D T A) → (v ≡ w) ⊎ Concludes w t v → (a : Answers x v s w') → is_locked a.answer ≡ true
+      → HasCause x (started_of w') w'.blocks w'.replies (record { thread = t; call = a.place.next; start = a.start; end = next_step v; answer = a.answer })
+  answer-cause v (inl same) a locked_ = absurd (false≢true (sym (unlocked v a a.place (sym (ap (λ z. slice_get z.places t) same) ∙ a.stands) a.before) ∙ locked_))
+  answer-cause v (inr (owed e)) a locked_ =
+      absurd (false≢true (sym (unlocked v a a.place (sym (ap (λ z. slice_get z.places t) e.after) ∙ a.stands) a.before) ∙ locked_))
+  answer-cause v (inr (locked e)) a locked_ = locked-cause v e a (ap (λ z. z.steps) e.after)
+  answer-cause v (inr (idle e)) a locked_ =
+      let now : Place K V D T A = record (e.place) { phase = phase.Answer e.answer } in
+      let here : a.place ≡ now = same_Some a.place now (sym a.stands ∙ ap (λ z. slice_get z.places t) e.after ∙ slice_get-set_same w.places t e.place now e.stands) in
+      let is : phase.Answer a.answer ≡ phase.Answer e.answer = sym a.before ∙ ap (λ z. z.phase) here in
+      let same : a.answer ≡ e.answer = cc in
+      absurd (false≢true (sym (ap is_locked (same ∙ e.told.is)) ∙ locked_))

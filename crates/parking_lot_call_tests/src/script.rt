@@ -1,0 +1,50 @@
+//! Calls at locks as data: what each is told stands beside the act that it must ask for then.
+
+use parking_lot_protocol::timed::{TimedAct, TimedSeen};
+use parking_lot_protocol::{Act, ActResult, MutexCore, RwCore};
+use parking_lot_protocol_rw::UpgradeCore;
+use parking_lot_protocol_rw::timed::TimedRwCore;
+use std::process::Abort;
+
+/// What a call is told, and what it must ask for then.
+pub type Line = (ActResult, Act);
+
+/// Tells a call at a mutex each of these, and looks whether it asks for what it must.
+pub fn follow_mutex(rt: &impl Abort, mut core: MutexCore, lines: &[Line]) -> MutexCore {
+    for (at, (seen, act)) in lines.iter().enumerate() {
+        let is_asked = core.next(*seen) == *act;
+        assert!(rt; is_asked, "line {at}");
+    }
+    core
+}
+
+/// The same of a call at a reader-writer lock.
+pub fn follow_rw(rt: &impl Abort, mut core: RwCore, lines: &[Line]) -> RwCore {
+    for (at, (seen, act)) in lines.iter().enumerate() {
+        let is_asked = core.next(*seen) == *act;
+        assert!(rt; is_asked, "line {at}");
+    }
+    core
+}
+
+/// The same of a call of an upgradable hold.
+pub fn follow_upgrade(rt: &impl Abort, mut core: UpgradeCore, lines: &[Line]) -> UpgradeCore {
+    for (at, (seen, act)) in lines.iter().enumerate() {
+        let is_asked = core.next(*seen) == *act;
+        assert!(rt; is_asked, "line {at}");
+    }
+    core
+}
+
+/// The same of a call that may give up.
+pub fn follow_in_time(
+    rt: &impl Abort,
+    mut core: TimedRwCore,
+    lines: &[(TimedSeen, TimedAct)],
+) -> TimedRwCore {
+    for (at, (seen, act)) in lines.iter().enumerate() {
+        let is_asked = core.next(*seen) == *act;
+        assert!(rt; is_asked, "line {at}");
+    }
+    core
+}

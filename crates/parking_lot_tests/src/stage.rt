@@ -1,0 +1,488 @@
+//! Where plays take place: a running lock on a lot, with up to three threads that follow their lines, or four that make rounds.
+
+use crate::calls::{Line, NOTHING, Round, Tally, Verdict, WRONG, sum};
+use crate::scene::Scene;
+use crate::{mutex_steps, reentrant_steps, rw_steps};
+use lock_api::{Mutex, ReentrantMutex, RwLock};
+use lock_api_raw::{
+    GetThreadId, RawMutex as AnyRawMutex, RawMutexFair, RawMutexTimed, RawRwLock as AnyRawRwLock,
+    RawRwLockUpgradeDowngrade, RawRwLockUpgradeFair, RawRwLockUpgradeTimed,
+};
+use parking_lot_core::{DEFAULT_UNPARK_TOKEN, ParkingLot, ThreadData, unpark_one};
+use parking_lot_mutex::{RawFairMutex, RawMutex, RawThreadId};
+use parking_lot_rwlock::{LockTable, RawRwLock};
+use std::alloc::Global;
+use std::process::Abort;
+use std::sync::Wait;
+use std::sync::atomic::AtomicU64;
+use std::test::Fail;
+use std::thread;
+use std::thread::Threads;
+use std::time::{Clock, Duration, Instant};
+
+/// A lock of each kind, the reader-writer locks with so many readers.
+#[derive(Clone, Copy)]
+pub enum Kind {
+    Plain,
+    Fair,
+    ReadWrite(u64),
+    Recursive(u64),
+    /// A reentrant mutex of two holds.
+    Reentrant,
+}
+
+/// What a play is given.
+#[derive(Clone, Copy)]
+pub struct Setting {
+    pub kind: Kind,
+    /// How often nobody is unparked before, which leads the lot to the release that is fair.
+    pub unparks: u32,
+    /// The number of the second thread's lot. The lock stands on lot 7.
+    pub lot: u64,
+}
+
+/// A lock of that kind, with threads of its own lot.
+pub const fn on(kind: Kind) -> Setting {
+    Setting {
+        kind,
+        unparks: 0,
+        lot: 7,
+    }
+}
+
+/// A play: what each thread does, and what is done once they have ended.
+pub type Lines<'s> = [&'s [Line]; 4];
+
+/// A lock that threads play at, whichever it is.
+trait Stage<R: Wait + Clock> {
+    /// Follows the lines.
+    fn follow(
+        &self,
+        scene: &Scene<'_, '_, R>,
+        lines: &[Line],
+        me: &mut ThreadData,
+        other: &mut ThreadData,
+    ) -> Verdict;
+
+    /// Makes the rounds.
+    fn take_turns(
+        &self,
+        scene: &Scene<'_, '_, R>,
+        rounds: &[Round],
+        times: u32,
+        me: &mut ThreadData,
+    ) -> Tally;
+}
+
+impl<M, R: Wait + Clock> Stage<R> for Mutex<M, u64>
+where
+    M: AnyRawMutex<Party = ThreadData> + RawMutexFair,
+    M: RawMutexTimed<Duration = Duration, Instant = Instant>,
+    M::Runtime: Wait,
+{
+    fn follow(
+        &self,
+        scene: &Scene<'_, '_, R>,
+        lines: &[Line],
+        me: &mut ThreadData,
+        other: &mut ThreadData,
+    ) -> Verdict {
+        mutex_steps::follow(self, scene, lines, me, other)
+    }
+
+    fn take_turns(
+        &self,
+        scene: &Scene<'_, '_, R>,
+        rounds: &[Round],
+        times: u32,
+        me: &mut ThreadData,
+    ) -> Tally {
+        mutex_steps::take_turns(self, scene, rounds, times, me)
+    }
+}
+
+impl<L, R: Wait + Clock> Stage<R> for RwLock<L, u64>
+where
+    L: AnyRawRwLock<Party = ThreadData> + RawRwLockUpgradeFair + RawRwLockUpgradeDowngrade,
+    L: RawRwLockUpgradeTimed<Duration = Duration, Instant = Instant>,
+    L::Runtime: Wait,
+{
+    fn follow(
+        &self,
+        scene: &Scene<'_, '_, R>,
+        lines: &[Line],
+        me: &mut ThreadData,
+        other: &mut ThreadData,
+    ) -> Verdict {
+        rw_steps::follow(self, scene, lines, me, other)
+    }
+
+    fn take_turns(
+        &self,
+        scene: &Scene<'_, '_, R>,
+        rounds: &[Round],
+        times: u32,
+        me: &mut ThreadData,
+    ) -> Tally {
+        rw_steps::take_turns(self, scene, rounds, times, me)
+    }
+}
+
+impl<M, G, R: Wait + Clock> Stage<R> for ReentrantMutex<M, G, u64>
+where
+    M: AnyRawMutex<Party = ThreadData> + RawMutexFair + Drop,
+    M: RawMutexTimed<Duration = Duration, Instant = Instant>,
+    G: GetThreadId<Party = ThreadData> + Drop,
+    M::Runtime: Wait,
+{
+    fn follow(
+        &self,
+        scene: &Scene<'_, '_, R>,
+        lines: &[Line],
+        me: &mut ThreadData,
+        other: &mut ThreadData,
+    ) -> Verdict {
+        reentrant_steps::follow(self, scene, lines, me, other)
+    }
+
+    fn take_turns(
+        &self,
+        scene: &Scene<'_, '_, R>,
+        _rounds: &[Round],
+        times: u32,
+        me: &mut ThreadData,
+    ) -> Tally {
+        reentrant_steps::take_turns(self, scene, times, me)
+    }
+}
+
+/// Follows the lines as a participant of the lot.
+fn act<R: Wait + Clock, L: Stage<R>>(
+    lot: &ParkingLot<R>,
+    lock: &L,
+    scene: &Scene<'_, '_, R>,
+    lines: &[Line],
+) -> Verdict {
+    if lines.is_empty() {
+        return None;
+    }
+    let Ok(mut me) = lot.thread_data() else {
+        return Some(0);
+    };
+    let Ok(mut other) = lot.thread_data() else {
+        return Some(0);
+    };
+    lock.follow(scene, lines, &mut me, &mut other)
+}
+
+/// Has two threads follow their lines beside each other.
+fn pair_together<R: Wait + Threads + Clock + Sync, L: Stage<R> + Sync>(
+    lot: &ParkingLot<R>,
+    lock: &L,
+    scene: &Scene<'_, '_, R>,
+    first: &[Line],
+    second: &[Line],
+) -> (Verdict, Verdict) {
+    thread::join(
+        scene.rt,
+        || act(lot, lock, scene, first),
+        || act(lot, lock, scene, second),
+    )
+}
+
+/// Has the threads follow their lines beside each other, the first on the first lot.
+fn play_together<R: Wait + Threads + Clock + Sync, L: Stage<R> + Sync>(
+    own: &ParkingLot<R>,
+    others: &ParkingLot<R>,
+    lock: &L,
+    scene: &Scene<'_, '_, R>,
+    lines: Lines,
+) -> [Verdict; 4] {
+    let [first, second, third, last] = lines;
+    let (one, (two, three)) = thread::join(
+        scene.rt,
+        || act(own, lock, scene, first),
+        || pair_together(others, lock, scene, second, third),
+    );
+    [one, two, three, act(own, lock, scene, last)]
+}
+
+/// Makes the rounds as a participant of the lot.
+fn turns<R: Wait + Clock, L: Stage<R>>(
+    lot: &ParkingLot<R>,
+    lock: &L,
+    scene: &Scene<'_, '_, R>,
+    rounds: &[Round],
+    times: u32,
+) -> Tally {
+    match lot.thread_data() {
+        Ok(mut me) => lock.take_turns(scene, rounds, times, &mut me),
+        Err(_full) => WRONG,
+    }
+}
+
+/// Has two threads make the rounds beside each other.
+fn two<R: Wait + Threads + Clock + Sync, L: Stage<R> + Sync>(
+    lot: &ParkingLot<R>,
+    lock: &L,
+    scene: &Scene<'_, '_, R>,
+    rounds: &[Round],
+    times: u32,
+) -> Tally {
+    let (one, other) = thread::join(
+        scene.rt,
+        || turns(lot, lock, scene, rounds, times),
+        || turns(lot, lock, scene, rounds, times),
+    );
+    sum(one, other)
+}
+
+/// Has four threads make them.
+fn four<R: Wait + Threads + Clock + Sync, L: Stage<R> + Sync>(
+    lot: &ParkingLot<R>,
+    lock: &L,
+    scene: &Scene<'_, '_, R>,
+    rounds: &[Round],
+    times: u32,
+) -> Tally {
+    let (one, other) = thread::join(
+        scene.rt,
+        || two(lot, lock, scene, rounds, times),
+        || two(lot, lock, scene, rounds, times),
+    );
+    sum(one, other)
+}
+
+/// Unparks so often the first waiter of a key that has none.
+fn unpark_nobody<R: Wait>(lot: &ParkingLot<R>, times: u32) {
+    for _turn in 0..times {
+        unpark_one(lot, 1_000, |_| DEFAULT_UNPARK_TOKEN);
+    }
+}
+
+/// Looks whether each line was answered as it must be.
+fn judge(rt: &impl Abort, name: &str, verdicts: &[Verdict]) {
+    for (thread, verdict) in verdicts.iter().enumerate() {
+        if let Some(line) = verdict {
+            assert!(rt; false, "{name}: thread {thread}, line {line}");
+        }
+    }
+}
+
+/// What is to happen at a lock: rounds, or where there are none a play.
+#[derive(Clone, Copy)]
+struct Plan<'p> {
+    lines: Lines<'p>,
+    rounds: &'p [Round],
+    times: u32,
+}
+
+/// What has happened at a lock: which line was answered otherwise, what was added and read, and the count in the end.
+#[derive(Drop)]
+struct Outcome {
+    verdicts: [Verdict; 4],
+    tally: Tally,
+    said: u64,
+}
+
+/// Has it happen at the lock, over a scene of its own.
+fn happen<'s, 'l, R: Wait + Threads + Clock + Sync, L: Stage<R> + Sync>(
+    rt: &'s R,
+    table: &'s LockTable<'l, R>,
+    lots: (&ParkingLot<R>, &ParkingLot<R>),
+    lock: &L,
+    past: Instant,
+    plan: Plan,
+) -> Outcome {
+    let (own, others) = lots;
+    let scene = Scene {
+        rt,
+        table,
+        past,
+        said: AtomicU64::new(0),
+    };
+    let mut verdicts = [None; 4];
+    let mut tally = NOTHING;
+    if plan.rounds.is_empty() {
+        verdicts = play_together(own, others, lock, &scene, plan.lines);
+    } else {
+        tally = four(own, lock, &scene, plan.rounds, plan.times);
+    }
+    let said = scene.said();
+    Outcome {
+        verdicts,
+        tally,
+        said,
+    }
+}
+
+/// Has it happen at a mutex.
+fn at_mutex<'s, 'l, R: Wait + Threads + Clock + Sync, M>(
+    rt: &'s R,
+    table: &'s LockTable<'l, R>,
+    lots: (&ParkingLot<R>, &ParkingLot<R>),
+    mutex: &Mutex<M, u64>,
+    past: Instant,
+    plan: Plan,
+) -> Outcome
+where
+    M: AnyRawMutex<Party = ThreadData> + RawMutexFair + Sync,
+    M: RawMutexTimed<Duration = Duration, Instant = Instant>,
+    M::Runtime: Wait,
+{
+    happen(rt, table, lots, mutex, past, plan)
+}
+
+/// Has it happen at a reader-writer lock.
+fn at_rwlock<'s, 'l, R: Wait + Threads + Clock + Sync, L>(
+    rt: &'s R,
+    table: &'s LockTable<'l, R>,
+    lots: (&ParkingLot<R>, &ParkingLot<R>),
+    lock: &RwLock<L, u64>,
+    past: Instant,
+    plan: Plan,
+) -> Outcome
+where
+    L: AnyRawRwLock<Party = ThreadData> + RawRwLockUpgradeFair + RawRwLockUpgradeDowngrade + Sync,
+    L: RawRwLockUpgradeTimed<Duration = Duration, Instant = Instant>,
+    L::Runtime: Wait,
+{
+    happen(rt, table, lots, lock, past, plan)
+}
+
+/// Has it happen at a reentrant mutex.
+fn at_reentrant<'s, 'l, R: Wait + Threads + Clock + Sync, M, G>(
+    rt: &'s R,
+    table: &'s LockTable<'l, R>,
+    lots: (&ParkingLot<R>, &ParkingLot<R>),
+    mutex: &ReentrantMutex<M, G, u64>,
+    past: Instant,
+    plan: Plan,
+) -> Outcome
+where
+    M: AnyRawMutex<Party = ThreadData> + RawMutexFair + Drop + Sync,
+    M: RawMutexTimed<Duration = Duration, Instant = Instant>,
+    G: GetThreadId<Party = ThreadData> + Drop + Sync,
+    M::Guard: Send + Sync,
+    M::Runtime: Wait,
+{
+    happen(rt, table, lots, mutex, past, plan)
+}
+
+/// Has it happen at a new lock of that kind.
+fn at_new<'s, 'l, R: Wait + Threads + Clock + Sync>(
+    rt: &'s R,
+    table: &'s LockTable<'l, R>,
+    lots: (&ParkingLot<R>, &ParkingLot<R>),
+    kind: Kind,
+    past: Instant,
+    plan: Plan,
+) -> Result<Outcome, Fail> {
+    match kind {
+        Kind::Plain => {
+            let mutex: Mutex<RawMutex<'_, '_, R>, u64> = Mutex::new(table, 0)?;
+            Ok(at_mutex(rt, table, lots, &mutex, past, plan))
+        },
+        Kind::Fair => {
+            let mutex: Mutex<RawFairMutex<'_, '_, R>, u64> = Mutex::new(table, 0)?;
+            Ok(at_mutex(rt, table, lots, &mutex, past, plan))
+        },
+        Kind::ReadWrite(limit) => {
+            let lock: RwLock<RawRwLock<'_, '_, R, 0>, u64> = RwLock::new(table, limit, 0)?;
+            Ok(at_rwlock(rt, table, lots, &lock, past, plan))
+        },
+        Kind::Recursive(limit) => {
+            let lock: RwLock<RawRwLock<'_, '_, R, 1>, u64> = RwLock::new(table, limit, 0)?;
+            Ok(at_rwlock(rt, table, lots, &lock, past, plan))
+        },
+        Kind::Reentrant => {
+            let mutex: ReentrantMutex<RawMutex<'_, '_, R>, RawThreadId, u64> = ReentrantMutex::new(
+                table, 2, 5,
+            )?;
+            Ok(at_reentrant(rt, table, lots, &mutex, past, plan))
+        },
+    }
+}
+
+/// Has it happen on a new lot, at a new lock whose word must be 0 in the end.
+fn staged<R: Wait + Threads + Clock + Abort + Sync + Copy + Drop>(
+    rt: R,
+    alloc: Global,
+    name: &str,
+    setting: Setting,
+    plan: Plan,
+) -> Result<Outcome, Fail> {
+    let own = ParkingLot::new(rt, alloc, 8, 7)?;
+    let others = ParkingLot::new(rt, alloc, 8, setting.lot)?;
+    unpark_nobody(&own, setting.unparks);
+    let table = LockTable::new(alloc, &own, 1)?;
+    let past = Instant::now(&rt)?;
+    let outcome = if setting.lot == 7 {
+        at_new(&rt, &table, (&own, &own), setting.kind, past, plan)?
+    } else {
+        at_new(&rt, &table, (&own, &others), setting.kind, past, plan)?
+    };
+    assert!(rt; table.word(0) == Some(0), "{name}: the word in the end");
+    Ok(outcome)
+}
+
+/// Has four threads make the rounds so many times at a new lock of that kind. It answers what they have added, which must be the count.
+pub fn crowd<R: Wait + Threads + Clock + Abort + Sync + Copy + Drop>(
+    rt: R,
+    alloc: Global,
+    name: &str,
+    kind: Kind,
+    rounds: &[Round],
+    times: u32,
+) -> Result<u64, Fail> {
+    let plan = Plan {
+        lines: [&[], &[], &[], &[]],
+        rounds,
+        times,
+    };
+    let outcome = staged(rt, alloc, name, on(kind), plan)?;
+    assert!(rt; outcome.tally.right, "{name}: what was read");
+    assert!(rt; outcome.said == outcome.tally.added, "{name}: the count");
+    Ok(outcome.tally.added)
+}
+
+/// Plays at a new lock, whose word must be 0 in the end.
+pub fn play<R: Wait + Threads + Clock + Abort + Sync + Copy + Drop>(
+    rt: R,
+    alloc: Global,
+    name: &str,
+    setting: Setting,
+    lines: Lines,
+) -> Result<(), Fail> {
+    let plan = Plan {
+        lines,
+        rounds: &[],
+        times: 0,
+    };
+    let outcome = staged(rt, alloc, name, setting, plan)?;
+    judge(&rt, name, &outcome.verdicts);
+    Ok(())
+}
+
+/// Has one thread follow the lines at a new lock.
+pub fn alone<R: Wait + Threads + Clock + Abort + Sync + Copy + Drop>(
+    rt: R,
+    alloc: Global,
+    name: &str,
+    setting: Setting,
+    lines: &[Line],
+) -> Result<(), Fail> {
+    play(rt, alloc, name, setting, [lines, &[], &[], &[]])
+}
+
+/// Has two threads follow their lines at a new lock.
+pub fn pair<R: Wait + Threads + Clock + Abort + Sync + Copy + Drop>(
+    rt: R,
+    alloc: Global,
+    name: &str,
+    setting: Setting,
+    first: &[Line],
+    second: &[Line],
+) -> Result<(), Fail> {
+    play(rt, alloc, name, setting, [first, second, &[], &[]])
+}

@@ -1,7 +1,0 @@
--- A history owns no memory, so what a thread is given with it names no thread.
-use denote.RattleType.{RattleType}
-use denote.Param.Send.{IsSend, owning_send, sendable}
-use Rattle.past.specs.contracts.Past.{the_row, the_type}
-
-pub send : (T : RattleType) → IsSend (the_row T)
-send T = owning_send (the_type T) (search sendable, tt) (λ d. tt) (λ k x w. tt)
