@@ -1,7 +1,8 @@
 //! The crate to name for maps and sets that threads share by reference.
 //!
-//! It hands on the running map and the set, with their guards and entries, plain shards and views of them, the recorded map with its
-//! judge, and what a map's locks are made of. [`DashMap`] and [`DashSet`] are those over `parking_lot`'s reader-writer lock.
+//! It hands on the running map and the set, with their guards and entries, plain shards and views of them, the recorded
+//! map with its judge, and what a map's locks are made of. [`DashMap`] and [`DashSet`] are those over `parking_lot`'s
+//! reader-writer lock.
 //!
 //! ```text
 //! let lot = ParkingLot::new(rt, alloc, 3, 1)?;

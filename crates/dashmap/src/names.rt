@@ -1,7 +1,7 @@
 //! The map, the set and the map's views over the locks of `parking_lot`, under their usual names.
 //!
-//! `S` is the hasher, `R` the lot's runtime and `A` the allocator of the lot and of the map. The lifetimes are those of the lock table
-//! and of the lot.
+//! `S` is the hasher, `R` the lot's runtime and `A` the allocator of the lot and of the map. The lifetimes are those of
+//! the lock table and of the lot.
 
 use parking_lot_rwlock::RawRwLock;
 use std::alloc::Global;

@@ -208,7 +208,8 @@ fn print_sums<R: Wait + Copy + Drop>(
     Ok(())
 }
 
-/// A small run of each kind, whose lines are the same each time: the sums of what single threads saw, and how many pairs teams left.
+/// A small run of each kind, whose lines are the same each time: the sums of what single threads saw, and how many
+/// pairs teams left.
 pub fn small_run<R: Wait + Threads + Clock + Sync + Copy + Drop>(
     rt: &HostRuntime,
     handle: R,

@@ -1,15 +1,21 @@
-//! What the calls of the running map cost, counted from outside by a tool that counts instructions, and how long they take.
+//! What the calls of the running map cost, counted from outside by a tool that counts instructions, and how long they
+//! take.
 //!
 //! Without arguments it makes one small run of each kind, and prints their checksums.
 //!
-//! - `st` prints a line for each call of one thread: its name and how many nanoseconds the call takes, with 1,000,000 keys and with
+//! - `st` prints a line for each call of one thread: its name and how many nanoseconds the call takes, with 1,000,000
+//!   keys and with
 //!   1,000.
 //! - `mt` prints a line for each mix of looks and insertions of one, two and four threads.
 //! - `par` prints a line for a sum over 1,000,000 pairs by one, two and four threads, side by side.
-//! - `mem` fills a map with 1,000,000 pairs and prints how many it has, for a tool that counts the memory that is asked for.
-//! - `table` prints a line for each call of one bare shard; `table CALL KEYS SHARDS` fills so many plain shards with the keys 0, 1, ..
-//!   and then makes the call once for each key (`fill` stops before), so that a call costs the difference of two counts by the keys.
-//! - `record CALLS` makes so many calls of a recorded map, gathers them, and prints how many nanoseconds each of them took.
+//! - `mem` fills a map with 1,000,000 pairs and prints how many it has, for a tool that counts the memory that is asked
+//!   for.
+//! - `table` prints a line for each call of one bare shard; `table CALL KEYS SHARDS` fills so many plain shards with
+//!   the keys 0, 1, ..
+//! and then makes the call once for each key (`fill` stops before), so that a call costs the difference of two counts
+//! by the keys.
+//! - `record CALLS` makes so many calls of a recorded map, gathers them, and prints how many nanoseconds each of them
+//!   took.
 #![tactic(auto)]
 
 mod fault;

@@ -1,4 +1,5 @@
-//! What gathering costs: callers that take turns make calls of all kinds on a recorded map, and what they noted is gathered.
+//! What gathering costs: callers that take turns make calls of all kinds on a recorded map, and what they noted is
+//! gathered.
 
 use crate::fault::Fault;
 use crate::notes::{Fold, Lists, noted};

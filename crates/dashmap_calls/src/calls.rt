@@ -61,7 +61,8 @@ pub enum Answer {
     Number(u64),
     /// A key and its value.
     Pair(u64, u64),
-    /// Three numbers. Of a walk: how many pairs it met, the sum of their keys, and how many had the value that was looked for.
+    /// Three numbers. Of a walk: how many pairs it met, the sum of their keys, and how many had the value that was
+    /// looked for.
     Three(u64, u64, u64),
 }
 

@@ -8,7 +8,8 @@ use std::alloc::Allocator;
 use std::hash::BuildHasher;
 use std::sync::Wait;
 
-/// What is done at a place, by its name there. The answer is the value that stands there afterwards, where nothing else is said.
+/// What is done at a place, by its name there. The answer is the value that stands there afterwards, where nothing else
+/// is said.
 #[derive(Clone, Copy)]
 pub enum Place {
     OrInsert(u64),

@@ -1,4 +1,5 @@
-//! Calls on a running map of numbers as data, and what they answer, for its tests: one function makes any call on a map over any lock.
+//! Calls on a running map of numbers as data, and what they answer, for its tests: one function makes any call on a map
+//! over any lock.
 #![tactic(auto)]
 
 mod calls;

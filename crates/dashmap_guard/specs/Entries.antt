@@ -8,7 +8,8 @@ use Rattle.dashmap_guard.specs.Guarded.{key_in}
 
 module _ {K V A W H D Lock Runtime Party Apart : Type 0} where
   -- what holds of an occupied entry, and what of a vacant one
-  abbrev pub by_entry : ((Guard W H Lock Runtime Party Apart × ℕ) × K → Type 0) → (Guard W H Lock Runtime Party Apart × ℕ × K → Type 0) → Entry K V A W H D Lock Runtime Party Apart → Type 0
+  abbrev pub by_entry : ((Guard W H Lock Runtime Party Apart × ℕ) × K → Type 0)
+      → (Guard W H Lock Runtime Party Apart × ℕ × K → Type 0) → Entry K V A W H D Lock Runtime Party Apart → Type 0
   by_entry occupied vacant (Occupied entry) = occupied entry
   by_entry occupied vacant (Vacant entry) = vacant entry
 

@@ -23,4 +23,5 @@ module _ {K V : Type 0} where
 
   -- the table with a part of the value in a slot stored
   abbrev pub with_part_in : {B : Type 0} → (V → B → V) → Table K V → ℕ → B → Table K V
-  with_part_in with_focus table slot part = record table { slots = changed (λ e. giving_value (with_focus e.value part) e) table.slots slot }
+  with_part_in with_focus table slot part =
+      record table { slots = changed (λ e. giving_value (with_focus e.value part) e) table.slots slot }

@@ -1,5 +1,6 @@
 //! A walk that lends the pairs one by one, to be read.
-ghost use Rattle.std.specs.Prelude.{◌≡◌, ℕ, ◌+◌, ◌<◌, ◌≤◌, None, Some, true, false, length, MatchOption, IfOk, IfSome, OnOk, OnErr, slice_get};
+ghost use Rattle.std.specs.Prelude.{◌≡◌, ℕ, ◌+◌, ◌<◌, ◌≤◌, None, Some, true, false, length, MatchOption, IfOk, IfSome};
+ghost use Rattle.std.specs.Prelude.{OnOk, OnErr, slice_get};
 ghost use Rattle.std.specs.Iterator.{at_most, UpTo};
 ghost use Rattle.std.specs.Iterator.SizeHint.{IsWithinCount};
 ghost use Rattle.std.specs.Sync.RwLock.{read_guard_value};
@@ -30,8 +31,9 @@ type ShardGuard<'m, K, V, Q, A> = SharedGuard<
 
 /// A walk that reads: each pair of the first shard, of the second, and so on. Nothing is held before the first item.
 ///
-/// An item shares the hold of its shard with the walk, which takes memory; where there is none the item is an error, and the walk ends. The
-/// next shard is held before the last one is given back, and the last is kept until the walk is dropped.
+/// An item shares the hold of its shard with the walk, which takes memory; where there is none the item is an error,
+/// and the walk ends. The next shard is held before the last one is given back, and the last is kept until the walk is
+/// dropped.
 pub struct Iter<'m, 'd, K: Eq + Hash, V, Q: RawRwLock, A: Allocator = Global>
 where
     Q::Runtime: Wait,
@@ -56,9 +58,16 @@ where
     ghost use Rattle.dashmap_table.specs.Table.{Table};
     ghost use Rattle.dashmap_iter.specs.Lending.{Walk};
 
-    ghost Value = { Walk Q (Guard (RwLockReadGuard (Table K V)) (Issued (Bor Q) Q.SharedGuard) Q Q.Runtime Q.Party (Bor Q)) };
+    ghost Value = { Walk Q
+        (Guard (RwLockReadGuard (Table K V)) (Issued (Bor Q) Q.SharedGuard) Q Q.Runtime Q.Party (Bor Q)) };
 
-    ghost view = { λ s. record { locks = s.locks.now; next = s.next; held = s.held; from = s.from; failed = s.failed } };
+    ghost view = { λ s. record {
+      locks = s.locks.now;
+      next = s.next;
+      held = s.held;
+      from = s.from;
+      failed = s.failed;
+    } };
 }
 
 impl<'m, 'd, K: Eq + Hash, V, Q: RawRwLock, A: Allocator> Drop for Iter<'m, 'd, K, V, Q, A>
@@ -106,7 +115,8 @@ where
 
     /// The next full slot of the shard that is held.
     fn next_slot(&self) -> Option<usize>
-        ensures { MatchOption result (IsThrough (λ g. read_guard_value g.inner) self.now) (IsNextFull (slots_held (λ g. read_guard_value g.inner) self.now.held) self.now.from) }
+        ensures { MatchOption result (IsThrough (λ g. read_guard_value g.inner) self.now)
+            (IsNextFull (slots_held (λ g. read_guard_value g.inner) self.now.held) self.now.from) }
     {
         match &self.held {
             Some(guard) => guard.inner().next_from(self.from),
@@ -117,7 +127,9 @@ where
     /// Lends the pair of a full slot.
     fn share(&mut self, slot: usize) -> Result<RefMulti<'m, 'd, K, V, Q, A>, NoMemory>
         requires { IsNextFull (slots_held (λ g. read_guard_value g.inner) self.old.held) self.old.from slot }
-        ensures lent { IfOk result (λ item. (self.old.held ≡ Some item.0) × (item.1 ≡ slot) × (self.new ≡ record self.old { from = slot + 1 })) }
+        ensures lent { IfOk result
+            (λ item. (self.old.held ≡ Some item.0) × (item.1 ≡ slot)
+            × (self.new ≡ record self.old { from = slot + 1 })) }
         ensures refused { OnErr result (self.new ≡ record self.old { failed = true }) }
     {
         let shared = match &self.held {
@@ -144,7 +156,8 @@ where
     /// Waits for a hold of the next shard.
     fn hold_next(&mut self) -> Result<ShardGuard<'m, K, V, Q, A>, NoMemory>
         requires { self.old.next < length self.old.locks }
-        ensures taken { IfOk result (λ g. option_map padded_value (slice_get self.old.locks self.old.next) ≡ Some g.held.0.place.now) }
+        ensures taken { IfOk result
+            (λ g. option_map padded_value (slice_get self.old.locks self.old.next) ≡ Some g.held.0.place.now) }
         ensures sound { IfOk result (λ g. IsSound K.eq (read_guard_value g.inner)) }
         ensures stays { self.new ≡ self.old }
     {
@@ -158,7 +171,13 @@ where
     /// Keeps the guard of the next shard, and gives the last one back.
     fn keep(&mut self, shared: ShardGuard<'m, K, V, Q, A>)
         requires { self.old.next < length self.old.locks }
-        ensures { self.new ≡ record { locks = self.old.locks; next = self.old.next + 1; held = Some shared.entry; from = 0; failed = self.old.failed } }
+        ensures { self.new ≡ record {
+          locks = self.old.locks;
+          next = self.old.next + 1;
+          held = Some shared.entry;
+          from = 0;
+          failed = self.old.failed;
+        } }
     {
         let last = self.held.replace(shared);
         self.next += 1;
@@ -171,7 +190,8 @@ where
     /// Holds the next shard, and then gives the last one back.
     fn enter(&mut self) -> Result<(), NoMemory>
         requires { self.old.next < length self.old.locks }
-        ensures entered { OnOk result (Enters K.eq (λ g. read_guard_value g.inner) (λ g. g.held.0.place.now) self.old self.new) }
+        ensures entered { OnOk result
+            (Enters K.eq (λ g. read_guard_value g.inner) (λ g. g.held.0.place.now) self.old self.new) }
         ensures refused { OnErr result (self.new ≡ self.old) }
     {
         let shared = self.hold_next()?;
@@ -181,8 +201,15 @@ where
 
     /// Goes on to the next pair, over shards in which none is left, and answers its slot.
     fn go_on(&mut self) -> Result<Option<usize>, NoMemory>
-        ensures there { IfOk result (λ found. (passed : ℕ) × Passes K.eq (λ g. read_guard_value g.inner) (λ g. g.held.0.place.now) passed self.old self.new × MatchOption found (IsThrough (λ g. read_guard_value g.inner) self.new × (length self.new.locks ≤ self.new.next)) (IsNextFull (slots_held (λ g. read_guard_value g.inner) self.new.held) self.new.from)) }
-        ensures refused { OnErr result ((passed : ℕ) × Passes K.eq (λ g. read_guard_value g.inner) (λ g. g.held.0.place.now) passed self.old self.new) }
+        ensures there { IfOk result
+            (λ found. (passed : ℕ) × Passes K.eq (λ g. read_guard_value g.inner) (λ g. g.held.0.place.now) passed
+            self.old self.new
+            × MatchOption found
+            (IsThrough (λ g. read_guard_value g.inner) self.new × (length self.new.locks ≤ self.new.next))
+            (IsNextFull (slots_held (λ g. read_guard_value g.inner) self.new.held) self.new.from)) }
+        ensures refused { OnErr result
+            ((passed : ℕ) × Passes K.eq (λ g. read_guard_value g.inner) (λ g. g.held.0.place.now) passed self.old
+            self.new) }
     {
         while self.next < self.locks.len() {
             if let Some(slot) = self.next_slot() {

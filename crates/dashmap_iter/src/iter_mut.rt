@@ -1,5 +1,6 @@
 //! A walk that lends the pairs one by one, to be written.
-ghost use Rattle.std.specs.Prelude.{◌≡◌, ℕ, ◌+◌, ◌^◌, ◌<◌, ◌≤◌, None, Some, false, length, MatchOption, IfSome, IfNone, IsSome, IsSomeAnd, slice_get};
+ghost use Rattle.std.specs.Prelude.{◌≡◌, ℕ, ◌+◌, ◌^◌, ◌<◌, ◌≤◌, None, Some, false, length, MatchOption, IfSome, IfNone};
+ghost use Rattle.std.specs.Prelude.{IsSome, IsSomeAnd, slice_get};
 ghost use Rattle.std.specs.Borrow.{Lends, RestsIfNone, sem};
 ghost use Rattle.std.specs.contracts.option.Option as option;
 ghost use Rattle.std.specs.Option.{option_map};
@@ -26,8 +27,10 @@ fn lend_held<'a, K: Eq + Hash + 'a, V: 'a, A: Allocator + 'a, W: LenderMut<Part 
     slot: usize,
 ) -> (&'a K, &'a mut V)
     requires { IsSomeAnd held.old (λ g. IsSome (at (W.part g).slots slot)) }
-    ensures* writes_back { sem 𝓛 (Lends (option.the_row W.row) V.row held.entry result.1 (λ value. option_map (λ g. W.with_part g (with_value (W.part g) slot value)) held.old)) }
-    ensures pair { IfSome held.old (λ g. option_map pair_of (at (W.part g).slots slot) ≡ Some (result.0.now, result.1.now)) }
+    ensures* writes_back { sem 𝓛 (Lends (option.the_row W.row) V.row held.entry result.1
+        (λ value. option_map (λ g. W.with_part g (with_value (W.part g) slot value)) held.old)) }
+    ensures pair { IfSome held.old
+        (λ g. option_map pair_of (at (W.part g).slots slot) ≡ Some (result.0.now, result.1.now)) }
 {
     match held {
         Some(guard) => guard.lend().lend(slot),
@@ -35,10 +38,11 @@ fn lend_held<'a, K: Eq + Hash + 'a, V: 'a, A: Allocator + 'a, W: LenderMut<Part 
     }
 }
 
-/// A walk that writes: each pair of the first shard, of the second, and so on. Nothing is held before the first item, and no memory is taken.
+/// A walk that writes: each pair of the first shard, of the second, and so on. Nothing is held before the first item,
+/// and no memory is taken.
 ///
-/// An item is lent until the next call. The next shard is held before the last one is given back, and the last is kept until the walk is
-/// dropped. It is named [`IterMut`].
+/// An item is lent until the next call. The next shard is held before the last one is given back, and the last is kept
+/// until the walk is dropped. It is named [`IterMut`].
 pub struct WritingWalk<
     K: Eq + Hash,
     V,
@@ -90,7 +94,13 @@ where
 
     ghost Value = { Walk H.Lock (Guard W H H.Lock H.Runtime H.Party H.Apart) };
 
-    ghost view = { λ s. record { locks = L.locks s.shards; next = s.next; held = s.held; from = s.from; failed = false } };
+    ghost view = { λ s. record {
+      locks = L.locks s.shards;
+      next = s.next;
+      held = s.held;
+      from = s.from;
+      failed = false;
+    } };
 }
 
 impl<
@@ -142,7 +152,8 @@ where
 
     /// The next full slot of the shard that is held.
     fn next_slot(&self) -> Option<usize>
-        ensures { MatchOption result (IsThrough (λ g. W.part g.inner) self.now) (IsNextFull (slots_held (λ g. W.part g.inner) self.now.held) self.now.from) }
+        ensures { MatchOption result (IsThrough (λ g. W.part g.inner) self.now)
+            (IsNextFull (slots_held (λ g. W.part g.inner) self.now.held) self.now.from) }
     {
         match &self.held {
             Some(guard) => guard.look().next_from(self.from),
@@ -153,7 +164,8 @@ where
     /// Waits for a hold of the next shard.
     fn hold_next(&mut self) -> Guard<W, H>
         requires { self.old.next < length self.old.locks }
-        ensures taken { option_map padded_value (slice_get self.old.locks self.old.next) ≡ Some (H.lock_of result.held.0) }
+        ensures taken { option_map padded_value (slice_get self.old.locks self.old.next) ≡ Some
+            (H.lock_of result.held.0) }
         ensures sound { IsSound K.eq (W.part result.inner) }
         ensures numbered { self.new.next + 1 < 2 ^ 64 }
         ensures stays { self.new ≡ self.old }
@@ -166,7 +178,13 @@ where
     /// Keeps the guard of the next shard, and gives the last one back.
     fn keep(&mut self, guard: Guard<W, H>)
         requires { self.old.next + 1 < 2 ^ 64 }
-        ensures { self.new ≡ record { locks = self.old.locks; next = self.old.next + 1; held = Some guard; from = 0; failed = self.old.failed } }
+        ensures { self.new ≡ record {
+          locks = self.old.locks;
+          next = self.old.next + 1;
+          held = Some guard;
+          from = 0;
+          failed = self.old.failed;
+        } }
     {
         let last = self.held.replace(guard);
         self.next += 1;
@@ -187,7 +205,9 @@ where
 
     /// Goes on to the next pair, over shards in which none is left, and answers its slot.
     fn go_on(&mut self) -> Option<usize>
-        ensures { (passed : ℕ) × Passes K.eq (λ g. W.part g.inner) (λ g. H.lock_of g.held.0) passed self.old self.new × MatchOption result (IsThrough (λ g. W.part g.inner) self.new × (length self.new.locks ≤ self.new.next)) (IsNextFull (slots_held (λ g. W.part g.inner) self.new.held) self.new.from) }
+        ensures { (passed : ℕ) × Passes K.eq (λ g. W.part g.inner) (λ g. H.lock_of g.held.0) passed self.old self.new
+            × MatchOption result (IsThrough (λ g. W.part g.inner) self.new × (length self.new.locks ≤ self.new.next))
+            (IsNextFull (slots_held (λ g. W.part g.inner) self.new.held) self.new.from) }
     {
         while self.next < self.shards.amount() {
             if let Some(slot) = self.next_slot() {
@@ -200,10 +220,13 @@ where
 
     /// Goes on to the next pair, and stands behind it.
     fn step(&mut self) -> Option<usize>
-        ensures lends { IfSome result (λ slot. LendsToWrite (λ g. W.part g.inner) K.eq (λ g. H.lock_of g.held.0) self.old slot self.new) }
-        ensures nearer { IfSome result (λ slot. left (λ g. W.part g.inner) self.new < left (λ g. W.part g.inner) self.old) }
+        ensures lends { IfSome result
+            (λ slot. LendsToWrite (λ g. W.part g.inner) K.eq (λ g. H.lock_of g.held.0) self.old slot self.new) }
+        ensures nearer { IfSome result
+            (λ slot. left (λ g. W.part g.inner) self.new < left (λ g. W.part g.inner) self.old) }
         ensures full { IfSome result (λ slot. IsSome (at (slots_held (λ g. W.part g.inner) self.new.held) slot)) }
-        ensures ends { IfNone result (EndsAt K.eq (λ g. W.part g.inner) (λ g. H.lock_of g.held.0) false self.old self.new) }
+        ensures ends { IfNone result
+            (EndsAt K.eq (λ g. W.part g.inner) (λ g. H.lock_of g.held.0) false self.old self.new) }
     {
         match self.go_on() {
             Some(slot) => {
@@ -245,7 +268,11 @@ where
     /// Lends the pair of a full slot of the shard that is held.
     pub(crate) fn lend(&mut self, slot: usize) -> (&K, &mut V)
         requires { IsSome (at (slots_held (λ g. W.part g.inner) self.old.held) slot) }
-        ensures* writes_back { sem 𝓛 (Lends (the_row K.row V.row A.row W.row H.row L.row H.Lock.row H.Runtime.row H.Party.row H.Apart.row K.PartialEq (record { hash_input = K.hash_input }) A.Allocator W.Lender H.Hold L.GivesShards) V.row self.entry result.1 (walk_written (λ g. W.part g.inner) (λ g table. record g { inner = W.with_part g.inner table }) self.old slot)) }
+        ensures* writes_back { sem 𝓛 (Lends (the_row K.row V.row A.row W.row H.row L.row H.Lock.row H.Runtime.row H.Party.row H.Apart.row
+            K.PartialEq (record { hash_input = K.hash_input }) A.Allocator W.Lender H.Hold L.GivesShards) V.row
+            self.entry result.1
+            (walk_written (λ g. W.part g.inner) (λ g table. record g { inner = W.with_part g.inner table }) self.old
+            slot)) }
         ensures pair { pair_held (λ g. W.part g.inner) self.old.held slot ≡ Some (result.0.now, result.1.now) }
     {
         lend_held(&mut self.held, slot)
@@ -253,10 +280,17 @@ where
 
     /// The next pair for writing, lent until the next call.
     pub fn next_mut(&mut self) -> Option<MultiGuardMut<'_, K, V, A, W, H, L>>
-        ensures* rests { sem 𝓛 (RestsIfNone (the_row K.row V.row A.row W.row H.row L.row H.Lock.row H.Runtime.row H.Party.row H.Apart.row K.PartialEq (record { hash_input = K.hash_input }) A.Allocator W.Lender H.Hold L.GivesShards) self.entry (λ item. item.walk.ghost_name) result (λ last. EndsAt K.eq (λ g. W.part g.inner) (λ g. H.lock_of g.held.0) false self.old last)) }
+        ensures* rests { sem 𝓛
+            (RestsIfNone (the_row K.row V.row A.row W.row H.row L.row H.Lock.row H.Runtime.row H.Party.row H.Apart.row
+            K.PartialEq (record { hash_input = K.hash_input }) A.Allocator W.Lender H.Hold L.GivesShards) self.entry
+            (λ item. item.walk.ghost_name) result
+            (λ last. EndsAt K.eq (λ g. W.part g.inner) (λ g. H.lock_of g.held.0) false self.old last)) }
         ensures same_walk { IfSome result (λ item. item.walk.ghost_name ≡ self.entry.ghost_name) }
-        ensures lends { IfSome result (λ item. LendsToWrite (λ g. W.part g.inner) K.eq (λ g. H.lock_of g.held.0) self.old item.slot item.walk.now) }
-        ensures nearer { IfSome result (λ item. left (λ g. W.part g.inner) item.walk.now < left (λ g. W.part g.inner) self.old) }
+        ensures lends { IfSome result
+            (λ item. LendsToWrite (λ g. W.part g.inner) K.eq (λ g. H.lock_of g.held.0) self.old item.slot
+            item.walk.now) }
+        ensures nearer { IfSome result
+            (λ item. left (λ g. W.part g.inner) item.walk.now < left (λ g. W.part g.inner) self.old) }
     {
         match self.step() {
             Some(slot) => Some(MultiGuardMut { walk: self, slot }),

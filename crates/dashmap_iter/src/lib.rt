@@ -1,7 +1,7 @@
 //! Walks over the running map that lend its pairs one by one or do one thing to each, and guards of its shards.
 //!
-//! A walk takes the shards in their order and lends each pair of a shard once, in the order of its slots, which is open. It holds nothing
-//! before its first item.
+//! A walk takes the shards in their order and lends each pair of a shard once, in the order of its slots, which is
+//! open. It holds nothing before its first item.
 #![tactic(auto)]
 
 mod iter;

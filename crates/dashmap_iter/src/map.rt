@@ -11,7 +11,8 @@ use std::alloc::Allocator;
 use std::hash::{BuildHasher, Hash};
 use std::sync::Wait;
 
-/// Walks over a map that lend its pairs one by one. A walk is lent what the thread has, and keeps it until it is dropped.
+/// Walks over a map that lend its pairs one by one. A walk is lent what the thread has, and keeps it until it is
+/// dropped.
 ///
 /// ```text
 /// for item in map.iter(&mut me) {

@@ -15,8 +15,8 @@ use std::ops::Deref;
 use std::sync;
 use std::sync::Wait;
 
-/// An item of a walk that reads: one pair of the shard that the walk holds. It shares the hold with the walk, and keeps it as long as it
-/// lives, also where the walk has gone on.
+/// An item of a walk that reads: one pair of the shard that the walk holds. It shares the hold with the walk, and keeps
+/// it as long as it lives, also where the walk has gone on.
 ///
 /// It is named [`RefMulti`].
 pub struct MultiGuard<
@@ -35,7 +35,8 @@ where
     party: PhantomData<D>,
 }
 
-/// An item of a walk over a map that reads. `'m` is the borrow of the map, and `'d` of what the thread lent to the walk.
+/// An item of a walk over a map that reads. `'m` is the borrow of the map, and `'d` of what the thread lent to the
+/// walk.
 ///
 /// ```text
 /// for item in map.iter(&mut me) {

@@ -88,14 +88,16 @@ where
 {
     /// The stored key and the value.
     pub fn pair(&self) -> (&K, &V)
-        ensures { pair_held (λ g. W.part g.inner) self.now.walk.now.held self.now.slot ≡ Some (result.0.now, result.1.now) }
+        ensures { pair_held (λ g. W.part g.inner) self.now.walk.now.held self.now.slot ≡ Some
+            (result.0.now, result.1.now) }
     {
         self.walk.pair(self.slot)
     }
 
     /// The stored key.
     pub fn key(&self) -> &K
-        ensures { option_map (λ p. p.0) (pair_held (λ g. W.part g.inner) self.now.walk.now.held self.now.slot) ≡ Some result.now }
+        ensures { option_map (λ p. p.0) (pair_held (λ g. W.part g.inner) self.now.walk.now.held self.now.slot) ≡ Some
+            result.now }
     {
         let (key, _value) = self.pair();
         key
@@ -103,7 +105,8 @@ where
 
     /// The value.
     pub fn value(&self) -> &V
-        ensures { option_map (λ p. p.1) (pair_held (λ g. W.part g.inner) self.now.walk.now.held self.now.slot) ≡ Some result.now }
+        ensures { option_map (λ p. p.1) (pair_held (λ g. W.part g.inner) self.now.walk.now.held self.now.slot) ≡ Some
+            result.now }
     {
         let (_key, value) = self.pair();
         value
@@ -123,10 +126,18 @@ where
 {
     ghost use Rattle.dashmap_iter.specs.contracts.multiple_mut.MultiGuardMut.{the_row};
 
-    /// The value for writing, beside the stored key. What is left there is what the item lends from then on, and no other pair changes.
+    /// The value for writing, beside the stored key. What is left there is what the item lends from then on, and no
+    /// other pair changes.
     pub fn pair_mut(&mut self) -> (&K, &mut V)
-        ensures* writes_back { sem 𝓛 (Lends (the_row (record { mir = named 1; lft = [] }) K.row V.row A.row W.row H.row L.row H.Lock.row H.Runtime.row H.Party.row H.Apart.row K.PartialEq (record { hash_input = K.hash_input }) A.Allocator W.Lender H.Hold L.GivesShards) V.row self.entry result.1 (λ value. let walk = walk_written (λ g. W.part g.inner) (λ g table. record g { inner = W.with_part g.inner table }) self.old.walk.now self.old.slot value in if_full (at (slots_held (λ g. W.part g.inner) walk.held) self.old.slot) (λ full. record self.old { walk = record self.old.walk { now = walk }; full = full }) self.old)) }
-        ensures pair { pair_held (λ g. W.part g.inner) self.old.walk.now.held self.old.slot ≡ Some (result.0.now, result.1.now) }
+        ensures* writes_back { sem 𝓛 (Lends (the_row (record { mir = named 1; lft = [] }) K.row V.row A.row W.row H.row L.row H.Lock.row
+            H.Runtime.row H.Party.row H.Apart.row K.PartialEq (record { hash_input = K.hash_input }) A.Allocator
+            W.Lender H.Hold L.GivesShards) V.row self.entry result.1
+            (λ value. let walk = walk_written (λ g. W.part g.inner)
+            (λ g table. record g { inner = W.with_part g.inner table }) self.old.walk.now self.old.slot value in
+            if_full (at (slots_held (λ g. W.part g.inner) walk.held) self.old.slot)
+            (λ full. record self.old { walk = record self.old.walk { now = walk }; full = full }) self.old)) }
+        ensures pair { pair_held (λ g. W.part g.inner) self.old.walk.now.held self.old.slot ≡ Some
+            (result.0.now, result.1.now) }
     {
         let slot = self.slot;
         let walk = &mut *self.walk;
@@ -135,8 +146,15 @@ where
 
     /// The value for writing.
     pub fn value_mut(&mut self) -> &mut V
-        ensures* writes_back { sem 𝓛 (Lends (the_row (record { mir = named 1; lft = [] }) K.row V.row A.row W.row H.row L.row H.Lock.row H.Runtime.row H.Party.row H.Apart.row K.PartialEq (record { hash_input = K.hash_input }) A.Allocator W.Lender H.Hold L.GivesShards) V.row self.entry result (λ value. let walk = walk_written (λ g. W.part g.inner) (λ g table. record g { inner = W.with_part g.inner table }) self.old.walk.now self.old.slot value in if_full (at (slots_held (λ g. W.part g.inner) walk.held) self.old.slot) (λ full. record self.old { walk = record self.old.walk { now = walk }; full = full }) self.old)) }
-        ensures value { option_map (λ p. p.1) (pair_held (λ g. W.part g.inner) self.old.walk.now.held self.old.slot) ≡ Some result.now }
+        ensures* writes_back { sem 𝓛 (Lends (the_row (record { mir = named 1; lft = [] }) K.row V.row A.row W.row H.row L.row H.Lock.row
+            H.Runtime.row H.Party.row H.Apart.row K.PartialEq (record { hash_input = K.hash_input }) A.Allocator
+            W.Lender H.Hold L.GivesShards) V.row self.entry result
+            (λ value. let walk = walk_written (λ g. W.part g.inner)
+            (λ g table. record g { inner = W.with_part g.inner table }) self.old.walk.now self.old.slot value in
+            if_full (at (slots_held (λ g. W.part g.inner) walk.held) self.old.slot)
+            (λ full. record self.old { walk = record self.old.walk { now = walk }; full = full }) self.old)) }
+        ensures value { option_map (λ p. p.1) (pair_held (λ g. W.part g.inner) self.old.walk.now.held self.old.slot)
+            ≡ Some result.now }
     {
         self.pair_mut().1
     }
@@ -155,7 +173,8 @@ where
 {
     type Target = V;
 
-    ghost deref_gives = { λ item value. option_map (λ p. p.1) (pair_held (λ g. W.part g.inner) item.walk.now.held item.slot) ≡ Some value };
+    ghost deref_gives = { λ item value. option_map (λ p. p.1) (pair_held (λ g. W.part g.inner) item.walk.now.held item.slot) ≡ Some
+        value };
 
     fn deref(&self) -> &V {
         self.value()
@@ -175,11 +194,19 @@ where
 {
     ghost use Rattle.dashmap_iter.specs.contracts.multiple_mut.MultiGuardMut.{the_row};
 
-    ghost deref_mut_gives = { λ item value. option_map (λ p. p.1) (pair_held (λ g. W.part g.inner) item.walk.now.held item.slot) ≡ Some value };
+    ghost deref_mut_gives = { λ item value. option_map (λ p. p.1) (pair_held (λ g. W.part g.inner) item.walk.now.held item.slot) ≡ Some
+        value };
 
     fn deref_mut(&mut self) -> &mut V
-        ensures* writes_back { sem 𝓛 (Lends (the_row (record { mir = named 1; lft = [] }) K.row V.row A.row W.row H.row L.row H.Lock.row H.Runtime.row H.Party.row H.Apart.row K.PartialEq (record { hash_input = K.hash_input }) A.Allocator W.Lender H.Hold L.GivesShards) V.row self.entry result (λ value. let walk = walk_written (λ g. W.part g.inner) (λ g table. record g { inner = W.with_part g.inner table }) self.old.walk.now self.old.slot value in if_full (at (slots_held (λ g. W.part g.inner) walk.held) self.old.slot) (λ full. record self.old { walk = record self.old.walk { now = walk }; full = full }) self.old)) }
-        ensures value { option_map (λ p. p.1) (pair_held (λ g. W.part g.inner) self.old.walk.now.held self.old.slot) ≡ Some result.now }
+        ensures* writes_back { sem 𝓛 (Lends (the_row (record { mir = named 1; lft = [] }) K.row V.row A.row W.row H.row L.row H.Lock.row
+            H.Runtime.row H.Party.row H.Apart.row K.PartialEq (record { hash_input = K.hash_input }) A.Allocator
+            W.Lender H.Hold L.GivesShards) V.row self.entry result
+            (λ value. let walk = walk_written (λ g. W.part g.inner)
+            (λ g table. record g { inner = W.with_part g.inner table }) self.old.walk.now self.old.slot value in
+            if_full (at (slots_held (λ g. W.part g.inner) walk.held) self.old.slot)
+            (λ full. record self.old { walk = record self.old.walk { now = walk }; full = full }) self.old)) }
+        ensures value { option_map (λ p. p.1) (pair_held (λ g. W.part g.inner) self.old.walk.now.held self.old.slot)
+            ≡ Some result.now }
     {
         self.value_mut()
     }

@@ -7,7 +7,8 @@ use std::alloc::Allocator;
 use std::marker::Model;
 use std::sync::{Arc, Wait};
 
-/// A guard that a walk shares with its items: the lock is released when the last of them is dropped. A contract sees the guard.
+/// A guard that a walk shares with its items: the lock is released when the last of them is dropped. A contract sees
+/// the guard.
 pub struct SharedGuard<W: Drop, H: Hold, A: Allocator>
 where
     H::Runtime: Wait,

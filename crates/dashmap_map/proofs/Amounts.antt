@@ -1,5 +1,6 @@
 -- Default amounts of shards, and the shares of a capacity of 0.
-use Rattle.std.proofs.Common.{◌≡◌, ℕ, suc, ◌+◌, ◌-◌, ◌/◌, ◌^◌, ◌<◌, ◌≤◌, ◌↔◌, sym, ap, ◌∙◌, subst, inl, inr, arith, pow-suc, pow_mono}
+use Rattle.std.proofs.Common.{◌≡◌, ℕ, suc, ◌+◌, ◌-◌, ◌/◌, ◌^◌, ◌<◌, ◌≤◌, ◌↔◌, sym, ap, ◌∙◌, subst, inl, inr, arith}
+use Rattle.std.proofs.Common.{pow-suc, pow_mono}
 use Rattle.std.specs.Int.{IsNextPowerOfTwo}
 use Rattle.std.proofs.Math.Nat.{div-le_self}
 use Rattle.std.proofs.lemmas.Bool.{cases_lt}
@@ -33,7 +34,8 @@ next_power-one n p q some a b =
     is ∙ (ap (λ i. 2 ^ i) same ∙ sym js)
 
 -- at the default amount, having no share is having no default share
-pub default_share : (Q : Type 0) (capacity parallelism amount : ℕ) → IsNextPowerOfTwo (wanted_shards parallelism) amount → IsShardAmount amount
+pub default_share : (Q : Type 0) (capacity parallelism amount : ℕ) → IsNextPowerOfTwo (wanted_shards parallelism) amount
+    → IsShardAmount amount
     → Q ↔ (IsShardAmount amount × HasNoShare capacity amount) → Q ↔ HasNoDefaultShare capacity parallelism
 default_share Q capacity parallelism amount next is each = (there, back)
   where
@@ -41,10 +43,14 @@ default_share Q capacity parallelism amount next is each = (there, back)
     there q = (amount, next, is, (each.0 q).1)
 
     back : HasNoDefaultShare capacity parallelism → Q
-    back h = each.1 (is, subst (HasNoShare capacity) (next_power-one (wanted_shards parallelism) h.0 amount (omega arith) h.1 next) h.3)
+    back h = each.1 (
+      is,
+      subst (HasNoShare capacity) (next_power-one (wanted_shards parallelism) h.0 amount (omega arith) h.1 next) h.3,
+    )
 
 -- threads without a default amount have no shares either
-pub default_share-none : (capacity parallelism : ℕ) → 2 ^ 16 < wanted_shards parallelism → HasNoDefaultShare capacity parallelism → ⊥
+pub default_share-none : (capacity parallelism : ℕ) → 2 ^ 16 < wanted_shards parallelism
+    → HasNoDefaultShare capacity parallelism → ⊥
 default_share-none capacity parallelism many h =
     let above = h.1.1 in
     let most = h.2.2 in

@@ -6,10 +6,12 @@ use Rattle.dashmap_table.specs.Table.{Table, Frees}
 
 -- f, called at k and v, may answer r
 abbrev pub AnswersAt : {F K V R : Type 0} → Once F (Bor K × (Bor V × Unit {0})) R → F → K → V → R → Type 0
-AnswersAt {F} {K} {V} g f k v r = (p : Bor K) × (q : Bor V) × FnOnceReturns g f (p, (q, tt)) r × (p.now ≡ k) × (q.now ≡ v)
+AnswersAt {F} {K} {V} g f k v r = (p : Bor K) × (q : Bor V) × FnOnceReturns g f (p, (q, tt)) r × (p.now ≡ k)
+    × (q.now ≡ v)
 
 -- f, called at k and a `&mut` to v, may answer r and leave w there
-pub record LeavesAt {F K V R : Type 0} (g : Once F (Bor K × (MutBor V × Unit {0})) (R × (MutBor V × Unit {0}))) (f : F) (k : K) (v : V) (r : R) (w : V) : Type 0 where
+pub record LeavesAt {F K V R : Type 0} (g : Once F (Bor K × (MutBor V × Unit {0})) (R × (MutBor V × Unit {0}))) (f : F)
+    (k : K) (v : V) (r : R) (w : V) : Type 0 where
   pub key : Bor K
   pub value : MutBor V
   pub shows : (key.now ≡ k) × (value.now ≡ v)

@@ -1,4 +1,5 @@
--- The running map as contracts see it: its raw locks and its hasher. What lies behind a lock is known to its holder alone.
+-- The running map as contracts see it: its raw locks and its hasher. What lies behind a lock is known to its holder
+-- alone.
 use Rattle.std.specs.Prelude.{ℕ, List, length, Option, slice_get}
 use Rattle.std.specs.Option.{option_map}
 use Rattle.std.specs.Hash.{HashWrites}

@@ -13,4 +13,5 @@ module _ {K V Q A : Type 0} where
 
 -- a capacity that has no share of the default amount of shards for so many threads
 abbrev pub HasNoDefaultShare : ℕ → ℕ → Type 0
-HasNoDefaultShare capacity parallelism = (amount : ℕ) × IsNextPowerOfTwo (wanted_shards parallelism) amount × IsShardAmount amount × HasNoShare capacity amount
+HasNoDefaultShare capacity parallelism = (amount : ℕ) × IsNextPowerOfTwo (wanted_shards parallelism) amount
+    × IsShardAmount amount × HasNoShare capacity amount

@@ -83,14 +83,15 @@ impl<K: Eq + Hash + Drop, V: Drop, S: BuildHasher, Q, A: Allocator + Clone> Dash
         insert_alone(&mut self.shards[shard], hash, key, value)
     }
 
-    /// Puts pairs in, one after another, as `insert_mut` does. The first one that is refused comes back: the pairs before it stay, and
-    /// the rest of the iterator is let go.
+    /// Puts pairs in, one after another, as `insert_mut` does. The first one that is refused comes back: the pairs
+    /// before it stay, and the rest of the iterator is let go.
     pub fn extend<I: Iterator<Item = (K, V)> + Drop>(&mut self, iter: I) -> Result<(), (K, V)>
         requires can { I.can_next iter }
         requires ends { IsFinite (I.remaining iter) }
         ensures locks { self.new ≡ self.old }
         ensures all { OnOk result ((pairs : List (K × V)) × Drains I.next_gives iter pairs) }
-        ensures refused { IfErr result (λ back. (before : List (K × V)) × (rest : I) × YieldsThen I.next_gives iter before (Some back) rest) }
+        ensures refused { IfErr result
+            (λ back. (before : List (K × V)) × (rest : I) × YieldsThen I.next_gives iter before (Some back) rest) }
     {
         let mut rest = iter;
         while let Some((key, value)) = rest.next() {
@@ -99,8 +100,8 @@ impl<K: Eq + Hash + Drop, V: Drop, S: BuildHasher, Q, A: Allocator + Clone> Dash
         Ok(())
     }
 
-    /// Makes room for so many more pairs in each shard. Where a shard can't have it all pairs stay, and the shards before it keep their
-    /// room.
+    /// Makes room for so many more pairs in each shard. Where a shard can't have it all pairs stay, and the shards
+    /// before it keep their room.
     pub fn try_reserve(&mut self, additional: usize) -> Result<(), TryReserveError>
         ensures { self.new ≡ self.old }
     {

@@ -1,7 +1,9 @@
 //! What a call does to a shard while it holds it. For the layer above, and for the calls of the map.
 //!
-//! Each function is lent the shard of its key, by the guard of a shared call or by the owner of the map, and the key's hash.
-ghost use Rattle.std.specs.Prelude.{◌≡◌, ◌≤◌, None, Some, Bool, true, IsTrue, IfSome, IfNone, IfOk, IfErr, OnOk, if◌then◌else◌};
+//! Each function is lent the shard of its key, by the guard of a shared call or by the owner of the map, and the key's
+//! hash.
+ghost use Rattle.std.specs.Prelude.{◌≡◌, ◌≤◌, None, Some, Bool, true, IsTrue, IfSome, IfNone, IfOk, IfErr, OnOk};
+ghost use Rattle.std.specs.Prelude.{if◌then◌else◌};
 ghost use Rattle.std.specs.Option.{option_map, is_some};
 ghost use Rattle.dashmap_table.specs.Slots.{count, pair_of, slot_of, entry_of};
 ghost use Rattle.dashmap_table.specs.Table.{TakesOut, PutsIn, with_value};
@@ -30,8 +32,8 @@ fn answer_writing<K, V, U, F: FnOnce(&K, &mut V) -> U>(key: &K, value: &mut V, f
 
 /// Puts a pair in, and answers the value that its key had.
 ///
-/// A present key keeps its stored key. Where the shard would have to grow for a new key and can't, the pair comes back and nothing has
-/// changed.
+/// A present key keeps its stored key. Where the shard would have to grow for a new key and can't, the pair comes back
+/// and nothing has changed.
 pub fn insert_into<K: Eq + Hash + Drop, V: Drop, A: Allocator + Clone>(
     shard: &mut Shard<K, V, A>,
     hash: u64,
@@ -40,7 +42,9 @@ pub fn insert_into<K: Eq + Hash + Drop, V: Drop, A: Allocator + Clone>(
 ) -> Result<Option<V>, (K, V)>
     ensures old { IfOk result (λ old. old ≡ option_map (λ e. e.value) (entry_of K.eq shard.old.slots hash key)) }
     ensures after { OnOk result (PutsIn K.eq shard.old shard.new hash key value) }
-    ensures refused { IfErr result (λ back. (back ≡ (key, value)) × (shard.new ≡ shard.old) × (slot_of K.eq shard.old.slots hash key ≡ None) × (shard.old.room ≤ count shard.old.slots)) }
+    ensures refused { IfErr result
+        (λ back. (back ≡ (key, value)) × (shard.new ≡ shard.old) × (slot_of K.eq shard.old.slots hash key ≡ None)
+        × (shard.old.room ≤ count shard.old.slots)) }
 {
     let (_slot, old) = shard.insert(hash, key, value)?;
     Ok(old)
@@ -76,7 +80,9 @@ pub fn remove_from_if<K: Eq + Hash, V, A: Allocator, F: FnOnce(&K, &V) -> bool +
 ) -> Option<(K, V)>
     requires { F.IsAlwaysCallable f }
     ensures absent { IfNone (slot_of K.eq shard.old.slots hash key.now) (result ≡ None) }
-    ensures present { IfSome (entry_of K.eq shard.old.slots hash key.now) (λ e. (answer : Bool) × AnswersAt F.FnOnce f e.key e.value answer × (result ≡ (if answer then Some (pair_of e) else None))) }
+    ensures present { IfSome (entry_of K.eq shard.old.slots hash key.now)
+        (λ e. (answer : Bool) × AnswersAt F.FnOnce f e.key e.value answer
+        × (result ≡ (if answer then Some (pair_of e) else None))) }
     ensures stays { IfNone result (shard.new ≡ shard.old) }
     ensures after { IfSome result (λ _. TakesOut K.eq shard.old shard.new hash key.now) }
     ensures asked { IfSome result (λ p. IsTrue (K.eq p.0 key.now) × AnswersAt F.FnOnce f p.0 p.1 true) }
@@ -99,7 +105,11 @@ pub fn remove_from_if_mut<K: Eq + Hash, V, A: Allocator, F: FnOnce(&K, &mut V) -
 ) -> Option<(K, V)>
     requires { F.IsAlwaysCallable f }
     ensures absent { IfNone (slot_of K.eq shard.old.slots hash key.now) ((result ≡ None) × (shard.new ≡ shard.old)) }
-    ensures present { IfSome (slot_of K.eq shard.old.slots hash key.now) (λ i. IfSome (entry_of K.eq shard.old.slots hash key.now) (λ e. (answer : Bool) × (left : V) × LeavesAt F.FnOnce f e.key e.value answer left × (result ≡ (if answer then Some (e.key, left) else None)) × FreesIf answer (with_value shard.old i left) shard.new i)) }
+    ensures present { IfSome (slot_of K.eq shard.old.slots hash key.now)
+        (λ i. IfSome (entry_of K.eq shard.old.slots hash key.now)
+        (λ e. (answer : Bool) × (left : V) × LeavesAt F.FnOnce f e.key e.value answer left
+        × (result ≡ (if answer then Some (e.key, left) else None)) × FreesIf answer (with_value shard.old i left)
+        shard.new i)) }
     ensures asked { IfSome result (λ p. IsTrue (K.eq p.0 key.now) × (v : V) × LeavesAt F.FnOnce f p.0 v true p.1) }
 {
     let slot = shard.find(hash, key)?;
@@ -120,7 +130,9 @@ pub fn alter_in<K: Eq + Hash, V, A: Allocator, F: FnOnce(&K, V) -> V + Drop>(
 )
     requires { F.IsAlwaysCallable f }
     ensures absent { IfNone (slot_of K.eq shard.old.slots hash key.now) (shard.new ≡ shard.old) }
-    ensures present { IfSome (slot_of K.eq shard.old.slots hash key.now) (λ i. IfSome (entry_of K.eq shard.old.slots hash key.now) (λ e. (made : V) × MakesAt F.FnOnce f e.key e.value made × (shard.new ≡ with_value shard.old i made))) }
+    ensures present { IfSome (slot_of K.eq shard.old.slots hash key.now)
+        (λ i. IfSome (entry_of K.eq shard.old.slots hash key.now)
+        (λ e. (made : V) × MakesAt F.FnOnce f e.key e.value made × (shard.new ≡ with_value shard.old i made))) }
 {
     let Some(slot) = shard.find(hash, key) else {
         return;

@@ -24,8 +24,10 @@ where
 {
     /// A shared guard of the pair of a key, if it is there.
     pub fn get<'m, 'd>(&'m self, key: &K, td: &'d mut Q::Party) -> Option<Ref<'m, 'd, K, V, Q, A>>
-        ensures asked { IfSome result (λ r. IfSome (key_in (read_guard_value r.0.inner) r.1) (λ k. IsTrue (K.eq k key.now))) }
-        ensures lock { IfSome result (λ r. lock_of S.BuildHasher S.Hasher.Hasher K.hash_input self.now key.now ≡ Some r.0.held.0.place.now) }
+        ensures asked { IfSome result
+            (λ r. IfSome (key_in (read_guard_value r.0.inner) r.1) (λ k. IsTrue (K.eq k key.now))) }
+        ensures lock { IfSome result
+            (λ r. lock_of S.BuildHasher S.Hasher.Hasher K.hash_input self.now key.now ≡ Some r.0.held.0.place.now) }
     {
         let (hash, lock) = self.place_of(key);
         Ref::find(lock.read(td), hash, key)
@@ -37,8 +39,10 @@ where
         key: &K,
         td: &'d mut Q::Party,
     ) -> Option<RefMut<'m, 'd, K, V, Q, A>>
-        ensures asked { IfSome result (λ r. IfSome (key_in (write_guard_value r.0.inner) r.1) (λ k. IsTrue (K.eq k key.now))) }
-        ensures lock { IfSome result (λ r. lock_of S.BuildHasher S.Hasher.Hasher K.hash_input self.now key.now ≡ Some r.0.held.0.place.now) }
+        ensures asked { IfSome result
+            (λ r. IfSome (key_in (write_guard_value r.0.inner) r.1) (λ k. IsTrue (K.eq k key.now))) }
+        ensures lock { IfSome result
+            (λ r. lock_of S.BuildHasher S.Hasher.Hasher K.hash_input self.now key.now ≡ Some r.0.held.0.place.now) }
     {
         let (hash, lock) = self.place_of(key);
         RefMut::find(lock.write(td), hash, key)
@@ -120,8 +124,8 @@ impl<K: Eq + Hash + Drop, V: Drop, S: BuildHasher, Q: RawRwLock, A: Allocator + 
 where
     Q::Runtime: Wait,
 {
-    /// Puts a pair in, and answers the value that its key had. A present key keeps the stored key and is never refused. A new key is
-    /// refused only where its shard would have to grow and can't, and then the pair comes back.
+    /// Puts a pair in, and answers the value that its key had. A present key keeps the stored key and is never refused.
+    /// A new key is refused only where its shard would have to grow and can't, and then the pair comes back.
     pub fn insert(&self, key: K, value: V, td: &mut Q::Party) -> Result<Option<V>, (K, V)>
         ensures { IfErr result (λ back. back ≡ (key, value)) }
     {
@@ -129,16 +133,18 @@ where
         insert_into(&mut *lock.write(td), hash, key, value)
     }
 
-    /// The place of a key, whose shard is held exclusively. An absent key's room is made here; where it can't be had, the key comes
-    /// back.
+    /// The place of a key, whose shard is held exclusively. An absent key's room is made here; where it can't be had,
+    /// the key comes back.
     pub fn entry<'m, 'd>(
         &'m self,
         key: K,
         td: &'d mut Q::Party,
     ) -> Result<Entry<'m, 'd, K, V, Q, A>, K>
         ensures found { IfOk result (by_entry
-            (λ o. (o.1 ≡ key) × (lock_of S.BuildHasher S.Hasher.Hasher K.hash_input self.now key ≡ Some o.0.0.held.0.place.now))
-            (λ v. (v.2 ≡ key) × (v.1 ≡ key_hash S.BuildHasher S.Hasher.Hasher K.hash_input self.now.hasher key) × (lock_of S.BuildHasher S.Hasher.Hasher K.hash_input self.now key ≡ Some v.0.held.0.place.now))) }
+            (λ o. (o.1 ≡ key)
+            × (lock_of S.BuildHasher S.Hasher.Hasher K.hash_input self.now key ≡ Some o.0.0.held.0.place.now))
+            (λ v. (v.2 ≡ key) × (v.1 ≡ key_hash S.BuildHasher S.Hasher.Hasher K.hash_input self.now.hasher key)
+            × (lock_of S.BuildHasher S.Hasher.Hasher K.hash_input self.now key ≡ Some v.0.held.0.place.now))) }
         ensures refused { IfErr result (λ back. back ≡ key) }
     {
         let (hash, lock) = self.place_of(&key);

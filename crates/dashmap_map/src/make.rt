@@ -19,7 +19,8 @@ fn share_for(capacity: usize, shard_amount: usize) -> Result<usize, MapFault>
     ensures amount { OnOk result (IsShardAmount shard_amount) }
     ensures share { IfOk result (λ share. share ≡ share_of capacity shard_amount) }
     ensures bad_shards { (result ≡ Err MapFault.BadShards) ↔ ¬ IsShardAmount shard_amount }
-    ensures overflow { (result ≡ Err MapFault.CapacityOverflow) ↔ (IsShardAmount shard_amount × HasNoShare capacity shard_amount) }
+    ensures overflow { (result ≡ Err MapFault.CapacityOverflow) ↔
+        (IsShardAmount shard_amount × HasNoShare capacity shard_amount) }
 {
     if !is_shard_amount(shard_amount) {
         return Err(MapFault::BadShards);
@@ -74,7 +75,8 @@ impl<
         Q: MakeLock<T>,
         ensures made { IfOk result (λ m. (length m.locks ≡ shard_amount) × (m.hasher ≡ hasher)) }
         ensures bad_shards { (result ≡ Err MapFault.BadShards) ↔ ¬ IsShardAmount shard_amount }
-        ensures overflow { (result ≡ Err MapFault.CapacityOverflow) ↔ (IsShardAmount shard_amount × HasNoShare capacity shard_amount) }
+        ensures overflow { (result ≡ Err MapFault.CapacityOverflow) ↔
+            (IsShardAmount shard_amount × HasNoShare capacity shard_amount) }
     {
         let share = share_for(capacity, shard_amount)?;
         match Made::of(alloc, shard_amount, share, table) {
@@ -114,7 +116,8 @@ impl<
     ) -> Result<DashMap<K, V, S, Q, A>, MapFault>
     where
         Q: MakeLock<T>,
-        ensures made { IfOk result (λ m. IsNextPowerOfTwo (wanted_shards parallelism) (length m.locks) × (m.hasher ≡ hasher)) }
+        ensures made { IfOk result (λ m. IsNextPowerOfTwo (wanted_shards parallelism) (length m.locks)
+            × (m.hasher ≡ hasher)) }
         ensures bad_shards { (result ≡ Err MapFault.BadShards) ↔ (2 ^ 16 < wanted_shards parallelism) }
         ensures overflow { (result ≡ Err MapFault.CapacityOverflow) ↔ HasNoDefaultShare capacity parallelism }
     {
@@ -133,15 +136,16 @@ impl<
     ) -> Result<DashMap<K, V, S, Q, A>, MapFault>
     where
         Q: MakeLock<T>,
-        ensures made { IfOk result (λ m. IsNextPowerOfTwo (wanted_shards parallelism) (length m.locks) × (m.hasher ≡ hasher)) }
+        ensures made { IfOk result (λ m. IsNextPowerOfTwo (wanted_shards parallelism) (length m.locks)
+            × (m.hasher ≡ hasher)) }
         ensures bad_shards { (result ≡ Err MapFault.BadShards) ↔ (2 ^ 16 < wanted_shards parallelism) }
         ensures fits { ¬ (result ≡ Err MapFault.CapacityOverflow) }
     {
         DashMap::with_capacity_and_hasher(alloc, 0, hasher, parallelism, table)
     }
 
-    /// A map with the default shard amount for so many threads, into which the pairs of the iterator are put one after another: of equal
-    /// keys the first stays, with the value of the last.
+    /// A map with the default shard amount for so many threads, into which the pairs of the iterator are put one after
+    /// another: of equal keys the first stays, with the value of the last.
     ///
     /// Refused as `BadShards`, `TableFull` or `NoMemory`, in this order.
     pub fn from_iter<I: Iterator<Item = (K, V)> + Drop, T: Copy>(
@@ -155,7 +159,8 @@ impl<
         Q: MakeLock<T>,
         requires can { I.can_next iter }
         requires ends { IsFinite (I.remaining iter) }
-        ensures made { IfOk result (λ m. IsNextPowerOfTwo (wanted_shards parallelism) (length m.locks) × (m.hasher ≡ hasher)) }
+        ensures made { IfOk result (λ m. IsNextPowerOfTwo (wanted_shards parallelism) (length m.locks)
+            × (m.hasher ≡ hasher)) }
         ensures all { OnOk result ((pairs : List (K × V)) × Drains I.next_gives iter pairs) }
         ensures bad_shards { (result ≡ Err MapFault.BadShards) ↔ (2 ^ 16 < wanted_shards parallelism) }
         ensures fits { ¬ (result ≡ Err MapFault.CapacityOverflow) }
@@ -176,7 +181,8 @@ impl<
     ) -> Result<DashMap<K, V, S, Q, A>, MapFault>
     where
         Q: MakeLock<T>,
-        ensures made { IfOk result (λ m. IsNextPowerOfTwo (wanted_shards parallelism) (length m.locks) × (m.hasher ≡ hasher)) }
+        ensures made { IfOk result (λ m. IsNextPowerOfTwo (wanted_shards parallelism) (length m.locks)
+            × (m.hasher ≡ hasher)) }
         ensures bad_shards { (result ≡ Err MapFault.BadShards) ↔ (2 ^ 16 < wanted_shards parallelism) }
         ensures fits { ¬ (result ≡ Err MapFault.CapacityOverflow) }
     {
@@ -194,7 +200,8 @@ impl<K: Eq + Hash + Drop, V: Drop, Q: RawRwLock + Drop, A: Allocator + Clone> Da
 where
     Q::Runtime: RandomSource,
 {
-    /// An empty map with that many shards, room for the capacity's share in each, and a hasher that the locks' runtime makes.
+    /// An empty map with that many shards, room for the capacity's share in each, and a hasher that the locks' runtime
+    /// makes.
     ///
     /// Refused as `with_capacity_and_hasher_and_shard_amount`, and as `NoRandom` right before `NoMemory`.
     pub fn with_capacity_and_shard_amount<T: Copy>(
@@ -207,7 +214,8 @@ where
         Q: MakeLock<T>,
         ensures made { IfOk result (λ m. length m.locks ≡ shard_amount) }
         ensures bad_shards { (result ≡ Err (NewFault.Map MapFault.BadShards)) ↔ ¬ IsShardAmount shard_amount }
-        ensures overflow { (result ≡ Err (NewFault.Map MapFault.CapacityOverflow)) ↔ (IsShardAmount shard_amount × HasNoShare capacity shard_amount) }
+        ensures overflow { (result ≡ Err (NewFault.Map MapFault.CapacityOverflow)) ↔
+            (IsShardAmount shard_amount × HasNoShare capacity shard_amount) }
     {
         let share = share_for(capacity, shard_amount)?;
         match Made::of(alloc, shard_amount, share, table) {
@@ -242,7 +250,8 @@ where
         Q: MakeLock<T>,
         ensures made { IfOk result (λ m. IsNextPowerOfTwo (wanted_shards parallelism) (length m.locks)) }
         ensures bad_shards { (result ≡ Err (NewFault.Map MapFault.BadShards)) ↔ (2 ^ 16 < wanted_shards parallelism) }
-        ensures overflow { (result ≡ Err (NewFault.Map MapFault.CapacityOverflow)) ↔ HasNoDefaultShare capacity parallelism }
+        ensures overflow { (result ≡ Err (NewFault.Map MapFault.CapacityOverflow)) ↔ HasNoDefaultShare capacity
+            parallelism }
     {
         let Some(amount) = default_shards(parallelism) else {
             return Err(NewFault::Map(MapFault::BadShards));

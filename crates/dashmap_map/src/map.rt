@@ -82,8 +82,8 @@ impl<K: Eq + Hash, V, S: BuildHasher, Q, A: Allocator> DashMap<K, V, S, Q, A> {
         (shards, spare, hasher)
     }
 
-    /// Puts a map together of shards behind their locks, as many without pairs, and a hasher. Each pair has to be in the shard of its
-    /// route, or its key doesn't find it. For the layer above.
+    /// Puts a map together of shards behind their locks, as many without pairs, and a hasher. Each pair has to be in
+    /// the shard of its route, or its key doesn't find it. For the layer above.
     pub fn from_parts(
         locks: Vec<CachePadded<RwLock<Q, Shard<K, V, A>>>, A>,
         spare: Vec<Shard<K, V, A>, A>,
@@ -121,7 +121,8 @@ impl<K: Eq + Hash, V, S: BuildHasher, Q, A: Allocator> DashMap<K, V, S, Q, A> {
     pub fn determine_map(&self, key: &K) -> usize
         ensures value { result ≡ shard_of S.BuildHasher S.Hasher.Hasher K.hash_input self.now key.now }
         ensures below { result < length self.now.locks }
-        ensures same { (other : K) → IsTrue (K.eq key.now other) → shard_of S.BuildHasher S.Hasher.Hasher K.hash_input self.now other ≡ result }
+        ensures same { (other : K) → IsTrue (K.eq key.now other) → shard_of S.BuildHasher S.Hasher.Hasher K.hash_input
+            self.now other ≡ result }
     {
         self.determine_shard(self.hash_usize(key))
     }

@@ -107,7 +107,8 @@ fn room_for<K: Eq + Hash + Drop, V: Drop, Q: RawRwLock + Drop, A: Allocator + Cl
 }
 
 impl<K: Eq + Hash + Drop, V: Drop, Q: RawRwLock + Drop, A: Allocator + Clone> Made<K, V, Q, A> {
-    /// Takes a row for each shard, whether or not there is memory for them: a table without rows is told before want of memory.
+    /// Takes a row for each shard, whether or not there is memory for them: a table without rows is told before want of
+    /// memory.
     pub(crate) fn of<T: Copy>(
         alloc: A,
         amount: usize,
@@ -142,7 +143,8 @@ impl<K: Eq + Hash, V, Q: RawRwLock, A: Allocator> Made<K, V, Q, A> {
         }
     }
 
-    /// A hasher that the runtime of the locks makes, unless it gives no random words. There has to be a shard, if there are any.
+    /// A hasher that the runtime of the locks makes, unless it gives no random words. There has to be a shard, if there
+    /// are any.
     pub(crate) fn hasher(&self) -> Option<RandomState>
     where
         Q::Runtime: RandomSource,

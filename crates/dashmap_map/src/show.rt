@@ -43,7 +43,8 @@ fn show_pairs<K: Eq + Hash + Debug, V: Debug, A: Allocator, F: fmt::Write>(
     }
 }
 
-/// The pairs of each shard in turn, as `{1: 2, 3: 4}`, and `<locked>` in place of a shard that a try can't have at once.
+/// The pairs of each shard in turn, as `{1: 2, 3: 4}`, and `<locked>` in place of a shard that a try can't have at
+/// once.
 impl<K: Eq + Hash + Debug, V: Debug, S: BuildHasher, Q: RawRwLock, A: Allocator> Debug
     for DashMap<K, V, S, Q, A>
 where

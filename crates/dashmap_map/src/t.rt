@@ -95,7 +95,8 @@ pub trait Map<K: Eq + Hash + Drop, V: Drop, S> {
     ) -> Option<Ref<'m, 'd, K, V, Self::Lock, Self::Alloc>>
     where
         <Self::Lock as RawRwLock>::Runtime: Wait,
-        ensures asked { IfSome result (λ r. IfSome (key_in (read_guard_value r.0.inner) r.1) (λ k. IsTrue (K.eq k key.now))) }
+        ensures asked { IfSome result
+            (λ r. IfSome (key_in (read_guard_value r.0.inner) r.1) (λ k. IsTrue (K.eq k key.now))) }
         ensures lock { IfSome result (λ r. lock_of self.now key.now ≡ Some r.0.held.0.place.now) };
 
     /// As `get_mut`.
@@ -106,14 +107,16 @@ pub trait Map<K: Eq + Hash + Drop, V: Drop, S> {
     ) -> Option<RefMut<'m, 'd, K, V, Self::Lock, Self::Alloc>>
     where
         <Self::Lock as RawRwLock>::Runtime: Wait,
-        ensures asked { IfSome result (λ r. IfSome (key_in (write_guard_value r.0.inner) r.1) (λ k. IsTrue (K.eq k key.now))) }
+        ensures asked { IfSome result
+            (λ r. IfSome (key_in (write_guard_value r.0.inner) r.1) (λ k. IsTrue (K.eq k key.now))) }
         ensures lock { IfSome result (λ r. lock_of self.now key.now ≡ Some r.0.held.0.place.now) };
 
     /// As `try_get`.
     fn _try_get<'m>(&'m self, key: &K) -> TryResult<Ref<'m, 'm, K, V, Self::Lock, Self::Alloc>>
     where
         <Self::Lock as RawRwLock>::Runtime: Wait,
-        ensures asked { IfSome (found result) (λ r. IfSome (key_in (read_guard_value r.0.inner) r.1) (λ k. IsTrue (K.eq k key.now))) }
+        ensures asked { IfSome (found result)
+            (λ r. IfSome (key_in (read_guard_value r.0.inner) r.1) (λ k. IsTrue (K.eq k key.now))) }
         ensures lock { IfSome (found result) (λ r. lock_of self.now key.now ≡ Some r.0.held.0.place.now) };
 
     /// As `try_get_mut`.
@@ -123,7 +126,8 @@ pub trait Map<K: Eq + Hash + Drop, V: Drop, S> {
     ) -> TryResult<RefMut<'m, 'm, K, V, Self::Lock, Self::Alloc>>
     where
         <Self::Lock as RawRwLock>::Runtime: Wait,
-        ensures asked { IfSome (found result) (λ r. IfSome (key_in (write_guard_value r.0.inner) r.1) (λ k. IsTrue (K.eq k key.now))) }
+        ensures asked { IfSome (found result)
+            (λ r. IfSome (key_in (write_guard_value r.0.inner) r.1) (λ k. IsTrue (K.eq k key.now))) }
         ensures lock { IfSome (found result) (λ r. lock_of self.now key.now ≡ Some r.0.held.0.place.now) };
 
     /// As `shrink_to_fit`.
@@ -174,7 +178,8 @@ pub trait Map<K: Eq + Hash + Drop, V: Drop, S> {
         <Self::Lock as RawRwLock>::Runtime: Wait,
         ensures found { IfOk result (by_entry
             (λ o. (o.1 ≡ key) × (lock_of self.now key ≡ Some o.0.0.held.0.place.now))
-            (λ v. (v.2 ≡ key) × (v.1 ≡ hash_of_key self.now key) × (lock_of self.now key ≡ Some v.0.held.0.place.now))) }
+            (λ v. (v.2 ≡ key) × (v.1 ≡ hash_of_key self.now key)
+            × (lock_of self.now key ≡ Some v.0.held.0.place.now))) }
         ensures refused { IfErr result (λ back. back ≡ key) };
 
     /// As `try_entry`.
@@ -186,7 +191,8 @@ pub trait Map<K: Eq + Hash + Drop, V: Drop, S> {
         <Self::Lock as RawRwLock>::Runtime: Wait,
         ensures found { IfOk result (λ place. IfSome place (by_entry
             (λ o. (o.1 ≡ key) × (lock_of self.now key ≡ Some o.0.0.held.0.place.now))
-            (λ v. (v.2 ≡ key) × (v.1 ≡ hash_of_key self.now key) × (lock_of self.now key ≡ Some v.0.held.0.place.now)))) }
+            (λ v. (v.2 ≡ key) × (v.1 ≡ hash_of_key self.now key)
+            × (lock_of self.now key ≡ Some v.0.held.0.place.now)))) }
         ensures refused { IfErr result (λ back. back ≡ key) };
 
     /// As `contains_key`.

@@ -22,8 +22,10 @@ where
 {
     /// A shared guard of the pair of a key; `Locked` where its shard can't be had at once.
     pub fn try_get<'m>(&'m self, key: &K) -> TryResult<Ref<'m, 'm, K, V, Q, A>>
-        ensures asked { IfSome (found result) (λ r. IfSome (key_in (read_guard_value r.0.inner) r.1) (λ k. IsTrue (K.eq k key.now))) }
-        ensures lock { IfSome (found result) (λ r. lock_of S.BuildHasher S.Hasher.Hasher K.hash_input self.now key.now ≡ Some r.0.held.0.place.now) }
+        ensures asked { IfSome (found result)
+            (λ r. IfSome (key_in (read_guard_value r.0.inner) r.1) (λ k. IsTrue (K.eq k key.now))) }
+        ensures lock { IfSome (found result)
+            (λ r. lock_of S.BuildHasher S.Hasher.Hasher K.hash_input self.now key.now ≡ Some r.0.held.0.place.now) }
     {
         let (hash, lock) = self.place_of(key);
         let Some(guard) = lock.try_read() else {
@@ -37,8 +39,10 @@ where
 
     /// An exclusive guard of the pair of a key; `Locked` where its shard can't be had at once.
     pub fn try_get_mut<'m>(&'m self, key: &K) -> TryResult<RefMut<'m, 'm, K, V, Q, A>>
-        ensures asked { IfSome (found result) (λ r. IfSome (key_in (write_guard_value r.0.inner) r.1) (λ k. IsTrue (K.eq k key.now))) }
-        ensures lock { IfSome (found result) (λ r. lock_of S.BuildHasher S.Hasher.Hasher K.hash_input self.now key.now ≡ Some r.0.held.0.place.now) }
+        ensures asked { IfSome (found result)
+            (λ r. IfSome (key_in (write_guard_value r.0.inner) r.1) (λ k. IsTrue (K.eq k key.now))) }
+        ensures lock { IfSome (found result)
+            (λ r. lock_of S.BuildHasher S.Hasher.Hasher K.hash_input self.now key.now ≡ Some r.0.held.0.place.now) }
     {
         let (hash, lock) = self.place_of(key);
         let Some(guard) = lock.try_write() else {
@@ -64,8 +68,10 @@ where
     /// As `entry`; None where the shard can't be had at once, and then the key is let go.
     pub fn try_entry<'m>(&'m self, key: K) -> Result<Option<Entry<'m, 'm, K, V, Q, A>>, K>
         ensures found { IfOk result (λ place. IfSome place (by_entry
-            (λ o. (o.1 ≡ key) × (lock_of S.BuildHasher S.Hasher.Hasher K.hash_input self.now key ≡ Some o.0.0.held.0.place.now))
-            (λ v. (v.2 ≡ key) × (v.1 ≡ key_hash S.BuildHasher S.Hasher.Hasher K.hash_input self.now.hasher key) × (lock_of S.BuildHasher S.Hasher.Hasher K.hash_input self.now key ≡ Some v.0.held.0.place.now)))) }
+            (λ o. (o.1 ≡ key)
+            × (lock_of S.BuildHasher S.Hasher.Hasher K.hash_input self.now key ≡ Some o.0.0.held.0.place.now))
+            (λ v. (v.2 ≡ key) × (v.1 ≡ key_hash S.BuildHasher S.Hasher.Hasher K.hash_input self.now.hasher key)
+            × (lock_of S.BuildHasher S.Hasher.Hasher K.hash_input self.now key ≡ Some v.0.held.0.place.now)))) }
         ensures refused { IfErr result (λ back. back ≡ key) }
     {
         let (hash, lock) = self.place_of(&key);

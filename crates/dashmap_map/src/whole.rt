@@ -25,7 +25,8 @@ where
         self.len(td) == 0
     }
 
-    /// For how many pairs there is room: the sum over the shards, of which one is held at a time. It stops at `usize::MAX`.
+    /// For how many pairs there is room: the sum over the shards, of which one is held at a time. It stops at
+    /// `usize::MAX`.
     pub fn capacity(&self, td: &mut Q::Party) -> usize {
         let mut sum: usize = 0;
         for lock in &self.shards {
@@ -46,8 +47,8 @@ impl<K: Eq + Hash + Drop, V: Drop, S: BuildHasher, Q: RawRwLock, A: Allocator + 
 where
     Q::Runtime: Wait,
 {
-    /// Gives up room that the pairs don't need, one shard after another. A shard without pairs takes no memory and keeps no room. A
-    /// refusal leaves its shard as it was, and the shards before it shrunk.
+    /// Gives up room that the pairs don't need, one shard after another. A shard without pairs takes no memory and
+    /// keeps no room. A refusal leaves its shard as it was, and the shards before it shrunk.
     pub fn shrink_to_fit(&self, td: &mut Q::Party) -> Result<(), NoMemory> {
         for lock in &self.shards {
             lock.write(td).shrink()?;

@@ -64,7 +64,8 @@ fn answer_of(plain: &mut Plain, call: Call) -> Answer {
     }
 }
 
-/// The number of the first call, if any, that a map answers otherwise than plain shards do. In the end both have the same pairs.
+/// The number of the first call, if any, that a map answers otherwise than plain shards do. In the end both have the
+/// same pairs.
 fn first_difference<S: BuildHasher, Q: RawRwLock, A: Allocator + Clone>(
     map: &Numbers<S, Q, A>,
     plain: &mut Plain,

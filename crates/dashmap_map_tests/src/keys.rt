@@ -61,7 +61,8 @@ impl BuildHasher for OneHash {
 /// A map of letters.
 type Letters<R> = Spun<Letter, u64, R>;
 
-/// Writes a value at the place of a letter that is there. Answers the value that was there, and the letter as it is stored.
+/// Writes a value at the place of a letter that is there. Answers the value that was there, and the letter as it is
+/// stored.
 fn written<R: Wait + Drop>(map: &Letters<R>, letter: u8, value: u64) -> Option<(u64, u8)> {
     match map.entry(Letter::of(letter), &mut 1) {
         Ok(Entry::Occupied(mut entry)) => {

@@ -1,6 +1,7 @@
-//! Tests of the running map, for what no clause says: that calls answer as they do on plain shards, that a guard keeps others out until
-//! it ends, and what is refused when.
-//! A call is data (`dashmap_calls`), and so is what it answers: a case is a row of a table, which is run on a map over each kind of lock.
+//! Tests of the running map, for what no clause says: that calls answer as they do on plain shards, that a guard keeps
+//! others out until it ends, and what is refused when.
+//! A call is data (`dashmap_calls`), and so is what it answers: a case is a row of a table, which is run on a map over
+//! each kind of lock.
 #![tactic(auto)]
 
 #[cfg(test)]

@@ -40,7 +40,8 @@ pub fn parked<'t, 'l, R: Wait>(
     DashMap::with_hasher_and_shard_amount(alloc, SpreadState, shards, table)
 }
 
-/// Makes the calls of a table on an empty map over each kind of lock. Where an answer is another, it fails with the row.
+/// Makes the calls of a table on an empty map over each kind of lock. Where an answer is another, it fails with the
+/// row.
 pub fn check<R: Wait + Copy + Drop>(
     rt: R,
     alloc: Global,

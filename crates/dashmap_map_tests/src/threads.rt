@@ -125,7 +125,8 @@ fn four_do<R: Wait + Threads + Sync>(
     first & second
 }
 
-/// Has four threads share a map of 64 zeros. It answers what the numbers add up to, if each call was answered as it is to be.
+/// Has four threads share a map of 64 zeros. It answers what the numbers add up to, if each call was answered as it is
+/// to be.
 fn shared<R: Wait + Threads + Sync + Copy>(
     rt: R,
     alloc: Global,

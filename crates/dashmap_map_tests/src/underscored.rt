@@ -11,7 +11,8 @@ use std::hash::BuildHasher;
 use std::sync::Wait;
 use std::test::Fail;
 
-/// Uses the calls that give no guard on any map with the pair 7 and 1 alone. It is without pairs and without room afterwards.
+/// Uses the calls that give no guard on any map with the pair 7 and 1 alone. It is without pairs and without room
+/// afterwards.
 fn uses_values<M: Map<u64, u64, SpreadState>>(
     map: &M,
     me: &mut <M::Lock as RawRwLock>::Party,

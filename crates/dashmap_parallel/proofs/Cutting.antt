@@ -1,5 +1,6 @@
 -- The pieces of a list are contiguous, and together they are the list.
-use Rattle.std.proofs.Common.{◌≡◌, ℕ, zero, suc, ◌+◌, ◌-◌, ◌*◌, ◌/◌, ◌%◌, ◌<◌, ◌≤◌, List, [], ◌∷◌, ◌++◌, length, take, drop, refl, sym, ap, ◌∙◌, subst, inl, inr, arith}
+use Rattle.std.proofs.Common.{◌≡◌, ℕ, zero, suc, ◌+◌, ◌-◌, ◌*◌, ◌/◌, ◌%◌, ◌<◌, ◌≤◌, List, [], ◌∷◌, ◌++◌, length, take}
+use Rattle.std.proofs.Common.{drop, refl, sym, ap, ◌∙◌, subst, inl, inr, arith}
 use Rattle.std.specs.Prelude.{All, min}
 use Rattle.std.proofs.Math.Nat.{min-le_left, min-le_right, le-min, div-add-mod}
 use Rattle.std.proofs.lemmas.Nat.{div_below}
@@ -30,7 +31,8 @@ take-plus (suc a) m (x ∷ xs) =
 
 module _ {X : Type 0} (P : X → Type 0) (xs : List X) (n : ℕ) where
   -- what holds of the pieces so far holds of what they are
-  pub pieces-so_far : ((i : ℕ) → i < n → All P (piece xs n i)) → (i : ℕ) → i ≤ n → All P (take (first_shard (length xs) n i) xs)
+  pub pieces-so_far : ((i : ℕ) → i < n → All P (piece xs n i)) → (i : ℕ) → i ≤ n
+      → All P (take (first_shard (length xs) n i) xs)
   pieces-so_far each zero le =
       let none : first_shard (length xs) n 0 ≡ 0 = let low = min-le_left 0 (length xs % n) in omega (arith, low) in
       subst (λ k. All P (take k xs)) (sym none) (All-nil P)
@@ -39,10 +41,12 @@ module _ {X : Type 0} (P : X → Type 0) (xs : List X) (n : ℕ) where
       let next : suc i ≡ i + 1 = omega arith in
       let grows = first-grows s n i in
       let from : first_shard s n i + (first_shard s n (i + 1) - first_shard s n i) ≡ first_shard s n (suc i) =
-      (let plain : first_shard s n i + (first_shard s n (i + 1) - first_shard s n i) ≡ first_shard s n (i + 1) = omega (arith, grows) in plain ∙ ap (λ k. first_shard s n k) (sym next)) in
+      (let plain : first_shard s n i + (first_shard s n (i + 1) - first_shard s n i) ≡ first_shard s n (i + 1) =
+      omega (arith, grows) in plain ∙ ap (λ k. first_shard s n k) (sym next)) in
       subst (λ k. All P (take k xs)) from
       (subst (All P) (sym (take-plus (first_shard s n i) (first_shard s n (i + 1) - first_shard s n i) xs))
-      (All-append P (take (first_shard s n i) xs) (piece xs n i) (pieces-so_far each i (omega (arith, le))) (each i (omega (arith, le)))))
+      (All-append P (take (first_shard s n i) xs) (piece xs n i) (pieces-so_far each i (omega (arith, le)))
+      (each i (omega (arith, le)))))
 
 take-all : {X : Type 0} (xs : List X) → take (length xs) xs ≡ xs
 take-all [] = refl
@@ -59,9 +63,11 @@ first-last s n some =
     omega (arith, low, least, all)
 
 -- what holds of each piece holds of the list
-pub pieces-all : {X : Type 0} (P : X → Type 0) (xs : List X) (n : ℕ) → 0 < n → ((i : ℕ) → i < n → All P (piece xs n i)) → All P xs
+pub pieces-all : {X : Type 0} (P : X → Type 0) (xs : List X) (n : ℕ) → 0 < n → ((i : ℕ) → i < n → All P (piece xs n i))
+    → All P xs
 pieces-all P xs n some each =
-    subst (All P) (ap (λ k. take k xs) (first-last (length xs) n some) ∙ take-all xs) (pieces-so_far P xs n each n (omega arith))
+    subst (All P) (ap (λ k. take k xs) (first-last (length xs) n some) ∙ take-all xs)
+    (pieces-so_far P xs n each n (omega arith))
 
 -- a list that isn't empty has an element
 pub some-of : {X : Type 0} (xs : List X) → 0 < length xs → X

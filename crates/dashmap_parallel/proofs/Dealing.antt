@@ -1,5 +1,6 @@
 -- Items that are dealt out to lists, one after another.
-use Rattle.std.proofs.Common.{◌≡◌, ℕ, ◌<◌, Bool, true, false, cond, nat_eq, List, [], ◌∷◌, ◌++◌, length, filter, slice_index_or, slice_set, refl, sym, ap, ◌∙◌, subst, append-nil, inl, inr, eq-eqb, arith}
+use Rattle.std.proofs.Common.{◌≡◌, ℕ, ◌<◌, Bool, true, false, cond, nat_eq, List, [], ◌∷◌, ◌++◌, length, filter}
+use Rattle.std.proofs.Common.{slice_index_or, slice_set, refl, sym, ap, ◌∙◌, subst, append-nil, inl, inr, eq-eqb, arith}
 use Rattle.std.specs.Prelude.{All}
 use Rattle.std.specs.declared.vec.Vec.{Vec}
 use Rattle.std.proofs.lemmas.Bool.{cases_eq, ne_eqb, cond-true, cond-false}
@@ -17,32 +18,43 @@ module _ {X : Type 0} (to : X → ℕ) where
   one-elsewhere x k other = cond-false (nat_eq (to x) k) (x ∷ []) [] (ne_eqb (to x) k other)
 
   -- one item more
-  deals-one : {A : Type 0} (xs : List X) (x : X) (lists after : List (Vec X A)) (list : Vec X A) → to x < length lists → after ≡ slice_set lists (to x) list
-      → ((d : Vec X A) → list.items ≡ (slice_index_or lists (to x) d).items ++ x ∷ []) → AreDealt to xs lists → AreDealt to (xs ++ x ∷ []) after
+  deals-one : {A : Type 0} (xs : List X) (x : X) (lists after : List (Vec X A)) (list : Vec X A) → to x < length lists
+      → after ≡ slice_set lists (to x) list
+      → ((d : Vec X A) → list.items ≡ (slice_index_or lists (to x) d).items ++ x ∷ []) → AreDealt to xs lists
+      → AreDealt to (xs ++ x ∷ []) after
   deals-one xs x lists after list lt is grown h =
       let long = ap length is ∙ length-set lists (to x) list in
       record {
-        below = subst (λ n. All (λ y. to y < n) (xs ++ x ∷ [])) (sym long) (All-push (λ y. to y < length lists) xs x h.below lt);
+        below = subst (λ n. All (λ y. to y < n) (xs ++ x ∷ [])) (sym long)
+            (All-push (λ y. to y < length lists) xs x h.below lt);
         each = λ k d within.
             let inside : k < length lists = subst (λ n. k < n) long within in
             ap (λ ls. (slice_index_or ls k d).items) is ∙ (elim (cases_eq (to x) k) [
               | inl same ↦
-                  subst (λ n. (slice_index_or (slice_set lists n list) k d).items ≡ filter (λ y. nat_eq (to y) k) (xs ++ x ∷ [])) (sym same)
-                  (ap (λ v. v.items) (get_or-set_same lists k list d inside) ∙ grown d ∙ ap (λ n. (slice_index_or lists n d).items ++ x ∷ []) same
-                  ∙ ap (λ l. l ++ x ∷ []) (h.each k d inside) ∙ ap (λ l. filter (λ y. nat_eq (to y) k) xs ++ l) (sym (one-here x k same))
+                  subst (λ n. (slice_index_or (slice_set lists n list) k d).items ≡ filter (λ y. nat_eq (to y) k)
+                  (xs ++ x ∷ [])) (sym same)
+                  (ap (λ v. v.items) (get_or-set_same lists k list d inside) ∙ grown d
+                  ∙ ap (λ n. (slice_index_or lists n d).items ++ x ∷ []) same
+                  ∙ ap (λ l. l ++ x ∷ []) (h.each k d inside) ∙ ap (λ l. filter (λ y. nat_eq (to y) k) xs ++ l)
+                  (sym (one-here x k same))
                   ∙ sym (filter-append (λ y. nat_eq (to y) k) xs (x ∷ [])))
               | inr other ↦
-                  ap (λ v. v.items) (get_or-set_other lists (to x) k list d (λ same. other (sym same))) ∙ h.each k d inside
-                  ∙ sym (append-nil (filter (λ y. nat_eq (to y) k) xs)) ∙ ap (λ l. filter (λ y. nat_eq (to y) k) xs ++ l) (sym (one-elsewhere x k other))
+                  ap (λ v. v.items) (get_or-set_other lists (to x) k list d (λ same. other (sym same)))
+                  ∙ h.each k d inside
+                  ∙ sym (append-nil (filter (λ y. nat_eq (to y) k) xs))
+                  ∙ ap (λ l. filter (λ y. nat_eq (to y) k) xs ++ l) (sym (one-elsewhere x k other))
                   ∙ sym (filter-append (λ y. nat_eq (to y) k) xs (x ∷ []))
             ]);
       }
 
   -- the same, where the list's number was computed
-  pub deals-at : {A : Type 0} (xs : List X) (x : X) (n : ℕ) (lists after : List (Vec X A)) (list : Vec X A) → n ≡ to x → n < length lists → after ≡ slice_set lists n list
-      → ((d : Vec X A) → list.items ≡ (slice_index_or lists n d).items ++ x ∷ []) → AreDealt to xs lists → AreDealt to (xs ++ x ∷ []) after
+  pub deals-at : {A : Type 0} (xs : List X) (x : X) (n : ℕ) (lists after : List (Vec X A)) (list : Vec X A) → n ≡ to x
+      → n < length lists → after ≡ slice_set lists n list
+      → ((d : Vec X A) → list.items ≡ (slice_index_or lists n d).items ++ x ∷ []) → AreDealt to xs lists
+      → AreDealt to (xs ++ x ∷ []) after
   deals-at xs x n lists after list same lt is grown h =
-      deals-one xs x lists after list (subst (λ k. k < length lists) same lt) (subst (λ k. after ≡ slice_set lists k list) same is)
+      deals-one xs x lists after list (subst (λ k. k < length lists) same lt)
+      (subst (λ k. after ≡ slice_set lists k list) same is)
       (λ d. subst (λ k. list.items ≡ (slice_index_or lists k d).items ++ x ∷ []) same (grown d)) h
 
   -- what holds of what is kept holds of the rest of it
@@ -50,16 +62,21 @@ module _ {X : Type 0} (to : X → ℕ) where
   kept-rest P true x l h = All-tail P x l h
   kept-rest P false x l h = h
 
-  all-kept : (P : X → Type 0) (n : ℕ) (xs : List X) → All (λ x. to x < n) xs → ((k : ℕ) → k < n → All P (filter (λ x. nat_eq (to x) k) xs)) → All P xs
+  all-kept : (P : X → Type 0) (n : ℕ) (xs : List X) → All (λ x. to x < n) xs
+      → ((k : ℕ) → k < n → All P (filter (λ x. nat_eq (to x) k) xs)) → All P xs
   all-kept P n [] below h = All-nil P
   all-kept P n (x ∷ xs) below h =
       let kept = filter (λ y. nat_eq (to y) (to x)) xs in
       All-cons P x xs
-      (All-head P x kept (subst (All P) (cond-true (nat_eq (to x) (to x)) (x ∷ kept) kept (eq-eqb (to x) (to x) refl)) (h (to x) (All-head (λ y. to y < n) x xs below))))
-      (all-kept P n xs (All-tail (λ y. to y < n) x xs below) (λ k lt. kept-rest P (nat_eq (to x) k) x (filter (λ y. nat_eq (to y) k) xs) (h k lt)))
+      (All-head P x kept
+      (subst (All P) (cond-true (nat_eq (to x) (to x)) (x ∷ kept) kept (eq-eqb (to x) (to x) refl))
+      (h (to x) (All-head (λ y. to y < n) x xs below))))
+      (all-kept P n xs (All-tail (λ y. to y < n) x xs below)
+      (λ k lt. kept-rest P (nat_eq (to x) k) x (filter (λ y. nat_eq (to y) k) xs) (h k lt)))
 
   -- what holds of each item of each list holds of each item
-  pub dealt-all : {A : Type 0} (P : X → Type 0) (xs : List X) (lists : List (Vec X A)) → AreDealt to xs lists → All (λ l. All P l.items) lists → All P xs
+  pub dealt-all : {A : Type 0} (P : X → Type 0) (xs : List X) (lists : List (Vec X A)) → AreDealt to xs lists
+      → All (λ l. All P l.items) lists → All P xs
   dealt-all P xs lists dealt h =
       all-kept P (length lists) xs dealt.below
       (λ k lt. let d = some-of lists (some k lt) in subst (All P) (dealt.each k d lt) (h k d lt))

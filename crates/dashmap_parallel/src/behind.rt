@@ -23,7 +23,8 @@ pub(crate) fn visit_behind<K: Eq + Hash, V, Q: RawRwLock, A: Allocator, F: Fn(&K
 where
     Q::Runtime: Wait,
     requires { F.IsAlwaysCallable f.now }
-    ensures { WhileShared Q.SharedGuard Q.Runtime Q.Party lock.now (λ table. All (λ p. AnswersOf F.Fn f.now p tt) (pairs_of table.slots)) }
+    ensures { WhileShared Q.SharedGuard Q.Runtime Q.Party lock.now
+        (λ table. All (λ p. AnswersOf F.Fn f.now p tt) (pairs_of table.slots)) }
 {
     let guard = lock.read(td);
     visit_each(&*guard, f);
@@ -47,7 +48,9 @@ pub(crate) fn answers_behind<
 where
     Q::Runtime: Wait,
     requires { F.IsAlwaysCallable f.now }
-    ensures { IfOk result (λ v. WhileShared Q.SharedGuard Q.Runtime Q.Party lock.now (λ table. AllZip (AnswersOf F.Fn f.now) (pairs_of table.slots) v.items)) }
+    ensures { IfOk result
+        (λ v. WhileShared Q.SharedGuard Q.Runtime Q.Party lock.now
+        (λ table. AllZip (AnswersOf F.Fn f.now) (pairs_of table.slots) v.items)) }
 {
     let guard = lock.read(td);
     answers_of(&*guard, f, alloc)

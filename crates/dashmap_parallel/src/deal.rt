@@ -1,5 +1,6 @@
 //! Pairs that are dealt out to the pieces of a map's shards.
-ghost use Rattle.std.specs.Prelude.{◌≡◌, map as list_map, ◌+◌, ◌^◌, ◌<◌, ◌≤◌, [], ◌∷◌, ◌++◌, List, length, slice_index_or, slice_set, All, IfOk, OnOk};
+ghost use Rattle.std.specs.Prelude.{◌≡◌, map as list_map, ◌+◌, ◌^◌, ◌<◌, ◌≤◌, [], ◌∷◌, ◌++◌, List, length};
+ghost use Rattle.std.specs.Prelude.{slice_index_or, slice_set, All, IfOk, OnOk};
 ghost use Rattle.std.specs.declared.vec.Vec.{Vec};
 ghost use Rattle.dashmap_view.specs.Parallel.Pieces.{first_shard};
 ghost use Rattle.dashmap_parallel.specs.Puts.{piece_number, piece_at, hashed, AreDealt};
@@ -49,7 +50,8 @@ fn add_to<T: Drop, A: Allocator>(
     item: T,
 ) -> Result<(), NoMemory>
     requires { number < length lists.old.items }
-    ensures { OnOk result ((list : Vec T A) × (lists.new.items ≡ slice_set lists.old.items number list) × ((d : Vec T A) → list.items ≡ (slice_index_or lists.old.items number d).items ++ item ∷ [])) }
+    ensures { OnOk result ((list : Vec T A) × (lists.new.items ≡ slice_set lists.old.items number list)
+        × ((d : Vec T A) → list.items ≡ (slice_index_or lists.old.items number d).items ++ item ∷ [])) }
 {
     lists[number].push(item)?;
     Ok(())
@@ -62,7 +64,9 @@ pub(crate) fn dealt<K: Eq + Hash + Drop, V: Drop, S: BuildHasher, Q, A: Allocato
     pieces: usize,
 ) -> Result<Vec<Vec<(u64, K, V), A>, A>, NoMemory>
     requires { 0 < pieces }
-    ensures { IfOk result (λ v. (length v.items ≡ pieces) × AreDealt (piece_at (length map.now.locks) pieces) (list_map (hashed S.BuildHasher S.Hasher.Hasher K.hash_input map.now.hasher) pairs.items) v.items) }
+    ensures { IfOk result
+        (λ v. (length v.items ≡ pieces) × AreDealt (piece_at (length map.now.locks) pieces)
+        (list_map (hashed S.BuildHasher S.Hasher.Hasher K.hash_input map.now.hasher) pairs.items) v.items) }
 {
     let shards = map.shard_locks().len();
     let mut lists = empty_lists(map.allocator(), pieces)?;

@@ -31,7 +31,8 @@ fn given_one<D, X, F: Fn(X, &mut D) -> Result<(), NoMemory>>(
     f(item, &mut parties[0])
 }
 
-/// Gives a closure each of some items, with a party of its own, all side by side. All are given, also where one is refused.
+/// Gives a closure each of some items, with a party of its own, all side by side. All are given, also where one is
+/// refused.
 #[cycle(gifts)]
 fn given_each<
     R: Threads + Sync,
@@ -53,7 +54,8 @@ fn given_each<
         ensures { OnOk result (WentWell F.Fn f.entry.now item) }
     { given_one(item, party, f) };
     let rest = || -> Result<(), NoMemory>
-        requires { IsSync R.row × IsSend D.row × IsSend X.row × IsSend A.row × Frees A.Allocator A.dealloc_token × IsSync F.row × (length others.now ≡ length items.items) × F.IsAlwaysCallable f.now }
+        requires { IsSync R.row × IsSend D.row × IsSend X.row × IsSend A.row × Frees A.Allocator A.dealloc_token
+            × IsSync F.row × (length others.now ≡ length items.items) × F.IsAlwaysCallable f.now }
         ensures { OnOk result (All (WentWell F.Fn f.entry.now) items.items) }
     { given_each(rt, items, others, f) };
     let (last, rest) = thread::join(rt, last, rest);
@@ -79,7 +81,9 @@ where
     Q::Runtime: Wait,
     Q::Party: Send,
     requires { 0 < length tds.old }
-    ensures { OnOk result (All (WasPut S.BuildHasher S.Hasher.Hasher K.hash_input K.eq Q.ExclusiveGuard Q.Runtime Q.Party map.now) pairs.items) }
+    ensures { OnOk result
+        (All (WasPut S.BuildHasher S.Hasher.Hasher K.hash_input K.eq Q.ExclusiveGuard Q.Runtime Q.Party map.now)
+        pairs.items) }
 {
     let lists = dealt(map, pairs, tds.len())?;
     let locks = map.shard_locks();
@@ -90,12 +94,12 @@ where
     given_each(rt, lists, tds, &part)
 }
 
-/// Puts pairs into a shared map. Each goes to the piece of its shard, which takes its pairs in their order; pieces go side by side, one for each
-/// thread's data, and shards are cut into them as `par_iter` cuts them.
+/// Puts pairs into a shared map. Each goes to the piece of its shard, which takes its pairs in their order; pieces go
+/// side by side, one for each thread's data, and shards are cut into them as `par_iter` cuts them.
 ///
-/// Refused as `NoThreadData`, where no thread's data was handed in, and nothing is done. Refused as `NoMemory`, where there is no memory to deal
-/// the pairs out, and nothing is put in; or where a shard would have to grow and can't. Then its piece stops, and lets go of what it has left, while
-/// the others go on to their end: what is put in stays.
+/// Refused as `NoThreadData`, where no thread's data was handed in, and nothing is done. Refused as `NoMemory`, where
+/// there is no memory to deal the pairs out, and nothing is put in; or where a shard would have to grow and can't. Then
+/// its piece stops, and lets go of what it has left, while the others go on to their end: what is put in stays.
 ///
 /// ```text
 /// par_extend_shared(&map, &rt, pairs, &mut datas)?;
@@ -116,8 +120,11 @@ pub fn par_extend_shared<
 where
     Q::Runtime: Wait,
     Q::Party: Send,
-    ensures threads { MatchResult result (λ _. 0 < length tds.old) (λ fault. (fault ≡ ParExtendFault.NoThreadData) ↔ (length tds.old ≡ 0)) }
-    ensures put { OnOk result (All (WasPut S.BuildHasher S.Hasher.Hasher K.hash_input K.eq Q.ExclusiveGuard Q.Runtime Q.Party map.now) pairs.items) }
+    ensures threads { MatchResult result (λ _. 0 < length tds.old)
+        (λ fault. (fault ≡ ParExtendFault.NoThreadData) ↔ (length tds.old ≡ 0)) }
+    ensures put { OnOk result
+        (All (WasPut S.BuildHasher S.Hasher.Hasher K.hash_input K.eq Q.ExclusiveGuard Q.Runtime Q.Party map.now)
+        pairs.items) }
 {
     if tds.is_empty() {
         return Err(ParExtendFault::NoThreadData);

@@ -37,7 +37,8 @@ impl Error for NoThreadData {}
 pub enum ParExtendFault {
     /// No thread's data was handed in: code 34. Nothing was done.
     NoThreadData,
-    /// There was no memory to deal the pairs out, and nothing was done; or a growth was refused, and what was put in stays: code 99.
+    /// There was no memory to deal the pairs out, and nothing was done; or a growth was refused, and what was put in
+    /// stays: code 99.
     NoMemory,
 }
 

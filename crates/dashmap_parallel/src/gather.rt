@@ -38,7 +38,9 @@ pub(crate) fn answers_in_piece<
 where
     Q::Runtime: Wait,
     requires { F.IsAlwaysCallable f.now }
-    ensures { IfOk result (λ v. GatheredFrom Q.SharedGuard Q.Runtime Q.Party (λ table. AllZip (AnswersOf F.Fn f.now) (pairs_of table.slots)) locks.now v.items) }
+    ensures { IfOk result
+        (λ v. GatheredFrom Q.SharedGuard Q.Runtime Q.Party
+        (λ table. AllZip (AnswersOf F.Fn f.now) (pairs_of table.slots)) locks.now v.items) }
 {
     let mut all = Vec::new(alloc.clone()?);
     for lock in locks {
@@ -53,7 +55,8 @@ fn one_after<U: Drop, B: Allocator>(
     first: Result<Vec<U, B>, NoMemory>,
     second: Result<Vec<U, B>, NoMemory>,
 ) -> Result<Vec<U, B>, NoMemory>
-    ensures { IfOk result (λ all. (v : Vec U B) × (w : Vec U B) × (first ≡ Ok v) × (second ≡ Ok w) × (all.items ≡ v.items ++ w.items)) }
+    ensures { IfOk result (λ all. (v : Vec U B) × (w : Vec U B) × (first ≡ Ok v) × (second ≡ Ok w)
+        × (all.items ≡ v.items ++ w.items)) }
 {
     let mut all = first?;
     let mut rest = second?;
@@ -61,8 +64,8 @@ fn one_after<U: Drop, B: Allocator>(
     Ok(all)
 }
 
-/// What a closure makes of each piece of some items, in order. Pieces go side by side, one for each party, contiguous, and the larger ones
-/// first.
+/// What a closure makes of each piece of some items, in order. Pieces go side by side, one for each party, contiguous,
+/// and the larger ones first.
 #[cycle(halves)]
 pub(crate) fn made_in_pieces<
     R: Threads + Sync,
@@ -87,11 +90,13 @@ pub(crate) fn made_in_pieces<
     let (mine, yours) = parties.split_at_mut(half);
     let theirs = alloc.clone()?;
     let front = || -> Result<Vec<U, B>, NoMemory>
-        requires { IsSync R.row × IsSync X.row × IsSync F.row × IsSend D.row × IsSend U.row × IsSend B.row × Frees B.Allocator B.dealloc_token × (0 < length mine.now) × F.IsAlwaysCallable f.now }
+        requires { IsSync R.row × IsSync X.row × IsSync F.row × IsSend D.row × IsSend U.row × IsSend B.row
+            × Frees B.Allocator B.dealloc_token × (0 < length mine.now) × F.IsAlwaysCallable f.now }
         ensures { IfOk result (λ v. MadeInPieces F.Fn f.entry.now here.entry.now v.items) }
     { made_in_pieces(rt, here, mine, alloc, f) };
     let back = || -> Result<Vec<U, B>, NoMemory>
-        requires { IsSync R.row × IsSync X.row × IsSync F.row × IsSend D.row × IsSend U.row × IsSend B.row × Frees B.Allocator B.dealloc_token × (0 < length yours.now) × F.IsAlwaysCallable f.now }
+        requires { IsSync R.row × IsSync X.row × IsSync F.row × IsSend D.row × IsSend U.row × IsSend B.row
+            × Frees B.Allocator B.dealloc_token × (0 < length yours.now) × F.IsAlwaysCallable f.now }
         ensures { IfOk result (λ v. MadeInPieces F.Fn f.entry.now there.entry.now v.items) }
     { made_in_pieces(rt, there, yours, theirs, f) };
     let (first, second) = thread::join(rt, front, back);

@@ -20,11 +20,11 @@ use std::marker::Model;
 use std::sync::Wait;
 use std::thread::Threads;
 
-/// The pairs of a shared map, lent to a closure that threads share. It borrows the map and the threads' data, and holds no shard until
-/// it is run.
+/// The pairs of a shared map, lent to a closure that threads share. It borrows the map and the threads' data, and holds
+/// no shard until it is run.
 ///
-/// The shards are cut into contiguous pieces, one for each thread's data, whose sizes differ by one at the most; larger pieces come first. A
-/// contract sees the raw locks of the shards.
+/// The shards are cut into contiguous pieces, one for each thread's data, whose sizes differ by one at the most; larger
+/// pieces come first. A contract sees the raw locks of the shards.
 #[derive(Drop)]
 pub struct SharedIter<'m, 'd, K: Eq + Hash, V, Q: RawRwLock, A: Allocator = Global> {
     locks: &'m [CachePadded<RwLock<Q, Shard<K, V, A>>>],
@@ -70,7 +70,8 @@ where
     /// Calls the closure once for each pair. It takes no memory.
     pub fn for_each<R: Threads + Sync, F: Fn(&K, &V) + Sync>(self, rt: &R, f: F)
         requires { F.IsAlwaysCallable f }
-        ensures { All (λ lock. WhileShared Q.SharedGuard Q.Runtime Q.Party (padded_value lock) (λ table. All (λ p. AnswersOf F.Fn f p tt) (pairs_of table.slots))) self.entry }
+        ensures { All (λ lock. WhileShared Q.SharedGuard Q.Runtime Q.Party (padded_value lock)
+            (λ table. All (λ p. AnswersOf F.Fn f p tt) (pairs_of table.slots))) self.entry }
     {
         let SharedIter { locks, parties } = self;
         let f = &f;
@@ -80,7 +81,8 @@ where
             parties,
             &|lock: &CachePadded<RwLock<Q, Shard<K, V, A>>>, td: &mut Q::Party|
                 requires { F.IsAlwaysCallable f.now }
-                ensures { WhileShared Q.SharedGuard Q.Runtime Q.Party (padded_value lock.now) (λ table. All (λ p. AnswersOf F.Fn f.entry.now p tt) (pairs_of table.slots)) }
+                ensures { WhileShared Q.SharedGuard Q.Runtime Q.Party (padded_value lock.now)
+                    (λ table. All (λ p. AnswersOf F.Fn f.entry.now p tt) (pairs_of table.slots)) }
             { visit_behind(&**lock, td, f) },
         );
     }
@@ -95,7 +97,9 @@ where
         F: Fn(&K, &V) -> T + Sync,
     >(self, rt: &R, alloc: B, f: F) -> Result<Vec<T, B>, NoMemory>
         requires { F.IsAlwaysCallable f }
-        ensures { IfOk result (λ v. GatheredFrom Q.SharedGuard Q.Runtime Q.Party (λ table. AllZip (AnswersOf F.Fn f) (pairs_of table.slots)) self.entry v.items) }
+        ensures { IfOk result
+            (λ v. GatheredFrom Q.SharedGuard Q.Runtime Q.Party
+            (λ table. AllZip (AnswersOf F.Fn f) (pairs_of table.slots)) self.entry v.items) }
     {
         let SharedIter { locks, parties } = self;
         let f = &f;
@@ -105,7 +109,9 @@ where
             NoMemory,
         >
             requires { F.IsAlwaysCallable f.now }
-            ensures { IfOk result (λ v. GatheredFrom Q.SharedGuard Q.Runtime Q.Party (λ table. AllZip (AnswersOf F.Fn f.entry.now) (pairs_of table.slots)) locks.now v.items) }
+            ensures { IfOk result
+                (λ v. GatheredFrom Q.SharedGuard Q.Runtime Q.Party
+                (λ table. AllZip (AnswersOf F.Fn f.entry.now) (pairs_of table.slots)) locks.now v.items) }
         { answers_in_piece(locks, td, f, alloc) };
         let lists = made_in_pieces(rt, locks, parties, alloc.clone()?, &part)?;
         joined(lists, alloc.clone()?)

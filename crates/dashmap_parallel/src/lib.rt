@@ -1,6 +1,8 @@
-//! Parallel forms of a map that is shared: its shards are cut into pieces, one for each thread's data that is handed in.
+//! Parallel forms of a map that is shared: its shards are cut into pieces, one for each thread's data that is handed
+//! in.
 //!
-//! A piece is a thread's own: it takes its shards in order and holds one at a time. So a form can run beside calls of other threads.
+//! A piece is a thread's own: it takes its shards in order and holds one at a time. So a form can run beside calls of
+//! other threads.
 #![tactic(auto)]
 
 mod behind;

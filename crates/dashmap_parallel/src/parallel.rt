@@ -26,14 +26,16 @@ pub trait ParallelMap<K: Eq + Hash, V, S, Q: RawRwLock, A: Allocator> {
         &'m self,
         tds: &'d mut [Q::Party],
     ) -> Result<SharedIter<'m, 'd, K, V, Q, A>, NoThreadData>
-        ensures { MatchResult result (λ it. (it ≡ (seen self.now).locks) × (0 < length tds.old)) (λ _. length tds.old ≡ 0) };
+        ensures { MatchResult result (λ it. (it ≡ (seen self.now).locks) × (0 < length tds.old))
+            (λ _. length tds.old ≡ 0) };
 
     /// All pairs, their values lent for writing, by as many threads as data is handed in; none is refused.
     fn par_iter_mut_shared<'m, 'd>(
         &'m self,
         tds: &'d mut [Q::Party],
     ) -> Result<SharedIterMut<'m, 'd, K, V, Q, A>, NoThreadData>
-        ensures { MatchResult result (λ it. (it ≡ (seen self.now).locks) × (0 < length tds.old)) (λ _. length tds.old ≡ 0) };
+        ensures { MatchResult result (λ it. (it ≡ (seen self.now).locks) × (0 < length tds.old))
+            (λ _. length tds.old ≡ 0) };
 }
 
 impl<K: Eq + Hash, V, S: BuildHasher, Q: RawRwLock, A: Allocator> ParallelMap<K, V, S, Q, A>

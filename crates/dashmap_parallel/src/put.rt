@@ -28,7 +28,8 @@ where
     Q::Runtime: Wait,
     ensures { MatchResult result
         (λ _. WhileHeld Q.ExclusiveGuard Q.Runtime Q.Party lock.now (λ old new. PutsIn K.eq old new hash key value))
-        (λ _. WhileHeld {V = V} Q.ExclusiveGuard Q.Runtime Q.Party lock.now (λ old new. FindsNoRoom K.eq old new hash key)) }
+        (λ _. WhileHeld {V = V} Q.ExclusiveGuard Q.Runtime Q.Party lock.now
+        (λ old new. FindsNoRoom K.eq old new hash key)) }
 {
     let mut guard = lock.write(td);
     match insert_into(&mut *guard, hash, key, value) {

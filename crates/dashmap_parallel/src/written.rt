@@ -16,8 +16,9 @@ use std::marker::Model;
 use std::sync::Wait;
 use std::thread::Threads;
 
-/// The pairs of a shared map, whose values are lent for writing to a closure that threads share. It borrows the map and the threads' data,
-/// and holds no shard until it is run. It is cut into pieces as [`SharedIter`](crate::SharedIter) is.
+/// The pairs of a shared map, whose values are lent for writing to a closure that threads share. It borrows the map and
+/// the threads' data, and holds no shard until it is run. It is cut into pieces as [`SharedIter`](crate::SharedIter)
+/// is.
 #[derive(Drop)]
 pub struct SharedIterMut<'m, 'd, K: Eq + Hash, V, Q: RawRwLock, A: Allocator = Global> {
     locks: &'m [CachePadded<RwLock<Q, Shard<K, V, A>>>],
@@ -64,7 +65,8 @@ where
     /// Lends the closure the value of each pair for writing, each once. It takes no memory.
     pub fn for_each<R: Threads + Sync, F: Fn(&K, &mut V) + Sync>(self, rt: &R, f: F)
         requires { F.IsAlwaysCallable f }
-        ensures { All (λ lock. WhileHeld Q.ExclusiveGuard Q.Runtime Q.Party (padded_value lock) (WritesEach F.Fn f)) self.entry }
+        ensures { All (λ lock. WhileHeld Q.ExclusiveGuard Q.Runtime Q.Party (padded_value lock) (WritesEach F.Fn f))
+            self.entry }
     {
         let SharedIterMut { locks, parties } = self;
         let f = &f;
@@ -74,7 +76,8 @@ where
             parties,
             &|lock: &CachePadded<RwLock<Q, Shard<K, V, A>>>, td: &mut Q::Party|
                 requires { F.IsAlwaysCallable f.now }
-                ensures { WhileHeld Q.ExclusiveGuard Q.Runtime Q.Party (padded_value lock.now) (WritesEach F.Fn f.entry.now) }
+                ensures { WhileHeld Q.ExclusiveGuard Q.Runtime Q.Party (padded_value lock.now)
+                    (WritesEach F.Fn f.entry.now) }
             { write_behind(&**lock, td, f) },
         );
     }

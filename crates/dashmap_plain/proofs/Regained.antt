@@ -9,6 +9,8 @@ module _ {K V S Q : Type 0} where
   opened tables hasher locks = record { plain = record { tables = tables; hasher = hasher }; locks = locks }
 
   -- it is told by its shards, its hasher and its locks
-  pub same_parts : (o p : Opened K V S Q) → o.plain.tables ≡ p.plain.tables → o.plain.hasher ≡ p.plain.hasher → o.locks ≡ p.locks → o ≡ p
+  pub same_parts : (o p : Opened K V S Q) → o.plain.tables ≡ p.plain.tables → o.plain.hasher ≡ p.plain.hasher
+      → o.locks ≡ p.locks → o ≡ p
   same_parts o p tables hasher locks =
-      ap (λ t. opened t o.plain.hasher o.locks) tables ∙ (ap (λ s. opened p.plain.tables s o.locks) hasher ∙ ap (λ l. opened p.plain.tables p.plain.hasher l) locks)
+      ap (λ t. opened t o.plain.hasher o.locks) tables
+      ∙ (ap (λ s. opened p.plain.tables s o.locks) hasher ∙ ap (λ l. opened p.plain.tables p.plain.hasher l) locks)

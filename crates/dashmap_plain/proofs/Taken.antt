@@ -11,9 +11,11 @@ module _ {S A : Type 0} {steps : S → Option A → S → Type 0} {s : S} {all :
   taken_whole xs (u, (t, came, last)) list = sym (map-id xs) ∙ (YieldsList-end list xs t came None u refl last).0
 
   -- the first items, and one more
-  pub taken_until : (before : List A) (x : A) (u : S) → YieldsThen steps s before (Some x) u → YieldsList steps (λ x. x) s all → all ≡ before ++ x ∷ drop (length before + 1) all
+  pub taken_until : (before : List A) (x : A) (u : S) → YieldsThen steps s before (Some x) u
+      → YieldsList steps (λ x. x) s all → all ≡ before ++ x ∷ drop (length before + 1) all
   taken_until before x u (t, came, last) list =
       let n = length before in
       let so_far = sym (map-id before) ∙ YieldsList-so_far list before t came in
       let next = YieldsList-turn list before t came (Some x) u x refl last in
-      sym (take-append-drop n all) ∙ ap (λ l. l ++ drop n all) (sym so_far) ∙ ap (λ l. before ++ l) (drop_more all n x next.0 ∙ ap (λ z. z ∷ drop (n + 1) all) (sym next.1))
+      sym (take-append-drop n all) ∙ ap (λ l. l ++ drop n all) (sym so_far)
+      ∙ ap (λ l. before ++ l) (drop_more all n x next.0 ∙ ap (λ z. z ∷ drop (n + 1) all) (sym next.1))

@@ -14,7 +14,8 @@ use std::hash::{BuildHasher, Hash};
 
 /// As the map's `extend`, with the pairs of a list in its order.
 ///
-/// They are put in one after another, and by one thread: which pair comes back, and which are in by then, is the order's to say.
+/// They are put in one after another, and by one thread: which pair comes back, and which are in by then, is the
+/// order's to say.
 ///
 /// ```text
 /// par_extend(&mut map, pairs).map_err(|(name, _)| name)?;
@@ -28,7 +29,8 @@ pub fn par_extend<
     B: Allocator,
 >(map: &mut DashMap<K, V, S, Q, A>, pairs: Vec<(K, V), B>) -> Result<(), (K, V)>
     ensures locks { map.new ≡ map.old }
-    ensures refused { IfErr result (λ back. (before : List (K × V)) × (rest : List (K × V)) × (pairs.items ≡ before ++ back ∷ rest)) }
+    ensures refused { IfErr result
+        (λ back. (before : List (K × V)) × (rest : List (K × V)) × (pairs.items ≡ before ++ back ∷ rest)) }
 {
     map.extend(pairs.into_iter())
 }
@@ -53,7 +55,8 @@ pub fn from_par_iter<
     parallelism: usize,
     table: T,
 ) -> Result<DashMap<K, V, S, Q, A>, MapFault>
-    ensures made { IfOk result (λ m. IsNextPowerOfTwo (wanted_shards parallelism) (length m.locks) × (m.hasher ≡ hasher)) }
+    ensures made { IfOk result
+        (λ m. IsNextPowerOfTwo (wanted_shards parallelism) (length m.locks) × (m.hasher ≡ hasher)) }
     ensures bad_shards { (result ≡ Err MapFault.BadShards) ↔ (2 ^ 16 < wanted_shards parallelism) }
     ensures fits { ¬ (result ≡ Err MapFault.CapacityOverflow) }
 {
@@ -72,8 +75,12 @@ pub fn par_extend_shards<
     A: Allocator + Clone,
     B: Allocator,
 >(shards: &mut Shards<K, V, S, A>, pairs: Vec<(K, V), B>) -> Result<(), (K, V)>
-    ensures all { OnOk result (PutsAll S.BuildHasher S.Hasher.Hasher K.hash_input K.eq pairs.items shards.old shards.new) }
-    ensures refused { IfErr result (λ back. (before : List (K × V)) × (rest : List (K × V)) × (pairs.items ≡ before ++ back ∷ rest) × PutsAll S.BuildHasher S.Hasher.Hasher K.hash_input K.eq before shards.old shards.new × (pair_at S.BuildHasher S.Hasher.Hasher K.hash_input K.eq shards.new back.0 ≡ None)) }
+    ensures all { OnOk result
+        (PutsAll S.BuildHasher S.Hasher.Hasher K.hash_input K.eq pairs.items shards.old shards.new) }
+    ensures refused { IfErr result
+        (λ back. (before : List (K × V)) × (rest : List (K × V)) × (pairs.items ≡ before ++ back ∷ rest)
+        × PutsAll S.BuildHasher S.Hasher.Hasher K.hash_input K.eq before shards.old shards.new
+        × (pair_at S.BuildHasher S.Hasher.Hasher K.hash_input K.eq shards.new back.0 ≡ None)) }
 {
     shards.extend(pairs.into_iter())
 }

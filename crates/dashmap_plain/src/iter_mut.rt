@@ -9,8 +9,8 @@ use std::alloc::{Allocator, Global};
 use std::hash::{BuildHasher, Hash};
 use std::thread::Threads;
 
-/// The pairs of a map whose values are lent for writing to a closure that threads share. It borrows the map, and changes nothing before
-/// it is run.
+/// The pairs of a map whose values are lent for writing to a closure that threads share. It borrows the map, and
+/// changes nothing before it is run.
 #[derive(Drop)]
 pub struct IterMut<'m, K: Eq + Hash, V, S: BuildHasher, Q, A: Allocator = Global> {
     map: &'m mut DashMap<K, V, S, Q, A>,
@@ -25,8 +25,8 @@ impl<'m, K: Eq + Hash, V, S: BuildHasher, Q, A: Allocator> IterMut<'m, K, V, S, 
         IterMut { map }
     }
 
-    /// Lends the closure the value of each pair for writing, each once. The pairs of one shard are one piece of work, and shards go side by
-    /// side. It takes no memory.
+    /// Lends the closure the value of each pair for writing, each once. The pairs of one shard are one piece of work,
+    /// and shards go side by side. It takes no memory.
     pub fn for_each<R: Threads + Sync, F: Fn(&K, &mut V) + Sync>(self, rt: &R, f: F)
     where
         K: Send,

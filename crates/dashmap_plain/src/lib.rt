@@ -1,8 +1,8 @@
 //! The running map for its one owner: its plain shards, and views of them.
 //!
-//! Who owns a map may take it apart without a lock: [`Plain`] gives its shards, its pairs one after another, or a [`ReadOnlyView`],
-//! which any number of readers may share, and of which the map can be made again. None of these takes memory: a map keeps room for its
-//! plain shards from its making.
+//! Who owns a map may take it apart without a lock: [`Plain`] gives its shards, its pairs one after another, or a
+//! [`ReadOnlyView`], which any number of readers may share, and of which the map can be made again. None of these takes
+//! memory: a map keeps room for its plain shards from its making.
 #![tactic(auto)]
 
 pub mod clones;

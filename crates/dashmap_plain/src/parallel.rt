@@ -1,4 +1,5 @@
-//! Parallel forms for the one owner of a map or of a view: the pairs of one shard are one piece of work, and shards go side by side.
+//! Parallel forms for the one owner of a map or of a view: the pairs of one shard are one piece of work, and shards go
+//! side by side.
 ghost use Rattle.std.specs.Prelude.{◌≡◌};
 ghost use Rattle.std.specs.List.{AllZip};
 ghost use Rattle.dashmap_view.specs.Parallel.Calls.{WritesEach};

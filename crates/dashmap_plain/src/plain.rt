@@ -13,8 +13,8 @@ use std::hash::{BuildHasher, Hash};
 
 /// What becomes of a map that nobody else can reach. No call takes memory, and none waits.
 ///
-/// What lies behind a lock no contract says, so these promise the locks and the hasher; of plain shards that are had once
-/// [`Unlocked`] says all.
+/// What lies behind a lock no contract says, so these promise the locks and the hasher; of plain shards that are had
+/// once [`Unlocked`] says all.
 ///
 /// ```text
 /// let view = map.into_read_only().map_err(|_| "a pair in a wrong shard")?;
@@ -33,8 +33,8 @@ pub trait Plain<K: Eq + Hash, V, S: BuildHasher, Q, A: Allocator>: Sized {
 
     /// A view, for any number of readers.
     ///
-    /// It tests once that each pair is under its key's hash and in the shard of its key's route. Where one isn't, the map comes back; no
-    /// call of these crates causes it.
+    /// It tests once that each pair is under its key's hash and in the shard of its key's route. Where one isn't, the
+    /// map comes back; no call of these crates causes it.
     fn into_read_only(self) -> Result<ReadOnlyView<K, V, S, Q, A>, Displaced<Self>>
         ensures view { IfOk result (λ v. (v.locks ≡ (seen self).locks) × (v.plain.hasher ≡ (seen self).hasher)) }
         ensures displaced { IfErr result (λ back. seen back ≡ seen self) };
@@ -44,7 +44,8 @@ pub trait Plain<K: Eq + Hash, V, S: BuildHasher, Q, A: Allocator>: Sized {
         ensures same { result.map.ghost_name ≡ self.entry.ghost_name }
         ensures value { result.map.now ≡ seen self.old };
 
-    /// All pairs by value: the pairs of one shard are one piece of work, and shards go side by side. The locks go; their rows stay used.
+    /// All pairs by value: the pairs of one shard are one piece of work, and shards go side by side. The locks go;
+    /// their rows stay used.
     fn into_par_iter(self) -> dashmap_view::parallel::OwningIter<K, V, A>
         ensures { length result ≡ length (seen self).locks };
 }

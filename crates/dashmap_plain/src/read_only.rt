@@ -15,8 +15,8 @@ use std::fmt;
 use std::hash::{BuildHasher, Hash};
 use std::marker::Model;
 
-/// A map that nobody else can reach and nobody writes: its plain shards, its hasher, and the locks that they stood behind. Any number of
-/// readers may share it: nothing waits, and nothing is lent.
+/// A map that nobody else can reach and nobody writes: its plain shards, its hasher, and the locks that they stood
+/// behind. Any number of readers may share it: nothing waits, and nothing is lent.
 ///
 /// A contract sees the shards, the hasher and the raw locks (`Opened`). Each pair is in the shard of its key's route.
 ///
@@ -117,14 +117,16 @@ impl<K: Eq + Hash, V, S: BuildHasher, Q, A: Allocator> ReadOnlyView<K, V, S, Q, 
 
     /// Lends the stored pair of a key.
     pub fn get_key_value(&self, key: &K) -> Option<(&K, &V)>
-        ensures { option_map (λ p. (p.0.now, p.1.now)) result ≡ pair_at S.BuildHasher S.Hasher.Hasher K.hash_input K.eq self.now.plain key.now }
+        ensures { option_map (λ p. (p.0.now, p.1.now)) result ≡ pair_at S.BuildHasher S.Hasher.Hasher K.hash_input K.eq
+            self.now.plain key.now }
     {
         self.plain.get_key_value(key)
     }
 
     /// Lends the value of a key.
     pub fn get(&self, key: &K) -> Option<&V>
-        ensures { option_copied result ≡ option_map (λ p. p.1) (pair_at S.BuildHasher S.Hasher.Hasher K.hash_input K.eq self.now.plain key.now) }
+        ensures { option_copied result ≡ option_map (λ p. p.1)
+            (pair_at S.BuildHasher S.Hasher.Hasher K.hash_input K.eq self.now.plain key.now) }
     {
         self.plain.get(key)
     }

@@ -16,13 +16,18 @@ use std::hash::{BuildHasher, Hash};
 pub trait ExtendShards<K: Eq + Hash, V, S: BuildHasher> {
     ghost seen: { Self → Tables K V S };
 
-    /// Puts pairs in, one after another, as `insert` does. The first one that is refused comes back: the pairs before it stay, and the
-    /// rest of the iterator is let go.
+    /// Puts pairs in, one after another, as `insert` does. The first one that is refused comes back: the pairs before
+    /// it stay, and the rest of the iterator is let go.
     fn extend<I: Iterator<Item = (K, V)> + Drop>(&mut self, iter: I) -> Result<(), (K, V)>
         requires can { I.can_next iter }
         requires ends { IsFinite (I.remaining iter) }
-        ensures all { OnOk result ((pairs : List (K × V)) × Drains I.next_gives iter pairs × PutsAll S.BuildHasher S.Hasher.Hasher K.hash_input K.eq pairs (seen self.old) (seen self.new)) }
-        ensures refused { IfErr result (λ back. (before : List (K × V)) × (rest : I) × YieldsThen I.next_gives iter before (Some back) rest × PutsAll S.BuildHasher S.Hasher.Hasher K.hash_input K.eq before (seen self.old) (seen self.new) × (pair_at S.BuildHasher S.Hasher.Hasher K.hash_input K.eq (seen self.new) back.0 ≡ None)) };
+        ensures all { OnOk result
+            ((pairs : List (K × V)) × Drains I.next_gives iter pairs × PutsAll S.BuildHasher S.Hasher.Hasher
+            K.hash_input K.eq pairs (seen self.old) (seen self.new)) }
+        ensures refused { IfErr result
+            (λ back. (before : List (K × V)) × (rest : I) × YieldsThen I.next_gives iter before (Some back) rest
+            × PutsAll S.BuildHasher S.Hasher.Hasher K.hash_input K.eq before (seen self.old) (seen self.new)
+            × (pair_at S.BuildHasher S.Hasher.Hasher K.hash_input K.eq (seen self.new) back.0 ≡ None)) };
 }
 
 /// Puts a pair in, and lets the value go that its key had.
@@ -31,8 +36,11 @@ fn put<K: Eq + Hash + Drop, V: Drop, S: BuildHasher, A: Allocator + Clone>(
     key: K,
     value: V,
 ) -> Result<(), (K, V)>
-    ensures put { OnOk result (Puts S.BuildHasher S.Hasher.Hasher K.hash_input K.eq shards.old (key, value) shards.new) }
-    ensures refused { IfErr result (λ back. (back ≡ (key, value)) × (shards.new ≡ shards.old) × (pair_at S.BuildHasher S.Hasher.Hasher K.hash_input K.eq shards.old key ≡ None)) }
+    ensures put { OnOk result
+        (Puts S.BuildHasher S.Hasher.Hasher K.hash_input K.eq shards.old (key, value) shards.new) }
+    ensures refused { IfErr result
+        (λ back. (back ≡ (key, value)) × (shards.new ≡ shards.old)
+        × (pair_at S.BuildHasher S.Hasher.Hasher K.hash_input K.eq shards.old key ≡ None)) }
 {
     let _old = shards.insert(key, value)?;
     Ok(())

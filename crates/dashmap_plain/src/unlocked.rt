@@ -17,8 +17,8 @@ use std::marker::Model;
 
 /// A map that is taken apart: its plain shards and its hasher, and beside them the locks that they stood behind.
 ///
-/// A contract sees the shards, the hasher and the raw locks (`Opened`). A map can be put together of it again; that its pairs are in the
-/// shards of their routes is whose changes the shards to know.
+/// A contract sees the shards, the hasher and the raw locks (`Opened`). A map can be put together of it again; that its
+/// pairs are in the shards of their routes is whose changes the shards to know.
 #[derive(Drop)]
 pub struct Unlocked<K: Eq + Hash, V, S: BuildHasher, Q, A: Allocator = Global> {
     pub(crate) shards: Vec<Shard<K, V, A>, A>,
@@ -33,7 +33,10 @@ impl<K: Eq + Hash, V, S: BuildHasher, Q, A: Allocator> Model for Unlocked<K, V, 
 
     ghost Value = { Opened K V S Q };
 
-    ghost view = { λ u. record { plain = record { tables = u.shards.items; hasher = u.hasher }; locks = u.locks.items } };
+    ghost view = { λ u. record {
+      plain = record { tables = u.shards.items; hasher = u.hasher };
+      locks = u.locks.items;
+    } };
 
     ghost invariant = { λ u. IsShardAmount (length u.shards.items) × (length u.locks.items ≡ length u.shards.items) };
 }
@@ -82,13 +85,14 @@ impl<K: Eq + Hash, V, S: BuildHasher, Q, A: Allocator> Unlocked<K, V, S, Q, A> {
 
     /// A view of the shards.
     ///
-    /// It tests each pair once. Where one lies in a shard that isn't its key's, or under another hash than its key's, there is no view,
-    /// and all comes back.
+    /// It tests each pair once. Where one lies in a shard that isn't its key's, or under another hash than its key's,
+    /// there is no view, and all comes back.
     pub fn into_read_only(
         self,
     ) -> Result<ReadOnlyView<K, V, S, Q, A>, Displaced<Unlocked<K, V, S, Q, A>>>
         ensures view { IfOk result (λ v. v ≡ self) }
-        ensures displaced { IfErr result (λ back. (back ≡ self) × ¬ AreRouted S.BuildHasher S.Hasher.Hasher K.hash_input self.plain.hasher self.plain.tables) }
+        ensures displaced { IfErr result (λ back. (back ≡ self) × ¬ AreRouted S.BuildHasher S.Hasher.Hasher K.hash_input
+            self.plain.hasher self.plain.tables) }
     {
         let (shards, locks, hasher) = self.into_parts();
         match PlainView::of(shards, hasher) {

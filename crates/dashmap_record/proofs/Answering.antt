@@ -1,5 +1,6 @@
 -- What a call's reply may be, and callers that haven't called yet.
-use Rattle.std.proofs.Common.{◌≡◌, ◌↔◌, ℕ, suc, ◌+◌, nat_eq, length, Bool, List, [], ◌∷◌, ◌++◌, Option, Some, None, Result, Ok, Err, IfOk, IfSome, refl, sym, ap, ◌∙◌, subst, inl, inr, arith}
+use Rattle.std.proofs.Common.{◌≡◌, ◌↔◌, ℕ, suc, ◌+◌, nat_eq, length, Bool, List, [], ◌∷◌, ◌++◌, Option, Some, None}
+use Rattle.std.proofs.Common.{Result, Ok, Err, IfOk, IfSome, refl, sym, ap, ◌∙◌, subst, inl, inr, arith}
 use Rattle.std.specs.Prelude.{IsTrue}
 use Rattle.std.specs.Option.{option_map}
 use Rattle.std.proofs.lemmas.Bool.{and_parts}
@@ -24,7 +25,8 @@ pub from_zero : (n : ℕ) → n ≡ 0 + n
 from_zero n = omega arith
 
 -- one taken, one put in
-pub count-taken : {X Y : Type 0} (xs ys : List X) (x : X) (before after : List Y) (y : Y) (n : ℕ) → length xs + length before ≡ n → before ≡ y ∷ after → ys ≡ xs ++ x ∷ [] → length ys + length after ≡ n
+pub count-taken : {X Y : Type 0} (xs ys : List X) (x : X) (before after : List Y) (y : Y) (n : ℕ)
+    → length xs + length before ≡ n → before ≡ y ∷ after → ys ≡ xs ++ x ∷ [] → length ys + length after ≡ n
 count-taken xs ys x before after y n all took put =
     let one = count-more xs x in
     let longer : length ys ≡ length (xs ++ x ∷ []) = ap length put in
@@ -32,7 +34,8 @@ count-taken xs ys x before after y n all took put =
     omega (arith, all, one, longer, shorter)
 
 -- so many were locked as there were
-pub all_locked : {X Y : Type 0} (locks all : List X) (shards : List Y) (n : ℕ) → locks ≡ [] → length shards ≡ n → length all ≡ length locks + length shards → length all ≡ n
+pub all_locked : {X Y : Type 0} (locks all : List X) (shards : List Y) (n : ℕ) → locks ≡ [] → length shards ≡ n
+    → length all ≡ length locks + length shards → length all ≡ n
 all_locked locks all shards n none count sum =
     let empty : length locks ≡ 0 = ap length none in
     omega (arith, count, sum, empty)
@@ -45,7 +48,8 @@ made_of p = (λ is. absurd (apart is), λ no. absurd (no p))
     apart is = cc
 
 module _ {K V : Type 0} where
-  pub callers-more : (n : ℕ) (cs : List (Calling K V)) (c : Calling K V) → AreNew n cs → IsNew (n + length cs) c → AreNew n (cs ++ c ∷ [])
+  pub callers-more : (n : ℕ) (cs : List (Calling K V)) (c : Calling K V) → AreNew n cs → IsNew (n + length cs) c
+      → AreNew n (cs ++ c ∷ [])
   callers-more n [] c are is = (subst (λ m. IsNew m c) (omega arith) is, tt)
   callers-more n (d ∷ cs) c are is = (are.0, callers-more (n + 1) cs c are.1 (subst (λ m. IsNew m c) (omega arith) is))
 
@@ -54,7 +58,8 @@ module _ {K V : Type 0} where
   value_of_told (Some p) = refl
 
   module _ (eq : K → K → Bool) (alike : V → V → Bool) where
-    pub inserted : (k : K) (v : V) (r : CallReply K V) → IsReply eq alike (Insert k v) r → (o : Option V) × (r ≡ value_reply o)
+    pub inserted : (k : K) (v : V) (r : CallReply K V) → IsReply eq alike (Insert k v) r → (o : Option V)
+        × (r ≡ value_reply o)
     inserted k v r is = (option_map (λ p. p.1) is.0, is.1 ∙ value_of_told is.0)
 
     pub copied : (k : K) (r : CallReply K V) → IsReply eq alike (GetCopied k) r → (o : Option V) × (r ≡ value_reply o)
@@ -65,9 +70,11 @@ module _ {K V : Type 0} where
       | inl none ↦ subst (λ o. IfSome o (λ p. IsTrue (eq p.0 k))) (sym (ap (option_map pair_of) none)) tt
       | inr some ↦
           let is = entry_of-is eq t.slots hash k some.0 some.1 in
-          subst (λ o. IfSome o (λ p. IsTrue (eq p.0 k))) (sym (ap (option_map pair_of) some.1)) (and_parts (nat_eq some.0.hash hash) (eq some.0.key k) is.3).1
+          subst (λ o. IfSome o (λ p. IsTrue (eq p.0 k))) (sym (ap (option_map pair_of) some.1))
+          (and_parts (nat_eq some.0.hash hash) (eq some.0.key k) is.3).1
     ]
 
-    pub replied : {E : Type 0} (r : Result (CallReply K V) E) (call : Call K V) (t : Table K V) (hash : ℕ) → IfOk r (λ reply. reply ≡ told alike call (found eq t hash (key_of call))) → IfOk r (IsReply eq alike call)
+    pub replied : {E : Type 0} (r : Result (CallReply K V) E) (call : Call K V) (t : Table K V) (hash : ℕ)
+        → IfOk r (λ reply. reply ≡ told alike call (found eq t hash (key_of call))) → IfOk r (IsReply eq alike call)
     replied (Ok reply) call t hash is = (found eq t hash (key_of call), is, found-equal t hash (key_of call))
     replied (Err e) call t hash is = tt

@@ -39,4 +39,5 @@ module _ {K V : Type 0} where
 
 -- what is written down of a call
 abbrev pub written : {K V : Type 0} → ℕ → ℕ → ℕ → ℕ → Call K V → CallReply K V → Entered K V
-written caller stamp shard hash call reply = record { caller = caller; stamp = stamp; shard = shard; hash = hash; call = call; reply = reply }
+written caller stamp shard hash call reply =
+    record { caller = caller; stamp = stamp; shard = shard; hash = hash; call = call; reply = reply }

@@ -57,7 +57,8 @@ module _ {K V : Type 0} where
 
   -- what a call answers of the pair that its key has
   abbrev pub IsReply : (K → K → Bool) → (V → V → Bool) → Call K V → CallReply K V → Type 0
-  IsReply eq alike call reply = (o : Option (K × V)) × (reply ≡ told alike call o) × IfSome o (λ p. IsTrue (eq p.0 (key_of call)))
+  IsReply eq alike call reply = (o : Option (K × V)) × (reply ≡ told alike call o)
+      × IfSome o (λ p. IsTrue (eq p.0 (key_of call)))
 
   -- a value that was there, or none, as it is written down
   abbrev pub value_reply : Option V → CallReply K V

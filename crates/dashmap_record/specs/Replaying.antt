@@ -1,4 +1,5 @@
--- A shard and its history: the history's calls, made one after another on a shard without pairs, give its replies and its contents.
+-- A shard and its history: the history's calls, made one after another on a shard without pairs, give its replies and
+-- its contents.
 use Rattle.std.specs.Prelude.{◌≡◌, ℕ, ◌==◌, Bool, IsTrue, if◌then◌else◌, List, [], ◌∷◌, ⊤}
 use Rattle.std.specs.List.{list_all}
 use Rattle.std.specs.Option.{option_map}
@@ -41,7 +42,8 @@ module _ {K V : Type 0} (eq : K → K → Bool) where
     -- each reply is what the call answers, one after another
     abbrev pub Replies : PlainShard K V → List (Entered K V) → Type 0
     Replies m [] = ⊤
-    Replies m (e ∷ es) = (e.reply ≡ told alike e.call (m e.hash (key_of e.call))) × Replies (after_under e.hash e.call m) es
+    Replies m (e ∷ es) = (e.reply ≡ told alike e.call (m e.hash (key_of e.call)))
+        × Replies (after_under e.hash e.call m) es
 
     -- what holds of all shards that record
     pub record IsReplayed (s : Kept K V) : Type 0 where
@@ -50,4 +52,5 @@ module _ {K V : Type 0} (eq : K → K → Bool) where
 
     -- a judge that knows keys and no hashes finds the replies right, wherever the hashes are those of the keys
     abbrev pub HoldsForJudges : List (Entered K V) → Type 0
-    HoldsForJudges es = (hash : K → ℕ) → ((j k : K) → IsTrue (eq j k) → hash j ≡ hash k) → IsTrue (list_all (λ e. e.hash == hash (key_of e.call)) es) → IsTrue (replies_hold eq alike (nothing K V) es)
+    HoldsForJudges es = (hash : K → ℕ) → ((j k : K) → IsTrue (eq j k) → hash j ≡ hash k)
+        → IsTrue (list_all (λ e. e.hash == hash (key_of e.call)) es) → IsTrue (replies_hold eq alike (nothing K V) es)

@@ -39,7 +39,8 @@ fn take<K: Eq + Hash, V: Eq, A: Allocator>(
     key: &K,
 ) -> Option<(K, V)>
     ensures pair { result ≡ found K.eq shard.old hash key.now }
-    ensures after { (h : ℕ) (q : K) → found K.eq shard.new h q ≡ after_under K.eq V.eq hash (Remove key.now) (found K.eq shard.old) h q }
+    ensures after { (h : ℕ) (q : K) → found K.eq shard.new h q ≡ after_under K.eq V.eq hash (Remove key.now)
+        (found K.eq shard.old) h q }
 {
     let slot = shard.find(hash, key)?;
     shard.remove(slot)

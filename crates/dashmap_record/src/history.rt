@@ -2,7 +2,8 @@
 //!
 //! Each shard of a recorded map keeps a history of the calls on it, and each caller a log of the calls that it made.
 //! [`gather`] tests afterwards that histories and logs are two views of one and the same calls, and that each history's
-//! replies are those of a plain map; then it answers all entries in one order, which is a legal history of one plain map.
+//! replies are those of a plain map; then it answers all entries in one order, which is a legal history of one plain
+//! map.
 //!
 //! Nothing here waits, locks or runs threads: what is gathered may have been written down by any program.
 

@@ -22,7 +22,8 @@ impl<K, V, A: Allocator> Model for Notes<K, V, A> {
 
     ghost view = { λ n. record { entries = n.entries.items; last = n.last; room = vec_capacity n.entries } };
 
-    ghost invariant = { λ n. AreInOrder (record { entries = n.entries.items; last = n.last; room = vec_capacity n.entries }) };
+    ghost invariant = { λ n. AreInOrder
+        (record { entries = n.entries.items; last = n.last; room = vec_capacity n.entries }) };
 }
 
 impl<K, V, A: Allocator> Notes<K, V, A> {

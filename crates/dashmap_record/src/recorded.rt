@@ -26,9 +26,11 @@ use std::hash::{BuildHasher, Hash};
 use std::marker::Model;
 use std::sync::Wait;
 
-/// A map that threads share by reference, and whose every call is written down: shards behind locks, each with its history.
+/// A map that threads share by reference, and whose every call is written down: shards behind locks, each with its
+/// history.
 ///
-/// A contract sees how many shards there are, and the hasher (`RecordedMap`): what lies behind a lock is known to its holder alone.
+/// A contract sees how many shards there are, and the hasher (`RecordedMap`): what lies behind a lock is known to its
+/// holder alone.
 ///
 /// ```text
 /// let (map, mut callers) = Recorded::new(alloc, 2, hasher, 1, &table)?;
@@ -54,7 +56,8 @@ impl<K: Copy + Eq + Hash, V: Copy + Eq, S: BuildHasher, Q, A: Allocator> Model
 
     ghost view = { λ m. record { shards = length m.shards.items; hasher = m.hasher } };
 
-    ghost invariant = { λ m. IsShardAmount (length m.shards.items) × (m.lists.items ≡ []) × (length m.shards.items ≤ vec_capacity m.lists) };
+    ghost invariant = { λ m. IsShardAmount (length m.shards.items) × (m.lists.items ≡ [])
+        × (length m.shards.items ≤ vec_capacity m.lists) };
 }
 
 impl<
@@ -66,8 +69,8 @@ impl<
 > Recorded<K, V, S, Q, A> {
     /// An empty map with so many shards, and the callers 0, 1, .. up to so many.
     ///
-    /// Refused as `BadShards`, `TableFull` or `NoMemory`, in this order. Rows that were taken for a map that is then refused stay
-    /// used.
+    /// Refused as `BadShards`, `TableFull` or `NoMemory`, in this order. Rows that were taken for a map that is then
+    /// refused stay used.
     pub fn new<T: Copy>(
         alloc: A,
         shards: usize,
@@ -226,7 +229,8 @@ where
     ) -> Result<bool, RecordFault>
         ensures log { let hash = key_hash S.BuildHasher S.Hasher.Hasher K.hash_input self.now.hasher key.now in
             let shard = shard_of S.BuildHasher S.Hasher.Hasher K.hash_input self.now key.now in
-            IfOk result (λ is. Logs caller.old caller.new shard hash (Call.ReplaceIf key.now seen value) (CallReply.Flag is)) }
+            IfOk result (λ is. Logs caller.old caller.new shard hash (Call.ReplaceIf key.now seen value)
+            (CallReply.Flag is)) }
         ensures refused { IfErr result (λ _. IsStill caller.old caller.new) }
         ensures spent { 2 ^ 64 ≤ caller.old.log.last + 1 → result ≡ Err StampsSpent }
     {
@@ -234,8 +238,8 @@ where
         Ok(flag_told(reply))
     }
 
-    /// What a closure answers of a shard's history so far, if there is such a shard. It is held meanwhile: no other call on its keys is made. Calls
-    /// on the other shards don't wait for it.
+    /// What a closure answers of a shard's history so far, if there is such a shard. It is held meanwhile: no other
+    /// call on its keys is made. Calls on the other shards don't wait for it.
     pub fn look<U, F: FnOnce(&[Entered<K, V>]) -> U + Drop>(
         &self,
         number: usize,
@@ -244,7 +248,8 @@ where
     ) -> Option<U>
         requires { F.IsAlwaysCallable f }
         ensures none { IsNone result ↔ (self.now.shards ≤ number) }
-        ensures answer { IfSome result (λ answer. (history : List (Entered K V)) × IsTrue (rises history) × Replies K.eq V.eq (no_pair K V) history
+        ensures answer { IfSome result
+            (λ answer. (history : List (Entered K V)) × IsTrue (rises history) × Replies K.eq V.eq (no_pair K V) history
             × AnswersOf F.FnOnce f history answer) }
     {
         let shard = self.shards.get(number)?.write(td);

@@ -20,8 +20,8 @@ use std::marker::Model;
 
 /// A shard that records: its pairs and the history of the calls on it.
 ///
-/// At every state the history's calls, made one after another on a shard without pairs, give the history's replies and the
-/// shard's pairs; and the history's stamps rise strictly.
+/// At every state the history's calls, made one after another on a shard without pairs, give the history's replies and
+/// the shard's pairs; and the history's stamps rise strictly.
 #[derive(Drop)]
 pub struct RecordingShard<K: Eq + Hash, V: Eq, A: Allocator> {
     shard: Shard<K, V, A>,
@@ -49,11 +49,11 @@ impl<K: Copy + Eq + Hash, V: Copy + Eq, A: Allocator + Clone> RecordingShard<K, 
         }
     }
 
-    /// Makes a call on this shard and writes it down, in the shard's history and in the caller's log. Its reply is the one
-    /// that is written down.
+    /// Makes a call on this shard and writes it down, in the shard's history and in the caller's log. Its reply is the
+    /// one that is written down.
     ///
-    /// `number` is the shard's, and `hash` the hash of the call's key. Log, history and shard grow before anything changes: a
-    /// call that is refused leaves all three as they were.
+    /// `number` is the shard's, and `hash` the hash of the call's key. Log, history and shard grow before anything
+    /// changes: a call that is refused leaves all three as they were.
     pub fn record(
         &mut self,
         number: usize,
@@ -69,10 +69,12 @@ impl<K: Copy + Eq + Hash, V: Copy + Eq, A: Allocator + Clone> RecordingShard<K, 
         // One and the same entry is added to the log and to the history.
         ensures log { let stamp = max caller.old.log.last self.old.history.last + 1 in
             IfOk result (λ reply.
-            SameNotes (with_entry caller.old.log (written caller.old.number stamp number hash call reply)) caller.new.log) }
+            SameNotes (with_entry caller.old.log (written caller.old.number stamp number hash call reply))
+            caller.new.log) }
         ensures history { let stamp = max caller.old.log.last self.old.history.last + 1 in
             IfOk result (λ reply.
-            SameNotes (with_entry self.old.history (written caller.old.number stamp number hash call reply)) self.new.history) }
+            SameNotes (with_entry self.old.history (written caller.old.number stamp number hash call reply))
+            self.new.history) }
         ensures caller { caller.new.number ≡ caller.old.number }
 
         // A refused call adds and changes nothing.

@@ -18,14 +18,15 @@ impl<K: Eq + Hash + Drop, S: BuildHasher, Q, A: Allocator + Clone> DashSet<K, S,
         told(self.inner.insert_mut(key, ()))
     }
 
-    /// Puts keys in, one after another, as `insert_mut` does. The first one that is refused comes back: the keys before it stay, and the
-    /// rest of the iterator is let go.
+    /// Puts keys in, one after another, as `insert_mut` does. The first one that is refused comes back: the keys before
+    /// it stay, and the rest of the iterator is let go.
     pub fn extend<I: Iterator<Item = K> + Drop>(&mut self, iter: I) -> Result<(), K>
         requires can { I.can_next iter }
         requires ends { IsFinite (I.remaining iter) }
         ensures locks { self.new ≡ self.old }
         ensures all { OnOk result ((keys : List K) × Drains I.next_gives iter keys) }
-        ensures refused { IfErr result (λ back. (before : List K) × (rest : I) × YieldsThen I.next_gives iter before (Some back) rest) }
+        ensures refused { IfErr result
+            (λ back. (before : List K) × (rest : I) × YieldsThen I.next_gives iter before (Some back) rest) }
     {
         let mut rest = iter;
         while let Some(key) = rest.next() {

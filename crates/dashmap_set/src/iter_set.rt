@@ -14,8 +14,8 @@ use std::iter::FusedIterator;
 use std::marker::Model;
 use std::sync::Wait;
 
-/// A walk over the keys of a set that threads share, as the map's `iter`: shards in their order, each held in its turn, and nothing before
-/// the first item.
+/// A walk over the keys of a set that threads share, as the map's `iter`: shards in their order, each held in its turn,
+/// and nothing before the first item.
 ///
 /// An item takes memory, once for each shard. Where there is none it is an error, and the walk ends.
 #[derive(Drop)]
@@ -37,7 +37,8 @@ where
     ghost use Rattle.dashmap_table.specs.Table.{Table};
     ghost use Rattle.dashmap_iter.specs.Lending.{Walk};
 
-    ghost Value = { Walk Q (Guard (RwLockReadGuard (Table K (Unit {0}))) (Issued (Bor Q) Q.SharedGuard) Q Q.Runtime Q.Party (Bor Q)) };
+    ghost Value = { Walk Q
+        (Guard (RwLockReadGuard (Table K (Unit {0}))) (Issued (Bor Q) Q.SharedGuard) Q Q.Runtime Q.Party (Bor Q)) };
 
     ghost view = { λ it. it.walk };
 }
@@ -69,7 +70,8 @@ where
     }
 }
 
-/// The keys of a set that is given up, shards and their slots in order. A contract sees the list of those that are left.
+/// The keys of a set that is given up, shards and their slots in order. A contract sees the list of those that are
+/// left.
 ///
 /// It takes no memory. Each key comes once, and behind the last it gives `None` for good.
 #[derive(Drop)]

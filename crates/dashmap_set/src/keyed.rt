@@ -66,8 +66,10 @@ where
 
     /// A shared guard of a key, if it is there.
     pub fn get<'m, 'd>(&'m self, key: &K, td: &'d mut Q::Party) -> Option<Ref<'m, 'd, K, Q, A>>
-        ensures asked { IfSome result (λ r. IfSome (key_in (read_guard_value r.0.inner) r.1) (λ k. IsTrue (K.eq k key.now))) }
-        ensures lock { IfSome result (λ r. lock_of S.BuildHasher S.Hasher.Hasher K.hash_input self.now key.now ≡ Some r.0.held.0.place.now) }
+        ensures asked { IfSome result
+            (λ r. IfSome (key_in (read_guard_value r.0.inner) r.1) (λ k. IsTrue (K.eq k key.now))) }
+        ensures lock { IfSome result
+            (λ r. lock_of S.BuildHasher S.Hasher.Hasher K.hash_input self.now key.now ≡ Some r.0.held.0.place.now) }
     {
         match self.inner.get(key, td) {
             Some(pair) => Some(Ref::of_pair(pair)),
@@ -85,8 +87,9 @@ impl<K: Eq + Hash + Drop, S: BuildHasher, Q: RawRwLock, A: Allocator + Clone> Da
 where
     Q::Runtime: Wait,
 {
-    /// Puts a key in, and answers whether it is new. Of a present key the stored one stays, and the one that was handed in is let go; it
-    /// is never refused. A new key is refused only where its shard would have to grow and can't, and then it comes back.
+    /// Puts a key in, and answers whether it is new. Of a present key the stored one stays, and the one that was handed
+    /// in is let go; it is never refused. A new key is refused only where its shard would have to grow and can't, and
+    /// then it comes back.
     pub fn insert(&self, key: K, td: &mut Q::Party) -> Result<bool, K>
         ensures { IfErr result (λ back. back ≡ key) }
     {

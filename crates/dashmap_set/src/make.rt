@@ -19,7 +19,8 @@ impl<K: Eq + Hash + Drop, Q: RawRwLock + Drop, A: Allocator + Clone> DashSet<K, 
 where
     Q::Runtime: RandomSource,
 {
-    /// An empty set with the default shard amount for so many threads, whose capacity is 0. The locks' runtime makes the hasher.
+    /// An empty set with the default shard amount for so many threads, whose capacity is 0. The locks' runtime makes
+    /// the hasher.
     ///
     /// Refused as `BadShards`, `TableFull`, `NoRandom` or `NoMemory`, in this order.
     pub fn new<T: Copy>(
@@ -52,7 +53,8 @@ where
         Q: MakeLock<T>,
         ensures made { IfOk result (λ s. IsNextPowerOfTwo (wanted_shards parallelism) (length s.locks)) }
         ensures bad_shards { (result ≡ Err (NewFault.Map MapFault.BadShards)) ↔ (2 ^ 16 < wanted_shards parallelism) }
-        ensures overflow { (result ≡ Err (NewFault.Map MapFault.CapacityOverflow)) ↔ HasNoDefaultShare capacity parallelism }
+        ensures overflow { (result ≡ Err (NewFault.Map MapFault.CapacityOverflow)) ↔ HasNoDefaultShare capacity
+            parallelism }
     {
         match DashMap::with_capacity(alloc, capacity, parallelism, table) {
             Ok(inner) => Ok(DashSet { inner }),
@@ -78,7 +80,8 @@ impl<K: Eq + Hash + Drop, S: BuildHasher + Drop, Q: RawRwLock + Drop, A: Allocat
     ) -> Result<DashSet<K, S, Q, A>, MapFault>
     where
         Q: MakeLock<T>,
-        ensures made { IfOk result (λ s. IsNextPowerOfTwo (wanted_shards parallelism) (length s.locks) × (s.hasher ≡ hasher)) }
+        ensures made { IfOk result (λ s. IsNextPowerOfTwo (wanted_shards parallelism) (length s.locks)
+            × (s.hasher ≡ hasher)) }
         ensures bad_shards { (result ≡ Err MapFault.BadShards) ↔ (2 ^ 16 < wanted_shards parallelism) }
         ensures fits { ¬ (result ≡ Err MapFault.CapacityOverflow) }
     {
@@ -100,7 +103,8 @@ impl<K: Eq + Hash + Drop, S: BuildHasher + Drop, Q: RawRwLock + Drop, A: Allocat
     ) -> Result<DashSet<K, S, Q, A>, MapFault>
     where
         Q: MakeLock<T>,
-        ensures made { IfOk result (λ s. IsNextPowerOfTwo (wanted_shards parallelism) (length s.locks) × (s.hasher ≡ hasher)) }
+        ensures made { IfOk result (λ s. IsNextPowerOfTwo (wanted_shards parallelism) (length s.locks)
+            × (s.hasher ≡ hasher)) }
         ensures bad_shards { (result ≡ Err MapFault.BadShards) ↔ (2 ^ 16 < wanted_shards parallelism) }
         ensures overflow { (result ≡ Err MapFault.CapacityOverflow) ↔ HasNoDefaultShare capacity parallelism }
     {
@@ -119,15 +123,16 @@ impl<K: Eq + Hash + Drop, S: BuildHasher + Drop, Q: RawRwLock + Drop, A: Allocat
     ) -> Result<DashSet<K, S, Q, A>, MapFault>
     where
         Q: MakeLock<T>,
-        ensures made { IfOk result (λ s. IsNextPowerOfTwo (wanted_shards parallelism) (length s.locks) × (s.hasher ≡ hasher)) }
+        ensures made { IfOk result (λ s. IsNextPowerOfTwo (wanted_shards parallelism) (length s.locks)
+            × (s.hasher ≡ hasher)) }
         ensures bad_shards { (result ≡ Err MapFault.BadShards) ↔ (2 ^ 16 < wanted_shards parallelism) }
         ensures fits { ¬ (result ≡ Err MapFault.CapacityOverflow) }
     {
         DashSet::with_hasher(alloc, hasher, parallelism, table)
     }
 
-    /// A set with the default shard amount for so many threads, into which the keys of the iterator are put one after another: of equal
-    /// keys the first stays.
+    /// A set with the default shard amount for so many threads, into which the keys of the iterator are put one after
+    /// another: of equal keys the first stays.
     ///
     /// Refused as `BadShards`, `TableFull` or `NoMemory`, in this order.
     pub fn from_iter<I: Iterator<Item = K> + Drop, T: Copy>(
@@ -141,7 +146,8 @@ impl<K: Eq + Hash + Drop, S: BuildHasher + Drop, Q: RawRwLock + Drop, A: Allocat
         Q: MakeLock<T>,
         requires can { I.can_next iter }
         requires ends { IsFinite (I.remaining iter) }
-        ensures made { IfOk result (λ s. IsNextPowerOfTwo (wanted_shards parallelism) (length s.locks) × (s.hasher ≡ hasher)) }
+        ensures made { IfOk result (λ s. IsNextPowerOfTwo (wanted_shards parallelism) (length s.locks)
+            × (s.hasher ≡ hasher)) }
         ensures all { OnOk result ((keys : List K) × Drains I.next_gives iter keys) }
         ensures bad_shards { (result ≡ Err MapFault.BadShards) ↔ (2 ^ 16 < wanted_shards parallelism) }
         ensures fits { ¬ (result ≡ Err MapFault.CapacityOverflow) }

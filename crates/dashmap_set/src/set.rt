@@ -12,7 +12,8 @@ use std::marker::Model;
 
 /// A set of keys that threads share by reference: a map to `()`.
 ///
-/// A contract sees what it sees of the map: the raw locks and the hasher (`Locked`). What lies behind a lock is known to its holder alone.
+/// A contract sees what it sees of the map: the raw locks and the hasher (`Locked`). What lies behind a lock is known
+/// to its holder alone.
 ///
 /// ```text
 /// let set = DashSet::with_hasher(alloc, hasher, 8, &table)?;
@@ -51,7 +52,8 @@ impl<K: Eq + Hash, S: BuildHasher, Q, A: Allocator> DashSet<K, S, Q, A> {
     pub fn determine_map(&self, key: &K) -> usize
         ensures value { result ≡ shard_of S.BuildHasher S.Hasher.Hasher K.hash_input self.now key.now }
         ensures below { result < length self.now.locks }
-        ensures same { (other : K) → IsTrue (K.eq key.now other) → shard_of S.BuildHasher S.Hasher.Hasher K.hash_input self.now other ≡ result }
+        ensures same { (other : K) → IsTrue (K.eq key.now other) → shard_of S.BuildHasher S.Hasher.Hasher K.hash_input
+            self.now other ≡ result }
     {
         self.inner.determine_map(key)
     }

@@ -77,7 +77,8 @@ fn retain_behind<K: Eq + Hash + Drop, Q: RawRwLock, A: Allocator, F: FnMut(&K) -
 where
     Q::Runtime: Wait,
     requires { F.IsAlwaysCallable f }
-    ensures held { WhileHeld Q.ExclusiveGuard Q.Runtime Q.Party lock.now (λ old new. Walked (AtFull (KeepsKey F.FnMut)) (length old.slots) (f, old) (result, new)) }
+    ensures held { WhileHeld Q.ExclusiveGuard Q.Runtime Q.Party lock.now
+        (λ old new. Walked (AtFull (KeepsKey F.FnMut)) (length old.slots) (f, old) (result, new)) }
     ensures again { F.IsAlwaysCallable result }
 {
     let mut guard = lock.write(td);
@@ -106,16 +107,19 @@ impl<K: Eq + Hash + Drop, S: BuildHasher, Q: RawRwLock, A: Allocator> DashSet<K,
 where
     Q::Runtime: Wait,
 {
-    /// Asks the closure of each key, and takes those out of which it answers false. One shard is held at a time, shard 0 first.
+    /// Asks the closure of each key, and takes those out of which it answers false. One shard is held at a time, shard
+    /// 0 first.
     ///
-    /// What lies behind a lock is known to its holder alone, so the contract says what happens to each shard while it is held.
+    /// What lies behind a lock is known to its holder alone, so the contract says what happens to each shard while it
+    /// is held.
     ///
     /// ```text
     /// set.retain(|name| name.contains('i'), &mut me);
     /// ```
     pub fn retain<F: FnMut(&K) -> bool + Drop>(&self, f: F, td: &mut Q::Party)
         requires { F.IsAlwaysCallable f }
-        ensures { (last : F) × EachHeld Q.ExclusiveGuard Q.Runtime Q.Party self.now (λ p q. Walked (AtFull (KeepsKey F.FnMut)) (length p.1.slots) p q) f last }
+        ensures { (last : F) × EachHeld Q.ExclusiveGuard Q.Runtime Q.Party self.now
+            (λ p q. Walked (AtFull (KeepsKey F.FnMut)) (length p.1.slots) p q) f last }
     {
         let locks = self.inner.shard_locks();
         let mut f = f;
@@ -126,7 +130,8 @@ where
 
     /// Takes every key out; the room stays. One shard is held at a time, shard 0 first.
     pub fn clear(&self, td: &mut Q::Party)
-        ensures { EachHeld {K = K} {V = Unit {0}} Q.ExclusiveGuard Q.Runtime Q.Party {F = Unit {0}} self.now (λ p q. (i : ℕ) → at q.1.slots i ≡ None) tt tt }
+        ensures { EachHeld {K = K} {V = Unit {0}} Q.ExclusiveGuard Q.Runtime Q.Party {F = Unit {0}} self.now
+            (λ p q. (i : ℕ) → at q.1.slots i ≡ None) tt tt }
     {
         Walks::clear(&self.inner, td);
     }

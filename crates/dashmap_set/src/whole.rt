@@ -20,7 +20,8 @@ where
         self.inner.is_empty(td)
     }
 
-    /// For how many keys there is room: the sum over the shards, of which one is held at a time. It stops at `usize::MAX`.
+    /// For how many keys there is room: the sum over the shards, of which one is held at a time. It stops at
+    /// `usize::MAX`.
     pub fn capacity(&self, td: &mut Q::Party) -> usize {
         self.inner.capacity(td)
     }
@@ -30,8 +31,8 @@ impl<K: Eq + Hash + Drop, S: BuildHasher, Q: RawRwLock, A: Allocator + Clone> Da
 where
     Q::Runtime: Wait,
 {
-    /// Gives up room that the keys don't need, one shard after another. A shard without keys takes no memory and keeps no room. A
-    /// refusal leaves its shard as it was, and the shards before it shrunk.
+    /// Gives up room that the keys don't need, one shard after another. A shard without keys takes no memory and keeps
+    /// no room. A refusal leaves its shard as it was, and the shards before it shrunk.
     pub fn shrink_to_fit(&self, td: &mut Q::Party) -> Result<(), NoMemory> {
         self.inner.shrink_to_fit(td)
     }

@@ -1,5 +1,6 @@
 -- What slots find: an entry by its hash and key, where no two are equal.
-use Rattle.std.proofs.Common.{◌≡◌, ℕ, Bool, true, false, nat_eq, List, Option, Some, None, refl, sym, ap, ◌∙◌, inl, inr, arith, eqb-true, eq-eqb}
+use Rattle.std.proofs.Common.{◌≡◌, ℕ, Bool, true, false, nat_eq, List, Option, Some, None, refl, sym, ap, ◌∙◌, inl, inr}
+use Rattle.std.proofs.Common.{arith, eqb-true, eq-eqb}
 use Rattle.std.specs.Cmp.{IsEquivalence}
 use Rattle.std.specs.Option.{option_and_then}
 use Rattle.std.proofs.lemmas.Bool.{and_parts, and_from, false_from_ne_true, false≢true}
@@ -11,7 +12,8 @@ use Rattle.dashmap_table.proofs.Cases.{option_cases}
 use Rattle.dashmap_table.proofs.Places.{position-None, position-None_from, position-Some_from, at_within}
 
 module _ {K V : Type 0} (eq : K → K → Bool) where
-  pub slot_of-is : (xs : List (Option (Entry K V))) (h : ℕ) (k : K) (i : ℕ) → slot_of eq xs h k ≡ Some i → (e : Entry K V) × (at xs i ≡ Some e) × (holds eq h k (Some e) ≡ true)
+  pub slot_of-is : (xs : List (Option (Entry K V))) (h : ℕ) (k : K) (i : ℕ) → slot_of eq xs h k ≡ Some i
+      → (e : Entry K V) × (at xs i ≡ Some e) × (holds eq h k (Some e) ≡ true)
   slot_of-is xs h k i found =
       let here = (position-Some (holds eq h k) xs i None found).1 in
       elim (option_cases (at xs i)) [
@@ -19,11 +21,13 @@ module _ {K V : Type 0} (eq : K → K → Bool) where
         | inr some ↦ (some.0, some.1, sym (ap (holds eq h k) some.1) ∙ here)
       ]
 
-  pub slot_of-none : (xs : List (Option (Entry K V))) (h : ℕ) (k : K) → slot_of eq xs h k ≡ None → (i : ℕ) (e : Entry K V) → at xs i ≡ Some e → holds eq h k (Some e) ≡ false
+  pub slot_of-none : (xs : List (Option (Entry K V))) (h : ℕ) (k : K) → slot_of eq xs h k ≡ None
+      → (i : ℕ) (e : Entry K V) → at xs i ≡ Some e → holds eq h k (Some e) ≡ false
   slot_of-none xs h k none i e here =
       sym (ap (holds eq h k) here) ∙ position-None (holds eq h k) None xs refl none i
 
-  pub slot_of-none_from : (xs : List (Option (Entry K V))) (h : ℕ) (k : K) → ((i : ℕ) (e : Entry K V) → at xs i ≡ Some e → holds eq h k (Some e) ≡ false) → slot_of eq xs h k ≡ None
+  pub slot_of-none_from : (xs : List (Option (Entry K V))) (h : ℕ) (k : K)
+      → ((i : ℕ) (e : Entry K V) → at xs i ≡ Some e → holds eq h k (Some e) ≡ false) → slot_of eq xs h k ≡ None
   slot_of-none_from xs h k fails = position-None_from (holds eq h k) None xs each
     where
       each : (i : ℕ) → holds eq h k (at xs i) ≡ false
@@ -34,7 +38,8 @@ module _ {K V : Type 0} (eq : K → K → Bool) where
 
   module _ (laws : IsEquivalence eq) where
     -- two entries that both have a hash and a key are equal under that hash
-    pub holds-both : (h : ℕ) (k : K) (d e : Entry K V) → holds eq h k (Some d) ≡ true → holds eq h k (Some e) ≡ true → holds eq d.hash d.key (Some e) ≡ true
+    pub holds-both : (h : ℕ) (k : K) (d e : Entry K V) → holds eq h k (Some d) ≡ true → holds eq h k (Some e) ≡ true
+        → holds eq d.hash d.key (Some e) ≡ true
     holds-both h k d e hd he =
         let a = and_parts (nat_eq d.hash h) (eq d.key k) hd in
         let b = and_parts (nat_eq e.hash h) (eq e.key k) he in
@@ -51,7 +56,8 @@ module _ {K V : Type 0} (eq : K → K → Bool) where
 
     module _ (xs : List (Option (Entry K V))) (distinct : AreDistinct eq xs) where
       -- among distinct entries the one that has a hash and a key is found
-      pub slot_of-at : (h : ℕ) (k : K) (i : ℕ) (e : Entry K V) → at xs i ≡ Some e → holds eq h k (Some e) ≡ true → slot_of eq xs h k ≡ Some i
+      pub slot_of-at : (h : ℕ) (k : K) (i : ℕ) (e : Entry K V) → at xs i ≡ Some e → holds eq h k (Some e) ≡ true
+          → slot_of eq xs h k ≡ Some i
       slot_of-at h k i e here has =
           position-Some_from (holds eq h k) None xs i (at_within xs i e here) (ap (holds eq h k) here ∙ has)
           (λ j below. elim (option_cases (at xs j)) [
@@ -59,13 +65,16 @@ module _ {K V : Type 0} (eq : K → K → Bool) where
             | inr some ↦
                 ap (holds eq h k) some.1
                 ∙ false_from_ne_true (holds eq h k (Some some.0)) (λ also.
-                let same : i ≡ j = distinct i j e some.0 here some.1 (holds-both h k e some.0 has also) in absurd (omega (arith, same)))
+                let same : i ≡ j = distinct i j e some.0 here some.1 (holds-both h k e some.0 has also) in
+                absurd (omega (arith, same)))
           ])
 
-      pub entry_of-at : (h : ℕ) (k : K) (i : ℕ) (e : Entry K V) → at xs i ≡ Some e → holds eq h k (Some e) ≡ true → entry_of eq xs h k ≡ Some e
+      pub entry_of-at : (h : ℕ) (k : K) (i : ℕ) (e : Entry K V) → at xs i ≡ Some e → holds eq h k (Some e) ≡ true
+          → entry_of eq xs h k ≡ Some e
       entry_of-at h k i e here has = ap (option_and_then (at xs)) (slot_of-at h k i e here has) ∙ here
 
-  pub entry_of-is : (xs : List (Option (Entry K V))) (h : ℕ) (k : K) (e : Entry K V) → entry_of eq xs h k ≡ Some e → (i : ℕ) × (slot_of eq xs h k ≡ Some i) × (at xs i ≡ Some e) × (holds eq h k (Some e) ≡ true)
+  pub entry_of-is : (xs : List (Option (Entry K V))) (h : ℕ) (k : K) (e : Entry K V) → entry_of eq xs h k ≡ Some e
+      → (i : ℕ) × (slot_of eq xs h k ≡ Some i) × (at xs i ≡ Some e) × (holds eq h k (Some e) ≡ true)
   entry_of-is xs h k e found = elim (option_cases (slot_of eq xs h k)) [
     | inl none ↦ absurd (none-some e (sym (ap (option_and_then (at xs)) none) ∙ found))
     | inr some ↦
@@ -74,7 +83,8 @@ module _ {K V : Type 0} (eq : K → K → Bool) where
         (some.0, some.1, here, ap (λ x. holds eq h k x) (sym here ∙ is.1) ∙ is.2)
   ]
 
-  pub entry_of-none : (xs : List (Option (Entry K V))) (h : ℕ) (k : K) → slot_of eq xs h k ≡ None → entry_of eq xs h k ≡ None
+  pub entry_of-none : (xs : List (Option (Entry K V))) (h : ℕ) (k : K) → slot_of eq xs h k ≡ None
+      → entry_of eq xs h k ≡ None
   entry_of-none xs h k none = ap (option_and_then (at xs)) none
 
   -- slots with the same entries for a hash and a key find the same

@@ -1,5 +1,7 @@
 -- Amounts of shards by their exponents, and the division that the shifts of a route are.
-use Rattle.std.proofs.Common.{◌≡◌, ℕ, zero, suc, ◌+◌, ◌-◌, ◌*◌, ◌/◌, ◌%◌, ◌^◌, ◌<◌, ◌≤◌, nat_le, nat_eq, IsTrue, ◌↔◌, eqb-true, eq-eqb, sym, ap, ◌∙◌, subst, inl, inr, arith, pow-suc, pow_pos, pow_mono, mod-lt, eq-or-lt_of_le}
+use Rattle.std.proofs.Common.{◌≡◌, ℕ, zero, suc, ◌+◌, ◌-◌, ◌*◌, ◌/◌, ◌%◌, ◌^◌, ◌<◌, ◌≤◌, nat_le, nat_eq, IsTrue, ◌↔◌}
+use Rattle.std.proofs.Common.{eqb-true, eq-eqb, sym, ap, ◌∙◌, subst, inl, inr, arith, pow-suc, pow_pos, pow_mono}
+use Rattle.std.proofs.Common.{mod-lt, eq-or-lt_of_le}
 use Rattle.std.specs.Int.{IsNextPowerOfTwo}
 use Rattle.std.proofs.lemmas.Bool.{cond-true, cond-false, le-leb, lt-leb, cases_lt}
 use Rattle.std.proofs.lemmas.Nat.{one_shl, shr-shr, shl-shr, field_of, shr_below}
@@ -42,11 +44,16 @@ exponent_within n amount =
 pub IsShardAmount-from : (n k : ℕ) → n ≡ 2 ^ k → 2 ≤ n → n ≤ 2 ^ 16 → IsShardAmount n
 IsShardAmount-from n k e least most =
     let small : k ≤ 16 = at_most k 16 n e (omega arith) in
-    let twice : n < 2 * n = omega arith in
-    (e ∙ ap (λ j. 2 ^ j) (sym (log2-is k n (omega arith) (subst (λ m. m ≤ n) e (omega arith)) (subst (λ m. n < 2 * m) e twice))), least, most)
+    let twice : n < 2 * n = omega arith in (
+      e ∙ ap (λ j. 2 ^ j)
+          (sym (log2-is k n (omega arith) (subst (λ m. m ≤ n) e (omega arith)) (subst (λ m. n < 2 * m) e twice))),
+      least,
+      most,
+    )
 
 -- the test of a number in range by the power of two below it
-pub IsShardAmount-tested : (n k : ℕ) → k < 64 → 2 ^ k ≤ n → n < 2 * 2 ^ k → 2 ≤ n → n ≤ 2 ^ 16 → IsTrue (nat_eq n (1 * 2 ^ k % 2 ^ 64)) ↔ IsShardAmount n
+pub IsShardAmount-tested : (n k : ℕ) → k < 64 → 2 ^ k ≤ n → n < 2 * 2 ^ k → 2 ≤ n → n ≤ 2 ^ 16
+    → IsTrue (nat_eq n (1 * 2 ^ k % 2 ^ 64)) ↔ IsShardAmount n
 IsShardAmount-tested n k within low high least most = (there, back)
   where
     there : IsTrue (nat_eq n (1 * 2 ^ k % 2 ^ 64)) → IsShardAmount n
@@ -54,7 +61,8 @@ IsShardAmount-tested n k within low high least most = (there, back)
 
     back : IsShardAmount n → IsTrue (nat_eq n (1 * 2 ^ k % 2 ^ 64))
     back amount =
-        eq-eqb n (1 * 2 ^ k % 2 ^ 64) (amount.0 ∙ (ap (λ j. 2 ^ j) (log2-is k n within low high) ∙ sym (one_shl k 64 within)))
+        eq-eqb n (1 * 2 ^ k % 2 ^ 64)
+        (amount.0 ∙ (ap (λ j. 2 ^ j) (log2-is k n within low high) ∙ sym (one_shl k 64 within)))
 
 -- the least power of two above four for each thread
 pub IsShardAmount-next : (p n : ℕ) → p ≤ 2 ^ 14 → IsNextPowerOfTwo (wanted_shards p) n → IsShardAmount n
@@ -83,4 +91,5 @@ route_of-below hash shards amount =
     subst
     (λ n. route_of hash shards < n)
     (sym amount.0)
-    (shr_below (hash % 2 ^ 57) (log2 shards) (57 - log2 shards) (subst (λ m. hash % 2 ^ 57 < 2 ^ m) split (mod-lt hash (pow_pos 57))))
+    (shr_below (hash % 2 ^ 57) (log2 shards) (57 - log2 shards)
+    (subst (λ m. hash % 2 ^ 57 < 2 ^ m) split (mod-lt hash (pow_pos 57))))

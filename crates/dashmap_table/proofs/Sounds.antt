@@ -7,8 +7,10 @@ use Rattle.dashmap_table.specs.Slots.{pairs_of}
 pub length-pairs_of : {K V : Type 0} (xs : List (Option (Entry K V))) → length (pairs_of xs) ≡ count_by is_some xs
 length-pairs_of [] = refl
 length-pairs_of (None ∷ xs) =
-    let skip : count_by is_some (None ∷ xs) ≡ 0 + count_by is_some xs = sum_by-cons (λ o. cond (is_some o) 1 0) None xs in
+    let skip : count_by is_some (None ∷ xs) ≡ 0 + count_by is_some xs = sum_by-cons (λ o. cond (is_some o) 1 0) None xs
+    in
     let rest = length-pairs_of xs in omega arith
 length-pairs_of (Some e ∷ xs) =
-    let step : count_by is_some (Some e ∷ xs) ≡ 1 + count_by is_some xs = sum_by-cons (λ o. cond (is_some o) 1 0) (Some e) xs in
+    let step : count_by is_some (Some e ∷ xs) ≡ 1 + count_by is_some xs = sum_by-cons (λ o. cond (is_some o) 1 0)
+    (Some e) xs in
     let rest = length-pairs_of xs in omega arith

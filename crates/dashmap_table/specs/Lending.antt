@@ -19,11 +19,15 @@ lends_own K V e r = Lends (entry.the_row K V) V e r (λ w. giving_value w e.now)
 abbrev pub lends_value : (K V : RattleType) → MutBor (Option (Entry K.Denot V.Denot)) → MutBor V.Denot → Fml
 lends_value K V s r = Lends (option.the_row (entry.the_row K V)) V s r (λ w. option_map (giving_value w) s.now)
 
-module _ (K V A : RattleType) (key : HashMembers K.Denot) (heap : alloc.Ghosts A.Denot) (t : MutBor (Table K.Denot V.Denot)) (i : ℕ) where
+module _ (K V A : RattleType) (key : HashMembers K.Denot) (heap : alloc.Ghosts A.Denot)
+    (t : MutBor (Table K.Denot V.Denot)) (i : ℕ) where
   -- the slot of a table of tags has the last value written through r
   abbrev pub lends_tagged : MutBor V.Denot → Fml
-  lends_tagged r = Lends (tagged.the_row K V A (record { eq = key.eq }) (record { hash_input = key.hash_input }) heap) V t r (with_value t.now i)
+  lends_tagged r = Lends (tagged.the_row K V A (record { eq = key.eq }) (record { hash_input = key.hash_input }) heap) V
+      t r (with_value t.now i)
 
   -- the same where r is a reference, and at `None` the table stays as it is
   abbrev pub lends_tagged_if : Option (MutBor V.Denot) → Fml
-  lends_tagged_if r = LendsIf (tagged.the_row K V A (record { eq = key.eq }) (record { hash_input = key.hash_input }) heap) V t r (with_value t.now i) t.now
+  lends_tagged_if r =
+      LendsIf (tagged.the_row K V A (record { eq = key.eq }) (record { hash_input = key.hash_input }) heap) V t r
+      (with_value t.now i) t.now

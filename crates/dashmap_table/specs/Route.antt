@@ -1,5 +1,6 @@
 -- Amounts of shards, the shard of a hash and a shard's share of a capacity.
-use Rattle.std.specs.Prelude.{◌≡◌, ℕ, zero, suc, ◌+◌, ◌-◌, ◌*◌, ◌/◌, ◌%◌, ◌^◌, ◌≤◌, ◌<◌, ◌⊎◌, max, nat_le, if◌then◌else◌}
+use Rattle.std.specs.Prelude.{◌≡◌, ℕ, zero, suc, ◌+◌, ◌-◌, ◌*◌, ◌/◌, ◌%◌, ◌^◌, ◌≤◌, ◌<◌, ◌⊎◌, max, nat_le}
+use Rattle.std.specs.Prelude.{if◌then◌else◌}
 use Rattle.std.specs.List.{fold}
 use Rattle.std.specs.Hash.{HashWrites}
 use Rattle.std.specs.declared.hash.BuildHasher as builder
@@ -26,7 +27,8 @@ route_of hash shards = (hash % 2 ^ 57) / 2 ^ (57 - log2 shards)
 abbrev pub share_of : ℕ → ℕ → ℕ
 share_of capacity shards = (capacity + (shards - 1)) / shards
 
--- a capacity that has no share: rounding it up leaves the machine's numbers, or a shard would have to hold more than 2^48
+-- a capacity that has no share: rounding it up leaves the machine's numbers, or a shard would have to hold more than
+-- 2^48
 abbrev pub HasNoShare : ℕ → ℕ → Type 0
 HasNoShare capacity shards = (2 ^ 64 ≤ capacity + (shards - 1)) ⊎ (2 ^ 48 < share_of capacity shards)
 

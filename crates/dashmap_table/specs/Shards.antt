@@ -1,5 +1,6 @@
 -- Plain shards as contracts see them: each key on the shard of its route.
-use Rattle.std.specs.Prelude.{◌≡◌, ◌≢◌, ℕ, ◌≤◌, Bool, List, [], length, Option, Some, None, IsTrue, IfSome, slice_index_or, slice_set, if◌then◌else◌}
+use Rattle.std.specs.Prelude.{◌≡◌, ◌≢◌, ℕ, ◌≤◌, Bool, List, [], length, Option, Some, None, IsTrue, IfSome}
+use Rattle.std.specs.Prelude.{slice_index_or, slice_set, if◌then◌else◌}
 use Rattle.std.specs.Option.{option_map}
 use Rattle.std.specs.Hash.{HashWrites}
 use Rattle.std.specs.declared.hash.BuildHasher as builder
@@ -44,7 +45,8 @@ module _ {K V : Type 0} where
 
   -- no two slots, of one shard or of two, have equal keys
   abbrev pub AreApart : (K → K → Bool) → List (Table K V) → Type 0
-  AreApart eq tables = (i j m n : ℕ) (d e : Entry K V) → at (table_at tables i).slots m ≡ Some d → at (table_at tables j).slots n ≡ Some e
+  AreApart eq tables = (i j m n : ℕ) (d e : Entry K V) → at (table_at tables i).slots m ≡ Some d
+      → at (table_at tables j).slots n ≡ Some e
       → IsTrue (eq d.key e.key) → (i ≡ j) × (m ≡ n)
 
 -- a key's hash
@@ -58,20 +60,24 @@ module _ {K V S H : Type 0} (b : builder.Ghosts S H) (h : hasher.Ghosts H) (inpu
 
   -- the shard and slot of a key
   abbrev pub place_of : (K → K → Bool) → Tables K V S → K → Option (ℕ × ℕ)
-  place_of eq t k = option_map (λ slot. (key_shard t k, slot)) (slot_of eq (table_at t.tables (key_shard t k)).slots (key_hash b h input t.hasher k) k)
+  place_of eq t k = option_map (λ slot. (key_shard t k, slot))
+      (slot_of eq (table_at t.tables (key_shard t k)).slots (key_hash b h input t.hasher k) k)
 
   -- the pair of a key
   abbrev pub pair_at : (K → K → Bool) → Tables K V S → K → Option (K × V)
-  pair_at eq t k = option_map pair_of (entry_of eq (table_at t.tables (key_shard t k)).slots (key_hash b h input t.hasher k) k)
+  pair_at eq t k = option_map pair_of
+      (entry_of eq (table_at t.tables (key_shard t k)).slots (key_hash b h input t.hasher k) k)
 
   -- another value in a full slot is found under its key, and every other key finds what it found
   abbrev pub IsSeenByItsKey : (K → K → Bool) → Tables K V S → ℕ → ℕ → Type 0
   IsSeenByItsKey eq t i slot = IfSome (at (table_at t.tables i).slots slot) (λ e. (value : V) (q : K)
-      → pair_at eq (record t { tables = with_value_at t.tables i slot value }) q ≡ (if eq e.key q then Some (e.key, value) else pair_at eq t q))
+      → pair_at eq (record t { tables = with_value_at t.tables i slot value }) q
+      ≡ (if eq e.key q then Some (e.key, value) else pair_at eq t q))
 
   -- what holds of all plain shards
   pub record AreSharded (eq : K → K → Bool) (t : Tables K V S) : Type 0 where
     pub amount : IsShardAmount (length t.tables)
     pub sound : (i : ℕ) → IsSound eq (table_at t.tables i)
     -- every pair is kept under its key's hash, in the shard of its route
-    pub routed : (i slot : ℕ) (e : Entry K V) → at (table_at t.tables i).slots slot ≡ Some e → (e.hash ≡ key_hash b h input t.hasher e.key) × (key_shard t e.key ≡ i)
+    pub routed : (i slot : ℕ) (e : Entry K V) → at (table_at t.tables i).slots slot ≡ Some e
+        → (e.hash ≡ key_hash b h input t.hasher e.key) × (key_shard t e.key ≡ i)

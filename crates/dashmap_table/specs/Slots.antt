@@ -1,5 +1,6 @@
 -- Numbered slots, each free or with an entry: the finite map from (hash, key) to a pair.
-use Rattle.std.specs.Prelude.{◌≡◌, ℕ, ◌+◌, ◌^◌, ◌<◌, ◌≤◌, IsSome, ◌&&◌, ◌==◌, Bool, false, List, Option, Some, None, IsTrue, is_some, count_by, filter_map, slice_index_or, slice_set}
+use Rattle.std.specs.Prelude.{◌≡◌, ℕ, ◌+◌, ◌^◌, ◌<◌, ◌≤◌, IsSome, ◌&&◌, ◌==◌, Bool, false, List, Option, Some, None}
+use Rattle.std.specs.Prelude.{IsTrue, is_some, count_by, filter_map, slice_index_or, slice_set}
 use Rattle.std.specs.List.{position}
 use Rattle.std.specs.Option.{option_and_then, option_map}
 use Rattle.dashmap_table.specs.declared.entry.Entry.{Entry}

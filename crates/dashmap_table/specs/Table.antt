@@ -1,7 +1,9 @@
 -- A table as contracts see it, and what its calls do to it.
-use Rattle.std.specs.Prelude.{◌≡◌, ◌≢◌, ℕ, ◌+◌, ◌^◌, ◌<◌, ◌≤◌, Bool, false, List, length, Option, Some, None, MatchOption, slice_set}
+use Rattle.std.specs.Prelude.{◌≡◌, ◌≢◌, ℕ, ◌+◌, ◌^◌, ◌<◌, ◌≤◌, Bool, false, List, length, Option, Some, None}
+use Rattle.std.specs.Prelude.{MatchOption, slice_set}
 use Rattle.dashmap_table.specs.declared.entry.Entry.{Entry}
-use Rattle.dashmap_table.specs.Slots.{at, count, holds, slot_of, entry_of, AreDistinct, entry_with, giving_value, giving_pair, changed}
+use Rattle.dashmap_table.specs.Slots.{at, count, holds, slot_of, entry_of, AreDistinct, entry_with, giving_value}
+use Rattle.dashmap_table.specs.Slots.{giving_pair, changed}
 
 pub record Table (K V : Type 0) : Type 0 where
   -- what stands in each slot, from slot 0 on
@@ -34,7 +36,8 @@ module _ {K V : Type 0} where
     -- at most one place is used up
     pub left : old.room + count new.slots ≤ new.room + count old.slots + 1
     -- where there was room, the slot was free and no other slot moved
-    pub in_place : count old.slots < old.room → (at old.slots i ≡ None) × ((j : ℕ) → j ≢ i → at new.slots j ≡ at old.slots j)
+    pub in_place : count old.slots < old.room → (at old.slots i ≡ None)
+        × ((j : ℕ) → j ≢ i → at new.slots j ≡ at old.slots j)
 
   -- a slot's entry goes; no other slot moves, no room is lost, and no more is taken
   pub record Frees (old new : Table K V) (i : ℕ) : Type 0 where
@@ -53,4 +56,5 @@ module _ {K V : Type 0} where
 
   -- a key that is there gets a value, a new one a slot
   abbrev pub PutsIn : (K → K → Bool) → Table K V → Table K V → ℕ → K → V → Type 0
-  PutsIn eq old new hash key value = MatchOption (slot_of eq old.slots hash key) ((i : ℕ) × Adds eq old new (entry_with hash key value) i) (λ i. new ≡ with_value old i value)
+  PutsIn eq old new hash key value = MatchOption (slot_of eq old.slots hash key)
+      ((i : ℕ) × Adds eq old new (entry_with hash key value) i) (λ i. new ≡ with_value old i value)

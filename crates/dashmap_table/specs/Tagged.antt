@@ -1,5 +1,6 @@
 -- A table of tags: how the tags of its slots agree with what stands in them.
-use Rattle.std.specs.Prelude.{◌≡◌, ℕ, ◌+◌, ◌-◌, ◌/◌, ◌%◌, ◌<◌, ◌≤◌, ◌==◌, min, max, Bool, List, length, Option, Some, None, count_by, slice_index}
+use Rattle.std.specs.Prelude.{◌≡◌, ℕ, ◌+◌, ◌-◌, ◌/◌, ◌%◌, ◌<◌, ◌≤◌, ◌==◌, min, max, Bool, List, length, Option, Some}
+use Rattle.std.specs.Prelude.{None, count_by, slice_index}
 use Rattle.dashmap_table.specs.Tags.Way.{tag_of, windows_of, on_way}
 use Rattle.dashmap_table.specs.declared.entry.Entry.{Entry}
 use Rattle.dashmap_table.specs.Slots.{at, count, AreDistinct}
@@ -10,7 +11,8 @@ windows_in tags = windows_of (length tags)
 
 -- of so many slots none in a window that is on the way of a hash to this one is as P says
 abbrev pub NoneOnWay : ℕ → (ℕ → Type 0) → ℕ → ℕ → Type 0
-NoneOnWay slots P hash window = (k j l : ℕ) → k < windows_of slots → on_way (windows_of slots) hash k ≡ window → j < k → l < slots
+NoneOnWay slots P hash window = (k j l : ℕ) → k < windows_of slots → on_way (windows_of slots) hash k ≡ window → j < k
+    → l < slots
     → l / 16 ≡ on_way (windows_of slots) hash j → ¬ P l
 
 -- none of them has a tag as P says
@@ -65,10 +67,11 @@ module _ {K V : Type 0} where
     pub reach : (i : ℕ) (e : Entry K V) → at slots i ≡ Some e → NoneBefore IsEmpty tags e.hash (i / 16)
 
   -- what holds of every table, with so many full slots and room for so many more
-  pub record IsTable (eq : K → K → Bool) (tags : List ℕ) (slots : List (Option (Entry K V))) (full left : ℕ) : Type 0 where
-    pub distinct : AreDistinct eq slots
-    pub counted : full ≡ count slots
-    pub tagged : IsTagged tags slots
-    pub whole : IsWhole tags
-    -- a slot is always empty, unless there is none at all
-    pub kept : left + min 1 (length tags) ≤ empties tags
+  pub record IsTable (eq : K → K → Bool) (tags : List ℕ) (slots : List (Option (Entry K V))) (full left : ℕ) : Type 0
+    where
+      pub distinct : AreDistinct eq slots
+      pub counted : full ≡ count slots
+      pub tagged : IsTagged tags slots
+      pub whole : IsWhole tags
+      -- a slot is always empty, unless there is none at all
+      pub kept : left + min 1 (length tags) ≤ empties tags

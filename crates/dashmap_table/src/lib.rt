@@ -1,11 +1,12 @@
 //! One shard of the map, and plain shards without locks.
 //!
-//! A [`Shard`] is a finite map from a hash and a key to a pair. [`Shards`] is the map as a whole for one owner: a list of
-//! shards, a hasher, and the [`route`] by which a key's hash tells its shard.
+//! A [`Shard`] is a finite map from a hash and a key to a pair. [`Shards`] is the map as a whole for one owner: a list
+//! of shards, a hasher, and the [`route`] by which a key's hash tells its shard.
 //!
 //! What a shard is made of is private, and its contract leaves it open: pairs may move where an insertion finds no room
-//! and where `reserve` or `shrink` make another table, and at no other time. It is a table of tags: a byte for each slot tells
-//! most of the slots that can't have a hash apart from the few that may, and sixteen bytes are compared at once.
+//! and where `reserve` or `shrink` make another table, and at no other time. It is a table of tags: a byte for each
+//! slot tells most of the slots that can't have a hash apart from the few that may, and sixteen bytes are compared at
+//! once.
 #![tactic(auto)]
 
 mod entry;

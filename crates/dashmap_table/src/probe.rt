@@ -1,5 +1,6 @@
 //! What reads the tags and the slots of a table as two slices.
-ghost use Rattle.std.specs.Prelude.{◌≡◌, ℕ, ◌+◌, ◌/◌, ◌^◌, ◌<◌, ◌≤◌, true, false, length, slice_index, None, Some, IsSome, IfSome, IfNone, MatchOption, IfOk, IfErr, OnErr};
+ghost use Rattle.std.specs.Prelude.{◌≡◌, ℕ, ◌+◌, ◌/◌, ◌^◌, ◌<◌, ◌≤◌, true, false, length, slice_index, None, Some};
+ghost use Rattle.std.specs.Prelude.{IsSome, IfSome, IfNone, MatchOption, IfOk, IfErr, OnErr};
 ghost use Rattle.dashmap_table.specs.Tags.Lanes.{HasLane};
 ghost use Rattle.dashmap_table.specs.Slots.{at, holds, slot_of, AreDistinct};
 ghost use Rattle.dashmap_table.specs.Tagged.{IsTagged, IsFree, IsEmpty, IsFullFrom, IsPlace, IsWhole, empties};
@@ -34,7 +35,8 @@ fn find_among<K: Eq, V>(
     requires within { (k : ℕ) → HasLane lanes k → from + k < length slots.now }
     requires full { (k : ℕ) → HasLane lanes k → IsSome (at slots.now (from + k)) }
     ensures found { IfSome result (λ i. holds K.eq hash key.now (at slots.now i) ≡ true) }
-    ensures absent { IfNone result ((k : ℕ) → HasLane lanes k → holds K.eq hash key.now (at slots.now (from + k)) ≡ false) }
+    ensures absent { IfNone result
+        ((k : ℕ) → HasLane lanes k → holds K.eq hash key.now (at slots.now (from + k)) ≡ false) }
 {
     let mut left = lanes;
     while let Some(lane) = left.first() {
@@ -47,7 +49,8 @@ fn find_among<K: Eq, V>(
     None
 }
 
-/// The slot of a hash and key, wherever it is on the way of the hash. Windows are looked through until one has an empty slot.
+/// The slot of a hash and key, wherever it is on the way of the hash. Windows are looked through until one has an empty
+/// slot.
 #[cold]
 #[inline(never)]
 fn find_on_way<K: Eq, V>(
@@ -75,8 +78,8 @@ fn find_on_way<K: Eq, V>(
     None
 }
 
-/// The slot of a hash and key. Mostly it is in the window that is looked through first, or that window has an empty slot: so
-/// the others, and tables with fewer slots than a window, are looked through out of line.
+/// The slot of a hash and key. Mostly it is in the window that is looked through first, or that window has an empty
+/// slot: so the others, and tables with fewer slots than a window, are looked through out of line.
 #[inline(always)]
 pub(crate) fn find_slot<K: Eq, V>(
     tags: &[u8],
@@ -204,7 +207,8 @@ pub(crate) fn find_or_place<K: Eq, V>(
 fn freed_tag_of_few(tags: &[u8], slot: usize) -> u8
     requires { slot < length tags.now }
     ensures free { IsFree result }
-    ensures ends { IsEmpty result → (l : ℕ) × (l < length tags.now) × (l / 16 ≡ slot / 16) × IsEmpty (slice_index tags.now l) }
+    ensures ends { IsEmpty result → (l : ℕ) × (l < length tags.now) × (l / 16 ≡ slot / 16)
+        × IsEmpty (slice_index tags.now l) }
 {
     let from = slot / WIDTH * WIDTH;
     match lanes_at(tags, from, Wanted::Tag(EMPTY)).first() {
@@ -213,14 +217,15 @@ fn freed_tag_of_few(tags: &[u8], slot: usize) -> u8
     }
 }
 
-/// The tag of a slot whose entry goes: it is empty again where its window has another empty slot, so that no way goes on
-/// past it.
+/// The tag of a slot whose entry goes: it is empty again where its window has another empty slot, so that no way goes
+/// on past it.
 #[inline(always)]
 pub(crate) fn freed_tag(tags: &[u8], slot: usize) -> u8
     requires within { slot < length tags.now }
     requires whole { IsWhole tags.now }
     ensures free { IsFree result }
-    ensures ends { IsEmpty result → (l : ℕ) × (l < length tags.now) × (l / 16 ≡ slot / 16) × IsEmpty (slice_index tags.now l) }
+    ensures ends { IsEmpty result → (l : ℕ) × (l < length tags.now) × (l / 16 ≡ slot / 16)
+        × IsEmpty (slice_index tags.now l) }
 {
     if tags.len() < WIDTH {
         return freed_tag_of_few(tags, slot);
@@ -236,7 +241,8 @@ pub(crate) fn freed_tag(tags: &[u8], slot: usize) -> u8
 #[inline(always)]
 pub(crate) fn full_slot_from(tags: &[u8], slot: usize) -> Option<usize>
     requires { length tags.now < 2 ^ 63 }
-    ensures { MatchOption result ((i : ℕ) → slot ≤ i → i < length tags.now → IsFree (slice_index tags.now i)) (IsFullFrom tags.now slot) }
+    ensures { MatchOption result ((i : ℕ) → slot ≤ i → i < length tags.now → IsFree (slice_index tags.now i))
+        (IsFullFrom tags.now slot) }
 {
     let mut from = slot;
     while from < tags.len() {

@@ -13,8 +13,8 @@ pub fn is_shard_amount(shards: usize) -> bool
     shards == 1 << shards.ilog2()
 }
 
-/// The number of the shard that a hash belongs to. The seven highest bits of the hash play no part in it, so a table may
-/// keep them beside each pair and tell most keys of a shard apart by them.
+/// The number of the shard that a hash belongs to. The seven highest bits of the hash play no part in it, so a table
+/// may keep them beside each pair and tell most keys of a shard apart by them.
 ///
 /// With 4 shards the hashes 0, 2^55, 2^56 and 2^57 - 1 are on the shards 0, 1, 2 and 3, and 2^57 is on shard 0 again.
 pub fn route(hash: u64, shards: usize) -> usize
@@ -31,7 +31,8 @@ pub fn route(hash: u64, shards: usize) -> usize
 /// 2^48. A capacity of 0 gives 0, and 5 shared out over 4 shards gives 2.
 pub fn capacity_share(capacity: usize, shards: usize) -> Option<usize>
     requires { IsShardAmount shards }
-    ensures { MatchOption result (HasNoShare capacity shards) (λ share. (share ≡ share_of capacity shards) × (capacity + shards ≤ 2 ^ 64) × (share ≤ 2 ^ 48)) }
+    ensures { MatchOption result (HasNoShare capacity shards)
+        (λ share. (share ≡ share_of capacity shards) × (capacity + shards ≤ 2 ^ 64) × (share ≤ 2 ^ 48)) }
 {
     let rounded = capacity.checked_add(shards - 1)?;
     let share = rounded / shards;
@@ -43,7 +44,8 @@ pub fn capacity_share(capacity: usize, shards: usize) -> Option<usize>
 ///
 /// `None` where that is above 65,536, so from 16,385 threads on.
 pub fn default_shards(parallelism: usize) -> Option<usize>
-    ensures { MatchOption result (2 ^ 16 < wanted_shards parallelism) (λ shards. IsNextPowerOfTwo (wanted_shards parallelism) shards × IsShardAmount shards) }
+    ensures { MatchOption result (2 ^ 16 < wanted_shards parallelism)
+        (λ shards. IsNextPowerOfTwo (wanted_shards parallelism) shards × IsShardAmount shards) }
 {
     if parallelism > 1 << 14 {
         return None;

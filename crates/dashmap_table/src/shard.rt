@@ -1,5 +1,6 @@
 //! One shard of the map: a finite map from hash and key to a pair.
-ghost use Rattle.std.specs.Prelude.{◌≡◌, ℕ, ◌+◌, ◌*◌, ◌<◌, ◌≤◌, ◌↔◌, ◌==◌, [], length, None, Some, IsTrue, IsSome, IfSome, IfNone, MatchOption, IfOk, IfErr, OnOk, OnErr};
+ghost use Rattle.std.specs.Prelude.{◌≡◌, ℕ, ◌+◌, ◌*◌, ◌<◌, ◌≤◌, ◌↔◌, ◌==◌, [], length, None, Some, IsTrue, IsSome};
+ghost use Rattle.std.specs.Prelude.{IfSome, IfNone, MatchOption, IfOk, IfErr, OnOk, OnErr};
 ghost use Rattle.std.specs.Option.{option_map, option_copied_mut, is_some};
 ghost use Rattle.std.specs.Borrow.{sem};
 ghost use Rattle.dashmap_table.specs.Tags.Lanes.{HasLane};
@@ -17,13 +18,13 @@ use std::marker::Model;
 
 /// Pairs, each with the hash of its key, in numbered slots. Among equal keys under one hash there is only ever one.
 ///
-/// A contract sees the slots and the room (`Table`). The caller hashes: a shard takes the hash beside the key, keeps it,
-/// and never calls a hasher, not even when it grows. So one map can hash a key once and find both the shard, by
+/// A contract sees the slots and the room (`Table`). The caller hashes: a shard takes the hash beside the key, keeps
+/// it, and never calls a hasher, not even when it grows. So one map can hash a key once and find both the shard, by
 /// [`route`](crate::route), and the pair.
 ///
-/// **Memory.** An insertion of a new key may ask for memory, and so do `reserve` and `shrink`; nothing else does. A slot takes
-/// a byte, the room of a hash, a key and a value, and 8 bytes more, and at most seven slots in eight are full. While a shard
-/// grows or shrinks it has both tables.
+/// **Memory.** An insertion of a new key may ask for memory, and so do `reserve` and `shrink`; nothing else does. A
+/// slot takes a byte, the room of a hash, a key and a value, and 8 bytes more, and at most seven slots in eight are
+/// full. While a shard grows or shrinks it has both tables.
 ///
 /// ```rust
 /// let mut shard = Shard::new(alloc);
@@ -60,12 +61,13 @@ impl<K: Eq + Hash, V, A: Allocator> Shard<K, V, A> {
 
     /// The slot of the pair with this hash and an equal key.
     ///
-    /// The slot is good for the calls that take one until the shard is changed by an insertion of a new key, `reserve` or
-    /// `shrink`. A removal moves no other pair.
+    /// The slot is good for the calls that take one until the shard is changed by an insertion of a new key, `reserve`
+    /// or `shrink`. A removal moves no other pair.
     #[inline(always)]
     pub fn find(&self, hash: u64, key: &K) -> Option<usize>
         ensures slot { result ≡ slot_of K.eq self.now.slots hash key.now }
-        ensures equal { IfSome result (λ i. IfSome (at self.now.slots i) (λ e. (e.hash ≡ hash) × IsTrue (K.eq e.key key.now))) }
+        ensures equal { IfSome result
+            (λ i. IfSome (at self.now.slots i) (λ e. (e.hash ≡ hash) × IsTrue (K.eq e.key key.now))) }
         ensures sound { IsSound K.eq self.now }
     {
         self.table.find(hash, key)
@@ -73,9 +75,10 @@ impl<K: Eq + Hash, V, A: Allocator> Shard<K, V, A> {
 
     /// Puts a pair in, and answers its slot and the value that its key had.
     ///
-    /// A present key keeps its slot and the stored key; the key that was handed in is let go. A new key takes a slot that is
-    /// none of the other pairs': while there is room nothing moves and no memory is asked for. Where there is no room the
-    /// shard has to grow, which may move pairs; where it can't, the pair comes back and nothing has changed.
+    /// A present key keeps its slot and the stored key; the key that was handed in is let go. A new key takes a slot
+    /// that is none of the other pairs': while there is room nothing moves and no memory is asked for. Where there is
+    /// no room the shard has to grow, which may move pairs; where it can't, the pair comes back and nothing has
+    /// changed.
     ///
     /// Equal keys have to come with equal hashes, or the shard keeps both.
     #[inline(always)]
@@ -85,18 +88,23 @@ impl<K: Eq + Hash, V, A: Allocator> Shard<K, V, A> {
         V: Drop,
         A: Clone,
         // A present key keeps its slot and its stored key, and gets the value. This is never refused.
-        ensures present { IfSome (slot_of K.eq self.old.slots hash key) (λ i. (result ≡ Ok (i, option_map (λ e. e.value) (at self.old.slots i))) × (self.new ≡ with_value self.old i value)) }
+        ensures present { IfSome (slot_of K.eq self.old.slots hash key)
+            (λ i. (result ≡ Ok (i, option_map (λ e. e.value) (at self.old.slots i)))
+            × (self.new ≡ with_value self.old i value)) }
 
         // An absent one gets a slot, unless there was no room and none is to be had.
-        ensures added { IfNone (slot_of K.eq self.old.slots hash key) (IfOk result (λ r. (r.1 ≡ None) × Adds K.eq self.old self.new (entry_with hash key value) r.0)) }
-        ensures refused { IfErr result (λ back. (back ≡ (key, value)) × (self.new ≡ self.old) × (self.old.room ≤ count self.old.slots)) }
+        ensures added { IfNone (slot_of K.eq self.old.slots hash key)
+            (IfOk result (λ r. (r.1 ≡ None) × Adds K.eq self.old self.new (entry_with hash key value) r.0)) }
+        ensures refused { IfErr result
+            (λ back. (back ≡ (key, value)) × (self.new ≡ self.old) × (self.old.room ≤ count self.old.slots)) }
         ensures sound { IsSound K.eq self.new }
     {
         self.table.insert(hash, key, value)
     }
 
-    /// Puts a pair in whose key isn't there, and answers its slot. There has to be room, so it can't be refused and asks for no
-    /// memory. Where `find` and `reserve` went before, an insertion looks through the shard no more than it has to.
+    /// Puts a pair in whose key isn't there, and answers its slot. There has to be room, so it can't be refused and
+    /// asks for no memory. Where `find` and `reserve` went before, an insertion looks through the shard no more than it
+    /// has to.
     #[inline(always)]
     pub fn add(&mut self, hash: u64, key: K, value: V) -> usize
     where
@@ -120,8 +128,8 @@ impl<K: Eq + Hash, V, A: Allocator> Shard<K, V, A> {
         self.table.remove(slot)
     }
 
-    /// Puts another key and value into a full slot and gives the old pair; `None` where the slot is free, and then what was
-    /// handed in is let go. The new key has to be equal to the stored one.
+    /// Puts another key and value into a full slot and gives the old pair; `None` where the slot is free, and then what
+    /// was handed in is let go. The new key has to be equal to the stored one.
     pub fn replace(&mut self, slot: usize, key: K, value: V) -> Option<(K, V)>
     where
         K: Drop,
@@ -144,8 +152,8 @@ impl<K: Eq + Hash, V, A: Allocator> Shard<K, V, A> {
 
     /// Lends the value of a full slot for writing, beside its key.
     ///
-    /// Its contract says what is lent, and not what the shard is once the loan ends. A caller that has to know takes [`lend`]
-    /// or [`value_mut`], which hand the write back.
+    /// Its contract says what is lent, and not what the shard is once the loan ends. A caller that has to know takes
+    /// [`lend`] or [`value_mut`], which hand the write back.
     ///
     /// [`lend`]: Shard::lend
     /// [`value_mut`]: Shard::value_mut
@@ -159,8 +167,8 @@ impl<K: Eq + Hash, V, A: Allocator> Shard<K, V, A> {
         }
     }
 
-    /// `pair_mut` for a slot that is known to be full. It is for the layer above, which keeps the slot of a pair while it
-    /// holds the shard: afterwards the slot has the value that was written, and nothing else has changed.
+    /// `pair_mut` for a slot that is known to be full. It is for the layer above, which keeps the slot of a pair while
+    /// it holds the shard: afterwards the slot has the value that was written, and nothing else has changed.
     #[inline(always)]
     pub fn lend(&mut self, slot: usize) -> (&K, &mut V)
         requires { IsSome (at self.old.slots slot) }
@@ -187,8 +195,8 @@ impl<K: Eq + Hash, V, A: Allocator> Shard<K, V, A> {
         self.table.lend_value(slot)
     }
 
-    /// Lends the value of a full slot for writing. Afterwards the slot has the value that was written, and nothing else has
-    /// changed.
+    /// Lends the value of a full slot for writing. Afterwards the slot has the value that was written, and nothing else
+    /// has changed.
     #[inline(always)]
     pub fn value_mut(&mut self, slot: usize) -> Option<&mut V>
         ensures* writes_back { sem 𝓛 (lends_slot_if K.row V.row A.row K.Hash A.Allocator self.entry slot result) }
@@ -207,10 +215,11 @@ impl<K: Eq + Hash, V, A: Allocator> Shard<K, V, A> {
 
     /// The first full slot that isn't below `slot`.
     ///
-    /// A walk begins at 0 and goes on behind the slot that it was given: so it meets each pair once, also where it removes
-    /// pairs as it goes.
+    /// A walk begins at 0 and goes on behind the slot that it was given: so it meets each pair once, also where it
+    /// removes pairs as it goes.
     pub fn next_from(&self, slot: usize) -> Option<usize>
-        ensures { MatchOption result ((i : ℕ) → slot ≤ i → at self.now.slots i ≡ None) (IsNextFull self.now.slots slot) }
+        ensures { MatchOption result ((i : ℕ) → slot ≤ i → at self.now.slots i ≡ None)
+            (IsNextFull self.now.slots slot) }
     {
         self.table.next_from(slot)
     }
@@ -225,7 +234,8 @@ impl<K: Eq + Hash, V, A: Allocator> Shard<K, V, A> {
 
     /// Which of the sixteen slots from one on are full.
     ///
-    /// Where a walk removes nothing it may go from sixteen slots to the next sixteen, instead of asking for each by `next_from`.
+    /// Where a walk removes nothing it may go from sixteen slots to the next sixteen, instead of asking for each by
+    /// `next_from`.
     #[inline(always)]
     pub fn full_from(&self, slot: usize) -> Lanes
         requires { slot ≤ length self.now.slots }
@@ -234,8 +244,9 @@ impl<K: Eq + Hash, V, A: Allocator> Shard<K, V, A> {
         self.table.full_from(slot)
     }
 
-    /// Makes room for so many more pairs than there are. As many insertions of new keys then take no memory and move no pair,
-    /// unless the room is given up by `shrink` before. Where there is such room already nothing changes; else pairs may move.
+    /// Makes room for so many more pairs than there are. As many insertions of new keys then take no memory and move no
+    /// pair, unless the room is given up by `shrink` before. Where there is such room already nothing changes; else
+    /// pairs may move.
     pub fn reserve(&mut self, additional: usize) -> Result<(), NoMemory>
     where
         K: Drop,
@@ -251,8 +262,9 @@ impl<K: Eq + Hash, V, A: Allocator> Shard<K, V, A> {
         self.table.reserve(additional)
     }
 
-    /// Gives up room that the pairs don't need: at most four times as much as there are pairs is left. Pairs may move. It asks
-    /// for memory for the smaller shard first, but for none where there is no pair, nor where the pairs take up all the room.
+    /// Gives up room that the pairs don't need: at most four times as much as there are pairs is left. Pairs may move.
+    /// It asks for memory for the smaller shard first, but for none where there is no pair, nor where the pairs take up
+    /// all the room.
     pub fn shrink(&mut self) -> Result<(), NoMemory>
     where
         K: Drop,

@@ -1,11 +1,13 @@
 //! A list of shards and a hasher, without locks.
-ghost use Rattle.std.specs.Prelude.{◌≡◌, ℕ, ◌+◌, ◌<◌, ◌≤◌, ◌↔◌, IsSome, Err, length, replicate, None, Some, slice_set, IsTrue, IfOk, IfErr, OnOk, OnErr, if◌then◌else◌};
+ghost use Rattle.std.specs.Prelude.{◌≡◌, ℕ, ◌+◌, ◌<◌, ◌≤◌, ◌↔◌, IsSome, Err, length, replicate, None, Some, slice_set};
+ghost use Rattle.std.specs.Prelude.{IsTrue, IfOk, IfErr, OnOk, OnErr, if◌then◌else◌};
 ghost use Rattle.std.specs.Option.{option_map, option_copied_mut};
 ghost use Rattle.std.specs.Borrow.{sem};
 ghost use Rattle.dashmap_table.specs.Route.{IsShardAmount, route_of, hash_of};
 ghost use Rattle.dashmap_table.specs.Slots.{at, count, pair_of};
 ghost use Rattle.dashmap_table.specs.Table.{SamePairs, TakesOut, PutsIn};
-ghost use Rattle.dashmap_table.specs.Shards.{AreApart, AreSharded, no_pairs, table_at, put_over, IsFull, OnlyChanges, key_hash, key_shard, place_of, pair_at, IsSeenByItsKey};
+ghost use Rattle.dashmap_table.specs.Shards.{AreApart, AreSharded, no_pairs, table_at, put_over, IsFull, OnlyChanges};
+ghost use Rattle.dashmap_table.specs.Shards.{key_hash, key_shard, place_of, pair_at, IsSeenByItsKey};
 
 use crate::fault::MapFault;
 use crate::routing::{is_shard_amount, route};
@@ -15,8 +17,8 @@ use std::alloc::{Allocator, Global};
 use std::hash::{BuildHasher, Hash};
 use std::marker::Model;
 
-/// The whole map for one owner: shards and a hasher, without locks. It routes and answers as the running map does, so it
-/// says what that one has to answer.
+/// The whole map for one owner: shards and a hasher, without locks. It routes and answers as the running map does, so
+/// it says what that one has to answer.
 ///
 /// A contract sees the shards' tables and the hasher (`Tables`), and a key's pair by `pair_at`.
 ///
@@ -40,7 +42,8 @@ impl<K: Eq + Hash, V, S: BuildHasher, A: Allocator> Model for Shards<K, V, S, A>
 
     ghost view = { λ s. record { tables = s.shards.items; hasher = s.hasher } };
 
-    ghost invariant = { λ s. AreSharded S.BuildHasher S.Hasher.Hasher K.hash_input K.eq (record { tables = s.shards.items; hasher = s.hasher }) };
+    ghost invariant = { λ s. AreSharded S.BuildHasher S.Hasher.Hasher K.hash_input K.eq
+        (record { tables = s.shards.items; hasher = s.hasher }) };
 }
 
 /// So many shards without pairs.
@@ -102,7 +105,8 @@ impl<K: Eq + Hash, V, S: BuildHasher, A: Allocator> Shards<K, V, S, A> {
         self.hasher.hash_one(key)
     }
 
-    /// Lends a shard. Each pair is in the shard of its key's route, under its key's hash, so no two shards have equal keys.
+    /// Lends a shard. Each pair is in the shard of its key's route, under its key's hash, so no two shards have equal
+    /// keys.
     pub fn shard(&self, shard: usize) -> &Shard<K, V, A>
         requires { shard < length self.now.tables }
         ensures shard { result.now ≡ table_at self.now.tables shard }
@@ -132,37 +136,53 @@ impl<K: Eq + Hash, V, S: BuildHasher, A: Allocator> Shards<K, V, S, A> {
         }
     }
 
-    /// Makes room for one more pair in a shard: the next insertion of a key of that shard isn't refused. Where there is such
-    /// room already nothing changes.
+    /// Makes room for one more pair in a shard: the next insertion of a key of that shard isn't refused. Where there is
+    /// such room already nothing changes.
     pub fn reserve(&mut self, shard: usize) -> Result<(), NoMemory>
     where
         K: Drop,
         V: Drop,
         A: Clone,
         requires { shard < length self.old.tables }
-        ensures ok { OnOk result (count (table_at self.new.tables shard).slots + 1 ≤ (table_at self.new.tables shard).room) }
-        ensures pairs { (q : K) → pair_at S.BuildHasher S.Hasher.Hasher K.hash_input K.eq self.new q ≡ pair_at S.BuildHasher S.Hasher.Hasher K.hash_input K.eq self.old q }
+        ensures ok { OnOk result
+            (count (table_at self.new.tables shard).slots + 1 ≤ (table_at self.new.tables shard).room) }
+        ensures pairs { (q : K) → pair_at S.BuildHasher S.Hasher.Hasher K.hash_input K.eq self.new q ≡ pair_at
+            S.BuildHasher S.Hasher.Hasher K.hash_input K.eq self.old q }
         ensures others { OnlyChanges self.old self.new shard }
         ensures table { SamePairs K.eq (table_at self.old.tables shard) (table_at self.new.tables shard) }
         ensures room { (table_at self.old.tables shard).room ≤ (table_at self.new.tables shard).room }
-        ensures enough { count (table_at self.old.tables shard).slots + 1 ≤ (table_at self.old.tables shard).room → (result ≡ Ok tt) × (self.new ≡ self.old) }
+        ensures enough { count (table_at self.old.tables shard).slots + 1 ≤ (table_at self.old.tables shard).room
+            → (result ≡ Ok tt) × (self.new ≡ self.old) }
         ensures refused { OnErr result (self.new ≡ self.old) }
     {
         self.shards[shard].reserve(1)
     }
 
-    /// Puts a pair in and answers the value that its key had. A present key keeps the stored key, gets the value and is never
-    /// refused; a new key is refused only where its shard has no room and can't grow, and then the pair comes back.
+    /// Puts a pair in and answers the value that its key had. A present key keeps the stored key, gets the value and is
+    /// never refused; a new key is refused only where its shard has no room and can't grow, and then the pair comes
+    /// back.
     pub fn insert(&mut self, key: K, value: V) -> Result<Option<V>, (K, V)>
     where
         K: Drop,
         V: Drop,
         A: Clone,
-        ensures old { IfOk result (λ old. old ≡ option_map (λ p. p.1) (pair_at S.BuildHasher S.Hasher.Hasher K.hash_input K.eq self.old key)) }
-        ensures after { OnOk result ((q : K) → pair_at S.BuildHasher S.Hasher.Hasher K.hash_input K.eq self.new q ≡ (if K.eq key q then Some (put_over (pair_at S.BuildHasher S.Hasher.Hasher K.hash_input K.eq self.old key) key value) else pair_at S.BuildHasher S.Hasher.Hasher K.hash_input K.eq self.old q)) }
-        ensures others { OnlyChanges self.old self.new (key_shard S.BuildHasher S.Hasher.Hasher K.hash_input self.old key) }
-        ensures table { OnOk result (let shard = key_shard S.BuildHasher S.Hasher.Hasher K.hash_input self.old key in PutsIn K.eq (table_at self.old.tables shard) (table_at self.new.tables shard) (key_hash S.BuildHasher S.Hasher.Hasher K.hash_input self.old.hasher key) key value) }
-        ensures refused { IfErr result (λ back. (back ≡ (key, value)) × (self.new ≡ self.old) × (pair_at S.BuildHasher S.Hasher.Hasher K.hash_input K.eq self.old key ≡ None) × IsFull (table_at self.old.tables (key_shard S.BuildHasher S.Hasher.Hasher K.hash_input self.old key))) }
+        ensures old { IfOk result
+            (λ old. old ≡ option_map (λ p. p.1)
+            (pair_at S.BuildHasher S.Hasher.Hasher K.hash_input K.eq self.old key)) }
+        ensures after { OnOk result
+            ((q : K) → pair_at S.BuildHasher S.Hasher.Hasher K.hash_input K.eq self.new q
+            ≡ (if K.eq key q then Some
+            (put_over (pair_at S.BuildHasher S.Hasher.Hasher K.hash_input K.eq self.old key) key value) else pair_at
+            S.BuildHasher S.Hasher.Hasher K.hash_input K.eq self.old q)) }
+        ensures others { OnlyChanges self.old self.new
+            (key_shard S.BuildHasher S.Hasher.Hasher K.hash_input self.old key) }
+        ensures table { OnOk result (let shard = key_shard S.BuildHasher S.Hasher.Hasher K.hash_input self.old key in
+            PutsIn K.eq (table_at self.old.tables shard) (table_at self.new.tables shard)
+            (key_hash S.BuildHasher S.Hasher.Hasher K.hash_input self.old.hasher key) key value) }
+        ensures refused { IfErr result
+            (λ back. (back ≡ (key, value)) × (self.new ≡ self.old)
+            × (pair_at S.BuildHasher S.Hasher.Hasher K.hash_input K.eq self.old key ≡ None)
+            × IsFull (table_at self.old.tables (key_shard S.BuildHasher S.Hasher.Hasher K.hash_input self.old key))) }
     {
         let hash = self.hash(&key);
         let shard = self.shard_of(hash);
@@ -173,9 +193,13 @@ impl<K: Eq + Hash, V, S: BuildHasher, A: Allocator> Shards<K, V, S, A> {
     /// Takes the pair of a key out.
     pub fn remove(&mut self, key: &K) -> Option<(K, V)>
         ensures pair { result ≡ pair_at S.BuildHasher S.Hasher.Hasher K.hash_input K.eq self.old key.now }
-        ensures after { (q : K) → pair_at S.BuildHasher S.Hasher.Hasher K.hash_input K.eq self.new q ≡ (if K.eq key.now q then None else pair_at S.BuildHasher S.Hasher.Hasher K.hash_input K.eq self.old q) }
-        ensures others { OnlyChanges self.old self.new (key_shard S.BuildHasher S.Hasher.Hasher K.hash_input self.old key.now) }
-        ensures table { let shard = key_shard S.BuildHasher S.Hasher.Hasher K.hash_input self.old key.now in TakesOut K.eq (table_at self.old.tables shard) (table_at self.new.tables shard) (key_hash S.BuildHasher S.Hasher.Hasher K.hash_input self.old.hasher key.now) key.now }
+        ensures after { (q : K) → pair_at S.BuildHasher S.Hasher.Hasher K.hash_input K.eq self.new q
+            ≡ (if K.eq key.now q then None else pair_at S.BuildHasher S.Hasher.Hasher K.hash_input K.eq self.old q) }
+        ensures others { OnlyChanges self.old self.new
+            (key_shard S.BuildHasher S.Hasher.Hasher K.hash_input self.old key.now) }
+        ensures table { let shard = key_shard S.BuildHasher S.Hasher.Hasher K.hash_input self.old key.now in
+            TakesOut K.eq (table_at self.old.tables shard) (table_at self.new.tables shard)
+            (key_hash S.BuildHasher S.Hasher.Hasher K.hash_input self.old.hasher key.now) key.now }
     {
         let hash = self.hash(key);
         let shard = self.shard_of(hash);
@@ -186,18 +210,21 @@ impl<K: Eq + Hash, V, S: BuildHasher, A: Allocator> Shards<K, V, S, A> {
     fn lend_value(&mut self, shard: usize, slot: usize) -> &mut V
         requires within { shard < length self.old.tables }
         requires full { IsSome (at (table_at self.old.tables shard).slots slot) }
-        ensures* writes_back { sem 𝓛 (lends_at K.row V.row S.row A.row S.Hasher.row K.Hash S.BuildHasher S.Hasher.Hasher A.Allocator self.entry shard slot result) }
+        ensures* writes_back { sem 𝓛 (lends_at K.row V.row S.row A.row S.Hasher.row K.Hash S.BuildHasher S.Hasher.Hasher A.Allocator
+            self.entry shard slot result) }
         ensures value { option_map (λ e. e.value) (at (table_at self.old.tables shard).slots slot) ≡ Some result.now }
     {
         self.shards[shard].lend_value(slot)
     }
 
     /// Lends the value of a full slot of a shard for writing; `None` where the slot is free or there is no such shard.
-    /// Afterwards the slot has the value that was written, and nothing else has changed: the pair's key finds the value, and
-    /// every other key finds what it found.
+    /// Afterwards the slot has the value that was written, and nothing else has changed: the pair's key finds the
+    /// value, and every other key finds what it found.
     pub fn value_mut(&mut self, shard: usize, slot: usize) -> Option<&mut V>
-        ensures* writes_back { sem 𝓛 (lends_at_if K.row V.row S.row A.row S.Hasher.row K.Hash S.BuildHasher S.Hasher.Hasher A.Allocator self.entry shard slot result) }
-        ensures value { option_copied_mut result ≡ option_map (λ e. e.value) (at (table_at self.old.tables shard).slots slot) }
+        ensures* writes_back { sem 𝓛 (lends_at_if K.row V.row S.row A.row S.Hasher.row K.Hash S.BuildHasher S.Hasher.Hasher A.Allocator
+            self.entry shard slot result) }
+        ensures value { option_copied_mut result ≡ option_map (λ e. e.value)
+            (at (table_at self.old.tables shard).slots slot) }
         ensures seen { IsSeenByItsKey S.BuildHasher S.Hasher.Hasher K.hash_input K.eq self.old shard slot }
     {
         if shard < self.shards.len() && self.shards[shard].is_full(slot) {

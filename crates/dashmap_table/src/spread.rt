@@ -13,10 +13,11 @@ use std::hash::{BuildHasher, Hasher};
 pub struct SpreadState;
 
 /// A hasher whose hash is told by one byte, put in the highest place: the first byte of the last write, whatever
-/// came before it and whatever stands behind it. A write of no bytes changes nothing, and before any write the byte is 0.
+/// came before it and whatever stands behind it. A write of no bytes changes nothing, and before any write the byte is
+/// 0.
 ///
-/// So a number of any width gives its lowest byte. A text gives 255, since its last write is the byte that ends it: this
-/// hasher is for number keys.
+/// So a number of any width gives its lowest byte. A text gives 255, since its last write is the byte that ends it:
+/// this hasher is for number keys.
 #[derive(Clone, Copy)]
 pub struct SpreadHasher {
     first: u8,

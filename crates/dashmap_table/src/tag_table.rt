@@ -1,5 +1,7 @@
 //! A table of tags: a byte for each slot, which are looked through sixteen at a time, and the slots beside them.
-ghost use Rattle.std.specs.Prelude.{◌≡◌, ℕ, ◌+◌, ◌*◌, ◌%◌, ◌^◌, ◌<◌, ◌≤◌, ◌↔◌, [], None, Some, IsTrue, IsSome, IfSome, IfNone, MatchOption, IfOk, IfErr, OnOk, OnErr, length, replicate, slice_index, slice_set, ◌==◌};
+ghost use Rattle.std.specs.Prelude.{◌≡◌, ℕ, ◌+◌, ◌*◌, ◌%◌, ◌^◌, ◌<◌, ◌≤◌, ◌↔◌, [], None, Some, IsTrue, IsSome, IfSome};
+ghost use Rattle.std.specs.Prelude.{IfNone, MatchOption, IfOk, IfErr, OnOk, OnErr, length, replicate, slice_index};
+ghost use Rattle.std.specs.Prelude.{slice_set, ◌==◌};
 ghost use Rattle.std.specs.Option.{option_map, option_copied_mut, is_some};
 ghost use Rattle.std.specs.Borrow.{sem};
 ghost use Rattle.dashmap_table.specs.Slots.{at, count, slot_of, entry_of, entry_with, pair_of, AreDistinct, IsNextFull};
@@ -17,8 +19,8 @@ use std::alloc::Allocator;
 use std::hash::Hash;
 use std::marker::Model;
 
-/// Tags and slots, seen as the slots and the room that there is. A slot is always empty, unless there is none at all, so
-/// that each look-up ends.
+/// Tags and slots, seen as the slots and the room that there is. A slot is always empty, unless there is none at all,
+/// so that each look-up ends.
 #[derive(Drop)]
 pub(crate) struct TagTable<K: Eq + Hash, V, A: Allocator> {
     tags: Tags<A>,
@@ -139,7 +141,8 @@ impl<K: Eq + Hash, V, A: Allocator> TagTable<K, V, A> {
     #[inline(always)]
     pub(crate) fn find(&self, hash: u64, key: &K) -> Option<usize>
         ensures slot { result ≡ slot_of K.eq self.now.slots hash key.now }
-        ensures equal { IfSome result (λ i. IfSome (at self.now.slots i) (λ e. (e.hash ≡ hash) × IsTrue (K.eq e.key key.now))) }
+        ensures equal { IfSome result
+            (λ i. IfSome (at self.now.slots i) (λ e. (e.hash ≡ hash) × IsTrue (K.eq e.key key.now))) }
         ensures sound { IsSound K.eq self.now }
     {
         find_slot(self.tags.as_slice(), self.slots.as_slice(), hash, key)
@@ -188,7 +191,8 @@ impl<K: Eq + Hash, V, A: Allocator> TagTable<K, V, A> {
     }
 
     pub(crate) fn next_from(&self, slot: usize) -> Option<usize>
-        ensures { MatchOption result ((i : ℕ) → slot ≤ i → at self.now.slots i ≡ None) (IsNextFull self.now.slots slot) }
+        ensures { MatchOption result ((i : ℕ) → slot ≤ i → at self.now.slots i ≡ None)
+            (IsNextFull self.now.slots slot) }
     {
         full_slot_from(self.tags.as_slice(), slot)
     }
@@ -409,9 +413,13 @@ impl<K: Eq + Hash, V, A: Allocator> TagTable<K, V, A> {
         K: Drop,
         V: Drop,
         A: Clone,
-        ensures present { IfSome (slot_of K.eq self.old.slots hash key) (λ i. (result ≡ Ok (i, option_map (λ e. e.value) (at self.old.slots i))) × (self.new ≡ with_value self.old i value)) }
-        ensures added { IfNone (slot_of K.eq self.old.slots hash key) (IfOk result (λ r. (r.1 ≡ None) × Adds K.eq self.old self.new (entry_with hash key value) r.0)) }
-        ensures refused { IfErr result (λ back. (back ≡ (key, value)) × (self.new ≡ self.old) × (self.old.room ≤ count self.old.slots)) }
+        ensures present { IfSome (slot_of K.eq self.old.slots hash key)
+            (λ i. (result ≡ Ok (i, option_map (λ e. e.value) (at self.old.slots i)))
+            × (self.new ≡ with_value self.old i value)) }
+        ensures added { IfNone (slot_of K.eq self.old.slots hash key)
+            (IfOk result (λ r. (r.1 ≡ None) × Adds K.eq self.old self.new (entry_with hash key value) r.0)) }
+        ensures refused { IfErr result
+            (λ back. (back ≡ (key, value)) × (self.new ≡ self.old) × (self.old.room ≤ count self.old.slots)) }
         ensures sound { IsSound K.eq self.new }
     {
         if let Some(slot) = self.find(hash, &key) {
@@ -435,9 +443,13 @@ impl<K: Eq + Hash, V, A: Allocator> TagTable<K, V, A> {
         K: Drop,
         V: Drop,
         A: Clone,
-        ensures present { IfSome (slot_of K.eq self.old.slots hash key) (λ i. (result ≡ Ok (i, option_map (λ e. e.value) (at self.old.slots i))) × (self.new ≡ with_value self.old i value)) }
-        ensures added { IfNone (slot_of K.eq self.old.slots hash key) (IfOk result (λ r. (r.1 ≡ None) × Adds K.eq self.old self.new (entry_with hash key value) r.0)) }
-        ensures refused { IfErr result (λ back. (back ≡ (key, value)) × (self.new ≡ self.old) × (self.old.room ≤ count self.old.slots)) }
+        ensures present { IfSome (slot_of K.eq self.old.slots hash key)
+            (λ i. (result ≡ Ok (i, option_map (λ e. e.value) (at self.old.slots i)))
+            × (self.new ≡ with_value self.old i value)) }
+        ensures added { IfNone (slot_of K.eq self.old.slots hash key)
+            (IfOk result (λ r. (r.1 ≡ None) × Adds K.eq self.old self.new (entry_with hash key value) r.0)) }
+        ensures refused { IfErr result
+            (λ back. (back ≡ (key, value)) × (self.new ≡ self.old) × (self.old.room ≤ count self.old.slots)) }
         ensures sound { IsSound K.eq self.new }
     {
         if self.left < 1 {

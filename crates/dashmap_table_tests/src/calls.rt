@@ -28,8 +28,8 @@ pub enum Call {
     HasRoomAtMost(usize),
     /// Puts in the keys from one number up to below another, each with itself, and answers how many were new.
     InsertEach(Hashes, u64, u64),
-    /// Finds the keys from one number up to below another that leave this rest when they are divided by two, and answers how many are there
-    /// with themselves.
+    /// Finds the keys from one number up to below another that leave this rest when they are divided by two, and
+    /// answers how many are there with themselves.
     FindEach(Hashes, u64, u64, u64),
     /// As `FindEach`, and takes them out.
     RemoveEach(Hashes, u64, u64, u64),

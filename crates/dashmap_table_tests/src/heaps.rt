@@ -38,7 +38,8 @@ fn has_all(shard: &mut Small<'_>, count: u64) -> bool {
         && answers(shard, Call::Len, Answer::Number(count))
 }
 
-/// On a heap: how many of ten keys are taken, if a refused one comes back and changes nothing, and one that is there needs no memory.
+/// On a heap: how many of ten keys are taken, if a refused one comes back and changes nothing, and one that is there
+/// needs no memory.
 fn taken_of_ten(heap: &LocalHeap) -> Option<u64> {
     let (mut shard, count) = packed(heap, 10);
     let capacity = shard.capacity();

@@ -1,5 +1,5 @@
-//! Odd keys: one that stands alone, ones that are compared by one field of two, ones that share a hash, and the least and the
-//! greatest.
+//! Odd keys: one that stands alone, ones that are compared by one field of two, ones that share a hash, and the least
+//! and the greatest.
 
 use dashmap_table::{MapFault, Shards};
 use std::hash::{BuildHasher, BuildHasherDefault, FoldHasher, Hasher};

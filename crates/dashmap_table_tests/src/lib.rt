@@ -1,5 +1,6 @@
-//! Tests of what stands below the locks: shards and their tables of tags, views, parallel forms of both, and small things of guards; and
-//! of recorded histories. They try what no contract says. A call on a shard of numbers is data, and so is what it answers: a case is a row of a table.
+//! Tests of what stands below the locks: shards and their tables of tags, views, parallel forms of both, and small
+//! things of guards; and of recorded histories. They try what no contract says. A call on a shard of numbers is data,
+//! and so is what it answers: a case is a row of a table.
 #![tactic(auto)]
 
 #[cfg(test)]

@@ -1,7 +1,8 @@
-//! Tests of what stands on the running map: the set, parallel forms, and maps that are taken apart, for what no clause says.
+//! Tests of what stands on the running map: the set, parallel forms, and maps that are taken apart, for what no clause
+//! says.
 //!
-//! A call on a set is data ([`sets::Call`]), and so is what it answers: a case is a row of a table, which is run on a set over each kind of
-//! lock.
+//! A call on a set is data ([`sets::Call`]), and so is what it answers: a case is a row of a table, which is run on a
+//! set over each kind of lock.
 #![tactic(auto)]
 
 #[cfg(test)]

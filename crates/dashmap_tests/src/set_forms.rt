@@ -37,7 +37,8 @@ fn visited<R: Threads + Wait + Sync + Drop>(
     Some((visits.load(Ordering::SeqCst), sum.load(Ordering::SeqCst)))
 }
 
-/// On a set of so many threads' shards: whether each form does with each number of threads' data what calls one by one do.
+/// On a set of so many threads' shards: whether each form does with each number of threads' data what calls one by one
+/// do.
 fn agrees<R: Wait + Threads + Copy + Send + Sync + Drop>(
     rt: R,
     alloc: Global,

@@ -29,7 +29,8 @@ module _ {K V : Type 0} (eq : K → K → Bool) (old new : List (Table K V)) (cl
     | inl here ↦ AllZip-get_or (IsCloneOf eq) old new i no_pairs no_pairs cloned here
     | inr behind ↦
         subst (λ (t : Table K V). IsCloneOf eq t (table_at new i)) (sym (get_or_past old i no_pairs behind))
-        (subst (λ (t : Table K V). IsCloneOf eq no_pairs t) (sym (get_or_past new i no_pairs (omega (arith, behind, as_many))))
+        (subst (λ (t : Table K V). IsCloneOf eq no_pairs t)
+        (sym (get_or_past new i no_pairs (omega (arith, behind, as_many))))
         (record { pairs = record { found = λ h k. refl; counted = refl }; sound = no_pairs-sound eq }))
   ]
 
@@ -42,20 +43,26 @@ module _ {K V : Type 0} (eq : K → K → Bool) (old new : List (Table K V)) (cl
     same_shard k = ap (λ n. route_of (key_hash b h input s k) n) as_many
 
     -- every key finds what it found
-    pub pairs-cloned : (k : K) → pair_at b h input eq (record { tables = new; hasher = s }) k ≡ pair_at b h input eq (record { tables = old; hasher = s }) k
+    pub pairs-cloned : (k : K) → pair_at b h input eq (record { tables = new; hasher = s }) k ≡ pair_at b h input eq
+        (record { tables = old; hasher = s }) k
     pairs-cloned k =
         ap (λ n. option_map pair_of (entry_of eq (table_at new n).slots (key_hash b h input s k) k)) (same_shard k)
-        ∙ ap (option_map pair_of) ((clone-at (key_shard b h input (with_tables old) k)).pairs.found (key_hash b h input s k) k)
+        ∙ ap (option_map pair_of)
+        ((clone-at (key_shard b h input (with_tables old) k)).pairs.found (key_hash b h input s k) k)
 
     -- each pair is where it was
-    pub sharded-cloned : IsEquivalence eq → AreSharded b h input eq (record { tables = old; hasher = s }) → AreSharded b h input eq (record { tables = new; hasher = s })
+    pub sharded-cloned : IsEquivalence eq → AreSharded b h input eq (record { tables = old; hasher = s })
+        → AreSharded b h input eq (record { tables = new; hasher = s })
     sharded-cloned laws sharded = record {
       amount = subst IsShardAmount (sym as_many) sharded.amount;
       sound = λ i. (clone-at i).sound;
       routed = λ i slot e here.
           let clone = clone-at i in
-          let found : entry_of eq (table_at new i).slots e.hash e.key ≡ Some e = entry_of-at eq laws (table_at new i).slots clone.sound.distinct e.hash e.key slot e here (holds-own eq laws e) in
-          let was = entry_of-is eq (table_at old i).slots e.hash e.key e (sym (clone.pairs.found e.hash e.key) ∙ found) in
+          let found : entry_of eq (table_at new i).slots e.hash e.key ≡ Some e =
+          entry_of-at eq laws (table_at new i).slots clone.sound.distinct e.hash e.key slot e here
+          (holds-own eq laws e) in
+          let was = entry_of-is eq (table_at old i).slots e.hash e.key e (sym (clone.pairs.found e.hash e.key) ∙ found)
+          in
           let home = sharded.routed i was.0 e was.2 in
           (home.0, same_shard e.key ∙ home.1);
     }

@@ -13,11 +13,13 @@ use Rattle.dashmap_table.specs.Shards.{table_at, key_hash}
 module _ {K V S H : Type 0} (b : builder.Ghosts S H) (h : hasher.Ghosts H) (input : K → HashWrites) where
   -- an entry is kept under its key's hash, in the shard of its route
   abbrev pub IsHome : S → ℕ → ℕ → Entry K V → Type 0
-  IsHome hasher amount number e = (e.hash ≡ key_hash b h input hasher e.key) × (route_of (key_hash b h input hasher e.key) amount ≡ number)
+  IsHome hasher amount number e = (e.hash ≡ key_hash b h input hasher e.key)
+      × (route_of (key_hash b h input hasher e.key) amount ≡ number)
 
   -- each entry of a shard is
   abbrev pub IsShardHome : S → ℕ → ℕ → Table K V → Type 0
-  IsShardHome hasher amount number t = (slot : ℕ) (e : Entry K V) → at t.slots slot ≡ Some e → IsHome hasher amount number e
+  IsShardHome hasher amount number t = (slot : ℕ) (e : Entry K V) → at t.slots slot ≡ Some e
+      → IsHome hasher amount number e
 
   -- each entry of each shard is
   abbrev pub AreRouted : S → List (Table K V) → Type 0

@@ -9,7 +9,8 @@ use dashmap_table::{NoMemory, Shard};
 use std::alloc::Allocator;
 use std::hash::Hash;
 
-/// Adds a clone of the pair in a slot to a shard that has room for it and doesn't have its key. A free slot adds nothing.
+/// Adds a clone of the pair in a slot to a shard that has room for it and doesn't have its key. A free slot adds
+/// nothing.
 fn clone_slot<K: Eq + Hash + Clone + Drop, V: Clone + Drop, A: Allocator>(
     shard: &Shard<K, V, A>,
     slot: usize,
@@ -19,7 +20,9 @@ fn clone_slot<K: Eq + Hash + Clone + Drop, V: Clone + Drop, A: Allocator>(
     requires values { (value copy : V) → V.is_clone value copy → copy ≡ value }
     requires absent { IfSome (at shard.now.slots slot) (λ e. slot_of K.eq clones.slots e.hash e.key ≡ None) }
     requires room { IfSome (at shard.now.slots slot) (λ e. count clones.slots < clones.room) }
-    ensures { IfOk result (λ after. MatchOption (at shard.now.slots slot) (after ≡ clones) (λ e. (i : ℕ) × Adds K.eq clones after e i × IsSound K.eq after)) }
+    ensures { IfOk result
+        (λ after. MatchOption (at shard.now.slots slot) (after ≡ clones)
+        (λ e. (i : ℕ) × Adds K.eq clones after e i × IsSound K.eq after)) }
 {
     let (Some(hash), Some((key, value))) = (shard.hash_of(slot), shard.pair(slot)) else {
         return Ok(clones);

@@ -6,7 +6,8 @@ use std::error::Error;
 use std::fmt;
 use std::marker::Model;
 
-/// What isn't made into a view, since a pair lies in a wrong shard or under a wrong hash: code 33. It holds what was handed in.
+/// What isn't made into a view, since a pair lies in a wrong shard or under a wrong hash: code 33. It holds what was
+/// handed in.
 ///
 /// No call of these crates causes it: who makes shards by hand may.
 #[derive(Drop)]

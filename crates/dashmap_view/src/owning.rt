@@ -10,10 +10,11 @@ use std::iter::FusedIterator;
 use std::marker::Model;
 use std::vec;
 
-/// The pairs of shards that are given up, shards and their slots in order. A contract sees the list of those that are left.
+/// The pairs of shards that are given up, shards and their slots in order. A contract sees the list of those that are
+/// left.
 ///
-/// It gives up a shard's memory once its pairs are given, and takes none. Each pair comes once, and behind the last it gives `None`
-/// for good.
+/// It gives up a shard's memory once its pairs are given, and takes none. Each pair comes once, and behind the last it
+/// gives `None` for good.
 #[derive(Drop)]
 pub struct OwningIter<K: Eq + Hash, V, A: Allocator = Global> {
     pairs: Option<ShardPairs<K, V, A>>,

@@ -1,7 +1,7 @@
 //! Parallel forms over plain shards: the pairs of one shard are one piece of work, and shards go side by side.
 //!
-//! [`Iter`] lends the pairs, [`OwningIter`] gives them away, and [`par_write`] lends values for writing. Each is handed the runtime
-//! that starts threads, at the call that does the work.
+//! [`Iter`] lends the pairs, [`OwningIter`] gives them away, and [`par_write`] lends values for writing. Each is handed
+//! the runtime that starts threads, at the call that does the work.
 
 pub mod join;
 mod lent;

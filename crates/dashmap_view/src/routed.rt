@@ -19,7 +19,8 @@ fn is_home<K: Eq + Hash, V, S: BuildHasher, A: Allocator>(
     hasher: &S,
 ) -> bool
     requires { IsShardAmount amount }
-    ensures { IfSome (at shard.now.slots slot) (λ e. IsTrue result ↔ IsHome S.BuildHasher S.Hasher.Hasher K.hash_input hasher.now amount number e) }
+    ensures { IfSome (at shard.now.slots slot)
+        (λ e. IsTrue result ↔ IsHome S.BuildHasher S.Hasher.Hasher K.hash_input hasher.now amount number e) }
 {
     match (shard.hash_of(slot), shard.pair(slot)) {
         (Some(kept), Some((key, _))) => {
@@ -38,7 +39,8 @@ fn is_shard_home<K: Eq + Hash, V, S: BuildHasher, A: Allocator>(
     hasher: &S,
 ) -> bool
     requires { IsShardAmount amount }
-    ensures home { IsTrue result ↔ IsShardHome S.BuildHasher S.Hasher.Hasher K.hash_input hasher.now amount number shard.now }
+    ensures home { IsTrue result ↔ IsShardHome S.BuildHasher S.Hasher.Hasher K.hash_input hasher.now amount number
+        shard.now }
     ensures sound { IsSound K.eq shard.now }
 {
     let mut slot = 0;

@@ -21,8 +21,8 @@ use std::marker::Model;
 
 /// The shards of a map and its hasher, as long as nobody writes them. It needs no lock, and its calls take no memory.
 ///
-/// A contract sees what it sees of plain shards (`Tables`), and a key's pair by `pair_at`. Each pair is in the shard of its key's
-/// route, under its key's hash.
+/// A contract sees what it sees of plain shards (`Tables`), and a key's pair by `pair_at`. Each pair is in the shard of
+/// its key's route, under its key's hash.
 ///
 /// ```rust
 /// let view = PlainView::of(shards, hasher).map_err(|_| "a pair in a wrong shard")?;
@@ -43,21 +43,23 @@ impl<K: Eq + Hash, V, S: BuildHasher, A: Allocator> Model for PlainView<K, V, S,
 
     ghost view = { λ v. record { tables = v.shards.items; hasher = v.hasher } };
 
-    ghost invariant = { λ v. AreSharded S.BuildHasher S.Hasher.Hasher K.hash_input K.eq (record { tables = v.shards.items; hasher = v.hasher }) };
+    ghost invariant = { λ v. AreSharded S.BuildHasher S.Hasher.Hasher K.hash_input K.eq
+        (record { tables = v.shards.items; hasher = v.hasher }) };
 }
 
 impl<K: Eq + Hash, V, S: BuildHasher, A: Allocator> PlainView<K, V, S, A> {
     /// A view of these shards, of which there is a power of two from 2 to 65,536.
     ///
-    /// It tests each pair once. Where one lies in a shard that isn't its key's, or under another hash than its key's, there is no view,
-    /// and the shards come back.
+    /// It tests each pair once. Where one lies in a shard that isn't its key's, or under another hash than its key's,
+    /// there is no view, and the shards come back.
     pub fn of(
         shards: Vec<Shard<K, V, A>, A>,
         hasher: S,
     ) -> Result<PlainView<K, V, S, A>, Displaced<(Vec<Shard<K, V, A>, A>, S)>>
         requires { IsShardAmount (length shards.items) }
         ensures view { IfOk result (λ v. v ≡ record { tables = shards.items; hasher = hasher }) }
-        ensures displaced { IfErr result (λ back. (back ≡ (shards, hasher)) × ¬ AreRouted S.BuildHasher S.Hasher.Hasher K.hash_input hasher shards.items) }
+        ensures displaced { IfErr result (λ back. (back ≡ (shards, hasher)) × ¬ AreRouted S.BuildHasher S.Hasher.Hasher K.hash_input
+            hasher shards.items) }
     {
         if are_routed(&shards, &hasher) {
             Ok(PlainView { shards, hasher })
@@ -68,7 +70,8 @@ impl<K: Eq + Hash, V, S: BuildHasher, A: Allocator> PlainView<K, V, S, A> {
 
     /// A view of shards and a hasher that are known to belong together, as those of another view do. It tests nothing.
     pub fn from_parts(plain: Vec<Shard<K, V, A>, A>, hasher: S) -> PlainView<K, V, S, A>
-        requires { AreSharded S.BuildHasher S.Hasher.Hasher K.hash_input K.eq (record { tables = plain.items; hasher = hasher }) }
+        requires { AreSharded S.BuildHasher S.Hasher.Hasher K.hash_input K.eq
+            (record { tables = plain.items; hasher = hasher }) }
         ensures { result ≡ record { tables = plain.items; hasher = hasher } }
     {
         PlainView {
@@ -77,7 +80,8 @@ impl<K: Eq + Hash, V, S: BuildHasher, A: Allocator> PlainView<K, V, S, A> {
         }
     }
 
-    /// A view of clones of all pairs, with as many shards. Keys, values and the hasher have to be equal to their clones.
+    /// A view of clones of all pairs, with as many shards. Keys, values and the hasher have to be equal to their
+    /// clones.
     pub fn clone(&self) -> Result<PlainView<K, V, S, A>, NoMemory>
     where
         K: Clone + Drop,
@@ -89,7 +93,9 @@ impl<K: Eq + Hash, V, S: BuildHasher, A: Allocator> PlainView<K, V, S, A> {
         requires hasher { (hasher copy : S) → S.is_clone hasher copy → copy ≡ hasher }
         ensures shards { IfOk result (λ v. AllZip (IsCloneOf K.eq) self.now.tables v.tables) }
         ensures hasher { IfOk result (λ v. v.hasher ≡ self.now.hasher) }
-        ensures pairs { IfOk result (λ v. (q : K) → pair_at S.BuildHasher S.Hasher.Hasher K.hash_input K.eq v q ≡ pair_at S.BuildHasher S.Hasher.Hasher K.hash_input K.eq self.now q) }
+        ensures pairs { IfOk result
+            (λ v. (q : K) → pair_at S.BuildHasher S.Hasher.Hasher K.hash_input K.eq v q ≡ pair_at S.BuildHasher
+            S.Hasher.Hasher K.hash_input K.eq self.now q) }
     {
         let hasher = clone_hasher(&self.hasher)?;
         let shards = clone_shards(&self.shards, self.shards.allocator().clone()?)?;
@@ -144,7 +150,8 @@ impl<K: Eq + Hash, V, S: BuildHasher, A: Allocator> PlainView<K, V, S, A> {
 
     /// Lends the stored pair of a key.
     pub fn get_key_value(&self, key: &K) -> Option<(&K, &V)>
-        ensures { option_map (λ p. (p.0.now, p.1.now)) result ≡ pair_at S.BuildHasher S.Hasher.Hasher K.hash_input K.eq self.now key.now }
+        ensures { option_map (λ p. (p.0.now, p.1.now)) result ≡ pair_at S.BuildHasher S.Hasher.Hasher K.hash_input K.eq
+            self.now key.now }
     {
         let hash = self.hasher.hash_one(key);
         let shard = &self.shards[route(hash, self.shards.len())];
@@ -153,7 +160,8 @@ impl<K: Eq + Hash, V, S: BuildHasher, A: Allocator> PlainView<K, V, S, A> {
 
     /// Lends the value of a key.
     pub fn get(&self, key: &K) -> Option<&V>
-        ensures { option_copied result ≡ option_map (λ p. p.1) (pair_at S.BuildHasher S.Hasher.Hasher K.hash_input K.eq self.now key.now) }
+        ensures { option_copied result ≡ option_map (λ p. p.1)
+            (pair_at S.BuildHasher S.Hasher.Hasher K.hash_input K.eq self.now key.now) }
     {
         let (_, value) = self.get_key_value(key)?;
         Some(value)

@@ -11,7 +11,8 @@ timed_answer (Err fault) = Err fault
 
 -- the raw condition variable refused a wait so, with some token of the mutex
 abbrev pub WasRefused : {G A : Type 0} → Bool → (G → G → Result A WaitFault → Type 0) → WaitFault → Type 0
-WasRefused {G} {A} same_lot waited fault = (before : G) × (after : G) × IsRefusedRightly {A = A} same_lot before after (Err fault) × waited before after (Err fault)
+WasRefused {G} {A} same_lot waited fault = (before : G) × (after : G) × IsRefusedRightly {A = A} same_lot before after
+    (Err fault) × waited before after (Err fault)
 
 -- a timed wait on the raw condition variable ran out
 abbrev pub RanOut : {G : Type 0} → (G → G → Result Bool WaitFault → Type 0) → Type 0

@@ -12,8 +12,8 @@ use std::sync::{Arc, Wait};
 
 /// The guard of a mutex that owns an Arc of it.
 ///
-/// It keeps the raw token alone, and takes the std lock of the value inside `with` and `with_mut`. Its drop releases the
-/// raw mutex, and then lets the Arc go.
+/// It keeps the raw token alone, and takes the std lock of the value inside `with` and `with_mut`. Its drop releases
+/// the raw mutex, and then lets the Arc go.
 pub type ArcMutexGuard<R, T, A = Global> = ArcGuard<RawHold<Arc<Mutex<R, T>, A>, Locked>>;
 
 impl<R: RawMutex + Drop, T: Drop> Mutex<R, T>

@@ -53,7 +53,8 @@ where
     H::Runtime: Wait,
     <C::RawMutex as RawMutex>::Runtime: Wait,
     ensures place { H.place_of guard.new.held.0 ≡ H.place_of guard.old.held.0 }
-    ensures refused { IsRefusedRightly (C.same_lot raw.now (H.Place.raw_of (H.place_of guard.old.held.0))) (H.token_of guard.old.held.0) (H.token_of guard.new.held.0) result }
+    ensures refused { IsRefusedRightly (C.same_lot raw.now (H.Place.raw_of (H.place_of guard.old.held.0)))
+        (H.token_of guard.old.held.0) (H.token_of guard.new.held.0) result }
     ensures answer { C.waited raw.now (H.token_of guard.old.held.0) (H.token_of guard.new.held.0) result }
 {
     mem::replace_with(
@@ -61,7 +62,8 @@ where
         party,
         |guard, party| -> (Guard<W, H>, Result<(), WaitFault>)
             ensures place { H.place_of result.0.held.0 ≡ H.place_of guard.held.0 }
-            ensures refused { IsRefusedRightly (C.same_lot raw.entry.now (H.Place.raw_of (H.place_of guard.held.0))) (H.token_of guard.held.0) (H.token_of result.0.held.0) result.1 }
+            ensures refused { IsRefusedRightly (C.same_lot raw.entry.now (H.Place.raw_of (H.place_of guard.held.0)))
+                (H.token_of guard.held.0) (H.token_of result.0.held.0) result.1 }
             ensures answer { C.waited raw.entry.now (H.token_of guard.held.0) (H.token_of result.0.held.0) result.1 }
         {
             let (place, token) = Guard::into_hold(guard).into_parts();
@@ -84,7 +86,8 @@ where
     H::Runtime: Wait,
     <C::RawMutex as RawMutex>::Runtime: Wait,
     ensures place { H.place_of guard.new.held.0 ≡ H.place_of guard.old.held.0 }
-    ensures refused { IsRefusedRightly (C.same_lot raw.now (H.Place.raw_of (H.place_of guard.old.held.0))) (H.token_of guard.old.held.0) (H.token_of guard.new.held.0) result }
+    ensures refused { IsRefusedRightly (C.same_lot raw.now (H.Place.raw_of (H.place_of guard.old.held.0)))
+        (H.token_of guard.old.held.0) (H.token_of guard.new.held.0) result }
     ensures answer { C.waited_in_time raw.now (H.token_of guard.old.held.0) (H.token_of guard.new.held.0) result }
 {
     mem::replace_with(
@@ -92,8 +95,10 @@ where
         deadline,
         |guard, deadline| -> (Guard<W, H>, Result<bool, WaitFault>)
             ensures place { H.place_of result.0.held.0 ≡ H.place_of guard.held.0 }
-            ensures refused { IsRefusedRightly (C.same_lot raw.entry.now (H.Place.raw_of (H.place_of guard.held.0))) (H.token_of guard.held.0) (H.token_of result.0.held.0) result.1 }
-            ensures answer { C.waited_in_time raw.entry.now (H.token_of guard.held.0) (H.token_of result.0.held.0) result.1 }
+            ensures refused { IsRefusedRightly (C.same_lot raw.entry.now (H.Place.raw_of (H.place_of guard.held.0)))
+                (H.token_of guard.held.0) (H.token_of result.0.held.0) result.1 }
+            ensures answer { C.waited_in_time raw.entry.now (H.token_of guard.held.0) (H.token_of result.0.held.0)
+                result.1 }
         {
             let (place, token) = Guard::into_hold(guard).into_parts();
             let (token, answer) = raw.wait_until(place.raw_mutex(), token, deadline, clock, party);
@@ -115,7 +120,8 @@ where
     H::Runtime: Wait,
     <C::RawMutex as RawMutex>::Runtime: Wait,
     ensures place { H.place_of guard.new.held.0 ≡ H.place_of guard.old.held.0 }
-    ensures refused { IsRefusedRightly (C.same_lot raw.now (H.Place.raw_of (H.place_of guard.old.held.0))) (H.token_of guard.old.held.0) (H.token_of guard.new.held.0) result }
+    ensures refused { IsRefusedRightly (C.same_lot raw.now (H.Place.raw_of (H.place_of guard.old.held.0)))
+        (H.token_of guard.old.held.0) (H.token_of guard.new.held.0) result }
     ensures answer { C.waited_in_time raw.now (H.token_of guard.old.held.0) (H.token_of guard.new.held.0) result }
 {
     mem::replace_with(
@@ -123,8 +129,10 @@ where
         timeout,
         |guard, timeout| -> (Guard<W, H>, Result<bool, WaitFault>)
             ensures place { H.place_of result.0.held.0 ≡ H.place_of guard.held.0 }
-            ensures refused { IsRefusedRightly (C.same_lot raw.entry.now (H.Place.raw_of (H.place_of guard.held.0))) (H.token_of guard.held.0) (H.token_of result.0.held.0) result.1 }
-            ensures answer { C.waited_in_time raw.entry.now (H.token_of guard.held.0) (H.token_of result.0.held.0) result.1 }
+            ensures refused { IsRefusedRightly (C.same_lot raw.entry.now (H.Place.raw_of (H.place_of guard.held.0)))
+                (H.token_of guard.held.0) (H.token_of result.0.held.0) result.1 }
+            ensures answer { C.waited_in_time raw.entry.now (H.token_of guard.held.0) (H.token_of result.0.held.0)
+                result.1 }
         {
             let (place, token) = Guard::into_hold(guard).into_parts();
             let (token, answer) = raw.wait_for(place.raw_mutex(), token, timeout, clock, party);
@@ -175,7 +183,8 @@ where
         party: &mut <C::RawMutex as RawMutex>::Party,
     ) -> Result<(), WaitFault>
         ensures lock { guard.new.held.0.place ≡ guard.old.held.0.place }
-        ensures refused { IsRefusedRightly (C.same_lot self.now.raw guard.old.held.0.place.now) guard.old.held.0.token guard.new.held.0.token result }
+        ensures refused { IsRefusedRightly (C.same_lot self.now.raw guard.old.held.0.place.now) guard.old.held.0.token
+            guard.new.held.0.token result }
         ensures answer { C.waited self.now.raw guard.old.held.0.token guard.new.held.0.token result }
     {
         waits(&self.raw, guard, party)
@@ -190,9 +199,11 @@ where
         mut condition: F,
     ) -> Result<(), WaitFault>
         requires { F.IsAlwaysCallable condition }
-        ensures value { OnOk result (StoppedAt F.step (CallKeepsClosure F.FnMut condition) condition (mutex_guard_value guard.new.inner)) }
+        ensures value { OnOk result
+            (StoppedAt F.step (CallKeepsClosure F.FnMut condition) condition (mutex_guard_value guard.new.inner)) }
         ensures lock { guard.new.held.0.place ≡ guard.old.held.0.place }
-        ensures refused { IfErr result (WasRefused (C.same_lot self.now.raw guard.old.held.0.place.now) (C.waited self.now.raw)) }
+        ensures refused { IfErr result
+            (WasRefused (C.same_lot self.now.raw guard.old.held.0.place.now) (C.waited self.now.raw)) }
     {
         for _ in mutex_of(guard).raw().runtime().forever() {
             if !condition(&mut **guard) {
@@ -232,8 +243,10 @@ where
         party: &mut <C::RawMutex as RawMutex>::Party,
     ) -> Result<WaitTimeoutResult, WaitFault>
         ensures lock { guard.new.held.0.place ≡ guard.old.held.0.place }
-        ensures refused { IsRefusedRightly (C.same_lot self.now.raw guard.old.held.0.place.now) guard.old.held.0.token guard.new.held.0.token result }
-        ensures answer { C.waited_in_time self.now.raw guard.old.held.0.token guard.new.held.0.token (timed_answer result) }
+        ensures refused { IsRefusedRightly (C.same_lot self.now.raw guard.old.held.0.place.now) guard.old.held.0.token
+            guard.new.held.0.token result }
+        ensures answer { C.waited_in_time self.now.raw guard.old.held.0.token guard.new.held.0.token
+            (timed_answer result) }
     {
         timed(waits_until(&self.raw, guard, deadline, clock, party))
     }
@@ -247,14 +260,16 @@ where
         party: &mut <C::RawMutex as RawMutex>::Party,
     ) -> Result<WaitTimeoutResult, WaitFault>
         ensures lock { guard.new.held.0.place ≡ guard.old.held.0.place }
-        ensures refused { IsRefusedRightly (C.same_lot self.now.raw guard.old.held.0.place.now) guard.old.held.0.token guard.new.held.0.token result }
-        ensures answer { C.waited_in_time self.now.raw guard.old.held.0.token guard.new.held.0.token (timed_answer result) }
+        ensures refused { IsRefusedRightly (C.same_lot self.now.raw guard.old.held.0.place.now) guard.old.held.0.token
+            guard.new.held.0.token result }
+        ensures answer { C.waited_in_time self.now.raw guard.old.held.0.token guard.new.held.0.token
+            (timed_answer result) }
     {
         timed(waits_for(&self.raw, guard, timeout, clock, party))
     }
 
-    /// As `wait_while`, until the moment at the latest. It timed out exactly if the condition's last answer, asked after
-    /// the time ran out, was true.
+    /// As `wait_while`, until the moment at the latest. It timed out exactly if the condition's last answer, asked
+    /// after the time ran out, was true.
     pub fn wait_while_until<'l, T, K: Clock, F: FnMut(&mut T) -> bool>(
         &self,
         guard: &mut MutexGuard<'l, C::RawMutex, T>,
@@ -266,10 +281,13 @@ where
     where
         <C::RawMutex as RawMutexTimed>::Instant: Copy,
         requires { F.IsAlwaysCallable condition }
-        ensures value { IfOk result (λ answer. AnsweredAt F.step (CallKeepsClosure F.FnMut condition) condition answer.0 (mutex_guard_value guard.new.inner)) }
+        ensures value { IfOk result
+            (λ answer. AnsweredAt F.step (CallKeepsClosure F.FnMut condition) condition answer.0
+            (mutex_guard_value guard.new.inner)) }
         ensures lock { guard.new.held.0.place ≡ guard.old.held.0.place }
         ensures late { IfOk result (λ answer. answer.0 ≡ true → RanOut (C.waited_in_time self.now.raw)) }
-        ensures refused { IfErr result (WasRefused (C.same_lot self.now.raw guard.old.held.0.place.now) (C.waited_in_time self.now.raw)) }
+        ensures refused { IfErr result
+            (WasRefused (C.same_lot self.now.raw guard.old.held.0.place.now) (C.waited_in_time self.now.raw)) }
     {
         let mut ran_out = false;
         for _ in mutex_of(guard).raw().runtime().forever() {
@@ -294,10 +312,14 @@ where
     where
         <C::RawMutex as RawMutexTimed>::Instant: Copy,
         requires { F.IsAlwaysCallable condition }
-        ensures value { IfOk result (λ answer. AnsweredAt F.step (CallKeepsClosure F.FnMut condition) condition answer.0 (mutex_guard_value guard.new.inner)) }
+        ensures value { IfOk result
+            (λ answer. AnsweredAt F.step (CallKeepsClosure F.FnMut condition) condition answer.0
+            (mutex_guard_value guard.new.inner)) }
         ensures lock { guard.new.held.0.place ≡ guard.old.held.0.place }
         ensures late { IfOk result (λ answer. answer.0 ≡ true → RanOut (C.waited_in_time self.now.raw)) }
-        ensures refused { IfErr result (λ fault. WasRefused (C.same_lot self.now.raw guard.old.held.0.place.now) (C.waited self.now.raw) fault ⊎ WasRefused (C.same_lot self.now.raw guard.old.held.0.place.now) (C.waited_in_time self.now.raw) fault) }
+        ensures refused { IfErr result
+            (λ fault. WasRefused (C.same_lot self.now.raw guard.old.held.0.place.now) (C.waited self.now.raw) fault
+            ⊎ WasRefused (C.same_lot self.now.raw guard.old.held.0.place.now) (C.waited_in_time self.now.raw) fault) }
     {
         match C::checked_duration_to_instant(clock, timeout) {
             Some(deadline) => self.wait_while_until(guard, deadline, clock, party, condition),

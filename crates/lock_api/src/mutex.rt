@@ -159,7 +159,8 @@ where
     where
         R: RawMutexTimed,
         ensures lock { IfSome result (λ guard. guard.held.0.place.now ≡ self.now) }
-        ensures call { MatchOption result (R.locked_in_time None) (λ guard. R.locked_in_time (Some guard.held.0.token)) }
+        ensures call { MatchOption result (R.locked_in_time None)
+            (λ guard. R.locked_in_time (Some guard.held.0.token)) }
     {
         let hold = RawHold::wait_for(self, timeout, clock, party)?;
         Some(Guard::under(hold))
@@ -175,7 +176,8 @@ where
     where
         R: RawMutexTimed,
         ensures lock { IfSome result (λ guard. guard.held.0.place.now ≡ self.now) }
-        ensures call { MatchOption result (R.locked_in_time None) (λ guard. R.locked_in_time (Some guard.held.0.token)) }
+        ensures call { MatchOption result (R.locked_in_time None)
+            (λ guard. R.locked_in_time (Some guard.held.0.token)) }
     {
         let hold = RawHold::wait_until(self, deadline, clock, party)?;
         Some(Guard::under(hold))

@@ -54,7 +54,12 @@ where
 
     ghost Value = { Nesting R G };
 
-    ghost view = { λ mutex. record { raw = mutex.raw; get_thread_id = mutex.get_thread_id; limit = mutex.limit; number = mutex.number } };
+    ghost view = { λ mutex. record {
+      raw = mutex.raw;
+      get_thread_id = mutex.get_thread_id;
+      limit = mutex.limit;
+      number = mutex.number;
+    } };
 
     // The slot's token is one of the raw mutex below.
     ghost invariant = { λ mutex. R.number mutex.slot.value ≡ R.number mutex.raw };

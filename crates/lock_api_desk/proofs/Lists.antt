@@ -1,5 +1,7 @@
 -- Look-ups in a mapped list.
-use Rattle.std.proofs.Common.{◌≡◌, ℕ, suc, ◌+◌, ◌<◌, Bool, true, false, cond, ◌||◌, List, [], ◌∷◌, ◌++◌, map, length, take, drop, remove, Option, Some, None, slice_get, find, fold, position, nat_lt, refl, sym, ap, subst, ◌∙◌, inl, inr, arith}
+use Rattle.std.proofs.Common.{◌≡◌, ℕ, suc, ◌+◌, ◌<◌, Bool, true, false, cond, ◌||◌, List, [], ◌∷◌, ◌++◌, map, length}
+use Rattle.std.proofs.Common.{take, drop, remove, Option, Some, None, slice_get, find, fold, position, nat_lt, refl}
+use Rattle.std.proofs.Common.{sym, ap, subst, ◌∙◌, inl, inr, arith}
 use Rattle.std.specs.List.{position_or_len, list_any, count_by}
 use Rattle.std.specs.Option.{option_map, MatchOption}
 use Rattle.std.proofs.lemmas.Option.{none-some, same_Some, slice_get_past}
@@ -12,7 +14,8 @@ module _ {X Y : Type 0} (f : X → Y) where
   list_any-map p [] = refl
   list_any-map p (x ∷ xs) = ap (λ b. p (f x) || b) (list_any-map p xs)
 
-  cond-option_map : (b : Bool) (x : X) (o : Option X) → cond b (Some (f x)) (option_map f o) ≡ option_map f (cond b (Some x) o)
+  cond-option_map : (b : Bool) (x : X) (o : Option X) → cond b (Some (f x)) (option_map f o) ≡ option_map f
+      (cond b (Some x) o)
   cond-option_map true x o = refl
   cond-option_map false x o = refl
 
@@ -44,7 +47,8 @@ module _ {X : Type 0} where
   match_Some o P Q x some q = let F : Option X → Type 0 = λ r. MatchOption r P Q in subst F (sym some) q
 
   -- what is found stands where the position says
-  pub find-position : (p : X → Bool) (xs : List X) (i : ℕ) → position p xs ≡ Some i → (find p xs ≡ slice_get xs i) × (i < length xs)
+  pub find-position : (p : X → Bool) (xs : List X) (i : ℕ) → position p xs ≡ Some i → (find p xs ≡ slice_get xs i)
+      × (i < length xs)
   find-position p xs i at =
       let r = cond-Some (nat_lt (position_or_len p xs) (length xs)) (position_or_len p xs) i at in
       let below = ltb-true (position_or_len p xs) (length xs) r.0 in
@@ -55,10 +59,12 @@ module _ {X : Type 0} where
   pub find-no_position : (p : X → Bool) (xs : List X) → position p xs ≡ None → find p xs ≡ None
   find-no_position p xs none =
       find_at p xs ∙ slice_get_past xs (position_or_len p xs)
-      (ltb-false (position_or_len p xs) (length xs) (cond-None (nat_lt (position_or_len p xs) (length xs)) (position_or_len p xs) none))
+      (ltb-false (position_or_len p xs) (length xs)
+      (cond-None (nat_lt (position_or_len p xs) (length xs)) (position_or_len p xs) none))
 
   -- where no element passes one test, none passes a narrower one
-  pub count_by-none : (p q : X → Bool) → ((x : X) → q x ≡ true → p x ≡ true) → (xs : List X) → list_any p xs ≡ false → count_by q xs ≡ 0
+  pub count_by-none : (p q : X → Bool) → ((x : X) → q x ≡ true → p x ≡ true) → (xs : List X) → list_any p xs ≡ false
+      → count_by q xs ≡ 0
   count_by-none p q narrower [] none = refl
   count_by-none p q narrower (x ∷ xs) none =
       let parts = or_parts (p x) (list_any p xs) none in

@@ -9,7 +9,8 @@ abbrev pub state : {T : Type 0} → ℕ → ℕ → List Guard → T → DeskSta
 state limit room guards value = record { limit = limit; room = room; guards = guards; value = value }
 
 -- states whose parts are equal are one
-pub same_state : {T : Type 0} (value : T) (l m r q : ℕ) (gs hs : List Guard) → l ≡ m → r ≡ q → gs ≡ hs → state l r gs value ≡ state m q hs value
+pub same_state : {T : Type 0} (value : T) (l m r q : ℕ) (gs hs : List Guard) → l ≡ m → r ≡ q → gs ≡ hs
+    → state l r gs value ≡ state m q hs value
 same_state value l m r q gs hs limits rooms guards =
     ap (λ x. state x r gs value) limits ∙ ap (λ x. state m x gs value) rooms ∙ ap (λ x. state m q x value) guards
 

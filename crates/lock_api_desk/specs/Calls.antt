@@ -1,11 +1,17 @@
 -- The table of calls: when each is refused, and what it makes of a desk.
-use Rattle.std.specs.Prelude.{◌≡◌, ◌≤◌, Bool, true, false, Option, Some, None, List, [], ◌∷◌, take, length, slice_get, MatchOption, MatchBool}
+use Rattle.std.specs.Prelude.{◌≡◌, ◌≤◌, Bool, true, false, Option, Some, None, List, [], ◌∷◌, take, length, slice_get}
+use Rattle.std.specs.Prelude.{MatchOption, MatchBool}
 use Rattle.lock_api_desk.specs.declared.mode.Mode.TheVariants.{Shared, Exclusive, Upgradable}
 use Rattle.lock_api_desk.specs.declared.fault.DeskFault.{DeskFault}
 use Rattle.lock_api_desk.specs.declared.fault.DeskFault.TheVariants.{WouldWait, Taken, NoMemory}
 use Rattle.lock_api_desk.specs.declared.fault.DeskRunFault.{DeskRunFault}
 use Rattle.lock_api_desk.specs.declared.call.DeskCall.{DeskCall}
-use Rattle.lock_api_desk.specs.declared.call.DeskCall.TheVariants.{Lock, TryLock, Read, TryRead, Write, TryWrite, UpgradableRead, TryUpgradableRead, Unlock, UnlockFair, Bump, Downgrade, DowngradeToUpgradable, DowngradeUpgradable, Upgrade, TryUpgrade, SetAside, TakeUp, ReadValue, WithUpgraded, TryWithUpgraded, WriteValue}
+use Rattle.lock_api_desk.specs.declared.call.DeskCall.TheVariants.{Lock, TryLock, Read, TryRead, Write, TryWrite}
+use Rattle.lock_api_desk.specs.declared.call.DeskCall.TheVariants.{UpgradableRead, TryUpgradableRead, Unlock}
+use Rattle.lock_api_desk.specs.declared.call.DeskCall.TheVariants.{UnlockFair, Bump, Downgrade, DowngradeToUpgradable}
+use Rattle.lock_api_desk.specs.declared.call.DeskCall.TheVariants.{DowngradeUpgradable, Upgrade, TryUpgrade, SetAside}
+use Rattle.lock_api_desk.specs.declared.call.DeskCall.TheVariants.{TakeUp, ReadValue, WithUpgraded, TryWithUpgraded}
+use Rattle.lock_api_desk.specs.declared.call.DeskCall.TheVariants.{WriteValue}
 use Rattle.lock_api_desk.specs.Guards.{is_held, holds}
 use Rattle.lock_api_desk.specs.Desk.{DeskState, admitted, released, turned, set_apart, with_value, with_room}
 use Rattle.lock_api_desk.specs.Refusals.{acquire_refusal, guard_refusal, upgrade_refusal, take_up_refusal, KeepsRoom}
@@ -75,12 +81,14 @@ module _ {T : Type 0} where
 
 -- a call that isn't refused made a desk into what comes after it, room aside. Room only grows where the call takes a
 -- guard in, and what is there is used first
-pub record Made {T : Type 0} (refusal : Option DeskFault) (takes_room : Bool) (old after new : DeskState T) : Type 0 where
-  pub granted : refusal ≡ None
-  pub state : new ≡ with_room new.room after
-  pub room : MatchBool takes_room (KeepsRoom old new) (new.room ≡ old.room)
+pub record Made {T : Type 0} (refusal : Option DeskFault) (takes_room : Bool) (old after new : DeskState T) : Type 0
+  where
+    pub granted : refusal ≡ None
+    pub state : new ≡ with_room new.room after
+    pub room : MatchBool takes_room (KeepsRoom old new) (new.room ≡ old.room)
 
--- a call is refused as it must be, or it takes a guard in, isn't refused otherwise, and finds no memory where there is no room
+-- a call is refused as it must be, or it takes a guard in, isn't refused otherwise, and finds no memory where there is
+-- no room
 abbrev pub Refused : {T : Type 0} → Option DeskFault → Bool → DeskState T → DeskFault → Type 0
 Refused refusal takes_room desk fault =
     MatchOption refusal
@@ -100,8 +108,9 @@ module _ {T : Type 0} where
   Runs (call ∷ calls) old new = (mid : DeskState T) × Makes call old mid × Runs calls mid new
 
 -- the calls before that place ran, and the call there is refused by the desk that they left
-pub record IsStopped {T : Type 0} (calls : List (DeskCall T)) (old new : DeskState T) (stop : DeskRunFault) : Type 0 where
-  pub ran : Runs (take stop.place calls) old new
-  pub call : DeskCall T
-  pub at : slice_get calls stop.place ≡ Some call
-  pub refused : Refuses call new stop.fault
+pub record IsStopped {T : Type 0} (calls : List (DeskCall T)) (old new : DeskState T) (stop : DeskRunFault) : Type 0
+  where
+    pub ran : Runs (take stop.place calls) old new
+    pub call : DeskCall T
+    pub at : slice_get calls stop.place ≡ Some call
+    pub refused : Refuses call new stop.fault

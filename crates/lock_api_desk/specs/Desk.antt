@@ -5,7 +5,8 @@ use Rattle.lock_api_desk.specs.declared.mode.Mode.{Mode}
 use Rattle.lock_api_desk.specs.Guards.{Guard, amend, held_in, put_aside, without}
 use Rattle.lock_api_desk.specs.Out.{IsOrderly, out_of}
 
--- a desk: its limit of readers, for how many guards there is memory, its guards in the order in which they came, its value
+-- a desk: its limit of readers, for how many guards there is memory, its guards in the order in which they came, its
+-- value
 pub record DeskState (T : Type 0) : Type 0 where
   pub limit : ℕ
   pub room : ℕ

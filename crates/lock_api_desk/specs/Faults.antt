@@ -1,7 +1,8 @@
 -- What the refusals of a desk are called and numbered.
 use Rattle.std.specs.Prelude.{ℕ, List, codes}
 use Rattle.lock_api_desk.specs.declared.fault.DeskFault.{DeskFault}
-use Rattle.lock_api_desk.specs.declared.fault.DeskFault.TheVariants.{WouldWait, Taken, NoSuchGuard, WrongMode, NotTheParty, ReadersFull, GuardInUse, NoMemory}
+use Rattle.lock_api_desk.specs.declared.fault.DeskFault.TheVariants.{WouldWait, Taken, NoSuchGuard, WrongMode}
+use Rattle.lock_api_desk.specs.declared.fault.DeskFault.TheVariants.{NotTheParty, ReadersFull, GuardInUse, NoMemory}
 
 -- the number of a refusal
 abbrev pub fault_code : DeskFault → ℕ

@@ -1,10 +1,12 @@
 -- When a call is refused, want of memory aside, and what a call answers and leaves.
-use Rattle.std.specs.Prelude.{◌≡◌, ℕ, Bool, ◌≤◌, ◌<◌, ◌==◌, if◌then◌else◌, Option, Some, None, Result, Ok, Err, MatchOption, MatchResult, length}
+use Rattle.std.specs.Prelude.{◌≡◌, ℕ, Bool, ◌≤◌, ◌<◌, ◌==◌, if◌then◌else◌, Option, Some, None, Result, Ok, Err}
+use Rattle.std.specs.Prelude.{MatchOption, MatchResult, length}
 use Rattle.std.specs.Option.{option_or}
 use Rattle.lock_api_desk.specs.declared.mode.Mode.{Mode}
 use Rattle.lock_api_desk.specs.declared.mode.Mode.TheVariants.{Upgradable}
 use Rattle.lock_api_desk.specs.declared.fault.DeskFault.{DeskFault}
-use Rattle.lock_api_desk.specs.declared.fault.DeskFault.TheVariants.{WouldWait, NoSuchGuard, WrongMode, NotTheParty, ReadersFull, GuardInUse, NoMemory}
+use Rattle.lock_api_desk.specs.declared.fault.DeskFault.TheVariants.{WouldWait, NoSuchGuard, WrongMode, NotTheParty}
+use Rattle.lock_api_desk.specs.declared.fault.DeskFault.TheVariants.{ReadersFull, GuardInUse, NoMemory}
 use Rattle.lock_api_desk.specs.Guards.{Guard, guard_of, is_in_use, excluded, is_full, is_held_beside, holds}
 use Rattle.lock_api_desk.specs.Desk.{DeskState, with_room, admitted}
 
@@ -41,7 +43,8 @@ admission_at desk (Some guard) = admission_refusal WouldWait guard.mode desk
 
 abbrev pub take_up_refusal : {T : Type 0} → ℕ → ℕ → DeskState T → Option DeskFault
 take_up_refusal party number desk =
-    option_or (guard_refusal (λ guard. guard.is_aside) party number desk) (admission_at desk (guard_of number desk.guards))
+    option_or (guard_refusal (λ guard. guard.is_aside) party number desk)
+    (admission_at desk (guard_of number desk.guards))
 
 -- the refusal, or else that answer
 abbrev pub ok_unless : {U : Type 0} → Option DeskFault → U → Result U DeskFault
@@ -55,7 +58,8 @@ unless (Some fault) before after = before
 
 -- an acquisition: refused as it must be, and then nothing changed. Else the guard is there, or it found no memory
 -- where there was no room, and then nothing changed either
-abbrev pub Acquires : {T : Type 0} → DeskFault → Mode → ℕ → ℕ → DeskState T → DeskState T → Result (Unit {0}) DeskFault → Type 0
+abbrev pub Acquires : {T : Type 0} → DeskFault → Mode → ℕ → ℕ → DeskState T → DeskState T → Result (Unit {0}) DeskFault
+    → Type 0
 Acquires denied mode party number old new result =
     MatchOption (acquire_refusal denied mode number old)
     (MatchResult result

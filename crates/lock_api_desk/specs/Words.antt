@@ -1,5 +1,6 @@
 -- Words of a lock: 8 for exclusive, 4 for upgradable, 16 for each reader, the upgradable one counted.
-use Rattle.std.specs.Prelude.{◌≡◌, ℕ, ◌+◌, ◌-◌, ◌*◌, ◌/◌, ◌%◌, ◌^◌, ◌<◌, ◌≤◌, ◌==◌, ◌&&◌, nat_lt, min, Option, Some, None, if◌then◌else◌}
+use Rattle.std.specs.Prelude.{◌≡◌, ℕ, ◌+◌, ◌-◌, ◌*◌, ◌/◌, ◌%◌, ◌^◌, ◌<◌, ◌≤◌, ◌==◌, ◌&&◌, nat_lt, min, Option, Some}
+use Rattle.std.specs.Prelude.{None, if◌then◌else◌}
 use Rattle.lock_api_desk.specs.Out.{Out, IsOrderly}
 
 -- the word of what is out
@@ -43,7 +44,8 @@ word_with_exclusive word = if word == 0 then Some 8 else None
 -- the upgradable hold and its reader
 abbrev pub word_with_upgradable : ℕ → ℕ → Option ℕ
 word_with_upgradable limit word =
-    if (exclusive_in word == 0 && upgradable_in word == 0) && nat_lt (readers_in word) (min limit (2 ^ 60 - 1)) then Some (word + 20)
+    if (exclusive_in word == 0 && upgradable_in word == 0) && nat_lt (readers_in word) (min limit (2 ^ 60 - 1)) then
+    Some (word + 20)
     else None
 
 -- the exclusive hold where the upgradable one was all

@@ -56,7 +56,8 @@ impl<R: RawState, T, A: Allocator> Desk<R, T, A> {
     pub fn downgrade_to_upgradable(&mut self, party: u64, guard: u64) -> Result<(), DeskFault>
         ensures answer { result ≡ ok_unless (guard_refusal (holds Exclusive) party guard self.old) tt }
         ensures state { self.new
-            ≡ unless (guard_refusal (holds Exclusive) party guard self.old) self.old (turned Upgradable guard self.old) }
+            ≡ unless (guard_refusal (holds Exclusive) party guard self.old) self.old
+            (turned Upgradable guard self.old) }
     {
         self.convert(party, guard, Mode::Exclusive, Mode::Upgradable)
     }

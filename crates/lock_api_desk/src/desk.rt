@@ -1,5 +1,6 @@
 //! The desk.
-ghost use Rattle.std.specs.Prelude.{◌≡◌, ℕ, [], ◌+◌, ◌≤◌, ◌<◌, length, MatchOption, IfErr, IfSome, OnOk, OnErr, Err, vec_capacity};
+ghost use Rattle.std.specs.Prelude.{◌≡◌, ℕ, [], ◌+◌, ◌≤◌, ◌<◌, length, MatchOption, IfErr, IfSome, OnOk, OnErr, Err};
+ghost use Rattle.std.specs.Prelude.{vec_capacity};
 ghost use Rattle.std.specs.Option.{option_map};
 ghost use Rattle.lock_api_desk.specs.Out.{nothing_out};
 ghost use Rattle.lock_api_desk.specs.declared.fault.DeskFault.TheVariants.{NoMemory};
@@ -43,7 +44,12 @@ impl<R: RawState, T, A: Allocator> Model for Desk<R, T, A> {
     ghost use Rattle.lock_api_desk.specs.Entries.{guards_in};
     ghost use Rattle.lock_api_desk.specs.Places.{Stands};
 
-    ghost view = { λ d. record { limit = R.limit_of d.raw; room = vec_capacity d.entries; guards = guards_in d.entries.items; value = d.value } };
+    ghost view = { λ d. record {
+      limit = R.limit_of d.raw;
+      room = vec_capacity d.entries;
+      guards = guards_in d.entries.items;
+      value = d.value;
+    } };
 
     ghost invariant = { λ d. Stands (R.limit_of d.raw) (R.out d.raw) d.entries.items };
 }

@@ -1,7 +1,8 @@
 //! A raw state in one word.
 ghost use Rattle.std.specs.Prelude.{◌≡◌, ◌+◌, ◌-◌, ◌^◌, ◌≤◌, ◌<◌, min, max};
 ghost use Rattle.lock_api_desk.specs.Out.{nothing_out};
-ghost use Rattle.lock_api_desk.specs.Words.{word_of, word_with_shared, word_with_exclusive, word_with_upgradable, word_with_upgrade, HasShared, HasExclusive, HasUpgradable};
+ghost use Rattle.lock_api_desk.specs.Words.{word_of, word_with_shared, word_with_exclusive, word_with_upgradable};
+ghost use Rattle.lock_api_desk.specs.Words.{word_with_upgrade, HasShared, HasExclusive, HasUpgradable};
 
 use crate::raw::RawState;
 use lock_api_raw::MAX_READERS;
@@ -67,7 +68,8 @@ impl PackedWord {
         *word
     }
 
-    /// The word with one more reader: where bit 8 is clear and the count is below the limit, and a word can count so many.
+    /// The word with one more reader: where bit 8 is clear and the count is below the limit, and a word can count so
+    /// many.
     pub fn with_shared(word: u64, limit: u64) -> Option<u64>
         ensures { result ≡ word_with_shared limit word }
     {

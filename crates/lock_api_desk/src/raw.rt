@@ -55,7 +55,8 @@ pub trait RawState {
     fn try_upgrade(&mut self, token: Self::Upgradable) -> Result<Self::Exclusive, Self::Upgradable>
         requires { 0 < (out self.old).upgradable }
         ensures given { is_ok result ≡ admits (limit_of self.old) Exclusive (one_less Upgradable (out self.old)) }
-        ensures out { out self.new ≡ (if is_ok result then one_more Exclusive (one_less Upgradable (out self.old)) else out self.old) }
+        ensures out { out self.new
+            ≡ (if is_ok result then one_more Exclusive (one_less Upgradable (out self.old)) else out self.old) }
         ensures limit { limit_of self.new ≡ limit_of self.old }
         ensures kept { MatchResult result (λ _. Unit {0}) (λ back. back ≡ token) };
 

@@ -58,8 +58,10 @@ where
 
     /// The exclusive guard if no other reader is left, and else the same guard, still held.
     pub fn try_upgrade(s: ArcGuard<H>) -> Result<ArcGuard<H::Alone>, ArcGuard<H>>
-        ensures lock { MatchResult result (λ guard. H.Alone.lock_of guard.hold ≡ H.lock_of s.hold) (λ guard. guard ≡ s) }
-        ensures call { MatchResult result (λ guard. H.upgrade_tried s.hold (Ok guard.hold)) (λ guard. H.upgrade_tried s.hold (Err guard.hold)) }
+        ensures lock { MatchResult result (λ guard. H.Alone.lock_of guard.hold ≡ H.lock_of s.hold)
+            (λ guard. guard ≡ s) }
+        ensures call { MatchResult result (λ guard. H.upgrade_tried s.hold (Ok guard.hold))
+            (λ guard. H.upgrade_tried s.hold (Err guard.hold)) }
     {
         match ArcGuard::into_hold(s).try_upgrade() {
             Ok(hold) => Ok(ArcGuard { hold }),
@@ -80,8 +82,10 @@ where
         clock: &C,
         party: &mut H::Party,
     ) -> Result<ArcGuard<H::Alone>, ArcGuard<H>>
-        ensures lock { MatchResult result (λ guard. H.Alone.lock_of guard.hold ≡ H.lock_of s.hold) (λ guard. guard ≡ s) }
-        ensures call { MatchResult result (λ guard. H.upgraded_in_time s.hold (Ok guard.hold)) (λ guard. H.upgraded_in_time s.hold (Err guard.hold)) }
+        ensures lock { MatchResult result (λ guard. H.Alone.lock_of guard.hold ≡ H.lock_of s.hold)
+            (λ guard. guard ≡ s) }
+        ensures call { MatchResult result (λ guard. H.upgraded_in_time s.hold (Ok guard.hold))
+            (λ guard. H.upgraded_in_time s.hold (Err guard.hold)) }
     {
         match ArcGuard::into_hold(s).try_upgrade_for(timeout, clock, party) {
             Ok(hold) => Ok(ArcGuard { hold }),
@@ -96,8 +100,10 @@ where
         clock: &C,
         party: &mut H::Party,
     ) -> Result<ArcGuard<H::Alone>, ArcGuard<H>>
-        ensures lock { MatchResult result (λ guard. H.Alone.lock_of guard.hold ≡ H.lock_of s.hold) (λ guard. guard ≡ s) }
-        ensures call { MatchResult result (λ guard. H.upgraded_in_time s.hold (Ok guard.hold)) (λ guard. H.upgraded_in_time s.hold (Err guard.hold)) }
+        ensures lock { MatchResult result (λ guard. H.Alone.lock_of guard.hold ≡ H.lock_of s.hold)
+            (λ guard. guard ≡ s) }
+        ensures call { MatchResult result (λ guard. H.upgraded_in_time s.hold (Ok guard.hold))
+            (λ guard. H.upgraded_in_time s.hold (Err guard.hold)) }
     {
         match ArcGuard::into_hold(s).try_upgrade_until(deadline, clock, party) {
             Ok(hold) => Ok(ArcGuard { hold }),
@@ -122,7 +128,8 @@ where
         f: F,
     ) -> U
         requires { F.IsAlwaysCallable f }
-        ensures answer { (before : H.Lock.Value) × (after : H.Lock.Value) × FnOnceReturnsAtMut F.FnOnce f before result after }
+        ensures answer { (before : H.Lock.Value) × (after : H.Lock.Value) × FnOnceReturnsAtMut F.FnOnce f before result
+            after }
         ensures upgraded { WasHeld H.Alone.lock_of (H.lock_of s.old.hold) }
         ensures lock { H.lock_of s.new.hold ≡ H.lock_of s.old.hold }
     {
@@ -145,7 +152,9 @@ where
         f: F,
     ) -> Option<U>
         requires { F.IsAlwaysCallable f }
-        ensures answer { IfSome result (λ answer. (before : H.Lock.Value) × (after : H.Lock.Value) × FnOnceReturnsAtMut F.FnOnce f before answer after) }
+        ensures answer { IfSome result
+            (λ answer. (before : H.Lock.Value) × (after : H.Lock.Value) × FnOnceReturnsAtMut F.FnOnce f before answer
+            after) }
         ensures upgraded { IfSome result (λ _. WasHeld H.Alone.lock_of (H.lock_of s.new.hold)) }
         ensures kept { result ≡ None → s.new ≡ s.old }
         ensures lock { H.lock_of s.new.hold ≡ H.lock_of s.old.hold }
@@ -155,7 +164,10 @@ where
             f,
             |guard: ArcGuard<H>, f: F| -> (ArcGuard<H>, Option<U>)
                 requires { F.IsAlwaysCallable f }
-                ensures { IfSome result.1 (λ answer. (before : H.Lock.Value) × (after : H.Lock.Value) × FnOnceReturnsAtMut F.FnOnce f before answer after) × IfSome result.1 (λ _. WasHeld H.Alone.lock_of (H.lock_of result.0.hold)) × (result.1 ≡ None → result.0 ≡ guard) × (H.lock_of result.0.hold ≡ H.lock_of guard.hold) }
+                ensures { IfSome result.1
+                    (λ answer. (before : H.Lock.Value) × (after : H.Lock.Value) × FnOnceReturnsAtMut F.FnOnce f before
+                    answer after) × IfSome result.1 (λ _. WasHeld H.Alone.lock_of (H.lock_of result.0.hold))
+                    × (result.1 ≡ None → result.0 ≡ guard) × (H.lock_of result.0.hold ≡ H.lock_of guard.hold) }
             { changed(ArcGuard::try_upgrade(guard), f) },
         )
     }
@@ -178,7 +190,9 @@ where
         f: F,
     ) -> Option<U>
         requires { F.IsAlwaysCallable f }
-        ensures answer { IfSome result (λ answer. (before : H.Lock.Value) × (after : H.Lock.Value) × FnOnceReturnsAtMut F.FnOnce f before answer after) }
+        ensures answer { IfSome result
+            (λ answer. (before : H.Lock.Value) × (after : H.Lock.Value) × FnOnceReturnsAtMut F.FnOnce f before answer
+            after) }
         ensures upgraded { IfSome result (λ _. WasHeld H.Alone.lock_of (H.lock_of s.new.hold)) }
         ensures kept { result ≡ None → s.new ≡ s.old }
         ensures lock { H.lock_of s.new.hold ≡ H.lock_of s.old.hold }
@@ -188,7 +202,10 @@ where
             (f, timeout),
             |guard: ArcGuard<H>, with: (F, H::Duration)| -> (ArcGuard<H>, Option<U>)
                 requires { F.IsAlwaysCallable with.0 }
-                ensures { IfSome result.1 (λ answer. (before : H.Lock.Value) × (after : H.Lock.Value) × FnOnceReturnsAtMut F.FnOnce with.0 before answer after) × IfSome result.1 (λ _. WasHeld H.Alone.lock_of (H.lock_of result.0.hold)) × (result.1 ≡ None → result.0 ≡ guard) × (H.lock_of result.0.hold ≡ H.lock_of guard.hold) }
+                ensures { IfSome result.1
+                    (λ answer. (before : H.Lock.Value) × (after : H.Lock.Value) × FnOnceReturnsAtMut F.FnOnce with.0
+                    before answer after) × IfSome result.1 (λ _. WasHeld H.Alone.lock_of (H.lock_of result.0.hold))
+                    × (result.1 ≡ None → result.0 ≡ guard) × (H.lock_of result.0.hold ≡ H.lock_of guard.hold) }
             {
                 let (f, timeout) = with;
                 changed(ArcGuard::try_upgrade_for(guard, timeout, clock, party), f)
@@ -206,7 +223,9 @@ where
         f: F,
     ) -> Option<U>
         requires { F.IsAlwaysCallable f }
-        ensures answer { IfSome result (λ answer. (before : H.Lock.Value) × (after : H.Lock.Value) × FnOnceReturnsAtMut F.FnOnce f before answer after) }
+        ensures answer { IfSome result
+            (λ answer. (before : H.Lock.Value) × (after : H.Lock.Value) × FnOnceReturnsAtMut F.FnOnce f before answer
+            after) }
         ensures upgraded { IfSome result (λ _. WasHeld H.Alone.lock_of (H.lock_of s.new.hold)) }
         ensures kept { result ≡ None → s.new ≡ s.old }
         ensures lock { H.lock_of s.new.hold ≡ H.lock_of s.old.hold }
@@ -216,7 +235,10 @@ where
             (f, deadline),
             |guard: ArcGuard<H>, with: (F, H::Instant)| -> (ArcGuard<H>, Option<U>)
                 requires { F.IsAlwaysCallable with.0 }
-                ensures { IfSome result.1 (λ answer. (before : H.Lock.Value) × (after : H.Lock.Value) × FnOnceReturnsAtMut F.FnOnce with.0 before answer after) × IfSome result.1 (λ _. WasHeld H.Alone.lock_of (H.lock_of result.0.hold)) × (result.1 ≡ None → result.0 ≡ guard) × (H.lock_of result.0.hold ≡ H.lock_of guard.hold) }
+                ensures { IfSome result.1
+                    (λ answer. (before : H.Lock.Value) × (after : H.Lock.Value) × FnOnceReturnsAtMut F.FnOnce with.0
+                    before answer after) × IfSome result.1 (λ _. WasHeld H.Alone.lock_of (H.lock_of result.0.hold))
+                    × (result.1 ≡ None → result.0 ≡ guard) × (H.lock_of result.0.hold ≡ H.lock_of guard.hold) }
             {
                 let (f, deadline) = with;
                 changed(
@@ -239,9 +261,12 @@ where
     H::Runtime: Wait,
     <H::Alone as Hold>::Runtime: Wait,
     requires { F.IsAlwaysCallable f }
-    ensures answer { IfSome result.1 (λ answer. (before : H.Lock.Value) × (after : H.Lock.Value) × FnOnceReturnsAtMut F.FnOnce f before answer after) }
+    ensures answer { IfSome result.1
+        (λ answer. (before : H.Lock.Value) × (after : H.Lock.Value) × FnOnceReturnsAtMut F.FnOnce f before answer
+        after) }
     ensures upgraded { IfSome result.1 (λ _. WasHeld H.Alone.lock_of (H.lock_of result.0.hold)) }
-    ensures guard { MatchResult tried (λ alone. H.lock_of result.0.hold ≡ H.Alone.lock_of alone.hold) (λ guard. result.0 ≡ guard) }
+    ensures guard { MatchResult tried (λ alone. H.lock_of result.0.hold ≡ H.Alone.lock_of alone.hold)
+        (λ guard. result.0 ≡ guard) }
     ensures called { MatchResult tried (λ alone. IsSome result.1) (λ guard. result.1 ≡ None) }
 {
     match tried {

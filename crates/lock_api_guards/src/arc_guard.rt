@@ -10,8 +10,8 @@ use std::sync::Wait;
 
 /// A raw hold that owns an Arc of its lock.
 ///
-/// It keeps the raw token and takes the std lock only inside `with` and `with_mut`, since a guard can't borrow from what
-/// it owns. Its drop releases the raw lock by its token, and then lets the Arc go.
+/// It keeps the raw token and takes the std lock only inside `with` and `with_mut`, since a guard can't borrow from
+/// what it owns. Its drop releases the raw lock by its token, and then lets the Arc go.
 pub struct ArcGuard<H: Hold>
 where
     H::Runtime: Wait,
@@ -69,7 +69,8 @@ where
 
     /// Releases the lock, runs the closure and waits for the lock in the same mode again.
     ///
-    /// It answers what the closure answered, and the guard is held again afterwards. Others may have written in between.
+    /// It answers what the closure answered, and the guard is held again afterwards. Others may have written in
+    /// between.
     pub fn unlocked<F: FnOnce() -> U, U>(s: &mut ArcGuard<H>, party: &mut H::Party, f: F) -> U
         requires { F.IsAlwaysCallable f }
         ensures answer { F.post f result }

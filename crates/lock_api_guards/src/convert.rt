@@ -64,8 +64,10 @@ where
     pub fn try_upgrade(
         s: Guard<W, H>,
     ) -> Result<Guard<<H::Alone as Access>::Inner, H::Alone>, Guard<W, H>>
-        ensures lock { MatchResult result (λ guard. H.Alone.lock_of guard.held.0 ≡ H.lock_of s.held.0) (λ guard. guard ≡ s) }
-        ensures call { MatchResult result (λ guard. H.upgrade_tried s.held.0 (Ok guard.held.0)) (λ guard. H.upgrade_tried s.held.0 (Err guard.held.0)) }
+        ensures lock { MatchResult result (λ guard. H.Alone.lock_of guard.held.0 ≡ H.lock_of s.held.0)
+            (λ guard. guard ≡ s) }
+        ensures call { MatchResult result (λ guard. H.upgrade_tried s.held.0 (Ok guard.held.0))
+            (λ guard. H.upgrade_tried s.held.0 (Err guard.held.0)) }
     {
         let (inner, held) = Guard::into_parts(s);
         match held.try_upgrade() {
@@ -88,8 +90,10 @@ where
         clock: &C,
         party: &mut H::Party,
     ) -> Result<Guard<<H::Alone as Access>::Inner, H::Alone>, Guard<W, H>>
-        ensures lock { MatchResult result (λ guard. H.Alone.lock_of guard.held.0 ≡ H.lock_of s.held.0) (λ guard. guard ≡ s) }
-        ensures call { MatchResult result (λ guard. H.upgraded_in_time s.held.0 (Ok guard.held.0)) (λ guard. H.upgraded_in_time s.held.0 (Err guard.held.0)) }
+        ensures lock { MatchResult result (λ guard. H.Alone.lock_of guard.held.0 ≡ H.lock_of s.held.0)
+            (λ guard. guard ≡ s) }
+        ensures call { MatchResult result (λ guard. H.upgraded_in_time s.held.0 (Ok guard.held.0))
+            (λ guard. H.upgraded_in_time s.held.0 (Err guard.held.0)) }
     {
         let (inner, held) = Guard::into_parts(s);
         match held.try_upgrade_for(timeout, clock, party) {
@@ -105,8 +109,10 @@ where
         clock: &C,
         party: &mut H::Party,
     ) -> Result<Guard<<H::Alone as Access>::Inner, H::Alone>, Guard<W, H>>
-        ensures lock { MatchResult result (λ guard. H.Alone.lock_of guard.held.0 ≡ H.lock_of s.held.0) (λ guard. guard ≡ s) }
-        ensures call { MatchResult result (λ guard. H.upgraded_in_time s.held.0 (Ok guard.held.0)) (λ guard. H.upgraded_in_time s.held.0 (Err guard.held.0)) }
+        ensures lock { MatchResult result (λ guard. H.Alone.lock_of guard.held.0 ≡ H.lock_of s.held.0)
+            (λ guard. guard ≡ s) }
+        ensures call { MatchResult result (λ guard. H.upgraded_in_time s.held.0 (Ok guard.held.0))
+            (λ guard. H.upgraded_in_time s.held.0 (Err guard.held.0)) }
     {
         let (inner, held) = Guard::into_parts(s);
         match held.try_upgrade_until(deadline, clock, party) {

@@ -94,7 +94,8 @@ where
 {
     /// Releases the lock, runs the closure and waits for the lock in the same mode again.
     ///
-    /// It answers what the closure answered, and the guard is held again afterwards. Others may have written in between.
+    /// It answers what the closure answered, and the guard is held again afterwards. Others may have written in
+    /// between.
     pub fn unlocked<F: FnOnce() -> U, U>(s: &mut Guard<W, H>, party: &mut H::Party, f: F) -> U
         requires { F.IsAlwaysCallable f }
         ensures answer { F.post f result }
@@ -249,7 +250,8 @@ where
 
     #[inline(always)]
     fn deref_mut(&mut self) -> &mut W::Part
-        ensures* writes_back { sem 𝓛 (Lends (the_row W.row H.row H.Lock.row H.Runtime.row H.Party.row H.Apart.row) W.Part.row self.entry result (λ part. record self.old { inner = W.with_part self.old.inner part })) }
+        ensures* writes_back { sem 𝓛 (Lends (the_row W.row H.row H.Lock.row H.Runtime.row H.Party.row H.Apart.row) W.Part.row self.entry
+            result (λ part. record self.old { inner = W.with_part self.old.inner part })) }
         ensures value { result.now ≡ W.part self.old.inner }
     {
         let inner = &mut self.inner;

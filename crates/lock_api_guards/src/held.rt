@@ -156,7 +156,8 @@ pub trait TimedUpgradeHold: UpgradeHold {
     /// A moment.
     type Instant;
 
-    /// That an upgrade of the hold that may give up answered so. Where the hold is of any type, such a call alone gives it.
+    /// That an upgrade of the hold that may give up answered so. Where the hold is of any type, such a call alone gives
+    /// it.
     ghost upgraded_in_time: { Self → Result Self.Alone Self → Type 0 } = { λ _ _. ⊤ };
 
     /// As `upgrade`, but the same hold if the wait is given up after the length of time.
@@ -315,7 +316,8 @@ impl<H: UpgradeHold, W> Held<H, W> {
 
     /// As `upgrade` if no other reader is left, and else unchanged.
     pub fn try_upgrade(self) -> Result<Held<H::Alone, W>, Held<H, W>>
-        ensures { MatchResult result (λ held. (H.Alone.lock_of held.0 ≡ H.lock_of self.0) × (held.1 ≡ self.1) × H.upgrade_tried self.0 (Ok held.0)) (λ held. (held ≡ self) × H.upgrade_tried self.0 (Err held.0)) }
+        ensures { MatchResult result (λ held. (H.Alone.lock_of held.0 ≡ H.lock_of self.0) × (held.1 ≡ self.1)
+            × H.upgrade_tried self.0 (Ok held.0)) (λ held. (held ≡ self) × H.upgrade_tried self.0 (Err held.0)) }
     {
         let Held { hold, lent, by } = self;
         match hold.try_upgrade() {
@@ -336,7 +338,8 @@ where
         clock: &C,
         party: &mut H::Party,
     ) -> Result<Held<H::Alone, W>, Held<H, W>>
-        ensures { MatchResult result (λ held. (H.Alone.lock_of held.0 ≡ H.lock_of self.0) × (held.1 ≡ self.1) × H.upgraded_in_time self.0 (Ok held.0)) (λ held. (held ≡ self) × H.upgraded_in_time self.0 (Err held.0)) }
+        ensures { MatchResult result (λ held. (H.Alone.lock_of held.0 ≡ H.lock_of self.0) × (held.1 ≡ self.1)
+            × H.upgraded_in_time self.0 (Ok held.0)) (λ held. (held ≡ self) × H.upgraded_in_time self.0 (Err held.0)) }
     {
         let Held { hold, lent, by } = self;
         match hold.try_upgrade_for(timeout, clock, party) {
@@ -352,7 +355,8 @@ where
         clock: &C,
         party: &mut H::Party,
     ) -> Result<Held<H::Alone, W>, Held<H, W>>
-        ensures { MatchResult result (λ held. (H.Alone.lock_of held.0 ≡ H.lock_of self.0) × (held.1 ≡ self.1) × H.upgraded_in_time self.0 (Ok held.0)) (λ held. (held ≡ self) × H.upgraded_in_time self.0 (Err held.0)) }
+        ensures { MatchResult result (λ held. (H.Alone.lock_of held.0 ≡ H.lock_of self.0) × (held.1 ≡ self.1)
+            × H.upgraded_in_time self.0 (Ok held.0)) (λ held. (held ≡ self) × H.upgraded_in_time self.0 (Err held.0)) }
     {
         let Held { hold, lent, by } = self;
         match hold.try_upgrade_until(deadline, clock, party) {

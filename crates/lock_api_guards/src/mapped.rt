@@ -75,7 +75,13 @@ where
     ghost deref_mut_gives = { λ m x. P.focus m.1 (W.part m.0.inner) ≡ Some x };
 
     fn deref_mut(&mut self) -> &mut P::Out
-        ensures* writes_back { sem 𝓛 (Lends (the_row W.row H.row P.row W.Part.row H.Lock.row H.Runtime.row H.Party.row H.Apart.row P.Out.row W.Lender H.Hold P.Projection) P.Out.row self.entry result (λ part. (record self.old.0 { inner = W.with_part self.old.0.inner (P.with_focus self.old.1 (W.part self.old.0.inner) part) }, self.old.1))) }
+        ensures* writes_back { sem 𝓛 (Lends (the_row W.row H.row P.row W.Part.row H.Lock.row H.Runtime.row H.Party.row H.Apart.row
+            P.Out.row W.Lender H.Hold P.Projection) P.Out.row self.entry result
+            (λ part. (
+              record self.old.0
+                  { inner = W.with_part self.old.0.inner (P.with_focus self.old.1 (W.part self.old.0.inner) part) },
+              self.old.1,
+            ))) }
         ensures value { P.focus self.old.1 (W.part self.old.0.inner) ≡ Some result.now }
     {
         P::part_mut(self.guard.lend(), &self.by)
@@ -151,7 +157,9 @@ where
         s: Mapped<W, H, P>,
         projection: Q,
     ) -> Result<Mapped<W, H, Then<P, Q>>, Mapped<W, H, P>>
-        ensures { Narrows (then_focus (P.focus s.1) (P.with_focus s.1) (Q.focus projection) (Q.with_focus projection) (W.part s.0.inner)) (s.0, record { first = s.1; second = projection }) s result }
+        ensures { Narrows
+            (then_focus (P.focus s.1) (P.with_focus s.1) (Q.focus projection) (Q.with_focus projection)
+            (W.part s.0.inner)) (s.0, record { first = s.1; second = projection }) s result }
     {
         if projection.get(s.deref()).is_some() {
             let Mapped { guard, by } = s;
@@ -170,7 +178,9 @@ where
         projection: Q,
         error: E,
     ) -> Result<Mapped<W, H, Then<P, Q>>, (Mapped<W, H, P>, E)>
-        ensures { Narrows (then_focus (P.focus s.1) (P.with_focus s.1) (Q.focus projection) (Q.with_focus projection) (W.part s.0.inner)) (s.0, record { first = s.1; second = projection }) (s, error) result }
+        ensures { Narrows
+            (then_focus (P.focus s.1) (P.with_focus s.1) (Q.focus projection) (Q.with_focus projection)
+            (W.part s.0.inner)) (s.0, record { first = s.1; second = projection }) (s, error) result }
     {
         match Mapped::try_map(s, projection) {
             Ok(mapped) => Ok(mapped),

@@ -29,7 +29,8 @@ where
         f: F,
     ) -> U
         requires { F.IsAlwaysCallable f }
-        ensures answer { (before : H.Alone.Inner.Part) × (after : H.Alone.Inner.Part) × FnOnceReturnsAtMut F.FnOnce f before result after }
+        ensures answer { (before : H.Alone.Inner.Part) × (after : H.Alone.Inner.Part)
+            × FnOnceReturnsAtMut F.FnOnce f before result after }
         ensures lock { H.lock_of s.new.held.0 ≡ H.lock_of s.old.held.0 }
     {
         mem::replace_with(
@@ -51,7 +52,8 @@ where
         f: F,
     ) -> Option<U>
         requires { F.IsAlwaysCallable f }
-        ensures answer { IfSome result (λ answer. (before : H.Alone.Inner.Part) × (after : H.Alone.Inner.Part) × FnOnceReturnsAtMut F.FnOnce f before answer after) }
+        ensures answer { IfSome result (λ answer. (before : H.Alone.Inner.Part) × (after : H.Alone.Inner.Part)
+            × FnOnceReturnsAtMut F.FnOnce f before answer after) }
         ensures kept { result ≡ None → s.new ≡ s.old }
         ensures lock { H.lock_of s.new.held.0 ≡ H.lock_of s.old.held.0 }
     {
@@ -60,7 +62,9 @@ where
             f,
             |guard: Guard<W, H>, f: F| -> (Guard<W, H>, Option<U>)
                 requires { F.IsAlwaysCallable f }
-                ensures { IfSome result.1 (λ answer. (before : H.Alone.Inner.Part) × (after : H.Alone.Inner.Part) × FnOnceReturnsAtMut F.FnOnce f before answer after) × (result.1 ≡ None → result.0 ≡ guard) × (H.lock_of result.0.held.0 ≡ H.lock_of guard.held.0) }
+                ensures { IfSome result.1 (λ answer. (before : H.Alone.Inner.Part) × (after : H.Alone.Inner.Part)
+                    × FnOnceReturnsAtMut F.FnOnce f before answer after) × (result.1 ≡ None → result.0 ≡ guard)
+                    × (H.lock_of result.0.held.0 ≡ H.lock_of guard.held.0) }
             { changed(Guard::try_upgrade(guard), f) },
         )
     }
@@ -83,7 +87,8 @@ where
         f: F,
     ) -> Option<U>
         requires { F.IsAlwaysCallable f }
-        ensures answer { IfSome result (λ answer. (before : H.Alone.Inner.Part) × (after : H.Alone.Inner.Part) × FnOnceReturnsAtMut F.FnOnce f before answer after) }
+        ensures answer { IfSome result (λ answer. (before : H.Alone.Inner.Part) × (after : H.Alone.Inner.Part)
+            × FnOnceReturnsAtMut F.FnOnce f before answer after) }
         ensures kept { result ≡ None → s.new ≡ s.old }
         ensures lock { H.lock_of s.new.held.0 ≡ H.lock_of s.old.held.0 }
     {
@@ -92,7 +97,9 @@ where
             (f, timeout),
             |guard: Guard<W, H>, with: (F, H::Duration)| -> (Guard<W, H>, Option<U>)
                 requires { F.IsAlwaysCallable with.0 }
-                ensures { IfSome result.1 (λ answer. (before : H.Alone.Inner.Part) × (after : H.Alone.Inner.Part) × FnOnceReturnsAtMut F.FnOnce with.0 before answer after) × (result.1 ≡ None → result.0 ≡ guard) × (H.lock_of result.0.held.0 ≡ H.lock_of guard.held.0) }
+                ensures { IfSome result.1 (λ answer. (before : H.Alone.Inner.Part) × (after : H.Alone.Inner.Part)
+                    × FnOnceReturnsAtMut F.FnOnce with.0 before answer after) × (result.1 ≡ None → result.0 ≡ guard)
+                    × (H.lock_of result.0.held.0 ≡ H.lock_of guard.held.0) }
             {
                 let (f, timeout) = with;
                 changed(Guard::try_upgrade_for(guard, timeout, clock, party), f)
@@ -110,7 +117,8 @@ where
         f: F,
     ) -> Option<U>
         requires { F.IsAlwaysCallable f }
-        ensures answer { IfSome result (λ answer. (before : H.Alone.Inner.Part) × (after : H.Alone.Inner.Part) × FnOnceReturnsAtMut F.FnOnce f before answer after) }
+        ensures answer { IfSome result (λ answer. (before : H.Alone.Inner.Part) × (after : H.Alone.Inner.Part)
+            × FnOnceReturnsAtMut F.FnOnce f before answer after) }
         ensures kept { result ≡ None → s.new ≡ s.old }
         ensures lock { H.lock_of s.new.held.0 ≡ H.lock_of s.old.held.0 }
     {
@@ -119,7 +127,9 @@ where
             (f, deadline),
             |guard: Guard<W, H>, with: (F, H::Instant)| -> (Guard<W, H>, Option<U>)
                 requires { F.IsAlwaysCallable with.0 }
-                ensures { IfSome result.1 (λ answer. (before : H.Alone.Inner.Part) × (after : H.Alone.Inner.Part) × FnOnceReturnsAtMut F.FnOnce with.0 before answer after) × (result.1 ≡ None → result.0 ≡ guard) × (H.lock_of result.0.held.0 ≡ H.lock_of guard.held.0) }
+                ensures { IfSome result.1 (λ answer. (before : H.Alone.Inner.Part) × (after : H.Alone.Inner.Part)
+                    × FnOnceReturnsAtMut F.FnOnce with.0 before answer after) × (result.1 ≡ None → result.0 ≡ guard)
+                    × (H.lock_of result.0.held.0 ≡ H.lock_of guard.held.0) }
             {
                 let (f, deadline) = with;
                 changed(Guard::try_upgrade_until(guard, deadline, clock, party), f)
@@ -137,8 +147,10 @@ where
     H::Runtime: Wait,
     <H::Alone as Hold>::Runtime: Wait,
     requires { F.IsAlwaysCallable f }
-    ensures answer { IfSome result.1 (λ answer. (before : V.Part) × (after : V.Part) × FnOnceReturnsAtMut F.FnOnce f before answer after) }
-    ensures guard { MatchResult tried (λ alone. H.lock_of result.0.held.0 ≡ H.Alone.lock_of alone.held.0) (λ guard. result.0 ≡ guard) }
+    ensures answer { IfSome result.1
+        (λ answer. (before : V.Part) × (after : V.Part) × FnOnceReturnsAtMut F.FnOnce f before answer after) }
+    ensures guard { MatchResult tried (λ alone. H.lock_of result.0.held.0 ≡ H.Alone.lock_of alone.held.0)
+        (λ guard. result.0 ≡ guard) }
     ensures called { MatchResult tried (λ alone. IsSome result.1) (λ guard. result.1 ≡ None) }
 {
     match tried {

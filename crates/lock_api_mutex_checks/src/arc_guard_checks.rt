@@ -44,8 +44,8 @@ where
     lends_to_closures(guard, value)
 }
 
-/// `unlocked` and `unlocked_fair` let an Arc guard go for the closure's time. It is held again afterwards as it is to be
-/// seen, and so it is after a bump.
+/// `unlocked` and `unlocked_fair` let an Arc guard go for the closure's time. It is held again afterwards as it is to
+/// be seen, and so it is after a bump.
 pub fn unlocks_an_arc_for_a_while<H: FairHold, L: Look>(
     guard: &mut ArcGuard<H>,
     party: &mut H::Party,

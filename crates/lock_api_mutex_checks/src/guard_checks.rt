@@ -183,7 +183,8 @@ pub fn keeps_what_has_no_part<W: Lender<Part = Pair> + Drop, H: Hold, F: Fn() ->
 where
     H::Runtime: Wait,
     requires { F.IsAlwaysCallable held.now }
-    ensures { W.part guard.inner ≡ (None, 2) → ((answer : Bool) → F.post held.now answer → answer ≡ true) → IsOk result }
+    ensures { W.part guard.inner ≡ (None, 2) → ((answer : Bool) → F.post held.now answer → answer ≡ true)
+        → IsOk result }
 {
     let guard = match Guard::try_map(guard, Then::new(First, Inside)) {
         Ok(_) => return step(6, false),
@@ -221,8 +222,8 @@ where
     keeps_what_has_no_part(guard, &|| lock.look() == held).is_ok()
 }
 
-/// `unlocked` and `unlocked_fair` let a guard of 5 go for the closure's time. It is held again afterwards as it is to be
-/// seen, and so it is after a bump.
+/// `unlocked` and `unlocked_fair` let a guard of 5 go for the closure's time. It is held again afterwards as it is to
+/// be seen, and so it is after a bump.
 pub fn unlocks_for_a_while<W: Lender<Part = u64> + Drop, H: FairHold + Access<Inner = W>, L: Look>(
     guard: &mut Guard<W, H>,
     party: &mut H::Party,

@@ -60,7 +60,8 @@ where
     expect(total == 2_000, "two threads count to 2,000")
 }
 
-/// Counts up under an exclusive hold, a thousand times, and says whether the count stayed under each shared hold in between.
+/// Counts up under an exclusive hold, a thousand times, and says whether the count stayed under each shared hold in
+/// between.
 fn counts_and_reads<R: RawRwLock>(raw: &R, count: &AtomicU64, party: &mut R::Party) -> bool
 where
     R::Runtime: Wait,

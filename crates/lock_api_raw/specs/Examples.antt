@@ -25,7 +25,8 @@ inside_writes_read : {A : Type 0} → (whole : Option A) (part : A) → whole �
 inside_writes_read None part read = refl
 inside_writes_read (Some x) part read = cc
 
-inside_last_counts : {A : Type 0} → (whole : Option A) (before part : A) → with_inside (with_inside whole before) part ≡ with_inside whole part
+inside_last_counts : {A : Type 0} → (whole : Option A) (before part : A) → with_inside (with_inside whole before) part
+    ≡ with_inside whole part
 inside_last_counts None before part = refl
 inside_last_counts (Some x) before part = refl
 

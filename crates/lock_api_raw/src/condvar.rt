@@ -16,7 +16,8 @@ pub trait RawCondvar {
     /// Whether the mutex belongs to the same lot as the condition variable.
     ghost same_lot: { Self → Self.RawMutex → Bool };
 
-    /// That a wait with the first token gave the second, and this answer. Of a variable of any type a wait alone gives it.
+    /// That a wait with the first token gave the second, and this answer. Of a variable of any type a wait alone gives
+    /// it.
     ghost waited: { Self → Self.RawMutex.Guard → Self.RawMutex.Guard → Result (Unit {0}) WaitFault → Type 0 } = { λ _ _ _ _. ⊤ };
 
     /// That a notification of one waiter answered so. Of a variable of any type such a call alone gives it.
@@ -62,8 +63,8 @@ pub trait RawCondvarTimed: RawCondvar
 where
     Self::RawMutex: RawMutexTimed,
 {
-    /// That a wait that could give up, with the first token, gave the second, and this answer. Of a variable of any type
-    /// such a wait alone gives it.
+    /// That a wait that could give up, with the first token, gave the second, and this answer. Of a variable of any
+    /// type such a wait alone gives it.
     ghost waited_in_time: { Self → Self.RawMutex.Guard → Self.RawMutex.Guard → Result Bool WaitFault → Type 0 } = { λ _ _ _ _. ⊤ };
 
     /// As `wait`, until the moment at the latest. The answer is true exactly if the time ran out while the caller stood

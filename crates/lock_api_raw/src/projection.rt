@@ -109,7 +109,8 @@ impl<P, Q> Then<P, Q> {
 impl<T, P: Projection<T>, Q: Projection<P::Out>> Projection<T> for Then<P, Q> {
     type Out = Q::Out;
 
-    ghost focus = { λ by. then_focus (P.focus by.first) (P.with_focus by.first) (Q.focus by.second) (Q.with_focus by.second) };
+    ghost focus = { λ by. then_focus (P.focus by.first) (P.with_focus by.first) (Q.focus by.second)
+        (Q.with_focus by.second) };
 
     ghost with_focus = { λ by. then_with (P.focus by.first) (P.with_focus by.first) (Q.focus by.second) (Q.with_focus by.second) };
 
@@ -125,9 +126,11 @@ impl<T, P: Projection<T>, Q: Projection<P::Out>> Projection<T> for Then<P, Q> {
         Q::part_mut(P::part_mut(whole, &by.first), &by.second)
     }
 
-    ghost laws = { λ by. then_is_way (P.focus by.first) (P.with_focus by.first) (Q.focus by.second) (Q.with_focus by.second) (P.laws by.first) (Q.laws by.second) };
+    ghost laws = { λ by. then_is_way (P.focus by.first) (P.with_focus by.first) (Q.focus by.second)
+        (Q.with_focus by.second) (P.laws by.first) (Q.laws by.second) };
 }
 
 impl<T, P: TotalProjection<T>, Q: TotalProjection<P::Out>> TotalProjection<T> for Then<P, Q> {
-    ghost always = { λ by. then_is_total (P.focus by.first) (P.with_focus by.first) (Q.focus by.second) (Q.with_focus by.second) (P.always by.first) (Q.always by.second) };
+    ghost always = { λ by. then_is_total (P.focus by.first) (P.with_focus by.first) (Q.focus by.second)
+        (Q.with_focus by.second) (P.always by.first) (Q.always by.second) };
 }

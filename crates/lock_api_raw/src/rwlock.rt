@@ -157,7 +157,8 @@ pub trait RawRwLockFair: RawRwLock {
 
 /// From exclusive to shared.
 pub trait RawRwLockDowngrade: RawRwLock {
-    /// That a downgrade of the exclusive token gave the shared one. Of a raw lock of any type a downgrade alone gives it.
+    /// That a downgrade of the exclusive token gave the shared one. Of a raw lock of any type a downgrade alone gives
+    /// it.
     ghost downgraded: { Self.ExclusiveGuard → Self.SharedGuard → Type 0 } = { λ _ _. ⊤ };
 
     /// Turns the exclusive hold into a shared one without letting go, and wakes those who may now enter.
@@ -177,10 +178,12 @@ pub trait RawRwLockTimed: RawRwLock {
     /// A moment.
     type Instant;
 
-    /// That a call for a shared hold that may give up answered so. Of a raw lock of any type such a call alone gives it.
+    /// That a call for a shared hold that may give up answered so. Of a raw lock of any type such a call alone gives
+    /// it.
     ghost shared_locked_in_time: { Option Self.SharedGuard → Type 0 } = { λ _. ⊤ };
 
-    /// That a call for an exclusive hold that may give up answered so. Of a raw lock of any type such a call alone gives it.
+    /// That a call for an exclusive hold that may give up answered so. Of a raw lock of any type such a call alone
+    /// gives it.
     ghost exclusive_locked_in_time: { Option Self.ExclusiveGuard → Type 0 } = { λ _. ⊤ };
 
     /// As `lock_shared`, but None if the wait is given up after the length of time, by the clock that is handed in. A
@@ -248,7 +251,8 @@ pub trait RawRwLockUpgrade: RawRwLock {
     /// That a plain release spent the upgradable token. Of a raw lock of any type such a release alone gives it.
     ghost upgradable_unlocked: { Self.UpgradableGuard → Type 0 } = { λ _. ⊤ };
 
-    /// That an upgrade of the upgradable token gave the exclusive one. Of a raw lock of any type an upgrade alone gives it.
+    /// That an upgrade of the upgradable token gave the exclusive one. Of a raw lock of any type an upgrade alone gives
+    /// it.
     ghost upgraded: { Self.UpgradableGuard → Self.ExclusiveGuard → Type 0 } = { λ _ _. ⊤ };
 
     /// That a try to upgrade the upgradable token answered so. Of a raw lock of any type such a try alone gives it.
@@ -287,7 +291,8 @@ pub trait RawRwLockUpgrade: RawRwLock {
         guard: Self::UpgradableGuard,
     ) -> Result<Self::ExclusiveGuard, Self::UpgradableGuard>
         requires { upgradable_by guard ≡ Self.number self.now }
-        ensures issued { MatchResult result (λ token. Self.exclusive_by token ≡ Self.number self.now) (λ token. token ≡ guard) }
+        ensures issued { MatchResult result (λ token. Self.exclusive_by token ≡ Self.number self.now)
+            (λ token. token ≡ guard) }
         ensures call { upgrade_tried guard result };
 }
 
@@ -321,10 +326,12 @@ pub trait RawRwLockUpgradeFair: RawRwLockUpgrade + RawRwLockFair {
 
 /// From upgradable to shared, and from exclusive to upgradable.
 pub trait RawRwLockUpgradeDowngrade: RawRwLockUpgrade + RawRwLockDowngrade {
-    /// That a downgrade of the upgradable token gave the shared one. Of a raw lock of any type such a downgrade alone gives it.
+    /// That a downgrade of the upgradable token gave the shared one. Of a raw lock of any type such a downgrade alone
+    /// gives it.
     ghost upgradable_downgraded: { Self.UpgradableGuard → Self.SharedGuard → Type 0 } = { λ _ _. ⊤ };
 
-    /// That a downgrade of the exclusive token gave the upgradable one. Of a raw lock of any type such a downgrade alone gives it.
+    /// That a downgrade of the exclusive token gave the upgradable one. Of a raw lock of any type such a downgrade
+    /// alone gives it.
     ghost downgraded_to_upgradable: { Self.ExclusiveGuard → Self.UpgradableGuard → Type 0 } = { λ _ _. ⊤ };
 
     /// Turns the upgradable hold into a shared one without letting go.
@@ -346,10 +353,12 @@ pub trait RawRwLockUpgradeDowngrade: RawRwLockUpgrade + RawRwLockDowngrade {
 
 /// Upgradable holds whose wait can give up.
 pub trait RawRwLockUpgradeTimed: RawRwLockUpgrade + RawRwLockTimed {
-    /// That a call for an upgradable hold that may give up answered so. Of a raw lock of any type such a call alone gives it.
+    /// That a call for an upgradable hold that may give up answered so. Of a raw lock of any type such a call alone
+    /// gives it.
     ghost upgradable_locked_in_time: { Option Self.UpgradableGuard → Type 0 } = { λ _. ⊤ };
 
-    /// That an upgrade of the upgradable token that may give up answered so. Of a raw lock of any type such a call alone gives it.
+    /// That an upgrade of the upgradable token that may give up answered so. Of a raw lock of any type such a call
+    /// alone gives it.
     ghost upgraded_in_time: { Self.UpgradableGuard → Result Self.ExclusiveGuard Self.UpgradableGuard → Type 0 } = { λ _ _. ⊤ };
 
     /// As `lock_upgradable`, but None if the wait is given up after the length of time.
@@ -376,7 +385,8 @@ pub trait RawRwLockUpgradeTimed: RawRwLockUpgrade + RawRwLockTimed {
     where
         Self::Runtime: Wait,
         requires { Self.upgradable_by guard ≡ Self.number self.now }
-        ensures issued { MatchResult result (λ token. Self.exclusive_by token ≡ Self.number self.now) (λ token. token ≡ guard) }
+        ensures issued { MatchResult result (λ token. Self.exclusive_by token ≡ Self.number self.now)
+            (λ token. token ≡ guard) }
         ensures call { upgraded_in_time guard result };
 
     /// As `lock_upgradable`, but None if the wait is given up at the moment.
@@ -402,6 +412,7 @@ pub trait RawRwLockUpgradeTimed: RawRwLockUpgrade + RawRwLockTimed {
     where
         Self::Runtime: Wait,
         requires { Self.upgradable_by guard ≡ Self.number self.now }
-        ensures issued { MatchResult result (λ token. Self.exclusive_by token ≡ Self.number self.now) (λ token. token ≡ guard) }
+        ensures issued { MatchResult result (λ token. Self.exclusive_by token ≡ Self.number self.now)
+            (λ token. token ≡ guard) }
         ensures call { upgraded_in_time guard result };
 }

@@ -71,7 +71,8 @@ impl<R: RawRwLockTimed + Drop, T: Drop> RwLock<R, T>
 where
     R::Runtime: Wait,
 {
-    /// Clones the Arc, and then waits: None if the wait is given up after the length of time. A refused clone takes no lock.
+    /// Clones the Arc, and then waits: None if the wait is given up after the length of time. A refused clone takes no
+    /// lock.
     pub fn try_read_arc_for<C: Clock, A: Allocator>(
         this: &Arc<RwLock<R, T>, A>,
         timeout: R::Duration,
@@ -103,7 +104,8 @@ where
         Ok(ArcGuard::if_held(found))
     }
 
-    /// Clones the Arc, and then waits: None if the wait is given up after the length of time. A refused clone takes no lock.
+    /// Clones the Arc, and then waits: None if the wait is given up after the length of time. A refused clone takes no
+    /// lock.
     pub fn try_write_arc_for<C: Clock, A: Allocator>(
         this: &Arc<RwLock<R, T>, A>,
         timeout: R::Duration,
@@ -165,7 +167,8 @@ impl<R: RawRwLockUpgradeTimed + Drop, T: Drop> RwLock<R, T>
 where
     R::Runtime: Wait,
 {
-    /// Clones the Arc, and then waits: None if the wait is given up after the length of time. A refused clone takes no lock.
+    /// Clones the Arc, and then waits: None if the wait is given up after the length of time. A refused clone takes no
+    /// lock.
     pub fn try_upgradable_read_arc_for<C: Clock, A: Allocator>(
         this: &Arc<RwLock<R, T>, A>,
         timeout: R::Duration,

@@ -14,8 +14,8 @@ use std::sync::{Arc, Wait};
 
 /// A raw lock and a value.
 ///
-/// The raw lock decides who may come in, and the value lies in a std lock, which keeps each access safe whatever the raw
-/// lock does. A contract sees a lock as its raw lock.
+/// The raw lock decides who may come in, and the value lies in a std lock, which keeps each access safe whatever the
+/// raw lock does. A contract sees a lock as its raw lock.
 ///
 /// ```text
 /// let lock = RwLock::from_raw(raw, 5);

@@ -20,7 +20,8 @@ where
         party: &mut R::Party,
     ) -> Option<RwLockReadGuard<'_, R, T>>
         ensures lock { IfSome result (λ guard. guard.held.0.place.now ≡ self.now) }
-        ensures call { MatchOption result (R.shared_locked_in_time None) (λ guard. R.shared_locked_in_time (Some guard.held.0.token)) }
+        ensures call { MatchOption result (R.shared_locked_in_time None)
+            (λ guard. R.shared_locked_in_time (Some guard.held.0.token)) }
     {
         let reader = RawHold::wait_for(self, timeout, clock, party)?;
         Some(Guard::under(reader))
@@ -34,13 +35,15 @@ where
         party: &mut R::Party,
     ) -> Option<RwLockReadGuard<'_, R, T>>
         ensures lock { IfSome result (λ guard. guard.held.0.place.now ≡ self.now) }
-        ensures call { MatchOption result (R.shared_locked_in_time None) (λ guard. R.shared_locked_in_time (Some guard.held.0.token)) }
+        ensures call { MatchOption result (R.shared_locked_in_time None)
+            (λ guard. R.shared_locked_in_time (Some guard.held.0.token)) }
     {
         let reader = RawHold::wait_until(self, deadline, clock, party)?;
         Some(Guard::under(reader))
     }
 
-    /// As `write`, but None if the raw lock's wait is given up after the length of time, by the clock that is handed in.
+    /// As `write`, but None if the raw lock's wait is given up after the length of time, by the clock that is handed
+    /// in.
     pub fn try_write_for<C: Clock>(
         &self,
         timeout: R::Duration,
@@ -48,7 +51,8 @@ where
         party: &mut R::Party,
     ) -> Option<RwLockWriteGuard<'_, R, T>>
         ensures lock { IfSome result (λ guard. guard.held.0.place.now ≡ self.now) }
-        ensures call { MatchOption result (R.exclusive_locked_in_time None) (λ guard. R.exclusive_locked_in_time (Some guard.held.0.token)) }
+        ensures call { MatchOption result (R.exclusive_locked_in_time None)
+            (λ guard. R.exclusive_locked_in_time (Some guard.held.0.token)) }
     {
         let writer = RawHold::wait_for(self, timeout, clock, party)?;
         Some(Guard::under(writer))
@@ -62,7 +66,8 @@ where
         party: &mut R::Party,
     ) -> Option<RwLockWriteGuard<'_, R, T>>
         ensures lock { IfSome result (λ guard. guard.held.0.place.now ≡ self.now) }
-        ensures call { MatchOption result (R.exclusive_locked_in_time None) (λ guard. R.exclusive_locked_in_time (Some guard.held.0.token)) }
+        ensures call { MatchOption result (R.exclusive_locked_in_time None)
+            (λ guard. R.exclusive_locked_in_time (Some guard.held.0.token)) }
     {
         let writer = RawHold::wait_until(self, deadline, clock, party)?;
         Some(Guard::under(writer))
@@ -73,7 +78,8 @@ impl<R: RawRwLockUpgradeTimed, T> RwLock<R, T>
 where
     R::Runtime: Wait,
 {
-    /// As `upgradable_read`, but None if the raw lock's wait is given up after the length of time, by the clock that is handed in.
+    /// As `upgradable_read`, but None if the raw lock's wait is given up after the length of time, by the clock that is
+    /// handed in.
     pub fn try_upgradable_read_for<C: Clock>(
         &self,
         timeout: R::Duration,
@@ -81,7 +87,8 @@ where
         party: &mut R::Party,
     ) -> Option<RwLockUpgradableReadGuard<'_, R, T>>
         ensures lock { IfSome result (λ guard. guard.held.0.place.now ≡ self.now) }
-        ensures call { MatchOption result (R.upgradable_locked_in_time None) (λ guard. R.upgradable_locked_in_time (Some guard.held.0.token)) }
+        ensures call { MatchOption result (R.upgradable_locked_in_time None)
+            (λ guard. R.upgradable_locked_in_time (Some guard.held.0.token)) }
     {
         let upgrader = RawHold::wait_for(self, timeout, clock, party)?;
         Some(Guard::under(upgrader))
@@ -95,7 +102,8 @@ where
         party: &mut R::Party,
     ) -> Option<RwLockUpgradableReadGuard<'_, R, T>>
         ensures lock { IfSome result (λ guard. guard.held.0.place.now ≡ self.now) }
-        ensures call { MatchOption result (R.upgradable_locked_in_time None) (λ guard. R.upgradable_locked_in_time (Some guard.held.0.token)) }
+        ensures call { MatchOption result (R.upgradable_locked_in_time None)
+            (λ guard. R.upgradable_locked_in_time (Some guard.held.0.token)) }
     {
         let upgrader = RawHold::wait_until(self, deadline, clock, party)?;
         Some(Guard::under(upgrader))

@@ -74,7 +74,8 @@ where
 
     ghost upgraded = { λ hold alone. R.upgraded hold.token alone.token };
 
-    ghost upgrade_tried = { λ hold tried. MatchResult tried (λ alone. R.upgrade_tried hold.token (Ok alone.token)) (λ same. R.upgrade_tried hold.token (Err same.token)) };
+    ghost upgrade_tried = { λ hold tried. MatchResult tried (λ alone. R.upgrade_tried hold.token (Ok alone.token))
+        (λ same. R.upgrade_tried hold.token (Err same.token)) };
 
     fn upgrade(self, party: &mut R::Party) -> RawHold<L, Exclusive>
     where
@@ -116,7 +117,8 @@ where
 
     type Instant = R::Instant;
 
-    ghost upgraded_in_time = { λ hold tried. MatchResult tried (λ alone. R.upgraded_in_time hold.token (Ok alone.token)) (λ same. R.upgraded_in_time hold.token (Err same.token)) };
+    ghost upgraded_in_time = { λ hold tried. MatchResult tried (λ alone. R.upgraded_in_time hold.token (Ok alone.token))
+        (λ same. R.upgraded_in_time hold.token (Err same.token)) };
 
     fn try_upgrade_for<C: Clock>(
         self,

@@ -1,7 +1,7 @@
 -- What a call of a packed lock does to its word.
 use Rattle.lock_api_spin.specs.declared.turn.Turn.{Turn}
 
--- That this change was made by an exchange. Nothing opens it but the proof of the function that makes exchanges, so that a call which tells
--- of a change has to ask that function for it.
+-- That this change was made by an exchange. Nothing opens it but the proof of the function that makes exchanges, so
+-- that a call which tells of a change has to ask that function for it.
 unfoldable pub Made : Turn → Type 0
 Made turn = Unit {0}

@@ -1,7 +1,10 @@
 //! A raw reader-writer lock of one atomic word.
 ghost use Rattle.std.specs.Prelude.{◌≡◌, ◌-◌, ◌^◌, IfSome, MatchResult, ⊤, min, max, true};
 ghost use Rattle.lock_api_spin.specs.Turns.{Made};
-ghost use Rattle.lock_api_spin.specs.declared.turn.Turn.TheVariants.{TakeShared, TakeExclusive, TakeUpgradable, GiveShared, GiveExclusive, GiveUpgradable, Upgrade, Downgrade, DowngradeToUpgradable, DowngradeUpgradable};
+ghost use Rattle.lock_api_spin.specs.declared.turn.Turn.TheVariants.{TakeShared, TakeExclusive, TakeUpgradable};
+ghost use Rattle.lock_api_spin.specs.declared.turn.Turn.TheVariants.{GiveShared, GiveExclusive, GiveUpgradable};
+ghost use Rattle.lock_api_spin.specs.declared.turn.Turn.TheVariants.{Upgrade, Downgrade, DowngradeToUpgradable};
+ghost use Rattle.lock_api_spin.specs.declared.turn.Turn.TheVariants.{DowngradeUpgradable};
 
 use crate::turn::Turn;
 use lock_api_raw::{

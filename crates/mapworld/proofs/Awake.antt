@@ -1,5 +1,6 @@
 -- A thread whose call is a try is never asleep.
-use Rattle.std.proofs.Common.{◌≡◌, ℕ, inl, inr, Bool, true, false, IsTrue, List, [], ◌∷◌, Some, slice_get, refl, sym, ap, ◌∙◌, subst}
+use Rattle.std.proofs.Common.{◌≡◌, ℕ, inl, inr, Bool, true, false, IsTrue, List, [], ◌∷◌, Some, slice_get, refl, sym}
+use Rattle.std.proofs.Common.{ap, ◌∙◌, subst}
 use Rattle.std.specs.Cmp.{IsEquivalence}
 use Rattle.std.specs.Hash.{HashWrites}
 use Rattle.std.specs.declared.hash.BuildHasher as builder
@@ -29,7 +30,10 @@ use Rattle.mapworld_state.specs.Moves.{ask_of, mode_of, request_tries, start_sha
 use Rattle.mapworld_state.specs.Places.{Place}
 use Rattle.mapworld_state.specs.Running.{status_of}
 use Rattle.mapworld_state.specs.State.{State, threads_of}
-use Rattle.mapworld_state.specs.Steps.{EntersBy, GivesBack, IsStep, start, lock, find, find_grows, find_refused, deed_appends, deed_applies, deed_views, deed_reads, deed_changes, deed_fills, downgrade, release, answers, visit_starts, visit_parts, visit_looks, visit_seeks, visit_does, visit_gives}
+use Rattle.mapworld_state.specs.Steps.{EntersBy, GivesBack, IsStep, start, lock, find, find_grows, find_refused}
+use Rattle.mapworld_state.specs.Steps.{deed_appends, deed_applies, deed_views, deed_reads, deed_changes, deed_fills}
+use Rattle.mapworld_state.specs.Steps.{downgrade, release, answers, visit_starts, visit_parts, visit_looks, visit_seeks}
+use Rattle.mapworld_state.specs.Steps.{visit_does, visit_gives}
 use Rattle.mapworld_state.specs.World.{setup_of}
 use Rattle.mapworld_state.proofs.InvariantFacts.Building.{claim-at}
 use Rattle.mapworld.specs.Asleep.{IsAsking, IsAsleep}
@@ -37,13 +41,15 @@ use Rattle.mapworld.specs.Atomic.{core_in}
 use Rattle.mapworld.specs.Reachable.{IsReachable, LeadsTo}
 use Rattle.mapworld.specs.ReachableLaws as laws
 use Rattle.mapworld.proofs.Cores.{KeepsOthers, others-begins, others-same}
-use Rattle.mapworld.proofs.Footprints.{concluding, entering, enters_alone, leaving, parting, parting_fit, step_footprint, visiting}
+use Rattle.mapworld.proofs.Footprints.{concluding, entering, enters_alone, leaving, parting, parting_fit}
+use Rattle.mapworld.proofs.Footprints.{step_footprint, visiting}
 use Rattle.mapworld.proofs.Keeping.{IsKept}
 use Rattle.mapworld.proofs.LockSteps.{given_kind}
 use Rattle.mapworld.proofs.Reached.{own-laws, reachable-kept, reachable-step, same-setup-step}
 use Rattle.mapworld.proofs.Refusing.{Asked, asks, by_move, by_start, step-tells}
 use Rattle.mapworld.proofs.Sleeping.{status-asleep}
-use Rattle.mapworld.proofs.Tries.{UpStays, begins-up, moves-up, stays_up, up-awake, up-moves, up-others, up-starts, up-then}
+use Rattle.mapworld.proofs.Tries.{UpStays, begins-up, moves-up, stays_up, up-awake, up-moves, up-others, up-starts}
+use Rattle.mapworld.proofs.Tries.{up-then}
 
 -- WHAT A STEP DOES TO OTHERS' TRIES
 

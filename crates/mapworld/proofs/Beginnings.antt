@@ -1,5 +1,7 @@
 -- A new world is sound, has its opening pairs, and has room for all its calls.
-use Rattle.std.proofs.Common.{◌≡◌, ℕ, zero, suc, ◌+◌, ◌-◌, ◌<◌, ◌≤◌, ◌^◌, ◌||◌, Bool, true, false, List, [], ◌∷◌, length, map, replicate, Option, Some, None, slice_get, IsTrue, vec_capacity, refl, ap, ap₂, sym, ◌∙◌, subst, arith}
+use Rattle.std.proofs.Common.{◌≡◌, ℕ, zero, suc, ◌+◌, ◌-◌, ◌<◌, ◌≤◌, ◌^◌, ◌||◌, Bool, true, false, List, [], ◌∷◌}
+use Rattle.std.proofs.Common.{length, map, replicate, Option, Some, None, slice_get, IsTrue, vec_capacity, refl, ap}
+use Rattle.std.proofs.Common.{ap₂, sym, ◌∙◌, subst, arith}
 use Rattle.std.specs.List.{flat_map, sum_by, list_all, list_any}
 use Rattle.std.specs.Option.{option_and_then}
 use Rattle.std.specs.Hash.{HashWrites}
@@ -41,7 +43,8 @@ use Rattle.mapworld_state.specs.State.{State, started_of}
 use Rattle.mapworld_state.specs.World.{deeds_of, setup_of}
 use Rattle.mapworld_state.specs.Sound.{FitsCounter, IsInSession, Stands, TablesAgree, Sound}
 use Rattle.mapworld_state.specs.Held.{HoldsMatch, StandsBefore}
-use Rattle.mapworld_state.specs.Core.{state_of, owes, lists, adds, is_walk, may_list, may_walk, phase_lists, AreLocksOf, Room}
+use Rattle.mapworld_state.specs.Core.{state_of, owes, lists, adds, is_walk, may_list, may_walk, phase_lists, AreLocksOf}
+use Rattle.mapworld_state.specs.Core.{Room}
 use Rattle.mapworld_state.specs.Classes.{class_of, walks_in}
 use Rattle.dashmap_table.specs.Table.{Table}
 use Rattle.mapworld.specs.Beginning.{at_start, AreAtStart, AreFilled, AreHashed, HaveLists, pairs_in}

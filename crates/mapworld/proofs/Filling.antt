@@ -1,5 +1,7 @@
 -- The opening pairs, put one after another into their shards.
-use Rattle.std.proofs.Common.{◌≡◌, ◌≢◌, ℕ, zero, suc, ◌+◌, Bool, false, cond, not, if◌then◌else◌, List, [], ◌∷◌, ◌++◌, length, map, Option, Some, None, is_some, slice_get, slice_set, IsTrue, refl, ap, sym, ◌∙◌, subst, inl, inr, arith, length-append}
+use Rattle.std.proofs.Common.{◌≡◌, ◌≢◌, ℕ, zero, suc, ◌+◌, Bool, false, cond, not, if◌then◌else◌, List, [], ◌∷◌, ◌++◌}
+use Rattle.std.proofs.Common.{length, map, Option, Some, None, is_some, slice_get, slice_set, IsTrue, refl, ap, sym}
+use Rattle.std.proofs.Common.{◌∙◌, subst, inl, inr, arith, length-append}
 use Rattle.std.specs.List.{flat_map}
 use Rattle.std.specs.Cmp.{IsEquivalence}
 use Rattle.std.specs.Hash.{HashWrites}

@@ -1,5 +1,6 @@
 -- Every step does one thing, and keeps to its footprint.
-use Rattle.std.proofs.Common.{◌≡◌, ◌≢◌, ◌⊎◌, ℕ, inl, inr, ◌+◌, Bool, List, [], ◌∷◌, ◌++◌, length, Option, Some, None, slice_get, slice_set, refl, ap, sym, ◌∙◌, subst}
+use Rattle.std.proofs.Common.{◌≡◌, ◌≢◌, ◌⊎◌, ℕ, inl, inr, ◌+◌, Bool, List, [], ◌∷◌, ◌++◌, length, Option, Some, None}
+use Rattle.std.proofs.Common.{slice_get, slice_set, refl, ap, sym, ◌∙◌, subst}
 use Rattle.std.specs.List.{flat_map}
 use Rattle.std.specs.Option.{option_and_then}
 use Rattle.std.proofs.lemmas.Bool.{cases_eq, cond-false}
@@ -19,15 +20,23 @@ use Rattle.mapworld_state.specs.declared.place.Phase.TheVariants as phase
 use Rattle.mapworld_state.specs.declared.step.Step.{Step}
 use Rattle.mapworld_state.specs.Places.{Place}
 use Rattle.mapworld_state.specs.State.{State, next_step, pairs_of, started_of, threads_of}
-use Rattle.mapworld_state.specs.Steps.{IsStep, Concludes, Enters, EntersBy, GivesBack, IsRefusedVisit, Leaves, LooksAround, Reaches, Starts, StartsVisit, owed, locked, idle, start, lock, find, find_grows, find_refused, deed_appends, deed_applies, deed_views, deed_reads, deed_changes, deed_fills, downgrade, release, answers, visit_starts, visit_parts, visit_looks, visit_seeks, visit_does, visit_gives}
-use Rattle.mapworld_state.specs.Footprint.{KeepsPairs, OthersKeepPairs, KeepsLocks, word_of, neither, one_pair, one_lock, HasFootprint}
+use Rattle.mapworld_state.specs.Steps.{IsStep, Concludes, Enters, EntersBy, GivesBack, IsRefusedVisit, Leaves}
+use Rattle.mapworld_state.specs.Steps.{LooksAround, Reaches, Starts, StartsVisit, owed, locked, idle, start, lock, find}
+use Rattle.mapworld_state.specs.Steps.{find_grows, find_refused, deed_appends, deed_applies, deed_views, deed_reads}
+use Rattle.mapworld_state.specs.Steps.{deed_changes, deed_fills, downgrade, release, answers, visit_starts, visit_parts}
+use Rattle.mapworld_state.specs.Steps.{visit_looks, visit_seeks, visit_does, visit_gives}
+use Rattle.mapworld_state.specs.Footprint.{KeepsPairs, OthersKeepPairs, KeepsLocks, word_of, neither, one_pair}
+use Rattle.mapworld_state.specs.Footprint.{one_lock, HasFootprint}
 use Rattle.mapworld_state.specs.Sound.{Sound}
 use Rattle.mapworld_state.specs.Shards.{ShardPairs, Puts}
 use Rattle.mapworld_state.specs.Walks.{IsLookedAt}
 use Rattle.mapworld_progress.proofs.Visiting.{ItemPuts, item-puts}
-use Rattle.mapworld.specs.Atomic.{DoesOne, IsAtomic, KeepsCalls, StaysInCall, starts, looks, deed, at_lock, answers as replied}
-use Rattle.mapworld.proofs.Cores.{KeepsOthers, calls-behind, calls-moves, calls-same, calls-starts, others-begins, others-ends, others-same}
-use Rattle.mapworld.proofs.LockSteps.{TouchesLock, begins_keep, ends_fit, ends_keep, given_kind, keeps_behind, moves_touch, starts_touch, touches_behind}
+use Rattle.mapworld.specs.Atomic.{DoesOne, IsAtomic, KeepsCalls, StaysInCall, starts, looks, deed, at_lock}
+use Rattle.mapworld.specs.Atomic.{answers as replied}
+use Rattle.mapworld.proofs.Cores.{KeepsOthers, calls-behind, calls-moves, calls-same, calls-starts, others-begins}
+use Rattle.mapworld.proofs.Cores.{others-ends, others-same}
+use Rattle.mapworld.proofs.LockSteps.{TouchesLock, begins_keep, ends_fit, ends_keep, given_kind, keeps_behind}
+use Rattle.mapworld.proofs.LockSteps.{moves_touch, starts_touch, touches_behind}
 use Rattle.mapworld.proofs.Viewing.{pair_at_route}
 use Rattle.mapworld.proofs.Outcomes.{element-at}
 use Rattle.mapworld_state.proofs.InvariantFacts.Building.{claim-at}

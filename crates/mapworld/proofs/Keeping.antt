@@ -1,5 +1,7 @@
--- What every step keeps: a world is sound, its locks fit and are those of its shards and threads, and tries have causes.
-use Rattle.std.proofs.Common.{◌≡◌, ℕ, suc, ◌+◌, ◌<◌, ◌≤◌, ◌⊎◌, inl, inr, Bool, cond, if◌then◌else◌, ◌==◌, List, [], ◌∷◌, length, Option, Some, None, slice_get, slice_set, refl, sym, ap, ◌∙◌, subst, arith}
+-- What every step keeps: a world is sound, its locks fit and are those of its shards and threads, and tries have
+-- causes.
+use Rattle.std.proofs.Common.{◌≡◌, ℕ, suc, ◌+◌, ◌<◌, ◌≤◌, ◌⊎◌, inl, inr, Bool, cond, if◌then◌else◌, ◌==◌, List, [], ◌∷◌}
+use Rattle.std.proofs.Common.{length, Option, Some, None, slice_get, slice_set, refl, sym, ap, ◌∙◌, subst, arith}
 use Rattle.std.specs.List.{sum_by}
 use Rattle.std.specs.Option.{option_and_then}
 use Rattle.std.proofs.lemmas.Option.{none-some, slice_get_within}
@@ -22,14 +24,19 @@ use Rattle.mapworld_state.specs.Locks.Views.{Shown}
 use Rattle.mapworld_state.specs.Places.{Place}
 use Rattle.mapworld_state.specs.Sound.{Sound, is_resting, taken}
 use Rattle.mapworld_state.specs.State.{State}
-use Rattle.mapworld_state.specs.Steps.{IsStep, Concludes, Enters, GivesBack, IsRefusedVisit, Leaves, LooksAround, Reaches, owed as owed_lock, locked, idle, start, lock, find, find_grows, find_refused, deed_appends, deed_applies, deed_views, deed_reads, deed_changes, deed_fills, downgrade, release, answers, visit_starts, visit_parts, visit_looks, visit_seeks, visit_does, visit_gives}
+use Rattle.mapworld_state.specs.Steps.{IsStep, Concludes, Enters, GivesBack, IsRefusedVisit, Leaves, LooksAround}
+use Rattle.mapworld_state.specs.Steps.{Reaches, owed as owed_lock, locked, idle, start, lock, find, find_grows}
+use Rattle.mapworld_state.specs.Steps.{find_refused, deed_appends, deed_applies, deed_views, deed_reads, deed_changes}
+use Rattle.mapworld_state.specs.Steps.{deed_fills, downgrade, release, answers, visit_starts, visit_parts, visit_looks}
+use Rattle.mapworld_state.specs.Steps.{visit_seeks, visit_does, visit_gives}
 use Rattle.mapworld_state.proofs.InvariantFacts.Adding.{step-adds}
 use Rattle.mapworld_state.proofs.InvariantFacts.CausesFacts.Keeping.{causes-step}
 use Rattle.mapworld_state.proofs.InvariantFacts.Sounds.{sound-step}
 use Rattle.mapworld_progress.specs.Sizes.{IsSized}
 use Rattle.mapworld_progress.specs.Whole.{IsWhole}
 use Rattle.mapworld.proofs.Filling.{length-slice_set}
-use Rattle.mapworld.proofs.LockFits.{Lasts, lasts-asks, lasts-ends, lasts-enters, lasts-moves, lasts-same, lasts-starts, lasts-then}
+use Rattle.mapworld.proofs.LockFits.{Lasts, lasts-asks, lasts-ends, lasts-enters, lasts-moves, lasts-same, lasts-starts}
+use Rattle.mapworld.proofs.LockFits.{lasts-then}
 use Rattle.mapworld.proofs.LockSteps.{given_kind}
 
 -- WHAT A STEP LEAVES OF THE LOCKS, AND OF THE NUMBER OF PLACES

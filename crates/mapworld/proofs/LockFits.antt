@@ -19,7 +19,8 @@ use Rattle.mapworld_state.specs.Locks.Views.{Shown, held_at}
 use Rattle.mapworld_state.specs.Steps.{EntersBy}
 use Rattle.mapworld_state.specs.Moves.{mode_of, request_tries}
 use Rattle.mapworld_state.specs.Walks.{walk_mode}
-use Rattle.mapworld_state.proofs.LocksFacts.Sizes.{KeepsSize, begins-size, ends-size, moves-size, same_size, starts-size}
+use Rattle.mapworld_state.proofs.LocksFacts.Sizes.{KeepsSize, begins-size, ends-size, moves-size, same_size}
+use Rattle.mapworld_state.proofs.LocksFacts.Sizes.{starts-size}
 use Rattle.mapworld_state.proofs.LocksFacts.Stepping.{stepped_fit}
 use Rattle.mapworld.proofs.LockSteps.{begins_fit, ends_fit}
 

@@ -1,5 +1,7 @@
--- A world at rest is over: each thread has finished, and each call has its reply. Where a world is over nobody can move.
-use Rattle.std.proofs.Common.{◌≡◌, ℕ, ◌<◌, ◌==◌, inl, inr, Bool, true, false, not, if◌then◌else◌, List, length, take, Some, slice_get, refl, sym, ap, ◌∙◌, arith}
+-- A world at rest is over: each thread has finished, and each call has its reply. Where a world is over nobody can
+-- move.
+use Rattle.std.proofs.Common.{◌≡◌, ℕ, ◌<◌, ◌==◌, inl, inr, Bool, true, false, not, if◌then◌else◌, List, length, take}
+use Rattle.std.proofs.Common.{Some, slice_get, refl, sym, ap, ◌∙◌, arith}
 use Rattle.std.specs.List.{count_by}
 use Rattle.std.proofs.lemmas.Bool.{eqb-true}
 use Rattle.dashmap_table.proofs.Cases.{option_cases}
@@ -11,7 +13,8 @@ use Rattle.mapworld_calls.specs.Placed.{answered_of}
 use Rattle.mapworld_calls.specs.Setup.{Setup}
 use Rattle.mapworld_state.specs.declared.place.Phase.{Phase}
 use Rattle.mapworld_state.specs.declared.step.Status.TheVariants as status
-use Rattle.mapworld_state.specs.Classes.{Class, resting, waiting, inside, placed, leaving, answering, reaching, parting, looking, visiting, pausing, class_of, moves_in, status_in}
+use Rattle.mapworld_state.specs.Classes.{Class, resting, waiting, inside, placed, leaving, answering, reaching, parting}
+use Rattle.mapworld_state.specs.Classes.{looking, visiting, pausing, class_of, moves_in, status_in}
 use Rattle.mapworld_state.specs.Running.{can_move_in, goes_on, moves_at, status_at, status_of}
 use Rattle.mapworld_state.specs.Sound.{Sound}
 use Rattle.mapworld_state.specs.State.{State}

@@ -1,5 +1,6 @@
 -- What holds of every reachable world.
-use Rattle.std.proofs.Common.{◌≡◌, ℕ, ◌≤◌, Bool, true, IsTrue, List, [], ◌∷◌, ◌++◌, length, None, refl, sym, ap, ◌∙◌, subst, arith}
+use Rattle.std.proofs.Common.{◌≡◌, ℕ, ◌≤◌, Bool, true, IsTrue, List, [], ◌∷◌, ◌++◌, length, None, refl, sym, ap, ◌∙◌}
+use Rattle.std.proofs.Common.{subst, arith}
 use Rattle.std.specs.Cmp.{IsEquivalence}
 use Rattle.std.specs.Hash.{HashWrites}
 use Rattle.std.specs.List.{All}
@@ -7,7 +8,8 @@ use Rattle.std.specs.declared.hash.BuildHasher as builder
 use Rattle.std.specs.declared.hash.Hasher as hasher
 use Rattle.std.proofs.lemmas.List.{length-map}
 use Rattle.std.proofs.lemmas.List.Elements.{All-head, All-tail}
-use Rattle.parking_lot_machine.specs.SoundLaws.{Always, OwnersAgree, SomebodyCanMove as SomebodyAtALock, StepsAreCases, StepsAreFew}
+use Rattle.parking_lot_machine.specs.SoundLaws.{Always, OwnersAgree, SomebodyCanMove as SomebodyAtALock, StepsAreCases}
+use Rattle.parking_lot_machine.specs.SoundLaws.{StepsAreFew}
 use Rattle.mapworld_calls.specs.declared.ask.Ask.{Ask}
 use Rattle.mapworld_calls.specs.declared.deed.Deed as deed
 use Rattle.mapworld_calls.specs.Setup.{Setup, Laws}

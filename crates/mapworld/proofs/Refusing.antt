@@ -1,6 +1,7 @@
--- Which steps lead a thread to an answer that it was refused for memory: those at which a growth was refused, and walks. And which lead it
--- to the admission of a call on one key: its start.
-use Rattle.std.proofs.Common.{◌≡◌, ℕ, ◌⊎◌, inl, inr, Bool, true, false, cond, List, Some, None, slice_get, slice_set, refl, sym, ap, ◌∙◌}
+-- Which steps lead a thread to an answer that it was refused for memory: those at which a growth was refused, and
+-- walks. And which lead it to the admission of a call on one key: its start.
+use Rattle.std.proofs.Common.{◌≡◌, ℕ, ◌⊎◌, inl, inr, Bool, true, false, cond, List, Some, None, slice_get, slice_set}
+use Rattle.std.proofs.Common.{refl, sym, ap, ◌∙◌}
 use Rattle.std.proofs.lemmas.Bool.{false≢true}
 use Rattle.mapworld_calls.specs.declared.ask.Ask.{Ask}
 use Rattle.mapworld_calls.specs.declared.ask.Ask.TheVariants as ask
@@ -27,7 +28,11 @@ use Rattle.mapworld_state.specs.Places.{Place}
 use Rattle.mapworld_state.specs.Shards.{has_room}
 use Rattle.mapworld_state.specs.Sound.{Claim, Sound}
 use Rattle.mapworld_state.specs.State.{State, threads_of}
-use Rattle.mapworld_state.specs.Steps.{Enters, IsRefusedGrowth, IsRefusedVisit, IsStep, Leaves, LooksAround, MovesLock, Reaches, Replies, Starts, start, lock, find, find_grows, find_refused, deed_appends, deed_applies, deed_views, deed_reads, deed_changes, deed_fills, downgrade, release, answers, visit_starts, visit_parts, visit_looks, visit_seeks, visit_does, visit_gives}
+use Rattle.mapworld_state.specs.Steps.{Enters, IsRefusedGrowth, IsRefusedVisit, IsStep, Leaves, LooksAround, MovesLock}
+use Rattle.mapworld_state.specs.Steps.{Reaches, Replies, Starts, start, lock, find, find_grows, find_refused}
+use Rattle.mapworld_state.specs.Steps.{deed_appends, deed_applies, deed_views, deed_reads, deed_changes, deed_fills}
+use Rattle.mapworld_state.specs.Steps.{downgrade, release, answers, visit_starts, visit_parts, visit_looks, visit_seeks}
+use Rattle.mapworld_state.specs.Steps.{visit_does, visit_gives}
 use Rattle.mapworld_state.specs.Walks.{LeadsOn, hands_over}
 use Rattle.mapworld_state.proofs.InvariantFacts.Building.{asked-at, claim-at, drop-first, taken-at}
 use Rattle.mapworld_state.proofs.InvariantFacts.Walking.{sound-let_in}

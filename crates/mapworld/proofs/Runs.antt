@@ -1,5 +1,6 @@
 -- Runs of steps, one step more.
-use Rattle.std.proofs.Common.{◌≡◌, ℕ, ◌+◌, List, [], ◌∷◌, ◌++◌, length, None, refl, ap, sym, ◌∙◌, subst, arith, Bool, true, false, if◌then◌else◌, nat_lt, Some}
+use Rattle.std.proofs.Common.{◌≡◌, ℕ, ◌+◌, List, [], ◌∷◌, ◌++◌, length, None, refl, ap, sym, ◌∙◌, subst, arith, Bool}
+use Rattle.std.proofs.Common.{true, false, if◌then◌else◌, nat_lt, Some}
 use Rattle.mapworld_calls.specs.Setup.{Setup}
 use Rattle.mapworld_state.specs.declared.step.Step.{Step}
 use Rattle.mapworld_state.specs.State.{State}

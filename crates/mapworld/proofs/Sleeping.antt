@@ -1,5 +1,7 @@
--- A thread is asleep where it is before an admission and waits for its shard's lock, and finished where all its calls are answered.
-use Rattle.std.proofs.Common.{◌≡◌, ◌↔◌, ℕ, ◌+◌, ◌-◌, ◌≤◌, inl, inr, Bool, true, false, if◌then◌else◌, List, length, drop, Option, Some, None, slice_get, refl, ap, sym, ◌∙◌, subst, ◌==◌, arith, length-drop}
+-- A thread is asleep where it is before an admission and waits for its shard's lock, and finished where all its calls
+-- are answered.
+use Rattle.std.proofs.Common.{◌≡◌, ◌↔◌, ℕ, ◌+◌, ◌-◌, ◌≤◌, inl, inr, Bool, true, false, if◌then◌else◌, List, length}
+use Rattle.std.proofs.Common.{drop, Option, Some, None, slice_get, refl, ap, sym, ◌∙◌, subst, ◌==◌, arith, length-drop}
 use Rattle.std.specs.Option.{option_map}
 use Rattle.std.proofs.lemmas.Option.{none-some, same_Some, slice_get_within}
 use Rattle.std.proofs.lemmas.Bool.{cond-true, eqb-true}
@@ -20,7 +22,8 @@ use Rattle.mapworld_state.specs.declared.place.Phase.{Phase}
 use Rattle.mapworld_state.specs.declared.place.Phase.TheVariants as phase
 use Rattle.mapworld_state.specs.Places.{Place}
 use Rattle.mapworld_state.specs.State.{State}
-use Rattle.mapworld_state.specs.Classes.{Class, resting, waiting, inside, placed, leaving, answering, reaching, parting, looking, visiting, pausing, class_of, rests_in, status_in}
+use Rattle.mapworld_state.specs.Classes.{Class, resting, waiting, inside, placed, leaving, answering, reaching, parting}
+use Rattle.mapworld_state.specs.Classes.{looking, visiting, pausing, class_of, rests_in, status_in}
 use Rattle.mapworld_state.specs.Running.{status_before, status_at, status_of}
 use Rattle.mapworld_state.specs.Sound.{is_resting, Sound}
 use Rattle.mapworld.specs.Asleep.{IsAsking, IsAsleep, IsFinished, IsWaiting}

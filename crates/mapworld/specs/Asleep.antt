@@ -14,7 +14,8 @@ use Rattle.mapworld_state.specs.declared.place.Phase.TheVariants as phase
 use Rattle.mapworld_state.specs.Places.{Place}
 use Rattle.mapworld_state.specs.State.{State}
 
--- The thread stands in one of the shard's two queues, and once; or it was taken from there by a thread that is still to wake it.
+-- The thread stands in one of the shard's two queues, and once; or it was taken from there by a thread that is still to
+-- wake it.
 abbrev pub IsWaiting : Shown → ℕ → ℕ → Type 0
 IsWaiting locks t shard =
     (occurs t (queue_at (state locks.rows) (first_key shard)) + occurs t

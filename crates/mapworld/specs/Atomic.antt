@@ -14,7 +14,8 @@ use Rattle.mapworld_state.specs.State.{State, next_step, started_of}
 abbrev pub core_in : Shown → ℕ → Option Core
 core_in locks t = option_map (λ c. c.core) (call_at (state locks.rows) t)
 
--- Of the calls that other threads are in at locks: what each is about stays, and no more than one of them goes on, by being woken.
+-- Of the calls that other threads are in at locks: what each is about stays, and no more than one of them goes on, by
+-- being woken.
 pub record KeepsCalls (t : ℕ) (locks locks' : Shown) : Type 0 where
   pub about : (v : ℕ) → v ≢ t → stand_in locks' v ≡ stand_in locks v
   pub woken : ℕ
@@ -35,8 +36,9 @@ module _ {K V S D T A : Type 0} (eq : K → K → Bool) (w : State K V S D T A) 
     pub over : started_of w' s.thread ≡ None
     pub replies : w'.replies ≡ w.replies ++ reply ∷ []
 
-  -- It starts a call; or looks, for which a shard may grow or shrink, and every key keeps its pair; or does a deed on one pair; or changes of one lock
-  -- the word or one queue; or answers. No two of these are one step, and what isn't named stays.
+  -- It starts a call; or looks, for which a shard may grow or shrink, and every key keeps its pair; or does a deed on
+  -- one pair; or changes of one lock the word or one queue; or answers. No two of these are one step, and what isn't
+  -- named stays.
   pub data DoesOne : Type 0 where
     starts : started_of w s.thread ≡ None → started_of w' s.thread ≡ Some (next_step w) → w'.replies ≡ w.replies
         → KeepsPairs eq w w' → KeepsLocks w.locks w'.locks → DoesOne

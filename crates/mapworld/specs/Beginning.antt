@@ -1,5 +1,6 @@
 -- How a new world's threads and tables begin.
-use Rattle.std.specs.Prelude.{◌≡◌, ℕ, ◌≤◌, Bool, true, false, List, [], length, map, flat_map, Some, None, slice_get, sum_by, vec_capacity}
+use Rattle.std.specs.Prelude.{◌≡◌, ℕ, ◌≤◌, Bool, true, false, List, [], length, map, flat_map, Some, None, slice_get}
+use Rattle.std.specs.Prelude.{sum_by, vec_capacity}
 use Rattle.std.specs.List.{list_any}
 use Rattle.mapworld_state.specs.Shards.{ShardPairs}
 use Rattle.dashmap_table.specs.Table.{Table}
@@ -55,7 +56,8 @@ AreEmpty {K} {V} tables = (i : ℕ) (table : Table K V) → slice_get tables i �
 abbrev pub AreHashed : {K V : Type 0} → (K → ℕ) → List (Table K V) → Type 0
 AreHashed {K} {V} hash tables = (i : ℕ) (table : Table K V) → slice_get tables i ≡ Some table → HasHashes hash table
 
--- a thread whose program has walks has a list of visits with room for all shards, and an empty list for each answer of what a walk reads
+-- a thread whose program has walks has a list of visits with room for all shards, and an empty list for each answer of
+-- what a walk reads
 pub record HasLists {K V D T A : Type 0} (shards : ℕ) (p : KeptPlace K V D T A) : Type 0 where
   pub visits : list_any is_walk p.asks.items ≡ true → shards ≤ vec_capacity p.visits
   pub lists : sum_by ask_lists p.asks.items ≤ length p.lists.items

@@ -7,7 +7,8 @@ use Rattle.mapworld_state.specs.State.{State}
 use Rattle.mapworld_state.specs.Steps.{IsStep}
 use Rattle.mapworld.specs.Atomic.{IsAtomic}
 
--- the steps lead from one world to the other, one after another, each of a thread that can move then, of one kind, which does one thing
+-- the steps lead from one world to the other, one after another, each of a thread that can move then, of one kind,
+-- which does one thing
 abbrev pub Drained : {K V S D T A : Type 0} → Setup K V D T → State K V S D T A → List Step → State K V S D T A → Type 0
 Drained x w [] w' = w' ≡ w
 Drained {K} {V} {S} {D} {T} {A} x w (s ∷ steps) w' =

@@ -1,5 +1,5 @@
--- A world's history, as a caller sees it, and what is promised of every history: that it is linearizable, that it only grows, and that refused
--- tries have a cause.
+-- A world's history, as a caller sees it, and what is promised of every history: that it is linearizable, that it only
+-- grows, and that refused tries have a cause.
 use Rattle.std.specs.Prelude.{◌≡◌, ℕ, Bool, List, length, Option}
 use Rattle.std.specs.Hash.{HashWrites}
 use Rattle.std.specs.declared.hash.BuildHasher as builder
@@ -26,7 +26,8 @@ pub record History (K V S D T A : Type 0) : Type 0 where
   pub steps : List ℕ
   -- at which step the call of a thread has started, while it isn't answered
   pub started : ℕ → Option ℕ
-  -- the operations of the sequential map, in the order of their linearization points, and the answers, in the order in which they were given
+  -- the operations of the sequential map, in the order of their linearization points, and the answers, in the order in
+  -- which they were given
   pub blocks : List (Block K)
   pub replies : List (Reply K V T A)
   -- the contents now

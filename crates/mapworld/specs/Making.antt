@@ -1,5 +1,6 @@
 -- Which worlds aren't made, and what a new one has.
-use Rattle.std.specs.Prelude.{◌≡◌, ℕ, ◌^◌, ◌⊎◌, Bool, false, ◌&&◌, ◌==◌, if◌then◌else◌, nat_lt, nat_le, List, [], length, sum_by, Option, Some, None, Result, Err, IsOk}
+use Rattle.std.specs.Prelude.{◌≡◌, ℕ, ◌^◌, ◌⊎◌, Bool, false, ◌&&◌, ◌==◌, if◌then◌else◌, nat_lt, nat_le, List, []}
+use Rattle.std.specs.Prelude.{length, sum_by, Option, Some, None, Result, Err, IsOk}
 use Rattle.std.specs.List.{list_all}
 use Rattle.mapworld_calls.specs.declared.ask.Ask.{Ask}
 use Rattle.mapworld_calls.specs.Programs.{one_guard, numbers_of}
@@ -37,8 +38,8 @@ abbrev pub IsMadeUnless : {W : Type 0} → Option WorldNewFault → Result W Wor
 IsMadeUnless (Some f) made = made ≡ Err f
 IsMadeUnless None made = IsOk made ⊎ (made ≡ Err fault.NoMemory)
 
--- a new world has what it was made with, a thread for each program that is before the first of its calls, and a lock for each shard, which
--- nobody holds or asks for; and nothing has happened in it
+-- a new world has what it was made with, a thread for each program that is before the first of its calls, and a lock
+-- for each shard, which nobody holds or asks for; and nothing has happened in it
 pub record IsNew {K V S D T A : Type 0} (eq : K → K → Bool) (shards : ℕ) (hasher : S) (pairs : List (K × V))
     (programs : List (List (Ask K V D))) (w : State K V S D T A) : Type 0 where
   pub hasher_is : w.hasher ≡ hasher

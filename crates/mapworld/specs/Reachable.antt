@@ -17,7 +17,8 @@ use Rattle.mapworld.specs.Beginning.{AreFilled}
 use Rattle.mapworld.specs.Making.{new_refusal, IsNew}
 use Rattle.mapworld.specs.Stops.{AllStopsFit}
 
--- A new world: its shards, pairs and programs are accepted, each pair is in the shard that its key routes to, and nothing has happened.
+-- A new world: its shards, pairs and programs are accepted, each pair is in the shard that its key routes to, and
+-- nothing has happened.
 pub record IsInitial {K V S D T A : Type 0} (x : Setup K V D T) (w : State K V S D T A) : Type 0 where
   pub accepted : new_refusal (length w.tables) (length w.opening) w.programs ≡ None
   -- numbers of items are of 64 bits
@@ -26,7 +27,8 @@ pub record IsInitial {K V S D T A : Type 0} (x : Setup K V D T) (w : State K V S
   pub filled : AreFilled x.eq x.route w.opening w.tables
   pub fit : LocksFit w.locks
 
--- the schedule leads from the one state to the other: its steps are made one after another, each of one kind, and of a thread that can move then
+-- the schedule leads from the one state to the other: its steps are made one after another, each of one kind, and of a
+-- thread that can move then
 abbrev pub LeadsTo : {K V S D T A : Type 0} → Setup K V D T → State K V S D T A → List Step → State K V S D T A → Type 0
 LeadsTo x w [] w' = w' ≡ w
 LeadsTo {K} {V} {S} {D} {T} {A} x w (s ∷ steps) w' = (mid : State K V S D T A) × (can_move_in w s.thread ≡ true)

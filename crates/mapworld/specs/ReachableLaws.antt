@@ -30,7 +30,8 @@ use Rattle.mapworld_state.specs.World.{setup_of}
 use Rattle.mapworld_progress.specs.Rest.{IsAtRest}
 use Rattle.mapworld.specs.Atomic.{IsAtomic}
 use Rattle.mapworld.specs.Guarded.{GuardsAreOwners}
-use Rattle.mapworld.specs.History.{history_of, HistoryAddsTo, HistoryAgrees, HistoryHasCauses, HistoryIsPlaced, HistoryStaysFixed}
+use Rattle.mapworld.specs.History.{history_of, HistoryAddsTo, HistoryAgrees, HistoryHasCauses, HistoryIsPlaced}
+use Rattle.mapworld.specs.History.{HistoryStaysFixed}
 use Rattle.mapworld.specs.Over.{IsOver}
 use Rattle.mapworld.specs.Reachable.{IsReachable, LeadsTo}
 
@@ -48,8 +49,9 @@ module _ {K V S H D T : Type 0} (A : Type 0) (d : deed.Ghosts D K V T) (b : buil
   RunsAreSchedules = (w : State K V S D T A) (n : ℕ) (steps : List Step) (w' : State K V S D T A)
       → Ran (setup_of d b h eq writes w) n w steps w' → LeadsTo (setup_of d b h eq writes w) w steps w'
 
-  -- what `run` promises of the state that it leaves holds of every reachable one, and so do the invariants behind it: a thread's holds are its ownerships
-  -- of locks, it has them exactly from its admission to its release, and words, queues and guards fit each other
+  -- what `run` promises of the state that it leaves holds of every reachable one, and so do the invariants behind it: a
+  -- thread's holds are its ownerships of locks, it has them exactly from its admission to its release, and words,
+  -- queues and guards fit each other
   pub record IsLinearized (w : State K V S D T A) : Type 0 where
     pub agrees : HistoryAgrees d b h eq writes (history_of w)
     pub placed : HistoryIsPlaced d b h eq writes (history_of w)
@@ -64,7 +66,8 @@ module _ {K V S H D T : Type 0} (A : Type 0) (d : deed.Ghosts D K V T) (b : buil
   abbrev pub ReachableWorldsAreLinearized : Type 0
   ReachableWorldsAreLinearized = (w : State K V S D T A) → IsReachable d b h eq writes w → IsLinearized w
 
-  -- each shard has the pairs of the keys that route to it, each key routes to one of the shards, and the replay has the laws of worlds
+  -- each shard has the pairs of the keys that route to it, each key routes to one of the shards, and the replay has the
+  -- laws of worlds
   pub record IsRouted (w : State K V S D T A) : Type 0 where
     pub pairs : (i j : ℕ) (table : ShardPairs K V) (p : K × V) → slice_get w.tables i ≡ Some table
         → slice_get table.items j ≡ Some p
@@ -85,12 +88,13 @@ module _ {K V S H D T : Type 0} (A : Type 0) (d : deed.Ghosts D K V T) (b : buil
   StoppedWorldsAreAtRest = (w : State K V S D T A) → IsReachable d b h eq writes w
       → ((t : ℕ) → can_move_in w t ≡ false) → IsAtRest w
 
-  -- where every call is answered and every thread has finished, nothing is left: no hold, no guard, nobody in a section, and nobody in a call at a lock
+  -- where every call is answered and every thread has finished, nothing is left: no hold, no guard, nobody in a
+  -- section, and nobody in a call at a lock
   abbrev pub FinishedWorldsAreAtRest : Type 0
   FinishedWorldsAreAtRest = (w : State K V S D T A) → IsReachable d b h eq writes w → IsOver w → IsAtRest w
 
-  -- A schedule of one thread, whichever of its steps are fair, has fewer steps than the bound. So a thread that is stepped alone comes to where it
-  -- can't move.
+  -- A schedule of one thread, whichever of its steps are fair, has fewer steps than the bound. So a thread that is
+  -- stepped alone comes to where it can't move.
   abbrev pub LoneThreadsStop : Type 0
   LoneThreadsStop = (w : State K V S D T A) (t : ℕ) (steps : List Step) (w' : State K V S D T A)
       → IsReachable d b h eq writes w → All (λ s. s.thread ≡ t) steps
@@ -102,7 +106,8 @@ module _ {K V S H D T : Type 0} (A : Type 0) (d : deed.Ghosts D K V T) (b : buil
       → ask_at (setup_of d b h eq writes w) t (answered_of w.replies t) ≡ Some (ask.Begin g) → is_try g ≡ true
       → status_of w t ≢ status.Asleep
 
-  -- a step of any kind does one thing: it starts a call, looks, changes one pair, acts at one lock or answers, and wakes no more than one thread
+  -- a step of any kind does one thing: it starts a call, looks, changes one pair, acts at one lock or answers, and
+  -- wakes no more than one thread
   abbrev pub ReachableStepsAreAtomic : Type 0
   ReachableStepsAreAtomic = (w : State K V S D T A) (s : Step) (w' : State K V S D T A)
       → IsReachable d b h eq writes w → IsStep (setup_of d b h eq writes w) w s w' → IsAtomic eq w s w'
@@ -113,8 +118,8 @@ module _ {K V S H D T : Type 0} (A : Type 0) (d : deed.Ghosts D K V T) (b : buil
       → ((g : GrowsShard (setup_of d b h eq writes w) w s w') → pair_of eq (pairs_of w) (growth_key g.call) ≡ None)
       × ((g : IsRefusedGrowth (setup_of d b h eq writes w) w s w') → pair_of eq (pairs_of w) (growth_key g.call) ≡ None)
 
-  -- At some moment between two steps of the world's past, not before one step and before another, the map had no pair of the key. As each state
-  -- agrees with its blocks, that is a place of their order.
+  -- At some moment between two steps of the world's past, not before one step and before another, the map had no pair
+  -- of the key. As each state agrees with its blocks, that is a place of their order.
   pub record WasAbsent (w : State K V S D T A) (key : K) (from until : ℕ) : Type 0 where
     pub moment : State K V S D T A
     pub reached : IsReachable d b h eq writes moment
@@ -124,7 +129,8 @@ module _ {K V S H D T : Type 0} (A : Type 0) (d : deed.Ghosts D K V T) (b : buil
     pub before : length moment.steps < until
     pub absent : pair_of eq (pairs_of moment) key ≡ None
 
-  -- a call on a key that was refused for memory had a moment, between its start and its end, at which the map had no pair of the key
+  -- a call on a key that was refused for memory had a moment, between its start and its end, at which the map had no
+  -- pair of the key
   abbrev pub RefusedKeysWereAbsent : Type 0
   RefusedKeysWereAbsent = (w : State K V S D T A) (i : ℕ) (r : Reply K V T A) (a : Ask K V D) (key : K)
       → IsReachable d b h eq writes w → slice_get w.replies i ≡ Some r → r.answer ≡ answer.NoMemory

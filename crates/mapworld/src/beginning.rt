@@ -6,7 +6,8 @@ ghost use Rattle.mapworld_state.specs.Route.{IsWorldAmount, key_route};
 ghost use Rattle.mapworld_state.specs.Places.{place_of};
 ghost use Rattle.mapworld_state.specs.Shards.{shard_pairs};
 ghost use Rattle.mapworld_state.specs.Slots.{key_hash};
-ghost use Rattle.mapworld.specs.Beginning.{at_start, AreAtStart, AreFilled, HasLists, HaveLists, pairs_in, AreEmpty, AreHashed};
+ghost use Rattle.mapworld.specs.Beginning.{at_start, AreAtStart, AreFilled, HasLists, HaveLists, pairs_in, AreEmpty};
+ghost use Rattle.mapworld.specs.Beginning.{AreHashed};
 
 use arrayvec::ArrayVec;
 use dashmap_table::{NoMemory, Shard};
@@ -118,7 +119,8 @@ pub(crate) fn places_of<K: Drop, V: Drop, D: Drop, T: Drop, A: Allocator + Clone
     shards: usize,
     programs: Vec<Vec<Ask<K, V, D>, A>, A>,
 ) -> Result<Vec<Place<K, V, D, T, A>, A>, NoMemory>
-    ensures start { IfOk result (λ places. AreAtStart (map (λ program. program.items) programs.items) (map place_of places.items)) }
+    ensures start { IfOk result
+        (λ places. AreAtStart (map (λ program. program.items) programs.items) (map place_of places.items)) }
     ensures lists { IfOk result (λ places. HaveLists shards places.items) }
 {
     let mut places = Vec::with_capacity(alloc.clone()?, programs.len())?;
@@ -151,9 +153,14 @@ pub(crate) fn fill<K: Eq + Hash + Drop, V: Drop, S: BuildHasher, A: Allocator + 
     requires shards { IsWorldAmount (length tables.old.items) }
     requires empty { AreEmpty tables.old.items }
     requires fits { length pairs.items ≤ 2 ^ 31 }
-    ensures filled { IfOk result (λ count. AreFilled K.eq (key_route S.BuildHasher S.Hasher.Hasher K.hash_input hasher.now (length tables.new.items)) pairs.items (map shard_pairs tables.new.items)) }
-    ensures count { IfOk result (λ count. (count ≡ pairs_in (map shard_pairs tables.new.items)) × (count ≤ length pairs.items)) }
-    ensures hashed { IfOk result (λ _. AreHashed (key_hash S.BuildHasher S.Hasher.Hasher K.hash_input hasher.now) tables.new.items) }
+    ensures filled { IfOk result
+        (λ count. AreFilled K.eq
+        (key_route S.BuildHasher S.Hasher.Hasher K.hash_input hasher.now (length tables.new.items)) pairs.items
+        (map shard_pairs tables.new.items)) }
+    ensures count { IfOk result
+        (λ count. (count ≡ pairs_in (map shard_pairs tables.new.items)) × (count ≤ length pairs.items)) }
+    ensures hashed { IfOk result
+        (λ _. AreHashed (key_hash S.BuildHasher S.Hasher.Hasher K.hash_input hasher.now) tables.new.items) }
     ensures shards { length tables.new.items ≡ length tables.old.items }
 {
     let mut count = 0;

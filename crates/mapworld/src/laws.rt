@@ -1,7 +1,12 @@
-//! Laws of the world's routes, setups and steps. Each function's contract is the law: they are for proofs, and do nothing when they run.
+//! Laws of the world's routes, setups and steps. Each function's contract is the law: they are for proofs, and do
+//! nothing when they run.
 ghost use Rattle.std.specs.Prelude.{◌≡◌, ℕ, IsTrue};
 ghost use Rattle.mapworld.specs.Laws.{FoundInsertsAreApplied};
-ghost use Rattle.mapworld.specs.ReachableLaws.{FinishedWorldsAreAtRest, GrowthsAreForNewKeys, LoneThreadsStop, ReachableStepsAreAtomic, ReachableWorldsAreLinearized, ReachableWorldsAreRouted, RefusedKeysWereAbsent, RunsAreSchedules, SchedulesStayReachable, SomebodyCanMove, StoppedWorldsAreAtRest, TriesNeverSleep};
+ghost use Rattle.mapworld.specs.ReachableLaws.{FinishedWorldsAreAtRest, GrowthsAreForNewKeys, LoneThreadsStop};
+ghost use Rattle.mapworld.specs.ReachableLaws.{ReachableStepsAreAtomic, ReachableWorldsAreLinearized};
+ghost use Rattle.mapworld.specs.ReachableLaws.{ReachableWorldsAreRouted, RefusedKeysWereAbsent, RunsAreSchedules};
+ghost use Rattle.mapworld.specs.ReachableLaws.{SchedulesStayReachable, SomebodyCanMove, StoppedWorldsAreAtRest};
+ghost use Rattle.mapworld.specs.ReachableLaws.{TriesNeverSleep};
 ghost use Rattle.mapworld_calls.specs.Setup.{Laws};
 ghost use Rattle.mapworld_state.specs.Route.{key_route};
 ghost use Rattle.mapworld_state.specs.State.{State};
@@ -14,25 +19,29 @@ pub use mapworld_state::locks::laws::{
 use parking_lot_machine::laws;
 use std::hash::{BuildHasher, Hash};
 
-/// Equal keys are routed to one shard, by every lawful hasher and for every number of shards. So no two shards of a world
-/// hold equal keys.
+/// Equal keys are routed to one shard, by every lawful hasher and for every number of shards. So no two shards of a
+/// world hold equal keys.
 pub fn equal_keys_share_a_shard<K: Eq + Hash, S: BuildHasher>()
     ensures { (hasher : _) (shards : ℕ) (j k : _) → IsTrue (K.eq j k)
-        → key_route S.BuildHasher S.Hasher.Hasher K.hash_input hasher shards j ≡ key_route S.BuildHasher S.Hasher.Hasher K.hash_input hasher shards k }
+        → key_route S.BuildHasher S.Hasher.Hasher K.hash_input hasher shards j ≡ key_route S.BuildHasher S.Hasher.Hasher
+        K.hash_input hasher shards k }
 {}
 
-/// The setup of every world is lawful: its keys are compared by an equivalence, and equal keys route to one shard. So the
-/// laws of the replay, which ask for that, hold of each world.
+/// The setup of every world is lawful: its keys are compared by an equivalence, and equal keys route to one shard. So
+/// the laws of the replay, which ask for that, hold of each world.
 pub fn setups_are_lawful<K: Eq + Hash, V, S: BuildHasher, D: Deed<K, V>, A>()
-    ensures { (w : State K V S D D.Answer A) → Laws (setup_of D.Deed S.BuildHasher S.Hasher.Hasher K.eq K.hash_input w) }
+    ensures { (w : State K V S D D.Answer A)
+        → Laws (setup_of D.Deed S.BuildHasher S.Hasher.Hasher K.eq K.hash_input w) }
 {}
 
-/// An insertion whose look finds the pair of its key goes on to its deed, whether its shard has room or not: it is never refused.
+/// An insertion whose look finds the pair of its key goes on to its deed, whether its shard has room or not: it is
+/// never refused.
 pub fn found_insertions_are_applied<K, V, S, D, T, A>()
     ensures { FoundInsertsAreApplied K V S D T A }
 {}
 
-/// What a schedule leads to from a reachable state is reachable, has what the world was made with, and adds to steps, blocks and replies.
+/// What a schedule leads to from a reachable state is reachable, has what the world was made with, and adds to steps,
+/// blocks and replies.
 pub fn schedules_stay_reachable<K: Eq + Hash, V, S: BuildHasher, D: Deed<K, V>, A>()
     ensures { SchedulesStayReachable A D.Deed S.BuildHasher S.Hasher.Hasher K.eq K.hash_input }
 {
@@ -45,8 +54,9 @@ pub fn runs_are_schedules<K: Eq + Hash, V, S: BuildHasher, D: Deed<K, V>, A>()
     ensures { RunsAreSchedules A D.Deed S.BuildHasher S.Hasher.Hasher K.eq K.hash_input }
 {}
 
-/// In every reachable state replies and contents are those of the replay, each block has its place, tries have causes, and guards are the owners of
-/// locks: what `run` promises of the state that it leaves. And so are the invariants behind it, on holds and locks.
+/// In every reachable state replies and contents are those of the replay, each block has its place, tries have causes,
+/// and guards are the owners of locks: what `run` promises of the state that it leaves. And so are the invariants
+/// behind it, on holds and locks.
 pub fn reachable_worlds_are_linearized<K: Eq + Hash, V, S: BuildHasher, D: Deed<K, V>, A>()
     ensures { ReachableWorldsAreLinearized A D.Deed S.BuildHasher S.Hasher.Hasher K.eq K.hash_input }
 {
@@ -55,8 +65,8 @@ pub fn reachable_worlds_are_linearized<K: Eq + Hash, V, S: BuildHasher, D: Deed<
     desks_count_as_words();
 }
 
-/// In every reachable state each pair is in the shard that its key routes to, and each key routes to one of the shards. So the laws of replays
-/// hold of it.
+/// In every reachable state each pair is in the shard that its key routes to, and each key routes to one of the shards.
+/// So the laws of replays hold of it.
 pub fn reachable_worlds_are_routed<K: Eq + Hash, V, S: BuildHasher, D: Deed<K, V>, A>()
     ensures { ReachableWorldsAreRouted A D.Deed S.BuildHasher S.Hasher.Hasher K.eq K.hash_input }
 {
@@ -73,7 +83,8 @@ pub fn somebody_can_move<K: Eq + Hash, V, S: BuildHasher, D: Deed<K, V>, A>()
     laws::somebody_can_move();
 }
 
-/// A reachable state in which nobody can move is at rest: every call is answered, nobody holds anything or waits, and no bit of a word is set.
+/// A reachable state in which nobody can move is at rest: every call is answered, nobody holds anything or waits, and
+/// no bit of a word is set.
 pub fn stopped_worlds_are_at_rest<K: Eq + Hash, V, S: BuildHasher, D: Deed<K, V>, A>()
     ensures { StoppedWorldsAreAtRest A D.Deed S.BuildHasher S.Hasher.Hasher K.eq K.hash_input }
 {
@@ -82,8 +93,9 @@ pub fn stopped_worlds_are_at_rest<K: Eq + Hash, V, S: BuildHasher, D: Deed<K, V>
     laws::somebody_can_move();
 }
 
-/// In a reachable state in which every call is answered and every thread has finished, nothing is left: no thread has a hold, a guard or a call at a
-/// lock, and no bit of a word is set. So it is where [`drain`](crate::MapWorld::drain) has ended.
+/// In a reachable state in which every call is answered and every thread has finished, nothing is left: no thread has a
+/// hold, a guard or a call at a lock, and no bit of a word is set. So it is where [`drain`](crate::MapWorld::drain) has
+/// ended.
 pub fn finished_worlds_are_at_rest<K: Eq + Hash, V, S: BuildHasher, D: Deed<K, V>, A>()
     ensures { FinishedWorldsAreAtRest A D.Deed S.BuildHasher S.Hasher.Hasher K.eq K.hash_input }
 {
@@ -92,7 +104,8 @@ pub fn finished_worlds_are_at_rest<K: Eq + Hash, V, S: BuildHasher, D: Deed<K, V
     laws::somebody_can_move();
 }
 
-/// From every reachable state a thread that is stepped alone, with any choice of fair steps, can no longer move after fewer steps than the bound.
+/// From every reachable state a thread that is stepped alone, with any choice of fair steps, can no longer move after
+/// fewer steps than the bound.
 pub fn lone_threads_stop<K: Eq + Hash, V, S: BuildHasher, D: Deed<K, V>, A>()
     ensures { LoneThreadsStop A D.Deed S.BuildHasher S.Hasher.Hasher K.eq K.hash_input }
 {
@@ -101,8 +114,9 @@ pub fn lone_threads_stop<K: Eq + Hash, V, S: BuildHasher, D: Deed<K, V>, A>()
     laws::steps_are_few();
 }
 
-/// A step from a reachable state does one thing: it starts a call, or looks, or changes one key's pair, or changes of one shard's lock the word or one of
-/// its queues, or answers its thread's call. No other thread's place is another, and of the calls of others at locks at most one goes on, which it wakes.
+/// A step from a reachable state does one thing: it starts a call, or looks, or changes one key's pair, or changes of
+/// one shard's lock the word or one of its queues, or answers its thread's call. No other thread's place is another,
+/// and of the calls of others at locks at most one goes on, which it wakes.
 pub fn reachable_steps_are_atomic<K: Eq + Hash, V, S: BuildHasher, D: Deed<K, V>, A>()
     ensures { ReachableStepsAreAtomic A D.Deed S.BuildHasher S.Hasher.Hasher K.eq K.hash_input }
 {
@@ -119,7 +133,8 @@ pub fn growths_are_for_new_keys<K: Eq + Hash, V, S: BuildHasher, D: Deed<K, V>, 
     laws::owners_agree();
 }
 
-/// A call on a key that was answered `NoMemory` had a moment, between its start and its end, at which the map had no pair of the key.
+/// A call on a key that was answered `NoMemory` had a moment, between its start and its end, at which the map had no
+/// pair of the key.
 pub fn refused_keys_were_absent<K: Eq + Hash, V, S: BuildHasher, D: Deed<K, V>, A>()
     ensures { RefusedKeysWereAbsent A D.Deed S.BuildHasher S.Hasher.Hasher K.eq K.hash_input }
 {

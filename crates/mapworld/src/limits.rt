@@ -32,7 +32,8 @@ pub(crate) fn numbers_in<K, V, D, A: Allocator>(
 ) -> Option<u64>
     ensures { MatchOption result
         (2 ^ 32 ≤ sum_by (λ program. sum_by (numbers_of shards) program.items) programs.now)
-        (λ numbers. (numbers ≡ sum_by (λ program. sum_by (numbers_of shards) program.items) programs.now) × (numbers < 2 ^ 32)) }
+        (λ numbers. (numbers ≡ sum_by (λ program. sum_by (numbers_of shards) program.items) programs.now)
+        × (numbers < 2 ^ 32)) }
 {
     let mut numbers = 0;
     for program in programs {

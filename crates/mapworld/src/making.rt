@@ -77,13 +77,16 @@ pub(crate) fn core_of<
     ensures sound { IfOk result (IsSoundCore D.Deed S.BuildHasher S.Hasher.Hasher K.eq K.hash_input) }
     ensures room { IfOk result Room }
     ensures slots { IfOk result (IsSlotted D.Deed S.BuildHasher S.Hasher.Hasher K.eq K.hash_input) }
-    ensures agrees { IfOk result (λ core. HistoryAgrees D.Deed S.BuildHasher S.Hasher.Hasher K.eq K.hash_input (history_of (state_of core))) }
-    ensures placed { IfOk result (λ core. HistoryIsPlaced D.Deed S.BuildHasher S.Hasher.Hasher K.eq K.hash_input (history_of (state_of core))) }
+    ensures agrees { IfOk result
+        (λ core. HistoryAgrees D.Deed S.BuildHasher S.Hasher.Hasher K.eq K.hash_input (history_of (state_of core))) }
+    ensures placed { IfOk result
+        (λ core. HistoryIsPlaced D.Deed S.BuildHasher S.Hasher.Hasher K.eq K.hash_input (history_of (state_of core))) }
     ensures guards { IfOk result (λ core. GuardsAreOwners (state_of core).locks) }
     ensures time { IfOk result (IsInTime D.Deed S.BuildHasher S.Hasher.Hasher K.eq K.hash_input) }
     ensures causes { IfOk result (CoreHasCauses D.Deed S.BuildHasher S.Hasher.Hasher K.eq K.hash_input) }
     ensures reachable { IfOk result (CoreIsReachable D.Deed S.BuildHasher S.Hasher.Hasher K.eq K.hash_input) }
-    ensures tries { IfOk result (λ core. HistoryHasCauses D.Deed S.BuildHasher S.Hasher.Hasher K.eq K.hash_input (history_of (state_of core))) }
+    ensures tries { IfOk result
+        (λ core. HistoryHasCauses D.Deed S.BuildHasher S.Hasher.Hasher K.eq K.hash_input (history_of (state_of core))) }
 {
     steps_are_few();
     desks_count_as_words();

@@ -4,7 +4,8 @@ ghost use Rattle.std.specs.Option.{option_map};
 ghost use Rattle.mapworld_calls.specs.Pairs.{pair_of};
 ghost use Rattle.mapworld_state.specs.State.{pairs_of, started_of, threads_of};
 ghost use Rattle.mapworld_state.specs.Route.{key_route};
-ghost use Rattle.mapworld_state.specs.Running.{status_of, can_move_in, bound_of, refusal, Ran, steps_done, StopsAt, StaysFixed};
+ghost use Rattle.mapworld_state.specs.Running.{status_of, can_move_in, bound_of, refusal, Ran, steps_done, StopsAt};
+ghost use Rattle.mapworld_state.specs.Running.{StaysFixed};
 ghost use Rattle.mapworld.specs.Asleep.{IsAsleep, IsFinished};
 ghost use Rattle.mapworld.specs.Views.{shown};
 ghost use Rattle.mapworld.specs.Making.{new_refusal, IsMadeUnless, IsNew};
@@ -17,7 +18,8 @@ ghost use Rattle.mapworld_state.specs.Footprint.{word_of};
 ghost use Rattle.mapworld_state.specs.Held.{HoldByPhase};
 ghost use Rattle.mapworld.specs.Drained.{DrainedBy};
 ghost use Rattle.mapworld.specs.Guarded.{GuardsAreOwners};
-ghost use Rattle.mapworld.specs.History.{history_of, HistoryAddsTo, HistoryAgrees, HistoryHasCauses, HistoryIsPlaced, HistoryStaysFixed};
+ghost use Rattle.mapworld.specs.History.{history_of, HistoryAddsTo, HistoryAgrees, HistoryHasCauses, HistoryIsPlaced};
+ghost use Rattle.mapworld.specs.History.{HistoryStaysFixed};
 ghost use Rattle.mapworld.specs.Over.{IsOver};
 ghost use Rattle.mapworld.specs.Reachable.{IsReachable};
 ghost use Rattle.mapworld_calls.specs.Placed.{OnlyAdds};
@@ -54,9 +56,9 @@ use std::marker::Model;
 ///
 /// `K` is a key, `V` a value, `S` makes the hasher that picks a key's shard, and `D` is what a program does with a pair
 /// that it is lent. The world keeps the allocator that it was made with, and takes all that it needs for its threads,
-/// their blocks and their replies when it is made. After that only a shard may grow or shrink, and a walk that reads takes
-/// room for what it reads, shard by shard; where memory is short then, the call is answered `NoMemory`, and nothing else
-/// is changed.
+/// their blocks and their replies when it is made. After that only a shard may grow or shrink, and a walk that reads
+/// takes room for what it reads, shard by shard; where memory is short then, the call is answered `NoMemory`, and
+/// nothing else is changed.
 ///
 /// ```text
 /// let mut world = MapWorld::new(alloc, 2, SpreadState, pairs, programs)?;
@@ -81,7 +83,11 @@ impl<K: Eq + Hash, V, S: BuildHasher, D: Deed<K, V>, A: Allocator> Model
 
     ghost view = { λ w. state_of w.core };
 
-    ghost invariant = { λ w. IsSoundCore D.Deed S.BuildHasher S.Hasher.Hasher K.eq K.hash_input w.core × Room w.core × IsSlotted D.Deed S.BuildHasher S.Hasher.Hasher K.eq K.hash_input w.core × IsInTime D.Deed S.BuildHasher S.Hasher.Hasher K.eq K.hash_input w.core × CoreHasCauses D.Deed S.BuildHasher S.Hasher.Hasher K.eq K.hash_input w.core × CoreIsReachable D.Deed S.BuildHasher S.Hasher.Hasher K.eq K.hash_input w.core };
+    ghost invariant = { λ w. IsSoundCore D.Deed S.BuildHasher S.Hasher.Hasher K.eq K.hash_input w.core × Room w.core
+        × IsSlotted D.Deed S.BuildHasher S.Hasher.Hasher K.eq K.hash_input w.core
+        × IsInTime D.Deed S.BuildHasher S.Hasher.Hasher K.eq K.hash_input w.core
+        × CoreHasCauses D.Deed S.BuildHasher S.Hasher.Hasher K.eq K.hash_input w.core
+        × CoreIsReachable D.Deed S.BuildHasher S.Hasher.Hasher K.eq K.hash_input w.core };
 }
 
 impl<K: Eq + Hash, V, S: BuildHasher, D: Deed<K, V>, A: Allocator> MapWorld<K, V, S, D, A> {
@@ -277,10 +283,13 @@ where
             IsMadeUnless (new_refusal shards (length pairs.items) asked) result }
         ensures made { let asked = map (λ program. program.items) programs.items in
             IfOk result (λ world. IsNew K.eq shards hasher pairs.items asked world) }
-        ensures agrees { IfOk result (λ world. HistoryAgrees D.Deed S.BuildHasher S.Hasher.Hasher K.eq K.hash_input (history_of world)) }
-        ensures placed { IfOk result (λ world. HistoryIsPlaced D.Deed S.BuildHasher S.Hasher.Hasher K.eq K.hash_input (history_of world)) }
+        ensures agrees { IfOk result
+            (λ world. HistoryAgrees D.Deed S.BuildHasher S.Hasher.Hasher K.eq K.hash_input (history_of world)) }
+        ensures placed { IfOk result
+            (λ world. HistoryIsPlaced D.Deed S.BuildHasher S.Hasher.Hasher K.eq K.hash_input (history_of world)) }
         ensures guards { IfOk result (λ world. GuardsAreOwners world.locks) }
-        ensures causes { IfOk result (λ world. HistoryHasCauses D.Deed S.BuildHasher S.Hasher.Hasher K.eq K.hash_input (history_of world)) }
+        ensures causes { IfOk result
+            (λ world. HistoryHasCauses D.Deed S.BuildHasher S.Hasher.Hasher K.eq K.hash_input (history_of world)) }
         ensures reachable { IfOk result (IsReachable D.Deed S.BuildHasher S.Hasher.Hasher K.eq K.hash_input) }
     {
         if let Some(fault) = limits::refusal(shards, pairs.len(), &programs) {
@@ -353,10 +362,10 @@ where
     ///
     /// Behind it, also behind an error, the replies and the contents are those of one plain map that takes the blocks
     /// in their order; each block stands at a step of its own thread between the start of its call and the answer; what
-    /// was listed and answered before is still there. Each shard's guards are the owners of its lock, as its word counts
-    /// them, and none of them excludes another. A try that was answered `Locked` had a cause: at some step of it a call of
-    /// another thread was on its shard. A word that isn't 0 and a thread that sleeps have one too: a call on that shard
-    /// now, and of another thread.
+    /// was listed and answered before is still there. Each shard's guards are the owners of its lock, as its word
+    /// counts them, and none of them excludes another. A try that was answered `Locked` had a cause: at some step of it
+    /// a call of another thread was on its shard. A word that isn't 0 and a thread that sleeps have one too: a call on
+    /// that shard now, and of another thread.
     ///
     /// # Errors
     ///
@@ -368,8 +377,8 @@ where
     /// - `CannotMove`: the thread is asleep or finished, or before a queue's section that another thread has entered;
     /// - `StepsShort`: no step numbers are left for the step and all that must come after it.
     ///
-    /// It takes memory only where a shard grows or shrinks, and for what a walk reads. Where that is refused it is no error
-    /// of `run`: the call is answered `NoMemory`.
+    /// It takes memory only where a shard grows or shrinks, and for what a walk reads. Where that is refused it is no
+    /// error of `run`: the call is answered `NoMemory`.
     ///
     /// ```text
     /// match world.run(&steps) {
@@ -399,14 +408,15 @@ where
         result
     }
 
-    /// Runs the world until every call is answered and every section left, and answers how many steps that took: threads that can
-    /// move are stepped, in an order of its own, until nobody can move. There are fewer than the
-    /// [`bound`](MapWorld::bound) at the call. Behind it each call of each program has its reply, every thread is finished, every word is 0
-    /// and every queue is empty; so no shard is held and no guard is left
+    /// Runs the world until every call is answered and every section left, and answers how many steps that took:
+    /// threads that can move are stepped, in an order of its own, until nobody can move. There are fewer than the
+    /// [`bound`](MapWorld::bound) at the call. Behind it each call of each program has its reply, every thread is
+    /// finished, every word is 0 and every queue is empty; so no shard is held and no guard is left
     /// ([`finished_worlds_are_at_rest`](crate::laws::finished_worlds_are_at_rest)).
     ///
-    /// It is never refused, and goes on from whatever state a [`run`](MapWorld::run) has left, calls half done included. It takes memory only
-    /// where a shard grows or shrinks, and for what a walk reads. A second one in a row has nothing left to do, and answers 0.
+    /// It is never refused, and goes on from whatever state a [`run`](MapWorld::run) has left, calls half done
+    /// included. It takes memory only where a shard grows or shrinks, and for what a walk reads. A second one in a row
+    /// has nothing left to do, and answers 0.
     ///
     /// ```text
     /// world.run(&steps)?;

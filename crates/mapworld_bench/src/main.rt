@@ -1,7 +1,9 @@
-//! What a step of a world of maps costs: threads that make calls on keys of their own, or on one key, one step each in turn.
+//! What a step of a world of maps costs: threads that make calls on keys of their own, or on one key, one step each in
+//! turn.
 //!
-//! Without arguments it makes one small run and prints how many steps and replies there were. With two numbers it makes a world of so many
-//! threads with so many calls in all, and prints how many nanoseconds each step took. With the word `one` behind them all threads call one key.
+//! Without arguments it makes one small run and prints how many steps and replies there were. With two numbers it makes
+//! a world of so many threads with so many calls in all, and prints how many nanoseconds each step took. With the word
+//! `one` behind them all threads call one key.
 #![tactic(auto)]
 
 mod worlds;

@@ -1,17 +1,20 @@
 -- A fold over a list of which one element is replaced. It knows nothing of what the elements are.
-use Rattle.std.proofs.Common.{◌≡◌, ℕ, zero, suc, ◌<◌, ◌≤◌, List, [], ◌∷◌, Some, slice_get, slice_set, take, fold, refl, ap, sym, ◌∙◌, arith, Bool}
+use Rattle.std.proofs.Common.{◌≡◌, ℕ, zero, suc, ◌<◌, ◌≤◌, List, [], ◌∷◌, Some, slice_get, slice_set, take, fold, refl}
+use Rattle.std.proofs.Common.{ap, sym, ◌∙◌, arith, Bool}
 use Rattle.std.specs.List.{find}
 use Rattle.std.proofs.lemmas.Option.{same_Some}
 use Rattle.std.proofs.Math.Path.{fun_ext}
 
 module _ {B O : Type 0} (f : O → B → O) where
   -- elements that change nothing
-  pub fold-idle : (a : O) (bs : List B) → ((j : ℕ) (b : B) → slice_get bs j ≡ Some b → (o : O) → f o b ≡ o) → fold f a bs ≡ a
+  pub fold-idle : (a : O) (bs : List B) → ((j : ℕ) (b : B) → slice_get bs j ≡ Some b → (o : O) → f o b ≡ o)
+      → fold f a bs ≡ a
   fold-idle a [] idle = refl
   fold-idle a (b ∷ bs) idle = ap (λ o. fold f o bs) (idle zero b refl a) ∙ fold-idle a bs (λ j c h. idle (suc j) c h)
 
   -- the replaced element does at its turn what the other did
-  pub fold-replaced : (a : O) (bs : List B) (i : ℕ) (b c : B) → slice_get bs i ≡ Some b → f (fold f a (take i bs)) c ≡ f (fold f a (take i bs)) b
+  pub fold-replaced : (a : O) (bs : List B) (i : ℕ) (b c : B) → slice_get bs i ≡ Some b
+      → f (fold f a (take i bs)) c ≡ f (fold f a (take i bs)) b
       → fold f a (slice_set bs i c) ≡ fold f a bs
   fold-replaced a [] i b c at same = absurd cc
   fold-replaced a (x ∷ bs) zero b c at same = ap (λ o. fold f o bs) (same ∙ ap (f a) (sym (same_Some x b at)))
@@ -19,7 +22,8 @@ module _ {B O : Type 0} (f : O → B → O) where
 
   -- nothing behind the element changes what it left
   pub fold-last : (a : O) (bs : List B) (i : ℕ) (b c : B) → slice_get bs i ≡ Some b
-      → ((j : ℕ) (d : B) → i < j → slice_get bs j ≡ Some d → (o : O) → f o d ≡ o) → fold f a (slice_set bs i c) ≡ f (fold f a (take i bs)) c
+      → ((j : ℕ) (d : B) → i < j → slice_get bs j ≡ Some d → (o : O) → f o d ≡ o)
+      → fold f a (slice_set bs i c) ≡ f (fold f a (take i bs)) c
   fold-last a [] i b c at idle = absurd cc
   fold-last a (x ∷ bs) zero b c at idle = fold-idle (f a c) bs (λ j d h. idle (suc j) d (omega arith) h)
   fold-last a (x ∷ bs) (suc i) b c at idle = fold-last (f a x) bs i b c at (λ j d lt h. idle (suc j) d (omega arith) h)
@@ -44,7 +48,8 @@ module _ {B : Type 0} where
   take-set_below (x ∷ bs) zero (suc j) c lt = refl
   take-set_below (x ∷ bs) (suc i) (suc j) c lt = ap (λ ys. x ∷ ys) (take-set_below bs i j c (omega arith))
 
-  pub slice_get-take : (bs : List B) (i j : ℕ) (b : B) → i < j → slice_get bs i ≡ Some b → slice_get (take j bs) i ≡ Some b
+  pub slice_get-take : (bs : List B) (i j : ℕ) (b : B) → i < j → slice_get bs i ≡ Some b
+      → slice_get (take j bs) i ≡ Some b
   slice_get-take bs i zero b lt at = absurd (omega arith)
   slice_get-take [] i (suc j) b lt at = at
   slice_get-take (x ∷ bs) zero (suc j) b lt at = at

@@ -1,13 +1,16 @@
 -- A plain map that takes blocks of any kind: blocks on different shards commute, the replay splits by shard, and what a
 -- block that gives way to another changes.
-use Rattle.std.proofs.Common.{◌≡◌, ℕ, ◌+◌, ◌<◌, ◌≤◌, ◌⊎◌, inl, inr, ⊎_elim, true, false, List, [], ◌∷◌, ◌++◌, length, Option, Some, None, slice_get, slice_set, take, fold, refl, ap, sym, ◌∙◌, arith}
+use Rattle.std.proofs.Common.{◌≡◌, ℕ, ◌+◌, ◌<◌, ◌≤◌, ◌⊎◌, inl, inr, ⊎_elim, true, false, List, [], ◌∷◌, ◌++◌, length}
+use Rattle.std.proofs.Common.{Option, Some, None, slice_get, slice_set, take, fold, refl, ap, sym, ◌∙◌, arith}
 use Rattle.std.proofs.lemmas.Bool.{cases_eq, cases_lt}
 use Rattle.std.proofs.lemmas.Option.{same_Some, none-some}
 use Rattle.std.proofs.lemmas.List.Sums.{fold-append, fold_push}
 use Rattle.std.proofs.Math.Seq.{take-append_seam, take-append-add}
-use Rattle.mapworld_calls.specs.Frame.{Frame, IsOn, KeepsToShard, LooksAtShard, contents, before, AreApart, IsLastOnShard, Grows, is_shard, of_shard}
+use Rattle.mapworld_calls.specs.Frame.{Frame, IsOn, KeepsToShard, LooksAtShard, contents, before, AreApart}
+use Rattle.mapworld_calls.specs.Frame.{IsLastOnShard, Grows, is_shard, of_shard}
 use Rattle.mapworld_calls.specs.Laws.{Commute}
-use Rattle.mapworld_calls.proofs.Folds.{fold-replaced, fold-last, take-set_above, take-set_below, slice_get-take, take-take}
+use Rattle.mapworld_calls.proofs.Folds.{fold-replaced, fold-last, take-set_above, take-set_below, slice_get-take}
+use Rattle.mapworld_calls.proofs.Folds.{take-take}
 
 on-cases_of : (o : Option ℕ) (n : ℕ) → (o ≡ Some n) ⊎ (o ≡ Some n → ⊥)
 on-cases_of None n = inr (λ e. absurd (none-some n e))
@@ -42,17 +45,21 @@ module _ {B K O : Type 0} (f : Frame B K O) (keeps : KeepsToShard f) where
       no off = ap (λ p. f.left c q p) (keeps b q o off) ∙ sym (keeps b q (f.left c q o) off)
 
   -- two neighbours on different shards may change places
-  pub contents-swapped : (front later : List B) (b c : B) → AreApart f b c → (q : K) → contents f (front ++ b ∷ c ∷ later) q ≡ contents f (front ++ c ∷ b ∷ later) q
+  pub contents-swapped : (front later : List B) (b c : B) → AreApart f b c → (q : K)
+      → contents f (front ++ b ∷ c ∷ later) q ≡ contents f (front ++ c ∷ b ∷ later) q
   contents-swapped front later b c apart q =
       fold-append (λ o d. f.left d q o) (f.opening q) front (b ∷ c ∷ later)
       ∙ ap (λ o. fold (λ o d. f.left d q o) o later) (swapped-left b c apart q (contents f front q))
       ∙ sym (fold-append (λ o d. f.left d q o) (f.opening q) front (c ∷ b ∷ later))
 
-  before-first : (front later : List B) (b : B) (q : K) → before f (front ++ b ∷ later) (length front) q ≡ contents f front q
+  before-first : (front later : List B) (b : B) (q : K) → before f (front ++ b ∷ later) (length front) q ≡ contents f
+      front q
   before-first front later b q = ap (λ xs. contents f xs q) (take-append_seam front (b ∷ later))
 
-  before-second : (front later : List B) (b c : B) (q : K) → before f (front ++ b ∷ c ∷ later) (length front + 1) q ≡ f.left b q (contents f front q)
-  before-second front later b c q = ap (λ xs. contents f xs q) (take-one front (c ∷ later) b) ∙ contents-push f front b q
+  before-second : (front later : List B) (b c : B) (q : K) → before f (front ++ b ∷ c ∷ later) (length front + 1) q
+      ≡ f.left b q (contents f front q)
+  before-second front later b c q = ap (λ xs. contents f xs q) (take-one front (c ∷ later) b)
+      ∙ contents-push f front b q
 
   -- and a block finds the same on its shard in both orders
   pub second-finds : (front later : List B) (b c : B) → AreApart f b c → (q : K) → IsOn f c q
@@ -74,14 +81,16 @@ module _ {B K O : Type 0} (f : Frame B K O) (keeps : KeepsToShard f) where
       off (Some r) e on = let same : r ≡ f.route q = same_Some r (f.route q) on in absurd (grind (arith, e, same))
 
   -- what a key has is told by the blocks of its shard alone
-  fold-split : (bs : List B) (q : K) (o : O) → fold (λ x d. f.left d q x) o (of_shard f (f.route q) bs) ≡ fold (λ x d. f.left d q x) o bs
+  fold-split : (bs : List B) (q : K) (o : O) → fold (λ x d. f.left d q x) o (of_shard f (f.route q) bs) ≡ fold
+      (λ x d. f.left d q x) o bs
   fold-split [] q o = refl
   fold-split (b ∷ bs) q o = split-step b bs q o (is_shard (f.shard b) (f.route q)) refl (λ p. fold-split bs q p)
 
   pub contents-split : (bs : List B) (q : K) → contents f (of_shard f (f.route q) bs) q ≡ contents f bs q
   contents-split bs q = fold-split bs q (f.opening q)
 
-module _ {B K O : Type 0} (f : Frame B K O) (keeps : KeepsToShard f) (bs : List B) (i : ℕ) (b c : B) (g : Grows f bs i b c) where
+module _ {B K O : Type 0} (f : Frame B K O) (keeps : KeepsToShard f) (bs : List B) (i : ℕ) (b c : B)
+    (g : Grows f bs i b c) where
   -- what the one leaves at a key is what the other leaves
   abbrev pub AreAlike : K → Type 0
   AreAlike q = f.left c q (before f bs i q) ≡ f.left b q (before f bs i q)
@@ -107,12 +116,15 @@ module _ {B K O : Type 0} (f : Frame B K O) (keeps : KeepsToShard f) (bs : List 
   contents-alike q alike = fold-replaced (λ o d. f.left d q o) (f.opening q) bs i b c g.listed alike
 
   -- the last block on a shard decides what its keys have
-  pub contents-last : IsLastOnShard f bs i b → (q : K) → IsOn f b q → contents f (slice_set bs i c) q ≡ f.left c q (before f bs i q)
+  pub contents-last : IsLastOnShard f bs i b → (q : K) → IsOn f b q → contents f (slice_set bs i c) q ≡ f.left c q
+      (before f bs i q)
   contents-last last q on =
-      fold-last (λ o d. f.left d q o) (f.opening q) bs i b c g.listed (λ j d lt at o. apart-idle f keeps b d q (last j d lt at) on o)
+      fold-last (λ o d. f.left d q o) (f.opening q) bs i b c g.listed
+      (λ j d lt at o. apart-idle f keeps b d q (last j d lt at) on o)
 
   -- what a block finds on its shard stays
-  pub turn-same : (j : ℕ) (d : B) → (j ≤ i) ⊎ (slice_get bs j ≡ Some d) → (q : K) → IsOn f d q → before f (slice_set bs i c) j q ≡ before f bs j q
+  pub turn-same : (j : ℕ) (d : B) → (j ≤ i) ⊎ (slice_get bs j ≡ Some d) → (q : K) → IsOn f d q
+      → before f (slice_set bs i c) j q ≡ before f bs j q
   turn-same j d listed q on = ⊎_elim (λ quiet. turn-alike j q (quiet q)) behind g.way
     where
       behind : IsLastOnShard f bs i b → before f (slice_set bs i c) j q ≡ before f bs j q
@@ -123,11 +135,13 @@ module _ {B K O : Type 0} (f : Frame B K O) (keeps : KeepsToShard f) (bs : List 
           (cases_lt i j)
 
   -- and so does what it says
-  pub says-same : {S : Type 0} (says : B → (K → O) → S) → LooksAtShard f says → (j : ℕ) (d : B) → (j ≤ i) ⊎ (slice_get bs j ≡ Some d)
+  pub says-same : {S : Type 0} (says : B → (K → O) → S) → LooksAtShard f says → (j : ℕ) (d : B) → (j ≤ i)
+      ⊎ (slice_get bs j ≡ Some d)
       → says d (before f (slice_set bs i c) j) ≡ says d (before f bs j)
   says-same says looks j d listed = looks d (before f (slice_set bs i c) j) (before f bs j) (turn-same j d listed)
 
-pub commute : {B K O : Type 0} (f : Frame B K O) → KeepsToShard f → (front : List B) (b c : B) (later : List B) → AreApart f b c → Commute f front b c later
+pub commute : {B K O : Type 0} (f : Frame B K O) → KeepsToShard f → (front : List B) (b c : B) (later : List B)
+    → AreApart f b c → Commute f front b c later
 commute f keeps front b c later apart =
     record {
       contents_stay = contents-swapped f keeps front later b c apart;

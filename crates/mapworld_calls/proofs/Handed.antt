@@ -1,5 +1,6 @@
 -- An entry's guard has the key that its opening was handed, which is the key of the session's block.
-use Rattle.std.proofs.Common.{◌≡◌, ℕ, zero, suc, ◌+◌, ◌<◌, List, Option, Some, None, slice_get, refl, ap, sym, ◌∙◌, subst, arith}
+use Rattle.std.proofs.Common.{◌≡◌, ℕ, zero, suc, ◌+◌, ◌<◌, List, Option, Some, None, slice_get, refl, ap, sym, ◌∙◌}
+use Rattle.std.proofs.Common.{subst, arith}
 use Rattle.std.specs.Option.{option_and_then}
 use Rattle.std.proofs.lemmas.Option.{none-some, same_Some}
 use Rattle.mapworld_calls.specs.Deeds.{Deeds}
@@ -25,7 +26,8 @@ Handed key (calls.occupied k p) = k ≡ key
 Handed key (calls.vacant k) = k ≡ key
 
 module _ {K V D T : Type 0} (deeds : Deeds D K V T) (key : K) where
-  first-handed : (a : Ask K V D) → key_of a ≡ Some key → (o : Option (K × V)) → Handed key (calls.after deeds a (calls.free o))
+  first-handed : (a : Ask K V D) → key_of a ≡ Some key → (o : Option (K × V))
+      → Handed key (calls.after deeds a (calls.free o))
   first-handed (ask.Keyed k) is o = tt
   first-handed (ask.Begin (begin.Get k)) is None = tt
   first-handed (ask.Begin (begin.Get k)) is (Some p) = tt
@@ -100,29 +102,54 @@ module _ {K V D T : Type 0} (w : Setup K V D T) (t c : ℕ) where
   reached-handed (suc zero) b o =
       let here : c + 0 ≡ c = omega arith in
       let is : ask_at w t (c + 0) ≡ Some b.first = rw here b.asked in
-      subst (λ (a : Option (Ask K V D)). Handed b.key (after_ask w.deeds a (calls.free o))) (sym is) (first-handed w.deeds b.key b.first b.key_is o)
+      subst (λ (a : Option (Ask K V D)). Handed b.key (after_ask w.deeds a (calls.free o))) (sym is)
+      (first-handed w.deeds b.key b.first b.key_is o)
   reached-handed (suc (suc n)) b o =
-      let front : IsOfBlock w t c (suc n) = record { first = b.first; asked = b.asked; key = b.key; key_is = b.key_is; others = λ i pos lt. b.others i pos (omega (arith, lt)) } in
+      let front : IsOfBlock w t c (suc n) =
+      record {
+        first = b.first;
+        asked = b.asked;
+        key = b.key;
+        key_is = b.key_is;
+        others = λ i pos lt. b.others i pos (omega (arith, lt));
+      } in
       let call = b.others (suc n) (omega arith) (omega arith) in
       subst (λ (a : Option (Ask K V D)). Handed b.key (after_ask w.deeds a (reached w t c (suc n) o))) (sym call.1)
       (held-handed w.deeds b.key call.0 (reached w t c (suc n) o) (reached-handed (suc n) front o))
 
-module _ {K V D T A : Type 0} (w : Setup K V D T) (steps : List ℕ) (started : ℕ → Option ℕ) (bs : List (Block K)) (replies : List (Reply K V T A)) (well : WellPlaced w steps started bs replies) where
+module _ {K V D T A : Type 0} (w : Setup K V D T) (steps : List ℕ) (started : ℕ → Option ℕ) (bs : List (Block K))
+    (replies : List (Reply K V T A)) (well : WellPlaced w steps started bs replies) where
   -- a listed block with a key has done calls of its own alone
-  calls-of : (i : ℕ) (b : Block K) (key : K) → block_key w b ≡ Some key → (a : Ask K V D) → ask_at w b.thread b.call ≡ Some a → IsDoneWithin w started bs replies i b a
+  calls-of : (i : ℕ) (b : Block K) (key : K) → block_key w b ≡ Some key → (a : Ask K V D)
+      → ask_at w b.thread b.call ≡ Some a → IsDoneWithin w started bs replies i b a
       → IsOfBlock w b.thread b.call b.done.value
   calls-of i b key own (ask.Keyed k) is done =
-      record { first = ask.Keyed k; asked = is; key = keyed_key k; key_is = refl; others = λ m pos lt. absurd (let le = done.0.once in omega (arith, le, pos, lt)) }
+      record {
+        first = ask.Keyed k;
+        asked = is;
+        key = keyed_key k;
+        key_is = refl;
+        others = λ m pos lt. absurd (let le = done.0.once in omega (arith, le, pos, lt));
+      }
   calls-of i b key own (ask.Begin g) is done =
-      record { first = ask.Begin g; asked = is; key = opening_key g; key_is = refl; others = λ m pos lt. let c = done.0.calls m pos lt in (c.held, c.asked) }
+      record {
+        first = ask.Begin g;
+        asked = is;
+        key = opening_key g;
+        key_is = refl;
+        others = λ m pos lt. let c =
+            done.0.calls m pos lt in (c.held, c.asked);
+      }
   calls-of i b key own (ask.Held h) is done = absurd done
   calls-of i b key own (ask.Walk f) is done = absurd (none-some key (sym (ap (option_and_then key_of) is) ∙ own))
 
-  pub of-block : (i : ℕ) (b : Block K) → slice_get bs i ≡ Some b → (key : K) → block_key w b ≡ Some key → IsOfBlock w b.thread b.call b.done.value
+  pub of-block : (i : ℕ) (b : Block K) → slice_get bs i ≡ Some b → (key : K) → block_key w b ≡ Some key
+      → IsOfBlock w b.thread b.call b.done.value
   of-block i b at key own = let p = well.placed i b at in calls-of i b key own p.ask p.asked p.done
 
   -- where a block has come to
-  pub block-handed : (i : ℕ) (b : Block K) → slice_get bs i ≡ Some b → (key : K) → block_key w b ≡ Some key → (o : Option (K × V))
+  pub block-handed : (i : ℕ) (b : Block K) → slice_get bs i ≡ Some b → (key : K) → block_key w b ≡ Some key
+      → (o : Option (K × V))
       → Handed key (reached w b.thread b.call b.done.value o)
   block-handed i b at key is o =
       let own = of-block i b at key is in

@@ -6,12 +6,14 @@ use Rattle.mapworld_calls.specs.declared.ask.Held.TheVariants as held
 use Rattle.mapworld_calls.specs.declared.ask.Walk.{Walk}
 use Rattle.mapworld_calls.specs.declared.ask.Walk.TheVariants as walk
 use Rattle.mapworld_calls.specs.declared.reply.Answer.TheVariants as answer
-use Rattle.mapworld_calls.specs.Calls.{At, free, shared, exclusive, occupied, vacant, held_answer, held_leaves, visit_leaves}
+use Rattle.mapworld_calls.specs.Calls.{At, free, shared, exclusive, occupied, vacant, held_answer, held_leaves}
+use Rattle.mapworld_calls.specs.Calls.{visit_leaves}
 use Rattle.mapworld_calls.specs.Laws.{only_reads}
 
 module _ {D K V T : Type 0} (deeds : Deeds D K V T) where
   -- a call that changes something is answered otherwise; all others leave what they find
-  pub refused-leaves : {A : Type 0} (h : Held V D) (s : At K V) → (held_answer {A = A} deeds h s ≡ answer.NoGuard) ⊎ (held_answer {A = A} deeds h s ≡ answer.WrongGuard) → held_leaves deeds h s ≡ s
+  pub refused-leaves : {A : Type 0} (h : Held V D) (s : At K V) → (held_answer {A = A} deeds h s ≡ answer.NoGuard)
+      ⊎ (held_answer {A = A} deeds h s ≡ answer.WrongGuard) → held_leaves deeds h s ≡ s
   refused-leaves h (free o) e = refl
   refused-leaves (held.Write d) (exclusive p) e = absurd (elim e [ inl a ↦ (cc) | inr b ↦ (cc) ])
   refused-leaves (held.Write d) (occupied k p) e = absurd (elim e [ inl a ↦ (cc) | inr b ↦ (cc) ])

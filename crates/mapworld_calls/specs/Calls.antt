@@ -14,8 +14,8 @@ use Rattle.mapworld_calls.specs.declared.reply.Answer.{Answer}
 use Rattle.mapworld_calls.specs.declared.reply.Answer.TheVariants as answer
 use Rattle.mapworld_calls.specs.Deeds.{Deeds}
 
--- one key between two calls of a block: no guard and the key's pair, if there is one, or a guard with its pair; an entry's
--- guard has the key that was handed in, and a vacant one has no pair
+-- one key between two calls of a block: no guard and the key's pair, if there is one, or a guard with its pair; an
+-- entry's guard has the key that was handed in, and a vacant one has no pair
 pub data At (K V : Type 0) : Type 0 where
   free : Option (K × V) → At K V
   shared : K × V → At K V
@@ -70,7 +70,8 @@ module _ {D K V T : Type 0} (deeds : Deeds D K V T) where
   keyed_leaves (keyed.View k d) o = o
   keyed_leaves (keyed.ContainsKey k) o = o
 
-  -- a walk at a key that it visits, by the pair that it finds: the item that it gives, what is read of it, and what it leaves
+  -- a walk at a key that it visits, by the pair that it finds: the item that it gives, what is read of it, and what it
+  -- leaves
   abbrev pub visit_answer : {A : Type 0} → Walk D → Option (K × V) → Answer K V T A
   visit_answer f None = answer.None
   visit_answer (walk.Iter d stop) (Some p) = answer.Read (deeds.answer d p.0 p.1)

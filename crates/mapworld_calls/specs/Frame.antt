@@ -1,6 +1,7 @@
 -- A plain map that takes blocks one after another, whatever a block is: each works key by key, and on the keys of one
 -- shard alone.
-use Rattle.std.specs.Prelude.{◌≡◌, ℕ, ◌<◌, ◌⊎◌, ◌==◌, Bool, false, List, Option, Some, None, fold, take, slice_get, filter}
+use Rattle.std.specs.Prelude.{◌≡◌, ℕ, ◌<◌, ◌⊎◌, ◌==◌, Bool, false, List, Option, Some, None, fold, take, slice_get}
+use Rattle.std.specs.Prelude.{filter}
 
 pub record Frame (B K O : Type 0) : Type 0 where
   -- what a key has after a block, where it had this before

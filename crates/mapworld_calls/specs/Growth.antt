@@ -1,5 +1,5 @@
--- How a list of blocks changes in one step: a block does one more call or one more key, its end is written into it, or a
--- block is added at the end.
+-- How a list of blocks changes in one step: a block does one more call or one more key, its end is written into it, or
+-- a block is added at the end.
 use Rattle.std.specs.Prelude.{◌≡◌, ℕ, suc, ◌+◌, ◌<◌, ◌≤◌, if◌then◌else◌, List, [], ◌∷◌, ◌++◌, Option, Some, slice_get}
 use Rattle.mapworld_calls.specs.declared.block.Block.{Block}
 use Rattle.mapworld_calls.specs.Pairs.{pair_of, AreDistinct}
@@ -25,7 +25,8 @@ abbrev pub state_of : {K V D T : Type 0} → Setup K V D T → List (Block K) �
 state_of w bs i b k = reached w b.thread b.call b.done.value (before w bs i k)
 
 -- the block at a place makes its next call, on its key
-pub record Calls {K V D T : Type 0} (w : Setup K V D T) (bs : List (Block K)) (i : ℕ) (b c : Block K) (k : K) (a : Ask K V D) : Type 0 where
+pub record Calls {K V D T : Type 0} (w : Setup K V D T) (bs : List (Block K)) (i : ℕ) (b c : Block K) (k : K)
+    (a : Ask K V D) : Type 0 where
   pub listed : slice_get bs i ≡ Some b
   pub same : GoesOn b c
   pub key : block_work w b ≡ one k
@@ -33,7 +34,8 @@ pub record Calls {K V D T : Type 0} (w : Setup K V D T) (bs : List (Block K)) (i
   pub counted : c.done.value ≡ suc b.done.value
 
 -- the block at a place, a walk's visit, does one more key
-pub record Visits {K V D T : Type 0} (w : Setup K V D T) (bs : List (Block K)) (i : ℕ) (b c : Block K) (f : Walk D) (k : K) : Type 0 where
+pub record Visits {K V D T : Type 0} (w : Setup K V D T) (bs : List (Block K)) (i : ℕ) (b c : Block K) (f : Walk D)
+    (k : K) : Type 0 where
   pub listed : slice_get bs i ≡ Some b
   pub same : GoesOn b c
   pub walk : block_work w b ≡ visit f
@@ -59,6 +61,7 @@ IsOfLaterCall {K} {V} {T} {A} replies b =
     (i : ℕ) (r : Reply K V T A) → slice_get replies i ≡ Some r → b.thread ≡ r.thread → r.call < b.call
 
 -- of these pairs the key's is this one, or it has none, and all other keys have the pairs that they had
-pub record IsPut {K V D T : Type 0} (w : Setup K V D T) (pairs pairs' : List (K × V)) (k : K) (o : Option (K × V)) : Type 0 where
+pub record IsPut {K V D T : Type 0} (w : Setup K V D T) (pairs pairs' : List (K × V)) (k : K)
+    (o : Option (K × V)) : Type 0 where
   pub distinct : AreDistinct w.eq pairs'
   pub put : (q : K) → pair_of w.eq pairs' q ≡ (if w.eq k q then o else pair_of w.eq pairs q)

@@ -1,5 +1,6 @@
 -- The laws of the replay for blocks, over definitions alone.
-use Rattle.std.specs.Prelude.{◌≡◌, ℕ, suc, ◌+◌, ◌<◌, ◌⊎◌, Bool, true, false, IsSome, IsTrue, List, [], ◌∷◌, ◌++◌, length, Option, Some, slice_get, slice_set, take}
+use Rattle.std.specs.Prelude.{◌≡◌, ℕ, suc, ◌+◌, ◌<◌, ◌⊎◌, Bool, true, false, IsSome, IsTrue, List, [], ◌∷◌, ◌++◌}
+use Rattle.std.specs.Prelude.{length, Option, Some, slice_get, slice_set, take}
 use Rattle.mapworld_calls.specs.declared.ask.Ask.{Ask}
 use Rattle.mapworld_calls.specs.declared.ask.Held.{Held}
 use Rattle.mapworld_calls.specs.declared.ask.Walk.{Walk}
@@ -12,25 +13,31 @@ use Rattle.mapworld_calls.specs.Programs.{stop_of}
 use Rattle.mapworld_calls.specs.Deeds.{Deeds}
 use Rattle.mapworld_calls.specs.Calls.{At, pair_in, told, after, held_answer, held_leaves, visit_answer, visit_leaves}
 use Rattle.mapworld_calls.specs.Setup.{Setup, Laws, ask_at}
-use Rattle.mapworld_calls.specs.Frame.{Frame, IsOn, KeepsToShard, LooksAtShard, AreApart, IsLastOnShard, IsSettled, IsQuiet, Grows, of_shard}
+use Rattle.mapworld_calls.specs.Frame.{Frame, IsOn, KeepsToShard, LooksAtShard, AreApart, IsLastOnShard, IsSettled}
+use Rattle.mapworld_calls.specs.Frame.{IsQuiet, Grows, of_shard}
 use Rattle.mapworld_calls.specs.Frame as frame
 use Rattle.mapworld_calls.specs.Replay.{left, done_keys, told_by, frame_of, contents, before}
 use Rattle.mapworld_calls.specs.Agrees.{IsToldBy, IsAnswered, IsBelow, Agrees}
-use Rattle.mapworld_calls.specs.Placed.{done_by_walk, IsVisitDone, IsDoneWithin, IsPlaced, IsEarlier, WellPlaced, StaysListed}
+use Rattle.mapworld_calls.specs.Placed.{done_by_walk, IsVisitDone, IsDoneWithin, IsPlaced, IsEarlier, WellPlaced}
+use Rattle.mapworld_calls.specs.Placed.{StaysListed}
 use Rattle.mapworld_calls.specs.Growth.{state_of, Calls, Visits, Ends, IsUnfinished, IsOfLaterCall, IsPut}
 
--- blocks of any kind that keep to their shards: two neighbours on different shards may change places, contents stay, and
--- each of them finds the same on its shard
+-- blocks of any kind that keep to their shards: two neighbours on different shards may change places, contents stay,
+-- and each of them finds the same on its shard
 pub record Commute {B K O : Type 0} (f : Frame B K O) (front : List B) (b c : B) (later : List B) : Type 0 where
-  pub contents_stay : (q : K) → frame.contents f (front ++ b ∷ c ∷ later) q ≡ frame.contents f (front ++ c ∷ b ∷ later) q
+  pub contents_stay : (q : K) → frame.contents f (front ++ b ∷ c ∷ later) q ≡ frame.contents f (front ++ c ∷ b ∷ later)
+      q
   pub first_finds : (q : K) → IsOn f b q
-      → frame.before f (front ++ b ∷ c ∷ later) (length front) q ≡ frame.before f (front ++ c ∷ b ∷ later) (length front + 1) q
+      → frame.before f (front ++ b ∷ c ∷ later) (length front) q ≡ frame.before f (front ++ c ∷ b ∷ later)
+      (length front + 1) q
   pub second_finds : (q : K) → IsOn f c q
-      → frame.before f (front ++ b ∷ c ∷ later) (length front + 1) q ≡ frame.before f (front ++ c ∷ b ∷ later) (length front) q
+      → frame.before f (front ++ b ∷ c ∷ later) (length front + 1) q ≡ frame.before f (front ++ c ∷ b ∷ later)
+      (length front) q
 
 abbrev pub BlocksCommute : Type 0 → Type 0 → Type 0 → Type 0
 BlocksCommute B K O =
-    (f : Frame B K O) → KeepsToShard f → (front : List B) (b c : B) (later : List B) → AreApart f b c → Commute f front b c later
+    (f : Frame B K O) → KeepsToShard f → (front : List B) (b c : B) (later : List B) → AreApart f b c
+    → Commute f front b c later
 
 -- what a key has is told by the blocks of its shard alone
 abbrev pub ReplaySplits : Type 0 → Type 0 → Type 0 → Type 0
@@ -46,7 +53,8 @@ SettledIsNow B K O =
 
 -- a block stays settled while another changes nothing or is on another shard, and so does the last on its shard
 pub record StaysSettled {B K O : Type 0} (f : Frame B K O) (bs : List B) (i : ℕ) (b c : B) : Type 0 where
-  pub another : (k : ℕ) (d : B) → IsQuiet f bs i b c ⊎ AreApart f d b → IsSettled f bs k d → IsSettled f (slice_set bs i c) k d
+  pub another : (k : ℕ) (d : B) → IsQuiet f bs i b c ⊎ AreApart f d b → IsSettled f bs k d
+      → IsSettled f (slice_set bs i c) k d
   pub itself : IsQuiet f bs i b c → IsSettled f bs i b → IsSettled f (slice_set bs i c) i c
   pub last_is_settled : IsLastOnShard f bs i b → IsSettled f bs i b
   pub last_stays : IsLastOnShard f bs i b → IsLastOnShard f (slice_set bs i c) i c
@@ -65,8 +73,8 @@ pub record ArePlain {K V D T : Type 0} (A : Type 0) (w : Setup K V D T) : Type 0
 abbrev pub BlocksArePlain : Type 0 → Type 0 → Type 0 → Type 0 → Type 0 → Type 0
 BlocksArePlain K V D T A = (w : Setup K V D T) → Laws w → ArePlain A w
 
--- a call that leaves its key's pair as it is keeps the agreement, whatever blocks are listed later, and its block tells its
--- answer
+-- a call that leaves its key's pair as it is keeps the agreement, whatever blocks are listed later, and its block tells
+-- its answer
 abbrev pub QuietCallsAgree : Type 0 → Type 0 → Type 0 → Type 0 → Type 0 → Type 0
 QuietCallsAgree K V D T A =
     (w : Setup K V D T) → Laws w → (bs : List (Block K)) (i : ℕ) (b c : Block K) (k : K) (a : Ask K V D)
@@ -92,20 +100,23 @@ QuietVisitsAgree K V D T A =
     → Visits w bs i b c f k → visit_leaves w.deeds f (before w bs i k) ≡ before w bs i k
     → (pairs : List (K × V)) (replies : List (Reply K V T A)) → IsUnfinished w replies b → Agrees w bs pairs replies
     → Agrees w (slice_set bs i c) pairs replies
-    × (told_by w {A = A} (length (done_keys w b)) c (before w (slice_set bs i c) i) ≡ Some (visit_answer w.deeds f (before w bs i k)))
+    × (told_by w {A = A} (length (done_keys w b)) c (before w (slice_set bs i c) i) ≡ Some
+    (visit_answer w.deeds f (before w bs i k)))
 
 -- one more key of a visit that is the last on its shard
 abbrev pub LastVisitsAgree : Type 0 → Type 0 → Type 0 → Type 0 → Type 0 → Type 0
 LastVisitsAgree K V D T A =
     (w : Setup K V D T) → Laws w → (bs : List (Block K)) (i : ℕ) (b c : Block K) (f : Walk D) (k : K)
     → Visits w bs i b c f k → IsLastOnShard (frame_of w) bs i b
-    → (pairs pairs' : List (K × V)) (replies : List (Reply K V T A)) → IsUnfinished w replies b → Agrees w bs pairs replies
+    → (pairs pairs' : List (K × V)) (replies : List (Reply K V T A)) → IsUnfinished w replies b
+    → Agrees w bs pairs replies
     → IsPut w pairs pairs' k (visit_leaves w.deeds f (before w bs i k))
     → Agrees w (slice_set bs i c) pairs' replies
-    × (told_by w {A = A} (length (done_keys w b)) c (before w (slice_set bs i c) i) ≡ Some (visit_answer w.deeds f (before w bs i k)))
+    × (told_by w {A = A} (length (done_keys w b)) c (before w (slice_set bs i c) i) ≡ Some
+    (visit_answer w.deeds f (before w bs i k)))
 
--- a visit that does one more key is still within its walk, if it hadn't done that key, which has a pair at the visit's turn, and
--- the walk has an item left to give
+-- a visit that does one more key is still within its walk, if it hadn't done that key, which has a pair at the visit's
+-- turn, and the walk has an item left to give
 abbrev pub VisitsStayDone : Type 0 → Type 0 → Type 0 → Type 0 → Type 0
 VisitsStayDone K V D T =
     (w : Setup K V D T) → Laws w → (bs : List (Block K)) (i : ℕ) (b c : Block K) (f : Walk D) (k : K)
@@ -124,7 +135,8 @@ EndsAgree K V D T A =
 -- a new block at the end, of a later call than those that its thread was answered: its keys have now what it leaves
 abbrev pub NewBlocksAgree : Type 0 → Type 0 → Type 0 → Type 0 → Type 0 → Type 0
 NewBlocksAgree K V D T A =
-    (w : Setup K V D T) → (bs : List (Block K)) (b : Block K) (pairs pairs' : List (K × V)) (replies : List (Reply K V T A))
+    (w : Setup K V D T) → (bs : List (Block K)) (b : Block K) (pairs pairs' : List (K × V))
+    (replies : List (Reply K V T A))
     → IsOfLaterCall replies b → AreDistinct w.eq pairs'
     → ((q : K) → pair_of w.eq pairs' q ≡ left w b q (pair_of w.eq pairs q))
     → Agrees w bs pairs replies → Agrees w (bs ++ b ∷ []) pairs' replies
@@ -132,7 +144,8 @@ NewBlocksAgree K V D T A =
 -- a reply whose answer is that of the replay
 abbrev pub RepliesAgree : Type 0 → Type 0 → Type 0 → Type 0 → Type 0 → Type 0
 RepliesAgree K V D T A =
-    (w : Setup K V D T) → (bs : List (Block K)) (pairs : List (K × V)) (replies : List (Reply K V T A)) (r : Reply K V T A)
+    (w : Setup K V D T) → (bs : List (Block K)) (pairs : List (K × V)) (replies : List (Reply K V T A))
+    (r : Reply K V T A)
     → IsAnswered w bs r.thread r.call r.answer → Agrees w bs pairs replies → Agrees w bs pairs (replies ++ r ∷ [])
 
 -- a call on a guard that is answered `NoGuard` or `WrongGuard` leaves guard and pair as they were
@@ -158,7 +171,8 @@ ReadingWalksChangeNothing K V D T =
 
 -- no later block of the list is of the same call
 abbrev pub IsLastOfCall : {K : Type 0} → List (Block K) → ℕ → Block K → Type 0
-IsLastOfCall {K} bs i b = (j : ℕ) (d : Block K) → i < j → slice_get bs j ≡ Some d → d.thread ≡ b.thread → d.call ≡ b.call → ⊥
+IsLastOfCall {K} bs i b = (j : ℕ) (d : Block K) → i < j → slice_get bs j ≡ Some d → d.thread ≡ b.thread
+    → d.call ≡ b.call → ⊥
 
 -- blocks stay well placed when one goes on that is the last of its call, if what it has done is within its call
 abbrev pub PlacesStay : Type 0 → Type 0 → Type 0 → Type 0 → Type 0 → Type 0
@@ -172,7 +186,8 @@ PlacesStay K V D T A =
 -- and when a block is added at the end that is well placed there, behind all others and the earlier ones of its thread
 abbrev pub PlacesStayBefore : Type 0 → Type 0 → Type 0 → Type 0 → Type 0 → Type 0
 PlacesStayBefore K V D T A =
-    (w : Setup K V D T) (steps : List ℕ) (started : ℕ → Option ℕ) (replies : List (Reply K V T A)) (bs : List (Block K)) (x : Block K)
+    (w : Setup K V D T) (steps : List ℕ) (started : ℕ → Option ℕ) (replies : List (Reply K V T A)) (bs : List (Block K))
+    (x : Block K)
     → WellPlaced w steps started bs replies → IsPlaced w steps started (bs ++ x ∷ []) replies (length bs) x
     → ((i : ℕ) (b : Block K) → slice_get bs i ≡ Some b → b.position < x.position)
     → ((i : ℕ) (b : Block K) → slice_get bs i ≡ Some b → b.thread ≡ x.thread → IsEarlier b x)

@@ -1,5 +1,6 @@
 -- Programs: which calls stand in a session, and what each needs.
-use Rattle.std.specs.Prelude.{◌≡◌, ℕ, zero, suc, ◌-◌, ◌<◌, ◌^◌, min, Bool, true, false, ◌&&◌, not, if◌then◌else◌, List, [], ◌∷◌, Option, Some, None, slice_get}
+use Rattle.std.specs.Prelude.{◌≡◌, ℕ, zero, suc, ◌-◌, ◌<◌, ◌^◌, min, Bool, true, false, ◌&&◌, not, if◌then◌else◌, List}
+use Rattle.std.specs.Prelude.{[], ◌∷◌, Option, Some, None, slice_get}
 use Rattle.mapworld_calls.specs.declared.ask.Ask.{Ask}
 use Rattle.mapworld_calls.specs.declared.ask.Ask.TheVariants as ask
 use Rattle.mapworld_calls.specs.declared.ask.Held.{Held}
@@ -52,7 +53,8 @@ IsBeforeDrop {K} {V} {D} a = (h : Held V D) × (a ≡ Some (ask.Held h)) × (is_
 abbrev pub HoldsOneGuard : {K V D : Type 0} → List (Ask K V D) → Type 0
 HoldsOneGuard {K} {V} {D} program =
     (i : ℕ) (b : _) → slice_get program i ≡ Some (ask.Begin b)
-    → (j : ℕ) × (i < j) × (slice_get program j ≡ Some (ask.Held held.Drop)) × ((k : ℕ) → i < k → k < j → IsBeforeDrop (slice_get program k))
+    → (j : ℕ) × (i < j) × (slice_get program j ≡ Some (ask.Held held.Drop))
+    × ((k : ℕ) → i < k → k < j → IsBeforeDrop (slice_get program k))
 
 -- whether a program that stands in a session, or does not, holds one guard at a time
 abbrev pub one_guard : {K V D : Type 0} → Bool → List (Ask K V D) → Bool

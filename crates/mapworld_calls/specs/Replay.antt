@@ -1,5 +1,6 @@
 -- The replay: one plain map takes each block whole, in the order in which the blocks are listed.
-use Rattle.std.specs.Prelude.{ℕ, zero, suc, ◌+◌, Bool, false, if◌then◌else◌, ◌==◌, List, Option, Some, None, slice_get, option_map, filter}
+use Rattle.std.specs.Prelude.{ℕ, zero, suc, ◌+◌, Bool, false, if◌then◌else◌, ◌==◌, List, Option, Some, None, slice_get}
+use Rattle.std.specs.Prelude.{option_map, filter}
 use Rattle.std.specs.Option.{option_and_then}
 use Rattle.std.specs.List.{list_any}
 use Rattle.mapworld_calls.specs.declared.ask.Ask.{Ask}
@@ -69,7 +70,8 @@ module _ {K V D T : Type 0} (w : Setup K V D T) where
 
   -- what a block tells as its n-th call, or of the n-th key that it visits, where keys have this before it
   abbrev pub told_as : {A : Type 0} → Work K D → Block K → ℕ → (K → Option (K × V)) → Option (Answer K V T A)
-  told_as (one k) b n m = option_map (λ a. told w.deeds a (reached b.thread b.call n (m k))) (ask_at w b.thread (b.call + n))
+  told_as (one k) b n m = option_map (λ a. told w.deeds a (reached b.thread b.call n (m k)))
+      (ask_at w b.thread (b.call + n))
   told_as (visit f) b n m = option_map (λ k. visit_answer w.deeds f (m k)) (slice_get (done_keys b) n)
   told_as nothing b n m = None
 

@@ -10,4 +10,5 @@ TakesGuards a = is_held a ≡ false
 -- no call that takes a guard of its own stands in a session
 abbrev pub SessionsAreApart : Type 0 → Type 0 → Type 0 → Type 0
 SessionsAreApart K V D =
-    (program : List (Ask K V D)) → HoldsOneGuard program → (c : ℕ) (a : Ask K V D) → slice_get program c ≡ Some a → TakesGuards a → opening_before program c ≡ None
+    (program : List (Ask K V D)) → HoldsOneGuard program → (c : ℕ) (a : Ask K V D) → slice_get program c ≡ Some a
+    → TakesGuards a → opening_before program c ≡ None

@@ -30,9 +30,10 @@ pub record IsReplied {K V T A : Type 0} (replies : List (Reply K V T A)) (t c s 
 abbrev pub StartedAt : {K V T A : Type 0} → (ℕ → Option ℕ) → List (Reply K V T A) → ℕ → ℕ → ℕ → Type 0
 StartedAt started replies t c s = IsReplied replies t c s ⊎ ((c ≡ answered_of replies t) × (started t ≡ Some s))
 
--- a session is on its shard until the answer of the call that ends its guard; where the opening has no block, or gave no
--- guard, until the answer of the opening
-pub record IsSessionOn {K V D T A : Type 0} (w : Setup K V D T) (bs : List (Block K)) (replies : List (Reply K V T A)) (t c : ℕ) (k : K) (p : ℕ) : Type 0 where
+-- a session is on its shard until the answer of the call that ends its guard; where the opening has no block, or gave
+-- no guard, until the answer of the opening
+pub record IsSessionOn {K V D T A : Type 0} (w : Setup K V D T) (bs : List (Block K)) (replies : List (Reply K V T A))
+    (t c : ℕ) (k : K) (p : ℕ) : Type 0 where
   pub refused : HasNoBlock bs t c → IsBeforeAnswer replies t c p
   pub guarded : (i n : ℕ) (b : Block K) → slice_get bs i ≡ Some b → b.thread ≡ t → b.call ≡ c → n < b.done.value
       → IsTrue (is_free (reached w t c (suc n) (before w bs i k))) → IsBeforeAnswer replies t (c + n) p
@@ -49,20 +50,25 @@ pub record IsVisitedAt {K : Type 0} (bs : List (Block K)) (t c n p : ℕ) : Type
 
 -- a walk is on a shard from its start or the position of the visit before, until the position of the second visit after
 -- it or the walk's answer
-pub record IsWalkOn {K V D T A : Type 0} (w : Setup K V D T) (bs : List (Block K)) (replies : List (Reply K V T A)) (t c s p : ℕ) : Type 0 where
+pub record IsWalkOn {K V D T A : Type 0} (w : Setup K V D T) (bs : List (Block K)) (replies : List (Reply K V T A))
+    (t c s p : ℕ) : Type 0 where
   pub within : s < w.shards
   pub begun : (n : ℕ) → s ≡ suc n → IsVisitedAt bs t c n p
-  pub goes_on : (i : ℕ) (b : Block K) → slice_get bs i ≡ Some b → b.thread ≡ t → b.call ≡ c → b.visit ≡ s + 2 → p ≤ b.position
+  pub goes_on : (i : ℕ) (b : Block K) → slice_get bs i ≡ Some b → b.thread ≡ t → b.call ≡ c → b.visit ≡ s + 2
+      → p ≤ b.position
   pub unanswered : IsBeforeAnswer replies t c p
 
-abbrev pub IsOnBy : {K V D T A : Type 0} → Setup K V D T → List (Block K) → List (Reply K V T A) → ℕ → ℕ → Ask K V D → ℕ → ℕ → Type 0
+abbrev pub IsOnBy : {K V D T A : Type 0} → Setup K V D T → List (Block K) → List (Reply K V T A) → ℕ → ℕ → Ask K V D → ℕ
+    → ℕ → Type 0
 IsOnBy w bs replies t c (ask.Keyed k) s p = (w.route (keyed_key k) ≡ s) × IsBeforeAnswer replies t c p
-IsOnBy w bs replies t c (ask.Begin b) s p = (w.route (opening_key b) ≡ s) × IsSessionOn w bs replies t c (opening_key b) p
+IsOnBy w bs replies t c (ask.Begin b) s p = (w.route (opening_key b) ≡ s) × IsSessionOn w bs replies t c (opening_key b)
+    p
 IsOnBy w bs replies t c (ask.Walk f) s p = IsWalkOn w bs replies t c s p
 IsOnBy w bs replies t c (ask.Held h) s p = ⊥
 
 -- at that step a call of the thread is on the shard
-pub record IsOnShard {K V D T A : Type 0} (w : Setup K V D T) (started : ℕ → Option ℕ) (bs : List (Block K)) (replies : List (Reply K V T A)) (t s p : ℕ) : Type 0 where
+pub record IsOnShard {K V D T A : Type 0} (w : Setup K V D T) (started : ℕ → Option ℕ) (bs : List (Block K))
+    (replies : List (Reply K V T A)) (t s p : ℕ) : Type 0 where
   pub call : ℕ
   pub ask : Ask K V D
   pub asked : ask_at w t call ≡ Some ask
@@ -72,7 +78,8 @@ pub record IsOnShard {K V D T A : Type 0} (w : Setup K V D T) (started : ℕ →
   pub on : IsOnBy w bs replies t call ask s p
 
 -- at some step of the try a call of another thread is on its shard
-pub record HasCause {K V D T A : Type 0} (w : Setup K V D T) (started : ℕ → Option ℕ) (bs : List (Block K)) (replies : List (Reply K V T A)) (r : Reply K V T A) : Type 0 where
+pub record HasCause {K V D T A : Type 0} (w : Setup K V D T) (started : ℕ → Option ℕ) (bs : List (Block K))
+    (replies : List (Reply K V T A)) (r : Reply K V T A) : Type 0 where
   pub opening : Begin K
   pub asked : ask_at w r.thread r.call ≡ Some (ask.Begin opening)
   pub step : ℕ
@@ -82,6 +89,8 @@ pub record HasCause {K V D T A : Type 0} (w : Setup K V D T) (started : ℕ → 
   pub another : other ≢ r.thread
   pub on : IsOnShard w started bs replies other (w.route (opening_key opening)) step
 
-abbrev pub LockedHaveCauses : {K V D T A : Type 0} → Setup K V D T → (ℕ → Option ℕ) → List (Block K) → List (Reply K V T A) → Type 0
+abbrev pub LockedHaveCauses : {K V D T A : Type 0} → Setup K V D T → (ℕ → Option ℕ) → List (Block K)
+    → List (Reply K V T A) → Type 0
 LockedHaveCauses {K} {V} {D} {T} {A} w started bs replies =
-    (i : ℕ) (r : Reply K V T A) → slice_get replies i ≡ Some r → r.answer ≡ answer.Locked → HasCause w started bs replies r
+    (i : ℕ) (r : Reply K V T A) → slice_get replies i ≡ Some r → r.answer ≡ answer.Locked
+    → HasCause w started bs replies r

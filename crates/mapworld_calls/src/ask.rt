@@ -24,9 +24,9 @@ pub enum Keyed<K, V, D> {
     /// Takes the pair out unless the deed keeps it. On an absent key it answers `None`; on a present one `None` where
     /// `keep` holds, and nothing changes, and otherwise `Pair` with the stored key.
     RemoveIf(K, D),
-    /// The value becomes the deed's effect, and the pair goes unless the deed keeps it. `keep` is asked of the pair as it
-    /// was found. On an absent key it answers `None`; on a present one `None` where `keep` holds, and otherwise `Pair`
-    /// with the stored key and the effect.
+    /// The value becomes the deed's effect, and the pair goes unless the deed keeps it. `keep` is asked of the pair as
+    /// it was found. On an absent key it answers `None`; on a present one `None` where `keep` holds, and otherwise
+    /// `Pair` with the stored key and the effect.
     RemoveIfMut(K, D),
     /// Answers `Done`; the value of a present key becomes the deed's effect.
     Alter(K, D),
@@ -42,11 +42,12 @@ pub enum Keyed<K, V, D> {
 pub enum Begin<K> {
     /// A shared guard of the key's pair, answered `Held`; `None` where the key is absent, and then there is no guard.
     Get(K),
-    /// An exclusive guard of the key's pair, answered `Held`; `None` where the key is absent, and then there is no guard.
+    /// An exclusive guard of the key's pair, answered `Held`; `None` where the key is absent, and then there is no
+    /// guard.
     GetMut(K),
-    /// A guard of the key's place, which keeps the handed-in key: on a present key an occupied one, answered `Held`; on an
-    /// absent one a vacant one, answered `Vacant`, for which room is made. Where that room is refused it answers `NoMemory`,
-    /// and there is no guard.
+    /// A guard of the key's place, which keeps the handed-in key: on a present key an occupied one, answered `Held`; on
+    /// an absent one a vacant one, answered `Vacant`, for which room is made. Where that room is refused it answers
+    /// `NoMemory`, and there is no guard.
     Entry(K),
     /// As `Get`, but it waits for nobody: where its shard can't be had it answers `Locked`, and there is no guard.
     TryGet(K),
@@ -56,8 +57,8 @@ pub enum Begin<K> {
     TryEntry(K),
 }
 
-/// A call on the guard. Where no guard is held it answers `NoGuard`, and on a guard of a kind that it isn't for `WrongGuard`;
-/// neither changes anything.
+/// A call on the guard. Where no guard is held it answers `NoGuard`, and on a guard of a kind that it isn't for
+/// `WrongGuard`; neither changes anything.
 #[derive(Clone, Debug, Drop, PartialEq, Eq)]
 pub enum Held<V, D> {
     /// On a guard that has a pair, of any kind: answers `Read` with the deed's answer of the pair.
@@ -66,8 +67,8 @@ pub enum Held<V, D> {
     Write(D),
     /// On an exclusive guard: answers `Held`, and the guard is shared.
     Downgrade,
-    /// On an occupied guard: answers `Value` with the old value, and the stored key stays. On a vacant one: answers `Held`;
-    /// the handed-in key's pair is added, and the guard is exclusive. It never takes memory.
+    /// On an occupied guard: answers `Value` with the old value, and the stored key stays. On a vacant one: answers
+    /// `Held`; the handed-in key's pair is added, and the guard is exclusive. It never takes memory.
     Insert(V),
     /// On an occupied guard: answers `Held`, and the guard is exclusive; the handed-in key is let go.
     IntoRef,
@@ -75,8 +76,8 @@ pub enum Held<V, D> {
     Remove,
     /// On an occupied guard: answers `Pair` with the stored key and the value; the pair goes, and the guard ends.
     RemoveEntry,
-    /// On an occupied guard: answers `Pair` with the stored key and the old value; the pair is that of the handed-in key and
-    /// the new value, and the guard ends.
+    /// On an occupied guard: answers `Pair` with the stored key and the old value; the pair is that of the handed-in
+    /// key and the new value, and the guard ends.
     ReplaceEntry(V),
     /// On an occupied or a vacant guard: answers `Key` with the handed-in key; the guard ends.
     IntoKey,
@@ -84,33 +85,36 @@ pub enum Held<V, D> {
     Drop,
 }
 
-/// A call over all shards, in the order of their numbers: a visit of each. Pairs that others add or take out on shards that it
-/// has visited, or hasn't reached, aren't seen, or are.
+/// A call over all shards, in the order of their numbers: a visit of each. Pairs that others add or take out on shards
+/// that it has visited, or hasn't reached, aren't seen, or are.
 ///
-/// The number is how many items the walk gives before it is dropped, if it is dropped early; it visits no shard after that.
+/// The number is how many items the walk gives before it is dropped, if it is dropped early; it visits no shard after
+/// that.
 /// The first four give each pair of a visited shard once, in an order that is open.
 #[derive(Clone, Debug, Drop, PartialEq, Eq)]
 pub enum Walk<D> {
-    /// Answers `Reads`: the deed's answers of all pairs, in the order of visits. It shares its shards, and takes the next one
-    /// before it gives one back. Where room for its answers is refused it answers `NoMemory`.
+    /// Answers `Reads`: the deed's answers of all pairs, in the order of visits. It shares its shards, and takes the
+    /// next one before it gives one back. Where room for its answers is refused it answers `NoMemory`.
     Iter(D, Option<u64>),
     /// As `Iter`, but alone in its shards; each value becomes the deed's effect.
     IterMut(D, Option<u64>),
-    /// Answers `Done`: each value becomes the deed's effect, and a pair goes that the deed doesn't keep. It is alone in a shard,
-    /// one at a time.
+    /// Answers `Done`: each value becomes the deed's effect, and a pair goes that the deed doesn't keep. It is alone in
+    /// a shard, one at a time.
     Retain(D),
-    /// Answers `Done`: each value becomes the deed's effect. It is alone in its shards, and takes the next one before it gives
-    /// one back.
+    /// Answers `Done`: each value becomes the deed's effect. It is alone in its shards, and takes the next one before
+    /// it gives one back.
     AlterAll(D),
     /// Answers `Done`: every pair goes. It is alone in a shard, one at a time.
     Clear,
-    /// Answers `Count`: the sum of the shards' numbers of pairs, at most the greatest number. It shares a shard, one at a time.
+    /// Answers `Count`: the sum of the shards' numbers of pairs, at most the greatest number. It shares a shard, one at
+    /// a time.
     Len,
     /// Answers `Flag`: whether that sum is 0. It shares a shard, one at a time.
     IsEmpty,
-    /// Answers `Count`: for how many pairs the shards have room, none fewer than it has pairs. It shares a shard, one at a time.
+    /// Answers `Count`: for how many pairs the shards have room, none fewer than it has pairs. It shares a shard, one
+    /// at a time.
     Capacity,
-    /// Answers `Done`: shards give back room that their pairs don't need. It is alone in a shard, one at a time. Where a smaller
-    /// table is refused it answers `NoMemory`.
+    /// Answers `Done`: shards give back room that their pairs don't need. It is alone in a shard, one at a time. Where
+    /// a smaller table is refused it answers `NoMemory`.
     ShrinkToFit,
 }

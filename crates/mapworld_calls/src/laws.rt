@@ -1,4 +1,5 @@
-//! Laws of programs and of blocks: each function's contract is the law. They are for proofs, and do nothing when they run.
+//! Laws of programs and of blocks: each function's contract is the law. They are for proofs, and do nothing when they
+//! run.
 ghost use Rattle.mapworld_calls.specs.Laws.{
   BlocksArePlain,
   BlocksCommute,
@@ -23,8 +24,8 @@ ghost use Rattle.mapworld_calls.specs.Sessions.{SessionsAreApart};
 use crate::deed::Deed;
 use std::alloc::Allocator;
 
-/// While a session is open, a program that holds one guard at a time asks for nothing else: a keyed call, an opening or a
-/// walk never stands in a session. It is a law for proofs, and does nothing when it runs.
+/// While a session is open, a program that holds one guard at a time asks for nothing else: a keyed call, an opening or
+/// a walk never stands in a session. It is a law for proofs, and does nothing when it runs.
 pub fn sessions_are_apart<K, V, D>()
     ensures { SessionsAreApart K V D }
 {}
@@ -57,8 +58,8 @@ pub fn blocks_are_plain<K, V, D: Deed<K, V>, A: Allocator>()
     ensures { BlocksArePlain K V D D.Answer A }
 {}
 
-/// A call that leaves its key's pair as it is may be made whatever stands behind its block: no answer that was given and
-/// no pair is another by it. Reads are such calls, and so are calls that a guard's kind doesn't allow.
+/// A call that leaves its key's pair as it is may be made whatever stands behind its block: no answer that was given
+/// and no pair is another by it. Reads are such calls, and so are calls that a guard's kind doesn't allow.
 pub fn quiet_calls_agree<K, V, D: Deed<K, V>, A: Allocator>()
     ensures { QuietCallsAgree K V D D.Answer A }
 {}
@@ -78,8 +79,8 @@ pub fn last_visits_agree<K, V, D: Deed<K, V>, A: Allocator>()
     ensures { LastVisitsAgree K V D D.Answer A }
 {}
 
-/// What a visit has done stays within its walk when it does one more key: one of its shard that it hadn't done and that has a
-/// pair, while the walk has an item left to give.
+/// What a visit has done stays within its walk when it does one more key: one of its shard that it hadn't done and that
+/// has a pair, while the walk has an item left to give.
 pub fn visits_stay_done<K, V, D: Deed<K, V>>()
     ensures { VisitsStayDone K V D D.Answer }
 {}
@@ -104,7 +105,8 @@ pub fn refused_calls_change_nothing<K, V, D: Deed<K, V>, A: Allocator>()
     ensures { RefusedCallsChangeNothing K V D D.Answer A }
 {}
 
-/// A walk that only reads or counts changes no pair, so each of its visits may be made whatever stands behind its block.
+/// A walk that only reads or counts changes no pair, so each of its visits may be made whatever stands behind its
+/// block.
 pub fn reading_walks_change_nothing<K, V, D: Deed<K, V>>()
     ensures { ReadingWalksChangeNothing K V D D.Answer }
 {}

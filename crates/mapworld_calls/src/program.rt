@@ -14,7 +14,8 @@ fn is_drop<V, D>(call: &Held<V, D>) -> bool
     }
 }
 
-/// Whether the program holds one guard at a time: behind each opening stands its drop, with nothing but calls on the guard between.
+/// Whether the program holds one guard at a time: behind each opening stands its drop, with nothing but calls on the
+/// guard between.
 /// A world takes only such programs, so that no thread waits for a shard while it holds a guard.
 ///
 /// It reads the program once, takes no memory and cannot fail. A call on the guard where none is held is no fault: it
@@ -63,7 +64,8 @@ fn numbers_of<K, V, D>(ask: &Ask<K, V, D>, shards: u64) -> u64
 }
 
 /// How many guard numbers the program takes on a map of so many shards: one for each keyed call and each opening, since
-/// each takes a shard's guard once, as many as there are shards for each walk, and none for a call on the guard that is held.
+/// each takes a shard's guard once, as many as there are shards for each walk, and none for a call on the guard that is
+/// held.
 ///
 /// It reads the program once, takes no memory and cannot fail. A number past the greatest stays at that.
 ///

@@ -2,7 +2,8 @@
 
 use std::alloc::Allocator;
 
-/// What a call is answered. `T` is the answer of the program's deeds; a walk's list of them keeps the world's allocator `A`.
+/// What a call is answered. `T` is the answer of the program's deeds; a walk's list of them keeps the world's allocator
+/// `A`.
 #[derive(Debug, Drop, PartialEq, Eq)]
 pub enum Answer<K, V, T, A: Allocator> {
     /// It is done.

@@ -93,7 +93,8 @@ impl Traced {
         Ok(true)
     }
 
-    /// Gives each thread in turn one step, if it can move. Answers how many were made, or none where one of them was refused.
+    /// Gives each thread in turn one step, if it can move. Answers how many were made, or none where one of them was
+    /// refused.
     fn step_each(&mut self) -> Result<Option<u64>, AllocError> {
         let mut made: u64 = 0;
         for thread in 0..self.world.threads() {
@@ -107,7 +108,8 @@ impl Traced {
         Ok(Some(made))
     }
 
-    /// Steps the threads in turn, each once if it can move, until none can; and says whether each of these steps was done.
+    /// Steps the threads in turn, each once if it can move, until none can; and says whether each of these steps was
+    /// done.
     pub fn step_round(&mut self) -> Result<bool, AllocError> {
         for _ in 0..self.world.bound() {
             match self.step_each()? {
@@ -129,7 +131,8 @@ impl Traced {
         Ok(made <= bound && is_counted && self.world.drain() == 0)
     }
 
-    /// Makes so many steps, of threads that are picked by numbers from a seed; one that can't move makes none. Says whether each was done.
+    /// Makes so many steps, of threads that are picked by numbers from a seed; one that can't move makes none. Says
+    /// whether each was done.
     pub fn step_at_random(&mut self, seed: u64, steps: u64) -> Result<bool, AllocError> {
         let mut state = seed;
         for _ in 0..steps {

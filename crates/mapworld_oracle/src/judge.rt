@@ -31,8 +31,8 @@ fn is_ended(seen: Seen<'_>, block: &Block<u64>) -> bool {
     }
 }
 
-/// The rule that a world at its end breaks, with these contents and behind that many steps, if it breaks one. The schedule is that of the first
-/// steps.
+/// The rule that a world at its end breaks, with these contents and behind that many steps, if it breaks one. The
+/// schedule is that of the first steps.
 pub fn broken_at_end<D: Deed<u64, u64, Answer = (u64, u64)> + Copy>(
     made: Made<'_, D>,
     seen: Seen<'_>,

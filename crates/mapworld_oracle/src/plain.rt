@@ -1,4 +1,5 @@
-//! The plain map: a list of pairs, and what each call is answered there and leaves. It knows no shards, no locks and no steps.
+//! The plain map: a list of pairs, and what each call is answered there and leaves. It knows no shards, no locks and no
+//! steps.
 
 use crate::said::Said;
 use mapworld_calls::{Ask, Begin, Deed, Held, Keyed, Walk};

@@ -1,5 +1,6 @@
 -- Fewer steps are left than the bound.
-use Rattle.std.proofs.Common.{◌≡◌, ℕ, zero, suc, ◌+◌, ◌-◌, ◌*◌, ◌<◌, ◌≤◌, List, [], ◌∷◌, Option, Some, None, length, slice_get, sum_by, count_by, refl, ap, ◌∙◌, arith}
+use Rattle.std.proofs.Common.{◌≡◌, ℕ, zero, suc, ◌+◌, ◌-◌, ◌*◌, ◌<◌, ◌≤◌, List, [], ◌∷◌, Option, Some, None, length}
+use Rattle.std.proofs.Common.{slice_get, sum_by, count_by, refl, ap, ◌∙◌, arith}
 use Rattle.std.proofs.Math.Nat.{mul-add, mul-le-mul_left}
 use Rattle.std.proofs.lemmas.List.Sums.{count_by-le-length, sum_by-cons}
 use Rattle.std.proofs.lemmas.Nat.{mul-le}
@@ -17,7 +18,8 @@ use Rattle.mapworld_state.specs.Running.{bound, unanswered_of}
 use Rattle.mapworld_state.specs.Shards.{ShardPairs}
 use Rattle.mapworld_state.specs.State.{State, pairs_of}
 use Rattle.mapworld_progress.specs.Laws.{FewAreLeft}
-use Rattle.mapworld_progress.specs.Left.{ask_left, block_at, fresh_of, items_at, most_left, pairs_from, phase_left, phase_todo, place_left, place_todo, to_come, visit_left, visited_by, walk_left}
+use Rattle.mapworld_progress.specs.Left.{ask_left, block_at, fresh_of, items_at, most_left, pairs_from, phase_left}
+use Rattle.mapworld_progress.specs.Left.{phase_todo, place_left, place_todo, to_come, visit_left, visited_by, walk_left}
 use Rattle.mapworld_progress.specs.Sizes.{IsSized}
 use Rattle.mapworld_progress.proofs.Coming.{pairs-all, pairs-at}
 use Rattle.mapworld_progress.proofs.Counting.{fresh-all}
@@ -26,7 +28,8 @@ use Rattle.mapworld_progress.proofs.Gaining.{all-pairs}
 -- WHAT PLACES TAKE
 
 -- a call that has started takes no more than a walk that hasn't
-phase_most : {K V D T A : Type 0} (n s more : ℕ) (f : Phase K V D T A) → more ≤ s → phase_left n more f ≤ walk_left n s * owes f
+phase_most : {K V D T A : Type 0} (n s more : ℕ) (f : Phase K V D T A) → more ≤ s
+    → phase_left n more f ≤ walk_left n s * owes f
 phase_most n s more phase.Rest few = omega arith
 phase_most n s more (phase.Admit r) few = omega arith
 phase_most n s more (phase.Find r) few = omega arith
@@ -55,15 +58,29 @@ ask_most n s (ask.Begin b) = omega arith
 ask_most n s (ask.Held h) = omega arith
 ask_most n s (ask.Walk f) = omega arith
 
-asks_most : {K V D : Type 0} (n s : ℕ) (asks : List (Ask K V D)) → sum_by (ask_left n s) asks ≤ walk_left n s * length asks
+asks_most : {K V D : Type 0} (n s : ℕ) (asks : List (Ask K V D)) → sum_by (ask_left n s) asks ≤ walk_left n s * length
+    asks
 asks_most n s [] = omega arith
-asks_most n s (a ∷ asks) = omega (arith, sum_by-cons (ask_left n s) a asks, ask_most n s a, asks_most n s asks, mul-add (walk_left n s) 1 (length asks))
+asks_most n s (a ∷ asks) =
+    omega (
+      arith,
+      sum_by-cons (ask_left n s) a asks,
+      ask_most n s a,
+      asks_most n s asks,
+      mul-add (walk_left n s) 1 (length asks),
+    )
 
 place_most : {K V D T A : Type 0} (n s : ℕ) (p : Place K V D T A) → place_left n s p ≤ walk_left n s * owed p
 place_most n s p =
-    omega (arith, mul-add (walk_left n s) (length p.asks) (owes p.phase), asks_most n s p.asks, phase_most n s (s - (p.shard + 1)) p.phase (omega arith))
+    omega (
+      arith,
+      mul-add (walk_left n s) (length p.asks) (owes p.phase),
+      asks_most n s p.asks,
+      phase_most n s (s - (p.shard + 1)) p.phase (omega arith),
+    )
 
-places_most : {K V D T A : Type 0} (n s : ℕ) (ps : List (Place K V D T A)) → sum_by (place_left n s) ps ≤ walk_left n s * sum_by owed ps
+places_most : {K V D T A : Type 0} (n s : ℕ) (ps : List (Place K V D T A)) → sum_by (place_left n s) ps ≤ walk_left n s
+    * sum_by owed ps
 places_most n s [] = omega arith
 places_most n s (p ∷ ps) =
     omega (
@@ -109,14 +126,19 @@ module _ {K V S D T A : Type 0} (x : Setup K V D T) (w : State K V S D T A) wher
   abbrev all : ℕ
   all = pairs_from w.tables 0 + to_come w.places
 
-  fresh_few : (shard : ℕ) (keys : List K) (o : Option (ShardPairs K V)) → slice_get w.tables shard ≡ o → length (items_at o) + pairs_from w.tables (suc shard) ≤ pairs_from w.tables 0
+  fresh_few : (shard : ℕ) (keys : List K) (o : Option (ShardPairs K V)) → slice_get w.tables shard ≡ o
+      → length (items_at o) + pairs_from w.tables (suc shard) ≤ pairs_from w.tables 0
   fresh_few shard keys None at = omega (arith, pairs-all w.tables (suc shard))
   fresh_few shard keys (Some t) at = omega (arith, pairs-all w.tables shard, pairs-at w.tables shard t at)
 
   within_few : (p : Place K V D T A) → fresh_of x w p + (pairs_from w.tables (suc p.shard) + to_come w.places) ≤ all
   within_few p =
       let keys = visited_by (block_at w.blocks (slice_get p.visits p.shard)) in
-      omega (arith, fresh-all x.eq keys (items_at (slice_get w.tables p.shard)), fresh_few p.shard keys (slice_get w.tables p.shard) refl)
+      omega (
+        arith,
+        fresh-all x.eq keys (items_at (slice_get w.tables p.shard)),
+        fresh_few p.shard keys (slice_get w.tables p.shard) refl,
+      )
 
   phase_few : (p : Place K V D T A) (f : Phase K V D T A) → phase_todo x w p f ≤ owes f * all
   phase_few p phase.Rest = omega arith
@@ -143,14 +165,16 @@ module _ {K V S D T A : Type 0} (x : Setup K V D T) (w : State K V S D T A) wher
 
   todo_few : (p : Place K V D T A) → place_todo x w p ≤ owed p * all
   todo_few p =
-      let asked : count_by is_walk p.asks * all ≤ length p.asks * all = mul-le (count_by is_walk p.asks) all (length p.asks) all (count_by-le-length is_walk p.asks) (omega arith) in
+      let asked : count_by is_walk p.asks * all ≤ length p.asks * all = mul-le (count_by is_walk p.asks) all
+      (length p.asks) all (count_by-le-length is_walk p.asks) (omega arith) in
       let both : owed p * all ≡ length p.asks * all + owes p.phase * all = omega arith in
       omega (arith, asked, both, phase_few p p.phase)
 
   todos_few : (ps : List (Place K V D T A)) → sum_by (place_todo x w) ps ≤ sum_by owed ps * all
   todos_few [] = omega arith
   todos_few (p ∷ ps) =
-      let both : sum_by owed (p ∷ ps) * all ≡ owed p * all + sum_by owed ps * all = ap (λ k. k * all) (sum_by-cons owed p ps) ∙ omega arith in
+      let both : sum_by owed (p ∷ ps) * all ≡ owed p * all + sum_by owed ps * all =
+      ap (λ k. k * all) (sum_by-cons owed p ps) ∙ omega arith in
       omega (arith, sum_by-cons (place_todo x w) p ps, both, todo_few p, todos_few ps)
 
 -- THE BOUND
@@ -172,16 +196,23 @@ enough zero s p c none = few c (none refl)
     few (suc c) is = omega (arith, is)
 enough (suc n) s p c none = omega arith
 
-pub steps_are_few : {K V S D T A : Type 0} → Always StepsAreFew → (x : Setup K V D T) (w : State K V S D T A) → IsSized w → LocksFit w.locks → FewAreLeft x w
+pub steps_are_few : {K V S D T A : Type 0} → Always StepsAreFew → (x : Setup K V D T) (w : State K V S D T A)
+    → IsSized w → LocksFit w.locks → FewAreLeft x w
 steps_are_few few x w size fit =
     let n = length w.programs in
     let m = length w.tables in
     let c = unanswered_of w in
     let l = state w.locks.rows in
-    let threads : length l.calls * most_steps (length l.calls) ≡ n * most_steps n = ap (λ k. k * most_steps k) (size.locks.threads_are ∙ size.places) in
+    let threads : length l.calls * most_steps (length l.calls) ≡ n * most_steps n =
+    ap (λ k. k * most_steps k) (size.locks.threads_are ∙ size.places) in
     let owing : sum_by owed w.places ≡ c = omega (arith, size.answers) in
     let calls : sum_by (place_left (length w.places) m) w.places ≤ walk_left n m * c =
-    omega (arith, places_most (length w.places) m w.places, ap (λ k. walk_left (length w.places) m * k) owing, ap (λ k. walk_left k m * c) size.places) in
+    omega (
+      arith,
+      places_most (length w.places) m w.places,
+      ap (λ k. walk_left (length w.places) m * k) owing,
+      ap (λ k. walk_left k m * c) size.places,
+    ) in
     let pairs : pairs_from w.tables 0 ≡ length (pairs_of w) = all-pairs w in
     let total : all x w ≤ length (pairs_of w) + c = omega (arith, pairs, come_few w.places, owing) in
     let todo : sum_by (place_todo x w) w.places ≤ c * (length (pairs_of w) + c) =

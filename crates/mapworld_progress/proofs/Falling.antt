@@ -1,5 +1,6 @@
 -- What phases and calls at locks take, and how the sums of a step fall.
-use Rattle.std.proofs.Common.{◌≡◌, ℕ, ◌+◌, ◌-◌, ◌*◌, ◌≤◌, Bool, true, false, List, length, Option, None, Some, slice_get, slice_set, count_by, sum_by, refl, ap, ◌∙◌, arith, length-set}
+use Rattle.std.proofs.Common.{◌≡◌, ℕ, ◌+◌, ◌-◌, ◌*◌, ◌≤◌, Bool, true, false, List, length, Option, None, Some}
+use Rattle.std.proofs.Common.{slice_get, slice_set, count_by, sum_by, refl, ap, ◌∙◌, arith, length-set}
 use Rattle.mapworld_calls.proofs.Lists.{sum_by-set}
 use Rattle.mapworld_calls.specs.declared.ask.Ask.{Ask}
 use Rattle.mapworld_calls.specs.declared.ask.Begin.TheVariants as begin
@@ -30,13 +31,16 @@ use Rattle.mapworld_state.specs.Moves.{changed_phase, found_phase, held_phase, m
 use Rattle.mapworld_state.specs.Places.{Place}
 use Rattle.mapworld_state.specs.State.{State}
 use Rattle.mapworld_state.specs.Steps.{EntersBy}
-use Rattle.mapworld_progress.specs.Left.{ask_left, call_left, left, pairs_from, phase_left, phase_todo, place_left, place_todo, release_left, to_come}
-use Rattle.mapworld_progress.proofs.Coming.{TablesBy, StaysVisited, asks-todo, behind, phase-todo, place-todo, sum-but, tables-size}
+use Rattle.mapworld_progress.specs.Left.{ask_left, call_left, left, pairs_from, phase_left, phase_todo, place_left}
+use Rattle.mapworld_progress.specs.Left.{place_todo, release_left, to_come}
+use Rattle.mapworld_progress.proofs.Coming.{TablesBy, StaysVisited, asks-todo, behind, phase-todo, place-todo, sum-but}
+use Rattle.mapworld_progress.proofs.Coming.{tables-size}
 
 -- WHAT PHASES TAKE
 
 -- a call on a guard
-pub held_takes : {K V D : Type 0} (T A : Type 0) (n more : ℕ) (g : Option (Guard K)) (h : Held V D) → phase_left n more (held_phase {T = T} {A = A} g h) ≤ release_left n + 1
+pub held_takes : {K V D : Type 0} (T A : Type 0) (n more : ℕ) (g : Option (Guard K)) (h : Held V D)
+    → phase_left n more (held_phase {T = T} {A = A} g h) ≤ release_left n + 1
 held_takes T A n more None h = omega arith
 held_takes T A n more (Some (guard.Pair way.Shared)) (held.Read d) = omega arith
 held_takes T A n more (Some (guard.Pair way.Shared)) held.Drop = omega arith
@@ -62,7 +66,8 @@ held_takes T A n more (Some (guard.Vacant k)) held.Drop = omega arith
 held_takes T A n more (Some (guard.Vacant k)) h = omega arith
 
 -- a find
-pub found_takes : {K V D : Type 0} (T A : Type 0) (n more : ℕ) (r : Request K V D) (there room : Bool) → phase_left n more (found_phase {T = T} {A = A} r there room) ≤ release_left n + 2
+pub found_takes : {K V D : Type 0} (T A : Type 0) (n more : ℕ) (r : Request K V D) (there room : Bool)
+    → phase_left n more (found_phase {T = T} {A = A} r there room) ≤ release_left n + 2
 found_takes T A n more (request.Keyed (keyed.Insert k v)) true room = omega arith
 found_takes T A n more (request.Keyed (keyed.Insert k v)) false true = omega arith
 found_takes T A n more (request.Keyed (keyed.Insert k v)) false false = omega arith
@@ -89,13 +94,15 @@ found_takes T A n more (request.Begin (begin.TryEntry k)) false true = omega ari
 found_takes T A n more (request.Begin (begin.TryEntry k)) false false = omega arith
 
 -- one whose growth was made
-pub grown_takes : {K V : Type 0} (D T A : Type 0) (n more : ℕ) (c : Growth K V) → phase_left n more (found_phase {D = D} {T = T} {A = A} (request_of c) false true) ≤ release_left n + 1
+pub grown_takes : {K V : Type 0} (D T A : Type 0) (n more : ℕ) (c : Growth K V)
+    → phase_left n more (found_phase {D = D} {T = T} {A = A} (request_of c) false true) ≤ release_left n + 1
 grown_takes D T A n more (growth.Insert k v) = omega arith
 grown_takes D T A n more (growth.Entry k) = omega arith
 grown_takes D T A n more (growth.TryEntry k) = omega arith
 
 -- a change of the guarded pair
-pub changed_takes : {K V T A : Type 0} (D : Type 0) (n more : ℕ) (ends : Bool) (a : Answer K V T A) → phase_left n more (changed_phase {D = D} ends a) ≤ release_left n
+pub changed_takes : {K V T A : Type 0} (D : Type 0) (n more : ℕ) (ends : Bool) (a : Answer K V T A)
+    → phase_left n more (changed_phase {D = D} ends a) ≤ release_left n
 changed_takes D n more true a = omega arith
 changed_takes D n more false a = omega arith
 
@@ -178,40 +185,67 @@ given_most n Shared = omega arith
 given_most n Exclusive = omega arith
 
 -- one that begins with its first act
-pub started_costs : (t shard : ℕ) (what : LockCall) (fair : Bool) (old new : Shown) → LockStarts t shard what fair old new
+pub started_costs : (t shard : ℕ) (what : LockCall) (fair : Bool) (old new : Shown)
+    → LockStarts t shard what fair old new
     → steps_left (state new.rows) t + 1 ≤ steps_left (state old.rows) t + cost (length (state old.rows).calls) what
 started_costs t shard what fair old new h = omega (arith, h.begins.became.costs, h.moves.steps.pays)
 
 -- what a start begins at a shard's lock, with the phase that it leads to, where that isn't a walk's
-pub entered_costs : {K V D T A : Type 0} (t shard more : ℕ) (f : Phase K V D T A) (old new : Shown) → phase_left (length (state old.rows).calls) more f ≤ release_left (length (state old.rows).calls) + 3 → EntersBy t shard f old new
-    → steps_left (state new.rows) t + phase_left (length (state old.rows).calls) more f + 1 ≤ steps_left (state old.rows) t + call_left (length (state old.rows).calls)
-entered_costs t shard more (phase.Admit r) old new few h = omega (arith, h.became.costs, wanted_most (length (state old.rows).calls) (request_tries r) (mode_of r))
+pub entered_costs : {K V D T A : Type 0} (t shard more : ℕ) (f : Phase K V D T A) (old new : Shown)
+    → phase_left (length (state old.rows).calls) more f ≤ release_left (length (state old.rows).calls) + 3
+    → EntersBy t shard f old new
+    → steps_left (state new.rows) t + phase_left (length (state old.rows).calls) more f + 1 ≤ steps_left
+    (state old.rows) t + call_left (length (state old.rows).calls)
+entered_costs t shard more (phase.Admit r) old new few h =
+    omega (arith, h.became.costs, wanted_most (length (state old.rows).calls) (request_tries r) (mode_of r))
 entered_costs t shard more (phase.Reach f) old new few h = absurd (omega (arith, few))
-entered_costs t shard more phase.Rest old new few same = omega (arith, few, ap (λ (l : Shown). steps_left (state l.rows) t) same)
-entered_costs t shard more (phase.Find r) old new few same = omega (arith, few, ap (λ (l : Shown). steps_left (state l.rows) t) same)
-entered_costs t shard more (phase.Grow c) old new few same = omega (arith, few, ap (λ (l : Shown). steps_left (state l.rows) t) same)
-entered_costs t shard more (phase.Append k v) old new few same = omega (arith, few, ap (λ (l : Shown). steps_left (state l.rows) t) same)
-entered_costs t shard more (phase.Apply k) old new few same = omega (arith, few, ap (λ (l : Shown). steps_left (state l.rows) t) same)
-entered_costs t shard more (phase.View k d) old new few same = omega (arith, few, ap (λ (l : Shown). steps_left (state l.rows) t) same)
-entered_costs t shard more (phase.Read d) old new few same = omega (arith, few, ap (λ (l : Shown). steps_left (state l.rows) t) same)
-entered_costs t shard more (phase.Change h) old new few same = omega (arith, few, ap (λ (l : Shown). steps_left (state l.rows) t) same)
-entered_costs t shard more (phase.Fill v) old new few same = omega (arith, few, ap (λ (l : Shown). steps_left (state l.rows) t) same)
-entered_costs t shard more phase.Downgrade old new few same = omega (arith, few, ap (λ (l : Shown). steps_left (state l.rows) t) same)
-entered_costs t shard more (phase.Idle f) old new few same = omega (arith, few, ap (λ (l : Shown). steps_left (state l.rows) t) same)
-entered_costs t shard more (phase.Part f) old new few same = omega (arith, few, ap (λ (l : Shown). steps_left (state l.rows) t) same)
-entered_costs t shard more (phase.Visit f) old new few same = omega (arith, few, ap (λ (l : Shown). steps_left (state l.rows) t) same)
-entered_costs t shard more (phase.Seek f) old new few same = omega (arith, few, ap (λ (l : Shown). steps_left (state l.rows) t) same)
-entered_costs t shard more (phase.Item f) old new few same = omega (arith, few, ap (λ (l : Shown). steps_left (state l.rows) t) same)
-entered_costs t shard more (phase.Give f) old new few same = omega (arith, few, ap (λ (l : Shown). steps_left (state l.rows) t) same)
-entered_costs t shard more (phase.Onward f) old new few same = omega (arith, few, ap (λ (l : Shown). steps_left (state l.rows) t) same)
-entered_costs t shard more (phase.Release a) old new few same = omega (arith, few, ap (λ (l : Shown). steps_left (state l.rows) t) same)
-entered_costs t shard more (phase.Answer a) old new few same = omega (arith, few, ap (λ (l : Shown). steps_left (state l.rows) t) same)
+entered_costs t shard more phase.Rest old new few same =
+    omega (arith, few, ap (λ (l : Shown). steps_left (state l.rows) t) same)
+entered_costs t shard more (phase.Find r) old new few same =
+    omega (arith, few, ap (λ (l : Shown). steps_left (state l.rows) t) same)
+entered_costs t shard more (phase.Grow c) old new few same =
+    omega (arith, few, ap (λ (l : Shown). steps_left (state l.rows) t) same)
+entered_costs t shard more (phase.Append k v) old new few same =
+    omega (arith, few, ap (λ (l : Shown). steps_left (state l.rows) t) same)
+entered_costs t shard more (phase.Apply k) old new few same =
+    omega (arith, few, ap (λ (l : Shown). steps_left (state l.rows) t) same)
+entered_costs t shard more (phase.View k d) old new few same =
+    omega (arith, few, ap (λ (l : Shown). steps_left (state l.rows) t) same)
+entered_costs t shard more (phase.Read d) old new few same =
+    omega (arith, few, ap (λ (l : Shown). steps_left (state l.rows) t) same)
+entered_costs t shard more (phase.Change h) old new few same =
+    omega (arith, few, ap (λ (l : Shown). steps_left (state l.rows) t) same)
+entered_costs t shard more (phase.Fill v) old new few same =
+    omega (arith, few, ap (λ (l : Shown). steps_left (state l.rows) t) same)
+entered_costs t shard more phase.Downgrade old new few same =
+    omega (arith, few, ap (λ (l : Shown). steps_left (state l.rows) t) same)
+entered_costs t shard more (phase.Idle f) old new few same =
+    omega (arith, few, ap (λ (l : Shown). steps_left (state l.rows) t) same)
+entered_costs t shard more (phase.Part f) old new few same =
+    omega (arith, few, ap (λ (l : Shown). steps_left (state l.rows) t) same)
+entered_costs t shard more (phase.Visit f) old new few same =
+    omega (arith, few, ap (λ (l : Shown). steps_left (state l.rows) t) same)
+entered_costs t shard more (phase.Seek f) old new few same =
+    omega (arith, few, ap (λ (l : Shown). steps_left (state l.rows) t) same)
+entered_costs t shard more (phase.Item f) old new few same =
+    omega (arith, few, ap (λ (l : Shown). steps_left (state l.rows) t) same)
+entered_costs t shard more (phase.Give f) old new few same =
+    omega (arith, few, ap (λ (l : Shown). steps_left (state l.rows) t) same)
+entered_costs t shard more (phase.Onward f) old new few same =
+    omega (arith, few, ap (λ (l : Shown). steps_left (state l.rows) t) same)
+entered_costs t shard more (phase.Release a) old new few same =
+    omega (arith, few, ap (λ (l : Shown). steps_left (state l.rows) t) same)
+entered_costs t shard more (phase.Answer a) old new few same =
+    omega (arith, few, ap (λ (l : Shown). steps_left (state l.rows) t) same)
 
 -- THE SUMS OF A STEP
 
--- the place p of thread t is now p', a shard has at most d pairs more, which the place could have added, and the locks are other ones
-module _ {K V S D T A : Type 0} (x : Setup K V D T) (laws : Laws x) (w w' : State K V S D T A) (t : ℕ) (p p' : Place K V D T A) (here : slice_get w.places t ≡ Some p) (are : w'.places ≡ slice_set w.places t p')
-    (d : ℕ) (tables : TablesBy x.eq w.tables w'.tables d) (adding : may_add p' + d ≤ may_add p) (seen : StaysVisited x.eq w.blocks w'.blocks) where
+-- the place p of thread t is now p', a shard has at most d pairs more, which the place could have added, and the locks
+-- are other ones
+module _ {K V S D T A : Type 0} (x : Setup K V D T) (laws : Laws x) (w w' : State K V S D T A) (t : ℕ)
+    (p p' : Place K V D T A) (here : slice_get w.places t ≡ Some p) (are : w'.places ≡ slice_set w.places t p')
+    (d : ℕ) (tables : TablesBy x.eq w.tables w'.tables d) (adding : may_add p' + d ≤ may_add p)
+    (seen : StaysVisited x.eq w.blocks w'.blocks) where
   abbrev n : ℕ
   n = length w.places
 
@@ -231,16 +265,21 @@ module _ {K V S D T A : Type 0} (x : Setup K V D T) (laws : Laws x) (w w' : Stat
   pub own-behind : (i : ℕ) → pairs_from w'.tables i + to_come w'.places ≤ pairs_from w.tables i + to_come w.places
   own-behind i = behind x laws w w' d tables pays seen i
 
-  lefts : sum_by (place_left (length w'.places) (length w'.tables)) w'.places + place_left n m p ≡ sum_by (place_left n m) w.places + place_left n m p'
+  lefts : sum_by (place_left (length w'.places) (length w'.tables)) w'.places + place_left n m p ≡ sum_by
+      (place_left n m) w.places + place_left n m p'
   lefts =
-      let size : sum_by (place_left (length w'.places) (length w'.tables)) w'.places ≡ sum_by (place_left n m) w'.places =
-      ap (λ k. sum_by (place_left k (length w'.tables)) w'.places) same_size ∙ ap (λ k. sum_by (place_left n k) w'.places) (tables-size x.eq w.tables w'.tables d tables) in
-      let list : sum_by (place_left n m) w'.places ≡ sum_by (place_left n m) (slice_set w.places t p') = ap (λ ps. sum_by (place_left n m) ps) are in
+      let size : sum_by (place_left (length w'.places) (length w'.tables)) w'.places ≡ sum_by (place_left n m) w'.places
+      =
+      ap (λ k. sum_by (place_left k (length w'.tables)) w'.places) same_size
+      ∙ ap (λ k. sum_by (place_left n k) w'.places) (tables-size x.eq w.tables w'.tables d tables) in
+      let list : sum_by (place_left n m) w'.places ≡ sum_by (place_left n m) (slice_set w.places t p') =
+      ap (λ ps. sum_by (place_left n m) ps) are in
       omega (arith, size, list, sum_by-set (place_left n m) w.places t p p' here)
 
   todos : sum_by (place_todo x w') w'.places + place_todo x w p ≤ sum_by (place_todo x w) w.places + place_todo x w' p'
   todos =
-      let list : sum_by (place_todo x w') w'.places ≡ sum_by (place_todo x w') (slice_set w.places t p') = ap (λ ps. sum_by (place_todo x w') ps) are in
+      let list : sum_by (place_todo x w') w'.places ≡ sum_by (place_todo x w') (slice_set w.places t p') =
+      ap (λ ps. sum_by (place_todo x w') ps) are in
       omega (
         arith,
         list,
@@ -249,12 +288,15 @@ module _ {K V S D T A : Type 0} (x : Setup K V D T) (laws : Laws x) (w w' : Stat
       )
 
   -- what the place takes less pays for the step, and for what the locks take more
-  pub falls : steps_left (state w'.locks.rows) t + place_left n m p' + 2 * place_todo x w' p' + 1 ≤ steps_left (state w.locks.rows) t + place_left n m p + 2 * place_todo x w p → left x w' t + 1 ≤ left x w t
+  pub falls : steps_left (state w'.locks.rows) t + place_left n m p' + 2 * place_todo x w' p' + 1 ≤ steps_left
+      (state w.locks.rows) t + place_left n m p + 2 * place_todo x w p → left x w' t + 1 ≤ left x w t
   falls paid = omega (arith, paid, lefts, todos)
 
   -- the calls that haven't started stay
   pub falls_by : p'.asks ≡ p.asks
-      → steps_left (state w'.locks.rows) t + phase_left n (m - (p'.shard + 1)) p'.phase + 2 * phase_todo x w' p' p'.phase + 1 ≤ steps_left (state w.locks.rows) t + phase_left n (m - (p.shard + 1)) p.phase + 2 * phase_todo x w p p.phase
+      → steps_left (state w'.locks.rows) t + phase_left n (m - (p'.shard + 1)) p'.phase + 2 * phase_todo x w' p'
+      p'.phase + 1 ≤ steps_left (state w.locks.rows) t + phase_left n (m - (p.shard + 1)) p.phase + 2 * phase_todo x
+      w p p.phase
       → left x w' t + 1 ≤ left x w t
   falls_by asks paid =
       falls (omega (
@@ -267,7 +309,9 @@ module _ {K V S D T A : Type 0} (x : Setup K V D T) (laws : Laws x) (w w' : Stat
 
   -- what ends with no step of its own takes no more
   pub keeps_by : p'.asks ≡ p.asks
-      → steps_left (state w'.locks.rows) t + phase_left n (m - (p'.shard + 1)) p'.phase + 2 * phase_todo x w' p' p'.phase ≤ steps_left (state w.locks.rows) t + phase_left n (m - (p.shard + 1)) p.phase + 2 * phase_todo x w p p.phase
+      → steps_left (state w'.locks.rows) t + phase_left n (m - (p'.shard + 1)) p'.phase + 2 * phase_todo x w' p'
+      p'.phase ≤ steps_left (state w.locks.rows) t + phase_left n (m - (p.shard + 1)) p.phase + 2 * phase_todo x w p
+      p.phase
       → left x w' t ≤ left x w t
   keeps_by asks paid =
       omega (
@@ -281,10 +325,14 @@ module _ {K V S D T A : Type 0} (x : Setup K V D T) (laws : Laws x) (w w' : Stat
       )
 
   -- a step that leads to no walk's phase
-  pub falls_plain : p'.asks ≡ p.asks → phase_todo x w' p' p'.phase ≡ 0 → steps_left (state w'.locks.rows) t + phase_left n (m - (p'.shard + 1)) p'.phase + 1 ≤ steps_left (state w.locks.rows) t + phase_left n (m - (p.shard + 1)) p.phase
+  pub falls_plain : p'.asks ≡ p.asks → phase_todo x w' p' p'.phase ≡ 0 → steps_left (state w'.locks.rows) t + phase_left
+      n (m - (p'.shard + 1)) p'.phase + 1 ≤ steps_left (state w.locks.rows) t + phase_left n (m - (p.shard + 1)) p.phase
       → left x w' t + 1 ≤ left x w t
   falls_plain asks plain paid = falls_by asks (omega (arith, paid, plain))
 
   -- and changes nothing of the locks
-  pub falls_beside : w'.locks ≡ w.locks → p'.asks ≡ p.asks → phase_todo x w' p' p'.phase ≡ 0 → phase_left n (m - (p'.shard + 1)) p'.phase + 1 ≤ phase_left n (m - (p.shard + 1)) p.phase → left x w' t + 1 ≤ left x w t
-  falls_beside locks asks plain paid = falls_plain asks plain (omega (arith, paid, ap (λ (l : Shown). steps_left (state l.rows) t) locks))
+  pub falls_beside : w'.locks ≡ w.locks → p'.asks ≡ p.asks → phase_todo x w' p' p'.phase ≡ 0
+      → phase_left n (m - (p'.shard + 1)) p'.phase + 1 ≤ phase_left n (m - (p.shard + 1)) p.phase
+      → left x w' t + 1 ≤ left x w t
+  falls_beside locks asks plain paid =
+      falls_plain asks plain (omega (arith, paid, ap (λ (l : Shown). steps_left (state l.rows) t) locks))

@@ -1,5 +1,7 @@
--- What a thread sleeps on: one of the two keys of the lock that it asks for. So one that gives a lock back never sleeps.
-use Rattle.std.proofs.Common.{◌≡◌, ◌≢◌, ◌⊎◌, ℕ, zero, suc, inl, inr, true, false, List, [], ◌∷◌, Option, Some, None, slice_get, refl, subst}
+-- What a thread sleeps on: one of the two keys of the lock that it asks for. So one that gives a lock back never
+-- sleeps.
+use Rattle.std.proofs.Common.{◌≡◌, ◌≢◌, ◌⊎◌, ℕ, zero, suc, inl, inr, true, false, List, [], ◌∷◌, Option, Some, None}
+use Rattle.std.proofs.Common.{slice_get, refl, subst}
 use Rattle.std.specs.List.{All}
 use Rattle.std.specs.Option.{option_map_or}
 use Rattle.std.proofs.lemmas.List.Elements.{All-head, All-tail}
@@ -68,7 +70,8 @@ sleeps_on (RwPhase.Checks want woken) h = cc
 sleeps_on (RwPhase.Retreats want woken) h = cc
 sleeps_on (RwPhase.Appends want) h = cc
 sleeps_on (RwPhase.Rests want) h = cc
-sleeps_on (RwPhase.Sleeps want) h = record { key = 0; low = inl refl; token = _; stance_is = refl; mode = (asks want).0; aim_is = (asks want).1 }
+sleeps_on (RwPhase.Sleeps want) h =
+    record { key = 0; low = inl refl; token = _; stance_is = refl; mode = (asks want).0; aim_is = (asks want).1 }
 sleeps_on (RwPhase.DrainLoads d) h = cc
 sleeps_on (RwPhase.DrainSpins d) h = cc
 sleeps_on (RwPhase.DrainSetParked d word) h = cc
@@ -77,7 +80,8 @@ sleeps_on (RwPhase.DrainChecks d) h = cc
 sleeps_on (RwPhase.DrainRetreats d) h = cc
 sleeps_on (RwPhase.DrainAppends rounds) h = cc
 sleeps_on (RwPhase.DrainRests rounds) h = cc
-sleeps_on (RwPhase.DrainSleeps rounds) h = record { key = 1; low = inr refl; token = _; stance_is = refl; mode = held.Exclusive; aim_is = refl }
+sleeps_on (RwPhase.DrainSleeps rounds) h =
+    record { key = 1; low = inr refl; token = _; stance_is = refl; mode = held.Exclusive; aim_is = refl }
 sleeps_on (RwPhase.TryLoads want) h = cc
 sleeps_on (RwPhase.TryAdmits want word left) h = cc
 sleeps_on (RwPhase.Refuses want) h = cc
@@ -100,7 +104,8 @@ sleeps_on (RwPhase.Finishes rest) h = absurd (awake rest h)
 sleeps_on (RwPhase.Ends outcome) h = cc
 sleeps_on RwPhase.Invalid h = cc
 
-core_sleeps : (k : Core) (o : Option LockKind) → is_plain k ≡ true → manner_of o ≢ Some AsMutex → IsOfKind o k → sleeps (core_act k) ≡ true → SleepsOn (stance k) (core_aim k)
+core_sleeps : (k : Core) (o : Option LockKind) → is_plain k ≡ true → manner_of o ≢ Some AsMutex → IsOfKind o k
+    → sleeps (core_act k) ≡ true → SleepsOn (stance k) (core_aim k)
 core_sleeps (Core.Rw c) o so rw of_kind h = sleeps_on c.phase h
 core_sleeps (Core.Mutex c) o so rw of_kind h = absurd (rw of_kind)
 core_sleeps (Core.Late c) o so rw of_kind h = absurd (rw of_kind)
@@ -115,9 +120,15 @@ module _ (locks : Shown) (fit : LocksFit locks) (t : ℕ) where
   all_rw i e = no_mutex (goes_by s i AsMutex fit.plain.kinds e)
 
   -- the call in which a thread sleeps
-  sleeper-by : (o : Option Call) → call_at s t ≡ o → option_map_or (λ c. sleeps (core_act c.core)) o false ≡ true → (c : Call) × (call_at s t ≡ Some c) × SleepsOn (stance c.core) (core_aim c.core)
+  sleeper-by : (o : Option Call) → call_at s t ≡ o → option_map_or (λ c. sleeps (core_act c.core)) o false ≡ true
+      → (c : Call) × (call_at s t ≡ Some c) × SleepsOn (stance c.core) (core_aim c.core)
   sleeper-by None there h = cc
-  sleeper-by (Some c) there h = (c, there, core_sleeps c.core (slice_get s.kinds c.lock) (fit.plain.cores t c there) (all_rw c.lock) (fit.fits.rules.kinds t c there) h)
+  sleeper-by (Some c) there h = (
+    c,
+    there,
+    core_sleeps c.core (slice_get s.kinds c.lock) (fit.plain.cores t c there) (all_rw c.lock)
+        (fit.fits.rules.kinds t c there) h,
+  )
 
   pub sleeper : is_asleep s t ≡ true → (c : Call) × (call_at s t ≡ Some c) × SleepsOn (stance c.core) (core_aim c.core)
   sleeper h = sleeper-by (call_at s t) refl h

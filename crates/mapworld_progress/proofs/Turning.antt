@@ -1,5 +1,6 @@
 -- What a thread can do in its world and at its lock.
-use Rattle.std.proofs.Common.{◌≡◌, ℕ, ◌<◌, ◌≤◌, inl, inr, ◌||◌, Bool, true, false, List, Option, None, Some, is_none, length, slice_get, refl, sym, ap, ◌∙◌, subst, arith}
+use Rattle.std.proofs.Common.{◌≡◌, ℕ, ◌<◌, ◌≤◌, inl, inr, ◌||◌, Bool, true, false, List, Option, None, Some, is_none}
+use Rattle.std.proofs.Common.{length, slice_get, refl, sym, ap, ◌∙◌, subst, arith}
 use Rattle.std.specs.Option.{option_and_then, option_map}
 use Rattle.std.proofs.lemmas.Bool.{false≢true}
 use Rattle.std.proofs.lemmas.Option.{none-some, slice_get_cases}
@@ -37,7 +38,8 @@ no-call (Some c) e = absurd (none-some (stand_of c) (sym e))
 -- A THREAD'S PLACE, AND THE CALL THAT IT IS IN
 
 pub place-there : {X : Type 0} (xs : List X) (t : ℕ) → t < length xs → (x : X) × (slice_get xs t ≡ Some x)
-place-there xs t low = elim (slice_get_cases xs t).1 [ inl at ↦ (at.0, at.2) | inr past ↦ absurd (omega (arith, low, past.0)) ]
+place-there xs t low =
+    elim (slice_get_cases xs t).1 [ inl at ↦ (at.0, at.2) | inr past ↦ absurd (omega (arith, low, past.0)) ]
 
 pub in-call-within : (s : rows.State) (t : ℕ) (c : Call) → call_at s t ≡ Some c → t < length s.calls
 in-call-within s t c e = elim (slice_get_cases s.calls t).1 [
@@ -68,13 +70,20 @@ module _ {K V S D T A : Type 0} (x : Setup K V D T) (w : State K V S D T A) (who
 
     -- where it can't move in the world, it can't move at its lock
     stops-by : (f : Phase K V D T A) → p.phase ≡ f → can_move_in w t ≡ false → can_move s t ≡ false
-    stops-by phase.Rest before stops = ap (machine.can_move_in s) (no-stand t (stand-at w.places w.locks holds t p at phase.Rest before))
-    stops-by (phase.Admit r) before stops = or_false (is_none (call_at s t)) (can_move s t) (sym (moves-as (phase.Admit r) before) ∙ stops)
-    stops-by (phase.Idle f) before stops = or_false (is_none (call_at s t)) (can_move s t) (sym (moves-as (phase.Idle f) before) ∙ stops)
-    stops-by (phase.Reach f) before stops = or_false (is_none (call_at s t)) (can_move s t) (sym (moves-as (phase.Reach f) before) ∙ stops)
-    stops-by (phase.Visit f) before stops = or_false (is_none (call_at s t)) (can_move s t) (sym (moves-as (phase.Visit f) before) ∙ stops)
-    stops-by (phase.Onward f) before stops = or_false (is_none (call_at s t)) (can_move s t) (sym (moves-as (phase.Onward f) before) ∙ stops)
-    stops-by (phase.Answer a) before stops = or_false (is_none (call_at s t)) (can_move s t) (sym (moves-as (phase.Answer a) before) ∙ stops)
+    stops-by phase.Rest before stops =
+        ap (machine.can_move_in s) (no-stand t (stand-at w.places w.locks holds t p at phase.Rest before))
+    stops-by (phase.Admit r) before stops = or_false (is_none (call_at s t)) (can_move s t)
+        (sym (moves-as (phase.Admit r) before) ∙ stops)
+    stops-by (phase.Idle f) before stops = or_false (is_none (call_at s t)) (can_move s t)
+        (sym (moves-as (phase.Idle f) before) ∙ stops)
+    stops-by (phase.Reach f) before stops = or_false (is_none (call_at s t)) (can_move s t)
+        (sym (moves-as (phase.Reach f) before) ∙ stops)
+    stops-by (phase.Visit f) before stops = or_false (is_none (call_at s t)) (can_move s t)
+        (sym (moves-as (phase.Visit f) before) ∙ stops)
+    stops-by (phase.Onward f) before stops = or_false (is_none (call_at s t)) (can_move s t)
+        (sym (moves-as (phase.Onward f) before) ∙ stops)
+    stops-by (phase.Answer a) before stops = or_false (is_none (call_at s t)) (can_move s t)
+        (sym (moves-as (phase.Answer a) before) ∙ stops)
     stops-by (phase.Find r) before stops = absurd (false≢true (sym stops ∙ moves-as (phase.Find r) before))
     stops-by (phase.Grow c) before stops = absurd (false≢true (sym stops ∙ moves-as (phase.Grow c) before))
     stops-by (phase.Append k v) before stops = absurd (false≢true (sym stops ∙ moves-as (phase.Append k v) before))
@@ -91,14 +100,20 @@ module _ {K V S D T A : Type 0} (x : Setup K V D T) (w : State K V S D T A) (who
     stops-by (phase.Release a) before stops = absurd (false≢true (sym stops ∙ moves-as (phase.Release a) before))
 
     -- and where it can move at its lock, it can move in the world
-    moves-by : (f : Phase K V D T A) → p.phase ≡ f → (stand : Stand) → StandsBefore p f (Some stand) → can_move s t ≡ true → can_move_in w t ≡ true
+    moves-by : (f : Phase K V D T A) → p.phase ≡ f → (stand : Stand) → StandsBefore p f (Some stand)
+        → can_move s t ≡ true → can_move_in w t ≡ true
     moves-by phase.Rest before stand stood can = absurd (none-some stand (sym stood))
     moves-by (phase.Idle f) before stand stood can = absurd (none-some stand (sym stood))
-    moves-by (phase.Admit r) before stand stood can = moves-as (phase.Admit r) before ∙ or_true (is_none (call_at s t)) (can_move s t) can
-    moves-by (phase.Reach f) before stand stood can = moves-as (phase.Reach f) before ∙ or_true (is_none (call_at s t)) (can_move s t) can
-    moves-by (phase.Visit f) before stand stood can = moves-as (phase.Visit f) before ∙ or_true (is_none (call_at s t)) (can_move s t) can
-    moves-by (phase.Onward f) before stand stood can = moves-as (phase.Onward f) before ∙ or_true (is_none (call_at s t)) (can_move s t) can
-    moves-by (phase.Answer a) before stand stood can = moves-as (phase.Answer a) before ∙ or_true (is_none (call_at s t)) (can_move s t) can
+    moves-by (phase.Admit r) before stand stood can = moves-as (phase.Admit r) before
+        ∙ or_true (is_none (call_at s t)) (can_move s t) can
+    moves-by (phase.Reach f) before stand stood can = moves-as (phase.Reach f) before
+        ∙ or_true (is_none (call_at s t)) (can_move s t) can
+    moves-by (phase.Visit f) before stand stood can = moves-as (phase.Visit f) before
+        ∙ or_true (is_none (call_at s t)) (can_move s t) can
+    moves-by (phase.Onward f) before stand stood can = moves-as (phase.Onward f) before
+        ∙ or_true (is_none (call_at s t)) (can_move s t) can
+    moves-by (phase.Answer a) before stand stood can = moves-as (phase.Answer a) before
+        ∙ or_true (is_none (call_at s t)) (can_move s t) can
     moves-by (phase.Find r) before stand stood can = absurd (none-some stand (sym stood))
     moves-by (phase.Grow c) before stand stood can = absurd (none-some stand (sym stood))
     moves-by (phase.Append k v) before stand stood can = absurd (none-some stand (sym stood))
@@ -115,20 +130,25 @@ module _ {K V S D T A : Type 0} (x : Setup K V D T) (w : State K V S D T A) (who
     moves-by (phase.Release a) before stand stood can = absurd (none-some stand (sym stood))
 
     moves-standing : (stand : Stand) → stand_in w.locks t ≡ Some stand → can_move s t ≡ true → can_move_in w t ≡ true
-    moves-standing stand is can = moves-by p.phase refl stand (subst (λ (o : Option Stand). StandsBefore p p.phase o) is (holds.stands t p at)) can
+    moves-standing stand is can =
+        moves-by p.phase refl stand (subst (λ (o : Option Stand). StandsBefore p p.phase o) is (holds.stands t p at))
+        can
 
   pub stops-there : (t : ℕ) → can_move_in w t ≡ false → can_move s t ≡ false
   stops-there t stops = elim (slice_get_cases w.places t).1 [
     | inl at ↦ stops-by t at.0 at.2 at.0.phase refl stops
-    | inr past ↦ ap (machine.can_move_in s) (beyond-no-call s t (omega (arith, past.0, whole.sizes.locks.threads_are)) (call_at s t) refl)
+    | inr past ↦ ap (machine.can_move_in s)
+        (beyond-no-call s t (omega (arith, past.0, whole.sizes.locks.threads_are)) (call_at s t) refl)
   ]
 
   can-there : (t : ℕ) (o : Option Call) → call_at s t ≡ o → machine.can_move_in s o ≡ true → can_move_in w t ≡ true
   can-there t None is can = absurd (false≢true can)
-  can-there t (Some c) is can = let at = place-of t c is in moves-standing t at.0 at.1 (stand_of c) (ap (option_map stand_of) is) (ap (machine.can_move_in s) is ∙ can)
+  can-there t (Some c) is can = let at = place-of t c is in moves-standing t at.0 at.1 (stand_of c)
+      (ap (option_map stand_of) is) (ap (machine.can_move_in s) is ∙ can)
 
   pub moves-there : (t : ℕ) → can_move s t ≡ true → can_move_in w t ≡ true
   moves-there t can = can-there t (call_at s t) refl can
 
   pub others_go_on : (t : ℕ) → can_move_in w t ≡ false → (u : ℕ) → left x w u ≤ left x w t
-  others_go_on t stops u = let few = any_may_be_stepped s whole.locks.fits t (stops-there t stops) u in omega (arith, few)
+  others_go_on t stops u = let few = any_may_be_stepped s whole.locks.fits t (stops-there t stops) u in
+      omega (arith, few)

@@ -20,7 +20,8 @@ abbrev pub HasTime : {K V S D T A : Type 0} → Setup K V D T → State K V S D 
 HasTime x w = (t : ℕ) → length w.steps + left x w t + 1 < 2 ^ 63
 
 -- a step of one kind, of a thread that can move
-pub record Makes {K V S D T A : Type 0} (x : Setup K V D T) (w : State K V S D T A) (s : Step) (w' : State K V S D T A) : Type 0 where
+pub record Makes {K V S D T A : Type 0} (x : Setup K V D T) (w : State K V S D T A) (s : Step)
+    (w' : State K V S D T A) : Type 0 where
   pub moves : can_move_in w s.thread ≡ true
   pub kind : IsStep x w s w'
   pub whole : IsWhole x w
@@ -31,14 +32,17 @@ Drains x w [] w' = w' ≡ w
 Drains {K} {V} {S} {D} {T} {A} x w (s ∷ steps) w' = (mid : State K V S D T A) × Makes x w s mid × Drains x mid steps w'
 
 -- as many steps do
-pub record DrainsBy {K V S D T A : Type 0} (x : Setup K V D T) (w : State K V S D T A) (n : ℕ) (w' : State K V S D T A) : Type 0 where
+pub record DrainsBy {K V S D T A : Type 0} (x : Setup K V D T) (w : State K V S D T A) (n : ℕ)
+    (w' : State K V S D T A) : Type 0 where
   pub steps : List Step
   pub count : length steps ≡ n
   pub made : Drains x w steps w'
 
 -- of what is kept, with its own setup: how many steps are left, and that numbers are left for them
-abbrev pub core_left : {K V S H D T A : Type 0} → deed.Ghosts D K V T → builder.Ghosts S H → hasher.Ghosts H → (K → K → Bool) → (K → HashWrites) → Core K V S D T A → ℕ → ℕ
+abbrev pub core_left : {K V S H D T A : Type 0} → deed.Ghosts D K V T → builder.Ghosts S H → hasher.Ghosts H
+    → (K → K → Bool) → (K → HashWrites) → Core K V S D T A → ℕ → ℕ
 core_left d b h eq writes c = left (setup_of d b h eq writes (state_of c)) (state_of c)
 
-abbrev pub IsInTime : {K V S H D T A : Type 0} → deed.Ghosts D K V T → builder.Ghosts S H → hasher.Ghosts H → (K → K → Bool) → (K → HashWrites) → Core K V S D T A → Type 0
+abbrev pub IsInTime : {K V S H D T A : Type 0} → deed.Ghosts D K V T → builder.Ghosts S H → hasher.Ghosts H
+    → (K → K → Bool) → (K → HashWrites) → Core K V S D T A → Type 0
 IsInTime d b h eq writes c = HasTime (setup_of d b h eq writes (state_of c)) (state_of c)

@@ -1,5 +1,6 @@
 -- How many steps are left of a world where one thread is stepped until it can't move, and then another.
-use Rattle.std.specs.Prelude.{ℕ, suc, ◌+◌, ◌-◌, ◌*◌, Bool, not, List, [], length, drop, count_by, Option, Some, None, slice_get, sum_by}
+use Rattle.std.specs.Prelude.{ℕ, suc, ◌+◌, ◌-◌, ◌*◌, Bool, not, List, [], length, drop, count_by, Option, Some, None}
+use Rattle.std.specs.Prelude.{slice_get, sum_by}
 use Rattle.parking_lot_machine.specs.Ranks.{steps_left}
 use Rattle.parking_lot_machine.specs.Rows.{state}
 use Rattle.parking_lot_machine.specs.SoundLaws.{most_steps}
@@ -15,12 +16,14 @@ use Rattle.mapworld_state.specs.Shards.{ShardPairs}
 use Rattle.mapworld_state.specs.State.{State}
 use Rattle.mapworld_state.specs.Walks.{is_visited}
 
--- What a call still takes of a thread that is before a phase, among n threads, beside the call that it is in at its shard's lock. A release takes
--- its own step and all that the release of a lock costs at most, and then comes the answer.
+-- What a call still takes of a thread that is before a phase, among n threads, beside the call that it is in at its
+-- shard's lock. A release takes its own step and all that the release of a lock costs at most, and then comes the
+-- answer.
 abbrev pub release_left : ℕ → ℕ
 release_left n = 110 * n + 117
 
--- What a visit of a walk takes at most: its start and what the admission to its shard costs, the release of the last shard or its own, and its look.
+-- What a visit of a walk takes at most: its start and what the admission to its shard costs, the release of the last
+-- shard or its own, and its look.
 abbrev pub visit_left : ℕ → ℕ
 visit_left n = 2 * release_left n + 111
 
@@ -93,7 +96,8 @@ items_at (Some t) = t.items
 module _ {K V S D T A : Type 0} (x : Setup K V D T) (w : State K V S D T A) where
   -- the pairs of its shard that a visit hasn't done
   abbrev pub fresh_of : Place K V D T A → ℕ
-  fresh_of p = fresh x.eq (visited_by (block_at w.blocks (slice_get p.visits p.shard))) (items_at (slice_get w.tables p.shard))
+  fresh_of p = fresh x.eq (visited_by (block_at w.blocks (slice_get p.visits p.shard)))
+      (items_at (slice_get w.tables p.shard))
 
   -- the pairs that a walk before that phase may still come to
   abbrev pub phase_todo : Place K V D T A → Phase K V D T A → ℕ
@@ -109,10 +113,11 @@ module _ {K V S D T A : Type 0} (x : Setup K V D T) (w : State K V S D T A) wher
   abbrev pub place_todo : Place K V D T A → ℕ
   place_todo p = count_by is_walk p.asks * (pairs_from w.tables 0 + to_come w.places) + phase_todo p p.phase
 
-  -- The steps of all threads, where thread t is stepped: those that are left at the locks, those that places still take, and two for each pair
-  -- that a walk may still come to.
+  -- The steps of all threads, where thread t is stepped: those that are left at the locks, those that places still
+  -- take, and two for each pair that a walk may still come to.
   abbrev pub left : ℕ → ℕ
-  left t = steps_left (state w.locks.rows) t + sum_by (place_left (length w.places) (length w.tables)) w.places + 2 * sum_by place_todo w.places
+  left t = steps_left (state w.locks.rows) t + sum_by (place_left (length w.places) (length w.tables)) w.places + 2 *
+      sum_by place_todo w.places
 
 -- the most that is left, of n threads and c calls that aren't answered, in s shards with at most m pairs
 abbrev pub most_left : ℕ → ℕ → ℕ → ℕ → ℕ

@@ -10,7 +10,8 @@ use Rattle.mapworld_state.specs.Places.{Place}
 use Rattle.mapworld_state.specs.Running.{unanswered_of}
 use Rattle.mapworld_state.specs.State.{State}
 
--- nothing is left of the shards' locks: nobody is in a call, in a list or inside a section, no bit of a word is set, and no desk has a guard
+-- nothing is left of the shards' locks: nobody is in a call, in a list or inside a section, no bit of a word is set,
+-- and no desk has a guard
 pub record AreFree (locks : Shown) : Type 0 where
   pub calls : (t : ℕ) → stand_in locks t ≡ None
   pub owners : (shard t : ℕ) → owner_in locks shard t ≡ None

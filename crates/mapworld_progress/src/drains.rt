@@ -53,11 +53,13 @@ fn step_on<
     requires sound { IsSoundCore D.Deed S.BuildHasher S.Hasher.Hasher K.eq K.hash_input core.old }
     requires room { Room core.old }
     requires slots { IsSlotted D.Deed S.BuildHasher S.Hasher.Hasher K.eq K.hash_input core.old }
-    requires time { length (state_of core.old).steps + core_left D.Deed S.BuildHasher S.Hasher.Hasher K.eq K.hash_input core.old thread + 1 < 2 ^ 63 }
+    requires time { length (state_of core.old).steps + core_left D.Deed S.BuildHasher S.Hasher.Hasher K.eq K.hash_input
+        core.old thread + 1 < 2 ^ 63 }
     requires thread { thread < length core.old.places.items }
     ensures ran { let setup = setup_of D.Deed S.BuildHasher S.Hasher.Hasher K.eq K.hash_input (state_of core.old) in
         DrainsBy setup (state_of core.old) result (state_of core.new) }
-    ensures falls { result + core_left D.Deed S.BuildHasher S.Hasher.Hasher K.eq K.hash_input core.new thread ≤ core_left D.Deed S.BuildHasher S.Hasher.Hasher K.eq K.hash_input core.old thread }
+    ensures falls { result + core_left D.Deed S.BuildHasher S.Hasher.Hasher K.eq K.hash_input core.new thread ≤
+        core_left D.Deed S.BuildHasher S.Hasher.Hasher K.eq K.hash_input core.old thread }
     ensures stops { can_move_in (state_of core.new) thread ≡ false }
     ensures sound { IsSoundCore D.Deed S.BuildHasher S.Hasher.Hasher K.eq K.hash_input core.new }
     ensures room { Room core.new }
@@ -80,7 +82,9 @@ fn pass<K: Eq + Hash + Drop, V: Drop, S: BuildHasher, D: Deed<K, V> + Drop, A: A
     requires time { IsInTime D.Deed S.BuildHasher S.Hasher.Hasher K.eq K.hash_input core.old }
     ensures ran { let setup = setup_of D.Deed S.BuildHasher S.Hasher.Hasher K.eq K.hash_input (state_of core.old) in
         DrainsBy setup (state_of core.old) result (state_of core.new) }
-    ensures falls { (most : ℕ) → ((u : ℕ) → core_left D.Deed S.BuildHasher S.Hasher.Hasher K.eq K.hash_input core.old u < most) → (u : ℕ) → result + core_left D.Deed S.BuildHasher S.Hasher.Hasher K.eq K.hash_input core.new u < most }
+    ensures falls { (most : ℕ)
+        → ((u : ℕ) → core_left D.Deed S.BuildHasher S.Hasher.Hasher K.eq K.hash_input core.old u < most) → (u : ℕ)
+        → result + core_left D.Deed S.BuildHasher S.Hasher.Hasher K.eq K.hash_input core.new u < most }
     ensures stops { result ≡ 0 → (t : ℕ) → can_move_in (state_of core.new) t ≡ false }
     ensures sound { IsSoundCore D.Deed S.BuildHasher S.Hasher.Hasher K.eq K.hash_input core.new }
     ensures room { Room core.new }
@@ -94,8 +98,9 @@ fn pass<K: Eq + Hash + Drop, V: Drop, S: BuildHasher, D: Deed<K, V> + Drop, A: A
     made
 }
 
-/// Runs a world to its end: each thread is stepped on as far as it can go, and then the next, until nobody can move. Answers how many steps
-/// that took, which is less than the world's bound. Then every call is answered and nobody holds anything or waits.
+/// Runs a world to its end: each thread is stepped on as far as it can go, and then the next, until nobody can move.
+/// Answers how many steps that took, which is less than the world's bound. Then every call is answered and nobody holds
+/// anything or waits.
 ///
 /// It takes no memory but what the calls take.
 pub fn drain<

@@ -1,5 +1,5 @@
-//! The report: a world of two threads that insert, read and remove, its replies and its contents, and what two callers in threads
-//! of their own leave behind.
+//! The report: a world of two threads that insert, read and remove, its replies and its contents, and what two callers
+//! in threads of their own leave behind.
 #![tactic(auto)]
 
 ghost use Rattle.mapworld_report.specs.Report.{LeavesOnFault};
@@ -103,7 +103,8 @@ type World<A> = MapWorld<u64, u64, SpreadState, ReadValue, A>;
 
 type Program<A> = Vec<Ask<u64, u64, ReadValue>, A>;
 
-/// Writes the replies by thread and call, then the contents by key, and last how many calls of two callers in threads are gathered.
+/// Writes the replies by thread and call, then the contents by key, and last how many calls of two callers in threads
+/// are gathered.
 /// The whole text is made first, so on a fault nothing is written.
 ///
 /// The world and the text lie in memory of `alloc`, and what the callers share in that of `shared`.

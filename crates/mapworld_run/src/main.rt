@@ -1,5 +1,5 @@
-//! One small world of a map under two threads, run by one schedule, and two callers of a recorded map in threads of their own: what
-//! came out of it.
+//! One small world of a map under two threads, run by one schedule, and two callers of a recorded map in threads of
+//! their own: what came out of it.
 #![tactic(auto)]
 
 pub use mapworld_report::{ReportFault, report};

@@ -271,8 +271,8 @@ impl<'r, 'p, R: AllocGlobal + Abort> Explorer<'r, 'p, R> {
     }
 }
 
-/// How far the two threads are behind a step of one of them, which is in that call. `None` where the step isn't one of the protocol, or the words
-/// aren't what it makes of them.
+/// How far the two threads are behind a step of one of them, which is in that call. `None` where the step isn't one of
+/// the protocol, or the words aren't what it makes of them.
 fn followed(
     threads: [Progress; 2],
     thread: usize,

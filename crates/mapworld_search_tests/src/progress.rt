@@ -1,5 +1,5 @@
-//! How far a thread is: what no view of the world shows. It is followed by the protocol of the locks, which is told what each step is seen to
-//! give.
+//! How far a thread is: what no view of the world shows. It is followed by the protocol of the locks, which is told
+//! what each step is seen to give.
 
 use crate::look::{Look, first_key, second_key, shard_of};
 use mapworld::{Ask, Begin, Held, Keyed, Walk};

@@ -25,8 +25,8 @@ fn stands(world: &World, thread: usize, threads: [Progress; 2]) -> bool {
         && world.can_move(thread) == can_move(thread, threads)
 }
 
-/// One that sleeps stands once in a queue of its shard, or the other has taken it and still owes it something; one that has just joined a queue
-/// stands there, and nobody else does.
+/// One that sleeps stands once in a queue of its shard, or the other has taken it and still owes it something; one that
+/// has just joined a queue stands there, and nobody else does.
 fn stands_where_it_waits(look: &Look, thread: usize, threads: [Progress; 2]) -> bool {
     let own = threads[thread & 1];
     let other = threads[(thread & 1) ^ 1];

@@ -341,8 +341,8 @@ fn sum(found: Found, more: Found) -> Found {
     }
 }
 
-/// Makes all schedules of each of the first programs with each of the others, and prints how many states there are. Were there fewer than that
-/// number, different ones might have been taken for one.
+/// Makes all schedules of each of the first programs with each of the others, and prints how many states there are.
+/// Were there fewer than that number, different ones might have been taken for one.
 fn explore(
     rt: &(impl AllocGlobal + Abort + Print),
     pairs: &[(u64, u64)],

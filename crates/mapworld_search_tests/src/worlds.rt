@@ -53,7 +53,8 @@ fn contents(alloc: Global, world: &World) -> Result<Vec<(u64, u64)>, AllocError>
     Ok(pairs)
 }
 
-/// What the world shows now, behind steps of these threads; and whether each block shows the end of its call exactly where that is answered.
+/// What the world shows now, behind steps of these threads; and whether each block shows the end of its call exactly
+/// where that is answered.
 pub fn shown_now(
     alloc: Global,
     world: &World,
@@ -84,7 +85,8 @@ fn is_at_rest(world: &World, calls: usize) -> bool {
     world.replies().len() == calls && nobody_waits && world.word(0) == 0 && world.word(1) == 0
 }
 
-/// The rule that a world at its end breaks, or broke at a moment before, if it breaks one. Its keys are below that number.
+/// The rule that a world at its end breaks, or broke at a moment before, if it breaks one. Its keys are below that
+/// number.
 pub fn broken(
     made: Made<'_, Change>,
     world: &World,

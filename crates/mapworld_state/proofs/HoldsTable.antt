@@ -3,7 +3,8 @@ use Rattle.std.proofs.Common.{◌≡◌, ℕ, zero, suc, List, [], ◌∷◌, So
 use Rattle.std.proofs.lemmas.Option.{none-some, same_Some}
 
 -- a list of one has nothing else
-pub only-first : {X : Type 0} (xs : List X) (x : X) (i : ℕ) (y : X) → xs ≡ x ∷ [] → slice_get xs i ≡ Some y → (i ≡ 0) × (x ≡ y)
+pub only-first : {X : Type 0} (xs : List X) (x : X) (i : ℕ) (y : X) → xs ≡ x ∷ [] → slice_get xs i ≡ Some y → (i ≡ 0)
+    × (x ≡ y)
 only-first {X} xs x i y is at = first i (sym (ap (λ (zs : List X). slice_get zs i) is) ∙ at)
   where
     first : (i : ℕ) → slice_get (x ∷ []) i ≡ Some y → (i ≡ 0) × (x ≡ y)

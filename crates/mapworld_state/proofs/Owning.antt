@@ -12,9 +12,11 @@ pub if-own : (b : Bool) (block : Option ℕ) (i : ℕ) → (if b then block else
 if-own true block i h = h
 if-own false block i h = absurd (none-some i h)
 
-pub starts-own : {K V D T A : Type 0} (f : Phase K V D T A) (block : Option ℕ) (i : ℕ) → start_counts f block ≡ Some i → block ≡ Some i
+pub starts-own : {K V D T A : Type 0} (f : Phase K V D T A) (block : Option ℕ) (i : ℕ) → start_counts f block ≡ Some i
+    → block ≡ Some i
 starts-own f block i h = if-own (is_told f) block i h
 
 -- a guard lends its pair in one way
-pub same-kind : {K : Type 0} (g : Option (Guard K)) (k k' : Way K) → g ≡ Some (guard.Pair k) → g ≡ Some (guard.Pair k') → k ≡ k'
+pub same-kind : {K : Type 0} (g : Option (Guard K)) (k k' : Way K) → g ≡ Some (guard.Pair k) → g ≡ Some (guard.Pair k')
+    → k ≡ k'
 same-kind g k k' e f = let both : Some (guard.Pair k) ≡ Some (guard.Pair k') = sym e ∙ f in cc

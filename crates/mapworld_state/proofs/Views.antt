@@ -13,5 +13,6 @@ module _ {X Y : Type 0} (view : X → Y) where
   kept (Some x) y h = (x, refl, same_Some (view x) y h)
 
   -- and what is seen at a place stands there
-  pub view-from : (xs : List X) (i : ℕ) (y : Y) → slice_get (map view xs) i ≡ Some y → (x : X) × (slice_get xs i ≡ Some x) × (view x ≡ y)
+  pub view-from : (xs : List X) (i : ℕ) (y : Y) → slice_get (map view xs) i ≡ Some y → (x : X)
+      × (slice_get xs i ≡ Some x) × (view x ≡ y)
   view-from xs i y at = kept (slice_get xs i) y (sym (slice_get-map view xs i) ∙ at)

@@ -5,9 +5,10 @@ use Rattle.mapworld_state.specs.declared.step.Status.TheVariants as status
 use Rattle.mapworld_state.specs.declared.place.Phase.{Phase}
 use Rattle.mapworld_state.specs.declared.place.Phase.TheVariants as phase
 
--- a thread is between two calls; before the admission to its shard; in its shard, and its call has no block of its own there;
--- behind the position of its call's block, and before the deed; before the release; before the answer; and of a walk: before the
--- admission to its next shard; in two shards; in its shard before the visit, and then in it; between two visits
+-- a thread is between two calls; before the admission to its shard; in its shard, and its call has no block of its own
+-- there; behind the position of its call's block, and before the deed; before the release; before the answer; and of a
+-- walk: before the admission to its next shard; in two shards; in its shard before the visit, and then in it; between
+-- two visits
 pub data Class : Type 0 where
   reaching : Class
   parting : Class
@@ -86,9 +87,9 @@ walks_in placed = false
 walks_in leaving = false
 walks_in answering = false
 
--- how many holds it has: one from its admission to its release, and between two calls and before an answer one where it has a guard; a walk has
--- one more while it gives back the last shard with the next one held, and while it waits for its next shard, or is between two, those that it
--- keeps over
+-- how many holds it has: one from its admission to its release, and between two calls and before an answer one where it
+-- has a guard; a walk has one more while it gives back the last shard with the next one held, and while it waits for
+-- its next shard, or is between two, those that it keeps over
 abbrev pub holds_in : {G : Type 0} → Option G → ℕ → Class → ℕ
 holds_in guard kept reaching = kept
 holds_in guard kept parting = 2
@@ -157,7 +158,8 @@ status_in asleep left visiting = status.Running
 status_in asleep left pausing = if asleep then status.Asleep else status.Running
 status_in asleep left answering = if asleep then status.Asleep else status.Running
 
--- whether a step of it would be done, by whether it can go on at the lock that it is in a call of and how much of its program is left
+-- whether a step of it would be done, by whether it can go on at the lock that it is in a call of and how much of its
+-- program is left
 abbrev pub moves_in : Bool → ℕ → Class → Bool
 moves_in goes left resting = not (left == 0)
 moves_in goes left waiting = goes

@@ -1,6 +1,7 @@
 -- What the code keeps of a world, and how much room it has.
 use Rattle.std.specs.List.{list_any}
-use Rattle.std.specs.Prelude.{◌≡◌, ℕ, Bool, true, false, ◌||◌, ◌+◌, ◌-◌, ◌<◌, ◌≤◌, ◌^◌, if◌then◌else◌, List, length, map, Option, Some, None, ◌==◌, slice_get, sum_by, vec_capacity}
+use Rattle.std.specs.Prelude.{◌≡◌, ℕ, Bool, true, false, ◌||◌, ◌+◌, ◌-◌, ◌<◌, ◌≤◌, ◌^◌, if◌then◌else◌, List, length}
+use Rattle.std.specs.Prelude.{map, Option, Some, None, ◌==◌, slice_get, sum_by, vec_capacity}
 use Rattle.std.specs.Hash.{HashWrites}
 use Rattle.std.specs.declared.hash.BuildHasher as builder
 use Rattle.std.specs.declared.hash.Hasher as hasher
@@ -49,7 +50,8 @@ owes f = answers_owed (class_of f)
 abbrev pub adds : {K V D T A : Type 0} → Phase K V D T A → ℕ
 adds f = pairs_left (class_of f)
 
--- and how many blocks it may list, of a walk by how many shards are left behind the one that it is at: a call on a guard lists none
+-- and how many blocks it may list, of a walk by how many shards are left behind the one that it is at: a call on a
+-- guard lists none
 abbrev pub lists : {K V D T A : Type 0} → ℕ → Phase K V D T A → ℕ
 lists more (phase.Read d) = 0
 lists more (phase.Change h) = 0
@@ -57,7 +59,8 @@ lists more (phase.Fill v) = 0
 lists more phase.Downgrade = 0
 lists more f = blocks_left more (class_of f)
 
--- how many answers a thread owes, how many blocks it may list in a world of so many shards, and how many pairs it may add
+-- how many answers a thread owes, how many blocks it may list in a world of so many shards, and how many pairs it may
+-- add
 abbrev pub owed : {K V D T A : Type 0} → Place K V D T A → ℕ
 owed p = length p.asks + owes p.phase
 
@@ -111,18 +114,23 @@ pub record Room {K V S D T A : Type 0} (c : Core K V S D T A) : Type 0 where
   pub answers : length c.replies.items + sum_by owed (state_of c).places ≡ sum_by length (state_of c).programs
   pub calls_fit : sum_by length (state_of c).programs ≤ 2 ^ 20
   pub replies : sum_by length (state_of c).programs ≤ vec_capacity c.replies
-  pub blocks : length c.blocks.items + sum_by (may_list (length c.tables.items)) (state_of c).places ≤ vec_capacity c.blocks
+  pub blocks : length c.blocks.items + sum_by (may_list (length c.tables.items)) (state_of c).places ≤ vec_capacity
+      c.blocks
   pub blocks_fit : length c.blocks.items + sum_by (may_list (length c.tables.items)) (state_of c).places < 2 ^ 32
-  pub visits : (t : ℕ) (p : KeptPlace K V D T A) → slice_get c.places.items t ≡ Some p → may_walk (place_of p) ≡ true → length c.tables.items ≤ vec_capacity p.visits
-  pub lists : (t : ℕ) (p : KeptPlace K V D T A) → slice_get c.places.items t ≡ Some p → lists_due (place_of p) ≤ length p.lists.items
-  pub held : (t i : ℕ) (p : Place K V D T A) (h : Hold) → slice_get (state_of c).places t ≡ Some p → slice_get p.holds i ≡ Some h → h.shard < length c.tables.items
+  pub visits : (t : ℕ) (p : KeptPlace K V D T A) → slice_get c.places.items t ≡ Some p → may_walk (place_of p) ≡ true
+      → length c.tables.items ≤ vec_capacity p.visits
+  pub lists : (t : ℕ) (p : KeptPlace K V D T A) → slice_get c.places.items t ≡ Some p
+      → lists_due (place_of p) ≤ length p.lists.items
+  pub held : (t i : ℕ) (p : Place K V D T A) (h : Hold) → slice_get (state_of c).places t ≡ Some p
+      → slice_get p.holds i ≡ Some h → h.shard < length c.tables.items
   pub locks : AreLocksOf (length (state_of c).places) (length c.tables.items) (state_of c).locks
   pub pairs : c.pairs ≡ length (pairs_of (state_of c))
   pub pairs_fit : c.pairs + sum_by may_add (state_of c).places ≤ 2 ^ 31 + 2 ^ 20
   pub places : length (state_of c).places ≡ length (state_of c).programs
   pub threads_fit : length (state_of c).places ≤ 256
   pub shards : IsWorldAmount (length c.tables.items)
-  pub listed : (t : ℕ) (p : Place K V D T A) (i : ℕ) → slice_get (state_of c).places t ≡ Some p → p.block ≡ Some i → i < length c.blocks.items
+  pub listed : (t : ℕ) (p : Place K V D T A) (i : ℕ) → slice_get (state_of c).places t ≡ Some p → p.block ≡ Some i
+      → i < length c.blocks.items
 
 -- a thread stands before that phase
 pub record IsBefore {K V D T A : Type 0} (places : List (Place K V D T A)) (t : ℕ) (ph : Phase K V D T A) : Type 0 where
@@ -131,14 +139,19 @@ pub record IsBefore {K V D T A : Type 0} (places : List (Place K V D T A)) (t : 
   pub before : place.phase ≡ ph
 
 -- what is kept is a sound world with its own setup
-abbrev pub IsSoundCore : {K V S H D T A : Type 0} → deed.Ghosts D K V T → builder.Ghosts S H → hasher.Ghosts H → (K → K → Bool) → (K → HashWrites) → Core K V S D T A → Type 0
+abbrev pub IsSoundCore : {K V S H D T A : Type 0} → deed.Ghosts D K V T → builder.Ghosts S H → hasher.Ghosts H
+    → (K → K → Bool) → (K → HashWrites) → Core K V S D T A → Type 0
 IsSoundCore d b h eq writes c = Sound (setup_of d b h eq writes (state_of c)) (state_of c)
 
 -- what is kept finds each pair where it stands
-abbrev pub IsSlotted : {K V S H D T A : Type 0} → deed.Ghosts D K V T → builder.Ghosts S H → hasher.Ghosts H → (K → K → Bool) → (K → HashWrites) → Core K V S D T A → Type 0
-IsSlotted d b h eq writes c = HasSlots (setup_of d b h eq writes (state_of c)) (key_hash b h writes c.hasher) c.tables.items c.blocks.items c.places.items
+abbrev pub IsSlotted : {K V S H D T A : Type 0} → deed.Ghosts D K V T → builder.Ghosts S H → hasher.Ghosts H
+    → (K → K → Bool) → (K → HashWrites) → Core K V S D T A → Type 0
+IsSlotted d b h eq writes c = HasSlots (setup_of d b h eq writes (state_of c)) (key_hash b h writes c.hasher)
+    c.tables.items c.blocks.items c.places.items
 
 -- a step of that kind leads from the one to the other
-abbrev pub MakesStep : {K V S H D T A : Type 0} → (Setup K V D T → State K V S D T A → Step → State K V S D T A → Type 0)
-    → deed.Ghosts D K V T → builder.Ghosts S H → hasher.Ghosts H → (K → K → Bool) → (K → HashWrites) → Core K V S D T A → Step → Core K V S D T A → Type 0
+abbrev pub MakesStep : {K V S H D T A : Type 0}
+    → (Setup K V D T → State K V S D T A → Step → State K V S D T A → Type 0)
+    → deed.Ghosts D K V T → builder.Ghosts S H → hasher.Ghosts H → (K → K → Bool) → (K → HashWrites) → Core K V S D T A
+    → Step → Core K V S D T A → Type 0
 MakesStep kind d b h eq writes c s c' = kind (setup_of d b h eq writes (state_of c)) (state_of c) s (state_of c')

@@ -12,7 +12,8 @@ abbrev pub KeepsPairs : {K V S D T A : Type 0} → (K → K → Bool) → State 
 KeepsPairs {K} eq w w' = (q : K) → pair_of eq (pairs_of w') q ≡ pair_of eq (pairs_of w) q
 
 -- all other keys have the pairs that they had
-abbrev pub OthersKeepPairs : {K V S D T A : Type 0} → (K → K → Bool) → State K V S D T A → State K V S D T A → K → Type 0
+abbrev pub OthersKeepPairs : {K V S D T A : Type 0} → (K → K → Bool) → State K V S D T A → State K V S D T A → K
+    → Type 0
 OthersKeepPairs {K} eq w w' key = (q : K) → eq key q ≡ false → pair_of eq (pairs_of w') q ≡ pair_of eq (pairs_of w) q
 
 -- a shard's word, its queues, and the desk beside its word
@@ -33,18 +34,24 @@ KeepsLocks locks locks' = (shard : ℕ) → KeepsLock locks locks' shard
 
 -- of a shard's word and its two queues at most one is another; where the word is, the desk may be
 pub data ChangesLock (locks locks' : Shown) (shard : ℕ) : Type 0 where
-  the_word : KeepsQueue locks locks' (first_key shard) → KeepsQueue locks locks' (second_key shard) → ChangesLock locks locks' shard
-  first_queue : word_of locks' shard ≡ word_of locks shard → KeepsQueue locks locks' (second_key shard) → ChangesLock locks locks' shard
-  second_queue : word_of locks' shard ≡ word_of locks shard → KeepsQueue locks locks' (first_key shard) → ChangesLock locks locks' shard
+  the_word : KeepsQueue locks locks' (first_key shard) → KeepsQueue locks locks' (second_key shard)
+      → ChangesLock locks locks' shard
+  first_queue : word_of locks' shard ≡ word_of locks shard → KeepsQueue locks locks' (second_key shard)
+      → ChangesLock locks locks' shard
+  second_queue : word_of locks' shard ≡ word_of locks shard → KeepsQueue locks locks' (first_key shard)
+      → ChangesLock locks locks' shard
 
 -- of the map and its locks at most one pair is another, or one word, or one queue
 pub data Touches {K V S D T A : Type 0} (eq : K → K → Bool) (w w' : State K V S D T A) : Type 0 where
   neither : KeepsPairs eq w w' → KeepsLocks w.locks w'.locks → Touches eq w w'
   one_pair : (key : K) → OthersKeepPairs eq w w' key → KeepsLocks w.locks w'.locks → Touches eq w w'
-  one_lock : (shard : ℕ) → KeepsPairs eq w w' → ((i : ℕ) → i ≢ shard → KeepsLock w.locks w'.locks i) → ChangesLock w.locks w'.locks shard → Touches eq w w'
+  one_lock : (shard : ℕ) → KeepsPairs eq w w' → ((i : ℕ) → i ≢ shard → KeepsLock w.locks w'.locks i)
+      → ChangesLock w.locks w'.locks shard → Touches eq w w'
 
 -- a step of its thread: no other thread's place is another, and none but its thread is replied to
-pub record HasFootprint {K V S D T A : Type 0} (eq : K → K → Bool) (w : State K V S D T A) (s : Step) (w' : State K V S D T A) : Type 0 where
+pub record HasFootprint {K V S D T A : Type 0} (eq : K → K → Bool) (w : State K V S D T A) (s : Step)
+    (w' : State K V S D T A) : Type 0 where
   pub places : (t : ℕ) → t ≢ s.thread → slice_get w'.places t ≡ slice_get w.places t
   pub touches : Touches eq w w'
-  pub replies : (w'.replies ≡ w.replies) ⊎ ((r : Reply K V T A) × (r.thread ≡ s.thread) × (w'.replies ≡ w.replies ++ r ∷ []))
+  pub replies : (w'.replies ≡ w.replies)
+      ⊎ ((r : Reply K V T A) × (r.thread ≡ s.thread) × (w'.replies ≡ w.replies ++ r ∷ []))

@@ -1,5 +1,6 @@
 -- Which threads hold shards, and what the shards' locks know of it.
-use Rattle.std.specs.Prelude.{◌≡◌, ◌≢◌, ℕ, ◌⊎◌, Bool, false, if◌then◌else◌, List, [], ◌∷◌, length, Option, Some, None, slice_get}
+use Rattle.std.specs.Prelude.{◌≡◌, ◌≢◌, ℕ, ◌⊎◌, Bool, false, if◌then◌else◌, List, [], ◌∷◌, length, Option, Some, None}
+use Rattle.std.specs.Prelude.{slice_get}
 use Rattle.lock_api_desk.specs.declared.mode.Mode.{Mode as DeskMode}
 use Rattle.mapworld_state.specs.Locks.Aims.{Aim, Gets, GivesUp, Turns}
 use Rattle.mapworld_state.specs.Locks.Views.{Shown, owner_in}
@@ -26,12 +27,14 @@ IsOwing p None = Unit {0}
 IsOwing p (Some stand) = MayOwe p stand.shard stand.aim
 
 -- A thread waits for its shard: a try may still be refused, and whatever waits can't be.
-pub record IsWanting {K V D T A : Type 0} (p : Place K V D T A) (mode : Mode) (tries : Bool) (stand : Option Stand) : Type 0 where
+pub record IsWanting {K V D T A : Type 0} (p : Place K V D T A) (mode : Mode) (tries : Bool)
+    (stand : Option Stand) : Type 0 where
   pub trying : Bool
   pub is : stand ≡ Some (record { shard = p.shard; aim = Gets (at_desk mode); trying = trying })
   pub patient : tries ≡ false → trying ≡ false
 
--- the call that a thread is in at a lock, by its phase: the admission that it waits for; what its release or its downgrade owes; and else none
+-- the call that a thread is in at a lock, by its phase: the admission that it waits for; what its release or its
+-- downgrade owes; and else none
 abbrev pub StandsBefore : {K V D T A : Type 0} → Place K V D T A → Phase K V D T A → Option Stand → Type 0
 StandsBefore p phase.Rest stand = stand ≡ None
 StandsBefore p (phase.Admit r) stand = IsWanting p (mode_of r) (request_tries r) stand
@@ -59,13 +62,18 @@ StandsBefore p (phase.Answer a) stand = IsOwing p stand
 abbrev pub IsAt : Shown → ℕ → ℕ → Type 0
 IsAt locks t shard = (stand : Stand) × (stand_in locks t ≡ Some stand) × (stand.shard ≡ shard)
 
--- A hold of a place is an owner's of its shard's lock, in that mode; and whoever owns a lock has such a hold, or is in a call there: it has been
--- admitted and hasn't gone on yet, or hasn't given the lock up yet. No two threads' holds exclude each other, and no thread holds a shard twice.
+-- A hold of a place is an owner's of its shard's lock, in that mode; and whoever owns a lock has such a hold, or is in
+-- a call there: it has been admitted and hasn't gone on yet, or hasn't given the lock up yet. No two threads' holds
+-- exclude each other, and no thread holds a shard twice.
 pub record HoldsMatch {K V D T A : Type 0} (places : List (Place K V D T A)) (locks : Shown) : Type 0 where
-  pub owned : (t i : ℕ) (p : Place K V D T A) (h : Hold) → slice_get places t ≡ Some p → slice_get p.holds i ≡ Some h → owner_in locks h.shard t ≡ Some (at_desk h.mode)
-  pub known : (t shard : ℕ) (p : Place K V D T A) (mode : DeskMode) → slice_get places t ≡ Some p → owner_in locks shard t ≡ Some mode → IsAmong shard mode p.holds ⊎ IsAt locks t shard
-  pub once : (t i j : ℕ) (p : Place K V D T A) (a b : Hold) → slice_get places t ≡ Some p → slice_get p.holds i ≡ Some a → slice_get p.holds j ≡ Some b → a.shard ≡ b.shard → i ≡ j
-  pub compatible : (t u i j : ℕ) (p q : Place K V D T A) (a b : Hold) → t ≢ u → slice_get places t ≡ Some p → slice_get places u ≡ Some q → slice_get p.holds i ≡ Some a → slice_get q.holds j ≡ Some b → a.shard ≡ b.shard
+  pub owned : (t i : ℕ) (p : Place K V D T A) (h : Hold) → slice_get places t ≡ Some p → slice_get p.holds i ≡ Some h
+      → owner_in locks h.shard t ≡ Some (at_desk h.mode)
+  pub known : (t shard : ℕ) (p : Place K V D T A) (mode : DeskMode) → slice_get places t ≡ Some p
+      → owner_in locks shard t ≡ Some mode → IsAmong shard mode p.holds ⊎ IsAt locks t shard
+  pub once : (t i j : ℕ) (p : Place K V D T A) (a b : Hold) → slice_get places t ≡ Some p → slice_get p.holds i ≡ Some a
+      → slice_get p.holds j ≡ Some b → a.shard ≡ b.shard → i ≡ j
+  pub compatible : (t u i j : ℕ) (p q : Place K V D T A) (a b : Hold) → t ≢ u → slice_get places t ≡ Some p
+      → slice_get places u ≡ Some q → slice_get p.holds i ≡ Some a → slice_get q.holds j ≡ Some b → a.shard ≡ b.shard
       → (a.mode ≡ Shared) × (b.mode ≡ Shared)
   pub stands : (t : ℕ) (p : Place K V D T A) → slice_get places t ≡ Some p → StandsBefore p p.phase (stand_in locks t)
 

@@ -1,5 +1,6 @@
 -- Where each kind of step leads a thread.
-use Rattle.std.specs.Prelude.{◌≡◌, ℕ, ◌+◌, ◌-◌, Bool, true, false, not, nat_lt, if◌then◌else◌, List, [], ◌∷◌, ◌++◌, Option, Some, None, slice_get, slice_set, MatchBool, ◌==◌}
+use Rattle.std.specs.Prelude.{◌≡◌, ℕ, ◌+◌, ◌-◌, Bool, true, false, not, nat_lt, if◌then◌else◌, List, [], ◌∷◌, ◌++◌}
+use Rattle.std.specs.Prelude.{Option, Some, None, slice_get, slice_set, MatchBool, ◌==◌}
 use Rattle.mapworld_calls.specs.declared.ask.Ask.{Ask}
 use Rattle.mapworld_calls.specs.declared.ask.Ask.TheVariants as ask
 use Rattle.mapworld_calls.specs.declared.ask.Keyed.{Keyed}
@@ -94,8 +95,8 @@ vacant_key None = None
 vacant_key (Some (guard.Pair kind)) = None
 vacant_key (Some (guard.Vacant k)) = Some k
 
--- the phase behind the start of a call on a guard, by its kind: before a deed or a release, or, where it isn't for that kind
--- or only gives back the guard or the handed-in key, before the answer
+-- the phase behind the start of a call on a guard, by its kind: before a deed or a release, or, where it isn't for that
+-- kind or only gives back the guard or the handed-in key, before the answer
 abbrev pub shared_phase : {K V D T A : Type 0} → Held V D → Phase K V D T A
 shared_phase (held.Read d) = phase.Read d
 shared_phase held.Drop = phase.Release answer.Done
@@ -145,7 +146,8 @@ start_phase (ask.Begin b) g = phase.Admit (request.Begin b)
 start_phase (ask.Held h) g = held_phase g h
 start_phase (ask.Walk f) g = if stops_at (stop_of f) 0 then phase.Idle f else phase.Reach f
 
--- the guard behind a start: an occupied one becomes exclusive, an entry's guard gives back its key and ends, and any other stays
+-- the guard behind a start: an occupied one becomes exclusive, an entry's guard gives back its key and ends, and any
+-- other stays
 abbrev pub occupied_guard : {K V D : Type 0} → Held V D → K → Option (Guard K)
 occupied_guard held.IntoRef k = Some (guard.Pair way.Exclusive)
 occupied_guard held.IntoKey k = None
@@ -248,8 +250,8 @@ found_phase (request.Begin (begin.Entry k)) false false = phase.Grow (growth.Ent
 found_phase (request.Begin (begin.TryEntry k)) false true = phase.Answer answer.Vacant
 found_phase (request.Begin (begin.TryEntry k)) false false = phase.Grow (growth.TryEntry k)
 
--- how many of its calls the block that a find lists has done: none where a deed is to come, and one where the find is all
--- that there is to do; where a growth is needed, or the pair is to be read, it lists none
+-- how many of its calls the block that a find lists has done: none where a deed is to come, and one where the find is
+-- all that there is to do; where a growth is needed, or the pair is to be read, it lists none
 abbrev pub found_done : {K V D : Type 0} → Request K V D → Bool → Bool → Option ℕ
 found_done (request.Keyed (keyed.Insert k v)) true room = Some 0
 found_done (request.Keyed (keyed.Insert k v)) false true = Some 0
@@ -298,7 +300,8 @@ abbrev pub stepped : {K V S D T A : Type 0} → State K V S D T A → Step → P
 stepped w s p = record w { steps = w.steps ++ s ∷ []; places = slice_set w.places s.thread p }
 
 -- a block that is listed with its call started, at this step
-pub record IsListed {K V S D T A : Type 0} (w : State K V S D T A) (t : ℕ) (p : Place K V D T A) (n : ℕ) (b : Block K) : Type 0 where
+pub record IsListed {K V S D T A : Type 0} (w : State K V S D T A) (t : ℕ) (p : Place K V D T A) (n : ℕ)
+    (b : Block K) : Type 0 where
   pub thread : b.thread ≡ t
   pub call : b.call ≡ p.next
   pub visit : b.visit ≡ 0
@@ -309,7 +312,8 @@ pub record IsListed {K V S D T A : Type 0} (w : State K V S D T A) (t : ℕ) (p 
   pub visited : b.visited.items ≡ []
 
 -- a visit's block that is listed with those keys done, at this step
-pub record IsListedVisit {K V S D T A : Type 0} (w : State K V S D T A) (t : ℕ) (p : Place K V D T A) (keys : List K) (b : Block K) : Type 0 where
+pub record IsListedVisit {K V S D T A : Type 0} (w : State K V S D T A) (t : ℕ) (p : Place K V D T A) (keys : List K)
+    (b : Block K) : Type 0 where
   pub thread : b.thread ≡ t
   pub call : b.call ≡ p.next
   pub visit : b.visit ≡ p.shard
@@ -331,7 +335,8 @@ pub record VisitsKey {K : Type 0} (key : K) (b c : Block K) : Type 0 where
   pub visited : c.visited.items ≡ b.visited.items ++ key ∷ []
 
 -- the blocks behind a step that may list one
-abbrev pub ListsBlock : {K V S D T A : Type 0} → State K V S D T A → ℕ → Place K V D T A → Option ℕ → List (Block K) → Type 0
+abbrev pub ListsBlock : {K V S D T A : Type 0} → State K V S D T A → ℕ → Place K V D T A → Option ℕ → List (Block K)
+    → Type 0
 ListsBlock w t p None blocks = blocks ≡ w.blocks
 ListsBlock {K} w t p (Some done) blocks = (b : Block K) × IsListed w t p done b × (blocks ≡ w.blocks ++ b ∷ [])
 
@@ -348,7 +353,8 @@ pub record CountsIn {K : Type 0} (now : ℕ) (b c : Block K) : Type 0 where
 
 abbrev pub CountsCall : {K : Type 0} → List (Block K) → Option ℕ → ℕ → List (Block K) → Type 0
 CountsCall bs None call bs' = bs' ≡ bs
-CountsCall {K} bs (Some i) call bs' = (b : Block K) × (c : Block K) × (slice_get bs i ≡ Some b) × CountsIn call b c × (bs' ≡ slice_set bs i c)
+CountsCall {K} bs (Some i) call bs' = (b : Block K) × (c : Block K) × (slice_get bs i ≡ Some b) × CountsIn call b c
+    × (bs' ≡ slice_set bs i c)
 
 -- a block whose call is answered at that step
 pub record EndsAt {K : Type 0} (n : ℕ) (b c : Block K) : Type 0 where
@@ -365,13 +371,15 @@ pub record EndsAt {K : Type 0} (n : ℕ) (b c : Block K) : Type 0 where
 abbrev pub EndsBlock : {K : Type 0} → List (Block K) → Option ℕ → ℕ → ℕ → List (Block K) → Type 0
 EndsBlock bs None call end bs' = bs' ≡ bs
 EndsBlock {K} bs (Some i) call end bs' =
-    (b : Block K) × (c : Block K) × (slice_get bs i ≡ Some b) × (MatchBool (b.call == call) (EndsAt end b c) (c ≡ b)) × (bs' ≡ slice_set bs i c)
+    (b : Block K) × (c : Block K) × (slice_get bs i ≡ Some b) × (MatchBool (b.call == call) (EndsAt end b c) (c ≡ b))
+    × (bs' ≡ slice_set bs i c)
 
 -- that of a walk ends those of all its visits
 abbrev pub EndsVisits : {K : Type 0} → List (Block K) → List ℕ → ℕ → List (Block K) → Type 0
 EndsVisits bs [] end bs' = bs' ≡ bs
 EndsVisits {K} bs (i ∷ visits) end bs' =
-    (b : Block K) × (c : Block K) × (slice_get bs i ≡ Some b) × EndsAt end b c × EndsVisits (slice_set bs i c) visits end bs'
+    (b : Block K) × (c : Block K) × (slice_get bs i ≡ Some b) × EndsAt end b c × EndsVisits (slice_set bs i c) visits
+    end bs'
 
 abbrev pub EndsCall : {K : Type 0} → List (Block K) → Option ℕ → List ℕ → ℕ → ℕ → List (Block K) → Type 0
 EndsCall bs block [] call end bs' = EndsBlock bs block call end bs'

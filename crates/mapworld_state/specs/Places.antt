@@ -1,4 +1,5 @@
--- Where a thread stands, as contracts see it: the code's place without its allocator, and without the slot at which it finds a pair.
+-- Where a thread stands, as contracts see it: the code's place without its allocator, and without the slot at which it
+-- finds a pair.
 use Rattle.std.specs.Prelude.{ℕ, Bool, List, Option}
 use Rattle.mapworld_calls.specs.declared.ask.Ask.{Ask}
 use Rattle.mapworld_state.specs.declared.holds.Hold.{Hold}

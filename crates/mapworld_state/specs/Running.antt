@@ -1,5 +1,7 @@
 -- Which steps are refused, and what a run of steps leads to.
-use Rattle.std.specs.Prelude.{◌≡◌, ℕ, ◌+◌, ◌-◌, ◌*◌, ◌^◌, Bool, true, false, ◌||◌, is_none, if◌then◌else◌, nat_lt, nat_le, List, [], ◌∷◌, length, Option, Some, None, Result, Ok, Err, slice_get, sum_by, ◌==◌}
+use Rattle.std.specs.Prelude.{◌≡◌, ℕ, ◌+◌, ◌-◌, ◌*◌, ◌^◌, Bool, true, false, ◌||◌, is_none, if◌then◌else◌, nat_lt}
+use Rattle.std.specs.Prelude.{nat_le, List, [], ◌∷◌, length, Option, Some, None, Result, Ok, Err, slice_get, sum_by}
+use Rattle.std.specs.Prelude.{◌==◌}
 use Rattle.mapworld_calls.specs.Setup.{Setup}
 use Rattle.parking_lot_machine.specs.Rows.{state, call_at}
 use Rattle.parking_lot_machine.specs.Machines.{can_move, is_asleep}
@@ -50,8 +52,8 @@ abbrev pub moves_at : {K V D T A : Type 0} → Shown → ℕ → Option (Place K
 moves_at locks t None = false
 moves_at locks t (Some p) = moves_before locks t (length p.asks) p.phase
 
--- whether a step of a thread would be done: its calls aren't all answered, it isn't asleep, and it isn't before a queue's section that another
--- thread has entered
+-- whether a step of a thread would be done: its calls aren't all answered, it isn't asleep, and it isn't before a
+-- queue's section that another thread has entered
 abbrev pub can_move_in : {K V S D T A : Type 0} → State K V S D T A → ℕ → Bool
 can_move_in w t = moves_at w.locks t (slice_get w.places t)
 
@@ -72,11 +74,13 @@ refusal w n s =
     else Some (fault.CannotMove n))
     else Some (fault.NoSuchThread n)
 
--- the steps lead from one world to the other, one after another, each one of a kind and within its footprint, and none refused
+-- the steps lead from one world to the other, one after another, each one of a kind and within its footprint, and none
+-- refused
 abbrev pub Ran : {K V S D T A : Type 0} → Setup K V D T → ℕ → State K V S D T A → List Step → State K V S D T A → Type 0
 Ran x n w [] w' = w' ≡ w
 Ran {K} {V} {S} {D} {T} {A} x n w (s ∷ steps) w' =
-    (mid : State K V S D T A) × (refusal w n s ≡ None) × IsStep x w s mid × HasFootprint x.eq w s mid × Ran x (n + 1) mid steps w'
+    (mid : State K V S D T A) × (refusal w n s ≡ None) × IsStep x w s mid × HasFootprint x.eq w s mid
+    × Ran x (n + 1) mid steps w'
 
 -- how many of n steps a run did
 abbrev pub steps_done : {X : Type 0} → Result X RunFault → ℕ → ℕ
@@ -85,7 +89,8 @@ steps_done (Err f) n = run_fault_done f
 
 -- the step that a run stopped at is refused so, by the world that it left
 abbrev pub StopsAt : {K V S D T A : Type 0} → State K V S D T A → List Step → RunFault → Type 0
-StopsAt w steps f = (step : Step) × (slice_get steps (run_fault_done f) ≡ Some step) × (refusal w (run_fault_done f) step ≡ Some f)
+StopsAt w steps f = (step : Step) × (slice_get steps (run_fault_done f) ≡ Some step)
+    × (refusal w (run_fault_done f) step ≡ Some f)
 
 -- what a run never changes
 pub record StaysFixed {K V S D T A : Type 0} (w w' : State K V S D T A) : Type 0 where

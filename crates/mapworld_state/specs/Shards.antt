@@ -30,12 +30,14 @@ abbrev pub used : {X : Type 0} → Option X → Option X → ℕ
 used None r = number_of r
 used (Some o) r = 0
 
--- the one shard is the other with o in place of the key's pair: every other key has what it had, and no spare room is dropped
-pub record Puts {K V : Type 0} (eq : K → K → Bool) (old new : ShardPairs K V) (key : K) (o : Option (K × V)) : Type 0 where
-  pub found : (q : K) → pair_of eq new.items q ≡ (if eq key q then o else pair_of eq old.items q)
-  pub distinct : AreDistinct eq new.items
-  pub counted : length new.items + number_of (pair_of eq old.items key) ≡ length old.items + number_of o
-  pub spare : old.room + length new.items ≤ new.room + length old.items + used (pair_of eq old.items key) o
+-- the one shard is the other with o in place of the key's pair: every other key has what it had, and no spare room is
+-- dropped
+pub record Puts {K V : Type 0} (eq : K → K → Bool) (old new : ShardPairs K V) (key : K) (o : Option (K × V)) : Type 0
+  where
+    pub found : (q : K) → pair_of eq new.items q ≡ (if eq key q then o else pair_of eq old.items q)
+    pub distinct : AreDistinct eq new.items
+    pub counted : length new.items + number_of (pair_of eq old.items key) ≡ length old.items + number_of o
+    pub spare : old.room + length new.items ≤ new.room + length old.items + used (pair_of eq old.items key) o
 
 -- the one shard is the other with more room: every key has what it had
 pub record Grown {K V : Type 0} (eq : K → K → Bool) (old new : ShardPairs K V) : Type 0 where

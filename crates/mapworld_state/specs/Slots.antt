@@ -1,5 +1,6 @@
 -- Where the code finds pairs: the slots that places keep, and the hashes that shards keep.
-use Rattle.std.specs.Prelude.{◌≡◌, ℕ, ◌+◌, ◌-◌, ◌<◌, ◌≤◌, ◌^◌, min, Bool, true, false, if◌then◌else◌, List, length, drop, Option, Some, None, slice_get, is_some, Vec, vec_capacity}
+use Rattle.std.specs.Prelude.{◌≡◌, ℕ, ◌+◌, ◌-◌, ◌<◌, ◌≤◌, ◌^◌, min, Bool, true, false, if◌then◌else◌, List, length}
+use Rattle.std.specs.Prelude.{drop, Option, Some, None, slice_get, is_some, Vec, vec_capacity}
 use Rattle.std.specs.Hash.{HashWrites}
 use Rattle.std.specs.declared.hash.BuildHasher as builder
 use Rattle.std.specs.declared.hash.Hasher as hasher
@@ -57,9 +58,10 @@ FitsReads (walk.Iter d stop) reads n left = length reads.items + to_give stop n 
 FitsReads (walk.IterMut d stop) reads n left = length reads.items + to_give stop n left ≤ vec_capacity reads
 FitsReads f reads n left = Unit {0}
 
--- A place's slot is that of the next pair of its visit: those before it are done, and those from it on aren't. Items are left to give,
--- and what they read has room.
-pub record IsNextSlot {K V D T A : Type 0} (eq : K → K → Bool) (tables : List (Table K V)) (bs : List (Block K)) (p : KeptPlace K V D T A) (f : Walk D) : Type 0 where
+-- A place's slot is that of the next pair of its visit: those before it are done, and those from it on aren't. Items
+-- are left to give, and what they read has room.
+pub record IsNextSlot {K V D T A : Type 0} (eq : K → K → Bool) (tables : List (Table K V)) (bs : List (Block K))
+    (p : KeptPlace K V D T A) (f : Walk D) : Type 0 where
   pub index : ℕ
   pub own : slice_get p.visits.items p.shard ≡ Some index
   pub block : Block K
@@ -69,20 +71,25 @@ pub record IsNextSlot {K V D T A : Type 0} (eq : K → K → Bool) (tables : Lis
   pub entry : Entry K V
   pub there : at table.slots p.slot ≡ Some entry
   pub numbered : p.slot + 1 < 2 ^ 64
-  pub done : (j : ℕ) (e : Entry K V) → j < p.slot → at table.slots j ≡ Some e → is_visited eq block.visited.items e.key ≡ true
-  pub left : (j : ℕ) (e : Entry K V) → p.slot ≤ j → at table.slots j ≡ Some e → is_visited eq block.visited.items e.key ≡ false
+  pub done : (j : ℕ) (e : Entry K V) → j < p.slot → at table.slots j ≡ Some e → is_visited eq block.visited.items e.key
+      ≡ true
+  pub left : (j : ℕ) (e : Entry K V) → p.slot ≤ j → at table.slots j ≡ Some e → is_visited eq block.visited.items e.key
+      ≡ false
   pub goes_on : stops_at (stop_of f) p.count ≡ false
   pub fits : FitsReads f p.reads p.count (count (drop p.slot table.slots))
 
-abbrev pub SlotIsNext : {K V D T A : Type 0} → (K → K → Bool) → List (Table K V) → List (Block K) → KeptPlace K V D T A → Phase K V D T A → Type 0
+abbrev pub SlotIsNext : {K V D T A : Type 0} → (K → K → Bool) → List (Table K V) → List (Block K) → KeptPlace K V D T A
+    → Phase K V D T A → Type 0
 SlotIsNext eq tables bs p (phase.Seek f) = IsNextSlot eq tables bs p f
 SlotIsNext eq tables bs p (phase.Item f) = IsNextSlot eq tables bs p f
 SlotIsNext eq tables bs p f = Unit {0}
 
 -- each place's slot has its key's pair
-pub record HasSlots {K V D T A : Type 0} (x : Setup K V D T) (hash : K → ℕ) (tables : List (Table K V)) (bs : List (Block K)) (places : List (KeptPlace K V D T A)) : Type 0 where
+pub record HasSlots {K V D T A : Type 0} (x : Setup K V D T) (hash : K → ℕ) (tables : List (Table K V))
+    (bs : List (Block K)) (places : List (KeptPlace K V D T A)) : Type 0 where
   pub hashed : (i : ℕ) (table : Table K V) → slice_get tables i ≡ Some table → HasHashes hash table
-  pub found : (t : ℕ) (p : KeptPlace K V D T A) (key : K) → slice_get places t ≡ Some p → slot_key x bs (place_of p) ≡ Some key → IsAt x.eq tables p.shard p.slot key
+  pub found : (t : ℕ) (p : KeptPlace K V D T A) (key : K) → slice_get places t ≡ Some p
+      → slot_key x bs (place_of p) ≡ Some key → IsAt x.eq tables p.shard p.slot key
   pub next : (t : ℕ) (p : KeptPlace K V D T A) → slice_get places t ≡ Some p → SlotIsNext x.eq tables bs p p.phase
 
 -- the hash of a key

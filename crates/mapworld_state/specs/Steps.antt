@@ -1,5 +1,6 @@
 -- The kinds of steps: what each changes, of which thread, and that nothing else changes.
-use Rattle.std.specs.Prelude.{◌≡◌, ◌≢◌, ℕ, ◌+◌, ◌<◌, ◌≤◌, ◌⊎◌, true, false, if◌then◌else◌, List, [], ◌∷◌, ◌++◌, length, Option, Some, None, slice_get, slice_set, is_some}
+use Rattle.std.specs.Prelude.{◌≡◌, ◌≢◌, ℕ, ◌+◌, ◌<◌, ◌≤◌, ◌⊎◌, true, false, if◌then◌else◌, List, [], ◌∷◌, ◌++◌, length}
+use Rattle.std.specs.Prelude.{Option, Some, None, slice_get, slice_set, is_some}
 use Rattle.std.specs.Option.{option_and_then}
 use Rattle.mapworld_calls.specs.declared.ask.Ask.{Ask}
 use Rattle.mapworld_calls.specs.declared.ask.Keyed.{Keyed}
@@ -34,10 +35,14 @@ use Rattle.mapworld_state.specs.Locks.Stands.{stand_in}
 use Rattle.mapworld_state.specs.Locks.Steps.{LockBegins, LockMoves, LockStarts, LockEnds}
 use Rattle.mapworld_state.specs.Classes.{class_of, owes_in}
 use Rattle.mapworld_state.specs.Holds.{asks_for, wants_for, gives_up}
-use Rattle.mapworld_state.specs.Walks.{walk_mode, entered_phase, is_visited, all_visited, looked_keys, looked_count, IsLookedAt, IsItemOf, walk_ends, LeadsOn}
+use Rattle.mapworld_state.specs.Walks.{walk_mode, entered_phase, is_visited, all_visited, looked_keys, looked_count}
+use Rattle.mapworld_state.specs.Walks.{IsLookedAt, IsItemOf, walk_ends, LeadsOn}
 use Rattle.mapworld_state.specs.Shards.{ShardPairs, has_room, Puts, Grown}
 use Rattle.mapworld_state.specs.State.{State, next_step}
-use Rattle.mapworld_state.specs.Moves.{request_key, request_tries, mode_of, is_last, lent, start_phase, start_guard, start_shard, start_counts, ends_guard, changed_phase, request_of, growth_key, found_phase, found_done, found_guard, block_behind, stepped, ListsBlock, IsListedVisit, VisitsKey, CountsCall, EndsCall}
+use Rattle.mapworld_state.specs.Moves.{request_key, request_tries, mode_of, is_last, lent, start_phase, start_guard}
+use Rattle.mapworld_state.specs.Moves.{start_shard, start_counts, ends_guard, changed_phase, request_of, growth_key}
+use Rattle.mapworld_state.specs.Moves.{found_phase, found_done, found_guard, block_behind, stepped, ListsBlock}
+use Rattle.mapworld_state.specs.Moves.{IsListedVisit, VisitsKey, CountsCall, EndsCall}
 
 -- the key of the session that a thread is in: that of its block
 abbrev pub guarded_key : {K V D T : Type 0} → Setup K V D T → List (Block K) → Option ℕ → Option K
@@ -46,7 +51,8 @@ guarded_key x bs block = option_and_then (λ i. option_and_then (block_key x) (s
 -- a call that needs its shard begins the call of the shard's lock; one on a guard has its shard
 abbrev pub EntersBy : {K V D T A : Type 0} → ℕ → ℕ → Phase K V D T A → Shown → Shown → Type 0
 EntersBy t shard phase.Rest locks locks' = locks' ≡ locks
-EntersBy t shard (phase.Admit r) locks locks' = LockBegins t shard (wants_for (request_tries r) (mode_of r)) locks locks'
+EntersBy t shard (phase.Admit r) locks locks' = LockBegins t shard (wants_for (request_tries r) (mode_of r)) locks
+    locks'
 EntersBy t shard (phase.Reach f) locks locks' = LockBegins t shard (asks_for (walk_mode f)) locks locks'
 EntersBy t shard (phase.Idle f) locks locks' = locks' ≡ locks
 EntersBy t shard (phase.Part f) locks locks' = locks' ≡ locks
@@ -67,7 +73,8 @@ EntersBy t shard phase.Downgrade locks locks' = locks' ≡ locks
 EntersBy t shard (phase.Release a) locks locks' = locks' ≡ locks
 EntersBy t shard (phase.Answer a) locks locks' = locks' ≡ locks
 
--- An admission is over: the call of the shard's lock is answered, and the place has the hold. It is part of the step that comes next.
+-- An admission is over: the call of the shard's lock is answered, and the place has the hold. It is part of the step
+-- that comes next.
 pub record Enters {K V S D T A : Type 0} (w : State K V S D T A) (t : ℕ) (w' : State K V S D T A) : Type 0 where
   pub place : Place K V D T A
   pub stands : slice_get w.places t ≡ Some place
@@ -76,12 +83,16 @@ pub record Enters {K V S D T A : Type 0} (w : State K V S D T A) (t : ℕ) (w' :
   pub locks : Shown
   pub ends : LockEnds t end.Owned w.locks locks
   pub after : w' ≡ record w {
-    places = slice_set w.places t (record place { holds = place.holds ++ record { shard = place.shard; mode = mode_of request } ∷ []; phase = phase.Find request });
+    places = slice_set w.places t
+        (record place {
+          holds = place.holds ++ record { shard = place.shard; mode = mode_of request } ∷ [];
+          phase = phase.Find request;
+        });
     locks = locks;
   }
 
--- An admission of a walk is over: the call of the next shard's lock is answered, and the place has the hold, beside the last one that it may have
--- kept. It is part of the step that comes next.
+-- An admission of a walk is over: the call of the next shard's lock is answered, and the place has the hold, beside the
+-- last one that it may have kept. It is part of the step that comes next.
 pub record Reaches {K V S D T A : Type 0} (w : State K V S D T A) (t : ℕ) (w' : State K V S D T A) : Type 0 where
   pub place : Place K V D T A
   pub stands : slice_get w.places t ≡ Some place
@@ -90,7 +101,11 @@ pub record Reaches {K V S D T A : Type 0} (w : State K V S D T A) (t : ℕ) (w' 
   pub locks : Shown
   pub ends : LockEnds t end.Owned w.locks locks
   pub after : w' ≡ record w {
-    places = slice_set w.places t (record place { holds = place.holds ++ record { shard = place.shard; mode = walk_mode walk } ∷ []; phase = entered_phase walk place.holds });
+    places = slice_set w.places t
+        (record place {
+          holds = place.holds ++ record { shard = place.shard; mode = walk_mode walk } ∷ [];
+          phase = entered_phase walk place.holds;
+        });
     locks = locks;
   }
 
@@ -102,7 +117,10 @@ pub record IsLocked {K V S D T A : Type 0} (w : State K V S D T A) (t : ℕ) (w'
   pub before : place.phase ≡ phase.Admit request
   pub locks : Shown
   pub ends : LockEnds t end.Refused w.locks locks
-  pub after : w' ≡ record w { places = slice_set w.places t (record place { phase = phase.Answer answer.Locked }); locks = locks }
+  pub after : w' ≡ record w {
+    places = slice_set w.places t (record place { phase = phase.Answer answer.Locked });
+    locks = locks;
+  }
 
 -- A walk that was to give no item has read nothing. It is part of the step of the answer.
 pub record GivesNone {K V S D T A : Type 0} (w : State K V S D T A) (t : ℕ) (w' : State K V S D T A) : Type 0 where
@@ -114,7 +132,8 @@ pub record GivesNone {K V S D T A : Type 0} (w : State K V S D T A) (t : ℕ) (w
   pub told : HasRead [] answer
   pub after : w' ≡ record w { places = slice_set w.places t (record place { phase = phase.Answer answer }) }
 
--- What a release or a downgrade owed to the lock is done, and its call there is answered. It is part of the step that comes next.
+-- What a release or a downgrade owed to the lock is done, and its call there is answered. It is part of the step that
+-- comes next.
 pub record Leaves {K V S D T A : Type 0} (w : State K V S D T A) (t : ℕ) (w' : State K V S D T A) : Type 0 where
   pub place : Place K V D T A
   pub stands : slice_get w.places t ≡ Some place
@@ -134,9 +153,11 @@ module _ {K V S D T A : Type 0} (x : Setup K V D T) (w : State K V S D T A) (s :
     pub rest : List (Ask K V D)
     pub asked : place.asks ≡ ask ∷ rest
     pub blocks : List (Block K)
-    pub counted : CountsCall w.blocks (start_counts (start_phase {T = T} {A = A} ask place.guard) place.block) place.next blocks
+    pub counted : CountsCall w.blocks (start_counts (start_phase {T = T} {A = A} ask place.guard) place.block)
+        place.next blocks
     pub locks : Shown
-    pub enters : EntersBy {T = T} {A = A} s.thread (start_shard x.route ask place.shard) (start_phase ask place.guard) w.locks locks
+    pub enters : EntersBy {T = T} {A = A} s.thread (start_shard x.route ask place.shard) (start_phase ask place.guard)
+        w.locks locks
     pub after : w' ≡ record (stepped w s (record place {
       asks = rest;
       started = Some (next_step w);
@@ -172,8 +193,8 @@ module _ {K V S D T A : Type 0} (x : Setup K V D T) (w : State K V S D T A) (s :
       phase = found_phase request (is_some (pair_of x.eq table.items (request_key request))) (has_room table);
     })) { blocks = blocks }
 
-  -- a find that grows the shard, which is full and has no pair of the key, and keeps its pairs; it leads where a find leads
-  -- that has room, and is the position of the block that it lists
+  -- a find that grows the shard, which is full and has no pair of the key, and keeps its pairs; it leads where a find
+  -- leads that has room, and is the position of the block that it lists
   pub record GrowsShard : Type 0 where
     pub place : Place K V D T A
     pub stands : slice_get w.places s.thread ≡ Some place
@@ -193,8 +214,8 @@ module _ {K V S D T A : Type 0} (x : Setup K V D T) (w : State K V S D T A) (s :
       phase = found_phase (request_of call) false true;
     })) { tables = slice_set w.tables place.shard grown; blocks = blocks }
 
-  -- a find whose growth is refused, of a shard that is full and has no pair of the key: no block is listed, the shard stays as
-  -- it is, and the call goes on to its release
+  -- a find whose growth is refused, of a shard that is full and has no pair of the key: no block is listed, the shard
+  -- stays as it is, and the call goes on to its release
   pub record IsRefusedGrowth : Type 0 where
     pub place : Place K V D T A
     pub stands : slice_get w.places s.thread ≡ Some place
@@ -219,7 +240,8 @@ module _ {K V S D T A : Type 0} (x : Setup K V D T) (w : State K V S D T A) (s :
     pub puts : Puts x.eq table changed key (Some (key, value))
     pub blocks : List (Block K)
     pub counted : CountsCall w.blocks place.block place.next blocks
-    pub after : w' ≡ record (stepped w s (record place { phase = phase.Release answer.None })) { tables = slice_set w.tables place.shard changed; blocks = blocks }
+    pub after : w' ≡ record (stepped w s (record place { phase = phase.Release answer.None }))
+        { tables = slice_set w.tables place.shard changed; blocks = blocks }
 
   -- a deed does with the found pair what the call does with it: its value is another, it goes, or it stays as it is
   pub record Applies : Type 0 where
@@ -235,7 +257,9 @@ module _ {K V S D T A : Type 0} (x : Setup K V D T) (w : State K V S D T A) (s :
     pub puts : Puts x.eq table changed (keyed_key call) (keyed_leaves x.deeds call (Some pair))
     pub blocks : List (Block K)
     pub counted : CountsCall w.blocks place.block place.next blocks
-    pub after : w' ≡ record (stepped w s (record place { phase = phase.Release (keyed_answer x.deeds call (Some pair)) })) { tables = slice_set w.tables place.shard changed; blocks = blocks }
+    pub after : w' ≡ record (stepped w s
+        (record place { phase = phase.Release (keyed_answer x.deeds call (Some pair)) }))
+        { tables = slice_set w.tables place.shard changed; blocks = blocks }
 
   -- a deed reads the found pair; it is the position of the block that it lists
   pub record Views : Type 0 where
@@ -250,7 +274,11 @@ module _ {K V S D T A : Type 0} (x : Setup K V D T) (w : State K V S D T A) (s :
     pub found : pair_of x.eq table.items key ≡ Some pair
     pub blocks : List (Block K)
     pub listed : ListsBlock w s.thread place (Some 1) blocks
-    pub after : w' ≡ record (stepped w s (record place { block = Some (length w.blocks); phase = phase.Release (answer.Read (x.deeds.answer deed pair.0 pair.1)) })) { blocks = blocks }
+    pub after : w' ≡ record (stepped w s
+        (record place {
+          block = Some (length w.blocks);
+          phase = phase.Release (answer.Read (x.deeds.answer deed pair.0 pair.1));
+        })) { blocks = blocks }
 
   -- a deed reads the guarded pair
   pub record Reads : Type 0 where
@@ -268,10 +296,11 @@ module _ {K V S D T A : Type 0} (x : Setup K V D T) (w : State K V S D T A) (s :
     pub found : pair_of x.eq table.items key ≡ Some pair
     pub blocks : List (Block K)
     pub counted : CountsCall w.blocks place.block place.next blocks
-    pub after : w' ≡ record (stepped w s (record place { phase = phase.Answer (answer.Read (x.deeds.answer deed pair.0 pair.1)) })) { blocks = blocks }
+    pub after : w' ≡ record (stepped w s
+        (record place { phase = phase.Answer (answer.Read (x.deeds.answer deed pair.0 pair.1)) })) { blocks = blocks }
 
-  -- a deed does with the guarded pair what the call does with it: its value or its key is another, or it goes, and the guard
-  -- ends or stays
+  -- a deed does with the guarded pair what the call does with it: its value or its key is another, or it goes, and the
+  -- guard ends or stays
   pub record Changes : Type 0 where
     pub place : Place K V D T A
     pub stands : slice_get w.places s.thread ≡ Some place
@@ -308,13 +337,14 @@ module _ {K V S D T A : Type 0} (x : Setup K V D T) (w : State K V S D T A) (s :
     pub puts : Puts x.eq table changed key (Some (key, value))
     pub blocks : List (Block K)
     pub counted : CountsCall w.blocks place.block place.next blocks
-    pub after : w' ≡ record (stepped w s (record place { guard = Some (guard.Pair way.Exclusive); phase = phase.Answer answer.Held })) {
-      tables = slice_set w.tables place.shard changed;
-      blocks = blocks;
-    }
+    pub after : w' ≡ record (stepped w s
+        (record place { guard = Some (guard.Pair way.Exclusive); phase = phase.Answer answer.Held })) {
+          tables = slice_set w.tables place.shard changed;
+          blocks = blocks;
+        }
 
-  -- a guard that held its shard alone shares it: the downgrade of the shard's lock begins and makes its first act, which leaves no moment
-  -- without a hold
+  -- a guard that held its shard alone shares it: the downgrade of the shard's lock begins and makes its first act,
+  -- which leaves no moment without a hold
   pub record Downgrades : Type 0 where
     pub place : Place K V D T A
     pub stands : slice_get w.places s.thread ≡ Some place
@@ -337,7 +367,8 @@ module _ {K V S D T A : Type 0} (x : Setup K V D T) (w : State K V S D T A) (s :
       blocks = blocks;
     }
 
-  -- a release ends the thread's hold, and its guard with it: the release of the shard's lock begins and makes its first act
+  -- a release ends the thread's hold, and its guard with it: the release of the shard's lock begins and makes its first
+  -- act
   pub record Releases : Type 0 where
     pub place : Place K V D T A
     pub stands : slice_get w.places s.thread ≡ Some place
@@ -350,7 +381,8 @@ module _ {K V S D T A : Type 0} (x : Setup K V D T) (w : State K V S D T A) (s :
     pub gives : LockStarts s.thread hold.shard (gives_up hold.mode) s.fair w.locks locks
     pub blocks : List (Block K)
     pub counted : CountsCall w.blocks (if is_some place.guard then place.block else None) place.next blocks
-    pub after : w' ≡ record (stepped w s (record place { holds = more; guard = None; phase = phase.Answer answer })) { locks = locks; blocks = blocks }
+    pub after : w' ≡ record (stepped w s (record place { holds = more; guard = None; phase = phase.Answer answer }))
+        { locks = locks; blocks = blocks }
 
   -- an answer carries the start into the reply
   pub record Answers : Type 0 where
@@ -372,10 +404,17 @@ module _ {K V S D T A : Type 0} (x : Setup K V D T) (w : State K V S D T A) (s :
       phase = phase.Rest;
     })) {
       blocks = blocks;
-      replies = w.replies ++ record { thread = s.thread; call = place.next; start = start; end = next_step w; answer = answer } ∷ [];
+      replies = w.replies ++ record {
+        thread = s.thread;
+        call = place.next;
+        start = start;
+        end = next_step w;
+        answer = answer;
+      } ∷ [];
     }
 
-  -- a walk gives back the shard that it has held longest: the release of the shard's lock begins and makes its first act
+  -- a walk gives back the shard that it has held longest: the release of the shard's lock begins and makes its first
+  -- act
   pub record GivesBack (from to : Walk D → Phase K V D T A) : Type 0 where
     pub place : Place K V D T A
     pub stands : slice_get w.places s.thread ≡ Some place
@@ -397,7 +436,8 @@ module _ {K V S D T A : Type 0} (x : Setup K V D T) (w : State K V S D T A) (s :
     pub out : stand_in w.locks s.thread ≡ None
     pub locks : Shown
     pub begins : LockBegins s.thread (place.shard + 1) (asks_for (walk_mode walk)) w.locks locks
-    pub after : w' ≡ record (stepped w s (record place { shard = place.shard + 1; phase = phase.Reach walk })) { locks = locks }
+    pub after : w' ≡ record (stepped w s (record place { shard = place.shard + 1; phase = phase.Reach walk }))
+        { locks = locks }
 
   -- a walk looks into the shard that is held now; it is the position of its visit's block, which it lists
   pub record LooksAround : Type 0 where
@@ -418,7 +458,9 @@ module _ {K V S D T A : Type 0} (x : Setup K V D T) (w : State K V S D T A) (s :
     pub listed : IsListedVisit w s.thread place (looked_keys walk table.items) block
     pub next : Phase K V D T A
     pub reads : List T
-    pub leads : LeadsOn walk (walk_ends x.shards walk place.shard (all_visited x.eq (looked_keys walk table.items) table.items) count) (all_visited x.eq (looked_keys walk table.items) table.items) place.reads count next reads
+    pub leads : LeadsOn walk
+        (walk_ends x.shards walk place.shard (all_visited x.eq (looked_keys walk table.items) table.items) count)
+        (all_visited x.eq (looked_keys walk table.items) table.items) place.reads count next reads
     pub after : w' ≡ record (stepped w s (record place {
       visits = place.visits ++ length w.blocks ∷ [];
       reads = reads;
@@ -426,7 +468,8 @@ module _ {K V S D T A : Type 0} (x : Setup K V D T) (w : State K V S D T A) (s :
       phase = next;
     })) { tables = slice_set w.tables place.shard behind; blocks = w.blocks ++ block ∷ [] }
 
-  -- a walk's look for which room is refused: its visit has no block, the shard stays as it is, and the walk goes on to its release
+  -- a walk's look for which room is refused: its visit has no block, the shard stays as it is, and the walk goes on to
+  -- its release
   pub record IsRefusedVisit : Type 0 where
     pub place : Place K V D T A
     pub stands : slice_get w.places s.thread ≡ Some place
@@ -468,54 +511,65 @@ module _ {K V S D T A : Type 0} (x : Setup K V D T) (w : State K V S D T A) (s :
     pub visited : VisitsKey pair.0 block grown
     pub next : Phase K V D T A
     pub reads : List T
-    pub leads : LeadsOn walk (walk_ends x.shards walk place.shard (all_visited x.eq grown.visited.items changed.items) (saturated (place.count + 1))) (all_visited x.eq grown.visited.items changed.items) (place.reads ++ visit_reads x.deeds walk (Some pair)) (saturated (place.count + 1)) next reads
-    pub after : w' ≡ record (stepped w s (record place { reads = reads; count = saturated (place.count + 1); phase = next })) {
-      tables = slice_set w.tables place.shard changed;
-      blocks = slice_set w.blocks index grown;
-    }
+    pub leads : LeadsOn walk
+        (walk_ends x.shards walk place.shard (all_visited x.eq grown.visited.items changed.items)
+        (saturated (place.count + 1))) (all_visited x.eq grown.visited.items changed.items)
+        (place.reads ++ visit_reads x.deeds walk (Some pair)) (saturated (place.count + 1)) next reads
+    pub after : w' ≡ record (stepped w s
+        (record place { reads = reads; count = saturated (place.count + 1); phase = next })) {
+          tables = slice_set w.tables place.shard changed;
+          blocks = slice_set w.blocks index grown;
+        }
 
 -- a find for which the shard has to grow: it grows, or that is refused
 abbrev pub Grows : {K V S D T A : Type 0} → Setup K V D T → State K V S D T A → Step → State K V S D T A → Type 0
 Grows x w s w' = GrowsShard x w s w' ⊎ IsRefusedGrowth x w s w'
 
 -- a find: the admission before it ends with it
-pub record Looks {K V S D T A : Type 0} (x : Setup K V D T) (w : State K V S D T A) (s : Step) (w' : State K V S D T A) : Type 0 where
+pub record Looks {K V S D T A : Type 0} (x : Setup K V D T) (w : State K V S D T A) (s : Step)
+    (w' : State K V S D T A) : Type 0 where
   pub mid : State K V S D T A
   pub enters : (mid ≡ w) ⊎ Enters w s.thread mid
   pub finds : Finds x mid s w'
 
--- what ends with the step of an answer: what was owed to a lock, a try that could not have its shard, or a walk that was to give no item
+-- what ends with the step of an answer: what was owed to a lock, a try that could not have its shard, or a walk that
+-- was to give no item
 pub data Concludes {K V S D T A : Type 0} (w : State K V S D T A) (t : ℕ) (w' : State K V S D T A) : Type 0 where
   owed : Leaves w t w' → Concludes w t w'
   locked : IsLocked w t w' → Concludes w t w'
   idle : GivesNone w t w' → Concludes w t w'
 
 -- an answer: what was owed to a lock before it ends with it
-pub record Replies {K V S D T A : Type 0} (x : Setup K V D T) (w : State K V S D T A) (s : Step) (w' : State K V S D T A) : Type 0 where
+pub record Replies {K V S D T A : Type 0} (x : Setup K V D T) (w : State K V S D T A) (s : Step)
+    (w' : State K V S D T A) : Type 0 where
   pub mid : State K V S D T A
   pub leaves : (mid ≡ w) ⊎ Concludes w s.thread mid
   pub answers : Answers x mid s w'
 
 -- a walk parts with the last shard: the admission to the next one before it ends with it
-pub record Parts {K V S D T A : Type 0} (x : Setup K V D T) (w : State K V S D T A) (s : Step) (w' : State K V S D T A) : Type 0 where
+pub record Parts {K V S D T A : Type 0} (x : Setup K V D T) (w : State K V S D T A) (s : Step)
+    (w' : State K V S D T A) : Type 0 where
   pub mid : State K V S D T A
   pub enters : (mid ≡ w) ⊎ Reaches w s.thread mid
   pub gives : GivesBack x mid s w' phase.Part phase.Visit
 
 -- a visit begins: the admission before it, or what was owed to the last shard's lock, ends with it
-pub record Visits {K V S D T A : Type 0} (x : Setup K V D T) (w : State K V S D T A) (s : Step) (w' : State K V S D T A) : Type 0 where
+pub record Visits {K V S D T A : Type 0} (x : Setup K V D T) (w : State K V S D T A) (s : Step)
+    (w' : State K V S D T A) : Type 0 where
   pub mid : State K V S D T A
   pub enters : (mid ≡ w) ⊎ (Reaches w s.thread mid ⊎ Leaves w s.thread mid)
   pub looks : LooksAround x mid s w' ⊎ IsRefusedVisit x mid s w'
 
 -- a walk goes on to its next shard: what was owed to the last one's lock ends with it
-pub record GoesOn {K V S D T A : Type 0} (x : Setup K V D T) (w : State K V S D T A) (s : Step) (w' : State K V S D T A) : Type 0 where
+pub record GoesOn {K V S D T A : Type 0} (x : Setup K V D T) (w : State K V S D T A) (s : Step)
+    (w' : State K V S D T A) : Type 0 where
   pub mid : State K V S D T A
   pub leaves : (mid ≡ w) ⊎ Leaves w s.thread mid
   pub starts : StartsVisit x mid s w'
 
 -- one step of a world, of one kind
-pub data IsStep {K V S D T A : Type 0} (x : Setup K V D T) (w : State K V S D T A) (s : Step) (w' : State K V S D T A) : Type 0 where
+pub data IsStep {K V S D T A : Type 0} (x : Setup K V D T) (w : State K V S D T A) (s : Step)
+    (w' : State K V S D T A) : Type 0 where
   start : Starts x w s w' → IsStep x w s w'
   lock : MovesLock x w s w' → IsStep x w s w'
   find : Looks x w s w' → IsStep x w s w'

@@ -1,5 +1,6 @@
 -- How a walk goes from shard to shard.
-use Rattle.std.specs.Prelude.{◌≡◌, ℕ, ◌+◌, ◌-◌, ◌≤◌, ◌==◌, Bool, true, false, not, ◌&&◌, ◌||◌, if◌then◌else◌, List, [], ◌∷◌, length, map, Option, Some, None}
+use Rattle.std.specs.Prelude.{◌≡◌, ℕ, ◌+◌, ◌-◌, ◌≤◌, ◌==◌, Bool, true, false, not, ◌&&◌, ◌||◌, if◌then◌else◌, List, []}
+use Rattle.std.specs.Prelude.{◌∷◌, length, map, Option, Some, None}
 use Rattle.std.specs.List.{list_any, list_all}
 use Rattle.mapworld_calls.specs.declared.ask.Walk.{Walk}
 use Rattle.mapworld_calls.specs.declared.ask.Walk.TheVariants as walk
@@ -67,8 +68,8 @@ is_visited eq keys q = list_any (λ k. eq k q) keys
 abbrev pub all_visited : {K V : Type 0} → (K → K → Bool) → List K → List (K × V) → Bool
 all_visited eq keys pairs = list_all (λ p. is_visited eq keys p.0) pairs
 
--- The keys that a look does at once, and what it adds to the walk's number where the shard has room for m pairs: a walk that counts does all of
--- the shard; one that gives items does none yet.
+-- The keys that a look does at once, and what it adds to the walk's number where the shard has room for m pairs: a walk
+-- that counts does all of the shard; one that gives items does none yet.
 abbrev pub looked_keys : {K V D : Type 0} → Walk D → List (K × V) → List K
 looked_keys f pairs = if gives_items f then [] else map (λ p. p.0) pairs
 
@@ -82,7 +83,8 @@ IsLookedAt eq walk.ShrinkToFit old new = Shrunk eq old new
 IsLookedAt eq f old new = new ≡ old
 
 -- what a walk leaves of the shard at a pair
-abbrev pub IsItemOf : {D K V T : Type 0} → Deeds D K V T → (K → K → Bool) → Walk D → ShardPairs K V → ShardPairs K V → K × V → Type 0
+abbrev pub IsItemOf : {D K V T : Type 0} → Deeds D K V T → (K → K → Bool) → Walk D → ShardPairs K V → ShardPairs K V → K
+    × V → Type 0
 IsItemOf deeds eq (walk.Iter d stop) old new pair = new ≡ old
 IsItemOf deeds eq f old new pair = Puts eq old new pair.0 (visit_leaves deeds f (Some pair))
 
@@ -103,8 +105,10 @@ IsTold f reads n a = a ≡ answer.Done
 abbrev pub behind_visit : {K V D T A : Type 0} → Walk D → Phase K V D T A
 behind_visit f = if hands_over f then phase.Onward f else phase.Give f
 
--- Where a look or a deed leads: to the walk's end, to the next pair of the shard, or to the next shard; and what of its reads the place keeps.
+-- Where a look or a deed leads: to the walk's end, to the next pair of the shard, or to the next shard; and what of its
+-- reads the place keeps.
 abbrev pub LeadsOn : {K V D T A : Type 0} → Walk D → (ends done : Bool) → List T → ℕ → Phase K V D T A → List T → Type 0
-LeadsOn {K} {V} {D} {T} {A} f true done reads n next kept = (a : Answer K V T A) × IsTold f reads n a × (next ≡ phase.Release a) × (kept ≡ [])
+LeadsOn {K} {V} {D} {T} {A} f true done reads n next kept = (a : Answer K V T A) × IsTold f reads n a
+    × (next ≡ phase.Release a) × (kept ≡ [])
 LeadsOn f false true reads n next kept = (next ≡ behind_visit f) × (kept ≡ reads)
 LeadsOn f false false reads n next kept = (next ≡ phase.Seek f) × (kept ≡ reads)

@@ -70,10 +70,11 @@ pub enum Phase<K, V, D, T, A: Allocator> {
     Idle(Walk<D>),
     /// A walk's admission to its next shard, by the shard's lock; the last one may be held beside.
     Reach(Walk<D>),
-    /// The last shard is given back, where the next one is held. It is part of a step that ends an admission: no thread stays
-    /// before it.
+    /// The last shard is given back, where the next one is held. It is part of a step that ends an admission: no thread
+    /// stays before it.
     Part(Walk<D>),
-    /// The look into the held shard with which a visit begins; and before that what is still owed to the last shard's lock.
+    /// The look into the held shard with which a visit begins; and before that what is still owed to the last shard's
+    /// lock.
     Visit(Walk<D>),
     /// A pair of the visit is found that isn't done.
     Seek(Walk<D>),
@@ -104,8 +105,8 @@ pub struct Place<K, V, D, T, A: Allocator> {
     pub shard: usize,
     /// The slot of its shard at which the pair stands that its call has found or its guard lends, while there is one.
     pub slot: usize,
-    /// Its holds, from the admission to the release: two at the most, as a walk has that takes the next shard before it gives the last one
-    /// back.
+    /// Its holds, from the admission to the release: two at the most, as a walk has that takes the next shard before it
+    /// gives the last one back.
     pub holds: ArrayVec<Hold, 2>,
     /// The block of its call or session, from the position on.
     pub block: Option<usize>,
@@ -115,9 +116,11 @@ pub struct Place<K, V, D, T, A: Allocator> {
     pub visits: Vec<usize, A>,
     /// What its walk has read so far.
     pub reads: Vec<T, A>,
-    /// Empty lists for the walks that still are to be answered with one, since a list takes an allocator and an answer can't be refused.
+    /// Empty lists for the walks that still are to be answered with one, since a list takes an allocator and an answer
+    /// can't be refused.
     pub lists: Vec<Vec<T, A>, A>,
-    /// How many pairs its walk has done or counted so far, or for how many its shards have room; at most the greatest number.
+    /// How many pairs its walk has done or counted so far, or for how many its shards have room; at most the greatest
+    /// number.
     pub count: usize,
     pub phase: Phase<K, V, D, T, A>,
 }

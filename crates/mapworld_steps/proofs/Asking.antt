@@ -1,5 +1,6 @@
 -- What a thread may ask of a shard's lock: for the lock where it has no hold, and to give it up where it has one.
-use Rattle.std.proofs.Common.{◌≡◌, ◌≢◌, ◌⊎◌, ⊎_elim, ℕ, ◌<◌, inl, inr, Bool, true, false, List, [], Option, Some, None, slice_get, refl, sym, ap, ◌∙◌, subst}
+use Rattle.std.proofs.Common.{◌≡◌, ◌≢◌, ◌⊎◌, ⊎_elim, ℕ, ◌<◌, inl, inr, Bool, true, false, List, [], Option, Some, None}
+use Rattle.std.proofs.Common.{slice_get, refl, sym, ap, ◌∙◌, subst}
 use Rattle.std.proofs.lemmas.Option.{none-some}
 use Rattle.std.proofs.lemmas.Bool.{false≢true}
 use Rattle.dashmap_table.proofs.Cases.{option_cases}
@@ -25,7 +26,8 @@ use Rattle.mapworld_state.proofs.HoldsTable.{none-there}
 use Rattle.mapworld_state.proofs.LocksFacts.Sizes.{KeepsSize, same_size, begins-size}
 
 -- what is asked of a lock, and what it needs
-asked-needs : (tries : Bool) (mode : Mode) → (is_of_shards (wants_for tries mode) ≡ true) × (needs (wants_for tries mode) ≡ None)
+asked-needs : (tries : Bool) (mode : Mode) → (is_of_shards (wants_for tries mode) ≡ true)
+    × (needs (wants_for tries mode) ≡ None)
 asked-needs false Shared = (refl, refl)
 asked-needs false Exclusive = (refl, refl)
 asked-needs true Shared = (refl, refl)
@@ -39,10 +41,13 @@ pub given-gives : (mode : Mode) → gives (gives_up mode) ≡ true
 given-gives Shared = refl
 given-gives Exclusive = refl
 
-module _ {K V D T A : Type 0} {places : List (Place K V D T A)} {locks : Shown} (match : HoldsMatch places locks) (threads shards : ℕ) (sizes : AreLocksOf threads shards locks)
-    (t : ℕ) (p : Place K V D T A) (here : slice_get places t ≡ Some p) (within : t < threads) (out : stand_in locks t ≡ None) where
+module _ {K V D T A : Type 0} {places : List (Place K V D T A)} {locks : Shown} (match : HoldsMatch places locks)
+    (threads shards : ℕ) (sizes : AreLocksOf threads shards locks)
+    (t : ℕ) (p : Place K V D T A) (here : slice_get places t ≡ Some p) (within : t < threads)
+    (out : stand_in locks t ≡ None) where
   -- without a hold of a shard, and in no call, it doesn't own its lock
-  owns-nothing : (shard : ℕ) → ((i : ℕ) (h : Hold) → slice_get p.holds i ≡ Some h → h.shard ≢ shard) → owner_in locks shard t ≡ None
+  owns-nothing : (shard : ℕ) → ((i : ℕ) (h : Hold) → slice_get p.holds i ≡ Some h → h.shard ≢ shard)
+      → owner_in locks shard t ≡ None
   owns-nothing shard apart = elim (option_cases (owner_in locks shard t)) [
     | inl free ↦ free
     | inr owns ↦ elim (match.known t shard p owns.0 here owns.1) [
@@ -51,7 +56,8 @@ module _ {K V D T A : Type 0} {places : List (Place K V D T A)} {locks : Shown} 
     ]
   ]
 
-  pub may-enter : (shard : ℕ) → ((i : ℕ) (h : Hold) → slice_get p.holds i ≡ Some h → h.shard ≢ shard) → shard < shards → (tries : Bool) (mode : Mode) → MayAsk t shard (wants_for tries mode) locks
+  pub may-enter : (shard : ℕ) → ((i : ℕ) (h : Hold) → slice_get p.holds i ≡ Some h → h.shard ≢ shard) → shard < shards
+      → (tries : Bool) (mode : Mode) → MayAsk t shard (wants_for tries mode) locks
   may-enter shard apart fits tries mode = record {
     thread = subst (λ n. t < n) (sym sizes.threads_are) within;
     there = subst (λ n. shard < n) (sym sizes.shards_are) fits;
@@ -107,7 +113,8 @@ is_out (phase.Onward f) = false
 is_out (phase.Release a) = true
 is_out (phase.Answer a) = false
 
-stands-out : {K V D T A : Type 0} (p : Place K V D T A) (f : Phase K V D T A) (stand : Option Stand) → is_out f ≡ true → StandsBefore p f stand → stand ≡ None
+stands-out : {K V D T A : Type 0} (p : Place K V D T A) (f : Phase K V D T A) (stand : Option Stand) → is_out f ≡ true
+    → StandsBefore p f stand → stand ≡ None
 stands-out p phase.Rest stand e h = h
 stands-out p (phase.Admit r) stand e h = absurd (false≢true e)
 stands-out p (phase.Find r) stand e h = h
@@ -130,15 +137,19 @@ stands-out p (phase.Onward f) stand e h = absurd (false≢true e)
 stands-out p (phase.Release a) stand e h = h
 stands-out p (phase.Answer a) stand e h = absurd (false≢true e)
 
-pub out-of-call : {K V D T A : Type 0} {places : List (Place K V D T A)} {locks : Shown} → HoldsMatch places locks → (t : ℕ) (p : Place K V D T A) → slice_get places t ≡ Some p
+pub out-of-call : {K V D T A : Type 0} {places : List (Place K V D T A)} {locks : Shown} → HoldsMatch places locks
+    → (t : ℕ) (p : Place K V D T A) → slice_get places t ≡ Some p
     → (f : Phase K V D T A) → p.phase ≡ f → is_out f ≡ true → stand_in locks t ≡ None
 out-of-call {K} {V} {D} {T} {A} {locks = locks} match t p here f before out =
-    stands-out p f (stand_in locks t) out (subst (λ (z : Phase K V D T A). StandsBefore p z (stand_in locks t)) before (match.stands t p here))
+    stands-out p f (stand_in locks t) out
+    (subst (λ (z : Phase K V D T A). StandsBefore p z (stand_in locks t)) before (match.stands t p here))
 
 -- a start's locks have the sizes that they had
-pub enters-size : {K V D T A : Type 0} (locks locks' : Shown) (t shard : ℕ) (f : Phase K V D T A) → EntersBy t shard f locks locks' → KeepsSize locks locks'
+pub enters-size : {K V D T A : Type 0} (locks locks' : Shown) (t shard : ℕ) (f : Phase K V D T A)
+    → EntersBy t shard f locks locks' → KeepsSize locks locks'
 enters-size locks locks' t shard phase.Rest h = rw h same_size
-enters-size locks locks' t shard (phase.Admit r) h = begins-size locks locks' t shard (wants_for (request_tries r) (mode_of r)) h
+enters-size locks locks' t shard (phase.Admit r) h = begins-size locks locks' t shard
+    (wants_for (request_tries r) (mode_of r)) h
 enters-size locks locks' t shard (phase.Reach f) h = begins-size locks locks' t shard (asks_for (walk_mode f)) h
 enters-size locks locks' t shard (phase.Idle f) h = rw h same_size
 enters-size locks locks' t shard (phase.Part f) h = rw h same_size

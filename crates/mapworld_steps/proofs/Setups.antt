@@ -8,7 +8,8 @@ use Rattle.mapworld_state.specs.State.{State}
 use Rattle.mapworld_state.specs.Steps.{Enters, Reaches, IsLocked, GivesNone, Leaves}
 use Rattle.mapworld_state.specs.World.{setup_of}
 
-module _ {K V S H D T A : Type 0} (d : deed.Ghosts D K V T) (b : builder.Ghosts S H) (h : hasher.Ghosts H) (eq : K → K → Bool) (writes : K → HashWrites) (w mid : State K V S D T A) (t : ℕ) where
+module _ {K V S H D T A : Type 0} (d : deed.Ghosts D K V T) (b : builder.Ghosts S H) (h : hasher.Ghosts H)
+    (eq : K → K → Bool) (writes : K → HashWrites) (w mid : State K V S D T A) (t : ℕ) where
   pub setup-entered : Enters w t mid → setup_of d b h eq writes mid ≡ setup_of d b h eq writes w
   setup-entered e = ap (λ (v : State K V S D T A). setup_of d b h eq writes v) e.after
 

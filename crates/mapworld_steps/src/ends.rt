@@ -24,7 +24,14 @@ fn leave_call<K, V, D, T, A: Allocator>(place: &mut Place<K, V, D, T, A>) -> Ans
     ensures answer { place.old.phase ≡ phase.Answer result }
     ensures none { place.new.visits.items ≡ [] }
     ensures capacity { vec_capacity place.new.visits ≡ vec_capacity place.old.visits }
-    ensures after { place.new ≡ record place.old { next = place.old.next + 1; started = None; block = if place.old.closes then None else place.old.block; visits = place.new.visits; count = 0; phase = phase.Rest } }
+    ensures after { place.new ≡ record place.old {
+      next = place.old.next + 1;
+      started = None;
+      block = if place.old.closes then None else place.old.block;
+      visits = place.new.visits;
+      count = 0;
+      phase = phase.Rest;
+    } }
 {
     place.next += 1;
     place.started = None;
@@ -42,7 +49,8 @@ fn leave_call<K, V, D, T, A: Allocator>(place: &mut Place<K, V, D, T, A>) -> Ans
 /// Lets the first of these holds share its shard, and answers it as it was.
 fn share_first(holds: &mut ArrayVec<Hold, 2>) -> Hold
     requires { (hold : _) × (more : _) × (holds.old.items ≡ hold ∷ more) }
-    ensures { (more : _) × (holds.old.items ≡ result ∷ more) × (holds.new.items ≡ record result { mode = Mode.Shared } ∷ more) }
+    ensures { (more : _) × (holds.old.items ≡ result ∷ more)
+        × (holds.new.items ≡ record result { mode = Mode.Shared } ∷ more) }
 {
     let first = &mut holds[0];
     let hold = *first;
@@ -58,7 +66,8 @@ pub(crate) fn take_first(holds: &mut ArrayVec<Hold, 2>) -> Hold
     holds.remove(0)
 }
 
-/// The step by which a guard that holds its shard alone shares it: the downgrade of the shard's lock begins, and makes its first act.
+/// The step by which a guard that holds its shard alone shares it: the downgrade of the shard's lock begins, and makes
+/// its first act.
 pub(crate) fn downgrade<
     K: Eq + Hash + Drop,
     V: Drop,

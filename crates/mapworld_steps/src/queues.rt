@@ -98,8 +98,8 @@ fn refuse_try<K: Eq + Hash + Drop, V: Drop, S: BuildHasher, D: Deed<K, V> + Drop
     core.locks.finish(thread);
 }
 
-/// A step of a thread that waits for its shard: one of the lock's call, or where that is over the look, or of a try that could not have its
-/// shard the answer.
+/// A step of a thread that waits for its shard: one of the lock's call, or where that is over the look, or of a try
+/// that could not have its shard the answer.
 pub(crate) fn admit<
     K: Eq + Hash + Drop,
     V: Drop,
@@ -141,7 +141,8 @@ pub(crate) fn leave_lock<
     requires sound { IsSoundCore D.Deed S.BuildHasher S.Hasher.Hasher K.eq K.hash_input core.old }
     requires room { Room core.old }
     requires slots { IsSlotted D.Deed S.BuildHasher S.Hasher.Hasher K.eq K.hash_input core.old }
-    requires owes { (place : _) × (slice_get (state_of core.old).places thread ≡ Some place) × (owes_in (class_of place.phase) ≡ true) }
+    requires owes { (place : _) × (slice_get (state_of core.old).places thread ≡ Some place)
+        × (owes_in (class_of place.phase) ≡ true) }
     requires over { is_some (ended (state core.old.locks.rows) thread) ≡ true }
     ensures leaves { Leaves (state_of core.old) thread (state_of core.new) }
     ensures sound { IsSoundCore D.Deed S.BuildHasher S.Hasher.Hasher K.eq K.hash_input core.new }

@@ -29,8 +29,10 @@ fn ask_for_shard<K, V, D, T, A: Allocator>(
     shard: usize,
     next: &Phase<K, V, D, T, A>,
 )
-    requires admit { (request : _) → next.now ≡ phase.Admit request → MayAsk thread shard (wants_for (request_tries request) (mode_of request)) locks.old }
-    requires reach { (walk : _) → next.now ≡ phase.Reach walk → MayAsk thread shard (asks_for (walk_mode walk)) locks.old }
+    requires admit { (request : _) → next.now ≡ phase.Admit request
+        → MayAsk thread shard (wants_for (request_tries request) (mode_of request)) locks.old }
+    requires reach { (walk : _) → next.now ≡ phase.Reach walk → MayAsk thread shard (asks_for (walk_mode walk))
+        locks.old }
     ensures { EntersBy thread shard next.now locks.old locks.new }
 {
     match next {

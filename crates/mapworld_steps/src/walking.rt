@@ -19,8 +19,8 @@ use std::alloc::Allocator;
 use std::hash::{BuildHasher, Hash};
 use std::mem;
 
-/// Ends an admission of a walk: the lock's call is answered, and the place has the hold. Whether it has the last shard beside. It is part of the
-/// step that comes next.
+/// Ends an admission of a walk: the lock's call is answered, and the place has the hold. Whether it has the last shard
+/// beside. It is part of the step that comes next.
 fn reach_shard<K: Eq + Hash + Drop, V: Drop, S: BuildHasher, D: Deed<K, V> + Drop, A: Allocator>(
     core: &mut Core<K, V, S, D, D::Answer, A>,
     thread: usize,
@@ -57,7 +57,8 @@ fn reach_shard<K: Eq + Hash + Drop, V: Drop, S: BuildHasher, D: Deed<K, V> + Dro
     beside
 }
 
-/// A step of a walk that waits for its next shard: one of the lock's call, or where that is over the release of the last shard, or the look.
+/// A step of a walk that waits for its next shard: one of the lock's call, or where that is over the release of the
+/// last shard, or the look.
 pub(crate) fn reach<
     K: Eq + Hash + Drop,
     V: Drop,
@@ -112,7 +113,8 @@ pub(crate) fn visit<
     }
 }
 
-/// A step of a walk between two visits: one of what it still owes to the last shard's lock, or the start of the next visit.
+/// A step of a walk between two visits: one of what it still owes to the last shard's lock, or the start of the next
+/// visit.
 pub(crate) fn onward<
     K: Eq + Hash + Drop,
     V: Drop,

@@ -27,8 +27,10 @@ use std::mem;
 /// The first of these holds ends: the release of its shard's lock begins, and makes its first act.
 fn give_first<A: Allocator>(locks: &mut ShardLocks<A>, holds: &mut ArrayVec<Hold, 2>, step: Step)
     requires first { (hold : _) × (more : _) × (holds.old.items ≡ hold ∷ more) }
-    requires may { (hold : _) (more : _) → holds.old.items ≡ hold ∷ more → MayAsk step.thread hold.shard (gives_up hold.mode) locks.old }
-    ensures { (hold : _) × (holds.old.items ≡ hold ∷ holds.new.items) × LockStarts step.thread hold.shard (gives_up hold.mode) step.fair locks.old locks.new }
+    requires may { (hold : _) (more : _) → holds.old.items ≡ hold ∷ more
+        → MayAsk step.thread hold.shard (gives_up hold.mode) locks.old }
+    ensures { (hold : _) × (holds.old.items ≡ hold ∷ holds.new.items)
+        × LockStarts step.thread hold.shard (gives_up hold.mode) step.fair locks.old locks.new }
 {
     let hold = take_first(holds);
     locks.start(step.thread, hold.shard, gives_up(hold.mode), step.fair);
@@ -162,7 +164,8 @@ pub(crate) fn look<
     requires numbers { has_next (state_of core.old) ≡ true }
     requires before { (walk : _) × IsBefore (state_of core.old).places step.thread (phase.Visit walk) }
     requires out { stand_in (state_of core.old).locks step.thread ≡ None }
-    ensures step { MakesStep LooksOrIsRefused D.Deed S.BuildHasher S.Hasher.Hasher K.eq K.hash_input core.old step core.new }
+    ensures step { MakesStep LooksOrIsRefused D.Deed S.BuildHasher S.Hasher.Hasher K.eq K.hash_input core.old step
+        core.new }
     ensures room { Room core.new }
     ensures slots { IsSlotted D.Deed S.BuildHasher S.Hasher.Hasher K.eq K.hash_input core.new }
 {

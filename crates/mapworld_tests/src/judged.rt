@@ -33,7 +33,8 @@ fn contents<S: BuildHasher, A: Allocator>(
     Ok(pairs)
 }
 
-/// What the world shows now, behind steps of these threads; none where a block doesn't show the end of its call exactly where that is answered.
+/// What the world shows now, behind steps of these threads; none where a block doesn't show the end of its call exactly
+/// where that is answered.
 pub fn shown_now<S: BuildHasher, A: Allocator>(
     alloc: Global,
     world: &World<S, A>,
@@ -71,7 +72,8 @@ pub fn is_at_rest<S: BuildHasher, A: Allocator + Clone + Drop>(
         && (0..shards).all(|shard| world.word(shard) == 0)
 }
 
-/// The rule that a world at its end breaks, or broke at a moment before, if it breaks one. Its keys are below that number.
+/// The rule that a world at its end breaks, or broke at a moment before, if it breaks one. Its keys are below that
+/// number.
 pub fn broken<S: BuildHasher, A: Allocator + Clone + Drop>(
     made: Made<'_, Change>,
     world: &World<S, A>,

@@ -1,5 +1,5 @@
-//! Worlds whose memory ends: on heaps of all small sizes, and on heaps from which all that is left is taken at one step, or while they are
-//! drained; so each growth is refused once.
+//! Worlds whose memory ends: on heaps of all small sizes, and on heaps from which all that is left is taken at one
+//! step, or while they are drained; so each growth is refused once.
 
 use super::judged::{at_first, broken, is_at_rest};
 use super::worlds::{
@@ -39,8 +39,8 @@ fn hoard<'h>(
     Ok(pieces)
 }
 
-/// Steps thread 0 into its first call, where it holds its shard, and thread 1 until it can't go on; then both to their ends. Says whether thread 1
-/// slept between, and both are finished.
+/// Steps thread 0 into its first call, where it holds its shard, and thread 1 until it can't go on; then both to their
+/// ends. Says whether thread 1 slept between, and both are finished.
 fn runs_to_the_end(world: &mut Small<'_>) -> bool {
     // Start, load and exchange: the shard is thread 0's.
     let is_begun = step_times(world, 0, 3) & step_through(world, 1);
@@ -56,7 +56,8 @@ fn value_of(world: &Small<'_>, key: u64) -> Option<u64> {
     }
 }
 
-/// Programs of two threads, and what their calls are answered where the first one's growth is refused, and where it isn't.
+/// Programs of two threads, and what their calls are answered where the first one's growth is refused, and where it
+/// isn't.
 #[derive(Clone, Copy)]
 struct Refused {
     programs: &'static str,
@@ -173,7 +174,8 @@ fn next_thread(world: &Small<'_>, last: usize) -> Option<usize> {
         .find(|thread| world.can_move(*thread))
 }
 
-/// Steps the threads in turn up to so many steps, and gives who made the last one; none where a step of a thread that can move isn't done.
+/// Steps the threads in turn up to so many steps, and gives who made the last one; none where a step of a thread that
+/// can move isn't done.
 fn step_some(world: &mut Small<'_>, steps: u64) -> Option<usize> {
     let mut thread = 0;
     for _ in 0..steps {
@@ -199,7 +201,8 @@ fn step_next(world: &mut Small<'_>, last: Option<usize>) -> bool {
     }
 }
 
-/// Runs the world to its end, without memory when that is to be; and says whether all steps of threads that can move were done.
+/// Runs the world to its end, without memory when that is to be; and says whether all steps of threads that can move
+/// were done.
 fn run_without(
     alloc: Global,
     heap: &LocalHeap,

@@ -1,4 +1,5 @@
-//! Random programs of random threads, run by random steps to a random moment and drained from there, beside the plain map.
+//! Random programs of random threads, run by random steps to a random moment and drained from there, beside the plain
+//! map.
 
 use super::judged::{broken, shown_now};
 use super::programs::{KEYS, KINDS, Random, Shape, pairs, programs};
@@ -59,7 +60,8 @@ fn is_alone<S: BuildHasher>(world: &World<S>, key: u64) -> bool {
     count == 1
 }
 
-/// Whether each pair is the one that its key finds, which is looked for on the key's shard alone, and no two have equal keys.
+/// Whether each pair is the one that its key finds, which is looked for on the key's shard alone, and no two have equal
+/// keys.
 fn pairs_are_placed<S: BuildHasher>(world: &World<S>, shards: usize) -> bool {
     world.pairs().all(|pair| {
         let is_found = world.shard_of(pair.0) < shards && world.pair(pair.0) == Some(pair);

@@ -45,8 +45,8 @@ fn pairs_of<A: Allocator>(
     Ok(copy)
 }
 
-/// A world of so many shards that begins with these pairs, and has a thread for each of the programs; all is in one memory. None where it isn't
-/// made.
+/// A world of so many shards that begins with these pairs, and has a thread for each of the programs; all is in one
+/// memory. None where it isn't made.
 pub fn world_of<S: BuildHasher + Drop, A: Allocator + Copy + Drop>(
     alloc: A,
     shards: usize,

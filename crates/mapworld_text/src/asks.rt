@@ -24,7 +24,8 @@ fn stored<'w, 'a>(words: &'w [&'a str]) -> Result<(Change, &'w [&'a str]), Expec
     }
 }
 
-/// What is done with a pair: what is stored, and then which pairs are kept. Where nothing is told, values stay and pairs are kept.
+/// What is done with a pair: what is stored, and then which pairs are kept. Where nothing is told, values stay and
+/// pairs are kept.
 fn deed(words: &[&str]) -> Result<Change, Expected> {
     let (change, rest) = stored(words)?;
     match *rest {

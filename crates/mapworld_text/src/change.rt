@@ -2,8 +2,8 @@
 
 use mapworld_calls::Deed;
 
-/// Reads a pair, key and value; stores its value times a number and one more number, cut to the width; and keeps the pair where its value is
-/// in a range.
+/// Reads a pair, key and value; stores its value times a number and one more number, cut to the width; and keeps the
+/// pair where its value is in a range.
 #[derive(Clone, Copy, Debug)]
 pub struct Change {
     pub times: u64,

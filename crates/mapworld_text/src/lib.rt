@@ -1,4 +1,5 @@
-//! Worlds of maps as text: the reader of programs, schedules and what is to be seen, and the printer of what calls are answered.
+//! Worlds of maps as text: the reader of programs, schedules and what is to be seen, and the printer of what calls are
+//! answered.
 //!
 //! What may stand in a text is told in `README.md`.
 #![tactic(auto)]

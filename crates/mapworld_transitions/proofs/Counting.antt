@@ -12,7 +12,8 @@ module _ {K V D : Type 0} (pairs : List (K × V)) (m : ℕ) where
   counts-none walk.ShrinkToFit h = absurd (cc)
   counts-none f h = refl
 
-  pub counts-all : (f : Walk D) → gives_items f ≡ false → (f ≡ walk.Capacity → ⊥) → looked_count f pairs m ≡ length pairs
+  pub counts-all : (f : Walk D) → gives_items f ≡ false → (f ≡ walk.Capacity → ⊥)
+      → looked_count f pairs m ≡ length pairs
   counts-all (walk.Iter d stop) h other = absurd (cc)
   counts-all (walk.IterMut d stop) h other = absurd (cc)
   counts-all (walk.Retain d) h other = absurd (cc)

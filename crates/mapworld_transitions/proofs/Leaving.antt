@@ -1,5 +1,6 @@
 -- The pair in a place's slot, and what deeds leave there.
-use Rattle.std.proofs.Common.{◌≡◌, ℕ, ◌+◌, Bool, true, false, not, if◌then◌else◌, List, map, get_or, Option, Some, None, IsSome, IfSome, is_some, slice_get, refl, sym, ap, ◌∙◌, subst}
+use Rattle.std.proofs.Common.{◌≡◌, ℕ, ◌+◌, Bool, true, false, not, if◌then◌else◌, List, map, get_or, Option, Some, None}
+use Rattle.std.proofs.Common.{IsSome, IfSome, is_some, slice_get, refl, sym, ap, ◌∙◌, subst}
 use Rattle.std.specs.Cmp.{IsEquivalence}
 use Rattle.std.proofs.lemmas.Option.{none-some, same_Some}
 use Rattle.dashmap_table.specs.Slots.{at, pair_of as entry_pair, pairs_of}
@@ -36,7 +37,8 @@ pub at-some : {X : Type 0} (P : X → Type 0) (o : Option X) (x : X) → o ≡ S
 at-some P o x is h = subst (λ z. IfSome z P) is h
 
 -- the shard that was read has the key's pair in that slot
-pub record Stands-in {K V : Type 0} (eq : K → K → Bool) (tables : List (Table K V)) (shard slot : ℕ) (key : K) (r : Table K V) : Type 0 where
+pub record Stands-in {K V : Type 0} (eq : K → K → Bool) (tables : List (Table K V)) (shard slot : ℕ) (key : K)
+    (r : Table K V) : Type 0 where
   pub held : slice_get tables shard ≡ Some r
   pub seen : slice_get (map shard_pairs tables) shard ≡ Some (shard_pairs r)
   pub has : HasKeyAt eq r slot key
@@ -44,7 +46,8 @@ pub record Stands-in {K V : Type 0} (eq : K → K → Bool) (tables : List (Tabl
   pub distinct : AreDistinct eq (pairs_of r.slots)
   pub pair : pair_of eq (pairs_of r.slots) key ≡ Some (entry_pair has.entry)
 
-module _ {K V S D T A : Type 0} (x : Setup K V D T) (c : Core K V S D T A) (sound : Sound x (state_of c)) (laws : IsEquivalence x.eq) (shard slot : ℕ) (key : K) (is : IsAt x.eq c.tables.items shard slot key) where
+module _ {K V S D T A : Type 0} (x : Setup K V D T) (c : Core K V S D T A) (sound : Sound x (state_of c))
+    (laws : IsEquivalence x.eq) (shard slot : ℕ) (key : K) (is : IsAt x.eq c.tables.items shard slot key) where
   pub stands-within : slice_get c.tables.items shard ≡ Some is.table
   stands-within = is.held
 
@@ -74,27 +77,35 @@ module _ {D K V T : Type 0} (deeds : Deeds D K V T) where
   keyed-key (keyed.Insert k w) p z e = ap (λ (q : K × V). q.0) (sym (same_Some (p.0, w) z e))
   keyed-key (keyed.Remove k) p z e = absurd (none-some z e)
   keyed-key (keyed.RemoveIf k d) p z e = ap (λ (q : K × V). q.0) (sym (if-keeps (deeds.keep d p.0 p.1) p z e))
-  keyed-key (keyed.RemoveIfMut k d) p z e = ap (λ (q : K × V). q.0) (sym (if-keeps (deeds.keep d p.0 p.1) (p.0, deeds.effect d p.0 p.1) z e))
+  keyed-key (keyed.RemoveIfMut k d) p z e =
+      ap (λ (q : K × V). q.0) (sym (if-keeps (deeds.keep d p.0 p.1) (p.0, deeds.effect d p.0 p.1) z e))
   keyed-key (keyed.Alter k d) p z e = ap (λ (q : K × V). q.0) (sym (same_Some (p.0, deeds.effect d p.0 p.1) z e))
   keyed-key (keyed.View k d) p z e = ap (λ (q : K × V). q.0) (sym (same_Some p z e))
   keyed-key (keyed.ContainsKey k) p z e = ap (λ (q : K × V). q.0) (sym (same_Some p z e))
 
-  pub keyed-keeps : (eq : K → K → Bool) → IsEquivalence eq → (call : Keyed K V D) (p z : K × V) → keyed_leaves deeds call (Some p) ≡ Some z → eq p.0 z.0 ≡ true
+  pub keyed-keeps : (eq : K → K → Bool) → IsEquivalence eq → (call : Keyed K V D) (p z : K × V)
+      → keyed_leaves deeds call (Some p) ≡ Some z → eq p.0 z.0 ≡ true
   keyed-keeps eq laws call p z e = ap (eq p.0) (keyed-key call p z e) ∙ laws.refl p.0
 
   -- and one on a guard under an equal one, if the key that the guard has is equal
-  pub held-keeps : (eq : K → K → Bool) → IsEquivalence eq → (call : Held V D) (kind : Way K) → is_change call kind ≡ true → (p : K × V) → ((k : K) → kind ≡ way.Occupied k → eq p.0 k ≡ true)
+  pub held-keeps : (eq : K → K → Bool) → IsEquivalence eq → (call : Held V D) (kind : Way K)
+      → is_change call kind ≡ true → (p : K × V) → ((k : K) → kind ≡ way.Occupied k → eq p.0 k ≡ true)
       → (z : K × V) → pair_in (held_leaves deeds call (lent kind p)) ≡ Some z → eq p.0 z.0 ≡ true
-  held-keeps eq laws (held.Write d) way.Exclusive is p equal z e = ap (eq p.0) (ap (λ (q : K × V). q.0) (sym (same_Some (p.0, deeds.effect d p.0 p.1) z e))) ∙ laws.refl p.0
-  held-keeps eq laws (held.Write d) (way.Occupied k) is p equal z e = ap (eq p.0) (ap (λ (q : K × V). q.0) (sym (same_Some (p.0, deeds.effect d p.0 p.1) z e))) ∙ laws.refl p.0
-  held-keeps eq laws (held.Insert v) (way.Occupied k) is p equal z e = ap (eq p.0) (ap (λ (q : K × V). q.0) (sym (same_Some (p.0, v) z e))) ∙ laws.refl p.0
+  held-keeps eq laws (held.Write d) way.Exclusive is p equal z e =
+      ap (eq p.0) (ap (λ (q : K × V). q.0) (sym (same_Some (p.0, deeds.effect d p.0 p.1) z e))) ∙ laws.refl p.0
+  held-keeps eq laws (held.Write d) (way.Occupied k) is p equal z e =
+      ap (eq p.0) (ap (λ (q : K × V). q.0) (sym (same_Some (p.0, deeds.effect d p.0 p.1) z e))) ∙ laws.refl p.0
+  held-keeps eq laws (held.Insert v) (way.Occupied k) is p equal z e =
+      ap (eq p.0) (ap (λ (q : K × V). q.0) (sym (same_Some (p.0, v) z e))) ∙ laws.refl p.0
   held-keeps eq laws held.Remove (way.Occupied k) is p equal z e = absurd (none-some z e)
   held-keeps eq laws held.RemoveEntry (way.Occupied k) is p equal z e = absurd (none-some z e)
-  held-keeps eq laws (held.ReplaceEntry v) (way.Occupied k) is p equal z e = ap (eq p.0) (ap (λ (q : K × V). q.0) (sym (same_Some (k, v) z e))) ∙ equal k refl
+  held-keeps eq laws (held.ReplaceEntry v) (way.Occupied k) is p equal z e =
+      ap (eq p.0) (ap (λ (q : K × V). q.0) (sym (same_Some (k, v) z e))) ∙ equal k refl
   held-keeps eq laws call kind is p equal z e = absurd (cc)
 
   -- whether the pair goes is whether a change leaves none
-  pub held-gone : (call : Held V D) (kind : Way K) → is_change call kind ≡ true → (p : K × V) → takes_pair call ≡ not (is_some (pair_in (held_leaves deeds call (lent kind p))))
+  pub held-gone : (call : Held V D) (kind : Way K) → is_change call kind ≡ true → (p : K × V)
+      → takes_pair call ≡ not (is_some (pair_in (held_leaves deeds call (lent kind p))))
   held-gone (held.Write d) way.Exclusive is p = refl
   held-gone (held.Write d) (way.Occupied k) is p = refl
   held-gone (held.Insert v) (way.Occupied k) is p = refl
@@ -114,12 +125,15 @@ pub some-at : {X : Type 0} (P : X → Type 0) (o : Option X) (x : X) → o ≡ S
 some-at P o x is h = subst (λ z. IfSome z P) (sym is) h
 
 -- behind a change the place looks for nothing
-pub changed-free : {K V D T A : Type 0} (f : Phase K V D T A) (ends : Bool) (a : Answer K V T A) → f ≡ changed_phase ends a → phase_key f ≡ None
+pub changed-free : {K V D T A : Type 0} (f : Phase K V D T A) (ends : Bool) (a : Answer K V T A)
+    → f ≡ changed_phase ends a → phase_key f ≡ None
 changed-free f true a e = ap phase_key e
 changed-free f false a e = ap phase_key e
 
 -- while the guard goes on to lend its pair there is one
-pub held-stays : {D K V T : Type 0} (deeds : Deeds D K V T) (call : Held V D) (kind : Way K) → is_change call kind ≡ true → (k : Way K) → lent_way (if ends_guard call then None else Some (guard.Pair kind)) ≡ Some k
+pub held-stays : {D K V T : Type 0} (deeds : Deeds D K V T) (call : Held V D) (kind : Way K)
+    → is_change call kind ≡ true → (k : Way K) → lent_way (if ends_guard call then None else Some (guard.Pair kind))
+    ≡ Some k
     → (p : K × V) → (z : K × V) × (pair_in (held_leaves deeds call (lent kind p)) ≡ Some z)
 held-stays deeds (held.Write d) way.Exclusive is k e p = ((p.0, deeds.effect d p.0 p.1), refl)
 held-stays deeds (held.Write d) (way.Occupied j) is k e p = ((p.0, deeds.effect d p.0 p.1), refl)
@@ -130,7 +144,8 @@ held-stays deeds (held.ReplaceEntry v) (way.Occupied j) is k e p = absurd (none-
 held-stays deeds call kind is k e p = absurd (cc)
 
 -- the key that an entry's guard has is equal to each that is equal to the session's
-pub handed-equal : {K V S D T A : Type 0} (x : Setup K V D T) (w : State K V S D T A) (sound : Sound x w) (t : ℕ) (p : Place K V D T A) (kind : Way K) (own : Guards x w sound t p (guard.Pair kind)) (e : K)
+pub handed-equal : {K V S D T A : Type 0} (x : Setup K V D T) (w : State K V S D T A) (sound : Sound x w) (t : ℕ)
+    (p : Place K V D T A) (kind : Way K) (own : Guards x w sound t p (guard.Pair kind)) (e : K)
     → x.eq e own.key ≡ true → (k : K) → kind ≡ way.Occupied k → x.eq e k ≡ true
 handed-equal x w sound t p kind own e equal k is =
     ap (x.eq e) (handed-way own.key kind own.guard_is.0 k is (subst (Handed own.key) own.guard_is.1 own.handed)) ∙ equal

@@ -1,5 +1,7 @@
 -- A step of one thread leaves room, if what its place may still take falls by as much as is taken.
-use Rattle.std.proofs.Common.{◌≡◌, ◌≢◌, ◌⊎◌, inl, inr, ℕ, ◌+◌, ◌-◌, ◌<◌, ◌≤◌, ◌^◌, true, List, Vec, length, map, Some, slice_get, slice_set, sum_by, vec_len, vec_capacity, refl, sym, ap, ◌∙◌, subst, arith, length-set, leb-true, ⊎_elim}
+use Rattle.std.proofs.Common.{◌≡◌, ◌≢◌, ◌⊎◌, inl, inr, ℕ, ◌+◌, ◌-◌, ◌<◌, ◌≤◌, ◌^◌, true, List, Vec, length, map, Some}
+use Rattle.std.proofs.Common.{slice_get, slice_set, sum_by, vec_len, vec_capacity, refl, sym, ap, ◌∙◌, subst, arith}
+use Rattle.std.proofs.Common.{length-set, leb-true, ⊎_elim}
 use Rattle.std.proofs.lemmas.Bool.{lt-ltb, ltb-true}
 use Rattle.std.proofs.lemmas.List.{map-set}
 use Rattle.mapworld_state.proofs.Views.{view-at, view-from}
@@ -29,7 +31,8 @@ pub record Shift {K V S D T A : Type 0} (c c' : Core K V S D T A) (t : ℕ) (p p
   pub unanswered : c'.unanswered + owed (place_of p) ≡ c.unanswered + owed (place_of p')
   pub answers : length c'.replies.items + owed (place_of p') ≡ length c.replies.items + owed (place_of p)
   pub replies : vec_capacity c'.replies ≡ vec_capacity c.replies
-  pub listing : length c'.blocks.items + may_list (length c.tables.items) (place_of p') ≤ length c.blocks.items + may_list (length c.tables.items) (place_of p)
+  pub listing : length c'.blocks.items + may_list (length c.tables.items) (place_of p') ≤ length c.blocks.items +
+      may_list (length c.tables.items) (place_of p)
   pub blocks : vec_capacity c'.blocks ≡ vec_capacity c.blocks
   pub visits : may_walk (place_of p') ≡ true → may_walk (place_of p) ≡ true
   pub capacity : vec_capacity p'.visits ≡ vec_capacity p.visits
@@ -47,12 +50,16 @@ one_more w h = ltb-true _ _ h
 pub next_too : {K V S D T A : Type 0} (w : State K V S D T A) → has_numbers w ≡ true → has_next w ≡ true
 next_too w h = let fits = leb-true _ _ h in lt-ltb (length w.steps + 1) (2 ^ 63) (omega arith)
 
-module _ {K V S D T A : Type 0} (c : Core K V S D T A) (t : ℕ) (p p' : KeptPlace K V D T A) (here : slice_get c.places.items t ≡ Some p) (places : List (KeptPlace K V D T A)) (are : places ≡ slice_set c.places.items t p') where
+module _ {K V S D T A : Type 0} (c : Core K V S D T A) (t : ℕ) (p p' : KeptPlace K V D T A)
+    (here : slice_get c.places.items t ≡ Some p) (places : List (KeptPlace K V D T A))
+    (are : places ≡ slice_set c.places.items t p') where
   -- a place behind a step is the thread's own or another's, as it was
-  place-cases : (u : ℕ) (q : KeptPlace K V D T A) → slice_get places u ≡ Some q → ((u ≡ t) × (q ≡ p')) ⊎ ((u ≢ t) × (slice_get c.places.items u ≡ Some q))
+  place-cases : (u : ℕ) (q : KeptPlace K V D T A) → slice_get places u ≡ Some q → ((u ≡ t) × (q ≡ p'))
+      ⊎ ((u ≢ t) × (slice_get c.places.items u ≡ Some q))
   place-cases u q at = slice_get-set_cases c.places.items t u p q p' here (subst (λ ps. slice_get ps u ≡ Some q) are at)
 
-  seen-cases : (u : ℕ) (q : Place K V D T A) → slice_get (map place_of places) u ≡ Some q → ((u ≡ t) × (q ≡ place_of p')) ⊎ ((u ≢ t) × (slice_get (state_of c).places u ≡ Some q))
+  seen-cases : (u : ℕ) (q : Place K V D T A) → slice_get (map place_of places) u ≡ Some q
+      → ((u ≡ t) × (q ≡ place_of p')) ⊎ ((u ≢ t) × (slice_get (state_of c).places u ≡ Some q))
   seen-cases u q at =
       let v = view-from place_of places u q at in
       ⊎_elim
@@ -61,40 +68,54 @@ module _ {K V S D T A : Type 0} (c : Core K V S D T A) (t : ℕ) (p p' : KeptPla
       (place-cases u v.0 v.1)
 
   -- what all places weigh
-  total : (f : Place K V D T A → ℕ) → sum_by f (map place_of places) + f (place_of p) ≡ sum_by f (state_of c).places + f (place_of p')
+  total : (f : Place K V D T A → ℕ) → sum_by f (map place_of places) + f (place_of p) ≡ sum_by f (state_of c).places + f
+      (place_of p')
   total f =
-      let seen : map place_of places ≡ slice_set (state_of c).places t (place_of p') = ap (map place_of) are ∙ map-set place_of c.places.items t p' in
-      subst (λ ps. sum_by f ps + f (place_of p) ≡ sum_by f (state_of c).places + f (place_of p')) (sym seen) (sum_by-set f (state_of c).places t (place_of p) (place_of p') (view-at place_of c.places.items t p here))
+      let seen : map place_of places ≡ slice_set (state_of c).places t (place_of p') = ap (map place_of) are
+      ∙ map-set place_of c.places.items t p' in
+      subst (λ ps. sum_by f ps + f (place_of p) ≡ sum_by f (state_of c).places + f (place_of p')) (sym seen)
+      (sum_by-set f (state_of c).places t (place_of p) (place_of p') (view-at place_of c.places.items t p here))
 
   many : length (map place_of places) ≡ length (state_of c).places
-  many = ap length (ap (map place_of) are ∙ map-set place_of c.places.items t p') ∙ length-set (state_of c).places t (place_of p')
+  many = ap length (ap (map place_of) are ∙ map-set place_of c.places.items t p')
+      ∙ length-set (state_of c).places t (place_of p')
 
   -- what places keep room for
-  visits-fit : (n : ℕ) → ((u : ℕ) (q : KeptPlace K V D T A) → slice_get c.places.items u ≡ Some q → may_walk (place_of q) ≡ true → n ≤ vec_capacity q.visits)
+  visits-fit : (n : ℕ)
+      → ((u : ℕ) (q : KeptPlace K V D T A) → slice_get c.places.items u ≡ Some q → may_walk (place_of q) ≡ true
+      → n ≤ vec_capacity q.visits)
       → (may_walk (place_of p') ≡ true → may_walk (place_of p) ≡ true) → vec_capacity p'.visits ≡ vec_capacity p.visits
-      → (u : ℕ) (q : KeptPlace K V D T A) → slice_get places u ≡ Some q → may_walk (place_of q) ≡ true → n ≤ vec_capacity q.visits
+      → (u : ℕ) (q : KeptPlace K V D T A) → slice_get places u ≡ Some q → may_walk (place_of q) ≡ true
+      → n ≤ vec_capacity q.visits
   visits-fit n fit walks same u q at walk = ⊎_elim
       (λ own. subst (λ (z : KeptPlace K V D T A). n ≤ vec_capacity z.visits) (sym own.1)
-      (subst (λ k. n ≤ k) (sym same) (fit t p here (walks (ap (λ (z : KeptPlace K V D T A). may_walk (place_of z)) (sym own.1) ∙ walk)))))
+      (subst (λ k. n ≤ k) (sym same)
+      (fit t p here (walks (ap (λ (z : KeptPlace K V D T A). may_walk (place_of z)) (sym own.1) ∙ walk)))))
       (λ other. fit u q other.1 walk)
       (place-cases u q at)
 
-  lists-fit : ((u : ℕ) (q : KeptPlace K V D T A) → slice_get c.places.items u ≡ Some q → lists_due (place_of q) ≤ length q.lists.items)
+  lists-fit : ((u : ℕ) (q : KeptPlace K V D T A) → slice_get c.places.items u ≡ Some q
+      → lists_due (place_of q) ≤ length q.lists.items)
       → lists_due (place_of p') + length p.lists.items ≤ lists_due (place_of p) + length p'.lists.items
       → (u : ℕ) (q : KeptPlace K V D T A) → slice_get places u ≡ Some q → lists_due (place_of q) ≤ length q.lists.items
   lists-fit fit change u q at = ⊎_elim
-      (λ own. let before = fit t p here in subst (λ (z : KeptPlace K V D T A). lists_due (place_of z) ≤ length z.lists.items) (sym own.1) (omega (arith, before, change)))
+      (λ own. let before = fit t p here in
+      subst (λ (z : KeptPlace K V D T A). lists_due (place_of z) ≤ length z.lists.items) (sym own.1)
+      (omega (arith, before, change)))
       (λ other. fit u q other.1)
       (place-cases u q at)
 
-module _ {K V S D T A : Type 0} (c c' : Core K V S D T A) (t : ℕ) (p p' : KeptPlace K V D T A) (r : Room c) (s : Shift c c' t p p') where
-  still_listed : (u : ℕ) (q : Place K V D T A) (i : ℕ) → slice_get (state_of c').places u ≡ Some q → q.block ≡ Some i → i < length c'.blocks.items
+module _ {K V S D T A : Type 0} (c c' : Core K V S D T A) (t : ℕ) (p p' : KeptPlace K V D T A) (r : Room c)
+    (s : Shift c c' t p p') where
+  still_listed : (u : ℕ) (q : Place K V D T A) (i : ℕ) → slice_get (state_of c').places u ≡ Some q → q.block ≡ Some i
+      → i < length c'.blocks.items
   still_listed u q i at e = ⊎_elim
       (λ own. s.listed i (ap (λ (x : Place K V D T A). x.block) (sym own.1) ∙ e))
       (λ other. let below = r.listed u q i other.1 e in omega (arith, below, s.more_blocks))
       (seen-cases c t p p' s.here c'.places.items s.places u q at)
 
-  still_held : (u i : ℕ) (q : Place K V D T A) (h : Hold) → slice_get (state_of c').places u ≡ Some q → slice_get q.holds i ≡ Some h → h.shard < length c'.tables.items
+  still_held : (u i : ℕ) (q : Place K V D T A) (h : Hold) → slice_get (state_of c').places u ≡ Some q
+      → slice_get q.holds i ≡ Some h → h.shard < length c'.tables.items
   still_held u i q h at e =
       let below : h.shard < length c.tables.items = ⊎_elim
       (λ own. s.held i h (ap (λ (x : Place K V D T A). slice_get x.holds i) (sym own.1) ∙ e))
@@ -121,7 +142,8 @@ module _ {K V S D T A : Type 0} (c c' : Core K V S D T A) (t : ℕ) (p p' : Kept
         replies = omega (arith, r.replies, s.replies, programs);
         blocks = omega (arith, r.blocks, s.blocks, s.listing, listing, shards);
         blocks_fit = omega (arith, r.blocks_fit, s.listing, listing, shards);
-        visits = subst (λ k. (u : ℕ) (q : KeptPlace K V D T A) → slice_get c'.places.items u ≡ Some q → may_walk (place_of q) ≡ true → k ≤ vec_capacity q.visits) (sym s.tables)
+        visits = subst (λ k. (u : ℕ) (q : KeptPlace K V D T A) → slice_get c'.places.items u ≡ Some q
+            → may_walk (place_of q) ≡ true → k ≤ vec_capacity q.visits) (sym s.tables)
             (visits-fit c t p p' s.here c'.places.items s.places n r.visits s.visits s.capacity);
         lists = lists-fit c t p p' s.here c'.places.items s.places r.lists s.lists;
         held = still_held;
@@ -138,13 +160,20 @@ module _ {K V S D T A : Type 0} (c c' : Core K V S D T A) (t : ℕ) (p p' : Kept
         listed = still_listed;
       }
 
--- A place that owes as much as before, and lists and adds no more, and locks of the same sizes, leave room: what ends with no step of its own.
-pub moved : {K V S D T A : Type 0} (c : Core K V S D T A) (places : Vec (KeptPlace K V D T A) A) (locks : Shown) (t : ℕ) (p p' : KeptPlace K V D T A) → Room c
-    → slice_get c.places.items t ≡ Some p → places.items ≡ slice_set c.places.items t p' → owed (place_of p') ≡ owed (place_of p)
-    → may_list (length c.tables.items) (place_of p') ≤ may_list (length c.tables.items) (place_of p) → may_add (place_of p') ≤ may_add (place_of p) → p'.block ≡ p.block
-    → (may_walk (place_of p') ≡ true → may_walk (place_of p) ≡ true) → vec_capacity p'.visits ≡ vec_capacity p.visits → lists_due (place_of p') + length p.lists.items ≤ lists_due (place_of p) + length p'.lists.items
-    → ((i : ℕ) (h : Hold) → slice_get p'.holds.items i ≡ Some h → h.shard < length c.tables.items) → KeepsSize c.locks locks → Room (record c { places = places; locks = locks })
-moved {K} {V} {S} {D} {T} {A} c places locks t p p' r here are owing listing adding block walks capacity lists held sizes =
+-- A place that owes as much as before, and lists and adds no more, and locks of the same sizes, leave room: what ends
+-- with no step of its own.
+pub moved : {K V S D T A : Type 0} (c : Core K V S D T A) (places : Vec (KeptPlace K V D T A) A) (locks : Shown) (t : ℕ)
+    (p p' : KeptPlace K V D T A) → Room c
+    → slice_get c.places.items t ≡ Some p → places.items ≡ slice_set c.places.items t p'
+    → owed (place_of p') ≡ owed (place_of p)
+    → may_list (length c.tables.items) (place_of p') ≤ may_list (length c.tables.items) (place_of p)
+    → may_add (place_of p') ≤ may_add (place_of p) → p'.block ≡ p.block
+    → (may_walk (place_of p') ≡ true → may_walk (place_of p) ≡ true) → vec_capacity p'.visits ≡ vec_capacity p.visits
+    → lists_due (place_of p') + length p.lists.items ≤ lists_due (place_of p) + length p'.lists.items
+    → ((i : ℕ) (h : Hold) → slice_get p'.holds.items i ≡ Some h → h.shard < length c.tables.items)
+    → KeepsSize c.locks locks → Room (record c { places = places; locks = locks })
+moved {K} {V} {S} {D} {T} {A} c places locks t p p' r here are owing listing adding block walks capacity lists held
+    sizes =
     let owing' = total c t p p' here places.items are owed in
     let listing' = total c t p p' here places.items are (may_list (length c.tables.items)) in
     let adding' = total c t p p' here places.items are may_add in
@@ -160,7 +189,9 @@ moved {K} {V} {S} {D} {T} {A} c places locks t p p' r here are owing listing add
       blocks_fit = omega (arith, r.blocks_fit, listing', listing);
       visits = visits-fit c t p p' here places.items are (length c.tables.items) r.visits walks capacity;
       lists = lists-fit c t p p' here places.items are r.lists lists;
-      held = λ u i q h at e. ⊎_elim (λ own. held i h (ap (λ (x : Place K V D T A). slice_get x.holds i) (sym own.1) ∙ e)) (λ other. r.held u i q h other.1 e) (seen-cases c t p p' here places.items are u q at);
+      held = λ u i q h at e. ⊎_elim
+          (λ own. held i h (ap (λ (x : Place K V D T A). slice_get x.holds i) (sym own.1) ∙ e))
+          (λ other. r.held u i q h other.1 e) (seen-cases c t p p' here places.items are u q at);
       locks = record {
         threads_are = sizes.threads_are ∙ r.locks.threads_are ∙ sym threads;
         shards_are = sizes.shards_are ∙ r.locks.shards_are;
@@ -172,20 +203,25 @@ moved {K} {V} {S} {D} {T} {A} c places locks t p p' r here are owing listing add
       threads_fit = omega (arith, threads, r.threads_fit);
       shards = r.shards;
       listed = λ u q i at e. ⊎_elim
-          (λ own. r.listed t (place_of p) i (view-at place_of c.places.items t p here) (sym block ∙ ap (λ (x : Place K V D T A). x.block) (sym own.1) ∙ e))
+          (λ own. r.listed t (place_of p) i (view-at place_of c.places.items t p here)
+          (sym block ∙ ap (λ (x : Place K V D T A). x.block) (sym own.1) ∙ e))
           (λ other. r.listed u q i other.1 e) (seen-cases c t p p' here places.items are u q at);
     }
 
-module _ {K V S D T A : Type 0} (c : Core K V S D T A) (t : ℕ) (p : Place K V D T A) (r : Room c) (here : slice_get (state_of c).places t ≡ Some p) where
+module _ {K V S D T A : Type 0} (c : Core K V S D T A) (t : ℕ) (p : Place K V D T A) (r : Room c)
+    (here : slice_get (state_of c).places t ≡ Some p) where
   -- a call that isn't answered leaves room for its reply
   pub answer_left : owes p.phase ≡ 1 → (vec_len c.replies < vec_capacity c.replies) × (1 ≤ c.unanswered)
   answer_left one =
-      let part = sum_by-at owed (state_of c).places t p here in
-      (omega (arith, one, part, r.answers, r.replies, c.replies.ok.0), omega (arith, one, part, r.answers, r.unanswered))
+      let part = sum_by-at owed (state_of c).places t p here in (
+        omega (arith, one, part, r.answers, r.replies, c.replies.ok.0),
+        omega (arith, one, part, r.answers, r.unanswered),
+      )
 
   -- a call that may list a block has room for it
   pub block_left : 1 ≤ lists (length c.tables.items - (p.shard + 1)) p.phase → vec_len c.blocks < vec_capacity c.blocks
-  block_left some = let part = sum_by-at (may_list (length c.tables.items)) (state_of c).places t p here in omega (arith, some, part, r.blocks, c.blocks.ok.0)
+  block_left some = let part = sum_by-at (may_list (length c.tables.items)) (state_of c).places t p here in
+      omega (arith, some, part, r.blocks, c.blocks.ok.0)
 
   -- a call that may add a pair has a number for it
   pub pair_left : adds p.phase ≡ 1 → c.pairs + 1 ≤ 2 ^ 31 + 2 ^ 20

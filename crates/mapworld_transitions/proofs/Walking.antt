@@ -32,7 +32,8 @@ or-left false c h = absurd (cc)
 
 module _ {K V D T A : Type 0} where
   -- there is no next pair of a visit
-  pub next-free : (eq : K → K → Bool) (tables : List (Table K V)) (bs : List (Block K)) (p : KeptPlace K V D T A) (f : Phase K V D T A) → walking f ≡ false → SlotIsNext eq tables bs p f
+  pub next-free : (eq : K → K → Bool) (tables : List (Table K V)) (bs : List (Block K)) (p : KeptPlace K V D T A)
+      (f : Phase K V D T A) → walking f ≡ false → SlotIsNext eq tables bs p f
   next-free eq tables bs p (phase.Seek f) h = absurd (cc)
   next-free eq tables bs p (phase.Item f) h = absurd (cc)
   next-free eq tables bs p f h = tt
@@ -59,9 +60,13 @@ module _ {K V D T A : Type 0} where
   no-lists f h = refl
 
   -- a place that isn't in a walk, and has the same calls to come, needs no more room for walks
-  pub plain-visits : (p q : Place K V D T A) → q.asks ≡ p.asks → walking q.phase ≡ false → may_walk q ≡ true → may_walk p ≡ true
+  pub plain-visits : (p q : Place K V D T A) → q.asks ≡ p.asks → walking q.phase ≡ false → may_walk q ≡ true
+      → may_walk p ≡ true
   plain-visits p q asks none h =
-      or-left (list_any is_walk p.asks) (walks_in (class_of p.phase)) (ap (list_any is_walk) (sym asks) ∙ or-right (list_any is_walk q.asks) (walks_in (class_of q.phase)) (no-walks q.phase none) h)
+      or-left (list_any is_walk p.asks) (walks_in (class_of p.phase))
+      (ap (list_any is_walk) (sym asks) ∙ or-right (list_any is_walk q.asks) (walks_in (class_of q.phase))
+      (no-walks q.phase none) h)
 
   pub plain-lists : (p q : Place K V D T A) → q.asks ≡ p.asks → walking q.phase ≡ false → lists_due q ≤ lists_due p
-  plain-lists p q asks none = let same = ap (sum_by ask_lists) asks in let zero = no-lists q.phase none in omega (arith, same, zero)
+  plain-lists p q asks none = let same = ap (sum_by ask_lists) asks in let zero = no-lists q.phase none in
+      omega (arith, same, zero)

@@ -1,5 +1,7 @@
 -- What each kind of step takes of the room that is left.
-use Rattle.std.proofs.Common.{◌≡◌, ℕ, ◌+◌, ◌-◌, if◌then◌else◌, subst, ◌<◌, ◌≤◌, Bool, true, false, List, length, map, Option, Some, None, slice_get, slice_set, flat_map, refl, sym, ap, ◌∙◌, arith, length-append}
+use Rattle.std.proofs.Common.{◌≡◌, ℕ, ◌+◌, ◌-◌, if◌then◌else◌, subst, ◌<◌, ◌≤◌, Bool, true, false, List, length, map}
+use Rattle.std.proofs.Common.{Option, Some, None, slice_get, slice_set, flat_map, refl, sym, ap, ◌∙◌, arith}
+use Rattle.std.proofs.Common.{length-append}
 use Rattle.std.proofs.lemmas.Option.{same_Some}
 use Rattle.std.proofs.lemmas.Bool.{false≢true}
 use Rattle.std.proofs.lemmas.List.{map-set}
@@ -30,7 +32,8 @@ use Rattle.mapworld_state.specs.Places.{Place}
 use Rattle.mapworld_state.specs.Shards.{ShardPairs, shard_pairs}
 use Rattle.mapworld_state.proofs.Views.{view-at}
 use Rattle.mapworld_state.specs.State.{State, next_step}
-use Rattle.mapworld_state.specs.Moves.{stops_at, start_phase, start_shard, changed_phase, request_of, found_phase, found_done, block_behind, ListsBlock}
+use Rattle.mapworld_state.specs.Moves.{stops_at, start_phase, start_shard, changed_phase, request_of, found_phase}
+use Rattle.mapworld_state.specs.Moves.{found_done, block_behind, ListsBlock}
 use Rattle.mapworld_state.specs.Classes.{class_of, walks_in}
 use Rattle.mapworld_state.specs.Core.{owes, lists, adds, is_walk, ask_lists, phase_lists}
 use Rattle.mapworld_state.specs.Slots.{SlotIsNext}
@@ -45,9 +48,11 @@ module _ {K V D T A : Type 0} where
     pub adding : adds ph ≤ 1
     pub visits : walks_in (class_of ph) ≡ true → is_walk a ≡ true
     pub lists_are : phase_lists ph ≤ ask_lists a
-    pub next : (eq : K → K → Bool) (tables : List (Table K V)) (bs : List (Block K)) (p : KeptPlace K V D T A) → SlotIsNext eq tables bs p ph
+    pub next : (eq : K → K → Bool) (tables : List (Table K V)) (bs : List (Block K)) (p : KeptPlace K V D T A)
+        → SlotIsNext eq tables bs p ph
 
-  plain-start : {shards more : ℕ} {a : Ask K V D} {ph : Phase K V D T A} → walking ph ≡ false → owes ph ≡ 1 → lists more ph ≤ numbers_of shards a → adds ph ≤ 1 → Weighs shards more a ph
+  plain-start : {shards more : ℕ} {a : Ask K V D} {ph : Phase K V D T A} → walking ph ≡ false → owes ph ≡ 1
+      → lists more ph ≤ numbers_of shards a → adds ph ≤ 1 → Weighs shards more a ph
   plain-start {shards} {more} {a} {ph} plain owing listing adding = record {
     owing = owing;
     listing = listing;
@@ -57,64 +62,127 @@ module _ {K V D T A : Type 0} where
     next = λ eq tables bs p. next-free eq tables bs p ph plain;
   }
 
-  walk-start : (shards : ℕ) → 0 < shards → (f : Walk D) (idle : Bool) → Weighs shards (shards - (0 + 1)) (ask.Walk f) (if idle then phase.Idle f else phase.Reach f)
-  walk-start shards some f true = record { owing = refl; listing = omega arith; adding = omega arith; visits = λ h. refl; lists_are = omega arith; next = λ eq tables bs p. tt }
-  walk-start shards some f false = record { owing = refl; listing = omega (arith, some); adding = omega arith; visits = λ h. refl; lists_are = omega arith; next = λ eq tables bs p. tt }
+  walk-start : (shards : ℕ) → 0 < shards → (f : Walk D) (idle : Bool) → Weighs shards (shards - (0 + 1)) (ask.Walk f)
+      (if idle then phase.Idle f else phase.Reach f)
+  walk-start shards some f true =
+      record {
+        owing = refl;
+        listing = omega arith;
+        adding = omega arith;
+        visits = λ h. refl;
+        lists_are = omega arith;
+        next = λ eq tables bs p. tt;
+      }
+  walk-start shards some f false =
+      record {
+        owing = refl;
+        listing = omega (arith, some);
+        adding = omega arith;
+        visits = λ h. refl;
+        lists_are = omega arith;
+        next = λ eq tables bs p. tt;
+      }
 
   -- the phase behind a start
-  pub started_weighs : (shards : ℕ) → 0 < shards → (route : K → ℕ) (shard : ℕ) (a : Ask K V D) (g : Option (Guard K)) (ph : Phase K V D T A) → ph ≡ start_phase a g → Weighs shards (shards - (start_shard route a shard + 1)) a ph
+  pub started_weighs : (shards : ℕ) → 0 < shards → (route : K → ℕ) (shard : ℕ) (a : Ask K V D) (g : Option (Guard K))
+      (ph : Phase K V D T A) → ph ≡ start_phase a g → Weighs shards (shards - (start_shard route a shard + 1)) a ph
   started_weighs shards some route shard (ask.Keyed k) g ph e = rw e (plain-start refl refl (omega arith) (omega arith))
   started_weighs shards some route shard (ask.Begin b) g ph e = rw e (plain-start refl refl (omega arith) (omega arith))
-  started_weighs shards some route shard (ask.Held h) None ph e = rw e (plain-start refl refl (omega arith) (omega arith))
-  started_weighs shards some route shard (ask.Held (held.Read d)) (Some (guard.Pair way.Shared)) ph e = rw e (plain-start refl refl (omega arith) (omega arith))
-  started_weighs shards some route shard (ask.Held (held.Write d)) (Some (guard.Pair way.Shared)) ph e = rw e (plain-start refl refl (omega arith) (omega arith))
-  started_weighs shards some route shard (ask.Held held.Downgrade) (Some (guard.Pair way.Shared)) ph e = rw e (plain-start refl refl (omega arith) (omega arith))
-  started_weighs shards some route shard (ask.Held (held.Insert v)) (Some (guard.Pair way.Shared)) ph e = rw e (plain-start refl refl (omega arith) (omega arith))
-  started_weighs shards some route shard (ask.Held held.IntoRef) (Some (guard.Pair way.Shared)) ph e = rw e (plain-start refl refl (omega arith) (omega arith))
-  started_weighs shards some route shard (ask.Held held.Remove) (Some (guard.Pair way.Shared)) ph e = rw e (plain-start refl refl (omega arith) (omega arith))
-  started_weighs shards some route shard (ask.Held held.RemoveEntry) (Some (guard.Pair way.Shared)) ph e = rw e (plain-start refl refl (omega arith) (omega arith))
-  started_weighs shards some route shard (ask.Held (held.ReplaceEntry v)) (Some (guard.Pair way.Shared)) ph e = rw e (plain-start refl refl (omega arith) (omega arith))
-  started_weighs shards some route shard (ask.Held held.IntoKey) (Some (guard.Pair way.Shared)) ph e = rw e (plain-start refl refl (omega arith) (omega arith))
-  started_weighs shards some route shard (ask.Held held.Drop) (Some (guard.Pair way.Shared)) ph e = rw e (plain-start refl refl (omega arith) (omega arith))
-  started_weighs shards some route shard (ask.Held (held.Read d)) (Some (guard.Pair way.Exclusive)) ph e = rw e (plain-start refl refl (omega arith) (omega arith))
-  started_weighs shards some route shard (ask.Held (held.Write d)) (Some (guard.Pair way.Exclusive)) ph e = rw e (plain-start refl refl (omega arith) (omega arith))
-  started_weighs shards some route shard (ask.Held held.Downgrade) (Some (guard.Pair way.Exclusive)) ph e = rw e (plain-start refl refl (omega arith) (omega arith))
-  started_weighs shards some route shard (ask.Held (held.Insert v)) (Some (guard.Pair way.Exclusive)) ph e = rw e (plain-start refl refl (omega arith) (omega arith))
-  started_weighs shards some route shard (ask.Held held.IntoRef) (Some (guard.Pair way.Exclusive)) ph e = rw e (plain-start refl refl (omega arith) (omega arith))
-  started_weighs shards some route shard (ask.Held held.Remove) (Some (guard.Pair way.Exclusive)) ph e = rw e (plain-start refl refl (omega arith) (omega arith))
-  started_weighs shards some route shard (ask.Held held.RemoveEntry) (Some (guard.Pair way.Exclusive)) ph e = rw e (plain-start refl refl (omega arith) (omega arith))
-  started_weighs shards some route shard (ask.Held (held.ReplaceEntry v)) (Some (guard.Pair way.Exclusive)) ph e = rw e (plain-start refl refl (omega arith) (omega arith))
-  started_weighs shards some route shard (ask.Held held.IntoKey) (Some (guard.Pair way.Exclusive)) ph e = rw e (plain-start refl refl (omega arith) (omega arith))
-  started_weighs shards some route shard (ask.Held held.Drop) (Some (guard.Pair way.Exclusive)) ph e = rw e (plain-start refl refl (omega arith) (omega arith))
-  started_weighs shards some route shard (ask.Held (held.Read d)) (Some (guard.Pair (way.Occupied k))) ph e = rw e (plain-start refl refl (omega arith) (omega arith))
-  started_weighs shards some route shard (ask.Held (held.Write d)) (Some (guard.Pair (way.Occupied k))) ph e = rw e (plain-start refl refl (omega arith) (omega arith))
-  started_weighs shards some route shard (ask.Held held.Downgrade) (Some (guard.Pair (way.Occupied k))) ph e = rw e (plain-start refl refl (omega arith) (omega arith))
-  started_weighs shards some route shard (ask.Held (held.Insert v)) (Some (guard.Pair (way.Occupied k))) ph e = rw e (plain-start refl refl (omega arith) (omega arith))
-  started_weighs shards some route shard (ask.Held held.IntoRef) (Some (guard.Pair (way.Occupied k))) ph e = rw e (plain-start refl refl (omega arith) (omega arith))
-  started_weighs shards some route shard (ask.Held held.Remove) (Some (guard.Pair (way.Occupied k))) ph e = rw e (plain-start refl refl (omega arith) (omega arith))
-  started_weighs shards some route shard (ask.Held held.RemoveEntry) (Some (guard.Pair (way.Occupied k))) ph e = rw e (plain-start refl refl (omega arith) (omega arith))
-  started_weighs shards some route shard (ask.Held (held.ReplaceEntry v)) (Some (guard.Pair (way.Occupied k))) ph e = rw e (plain-start refl refl (omega arith) (omega arith))
-  started_weighs shards some route shard (ask.Held held.IntoKey) (Some (guard.Pair (way.Occupied k))) ph e = rw e (plain-start refl refl (omega arith) (omega arith))
-  started_weighs shards some route shard (ask.Held held.Drop) (Some (guard.Pair (way.Occupied k))) ph e = rw e (plain-start refl refl (omega arith) (omega arith))
-  started_weighs shards some route shard (ask.Held (held.Read d)) (Some (guard.Vacant k)) ph e = rw e (plain-start refl refl (omega arith) (omega arith))
-  started_weighs shards some route shard (ask.Held (held.Write d)) (Some (guard.Vacant k)) ph e = rw e (plain-start refl refl (omega arith) (omega arith))
-  started_weighs shards some route shard (ask.Held held.Downgrade) (Some (guard.Vacant k)) ph e = rw e (plain-start refl refl (omega arith) (omega arith))
-  started_weighs shards some route shard (ask.Held (held.Insert v)) (Some (guard.Vacant k)) ph e = rw e (plain-start refl refl (omega arith) (omega arith))
-  started_weighs shards some route shard (ask.Held held.IntoRef) (Some (guard.Vacant k)) ph e = rw e (plain-start refl refl (omega arith) (omega arith))
-  started_weighs shards some route shard (ask.Held held.Remove) (Some (guard.Vacant k)) ph e = rw e (plain-start refl refl (omega arith) (omega arith))
-  started_weighs shards some route shard (ask.Held held.RemoveEntry) (Some (guard.Vacant k)) ph e = rw e (plain-start refl refl (omega arith) (omega arith))
-  started_weighs shards some route shard (ask.Held (held.ReplaceEntry v)) (Some (guard.Vacant k)) ph e = rw e (plain-start refl refl (omega arith) (omega arith))
-  started_weighs shards some route shard (ask.Held held.IntoKey) (Some (guard.Vacant k)) ph e = rw e (plain-start refl refl (omega arith) (omega arith))
-  started_weighs shards some route shard (ask.Held held.Drop) (Some (guard.Vacant k)) ph e = rw e (plain-start refl refl (omega arith) (omega arith))
-  started_weighs shards some route shard (ask.Walk f) g ph e = subst (λ (z : Phase K V D T A). Weighs shards (shards - (0 + 1)) (ask.Walk f) z) (sym e) (walk-start shards some f (stops_at (stop_of f) 0))
+  started_weighs shards some route shard (ask.Held h) None ph e =
+      rw e (plain-start refl refl (omega arith) (omega arith))
+  started_weighs shards some route shard (ask.Held (held.Read d)) (Some (guard.Pair way.Shared)) ph e =
+      rw e (plain-start refl refl (omega arith) (omega arith))
+  started_weighs shards some route shard (ask.Held (held.Write d)) (Some (guard.Pair way.Shared)) ph e =
+      rw e (plain-start refl refl (omega arith) (omega arith))
+  started_weighs shards some route shard (ask.Held held.Downgrade) (Some (guard.Pair way.Shared)) ph e =
+      rw e (plain-start refl refl (omega arith) (omega arith))
+  started_weighs shards some route shard (ask.Held (held.Insert v)) (Some (guard.Pair way.Shared)) ph e =
+      rw e (plain-start refl refl (omega arith) (omega arith))
+  started_weighs shards some route shard (ask.Held held.IntoRef) (Some (guard.Pair way.Shared)) ph e =
+      rw e (plain-start refl refl (omega arith) (omega arith))
+  started_weighs shards some route shard (ask.Held held.Remove) (Some (guard.Pair way.Shared)) ph e =
+      rw e (plain-start refl refl (omega arith) (omega arith))
+  started_weighs shards some route shard (ask.Held held.RemoveEntry) (Some (guard.Pair way.Shared)) ph e =
+      rw e (plain-start refl refl (omega arith) (omega arith))
+  started_weighs shards some route shard (ask.Held (held.ReplaceEntry v)) (Some (guard.Pair way.Shared)) ph e =
+      rw e (plain-start refl refl (omega arith) (omega arith))
+  started_weighs shards some route shard (ask.Held held.IntoKey) (Some (guard.Pair way.Shared)) ph e =
+      rw e (plain-start refl refl (omega arith) (omega arith))
+  started_weighs shards some route shard (ask.Held held.Drop) (Some (guard.Pair way.Shared)) ph e =
+      rw e (plain-start refl refl (omega arith) (omega arith))
+  started_weighs shards some route shard (ask.Held (held.Read d)) (Some (guard.Pair way.Exclusive)) ph e =
+      rw e (plain-start refl refl (omega arith) (omega arith))
+  started_weighs shards some route shard (ask.Held (held.Write d)) (Some (guard.Pair way.Exclusive)) ph e =
+      rw e (plain-start refl refl (omega arith) (omega arith))
+  started_weighs shards some route shard (ask.Held held.Downgrade) (Some (guard.Pair way.Exclusive)) ph e =
+      rw e (plain-start refl refl (omega arith) (omega arith))
+  started_weighs shards some route shard (ask.Held (held.Insert v)) (Some (guard.Pair way.Exclusive)) ph e =
+      rw e (plain-start refl refl (omega arith) (omega arith))
+  started_weighs shards some route shard (ask.Held held.IntoRef) (Some (guard.Pair way.Exclusive)) ph e =
+      rw e (plain-start refl refl (omega arith) (omega arith))
+  started_weighs shards some route shard (ask.Held held.Remove) (Some (guard.Pair way.Exclusive)) ph e =
+      rw e (plain-start refl refl (omega arith) (omega arith))
+  started_weighs shards some route shard (ask.Held held.RemoveEntry) (Some (guard.Pair way.Exclusive)) ph e =
+      rw e (plain-start refl refl (omega arith) (omega arith))
+  started_weighs shards some route shard (ask.Held (held.ReplaceEntry v)) (Some (guard.Pair way.Exclusive)) ph e =
+      rw e (plain-start refl refl (omega arith) (omega arith))
+  started_weighs shards some route shard (ask.Held held.IntoKey) (Some (guard.Pair way.Exclusive)) ph e =
+      rw e (plain-start refl refl (omega arith) (omega arith))
+  started_weighs shards some route shard (ask.Held held.Drop) (Some (guard.Pair way.Exclusive)) ph e =
+      rw e (plain-start refl refl (omega arith) (omega arith))
+  started_weighs shards some route shard (ask.Held (held.Read d)) (Some (guard.Pair (way.Occupied k))) ph e =
+      rw e (plain-start refl refl (omega arith) (omega arith))
+  started_weighs shards some route shard (ask.Held (held.Write d)) (Some (guard.Pair (way.Occupied k))) ph e =
+      rw e (plain-start refl refl (omega arith) (omega arith))
+  started_weighs shards some route shard (ask.Held held.Downgrade) (Some (guard.Pair (way.Occupied k))) ph e =
+      rw e (plain-start refl refl (omega arith) (omega arith))
+  started_weighs shards some route shard (ask.Held (held.Insert v)) (Some (guard.Pair (way.Occupied k))) ph e =
+      rw e (plain-start refl refl (omega arith) (omega arith))
+  started_weighs shards some route shard (ask.Held held.IntoRef) (Some (guard.Pair (way.Occupied k))) ph e =
+      rw e (plain-start refl refl (omega arith) (omega arith))
+  started_weighs shards some route shard (ask.Held held.Remove) (Some (guard.Pair (way.Occupied k))) ph e =
+      rw e (plain-start refl refl (omega arith) (omega arith))
+  started_weighs shards some route shard (ask.Held held.RemoveEntry) (Some (guard.Pair (way.Occupied k))) ph e =
+      rw e (plain-start refl refl (omega arith) (omega arith))
+  started_weighs shards some route shard (ask.Held (held.ReplaceEntry v)) (Some (guard.Pair (way.Occupied k))) ph e =
+      rw e (plain-start refl refl (omega arith) (omega arith))
+  started_weighs shards some route shard (ask.Held held.IntoKey) (Some (guard.Pair (way.Occupied k))) ph e =
+      rw e (plain-start refl refl (omega arith) (omega arith))
+  started_weighs shards some route shard (ask.Held held.Drop) (Some (guard.Pair (way.Occupied k))) ph e =
+      rw e (plain-start refl refl (omega arith) (omega arith))
+  started_weighs shards some route shard (ask.Held (held.Read d)) (Some (guard.Vacant k)) ph e =
+      rw e (plain-start refl refl (omega arith) (omega arith))
+  started_weighs shards some route shard (ask.Held (held.Write d)) (Some (guard.Vacant k)) ph e =
+      rw e (plain-start refl refl (omega arith) (omega arith))
+  started_weighs shards some route shard (ask.Held held.Downgrade) (Some (guard.Vacant k)) ph e =
+      rw e (plain-start refl refl (omega arith) (omega arith))
+  started_weighs shards some route shard (ask.Held (held.Insert v)) (Some (guard.Vacant k)) ph e =
+      rw e (plain-start refl refl (omega arith) (omega arith))
+  started_weighs shards some route shard (ask.Held held.IntoRef) (Some (guard.Vacant k)) ph e =
+      rw e (plain-start refl refl (omega arith) (omega arith))
+  started_weighs shards some route shard (ask.Held held.Remove) (Some (guard.Vacant k)) ph e =
+      rw e (plain-start refl refl (omega arith) (omega arith))
+  started_weighs shards some route shard (ask.Held held.RemoveEntry) (Some (guard.Vacant k)) ph e =
+      rw e (plain-start refl refl (omega arith) (omega arith))
+  started_weighs shards some route shard (ask.Held (held.ReplaceEntry v)) (Some (guard.Vacant k)) ph e =
+      rw e (plain-start refl refl (omega arith) (omega arith))
+  started_weighs shards some route shard (ask.Held held.IntoKey) (Some (guard.Vacant k)) ph e =
+      rw e (plain-start refl refl (omega arith) (omega arith))
+  started_weighs shards some route shard (ask.Held held.Drop) (Some (guard.Vacant k)) ph e =
+      rw e (plain-start refl refl (omega arith) (omega arith))
+  started_weighs shards some route shard (ask.Walk f) g ph e =
+      subst (λ (z : Phase K V D T A). Weighs shards (shards - (0 + 1)) (ask.Walk f) z) (sym e)
+      (walk-start shards some f (stops_at (stop_of f) 0))
 
   -- the phase behind a change of a guard's pair
-  pub changed_weighs : (ends : Bool) (r : Answer K V T A) (ph : Phase K V D T A) → ph ≡ changed_phase ends r → (owes ph ≡ 1) × ((more : ℕ) → lists more ph ≡ 0) × (adds ph ≡ 0) × (walking ph ≡ false)
+  pub changed_weighs : (ends : Bool) (r : Answer K V T A) (ph : Phase K V D T A) → ph ≡ changed_phase ends r
+      → (owes ph ≡ 1) × ((more : ℕ) → lists more ph ≡ 0) × (adds ph ≡ 0) × (walking ph ≡ false)
   changed_weighs true r ph e = rw e (refl, (λ more. refl), refl, refl)
   changed_weighs false r ph e = rw e (refl, (λ more. refl), refl, refl)
 
   -- the phase behind a find
-  pub found_weighs : (r : Request K V D) (there room : Bool) (ph : Phase K V D T A) → ph ≡ found_phase r there room → (owes ph ≡ 1) × (adds ph ≤ 1) × (walking ph ≡ false)
+  pub found_weighs : (r : Request K V D) (there room : Bool) (ph : Phase K V D T A) → ph ≡ found_phase r there room
+      → (owes ph ≡ 1) × (adds ph ≤ 1) × (walking ph ≡ false)
   found_weighs (request.Keyed (keyed.Insert k v)) true room ph e = rw e (refl, omega arith, refl)
   found_weighs (request.Keyed (keyed.Insert k v)) false true ph e = rw e (refl, omega arith, refl)
   found_weighs (request.Keyed (keyed.Insert k v)) false false ph e = rw e (refl, omega arith, refl)
@@ -149,52 +217,69 @@ module _ {K : Type 0} (bs : List (Block K)) (st : Started) (at : ℕ) (bs' : Lis
   none_lost (Some done) h = omega (arith, one_added done h)
 
   -- a find lists its block, or may do so later
-  pub found_lists : {V D T A : Type 0} (more : ℕ) (r : Request K V D) (there room : Bool) (ph : Phase K V D T A) → ph ≡ found_phase r there room
+  pub found_lists : {V D T A : Type 0} (more : ℕ) (r : Request K V D) (there room : Bool) (ph : Phase K V D T A)
+      → ph ≡ found_phase r there room
       → AddsBlock bs (found_done r there room) st at bs' → length bs' + lists more ph ≡ length bs + 1
   found_lists more (request.Keyed (keyed.Insert k v)) true room ph e h = omega (arith, ap (lists more) e, one_added 0 h)
-  found_lists more (request.Keyed (keyed.Insert k v)) false true ph e h = omega (arith, ap (lists more) e, one_added 0 h)
+  found_lists more (request.Keyed (keyed.Insert k v)) false true ph e h =
+      omega (arith, ap (lists more) e, one_added 0 h)
   found_lists more (request.Keyed (keyed.Insert k v)) false false ph e h = omega (arith, ap (lists more) e, ap length h)
   found_lists more (request.Keyed (keyed.Remove k)) true room ph e h = omega (arith, ap (lists more) e, one_added 0 h)
   found_lists more (request.Keyed (keyed.Remove k)) false room ph e h = omega (arith, ap (lists more) e, one_added 1 h)
-  found_lists more (request.Keyed (keyed.RemoveIf k d)) true room ph e h = omega (arith, ap (lists more) e, one_added 0 h)
-  found_lists more (request.Keyed (keyed.RemoveIf k d)) false room ph e h = omega (arith, ap (lists more) e, one_added 1 h)
-  found_lists more (request.Keyed (keyed.RemoveIfMut k d)) true room ph e h = omega (arith, ap (lists more) e, one_added 0 h)
-  found_lists more (request.Keyed (keyed.RemoveIfMut k d)) false room ph e h = omega (arith, ap (lists more) e, one_added 1 h)
+  found_lists more (request.Keyed (keyed.RemoveIf k d)) true room ph e h =
+      omega (arith, ap (lists more) e, one_added 0 h)
+  found_lists more (request.Keyed (keyed.RemoveIf k d)) false room ph e h =
+      omega (arith, ap (lists more) e, one_added 1 h)
+  found_lists more (request.Keyed (keyed.RemoveIfMut k d)) true room ph e h =
+      omega (arith, ap (lists more) e, one_added 0 h)
+  found_lists more (request.Keyed (keyed.RemoveIfMut k d)) false room ph e h =
+      omega (arith, ap (lists more) e, one_added 1 h)
   found_lists more (request.Keyed (keyed.Alter k d)) true room ph e h = omega (arith, ap (lists more) e, one_added 0 h)
   found_lists more (request.Keyed (keyed.Alter k d)) false room ph e h = omega (arith, ap (lists more) e, one_added 1 h)
   found_lists more (request.Keyed (keyed.View k d)) true room ph e h = omega (arith, ap (lists more) e, ap length h)
   found_lists more (request.Keyed (keyed.View k d)) false room ph e h = omega (arith, ap (lists more) e, one_added 1 h)
-  found_lists more (request.Keyed (keyed.ContainsKey k)) true room ph e h = omega (arith, ap (lists more) e, one_added 1 h)
-  found_lists more (request.Keyed (keyed.ContainsKey k)) false room ph e h = omega (arith, ap (lists more) e, one_added 1 h)
+  found_lists more (request.Keyed (keyed.ContainsKey k)) true room ph e h =
+      omega (arith, ap (lists more) e, one_added 1 h)
+  found_lists more (request.Keyed (keyed.ContainsKey k)) false room ph e h =
+      omega (arith, ap (lists more) e, one_added 1 h)
   found_lists more (request.Begin b) true room ph e h = omega (arith, ap (lists more) e, one_added 1 h)
   found_lists more (request.Begin (begin.Get k)) false room ph e h = omega (arith, ap (lists more) e, one_added 1 h)
   found_lists more (request.Begin (begin.GetMut k)) false room ph e h = omega (arith, ap (lists more) e, one_added 1 h)
   found_lists more (request.Begin (begin.TryGet k)) false room ph e h = omega (arith, ap (lists more) e, one_added 1 h)
-  found_lists more (request.Begin (begin.TryGetMut k)) false room ph e h = omega (arith, ap (lists more) e, one_added 1 h)
-  found_lists more (request.Begin (begin.TryEntry k)) false true ph e h = omega (arith, ap (lists more) e, one_added 1 h)
+  found_lists more (request.Begin (begin.TryGetMut k)) false room ph e h =
+      omega (arith, ap (lists more) e, one_added 1 h)
+  found_lists more (request.Begin (begin.TryEntry k)) false true ph e h =
+      omega (arith, ap (lists more) e, one_added 1 h)
   found_lists more (request.Begin (begin.TryEntry k)) false false ph e h = omega (arith, ap (lists more) e, ap length h)
   found_lists more (request.Begin (begin.Entry k)) false true ph e h = omega (arith, ap (lists more) e, one_added 1 h)
   found_lists more (request.Begin (begin.Entry k)) false false ph e h = omega (arith, ap (lists more) e, ap length h)
 
-  pub grown_lists : {V D T A : Type 0} (more : ℕ) (g : Growth K V) (ph : Phase K V D T A) → ph ≡ found_phase (request_of g) false true
-      → AddsBlock bs (found_done {D = D} (request_of g) false true) st at bs' → (length bs' ≡ length bs + 1) × (lists more ph ≡ 0)
+  pub grown_lists : {V D T A : Type 0} (more : ℕ) (g : Growth K V) (ph : Phase K V D T A)
+      → ph ≡ found_phase (request_of g) false true
+      → AddsBlock bs (found_done {D = D} (request_of g) false true) st at bs' → (length bs' ≡ length bs + 1)
+      × (lists more ph ≡ 0)
   grown_lists more (growth.Insert k v) ph e h = (one_added 0 h, ap (lists more) e)
   grown_lists more (growth.Entry k) ph e h = (one_added 1 h, ap (lists more) e)
   grown_lists more (growth.TryEntry k) ph e h = (one_added 1 h, ap (lists more) e)
 
   -- the block behind is listed
-  pub behind_listed : (done : Option ℕ) (n : ℕ) (block : Option ℕ) → AddsBlock bs done st at bs' → n ≡ length bs → ((i : ℕ) → block ≡ Some i → i < length bs)
+  pub behind_listed : (done : Option ℕ) (n : ℕ) (block : Option ℕ) → AddsBlock bs done st at bs' → n ≡ length bs
+      → ((i : ℕ) → block ≡ Some i → i < length bs)
       → (i : ℕ) → block_behind done n block ≡ Some i → i < length bs'
   behind_listed None n block h e old i is = let below = old i is in omega (arith, below, ap length h)
-  behind_listed (Some done) n block h e old i is = let same = same_Some n i is in omega (arith, same, e, one_added done h)
+  behind_listed (Some done) n block h e old i is = let same = same_Some n i is in
+      omega (arith, same, e, one_added done h)
 
 -- a visit's block is one more
-pub visit_added : {K : Type 0} (bs : List (Block K)) (visit : ℕ) (keys : List K) (st : Started) (at : ℕ) (bs' : List (Block K)) → AddsVisit bs visit keys st at bs' → length bs' ≡ length bs + 1
+pub visit_added : {K : Type 0} (bs : List (Block K)) (visit : ℕ) (keys : List K) (st : Started) (at : ℕ)
+    (bs' : List (Block K)) → AddsVisit bs visit keys st at bs' → length bs' ≡ length bs + 1
 visit_added bs visit keys st at bs' h = simp length-append at (ap length h.2)
 
 -- what is added is what a step of that place lists
-pub lists_block : {K V S D T A : Type 0} (w : State K V S D T A) (t : ℕ) (p : Place K V D T A) (done : Option ℕ) (st : Started) (at : ℕ) (bs' : List (Block K))
-    → AddsBlock w.blocks done st at bs' → st.thread ≡ t → st.call ≡ p.next → p.started ≡ Some st.start → at ≡ next_step w → ListsBlock w t p done bs'
+pub lists_block : {K V S D T A : Type 0} (w : State K V S D T A) (t : ℕ) (p : Place K V D T A) (done : Option ℕ)
+    (st : Started) (at : ℕ) (bs' : List (Block K))
+    → AddsBlock w.blocks done st at bs' → st.thread ≡ t → st.call ≡ p.next → p.started ≡ Some st.start
+    → at ≡ next_step w → ListsBlock w t p done bs'
 lists_block w t p None st at bs' h thread call start now = h
 lists_block w t p (Some done) st at bs' h thread call start now = (
   h.0,
@@ -212,8 +297,10 @@ lists_block w t p (Some done) st at bs' h thread call start now = (
 )
 
 -- how many pairs there are behind a change of one shard
-pub pairs_set : {K V : Type 0} (tables : List (ShardPairs K V)) (i : ℕ) (old new : ShardPairs K V) → slice_get tables i ≡ Some old
-    → length (flat_map (λ (t : ShardPairs K V). t.items) (slice_set tables i new)) + length old.items ≡ length (flat_map (λ (t : ShardPairs K V). t.items) tables) + length new.items
+pub pairs_set : {K V : Type 0} (tables : List (ShardPairs K V)) (i : ℕ) (old new : ShardPairs K V)
+    → slice_get tables i ≡ Some old
+    → length (flat_map (λ (t : ShardPairs K V). t.items) (slice_set tables i new)) + length old.items ≡ length
+    (flat_map (λ (t : ShardPairs K V). t.items) tables) + length new.items
 pairs_set {K} {V} tables i old new h =
     let f : ShardPairs K V → List (K × V) = λ t. t.items in
     let before = length-flat_map f tables in
@@ -223,20 +310,28 @@ pairs_set {K} {V} tables i old new h =
 
 -- so of the shards that the code keeps
 pub pairs_put : {K V : Type 0} (tables : List (Table K V)) (i : ℕ) (old new : Table K V) → slice_get tables i ≡ Some old
-    → length (flat_map (λ (t : ShardPairs K V). t.items) (map shard_pairs (slice_set tables i new))) + length (shard_pairs old).items ≡ length (flat_map (λ (t : ShardPairs K V). t.items) (map shard_pairs tables)) + length (shard_pairs new).items
+    → length (flat_map (λ (t : ShardPairs K V). t.items) (map shard_pairs (slice_set tables i new))) + length
+    (shard_pairs old).items ≡ length (flat_map (λ (t : ShardPairs K V). t.items) (map shard_pairs tables)) + length
+    (shard_pairs new).items
 pairs_put {K} {V} tables i old new h =
-    let set : length (flat_map (λ (t : ShardPairs K V). t.items) (map shard_pairs (slice_set tables i new))) ≡ length (flat_map (λ (t : ShardPairs K V). t.items) (slice_set (map shard_pairs tables) i (shard_pairs new))) =
-    ap (λ (ts : List (ShardPairs K V)). length (flat_map (λ (t : ShardPairs K V). t.items) ts)) (map-set shard_pairs tables i new) in
-    let change = pairs_set (map shard_pairs tables) i (shard_pairs old) (shard_pairs new) (view-at shard_pairs tables i old h) in
+    let set : length (flat_map (λ (t : ShardPairs K V). t.items) (map shard_pairs (slice_set tables i new))) ≡ length
+    (flat_map (λ (t : ShardPairs K V). t.items) (slice_set (map shard_pairs tables) i (shard_pairs new))) =
+    ap (λ (ts : List (ShardPairs K V)). length (flat_map (λ (t : ShardPairs K V). t.items) ts))
+    (map-set shard_pairs tables i new) in
+    let change = pairs_set (map shard_pairs tables) i (shard_pairs old) (shard_pairs new)
+    (view-at shard_pairs tables i old h) in
     omega (arith, set, change)
 
 -- where a shard keeps its pairs, or their number, there are as many
-pub pairs_kept : {K V : Type 0} (tables : List (ShardPairs K V)) (i : ℕ) (old new : ShardPairs K V) → slice_get tables i ≡ Some old → length new.items ≡ length old.items
-    → length (flat_map (λ (t : ShardPairs K V). t.items) (slice_set tables i new)) ≡ length (flat_map (λ (t : ShardPairs K V). t.items) tables)
+pub pairs_kept : {K V : Type 0} (tables : List (ShardPairs K V)) (i : ℕ) (old new : ShardPairs K V)
+    → slice_get tables i ≡ Some old → length new.items ≡ length old.items
+    → length (flat_map (λ (t : ShardPairs K V). t.items) (slice_set tables i new)) ≡ length
+    (flat_map (λ (t : ShardPairs K V). t.items) tables)
 pairs_kept tables i old new h e = let change = pairs_set tables i old new h in omega (arith, change, e)
 
 -- a shard's pairs are among all
-pub pairs_at : {K V : Type 0} (tables : List (ShardPairs K V)) (i : ℕ) (table : ShardPairs K V) → slice_get tables i ≡ Some table
+pub pairs_at : {K V : Type 0} (tables : List (ShardPairs K V)) (i : ℕ) (table : ShardPairs K V)
+    → slice_get tables i ≡ Some table
     → length table.items ≤ length (flat_map (λ (t : ShardPairs K V). t.items) tables)
 pairs_at {K} {V} tables i table h =
     let f : ShardPairs K V → List (K × V) = λ t. t.items in

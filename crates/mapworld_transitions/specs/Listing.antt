@@ -24,7 +24,8 @@ AddsBlock bs None started position bs' = bs' ≡ bs
 AddsBlock {K} bs (Some n) started position bs' = (b : Block K) × IsNew started position n b × (bs' ≡ bs ++ b ∷ [])
 
 -- the block of a walk's visit that is listed with those keys done
-pub record IsNewVisit {K : Type 0} (visit_number : ℕ) (keys : List K) (started : Started) (position : ℕ) (b : Block K) : Type 0 where
+pub record IsNewVisit {K : Type 0} (visit_number : ℕ) (keys : List K) (started : Started) (position : ℕ)
+    (b : Block K) : Type 0 where
   pub thread : b.thread ≡ started.thread
   pub call : b.call ≡ started.call
   pub visit : b.visit ≡ visit_number
@@ -35,4 +36,5 @@ pub record IsNewVisit {K : Type 0} (visit_number : ℕ) (keys : List K) (started
   pub visited : b.visited.items ≡ keys
 
 abbrev pub AddsVisit : {K : Type 0} → List (Block K) → ℕ → List K → Started → ℕ → List (Block K) → Type 0
-AddsVisit {K} bs visit keys started position bs' = (b : Block K) × IsNewVisit visit keys started position b × (bs' ≡ bs ++ b ∷ [])
+AddsVisit {K} bs visit keys started position bs' = (b : Block K) × IsNewVisit visit keys started position b
+    × (bs' ≡ bs ++ b ∷ [])

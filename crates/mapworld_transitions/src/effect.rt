@@ -5,7 +5,8 @@ use core::mem;
 use mapworld_calls::Deed;
 
 /// What stores a value in another one's place: of a deed the part that does so, and not what it answers.
-// A deed has the type of its answers, and the borrow checker takes no closure to `replace_with` whose bounds have such a type.
+// A deed has the type of its answers, and the borrow checker takes no closure to `replace_with` whose bounds have such
+// a type.
 trait Effect<K, V> {
     /// What `store` gives.
     ghost stores: { Self → K → V → V };

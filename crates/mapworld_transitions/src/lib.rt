@@ -1,5 +1,5 @@
-//! What the steps of a world of maps are made of: where each kind leads a thread, what it does to the list of blocks and to a shard's
-//! list, and what it asks of the holds.
+//! What the steps of a world of maps are made of: where each kind leads a thread, what it does to the list of blocks
+//! and to a shard's list, and what it asks of the holds.
 #![tactic(auto)]
 
 pub mod blocks;

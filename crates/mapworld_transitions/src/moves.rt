@@ -6,10 +6,13 @@ ghost use Rattle.mapworld_state.specs.declared.place.Guard.TheVariants as own;
 ghost use Rattle.mapworld_calls.specs.Programs.{keyed_key, opening_key, is_drop};
 ghost use Rattle.mapworld_state.specs.Route.{IsWorldAmount, key_route};
 ghost use Rattle.mapworld_state.specs.Moves.{request_key, request_tries, mode_of, is_last, lent_way, vacant_key};
-ghost use Rattle.mapworld_state.specs.Moves.{shared_phase, exclusive_phase, occupied_phase, occupied_guard, vacant_phase, vacant_guard};
-ghost use Rattle.mapworld_state.specs.Moves.{held_phase, held_guard, start_phase, start_guard, start_shard, is_told, start_counts};
+ghost use Rattle.mapworld_state.specs.Moves.{shared_phase, exclusive_phase, occupied_phase, occupied_guard};
+ghost use Rattle.mapworld_state.specs.Moves.{vacant_phase, vacant_guard};
+ghost use Rattle.mapworld_state.specs.Moves.{held_phase, held_guard, start_phase, start_guard, start_shard, is_told};
+ghost use Rattle.mapworld_state.specs.Moves.{start_counts};
 ghost use Rattle.mapworld_state.specs.Moves.{ends_guard, takes_pair, changed_phase, growth_key, request_of};
-ghost use Rattle.mapworld_state.specs.Moves.{opening_way, opening_mode, found_phase, found_done, found_guard, block_behind};
+ghost use Rattle.mapworld_state.specs.Moves.{opening_way, opening_mode, found_phase, found_done, found_guard};
+ghost use Rattle.mapworld_state.specs.Moves.{block_behind};
 
 use crate::route::shard_of;
 use crate::walks::{stop_of, stops_at};
@@ -258,7 +261,8 @@ pub fn start_shard<K: Eq + Hash, V, D, S: BuildHasher>(
     shard: usize,
 ) -> usize
     requires { IsWorldAmount shards }
-    ensures { result ≡ start_shard (key_route S.BuildHasher S.Hasher.Hasher K.hash_input hasher.now shards) ask.now shard }
+    ensures { result ≡ start_shard (key_route S.BuildHasher S.Hasher.Hasher K.hash_input hasher.now shards) ask.now
+        shard }
 {
     match ask {
         Ask::Keyed(call) => shard_of(hasher, shards, keyed_key(call)),
@@ -372,7 +376,11 @@ fn find_nothing<K: Drop, V, D, T, A: Allocator>(
     begin: Begin<K>,
     room: bool,
 ) -> (Phase<K, V, D, T, A>, Option<Guard<K>>)
-    ensures { result ≡ (found_phase (request.Begin begin) false room, found_guard {V = V} {D = D} (request.Begin begin) false room) }
+    ensures { result ≡ (
+      found_phase (request.Begin begin) false room,
+      found_guard {V = V} {D = D} (request.Begin begin)
+          false room,
+    ) }
 {
     match begin {
         Begin::Entry(key) | Begin::TryEntry(key) if room => {
@@ -384,7 +392,8 @@ fn find_nothing<K: Drop, V, D, T, A: Allocator>(
     }
 }
 
-/// The phase behind a find, and the guard that it gives, by whether the key is present and whether there is room for it.
+/// The phase behind a find, and the guard that it gives, by whether the key is present and whether there is room for
+/// it.
 pub fn found<K: Drop, V: Drop, D: Drop, T, A: Allocator>(
     request: Request<K, V, D>,
     present: bool,

@@ -1,5 +1,6 @@
 //! What steps do with a shard's pairs.
-ghost use Rattle.std.specs.Prelude.{◌≡◌, ℕ, true, not, if◌then◌else◌, is_some, IsTrue, IsSome, IfSome, OnOk, OnErr, Some, None};
+ghost use Rattle.std.specs.Prelude.{◌≡◌, ℕ, true, not, if◌then◌else◌, is_some, IsTrue, IsSome, IfSome, OnOk, OnErr};
+ghost use Rattle.std.specs.Prelude.{Some, None};
 ghost use Rattle.std.specs.Option.{option_map};
 ghost use Rattle.dashmap_table.specs.Slots.{at, pair_of as entry_pair};
 ghost use Rattle.dashmap_table.specs.Table.{Frees, with_value};
@@ -114,7 +115,8 @@ pub(crate) fn write_effect<K: Eq + Hash, V, D: Deed<K, V>, A: Allocator>(
     deed: &D,
 )
     requires full { IsSome (at shard.old.slots slot) }
-    ensures { IfSome (at shard.old.slots slot) (λ e. shard.new ≡ with_value shard.old slot (D.effect_of deed.now e.key e.value)) }
+    ensures { IfSome (at shard.old.slots slot)
+        (λ e. shard.new ≡ with_value shard.old slot (D.effect_of deed.now e.key e.value)) }
 {
     let (key, place) = shard.lend(slot);
     store_effect(key, place, deed);
@@ -140,9 +142,12 @@ pub fn apply_at<K: Eq + Hash + Drop, V: Drop, D: Deed<K, V> + Drop, A: Allocator
     call: Keyed<K, V, D>,
 ) -> (Answer<K, V, D::Answer, A>, bool)
     requires full { IsSome (at shard.old.slots slot) }
-    ensures answer { IfSome (at shard.old.slots slot) (λ e. result.0 ≡ keyed_answer (deeds_of D.Deed) call (Some (entry_pair e))) }
-    ensures gone { IfSome (at shard.old.slots slot) (λ e. result.1 ≡ not (is_some (keyed_leaves (deeds_of D.Deed) call (Some (entry_pair e))))) }
-    ensures leaves { IfSome (at shard.old.slots slot) (λ e. LeavesAt shard.old shard.new slot (keyed_leaves (deeds_of D.Deed) call (Some (entry_pair e)))) }
+    ensures answer { IfSome (at shard.old.slots slot)
+        (λ e. result.0 ≡ keyed_answer (deeds_of D.Deed) call (Some (entry_pair e))) }
+    ensures gone { IfSome (at shard.old.slots slot)
+        (λ e. result.1 ≡ not (is_some (keyed_leaves (deeds_of D.Deed) call (Some (entry_pair e))))) }
+    ensures leaves { IfSome (at shard.old.slots slot)
+        (λ e. LeavesAt shard.old shard.new slot (keyed_leaves (deeds_of D.Deed) call (Some (entry_pair e)))) }
 {
     match call {
         Keyed::Insert(_, value) => (Answer::Value(swap_value(shard, slot, value)), false),
@@ -196,7 +201,8 @@ fn replace_at<K: Eq + Hash + Drop, V: Drop, A: Allocator>(
     }
 }
 
-/// Does with the guarded pair, which stands in that slot, what the call does with it: the call's answer, and the guard behind it.
+/// Does with the guarded pair, which stands in that slot, what the call does with it: the call's answer, and the guard
+/// behind it.
 pub fn change_at<K: Eq + Hash + Drop, V: Drop, D: Deed<K, V> + Drop, A: Allocator>(
     shard: &mut Shard<K, V, A>,
     slot: usize,
@@ -205,10 +211,14 @@ pub fn change_at<K: Eq + Hash + Drop, V: Drop, D: Deed<K, V> + Drop, A: Allocato
 ) -> (Answer<K, V, D::Answer, A>, Option<Guard<K>>)
     requires full { IsSome (at shard.old.slots slot) }
     requires change { is_change call way ≡ true }
-    requires equal { (handed : K) → way ≡ Occupied handed → IfSome (at shard.old.slots slot) (λ e. IsTrue (K.eq e.key handed)) }
-    ensures answer { IfSome (at shard.old.slots slot) (λ e. result.0 ≡ held_answer (deeds_of D.Deed) call (lent way (entry_pair e))) }
+    requires equal { (handed : K) → way ≡ Occupied handed
+        → IfSome (at shard.old.slots slot) (λ e. IsTrue (K.eq e.key handed)) }
+    ensures answer { IfSome (at shard.old.slots slot)
+        (λ e. result.0 ≡ held_answer (deeds_of D.Deed) call (lent way (entry_pair e))) }
     ensures guard { result.1 ≡ (if ends_guard call then None else Some (guard.Pair way)) }
-    ensures leaves { IfSome (at shard.old.slots slot) (λ e. LeavesAt shard.old shard.new slot (pair_in (held_leaves (deeds_of D.Deed) call (lent way (entry_pair e))))) }
+    ensures leaves { IfSome (at shard.old.slots slot)
+        (λ e. LeavesAt shard.old shard.new slot
+        (pair_in (held_leaves (deeds_of D.Deed) call (lent way (entry_pair e))))) }
 {
     match (call, way) {
         (Held::Write(deed), Way::Exclusive) => {

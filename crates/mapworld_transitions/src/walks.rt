@@ -1,5 +1,7 @@
 //! How walks go through their shards.
-ghost use Rattle.std.specs.Prelude.{◌≡◌, ℕ, ◌+◌, ◌<◌, ◌≤◌, ◌++◌, true, false, not, if◌then◌else◌, is_some, is_none, length, map, List, IsSome, IfSome, MatchOption, OnOk, OnErr, Some, None, [], ◌^◌, vec_len, vec_capacity};
+ghost use Rattle.std.specs.Prelude.{◌≡◌, ℕ, ◌+◌, ◌<◌, ◌≤◌, ◌++◌, true, false, not, if◌then◌else◌, is_some, is_none};
+ghost use Rattle.std.specs.Prelude.{length, map, List, IsSome, IfSome, MatchOption, OnOk, OnErr, Some, None, [], ◌^◌};
+ghost use Rattle.std.specs.Prelude.{vec_len, vec_capacity};
 ghost use Rattle.std.specs.Option.{unwrap_or};
 ghost use Rattle.dashmap_table.specs.Slots.{at, count as full_slots, pair_of as entry_pair, pairs_of, IsNextFull};
 ghost use Rattle.mapworld_calls.specs.Calls.{visit_leaves, visit_reads};
@@ -8,7 +10,9 @@ ghost use Rattle.mapworld_state.specs.Core.{walk_lists, phase_lists};
 ghost use Rattle.mapworld_state.specs.Moves.{stops_at, VisitsKey};
 ghost use Rattle.mapworld_state.specs.Shards.{shard_pairs};
 ghost use Rattle.mapworld_state.specs.Slots.{HasHashes, to_give, FitsReads};
-ghost use Rattle.mapworld_state.specs.Walks.{walk_mode, hands_over, gives_items, gives_reads, entered_phase, looked_keys, looked_count, IsLookedAt, IsTold, walk_ends, behind_visit, LeadsOn};
+ghost use Rattle.mapworld_state.specs.Walks.{walk_mode, hands_over, gives_items, gives_reads, entered_phase};
+ghost use Rattle.mapworld_state.specs.Walks.{looked_keys, looked_count, IsLookedAt, IsTold, walk_ends, behind_visit};
+ghost use Rattle.mapworld_state.specs.Walks.{LeadsOn};
 ghost use Rattle.mapworld_state.specs.World.{deeds_of};
 ghost use Rattle.mapworld_transitions.specs.Slots.{LeavesAt, HashesAlike};
 ghost use Rattle.mapworld_transitions.specs.Walking.{as_list};
@@ -156,7 +160,8 @@ fn take_room<T, A: Allocator>(
     }
 }
 
-/// Readies a shard and the list of reads for a visit: a walk that reads takes room for all that it may read there, and one that shrinks does so.
+/// Readies a shard and the list of reads for a visit: a walk that reads takes room for all that it may read there, and
+/// one that shrinks does so.
 pub fn make_ready<K: Eq + Hash + Drop, V: Drop, D, T, A: Allocator + Clone>(
     shard: &mut Shard<K, V, A>,
     reads: &mut Vec<T, A>,
@@ -169,7 +174,8 @@ pub fn make_ready<K: Eq + Hash + Drop, V: Drop, D, T, A: Allocator + Clone>(
     ensures same { gives_items walk.now ≡ true → shard.new ≡ shard.old }
     ensures kept { reads.new.items ≡ reads.old.items }
     ensures fits { OnOk result (FitsReads walk.now reads.new count (full_slots shard.new.slots)) }
-    ensures refused { OnErr result ((shard.new ≡ shard.old) × (walk_may_grow walk.now ≡ true) × (0 < length (shard_pairs shard.old).items)) }
+    ensures refused { OnErr result
+        ((shard.new ≡ shard.old) × (walk_may_grow walk.now ≡ true) × (0 < length (shard_pairs shard.old).items)) }
     ensures hashed { (hash : K → ℕ) → HasHashes hash shard.old → HasHashes hash shard.new }
 {
     match walk {
@@ -185,7 +191,8 @@ pub fn first_slot<K: Eq + Hash, V, D, A: Allocator>(
     shard: &Shard<K, V, A>,
 ) -> Option<usize>
     ensures none { gives_items walk.now ≡ false → result ≡ None }
-    ensures first { gives_items walk.now ≡ true → MatchOption result ((i : ℕ) → at shard.now.slots i ≡ None) (IsNextFull shard.now.slots 0) }
+    ensures first { gives_items walk.now ≡ true → MatchOption result ((i : ℕ) → at shard.now.slots i ≡ None)
+        (IsNextFull shard.now.slots 0) }
 {
     if gives_items(walk) {
         shard.next_from(0)
@@ -253,7 +260,8 @@ fn walk_ends<D>(shards: usize, walk: &Walk<D>, shard: usize, done: bool, count: 
     stops_at(stop, count) || (done && shard + 1 == shards)
 }
 
-/// The phase behind a look or a deed, by whether the walk ends and whether its shard is done; an answer takes what was read.
+/// The phase behind a look or a deed, by whether the walk ends and whether its shard is done; an answer takes what was
+/// read.
 fn next_phase<K, V, D, T: Drop, A: Allocator>(
     walk: Walk<D>,
     ends: bool,
@@ -279,7 +287,8 @@ where
     }
 }
 
-/// Leads a place on behind a look or a deed, by the slot of the visit's next pair: to that pair, to the next shard, or to the walk's end.
+/// Leads a place on behind a look or a deed, by the slot of the visit's next pair: to that pair, to the next shard, or
+/// to the walk's end.
 pub fn lead_on<K: Drop, V: Drop, D: Drop, T: Drop, A: Allocator>(
     place: &mut Place<K, V, D, T, A>,
     walk: Walk<D>,
@@ -288,11 +297,19 @@ pub fn lead_on<K: Drop, V: Drop, D: Drop, T: Drop, A: Allocator>(
 )
     requires shard { place.old.shard < 2 ^ 63 }
     requires lists { walk_lists walk ≤ length place.old.lists.items }
-    ensures leads { LeadsOn walk (walk_ends shards walk place.old.shard (is_none next) place.old.count) (is_none next) place.old.reads.items place.old.count place.new.phase place.new.reads.items }
-    ensures kept { walk_ends shards walk place.old.shard (is_none next) place.old.count ≡ false → place.new.reads ≡ place.old.reads }
+    ensures leads { LeadsOn walk (walk_ends shards walk place.old.shard (is_none next) place.old.count) (is_none next)
+        place.old.reads.items place.old.count place.new.phase place.new.reads.items }
+    ensures kept { walk_ends shards walk place.old.shard (is_none next) place.old.count ≡ false
+        → place.new.reads ≡ place.old.reads }
     ensures number { IfSome (stop_of walk) (λ stop. stop < 2 ^ 64) }
-    ensures lists { phase_lists place.new.phase + length place.old.lists.items ≡ walk_lists walk + length place.new.lists.items }
-    ensures after { place.new ≡ record place.old { slot = unwrap_or next place.old.slot; reads = place.new.reads; lists = place.new.lists; phase = place.new.phase } }
+    ensures lists { phase_lists place.new.phase + length place.old.lists.items ≡ walk_lists walk + length
+        place.new.lists.items }
+    ensures after { place.new ≡ record place.old {
+      slot = unwrap_or next place.old.slot;
+      reads = place.new.reads;
+      lists = place.new.lists;
+      phase = place.new.phase;
+    } }
 {
     let done = next.is_none();
     let ends = walk_ends(shards, &walk, place.shard, done, place.count);
@@ -315,7 +332,8 @@ fn read_of<K: Eq + Hash, V, D: Deed<K, V>, A: Allocator>(
     walk: &Walk<D>,
 ) -> Option<D::Answer>
     requires full { IsSome (at shard.now.slots slot) }
-    ensures read { IfSome (at shard.now.slots slot) (λ e. as_list result ≡ visit_reads (deeds_of D.Deed) walk.now (Some (entry_pair e))) }
+    ensures read { IfSome (at shard.now.slots slot)
+        (λ e. as_list result ≡ visit_reads (deeds_of D.Deed) walk.now (Some (entry_pair e))) }
     ensures reads { is_some result ≡ gives_reads walk.now }
 {
     match walk {
@@ -334,8 +352,10 @@ fn visit_at<K: Eq + Hash + Drop, V: Drop, D: Deed<K, V>, A: Allocator>(
     walk: &Walk<D>,
 ) -> bool
     requires full { IsSome (at shard.old.slots slot) }
-    ensures gone { IfSome (at shard.old.slots slot) (λ e. result ≡ not (is_some (visit_leaves (deeds_of D.Deed) walk.now (Some (entry_pair e))))) }
-    ensures leaves { IfSome (at shard.old.slots slot) (λ e. LeavesAt shard.old shard.new slot (visit_leaves (deeds_of D.Deed) walk.now (Some (entry_pair e)))) }
+    ensures gone { IfSome (at shard.old.slots slot)
+        (λ e. result ≡ not (is_some (visit_leaves (deeds_of D.Deed) walk.now (Some (entry_pair e))))) }
+    ensures leaves { IfSome (at shard.old.slots slot)
+        (λ e. LeavesAt shard.old shard.new slot (visit_leaves (deeds_of D.Deed) walk.now (Some (entry_pair e)))) }
 {
     match walk {
         Walk::IterMut(deed, _) | Walk::AlterAll(deed) => write_effect(shard, slot, deed),
@@ -349,8 +369,8 @@ fn visit_at<K: Eq + Hash + Drop, V: Drop, D: Deed<K, V>, A: Allocator>(
     false
 }
 
-/// Does at the pair of a full slot what a walk does there: its key is noted in the visit's block, what is read of it goes to the list of
-/// reads, and it changes or goes. Whether it is gone.
+/// Does at the pair of a full slot what a walk does there: its key is noted in the visit's block, what is read of it
+/// goes to the list of reads, and it changes or goes. Whether it is gone.
 pub fn visit_pair<K: Eq + Hash + Drop, V: Drop, D: Deed<K, V>, A: Allocator>(
     shard: &mut Shard<K, V, A>,
     slot: usize,
@@ -361,10 +381,13 @@ pub fn visit_pair<K: Eq + Hash + Drop, V: Drop, D: Deed<K, V>, A: Allocator>(
     requires full { IsSome (at shard.old.slots slot) }
     requires room { gives_reads walk.now ≡ true → vec_len reads.old < vec_capacity reads.old }
     ensures noted { IfSome (at shard.old.slots slot) (λ e. VisitsKey e.key block.old block.new) }
-    ensures read { IfSome (at shard.old.slots slot) (λ e. reads.new.items ≡ reads.old.items ++ visit_reads (deeds_of D.Deed) walk.now (Some (entry_pair e))) }
+    ensures read { IfSome (at shard.old.slots slot)
+        (λ e. reads.new.items ≡ reads.old.items ++ visit_reads (deeds_of D.Deed) walk.now (Some (entry_pair e))) }
     ensures capacity { vec_capacity reads.new ≡ vec_capacity reads.old }
-    ensures gone { IfSome (at shard.old.slots slot) (λ e. result ≡ not (is_some (visit_leaves (deeds_of D.Deed) walk.now (Some (entry_pair e))))) }
-    ensures leaves { IfSome (at shard.old.slots slot) (λ e. LeavesAt shard.old shard.new slot (visit_leaves (deeds_of D.Deed) walk.now (Some (entry_pair e)))) }
+    ensures gone { IfSome (at shard.old.slots slot)
+        (λ e. result ≡ not (is_some (visit_leaves (deeds_of D.Deed) walk.now (Some (entry_pair e))))) }
+    ensures leaves { IfSome (at shard.old.slots slot)
+        (λ e. LeavesAt shard.old shard.new slot (visit_leaves (deeds_of D.Deed) walk.now (Some (entry_pair e)))) }
 {
     note_key(block, pair_at(shard, slot).0);
     if let Some(read) = read_of(shard, slot, walk) {

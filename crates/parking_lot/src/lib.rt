@@ -1,11 +1,13 @@
 //! The locks for real threads: raw locks on the rows of a lock table, and the generic locks of `lock_api` over them.
 //!
-//! The raw locks and the table are those of `parking_lot_mutex` and `parking_lot_rwlock`. Nothing is promised of a word, nor that a call comes back: what
-//! keeps two writers from one value is the std lock in which a generic lock keeps it.
+//! The raw locks and the table are those of `parking_lot_mutex` and `parking_lot_rwlock`. Nothing is promised of a
+//! word, nor that a call comes back: what keeps two writers from one value is the std lock in which a generic lock
+//! keeps it.
 //!
 //! A [`Once`] of `parking_lot_mutex` runs one closure once.
 //!
-//! What the calls of locks, condition variables and onces do under every schedule can be tried in a [`World`], whose steps are told one by one.
+//! What the calls of locks, condition variables and onces do under every schedule can be tried in a [`World`], whose
+//! steps are told one by one.
 //!
 //! Calls that may sleep take the data of a participant of the table's lot.
 //!

@@ -1,7 +1,8 @@
-//! The generic locks of `lock_api` over the raw locks of `parking_lot_mutex` and `parking_lot_rwlock`, under their usual names.
+//! The generic locks of `lock_api` over the raw locks of `parking_lot_mutex` and `parking_lot_rwlock`, under their
+//! usual names.
 //!
-//! Of each, `T` is the type of the value, `R` the lot's runtime and `A` the lot's allocator; a guard's first lifetime is that of
-//! the lock, and the others are those of the lock table and of the lot.
+//! Of each, `T` is the type of the value, `R` the lot's runtime and `A` the lot's allocator; a guard's first lifetime
+//! is that of the lock, and the others are those of the lock table and of the lot.
 
 use parking_lot_mutex::condvar::RawCondvar;
 use parking_lot_mutex::{RawFairMutex, RawMutex, RawThreadId};

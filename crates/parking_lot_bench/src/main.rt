@@ -1,15 +1,20 @@
-//! What it costs to lock and unlock, counted from outside by a tool that counts instructions, and what it costs to wait.
+//! What it costs to lock and unlock, counted from outside by a tool that counts instructions, and what it costs to
+//! wait.
 //!
-//! Without arguments it makes one small run of each kind, and prints a line of checksums for the generic locks, one for the
-//! parking lot and one for its locks. The cost of a pair or a call is the difference of two counts, divided by the difference of
-//! the rounds.
+//! Without arguments it makes one small run of each kind, and prints a line of checksums for the generic locks, one for
+//! the parking lot and one for its locks. The cost of a pair or a call is the difference of two counts, divided by the
+//! difference of the rounds.
 //!
-//! - `generic KIND ROUNDS` makes so many pairs of a lock and its release, by the generic locks over raw locks of one atomic word:
-//!   `read`, `write`, `mapped-read`, `mapped-write` and `mutex`, by std's own locks `std-read`, `std-write` and `std-mutex`, and
+//! - `generic KIND ROUNDS` makes so many pairs of a lock and its release, by the generic locks over raw locks of one
+//!   atomic word:
+//! `read`, `write`, `mapped-read`, `mapped-write` and `mutex`, by std's own locks `std-read`, `std-write` and
+//! `std-mutex`, and
 //!   without a lock `none`. It prints how many pairs found the value that they must find.
-//! - `lot pair ROUNDS` hands a turn to and fro between two threads, by the lot and by condition variables, and prints what one
+//! - `lot pair ROUNDS` hands a turn to and fro between two threads, by the lot and by condition variables, and prints
+//!   what one
 //!   turn took of each; `lot empty ROUNDS` unparks the first waiter of a key that has none.
-//! - `locks PAIR PAIRS` locks and unlocks so many times with nobody beside it, in the form that is named (`mutex`, `read-in-time`,
+//! - `locks PAIR PAIRS` locks and unlocks so many times with nobody beside it, in the form that is named (`mutex`,
+//!   `read-in-time`,
 //!   `upgrade-try`, `fair-guard`, `nested`, `std-write` ..), and prints what is left in the word.
 //! - `locks turns ROUNDS` has two threads hand each kind of lock to one another, and prints what one turn took.
 #![tactic(auto)]

@@ -1,6 +1,6 @@
-//! Tests of the cores that decide what a call at a lock does next: calls told one thing after another, words of worked examples, and
-//! waking sections by the tokens in their list. Beside them one thread alone tries what stands on these cores: tables of lock words, the checks
-//! of generic locks, and guards as programs keep them.
+//! Tests of the cores that decide what a call at a lock does next: calls told one thing after another, words of worked
+//! examples, and waking sections by the tokens in their list. Beside them one thread alone tries what stands on these
+//! cores: tables of lock words, the checks of generic locks, and guards as programs keep them.
 #![tactic(auto)]
 
 #[cfg(test)]

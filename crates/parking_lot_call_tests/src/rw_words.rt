@@ -1,13 +1,13 @@
-//! Words of the worked example: a reader and a pending writer that sleeps, then the writer alone; and of waiters behind an
-//! upgradable owner.
+//! Words of the worked example: a reader and a pending writer that sleeps, then the writer alone; and of waiters behind
+//! an upgradable owner.
 
 use parking_lot_protocol::word::{
     is_exclusive, is_held, is_parked, is_upgradable, is_writer_parked, is_written, readers,
 };
 use parking_lot_protocol::{Act, ActResult, CoreAnswer, RwCore, SectionAct, WordChange};
 
-/// The bits that the last reader keeps of the word once it has looked for the pending writer; none where its core goes another
-/// way.
+/// The bits that the last reader keeps of the word once it has looked for the pending writer; none where its core goes
+/// another way.
 fn kept_by_the_last_reader() -> u64 {
     let mut core = RwCore::unlock_shared();
     let _ = core.next(ActResult::Start);
@@ -24,7 +24,8 @@ fn kept_by_the_last_reader() -> u64 {
     }
 }
 
-/// What a downgrade does to the word once it has found nobody in the list; nothing is kept where its core goes another way.
+/// What a downgrade does to the word once it has found nobody in the list; nothing is kept where its core goes another
+/// way.
 fn stored_by_a_downgrade() -> WordChange {
     let mut core = RwCore::downgrade();
     let _ = core.next(ActResult::Start);

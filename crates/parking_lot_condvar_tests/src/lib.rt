@@ -1,6 +1,6 @@
-//! Tests of the condition variable and of one-time initialization, for what no clause of them says: their words, calls told one thing
-//! after another, which waiters are moved and woken, that no notification is lost, and that one closure at most ends well. The names of
-//! `parking_lot` are each used here, too.
+//! Tests of the condition variable and of one-time initialization, for what no clause of them says: their words, calls
+//! told one thing after another, which waiters are moved and woken, that no notification is lost, and that one closure
+//! at most ends well. The names of `parking_lot` are each used here, too.
 #![tactic(auto)]
 
 #[cfg(test)]

@@ -1,4 +1,5 @@
-//! Each name of a lock, of a guard and of what stands beside them stands in a signature, and each lock is made, taken and given back.
+//! Each name of a lock, of a guard and of what stands beside them stands in a signature, and each lock is made, taken
+//! and given back.
 
 use lock_api::{Guard, Mapped};
 use lock_api_guards::{Hold, Lender, LenderMut};

@@ -43,7 +43,8 @@ fn of_four_threads_one_runs_its_closure(rt: HostRuntime) -> Result<(), Fail> {
     Ok(())
 }
 
-/// Forces a call at each thing, with a closure that fails unless two have failed there; how many of the calls have ended well.
+/// Forces a call at each thing, with a closure that fails unless two have failed there; how many of the calls have
+/// ended well.
 fn goes_through<R: Wait>(
     table: &LockTable<'_, R>,
     things: &[(Once<'_, '_, R>, AtomicU64)],

@@ -322,7 +322,8 @@ fn a_second_mutex_is_refused(rt: HostRuntime) -> Result<(), Fail> {
     play(rt, rt.alloc(), "a second mutex", 8, lines)
 }
 
-/// Has the mutex once two wait, notifies one, then all, and lets the mutex go: both are moved, and nobody is woken before that.
+/// Has the mutex once two wait, notifies one, then all, and lets the mutex go: both are moved, and nobody is woken
+/// before that.
 const MOVES_TWO: &[Line] = &[
     are_about!(2),
     LOCK,

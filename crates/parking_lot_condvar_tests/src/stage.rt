@@ -352,8 +352,8 @@ fn follow_together<R: Wait + Threads + Clock + Sync>(
     [one, two, three]
 }
 
-/// Has three threads follow their lines at a new condition variable, the third as a participant of a lot of that number. All words
-/// must be 0 in the end.
+/// Has three threads follow their lines at a new condition variable, the third as a participant of a lot of that
+/// number. All words must be 0 in the end.
 pub fn play<R: Wait + Threads + Clock + Abort + Sync + Copy + Drop>(
     rt: R,
     alloc: Global,

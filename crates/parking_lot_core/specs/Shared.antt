@@ -1,5 +1,6 @@
 -- What calls on the lot for threads say, where the lock alone knows the lot.
-use Rattle.std.specs.Prelude.{◌≡◌, ◌⊎◌, ℕ, nat_lt, Bool, true, false, if◌then◌else◌, MatchBool, List, [], length, Option, Some, Result, Ok}
+use Rattle.std.specs.Prelude.{◌≡◌, ◌⊎◌, ℕ, nat_lt, Bool, true, false, if◌then◌else◌, MatchBool, List, [], length}
+use Rattle.std.specs.Prelude.{Option, Some, Result, Ok}
 use Rattle.std.specs.Option.{option_map_or}
 use Rattle.parking_lot_core_model.specs.declared.fault.LotFault.{LotFault}
 use Rattle.parking_lot_core_model.specs.declared.fault.LotFault.TheVariants.{TooManyThreads, NoMemory}
@@ -46,10 +47,13 @@ taken_in m thread = option_map_or is_taken (place_at m.places thread) false
 -- what a filter answered, shown the tokens of some waiters, is what the result counts
 abbrev pub Counts : {F : Type 0} → (F → ParkToken → FilterOp → F → Type 0) → F → UnparkResult → Type 0
 Counts {F} shows filter result =
-    (waiters : List Waiter) × (answers : List FilterOp) × (last : F) × Answers shows is_stop filter (tokens_of waiters) answers last
-    × (result.unparked_threads ≡ length (chosen_by answers waiters)) × (result.have_more_threads ≡ is_left (passed_by answers waiters))
+    (waiters : List Waiter) × (answers : List FilterOp) × (last : F) × Answers shows is_stop filter (tokens_of waiters)
+    answers last
+    × (result.unparked_threads ≡ length (chosen_by answers waiters))
+    × (result.have_more_threads ≡ is_left (passed_by answers waiters))
 
 -- a requeue does nothing where that is asked for, and else tells what it did
 abbrev pub Tells : (RequeueOp → Type 0) → (RequeueOp → UnparkResult → UnparkToken → Type 0) → UnparkResult → Type 0
 Tells asks gives result =
-    (op : RequeueOp) × asks op × MatchBool (is_abort op) (result ≡ unpark_result {X = ℕ} 0 0 []) ((token : UnparkToken) × gives op result token)
+    (op : RequeueOp) × asks op × MatchBool (is_abort op) (result ≡ unpark_result {X = ℕ} 0 0 [])
+    ((token : UnparkToken) × gives op result token)

@@ -13,7 +13,8 @@ pub fn acquire_resource<A: Allocator>(
     thread_data: &mut ThreadData<A>,
     key: usize,
 ) -> Result<(), LotFault>
-    ensures ok { OnOk result (thread_data.new ≡ record thread_data.old { resources = thread_data.old.resources ++ key ∷ [] }) }
+    ensures ok { OnOk result
+        (thread_data.new ≡ record thread_data.old { resources = thread_data.old.resources ++ key ∷ [] }) }
     ensures err { OnErr result (thread_data.new ≡ thread_data.old) }
     ensures fault { IfErr result (λ fault. fault ≡ NoMemory) }
 {
@@ -23,7 +24,8 @@ pub fn acquire_resource<A: Allocator>(
 
 /// Forgets one occurrence of a resource, if there is one.
 pub fn release_resource<A: Allocator>(thread_data: &mut ThreadData<A>, key: usize)
-    ensures { thread_data.new ≡ record thread_data.old { resources = without_first (λ k. k == key) thread_data.old.resources } }
+    ensures { thread_data.new ≡ record thread_data.old
+        { resources = without_first (λ k. k == key) thread_data.old.resources } }
 {
     let found = place_of(&thread_data.resources, key);
     if found < thread_data.resources.len() {

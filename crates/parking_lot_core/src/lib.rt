@@ -1,8 +1,8 @@
 //! The parking lot: lists of waiting threads, one list for each key.
 //!
 //! It comes twice. [`Lot`] is exclusive and exact, and stands in the crate below; its names are handed on here.
-//! [`ParkingLot`] has the same lists for real threads, and is shared by reference. Beside them are the small things that
-//! locks need: a counter of spins, a lock without a value and a seat on which a thread sleeps.
+//! [`ParkingLot`] has the same lists for real threads, and is shared by reference. Beside them are the small things
+//! that locks need: a counter of spins, a lock without a value and a seat on which a thread sleeps.
 #![tactic(auto)]
 
 pub mod deadlock;

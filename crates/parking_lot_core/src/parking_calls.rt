@@ -1,8 +1,10 @@
 //! Parking and unparking of real threads.
-ghost use Rattle.std.specs.Prelude.{◌≡◌, ◌<◌, ◌≤◌, ℕ, Bool, true, if◌then◌else◌, None, Some, IsSome, is_some, MatchBool, ◌≢◌};
+ghost use Rattle.std.specs.Prelude.{◌≡◌, ◌<◌, ◌≤◌, ℕ, Bool, true, if◌then◌else◌, None, Some, IsSome, is_some};
+ghost use Rattle.std.specs.Prelude.{MatchBool, ◌≢◌};
 ghost use Rattle.parking_lot_core_model.specs.declared.parking.ParkResult.TheVariants.{Invalid, TimedOut};
 ghost use Rattle.parking_lot_core_model.specs.declared.parking.UnparkToken.{UnparkToken};
-ghost use Rattle.parking_lot_core_model.specs.Operations.{Parks, Resumes, UnparksOne, UnparksAll, UnparksAndRequeues, UnparksByFilter};
+ghost use Rattle.parking_lot_core_model.specs.Operations.{Parks, Resumes, UnparksOne, UnparksAll, UnparksAndRequeues};
+ghost use Rattle.parking_lot_core_model.specs.Operations.{UnparksByFilter};
 ghost use Rattle.parking_lot_core_model.specs.Machine.{machine, busy, enter_fault, resume_fault, Does};
 ghost use Rattle.parking_lot_core.specs.Shared.{OnSomeLot, Counts, Tells, waits_in};
 ghost use Rattle.std.specs.Sync.Mutex.{mutex_guard_value};
@@ -19,10 +21,10 @@ use std::convert::Infallible;
 use std::sync::{Arc, Condvar, CondvarTimeouts, MutexGuard, Wait};
 use std::time::{Clock, Instant};
 
-/// Parks the thread under a key. The validation is asked while the key's list is locked; where it answers false, `Invalid`
-/// is answered and nothing else runs. Else the thread joins the end of the list, runs `before_sleep` and sleeps until
-/// another takes it, or its moment is past. Then `timed_out` is told the key of the list that it stood in and whether that
-/// is empty now.
+/// Parks the thread under a key. The validation is asked while the key's list is locked; where it answers false,
+/// `Invalid` is answered and nothing else runs. Else the thread joins the end of the list, runs `before_sleep` and
+/// sleeps until another takes it, or its moment is past. Then `timed_out` is told the key of the list that it stood in
+/// and whether that is empty now.
 ///
 /// `validate` and `timed_out` must not call the lot. `before_sleep` may call the four unparks. Callers show that the
 /// participant is one of this lot.
@@ -46,11 +48,16 @@ where
     requires lot { thread_data.old.lot ≡ lot.now.number }
     requires thread { thread_data.old.thread < lot.now.max_threads }
     ensures valid { (valid : Bool) × V.post validate valid × MatchBool valid (result ≢ Invalid) (result ≡ Invalid) }
-    ensures joined { (valid : Bool) × MatchBool valid (result ≢ Invalid) (result ≡ Invalid) × OnSomeLot (Does (λ m. enter_fault m thread_data.old.thread) (Parks (V.post validate) thread_data.old.thread key park_token (is_some timeout.entry))) (if valid then None else Some Invalid) }
+    ensures joined { (valid : Bool) × MatchBool valid (result ≢ Invalid) (result ≡ Invalid)
+        × OnSomeLot (Does (λ m. enter_fault m thread_data.old.thread)
+        (Parks (V.post validate) thread_data.old.thread key park_token (is_some timeout.entry)))
+        (if valid then None else Some Invalid) }
     ensures before { result ≢ Invalid → B.post before_sleep tt }
     ensures late { result ≡ TimedOut → (key : ℕ) × (last : Bool) × T.post timed_out key last tt }
     ensures limit { result ≡ TimedOut → IsSome timeout.entry }
-    ensures ended { result ≢ Invalid → OnSomeLot (Does (λ m. resume_fault m thread_data.old.thread) (Resumes (λ key last. T.post timed_out key last tt) thread_data.old.thread)) result }
+    ensures ended { result ≢ Invalid
+        → OnSomeLot (Does (λ m. resume_fault m thread_data.old.thread)
+        (Resumes (λ key last. T.post timed_out key last tt) thread_data.old.thread)) result }
     ensures same { thread_data.new ≡ thread_data.old }
 {
     if !begin(
@@ -82,7 +89,8 @@ fn begin<R: Wait, A: Allocator, V: FnOnce() -> bool + Drop>(
 ) -> bool
     requires { V.IsAlwaysCallable validate }
     ensures asked { V.post validate result }
-    ensures joined { OnSomeLot (Does (λ m. enter_fault m thread) (Parks (V.post validate) thread key park_token timed)) (if result then None else Some Invalid) }
+    ensures joined { OnSomeLot (Does (λ m. enter_fault m thread) (Parks (V.post validate) thread key park_token timed))
+        (if result then None else Some Invalid) }
 {
     let mut state = lot.state.lock(&lot.rt);
     match state.park(thread, key, validate, park_token, timed) {
@@ -118,8 +126,8 @@ fn sleep<'l, R: Wait, A: Allocator, C: Clock>(
     unreachable!()
 }
 
-/// Takes the first waiter of a key and wakes it. The callback gets what is answered and gives the token, also where nobody
-/// waits. It must not call the lot.
+/// Takes the first waiter of a key and wakes it. The callback gets what is answered and gives the token, also where
+/// nobody waits. It must not call the lot.
 pub fn unpark_one<R: Wait, A: Allocator, C: FnOnce(UnparkResult) -> UnparkToken + Drop>(
     lot: &ParkingLot<R, A>,
     key: usize,
@@ -157,9 +165,9 @@ pub fn unpark_all<R: Wait, A: Allocator>(
     }
 }
 
-/// Does with the waiters of `key_from` what the validation answers: one may be woken, with the callback's token, and others
-/// may be moved to the end of `key_to`'s list. `Abort` changes nothing, and there the callback isn't called. Neither may
-/// call the lot.
+/// Does with the waiters of `key_from` what the validation answers: one may be woken, with the callback's token, and
+/// others may be moved to the end of `key_to`'s list. `Abort` changes nothing, and there the callback isn't called.
+/// Neither may call the lot.
 pub fn unpark_requeue<R: Wait, A: Allocator, V, C>(
     lot: &ParkingLot<R, A>,
     key_from: usize,
@@ -173,7 +181,8 @@ where
     requires validate { V.IsAlwaysCallable validate }
     requires callback { C.IsAlwaysCallable callback }
     ensures told { Tells (V.post validate) (C.post callback) result }
-    ensures done { OnSomeLot (Does busy (UnparksAndRequeues (V.post validate) (C.post callback) key_from key_to)) result }
+    ensures done { OnSomeLot (Does busy (UnparksAndRequeues (V.post validate) (C.post callback) key_from key_to))
+        result }
 {
     let mut state = lot.state.lock(&lot.rt);
     let first = state.first(key_from);
@@ -187,8 +196,8 @@ where
     }
 }
 
-/// Shows the tokens of a key's waiters to a filter, in order, until it stops, and takes those that it wants. They are woken
-/// with the callback's token. Neither may call the lot.
+/// Shows the tokens of a key's waiters to a filter, in order, until it stops, and takes those that it wants. They are
+/// woken with the callback's token. Neither may call the lot.
 pub fn unpark_filter<R: Wait, A: Allocator, F, C>(
     lot: &ParkingLot<R, A>,
     key: usize,
@@ -202,7 +211,8 @@ where
     requires callback { C.IsAlwaysCallable callback }
     ensures told { (token : UnparkToken) × C.post callback result token }
     ensures shown { Counts F.step filter result }
-    ensures done { (fair : Bool) × OnSomeLot (Does busy (UnparksByFilter fair F.step filter (C.post callback) key)) result }
+    ensures done { (fair : Bool) × OnSomeLot (Does busy (UnparksByFilter fair F.step filter (C.post callback) key))
+        result }
 {
     match lot.state.lock(&lot.rt).unpark_filter(key, filter, callback) {
         Ok(answer) => answer,
@@ -217,8 +227,8 @@ fn ring<A: Allocator>(seat: Option<Arc<Condvar, A>>) {
     }
 }
 
-/// Waits for ever: for what can't come about, since a lot under its lock has no open section, and a participant is lent to
-/// one call at a time.
+/// Waits for ever: for what can't come about, since a lot under its lock has no open section, and a participant is lent
+/// to one call at a time.
 pub(crate) fn stuck<R: Wait>(rt: &R) -> Infallible {
     for _turn in rt.forever() {}
     unreachable!()

@@ -13,8 +13,8 @@ use std::alloc::{Allocator, Global};
 use std::sync::atomic::{AtomicUsize, Ordering};
 use std::sync::{Mutex, Wait};
 
-/// Lists of sleeping threads by key, for real threads. It is shared by reference, and keeps the runtime and the allocator
-/// that it was given.
+/// Lists of sleeping threads by key, for real threads. It is shared by reference, and keeps the runtime and the
+/// allocator that it was given.
 ///
 /// The lists are those of a [`Lot`], under a lock; a thread that waits sleeps on a condition variable of its own.
 ///
@@ -34,8 +34,8 @@ pub struct ParkingLot<R, A: Allocator = Global> {
 }
 
 impl<R: Drop, A: Allocator + Clone> ParkingLot<R, A> {
-    /// Makes a lot for at most `max_threads` threads at a time, from 1 to 65,536, that bears `number`. Different lots are to
-    /// get different numbers.
+    /// Makes a lot for at most `max_threads` threads at a time, from 1 to 65,536, that bears `number`. Different lots
+    /// are to get different numbers.
     pub fn new(
         rt: R,
         alloc: A,
@@ -83,7 +83,8 @@ impl<R, A: Allocator> ParkingLot<R, A> {
 
     /// Whether the participant is one of this lot.
     pub fn same_lot(&self, thread_data: &ThreadData<A>) -> bool
-        ensures { IsTrue result ↔ ((thread_data.now.lot ≡ self.now.number) × (thread_data.now.thread < self.now.max_threads)) }
+        ensures { IsTrue result ↔
+            ((thread_data.now.lot ≡ self.now.number) × (thread_data.now.thread < self.now.max_threads)) }
     {
         thread_data.lot_number() == self.number && thread_data.thread_number() < self.max_threads
     }
@@ -95,10 +96,12 @@ impl<R, A: Allocator> ParkingLot<R, A> {
 }
 
 impl<R: Wait, A: Allocator + Clone> ParkingLot<R, A> {
-    /// Registers a participant under the least number that is free, and makes all the room that its waits need. A refusal
-    /// leaves the number free and every list as it was.
+    /// Registers a participant under the least number that is free, and makes all the room that its waits need. A
+    /// refusal leaves the number free and every list as it was.
     pub fn thread_data(&self) -> Result<ThreadData<A>, LotFault>
-        ensures made { IfOk result (λ thread_data. (thread_data.lot ≡ self.now.number) × (thread_data.thread < self.now.max_threads) × (thread_data.resources ≡ [])) }
+        ensures made { IfOk result
+            (λ thread_data. (thread_data.lot ≡ self.now.number) × (thread_data.thread < self.now.max_threads)
+            × (thread_data.resources ≡ [])) }
         ensures fault { IfErr result (λ fault. (fault ≡ TooManyThreads) ⊎ (fault ≡ NoMemory)) }
         ensures full { IfErr result (IsRefused self.now.max_threads) }
     {
@@ -110,7 +113,8 @@ impl<R: Wait, A: Allocator + Clone> ParkingLot<R, A> {
     /// Gives a participant's number back, and forgets what is recorded for that number in the lot.
     pub fn retire(&self, thread_data: ThreadData<A>)
         requires { (thread_data.lot ≡ self.now.number) × (thread_data.thread < self.now.max_threads) }
-        ensures { OnSomeLot (Does (λ m. retire_fault m thread_data.thread) (Makes (λ m. retired m thread_data.thread))) result }
+        ensures { OnSomeLot (Does (λ m. retire_fault m thread_data.thread) (Makes (λ m. retired m thread_data.thread)))
+            result }
     {
         match self
             .state

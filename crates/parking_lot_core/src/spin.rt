@@ -10,8 +10,8 @@ const ROUNDS: u32 = 10;
 /// How many of them only spin.
 const QUIET_ROUNDS: u32 = 3;
 
-/// A counter for loops that wait for a short while: each round waits longer than the one before, and after ten rounds the
-/// caller had better sleep.
+/// A counter for loops that wait for a short while: each round waits longer than the one before, and after ten rounds
+/// the caller had better sleep.
 ///
 /// Contracts see it as the number of rounds so far.
 ///

@@ -1,10 +1,12 @@
 //! What the lock of a lot for threads guards: the lot itself, and what the threads sleep on.
 //!
-//! No clause can name what a lock guards. So each call on a [`ParkingLot`](crate::ParkingLot) takes the lock and calls one
-//! of the functions here, whose clauses say what it does.
+//! No clause can name what a lock guards. So each call on a [`ParkingLot`](crate::ParkingLot) takes the lock and calls
+//! one of the functions here, whose clauses say what it does.
 ghost use Rattle.std.specs.Prelude.{◌≡◌, ◌<◌, ◌+◌, ◌%◌, ◌==◌, ◌⊎◌, IfOk, IfErr, IfSome, IsSome, Some, Err, true, []};
-ghost use Rattle.parking_lot_core_model.specs.Machine.{machine, free_number, busy, enter_fault, resume_fault, retire_fault, registered, retired, Does, Makes};
-ghost use Rattle.parking_lot_core_model.specs.Operations.{Parks, Resumes, UnparksOne, UnparksAll, UnparksByFilter, UnparksAndRequeues};
+ghost use Rattle.parking_lot_core_model.specs.Machine.{machine, free_number, busy, enter_fault, resume_fault};
+ghost use Rattle.parking_lot_core_model.specs.Machine.{retire_fault, registered, retired, Does, Makes};
+ghost use Rattle.parking_lot_core_model.specs.Operations.{Parks, Resumes, UnparksOne, UnparksAll, UnparksByFilter};
+ghost use Rattle.parking_lot_core_model.specs.Operations.{UnparksAndRequeues};
 ghost use Rattle.parking_lot_core.specs.Shared.{admit_fault, waits_in, taken_in};
 ghost use Rattle.parking_lot_core_model.specs.Sound.{Sound};
 ghost use Rattle.parking_lot_core_model.specs.declared.fault.LotFault.TheVariants.{NoMemory};
@@ -74,8 +76,8 @@ impl<A: Allocator> State<A> {
         }
     }
 
-    /// Wakes the threads that were taken and haven't gone on. It looks at each thread once, as each move on the lists looks
-    /// at each that waits.
+    /// Wakes the threads that were taken and haven't gone on. It looks at each thread once, as each move on the lists
+    /// looks at each that waits.
     fn ring_taken(&self) {
         for thread in 0..self.seats.len() {
             if self.is_taken(thread) {
@@ -84,8 +86,8 @@ impl<A: Allocator> State<A> {
         }
     }
 
-    /// What the thread sleeps on, if it was taken, for who wakes it once the lock is given back: until then it couldn't go
-    /// on. Where it can't be shared it is rung now.
+    /// What the thread sleeps on, if it was taken, for who wakes it once the lock is given back: until then it couldn't
+    /// go on. Where it can't be shared it is rung now.
     pub fn taken_seat(&self, thread: usize) -> Option<Arc<Condvar, A>>
         ensures { IsSome result → taken_in (machine self.now.lot) thread ≡ true }
     {
@@ -117,7 +119,8 @@ impl<A: Allocator> State<A> {
     ) -> Result<Option<ParkResult>, LotFault>
         requires { V.IsAlwaysCallable validate }
         ensures sound { Sound (machine self.old.lot) }
-        ensures lot { Does (λ m. enter_fault m thread) (Parks (V.post validate) thread key park_token timed) (machine self.old.lot) result (machine self.new.lot) }
+        ensures lot { Does (λ m. enter_fault m thread) (Parks (V.post validate) thread key park_token timed)
+            (machine self.old.lot) result (machine self.new.lot) }
         ensures turns { self.new.turns ≡ self.old.turns }
     {
         self.lot.known();
@@ -127,7 +130,8 @@ impl<A: Allocator> State<A> {
     /// Gives a running thread's number back.
     pub fn retire(&mut self, thread: usize) -> Result<(), LotFault>
         ensures sound { Sound (machine self.old.lot) }
-        ensures lot { Does (λ m. retire_fault m thread) (Makes (λ m. retired m thread)) (machine self.old.lot) result (machine self.new.lot) }
+        ensures lot { Does (λ m. retire_fault m thread) (Makes (λ m. retired m thread)) (machine self.old.lot) result
+            (machine self.new.lot) }
         ensures turns { self.new.turns ≡ self.old.turns }
     {
         self.lot.known();
@@ -142,7 +146,8 @@ impl<A: Allocator> State<A> {
     ) -> Result<ParkResult, LotFault>
         requires { T.IsAlwaysCallable timed_out }
         ensures sound { Sound (machine self.old.lot) }
-        ensures lot { Does (λ m. resume_fault m thread) (Resumes (λ key last. T.post timed_out key last tt) thread) (machine self.old.lot) result (machine self.new.lot) }
+        ensures lot { Does (λ m. resume_fault m thread) (Resumes (λ key last. T.post timed_out key last tt) thread)
+            (machine self.old.lot) result (machine self.new.lot) }
         ensures turns { self.new.turns ≡ self.old.turns }
     {
         self.lot.known();
@@ -157,7 +162,8 @@ impl<A: Allocator> State<A> {
     ) -> Result<UnparkResult, LotFault>
         requires { C.IsAlwaysCallable callback }
         ensures sound { Sound (machine self.old.lot) }
-        ensures lot { Does busy (UnparksOne (self.new.turns == 0) (C.post callback) key) (machine self.old.lot) result (machine self.new.lot) }
+        ensures lot { Does busy (UnparksOne (self.new.turns == 0) (C.post callback) key) (machine self.old.lot) result
+            (machine self.new.lot) }
         ensures turns { self.new.turns ≡ (self.old.turns + 1) % 64 }
     {
         self.lot.known();
@@ -190,7 +196,8 @@ impl<A: Allocator> State<A> {
         requires filter { F.IsAlwaysCallable filter }
         requires callback { C.IsAlwaysCallable callback }
         ensures sound { Sound (machine self.old.lot) }
-        ensures lot { Does busy (UnparksByFilter (self.new.turns == 0) F.step filter (C.post callback) key) (machine self.old.lot) result (machine self.new.lot) }
+        ensures lot { Does busy (UnparksByFilter (self.new.turns == 0) F.step filter (C.post callback) key)
+            (machine self.old.lot) result (machine self.new.lot) }
         ensures turns { self.new.turns ≡ (self.old.turns + 1) % 64 }
     {
         self.lot.known();
@@ -214,7 +221,8 @@ impl<A: Allocator> State<A> {
         requires validate { V.IsAlwaysCallable validate }
         requires callback { C.IsAlwaysCallable callback }
         ensures sound { Sound (machine self.old.lot) }
-        ensures lot { Does busy (UnparksAndRequeues (V.post validate) (C.post callback) key_from key_to) (machine self.old.lot) result (machine self.new.lot) }
+        ensures lot { Does busy (UnparksAndRequeues (V.post validate) (C.post callback) key_from key_to)
+            (machine self.old.lot) result (machine self.new.lot) }
         ensures turns { self.new.turns ≡ self.old.turns }
     {
         self.lot.known();
@@ -228,8 +236,16 @@ impl<A: Allocator + Clone> State<A> {
     pub fn admit(&mut self, number: u64, max_threads: usize) -> Result<ThreadData<A>, LotFault>
         ensures sound { Sound (machine self.old.lot) }
         ensures full { IfSome (admit_fault max_threads (machine self.old.lot)) (λ fault. result ≡ Err fault) }
-        ensures ok { IfOk result (λ made. (made ≡ record { lot = number; thread = free_number (machine self.old.lot).places; resources = [] }) × (made.thread < max_threads) × (machine self.new.lot ≡ registered (machine self.old.lot))) }
-        ensures err { IfErr result (λ fault. ((admit_fault max_threads (machine self.old.lot) ≡ Some fault) ⊎ (fault ≡ NoMemory)) × (machine self.new.lot ≡ machine self.old.lot)) }
+        ensures ok { IfOk result
+            (λ made. (made ≡ record {
+              lot = number;
+              thread = free_number (machine self.old.lot).places;
+              resources = [];
+            }) × (made.thread < max_threads)
+            × (machine self.new.lot ≡ registered (machine self.old.lot))) }
+        ensures err { IfErr result
+            (λ fault. ((admit_fault max_threads (machine self.old.lot) ≡ Some fault) ⊎ (fault ≡ NoMemory))
+            × (machine self.new.lot ≡ machine self.old.lot)) }
         ensures turns { self.new.turns ≡ self.old.turns }
     {
         self.lot.known();

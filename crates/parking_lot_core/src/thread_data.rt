@@ -5,8 +5,8 @@ use std::alloc::{Allocator, Global};
 use std::marker::Model;
 use std::sync::{Arc, Condvar};
 
-/// What a participant of a [`ParkingLot`](crate::ParkingLot) keeps of itself: the number of its lot, its own number there
-/// and its recorded resources. It can't be copied, and is lent to whatever may wait.
+/// What a participant of a [`ParkingLot`](crate::ParkingLot) keeps of itself: the number of its lot, its own number
+/// there and its recorded resources. It can't be copied, and is lent to whatever may wait.
 ///
 /// Contracts see it as a `Participant`. One that is dropped without a `retire` stays counted.
 #[derive(Drop)]

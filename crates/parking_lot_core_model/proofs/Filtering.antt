@@ -1,5 +1,7 @@
 -- A filter that is done whole, and in the steps of a section.
-use Rattle.std.proofs.Common.{◌≡◌, ℕ, ◌+◌, ◌<◌, ◌≤◌, Bool, true, false, Option, List, [], ◌∷◌, ◌++◌, length, map, remove, replicate, Some, None, slice_get, refl, sym, ap, ◌∙◌, subst, append_assoc, arith, zero, suc}
+use Rattle.std.proofs.Common.{◌≡◌, ℕ, ◌+◌, ◌<◌, ◌≤◌, Bool, true, false, Option, List, [], ◌∷◌, ◌++◌, length, map}
+use Rattle.std.proofs.Common.{remove, replicate, Some, None, slice_get, refl, sym, ap, ◌∙◌, subst, append_assoc, arith}
+use Rattle.std.proofs.Common.{zero, suc}
 use Rattle.std.specs.Option.{option_map_or}
 use Rattle.std.specs.List.{list_any}
 use Rattle.std.proofs.lemmas.Bool.{false≢true}
@@ -24,12 +26,21 @@ use Rattle.parking_lot_core_model.proofs.Takings.{all_taken_none, taken_more, cl
 use Rattle.parking_lot_core_model.proofs.Whole.{closed_alike}
 
 -- past the end nobody is taken
-taken_past : (m : Machine) (key : ℕ) (ws rest : List Waiter) (i : ℕ) → slice_get rest i ≡ None → taken (all_taken m key ws rest) key i ≡ all_taken m key ws rest
+taken_past : (m : Machine) (key : ℕ) (ws rest : List Waiter) (i : ℕ) → slice_get rest i ≡ None
+    → taken (all_taken m key ws rest) key i ≡ all_taken m key ws rest
 taken_past m key ws rest i e =
     let n = all_taken m key ws rest in
-    ap (λ (qs : List Waiter). record n { queues = updated (updated m.queues key rest) key (remove qs i); places = option_map_or (λ x. changed held n.places x.thread) (slice_get qs i) n.places }) (updated_at m.queues key rest)
-    ∙ (ap (λ (o : Option Waiter). record n { queues = updated (updated m.queues key rest) key (remove rest i); places = option_map_or (λ x. changed held n.places x.thread) o n.places }) e
-    ∙ (ap (λ (qs : List Waiter). record n { queues = updated (updated m.queues key rest) key qs }) (remove_past rest i (slice_get_none rest i e))
+    ap (λ (qs : List Waiter). record n {
+      queues = updated (updated m.queues key rest) key (remove qs i);
+      places = option_map_or (λ x. changed held n.places x.thread) (slice_get qs i) n.places;
+    })
+    (updated_at m.queues key rest)
+    ∙ (ap (λ (o : Option Waiter). record n {
+      queues = updated (updated m.queues key rest) key (remove rest i);
+      places = option_map_or (λ x. changed held n.places x.thread) o n.places;
+    }) e
+    ∙ (ap (λ (qs : List Waiter). record n { queues = updated (updated m.queues key rest) key qs })
+    (remove_past rest i (slice_get_none rest i e))
     ∙ ap (λ (qs : ℕ → List Waiter). record n { queues = qs }) (updated_twice m.queues key rest rest)))
 
 module _ {X : Type 0} where
@@ -67,29 +78,39 @@ module _ (m : Machine) (key : ℕ) (rest : List FilterOp) (none : list_any is_ta
   At s ws left = all_taken (record m { section = Some s }) key ws left
 
   -- behind the end of the list nothing changes
-  takings_past : (ns : List ℕ) (s : Section) (ws left : List Waiter) (passed : ℕ) → length left ≤ passed → (t : Section) × (takings (At s ws left) key passed ns ≡ At t ws left)
+  takings_past : (ns : List ℕ) (s : Section) (ws left : List Waiter) (passed : ℕ) → length left ≤ passed → (t : Section)
+      × (takings (At s ws left) key passed ns ≡ At t ws left)
   takings_past [] s ws left passed h = (s, refl)
   takings_past (n ∷ ns) s ws left passed h =
       let s1 : Section = record s { phase = phase.Taking (passed + n) } in
-      let r = takings_past ns s1 ws left (passed + n) (omega arith) in
-      (r.0, ap (λ (x : Machine). takings x key (passed + n) ns) (taken_past (record m { section = Some s1 }) key ws left (passed + n) (past_end left (passed + n) (omega arith))) ∙ r.1)
+      let r = takings_past ns s1 ws left (passed + n) (omega arith) in (
+        r.0,
+        ap (λ (x : Machine). takings x key (passed + n) ns)
+            (taken_past (record m { section = Some s1 }) key ws left (passed + n)
+            (past_end left (passed + n) (omega arith))) ∙ r.1,
+      )
 
   -- what takings come to, from where the list is cut
   abbrev Comes : List ℕ → Type 0
   Comes ns = (s : Section) (ws skipped r : List Waiter) (passed : ℕ) → passed ≡ length skipped
-      → (t : Section) × (takings (At s ws (skipped ++ r)) key passed ns ≡ At t (ws ++ chosen_by (answers_of ns rest) r) (skipped ++ passed_by (answers_of ns rest) r))
+      → (t : Section) × (takings (At s ws (skipped ++ r)) key passed ns ≡ At t (ws ++ chosen_by (answers_of ns rest) r)
+      (skipped ++ passed_by (answers_of ns rest) r))
 
   one : (ns : List ℕ) → Comes ns → (n : ℕ) (s : Section) (ws skipped r : List Waiter) (at : ℕ) → at ≡ length skipped + n
       → (t : Section) × (takings (taken (in_phase (At s ws (skipped ++ r)) (phase.Taking at)) key at) key at ns
-      ≡ At t (ws ++ chosen_by (replicate n Skip ++ Unpark ∷ answers_of ns rest) r) (skipped ++ passed_by (replicate n Skip ++ Unpark ∷ answers_of ns rest) r))
+      ≡ At t (ws ++ chosen_by (replicate n Skip ++ Unpark ∷ answers_of ns rest) r)
+      (skipped ++ passed_by (replicate n Skip ++ Unpark ∷ answers_of ns rest) r))
   one ns go n s ws skipped [] at e =
       let s1 : Section = record s { phase = phase.Taking at } in
       let answers = replicate n Skip ++ Unpark ∷ answers_of ns rest in
-      let l : length (skipped ++ []) ≤ at = (let a : length (skipped ++ []) ≡ length skipped = ap length (append-nil skipped) in omega arith) in
+      let l : length (skipped ++ []) ≤ at =
+      (let a : length (skipped ++ []) ≡ length skipped = ap length (append-nil skipped) in omega arith) in
       let r = takings_past ns s1 ws (skipped ++ []) at l in (
         r.0,
-        ap (λ (x : Machine). takings x key at ns) (taken_past (record m { section = Some s1 }) key ws (skipped ++ []) at (past_end (skipped ++ []) at l))
-            ∙ (r.1 ∙ (ap (λ xs. At r.0 xs (skipped ++ [])) (sym (ap (λ xs. ws ++ xs) (chosen_nil answers) ∙ append-nil ws))
+        ap (λ (x : Machine). takings x key at ns)
+            (taken_past (record m { section = Some s1 }) key ws (skipped ++ []) at (past_end (skipped ++ []) at l))
+            ∙ (r.1 ∙ (ap (λ xs. At r.0 xs (skipped ++ []))
+            (sym (ap (λ xs. ws ++ xs) (chosen_nil answers) ∙ append-nil ws))
             ∙ ap (λ xs. At r.0 (ws ++ chosen_by answers []) (skipped ++ xs)) (sym (passed_nil answers)))),
       )
   one ns go zero s ws skipped (w ∷ r) at e =
@@ -98,34 +119,46 @@ module _ (m : Machine) (key : ℕ) (rest : List FilterOp) (none : list_any is_ta
       let next = go s1 (ws ++ w ∷ []) skipped r at i in (
         next.0,
         ap (λ (x : Machine). takings x key at ns)
-            (taken_more (record m { section = Some s1 }) key ws (skipped ++ w ∷ r) at w (ap (slice_get (skipped ++ w ∷ r)) i ∙ slice_get-seam skipped w r)
+            (taken_more (record m { section = Some s1 }) key ws (skipped ++ w ∷ r) at w
+            (ap (slice_get (skipped ++ w ∷ r)) i ∙ slice_get-seam skipped w r)
             ∙ ap (λ xs. At s1 (ws ++ w ∷ []) xs) (ap (remove (skipped ++ w ∷ r)) i ∙ remove-seam skipped w r))
-            ∙ (next.1 ∙ ap (λ xs. At next.0 xs (skipped ++ passed_by (answers_of ns rest) r)) (append_assoc ws (w ∷ []) (chosen_by (answers_of ns rest) r))),
+            ∙ (next.1 ∙ ap (λ xs. At next.0 xs (skipped ++ passed_by (answers_of ns rest) r))
+            (append_assoc ws (w ∷ []) (chosen_by (answers_of ns rest) r))),
       )
   one ns go (suc n) s ws skipped (y ∷ r) at e =
       let l : length (skipped ++ y ∷ []) ≡ length skipped + 1 = length_push skipped y in
       let next = one ns go n s ws (skipped ++ y ∷ []) r at (omega arith) in
       let answers = replicate n Skip ++ Unpark ∷ answers_of ns rest in (
         next.0,
-        ap (λ xs. takings (taken (in_phase (At s ws xs) (phase.Taking at)) key at) key at ns) (sym (append_assoc skipped (y ∷ []) r))
-            ∙ (next.1 ∙ ap (λ xs. At next.0 (ws ++ chosen_by answers r) xs) (append_assoc skipped (y ∷ []) (passed_by answers r))),
+        ap (λ xs. takings (taken (in_phase (At s ws xs) (phase.Taking at)) key at) key at ns)
+            (sym (append_assoc skipped (y ∷ []) r))
+            ∙ (next.1 ∙ ap (λ xs. At next.0 (ws ++ chosen_by answers r) xs)
+            (append_assoc skipped (y ∷ []) (passed_by answers r))),
       )
 
   comes : (ns : List ℕ) → Comes ns
-  comes [] s ws skipped r passed e =
-      (s, ap (λ xs. At s xs (skipped ++ r)) (sym (ap (λ xs. ws ++ xs) (chosen_none rest r none) ∙ append-nil ws)) ∙ ap (λ xs. At s (ws ++ chosen_by rest r) (skipped ++ xs)) (sym (passed_none rest r none)))
+  comes [] s ws skipped r passed e = (
+    s,
+    ap (λ xs. At s xs (skipped ++ r)) (sym (ap (λ xs. ws ++ xs) (chosen_none rest r none) ∙ append-nil ws))
+        ∙ ap (λ xs. At s (ws ++ chosen_by rest r) (skipped ++ xs)) (sym (passed_none rest r none)),
+  )
   comes (n ∷ ns) s ws skipped r passed e = one ns (comes ns) n s ws skipped r (passed + n) (ap (λ k. k + n) e)
 
 -- a filter is an entering, takings, a store and a leaving
-pub filter_in_steps : (m : Machine) (thread key : ℕ) (token : UnparkToken) (ns : List ℕ) (rest : List FilterOp) → Sound m → m.section ≡ None → list_any is_take rest ≡ false
-    → ShowsSame (closed (stored (in_phase (takings (opened m (Some thread) key) key 0 ns) phase.Ended) token) false) (unparked m key (chosen_by (answers_of ns rest) (m.queues key)) (passed_by (answers_of ns rest) (m.queues key)) token)
+pub filter_in_steps : (m : Machine) (thread key : ℕ) (token : UnparkToken) (ns : List ℕ) (rest : List FilterOp)
+    → Sound m → m.section ≡ None → list_any is_take rest ≡ false
+    → ShowsSame (closed (stored (in_phase (takings (opened m (Some thread) key) key 0 ns) phase.Ended) token) false)
+    (unparked m key (chosen_by (answers_of ns rest) (m.queues key)) (passed_by (answers_of ns rest) (m.queues key))
+    token)
 filter_in_steps m thread key token ns rest h free none =
     let o = opened m (Some thread) key in
     let q = m.queues key in
     let answers = answers_of ns rest in
     let s : Section = record { thread = Some thread; key = key; phase = phase.Fresh; token = record { 0 = 0 } } in
     let r = comes m key rest none ns s [] [] q 0 refl in
-    let same : takings o key 0 ns ≡ all_taken (record m { section = Some r.0 }) key (chosen_by answers q) (passed_by answers q) = ap (λ (x : Machine). takings x key 0 ns) (all_taken_none o key) ∙ r.1 in
+    let same : takings o key 0 ns ≡ all_taken (record m { section = Some r.0 }) key (chosen_by answers q)
+    (passed_by answers q) = ap (λ (x : Machine). takings x key 0 ns) (all_taken_none o key) ∙ r.1 in
     subst (λ (x : Machine). ShowsSame (closed (stored (in_phase (takings o key 0 ns) phase.Ended) token) false) x)
-    (ap (λ (x : Machine). closed (stored (in_phase x phase.Ended) token) true) same ∙ closed_taken m key token (h.held free) free (chosen_by answers q) (passed_by answers q))
+    (ap (λ (x : Machine). closed (stored (in_phase x phase.Ended) token) true) same
+    ∙ closed_taken m key token (h.held free) free (chosen_by answers q) (passed_by answers q))
     (closed_alike (stored (in_phase (takings o key 0 ns) phase.Ended) token))

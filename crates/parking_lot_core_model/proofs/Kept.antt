@@ -1,5 +1,7 @@
 -- A map from numbers to lists, kept as one list of entries.
-use Rattle.std.proofs.Common.{◌≡◌, ℕ, ◌+◌, ◌<◌, ◌≤◌, Bool, true, false, cond, ◌==◌, List, [], ◌∷◌, ◌++◌, length, map, filter, take, drop, Some, None, slice_get, refl, sym, ap, ◌∙◌, subst, eqb-true, eq-eqb, arith, get_or, position, remove, append_assoc, length-append, suc, not, add-one, nat_lt}
+use Rattle.std.proofs.Common.{◌≡◌, ℕ, ◌+◌, ◌<◌, ◌≤◌, Bool, true, false, cond, ◌==◌, List, [], ◌∷◌, ◌++◌, length, map}
+use Rattle.std.proofs.Common.{filter, take, drop, Some, None, slice_get, refl, sym, ap, ◌∙◌, subst, eqb-true, eq-eqb}
+use Rattle.std.proofs.Common.{arith, get_or, position, remove, append_assoc, length-append, suc, not, add-one, nat_lt}
 use Rattle.std.specs.List.{position_or_len}
 use mathlib.Core.Path.{fun_ext}
 use Rattle.std.proofs.Math.Seq.{drop-append_seam, take-append_seam, take-suc, split_at}
@@ -20,7 +22,8 @@ module _ {X : Type 0} where
   pub by_key : (f g : ℕ → X) (key : ℕ) → f key ≡ g key → ((k : ℕ) → (k == key) ≡ false → f k ≡ g k) → f ≡ g
   by_key f g key here there = fun_ext (λ k.
       let P : Bool → Type 0 = λ b. (k == key) ≡ b → f k ≡ g k in
-      let both : (b : Bool) → P b = elim [ true ↦ λ e. subst (λ (j : ℕ). f j ≡ g j) (sym (eqb-true k key e)) here | false ↦ λ e. there k e ] in
+      let both : (b : Bool) → P b =
+      elim [ true ↦ λ e. subst (λ (j : ℕ). f j ≡ g j) (sym (eqb-true k key e)) here | false ↦ λ e. there k e ] in
       both (k == key) refl)
 
   pub updated_at : (f : ℕ → X) (key : ℕ) (x : X) → updated f key x key ≡ x
@@ -30,7 +33,8 @@ module _ {X : Type 0} where
   updated_other f key x k e = cond-false (k == key) x (f k) e
 
   pub updated_same : (f : ℕ → X) (key : ℕ) → updated f key (f key) ≡ f
-  updated_same f key = by_key (updated f key (f key)) f key (updated_at f key (f key)) (λ k e. updated_other f key (f key) k e)
+  updated_same f key = by_key (updated f key (f key)) f key (updated_at f key (f key))
+      (λ k e. updated_other f key (f key) k e)
 
   pub updated_twice : (f : ℕ → X) (key : ℕ) (x y : X) → updated (updated f key x) key y ≡ updated f key y
   updated_twice f key x y =
@@ -49,101 +53,157 @@ module _ {X : Type 0} where
   remove-seam (y ∷ xs) x ys = ap (λ zs. y ∷ zs) (remove-seam xs x ys)
 
   pub remove_past : (xs : List X) (n : ℕ) → length xs ≤ n → remove xs n ≡ xs
-  remove_past xs n h = ap (λ ys. ys ++ drop (suc n) xs) (take_all n xs h) ∙ (ap (λ ys. xs ++ ys) (drop_all (suc n) xs (omega arith)) ∙ append-nil xs)
+  remove_past xs n h = ap (λ ys. ys ++ drop (suc n) xs) (take_all n xs h)
+      ∙ (ap (λ ys. xs ++ ys) (drop_all (suc n) xs (omega arith)) ∙ append-nil xs)
 
 module _ {T : Type 0} where
   pub lists_of-append : (xs ys : List (Entry T)) (k : ℕ) → lists_of (xs ++ ys) k ≡ lists_of xs k ++ lists_of ys k
-  lists_of-append xs ys k = ap (map (λ e. e.item)) (filter-append (is_under k) xs ys) ∙ map-append (λ e. e.item) (filter (is_under k) xs) (filter (is_under k) ys)
+  lists_of-append xs ys k = ap (map (λ e. e.item)) (filter-append (is_under k) xs ys)
+      ∙ map-append (λ e. e.item) (filter (is_under k) xs) (filter (is_under k) ys)
 
   -- an entry in front stands in its key's list alone
-  pub lists_of-cons_at : (key : ℕ) (item : T) (ys : List (Entry T)) → lists_of (record { key = key; item = item } ∷ ys) key ≡ item ∷ lists_of ys key
-  lists_of-cons_at key item ys = ap (map (λ e. e.item)) (cond-true (key == key) (record { key = key; item = item } ∷ filter (is_under key) ys) (filter (is_under key) ys) (eq-eqb key key refl))
+  pub lists_of-cons_at : (key : ℕ) (item : T) (ys : List (Entry T)) → lists_of (record { key = key; item = item } ∷ ys)
+      key ≡ item ∷ lists_of ys key
+  lists_of-cons_at key item ys =
+      ap (map (λ e. e.item))
+      (cond-true (key == key) (record { key = key; item = item } ∷ filter (is_under key) ys) (filter (is_under key) ys)
+      (eq-eqb key key refl))
 
-  pub lists_of-cons_other : (key : ℕ) (item : T) (ys : List (Entry T)) (k : ℕ) → (key == k) ≡ false → lists_of (record { key = key; item = item } ∷ ys) k ≡ lists_of ys k
-  lists_of-cons_other key item ys k e = ap (map (λ e. e.item)) (cond-false (key == k) (record { key = key; item = item } ∷ filter (is_under k) ys) (filter (is_under k) ys) e)
+  pub lists_of-cons_other : (key : ℕ) (item : T) (ys : List (Entry T)) (k : ℕ) → (key == k) ≡ false
+      → lists_of (record { key = key; item = item } ∷ ys) k ≡ lists_of ys k
+  lists_of-cons_other key item ys k e =
+      ap (map (λ e. e.item))
+      (cond-false (key == k) (record { key = key; item = item } ∷ filter (is_under k) ys) (filter (is_under k) ys) e)
 
   -- an entry at the end
-  pub lists_of-push : (es : List (Entry T)) (key : ℕ) (item : T) → lists_of (es ++ record { key = key; item = item } ∷ []) ≡ updated (lists_of es) key (lists_of es key ++ item ∷ [])
+  pub lists_of-push : (es : List (Entry T)) (key : ℕ) (item : T)
+      → lists_of (es ++ record { key = key; item = item } ∷ []) ≡ updated (lists_of es) key
+      (lists_of es key ++ item ∷ [])
   lists_of-push es key item =
-      by_key (lists_of (es ++ record { key = key; item = item } ∷ [])) (updated (lists_of es) key (lists_of es key ++ item ∷ [])) key
-      (lists_of-append es (record { key = key; item = item } ∷ []) key ∙ (ap (λ ys. lists_of es key ++ ys) (lists_of-cons_at key item []) ∙ sym (updated_at (lists_of es) key (lists_of es key ++ item ∷ []))))
-      (λ k e. lists_of-append es (record { key = key; item = item } ∷ []) k ∙ (ap (λ ys. lists_of es k ++ ys) (lists_of-cons_other key item [] k (eqb_false_symm k key e)) ∙ (append-nil (lists_of es k) ∙ sym (updated_other (lists_of es) key (lists_of es key ++ item ∷ []) k e))))
+      by_key (lists_of (es ++ record { key = key; item = item } ∷ []))
+      (updated (lists_of es) key (lists_of es key ++ item ∷ [])) key
+      (lists_of-append es (record { key = key; item = item } ∷ []) key
+      ∙ (ap (λ ys. lists_of es key ++ ys) (lists_of-cons_at key item [])
+      ∙ sym (updated_at (lists_of es) key (lists_of es key ++ item ∷ []))))
+      (λ k e. lists_of-append es (record { key = key; item = item } ∷ []) k
+      ∙ (ap (λ ys. lists_of es k ++ ys) (lists_of-cons_other key item [] k (eqb_false_symm k key e))
+      ∙ (append-nil (lists_of es k) ∙ sym (updated_other (lists_of es) key (lists_of es key ++ item ∷ []) k e))))
 
   -- entries, cut around one of them
-  cut : (es : List (Entry T)) (at : ℕ) (e : Entry T) → slice_get es at ≡ Some e → es ≡ take at es ++ e ∷ drop (suc at) es
-  cut es at e h = split_at es at e (slice_get_within es at e h) ∙ ap (λ x. take at es ++ x ∷ drop (suc at) es) (get_or_from_slice_get es at e e h)
+  cut : (es : List (Entry T)) (at : ℕ) (e : Entry T) → slice_get es at ≡ Some e
+      → es ≡ take at es ++ e ∷ drop (suc at) es
+  cut es at e h = split_at es at e (slice_get_within es at e h) ∙ ap (λ x. take at es ++ x ∷ drop (suc at) es)
+      (get_or_from_slice_get es at e e h)
 
-  cut_lists : (es : List (Entry T)) (key nth at : ℕ) (item : T) → IsNth es key nth at item → (k : ℕ) → lists_of es k ≡ lists_of (take at es) k ++ lists_of (record { key = key; item = item } ∷ drop (suc at) es) k
-  cut_lists es key nth at item h k = ap (λ xs. lists_of xs k) (cut es at (record { key = key; item = item }) h.there) ∙ lists_of-append (take at es) (record { key = key; item = item } ∷ drop (suc at) es) k
+  cut_lists : (es : List (Entry T)) (key nth at : ℕ) (item : T) → IsNth es key nth at item → (k : ℕ)
+      → lists_of es k ≡ lists_of (take at es) k ++ lists_of (record { key = key; item = item } ∷ drop (suc at) es) k
+  cut_lists es key nth at item h k = ap (λ xs. lists_of xs k) (cut es at (record { key = key; item = item }) h.there)
+      ∙ lists_of-append (take at es) (record { key = key; item = item } ∷ drop (suc at) es) k
 
   -- the key's list, cut around the entry's item
-  cut_here : (es : List (Entry T)) (key nth at : ℕ) (item : T) → IsNth es key nth at item → lists_of es key ≡ lists_of (take at es) key ++ item ∷ lists_of (drop (suc at) es) key
-  cut_here es key nth at item h = cut_lists es key nth at item h key ∙ ap (λ xs. lists_of (take at es) key ++ xs) (lists_of-cons_at key item (drop (suc at) es))
+  cut_here : (es : List (Entry T)) (key nth at : ℕ) (item : T) → IsNth es key nth at item
+      → lists_of es key ≡ lists_of (take at es) key ++ item ∷ lists_of (drop (suc at) es) key
+  cut_here es key nth at item h = cut_lists es key nth at item h key ∙ ap (λ xs. lists_of (take at es) key ++ xs)
+      (lists_of-cons_at key item (drop (suc at) es))
 
   -- the key's item at that place
-  pub nth-item : (es : List (Entry T)) (key nth at : ℕ) (item : T) → IsNth es key nth at item → slice_get (lists_of es key) nth ≡ Some item
+  pub nth-item : (es : List (Entry T)) (key nth at : ℕ) (item : T) → IsNth es key nth at item
+      → slice_get (lists_of es key) nth ≡ Some item
   nth-item es key nth at item h =
       let xs = lists_of (take at es) key in
       ap (λ ys. slice_get ys nth) (cut_here es key nth at item h)
-      ∙ (ap (λ n. slice_get (xs ++ item ∷ lists_of (drop (suc at) es) key) n) (sym h.before) ∙ slice_get-seam xs item (lists_of (drop (suc at) es) key))
+      ∙ (ap (λ n. slice_get (xs ++ item ∷ lists_of (drop (suc at) es) key) n) (sym h.before)
+      ∙ slice_get-seam xs item (lists_of (drop (suc at) es) key))
 
   -- a removed entry leaves its key's list alone
-  pub lists_of-remove : (es : List (Entry T)) (key nth at : ℕ) (item : T) → IsNth es key nth at item → lists_of (remove es at) ≡ updated (lists_of es) key (remove (lists_of es key) nth)
+  pub lists_of-remove : (es : List (Entry T)) (key nth at : ℕ) (item : T) → IsNth es key nth at item
+      → lists_of (remove es at) ≡ updated (lists_of es) key (remove (lists_of es key) nth)
   lists_of-remove es key nth at item h =
       let xs = lists_of (take at es) key in
       let ys = lists_of (drop (suc at) es) key in
       by_key (lists_of (remove es at)) (updated (lists_of es) key (remove (lists_of es key) nth)) key
       (lists_of-append (take at es) (drop (suc at) es) key
-      ∙ (sym (ap (λ zs. remove zs nth) (cut_here es key nth at item h) ∙ (ap (λ n. remove (xs ++ item ∷ ys) n) (sym h.before) ∙ remove-seam xs item ys))
+      ∙ (sym (ap (λ zs. remove zs nth) (cut_here es key nth at item h)
+      ∙ (ap (λ n. remove (xs ++ item ∷ ys) n) (sym h.before) ∙ remove-seam xs item ys))
       ∙ sym (updated_at (lists_of es) key (remove (lists_of es key) nth))))
       (λ k e. lists_of-append (take at es) (drop (suc at) es) k
-      ∙ (ap (λ zs. lists_of (take at es) k ++ zs) (sym (lists_of-cons_other key item (drop (suc at) es) k (eqb_false_symm k key e)))
-      ∙ (sym (cut_lists es key nth at item h k) ∙ sym (updated_other (lists_of es) key (remove (lists_of es key) nth) k e))))
+      ∙ (ap (λ zs. lists_of (take at es) k ++ zs)
+      (sym (lists_of-cons_other key item (drop (suc at) es) k (eqb_false_symm k key e)))
+      ∙ (sym (cut_lists es key nth at item h k)
+      ∙ sym (updated_other (lists_of es) key (remove (lists_of es key) nth) k e))))
 
   -- one more entry, at its key and elsewhere
-  pub lists_of-more_at : (es : List (Entry T)) (i : ℕ) (e : Entry T) (key : ℕ) → i < length es → get_or es i e ≡ e → e.key ≡ key → lists_of (take (i + 1) es) key ≡ lists_of (take i es) key ++ e.item ∷ []
+  pub lists_of-more_at : (es : List (Entry T)) (i : ℕ) (e : Entry T) (key : ℕ) → i < length es → get_or es i e ≡ e
+      → e.key ≡ key → lists_of (take (i + 1) es) key ≡ lists_of (take i es) key ++ e.item ∷ []
   lists_of-more_at es i e key h at same =
       rw add-one (ap (λ xs. lists_of xs key) (take-suc es i e h) ∙ (lists_of-append (take i es) (get_or es i e ∷ []) key
-      ∙ ap (λ ys. lists_of (take i es) key ++ ys) (ap (λ x. lists_of (x ∷ []) key) at ∙ ap (map (λ x. x.item)) (cond-true (e.key == key) (e ∷ []) [] (eq-eqb e.key key same)))))
+      ∙ ap (λ ys. lists_of (take i es) key ++ ys)
+      (ap (λ x. lists_of (x ∷ []) key) at
+      ∙ ap (map (λ x. x.item)) (cond-true (e.key == key) (e ∷ []) [] (eq-eqb e.key key same)))))
 
-  pub lists_of-more_other : (es : List (Entry T)) (i : ℕ) (e : Entry T) (key : ℕ) → i < length es → get_or es i e ≡ e → (e.key == key) ≡ false → lists_of (take (i + 1) es) key ≡ lists_of (take i es) key
+  pub lists_of-more_other : (es : List (Entry T)) (i : ℕ) (e : Entry T) (key : ℕ) → i < length es → get_or es i e ≡ e
+      → (e.key == key) ≡ false → lists_of (take (i + 1) es) key ≡ lists_of (take i es) key
   lists_of-more_other es i e key h at other =
       rw add-one (ap (λ xs. lists_of xs key) (take-suc es i e h) ∙ (lists_of-append (take i es) (get_or es i e ∷ []) key
-      ∙ (ap (λ ys. lists_of (take i es) key ++ ys) (ap (λ x. lists_of (x ∷ []) key) at ∙ ap (map (λ x. x.item)) (cond-false (e.key == key) (e ∷ []) [] other)) ∙ append-nil (lists_of (take i es) key))))
+      ∙ (ap (λ ys. lists_of (take i es) key ++ ys)
+      (ap (λ x. lists_of (x ∷ []) key) at ∙ ap (map (λ x. x.item)) (cond-false (e.key == key) (e ∷ []) [] other))
+      ∙ append-nil (lists_of (take i es) key))))
 
   -- what stands in the list under a key, by its entries
-  position_or_len-items : (p : T → Bool) (es : List (Entry T)) → position_or_len (λ e. p e.item) es ≡ position_or_len p (map (λ e. e.item) es)
+  position_or_len-items : (p : T → Bool) (es : List (Entry T)) → position_or_len (λ e. p e.item) es ≡ position_or_len p
+      (map (λ e. e.item) es)
   position_or_len-items p [] = refl
   position_or_len-items p (x ∷ xs) = ap (λ n. cond (not (p x.item)) (1 + n) 0) (position_or_len-items p xs)
 
-  pub position-items : (p : T → Bool) (es : List (Entry T)) → position (λ e. p e.item) es ≡ position p (map (λ e. e.item) es)
+  pub position-items : (p : T → Bool) (es : List (Entry T)) → position (λ e. p e.item) es ≡ position p
+      (map (λ e. e.item) es)
   position-items p es =
       ap (λ n. cond (nat_lt n (length es)) (Some n) None) (position_or_len-items p es)
-      ∙ ap (λ n. cond (nat_lt (position_or_len p (map (λ e. e.item) es)) n) (Some (position_or_len p (map (λ e. e.item) es))) None) (sym (length-map es (λ e. e.item)))
+      ∙ ap (λ n. cond (nat_lt (position_or_len p (map (λ e. e.item) es)) n)
+      (Some (position_or_len p (map (λ e. e.item) es))) None) (sym (length-map es (λ e. e.item)))
 
   -- an emptied list
   none_of : (key : ℕ) (es : List (Entry T)) → filter (is_under key) (filter (λ e. not (is_under key e)) es) ≡ []
   none_of key [] = refl
   none_of key (x ∷ xs) =
-      let both : (b : Bool) → (x.key == key) ≡ b → filter (is_under key) (cond (not b) (x ∷ filter (λ e. not (is_under key e)) xs) (filter (λ e. not (is_under key e)) xs)) ≡ []
-      = elim [ true ↦ λ e. none_of key xs | false ↦ λ e. cond-false (x.key == key) (x ∷ filter (is_under key) (filter (λ y. not (is_under key y)) xs)) (filter (is_under key) (filter (λ y. not (is_under key y)) xs)) e ∙ none_of key xs ] in
+      let both : (b : Bool) → (x.key == key) ≡ b
+      → filter (is_under key)
+      (cond (not b) (x ∷ filter (λ e. not (is_under key e)) xs) (filter (λ e. not (is_under key e)) xs)) ≡ []
+      = elim [
+        | true ↦ λ e. none_of key xs
+        | false ↦ λ e. cond-false (x.key == key)
+            (x ∷ filter (is_under key) (filter (λ y. not (is_under key y)) xs))
+            (filter (is_under key) (filter (λ y. not (is_under key y)) xs)) e ∙ none_of key xs
+      ] in
       both (x.key == key) refl
 
-  others_of : (key k : ℕ) → (k == key) ≡ false → (es : List (Entry T)) → filter (is_under k) (filter (λ e. not (is_under key e)) es) ≡ filter (is_under k) es
+  others_of : (key k : ℕ) → (k == key) ≡ false → (es : List (Entry T))
+      → filter (is_under k) (filter (λ e. not (is_under key e)) es) ≡ filter (is_under k) es
   others_of key k other [] = refl
   others_of key k other (x ∷ xs) =
-      let both : (b : Bool) → (x.key == key) ≡ b → filter (is_under k) (cond (not b) (x ∷ filter (λ e. not (is_under key e)) xs) (filter (λ e. not (is_under key e)) xs)) ≡ filter (is_under k) (x ∷ xs)
-      = elim [ true ↦ λ e. others_of key k other xs ∙ sym (cond-false (x.key == k) (x ∷ filter (is_under k) xs) (filter (is_under k) xs) (ne_eqb x.key k (λ h. eqb-false k key other (sym h ∙ eqb-true x.key key e)))) | false ↦ λ e. ap (λ ys. cond (x.key == k) (x ∷ ys) ys) (others_of key k other xs) ] in
+      let both : (b : Bool) → (x.key == key) ≡ b
+      → filter (is_under k)
+      (cond (not b) (x ∷ filter (λ e. not (is_under key e)) xs) (filter (λ e. not (is_under key e)) xs)) ≡ filter
+      (is_under k) (x ∷ xs)
+      = elim [
+        | true ↦ λ e. others_of key k other xs
+            ∙ sym (cond-false (x.key == k) (x ∷ filter (is_under k) xs) (filter (is_under k) xs)
+            (ne_eqb x.key k (λ h. eqb-false k key other (sym h ∙ eqb-true x.key key e))))
+        | false ↦ λ e. ap
+            (λ ys. cond (x.key == k) (x ∷ ys) ys) (others_of key k other xs)
+      ] in
       both (x.key == key) refl
 
-  pub lists_of-clear : (es : List (Entry T)) (key : ℕ) → lists_of (filter (λ e. not (is_under key e)) es) ≡ updated (lists_of es) key []
+  pub lists_of-clear : (es : List (Entry T)) (key : ℕ) → lists_of (filter (λ e. not (is_under key e)) es) ≡ updated
+      (lists_of es) key []
   lists_of-clear es key =
       by_key (lists_of (filter (λ e. not (is_under key e)) es)) (updated (lists_of es) key []) key
       (ap (map (λ e. e.item)) (none_of key es) ∙ sym (updated_at (lists_of es) key []))
       (λ k e. ap (map (λ x. x.item)) (others_of key k e es) ∙ sym (updated_other (lists_of es) key [] k e))
 
   -- the code's loop over the entries
-  pub found : (es : List (Entry T)) (i : ℕ) (e : Entry T) (key nth passed : ℕ) → i < length es → e ≡ get_or es i e → e.key ≡ key → passed ≡ length (lists_of (take i es) key) → passed ≡ nth → (item : T) × IsNth es key nth i item
+  pub found : (es : List (Entry T)) (i : ℕ) (e : Entry T) (key nth passed : ℕ) → i < length es → e ≡ get_or es i e
+      → e.key ≡ key → passed ≡ length (lists_of (take i es) key) → passed ≡ nth → (item : T) × IsNth es key nth i item
   found es i e key nth passed h at same count stop = (
     e.item,
     record {
@@ -152,15 +212,22 @@ module _ {T : Type 0} where
     },
   )
 
-  pub passed_at : (es : List (Entry T)) (i : ℕ) (e : Entry T) (key passed : ℕ) → i < length es → e ≡ get_or es i e → e.key ≡ key → passed ≡ length (lists_of (take i es) key) → passed + 1 ≡ length (lists_of (take (i + 1) es) key)
+  pub passed_at : (es : List (Entry T)) (i : ℕ) (e : Entry T) (key passed : ℕ) → i < length es → e ≡ get_or es i e
+      → e.key ≡ key → passed ≡ length (lists_of (take i es) key) → passed + 1 ≡ length (lists_of (take (i + 1) es) key)
   passed_at es i e key passed h at same count =
-      ap (λ n. n + 1) count ∙ sym (ap length (lists_of-more_at es i e key h (sym at) same) ∙ length_push (lists_of (take i es) key) e.item)
+      ap (λ n. n + 1) count
+      ∙ sym (ap length (lists_of-more_at es i e key h (sym at) same) ∙ length_push (lists_of (take i es) key)
+      e.item)
 
-  pub passed_other : (es : List (Entry T)) (i : ℕ) (e : Entry T) (key passed : ℕ) → i < length es → e ≡ get_or es i e → (e.key ≡ key → ⊥) → passed ≡ length (lists_of (take i es) key) → passed ≡ length (lists_of (take (i + 1) es) key)
-  passed_other es i e key passed h at other count = count ∙ sym (ap length (lists_of-more_other es i e key h (sym at) (ne_eqb e.key key other)))
+  pub passed_other : (es : List (Entry T)) (i : ℕ) (e : Entry T) (key passed : ℕ) → i < length es → e ≡ get_or es i e
+      → (e.key ≡ key → ⊥) → passed ≡ length (lists_of (take i es) key)
+      → passed ≡ length (lists_of (take (i + 1) es) key)
+  passed_other es i e key passed h at other count = count
+      ∙ sym (ap length (lists_of-more_other es i e key h (sym at) (ne_eqb e.key key other)))
 
   -- what was found is the key's item
-  pub item_is : (es : List (Entry T)) (key nth at : ℕ) (e : Entry T) → ((item : T) × IsNth es key nth at item) → e ≡ get_or es at e → Some e.item ≡ slice_get (lists_of es key) nth
+  pub item_is : (es : List (Entry T)) (key nth at : ℕ) (e : Entry T) → ((item : T) × IsNth es key nth at item)
+      → e ≡ get_or es at e → Some e.item ≡ slice_get (lists_of es key) nth
   item_is es key nth at e h is =
       ap (λ x. Some x.item) (is ∙ get_or_from_slice_get es at (record { key = key; item = h.0 }) e h.1.there)
       ∙ sym (nth-item es key nth at h.0 h.1)

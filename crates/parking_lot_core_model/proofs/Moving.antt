@@ -1,5 +1,7 @@
 -- Waiters move to another list, one by one.
-use Rattle.std.proofs.Common.{◌≡◌, ℕ, ◌+◌, ◌<◌, ◌==◌, Bool, true, false, Option, List, [], ◌∷◌, ◌++◌, length, take, drop, remove, Some, None, slice_get, refl, sym, ap, ◌∙◌, subst, append_assoc, arith, zero, suc, add-one}
+use Rattle.std.proofs.Common.{◌≡◌, ℕ, ◌+◌, ◌<◌, ◌==◌, Bool, true, false, Option, List, [], ◌∷◌, ◌++◌, length, take}
+use Rattle.std.proofs.Common.{drop, remove, Some, None, slice_get, refl, sym, ap, ◌∙◌, subst, append_assoc, arith, zero}
+use Rattle.std.proofs.Common.{suc, add-one}
 use Rattle.std.specs.Option.{option_map_or}
 use Rattle.std.proofs.lemmas.List.{append-nil}
 use Rattle.parking_lot_core_model.specs.declared.place.Place.{Place}
@@ -7,7 +9,8 @@ use Rattle.parking_lot_core_model.specs.declared.place.Waiter.{Waiter}
 use Rattle.parking_lot_core_model.specs.Lists.{updated}
 use Rattle.parking_lot_core_model.specs.Places.{all_changed, moved_to}
 use Rattle.parking_lot_core_model.specs.Machine.{Machine, threads_of, moved, moved_first}
-use Rattle.parking_lot_core_model.proofs.Kept.{updated_at, updated_other, updated_same, updated_twice, by_key, eqb_false_symm}
+use Rattle.parking_lot_core_model.proofs.Kept.{updated_at, updated_other, updated_same, updated_twice, by_key}
+use Rattle.parking_lot_core_model.proofs.Kept.{eqb_false_symm}
 use Rattle.parking_lot_core_model.proofs.Sounds.{by_eqb, none≢some}
 use Rattle.parking_lot_core_model.proofs.Takings.{cut_more, all_changed_more, threads_more}
 
@@ -19,10 +22,13 @@ module _ {X : Type 0} where
   abbrev pub Steps : (ℕ → List X) → ℕ → ℕ → X → List X → List X → Type 0
   Steps qs from to x rest xs =
       let g = relisted qs from to (x ∷ rest) xs in
-      (slice_get (g from) 0 ≡ Some x) × (relisted g from to (remove (g from) 0) (x ∷ []) ≡ relisted qs from to rest (xs ++ x ∷ []))
+      (slice_get (g from) 0 ≡ Some x)
+      × (relisted g from to (remove (g from) 0) (x ∷ []) ≡ relisted qs from to rest (xs ++ x ∷ []))
 
-  within_one : (qs : ℕ → List X) (key : ℕ) (rest xs : List X) → relisted qs key key rest xs ≡ updated qs key (rest ++ xs)
-  within_one qs key rest xs = ap (λ ys. updated (updated qs key rest) key (ys ++ xs)) (updated_at qs key rest) ∙ updated_twice qs key rest (rest ++ xs)
+  within_one : (qs : ℕ → List X) (key : ℕ) (rest xs : List X) → relisted qs key key rest xs ≡ updated qs key
+      (rest ++ xs)
+  within_one qs key rest xs = ap (λ ys. updated (updated qs key rest) key (ys ++ xs)) (updated_at qs key rest)
+      ∙ updated_twice qs key rest (rest ++ xs)
 
   steps_within : (qs : ℕ → List X) (key : ℕ) (x : X) (rest xs : List X) → Steps qs key key x rest xs
   steps_within qs key x rest xs =
@@ -40,32 +46,43 @@ module _ {X : Type 0} where
 
   module _ (qs : ℕ → List X) (from to : ℕ) (apart : (from == to) ≡ false) where
     between : (rest xs : List X) → relisted qs from to rest xs ≡ updated (updated qs from rest) to (qs to ++ xs)
-    between rest xs = ap (λ ys. updated (updated qs from rest) to (ys ++ xs)) (updated_other qs from rest to (eqb_false_symm from to apart))
+    between rest xs = ap (λ ys. updated (updated qs from rest) to (ys ++ xs))
+        (updated_other qs from rest to (eqb_false_symm from to apart))
 
     steps_between : (x : X) (rest xs : List X) → Steps qs from to x rest xs
     steps_between x rest xs =
         let g = relisted qs from to (x ∷ rest) xs in
         let q = updated qs from (x ∷ rest) in
         let at : g from ≡ x ∷ rest = updated_other q to (q to ++ xs) from apart ∙ updated_at qs from (x ∷ rest) in
-        let goes : g to ≡ qs to ++ xs = updated_at q to (q to ++ xs) ∙ ap (λ ys. ys ++ xs) (updated_other qs from (x ∷ rest) to (eqb_false_symm from to apart)) in
+        let goes : g to ≡ qs to ++ xs = updated_at q to (q to ++ xs)
+        ∙ ap (λ ys. ys ++ xs) (updated_other qs from (x ∷ rest) to (eqb_false_symm from to apart)) in
         let h = updated g from rest in
         let ends : h to ≡ qs to ++ xs = updated_other g from rest to (eqb_false_symm from to apart) ∙ goes in (
           ap (λ ys. slice_get ys 0) at,
           ap (λ ys. relisted g from to (remove ys 0) (x ∷ [])) at
               ∙ (ap (λ ys. updated h to (ys ++ x ∷ [])) ends
-              ∙ (by_key (updated h to ((qs to ++ xs) ++ x ∷ [])) (updated (updated qs from rest) to (qs to ++ (xs ++ x ∷ []))) to
-              (updated_at h to ((qs to ++ xs) ++ x ∷ []) ∙ (append_assoc (qs to) xs (x ∷ []) ∙ sym (updated_at (updated qs from rest) to (qs to ++ (xs ++ x ∷ [])))))
-              (λ k e. updated_other h to ((qs to ++ xs) ++ x ∷ []) k e ∙ (elsewhere x rest xs k e ∙ sym (updated_other (updated qs from rest) to (qs to ++ (xs ++ x ∷ [])) k e)))
+              ∙ (by_key (updated h to ((qs to ++ xs) ++ x ∷ []))
+              (updated (updated qs from rest) to (qs to ++ (xs ++ x ∷ []))) to
+              (updated_at h to ((qs to ++ xs) ++ x ∷ [])
+              ∙ (append_assoc (qs to) xs (x ∷ [])
+              ∙ sym (updated_at (updated qs from rest) to (qs to ++ (xs ++ x ∷ [])))))
+              (λ k e. updated_other h to ((qs to ++ xs) ++ x ∷ []) k e
+              ∙ (elsewhere x rest xs k e
+              ∙ sym (updated_other (updated qs from rest) to (qs to ++ (xs ++ x ∷ [])) k e)))
               ∙ sym (between rest (xs ++ x ∷ [])))),
         )
       where
-        elsewhere : (x : X) (rest xs : List X) (k : ℕ) → (k == to) ≡ false → updated (relisted qs from to (x ∷ rest) xs) from rest k ≡ updated qs from rest k
+        elsewhere : (x : X) (rest xs : List X) (k : ℕ) → (k == to) ≡ false → updated (relisted qs from to (x ∷ rest) xs)
+            from rest k ≡ updated qs from rest k
         elsewhere x rest xs k e =
             let g = relisted qs from to (x ∷ rest) xs in
             let q = updated qs from (x ∷ rest) in
             by_eqb k from (updated g from rest k ≡ updated qs from rest k)
-            (λ s. ap (updated g from rest) s ∙ (updated_at g from rest ∙ (sym (updated_at qs from rest) ∙ ap (updated qs from rest) (sym s))))
-            (λ d. updated_other g from rest k d ∙ (updated_other q to (q to ++ xs) k e ∙ (updated_other qs from (x ∷ rest) k d ∙ sym (updated_other qs from rest k d))))
+            (λ s. ap (updated g from rest) s
+            ∙ (updated_at g from rest ∙ (sym (updated_at qs from rest) ∙ ap (updated qs from rest) (sym s))))
+            (λ d. updated_other g from rest k d
+            ∙ (updated_other q to (q to ++ xs) k e
+            ∙ (updated_other qs from (x ∷ rest) k d ∙ sym (updated_other qs from rest k d))))
 
   steps : (qs : ℕ → List X) (from to : ℕ) (x : X) (rest xs : List X) → Steps qs from to x rest xs
   steps qs from to x rest xs = by_eqb from to (Steps qs from to x rest xs)
@@ -80,7 +97,8 @@ moved_none m from to =
     ∙ (ap (updated m.queues to) (append-nil (m.queues to)) ∙ updated_same m.queues to)))
 
 -- one more moves
-pub moved_more_suc : (m : Machine) (from to i : ℕ) (w : Waiter) → let q = m.queues from in slice_get q i ≡ Some w → moved_first (moved m from to (take i q) (drop i q)) from to ≡ moved m from to (take (suc i) q) (drop (suc i) q)
+pub moved_more_suc : (m : Machine) (from to i : ℕ) (w : Waiter) → let q = m.queues from in slice_get q i ≡ Some w
+    → moved_first (moved m from to (take i q) (drop i q)) from to ≡ moved m from to (take (suc i) q) (drop (suc i) q)
 moved_more_suc m from to i w at =
     let q = m.queues from in
     let cut = cut_more q i w at in
@@ -89,9 +107,12 @@ moved_more_suc m from to i w at =
     let before = moved m from to (take i q) (w ∷ drop (suc i) q) in
     ap (λ (ws : List Waiter). moved_first (moved m from to (take i q) ws) from to) split
     ∙ (ap (λ o. option_map_or (λ x. moved before from to (x ∷ []) (remove (before.queues from) 0)) o before) step.0
-    ∙ (ap (λ (qs : ℕ → List Waiter). record (moved before from to (w ∷ []) (remove (before.queues from) 0)) { queues = qs }) step.1
-    ∙ (ap (λ (ps : List (Option Place)). record m { queues = relisted m.queues from to (drop (suc i) q) (take i q ++ w ∷ []); places = ps })
-    (sym (ap (all_changed (moved_to to) m.places) (threads_more (take i q) w) ∙ all_changed_more (moved_to to) m.places (threads_of (take i q)) w.thread))
+    ∙ (ap (λ (qs : ℕ → List Waiter). record (moved before from to (w ∷ []) (remove (before.queues from) 0))
+    { queues = qs }) step.1
+    ∙ (ap (λ (ps : List (Option Place)). record m
+    { queues = relisted m.queues from to (drop (suc i) q) (take i q ++ w ∷ []); places = ps })
+    (sym (ap (all_changed (moved_to to) m.places) (threads_more (take i q) w) ∙ all_changed_more (moved_to to) m.places
+    (threads_of (take i q)) w.thread))
     ∙ ap (λ (ws : List Waiter). moved m from to ws (drop (suc i) q)) (sym cut.0))))
   where
     front : (xs : List Waiter) → slice_get xs 0 ≡ Some w → xs ≡ w ∷ remove xs 0
@@ -101,7 +122,8 @@ moved_more_suc m from to i w at =
         same : {a b : Waiter} → Some a ≡ Some b → a ≡ b
         same e = cc
 
-pub moved_more : (m : Machine) (from to i : ℕ) (w : Waiter) → let q = m.queues from in slice_get q i ≡ Some w → moved_first (moved m from to (take i q) (drop i q)) from to ≡ moved m from to (take (i + 1) q) (drop (i + 1) q)
+pub moved_more : (m : Machine) (from to i : ℕ) (w : Waiter) → let q = m.queues from in slice_get q i ≡ Some w
+    → moved_first (moved m from to (take i q) (drop i q)) from to ≡ moved m from to (take (i + 1) q) (drop (i + 1) q)
 moved_more m from to i w at = rw add-one (moved_more_suc m from to i w at)
 
 -- within the list there is one

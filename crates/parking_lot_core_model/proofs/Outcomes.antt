@@ -1,5 +1,6 @@
 -- How calls end.
-use Rattle.std.proofs.Common.{◌≡◌, ℕ, Bool, true, false, cond, Option, Some, None, Result, Ok, Err, [], refl, sym, ap, ◌∙◌, subst, is_some}
+use Rattle.std.proofs.Common.{◌≡◌, ℕ, Bool, true, false, cond, Option, Some, None, Result, Ok, Err, [], refl, sym, ap}
+use Rattle.std.proofs.Common.{◌∙◌, subst, is_some}
 use Rattle.std.specs.Option.{option_map_or, IsSomeAnd, MatchOption}
 use Rattle.parking_lot_core_model.specs.declared.fault.LotFault.{LotFault}
 use Rattle.parking_lot_core_model.specs.declared.fault.LotFault.TheVariants.{WrongStatus, Busy}
@@ -16,21 +17,26 @@ use Rattle.parking_lot_core_model.specs.Machine.{Machine, section_of, step_fault
 use Rattle.parking_lot_core_model.proofs.Sounds.{some≢none}
 
 -- a call that isn't refused, and one that is
-pub unless_done : {T : Type 0} (o : Option LotFault) (r : Result T LotFault) (old new : Machine) (D : Type 0) → o ≡ None → D → Unless o r old new D
+pub unless_done : {T : Type 0} (o : Option LotFault) (r : Result T LotFault) (old new : Machine) (D : Type 0) → o ≡ None
+    → D → Unless o r old new D
 unless_done o r old new D e d = subst (λ (x : Option LotFault). Unless x r old new D) (sym e) d
 
-pub unless_refused : {T : Type 0} (o : Option LotFault) (fault : LotFault) (r : Result T LotFault) (old new : Machine) (D : Type 0) → o ≡ Some fault → r ≡ Err fault → new ≡ old → Unless o r old new D
+pub unless_refused : {T : Type 0} (o : Option LotFault) (fault : LotFault) (r : Result T LotFault) (old new : Machine)
+    (D : Type 0) → o ≡ Some fault → r ≡ Err fault → new ≡ old → Unless o r old new D
 unless_refused o fault r old new D e is same = subst (λ (x : Option LotFault). Unless x r old new D) (sym e) (is, same)
 
 pub some_and : {X : Type 0} (o : Option X) (x : X) (P : X → Type 0) → o ≡ Some x → P x → IsSomeAnd o P
 some_and {X = X} o x P e p = subst (λ (y : Option X). IsSomeAnd y P) (sym e) p
 
-pub match_some : {X : Type 0} (o : Option X) (x : X) (P : Type 0) (Q : X → Type 0) → o ≡ Some x → Q x → MatchOption o P Q
+pub match_some : {X : Type 0} (o : Option X) (x : X) (P : Type 0) (Q : X → Type 0) → o ≡ Some x → Q x
+    → MatchOption o P Q
 match_some {X = X} o x P Q e q = subst (λ (y : Option X). MatchOption y P Q) (sym e) q
 
 -- a section that may do this is refused nothing
-pub allowed : (may : Phase → Bool) (m : Machine) (t : ℕ) (s : Section) → section_of m t ≡ Some s → may s.phase ≡ true → step_fault may m t ≡ None
-allowed may m t s e ok = ap (λ o. cond (option_map_or (λ x. may x.phase) o false) None (Some WrongStatus)) e ∙ ap (λ b. cond b None (Some WrongStatus)) ok
+pub allowed : (may : Phase → Bool) (m : Machine) (t : ℕ) (s : Section) → section_of m t ≡ Some s → may s.phase ≡ true
+    → step_fault may m t ≡ None
+allowed may m t s e ok = ap (λ o. cond (option_map_or (λ x. may x.phase) o false) None (Some WrongStatus)) e
+    ∙ ap (λ b. cond b None (Some WrongStatus)) ok
 
 -- where nothing is refused for it, no section is open
 pub free_section : (m : Machine) → busy m ≡ None → m.section ≡ None
@@ -41,6 +47,9 @@ free_section m e = free m.section e
     free (Some s) e = absurd (some≢none e)
 
 -- a requeue that isn't aborted
-pub not_aborted : (gives : UnparkResult → UnparkToken → Type 0) (op : RequeueOp) (old : Machine) (from to : ℕ) (result : Result UnparkResult LotFault) (new : Machine) → is_abort op ≡ false
+pub not_aborted : (gives : UnparkResult → UnparkToken → Type 0) (op : RequeueOp) (old : Machine) (from to : ℕ)
+    (result : Result UnparkResult LotFault) (new : Machine) → is_abort op ≡ false
     → RequeuesBy gives op old from to result new → Requeues gives op old from to result new
-not_aborted gives op old from to result new e by = subst (λ (b : Bool). MatchBool b ((result ≡ Ok (unpark_result {X = Waiter} 0 0 [])) × (new ≡ old)) (RequeuesBy gives op old from to result new)) (sym e) by
+not_aborted gives op old from to result new e by =
+    subst (λ (b : Bool). MatchBool b ((result ≡ Ok (unpark_result {X = Waiter} 0 0 [])) × (new ≡ old))
+    (RequeuesBy gives op old from to result new)) (sym e) by

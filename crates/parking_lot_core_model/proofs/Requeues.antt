@@ -1,9 +1,11 @@
 -- How many waiters a requeue wakes and moves.
-use Rattle.std.proofs.Common.{◌≡◌, ℕ, ◌+◌, ◌-◌, ◌≤◌, min, Bool, true, false, List, [], ◌∷◌, length, take, drop, nat_lt, refl, sym, ap, ◌∙◌, arith, suc}
+use Rattle.std.proofs.Common.{◌≡◌, ℕ, ◌+◌, ◌-◌, ◌≤◌, min, Bool, true, false, List, [], ◌∷◌, length, take, drop, nat_lt}
+use Rattle.std.proofs.Common.{refl, sym, ap, ◌∙◌, arith, suc}
 use Rattle.std.proofs.Math.Seq.{take-length, drop-length}
 use Rattle.std.proofs.lemmas.Bool.{lt-ltb, le-ltb}
 use Rattle.parking_lot_core_model.specs.declared.parking.RequeueOp.{RequeueOp}
-use Rattle.parking_lot_core_model.specs.declared.parking.RequeueOp.TheVariants.{Abort, UnparkOneRequeueRest, RequeueAll, UnparkOne, RequeueOne}
+use Rattle.parking_lot_core_model.specs.declared.parking.RequeueOp.TheVariants.{Abort, UnparkOneRequeueRest, RequeueAll}
+use Rattle.parking_lot_core_model.specs.declared.parking.RequeueOp.TheVariants.{UnparkOne, RequeueOne}
 use Rattle.parking_lot_core_model.specs.Results.{woken_by, moved_by, left_by, is_left}
 use Rattle.parking_lot_core_model.specs.Operations.{woken_count, moved_count}
 
@@ -45,14 +47,16 @@ module _ {X : Type 0} where
   take_woken UnparkOne q = take_one q
   take_woken RequeueOne q = refl
 
-  pub take_moved : (op : RequeueOp) (q : List X) → take (length (moved_by op q)) (drop (length (woken_by op q)) q) ≡ moved_by op q
+  pub take_moved : (op : RequeueOp) (q : List X) → take (length (moved_by op q)) (drop (length (woken_by op q)) q)
+      ≡ moved_by op q
   take_moved Abort q = refl
   take_moved UnparkOneRequeueRest q = ap (take (length (drop 1 q))) (drop_one q) ∙ take-length (drop 1 q)
   take_moved RequeueAll q = take-length q
   take_moved UnparkOne q = refl
   take_moved RequeueOne q = take_one q
 
-  pub drop_moved : (op : RequeueOp) (q : List X) → drop (length (moved_by op q)) (drop (length (woken_by op q)) q) ≡ left_by op q
+  pub drop_moved : (op : RequeueOp) (q : List X) → drop (length (moved_by op q)) (drop (length (woken_by op q)) q)
+      ≡ left_by op q
   drop_moved Abort q = refl
   drop_moved UnparkOneRequeueRest q = ap (drop (length (drop 1 q))) (drop_one q) ∙ drop-length (drop 1 q)
   drop_moved RequeueAll q = drop-length q
@@ -67,7 +71,8 @@ module _ {X : Type 0} where
   moved_within RequeueOne [] = omega arith
   moved_within RequeueOne (x ∷ xs) = omega arith
 
-  pub test_left : (op : RequeueOp) (q : List X) → nat_lt (length (woken_by op q) + length (moved_by op q)) (length q) ≡ is_left (left_by op q)
+  pub test_left : (op : RequeueOp) (q : List X) → nat_lt (length (woken_by op q) + length (moved_by op q)) (length q)
+      ≡ is_left (left_by op q)
   test_left Abort [] = le-ltb (0 + 0) 0 (omega arith)
   test_left Abort (x ∷ xs) = lt-ltb (0 + 0) (suc (length xs)) (omega arith)
   test_left UnparkOneRequeueRest [] = le-ltb (0 + 0) 0 (omega arith)

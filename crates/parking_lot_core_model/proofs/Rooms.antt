@@ -1,5 +1,6 @@
 -- There stays room for each registered thread to wait.
-use Rattle.std.proofs.Common.{◌≡◌, ℕ, ◌+◌, ◌<◌, ◌≤◌, Bool, true, false, List, [], ◌∷◌, ◌++◌, length, Option, Some, None, slice_get, slice_set, refl, sym, ap, ◌∙◌, subst, arith, count_by, map}
+use Rattle.std.proofs.Common.{◌≡◌, ℕ, ◌+◌, ◌<◌, ◌≤◌, Bool, true, false, List, [], ◌∷◌, ◌++◌, length, Option, Some, None}
+use Rattle.std.proofs.Common.{slice_get, slice_set, refl, sym, ap, ◌∙◌, subst, arith, count_by, map}
 use Rattle.std.specs.Option.{option_map, option_map_or}
 use Rattle.std.proofs.lemmas.Bool.{cond-true, cond-false}
 use Rattle.std.proofs.Math.ListN.{length-set}
@@ -19,10 +20,12 @@ waits place = option_map_or is_waiting place false
 
 module _ {A : Type 0} where
   -- a thread's place and the lists change, and the lists grow no more than the waiting do
-  pub room_next : (w v : Lists Waiter A) (ps : List (Option Place)) (max t : ℕ) (p : Place) (o : Option Place) → Room w ps max → place_at ps t ≡ Some p
+  pub room_next : (w v : Lists Waiter A) (ps : List (Option Place)) (max t : ℕ) (p : Place) (o : Option Place)
+      → Room w ps max → place_at ps t ≡ Some p
       → room v ≡ room w → total v + flag (is_waiting p) ≤ total w + flag (waits o) → Room v (slice_set ps t o) max
   room_next w v ps max t p o h at same fits =
-      let c : count_by waits (slice_set ps t o) + flag (is_waiting p) ≡ count_by waits ps + flag (waits o) = count_by-set waits ps t (Some p) o (some_slot (slice_get ps t) p at) in
+      let c : count_by waits (slice_set ps t o) + flag (is_waiting p) ≡ count_by waits ps + flag (waits o) =
+      count_by-set waits ps t (Some p) o (some_slot (slice_get ps t) p at) in
       let l : length (slice_set ps t o) ≡ length ps = length-set ps t o in
       let a = h.waits in
       let b = h.room in
@@ -30,9 +33,11 @@ module _ {A : Type 0} where
       record { waits = omega arith; room = omega arith; threads = omega arith; limit = h.limit }
 
   -- a running thread finds room
-  pub room_left : (w : Lists Waiter A) (ps : List (Option Place)) (max t : ℕ) → Room w ps max → place_at ps t ≡ Some Running → total w < room w
+  pub room_left : (w : Lists Waiter A) (ps : List (Option Place)) (max t : ℕ) → Room w ps max
+      → place_at ps t ≡ Some Running → total w < room w
   room_left w ps max t h at =
-      let c : count_by waits ps < length ps = count_by-lt waits ps t (Some Running) (some_slot (slice_get ps t) Running at) refl in
+      let c : count_by waits ps < length ps = count_by-lt waits ps t (Some Running)
+      (some_slot (slice_get ps t) Running at) refl in
       let a = h.waits in
       let b = h.room in
       omega arith

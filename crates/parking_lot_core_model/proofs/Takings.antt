@@ -1,5 +1,7 @@
 -- What taking and moving waiters, one by one, comes to.
-use Rattle.std.proofs.Common.{◌≡◌, ℕ, ◌+◌, ◌<◌, ◌≤◌, ◌==◌, Bool, true, false, cond, Option, List, [], ◌∷◌, ◌++◌, length, map, take, drop, remove, Some, None, is_some, slice_get, slice_set, refl, sym, ap, ◌∙◌, subst, append_assoc, arith, zero, suc, add-one}
+use Rattle.std.proofs.Common.{◌≡◌, ℕ, ◌+◌, ◌<◌, ◌≤◌, ◌==◌, Bool, true, false, cond, Option, List, [], ◌∷◌, ◌++◌, length}
+use Rattle.std.proofs.Common.{map, take, drop, remove, Some, None, is_some, slice_get, slice_set, refl, sym, ap, ◌∙◌}
+use Rattle.std.proofs.Common.{subst, append_assoc, arith, zero, suc, add-one}
 use Rattle.std.specs.Option.{option_map, option_map_or, option_and_then}
 use Rattle.std.proofs.lemmas.Bool.{false≢true}
 use Rattle.std.proofs.lemmas.List.{append-nil, map-append, map-set}
@@ -10,13 +12,16 @@ use Rattle.parking_lot_core_model.specs.declared.place.Place.TheVariants.{Runnin
 use Rattle.parking_lot_core_model.specs.declared.place.Waiter.{Waiter}
 use Rattle.parking_lot_core_model.specs.Lists.{updated}
 use Rattle.parking_lot_core_model.specs.Places.{place_at, changed, all_changed, held, told, woken, moved_to, is_held}
-use Rattle.parking_lot_core_model.specs.Machine.{Machine, threads_of, taken, moved, moved_first, opened, stored, closed, unparked}
+use Rattle.parking_lot_core_model.specs.Machine.{Machine, threads_of, taken, moved, moved_first, opened, stored, closed}
+use Rattle.parking_lot_core_model.specs.Machine.{unparked}
 use Rattle.parking_lot_core_model.specs.Operations.{all_taken}
-use Rattle.parking_lot_core_model.proofs.Kept.{updated_at, updated_other, updated_same, updated_twice, by_key, eqb_false_symm}
+use Rattle.parking_lot_core_model.proofs.Kept.{updated_at, updated_other, updated_same, updated_twice, by_key}
+use Rattle.parking_lot_core_model.proofs.Kept.{eqb_false_symm}
 use Rattle.parking_lot_core_model.proofs.Sounds.{by_eqb, place_at-map, none≢some}
 
 -- one more thread's place is changed
-pub all_changed_more : (f : Place → Place) (ps : List (Option Place)) (ts : List ℕ) (t : ℕ) → all_changed f ps (ts ++ t ∷ []) ≡ changed f (all_changed f ps ts) t
+pub all_changed_more : (f : Place → Place) (ps : List (Option Place)) (ts : List ℕ) (t : ℕ)
+    → all_changed f ps (ts ++ t ∷ []) ≡ changed f (all_changed f ps ts) t
 all_changed_more f ps [] t = refl
 all_changed_more f ps (u ∷ ts) t = all_changed_more f (changed f ps u) ts t
 
@@ -28,17 +33,32 @@ pub all_taken_none : (m : Machine) (key : ℕ) → m ≡ all_taken m key [] (m.q
 all_taken_none m key = ap (λ (qs : ℕ → List Waiter). record m { queues = qs }) (sym (updated_same m.queues key))
 
 -- one more waiter is taken
-pub taken_more : (m : Machine) (key : ℕ) (ws rest : List Waiter) (i : ℕ) (w : Waiter) → slice_get rest i ≡ Some w → taken (all_taken m key ws rest) key i ≡ all_taken m key (ws ++ w ∷ []) (remove rest i)
+pub taken_more : (m : Machine) (key : ℕ) (ws rest : List Waiter) (i : ℕ) (w : Waiter) → slice_get rest i ≡ Some w
+    → taken (all_taken m key ws rest) key i ≡ all_taken m key (ws ++ w ∷ []) (remove rest i)
 taken_more m key ws rest i w at =
     let here : updated m.queues key rest key ≡ rest = updated_at m.queues key rest in
-    ap (λ (qs : List Waiter). record (all_taken m key ws rest) { queues = updated (updated m.queues key rest) key (remove qs i); places = option_map_or (λ x. changed held (all_changed held m.places (threads_of ws)) x.thread) (slice_get qs i) (all_changed held m.places (threads_of ws)) }) here
-    ∙ (ap (λ (o : Option Waiter). record (all_taken m key ws rest) { queues = updated (updated m.queues key rest) key (remove rest i); places = option_map_or (λ x. changed held (all_changed held m.places (threads_of ws)) x.thread) o (all_changed held m.places (threads_of ws)) }) at
-    ∙ (ap (λ (qs : ℕ → List Waiter). record (all_taken m key ws rest) { queues = qs; places = changed held (all_changed held m.places (threads_of ws)) w.thread }) (updated_twice m.queues key rest (remove rest i))
-    ∙ ap (λ (ps : List (Option Place)). record (all_taken m key ws rest) { queues = updated m.queues key (remove rest i); places = ps }) (sym (ap (all_changed held m.places) (threads_more ws w) ∙ all_changed_more held m.places (threads_of ws) w.thread))))
+    ap (λ (qs : List Waiter). record (all_taken m key ws rest) {
+      queues = updated (updated m.queues key rest) key (remove qs i);
+      places = option_map_or (λ x. changed held (all_changed held m.places (threads_of ws)) x.thread) (slice_get qs i)
+          (all_changed held m.places (threads_of ws));
+    }) here
+    ∙ (ap (λ (o : Option Waiter). record (all_taken m key ws rest) {
+      queues = updated (updated m.queues key rest) key (remove rest i);
+      places = option_map_or (λ x. changed held (all_changed held m.places (threads_of ws)) x.thread) o
+          (all_changed held m.places (threads_of ws));
+    }) at
+    ∙ (ap (λ (qs : ℕ → List Waiter). record (all_taken m key ws rest)
+    { queues = qs; places = changed held (all_changed held m.places (threads_of ws)) w.thread })
+    (updated_twice m.queues key rest (remove rest i))
+    ∙ ap (λ (ps : List (Option Place)). record (all_taken m key ws rest)
+    { queues = updated m.queues key (remove rest i); places = ps })
+    (sym (ap (all_changed held m.places) (threads_more ws w) ∙ all_changed_more held m.places (threads_of ws)
+    w.thread))))
 
 module _ {X : Type 0} where
   -- a list, cut at an index, with one more in front of the cut
-  pub cut_more : (xs : List X) (i : ℕ) (x : X) → slice_get xs i ≡ Some x → (take (suc i) xs ≡ take i xs ++ x ∷ []) × (slice_get (drop i xs) 0 ≡ Some x) × (remove (drop i xs) 0 ≡ drop (suc i) xs)
+  pub cut_more : (xs : List X) (i : ℕ) (x : X) → slice_get xs i ≡ Some x → (take (suc i) xs ≡ take i xs ++ x ∷ [])
+      × (slice_get (drop i xs) 0 ≡ Some x) × (remove (drop i xs) 0 ≡ drop (suc i) xs)
   cut_more [] i x h = absurd (none≢some h)
   cut_more (y ∷ xs) zero x h = (ap (λ z. z ∷ []) (same h), h, refl)
     where
@@ -47,31 +67,43 @@ module _ {X : Type 0} where
   cut_more (y ∷ xs) (suc i) x h = let r = cut_more xs i x h in (ap (λ zs. y ∷ zs) r.0, r.1, r.2)
 
   -- past the end the cut stays
-  pub cut_past : (xs : List X) (i : ℕ) → slice_get xs i ≡ None → (take (suc i) xs ≡ take i xs) × (drop i xs ≡ []) × (drop (suc i) xs ≡ [])
+  pub cut_past : (xs : List X) (i : ℕ) → slice_get xs i ≡ None → (take (suc i) xs ≡ take i xs) × (drop i xs ≡ [])
+      × (drop (suc i) xs ≡ [])
   cut_past [] zero h = (refl, refl, refl)
   cut_past [] (suc i) h = (refl, refl, refl)
   cut_past (y ∷ xs) zero h = absurd (none≢some (sym h))
   cut_past (y ∷ xs) (suc i) h = let r = cut_past xs i h in (ap (λ zs. y ∷ zs) r.0, r.1, r.2)
 
 -- taking from the front, once more
-pub taken_front_suc : (m : Machine) (key i : ℕ) → let q = m.queues key in taken (all_taken m key (take i q) (drop i q)) key 0 ≡ all_taken m key (take (suc i) q) (drop (suc i) q)
+pub taken_front_suc : (m : Machine) (key i : ℕ) → let q = m.queues key in taken (all_taken m key (take i q) (drop i q))
+    key 0 ≡ all_taken m key (take (suc i) q) (drop (suc i) q)
 taken_front_suc m key i = front (slice_get (m.queues key) i) refl
   where
-    front : (o : Option Waiter) → slice_get (m.queues key) i ≡ o → taken (all_taken m key (take i (m.queues key)) (drop i (m.queues key))) key 0 ≡ all_taken m key (take (suc i) (m.queues key)) (drop (suc i) (m.queues key))
+    front : (o : Option Waiter) → slice_get (m.queues key) i ≡ o
+        → taken (all_taken m key (take i (m.queues key)) (drop i (m.queues key))) key 0 ≡ all_taken m key
+        (take (suc i) (m.queues key)) (drop (suc i) (m.queues key))
     front None e =
         let q = m.queues key in
         let r = cut_past q i e in
         ap (λ (rest : List Waiter). taken (all_taken m key (take i q) rest) key 0) r.1
-        ∙ (ap (λ (qs : List Waiter). record (all_taken m key (take i q) []) { queues = updated (updated m.queues key []) key (remove qs 0); places = option_map_or (λ x. changed held (all_changed held m.places (threads_of (take i q))) x.thread) (slice_get qs 0) (all_changed held m.places (threads_of (take i q))) }) (updated_at m.queues key [])
-        ∙ (ap (λ (qs : ℕ → List Waiter). record (all_taken m key (take i q) []) { queues = qs }) (updated_twice m.queues key [] [])
-        ∙ (ap (λ (ws : List Waiter). all_taken m key ws []) (sym r.0) ∙ ap (λ (rest : List Waiter). all_taken m key (take (suc i) q) rest) (sym r.2))))
+        ∙ (ap (λ (qs : List Waiter). record (all_taken m key (take i q) []) {
+          queues = updated (updated m.queues key []) key (remove qs 0);
+          places = option_map_or (λ x. changed held (all_changed held m.places (threads_of (take i q))) x.thread)
+              (slice_get qs 0) (all_changed held m.places (threads_of (take i q)));
+        }) (updated_at m.queues key [])
+        ∙ (ap (λ (qs : ℕ → List Waiter). record (all_taken m key (take i q) []) { queues = qs })
+        (updated_twice m.queues key [] [])
+        ∙ (ap (λ (ws : List Waiter). all_taken m key ws []) (sym r.0)
+        ∙ ap (λ (rest : List Waiter). all_taken m key (take (suc i) q) rest) (sym r.2))))
     front (Some w) e =
         let q = m.queues key in
         let r = cut_more q i w e in
         taken_more m key (take i q) (drop i q) 0 w r.1
-        ∙ (ap (λ (ws : List Waiter). all_taken m key ws (remove (drop i q) 0)) (sym r.0) ∙ ap (λ (rest : List Waiter). all_taken m key (take (suc i) q) rest) r.2)
+        ∙ (ap (λ (ws : List Waiter). all_taken m key ws (remove (drop i q) 0)) (sym r.0)
+        ∙ ap (λ (rest : List Waiter). all_taken m key (take (suc i) q) rest) r.2)
 
-pub taken_front : (m : Machine) (key i : ℕ) → let q = m.queues key in taken (all_taken m key (take i q) (drop i q)) key 0 ≡ all_taken m key (take (i + 1) q) (drop (i + 1) q)
+pub taken_front : (m : Machine) (key i : ℕ) → let q = m.queues key in taken (all_taken m key (take i q) (drop i q)) key
+    0 ≡ all_taken m key (take (i + 1) q) (drop (i + 1) q)
 taken_front m key i = rw add-one (taken_front_suc m key i)
 
 -- THE END OF A SECTION
@@ -82,14 +114,16 @@ told_woken token (Waiting key s) = refl
 told_woken token (Held s) = refl
 told_woken token (Taken t s b) = refl
 
-told_moved : (token : UnparkToken) (to : ℕ) (p : Place) → told token true (moved_to to p) ≡ moved_to to (told token true p)
+told_moved : (token : UnparkToken) (to : ℕ) (p : Place) → told token true (moved_to to p) ≡ moved_to to
+    (told token true p)
 told_moved token to Running = refl
 told_moved token to (Waiting key s) = refl
 told_moved token to (Held s) = refl
 told_moved token to (Taken t s b) = refl
 
 -- telling all places after a change is the change after telling all
-told_changed : (f g h : Place → Place) → ((p : Place) → h (f p) ≡ g (h p)) → (ps : List (Option Place)) (t : ℕ) → map (option_map h) (changed f ps t) ≡ changed g (map (option_map h) ps) t
+told_changed : (f g h : Place → Place) → ((p : Place) → h (f p) ≡ g (h p)) → (ps : List (Option Place)) (t : ℕ)
+    → map (option_map h) (changed f ps t) ≡ changed g (map (option_map h) ps) t
 told_changed f g h same ps t =
     map-set (option_map h) ps t (option_map f (place_at ps t))
     ∙ ap (slice_set (map (option_map h) ps) t) (each (place_at ps t) ∙ ap (option_map g) (sym (place_at-map h ps t)))
@@ -98,14 +132,18 @@ told_changed f g h same ps t =
     each None = refl
     each (Some p) = ap (λ x. Some x) (same p)
 
-told_all : (f g h : Place → Place) → ((p : Place) → h (f p) ≡ g (h p)) → (ps : List (Option Place)) (ts : List ℕ) → map (option_map h) (all_changed f ps ts) ≡ all_changed g (map (option_map h) ps) ts
+told_all : (f g h : Place → Place) → ((p : Place) → h (f p) ≡ g (h p)) → (ps : List (Option Place)) (ts : List ℕ)
+    → map (option_map h) (all_changed f ps ts) ≡ all_changed g (map (option_map h) ps) ts
 told_all f g h same ps [] = refl
-told_all f g h same ps (t ∷ ts) = told_all f g h same (changed f ps t) ts ∙ ap (λ (xs : List (Option Place)). all_changed g xs ts) (told_changed f g h same ps t)
+told_all f g h same ps (t ∷ ts) = told_all f g h same (changed f ps t) ts
+    ∙ ap (λ (xs : List (Option Place)). all_changed g xs ts) (told_changed f g h same ps t)
 
 -- where nobody is held, nobody is told
-pub nobody_told : (token : UnparkToken) (b : Bool) (ps : List (Option Place)) → ((t : ℕ) → option_map_or is_held (place_at ps t) false ≡ false) → map (option_map (told token b)) ps ≡ ps
+pub nobody_told : (token : UnparkToken) (b : Bool) (ps : List (Option Place))
+    → ((t : ℕ) → option_map_or is_held (place_at ps t) false ≡ false) → map (option_map (told token b)) ps ≡ ps
 nobody_told token b [] none = refl
-nobody_told token b (o ∷ ps) none = ap (λ x. x ∷ map (option_map (told token b)) ps) (one o (none 0)) ∙ ap (λ xs. o ∷ xs) (nobody_told token b ps (λ t. none (suc t)))
+nobody_told token b (o ∷ ps) none = ap (λ x. x ∷ map (option_map (told token b)) ps) (one o (none 0))
+    ∙ ap (λ xs. o ∷ xs) (nobody_told token b ps (λ t. none (suc t)))
   where
     one : (o : Option Place) → option_map_or is_held o false ≡ false → option_map (told token b) o ≡ o
     one None e = refl
@@ -114,27 +152,37 @@ nobody_told token b (o ∷ ps) none = ap (λ x. x ∷ map (option_map (told toke
     one (Some (Taken t s w)) e = refl
     one (Some (Held s)) e = absurd (false≢true (sym e))
 
-module _ (m : Machine) (key : ℕ) (token : UnparkToken) (quiet : (t : ℕ) → option_map_or is_held (place_at m.places t) false ≡ false) (free : m.section ≡ None) where
-  woken_places : (ws : List Waiter) → map (option_map (told token true)) (all_changed held m.places (threads_of ws)) ≡ all_changed (woken token) m.places (threads_of ws)
-  woken_places ws = told_all held (woken token) (told token true) (told_woken token) m.places (threads_of ws) ∙ ap (λ (xs : List (Option Place)). all_changed (woken token) xs (threads_of ws)) (nobody_told token true m.places quiet)
+module _ (m : Machine) (key : ℕ) (token : UnparkToken)
+    (quiet : (t : ℕ) → option_map_or is_held (place_at m.places t) false ≡ false) (free : m.section ≡ None) where
+  woken_places : (ws : List Waiter) → map (option_map (told token true)) (all_changed held m.places (threads_of ws))
+      ≡ all_changed (woken token) m.places (threads_of ws)
+  woken_places ws = told_all held (woken token) (told token true) (told_woken token) m.places (threads_of ws)
+      ∙ ap (λ (xs : List (Option Place)). all_changed (woken token) xs (threads_of ws))
+      (nobody_told token true m.places quiet)
 
   -- a section that took some, and closes, has woken them
-  pub closed_taken : (ws rest : List Waiter) → closed (stored (all_taken (opened m None key) key ws rest) token) true ≡ unparked m key ws rest token
+  pub closed_taken : (ws rest : List Waiter) → closed (stored (all_taken (opened m None key) key ws rest) token) true
+      ≡ unparked m key ws rest token
   closed_taken ws rest =
-      ap (λ (ps : List (Option Place)). record (unparked m key ws rest token) { places = ps; section = None }) (woken_places ws)
+      ap (λ (ps : List (Option Place)). record (unparked m key ws rest token) { places = ps; section = None })
+      (woken_places ws)
       ∙ ap (λ o. record (unparked m key ws rest token) { section = o }) (sym free)
 
   -- so has one that also moved some
-  pub closed_moved : (to : ℕ) (ws rest ms left : List Waiter) → closed (stored (moved (all_taken (opened m None key) key ws rest) key to ms left) token) true ≡ moved (unparked m key ws rest token) key to ms left
+  pub closed_moved : (to : ℕ) (ws rest ms left : List Waiter)
+      → closed (stored (moved (all_taken (opened m None key) key ws rest) key to ms left) token) true ≡ moved
+      (unparked m key ws rest token) key to ms left
   closed_moved to ws rest ms left =
       let after = moved (unparked m key ws rest token) key to ms left in
       ap (λ (ps : List (Option Place)). record after { places = ps; section = None })
-      (told_all (moved_to to) (moved_to to) (told token true) (told_moved token to) (all_changed held m.places (threads_of ws)) (threads_of ms)
+      (told_all (moved_to to) (moved_to to) (told token true) (told_moved token to)
+      (all_changed held m.places (threads_of ws)) (threads_of ms)
       ∙ ap (λ (xs : List (Option Place)). all_changed (moved_to to) xs (threads_of ms)) (woken_places ws))
       ∙ ap (λ o. record after { section = o }) (sym free)
 
 -- the first is taken
-pub first_taken : (m : Machine) (key : ℕ) → taken m key 0 ≡ all_taken m key (take 1 (m.queues key)) (drop 1 (m.queues key))
+pub first_taken : (m : Machine) (key : ℕ) → taken m key 0 ≡ all_taken m key (take 1 (m.queues key))
+    (drop 1 (m.queues key))
 first_taken m key = ap (λ (x : Machine). taken x key 0) (all_taken_none m key) ∙ taken_front m key 0
 
 -- how many the first are

@@ -16,7 +16,8 @@ pub record ShowsSame (m n : Machine) : Type 0 where
 -- the takings of a section: each passes so many waiters, and takes the next
 abbrev pub takings : Machine → ℕ → ℕ → List ℕ → Machine
 takings m key passed [] = m
-takings m key passed (n ∷ ns) = takings (taken (in_phase m (phase.Taking (passed + n))) key (passed + n)) key (passed + n) ns
+takings m key passed (n ∷ ns) = takings (taken (in_phase m (phase.Taking (passed + n))) key (passed + n)) key
+    (passed + n) ns
 
 -- what a filter answers in them, and then answers that take nobody
 abbrev pub answers_of : List ℕ → List FilterOp → List FilterOp

@@ -1,5 +1,6 @@
 -- A map from numbers to lists, kept as one list of entries.
-use Rattle.std.specs.Prelude.{◌≡◌, ℕ, Bool, ◌==◌, if◌then◌else◌, List, [], ◌∷◌, ◌++◌, length, map, filter, take, Some, slice_get, vec_capacity, remove}
+use Rattle.std.specs.Prelude.{◌≡◌, ℕ, Bool, ◌==◌, if◌then◌else◌, List, [], ◌∷◌, ◌++◌, length, map, filter, take, Some}
+use Rattle.std.specs.Prelude.{slice_get, vec_capacity, remove}
 use Rattle.std.specs.List.{position_or_len}
 use Rattle.parking_lot_core_model.specs.declared.lists.Entry.{Entry}
 use Rattle.parking_lot_core_model.specs.declared.lists.Lists.{Lists}

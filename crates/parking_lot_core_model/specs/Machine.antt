@@ -1,5 +1,8 @@
 -- The lot as a machine of lists: one list of waiters for each key, and each thread's place and resources.
-use Rattle.std.specs.Prelude.{◌≡◌, ℕ, suc, ◌+◌, ◌%◌, ◌^◌, ◌==◌, ◌&&◌, Bool, true, false, not, nat_lt, if◌then◌else◌, List, [], ◌∷◌, ◌++◌, length, map, take, drop, remove, Option, Some, None, is_some, is_none, slice_get, slice_set, Result, Ok, Err, IsOk, IsSomeAnd, count_by, MatchBool, MatchResult}
+use Rattle.std.specs.Prelude.{◌≡◌, ℕ, suc, ◌+◌, ◌%◌, ◌^◌, ◌==◌, ◌&&◌, Bool, true, false, not, nat_lt, if◌then◌else◌}
+use Rattle.std.specs.Prelude.{List, [], ◌∷◌, ◌++◌, length, map, take, drop, remove, Option, Some, None, is_some}
+use Rattle.std.specs.Prelude.{is_none, slice_get, slice_set, Result, Ok, Err, IsOk, IsSomeAnd, count_by, MatchBool}
+use Rattle.std.specs.Prelude.{MatchResult}
 use Rattle.std.specs.Option.{option_map, option_map_or, option_and_then}
 use Rattle.std.specs.List.{position_or_len, list_any}
 use Rattle.parking_lot_core_model.specs.declared.fault.LotFault.{LotFault}
@@ -17,7 +20,9 @@ use Rattle.parking_lot_core_model.specs.declared.place.Section.{Section}
 use Rattle.parking_lot_core_model.specs.declared.place.Phase.{Phase}
 use Rattle.parking_lot_core_model.specs.declared.place.Phase.TheVariants as phase
 use Rattle.parking_lot_core_model.specs.Lists.{updated, without_first, lists_of}
-use Rattle.parking_lot_core_model.specs.Places.{place_at, changed, all_changed, held, told, woken, moved_to, sleeps_timed, status_of, mark_of, passed_of, may_return, has_slept, has_joined, taken_with}
+use Rattle.parking_lot_core_model.specs.Places.{place_at, changed, all_changed, held, told, woken, moved_to}
+use Rattle.parking_lot_core_model.specs.Places.{sleeps_timed, status_of, mark_of, passed_of, may_return, has_slept}
+use Rattle.parking_lot_core_model.specs.Places.{has_joined, taken_with}
 use Rattle.parking_lot_core_model.specs.declared.place.Taking.{Taking}
 use Rattle.parking_lot_core_model.specs.declared.parking.FilterOp.{FilterOp}
 use Rattle.parking_lot_core_model.specs.Results.{woken_by, moved_by, left_by, Answers, is_no_skip, is_take, is_skip}
@@ -48,7 +53,15 @@ pub record Machine : Type 0 where
 
 -- the machine that a lot is
 abbrev pub machine : Parts → Machine
-machine p = record { number = p.number; max_threads = p.max_threads; sleeps = p.sleeps; queues = lists_of p.waiting; resources = lists_of p.owned; places = p.places; section = p.section }
+machine p = record {
+  number = p.number;
+  max_threads = p.max_threads;
+  sleeps = p.sleeps;
+  queues = lists_of p.waiting;
+  resources = lists_of p.owned;
+  places = p.places;
+  section = p.section;
+}
 
 -- its threads
 abbrev pub threads_of : List Waiter → List ℕ
@@ -79,7 +92,8 @@ token_of m = option_map_or (λ s. s.token) m.section (record { 0 = 0 })
 
 -- where a thread stands
 abbrev pub status_at : Machine → ℕ → Option ThreadStatus
-status_at m thread = option_map (λ place. if is_in m thread then status.InSection else status_of (token_of m) place) (place_at m.places thread)
+status_at m thread = option_map (λ place. if is_in m thread then status.InSection else status_of (token_of m) place)
+    (place_at m.places thread)
 
 abbrev pub runs : Option ThreadStatus → Bool
 runs None = false
@@ -113,11 +127,13 @@ enter_fault m thread = if runs (status_at m thread) then busy m else Some WrongS
 
 -- it isn't in a section, or in one that can't do this now
 abbrev pub step_fault : (Phase → Bool) → Machine → ℕ → Option LotFault
-step_fault may m thread = if option_map_or (λ s. may s.phase) (section_of m thread) false then None else Some WrongStatus
+step_fault may m thread = if option_map_or (λ s. may s.phase) (section_of m thread) false then None else Some
+    WrongStatus
 
 -- it doesn't sleep in a timed wait
 abbrev pub deadline_fault : Machine → ℕ → Option LotFault
-deadline_fault m thread = if not (is_in m thread) && option_map_or sleeps_timed (place_at m.places thread) false then None else Some WrongStatus
+deadline_fault m thread = if not (is_in m thread) && option_map_or sleeps_timed (place_at m.places thread) false then
+    None else Some WrongStatus
 
 -- it was neither taken nor has its deadline come; or the section that took it, or that it has to enter, is open
 abbrev pub resume_fault_at : Option LotFault → Option Place → Option LotFault
@@ -136,11 +152,13 @@ owner_fault m thread = if is_some (place_at m.places thread) then None else Some
 
 -- it doesn't sleep where it could come back into a section of the key; or a section is open
 abbrev pub return_fault : Machine → ℕ → ℕ → Option LotFault
-return_fault m thread key = if option_map_or (may_return key) (place_at m.places thread) false then busy m else Some WrongStatus
+return_fault m thread key = if option_map_or (may_return key) (place_at m.places thread) false then busy m else Some
+    WrongStatus
 
 -- it isn't in a section in which it stands in the list, or stood there when it fell asleep
 abbrev pub quit_fault : Machine → ℕ → Option LotFault
-quit_fault m thread = if option_map_or (λ s. has_joined s.phase) (section_of m thread) false && option_map_or has_slept (place_at m.places thread) false then None else Some WrongStatus
+quit_fault m thread = if option_map_or (λ s. has_joined s.phase) (section_of m thread) false
+    && option_map_or has_slept (place_at m.places thread) false then None else Some WrongStatus
 
 -- each section can be left
 abbrev pub any_phase : Phase → Bool
@@ -152,7 +170,8 @@ Unless None result old new Done = Done
 Unless (Some fault) result old new Done = (result ≡ Err fault) × (new ≡ old)
 
 -- a call is refused as the machine refuses it, or it is this step
-abbrev pub Does : {T : Type 0} → (Machine → Option LotFault) → (Machine → Result T LotFault → Machine → Type 0) → Machine → Result T LotFault → Machine → Type 0
+abbrev pub Does : {T : Type 0} → (Machine → Option LotFault) → (Machine → Result T LotFault → Machine → Type 0)
+    → Machine → Result T LotFault → Machine → Type 0
 Does fault step old result new = Unless (fault old) result old new (step old result new)
 
 -- it answers that it is done, and leaves this
@@ -171,7 +190,8 @@ changed_at f m thread = record m { places = changed f m.places thread }
 
 -- the least free number is given out
 abbrev pub registered : Machine → Machine
-registered m = let n = free_number m.places in record m { places = take n m.places ++ Some Running ∷ drop (suc n) m.places }
+registered m = let n = free_number m.places in
+    record m { places = take n m.places ++ Some Running ∷ drop (suc n) m.places }
 
 -- a number is given back, with its resources
 abbrev pub retired : Machine → ℕ → Machine
@@ -182,7 +202,8 @@ abbrev pub recorded : Machine → ℕ → ℕ → Machine
 recorded m thread key = record m { resources = updated m.resources thread (m.resources thread ++ key ∷ []) }
 
 abbrev pub forgotten : Machine → ℕ → ℕ → Machine
-forgotten m thread key = record m { resources = updated m.resources thread (without_first (λ k. k == key) (m.resources thread)) }
+forgotten m thread key =
+    record m { resources = updated m.resources thread (without_first (λ k. k == key) (m.resources thread)) }
 
 -- a thread joins the end of a key's list
 abbrev pub joined : Machine → ℕ → ℕ → ParkToken → Bool → Machine
@@ -196,17 +217,22 @@ joined m thread key token timed =
 
 -- a key's list is left with these waiters, and those others are woken with a token
 abbrev pub unparked : Machine → ℕ → List Waiter → List Waiter → UnparkToken → Machine
-unparked m key waiters rest token = record m { queues = updated m.queues key rest; places = all_changed (woken token) m.places (threads_of waiters) }
+unparked m key waiters rest token =
+    record m { queues = updated m.queues key rest; places = all_changed (woken token) m.places (threads_of waiters) }
 
 -- it is left with these waiters, and those others stand at the end of another key's list
 abbrev pub moved : Machine → ℕ → ℕ → List Waiter → List Waiter → Machine
 moved m from to waiters rest =
     let queues = updated m.queues from rest in
-    record m { queues = updated queues to (queues to ++ waiters); places = all_changed (moved_to to) m.places (threads_of waiters) }
+    record m {
+      queues = updated queues to (queues to ++ waiters);
+      places = all_changed (moved_to to) m.places (threads_of waiters);
+    }
 
 -- the first waiter of a key's list stands at the end of another's
 abbrev pub moved_first : Machine → ℕ → ℕ → Machine
-moved_first m from to = option_map_or (λ w. moved m from to (w ∷ []) (remove (m.queues from) 0)) (slice_get (m.queues from) 0) m
+moved_first m from to = option_map_or (λ w. moved m from to (w ∷ []) (remove (m.queues from) 0))
+    (slice_get (m.queues from) 0) m
 
 -- a requeue: the woken are taken first, then the rest is moved or left
 abbrev pub requeued : Machine → RequeueOp → ℕ → ℕ → UnparkToken → Machine
@@ -217,7 +243,11 @@ requeued m op from to token =
 
 -- a thread whose deadline has come takes itself out of its list, and runs
 abbrev pub given_up : Machine → ℕ → ℕ → Machine
-given_up m thread key = record m { queues = updated m.queues key (without_first (is_thread thread) (m.queues key)); places = slice_set m.places thread (Some Running) }
+given_up m thread key =
+    record m {
+      queues = updated m.queues key (without_first (is_thread thread) (m.queues key));
+      places = slice_set m.places thread (Some Running);
+    }
 
 -- a thread goes on from its place
 abbrev pub resumed : Machine → ℕ → Option Place → Machine
@@ -231,7 +261,8 @@ resumed m thread (Some (Taken token sleep woken)) = record m { places = slice_se
 
 -- a section of the key is opened
 abbrev pub opened : Machine → Option ℕ → ℕ → Machine
-opened m owner key = record m { section = Some (record { thread = owner; key = key; phase = phase.Fresh; token = record { 0 = 0 } }) }
+opened m owner key =
+    record m { section = Some (record { thread = owner; key = key; phase = phase.Fresh; token = record { 0 = 0 } }) }
 
 -- it has come so far
 abbrev pub in_phase : Machine → Phase → Machine
@@ -255,7 +286,8 @@ quitted m thread = in_phase (resumed m thread (place_at m.places thread)) phase.
 
 -- its store is said
 abbrev pub stored : Machine → UnparkToken → Machine
-stored m token = record m { section = option_map {T = Section} (λ s. record s { phase = phase.Stored; token = token }) m.section }
+stored m token = record m
+    { section = option_map {T = Section} (λ s. record s { phase = phase.Stored; token = token }) m.section }
 
 -- it is closed, and whom it took is told
 abbrev pub closed : Machine → Bool → Machine
@@ -263,21 +295,32 @@ closed m woken = record m { places = map (option_map (told (token_of m) woken)) 
 
 -- a waiter that is taken, with the mark of its sleep
 abbrev pub taking_of : Machine → Waiter → Taking
-taking_of m w = record { thread = w.thread; token = w.token; mark = option_map_or mark_of (place_at m.places w.thread) 0 }
+taking_of m w = record {
+  thread = w.thread;
+  token = w.token;
+  mark = option_map_or mark_of (place_at m.places w.thread)
+      0;
+}
 
--- a filter is shown the waiters that the section hasn't passed: the first that it wants is taken, else the taking is over
-abbrev pub TakesNext : {F : Type 0} → (F → ParkToken → FilterOp → F → Type 0) → F → Section → Machine → Result (Option Taking) LotFault → Machine → Type 0
+-- a filter is shown the waiters that the section hasn't passed: the first that it wants is taken, else the taking is
+-- over
+abbrev pub TakesNext : {F : Type 0} → (F → ParkToken → FilterOp → F → Type 0) → F → Section → Machine
+    → Result (Option Taking) LotFault → Machine → Type 0
 TakesNext {F} gives filter s old result new =
     let queue = old.queues s.key in
-    (answers : List FilterOp) × (last : F) × Answers gives is_no_skip filter (tokens_of (drop (passed_of s.phase) queue)) answers last
+    (answers : List FilterOp) × (last : F)
+    × Answers gives is_no_skip filter (tokens_of (drop (passed_of s.phase) queue)) answers last
     × (let at = passed_of s.phase + count_by is_skip answers in
     MatchBool (list_any is_take answers)
-    ((result ≡ Ok (option_map (taking_of old) (slice_get queue at))) × (new ≡ taken (in_phase old (phase.Taking at)) s.key at))
+    ((result ≡ Ok (option_map (taking_of old) (slice_get queue at)))
+    × (new ≡ taken (in_phase old (phase.Taking at)) s.key at))
     ((result ≡ Ok None) × (new ≡ in_phase old phase.Ended)))
 
 -- the same in the thread's section
-abbrev pub TakesInSection : {F : Type 0} → (F → ParkToken → FilterOp → F → Type 0) → F → ℕ → Machine → Result (Option Taking) LotFault → Machine → Type 0
-TakesInSection shows filter thread old result new = IsSomeAnd (section_of old thread) (λ s. TakesNext shows filter s old result new)
+abbrev pub TakesInSection : {F : Type 0} → (F → ParkToken → FilterOp → F → Type 0) → F → ℕ → Machine
+    → Result (Option Taking) LotFault → Machine → Type 0
+TakesInSection shows filter thread old result new = IsSomeAnd (section_of old thread)
+    (λ s. TakesNext shows filter s old result new)
 
 -- what the validation answered is said in the section, and answered
 abbrev pub Checks : Bool → Machine → Result Bool LotFault → Machine → Type 0
@@ -285,8 +328,10 @@ Checks holds old result new = (result ≡ Ok holds) × (new ≡ in_phase old (if
 
 -- it quits, and is answered the token that it was taken with, where it was
 abbrev pub Quits : ℕ → Machine → Result (Option UnparkToken) LotFault → Machine → Type 0
-Quits thread old result new = (result ≡ Ok (option_and_then taken_with (place_at old.places thread))) × (new ≡ quitted old thread)
+Quits thread old result new = (result ≡ Ok (option_and_then taken_with (place_at old.places thread)))
+    × (new ≡ quitted old thread)
 
 -- the section's thread joins the end of its key's list
 abbrev pub Appends : {T : Type 0} → ℕ → ParkToken → Bool → Machine → Result T LotFault → Machine → Type 0
-Appends thread token timed old result new = IsOk result × IsSomeAnd (section_of old thread) (λ s. new ≡ joined (in_phase old phase.Joined) thread s.key token timed)
+Appends thread token timed old result new = IsOk result
+    × IsSomeAnd (section_of old thread) (λ s. new ≡ joined (in_phase old phase.Joined) thread s.key token timed)

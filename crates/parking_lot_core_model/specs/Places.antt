@@ -1,5 +1,6 @@
 -- Where the threads of a lot stand, and how unparks change it.
-use Rattle.std.specs.Prelude.{◌≡◌, ℕ, ◌==◌, ◌&&◌, Bool, true, false, not, if◌then◌else◌, List, [], ◌∷◌, Option, Some, None, slice_get, slice_set}
+use Rattle.std.specs.Prelude.{◌≡◌, ℕ, ◌==◌, ◌&&◌, Bool, true, false, not, if◌then◌else◌, List, [], ◌∷◌, Option, Some}
+use Rattle.std.specs.Prelude.{None, slice_get, slice_set}
 use Rattle.std.specs.Option.{option_map, option_and_then}
 use Rattle.parking_lot_core_model.specs.declared.parking.UnparkToken.{UnparkToken}
 use Rattle.parking_lot_core_model.specs.declared.place.ThreadStatus.{ThreadStatus}

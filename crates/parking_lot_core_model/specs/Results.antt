@@ -22,7 +22,8 @@ is_left (x ∷ xs) = true
 
 -- what an unpark answers of how many it woke and moved, and of what it left
 abbrev pub unpark_result : {X : Type 0} → ℕ → ℕ → List X → UnparkResult
-unpark_result woken moved rest = record { unparked_threads = woken; requeued_threads = moved; have_more_threads = is_left rest; be_fair = false }
+unpark_result woken moved rest =
+    record { unparked_threads = woken; requeued_threads = moved; have_more_threads = is_left rest; be_fair = false }
 
 -- the same, with whether it had better be fair
 abbrev pub fairly : Bool → UnparkResult → UnparkResult
@@ -88,9 +89,11 @@ is_skip filter.Skip = true
 is_skip filter.Stop = false
 
 -- a filter, shown these tokens in order until it ends the showing, gives these answers and is left so
-abbrev pub Answers : {F : Type 0} → (F → ParkToken → FilterOp → F → Type 0) → (FilterOp → Bool) → F → List ParkToken → List FilterOp → F → Type 0
+abbrev pub Answers : {F : Type 0} → (F → ParkToken → FilterOp → F → Type 0) → (FilterOp → Bool) → F → List ParkToken
+    → List FilterOp → F → Type 0
 Answers gives ends f [] [] last = f ≡ last
 Answers gives ends f [] (answer ∷ answers) last = ⊥
 Answers gives ends f (token ∷ tokens) [] last = ⊥
 Answers {F} gives ends f (token ∷ tokens) (answer ∷ answers) last =
-    (next : F) × gives f token answer next × MatchBool (ends answer) ((answers ≡ []) × (next ≡ last)) (Answers gives ends next tokens answers last)
+    (next : F) × gives f token answer next × MatchBool (ends answer) ((answers ≡ []) × (next ≡ last))
+    (Answers gives ends next tokens answers last)

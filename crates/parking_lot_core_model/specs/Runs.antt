@@ -1,5 +1,6 @@
 -- Operations on a lot as data, and what any list of them leaves.
-use Rattle.std.specs.Prelude.{◌≡◌, ℕ, ◌+◌, Bool, true, false, if◌then◌else◌, List, [], ◌∷◌, ◌++◌, length, take, drop, Option, Some, None, slice_set, count_by, ◌==◌}
+use Rattle.std.specs.Prelude.{◌≡◌, ℕ, ◌+◌, Bool, true, false, if◌then◌else◌, List, [], ◌∷◌, ◌++◌, length, take, drop}
+use Rattle.std.specs.Prelude.{Option, Some, None, slice_set, count_by, ◌==◌}
 use Rattle.std.specs.Option.{option_map_or}
 use Rattle.std.specs.List.{list_any}
 use Rattle.parking_lot_core_model.specs.declared.fault.LotFault.{LotFault}
@@ -12,9 +13,14 @@ use Rattle.parking_lot_core_model.specs.declared.place.Place.TheVariants.{Runnin
 use Rattle.parking_lot_core_model.specs.declared.place.Section.{Section}
 use Rattle.parking_lot_core_model.specs.declared.place.Phase.TheVariants as phase
 use Rattle.parking_lot_core_model.specs.Lists.{updated, without_first}
-use Rattle.parking_lot_core_model.specs.Places.{place_at, late, roused, is_due, may_check, may_join, may_take, may_store, passed_of}
+use Rattle.parking_lot_core_model.specs.Places.{place_at, late, roused, is_due, may_check, may_join, may_take}
+use Rattle.parking_lot_core_model.specs.Places.{may_store, passed_of}
 use Rattle.parking_lot_core_model.specs.Results.{chosen_by, passed_by, is_take, is_skip}
-use Rattle.parking_lot_core_model.specs.Machine.{Machine, section_of, any_phase, busy, register_fault, retire_fault, enter_fault, step_fault, deadline_fault, resume_fault, return_fault, quit_fault, owner_fault, changed_at, registered, retired, recorded, forgotten, joined, unparked, requeued, resumed, opened, in_phase, returned, quitted, taken, stored, closed}
+use Rattle.parking_lot_core_model.specs.Machine.{Machine, section_of, any_phase, busy, register_fault, retire_fault}
+use Rattle.parking_lot_core_model.specs.Machine.{enter_fault, step_fault, deadline_fault, resume_fault, return_fault}
+use Rattle.parking_lot_core_model.specs.Machine.{quit_fault, owner_fault, changed_at, registered, retired, recorded}
+use Rattle.parking_lot_core_model.specs.Machine.{forgotten, joined, unparked, requeued, resumed, opened, in_phase}
+use Rattle.parking_lot_core_model.specs.Machine.{returned, quitted, taken, stored, closed}
 use Rattle.parking_lot_core_model.specs.Operations.{is_abort}
 
 -- an operation, with what its closures answer
@@ -77,17 +83,20 @@ effect_of m (Retire thread) = retired m thread
 effect_of m (Park thread key valid token timed) = if valid then joined m thread key token timed else m
 effect_of m (Resume thread) = resumed m thread (place_at m.places thread)
 effect_of m (Deadline thread) = changed_at late m thread
-effect_of m (Wake thread mark) = if option_map_or (is_due mark) (place_at m.places thread) false then changed_at roused m thread else m
+effect_of m (Wake thread mark) = if option_map_or (is_due mark) (place_at m.places thread) false then changed_at roused
+    m thread else m
 effect_of m (UnparkOne key token) = unparked m key (take 1 (m.queues key)) (drop 1 (m.queues key)) token
 effect_of m (UnparkAll key token) = unparked m key (m.queues key) [] token
-effect_of m (UnparkFilter key answers token) = unparked m key (chosen_by answers (m.queues key)) (passed_by answers (m.queues key)) token
+effect_of m (UnparkFilter key answers token) = unparked m key (chosen_by answers (m.queues key))
+    (passed_by answers (m.queues key)) token
 effect_of m (UnparkRequeue from to op token) = if is_abort op then m else requeued m op from to token
 effect_of m (Acquire thread key) = recorded m thread key
 effect_of m (Release thread key) = forgotten m thread key
 effect_of m (Enter thread key) = opened m (Some thread) key
 effect_of m (Check thread holds) = in_phase m (if holds then phase.Valid else phase.Invalid)
 effect_of m (TakeNext thread answers) = option_map_or (taken_next m answers) (section_of m thread) m
-effect_of m (Append thread token timed) = option_map_or (λ s. joined (in_phase m phase.Joined) thread s.key token timed) (section_of m thread) m
+effect_of m (Append thread token timed) = option_map_or (λ s. joined (in_phase m phase.Joined) thread s.key token timed)
+    (section_of m thread) m
 effect_of m (StoreDone thread token) = stored m token
 effect_of m (Leave thread) = closed m false
 effect_of m (Return thread key) = returned m thread key
@@ -108,4 +117,12 @@ after_all m (operation ∷ operations) = after_all (after m operation) operation
 
 -- a new lot: nobody is registered, nobody waits
 abbrev pub fresh : ℕ → ℕ → Machine
-fresh limit number = record { number = number; max_threads = limit; sleeps = 0; queues = λ _. []; resources = λ _. []; places = []; section = None }
+fresh limit number = record {
+  number = number;
+  max_threads = limit;
+  sleeps = 0;
+  queues = λ _. [];
+  resources = λ _. [];
+  places = [];
+  section = None;
+}

@@ -1,5 +1,6 @@
 -- What is true of each lot.
-use Rattle.std.specs.Prelude.{◌≡◌, ℕ, ◌≤◌, Bool, true, false, if◌then◌else◌, List, [], length, Option, Some, None, count_by}
+use Rattle.std.specs.Prelude.{◌≡◌, ℕ, ◌≤◌, Bool, true, false, if◌then◌else◌, List, [], length, Option, Some, None}
+use Rattle.std.specs.Prelude.{count_by}
 use Rattle.std.specs.Option.{option_map_or}
 use Rattle.parking_lot_core_model.specs.declared.lists.Lists.{Lists}
 use Rattle.parking_lot_core_model.specs.declared.place.Place.{Place}
@@ -20,7 +21,8 @@ pub record Sound (m : Machine) : Type 0 where
   -- with no section open nobody is held
   pub held : m.section ≡ None → (thread : ℕ) → option_map_or is_held (place_at m.places thread) false ≡ false
   -- who is in a section, and may still join the list, runs
-  pub inside : (section : Section) (thread : ℕ) → m.section ≡ Some section → section.thread ≡ Some thread → may_join section.phase ≡ true → place_at m.places thread ≡ Some Running
+  pub inside : (section : Section) (thread : ℕ) → m.section ≡ Some section → section.thread ≡ Some thread
+      → may_join section.phase ≡ true → place_at m.places thread ≡ Some Running
   -- a free number has no resources
   pub owned : (thread : ℕ) → place_at m.places thread ≡ None → m.resources thread ≡ []
 

@@ -2,8 +2,8 @@
 //!
 //! [`Lot`] is exclusive and exact: each of its calls is a move on the lists, and its contracts say which.
 //!
-//! Contracts speak of a machine: a list of waiters for each key, a place and recorded resources for each thread, and the
-//! section that is open. What a `Lot` is made of is hidden behind it.
+//! Contracts speak of a machine: a list of waiters for each key, a place and recorded resources for each thread, and
+//! the section that is open. What a `Lot` is made of is hidden behind it.
 #![tactic(auto)]
 
 mod fault;

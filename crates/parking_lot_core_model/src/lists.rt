@@ -1,7 +1,9 @@
 //! A map from numbers to lists, as one list of entries in the order in which they came.
 //!
 //! Its contracts speak of the map alone, so that what it is made of can change.
-ghost use Rattle.std.specs.Prelude.{◌≡◌, ◌+◌, ◌<◌, ◌≤◌, ◌∷◌, ◌++◌, [], IfOk, OnOk, OnErr, MatchOption, ℕ, length, map, position, remove, slice_get, is_some, if◌then◌else◌, filter, not, ◌==◌, vec_capacity};
+ghost use Rattle.std.specs.Prelude.{◌≡◌, ◌+◌, ◌<◌, ◌≤◌, ◌∷◌, ◌++◌, [], IfOk, OnOk, OnErr, MatchOption, ℕ, length, map};
+ghost use Rattle.std.specs.Prelude.{position, remove, slice_get, is_some, if◌then◌else◌, filter, not, ◌==◌};
+ghost use Rattle.std.specs.Prelude.{vec_capacity};
 ghost use Rattle.parking_lot_core_model.specs.Lists.{updated, without_first, kept, total, room, is_under, IsNth};
 
 use std::alloc::{AllocError, Allocator};
@@ -66,7 +68,8 @@ impl<T: Copy, A: Allocator> Lists<T, A> {
 
     /// Where the `nth` item of the key's list stands among all, counted from 0.
     fn find(&self, key: usize, nth: usize) -> Option<usize>
-        ensures { MatchOption result (length (kept self.now key) ≤ nth) (λ at. (item : T) × IsNth self.now.entries.items key nth at item) }
+        ensures { MatchOption result (length (kept self.now key) ≤ nth)
+            (λ at. (item : T) × IsNth self.now.entries.items key nth at item) }
     {
         let mut passed = 0;
         for (at, entry) in self.entries.iter().enumerate() {
@@ -134,7 +137,8 @@ impl<T: Numbered, A: Allocator> Lists<T, A> {
 
     /// Takes the first item of that number out of the key's list, and answers whether there was one.
     pub fn take_number(&mut self, key: usize, number: usize) -> bool
-        ensures kept { kept self.new ≡ updated (kept self.old) key (without_first (λ item. T.number_of item == number) (kept self.old key)) }
+        ensures kept { kept self.new ≡ updated (kept self.old) key
+            (without_first (λ item. T.number_of item == number) (kept self.old key)) }
         ensures found { result ≡ is_some (position (λ item. T.number_of item == number) (kept self.old key)) }
         ensures total { total self.old ≡ total self.new + (if result then 1 else 0) }
         ensures room { room self.new ≡ room self.old }
@@ -187,7 +191,8 @@ fn numbers_under<T: Numbered, A: Allocator>(
     key: usize,
     alloc: A,
 ) -> Result<Vec<usize, A>, AllocError>
-    ensures { IfOk result (λ numbers. numbers.items ≡ map (λ e. T.number_of e.item) (filter (is_under key) entries.now)) }
+    ensures { IfOk result
+        (λ numbers. numbers.items ≡ map (λ e. T.number_of e.item) (filter (is_under key) entries.now)) }
 {
     entries
         .iter()

@@ -3,9 +3,13 @@ ghost use Rattle.std.specs.Prelude.{◌≡◌, ◌≤◌, Some, true, false, IsS
 ghost use Rattle.parking_lot_core_model.specs.declared.parking.FilterOp.{FilterOp};
 ghost use Rattle.parking_lot_core_model.specs.declared.place.Place.TheVariants.{Waiting};
 ghost use Rattle.parking_lot_core_model.specs.Places.{place_at};
-ghost use Rattle.parking_lot_core_model.specs.Results.{Answers, is_stop, unpark_result, chosen_by, passed_by, woken_by, moved_by, left_by, fairly};
-ghost use Rattle.parking_lot_core_model.specs.Machine.{machine, tokens_of, busy, enter_fault, resume_fault, stored, closed, taken, given_up, moved, Does};
-ghost use Rattle.parking_lot_core_model.specs.Operations.{all_taken, is_abort, woken_count, moved_count, Resumes, Parks, UnparksOne, UnparksAll, UnparksByFilter, UnparksAndRequeues};
+ghost use Rattle.parking_lot_core_model.specs.Results.{Answers, is_stop, unpark_result, chosen_by, passed_by, woken_by};
+ghost use Rattle.parking_lot_core_model.specs.Results.{moved_by, left_by, fairly};
+ghost use Rattle.parking_lot_core_model.specs.Machine.{machine, tokens_of, busy, enter_fault, resume_fault, stored};
+ghost use Rattle.parking_lot_core_model.specs.Machine.{closed, taken, given_up, moved, Does};
+ghost use Rattle.parking_lot_core_model.specs.Operations.{all_taken, is_abort, woken_count, moved_count, Resumes};
+ghost use Rattle.parking_lot_core_model.specs.Operations.{Parks, UnparksOne, UnparksAll, UnparksByFilter};
+ghost use Rattle.parking_lot_core_model.specs.Operations.{UnparksAndRequeues};
 
 use crate::fault::LotFault;
 use crate::lot::Lot;
@@ -15,9 +19,9 @@ use crate::places::put;
 use std::alloc::Allocator;
 
 impl<A: Allocator> Lot<A> {
-    /// Parks a running thread. The validation is asked in the key's section; where it answers false the park is over, and
-    /// answered `Invalid`. Else the thread stands at the end of the key's list, and `None` is answered: its park goes on
-    /// until [`resume`](Lot::resume).
+    /// Parks a running thread. The validation is asked in the key's section; where it answers false the park is over,
+    /// and answered `Invalid`. Else the thread stands at the end of the key's list, and `None` is answered: its park
+    /// goes on until [`resume`](Lot::resume).
     pub fn park<V: FnOnce() -> bool>(
         &mut self,
         thread: usize,
@@ -29,7 +33,8 @@ impl<A: Allocator> Lot<A> {
     where
         V: Drop,
         requires { V.IsAlwaysCallable validate }
-        ensures { Does (λ m. enter_fault m thread) (Parks (V.post validate) thread key park_token timed) (machine self.old) result (machine self.new) }
+        ensures { Does (λ m. enter_fault m thread) (Parks (V.post validate) thread key park_token timed)
+            (machine self.old) result (machine self.new) }
     {
         if let Some(fault) = self.enter_fault(thread) {
             return Err(fault);
@@ -52,7 +57,8 @@ impl<A: Allocator> Lot<A> {
     where
         T: Drop,
         requires { T.IsAlwaysCallable timed_out }
-        ensures { Does (λ m. resume_fault m thread) (Resumes (λ key last. T.post timed_out key last tt) thread) (machine self.old) result (machine self.new) }
+        ensures { Does (λ m. resume_fault m thread) (Resumes (λ key last. T.post timed_out key last tt) thread)
+            (machine self.old) result (machine self.new) }
     {
         if let Some(fault) = self.resume_fault(thread) {
             return Err(fault);
@@ -136,8 +142,8 @@ impl<A: Allocator> Lot<A> {
         Ok(count)
     }
 
-    /// Shows the tokens of a key's waiters to a filter, in order, until it stops, and takes those that it wants. They are
-    /// woken with the callback's token.
+    /// Shows the tokens of a key's waiters to a filter, in order, until it stops, and takes those that it wants. They
+    /// are woken with the callback's token.
     pub fn unpark_filter<
         F: FnMut(ParkToken) -> FilterOp + Drop,
         C: FnOnce(UnparkResult) -> UnparkToken,
@@ -146,7 +152,8 @@ impl<A: Allocator> Lot<A> {
         C: Drop,
         requires filter { F.IsAlwaysCallable filter }
         requires callback { C.IsAlwaysCallable callback }
-        ensures { Does busy (UnparksByFilter false F.step filter (C.post callback) key) (machine self.old) result (machine self.new) }
+        ensures { Does busy (UnparksByFilter false F.step filter (C.post callback) key) (machine self.old) result
+            (machine self.new) }
     {
         self.unpark_wanted(key, false, filter, callback)
     }
@@ -160,7 +167,8 @@ impl<A: Allocator> Lot<A> {
         C: Drop,
         requires filter { F.IsAlwaysCallable filter }
         requires callback { C.IsAlwaysCallable callback }
-        ensures { Does busy (UnparksByFilter fair F.step filter (C.post callback) key) (machine self.old) result (machine self.new) }
+        ensures { Does busy (UnparksByFilter fair F.step filter (C.post callback) key) (machine self.old) result
+            (machine self.new) }
     {
         if let Some(fault) = self.busy() {
             return Err(fault);
@@ -173,8 +181,9 @@ impl<A: Allocator> Lot<A> {
         Ok(result)
     }
 
-    /// Does with the waiters of `key_from` what the validation answers: one may be woken, with the callback's token, and
-    /// others may be moved to the end of `key_to`'s list. `Abort` changes nothing, and there the callback isn't called.
+    /// Does with the waiters of `key_from` what the validation answers: one may be woken, with the callback's token,
+    /// and others may be moved to the end of `key_to`'s list. `Abort` changes nothing, and there the callback isn't
+    /// called.
     pub fn unpark_requeue<
         V: FnOnce() -> RequeueOp,
         C: FnOnce(RequeueOp, UnparkResult) -> UnparkToken,
@@ -190,7 +199,8 @@ impl<A: Allocator> Lot<A> {
         C: Drop,
         requires validate { V.IsAlwaysCallable validate }
         requires callback { C.IsAlwaysCallable callback }
-        ensures { Does busy (UnparksAndRequeues (V.post validate) (C.post callback) key_from key_to) (machine self.old) result (machine self.new) }
+        ensures { Does busy (UnparksAndRequeues (V.post validate) (C.post callback) key_from key_to) (machine self.old)
+            result (machine self.new) }
     {
         if let Some(fault) = self.busy() {
             return Err(fault);
@@ -230,7 +240,8 @@ impl<A: Allocator> Lot<A> {
     fn take_first(&mut self, key: usize) -> usize
         requires { IsSome (machine self.old).section }
         ensures count { result ≡ length (take 1 ((machine self.old).queues key)) }
-        ensures taken { machine self.new ≡ all_taken (machine self.old) key (take 1 ((machine self.old).queues key)) (drop 1 ((machine self.old).queues key)) }
+        ensures taken { machine self.new ≡ all_taken (machine self.old) key (take 1 ((machine self.old).queues key))
+            (drop 1 ((machine self.old).queues key)) }
     {
         match self.take_out(key, 0) {
             Some(_) => 1,
@@ -241,7 +252,8 @@ impl<A: Allocator> Lot<A> {
     /// Takes so many waiters of a key, from the front.
     fn take_all(&mut self, key: usize, count: usize)
         requires { IsSome (machine self.old).section }
-        ensures { machine self.new ≡ all_taken (machine self.old) key (take count ((machine self.old).queues key)) (drop count ((machine self.old).queues key)) }
+        ensures { machine self.new ≡ all_taken (machine self.old) key (take count ((machine self.old).queues key))
+            (drop count ((machine self.old).queues key)) }
     {
         for nth in 0..count {
             self.take_out(key, 0);
@@ -252,7 +264,10 @@ impl<A: Allocator> Lot<A> {
     fn sift<F: FnMut(ParkToken) -> FilterOp + Drop>(&mut self, key: usize, mut filter: F) -> usize
         requires open { IsSome (machine self.old).section }
         requires callable { F.IsAlwaysCallable filter }
-        ensures { let queue = (machine self.old).queues key in (answers : List FilterOp) × (last : F) × Answers F.step is_stop filter (tokens_of queue) answers last × (result ≡ length (chosen_by answers queue)) × (machine self.new ≡ all_taken (machine self.old) key (chosen_by answers queue) (passed_by answers queue)) }
+        ensures { let queue = (machine self.old).queues key in (answers : List FilterOp) × (last : F)
+            × Answers F.step is_stop filter (tokens_of queue) answers last × (result ≡ length (chosen_by answers queue))
+            × (machine self.new ≡ all_taken (machine self.old) key (chosen_by answers queue)
+            (passed_by answers queue)) }
     {
         let count = self.count(key);
         let mut unparked = 0;
@@ -275,8 +290,12 @@ impl<A: Allocator> Lot<A> {
     /// Takes and moves waiters as the operation says, and answers what was done.
     fn requeue(&mut self, op: RequeueOp, from: usize, to: usize) -> UnparkResult
         requires { IsSome (machine self.old).section }
-        ensures result { let queue = (machine self.old).queues from in result ≡ unpark_result (length (woken_by op queue)) (length (moved_by op queue)) (left_by op queue) }
-        ensures lists { let queue = (machine self.old).queues from in machine self.new ≡ moved (all_taken (machine self.old) from (woken_by op queue) (drop (length (woken_by op queue)) queue)) from to (moved_by op queue) (left_by op queue) }
+        ensures result { let queue = (machine self.old).queues from in
+            result ≡ unpark_result (length (woken_by op queue)) (length (moved_by op queue)) (left_by op queue) }
+        ensures lists { let queue = (machine self.old).queues from in
+            machine self.new ≡ moved
+            (all_taken (machine self.old) from (woken_by op queue) (drop (length (woken_by op queue)) queue)) from to
+            (moved_by op queue) (left_by op queue) }
     {
         let count = self.count(from);
         let woken = woken_count(op, count);
@@ -294,7 +313,8 @@ impl<A: Allocator> Lot<A> {
     /// Moves so many waiters of a key to the end of another's list, from the front.
     fn move_all(&mut self, from: usize, to: usize, count: usize)
         requires { count ≤ length ((machine self.old).queues from) }
-        ensures { machine self.new ≡ moved (machine self.old) from to (take count ((machine self.old).queues from)) (drop count ((machine self.old).queues from)) }
+        ensures { machine self.new ≡ moved (machine self.old) from to (take count ((machine self.old).queues from))
+            (drop count ((machine self.old).queues from)) }
     {
         for nth in 0..count {
             self.move_first(from, to);

@@ -55,7 +55,12 @@ pub struct UnparkResult {
 impl Default for UnparkResult {
     ghost use Rattle.std.specs.Prelude.{◌≡◌, false};
 
-    ghost is_default = { λ result. result ≡ record { unparked_threads = 0; requeued_threads = 0; have_more_threads = false; be_fair = false } };
+    ghost is_default = { λ result. result ≡ record {
+      unparked_threads = 0;
+      requeued_threads = 0;
+      have_more_threads = false;
+      be_fair = false;
+    } };
 
     /// Nothing was done.
     fn default() -> UnparkResult {

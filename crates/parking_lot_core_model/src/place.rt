@@ -1,6 +1,8 @@
 //! Where the threads of a lot stand, and what an open section has done.
 ghost use Rattle.std.specs.Prelude.{◌≡◌};
-ghost use Rattle.parking_lot_core_model.specs.Places.{sleeps_timed, may_return, has_slept, taken_with, mark_of, is_due, roused, late, status_of, may_check, may_join, may_take, may_store, has_joined, passed_of};
+ghost use Rattle.parking_lot_core_model.specs.Places.{sleeps_timed, may_return, has_slept, taken_with, mark_of, is_due};
+ghost use Rattle.parking_lot_core_model.specs.Places.{roused, late, status_of, may_check, may_join, may_take};
+ghost use Rattle.parking_lot_core_model.specs.Places.{may_store, has_joined, passed_of};
 
 use crate::lists::Numbered;
 use crate::parking::{ParkToken, UnparkToken};

@@ -2,7 +2,8 @@
 ghost use Rattle.std.specs.Prelude.{◌≡◌, ◌&&◌, Some, None, IsTrue, false, if◌then◌else◌};
 ghost use Rattle.std.specs.Option.{option_map_or};
 ghost use Rattle.parking_lot_core_model.specs.Places.{place_at, has_joined, has_slept, taken_with};
-ghost use Rattle.parking_lot_core_model.specs.Machine.{machine, section_of, return_fault, quit_fault, returned, resumed, quitted, Quits, Does, Makes};
+ghost use Rattle.parking_lot_core_model.specs.Machine.{machine, section_of, return_fault, quit_fault, returned};
+ghost use Rattle.parking_lot_core_model.specs.Machine.{resumed, quitted, Quits, Does, Makes};
 
 use crate::fault::LotFault;
 use crate::lot::Lot;
@@ -12,10 +13,11 @@ use crate::places::put;
 use std::alloc::Allocator;
 
 impl<A: Allocator> Lot<A> {
-    /// Opens a section of the key of a thread that sleeps there, as where its moment has passed: it may have been taken in the meantime, but
-    /// not woken. It then [quits](Lot::quit), or leaves and sleeps on.
+    /// Opens a section of the key of a thread that sleeps there, as where its moment has passed: it may have been taken
+    /// in the meantime, but not woken. It then [quits](Lot::quit), or leaves and sleeps on.
     pub fn come_back(&mut self, thread: usize, key: usize) -> Result<(), LotFault>
-        ensures { Does (λ m. return_fault m thread key) (Makes (λ m. returned m thread key)) (machine self.old) result (machine self.new) }
+        ensures { Does (λ m. return_fault m thread key) (Makes (λ m. returned m thread key)) (machine self.old) result
+            (machine self.new) }
     {
         if let Some(fault) = self.return_fault(thread, key) {
             return Err(fault);
@@ -46,9 +48,9 @@ impl<A: Allocator> Lot<A> {
         });
     }
 
-    /// Has a thread that came back take itself out of its list. Where it was taken before it finds its token instead, and is answered it. Both
-    /// ways it runs from here on, nobody is to wake it, and its section takes nobody. [`has_waiters`](Lot::has_waiters) says whether it was the
-    /// last.
+    /// Has a thread that came back take itself out of its list. Where it was taken before it finds its token instead,
+    /// and is answered it. Both ways it runs from here on, nobody is to wake it, and its section takes nobody.
+    /// [`has_waiters`](Lot::has_waiters) says whether it was the last.
     pub fn quit(&mut self, thread: usize) -> Result<Option<UnparkToken>, LotFault>
         ensures { Does (λ m. quit_fault m thread) (Quits thread) (machine self.old) result (machine self.new) }
     {

@@ -1,5 +1,6 @@
 //! The steps of a section: a thread enters, looks, takes or joins, and leaves.
-ghost use Rattle.std.specs.Prelude.{◌≡◌, ◌+◌, Some, None, true, false, IsSome, if◌then◌else◌, MatchOption, drop, count_by, slice_get, List};
+ghost use Rattle.std.specs.Prelude.{◌≡◌, ◌+◌, Some, None, true, false, IsSome, if◌then◌else◌, MatchOption, drop};
+ghost use Rattle.std.specs.Prelude.{count_by, slice_get, List};
 ghost use Rattle.std.specs.List.{list_any};
 ghost use Rattle.std.specs.Option.{option_map, option_map_or};
 ghost use Rattle.parking_lot_core_model.specs.declared.parking.FilterOp.{FilterOp};
@@ -7,7 +8,9 @@ ghost use Rattle.parking_lot_core_model.specs.declared.place.Place.TheVariants.{
 ghost use Rattle.parking_lot_core_model.specs.declared.place.Phase.TheVariants as phase;
 ghost use Rattle.parking_lot_core_model.specs.Places.{place_at, mark_of, may_check, may_join, may_take, may_store};
 ghost use Rattle.parking_lot_core_model.specs.Results.{Answers, is_no_skip, is_skip, is_take};
-ghost use Rattle.parking_lot_core_model.specs.Machine.{machine, tokens_of, section_of, any_phase, enter_fault, step_fault, opened, in_phase, stored, closed, taken, taking_of, TakesInSection, Checks, Appends, Does, Makes};
+ghost use Rattle.parking_lot_core_model.specs.Machine.{machine, tokens_of, section_of, any_phase, enter_fault};
+ghost use Rattle.parking_lot_core_model.specs.Machine.{step_fault, opened, in_phase, stored, closed, taken, taking_of};
+ghost use Rattle.parking_lot_core_model.specs.Machine.{TakesInSection, Checks, Appends, Does, Makes};
 
 use crate::fault::LotFault;
 use crate::lot::Lot;
@@ -18,7 +21,8 @@ use std::alloc::Allocator;
 impl<A: Allocator> Lot<A> {
     /// Opens a section of a key, of a running thread. While it is open nothing else can enter one.
     pub fn enter(&mut self, thread: usize, key: usize) -> Result<(), LotFault>
-        ensures { Does (λ m. enter_fault m thread) (Makes (λ m. opened m (Some thread) key)) (machine self.old) result (machine self.new) }
+        ensures { Does (λ m. enter_fault m thread) (Makes (λ m. opened m (Some thread) key)) (machine self.old) result
+            (machine self.new) }
     {
         if let Some(fault) = self.enter_fault(thread) {
             return Err(fault);
@@ -30,7 +34,8 @@ impl<A: Allocator> Lot<A> {
     /// The section that is open, where it is the thread's.
     pub(crate) fn section_of(&self, thread: usize) -> Option<Section>
         ensures section { result ≡ section_of (machine self.now) thread }
-        ensures runs { (s : _) → result ≡ Some s → may_join s.phase ≡ true → place_at (machine self.now).places thread ≡ Some Running }
+        ensures runs { (s : _) → result ≡ Some s → may_join s.phase ≡ true → place_at (machine self.now).places thread
+            ≡ Some Running }
     {
         let section = self.section?;
         if self.is_in(thread) {
@@ -43,7 +48,8 @@ impl<A: Allocator> Lot<A> {
     /// Says what the validation answered, before anything else is done in the section. Where it is false only `leave`
     /// fits. Answers the same.
     pub fn check(&mut self, thread: usize, holds: bool) -> Result<bool, LotFault>
-        ensures { Does (λ m. step_fault may_check m thread) (Checks holds) (machine self.old) result (machine self.new) }
+        ensures { Does (λ m. step_fault may_check m thread) (Checks holds) (machine self.old) result
+            (machine self.new) }
     {
         let Some(section) = self.section_of(thread) else {
             return Err(LotFault::WrongStatus);
@@ -55,15 +61,16 @@ impl<A: Allocator> Lot<A> {
         Ok(holds)
     }
 
-    /// Puts the section's thread at the end of the key's list; it waits once it has left. Nothing may have been taken in
-    /// the section.
+    /// Puts the section's thread at the end of the key's list; it waits once it has left. Nothing may have been taken
+    /// in the section.
     pub fn append(
         &mut self,
         thread: usize,
         park_token: ParkToken,
         timed: bool,
     ) -> Result<(), LotFault>
-        ensures { Does (λ m. step_fault may_join m thread) (Appends thread park_token timed) (machine self.old) result (machine self.new) }
+        ensures { Does (λ m. step_fault may_join m thread) (Appends thread park_token timed) (machine self.old) result
+            (machine self.new) }
     {
         let Some(section) = self.section_of(thread) else {
             return Err(LotFault::WrongStatus);
@@ -76,15 +83,16 @@ impl<A: Allocator> Lot<A> {
         Ok(())
     }
 
-    /// Shows the waiters that the section hasn't passed to a filter, in order: the first that it wants is taken out. `None`
-    /// where the filter stops, or the list ends; then the taking is over.
+    /// Shows the waiters that the section hasn't passed to a filter, in order: the first that it wants is taken out.
+    /// `None` where the filter stops, or the list ends; then the taking is over.
     pub fn take_next<F: FnMut(ParkToken) -> FilterOp + Drop>(
         &mut self,
         thread: usize,
         filter: F,
     ) -> Result<Option<Taking>, LotFault>
         requires { F.IsAlwaysCallable filter }
-        ensures { Does (λ m. step_fault may_take m thread) (TakesInSection F.step filter thread) (machine self.old) result (machine self.new) }
+        ensures { Does (λ m. step_fault may_take m thread) (TakesInSection F.step filter thread) (machine self.old)
+            result (machine self.new) }
     {
         let Some(section) = self.section_of(thread) else {
             return Err(LotFault::WrongStatus);
@@ -98,7 +106,8 @@ impl<A: Allocator> Lot<A> {
 
     /// Says that the word has been stored, and gives those that the section took their token.
     pub fn store_done(&mut self, thread: usize, unpark_token: UnparkToken) -> Result<(), LotFault>
-        ensures { Does (λ m. step_fault may_store m thread) (Makes (λ m. stored m unpark_token)) (machine self.old) result (machine self.new) }
+        ensures { Does (λ m. step_fault may_store m thread) (Makes (λ m. stored m unpark_token)) (machine self.old)
+            result (machine self.new) }
     {
         let Some(section) = self.section_of(thread) else {
             return Err(LotFault::WrongStatus);
@@ -113,7 +122,8 @@ impl<A: Allocator> Lot<A> {
     /// Closes the section. Its thread runs, or waits if it was appended; those that it took have their token, and
     /// [`wake`](Lot::wake) is owed to each.
     pub fn leave(&mut self, thread: usize) -> Result<(), LotFault>
-        ensures { Does (λ m. step_fault any_phase m thread) (Makes (λ m. closed m false)) (machine self.old) result (machine self.new) }
+        ensures { Does (λ m. step_fault any_phase m thread) (Makes (λ m. closed m false)) (machine self.old) result
+            (machine self.new) }
     {
         if self.section_of(thread).is_none() {
             return Err(LotFault::WrongStatus);
@@ -130,7 +140,9 @@ impl<A: Allocator> Lot<A> {
         mut filter: F,
     ) -> Option<usize>
         requires { F.IsAlwaysCallable filter }
-        ensures { (answers : List FilterOp) × (last : F) × Answers F.step is_no_skip filter (tokens_of (drop passed ((machine self.now).queues key))) answers last × (result ≡ (if list_any is_take answers then Some (passed + count_by is_skip answers) else None)) }
+        ensures { (answers : List FilterOp) × (last : F)
+            × Answers F.step is_no_skip filter (tokens_of (drop passed ((machine self.now).queues key))) answers last
+            × (result ≡ (if list_any is_take answers then Some (passed + count_by is_skip answers) else None)) }
     {
         let count = self.count(key);
         for at in passed..count {
@@ -147,7 +159,9 @@ impl<A: Allocator> Lot<A> {
     /// Takes the waiter that was found, or ends the taking.
     fn take_found(&mut self, key: usize, found: Option<usize>) -> Option<Taking>
         requires { IsSome (machine self.old).section }
-        ensures { MatchOption found ((result ≡ None) × (machine self.new ≡ in_phase (machine self.old) phase.Ended)) (λ at. (result ≡ option_map (taking_of (machine self.old)) (slice_get ((machine self.old).queues key) at)) × (machine self.new ≡ taken (in_phase (machine self.old) (phase.Taking at)) key at)) }
+        ensures { MatchOption found ((result ≡ None) × (machine self.new ≡ in_phase (machine self.old) phase.Ended))
+            (λ at. (result ≡ option_map (taking_of (machine self.old)) (slice_get ((machine self.old).queues key) at))
+            × (machine self.new ≡ taken (in_phase (machine self.old) (phase.Taking at)) key at)) }
     {
         match found {
             None => {

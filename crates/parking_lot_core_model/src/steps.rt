@@ -5,7 +5,8 @@ ghost use Rattle.parking_lot_core_model.specs.declared.place.Section.{Section};
 ghost use Rattle.parking_lot_core_model.specs.declared.place.Place.TheVariants.{Running};
 ghost use Rattle.parking_lot_core_model.specs.Places.{place_at, may_join};
 ghost use Rattle.parking_lot_core_model.specs.Results.{is_left};
-ghost use Rattle.parking_lot_core_model.specs.Machine.{machine, joined, taken, moved_first, opened, in_phase, stored, closed};
+ghost use Rattle.parking_lot_core_model.specs.Machine.{machine, joined, taken, moved_first, opened, in_phase, stored};
+ghost use Rattle.parking_lot_core_model.specs.Machine.{closed};
 
 use crate::lot::Lot;
 use crate::parking::{DEFAULT_UNPARK_TOKEN, ParkToken, UnparkToken};
@@ -17,7 +18,8 @@ impl<A: Allocator> Lot<A> {
     /// Puts a running thread at the end of a key's list.
     pub(crate) fn join(&mut self, thread: usize, key: usize, token: ParkToken, timed: bool)
         requires runs { place_at (machine self.old).places thread ≡ Some Running }
-        requires outside { (s : Section) → (machine self.old).section ≡ Some s → s.thread ≡ Some thread → may_join s.phase ≡ false }
+        requires outside { (s : Section) → (machine self.old).section ≡ Some s → s.thread ≡ Some thread
+            → may_join s.phase ≡ false }
         ensures { machine self.new ≡ joined (machine self.old) thread key token timed }
     {
         self.sleeps = self.sleeps.wrapping_add(1);
@@ -87,7 +89,8 @@ impl<A: Allocator> Lot<A> {
 
     /// Says how far the section that is open has come.
     pub(crate) fn set_phase(&mut self, phase: Phase)
-        requires { (s : Section) → (machine self.old).section ≡ Some s → may_join phase ≡ true → may_join s.phase ≡ true }
+        requires { (s : Section) → (machine self.old).section ≡ Some s → may_join phase ≡ true
+            → may_join s.phase ≡ true }
         ensures { machine self.new ≡ in_phase (machine self.old) phase }
     {
         self.section = come_to(self.section, phase);

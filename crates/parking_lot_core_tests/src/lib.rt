@@ -1,5 +1,5 @@
-//! Tests of the parking lot, for what no clause of it says: that its definitions are the ones meant, by rows worked by hand, the
-//! printed text, that calls succeed where memory is left, and that threads sleep and are woken.
+//! Tests of the parking lot, for what no clause of it says: that its definitions are the ones meant, by rows worked by
+//! hand, the printed text, that calls succeed where memory is left, and that threads sleep and are woken.
 #![tactic(auto)]
 
 #[cfg(test)]

@@ -305,8 +305,8 @@ impl Marks {
     }
 }
 
-/// Makes each call on a new lot with so many threads, numbered from 0, those of `before` and then the others, and looks whether it answers as it
-/// must.
+/// Makes each call on a new lot with so many threads, numbered from 0, those of `before` and then the others, and looks
+/// whether it answers as it must.
 pub fn follow(
     rt: &(impl AllocGlobal + Abort),
     threads: usize,

@@ -34,8 +34,8 @@ fn participants_are_counted(rt: HostRuntime) -> Result<(), Fail> {
     Ok(())
 }
 
-/// A park of a thread that is alone: whether its validation says yes, whether it unparks itself right before it sleeps, and whether its moment is
-/// past.
+/// A park of a thread that is alone: whether its validation says yes, whether it unparks itself right before it sleeps,
+/// and whether its moment is past.
 #[derive(Clone, Copy)]
 struct Alone {
     valid: bool,

@@ -41,7 +41,8 @@ MutexEnded phase answer = Ended mutex_told mutex_asks (record { phase = phase })
 
 -- a call of a mutex that may give up came to this act
 abbrev pub TimedEnded : TimedAct → Type 0
-TimedEnded last = EndedAt timed.Gives timed.timed_told timed.timed_asks (Plain Start) (record { phase = timed.asking Locking }) last
+TimedEnded last = EndedAt timed.Gives timed.timed_told timed.timed_asks (Plain Start)
+    (record { phase = timed.asking Locking }) last
 
 -- such a call owns the mutex: by one that waits, or as it didn't have to give up
 abbrev pub OwnedInTime : Type 0

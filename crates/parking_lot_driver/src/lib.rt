@@ -1,14 +1,15 @@
 //! Calls of locks, run on the rows of a lock table, for real threads.
 //!
-//! A lock owns one row of a [`LockTable`]. Each of its calls is a decision core: whoever runs it does what the core answers, one atomic
-//! step on the row's word or one act in a section of the lot's lists at a time, and tells the core what it saw. Calls that end by their
-//! first act are made by one step on the word, before a core is set up: that is the core's own first way, cut short.
+//! A lock owns one row of a [`LockTable`]. Each of its calls is a decision core: whoever runs it does what the core
+//! answers, one atomic step on the row's word or one act in a section of the lot's lists at a time, and tells the core
+//! what it saw. Calls that end by their first act are made by one step on the word, before a core is set up: that is
+//! the core's own first way, cut short.
 //!
-//! A call that has ended was told nothing but what the acts that it asked for can give at some word: the layer above knows by that
-//! which call it was. Nothing is promised of a word, nor that a call comes back.
+//! A call that has ended was told nothing but what the acts that it asked for can give at some word: the layer above
+//! knows by that which call it was. Nothing is promised of a word, nor that a call comes back.
 //!
-//! Calls that may sleep take the data of a participant of the table's lot. A participant of another lot can't sleep; it yields and
-//! asks again. A release may wait for the lot's short sections, in which sleeping threads are woken.
+//! Calls that may sleep take the data of a participant of the table's lot. A participant of another lot can't sleep; it
+//! yields and asks again. A release may wait for the lot's short sections, in which sleeping threads are woken.
 #![tactic(auto)]
 
 mod at_once;

@@ -4,8 +4,8 @@ use crate::under_way::UnderWay;
 use parking_lot_core::{FilterOp, ParkToken};
 use parking_lot_protocol::{Act, ActResult, SectionAct, wake_sum};
 
-/// A call that is shown one waiter after another. Of the last that it took it is told at the next one, or at the end: only
-/// then it is known whether others are left.
+/// A call that is shown one waiter after another. Of the last that it took it is told at the next one, or at the end:
+/// only then it is known whether others are left.
 #[derive(Clone, Copy)]
 pub(crate) struct Looking<U: UnderWay> {
     pub run: U,

@@ -32,7 +32,8 @@ impl<R, A: Allocator> Place<'_, '_, '_, R, A> {
 
     /// The key of that number: 0 is the row's first, 1 its second.
     pub(crate) fn key(&self, number: u8) -> usize
-        ensures { result ≡ (if number == 0 then (self.now.row.now.table.now.first_key + 2 * self.now.row.now.number) % 2 ^ 64 else (self.now.row.now.table.now.first_key + 2 * self.now.row.now.number + 1) % 2 ^ 64) }
+        ensures { result ≡ (if number == 0 then (self.now.row.now.table.now.first_key + 2 * self.now.row.now.number) % 2
+            ^ 64 else (self.now.row.now.table.now.first_key + 2 * self.now.row.now.number + 1) % 2 ^ 64) }
     {
         if number == 0 {
             self.row.first_key()

@@ -18,10 +18,12 @@ use std::sync::Wait;
 const TRY_ACTS: u32 = 65;
 
 impl<R, A: Allocator> Place<'_, '_, '_, R, A> {
-    /// Runs a try to its end, and answers whether it owns the lock. A try that would admit a reader more than may be ends before.
+    /// Runs a try to its end, and answers whether it owns the lock. A try that would admit a reader more than may be
+    /// ends before.
     #[inline(never)]
     pub fn attempt<C: DecisionCore>(&self, mut core: C) -> bool
-        ensures { (seen : List ActResult) × IsRun C.told C.asks core seen × (IsTrue result ↔ (C.asks (told_all C.told core seen) ≡ Done Owned)) }
+        ensures { (seen : List ActResult) × IsRun C.told C.asks core seen
+            × (IsTrue result ↔ (C.asks (told_all C.told core seen) ≡ Done Owned)) }
     {
         let mut act = core.next(ActResult::Start);
         for _act in 0..TRY_ACTS {
@@ -59,8 +61,8 @@ impl<R: Wait, A: Allocator> Place<'_, '_, '_, R, A> {
         self.go_on(run, party)
     }
 
-    /// Runs a call that has begun to its end. Where a reader more may not be admitted it lets other threads run, and looks
-    /// again.
+    /// Runs a call that has begun to its end. Where a reader more may not be admitted it lets other threads run, and
+    /// looks again.
     #[inline(never)]
     fn go_on<K: Call<Core = C>, C: DecisionCore>(
         &self,

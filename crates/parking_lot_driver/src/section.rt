@@ -31,7 +31,8 @@ impl<R: Wait, A: Allocator> Place<'_, '_, '_, R, A> {
         }
     }
 
-    /// Sleeps until it is woken, unless the word tells it not to. Where it is seen so before the section, that isn't entered.
+    /// Sleeps until it is woken, unless the word tells it not to. Where it is seen so before the section, that isn't
+    /// entered.
     fn sleep<U: UnderWay>(&self, run: &mut U, key: usize, party: &mut ThreadData<A>) {
         let word = self.row.load();
         let mut ahead = *run;
@@ -41,8 +42,8 @@ impl<R: Wait, A: Allocator> Place<'_, '_, '_, R, A> {
         }
     }
 
-    /// Parks, unless the word tells it not to. A participant of another lot can't sleep here: it lets other threads run, and
-    /// the call is to look again, as if the word had been free.
+    /// Parks, unless the word tells it not to. A participant of another lot can't sleep here: it lets other threads
+    /// run, and the call is to look again, as if the word had been free.
     fn park<U: UnderWay>(
         &self,
         run: &mut U,

@@ -1,5 +1,6 @@
 //! A table of lock words.
-ghost use Rattle.std.specs.Prelude.{◌≡◌, ◌≢◌, ◌<◌, ◌+◌, ◌*◌, ◌%◌, ◌^◌, ◌↔◌, ◌⊎◌, IsTrue, IsSome, IsErrOf, IfOk, IfErr, MatchResult, length};
+ghost use Rattle.std.specs.Prelude.{◌≡◌, ◌≢◌, ◌<◌, ◌+◌, ◌*◌, ◌%◌, ◌^◌, ◌↔◌, ◌⊎◌, IsTrue, IsSome, IsErrOf, IfOk, IfErr};
+ghost use Rattle.std.specs.Prelude.{MatchResult, length};
 ghost use Rattle.parking_lot_core_model.specs.declared.fault.SizeFault.TheVariants.{BadSize, NoMemory};
 
 use crossbeam_utils::CachePadded;
@@ -11,8 +12,8 @@ use std::sync::atomic::{AtomicU64, AtomicUsize, Ordering};
 /// The most rows that a table can have.
 const MAX_ROWS: usize = 1 << 20;
 
-/// Rows for locks of one lot. Each row is one word, on a cache line of its own, and two keys of the lot's lists: the first for
-/// those that want the lock, the second for a writer that waits until the readers have left.
+/// Rows for locks of one lot. Each row is one word, on a cache line of its own, and two keys of the lot's lists: the
+/// first for those that want the lock, the second for a writer that waits until the readers have left.
 ///
 /// Its number of rows never changes. A lock claims a row and keeps it: rows aren't given back.
 ///
@@ -35,8 +36,8 @@ pub struct LockTable<'l, R, A: Allocator = Global> {
 
 /// One row of a table, owned by one lock.
 ///
-/// Its word is reached by atomic steps alone, each in the one order that all threads see. Of the word nothing is known but what a
-/// step has just seen.
+/// Its word is reached by atomic steps alone, each in the one order that all threads see. Of the word nothing is known
+/// but what a step has just seen.
 #[derive(Drop)]
 pub struct Row<'t, 'l, R, A: Allocator = Global> {
     table: &'t LockTable<'l, R, A>,
@@ -47,8 +48,8 @@ pub struct Row<'t, 'l, R, A: Allocator = Global> {
 }
 
 impl<'l, R, A: Allocator> LockTable<'l, R, A> {
-    /// Makes a table of `locks` rows, from 1 to 2^20, with every word 0. It claims two keys of the lot for each row, so that two
-    /// tables of one lot never share a key.
+    /// Makes a table of `locks` rows, from 1 to 2^20, with every word 0. It claims two keys of the lot for each row, so
+    /// that two tables of one lot never share a key.
     pub fn new(
         alloc: A,
         lot: &'l ParkingLot<R, A>,

@@ -19,7 +19,8 @@ use parking_lot_protocol_rw::timed::TimedRwCore;
 use std::alloc::AllocError;
 use std::marker::Model;
 
-/// A kind of call that may give up: the core that it begins with. A type for each, so that whoever runs one shows by its type which.
+/// A kind of call that may give up: the core that it begins with. A type for each, so that whoever runs one shows by
+/// its type which.
 pub trait TimedCall: Copy {
     /// The core as it begins.
     ghost begun: { TimedRwCore };
@@ -120,7 +121,8 @@ impl<K: TimedCall> TimedRun<K> {
         self.core.act()
     }
 
-    /// Is told what its act gave, and answers the next. What the act can't give isn't told: then it asks for the same again.
+    /// Is told what its act gave, and answers the next. What the act can't give isn't told: then it asks for the same
+    /// again.
     pub fn told(&mut self, seen: TimedSeen) -> TimedAct
         ensures { result ≡ timed_asks self.new.1 }
     {

@@ -79,7 +79,8 @@ impl<R: Wait, A: Allocator> Place<'_, '_, '_, R, A> {
         unreachable!()
     }
 
-    /// Makes an act of a call that waits. Where a reader more may not be admitted it lets other threads run, and looks again.
+    /// Makes an act of a call that waits. Where a reader more may not be admitted it lets other threads run, and looks
+    /// again.
     fn make<K: TimedCall>(&self, run: &mut TimedRun<K>, act: Act, spin: &mut SpinWait) {
         let seen = match act {
             Act::Spin => ActResult::Spun(spin.spin()),

@@ -14,7 +14,8 @@ pub(crate) trait InTime: Copy {
     /// The bit of its row's word that is set where threads may sleep.
     fn parked(&self) -> u64;
 
-    /// Is told what its act gave, and answers the next. What the act can't give isn't told: then it asks for the same again.
+    /// Is told what its act gave, and answers the next. What the act can't give isn't told: then it asks for the same
+    /// again.
     fn told(&mut self, seen: TimedSeen) -> TimedAct;
 }
 
@@ -29,7 +30,8 @@ fn joins<T: InTime>(mut call: T, word: u64) -> bool {
     matches!(act, TimedAct::Makes(Act::Section(SectionAct::Append(_))))
 }
 
-/// Tells a call that it has joined the list, has left the section, and has taken itself off the list again as its moment passed.
+/// Tells a call that it has joined the list, has left the section, and has taken itself off the list again as its
+/// moment passed.
 fn quits<T: InTime>(call: &mut T, last: bool) -> TimedAct {
     tell(call, ActResult::Made);
     tell(call, ActResult::Made);
@@ -65,8 +67,8 @@ fn after_sleep<T: InTime>(call: &mut T, ended: ParkResult, last: bool) {
 }
 
 impl<R: Wait, A: Allocator> Place<'_, '_, '_, R, A> {
-    /// Sleeps until it is woken or its moment passes, unless the word tells it not to. Where that is seen before the section, it
-    /// isn't entered.
+    /// Sleeps until it is woken or its moment passes, unless the word tells it not to. Where that is seen before the
+    /// section, it isn't entered.
     pub(crate) fn sleep_in_time<T: InTime, C: Clock>(
         &self,
         call: &mut T,
@@ -85,8 +87,8 @@ impl<R: Wait, A: Allocator> Place<'_, '_, '_, R, A> {
         }
     }
 
-    /// Parks until the moment at the latest, unless the word tells it not to. A participant of another lot can't sleep here: it lets
-    /// other threads run, and the call is to look again, as if the word had been free.
+    /// Parks until the moment at the latest, unless the word tells it not to. A participant of another lot can't sleep
+    /// here: it lets other threads run, and the call is to look again, as if the word had been free.
     fn park_in_time<T: InTime, C: Clock>(
         &self,
         call: &mut T,

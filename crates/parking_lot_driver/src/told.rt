@@ -70,7 +70,8 @@ impl<K: Call<Core = C>, C: DecisionCore> Run<K, C> {
         self.core.wake_token()
     }
 
-    /// Is told what its act gave, and answers the next. What the act can't give isn't told: then it asks for the same again.
+    /// Is told what its act gave, and answers the next. What the act can't give isn't told: then it asks for the same
+    /// again.
     pub fn tell(&mut self, seen: ActResult) -> Act
         ensures act { result ≡ C.asks self.new.1 }
     {

@@ -13,8 +13,8 @@ use parking_lot_protocol::{Act, ActResult};
 use std::alloc::Allocator;
 use std::sync::Wait;
 
-/// Runs a call of any kind on a row to its end, and answers its core, which was told nothing but what the acts that it asked for can
-/// give. It may sleep in the row's lists, and wakes those that it takes there.
+/// Runs a call of any kind on a row to its end, and answers its core, which was told nothing but what the acts that it
+/// asked for can give. It may sleep in the row's lists, and wakes those that it takes there.
 ///
 /// A participant of another lot can't sleep: it yields and looks again.
 #[inline(never)]

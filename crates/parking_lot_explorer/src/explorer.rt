@@ -16,7 +16,8 @@ const CANNOT_MOVE: WorldFault = WorldFault {
     fault: WorldRefusal::CannotMove,
 };
 
-/// What is watched on the way through all schedules at some locks, and what has to hold there. A rule that doesn't hold is named.
+/// What is watched on the way through all schedules at some locks, and what has to hold there. A rule that doesn't hold
+/// is named.
 pub trait Watch: Drop {
     /// What is noted of the threads on the way.
     type Notes: Copy + PartialEq;
@@ -27,8 +28,8 @@ pub trait Watch: Drop {
     /// The kinds of the locks, by their numbers: three at most.
     fn kinds(&self) -> &[LockKind];
 
-    /// How many threads there are: three at most. Of three, one whose next step nobody else sees makes it at once, as its order to others changes
-    /// nothing.
+    /// How many threads there are: three at most. Of three, one whose next step nobody else sees makes it at once, as
+    /// its order to others changes nothing.
     fn threads(&self) -> usize;
 
     /// Whether states are told apart also by how often the threads have slept.
@@ -73,7 +74,8 @@ pub struct Broken {
     pub schedule: Vec<WorldStep>,
 }
 
-/// A world behind the schedule of a state, from which steps are tried. One that is refused leaves it there, and the next is tried in the same world.
+/// A world behind the schedule of a state, from which steps are tried. One that is refused leaves it there, and the
+/// next is tried in the same world.
 #[derive(Drop)]
 struct Trial {
     world: World,
@@ -201,7 +203,8 @@ impl<'r, R: AllocGlobal, W: Watch> Explorer<'r, R, W> {
         }
     }
 
-    /// Makes each step of a thread from a state, and adds the states that they lead to. Answers whether one was allowed.
+    /// Makes each step of a thread from a state, and adds the states that they lead to. Answers whether one was
+    /// allowed.
     fn make_each(
         &mut self,
         state: &Reached<W::Notes>,

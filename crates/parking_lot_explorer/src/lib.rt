@@ -1,5 +1,5 @@
-//! Every schedule of some programs at locks of a world, for tests that say what has to hold on the way: the search itself, what states are told
-//! apart by, and what calls come to that are made whole, one after another.
+//! Every schedule of some programs at locks of a world, for tests that say what has to hold on the way: the search
+//! itself, what states are told apart by, and what calls come to that are made whole, one after another.
 #![tactic(auto)]
 
 mod callers;

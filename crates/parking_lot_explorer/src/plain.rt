@@ -37,7 +37,8 @@ fn go_on<P: Plain>(at: P, next: &mut Vec<P>, ends: &mut Vec<P::End>) -> Result<(
     Ok(())
 }
 
-/// How the threads can end in any order of their moves, of which they make so many at most. A call that can't be made is made later, or never.
+/// How the threads can end in any order of their moves, of which they make so many at most. A call that can't be made
+/// is made later, or never.
 pub fn ends<P: Plain>(
     rt: &impl AllocGlobal,
     first: P,

@@ -37,7 +37,8 @@ fn made_at_poisoned(call: LockCall) -> Made {
     }
 }
 
-/// What a call leaves of a once in that state, and its answer; `None` where it has to wait, as all have to while a closure runs.
+/// What a call leaves of a once in that state, and its answer; `None` where it has to wait, as all have to while a
+/// closure runs.
 fn made(call: LockCall, state: OnceState) -> Made {
     match state {
         OnceState::InProgress => None,

@@ -1,4 +1,5 @@
-//! A condition variable and its mutexes whose calls are made whole, one after another: what all schedules have to come to.
+//! A condition variable and its mutexes whose calls are made whole, one after another: what all schedules have to come
+//! to.
 
 use crate::callers::{Ask, Caller, Calls, callers_of};
 use crate::plain::Plain;

@@ -72,8 +72,8 @@ pub fn owned_before(call: LockCall, shares: u8) -> Option<OwnMode> {
     }
 }
 
-/// Whether a thread that had so many shared holds may own the lock so within that call. Only a writer that may sleep, or an
-/// upgrade that may, is ever pending.
+/// Whether a thread that had so many shared holds may own the lock so within that call. Only a writer that may sleep,
+/// or an upgrade that may, is ever pending.
 pub fn may_own(call: LockCall, shares: u8, mode: Option<OwnMode>) -> bool {
     mode == owned_before(call, shares)
         || mode == owned_behind(call, shares)
@@ -288,8 +288,8 @@ impl Pair {
         }
     }
 
-    /// Whether there is a schedule by which the two end so. One of them is always served: who is refused or waits has met the other as an
-    /// owner.
+    /// Whether there is a schedule by which the two end so. One of them is always served: who is refused or waits has
+    /// met the other as an owner.
     pub fn may_end(self, first: End, second: End) -> bool {
         if second == End::Served {
             self.first_may_end(first)

@@ -74,8 +74,8 @@ fn number_of(phase: MutexPhase) -> u64 {
     }
 }
 
-/// A call at a lock that isn't answered: which, where it stands, how many holds its thread has beside, where that is while it sleeps, and whether
-/// its deadline may come.
+/// A call at a lock that isn't answered: which, where it stands, how many holds its thread has beside, where that is
+/// while it sleeps, and whether its deadline may come.
 #[derive(Clone, Copy, PartialEq)]
 struct Standing {
     lock: usize,
@@ -240,7 +240,8 @@ impl Seat {
     }
 }
 
-/// One that is still to be woken: by whom, who, and by the mark of which sleep: where marks don't count, whether it is the one in which it is now.
+/// One that is still to be woken: by whom, who, and by the mark of which sleep: where marks don't count, whether it is
+/// the one in which it is now.
 #[derive(Clone, Copy, PartialEq)]
 pub(crate) struct Wake {
     pub(crate) by: usize,

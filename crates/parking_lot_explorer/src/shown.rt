@@ -101,7 +101,8 @@ impl<'w> Shown<'w> {
         matches!(self.world.debts.as_slice(), [] | [0 | 1] | [0, 1])
     }
 
-    /// At most one excludes others or has the upgradable hold, and nobody reads beside one that excludes others already.
+    /// At most one excludes others or has the upgradable hold, and nobody reads beside one that excludes others
+    /// already.
     pub fn owners_go_together(self) -> bool {
         self.excluding()
             .saturating_add(self.count(OwnMode::Upgradable))
@@ -181,8 +182,8 @@ impl<'w> Shown<'w> {
             .all(|thread| self.mode(*thread) == Some(OwnMode::Pending))
     }
 
-    /// Whether one that waits might go on, whatever it waits to be: nobody excludes others or has the upgradable hold, or for a pending writer
-    /// nobody reads.
+    /// Whether one that waits might go on, whatever it waits to be: nobody excludes others or has the upgradable hold,
+    /// or for a pending writer nobody reads.
     pub fn may_go_on(self) -> bool {
         let is_free = self.excluding() == 0 && self.count(OwnMode::Upgradable) == 0;
         !self.lock().first.is_empty() && is_free

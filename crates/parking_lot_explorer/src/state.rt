@@ -115,7 +115,8 @@ impl WorldState {
         self.answers.of(thread)
     }
 
-    /// Whether the next step of a thread may store in the section in which it gives a mutex up, so that a fair one comes to something else.
+    /// Whether the next step of a thread may store in the section in which it gives a mutex up, so that a fair one
+    /// comes to something else.
     pub fn may_hand(&self, thread: usize) -> bool {
         self.seat(thread).may_hand()
     }

@@ -53,8 +53,8 @@ impl Tardy {
     }
 }
 
-/// Where an upgradable call stands: the number of its case, the call as which it goes on, the word and the count that it looks for, and what its
-/// thread keeps.
+/// Where an upgradable call stands: the number of its case, the call as which it goes on, the word and the count that
+/// it looks for, and what its thread keeps.
 #[derive(Clone, Copy, PartialEq)]
 pub(crate) struct Upgradable {
     case: u8,

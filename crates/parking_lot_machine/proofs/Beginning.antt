@@ -1,8 +1,10 @@
 -- A call that has begun goes on so.
-use Rattle.std.proofs.Common.{◌≡◌, ℕ, ◌-◌, ◌/◌, ◌%◌, ◌==◌, ◌&&◌, ◌||◌, not, nat_lt, Bool, true, false, Option, Some, None, option_map, refl, cond}
+use Rattle.std.proofs.Common.{◌≡◌, ℕ, ◌-◌, ◌/◌, ◌%◌, ◌==◌, ◌&&◌, ◌||◌, not, nat_lt, Bool, true, false, Option, Some}
+use Rattle.std.proofs.Common.{None, option_map, refl, cond}
 use Rattle.std.specs.Option.{option_map_or}
 use Rattle.parking_lot_protocol.specs.declared.act.ActResult.{ActResult}
-use Rattle.parking_lot_protocol.specs.declared.act.ActResult.TheVariants.{Start, Word, Exchanged, Before, Spun, Entered, Took, Stored, Made, Woken}
+use Rattle.parking_lot_protocol.specs.declared.act.ActResult.TheVariants.{Start, Word, Exchanged, Before, Spun, Entered}
+use Rattle.parking_lot_protocol.specs.declared.act.ActResult.TheVariants.{Took, Stored, Made, Woken}
 use Rattle.parking_lot_protocol.specs.declared.mutex_phase.MutexPhase.{MutexPhase}
 use Rattle.parking_lot_protocol.specs.declared.mutex_phase.Asking.{Asking}
 use Rattle.parking_lot_protocol.specs.declared.rw_phase.RwPhase.{RwPhase}
@@ -27,12 +29,15 @@ use Rattle.parking_lot_machine_calls.specs.declared.late_rw.RwSleeper.{RwSleeper
 -- A MUTEX
 
 seeks_on : (a : Asking) (word : ℕ) → mutex_begun (of_mutex.seeks a word) ≡ true
-seeks_on a word = either mutex_begun (word == 0) _ _ _ refl (either mutex_begun (word == 2) _ _ _ refl (either mutex_begun (word == 1) _ _ _ (either mutex_begun (nat_lt 0 a.rounds) _ _ _ refl refl) refl))
+seeks_on a word = either mutex_begun (word == 0) _ _ _ refl
+    (either mutex_begun (word == 2) _ _ _ refl
+    (either mutex_begun (word == 1) _ _ _ (either mutex_begun (nat_lt 0 a.rounds) _ _ _ refl refl) refl))
 
 tries_on : (left word : ℕ) → mutex_begun (of_mutex.tries left word) ≡ true
 tries_on left word = either mutex_begun (word == 0) _ _ _ refl (either mutex_begun (word == 2) _ _ _ refl refl)
 
-finishes_on : (fair again : Bool) (s : ActResult) → mutex_begun (of_mutex.next_phase (MutexPhase.Finishes (record { fair = fair; again = again })) s) ≡ true
+finishes_on : (fair again : Bool) (s : ActResult)
+    → mutex_begun (of_mutex.next_phase (MutexPhase.Finishes (record { fair = fair; again = again })) s) ≡ true
 finishes_on fair true (Word n) = refl
 finishes_on fair again s = refl
 
@@ -53,7 +58,8 @@ mutex_on MutexPhase.Rests Made = refl
 mutex_on (MutexPhase.Checks c) (Word n) = either mutex_begun (n == 3) _ _ _ refl refl
 mutex_on MutexPhase.Sleeps (Woken token) = either mutex_begun (token.0 == 1) _ _ _ refl refl
 mutex_on MutexPhase.TryLoads (Word n) = tries_on 63 n
-mutex_on (MutexPhase.TryLocks waiters left) (Word n) = either mutex_begun (nat_lt 0 left) _ _ _ (tries_on (left - 1) n) refl
+mutex_on (MutexPhase.TryLocks waiters left) (Word n) = either mutex_begun (nat_lt 0 left) _ _ _ (tries_on (left - 1) n)
+    refl
 mutex_on MutexPhase.BumpLoads (Word n) = either mutex_begun (n / 2 % 2 == 1) _ _ _ refl refl
 mutex_on MutexPhase.Relocks (Word n) = seeks_on (of_mutex.begins false) n
 mutex_on (MutexPhase.Unlocks g) Exchanged = either mutex_begun g.again _ _ _ refl refl
@@ -72,11 +78,14 @@ rw_seeks_on : (a : Seeking) (word : ℕ) → rw_begun (of_rw.seeks a word) ≡ t
 rw_seeks_on a word =
     either rw_begun (of_rw.is_admitted a.want word) _ _ _ refl
     (either rw_begun (of_rw.is_barred a.want word) _ _ _
-    (either rw_begun (not (of_rw.is_parked word || of_rw.is_writer_parked word) && nat_lt 0 a.rounds) _ _ _ refl (either rw_begun (of_rw.is_parked word) _ _ _ refl refl)) refl)
+    (either rw_begun (not (of_rw.is_parked word || of_rw.is_writer_parked word) && nat_lt 0 a.rounds) _ _ _ refl
+    (either rw_begun (of_rw.is_parked word) _ _ _ refl refl)) refl)
 
 drains_on : (d : Draining) (word : ℕ) → rw_begun (of_rw.drains d word) ≡ true
 drains_on d word =
-    either rw_begun (of_rw.has_readers word) _ _ _ (either rw_begun (nat_lt 0 d.rounds) _ _ _ refl (either rw_begun (of_rw.is_writer_parked word) _ _ _ refl refl)) refl
+    either rw_begun (of_rw.has_readers word) _ _ _
+    (either rw_begun (nat_lt 0 d.rounds) _ _ _ refl (either rw_begun (of_rw.is_writer_parked word) _ _ _ refl refl))
+    refl
 
 rw_tries_on : (w : LockMode) (left word : ℕ) → rw_begun (of_rw.tries w left word) ≡ true
 rw_tries_on w left word = either rw_begun (of_rw.is_tried w word) _ _ _ refl refl
@@ -99,7 +108,8 @@ bumps_on LockMode.Exclusive word = either rw_begun (of_rw.is_parked word) _ _ _ 
 wakes_on : (rs : AfterWake) (count : ℕ) → rw_begun (of_rw.wakes rs count) ≡ true
 wakes_on rs count = either rw_begun (nat_lt 0 count) _ _ _ refl refl
 
-taken_on : (left : Bool) (s : Option Scanning) → rw_begun (option_map_or (λ q. q) (option_map (of_rw.goes_on left) s) RwPhase.Invalid) ≡ true
+taken_on : (left : Bool) (s : Option Scanning)
+    → rw_begun (option_map_or (λ q. q) (option_map (of_rw.goes_on left) s) RwPhase.Invalid) ≡ true
 taken_on left None = refl
 taken_on left (Some s) = either rw_begun (left && not s.writer) _ _ _ refl refl
 
@@ -128,7 +138,8 @@ rw_on (RwPhase.DrainSpins d) (Spun spun) = refl
 rw_on (RwPhase.DrainSetParked d word) Exchanged = refl
 rw_on (RwPhase.DrainSetParked d word) (Word n) = drains_on d n
 rw_on (RwPhase.DrainEnters d) Entered = refl
-rw_on (RwPhase.DrainChecks d) (Word n) = either rw_begun (of_rw.has_readers n && of_rw.is_writer_parked n) _ _ _ refl refl
+rw_on (RwPhase.DrainChecks d) (Word n) = either rw_begun (of_rw.has_readers n && of_rw.is_writer_parked n) _ _ _ refl
+    refl
 rw_on (RwPhase.DrainRetreats d) Made = refl
 rw_on (RwPhase.DrainAppends rounds) Made = refl
 rw_on (RwPhase.DrainRests rounds) Made = refl
@@ -138,7 +149,8 @@ rw_on (RwPhase.TryAdmits w word left) Exchanged = refl
 rw_on (RwPhase.TryAdmits w word left) (Word n) = either rw_begun (nat_lt 0 left) _ _ _ (rw_tries_on w (left - 1) n) refl
 rw_on (RwPhase.BumpLoads w) (Word n) = bumps_on w n
 rw_on (RwPhase.Relocks w) (Word n) = rw_seeks_on (of_rw.begins w false) n
-rw_on (RwPhase.Unshares rs) (Before n) = either rw_begun (n / 16 == 1 && of_rw.is_writer_parked n) _ _ _ refl (over_on rs)
+rw_on (RwPhase.Unshares rs) (Before n) = either rw_begun (n / 16 == 1 && of_rw.is_writer_parked n) _ _ _ refl
+    (over_on rs)
 rw_on (RwPhase.EnterWriterWakeSection rs) Entered = refl
 rw_on (RwPhase.TakeWriter rs) (Took token left) = refl
 rw_on (RwPhase.ClearWriterParked rs taken) (Before n) = refl
@@ -172,7 +184,8 @@ late_on p s = refl
 
 -- AN UPGRADABLE CALL
 
-upgrade_pick : (b : Bool) (p q : UpgradePhase) → upgrade_begun p ≡ true → upgrade_begun q ≡ true → upgrade_begun (cond b p q) ≡ true
+upgrade_pick : (b : Bool) (p q : UpgradePhase) → upgrade_begun p ≡ true → upgrade_begun q ≡ true
+    → upgrade_begun (cond b p q) ≡ true
 upgrade_pick true p q h k = h
 upgrade_pick false p q h k = k
 
@@ -182,9 +195,11 @@ own_begins p = refl
 
 own_shows : (p : UpgradePhase) (w : ℕ) → upgrade_begun (ut.shown p w) ≡ true
 own_shows UpgradePhase.TryLoads w = upgrade_pick (ut.is_open w) _ _ refl refl
-own_shows (UpgradePhase.TryAdmits from left) w = upgrade_pick (nat_lt 0 left) _ _ (upgrade_pick (ut.is_open w) _ _ refl refl) refl
+own_shows (UpgradePhase.TryAdmits from left) w = upgrade_pick (nat_lt 0 left) _ _
+    (upgrade_pick (ut.is_open w) _ _ refl refl) refl
 own_shows UpgradePhase.TryUpgradeLoads w = upgrade_pick (ut.is_alone w) _ _ refl refl
-own_shows (UpgradePhase.TryUpgrades from left) w = upgrade_pick (nat_lt 0 left) _ _ (upgrade_pick (ut.is_alone w) _ _ refl refl) refl
+own_shows (UpgradePhase.TryUpgrades from left) w = upgrade_pick (nat_lt 0 left) _ _
+    (upgrade_pick (ut.is_alone w) _ _ refl refl) refl
 own_shows UpgradePhase.BumpLoads w = upgrade_pick (of_rw.is_parked w) _ _ refl refl
 own_shows (UpgradePhase.UnlockLoads r) w = upgrade_pick (of_rw.is_parked w) _ _ refl refl
 own_shows (UpgradePhase.Unlocks r from) w = upgrade_pick (of_rw.is_parked w) _ _ refl refl

@@ -1,5 +1,6 @@
 -- No thread in a call has more steps left than a number that goes by how many threads there are.
-use Rattle.std.proofs.Common.{◌≡◌, ◌≤◌, ℕ, suc, ◌+◌, ◌*◌, Bool, true, false, List, [], ◌∷◌, length, Option, Some, None, slice_get, refl, ap, arith}
+use Rattle.std.proofs.Common.{◌≡◌, ◌≤◌, ℕ, suc, ◌+◌, ◌*◌, Bool, true, false, List, [], ◌∷◌, length, Option, Some, None}
+use Rattle.std.proofs.Common.{slice_get, refl, ap, arith}
 use Rattle.std.proofs.Math.Nat.{suc-mul}
 use Rattle.std.specs.List.{sum_by}
 use Rattle.std.specs.Option.{option_and_then}
@@ -18,7 +19,8 @@ use Rattle.parking_lot_machine_calls.specs.Stances.{upgrade_taken, pending_from,
 use Rattle.parking_lot_machine_calls.specs.declared.seat.LatePhase.{LatePhase}
 use Rattle.parking_lot_machine_calls.specs.declared.seat.Core.{Core}
 use Rattle.parking_lot_machine_calls.specs.declared.open_call.Call.{Call}
-use Rattle.parking_lot_machine.specs.Ranks.{Unseen, comes_after, core_steps, late_steps, far_steps, mutex_asks, mutex_ends, mutex_steps, rw_ends, rw_steps, vain}
+use Rattle.parking_lot_machine.specs.Ranks.{Unseen, comes_after, core_steps, late_steps, far_steps, mutex_asks}
+use Rattle.parking_lot_machine.specs.Ranks.{mutex_ends, mutex_steps, rw_ends, rw_steps, vain}
 use Rattle.parking_lot_machine.specs.Rounds.{FewRounds, mutex_rounds, rw_rounds}
 use Rattle.parking_lot_machine.specs.RowFits.{FitsTogether}
 use Rattle.parking_lot_machine.specs.Rows.{State, call_at, word_at}
@@ -107,7 +109,8 @@ rw_most n (RwPhase.Wakes rs count) some h k = omega (arith, some, k, ends_most r
 rw_most n (RwPhase.Finishes rs) some h k = omega (arith, some, ends_most rs)
 rw_most n p some h k = omega (arith, some)
 
-upgrade_most : (n : ℕ) (p : UpgradePhase) → 1 ≤ n → upgrade_rounds p ≤ 10 → upgrade_taken p ≤ n → upgrade_steps n Unseen p ≤ 219 * n + 200
+upgrade_most : (n : ℕ) (p : UpgradePhase) → 1 ≤ n → upgrade_rounds p ≤ 10 → upgrade_taken p ≤ n
+    → upgrade_steps n Unseen p ≤ 219 * n + 200
 upgrade_most n (UpgradePhase.Plain core) some h k = rw_most n core.phase some h k
 upgrade_most n (UpgradePhase.Seeks core) some h k = rw_most n core.phase some h k
 upgrade_most n (UpgradePhase.Drains core) some h k = rw_most n core.phase some h k
@@ -128,16 +131,22 @@ quits_most n None = omega arith
 quits_most n (Some from) = omega arith
 
 -- a call that sleeps has no more left than rounds
-sleeper_most : (n : ℕ) (k : RwSleeper) → sleeper_rounds k ≤ 10 → (sleeper_asleep k ≡ true) × IsReadySleeper k → sleeper_steps n Unseen k ≤ 20
-sleeper_most n k few (e, r) = by_sleeper (λ k. sleeper_rounds k ≤ 10 → sleeper_steps n Unseen k ≤ 20) (λ want b. omega arith) (λ rounds b. omega (arith, b)) (λ want i b. omega arith) (λ rounds b. omega (arith, b)) k r e few
+sleeper_most : (n : ℕ) (k : RwSleeper) → sleeper_rounds k ≤ 10 → (sleeper_asleep k ≡ true) × IsReadySleeper k
+    → sleeper_steps n Unseen k ≤ 20
+sleeper_most n k few (e, r) = by_sleeper (λ k. sleeper_rounds k ≤ 10 → sleeper_steps n Unseen k ≤ 20)
+    (λ want b. omega arith) (λ rounds b. omega (arith, b)) (λ want i b. omega arith) (λ rounds b. omega (arith, b)) k r
+    e few
 
-late_rw_most : (n : ℕ) (p : LateRwPhase) → 1 ≤ n → late_rw_rounds p ≤ 10 → IsGoodLate p → late_rw_steps n Unseen p ≤ 219 * n + 200
-late_rw_most n (LateRwPhase.Expires k) some few good = omega (arith, sleeper_most n k few good, quits_most n (pending_from k))
+late_rw_most : (n : ℕ) (p : LateRwPhase) → 1 ≤ n → late_rw_rounds p ≤ 10 → IsGoodLate p
+    → late_rw_steps n Unseen p ≤ 219 * n + 200
+late_rw_most n (LateRwPhase.Expires k) some few good =
+    omega (arith, sleeper_most n k few good, quits_most n (pending_from k))
 late_rw_most n (LateRwPhase.Quits k) some few good = omega (arith, quits_most n (pending_from k))
 late_rw_most n (LateRwPhase.WasTaken k by handed) some few good = omega (arith, sleeper_most n k few good)
 late_rw_most n p some few good = omega arith
 
-pub core_most : (n x : ℕ) (c : Core) → IsGood c x → 1 ≤ n → FewRounds c → taken_count c ≤ n → core_steps n Unseen c ≤ 219 * n + 200
+pub core_most : (n x : ℕ) (c : Core) → IsGood c x → 1 ≤ n → FewRounds c → taken_count c ≤ n
+    → core_steps n Unseen c ≤ 219 * n + 200
 core_most n x (Core.Mutex c) good some h k = omega (arith, some, mutex_most c.phase h)
 core_most n x (Core.Rw c) good some h k = rw_most n c.phase some h k
 core_most n x (Core.Late p) good some h k = late_most n p
@@ -145,9 +154,11 @@ core_most n x (Core.LateRw p) good some h k = late_rw_most n p some h good
 core_most n x (Core.Upgrade c) good some h k = upgrade_most n c.phase some h k
 
 -- all of a list
-pub sum_most : {X : Type 0} (f : X → ℕ) (m : ℕ) (xs : List X) → ((i : ℕ) (x : X) → slice_get xs i ≡ Some x → f x ≤ m) → sum_by f xs ≤ length xs * m
+pub sum_most : {X : Type 0} (f : X → ℕ) (m : ℕ) (xs : List X) → ((i : ℕ) (x : X) → slice_get xs i ≡ Some x → f x ≤ m)
+    → sum_by f xs ≤ length xs * m
 sum_most f m [] all = omega arith
-sum_most f m (x ∷ xs) all = omega (arith, sum_by-cons f x xs, all 0 x refl, sum_most f m xs (λ i y at. all (suc i) y at), suc-mul (length xs) m)
+sum_most f m (x ∷ xs) all =
+    omega (arith, sum_by-cons f x xs, all 0 x refl, sum_most f m xs (λ i y at. all (suc i) y at), suc-mul (length xs) m)
 
 module _ (s : State) (h : FitsTogether s) where
   -- a thread in a call is one of the threads, and has taken no more than there are
@@ -157,10 +168,13 @@ module _ (s : State) (h : FitsTogether s) where
   few : (t : ℕ) (c : Call) → call_at s t ≡ Some c → taken_count c.core ≤ length s.calls
   few t c here = (h.lots.counted t c here).few
 
-  far_few : (t : ℕ) (c : Call) → call_at s t ≡ Some c → far_steps (length s.calls) (Some c) ≤ most_steps (length s.calls)
-  far_few t c here = core_most (length s.calls) (word_at s c.lock) c.core (is_good s h t c here) (some t c here) (h.rules.begun t c here).few (few t c here)
+  far_few : (t : ℕ) (c : Call) → call_at s t ≡ Some c → far_steps (length s.calls) (Some c) ≤ most_steps
+      (length s.calls)
+  far_few t c here = core_most (length s.calls) (word_at s c.lock) c.core (is_good s h t c here) (some t c here)
+      (h.rules.begun t c here).few (few t c here)
 
-  slot_few : (t : ℕ) (o : Option Call) → slice_get s.calls t ≡ Some o → far_steps (length s.calls) o ≤ most_steps (length s.calls)
+  slot_few : (t : ℕ) (o : Option Call) → slice_get s.calls t ≡ Some o → far_steps (length s.calls) o ≤ most_steps
+      (length s.calls)
   slot_few t None at = omega arith
   slot_few t (Some c) at = far_few t c (ap (λ x. option_and_then (λ o. o) x) at)
 
@@ -168,5 +182,10 @@ module _ (s : State) (h : FitsTogether s) where
   steps_are_few = record {
     each = λ t c here. omega (arith, none_more s h t (Some c) here, far_few t c here);
     all = λ t.
-        omega (arith, others_and_one (length s.calls) s.calls t, none_more s h t (call_at s t) refl, sum_most (far_steps (length s.calls)) (most_steps (length s.calls)) s.calls slot_few);
+        omega (
+          arith,
+          others_and_one (length s.calls) s.calls t,
+          none_more s h t (call_at s t) refl,
+          sum_most (far_steps (length s.calls)) (most_steps (length s.calls)) s.calls slot_few,
+        );
   }

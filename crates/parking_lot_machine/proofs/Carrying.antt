@@ -1,5 +1,7 @@
 -- What an act that changes a thread's call keeps of the lot's lists and of who is to be woken.
-use Rattle.std.proofs.Common.{◌≡◌, ◌≤◌, ◌<◌, ◌⊎◌, inl, inr, ℕ, ◌+◌, ◌*◌, ◌==◌, false, cond, List, [], ◌∷◌, length, filter, remove, Option, Some, None, slice_get, slice_set, refl, sym, ap, ◌∙◌, subst, arith, eq-eqb, count_by}
+use Rattle.std.proofs.Common.{◌≡◌, ◌≤◌, ◌<◌, ◌⊎◌, inl, inr, ℕ, ◌+◌, ◌*◌, ◌==◌, false, cond, List, [], ◌∷◌, length}
+use Rattle.std.proofs.Common.{filter, remove, Option, Some, None, slice_get, slice_set, refl, sym, ap, ◌∙◌, subst}
+use Rattle.std.proofs.Common.{arith, eq-eqb, count_by}
 use Rattle.std.specs.Option.{option_map, option_map_or, option_and_then}
 use Rattle.std.proofs.lemmas.List.{length-map}
 use Rattle.std.proofs.lemmas.List.Sums.{length-filter}
@@ -17,7 +19,8 @@ use Rattle.parking_lot_machine_calls.specs.declared.seat.QueuePosition.{QueuePos
 use Rattle.parking_lot_machine_calls.specs.declared.open_call.Call.{Call}
 use Rattle.parking_lot_machine_calls.specs.declared.seat.Wakeup.{Wakeup}
 use Rattle.parking_lot_machine.specs.Rows.{State, call_at, is_by, taken_by}
-use Rattle.parking_lot_machine_calls.specs.Stances.{Looks, TurnsBack, Joins, Joined, Takes, Stores, Tells, Stance, Out, In, Asleep, stance, taken_count}
+use Rattle.parking_lot_machine_calls.specs.Stances.{Looks, TurnsBack, Joins, Joined, Takes, Stores, Tells, Stance, Out}
+use Rattle.parking_lot_machine_calls.specs.Stances.{In, Asleep, stance, taken_count}
 use Rattle.parking_lot_machine_calls.specs.CallActs.{settled_spot, settled}
 use Rattle.parking_lot_machine.specs.RowFits.{Seated, Awaits, IsCounted, IsInside, IsTaken, IsOwed, WakesSome, LotFits}
 
@@ -35,18 +38,25 @@ pub call_within : (s : State) (t : ℕ) (c : Call) → call_at s t ≡ Some c �
 call_within s t c h = slice_get_within s.calls t (Some c) (some_call (slice_get s.calls t) c h)
 
 -- one call is changed
-pub set_elsewhere : (calls : List (Option Call)) (t v : ℕ) (o : Option Call) → (v == t) ≡ false → option_and_then (λ x. x) (slice_get (slice_set calls t o) v) ≡ option_and_then (λ x. x) (slice_get calls v)
+pub set_elsewhere : (calls : List (Option Call)) (t v : ℕ) (o : Option Call) → (v == t) ≡ false
+    → option_and_then (λ x. x) (slice_get (slice_set calls t o) v) ≡ option_and_then (λ x. x) (slice_get calls v)
 set_elsewhere calls t v o e = ap (option_and_then (λ x. x)) (slice_get-set_other calls t v o e)
 
 -- the calls of all others stay, and one goes on at its lock: so each call is at its lock still
-pub lock_kept : (s u : State) (t : ℕ) (c d : Call) → call_at s t ≡ Some c → call_at u t ≡ Some d → d.lock ≡ c.lock → ((v : ℕ) → (v == t) ≡ false → call_at u v ≡ call_at s v)
+pub lock_kept : (s u : State) (t : ℕ) (c d : Call) → call_at s t ≡ Some c → call_at u t ≡ Some d → d.lock ≡ c.lock
+    → ((v : ℕ) → (v == t) ≡ false → call_at u v ≡ call_at s v)
     → (x : ℕ) (y : Call) → call_at s x ≡ Some y → (z : Call) × (call_at u x ≡ Some z) × (z.lock ≡ y.lock)
 lock_kept s u t c d here there lock apart x y at = by_eqb x t ((z : Call) × (call_at u x ≡ Some z) × (z.lock ≡ y.lock))
-    (λ e. (d, ap (call_at u) e ∙ there, lock ∙ ap (λ (z : Call). z.lock) (same_call (sym here ∙ (ap (call_at s) (sym e) ∙ at)))))
+    (λ e. (
+      d,
+      ap (call_at u) e ∙ there,
+      lock ∙ ap (λ (z : Call). z.lock) (same_call (sym here ∙ (ap (call_at s) (sym e) ∙ at))),
+    ))
     (λ e. (y, apart x e ∙ at, refl))
 
 -- one that was taken stays so, where its call and its place stay, and its taker is at its lock still
-pub still_taken : (s u : State) (e : Wakeup) (old : IsTaken s e) → (z : Call) × (call_at u e.by ≡ Some z) × (z.lock ≡ old.taker.lock) → call_at u e.thread ≡ call_at s e.thread
+pub still_taken : (s u : State) (e : Wakeup) (old : IsTaken s e) → (z : Call) × (call_at u e.by ≡ Some z)
+    × (z.lock ≡ old.taker.lock) → call_at u e.thread ≡ call_at s e.thread
     → place_at u.lot.places e.thread ≡ place_at s.lot.places e.thread → IsTaken u e
 still_taken s u e old taker call place = record {
   taker = taker.0;
@@ -84,13 +94,19 @@ Wakeful o = (c : Call) → o ≡ Some c → WakesSome c.core
 
 pub record Carries (old new : Option Call) : Type 0 where
   -- who stands in a list stands there
-  pub listed : (k : ℕ) (token : ParkToken) (c : Call) → old ≡ Some c → c.spot ≡ QueuePosition.Listed → Awaits k token (stance c.core)
-      → (d : Call) × (new ≡ Some d) × (d.lock ≡ c.lock) × (d.spot ≡ QueuePosition.Listed) × Awaits k token (stance d.core)
+  pub listed : (k : ℕ) (token : ParkToken) (c : Call) → old ≡ Some c → c.spot ≡ QueuePosition.Listed
+      → Awaits k token (stance c.core)
+      → (d : Call) × (new ≡ Some d) × (d.lock ≡ c.lock) × (d.spot ≡ QueuePosition.Listed)
+      × Awaits k token (stance d.core)
   -- who sleeps off its list sleeps there, and nobody else does
-  pub sleeps : (k : ℕ) (token : ParkToken) (by : ℕ) (said : WakeResult) (c : Call) → old ≡ Some c → stance c.core ≡ Asleep k token → c.spot ≡ QueuePosition.Off by said
-      → (d : Call) × (new ≡ Some d) × (d.lock ≡ c.lock) × (stance d.core ≡ Asleep k token) × (now : WakeResult) × (d.spot ≡ QueuePosition.Off by now)
-  pub slept : (k : ℕ) (token : ParkToken) (by : ℕ) (said : WakeResult) (d : Call) → new ≡ Some d → stance d.core ≡ Asleep k token → d.spot ≡ QueuePosition.Off by said
-      → (c : Call) × (old ≡ Some c) × (stance c.core ≡ Asleep k token) × (before : WakeResult) × (c.spot ≡ QueuePosition.Off by before)
+  pub sleeps : (k : ℕ) (token : ParkToken) (by : ℕ) (said : WakeResult) (c : Call) → old ≡ Some c
+      → stance c.core ≡ Asleep k token → c.spot ≡ QueuePosition.Off by said
+      → (d : Call) × (new ≡ Some d) × (d.lock ≡ c.lock) × (stance d.core ≡ Asleep k token) × (now : WakeResult)
+      × (d.spot ≡ QueuePosition.Off by now)
+  pub slept : (k : ℕ) (token : ParkToken) (by : ℕ) (said : WakeResult) (d : Call) → new ≡ Some d
+      → stance d.core ≡ Asleep k token → d.spot ≡ QueuePosition.Off by said
+      → (c : Call) × (old ≡ Some c) × (stance c.core ≡ Asleep k token) × (before : WakeResult)
+      × (c.spot ≡ QueuePosition.Off by before)
   -- who has taken somebody stays at its lock, and has taken as many
   pub taker : (c : Call) → old ≡ Some c → 1 ≤ taken_count c.core → (d : Call) × (new ≡ Some d) × (d.lock ≡ c.lock)
   pub counts : tally new ≡ tally old
@@ -164,11 +180,18 @@ pub up_sleeps : (k : ℕ) (token : ParkToken) (a : Stance) → IsUp a → a ≡ 
 up_sleeps k token a h e = subst IsUp e h
 
 -- an awake thread goes on, awake
-pub carries_awake : (c d : Call) → IsAwake (stance c.core) → IsUp (stance d.core) → d.lock ≡ c.lock → taken_count d.core ≡ taken_count c.core → (IsInside (stance d.core) → IsInside (stance c.core) ⊎ (taken_count c.core ≡ 0)) → WakesSome d.core → Carries (Some c) (Some d)
+pub carries_awake : (c d : Call) → IsAwake (stance c.core) → IsUp (stance d.core) → d.lock ≡ c.lock
+    → taken_count d.core ≡ taken_count c.core
+    → (IsInside (stance d.core) → IsInside (stance c.core) ⊎ (taken_count c.core ≡ 0)) → WakesSome d.core
+    → Carries (Some c) (Some d)
 carries_awake c d awake up lock counts stays some = record {
-  listed = λ k token x is at waits. absurd (awake_waits k token (stance c.core) awake (subst (λ (y : Call). Awaits k token (stance y.core)) (sym (same_call is)) waits));
-  sleeps = λ k token by said x is asleep at. absurd (awake_sleeps k token (stance c.core) awake (ap (λ (y : Call). stance y.core) (same_call is) ∙ asleep));
-  slept = λ k token by said x is asleep at. absurd (up_sleeps k token (stance d.core) up (ap (λ (y : Call). stance y.core) (same_call is) ∙ asleep));
+  listed = λ k token x is at waits. absurd
+      (awake_waits k token (stance c.core) awake
+      (subst (λ (y : Call). Awaits k token (stance y.core)) (sym (same_call is)) waits));
+  sleeps = λ k token by said x is asleep at. absurd
+      (awake_sleeps k token (stance c.core) awake (ap (λ (y : Call). stance y.core) (same_call is) ∙ asleep));
+  slept = λ k token by said x is asleep at. absurd
+      (up_sleeps k token (stance d.core) up (ap (λ (y : Call). stance y.core) (same_call is) ∙ asleep));
   taker = λ x is more. (d, refl, lock ∙ ap (λ (y : Call). y.lock) (same_call is));
   counts = counts;
   stays = stays;
@@ -176,11 +199,22 @@ carries_awake c d awake up lock counts stays some = record {
 }
 
 -- one that joined goes to sleep
-pub carries_lain : (c d : Call) (key : ℕ) (park : ParkToken) → stance c.core ≡ In key (Joined park) → stance d.core ≡ Asleep key park → d.lock ≡ c.lock → c.spot ≡ QueuePosition.Listed → d.spot ≡ QueuePosition.Listed → taken_count d.core ≡ taken_count c.core → WakesSome d.core → Carries (Some c) (Some d)
+pub carries_lain : (c d : Call) (key : ℕ) (park : ParkToken) → stance c.core ≡ In key (Joined park)
+    → stance d.core ≡ Asleep key park → d.lock ≡ c.lock → c.spot ≡ QueuePosition.Listed → d.spot ≡ QueuePosition.Listed
+    → taken_count d.core ≡ taken_count c.core → WakesSome d.core → Carries (Some c) (Some d)
 carries_lain c d key park from to lock at at' counts some = record {
-  listed = λ k token x is here waits. (d, refl, lock ∙ ap (λ (y : Call). y.lock) (same_call is), at', subst (Awaits k token) (sym to) (subst (Awaits k token) (sym (ap (λ (y : Call). stance y.core) (same_call is)) ∙ from) waits));
-  sleeps = λ k token by said x is asleep here. absurd (listed≢off (sym at ∙ (ap (λ (y : Call). y.spot) (same_call is) ∙ here)));
-  slept = λ k token by said x is asleep here. absurd (listed≢off (sym at' ∙ (ap (λ (y : Call). y.spot) (same_call is) ∙ here)));
+  listed = λ k token x is here waits. (
+    d,
+    refl,
+    lock ∙ ap (λ (y : Call). y.lock) (same_call is),
+    at',
+    subst (Awaits k token) (sym to)
+        (subst (Awaits k token) (sym (ap (λ (y : Call). stance y.core) (same_call is)) ∙ from) waits),
+  );
+  sleeps = λ k token by said x is asleep here. absurd
+      (listed≢off (sym at ∙ (ap (λ (y : Call). y.spot) (same_call is) ∙ here)));
+  slept = λ k token by said x is asleep here. absurd
+      (listed≢off (sym at' ∙ (ap (λ (y : Call). y.spot) (same_call is) ∙ here)));
   taker = λ x is more. (d, refl, lock ∙ ap (λ (y : Call). y.lock) (same_call is));
   counts = counts;
   stays = λ i. absurd (subst IsInside to i);
@@ -191,11 +225,13 @@ carries_lain c d key park from to lock at at' counts some = record {
     listed≢off e = cc
 
 -- a call begins, and ends
-pub carries_begun : (d : Call) → IsUp (stance d.core) → taken_count d.core ≡ 0 → WakesSome d.core → Carries None (Some d)
+pub carries_begun : (d : Call) → IsUp (stance d.core) → taken_count d.core ≡ 0 → WakesSome d.core
+    → Carries None (Some d)
 carries_begun d up counts some = record {
   listed = λ k token x is at waits. absurd (none≢some is);
   sleeps = λ k token by said x is asleep at. absurd (none≢some is);
-  slept = λ k token by said x is asleep at. absurd (up_sleeps k token (stance d.core) up (ap (λ (y : Call). stance y.core) (same_call is) ∙ asleep));
+  slept = λ k token by said x is asleep at. absurd
+      (up_sleeps k token (stance d.core) up (ap (λ (y : Call). stance y.core) (same_call is) ∙ asleep));
   taker = λ x is some. absurd (none≢some is);
   counts = counts;
   stays = λ i. inr refl;
@@ -204,8 +240,11 @@ carries_begun d up counts some = record {
 
 pub carries_ended : (c : Call) → IsAwake (stance c.core) → taken_count c.core ≡ 0 → Carries (Some c) None
 carries_ended c awake counts = record {
-  listed = λ k token x is at waits. absurd (awake_waits k token (stance c.core) awake (subst (λ (y : Call). Awaits k token (stance y.core)) (sym (same_call is)) waits));
-  sleeps = λ k token by said x is asleep at. absurd (awake_sleeps k token (stance c.core) awake (ap (λ (y : Call). stance y.core) (same_call is) ∙ asleep));
+  listed = λ k token x is at waits. absurd
+      (awake_waits k token (stance c.core) awake
+      (subst (λ (y : Call). Awaits k token (stance y.core)) (sym (same_call is)) waits));
+  sleeps = λ k token by said x is asleep at. absurd
+      (awake_sleeps k token (stance c.core) awake (ap (λ (y : Call). stance y.core) (same_call is) ∙ asleep));
   slept = λ k token by said x is asleep at. absurd (none≢some is);
   taker = λ x is some. absurd (let same = ap (λ (y : Call). taken_count y.core) (same_call is) in omega arith);
   counts = sym counts;
@@ -214,17 +253,20 @@ carries_ended c awake counts = record {
 }
 
 -- sleepers are told
-pub settled_off : (t : ℕ) (said : WakeResult) (by : ℕ) (x : WakeResult) → (now : WakeResult) × (settled_spot t said (QueuePosition.Off by x) ≡ QueuePosition.Off by now)
+pub settled_off : (t : ℕ) (said : WakeResult) (by : ℕ) (x : WakeResult) → (now : WakeResult)
+    × (settled_spot t said (QueuePosition.Off by x) ≡ QueuePosition.Off by now)
 settled_off t said by WakeResult.Nothing = (cond (by == t) said WakeResult.Nothing, refl)
 settled_off t said by WakeResult.TryAgain = (WakeResult.TryAgain, refl)
 settled_off t said by WakeResult.HandedOver = (WakeResult.HandedOver, refl)
 
-pub unsettled_off : (t : ℕ) (said : WakeResult) (by : ℕ) (x : WakeResult) (a : QueuePosition) → settled_spot t said a ≡ QueuePosition.Off by x → (before : WakeResult) × (a ≡ QueuePosition.Off by before)
+pub unsettled_off : (t : ℕ) (said : WakeResult) (by : ℕ) (x : WakeResult) (a : QueuePosition)
+    → settled_spot t said a ≡ QueuePosition.Off by x → (before : WakeResult) × (a ≡ QueuePosition.Off by before)
 unsettled_off t said by x QueuePosition.Listed e = absurd (listed≢off e)
   where
     listed≢off : QueuePosition.Listed ≡ QueuePosition.Off by x → ⊥
     listed≢off e = cc
-unsettled_off t said by x (QueuePosition.Off u WakeResult.Nothing) e = (WakeResult.Nothing, ap (λ (v : ℕ). QueuePosition.Off v WakeResult.Nothing) (same e))
+unsettled_off t said by x (QueuePosition.Off u WakeResult.Nothing) e =
+    (WakeResult.Nothing, ap (λ (v : ℕ). QueuePosition.Off v WakeResult.Nothing) (same e))
   where
     same : {a b : ℕ} {y z : WakeResult} → QueuePosition.Off a y ≡ QueuePosition.Off b z → a ≡ b
     same e = cc
@@ -234,10 +276,24 @@ unsettled_off t said by x (QueuePosition.Off u WakeResult.HandedOver) e = (x, e)
 pub carries_settled : (t : ℕ) (said : WakeResult) (o : Option Call) → Carries o (option_map (settled t said) o)
 carries_settled t said None = carries_same None None refl
 carries_settled t said (Some c) = record {
-  listed = λ k token x is at waits. (settled t said c, refl, ap (λ (y : Call). y.lock) (same_call is), ap (λ (y : Call). settled_spot t said y.spot) (same_call is) ∙ ap (settled_spot t said) at, subst (λ (y : Call). Awaits k token (stance y.core)) (sym (same_call is)) waits);
+  listed = λ k token x is at waits. (
+    settled t said c,
+    refl,
+    ap (λ (y : Call). y.lock) (same_call is),
+    ap (λ (y : Call). settled_spot t said y.spot) (same_call is) ∙ ap (settled_spot t said) at,
+    subst (λ (y : Call). Awaits k token (stance y.core)) (sym (same_call is)) waits,
+  );
   sleeps = λ k token by x y is asleep at.
-      let now = settled_off t said by x in
-      (settled t said c, refl, ap (λ (z : Call). z.lock) (same_call is), ap (λ (z : Call). stance z.core) (same_call is) ∙ asleep, now.0, ap (λ (z : Call). settled_spot t said z.spot) (same_call is) ∙ (ap (settled_spot t said) at ∙ now.1));
+      let now = settled_off t said by x in (
+        settled t said c,
+        refl,
+        ap (λ (z : Call). z.lock) (same_call is),
+        ap (λ (z : Call). stance z.core) (same_call is)
+            ∙ asleep,
+        now.0,
+        ap (λ (z : Call). settled_spot t said z.spot) (same_call is)
+            ∙ (ap (settled_spot t said) at ∙ now.1),
+      );
   slept = λ k token by x y is asleep at.
       let before = unsettled_off t said by x c.spot (ap (λ (z : Call). z.spot) (same_call is) ∙ at) in
       (c, refl, ap (λ (z : Call). stance z.core) (same_call is) ∙ asleep, before.0, before.1);
@@ -258,12 +314,16 @@ pub taken_by-count : (wakes : List Wakeup) (t : ℕ) → length (taken_by wakes 
 taken_by-count wakes t = length-map (filter (is_by t) wakes) (λ w. w.thread) ∙ length-filter (is_by t) wakes
 
 -- and without one that is in the list
-pub dropped : (wakes : List Wakeup) (i : ℕ) (e : Wakeup) → slice_get wakes i ≡ Some e → (x : ℕ) → length (taken_by (remove wakes i) x) + flag (e.by == x) ≡ length (taken_by wakes x)
-dropped wakes i e at x = omega (arith, count_by-remove (is_by x) wakes i e at, taken_by-count wakes x, taken_by-count (remove wakes i) x)
+pub dropped : (wakes : List Wakeup) (i : ℕ) (e : Wakeup) → slice_get wakes i ≡ Some e → (x : ℕ)
+    → length (taken_by (remove wakes i) x) + flag (e.by == x) ≡ length (taken_by wakes x)
+dropped wakes i e at x =
+    omega (arith, count_by-remove (is_by x) wakes i e at, taken_by-count wakes x, taken_by-count (remove wakes i) x)
 
 -- who is to be woken was taken
-pub taken_some : (wakes : List Wakeup) (n : ℕ) (e : Wakeup) → slice_get wakes n ≡ Some e → 1 ≤ length (taken_by wakes e.by)
-taken_some wakes n e at = let some = count_by-at (is_by e.by) wakes n e at (eq-eqb e.by e.by refl) in let same = taken_by-count wakes e.by in omega arith
+pub taken_some : (wakes : List Wakeup) (n : ℕ) (e : Wakeup) → slice_get wakes n ≡ Some e
+    → 1 ≤ length (taken_by wakes e.by)
+taken_some wakes n e at = let some = count_by-at (is_by e.by) wakes n e at (eq-eqb e.by e.by refl) in let same =
+    taken_by-count wakes e.by in omega arith
 
 pub tallied : (s : State) → LotFits s → (t : ℕ) → Tallied (length s.calls) (length (taken_by s.wakes t)) (call_at s t)
 tallied s h t = go (call_at s t) refl
@@ -278,26 +338,32 @@ tally_most threads n None h = omega (arith, h)
 tally_most threads n (Some c) h = h.most
 
 -- what is carried is counted as before
-pub tallied_on : (threads n : ℕ) (old new : Option Call) → Carries old new → Tallied threads n old → Tallied threads n new
+pub tallied_on : (threads n : ℕ) (old new : Option Call) → Carries old new → Tallied threads n old
+    → Tallied threads n new
 tallied_on threads n None None h k = k
-tallied_on threads n None (Some d) h k = let e : taken_count d.core ≡ 0 = h.counts in record { most = omega (arith, k, e); few = omega (arith, e); all = λ i. omega (arith, k, e) }
+tallied_on threads n None (Some d) h k = let e : taken_count d.core ≡ 0 = h.counts in
+    record { most = omega (arith, k, e); few = omega (arith, e); all = λ i. omega (arith, k, e) }
 tallied_on threads n (Some c) None h k = let e : 0 ≡ taken_count c.core = h.counts in omega (arith, k.most, e)
-tallied_on threads n (Some c) (Some d) h k = let e : taken_count d.core ≡ taken_count c.core = h.counts in record { most = omega (arith, k.most, e); few = omega (arith, k.few, e); all = λ i. still e (h.stays i) }
+tallied_on threads n (Some c) (Some d) h k = let e : taken_count d.core ≡ taken_count c.core = h.counts in
+    record { most = omega (arith, k.most, e); few = omega (arith, k.few, e); all = λ i. still e (h.stays i) }
   where
-    still : taken_count d.core ≡ taken_count c.core → IsInside (stance c.core) ⊎ (taken_count c.core ≡ 0) → n ≡ taken_count d.core
+    still : taken_count d.core ≡ taken_count c.core → IsInside (stance c.core) ⊎ (taken_count c.core ≡ 0)
+        → n ≡ taken_count d.core
     still e (inl j) = omega (arith, k.all j, e)
     still e (inr z) = omega (arith, k.most, z, e)
 
 module _ (s u : State) (h : LotFits s) (carries : (v : ℕ) → Carries (call_at s v) (call_at u v)) where
   pub waits_carried : (j k n : ℕ) (w : Waiter) → k < 2 → slice_get (s.lot.queues (2 * j + k)) n ≡ Some w
-      → (c : Call) × (call_at u w.thread ≡ Some c) × (c.lock ≡ j) × (c.spot ≡ QueuePosition.Listed) × Awaits k w.token (stance c.core)
+      → (c : Call) × (call_at u w.thread ≡ Some c) × (c.lock ≡ j) × (c.spot ≡ QueuePosition.Listed)
+      × Awaits k w.token (stance c.core)
   waits_carried j k n w two at =
       let old = h.waits j k n w two at in
       let new = (carries w.thread).listed k w.token old.0 old.1 old.3 old.4 in
       (new.0, new.1, new.2 ∙ old.2, new.3, new.4)
 
   pub woken_carried : (n : ℕ) (e : Wakeup) → slice_get s.wakes n ≡ Some e
-      → option_map_or mark_of (place_at u.lot.places e.thread) 0 ≡ option_map_or mark_of (place_at s.lot.places e.thread) 0 → IsTaken u e
+      → option_map_or mark_of (place_at u.lot.places e.thread) 0 ≡ option_map_or mark_of
+      (place_at s.lot.places e.thread) 0 → IsTaken u e
   woken_carried n e at marks =
       let old = h.woken n e at in
       let some = taken_some s.wakes n e at in
@@ -320,10 +386,14 @@ module _ (s u : State) (h : LotFits s) (carries : (v : ℕ) → Carries (call_at
 
   -- where nobody more is to be woken
   pub carried_by : length u.calls ≡ length s.calls → Sound u.lot → u.wakes ≡ s.wakes
-      → ((j k n : ℕ) (w : Waiter) → k < 2 → slice_get (u.lot.queues (2 * j + k)) n ≡ Some w → (c : Call) × (call_at u w.thread ≡ Some c) × (c.lock ≡ j) × (c.spot ≡ QueuePosition.Listed) × Awaits k w.token (stance c.core))
-      → ((v k : ℕ) (token : ParkToken) (c : Call) → call_at s v ≡ Some c → stance c.core ≡ Asleep k token → option_map_or mark_of (place_at u.lot.places v) 0 ≡ option_map_or mark_of (place_at s.lot.places v) 0)
+      → ((j k n : ℕ) (w : Waiter) → k < 2 → slice_get (u.lot.queues (2 * j + k)) n ≡ Some w → (c : Call)
+      × (call_at u w.thread ≡ Some c) × (c.lock ≡ j) × (c.spot ≡ QueuePosition.Listed)
+      × Awaits k w.token (stance c.core))
+      → ((v k : ℕ) (token : ParkToken) (c : Call) → call_at s v ≡ Some c → stance c.core ≡ Asleep k token
+      → option_map_or mark_of (place_at u.lot.places v) 0 ≡ option_map_or mark_of (place_at s.lot.places v) 0)
       → ((t : ℕ) → t < length u.calls → Seated t (call_at u t) (place_at u.lot.places t) u.lot.section)
-      → ((section : Section) → u.lot.section ≡ Some section → (t : ℕ) × (section.thread ≡ Some t) × (t < length u.calls))
+      → ((section : Section) → u.lot.section ≡ Some section → (t : ℕ) × (section.thread ≡ Some t)
+      × (t < length u.calls))
       → LotFits u
   carried_by threads sound wakes waits marks seated opened = record {
     sound = sound;
@@ -337,9 +407,11 @@ module _ (s u : State) (h : LotFits s) (carries : (v : ℕ) → Carries (call_at
         let here = ap (λ (ws : List Wakeup). slice_get ws n) (sym wakes) ∙ at in
         let old = h.woken n e here in
         woken_carried n e here (marks e.thread old.key old.token old.call old.here old.asleep);
-    once = λ n m e f at at' same. h.once n m e f (ap (λ (ws : List Wakeup). slice_get ws n) (sym wakes) ∙ at) (ap (λ (ws : List Wakeup). slice_get ws m) (sym wakes) ∙ at') same;
+    once = λ n m e f at at' same. h.once n m e f (ap (λ (ws : List Wakeup). slice_get ws n) (sym wakes) ∙ at)
+        (ap (λ (ws : List Wakeup). slice_get ws m) (sym wakes) ∙ at') same;
     counted = λ t c is. subst (Tallied (length u.calls) (length (taken_by u.wakes t))) is (now t);
-    untaken = λ t is. no_length (taken_by u.wakes t) (subst (Tallied (length u.calls) (length (taken_by u.wakes t))) is (now t));
+    untaken = λ t is. no_length (taken_by u.wakes t)
+        (subst (Tallied (length u.calls) (length (taken_by u.wakes t))) is (now t));
     wakeful = λ t. (carries t).wakeful (h.wakeful t);
   }
     where
@@ -347,13 +419,18 @@ module _ (s u : State) (h : LotFits s) (carries : (v : ℕ) → Carries (call_at
       now t =
           subst (λ (n : ℕ). Tallied n (length (taken_by u.wakes t)) (call_at u t)) (sym threads)
           (subst (λ (ws : List Wakeup). Tallied (length s.calls) (length (taken_by ws t)) (call_at u t)) (sym wakes)
-          (tallied_on (length s.calls) (length (taken_by s.wakes t)) (call_at s t) (call_at u t) (carries t) (tallied s h t)))
+          (tallied_on (length s.calls) (length (taken_by s.wakes t)) (call_at s t) (call_at u t) (carries t)
+          (tallied s h t)))
 
   -- nor the lists change
   pub carried : length u.calls ≡ length s.calls → Sound u.lot → u.wakes ≡ s.wakes → u.lot.queues ≡ s.lot.queues
-      → ((v k : ℕ) (token : ParkToken) (c : Call) → call_at s v ≡ Some c → stance c.core ≡ Asleep k token → option_map_or mark_of (place_at u.lot.places v) 0 ≡ option_map_or mark_of (place_at s.lot.places v) 0)
+      → ((v k : ℕ) (token : ParkToken) (c : Call) → call_at s v ≡ Some c → stance c.core ≡ Asleep k token
+      → option_map_or mark_of (place_at u.lot.places v) 0 ≡ option_map_or mark_of (place_at s.lot.places v) 0)
       → ((t : ℕ) → t < length u.calls → Seated t (call_at u t) (place_at u.lot.places t) u.lot.section)
-      → ((section : Section) → u.lot.section ≡ Some section → (t : ℕ) × (section.thread ≡ Some t) × (t < length u.calls))
+      → ((section : Section) → u.lot.section ≡ Some section → (t : ℕ) × (section.thread ≡ Some t)
+      × (t < length u.calls))
       → LotFits u
   carried threads sound wakes queues marks seated opened =
-      carried_by threads sound wakes (λ j k n w two at. waits_carried j k n w two (ap (λ (qs : ℕ → List Waiter). slice_get (qs (2 * j + k)) n) (sym queues) ∙ at)) marks seated opened
+      carried_by threads sound wakes
+      (λ j k n w two at. waits_carried j k n w two
+      (ap (λ (qs : ℕ → List Waiter). slice_get (qs (2 * j + k)) n) (sym queues) ∙ at)) marks seated opened

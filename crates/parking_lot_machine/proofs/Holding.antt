@@ -19,10 +19,17 @@ held t c e here = ap (λ (x : Rows). call_at (state x) t) e ∙ here
 pub low : {m n : Rows} (t : ℕ) (c : Call) → m ≡ n → call_at (state n) t ≡ Some c → t < length m.calls
 low {m} t c e here = in_range (state m) t c (held t c e here)
 
-pub word_low : {m n : Rows} (t : ℕ) (c : Call) → m ≡ n → call_at (state n) t ≡ Some c → FitsTogether (state m) → c.lock < length m.words
+pub word_low : {m n : Rows} (t : ℕ) (c : Call) → m ≡ n → call_at (state n) t ≡ Some c → FitsTogether (state m)
+    → c.lock < length m.words
 word_low {m} t c e here h = has_word (state m) h t c (held t c e here)
 
-pub cell_low : {m n : Rows} {locks : ℕ} (t : ℕ) (c : Call) → m ≡ n → call_at (state n) t ≡ Some c → FitsTogether (state m) → locks ≡ length m.kinds → t * locks + c.lock < length m.holds
+pub cell_low : {m n : Rows} {locks : ℕ} (t : ℕ) (c : Call) → m ≡ n → call_at (state n) t ≡ Some c
+    → FitsTogether (state m) → locks ≡ length m.kinds → t * locks + c.lock < length m.holds
 cell_low {m} {n} t c e here h size =
     let lock : c.lock < length m.kinds = omega (arith, word_low t c e here h, h.rules.size_words) in
-    subst (λ x. t * x + c.lock < length m.holds) (sym size) (omega (arith, cell_within (length m.calls) (length m.kinds) t c.lock (low t c e here) lock, h.rules.size_holds))
+    subst (λ x. t * x + c.lock < length m.holds) (sym size)
+    (omega (
+      arith,
+      cell_within (length m.calls) (length m.kinds) t c.lock (low t c e here) lock,
+      h.rules.size_holds,
+    ))

@@ -1,5 +1,7 @@
 -- One whose moment has passed takes itself out of its list: that keeps the machine fit, and is a step of the rules.
-use Rattle.std.proofs.Common.{◌≡◌, ℕ, zero, suc, ◌+◌, ◌*◌, ◌≤◌, ◌<◌, ◌≢◌, ◌==◌, ◌||◌, inl, inr, Bool, true, false, cond, List, [], ◌∷◌, length, remove, Some, None, is_some, slice_get, slice_set, refl, sym, ap, ◌∙◌, subst, arith, eqb-true, eq-eqb}
+use Rattle.std.proofs.Common.{◌≡◌, ℕ, zero, suc, ◌+◌, ◌*◌, ◌≤◌, ◌<◌, ◌≢◌, ◌==◌, ◌||◌, inl, inr, Bool, true, false, cond}
+use Rattle.std.proofs.Common.{List, [], ◌∷◌, length, remove, Some, None, is_some, slice_get, slice_set, refl, sym, ap}
+use Rattle.std.proofs.Common.{◌∙◌, subst, arith, eqb-true, eq-eqb}
 use Rattle.std.specs.List.{position_or_len}
 use Rattle.std.specs.Option.{option_and_then, option_map}
 use Rattle.std.proofs.lemmas.Bool.{ne_eqb}
@@ -43,7 +45,8 @@ use Rattle.parking_lot_machine.specs.RowFits.{FitsTogether, IsPrepared, LotFits,
 use Rattle.parking_lot_machine_calls.specs.CallKinds.{IsOfKind}
 use Rattle.parking_lot_machine.specs.RowSteps.{IsLateMove, IsMade, IsMoveOf}
 use Rattle.parking_lot_machine.specs.Rows.{State, call_at, inside, mutex_at, queue_at, rw_lock_at, taken_by, word_at}
-use Rattle.parking_lot_machine_calls.specs.Stances.{In, Joined, Stores, Tells, core_next, pending_from, quits_as, sign, stance}
+use Rattle.parking_lot_machine_calls.specs.Stances.{In, Joined, Stores, Tells, core_next, pending_from, quits_as, sign}
+use Rattle.parking_lot_machine_calls.specs.Stances.{stance}
 use Rattle.parking_lot_machine.proofs.KindTable.{Kind, Tardy, of_mutexes, of_rws, roles_at, same, shown}
 use Rattle.parking_lot_machine.proofs.KindTable.{Late as CallLate}
 use Rattle.parking_lot_machine.proofs.LateKinds.{IsBack, Quits, backs, quits_so, sleeper_plays}
@@ -61,7 +64,8 @@ use Rattle.parking_lot_machine.proofs.WakesKept.{wakes_own}
 
 -- LISTS AND THEIR THREADS
 
-get_thread : (q : List Waiter) (i : ℕ) (w : Waiter) → slice_get q i ≡ Some w → slice_get (threads_of q) i ≡ Some w.thread
+get_thread : (q : List Waiter) (i : ℕ) (w : Waiter) → slice_get q i ≡ Some w
+    → slice_get (threads_of q) i ≡ Some w.thread
 get_thread q i w e = slice_get-map (λ (x : Waiter). x.thread) q i ∙ ap (option_map (λ (x : Waiter). x.thread)) e
 
 remove_thread : (q : List Waiter) (i : ℕ) → threads_of (remove q i) ≡ remove (threads_of q) i
@@ -80,16 +84,24 @@ none_left (w ∷ q) e = absurd cc
 
 -- AT A LOCK OF ANY KIND
 
-module _ {C R L : Type 0} (K : Kind C R L) (s u : State) (t : ℕ) (c : Call) (told : ActResult) (q : C) (at : QueuePosition) (a : OwnAct s u t c told (K.core q) at) (kind_is : manner_of (slice_get s.kinds c.lock) ≡ Some K.manner) where
+module _ {C R L : Type 0} (K : Kind C R L) (s u : State) (t : ℕ) (c : Call) (told : ActResult) (q : C)
+    (at : QueuePosition) (a : OwnAct s u t c told (K.core q) at)
+    (kind_is : manner_of (slice_get s.kinds c.lock) ≡ Some K.manner) where
   -- an act that leaves the word, and what it leads to
-  pub lapse_made : (step : AnyStep) → word_at u c.lock ≡ word_at s c.lock → any_allowed (recursive_in s.kinds) c.lock t step (K.any (shown K s c.lock))
-      → K.any (K.lock (word_at s c.lock) (slice_set (roles_at K s c.lock) t (K.plays c.others QueuePosition.Listed (taken_by s.wakes t) q)) (queue_at u (2 * c.lock)) (queue_at u (2 * c.lock + 1))) ≡ any_after t step (K.any (shown K s c.lock)) → Crossed (any_crossing step) t (inside s) (inside u) → IsMade c.lock t step s u
+  pub lapse_made : (step : AnyStep) → word_at u c.lock ≡ word_at s c.lock → any_allowed (recursive_in s.kinds) c.lock t
+      step (K.any (shown K s c.lock))
+      → K.any (K.lock (word_at s c.lock)
+      (slice_set (roles_at K s c.lock) t (K.plays c.others QueuePosition.Listed (taken_by s.wakes t) q))
+      (queue_at u (2 * c.lock)) (queue_at u (2 * c.lock + 1))) ≡ any_after t step (K.any (shown K s c.lock))
+      → Crossed (any_crossing step) t (inside s) (inside u) → IsMade c.lock t step s u
   lapse_made step word allowed leads crossed =
-      made K s u t c.lock (own-there s u t c told _ at a) (own-elsewhere s u t c told _ at a) kind_is step allowed (ap K.any (own_after K s u t c told q at a (word_at s c.lock) word) ∙ leads) crossed
+      made K s u t c.lock (own-there s u t c told _ at a) (own-elsewhere s u t c told _ at a) kind_is step allowed
+      (ap K.any (own_after K s u t c told q at a (word_at s c.lock) word) ∙ leads) crossed
 
 -- IT TAKES ITSELF OUT
 
-module _ (s : State) (t : ℕ) (c : Call) (late : is_back c.core ≡ true) (h : FitsTogether s) (here : call_at s t ≡ Some c) where
+module _ (s : State) (t : ℕ) (c : Call) (late : is_back c.core ≡ true) (h : FitsTogether s)
+    (here : call_at s t ≡ Some c) where
   abbrev key : ℕ
   key = late_key c
 
@@ -112,13 +124,19 @@ module _ (s : State) (t : ℕ) (c : Call) (late : is_back c.core ≡ true) (h : 
   has_come : IsBack (recursive_in s.kinds c.lock) c.others c.core
   has_come = backs (recursive_in s.kinds c.lock) c.others c.core late (h.rules.prepared t c here)
 
-  stands : (o : Section) × (s.lot.section ≡ Some o) × (o.thread ≡ Some t) × (o.key ≡ 2 * c.lock + which) × (o.phase ≡ Phase.Joined) × (c.spot ≡ QueuePosition.Listed) × WaitsIn (place_at s.lot.places t) (2 * c.lock + which)
-  stands = let seat = seat_of s h.lots t c (In which (Joined has_come.park)) here has_come.stands in (seat.0, seat.1, seat.2, seat.3, seat.4, seat.5.0, seat.5.1)
+  stands : (o : Section) × (s.lot.section ≡ Some o) × (o.thread ≡ Some t) × (o.key ≡ 2 * c.lock + which)
+      × (o.phase ≡ Phase.Joined) × (c.spot ≡ QueuePosition.Listed)
+      × WaitsIn (place_at s.lot.places t) (2 * c.lock + which)
+  stands = let seat = seat_of s h.lots t c (In which (Joined has_come.park)) here has_come.stands in
+      (seat.0, seat.1, seat.2, seat.3, seat.4, seat.5.0, seat.5.1)
 
   -- where it stood
   stood : (w : Waiter) × (slice_get q i ≡ Some w) × (w.thread ≡ t)
   stood =
-      let x = first_passes (is_thread t) q (subst (λ (n : ℕ). 1 ≤ n) (sym (h.lots.sound.waits t key ∙ (ap (times_at key) stands.6.1 ∙ ap flag (eq-eqb key key refl)))) (omega arith)) in
+      let x = first_passes (is_thread t) q
+      (subst (λ (n : ℕ). 1 ≤ n)
+      (sym (h.lots.sound.waits t key ∙ (ap (times_at key) stands.6.1 ∙ ap flag (eq-eqb key key refl))))
+      (omega arith)) in
       (x.0, x.1, eqb-true x.0.thread t x.2)
 
   module _ (left : Bool) (is : others_left s t c ≡ left) (sound : lot.Sound (quitted_as s t c left).lot) where
@@ -135,7 +153,8 @@ module _ (s : State) (t : ℕ) (c : Call) (late : is_back c.core ≡ true) (h : 
     quit_queue : (l : ℕ) → quit_state.lot.queues l ≡ (out_of_list s t c).queues l
     quit_queue l = go told_now
       where
-        go : (b : Bool) → (cond b (stored (out_of_list s t c) (sign false)) (out_of_list s t c)).queues l ≡ (out_of_list s t c).queues l
+        go : (b : Bool) → (cond b (stored (out_of_list s t c) (sign false)) (out_of_list s t c)).queues l
+            ≡ (out_of_list s t c).queues l
         go true = refl
         go false = refl
 
@@ -149,7 +168,8 @@ module _ (s : State) (t : ℕ) (c : Call) (late : is_back c.core ≡ true) (h : 
       sizes = refl;
       word = sym (ap (λ a. word_after a heard (word_at s c.lock)) has_come.act);
       words = λ j ne. refl;
-      queues = λ j k ne b. quit_queue (2 * j + k) ∙ updated_other s.lot.queues key (remove q i) (2 * j + k) (ne_eqb (2 * j + k) key (λ e. ne (one_key j c.lock k which b two e).0));
+      queues = λ j k ne b. quit_queue (2 * j + k) ∙ updated_other s.lot.queues key (remove q i) (2 * j + k)
+          (ne_eqb (2 * j + k) key (λ e. ne (one_key j c.lock k which b two e).0));
       listed = λ k token e. stands.5;
     }
 
@@ -158,16 +178,20 @@ module _ (s : State) (t : ℕ) (c : Call) (late : is_back c.core ≡ true) (h : 
 
     -- the lists then
     list_then : (l : ℕ) → l ≡ key → queue_at quit_state l ≡ remove (queue_at s l) i
-    list_then l same_key = ap (λ k. threads_of (quit_state.lot.queues k)) same_key ∙ ap threads_of (quit_queue key ∙ updated_at s.lot.queues key (remove q i)) ∙ remove_thread q i ∙ ap (λ k. remove (threads_of (s.lot.queues k)) i) (sym same_key)
+    list_then l same_key = ap (λ k. threads_of (quit_state.lot.queues k)) same_key
+        ∙ ap threads_of (quit_queue key ∙ updated_at s.lot.queues key (remove q i)) ∙ remove_thread q i
+        ∙ ap (λ k. remove (threads_of (s.lot.queues k)) i) (sym same_key)
 
     list_still : (l : ℕ) → l ≢ key → queue_at quit_state l ≡ queue_at s l
     list_still l ne = ap threads_of (quit_queue l ∙ updated_other s.lot.queues key (remove q i) l (ne_eqb l key ne))
 
     stood_there : (l : ℕ) → l ≡ key → slice_get (queue_at s l) i ≡ Some t
-    stood_there l same_key = ap (λ k. slice_get (threads_of (s.lot.queues k)) i) same_key ∙ get_thread q i stood.0 stood.1 ∙ ap Some stood.2
+    stood_there l same_key = ap (λ k. slice_get (threads_of (s.lot.queues k)) i) same_key
+        ∙ get_thread q i stood.0 stood.1 ∙ ap Some stood.2
 
     as_many : (l : ℕ) → l ≡ key → length (queue_at s l) ≡ length (remove q i) + 1
-    as_many l same_key = ap (λ k. length (threads_of (s.lot.queues k))) same_key ∙ length-map q (λ (x : Waiter). x.thread) ∙ sym (length-remove q i (slice_get_within q i stood.0 stood.1))
+    as_many l same_key = ap (λ k. length (threads_of (s.lot.queues k))) same_key
+        ∙ length-map q (λ (x : Waiter). x.thread) ∙ sym (length-remove q i (slice_get_within q i stood.0 stood.1))
 
     left_by : is_left (remove q i) ≡ left
     left_by = sym (ap is_left (updated_at s.lot.queues key (remove q i))) ∙ is
@@ -176,9 +200,11 @@ module _ (s : State) (t : ℕ) (c : Call) (late : is_back c.core ≡ true) (h : 
     quit_goes = quits_so (recursive_in s.kinds c.lock) c.others c.core late left (h.rules.prepared t c here)
 
     quit_runs : (out : Machine) → out.places ≡ (out_of_list s t c).places → place_at out.places t ≡ Some Running
-    quit_runs out e = ap (λ ps. place_at ps t) e ∙ place_at-set_same s.lot.places t (Waiting (2 * c.lock + which) stands.6.0) (Some Running) stands.6.1
+    quit_runs out e = ap (λ ps. place_at ps t) e
+        ∙ place_at-set_same s.lot.places t (Waiting (2 * c.lock + which) stands.6.0) (Some Running) stands.6.1
 
-    quit_others : (out : Machine) → out.places ≡ (out_of_list s t c).places → (v : ℕ) → (v == t) ≡ false → place_at out.places v ≡ place_at s.lot.places v
+    quit_others : (out : Machine) → out.places ≡ (out_of_list s t c).places → (v : ℕ) → (v == t) ≡ false
+        → place_at out.places v ≡ place_at s.lot.places v
     quit_others out e v ne = ap (λ ps. place_at ps v) e ∙ place_at-set_other s.lot.places t v (Some Running) ne
 
     -- the lot's side, where it has something to store, and where it hasn't
@@ -191,28 +217,44 @@ module _ (s : State) (t : ℕ) (c : Call) (late : is_back c.core ≡ true) (h : 
         d : Call
         d = hears c heard
 
-        go : (b : Bool) → stance d.core ≡ In which (cond b (Tells (sign false)) Stores) → lot.Sound (cond b (stored (out_of_list s t c) (sign false)) (out_of_list s t c)) → LotFits (with_lot (with_call s t d) (cond b (stored (out_of_list s t c) (sign false)) (out_of_list s t c)))
+        go : (b : Bool) → stance d.core ≡ In which (cond b (Tells (sign false)) Stores)
+            → lot.Sound (cond b (stored (out_of_list s t c) (sign false)) (out_of_list s t c))
+            → LotFits (with_lot (with_call s t d)
+            (cond b (stored (out_of_list s t c) (sign false)) (out_of_list s t c)))
         go true to so =
             let o' : Section = record o { phase = Phase.Stored; token = sign false } in
             let out = stored (out_of_list s t c) (sign false) in
-            quit_fits s t c d which two (Tells (sign false)) has_come.park h.lots here has_come.stands to refl has_come.none quit_goes.none (λ asked. absurd (quit_goes.wakes asked)) out so refl (quit_runs out refl)
-            (quit_others out refl) o' (ap (λ x. option_map {T = Section} (λ y. record y { phase = Phase.Stored; token = sign false }) (option_map {T = Section} (λ y. record y { phase = Phase.Ended }) x)) stands.1) stands.2
+            quit_fits s t c d which two (Tells (sign false)) has_come.park h.lots here has_come.stands to refl
+            has_come.none quit_goes.none (λ asked. absurd (quit_goes.wakes asked)) out so refl (quit_runs out refl)
+            (quit_others out refl) o'
+            (ap (λ x. option_map {T = Section} (λ y. record y { phase = Phase.Stored; token = sign false })
+            (option_map {T = Section} (λ y. record y { phase = Phase.Ended }) x)) stands.1) stands.2
             (λ place runs. (o', refl, stands.2, stands.3, (refl, refl), runs))
         go false to so =
             let o' : Section = record o { phase = Phase.Ended } in
-            quit_fits s t c d which two Stores has_come.park h.lots here has_come.stands to refl has_come.none quit_goes.none (λ asked. absurd (quit_goes.wakes asked)) (out_of_list s t c) so refl (quit_runs (out_of_list s t c) refl)
-            (quit_others (out_of_list s t c) refl) o' (ap (option_map {T = Section} (λ y. record y { phase = Phase.Ended })) stands.1) stands.2 (λ place runs. (o', refl, stands.2, stands.3, refl, runs))
+            quit_fits s t c d which two Stores has_come.park h.lots here has_come.stands to refl has_come.none
+            quit_goes.none (λ asked. absurd (quit_goes.wakes asked)) (out_of_list s t c) so refl
+            (quit_runs (out_of_list s t c) refl)
+            (quit_others (out_of_list s t c) refl) o'
+            (ap (option_map {T = Section} (λ y. record y { phase = Phase.Ended })) stands.1) stands.2
+            (λ place runs. (o', refl, stands.2, stands.3, refl, runs))
 
     -- and the rules'
     quit_inside : inside quit_state ≡ inside s
     quit_inside = go told_now
       where
-        go : (b : Bool) → inside (with_lot s (cond b (stored (out_of_list s t c) (sign false)) (out_of_list s t c))) ≡ inside s
-        go true = ap (λ x. option_and_then (λ (y : Section). y.thread) (option_map {T = Section} (λ y. record y { phase = Phase.Stored; token = sign false }) (option_map {T = Section} (λ y. record y { phase = Phase.Ended }) x))) stands.1
+        go : (b : Bool) → inside (with_lot s (cond b (stored (out_of_list s t c) (sign false)) (out_of_list s t c)))
+            ≡ inside s
+        go true = ap (λ x. option_and_then (λ (y : Section). y.thread)
+            (option_map {T = Section} (λ y. record y { phase = Phase.Stored; token = sign false })
+            (option_map {T = Section} (λ y. record y { phase = Phase.Ended }) x))) stands.1
             ∙ sym (ap (option_and_then (λ (y : Section). y.thread)) stands.1)
-        go false = ap (λ x. option_and_then (λ (y : Section). y.thread) (option_map {T = Section} (λ y. record y { phase = Phase.Ended }) x)) stands.1 ∙ sym (ap (option_and_then (λ (y : Section). y.thread)) stands.1)
+        go false = ap (λ x. option_and_then (λ (y : Section). y.thread)
+            (option_map {T = Section} (λ y. record y { phase = Phase.Ended }) x)) stands.1
+            ∙ sym (ap (option_and_then (λ (y : Section). y.thread)) stands.1)
 
-    quit_mutex : (p : LatePhase) → c.core ≡ Core.Late p → late_is_back p ≡ true → IsMoveOf (Core.Late p) c.others (taken_by s.wakes t) heard c.lock t s quit_state
+    quit_mutex : (p : LatePhase) → c.core ≡ Core.Late p → late_is_back p ≡ true
+        → IsMoveOf (Core.Late p) c.others (taken_by s.wakes t) heard c.lock t s quit_state
     quit_mutex LatePhase.Quits e back = go left refl
       where
         kind_is : manner_of (slice_get s.kinds c.lock) ≡ Some AsMutex
@@ -228,29 +270,42 @@ module _ (s : State) (t : ℕ) (c : Call) (late : is_back c.core ≡ true) (h : 
         go true f = (
           i,
           subst (λ b. IsMade c.lock t (MxStep (cond b (mutex.Quit i) (mutex.QuitLast i))) s quit_state) (sym f)
-              (lapse_made of_mutexes s quit_state t c heard (CallLate LatePhase.Leaves) c.spot (subst (λ b. OwnAct s quit_state t c heard (Core.Late (cond b LatePhase.Leaves LatePhase.Masks)) c.spot) f (quit_of (Core.Late LatePhase.Quits) e)) kind_is (MxStep (mutex.Quit i)) refl
-              (mine, stood_there (2 * c.lock) first, omega (arith, as_many (2 * c.lock) first, some_left (remove q i) (left_by ∙ f)))
+              (lapse_made of_mutexes s quit_state t c heard (CallLate LatePhase.Leaves) c.spot
+              (subst (λ b. OwnAct s quit_state t c heard (Core.Late (cond b LatePhase.Leaves LatePhase.Masks))
+              c.spot) f (quit_of (Core.Late LatePhase.Quits) e)) kind_is (MxStep (mutex.Quit i)) refl (
+                mine,
+                stood_there (2 * c.lock) first,
+                omega (arith, as_many (2 * c.lock) first, some_left (remove q i) (left_by ∙ f)),
+              )
               (ap Mx (same of_mutexes _ _ _ _ _ _ [] [] refl refl (list_then (2 * c.lock) first) refl)) quit_inside),
         )
         go false f = (
           i,
           subst (λ b. IsMade c.lock t (MxStep (cond b (mutex.Quit i) (mutex.QuitLast i))) s quit_state) (sym f)
-              (lapse_made of_mutexes s quit_state t c heard (CallLate LatePhase.Masks) c.spot (subst (λ b. OwnAct s quit_state t c heard (Core.Late (cond b LatePhase.Leaves LatePhase.Masks)) c.spot) f (quit_of (Core.Late LatePhase.Quits) e)) kind_is (MxStep (mutex.QuitLast i)) refl
-              (mine, stood_there (2 * c.lock) first, omega (arith, as_many (2 * c.lock) first, none_left (remove q i) (left_by ∙ f)))
+              (lapse_made of_mutexes s quit_state t c heard (CallLate LatePhase.Masks) c.spot
+              (subst (λ b. OwnAct s quit_state t c heard (Core.Late (cond b LatePhase.Leaves LatePhase.Masks))
+              c.spot) f (quit_of (Core.Late LatePhase.Quits) e)) kind_is (MxStep (mutex.QuitLast i)) refl (
+                mine,
+                stood_there (2 * c.lock) first,
+                omega (arith, as_many (2 * c.lock) first, none_left (remove q i) (left_by ∙ f)),
+              )
               (ap Mx (same of_mutexes _ _ _ _ _ _ [] [] refl refl (list_then (2 * c.lock) first) refl)) quit_inside),
         )
     quit_mutex p e back = absurd cc
 
-    quit_rw : (p : LateRwPhase) → c.core ≡ Core.LateRw p → late_rw_is_back p ≡ true → IsMoveOf (Core.LateRw p) c.others (taken_by s.wakes t) heard c.lock t s quit_state
+    quit_rw : (p : LateRwPhase) → c.core ≡ Core.LateRw p → late_rw_is_back p ≡ true
+        → IsMoveOf (Core.LateRw p) c.others (taken_by s.wakes t) heard c.lock t s quit_state
     quit_rw (LateRwPhase.Quits k) e back =
         let us = taken_by s.wakes t in
         let l = rw_lock_at s c.lock in
         let kind_is = subst (IsOfKind (slice_get s.kinds c.lock)) e (h.rules.kinds t c here) in
         let ready = subst (IsPrepared (recursive_in s.kinds c.lock) c.others) e (h.rules.prepared t c here) in
         let role = sleeper_plays (recursive_in s.kinds c.lock) c.others us k ready.0 ready.1 in
-        let mine : slice_get l.roles t ≡ Some (listing_from (quitting_as (pending_from k) (sleeper_wants k) left i)) = (meets s h t c (Tardy (LateRwPhase.Quits k)) e here).here ∙ ap Some (role.4 left i).0 in
+        let mine : slice_get l.roles t ≡ Some (listing_from (quitting_as (pending_from k) (sleeper_wants k) left i)) =
+        (meets s h t c (Tardy (LateRwPhase.Quits k)) e here).here ∙ ap Some (role.4 left i).0 in
         let pending : is_pending c.core ≡ is_some (pending_from k) = ap is_pending e in
-        let lists = quit_lists (pending_from k) (sleeper_wants k) left i t (queue_at s (2 * c.lock)) (queue_at s (2 * c.lock + 1)) (queue_at quit_state (2 * c.lock)) (queue_at quit_state (2 * c.lock + 1))
+        let lists = quit_lists (pending_from k) (sleeper_wants k) left i t (queue_at s (2 * c.lock))
+        (queue_at s (2 * c.lock + 1)) (queue_at quit_state (2 * c.lock)) (queue_at quit_state (2 * c.lock + 1))
         (λ none.
         let first : 2 * c.lock ≡ key = omega (arith, ap bit (pending ∙ none)) in
         let other : 2 * c.lock + 1 ≢ key = λ f. omega (arith, f, ap bit (pending ∙ none)) in
@@ -264,20 +319,47 @@ module _ (s : State) (t : ℕ) (c : Call) (late : is_back c.core ≡ true) (h : 
         (λ some.
         let second : 2 * c.lock + 1 ≡ key = omega (arith, ap bit (pending ∙ some)) in
         let other : 2 * c.lock ≢ key = λ f. omega (arith, f, ap bit (pending ∙ some)) in
-        record { stood = stood_there (2 * c.lock + 1) second; out = list_then (2 * c.lock + 1) second; still = list_still (2 * c.lock) other }) in (
+        record {
+          stood = stood_there (2 * c.lock + 1) second;
+          out = list_then (2 * c.lock + 1) second;
+          still = list_still (2 * c.lock) other;
+        }) in (
           i,
-          lapse_made of_rws s quit_state t c heard (Tardy (quits_as (pending_from k) left)) c.spot (quit_of (Core.LateRw (LateRwPhase.Quits k)) e) kind_is (quitting k left i) refl (mine, lists.0)
-              (ap (λ r. Rw (record { word = l.word; roles = slice_set l.roles t r; first = queue_at quit_state (2 * c.lock); second = queue_at quit_state (2 * c.lock + 1) })) ((role.4 left i).1 of_rw.Listed)
-              ∙ ap (λ f. Rw (record { word = l.word; roles = slice_set l.roles t (listing_to (quitting_as (pending_from k) (sleeper_wants k) left i)); first = f; second = queue_at quit_state (2 * c.lock + 1) })) lists.1
-              ∙ ap (λ f. Rw (record { word = l.word; roles = slice_set l.roles t (listing_to (quitting_as (pending_from k) (sleeper_wants k) left i)); first = first_after (quitting_as (pending_from k) (sleeper_wants k) left i) t l.first; second = f })) lists.2)
+          lapse_made of_rws s quit_state t c heard (Tardy (quits_as (pending_from k) left)) c.spot
+              (quit_of (Core.LateRw (LateRwPhase.Quits k)) e) kind_is (quitting k left i) refl (mine, lists.0)
+              (ap (λ r. Rw (record {
+                word = l.word;
+                roles = slice_set l.roles t r;
+                first = queue_at quit_state (2 * c.lock);
+                second = queue_at quit_state (2 * c.lock + 1);
+              })) ((role.4 left i).1 of_rw.Listed)
+              ∙ ap (λ f. Rw (record {
+                word = l.word;
+                roles = slice_set l.roles t (listing_to (quitting_as (pending_from k) (sleeper_wants k) left i));
+                first = f;
+                second = queue_at quit_state (2 * c.lock + 1);
+              })) lists.1
+              ∙ ap (λ f. Rw (record {
+                word = l.word;
+                roles = slice_set l.roles t (listing_to (quitting_as (pending_from k) (sleeper_wants k) left i));
+                first = first_after (quitting_as (pending_from k) (sleeper_wants k) left i) t l.first;
+                second = f;
+              }))
+              lists.2)
               quit_inside,
         )
     quit_rw p e back = absurd cc
 
     quit_fitted : Fitted s quit_state t c heard c.core
-    quit_fitted = (go c.core refl late, quit_goes.prepared, quit_goes.knows quit_state.lot.queues c.lock, h.rules.bits c.lock)
+    quit_fitted = (
+      go c.core refl late,
+      quit_goes.prepared,
+      quit_goes.knows quit_state.lot.queues c.lock,
+      h.rules.bits c.lock,
+    )
       where
-        go : (x : Core) → c.core ≡ x → is_back x ≡ true → IsMoveOf x c.others (taken_by s.wakes t) heard c.lock t s quit_state
+        go : (x : Core) → c.core ≡ x → is_back x ≡ true → IsMoveOf x c.others (taken_by s.wakes t) heard c.lock t s
+            quit_state
         go (Core.Late p) e back = quit_mutex p e back
         go (Core.LateRw p) e back = quit_rw p e back
         go (Core.Mutex k) e back = absurd cc
@@ -286,8 +368,25 @@ module _ (s : State) (t : ℕ) (c : Call) (late : is_back c.core ≡ true) (h : 
 
     quits_as_told : (told : ActResult) × Acts t c told s quit_state
     quits_as_told =
-        let both = rules_own s quit_state t c heard c.spot own_quit h (λ v e ne at. out_knows e.core quit_state.lot.queues e.lock (others_out s h.lots t c here which (Joined has_come.park) has_come.stands v e ne at)) quit_fitted in
-        (heard, record { fits = record { lots = quit_lots; passes = own_passes s quit_state t c heard (core_next c.core heard) c.spot own_quit quit_lots h.passes (inr (inl (quit_inside ∙ ap (option_and_then (λ (x : Section). x.thread)) stands.1 ∙ stands.2))) (λ k o e. absurd (quit_goes.takes k e)); wakes = wakes_own s quit_state t c heard (core_next c.core heard) own_quit h.wakes; rules = both.0 }; goes = both.1 })
+        let both = rules_own s quit_state t c heard c.spot own_quit h
+        (λ v e ne at. out_knows e.core quit_state.lot.queues e.lock
+        (others_out s h.lots t c here which (Joined has_come.park) has_come.stands v e ne at)) quit_fitted in (
+          heard,
+          record {
+            fits =
+                record {
+                  lots = quit_lots;
+                  passes = own_passes s quit_state t c heard (core_next c.core heard) c.spot
+                      own_quit quit_lots h.passes
+                      (inr (inl (quit_inside ∙ ap (option_and_then (λ (x : Section). x.thread)) stands.1 ∙ stands.2)))
+                      (λ k o e. absurd (quit_goes.takes k e));
+                  wakes = wakes_own s quit_state t c heard (core_next c.core heard)
+                      own_quit h.wakes;
+                  rules = both.0;
+                };
+            goes = both.1;
+          },
+        )
 
   pub quits : lot.Sound (quitted s t c).lot → (told : ActResult) × Acts t c told s (quitted s t c)
   quits sound = quits_as_told (others_left s t c) refl sound

@@ -1,6 +1,7 @@
--- The steps of the rules by which a moment passes at a reader-writer lock, and by which one comes back and takes itself out: they leave the word, and
--- go by whether it waits in the first list or in the second.
-use Rattle.std.proofs.Common.{◌≡◌, ◌<◌, ℕ, Bool, true, false, List, length, remove, Option, Some, None, is_some, slice_get, slice_set, refl}
+-- The steps of the rules by which a moment passes at a reader-writer lock, and by which one comes back and takes itself
+-- out: they leave the word, and go by whether it waits in the first list or in the second.
+use Rattle.std.proofs.Common.{◌≡◌, ◌<◌, ℕ, Bool, true, false, List, length, remove, Option, Some, None, is_some}
+use Rattle.std.proofs.Common.{slice_get, slice_set, refl}
 use Rattle.parking_lot_rules.specs.Any.{Rw, RwStep, any_after, any_crossing}
 use Rattle.parking_lot_rules.specs.Classes.{Inside1, Inside2, total}
 use Rattle.parking_lot_rules.specs.Lock.{Lock}
@@ -14,55 +15,72 @@ use Rattle.parking_lot_machine.proofs.RwMoving.{nobody}
 
 -- ITS MOMENT PASSES
 
-pub may_expire_so : (recursive : Bool) (o : Option Bool) (m : Mode) (l : Lock) → May recursive (expires_as o m) l.word (λ c. total c l.roles)
+pub may_expire_so : (recursive : Bool) (o : Option Bool) (m : Mode) (l : Lock) → May recursive (expires_as o m) l.word
+    (λ c. total c l.roles)
 may_expire_so recursive None m l = tt
 may_expire_so recursive (Some from) m l = tt
 
-pub expire_writes : (o : Option Bool) (m : Mode) (l : Lock) (t : ℕ) → Rw (record l { roles = slice_set l.roles t (to (expires_as o m)) }) ≡ any_after t (RwStep (Alone (expires_as o m))) (Rw l)
+pub expire_writes : (o : Option Bool) (m : Mode) (l : Lock) (t : ℕ)
+    → Rw (record l { roles = slice_set l.roles t (to (expires_as o m)) }) ≡ any_after t
+    (RwStep (Alone (expires_as o m))) (Rw l)
 expire_writes None m l t = refl
 expire_writes (Some from) m l t = refl
 
-pub expire_crosses : (o : Option Bool) (m : Mode) (t : ℕ) (old : Option ℕ) → Crossed (any_crossing (RwStep (Alone (expires_as o m)))) t old old
+pub expire_crosses : (o : Option Bool) (m : Mode) (t : ℕ) (old : Option ℕ)
+    → Crossed (any_crossing (RwStep (Alone (expires_as o m)))) t old old
 expire_crosses None m t old = refl
 expire_crosses (Some from) m t old = refl
 
 -- and so where another has taken it
-pub may_expire_off : (recursive : Bool) (o : Option Bool) (m : Mode) (by : ℕ) (mark : Mark) (l : Lock) → May recursive (expires_taken_as o m by mark) l.word (λ c. total c l.roles)
+pub may_expire_off : (recursive : Bool) (o : Option Bool) (m : Mode) (by : ℕ) (mark : Mark) (l : Lock)
+    → May recursive (expires_taken_as o m by mark) l.word (λ c. total c l.roles)
 may_expire_off recursive None m by mark l = tt
 may_expire_off recursive (Some from) m by mark l = tt
 
-pub expire_off_writes : (o : Option Bool) (m : Mode) (by : ℕ) (mark : Mark) (l : Lock) (t : ℕ) → Rw (record l { roles = slice_set l.roles t (to (expires_taken_as o m by mark)) }) ≡ any_after t (RwStep (Alone (expires_taken_as o m by mark))) (Rw l)
+pub expire_off_writes : (o : Option Bool) (m : Mode) (by : ℕ) (mark : Mark) (l : Lock) (t : ℕ)
+    → Rw (record l { roles = slice_set l.roles t (to (expires_taken_as o m by mark)) }) ≡ any_after t
+    (RwStep (Alone (expires_taken_as o m by mark))) (Rw l)
 expire_off_writes None m by mark l t = refl
 expire_off_writes (Some from) m by mark l t = refl
 
-pub expire_off_crosses : (o : Option Bool) (m : Mode) (by : ℕ) (mark : Mark) (t : ℕ) (old : Option ℕ) → Crossed (any_crossing (RwStep (Alone (expires_taken_as o m by mark)))) t old old
+pub expire_off_crosses : (o : Option Bool) (m : Mode) (by : ℕ) (mark : Mark) (t : ℕ) (old : Option ℕ)
+    → Crossed (any_crossing (RwStep (Alone (expires_taken_as o m by mark)))) t old old
 expire_off_crosses None m by mark t old = refl
 expire_off_crosses (Some from) m by mark t old = refl
 
 -- IT COMES BACK
 
-pub may_reenter_so : (recursive : Bool) (o : Option Bool) (m : Mode) (l : Lock) → NobodyIs Inside1 l.roles → NobodyIs Inside2 l.roles → May recursive (reenters_as o m) l.word (λ c. total c l.roles)
+pub may_reenter_so : (recursive : Bool) (o : Option Bool) (m : Mode) (l : Lock) → NobodyIs Inside1 l.roles
+    → NobodyIs Inside2 l.roles → May recursive (reenters_as o m) l.word (λ c. total c l.roles)
 may_reenter_so recursive None m l first second = nobody Inside1 l.roles first
 may_reenter_so recursive (Some from) m l first second = nobody Inside2 l.roles second
 
-pub reenter_writes : (o : Option Bool) (m : Mode) (l : Lock) (t : ℕ) → Rw (record l { roles = slice_set l.roles t (to (reenters_as o m)) }) ≡ any_after t (RwStep (Alone (reenters_as o m))) (Rw l)
+pub reenter_writes : (o : Option Bool) (m : Mode) (l : Lock) (t : ℕ)
+    → Rw (record l { roles = slice_set l.roles t (to (reenters_as o m)) }) ≡ any_after t
+    (RwStep (Alone (reenters_as o m))) (Rw l)
 reenter_writes None m l t = refl
 reenter_writes (Some from) m l t = refl
 
-pub reenter_crosses : (o : Option Bool) (m : Mode) (t : ℕ) (old : Option ℕ) → old ≡ None → Crossed (any_crossing (RwStep (Alone (reenters_as o m)))) t old (Some t)
+pub reenter_crosses : (o : Option Bool) (m : Mode) (t : ℕ) (old : Option ℕ) → old ≡ None
+    → Crossed (any_crossing (RwStep (Alone (reenters_as o m)))) t old (Some t)
 reenter_crosses None m t old free = (free, refl)
 reenter_crosses (Some from) m t old free = (free, refl)
 
 -- and finds that it was taken
-pub may_find_so : (recursive : Bool) (o : Option Bool) (m : Mode) (by : ℕ) (mark : Mark) (l : Lock) → NobodyIs Inside1 l.roles → NobodyIs Inside2 l.roles → May recursive (finds_as o m by mark) l.word (λ c. total c l.roles)
+pub may_find_so : (recursive : Bool) (o : Option Bool) (m : Mode) (by : ℕ) (mark : Mark) (l : Lock)
+    → NobodyIs Inside1 l.roles → NobodyIs Inside2 l.roles → May recursive (finds_as o m by mark) l.word
+    (λ c. total c l.roles)
 may_find_so recursive None m by mark l first second = nobody Inside1 l.roles first
 may_find_so recursive (Some from) m by mark l first second = nobody Inside2 l.roles second
 
-pub find_writes : (o : Option Bool) (m : Mode) (by : ℕ) (mark : Mark) (l : Lock) (t : ℕ) → Rw (record l { roles = slice_set l.roles t (to (finds_as o m by mark)) }) ≡ any_after t (RwStep (Alone (finds_as o m by mark))) (Rw l)
+pub find_writes : (o : Option Bool) (m : Mode) (by : ℕ) (mark : Mark) (l : Lock) (t : ℕ)
+    → Rw (record l { roles = slice_set l.roles t (to (finds_as o m by mark)) }) ≡ any_after t
+    (RwStep (Alone (finds_as o m by mark))) (Rw l)
 find_writes None m by mark l t = refl
 find_writes (Some from) m by mark l t = refl
 
-pub find_crosses : (o : Option Bool) (m : Mode) (by : ℕ) (mark : Mark) (t : ℕ) (old : Option ℕ) → old ≡ None → Crossed (any_crossing (RwStep (Alone (finds_as o m by mark)))) t old (Some t)
+pub find_crosses : (o : Option Bool) (m : Mode) (by : ℕ) (mark : Mark) (t : ℕ) (old : Option ℕ) → old ≡ None
+    → Crossed (any_crossing (RwStep (Alone (finds_as o m by mark)))) t old (Some t)
 find_crosses None m by mark t old free = (free, refl)
 find_crosses (Some from) m by mark t old free = (free, refl)
 
@@ -81,8 +99,13 @@ pub record SecondQuits (i t : ℕ) (first second first' second' : List ℕ) : Ty
   pub out : second' ≡ remove second i
   pub still : first' ≡ first
 
-pub quit_lists : (o : Option Bool) (m : Mode) (left : Bool) (i t : ℕ) (first second first' second' : List ℕ) → (is_some o ≡ false → FirstQuits left i t first second first' second') → (is_some o ≡ true → SecondQuits i t first second first' second')
-    → MayList (quitting_as o m left i) t first second × (first' ≡ first_after (quitting_as o m left i) t first) × (second' ≡ second_after (quitting_as o m left i) t second)
-quit_lists None m true i t first second first' second' one two = let h = one refl in ((h.stood, h.more refl), h.out, h.still)
-quit_lists None m false i t first second first' second' one two = let h = one refl in ((h.stood, h.last refl), h.out, h.still)
+pub quit_lists : (o : Option Bool) (m : Mode) (left : Bool) (i t : ℕ) (first second first' second' : List ℕ)
+    → (is_some o ≡ false → FirstQuits left i t first second first' second')
+    → (is_some o ≡ true → SecondQuits i t first second first' second')
+    → MayList (quitting_as o m left i) t first second × (first' ≡ first_after (quitting_as o m left i) t first)
+    × (second' ≡ second_after (quitting_as o m left i) t second)
+quit_lists None m true i t first second first' second' one two = let h = one refl in
+    ((h.stood, h.more refl), h.out, h.still)
+quit_lists None m false i t first second first' second' one two = let h = one refl in
+    ((h.stood, h.last refl), h.out, h.still)
 quit_lists (Some from) m left i t first second first' second' one two = let h = two refl in (h.stood, h.still, h.out)

@@ -1,5 +1,6 @@
 -- The lot refuses no call that an act makes.
-use Rattle.std.proofs.Common.{◌≡◌, ◌≢◌, ◌≤◌, ℕ, ◌==◌, ◌&&◌, inl, inr, Bool, true, false, cond, Option, Some, None, is_some, List, length, slice_get, refl, ap, ◌∙◌, subst, eq-eqb}
+use Rattle.std.proofs.Common.{◌≡◌, ◌≢◌, ◌≤◌, ℕ, ◌==◌, ◌&&◌, inl, inr, Bool, true, false, cond, Option, Some, None}
+use Rattle.std.proofs.Common.{is_some, List, length, slice_get, refl, ap, ◌∙◌, subst, eq-eqb}
 use Rattle.std.specs.List.{position_or_len}
 use Rattle.std.specs.Option.{option_map, option_map_or, option_and_then}
 use Rattle.std.proofs.lemmas.Bool.{eqb-false, eqb-true}
@@ -13,8 +14,10 @@ use Rattle.parking_lot_core_model.specs.declared.place.Section.{Section}
 use Rattle.parking_lot_core_model.specs.declared.place.Sleep.{Sleep}
 use Rattle.parking_lot_core_model.specs.declared.place.ThreadStatus.TheVariants as status
 use Rattle.parking_lot_core_model.specs.declared.place.Waiter.{Waiter}
-use Rattle.parking_lot_core_model.specs.Machine.{Machine, enter_fault, step_fault, resume_fault_at, section_of, any_phase, changed_at, runs, is_of, busy, is_in, token_of}
-use Rattle.parking_lot_core_model.specs.Places.{place_at, is_due, roused, status_of, may_check, may_join, may_take, may_store}
+use Rattle.parking_lot_core_model.specs.Machine.{Machine, enter_fault, step_fault, resume_fault_at, section_of}
+use Rattle.parking_lot_core_model.specs.Machine.{any_phase, changed_at, runs, is_of, busy, is_in, token_of}
+use Rattle.parking_lot_core_model.specs.Places.{place_at, is_due, roused, status_of, may_check, may_join, may_take}
+use Rattle.parking_lot_core_model.specs.Places.{may_store}
 use Rattle.parking_lot_core_model.proofs.Numbers.{first_passes}
 use Rattle.parking_lot_core_model.proofs.Sounds.{place_at-set_same}
 use Rattle.parking_lot_protocol.specs.declared.act.Act.{Act}
@@ -23,7 +26,8 @@ use Rattle.parking_lot_protocol.specs.declared.act.ActResult.TheVariants as seen
 use Rattle.parking_lot_machine_calls.specs.declared.open_call.Call.{Call}
 use Rattle.parking_lot_machine_calls.specs.declared.seat.Wakeup.{Wakeup}
 use Rattle.parking_lot_machine.specs.Rows.{State, call_at, is_by, taken_by}
-use Rattle.parking_lot_machine_calls.specs.Stances.{Doing, Looks, TurnsBack, Joins, Joined, Takes, Stores, Tells, Stance, Out, In, stance}
+use Rattle.parking_lot_machine_calls.specs.Stances.{Doing, Looks, TurnsBack, Joins, Joined, Takes, Stores, Tells}
+use Rattle.parking_lot_machine_calls.specs.Stances.{Stance, Out, In, stance}
 use Rattle.parking_lot_machine_calls.specs.StanceLaws.{LeavesFor}
 use Rattle.parking_lot_machine_calls.specs.CallActs.{key_of}
 use Rattle.parking_lot_machine.specs.RowFits.{HasCome, LotFits}
@@ -38,8 +42,12 @@ use Rattle.parking_lot_machine.proofs.LotWakes.{due_place, other}
 -- one that runs may enter where no section is open
 may_enter : (m : Machine) (t : ℕ) → m.section ≡ None → place_at m.places t ≡ Some Running → enter_fault m t ≡ None
 may_enter m t free runs_now =
-    ap (λ (p : Option Place). cond (runs (option_map (λ place. cond (is_in m t) status.InSection (status_of (token_of m) place)) p)) (busy m) (Some WrongStatus)) runs_now
-    ∙ ap (λ (o : Option Section). cond (runs (Some (cond (option_map_or (is_of t) o false) status.InSection status.Running))) (cond (is_some o) (Some Busy) None) (Some WrongStatus)) free
+    ap (λ (p : Option Place). cond
+    (runs (option_map (λ place. cond (is_in m t) status.InSection (status_of (token_of m) place)) p)) (busy m)
+    (Some WrongStatus)) runs_now
+    ∙ ap (λ (o : Option Section). cond
+    (runs (Some (cond (option_map_or (is_of t) o false) status.InSection status.Running)))
+    (cond (is_some o) (Some Busy) None) (Some WrongStatus)) free
 
 -- a section is its thread's
 pub own_section : (m : Machine) (t : ℕ) (o : Section) → m.section ≡ Some o → o.thread ≡ Some t → section_of m t ≡ Some o
@@ -49,12 +57,15 @@ own_section m t o there whose =
     ∙ ap (λ (b : Bool). cond b (Some o) None) (eq-eqb t t refl))
 
 -- and makes the steps that it may make
-pub may_step : (m : Machine) (t : ℕ) (o : Section) (may : Phase → Bool) → m.section ≡ Some o → o.thread ≡ Some t → may o.phase ≡ true → step_fault may m t ≡ None
+pub may_step : (m : Machine) (t : ℕ) (o : Section) (may : Phase → Bool) → m.section ≡ Some o → o.thread ≡ Some t
+    → may o.phase ≡ true → step_fault may m t ≡ None
 may_step m t o may there whose fits =
-    ap (λ (x : Option Section). cond (option_map_or (λ s. may s.phase) x false) None (Some WrongStatus)) (own_section m t o there whose)
+    ap (λ (x : Option Section). cond (option_map_or (λ s. may s.phase) x false) None (Some WrongStatus))
+    (own_section m t o there whose)
     ∙ ap (λ (b : Bool). cond b None (Some WrongStatus)) fits
 
-steps_in : (s : State) (t : ℕ) (c : Call) → LotFits s → call_at s t ≡ Some c → (k : ℕ) (how : Doing) (may : Phase → Bool) → stance c.core ≡ In k how
+steps_in : (s : State) (t : ℕ) (c : Call) → LotFits s → call_at s t ≡ Some c
+    → (k : ℕ) (how : Doing) (may : Phase → Bool) → stance c.core ≡ In k how
     → ((o : Section) → HasCome how o.phase o.token → may o.phase ≡ true) → step_fault may s.lot t ≡ None
 steps_in s t c h here k how may from fits =
     let seat = seat_of s h t c (In k how) here from in
@@ -77,7 +88,8 @@ leaves s t c x = go (leads_by c.core (Act.Section section.Leave) 0 seen.Made x.2
     go (inr (inl l)) = steps_in s t c x.0 x.1 l.0 (Joined l.1) any_phase l.2 (λ o come. refl)
     go (inr (inr l)) = steps_in s t c x.0 x.1 l.0 (Tells l.1) any_phase l.2 (λ o come. refl)
 
-waiters : (s : State) (t : ℕ) (c : Call) (k nth : ℕ) (w : Waiter) → LotFits s → call_at s t ≡ Some c → stance c.core ≡ In k Takes → slice_get (s.lot.queues (key_of c k)) nth ≡ Some w → IsWaiter s t k c w
+waiters : (s : State) (t : ℕ) (c : Call) (k nth : ℕ) (w : Waiter) → LotFits s → call_at s t ≡ Some c
+    → stance c.core ≡ In k Takes → slice_get (s.lot.queues (key_of c k)) nth ≡ Some w → IsWaiter s t k c w
 waiters s t c k nth w h here from at =
     let z = sleeper s t c h here k nth w (small_key c.core k Takes from) from at in
     record {
@@ -93,17 +105,22 @@ waiters s t c k nth w h here from at =
     }
 
 -- one that is due goes on
-may_resume : (entry : Option LotFault) (token : UnparkToken) (sleep : Sleep) → sleep.late ≡ false → resume_fault_at entry (Some (Taken token sleep true)) ≡ None
+may_resume : (entry : Option LotFault) (token : UnparkToken) (sleep : Sleep) → sleep.late ≡ false
+    → resume_fault_at entry (Some (Taken token sleep true)) ≡ None
 may_resume entry token sleep late = ap (λ (b : Bool). cond b entry None) late
 
-is_due_at : (e : Wakeup) (token : UnparkToken) (sleep : Sleep) → sleep.mark ≡ e.mark → is_due e.mark (Taken token sleep false) ≡ true
+is_due_at : (e : Wakeup) (token : UnparkToken) (sleep : Sleep) → sleep.mark ≡ e.mark
+    → is_due e.mark (Taken token sleep false) ≡ true
 is_due_at e token sleep same = ap (λ (b : Bool). b && true) (eq-eqb sleep.mark e.mark same)
 
-due_of : (s : State) (t : ℕ) (e : Wakeup) (d : Call) → e.thread ≢ t → call_at s e.thread ≡ Some d → (token : UnparkToken) (sleep : Sleep) → place_at s.lot.places e.thread ≡ Some (Taken token sleep false) → sleep.late ≡ false → sleep.mark ≡ e.mark → IsDue s t e
+due_of : (s : State) (t : ℕ) (e : Wakeup) (d : Call) → e.thread ≢ t → call_at s e.thread ≡ Some d
+    → (token : UnparkToken) (sleep : Sleep) → place_at s.lot.places e.thread ≡ Some (Taken token sleep false)
+    → sleep.late ≡ false → sleep.mark ≡ e.mark → IsDue s t e
 due_of s t e d apart there token sleep place late mark =
     let ps : List (Option Place) = (changed_at roused s.lot e.thread).places in
     let now : place_at ps e.thread ≡ Some (Taken token sleep true) =
-    place_at-set_same s.lot.places e.thread (Taken token sleep false) (option_map roused (place_at s.lot.places e.thread)) place ∙ ap (option_map roused) place in
+    place_at-set_same s.lot.places e.thread (Taken token sleep false)
+    (option_map roused (place_at s.lot.places e.thread)) place ∙ ap (option_map roused) place in
     record {
       other = apart;
       call = d;
@@ -113,17 +130,21 @@ due_of s t e d apart there token sleep place late mark =
       place = place;
       due = ap (λ (p : Option Place). option_map_or (is_due e.mark) p false) place ∙ is_due_at e token sleep mark;
       woken = now;
-      goes_on = ap (resume_fault_at (busy (changed_at roused s.lot e.thread))) now ∙ may_resume (busy (changed_at roused s.lot e.thread)) token sleep late;
+      goes_on = ap (resume_fault_at (busy (changed_at roused s.lot e.thread))) now
+          ∙ may_resume (busy (changed_at roused s.lot e.thread)) token sleep late;
       runs = set_twice s.lot.places e.thread (option_map roused (place_at s.lot.places e.thread)) (Some Running);
     }
 
-wakes_as : (s : State) (t : ℕ) (c : Call) → LotFits s → call_at s t ≡ Some c → stance c.core ≡ Out → (e : Wakeup) → slice_get s.wakes (position_or_len (is_by t) s.wakes) ≡ Some e → e.by ≡ t → IsDue s t e
+wakes_as : (s : State) (t : ℕ) (c : Call) → LotFits s → call_at s t ≡ Some c → stance c.core ≡ Out → (e : Wakeup)
+    → slice_get s.wakes (position_or_len (is_by t) s.wakes) ≡ Some e → e.by ≡ t → IsDue s t e
 wakes_as s t c h here from e first by_t =
     let taken = h.woken (position_or_len (is_by t) s.wakes) e first in
     let d = due_place s t c h here e taken.call first by_t taken.here from in
-    due_of s t e taken.call (eqb-false e.thread t (other s t c h here e taken.call first by_t taken.here from)) taken.here d.0 d.1 d.2 d.3 d.4
+    due_of s t e taken.call (eqb-false e.thread t (other s t c h here e taken.call first by_t taken.here from))
+    taken.here d.0 d.1 d.2 d.3 d.4
 
-wakes : (s : State) (t : ℕ) (c : Call) → Asks s t c (Act.Section section.Wake) → 1 ≤ length (taken_by s.wakes t) → (e : Wakeup) × (slice_get s.wakes (position_or_len (is_by t) s.wakes) ≡ Some e) × (e.by ≡ t) × IsDue s t e
+wakes : (s : State) (t : ℕ) (c : Call) → Asks s t c (Act.Section section.Wake) → 1 ≤ length (taken_by s.wakes t)
+    → (e : Wakeup) × (slice_get s.wakes (position_or_len (is_by t) s.wakes) ≡ Some e) × (e.by ≡ t) × IsDue s t e
 wakes s t c x some =
     let first = first_passes (is_by t) s.wakes (subst (λ (n : ℕ). 1 ≤ n) (taken_by-count s.wakes t) some) in
     let by_t = eqb-true first.0.by t first.2 in

@@ -1,5 +1,6 @@
 -- What fits of a machine in which nobody is in a call.
-use Rattle.std.proofs.Common.{◌≡◌, ℕ, ◌+◌, ◌*◌, List, [], ◌∷◌, ◌++◌, length, take, drop, replicate, Option, Some, None, slice_get, count_by, refl, sym, ap, ◌∙◌, subst, arith, zero, suc}
+use Rattle.std.proofs.Common.{◌≡◌, ℕ, ◌+◌, ◌*◌, List, [], ◌∷◌, ◌++◌, length, take, drop, replicate, Option, Some, None}
+use Rattle.std.proofs.Common.{slice_get, count_by, refl, sym, ap, ◌∙◌, subst, arith, zero, suc}
 use Rattle.std.specs.Option.{option_and_then}
 use Rattle.parking_lot_core_model.specs.declared.place.Place.{Place}
 use Rattle.parking_lot_core_model.specs.declared.place.Place.TheVariants.{Running}
@@ -17,12 +18,14 @@ use Rattle.parking_lot_machine.specs.LotLaws.{IsNew}
 use Rattle.parking_lot_machine.proofs.LotActs.{outside_none}
 
 -- where nobody is in a call nobody is away
-nobody_away : (calls : List (Option Call)) → ((t : ℕ) → option_and_then (λ x. x) (slice_get calls t) ≡ None) → count_by is_away calls ≡ 0
+nobody_away : (calls : List (Option Call)) → ((t : ℕ) → option_and_then (λ x. x) (slice_get calls t) ≡ None)
+    → count_by is_away calls ≡ 0
 nobody_away [] none = refl
 nobody_away (c ∷ calls) none =
     let here : flag (is_away c) ≡ 0 = ap (λ (o : Option Call). flag (is_away o)) (none 0) in
     let rest : count_by is_away calls ≡ 0 = nobody_away calls (λ t. none (suc t)) in
-    let both : count_by is_away (c ∷ calls) ≡ flag (is_away c) + count_by is_away calls = count_by-cons is_away c calls in
+    let both : count_by is_away (c ∷ calls) ≡ flag (is_away c) + count_by is_away calls =
+    count_by-cons is_away c calls in
     omega arith
 
 module _ (s : State) (sound : Sound s.lot) (new : IsNew s) where
@@ -35,9 +38,11 @@ module _ (s : State) (sound : Sound s.lot) (new : IsNew s) where
   new_fits : LotFits s
   new_fits = record {
     sound = sound;
-    seated = λ t low. subst (λ (o : Option Call). Seated t o (place_at s.lot.places t) s.lot.section) (sym (new.calls t)) (new.runs t low, outside_none s.lot.section t new.free);
+    seated = λ t low. subst (λ (o : Option Call). Seated t o (place_at s.lot.places t) s.lot.section)
+        (sym (new.calls t)) (new.runs t low, outside_none s.lot.section t new.free);
     opened = λ o is. absurd (none≢some (sym new.free ∙ is));
-    waits = λ j k n w two at. absurd (none≢some (ap (λ (ws : List Waiter). slice_get ws n) (sym (new.lists (2 * j + k))) ∙ at));
+    waits = λ j k n w two at. absurd
+        (none≢some (ap (λ (ws : List Waiter). slice_get ws n) (sym (new.lists (2 * j + k))) ∙ at));
     owed = λ t c key token by said is asleep off. no_call t c is;
     woken = λ n e at. no_wakeup n e at;
     once = λ n m e f at at' same. no_wakeup n e at;
@@ -64,14 +69,17 @@ next_number (suc n) = ap (λ k. 1 + k) (next_number n) ∙ one_more n
     one_more : (k : ℕ) → 1 + k ≡ suc k
     one_more k = omega arith
 
-one_after : (n : ℕ) → let ps : List (Option Place) = replicate n (Some Running) in take n ps ++ Some Running ∷ drop (suc n) ps ≡ replicate (suc n) (Some Running)
+one_after : (n : ℕ) → let ps : List (Option Place) = replicate n (Some Running) in take n ps ++ Some Running ∷ drop
+    (suc n) ps ≡ replicate (suc n) (Some Running)
 one_after zero = refl
 one_after (suc n) = ap (λ (ps : List (Option Place)). Some Running ∷ ps) (one_after n)
 
-pub registered_threads_run : (m : Machine) (n : ℕ) → m.places ≡ replicate n (Some Running) → (registered m).places ≡ replicate (n + 1) (Some Running)
+pub registered_threads_run : (m : Machine) (n : ℕ) → m.places ≡ replicate n (Some Running)
+    → (registered m).places ≡ replicate (n + 1) (Some Running)
 registered_threads_run m n e =
     ap (λ (ps : List (Option Place)). take (free_number ps) ps ++ Some Running ∷ drop (suc (free_number ps)) ps) e
-    ∙ (ap (λ (k : ℕ). let ps : List (Option Place) = replicate n (Some Running) in take k ps ++ Some Running ∷ drop (suc k) ps) (next_number n)
+    ∙ (ap (λ (k : ℕ). let ps : List (Option Place) = replicate n (Some Running) in take k ps ++ Some Running ∷ drop
+    (suc k) ps) (next_number n)
     ∙ (one_after n ∙ ap (λ (k : ℕ). replicate k (Some Running)) (one_more n)))
   where
     one_more : (k : ℕ) → suc k ≡ k + 1

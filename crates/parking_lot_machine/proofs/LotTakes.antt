@@ -1,5 +1,6 @@
 -- Taking a waiter off its list keeps what fits of the lot.
-use Rattle.std.proofs.Common.{◌≡◌, ◌≤◌, ◌<◌, ℕ, ◌+◌, ◌*◌, ◌==◌, ◌⊎◌, inl, inr, false, List, [], ◌∷◌, length, remove, Option, Some, slice_get, slice_set, count_by, refl, sym, ap, ◌∙◌, subst, arith, eq-eqb}
+use Rattle.std.proofs.Common.{◌≡◌, ◌≤◌, ◌<◌, ℕ, ◌+◌, ◌*◌, ◌==◌, ◌⊎◌, inl, inr, false, List, [], ◌∷◌, length, remove}
+use Rattle.std.proofs.Common.{Option, Some, slice_get, slice_set, count_by, refl, sym, ap, ◌∙◌, subst, arith, eq-eqb}
 use Rattle.std.specs.Option.{option_map, option_map_or}
 use Rattle.std.proofs.lemmas.Bool.{ne_eqb, eqb-false}
 use Rattle.parking_lot_core_model.specs.declared.parking.ParkToken.{ParkToken}
@@ -23,25 +24,31 @@ use Rattle.parking_lot_machine_calls.specs.declared.seat.QueuePosition.{QueuePos
 use Rattle.parking_lot_machine_calls.specs.declared.open_call.Call.{Call}
 use Rattle.parking_lot_machine_calls.specs.declared.seat.Wakeup.{Wakeup}
 use Rattle.parking_lot_machine.specs.Rows.{State, call_at, is_by, taken_by}
-use Rattle.parking_lot_machine_calls.specs.Stances.{Doing, Looks, TurnsBack, Joins, Joined, Takes, Stores, Tells, Stance, Out, In, Asleep, stance, taken_count}
+use Rattle.parking_lot_machine_calls.specs.Stances.{Doing, Looks, TurnsBack, Joins, Joined, Takes, Stores, Tells}
+use Rattle.parking_lot_machine_calls.specs.Stances.{Stance, Out, In, Asleep, stance, taken_count}
 use Rattle.parking_lot_machine.specs.RowActs.{took}
 use Rattle.parking_lot_machine_calls.specs.CallActs.{hears, key_of, off_list}
-use Rattle.parking_lot_machine.specs.RowFits.{IsAt, IsCounted, IsInside, Stands, Seated, Awaits, IsTaken, IsOwed, WakesSome, LotFits}
+use Rattle.parking_lot_machine.specs.RowFits.{IsAt, IsCounted, IsInside, Stands, Seated, Awaits, IsTaken, IsOwed}
+use Rattle.parking_lot_machine.specs.RowFits.{WakesSome, LotFits}
 use Rattle.parking_lot_machine.proofs.Indexing.{get_push, get_front, get_remove}
 use Rattle.parking_lot_machine_calls.proofs.Stancing.{wakes_some}
-use Rattle.parking_lot_machine.proofs.Carrying.{same_call, call_within, set_elsewhere, Tallied, tallied, taken_by-count, no_length, awake_sleeps}
+use Rattle.parking_lot_machine.proofs.Carrying.{same_call, call_within, set_elsewhere, Tallied, tallied, taken_by-count}
+use Rattle.parking_lot_machine.proofs.Carrying.{no_length, awake_sleeps}
 use Rattle.parking_lot_rules.proofs.Slots.{set_there}
 use Rattle.parking_lot_machine.proofs.WakesRoom.{wakes_few}
 use Rattle.std.proofs.lemmas.List.Sums.{count_by-le-length}
-use Rattle.parking_lot_machine.proofs.LotActs.{same_section, outside_of, seat_of, awake_by, sits, seats_still, still_said}
+use Rattle.parking_lot_machine.proofs.LotActs.{same_section, outside_of, seat_of, awake_by, sits, seats_still}
+use Rattle.parking_lot_machine.proofs.LotActs.{still_said}
 
 -- who waits has joined the list, or sleeps
-awaits_how : (k : ℕ) (token : ParkToken) (a : Stance) → Awaits k token a → (a ≡ In k (Joined token)) ⊎ (a ≡ Asleep k token)
+awaits_how : (k : ℕ) (token : ParkToken) (a : Stance) → Awaits k token a → (a ≡ In k (Joined token))
+    ⊎ (a ≡ Asleep k token)
 awaits_how k token Out h = absurd h
 awaits_how k token (In j Looks) h = absurd h
 awaits_how k token (In j TurnsBack) h = absurd h
 awaits_how k token (In j (Joins t)) h = absurd h
-awaits_how k token (In j (Joined t)) h = inl (ap (λ (i : ℕ). In i (Joined t)) h.0 ∙ ap (λ (x : ParkToken). In k (Joined x)) h.1)
+awaits_how k token (In j (Joined t)) h =
+    inl (ap (λ (i : ℕ). In i (Joined t)) h.0 ∙ ap (λ (x : ParkToken). In k (Joined x)) h.1)
 awaits_how k token (In j Takes) h = absurd h
 awaits_how k token (In j Stores) h = absurd h
 awaits_how k token (In j (Tells t)) h = absurd h
@@ -59,21 +66,29 @@ pub record Sleeper (s : State) (t k : ℕ) (c : Call) (w : Waiter) : Type 0 wher
   pub place : place_at s.lot.places w.thread ≡ Some (Waiting (2 * c.lock + k) sleep)
   pub late : sleep.late ≡ false
 
-pub sleeper : (s : State) (t : ℕ) (c : Call) → LotFits s → call_at s t ≡ Some c → (k nth : ℕ) (w : Waiter) → k < 2 → stance c.core ≡ In k Takes → slice_get (s.lot.queues (key_of c k)) nth ≡ Some w → Sleeper s t k c w
+pub sleeper : (s : State) (t : ℕ) (c : Call) → LotFits s → call_at s t ≡ Some c → (k nth : ℕ) (w : Waiter) → k < 2
+    → stance c.core ≡ In k Takes → slice_get (s.lot.queues (key_of c k)) nth ≡ Some w → Sleeper s t k c w
 sleeper s t c h here k nth w two from at =
     let x = h.waits c.lock k nth w two at in
     let seat = seat_of s h t c (In k Takes) here from in
-    let other : (w.thread == t) ≡ false = ne_eqb w.thread t (λ e. subst (Awaits k w.token) (ap (λ (y : Call). stance y.core) (same_call (sym x.1 ∙ (ap (call_at s) e ∙ here))) ∙ from) x.4) in
+    let other : (w.thread == t) ≡ false =
+    ne_eqb w.thread t
+    (λ e. subst (Awaits k w.token)
+    (ap (λ (y : Call). stance y.core) (same_call (sym x.1 ∙ (ap (call_at s) e ∙ here))) ∙ from) x.4) in
     go x.0 x.1 x.2 x.3 other (awaits_how k w.token (stance x.0.core) x.4)
   where
-    go : (x : Call) → call_at s w.thread ≡ Some x → x.lock ≡ c.lock → x.spot ≡ QueuePosition.Listed → (w.thread == t) ≡ false → (stance x.core ≡ In k (Joined w.token)) ⊎ (stance x.core ≡ Asleep k w.token) → Sleeper s t k c w
+    go : (x : Call) → call_at s w.thread ≡ Some x → x.lock ≡ c.lock → x.spot ≡ QueuePosition.Listed
+        → (w.thread == t) ≡ false → (stance x.core ≡ In k (Joined w.token)) ⊎ (stance x.core ≡ Asleep k w.token)
+        → Sleeper s t k c w
     go x there lock listed other (inl e) =
         let mine = seat_of s h t c (In k Takes) here from in
         let its = seat_of s h w.thread x (In k (Joined w.token)) there e in
         absurd (outside_of s.lot.section mine.0 t w.thread other mine.1 mine.2 its.0 its.1 its.2)
     go x there lock listed other (inr e) =
         let its = seat_of s h w.thread x (Asleep k w.token) there e in
-        let place = subst (λ (a : QueuePosition). IsAt a (place_at s.lot.places w.thread) s.lot.section (2 * x.lock + k)) listed its.0 in
+        let place = subst
+        (λ (a : QueuePosition). IsAt a (place_at s.lot.places w.thread) s.lot.section (2 * x.lock + k)) listed its.0
+        in
         record {
           call = x;
           there = there;
@@ -86,7 +101,8 @@ sleeper s t c h here k nth w two from at =
           late = place.2;
         }
 
-module _ (s : State) (t : ℕ) (c : Call) (h : LotFits s) (here : call_at s t ≡ Some c) (k nth : ℕ) (w : Waiter) (two : k < 2)
+module _ (s : State) (t : ℕ) (c : Call) (h : LotFits s) (here : call_at s t ≡ Some c) (k nth : ℕ) (w : Waiter)
+    (two : k < 2)
     (from : stance c.core ≡ In k Takes) (at : slice_get (s.lot.queues (key_of c k)) nth ≡ Some w) where
   abbrev pub takes : Call
   takes = hears c (seen.Took (Some w.token) (is_left (remove (s.lot.queues (key_of c k)) nth)))
@@ -113,19 +129,23 @@ module _ (s : State) (t : ℕ) (c : Call) (h : LotFits s) (here : call_at s t �
       ∙ ap (λ (p : Option Place). slice_set s.lot.places v (option_map held p)) z.place
 
   place_taken : place_at u.lot.places v ≡ Some (Held z.sleep)
-  place_taken = ap (λ (ps : List (Option Place)). place_at ps v) took_places ∙ place_at-set_same s.lot.places v (Waiting (2 * c.lock + k) z.sleep) (Some (Held z.sleep)) z.place
+  place_taken = ap (λ (ps : List (Option Place)). place_at ps v) took_places
+      ∙ place_at-set_same s.lot.places v (Waiting (2 * c.lock + k) z.sleep) (Some (Held z.sleep)) z.place
 
   place_other : (x : ℕ) → (x == v) ≡ false → place_at u.lot.places x ≡ place_at s.lot.places x
-  place_other x e = ap (λ (ps : List (Option Place)). place_at ps x) took_places ∙ place_at-set_other s.lot.places v x (Some (Held z.sleep)) e
+  place_other x e = ap (λ (ps : List (Option Place)). place_at ps x) took_places
+      ∙ place_at-set_other s.lot.places v x (Some (Held z.sleep)) e
 
   -- the calls
   pub call_taken : call_at u v ≡ Some off
   call_taken =
       set_elsewhere (slice_set s.calls v (option_map (off_list t) (call_at s v))) t v (Some takes) z.other
-      ∙ (set_there s.calls v (option_map (off_list t) (call_at s v)) (call_within s v z.call z.there) ∙ ap (option_map (off_list t)) z.there)
+      ∙ (set_there s.calls v (option_map (off_list t) (call_at s v)) (call_within s v z.call z.there)
+      ∙ ap (option_map (off_list t)) z.there)
 
   mine_within : t < length (slice_set s.calls v (option_map (off_list t) (call_at s v)))
-  mine_within = subst (λ (n : ℕ). t < n) (sym (length-set s.calls v (option_map (off_list t) (call_at s v)))) (call_within s t c here)
+  mine_within = subst (λ (n : ℕ). t < n) (sym (length-set s.calls v (option_map (off_list t) (call_at s v))))
+      (call_within s t c here)
 
   pub call_mine : call_at u t ≡ Some takes
   call_mine = set_there (slice_set s.calls v (option_map (off_list t) (call_at s v))) t (Some takes) mine_within
@@ -136,185 +156,261 @@ module _ (s : State) (t : ℕ) (c : Call) (h : LotFits s) (here : call_at s t �
       ∙ set_elsewhere s.calls v x (option_map (off_list t) (call_at s v)) f
 
   pub took_length : length u.calls ≡ length s.calls
-  took_length = length-set (slice_set s.calls v (option_map (off_list t) (call_at s v))) t (Some takes) ∙ length-set s.calls v (option_map (off_list t) (call_at s v))
+  took_length = length-set (slice_set s.calls v (option_map (off_list t) (call_at s v))) t (Some takes)
+      ∙ length-set s.calls v (option_map (off_list t) (call_at s v))
 
   -- each keeps its lock
   lock_kept : (x : ℕ) (y : Call) → call_at s x ≡ Some y → (d : Call) × (call_at u x ≡ Some d) × (d.lock ≡ y.lock)
   lock_kept x y is = by_eqb x t ((d : Call) × (call_at u x ≡ Some d) × (d.lock ≡ y.lock))
-      (λ e. (takes, ap (call_at u) e ∙ call_mine, ap (λ (d : Call). d.lock) (same_call (sym here ∙ (ap (call_at s) (sym e) ∙ is)))))
+      (λ e. (
+        takes,
+        ap (call_at u) e ∙ call_mine,
+        ap (λ (d : Call). d.lock) (same_call (sym here ∙ (ap (call_at s) (sym e) ∙ is))),
+      ))
       (λ e. by_eqb x v ((d : Call) × (call_at u x ≡ Some d) × (d.lock ≡ y.lock))
-      (λ f. (off, ap (call_at u) f ∙ call_taken, ap (λ (d : Call). d.lock) (same_call (sym z.there ∙ (ap (call_at s) (sym f) ∙ is)))))
+      (λ f. (
+        off,
+        ap (call_at u) f ∙ call_taken,
+        ap (λ (d : Call). d.lock) (same_call (sym z.there ∙ (ap (call_at s) (sym f) ∙ is))),
+      ))
       (λ f. (y, call_other x e f ∙ is, refl)))
 
   -- of the sleepers only the one that was taken goes off its list
-  not_mine : (x j : ℕ) (token : ParkToken) (y : Call) → call_at s x ≡ Some y → stance y.core ≡ Asleep j token → (x == t) ≡ false
-  not_mine x j token y is asleep = ne_eqb x t (λ e. awake_sleeps j token (stance c.core) (awake_by (stance c.core) (In k Takes) from tt) (ap (λ (d : Call). stance d.core) (same_call (sym here ∙ (ap (call_at s) (sym e) ∙ is))) ∙ asleep))
+  not_mine : (x j : ℕ) (token : ParkToken) (y : Call) → call_at s x ≡ Some y → stance y.core ≡ Asleep j token
+      → (x == t) ≡ false
+  not_mine x j token y is asleep =
+      ne_eqb x t (λ e. awake_sleeps j token (stance c.core) (awake_by (stance c.core) (In k Takes) from tt)
+      (ap (λ (d : Call). stance d.core) (same_call (sym here ∙ (ap (call_at s) (sym e) ∙ is))) ∙ asleep))
 
-  not_taken : (x by : ℕ) (said : WakeResult) (y : Call) → call_at s x ≡ Some y → y.spot ≡ QueuePosition.Off by said → (x == v) ≡ false
-  not_taken x by said y is off = ne_eqb x v (λ e. listed≢off (sym z.listed ∙ (ap (λ (d : Call). d.spot) (same_call (sym z.there ∙ (ap (call_at s) (sym e) ∙ is))) ∙ off)))
+  not_taken : (x by : ℕ) (said : WakeResult) (y : Call) → call_at s x ≡ Some y → y.spot ≡ QueuePosition.Off by said
+      → (x == v) ≡ false
+  not_taken x by said y is off =
+      ne_eqb x v (λ e. listed≢off
+      (sym z.listed ∙ (ap (λ (d : Call). d.spot) (same_call (sym z.there ∙ (ap (call_at s) (sym e) ∙ is))) ∙ off)))
     where
       listed≢off : QueuePosition.Listed ≡ QueuePosition.Off by said → ⊥
       listed≢off e = cc
 
-  module _ (how : Doing) (to : stance takes.core ≡ In k how) (counts : taken_count takes.core ≡ taken_count c.core + 1) (sound : Sound u.lot)
-      (own : (o : Section) → o.thread ≡ Some t → o.key ≡ key_of c k → place_at s.lot.places t ≡ Some Running → Stands t c.lock (In k how) c.spot (place_at s.lot.places t) (Some (record o { phase = phase.Taking nth }))) where
-    took_seated : (x : ℕ) → x < length u.calls → Seated x (call_at u x) (place_at u.lot.places x) u.lot.section
-    took_seated x within =
-        let seat = seat_of s h t c (In k Takes) here from in
-        let o : Section = seat.0 in
-        let o' : Section = record o { phase = phase.Taking nth } in
-        let is : u.lot.section ≡ Some o' = ap (option_map {T = Section} (λ y. record y { phase = phase.Taking nth })) seat.1 in
-        by_eqb x t (Seated x (call_at u x) (place_at u.lot.places x) u.lot.section)
-        (λ e. subst (λ (y : ℕ). Seated y (call_at u y) (place_at u.lot.places y) u.lot.section) (sym e)
-        (subst (λ (d : Option Call). Seated t d (place_at u.lot.places t) u.lot.section) (sym call_mine)
-        (subst (λ (p : Option Place). Seated t (Some takes) p u.lot.section) (sym (place_other t (eqb_false_symm v t z.other)))
-        (subst (λ (y : Option Section). Seated t (Some takes) (place_at s.lot.places t) y) (sym is) (sits t takes (In k how) (place_at s.lot.places t) (Some o') to (own o seat.2 seat.3 seat.5))))))
-        (λ e. by_eqb x v (Seated x (call_at u x) (place_at u.lot.places x) u.lot.section)
-        (λ f. subst (λ (y : ℕ). Seated y (call_at u y) (place_at u.lot.places y) u.lot.section) (sym f)
-        (subst (λ (d : Option Call). Seated v d (place_at u.lot.places v) u.lot.section) (sym call_taken)
-        (sits v off (Asleep k w.token) (place_at u.lot.places v) u.lot.section z.asleep
-        ((z.sleep, z.late, inl (place_taken, o', is, seat.2, inr (refl, refl))), outside_of u.lot.section o' t v z.other is seat.2))))
-        (λ f. subst (λ (d : Option Call). Seated x d (place_at u.lot.places x) u.lot.section) (sym (call_other x e f))
-        (seats_still s t c takes h here u.lot o o' seat.1 is seat.2 seat.2 x e (place_other x f)
-        (λ j token y by said by_t at' asleep off' in_it. still_said o (phase.Taking nth) said seat.4 refl in_it)
-        (h.seated x (subst (λ (n : ℕ). x < n) took_length within)))))
+  module _ (how : Doing) (to : stance takes.core ≡ In k how) (counts : taken_count takes.core ≡ taken_count c.core + 1)
+      (sound : Sound u.lot)
+      (own : (o : Section) → o.thread ≡ Some t → o.key ≡ key_of c k → place_at s.lot.places t ≡ Some Running
+      → Stands t c.lock (In k how) c.spot (place_at s.lot.places t) (Some (record o { phase = phase.Taking nth })))
+    where
+      took_seated : (x : ℕ) → x < length u.calls → Seated x (call_at u x) (place_at u.lot.places x) u.lot.section
+      took_seated x within =
+          let seat = seat_of s h t c (In k Takes) here from in
+          let o : Section = seat.0 in
+          let o' : Section = record o { phase = phase.Taking nth } in
+          let is : u.lot.section ≡ Some o' = ap (option_map {T = Section} (λ y. record y { phase = phase.Taking nth }))
+          seat.1 in
+          by_eqb x t (Seated x (call_at u x) (place_at u.lot.places x) u.lot.section)
+          (λ e. subst (λ (y : ℕ). Seated y (call_at u y) (place_at u.lot.places y) u.lot.section) (sym e)
+          (subst (λ (d : Option Call). Seated t d (place_at u.lot.places t) u.lot.section) (sym call_mine)
+          (subst (λ (p : Option Place). Seated t (Some takes) p u.lot.section)
+          (sym (place_other t (eqb_false_symm v t z.other)))
+          (subst (λ (y : Option Section). Seated t (Some takes) (place_at s.lot.places t) y) (sym is)
+          (sits t takes (In k how) (place_at s.lot.places t) (Some o') to (own o seat.2 seat.3 seat.5))))))
+          (λ e. by_eqb x v (Seated x (call_at u x) (place_at u.lot.places x) u.lot.section)
+          (λ f. subst (λ (y : ℕ). Seated y (call_at u y) (place_at u.lot.places y) u.lot.section) (sym f)
+          (subst (λ (d : Option Call). Seated v d (place_at u.lot.places v) u.lot.section) (sym call_taken)
+          (sits v off (Asleep k w.token) (place_at u.lot.places v) u.lot.section z.asleep (
+            (z.sleep, z.late, inl (place_taken, o', is, seat.2, inr (refl, refl))),
+            outside_of u.lot.section o' t v z.other is seat.2,
+          ))))
+          (λ f. subst (λ (d : Option Call). Seated x d (place_at u.lot.places x) u.lot.section) (sym (call_other x e f))
+          (seats_still s t c takes h here u.lot o o' seat.1 is seat.2 seat.2 x e (place_other x f)
+          (λ j token y by said by_t at' asleep off' in_it. still_said o (phase.Taking nth) said seat.4 refl in_it)
+          (h.seated x (subst (λ (n : ℕ). x < n) took_length within)))))
 
-    -- the one that was taken is in no list
-    gone : (j l n : ℕ) (x : Waiter) → slice_get (u.lot.queues (2 * j + l)) n ≡ Some x → (x.thread == v) ≡ false
-    gone j l n x is = ne_eqb x.thread v (λ e.
-        let some : 1 ≤ count_by (is_thread v) (u.lot.queues (2 * j + l)) = count_by-at (is_thread v) (u.lot.queues (2 * j + l)) n x is (eq-eqb x.thread v e) in
-        let count : count_by (is_thread v) (u.lot.queues (2 * j + l)) ≡ 0 = sound.waits v (2 * j + l) ∙ ap (times_at (2 * j + l)) place_taken in
-        omega arith)
+      -- the one that was taken is in no list
+      gone : (j l n : ℕ) (x : Waiter) → slice_get (u.lot.queues (2 * j + l)) n ≡ Some x → (x.thread == v) ≡ false
+      gone j l n x is = ne_eqb x.thread v (λ e.
+          let some : 1 ≤ count_by (is_thread v) (u.lot.queues (2 * j + l)) =
+          count_by-at (is_thread v) (u.lot.queues (2 * j + l)) n x is (eq-eqb x.thread v e) in
+          let count : count_by (is_thread v) (u.lot.queues (2 * j + l)) ≡ 0 = sound.waits v (2 * j + l)
+          ∙ ap (times_at (2 * j + l)) place_taken in
+          omega arith)
 
-    was_there : (j l n : ℕ) (x : Waiter) → slice_get (u.lot.queues (2 * j + l)) n ≡ Some x → (m : ℕ) × (slice_get (s.lot.queues (2 * j + l)) m ≡ Some x)
-    was_there j l n x is =
-        let q = remove (s.lot.queues (key_of c k)) nth in
-        by_eqb (2 * j + l) (key_of c k) ((m : ℕ) × (slice_get (s.lot.queues (2 * j + l)) m ≡ Some x))
-        (λ e.
-        let r = get_remove (s.lot.queues (key_of c k)) nth n x (sym (ap (λ (qs : List Waiter). slice_get qs n) (updated_at s.lot.queues (key_of c k) q)) ∙ (ap (λ (key : ℕ). slice_get (u.lot.queues key) n) (sym e) ∙ is)) in
-        (r.0, ap (λ (key : ℕ). slice_get (s.lot.queues key) r.0) e ∙ r.1))
-        (λ e. (n, sym (ap (λ (qs : List Waiter). slice_get qs n) (updated_other s.lot.queues (key_of c k) q (2 * j + l) e)) ∙ is))
+      was_there : (j l n : ℕ) (x : Waiter) → slice_get (u.lot.queues (2 * j + l)) n ≡ Some x → (m : ℕ)
+          × (slice_get (s.lot.queues (2 * j + l)) m ≡ Some x)
+      was_there j l n x is =
+          let q = remove (s.lot.queues (key_of c k)) nth in
+          by_eqb (2 * j + l) (key_of c k) ((m : ℕ) × (slice_get (s.lot.queues (2 * j + l)) m ≡ Some x))
+          (λ e.
+          let r = get_remove (s.lot.queues (key_of c k)) nth n x
+          (sym (ap (λ (qs : List Waiter). slice_get qs n) (updated_at s.lot.queues (key_of c k) q))
+          ∙ (ap (λ (key : ℕ). slice_get (u.lot.queues key) n) (sym e) ∙ is)) in
+          (r.0, ap (λ (key : ℕ). slice_get (s.lot.queues key) r.0) e ∙ r.1))
+          (λ e. (
+            n,
+            sym (ap (λ (qs : List Waiter). slice_get qs n)
+                (updated_other s.lot.queues (key_of c k) q (2 * j + l) e)) ∙ is,
+          ))
 
-    took_waits : (j l n : ℕ) (x : Waiter) → l < 2 → slice_get (u.lot.queues (2 * j + l)) n ≡ Some x → (d : Call) × (call_at u x.thread ≡ Some d) × (d.lock ≡ j) × (d.spot ≡ QueuePosition.Listed) × Awaits l x.token (stance d.core)
-    took_waits j l n x low is =
-        let m = was_there j l n x is in
-        let old = h.waits j l m.0 x low m.1 in
-        let not_t : (x.thread == t) ≡ false = ne_eqb x.thread t (λ e. subst (Awaits l x.token) (ap (λ (y : Call). stance y.core) (same_call (sym old.1 ∙ (ap (call_at s) e ∙ here))) ∙ from) old.4) in
-        (old.0, call_other x.thread not_t (gone j l n x is) ∙ old.1, old.2, old.3, old.4)
+      took_waits : (j l n : ℕ) (x : Waiter) → l < 2 → slice_get (u.lot.queues (2 * j + l)) n ≡ Some x → (d : Call)
+          × (call_at u x.thread ≡ Some d) × (d.lock ≡ j) × (d.spot ≡ QueuePosition.Listed)
+          × Awaits l x.token (stance d.core)
+      took_waits j l n x low is =
+          let m = was_there j l n x is in
+          let old = h.waits j l m.0 x low m.1 in
+          let not_t : (x.thread == t) ≡ false =
+          ne_eqb x.thread t
+          (λ e. subst (Awaits l x.token)
+          (ap (λ (y : Call). stance y.core) (same_call (sym old.1 ∙ (ap (call_at s) e ∙ here))) ∙ from) old.4) in
+          (old.0, call_other x.thread not_t (gone j l n x is) ∙ old.1, old.2, old.3, old.4)
 
-    took_owed : (x : ℕ) (d : Call) (j : ℕ) (token : ParkToken) (by : ℕ) (said : WakeResult) → call_at u x ≡ Some d → stance d.core ≡ Asleep j token → d.spot ≡ QueuePosition.Off by said → IsOwed u.wakes by x
-    took_owed x d j token by said is asleep off' = by_eqb x t (IsOwed u.wakes by x)
-        (λ e. absurd (up_how how (stance takes.core) to (ap (λ (y : Call). stance y.core) (same_call (sym call_mine ∙ (ap (call_at u) (sym e) ∙ is))) ∙ asleep)))
-        (λ e. by_eqb x v (IsOwed u.wakes by x)
-        (λ f. (length s.wakes, entry, slice_get-seam s.wakes entry [], same_by (ap (λ (y : Call). y.spot) (same_call (sym call_taken ∙ (ap (call_at u) (sym f) ∙ is))) ∙ off'), sym f))
-        (λ f. let old = h.owed x d j token by said (sym (call_other x e f) ∙ is) asleep off' in (old.0, old.1, get_front s.wakes (entry ∷ []) old.0 old.1 old.2, old.3, old.4)))
-      where
-        same_by : QueuePosition.Off t WakeResult.Nothing ≡ QueuePosition.Off by said → t ≡ by
-        same_by e = cc
+      took_owed : (x : ℕ) (d : Call) (j : ℕ) (token : ParkToken) (by : ℕ) (said : WakeResult) → call_at u x ≡ Some d
+          → stance d.core ≡ Asleep j token → d.spot ≡ QueuePosition.Off by said → IsOwed u.wakes by x
+      took_owed x d j token by said is asleep off' = by_eqb x t (IsOwed u.wakes by x)
+          (λ e. absurd (up_how how (stance takes.core) to
+          (ap (λ (y : Call). stance y.core) (same_call (sym call_mine ∙ (ap (call_at u) (sym e) ∙ is))) ∙ asleep)))
+          (λ e. by_eqb x v (IsOwed u.wakes by x)
+          (λ f. (
+            length s.wakes,
+            entry,
+            slice_get-seam s.wakes entry [],
+            same_by (ap (λ (y : Call). y.spot) (same_call (sym call_taken ∙ (ap (call_at u) (sym f) ∙ is))) ∙ off'),
+            sym f,
+          ))
+          (λ f. let old = h.owed x d j token by said (sym (call_other x e f) ∙ is) asleep off' in
+          (old.0, old.1, get_front s.wakes (entry ∷ []) old.0 old.1 old.2, old.3, old.4)))
+        where
+          same_by : QueuePosition.Off t WakeResult.Nothing ≡ QueuePosition.Off by said → t ≡ by
+          same_by e = cc
 
-        up_how : (how : Doing) (a : Stance) → a ≡ In k how → a ≡ Asleep j token → ⊥
-        up_how how a e f = go (sym e ∙ f)
-          where
-            go : In k how ≡ Asleep j token → ⊥
-            go g = cc
+          up_how : (how : Doing) (a : Stance) → a ≡ In k how → a ≡ Asleep j token → ⊥
+          up_how how a e f = go (sym e ∙ f)
+            where
+              go : In k how ≡ Asleep j token → ⊥
+              go g = cc
 
-    took_woken : (n : ℕ) (e : Wakeup) → slice_get u.wakes n ≡ Some e → IsTaken u e
-    took_woken n e is = go (get_push s.wakes entry n e is)
-      where
-        go : (slice_get s.wakes n ≡ Some e) ⊎ ((e ≡ entry) × (n ≡ length s.wakes)) → IsTaken u e
-        go (inr x) = subst (IsTaken u) (sym x.0) (record {
-          taker = takes;
-          there = call_mine;
-          call = off;
-          here = call_taken;
-          lock = z.lock;
-          said = WakeResult.Nothing;
-          spot = refl;
-          key = k;
-          token = w.token;
-          asleep = z.asleep;
-          mark = ap (λ (p : Option Place). option_map_or mark_of p 0) place_taken ∙ sym (ap (λ (p : Option Place). option_map_or mark_of p 0) z.place);
-        })
-        go (inl x) =
-            let old = h.woken n e x in
-            let taker = lock_kept e.by old.taker old.there in
-            let f = not_taken e.thread e.by old.said old.call old.here old.spot in
-            record {
-              taker = taker.0;
-              there = taker.1;
-              call = old.call;
-              here = call_other e.thread (not_mine e.thread old.key old.token old.call old.here old.asleep) f ∙ old.here;
-              lock = old.lock ∙ sym taker.2;
-              said = old.said;
-              spot = old.spot;
-              key = old.key;
-              token = old.token;
-              asleep = old.asleep;
-              mark = ap (λ (p : Option Place). option_map_or mark_of p 0) (place_other e.thread f) ∙ old.mark;
-            }
+      took_woken : (n : ℕ) (e : Wakeup) → slice_get u.wakes n ≡ Some e → IsTaken u e
+      took_woken n e is = go (get_push s.wakes entry n e is)
+        where
+          go : (slice_get s.wakes n ≡ Some e) ⊎ ((e ≡ entry) × (n ≡ length s.wakes)) → IsTaken u e
+          go (inr x) = subst (IsTaken u) (sym x.0) (record {
+            taker = takes;
+            there = call_mine;
+            call = off;
+            here = call_taken;
+            lock = z.lock;
+            said = WakeResult.Nothing;
+            spot = refl;
+            key = k;
+            token = w.token;
+            asleep = z.asleep;
+            mark = ap (λ (p : Option Place). option_map_or mark_of p 0) place_taken
+                ∙ sym (ap (λ (p : Option Place). option_map_or mark_of p 0) z.place);
+          })
+          go (inl x) =
+              let old = h.woken n e x in
+              let taker = lock_kept e.by old.taker old.there in
+              let f = not_taken e.thread e.by old.said old.call old.here old.spot in
+              record {
+                taker = taker.0;
+                there = taker.1;
+                call = old.call;
+                here = call_other e.thread (not_mine e.thread old.key old.token old.call old.here old.asleep) f
+                    ∙ old.here;
+                lock = old.lock ∙ sym taker.2;
+                said = old.said;
+                spot = old.spot;
+                key = old.key;
+                token = old.token;
+                asleep = old.asleep;
+                mark = ap (λ (p : Option Place). option_map_or mark_of p 0) (place_other e.thread f) ∙ old.mark;
+              }
 
-    -- nobody has taken it before
-    not_yet : (n : ℕ) (e : Wakeup) → slice_get s.wakes n ≡ Some e → e.thread ≡ v → ⊥
-    not_yet n e is same = let old = h.woken n e is in eqb-false e.thread v (not_taken e.thread e.by old.said old.call old.here old.spot) same
+      -- nobody has taken it before
+      not_yet : (n : ℕ) (e : Wakeup) → slice_get s.wakes n ≡ Some e → e.thread ≡ v → ⊥
+      not_yet n e is same = let old = h.woken n e is in
+          eqb-false e.thread v (not_taken e.thread e.by old.said old.call old.here old.spot) same
 
-    took_once : (n m : ℕ) (e f : Wakeup) → slice_get u.wakes n ≡ Some e → slice_get u.wakes m ≡ Some f → e.thread ≡ f.thread → n ≡ m
-    took_once n m e f is is' same = go (get_push s.wakes entry n e is) (get_push s.wakes entry m f is')
-      where
-        go : (slice_get s.wakes n ≡ Some e) ⊎ ((e ≡ entry) × (n ≡ length s.wakes)) → (slice_get s.wakes m ≡ Some f) ⊎ ((f ≡ entry) × (m ≡ length s.wakes)) → n ≡ m
-        go (inl x) (inl y) = h.once n m e f x y same
-        go (inl x) (inr y) = absurd (not_yet n e x (same ∙ ap (λ (g : Wakeup). g.thread) y.0))
-        go (inr x) (inl y) = absurd (not_yet m f y (sym same ∙ ap (λ (g : Wakeup). g.thread) x.0))
-        go (inr x) (inr y) = x.1 ∙ sym y.1
+      took_once : (n m : ℕ) (e f : Wakeup) → slice_get u.wakes n ≡ Some e → slice_get u.wakes m ≡ Some f
+          → e.thread ≡ f.thread → n ≡ m
+      took_once n m e f is is' same = go (get_push s.wakes entry n e is) (get_push s.wakes entry m f is')
+        where
+          go : (slice_get s.wakes n ≡ Some e) ⊎ ((e ≡ entry) × (n ≡ length s.wakes)) → (slice_get s.wakes m ≡ Some f)
+              ⊎ ((f ≡ entry) × (m ≡ length s.wakes)) → n ≡ m
+          go (inl x) (inl y) = h.once n m e f x y same
+          go (inl x) (inr y) = absurd (not_yet n e x (same ∙ ap (λ (g : Wakeup). g.thread) y.0))
+          go (inr x) (inl y) = absurd (not_yet m f y (sym same ∙ ap (λ (g : Wakeup). g.thread) x.0))
+          go (inr x) (inr y) = x.1 ∙ sym y.1
 
-    took_more : (x : ℕ) → length (taken_by u.wakes x) ≡ length (taken_by s.wakes x) + flag (t == x)
-    took_more x = taken_by-count u.wakes x ∙ (count_by-push (is_by x) s.wakes entry ∙ ap (λ (n : ℕ). n + flag (t == x)) (sym (taken_by-count s.wakes x)))
+      took_more : (x : ℕ) → length (taken_by u.wakes x) ≡ length (taken_by s.wakes x) + flag (t == x)
+      took_more x = taken_by-count u.wakes x
+          ∙ (count_by-push (is_by x) s.wakes entry ∙ ap (λ (n : ℕ). n + flag (t == x)) (sym (taken_by-count s.wakes x)))
 
-    -- it counts one more
-    took_mine : IsCounted (length u.calls) (length (taken_by u.wakes t)) takes.core
-    took_mine =
-        let one : flag (t == t) ≡ 1 = ap flag (eq-eqb t t refl) in
-        let before : length (taken_by s.wakes t) ≡ taken_count c.core = (h.counted t c here).all (subst IsInside (sym from) tt) in
-        let now : length (taken_by u.wakes t) ≡ taken_count takes.core = omega (arith, took_more t, one, before, counts) in
-        let all : length u.wakes ≤ length u.calls = wakes_few (length u.calls) u.wakes (λ i e at. let x = took_woken i e at in call_within u e.thread x.call x.here) took_once in
-        let some : count_by (is_by t) u.wakes ≤ length u.wakes = count_by-le-length (is_by t) u.wakes in
-        record { most = omega (arith, now); few = omega (arith, now, all, some, taken_by-count u.wakes t); all = λ i. now }
+      -- it counts one more
+      took_mine : IsCounted (length u.calls) (length (taken_by u.wakes t)) takes.core
+      took_mine =
+          let one : flag (t == t) ≡ 1 = ap flag (eq-eqb t t refl) in
+          let before : length (taken_by s.wakes t) ≡ taken_count c.core =
+          (h.counted t c here).all (subst IsInside (sym from) tt) in
+          let now : length (taken_by u.wakes t) ≡ taken_count takes.core =
+          omega (arith, took_more t, one, before, counts)
+          in
+          let all : length u.wakes ≤ length u.calls = wakes_few (length u.calls) u.wakes
+          (λ i e at. let x = took_woken i e at in call_within u e.thread x.call x.here) took_once in
+          let some : count_by (is_by t) u.wakes ≤ length u.wakes = count_by-le-length (is_by t) u.wakes in
+          record {
+            most = omega (arith, now);
+            few = omega (arith, now, all, some, taken_by-count u.wakes t);
+            all = λ i. now;
+          }
 
-    took_same : (x : ℕ) → (x == t) ≡ false → length (taken_by u.wakes x) ≡ length (taken_by s.wakes x)
-    took_same x e = let none : flag (t == x) ≡ 0 = ap flag (eqb_false_symm x t e) in omega (arith, took_more x, none)
+      took_same : (x : ℕ) → (x == t) ≡ false → length (taken_by u.wakes x) ≡ length (taken_by s.wakes x)
+      took_same x e = let none : flag (t == x) ≡ 0 = ap flag (eqb_false_symm x t e) in omega (arith, took_more x, none)
 
-    took_tally : (x : ℕ) → Tallied (length u.calls) (length (taken_by u.wakes x)) (call_at u x)
-    took_tally x = by_eqb x t (Tallied (length u.calls) (length (taken_by u.wakes x)) (call_at u x))
-        (λ e. subst (λ (y : ℕ). Tallied (length u.calls) (length (taken_by u.wakes y)) (call_at u y)) (sym e) (subst (Tallied (length u.calls) (length (taken_by u.wakes t))) (sym call_mine) took_mine))
-        (λ e. subst (λ (n : ℕ). Tallied n (length (taken_by u.wakes x)) (call_at u x)) (sym took_length)
-        (subst (λ (n : ℕ). Tallied (length s.calls) n (call_at u x)) (sym (took_same x e))
-        (by_eqb x v (Tallied (length s.calls) (length (taken_by s.wakes x)) (call_at u x))
-        (λ f. subst (λ (y : ℕ). Tallied (length s.calls) (length (taken_by s.wakes y)) (call_at u y)) (sym f) (subst (Tallied (length s.calls) (length (taken_by s.wakes v))) (sym call_taken) (h.counted v z.call z.there)))
-        (λ f. subst (Tallied (length s.calls) (length (taken_by s.wakes x))) (sym (call_other x e f)) (tallied s h x)))))
+      took_tally : (x : ℕ) → Tallied (length u.calls) (length (taken_by u.wakes x)) (call_at u x)
+      took_tally x = by_eqb x t (Tallied (length u.calls) (length (taken_by u.wakes x)) (call_at u x))
+          (λ e. subst (λ (y : ℕ). Tallied (length u.calls) (length (taken_by u.wakes y)) (call_at u y)) (sym e)
+          (subst (Tallied (length u.calls) (length (taken_by u.wakes t))) (sym call_mine) took_mine))
+          (λ e. subst (λ (n : ℕ). Tallied n (length (taken_by u.wakes x)) (call_at u x)) (sym took_length)
+          (subst (λ (n : ℕ). Tallied (length s.calls) n (call_at u x)) (sym (took_same x e))
+          (by_eqb x v (Tallied (length s.calls) (length (taken_by s.wakes x)) (call_at u x))
+          (λ f. subst (λ (y : ℕ). Tallied (length s.calls) (length (taken_by s.wakes y)) (call_at u y)) (sym f)
+          (subst (Tallied (length s.calls) (length (taken_by s.wakes v))) (sym call_taken)
+          (h.counted v z.call z.there)))
+          (λ f. subst (Tallied (length s.calls) (length (taken_by s.wakes x))) (sym (call_other x e f))
+          (tallied s h x)))))
 
-    took_wakeful : (x : ℕ) (d : Call) → call_at u x ≡ Some d → WakesSome d.core
-    took_wakeful x d is = by_eqb x t (WakesSome d.core)
-        (λ e. subst (λ (y : Call). WakesSome y.core) (same_call (sym call_mine ∙ (ap (call_at u) (sym e) ∙ is))) (wakes_some c.core (seen.Took (Some w.token) (is_left (remove (s.lot.queues (key_of c k)) nth)))))
-        (λ e. by_eqb x v (WakesSome d.core)
-        (λ f. subst (λ (y : Call). WakesSome y.core) (same_call (sym call_taken ∙ (ap (call_at u) (sym f) ∙ is))) (h.wakeful v z.call z.there))
-        (λ f. h.wakeful x d (sym (call_other x e f) ∙ is)))
+      took_wakeful : (x : ℕ) (d : Call) → call_at u x ≡ Some d → WakesSome d.core
+      took_wakeful x d is = by_eqb x t (WakesSome d.core)
+          (λ e. subst (λ (y : Call). WakesSome y.core) (same_call (sym call_mine ∙ (ap (call_at u) (sym e) ∙ is)))
+          (wakes_some c.core (seen.Took (Some w.token) (is_left (remove (s.lot.queues (key_of c k)) nth)))))
+          (λ e. by_eqb x v (WakesSome d.core)
+          (λ f. subst (λ (y : Call). WakesSome y.core) (same_call (sym call_taken ∙ (ap (call_at u) (sym f) ∙ is)))
+          (h.wakeful v z.call z.there))
+          (λ f. h.wakeful x d (sym (call_other x e f) ∙ is)))
 
-    took_as : LotFits u
-    took_as =
-        let seat = seat_of s h t c (In k Takes) here from in
-        let is = ap (option_map {T = Section} (λ y. record y { phase = phase.Taking nth })) seat.1 in
-        record {
-          sound = sound;
-          seated = took_seated;
-          opened = λ section sec. (t, ap (λ (y : Section). y.thread) (sym (same_section (sym is ∙ sec))) ∙ seat.2, subst (λ (n : ℕ). t < n) (sym took_length) (call_within s t c here));
-          waits = took_waits;
-          owed = took_owed;
-          woken = took_woken;
-          once = took_once;
-          counted = λ x d there. subst (Tallied (length u.calls) (length (taken_by u.wakes x))) there (took_tally x);
-          untaken = λ x there. no_length (taken_by u.wakes x) (subst (Tallied (length u.calls) (length (taken_by u.wakes x))) there (took_tally x));
-          wakeful = took_wakeful;
-        }
+      took_as : LotFits u
+      took_as =
+          let seat = seat_of s h t c (In k Takes) here from in
+          let is = ap (option_map {T = Section} (λ y. record y { phase = phase.Taking nth })) seat.1 in
+          record {
+            sound = sound;
+            seated = took_seated;
+            opened = λ section sec. (
+              t,
+              ap (λ (y : Section). y.thread) (sym (same_section (sym is ∙ sec))) ∙ seat.2,
+              subst (λ (n : ℕ). t < n) (sym took_length) (call_within s t c here),
+            );
+            waits = took_waits;
+            owed = took_owed;
+            woken = took_woken;
+            once = took_once;
+            counted = λ x d there. subst (Tallied (length u.calls) (length (taken_by u.wakes x))) there (took_tally x);
+            untaken = λ x there. no_length (taken_by u.wakes x)
+                (subst (Tallied (length u.calls) (length (taken_by u.wakes x))) there (took_tally x));
+            wakeful = took_wakeful;
+          }
 
-  pub took_fits : (stance takes.core ≡ In k Takes) ⊎ (stance takes.core ≡ In k Stores) → taken_count takes.core ≡ taken_count c.core + 1 → Sound u.lot → LotFits u
-  took_fits (inl to) counts sound = took_as Takes to counts sound (λ o whose key runs. (record o { phase = phase.Taking nth }, refl, whose, key, refl, runs))
-  took_fits (inr to) counts sound = took_as Stores to counts sound (λ o whose key runs. (record o { phase = phase.Taking nth }, refl, whose, key, refl, runs))
+  pub took_fits : (stance takes.core ≡ In k Takes) ⊎ (stance takes.core ≡ In k Stores)
+      → taken_count takes.core ≡ taken_count c.core + 1 → Sound u.lot → LotFits u
+  took_fits (inl to) counts sound =
+      took_as Takes to counts sound
+      (λ o whose key runs. (record o { phase = phase.Taking nth }, refl, whose, key, refl, runs))
+  took_fits (inr to) counts sound =
+      took_as Stores to counts sound
+      (λ o whose key runs. (record o { phase = phase.Taking nth }, refl, whose, key, refl, runs))

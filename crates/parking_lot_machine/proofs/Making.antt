@@ -1,11 +1,14 @@
--- What is a step of a lock is a step of the machine's family of locks, and keeps it sound: whichever move a call of any kind makes.
-use Rattle.std.proofs.Common.{◌≡◌, ◌≢◌, ℕ, inl, inr, ◌==◌, cond, Bool, true, false, List, [], ◌∷◌, length, Option, Some, None, slice_get, sym, ap, ◌∙◌, subst}
+-- What is a step of a lock is a step of the machine's family of locks, and keeps it sound: whichever move a call of any
+-- kind makes.
+use Rattle.std.proofs.Common.{◌≡◌, ◌≢◌, ℕ, inl, inr, ◌==◌, cond, Bool, true, false, List, [], ◌∷◌, length, Option, Some}
+use Rattle.std.proofs.Common.{None, slice_get, sym, ap, ◌∙◌, subst}
 use Rattle.std.proofs.lemmas.Bool.{ne_eqb, cases_eq}
 use Rattle.parking_lot_rules.specs.Roles.{Idle, Owned, Role, Stay}
 use Rattle.parking_lot_rules.specs.Steps.{Alone, List_changes, Scan, Store, Take1, Take2, Wake}
 use Rattle.parking_lot_rules.specs.Lock.{Lock}
 use Rattle.parking_lot_rules.specs.Mutex as mutex
-use Rattle.parking_lot_rules.specs.Any.{Rw, Mx, AnyStep, RwStep, MxStep, any_rules, AnySound, any_inside, any_crossing, IsIdleAt, any_after, mutex_crossing}
+use Rattle.parking_lot_rules.specs.Any.{Rw, Mx, AnyStep, RwStep, MxStep, any_rules, AnySound, any_inside, any_crossing}
+use Rattle.parking_lot_rules.specs.Any.{IsIdleAt, any_after, mutex_crossing}
 use Rattle.parking_lot_rules.specs.Family.{Crossing, Stays, Comes, Goes, SoundFamilyOf, IsFree, entered_after}
 use Rattle.parking_lot_protocol.specs.declared.act.ActResult.{ActResult}
 use Rattle.parking_lot_protocol.specs.MutexRules as of_mutex
@@ -13,14 +16,17 @@ use Rattle.parking_lot_protocol.specs.RwRules as of_rw
 use Rattle.parking_lot_machine_calls.specs.Kinds.{AsMutex, AsRw, manner_of, Manner, recursive_in}
 use Rattle.parking_lot_machine_calls.specs.declared.calls.LockKind.{LockKind}
 use Rattle.parking_lot_machine_calls.specs.declared.seat.Core.{Core}
-use Rattle.parking_lot_machine.specs.Rows.{State, call_at, hold_at, taken_by, rw_lock_at, mutex_at, any_lock, lock_as, lock_at, inside, family, one_bucket}
+use Rattle.parking_lot_machine.specs.Rows.{State, call_at, hold_at, taken_by, rw_lock_at, mutex_at, any_lock, lock_as}
+use Rattle.parking_lot_machine.specs.Rows.{lock_at, inside, family, one_bucket}
 use Rattle.parking_lot_machine.specs.MutexLaws as mutex_laws
 use Rattle.parking_lot_machine.specs.RwLaws as rw_laws
 use Rattle.parking_lot_machine.specs.RwLaws.{IsStep}
-use Rattle.parking_lot_machine.specs.RowSteps.{IsLastOf, IsQuiet, IsMade, IsMoveOf, IsMutexMove, IsRwMove, store_step, wake_step_of}
+use Rattle.parking_lot_machine.specs.RowSteps.{IsLastOf, IsQuiet, IsMade, IsMoveOf, IsMutexMove, IsRwMove, store_step}
+use Rattle.parking_lot_machine.specs.RowSteps.{wake_step_of}
 use Rattle.parking_lot_rules.proofs.MutexCrossing.{families_stay_sound}
 use Rattle.parking_lot_rules.proofs.Everybody.{was-all}
-use Rattle.parking_lot_machine.proofs.KindTable.{Kind, of_rws, of_mutexes, IsThere, Elsewhere, elsewhere, idle_in, role_at, shown}
+use Rattle.parking_lot_machine.proofs.KindTable.{Kind, of_rws, of_mutexes, IsThere, Elsewhere, elsewhere, idle_in}
+use Rattle.parking_lot_machine.proofs.KindTable.{role_at, shown}
 use Rattle.parking_lot_machine.proofs.Moves.{goes, ends}
 use Rattle.parking_lot_machine.specs.LateActs.{unowed}
 
@@ -31,40 +37,55 @@ Crossed (Comes k) t old new = (old ≡ None) × (new ≡ Some t)
 Crossed (Goes k) t old new = new ≡ None
 
 -- a thread that is at lock j does nothing at another
-idle_any : (s : State) (t j : ℕ) → IsThere j (call_at s t) → (i : ℕ) → i ≢ j → (o : Option LockKind) → IsIdleAt (any_lock o s i) t
+idle_any : (s : State) (t j : ℕ) → IsThere j (call_at s t) → (i : ℕ) → i ≢ j → (o : Option LockKind)
+    → IsIdleAt (any_lock o s i) t
 idle_any s t j there i ne o = go (manner_of o)
   where
     idle_rw : (r : Role) → slice_get (rw_lock_at s i).roles t ≡ Some r → r.does ≡ Idle
-    idle_rw r h = ap (λ (x : Role). x.does) (was-all (role_at of_rws s i) (length s.calls) t r h ∙ idle_in of_rws i j ne (taken_by s.wakes t) (hold_at s t i) (call_at s t) there)
+    idle_rw r h = ap (λ (x : Role). x.does)
+        (was-all (role_at of_rws s i) (length s.calls) t r h ∙ idle_in of_rws i j ne (taken_by s.wakes t)
+        (hold_at s t i) (call_at s t) there)
 
     go : (o : Option Manner) → IsIdleAt (lock_as o s i) t
     go None = idle_rw
     go (Some AsRw) = idle_rw
-    go (Some AsMutex) = λ r h. ap (λ (x : mutex.Role). x.does) (was-all (role_at of_mutexes s i) (length s.calls) t r h ∙ idle_in of_mutexes i j ne (taken_by s.wakes t) (hold_at s t i) (call_at s t) there)
+    go (Some AsMutex) = λ r h. ap (λ (x : mutex.Role). x.does)
+        (was-all (role_at of_mutexes s i) (length s.calls) t r h ∙ idle_in of_mutexes i j ne (taken_by s.wakes t)
+        (hold_at s t i) (call_at s t) there)
 
-free : (c : Crossing) (t j : ℕ) (s u : State) → Crossed c t (inside s) (inside u) → IsFree one_bucket (family s).entered j c
+free : (c : Crossing) (t j : ℕ) (s u : State) → Crossed c t (inside s) (inside u)
+    → IsFree one_bucket (family s).entered j c
 free Stays t j s u h = tt
 free (Comes k) t j s u h = h.0
 free (Goes k) t j s u h = tt
 
-marks : (c : Crossing) (t j : ℕ) (s u : State) → Crossed c t (inside s) (inside u) → (b : ℕ) → (family u).entered b ≡ entered_after one_bucket (family s).entered j t c b
+marks : (c : Crossing) (t j : ℕ) (s u : State) → Crossed c t (inside s) (inside u) → (b : ℕ)
+    → (family u).entered b ≡ entered_after one_bucket (family s).entered j t c b
 marks Stays t j s u h b = ap (λ o. cond (b == 0) o None) h
 marks (Comes k) t j s u h b = elim (cases_eq b 0) [
-  | inl e ↦ ap (λ n. cond (n == 0) (inside u) None) e ∙ h.1 ∙ sym (ap (λ n. cond (n == 0) (Some t) (cond (n == 0) (inside s) None)) e)
-  | inr ne ↦ ap (λ q. cond q (inside u) None) (ne_eqb b 0 ne) ∙ sym (ap (λ q. cond q (Some t) (cond q (inside s) None)) (ne_eqb b 0 ne))
+  | inl e ↦ ap (λ n. cond (n == 0) (inside u) None) e ∙ h.1
+      ∙ sym (ap (λ n. cond (n == 0) (Some t) (cond (n == 0) (inside s) None)) e)
+  | inr ne ↦ ap (λ q. cond q (inside u) None) (ne_eqb b 0 ne)
+      ∙ sym (ap (λ q. cond q (Some t) (cond q (inside s) None)) (ne_eqb b 0 ne))
 ]
 marks (Goes k) t j s u h b = elim (cases_eq b 0) [
-  | inl e ↦ ap (λ n. cond (n == 0) (inside u) None) e ∙ h ∙ sym (ap (λ n. cond (n == 0) None (cond (n == 0) (inside s) None)) e)
-  | inr ne ↦ ap (λ q. cond q (inside u) None) (ne_eqb b 0 ne) ∙ sym (ap (λ q. cond q None (cond q (inside s) None)) (ne_eqb b 0 ne))
+  | inl e ↦ ap (λ n. cond (n == 0) (inside u) None) e ∙ h
+      ∙ sym (ap (λ n. cond (n == 0) None (cond (n == 0) (inside s) None)) e)
+  | inr ne ↦ ap (λ q. cond q (inside u) None) (ne_eqb b 0 ne)
+      ∙ sym (ap (λ q. cond q None (cond q (inside s) None)) (ne_eqb b 0 ne))
 ]
 
-module _ {C R L : Type 0} (K : Kind C R L) (s u : State) (t j : ℕ) (there : IsThere j (call_at s t)) (others : Elsewhere j s u) (k : manner_of (slice_get s.kinds j) ≡ Some K.manner) where
+module _ {C R L : Type 0} (K : Kind C R L) (s u : State) (t j : ℕ) (there : IsThere j (call_at s t))
+    (others : Elsewhere j s u) (k : manner_of (slice_get s.kinds j) ≡ Some K.manner) where
   shown_after : lock_at u j ≡ K.any (shown K u j)
   shown_after = ap (λ ks. any_lock (slice_get ks j) u j) others.kinds ∙ K.shows u j (slice_get s.kinds j) k
 
-  pub made : (step : AnyStep) → (any_rules (recursive_in s.kinds)).allowed j t step (K.any (shown K s j)) → K.any (shown K u j) ≡ any_after t step (K.any (shown K s j)) → Crossed (any_crossing step) t (inside s) (inside u) → IsMade j t step s u
+  pub made : (step : AnyStep) → (any_rules (recursive_in s.kinds)).allowed j t step (K.any (shown K s j))
+      → K.any (shown K u j) ≡ any_after t step (K.any (shown K s j)) → Crossed (any_crossing step) t (inside s)
+      (inside u) → IsMade j t step s u
   made step allowed here crossed = record {
-    allowed = subst ((any_rules (recursive_in s.kinds)).allowed j t step) (sym (K.shows s j (slice_get s.kinds j) k)) allowed;
+    allowed = subst ((any_rules (recursive_in s.kinds)).allowed j t step) (sym (K.shows s j (slice_get s.kinds j) k))
+        allowed;
     free = free (any_crossing step) t j s u crossed;
     idle = λ i ne. idle_any s t j there i ne (slice_get s.kinds i);
     here = shown_after ∙ here ∙ sym (ap (any_after t step) (K.shows s j (slice_get s.kinds j) k));
@@ -76,7 +97,8 @@ module _ {C R L : Type 0} (K : Kind C R L) (s u : State) (t j : ℕ) (there : Is
   pub quiet : shown K u j ≡ shown K s j → inside u ≡ inside s → IsQuiet s u
   quiet here same = record {
     locks = λ i. elim (cases_eq i j) [
-      | inl e ↦ subst (λ (n : ℕ). lock_at u n ≡ lock_at s n) (sym e) (shown_after ∙ ap K.any here ∙ sym (K.shows s j (slice_get s.kinds j) k))
+      | inl e ↦ subst (λ (n : ℕ). lock_at u n ≡ lock_at s n) (sym e)
+          (shown_after ∙ ap K.any here ∙ sym (K.shows s j (slice_get s.kinds j) k))
       | inr ne ↦ elsewhere j s u others i ne
     ];
     inside = same;
@@ -91,19 +113,25 @@ pub quiet_sound : (s u : State) → IsQuiet s u → IsSoundState s → IsSoundSt
 quiet_sound s u q sound = record {
   sound = λ i. subst AnySound (sym (q.locks i)) (sound.sound i);
   entered = λ i k x h. ap (λ o. o) q.inside ∙ sound.entered i k x (sym (ap (λ l. any_inside l k x) (q.locks i)) ∙ h);
-  is_inside = λ b x h. let old = sound.is_inside b x (ap (λ o. cond (b == 0) o None) (sym q.inside) ∙ h) in (old.0, old.1, old.2, ap (λ l. any_inside l old.1 x) (q.locks old.0) ∙ old.3);
+  is_inside = λ b x h. let old = sound.is_inside b x (ap (λ o. cond (b == 0) o None) (sym q.inside) ∙ h) in
+      (old.0, old.1, old.2, ap (λ l. any_inside l old.1 x) (q.locks old.0) ∙ old.3);
 }
 
 pub made_sound : (s u : State) (t j : ℕ) (step : AnyStep) → IsMade j t step s u → IsSoundState s → IsSoundState u
-made_sound s u t j step made sound = families_stay_sound (recursive_in s.kinds) one_bucket j t step (family s) (family u) sound made
+made_sound s u t j step made sound = families_stay_sound (recursive_in s.kinds) one_bucket j t step (family s)
+    (family u) sound made
 
 -- whichever move it is
-pub move_sound : (s u : State) (x : Core) (n : ℕ) (us : List ℕ) (told : ActResult) (j t : ℕ) → IsMoveOf x n us told j t s u → IsSoundState s → IsSoundState u
-move_sound s u x n us told j t h sound = goes s u (λ t j. IsSoundState u) (λ t j q. quiet_sound s u q sound) (λ t j step m. made_sound s u t j step m sound)
-    (λ t j by passing finding passes f. made_sound (unowed s t) u t j finding f.1 (made_sound s (unowed s t) by j passing f.0 sound)) x n us told j t h
+pub move_sound : (s u : State) (x : Core) (n : ℕ) (us : List ℕ) (told : ActResult) (j t : ℕ)
+    → IsMoveOf x n us told j t s u → IsSoundState s → IsSoundState u
+move_sound s u x n us told j t h sound = goes s u (λ t j. IsSoundState u) (λ t j q. quiet_sound s u q sound)
+    (λ t j step m. made_sound s u t j step m sound)
+    (λ t j by passing finding passes f. made_sound (unowed s t) u t j finding f.1
+    (made_sound s (unowed s t) by j passing f.0 sound)) x n us told j t h
 
 pub last_sound : (s u : State) (x : Core) (n j t : ℕ) → IsLastOf x n j t s u → IsSoundState s → IsSoundState u
-last_sound s u x n j t h sound = ends s u (λ t j. IsSoundState u) (λ t j q. quiet_sound s u q sound) (λ t j step m. made_sound s u t j step m sound) x n j t h
+last_sound s u x n j t h sound = ends s u (λ t j. IsSoundState u) (λ t j q. quiet_sound s u q sound)
+    (λ t j step m. made_sound s u t j step m sound) x n j t h
 
 -- THE MOVES OF A READER-WRITER LOCK
 
@@ -112,10 +140,13 @@ abbrev pub RwLeadsBy : Bool → of_rw.Move → ℕ → Lock → Lock → Type 0
 RwLeadsBy recursive of_rw.Stays t l n = n ≡ l
 RwLeadsBy recursive (of_rw.Makes k) t l n = IsStep recursive t (Alone k) l n
 RwLeadsBy recursive (of_rw.Joins k) t l n = IsStep recursive t (List_changes k) l n
-RwLeadsBy recursive (of_rw.TakesOne mode) t l n = (scan : Scan) × (i v : ℕ) × (stay : Stay) × IsStep recursive t (Take1 scan i v mode stay) l n
-RwLeadsBy recursive of_rw.TakesWriter t l n = (owns : Owned) × (v : ℕ) × (from : Bool) × (stay : Stay) × IsStep recursive t (Take2 owns v from stay) l n
+RwLeadsBy recursive (of_rw.TakesOne mode) t l n = (scan : Scan) × (i v : ℕ) × (stay : Stay)
+    × IsStep recursive t (Take1 scan i v mode stay) l n
+RwLeadsBy recursive of_rw.TakesWriter t l n = (owns : Owned) × (v : ℕ) × (from : Bool) × (stay : Stay)
+    × IsStep recursive t (Take2 owns v from stay) l n
 RwLeadsBy recursive (of_rw.Tells end left) t l n = (scan : Scan) × IsStep recursive t (Store end scan) l n
-RwLeadsBy recursive of_rw.WakesOne t l n = (owns : Owned) × (v : ℕ) × (us : List ℕ) × (k : _) × (stay : Stay) × IsStep recursive t (Wake owns v us k stay) l n
+RwLeadsBy recursive of_rw.WakesOne t l n = (owns : Owned) × (v : ℕ) × (us : List ℕ) × (k : _) × (stay : Stay)
+    × IsStep recursive t (Wake owns v us k stay) l n
 RwLeadsBy recursive (of_rw.IsWoken k) t l n = ⊥
 
 -- one that wakes has somebody to wake
@@ -123,16 +154,44 @@ abbrev pub SomeFor : of_rw.Move → List ℕ → Type 0
 SomeFor of_rw.WakesOne [] = ⊥
 SomeFor m us = Unit {0}
 
-pub rw_goes : (s u : State) (t j : ℕ) (m : of_rw.Move) (us : List ℕ) (n : Lock) → IsThere j (call_at s t) → Elsewhere j s u → manner_of (slice_get s.kinds j) ≡ Some AsRw → RwLeadsBy (recursive_in s.kinds j) m t (rw_lock_at s j) n → rw_lock_at u j ≡ n
+pub rw_goes : (s u : State) (t j : ℕ) (m : of_rw.Move) (us : List ℕ) (n : Lock) → IsThere j (call_at s t)
+    → Elsewhere j s u → manner_of (slice_get s.kinds j) ≡ Some AsRw → RwLeadsBy (recursive_in s.kinds j) m t
+    (rw_lock_at s j) n → rw_lock_at u j ≡ n
     → Crossed (rw_laws.move_crossing m) t (inside s) (inside u) → SomeFor m us → IsRwMove m us j t s u
-rw_goes s u t j of_rw.Stays us n there others k leads here crossed some = quiet of_rws s u t j there others k (here ∙ leads) crossed
-rw_goes s u t j (of_rw.Makes x) us n there others k leads here crossed some = made of_rws s u t j there others k (RwStep (Alone x)) leads.0 (ap Rw (here ∙ sym leads.1)) crossed
-rw_goes s u t j (of_rw.Joins x) us n there others k leads here crossed some = made of_rws s u t j there others k (RwStep (List_changes x)) leads.0 (ap Rw (here ∙ sym leads.1)) crossed
-rw_goes s u t j (of_rw.TakesOne mode) us n there others k (scan, i, v, stay, leads) here crossed some = (scan, i, v, stay, made of_rws s u t j there others k (RwStep (Take1 scan i v mode stay)) leads.0 (ap Rw (here ∙ sym leads.1)) crossed)
-rw_goes s u t j of_rw.TakesWriter us n there others k (owns, v, from, stay, leads) here crossed some = (owns, v, from, stay, made of_rws s u t j there others k (RwStep (Take2 owns v from stay)) leads.0 (ap Rw (here ∙ sym leads.1)) crossed)
-rw_goes s u t j (of_rw.Tells end left) us n there others k (scan, leads) here crossed some = (scan, made of_rws s u t j there others k (RwStep (Store end scan)) leads.0 (ap Rw (here ∙ sym leads.1)) crossed)
+rw_goes s u t j of_rw.Stays us n there others k leads here crossed some = quiet of_rws s u t j there others k
+    (here ∙ leads) crossed
+rw_goes s u t j (of_rw.Makes x) us n there others k leads here crossed some = made of_rws s u t j there others k
+    (RwStep (Alone x)) leads.0 (ap Rw (here ∙ sym leads.1)) crossed
+rw_goes s u t j (of_rw.Joins x) us n there others k leads here crossed some = made of_rws s u t j there others k
+    (RwStep (List_changes x)) leads.0 (ap Rw (here ∙ sym leads.1)) crossed
+rw_goes s u t j (of_rw.TakesOne mode) us n there others k (scan, i, v, stay, leads) here crossed some = (
+  scan,
+  i,
+  v,
+  stay,
+  made of_rws s u t j there others k (RwStep (Take1 scan i v mode stay)) leads.0
+      (ap Rw (here ∙ sym leads.1)) crossed,
+)
+rw_goes s u t j of_rw.TakesWriter us n there others k (owns, v, from, stay, leads) here crossed some = (
+  owns,
+  v,
+  from,
+  stay,
+  made of_rws s u t j there others k (RwStep (Take2 owns v from stay)) leads.0
+      (ap Rw (here ∙ sym leads.1)) crossed,
+)
+rw_goes s u t j (of_rw.Tells end left) us n there others k (scan, leads) here crossed some =
+    (scan, made of_rws s u t j there others k (RwStep (Store end scan)) leads.0 (ap Rw (here ∙ sym leads.1)) crossed)
 rw_goes s u t j of_rw.WakesOne [] n there others k leads here crossed some = absurd some
-rw_goes s u t j of_rw.WakesOne (first ∷ more) n there others k (owns, v, us, w, stay, leads) here crossed some = (owns, v, us, w, stay, made of_rws s u t j there others k (RwStep (Wake owns v us w stay)) leads.0 (ap Rw (here ∙ sym leads.1)) crossed)
+rw_goes s u t j of_rw.WakesOne (first ∷ more) n there others k (owns, v, us, w, stay, leads) here crossed some = (
+  owns,
+  v,
+  us,
+  w,
+  stay,
+  made of_rws s u t j there others k (RwStep (Wake owns v us w stay)) leads.0
+      (ap Rw (here ∙ sym leads.1)) crossed,
+)
 rw_goes s u t j (of_rw.IsWoken x) us n there others k leads here crossed some = absurd leads
 
 -- THE MOVES OF A MUTEX
@@ -143,23 +202,40 @@ TellsOf (of_mutex.Tells taken handed left) us v = us ≡ of_mutex.taken_of v tak
 TellsOf of_mutex.WakesOne us v = us ≡ v ∷ []
 TellsOf m us v = Unit {0}
 
-pub mutex_goes : (s u : State) (t j v : ℕ) (us : List ℕ) (n : mutex.Mutex) (m : of_mutex.Move) → IsThere j (call_at s t) → Elsewhere j s u → manner_of (slice_get s.kinds j) ≡ Some AsMutex
-    → mutex_laws.LeadsBy m v t (mutex_at s j) n → mutex_at u j ≡ n → Crossed (mutex_laws.move_crossing m) t (inside s) (inside u) → TellsOf m us v → IsMutexMove m us j t s u
-mutex_goes s u t j v us n of_mutex.Stays there others k leads here crossed tells = quiet of_mutexes s u t j there others k (here ∙ leads) crossed
-mutex_goes s u t j v us n (of_mutex.Makes x) there others k leads here crossed tells = made of_mutexes s u t j there others k (MxStep (mutex.Alone x)) leads.0 (ap Mx (here ∙ sym leads.1)) crossed
-mutex_goes s u t j v us n of_mutex.Joins there others k leads here crossed tells = made of_mutexes s u t j there others k (MxStep mutex.Join) leads.0 (ap Mx (here ∙ sym leads.1)) crossed
-mutex_goes s u t j v us n of_mutex.TakesOne there others k (stay, leads) here crossed tells = (v, stay, made of_mutexes s u t j there others k (MxStep (mutex.Take v stay)) leads.0 (ap Mx (here ∙ sym leads.1)) crossed)
+pub mutex_goes : (s u : State) (t j v : ℕ) (us : List ℕ) (n : mutex.Mutex) (m : of_mutex.Move) → IsThere j (call_at s t)
+    → Elsewhere j s u → manner_of (slice_get s.kinds j) ≡ Some AsMutex
+    → mutex_laws.LeadsBy m v t (mutex_at s j) n → mutex_at u j ≡ n → Crossed (mutex_laws.move_crossing m) t (inside s)
+    (inside u) → TellsOf m us v → IsMutexMove m us j t s u
+mutex_goes s u t j v us n of_mutex.Stays there others k leads here crossed tells = quiet of_mutexes s u t j there others
+    k (here ∙ leads) crossed
+mutex_goes s u t j v us n (of_mutex.Makes x) there others k leads here crossed tells =
+    made of_mutexes s u t j there others k (MxStep (mutex.Alone x)) leads.0 (ap Mx (here ∙ sym leads.1)) crossed
+mutex_goes s u t j v us n of_mutex.Joins there others k leads here crossed tells = made of_mutexes s u t j there others
+    k (MxStep mutex.Join) leads.0 (ap Mx (here ∙ sym leads.1)) crossed
+mutex_goes s u t j v us n of_mutex.TakesOne there others k (stay, leads) here crossed tells = (
+  v,
+  stay,
+  made of_mutexes s u t j there others k (MxStep (mutex.Take v stay)) leads.0 (ap Mx (here ∙ sym leads.1))
+      crossed,
+)
 mutex_goes s u t j v us n (of_mutex.Tells taken handed left) there others k leads here crossed tells =
     subst (λ (vs : List ℕ). IsMade j t (MxStep (store_step handed vs)) s u) (sym tells)
-    (made of_mutexes s u t j there others k (MxStep (store_step handed (of_mutex.taken_of v taken))) leads.0 (ap Mx (here ∙ sym leads.1)) (stores handed (of_mutex.taken_of v taken)))
+    (made of_mutexes s u t j there others k (MxStep (store_step handed (of_mutex.taken_of v taken))) leads.0
+    (ap Mx (here ∙ sym leads.1)) (stores handed (of_mutex.taken_of v taken)))
   where
     stores : (b : Bool) (vs : List ℕ) → Crossed (mutex_crossing (store_step b vs)) t (inside s) (inside u)
     stores true (x ∷ vs) = crossed
     stores true [] = crossed
     stores false vs = crossed
 mutex_goes s u t j v us n of_mutex.WakesOne there others k leads here crossed tells =
-    subst (λ (vs : List ℕ). IsMutexMove of_mutex.WakesOne vs j t s u) (sym tells)
-    (leads.0, v, [], leads.1, made of_mutexes s u t j there others k (MxStep (wake_step_of leads.1 leads.0 v [])) leads.2.0 (ap Mx (here ∙ sym leads.2.1)) (wakes leads.0))
+    subst (λ (vs : List ℕ). IsMutexMove of_mutex.WakesOne vs j t s u) (sym tells) (
+      leads.0,
+      v,
+      [],
+      leads.1,
+      made of_mutexes s u t j there others k (MxStep (wake_step_of leads.1 leads.0 v []))
+          leads.2.0 (ap Mx (here ∙ sym leads.2.1)) (wakes leads.0),
+    )
   where
     wakes : (b : Bool) → Crossed (mutex_crossing (wake_step_of leads.1 b v [])) t (inside s) (inside u)
     wakes true = crossed

@@ -1,21 +1,30 @@
 -- Acts of a call at a mutex lower the steps that are left of it.
-use Rattle.std.proofs.Common.{◌≡◌, ◌≢◌, ℕ, zero, suc, ◌+◌, ◌-◌, ◌*◌, ◌/◌, ◌%◌, ◌<◌, ◌≤◌, ◌==◌, nat_lt, not, Bool, true, false, cond, Some, None, refl, sym, ap, subst, arith, eq-eqb, ne_eqb, le_refl, ltb-true}
+use Rattle.std.proofs.Common.{◌≡◌, ◌≢◌, ℕ, zero, suc, ◌+◌, ◌-◌, ◌*◌, ◌/◌, ◌%◌, ◌<◌, ◌≤◌, ◌==◌, nat_lt, not, Bool, true}
+use Rattle.std.proofs.Common.{false, cond, Some, None, refl, sym, ap, subst, arith, eq-eqb, ne_eqb, le_refl, ltb-true}
 use Rattle.parking_lot_core_model.specs.declared.parking.UnparkToken.{UnparkToken}
 use Rattle.parking_lot_protocol.specs.declared.act.Act.{Act}
 use Rattle.parking_lot_protocol.specs.declared.act.SectionAct.TheVariants as section
 use Rattle.parking_lot_protocol.specs.declared.act.CoreAnswer.{CoreAnswer}
 use Rattle.parking_lot_protocol.specs.declared.act.CoreAnswer.TheVariants.{Owned, Released}
 use Rattle.parking_lot_protocol.specs.declared.act.ActResult.{ActResult}
-use Rattle.parking_lot_protocol.specs.declared.act.ActResult.TheVariants.{Word, Exchanged, Spun, Entered, Took, Stored, Made, Woken}
+use Rattle.parking_lot_protocol.specs.declared.act.ActResult.TheVariants.{Word, Exchanged, Spun, Entered, Took, Stored}
+use Rattle.parking_lot_protocol.specs.declared.act.ActResult.TheVariants.{Made, Woken}
 use Rattle.parking_lot_protocol.specs.declared.mutex_phase.MutexPhase.{MutexPhase}
-use Rattle.parking_lot_protocol.specs.declared.mutex_phase.MutexPhase.TheVariants.{Locking, Trying, Unlocking, Bumping, Loads, Locks, Spins, Parks, Enters, Checks, Retreats, Appends, Rests, Sleeps, TryLoads, TryLocks, Refuses, BumpLoads, Relocks, Unlocks, Looks, Takes, Stores, Leaves, Wakes, Finishes, Ends, Invalid}
+use Rattle.parking_lot_protocol.specs.declared.mutex_phase.MutexPhase.TheVariants.{Locking, Trying, Unlocking, Bumping}
+use Rattle.parking_lot_protocol.specs.declared.mutex_phase.MutexPhase.TheVariants.{Loads, Locks, Spins, Parks, Enters}
+use Rattle.parking_lot_protocol.specs.declared.mutex_phase.MutexPhase.TheVariants.{Checks, Retreats, Appends, Rests}
+use Rattle.parking_lot_protocol.specs.declared.mutex_phase.MutexPhase.TheVariants.{Sleeps, TryLoads, TryLocks, Refuses}
+use Rattle.parking_lot_protocol.specs.declared.mutex_phase.MutexPhase.TheVariants.{BumpLoads, Relocks, Unlocks, Looks}
+use Rattle.parking_lot_protocol.specs.declared.mutex_phase.MutexPhase.TheVariants.{Takes, Stores, Leaves, Wakes}
+use Rattle.parking_lot_protocol.specs.declared.mutex_phase.MutexPhase.TheVariants.{Finishes, Ends, Invalid}
 use Rattle.parking_lot_protocol.specs.declared.mutex_phase.Asking.{Asking}
 use Rattle.parking_lot_protocol.specs.declared.mutex_phase.Giving.{Giving}
 use Rattle.parking_lot_protocol.specs.Acts.{Gives, word_after}
 use Rattle.parking_lot_protocol.specs.MutexTable.{act_of, next_phase, seeks, tries, retries, begins}
 use Rattle.parking_lot_rules.specs.Classes.{bit}
 use Rattle.parking_lot_machine.specs.RankLaws.{Can, StopsAt, MutexStepsFall}
-use Rattle.parking_lot_machine.specs.Ranks.{View, Unseen, Sees, wake, is_at, is_open, mutex_parks, mutex_asks, mutex_ends, mutex_steps}
+use Rattle.parking_lot_machine.specs.Ranks.{View, Unseen, Sees, wake, is_at, is_open, mutex_parks, mutex_asks}
+use Rattle.parking_lot_machine.specs.Ranks.{mutex_ends, mutex_steps}
 
 -- NUMBERS
 
@@ -49,11 +58,13 @@ ends_some v g = elim g.again as (λ b. 1 ≤ cond b (2 + mutex_asks v 10) 1) [ t
 
 -- One that asks has seen the word: the exchange that it makes next isn't lost, if nobody comes between.
 module _ (first : ℕ) (shut : Bool) where
-  waits : (a : Asking) (b : Bool) → nat_lt 0 a.rounds ≡ b → mutex_steps (Sees 1 first shut) (cond b (Spins a) (Parks a)) ≤ mutex_asks (Sees 1 first shut) a.rounds
+  waits : (a : Asking) (b : Bool) → nat_lt 0 a.rounds ≡ b → mutex_steps (Sees 1 first shut) (cond b (Spins a) (Parks a))
+      ≤ mutex_asks (Sees 1 first shut) a.rounds
   waits a true e = omega (arith, ltb-true 0 a.rounds e)
   waits a false e = omega arith
 
-  seeks_by : (a : Asking) (word : ℕ) → word < 4 → mutex_steps (Sees word first shut) (seeks a word) ≤ mutex_asks (Sees word first shut) a.rounds
+  seeks_by : (a : Asking) (word : ℕ) → word < 4 → mutex_steps (Sees word first shut) (seeks a word) ≤ mutex_asks
+      (Sees word first shut) a.rounds
   seeks_by a zero few = omega (arith, parks_some (Sees 0 first shut))
   seeks_by a (suc zero) few = waits a (nat_lt 0 a.rounds) refl
   seeks_by a (suc (suc zero)) few = omega (arith, parks_some (Sees 2 first shut))
@@ -68,14 +79,19 @@ module _ (first : ℕ) (shut : Bool) where
   tries_by left (suc (suc (suc (suc n)))) few = absurd (omega (arith, few))
 
   -- the word is the one that was seen
-  seeks_seen : (a : Asking) (n word : ℕ) → word < 4 → n ≡ word → mutex_steps (Sees word first shut) (seeks a n) ≤ mutex_asks (Sees word first shut) a.rounds
-  seeks_seen a n word few e = subst (λ (k : ℕ). mutex_steps (Sees word first shut) (seeks a k) ≤ mutex_asks (Sees word first shut) a.rounds) (sym e) (seeks_by a word few)
+  seeks_seen : (a : Asking) (n word : ℕ) → word < 4 → n ≡ word → mutex_steps (Sees word first shut) (seeks a n) ≤
+      mutex_asks (Sees word first shut) a.rounds
+  seeks_seen a n word few e =
+      subst (λ (k : ℕ). mutex_steps (Sees word first shut) (seeks a k) ≤ mutex_asks (Sees word first shut) a.rounds)
+      (sym e) (seeks_by a word few)
 
   tries_seen : (left n word : ℕ) → word < 4 → n ≡ word → mutex_steps (Sees word first shut) (tries left n) ≤ 2
-  tries_seen left n word few e = subst (λ (k : ℕ). mutex_steps (Sees word first shut) (tries left k) ≤ 2) (sym e) (tries_by left word few)
+  tries_seen left n word few e = subst (λ (k : ℕ). mutex_steps (Sees word first shut) (tries left k) ≤ 2) (sym e)
+      (tries_by left word few)
 
   retries_seen : (left n word : ℕ) → word < 4 → n ≡ word → mutex_steps (Sees word first shut) (retries left n) ≤ 2
-  retries_seen left n word few e = at_most (mutex_steps (Sees word first shut)) (nat_lt 0 left) _ _ 2 (tries_seen (left - 1) n word few e) (omega arith)
+  retries_seen left n word few e = at_most (mutex_steps (Sees word first shut)) (nat_lt 0 left) _ _ 2
+      (tries_seen (left - 1) n word few e) (omega arith)
 
 -- THE SECTION IN WHICH ONE GOES TO SLEEP
 
@@ -94,44 +110,55 @@ retreats false e = omega arith
 
 -- A RELEASE
 
-bumps : (v : View) (b : Bool) → mutex_steps v (cond b (Unlocks (record { fair = true; again = true })) (Ends Owned)) + 1 ≤ wake + 8 + mutex_asks v 10
+bumps : (v : View) (b : Bool) → mutex_steps v (cond b (Unlocks (record { fair = true; again = true })) (Ends Owned)) + 1
+    ≤ wake + 8 + mutex_asks v 10
 bumps v true = omega arith
 bumps v false = omega arith
 
-unlocks : (v : View) (again : Bool) → mutex_steps v (cond again Relocks (Ends Released)) + 1 ≤ wake + 5 + cond again (2 + mutex_asks v 10) 1
+unlocks : (v : View) (again : Bool) → mutex_steps v (cond again Relocks (Ends Released)) + 1 ≤ wake + 5 + cond again
+    (2 + mutex_asks v 10) 1
 unlocks v true = omega arith
 unlocks v false = omega arith
 
-leaves : (v : View) (g : Giving) (taken : Bool) → mutex_steps v (cond taken (Wakes g) (Finishes g)) + 1 ≤ wake * bit taken + 1 + mutex_ends v g
+leaves : (v : View) (g : Giving) (taken : Bool) → mutex_steps v (cond taken (Wakes g) (Finishes g)) + 1 ≤ wake * bit
+    taken + 1 + mutex_ends v g
 leaves v g true = omega arith
 leaves v g false = omega arith
 
-finishes : (fair again : Bool) (s : ActResult) (word first after : ℕ) (shut : Bool) → let p : MutexPhase = Finishes (record { fair = fair; again = again }) in
-    Gives (act_of p) word s → mutex_steps (Sees (word_after (act_of p) s word) after shut) (next_phase p s) + 1 ≤ mutex_steps (Sees word first shut) p
+finishes : (fair again : Bool) (s : ActResult) (word first after : ℕ) (shut : Bool) → let p : MutexPhase =
+    Finishes (record { fair = fair; again = again }) in
+    Gives (act_of p) word s → mutex_steps (Sees (word_after (act_of p) s word) after shut) (next_phase p s) + 1 ≤
+    mutex_steps (Sees word first shut) p
 finishes fair true (Word n) word first after shut e = omega arith
 finishes fair again s word first after shut e = absurd e
 
 -- EACH ACT
 
-falls : (p : MutexPhase) (s : ActResult) (word first after : ℕ) (shut : Bool) → word < 4 → Gives (act_of p) word s → Can (act_of p) shut s
-    → mutex_steps (Sees (word_after (act_of p) s word) after shut) (next_phase p s) + 1 ≤ mutex_steps (Sees word first shut) p
+falls : (p : MutexPhase) (s : ActResult) (word first after : ℕ) (shut : Bool) → word < 4 → Gives (act_of p) word s
+    → Can (act_of p) shut s
+    → mutex_steps (Sees (word_after (act_of p) s word) after shut) (next_phase p s) + 1 ≤ mutex_steps
+    (Sees word first shut) p
 falls (Loads a) (Word n) word first after shut few g can = more _ _ (seeks_seen after shut a n word few g)
 falls (Locks a waiters) Exchanged word first after shut few g can = won_by _ _ _ _ (eq-eqb word _ g) (omega arith)
-falls (Locks a waiters) (Word n) word first after shut few g can = lost_by _ _ _ _ (ne_eqb word _ g.1) (more _ _ (seeks_seen after shut a n word few g.0))
+falls (Locks a waiters) (Word n) word first after shut few g can = lost_by _ _ _ _ (ne_eqb word _ g.1)
+    (more _ _ (seeks_seen after shut a n word few g.0))
 falls (Spins a) (Spun true) word first after shut few g can = omega arith
 falls (Spins a) (Spun false) word first after shut few g can = absurd (let f : Spun false ≡ Spun true = can in cc)
 falls (Parks a) Exchanged word first after shut few g can = won_by _ _ _ _ (eq-eqb word 1 g) (more _ _ (le_refl _))
-falls (Parks a) (Word n) word first after shut few g can = lost_by _ _ _ _ (ne_eqb word 1 g.1) (more _ _ (seeks_seen after shut a n word few g.0))
+falls (Parks a) (Word n) word first after shut few g can = lost_by _ _ _ _ (ne_eqb word 1 g.1)
+    (more _ _ (seeks_seen after shut a n word few g.0))
 falls (Enters woken) Entered word first after shut few g can = enters (word == 3) shut can
 falls (Checks woken) (Word n) word first after shut few g can =
-    subst (λ (k : ℕ). mutex_steps (Sees word after shut) (cond (k == 3) Appends (Retreats woken)) + 1 ≤ cond (word == 3) 3 28) (sym g) (checks (Sees word after shut) woken (word == 3))
+    subst (λ (k : ℕ). mutex_steps (Sees word after shut) (cond (k == 3) Appends (Retreats woken)) + 1 ≤ cond (word == 3)
+    3 28) (sym g) (checks (Sees word after shut) woken (word == 3))
 falls (Retreats woken) Made word first after shut few g can = retreats shut can
 falls Appends Made word first after shut few g can = omega arith
 falls Rests Made word first after shut few g can = omega arith
 falls Sleeps s word first after shut few g can = absurd can
 falls TryLoads (Word n) word first after shut few g can = omega (arith, tries_seen after shut 63 n word few g)
 falls (TryLocks waiters left) Exchanged word first after shut few g can = won_by _ _ _ _ (eq-eqb word _ g) (omega arith)
-falls (TryLocks waiters left) (Word n) word first after shut few g can = lost_by _ _ _ _ (ne_eqb word _ g.1) (more _ _ (retries_seen after shut left n word few g.0))
+falls (TryLocks waiters left) (Word n) word first after shut few g can = lost_by _ _ _ _ (ne_eqb word _ g.1)
+    (more _ _ (retries_seen after shut left n word few g.0))
 falls BumpLoads (Word n) word first after shut few g can = bumps (Sees word after shut) (n / 2 % 2 == 1)
 falls Relocks (Word n) word first after shut few g can = more _ _ (seeks_seen after shut (begins false) n word few g)
 falls (Unlocks g) Exchanged word first after shut few e can = unlocks (Sees 0 after shut) g.again
@@ -158,7 +185,8 @@ finishing : (again : Bool) → tag (cond again Act.Load (Act.Done Released)) ≢
 finishing true e = omega (arith, e)
 finishing false e = omega (arith, e)
 
-wakes : (p : MutexPhase) (v : View) → act_of p ≡ Act.Section section.Wake → mutex_steps v (next_phase p Made) + wake ≤ mutex_steps v p
+wakes : (p : MutexPhase) (v : View) → act_of p ≡ Act.Section section.Wake → mutex_steps v (next_phase p Made) + wake ≤
+    mutex_steps v p
 wakes (Wakes g) v e = omega arith
 wakes (Finishes g) v e = absurd (finishing g.again (ap tag e))
 wakes p v e = absurd (omega (arith, ap tag e))
@@ -167,12 +195,14 @@ wakes_up : (b : Bool) → mutex_steps Unseen (cond b (Ends Owned) (Loads (begins
 wakes_up true = omega arith
 wakes_up false = omega arith
 
-finishes_woken : (again : Bool) (fair : Bool) (token : UnparkToken) → let p : MutexPhase = Finishes (record { fair = fair; again = again }) in
+finishes_woken : (again : Bool) (fair : Bool) (token : UnparkToken) → let p : MutexPhase =
+    Finishes (record { fair = fair; again = again }) in
     mutex_steps Unseen (next_phase p (Woken token)) + 1 ≤ mutex_steps Unseen p + wake
 finishes_woken true fair token = omega arith
 finishes_woken false fair token = omega arith
 
-woken : (p : MutexPhase) (token : UnparkToken) → mutex_steps Unseen (next_phase p (Woken token)) + 1 ≤ mutex_steps Unseen p + wake
+woken : (p : MutexPhase) (token : UnparkToken) → mutex_steps Unseen (next_phase p (Woken token)) + 1 ≤ mutex_steps
+    Unseen p + wake
 woken Sleeps token = wakes_up (token.0 == 1)
 woken (Finishes g) token = finishes_woken g.again g.fair token
 woken p token = omega arith
@@ -189,7 +219,8 @@ asks_few v rounds = omega (arith, parks_few v)
 few : (p : MutexPhase) (v : View) → mutex_steps v p ≤ mutex_steps Unseen p
 few p Unseen = le_refl _
 few (Loads a) v = omega (arith, asks_few v a.rounds)
-few (Locks a waiters) v = at_most (λ n. n) (is_at v (2 * bit waiters)) 2 _ _ (omega arith) (omega (arith, asks_few v a.rounds))
+few (Locks a waiters) v = at_most (λ n. n) (is_at v (2 * bit waiters)) 2 _ _ (omega arith)
+    (omega (arith, asks_few v a.rounds))
 few (Spins a) v = omega (arith, asks_few v (a.rounds - 1))
 few (Parks a) v = at_most (λ n. n) (is_at v 1) _ _ _ (omega (arith, parks_few v)) (omega (arith, asks_few v a.rounds))
 few (Enters woken) v = at_most (λ n. n) (is_at v 3) _ _ _ (parks_few v) (omega arith)
@@ -208,7 +239,8 @@ few p v = le_refl _
 
 -- who is shut out counts a section as if it saw nothing
 module _ (word first : ℕ) where
-  ends_shut : (shut again : Bool) → shut ≡ true → cond again (2 + mutex_asks Unseen 10) 1 ≤ cond again (2 + mutex_asks (Sees word first shut) 10) 1
+  ends_shut : (shut again : Bool) → shut ≡ true → cond again (2 + mutex_asks Unseen 10) 1 ≤ cond again
+      (2 + mutex_asks (Sees word first shut) 10) 1
   ends_shut true again e = le_refl _
   ends_shut false again e = absurd (let f : false ≡ true = e in cc)
 
@@ -221,7 +253,8 @@ goes_on : (again shut : Bool) → StopsAt (cond again Act.Load (Act.Done Release
 goes_on true shut e = e
 goes_on false shut e = e
 
-stops : (p : MutexPhase) (word first : ℕ) (shut : Bool) → StopsAt (act_of p) shut → mutex_steps Unseen p ≤ mutex_steps (Sees word first shut) p
+stops : (p : MutexPhase) (word first : ℕ) (shut : Bool) → StopsAt (act_of p) shut
+    → mutex_steps Unseen p ≤ mutex_steps (Sees word first shut) p
 stops (Enters woken) word first shut e = enters_shut word first (word == 3) shut e
 stops Sleeps word first shut e = omega arith
 stops (Looks g) word first shut e = omega (arith, ends_shut word first shut g.again e)

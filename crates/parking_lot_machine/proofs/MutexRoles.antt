@@ -1,5 +1,6 @@
 -- The words of a mutex as numbers, and what the phases of calls say of roles.
-use Rattle.std.proofs.Common.{◌≡◌, ◌≢◌, ℕ, zero, suc, ◌+◌, ◌<◌, ◌≤◌, ⊎_elim, ◌==◌, Bool, true, false, cond, List, [], ◌∷◌, length, Some, slice_get, slice_set, refl, sym, ◌∙◌, subst, arith}
+use Rattle.std.proofs.Common.{◌≡◌, ◌≢◌, ℕ, zero, suc, ◌+◌, ◌<◌, ◌≤◌, ⊎_elim, ◌==◌, Bool, true, false, cond, List, []}
+use Rattle.std.proofs.Common.{◌∷◌, length, Some, slice_get, slice_set, refl, sym, ◌∙◌, subst, arith}
 use Rattle.std.proofs.lemmas.Bool.{cases_eq}
 use Rattle.std.proofs.lemmas.Option.{same_Some}
 use Rattle.parking_lot_core_model.specs.declared.parking.UnparkToken.{UnparkToken}
@@ -12,7 +13,8 @@ use Rattle.parking_lot_protocol.specs.declared.act.Act.TheVariants as act
 use Rattle.parking_lot_protocol.specs.declared.act.CoreAnswer.TheVariants.{Owned}
 use Rattle.parking_lot_protocol.specs.declared.act.ActResult.TheVariants.{Woken}
 use Rattle.parking_lot_protocol.specs.declared.mutex_phase.MutexPhase.{MutexPhase}
-use Rattle.parking_lot_protocol.specs.declared.mutex_phase.MutexPhase.TheVariants.{Locking, Loads, Sleeps, Stores, Leaves, Wakes, Ends}
+use Rattle.parking_lot_protocol.specs.declared.mutex_phase.MutexPhase.TheVariants.{Locking, Loads, Sleeps, Stores}
+use Rattle.parking_lot_protocol.specs.declared.mutex_phase.MutexPhase.TheVariants.{Leaves, Wakes, Ends}
 use Rattle.parking_lot_protocol.specs.MutexTable.{begins, act_of, next_phase}
 use Rattle.parking_lot_rules.specs.Classes.{bit}
 use Rattle.parking_lot_protocol.specs.MutexRules.{QueuePosition, Listed, Off, role, taken_of, IsWord}
@@ -65,7 +67,8 @@ taken_alone at v u (Leaves giving false handed) none = refl
 taken_alone at v u (Wakes giving) none = absurd (omega (arith, none))
 taken_alone at v u p none = refl
 
-pub settled : (mark : Mark) (at : QueuePosition) (v : ℕ) (p : MutexPhase) → rules.settle mark (role at v p) ≡ role (settle_spot mark at) v p
+pub settled : (mark : Mark) (at : QueuePosition) (v : ℕ) (p : MutexPhase) → rules.settle mark (role at v p) ≡ role
+    (settle_spot mark at) v p
 settled mark Listed v p = listed p
   where
     listed : (p : MutexPhase) → rules.settle mark (role Listed v p) ≡ role Listed v p
@@ -87,8 +90,10 @@ settled mark (Off by Handed) v p = off p
     off Sleeps = refl
     off p = refl
 
-pub woken : (at : QueuePosition) (v : ℕ) (token : UnparkToken) → role at v (next_phase Sleeps (Woken token)) ≡ woken_role (token.0 == 1)
-woken at v token = elim (token.0 == 1) as (λ b. role at v (cond b (Ends Owned) (Loads (begins true))) ≡ woken_role b) [ true ↦ refl | false ↦ refl ]
+pub woken : (at : QueuePosition) (v : ℕ) (token : UnparkToken) → role at v (next_phase Sleeps (Woken token))
+    ≡ woken_role (token.0 == 1)
+woken at v token = elim (token.0 == 1) as (λ b. role at v (cond b (Ends Owned) (Loads (begins true))) ≡ woken_role b)
+    [ true ↦ refl | false ↦ refl ]
 
 -- WHOM A THREAD HAS TAKEN
 
@@ -99,7 +104,8 @@ taken_list (u ∷ []) true e = refl
 taken_list (u ∷ v ∷ us) true e = absurd (omega (arith, e))
 taken_list (u ∷ us) false e = absurd (omega (arith, e))
 
-open_wakes : (o : Bool) (p : rules.Phase) (u : ℕ) → 0 < occurs u (rules.phase_wakes p Open) → rules.weight rules.Inside (record { owns = o; does = p }) ≡ 1
+open_wakes : (o : Bool) (p : rules.Phase) (u : ℕ) → 0 < occurs u (rules.phase_wakes p Open)
+    → rules.weight rules.Inside (record { owns = o; does = p }) ≡ 1
 unfolding rules.weight
 open_wakes o (rules.Unlocks us) u some = refl
 open_wakes o p u some = absurd (omega arith)
@@ -109,23 +115,37 @@ unfolding rules.weight
 giver_inside us = refl
 
 -- two that are inside are one
-pub one_inside : (m : rules.Mutex) → rules.IsSound m → (t u : ℕ) (a b : rules.Role) → slice_get m.roles t ≡ Some a → slice_get m.roles u ≡ Some b → rules.weight rules.Inside a ≡ 1 → rules.weight rules.Inside b ≡ 1 → u ≡ t
+pub one_inside : (m : rules.Mutex) → rules.IsSound m → (t u : ℕ) (a b : rules.Role) → slice_get m.roles t ≡ Some a
+    → slice_get m.roles u ≡ Some b → rules.weight rules.Inside a ≡ 1 → rules.weight rules.Inside b ≡ 1 → u ≡ t
 one_inside m sound t u a b at there wa wb = ⊎_elim
     (λ e. e)
     (λ ne.
-    let still : slice_get (slice_set m.roles t rules.away) u ≡ Some b = get-set_other m.roles t u rules.away (λ e. ne (sym e)) ∙ there in
-    absurd (omega (arith, sound.fits.inside, total-at m.roles t a at rules.Inside, total-at (slice_set m.roles t rules.away) u b still rules.Inside, wa, wb)))
+    let still : slice_get (slice_set m.roles t rules.away) u ≡ Some b = get-set_other m.roles t u rules.away
+    (λ e. ne (sym e)) ∙ there in
+    absurd (omega (
+      arith,
+      sound.fits.inside,
+      total-at m.roles t a at rules.Inside,
+      total-at (slice_set m.roles t rules.away) u b still rules.Inside,
+      wa,
+      wb,
+    )))
     (cases_eq u t)
 
-pub opener : (m : rules.Mutex) (t u by : ℕ) (us : List ℕ) (r : rules.Role) → rules.IsSound m → slice_get m.roles t ≡ Some (rules.doing (rules.Unlocks us)) → slice_get m.roles u ≡ Some r → rules.note_of r ≡ Some (by, Open) → by ≡ t
+pub opener : (m : rules.Mutex) (t u by : ℕ) (us : List ℕ) (r : rules.Role) → rules.IsSound m
+    → slice_get m.roles t ≡ Some (rules.doing (rules.Unlocks us)) → slice_get m.roles u ≡ Some r
+    → rules.note_of r ≡ Some (by, Open) → by ≡ t
 opener m t u by us r sound at there note =
     let w = sound.noted u by r Open there note in
-    one_inside m sound t by (rules.doing (rules.Unlocks us)) w.0 at w.1 (giver_inside us) (open_wakes w.0.owns w.0.does u w.2)
+    one_inside m sound t by (rules.doing (rules.Unlocks us)) w.0 at w.1 (giver_inside us)
+    (open_wakes w.0.owns w.0.does u w.2)
 
-pub known : (m : rules.Mutex) (t u : ℕ) (o : Bool) (us : List ℕ) (mark : Mark) → rules.IsSound m → slice_get m.roles t ≡ Some (record { owns = o; does = rules.Wakes us })
+pub known : (m : rules.Mutex) (t u : ℕ) (o : Bool) (us : List ℕ) (mark : Mark) → rules.IsSound m
+    → slice_get m.roles t ≡ Some (record { owns = o; does = rules.Wakes us })
     → slice_get m.roles u ≡ Some (rules.doing (rules.Taken t mark Asleep)) → mark ≢ Open
 known m t u o us mark sound at there e =
-    let taken : slice_get m.roles u ≡ Some (rules.doing (rules.Taken t Open Asleep)) = subst (λ (x : Mark). slice_get m.roles u ≡ Some (rules.doing (rules.Taken t x Asleep))) e there in
+    let taken : slice_get m.roles u ≡ Some (rules.doing (rules.Taken t Open Asleep)) =
+    subst (λ (x : Mark). slice_get m.roles u ≡ Some (rules.doing (rules.Taken t x Asleep))) e there in
     let w = sound.noted u t (rules.doing (rules.Taken t Open Asleep)) Open taken refl in
     let same : w.0 ≡ record { owns = o; does = rules.Wakes us } = same_Some _ _ (sym w.1 ∙ at) in
     absurd (omega (arith, subst (λ (r : rules.Role). 0 < occurs u (rules.wakes r Open)) same w.2))

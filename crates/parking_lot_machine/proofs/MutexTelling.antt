@@ -1,5 +1,6 @@
 -- What the machine keeps of threads at a mutex is what the rules say of them.
-use Rattle.std.proofs.Common.{◌≡◌, ◌≢◌, ◌<◌, subst, arith, ℕ, ◌/◌, ◌%◌, ◌-◌, nat_lt, ◌==◌, Bool, true, false, cond, List, [], Some, None, slice_get, refl, sym, ap, ◌∙◌, eq-eqb}
+use Rattle.std.proofs.Common.{◌≡◌, ◌≢◌, ◌<◌, subst, arith, ℕ, ◌/◌, ◌%◌, ◌-◌, nat_lt, ◌==◌, Bool, true, false, cond}
+use Rattle.std.proofs.Common.{List, [], Some, None, slice_get, refl, sym, ap, ◌∙◌, eq-eqb}
 use Rattle.parking_lot_core_model.specs.declared.parking.ParkToken.{ParkToken}
 use Rattle.parking_lot_core_model.specs.declared.place.Waiter.{Waiter}
 use Rattle.parking_lot_core_model.specs.Results.{is_left}
@@ -15,9 +16,16 @@ use Rattle.parking_lot_protocol.specs.declared.act.SectionAct.TheVariants as sec
 use Rattle.parking_lot_protocol.specs.declared.act.CoreAnswer.{CoreAnswer}
 use Rattle.parking_lot_protocol.specs.declared.act.CoreAnswer.TheVariants.{Owned, Refused, Released}
 use Rattle.parking_lot_protocol.specs.declared.act.ActResult.{ActResult}
-use Rattle.parking_lot_protocol.specs.declared.act.ActResult.TheVariants.{Start, Word, Exchanged, Spun, Entered, Took, Stored, Made, Woken}
+use Rattle.parking_lot_protocol.specs.declared.act.ActResult.TheVariants.{Start, Word, Exchanged, Spun, Entered, Took}
+use Rattle.parking_lot_protocol.specs.declared.act.ActResult.TheVariants.{Stored, Made, Woken}
 use Rattle.parking_lot_protocol.specs.declared.mutex_phase.MutexPhase.{MutexPhase}
-use Rattle.parking_lot_protocol.specs.declared.mutex_phase.MutexPhase.TheVariants.{Locking, Trying, Unlocking, Bumping, Loads, Locks, Spins, Parks, Enters, Checks, Retreats, Appends, Rests, Sleeps, TryLoads, TryLocks, Refuses, BumpLoads, Relocks, Unlocks, Looks, Takes, Stores, Leaves, Wakes, Finishes, Ends, Invalid}
+use Rattle.parking_lot_protocol.specs.declared.mutex_phase.MutexPhase.TheVariants.{Locking, Trying, Unlocking, Bumping}
+use Rattle.parking_lot_protocol.specs.declared.mutex_phase.MutexPhase.TheVariants.{Loads, Locks, Spins, Parks, Enters}
+use Rattle.parking_lot_protocol.specs.declared.mutex_phase.MutexPhase.TheVariants.{Checks, Retreats, Appends, Rests}
+use Rattle.parking_lot_protocol.specs.declared.mutex_phase.MutexPhase.TheVariants.{Sleeps, TryLoads, TryLocks, Refuses}
+use Rattle.parking_lot_protocol.specs.declared.mutex_phase.MutexPhase.TheVariants.{BumpLoads, Relocks, Unlocks, Looks}
+use Rattle.parking_lot_protocol.specs.declared.mutex_phase.MutexPhase.TheVariants.{Takes, Stores, Leaves, Wakes}
+use Rattle.parking_lot_protocol.specs.declared.mutex_phase.MutexPhase.TheVariants.{Finishes, Ends, Invalid}
 use Rattle.parking_lot_protocol.specs.declared.mutex_phase.Asking.{Asking}
 use Rattle.parking_lot_protocol.specs.MutexTable.{act_of, next_phase, seeks, tries, begins}
 use Rattle.parking_lot_protocol.specs.MutexRules as of_mutex
@@ -29,7 +37,8 @@ use Rattle.parking_lot_machine_calls.specs.declared.seat.QueuePosition.{QueuePos
 use Rattle.parking_lot_machine_calls.specs.declared.seat.LatePhase.{LatePhase}
 use Rattle.parking_lot_machine_calls.specs.declared.seat.Core.{Core}
 use Rattle.parking_lot_machine_calls.specs.declared.open_call.Call.{Call}
-use Rattle.parking_lot_machine_calls.specs.CallRoles.{mark_of, late_role, mutex_spot, mutex_core_role, owns_mutex, mutex_role}
+use Rattle.parking_lot_machine_calls.specs.CallRoles.{mark_of, late_role, mutex_spot, mutex_core_role, owns_mutex}
+use Rattle.parking_lot_machine_calls.specs.CallRoles.{mutex_role}
 use Rattle.parking_lot_machine_calls.specs.CallActs.{settled_spot, mutex_hold_after}
 use Rattle.parking_lot_machine.specs.RowFits.{mutex_knows}
 use Rattle.parking_lot_machine.specs.MutexLaws.{TellingsSettle, HoldsAreAnswered, TakersKnow, MutexIsShown, settle_spot}
@@ -42,47 +51,65 @@ abbrev IsOf : ℕ → QueuePosition → Type 0
 IsOf t (QueuePosition.Off by WakeResult.Nothing) = by ≡ t
 IsOf t at = Unit {0}
 
-settles_spot : (t : ℕ) (said : WakeResult) (at : QueuePosition) → IsOf t at → mutex_spot (settled_spot t said at) ≡ settle_spot (mark_of said) (mutex_spot at)
+settles_spot : (t : ℕ) (said : WakeResult) (at : QueuePosition) → IsOf t at
+    → mutex_spot (settled_spot t said at) ≡ settle_spot (mark_of said) (mutex_spot at)
 settles_spot t said QueuePosition.Listed e = refl
-settles_spot t said (QueuePosition.Off by WakeResult.Nothing) e = ap (λ b. of_mutex.Off by (mark_of (cond b said WakeResult.Nothing))) (eq-eqb by t e)
+settles_spot t said (QueuePosition.Off by WakeResult.Nothing) e =
+    ap (λ b. of_mutex.Off by (mark_of (cond b said WakeResult.Nothing))) (eq-eqb by t e)
 settles_spot t said (QueuePosition.Off by WakeResult.TryAgain) e = refl
 settles_spot t said (QueuePosition.Off by WakeResult.HandedOver) e = refl
 
 -- one that sleeps so was taken by the thread that is inside
-sleeper_of : (m : rules.Mutex) (t u : ℕ) (us : List ℕ) (v : ℕ) (at : QueuePosition) → rules.IsSound m → slice_get m.roles t ≡ Some (rules.doing (rules.Unlocks us)) → slice_get m.roles u ≡ Some (role (mutex_spot at) v Sleeps) → IsOf t at
+sleeper_of : (m : rules.Mutex) (t u : ℕ) (us : List ℕ) (v : ℕ) (at : QueuePosition) → rules.IsSound m
+    → slice_get m.roles t ≡ Some (rules.doing (rules.Unlocks us))
+    → slice_get m.roles u ≡ Some (role (mutex_spot at) v Sleeps) → IsOf t at
 sleeper_of m t u us v QueuePosition.Listed sound here there = tt
-sleeper_of m t u us v (QueuePosition.Off by WakeResult.Nothing) sound here there = opener m t u by us (rules.doing (rules.Taken by Open Asleep)) sound here there refl
+sleeper_of m t u us v (QueuePosition.Off by WakeResult.Nothing) sound here there =
+    opener m t u by us (rules.doing (rules.Taken by Open Asleep)) sound here there refl
 sleeper_of m t u us v (QueuePosition.Off by WakeResult.TryAgain) sound here there = tt
 sleeper_of m t u us v (QueuePosition.Off by WakeResult.HandedOver) sound here there = tt
 
-module _ (m : rules.Mutex) (t u : ℕ) (us vs : List ℕ) (said : WakeResult) (sound : rules.IsSound m) (here : slice_get m.roles t ≡ Some (rules.doing (rules.Unlocks us))) where
-  pub tells_phase : (at : QueuePosition) (p : MutexPhase) → slice_get m.roles u ≡ Some (mutex_role (mutex_spot at) vs p) → mutex_role (mutex_spot (settled_spot t said at)) vs p ≡ rules.settle (mark_of said) (mutex_role (mutex_spot at) vs p)
-  tells_phase at Sleeps there = ap (λ x. role x 0 Sleeps) (settles_spot t said at (sleeper_of m t u us 0 at sound here there)) ∙ sym (settled_role (mark_of said) (mutex_spot at) 0 Sleeps)
+module _ (m : rules.Mutex) (t u : ℕ) (us vs : List ℕ) (said : WakeResult) (sound : rules.IsSound m)
+    (here : slice_get m.roles t ≡ Some (rules.doing (rules.Unlocks us))) where
+  pub tells_phase : (at : QueuePosition) (p : MutexPhase) → slice_get m.roles u ≡ Some (mutex_role (mutex_spot at) vs p)
+      → mutex_role (mutex_spot (settled_spot t said at)) vs p ≡ rules.settle (mark_of said)
+      (mutex_role (mutex_spot at) vs p)
+  tells_phase at Sleeps there =
+      ap (λ x. role x 0 Sleeps) (settles_spot t said at (sleeper_of m t u us 0 at sound here there))
+      ∙ sym (settled_role (mark_of said) (mutex_spot at) 0 Sleeps)
   tells_phase at p there = refl
 
-  pub tells_late : (at : QueuePosition) (p : LatePhase) → slice_get m.roles u ≡ Some (late_role (mutex_spot at) p) → late_role (mutex_spot (settled_spot t said at)) p ≡ rules.settle (mark_of said) (late_role (mutex_spot at) p)
+  pub tells_late : (at : QueuePosition) (p : LatePhase) → slice_get m.roles u ≡ Some (late_role (mutex_spot at) p)
+      → late_role (mutex_spot (settled_spot t said at)) p ≡ rules.settle (mark_of said) (late_role (mutex_spot at) p)
   tells_late QueuePosition.Listed LatePhase.Expires there = refl
   tells_late (QueuePosition.Off by WakeResult.Nothing) LatePhase.Expires there =
-      ap (λ b. rules.doing (rules.Taken by (mark_of (cond b said WakeResult.Nothing)) Late)) (eq-eqb by t (opener m t u by us (rules.doing (rules.Taken by Open Late)) sound here there refl))
+      ap (λ b. rules.doing (rules.Taken by (mark_of (cond b said WakeResult.Nothing)) Late))
+      (eq-eqb by t (opener m t u by us (rules.doing (rules.Taken by Open Late)) sound here there refl))
   tells_late (QueuePosition.Off by WakeResult.TryAgain) LatePhase.Expires there = refl
   tells_late (QueuePosition.Off by WakeResult.HandedOver) LatePhase.Expires there = refl
   tells_late at (LatePhase.WasTaken by true) there = refl
   tells_late at (LatePhase.WasTaken by false) there = refl
   tells_late at p there = refl
 
-  pub tells_call : (at : QueuePosition) (k : MutexCall) → slice_get m.roles u ≡ Some (mutex_plays at vs k) → mutex_plays (settled_spot t said at) vs k ≡ rules.settle (mark_of said) (mutex_plays at vs k)
+  pub tells_call : (at : QueuePosition) (k : MutexCall) → slice_get m.roles u ≡ Some (mutex_plays at vs k)
+      → mutex_plays (settled_spot t said at) vs k ≡ rules.settle (mark_of said) (mutex_plays at vs k)
   tells_call at (Plain k) there = tells_phase at k.phase there
   tells_call at (CallLate p) there = tells_late at p there
 
-  tells_core : (at : QueuePosition) (k : Core) → slice_get m.roles u ≡ Some (mutex_core_role at vs k) → mutex_core_role (settled_spot t said at) vs k ≡ rules.settle (mark_of said) (mutex_core_role at vs k)
+  tells_core : (at : QueuePosition) (k : Core) → slice_get m.roles u ≡ Some (mutex_core_role at vs k)
+      → mutex_core_role (settled_spot t said at) vs k ≡ rules.settle (mark_of said) (mutex_core_role at vs k)
   tells_core at (Core.Mutex c) there = tells_phase at c.phase there
   tells_core at (Core.Rw c) there = refl
   tells_core at (Core.Upgrade c) there = refl
   tells_core at (Core.LateRw p) there = refl
   tells_core at (Core.Late p) there = tells_late at p there
 
-  tells_here : (i : ℕ) (h : Hold) (c : Call) (b : Bool) → slice_get m.roles u ≡ Some (cond b (mutex_core_role c.spot vs c.core) (record { owns = owns_mutex h; does = rules.Idle }))
-      → cond b (mutex_core_role (settled_spot t said c.spot) vs c.core) (record { owns = owns_mutex h; does = rules.Idle }) ≡ rules.settle (mark_of said) (cond b (mutex_core_role c.spot vs c.core) (record { owns = owns_mutex h; does = rules.Idle }))
+  tells_here : (i : ℕ) (h : Hold) (c : Call) (b : Bool)
+      → slice_get m.roles u ≡ Some
+      (cond b (mutex_core_role c.spot vs c.core) (record { owns = owns_mutex h; does = rules.Idle }))
+      → cond b (mutex_core_role (settled_spot t said c.spot) vs c.core)
+      (record { owns = owns_mutex h; does = rules.Idle }) ≡ rules.settle (mark_of said)
+      (cond b (mutex_core_role c.spot vs c.core) (record { owns = owns_mutex h; does = rules.Idle }))
   tells_here i h c true there = tells_core c.spot c.core there
   tells_here i h c false there = refl
 
@@ -132,12 +159,15 @@ knows_nothing (Stores g taken left) waiters e = absurd (let f : false ≡ true =
 knows_nothing p waiters e = tt
 
 seeks_off : (a : Asking) (word : ℕ) → is_off (seeks a word) ≡ true
-seeks_off a word = either is_off (word == 0) _ _ _ refl (either is_off (word == 2) _ _ _ refl (either is_off (word == 1) _ _ _ (either is_off (nat_lt 0 a.rounds) _ _ _ refl refl) refl))
+seeks_off a word = either is_off (word == 0) _ _ _ refl
+    (either is_off (word == 2) _ _ _ refl
+    (either is_off (word == 1) _ _ _ (either is_off (nat_lt 0 a.rounds) _ _ _ refl refl) refl))
 
 tries_off : (left word : ℕ) → is_off (tries left word) ≡ true
 tries_off left word = either is_off (word == 0) _ _ _ refl (either is_off (word == 2) _ _ _ refl refl)
 
-finishes_off : (fair again : Bool) (s : ActResult) → is_off (next_phase (Finishes (record { fair = fair; again = again })) s) ≡ true
+finishes_off : (fair again : Bool) (s : ActResult)
+    → is_off (next_phase (Finishes (record { fair = fair; again = again })) s) ≡ true
 finishes_off fair true (Word n) = refl
 finishes_off fair again s = refl
 
@@ -186,12 +216,14 @@ takes = record {
   other = λ p s waiters ne. knows_nothing (next_phase p s) waiters (off p s ne);
 }
   where
-    one : (p : MutexPhase) (token : ParkToken) (waiters : List Waiter) → act_of p ≡ Act.Section section.TakeFirst → mutex_knows (next_phase p (Took (Some token) (is_left waiters))) waiters
+    one : (p : MutexPhase) (token : ParkToken) (waiters : List Waiter) → act_of p ≡ Act.Section section.TakeFirst
+        → mutex_knows (next_phase p (Took (Some token) (is_left waiters))) waiters
     one (Takes g) token waiters e = (refl, λ f. absurd (let h : true ≡ false = f in cc))
     one (Finishes g) token waiters e = absurd (elsewhere (Finishes g) (either takes_first g.again _ _ _ refl refl) e)
     one p token waiters e = absurd (elsewhere p refl e)
 
-    nobody : (p : MutexPhase) → act_of p ≡ Act.Section section.TakeFirst → mutex_knows (next_phase p (Took None false)) []
+    nobody : (p : MutexPhase) → act_of p ≡ Act.Section section.TakeFirst → mutex_knows (next_phase p (Took None false))
+        []
     nobody (Takes g) e = (refl, λ f. refl)
     nobody (Finishes g) e = absurd (elsewhere (Finishes g) (either takes_first g.again _ _ _ refl refl) e)
     nobody p e = absurd (elsewhere p refl e)
@@ -200,27 +232,34 @@ pub shown : MutexIsShown
 shown = record { tells = tells; ends = ends; knows = takes }
 
 -- one that masks the parked bit off has taken nobody, and tells nobody
-module _ (m : rules.Mutex) (t u : ℕ) (vs : List ℕ) (said : WakeResult) (sound : rules.IsSound m) (here : slice_get m.roles t ≡ Some (rules.doing rules.Masks)) where
-  none_of : (by : ℕ) (stay : Stay) → slice_get m.roles u ≡ Some (rules.doing (rules.Taken by Open stay)) → (by == t) ≡ false
+module _ (m : rules.Mutex) (t u : ℕ) (vs : List ℕ) (said : WakeResult) (sound : rules.IsSound m)
+    (here : slice_get m.roles t ≡ Some (rules.doing rules.Masks)) where
+  none_of : (by : ℕ) (stay : Stay) → slice_get m.roles u ≡ Some (rules.doing (rules.Taken by Open stay))
+      → (by == t) ≡ false
   none_of by stay there = ne_eqb by t (λ e.
       let w = sound.noted u by (rules.doing (rules.Taken by Open stay)) Open there refl in
       let same : w.0 ≡ rules.doing rules.Masks = same_Some _ _ (sym w.1 ∙ ap (slice_get m.roles) e ∙ here) in
       absurd (omega (arith, subst (λ (r : rules.Role). 0 < occurs u (rules.wakes r Open)) same w.2)))
 
-  masks_plain : (at : QueuePosition) (p : MutexPhase) → slice_get m.roles u ≡ Some (mutex_role (mutex_spot at) vs p) → mutex_role (mutex_spot (settled_spot t said at)) vs p ≡ mutex_role (mutex_spot at) vs p
+  masks_plain : (at : QueuePosition) (p : MutexPhase) → slice_get m.roles u ≡ Some (mutex_role (mutex_spot at) vs p)
+      → mutex_role (mutex_spot (settled_spot t said at)) vs p ≡ mutex_role (mutex_spot at) vs p
   masks_plain QueuePosition.Listed Sleeps there = refl
-  masks_plain (QueuePosition.Off by WakeResult.Nothing) Sleeps there = ap (λ b. rules.doing (rules.Taken by (mark_of (cond b said WakeResult.Nothing)) Asleep)) (none_of by Asleep there)
+  masks_plain (QueuePosition.Off by WakeResult.Nothing) Sleeps there =
+      ap (λ b. rules.doing (rules.Taken by (mark_of (cond b said WakeResult.Nothing)) Asleep)) (none_of by Asleep there)
   masks_plain (QueuePosition.Off by WakeResult.TryAgain) Sleeps there = refl
   masks_plain (QueuePosition.Off by WakeResult.HandedOver) Sleeps there = refl
   masks_plain at p there = refl
 
-  masks_late : (at : QueuePosition) (p : LatePhase) → slice_get m.roles u ≡ Some (late_role (mutex_spot at) p) → late_role (mutex_spot (settled_spot t said at)) p ≡ late_role (mutex_spot at) p
+  masks_late : (at : QueuePosition) (p : LatePhase) → slice_get m.roles u ≡ Some (late_role (mutex_spot at) p)
+      → late_role (mutex_spot (settled_spot t said at)) p ≡ late_role (mutex_spot at) p
   masks_late QueuePosition.Listed LatePhase.Expires there = refl
-  masks_late (QueuePosition.Off by WakeResult.Nothing) LatePhase.Expires there = ap (λ b. rules.doing (rules.Taken by (mark_of (cond b said WakeResult.Nothing)) Late)) (none_of by Late there)
+  masks_late (QueuePosition.Off by WakeResult.Nothing) LatePhase.Expires there =
+      ap (λ b. rules.doing (rules.Taken by (mark_of (cond b said WakeResult.Nothing)) Late)) (none_of by Late there)
   masks_late (QueuePosition.Off by WakeResult.TryAgain) LatePhase.Expires there = refl
   masks_late (QueuePosition.Off by WakeResult.HandedOver) LatePhase.Expires there = refl
   masks_late at p there = refl
 
-  pub masks_call : (at : QueuePosition) (k : MutexCall) → slice_get m.roles u ≡ Some (mutex_plays at vs k) → mutex_plays (settled_spot t said at) vs k ≡ mutex_plays at vs k
+  pub masks_call : (at : QueuePosition) (k : MutexCall) → slice_get m.roles u ≡ Some (mutex_plays at vs k)
+      → mutex_plays (settled_spot t said at) vs k ≡ mutex_plays at vs k
   masks_call at (Plain k) there = masks_plain at k.phase there
   masks_call at (CallLate p) there = masks_late at p there

@@ -1,5 +1,7 @@
 -- A thread's own acts, at a lock of either kind: they are steps of the rules, and keep the side of the rules.
-use Rattle.std.proofs.Common.{◌≡◌, ◌≢◌, ℕ, zero, suc, ◌+◌, ◌*◌, ◌<◌, ◌≤◌, ◌==◌, cond, Bool, true, false, List, [], Option, Some, None, slice_get, refl, sym, ap, ◌∙◌, subst, arith, slice_set, length, inl, inr}
+use Rattle.std.proofs.Common.{◌≡◌, ◌≢◌, ℕ, zero, suc, ◌+◌, ◌*◌, ◌<◌, ◌≤◌, ◌==◌, cond, Bool, true, false, List, []}
+use Rattle.std.proofs.Common.{Option, Some, None, slice_get, refl, sym, ap, ◌∙◌, subst, arith, slice_set, length, inl}
+use Rattle.std.proofs.Common.{inr}
 use Rattle.std.proofs.lemmas.Bool.{both_ways}
 use Rattle.std.proofs.lemmas.Option.{none-some}
 use Rattle.parking_lot_core_model.specs.Machine.{threads_of}
@@ -30,7 +32,8 @@ use Rattle.parking_lot_protocol.specs.declared.mutex_phase.MutexPhase.{MutexPhas
 use Rattle.parking_lot_protocol.specs.MutexRules as of_mutex
 use Rattle.parking_lot_machine.specs.MutexLaws.{is_own}
 use Rattle.parking_lot_machine.proofs.MutexMoving.{steps}
-use Rattle.parking_lot_machine.proofs.KindTable.{Late, Plain, RwCall, Simple, Upgradable, next_is, of_mutexes, of_rws, rw_call, rw_next, same, Tardy, role_by}
+use Rattle.parking_lot_machine.proofs.KindTable.{Late, Plain, RwCall, Simple, Upgradable, next_is, of_mutexes, of_rws}
+use Rattle.parking_lot_machine.proofs.KindTable.{rw_call, rw_next, same, Tardy, role_by}
 use Rattle.parking_lot_machine.proofs.Making.{Crossed, TellsOf, made, mutex_goes, rw_goes, IsSoundState}
 use Rattle.parking_lot_machine.proofs.Meeting.{meets, plays, plays_late, rw_hears, exact}
 use Rattle.parking_lot_machine.proofs.OwnMoves.{AfterAct, IsOwnAct, own_some}
@@ -54,8 +57,15 @@ module _ (s : State) (sound : IsSoundState s) (free : inside s ≡ None) where
   at_most l u First = omega (arith, (any_are_rules (λ i. false)).one l u)
   at_most l u Second = omega (arith, (any_are_rules (λ i. false)).one l u)
 
-  none_inside : (i u : ℕ) (k : Key) (o : Option Manner) → manner_of (slice_get s.kinds i) ≡ o → any_inside (lock_as o s i) k u ≡ 0
-  none_inside i u k o e = omega (arith, at_most (lock_as o s i) u k, λ (x : any_inside (lock_as o s i) k u ≡ 1). nobody_at i u k (ap (λ q. any_inside (lock_as q s i) k u) e ∙ x))
+  none_inside : (i u : ℕ) (k : Key) (o : Option Manner) → manner_of (slice_get s.kinds i) ≡ o
+      → any_inside (lock_as o s i) k u ≡ 0
+  none_inside i u k o e =
+      omega (
+        arith,
+        at_most (lock_as o s i) u k,
+        λ (x : any_inside (lock_as o s i) k u ≡ 1). nobody_at i u k
+            (ap (λ q. any_inside (lock_as q s i) k u) e ∙ x),
+      )
 
   pub sound_first : (i : ℕ) → manner_of (slice_get s.kinds i) ≡ Some AsRw → NobodyIs Inside1 (rw_lock_at s i).roles
   sound_first i e u r at = sym (ap (weighs Inside1) at) ∙ none_inside i u First (Some AsRw) e
@@ -63,8 +73,10 @@ module _ (s : State) (sound : IsSoundState s) (free : inside s ≡ None) where
   pub sound_second : (i : ℕ) → manner_of (slice_get s.kinds i) ≡ Some AsRw → NobodyIs Inside2 (rw_lock_at s i).roles
   sound_second i e u r at = sym (ap (weighs Inside2) at) ∙ none_inside i u Second (Some AsRw) e
 
-  pub sound_in_mutex : (i : ℕ) → manner_of (slice_get s.kinds i) ≡ Some AsMutex → (u : ℕ) (r : mutex.Role) → slice_get (mutex_at s i).roles u ≡ Some r → mutex.weight mutex.Inside r ≡ 0
-  sound_in_mutex i e u r at = sym (ap (at_index (mutex.weight mutex.Inside)) at) ∙ none_inside i u First (Some AsMutex) e
+  pub sound_in_mutex : (i : ℕ) → manner_of (slice_get s.kinds i) ≡ Some AsMutex → (u : ℕ) (r : mutex.Role)
+      → slice_get (mutex_at s i).roles u ≡ Some r → mutex.weight mutex.Inside r ≡ 0
+  sound_in_mutex i e u r at = sym (ap (at_index (mutex.weight mutex.Inside)) at)
+      ∙ none_inside i u First (Some AsMutex) e
 
 module _ (s : State) (h : FitsTogether s) (free : inside s ≡ None) where
   pub nobody_first : (i : ℕ) → manner_of (slice_get s.kinds i) ≡ Some AsRw → NobodyIs Inside1 (rw_lock_at s i).roles
@@ -73,7 +85,8 @@ module _ (s : State) (h : FitsTogether s) (free : inside s ≡ None) where
   pub nobody_second : (i : ℕ) → manner_of (slice_get s.kinds i) ≡ Some AsRw → NobodyIs Inside2 (rw_lock_at s i).roles
   nobody_second = sound_second s h.rules.sound free
 
-  pub nobody_in_mutex : (i : ℕ) → manner_of (slice_get s.kinds i) ≡ Some AsMutex → (u : ℕ) (r : mutex.Role) → slice_get (mutex_at s i).roles u ≡ Some r → mutex.weight mutex.Inside r ≡ 0
+  pub nobody_in_mutex : (i : ℕ) → manner_of (slice_get s.kinds i) ≡ Some AsMutex → (u : ℕ) (r : mutex.Role)
+      → slice_get (mutex_at s i).roles u ≡ Some r → mutex.weight mutex.Inside r ≡ 0
   nobody_in_mutex = sound_in_mutex s h.rules.sound free
 
 no_start : false ≡ true → ⊥
@@ -100,7 +113,8 @@ own_is (Act.Section section.Wake) h = absurd h
 own_is Act.Sleep h = absurd h
 own_is a h = refl
 
-own_tells : (v : ℕ) (us : List ℕ) (p : MutexPhase) (s : ActResult) → IsOwnAct (of_mutex_table.act_of p) → TellsOf (of_mutex.move v p s) us v
+own_tells : (v : ℕ) (us : List ℕ) (p : MutexPhase) (s : ActResult) → IsOwnAct (of_mutex_table.act_of p)
+    → TellsOf (of_mutex.move v p s) us v
 own_tells v us (MutexPhase.Locks a waiters) ActResult.Exchanged own = tt
 own_tells v us (MutexPhase.Parks a) ActResult.Exchanged own = tt
 own_tells v us (MutexPhase.Checks woken) (ActResult.Word word) own = go (word == 3)
@@ -118,7 +132,8 @@ own_tells v us (MutexPhase.Wakes giving) s own = absurd own
 own_tells v us p s own = tt
 
 -- such an act takes nobody, and wakes nobody
-own_counts : (a : Act) (told : ActResult) (x y : Stance) (n m : ℕ) (tells : UnparkToken) → IsOwnAct a → Leads a told x y n m tells → m ≡ n
+own_counts : (a : Act) (told : ActResult) (x y : Stance) (n m : ℕ) (tells : UnparkToken) → IsOwnAct a
+    → Leads a told x y n m tells → m ≡ n
 own_counts Act.Load told x y n m tells own l = l.2
 own_counts (Act.Exchange from to) told x y n m tells own l = l.2
 own_counts (Act.Add by) told x y n m tells own l = l.2
@@ -140,7 +155,8 @@ own_counts (Act.Done answer) told x y n m tells own l = absurd own
 -- AT A LOCK OF EITHER KIND
 
 module _ (s u : State) (t : ℕ) (h : FitsTogether s) where
-  finds : (a : Act) (i : ℕ) → IsOwnAct a → AfterAct a t (inside s) (inside u) → manner_of (slice_get s.kinds i) ≡ Some AsRw → Finds a (rw_lock_at s i)
+  finds : (a : Act) (i : ℕ) → IsOwnAct a → AfterAct a t (inside s) (inside u) → manner_of (slice_get s.kinds i) ≡ Some
+      AsRw → Finds a (rw_lock_at s i)
   finds (Act.Enter zero) i own around e = nobody_first s h around.0 i e
   finds (Act.Enter (suc key)) i own around e = nobody_second s h around.0 i e
   finds (Act.FetchAnd keep) i own around e = absurd own
@@ -153,40 +169,62 @@ module _ (s u : State) (t : ℕ) (h : FitsTogether s) where
   finds (Act.Done answer) i own around e = tt
 
   -- whose moment has passed leaves its section
-  own_late : (c : Call) (p : LatePhase) (told : ActResult) → ((key : ℕ) → u.lot.queues key ≡ s.lot.queues key) → c.core ≡ Core.Late p → OwnAct s u t c told (core_next (Core.Late p) told) c.spot → Gives (late_act p) (word_at s c.lock) told → IsOwnAct (late_act p)
+  own_late : (c : Call) (p : LatePhase) (told : ActResult) → ((key : ℕ) → u.lot.queues key ≡ s.lot.queues key)
+      → c.core ≡ Core.Late p → OwnAct s u t c told (core_next (Core.Late p) told) c.spot
+      → Gives (late_act p) (word_at s c.lock) told → IsOwnAct (late_act p)
       → AfterAct (late_act p) t (inside s) (inside u) → Fitted s u t c told (Core.Late p)
   own_late c LatePhase.Leaves ActResult.Made lists_same e a gives own around =
       let kind_is = subst (IsOfKind (slice_get s.kinds c.lock)) e (h.rules.kinds t c a.here) in
-      let word : word_at u c.lock ≡ word_at s c.lock = a.word ∙ ap (λ y. word_after (core_act y) ActResult.Made (word_at s c.lock)) e in (
-        made of_mutexes s u t c.lock (own-there s u t c ActResult.Made _ c.spot a) (own-elsewhere s u t c ActResult.Made _ c.spot a) kind_is (MxStep (mutex.Alone mutex.Leave)) ((plays_late s h t c LatePhase.Leaves e a.here).here, tt)
-            (ap Mx (own_after of_mutexes s u t c ActResult.Made (Late LatePhase.GivesUp) c.spot a _ word ∙ same of_mutexes _ _ _ _ _ _ [] [] refl refl (ap threads_of (lists_same (2 * c.lock))) refl)) around,
+      let word : word_at u c.lock ≡ word_at s c.lock = a.word
+      ∙ ap (λ y. word_after (core_act y) ActResult.Made (word_at s c.lock)) e in (
+        made of_mutexes s u t c.lock (own-there s u t c ActResult.Made _ c.spot a)
+            (own-elsewhere s u t c ActResult.Made _ c.spot a) kind_is (MxStep (mutex.Alone mutex.Leave))
+            ((plays_late s h t c LatePhase.Leaves e a.here).here, tt)
+            (ap Mx (own_after of_mutexes s u t c ActResult.Made (Late LatePhase.GivesUp) c.spot a _ word
+            ∙ same of_mutexes _ _ _ _ _ _ [] [] refl refl (ap threads_of (lists_same (2 * c.lock))) refl)) around,
         subst (IsPrepared (recursive_in s.kinds c.lock) c.others) e (h.rules.prepared t c a.here),
         tt,
         λ m. subst (λ n. n < 4) (sym word) (h.rules.bits c.lock m),
       )
   own_late c (LatePhase.WasTaken by handed) ActResult.Made lists_same e a gives own around =
       let kind_is = subst (IsOfKind (slice_get s.kinds c.lock)) e (h.rules.kinds t c a.here) in
-      let word : word_at u c.lock ≡ word_at s c.lock = a.word ∙ ap (λ y. word_after (core_act y) ActResult.Made (word_at s c.lock)) e in
-      let k : MutexCore = record { phase = of_mutex_table.next_phase MutexPhase.Sleeps (ActResult.Woken (sign handed)) } in
+      let word : word_at u c.lock ≡ word_at s c.lock = a.word
+      ∙ ap (λ y. word_after (core_act y) ActResult.Made (word_at s c.lock)) e in
+      let k : MutexCore = record { phase = of_mutex_table.next_phase MutexPhase.Sleeps (ActResult.Woken (sign handed)) }
+      in
       let n = mutex_at s c.lock in (
-        made of_mutexes s u t c.lock (own-there s u t c ActResult.Made _ c.spot a) (own-elsewhere s u t c ActResult.Made _ c.spot a) kind_is (MxStep (mutex.Alone (resume_step handed by)))
-            ((plays_late s h t c (LatePhase.WasTaken by handed) e a.here).here ∙ ap Some (was_taken by handed), resume_may by handed n)
-            (ap Mx (own_after of_mutexes s u t c ActResult.Made (Plain k) c.spot a _ word ∙ same of_mutexes _ _ _ _ _ _ [] [] refl (ap (slice_set n.roles t) (goes_on by handed (taken_by s.wakes t))) (ap threads_of (lists_same (2 * c.lock))) refl
-            ∙ ap (λ w. record { word = w; roles = slice_set n.roles t (mutex.to (resume_step handed by)); queue = n.queue }) (resume_writes by handed n.word))) (resume_leaves by handed around),
+        made of_mutexes s u t c.lock (own-there s u t c ActResult.Made _ c.spot a)
+            (own-elsewhere s u t c ActResult.Made _ c.spot a) kind_is (MxStep (mutex.Alone (resume_step handed by))) (
+              (plays_late s h t c (LatePhase.WasTaken by handed) e a.here).here ∙ ap Some (was_taken by handed),
+              resume_may by handed n,
+            )
+            (ap Mx (own_after of_mutexes s u t c ActResult.Made (Plain k) c.spot a _ word
+            ∙ same of_mutexes _ _ _ _ _ _ [] [] refl
+            (ap (slice_set n.roles t) (goes_on by handed (taken_by s.wakes t)))
+            (ap threads_of (lists_same (2 * c.lock))) refl
+            ∙ ap (λ w. record {
+              word = w;
+              roles = slice_set n.roles t (mutex.to (resume_step handed by));
+              queue = n.queue;
+            }) (resume_writes by handed n.word))) (resume_leaves by handed around),
         subst (IsPrepared (recursive_in s.kinds c.lock) c.others) e (h.rules.prepared t c a.here),
         resume_knows handed (u.lot.queues (2 * c.lock)),
         λ m. subst (λ n. n < 4) (sym word) (h.rules.bits c.lock m),
       )
     where
-      was_taken : (by : ℕ) (b : Bool) → mutex.doing (mutex.Taken by (of_mutex.mark_of b) Back) ≡ mutex.from (resume_step b by)
+      was_taken : (by : ℕ) (b : Bool) → mutex.doing (mutex.Taken by (of_mutex.mark_of b) Back) ≡ mutex.from
+          (resume_step b by)
       was_taken by true = refl
       was_taken by false = refl
 
-      goes_on : (by : ℕ) (b : Bool) (us : List ℕ) → mutex_role of_mutex.Listed us (of_mutex_table.next_phase MutexPhase.Sleeps (ActResult.Woken (sign b))) ≡ mutex.to (resume_step b by)
+      goes_on : (by : ℕ) (b : Bool) (us : List ℕ)
+          → mutex_role of_mutex.Listed us (of_mutex_table.next_phase MutexPhase.Sleeps (ActResult.Woken (sign b)))
+          ≡ mutex.to (resume_step b by)
       goes_on by true us = refl
       goes_on by false us = refl
 
-      resume_may : (by : ℕ) (b : Bool) (n : mutex.Mutex) → mutex.May (resume_step b by) n.word (λ c. mutex.total c n.roles)
+      resume_may : (by : ℕ) (b : Bool) (n : mutex.Mutex)
+          → mutex.May (resume_step b by) n.word (λ c. mutex.total c n.roles)
       resume_may by true n = tt
       resume_may by false n = tt
 
@@ -194,11 +232,13 @@ module _ (s u : State) (t : ℕ) (h : FitsTogether s) where
       resume_writes by true w = refl
       resume_writes by false w = refl
 
-      resume_leaves : (by : ℕ) (b : Bool) → Crossed (mutex_crossing (mutex.Alone mutex.Leave)) t (inside s) (inside u) → Crossed (mutex_crossing (mutex.Alone (resume_step b by))) t (inside s) (inside u)
+      resume_leaves : (by : ℕ) (b : Bool) → Crossed (mutex_crossing (mutex.Alone mutex.Leave)) t (inside s) (inside u)
+          → Crossed (mutex_crossing (mutex.Alone (resume_step b by))) t (inside s) (inside u)
       resume_leaves by true x = x
       resume_leaves by false x = x
 
-      resume_knows : (b : Bool) (q : List Waiter) → mutex_knows (of_mutex_table.next_phase MutexPhase.Sleeps (ActResult.Woken (sign b))) q
+      resume_knows : (b : Bool) (q : List Waiter)
+          → mutex_knows (of_mutex_table.next_phase MutexPhase.Sleeps (ActResult.Woken (sign b))) q
       resume_knows true q = tt
       resume_knows false q = tt
   own_late c (LatePhase.WasTaken by handed) told lists_same e a gives own around = absurd gives
@@ -209,53 +249,84 @@ module _ (s u : State) (t : ℕ) (h : FitsTogether s) where
   own_late c LatePhase.Leaves told lists_same e a gives own around = absurd gives
 
   module _ (c : Call) (told : ActResult) (lists_same : (key : ℕ) → u.lot.queues key ≡ s.lot.queues key) where
-    own_rw : (k : RwCall) → c.core ≡ rw_call k → OwnAct s u t c told (core_next (rw_call k) told) c.spot → Gives (core_act (rw_call k)) (word_at s c.lock) told → IsOwnAct (core_act (rw_call k)) → AfterAct (core_act (rw_call k)) t (inside s) (inside u) → Fitted s u t c told (rw_call k)
+    own_rw : (k : RwCall) → c.core ≡ rw_call k → OwnAct s u t c told (core_next (rw_call k) told) c.spot
+        → Gives (core_act (rw_call k)) (word_at s c.lock) told → IsOwnAct (core_act (rw_call k))
+        → AfterAct (core_act (rw_call k)) t (inside s) (inside u) → Fitted s u t c told (rw_call k)
     own_rw k e b gives own around =
         let us = taken_by s.wakes t in
         let x = word_at s c.lock in
         let a = subst (λ (y : Core). OwnAct s u t c told y c.spot) (next_is k told) b in
-        let kind_is = of_rws.of_kind (slice_get s.kinds c.lock) k (subst (IsOfKind (slice_get s.kinds c.lock)) e (h.rules.kinds t c a.here)) in
+        let kind_is = of_rws.of_kind (slice_get s.kinds c.lock) k
+        (subst (IsOfKind (slice_get s.kinds c.lock)) e (h.rules.kinds t c a.here)) in
         let ready = subst (IsPrepared (recursive_in s.kinds c.lock) c.others) e (h.rules.prepared t c a.here) in
-        let heard = call_hears k x told (recursive_in s.kinds c.lock) c.others (subst (λ (y : Core). has_begun y ≡ true) e (h.rules.begun t c a.here).begun) ready own gives in
-        let leads = rw_leads (recursive_in s.kinds c.lock) (rw_lock_at s c.lock) t c.others c.spot us k x told (meets s h t c k e a.here) heard (finds (core_act (rw_call k)) c.lock own around kind_is) a.listed (inside s) (inside u)
+        let heard = call_hears k x told (recursive_in s.kinds c.lock) c.others
+        (subst (λ (y : Core). has_begun y ≡ true) e (h.rules.begun t c a.here).begun) ready own gives in
+        let leads = rw_leads (recursive_in s.kinds c.lock) (rw_lock_at s c.lock) t c.others c.spot us k x told
+        (meets s h t c k e a.here) heard (finds (core_act (rw_call k)) c.lock own around kind_is) a.listed
+        (inside s) (inside u)
         (call_own t (inside s) (inside u) (recursive_in s.kinds c.lock) c.others us k x told heard ready own around) in
-        let well = rw_hears s h t c k e a.here told heard (own_wants x k told own gives) u.lot.queues (call_learns k told own (u.lot.queues (2 * c.lock)) (u.lot.queues (2 * c.lock + 1))) in (
+        let well = rw_hears s h t c k e a.here told heard (own_wants x k told own gives) u.lot.queues
+        (call_learns k told own (u.lot.queues (2 * c.lock)) (u.lot.queues (2 * c.lock + 1))) in (
           as_move k c.others us told c.lock t s u
-              (rw_goes s u t c.lock (call_move c.others us k told) us _ (own-there s u t c told _ c.spot a) (own-elsewhere s u t c told _ c.spot a) kind_is leads.0
-              (own_after of_rws s u t c told (rw_next k told) c.spot a _ (a.word ∙ ap (λ y. word_after (core_act y) told x) e)
-              ∙ same of_rws _ _ _ _ _ _ _ _ refl refl (ap threads_of (lists_same (2 * c.lock))) (ap threads_of (lists_same (2 * c.lock + 1))))
-              leads.1 (own_some (call_move c.others us k told) us t (inside s) (inside u) (call_own t (inside s) (inside u) (recursive_in s.kinds c.lock) c.others us k x told heard ready own around))),
+              (rw_goes s u t c.lock (call_move c.others us k told) us _ (own-there s u t c told _ c.spot a)
+              (own-elsewhere s u t c told _ c.spot a) kind_is leads.0
+              (own_after of_rws s u t c told (rw_next k told) c.spot a _
+              (a.word ∙ ap (λ y. word_after (core_act y) told x) e)
+              ∙ same of_rws _ _ _ _ _ _ _ _ refl refl (ap threads_of (lists_same (2 * c.lock)))
+              (ap threads_of (lists_same (2 * c.lock + 1))))
+              leads.1 (own_some (call_move c.others us k told) us t (inside s) (inside u)
+              (call_own t (inside s) (inside u) (recursive_in s.kinds c.lock) c.others us k x told heard ready own
+              around))),
           well.0,
           well.1,
           λ m. absurd (two_kinds (sym kind_is ∙ m)),
         )
 
-    own_mutex : (k : MutexCore) → c.core ≡ Core.Mutex k → OwnAct s u t c told (core_next (Core.Mutex k) told) c.spot → Gives (of_mutex_table.act_of k.phase) (word_at s c.lock) told → IsOwnAct (of_mutex_table.act_of k.phase) → AfterAct (of_mutex_table.act_of k.phase) t (inside s) (inside u)
+    own_mutex : (k : MutexCore) → c.core ≡ Core.Mutex k → OwnAct s u t c told (core_next (Core.Mutex k) told) c.spot
+        → Gives (of_mutex_table.act_of k.phase) (word_at s c.lock) told → IsOwnAct (of_mutex_table.act_of k.phase)
+        → AfterAct (of_mutex_table.act_of k.phase) t (inside s) (inside u)
         → Fitted s u t c told (Core.Mutex k)
     own_mutex k e a gives own around =
         let us = taken_by s.wakes t in
         let x = word_at s c.lock in
         let kind_is = subst (IsOfKind (slice_get s.kinds c.lock)) e (h.rules.kinds t c a.here) in
         let word = a.word ∙ ap (λ y. word_after (core_act y) told x) e in
-        let step = steps.own (mutex_at s c.lock) x t (first_of_all us) (mutex_spot c.spot) k.phase told (plays s h t c k e a.here (λ w. subst IsOwnAct w own)) gives (own_is (of_mutex_table.act_of k.phase) own)
-        (λ key is. nobody_in_mutex s h (subst (λ (y : Act). AfterAct y t (inside s) (inside u)) is around).0 c.lock kind_is) in
+        let step = steps.own (mutex_at s c.lock) x t (first_of_all us) (mutex_spot c.spot) k.phase told
+        (plays s h t c k e a.here (λ w. subst IsOwnAct w own)) gives (own_is (of_mutex_table.act_of k.phase) own)
+        (λ key is. nobody_in_mutex s h (subst (λ (y : Act). AfterAct y t (inside s) (inside u)) is around).0 c.lock
+        kind_is) in
         let leads = leads_by (Core.Mutex k) (of_mutex_table.act_of k.phase) x told refl gives in
-        let counts : length us ≡ mutex_taken (of_mutex_table.next_phase k.phase told) = exact s h t c k e a.here (λ w. subst IsOwnAct w own) ∙ sym (own_counts (of_mutex_table.act_of k.phase) told _ _ _ _ _ own leads) in (
-          mutex_goes s u t c.lock (first_of_all us) us _ (of_mutex.move (first_of_all us) k.phase told) (own-there s u t c told _ c.spot a) (own-elsewhere s u t c told _ c.spot a) kind_is step.leads
-              (own_after of_mutexes s u t c told (Plain (record k { phase = of_mutex_table.next_phase k.phase told })) c.spot a _ word ∙ same of_mutexes _ _ _ _ _ _ [] [] refl (ap (slice_set (mutex_at s c.lock).roles t) (role_by of_mutex.Listed us (of_mutex_table.next_phase k.phase told) counts)) (ap threads_of (lists_same (2 * c.lock))) refl)
-              (subst (λ (y : Crossing). Crossed y t (inside s) (inside u)) (sym step.crossing) around) (own_tells (first_of_all us) us k.phase told own),
+        let counts : length us ≡ mutex_taken (of_mutex_table.next_phase k.phase told) =
+        exact s h t c k e a.here (λ w. subst IsOwnAct w own)
+        ∙ sym (own_counts (of_mutex_table.act_of k.phase) told _ _ _ _ _ own leads) in (
+          mutex_goes s u t c.lock (first_of_all us) us _ (of_mutex.move (first_of_all us) k.phase told)
+              (own-there s u t c told _ c.spot a) (own-elsewhere s u t c told _ c.spot a) kind_is step.leads
+              (own_after of_mutexes s u t c told (Plain (record k { phase = of_mutex_table.next_phase k.phase told }))
+              c.spot a _ word ∙ same of_mutexes _ _ _ _ _ _ [] [] refl
+              (ap (slice_set (mutex_at s c.lock).roles t)
+              (role_by of_mutex.Listed us (of_mutex_table.next_phase k.phase told) counts))
+              (ap threads_of (lists_same (2 * c.lock))) refl)
+              (subst (λ (y : Crossing). Crossed y t (inside s) (inside u)) (sym step.crossing) around)
+              (own_tells (first_of_all us) us k.phase told own),
           subst (IsPrepared (recursive_in s.kinds c.lock) c.others) e (h.rules.prepared t c a.here),
-          mutex_learns (Core.Mutex k) (of_mutex_table.next_phase k.phase told) x told refl refl own gives (u.lot.queues (2 * c.lock)),
+          mutex_learns (Core.Mutex k) (of_mutex_table.next_phase k.phase told) x told refl refl own gives
+              (u.lot.queues (2 * c.lock)),
           λ m. subst (λ n. n < 4) (sym word) step.small,
         )
 
-    own_so : (x : Core) → c.core ≡ x → OwnAct s u t c told (core_next x told) c.spot → Gives (core_act x) (word_at s c.lock) told → IsOwnAct (core_act x) → AfterAct (core_act x) t (inside s) (inside u) → Fitted s u t c told x
+    own_so : (x : Core) → c.core ≡ x → OwnAct s u t c told (core_next x told) c.spot
+        → Gives (core_act x) (word_at s c.lock) told → IsOwnAct (core_act x)
+        → AfterAct (core_act x) t (inside s) (inside u) → Fitted s u t c told x
     own_so (Core.Rw k) e = own_rw (Simple k) e
     own_so (Core.Upgrade k) e = own_rw (Upgradable k) e
     own_so (Core.LateRw p) e = own_rw (Tardy p) e
     own_so (Core.Mutex k) e = own_mutex k e
     own_so (Core.Late p) e = own_late c p told lists_same e
 
-    pub own_fits : OwnAct s u t c told (core_next c.core told) c.spot → Gives (core_act c.core) (word_at s c.lock) told → IsOwnAct (core_act c.core) → AfterAct (core_act c.core) t (inside s) (inside u) → RulesFit u × Goes t c told s u
+    pub own_fits : OwnAct s u t c told (core_next c.core told) c.spot → Gives (core_act c.core) (word_at s c.lock) told
+        → IsOwnAct (core_act c.core) → AfterAct (core_act c.core) t (inside s) (inside u) → RulesFit u
+        × Goes t c told s u
     own_fits a gives own around =
-        rules_own s u t c told c.spot a h (λ v e ne at. knows_same s.lot.queues u.lot.queues lists_same e.core e.lock (h.rules.knows v e at)) (own_so c.core refl a gives own around)
+        rules_own s u t c told c.spot a h
+        (λ v e ne at. knows_same s.lot.queues u.lot.queues lists_same e.core e.lock (h.rules.knows v e at))
+        (own_so c.core refl a gives own around)

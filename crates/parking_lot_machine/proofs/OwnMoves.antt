@@ -10,7 +10,12 @@ use Rattle.parking_lot_protocol.specs.declared.rw_phase.LockMode.{LockMode}
 use Rattle.parking_lot_protocol.specs.declared.rw_phase.Draining.{Draining}
 use Rattle.parking_lot_protocol.specs.declared.rw_phase.AfterWake.TheVariants as rest
 use Rattle.parking_lot_protocol.specs.declared.rw_phase.RwPhase.{RwPhase}
-use Rattle.parking_lot_protocol.specs.declared.rw_phase.RwPhase.TheVariants.{Admits, SetParked, Checks, Appends, Sleeps, DrainLoads, DrainSetParked, DrainChecks, DrainAppends, DrainSleeps, TryAdmits, Unshares, TakeWriter, ClearWriterParked, Unlocks, Downgrades, Scans, Stores, Wakes, Finishes}
+use Rattle.parking_lot_protocol.specs.declared.rw_phase.RwPhase.TheVariants.{Admits, SetParked, Checks, Appends, Sleeps}
+use Rattle.parking_lot_protocol.specs.declared.rw_phase.RwPhase.TheVariants.{DrainLoads, DrainSetParked, DrainChecks}
+use Rattle.parking_lot_protocol.specs.declared.rw_phase.RwPhase.TheVariants.{DrainAppends, DrainSleeps, TryAdmits}
+use Rattle.parking_lot_protocol.specs.declared.rw_phase.RwPhase.TheVariants.{Unshares, TakeWriter, ClearWriterParked}
+use Rattle.parking_lot_protocol.specs.declared.rw_phase.RwPhase.TheVariants.{Unlocks, Downgrades, Scans, Stores, Wakes}
+use Rattle.parking_lot_protocol.specs.declared.rw_phase.RwPhase.TheVariants.{Finishes}
 use Rattle.parking_lot_protocol.specs.RwTable.{act_of, is_parked, is_writer_parked, is_barred, has_readers}
 use Rattle.parking_lot_protocol.specs.RwRules.{Move, Stays, Makes, move, mode_of, admission, try_admission, IsTold}
 use Rattle.parking_lot_machine.specs.MutexLaws.{crossing_of}
@@ -56,7 +61,8 @@ module _ (t : ℕ) (old new : Option ℕ) where
   try_admits n (LockMode.Shared recursive) h = h
   try_admits n LockMode.Exclusive h = h
 
-  checks : (q : LockMode) (woken : Bool) (b : Bool) → new ≡ old → OwnMove (cond b (Makes (plain.Check1 (mode_of q) woken)) Stays) t old new
+  checks : (q : LockMode) (woken : Bool) (b : Bool) → new ≡ old
+      → OwnMove (cond b (Makes (plain.Check1 (mode_of q) woken)) Stays) t old new
   checks q woken true h = h
   checks q woken false h = h
 
@@ -68,20 +74,24 @@ module _ (t : ℕ) (old new : Option ℕ) where
   unshares n true h = h
   unshares n false h = h
 
-  pub own_moves : (n : ℕ) (us : List ℕ) (p : RwPhase) (x : ℕ) (s : ActResult) → IsTold p x s → IsOwnAct (act_of p) → AfterAct (act_of p) t old new → OwnMove (move n us p s) t old new
+  pub own_moves : (n : ℕ) (us : List ℕ) (p : RwPhase) (x : ℕ) (s : ActResult) → IsTold p x s → IsOwnAct (act_of p)
+      → AfterAct (act_of p) t old new → OwnMove (move n us p s) t old new
   own_moves n us (Admits a word) x ActResult.Exchanged told own h = admits n a.want a.woken h
   own_moves n us (SetParked a word) x ActResult.Exchanged told own h = h
-  own_moves n us (Checks q woken) x (ActResult.Word word) told own h = checks q woken (is_barred q word && is_parked word) h
+  own_moves n us (Checks q woken) x (ActResult.Word word) told own h =
+      checks q woken (is_barred q word && is_parked word) h
   own_moves n us (Appends q) x s told own h = absurd own
   own_moves n us (Sleeps q) x s told own h = absurd own
   own_moves n us (DrainLoads d) x (ActResult.Word word) told own h = drains d (has_readers word) h
   own_moves n us (DrainSetParked d flagged) x ActResult.Exchanged told own h = h
   own_moves n us (DrainSetParked d flagged) x (ActResult.Word word) told own h = drains d (has_readers word) h
-  own_moves n us (DrainChecks d) x (ActResult.Word word) told own h = checks2 d.woken (has_readers word && is_writer_parked word) h
+  own_moves n us (DrainChecks d) x (ActResult.Word word) told own h =
+      checks2 d.woken (has_readers word && is_writer_parked word) h
   own_moves n us (DrainAppends rounds) x s told own h = absurd own
   own_moves n us (DrainSleeps rounds) x s told own h = absurd own
   own_moves n us (TryAdmits q word left) x ActResult.Exchanged told own h = try_admits n q h
-  own_moves n us (Unshares rest) x (ActResult.Before word) told own h = unshares n (word / 16 == 1 && is_writer_parked word) h
+  own_moves n us (Unshares rest) x (ActResult.Before word) told own h =
+      unshares n (word / 16 == 1 && is_writer_parked word) h
   own_moves n us (TakeWriter rest) x s told own h = absurd own
   own_moves n us (ClearWriterParked rest taken) x s told own h = absurd own
   own_moves n us (Unlocks fair rest) x ActResult.Exchanged told own h = h

@@ -1,5 +1,6 @@
 -- Acts that change nothing but the word and the call of the thread that makes them.
-use Rattle.std.proofs.Common.{Bool, ◌≡◌, ◌≢◌, ℕ, zero, suc, ◌+◌, ◌*◌, ◌<◌, inl, inr, List, [], ◌∷◌, length, Option, Some, slice_get, slice_set, refl, sym, ap, ◌∙◌, subst}
+use Rattle.std.proofs.Common.{Bool, ◌≡◌, ◌≢◌, ℕ, zero, suc, ◌+◌, ◌*◌, ◌<◌, inl, inr, List, [], ◌∷◌, length, Option}
+use Rattle.std.proofs.Common.{Some, slice_get, slice_set, refl, sym, ap, ◌∙◌, subst}
 use Rattle.std.proofs.lemmas.Bool.{cases_eq}
 use Rattle.std.proofs.lemmas.List.{length-set}
 use Rattle.std.proofs.lemmas.Option.{same_Some}
@@ -14,14 +15,17 @@ use Rattle.parking_lot_machine_calls.specs.declared.open_call.Call.{Call}
 use Rattle.parking_lot_machine.specs.Rows.{State, word_at, call_at, taken_by, queue_at}
 use Rattle.parking_lot_machine_calls.specs.Stances.{Asleep, core_act, stance}
 use Rattle.parking_lot_machine.specs.RwLaws.{Finds, move_crossing, with_role}
-use Rattle.parking_lot_machine.proofs.KindTable.{Kind, IsThere, Elsewhere, one_changed, role_at, role_now, role_stays, roles_at, shown, same, RwCall, rw_call, rw_next}
-use Rattle.parking_lot_machine.proofs.RwCalls.{CallMeets, CallTold, call_lock, call_makes, call_move, call_role, call_stays}
+use Rattle.parking_lot_machine.proofs.KindTable.{Kind, IsThere, Elsewhere, one_changed, role_at, role_now, role_stays}
+use Rattle.parking_lot_machine.proofs.KindTable.{roles_at, shown, same, RwCall, rw_call, rw_next}
+use Rattle.parking_lot_machine.proofs.RwCalls.{CallMeets, CallTold, call_lock, call_makes, call_move, call_role}
+use Rattle.parking_lot_machine.proofs.RwCalls.{call_stays}
 use Rattle.parking_lot_machine.proofs.Making.{Crossed, RwLeadsBy}
 use Rattle.parking_lot_machine.proofs.OwnMoves.{OwnMove}
 use Rattle.parking_lot_machine.proofs.Meeting.{in_range}
 use Rattle.parking_lot_machine.proofs.Calling.{call_of, slot, call-here, call-elsewhere, same-holds}
 
--- Thread t is in the call c at lock j, whose core is told this; its spot is `at` then. Nothing else changes but the word, and who is inside.
+-- Thread t is in the call c at lock j, whose core is told this; its spot is `at` then. Nothing else changes but the
+-- word, and who is inside.
 pub record OwnAct (s u : State) (t : ℕ) (c : Call) (told : ActResult) (next : Core) (at : QueuePosition) : Type 0 where
   pub here : call_at s t ≡ Some c
   pub calls : u.calls ≡ slice_set s.calls t (Some (record c { core = next; spot = at }))
@@ -35,7 +39,8 @@ pub record OwnAct (s u : State) (t : ℕ) (c : Call) (told : ActResult) (next : 
   -- one that falls asleep is in its list
   pub listed : (k : ℕ) (token : ParkToken) → stance next ≡ Asleep k token → at ≡ QueuePosition.Listed
 
-module _ (s u : State) (t : ℕ) (c : Call) (told : ActResult) (next : Core) (at : QueuePosition) (a : OwnAct s u t c told next at) where
+module _ (s u : State) (t : ℕ) (c : Call) (told : ActResult) (next : Core) (at : QueuePosition)
+    (a : OwnAct s u t c told next at) where
   abbrev pub call_after : Call
   call_after = record c { core = next; spot = at }
 
@@ -53,7 +58,10 @@ module _ (s u : State) (t : ℕ) (c : Call) (told : ActResult) (next : Core) (at
     queues = a.queues;
     holds = λ x i ne. same-holds s u a.kinds a.holds x i;
     calls = λ x. elim (cases_eq x t) [
-      | inl e ↦ inr (subst (λ n. IsThere c.lock (call_at s n)) (sym e) (subst (IsThere c.lock) (sym a.here) refl), subst (λ n. IsThere c.lock (call_at u n)) (sym e) (subst (IsThere c.lock) (sym own-here) refl))
+      | inl e ↦ inr (
+        subst (λ n. IsThere c.lock (call_at s n)) (sym e) (subst (IsThere c.lock) (sym a.here) refl),
+        subst (λ n. IsThere c.lock (call_at u n)) (sym e) (subst (IsThere c.lock) (sym own-here) refl),
+      )
       | inr ne ↦ inl (own-others x ne, ap (λ ws. taken_by ws x) a.wakes)
     ];
   }
@@ -70,33 +78,49 @@ set-same (y ∷ ys) (suc i) x h = ap (λ zs. y ∷ zs) (set-same ys i x h)
 
 module _ {C R L : Type 0} (K : Kind C R L) where
   -- the lock after an act
-  pub own_after : (s u : State) (t : ℕ) (c : Call) (told : ActResult) (q : C) (at : QueuePosition) (a : OwnAct s u t c told (K.core q) at) (x : ℕ) → word_at u c.lock ≡ x
-      → shown K u c.lock ≡ K.lock x (slice_set (roles_at K s c.lock) t (K.plays c.others QueuePosition.Listed (taken_by s.wakes t) q)) (queue_at u (2 * c.lock)) (queue_at u (2 * c.lock + 1))
+  pub own_after : (s u : State) (t : ℕ) (c : Call) (told : ActResult) (q : C) (at : QueuePosition)
+      (a : OwnAct s u t c told (K.core q) at) (x : ℕ) → word_at u c.lock ≡ x
+      → shown K u c.lock ≡ K.lock x
+      (slice_set (roles_at K s c.lock) t (K.plays c.others QueuePosition.Listed (taken_by s.wakes t) q))
+      (queue_at u (2 * c.lock)) (queue_at u (2 * c.lock + 1))
   own_after s u t c told q at a x word =
       same K _ _ _ _ _ _ _ _ word
-      (one_changed (role_at K s c.lock) (role_at K u c.lock) (length s.calls) (length u.calls) t _ (in_range s t c a.here) (own-elsewhere s u t c told _ at a).threads
-      (λ y ne. role_stays K s u c.lock y (own-others s u t c told _ at a y ne) (ap (λ ws. taken_by ws y) a.wakes) (same-holds s u a.kinds a.holds y c.lock))
-      (role_now K u t (taken_by s.wakes t) (call_after s u t c told _ at a) q (own-here s u t c told _ at a) (ap (λ ws. taken_by ws t) a.wakes) refl ∙ K.listed c.others (taken_by s.wakes t) q at a.listed))
+      (one_changed (role_at K s c.lock) (role_at K u c.lock) (length s.calls) (length u.calls) t _
+      (in_range s t c a.here) (own-elsewhere s u t c told _ at a).threads
+      (λ y ne. role_stays K s u c.lock y (own-others s u t c told _ at a y ne) (ap (λ ws. taken_by ws y) a.wakes)
+      (same-holds s u a.kinds a.holds y c.lock))
+      (role_now K u t (taken_by s.wakes t) (call_after s u t c told _ at a) q (own-here s u t c told _ at a)
+      (ap (λ ws. taken_by ws t) a.wakes) refl ∙ K.listed c.others (taken_by s.wakes t) q at a.listed))
       refl refl
 
 -- AT A READER-WRITER LOCK
 
 -- an act of its own leads from the lock to the one with its next role, and crosses what its move does
-module _ (recursive : Bool) (l : Lock) (t n : ℕ) (at : QueuePosition) (us : List ℕ) (k : RwCall) (x : ℕ) (told : ActResult) (here : CallMeets recursive l t n at us k x) (heard : CallTold k x told) (found : Finds (core_act (rw_call k)) l)
-    (listed : (key : ℕ) (token : ParkToken) → stance (rw_call (rw_next k told)) ≡ Asleep key token → at ≡ QueuePosition.Listed) (old new : Option ℕ) where
+module _ (recursive : Bool) (l : Lock) (t n : ℕ) (at : QueuePosition) (us : List ℕ) (k : RwCall) (x : ℕ)
+    (told : ActResult) (here : CallMeets recursive l t n at us k x) (heard : CallTold k x told)
+    (found : Finds (core_act (rw_call k)) l)
+    (listed : (key : ℕ) (token : ParkToken) → stance (rw_call (rw_next k told)) ≡ Asleep key token
+    → at ≡ QueuePosition.Listed) (old new : Option ℕ) where
   abbrev next_lock : Lock
   next_lock = call_lock l t n us k told x
 
-  leads_by_move : (m : of_rw.Move) → call_move n us k told ≡ m → OwnMove m t old new → RwLeadsBy recursive m t l next_lock × Crossed (move_crossing m) t old new
+  leads_by_move : (m : of_rw.Move) → call_move n us k told ≡ m → OwnMove m t old new
+      → RwLeadsBy recursive m t l next_lock × Crossed (move_crossing m) t old new
   leads_by_move of_rw.Stays eq moves =
       let kept = call_stays recursive l t n at us k x told here heard listed eq in (
         ap (λ y. with_role l y t (call_role n QueuePosition.Listed us (rw_next k told))) kept.1
             ∙ ap (with_role l x t) kept.0
-            ∙ ap (λ w. record { word = w; roles = slice_set l.roles t (call_role n at us k); first = l.first; second = l.second }) (sym here.word)
+            ∙ ap (λ w. record {
+              word = w;
+              roles = slice_set l.roles t (call_role n at us k);
+              first = l.first;
+              second = l.second;
+            }) (sym here.word)
             ∙ ap (λ rs. record l { roles = rs }) (set-same l.roles t _ here.here),
         moves,
       )
-  leads_by_move (of_rw.Makes step) eq moves = (call_makes recursive l t n at us k x told step here heard eq found, moves)
+  leads_by_move (of_rw.Makes step) eq moves =
+      (call_makes recursive l t n at us k x told step here heard eq found, moves)
   leads_by_move (of_rw.Joins k) eq moves = absurd moves
   leads_by_move (of_rw.TakesOne k) eq moves = absurd moves
   leads_by_move of_rw.TakesWriter eq moves = absurd moves
@@ -104,5 +128,6 @@ module _ (recursive : Bool) (l : Lock) (t n : ℕ) (at : QueuePosition) (us : Li
   leads_by_move of_rw.WakesOne eq moves = absurd moves
   leads_by_move (of_rw.IsWoken k) eq moves = absurd moves
 
-  pub rw_leads : OwnMove (call_move n us k told) t old new → RwLeadsBy recursive (call_move n us k told) t l next_lock × Crossed (move_crossing (call_move n us k told)) t old new
+  pub rw_leads : OwnMove (call_move n us k told) t old new → RwLeadsBy recursive (call_move n us k told) t l next_lock
+      × Crossed (move_crossing (call_move n us k told)) t old new
   rw_leads moves = leads_by_move (call_move n us k told) refl moves

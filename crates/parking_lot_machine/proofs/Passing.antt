@@ -1,5 +1,6 @@
 -- Whom the section that is open has passed, its thread passes at its sum so far: acts keep that.
-use Rattle.std.proofs.Common.{◌≡◌, ◌≢◌, ℕ, ◌+◌, ◌*◌, ◌==◌, ◌&&◌, ◌||◌, ◌⊎◌, inl, inr, cond, Bool, true, false, List, Some, None, refl, sym, ap, ◌∙◌, subst, arith}
+use Rattle.std.proofs.Common.{◌≡◌, ◌≢◌, ℕ, ◌+◌, ◌*◌, ◌==◌, ◌&&◌, ◌||◌, ◌⊎◌, inl, inr, cond, Bool, true, false, List}
+use Rattle.std.proofs.Common.{Some, None, refl, sym, ap, ◌∙◌, subst, arith}
 use Rattle.std.specs.Option.{option_and_then}
 use Rattle.std.proofs.lemmas.Bool.{both_ways, cases_eq}
 use Rattle.std.proofs.lemmas.Option.{none-some}
@@ -31,12 +32,14 @@ no_stop u false token w is = go ((token == 8 || token == 20) && u) is
     go false e = cc
 
 -- one that takes nobody away goes on past those that it has passed
-pub skip_on : (u w u' w' : Bool) (token : ℕ) → (u ≡ true → u' ≡ true) → w' ≡ false → look_by u w token ≡ Skip → look_by u' w' token ≡ Skip
+pub skip_on : (u w u' w' : Bool) (token : ℕ) → (u ≡ true → u' ≡ true) → w' ≡ false → look_by u w token ≡ Skip
+    → look_by u' w' token ≡ Skip
 skip_on u true u' w' token more none is = absurd (stop≢skip is)
   where
     stop≢skip : Stop ≡ Skip → ⊥
     stop≢skip e = cc
-skip_on u false u' w' token more none is = ap (λ b. look_by u' b token) none ∙ go (token == 8 || token == 20) u u' more is
+skip_on u false u' w' token more none is = ap (λ b. look_by u' b token) none ∙ go (token == 8 || token == 20) u u' more
+    is
   where
     unpark≢skip : Unpark ≡ Skip → ⊥
     unpark≢skip e = cc
@@ -50,19 +53,23 @@ skip_on u false u' w' token more none is = ap (λ b. look_by u' b token) none �
 
 -- the section of the one that acts, or one that stays as it is
 abbrev pub IsAround : State → State → ℕ → Type 0
-IsAround s u t = (u.lot.section ≡ None) ⊎ ((inside u ≡ Some t) ⊎ ((u.lot.section ≡ s.lot.section) × ((key : ℕ) → u.lot.queues key ≡ s.lot.queues key)))
+IsAround s u t = (u.lot.section ≡ None)
+    ⊎ ((inside u ≡ Some t) ⊎ ((u.lot.section ≡ s.lot.section) × ((key : ℕ) → u.lot.queues key ≡ s.lot.queues key)))
 
 -- where a call has come to a taking, it was there before
 abbrev pub WasCalled : State → State → ℕ → Type 0
-WasCalled s u t = (v : ℕ) (d : Call) (k : ℕ) → v ≢ t → call_at u v ≡ Some d → stance d.core ≡ In k Takes → (e : Call) × (call_at s v ≡ Some e) × (e.core ≡ d.core) × (e.lock ≡ d.lock)
+WasCalled s u t = (v : ℕ) (d : Call) (k : ℕ) → v ≢ t → call_at u v ≡ Some d → stance d.core ≡ In k Takes → (e : Call)
+    × (call_at s v ≡ Some e) × (e.core ≡ d.core) × (e.lock ≡ d.lock)
 
 abbrev pub HasPassed : State → ℕ → Type 0
-HasPassed u t = (d : Call) (k : ℕ) (o : Section) → call_at u t ≡ Some d → stance d.core ≡ In k Takes → u.lot.section ≡ Some o → ArePassed (asks (core_act d.core)) (u.lot.queues (2 * d.lock + k)) (passed_of o.phase)
+HasPassed u t = (d : Call) (k : ℕ) (o : Section) → call_at u t ≡ Some d → stance d.core ≡ In k Takes
+    → u.lot.section ≡ Some o → ArePassed (asks (core_act d.core)) (u.lot.queues (2 * d.lock + k)) (passed_of o.phase)
 
 same_number : {a b : ℕ} → Some a ≡ Some b → a ≡ b
 same_number e = cc
 
-pub passes_after : (s u : State) (t : ℕ) → LotFits u → PassesFit s → IsAround s u t → WasCalled s u t → HasPassed u t → PassesFit u
+pub passes_after : (s u : State) (t : ℕ) → LotFits u → PassesFit s → IsAround s u t → WasCalled s u t → HasPassed u t
+    → PassesFit u
 passes_after s u t lots h around was own v d k o at is there = elim (cases_eq v t) [
   | inl e ↦ own d k o (ap (call_at u) (sym e) ∙ at) is there
   | inr ne ↦ elim around [
@@ -84,12 +91,18 @@ pub none_passed : (ask : ℕ → FilterOp) (q : List Waiter) (n : ℕ) → n ≡
 none_passed ask q n e i w low at = absurd (omega (arith, low, e))
 
 -- one that is in a section is the one inside
-pub inside_mine : (s : State) → LotFits s → (t : ℕ) (c : Call) → call_at s t ≡ Some c → (k : ℕ) (how : Doing) → stance c.core ≡ In k how → inside s ≡ Some t
-inside_mine s h t c here k how from = let seat = seat_of s h t c (In k how) here from in ap (option_and_then (λ (x : Section). x.thread)) seat.1 ∙ seat.2
+pub inside_mine : (s : State) → LotFits s → (t : ℕ) (c : Call) → call_at s t ≡ Some c → (k : ℕ) (how : Doing)
+    → stance c.core ≡ In k how → inside s ≡ Some t
+inside_mine s h t c here k how from = let seat = seat_of s h t c (In k how) here from in
+    ap (option_and_then (λ (x : Section). x.thread)) seat.1 ∙ seat.2
 
 -- a thread's own act, after which it has passed nobody, or doesn't take
-pub own_passes : (s u : State) (t : ℕ) (c : Call) (told : ActResult) (next : Core) (at : QueuePosition) → OwnAct s u t c told next at → LotFits u → PassesFit s → IsAround s u t
+pub own_passes : (s u : State) (t : ℕ) (c : Call) (told : ActResult) (next : Core) (at : QueuePosition)
+    → OwnAct s u t c told next at → LotFits u → PassesFit s → IsAround s u t
     → ((k : ℕ) (o : Section) → stance next ≡ In k Takes → u.lot.section ≡ Some o → passed_of o.phase ≡ 0) → PassesFit u
 own_passes s u t c told next at a lots h around none =
-    passes_after s u t lots h around (λ v d k ne there is. (d, sym (own-others s u t c told next at a v ne) ∙ there, refl, refl))
-    (λ d k o there is now. none_passed (asks (core_act d.core)) (u.lot.queues (2 * d.lock + k)) (passed_of o.phase) (none k o (ap (λ (x : Call). stance x.core) (same_call (sym (own-here s u t c told next at a) ∙ there)) ∙ is) now))
+    passes_after s u t lots h around
+    (λ v d k ne there is. (d, sym (own-others s u t c told next at a v ne) ∙ there, refl, refl))
+    (λ d k o there is now. none_passed (asks (core_act d.core)) (u.lot.queues (2 * d.lock + k)) (passed_of o.phase)
+    (none k o (ap (λ (x : Call). stance x.core) (same_call (sym (own-here s u t c told next at a) ∙ there)) ∙ is)
+    now))

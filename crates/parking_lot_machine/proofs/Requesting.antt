@@ -1,5 +1,6 @@
 -- A call that may begin begins as the rules ask.
-use Rattle.std.proofs.Common.{◌≡◌, ℕ, zero, suc, ◌-◌, ◌≤◌, nat_lt, true, false, Option, Some, None, slice_get, refl, sym, ap, subst, arith}
+use Rattle.std.proofs.Common.{◌≡◌, ℕ, zero, suc, ◌-◌, ◌≤◌, nat_lt, true, false, Option, Some, None, slice_get, refl}
+use Rattle.std.proofs.Common.{sym, ap, subst, arith}
 use Rattle.std.proofs.lemmas.Bool.{both_ways, ltb-true}
 use Rattle.std.specs.Prelude.{is_none, length}
 use Rattle.parking_lot_rules.specs.Roles.{Shares}
@@ -59,7 +60,8 @@ refused : (A : Type 0) → false ≡ true → A
 refused A h = absurd (both_ways false refl h)
 
 -- one that may read
-shares : (k : LockKind) (h : Hold) → may_share k h ≡ true → OwnsFor (is_recursive k) h (holds h) (Core.Rw (record { phase = RwPhase.Locking (want.Shared (is_recursive k)) }))
+shares : (k : LockKind) (h : Hold) → may_share k h ≡ true
+    → OwnsFor (is_recursive k) h (holds h) (Core.Rw (record { phase = RwPhase.Locking (want.Shared (is_recursive k)) }))
 shares LockKind.RwRecursive (Hold.Shares n) h = (refl, refl, refl)
 shares LockKind.RwRecursive Hold.Excludes h = refused _ h
 shares LockKind.RwRecursive Hold.Upgrades h = refused _ h
@@ -76,7 +78,8 @@ shares LockKind.FairMutex (Hold.Shares (suc n)) h = refused _ h
 shares LockKind.FairMutex Hold.Excludes h = refused _ h
 shares LockKind.FairMutex Hold.Upgrades h = refused _ h
 
-owns : (k : LockKind) (c : LockCall) (h : Hold) → is_allowed k h c ≡ true → OwnsFor (is_recursive k) h (holds_beside c h) (core_of k c)
+owns : (k : LockKind) (c : LockCall) (h : Hold) → is_allowed k h c ≡ true
+    → OwnsFor (is_recursive k) h (holds_beside c h) (core_of k c)
 owns k LockCall.Lock (Hold.Shares zero) h = (refl, refl, refl)
 owns k LockCall.Lock (Hold.Shares (suc n)) h = refused _ h
 owns k LockCall.Lock Hold.Excludes h = refused _ h
@@ -165,13 +168,15 @@ room LockKind.FairMutex (Hold.Shares (suc n)) may = refused _ may
 room k Hold.Excludes may = omega arith
 room k Hold.Upgrades may = omega arith
 
-beside : (k : LockKind) (c : LockCall) (h : Hold) → is_allowed k h c ≡ true → ((n : ℕ) → h ≡ Hold.Shares n → n ≤ 255) → holds_beside c h ≤ 254
+beside : (k : LockKind) (c : LockCall) (h : Hold) → is_allowed k h c ≡ true → ((n : ℕ) → h ≡ Hold.Shares n → n ≤ 255)
+    → holds_beside c h ≤ 254
 beside k LockCall.Read h may few = room k h may
 beside k LockCall.ReadUntil h may few = room k h may
 beside k LockCall.TryRead h may few = room k h may
 beside k c h may few = less h few
 
-pub may_begins : (s : State) (t lock : ℕ) (c : LockCall) → RulesFit s → may_begin s t lock c ≡ true → MayBegin s t (call_for s t lock c)
+pub may_begins : (s : State) (t lock : ℕ) (c : LockCall) → RulesFit s → may_begin s t lock c ≡ true
+    → MayBegin s t (call_for s t lock c)
 may_begins s t lock c h may =
     let a = both (nat_lt t (length s.calls)) _ may in
     let b = both (is_none (call_at s t)) _ a.1 in
@@ -180,7 +185,9 @@ may_begins s t lock c h may =
       low = ltb-true t (length s.calls) a.0;
       free = none_is (call_at s t) b.0;
       listed = refl;
-      kind = subst (λ (o : Option Manner). IsOfManner o (core_of (kind_in s.kinds lock) c)) (sym (manner_is (manner_of (slice_get s.kinds lock)) (manner_for c) d.0)) (core_manner (kind_in s.kinds lock) c);
+      kind = subst (λ (o : Option Manner). IsOfManner o (core_of (kind_in s.kinds lock) c))
+          (sym (manner_is (manner_of (slice_get s.kinds lock)) (manner_for c) d.0))
+          (core_manner (kind_in s.kinds lock) c);
       owns = owns (kind_in s.kinds lock) c (hold_at s t lock) d.1;
       beside = beside (kind_in s.kinds lock) c (hold_at s t lock) d.1 (λ n e. h.few t lock n e);
     }

@@ -1,5 +1,7 @@
--- A waiter that is taken into the list of a mutex, and one that is woken to try again: the machine fits together, and it is a run of the rules.
-use Rattle.std.proofs.Common.{◌≡◌, ◌≢◌, ℕ, ◌+◌, ◌*◌, ◌/◌, ◌%◌, ◌<◌, ◌≤◌, Bool, true, false, [], ◌∷◌, ◌++◌, length, Some, None, slice_get, refl, sym, ap, ◌∙◌, subst, arith}
+-- A waiter that is taken into the list of a mutex, and one that is woken to try again: the machine fits together, and
+-- it is a run of the rules.
+use Rattle.std.proofs.Common.{◌≡◌, ◌≢◌, ℕ, ◌+◌, ◌*◌, ◌/◌, ◌%◌, ◌<◌, ◌≤◌, Bool, true, false, [], ◌∷◌, ◌++◌, length, Some}
+use Rattle.std.proofs.Common.{None, slice_get, refl, sym, ap, ◌∙◌, subst, arith}
 use Rattle.std.proofs.lemmas.Bool.{ne_eqb}
 use Rattle.std.proofs.lemmas.List.{length-set, map-append}
 use Rattle.std.proofs.lemmas.Option.{none-some}
@@ -14,9 +16,11 @@ use Rattle.parking_lot_machine_calls.specs.declared.calls.LockCall.{LockCall}
 use Rattle.parking_lot_machine_calls.specs.Kinds.{AsMutex, manner_of}
 use Rattle.parking_lot_machine.specs.Machines.{may_begin}
 use Rattle.parking_lot_machine.specs.Ranks.{Sees, is_shut_to, mutex_steps, steps_left}
-use Rattle.parking_lot_machine.specs.Requeues.{IsAttended, IsRousedIn, IsTakenIn, filed, pull_run, requeue_run, retrying_call, roused, roused_in, sleeping_call, taken_in}
+use Rattle.parking_lot_machine.specs.Requeues.{IsAttended, IsRousedIn, IsTakenIn, filed, pull_run, requeue_run}
+use Rattle.parking_lot_machine.specs.Requeues.{retrying_call, roused, roused_in, sleeping_call, taken_in}
 use Rattle.parking_lot_machine.specs.RowFits.{FitsTogether}
-use Rattle.parking_lot_machine.specs.Rows.{State, call_at, first_key, hold_at, inside, mutex_at, mutex_word_of, queue_at, word_at}
+use Rattle.parking_lot_machine.specs.Rows.{State, call_at, first_key, hold_at, inside, mutex_at, mutex_word_of}
+use Rattle.parking_lot_machine.specs.Rows.{queue_at, word_at}
 use Rattle.parking_lot_machine_calls.specs.CallRoles.{owns_mutex}
 use Rattle.parking_lot_machine.proofs.Acting.{word-elsewhere, word-here}
 use Rattle.parking_lot_machine.proofs.KindTable.{within_kinds}
@@ -26,7 +30,8 @@ use Rattle.parking_lot_machine.proofs.RequeueCosts.{costs_at_most, others_cost}
 use Rattle.parking_lot_machine.proofs.RequeueLots.{roused_lots, taken_lots}
 use Rattle.parking_lot_machine.proofs.RequeueRuns.{laws as runs}
 use Rattle.parking_lot_machine.proofs.RequeueSound.{filed_attended, filed_sound, roused_attended, roused_sound}
-use Rattle.parking_lot_machine.proofs.Requeueing.{away_there, may_come, nobody, none_inside, now_roles, now_rules, now_wakes, others_stay, was_sound}
+use Rattle.parking_lot_machine.proofs.Requeueing.{away_there, may_come, nobody, none_inside, now_roles, now_rules}
+use Rattle.parking_lot_machine.proofs.Requeueing.{now_wakes, others_stay, was_sound}
 use Rattle.parking_lot_machine.proofs.Requesting.{may_begins}
 
 -- nobody is in a section who sleeps in the list, or asks
@@ -38,7 +43,9 @@ seeker_outside : mutex.weight mutex.Inside (mutex.doing (mutex.Seeks true)) ≡ 
 unfolding mutex.weight
 seeker_outside = refl
 
-module _ (s : State) (v lock : ℕ) (timed : Bool) (h : FitsTogether s) (low : v < length s.calls) (alone : call_at s v ≡ None) (kind : manner_of (slice_get s.kinds lock) ≡ Some AsMutex) (owns : owns_mutex (hold_at s v lock) ≡ false) (free : s.lot.section ≡ None) where
+module _ (s : State) (v lock : ℕ) (timed : Bool) (h : FitsTogether s) (low : v < length s.calls)
+    (alone : call_at s v ≡ None) (kind : manner_of (slice_get s.kinds lock) ≡ Some AsMutex)
+    (owns : owns_mutex (hold_at s v lock) ≡ false) (free : s.lot.section ≡ None) where
   pub has_its_word : lock < length s.words
   has_its_word = omega (arith, within_kinds s.kinds lock AsMutex kind, h.rules.size_words)
 
@@ -57,25 +64,31 @@ module _ (s : State) (v lock : ℕ) (timed : Bool) (h : FitsTogether s) (low : v
   words_then i ne = word-elsewhere s.words lock new_word i ne
 
   queues_then : (i k : ℕ) → i ≢ lock → k < 2 → u.lot.queues (2 * i + k) ≡ s.lot.queues (2 * i + k)
-  queues_then i k ne b = updated_other s.lot.queues (first_key lock) _ (2 * i + k) (ne_eqb (2 * i + k) (first_key lock) (λ e. ne (one_key i lock k 0 b (omega arith) (omega (arith, e))).0))
+  queues_then i k ne b = updated_other s.lot.queues (first_key lock) _ (2 * i + k)
+      (ne_eqb (2 * i + k) (first_key lock) (λ e. ne (one_key i lock k 0 b (omega arith) (omega (arith, e))).0))
 
   first_then : (i : ℕ) → i ≢ lock → length (u.lot.queues (first_key i)) ≡ length (s.lot.queues (first_key i))
-  first_then i ne = let same : 2 * i ≡ 2 * i + 0 = omega arith in ap (λ k. length (u.lot.queues k)) same ∙ ap length (queues_then i 0 ne (omega arith)) ∙ sym (ap (λ k. length (s.lot.queues k)) same)
+  first_then i ne = let same : 2 * i ≡ 2 * i + 0 = omega arith in ap (λ k. length (u.lot.queues k)) same
+      ∙ ap length (queues_then i 0 ne (omega arith)) ∙ sym (ap (λ k. length (s.lot.queues k)) same)
 
   bits_then : mutex_word_of new_word ≡ record (mutex_word_of (word_at s lock)) { parked = 1 }
-  bits_then = let w = word_at s lock in let a : (w % 2 + 2) % 2 ≡ w % 2 = omega arith in let b : (w % 2 + 2) / 2 % 2 ≡ 1 = omega arith in (λ i. record { locked = a i; parked = b i })
+  bits_then = let w = word_at s lock in let a : (w % 2 + 2) % 2 ≡ w % 2 = omega arith in
+      let b : (w % 2 + 2) / 2 % 2 ≡ 1 = omega arith in (λ i. record { locked = a i; parked = b i })
 
   list_then : queue_at u (first_key lock) ≡ queue_at s (first_key lock) ++ v ∷ []
-  list_then = ap threads_of (updated_at s.lot.queues (first_key lock) _) ∙ map-append (λ (w : Waiter). w.thread) (s.lot.queues (first_key lock)) _
+  list_then = ap threads_of (updated_at s.lot.queues (first_key lock) _) ∙ map-append (λ (w : Waiter). w.thread)
+      (s.lot.queues (first_key lock)) _
 
   taken_here : mutex_at u lock ≡ filed (mutex_at s lock) v
   taken_here =
       same_mutex _ _ (ap mutex_word_of word_then ∙ bits_then)
-      (now_roles s v lock h low alone kind owns free u.words u.lot MutexPhase.Sleeps timed (mutex.doing (mutex.Queued Asleep)) (λ us. refl) sleeper_outside)
+      (now_roles s v lock h low alone kind owns free u.words u.lot MutexPhase.Sleeps timed
+      (mutex.doing (mutex.Queued Asleep)) (λ us. refl) sleeper_outside)
       list_then
 
   taken_costs : (t : ℕ) → steps_left u t ≤ steps_left s t + 25
-  taken_costs t = costs_at_most s v low alone u (sleeping_call lock timed) 0 25 refl (omega arith) (omega arith) (others_cost s u lock h kind (nobody s v lock h low alone kind owns free) refl words_then first_then) t
+  taken_costs t = costs_at_most s v low alone u (sleeping_call lock timed) 0 25 refl (omega arith) (omega arith)
+      (others_cost s u lock h kind (nobody s v lock h low alone kind owns free) refl words_then first_then) t
 
   pub takes_in : IsAttended s lock → IsTakenIn v lock timed s u
   takes_in attended = record {
@@ -83,22 +96,31 @@ module _ (s : State) (v lock : ℕ) (timed : Bool) (h : FitsTogether s) (low : v
     fits = record {
       lots = taken_lots s v lock timed h.lots low alone has_its_word free;
       passes = λ t c k o at is there. absurd (none-some o there);
-      wakes = now_wakes s v lock h low alone kind owns free u.words u.lot MutexPhase.Sleeps timed (mutex.doing (mutex.Queued Asleep)) (λ us. refl) sleeper_outside;
+      wakes = now_wakes s v lock h low alone kind owns free u.words u.lot MutexPhase.Sleeps timed
+          (mutex.doing (mutex.Queued Asleep)) (λ us. refl) sleeper_outside;
       rules =
-          now_rules s v lock h low alone kind owns free u.words u.lot MutexPhase.Sleeps timed (mutex.doing (mutex.Queued Asleep)) (λ us. refl) sleeper_outside words_then queues_then refl (length-set s.words lock new_word)
+          now_rules s v lock h low alone kind owns free u.words u.lot MutexPhase.Sleeps timed
+          (mutex.doing (mutex.Queued Asleep)) (λ us. refl) sleeper_outside words_then queues_then refl
+          (length-set s.words lock new_word)
           (omega (arith, word_then)) (λ q. tt) (record { begun = refl; few = omega arith })
-          (subst mutex.IsSound (sym taken_here) (filed_sound (mutex_at s lock) v (was_sound s v lock h low alone kind owns free) there nobody_in attended));
+          (subst mutex.IsSound (sym taken_here)
+          (filed_sound (mutex_at s lock) v (was_sound s v lock h low alone kind owns free) there nobody_in
+          attended));
     };
     kind = kind;
     here = taken_here;
     away = there;
     comes = λ by ne within none. may_come s v lock h low alone kind owns free by within none;
-    elsewhere = λ i ne. others_stay s v lock h low alone kind owns free u.words u.lot MutexPhase.Sleeps timed (mutex.doing (mutex.Queued Asleep)) (λ us. refl) sleeper_outside words_then queues_then refl i ne;
+    elsewhere = λ i ne. others_stay s v lock h low alone kind owns free u.words u.lot MutexPhase.Sleeps timed
+        (mutex.doing (mutex.Queued Asleep)) (λ us. refl) sleeper_outside words_then queues_then refl i ne;
     free = refl;
-    attended = subst (λ (n : mutex.Mutex). 1 ≤ n.word.locked + mutex.total mutex.Called n.roles) (sym taken_here) (filed_attended (mutex_at s lock) v (was_sound s v lock h low alone kind owns free) there attended);
+    attended = subst (λ (n : mutex.Mutex). 1 ≤ n.word.locked + mutex.total mutex.Called n.roles) (sym taken_here)
+        (filed_attended (mutex_at s lock) v (was_sound s v lock h low alone kind owns free) there attended);
     runs = λ locked by ne within none.
-        subst (λ (n : mutex.Mutex). mutex.Runs (mutex_at s lock) (requeue_run by (owns_mutex (hold_at s by lock)) (v ∷ [])) n) (sym taken_here)
-        ((runs (mutex_at s lock) by (owns_mutex (hold_at s by lock))).locked v [] (may_come s v lock h low alone kind owns free by within none) locked ((λ e. ne (sym e)), there, tt));
+        subst (λ (n : mutex.Mutex). mutex.Runs (mutex_at s lock)
+        (requeue_run by (owns_mutex (hold_at s by lock)) (v ∷ [])) n) (sym taken_here)
+        ((runs (mutex_at s lock) by (owns_mutex (hold_at s by lock))).locked v []
+        (may_come s v lock h low alone kind owns free by within none) locked ((λ e. ne (sym e)), there, tt));
     costs = taken_costs;
   }
     where
@@ -114,12 +136,16 @@ module _ (s : State) (v lock : ℕ) (timed : Bool) (h : FitsTogether s) (low : v
   r = roused_in s v lock timed
 
   roused_here : mutex_at r lock ≡ roused (mutex_at s lock) v
-  roused_here = same_mutex _ _ refl (now_roles s v lock h low alone kind owns free s.words s.lot (MutexPhase.Loads (begins true)) timed (mutex.doing (mutex.Seeks true)) (λ us. refl) seeker_outside) refl
+  roused_here = same_mutex _ _ refl
+      (now_roles s v lock h low alone kind owns free s.words s.lot (MutexPhase.Loads (begins true)) timed
+      (mutex.doing (mutex.Seeks true)) (λ us. refl) seeker_outside) refl
 
   roused_costs : (t : ℕ) → steps_left r t ≤ steps_left s t + 51
-  roused_costs t = costs_at_most s v low alone r (retrying_call lock timed) 51 0 refl (omega arith) (own (is_shut_to v (inside r))) (λ x c e. omega arith) t
+  roused_costs t = costs_at_most s v low alone r (retrying_call lock timed) 51 0 refl (omega arith)
+      (own (is_shut_to v (inside r))) (λ x c e. omega arith) t
     where
-      own : (b : Bool) → mutex_steps (Sees (word_at r lock) (length (r.lot.queues (first_key lock))) b) (MutexPhase.Loads (begins true)) ≤ 51
+      own : (b : Bool) → mutex_steps (Sees (word_at r lock) (length (r.lot.queues (first_key lock))) b)
+          (MutexPhase.Loads (begins true)) ≤ 51
       own true = omega arith
       own false = omega arith
 
@@ -129,22 +155,29 @@ module _ (s : State) (v lock : ℕ) (timed : Bool) (h : FitsTogether s) (low : v
     fits = record {
       lots = roused_lots s v lock timed h.lots low alone;
       passes = λ t c k o at is there. absurd (none-some o (sym free ∙ there));
-      wakes = now_wakes s v lock h low alone kind owns free s.words s.lot (MutexPhase.Loads (begins true)) timed (mutex.doing (mutex.Seeks true)) (λ us. refl) seeker_outside;
+      wakes = now_wakes s v lock h low alone kind owns free s.words s.lot (MutexPhase.Loads (begins true)) timed
+          (mutex.doing (mutex.Seeks true)) (λ us. refl) seeker_outside;
       rules =
-          now_rules s v lock h low alone kind owns free s.words s.lot (MutexPhase.Loads (begins true)) timed (mutex.doing (mutex.Seeks true)) (λ us. refl) seeker_outside (λ i ne. refl) (λ i k ne b. refl) free refl
+          now_rules s v lock h low alone kind owns free s.words s.lot (MutexPhase.Loads (begins true)) timed
+          (mutex.doing (mutex.Seeks true)) (λ us. refl) seeker_outside (λ i ne. refl) (λ i k ne b. refl) free refl
           (h.rules.bits lock kind) (λ q. tt) (record { begun = refl; few = omega arith })
-          (subst mutex.IsSound (sym roused_here) (roused_sound (mutex_at s lock) v (was_sound s v lock h low alone kind owns free) there));
+          (subst mutex.IsSound (sym roused_here)
+          (roused_sound (mutex_at s lock) v (was_sound s v lock h low alone kind owns free) there));
     };
     kind = kind;
     here = roused_here;
     away = there;
     comes = λ by ne within none. may_come s v lock h low alone kind owns free by within none;
-    elsewhere = λ i ne. others_stay s v lock h low alone kind owns free s.words s.lot (MutexPhase.Loads (begins true)) timed (mutex.doing (mutex.Seeks true)) (λ us. refl) seeker_outside (λ i ne. refl) (λ i k ne b. refl) free i ne;
+    elsewhere = λ i ne. others_stay s v lock h low alone kind owns free s.words s.lot (MutexPhase.Loads (begins true))
+        timed (mutex.doing (mutex.Seeks true)) (λ us. refl) seeker_outside (λ i ne. refl) (λ i k ne b. refl) free i ne;
     free = free;
-    attended = subst (λ (n : mutex.Mutex). 1 ≤ n.word.locked + mutex.total mutex.Called n.roles) (sym roused_here) (roused_attended (mutex_at s lock) v (was_sound s v lock h low alone kind owns free) there);
+    attended = subst (λ (n : mutex.Mutex). 1 ≤ n.word.locked + mutex.total mutex.Called n.roles) (sym roused_here)
+        (roused_attended (mutex_at s lock) v (was_sound s v lock h low alone kind owns free) there);
     runs = λ by ne within none.
-        subst (λ (n : mutex.Mutex). mutex.Runs (mutex_at s lock) (pull_run by (owns_mutex (hold_at s by lock)) v []) n) (sym roused_here)
-        ((runs (mutex_at s lock) by (owns_mutex (hold_at s by lock))).unlocked v [] (may_come s v lock h low alone kind owns free by within none) (λ e. ne (sym e)) there tt);
+        subst (λ (n : mutex.Mutex). mutex.Runs (mutex_at s lock) (pull_run by (owns_mutex (hold_at s by lock)) v []) n)
+        (sym roused_here)
+        ((runs (mutex_at s lock) by (owns_mutex (hold_at s by lock))).unlocked v []
+        (may_come s v lock h low alone kind owns free by within none) (λ e. ne (sym e)) there tt);
     costs = roused_costs;
   }
     where
@@ -160,4 +193,5 @@ pub record IsFreeFor (s : State) (v lock : ℕ) : Type 0 where
   pub owns : owns_mutex (hold_at s v lock) ≡ false
 
 pub is_free : (s : State) (v lock : ℕ) → FitsTogether s → may_begin s v lock LockCall.Lock ≡ true → IsFreeFor s v lock
-is_free s v lock h may = let b = may_begins s v lock LockCall.Lock h.rules may in record { low = b.low; alone = b.free; kind = b.kind; owns = b.owns.2 }
+is_free s v lock h may = let b = may_begins s v lock LockCall.Lock h.rules may in
+    record { low = b.low; alone = b.free; kind = b.kind; owns = b.owns.2 }

@@ -17,24 +17,41 @@ module _ (n : Mutex) (v : ℕ) (there : slice_get n.roles v ≡ Some away) where
   stands = slice_get-map standing n.roles v ∙ ap (option_map standing) there
 
   filed_case : (t : ℕ) → IsCase t (Move v) (owners n) (owners (filed n v))
-  filed_case t = (stands, λ i. record { threads = map-set standing n.roles v (doing (Queued Asleep)) i; queue = n.queue ++ v ∷ [] })
+  filed_case t = (
+    stands,
+    λ i. record { threads = map-set standing n.roles v (doing (Queued Asleep)) i; queue = n.queue ++ v ∷ [] },
+  )
 
   roused_case : (t : ℕ) → IsCase t Nothing (owners n) (owners (roused n v))
-  roused_case t = λ i. record { threads = (map-set standing n.roles v (doing (Seeks true)) ∙ set_same (map standing n.roles) v (standing away) stands) i; queue = n.queue }
+  roused_case t = λ i.
+      record {
+        threads =
+            (map-set standing n.roles v (doing (Seeks true)) ∙ set_same (map standing n.roles) v (standing away)
+            stands) i;
+        queue = n.queue;
+      }
 
 -- at that lock of the machine, while the others stay
-lifted : (s u : State) (lock t : ℕ) (case : Case) → manner_of (slice_get s.kinds lock) ≡ Some AsMutex → u.kinds ≡ s.kinds → ((i : ℕ) → (i ≡ lock → ⊥) → lock_at u i ≡ lock_at s i) → IsCase t case (owners (mutex_at s lock)) (owners (mutex_at u lock)) → IsCaseOf t case s u lock
+lifted : (s u : State) (lock t : ℕ) (case : Case) → manner_of (slice_get s.kinds lock) ≡ Some AsMutex
+    → u.kinds ≡ s.kinds → ((i : ℕ) → (i ≡ lock → ⊥) → lock_at u i ≡ lock_at s i)
+    → IsCase t case (owners (mutex_at s lock)) (owners (mutex_at u lock)) → IsCaseOf t case s u lock
 lifted s u lock t case kind kinds others is = (
   is,
   record {
-    case = subst (λ (l : AnyLock). IsCaseAt (recursive_in s.kinds lock) t l (lock_at u lock)) (sym (ap (λ q. lock_as q s lock) kind))
-        (subst (λ (l : AnyLock). IsCaseAt (recursive_in s.kinds lock) t (Mx (mutex_at s lock)) l) (sym (ap (λ ks. any_lock (slice_get ks lock) u lock) kinds ∙ ap (λ q. lock_as q u lock) kind)) (case, is));
+    case = subst (λ (l : AnyLock). IsCaseAt (recursive_in s.kinds lock) t l (lock_at u lock))
+        (sym (ap (λ q. lock_as q s lock) kind))
+        (subst (λ (l : AnyLock). IsCaseAt (recursive_in s.kinds lock) t (Mx (mutex_at s lock)) l)
+        (sym (ap (λ ks. any_lock (slice_get ks lock) u lock) kinds ∙ ap (λ q. lock_as q u lock) kind)) (case, is));
     elsewhere = others;
   },
 )
 
 pub laws : MovesAreCases
 laws = record {
-  takes = λ s u v lock t timed x. lifted s u lock t (Move v) x.kind (ap (λ y. y.kinds) x.became) x.elsewhere (subst (λ (n : Mutex). IsCase t (Move v) (owners (mutex_at s lock)) (owners n)) (sym x.here) (filed_case (mutex_at s lock) v x.away t));
-  rouses = λ s u v lock t timed x. lifted s u lock t Nothing x.kind (ap (λ y. y.kinds) x.became) x.elsewhere (subst (λ (n : Mutex). IsCase t Nothing (owners (mutex_at s lock)) (owners n)) (sym x.here) (roused_case (mutex_at s lock) v x.away t));
+  takes = λ s u v lock t timed x. lifted s u lock t (Move v) x.kind (ap (λ y. y.kinds) x.became) x.elsewhere
+      (subst (λ (n : Mutex). IsCase t (Move v) (owners (mutex_at s lock)) (owners n)) (sym x.here)
+      (filed_case (mutex_at s lock) v x.away t));
+  rouses = λ s u v lock t timed x. lifted s u lock t Nothing x.kind (ap (λ y. y.kinds) x.became) x.elsewhere
+      (subst (λ (n : Mutex). IsCase t Nothing (owners (mutex_at s lock)) (owners n)) (sym x.here)
+      (roused_case (mutex_at s lock) v x.away t));
 }

@@ -1,5 +1,6 @@
 -- What it adds to the steps that are left to take a waiter into the list of a mutex, or to have it try again.
-use Rattle.std.proofs.Common.{◌≡◌, ◌≢◌, ℕ, ◌+◌, ◌*◌, ◌<◌, ◌≤◌, inl, inr, ◌==◌, Bool, true, false, cond, length, Option, Some, None, slice_get, slice_set, sum_by, refl, sym, ap, ◌∙◌, subst, arith}
+use Rattle.std.proofs.Common.{◌≡◌, ◌≢◌, ℕ, ◌+◌, ◌*◌, ◌<◌, ◌≤◌, inl, inr, ◌==◌, Bool, true, false, cond, length, Option}
+use Rattle.std.proofs.Common.{Some, None, slice_get, slice_set, sum_by, refl, sym, ap, ◌∙◌, subst, arith}
 use Rattle.std.proofs.lemmas.Bool.{cases_eq}
 use Rattle.std.proofs.lemmas.List.{length-set}
 use Rattle.parking_lot_rules.specs.Classes.{bit}
@@ -7,7 +8,8 @@ use Rattle.parking_lot_protocol.specs.declared.mutex_phase.MutexPhase.{MutexPhas
 use Rattle.parking_lot_machine_calls.specs.declared.seat.Core.{Core}
 use Rattle.parking_lot_machine_calls.specs.declared.open_call.Call.{Call}
 use Rattle.parking_lot_machine_calls.specs.Kinds.{AsMutex, manner_of}
-use Rattle.parking_lot_machine.specs.Ranks.{Sees, core_steps, far_steps, is_shut_to, mutex_steps, own_steps, steps_left, view_of}
+use Rattle.parking_lot_machine.specs.Ranks.{Sees, core_steps, far_steps, is_shut_to, mutex_steps, own_steps, steps_left}
+use Rattle.parking_lot_machine.specs.Ranks.{view_of}
 use Rattle.parking_lot_machine.specs.Rounds.{FewRounds, mutex_rounds}
 use Rattle.parking_lot_machine.specs.RowFits.{FitsTogether}
 use Rattle.parking_lot_machine_calls.specs.CallKinds.{IsOfKind}
@@ -25,21 +27,35 @@ either_way false true x y k few more = omega arith
 either_way false false x y k few more = omega arith
 
 -- A call at a mutex that is in no section, once the word has changed: what was thought of the word may be out of date.
-word_costs : (p : MutexPhase) (word first word' first' : ℕ) → mutex_rounds p ≤ 10 → mutex_steps (Sees word' first' false) p ≤ mutex_steps (Sees word first false) p + 25
-word_costs (MutexPhase.Locks a waiters) word first word' first' few = either_way (word == 2 * bit waiters) (word' == 2 * bit waiters) _ _ 25 (omega arith) (omega (arith, few))
-word_costs (MutexPhase.Parks a) word first word' first' few = either_way (word == 1) (word' == 1) _ _ 25 (omega arith) (omega (arith, few))
-word_costs (MutexPhase.Enters woken) word first word' first' few = either_way (word == 3) (word' == 3) _ _ 25 (omega arith) (omega arith)
-word_costs (MutexPhase.Checks woken) word first word' first' few = either_way (word == 3) (word' == 3) _ _ 25 (omega arith) (omega arith)
-word_costs (MutexPhase.TryLocks waiters left) word first word' first' few = either_way (word == 2 * bit waiters) (word' == 2 * bit waiters) _ _ 25 (omega arith) (omega arith)
+word_costs : (p : MutexPhase) (word first word' first' : ℕ) → mutex_rounds p ≤ 10
+    → mutex_steps (Sees word' first' false) p ≤ mutex_steps (Sees word first false) p + 25
+word_costs (MutexPhase.Locks a waiters) word first word' first' few = either_way (word == 2 * bit waiters)
+    (word' == 2 * bit waiters) _ _ 25 (omega arith) (omega (arith, few))
+word_costs (MutexPhase.Parks a) word first word' first' few = either_way (word == 1) (word' == 1) _ _ 25 (omega arith)
+    (omega (arith, few))
+word_costs (MutexPhase.Enters woken) word first word' first' few = either_way (word == 3) (word' == 3) _ _ 25
+    (omega arith) (omega arith)
+word_costs (MutexPhase.Checks woken) word first word' first' few = either_way (word == 3) (word' == 3) _ _ 25
+    (omega arith) (omega arith)
+word_costs (MutexPhase.TryLocks waiters left) word first word' first' few = either_way (word == 2 * bit waiters)
+    (word' == 2 * bit waiters) _ _ 25 (omega arith) (omega arith)
 word_costs p word first word' first' few = omega arith
 
 module _ (s : State) (v : ℕ) (low : v < length s.calls) (alone : call_at s v ≡ None) where
-  module _ (u : State) (d : Call) (k more : ℕ) (calls : u.calls ≡ slice_set s.calls v (Some d)) (far : far_steps (length s.calls) (Some d) ≤ k) (own : core_steps (length s.calls) (view_of u v d) d.core ≤ k) (rest : (t : ℕ) (c : Call) → call_at s t ≡ Some c → core_steps (length s.calls) (view_of u t c) c.core ≤ core_steps (length s.calls) (view_of s t c) c.core + more) where
+  module _ (u : State) (d : Call) (k more : ℕ) (calls : u.calls ≡ slice_set s.calls v (Some d))
+      (far : far_steps (length s.calls) (Some d) ≤ k) (own : core_steps (length s.calls) (view_of u v d) d.core ≤ k)
+      (rest : (t : ℕ) (c : Call) → call_at s t ≡ Some c → core_steps (length s.calls) (view_of u t c) c.core ≤
+      core_steps (length s.calls) (view_of s t c) c.core + more) where
     as_many : length u.calls ≡ length s.calls
     as_many = ap length calls ∙ length-set s.calls v (Some d)
 
     its_own : own_steps u v (call_at u v) ≤ k
-    its_own = omega (arith, own, ap (own_steps u v) (ap (λ cs. call_of cs v) calls ∙ call-within s.calls v (Some d) low), ap (λ n. core_steps n (view_of u v d) d.core) as_many)
+    its_own = omega (
+      arith,
+      own,
+      ap (own_steps u v) (ap (λ cs. call_of cs v) calls ∙ call-within s.calls v (Some d) low),
+      ap (λ n. core_steps n (view_of u v d) d.core) as_many,
+    )
 
     anothers : (t : ℕ) (o : Option Call) → call_at s t ≡ o → own_steps u t o ≤ own_steps s t o + more
     anothers t None e = omega arith
@@ -67,30 +83,48 @@ module _ (s : State) (v : ℕ) (low : v < length s.calls) (alone : call_at s v �
     ]
 
 -- A call at the mutex whose word and list have changed, or at another lock.
-module _ (s u : State) (lock : ℕ) (h : FitsTogether s) (kind : manner_of (slice_get s.kinds lock) ≡ Some AsMutex) (nobody : inside s ≡ None) (nobody_then : inside u ≡ None)
-    (words : (i : ℕ) → i ≢ lock → word_at u i ≡ word_at s i) (queues : (i : ℕ) → i ≢ lock → length (u.lot.queues (first_key i)) ≡ length (s.lot.queues (first_key i))) where
-  sees_then : (t i : ℕ) → Sees (word_at u i) (length (u.lot.queues (first_key i))) (is_shut_to t (inside u)) ≡ Sees (word_at u i) (length (u.lot.queues (first_key i))) false
+module _ (s u : State) (lock : ℕ) (h : FitsTogether s) (kind : manner_of (slice_get s.kinds lock) ≡ Some AsMutex)
+    (nobody : inside s ≡ None) (nobody_then : inside u ≡ None)
+    (words : (i : ℕ) → i ≢ lock → word_at u i ≡ word_at s i)
+    (queues : (i : ℕ) → i ≢ lock → length (u.lot.queues (first_key i)) ≡ length (s.lot.queues (first_key i))) where
+  sees_then : (t i : ℕ) → Sees (word_at u i) (length (u.lot.queues (first_key i))) (is_shut_to t (inside u)) ≡ Sees
+      (word_at u i) (length (u.lot.queues (first_key i))) false
   sees_then t i = ap (λ o. Sees (word_at u i) (length (u.lot.queues (first_key i))) (is_shut_to t o)) nobody_then
 
-  sees_now : (t i : ℕ) → Sees (word_at s i) (length (s.lot.queues (first_key i))) (is_shut_to t (inside s)) ≡ Sees (word_at s i) (length (s.lot.queues (first_key i))) false
+  sees_now : (t i : ℕ) → Sees (word_at s i) (length (s.lot.queues (first_key i))) (is_shut_to t (inside s)) ≡ Sees
+      (word_at s i) (length (s.lot.queues (first_key i))) false
   sees_now t i = ap (λ o. Sees (word_at s i) (length (s.lot.queues (first_key i))) (is_shut_to t o)) nobody
 
   -- at that mutex
-  at_it : (n t : ℕ) (c : Call) (x : Core) → c.core ≡ x → call_at s t ≡ Some c → c.lock ≡ lock → core_steps n (view_of u t c) x ≤ core_steps n (view_of s t c) x + 25
+  at_it : (n t : ℕ) (c : Call) (x : Core) → c.core ≡ x → call_at s t ≡ Some c → c.lock ≡ lock
+      → core_steps n (view_of u t c) x ≤ core_steps n (view_of s t c) x + 25
   at_it n t c (Core.Mutex q) e here at =
       omega (
         arith,
         ap (λ w. mutex_steps w q.phase) (sees_then t c.lock),
         ap (λ w. mutex_steps w q.phase) (sees_now t c.lock),
-        word_costs q.phase (word_at s c.lock) (length (s.lot.queues (first_key c.lock))) (word_at u c.lock) (length (u.lot.queues (first_key c.lock))) (subst FewRounds e (h.rules.begun t c here).few),
+        word_costs q.phase (word_at s c.lock) (length (s.lot.queues (first_key c.lock))) (word_at u c.lock)
+            (length (u.lot.queues (first_key c.lock))) (subst FewRounds e (h.rules.begun t c here).few),
       )
-  at_it n t c (Core.Rw q) e here at = absurd (two_kinds (sym (subst (IsOfKind (slice_get s.kinds c.lock)) e (h.rules.kinds t c here)) ∙ (ap (λ i. manner_of (slice_get s.kinds i)) at ∙ kind)))
+  at_it n t c (Core.Rw q) e here at =
+      absurd (two_kinds (sym (subst (IsOfKind (slice_get s.kinds c.lock)) e (h.rules.kinds t c here))
+      ∙ (ap (λ i. manner_of (slice_get s.kinds i)) at ∙ kind)))
   at_it n t c (Core.Late q) e here at = omega arith
-  at_it n t c (Core.LateRw q) e here at = absurd (two_kinds (sym (subst (IsOfKind (slice_get s.kinds c.lock)) e (h.rules.kinds t c here)) ∙ (ap (λ i. manner_of (slice_get s.kinds i)) at ∙ kind)))
-  at_it n t c (Core.Upgrade q) e here at = absurd (two_kinds (sym (subst (IsOfKind (slice_get s.kinds c.lock)) e (h.rules.kinds t c here)) ∙ (ap (λ i. manner_of (slice_get s.kinds i)) at ∙ kind)))
+  at_it n t c (Core.LateRw q) e here at =
+      absurd (two_kinds (sym (subst (IsOfKind (slice_get s.kinds c.lock)) e (h.rules.kinds t c here))
+      ∙ (ap (λ i. manner_of (slice_get s.kinds i)) at ∙ kind)))
+  at_it n t c (Core.Upgrade q) e here at =
+      absurd (two_kinds (sym (subst (IsOfKind (slice_get s.kinds c.lock)) e (h.rules.kinds t c here))
+      ∙ (ap (λ i. manner_of (slice_get s.kinds i)) at ∙ kind)))
 
-  pub others_cost : (t : ℕ) (c : Call) → call_at s t ≡ Some c → core_steps (length s.calls) (view_of u t c) c.core ≤ core_steps (length s.calls) (view_of s t c) c.core + 25
+  pub others_cost : (t : ℕ) (c : Call) → call_at s t ≡ Some c → core_steps (length s.calls) (view_of u t c) c.core ≤
+      core_steps (length s.calls) (view_of s t c) c.core + 25
   others_cost t c here = elim (cases_eq c.lock lock) [
     | inl at ↦ at_it (length s.calls) t c c.core refl here at
-    | inr ne ↦ omega (arith, ap (λ w. core_steps (length s.calls) w c.core) (sees_then t c.lock ∙ ap (λ w. Sees w (length (u.lot.queues (first_key c.lock))) false) (words c.lock ne) ∙ ap (λ f. Sees (word_at s c.lock) f false) (queues c.lock ne) ∙ sym (sees_now t c.lock)))
+    | inr ne ↦ omega (
+      arith,
+      ap (λ w. core_steps (length s.calls) w c.core)
+          (sees_then t c.lock ∙ ap (λ w. Sees w (length (u.lot.queues (first_key c.lock))) false) (words c.lock ne)
+          ∙ ap (λ f. Sees (word_at s c.lock) f false) (queues c.lock ne) ∙ sym (sees_now t c.lock)),
+    )
   ]

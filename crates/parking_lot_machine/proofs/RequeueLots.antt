@@ -1,6 +1,7 @@
--- A thread that was in no call joins a mutex's list, as if it had asked for the mutex and gone to sleep: the lot doesn't refuse it, and what fits of the lot
--- still fits.
-use Rattle.std.proofs.Common.{◌≡◌, ℕ, ◌<◌, Bool, false, cond, List, length, Option, Some, None, slice_set, refl, sym, ap, ◌∙◌, subst, arith}
+-- A thread that was in no call joins a mutex's list, as if it had asked for the mutex and gone to sleep: the lot
+-- doesn't refuse it, and what fits of the lot still fits.
+use Rattle.std.proofs.Common.{◌≡◌, ℕ, ◌<◌, Bool, false, cond, List, length, Option, Some, None, slice_set, refl, sym}
+use Rattle.std.proofs.Common.{ap, ◌∙◌, subst, arith}
 use Rattle.std.proofs.lemmas.List.{length-set}
 use Rattle.parking_lot_core_model.specs.declared.parking.ParkToken.{ParkToken}
 use Rattle.parking_lot_core_model.specs.declared.place.Phase.TheVariants as phase
@@ -27,21 +28,30 @@ use Rattle.parking_lot_machine.proofs.LotCalls.{lot_never_refuses}
 use Rattle.parking_lot_machine.proofs.LotKept.{acts_keep_fits}
 
 -- one that is woken to try again
-pub roused_lots : (s : State) (v lock : ℕ) (timed : Bool) → LotFits s → v < length s.calls → call_at s v ≡ None → LotFits (roused_in s v lock timed)
+pub roused_lots : (s : State) (v lock : ℕ) (timed : Bool) → LotFits s → v < length s.calls → call_at s v ≡ None
+    → LotFits (roused_in s v lock timed)
 roused_lots s v lock timed h low alone =
     let d = retrying_call lock timed in
-    quiet s v h low (Some d) (subst (λ (o : Option Call). Carries o (Some d)) (sym alone) (carries_begun d tt refl never))
+    quiet s v h low (Some d)
+    (subst (λ (o : Option Call). Carries o (Some d)) (sym alone) (carries_begun d tt refl never))
     (subst (λ (o : Option Call). Seated v o (place_at s.lot.places v) s.lot.section) alone (h.seated v low))
   where
     never : WakesSome (retrying_call lock timed).core
     never e = cc
 
-module _ (s : State) (v lock : ℕ) (timed : Bool) (h : LotFits s) (low : v < length s.calls) (alone : call_at s v ≡ None) (within : lock < length s.words) (free : s.lot.section ≡ None) where
+module _ (s : State) (v lock : ℕ) (timed : Bool) (h : LotFits s) (low : v < length s.calls) (alone : call_at s v ≡ None)
+    (within : lock < length s.words) (free : s.lot.section ≡ None) where
   abbrev parked : ParkToken
   parked = record { 0 = 0 }
 
   abbrev call_in : MutexPhase → Call
-  call_in p = record { lock = lock; others = 0; core = Core.Mutex (record { phase = p }); spot = QueuePosition.Listed; timed = timed }
+  call_in p = record {
+    lock = lock;
+    others = 0;
+    core = Core.Mutex (record { phase = p });
+    spot = QueuePosition.Listed;
+    timed = timed;
+  }
 
   -- the word says that it is to sleep
   abbrev s0 : State
@@ -84,7 +94,8 @@ module _ (s : State) (v lock : ℕ) (timed : Bool) (h : LotFits s) (low : v < le
   h1 = acts_keep_fits.begins s0 v (call_in MutexPhase.Locking) (same_parts s s0 refl refl refl h) low alone
 
   h2 : LotFits s2
-  h2 = stays_out s1 v (call_in (MutexPhase.Loads (begins false))) (seen.Word 3) h1 (set_there s.calls v _ low) (refl, refl, refl)
+  h2 = stays_out s1 v (call_in (MutexPhase.Loads (begins false))) (seen.Word 3) h1 (set_there s.calls v _ low)
+      (refl, refl, refl)
 
   here2 : call_at s2 v ≡ Some (call_in (MutexPhase.Enters false))
   here2 = set_there s1.calls v _ low1
@@ -96,10 +107,12 @@ module _ (s : State) (v lock : ℕ) (timed : Bool) (h : LotFits s) (low : v < le
   here3 = set_there s2.calls v _ low2
 
   abbrev checked_at : ℕ → State
-  checked_at w = let c = hears (call_in (MutexPhase.Checks false)) (seen.Word w) in with_lot (with_call s3 v c) (in_phase s3.lot (cond (joins (stance c.core)) phase.Valid phase.Invalid))
+  checked_at w = let c = hears (call_in (MutexPhase.Checks false)) (seen.Word w) in
+      with_lot (with_call s3 v c) (in_phase s3.lot (cond (joins (stance c.core)) phase.Valid phase.Invalid))
 
   h4 : LotFits s4
-  h4 = subst (λ w. LotFits (checked_at w)) (word-here s.words lock 3 within) (acts_keep_fits.checks s3 v (call_in (MutexPhase.Checks false)) h3 here3 refl)
+  h4 = subst (λ w. LotFits (checked_at w)) (word-here s.words lock 3 within)
+      (acts_keep_fits.checks s3 v (call_in (MutexPhase.Checks false)) h3 here3 refl)
 
   here4 : call_at s4 v ≡ Some (call_in MutexPhase.Appends)
   here4 = set_there s3.calls v _ low3
@@ -115,7 +128,8 @@ module _ (s : State) (v lock : ℕ) (timed : Bool) (h : LotFits s) (low : v < le
 
   same_calls : slice_set s.calls v (Some (sleeping_call lock timed)) ≡ s6.calls
   same_calls =
-      sym (set_twice s4.calls v _ _ ∙ set_twice s3.calls v _ _ ∙ set_twice s2.calls v _ _ ∙ set_twice s1.calls v _ _ ∙ set_twice s.calls v _ _)
+      sym (set_twice s4.calls v _ _ ∙ set_twice s3.calls v _ _ ∙ set_twice s2.calls v _ _ ∙ set_twice s1.calls v _ _
+      ∙ set_twice s.calls v _ _)
 
   same_key : key_of (call_in MutexPhase.Appends) 0 ≡ first_key lock
   same_key = omega arith

@@ -1,5 +1,6 @@
 -- When a waiter may be moved to a mutex: whoever sleeps in its list isn't forgotten.
-use Rattle.std.proofs.Common.{◌≡◌, ℕ, suc, ◌%◌, ◌≤◌, ◌==◌, ◌||◌, not, Bool, true, false, List, [], ◌∷◌, Option, Some, None, is_some, slice_get, refl, sym, ap, ◌∙◌, subst, arith, eqb-true}
+use Rattle.std.proofs.Common.{◌≡◌, ℕ, suc, ◌%◌, ◌≤◌, ◌==◌, ◌||◌, not, Bool, true, false, List, [], ◌∷◌, Option, Some}
+use Rattle.std.proofs.Common.{None, is_some, slice_get, refl, sym, ap, ◌∙◌, subst, arith, eqb-true}
 use Rattle.std.specs.List.{list_any}
 use Rattle.std.specs.Option.{option_and_then}
 use Rattle.std.proofs.lemmas.Bool.{both_ways}
@@ -24,7 +25,8 @@ use Rattle.parking_lot_machine.proofs.Meeting.{plays}
 use Rattle.parking_lot_protocol.specs.declared.act.Act.{Act}
 
 -- one that is about to try again is called
-called_weighs : (at : of_mutex.QueuePosition) (v : ℕ) (p : MutexPhase) → phase_retries p ≡ true → 1 ≤ weight Called (of_mutex.role at v p)
+called_weighs : (at : of_mutex.QueuePosition) (v : ℕ) (p : MutexPhase) → phase_retries p ≡ true
+    → 1 ≤ weight Called (of_mutex.role at v p)
 unfolding weight
 called_weighs at v (MutexPhase.Loads a) e = omega (arith, ap bit e)
 called_weighs at v (MutexPhase.Locks a waiters) e = omega (arith, ap bit e)
@@ -46,15 +48,20 @@ retries_awake (MutexPhase.Checks woken) e w = cc
 retries_awake (MutexPhase.Retreats woken) e w = cc
 retries_awake p e w = both_ways false refl e
 
-some_retries : (lock : ℕ) (o : Option Call) → retries_at lock o ≡ true → (c : Call) × (o ≡ Some c) × (c.lock ≡ lock) × (core_retries c.core ≡ true)
+some_retries : (lock : ℕ) (o : Option Call) → retries_at lock o ≡ true → (c : Call) × (o ≡ Some c) × (c.lock ≡ lock)
+    × (core_retries c.core ≡ true)
 some_retries lock None e = absurd (both_ways false refl e)
-some_retries lock (Some c) e = let b = both (c.lock == lock) (core_retries c.core) e in (c, refl, eqb-true c.lock lock b.0, b.1)
+some_retries lock (Some c) e = let b = both (c.lock == lock) (core_retries c.core) e in
+    (c, refl, eqb-true c.lock lock b.0, b.1)
 
 -- and there is one
 abbrev Retries : ℕ → List (Option Call) → Type 0
-Retries lock calls = (u : ℕ) × (c : Call) × (slice_get calls u ≡ Some (Some c)) × (c.lock ≡ lock) × (core_retries c.core ≡ true)
+Retries lock calls = (u : ℕ) × (c : Call) × (slice_get calls u ≡ Some (Some c)) × (c.lock ≡ lock)
+    × (core_retries c.core ≡ true)
 
-first_or : (lock : ℕ) (o : Option Call) (calls : List (Option Call)) (b : Bool) → retries_at lock o ≡ b → (b || list_any (retries_at lock) calls) ≡ true → (list_any (retries_at lock) calls ≡ true → Retries lock calls) → Retries lock (o ∷ calls)
+first_or : (lock : ℕ) (o : Option Call) (calls : List (Option Call)) (b : Bool) → retries_at lock o ≡ b
+    → (b || list_any (retries_at lock) calls) ≡ true → (list_any (retries_at lock) calls ≡ true → Retries lock calls)
+    → Retries lock (o ∷ calls)
 first_or lock o calls true is e rest = let x = some_retries lock o is in (0, x.0, ap Some x.1, x.2, x.3)
 first_or lock o calls false is e rest = let x = rest e in (suc x.0, x.1, x.2, x.3, x.4)
 
@@ -63,10 +70,16 @@ one_retries lock [] e = absurd (both_ways false refl e)
 one_retries lock (o ∷ calls) e = first_or lock o calls (retries_at lock o) refl e (one_retries lock calls)
 
 module _ (s : State) (h : FitsTogether s) (lock : ℕ) where
-  retried : (t : ℕ) (c : Call) (x : Core) → c.core ≡ x → call_at s t ≡ Some c → c.lock ≡ lock → core_retries x ≡ true → 1 ≤ total Called (mutex_at s lock).roles
+  retried : (t : ℕ) (c : Call) (x : Core) → c.core ≡ x → call_at s t ≡ Some c → c.lock ≡ lock → core_retries x ≡ true
+      → 1 ≤ total Called (mutex_at s lock).roles
   retried t c (Core.Mutex k) is here at e =
       subst (λ i. 1 ≤ total Called (mutex_at s i).roles) at
-      (omega (arith, total-at (mutex_at s c.lock).roles t _ (plays s h t c k is here (retries_awake k.phase e)).here Called, called_weighs (mutex_spot c.spot) (first_of_all (taken_by s.wakes t)) k.phase e))
+      (omega (
+        arith,
+        total-at (mutex_at s c.lock).roles t _ (plays s h t c k is here (retries_awake k.phase e)).here
+            Called,
+        called_weighs (mutex_spot c.spot) (first_of_all (taken_by s.wakes t)) k.phase e,
+      ))
   retried t c (Core.Rw k) is here at e = absurd (both_ways false refl e)
   retried t c (Core.Late p) is here at e = absurd (both_ways false refl e)
   retried t c (Core.Upgrade k) is here at e = absurd (both_ways false refl e)
@@ -86,5 +99,6 @@ none_entered None e = refl
 none_entered (Some x) e = absurd (both_ways false refl e)
 
 -- one that may be woken may begin to ask, where no section is open
-pub rouses_by : (s : State) (v lock : ℕ) → may_rouse_in s v lock ≡ true → (may_begin s v lock LockCall.Lock ≡ true) × (s.lot.section ≡ None)
+pub rouses_by : (s : State) (v lock : ℕ) → may_rouse_in s v lock ≡ true → (may_begin s v lock LockCall.Lock ≡ true)
+    × (s.lot.section ≡ None)
 rouses_by s v lock e = let b = both (may_begin s v lock LockCall.Lock) _ e in (b.0, none_entered s.lot.section b.1)

@@ -1,5 +1,7 @@
--- The machine once a thread that was in no call has a call at a mutex, outside of sections: what the locks see of it, and that the rules' side fits.
-use Rattle.std.proofs.Common.{◌≡◌, ◌≢◌, ℕ, ◌+◌, ◌*◌, ◌<◌, inl, inr, ◌==◌, Bool, true, false, cond, List, length, Option, Some, None, slice_get, slice_set, refl, sym, ap, ◌∙◌, subst, arith}
+-- The machine once a thread that was in no call has a call at a mutex, outside of sections: what the locks see of it,
+-- and that the rules' side fits.
+use Rattle.std.proofs.Common.{◌≡◌, ◌≢◌, ℕ, ◌+◌, ◌*◌, ◌<◌, inl, inr, ◌==◌, Bool, true, false, cond, List, length, Option}
+use Rattle.std.proofs.Common.{Some, None, slice_get, slice_set, refl, sym, ap, ◌∙◌, subst, arith}
 use Rattle.std.specs.Option.{option_and_then}
 use Rattle.std.proofs.lemmas.Bool.{cases_eq}
 use Rattle.std.proofs.lemmas.List.{length-set}
@@ -21,13 +23,15 @@ use Rattle.parking_lot_machine_calls.specs.Kinds.{AsMutex, manner_of}
 use Rattle.parking_lot_machine.specs.Requeues.{MayCome}
 use Rattle.parking_lot_machine.specs.Rounds.{IsUnderWay}
 use Rattle.parking_lot_machine.specs.RowFits.{FitsTogether, RulesFit, WakesFit, is_away, mutex_knows}
-use Rattle.parking_lot_machine.specs.Rows.{State, call_at, hold_at, inside, lock_at, lock_as, mutex_at, taken_by, word_at}
+use Rattle.parking_lot_machine.specs.Rows.{State, call_at, hold_at, inside, lock_at, lock_as, mutex_at, taken_by}
+use Rattle.parking_lot_machine.specs.Rows.{word_at}
 use Rattle.parking_lot_machine_calls.specs.CallRoles.{owns_mutex, mutex_role}
 use Rattle.parking_lot_machine_calls.specs.Stances.{In, stance}
 use Rattle.parking_lot_machine.proofs.Calling.{call-here, call-elsewhere}
 use Rattle.parking_lot_machine.proofs.Carrying.{same_call}
 use Rattle.parking_lot_rules.proofs.Everybody.{get-all}
-use Rattle.parking_lot_machine.proofs.KindTable.{Elsewhere, IsThere, Plain, elsewhere, of_mutexes, one_changed, role_at, role_now, role_stays}
+use Rattle.parking_lot_machine.proofs.KindTable.{Elsewhere, IsThere, Plain, elsewhere, of_mutexes, one_changed, role_at}
+use Rattle.parking_lot_machine.proofs.KindTable.{role_now, role_stays}
 use Rattle.parking_lot_machine.proofs.LotActs.{seat_of}
 use Rattle.parking_lot_machine.proofs.Making.{IsSoundState}
 use Rattle.parking_lot_machine.proofs.Meeting.{mutex_sound}
@@ -42,7 +46,9 @@ nobody_there : (b : Bool) (o : Option ℕ) (x : ℕ) → o ≡ None → cond b o
 nobody_there true o x none e = none-some x (sym none ∙ e)
 nobody_there false o x none e = none-some x e
 
-module _ (s : State) (v lock : ℕ) (h : FitsTogether s) (low : v < length s.calls) (alone : call_at s v ≡ None) (kind : manner_of (slice_get s.kinds lock) ≡ Some AsMutex) (owns : owns_mutex (hold_at s v lock) ≡ false) (free : s.lot.section ≡ None) where
+module _ (s : State) (v lock : ℕ) (h : FitsTogether s) (low : v < length s.calls) (alone : call_at s v ≡ None)
+    (kind : manner_of (slice_get s.kinds lock) ≡ Some AsMutex) (owns : owns_mutex (hold_at s v lock) ≡ false)
+    (free : s.lot.section ≡ None) where
   pub nobody : inside s ≡ None
   nobody = ap (option_and_then (λ (x : Section). x.thread)) free
 
@@ -50,8 +56,10 @@ module _ (s : State) (v lock : ℕ) (h : FitsTogether s) (low : v < length s.cal
   none_inside = total_of_nobody (mutex_at s lock).roles (nobody_in_mutex s h nobody lock kind)
 
   -- one in no call
-  pub idle_there : (t : ℕ) → t < length s.calls → call_at s t ≡ None → slice_get (mutex_at s lock).roles t ≡ Some (record { owns = owns_mutex (hold_at s t lock); does = mutex.Idle })
-  idle_there t within none = get-all (role_at of_mutexes s lock) (length s.calls) t within ∙ ap Some (ap (of_mutexes.role_in lock (taken_by s.wakes t) (hold_at s t lock)) none)
+  pub idle_there : (t : ℕ) → t < length s.calls → call_at s t ≡ None → slice_get (mutex_at s lock).roles t ≡ Some
+      (record { owns = owns_mutex (hold_at s t lock); does = mutex.Idle })
+  idle_there t within none = get-all (role_at of_mutexes s lock) (length s.calls) t within
+      ∙ ap Some (ap (of_mutexes.role_in lock (taken_by s.wakes t) (hold_at s t lock)) none)
 
   pub away_there : slice_get (mutex_at s lock).roles v ≡ Some mutex.away
   away_there = idle_there v low alone ∙ ap (λ b. Some (record { owns = b; does = mutex.Idle })) owns
@@ -60,19 +68,35 @@ module _ (s : State) (v lock : ℕ) (h : FitsTogether s) (low : v < length s.cal
   was_sound = mutex_sound s h lock kind
 
   -- any other in no call may come
-  pub may_come : (by : ℕ) → by < length s.calls → call_at s by ≡ None → MayCome (mutex_at s lock) by (owns_mutex (hold_at s by lock))
+  pub may_come : (by : ℕ) → by < length s.calls → call_at s by ≡ None
+      → MayCome (mutex_at s lock) by (owns_mutex (hold_at s by lock))
   may_come by within none = record { here = idle_there by within none; free = none_inside }
 
   -- nobody is in a section
   all_out : (t : ℕ) (e : Call) → call_at s t ≡ Some e → IsOut (stance e.core)
-  all_out t e at k how is = let seat = seat_of s h.lots t e (In k how) at is in absurd (none-some seat.0 (sym free ∙ seat.1))
+  all_out t e at k how is = let seat = seat_of s h.lots t e (In k how) at is in
+      absurd (none-some seat.0 (sym free ∙ seat.1))
 
-  module _ (ws : List ℕ) (l : Machine) (p : MutexPhase) (timed : Bool) (y : mutex.Role) (plays : (us : List ℕ) → mutex_role of_mutex.Listed us p ≡ y) (outside : mutex.weight mutex.Inside y ≡ 0) where
+  module _ (ws : List ℕ) (l : Machine) (p : MutexPhase) (timed : Bool) (y : mutex.Role)
+      (plays : (us : List ℕ) → mutex_role of_mutex.Listed us p ≡ y) (outside : mutex.weight mutex.Inside y ≡ 0) where
     abbrev d : Call
-    d = record { lock = lock; others = 0; core = Core.Mutex (record { phase = p }); spot = QueuePosition.Listed; timed = timed }
+    d = record {
+      lock = lock;
+      others = 0;
+      core = Core.Mutex (record { phase = p });
+      spot = QueuePosition.Listed;
+      timed = timed;
+    }
 
     abbrev u : State
-    u = record { kinds = s.kinds; words = ws; holds = s.holds; calls = slice_set s.calls v (Some d); wakes = s.wakes; lot = l }
+    u = record {
+      kinds = s.kinds;
+      words = ws;
+      holds = s.holds;
+      calls = slice_set s.calls v (Some d);
+      wakes = s.wakes;
+      lot = l;
+    }
 
     pub now_here : call_at u v ≡ Some d
     now_here = call-here s.calls v None (Some d) (empty_slot s.calls v low alone)
@@ -85,14 +109,19 @@ module _ (s : State) (v lock : ℕ) (h : FitsTogether s) (low : v < length s.cal
 
     pub now_roles : (mutex_at u lock).roles ≡ slice_set (mutex_at s lock).roles v y
     now_roles =
-        one_changed (role_at of_mutexes s lock) (role_at of_mutexes u lock) (length s.calls) (length u.calls) v y low now_as_many
+        one_changed (role_at of_mutexes s lock) (role_at of_mutexes u lock) (length s.calls) (length u.calls) v y low
+        now_as_many
         (λ x ne. role_stays of_mutexes s u lock x (now_there x ne) refl refl)
-        (role_now of_mutexes u v (taken_by s.wakes v) d (Plain (record { phase = p })) now_here refl refl ∙ plays (taken_by s.wakes v))
+        (role_now of_mutexes u v (taken_by s.wakes v) d (Plain (record { phase = p })) now_here refl refl
+        ∙ plays (taken_by s.wakes v))
 
     pub now_wakes : WakesFit u
-    now_wakes = wakes_listed s u v (Some d) h.wakes low refl refl (ap is_away alone) (λ e is. ap (λ (z : Call). z.spot) (sym (same_call is)))
+    now_wakes = wakes_listed s u v (Some d) h.wakes low refl refl (ap is_away alone)
+        (λ e is. ap (λ (z : Call). z.spot) (sym (same_call is)))
 
-    module _ (words : (i : ℕ) → i ≢ lock → word_at u i ≡ word_at s i) (queues : (i k : ℕ) → i ≢ lock → k < 2 → l.queues (2 * i + k) ≡ s.lot.queues (2 * i + k)) (shut : l.section ≡ None) where
+    module _ (words : (i : ℕ) → i ≢ lock → word_at u i ≡ word_at s i)
+        (queues : (i k : ℕ) → i ≢ lock → k < 2 → l.queues (2 * i + k) ≡ s.lot.queues (2 * i + k))
+        (shut : l.section ≡ None) where
       now_elsewhere : Elsewhere lock s u
       now_elsewhere = record {
         kinds = refl;
@@ -101,7 +130,10 @@ module _ (s : State) (v lock : ℕ) (h : FitsTogether s) (low : v < length s.cal
         queues = queues;
         holds = λ x i ne. refl;
         calls = λ x. elim (cases_eq x v) [
-          | inl e ↦ inr (subst (λ n. IsThere lock (call_at s n)) (sym e) (subst (IsThere lock) (sym alone) tt), subst (λ n. IsThere lock (call_at u n)) (sym e) (subst (IsThere lock) (sym now_here) refl))
+          | inl e ↦ inr (
+            subst (λ n. IsThere lock (call_at s n)) (sym e) (subst (IsThere lock) (sym alone) tt),
+            subst (λ n. IsThere lock (call_at u n)) (sym e) (subst (IsThere lock) (sym now_here) refl),
+          )
           | inr ne ↦ inl (now_there x ne, refl)
         ];
       }
@@ -125,12 +157,16 @@ module _ (s : State) (v lock : ℕ) (h : FitsTogether s) (low : v < length s.cal
           e,
           outside,
           ap (λ rs. at_index (mutex.weight mutex.Inside) (slice_get rs x)) now_roles
-              ∙ ap (λ n. at_index (mutex.weight mutex.Inside) (slice_get (slice_set (mutex_at s lock).roles v y) n)) same
-              ∙ ap (at_index (mutex.weight mutex.Inside)) (get-set_same (mutex_at s lock).roles v mutex.away y away_there),
+              ∙ ap (λ n. at_index (mutex.weight mutex.Inside) (slice_get (slice_set (mutex_at s lock).roles v y) n))
+              same
+              ∙ ap (at_index (mutex.weight mutex.Inside))
+              (get-set_same (mutex_at s lock).roles v mutex.away y away_there),
         ))
         | inr ne ↦ was_outside lock x First
             (ap (λ q. any_inside (lock_as q s lock) First x) kind
-            ∙ sym (ap (λ rs. at_index (mutex.weight mutex.Inside) (slice_get rs x)) now_roles ∙ ap (at_index (mutex.weight mutex.Inside)) (get-set_other (mutex_at s lock).roles v x y (λ f. ne (sym f)))) ∙ e)
+            ∙ sym (ap (λ rs. at_index (mutex.weight mutex.Inside) (slice_get rs x)) now_roles
+            ∙ ap (at_index (mutex.weight mutex.Inside))
+            (get-set_other (mutex_at s lock).roles v x y (λ f. ne (sym f)))) ∙ e)
       ]
       is_outside x Second e = absurd (omega (arith, e))
 
@@ -141,23 +177,39 @@ module _ (s : State) (v lock : ℕ) (h : FitsTogether s) (low : v < length s.cal
           | inr ne ↦ subst AnySound (sym (others_stay i ne)) (h.rules.sound.sound i)
         ];
         entered = λ i k x e. elim (cases_eq i lock) [
-          | inl same ↦ absurd (is_outside x k (ap (λ q. any_inside q k x) (sym shows_mutex) ∙ ap (λ n. any_inside (lock_at u n) k x) (sym same) ∙ e))
+          | inl same ↦ absurd
+              (is_outside x k (ap (λ q. any_inside q k x) (sym shows_mutex) ∙ ap (λ n. any_inside (lock_at u n) k x)
+              (sym same) ∙ e))
           | inr ne ↦ absurd (was_outside i x k (ap (λ q. any_inside q k x) (sym (others_stay i ne)) ∙ e))
         ];
         is_inside = λ b x e. absurd (nobody_there (b == 0) (inside u) x nobody_now e);
       }
 
-      pub now_rules : length ws ≡ length s.words → word_at u lock < 4 → ((q : List Waiter) → mutex_knows p q) → IsUnderWay d.core → mutex.IsSound (mutex_at u lock) → RulesFit u
+      pub now_rules : length ws ≡ length s.words → word_at u lock < 4 → ((q : List Waiter) → mutex_knows p q)
+          → IsUnderWay d.core → mutex.IsSound (mutex_at u lock) → RulesFit u
       now_rules sizes few knows begun sound = rules_after s u lock h.rules (record {
         kinds = refl;
         threads = now_as_many;
         holds = refl;
         words = sizes;
         calls = λ x e at. elim (cases_eq x v) [
-          | inl same ↦ subst (CallFits s.kinds l.queues) (same_Some d e (sym now_here ∙ ap (call_at u) (sym same) ∙ at)) (record { kind = kind; prepared = refl; knows = knows (l.queues (2 * lock)); beside = omega arith; begun = begun })
+          | inl same ↦ subst (CallFits s.kinds l.queues) (same_Some d e (sym now_here ∙ ap (call_at u) (sym same) ∙ at))
+              (record {
+                kind = kind;
+                prepared = refl;
+                knows = knows (l.queues (2 * lock));
+                beside = omega arith;
+                begun = begun;
+              })
           | inr ne ↦
               (let was = sym (now_there x ne) ∙ at in
-              record { kind = h.rules.kinds x e was; prepared = h.rules.prepared x e was; knows = out_knows e.core l.queues e.lock (all_out x e was); beside = h.rules.beside x e was; begun = h.rules.begun x e was })
+              record {
+                kind = h.rules.kinds x e was;
+                prepared = h.rules.prepared x e was;
+                knows = out_knows e.core l.queues e.lock (all_out x e was);
+                beside = h.rules.beside x e was;
+                begun = h.rules.begun x e was;
+              })
         ];
         few = h.rules.few;
         elsewhere = words;

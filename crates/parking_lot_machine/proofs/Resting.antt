@@ -1,5 +1,7 @@
 -- A machine in which nobody has done anything fits together.
-use Rattle.std.proofs.Common.{◌≡◌, ℕ, zero, suc, ◌+◌, ◌*◌, ◌<◌, ◌≤◌, ◌^◌, ◌==◌, nat_lt, Bool, true, false, List, [], ◌∷◌, length, replicate, map, Option, None, Some, slice_get, refl, sym, ap, ◌∙◌, subst, arith, if◌then◌else◌}
+use Rattle.std.proofs.Common.{◌≡◌, ℕ, zero, suc, ◌+◌, ◌*◌, ◌<◌, ◌≤◌, ◌^◌, ◌==◌, nat_lt, Bool, true, false, List, []}
+use Rattle.std.proofs.Common.{◌∷◌, length, replicate, map, Option, None, Some, slice_get, refl, sym, ap, ◌∙◌, subst}
+use Rattle.std.proofs.Common.{arith, if◌then◌else◌}
 use Rattle.std.proofs.lemmas.List.{length-replicate}
 use Rattle.std.proofs.lemmas.Option.{none-some}
 use Rattle.std.specs.Option.{option_and_then, option_map_or}
@@ -20,7 +22,9 @@ use Rattle.parking_lot_machine_calls.specs.Kinds.{Manner, AsRw, AsMutex, manner_
 use Rattle.parking_lot_machine_calls.specs.declared.calls.LockKind.{LockKind}
 use Rattle.parking_lot_machine_calls.specs.declared.open_call.Call.{Call}
 use Rattle.parking_lot_machine_calls.specs.declared.seat.Hold.{Hold}
-use Rattle.parking_lot_machine.specs.Rows.{State, lock_as, call_at, family, hold_at, lock_at, mutex_at, mutex_role_at, mutex_role_in, mutex_word_of, one_bucket, rw_lock_at, rw_role_at, rw_role_in, word_at}
+use Rattle.parking_lot_machine.specs.Rows.{State, lock_as, call_at, family, hold_at, lock_at, mutex_at, mutex_role_at}
+use Rattle.parking_lot_machine.specs.Rows.{mutex_role_in, mutex_word_of, one_bucket, rw_lock_at, rw_role_at, rw_role_in}
+use Rattle.parking_lot_machine.specs.Rows.{word_at}
 use Rattle.parking_lot_machine.specs.RowFits.{FitsTogether}
 use Rattle.parking_lot_machine.specs.LotLaws.{IsNew}
 use Rattle.parking_lot_machine.specs.Machines.{at_rest}
@@ -28,7 +32,8 @@ use Rattle.parking_lot_rules.proofs.Everybody.{all, same-all}
 use Rattle.parking_lot_machine.proofs.LotStarts.{new_machines_fit}
 
 -- what a list of the same shows at an index
-all_the_same : {X Y : Type 0} (x : X) (n i : ℕ) (f : Option X → Y) (y : Y) → f (Some x) ≡ y → f None ≡ y → f (slice_get (replicate n x) i) ≡ y
+all_the_same : {X Y : Type 0} (x : X) (n i : ℕ) (f : Option X → Y) (y : Y) → f (Some x) ≡ y → f None ≡ y
+    → f (slice_get (replicate n x) i) ≡ y
 all_the_same x zero i f y some none = none
 all_the_same x (suc n) zero f y some none = some
 all_the_same x (suc n) (suc i) f y some none = all_the_same x n i f y some none
@@ -41,7 +46,9 @@ below x (suc n) (suc i) low = below x n i (omega (arith, low))
 -- so many away
 rw_away_all : (i a n : ℕ) → all (λ t. away) a n ≡ map (many.role_at i) (replicate n rules.idle)
 rw_away_all i a zero = refl
-rw_away_all i a (suc n) = ap (λ r. r ∷ all (λ t. away) (a + 1) n) (sym (all_away i 1 0 (many.role_at i rules.idle) refl)) ∙ ap (λ rs. many.role_at i rules.idle ∷ rs) (rw_away_all i (a + 1) n)
+rw_away_all i a (suc n) = ap (λ r. r ∷ all (λ t. away) (a + 1) n)
+    (sym (all_away i 1 0 (many.role_at i rules.idle) refl)) ∙ ap (λ rs. many.role_at i rules.idle ∷ rs)
+    (rw_away_all i (a + 1) n)
 
 mutex_away_all : (a n : ℕ) → all (λ t. mutex.away) a n ≡ replicate n mutex.away
 mutex_away_all a zero = refl
@@ -57,8 +64,10 @@ module _ (n : ℕ) (ks : List LockKind) where
   nothing : (t i : ℕ) → hold_at s t i ≡ Hold.Shares 0
   nothing t i = go (nat_lt i (length ks))
     where
-      go : (b : Bool) → (if b then option_map_or (λ h. h) (slice_get s.holds (t * length ks + i)) (Hold.Shares 0) else Hold.Shares 0) ≡ Hold.Shares 0
-      go true = all_the_same (Hold.Shares 0) (n * length ks) (t * length ks + i) (λ o. option_map_or (λ h. h) o (Hold.Shares 0)) (Hold.Shares 0) refl refl
+      go : (b : Bool) → (if b then option_map_or (λ h. h) (slice_get s.holds (t * length ks + i)) (Hold.Shares 0) else
+          Hold.Shares 0) ≡ Hold.Shares 0
+      go true = all_the_same (Hold.Shares 0) (n * length ks) (t * length ks + i)
+          (λ o. option_map_or (λ h. h) o (Hold.Shares 0)) (Hold.Shares 0) refl refl
       go false = refl
 
   blank : (i : ℕ) → word_at s i ≡ 0
@@ -71,17 +80,24 @@ module _ (n : ℕ) (ks : List LockKind) where
   rw_role i t = ap (λ o. rw_role_in i [] (hold_at s t i) o) (nobody t) ∙ ap (λ h. rw_role_in i [] h None) (nothing t i)
 
   mutex_role : (i t : ℕ) → mutex_role_at s i t ≡ mutex.away
-  mutex_role i t = ap (λ o. mutex_role_in i [] (hold_at s t i) o) (nobody t) ∙ ap (λ h. mutex_role_in i [] h None) (nothing t i)
+  mutex_role i t = ap (λ o. mutex_role_in i [] (hold_at s t i) o) (nobody t)
+      ∙ ap (λ h. mutex_role_in i [] h None) (nothing t i)
 
   rw_lock : (i : ℕ) → rw_lock_at s i ≡ many.lock_at (rules.at_rest n) i
   rw_lock i =
-      ap (λ w. record { word = word_of w; roles = all (rw_role_at s i) 0 (length s.calls); first = []; second = [] }) (blank i)
-      ∙ ap (λ rs. record { word = word_of 0; roles = rs; first = []; second = [] }) (same-all (λ t. away) (rw_role_at s i) (length s.calls) (λ u low. rw_role i u) ∙ ap (all (λ t. away) 0) threads_at_rest ∙ rw_away_all i 0 n)
+      ap (λ w. record { word = word_of w; roles = all (rw_role_at s i) 0 (length s.calls); first = []; second = [] })
+      (blank i)
+      ∙ ap (λ rs. record { word = word_of 0; roles = rs; first = []; second = [] })
+      (same-all (λ t. away) (rw_role_at s i) (length s.calls) (λ u low. rw_role i u)
+      ∙ ap (all (λ t. away) 0) threads_at_rest ∙ rw_away_all i 0 n)
 
   mutex_lock : (i : ℕ) → mutex_at s i ≡ mutex.unlocked n
   mutex_lock i =
-      ap (λ w. record { word = mutex_word_of w; roles = all (mutex_role_at s i) 0 (length s.calls); queue = [] }) (blank i)
-      ∙ ap (λ rs. record { word = mutex_word_of 0; roles = rs; queue = [] }) (same-all (λ t. mutex.away) (mutex_role_at s i) (length s.calls) (λ u low. mutex_role i u) ∙ ap (all (λ t. mutex.away) 0) threads_at_rest ∙ mutex_away_all 0 n)
+      ap (λ w. record { word = mutex_word_of w; roles = all (mutex_role_at s i) 0 (length s.calls); queue = [] })
+      (blank i)
+      ∙ ap (λ rs. record { word = mutex_word_of 0; roles = rs; queue = [] })
+      (same-all (λ t. mutex.away) (mutex_role_at s i) (length s.calls) (λ u low. mutex_role i u)
+      ∙ ap (all (λ t. mutex.away) 0) threads_at_rest ∙ mutex_away_all 0 n)
 
   sound_at : (i : ℕ) → AnySound (lock_at s i)
   sound_at i = go (manner_of (slice_get ks i))
@@ -103,7 +119,8 @@ module _ (n : ℕ) (ks : List LockKind) where
   outside i x u = go (manner_of (slice_get ks i))
     where
       rw : rw_inside (rw_lock_at s i) x u ≡ 1 → ⊥
-      rw h = none-some u ((rest_sound_family (λ k. k) n).entered i x u (ap (λ l. rw_inside l x u) (sym (rw_lock i)) ∙ h))
+      rw h = none-some u
+          ((rest_sound_family (λ k. k) n).entered i x u (ap (λ l. rw_inside l x u) (sym (rw_lock i)) ∙ h))
 
       go : (k : Option Manner) → any_inside (lock_as k s i) x u ≡ 1 → ⊥
       go (Some AsMutex) h = omega (arith, h, ap (λ m. mutex_inside m x u) (mutex_lock i), nobody_in_mutex x u)
@@ -136,7 +153,8 @@ module _ (n : ℕ) (ks : List LockKind) where
         calls = nobody;
         wakes = refl;
         lists = λ key. refl;
-        runs = λ t at. ap (λ o. option_and_then (λ p. p) o) (below (Some Running) n t (omega (arith, at, threads_at_rest)));
+        runs = λ t at. ap (λ o. option_and_then (λ p. p) o)
+            (below (Some Running) n t (omega (arith, at, threads_at_rest)));
         free = refl;
       } in
       let fits = new_machines_fit s sound new in

@@ -1,4 +1,5 @@
--- A call at a reader-writer lock, of shared and exclusive holds or of the upgradable one: what the machine needs of either.
+-- A call at a reader-writer lock, of shared and exclusive holds or of the upgradable one: what the machine needs of
+-- either.
 use Rattle.std.proofs.Common.{◌≡◌, ◌<◌, ◌≤◌, ℕ, ◌+◌, ◌-◌, ◌*◌, ◌/◌, ◌%◌, ◌^◌, bit_and, cond, Bool, true, false, List, ◌∷◌, length, Option, Some, None, slice_get, slice_set, refl, sym, ap, ◌∙◌, subst, arith}
 use Rattle.std.proofs.lemmas.Bool.{both_ways}
 use Rattle.parking_lot_core_model.specs.declared.parking.FilterOp.TheVariants.{Unpark}
@@ -67,7 +68,8 @@ use Rattle.parking_lot_protocol.specs.declared.rw_phase.LockMode.{LockMode}
 abbrev pub call_role : ℕ → QueuePosition → List ℕ → RwCall → Role
 call_role n at us k = rw_core_role n at us (rw_call k)
 
--- One whose moment has passed takes itself out by a step that is told where it stood, and no act but those named gives it anything by itself.
+-- One whose moment has passed takes itself out by a step that is told where it stood, and no act but those named gives
+-- it anything by itself.
 abbrev pub tardy_move : LateRwPhase → ActResult → Move
 tardy_move (LateRwPhase.Expires k) ActResult.Entered = of_rw.Makes (reenters_as (pending_from k) (sleeper_wants k))
 tardy_move LateRwPhase.Masks (ActResult.Before word) = of_rw.Makes Mask1
@@ -119,7 +121,8 @@ call_shared (Simple k) = count_shared k.phase
 call_shared (Upgradable k) = upgrade_shared k.phase
 call_shared (Tardy p) = 0
 
--- Thread t is in that call at a sound lock whose word is the number x, beside n shared holds, and has taken the threads us.
+-- Thread t is in that call at a sound lock whose word is the number x, beside n shared holds, and has taken the threads
+-- us.
 pub record CallMeets (recursive : Bool) (l : Lock) (t n : ℕ) (at : QueuePosition) (us : List ℕ) (k : RwCall) (x : ℕ) : Type 0 where
   pub sound : IsSound l
   pub word : l.word ≡ word_of x

@@ -1,6 +1,9 @@
 -- What a phase at a reader-writer lock costs that has just seen the word, or that comes after a release.
-use Rattle.std.proofs.Common.{◌≡◌, ◌≤◌, ◌<◌, ℕ, ◌+◌, ◌-◌, ◌*◌, ◌/◌, ◌^◌, ◌==◌, ◌&&◌, ◌||◌, nat_lt, not, Bool, true, false, cond, refl, sym, subst, arith, ◌%◌, min, Option, Some, None, option_map, is_some, ap, ◌∙◌}
-use Rattle.std.proofs.lemmas.Bool.{both_ways, ltb-true, lt-ltb, eq-eqb, cond_both, and_parts, and_from, eqb-false, ne_eqb, cond-true, cond-false, not_from_false}
+use Rattle.std.proofs.Common.{◌≡◌, ◌≤◌, ◌<◌, ℕ, ◌+◌, ◌-◌, ◌*◌, ◌/◌, ◌^◌, ◌==◌, ◌&&◌, ◌||◌, nat_lt, not, Bool, true}
+use Rattle.std.proofs.Common.{false, cond, refl, sym, subst, arith, ◌%◌, min, Option, Some, None, option_map, is_some}
+use Rattle.std.proofs.Common.{ap, ◌∙◌}
+use Rattle.std.proofs.lemmas.Bool.{both_ways, ltb-true, lt-ltb, eq-eqb, cond_both, and_parts, and_from, eqb-false}
+use Rattle.std.proofs.lemmas.Bool.{ne_eqb, cond-true, cond-false, not_from_false}
 use Rattle.std.specs.Option.{option_map_or}
 use Rattle.std.proofs.Math.Nat.{mod-eq_of_lt}
 use Rattle.parking_lot_protocol.specs.declared.rw_phase.LockMode.{LockMode}
@@ -9,11 +12,28 @@ use Rattle.parking_lot_protocol.specs.declared.rw_phase.Seeking.{Seeking}
 use Rattle.parking_lot_protocol.specs.declared.rw_phase.Draining.{Draining}
 use Rattle.parking_lot_protocol.specs.declared.rw_phase.Scanning.{Scanning}
 use Rattle.parking_lot_protocol.specs.declared.rw_phase.RwPhase.{RwPhase}
-use Rattle.parking_lot_protocol.specs.RwTable.{is_parked, is_writer_parked, is_written, is_upgradable, has_readers, has_room, is_barred, is_admitted, is_tried, count_of, act_of, next_phase, begins}
-use Rattle.parking_lot_machine.specs.Ranks.{View, Sees, wake, scan, comes_after, drains, rw_asks, rw_ends, rw_steps, vain, rw_parks, drain_parks, keeps_out, keeps_waiting, Unseen, may_find}
+use Rattle.parking_lot_protocol.specs.RwTable.{is_parked, is_writer_parked, is_written, is_upgradable, has_readers}
+use Rattle.parking_lot_protocol.specs.RwTable.{has_room, is_barred, is_admitted, is_tried, count_of, act_of, next_phase}
+use Rattle.parking_lot_protocol.specs.RwTable.{begins}
+use Rattle.parking_lot_machine.specs.Ranks.{View, Sees, wake, scan, comes_after, drains, rw_asks, rw_ends, rw_steps}
+use Rattle.parking_lot_machine.specs.Ranks.{vain, rw_parks, drain_parks, keeps_out, keeps_waiting, Unseen, may_find}
 use Rattle.parking_lot_core_model.specs.declared.parking.ParkToken.{ParkToken}
 use Rattle.parking_lot_protocol.specs.declared.act.ActResult.{ActResult}
-use Rattle.parking_lot_protocol.specs.declared.rw_phase.RwPhase.TheVariants.{Loads, Admits, Spins, SetParked, Enters, Checks, Retreats, Appends, Rests, Sleeps, DrainLoads, DrainSpins, DrainSetParked, DrainEnters, DrainChecks, DrainRetreats, DrainAppends, DrainRests, DrainSleeps, TryLoads, TryAdmits, BumpLoads, Relocks, Unshares, EnterWriterWakeSection, TakeWriter, ClearWriterParked, LeaveWriterWakeSection, Unlocks, LooksExclusive, Downgrades, EnterWakeSection, Scans, Stores, Leaves, Wakes, Finishes, Invalid, Locking, Trying, UnlockingShared, UnlockingExclusive, Downgrading, BumpingShared, BumpingExclusive, Refuses, Ends}
+use Rattle.parking_lot_protocol.specs.declared.rw_phase.RwPhase.TheVariants.{Loads, Admits, Spins, SetParked, Enters}
+use Rattle.parking_lot_protocol.specs.declared.rw_phase.RwPhase.TheVariants.{Checks, Retreats, Appends, Rests, Sleeps}
+use Rattle.parking_lot_protocol.specs.declared.rw_phase.RwPhase.TheVariants.{DrainLoads, DrainSpins, DrainSetParked}
+use Rattle.parking_lot_protocol.specs.declared.rw_phase.RwPhase.TheVariants.{DrainEnters, DrainChecks, DrainRetreats}
+use Rattle.parking_lot_protocol.specs.declared.rw_phase.RwPhase.TheVariants.{DrainAppends, DrainRests, DrainSleeps}
+use Rattle.parking_lot_protocol.specs.declared.rw_phase.RwPhase.TheVariants.{TryLoads, TryAdmits, BumpLoads, Relocks}
+use Rattle.parking_lot_protocol.specs.declared.rw_phase.RwPhase.TheVariants.{Unshares, EnterWriterWakeSection}
+use Rattle.parking_lot_protocol.specs.declared.rw_phase.RwPhase.TheVariants.{TakeWriter, ClearWriterParked}
+use Rattle.parking_lot_protocol.specs.declared.rw_phase.RwPhase.TheVariants.{LeaveWriterWakeSection, Unlocks}
+use Rattle.parking_lot_protocol.specs.declared.rw_phase.RwPhase.TheVariants.{LooksExclusive, Downgrades}
+use Rattle.parking_lot_protocol.specs.declared.rw_phase.RwPhase.TheVariants.{EnterWakeSection, Scans, Stores, Leaves}
+use Rattle.parking_lot_protocol.specs.declared.rw_phase.RwPhase.TheVariants.{Wakes, Finishes, Invalid, Locking, Trying}
+use Rattle.parking_lot_protocol.specs.declared.rw_phase.RwPhase.TheVariants.{UnlockingShared, UnlockingExclusive}
+use Rattle.parking_lot_protocol.specs.declared.rw_phase.RwPhase.TheVariants.{Downgrading, BumpingShared}
+use Rattle.parking_lot_protocol.specs.declared.rw_phase.RwPhase.TheVariants.{BumpingExclusive, Refuses, Ends}
 use Rattle.parking_lot_protocol.specs.Acts.{Gives, word_after}
 use Rattle.parking_lot_rules.specs.Classes.{bit}
 use Rattle.parking_lot_protocol.specs.RwRules.{IsReady}
@@ -35,8 +55,10 @@ pub if_either : (b : Bool) (x y c : ℕ) → x ≤ c → y ≤ c → cond b x y 
 if_either b x y c h k = cond_both b x y (λ z. z ≤ c) (λ e. h) (λ e. k)
 
 -- one that isn't barred is admitted, as one reader more can be counted
-not_barred : (want : LockMode) (word : ℕ) → word / 16 < 2 ^ 60 - 1 → is_admitted want word ≡ false → is_barred want word ≡ true
-not_barred (LockMode.Shared recursive) word few e = go (has_room word) (is_written word) (recursive && has_readers word) (lt-ltb (word / 16) (2 ^ 60 - 1) few) e
+not_barred : (want : LockMode) (word : ℕ) → word / 16 < 2 ^ 60 - 1 → is_admitted want word ≡ false
+    → is_barred want word ≡ true
+not_barred (LockMode.Shared recursive) word few e = go (has_room word) (is_written word) (recursive && has_readers word)
+    (lt-ltb (word / 16) (2 ^ 60 - 1) few) e
   where
     go : (a b c : Bool) → a ≡ true → a && (not b || c) ≡ false → b ≡ true
     go true true c r e = refl
@@ -58,35 +80,45 @@ module _ (n word first : ℕ) (shut : Bool) where
   at_word : (x y c : ℕ) → x ≤ c → cond (word == word) x y ≤ c
   at_word x y c h = if_so (word == word) x y c (eq-eqb word word refl) h
 
-  seeks_at : (a : Seeking) → word / 16 < 2 ^ 60 - 1 → AtMost (rw_asks (Sees word first shut) a.want a.rounds) (of_rw.seeks a word)
+  seeks_at : (a : Seeking) → word / 16 < 2 ^ 60 - 1 → AtMost (rw_asks (Sees word first shut) a.want a.rounds)
+      (of_rw.seeks a word)
   seeks_at a few =
       cond_both (is_admitted a.want word) _ _ (AtMost _) (λ e. at_word _ _ _ (omega arith))
       (λ no. cond_both (is_barred a.want word) _ _ (AtMost _) (λ bar.
-      cond_both (not (is_parked word || is_writer_parked word) && nat_lt 0 a.rounds) _ _ (AtMost _) (λ e. omega (arith, ltb-true 0 a.rounds (and_parts _ _ e).1))
-      (λ e. cond_both (is_parked word) _ _ (AtMost _) (λ p. if_so _ _ _ _ (and_from _ _ bar p) (omega arith)) (λ p. at_word _ _ _ (omega arith))))
+      cond_both (not (is_parked word || is_writer_parked word) && nat_lt 0 a.rounds) _ _ (AtMost _)
+      (λ e. omega (arith, ltb-true 0 a.rounds (and_parts _ _ e).1))
+      (λ e. cond_both (is_parked word) _ _ (AtMost _) (λ p. if_so _ _ _ _ (and_from _ _ bar p) (omega arith))
+      (λ p. at_word _ _ _ (omega arith))))
       (λ e. absurd (both_ways (is_barred a.want word) e (not_barred a.want word few no))))
 
   drains_at : (d : Draining) → AtMost (drains (Sees word first shut) d.rounds) (of_rw.drains d word)
   drains_at d =
       cond_both (has_readers word) _ _ (AtMost _) (λ some.
       cond_both (nat_lt 0 d.rounds) _ _ (AtMost _) (λ e. omega (arith, ltb-true 0 d.rounds e))
-      (λ e. cond_both (is_writer_parked word) _ _ (AtMost _) (λ p. if_so _ _ _ _ (and_from _ _ some p) (omega arith)) (λ p. at_word _ _ _ (omega arith))))
+      (λ e. cond_both (is_writer_parked word) _ _ (AtMost _) (λ p. if_so _ _ _ _ (and_from _ _ some p) (omega arith))
+      (λ p. at_word _ _ _ (omega arith))))
       (λ e. omega arith)
 
   tries_at : (want : LockMode) (left : ℕ) → AtMost 2 (of_rw.tries want left word)
-  tries_at want left = cond_both (is_tried want word) _ _ (AtMost _) (λ e. at_word _ _ _ (omega arith)) (λ e. omega arith)
+  tries_at want left = cond_both (is_tried want word) _ _ (AtMost _) (λ e. at_word _ _ _ (omega arith))
+      (λ e. omega arith)
 
-  pub seeks_cost : (a : Seeking) (seen : ℕ) → seen ≡ word → word / 16 < 2 ^ 60 - 1 → AtMost (rw_asks (Sees word first shut) a.want a.rounds) (of_rw.seeks a seen)
-  seeks_cost a seen e few = subst (λ x. AtMost (rw_asks (Sees word first shut) a.want a.rounds) (of_rw.seeks a x)) (sym e) (seeks_at a few)
+  pub seeks_cost : (a : Seeking) (seen : ℕ) → seen ≡ word → word / 16 < 2 ^ 60 - 1
+      → AtMost (rw_asks (Sees word first shut) a.want a.rounds) (of_rw.seeks a seen)
+  seeks_cost a seen e few = subst (λ x. AtMost (rw_asks (Sees word first shut) a.want a.rounds) (of_rw.seeks a x))
+      (sym e) (seeks_at a few)
 
-  pub drains_cost : (d : Draining) (seen : ℕ) → seen ≡ word → AtMost (drains (Sees word first shut) d.rounds) (of_rw.drains d seen)
-  drains_cost d seen e = subst (λ x. AtMost (drains (Sees word first shut) d.rounds) (of_rw.drains d x)) (sym e) (drains_at d)
+  pub drains_cost : (d : Draining) (seen : ℕ) → seen ≡ word → AtMost (drains (Sees word first shut) d.rounds)
+      (of_rw.drains d seen)
+  drains_cost d seen e = subst (λ x. AtMost (drains (Sees word first shut) d.rounds) (of_rw.drains d x)) (sym e)
+      (drains_at d)
 
   pub tries_cost : (want : LockMode) (left seen : ℕ) → seen ≡ word → AtMost 2 (of_rw.tries want left seen)
   tries_cost want left seen e = subst (λ x. AtMost 2 (of_rw.tries want left x)) (sym e) (tries_at want left)
 
   pub retries_cost : (want : LockMode) (left seen : ℕ) → seen ≡ word → AtMost 2 (of_rw.retries want left seen)
-  retries_cost want left seen e = cond_both (nat_lt 0 left) _ _ (AtMost _) (λ b. tries_cost want (left - 1) seen e) (λ b. omega arith)
+  retries_cost want left seen e = cond_both (nat_lt 0 left) _ _ (AtMost _) (λ b. tries_cost want (left - 1) seen e)
+      (λ b. omega arith)
 
 -- WHAT COMES NEXT
 
@@ -115,7 +147,8 @@ module _ (n : ℕ) (v : View) where
   pub wakes_cost : (rest : AfterWake) (count : ℕ) → Within (wake * count + 1 + rw_ends v rest) (of_rw.wakes rest count)
   wakes_cost rest count = cond_both (nat_lt 0 count) _ _ (Within _) (λ e. omega arith) (λ e. omega arith)
 
-  pub goes_on_cost : (left : Bool) (s : Scanning) → Within (scan n v + wake * count_of s + 4 + rw_ends v s.rest) (of_rw.goes_on left s)
+  pub goes_on_cost : (left : Bool) (s : Scanning) → Within (scan n v + wake * count_of s + 4 + rw_ends v s.rest)
+      (of_rw.goes_on left s)
   goes_on_cost left s = cond_both (left && not s.writer) _ _ (Within _) (λ e. omega arith) (λ e. omega arith)
 
 -- Each act of a call at a reader-writer lock that the thread makes itself lowers the steps that are left.
@@ -134,18 +167,22 @@ bars_same LockMode.Exclusive x y e =
     ap (λ k. (k == 1) || (x / 4 % 2 == 1)) a ∙ ap (λ k. (y / 8 % 2 == 1) || (k == 1)) b
 
 -- the word that says that somebody waits keeps out whom the one before it barred
-flagged : (want : LockMode) (word first : ℕ) (shut : Bool) → word / 16 < 2 ^ 60 - 1 → is_barred want word ≡ true → is_parked word ≡ false → keeps_out (Sees ((word + 1) % 2 ^ 64) first shut) want ≡ true
+flagged : (want : LockMode) (word first : ℕ) (shut : Bool) → word / 16 < 2 ^ 60 - 1 → is_barred want word ≡ true
+    → is_parked word ≡ false → keeps_out (Sees ((word + 1) % 2 ^ 64) first shut) want ≡ true
 flagged want word first shut few bar clear =
     let n = eqb-false (word % 2) 1 clear in
     let e = added word 1 few (omega arith) in
-    and_from _ _ (bars_same want ((word + 1) % 2 ^ 64) word (omega (arith, e, n)) ∙ bar) (eq-eqb ((word + 1) % 2 ^ 64 % 2) 1 (omega (arith, e, n)))
+    and_from _ _ (bars_same want ((word + 1) % 2 ^ 64) word (omega (arith, e, n)) ∙ bar)
+    (eq-eqb ((word + 1) % 2 ^ 64 % 2) 1 (omega (arith, e, n)))
 
-flagged2 : (word first : ℕ) (shut : Bool) → word / 16 < 2 ^ 60 - 1 → has_readers word ≡ true → is_writer_parked word ≡ false → keeps_waiting (Sees ((word + 2) % 2 ^ 64) first shut) ≡ true
+flagged2 : (word first : ℕ) (shut : Bool) → word / 16 < 2 ^ 60 - 1 → has_readers word ≡ true
+    → is_writer_parked word ≡ false → keeps_waiting (Sees ((word + 2) % 2 ^ 64) first shut) ≡ true
 flagged2 word first shut few some clear =
     let n = eqb-false (word / 2 % 2) 1 clear in
     let e = added word 2 few (omega arith) in
     let r = ltb-true 0 (word / 16) some in
-    and_from _ _ (lt-ltb 0 ((word + 2) % 2 ^ 64 / 16) (omega (arith, e, r))) (eq-eqb ((word + 2) % 2 ^ 64 / 2 % 2) 1 (omega (arith, e, n)))
+    and_from _ _ (lt-ltb 0 ((word + 2) % 2 ^ 64 / 16) (omega (arith, e, r)))
+    (eq-eqb ((word + 2) % 2 ^ 64 / 2 % 2) 1 (omega (arith, e, n)))
 
 -- COSTS
 
@@ -195,13 +232,16 @@ module _ (n word first after : ℕ) (shut : Bool) where
   won from x y c e h = subst (λ b. c ≤ cond b x y) (sym (eq-eqb word from e)) h
 
   -- the word says that somebody waits, and one that enters will see that it does
-  flags : (a : Seeking) (from : ℕ) → word / 16 < 2 ^ 60 - 1 → word ≡ from → IsReady (SetParked a from) → Falls (SetParked a from) ActResult.Exchanged
+  flags : (a : Seeking) (from : ℕ) → word / 16 < 2 ^ 60 - 1 → word ≡ from → IsReady (SetParked a from)
+      → Falls (SetParked a from) ActResult.Exchanged
   flags a from few e ready =
       let v : View = Sees ((from + 1) % 2 ^ 64) after shut in
       let k = flagged a.want from after shut (omega (arith, few, e)) ready.0 ready.1 in
-      won from _ _ _ e (omega (arith, if_so (keeps_out v a.want) (rw_parks v a.want) (vain a.want) (rw_parks v a.want) k (omega arith)))
+      won from _ _ _ e (omega
+      (arith, if_so (keeps_out v a.want) (rw_parks v a.want) (vain a.want) (rw_parks v a.want) k (omega arith)))
 
-  flags2 : (d : Draining) (from : ℕ) → word / 16 < 2 ^ 60 - 1 → word ≡ from → IsReady (DrainSetParked d from) → Falls (DrainSetParked d from) ActResult.Exchanged
+  flags2 : (d : Draining) (from : ℕ) → word / 16 < 2 ^ 60 - 1 → word ≡ from → IsReady (DrainSetParked d from)
+      → Falls (DrainSetParked d from) ActResult.Exchanged
   flags2 d from few e ready =
       let v : View = Sees ((from + 2) % 2 ^ 64) after shut in
       let k = flagged2 from after shut (omega (arith, few, e)) ready.0 ready.1 in
@@ -210,16 +250,20 @@ module _ (n word first after : ℕ) (shut : Bool) where
 
   -- a check
   checks : (want : LockMode) (woken : Bool) (v : ℕ) → v ≡ word → Falls (Checks want woken) (ActResult.Word v)
-  checks want woken v e = subst (λ x. Falls (Checks want woken) (ActResult.Word x)) (sym e) (go (is_barred want word && is_parked word))
+  checks want woken v e = subst (λ x. Falls (Checks want woken) (ActResult.Word x)) (sym e)
+      (go (is_barred want word && is_parked word))
     where
-      go : (b : Bool) → rw_steps n (Sees word after shut) (cond b (Appends want) (Retreats want woken)) + 1 ≤ cond b 3 (vain want - 1)
+      go : (b : Bool) → rw_steps n (Sees word after shut) (cond b (Appends want) (Retreats want woken)) + 1 ≤ cond b 3
+          (vain want - 1)
       go true = omega arith
       go false = omega (arith, vain_least want)
 
   checks2 : (d : Draining) (v : ℕ) → v ≡ word → Falls (DrainChecks d) (ActResult.Word v)
-  checks2 d v e = subst (λ x. Falls (DrainChecks d) (ActResult.Word x)) (sym e) (go (has_readers word && is_writer_parked word))
+  checks2 d v e = subst (λ x. Falls (DrainChecks d) (ActResult.Word x)) (sym e)
+      (go (has_readers word && is_writer_parked word))
     where
-      go : (b : Bool) → rw_steps n (Sees word after shut) (cond b (DrainAppends d.rounds) (DrainRetreats d)) + 1 ≤ cond b (3 + 2 * d.rounds) (8 + 2 * d.rounds)
+      go : (b : Bool) → rw_steps n (Sees word after shut) (cond b (DrainAppends d.rounds) (DrainRetreats d)) + 1 ≤ cond
+          b (3 + 2 * d.rounds) (8 + 2 * d.rounds)
       go true = omega arith
       go false = omega arith
 
@@ -229,16 +273,21 @@ module _ (n word first after : ℕ) (shut : Bool) where
   retreats LockMode.Exclusive woken e = omega (arith, opened shut 55 e, opened shut 9 e)
 
   bumps : (want : LockMode) (v : ℕ) → after ≡ first → Falls (BumpLoads want) (ActResult.Word v)
-  bumps (LockMode.Shared recursive) v e = cond_both (is_written v) _ _ (Lowers (BumpLoads (LockMode.Shared recursive)) word) (λ b. omega arith) (λ b. omega arith)
-  bumps LockMode.Exclusive v e = cond_both (is_parked v) _ _ (Lowers (BumpLoads LockMode.Exclusive) word) (λ b. omega (arith, found n first after shut e)) (λ b. omega arith)
+  bumps (LockMode.Shared recursive) v e =
+      cond_both (is_written v) _ _ (Lowers (BumpLoads (LockMode.Shared recursive)) word) (λ b. omega arith)
+      (λ b. omega arith)
+  bumps LockMode.Exclusive v e = cond_both (is_parked v) _ _ (Lowers (BumpLoads LockMode.Exclusive) word)
+      (λ b. omega (arith, found n first after shut e)) (λ b. omega arith)
 
   gives : (rest : AfterWake) (v : ℕ) → Falls (Unshares rest) (ActResult.Before v)
   gives rest v =
       let x : ℕ = (word + (2 ^ 64 - 16)) % 2 ^ 64 in
-      cond_both (v / 16 == 1 && is_writer_parked v) _ _ (Lowers (Unshares rest) x) (λ b. omega arith) (λ b. omega (arith, over_cost n (Sees x after shut) rest))
+      cond_both (v / 16 == 1 && is_writer_parked v) _ _ (Lowers (Unshares rest) x) (λ b. omega arith)
+      (λ b. omega (arith, over_cost n (Sees x after shut) rest))
 
   downgrades : (v : ℕ) → after ≡ first → Falls Downgrades (ActResult.Before v)
-  downgrades v e = cond_both (is_parked v) _ _ (Lowers Downgrades ((word + 8) % 2 ^ 64)) (λ b. omega (arith, found n first after shut e)) (λ b. omega arith)
+  downgrades v e = cond_both (is_parked v) _ _ (Lowers Downgrades ((word + 8) % 2 ^ 64))
+      (λ b. omega (arith, found n first after shut e)) (λ b. omega arith)
 
   finishes : (rest : AfterWake) (s : ActResult) → Gives (act_of (Finishes rest)) word s → Falls (Finishes rest) s
   finishes AfterWake.AgainShared (ActResult.Word v) g = omega arith
@@ -249,30 +298,45 @@ module _ (n word first after : ℕ) (shut : Bool) where
   abbrev Goes : Scanning → Bool → Option Scanning → Type 0
   Goes a left s = Lowers (Scans a) word (option_map_or (λ q. q) (option_map (of_rw.goes_on left) s) Invalid)
 
-  goes : (a s : Scanning) (left : Bool) → shut ≡ false → first ≡ after + 1 → rw_ends (Sees word after shut) s.rest ≡ rw_ends (Sees word first shut) a.rest → count_of s ≤ count_of a + 1 → Goes a left (Some s)
-  goes a s left free one same more = omega (arith, goes_on_cost n (Sees word after shut) left s, cond-false shut n first free, cond-false shut n after free)
+  goes : (a s : Scanning) (left : Bool) → shut ≡ false → first ≡ after + 1 → rw_ends (Sees word after shut) s.rest
+      ≡ rw_ends (Sees word first shut) a.rest → count_of s ≤ count_of a + 1 → Goes a left (Some s)
+  goes a s left free one same more =
+      omega (
+        arith,
+        goes_on_cost n (Sees word after shut) left s,
+        cond-false shut n first free,
+        cond-false shut n after free,
+      )
 
-  takes : (a : Scanning) (token : ParkToken) (left : Bool) → shut ≡ false → first ≡ after + 1 → Falls (Scans a) (ActResult.Took (Some token) left)
+  takes : (a : Scanning) (token : ParkToken) (left : Bool) → shut ≡ false → first ≡ after + 1
+      → Falls (Scans a) (ActResult.Took (Some token) left)
   takes a token left free one =
       let reader : Scanning = record a { shared = min (a.shared + 1) (2 ^ 32 - 1) } in
       let writer : Scanning = record a { writer = true } in
       let upgrader : Scanning = record a { upgradable = true } in
       cond_both (token.0 == 16) _ _ (Goes a left) (λ e. goes a reader left free one refl (omega arith))
-      (λ e. cond_both (token.0 == 8) _ _ (Goes a left) (λ e. goes a writer left free one refl (omega (arith, bit_most a.writer)))
-      (λ e. cond_both (token.0 == 20) _ _ (Goes a left) (λ e. goes a upgrader left free one refl (omega (arith, bit_most a.upgradable)))
+      (λ e. cond_both (token.0 == 8) _ _ (Goes a left)
+      (λ e. goes a writer left free one refl (omega (arith, bit_most a.writer)))
+      (λ e. cond_both (token.0 == 20) _ _ (Goes a left)
+      (λ e. goes a upgrader left free one refl (omega (arith, bit_most a.upgradable)))
       (λ e. omega (arith, end_costs n (Sees word first shut) a.rest))))
 
 module _ (n word first after : ℕ) (shut : Bool) (few : word / 16 < 2 ^ 60 - 1) where
-  pub falls : (p : RwPhase) (s : ActResult) → IsReady p → Gives (act_of p) word s → laws.Can (act_of p) shut s → laws.Leaves (act_of p) s first after → Falls n word first after shut p s
+  pub falls : (p : RwPhase) (s : ActResult) → IsReady p → Gives (act_of p) word s → laws.Can (act_of p) shut s
+      → laws.Leaves (act_of p) s first after → Falls n word first after shut p s
   unfolding is_round
   falls (Loads a) (ActResult.Word v) ready g c l = omega (arith, seeks_cost n word after shut a v g few)
-  falls (Admits a from) ActResult.Exchanged ready g c l = won n word first after shut from _ _ _ g (omega (arith, admits_cost n (Sees ((from + of_rw.share_of a.want) % 2 ^ 64) after shut) a.want false))
-  falls (Admits a from) (ActResult.Word v) ready g c l = lost n word first after shut from _ _ _ g.1 (omega (arith, seeks_cost n word after shut a v g.0 few))
+  falls (Admits a from) ActResult.Exchanged ready g c l = won n word first after shut from _ _ _ g
+      (omega (arith, admits_cost n (Sees ((from + of_rw.share_of a.want) % 2 ^ 64) after shut) a.want false))
+  falls (Admits a from) (ActResult.Word v) ready g c l = lost n word first after shut from _ _ _ g.1
+      (omega (arith, seeks_cost n word after shut a v g.0 few))
   falls (Spins a) (ActResult.Spun true) ready g c l = omega arith
   falls (Spins a) (ActResult.Spun false) ready g c l = absurd (both_ways false refl (ap is_round c))
   falls (SetParked a from) ActResult.Exchanged ready g c l = flags n word first after shut a from few g ready
-  falls (SetParked a from) (ActResult.Word v) ready g c l = lost n word first after shut from _ _ _ g.1 (omega (arith, seeks_cost n word after shut a v g.0 few))
-  falls (Enters want woken) ActResult.Entered ready g c l = enters (is_barred want word && is_parked word) _ _ (opened shut (vain want) c) (vain_least want)
+  falls (SetParked a from) (ActResult.Word v) ready g c l = lost n word first after shut from _ _ _ g.1
+      (omega (arith, seeks_cost n word after shut a v g.0 few))
+  falls (Enters want woken) ActResult.Entered ready g c l = enters (is_barred want word && is_parked word) _ _
+      (opened shut (vain want) c) (vain_least want)
   falls (Checks want woken) (ActResult.Word v) ready g c l = checks n word first after shut want woken v g
   falls (Retreats want woken) ActResult.Made ready g c l = retreats n word first after shut want woken c
   falls (Appends want) ActResult.Made ready g c l = omega arith
@@ -282,23 +346,29 @@ module _ (n word first after : ℕ) (shut : Bool) (few : word / 16 < 2 ^ 60 - 1)
   falls (DrainSpins d) (ActResult.Spun true) ready g c l = omega arith
   falls (DrainSpins d) (ActResult.Spun false) ready g c l = absurd (both_ways false refl (ap is_round c))
   falls (DrainSetParked d from) ActResult.Exchanged ready g c l = flags2 n word first after shut d from few g ready
-  falls (DrainSetParked d from) (ActResult.Word v) ready g c l = lost n word first after shut from _ _ _ g.1 (omega (arith, drains_cost n word after shut d v g.0))
-  falls (DrainEnters d) ActResult.Entered ready g c l = enters2 (has_readers word && is_writer_parked word) _ _ (opened shut 9 c)
+  falls (DrainSetParked d from) (ActResult.Word v) ready g c l = lost n word first after shut from _ _ _ g.1
+      (omega (arith, drains_cost n word after shut d v g.0))
+  falls (DrainEnters d) ActResult.Entered ready g c l = enters2 (has_readers word && is_writer_parked word) _ _
+      (opened shut 9 c)
   falls (DrainChecks d) (ActResult.Word v) ready g c l = checks2 n word first after shut d v g
   falls (DrainRetreats d) ActResult.Made ready g c l = omega (arith, opened shut 9 c)
   falls (DrainAppends rounds) ActResult.Made ready g c l = omega arith
   falls (DrainRests rounds) ActResult.Made ready g c l = omega arith
   falls (DrainSleeps rounds) (ActResult.Woken token) ready g c l = absurd c
   falls (TryLoads want) (ActResult.Word v) ready g c l = omega (arith, tries_cost n word after shut want 63 v g)
-  falls (TryAdmits want from left) ActResult.Exchanged ready g c l = won n word first after shut from _ _ _ g (omega arith)
-  falls (TryAdmits want from left) (ActResult.Word v) ready g c l = lost n word first after shut from _ _ _ g.1 (omega (arith, retries_cost n word after shut want left v g.0))
+  falls (TryAdmits want from left) ActResult.Exchanged ready g c l = won n word first after shut from _ _ _ g
+      (omega arith)
+  falls (TryAdmits want from left) (ActResult.Word v) ready g c l = lost n word first after shut from _ _ _ g.1
+      (omega (arith, retries_cost n word after shut want left v g.0))
   falls (BumpLoads want) (ActResult.Word v) ready g c l = bumps n word first after shut want v l
-  falls (Relocks want) (ActResult.Word v) ready g c l = omega (arith, seeks_cost n word after shut (begins want false) v g few)
+  falls (Relocks want) (ActResult.Word v) ready g c l =
+      omega (arith, seeks_cost n word after shut (begins want false) v g few)
   falls (Unshares rest) (ActResult.Before v) ready g c l = gives n word first after shut rest v
   falls (EnterWriterWakeSection rest) ActResult.Entered ready g c l = omega arith
   falls (TakeWriter rest) (ActResult.Took token left) ready g c l = omega (arith, bit_most (is_some token))
   falls (ClearWriterParked rest taken) (ActResult.Before v) ready g c l = omega arith
-  falls (LeaveWriterWakeSection rest taken) ActResult.Made ready g c l = omega (arith, wakes_cost n (Sees word after shut) rest (bit taken))
+  falls (LeaveWriterWakeSection rest taken) ActResult.Made ready g c l =
+      omega (arith, wakes_cost n (Sees word after shut) rest (bit taken))
   falls (Unlocks fair rest) ActResult.Exchanged ready g c l = omega (arith, over_cost n (Sees 0 after shut) rest)
   falls (Unlocks fair rest) (ActResult.Word v) ready g c l = omega (arith, found n first after shut l)
   falls (LooksExclusive fair rest) ActResult.Entered ready g c l = omega (arith, found n first after shut l)
@@ -307,7 +377,8 @@ module _ (n word first after : ℕ) (shut : Bool) (few : word / 16 < 2 ^ 60 - 1)
   falls (Scans a) (ActResult.Took (Some token) left) ready g c l = takes n word first after shut a token left c l
   falls (Scans a) (ActResult.Took None left) ready g c l = omega arith
   falls (Stores a left) (ActResult.Stored fair) ready g c l = omega arith
-  falls (Leaves rest count handed) ActResult.Made ready g c l = omega (arith, wakes_cost n (Sees word after shut) rest count)
+  falls (Leaves rest count handed) ActResult.Made ready g c l =
+      omega (arith, wakes_cost n (Sees word after shut) rest count)
   falls (Wakes rest count) ActResult.Made ready g c l = absurd c
   falls (Finishes rest) s ready g c l = finishes n word first after shut rest s g
   falls p s ready g c l = absurd g
@@ -324,7 +395,8 @@ abbrev IsDone : Act → Type 0
 IsDone (Act.Done answer) = Unit {0}
 IsDone a = ⊥
 
-wakes_by : (n : ℕ) (p : RwPhase) (v : View) → IsWake (act_of p) → 1 ≤ rw_taken p → rw_steps n v (next_phase p seen.Made) + wake ≤ rw_steps n v p
+wakes_by : (n : ℕ) (p : RwPhase) (v : View) → IsWake (act_of p) → 1 ≤ rw_taken p → rw_steps n v (next_phase p seen.Made)
+    + wake ≤ rw_steps n v p
 wakes_by n (Wakes rest count) v is some = omega (arith, some, wakes_cost n v rest (count - 1))
 wakes_by n p v is some = omega (arith, some)
 
@@ -349,8 +421,10 @@ asks_most : (want : LockMode) → rw_asks Unseen want 10 + 2 ≤ wake
 asks_most (LockMode.Shared recursive) = omega arith
 asks_most LockMode.Exclusive = omega arith
 
-woken : (n : ℕ) (p : RwPhase) (token : UnparkToken) → rw_steps n Unseen (next_phase p (seen.Woken token)) + 1 ≤ rw_steps n Unseen p + wake
-woken n (Sleeps want) token = cond_both (token.0 == 1) _ _ (λ p. rw_steps n Unseen p + 1 ≤ wake) (λ e. omega (arith, admits_cost n Unseen want true, asks_most want)) (λ e. omega (arith, asks_most want))
+woken : (n : ℕ) (p : RwPhase) (token : UnparkToken) → rw_steps n Unseen (next_phase p (seen.Woken token)) + 1 ≤ rw_steps
+    n Unseen p + wake
+woken n (Sleeps want) token = cond_both (token.0 == 1) _ _ (λ p. rw_steps n Unseen p + 1 ≤ wake)
+    (λ e. omega (arith, admits_cost n Unseen want true, asks_most want)) (λ e. omega (arith, asks_most want))
 woken n p token = omega arith
 
 -- ONE OF WHICH LESS IS KNOWN
@@ -381,15 +455,19 @@ module _ (n word first : ℕ) (shut : Bool) (h : first ≤ n) where
 
   few : (p : RwPhase) → rw_steps n v p ≤ rw_steps n Unseen p
   few (Loads a) = omega (arith, parks_few a.want, comes_few a.want)
-  few (Admits a from) = if_either (word == from) _ _ _ (omega (arith, comes_few a.want)) (omega (arith, parks_few a.want, comes_few a.want))
+  few (Admits a from) = if_either (word == from) _ _ _ (omega (arith, comes_few a.want))
+      (omega (arith, parks_few a.want, comes_few a.want))
   few (Spins a) = omega (arith, parks_few a.want, comes_few a.want)
-  few (SetParked a from) = if_either (word == from) _ _ _ (omega (arith, parks_few a.want)) (omega (arith, parks_few a.want, comes_few a.want))
+  few (SetParked a from) = if_either (word == from) _ _ _ (omega (arith, parks_few a.want))
+      (omega (arith, parks_few a.want, comes_few a.want))
   few (Enters want again) = if_either (is_barred want word && is_parked word) _ _ _ (parks_few want) (omega arith)
-  few (Checks want again) = if_either (is_barred want word && is_parked word) _ _ _ (omega (arith, vain_least want)) (omega arith)
+  few (Checks want again) = if_either (is_barred want word && is_parked word) _ _ _ (omega (arith, vain_least want))
+      (omega arith)
   few (DrainLoads d) = omega (arith, drains_few)
   few (DrainSpins d) = omega (arith, drains_few)
   few (DrainSetParked d from) = if_either (word == from) _ _ _ (omega (arith, drains_few)) (omega (arith, drains_few))
-  few (DrainEnters d) = if_either (has_readers word && is_writer_parked word) _ _ _ (omega (arith, drains_few)) (omega arith)
+  few (DrainEnters d) = if_either (has_readers word && is_writer_parked word) _ _ _ (omega (arith, drains_few))
+      (omega arith)
   few (DrainChecks d) = if_either (has_readers word && is_writer_parked word) _ _ _ (omega arith) (omega arith)
   few (TryAdmits want from left) = if_either (word == from) _ _ _ (omega arith) (omega arith)
   few (BumpLoads want) = omega (arith, found_few, parks_few want, comes_few want)
@@ -430,7 +508,8 @@ finishes_on AfterWake.Downgraded shut at = at
 finishes_on AfterWake.AgainShared shut at = at
 finishes_on AfterWake.AgainExclusive shut at = at
 
-stops : (n : ℕ) (p : RwPhase) (word first : ℕ) (shut : Bool) → StopsAt (act_of p) shut → rw_steps n Unseen p ≤ rw_steps n (Sees word first shut) p
+stops : (n : ℕ) (p : RwPhase) (word first : ℕ) (shut : Bool) → StopsAt (act_of p) shut
+    → rw_steps n Unseen p ≤ rw_steps n (Sees word first shut) p
 stops n (Enters want again) word first true at = same (is_barred want word && is_parked word) (vain want)
 stops n (Enters want again) word first false at = absurd (both_ways false refl at)
 stops n (DrainEnters d) word first true at = same (has_readers word && is_writer_parked word) (9 + 2 * d.rounds)

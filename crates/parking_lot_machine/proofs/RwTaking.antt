@@ -1,14 +1,24 @@
 -- A thread that goes through a list takes a waiter: a step of the rules.
-use Rattle.std.proofs.Common.{◌≡◌, ℕ, zero, suc, ◌+◌, ◌*◌, ◌/◌, ◌%◌, ◌==◌, ◌&&◌, ◌||◌, cond, Bool, true, false, List, [], ◌∷◌, ◌++◌, Some, slice_get, slice_set, remove, refl, sym, ap, ◌∙◌, subst, arith, inl, inr, ◌⊎◌}
+use Rattle.std.proofs.Common.{◌≡◌, ℕ, zero, suc, ◌+◌, ◌*◌, ◌/◌, ◌%◌, ◌==◌, ◌&&◌, ◌||◌, cond, Bool, true, false, List}
+use Rattle.std.proofs.Common.{[], ◌∷◌, ◌++◌, Some, slice_get, slice_set, remove, refl, sym, ap, ◌∙◌, subst, arith, inl}
+use Rattle.std.proofs.Common.{inr, ◌⊎◌}
 use Rattle.parking_lot_rules.specs.Roles.{Mode, Shares, Role, Mark}
-use Rattle.parking_lot_rules.specs.Steps.{Scan, scanning, taking, holds_upgradable, Look, look, Take, Skip, Stop, AreSkipped}
+use Rattle.parking_lot_rules.specs.Steps.{Scan, scanning, taking, holds_upgradable, Look, look, Take, Skip, Stop}
+use Rattle.parking_lot_rules.specs.Steps.{AreSkipped}
 use Rattle.parking_lot_protocol.specs.declared.rw_phase.AfterWake.{AfterWake}
-use Rattle.parking_lot_protocol.specs.declared.rw_phase.AfterWake.TheVariants.{FreedShared, FreedExclusive, Downgraded, AgainShared, AgainExclusive}
+use Rattle.parking_lot_protocol.specs.declared.rw_phase.AfterWake.TheVariants.{FreedShared, FreedExclusive, Downgraded}
+use Rattle.parking_lot_protocol.specs.declared.rw_phase.AfterWake.TheVariants.{AgainShared, AgainExclusive}
 use Rattle.parking_lot_protocol.specs.declared.rw_phase.Scanning.{Scanning}
-use Rattle.parking_lot_protocol.specs.declared.rw_phase.RwPhase.TheVariants.{TakeWriter, Scans, Sleeps, DrainSleeps, Locking, Trying, UnlockingShared, UnlockingExclusive, Downgrading, BumpingShared, BumpingExclusive, Refuses, Finishes, Ends, Invalid}
+use Rattle.parking_lot_protocol.specs.declared.rw_phase.RwPhase.TheVariants.{TakeWriter, Scans, Sleeps, DrainSleeps}
+use Rattle.parking_lot_protocol.specs.declared.rw_phase.RwPhase.TheVariants.{Locking, Trying, UnlockingShared}
+use Rattle.parking_lot_protocol.specs.declared.rw_phase.RwPhase.TheVariants.{UnlockingExclusive, Downgrading}
+use Rattle.parking_lot_protocol.specs.declared.rw_phase.RwPhase.TheVariants.{BumpingShared, BumpingExclusive, Refuses}
+use Rattle.parking_lot_protocol.specs.declared.rw_phase.RwPhase.TheVariants.{Finishes, Ends, Invalid}
 use Rattle.parking_lot_protocol.specs.RwTable.{next_phase, share_of, sum_of}
 use Rattle.parking_lot_protocol.specs.RwRules.{IsToken, Listed, role, scan_of, mode_by, Off, owned_at_last, owned_after}
-use Rattle.parking_lot_machine.specs.RwLaws.{TakesAreSteps, ScansGoByTokens, WantAsTold, TokensTell, WritersAreTaken, SleepsFirst, SleepsSecond, SleepersAreKnown, BeginsAreReady, EndsAreSteps, AnswersAreLast}
+use Rattle.parking_lot_machine.specs.RwLaws.{TakesAreSteps, ScansGoByTokens, WantAsTold, TokensTell, WritersAreTaken}
+use Rattle.parking_lot_machine.specs.RwLaws.{SleepsFirst, SleepsSecond, SleepersAreKnown, BeginsAreReady, EndsAreSteps}
+use Rattle.parking_lot_machine.specs.RwLaws.{AnswersAreLast}
 use Rattle.parking_lot_machine.proofs.RwMoving.{moved}
 use Rattle.parking_lot_core_model.specs.declared.parking.ParkToken.{ParkToken}
 use Rattle.parking_lot_core_model.specs.declared.parking.FilterOp.TheVariants.{Unpark}
@@ -61,7 +71,8 @@ takes_are_steps recursive l t n spot us a x token left i v stay h told may =
     let is : m.0 ≡ scan_of n a us = same_scan m.0 (scan_of n a us) (sym m.1.from) in
     let s = scan_of n a us in
     let held = sym (scan_holds n a us) in
-    let to : role n Listed (us ++ v ∷ []) (next_phase (Scans a) (seen.Took (Some token) left)) ≡ scanning (taking s v (mode_by token)) = m.1.to ∙ ap (λ c. scanning (taking c v (mode_by token))) is in (
+    let to : role n Listed (us ++ v ∷ []) (next_phase (Scans a) (seen.Took (Some token) left)) ≡ scanning
+    (taking s v (mode_by token)) = m.1.to ∙ ap (λ c. scanning (taking c v (mode_by token))) is in (
       (
         h.here,
         record {
@@ -71,13 +82,19 @@ takes_are_steps recursive l t n spot us a x token left i v stay h told may =
           skipped = subst (λ u. AreSkipped u a.writer l.roles l.first i) held may.skipped;
         },
       ),
-      λ j. record l { word = h.word j; roles = slice_set (slice_set l.roles t (sym to j)) v (record { owns = Shares 0; does = rules.Taken1 (mode_by token) t rules.Open stay }); first = remove l.first i },
+      λ j. record l {
+        word = h.word j;
+        roles = slice_set (slice_set l.roles t (sym to j)) v
+            (record { owns = Shares 0; does = rules.Taken1 (mode_by token) t rules.Open stay });
+        first = remove l.first i;
+      },
     )
 
 -- WHAT A SCAN DOES AT A WAITER
 
 -- what the bits of its sum say
-pub bits_of : (k : ℕ) (u w : Bool) → ((16 * k + 20 * bit u + 8 * bit w) / 4 % 2 ≡ bit u) × ((16 * k + 20 * bit u + 8 * bit w) / 8 % 2 ≡ bit w)
+pub bits_of : (k : ℕ) (u w : Bool) → ((16 * k + 20 * bit u + 8 * bit w) / 4 % 2 ≡ bit u)
+    × ((16 * k + 20 * bit u + 8 * bit w) / 8 % 2 ≡ bit w)
 bits_of k true true = (omega arith, omega arith)
 bits_of k true false = (omega arith, omega arith)
 bits_of k false true = (omega arith, omega arith)
@@ -87,13 +104,18 @@ bit_is : (b : Bool) → (bit b == 1) ≡ b
 bit_is true = refl
 bit_is false = refl
 
-pub by_bits : (sum token : ℕ) (u w : Bool) → sum / 4 % 2 ≡ bit u → sum / 8 % 2 ≡ bit w → wake_answer sum token ≡ look_by u w token
+pub by_bits : (sum token : ℕ) (u w : Bool) → sum / 4 % 2 ≡ bit u → sum / 8 % 2 ≡ bit w
+    → wake_answer sum token ≡ look_by u w token
 by_bits sum token u w e f =
-    ap (λ n. cond (n == 1) op.Stop (cond ((token == 8 || token == 20) && sum / 4 % 2 == 1) op.Skip Unpark)) f ∙ ap (λ n. cond (bit w == 1) op.Stop (cond ((token == 8 || token == 20) && n == 1) op.Skip Unpark)) e
-    ∙ ap (λ b. cond b op.Stop (cond ((token == 8 || token == 20) && bit u == 1) op.Skip Unpark)) (bit_is w) ∙ ap (λ b. cond w op.Stop (cond ((token == 8 || token == 20) && b) op.Skip Unpark)) (bit_is u)
+    ap (λ n. cond (n == 1) op.Stop (cond ((token == 8 || token == 20) && sum / 4 % 2 == 1) op.Skip Unpark)) f
+    ∙ ap (λ n. cond (bit w == 1) op.Stop (cond ((token == 8 || token == 20) && n == 1) op.Skip Unpark)) e
+    ∙ ap (λ b. cond b op.Stop (cond ((token == 8 || token == 20) && bit u == 1) op.Skip Unpark)) (bit_is w)
+    ∙ ap (λ b. cond w op.Stop (cond ((token == 8 || token == 20) && b) op.Skip Unpark)) (bit_is u)
 
-pub sixteens : (sum k : ℕ) (u w : Bool) (token : ℕ) → sum ≡ 16 * k + 20 * bit u + 8 * bit w → wake_answer sum token ≡ look_by u w token
-sixteens sum k u w token e = let b = bits_of k u w in by_bits sum token u w (ap (λ n. n / 4 % 2) e ∙ b.0) (ap (λ n. n / 8 % 2) e ∙ b.1)
+pub sixteens : (sum k : ℕ) (u w : Bool) (token : ℕ) → sum ≡ 16 * k + 20 * bit u + 8 * bit w
+    → wake_answer sum token ≡ look_by u w token
+sixteens sum k u w token e = let b = bits_of k u w in by_bits sum token u w (ap (λ n. n / 4 % 2) e ∙ b.0)
+    (ap (λ n. n / 8 % 2) e ∙ b.1)
 
 scan_sums : (a : Scanning) (token : ℕ) → wake_answer (sum_of a) token ≡ look_by a.upgradable a.writer token
 scan_sums a token = by_rest a.rest
@@ -128,7 +150,8 @@ matches u w n (inr (inr e)) = subst (MatchesAt u w) (sym e) (upgrades u w)
     upgrades true false = refl
     upgrades false false = refl
 
-looks_as : (u w : Bool) (token : ParkToken) → IsToken (Some token) → look_by u w token.0 ≡ answer_to (look u w (mode_by token))
+looks_as : (u w : Bool) (token : ParkToken) → IsToken (Some token)
+    → look_by u w token.0 ≡ answer_to (look u w (mode_by token))
 looks_as u w token is = matches u w token.0 is
 
 pub same_take : (a : Look) → Unpark ≡ answer_to a → a ≡ Take
@@ -142,16 +165,19 @@ same_skip Take e = absurd cc
 same_skip Stop e = absurd cc
 
 -- the waiter of a thread
-waiter_of : (queue : List Waiter) (i u : ℕ) → slice_get (threads_of queue) i ≡ Some u → (w : Waiter) × (slice_get queue i ≡ Some w) × (w.thread ≡ u)
+waiter_of : (queue : List Waiter) (i u : ℕ) → slice_get (threads_of queue) i ≡ Some u → (w : Waiter)
+    × (slice_get queue i ≡ Some w) × (w.thread ≡ u)
 waiter_of [] i u e = absurd (none-some u e)
 waiter_of (w ∷ queue) zero u e = (w, refl, same_Some w.thread u e)
 waiter_of (w ∷ queue) (suc i) u e = waiter_of queue i u e
 
-scan_skips : (l : Lock) (u w : Bool) (queue : List Waiter) (n : ℕ) → l.first ≡ threads_of queue → WantAsTold l queue → ArePassed (look_by u w) queue n → AreSkipped u w l.roles l.first n
+scan_skips : (l : Lock) (u w : Bool) (queue : List Waiter) (n : ℕ) → l.first ≡ threads_of queue → WantAsTold l queue
+    → ArePassed (look_by u w) queue n → AreSkipped u w l.roles l.first n
 scan_skips l u w queue n is want passed j v r low at there =
     let x = waiter_of queue j v (ap (λ q. slice_get q j) (sym is) ∙ at) in
     let told = want j x.0 r x.1 (ap (slice_get l.roles) x.2 ∙ there) in
-    ap (look u w) told.1 ∙ same_skip (look u w (mode_by x.0.token)) (sym (passed j x.0 low x.1) ∙ looks_as u w x.0.token told.0)
+    ap (look u w) told.1 ∙ same_skip (look u w (mode_by x.0.token))
+    (sym (passed j x.0 low x.1) ∙ looks_as u w x.0.token told.0)
 
 pub scans_go_by_tokens : ScansGoByTokens
 scans_go_by_tokens = record { sums = scan_sums; looks = looks_as; skips = scan_skips }
@@ -164,27 +190,50 @@ pub writers_are_taken : WritersAreTaken
 writers_are_taken recursive l t n spot us rest x token left v from stay h at waits =
     let none : us ≡ [] = h.prepared in
     let here : slice_get l.roles t ≡ Some (record { owns = Shares n; does = rules.Scans2 [] }) = h.here in
-    let to : role n Listed (us ++ v ∷ []) (next_phase (TakeWriter rest) (seen.Took (Some token) left)) ≡ record { owns = Shares n; does = rules.Scans2 (v ∷ []) } = ap (λ vs. record { owns = Shares n; does = rules.Scans2 (vs ++ v ∷ []) }) none in
-    ((here, at, waits), λ j. record l { word = h.word j; roles = slice_set (slice_set l.roles t (sym to j)) v (record { owns = Shares 0; does = rules.Taken2 from t stay }); second = remove l.second 0 })
+    let to : role n Listed (us ++ v ∷ []) (next_phase (TakeWriter rest) (seen.Took (Some token) left))
+    ≡ record { owns = Shares n; does = rules.Scans2 (v ∷ []) } =
+    ap (λ vs. record { owns = Shares n; does = rules.Scans2 (vs ++ v ∷ []) }) none in (
+      (here, at, waits),
+      λ j. record l {
+        word = h.word j;
+        roles = slice_set (slice_set l.roles t (sym to j)) v
+            (record { owns = Shares 0; does = rules.Taken2 from t stay });
+        second = remove l.second 0;
+      },
+    )
 
 -- Who sleeps at a reader-writer lock.
 
-sleeps_first : (n : ℕ) (us : List ℕ) (want : LockMode) → n ≡ 0 → SleepsFirst n us (Sleeps want) (record { 0 = share_of want })
+sleeps_first : (n : ℕ) (us : List ℕ) (want : LockMode) → n ≡ 0
+    → SleepsFirst n us (Sleeps want) (record { 0 = share_of want })
 sleeps_first n us (LockMode.Shared recursive) z = record {
   listed = ap (λ k. role k Listed us (Sleeps (LockMode.Shared recursive))) z;
   off = λ t mark. ap (λ k. role k (Off t mark) us (Sleeps (LockMode.Shared recursive))) z;
   token = inl refl;
 }
-sleeps_first n us LockMode.Exclusive z = record { listed = ap (λ k. role k Listed us (Sleeps LockMode.Exclusive)) z; off = λ t mark. ap (λ k. role k (Off t mark) us (Sleeps LockMode.Exclusive)) z; token = inr refl }
+sleeps_first n us LockMode.Exclusive z =
+    record {
+      listed = ap (λ k. role k Listed us (Sleeps LockMode.Exclusive)) z;
+      off = λ t mark. ap (λ k. role k (Off t mark) us (Sleeps LockMode.Exclusive)) z;
+      token = inr refl;
+    }
 
-stands : (recursive : Bool) (n : ℕ) (us : List ℕ) (p : RwPhase) (key : ℕ) (park : ParkToken) → rw_prepared recursive n us p → rw_stance p ≡ stance.Asleep key park → ((key ≡ 0) × SleepsFirst n us p park) ⊎ ((key ≡ 1) × SleepsSecond n us p)
+stands : (recursive : Bool) (n : ℕ) (us : List ℕ) (p : RwPhase) (key : ℕ) (park : ParkToken)
+    → rw_prepared recursive n us p → rw_stance p ≡ stance.Asleep key park → ((key ≡ 0) × SleepsFirst n us p park)
+    ⊎ ((key ≡ 1) × SleepsSecond n us p)
 stands recursive n us (Sleeps want) key park z e =
     let there : key ≡ 0 = cc in
     let token : record { 0 = share_of want } ≡ park = cc in
     inl (there, subst (λ (t : ParkToken). SleepsFirst n us (Sleeps want) t) token (sleeps_first n us want z))
 stands recursive n us (DrainSleeps rounds) key park z e =
     let there : key ≡ 1 = cc in
-    inr (there, record { listed = ap (λ k. role k Listed us (DrainSleeps rounds)) z; off = λ t mark. ap (λ k. role k (Off t mark) us (DrainSleeps rounds)) z })
+    inr (
+      there,
+      record {
+        listed = ap (λ k. role k Listed us (DrainSleeps rounds)) z;
+        off = λ t mark. ap (λ k. role k (Off t mark) us (DrainSleeps rounds)) z;
+      },
+    )
 stands recursive n us p key park z e = absurd (cc)
 
 pub sleepers_at_a_lock_are_known : SleepersAreKnown
@@ -217,11 +266,18 @@ outcome_owned n Outcome.FreedShared = refl
 outcome_owned n Outcome.FreedExclusive = refl
 
 pub ends_are_steps : EndsAreSteps
-ends_are_steps recursive l t n spot us (Refuses want) x h e = ((h.here, tt), λ i. record l { word = h.word i; roles = slice_set l.roles t (record { owns = Shares n; does = rules.Idle }) })
+ends_are_steps recursive l t n spot us (Refuses want) x h e = (
+  (h.here, tt),
+  λ i. record l
+      { word = h.word i; roles = slice_set l.roles t (record { owns = Shares n; does = rules.Idle }) },
+)
 ends_are_steps recursive l t n spot us (Finishes rest) x h e =
-    let o = rest_owned n rest in
-    ((h.here ∙ ap (λ vs. Some (record { owns = owned_at_last n rest; does = rules.Wakes vs })) h.prepared.0, tt), λ i. record l { word = h.word i; roles = slice_set l.roles t (record { owns = sym o i; does = rules.Idle }) })
-ends_are_steps recursive l t n spot us (Ends o) x h e = ap (λ k. record { owns = k; does = rules.Idle }) (outcome_owned n o)
+    let o = rest_owned n rest in (
+      (h.here ∙ ap (λ vs. Some (record { owns = owned_at_last n rest; does = rules.Wakes vs })) h.prepared.0, tt),
+      λ i. record l { word = h.word i; roles = slice_set l.roles t (record { owns = sym o i; does = rules.Idle }) },
+    )
+ends_are_steps recursive l t n spot us (Ends o) x h e = ap (λ k. record { owns = k; does = rules.Idle })
+    (outcome_owned n o)
 ends_are_steps recursive l t n spot us Invalid x h e = refl
 ends_are_steps recursive l t n spot us p x h e = absurd (cc)
 

@@ -1,5 +1,6 @@
 -- Who is told by a store.
-use Rattle.std.proofs.Common.{◌≡◌, ◌≢◌, ◌<◌, ℕ, cond, List, [], Some, slice_get, refl, sym, ap, ◌∙◌, subst, arith, eq-eqb}
+use Rattle.std.proofs.Common.{◌≡◌, ◌≢◌, ◌<◌, ℕ, cond, List, [], Some, slice_get, refl, sym, ap, ◌∙◌, subst, arith}
+use Rattle.std.proofs.Common.{eq-eqb}
 use Rattle.std.proofs.lemmas.Bool.{ne_eqb}
 use Rattle.std.proofs.lemmas.Option.{same_Some}
 use Rattle.parking_lot_rules.specs.Roles.{Role, Mode, Owned}
@@ -21,18 +22,23 @@ use Rattle.parking_lot_machine.specs.RwLaws.{told_by, StoresTell}
 use Rattle.parking_lot_machine_calls.specs.LateRoles.{staying}
 
 -- whom anybody has taken and told nothing, the one has that scans
-open_by : (l : Lock) (t u by : ℕ) (scan : Scan) (own : Owned) (m : Mode) (stay : rules.Stay) → IsSound l → slice_get l.roles t ≡ Some (scanning scan) → slice_get l.roles u ≡ Some (record { owns = own; does = rules.Taken1 m by rules.Open stay }) → by ≡ t
+open_by : (l : Lock) (t u by : ℕ) (scan : Scan) (own : Owned) (m : Mode) (stay : rules.Stay) → IsSound l
+    → slice_get l.roles t ≡ Some (scanning scan)
+    → slice_get l.roles u ≡ Some (record { owns = own; does = rules.Taken1 m by rules.Open stay }) → by ≡ t
 unfolding weight
 open_by l t u by scan own m stay h at there =
     let p = h.noted u by _ (On1 rules.Open) there refl in
     one_inside Inside1 l.roles h.fits.inside1 t by (scanning scan) p.0 at p.1 refl (open_inside p.0.owns p.0.does u p.2)
 
 -- and one that has taken nobody so has none
-open_none : (l : Lock) (t u : ℕ) (mine : Role) (own : Owned) (m : Mode) (stay : rules.Stay) → IsSound l → slice_get l.roles t ≡ Some mine → to_wake mine.does (On1 rules.Open) ≡ [] → slice_get l.roles u ≡ Some (record { owns = own; does = rules.Taken1 m t rules.Open stay }) → ⊥
+open_none : (l : Lock) (t u : ℕ) (mine : Role) (own : Owned) (m : Mode) (stay : rules.Stay) → IsSound l
+    → slice_get l.roles t ≡ Some mine → to_wake mine.does (On1 rules.Open) ≡ []
+    → slice_get l.roles u ≡ Some (record { owns = own; does = rules.Taken1 m t rules.Open stay }) → ⊥
 open_none l t u mine own m stay h at none there =
     let p = h.noted u t _ (On1 rules.Open) there refl in
     let is : p.0 ≡ mine = same_Some p.0 mine (sym p.1 ∙ at) in
-    let some : 0 < occurs u [] = subst (λ us. 0 < occurs u us) none (subst (λ (r : Role). 0 < occurs u (to_wake r.does (On1 rules.Open))) is p.2) in
+    let some : 0 < occurs u [] = subst (λ us. 0 < occurs u us) none
+    (subst (λ (r : Role). 0 < occurs u (to_wake r.does (On1 rules.Open))) is p.2) in
     omega arith
 
 -- WHAT A PHASE SAYS
@@ -45,9 +51,12 @@ abbrev IsOpenElsewhere : ℕ → rules.Phase → Type 0
 IsOpenElsewhere t d = (m : Mode) (by : ℕ) → d ≡ rules.Taken1 m by rules.Open rules.Asleep → by ≢ t
 
 -- one that was taken by t is told
-does_told : (t : ℕ) (at : QueuePosition) (us : List ℕ) (p : RwPhase) (said : WakeResult) → IsOpenBy t (does (rw_spot at) us p) → does (told_by t said at) us p ≡ told (mark_of said) (does (rw_spot at) us p)
+does_told : (t : ℕ) (at : QueuePosition) (us : List ℕ) (p : RwPhase) (said : WakeResult)
+    → IsOpenBy t (does (rw_spot at) us p) → does (told_by t said at) us p ≡ told (mark_of said) (does (rw_spot at) us p)
 does_told t QueuePosition.Listed us (Sleeps want) said by = refl
-does_told t (QueuePosition.Off x WakeResult.Nothing) us (Sleeps want) said by = ap (λ b. does (rules_of.Off x (mark_of (cond b said WakeResult.Nothing))) us (Sleeps want)) (eq-eqb x t (by (mode_of want) x refl))
+does_told t (QueuePosition.Off x WakeResult.Nothing) us (Sleeps want) said by =
+    ap (λ b. does (rules_of.Off x (mark_of (cond b said WakeResult.Nothing))) us (Sleeps want))
+    (eq-eqb x t (by (mode_of want) x refl))
 does_told t (QueuePosition.Off x WakeResult.TryAgain) us (Sleeps want) said by = refl
 does_told t (QueuePosition.Off x WakeResult.HandedOver) us (Sleeps want) said by = refl
 does_told t QueuePosition.Listed us (DrainSleeps rounds) said by = refl
@@ -57,9 +66,12 @@ does_told t (QueuePosition.Off x WakeResult.HandedOver) us (DrainSleeps rounds) 
 does_told t at us p said by = refl
 
 -- and any other isn't
-does_kept : (t : ℕ) (at : QueuePosition) (us : List ℕ) (p : RwPhase) (said : WakeResult) → IsOpenElsewhere t (does (rw_spot at) us p) → does (told_by t said at) us p ≡ does (rw_spot at) us p
+does_kept : (t : ℕ) (at : QueuePosition) (us : List ℕ) (p : RwPhase) (said : WakeResult)
+    → IsOpenElsewhere t (does (rw_spot at) us p) → does (told_by t said at) us p ≡ does (rw_spot at) us p
 does_kept t QueuePosition.Listed us (Sleeps want) said by = refl
-does_kept t (QueuePosition.Off x WakeResult.Nothing) us (Sleeps want) said by = ap (λ b. does (rules_of.Off x (mark_of (cond b said WakeResult.Nothing))) us (Sleeps want)) (ne_eqb x t (by (mode_of want) x refl))
+does_kept t (QueuePosition.Off x WakeResult.Nothing) us (Sleeps want) said by =
+    ap (λ b. does (rules_of.Off x (mark_of (cond b said WakeResult.Nothing))) us (Sleeps want))
+    (ne_eqb x t (by (mode_of want) x refl))
 does_kept t (QueuePosition.Off x WakeResult.TryAgain) us (Sleeps want) said by = refl
 does_kept t (QueuePosition.Off x WakeResult.HandedOver) us (Sleeps want) said by = refl
 does_kept t QueuePosition.Listed us (DrainSleeps rounds) said by = refl
@@ -72,7 +84,8 @@ does_kept t at us p said by = refl
 
 -- Of those that are taken it says they are, and a telling is the same before it and after it.
 pub record IsTelling (f : rules.Phase → rules.Phase) : Type 0 where
-  pub taken : (m : Mode) (by : ℕ) → (k : Mode) × (stay : rules.Stay) × (f (rules.Taken1 m by rules.Open rules.Asleep) ≡ rules.Taken1 k by rules.Open stay)
+  pub taken : (m : Mode) (by : ℕ) → (k : Mode) × (stay : rules.Stay)
+      × (f (rules.Taken1 m by rules.Open rules.Asleep) ≡ rules.Taken1 k by rules.Open stay)
   pub tells : (mark : rules.Mark) (d : rules.Phase) → f (told mark d) ≡ told mark (f d)
 
 pub itself_tells : IsTelling (λ d. d)
@@ -106,7 +119,8 @@ pub freeing_tells : IsTelling for_release
 freeing_tells = record { taken = λ m by. (m, rules.Asleep, refl); tells = release_tells }
 
 -- one whose moment has passed says so, wherever it stands
-staying_told : (stay : rules.Stay) (mark : rules.Mark) (d : rules.Phase) → staying stay (told mark d) ≡ told mark (staying stay d)
+staying_told : (stay : rules.Stay) (mark : rules.Mark) (d : rules.Phase) → staying stay (told mark d) ≡ told mark
+    (staying stay d)
 staying_told stay mark (rules.Taken1 m by rules.Open old) = refl
 staying_told stay mark (rules.Taken1 m by rules.Normal old) = refl
 staying_told stay mark (rules.Taken1 m by rules.Handed old) = refl
@@ -121,24 +135,39 @@ stays_tell stay f k = record {
 abbrev pub IsSame : Role → Role → Type 0
 IsSame a b = a ≡ b
 
-pub told_so : (f : rules.Phase → rules.Phase) (k : IsTelling f) (l : Lock) (t u : ℕ) (own : Owned) (at : QueuePosition) (us : List ℕ) (p : RwPhase) (scan : Scan) (said : WakeResult) → IsSound l → slice_get l.roles t ≡ Some (scanning scan)
-    → slice_get l.roles u ≡ Some (record { owns = own; does = f (does (rw_spot at) us p) }) → IsSame (record { owns = own; does = f (does (told_by t said at) us p) }) (settle (mark_of said) (record { owns = own; does = f (does (rw_spot at) us p) }))
+pub told_so : (f : rules.Phase → rules.Phase) (k : IsTelling f) (l : Lock) (t u : ℕ) (own : Owned) (at : QueuePosition)
+    (us : List ℕ) (p : RwPhase) (scan : Scan) (said : WakeResult) → IsSound l
+    → slice_get l.roles t ≡ Some (scanning scan)
+    → slice_get l.roles u ≡ Some (record { owns = own; does = f (does (rw_spot at) us p) })
+    → IsSame (record { owns = own; does = f (does (told_by t said at) us p) })
+    (settle (mark_of said) (record { owns = own; does = f (does (rw_spot at) us p) }))
 told_so f k l t u own at us p scan said h mine there =
     ap (λ d. record { owns = own; does = f d })
-    (does_told t at us p said (λ m by e. open_by l t u by scan own (k.taken m by).0 (k.taken m by).1 h mine (there ∙ ap (λ d. Some (record { owns = own; does = f d })) e ∙ ap (λ d. Some (record { owns = own; does = d })) (k.taken m by).2)))
+    (does_told t at us p said
+    (λ m by e. open_by l t u by scan own (k.taken m by).0 (k.taken m by).1 h mine
+    (there ∙ ap (λ d. Some (record { owns = own; does = f d })) e ∙ ap (λ d. Some (record { owns = own; does = d }))
+    (k.taken m by).2)))
     ∙ ap (λ d. record { owns = own; does = d }) (k.tells (mark_of said) (does (rw_spot at) us p))
 
-pub kept_so : (f : rules.Phase → rules.Phase) (k : IsTelling f) (l : Lock) (t u : ℕ) (own : Owned) (at : QueuePosition) (us : List ℕ) (p : RwPhase) (mine : Role) (said : WakeResult) → IsSound l → slice_get l.roles t ≡ Some mine → to_wake mine.does (On1 rules.Open) ≡ []
-    → slice_get l.roles u ≡ Some (record { owns = own; does = f (does (rw_spot at) us p) }) → IsSame (record { owns = own; does = f (does (told_by t said at) us p) }) (record { owns = own; does = f (does (rw_spot at) us p) })
+pub kept_so : (f : rules.Phase → rules.Phase) (k : IsTelling f) (l : Lock) (t u : ℕ) (own : Owned) (at : QueuePosition)
+    (us : List ℕ) (p : RwPhase) (mine : Role) (said : WakeResult) → IsSound l → slice_get l.roles t ≡ Some mine
+    → to_wake mine.does (On1 rules.Open) ≡ []
+    → slice_get l.roles u ≡ Some (record { owns = own; does = f (does (rw_spot at) us p) })
+    → IsSame (record { owns = own; does = f (does (told_by t said at) us p) })
+    (record { owns = own; does = f (does (rw_spot at) us p) })
 kept_so f k l t u own at us p mine said h is none there =
     ap (λ d. record { owns = own; does = f d })
     (does_kept t at us p said
     (λ m by e same.
     open_none l t u mine own (k.taken m by).0 (k.taken m by).1 h is none
-    (there ∙ ap (λ d. Some (record { owns = own; does = f d })) e ∙ ap (λ d. Some (record { owns = own; does = d })) (k.taken m by).2 ∙ ap (λ x. Some (record { owns = own; does = rules.Taken1 (k.taken m by).0 x rules.Open (k.taken m by).1 })) same)))
+    (there ∙ ap (λ d. Some (record { owns = own; does = f d })) e ∙ ap (λ d. Some (record { owns = own; does = d }))
+    (k.taken m by).2 ∙ ap
+    (λ x. Some (record { owns = own; does = rules.Taken1 (k.taken m by).0 x rules.Open (k.taken m by).1 })) same)))
 
 pub stores_tell : StoresTell
 stores_tell = record {
-  here = λ l t u n at us p scan said h mine there. told_so (λ d. d) itself_tells l t u (owns n p) at us p scan said h mine there;
-  elsewhere = λ l t u n at us p own said h mine none there. kept_so (λ d. d) itself_tells l t u (owns n p) at us p own said h mine none there;
+  here = λ l t u n at us p scan said h mine there. told_so (λ d. d) itself_tells l t u (owns n p) at us p scan said h
+      mine there;
+  elsewhere = λ l t u n at us p own said h mine none there. kept_so (λ d. d) itself_tells l t u (owns n p) at us p own
+      said h mine none there;
 }

@@ -1,5 +1,6 @@
 -- A scan has room to count whom it takes.
-use Rattle.std.proofs.Common.{◌≡◌, ◌<◌, ℕ, ◌+◌, ◌^◌, inl, inr, Bool, true, false, Option, Some, slice_get, refl, sym, ap, ◌∙◌, subst, arith}
+use Rattle.std.proofs.Common.{◌≡◌, ◌<◌, ℕ, ◌+◌, ◌^◌, inl, inr, Bool, true, false, Option, Some, slice_get, refl, sym}
+use Rattle.std.proofs.Common.{ap, ◌∙◌, subst, arith}
 use Rattle.parking_lot_core_model.specs.declared.place.Waiter.{Waiter}
 use Rattle.parking_lot_protocol.specs.declared.rw_phase.RwPhase.{RwPhase}
 use Rattle.parking_lot_protocol.specs.RwRules.{IsToken}
@@ -38,27 +39,34 @@ module _ (s : State) (h : FitsTogether s) (t : ℕ) (c : Call) (here : call_at s
   few : taken_count c.core < 2 ^ 18
   few = let counted = h.lots.counted t c here in omega (arith, counted.few, h.rules.small)
 
-  pub scans_have_room : (k nth : ℕ) (w : Waiter) → stance c.core ≡ In k Takes → slice_get (s.lot.queues (key_of c k)) nth ≡ Some w → asks (core_act c.core) w.token.0 ≡ Unpark → Counts c.core w.token
+  pub scans_have_room : (k nth : ℕ) (w : Waiter) → stance c.core ≡ In k Takes → slice_get (s.lot.queues (key_of c k))
+      nth ≡ Some w → asks (core_act c.core) w.token.0 ≡ Unpark → Counts c.core w.token
   scans_have_room k nth w from at wanted = by_core c.core refl
     where
       z : Sleeper s t k c w
       z = sleeper s t c h.lots here k nth w (small_key c.core k Takes from) from at
 
-      by_scan : (y : RwCall) (sc : Scanner c.others y) → c.core ≡ rw_call y → IsToken (Some w.token) → rw_counts (RwPhase.Scans sc.scan) w.token
+      by_scan : (y : RwCall) (sc : Scanner c.others y) → c.core ≡ rw_call y → IsToken (Some w.token)
+          → rw_counts (RwPhase.Scans sc.scan) w.token
       by_scan y sc e (inl is) =
           let less : taken_count c.core < 2 ^ 18 = few in
-          let count : taken_count c.core ≡ sc.scan.shared + bit sc.scan.upgradable + bit sc.scan.writer = ap taken_count e ∙ sc.taken in
+          let count : taken_count c.core ≡ sc.scan.shared + bit sc.scan.upgradable + bit sc.scan.writer =
+          ap taken_count e ∙ sc.taken in
           inl (is, omega arith)
       by_scan y sc e (inr (inl is)) = inr (inl (is, sc.writer))
       by_scan y sc e (inr (inr is)) =
-          let asked : look_by sc.sees false 20 ≡ Unpark = ap (look_by sc.sees false) (sym is) ∙ sym (sc.asks_so w.token.0) ∙ ap (λ (x : Core). asks (core_act x) w.token.0) (sym e) ∙ wanted in
+          let asked : look_by sc.sees false 20 ≡ Unpark = ap (look_by sc.sees false) (sym is)
+          ∙ sym (sc.asks_so w.token.0) ∙ ap (λ (x : Core). asks (core_act x) w.token.0) (sym e) ∙ wanted in
           inr (inr (is, not_taken sc.scan.upgradable sc.sees sc.more (unseen sc.sees asked)))
 
       -- who sleeps there has a token of a call at such a lock
       its_token : 0 ≡ k → manner_of (slice_get s.kinds c.lock) ≡ Some AsRw → IsToken (Some w.token)
       its_token nought is =
-          let o = of_rws.only z.call.core (subst (λ (m : Option Manner). IsOfManner m z.call.core) (ap (λ (j : ℕ). manner_of (slice_get s.kinds j)) z.lock ∙ is) (h.rules.kinds w.thread z.call z.there)) in
-          elim (call_sleeps (recursive_in s.kinds z.call.lock) z.call.others (taken_by s.wakes w.thread) o.0 k w.token (meets s h w.thread z.call o.0 o.1 z.there).stands (ap stance (sym o.1) ∙ z.asleep)) [
+          let o = of_rws.only z.call.core
+          (subst (λ (m : Option Manner). IsOfManner m z.call.core)
+          (ap (λ (j : ℕ). manner_of (slice_get s.kinds j)) z.lock ∙ is) (h.rules.kinds w.thread z.call z.there)) in
+          elim (call_sleeps (recursive_in s.kinds z.call.lock) z.call.others (taken_by s.wakes w.thread) o.0 k w.token
+          (meets s h w.thread z.call o.0 o.1 z.there).stands (ap stance (sym o.1) ∙ z.asleep)) [
             | inl x ↦ x.1.token
             | inr x ↦ absurd (omega (arith, nought, x.0))
           ]
@@ -69,7 +77,10 @@ module _ (s : State) (h : FitsTogether s) (t : ℕ) (c : Call) (here : call_at s
           elim (takes_where (recursive_in s.kinds c.lock) c.others y k ready (ap stance (sym e) ∙ from)) [
             | inl x ↦
                 let sc = scanner (recursive_in s.kinds c.lock) c.others y x.0 ready in
-                sc.counts w.token (by_scan y sc e (its_token x.1 (of_rws.of_kind (slice_get s.kinds c.lock) y (subst (IsOfKind (slice_get s.kinds c.lock)) e (h.rules.kinds t c here)))))
+                sc.counts w.token
+                (by_scan y sc e
+                (its_token x.1 (of_rws.of_kind (slice_get s.kinds c.lock) y
+                (subst (IsOfKind (slice_get s.kinds c.lock)) e (h.rules.kinds t c here)))))
             | inr x ↦ subst (λ (q : RwCall). Counts (rw_call q) w.token) (sym x.1) tt
           ]
 

@@ -1,8 +1,10 @@
 -- No call has more than ten rounds left to spin.
-use Rattle.std.proofs.Common.{◌≡◌, ◌≤◌, ℕ, ◌-◌, ◌/◌, ◌%◌, ◌==◌, ◌&&◌, ◌||◌, not, nat_lt, cond, Bool, true, false, Option, Some, None, option_map, arith}
+use Rattle.std.proofs.Common.{◌≡◌, ◌≤◌, ℕ, ◌-◌, ◌/◌, ◌%◌, ◌==◌, ◌&&◌, ◌||◌, not, nat_lt, cond, Bool, true, false}
+use Rattle.std.proofs.Common.{Option, Some, None, option_map, arith}
 use Rattle.std.specs.Option.{option_map_or}
 use Rattle.parking_lot_protocol.specs.declared.act.ActResult.{ActResult}
-use Rattle.parking_lot_protocol.specs.declared.act.ActResult.TheVariants.{Start, Word, Exchanged, Before, Spun, Entered, Took, Stored, Made, Woken}
+use Rattle.parking_lot_protocol.specs.declared.act.ActResult.TheVariants.{Start, Word, Exchanged, Before, Spun, Entered}
+use Rattle.parking_lot_protocol.specs.declared.act.ActResult.TheVariants.{Took, Stored, Made, Woken}
 use Rattle.parking_lot_protocol.specs.declared.mutex_phase.MutexPhase.{MutexPhase}
 use Rattle.parking_lot_protocol.specs.declared.mutex_phase.Asking.{Asking}
 use Rattle.parking_lot_protocol.specs.declared.rw_phase.RwPhase.{RwPhase}
@@ -16,7 +18,8 @@ use Rattle.parking_lot_protocol.specs.RwTable as of_rw
 use Rattle.parking_lot_protocol_rw.specs.UpgradeTable as ut
 use Rattle.parking_lot_protocol_rw.specs.declared.upgrade_phase.UpgradePhase.{UpgradePhase}
 use Rattle.parking_lot_machine.specs.Rounds.{upgrade_rounds, late_rw_rounds, rounds, sleeper_rounds}
-use Rattle.parking_lot_machine_calls.specs.Stances.{upgrade_begun, late_rw_next, pending_from, quits_as, sign, resumed_as, sleeper_asleep}
+use Rattle.parking_lot_machine_calls.specs.Stances.{upgrade_begun, late_rw_next, pending_from, quits_as, sign}
+use Rattle.parking_lot_machine_calls.specs.Stances.{resumed_as, sleeper_asleep}
 use Rattle.parking_lot_machine_calls.specs.declared.seat.LatePhase.{LatePhase}
 use Rattle.parking_lot_machine_calls.specs.declared.seat.Core.{Core}
 use Rattle.parking_lot_machine.specs.Rounds.{FewRounds, IsUnderWay, mutex_rounds, rw_rounds}
@@ -44,12 +47,16 @@ either f false x y h k = k
 
 seeks_on : (a : Asking) (word : ℕ) → a.rounds ≤ 10 → mutex_rounds (of_mutex.seeks a word) ≤ 10
 seeks_on a word h =
-    either mutex_rounds (word == 0) _ _ h (either mutex_rounds (word == 2) _ _ h (either mutex_rounds (word == 1) _ _ (either mutex_rounds (nat_lt 0 a.rounds) _ _ h h) no_rounds))
+    either mutex_rounds (word == 0) _ _ h
+    (either mutex_rounds (word == 2) _ _ h
+    (either mutex_rounds (word == 1) _ _ (either mutex_rounds (nat_lt 0 a.rounds) _ _ h h) no_rounds))
 
 tries_on : (left word : ℕ) → mutex_rounds (of_mutex.tries left word) ≤ 10
-tries_on left word = either mutex_rounds (word == 0) _ _ no_rounds (either mutex_rounds (word == 2) _ _ no_rounds no_rounds)
+tries_on left word = either mutex_rounds (word == 0) _ _ no_rounds
+    (either mutex_rounds (word == 2) _ _ no_rounds no_rounds)
 
-finishes_on : (fair again : Bool) (s : ActResult) → mutex_rounds (of_mutex.next_phase (MutexPhase.Finishes (record { fair = fair; again = again })) s) ≤ 10
+finishes_on : (fair again : Bool) (s : ActResult)
+    → mutex_rounds (of_mutex.next_phase (MutexPhase.Finishes (record { fair = fair; again = again })) s) ≤ 10
 finishes_on fair true (Word n) = no_rounds
 finishes_on fair again s = no_rounds
 
@@ -70,7 +77,8 @@ mutex_on MutexPhase.Rests Made h = no_rounds
 mutex_on (MutexPhase.Checks c) (Word n) h = either mutex_rounds (n == 3) _ _ no_rounds no_rounds
 mutex_on MutexPhase.Sleeps (Woken token) h = either mutex_rounds (token.0 == 1) _ _ no_rounds all_rounds
 mutex_on MutexPhase.TryLoads (Word n) h = tries_on 63 n
-mutex_on (MutexPhase.TryLocks waiters left) (Word n) h = either mutex_rounds (nat_lt 0 left) _ _ (tries_on (left - 1) n) no_rounds
+mutex_on (MutexPhase.TryLocks waiters left) (Word n) h = either mutex_rounds (nat_lt 0 left) _ _ (tries_on (left - 1) n)
+    no_rounds
 mutex_on MutexPhase.BumpLoads (Word n) h = either mutex_rounds (n / 2 % 2 == 1) _ _ no_rounds no_rounds
 mutex_on MutexPhase.Relocks (Word n) h = seeks_on (of_mutex.begins false) n all_rounds
 mutex_on (MutexPhase.Unlocks g) Exchanged h = either mutex_rounds g.again _ _ no_rounds no_rounds
@@ -89,11 +97,13 @@ rw_seeks_on : (a : Seeking) (word : ℕ) → a.rounds ≤ 10 → rw_rounds (of_r
 rw_seeks_on a word h =
     either rw_rounds (of_rw.is_admitted a.want word) _ _ h
     (either rw_rounds (of_rw.is_barred a.want word) _ _
-    (either rw_rounds (not (of_rw.is_parked word || of_rw.is_writer_parked word) && nat_lt 0 a.rounds) _ _ h (either rw_rounds (of_rw.is_parked word) _ _ no_rounds h)) h)
+    (either rw_rounds (not (of_rw.is_parked word || of_rw.is_writer_parked word) && nat_lt 0 a.rounds) _ _ h
+    (either rw_rounds (of_rw.is_parked word) _ _ no_rounds h)) h)
 
 drains_on : (d : Draining) (word : ℕ) → d.rounds ≤ 10 → rw_rounds (of_rw.drains d word) ≤ 10
 drains_on d word h =
-    either rw_rounds (of_rw.has_readers word) _ _ (either rw_rounds (nat_lt 0 d.rounds) _ _ h (either rw_rounds (of_rw.is_writer_parked word) _ _ h h)) no_rounds
+    either rw_rounds (of_rw.has_readers word) _ _
+    (either rw_rounds (nat_lt 0 d.rounds) _ _ h (either rw_rounds (of_rw.is_writer_parked word) _ _ h h)) no_rounds
 
 rw_tries_on : (w : LockMode) (left word : ℕ) → rw_rounds (of_rw.tries w left word) ≤ 10
 rw_tries_on w left word = either rw_rounds (of_rw.is_tried w word) _ _ no_rounds no_rounds
@@ -116,7 +126,8 @@ bumps_on LockMode.Exclusive word = either rw_rounds (of_rw.is_parked word) _ _ n
 wakes_on : (rs : AfterWake) (count : ℕ) → rw_rounds (of_rw.wakes rs count) ≤ 10
 wakes_on rs count = either rw_rounds (nat_lt 0 count) _ _ no_rounds no_rounds
 
-taken_on : (left : Bool) (s : Option Scanning) → rw_rounds (option_map_or (λ q. q) (option_map (of_rw.goes_on left) s) RwPhase.Invalid) ≤ 10
+taken_on : (left : Bool) (s : Option Scanning)
+    → rw_rounds (option_map_or (λ q. q) (option_map (of_rw.goes_on left) s) RwPhase.Invalid) ≤ 10
 taken_on left None = no_rounds
 taken_on left (Some s) = either rw_rounds (left && not s.writer) _ _ no_rounds no_rounds
 
@@ -137,7 +148,8 @@ rw_on (RwPhase.SetParked a word) (Word n) h = rw_seeks_on a n h
 rw_on (RwPhase.Enters w c) Entered h = no_rounds
 rw_on (RwPhase.Appends w) Made h = no_rounds
 rw_on (RwPhase.Rests w) Made h = no_rounds
-rw_on (RwPhase.Checks w c) (Word n) h = either rw_rounds (of_rw.is_barred w n && of_rw.is_parked n) _ _ no_rounds no_rounds
+rw_on (RwPhase.Checks w c) (Word n) h = either rw_rounds (of_rw.is_barred w n && of_rw.is_parked n) _ _ no_rounds
+    no_rounds
 rw_on (RwPhase.Retreats w c) Made h = all_rounds
 rw_on (RwPhase.Sleeps w) (Woken token) h = either rw_rounds (token.0 == 1) _ _ (admits_on w true) all_rounds
 rw_on (RwPhase.DrainLoads d) (Word n) h = drains_on d n h
@@ -152,10 +164,12 @@ rw_on (RwPhase.DrainAppends rounds) Made h = h
 rw_on (RwPhase.DrainRests rounds) Made h = h
 rw_on (RwPhase.DrainSleeps rounds) (Woken token) h = h
 rw_on (RwPhase.TryLoads w) (Word n) h = rw_tries_on w 63 n
-rw_on (RwPhase.TryAdmits w word left) (Word n) h = either rw_rounds (nat_lt 0 left) _ _ (rw_tries_on w (left - 1) n) no_rounds
+rw_on (RwPhase.TryAdmits w word left) (Word n) h = either rw_rounds (nat_lt 0 left) _ _ (rw_tries_on w (left - 1) n)
+    no_rounds
 rw_on (RwPhase.BumpLoads w) (Word n) h = bumps_on w n
 rw_on (RwPhase.Relocks w) (Word n) h = rw_seeks_on (of_rw.begins w false) n all_rounds
-rw_on (RwPhase.Unshares rs) (Before n) h = either rw_rounds (n / 16 == 1 && of_rw.is_writer_parked n) _ _ no_rounds (over_on rs)
+rw_on (RwPhase.Unshares rs) (Before n) h = either rw_rounds (n / 16 == 1 && of_rw.is_writer_parked n) _ _ no_rounds
+    (over_on rs)
 rw_on (RwPhase.EnterWriterWakeSection rs) Entered h = no_rounds
 rw_on (RwPhase.TakeWriter rs) (Took token left) h = no_rounds
 rw_on (RwPhase.ClearWriterParked rs taken) (Before n) h = no_rounds
@@ -188,7 +202,8 @@ late_on (LatePhase.WasTaken by handed) Made = mutex_on MutexPhase.Sleeps (Woken 
 late_on p s = no_rounds
 
 -- an upgradable call goes on as such a one, or begins to
-few_rounds : (b : Bool) (p q : UpgradePhase) → upgrade_rounds p ≤ 10 → upgrade_rounds q ≤ 10 → upgrade_rounds (cond b p q) ≤ 10
+few_rounds : (b : Bool) (p q : UpgradePhase) → upgrade_rounds p ≤ 10 → upgrade_rounds q ≤ 10
+    → upgrade_rounds (cond b p q) ≤ 10
 few_rounds true p q h k = h
 few_rounds false p q h k = k
 
@@ -198,9 +213,11 @@ begun_rounds p = no_rounds
 
 shown_rounds : (p : UpgradePhase) (w : ℕ) → upgrade_rounds (ut.shown p w) ≤ 10
 shown_rounds UpgradePhase.TryLoads w = few_rounds (ut.is_open w) _ _ no_rounds no_rounds
-shown_rounds (UpgradePhase.TryAdmits from left) w = few_rounds (nat_lt 0 left) _ _ (few_rounds (ut.is_open w) _ _ no_rounds no_rounds) no_rounds
+shown_rounds (UpgradePhase.TryAdmits from left) w =
+    few_rounds (nat_lt 0 left) _ _ (few_rounds (ut.is_open w) _ _ no_rounds no_rounds) no_rounds
 shown_rounds UpgradePhase.TryUpgradeLoads w = few_rounds (ut.is_alone w) _ _ no_rounds no_rounds
-shown_rounds (UpgradePhase.TryUpgrades from left) w = few_rounds (nat_lt 0 left) _ _ (few_rounds (ut.is_alone w) _ _ no_rounds no_rounds) no_rounds
+shown_rounds (UpgradePhase.TryUpgrades from left) w =
+    few_rounds (nat_lt 0 left) _ _ (few_rounds (ut.is_alone w) _ _ no_rounds no_rounds) no_rounds
 shown_rounds UpgradePhase.BumpLoads w = few_rounds (of_rw.is_parked w) _ _ no_rounds no_rounds
 shown_rounds UpgradePhase.Relocks w = rw_on (RwPhase.Relocks LockMode.Exclusive) (Word w) no_rounds
 shown_rounds (UpgradePhase.UnlockLoads r) w = few_rounds (of_rw.is_parked w) _ _ no_rounds no_rounds
@@ -229,7 +246,8 @@ upgrade_on : (p : UpgradePhase) (s : ActResult) → upgrade_rounds p ≤ 10 → 
 upgrade_on (UpgradePhase.Plain core) s h = rw_on core.phase s h
 upgrade_on (UpgradePhase.Seeks core) s h = few_rounds (ut.owns_now core.phase s) _ _ no_rounds (rw_on core.phase s h)
 upgrade_on (UpgradePhase.Drains core) s h = rw_on core.phase s h
-upgrade_on (UpgradePhase.Frees r core) s h = few_rounds (ut.asks_now r core.phase s) _ _ no_rounds (rw_on core.phase s h)
+upgrade_on (UpgradePhase.Frees r core) s h = few_rounds (ut.asks_now r core.phase s) _ _ no_rounds
+    (rw_on core.phase s h)
 upgrade_on (UpgradePhase.Owes kept end core) s h = rw_on core.phase s h
 upgrade_on p s h = own_rounds p s
 

@@ -1,5 +1,7 @@
 -- A call begins: its thread goes from no call to the first phase.
-use Rattle.std.proofs.Common.{◌≡◌, ◌≢◌, ℕ, ◌+◌, ◌*◌, ◌<◌, ◌≤◌, inl, inr, Bool, true, false, List, [], length, Option, Some, None, slice_get, slice_set, refl, sym, ap, ◌∙◌, subst, arith, zero, suc, ◌⊎◌, cond, nat_lt}
+use Rattle.std.proofs.Common.{◌≡◌, ◌≢◌, ℕ, ◌+◌, ◌*◌, ◌<◌, ◌≤◌, inl, inr, Bool, true, false, List, [], length, Option}
+use Rattle.std.proofs.Common.{Some, None, slice_get, slice_set, refl, sym, ap, ◌∙◌, subst, arith, zero, suc, ◌⊎◌, cond}
+use Rattle.std.proofs.Common.{nat_lt}
 use Rattle.std.proofs.lemmas.Bool.{cases_eq, both_ways, cases_lt, lt-ltb, ltb-true}
 use Rattle.std.proofs.lemmas.Option.{none-some, same_Some, slice_get-get_or}
 use Rattle.std.proofs.lemmas.List.{length-set}
@@ -18,14 +20,18 @@ use Rattle.parking_lot_machine_calls.specs.declared.seat.LatePhase.{LatePhase}
 use Rattle.parking_lot_machine_calls.specs.declared.seat.Core.{Core}
 use Rattle.parking_lot_machine_calls.specs.declared.open_call.Call.{Call}
 use Rattle.parking_lot_machine_calls.specs.declared.seat.QueuePosition.{QueuePosition}
-use Rattle.parking_lot_machine.specs.Rows.{State, word_at, call_at, hold_at, taken_by, mutex_at, rw_role_at, rw_lock_at, queue_at, inside}
+use Rattle.parking_lot_machine.specs.Rows.{State, word_at, call_at, hold_at, taken_by, mutex_at, rw_role_at, rw_lock_at}
+use Rattle.parking_lot_machine.specs.Rows.{queue_at, inside}
 use Rattle.parking_lot_machine_calls.specs.CallRoles.{first_of_all, owned_of, owns_mutex, mutex_spot, mutex_role}
-use Rattle.parking_lot_machine_calls.specs.Stances.{Takes, has_begun, mutex_begun, late_act, core_act, core_next, Stance, Out, In, Asleep, stance, taken_count}
+use Rattle.parking_lot_machine_calls.specs.Stances.{Takes, has_begun, mutex_begun, late_act, core_act, core_next}
+use Rattle.parking_lot_machine_calls.specs.Stances.{Stance, Out, In, Asleep, stance, taken_count}
 use Rattle.parking_lot_core_model.specs.Places.{passed_of}
 use Rattle.parking_lot_machine.specs.Passes.{ArePassed, asks}
 use Rattle.parking_lot_machine.specs.RowActs.{answered, begun}
-use Rattle.parking_lot_machine_calls.specs.CallActs.{hears, hold_after, kept_hold, mutex_hold_after, rw_hold_after, upgrade_hold_after}
-use Rattle.parking_lot_machine.specs.RowFits.{FitsTogether, IsPrepared, KnowsList, WakesFit, is_away, is_off, mutex_knows}
+use Rattle.parking_lot_machine_calls.specs.CallActs.{hears, hold_after, kept_hold, mutex_hold_after, rw_hold_after}
+use Rattle.parking_lot_machine_calls.specs.CallActs.{upgrade_hold_after}
+use Rattle.parking_lot_machine.specs.RowFits.{FitsTogether, IsPrepared, KnowsList, WakesFit, is_away, is_off}
+use Rattle.parking_lot_machine.specs.RowFits.{mutex_knows}
 use Rattle.parking_lot_machine_calls.specs.CallKinds.{IsOfKind}
 use Rattle.parking_lot_rules.specs.Holds.{shared_holds}
 use Rattle.parking_lot_rules.specs.Lock.{Lock}
@@ -42,9 +48,13 @@ use Rattle.parking_lot_machine_calls.proofs.Stancing.{calls_begin, calls_end}
 use Rattle.parking_lot_machine.proofs.Meeting.{rw_sound, mutex_sound, role_few, in_range, meets, plays, plays_late}
 use Rattle.parking_lot_machine.proofs.OwnMoves.{OwnMove, own_some}
 use Rattle.parking_lot_machine.proofs.Ruling.{CallFits, Fitted, call_fits, rules_after, same_kind}
-use Rattle.parking_lot_machine.proofs.KindTable.{Plain, RwCall, Simple, Upgradable, next_is, rw_call, rw_next, within_kinds, Kind, of_rws, of_mutexes, IsThere, Elsewhere, one_changed, role_at, role_now, role_stays, roles_at, same, shown, Tardy}
+use Rattle.parking_lot_machine.proofs.KindTable.{Plain, RwCall, Simple, Upgradable, next_is, rw_call, rw_next}
+use Rattle.parking_lot_machine.proofs.KindTable.{within_kinds, Kind, of_rws, of_mutexes, IsThere, Elsewhere}
+use Rattle.parking_lot_machine.proofs.KindTable.{one_changed, role_at, role_now, role_stays, roles_at, same, shown}
+use Rattle.parking_lot_machine.proofs.KindTable.{Tardy}
 use Rattle.parking_lot_rules.proofs.Everybody.{get-all, was-all, length-all}
-use Rattle.parking_lot_machine.proofs.Making.{Crossed, TellsOf, quiet, move_sound, rw_goes, mutex_goes, RwLeadsBy, last_sound}
+use Rattle.parking_lot_machine.proofs.Making.{Crossed, TellsOf, quiet, move_sound, rw_goes, mutex_goes, RwLeadsBy}
+use Rattle.parking_lot_machine.proofs.Making.{last_sound}
 use Rattle.parking_lot_machine.proofs.Owning.{rw_leads, set-same}
 use Rattle.parking_lot_protocol.specs.declared.mutex_phase.MutexPhase.{MutexPhase}
 use Rattle.parking_lot_machine.proofs.Calling.{call_of, call-here, call-elsewhere, slot}
@@ -87,7 +97,9 @@ empty_slot calls t b h = go (slice_get calls t) refl
     go (Some (Some c)) e = absurd (none-some c (sym h ∙ ap (option_and_then (λ y. y)) e))
 
 -- What a phase in which a mutex's call begins finds and knows.
-begin_mutex : (v : ℕ) (us : List ℕ) (p : MutexPhase) (q : List Waiter) → mutex_begun p ≡ false → TellsOf (of_mutex.move v p seen.Start) us v × (crossing_of (of_mutex_table.act_of p) ≡ crossing.Stays) × mutex_knows (of_mutex_table.next_phase p seen.Start) q
+begin_mutex : (v : ℕ) (us : List ℕ) (p : MutexPhase) (q : List Waiter) → mutex_begun p ≡ false
+    → TellsOf (of_mutex.move v p seen.Start) us v × (crossing_of (of_mutex_table.act_of p) ≡ crossing.Stays)
+    × mutex_knows (of_mutex_table.next_phase p seen.Start) q
 begin_mutex v us MutexPhase.Locking q b = (tt, refl, tt)
 begin_mutex v us MutexPhase.Trying q b = (tt, refl, tt)
 begin_mutex v us (MutexPhase.Unlocking fair) q b = (tt, refl, tt)
@@ -95,7 +107,9 @@ begin_mutex v us MutexPhase.Bumping q b = (tt, refl, tt)
 begin_mutex v us p q b = absurd (both_ways true b refl)
 
 -- one that begins is to wake nobody
-starts_as : (us : List ℕ) (p : MutexPhase) → mutex_begun p ≡ false → mutex_role of_mutex.Listed us (of_mutex_table.next_phase p seen.Start) ≡ of_mutex.role of_mutex.Listed (first_of_all us) (of_mutex_table.next_phase p seen.Start)
+starts_as : (us : List ℕ) (p : MutexPhase) → mutex_begun p ≡ false
+    → mutex_role of_mutex.Listed us (of_mutex_table.next_phase p seen.Start) ≡ of_mutex.role of_mutex.Listed
+    (first_of_all us) (of_mutex_table.next_phase p seen.Start)
 starts_as us MutexPhase.Locking b = refl
 starts_as us MutexPhase.Trying b = refl
 starts_as us (MutexPhase.Unlocking fair) b = refl
@@ -151,7 +165,8 @@ module _ (s : State) (t : ℕ) (c : Call) (may : MayBegin s t c) (h : FitsTogeth
   abbrev x : ℕ
   x = word_at s c.lock
 
-  begin_rws : (k : RwCall) → c.core ≡ rw_call k → OwnsFor (recursive_in s.kinds c.lock) (hold_at s t c.lock) c.others (rw_call k) → manner_of (slice_get s.kinds c.lock) ≡ Some AsRw → Fitted s next t c seen.Start (rw_call k)
+  begin_rws : (k : RwCall) → c.core ≡ rw_call k → OwnsFor (recursive_in s.kinds c.lock) (hold_at s t c.lock) c.others
+      (rw_call k) → manner_of (slice_get s.kinds c.lock) ≡ Some AsRw → Fitted s next t c seen.Start (rw_call k)
   begin_rws k e owns kind_is =
       let l = rw_lock_at s c.lock in
       let z = call_starts (recursive_in s.kinds c.lock) l t c.others c.spot us k x (hold_at s t c.lock) (inside s) owns in
@@ -168,20 +183,32 @@ module _ (s : State) (t : ℕ) (c : Call) (may : MayBegin s t c) (h : FitsTogeth
       let same_next = sym (next_is k seen.Start) in (
         as_move k c.others us seen.Start c.lock t s next
             (rw_goes s next t c.lock (call_move c.others us k seen.Start) us _ none_there begun_elsewhere kind_is leads.0
-            (begun_after of_rws (rw_next k seen.Start) (ap (λ (y : Core). core_next y seen.Start) e ∙ next_is k seen.Start) ∙ same of_rws _ _ _ _ _ _ _ _ (ap (λ y. word_after (core_act y) seen.Start x) e) refl refl refl) leads.1 (own_some (call_move c.others us k seen.Start) us t (inside s) (inside next) z.own)),
+            (begun_after of_rws (rw_next k seen.Start)
+            (ap (λ (y : Core). core_next y seen.Start) e ∙ next_is k seen.Start)
+            ∙ same of_rws _ _ _ _ _ _ _ _ (ap (λ y. word_after (core_act y) seen.Start x) e) refl refl refl) leads.1
+            (own_some (call_move c.others us k seen.Start) us t (inside s) (inside next) z.own)),
         subst (IsPrepared (recursive_in s.kinds c.lock) c.others) same_next well.0,
         subst (λ (y : Core). KnowsList y s.lot.queues c.lock) same_next well.1,
         h.rules.bits c.lock,
       )
 
-  begin_mutexes : (k : MutexCore) → c.core ≡ Core.Mutex k → OwnsFor (recursive_in s.kinds c.lock) (hold_at s t c.lock) c.others (Core.Mutex k) → manner_of (slice_get s.kinds c.lock) ≡ Some AsMutex → Fitted s next t c seen.Start (Core.Mutex k)
+  begin_mutexes : (k : MutexCore) → c.core ≡ Core.Mutex k → OwnsFor (recursive_in s.kinds c.lock) (hold_at s t c.lock)
+      c.others (Core.Mutex k) → manner_of (slice_get s.kinds c.lock) ≡ Some AsMutex
+      → Fitted s next t c seen.Start (Core.Mutex k)
   begin_mutexes k e owns kind_is =
       let v = first_of_all us in
       let well = begin_mutex v us k.phase (s.lot.queues (2 * c.lock)) owns.0 in
       let step = steps.begins (mutex_at s c.lock) x t v k.phase owns.0
-      (record { sound = mutex_sound s h c.lock kind_is; word = sym (words.forth x (h.rules.bits c.lock kind_is)); here = free_role of_mutexes ∙ ap Some (ap (λ (o : Bool). record { owns = o; does = mutex.Idle }) owns.2) }) in (
+      (record {
+        sound = mutex_sound s h c.lock kind_is;
+        word = sym (words.forth x (h.rules.bits c.lock kind_is));
+        here = free_role of_mutexes ∙ ap Some (ap (λ (o : Bool). record { owns = o; does = mutex.Idle }) owns.2);
+      }) in (
         mutex_goes s next t c.lock v us _ (of_mutex.move v k.phase seen.Start) none_there begun_elsewhere kind_is step.leads
-            (begun_after of_mutexes (Plain (record k { phase = of_mutex_table.next_phase k.phase seen.Start })) (ap (λ (y : Core). core_next y seen.Start) e) ∙ same of_mutexes _ _ _ _ _ _ [] [] (ap (λ y. word_after (core_act y) seen.Start x) e) (ap (slice_set (mutex_at s c.lock).roles t) (starts_as us k.phase owns.0)) refl refl)
+            (begun_after of_mutexes (Plain (record k { phase = of_mutex_table.next_phase k.phase seen.Start }))
+            (ap (λ (y : Core). core_next y seen.Start) e) ∙ same of_mutexes _ _ _ _ _ _ [] []
+            (ap (λ y. word_after (core_act y) seen.Start x) e)
+            (ap (slice_set (mutex_at s c.lock).roles t) (starts_as us k.phase owns.0)) refl refl)
             (subst (λ (y : Crossing). Crossed y t (inside s) (inside next)) (sym (step.crossing ∙ well.1)) refl) well.0,
         owns.1,
         well.2,
@@ -189,8 +216,10 @@ module _ (s : State) (t : ℕ) (c : Call) (may : MayBegin s t c) (h : FitsTogeth
       )
 
   begin_so : (y : Core) → c.core ≡ y → Fitted s next t c seen.Start y × (has_begun y ≡ false)
-  begin_so (Core.Rw k) e = let owns = subst (OwnsFor (recursive_in s.kinds c.lock) (hold_at s t c.lock) c.others) e may.owns in (begin_rws (Simple k) e owns (subst (IsOfKind (slice_get s.kinds c.lock)) e may.kind), owns.0)
-  begin_so (Core.Upgrade k) e = let owns = subst (OwnsFor (recursive_in s.kinds c.lock) (hold_at s t c.lock) c.others) e may.owns in (begin_rws (Upgradable k) e owns (subst (IsOfKind (slice_get s.kinds c.lock)) e may.kind), owns.0)
+  begin_so (Core.Rw k) e = let owns = subst (OwnsFor (recursive_in s.kinds c.lock) (hold_at s t c.lock) c.others) e
+      may.owns in (begin_rws (Simple k) e owns (subst (IsOfKind (slice_get s.kinds c.lock)) e may.kind), owns.0)
+  begin_so (Core.Upgrade k) e = let owns = subst (OwnsFor (recursive_in s.kinds c.lock) (hold_at s t c.lock) c.others) e
+      may.owns in (begin_rws (Upgradable k) e owns (subst (IsOfKind (slice_get s.kinds c.lock)) e may.kind), owns.0)
   begin_so (Core.LateRw p) e = absurd (subst (OwnsFor (recursive_in s.kinds c.lock) (hold_at s t c.lock) c.others) e may.owns)
   begin_so (Core.Late p) e = absurd (subst (OwnsFor (recursive_in s.kinds c.lock) (hold_at s t c.lock) c.others) e may.owns)
   begin_so (Core.Mutex k) e = let owns = subst (OwnsFor (recursive_in s.kinds c.lock) (hold_at s t c.lock) c.others) e may.owns in (begin_mutexes k e owns (subst (IsOfKind (slice_get s.kinds c.lock)) e may.kind), owns.0)
@@ -358,13 +387,17 @@ module _ (s : State) (h : FitsTogether s) (t : ℕ) (c : Call) (here : call_at s
   hold_here : hold_at u t c.lock ≡ now
   hold_here =
       ap (λ b. cond b (read u.holds (t * length s.kinds + c.lock)) (Hold.Shares 0)) (lt-ltb c.lock (length s.kinds) lock_within)
-      ∙ read_here s.holds (t * length s.kinds + c.lock) now (subst (λ n. t * length s.kinds + c.lock < n) (sym h.rules.size_holds) (cell_within (length s.calls) (length s.kinds) t c.lock (in_range s t c here) lock_within))
+      ∙ read_here s.holds (t * length s.kinds + c.lock) now
+      (subst (λ n. t * length s.kinds + c.lock < n) (sym h.rules.size_holds)
+      (cell_within (length s.calls) (length s.kinds) t c.lock (in_range s t c here) lock_within))
 
   -- of any other lock, or any other thread
   hold_elsewhere : (x i : ℕ) → (x ≢ t) ⊎ (i ≢ c.lock) → hold_at u x i ≡ hold_at s x i
   hold_elsewhere x i other = elim (cases_lt i (length s.kinds)) [
     | inl b ↦ ap (λ q. cond q (read u.holds (x * length s.kinds + i)) (Hold.Shares 0)) (lt-ltb i (length s.kinds) b)
-        ∙ read_elsewhere s.holds (t * length s.kinds + c.lock) (x * length s.kinds + i) now (λ e. let same = cells_apart (length s.kinds) x i t c.lock b lock_within e in elim other [ inl n ↦ n same.0 | inr n ↦ n same.1 ])
+        ∙ read_elsewhere s.holds (t * length s.kinds + c.lock) (x * length s.kinds + i) now
+        (λ e. let same = cells_apart (length s.kinds) x i t c.lock b lock_within e in
+        elim other [ inl n ↦ n same.0 | inr n ↦ n same.1 ])
         ∙ sym (ap (λ q. cond q (read s.holds (x * length s.kinds + i)) (Hold.Shares 0)) (lt-ltb i (length s.kinds) b))
     | inr b ↦ ap (λ q. cond q (read u.holds (x * length s.kinds + i)) (Hold.Shares 0)) (beyond i b) ∙ sym (ap (λ q. cond q (read s.holds (x * length s.kinds + i)) (Hold.Shares 0)) (beyond i b))
   ]
@@ -403,13 +436,17 @@ module _ (s : State) (h : FitsTogether s) (t : ℕ) (c : Call) (here : call_at s
   ended : {C R L : Type 0} (K : Kind C R L) → shown K u c.lock ≡ K.lock (word_at s c.lock) (slice_set (roles_at K s c.lock) t (K.idle now)) (queue_at s (2 * c.lock)) (queue_at s (2 * c.lock + 1))
   ended K =
       same K _ _ _ _ _ _ _ _ refl
-      (one_changed (role_at K s c.lock) (role_at K u c.lock) (length s.calls) (length u.calls) t _ (in_range s t c here) ends_elsewhere.threads (λ x ne. role_stays K s u c.lock x (others_stay x ne) refl (hold_elsewhere x c.lock (inl ne)))
+      (one_changed (role_at K s c.lock) (role_at K u c.lock) (length s.calls) (length u.calls) t _ (in_range s t c here)
+      ends_elsewhere.threads
+      (λ x ne. role_stays K s u c.lock x (others_stay x ne) refl (hold_elsewhere x c.lock (inl ne)))
       (ap (K.role_in c.lock (taken_by s.wakes t) (hold_at u t c.lock)) gone ∙ K.none c.lock (taken_by s.wakes t) (hold_at u t c.lock) ∙ ap K.idle hold_here))
       refl refl
 
   -- THE LAST STEP
 
-  last_leads : (recursive : Bool) (m : of_rw.Move) (l : Lock) (x : ℕ) (old new : Role) (o : Option ℕ) → l.word ≡ word_of x → slice_get l.roles t ≡ Some old → OwnMove m t o o → IsLastStep recursive m l t old x new → RwLeadsBy recursive m t l (with_role l x t new) × Crossed (move_crossing m) t o o
+  last_leads : (recursive : Bool) (m : of_rw.Move) (l : Lock) (x : ℕ) (old new : Role) (o : Option ℕ)
+      → l.word ≡ word_of x → slice_get l.roles t ≡ Some old → OwnMove m t o o → IsLastStep recursive m l t old x new
+      → RwLeadsBy recursive m t l (with_role l x t new) × Crossed (move_crossing m) t o o
   last_leads recursive of_rw.Stays l x old new o word is moves step =
       (ap (λ w. record { word = w; roles = slice_set l.roles t new; first = l.first; second = l.second }) (sym word) ∙ ap (λ rs. record l { roles = rs }) (ap (slice_set l.roles t) step ∙ set-same l.roles t old is), refl)
   last_leads recursive (of_rw.Makes k) l x old new o word is moves step = (step, moves)
@@ -430,7 +467,10 @@ module _ (s : State) (h : FitsTogether s) (t : ℕ) (c : Call) (here : call_at s
       quiet of_mutexes s u t c.lock there_before ends_elsewhere (subst (IsOfKind (slice_get s.kinds c.lock)) e (h.rules.kinds t c here))
       (ended of_mutexes
       ∙ same of_mutexes _ _ _ _ _ _ [] [] refl
-      (ap (λ (y : Core). slice_set (roles_at of_mutexes s c.lock) t (record { owns = owns_mutex (hold_after c.others y); does = mutex.Idle })) e ∙ set-same (roles_at of_mutexes s c.lock) t mutex.away (plays_late s h t c LatePhase.GivesUp e here).here) refl refl)
+      (ap (λ (y : Core). slice_set (roles_at of_mutexes s c.lock) t
+      (record { owns = owns_mutex (hold_after c.others y); does = mutex.Idle })) e
+      ∙ set-same (roles_at of_mutexes s c.lock) t mutex.away (plays_late s h t c LatePhase.GivesUp e here).here)
+      refl refl)
       refl
   late_last LatePhase.Expires e asked = absurd cc
   late_last LatePhase.Quits e asked = absurd cc
@@ -444,9 +484,14 @@ module _ (s : State) (h : FitsTogether s) (t : ℕ) (c : Call) (here : call_at s
         let met = meets s h t c k e here in
         let kind_is = of_rws.of_kind (slice_get s.kinds c.lock) k (subst (IsOfKind (slice_get s.kinds c.lock)) e (h.rules.kinds t c here)) in
         let leads = last_leads (recursive_in s.kinds c.lock) (call_last c.others k) (rw_lock_at s c.lock) (word_at s c.lock) _ _ (inside s) refl met.here (call_last_own t c.others k (inside s))
-        (call_ends (recursive_in s.kinds c.lock) (rw_lock_at s c.lock) t c.others c.spot (taken_by s.wakes t) k (word_at s c.lock) answer met (subst (λ (x : Core). has_begun x ≡ true) e (h.rules.begun t c here).begun) asked) in
+        (call_ends (recursive_in s.kinds c.lock) (rw_lock_at s c.lock) t c.others c.spot (taken_by s.wakes t) k
+        (word_at s c.lock) answer met (subst (λ (x : Core). has_begun x ≡ true) e (h.rules.begun t c here).begun)
+        asked) in
         rw_goes s u t c.lock (call_last c.others k) [] _ there_before ends_elsewhere kind_is leads.0
-        (ended of_rws ∙ ap (λ (y : Core). with_role (rw_lock_at s c.lock) (word_at s c.lock) t (record { owns = owned_of (hold_after c.others y); does = Idle })) e) leads.1 (own_some (call_last c.others k) [] t (inside s) (inside s) (call_last_own t c.others k (inside s)))
+        (ended of_rws ∙ ap
+        (λ (y : Core). with_role (rw_lock_at s c.lock) (word_at s c.lock) t
+        (record { owns = owned_of (hold_after c.others y); does = Idle })) e) leads.1
+        (own_some (call_last c.others k) [] t (inside s) (inside s) (call_last_own t c.others k (inside s)))
 
     last_of : (x : Core) → c.core ≡ x → core_act x ≡ Act.Done answer → IsLastOf x c.others c.lock t s u
     last_of (Core.Rw k) e asked = last_rw (Simple k) e asked
@@ -455,9 +500,14 @@ module _ (s : State) (h : FitsTogether s) (t : ℕ) (c : Call) (here : call_at s
     last_of (Core.Mutex k) e asked =
         let begun : mutex_begun k.phase ≡ true = subst (λ (x : Core). has_begun x ≡ true) e (h.rules.begun t c here).begun in
         let v = first_of_all (taken_by s.wakes t) in
-        let step = steps.ends (mutex_at s c.lock) (word_at s c.lock) t v (mutex_spot c.spot) k.phase answer (plays s h t c k e here (λ w. let never : Act.Done answer ≡ Act.Section section.Wake = sym asked ∙ w in cc)) begun asked in
+        let step = steps.ends (mutex_at s c.lock) (word_at s c.lock) t v (mutex_spot c.spot) k.phase answer
+        (plays s h t c k e here (λ w. let never : Act.Done answer ≡ Act.Section section.Wake = sym asked ∙ w in cc))
+        begun asked in
         mutex_goes s u t c.lock v [] _ (of_mutex.last_move k.phase) there_before ends_elsewhere (subst (IsOfKind (slice_get s.kinds c.lock)) e (h.rules.kinds t c here)) step.0
-        (ended of_mutexes ∙ ap (λ (b : Bool). mutex_of (word_at s c.lock) (slice_set (mutex_at s c.lock).roles t (record { owns = b; does = mutex.Idle })) (mutex_at s c.lock).queue) (ap (λ (y : Core). owns_mutex (hold_after c.others y)) e ∙ shown_as.ends k.phase answer begun asked))
+        (ended of_mutexes
+        ∙ ap (λ (b : Bool). mutex_of (word_at s c.lock)
+        (slice_set (mutex_at s c.lock).roles t (record { owns = b; does = mutex.Idle })) (mutex_at s c.lock).queue)
+        (ap (λ (y : Core). owns_mutex (hold_after c.others y)) e ∙ shown_as.ends k.phase answer begun asked))
         (subst (λ (x : Crossing). Crossed x t (inside s) (inside u)) (sym step.1) refl) (last_tells v [] k.phase)
     last_of (Core.Late p) e asked = late_last p e asked
 
@@ -498,7 +548,10 @@ module _ (s : State) (h : FitsTogether s) (t : ℕ) (c : Call) (here : call_at s
 
     wakes_ended : WakesFit u
     wakes_ended = record {
-      off = λ v by x said at is. calls_ended (λ (n : ℕ) (y : Call). y.spot ≡ QueuePosition.Off by said → (i : ℕ) × (w : Wakeup) × (slice_get s.wakes i ≡ Some w) × (w.by ≡ by) × (w.thread ≡ n)) (λ n y at_n off. h.wakes.off n by y said at_n off) v x at is;
+      off = λ v by x said at is. calls_ended
+          (λ (n : ℕ) (y : Call). y.spot ≡ QueuePosition.Off by said → (i : ℕ) × (w : Wakeup)
+          × (slice_get s.wakes i ≡ Some w) × (w.by ≡ by) × (w.thread ≡ n))
+          (λ n y at_n off. h.wakes.off n by y said at_n off) v x at is;
       room = h.wakes.room ∙ omega (arith, count_by-set is_away s.calls t (Some c) None (slot s.calls t c here), ap flag (stands c.spot refl));
     }
 
@@ -508,7 +561,10 @@ module _ (s : State) (h : FitsTogether s) (t : ℕ) (c : Call) (here : call_at s
         record {
           fits = record {
             lots = same_parts (record s { calls = slice_set s.calls t None }) u refl refl refl (ended_fits s t c h.lots here out.0 out.1);
-            passes = λ v d k o at is there. calls_ended (λ (n : ℕ) (y : Call). stance y.core ≡ In k Takes → ArePassed (asks (core_act y.core)) (s.lot.queues (2 * y.lock + k)) (passed_of o.phase)) (λ n y at_n takes. h.passes n y k o at_n takes there) v d at is;
+            passes = λ v d k o at is there. calls_ended
+                (λ (n : ℕ) (y : Call). stance y.core ≡ In k Takes → ArePassed (asks (core_act y.core))
+                (s.lot.queues (2 * y.lock + k)) (passed_of o.phase))
+                (λ n y at_n takes. h.passes n y k o at_n takes there) v d at is;
             wakes = wakes_ended;
             rules = rules_after s u c.lock h.rules (record {
               kinds = refl;

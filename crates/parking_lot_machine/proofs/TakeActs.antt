@@ -24,7 +24,8 @@ use Rattle.parking_lot_machine.proofs.Making.{move_sound}
 use Rattle.parking_lot_machine.proofs.Carrying.{same_call}
 use Rattle.parking_lot_machine.proofs.LotTakes.{took_fits}
 use Rattle.parking_lot_machine.proofs.Ruling.{CallFits, fits_at, fits_next, rules_after}
-use Rattle.parking_lot_machine.proofs.TakeParts.{IsOut, others_out, out_knows, took_told, TakesSo, the_sleeper, taker_after, sleeper_after, others_after, same_threads, wakes_after}
+use Rattle.parking_lot_machine.proofs.TakeParts.{IsOut, others_out, out_knows, took_told, TakesSo, the_sleeper}
+use Rattle.parking_lot_machine.proofs.TakeParts.{taker_after, sleeper_after, others_after, same_threads, wakes_after}
 use Rattle.parking_lot_machine.proofs.TakeNext.{mutex_asks, takes_so}
 use Rattle.parking_lot_machine.proofs.TakeJoins.{late_takes}
 use Rattle.parking_lot_machine.proofs.Passing.{no_stop}
@@ -40,7 +41,9 @@ asleep_out a k token e l how f = go (sym e ∙ f)
     go : Asleep k token ≡ In l how → ⊥
     go g = cc
 
-module _ (s : State) (t : ℕ) (c : Call) (k nth : ℕ) (w : Waiter) (from : stance c.core ≡ In k Takes) (next : IsNext (asks (core_act c.core)) (s.lot.queues (key_of c k)) nth w) (h : FitsTogether s) (here : call_at s t ≡ Some c) where
+module _ (s : State) (t : ℕ) (c : Call) (k nth : ℕ) (w : Waiter) (from : stance c.core ≡ In k Takes)
+    (next : IsNext (asks (core_act c.core)) (s.lot.queues (key_of c k)) nth w) (h : FitsTogether s)
+    (here : call_at s t ≡ Some c) where
   abbrev u : State
   u = took s t c (key_of c k) nth w
 
@@ -53,10 +56,14 @@ module _ (s : State) (t : ℕ) (c : Call) (k nth : ℕ) (w : Waiter) (from : sta
   -- the calls fit
   calls_fit : (x : ℕ) (d : Call) → call_at u x ≡ Some d → CallFits s.kinds u.lot.queues d
   calls_fit x d is = elim (cases_eq x t) [
-    | inl e ↦ subst (CallFits s.kinds u.lot.queues) (same_call (sym (taker_after s t c k nth w from next.there h here) ∙ (ap (call_at u) (sym e) ∙ is))) mine
+    | inl e ↦ subst (CallFits s.kinds u.lot.queues)
+        (same_call (sym (taker_after s t c k nth w from next.there h here) ∙ (ap (call_at u) (sym e) ∙ is))) mine
     | inr nt ↦ elim (cases_eq x w.thread) [
-      | inl e ↦ subst (CallFits s.kinds u.lot.queues) (same_call (sym (sleeper_after s t c k nth w from next.there h here) ∙ (ap (call_at u) (sym e) ∙ is))) its
-      | inr nv ↦ let old : call_at s x ≡ Some d = sym (others_after s t c k nth w from next.there h here x nt nv) ∙ is in fits_at s h x d old u.lot.queues d.spot (out_knows d.core u.lot.queues d.lock (others_out s h.lots t c here k Takes from x d nt old))
+      | inl e ↦ subst (CallFits s.kinds u.lot.queues)
+          (same_call (sym (sleeper_after s t c k nth w from next.there h here) ∙ (ap (call_at u) (sym e) ∙ is))) its
+      | inr nv ↦ let old : call_at s x ≡ Some d = sym (others_after s t c k nth w from next.there h here x nt nv)
+          ∙ is in fits_at s h x d old u.lot.queues d.spot
+          (out_knows d.core u.lot.queues d.lock (others_out s h.lots t c here k Takes from x d nt old))
     ]
   ]
     where
@@ -66,7 +73,8 @@ module _ (s : State) (t : ℕ) (c : Call) (k nth : ℕ) (w : Waiter) (from : sta
       its : CallFits s.kinds u.lot.queues (off_list t (the_sleeper s t c k nth w from next.there h here).call)
       its =
           let x = the_sleeper s t c k nth w from next.there h here in
-          fits_at s h w.thread x.call x.there u.lot.queues (spot.Off t said.Nothing) (out_knows x.call.core u.lot.queues x.call.lock (asleep_out (stance x.call.core) k w.token x.asleep))
+          fits_at s h w.thread x.call x.there u.lot.queues (spot.Off t said.Nothing)
+          (out_knows x.call.core u.lot.queues x.call.lock (asleep_out (stance x.call.core) k w.token x.asleep))
 
   rules : RulesFit u
   rules = rules_after s u c.lock h.rules (record {
@@ -83,7 +91,8 @@ module _ (s : State) (t : ℕ) (c : Call) (k nth : ℕ) (w : Waiter) (from : sta
 
   lots : lot.Sound u.lot → LotFits u
   lots sound =
-      let counts = takings_count c.core (word_at s c.lock) w.token (is_left (remove (s.lot.queues (key_of c k)) nth)) so.2 so.1 in
+      let counts = takings_count c.core (word_at s c.lock) w.token (is_left (remove (s.lot.queues (key_of c k)) nth))
+      so.2 so.1 in
       let e : In counts.0 Takes ≡ In k Takes = sym counts.2 ∙ from in
       let same : counts.0 ≡ k = cc in
       took_fits s t c h.lots here k nth w (small_key c.core k Takes from) from next.there
@@ -91,28 +100,48 @@ module _ (s : State) (t : ℕ) (c : Call) (k nth : ℕ) (w : Waiter) (from : sta
       counts.4 sound
 
   passes : lot.Sound u.lot → PassesFit u
-  passes sound = passes_taken s t c k nth w from next h here (lots sound) (going_of (recursive_in s.kinds c.lock) c.others (core_next c.core told) so.0.1) so.1 so.2
+  passes sound = passes_taken s t c k nth w from next h here (lots sound)
+      (going_of (recursive_in s.kinds c.lock) c.others (core_next c.core told) so.0.1) so.1 so.2
 
   pub takes : lot.Sound u.lot → (what : ActResult) × Acts t c what s u
-  takes sound = (told, record { fits = record { lots = lots sound; passes = passes sound; wakes = wakes_after s t c k nth w from next.there h here; rules = rules }; goes = so.0.0 })
+  takes sound = (
+    told,
+    record {
+      fits = record {
+        lots = lots sound;
+        passes = passes sound;
+        wakes = wakes_after s t c k nth w from next.there h here;
+        rules = rules;
+      };
+      goes = so.0.0;
+    },
+  )
 
 -- WHO IS SHOWN
 
 unpark≢stop : Unpark ≡ Stop → ⊥
 unpark≢stop e = cc
 
-rw_stops : (recursive : Bool) (n : ℕ) (y : RwCall) (k token : ℕ) → IsPrepared recursive n (rw_call y) → stance (rw_call y) ≡ In k Takes → asks (core_act (rw_call y)) token ≢ Stop
+rw_stops : (recursive : Bool) (n : ℕ) (y : RwCall) (k token : ℕ) → IsPrepared recursive n (rw_call y)
+    → stance (rw_call y) ≡ In k Takes → asks (core_act (rw_call y)) token ≢ Stop
 rw_stops recursive n y k token ready e is = elim (takes_where recursive n y k ready e) [
   | inl x ↦ let sc = scanner recursive n y x.0 ready in no_stop sc.sees false token refl (sym (sc.asks_so token) ∙ is)
   | inr x ↦ unpark≢stop (sym (ap (λ (q : RwCall). asks (core_act (rw_call q)) token) x.1) ∙ is)
 ]
 
-pub goes_on : (s : State) (t : ℕ) (c : Call) (k : ℕ) → FitsTogether s → call_at s t ≡ Some c → stance c.core ≡ In k Takes → (token : ℕ) → asks (core_act c.core) token ≢ Stop
+pub goes_on : (s : State) (t : ℕ) (c : Call) (k : ℕ) → FitsTogether s → call_at s t ≡ Some c
+    → stance c.core ≡ In k Takes → (token : ℕ) → asks (core_act c.core) token ≢ Stop
 goes_on s t c k h here from token = go c.core refl
   where
     go : (x : Core) → c.core ≡ x → asks (core_act c.core) token ≢ Stop
-    go (Core.Rw y) e is = rw_stops (recursive_in s.kinds c.lock) c.others (Simple y) k token (subst (IsPrepared (recursive_in s.kinds c.lock) c.others) e (h.rules.prepared t c here)) (ap stance (sym e) ∙ from) (ap (λ (x : Core). asks (core_act x) token) (sym e) ∙ is)
-    go (Core.Upgrade y) e is = rw_stops (recursive_in s.kinds c.lock) c.others (Upgradable y) k token (subst (IsPrepared (recursive_in s.kinds c.lock) c.others) e (h.rules.prepared t c here)) (ap stance (sym e) ∙ from) (ap (λ (x : Core). asks (core_act x) token) (sym e) ∙ is)
-    go (Core.Mutex y) e is = unpark≢stop (sym (mutex_asks y.phase k token (ap stance (sym e) ∙ from)) ∙ ap (λ (x : Core). asks (core_act x) token) (sym e) ∙ is)
+    go (Core.Rw y) e is = rw_stops (recursive_in s.kinds c.lock) c.others (Simple y) k token
+        (subst (IsPrepared (recursive_in s.kinds c.lock) c.others) e (h.rules.prepared t c here))
+        (ap stance (sym e) ∙ from) (ap (λ (x : Core). asks (core_act x) token) (sym e) ∙ is)
+    go (Core.Upgrade y) e is = rw_stops (recursive_in s.kinds c.lock) c.others (Upgradable y) k token
+        (subst (IsPrepared (recursive_in s.kinds c.lock) c.others) e (h.rules.prepared t c here))
+        (ap stance (sym e) ∙ from) (ap (λ (x : Core). asks (core_act x) token) (sym e) ∙ is)
+    go (Core.Mutex y) e is =
+        unpark≢stop (sym (mutex_asks y.phase k token (ap stance (sym e) ∙ from))
+        ∙ ap (λ (x : Core). asks (core_act x) token) (sym e) ∙ is)
     go (Core.Late p) e is = late_takes p k (ap stance (sym e) ∙ from)
     go (Core.LateRw p) e is = tardy_takes p k (ap stance (sym e) ∙ from)

@@ -1,5 +1,6 @@
 -- A thread that takes whoever is first in a list makes a step of the rules, at a lock of either kind.
-use Rattle.std.proofs.Common.{◌≡◌, ◌≤◌, ℕ, ◌+◌, ◌*◌, inl, inr, true, List, [], ◌∷◌, ◌++◌, length, remove, Some, slice_get, refl, sym, ap, ◌∙◌, subst, arith}
+use Rattle.std.proofs.Common.{◌≡◌, ◌≤◌, ℕ, ◌+◌, ◌*◌, inl, inr, true, List, [], ◌∷◌, ◌++◌, length, remove, Some}
+use Rattle.std.proofs.Common.{slice_get, refl, sym, ap, ◌∙◌, subst, arith}
 use Rattle.std.proofs.lemmas.Bool.{both_ways}
 use Rattle.parking_lot_core_model.specs.Machine.{threads_of}
 use Rattle.parking_lot_core_model.specs.Results.{is_left}
@@ -16,7 +17,8 @@ use Rattle.parking_lot_protocol.specs.declared.rw_phase.RwPhase.{RwPhase}
 use Rattle.parking_lot_rules.specs.Roles.{Shares, Taken2}
 use Rattle.parking_lot_machine.proofs.Acting.{still_inside}
 use Rattle.parking_lot_machine.proofs.Carrying.{no_length}
-use Rattle.parking_lot_machine.proofs.KindTable.{IsThere, Plain, RwCall, Simple, of_mutexes, of_rws, rw_call, rw_next, sleeps_so}
+use Rattle.parking_lot_machine.proofs.KindTable.{IsThere, Plain, RwCall, Simple, of_mutexes, of_rws, rw_call, rw_next}
+use Rattle.parking_lot_machine.proofs.KindTable.{sleeps_so}
 use Rattle.parking_lot_machine.proofs.RwCalls.{as_simple}
 use Rattle.parking_lot_machine.proofs.RwSleeps.{CallSleepsSecond}
 use Rattle.parking_lot_machine_calls.specs.declared.seat.WakeResult.{WakeResult}
@@ -25,7 +27,8 @@ use Rattle.parking_lot_machine.proofs.Meeting.{meets, plays, rw_hears, rw_sound,
 use Rattle.parking_lot_machine.proofs.MutexMoving.{steps}
 use Rattle.parking_lot_machine.proofs.RwCrossing.{lists_are_known}
 use Rattle.parking_lot_machine.proofs.RwTaking.{writers_are_taken}
-use Rattle.parking_lot_machine.proofs.TakeParts.{took_told, TakesSo, the_sleeper, list_here, list_there, nth_there, took_list, took_after, took_elsewhere, waits_listed, waits_so}
+use Rattle.parking_lot_machine.proofs.TakeParts.{took_told, TakesSo, the_sleeper, list_here, list_there, nth_there}
+use Rattle.parking_lot_machine.proofs.TakeParts.{took_list, took_after, took_elsewhere, waits_listed, waits_so}
 use Rattle.parking_lot_machine_calls.specs.Kinds.{recursive_in}
 use Rattle.parking_lot_machine.specs.RowActs.{took}
 use Rattle.parking_lot_machine_calls.specs.CallActs.{key_of}
@@ -44,7 +47,8 @@ one_left [] h = refl
 one_left (x ∷ []) h = refl
 one_left (x ∷ (y ∷ q)) h = absurd (omega (arith, h))
 
-module _ (s : State) (t : ℕ) (c : Call) (k : ℕ) (w : Waiter) (from : stance c.core ≡ In k Takes) (at : slice_get (s.lot.queues (key_of c k)) 0 ≡ Some w) (h : FitsTogether s) (here : call_at s t ≡ Some c) where
+module _ (s : State) (t : ℕ) (c : Call) (k : ℕ) (w : Waiter) (from : stance c.core ≡ In k Takes)
+    (at : slice_get (s.lot.queues (key_of c k)) 0 ≡ Some w) (h : FitsTogether s) (here : call_at s t ≡ Some c) where
   abbrev u : State
   u = took s t c (key_of c k) 0 w
 
@@ -65,21 +69,33 @@ module _ (s : State) (t : ℕ) (c : Call) (k : ℕ) (w : Waiter) (from : stance 
 
   -- AT A READER-WRITER LOCK
 
-  writer_takes : (rest : AfterWake) (e : c.core ≡ Core.Rw (record { phase = RwPhase.TakeWriter rest })) → 1 ≡ k → (o : RwCall) → z.core ≡ rw_call o → CallSleepsSecond z.others ws o → TakesSo s t c k 0 w (Core.Rw (record { phase = RwPhase.TakeWriter rest }))
+  writer_takes : (rest : AfterWake) (e : c.core ≡ Core.Rw (record { phase = RwPhase.TakeWriter rest })) → 1 ≡ k
+      → (o : RwCall) → z.core ≡ rw_call o → CallSleepsSecond z.others ws o
+      → TakesSo s t c k 0 w (Core.Rw (record { phase = RwPhase.TakeWriter rest }))
   writer_takes rest e one o its sleeps =
       let x : RwCore = record { phase = RwPhase.TakeWriter rest } in
       let kind_is = subst (IsOfKind (slice_get s.kinds c.lock)) e (h.rules.kinds t c here) in
       let second : 2 * c.lock + 1 ≡ key_of c k = omega (arith, one) in
-      let few : length (threads_of (s.lot.queues (2 * c.lock + 1))) ≤ 1 = lists_are_known.second (rw_lock_at s c.lock) (rw_sound s h c.lock kind_is) in
-      let met = as_simple (recursive_in s.kinds c.lock) (rw_lock_at s c.lock) t c.others c.spot us x (word_at s c.lock) (meets s h t c (Simple x) e here) in
-      let step = writers_are_taken (recursive_in s.kinds c.lock) (rw_lock_at s c.lock) t c.others (rw_spot c.spot) us rest (word_at s c.lock) w.token (is_left (remove (s.lot.queues (key_of c k)) 0)) v sleeps.from sleeps.stay met
-      (nth_there s t c k 0 w from at h here (2 * c.lock + 1) second) (waits_listed s t c k 0 w from at h here of_rws o its ∙ ap Some sleeps.listed) in
-      let none = took_list s t c k 0 w from at h here (2 * c.lock + 1) second ∙ one_left (s.lot.queues (key_of c k)) (subst (λ n. length (threads_of (s.lot.queues n)) ≤ 1) second few) in
+      let few : length (threads_of (s.lot.queues (2 * c.lock + 1))) ≤ 1 = lists_are_known.second (rw_lock_at s c.lock)
+      (rw_sound s h c.lock kind_is) in
+      let met = as_simple (recursive_in s.kinds c.lock) (rw_lock_at s c.lock) t c.others c.spot us x (word_at s c.lock)
+      (meets s h t c (Simple x) e here) in
+      let step = writers_are_taken (recursive_in s.kinds c.lock) (rw_lock_at s c.lock) t c.others (rw_spot c.spot) us
+      rest (word_at s c.lock) w.token (is_left (remove (s.lot.queues (key_of c k)) 0)) v sleeps.from sleeps.stay met
+      (nth_there s t c k 0 w from at h here (2 * c.lock + 1) second)
+      (waits_listed s t c k 0 w from at h here of_rws o its ∙ ap Some sleeps.listed) in
+      let none = took_list s t c k 0 w from at h here (2 * c.lock + 1) second ∙ one_left (s.lot.queues (key_of c k))
+      (subst (λ n. length (threads_of (s.lot.queues n)) ≤ 1) second few) in
       let well = rw_hears s h t c (Simple x) e here (took_told s c k 0 w) tt refl u.lot.queues none in (
         (
-          rw_goes s u t c.lock of_rw.TakesWriter us _ there (took_elsewhere s t c k 0 w from at h here) kind_is (Shares c.others, v, sleeps.from, sleeps.stay, step)
-              (took_after s t c k 0 w from at h here of_rws o its (rw_next (Simple x) (took_told s c k 0 w)) (ap (λ (x : Core). core_next x (took_told s c k 0 w)) e) _ refl (record { owns = Shares 0; does = Taken2 sleeps.from t sleeps.stay }) (sleeps.off t WakeResult.Nothing) _ _
-              (list_there s t c k 0 w from at h here (2 * c.lock) (λ f. omega (arith, one, f))) (list_here s t c k 0 w from at h here (2 * c.lock + 1) second))
+          rw_goes s u t c.lock of_rw.TakesWriter us _ there (took_elsewhere s t c k 0 w from at h here) kind_is
+              (Shares c.others, v, sleeps.from, sleeps.stay, step)
+              (took_after s t c k 0 w from at h here of_rws o its (rw_next (Simple x) (took_told s c k 0 w))
+              (ap (λ (x : Core). core_next x (took_told s c k 0 w)) e) _ refl
+              (record { owns = Shares 0; does = Taken2 sleeps.from t sleeps.stay })
+              (sleeps.off t WakeResult.Nothing) _ _
+              (list_there s t c k 0 w from at h here (2 * c.lock) (λ f. omega (arith, one, f)))
+              (list_here s t c k 0 w from at h here (2 * c.lock + 1) second))
               (still_inside s.lot.section (phase.Taking 0)) tt,
           well.0,
           well.1,
@@ -89,12 +105,15 @@ module _ (s : State) (t : ℕ) (c : Call) (k : ℕ) (w : Waiter) (from : stance 
         tt,
       )
 
-  pub writes_first : (rest : AfterWake) → c.core ≡ Core.Rw (record { phase = RwPhase.TakeWriter rest }) → 1 ≡ k → TakesSo s t c k 0 w (Core.Rw (record { phase = RwPhase.TakeWriter rest }))
+  pub writes_first : (rest : AfterWake) → c.core ≡ Core.Rw (record { phase = RwPhase.TakeWriter rest }) → 1 ≡ k
+      → TakesSo s t c k 0 w (Core.Rw (record { phase = RwPhase.TakeWriter rest }))
   writes_first rest e one =
-      let o = rw_waits s t c k 0 w from at h here (subst (IsOfKind (slice_get s.kinds c.lock)) e (h.rules.kinds t c here)) in
+      let o = rw_waits s t c k 0 w from at h here
+      (subst (IsOfKind (slice_get s.kinds c.lock)) e (h.rules.kinds t c here)) in
       elim o.2 [ inl x ↦ absurd (omega (arith, one, x.0)) | inr x ↦ writer_takes rest e one o.0 o.1 x.1 ]
 
-  pub takes_mutex : (q : MutexPhase) (y : MutexCore) → c.core ≡ Core.Mutex (record y { phase = q }) → mutex_stance q ≡ In k Takes → TakesSo s t c k 0 w (Core.Mutex (record y { phase = q }))
+  pub takes_mutex : (q : MutexPhase) (y : MutexCore) → c.core ≡ Core.Mutex (record y { phase = q })
+      → mutex_stance q ≡ In k Takes → TakesSo s t c k 0 w (Core.Mutex (record y { phase = q }))
   takes_mutex (MutexPhase.Takes giving) y e is =
       let x : MutexCore = record y { phase = MutexPhase.Takes giving } in
       let zero : 0 ≡ k = cc in
@@ -104,12 +123,20 @@ module _ (s : State) (t : ℕ) (c : Call) (k : ℕ) (w : Waiter) (from : stance 
       let o = waits_so s t c k 0 w from at h here of_mutexes kind_is in
       let asleep = sleeps_so o.0 k w.token (ap stance (sym o.1) ∙ (the_sleeper s t c k 0 w from at h here).asleep) in
       let nobody : us ≡ [] = no_length us (exact s h t c x e here (λ w. cc)) in
-      let step = steps.takes (mutex_at s c.lock) (word_at s c.lock) t v (mutex_spot c.spot) (MutexPhase.Takes giving) w.token left asleep.0 (plays s h t c x e here (λ w. cc)) refl (nth_there s t c k 0 w from at h here (2 * c.lock) first)
+      let step = steps.takes (mutex_at s c.lock) (word_at s c.lock) t v (mutex_spot c.spot) (MutexPhase.Takes giving)
+      w.token left asleep.0 (plays s h t c x e here (λ w. cc)) refl
+      (nth_there s t c k 0 w from at h here (2 * c.lock) first)
       (waits_listed s t c k 0 w from at h here of_mutexes o.0 o.1 ∙ ap Some (asleep.2 ws)) in (
         (
-          mutex_goes s u t c.lock v us _ of_mutex.TakesOne there (took_elsewhere s t c k 0 w from at h here) kind_is (asleep.0, step.leads)
-              (took_after s t c k 0 w from at h here of_mutexes o.0 o.1 (Plain (record x { phase = of_mutex_table.next_phase (MutexPhase.Takes giving) (took_told s c k 0 w) })) (ap (λ (x : Core). core_next x (took_told s c k 0 w)) e)
-              (of_mutex.role of_mutex.Listed v (MutexPhase.Stores giving true left)) (ap (λ vs. of_mutex.role of_mutex.Listed (first_of_all (vs ++ v ∷ [])) (MutexPhase.Stores giving true left)) nobody) _ (asleep.3 t WakeResult.Nothing ws) _ _
+          mutex_goes s u t c.lock v us _ of_mutex.TakesOne there (took_elsewhere s t c k 0 w from at h here) kind_is
+              (asleep.0, step.leads)
+              (took_after s t c k 0 w from at h here of_mutexes o.0 o.1
+              (Plain (record x
+              { phase = of_mutex_table.next_phase (MutexPhase.Takes giving) (took_told s c k 0 w) }))
+              (ap (λ (x : Core). core_next x (took_told s c k 0 w)) e)
+              (of_mutex.role of_mutex.Listed v (MutexPhase.Stores giving true left))
+              (ap (λ vs. of_mutex.role of_mutex.Listed (first_of_all (vs ++ v ∷ []))
+              (MutexPhase.Stores giving true left)) nobody) _ (asleep.3 t WakeResult.Nothing ws) _ _
               (list_here s t c k 0 w from at h here (2 * c.lock) first) refl)
               (still_inside s.lot.section (phase.Taking 0)) tt,
           subst (IsPrepared (recursive_in s.kinds c.lock) c.others) e (h.rules.prepared t c here),

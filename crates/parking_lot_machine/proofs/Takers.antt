@@ -45,7 +45,8 @@ frees_takers r (RwPhase.Stores a left) some = refl
 frees_takers r (RwPhase.Finishes rest) some = absurd (omega (arith, some))
 frees_takers r q some = rw_takers q some
 
-owes_takers : (kept : Kept) (end : CoreAnswer) (q : RwPhase) → 1 ≤ rw_taken q → works (upgrade_table.owes_act kept end q) ≡ true
+owes_takers : (kept : Kept) (end : CoreAnswer) (q : RwPhase) → 1 ≤ rw_taken q
+    → works (upgrade_table.owes_act kept end q) ≡ true
 owes_takers kept end (RwPhase.Scans a) some = refl
 owes_takers kept end (RwPhase.Finishes rest) some = absurd (omega (arith, some))
 owes_takers kept end q some = rw_takers q some
@@ -71,4 +72,5 @@ none_taken zero never = refl
 none_taken (suc n) never = absurd (never (omega arith))
 
 pub others_free : (c : Core) (a : Act) → core_act c ≡ a → works a ≡ false → taken_count c ≡ 0
-others_free c a is idle = none_taken (taken_count c) (λ some. both_ways (works a) idle (sym (ap works is) ∙ takers_work c some))
+others_free c a is idle =
+    none_taken (taken_count c) (λ some. both_ways (works a) idle (sym (ap works is) ∙ takers_work c some))

@@ -10,13 +10,15 @@ use Rattle.parking_lot_protocol_rw.specs.UpgradeTable as ut
 use Rattle.parking_lot_protocol_rw.specs.declared.upgrade_phase.Hold.{Hold}
 use Rattle.parking_lot_protocol_rw.specs.declared.upgrade_phase.Release.{Release}
 use Rattle.parking_lot_protocol_rw.specs.declared.upgrade_phase.UpgradePhase.{UpgradePhase}
-use Rattle.parking_lot_machine.specs.RowFits.{frees_prepared, keeps_hold, owes_prepared, scan_keeps, upgrade_begins, upgrade_keeps, upgrade_knows, upgrade_prepared}
+use Rattle.parking_lot_machine.specs.RowFits.{frees_prepared, keeps_hold, owes_prepared, scan_keeps, upgrade_begins}
+use Rattle.parking_lot_machine.specs.RowFits.{upgrade_keeps, upgrade_knows, upgrade_prepared}
 use Rattle.parking_lot_machine_calls.specs.CallKinds.{IsOfWorld}
 use Rattle.parking_lot_machine.specs.RwLaws.{count_shared}
 use Rattle.parking_lot_machine_calls.specs.Stances.{rw_taken, upgrade_taken}
 use Rattle.parking_lot_machine.specs.UpgradeLaws.{UpgradesKeep, WantsTaken, upgrade_shared}
 use Rattle.parking_lot_machine.proofs.UpgradeKeeping.{begins, goes_on}
-use Rattle.parking_lot_machine.proofs.UpgradeParts.{PartLearns, PartWants, frees_sums, frees_told, owes_sums, owes_told, part_keeps, part_knows, pick}
+use Rattle.parking_lot_machine.proofs.UpgradeParts.{PartLearns, PartWants, frees_sums, frees_told, owes_sums, owes_told}
+use Rattle.parking_lot_machine.proofs.UpgradeParts.{part_keeps, part_knows, pick}
 
 -- OUTSIDE OF SECTIONS
 
@@ -42,9 +44,11 @@ upgrades_fresh left word = pick IsFresh (ut.is_alone word) _ _ (tt, λ f. tt) (t
 
 shown_fresh : (p : UpgradePhase) (word : ℕ) → IsFresh (ut.shown p word)
 shown_fresh UpgradePhase.TryLoads word = tries_fresh 63 word
-shown_fresh (UpgradePhase.TryAdmits tried left) word = pick IsFresh (nat_lt 0 left) _ _ (tries_fresh (left - 1) word) (tt, λ f. tt)
+shown_fresh (UpgradePhase.TryAdmits tried left) word = pick IsFresh (nat_lt 0 left) _ _ (tries_fresh (left - 1) word)
+    (tt, λ f. tt)
 shown_fresh UpgradePhase.TryUpgradeLoads word = upgrades_fresh 63 word
-shown_fresh (UpgradePhase.TryUpgrades tried left) word = pick IsFresh (nat_lt 0 left) _ _ (upgrades_fresh (left - 1) word) (tt, λ f. tt)
+shown_fresh (UpgradePhase.TryUpgrades tried left) word = pick IsFresh (nat_lt 0 left) _ _
+    (upgrades_fresh (left - 1) word) (tt, λ f. tt)
 shown_fresh UpgradePhase.BumpLoads word = pick IsFresh (rt.is_parked word) _ _ (tt, λ f. tt) (tt, λ f. tt)
 shown_fresh (UpgradePhase.UnlockLoads r) word = unlocks_fresh r word
 shown_fresh (UpgradePhase.Unlocks r tried) word = unlocks_fresh r word
@@ -52,7 +56,8 @@ shown_fresh p word = (tt, λ f. tt)
 
 won_fresh : (p : UpgradePhase) → IsFresh (ut.won p)
 won_fresh (UpgradePhase.Unlocks r word) = pick IsFresh (ut.is_again r) _ _ (tt, λ f. tt) (tt, λ f. tt)
-won_fresh (UpgradePhase.Yields from word) = owes_fresh (ut.held_before from) CoreAnswer.Released word (pick keeps_hold from _ _ tt tt)
+won_fresh (UpgradePhase.Yields from word) = owes_fresh (ut.held_before from) CoreAnswer.Released word
+    (pick keeps_hold from _ _ tt tt)
 won_fresh p = (tt, λ f. tt)
 
 added_fresh : (p : UpgradePhase) (word : ℕ) → IsFresh (ut.added p word)
@@ -69,23 +74,32 @@ own_fresh p s = (tt, λ f. tt)
 
 -- WHAT FOLLOWS
 
-frees_want : (r : Release) (q : RwPhase) (s : ActResult) → WantsTaken (UpgradePhase.Frees r (record { phase = q })) s → PartWants Hold.Nothing q s
+frees_want : (r : Release) (q : RwPhase) (s : ActResult) → WantsTaken (UpgradePhase.Frees r (record { phase = q })) s
+    → PartWants Hold.Nothing q s
 frees_want r (RwPhase.Scans a) (ActResult.Took (Some token) left) w = sym (frees_sums a token.0) ∙ w
 frees_want r (RwPhase.Scans a) s w = tt
 frees_want r q s w = tt
 
-owes_want : (kept : Hold) (end : CoreAnswer) (q : RwPhase) (s : ActResult) → scan_keeps kept q → WantsTaken (UpgradePhase.Owes kept end (record { phase = q })) s → PartWants kept q s
+owes_want : (kept : Hold) (end : CoreAnswer) (q : RwPhase) (s : ActResult) → scan_keeps kept q
+    → WantsTaken (UpgradePhase.Owes kept end (record { phase = q })) s → PartWants kept q s
 owes_want kept end (RwPhase.Scans a) (ActResult.Took (Some token) left) k w = sym (owes_sums kept a token.0 k.1) ∙ w
 owes_want kept end (RwPhase.Scans a) s k w = tt
 owes_want kept end q s k w = tt
 
-keeps : (p : UpgradePhase) (x : ℕ) (s : ActResult) → IsReady p → IsOfWorld p → upgrade_keeps p → IsTold p x s → WantsTaken p s → upgrade_keeps (ut.next_phase p s)
+keeps : (p : UpgradePhase) (x : ℕ) (s : ActResult) → IsReady p → IsOfWorld p → upgrade_keeps p → IsTold p x s
+    → WantsTaken p s → upgrade_keeps (ut.next_phase p s)
 keeps (UpgradePhase.Plain core) x s i o k told want = absurd o
 keeps (UpgradePhase.Seeks core) x s i o k told want = pick upgrade_keeps (ut.owns_now core.phase s) _ _ tt tt
 keeps (UpgradePhase.Drains core) x s i o k told want = tt
 keeps (UpgradePhase.Frees r core) x s i o k told want =
-    pick upgrade_keeps (ut.asks_now r core.phase s) _ _ tt (part_keeps Hold.Nothing core.phase s tt (frees_told r core.phase x s o i told) k (frees_want r core.phase s want))
-keeps (UpgradePhase.Owes kept end core) x s i o k told want = (k.0, part_keeps kept core.phase s k.0 (owes_told kept end core.phase x s i told) k.1 (owes_want kept end core.phase s k.1 want))
+    pick upgrade_keeps (ut.asks_now r core.phase s) _ _ tt
+    (part_keeps Hold.Nothing core.phase s tt (frees_told r core.phase x s o i told) k
+    (frees_want r core.phase s want))
+keeps (UpgradePhase.Owes kept end core) x s i o k told want = (
+  k.0,
+  part_keeps kept core.phase s k.0 (owes_told kept end core.phase x s i told) k.1
+      (owes_want kept end core.phase s k.1 want),
+)
 keeps p x s i o k told want = (own_fresh p s).0
 
 -- what one that takes waiters learns
@@ -94,12 +108,16 @@ UpgradeLearns (UpgradePhase.Frees r core) s first = PartLearns Hold.Nothing core
 UpgradeLearns (UpgradePhase.Owes kept end core) s first = PartLearns kept core.phase s first
 UpgradeLearns p s first = Unit {0}
 
-pub knows : (p : UpgradePhase) (x : ℕ) (s : ActResult) (first : List Waiter) → IsReady p → IsOfWorld p → IsTold p x s → UpgradeLearns p s first → upgrade_knows (ut.next_phase p s) first
+pub knows : (p : UpgradePhase) (x : ℕ) (s : ActResult) (first : List Waiter) → IsReady p → IsOfWorld p → IsTold p x s
+    → UpgradeLearns p s first → upgrade_knows (ut.next_phase p s) first
 knows (UpgradePhase.Plain core) x s first i o told l = absurd o
-knows (UpgradePhase.Seeks core) x s first i o told l = pick (λ p. upgrade_knows p first) (ut.owns_now core.phase s) _ _ tt tt
+knows (UpgradePhase.Seeks core) x s first i o told l = pick (λ p. upgrade_knows p first) (ut.owns_now core.phase s) _ _
+    tt tt
 knows (UpgradePhase.Drains core) x s first i o told l = tt
-knows (UpgradePhase.Frees r core) x s first i o told l = pick (λ p. upgrade_knows p first) (ut.asks_now r core.phase s) _ _ tt (part_knows Hold.Nothing core.phase s first (frees_told r core.phase x s o i told) l)
-knows (UpgradePhase.Owes kept end core) x s first i o told l = part_knows kept core.phase s first (owes_told kept end core.phase x s i told) l
+knows (UpgradePhase.Frees r core) x s first i o told l = pick (λ p. upgrade_knows p first) (ut.asks_now r core.phase s)
+    _ _ tt (part_knows Hold.Nothing core.phase s first (frees_told r core.phase x s o i told) l)
+knows (UpgradePhase.Owes kept end core) x s first i o told l = part_knows kept core.phase s first
+    (owes_told kept end core.phase x s i told) l
 knows p x s first i o told l = (own_fresh p s).1 first
 
 -- WHAT IT NEEDS OF THOSE THAT ITS THREAD HAS TAKEN
@@ -121,7 +139,8 @@ owes_needs us (RwPhase.Scans a) e few = omega (arith, few)
 owes_needs us (RwPhase.Finishes rest) e few = none_taken us e
 owes_needs us q e few = tt
 
-prepared : (us : List ℕ) (p : UpgradePhase) → IsOfWorld p → length us ≡ upgrade_taken p → upgrade_shared p ≤ 2 ^ 18 → upgrade_prepared us p
+prepared : (us : List ℕ) (p : UpgradePhase) → IsOfWorld p → length us ≡ upgrade_taken p → upgrade_shared p ≤ 2 ^ 18
+    → upgrade_prepared us p
 prepared us (UpgradePhase.Plain core) o e few = absurd o
 prepared us (UpgradePhase.GivingUp from) o e few = absurd o
 prepared us (UpgradePhase.Frees r core) o e few = frees_needs us core.phase e few
@@ -151,4 +170,9 @@ begins_keeping UpgradePhase.DowngradingToUpgradable k = tt
 begins_keeping p k = absurd k
 
 pub upgrades_keep : UpgradesKeep
-upgrades_keep = record { begins = λ p k. (begins_in_order p k, begins p k, begins_keeping p k); goes_on = goes_on; keeps = keeps; prepared = prepared }
+upgrades_keep = record {
+  begins = λ p k. (begins_in_order p k, begins p k, begins_keeping p k);
+  goes_on = goes_on;
+  keeps = keeps;
+  prepared = prepared;
+}

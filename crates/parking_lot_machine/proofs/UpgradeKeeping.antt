@@ -1,5 +1,6 @@
 -- Where an upgradable call ends, and what it keeps from its beginning on.
-use Rattle.std.proofs.Common.{◌≡◌, ◌<◌, ℕ, ◌+◌, ◌-◌, ◌/◌, ◌%◌, ◌==◌, ◌^◌, ◌&&◌, ◌||◌, nat_lt, not, Bool, true, false, cond, List, [], Some, slice_get, slice_set, refl, sym, ap, ◌∙◌, subst}
+use Rattle.std.proofs.Common.{◌≡◌, ◌<◌, ℕ, ◌+◌, ◌-◌, ◌/◌, ◌%◌, ◌==◌, ◌^◌, ◌&&◌, ◌||◌, nat_lt, not, Bool, true, false}
+use Rattle.std.proofs.Common.{cond, List, [], Some, slice_get, slice_set, refl, sym, ap, ◌∙◌, subst}
 use Rattle.std.proofs.lemmas.Bool.{both_ways, lt-ltb}
 use Rattle.parking_lot_rules.specs.Lock.{Lock}
 use Rattle.parking_lot_rules.specs.Roles.{Shares, Excludes}
@@ -78,7 +79,8 @@ seeks_on (RwPhase.Ends outcome) i e = absurd i
 seeks_on RwPhase.Invalid i e = absurd i
 seeks_on q i e = e
 
-drains_end : (n : ℕ) (spot : QueuePosition) (us : List ℕ) (q : RwPhase) → IsDraining q → IsDone (rt.act_of q) → record { owns = Excludes; does = rules.Idle } ≡ role n spot us (UpgradePhase.Drains (record { phase = q }))
+drains_end : (n : ℕ) (spot : QueuePosition) (us : List ℕ) (q : RwPhase) → IsDraining q → IsDone (rt.act_of q)
+    → record { owns = Excludes; does = rules.Idle } ≡ role n spot us (UpgradePhase.Drains (record { phase = q }))
 drains_end n spot us (RwPhase.Ends end) i e = sym (ap (λ o. record { owns = rw.owned_after 0 o; does = rules.Idle }) i)
 drains_end n spot us (RwPhase.Locking want) i e = absurd i
 drains_end n spot us (RwPhase.Trying want) i e = absurd i
@@ -120,9 +122,12 @@ drains_end n spot us RwPhase.Invalid i e = absurd i
 drains_end n spot us q i e = absurd e
 
 -- one whose wakes are done
-frees_end : (l : Lock) (t n : ℕ) (spot : QueuePosition) (us : List ℕ) (way : Release) (q : RwPhase) → IsFreeing q → frees_prepared us q → slice_get l.roles t ≡ Some (role n spot us (UpgradePhase.Frees way (record { phase = q }))) → IsDone (ut.frees_act way q)
+frees_end : (l : Lock) (t n : ℕ) (spot : QueuePosition) (us : List ℕ) (way : Release) (q : RwPhase) → IsFreeing q
+    → frees_prepared us q → slice_get l.roles t ≡ Some (role n spot us (UpgradePhase.Frees way (record { phase = q })))
+    → IsDone (ut.frees_act way q)
     → slice_get l.roles t ≡ Some (record { owns = Shares 0; does = rules.Wakes [] })
-frees_end l t n spot us way (RwPhase.Finishes rest) i m at e = at ∙ ap (λ vs. Some (record { owns = Shares 0; does = rules.Wakes vs })) m
+frees_end l t n spot us way (RwPhase.Finishes rest) i m at e = at
+    ∙ ap (λ vs. Some (record { owns = Shares 0; does = rules.Wakes vs })) m
 frees_end l t n spot us way (RwPhase.Locking want) i m at e = absurd i
 frees_end l t n spot us way (RwPhase.Trying want) i m at e = absurd i
 frees_end l t n spot us way RwPhase.UnlockingShared i m at e = absurd i
@@ -166,9 +171,13 @@ frees_end l t n spot us way (RwPhase.Ends outcome) i m at e = absurd i
 frees_end l t n spot us way RwPhase.Invalid i m at e = absurd i
 frees_end l t n spot us way q i m at e = absurd e
 
-owes_end : (l : Lock) (t n : ℕ) (spot : QueuePosition) (us : List ℕ) (hold : Hold) (end : CoreAnswer) (q : RwPhase) → IsOwing q → owes_prepared us q → slice_get l.roles t ≡ Some (role n spot us (UpgradePhase.Owes hold end (record { phase = q }))) → IsDone (ut.owes_act hold end q)
+owes_end : (l : Lock) (t n : ℕ) (spot : QueuePosition) (us : List ℕ) (hold : Hold) (end : CoreAnswer) (q : RwPhase)
+    → IsOwing q → owes_prepared us q
+    → slice_get l.roles t ≡ Some (role n spot us (UpgradePhase.Owes hold end (record { phase = q })))
+    → IsDone (ut.owes_act hold end q)
     → slice_get l.roles t ≡ Some (record { owns = owned hold; does = rules.Wakes [] })
-owes_end l t n spot us hold end (RwPhase.Finishes rest) i m at e = at ∙ ap (λ vs. Some (record { owns = owned hold; does = rules.Wakes vs })) m
+owes_end l t n spot us hold end (RwPhase.Finishes rest) i m at e = at
+    ∙ ap (λ vs. Some (record { owns = owned hold; does = rules.Wakes vs })) m
 owes_end l t n spot us hold end (RwPhase.Locking want) i m at e = absurd i
 owes_end l t n spot us hold end (RwPhase.Trying want) i m at e = absurd i
 owes_end l t n spot us hold end RwPhase.UnlockingShared i m at e = absurd i
@@ -212,16 +221,29 @@ owes_end l t n spot us hold end (RwPhase.Ends outcome) i m at e = absurd i
 owes_end l t n spot us hold end RwPhase.Invalid i m at e = absurd i
 owes_end l t n spot us hold end q i m at e = absurd e
 
-ends_by : (recursive : Bool) (l : Lock) (t n : ℕ) (spot : QueuePosition) (us : List ℕ) (p : UpgradePhase) (x : ℕ) → MeetsUpgrade l t n spot us p x → upgrade_begun p ≡ true → IsDone (ut.act_of p)
-    → IsLastStep recursive (last_move n p) l t (role n spot us p) x (record { owns = upgrade_owned_after p; does = rules.Idle })
+ends_by : (recursive : Bool) (l : Lock) (t n : ℕ) (spot : QueuePosition) (us : List ℕ) (p : UpgradePhase) (x : ℕ)
+    → MeetsUpgrade l t n spot us p x → upgrade_begun p ≡ true → IsDone (ut.act_of p)
+    → IsLastStep recursive (last_move n p) l t (role n spot us p) x
+    (record { owns = upgrade_owned_after p; does = rules.Idle })
 ends_by recursive l t n spot us (UpgradePhase.Plain core) x h b e = absurd h.prepared
 ends_by recursive l t n spot us (UpgradePhase.Seeks core) x h b e = absurd (seeks_on core.phase h.ready.0 e)
 ends_by recursive l t n spot us (UpgradePhase.Drains core) x h b e = drains_end n spot us core.phase h.ready.0 e
-ends_by recursive l t n spot us (UpgradePhase.Frees way core) x h b e =
-    ((frees_end l t n spot us way core.phase h.ready h.prepared h.here e, tt), λ i. record l { word = h.word i; roles = slice_set l.roles t (record { owns = Shares 0; does = rules.Idle }) })
-ends_by recursive l t n spot us (UpgradePhase.Owes hold end core) x h b e =
-    ((owes_end l t n spot us hold end core.phase h.ready h.prepared h.here e, tt), λ i. record l { word = h.word i; roles = slice_set l.roles t (record { owns = owned hold; does = rules.Idle }) })
-ends_by recursive l t n spot us UpgradePhase.Refuses x h b e = ((h.here, tt), λ i. record l { word = h.word i; roles = slice_set l.roles t (record { owns = Shares 0; does = rules.Idle }) })
+ends_by recursive l t n spot us (UpgradePhase.Frees way core) x h b e = (
+  (frees_end l t n spot us way core.phase h.ready h.prepared h.here e, tt),
+  λ i. record l { word = h.word i; roles = slice_set l.roles t (record { owns = Shares 0; does = rules.Idle }) },
+)
+ends_by recursive l t n spot us (UpgradePhase.Owes hold end core) x h b e = (
+  (owes_end l t n spot us hold end core.phase h.ready h.prepared h.here e, tt),
+  λ i. record l {
+    word = h.word i;
+    roles = slice_set l.roles t (record { owns = owned hold; does = rules.Idle });
+  },
+)
+ends_by recursive l t n spot us UpgradePhase.Refuses x h b e = (
+  (h.here, tt),
+  λ i. record l
+      { word = h.word i; roles = slice_set l.roles t (record { owns = Shares 0; does = rules.Idle }) },
+)
 ends_by recursive l t n spot us (UpgradePhase.Ends hold end) x h b e = refl
 ends_by recursive l t n spot us UpgradePhase.Invalid x h b e = refl
 ends_by recursive l t n spot us UpgradePhase.Locking x h b e = absurd (both_ways false refl b)
@@ -236,7 +258,8 @@ ends_by recursive l t n spot us (UpgradePhase.GivingUp from) x h b e = absurd (b
 ends_by recursive l t n spot us p x h b e = absurd e
 
 pub upgrades_end : UpgradesEnd
-upgrades_end recursive l t n spot us p x answer h b e = ends_by recursive l t n spot us p x h b (subst IsDone (sym e) tt)
+upgrades_end recursive l t n spot us p x answer h b e = ends_by recursive l t n spot us p x h b
+    (subst IsDone (sym e) tt)
 
 -- WHAT IT KEEPS
 
@@ -244,19 +267,23 @@ seeks_roomy : (a : Seeking) (word : ℕ) → word / 16 < 2 ^ 60 - 1 → seeks_ro
 seeks_roomy a word few =
     pick seeks_room (rt.is_admitted a.want word) _ _ (lt-ltb (word / 16) (2 ^ 60 - 1) few)
     (pick seeks_room (rt.is_barred a.want word) _ _
-    (pick seeks_room (not (rt.is_parked word || rt.is_writer_parked word) && nat_lt 0 a.rounds) _ _ tt (pick seeks_room (rt.is_parked word) _ _ tt tt)) tt)
+    (pick seeks_room (not (rt.is_parked word || rt.is_writer_parked word) && nat_lt 0 a.rounds) _ _ tt
+    (pick seeks_room (rt.is_parked word) _ _ tt tt)) tt)
 
 abbrev seeks_next : RwPhase → ActResult → UpgradePhase
-seeks_next q s = cond (ut.owns_now q s) (UpgradePhase.Ends Hold.Upgradable CoreAnswer.Owned) (UpgradePhase.Seeks (ut.core_at (rt.next_phase q s)))
+seeks_next q s = cond (ut.owns_now q s) (UpgradePhase.Ends Hold.Upgradable CoreAnswer.Owned)
+    (UpgradePhase.Seeks (ut.core_at (rt.next_phase q s)))
 
 seen_room : (x v : ℕ) → v ≡ x → x / 16 < 2 ^ 60 - 1 → v / 16 < 2 ^ 60 - 1
 seen_room x v e few = subst (λ y. y / 16 < 2 ^ 60 - 1) (sym e) few
 
-seeks_keep : (q : RwPhase) (x : ℕ) (s : ActResult) → IsSeeking q → x / 16 < 2 ^ 60 - 1 → Gives (ut.seeks_act q) x s → IsOfWorld (seeks_next q s)
+seeks_keep : (q : RwPhase) (x : ℕ) (s : ActResult) → IsSeeking q → x / 16 < 2 ^ 60 - 1 → Gives (ut.seeks_act q) x s
+    → IsOfWorld (seeks_next q s)
 seeks_keep (RwPhase.Loads a) x (ActResult.Word v) i few g = seeks_roomy a v (seen_room x v g few)
 seeks_keep (RwPhase.Admits a from) x s i few g = go (rt.has_room from) s g
   where
-    go : (b : Bool) (s : ActResult) → Gives (cond b (Act.Exchange from ((from + 20) % 2 ^ 64)) Act.Load) x s → IsOfWorld (seeks_next (RwPhase.Admits a from) s)
+    go : (b : Bool) (s : ActResult) → Gives (cond b (Act.Exchange from ((from + 20) % 2 ^ 64)) Act.Load) x s
+        → IsOfWorld (seeks_next (RwPhase.Admits a from) s)
     go true ActResult.Exchanged g = tt
     go true (ActResult.Word v) g = seeks_roomy a v (seen_room x v g.0 few)
     go false (ActResult.Word v) g = seeks_roomy a v (seen_room x v g few)
@@ -266,13 +293,16 @@ seeks_keep (RwPhase.Spins a) x (ActResult.Spun spun) i few g = tt
 seeks_keep (RwPhase.SetParked a from) x ActResult.Exchanged i few g = tt
 seeks_keep (RwPhase.SetParked a from) x (ActResult.Word v) i few g = seeks_roomy a v (seen_room x v g.0 few)
 seeks_keep (RwPhase.Enters want woken) x ActResult.Entered i few g = tt
-seeks_keep (RwPhase.Checks want woken) x (ActResult.Word v) i few g = pick seeks_room (rt.is_barred want v && rt.is_parked v) (RwPhase.Appends want) (RwPhase.Retreats want woken) tt tt
+seeks_keep (RwPhase.Checks want woken) x (ActResult.Word v) i few g =
+    pick seeks_room (rt.is_barred want v && rt.is_parked v) (RwPhase.Appends want) (RwPhase.Retreats want woken) tt tt
 seeks_keep (RwPhase.Retreats want woken) x ActResult.Made i few g = tt
 seeks_keep (RwPhase.Appends want) x ActResult.Made i few g = tt
 seeks_keep (RwPhase.Rests want) x ActResult.Made i few g = tt
 seeks_keep (RwPhase.Sleeps want) x (ActResult.Woken token) i few g = go (token.0 == 1)
   where
-    go : (b : Bool) → IsOfWorld (cond b (UpgradePhase.Ends Hold.Upgradable CoreAnswer.Owned) (UpgradePhase.Seeks (ut.core_at (cond b (rt.admits want true) (RwPhase.Loads (rt.begins want true))))))
+    go : (b : Bool) → IsOfWorld
+        (cond b (UpgradePhase.Ends Hold.Upgradable CoreAnswer.Owned)
+        (UpgradePhase.Seeks (ut.core_at (cond b (rt.admits want true) (RwPhase.Loads (rt.begins want true))))))
     go true = tt
     go false = tt
 seeks_keep (RwPhase.Locking want) x s i few g = absurd i
@@ -314,7 +344,8 @@ seeks_keep (RwPhase.Ends outcome) x s i few g = absurd i
 seeks_keep RwPhase.Invalid x s i few g = absurd i
 seeks_keep q x s i few g = absurd g
 
-once_more : (r : Release) (b : Bool) (p : UpgradePhase) → ut.is_again r ≡ false → b ≡ false → IsOfWorld p → IsOfWorld (cond b UpgradePhase.Relocks p)
+once_more : (r : Release) (b : Bool) (p : UpgradePhase) → ut.is_again r ≡ false → b ≡ false → IsOfWorld p
+    → IsOfWorld (cond b UpgradePhase.Relocks p)
 once_more r false p k e h = h
 once_more r true p k e h = absurd (both_ways true e refl)
 
@@ -322,28 +353,34 @@ asks_not : (r : Release) (q : RwPhase) (s : ActResult) → ut.is_again r ≡ fal
 asks_not r (RwPhase.Finishes rest) s k = ap (λ b. b && ut.is_word s) k
 asks_not r q s k = refl
 
-pub goes_on : (p : UpgradePhase) (x : ℕ) (s : ActResult) → upgrade_begun p ≡ true → IsReady p → IsOfWorld p → x / 16 < 2 ^ 60 - 1 → IsTold p x s → IsOfWorld (ut.next_phase p s)
+pub goes_on : (p : UpgradePhase) (x : ℕ) (s : ActResult) → upgrade_begun p ≡ true → IsReady p → IsOfWorld p
+    → x / 16 < 2 ^ 60 - 1 → IsTold p x s → IsOfWorld (ut.next_phase p s)
 goes_on (UpgradePhase.Plain core) x s b i k few g = absurd k
 goes_on (UpgradePhase.Seeks core) x s b i k few g = seeks_keep core.phase x s i.0 few g
 goes_on (UpgradePhase.Drains core) x s b i k few g = tt
-goes_on (UpgradePhase.Frees r core) x s b i k few g = once_more r (ut.asks_now r core.phase s) (UpgradePhase.Frees r (ut.core_at (rt.next_phase core.phase s))) k (asks_not r core.phase s k) k
+goes_on (UpgradePhase.Frees r core) x s b i k few g = once_more r (ut.asks_now r core.phase s)
+    (UpgradePhase.Frees r (ut.core_at (rt.next_phase core.phase s))) k (asks_not r core.phase s k) k
 goes_on (UpgradePhase.Owes hold end core) x s b i k few g = tt
 goes_on UpgradePhase.TryLoads x (ActResult.Word w) b i k few g = pick IsOfWorld (ut.is_open w) _ _ tt tt
 goes_on (UpgradePhase.TryAdmits from left) x ActResult.Exchanged b i k few g = tt
-goes_on (UpgradePhase.TryAdmits from left) x (ActResult.Word w) b i k few g = pick IsOfWorld (nat_lt 0 left) _ _ (pick IsOfWorld (ut.is_open w) _ _ tt tt) tt
+goes_on (UpgradePhase.TryAdmits from left) x (ActResult.Word w) b i k few g = pick IsOfWorld (nat_lt 0 left) _ _
+    (pick IsOfWorld (ut.is_open w) _ _ tt tt) tt
 goes_on UpgradePhase.Upgrades x (ActResult.Before w) b i k few g = tt
 goes_on UpgradePhase.TryUpgradeLoads x (ActResult.Word w) b i k few g = pick IsOfWorld (ut.is_alone w) _ _ tt tt
 goes_on (UpgradePhase.TryUpgrades from left) x ActResult.Exchanged b i k few g = tt
-goes_on (UpgradePhase.TryUpgrades from left) x (ActResult.Word w) b i k few g = pick IsOfWorld (nat_lt 0 left) _ _ (pick IsOfWorld (ut.is_alone w) _ _ tt tt) tt
+goes_on (UpgradePhase.TryUpgrades from left) x (ActResult.Word w) b i k few g = pick IsOfWorld (nat_lt 0 left) _ _
+    (pick IsOfWorld (ut.is_alone w) _ _ tt tt) tt
 goes_on UpgradePhase.BumpLoads x s b i k few g = absurd k
 goes_on UpgradePhase.Relocks x s b i k few g = absurd k
 goes_on (UpgradePhase.UnlockLoads r) x (ActResult.Word w) b i k few g = pick IsOfWorld (rt.is_parked w) _ _ k k
-goes_on (UpgradePhase.Unlocks r from) x ActResult.Exchanged b i k few g = once_more r (ut.is_again r) (UpgradePhase.Ends Hold.Nothing CoreAnswer.Released) k k tt
+goes_on (UpgradePhase.Unlocks r from) x ActResult.Exchanged b i k few g =
+    once_more r (ut.is_again r) (UpgradePhase.Ends Hold.Nothing CoreAnswer.Released) k k tt
 goes_on (UpgradePhase.Unlocks r from) x (ActResult.Word w) b i k few g = pick IsOfWorld (rt.is_parked w) _ _ k k
 goes_on UpgradePhase.ToShared x (ActResult.Before w) b i k few g = pick IsOfWorld (rt.is_parked w) _ _ tt tt
 goes_on UpgradePhase.ToUpgradable x (ActResult.Before w) b i k few g = pick IsOfWorld (rt.is_parked w) _ _ tt tt
 goes_on (UpgradePhase.YieldLoads from) x (ActResult.Word w) b i k few g = tt
-goes_on (UpgradePhase.Yields from tried) x ActResult.Exchanged b i k few g = pick IsOfWorld (rt.is_parked tried) _ _ tt tt
+goes_on (UpgradePhase.Yields from tried) x ActResult.Exchanged b i k few g = pick IsOfWorld (rt.is_parked tried) _ _ tt
+    tt
 goes_on (UpgradePhase.Yields from tried) x (ActResult.Word w) b i k few g = tt
 goes_on UpgradePhase.Locking x s b i k few g = absurd (both_ways false refl b)
 goes_on UpgradePhase.Trying x s b i k few g = absurd (both_ways false refl b)
@@ -356,7 +393,8 @@ goes_on UpgradePhase.DowngradingToUpgradable x s b i k few g = absurd (both_ways
 goes_on (UpgradePhase.GivingUp from) x s b i k few g = absurd (both_ways false refl b)
 goes_on p x s b i k few g = absurd g
 
-pub begins : (p : UpgradePhase) → upgrade_begins p → IsOfWorld (ut.next_phase p ActResult.Start) × IsReady (ut.next_phase p ActResult.Start)
+pub begins : (p : UpgradePhase) → upgrade_begins p → IsOfWorld (ut.next_phase p ActResult.Start)
+    × IsReady (ut.next_phase p ActResult.Start)
 begins UpgradePhase.Locking k = (tt, (refl, tt))
 begins UpgradePhase.Trying k = (tt, tt)
 begins (UpgradePhase.Unlocking r) k = (k, tt)

@@ -1,5 +1,6 @@
 -- What the calls and holds of a machine say of its threads is what the locks of the rules say.
-use Rattle.std.proofs.Common.{◌≡◌, ◌≢◌, ℕ, zero, suc, ◌<◌, ◌≤◌, ◌||◌, inl, inr, Bool, true, false, List, length, Option, None, Some, slice_get, refl, sym, ap, ◌∙◌, arith}
+use Rattle.std.proofs.Common.{◌≡◌, ◌≢◌, ℕ, zero, suc, ◌<◌, ◌≤◌, ◌||◌, inl, inr, Bool, true, false, List, length, Option}
+use Rattle.std.proofs.Common.{None, Some, slice_get, refl, sym, ap, ◌∙◌, arith}
 use Rattle.std.specs.Prelude.{nat_lt, if◌then◌else◌}
 use Rattle.std.specs.Option.{option_and_then, option_map_or}
 use Rattle.std.proofs.Math.Nat.{mul-le-mul_right}
@@ -16,15 +17,18 @@ use Rattle.parking_lot_machine_calls.specs.declared.calls.LockKind.{LockKind}
 use Rattle.parking_lot_machine_calls.specs.declared.seat.Hold.{Hold}
 use Rattle.parking_lot_machine_calls.specs.declared.seat.Core.{Core}
 use Rattle.parking_lot_machine_calls.specs.declared.open_call.Call.{Call}
-use Rattle.parking_lot_machine.specs.Rows.{State, any_lock, lock_as, call_at, cell, everybody, hold_at, lock_at, mutex_role_at, rw_role_at, taken_by}
+use Rattle.parking_lot_machine.specs.Rows.{State, any_lock, lock_as, call_at, cell, everybody, hold_at, lock_at}
+use Rattle.parking_lot_machine.specs.Rows.{mutex_role_at, rw_role_at, taken_by}
 use Rattle.parking_lot_machine_calls.specs.CallRoles.{owned_of, owns_mutex}
 use Rattle.parking_lot_machine.specs.RowFits.{FitsTogether}
 use Rattle.parking_lot_machine_calls.specs.CallKinds.{IsOfKind}
-use Rattle.parking_lot_machine_calls.specs.CallViews.{call_in_debt, call_looks, call_mode, core_in_debt, core_mode, mutex_mode, rw_mode}
+use Rattle.parking_lot_machine_calls.specs.CallViews.{call_in_debt, call_looks, call_mode, core_in_debt, core_mode}
+use Rattle.parking_lot_machine_calls.specs.CallViews.{mutex_mode, rw_mode}
 use Rattle.parking_lot_machine.specs.Worlds.{in_debt_at, is_indebted, mode_in}
 use Rattle.parking_lot_machine_calls.specs.CallViews.{hold_mode}
 use Rattle.parking_lot_rules.proofs.Everybody.{get-all, past}
-use Rattle.parking_lot_machine.proofs.KindTable.{Simple, Upgradable, Plain, Late, Kind, of_mutexes, of_rws, in_its_place, Tardy}
+use Rattle.parking_lot_machine.proofs.KindTable.{Simple, Upgradable, Plain, Late, Kind, of_mutexes, of_rws}
+use Rattle.parking_lot_machine.proofs.KindTable.{in_its_place, Tardy}
 use Rattle.parking_lot_machine.proofs.Meeting.{in_range}
 use Rattle.parking_lot_machine_calls.specs.declared.late_rw.LateRwPhase.{LateRwPhase}
 use Rattle.parking_lot_machine.proofs.Sleepers.{ready_sleeper}
@@ -36,7 +40,8 @@ idle_rw Hold.Upgrades = refl
 idle_rw (Hold.Shares zero) = refl
 idle_rw (Hold.Shares (suc n)) = refl
 
-idle_recursive : (h : Hold) → rw_mode (record { owns = owned_of h; does = Idle }) ≡ hold_mode (Some LockKind.RwRecursive) h
+idle_recursive : (h : Hold) → rw_mode (record { owns = owned_of h; does = Idle }) ≡ hold_mode
+    (Some LockKind.RwRecursive) h
 idle_recursive Hold.Excludes = refl
 idle_recursive Hold.Upgrades = refl
 idle_recursive (Hold.Shares zero) = refl
@@ -48,12 +53,14 @@ idle_nowhere Hold.Upgrades = refl
 idle_nowhere (Hold.Shares zero) = refl
 idle_nowhere (Hold.Shares (suc n)) = refl
 
-idle_mutex : (h : Hold) → mutex_mode (record { owns = owns_mutex h; does = mutex.Idle }) ≡ hold_mode (Some LockKind.Mutex) h
+idle_mutex : (h : Hold) → mutex_mode (record { owns = owns_mutex h; does = mutex.Idle }) ≡ hold_mode
+    (Some LockKind.Mutex) h
 idle_mutex Hold.Excludes = refl
 idle_mutex Hold.Upgrades = refl
 idle_mutex (Hold.Shares n) = refl
 
-idle_fair : (h : Hold) → mutex_mode (record { owns = owns_mutex h; does = mutex.Idle }) ≡ hold_mode (Some LockKind.FairMutex) h
+idle_fair : (h : Hold) → mutex_mode (record { owns = owns_mutex h; does = mutex.Idle }) ≡ hold_mode
+    (Some LockKind.FairMutex) h
 idle_fair Hold.Excludes = refl
 idle_fair Hold.Upgrades = refl
 idle_fair (Hold.Shares n) = refl
@@ -63,21 +70,27 @@ abbrev pub IsApart : ℕ → Option Call → Type 0
 IsApart i None = Unit {0}
 IsApart i (Some c) = c.lock ≢ i
 
-pub apart_role : {C R L : Type 0} (K : Kind C R L) (i : ℕ) (us : List ℕ) (h : Hold) (o : Option Call) → IsApart i o → K.role_in i us h o ≡ K.idle h
+pub apart_role : {C R L : Type 0} (K : Kind C R L) (i : ℕ) (us : List ℕ) (h : Hold) (o : Option Call) → IsApart i o
+    → K.role_in i us h o ≡ K.idle h
 apart_role K i us h None e = K.none i us h
 apart_role K i us h (Some c) e = K.away i us h c e
 
 module _ (s : State) (t : ℕ) where
   module _ (low : t < length s.calls) where
     -- between its calls
-    apart_mode : (i : ℕ) → IsApart i (call_at s t) → mode_in (lock_at s i) t ≡ hold_mode (slice_get s.kinds i) (hold_at s t i)
+    apart_mode : (i : ℕ) → IsApart i (call_at s t) → mode_in (lock_at s i) t ≡ hold_mode (slice_get s.kinds i)
+        (hold_at s t i)
     apart_mode i apart = go (slice_get s.kinds i)
       where
-        reads : option_and_then rw_mode (slice_get (everybody (rw_role_at s i) s) t) ≡ rw_mode (record { owns = owned_of (hold_at s t i); does = Idle })
-        reads = ap (option_and_then rw_mode) (get-all (rw_role_at s i) (length s.calls) t low) ∙ ap rw_mode (apart_role of_rws i (taken_by s.wakes t) (hold_at s t i) (call_at s t) apart)
+        reads : option_and_then rw_mode (slice_get (everybody (rw_role_at s i) s) t) ≡ rw_mode
+            (record { owns = owned_of (hold_at s t i); does = Idle })
+        reads = ap (option_and_then rw_mode) (get-all (rw_role_at s i) (length s.calls) t low)
+            ∙ ap rw_mode (apart_role of_rws i (taken_by s.wakes t) (hold_at s t i) (call_at s t) apart)
 
-        locks : option_and_then mutex_mode (slice_get (everybody (mutex_role_at s i) s) t) ≡ mutex_mode (record { owns = owns_mutex (hold_at s t i); does = mutex.Idle })
-        locks = ap (option_and_then mutex_mode) (get-all (mutex_role_at s i) (length s.calls) t low) ∙ ap mutex_mode (apart_role of_mutexes i (taken_by s.wakes t) (hold_at s t i) (call_at s t) apart)
+        locks : option_and_then mutex_mode (slice_get (everybody (mutex_role_at s i) s) t) ≡ mutex_mode
+            (record { owns = owns_mutex (hold_at s t i); does = mutex.Idle })
+        locks = ap (option_and_then mutex_mode) (get-all (mutex_role_at s i) (length s.calls) t low)
+            ∙ ap mutex_mode (apart_role of_mutexes i (taken_by s.wakes t) (hold_at s t i) (call_at s t) apart)
 
         go : (k : Option LockKind) → mode_in (any_lock k s i) t ≡ hold_mode k (hold_at s t i)
         go (Some LockKind.Rw) = reads ∙ idle_rw (hold_at s t i)
@@ -91,8 +104,12 @@ module _ (s : State) (t : ℕ) where
     nothing_held : (i : ℕ) → hold_at s t i ≡ Hold.Shares 0
     nothing_held i = both_ways_in (nat_lt i (length s.kinds))
       where
-        both_ways_in : (b : Bool) → (if b then option_map_or (λ h. h) (slice_get s.holds (cell s t i)) (Hold.Shares 0) else Hold.Shares 0) ≡ Hold.Shares 0
-        both_ways_in true = ap (λ o. option_map_or (λ h. h) o (Hold.Shares 0)) (slice_get_past s.holds (cell s t i) (omega (arith, fit.rules.size_holds, mul-le-mul_right (length s.kinds) high)))
+        both_ways_in : (b : Bool)
+            → (if b then option_map_or (λ h. h) (slice_get s.holds (cell s t i)) (Hold.Shares 0) else Hold.Shares 0)
+            ≡ Hold.Shares 0
+        both_ways_in true = ap (λ o. option_map_or (λ h. h) o (Hold.Shares 0))
+            (slice_get_past s.holds (cell s t i)
+            (omega (arith, fit.rules.size_holds, mul-le-mul_right (length s.kinds) high)))
         both_ways_in false = refl
 
     unowned : (i : ℕ) → mode_in (lock_at s i) t ≡ hold_mode (slice_get s.kinds i) (hold_at s t i)
@@ -103,10 +120,12 @@ module _ (s : State) (t : ℕ) where
         go (Some LockKind.RwRecursive) = ap (option_and_then rw_mode) (past (rw_role_at s i) (length s.calls) t high)
         go None = ap (option_and_then rw_mode) (past (rw_role_at s i) (length s.calls) t high)
         go (Some LockKind.Mutex) = ap (option_and_then mutex_mode) (past (mutex_role_at s i) (length s.calls) t high)
-        go (Some LockKind.FairMutex) = ap (option_and_then mutex_mode) (past (mutex_role_at s i) (length s.calls) t high)
+        go (Some LockKind.FairMutex) = ap (option_and_then mutex_mode)
+            (past (mutex_role_at s i) (length s.calls) t high)
 
   -- between its calls, and beyond the last thread
-  pub apart_owner : FitsTogether s → (i : ℕ) → IsApart i (call_at s t) → mode_in (lock_at s i) t ≡ hold_mode (slice_get s.kinds i) (hold_at s t i)
+  pub apart_owner : FitsTogether s → (i : ℕ) → IsApart i (call_at s t)
+      → mode_in (lock_at s i) t ≡ hold_mode (slice_get s.kinds i) (hold_at s t i)
   apart_owner fit i apart = elim (cases_lt t (length s.calls)) [
     | inl low ↦ apart_mode low i apart
     | inr high ↦ unowned fit high i
@@ -117,30 +136,58 @@ module _ (s : State) (t : ℕ) where
     pub call_owns : mode_in (lock_at s c.lock) t ≡ call_mode (taken_by s.wakes t) c
     call_owns = go c.core refl (fit.rules.kinds t c there)
       where
-        go : (k : Core) → c.core ≡ k → IsOfKind (slice_get s.kinds c.lock) k → mode_in (lock_at s c.lock) t ≡ call_mode (taken_by s.wakes t) c
-        go (Core.Rw r) e of = ap (λ x. mode_in (lock_as x s c.lock) t) of ∙ ap (option_and_then rw_mode) (in_its_place of_rws s t c (Simple r) (in_range s t c there) there e) ∙ sym (ap (core_mode c.others c.spot (taken_by s.wakes t)) e)
-        go (Core.Upgrade r) e of = ap (λ x. mode_in (lock_as x s c.lock) t) of ∙ ap (option_and_then rw_mode) (in_its_place of_rws s t c (Upgradable r) (in_range s t c there) there e) ∙ sym (ap (core_mode c.others c.spot (taken_by s.wakes t)) e)
-        go (Core.LateRw r) e of = ap (λ x. mode_in (lock_as x s c.lock) t) of ∙ ap (option_and_then rw_mode) (in_its_place of_rws s t c (Tardy r) (in_range s t c there) there e) ∙ sym (ap (core_mode c.others c.spot (taken_by s.wakes t)) e)
-        go (Core.Mutex m) e of = ap (λ x. mode_in (lock_as x s c.lock) t) of ∙ ap (option_and_then mutex_mode) (in_its_place of_mutexes s t c (Plain m) (in_range s t c there) there e) ∙ sym (ap (core_mode c.others c.spot (taken_by s.wakes t)) e)
-        go (Core.Late m) e of = ap (λ x. mode_in (lock_as x s c.lock) t) of ∙ ap (option_and_then mutex_mode) (in_its_place of_mutexes s t c (Late m) (in_range s t c there) there e) ∙ sym (ap (core_mode c.others c.spot (taken_by s.wakes t)) e)
+        go : (k : Core) → c.core ≡ k → IsOfKind (slice_get s.kinds c.lock) k → mode_in (lock_at s c.lock) t ≡ call_mode
+            (taken_by s.wakes t) c
+        go (Core.Rw r) e of = ap (λ x. mode_in (lock_as x s c.lock) t) of
+            ∙ ap (option_and_then rw_mode) (in_its_place of_rws s t c (Simple r) (in_range s t c there) there e)
+            ∙ sym (ap (core_mode c.others c.spot (taken_by s.wakes t)) e)
+        go (Core.Upgrade r) e of = ap (λ x. mode_in (lock_as x s c.lock) t) of
+            ∙ ap (option_and_then rw_mode) (in_its_place of_rws s t c (Upgradable r) (in_range s t c there) there e)
+            ∙ sym (ap (core_mode c.others c.spot (taken_by s.wakes t)) e)
+        go (Core.LateRw r) e of = ap (λ x. mode_in (lock_as x s c.lock) t) of
+            ∙ ap (option_and_then rw_mode) (in_its_place of_rws s t c (Tardy r) (in_range s t c there) there e)
+            ∙ sym (ap (core_mode c.others c.spot (taken_by s.wakes t)) e)
+        go (Core.Mutex m) e of = ap (λ x. mode_in (lock_as x s c.lock) t) of
+            ∙ ap (option_and_then mutex_mode) (in_its_place of_mutexes s t c (Plain m) (in_range s t c there) there e)
+            ∙ sym (ap (core_mode c.others c.spot (taken_by s.wakes t)) e)
+        go (Core.Late m) e of = ap (λ x. mode_in (lock_as x s c.lock) t) of
+            ∙ ap (option_and_then mutex_mode) (in_its_place of_mutexes s t c (Late m) (in_range s t c there) there e)
+            ∙ sym (ap (core_mode c.others c.spot (taken_by s.wakes t)) e)
 
     call_owes : in_debt_at (lock_at s c.lock) t ≡ call_in_debt (taken_by s.wakes t) c
     call_owes = go c.core refl (fit.rules.kinds t c there)
       where
-        go : (k : Core) → c.core ≡ k → IsOfKind (slice_get s.kinds c.lock) k → in_debt_at (lock_at s c.lock) t ≡ call_in_debt (taken_by s.wakes t) c
+        go : (k : Core) → c.core ≡ k → IsOfKind (slice_get s.kinds c.lock) k
+            → in_debt_at (lock_at s c.lock) t ≡ call_in_debt (taken_by s.wakes t) c
         go (Core.Rw r) e of =
-            ap (λ x. in_debt_at (lock_as x s c.lock) t) of ∙ ap (λ o. option_map_or (λ (x : Role). rw_debts.is_in_debt x.does) o false) (in_its_place of_rws s t c (Simple r) (in_range s t c there) there e) ∙ sym (ap (core_in_debt c.others c.spot (taken_by s.wakes t)) e)
+            ap (λ x. in_debt_at (lock_as x s c.lock) t) of
+            ∙ ap (λ o. option_map_or (λ (x : Role). rw_debts.is_in_debt x.does) o false)
+            (in_its_place of_rws s t c (Simple r) (in_range s t c there) there e)
+            ∙ sym (ap (core_in_debt c.others c.spot (taken_by s.wakes t)) e)
         go (Core.Upgrade r) e of =
-            ap (λ x. in_debt_at (lock_as x s c.lock) t) of ∙ ap (λ o. option_map_or (λ (x : Role). rw_debts.is_in_debt x.does) o false) (in_its_place of_rws s t c (Upgradable r) (in_range s t c there) there e) ∙ sym (ap (core_in_debt c.others c.spot (taken_by s.wakes t)) e)
+            ap (λ x. in_debt_at (lock_as x s c.lock) t) of
+            ∙ ap (λ o. option_map_or (λ (x : Role). rw_debts.is_in_debt x.does) o false)
+            (in_its_place of_rws s t c (Upgradable r) (in_range s t c there) there e)
+            ∙ sym (ap (core_in_debt c.others c.spot (taken_by s.wakes t)) e)
         go (Core.LateRw r) e of =
-            ap (λ x. in_debt_at (lock_as x s c.lock) t) of ∙ ap (λ o. option_map_or (λ (x : Role). rw_debts.is_in_debt x.does) o false) (in_its_place of_rws s t c (Tardy r) (in_range s t c there) there e) ∙ sym (ap (core_in_debt c.others c.spot (taken_by s.wakes t)) e)
+            ap (λ x. in_debt_at (lock_as x s c.lock) t) of
+            ∙ ap (λ o. option_map_or (λ (x : Role). rw_debts.is_in_debt x.does) o false)
+            (in_its_place of_rws s t c (Tardy r) (in_range s t c there) there e)
+            ∙ sym (ap (core_in_debt c.others c.spot (taken_by s.wakes t)) e)
         go (Core.Mutex m) e of =
-            ap (λ x. in_debt_at (lock_as x s c.lock) t) of ∙ ap (λ o. option_map_or (λ (x : mutex.Role). mutex_debts.is_in_debt x.does) o false) (in_its_place of_mutexes s t c (Plain m) (in_range s t c there) there e) ∙ sym (ap (core_in_debt c.others c.spot (taken_by s.wakes t)) e)
+            ap (λ x. in_debt_at (lock_as x s c.lock) t) of
+            ∙ ap (λ o. option_map_or (λ (x : mutex.Role). mutex_debts.is_in_debt x.does) o false)
+            (in_its_place of_mutexes s t c (Plain m) (in_range s t c there) there e)
+            ∙ sym (ap (core_in_debt c.others c.spot (taken_by s.wakes t)) e)
         go (Core.Late m) e of =
-            ap (λ x. in_debt_at (lock_as x s c.lock) t) of ∙ ap (λ o. option_map_or (λ (x : mutex.Role). mutex_debts.is_in_debt x.does) o false) (in_its_place of_mutexes s t c (Late m) (in_range s t c there) there e) ∙ sym (ap (core_in_debt c.others c.spot (taken_by s.wakes t)) e)
+            ap (λ x. in_debt_at (lock_as x s c.lock) t) of
+            ∙ ap (λ o. option_map_or (λ (x : mutex.Role). mutex_debts.is_in_debt x.does) o false)
+            (in_its_place of_mutexes s t c (Late m) (in_range s t c there) there e)
+            ∙ sym (ap (core_in_debt c.others c.spot (taken_by s.wakes t)) e)
 
     pub owing : is_indebted s t ≡ (call_looks c.core || call_in_debt (taken_by s.wakes t) c)
-    owing = ap (λ o. option_map_or (λ (d : Call). call_looks d.core || in_debt_at (lock_at s d.lock) t) o false) there ∙ ap (λ b. call_looks c.core || b) call_owes
+    owing = ap (λ o. option_map_or (λ (d : Call). call_looks d.core || in_debt_at (lock_at s d.lock) t) o false) there
+        ∙ ap (λ b. call_looks c.core || b) call_owes
 
 late_order : (recursive : Bool) (n : ℕ) (p : LateRwPhase) → late_rw_prepared recursive n p → IsLateInOrder p
 late_order recursive n (LateRwPhase.Expires k) h = (h.0, ready_sleeper recursive n k h.1)

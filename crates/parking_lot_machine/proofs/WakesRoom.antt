@@ -1,5 +1,6 @@
 -- No more threads are to be woken than there are threads.
-use Rattle.std.proofs.Common.{◌≡◌, ◌≢◌, ◌<◌, ◌≤◌, ℕ, zero, suc, ◌+◌, ◌⊎◌, inl, inr, List, [], ◌∷◌, length, map, remove, Option, Some, None, slice_get, refl, sym, ap, ◌∙◌, subst, arith}
+use Rattle.std.proofs.Common.{◌≡◌, ◌≢◌, ◌<◌, ◌≤◌, ℕ, zero, suc, ◌+◌, ◌⊎◌, inl, inr, List, [], ◌∷◌, length, map, remove}
+use Rattle.std.proofs.Common.{Option, Some, None, slice_get, refl, sym, ap, ◌∙◌, subst, arith}
 use Rattle.std.specs.Option.{option_map}
 use Rattle.std.proofs.lemmas.Bool.{cases_eq}
 use Rattle.std.proofs.lemmas.List.{length-map}
@@ -56,20 +57,31 @@ few_apart (suc n) xs below apart = elim (find n xs) [
       let l = get_remove xs f.0 j x b in
       apart_before f.0 i j k.0 l.0 k.2 l.2 (apart k.0 l.0 x k.1 l.1)) in
       omega arith
-  | inr g ↦ let few : length xs ≤ n = few_apart n xs (λ i x at. less_unless n x (below i x at) (g i x at)) apart in omega arith
+  | inr g ↦ let few : length xs ≤ n = few_apart n xs (λ i x at. less_unless n x (below i x at) (g i x at)) apart in
+      omega arith
 ]
 
 -- WHO IS TO BE WOKEN
 
-from_map : (ws : List Wakeup) (i x : ℕ) → slice_get (map (λ (e : Wakeup). e.thread) ws) i ≡ Some x → (e : Wakeup) × (slice_get ws i ≡ Some e) × (e.thread ≡ x)
+from_map : (ws : List Wakeup) (i x : ℕ) → slice_get (map (λ (e : Wakeup). e.thread) ws) i ≡ Some x → (e : Wakeup)
+    × (slice_get ws i ≡ Some e) × (e.thread ≡ x)
 from_map ws i x at = go (slice_get ws i) refl
   where
     go : (o : Option Wakeup) → slice_get ws i ≡ o → (e : Wakeup) × (slice_get ws i ≡ Some e) × (e.thread ≡ x)
-    go None e = absurd (none≢some (sym (slice_get-map (λ (e : Wakeup). e.thread) ws i ∙ ap (option_map (λ (e : Wakeup). e.thread)) e) ∙ at))
-    go (Some w) e = (w, e, same_number (sym (slice_get-map (λ (e : Wakeup). e.thread) ws i ∙ ap (option_map (λ (e : Wakeup). e.thread)) e) ∙ at))
+    go None e = absurd
+        (none≢some (sym (slice_get-map (λ (e : Wakeup). e.thread) ws i ∙ ap (option_map (λ (e : Wakeup). e.thread)) e)
+        ∙ at))
+    go (Some w) e = (
+      w,
+      e,
+      same_number (sym (slice_get-map (λ (e : Wakeup). e.thread) ws i ∙ ap (option_map (λ (e : Wakeup). e.thread)) e)
+          ∙ at),
+    )
 
 -- threads that are each to be woken once
-pub wakes_few : (n : ℕ) (ws : List Wakeup) → ((i : ℕ) (e : Wakeup) → slice_get ws i ≡ Some e → e.thread < n) → ((i j : ℕ) (e f : Wakeup) → slice_get ws i ≡ Some e → slice_get ws j ≡ Some f → e.thread ≡ f.thread → i ≡ j) → length ws ≤ n
+pub wakes_few : (n : ℕ) (ws : List Wakeup) → ((i : ℕ) (e : Wakeup) → slice_get ws i ≡ Some e → e.thread < n)
+    → ((i j : ℕ) (e f : Wakeup) → slice_get ws i ≡ Some e → slice_get ws j ≡ Some f → e.thread ≡ f.thread → i ≡ j)
+    → length ws ≤ n
 wakes_few n ws low once =
     let few : length (map (λ (e : Wakeup). e.thread) ws) ≤ n = few_apart n (map (λ (e : Wakeup). e.thread) ws)
     (λ i x at. let m = from_map ws i x at in subst (λ y. y < n) m.2 (low i m.0 m.1))

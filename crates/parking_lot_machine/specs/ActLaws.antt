@@ -24,7 +24,8 @@ use Rattle.parking_lot_machine_calls.specs.CallKinds.{IsOfKind}
 use Rattle.parking_lot_machine.specs.RwLaws.{rw_begins}
 use Rattle.parking_lot_machine.specs.RowSteps.{Goes, GoesAway}
 
--- The act of thread t in a call c, which is told this, keeps the machine fit, and is the step of the rules that the core's table names.
+-- The act of thread t in a call c, which is told this, keeps the machine fit, and is the step of the rules that the
+-- core's table names.
 pub record Acts (t : ℕ) (c : Call) (told : ActResult) (s u : State) : Type 0 where
   pub fits : FitsTogether u
   pub goes : Goes t c told s u
@@ -36,11 +37,13 @@ pub record Ends (t : ℕ) (c : Call) (s u : State) : Type 0 where
 
 -- what a thread owns that begins a call
 abbrev pub OwnsFor : Bool → Hold → ℕ → Core → Type 0
-OwnsFor recursive x n (core.Rw k) = (rw_begun k.phase ≡ false) × rw_begins recursive n k.phase × (owned_of x ≡ of_rw.owns n k.phase)
+OwnsFor recursive x n (core.Rw k) = (rw_begun k.phase ≡ false) × rw_begins recursive n k.phase
+    × (owned_of x ≡ of_rw.owns n k.phase)
 OwnsFor recursive x n (core.Mutex k) = (mutex_begun k.phase ≡ false) × (n ≡ 0) × (owns_mutex x ≡ of_mutex.owns k.phase)
 OwnsFor recursive x n (core.Late p) = ⊥
 OwnsFor recursive x n (core.LateRw p) = ⊥
-OwnsFor recursive x n (core.Upgrade k) = (upgrade_begun k.phase ≡ false) × upgrade_begins k.phase × (n ≡ 0) × (owned_of x ≡ of_upgrade.owns n k.phase)
+OwnsFor recursive x n (core.Upgrade k) = (upgrade_begun k.phase ≡ false) × upgrade_begins k.phase × (n ≡ 0)
+    × (owned_of x ≡ of_upgrade.owns n k.phase)
 
 pub record MayBegin (s : State) (t : ℕ) (c : Call) : Type 0 where
   pub low : t < length s.calls
@@ -56,11 +59,16 @@ Keeps t c s u = FitsTogether s → call_at s t ≡ Some c → (told : ActResult)
 
 pub record ActsAreSteps : Type 0 where
   pub load : (s : State) (t : ℕ) (c : Call) → core_act c.core ≡ act.Load → Keeps t c s (loaded s t c)
-  pub exchange : (s : State) (t : ℕ) (c : Call) (from to : ℕ) → core_act c.core ≡ act.Exchange from to → Keeps t c s (exchanged s t c from to)
+  pub exchange : (s : State) (t : ℕ) (c : Call) (from to : ℕ) → core_act c.core ≡ act.Exchange from to
+      → Keeps t c s (exchanged s t c from to)
   pub add : (s : State) (t : ℕ) (c : Call) (by : ℕ) → core_act c.core ≡ act.Add by → Keeps t c s (added s t c by)
   pub spin : (s : State) (t : ℕ) (c : Call) → core_act c.core ≡ act.Spin → Keeps t c s (spun s t c)
-  pub enter : (s : State) (t : ℕ) (c : Call) (key : ℕ) → core_act c.core ≡ act.Enter key → s.lot.section ≡ None → lot.Sound (entered s t c key).lot → Keeps t c s (entered s t c key)
-  pub check : (s : State) (t : ℕ) (c : Call) → core_act c.core ≡ act.Section section.Check → lot.Sound (checked s t c).lot → Keeps t c s (checked s t c)
-  pub leave : (s : State) (t : ℕ) (c : Call) → core_act c.core ≡ act.Section section.Leave → lot.Sound (left s t c).lot → Keeps t c s (left s t c)
+  pub enter : (s : State) (t : ℕ) (c : Call) (key : ℕ) → core_act c.core ≡ act.Enter key → s.lot.section ≡ None
+      → lot.Sound (entered s t c key).lot → Keeps t c s (entered s t c key)
+  pub check : (s : State) (t : ℕ) (c : Call) → core_act c.core ≡ act.Section section.Check
+      → lot.Sound (checked s t c).lot → Keeps t c s (checked s t c)
+  pub leave : (s : State) (t : ℕ) (c : Call) → core_act c.core ≡ act.Section section.Leave → lot.Sound (left s t c).lot
+      → Keeps t c s (left s t c)
   pub begin : (s : State) (t : ℕ) (c : Call) → FitsTogether s → MayBegin s t c → Acts t c seen.Start s (begun s t c)
-  pub end : (s : State) (t : ℕ) (c : Call) (answer : CoreAnswer) → core_act c.core ≡ act.Done answer → FitsTogether s → call_at s t ≡ Some c → Ends t c s (answered s t c)
+  pub end : (s : State) (t : ℕ) (c : Call) (answer : CoreAnswer) → core_act c.core ≡ act.Done answer → FitsTogether s
+      → call_at s t ≡ Some c → Ends t c s (answered s t c)

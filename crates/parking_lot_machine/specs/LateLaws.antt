@@ -37,13 +37,21 @@ pub record Expires (t : ℕ) (c : Call) (s u : State) : Type 0 where
   pub costs : (v : ℕ) → steps_left u v ≤ steps_left s v + late_cost (length s.calls) c.core
 
 pub record LateActsAreSteps : Type 0 where
-  pub expires : (s : State) (t : ℕ) (c : Call) → sleeps_in_time c.core ≡ true → FitsTogether s → call_at s t ≡ Some c → Expires t c s (expired s t c)
+  pub expires : (s : State) (t : ℕ) (c : Call) → sleeps_in_time c.core ≡ true → FitsTogether s → call_at s t ≡ Some c
+      → Expires t c s (expired s t c)
   -- one comes back that still stands in its list, where nobody is in a section
-  pub returns : (s : State) (t : ℕ) (c : Call) → comes_late c.core ≡ true → c.spot ≡ spot.Listed → s.lot.section ≡ None → lot.Sound (returned s t c).lot → Keeps t c s (returned s t c)
+  pub returns : (s : State) (t : ℕ) (c : Call) → comes_late c.core ≡ true → c.spot ≡ spot.Listed → s.lot.section ≡ None
+      → lot.Sound (returned s t c).lot → Keeps t c s (returned s t c)
   -- and one comes back that was taken
-  pub finds : (s : State) (t : ℕ) (c : Call) (by : ℕ) (said : WakeResult) → comes_late c.core ≡ true → c.spot ≡ spot.Off by said → s.lot.section ≡ None → lot.Sound (found s t c by said).lot → Keeps t c s (found s t c by said)
-  pub quits : (s : State) (t : ℕ) (c : Call) → is_back c.core ≡ true → lot.Sound (quitted s t c).lot → Keeps t c s (quitted s t c)
+  pub finds : (s : State) (t : ℕ) (c : Call) (by : ℕ) (said : WakeResult) → comes_late c.core ≡ true
+      → c.spot ≡ spot.Off by said → s.lot.section ≡ None → lot.Sound (found s t c by said).lot
+      → Keeps t c s (found s t c by said)
+  pub quits : (s : State) (t : ℕ) (c : Call) → is_back c.core ≡ true → lot.Sound (quitted s t c).lot
+      → Keeps t c s (quitted s t c)
   -- and all are paid for
-  pub returns_pay : (s : State) (t : ℕ) (c : Call) → comes_late c.core ≡ true → call_at s t ≡ Some c → Pays t s (returned s t c)
-  pub finds_pay : (s : State) (t : ℕ) (c : Call) (by : ℕ) (said : WakeResult) → comes_late c.core ≡ true → FitsTogether s → call_at s t ≡ Some c → Pays t s (found s t c by said)
-  pub quits_pay : (s : State) (t : ℕ) (c : Call) → is_back c.core ≡ true → call_at s t ≡ Some c → Pays t s (quitted s t c)
+  pub returns_pay : (s : State) (t : ℕ) (c : Call) → comes_late c.core ≡ true → call_at s t ≡ Some c
+      → Pays t s (returned s t c)
+  pub finds_pay : (s : State) (t : ℕ) (c : Call) (by : ℕ) (said : WakeResult) → comes_late c.core ≡ true
+      → FitsTogether s → call_at s t ≡ Some c → Pays t s (found s t c by said)
+  pub quits_pay : (s : State) (t : ℕ) (c : Call) → is_back c.core ≡ true → call_at s t ≡ Some c
+      → Pays t s (quitted s t c)

@@ -10,9 +10,11 @@ use Rattle.parking_lot_machine_calls.specs.Stances.{core_act}
 
 -- a thread makes a step, or begins a call
 abbrev pub Moves : ℕ → State → State → Type 0
-Moves u s v = ((fair : Bool) × (answer : Option CoreAnswer) × IsStepped u fair answer s v) ⊎ ((lock : ℕ) × (call : LockCall) × IsBegun u lock call s v)
+Moves u s v = ((fair : Bool) × (answer : Option CoreAnswer) × IsStepped u fair answer s v)
+    ⊎ ((lock : ℕ) × (call : LockCall) × IsBegun u lock call s v)
 
--- These moves, one after another from s on, are of other threads than t: of each, who makes it, and the machine after it.
+-- These moves, one after another from s on, are of other threads than t: of each, who makes it, and the machine after
+-- it.
 abbrev pub AreOfOthers : ℕ → State → List (ℕ × State) → Type 0
 AreOfOthers t s [] = Unit {0}
 AreOfOthers t s (m ∷ rest) = (m.0 ≢ t) × Moves m.0 s m.1 × AreOfOthers t m.1 rest
@@ -38,4 +40,5 @@ pub record IsLost (t i from : ℕ) (s : State) : Type 0 where
 
 -- Where the word was so when the thread made its last step, a step of another thread has changed it since.
 abbrev pub LostExchangesHaveCauses : Type 0
-LostExchangesHaveCauses = (t i from : ℕ) (s : State) (moves : List (ℕ × State)) → word_at s i ≡ from → AreOfOthers t s moves → IsLost t i from (after_all s moves) → SomeChanges t i s moves
+LostExchangesHaveCauses = (t i from : ℕ) (s : State) (moves : List (ℕ × State)) → word_at s i ≡ from
+    → AreOfOthers t s moves → IsLost t i from (after_all s moves) → SomeChanges t i s moves

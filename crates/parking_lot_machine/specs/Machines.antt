@@ -1,5 +1,6 @@
 -- What a machine of locks does, call by call.
-use Rattle.std.specs.Prelude.{◌≡◌, ℕ, ◌*◌, ◌&&◌, ◌||◌, ◌⊎◌, Bool, true, false, not, nat_lt, if◌then◌else◌, List, [], ◌∷◌, ◌++◌, length, replicate, Option, Some, None, is_some, is_none, slice_get, slice_set}
+use Rattle.std.specs.Prelude.{◌≡◌, ℕ, ◌*◌, ◌&&◌, ◌||◌, ◌⊎◌, Bool, true, false, not, nat_lt, if◌then◌else◌, List, []}
+use Rattle.std.specs.Prelude.{◌∷◌, ◌++◌, length, replicate, Option, Some, None, is_some, is_none, slice_get, slice_set}
 use Rattle.std.specs.Option.{option_and_then, option_map, option_map_or, option_or}
 use Rattle.parking_lot_core_model.specs.Runs.{fresh}
 use Rattle.parking_lot_core_model.specs.declared.place.Place.TheVariants.{Running}
@@ -31,7 +32,8 @@ use Rattle.parking_lot_core_model.specs.declared.place.Taking.{Taking}
 use Rattle.parking_lot_core_model.specs.declared.place.Waiter.{Waiter}
 use Rattle.parking_lot_machine_calls.specs.declared.seat.Wakeup.{Wakeup}
 use Rattle.parking_lot_machine_calls.specs.Stances.{In, Joins, Takes, stance, core_act}
-use Rattle.parking_lot_machine.specs.RowActs.{loaded, exchanged, added, masked, spun, entered, checked, appended, took, took_nobody, told_all, left, woke, woke_nobody, begun, answered}
+use Rattle.parking_lot_machine.specs.RowActs.{loaded, exchanged, added, masked, spun, entered, checked, appended, took}
+use Rattle.parking_lot_machine.specs.RowActs.{took_nobody, told_all, left, woke, woke_nobody, begun, answered}
 use Rattle.parking_lot_machine_calls.specs.CallActs.{key_of, off_list}
 use Rattle.parking_lot_machine.specs.Passes.{ArePassed, IsNext, asks}
 use Rattle.parking_lot_machine.specs.TellLaws.{IsDue}
@@ -41,7 +43,8 @@ use Rattle.parking_lot_machine_calls.specs.LateCalls.{comes_late, is_back, is_pe
 use Rattle.parking_lot_machine.specs.LateLaws.{Expires}
 use Rattle.parking_lot_machine.specs.Ranks.{Costs, Pays}
 
--- whether an act can be made: one that sleeps makes none, and a section of the lock's k-th key is entered only where none is taken in its bucket
+-- whether an act can be made: one that sleeps makes none, and a section of the lock's k-th key is entered only where
+-- none is taken in its bucket
 abbrev pub is_possible : (ℕ → Bool) → Act → Bool
 is_possible taken act.Sleep = false
 is_possible taken (act.Enter k) = not (taken k)
@@ -50,7 +53,8 @@ is_possible taken other = true
 abbrev pub is_taken : State → Call → ℕ → Bool
 is_taken s c k = is_some (open_at s (key_of c k))
 
--- One whose moment has passed comes back, where no section is taken, and takes itself out of its list there, or finds that another has taken it.
+-- One whose moment has passed comes back, where no section is taken, and takes itself out of its list there, or finds
+-- that another has taken it.
 abbrev pub goes_late : State → Call → Core → Bool
 goes_late s c k = is_back k || (comes_late k && not (is_taken s c (bit (is_pending k))))
 
@@ -69,14 +73,24 @@ sleeps other = false
 abbrev pub is_asleep : State → ℕ → Bool
 is_asleep s t = option_map_or (λ c. sleeps (core_act c.core)) (call_at s t) false
 
--- whether a thread may begin a call: it is in none, the lock is of a kind that takes it, and what it owns there allows it
+-- whether a thread may begin a call: it is in none, the lock is of a kind that takes it, and what it owns there allows
+-- it
 abbrev pub may_begin : State → ℕ → ℕ → LockCall → Bool
 may_begin s t lock call =
-    nat_lt t (length s.calls) && (is_none (call_at s t) && (takes (slice_get s.kinds lock) call && is_allowed (kind_in s.kinds lock) (hold_at s t lock) call))
+    nat_lt t (length s.calls)
+    && (is_none (call_at s t)
+    && (takes (slice_get s.kinds lock) call && is_allowed (kind_in s.kinds lock) (hold_at s t lock) call))
 
 -- the call before it begins
 abbrev pub call_for : State → ℕ → ℕ → LockCall → Call
-call_for s t lock call = record { lock = lock; others = holds_beside call (hold_at s t lock); core = core_of (kind_in s.kinds lock) call; spot = spot.Listed; timed = is_timed call }
+call_for s t lock call =
+    record {
+      lock = lock;
+      others = holds_beside call (hold_at s t lock);
+      core = core_of (kind_in s.kinds lock) call;
+      spot = spot.Listed;
+      timed = is_timed call;
+    }
 
 -- a machine where nobody has done anything
 abbrev pub at_rest : ℕ → List LockKind → State
@@ -91,7 +105,8 @@ at_rest threads kinds = record {
 
 -- whom a thread takes is off its list, and is to be woken by it
 abbrev pub takes_off_by : ℕ → List (Option Call) → Taking → List (Option Call)
-takes_off_by t calls x = slice_set calls x.thread (option_map (off_list t) (option_and_then (λ c. c) (slice_get calls x.thread)))
+takes_off_by t calls x =
+    slice_set calls x.thread (option_map (off_list t) (option_and_then (λ c. c) (slice_get calls x.thread)))
 
 abbrev pub owes_to : ℕ → List Wakeup → Taking → List Wakeup
 owes_to t wakes x = wakes ++ record { by = t; thread = x.thread; mark = x.mark } ∷ []
@@ -102,8 +117,10 @@ owes_to t wakes x = wakes ++ record { by = t; thread = x.thread; mark = x.mark }
 abbrev pub IsTakenFrom : ℕ → Call → State → State → Type 0
 IsTakenFrom t c s u =
     (k : ℕ) × (stance c.core ≡ In k Takes)
-    × (((nth : ℕ) × (w : Waiter) × IsNext (asks (core_act c.core)) (s.lot.queues (key_of c k)) nth w × (u ≡ took s t c (key_of c k) nth w))
-    ⊎ (ArePassed (asks (core_act c.core)) (s.lot.queues (key_of c k)) (length (s.lot.queues (key_of c k))) × (u ≡ took_nobody s t c (key_of c k))))
+    × (((nth : ℕ) × (w : Waiter) × IsNext (asks (core_act c.core)) (s.lot.queues (key_of c k)) nth w
+    × (u ≡ took s t c (key_of c k) nth w))
+    ⊎ (ArePassed (asks (core_act c.core)) (s.lot.queues (key_of c k)) (length (s.lot.queues (key_of c k)))
+    × (u ≡ took_nobody s t c (key_of c k))))
 
 -- it joins its list
 abbrev pub IsJoined : ℕ → Call → ParkToken → State → State → Type 0
@@ -112,7 +129,8 @@ IsJoined t c token s u = (k : ℕ) × (stance c.core ≡ In k (Joins token)) × 
 -- it wakes the first of those whom it has taken and who haven't gone on by themselves, or nobody where all have
 abbrev pub IsWoken : ℕ → Call → State → State → Type 0
 IsWoken t c s u =
-    ((e : Wakeup) × (d : Call) × (token : UnparkToken) × IsDue s t e d token × (u ≡ woke s t c e.thread d token)) ⊎ ((taken_by s.wakes t ≡ []) × (u ≡ woke_nobody s t c))
+    ((e : Wakeup) × (d : Call) × (token : UnparkToken) × IsDue s t e d token × (u ≡ woke s t c e.thread d token))
+    ⊎ ((taken_by s.wakes t ≡ []) × (u ≡ woke_nobody s t c))
 
 -- The machine after an act in a section, or after one, whole. A release that stores goes by what the schedule says.
 abbrev pub BecameInside : SectionAct → ℕ → Bool → Call → State → State → Type 0
@@ -148,7 +166,8 @@ Became (act.Section next) t fair c s u = BecameInside next t fair c s u
 Became act.Sleep t fair c s u = BecameLate c.core t c s u
 Became (act.Done answer) t fair c s u = u ≡ answered s t c
 
--- It has begun, and nothing else has changed: that is the step of the rules that its core's table names, and adds a stated number of steps at most.
+-- It has begun, and nothing else has changed: that is the step of the rules that its core's table names, and adds a
+-- stated number of steps at most.
 pub record IsBegun (t lock : ℕ) (call : LockCall) (s u : State) : Type 0 where
   pub became : u ≡ begun s t (call_for s t lock call)
   pub acts : Acts t (call_for s t lock call) seen.Start s u
@@ -162,7 +181,8 @@ may_expire_in (Some c) = c.timed && sleeps_in_time c.core
 abbrev pub may_expire : State → ℕ → Bool
 may_expire s t = may_expire_in (call_at s t)
 
--- Its moment has passed, and nothing else has changed: that is the step of the rules, and adds a stated number of steps at most, whoever is stepped.
+-- Its moment has passed, and nothing else has changed: that is the step of the rules, and adds a stated number of steps
+-- at most, whoever is stepped.
 pub record IsExpired (t : ℕ) (s u : State) : Type 0 where
   pub call : Call
   pub here : call_at s t ≡ Some call
@@ -183,8 +203,8 @@ abbrev pub IsLawful : ℕ → Call → Option CoreAnswer → State → State →
 IsLawful t c None s u = (told : ActResult) × Acts t c told s u
 IsLawful t c (Some answer) s u = Ends t c s u
 
--- A thread in a call has made a step, and the call is answered where its act is done. All that the step changes follows from the call and its act,
--- it is a step of the rules, and it is paid for by the steps that were left.
+-- A thread in a call has made a step, and the call is answered where its act is done. All that the step changes follows
+-- from the call and its act, it is a step of the rules, and it is paid for by the steps that were left.
 pub record IsStepped (t : ℕ) (fair : Bool) (answer : Option CoreAnswer) (s u : State) : Type 0 where
   pub call : Call
   pub here : call_at s t ≡ Some call
@@ -208,7 +228,8 @@ pub record IsAdvanced (t : ℕ) (fair : Bool) (answer : Option CoreAnswer) (s u 
   pub answers : answer ≡ option_or first (ended v t)
 
 -- a beginning, and with it the call's first act
-pub record IsStarted (t lock : ℕ) (call : LockCall) (fair : Bool) (answer : Option CoreAnswer) (s u : State) : Type 0 where
-  pub v : State
-  pub begins : IsBegun t lock call s v
-  pub goes : IsAdvanced t fair answer v u
+pub record IsStarted (t lock : ℕ) (call : LockCall) (fair : Bool) (answer : Option CoreAnswer) (s u : State) : Type 0
+  where
+    pub v : State
+    pub begins : IsBegun t lock call s v
+    pub goes : IsAdvanced t fair answer v u

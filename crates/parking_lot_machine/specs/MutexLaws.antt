@@ -1,5 +1,6 @@
 -- What an answer to a mutex's core is, as a step of a sound mutex.
-use Rattle.std.specs.Prelude.{◌≡◌, ◌≢◌, ℕ, ◌<◌, ◌==◌, Bool, true, false, List, [], ◌∷◌, ◌++◌, length, map, remove, Some, None, slice_get, slice_set, Option}
+use Rattle.std.specs.Prelude.{◌≡◌, ◌≢◌, ℕ, ◌<◌, ◌==◌, Bool, true, false, List, [], ◌∷◌, ◌++◌, length, map, remove, Some}
+use Rattle.std.specs.Prelude.{None, slice_get, slice_set, Option}
 use Rattle.parking_lot_core_model.specs.declared.parking.ParkToken.{ParkToken}
 use Rattle.parking_lot_core_model.specs.declared.parking.UnparkToken.{UnparkToken}
 use Rattle.parking_lot_core_model.specs.declared.place.Waiter.{Waiter}
@@ -7,7 +8,9 @@ use Rattle.parking_lot_core_model.specs.Machine.{threads_of}
 use Rattle.parking_lot_core_model.specs.Results.{is_left}
 use Rattle.std.specs.Option.{option_map}
 use Rattle.parking_lot_rules.specs.Roles.{Mark, Open, Asleep, Stay}
-use Rattle.parking_lot_rules.specs.Mutex.{Role, Word, Inside, weight, number, Mutex, IsSound, Idle, Seeks, Queued, Taken, Unlocks, Wakes, Step, Alone, Join, Take, Allowed, after, doing, note_of, settle}
+use Rattle.parking_lot_rules.specs.Mutex.{Role, Word, Inside, weight, number, Mutex, IsSound, Idle, Seeks, Queued}
+use Rattle.parking_lot_rules.specs.Mutex.{Taken, Unlocks, Wakes, Step, Alone, Join, Take, Allowed, after, doing}
+use Rattle.parking_lot_rules.specs.Mutex.{note_of, settle}
 use Rattle.parking_lot_rules.specs.Family.{Crossing, Comes, Goes, First}
 use Rattle.parking_lot_rules.specs.Family as crossing
 use Rattle.parking_lot_rules.specs.Any.{mutex_crossing}
@@ -23,7 +26,9 @@ use Rattle.parking_lot_protocol.specs.declared.mutex_phase.MutexPhase.TheVariant
 use Rattle.parking_lot_protocol.specs.Acts.{word_after, Gives}
 use Rattle.parking_lot_protocol.specs.MutexTable.{act_of, next_phase, wakes_with}
 use Rattle.parking_lot_rules.specs.Classes.{bit, inside as is_inside}
-use Rattle.parking_lot_protocol.specs.MutexRules.{QueuePosition, Listed, Off, role, owns, owns_after, taken_of, Move, Stays, Makes, Joins, TakesOne, Tells, WakesOne, IsWoken, move, last_move, IsWord, mark_of}
+use Rattle.parking_lot_protocol.specs.MutexRules.{QueuePosition, Listed, Off, role, owns, owns_after, taken_of, Move}
+use Rattle.parking_lot_protocol.specs.MutexRules.{Stays, Makes, Joins, TakesOne, Tells, WakesOne, IsWoken, move}
+use Rattle.parking_lot_protocol.specs.MutexRules.{last_move, IsWord, mark_of}
 use Rattle.parking_lot_machine_calls.specs.declared.seat.Hold.{Hold}
 use Rattle.parking_lot_machine_calls.specs.declared.seat.WakeResult.{WakeResult}
 use Rattle.parking_lot_machine_calls.specs.declared.open_call.Call.{Call}
@@ -115,15 +120,21 @@ pub record MutexRolesAreKnown : Type 0 where
   -- nor whom one has taken that has taken nobody
   pub alone : (at : QueuePosition) (v u : ℕ) (p : MutexPhase) → mutex_taken p ≡ 0 → role at v p ≡ role at u p
   -- one that is told whether it was handed the mutex
-  pub settled : (mark : Mark) (at : QueuePosition) (v : ℕ) (p : MutexPhase) → settle mark (role at v p) ≡ role (settle_spot mark at) v p
+  pub settled : (mark : Mark) (at : QueuePosition) (v : ℕ) (p : MutexPhase)
+      → settle mark (role at v p) ≡ role (settle_spot mark at) v p
   -- one that is woken
-  pub woken : (at : QueuePosition) (v : ℕ) (token : UnparkToken) → role at v (next_phase phase.Sleeps (seen.Woken token)) ≡ woken_role (token.0 == 1)
+  pub woken : (at : QueuePosition) (v : ℕ) (token : UnparkToken)
+      → role at v (next_phase phase.Sleeps (seen.Woken token)) ≡ woken_role (token.0 == 1)
   -- whom one has taken that has taken one or nobody
-  pub taken : (p : MutexPhase) (us : List ℕ) (b : Bool) → length us ≡ mutex_taken p → mutex_taken p ≡ bit b → us ≡ taken_of (first_of_all us) b
+  pub taken : (p : MutexPhase) (us : List ℕ) (b : Bool) → length us ≡ mutex_taken p → mutex_taken p ≡ bit b
+      → us ≡ taken_of (first_of_all us) b
   -- The section of one that gives the mutex up is the one in which those were taken that know nothing yet.
-  pub opener : (m : Mutex) (t u by : ℕ) (us : List ℕ) (r : Role) → IsSound m → slice_get m.roles t ≡ Some (doing (Unlocks us)) → slice_get m.roles u ≡ Some r → note_of r ≡ Some (by, Open) → by ≡ t
+  pub opener : (m : Mutex) (t u by : ℕ) (us : List ℕ) (r : Role) → IsSound m
+      → slice_get m.roles t ≡ Some (doing (Unlocks us)) → slice_get m.roles u ≡ Some r → note_of r ≡ Some (by, Open)
+      → by ≡ t
   -- and one that is woken knows
-  pub known : (m : Mutex) (t u : ℕ) (o : Bool) (us : List ℕ) (mark : Mark) → IsSound m → slice_get m.roles t ≡ Some (record { owns = o; does = Wakes us })
+  pub known : (m : Mutex) (t u : ℕ) (o : Bool) (us : List ℕ) (mark : Mark) → IsSound m
+      → slice_get m.roles t ≡ Some (record { owns = o; does = Wakes us })
       → slice_get m.roles u ≡ Some (doing (Taken t mark Asleep)) → mark ≢ Open
 
 -- WHAT THE ANSWERS ARE
@@ -143,7 +154,9 @@ pub record IsJoining (m : Mutex) (x t v : ℕ) (p : MutexPhase) (s : ActResult) 
 -- It takes the first of the list.
 pub record IsTaking (m : Mutex) (x t v : ℕ) (p : MutexPhase) (s : ActResult) (stay : Stay) : Type 0 where
   pub move : move v p s ≡ TakesOne
-  pub leads : Leads t (Take v stay) m (mutex_of (word_next p s x) (slice_set (slice_set m.roles t (role_next v p s)) v (doing (Taken t Open stay))) (remove m.queue 0))
+  pub leads : Leads t (Take v stay) m
+      (mutex_of (word_next p s x) (slice_set (slice_set m.roles t (role_next v p s)) v (doing (Taken t Open stay)))
+      (remove m.queue 0))
   pub same : word_next p s x ≡ x
 
 -- It stores, and those whom it has taken know whether they were handed the mutex.
@@ -154,51 +167,74 @@ pub record IsTelling (m : Mutex) (x t v : ℕ) (p : MutexPhase) (s : ActResult) 
   pub move : move v p s ≡ Tells taken handed left
   pub count : mutex_taken p ≡ bit taken
   pub token : wakes_with (next_phase p s) ≡ sign handed
-  pub leads : Leads t (store_step handed (taken_of v taken)) m (mutex_of (word_next p s x) (slice_set (map (settle (mark_of handed)) m.roles) t (role_next v p s)) m.queue)
+  pub leads : Leads t (store_step handed (taken_of v taken)) m
+      (mutex_of (word_next p s x) (slice_set (map (settle (mark_of handed)) m.roles) t (role_next v p s)) m.queue)
   pub small : word_next p s x < 4
 
 -- It wakes the one that it has taken, with that token.
-pub record IsWaking (m : Mutex) (x t v : ℕ) (p : MutexPhase) (s : ActResult) (mark : Mark) (stay : Stay) (token : UnparkToken) : Type 0 where
+pub record IsWaking (m : Mutex) (x t v : ℕ) (p : MutexPhase) (s : ActResult) (mark : Mark) (stay : Stay)
+    (token : UnparkToken) : Type 0 where
   pub move : move v p s ≡ WakesOne
   pub leads : mark ≡ mark_of (token.0 == 1)
-      → Leads t (wake_step_of stay (token.0 == 1) v []) m (mutex_of (word_next p s x) (slice_set (slice_set m.roles v (role Listed 0 (next_phase phase.Sleeps (seen.Woken token)))) t (role_next v p s)) m.queue)
+      → Leads t (wake_step_of stay (token.0 == 1) v []) m
+      (mutex_of (word_next p s x)
+      (slice_set (slice_set m.roles v (role Listed 0 (next_phase phase.Sleeps (seen.Woken token)))) t
+      (role_next v p s)) m.queue)
   pub same : word_next p s x ≡ x
 
 pub record MutexAnswersAreSteps : Type 0 where
   -- as a section is entered nobody may be inside one
-  pub own : (m : Mutex) (x t v : ℕ) (at : QueuePosition) (p : MutexPhase) (s : ActResult) → Plays m x t (role at v p) → Gives (act_of p) x s → is_own (act_of p) ≡ true
+  pub own : (m : Mutex) (x t v : ℕ) (at : QueuePosition) (p : MutexPhase) (s : ActResult) → Plays m x t (role at v p)
+      → Gives (act_of p) x s → is_own (act_of p) ≡ true
       → ((key : ℕ) → act_of p ≡ act.Enter key → NobodyIsInside m) → IsOwnStep m x t v p s
-  pub joins : (m : Mutex) (x t v : ℕ) (at : QueuePosition) (p : MutexPhase) (token : ParkToken) → Plays m x t (role at v p) → act_of p ≡ act.Section (section.Append token) → IsJoining m x t v p seen.Made
-  pub takes : (m : Mutex) (x t v : ℕ) (at : QueuePosition) (p : MutexPhase) (token : ParkToken) (left : Bool) (stay : Stay) → Plays m x t (role at v p) → act_of p ≡ act.Section section.TakeFirst
-      → slice_get m.queue 0 ≡ Some v → slice_get m.roles v ≡ Some (doing (Queued stay)) → IsTaking m x t v p (seen.Took (Some token) left) stay
-  pub takes_nobody : (m : Mutex) (x t v : ℕ) (at : QueuePosition) (p : MutexPhase) (left : Bool) → Plays m x t (role at v p) → act_of p ≡ act.Section section.TakeFirst → IsOwnStep m x t v p (seen.Took None left)
-  pub tells : (m : Mutex) (x t v : ℕ) (at : QueuePosition) (p : MutexPhase) (plain fair : WordChange) (is_fair : Bool) (waiters : List Waiter) → Plays m x t (role at v p)
-      → act_of p ≡ act.Section (section.Store plain fair) → m.queue ≡ threads_of waiters → mutex_knows p waiters → IsTelling m x t v p (seen.Stored is_fair)
-  pub wakes : (m : Mutex) (x t v : ℕ) (at : QueuePosition) (p : MutexPhase) (mark : Mark) (stay : Stay) (token : UnparkToken) → Plays m x t (role at v p) → act_of p ≡ act.Section section.Wake
-      → slice_get m.roles v ≡ Some (doing (Taken t mark stay)) → is_inside stay ≡ 0 → IsWaking m x t v p seen.Made mark stay token
+  pub joins : (m : Mutex) (x t v : ℕ) (at : QueuePosition) (p : MutexPhase) (token : ParkToken)
+      → Plays m x t (role at v p) → act_of p ≡ act.Section (section.Append token) → IsJoining m x t v p seen.Made
+  pub takes : (m : Mutex) (x t v : ℕ) (at : QueuePosition) (p : MutexPhase) (token : ParkToken) (left : Bool)
+      (stay : Stay) → Plays m x t (role at v p) → act_of p ≡ act.Section section.TakeFirst
+      → slice_get m.queue 0 ≡ Some v → slice_get m.roles v ≡ Some (doing (Queued stay))
+      → IsTaking m x t v p (seen.Took (Some token) left) stay
+  pub takes_nobody : (m : Mutex) (x t v : ℕ) (at : QueuePosition) (p : MutexPhase) (left : Bool)
+      → Plays m x t (role at v p) → act_of p ≡ act.Section section.TakeFirst → IsOwnStep m x t v p (seen.Took None left)
+  pub tells : (m : Mutex) (x t v : ℕ) (at : QueuePosition) (p : MutexPhase) (plain fair : WordChange) (is_fair : Bool)
+      (waiters : List Waiter) → Plays m x t (role at v p)
+      → act_of p ≡ act.Section (section.Store plain fair) → m.queue ≡ threads_of waiters → mutex_knows p waiters
+      → IsTelling m x t v p (seen.Stored is_fair)
+  pub wakes : (m : Mutex) (x t v : ℕ) (at : QueuePosition) (p : MutexPhase) (mark : Mark) (stay : Stay)
+      (token : UnparkToken) → Plays m x t (role at v p) → act_of p ≡ act.Section section.Wake
+      → slice_get m.roles v ≡ Some (doing (Taken t mark stay)) → is_inside stay ≡ 0
+      → IsWaking m x t v p seen.Made mark stay token
   -- a call begins, of a thread that owns the mutex where it is to give it up
-  pub begins : (m : Mutex) (x t v : ℕ) (p : MutexPhase) → mutex_begun p ≡ false → Plays m x t (record { owns = owns p; does = Idle }) → IsOwnStep m x t v p seen.Start
+  pub begins : (m : Mutex) (x t v : ℕ) (p : MutexPhase) → mutex_begun p ≡ false
+      → Plays m x t (record { owns = owns p; does = Idle }) → IsOwnStep m x t v p seen.Start
   -- and ends, and the thread owns the mutex where the answer says so
-  pub ends : (m : Mutex) (x t v : ℕ) (at : QueuePosition) (p : MutexPhase) (answer : CoreAnswer) → Plays m x t (role at v p) → mutex_begun p ≡ true → act_of p ≡ act.Done answer
-      → LeadsBy (last_move p) v t m (mutex_of x (slice_set m.roles t (record { owns = owns_after answer; does = Idle })) m.queue) × (move_crossing (last_move p) ≡ crossing.Stays)
+  pub ends : (m : Mutex) (x t v : ℕ) (at : QueuePosition) (p : MutexPhase) (answer : CoreAnswer)
+      → Plays m x t (role at v p) → mutex_begun p ≡ true → act_of p ≡ act.Done answer
+      → LeadsBy (last_move p) v t m
+      (mutex_of x (slice_set m.roles t (record { owns = owns_after answer; does = Idle })) m.queue)
+      × (move_crossing (last_move p) ≡ crossing.Stays)
 
 -- HOW THE MACHINE SHOWS IT
 
 -- Where thread t tells all whom it has taken, every role at its mutex is settled.
 abbrev pub TellingsSettle : Type 0
 TellingsSettle =
-    (m : Mutex) (t u i : ℕ) (us vs : List ℕ) (said : WakeResult) (h : Hold) (o : Option Call) → IsSound m → slice_get m.roles t ≡ Some (doing (Unlocks us)) → slice_get m.roles u ≡ Some (mutex_role_in i vs h o)
+    (m : Mutex) (t u i : ℕ) (us vs : List ℕ) (said : WakeResult) (h : Hold) (o : Option Call) → IsSound m
+    → slice_get m.roles t ≡ Some (doing (Unlocks us)) → slice_get m.roles u ≡ Some (mutex_role_in i vs h o)
     → mutex_role_in i vs h (option_map (settled t said) o) ≡ settle (call_roles.mark_of said) (mutex_role_in i vs h o)
 
 -- What is kept of a thread, where its call ends, is what the answer says.
 abbrev pub HoldsAreAnswered : Type 0
-HoldsAreAnswered = (p : MutexPhase) (answer : CoreAnswer) → mutex_begun p ≡ true → act_of p ≡ act.Done answer → owns_mutex (mutex_hold_after p) ≡ owns_after answer
+HoldsAreAnswered = (p : MutexPhase) (answer : CoreAnswer) → mutex_begun p ≡ true → act_of p ≡ act.Done answer
+    → owns_mutex (mutex_hold_after p) ≡ owns_after answer
 
 -- One that takes the first of its list knows what is left of it, and no other act makes one know anything.
 pub record TakersKnow : Type 0 where
-  pub one : (p : MutexPhase) (token : ParkToken) (waiters : List Waiter) → act_of p ≡ act.Section section.TakeFirst → mutex_knows (next_phase p (seen.Took (Some token) (is_left waiters))) waiters
-  pub nobody : (p : MutexPhase) → act_of p ≡ act.Section section.TakeFirst → mutex_knows (next_phase p (seen.Took None false)) []
-  pub other : (p : MutexPhase) (s : ActResult) (waiters : List Waiter) → act_of p ≢ act.Section section.TakeFirst → mutex_knows (next_phase p s) waiters
+  pub one : (p : MutexPhase) (token : ParkToken) (waiters : List Waiter) → act_of p ≡ act.Section section.TakeFirst
+      → mutex_knows (next_phase p (seen.Took (Some token) (is_left waiters))) waiters
+  pub nobody : (p : MutexPhase) → act_of p ≡ act.Section section.TakeFirst
+      → mutex_knows (next_phase p (seen.Took None false)) []
+  pub other : (p : MutexPhase) (s : ActResult) (waiters : List Waiter) → act_of p ≢ act.Section section.TakeFirst
+      → mutex_knows (next_phase p s) waiters
 
 pub record MutexIsShown : Type 0 where
   pub tells : TellingsSettle

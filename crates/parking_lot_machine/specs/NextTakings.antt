@@ -15,12 +15,14 @@ use Rattle.parking_lot_machine.specs.Passes.{ArePassed, IsNext}
 -- it takes the first of the list that it wants, or nobody where it passes all
 abbrev pub NextTaken : (ℕ → FilterOp) → Machine → Machine → Result (Option Taking) LotFault → ℕ → Type 0
 NextTaken ask old new result key =
-    ((nth : ℕ) × (w : Waiter) × IsNext ask (old.queues key) nth w × (result ≡ Ok (Some (taking_of old w))) × (new ≡ taken (in_phase old (phase.Taking nth)) key nth))
+    ((nth : ℕ) × (w : Waiter) × IsNext ask (old.queues key) nth w × (result ≡ Ok (Some (taking_of old w)))
+    × (new ≡ taken (in_phase old (phase.Taking nth)) key nth))
     ⊎ (ArePassed ask (old.queues key) (length (old.queues key)) × (result ≡ Ok None) × (new ≡ in_phase old phase.Ended))
 
 abbrev pub NextsAreTaken : {F : Type 0} → (F → ParkToken → FilterOp → F → Type 0) → F → Type 0
 NextsAreTaken {F} gives filter =
-    (ask : ℕ → FilterOp) (o : Section) (old new : Machine) (result : Result (Option Taking) LotFault) → ArePassed ask (old.queues o.key) (passed_of o.phase)
+    (ask : ℕ → FilterOp) (o : Section) (old new : Machine) (result : Result (Option Taking) LotFault)
+    → ArePassed ask (old.queues o.key) (passed_of o.phase)
     → ((token : ℕ) → ask token ≢ Stop)
     → ((token : ParkToken) (op : FilterOp) (g : F) → gives filter token op g → (op ≡ ask token.0) × (g ≡ filter))
     → TakesNext gives filter o old result new → NextTaken ask old new result o.key

@@ -38,19 +38,32 @@ StopsAt (act.Enter key) shut = shut ≡ true
 StopsAt act shut = ⊥
 
 pub record MutexStepsFall : Type 0 where
-  pub falls : (p : MutexPhase) (s : ActResult) (word first after : ℕ) (shut : Bool) → word < 4 → Gives (of_mutex.act_of p) word s → Can (of_mutex.act_of p) shut s
-      → mutex_steps (Sees (word_after (of_mutex.act_of p) s word) after shut) (of_mutex.next_phase p s) + 1 ≤ mutex_steps (Sees word first shut) p
-  pub wakes : (p : MutexPhase) (v : View) → of_mutex.act_of p ≡ act.Section section.Wake → mutex_steps v (of_mutex.next_phase p seen.Made) + wake ≤ mutex_steps v p
-  pub woken : (p : MutexPhase) (token : UnparkToken) → mutex_steps Unseen (of_mutex.next_phase p (seen.Woken token)) + 1 ≤ mutex_steps Unseen p + wake
+  pub falls : (p : MutexPhase) (s : ActResult) (word first after : ℕ) (shut : Bool) → word < 4
+      → Gives (of_mutex.act_of p) word s → Can (of_mutex.act_of p) shut s
+      → mutex_steps (Sees (word_after (of_mutex.act_of p) s word) after shut) (of_mutex.next_phase p s) + 1 ≤
+      mutex_steps (Sees word first shut) p
+  pub wakes : (p : MutexPhase) (v : View) → of_mutex.act_of p ≡ act.Section section.Wake
+      → mutex_steps v (of_mutex.next_phase p seen.Made) + wake ≤ mutex_steps v p
+  pub woken : (p : MutexPhase) (token : UnparkToken) → mutex_steps Unseen (of_mutex.next_phase p (seen.Woken token)) + 1
+      ≤ mutex_steps Unseen p + wake
   pub few : (p : MutexPhase) (v : View) → mutex_steps v p ≤ mutex_steps Unseen p
-  pub stops : (p : MutexPhase) (word first : ℕ) (shut : Bool) → StopsAt (of_mutex.act_of p) shut → mutex_steps Unseen p ≤ mutex_steps (Sees word first shut) p
-  pub ends : (p : MutexPhase) (v : View) (answer : CoreAnswer) → of_mutex.act_of p ≡ act.Done answer → 1 ≤ mutex_steps v p
+  pub stops : (p : MutexPhase) (word first : ℕ) (shut : Bool) → StopsAt (of_mutex.act_of p) shut
+      → mutex_steps Unseen p ≤ mutex_steps (Sees word first shut) p
+  pub ends : (p : MutexPhase) (v : View) (answer : CoreAnswer) → of_mutex.act_of p ≡ act.Done answer
+      → 1 ≤ mutex_steps v p
 
 pub record RwStepsFall : Type 0 where
-  pub falls : (n : ℕ) (p : RwPhase) (s : ActResult) (word first after : ℕ) (shut : Bool) → word / 16 < 2 ^ 60 - 1 → IsReady p → Gives (of_rw.act_of p) word s → Can (of_rw.act_of p) shut s → Leaves (of_rw.act_of p) s first after
-      → rw_steps n (Sees (word_after (of_rw.act_of p) s word) after shut) (of_rw.next_phase p s) + 1 ≤ rw_steps n (Sees word first shut) p
-  pub wakes : (n : ℕ) (p : RwPhase) (v : View) → of_rw.act_of p ≡ act.Section section.Wake → 1 ≤ rw_taken p → rw_steps n v (of_rw.next_phase p seen.Made) + wake ≤ rw_steps n v p
-  pub woken : (n : ℕ) (p : RwPhase) (token : UnparkToken) → rw_steps n Unseen (of_rw.next_phase p (seen.Woken token)) + 1 ≤ rw_steps n Unseen p + wake
-  pub few : (n word first : ℕ) (shut : Bool) (p : RwPhase) → first ≤ n → rw_steps n (Sees word first shut) p ≤ rw_steps n Unseen p
-  pub stops : (n : ℕ) (p : RwPhase) (word first : ℕ) (shut : Bool) → StopsAt (of_rw.act_of p) shut → rw_steps n Unseen p ≤ rw_steps n (Sees word first shut) p
-  pub ends : (n : ℕ) (p : RwPhase) (v : View) (answer : CoreAnswer) → of_rw.act_of p ≡ act.Done answer → 1 ≤ rw_steps n v p
+  pub falls : (n : ℕ) (p : RwPhase) (s : ActResult) (word first after : ℕ) (shut : Bool) → word / 16 < 2 ^ 60 - 1
+      → IsReady p → Gives (of_rw.act_of p) word s → Can (of_rw.act_of p) shut s → Leaves (of_rw.act_of p) s first after
+      → rw_steps n (Sees (word_after (of_rw.act_of p) s word) after shut) (of_rw.next_phase p s) + 1 ≤ rw_steps n
+      (Sees word first shut) p
+  pub wakes : (n : ℕ) (p : RwPhase) (v : View) → of_rw.act_of p ≡ act.Section section.Wake → 1 ≤ rw_taken p
+      → rw_steps n v (of_rw.next_phase p seen.Made) + wake ≤ rw_steps n v p
+  pub woken : (n : ℕ) (p : RwPhase) (token : UnparkToken) → rw_steps n Unseen (of_rw.next_phase p (seen.Woken token)) +
+      1 ≤ rw_steps n Unseen p + wake
+  pub few : (n word first : ℕ) (shut : Bool) (p : RwPhase) → first ≤ n → rw_steps n (Sees word first shut) p ≤ rw_steps
+      n Unseen p
+  pub stops : (n : ℕ) (p : RwPhase) (word first : ℕ) (shut : Bool) → StopsAt (of_rw.act_of p) shut
+      → rw_steps n Unseen p ≤ rw_steps n (Sees word first shut) p
+  pub ends : (n : ℕ) (p : RwPhase) (v : View) (answer : CoreAnswer) → of_rw.act_of p ≡ act.Done answer
+      → 1 ≤ rw_steps n v p

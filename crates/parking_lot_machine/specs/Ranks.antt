@@ -1,5 +1,7 @@
--- How many steps a thread still makes in its call, and all threads in theirs, where one of them is stepped until it can't move.
-use Rattle.std.specs.Prelude.{ℕ, ◌+◌, ◌-◌, ◌*◌, ◌≤◌, ◌==◌, ◌&&◌, not, Bool, false, if◌then◌else◌, length, Option, Some, None, slice_set}
+-- How many steps a thread still makes in its call, and all threads in theirs, where one of them is stepped until it
+-- can't move.
+use Rattle.std.specs.Prelude.{ℕ, ◌+◌, ◌-◌, ◌*◌, ◌≤◌, ◌==◌, ◌&&◌, not, Bool, false, if◌then◌else◌, length, Option, Some}
+use Rattle.std.specs.Prelude.{None, slice_set}
 use Rattle.std.specs.List.{sum_by}
 use Rattle.parking_lot_protocol.specs.declared.mutex_phase.Giving.{Giving}
 use Rattle.parking_lot_protocol.specs.declared.mutex_phase.MutexPhase.{MutexPhase}
@@ -28,8 +30,9 @@ use Rattle.parking_lot_machine.specs.Rows.{State, word_at, call_at, first_key, i
 use Rattle.parking_lot_machine_calls.specs.Stances.{pending_from}
 use Rattle.parking_lot_rules.specs.Classes.{bit}
 
--- What counts of the machine for a thread's steps: nothing, where another thread is stepped, and all that it has seen may be out of date; else
--- the word of its lock, how many wait in the first list, and whether another thread is inside a section and shuts it out.
+-- What counts of the machine for a thread's steps: nothing, where another thread is stepped, and all that it has seen
+-- may be out of date; else the word of its lock, how many wait in the first list, and whether another thread is inside
+-- a section and shuts it out.
 pub data View : Type 0 where
   Unseen : View
   Sees : (word first : ℕ) → (shut : Bool) → View
@@ -55,8 +58,9 @@ wake = 109
 
 -- MUTEXES
 
--- One that may spin for so many rounds looks at the word after each. Then it parks: it sets the parked bit, enters, checks, joins the list and
--- leaves. It leaves in vain, and asks again from the beginning, only where the word has changed meanwhile.
+-- One that may spin for so many rounds looks at the word after each. Then it parks: it sets the parked bit, enters,
+-- checks, joins the list and leaves. It leaves in vain, and asks again from the beginning, only where the word has
+-- changed meanwhile.
 abbrev pub mutex_parks : View → ℕ
 mutex_parks v = if is_open v then 4 else 29
 
@@ -93,8 +97,8 @@ mutex_steps v phase = 1
 
 -- READER-WRITER LOCKS
 
--- A pending writer waits for the readers in the second list, as others wait in the first. The rounds that it has left it keeps for when it
--- is woken.
+-- A pending writer waits for the readers in the second list, as others wait in the first. The rounds that it has left
+-- it keeps for when it is woken.
 abbrev pub drain_parks : View → ℕ
 drain_parks v = if is_open v then 4 else 9
 
@@ -150,7 +154,8 @@ rw_steps n v (r.Rests want) = 1
 rw_steps n v (r.Sleeps want) = 0
 rw_steps n v (r.DrainLoads d) = 1 + drains v d.rounds
 rw_steps n v (r.DrainSpins d) = 2 + drains v (d.rounds - 1)
-rw_steps n v (r.DrainSetParked d word) = if is_at v word then 1 + drain_parks v + 2 * d.rounds else 1 + drains v d.rounds
+rw_steps n v (r.DrainSetParked d word) = if is_at v word then 1 + drain_parks v + 2 * d.rounds else 1 + drains v
+    d.rounds
 rw_steps n v (r.DrainEnters d) = if keeps_waiting v then drain_parks v + 2 * d.rounds else 9 + 2 * d.rounds
 rw_steps n v (r.DrainChecks d) = if keeps_waiting v then 3 + 2 * d.rounds else 8 + 2 * d.rounds
 rw_steps n v (r.DrainRetreats d) = 7 + 2 * d.rounds
@@ -201,7 +206,8 @@ upgrade_steps n v phase = 1
 
 -- ONE WHOSE MOMENT HAS PASSED
 
--- it comes back, takes itself out, masks the parked bit off, leaves, and is answered; or it was taken, leaves, and asks again from the beginning
+-- it comes back, takes itself out, masks the parked bit off, leaves, and is answered; or it was taken, leaves, and asks
+-- again from the beginning
 abbrev pub late_steps : LatePhase → ℕ
 late_steps late.Expires = 53
 late_steps late.Quits = 4
@@ -210,8 +216,9 @@ late_steps late.Leaves = 2
 late_steps late.GivesUp = 1
 late_steps (late.WasTaken by handed) = 52
 
--- At a reader-writer lock so too, but that a pending writer looks at the word after it has left, takes its bit back by an exchange that may be lost
--- once, and goes through the list of those that it kept out. Where it was taken it goes on as it slept.
+-- At a reader-writer lock so too, but that a pending writer looks at the word after it has left, takes its bit back by
+-- an exchange that may be lost once, and goes through the list of those that it kept out. Where it was taken it goes on
+-- as it slept.
 abbrev pub sleeper_steps : ℕ → View → RwSleeper → ℕ
 sleeper_steps n v (sleeper.Simple c) = rw_steps n v c.phase
 sleeper_steps n v (sleeper.Upgradable c) = upgrade_steps n v c.phase

@@ -1,15 +1,18 @@
 -- What it is to move waiters of a condition variable into the list of a mutex: by the rules, and in a machine of locks.
-use Rattle.std.specs.Prelude.{◌≡◌, ◌≢◌, ℕ, ◌+◌, ◌*◌, ◌%◌, ◌<◌, ◌≤◌, ◌==◌, ◌&&◌, ◌||◌, not, Bool, true, false, List, [], ◌∷◌, ◌++◌, length, map, Option, None, is_some, slice_get, slice_set, Some}
+use Rattle.std.specs.Prelude.{◌≡◌, ◌≢◌, ℕ, ◌+◌, ◌*◌, ◌%◌, ◌<◌, ◌≤◌, ◌==◌, ◌&&◌, ◌||◌, not, Bool, true, false, List, []}
+use Rattle.std.specs.Prelude.{◌∷◌, ◌++◌, length, map, Option, None, is_some, slice_get, slice_set, Some}
 use Rattle.std.specs.List.{list_any}
 use Rattle.parking_lot_core_model.specs.declared.place.Phase.TheVariants as phase
-use Rattle.parking_lot_core_model.specs.Machine.{Machine, any_phase, closed, enter_fault, in_phase, joined, opened, step_fault}
+use Rattle.parking_lot_core_model.specs.Machine.{Machine, any_phase, closed, enter_fault, in_phase, joined, opened}
+use Rattle.parking_lot_core_model.specs.Machine.{step_fault}
 use Rattle.parking_lot_core_model.specs.Places.{may_check, may_join}
 use Rattle.parking_lot_protocol.specs.MutexTable.{begins}
 use Rattle.parking_lot_protocol.specs.declared.mutex_phase.MutexPhase.{MutexPhase}
 use Rattle.parking_lot_protocol.specs.declared.mutex_phase.MutexPhase.TheVariants as m
 use Rattle.parking_lot_rules.specs.Roles.{Asleep}
 use Rattle.parking_lot_rules.specs.MutexOwners as owners
-use Rattle.parking_lot_rules.specs.Mutex.{Alone, Called, Come, Depart, Finish, Follow, Go, Idle, Inside, MarkParked, Mutex, Pull, Queued, Requeue, Runs, Seeks, Step, Wake, away, doing, total}
+use Rattle.parking_lot_rules.specs.Mutex.{Alone, Called, Come, Depart, Finish, Follow, Go, Idle, Inside, MarkParked}
+use Rattle.parking_lot_rules.specs.Mutex.{Mutex, Pull, Queued, Requeue, Runs, Seeks, Step, Wake, away, doing, total}
 use Rattle.parking_lot_machine_calls.specs.declared.calls.LockCall.TheVariants as call
 use Rattle.parking_lot_machine_calls.specs.declared.open_call.Call.{Call}
 use Rattle.parking_lot_machine_calls.specs.declared.seat.Core.{Core}
@@ -28,7 +31,11 @@ use Rattle.parking_lot_machine_calls.specs.CallRoles.{owns_mutex}
 
 -- Thread v sleeps at the end of the list, as the parked bit says.
 abbrev pub filed : Mutex → ℕ → Mutex
-filed n v = record n { word = record n.word { parked = 1 }; roles = slice_set n.roles v (doing (Queued Asleep)); queue = n.queue ++ v ∷ [] }
+filed n v = record n {
+  word = record n.word { parked = 1 };
+  roles = slice_set n.roles v (doing (Queued Asleep));
+  queue = n.queue ++ v ∷ [];
+}
 
 -- Thread v was woken to try again.
 abbrev pub roused : Mutex → ℕ → Mutex
@@ -46,23 +53,28 @@ AreAway n by (v ∷ vs) = (v ≢ by) × (slice_get n.roles v ≡ Some away) × A
 
 -- Thread `by` comes, sets the parked bit, moves each into the list, and goes.
 abbrev pub requeue_run : ℕ → Bool → List ℕ → List (ℕ × Step)
-requeue_run by o vs = (by, Alone (Come o)) ∷ (by, Alone (MarkParked o)) ∷ (map (λ v. (by, Requeue o v)) vs ++ (by, Alone (Go o)) ∷ [])
+requeue_run by o vs = (by, Alone (Come o)) ∷ (by, Alone (MarkParked o)) ∷
+    (map (λ v. (by, Requeue o v)) vs ++ (by, Alone (Go o)) ∷ [])
 
 -- Or it comes, takes the first of them, moves each of the rest behind it, leaves, and wakes the one that it took.
 abbrev pub pull_run : ℕ → Bool → ℕ → List ℕ → List (ℕ × Step)
 pull_run by o v vs =
-    (by, Alone (Come o)) ∷ (by, Pull o v) ∷ (map (λ w. (by, Follow o v Asleep w)) vs ++ (by, Alone (Depart o (v ∷ []))) ∷ (by, Wake o v [] Asleep) ∷ (by, Alone (Finish o)) ∷ [])
+    (by, Alone (Come o)) ∷ (by, Pull o v) ∷
+    (map (λ w. (by, Follow o v Asleep w)) vs ++ (by, Alone (Depart o (v ∷ []))) ∷ (by, Wake o v [] Asleep) ∷
+    (by, Alone (Finish o)) ∷ [])
 
 -- thread `by` may come: it is in no call there, owning the mutex or not, and nobody is in a section
 pub record MayCome (n : Mutex) (by : ℕ) (o : Bool) : Type 0 where
   pub here : slice_get n.roles by ≡ Some (record { owns = o; does = Idle })
   pub free : total Inside n.roles ≡ 0
 
--- To move waiters, one after the other, is a run of the steps of the one that moves them: all into the list, where the mutex is locked; and else
--- the first is woken, and the rest stand behind it.
+-- To move waiters, one after the other, is a run of the steps of the one that moves them: all into the list, where the
+-- mutex is locked; and else the first is woken, and the rest stand behind it.
 pub record RequeuesAreRuns (n : Mutex) (by : ℕ) (o : Bool) : Type 0 where
-  pub locked : (v : ℕ) (vs : List ℕ) → MayCome n by o → n.word.locked ≡ 1 → AreAway n by (v ∷ vs) → Runs n (requeue_run by o (v ∷ vs)) (all_filed n (v ∷ vs))
-  pub unlocked : (v : ℕ) (vs : List ℕ) → MayCome n by o → v ≢ by → slice_get n.roles v ≡ Some away → AreAway (roused n v) by vs → Runs n (pull_run by o v vs) (all_filed (roused n v) vs)
+  pub locked : (v : ℕ) (vs : List ℕ) → MayCome n by o → n.word.locked ≡ 1 → AreAway n by (v ∷ vs)
+      → Runs n (requeue_run by o (v ∷ vs)) (all_filed n (v ∷ vs))
+  pub unlocked : (v : ℕ) (vs : List ℕ) → MayCome n by o → v ≢ by → slice_get n.roles v ≡ Some away
+      → AreAway (roused n v) by vs → Runs n (pull_run by o v vs) (all_filed (roused n v) vs)
 
 abbrev pub AllRequeuesAreRuns : Type 0
 AllRequeuesAreRuns = (n : Mutex) (by : ℕ) (o : Bool) → RequeuesAreRuns n by o
@@ -71,25 +83,45 @@ AllRequeuesAreRuns = (n : Mutex) (by : ℕ) (o : Bool) → RequeuesAreRuns n by 
 
 -- the call of one that sleeps in the list of a mutex, and of one that was woken from there to try again
 abbrev pub sleeping_call : ℕ → Bool → Call
-sleeping_call lock timed = record { lock = lock; others = 0; core = core.Mutex (record { phase = m.Sleeps }); spot = spot.Listed; timed = timed }
+sleeping_call lock timed =
+    record {
+      lock = lock;
+      others = 0;
+      core = core.Mutex (record { phase = m.Sleeps });
+      spot = spot.Listed;
+      timed = timed;
+    }
 
 abbrev pub retrying_call : ℕ → Bool → Call
-retrying_call lock timed = record { lock = lock; others = 0; core = core.Mutex (record { phase = m.Loads (begins true) }); spot = spot.Listed; timed = timed }
+retrying_call lock timed =
+    record {
+      lock = lock;
+      others = 0;
+      core = core.Mutex (record { phase = m.Loads (begins true) });
+      spot = spot.Listed;
+      timed = timed;
+    }
 
 -- the lot once a thread has joined a list, in a section of its own
 abbrev pub lot_with : Machine → ℕ → ℕ → Machine
-lot_with l v key = closed (joined (in_phase (in_phase (opened l (Some v) key) phase.Valid) phase.Joined) v key (record { 0 = 0 }) false) false
+lot_with l v key =
+    closed (joined (in_phase (in_phase (opened l (Some v) key) phase.Valid) phase.Joined) v key (record { 0 = 0 })
+    false) false
 
 -- the lot refuses none of its steps
 pub record MayJoin (l : Machine) (v key : ℕ) : Type 0 where
   pub enters : enter_fault l v ≡ None
   pub checks : step_fault may_check (opened l (Some v) key) v ≡ None
   pub joins : step_fault may_join (in_phase (opened l (Some v) key) phase.Valid) v ≡ None
-  pub leaves : step_fault any_phase (joined (in_phase (in_phase (opened l (Some v) key) phase.Valid) phase.Joined) v key (record { 0 = 0 }) false) v ≡ None
+  pub leaves : step_fault any_phase
+      (joined (in_phase (in_phase (opened l (Some v) key) phase.Valid) phase.Joined) v key (record { 0 = 0 }) false) v
+      ≡ None
 
--- A thread that was in no call sleeps at the end of a mutex's list, as if it had asked for the mutex and gone to sleep; the parked bit is set.
+-- A thread that was in no call sleeps at the end of a mutex's list, as if it had asked for the mutex and gone to sleep;
+-- the parked bit is set.
 abbrev pub taken_in : State → ℕ → ℕ → Bool → State
-taken_in s v lock timed = with_lot (with_word (with_call s v (sleeping_call lock timed)) lock (word_at s lock % 2 + 2)) (lot_with s.lot v (first_key lock))
+taken_in s v lock timed = with_lot (with_word (with_call s v (sleeping_call lock timed)) lock (word_at s lock % 2 + 2))
+    (lot_with s.lot v (first_key lock))
 
 -- Or it is awake, as if it had slept there and had been woken to try again.
 abbrev pub roused_in : State → ℕ → ℕ → Bool → State
@@ -118,8 +150,8 @@ abbrev pub retries_at : ℕ → Option Call → Bool
 retries_at lock None = false
 retries_at lock (Some c) = c.lock == lock && core_retries c.core
 
--- Whether a thread may be woken to try again, and whether it may be taken into the list: it may ask for the mutex, no section is open, and for the list
--- the mutex is locked, or one at it is about to try again.
+-- Whether a thread may be woken to try again, and whether it may be taken into the list: it may ask for the mutex, no
+-- section is open, and for the list the mutex is locked, or one at it is about to try again.
 abbrev pub may_rouse_in : State → ℕ → ℕ → Bool
 may_rouse_in s v lock = may_begin s v lock call.Lock && not (is_some s.lot.section)
 
@@ -134,8 +166,9 @@ pub record MayTakeIn (s : State) (v lock : ℕ) : Type 0 where
 abbrev pub ByAny : State → ℕ → ℕ → (ℕ → Bool → Type 0) → Type 0
 ByAny s v lock P = (by : ℕ) → by ≢ v → by < length s.calls → call_at s by ≡ None → P by (owns_mutex (hold_at s by lock))
 
--- Waiter v was taken into the list: the machine fits together, the mutex has it at the end of its list, all other locks are as they were; where the
--- mutex is locked this is a run of the rules, and nobody is in a section then. It adds 25 steps at most, whoever is stepped.
+-- Waiter v was taken into the list: the machine fits together, the mutex has it at the end of its list, all other locks
+-- are as they were; where the mutex is locked this is a run of the rules, and nobody is in a section then. It adds 25
+-- steps at most, whoever is stepped.
 pub record IsTakenIn (v lock : ℕ) (timed : Bool) (s u : State) : Type 0 where
   pub became : u ≡ taken_in s v lock timed
   pub fits : FitsTogether u
@@ -146,7 +179,8 @@ pub record IsTakenIn (v lock : ℕ) (timed : Bool) (s u : State) : Type 0 where
   pub free : u.lot.section ≡ None
   pub attended : IsAttended u lock
   pub comes : ByAny s v lock (λ by o. MayCome (mutex_at s lock) by o)
-  pub runs : (mutex_at s lock).word.locked ≡ 1 → ByAny s v lock (λ by o. Runs (mutex_at s lock) (requeue_run by o (v ∷ [])) (mutex_at u lock))
+  pub runs : (mutex_at s lock).word.locked ≡ 1
+      → ByAny s v lock (λ by o. Runs (mutex_at s lock) (requeue_run by o (v ∷ [])) (mutex_at u lock))
   pub costs : (t : ℕ) → steps_left u t ≤ steps_left s t + 25
 
 -- Waiter v is about to try again.
@@ -183,21 +217,29 @@ pub record MayMove (s : State) (by : ℕ) (es : List (ℕ × Bool)) : Type 0 whe
   pub alone : call_at s by ≡ None
   pub others : AreOthers by es
 
--- To move several is one run of the steps of the one that moves them: all into the list, where the mutex is locked; and else the first is woken, and
--- the rest stand behind it. All other locks are as they were, and each adds so many steps at most.
+-- To move several is one run of the steps of the one that moves them: all into the list, where the mutex is locked; and
+-- else the first is woken, and the rest stand behind it. All other locks are as they were, and each adds so many steps
+-- at most.
 pub record MovesAreRuns : Type 0 where
-  pub locked : (s u : State) (lock by : ℕ) (e : ℕ × Bool) (es : List (ℕ × Bool)) → MayMove s by (e ∷ es) → (mutex_at s lock).word.locked ≡ 1 → AreTakenIn lock (e ∷ es) s u
+  pub locked : (s u : State) (lock by : ℕ) (e : ℕ × Bool) (es : List (ℕ × Bool)) → MayMove s by (e ∷ es)
+      → (mutex_at s lock).word.locked ≡ 1 → AreTakenIn lock (e ∷ es) s u
       → Runs (mutex_at s lock) (requeue_run by (owns_mutex (hold_at s by lock)) (waiters (e ∷ es))) (mutex_at u lock)
-  pub unlocked : (s x u : State) (lock by : ℕ) (e : ℕ × Bool) (es : List (ℕ × Bool)) → MayMove s by (e ∷ es) → IsRousedIn e.0 lock e.1 s x → AreTakenIn lock es x u
+  pub unlocked : (s x u : State) (lock by : ℕ) (e : ℕ × Bool) (es : List (ℕ × Bool)) → MayMove s by (e ∷ es)
+      → IsRousedIn e.0 lock e.1 s x → AreTakenIn lock es x u
       → Runs (mutex_at s lock) (pull_run by (owns_mutex (hold_at s by lock)) e.0 (waiters es)) (mutex_at u lock)
-  pub elsewhere : (s u : State) (lock : ℕ) (es : List (ℕ × Bool)) → AreTakenIn lock es s u → (i : ℕ) → i ≢ lock → lock_at u i ≡ lock_at s i
-  pub costs : (s u : State) (lock : ℕ) (es : List (ℕ × Bool)) → AreTakenIn lock es s u → (t : ℕ) → steps_left u t ≤ steps_left s t + 25 * length es
+  pub elsewhere : (s u : State) (lock : ℕ) (es : List (ℕ × Bool)) → AreTakenIn lock es s u → (i : ℕ) → i ≢ lock
+      → lock_at u i ≡ lock_at s i
+  pub costs : (s u : State) (lock : ℕ) (es : List (ℕ × Bool)) → AreTakenIn lock es s u → (t : ℕ)
+      → steps_left u t ≤ steps_left s t + 25 * length es
 
--- Whichever thread moves a waiter, it is a case of a mutex without a word: one that is taken in is moved into the list, and one that is woken changes
--- neither owners nor list.
+-- Whichever thread moves a waiter, it is a case of a mutex without a word: one that is taken in is moved into the list,
+-- and one that is woken changes neither owners nor list.
 abbrev pub IsCaseOf : ℕ → owners.Case → State → State → ℕ → Type 0
-IsCaseOf t case s u lock = owners.IsCase t case (owners.owners (mutex_at s lock)) (owners.owners (mutex_at u lock)) × IsStepAt t lock s u
+IsCaseOf t case s u lock = owners.IsCase t case (owners.owners (mutex_at s lock)) (owners.owners (mutex_at u lock))
+    × IsStepAt t lock s u
 
 pub record MovesAreCases : Type 0 where
-  pub takes : (s u : State) (v lock t : ℕ) (timed : Bool) → IsTakenIn v lock timed s u → IsCaseOf t (owners.Move v) s u lock
-  pub rouses : (s u : State) (v lock t : ℕ) (timed : Bool) → IsRousedIn v lock timed s u → IsCaseOf t owners.Nothing s u lock
+  pub takes : (s u : State) (v lock t : ℕ) (timed : Bool) → IsTakenIn v lock timed s u
+      → IsCaseOf t (owners.Move v) s u lock
+  pub rouses : (s u : State) (v lock t : ℕ) (timed : Bool) → IsRousedIn v lock timed s u
+      → IsCaseOf t owners.Nothing s u lock

@@ -1,5 +1,6 @@
 -- What each act of a call leaves of the machine.
-use Rattle.std.specs.Prelude.{ℕ, ◌+◌, ◌%◌, ◌^◌, ◌==◌, Bool, true, false, if◌then◌else◌, bit_and, [], ◌∷◌, ◌++◌, map, remove, Some, None, slice_set}
+use Rattle.std.specs.Prelude.{ℕ, ◌+◌, ◌%◌, ◌^◌, ◌==◌, Bool, true, false, if◌then◌else◌, bit_and, [], ◌∷◌, ◌++◌, map}
+use Rattle.std.specs.Prelude.{remove, Some, None, slice_set}
 use Rattle.std.specs.List.{position_or_len}
 use Rattle.std.specs.Option.{option_map, option_map_or}
 use Rattle.parking_lot_core_model.specs.declared.parking.ParkToken.{ParkToken}
@@ -48,12 +49,14 @@ exchanged s t c from to =
     if word_at s c.lock == from then with_word (with_call s t (hears c seen.Exchanged)) c.lock to else loaded s t c
 
 abbrev pub added : State → ℕ → Call → ℕ → State
-added s t c by = with_word (with_call s t (hears c (seen.Before (word_at s c.lock)))) c.lock ((word_at s c.lock + by) % 2 ^ 64)
+added s t c by = with_word (with_call s t (hears c (seen.Before (word_at s c.lock)))) c.lock
+    ((word_at s c.lock + by) % 2 ^ 64)
 
 -- a mask is the store of a section of the second key
 abbrev pub masked : State → ℕ → Call → ℕ → State
 masked s t c keep =
-    with_word (with_lot (settles (with_call s t (hears c (seen.Before (word_at s c.lock)))) t told.TryAgain) (stored s.lot (sign false))) c.lock (bit_and (word_at s c.lock) keep)
+    with_word (with_lot (settles (with_call s t (hears c (seen.Before (word_at s c.lock)))) t told.TryAgain)
+    (stored s.lot (sign false))) c.lock (bit_and (word_at s c.lock) keep)
 
 abbrev pub spun : State → ℕ → Call → State
 spun s t c = with_call s t (hears c (seen.Spun true))
@@ -62,26 +65,33 @@ abbrev pub entered : State → ℕ → Call → ℕ → State
 entered s t c k = with_lot (with_call s t (hears c seen.Entered)) (opened s.lot (Some t) (key_of c k))
 
 abbrev pub checked : State → ℕ → Call → State
-checked s t c = with_lot (loaded s t c) (in_phase s.lot (if joins (stance (hears c (seen.Word (word_at s c.lock))).core) then phase.Valid else phase.Invalid))
+checked s t c = with_lot (loaded s t c)
+    (in_phase s.lot (if joins (stance (hears c (seen.Word (word_at s c.lock))).core) then phase.Valid else
+    phase.Invalid))
 
 abbrev pub appended : State → ℕ → Call → ℕ → ParkToken → State
-appended s t c key token = with_lot (with_call s t (record (hears c seen.Made) { spot = spot.Listed })) (joined (in_phase s.lot phase.Joined) t key token false)
+appended s t c key token = with_lot (with_call s t (record (hears c seen.Made) { spot = spot.Listed }))
+    (joined (in_phase s.lot phase.Joined) t key token false)
 
 -- it takes the waiter w at an index of the key's list, or nobody
 abbrev pub took : State → ℕ → Call → ℕ → ℕ → Waiter → State
 took s t c key nth w =
-    record (with_call (takes_off s w.thread t) t (hears c (seen.Took (Some w.token) (is_left (remove (s.lot.queues key) nth))))) {
-      wakes = s.wakes ++ record { by = t; thread = w.thread; mark = option_map_or mark_of (place_at s.lot.places w.thread) 0 } ∷ [];
+    record (with_call (takes_off s w.thread t) t
+    (hears c (seen.Took (Some w.token) (is_left (remove (s.lot.queues key) nth))))) {
+      wakes = s.wakes ++
+          record { by = t; thread = w.thread; mark = option_map_or mark_of (place_at s.lot.places w.thread) 0 } ∷ [];
       lot = taken (in_phase s.lot (phase.Taking nth)) key nth;
     }
 
 abbrev pub took_nobody : State → ℕ → Call → ℕ → State
-took_nobody s t c key = with_lot (with_call s t (hears c (seen.Took None (is_left (s.lot.queues key))))) (in_phase s.lot phase.Ended)
+took_nobody s t c key = with_lot (with_call s t (hears c (seen.Took None (is_left (s.lot.queues key)))))
+    (in_phase s.lot phase.Ended)
 
 abbrev pub told_all : State → ℕ → Call → WordChange → Bool → State
 told_all s t c change fair =
     let d = hears c (seen.Stored fair) in
-    with_word (with_lot (settles (with_call s t d) t (told_of (core_tells d.core))) (stored s.lot (core_tells d.core))) c.lock (change_of change (word_at s c.lock))
+    with_word (with_lot (settles (with_call s t d) t (told_of (core_tells d.core))) (stored s.lot (core_tells d.core)))
+    c.lock (change_of change (word_at s c.lock))
 
 abbrev pub left : State → ℕ → Call → State
 left s t c = with_lot (with_call s t (hears c seen.Made)) (closed s.lot false)
@@ -89,7 +99,8 @@ left s t c = with_lot (with_call s t (hears c seen.Made)) (closed s.lot false)
 -- it wakes the first whom it is to wake, which is in the call d, with that token
 abbrev pub woke : State → ℕ → Call → ℕ → Call → UnparkToken → State
 woke s t c v d token =
-    record (with_call (with_call s v (record (hears d (seen.Woken token)) { spot = spot.Listed })) t (hears c seen.Made)) {
+    record (with_call (with_call s v (record (hears d (seen.Woken token)) { spot = spot.Listed })) t
+    (hears c seen.Made)) {
       wakes = remove s.wakes (position_or_len (is_by t) s.wakes);
       lot = record s.lot { places = slice_set s.lot.places v (Some Running) };
     }
@@ -99,7 +110,8 @@ abbrev pub woke_nobody : State → ℕ → Call → State
 woke_nobody s t c = with_call s t (hears c seen.Made)
 
 abbrev pub answered : State → ℕ → Call → State
-answered s t c = record s { calls = slice_set s.calls t None; holds = slice_set s.holds (cell s t c.lock) (hold_after c.others c.core) }
+answered s t c = record s
+    { calls = slice_set s.calls t None; holds = slice_set s.holds (cell s t c.lock) (hold_after c.others c.core) }
 
 -- a call begins
 abbrev pub begun : State → ℕ → Call → State

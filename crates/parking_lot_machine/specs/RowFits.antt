@@ -1,5 +1,6 @@
 -- What holds of the machine at every moment.
-use Rattle.std.specs.Prelude.{◌≡◌, ◌≢◌, ℕ, ◌+◌, ◌-◌, ◌*◌, ◌<◌, ◌≤◌, ◌^◌, ◌⊎◌, Bool, true, false, count_by, List, [], length, Option, Some, None, slice_get}
+use Rattle.std.specs.Prelude.{◌≡◌, ◌≢◌, ℕ, ◌+◌, ◌-◌, ◌*◌, ◌<◌, ◌≤◌, ◌^◌, ◌⊎◌, Bool, true, false, count_by, List, []}
+use Rattle.std.specs.Prelude.{length, Option, Some, None, slice_get}
 use Rattle.std.specs.Option.{option_map_or}
 use Rattle.parking_lot_core_model.specs.declared.parking.ParkToken.{ParkToken}
 use Rattle.parking_lot_core_model.specs.declared.parking.UnparkToken.{UnparkToken}
@@ -42,7 +43,9 @@ use Rattle.parking_lot_machine_calls.specs.declared.open_call.Call.{Call}
 use Rattle.parking_lot_machine_calls.specs.declared.seat.Wakeup.{Wakeup}
 use Rattle.parking_lot_machine_calls.specs.Kinds.{AsMutex, manner_of, recursive_in}
 use Rattle.parking_lot_machine.specs.Rows.{State, word_at, hold_at, call_at, taken_by, family, one_bucket}
-use Rattle.parking_lot_machine_calls.specs.Stances.{Doing, Looks, TurnsBack, Joins, Joined, Takes, Stores, Tells, Stance, Out, In, Asleep, stance, taken_count, core_act, sleeper_asleep}
+use Rattle.parking_lot_machine_calls.specs.Stances.{Doing, Looks, TurnsBack, Joins, Joined, Takes, Stores, Tells}
+use Rattle.parking_lot_machine_calls.specs.Stances.{Stance, Out, In, Asleep, stance, taken_count, core_act}
+use Rattle.parking_lot_machine_calls.specs.Stances.{sleeper_asleep}
 use Rattle.parking_lot_machine.specs.Rounds.{IsUnderWay}
 use Rattle.parking_lot_protocol.specs.RwTable.{count_of, sum_of}
 use Rattle.parking_lot_protocol.specs.declared.rw_phase.Scanning.{Scanning}
@@ -80,14 +83,16 @@ PlaceWhile how at place key = place ≡ Some Running
 
 -- what was said to those that an open section has taken
 abbrev pub SaidIn : Section → WakeResult → Type 0
-SaidIn section said = ((section.phase ≡ phase.Stored) × (said ≡ told_of section.token)) ⊎ ((may_store section.phase ≡ true) × (said ≡ told.Nothing))
+SaidIn section said = ((section.phase ≡ phase.Stored) × (said ≡ told_of section.token))
+    ⊎ ((may_store section.phase ≡ true) × (said ≡ told.Nothing))
 
 -- a sleeper stands in its list, or was taken by a section that is open or by one that is closed
 abbrev pub IsAt : QueuePosition → Option Place → Option Section → ℕ → Type 0
 IsAt spot.Listed place section key = WaitsIn place key
 IsAt (spot.Off by said) place section key =
     (sleep : Sleep) × (sleep.late ≡ false)
-    × (((place ≡ Some (Held sleep)) × (opened : Section) × (section ≡ Some opened) × (opened.thread ≡ Some by) × SaidIn opened said)
+    × (((place ≡ Some (Held sleep)) × (opened : Section) × (section ≡ Some opened) × (opened.thread ≡ Some by)
+    × SaidIn opened said)
     ⊎ ((token : UnparkToken) × (place ≡ Some (Taken token sleep false)) × (said ≡ told_of token)))
 
 -- thread t isn't the one whose section is open
@@ -98,7 +103,8 @@ IsOutside t section = (opened : Section) → section ≡ Some opened → opened.
 abbrev pub Stands : ℕ → ℕ → Stance → QueuePosition → Option Place → Option Section → Type 0
 Stands t j Out at place section = (place ≡ Some Running) × IsOutside t section
 Stands t j (In k how) at place section =
-    (opened : Section) × (section ≡ Some opened) × (opened.thread ≡ Some t) × (opened.key ≡ 2 * j + k) × HasCome how opened.phase opened.token × PlaceWhile how at place (2 * j + k)
+    (opened : Section) × (section ≡ Some opened) × (opened.thread ≡ Some t) × (opened.key ≡ 2 * j + k)
+    × HasCome how opened.phase opened.token × PlaceWhile how at place (2 * j + k)
 Stands t j (Asleep k token) at place section = IsAt at place section (2 * j + k) × IsOutside t section
 
 -- one in no call
@@ -136,8 +142,9 @@ rw_prepared recursive n us (r.Refuses want) = Asks recursive n want
 rw_prepared recursive n us (r.Relocks want) = Asks recursive n want
 rw_prepared recursive n us p = of_rw.Fits recursive n us p (word_of 0)
 
--- What a call that has begun keeps of what its thread owns beside: one that asks may ask, one that goes to sleep has no other hold, and one that gives the exclusive hold up, or asks again
--- for what it gave up, has no other. A scan that goes on has taken no writer.
+-- What a call that has begun keeps of what its thread owns beside: one that asks may ask, one that goes to sleep has no
+-- other hold, and one that gives the exclusive hold up, or asks again for what it gave up, has no other. A scan that
+-- goes on has taken no writer.
 abbrev pub rest_keeps : ℕ → AfterWake → Type 0
 rest_keeps n rest.FreedShared = Unit {0}
 rest_keeps n rest.FreedExclusive = n ≡ 0
@@ -194,8 +201,9 @@ rw_keeps recursive n r.EnterWakeSection = Unit {0}
 rw_keeps recursive n (r.Ends outcome) = Unit {0}
 rw_keeps recursive n r.Invalid = ⊥
 
--- What a phase of an upgradable call needs of whom its thread has taken, where that doesn't follow from what the word says. Calls of shared and exclusive holds have
--- a core of their own, and one that gives up begins with its first look at the word.
+-- What a phase of an upgradable call needs of whom its thread has taken, where that doesn't follow from what the word
+-- says. Calls of shared and exclusive holds have a core of their own, and one that gives up begins with its first look
+-- at the word.
 abbrev pub frees_prepared : List ℕ → RwPhase → Type 0
 frees_prepared us (r.LooksExclusive fair rest) = us ≡ []
 frees_prepared us (r.Scans s) = s.shared < 2 ^ 32 - 1
@@ -227,8 +235,8 @@ upgrade_begins u.DowngradingToShared = Unit {0}
 upgrade_begins u.DowngradingToUpgradable = Unit {0}
 upgrade_begins phase = ⊥
 
--- Nobody goes through the list that keeps the exclusive hold. A scan that goes on has taken no writer, and beside the upgradable hold nobody that
--- wants it.
+-- Nobody goes through the list that keeps the exclusive hold. A scan that goes on has taken no writer, and beside the
+-- upgradable hold nobody that wants it.
 abbrev pub keeps_hold : up.Hold → Type 0
 keeps_hold up_hold.Exclusive = ⊥
 keeps_hold other = Unit {0}
@@ -246,7 +254,8 @@ upgrade_keeps phase = Unit {0}
 -- One whose moment has passed stands on what it stood on as it slept.
 abbrev pub sleeper_prepared : Bool → ℕ → RwSleeper → Type 0
 sleeper_prepared recursive n (sleeper.Simple c) = of_rw.IsReady c.phase × rw_keeps recursive n c.phase
-sleeper_prepared recursive n (sleeper.Upgradable c) = (n ≡ 0) × of_upgrade.IsReady c.phase × IsOfWorld c.phase × upgrade_keeps c.phase
+sleeper_prepared recursive n (sleeper.Upgradable c) = (n ≡ 0) × of_upgrade.IsReady c.phase × IsOfWorld c.phase
+    × upgrade_keeps c.phase
 
 abbrev pub late_rw_prepared : Bool → ℕ → LateRwPhase → Type 0
 late_rw_prepared recursive n (late_rw.Expires k) = (sleeper_asleep k ≡ true) × sleeper_prepared recursive n k
@@ -260,15 +269,18 @@ IsPrepared recursive n (core.Mutex c) = n ≡ 0
 IsPrepared recursive n (core.Rw c) = of_rw.IsReady c.phase × rw_keeps recursive n c.phase
 IsPrepared recursive n (core.Late p) = n ≡ 0
 IsPrepared recursive n (core.LateRw p) = late_rw_prepared recursive n p
-IsPrepared recursive n (core.Upgrade c) = (n ≡ 0) × of_upgrade.IsReady c.phase × IsOfWorld c.phase × upgrade_keeps c.phase
+IsPrepared recursive n (core.Upgrade c) = (n ≡ 0) × of_upgrade.IsReady c.phase × IsOfWorld c.phase
+    × upgrade_keeps c.phase
 
--- What one that is to store knows of its list: whether waiters are left, and that it has taken a writer or would pass all of them.
+-- What one that is to store knows of its list: whether waiters are left, and that it has taken a writer or would pass
+-- all of them.
 abbrev pub mutex_knows : MutexPhase → List Waiter → Type 0
 mutex_knows (m.Stores giving taken left) queue = (is_left queue ≡ left) × (taken ≡ false → left ≡ false)
 mutex_knows phase queue = Unit {0}
 
 abbrev pub rw_knows : RwPhase → List Waiter → List Waiter → Type 0
-rw_knows (r.Stores s left) first second = (is_left first ≡ left) × ((s.writer ≡ true) ⊎ ArePassed (wake_answer (sum_of s)) first (length first))
+rw_knows (r.Stores s left) first second = (is_left first ≡ left)
+    × ((s.writer ≡ true) ⊎ ArePassed (wake_answer (sum_of s)) first (length first))
 rw_knows (r.ClearWriterParked rest taken) first second = second ≡ []
 rw_knows phase first second = Unit {0}
 
@@ -278,7 +290,8 @@ sees_upgradable up_hold.Upgradable s = true
 sees_upgradable kept s = s.upgradable
 
 abbrev pub scan_knows : up.Hold → RwPhase → List Waiter → Type 0
-scan_knows kept (r.Stores s left) first = (is_left first ≡ left) × ((s.writer ≡ true) ⊎ ArePassed (look_by (sees_upgradable kept s) s.writer) first (length first))
+scan_knows kept (r.Stores s left) first = (is_left first ≡ left)
+    × ((s.writer ≡ true) ⊎ ArePassed (look_by (sees_upgradable kept s) s.writer) first (length first))
 scan_knows kept phase first = Unit {0}
 
 abbrev pub upgrade_knows : UpgradePhase → List Waiter → Type 0
@@ -317,7 +330,8 @@ IsInside Out = ⊥
 IsInside (In k how) = Unit {0}
 IsInside (Asleep k token) = ⊥
 
--- One that is to wake n others counts as many, while it is in its section; once it has left some of those that it counts may have gone on by themselves.
+-- One that is to wake n others counts as many, while it is in its section; once it has left some of those that it
+-- counts may have gone on by themselves.
 pub record IsCounted (threads n : ℕ) (c : Core) : Type 0 where
   pub most : n ≤ taken_count c
   pub few : taken_count c ≤ threads
@@ -332,16 +346,21 @@ pub record LotFits (s : State) : Type 0 where
   -- the lot is sound, and each thread's place in it is the one of its stance
   pub sound : lot.Sound s.lot
   pub seated : (t : ℕ) → t < length s.calls → Seated t (call_at s t) (place_at s.lot.places t) s.lot.section
-  pub opened : (section : Section) → s.lot.section ≡ Some section → (t : ℕ) × (section.thread ≡ Some t) × (t < length s.calls)
+  pub opened : (section : Section) → s.lot.section ≡ Some section → (t : ℕ) × (section.thread ≡ Some t)
+      × (t < length s.calls)
   -- who waits in a lock's list is in a call there
   pub waits : (j k n : ℕ) (w : Waiter) → k < 2 → slice_get (s.lot.queues (2 * j + k)) n ≡ Some w
-      → (c : Call) × (call_at s w.thread ≡ Some c) × (c.lock ≡ j) × (c.spot ≡ spot.Listed) × Awaits k w.token (stance c.core)
+      → (c : Call) × (call_at s w.thread ≡ Some c) × (c.lock ≡ j) × (c.spot ≡ spot.Listed)
+      × Awaits k w.token (stance c.core)
   -- who sleeps off its list is still to be woken by its taker
-  pub owed : (t : ℕ) (c : Call) (key : ℕ) (token : ParkToken) (by : ℕ) (said : WakeResult) → call_at s t ≡ Some c → stance c.core ≡ Asleep key token → c.spot ≡ spot.Off by said → IsOwed s.wakes by t
+  pub owed : (t : ℕ) (c : Call) (key : ℕ) (token : ParkToken) (by : ℕ) (said : WakeResult) → call_at s t ≡ Some c
+      → stance c.core ≡ Asleep key token → c.spot ≡ spot.Off by said → IsOwed s.wakes by t
   -- each is taken once, and its taker counts it
   pub woken : (n : ℕ) (e : Wakeup) → slice_get s.wakes n ≡ Some e → IsTaken s e
-  pub once : (n m : ℕ) (e f : Wakeup) → slice_get s.wakes n ≡ Some e → slice_get s.wakes m ≡ Some f → e.thread ≡ f.thread → n ≡ m
-  pub counted : (t : ℕ) (c : Call) → call_at s t ≡ Some c → IsCounted (length s.calls) (length (taken_by s.wakes t)) c.core
+  pub once : (n m : ℕ) (e f : Wakeup) → slice_get s.wakes n ≡ Some e → slice_get s.wakes m ≡ Some f
+      → e.thread ≡ f.thread → n ≡ m
+  pub counted : (t : ℕ) (c : Call) → call_at s t ≡ Some c → IsCounted (length s.calls) (length (taken_by s.wakes t))
+      c.core
   pub untaken : (t : ℕ) → call_at s t ≡ None → taken_by s.wakes t ≡ []
   pub wakeful : (t : ℕ) (c : Call) → call_at s t ≡ Some c → WakesSome c.core
 
@@ -356,7 +375,8 @@ is_away (Some c) = is_off c.spot
 
 pub record WakesFit (s : State) : Type 0 where
   -- whoever is off its list is to be woken by who took it
-  pub off : (t by : ℕ) (c : Call) (said : WakeResult) → call_at s t ≡ Some c → c.spot ≡ spot.Off by said → (n : ℕ) × (e : Wakeup) × (slice_get s.wakes n ≡ Some e) × (e.by ≡ by) × (e.thread ≡ t)
+  pub off : (t by : ℕ) (c : Call) (said : WakeResult) → call_at s t ≡ Some c → c.spot ≡ spot.Off by said → (n : ℕ)
+      × (e : Wakeup) × (slice_get s.wakes n ≡ Some e) × (e.by ≡ by) × (e.thread ≡ t)
   pub room : length s.wakes ≡ count_by is_away s.calls
 
 -- The side of the rules.
@@ -382,7 +402,9 @@ pub record RulesFit (s : State) : Type 0 where
 -- Whom the section that is open has passed: those that its thread passes at its sum so far.
 abbrev pub PassesFit : State → Type 0
 PassesFit s =
-    (t : ℕ) (c : Call) (k : ℕ) (o : Section) → call_at s t ≡ Some c → stance c.core ≡ In k Takes → s.lot.section ≡ Some o → ArePassed (asks (core_act c.core)) (s.lot.queues (2 * c.lock + k)) (passed_of o.phase)
+    (t : ℕ) (c : Call) (k : ℕ) (o : Section) → call_at s t ≡ Some c → stance c.core ≡ In k Takes
+    → s.lot.section ≡ Some o → ArePassed (asks (core_act c.core)) (s.lot.queues (2 * c.lock + k))
+    (passed_of o.phase)
 
 pub record FitsTogether (s : State) : Type 0 where
   pub lots : LotFits s

@@ -45,10 +45,14 @@ abbrev pub IsRwMove : of_rw.Move → List ℕ → ℕ → ℕ → State → Stat
 IsRwMove of_rw.Stays us j t s u = IsQuiet s u
 IsRwMove (of_rw.Makes k) us j t s u = IsMade j t (RwStep (Alone k)) s u
 IsRwMove (of_rw.Joins k) us j t s u = IsMade j t (RwStep (List_changes k)) s u
-IsRwMove (of_rw.TakesOne mode) us j t s u = (scan : Scan) × (i v : ℕ) × (stay : Stay) × IsMade j t (RwStep (Take1 scan i v mode stay)) s u
-IsRwMove of_rw.TakesWriter us j t s u = (owns : Owned) × (v : ℕ) × (from : Bool) × (stay : Stay) × IsMade j t (RwStep (Take2 owns v from stay)) s u
+IsRwMove (of_rw.TakesOne mode) us j t s u = (scan : Scan) × (i v : ℕ) × (stay : Stay)
+    × IsMade j t (RwStep (Take1 scan i v mode stay)) s u
+IsRwMove of_rw.TakesWriter us j t s u = (owns : Owned) × (v : ℕ) × (from : Bool) × (stay : Stay)
+    × IsMade j t (RwStep (Take2 owns v from stay)) s u
 IsRwMove (of_rw.Tells end left) us j t s u = (scan : Scan) × IsMade j t (RwStep (Store end scan)) s u
-IsRwMove of_rw.WakesOne us j t s u = IfAny us ((owns : Owned) × (v : ℕ) × (rest : List ℕ) × (k : Waking) × (stay : Stay) × IsMade j t (RwStep (Wake owns v rest k stay)) s u) (IsQuiet s u)
+IsRwMove of_rw.WakesOne us j t s u =
+    IfAny us ((owns : Owned) × (v : ℕ) × (rest : List ℕ) × (k : Waking) × (stay : Stay)
+    × IsMade j t (RwStep (Wake owns v rest k stay)) s u) (IsQuiet s u)
 IsRwMove (of_rw.IsWoken k) us j t s u = ⊥
 
 -- a release stores: the mutex is handed over or not, by whether it was
@@ -71,29 +75,36 @@ IsMutexMove (of_mutex.Makes k) us j t s u = IsMade j t (MxStep (mutex.Alone k)) 
 IsMutexMove of_mutex.Joins us j t s u = IsMade j t (MxStep mutex.Join) s u
 IsMutexMove of_mutex.TakesOne us j t s u = (v : ℕ) × (stay : Stay) × IsMade j t (MxStep (mutex.Take v stay)) s u
 IsMutexMove (of_mutex.Tells taken handed left) us j t s u = IsMade j t (MxStep (store_step handed us)) s u
-IsMutexMove of_mutex.WakesOne us j t s u = IfAny us ((handed : Bool) × (v : ℕ) × (rest : List ℕ) × (stay : Stay) × IsMade j t (MxStep (wake_step_of stay handed v rest)) s u) (IsQuiet s u)
+IsMutexMove of_mutex.WakesOne us j t s u =
+    IfAny us ((handed : Bool) × (v : ℕ) × (rest : List ℕ) × (stay : Stay)
+    × IsMade j t (MxStep (wake_step_of stay handed v rest)) s u) (IsQuiet s u)
 IsMutexMove (of_mutex.IsWoken handed) us j t s u = ⊥
 
--- One that was taken finds that out as it comes back. That is two steps of the rules, one after the other: its taker, which is outside its section, drops
--- it from those that it is to wake, and then it enters the section. Between them is the machine in which nobody is to wake it.
+-- One that was taken finds that out as it comes back. That is two steps of the rules, one after the other: its taker,
+-- which is outside its section, drops it from those that it is to wake, and then it enters the section. Between them is
+-- the machine in which nobody is to wake it.
 abbrev pub IsFound : ℕ → ℕ → AnyStep → AnyStep → ℕ → State → State → Type 0
 IsFound j by passing finding t s u = IsMade j by passing s (unowed s t) × IsMade j t finding (unowed s t) u
 
 abbrev pub IsMutexFound : ℕ → ℕ → State → State → Type 0
-IsMutexFound j t s u = (by : ℕ) × (mark : Mark) × (before taken : List ℕ) × IsFound j by (MxStep (mutex.Pass false before t taken)) (MxStep (mutex.Alone (mutex.ReenterTaken by mark))) t s u
+IsMutexFound j t s u = (by : ℕ) × (mark : Mark) × (before taken : List ℕ)
+    × IsFound j by (MxStep (mutex.Pass false before t taken)) (MxStep (mutex.Alone (mutex.ReenterTaken by mark))) t s u
 
 abbrev pub IsRwFound : RwSleeper → ℕ → ℕ → State → State → Type 0
-IsRwFound k j t s u = (by : ℕ) × (mark : Mark) × (owns : Owned) × (before taken : List ℕ) × IsFound j by (RwStep (Pass owns before t taken)) (finding k by mark) t s u
+IsRwFound k j t s u = (by : ℕ) × (mark : Mark) × (owns : Owned) × (before taken : List ℕ)
+    × IsFound j by (RwStep (Pass owns before t taken)) (finding k by mark) t s u
 
 -- one that has found that it was taken leaves the section: it owns the mutex, or tries again
 abbrev pub resume_step : Bool → ℕ → mutex.Plain
 resume_step true by = mutex.Receive by
 resume_step false by = mutex.Resume by
 
--- one whose moment has passed comes back, takes itself out, as the last one or as one of several, masks the parked bit off, and leaves
+-- one whose moment has passed comes back, takes itself out, as the last one or as one of several, masks the parked bit
+-- off, and leaves
 abbrev pub IsLateMove : LatePhase → ActResult → ℕ → ℕ → State → State → Type 0
 IsLateMove late.Expires seen.Entered j t s u = IsMade j t (MxStep (mutex.Alone mutex.Reenter)) s u
-IsLateMove late.Quits (seen.Took token left) j t s u = (i : ℕ) × IsMade j t (MxStep (if left then mutex.Quit i else mutex.QuitLast i)) s u
+IsLateMove late.Quits (seen.Took token left) j t s u = (i : ℕ)
+    × IsMade j t (MxStep (if left then mutex.Quit i else mutex.QuitLast i)) s u
 IsLateMove late.Masks (seen.Before word) j t s u = IsMade j t (MxStep (mutex.Alone mutex.Mask)) s u
 IsLateMove late.Leaves seen.Made j t s u = IsMade j t (MxStep (mutex.Alone mutex.Leave)) s u
 IsLateMove late.Expires seen.Made j t s u = IsMutexFound j t s u

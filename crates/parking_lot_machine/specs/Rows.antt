@@ -1,5 +1,6 @@
 -- What a machine of locks consists of, and which locks of the rules it shows.
-use Rattle.std.specs.Prelude.{ℕ, ◌+◌, ◌*◌, ◌/◌, ◌%◌, ◌==◌, Bool, nat_lt, if◌then◌else◌, List, length, map, filter, Option, Some, None, slice_get}
+use Rattle.std.specs.Prelude.{ℕ, ◌+◌, ◌*◌, ◌/◌, ◌%◌, ◌==◌, Bool, nat_lt, if◌then◌else◌, List, length, map, filter}
+use Rattle.std.specs.Prelude.{Option, Some, None, slice_get}
 use Rattle.std.specs.List.{range_with_len}
 use Rattle.std.specs.Option.{option_and_then, option_map_or}
 use Rattle.parking_lot_core_model.specs.declared.place.Section.{Section}
@@ -41,7 +42,14 @@ pub record Rows : Type 0 where
   pub lot : Parts
 
 abbrev pub state : Rows → State
-state m = record { kinds = m.kinds; words = m.words; holds = m.holds; calls = m.calls; wakes = m.wakes; lot = machine m.lot }
+state m = record {
+  kinds = m.kinds;
+  words = m.words;
+  holds = m.holds;
+  calls = m.calls;
+  wakes = m.wakes;
+  lot = machine m.lot;
+}
 
 abbrev pub word_at : State → ℕ → ℕ
 word_at s i = option_map_or (λ w. w) (slice_get s.words i) 0
@@ -51,7 +59,8 @@ cell s t i = t * length s.kinds + i
 
 -- what a thread owns of a lock; of those beyond the last nobody owns anything
 abbrev pub hold_in : List Hold → ℕ → ℕ → ℕ → Hold
-hold_in holds locks t i = if nat_lt i locks then option_map_or (λ h. h) (slice_get holds (t * locks + i)) (hold.Shares 0) else hold.Shares 0
+hold_in holds locks t i = if nat_lt i locks then option_map_or (λ h. h) (slice_get holds (t * locks + i))
+    (hold.Shares 0) else hold.Shares 0
 
 abbrev pub hold_at : State → ℕ → ℕ → Hold
 hold_at s t i = hold_in s.holds (length s.kinds) t i
@@ -74,11 +83,13 @@ taken_by wakes t = map (λ w. w.thread) (filter (is_by t) wakes)
 
 abbrev pub rw_role_in : ℕ → List ℕ → Hold → Option Call → Role
 rw_role_in i us h None = record { owns = owned_of h; does = Idle }
-rw_role_in i us h (Some c) = if c.lock == i then rw_core_role c.others c.spot us c.core else record { owns = owned_of h; does = Idle }
+rw_role_in i us h (Some c) = if c.lock == i then rw_core_role c.others c.spot us c.core else
+    record { owns = owned_of h; does = Idle }
 
 abbrev pub mutex_role_in : ℕ → List ℕ → Hold → Option Call → mutex.Role
 mutex_role_in i us h None = record { owns = owns_mutex h; does = mutex.Idle }
-mutex_role_in i us h (Some c) = if c.lock == i then mutex_core_role c.spot us c.core else record { owns = owns_mutex h; does = mutex.Idle }
+mutex_role_in i us h (Some c) = if c.lock == i then mutex_core_role c.spot us c.core else
+    record { owns = owns_mutex h; does = mutex.Idle }
 
 abbrev pub rw_role_at : State → ℕ → ℕ → Role
 rw_role_at s i t = rw_role_in i (taken_by s.wakes t) (hold_at s t i) (call_at s t)
@@ -105,10 +116,19 @@ abbrev pub mutex_word_of : ℕ → mutex.Word
 mutex_word_of n = record { locked = n % 2; parked = n / 2 % 2 }
 
 abbrev pub rw_lock_at : State → ℕ → Lock
-rw_lock_at s i = record { word = word_of (word_at s i); roles = everybody (rw_role_at s i) s; first = queue_at s (first_key i); second = queue_at s (second_key i) }
+rw_lock_at s i = record {
+  word = word_of (word_at s i);
+  roles = everybody (rw_role_at s i) s;
+  first = queue_at s (first_key i);
+  second = queue_at s (second_key i);
+}
 
 abbrev pub mutex_at : State → ℕ → mutex.Mutex
-mutex_at s i = record { word = mutex_word_of (word_at s i); roles = everybody (mutex_role_at s i) s; queue = queue_at s (first_key i) }
+mutex_at s i = record {
+  word = mutex_word_of (word_at s i);
+  roles = everybody (mutex_role_at s i) s;
+  queue = queue_at s (first_key i);
+}
 
 -- beyond the last number there are locks too, where nobody is
 abbrev pub lock_as : Option Manner → State → ℕ → AnyLock

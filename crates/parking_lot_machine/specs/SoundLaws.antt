@@ -1,5 +1,6 @@
 -- What holds of a machine of locks at every moment, in the words of its views.
-use Rattle.std.specs.Prelude.{◌≡◌, ◌≢◌, ℕ, ◌+◌, ◌*◌, ◌<◌, ◌≤◌, ◌⊎◌, ◌==◌, ◌&&◌, Bool, true, false, length, Option, Some, None, slice_get}
+use Rattle.std.specs.Prelude.{◌≡◌, ◌≢◌, ℕ, ◌+◌, ◌*◌, ◌<◌, ◌≤◌, ◌⊎◌, ◌==◌, ◌&&◌, Bool, true, false, length, Option, Some}
+use Rattle.std.specs.Prelude.{None, slice_get}
 use Rattle.std.specs.Option.{option_map_or}
 use Rattle.parking_lot_protocol.specs.declared.act.Act.TheVariants as act
 use Rattle.parking_lot_protocol.specs.declared.act.CoreAnswer.{CoreAnswer}
@@ -35,7 +36,8 @@ agrees mode.Exclusive other = false
 
 -- Any two owners of a lock agree.
 abbrev pub OwnersAgree : State → Type 0
-OwnersAgree s = (i t u : ℕ) (a b : OwnMode) → t ≢ u → mode_in (lock_at s i) t ≡ Some a → mode_in (lock_at s i) u ≡ Some b → agrees a b ≡ true
+OwnersAgree s = (i t u : ℕ) (a b : OwnMode) → t ≢ u → mode_in (lock_at s i) t ≡ Some a
+    → mode_in (lock_at s i) u ≡ Some b → agrees a b ≡ true
 
 -- nobody owns the lock, but by shared holds
 abbrev pub OnlyReaders : State → ℕ → Type 0
@@ -49,15 +51,18 @@ NoReaders s i = (u : ℕ) (a : OwnMode) → mode_in (lock_at s i) u ≡ Some a �
 abbrev pub SomebodyIsInDebt : State → ℕ → Type 0
 SomebodyIsInDebt s i = (u : ℕ) × (c : Call) × (call_at s u ≡ Some c) × (c.lock ≡ i) × (is_indebted s u ≡ true)
 
--- Where somebody waits in a lock's first list and nobody owns the lock but by shared holds, somebody there is in debt. Where the pending writer
--- waits in the second and nobody reads, too.
+-- Where somebody waits in a lock's first list and nobody owns the lock but by shared holds, somebody there is in debt.
+-- Where the pending writer waits in the second and nobody reads, too.
 pub record DebtsAreKept (s : State) : Type 0 where
   pub first : (i : ℕ) → 0 < length (queue_at s (first_key i)) → OnlyReaders s i → SomebodyIsInDebt s i
-  pub second : (i : ℕ) → manner_of (slice_get s.kinds i) ≡ Some AsRw → 0 < length (queue_at s (second_key i)) → NoReaders s i → SomebodyIsInDebt s i
+  pub second : (i : ℕ) → manner_of (slice_get s.kinds i) ≡ Some AsRw → 0 < length (queue_at s (second_key i))
+      → NoReaders s i → SomebodyIsInDebt s i
 
--- A thread in a call can move, but where it sleeps, and where it is before a section and another is in one of the same bucket.
+-- A thread in a call can move, but where it sleeps, and where it is before a section and another is in one of the same
+-- bucket.
 abbrev pub AwakeCanMove : State → Type 0
-AwakeCanMove s = (t : ℕ) (c : Call) → call_at s t ≡ Some c → is_asleep s t ≡ false → ((k : ℕ) → core_act c.core ≡ act.Enter k → open_at s (key_of c k) ≡ None) → can_move s t ≡ true
+AwakeCanMove s = (t : ℕ) (c : Call) → call_at s t ≡ Some c → is_asleep s t ≡ false
+    → ((k : ℕ) → core_act c.core ≡ act.Enter k → open_at s (key_of c k) ≡ None) → can_move s t ≡ true
 
 -- the thread is in no call at lock i
 abbrev pub IsApart : ℕ → Option Call → Type 0
@@ -68,9 +73,11 @@ IsApart i (Some c) = c.lock ≢ i
 abbrev pub SomebodyKeeps : State → ℕ → Type 0
 SomebodyKeeps s i = (u : ℕ) × (a : OwnMode) × (mode_in (lock_at s i) u ≡ Some a) × IsApart i (call_at s u)
 
--- Where a thread is in a call, some thread can move; or the thread sleeps, and one that is in no call at its lock keeps it.
+-- Where a thread is in a call, some thread can move; or the thread sleeps, and one that is in no call at its lock keeps
+-- it.
 abbrev pub SomebodyCanMove : State → Type 0
-SomebodyCanMove s = (t : ℕ) (c : Call) → call_at s t ≡ Some c → ((u : ℕ) × (can_move s u ≡ true)) ⊎ ((is_asleep s t ≡ true) × SomebodyKeeps s c.lock)
+SomebodyCanMove s = (t : ℕ) (c : Call) → call_at s t ≡ Some c → ((u : ℕ) × (can_move s u ≡ true))
+    ⊎ ((is_asleep s t ≡ true) × SomebodyKeeps s c.lock)
 
 -- WHO WAITS
 
@@ -78,7 +85,8 @@ abbrev pub has_joined : Doing → Bool
 has_joined (Joined token) = true
 has_joined how = false
 
--- a thread that stands so at a lock waits in its first list (k is 0) or its second: it has joined it, and nobody has taken it off since
+-- a thread that stands so at a lock waits in its first list (k is 0) or its second: it has joined it, and nobody has
+-- taken it off since
 abbrev pub waits_as : ℕ → QueuePosition → Stance → Bool
 waits_as k at Out = false
 waits_as k at (In j how) = has_joined how && (j == k)
@@ -99,7 +107,8 @@ pub record ListsAreWaiters (s : State) : Type 0 where
 abbrev pub most_steps : ℕ → ℕ
 most_steps n = 219 * n + 200
 
--- At every moment, and not only where its call begins: those of a thread that is stepped alone, and those of all threads together.
+-- At every moment, and not only where its call begins: those of a thread that is stepped alone, and those of all
+-- threads together.
 pub record StepsAreFew (s : State) : Type 0 where
   pub each : (t : ℕ) (c : Call) → call_at s t ≡ Some c → own_steps s t (Some c) ≤ most_steps (length s.calls)
   pub all : (t : ℕ) → steps_left s t ≤ length s.calls * most_steps (length s.calls)
@@ -129,8 +138,10 @@ pub record IsStepAt (t j : ℕ) (s u : State) : Type 0 where
 
 -- So is each step of the machine, and each beginning of a call.
 pub record StepsAreCases : Type 0 where
-  pub step : (s u : State) (t : ℕ) (fair : Bool) (answer : Option CoreAnswer) → FitsTogether s → (x : IsStepped t fair answer s u) → IsStepAt t x.call.lock s u
-  pub begin : (s u : State) (t lock : ℕ) (call : LockCall) → FitsTogether s → IsBegun t lock call s u → IsStepAt t lock s u
+  pub step : (s u : State) (t : ℕ) (fair : Bool) (answer : Option CoreAnswer) → FitsTogether s
+      → (x : IsStepped t fair answer s u) → IsStepAt t x.call.lock s u
+  pub begin : (s u : State) (t lock : ℕ) (call : LockCall) → FitsTogether s → IsBegun t lock call s u
+      → IsStepAt t lock s u
 
 -- That is so of every machine that fits together.
 abbrev pub Always : (State → Type 0) → Type 0

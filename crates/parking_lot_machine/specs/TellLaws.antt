@@ -1,5 +1,7 @@
--- What acts of the machine keep that tell those whom a thread has taken, or wake them, and which steps of the rules they are.
-use Rattle.std.specs.Prelude.{◌≡◌, ◌≤◌, ℕ, Bool, true, false, if◌then◌else◌, [], length, Some, None, slice_get, slice_set}
+-- What acts of the machine keep that tell those whom a thread has taken, or wake them, and which steps of the rules
+-- they are.
+use Rattle.std.specs.Prelude.{◌≡◌, ◌≤◌, ℕ, Bool, true, false, if◌then◌else◌, [], length, Some, None, slice_get}
+use Rattle.std.specs.Prelude.{slice_set}
 use Rattle.std.specs.List.{position_or_len}
 use Rattle.std.specs.Option.{option_map_or}
 use Rattle.parking_lot_core_model.specs.declared.parking.UnparkToken.{UnparkToken}
@@ -35,14 +37,22 @@ pub record GoesOn (m : Machine) (v : ℕ) (token : UnparkToken) (sleep : Sleep) 
   pub runs : slice_set (changed_at roused m v).places v (Some Running) ≡ slice_set m.places v (Some Running)
 
 pub record TellsAreSteps : Type 0 where
-  pub store : (s : State) (t : ℕ) (c : Call) (plain fair : WordChange) (is_fair : Bool) → core_act c.core ≡ act.Section (section.Store plain fair)
-      → lot.Sound (told_all s t c (if is_fair then fair else plain) is_fair).lot → Keeps t c s (told_all s t c (if is_fair then fair else plain) is_fair)
-  pub mask : (s : State) (t : ℕ) (c : Call) (keep : ℕ) → core_act c.core ≡ act.FetchAnd keep → lot.Sound (masked s t c keep).lot → Keeps t c s (masked s t c keep)
+  pub store : (s : State) (t : ℕ) (c : Call) (plain fair : WordChange) (is_fair : Bool)
+      → core_act c.core ≡ act.Section (section.Store plain fair)
+      → lot.Sound (told_all s t c (if is_fair then fair else plain) is_fair).lot
+      → Keeps t c s (told_all s t c (if is_fair then fair else plain) is_fair)
+  pub mask : (s : State) (t : ℕ) (c : Call) (keep : ℕ) → core_act c.core ≡ act.FetchAnd keep
+      → lot.Sound (masked s t c keep).lot → Keeps t c s (masked s t c keep)
   -- The first of those whom one is still to wake was taken by it and bears the mark of its sleep.
-  pub due : (s : State) (t : ℕ) (c : Call) → core_act c.core ≡ act.Section section.Wake → FitsTogether s → call_at s t ≡ Some c → 1 ≤ length (taken_by s.wakes t)
-      → (e : Wakeup) × (d : Call) × (token : UnparkToken) × (x : IsDue s t e d token) × (e.by ≡ t) × (x.sleep.mark ≡ e.mark)
-  pub wake : (s : State) (t : ℕ) (c : Call) (e : Wakeup) (d : Call) (token : UnparkToken) → core_act c.core ≡ act.Section section.Wake → IsDue s t e d token
+  pub due : (s : State) (t : ℕ) (c : Call) → core_act c.core ≡ act.Section section.Wake → FitsTogether s
+      → call_at s t ≡ Some c → 1 ≤ length (taken_by s.wakes t)
+      → (e : Wakeup) × (d : Call) × (token : UnparkToken) × (x : IsDue s t e d token) × (e.by ≡ t)
+      × (x.sleep.mark ≡ e.mark)
+  pub wake : (s : State) (t : ℕ) (c : Call) (e : Wakeup) (d : Call) (token : UnparkToken)
+      → core_act c.core ≡ act.Section section.Wake → IsDue s t e d token
       → lot.Sound (woke s t c e.thread d token).lot → Keeps t c s (woke s t c e.thread d token)
   -- where all of them have gone on by themselves it wakes nobody
-  pub nobody : (s : State) (t : ℕ) (c : Call) → core_act c.core ≡ act.Section section.Wake → taken_by s.wakes t ≡ [] → Keeps t c s (woke_nobody s t c)
-  pub goes_on : (m : Machine) (v : ℕ) (token : UnparkToken) (sleep : Sleep) → place_at m.places v ≡ Some (Taken token sleep false) → sleep.late ≡ false → GoesOn m v token sleep
+  pub nobody : (s : State) (t : ℕ) (c : Call) → core_act c.core ≡ act.Section section.Wake → taken_by s.wakes t ≡ []
+      → Keeps t c s (woke_nobody s t c)
+  pub goes_on : (m : Machine) (v : ℕ) (token : UnparkToken) (sleep : Sleep)
+      → place_at m.places v ≡ Some (Taken token sleep false) → sleep.late ≡ false → GoesOn m v token sleep

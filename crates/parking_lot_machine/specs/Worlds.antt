@@ -18,6 +18,7 @@ abbrev pub in_debt_at : AnyLock → ℕ → Bool
 in_debt_at (Rw l) t = option_map_or (λ r. rw_debts.is_in_debt r.does) (slice_get l.roles t) false
 in_debt_at (Mx m) t = option_map_or (λ r. mutex_debts.is_in_debt r.does) (slice_get m.roles t) false
 
--- It is in debt at the lock that its call is at, or owns that lock, has seen that others wait, and enters a section next.
+-- It is in debt at the lock that its call is at, or owns that lock, has seen that others wait, and enters a section
+-- next.
 abbrev pub is_indebted : State → ℕ → Bool
 is_indebted s t = option_map_or (λ c. call_looks c.core || in_debt_at (lock_at s c.lock) t) (call_at s t) false

@@ -1,5 +1,6 @@
 //! What each act of a call does to the machine.
-ghost use Rattle.std.specs.Prelude.{◌≡◌, ◌<◌, ◌≤◌, ℕ, ◌+◌, ◌*◌, ◌%◌, ◌^◌, [], length, map, slice_get, Some, None, if◌then◌else◌, vec_capacity, vec_len};
+ghost use Rattle.std.specs.Prelude.{◌≡◌, ◌<◌, ◌≤◌, ℕ, ◌+◌, ◌*◌, ◌%◌, ◌^◌, [], length, map, slice_get, Some, None};
+ghost use Rattle.std.specs.Prelude.{if◌then◌else◌, vec_capacity, vec_len};
 ghost use Rattle.std.specs.Option.{option_map, option_and_then, option_map_or};
 ghost use Rattle.std.specs.List.{position_or_len, position};
 ghost use Rattle.parking_lot_protocol.specs.declared.act.ActResult.TheVariants as seen;
@@ -19,7 +20,9 @@ ghost use Rattle.parking_lot_machine.specs.TellLaws.{IsDue};
 ghost use Rattle.parking_lot_core_model.specs.declared.parking.UnparkToken.{UnparkToken};
 ghost use Rattle.parking_lot_machine_calls.specs.declared.open_call.Call.{Call};
 ghost use Rattle.parking_lot_machine_calls.specs.declared.seat.Wakeup.{Wakeup};
-ghost use Rattle.parking_lot_machine.specs.RowActs.{added, answered, appended, begun, checked, entered, exchanged, left, loaded, masked, spun, told_all, took, took_nobody, woke, woke_nobody};
+ghost use Rattle.parking_lot_machine.specs.RowActs.{added, answered, appended, begun, checked, entered, exchanged};
+ghost use Rattle.parking_lot_machine.specs.RowActs.{left, loaded, masked, spun, told_all, took, took_nobody, woke};
+ghost use Rattle.parking_lot_machine.specs.RowActs.{woke_nobody};
 ghost use Rattle.parking_lot_machine_calls.specs.CallActs.{hears, key_of, off_list, settled};
 
 use crate::lot_calls;
@@ -115,7 +118,9 @@ fn note_taking<A: Allocator>(
 /// The call of one that has taken the first of its list, or nobody.
 fn taker<A: Allocator>(lot: &Lot<A>, call: Call, taking: Option<Taking>) -> Call
     requires small { call.lock ≤ 2 ^ 62 }
-    ensures { (k : ℕ) → stance call.core ≡ In k Takes → result ≡ hears call (seen.Took (option_map (λ x. x.token) taking) (is_left ((machine lot.now).queues (key_of call k)))) }
+    ensures { (k : ℕ) → stance call.core ≡ In k Takes
+        → result ≡ hears call
+        (seen.Took (option_map (λ x. x.token) taking) (is_left ((machine lot.now).queues (key_of call k)))) }
 {
     let left = lot.has_waiters(call.key(call.core.list()));
     let token = taking.map(|taking| taking.token);
@@ -208,7 +213,8 @@ impl<A: Allocator> RowMachine<A> {
     pub(crate) fn append(&mut self, thread: usize, call: Call, token: ParkToken)
         requires here { call_at (state self.old) thread ≡ Some call }
         requires asked { core_act call.core ≡ act.Section (section.Append token) }
-        ensures { (k : ℕ) × (stance call.core ≡ In k (Joins token)) × (state self.new ≡ appended (state self.old) thread call (key_of call k) token) }
+        ensures { (k : ℕ) × (stance call.core ≡ In k (Joins token))
+            × (state self.new ≡ appended (state self.old) thread call (key_of call k) token) }
     {
         lot_calls::append(&mut self.lot, thread, token);
         self.calls[thread] = Some(call.listed());
@@ -239,7 +245,8 @@ impl<A: Allocator> RowMachine<A> {
     /// It changes the word, and tells those whom it took.
     pub(crate) fn store(&mut self, thread: usize, call: Call, change: WordChange, fair: bool)
         requires here { call_at (state self.old) thread ≡ Some call }
-        requires asked { (plain handing : WordChange) × (core_act call.core ≡ act.Section (section.Store plain handing)) × (change ≡ (if fair then handing else plain)) }
+        requires asked { (plain handing : WordChange) × (core_act call.core ≡ act.Section (section.Store plain handing))
+            × (change ≡ (if fair then handing else plain)) }
         ensures { state self.new ≡ told_all (state self.old) thread call change fair }
     {
         let word = self.word(call.lock);
@@ -290,7 +297,8 @@ impl<A: Allocator> RowMachine<A> {
         requires here { call_at (state self.old) thread ≡ Some call }
         requires asked { core_act call.core ≡ act.Section section.Wake }
         requires some { 1 ≤ length (taken_by (state self.old).wakes thread) }
-        ensures { (e : Wakeup) × (d : Call) × (token : UnparkToken) × IsDue (state self.old) thread e d token × (state self.new ≡ woke (state self.old) thread call e.thread d token) }
+        ensures { (e : Wakeup) × (d : Call) × (token : UnparkToken) × IsDue (state self.old) thread e d token
+            × (state self.new ≡ woke (state self.old) thread call e.thread d token) }
     {
         let at = first_by(&self.wakes, thread);
         let wakeup = self.wakes.remove(at);

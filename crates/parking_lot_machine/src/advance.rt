@@ -9,8 +9,9 @@ use parking_lot_protocol::CoreAnswer;
 use std::alloc::Allocator;
 
 impl<A: Allocator> RowMachine<A> {
-    /// A thread makes one [step](RowMachine::step), and where that leaves nothing of its call but the answer, the call is answered too. The
-    /// answer changes no word, no list and no other thread, so for whoever watches those this is one step.
+    /// A thread makes one [step](RowMachine::step), and where that leaves nothing of its call but the answer, the call
+    /// is answered too. The answer changes no word, no list and no other thread, so for whoever watches those this is
+    /// one step.
     pub fn advance(&mut self, thread: usize, fair: bool) -> Option<CoreAnswer>
         requires can { can_move (state self.old) thread ≡ true }
         ensures { IsAdvanced thread fair result (state self.old) (state self.new) }
@@ -25,8 +26,8 @@ impl<A: Allocator> RowMachine<A> {
         }
     }
 
-    /// A thread [begins](RowMachine::begin) a call at a lock and makes its first step with it. The beginning changes no word, no list and no
-    /// other thread.
+    /// A thread [begins](RowMachine::begin) a call at a lock and makes its first step with it. The beginning changes no
+    /// word, no list and no other thread.
     pub fn start(
         &mut self,
         thread: usize,

@@ -9,7 +9,9 @@ ghost use Rattle.parking_lot_core_model.specs.declared.place.Sleep.{Sleep};
 ghost use Rattle.parking_lot_core_model.specs.Places.{place_at, may_check, may_join, may_store, may_take, passed_of};
 ghost use Rattle.parking_lot_core_model.specs.Results.{is_left};
 ghost use Rattle.parking_lot_core_model.specs.Sound.{Sound};
-ghost use Rattle.parking_lot_core_model.specs.Machine.{machine, given_up, quit_fault, quitted, return_fault, returned, any_phase, closed, enter_fault, in_phase, joined, opened, section_of, step_fault, stored};
+ghost use Rattle.parking_lot_core_model.specs.Machine.{machine, given_up, quit_fault, quitted, return_fault, returned};
+ghost use Rattle.parking_lot_core_model.specs.Machine.{any_phase, closed, enter_fault, in_phase, joined, opened};
+ghost use Rattle.parking_lot_core_model.specs.Machine.{section_of, step_fault, stored};
 ghost use Rattle.parking_lot_protocol.specs.Wake.{wake_answer};
 ghost use Rattle.parking_lot_machine.specs.NextTakings.{NextTaken};
 ghost use Rattle.parking_lot_machine.specs.Passes.{ArePassed};
@@ -63,7 +65,8 @@ pub(crate) fn leave<A: Allocator>(lot: &mut Lot<A>, thread: usize)
 /// Puts the section's thread at the end of its list. It has no deadline.
 pub(crate) fn append<A: Allocator>(lot: &mut Lot<A>, thread: usize, token: ParkToken)
     requires inside { step_fault may_join (machine lot.old) thread ≡ None }
-    ensures joined { (s : Section) → section_of (machine lot.old) thread ≡ Some s → machine lot.new ≡ joined (in_phase (machine lot.old) phase.Joined) thread s.key token false }
+    ensures joined { (s : Section) → section_of (machine lot.old) thread ≡ Some s
+        → machine lot.new ≡ joined (in_phase (machine lot.old) phase.Joined) thread s.key token false }
     ensures sound { Sound (machine lot.new) }
 {
     let _ = lot.append(thread, token, false);
@@ -80,12 +83,15 @@ pub(crate) fn come_back<A: Allocator>(lot: &mut Lot<A>, thread: usize, key: usiz
     lot.known();
 }
 
-/// Opens a section of the key of a thread that slept there and was taken. It runs from then on; its section has taken nobody and has nothing to
-/// store, and says so.
+/// Opens a section of the key of a thread that slept there and was taken. It runs from then on; its section has taken
+/// nobody and has nothing to store, and says so.
 pub(crate) fn find<A: Allocator>(lot: &mut Lot<A>, thread: usize, key: usize)
     requires free { return_fault (machine lot.old) thread key ≡ None }
-    requires off { (token : UnparkToken) × (sleep : Sleep) × (place_at (machine lot.old).places thread ≡ Some (Taken token sleep false)) }
-    ensures found { machine lot.new ≡ stored (in_phase (record (returned (machine lot.old) thread key) { places = slice_set (machine lot.old).places thread (Some Running) }) phase.Ended) (record { 0 = 0 }) }
+    requires off { (token : UnparkToken) × (sleep : Sleep)
+        × (place_at (machine lot.old).places thread ≡ Some (Taken token sleep false)) }
+    ensures found { machine lot.new ≡ stored
+        (in_phase (record (returned (machine lot.old) thread key)
+        { places = slice_set (machine lot.old).places thread (Some Running) }) phase.Ended) (record { 0 = 0 }) }
     ensures sound { Sound (machine lot.new) }
 {
     come_back(lot, thread, key);
@@ -96,22 +102,26 @@ pub(crate) fn find<A: Allocator>(lot: &mut Lot<A>, thread: usize, key: usize)
 /// Has a thread run that came back into its section and was taken.
 fn quit_taken<A: Allocator>(lot: &mut Lot<A>, thread: usize)
     requires there { quit_fault (machine lot.old) thread ≡ None }
-    requires off { (token : UnparkToken) × (sleep : Sleep) × (place_at (machine lot.old).places thread ≡ Some (Taken token sleep false)) }
+    requires off { (token : UnparkToken) × (sleep : Sleep)
+        × (place_at (machine lot.old).places thread ≡ Some (Taken token sleep false)) }
     requires inside { (s : Section) × ((machine lot.old).section ≡ Some s) × (s.thread ≡ Some thread) }
-    ensures runs { machine lot.new ≡ in_phase (record (machine lot.old) { places = slice_set (machine lot.old).places thread (Some Running) }) phase.Ended }
+    ensures runs { machine lot.new ≡ in_phase
+        (record (machine lot.old) { places = slice_set (machine lot.old).places thread (Some Running) }) phase.Ended }
     ensures store { step_fault may_store (machine lot.new) thread ≡ None }
 {
     let _ = lot.quit(thread);
 }
 
-/// Takes a thread that came back out of its list. Answers whether others are left there; then its section has nothing to store, and says so, as it
-/// does where the caller says so.
+/// Takes a thread that came back out of its list. Answers whether others are left there; then its section has nothing
+/// to store, and says so, as it does where the caller says so.
 pub(crate) fn quit<A: Allocator>(lot: &mut Lot<A>, thread: usize, key: usize, stores: bool) -> bool
     requires there { quit_fault (machine lot.old) thread ≡ None }
     requires waits { (sleep : Sleep) × (place_at (machine lot.old).places thread ≡ Some (Waiting key sleep)) }
     requires inside { (s : Section) × ((machine lot.old).section ≡ Some s) × (s.thread ≡ Some thread) }
     ensures left { result ≡ is_left ((in_phase (given_up (machine lot.old) thread key) phase.Ended).queues key) }
-    ensures out { machine lot.new ≡ (if result || stores then stored (in_phase (given_up (machine lot.old) thread key) phase.Ended) (record { 0 = 0 }) else in_phase (given_up (machine lot.old) thread key) phase.Ended) }
+    ensures out { machine lot.new
+        ≡ (if result || stores then stored (in_phase (given_up (machine lot.old) thread key) phase.Ended)
+        (record { 0 = 0 }) else in_phase (given_up (machine lot.old) thread key) phase.Ended) }
     ensures sound { Sound (machine lot.new) }
 {
     quit_list(lot, thread, key);
@@ -137,8 +147,10 @@ fn quit_list<A: Allocator>(lot: &mut Lot<A>, thread: usize, key: usize)
 /// Takes the first waiter of the section's list, whatever it waits for. `None` where nobody is left that wasn't passed.
 pub(crate) fn take_first<A: Allocator>(lot: &mut Lot<A>, thread: usize) -> Option<Taking>
     requires inside { step_fault may_take (machine lot.old) thread ≡ None }
-    requires passed { (s : Section) → section_of (machine lot.old) thread ≡ Some s → ArePassed (λ token. Unpark) ((machine lot.old).queues s.key) (passed_of s.phase) }
-    ensures next { (s : Section) → section_of (machine lot.old) thread ≡ Some s → NextTaken (λ token. Unpark) (machine lot.old) (machine lot.new) (Ok result) s.key }
+    requires passed { (s : Section) → section_of (machine lot.old) thread ≡ Some s
+        → ArePassed (λ token. Unpark) ((machine lot.old).queues s.key) (passed_of s.phase) }
+    ensures next { (s : Section) → section_of (machine lot.old) thread ≡ Some s
+        → NextTaken (λ token. Unpark) (machine lot.old) (machine lot.new) (Ok result) s.key }
     ensures sound { Sound (machine lot.new) }
 {
     let wants = |_token: ParkToken| -> FilterOp
@@ -152,9 +164,11 @@ pub(crate) fn take_first<A: Allocator>(lot: &mut Lot<A>, thread: usize) -> Optio
 /// Takes the first waiter of the section's list that a scan takes at that sum of tokens. `None` where it passes all.
 pub(crate) fn take_next<A: Allocator>(lot: &mut Lot<A>, thread: usize, sum: u64) -> Option<Taking>
     requires inside { step_fault may_take (machine lot.old) thread ≡ None }
-    requires passed { (s : Section) → section_of (machine lot.old) thread ≡ Some s → ArePassed (wake_answer sum) ((machine lot.old).queues s.key) (passed_of s.phase) }
+    requires passed { (s : Section) → section_of (machine lot.old) thread ≡ Some s
+        → ArePassed (wake_answer sum) ((machine lot.old).queues s.key) (passed_of s.phase) }
     requires goes { (token : ℕ) → wake_answer sum token ≢ Stop }
-    ensures next { (s : Section) → section_of (machine lot.old) thread ≡ Some s → NextTaken (wake_answer sum) (machine lot.old) (machine lot.new) (Ok result) s.key }
+    ensures next { (s : Section) → section_of (machine lot.old) thread ≡ Some s
+        → NextTaken (wake_answer sum) (machine lot.old) (machine lot.new) (Ok result) s.key }
     ensures sound { Sound (machine lot.new) }
 {
     let wants = |token: ParkToken| -> FilterOp
@@ -167,9 +181,13 @@ pub(crate) fn take_next<A: Allocator>(lot: &mut Lot<A>, thread: usize, sum: u64)
 
 /// Wakes a thread that was taken, and has it run. Answers the token that it was told.
 pub(crate) fn rouse<A: Allocator>(lot: &mut Lot<A>, thread: usize, mark: u64) -> UnparkToken
-    requires told { (token : UnparkToken) × (sleep : Sleep) × (place_at (machine lot.old).places thread ≡ Some (Taken token sleep false)) × (sleep.late ≡ false) × (sleep.mark ≡ mark) }
-    ensures token { (token : UnparkToken) (sleep : Sleep) → place_at (machine lot.old).places thread ≡ Some (Taken token sleep false) → result ≡ token }
-    ensures runs { machine lot.new ≡ record (machine lot.old) { places = slice_set (machine lot.old).places thread (Some Running) } }
+    requires told { (token : UnparkToken) × (sleep : Sleep)
+        × (place_at (machine lot.old).places thread ≡ Some (Taken token sleep false)) × (sleep.late ≡ false)
+        × (sleep.mark ≡ mark) }
+    ensures token { (token : UnparkToken) (sleep : Sleep) → place_at (machine lot.old).places thread ≡ Some
+        (Taken token sleep false) → result ≡ token }
+    ensures runs { machine lot.new ≡ record (machine lot.old)
+        { places = slice_set (machine lot.old).places thread (Some Running) } }
     ensures sound { Sound (machine lot.new) }
 {
     lot.wake(thread, mark);

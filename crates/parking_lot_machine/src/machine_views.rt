@@ -14,15 +14,16 @@ use parking_lot_protocol::{Act, CoreAnswer};
 use std::alloc::Allocator;
 
 impl<A: Allocator> RowMachine<A> {
-    /// That all of the machine fits together, for who says what a run of it did: each lock is sound as the rules say. It does nothing.
+    /// That all of the machine fits together, for who says what a run of it did: each lock is sound as the rules say.
+    /// It does nothing.
     pub fn known(&self)
         ensures { FitsTogether (state self.now) }
     {
         let _ = &self.kinds;
     }
 
-    /// That another thread may be stepped from here on where this one can't move, for who goes on so: no more steps are left than before. It
-    /// does nothing.
+    /// That another thread may be stepped from here on where this one can't move, for who goes on so: no more steps are
+    /// left than before. It does nothing.
     pub fn others_go_on(&self, thread: usize)
         ensures { can_move (state self.now) thread ≡ false → AnyMayBeStepped (state self.now) thread }
     {
@@ -51,8 +52,8 @@ impl<A: Allocator> RowMachine<A> {
         }
     }
 
-    /// How a thread's call ended, where nothing of it is left but its answer: the thread's next step gives it, and changes no word, no list and
-    /// no other thread.
+    /// How a thread's call ended, where nothing of it is left but its answer: the thread's next step gives it, and
+    /// changes no word, no list and no other thread.
     pub fn ended(&self, thread: usize) -> Option<CoreAnswer>
         ensures { result ≡ ended (state self.now) thread }
     {

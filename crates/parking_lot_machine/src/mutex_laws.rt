@@ -3,10 +3,11 @@ ghost use Rattle.std.specs.Prelude.{◌≡◌, true};
 ghost use Rattle.parking_lot_protocol.specs.declared.act.ActResult.{ActResult};
 ghost use Rattle.parking_lot_machine_calls.specs.declared.seat.Core.{Core};
 ghost use Rattle.parking_lot_machine_calls.specs.Stances.{core_next, has_begun};
-ghost use Rattle.parking_lot_machine.specs.MutexLaws.{MutexAnswersAreSteps, MutexIsShown, MutexRolesAreKnown, MutexWordsAreNumbers};
+ghost use Rattle.parking_lot_machine.specs.MutexLaws.{MutexAnswersAreSteps, MutexIsShown, MutexRolesAreKnown};
+ghost use Rattle.parking_lot_machine.specs.MutexLaws.{MutexWordsAreNumbers};
 
-/// What the core of a call at a sound mutex is told, is a step that the rules allow: the word and the roles after it are those that the
-/// core's tables name.
+/// What the core of a call at a sound mutex is told, is a step that the rules allow: the word and the roles after it
+/// are those that the core's tables name.
 pub fn answers_are_steps_of_a_sound_mutex()
     ensures { MutexAnswersAreSteps }
 {}
@@ -26,8 +27,8 @@ pub fn calls_that_have_begun_go_on()
     ensures { (c : Core) (s : ActResult) → has_begun (core_next c s) ≡ true }
 {}
 
-/// What the machine keeps of threads at a mutex is what the rules say of them: where one stores, all are told that it took; where a
-/// call ends, its answer is what is kept; and one that is to store knows its list.
+/// What the machine keeps of threads at a mutex is what the rules say of them: where one stores, all are told that it
+/// took; where a call ends, its answer is what is kept; and one that is to store knows its list.
 pub fn a_mutex_is_shown_as_it_is()
     ensures { MutexIsShown }
 {}

@@ -23,7 +23,8 @@ const MAX_LOCKS: usize = 1 << 20;
 fn lot_of<A: Allocator + Clone + Drop>(alloc: A, threads: usize) -> Result<Lot<A>, SizeFault>
     requires some { 0 < threads }
     requires few { threads ≤ 131072 }
-    ensures made { IfOk result (λ lot. machine lot ≡ record (fresh threads 0) { places = replicate threads (Some Running) }) }
+    ensures made { IfOk result
+        (λ lot. machine lot ≡ record (fresh threads 0) { places = replicate threads (Some Running) }) }
     ensures sound { IfOk result (λ lot. Sound (machine lot)) }
     ensures memory { IfErr result (λ fault. fault ≡ NoMemory) }
 {
@@ -38,14 +39,16 @@ fn lot_of<A: Allocator + Clone + Drop>(alloc: A, threads: usize) -> Result<Lot<A
 }
 
 impl<A: Allocator + Clone + Drop> RowMachine<A> {
-    /// A machine of so many threads, in no call, and of locks of these kinds, which nobody owns: 1 to 65,536 threads, and 1 to 2^20 locks.
+    /// A machine of so many threads, in no call, and of locks of these kinds, which nobody owns: 1 to 65,536 threads,
+    /// and 1 to 2^20 locks.
     /// All memory that its steps need is taken here.
     pub fn new(
         alloc: &A,
         threads: usize,
         kinds: Vec<LockKind, A>,
     ) -> Result<RowMachine<A>, SizeFault>
-        ensures size { IsErrOf result BadSize ↔ ((threads ≡ 0) ⊎ (65536 < threads) ⊎ (length kinds.items ≡ 0) ⊎ (2 ^ 20 < length kinds.items)) }
+        ensures size { IsErrOf result BadSize ↔
+            ((threads ≡ 0) ⊎ (65536 < threads) ⊎ (length kinds.items ≡ 0) ⊎ (2 ^ 20 < length kinds.items)) }
         ensures made { IfOk result (λ machine. state machine ≡ at_rest threads kinds.items) }
     {
         let locks = kinds.len();
@@ -55,14 +58,15 @@ impl<A: Allocator + Clone + Drop> RowMachine<A> {
         RowMachine::made(alloc, threads, kinds)
     }
 
-    /// The same, where each of so many threads has two numbers, as thread t of n the numbers t and n + t: so a thread may wait as one of them while it
-    /// is still in a call as the other.
+    /// The same, where each of so many threads has two numbers, as thread t of n the numbers t and n + t: so a thread
+    /// may wait as one of them while it is still in a call as the other.
     pub fn new_double(
         alloc: &A,
         threads: usize,
         kinds: Vec<LockKind, A>,
     ) -> Result<RowMachine<A>, SizeFault>
-        ensures size { IsErrOf result BadSize ↔ ((threads ≡ 0) ⊎ (65536 < threads) ⊎ (length kinds.items ≡ 0) ⊎ (2 ^ 20 < length kinds.items)) }
+        ensures size { IsErrOf result BadSize ↔
+            ((threads ≡ 0) ⊎ (65536 < threads) ⊎ (length kinds.items ≡ 0) ⊎ (2 ^ 20 < length kinds.items)) }
         ensures made { IfOk result (λ machine. state machine ≡ at_rest (2 * threads) kinds.items) }
     {
         let locks = kinds.len();

@@ -1,7 +1,8 @@
 //! Laws of the steps that are left of a call.
 ghost use Rattle.parking_lot_machine.specs.RankLaws.{MutexStepsFall, RwStepsFall};
 
-/// Each act of a call at a mutex lowers the steps that are left of it, whatever it gives; a wake lowers them by all that the woken thread does.
+/// Each act of a call at a mutex lowers the steps that are left of it, whatever it gives; a wake lowers them by all
+/// that the woken thread does.
 pub fn mutex_steps_fall()
     ensures { MutexStepsFall }
 {}

@@ -2,7 +2,10 @@
 ghost use Rattle.std.specs.Prelude.{◌≡◌, ◌%◌, ◌==◌, ◌||◌, true};
 ghost use Rattle.std.specs.List.{list_any};
 ghost use Rattle.parking_lot_core_model.specs.Machine.{machine};
-ghost use Rattle.parking_lot_machine.specs.Requeues.{AllRequeuesAreRuns, IsRousedIn, IsTakenIn, MayJoin, MayTakeIn, MovesAreCases, MovesAreRuns, core_retries, lot_with, may_rouse_in, may_take_in, phase_retries, retries_at, retrying_call, sleeping_call};
+ghost use Rattle.parking_lot_machine.specs.Requeues.{AllRequeuesAreRuns, IsRousedIn, IsTakenIn, MayJoin, MayTakeIn};
+ghost use Rattle.parking_lot_machine.specs.Requeues.{MovesAreCases, MovesAreRuns, core_retries, lot_with, may_rouse_in};
+ghost use Rattle.parking_lot_machine.specs.Requeues.{may_take_in, phase_retries, retries_at, retrying_call};
+ghost use Rattle.parking_lot_machine.specs.Requeues.{sleeping_call};
 ghost use Rattle.parking_lot_machine.specs.Rows.{state, word_at};
 
 use crate::lot_calls;
@@ -13,15 +16,16 @@ use parking_lot_protocol::{MutexPhase, TRY_AGAIN};
 use std::alloc::Allocator;
 
 impl<A: Allocator> RowMachine<A> {
-    /// Whether a thread may be [woken to ask](RowMachine::rouse_in) for a mutex: it may ask for it, and no section is open.
+    /// Whether a thread may be [woken to ask](RowMachine::rouse_in) for a mutex: it may ask for it, and no section is
+    /// open.
     pub fn may_rouse_in(&self, waiter: usize, lock: usize) -> bool
         ensures { result ≡ may_rouse_in (state self.now) waiter lock }
     {
         self.may_begin(waiter, lock, LockCall::Lock) && !self.lot.is_entered(lock)
     }
 
-    /// Whether a thread may be [taken into the list](RowMachine::take_in) of a mutex: the same, and the mutex is locked, or a thread there was woken and is
-    /// about to try again.
+    /// Whether a thread may be [taken into the list](RowMachine::take_in) of a mutex: the same, and the mutex is
+    /// locked, or a thread there was woken and is about to try again.
     pub fn may_take_in(&self, waiter: usize, lock: usize) -> bool
         ensures is { result ≡ may_take_in (state self.now) waiter lock }
         ensures may { result ≡ true → MayTakeIn (state self.now) waiter lock }
@@ -32,13 +36,14 @@ impl<A: Allocator> RowMachine<A> {
 
     /// Whether the mutex is locked, or a thread there is about to try again.
     fn is_kept(&self, lock: usize) -> bool
-        ensures { result ≡ (word_at (state self.now) lock % 2 == 1 || list_any (retries_at lock) (state self.now).calls) }
+        ensures { result ≡ (word_at (state self.now) lock % 2 == 1
+            || list_any (retries_at lock) (state self.now).calls) }
     {
         self.word(lock) % 2 == 1 || is_retried(&self.calls, lock)
     }
 
-    /// A thread in no call, which owns nothing of the mutex, is moved into its list by another, and sleeps there as if it had asked for the mutex; the
-    /// parked bit is set. `timed` says whether its moment may pass there.
+    /// A thread in no call, which owns nothing of the mutex, is moved into its list by another, and sleeps there as if
+    /// it had asked for the mutex; the parked bit is set. `timed` says whether its moment may pass there.
     pub fn take_in(&mut self, waiter: usize, lock: usize, timed: bool)
         requires may { MayTakeIn (state self.old) waiter lock }
         ensures { IsTakenIn waiter lock timed (state self.old) (state self.new) }
@@ -50,8 +55,8 @@ impl<A: Allocator> RowMachine<A> {
         self.calls[waiter] = Some(sleeping(lock, timed));
     }
 
-    /// A thread in no call, which owns nothing of the mutex, is woken by another to ask for it, as one that slept in its list. Those that are
-    /// [taken in](RowMachine::take_in) afterwards stand behind it.
+    /// A thread in no call, which owns nothing of the mutex, is woken by another to ask for it, as one that slept in
+    /// its list. Those that are [taken in](RowMachine::take_in) afterwards stand behind it.
     pub fn rouse_in(&mut self, waiter: usize, lock: usize, timed: bool)
         requires may { may_rouse_in (state self.old) waiter lock ≡ true }
         ensures { IsRousedIn waiter lock timed (state self.old) (state self.new) }
@@ -134,13 +139,14 @@ pub fn moves_are_cases()
     ensures { MovesAreCases }
 {}
 
-/// To move several waiters is one run of the rules, from the mutex as it was to the mutex as it is, by any thread in no call that isn't one of them.
+/// To move several waiters is one run of the rules, from the mutex as it was to the mutex as it is, by any thread in no
+/// call that isn't one of them.
 pub fn moves_are_runs()
     ensures { MovesAreRuns }
 {}
 
-/// To move waiters to a mutex, one after the other, is a run of the steps of the rules of the one that moves them: all into the list, where it is
-/// locked; and else the first is woken, and the rest stand behind it.
+/// To move waiters to a mutex, one after the other, is a run of the steps of the rules of the one that moves them: all
+/// into the list, where it is locked; and else the first is woken, and the rest stand behind it.
 pub fn requeues_are_runs()
     ensures { AllRequeuesAreRuns }
 {}

@@ -1,12 +1,14 @@
 //! The machine of locks: words, lists and a call for each thread, moved one atomic step at a time.
-ghost use Rattle.std.specs.Prelude.{◌≡◌, ◌<◌, ◌↔◌, ◌⊎◌, ◌^◌, length, slice_get, Some, None, true, if◌then◌else◌, IsErrOf, IfOk, IfErr, IsTrue};
+ghost use Rattle.std.specs.Prelude.{◌≡◌, ◌<◌, ◌↔◌, ◌⊎◌, ◌^◌, length, slice_get, Some, None, true, if◌then◌else◌};
+ghost use Rattle.std.specs.Prelude.{IsErrOf, IfOk, IfErr, IsTrue};
 ghost use Rattle.parking_lot_core_model.specs.declared.fault.SizeFault.TheVariants.{BadSize, NoMemory};
 ghost use Rattle.parking_lot_protocol.specs.declared.act.Act.TheVariants as act;
 ghost use Rattle.parking_lot_machine_calls.specs.Calls.{takes};
 ghost use Rattle.parking_lot_machine_calls.specs.Kinds.{kind_in};
 ghost use Rattle.parking_lot_machine_calls.specs.Stances.{core_act};
 ghost use Rattle.parking_lot_machine.specs.Rows.{call_at, hold_at, state, word_at};
-ghost use Rattle.parking_lot_machine.specs.Machines.{at_rest, can_move, goes_late, may_expire, IsExpired, may_begin, IsBegun, IsStepped};
+ghost use Rattle.parking_lot_machine.specs.Machines.{at_rest, can_move, goes_late, may_expire, IsExpired, may_begin};
+ghost use Rattle.parking_lot_machine.specs.Machines.{IsBegun, IsStepped};
 
 use parking_lot_core_model::{Lot, SizeFault};
 use parking_lot_machine_calls::{Call, Hold, LockCall, LockKind, QueuePosition, Wakeup};
@@ -16,13 +18,15 @@ use std::marker::Model;
 
 /// Locks, and threads at them, each in one call at a time.
 ///
-/// A thread [begins](RowMachine::begin) a call at a lock, and then makes one atomic [step](RowMachine::step) after another, in any order
-/// among the threads, until the call is answered. Each step is a step of the rules of the lock. All room is taken where the machine is made.
+/// A thread [begins](RowMachine::begin) a call at a lock, and then makes one atomic [step](RowMachine::step) after
+/// another, in any order among the threads, until the call is answered. Each step is a step of the rules of the lock.
+/// All room is taken where the machine is made.
 #[derive(Drop)]
 pub struct RowMachine<A: Allocator = Global> {
     pub(crate) kinds: Vec<LockKind, A>,
     pub(crate) words: Vec<u64, A>,
-    /// What each thread owns of each lock, thread by thread; of the lock of the call that it is in, what it owned before.
+    /// What each thread owns of each lock, thread by thread; of the lock of the call that it is in, what it owned
+    /// before.
     pub(crate) holds: Vec<Hold, A>,
     pub(crate) calls: Vec<Option<Call>, A>,
     /// Who is still to be woken, and by whom.
@@ -37,9 +41,24 @@ impl<A: Allocator> Model for RowMachine<A> {
 
     ghost Value = { Rows };
 
-    ghost view = { λ m. record { kinds = m.kinds.items; words = m.words.items; holds = m.holds.items; calls = m.calls.items; wakes = m.wakes.items; lot = m.lot } };
+    ghost view = { λ m. record {
+      kinds = m.kinds.items;
+      words = m.words.items;
+      holds = m.holds.items;
+      calls = m.calls.items;
+      wakes = m.wakes.items;
+      lot = m.lot;
+    } };
 
-    ghost invariant = { λ m. FitsTogether (state (record { kinds = m.kinds.items; words = m.words.items; holds = m.holds.items; calls = m.calls.items; wakes = m.wakes.items; lot = m.lot })) × (length m.calls.items ≤ vec_capacity m.wakes) };
+    ghost invariant = { λ m. FitsTogether
+        (state (record {
+          kinds = m.kinds.items;
+          words = m.words.items;
+          holds = m.holds.items;
+          calls = m.calls.items;
+          wakes = m.wakes.items;
+          lot = m.lot;
+        })) × (length m.calls.items ≤ vec_capacity m.wakes) };
 }
 
 impl<A: Allocator> RowMachine<A> {
@@ -100,7 +119,8 @@ impl<A: Allocator> RowMachine<A> {
         &self.lot
     }
 
-    /// Whether a thread can make a step: it is in a call, doesn't sleep, and isn't before a section that another has entered.
+    /// Whether a thread can make a step: it is in a call, doesn't sleep, and isn't before a section that another has
+    /// entered.
     pub fn can_move(&self, thread: usize) -> bool
         ensures { result ≡ can_move (state self.now) thread }
     {
@@ -122,7 +142,8 @@ impl<A: Allocator> RowMachine<A> {
         call.core.is_back() || (call.core.comes_late() && !self.lot.is_entered(call.lock))
     }
 
-    /// Whether a thread's deadline may come: it sleeps in a timed call, in its list or taken and not woken yet, and it hasn't come before.
+    /// Whether a thread's deadline may come: it sleeps in a timed call, in its list or taken and not woken yet, and it
+    /// hasn't come before.
     pub fn may_expire(&self, thread: usize) -> bool
         ensures { result ≡ may_expire (state self.now) thread }
     {
@@ -132,11 +153,12 @@ impl<A: Allocator> RowMachine<A> {
         }
     }
 
-    /// A thread's deadline comes as it sleeps. From then on it can move: it comes back into the section of its list, takes itself out there,
-    /// masks the parked bit off where it was the last, and is answered that it has given up. As a pending writer it takes its bit back instead,
-    /// and goes through those that it kept out. Where another has taken it before it is back it finds that out in the section, leaves it, and goes on
-    /// as it was told: it owns what it was handed, or tries again. Its taker wakes it no more then. Where that wake comes first it goes on from where it
-    /// sleeps.
+    /// A thread's deadline comes as it sleeps. From then on it can move: it comes back into the section of its list,
+    /// takes itself out there, masks the parked bit off where it was the last, and is answered that it has given up. As
+    /// a pending writer it takes its bit back instead, and goes through those that it kept out. Where another has taken
+    /// it before it is back it finds that out in the section, leaves it, and goes on as it was told: it owns what it
+    /// was handed, or tries again. Its taker wakes it no more then. Where that wake comes first it goes on from where
+    /// it sleeps.
     pub fn deadline(&mut self, thread: usize)
         requires may { may_expire (state self.old) thread ≡ true }
         ensures { IsExpired thread (state self.old) (state self.new) }
@@ -164,8 +186,9 @@ impl<A: Allocator> RowMachine<A> {
         }
     }
 
-    /// Whether a thread may begin that call at a lock: it is in no call, the lock is of a kind that takes it, and it gives up what it owns there, or
-    /// asks for a lock of which it owns nothing, or reads once more under a recursive lock that it reads fewer than 255 times.
+    /// Whether a thread may begin that call at a lock: it is in no call, the lock is of a kind that takes it, and it
+    /// gives up what it owns there, or asks for a lock of which it owns nothing, or reads once more under a recursive
+    /// lock that it reads fewer than 255 times.
     pub fn may_begin(&self, thread: usize, lock: usize, call: LockCall) -> bool
         ensures { result ≡ may_begin (state self.now) thread lock call }
     {
@@ -175,8 +198,8 @@ impl<A: Allocator> RowMachine<A> {
             && self.hold(thread, lock).allows(self.kind_or_rw(lock), call)
     }
 
-    /// A thread begins a call at a lock. It is the call's first step, and adds to the steps that are left a number that depends on the call and
-    /// on how many threads there are.
+    /// A thread begins a call at a lock. It is the call's first step, and adds to the steps that are left a number that
+    /// depends on the call and on how many threads there are.
     pub fn begin(&mut self, thread: usize, lock: usize, call: LockCall)
         requires may { may_begin (state self.old) thread lock call ≡ true }
         ensures { IsBegun thread lock call (state self.old) (state self.new) }
@@ -195,11 +218,11 @@ impl<A: Allocator> RowMachine<A> {
         );
     }
 
-    /// A thread makes one step. `fair` says whether it hands a lock over, where it stores in the section of an exclusive release. Answers how
-    /// the call ended, where it did.
+    /// A thread makes one step. `fair` says whether it hands a lock over, where it stores in the section of an
+    /// exclusive release. Answers how the call ended, where it did.
     ///
-    /// Each step lowers the steps that are left of all threads' calls, where the same thread is stepped on. So no thread can be stepped for
-    /// ever: it sleeps, is shut out of a section or is answered.
+    /// Each step lowers the steps that are left of all threads' calls, where the same thread is stepped on. So no
+    /// thread can be stepped for ever: it sleeps, is shut out of a section or is answered.
     pub fn step(&mut self, thread: usize, fair: bool) -> Option<CoreAnswer>
         requires can { can_move (state self.old) thread ≡ true }
         ensures { IsStepped thread fair result (state self.old) (state self.new) }

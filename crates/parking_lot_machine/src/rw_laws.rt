@@ -1,5 +1,10 @@
 //! What a core is told at a sound reader-writer lock is a step of the rules there.
-ghost use Rattle.parking_lot_machine.specs.RwLaws.{ActsCross, AnswersAreLast, AnswersAreMoves, BeginsAreReady, CallsKeep, EndsAreSteps, ScansGoByTokens, FreeSectionsAreEmpty, JoinsAreSteps, ListsAreKnown, MakesAreSteps, OnlySleepersStand, SleepersAreKnown, StaysAreSteps, StoresAreSteps, StoresTell, TakesAreSteps, TokensSay, TokensTell, WakesAreSteps, WokenAreTold, WordsAreNumbers, WritersAreTaken};
+ghost use Rattle.parking_lot_machine.specs.RwLaws.{ActsCross, AnswersAreLast, AnswersAreMoves, BeginsAreReady};
+ghost use Rattle.parking_lot_machine.specs.RwLaws.{CallsKeep, EndsAreSteps, ScansGoByTokens, FreeSectionsAreEmpty};
+ghost use Rattle.parking_lot_machine.specs.RwLaws.{JoinsAreSteps, ListsAreKnown, MakesAreSteps, OnlySleepersStand};
+ghost use Rattle.parking_lot_machine.specs.RwLaws.{SleepersAreKnown, StaysAreSteps, StoresAreSteps, StoresTell};
+ghost use Rattle.parking_lot_machine.specs.RwLaws.{TakesAreSteps, TokensSay, TokensTell, WakesAreSteps, WokenAreTold};
+ghost use Rattle.parking_lot_machine.specs.RwLaws.{WordsAreNumbers, WritersAreTaken};
 
 /// The parts of a word and its number say the same.
 pub fn words_are_numbers()

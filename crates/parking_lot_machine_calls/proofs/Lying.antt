@@ -4,23 +4,27 @@ use Rattle.parking_lot_core_model.specs.declared.parking.ParkToken.{ParkToken}
 use Rattle.parking_lot_protocol.specs.declared.rw_phase.RwPhase.{RwPhase}
 use Rattle.parking_lot_protocol_rw.specs.declared.upgrade_phase.UpgradePhase.{UpgradePhase}
 use Rattle.parking_lot_machine_calls.specs.Stances as stances
-use Rattle.parking_lot_machine_calls.specs.Stances.{Asleep, Doing, In, Joins, Out, Stance, Takes, back_as, late_rw_stance, lying, sleeper_asleep, sleeper_stance, found_as}
+use Rattle.parking_lot_machine_calls.specs.Stances.{Asleep, Doing, In, Joins, Out, Stance, Takes, back_as}
+use Rattle.parking_lot_machine_calls.specs.Stances.{late_rw_stance, lying, sleeper_asleep, sleeper_stance, found_as}
 use Rattle.parking_lot_machine_calls.specs.CallActs.{joins}
 use Rattle.parking_lot_machine_calls.specs.declared.late_rw.LateRwPhase.{LateRwPhase}
 use Rattle.parking_lot_machine_calls.specs.declared.late_rw.RwSleeper.{RwSleeper}
 
 -- one that sleeps stands in a list
-rw_lies : (p : RwPhase) → stances.rw_asleep p ≡ true → (key : ℕ) × (park : ParkToken) × (stances.rw_stance p ≡ Asleep key park)
+rw_lies : (p : RwPhase) → stances.rw_asleep p ≡ true → (key : ℕ) × (park : ParkToken)
+    × (stances.rw_stance p ≡ Asleep key park)
 rw_lies (RwPhase.Sleeps want) e = (0, _, refl)
 rw_lies (RwPhase.DrainSleeps rounds) e = (1, _, refl)
 rw_lies p e = absurd cc
 
-seeks_lies : (p : RwPhase) → stances.rw_asleep p ≡ true → (key : ℕ) × (park : ParkToken) × (stances.seeks_stance p ≡ Asleep key park)
+seeks_lies : (p : RwPhase) → stances.rw_asleep p ≡ true → (key : ℕ) × (park : ParkToken)
+    × (stances.seeks_stance p ≡ Asleep key park)
 seeks_lies (RwPhase.Sleeps want) e = (0, _, refl)
 seeks_lies (RwPhase.DrainSleeps rounds) e = (1, _, refl)
 seeks_lies p e = absurd cc
 
-upgrade_lies : (p : UpgradePhase) → stances.upgrade_asleep p ≡ true → (key : ℕ) × (park : ParkToken) × (stances.upgrade_stance p ≡ Asleep key park)
+upgrade_lies : (p : UpgradePhase) → stances.upgrade_asleep p ≡ true → (key : ℕ) × (park : ParkToken)
+    × (stances.upgrade_stance p ≡ Asleep key park)
 upgrade_lies (UpgradePhase.Plain core) e = rw_lies core.phase e
 upgrade_lies (UpgradePhase.Seeks core) e = seeks_lies core.phase e
 upgrade_lies (UpgradePhase.Drains core) e = rw_lies core.phase e
@@ -28,7 +32,8 @@ upgrade_lies (UpgradePhase.Frees r core) e = rw_lies core.phase e
 upgrade_lies (UpgradePhase.Owes kept end core) e = rw_lies core.phase e
 upgrade_lies p e = absurd cc
 
-pub asleep_lies : (k : RwSleeper) → sleeper_asleep k ≡ true → (key : ℕ) × (park : ParkToken) × (sleeper_stance k ≡ Asleep key park)
+pub asleep_lies : (k : RwSleeper) → sleeper_asleep k ≡ true → (key : ℕ) × (park : ParkToken)
+    × (sleeper_stance k ≡ Asleep key park)
 asleep_lies (RwSleeper.Simple c) e = rw_lies c.phase e
 asleep_lies (RwSleeper.Upgradable c) e = upgrade_lies c.phase e
 

@@ -1,10 +1,13 @@
 -- Where a phase stands, act by act.
-use Rattle.std.proofs.Common.{◌≡◌, ◌≤◌, ◌<◌, ℕ, ◌+◌, ◌-◌, ◌/◌, ◌%◌, ◌^◌, ◌==◌, ◌&&◌, ◌||◌, inl, inr, nat_lt, not, min, Bool, true, false, cond, Option, Some, None, is_some, Result, Ok, Err, refl, sym, ap, subst, arith}
+use Rattle.std.proofs.Common.{◌≡◌, ◌≤◌, ◌<◌, ℕ, ◌+◌, ◌-◌, ◌/◌, ◌%◌, ◌^◌, ◌==◌, ◌&&◌, ◌||◌, inl, inr, nat_lt, not, min}
+use Rattle.std.proofs.Common.{Bool, true, false, cond, Option, Some, None, is_some, Result, Ok, Err, refl, sym, ap}
+use Rattle.std.proofs.Common.{subst, arith}
 use Rattle.std.proofs.lemmas.Bool.{ltb-true, ltb-false}
 use Rattle.std.specs.Option.{option_map, option_map_or, option_and_then}
 use Rattle.parking_lot_core_model.specs.declared.parking.ParkToken.{ParkToken}
 use Rattle.parking_lot_core_model.specs.declared.parking.UnparkToken.{UnparkToken}
-use Rattle.parking_lot_protocol.specs.Acts.{Gives, is_start, is_entered, is_made, word_seen, word_before, exchange_seen, spun_seen, took_seen, stored_seen, woken_seen}
+use Rattle.parking_lot_protocol.specs.Acts.{Gives, is_start, is_entered, is_made, word_seen, word_before, exchange_seen}
+use Rattle.parking_lot_protocol.specs.Acts.{spun_seen, took_seen, stored_seen, woken_seen}
 use Rattle.parking_lot_protocol.specs.MutexTable as mt
 use Rattle.parking_lot_protocol.specs.RwTable as rt
 use Rattle.parking_lot_protocol.specs.declared.act.Act.{Act}
@@ -22,7 +25,9 @@ use Rattle.parking_lot_protocol.specs.declared.rw_phase.Seeking.{Seeking}
 use Rattle.parking_lot_protocol.specs.declared.rw_phase.LockMode.{LockMode}
 use Rattle.parking_lot_machine_calls.specs.declared.seat.LatePhase.{LatePhase}
 use Rattle.parking_lot_machine_calls.specs.declared.seat.Core.{Core}
-use Rattle.parking_lot_machine_calls.specs.Stances.{Takes, Stores, Tells, Stance, Out, In, Asleep, sign, mutex_stance, late_act, late_next, late_stance, rw_stance, stance, mutex_taken, rw_taken, taken_count, core_act}
+use Rattle.parking_lot_machine_calls.specs.Stances.{Takes, Stores, Tells, Stance, Out, In, Asleep, sign, mutex_stance}
+use Rattle.parking_lot_machine_calls.specs.Stances.{late_act, late_next, late_stance, rw_stance, stance, mutex_taken}
+use Rattle.parking_lot_machine_calls.specs.Stances.{rw_taken, taken_count, core_act}
 use Rattle.parking_lot_machine_calls.specs.StanceLaws.{Leads, LeadsCore, rw_counts, TakesOne, IsOver, HasSmallKey}
 use Rattle.parking_lot_rules.specs.Classes.{bit}
 
@@ -55,7 +60,9 @@ pub mutex_leads : (p : MutexPhase) (word : ℕ) (s : ActResult) → Gives (mt.ac
 mutex_leads (MutexPhase.Loads a) word (ActResult.Word w) g = let i = seeks_idle a w in (refl, i.0, i.1)
 mutex_leads (MutexPhase.Locks a waiters) word ActResult.Exchanged g = (refl, refl, refl)
 mutex_leads (MutexPhase.Locks a waiters) word (ActResult.Word w) g = let i = seeks_idle a w in (refl, i.0, i.1)
-mutex_leads (MutexPhase.Spins a) word (ActResult.Spun spun) g = let i = pick Idle spun (MutexPhase.Loads (record a { rounds = a.rounds - 1 })) (MutexPhase.Parks a) (refl, refl) (refl, refl) in (refl, i.0, i.1)
+mutex_leads (MutexPhase.Spins a) word (ActResult.Spun spun) g = let i =
+    pick Idle spun (MutexPhase.Loads (record a { rounds = a.rounds - 1 })) (MutexPhase.Parks a) (refl, refl)
+    (refl, refl) in (refl, i.0, i.1)
 mutex_leads (MutexPhase.Parks a) word ActResult.Exchanged g = (refl, refl, refl)
 mutex_leads (MutexPhase.Parks a) word (ActResult.Word w) g = let i = seeks_idle a w in (refl, i.0, i.1)
 mutex_leads (MutexPhase.Enters woken) word ActResult.Entered g = (refl, inl refl, refl)
@@ -75,14 +82,16 @@ mutex_leads (MutexPhase.TryLocks waiters left) word (ActResult.Word w) g = let i
 mutex_leads MutexPhase.BumpLoads word (ActResult.Word w) g =
     let i = pick Idle (w / 2 % 2 == 1) (MutexPhase.Unlocks (record { fair = true; again = true })) (MutexPhase.Ends answer.Owned) (refl, refl) (refl, refl) in (refl, i.0, i.1)
 mutex_leads MutexPhase.Relocks word (ActResult.Word w) g = let i = seeks_idle (mt.begins false) w in (refl, i.0, i.1)
-mutex_leads (MutexPhase.Unlocks a) word ActResult.Exchanged g = let i = pick Idle a.again MutexPhase.Relocks (MutexPhase.Ends answer.Released) (refl, refl) (refl, refl) in (refl, i.0, i.1)
+mutex_leads (MutexPhase.Unlocks a) word ActResult.Exchanged g = let i = pick Idle a.again MutexPhase.Relocks
+    (MutexPhase.Ends answer.Released) (refl, refl) (refl, refl) in (refl, i.0, i.1)
 mutex_leads (MutexPhase.Unlocks a) word (ActResult.Word w) g = (refl, refl, refl)
 mutex_leads (MutexPhase.Looks a) word ActResult.Entered g = (refl, inr refl, refl)
 mutex_leads (MutexPhase.Takes a) word (ActResult.Took None left) g = (0, refl, (refl, refl))
 mutex_leads (MutexPhase.Takes a) word (ActResult.Took (Some token) left) g = (0, refl, tt)
 mutex_leads (MutexPhase.Stores a taken left) word (ActResult.Stored fair) g = go (taken && (a.fair || fair))
   where
-    go : (b : Bool) → Leads (mt.act_of (MutexPhase.Stores a taken left)) (ActResult.Stored fair) (In 0 Stores) (In 0 (Tells (sign b))) (bit taken) (bit taken) (mt.wakes_with (MutexPhase.Leaves a taken b))
+    go : (b : Bool) → Leads (mt.act_of (MutexPhase.Stores a taken left)) (ActResult.Stored fair) (In 0 Stores)
+        (In 0 (Tells (sign b))) (bit taken) (bit taken) (mt.wakes_with (MutexPhase.Leaves a taken b))
     go true = (0, refl, refl, refl)
     go false = (0, refl, refl, refl)
 mutex_leads (MutexPhase.Leaves a true handed) word ActResult.Made g = inr (inr (0, sign handed, refl, refl, refl))
@@ -90,7 +99,8 @@ mutex_leads (MutexPhase.Leaves a false handed) word ActResult.Made g = inr (inr 
 mutex_leads (MutexPhase.Wakes a) word ActResult.Made g = (refl, refl, refl)
 mutex_leads (MutexPhase.Finishes a) word s g = go a.again s g
   where
-    go : (b : Bool) (s : ActResult) → Gives (cond b Act.Load (Act.Done answer.Released)) word s → let q = option_map_or (λ p. p) (cond b (option_map (λ w. MutexPhase.Relocks) (word_seen s)) None) MutexPhase.Invalid in
+    go : (b : Bool) (s : ActResult) → Gives (cond b Act.Load (Act.Done answer.Released)) word s → let q =
+        option_map_or (λ p. p) (cond b (option_map (λ w. MutexPhase.Relocks) (word_seen s)) None) MutexPhase.Invalid in
         Leads (cond b Act.Load (Act.Done answer.Released)) s Out (mutex_stance q) 0 (mutex_taken q) (mt.wakes_with q)
     go true (ActResult.Word w) g = (refl, refl, refl)
     go false s g = absurd g
@@ -106,7 +116,8 @@ pub rw_seeks_idle : (a : Seeking) (word : ℕ) → RwIdle (rt.seeks a word)
 rw_seeks_idle a word =
     pick RwIdle (rt.is_admitted a.want word) _ _ (refl, refl)
     (pick RwIdle (rt.is_barred a.want word) _ _
-    (pick RwIdle (not (rt.is_parked word || rt.is_writer_parked word) && nat_lt 0 a.rounds) _ _ (refl, refl) (pick RwIdle (rt.is_parked word) _ _ (refl, refl) (refl, refl))) (refl, refl))
+    (pick RwIdle (not (rt.is_parked word || rt.is_writer_parked word) && nat_lt 0 a.rounds) _ _ (refl, refl)
+    (pick RwIdle (rt.is_parked word) _ _ (refl, refl) (refl, refl))) (refl, refl))
 
 drains_idle : (d : Draining) (word : ℕ) → RwIdle (rt.drains d word)
 drains_idle d word =
@@ -137,14 +148,17 @@ bumps_idle LockMode.Exclusive word = pick RwIdle (rt.is_parked word) _ _ (refl, 
 wakes_count : (rest : AfterWake) (count : ℕ) → (rw_stance (rt.wakes rest count) ≡ Out) × (rw_taken (rt.wakes rest count) ≡ count)
 wakes_count rest count = go (nat_lt 0 count) refl
   where
-    go : (b : Bool) → nat_lt 0 count ≡ b → (rw_stance (cond b (RwPhase.Wakes rest count) (RwPhase.Finishes rest)) ≡ Out) × (rw_taken (cond b (RwPhase.Wakes rest count) (RwPhase.Finishes rest)) ≡ count)
+    go : (b : Bool) → nat_lt 0 count ≡ b → (rw_stance (cond b (RwPhase.Wakes rest count) (RwPhase.Finishes rest)) ≡ Out)
+        × (rw_taken (cond b (RwPhase.Wakes rest count) (RwPhase.Finishes rest)) ≡ count)
     go true e = (refl, refl)
     go false e = let z : count ≤ 0 = ltb-false 0 count e in (refl, omega arith)
 
 abbrev LeadsRw : RwPhase → ActResult → RwPhase → Type 0
 LeadsRw p s q = Leads (rt.act_of p) s (rw_stance p) (rw_stance q) (rw_taken p) (rw_taken q) (rt.wakes_with q)
 
-finishes : (rest : AfterWake) (word : ℕ) (s : ActResult) → Gives (rt.last_act rest) word s → Leads (rt.last_act rest) s Out (rw_stance (rt.next_phase (RwPhase.Finishes rest) s)) 0 (rw_taken (rt.next_phase (RwPhase.Finishes rest) s)) (rt.wakes_with (rt.next_phase (RwPhase.Finishes rest) s))
+finishes : (rest : AfterWake) (word : ℕ) (s : ActResult) → Gives (rt.last_act rest) word s
+    → Leads (rt.last_act rest) s Out (rw_stance (rt.next_phase (RwPhase.Finishes rest) s)) 0
+    (rw_taken (rt.next_phase (RwPhase.Finishes rest) s)) (rt.wakes_with (rt.next_phase (RwPhase.Finishes rest) s))
 finishes AfterWake.AgainShared word (ActResult.Word w) g = (refl, refl, refl)
 finishes AfterWake.AgainExclusive word (ActResult.Word w) g = (refl, refl, refl)
 finishes rest word s g = absurd g
@@ -186,7 +200,9 @@ rw_leads (RwPhase.TryAdmits want from left) word ActResult.Exchanged g = (refl, 
 rw_leads (RwPhase.TryAdmits want from left) word (ActResult.Word w) g = let i = rw_retries_idle want left w in (refl, i.0, i.1)
 rw_leads (RwPhase.BumpLoads want) word (ActResult.Word w) g = let i = bumps_idle want w in (refl, i.0, i.1)
 rw_leads (RwPhase.Relocks want) word (ActResult.Word w) g = let i = rw_seeks_idle (rt.begins want false) w in (refl, i.0, i.1)
-rw_leads (RwPhase.Unshares rest) word (ActResult.Before w) g = let i = pick RwIdle (w / 16 == 1 && rt.is_writer_parked w) (RwPhase.EnterWriterWakeSection rest) (rt.over rest) (refl, refl) (over_idle rest) in (refl, i.0, i.1)
+rw_leads (RwPhase.Unshares rest) word (ActResult.Before w) g = let i =
+    pick RwIdle (w / 16 == 1 && rt.is_writer_parked w) (RwPhase.EnterWriterWakeSection rest) (rt.over rest) (refl, refl)
+    (over_idle rest) in (refl, i.0, i.1)
 rw_leads (RwPhase.EnterWriterWakeSection rest) word ActResult.Entered g = (refl, inr refl, refl)
 rw_leads (RwPhase.TakeWriter rest) word (ActResult.Took None left) g = (1, refl, (refl, refl))
 rw_leads (RwPhase.TakeWriter rest) word (ActResult.Took (Some token) left) g = (1, refl, tt)
@@ -195,13 +211,16 @@ rw_leads (RwPhase.LeaveWriterWakeSection rest taken) word ActResult.Made g = let
 rw_leads (RwPhase.Unlocks fair rest) word ActResult.Exchanged g = let i = over_idle rest in (refl, i.0, i.1)
 rw_leads (RwPhase.Unlocks fair rest) word (ActResult.Word w) g = (refl, refl, refl)
 rw_leads (RwPhase.LooksExclusive fair rest) word ActResult.Entered g = (refl, inr refl, refl)
-rw_leads RwPhase.Downgrades word (ActResult.Before w) g = let i = pick RwIdle (rt.is_parked w) RwPhase.EnterWakeSection (RwPhase.Ends outcome.Downgraded) (refl, refl) (refl, refl) in (refl, i.0, i.1)
+rw_leads RwPhase.Downgrades word (ActResult.Before w) g = let i = pick RwIdle (rt.is_parked w) RwPhase.EnterWakeSection
+    (RwPhase.Ends outcome.Downgraded) (refl, refl) (refl, refl) in (refl, i.0, i.1)
 rw_leads RwPhase.EnterWakeSection word ActResult.Entered g = (refl, inr refl, refl)
 rw_leads (RwPhase.Scans a) word (ActResult.Took None left) g = (0, refl, (refl, refl))
 rw_leads (RwPhase.Scans a) word (ActResult.Took (Some token) left) g = (0, refl, tt)
 rw_leads (RwPhase.Stores a left) word (ActResult.Stored fair) g = go (rt.hands a (a.fair || fair))
   where
-    go : (b : Bool) → Leads (rt.act_of (RwPhase.Stores a left)) (ActResult.Stored fair) (In 0 Stores) (In 0 (Tells (sign b))) (rt.count_of a) (rt.count_of a) (rt.wakes_with (RwPhase.Leaves a.rest (rt.count_of a) b))
+    go : (b : Bool) → Leads (rt.act_of (RwPhase.Stores a left)) (ActResult.Stored fair) (In 0 Stores)
+        (In 0 (Tells (sign b))) (rt.count_of a) (rt.count_of a)
+        (rt.wakes_with (RwPhase.Leaves a.rest (rt.count_of a) b))
     go true = (0, refl, refl, refl)
     go false = (0, refl, refl, refl)
 rw_leads (RwPhase.Leaves rest count handed) word ActResult.Made g = let i = wakes_count rest count in inr (inr (0, sign handed, refl, i.0, i.1))
@@ -217,7 +236,8 @@ late_leads LatePhase.Quits word (ActResult.Woken token) g = λ k park e. (refl, 
 late_leads LatePhase.Masks word (ActResult.Before w) g = (0, refl, refl, refl)
 late_leads LatePhase.Leaves word ActResult.Made g = inr (inr (0, sign false, refl, refl, refl))
 late_leads (LatePhase.WasTaken by handed) word ActResult.Made g =
-    let i = pick Idle ((sign handed).0 == 1) (MutexPhase.Ends answer.Owned) (MutexPhase.Loads (mt.begins true)) (refl, refl) (refl, refl) in inr (inr (0, sign false, refl, i.0, i.1))
+    let i = pick Idle ((sign handed).0 == 1) (MutexPhase.Ends answer.Owned) (MutexPhase.Loads (mt.begins true))
+    (refl, refl) (refl, refl) in inr (inr (0, sign false, refl, i.0, i.1))
 late_leads p word s g = absurd g
 
 -- WHOM A CALL HAS TAKEN
@@ -227,22 +247,31 @@ pub mutex_takes : (p : MutexPhase) (word : ℕ) (token : ParkToken) (left : Bool
 mutex_takes (MutexPhase.Takes a) word token left g = (0, omega arith, refl, inr refl, refl)
 mutex_takes (MutexPhase.Finishes a) word token left g = go a.again g
   where
-    go : (b : Bool) → Gives (cond b Act.Load (Act.Done answer.Released)) word (ActResult.Took (Some token) left) → TakesOne Out (mutex_stance (mt.next_phase (MutexPhase.Finishes a) (ActResult.Took (Some token) left))) 0 (mutex_taken (mt.next_phase (MutexPhase.Finishes a) (ActResult.Took (Some token) left)))
+    go : (b : Bool) → Gives (cond b Act.Load (Act.Done answer.Released)) word (ActResult.Took (Some token) left)
+        → TakesOne Out (mutex_stance (mt.next_phase (MutexPhase.Finishes a) (ActResult.Took (Some token) left))) 0
+        (mutex_taken (mt.next_phase (MutexPhase.Finishes a) (ActResult.Took (Some token) left)))
     go true g = absurd g
     go false g = absurd g
 mutex_takes p word token left g = absurd g
 
 -- a scan that goes on or stores
 goes : (left : Bool) (a b : Scanning) → rt.count_of b ≡ rt.count_of a + 1 → TakesOne (In 0 Takes) (rw_stance (rt.goes_on left b)) (rt.count_of a) (rw_taken (rt.goes_on left b))
-goes left a b e = pick (λ (p : RwPhase). TakesOne (In 0 Takes) (rw_stance p) (rt.count_of a) (rw_taken p)) (left && not b.writer) (RwPhase.Scans b) (RwPhase.Stores b left) (0, omega arith, refl, inl refl, e) (0, omega arith, refl, inr refl, e)
+goes left a b e = pick (λ (p : RwPhase). TakesOne (In 0 Takes) (rw_stance p) (rt.count_of a) (rw_taken p))
+    (left && not b.writer) (RwPhase.Scans b) (RwPhase.Stores b left) (0, omega arith, refl, inl refl, e)
+    (0, omega arith, refl, inr refl, e)
 
 abbrev CountsAt : Scanning → Bool → ℕ → Type 0
 CountsAt a left n = let q = option_map_or (λ p. p) (rt.scans a (Some (record { 0 = n })) left) RwPhase.Invalid in TakesOne (In 0 Takes) (rw_stance q) (rt.count_of a) (rw_taken q)
 
-scan_takes : (a : Scanning) (token : ParkToken) (left : Bool) → rw_counts (RwPhase.Scans a) token → let q = rt.next_phase (RwPhase.Scans a) (ActResult.Took (Some token) left) in TakesOne (In 0 Takes) (rw_stance q) (rt.count_of a) (rw_taken q)
-scan_takes a token left (inl h) = subst (CountsAt a left) (sym h.0) (let room : a.shared < 2 ^ 32 - 1 = h.1 in goes left a (record a { shared = min (a.shared + 1) (2 ^ 32 - 1) }) (omega arith))
+scan_takes : (a : Scanning) (token : ParkToken) (left : Bool) → rw_counts (RwPhase.Scans a) token → let q =
+    rt.next_phase (RwPhase.Scans a) (ActResult.Took (Some token) left) in TakesOne (In 0 Takes) (rw_stance q)
+    (rt.count_of a) (rw_taken q)
+scan_takes a token left (inl h) = subst (CountsAt a left) (sym h.0)
+    (let room : a.shared < 2 ^ 32 - 1 = h.1 in goes left a (record a { shared = min (a.shared + 1) (2 ^ 32 - 1) })
+    (omega arith))
 scan_takes a token left (inr (inl h)) = subst (CountsAt a left) (sym h.0) (let was : bit a.writer ≡ 0 = ap bit h.1 in goes left a (record a { writer = true }) (omega arith))
-scan_takes a token left (inr (inr h)) = subst (CountsAt a left) (sym h.0) (let was : bit a.upgradable ≡ 0 = ap bit h.1 in goes left a (record a { upgradable = true }) (omega arith))
+scan_takes a token left (inr (inr h)) = subst (CountsAt a left) (sym h.0)
+    (let was : bit a.upgradable ≡ 0 = ap bit h.1 in goes left a (record a { upgradable = true }) (omega arith))
 
 pub rw_takes : (p : RwPhase) (word : ℕ) (token : ParkToken) (left : Bool) → let s = ActResult.Took (Some token) left in
     Gives (rt.act_of p) word s → rw_counts p token → TakesOne (rw_stance p) (rw_stance (rt.next_phase p s)) (rw_taken p) (rw_taken (rt.next_phase p s))
@@ -318,7 +347,8 @@ IsUp a = Unit {0}
 pub not_asleep : {a : Stance} {k : ℕ} {token : ParkToken} → IsUp a → a ≡ Asleep k token → ⊥
 not_asleep h e = subst IsUp e h
 
-pub mutex_wakes : (p : MutexPhase) (k : ℕ) (token : ParkToken) (said : UnparkToken) → mutex_stance p ≡ Asleep k token → (mutex_taken p ≡ 0) × Idle (mt.next_phase p (ActResult.Woken said))
+pub mutex_wakes : (p : MutexPhase) (k : ℕ) (token : ParkToken) (said : UnparkToken) → mutex_stance p ≡ Asleep k token
+    → (mutex_taken p ≡ 0) × Idle (mt.next_phase p (ActResult.Woken said))
 mutex_wakes MutexPhase.Sleeps k token said e = (refl, pick Idle (said.0 == 1) (MutexPhase.Ends answer.Owned) (MutexPhase.Loads (mt.begins true)) (refl, refl) (refl, refl))
 mutex_wakes p k token said e = absurd (not_asleep {a = mutex_stance p} tt e)
 
@@ -446,22 +476,33 @@ module _ (P : RwPhase → Type 0) (easy : (q : RwPhase) → IsEasy q → P q) (w
   next_so (RwPhase.Appends want) s patient = absurd patient
   next_so (RwPhase.Rests want) s patient = absurd patient
   next_so (RwPhase.Retreats want woken) s patient = if_once (is_made s) _ (easy _ tt)
-  next_so (RwPhase.Sleeps want) s patient = if_seen (woken_seen s) _ (λ (token : UnparkToken). pick P (token.0 == 1) (rt.admits want true) (RwPhase.Loads (rt.begins want true)) (admits_so want true) (easy _ tt))
+  next_so (RwPhase.Sleeps want) s patient =
+      if_seen (woken_seen s) _
+      (λ (token : UnparkToken). pick P (token.0 == 1) (rt.admits want true) (RwPhase.Loads (rt.begins want true))
+      (admits_so want true) (easy _ tt))
   next_so (RwPhase.DrainLoads d) s patient = if_seen (word_seen s) _ (drains_so d)
   next_so (RwPhase.DrainSpins d) s patient = if_seen (spun_seen s) (λ spun. RwPhase.DrainLoads (record d { rounds = cond spun (d.rounds - 1) 0 })) (λ x. (easy _ tt))
   next_so (RwPhase.DrainSetParked d word) s patient = if_seen (exchange_seen s) _ (won_so (RwPhase.DrainEnters d) (rt.drains d) (easy _ tt) (drains_so d))
   next_so (RwPhase.DrainEnters d) s patient = if_once (is_entered s) _ (easy _ tt)
-  next_so (RwPhase.DrainChecks d) s patient = if_seen (word_seen s) _ (λ w. pick P (rt.has_readers w && rt.is_writer_parked w) (RwPhase.DrainAppends d.rounds) (RwPhase.DrainRetreats d) (easy _ tt) (easy _ tt))
+  next_so (RwPhase.DrainChecks d) s patient =
+      if_seen (word_seen s) _
+      (λ w. pick P (rt.has_readers w && rt.is_writer_parked w) (RwPhase.DrainAppends d.rounds) (RwPhase.DrainRetreats d)
+      (easy _ tt) (easy _ tt))
   next_so (RwPhase.DrainRetreats d) s patient = if_once (is_made s) _ (easy _ tt)
   next_so (RwPhase.DrainAppends rounds) s patient = if_once (is_made s) _ (easy _ tt)
   next_so (RwPhase.DrainRests rounds) s patient = if_once (is_made s) _ (easy _ tt)
   next_so (RwPhase.DrainSleeps rounds) s patient = if_seen (woken_seen s) (λ token. RwPhase.DrainLoads (record { woken = true; rounds = rounds })) (λ x. (easy _ tt))
   next_so (RwPhase.TryLoads want) s patient = if_seen (word_seen s) _ (tries_so want 63)
-  next_so (RwPhase.TryAdmits want word left) s patient = if_seen (exchange_seen s) _ (won_so (RwPhase.Ends (rt.gains want)) (rt.retries want left) (easy _ tt) (retries_so want left))
+  next_so (RwPhase.TryAdmits want word left) s patient =
+      if_seen (exchange_seen s) _
+      (won_so (RwPhase.Ends (rt.gains want)) (rt.retries want left) (easy _ tt) (retries_so want left))
   next_so (RwPhase.Refuses want) s patient = (easy _ tt)
   next_so (RwPhase.BumpLoads want) s patient = if_seen (word_seen s) _ (bumps_so want)
   next_so (RwPhase.Relocks want) s patient = if_seen (word_seen s) _ (seeks_so (rt.begins want false))
-  next_so (RwPhase.Unshares rest) s patient = if_seen (word_before s) _ (λ w. pick P (w / 16 == 1 && rt.is_writer_parked w) (RwPhase.EnterWriterWakeSection rest) (rt.over rest) (easy _ tt) (over_so rest))
+  next_so (RwPhase.Unshares rest) s patient =
+      if_seen (word_before s) _
+      (λ w. pick P (w / 16 == 1 && rt.is_writer_parked w) (RwPhase.EnterWriterWakeSection rest) (rt.over rest)
+      (easy _ tt) (over_so rest))
   next_so (RwPhase.EnterWriterWakeSection rest) s patient = if_once (is_entered s) _ (easy _ tt)
   next_so (RwPhase.TakeWriter rest) s patient = if_seen (took_seen s) (λ t. RwPhase.ClearWriterParked rest (is_some t.token)) (λ x. (easy _ tt))
   next_so (RwPhase.ClearWriterParked rest taken) s patient = if_seen (word_before s) (λ w. RwPhase.LeaveWriterWakeSection rest taken) (λ x. (easy _ tt))

@@ -1,7 +1,8 @@
 -- How one owns a lock whose moment has passed, however far it has come.
 use Rattle.std.proofs.Common.{◌≡◌, refl}
 use Rattle.parking_lot_rules.specs.Owners.{owner_of}
-use Rattle.parking_lot_rules.specs.Roles.{Handed, Normal, Open, Owned, Phase, Queued1, Queued2, Role, Stay, Taken1, Taken2}
+use Rattle.parking_lot_rules.specs.Roles.{Handed, Normal, Open, Owned, Phase, Queued1, Queued2, Role, Stay, Taken1}
+use Rattle.parking_lot_rules.specs.Roles.{Taken2}
 use Rattle.parking_lot_machine_calls.specs.CallViews.{mode_of, rw_mode}
 use Rattle.parking_lot_machine_calls.specs.LateRoles.{staying, stays}
 

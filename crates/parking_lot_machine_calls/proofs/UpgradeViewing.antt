@@ -5,11 +5,13 @@ use Rattle.parking_lot_protocol.specs.Positions as positions
 use Rattle.parking_lot_protocol.specs.RwRules as rw
 use Rattle.parking_lot_protocol.specs.declared.rw_phase.RwPhase.{RwPhase}
 use Rattle.parking_lot_protocol.specs.declared.rw_phase.Scanning.{Scanning}
-use Rattle.parking_lot_protocol_rw.specs.UpgradeRoles.{for_release, for_upgradable, for_upgrade, owned, owned_in_release, role}
+use Rattle.parking_lot_protocol_rw.specs.UpgradeRoles.{for_release, for_upgradable, for_upgrade, owned}
+use Rattle.parking_lot_protocol_rw.specs.UpgradeRoles.{owned_in_release, role}
 use Rattle.parking_lot_protocol_rw.specs.UpgradeRules.{IsDraining, IsFreeing, IsOwing, IsReady, IsSeeking}
 use Rattle.parking_lot_protocol_rw.specs.declared.upgrade_phase.Hold.{Hold}
 use Rattle.parking_lot_protocol_rw.specs.declared.upgrade_phase.UpgradePhase.{UpgradePhase}
-use Rattle.parking_lot_machine_calls.specs.CallViews.{drainer_mode, freer_mode, kept_mode, rw_mode, seeker_mode, upgrade_mode}
+use Rattle.parking_lot_machine_calls.specs.CallViews.{drainer_mode, freer_mode, kept_mode, rw_mode, seeker_mode}
+use Rattle.parking_lot_machine_calls.specs.CallViews.{upgrade_mode}
 use Rattle.parking_lot_machine_calls.specs.CallKinds.{IsOfWorld}
 use Rattle.parking_lot_machine_calls.specs.CallRoles.{rw_spot}
 use Rattle.parking_lot_machine_calls.specs.declared.seat.QueuePosition.{QueuePosition}
@@ -28,7 +30,8 @@ unowned (QueuePosition.Off by WakeResult.TryAgain) q a = refl
 unowned (QueuePosition.Off by WakeResult.HandedOver) (RwPhase.Sleeps want) a = absurd a
 unowned (QueuePosition.Off by WakeResult.HandedOver) q a = refl
 
-none_there : (at : positions.QueuePosition) (us : List ℕ) (q : RwPhase) → IsSeeking q → IsAwake q → rw_mode (record { owns = Shares 0; does = for_upgradable (rw.does at us q) }) ≡ None
+none_there : (at : positions.QueuePosition) (us : List ℕ) (q : RwPhase) → IsSeeking q → IsAwake q
+    → rw_mode (record { owns = Shares 0; does = for_upgradable (rw.does at us q) }) ≡ None
 none_there at us (RwPhase.Sleeps want) i a = absurd a
 none_there at us (RwPhase.DrainLoads d) i a = absurd i
 none_there at us (RwPhase.DrainSpins d) i a = absurd i
@@ -43,7 +46,8 @@ none_there at us (RwPhase.Scans s) i a = absurd i
 none_there at us (RwPhase.Stores s left) i a = absurd i
 none_there at us q i a = refl
 
-seeks_so : (at : QueuePosition) (us : List ℕ) (q : RwPhase) → IsSeeking q → seeker_mode at q ≡ rw_mode (record { owns = Shares 0; does = for_upgradable (rw.does (rw_spot at) us q) })
+seeks_so : (at : QueuePosition) (us : List ℕ) (q : RwPhase) → IsSeeking q
+    → seeker_mode at q ≡ rw_mode (record { owns = Shares 0; does = for_upgradable (rw.does (rw_spot at) us q) })
 seeks_so QueuePosition.Listed us (RwPhase.Sleeps want) i = refl
 seeks_so (QueuePosition.Off by WakeResult.Nothing) us (RwPhase.Sleeps want) i = refl
 seeks_so (QueuePosition.Off by WakeResult.TryAgain) us (RwPhase.Sleeps want) i = refl
@@ -52,7 +56,8 @@ seeks_so at us q i = unowned at q tt ∙ sym (none_there (rw_spot at) us q i tt)
 
 -- ONE THAT WAITS FOR READERS TO LEAVE
 
-drains_so : (at : positions.QueuePosition) (us : List ℕ) (q : RwPhase) → IsDraining q → drainer_mode q ≡ rw_mode (record { owns = rw.owns 0 q; does = for_upgrade (rw.does at us q) })
+drains_so : (at : positions.QueuePosition) (us : List ℕ) (q : RwPhase) → IsDraining q
+    → drainer_mode q ≡ rw_mode (record { owns = rw.owns 0 q; does = for_upgrade (rw.does at us q) })
 drains_so at us (RwPhase.DrainLoads d) i = refl
 drains_so at us (RwPhase.DrainSpins d) i = refl
 drains_so at us (RwPhase.DrainSetParked d word) i = refl
@@ -68,7 +73,8 @@ drains_so at us q i = absurd i
 
 -- ONE THAT GIVES THE HOLD UP, OR OWES A LOOK
 
-frees_so : (at : positions.QueuePosition) (us : List ℕ) (q : RwPhase) → IsFreeing q → freer_mode q ≡ rw_mode (record { owns = owned_in_release q; does = for_release (rw.does at us q) })
+frees_so : (at : positions.QueuePosition) (us : List ℕ) (q : RwPhase) → IsFreeing q
+    → freer_mode q ≡ rw_mode (record { owns = owned_in_release q; does = for_release (rw.does at us q) })
 frees_so at us (RwPhase.LooksExclusive fair rest) i = refl
 frees_so at us (RwPhase.Scans s) i = refl
 frees_so at us (RwPhase.Stores s left) i = refl
@@ -84,16 +90,21 @@ kept_so Hold.Shared = refl
 kept_so Hold.Upgradable = refl
 kept_so Hold.Exclusive = refl
 
-scans_so : (kept : Hold) (s : Scanning) (us : List ℕ) → kept_mode kept ≡ rw_mode (record { owns = owned kept; does = Scans1 Owed s.shared s.upgradable s.writer us })
+scans_so : (kept : Hold) (s : Scanning) (us : List ℕ)
+    → kept_mode kept ≡ rw_mode (record { owns = owned kept; does = Scans1 Owed s.shared s.upgradable s.writer us })
 scans_so Hold.Nothing s us = refl
 scans_so Hold.Shared s us = refl
 scans_so Hold.Upgradable s us = refl
 scans_so Hold.Exclusive s us = refl
 
-looks_so : (kept : Hold) (s : Scanning) (us : List ℕ) → rw.cause_of s.rest ≡ Owed → kept_mode kept ≡ rw_mode (record { owns = owned kept; does = Scans1 (rw.cause_of s.rest) s.shared s.upgradable s.writer us })
-looks_so kept s us e = scans_so kept s us ∙ sym (ap (λ c. rw_mode (record { owns = owned kept; does = Scans1 c s.shared s.upgradable s.writer us })) e)
+looks_so : (kept : Hold) (s : Scanning) (us : List ℕ) → rw.cause_of s.rest ≡ Owed
+    → kept_mode kept ≡ rw_mode
+    (record { owns = owned kept; does = Scans1 (rw.cause_of s.rest) s.shared s.upgradable s.writer us })
+looks_so kept s us e = scans_so kept s us
+    ∙ sym (ap (λ c. rw_mode (record { owns = owned kept; does = Scans1 c s.shared s.upgradable s.writer us })) e)
 
-owes_so : (at : positions.QueuePosition) (us : List ℕ) (kept : Hold) (q : RwPhase) → IsOwing q → kept_mode kept ≡ rw_mode (record { owns = owned kept; does = rw.does at us q })
+owes_so : (at : positions.QueuePosition) (us : List ℕ) (kept : Hold) (q : RwPhase) → IsOwing q
+    → kept_mode kept ≡ rw_mode (record { owns = owned kept; does = rw.does at us q })
 owes_so at us kept RwPhase.EnterWakeSection i = kept_so kept
 owes_so at us kept (RwPhase.Scans s) i = looks_so kept s us (ap rw.cause_of i)
 owes_so at us kept (RwPhase.Stores s left) i = looks_so kept s us (ap rw.cause_of i)
@@ -104,7 +115,8 @@ owes_so at us kept q i = absurd i
 
 -- IN ANY PHASE
 
-pub mode_so : (n : ℕ) (at : QueuePosition) (us : List ℕ) (p : UpgradePhase) → IsReady p → IsOfWorld p → upgrade_mode at p ≡ rw_mode (role n (rw_spot at) us p)
+pub mode_so : (n : ℕ) (at : QueuePosition) (us : List ℕ) (p : UpgradePhase) → IsReady p → IsOfWorld p
+    → upgrade_mode at p ≡ rw_mode (role n (rw_spot at) us p)
 mode_so n at us (UpgradePhase.Plain core) i o = absurd o
 mode_so n at us (UpgradePhase.Seeks core) i o = seeks_so at us core.phase i.0
 mode_so n at us (UpgradePhase.Drains core) i o = drains_so (rw_spot at) us core.phase i.0

@@ -1,13 +1,16 @@
 -- How a role owns a lock is what the rules count it as.
 use Rattle.std.proofs.Common.{◌≡◌, ℕ, zero, suc, Bool, true, false, refl, arith}
-use Rattle.parking_lot_rules.specs.Roles.{Shared, Exclusive, Upgradable, Owned, Shares, Excludes, Upgrades, Open, Normal, Handed, FromExclusive, FromUpgradable, Owed, Phase, Taken1, Drains, Enters2, Checked2, Queued2, Taken2, Leaves2, Yields, Scans1, Role}
+use Rattle.parking_lot_rules.specs.Roles.{Shared, Exclusive, Upgradable, Owned, Shares, Excludes, Upgrades, Open}
+use Rattle.parking_lot_rules.specs.Roles.{Normal, Handed, FromExclusive, FromUpgradable, Owed, Phase, Taken1, Drains}
+use Rattle.parking_lot_rules.specs.Roles.{Enters2, Checked2, Queued2, Taken2, Leaves2, Yields, Scans1, Role}
 use Rattle.parking_lot_rules.specs.Classes.{Readers, Upgraders, Pending, Writers, Strange, weight}
 use Rattle.parking_lot_rules.specs.Mutex as mutex
 use Rattle.parking_lot_machine_calls.specs.CallViews.{rw_mode, mutex_mode, owning_of, Weighs, ModesAreWeighed}
 
 abbrev WeighsSo : Owned → Phase → Type 0
 WeighsSo o p = let r : Role = record { owns = o; does = p } in
-    weight Strange r ≡ 0 → Weighs (weight Readers r) (weight Upgraders r) (weight Pending r) (weight Writers r) (rw_mode r)
+    weight Strange r ≡ 0 → Weighs (weight Readers r) (weight Upgraders r) (weight Pending r) (weight Writers r)
+    (rw_mode r)
 
 nobody : (p : Phase) → WeighsSo (Shares zero) p
 unfolding weight
@@ -74,7 +77,8 @@ role_weighs Upgrades p = upgrader p
 -- AT A MUTEX
 
 abbrev OwnsSo : Bool → mutex.Phase → Type 0
-OwnsSo o p = let r : mutex.Role = record { owns = o; does = p } in mutex.weight mutex.Strange r ≡ 0 → mutex.weight mutex.Owning r ≡ owning_of (mutex_mode r)
+OwnsSo o p = let r : mutex.Role = record { owns = o; does = p } in mutex.weight mutex.Strange r ≡ 0
+    → mutex.weight mutex.Owning r ≡ owning_of (mutex_mode r)
 
 mutex_weighs : (o : Bool) (p : mutex.Phase) → OwnsSo o p
 unfolding mutex.weight

@@ -121,11 +121,14 @@ holds_beside other h = holds h - 1
 
 -- Its role as the call begins is the one that it had.
 abbrev pub BeginsAs : ℕ → Hold → Core → Type 0
-BeginsAs n h (core.Mutex c) = (at : QueuePosition) (us : List ℕ) → mutex_core_role at us (core.Mutex c) ≡ record { owns = owns_mutex h; does = mutex.Idle }
+BeginsAs n h (core.Mutex c) = (at : QueuePosition) (us : List ℕ)
+    → mutex_core_role at us (core.Mutex c) ≡ record { owns = owns_mutex h; does = mutex.Idle }
 BeginsAs n h (core.Late p) = ⊥
 BeginsAs n h (core.LateRw p) = ⊥
-BeginsAs n h (core.Upgrade c) = (at : QueuePosition) (us : List ℕ) → rw_core_role n at us (core.Upgrade c) ≡ record { owns = owned_of h; does = Idle }
-BeginsAs n h (core.Rw c) = (at : QueuePosition) (us : List ℕ) → rw_core_role n at us (core.Rw c) ≡ record { owns = owned_of h; does = Idle }
+BeginsAs n h (core.Upgrade c) = (at : QueuePosition) (us : List ℕ) → rw_core_role n at us (core.Upgrade c)
+    ≡ record { owns = owned_of h; does = Idle }
+BeginsAs n h (core.Rw c) = (at : QueuePosition) (us : List ℕ)
+    → rw_core_role n at us (core.Rw c) ≡ record { owns = owned_of h; does = Idle }
 
 pub record BeginsWell (k : LockKind) (h : Hold) (c : LockCall) : Type 0 where
   pub kind : takes (Some k) c ≡ true → IsOfKind (Some k) (core_of k c)

@@ -22,7 +22,8 @@ IsOfManner m (core.Upgrade c) = m ≡ Some AsRw
 abbrev pub IsOfKind : Option LockKind → Core → Type 0
 IsOfKind k c = IsOfManner (manner_of k) c
 
--- A call of a world asks where it has seen room for one reader more, and doesn't bump. One that gives up begins with its first look at the word.
+-- A call of a world asks where it has seen room for one reader more, and doesn't bump. One that gives up begins with
+-- its first look at the word.
 abbrev pub seeks_room : RwPhase → Type 0
 seeks_room (r.Admits a word) = has_room word ≡ true
 seeks_room phase = Unit {0}

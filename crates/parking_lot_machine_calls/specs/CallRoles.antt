@@ -1,6 +1,7 @@
 -- What a thread is to a lock of the rules, by what it owns and by the call that it is in.
 use Rattle.std.specs.Prelude.{ℕ, Bool, true, false, List, [], ◌∷◌}
-use Rattle.parking_lot_rules.specs.Roles.{Owned, Shares, Excludes, Upgrades, Mark, Open, Normal, Handed, Late, Back, Role, away}
+use Rattle.parking_lot_rules.specs.Roles.{Owned, Shares, Excludes, Upgrades, Mark, Open, Normal, Handed, Late, Back}
+use Rattle.parking_lot_rules.specs.Roles.{Role, away}
 use Rattle.parking_lot_rules.specs.Mutex as mutex
 use Rattle.parking_lot_protocol.specs.MutexRules as of_mutex
 use Rattle.parking_lot_protocol.specs.declared.mutex_phase.MutexPhase.{MutexPhase}
@@ -49,7 +50,8 @@ abbrev pub first_of_all : List ℕ → ℕ
 first_of_all [] = 0
 first_of_all (v ∷ us) = v
 
--- what one is to a mutex that has taken those and is still to wake them: where they have gone on by themselves it has nobody to wake
+-- what one is to a mutex that has taken those and is still to wake them: where they have gone on by themselves it has
+-- nobody to wake
 abbrev pub mutex_does : of_mutex.QueuePosition → List ℕ → MutexPhase → mutex.Phase
 mutex_does at us (m.Wakes giving) = mutex.Wakes us
 mutex_does at us phase = of_mutex.does at (first_of_all us) phase

@@ -95,8 +95,10 @@ owning_of (Some m) = 1
 
 -- That is so of every role that a sound lock can have.
 pub record ModesAreWeighed : Type 0 where
-  pub rw : (r : Role) → weight Strange r ≡ 0 → Weighs (weight Readers r) (weight Upgraders r) (weight Pending r) (weight Writers r) (rw_mode r)
-  pub mutex : (r : mutex.Role) → mutex.weight mutex.Strange r ≡ 0 → mutex.weight mutex.Owning r ≡ owning_of (mutex_mode r)
+  pub rw : (r : Role) → weight Strange r ≡ 0 → Weighs (weight Readers r) (weight Upgraders r) (weight Pending r)
+      (weight Writers r) (rw_mode r)
+  pub mutex : (r : mutex.Role) → mutex.weight mutex.Strange r ≡ 0 → mutex.weight mutex.Owning r ≡ owning_of
+      (mutex_mode r)
 
 -- THE ROLE OF A CALL'S THREAD, WHICH HAS TAKEN us AND IS TO WAKE THEM
 
@@ -195,7 +197,8 @@ abbrev pub upgrade_looks : UpgradePhase → Bool
 upgrade_looks (u.Frees release core) = rw_looks core.phase
 upgrade_looks phase = false
 
--- What is said of an upgradable call is said of one that is ready, as each is that a machine runs; and of one whose moment has passed, that it slept.
+-- What is said of an upgradable call is said of one that is ready, as each is that a machine runs; and of one whose
+-- moment has passed, that it slept.
 abbrev pub IsReadySleeper : RwSleeper → Type 0
 IsReadySleeper (sleeper.Simple c) = Unit {0}
 IsReadySleeper (sleeper.Upgradable c) = of_upgrade.IsReady c.phase × IsOfWorld c.phase

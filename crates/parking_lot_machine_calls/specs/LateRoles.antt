@@ -1,8 +1,11 @@
 -- What a thread is to a reader-writer lock whose moment has passed as it slept there.
 use Rattle.std.specs.Prelude.{ℕ, Bool, true, false, List, Option, Some, None}
 use Rattle.parking_lot_rules.specs.Any.{AnyStep, RwStep}
-use Rattle.parking_lot_rules.specs.Plain.{Plain, Expire1, Expire2, ExpireTaken1, ExpireTaken2, ReceivePending, ReceiveShared, ReceiveUpgradable, Reenter1, Reenter2, ReenterTaken1, ReenterTaken2, Resume1, Resume2}
-use Rattle.parking_lot_rules.specs.Roles.{Mode, Shared, Exclusive, Upgradable, Mark, Stay, Late, Back, Shares, Phase, Queued1, Taken1, Queued2, Taken2, Masks1, Leaves1, Leaves2, Role, away}
+use Rattle.parking_lot_rules.specs.Plain.{Plain, Expire1, Expire2, ExpireTaken1, ExpireTaken2, ReceivePending}
+use Rattle.parking_lot_rules.specs.Plain.{ReceiveShared, ReceiveUpgradable, Reenter1, Reenter2, ReenterTaken1}
+use Rattle.parking_lot_rules.specs.Plain.{ReenterTaken2, Resume1, Resume2}
+use Rattle.parking_lot_rules.specs.Roles.{Mode, Shared, Exclusive, Upgradable, Mark, Stay, Late, Back, Shares, Phase}
+use Rattle.parking_lot_rules.specs.Roles.{Queued1, Taken1, Queued2, Taken2, Masks1, Leaves1, Leaves2, Role, away}
 use Rattle.parking_lot_rules.specs.Steps.{Alone, List_changes, Listing, Quit1, QuitLast1, Quit2}
 use Rattle.parking_lot_protocol.specs.MutexRules.{mark_of}
 use Rattle.parking_lot_protocol.specs.RwRules as of_rw

@@ -14,7 +14,9 @@ use Rattle.parking_lot_protocol_rw.specs.declared.upgrade_phase.UpgradePhase.{Up
 use Rattle.parking_lot_protocol_rw.specs.declared.upgrade_phase.UpgradePhase.TheVariants as u
 use Rattle.parking_lot_machine_calls.specs.declared.seat.Core.{Core}
 use Rattle.parking_lot_machine_calls.specs.declared.seat.Core.TheVariants as core
-use Rattle.parking_lot_machine_calls.specs.Stances.{Looks, TurnsBack, Joins, Joined, Takes, Stores, Tells, Stance, Out, In, Asleep, sign, stance, taken_count, core_act, core_next, core_tells}
+use Rattle.parking_lot_machine_calls.specs.Stances.{Looks, TurnsBack, Joins, Joined, Takes, Stores, Tells, Stance, Out}
+use Rattle.parking_lot_machine_calls.specs.Stances.{In, Asleep, sign, stance, taken_count, core_act, core_next}
+use Rattle.parking_lot_machine_calls.specs.Stances.{core_tells}
 
 -- an act beside sections and lists
 abbrev pub StaysOut : Stance → Stance → ℕ → ℕ → Type 0
@@ -41,11 +43,14 @@ Leads (act.FetchAnd keep) s a b n m tells = (k : ℕ) × (a ≡ In k Stores) × 
 Leads act.Spin s a b n m tells = StaysOut a b n m
 Leads (act.Enter k) s a b n m tells = (a ≡ Out) × ((b ≡ In k Looks) ⊎ (b ≡ In k Takes)) × (m ≡ n)
 Leads (act.Section section.Check) s a b n m tells =
-    (k : ℕ) × (a ≡ In k Looks) × ((b ≡ In k TurnsBack) ⊎ ((token : ParkToken) × (b ≡ In k (Joins token)))) × (n ≡ 0) × (m ≡ 0)
+    (k : ℕ) × (a ≡ In k Looks) × ((b ≡ In k TurnsBack) ⊎ ((token : ParkToken) × (b ≡ In k (Joins token)))) × (n ≡ 0)
+    × (m ≡ 0)
 Leads (act.Section section.TakeFirst) s a b n m tells = (k : ℕ) × (a ≡ In k Takes) × TookFor s k b n m
 Leads (act.Section (section.TakeNext sum)) s a b n m tells = (k : ℕ) × (a ≡ In k Takes) × TookFor s k b n m
-Leads (act.Section (section.Append token)) s a b n m tells = (k : ℕ) × (k < 2) × (a ≡ In k (Joins token)) × (b ≡ In k (Joined token)) × (n ≡ 0) × (m ≡ 0)
-Leads (act.Section (section.Store plain fair)) s a b n m tells = (k : ℕ) × (a ≡ In k Stores) × (b ≡ In k (Tells tells)) × (m ≡ n)
+Leads (act.Section (section.Append token)) s a b n m tells = (k : ℕ) × (k < 2) × (a ≡ In k (Joins token))
+    × (b ≡ In k (Joined token)) × (n ≡ 0) × (m ≡ 0)
+Leads (act.Section (section.Store plain fair)) s a b n m tells = (k : ℕ) × (a ≡ In k Stores) × (b ≡ In k (Tells tells))
+    × (m ≡ n)
 Leads (act.Section section.Leave) s a b n m tells = LeavesFor a b n m
 Leads (act.Section section.Wake) s a b n m tells = (a ≡ Out) × (b ≡ Out) × (m ≡ n - 1)
 Leads act.Sleep s a b n m tells = (k : ℕ) (token : ParkToken) → a ≡ Asleep k token → (b ≡ Out) × (n ≡ 0) × (m ≡ 0)
@@ -56,11 +61,13 @@ LeadsCore act s c d = Leads act s (stance c) (stance d) (taken_count c) (taken_c
 
 -- what an act gives leads so
 abbrev pub ActsLead : Type 0
-ActsLead = (c : Core) (word : ℕ) (s : ActResult) → Gives (core_act c) word s → LeadsCore (core_act c) s c (core_next c s)
+ActsLead = (c : Core) (word : ℕ) (s : ActResult) → Gives (core_act c) word s
+    → LeadsCore (core_act c) s c (core_next c s)
 
 -- a scan can count one more with that token
 abbrev pub rw_counts : RwPhase → ParkToken → Type 0
-rw_counts (r.Scans s) token = ((token.0 ≡ 16) × (s.shared < 2 ^ 32 - 1)) ⊎ (((token.0 ≡ 8) × (s.writer ≡ false)) ⊎ ((token.0 ≡ 20) × (s.upgradable ≡ false)))
+rw_counts (r.Scans s) token = ((token.0 ≡ 16) × (s.shared < 2 ^ 32 - 1))
+    ⊎ (((token.0 ≡ 8) × (s.writer ≡ false)) ⊎ ((token.0 ≡ 20) × (s.upgradable ≡ false)))
 rw_counts phase token = Unit {0}
 
 abbrev pub upgrade_counts : UpgradePhase → ParkToken → Type 0
@@ -85,7 +92,8 @@ TakesOne a b n m = (k : ℕ) × (k < 2) × (a ≡ In k Takes) × ((b ≡ In k Ta
 abbrev pub TakingsCount : Type 0
 TakingsCount =
     (c : Core) (word : ℕ) (token : ParkToken) (left : Bool) → let s = seen.Took (Some token) left in
-    Gives (core_act c) word s → Counts c token → TakesOne (stance c) (stance (core_next c s)) (taken_count c) (taken_count (core_next c s))
+    Gives (core_act c) word s → Counts c token → TakesOne (stance c) (stance (core_next c s)) (taken_count c)
+    (taken_count (core_next c s))
 
 -- a call that begins, and one that is over, stands outside and has taken nobody
 abbrev pub CallsBegin : Type 0
@@ -103,11 +111,13 @@ CallsEnd = (c : Core) → IsOver (core_act c) (stance c) (taken_count c)
 abbrev pub SleepersWake : Type 0
 SleepersWake =
     (c : Core) (k : ℕ) (token : ParkToken) (said : UnparkToken) → stance c ≡ Asleep k token
-    → (taken_count c ≡ 0) × (stance (core_next c (seen.Woken said)) ≡ Out) × (taken_count (core_next c (seen.Woken said)) ≡ 0)
+    → (taken_count c ≡ 0) × (stance (core_next c (seen.Woken said)) ≡ Out)
+    × (taken_count (core_next c (seen.Woken said)) ≡ 0)
 
 -- one that is to wake somebody has taken somebody
 abbrev pub WakersCount : Type 0
-WakersCount = (c : Core) (s : ActResult) → core_act (core_next c s) ≡ act.Section section.Wake → 1 ≤ taken_count (core_next c s)
+WakersCount = (c : Core) (s : ActResult) → core_act (core_next c s) ≡ act.Section section.Wake
+    → 1 ≤ taken_count (core_next c s)
 
 -- a lock has two keys
 abbrev pub HasSmallKey : Stance → Type 0

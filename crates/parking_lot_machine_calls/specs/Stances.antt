@@ -94,8 +94,8 @@ upgrade_stance (u.Frees release core) = rw_stance core.phase
 upgrade_stance (u.Owes hold answer core) = rw_stance core.phase
 upgrade_stance phase = Out
 
--- one whose moment has passed stands as one that sleeps, until it is back in its section, and then as one that has joined its list, or as one that has
--- nothing to tell where it was taken
+-- one whose moment has passed stands as one that sleeps, until it is back in its section, and then as one that has
+-- joined its list, or as one that has nothing to tell where it was taken
 abbrev pub late_stance : LatePhase → Stance
 late_stance late.Expires = Asleep 0 (record { 0 = 0 })
 late_stance late.Quits = In 0 (Joined (record { 0 = 0 }))
@@ -199,7 +199,8 @@ taken_count (core.Late p) = 0
 taken_count (core.LateRw p) = 0
 taken_count (core.Upgrade c) = upgrade_taken c.phase
 
--- What one asks for whose moment has passed. It comes back into its section, and takes itself out there, by acts of its own.
+-- What one asks for whose moment has passed. It comes back into its section, and takes itself out there, by acts of its
+-- own.
 abbrev pub late_act : LatePhase → Act
 late_act late.Expires = act.Sleep
 late_act late.Quits = act.Sleep
@@ -208,15 +209,17 @@ late_act late.Leaves = act.Section section.Leave
 late_act late.GivesUp = act.Done answer.Refused
 late_act (late.WasTaken by handed) = act.Section section.Leave
 
--- It was woken after all, or is back; it is told whether others are left where it stood; the parked bit is off, and the section left. One that was
--- taken goes on from there as one that was woken. What doesn't fit leads astray.
+-- It was woken after all, or is back; it is told whether others are left where it stood; the parked bit is off, and the
+-- section left. One that was taken goes on from there as one that was woken. What doesn't fit leads astray.
 abbrev pub late_next : LatePhase → ActResult → Core
-late_next late.Expires (seen.Woken token) = core.Mutex (record { phase = of_mutex.next_phase m.Sleeps (seen.Woken token) })
+late_next late.Expires (seen.Woken token) =
+    core.Mutex (record { phase = of_mutex.next_phase m.Sleeps (seen.Woken token) })
 late_next late.Expires seen.Entered = core.Late late.Quits
 late_next late.Quits (seen.Took token left) = core.Late (if left then late.Leaves else late.Masks)
 late_next late.Masks (seen.Before word) = core.Late late.Leaves
 late_next late.Leaves seen.Made = core.Late late.GivesUp
-late_next (late.WasTaken by handed) seen.Made = core.Mutex (record { phase = of_mutex.next_phase m.Sleeps (seen.Woken (sign handed)) })
+late_next (late.WasTaken by handed) seen.Made =
+    core.Mutex (record { phase = of_mutex.next_phase m.Sleeps (seen.Woken (sign handed)) })
 late_next p s = core.Mutex (record { phase = m.Invalid })
 
 -- the same at a reader-writer lock
@@ -229,7 +232,8 @@ late_rw_act late_rw.GivesUp = act.Done answer.Refused
 late_rw_act (late_rw.LeavesPending from) = act.Section section.Leave
 late_rw_act (late_rw.WasTaken k by handed) = act.Section section.Leave
 
--- off its list: one that waited for readers leaves, to take its bit back, and one that wants the lock masks the parked bit as the last one
+-- off its list: one that waited for readers leaves, to take its bit back, and one that wants the lock masks the parked
+-- bit as the last one
 abbrev pub quits_as : Option Bool → Bool → LateRwPhase
 quits_as (Some from) left = late_rw.LeavesPending from
 quits_as None left = if left then late_rw.Leaves else late_rw.Masks

@@ -7,9 +7,12 @@ ghost use Rattle.parking_lot_rules.specs.Owners.{Reading, owner_for_good, owner_
 ghost use Rattle.parking_lot_protocol.specs.MutexRules as of_mutex;
 ghost use Rattle.parking_lot_protocol.specs.RwRules as of_rw;
 ghost use Rattle.parking_lot_protocol.specs.declared.rw_phase.RwPhase.TheVariants as phase;
-ghost use Rattle.parking_lot_machine_calls.specs.CallViews.{HasSlept, IsInOrder, IsLateAsSlept, IsLateInOrder, are_some, call_asleep, call_in_debt, call_looks, call_mode, hold_mode, mode_of, mutex_mode, rw_mode, still_looks};
+ghost use Rattle.parking_lot_machine_calls.specs.CallViews.{HasSlept, IsInOrder, IsLateAsSlept, IsLateInOrder};
+ghost use Rattle.parking_lot_machine_calls.specs.CallViews.{are_some, call_asleep, call_in_debt, call_looks, call_mode};
+ghost use Rattle.parking_lot_machine_calls.specs.CallViews.{hold_mode, mode_of, mutex_mode, rw_mode, still_looks};
 ghost use Rattle.parking_lot_machine_calls.specs.LateRoles.{late_rw_role, sleeper_role};
-ghost use Rattle.parking_lot_machine_calls.specs.CallRoles.{late_does, late_role, mark_of, mutex_does, mutex_role, mutex_spot, rw_spot};
+ghost use Rattle.parking_lot_machine_calls.specs.CallRoles.{late_does, late_role, mark_of, mutex_does, mutex_role};
+ghost use Rattle.parking_lot_machine_calls.specs.CallRoles.{mutex_spot, rw_spot};
 
 use crate::calls::{LockKind, OwnMode};
 use crate::late_rw::{LateRwPhase, RwSleeper};
@@ -100,7 +103,9 @@ fn asker_mode(want: LockMode) -> Option<OwnMode>
 
 /// How one owns a lock that has begun to go through the list.
 fn giver_mode(rest: AfterWake) -> Option<OwnMode>
-    ensures { (n : ℕ) (shared : ℕ) (upgradable writer : Bool) (us : List ℕ) → result ≡ mode_of (owner_of (of_rw.owned_at_last n rest) (Scans1 (of_rw.cause_of rest) shared upgradable writer us)) }
+    ensures { (n : ℕ) (shared : ℕ) (upgradable writer : Bool) (us : List ℕ)
+        → result ≡ mode_of
+        (owner_of (of_rw.owned_at_last n rest) (Scans1 (of_rw.cause_of rest) shared upgradable writer us)) }
 {
     match rest {
         AfterWake::FreedShared | AfterWake::FreedExclusive => Some(OwnMode::Exclusive),
@@ -136,9 +141,11 @@ fn rw_mode(phase: RwPhase, spot: QueuePosition, others: u8) -> Option<OwnMode>
     }
 }
 
-/// Whether one is in debt at a mutex in such a phase: it is inside a section, is still to wake another, as it is told, or was woken to try again.
+/// Whether one is in debt at a mutex in such a phase: it is inside a section, is still to wake another, as it is told,
+/// or was woken to try again.
 fn mutex_in_debt(phase: MutexPhase, wakes: bool) -> bool
-    ensures { (at : of_mutex.QueuePosition) (us : List ℕ) → are_some us ≡ wakes → result ≡ mutex_debts.is_in_debt (mutex_does at us phase) }
+    ensures { (at : of_mutex.QueuePosition) (us : List ℕ) → are_some us ≡ wakes
+        → result ≡ mutex_debts.is_in_debt (mutex_does at us phase) }
 {
     use MutexPhase::*;
     match phase {
@@ -156,7 +163,8 @@ fn mutex_in_debt(phase: MutexPhase, wakes: bool) -> bool
 
 /// The same at a reader-writer lock.
 pub(crate) fn rw_in_debt(phase: RwPhase, wakes: bool) -> bool
-    ensures { (at : of_rw.QueuePosition) (us : List ℕ) → are_some us ≡ wakes → result ≡ rw_debts.is_in_debt (of_rw.does at us phase) }
+    ensures { (at : of_rw.QueuePosition) (us : List ℕ) → are_some us ≡ wakes
+        → result ≡ rw_debts.is_in_debt (of_rw.does at us phase) }
 {
     use RwPhase::*;
     match phase {
@@ -196,7 +204,8 @@ fn late_mode(phase: LatePhase, spot: QueuePosition) -> Option<OwnMode>
     }
 }
 
-/// Whether one is in debt at a mutex whose moment has passed: it is inside a section, or was taken, and not handed the mutex.
+/// Whether one is in debt at a mutex whose moment has passed: it is inside a section, or was taken, and not handed the
+/// mutex.
 fn late_in_debt(phase: LatePhase, spot: QueuePosition) -> bool
     ensures { result ≡ mutex_debts.is_in_debt (late_does (mutex_spot spot) phase) }
 {
@@ -230,7 +239,8 @@ fn told_as(handed: bool) -> WakeResult
     }
 }
 
-/// How one owns a reader-writer lock whose moment has passed: as it did when it slept, or was taken, until it has left its list.
+/// How one owns a reader-writer lock whose moment has passed: as it did when it slept, or was taken, until it has left
+/// its list.
 fn late_rw_mode(phase: LateRwPhase, spot: QueuePosition, others: u8) -> Option<OwnMode>
     ensures { IsLateInOrder phase → (us : List ℕ) → result ≡ rw_mode (late_rw_role others (rw_spot spot) us phase) }
 {
@@ -263,9 +273,11 @@ fn still_looks(sleeper: RwSleeper) -> bool
     }
 }
 
-/// Whether one is in debt at a reader-writer lock whose moment has passed: it is inside a section, or was taken and is about to try.
+/// Whether one is in debt at a reader-writer lock whose moment has passed: it is inside a section, or was taken and is
+/// about to try.
 fn late_rw_in_debt(phase: LateRwPhase, spot: QueuePosition) -> bool
-    ensures { IsLateInOrder phase → (n : ℕ) (us : List ℕ) → result ≡ rw_debts.is_in_debt (late_rw_role n (rw_spot spot) us phase).does }
+    ensures { IsLateInOrder phase → (n : ℕ) (us : List ℕ)
+        → result ≡ rw_debts.is_in_debt (late_rw_role n (rw_spot spot) us phase).does }
 {
     match (phase, spot) {
         (LateRwPhase::Expires(_), QueuePosition::Listed) => false,
@@ -298,8 +310,8 @@ impl Hold {
 }
 
 impl Call {
-    /// How its thread owns the lock now. One that sleeps and was handed a hold owns it. Of an upgradable call it is said where the call is in
-    /// order, as each is that a machine runs.
+    /// How its thread owns the lock now. One that sleeps and was handed a hold owns it. Of an upgradable call it is
+    /// said where the call is in order, as each is that a machine runs.
     pub fn owns(&self) -> Option<OwnMode>
         ensures { IsInOrder self.now.core → (us : List ℕ) → result ≡ call_mode us self.now }
     {
@@ -312,10 +324,12 @@ impl Call {
         }
     }
 
-    /// Whether its thread is in debt at the lock: it is inside a section, is still to wake others, or was woken to try again. `wakes` says whether any
-    /// of those that it has taken is still to be woken. Where its moment has passed, it slept.
+    /// Whether its thread is in debt at the lock: it is inside a section, is still to wake others, or was woken to try
+    /// again. `wakes` says whether any of those that it has taken is still to be woken. Where its moment has passed, it
+    /// slept.
     pub fn is_in_debt(&self, wakes: bool) -> bool
-        ensures { IsLateAsSlept self.now.core → (us : List ℕ) → are_some us ≡ wakes → result ≡ call_in_debt us self.now }
+        ensures { IsLateAsSlept self.now.core → (us : List ℕ) → are_some us ≡ wakes
+            → result ≡ call_in_debt us self.now }
     {
         match &self.core {
             Core::Mutex(core) => mutex_in_debt(core.phase(), wakes),

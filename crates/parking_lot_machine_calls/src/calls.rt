@@ -50,7 +50,8 @@ pub enum LockCall {
     UnlockUpgradable,
     /// It makes its upgradable hold the exclusive one, and waits until the readers have left.
     Upgrade,
-    /// It makes its upgradable hold the exclusive one where nobody else reads, and doesn't wait. Where it is refused it keeps what it has.
+    /// It makes its upgradable hold the exclusive one where nobody else reads, and doesn't wait. Where it is refused it
+    /// keeps what it has.
     TryUpgrade,
     /// It makes its exclusive hold the upgradable one.
     DowngradeToUpgradable,
@@ -62,7 +63,8 @@ pub enum LockCall {
     WriteUntil,
     /// It wants the upgradable hold, and waits for it until its deadline.
     UpgradableUntil,
-    /// It makes its upgradable hold the exclusive one, and waits until its deadline for the readers to leave. Then it keeps what it has.
+    /// It makes its upgradable hold the exclusive one, and waits until its deadline for the readers to leave. Then it
+    /// keeps what it has.
     UpgradeUntil,
 }
 
@@ -110,7 +112,8 @@ impl LockCall {
         }
     }
 
-    /// How the thread has to own the lock that asks for it; for the calls that ask for the lock it may not own it at all.
+    /// How the thread has to own the lock that asks for it; for the calls that ask for the lock it may not own it at
+    /// all.
     pub(crate) fn gives_up(&self) -> Option<OwnMode>
         ensures { result ≡ given_up self.now }
     {

@@ -1,6 +1,7 @@
 //! A call at a reader-writer lock whose moment has passed as it slept.
 ghost use Rattle.std.specs.Prelude.{◌≡◌};
-ghost use Rattle.parking_lot_machine_calls.specs.Stances.{late_rw_act, late_rw_pending, pending_from, quits_as, sleeper_asleep};
+ghost use Rattle.parking_lot_machine_calls.specs.Stances.{late_rw_act, late_rw_pending, pending_from, quits_as};
+ghost use Rattle.parking_lot_machine_calls.specs.Stances.{sleeper_asleep};
 
 use crate::upgrade_views::{rw_asleep, upgrade_asleep};
 use parking_lot_protocol::{Act, CoreAnswer, RwCore, RwPhase, SectionAct};
@@ -21,8 +22,8 @@ pub enum RwSleeper {
 /// Where a call at a reader-writer lock stands whose moment has passed as it slept.
 #[derive(Clone, Copy)]
 pub enum LateRwPhase {
-    /// It comes back into the section of its list. It still stands there, or was taken in the meantime. Where its taker wakes it first it goes on
-    /// from where it sleeps.
+    /// It comes back into the section of its list. It still stands there, or was taken in the meantime. Where its taker
+    /// wakes it first it goes on from where it sleeps.
     Expires(RwSleeper),
     /// It takes itself out of its list.
     Quits(RwSleeper),
@@ -32,10 +33,11 @@ pub enum LateRwPhase {
     Leaves,
     /// It has given up, and owns nothing.
     GivesUp,
-    /// Off the second list, it leaves that one's section, to take its bit back: whether it had the upgradable hold before.
+    /// Off the second list, it leaves that one's section, to take its bit back: whether it had the upgradable hold
+    /// before.
     LeavesPending(bool),
-    /// Back in the section it has found that it was taken: by that thread, and whether it was handed what it wants. It leaves the section, and goes
-    /// on as one that was woken.
+    /// Back in the section it has found that it was taken: by that thread, and whether it was handed what it wants. It
+    /// leaves the section, and goes on as one that was woken.
     WasTaken(RwSleeper, usize, bool),
 }
 
@@ -93,7 +95,8 @@ impl LateRwPhase {
         }
     }
 
-    /// Off its list: a pending writer leaves the section, and one that wants the lock masks the parked bit first where nobody is left.
+    /// Off its list: a pending writer leaves the section, and one that wants the lock masks the parked bit first where
+    /// nobody is left.
     pub(crate) fn quits(from: Option<bool>, left: bool) -> LateRwPhase
         ensures { result ≡ quits_as from left }
     {

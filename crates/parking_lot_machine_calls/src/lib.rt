@@ -1,4 +1,5 @@
-//! Calls of threads at the locks of a machine, as plain data: what they ask for, where they stand, and what that says of their threads.
+//! Calls of threads at the locks of a machine, as plain data: what they ask for, where they stand, and what that says
+//! of their threads.
 #![tactic(auto)]
 
 mod call_views;

@@ -73,7 +73,8 @@ impl Call {
         }
     }
 
-    /// The call of a sleeper whose moment has passed and that is back in its section, where it has found that a thread has taken it.
+    /// The call of a sleeper whose moment has passed and that is back in its section, where it has found that a thread
+    /// has taken it.
     pub fn found(self, by: usize, said: WakeResult) -> Call
         ensures { result ≡ record self { core = found_as by (is_handed said) self.core; spot = spot.Listed } }
     {

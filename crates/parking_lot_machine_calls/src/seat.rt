@@ -6,9 +6,14 @@ ghost use Rattle.parking_lot_protocol.specs.declared.act.ActResult.TheVariants a
 ghost use Rattle.parking_lot_protocol.specs.declared.mutex_phase.MutexPhase.TheVariants.{Invalid, Sleeps};
 ghost use Rattle.parking_lot_protocol.specs.declared.rw_phase.RwPhase.TheVariants as rw_phase;
 ghost use Rattle.parking_lot_protocol_rw.specs.declared.upgrade_phase.UpgradePhase.TheVariants.{YieldLoads};
-ghost use Rattle.parking_lot_machine_calls.specs.LateCalls.{comes_late, found_as, is_back, is_handed, is_pending, late_of, sleeps_in_time};
-ghost use Rattle.parking_lot_machine_calls.specs.Stances.{In, Takes, core_act, core_next, core_tells, late_act, late_next, late_rw_next, resumed_as, rw_stance, sign, sleeper_asleep, sleeper_told, stance, upgrade_stance, upgrade_tells};
-ghost use Rattle.parking_lot_machine_calls.specs.CallActs.{hold_after, kept_hold, mutex_hold_after, upgrade_hold_after, rw_hold_after, joins, settled_spot, told_of};
+ghost use Rattle.parking_lot_machine_calls.specs.LateCalls.{comes_late, found_as, is_back, is_handed, is_pending};
+ghost use Rattle.parking_lot_machine_calls.specs.LateCalls.{late_of, sleeps_in_time};
+ghost use Rattle.parking_lot_machine_calls.specs.Stances.{In, Takes, core_act, core_next, core_tells, late_act};
+ghost use Rattle.parking_lot_machine_calls.specs.Stances.{late_next, late_rw_next, resumed_as, rw_stance, sign};
+ghost use Rattle.parking_lot_machine_calls.specs.Stances.{sleeper_asleep, sleeper_told, stance, upgrade_stance};
+ghost use Rattle.parking_lot_machine_calls.specs.Stances.{upgrade_tells};
+ghost use Rattle.parking_lot_machine_calls.specs.CallActs.{hold_after, kept_hold, mutex_hold_after, upgrade_hold_after};
+ghost use Rattle.parking_lot_machine_calls.specs.CallActs.{rw_hold_after, joins, settled_spot, told_of};
 
 use crate::late_rw::{LateRwPhase, RwSleeper};
 use crate::upgrade_views::{rw_asleep, upgrade_asleep};
@@ -35,7 +40,8 @@ pub enum Hold {
     Upgrades,
 }
 
-/// What one that took a sleeper off its list has told it: nothing yet, that it is to try again, or that it has the lock.
+/// What one that took a sleeper off its list has told it: nothing yet, that it is to try again, or that it has the
+/// lock.
 #[derive(Clone, Copy, PartialEq, Eq, Debug)]
 pub enum WakeResult {
     /// Nothing yet.
@@ -58,8 +64,8 @@ pub enum QueuePosition {
 /// Where a call at a mutex stands whose moment has passed as it slept.
 #[derive(Clone, Copy, PartialEq, Eq, Debug)]
 pub enum LatePhase {
-    /// It comes back into the section of its list. It still stands there, or was taken in the meantime. Where its taker wakes it first it goes on
-    /// from where it sleeps.
+    /// It comes back into the section of its list. It still stands there, or was taken in the meantime. Where its taker
+    /// wakes it first it goes on from where it sleeps.
     Expires,
     /// It takes itself out of its list.
     Quits,
@@ -69,8 +75,8 @@ pub enum LatePhase {
     Leaves,
     /// It has given up, and owns nothing.
     GivesUp,
-    /// Back in the section it has found that it was taken: by that thread, and whether it was handed the mutex. It leaves the section, and goes
-    /// on as one that was woken.
+    /// Back in the section it has found that it was taken: by that thread, and whether it was handed the mutex. It
+    /// leaves the section, and goes on as one that was woken.
     WasTaken(usize, bool),
 }
 
@@ -165,8 +171,8 @@ impl Core {
         }
     }
 
-    /// The core of one whose moment has passed and that is back in its section, where it has found that a thread has taken it, and whether that
-    /// one handed the lock over.
+    /// The core of one whose moment has passed and that is back in its section, where it has found that a thread has
+    /// taken it, and whether that one handed the lock over.
     pub(crate) fn found(self, by: usize, handed: bool) -> Core
         ensures { result ≡ found_as by handed self }
     {

@@ -2,7 +2,9 @@
 ghost use Rattle.std.specs.Prelude.{◌≡◌};
 ghost use Rattle.parking_lot_protocol.specs.declared.mutex_phase.MutexPhase.TheVariants.{Unlocking};
 ghost use Rattle.parking_lot_machine_calls.specs.Kinds.{is_recursive};
-ghost use Rattle.parking_lot_machine_calls.specs.Beginnings.{AllowedCallsBeginWell, core_of, excludes, holds, holds_beside, is_allowed, is_fair, may_share, owns_nothing, shares, upgrades};
+ghost use Rattle.parking_lot_machine_calls.specs.Beginnings.{AllowedCallsBeginWell, core_of, excludes, holds};
+ghost use Rattle.parking_lot_machine_calls.specs.Beginnings.{holds_beside, is_allowed, is_fair, may_share};
+ghost use Rattle.parking_lot_machine_calls.specs.Beginnings.{owns_nothing, shares, upgrades};
 
 use crate::calls::{LockCall, LockKind};
 use crate::seat::{Core, Hold};
@@ -152,7 +154,8 @@ impl Hold {
     }
 }
 
-/// A call that is allowed begins as a step of the rules can: of a thread in the role that it has, outside of sections, with nobody taken.
+/// A call that is allowed begins as a step of the rules can: of a thread in the role that it has, outside of sections,
+/// with nobody taken.
 pub fn allowed_calls_begin_well()
     ensures { AllowedCallsBeginWell }
 {}

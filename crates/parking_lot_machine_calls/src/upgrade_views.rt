@@ -2,7 +2,8 @@
 ghost use Rattle.std.specs.Prelude.{◌≡◌, ℕ, List};
 ghost use Rattle.parking_lot_rules.specs.Debts as rw_debts;
 ghost use Rattle.parking_lot_protocol_rw.specs.UpgradeRoles as of_upgrade;
-ghost use Rattle.parking_lot_machine_calls.specs.CallViews.{are_some, drainer_mode, freer_mode, kept_mode, seeker_mode, upgrade_looks, upgrade_mode};
+ghost use Rattle.parking_lot_machine_calls.specs.CallViews.{are_some, drainer_mode, freer_mode, kept_mode, seeker_mode};
+ghost use Rattle.parking_lot_machine_calls.specs.CallViews.{upgrade_looks, upgrade_mode};
 ghost use Rattle.parking_lot_machine_calls.specs.Stances.{rw_asleep, upgrade_asleep};
 ghost use Rattle.parking_lot_protocol.specs.Positions as positions;
 
@@ -80,9 +81,11 @@ pub(crate) fn upgrade_mode(phase: UpgradePhase, spot: QueuePosition) -> Option<O
     }
 }
 
-/// Whether one is in debt in such a phase: it is inside a section, is still to wake another, as it is told, or was woken to try again.
+/// Whether one is in debt in such a phase: it is inside a section, is still to wake another, as it is told, or was
+/// woken to try again.
 pub(crate) fn upgrade_in_debt(phase: UpgradePhase, wakes: bool) -> bool
-    ensures { (at : positions.QueuePosition) (us : List ℕ) → are_some us ≡ wakes → result ≡ rw_debts.is_in_debt (of_upgrade.does at us phase) }
+    ensures { (at : positions.QueuePosition) (us : List ℕ) → are_some us ≡ wakes
+        → result ≡ rw_debts.is_in_debt (of_upgrade.does at us phase) }
 {
     match phase {
         UpgradePhase::Plain(core) => rw_in_debt(core.phase(), wakes),

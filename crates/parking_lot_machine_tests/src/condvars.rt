@@ -1,4 +1,5 @@
-//! Waits and notifications at a condition variable, and deadlines of waits, step by step, with the words and lists between.
+//! Waits and notifications at a condition variable, and deadlines of waits, step by step, with the words and lists
+//! between.
 
 use parking_lot_core_model::UnparkToken;
 use parking_lot_machine_sides::condvar::{CondvarCall, CondvarMachine, CondvarReply, Outside};

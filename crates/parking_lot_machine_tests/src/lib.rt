@@ -1,5 +1,6 @@
-//! Tests of the machines of locks, of condition variables and of onces, for what no clause of them says: calls told one thing after another, which
-//! calls are refused to whom, the machines step by step, and how much memory they and worlds take.
+//! Tests of the machines of locks, of condition variables and of onces, for what no clause of them says: calls told one
+//! thing after another, which calls are refused to whom, the machines step by step, and how much memory they and worlds
+//! take.
 #![tactic(auto)]
 
 #[cfg(test)]

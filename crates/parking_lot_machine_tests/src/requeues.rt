@@ -11,7 +11,8 @@ enum Line {
     Calls(usize, LockCall),
     /// It goes on until it can't.
     Goes(usize),
-    /// It is moved into the list, with whether its moment may pass there; or it is woken to ask; or neither may be done.
+    /// It is moved into the list, with whether its moment may pass there; or it is woken to ask; or neither may be
+    /// done.
     TakenIn(usize, bool),
     RousedIn(usize),
     NotTakenIn(usize),

@@ -17,10 +17,10 @@ const SHARED: Option<Mode> = Some(Mode::Shared);
 
 const EXCLUSIVE: Option<Mode> = Some(Mode::Exclusive);
 
-/// Thread 0 reads, 16. Thread 1 wants to write: it is pending, 24, and waits for the reader in the second list, 26. Thread 2 wants to write and
-/// waits in the first list, 27. Thread 0 leaves, 11, and takes thread 1 off its list, 9; thread 1 is the writer. It gives the lock up unfairly: it
-/// takes thread 2 off the list, the last there, and leaves the word 0. Thread 0 comes first, 16, and leaves, 0; then thread 2 has the lock, 8, and
-/// gives it up, 0.
+/// Thread 0 reads, 16. Thread 1 wants to write: it is pending, 24, and waits for the reader in the second list, 26.
+/// Thread 2 wants to write and waits in the first list, 27. Thread 0 leaves, 11, and takes thread 1 off its list, 9;
+/// thread 1 is the writer. It gives the lock up unfairly: it takes thread 2 off the list, the last there, and leaves
+/// the word 0. Thread 0 comes first, 16, and leaves, 0; then thread 2 has the lock, 8, and gives it up, 0.
 #[test]
 fn two_writers_and_one_reader(rt: HostRuntime) -> Result<(), Fail> {
     let turns = [
@@ -57,8 +57,8 @@ fn two_writers_and_one_reader(rt: HostRuntime) -> Result<(), Fail> {
     Trace::new(&rt, 3)?.follows(&rt, &turns, &words)
 }
 
-/// Thread 0 writes, 8. Threads 1 and 2 want to read and wait, 9. Thread 0 hands the lock over to both, 32: each holds it while it sleeps, until
-/// thread 0 has woken it. They leave, 16 and 0.
+/// Thread 0 writes, 8. Threads 1 and 2 want to read and wait, 9. Thread 0 hands the lock over to both, 32: each holds
+/// it while it sleeps, until thread 0 has woken it. They leave, 16 and 0.
 #[test]
 fn readers_hold_the_shard_as_it_is_handed_over(rt: HostRuntime) -> Result<(), Fail> {
     let turns = [
@@ -85,8 +85,8 @@ fn readers_hold_the_shard_as_it_is_handed_over(rt: HostRuntime) -> Result<(), Fa
     Trace::new(&rt, 3)?.follows(&rt, &turns, &words)
 }
 
-/// Thread 0 writes, 8, and thread 1 wants to read and waits, 9. Thread 0 makes its hold a shared one, 17, and wakes thread 1, 16, which reads beside
-/// it, 32. A writer's try is refused. Both leave, 16 and 0.
+/// Thread 0 writes, 8, and thread 1 wants to read and waits, 9. Thread 0 makes its hold a shared one, 17, and wakes
+/// thread 1, 16, which reads beside it, 32. A writer's try is refused. Both leave, 16 and 0.
 #[test]
 fn a_downgrade_lets_readers_in(rt: HostRuntime) -> Result<(), Fail> {
     let turns = [

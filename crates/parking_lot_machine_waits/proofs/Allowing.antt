@@ -1,5 +1,7 @@
 -- Where a machine is whole, what a step needs at the locks is so.
-use Rattle.std.proofs.Common.{◌≡◌, ◌≢◌, ◌||◌, inl, inr, ℕ, zero, suc, ◌+◌, ◌-◌, ◌*◌, ◌<◌, Bool, true, false, not, cond, ◌&&◌, is_some, is_none, List, [], ◌∷◌, length, Option, Some, None, slice_get, refl, sym, ap, ◌∙◌, subst, arith, eqb-true}
+use Rattle.std.proofs.Common.{◌≡◌, ◌≢◌, ◌||◌, inl, inr, ℕ, zero, suc, ◌+◌, ◌-◌, ◌*◌, ◌<◌, Bool, true, false, not, cond}
+use Rattle.std.proofs.Common.{◌&&◌, is_some, is_none, List, [], ◌∷◌, length, Option, Some, None, slice_get, refl, sym}
+use Rattle.std.proofs.Common.{ap, ◌∙◌, subst, arith, eqb-true}
 use Rattle.std.specs.List.{list_all, list_any}
 use Rattle.std.specs.Option.{option_and_then, option_map, option_map_or}
 use Rattle.std.proofs.lemmas.Bool.{lt-ltb}
@@ -18,7 +20,8 @@ use Rattle.parking_lot_machine_sides.specs.declared.condvar.open_call.Core.{Core
 use Rattle.parking_lot_machine_sides.specs.declared.condvar.open_call.Core.TheVariants as core
 use Rattle.parking_lot_machine_sides.specs.declared.condvar.open_call.OpenCall.{OpenCall}
 use Rattle.parking_lot_machine_sides.specs.Condvar.Fitting.{is_the}
-use Rattle.parking_lot_machine_sides.specs.Condvar.Machines.{State as Var, call_at as var_call_at, phase_by, phase_in, spot_of, variable}
+use Rattle.parking_lot_machine_sides.specs.Condvar.Machines.{State as Var, call_at as var_call_at, phase_by, phase_in}
+use Rattle.parking_lot_machine_sides.specs.Condvar.Machines.{spot_of, variable}
 use Rattle.parking_lot_machine_sides.specs.Condvar.Turns.{is_inside, is_inside_by, wait_is_inside}
 use Rattle.parking_lot_machine_calls.specs.declared.calls.LockCall.TheVariants as call
 use Rattle.parking_lot_machine_calls.specs.declared.calls.LockKind.{LockKind}
@@ -34,12 +37,15 @@ use Rattle.parking_lot_machine.specs.Rows.{State, call_at as row_call_at, state}
 use Rattle.parking_lot_machine_waits.proofs.Notifying.{Marking, is_moving, marking}
 use Rattle.parking_lot_machine_waits.specs.declared.turn.Turn.{Turn}
 use Rattle.parking_lot_machine_waits.specs.declared.turn.Turn.TheVariants as turn
-use Rattle.parking_lot_machine_waits.specs.Joint.{Joint, back_number, call_at, call_in, front_number, is_entered, seat_at, var_at}
+use Rattle.parking_lot_machine_waits.specs.Joint.{Joint, back_number, call_at, call_in, front_number, is_entered}
+use Rattle.parking_lot_machine_waits.specs.Joint.{seat_at, var_at}
 use Rattle.parking_lot_machine_waits.specs.JointLaws.{PartsFit}
 use Rattle.parking_lot_machine_waits.specs.JointSteps.{KnownIn}
-use Rattle.parking_lot_machine_waits.specs.Ready.{call_is_ready, is_ready, may_move, may_move_all, seat_is_ready, turn_is_ready}
+use Rattle.parking_lot_machine_waits.specs.Ready.{call_is_ready, is_ready, may_move, may_move_all, seat_is_ready}
+use Rattle.parking_lot_machine_waits.specs.Ready.{turn_is_ready}
 use Rattle.parking_lot_machine_waits.specs.Turns.{is_at_mutex, mutex_of, notify_turn, turn_by, turn_of, wait_turn}
-use Rattle.parking_lot_machine_waits.specs.Whole.{AtMutex, Owns, Away, Asks, IsSo, IsWhole, Stands, Waits, back_of, front_of, named, place_of}
+use Rattle.parking_lot_machine_waits.specs.Whole.{AtMutex, Owns, Away, Asks, IsSo, IsWhole, Stands, Waits, back_of}
+use Rattle.parking_lot_machine_waits.specs.Whole.{front_of, named, place_of}
 
 both : (a b : Bool) → a ≡ true → b ≡ true → (a && b) ≡ true
 both true b x y = y
@@ -57,11 +63,13 @@ module _ (s : State) (k m : ℕ) (low : k < length s.calls) (mutex : slice_get s
 
   -- one that owns it may give it up
   pub may_unlock : IsSo Owns s k m → may_begin s k m call.Unlock ≡ true
-  may_unlock (none, owns) = both _ _ (lt-ltb k _ low) (both _ _ (idle none) (both _ _ (ap (λ o. takes o call.Unlock) mutex) owns))
+  may_unlock (none, owns) =
+      both _ _ (lt-ltb k _ low) (both _ _ (idle none) (both _ _ (ap (λ o. takes o call.Unlock) mutex) owns))
 
   -- and one that owns nothing of it may ask for it
   pub may_lock : IsSo Away s k m → may_begin s k m call.Lock ≡ true
-  may_lock (none, owns) = both _ _ (lt-ltb k _ low) (both _ _ (idle none) (both _ _ (ap (λ o. takes o call.Lock) mutex) owns))
+  may_lock (none, owns) =
+      both _ _ (lt-ltb k _ low) (both _ _ (idle none) (both _ _ (ap (λ o. takes o call.Lock) mutex) owns))
 
 at_mutex : (c : RowCore) → IsOfKind (Some kind.Mutex) c → is_at_mutex c ≡ true
 at_mutex (row_core.Mutex k) is = refl
@@ -71,15 +79,21 @@ at_mutex (row_core.LateRw p) is = absurd cc
 at_mutex (row_core.Upgrade k) is = absurd cc
 
 -- one that is in a call there is at a mutex
-pub is_there : (s : State) (k m : ℕ) → FitsTogether s → slice_get s.kinds m ≡ Some kind.Mutex → IsSo Asks s k m → option_map_or (λ (c : Call). is_at_mutex c.core) (row_call_at s k) false ≡ true
+pub is_there : (s : State) (k m : ℕ) → FitsTogether s → slice_get s.kinds m ≡ Some kind.Mutex → IsSo Asks s k m
+    → option_map_or (λ (c : Call). is_at_mutex c.core) (row_call_at s k) false ≡ true
 is_there s k m fits mutex is =
     ap (λ (o : Option Call). option_map_or (λ (c : Call). is_at_mutex c.core) o false) is.here
-    ∙ at_mutex is.call.core (subst (λ (o : Option LockKind). IsOfKind o is.call.core) (ap (slice_get s.kinds) is.lock ∙ mutex) (fits.rules.kinds k is.call is.here))
+    ∙ at_mutex is.call.core
+    (subst (λ (o : Option LockKind). IsOfKind o is.call.core) (ap (slice_get s.kinds) is.lock ∙ mutex)
+    (fits.rules.kinds k is.call is.here))
 
 -- WHO WAITS AT A VARIABLE
 
--- One that is listed outside the section is in no call at the mutex that is shown, and owns nothing of it; off the list it asks for it.
-waiting_case : (listed : Bool) (p : WaitPhase) (m word : ℕ) → 0 < rules.weight rules.Waiting (waits.does (spot_of listed) p) → rules.Agrees word (waits.does (spot_of listed) p) → named p m ≡ m → wait_is_inside listed p ≡ false
+-- One that is listed outside the section is in no call at the mutex that is shown, and owns nothing of it; off the list
+-- it asks for it.
+waiting_case : (listed : Bool) (p : WaitPhase) (m word : ℕ)
+    → 0 < rules.weight rules.Waiting (waits.does (spot_of listed) p) → rules.Agrees word (waits.does (spot_of listed) p)
+    → named p m ≡ m → wait_is_inside listed p ≡ false
     → (back_of listed p ≡ Away) × (back_of false p ≡ Asks) × (word ≡ m + 1)
 unfolding rules.weight
 waiting_case listed (w.Shows k) m word some agrees names out = absurd cc
@@ -133,9 +147,11 @@ nobody_idle e = absurd (omega (arith, e))
 -- what each of a list is, by standing there
 pub all_of : (f : ℕ → Bool) (ws : List ℕ) → ((u : ℕ) → 0 < occurs u ws → f u ≡ true) → list_all f ws ≡ true
 all_of f [] each = refl
-all_of f (u ∷ ws) each = both _ _ (each u (omega (arith, occurs-cons u u ws, counted-same u))) (all_of f ws (λ x some. each x (omega (arith, some, occurs-cons x u ws))))
+all_of f (u ∷ ws) each = both _ _ (each u (omega (arith, occurs-cons u u ws, counted-same u)))
+    (all_of f ws (λ x some. each x (omega (arith, some, occurs-cons x u ws))))
 
-any_of : {A : Type 0} (f : A → Bool) (xs : List A) (i : ℕ) (x : A) → slice_get xs i ≡ Some x → f x ≡ true → list_any f xs ≡ true
+any_of : {A : Type 0} (f : A → Bool) (xs : List A) (i : ℕ) (x : A) → slice_get xs i ≡ Some x → f x ≡ true
+    → list_any f xs ≡ true
 any_of f [] i x at is = absurd (none-some x at)
 any_of f (y ∷ ys) zero x at is = here (f y) (ap f (same_Some y x at) ∙ is)
   where
@@ -163,7 +179,8 @@ has_entered x t e = go x.inside e
     go None e = absurd cc
     go (Some v) e = refl
 
-in_var : (vars : List (Option Var)) (v : ℕ) (x : Var) → option_and_then (λ (o : Option Var). o) (slice_get vars v) ≡ Some x → slice_get vars v ≡ Some (Some x)
+in_var : (vars : List (Option Var)) (v : ℕ) (x : Var) → option_and_then (λ (o : Option Var). o) (slice_get vars v)
+    ≡ Some x → slice_get vars v ≡ Some (Some x)
 in_var vars v x e = go (slice_get vars v) refl
   where
     go : (o : Option (Option Var)) → slice_get vars v ≡ o → slice_get vars v ≡ Some (Some x)
@@ -171,7 +188,8 @@ in_var vars v x e = go (slice_get vars v) refl
     go (Some y) is = is ∙ ap Some (sym (ap (option_and_then (λ (o : Option Var). o)) is) ∙ e)
 
 -- where a section of a variable is open, none of a lock is
-pub locks_closed : (j : Joint) (v t : ℕ) (x : Var) → IsWhole j → var_at j v ≡ Some x → is_the x.inside t ≡ true → (state j.rows).lot.section ≡ None
+pub locks_closed : (j : Joint) (v t : ℕ) (x : Var) → IsWhole j → var_at j v ≡ Some x → is_the x.inside t ≡ true
+    → (state j.rows).lot.section ≡ None
 locks_closed j v t x h here inside = elim h.sections [
   | inl e ↦ e
   | inr e ↦ not_open _ (any_of is_entered j.vars v (Some x) (in_var j.vars v x here) (has_entered x t inside)) e
@@ -196,65 +214,91 @@ module _ (j : Joint) (h : IsWhole j) (v : ℕ) (x : Var) (at : var_at j v ≡ So
   here_too u c here = ap (λ (o : Option Var). call_in o u) at ∙ here
 
   pub thread_low : (u : ℕ) (c : OpenCall) → var_call_at x u ≡ Some c → u < length j.seats
-  thread_low u c here = subst (λ m. u < m) (h.threads v x at) (slice_get_within x.calls u (Some c) (slot_of (slice_get x.calls u) here))
+  thread_low u c here = subst (λ m. u < m) (h.threads v x at)
+      (slice_get_within x.calls u (Some c) (slot_of (slice_get x.calls u) here))
     where
-      slot_of : (o : Option (Option OpenCall)) → option_and_then (λ (y : Option OpenCall). y) o ≡ Some c → o ≡ Some (Some c)
+      slot_of : (o : Option (Option OpenCall)) → option_and_then (λ (y : Option OpenCall). y) o ≡ Some c
+          → o ≡ Some (Some c)
       slot_of None e = absurd (none-some c e)
       slot_of (Some y) e = ap Some e
 
   -- one in a call at the variable that waits in its list, where another is in the section
-  by_core : (u : ℕ) (c : OpenCall) (k : Core) → var_call_at x u ≡ Some c → c.core ≡ k → 0 < rules.weight rules.Waiting (phase_by c.listed k) → rules.Agrees x.word (phase_by c.listed k) → is_inside_by c.listed k ≡ false → Stands j u c k → Waiter x u
+  by_core : (u : ℕ) (c : OpenCall) (k : Core) → var_call_at x u ≡ Some c → c.core ≡ k
+      → 0 < rules.weight rules.Waiting (phase_by c.listed k) → rules.Agrees x.word (phase_by c.listed k)
+      → is_inside_by c.listed k ≡ false → Stands j u c k → Waiter x u
   by_core u c (core.Notify k) here is some agrees out stands = absurd (omega (arith, some, notify_waits k.phase))
   by_core u c (core.Wait k) here is some agrees out stands =
       let (away, off, word) = waiting_case c.listed k.phase (mutex_of c.call) x.word some agrees stands.names out in
       record { call = c; here = here; phase = k.phase; core = is; away = away; off = off; word = word }
 
-  by_call : (t u : ℕ) (o : Option OpenCall) → var_call_at x u ≡ o → 0 < rules.weight rules.Waiting (phase_in o) → rules.Agrees x.word (phase_in o) → is_the x.inside t ≡ true → u ≢ t → Waiter x u
+  by_call : (t u : ℕ) (o : Option OpenCall) → var_call_at x u ≡ o → 0 < rules.weight rules.Waiting (phase_in o)
+      → rules.Agrees x.word (phase_in o) → is_the x.inside t ≡ true → u ≢ t → Waiter x u
   by_call t u None here some agrees inside other = nobody_idle some
-  by_call t u (Some c) here some agrees inside other = by_core u c c.core here refl some agrees (outside (is_inside c) (known.0.seated u c here).section) (h.stands v u c (here_too u c here))
+  by_call t u (Some c) here some agrees inside other = by_core u c c.core here refl some agrees
+      (outside (is_inside c) (known.0.seated u c here).section) (h.stands v u c (here_too u c here))
     where
       outside : (b : Bool) → b ≡ is_the x.inside u → b ≡ false
       outside true e = absurd (other (same_thread x.inside u t (sym e) inside))
       outside false e = refl
 
   pub waiter : (t u : ℕ) → is_the x.inside t ≡ true → u ≢ t → 0 < occurs u x.queue → Waiter x u
-  waiter t u inside other some = by_slot (slice_get x.calls u) refl (subst (λ m. 0 < m) (known.1.lists u ∙ ap (at_index (rules.weight rules.Waiting)) (slice_get-map phase_in x.calls u)) some)
+  waiter t u inside other some = by_slot (slice_get x.calls u) refl
+      (subst (λ m. 0 < m)
+      (known.1.lists u ∙ ap (at_index (rules.weight rules.Waiting)) (slice_get-map phase_in x.calls u)) some)
     where
-      by_slot : (o : Option (Option OpenCall)) → slice_get x.calls u ≡ o → 0 < at_index (rules.weight rules.Waiting) (option_map phase_in o) → Waiter x u
+      by_slot : (o : Option (Option OpenCall)) → slice_get x.calls u ≡ o → 0 < at_index (rules.weight rules.Waiting)
+          (option_map phase_in o) → Waiter x u
       by_slot None is some = absurd (omega (arith, some))
       by_slot (Some o) is some =
-          by_call t u o (ap (option_and_then (λ (y : Option OpenCall). y)) is) some (known.0.sound.agrees u (phase_in o) (slice_get-map phase_in x.calls u ∙ ap (option_map phase_in) is)) inside other
+          by_call t u o (ap (option_and_then (λ (y : Option OpenCall). y)) is) some
+          (known.0.sound.agrees u (phase_in o) (slice_get-map phase_in x.calls u ∙ ap (option_map phase_in) is))
+          inside other
 
   may_be_moved : (u : ℕ) → (state j.rows).lot.section ≡ None → Waiter x u → may_move j (x.word - 1) u ≡ true
   may_be_moved u closed y =
-      let stands : Waits j u y.call y.phase = subst (Stands j u y.call) y.core (h.stands v u y.call (here_too u y.call y.here)) in
+      let stands : Waits j u y.call y.phase = subst (Stands j u y.call) y.core
+      (h.stands v u y.call (here_too u y.call y.here)) in
       let low = thread_low u y.call y.here in
-      let may = may_lock (state j.rows) (back_number j u) (mutex_of y.call.call) (subst (λ m. back_number j u < m) (sym h.numbers) (number_low (length j.seats) u (seat_at j u).second low)) stands.mutex.kind
+      let may = may_lock (state j.rows) (back_number j u) (mutex_of y.call.call)
+      (subst (λ m. back_number j u < m) (sym h.numbers) (number_low (length j.seats) u (seat_at j u).second low))
+      stands.mutex.kind
       (subst (λ (a : AtMutex). IsSo a (state j.rows) (back_number j u) (mutex_of y.call.call)) y.away stands.back) in
-      both _ _ (lt-ltb u _ low) (both _ _ (subst (λ m. may_begin (state j.rows) (back_number j u) m call.Lock ≡ true) (omega (arith, y.word)) may) (ap (λ (o : Option Section). not (is_some o)) closed))
+      both _ _ (lt-ltb u _ low)
+      (both _ _ (subst (λ m. may_begin (state j.rows) (back_number j u) m call.Lock ≡ true) (omega (arith, y.word))
+      may) (ap (λ (o : Option Section). not (is_some o)) closed))
 
   -- whoever stands in its list may be moved, where a notification is in the section
-  all_may : (t : ℕ) → is_the x.inside t ≡ true → ((u : ℕ) → 0 < occurs u x.queue → u ≢ t) → list_all (may_move j (x.word - 1)) x.queue ≡ true
-  all_may t inside others = all_of (may_move j (x.word - 1)) x.queue (λ u some. may_be_moved u (locks_closed j v t x h at inside) (waiter t u inside (others u some) some))
+  all_may : (t : ℕ) → is_the x.inside t ≡ true → ((u : ℕ) → 0 < occurs u x.queue → u ≢ t)
+      → list_all (may_move j (x.word - 1)) x.queue ≡ true
+  all_may t inside others = all_of (may_move j (x.word - 1)) x.queue
+      (λ u some. may_be_moved u (locks_closed j v t x h at inside) (waiter t u inside (others u some) some))
 
   -- a notification itself doesn't stand there
-  pub not_itself : (t : ℕ) (c : OpenCall) → var_call_at x t ≡ Some c → (m : Marking c) → (u : ℕ) → 0 < occurs u x.queue → u ≢ t
+  pub not_itself : (t : ℕ) (c : OpenCall) → var_call_at x t ≡ Some c → (m : Marking c) → (u : ℕ) → 0 < occurs u x.queue
+      → u ≢ t
   not_itself t c here m u some e = by_slot (slice_get x.calls t) refl here
     where
       weighs : 0 < at_index (rules.weight rules.Waiting) (slice_get (variable x).phases t)
-      weighs = subst (λ (y : ℕ). 0 < at_index (rules.weight rules.Waiting) (slice_get (variable x).phases y)) e (subst (λ n. 0 < n) (known.1.lists u) some)
+      weighs = subst (λ (y : ℕ). 0 < at_index (rules.weight rules.Waiting) (slice_get (variable x).phases y)) e
+          (subst (λ n. 0 < n) (known.1.lists u) some)
 
-      by_slot : (o : Option (Option OpenCall)) → slice_get x.calls t ≡ o → option_and_then (λ (y : Option OpenCall). y) o ≡ Some c → ⊥
+      by_slot : (o : Option (Option OpenCall)) → slice_get x.calls t ≡ o → option_and_then (λ (y : Option OpenCall). y)
+          o ≡ Some c → ⊥
       by_slot None is e = absurd (none-some c e)
       by_slot (Some o) is e = absurd (omega (
         arith,
         weighs,
-        ap (at_index (rules.weight rules.Waiting)) (slice_get-map phase_in x.calls t ∙ ap (option_map phase_in) is) ∙ ap (λ (y : Option OpenCall). rules.weight rules.Waiting (phase_in y)) e ∙ ap (λ (k : Core). rules.weight rules.Waiting (phase_by c.listed k)) m.is,
+        ap (at_index (rules.weight rules.Waiting)) (slice_get-map phase_in x.calls t ∙ ap (option_map phase_in) is)
+            ∙ ap (λ (y : Option OpenCall). rules.weight rules.Waiting (phase_in y)) e
+            ∙ ap (λ (k : Core). rules.weight rules.Waiting (phase_by c.listed k)) m.is,
         notify_waits (n.Marks m.all),
       ))
 
-  moves_all : (t : ℕ) (c : OpenCall) → var_call_at x t ≡ Some c → Marking c → list_all (may_move j (x.word - 1)) x.queue ≡ true
-  moves_all t c here m = all_may t (sym (known.0.seated t c here).section ∙ ap (λ (k : Core). is_inside_by c.listed k) m.is) (not_itself t c here m)
+  moves_all : (t : ℕ) (c : OpenCall) → var_call_at x t ≡ Some c → Marking c → list_all (may_move j (x.word - 1)) x.queue
+      ≡ true
+  moves_all t c here m =
+      all_may t (sym (known.0.seated t c here).section ∙ ap (λ (k : Core). is_inside_by c.listed k) m.is)
+      (not_itself t c here m)
 
 -- WHAT A TURN NEEDS
 
@@ -317,24 +361,31 @@ not_of_wait n.Invalid = tt
 
 module _ (j : Joint) (h : IsWhole j) (fits : FitsTogether (state j.rows)) (v t : ℕ) (c : OpenCall) where
   low_number : (second : Bool) → t < length j.seats → cond second (length j.seats + t) t < length (state j.rows).calls
-  low_number second low = subst (λ m. cond second (length j.seats + t) t < m) (sym h.numbers) (number_low (length j.seats) t second low)
+  low_number second low = subst (λ m. cond second (length j.seats + t) t < m) (sym h.numbers)
+      (number_low (length j.seats) t second low)
 
-  by_turn : (p : WaitPhase) (x : Turn) → t < length j.seats → Waits j t c p → Needs x (front_of p) (back_of c.listed p) → turn_is_ready x j t v c ≡ true
+  by_turn : (p : WaitPhase) (x : Turn) → t < length j.seats → Waits j t c p → Needs x (front_of p) (back_of c.listed p)
+      → turn_is_ready x j t v c ≡ true
   by_turn p turn.Sleeps low s need = refl
   by_turn p turn.Acts low s need = refl
   by_turn p turn.GivesUp low s need =
-      may_unlock (state j.rows) (front_number j t) (mutex_of c.call) (low_number (not (seat_at j t).second) low) s.mutex.kind (subst (λ (a : AtMutex). IsSo a (state j.rows) (front_number j t) (mutex_of c.call)) need s.front)
+      may_unlock (state j.rows) (front_number j t) (mutex_of c.call) (low_number (not (seat_at j t).second) low)
+      s.mutex.kind (subst (λ (a : AtMutex). IsSo a (state j.rows) (front_number j t) (mutex_of c.call)) need
+      s.front)
   by_turn p turn.LocksAgain low s need =
-      may_lock (state j.rows) (back_number j t) (mutex_of c.call) (low_number (seat_at j t).second low) s.mutex.kind (subst (λ (a : AtMutex). IsSo a (state j.rows) (back_number j t) (mutex_of c.call)) need s.back)
+      may_lock (state j.rows) (back_number j t) (mutex_of c.call) (low_number (seat_at j t).second low) s.mutex.kind
+      (subst (λ (a : AtMutex). IsSo a (state j.rows) (back_number j t) (mutex_of c.call)) need s.back)
   by_turn p turn.Unlocks low s need = refl
   by_turn p turn.Follows low s need =
-      is_there (state j.rows) (back_number j t) (mutex_of c.call) fits s.mutex.kind (subst (λ (a : AtMutex). IsSo a (state j.rows) (back_number j t) (mutex_of c.call)) need s.back)
+      is_there (state j.rows) (back_number j t) (mutex_of c.call) fits s.mutex.kind
+      (subst (λ (a : AtMutex). IsSo a (state j.rows) (back_number j t) (mutex_of c.call)) need s.back)
   by_turn p turn.Locks low s need = refl
   by_turn p turn.ComesBack low s need = refl
   by_turn p turn.Hears low s need = refl
   by_turn p turn.Moves low s need = absurd need
 
-  by_notice : (x : Turn) → (is_moving x ≡ true → may_move_all j (var_at j v) ≡ true) → NotOfWait x → turn_is_ready x j t v c ≡ true
+  by_notice : (x : Turn) → (is_moving x ≡ true → may_move_all j (var_at j v) ≡ true) → NotOfWait x
+      → turn_is_ready x j t v c ≡ true
   by_notice turn.Sleeps moves is = refl
   by_notice turn.Acts moves is = refl
   by_notice turn.GivesUp moves is = absurd is
@@ -346,11 +397,15 @@ module _ (j : Joint) (h : IsWhole j) (fits : FitsTogether (state j.rows)) (v t :
   by_notice turn.Hears moves is = refl
   by_notice turn.Moves moves is = moves refl
 
-  at_var : (o : Option Var) → var_at j v ≡ o → KnownIn o → call_in o t ≡ Some c → (k : Core) → c.core ≡ k → Stands j t c k → turn_is_ready (turn_by c.listed k) j t v c ≡ true
+  at_var : (o : Option Var) → var_at j v ≡ o → KnownIn o → call_in o t ≡ Some c → (k : Core) → c.core ≡ k
+      → Stands j t c k → turn_is_ready (turn_by c.listed k) j t v c ≡ true
   at_var None at known here k is stands = absurd (none-some c here)
-  at_var (Some x) at known here (core.Wait k) is stands = by_turn k.phase (wait_turn c.listed k.phase) (thread_low j h v x at known t c here) stands (stood c.listed k.phase)
+  at_var (Some x) at known here (core.Wait k) is stands = by_turn k.phase (wait_turn c.listed k.phase)
+      (thread_low j h v x at known t c here) stands (stood c.listed k.phase)
   at_var (Some x) at known here (core.Notify k) is stands =
-      by_notice (notify_turn k.phase) (λ e. ap (λ (o : Option Var). may_move_all j o) at ∙ moves_all j h v x at known t c here (marking c (ap (λ (d : Core). is_moving (turn_by c.listed d)) is ∙ e))) (not_of_wait k.phase)
+      by_notice (notify_turn k.phase)
+      (λ e. ap (λ (o : Option Var). may_move_all j o) at ∙ moves_all j h v x at known t c here
+      (marking c (ap (λ (d : Core). is_moving (turn_by c.listed d)) is ∙ e))) (not_of_wait k.phase)
 
   pub turn_ready : KnownIn (var_at j v) → call_at j v t ≡ Some c → turn_is_ready (turn_of c) j t v c ≡ true
   turn_ready known here = at_var (var_at j v) refl known here c.core refl (h.stands v t c here)

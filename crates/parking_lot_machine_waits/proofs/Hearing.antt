@@ -37,7 +37,8 @@ abbrev pub is_following : Turn → Bool
 is_following turn.Follows = true
 is_following t = false
 
-wait_told : (timed listed : Bool) (p : WaitPhase) → is_told (wait_turn listed p) ≡ true → wait_fits timed listed p outside.Made ≡ true
+wait_told : (timed listed : Bool) (p : WaitPhase) → is_told (wait_turn listed p) ≡ true
+    → wait_fits timed listed p outside.Made ≡ true
 wait_told timed listed (w.Waiting k) e = absurd cc
 wait_told timed listed w.Stranger e = absurd cc
 wait_told timed listed w.GivingWay e = absurd cc
@@ -65,7 +66,8 @@ wait_told timed listed (w.Locks timed_out) e = refl
 wait_told timed listed (w.Ends a) e = absurd cc
 wait_told timed listed w.Invalid e = absurd cc
 
-notify_told : (taken : ℕ) (left : Bool) (p : NotifyPhase) → is_told (notify_turn p) ≡ true → notify_fits taken left p outside.Made ≡ true
+notify_told : (taken : ℕ) (left : Bool) (p : NotifyPhase) → is_told (notify_turn p) ≡ true
+    → notify_fits taken left p outside.Made ≡ true
 notify_told taken left (n.Notifying all) e = absurd cc
 notify_told taken left (n.Loads all) e = absurd cc
 notify_told taken left (n.Enters all word) e = absurd cc
@@ -79,7 +81,8 @@ notify_told taken left (n.Wakes count) e = refl
 notify_told taken left (n.Ends count) e = absurd cc
 notify_told taken left n.Invalid e = absurd cc
 
-wait_woken : (timed listed : Bool) (token : UnparkToken) (p : WaitPhase) → is_following (wait_turn listed p) ≡ true → wait_fits timed listed p (wait_wakes p token) ≡ true
+wait_woken : (timed listed : Bool) (token : UnparkToken) (p : WaitPhase) → is_following (wait_turn listed p) ≡ true
+    → wait_fits timed listed p (wait_wakes p token) ≡ true
 wait_woken timed listed token (w.Waiting k) e = absurd cc
 wait_woken timed listed token w.Stranger e = absurd cc
 wait_woken timed listed token w.GivingWay e = absurd cc
@@ -121,29 +124,38 @@ notify_woken (n.Wakes count) e = absurd cc
 notify_woken (n.Ends count) e = absurd cc
 notify_woken n.Invalid e = absurd cc
 
-told_by : (c : OpenCall) (left : Bool) (k : Core) → is_told (turn_by c.listed k) ≡ true → hears_by c left outside.Made k ≡ true
+told_by : (c : OpenCall) (left : Bool) (k : Core) → is_told (turn_by c.listed k) ≡ true
+    → hears_by c left outside.Made k ≡ true
 told_by c left (core.Wait k) e = wait_told (is_timed c.call) c.listed k.phase e
 told_by c left (core.Notify k) e = notify_told c.taken left k.phase e
 
-woken_by : (c : OpenCall) (left : Bool) (token : UnparkToken) (k : Core) → is_following (turn_by c.listed k) ≡ true → hears_by c left (wakes_with k token) k ≡ true
+woken_by : (c : OpenCall) (left : Bool) (token : UnparkToken) (k : Core) → is_following (turn_by c.listed k) ≡ true
+    → hears_by c left (wakes_with k token) k ≡ true
 woken_by c left token (core.Wait k) e = wait_woken (is_timed c.call) c.listed token k.phase e
 woken_by c left token (core.Notify k) e = notify_woken k.phase e
 
-hears_there : (x : Option Var) (t : ℕ) (c : OpenCall) (seen : Outside) → call_in x t ≡ Some c → ((left : Bool) → hears_by c left seen c.core ≡ true) → var_hears x t seen ≡ true
+hears_there : (x : Option Var) (t : ℕ) (c : OpenCall) (seen : Outside) → call_in x t ≡ Some c
+    → ((left : Bool) → hears_by c left seen c.core ≡ true) → var_hears x t seen ≡ true
 hears_there None t c seen here hears = absurd (none-some c here)
-hears_there (Some x) t c seen here hears = ap (λ o. option_map_or (may_hear x.queue seen) o false) here ∙ hears (is_left x.queue)
+hears_there (Some x) t c seen here hears = ap (λ o. option_map_or (may_hear x.queue seen) o false) here
+    ∙ hears (is_left x.queue)
 
 -- The call can be told so, by its turn.
-pub hears_made : (x : Option Var) (t : ℕ) (c : OpenCall) → call_in x t ≡ Some c → is_told (turn_of c) ≡ true → var_hears x t outside.Made ≡ true
+pub hears_made : (x : Option Var) (t : ℕ) (c : OpenCall) → call_in x t ≡ Some c → is_told (turn_of c) ≡ true
+    → var_hears x t outside.Made ≡ true
 hears_made x t c here e = hears_there x t c outside.Made here (λ left. told_by c left c.core e)
 
-pub hears_waking : (x : Option Var) (t : ℕ) (c : OpenCall) (token : UnparkToken) → call_in x t ≡ Some c → is_following (turn_of c) ≡ true → var_hears x t (wakes_with c.core token) ≡ true
-hears_waking x t c token here e = hears_there x t c (wakes_with c.core token) here (λ left. woken_by c left token c.core e)
+pub hears_waking : (x : Option Var) (t : ℕ) (c : OpenCall) (token : UnparkToken) → call_in x t ≡ Some c
+    → is_following (turn_of c) ≡ true → var_hears x t (wakes_with c.core token) ≡ true
+hears_waking x t c token here e = hears_there x t c (wakes_with c.core token) here
+    (λ left. woken_by c left token c.core e)
 
 -- One whose deadline may come in a call at a variable can be told so there.
-pub can_expire : (o : Option ℕ) (v : ℕ) (j : Joint) (t : ℕ) → o ≡ Some v → may_expire_at o j t ≡ true → var_hears (var_at j v) t outside.Expired ≡ true
+pub can_expire : (o : Option ℕ) (v : ℕ) (j : Joint) (t : ℕ) → o ≡ Some v → may_expire_at o j t ≡ true
+    → var_hears (var_at j v) t outside.Expired ≡ true
 can_expire None v j t is may = absurd (none-some v is)
-can_expire (Some u) v j t is may = subst (λ (w : ℕ). var_hears (var_at j w) t outside.Expired ≡ true) (same is) (of_call (call_at j u t) may)
+can_expire (Some u) v j t is may = subst (λ (w : ℕ). var_hears (var_at j w) t outside.Expired ≡ true) (same is)
+    (of_call (call_at j u t) may)
   where
     same : {a b : ℕ} → Some a ≡ Some b → a ≡ b
     same e = cc

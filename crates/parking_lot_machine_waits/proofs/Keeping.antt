@@ -1,5 +1,7 @@
 -- A machine stays whole where a step changes only what some threads have, and each of these stands as its wait says.
-use Rattle.std.proofs.Common.{◌≡◌, ◌≢◌, ◌⊎◌, ◌||◌, inl, inr, ℕ, zero, suc, ◌+◌, ◌-◌, ◌*◌, ◌==◌, ◌<◌, ◌≤◌, Bool, true, false, not, cond, List, [], ◌∷◌, length, Option, Some, None, option_map, slice_get, slice_set, refl, sym, ap, ◌∙◌, subst, arith, eq-eqb, eqb-true}
+use Rattle.std.proofs.Common.{◌≡◌, ◌≢◌, ◌⊎◌, ◌||◌, inl, inr, ℕ, zero, suc, ◌+◌, ◌-◌, ◌*◌, ◌==◌, ◌<◌, ◌≤◌, Bool, true}
+use Rattle.std.proofs.Common.{false, not, cond, List, [], ◌∷◌, length, Option, Some, None, option_map, slice_get}
+use Rattle.std.proofs.Common.{slice_set, refl, sym, ap, ◌∙◌, subst, arith, eq-eqb, eqb-true}
 use Rattle.std.specs.List.{list_any}
 use Rattle.std.specs.Option.{option_and_then, unwrap_or}
 use Rattle.std.proofs.lemmas.Bool.{cases_lt}
@@ -18,9 +20,12 @@ use Rattle.parking_lot_machine_calls.specs.declared.seat.Core.{Core as RowCore}
 use Rattle.parking_lot_machine_calls.specs.Beginnings.{excludes, owns_nothing}
 use Rattle.parking_lot_machine.specs.Rows.{Rows, State, call_at as row_call_at, hold_at, state}
 use Rattle.parking_lot_machine_waits.specs.declared.seat.Seat.{Seat}
-use Rattle.parking_lot_machine_waits.specs.Joint.{Joint, back_number, call_at, call_in, front_number, is_entered, is_open_at_variables, nowhere, number, seat_at, var_at, var_in}
+use Rattle.parking_lot_machine_waits.specs.Joint.{Joint, back_number, call_at, call_in, front_number, is_entered}
+use Rattle.parking_lot_machine_waits.specs.Joint.{is_open_at_variables, nowhere, number, seat_at, var_at, var_in}
 use Rattle.parking_lot_machine_waits.specs.Turns.{mutex_of}
-use Rattle.parking_lot_machine_waits.specs.Whole.{AtMutex, Owns, Away, Gives, Asks, AsksOn, Never, IsIn, IsMutex, IsSo, IsWhole, Stands, asks, asks_on, back_of, front_of, gives, is_entered_at}
+use Rattle.parking_lot_machine_waits.specs.Whole.{AtMutex, Owns, Away, Gives, Asks, AsksOn, Never, IsIn, IsMutex, IsSo}
+use Rattle.parking_lot_machine_waits.specs.Whole.{IsWhole, Stands, asks, asks_on, back_of, front_of, gives}
+use Rattle.parking_lot_machine_waits.specs.Whole.{is_entered_at}
 use Rattle.parking_lot_machine_waits.proofs.Places.{Same}
 
 -- WHAT STAYS OF A NUMBER
@@ -32,11 +37,13 @@ pub record Stays (s u : State) (k : ℕ) : Type 0 where
   pub asking : (m : ℕ) → IsIn asks s k m → IsIn asks u k m
   pub asking_on : (m : ℕ) → IsIn asks_on s k m → IsIn asks_on u k m
 
-pub in_still : (sort : RowCore → Bool) (s u : State) (k m : ℕ) → row_call_at u k ≡ row_call_at s k → IsIn sort s k m → IsIn sort u k m
+pub in_still : (sort : RowCore → Bool) (s u : State) (k m : ℕ) → row_call_at u k ≡ row_call_at s k → IsIn sort s k m
+    → IsIn sort u k m
 in_still sort s u k m e x = record { call = x.call; here = e ∙ x.here; lock = x.lock; is = x.is }
 
 -- where its call is the same
-pub untouched : (s u : State) (k : ℕ) → row_call_at u k ≡ row_call_at s k → ((m : ℕ) → hold_at u k m ≡ hold_at s k m) → Stays s u k
+pub untouched : (s u : State) (k : ℕ) → row_call_at u k ≡ row_call_at s k → ((m : ℕ) → hold_at u k m ≡ hold_at s k m)
+    → Stays s u k
 untouched s u k e holds = record {
   same = record { place = ap (option_map (λ (c : Call). c.lock)) e; holds = holds };
   giving = λ m. in_still gives s u k m e;
@@ -65,7 +72,8 @@ pub place_in : (o : Option Call) → option_map (λ (c : Call). c.lock) o ≡ No
 place_in None e = refl
 place_in (Some c) e = absurd cc
 
-pub has_place : (o : Option Call) (m : ℕ) → option_map (λ (c : Call). c.lock) o ≡ Some m → (c : Call) × (o ≡ Some c) × (c.lock ≡ m)
+pub has_place : (o : Option Call) (m : ℕ) → option_map (λ (c : Call). c.lock) o ≡ Some m → (c : Call) × (o ≡ Some c)
+    × (c.lock ≡ m)
 has_place None m e = absurd cc
 has_place (Some c) m e = (c, refl, same_Some c.lock m e)
 
@@ -78,13 +86,15 @@ none_still s u k x e = place_in (row_call_at u k) (x.same.place ∙ ap (option_m
 pub record RowsKept (i j : Joint) (mine : ℕ → Bool) : Type 0 where
   pub count : length (state j.rows).calls ≡ length (state i.rows).calls
   pub kinds : (state j.rows).kinds ≡ (state i.rows).kinds
-  pub others : (k : ℕ) → ((t : ℕ) (second : Bool) → mine t ≡ true → k ≢ number i t second) → Stays (state i.rows) (state j.rows) k
+  pub others : (k : ℕ) → ((t : ℕ) (second : Bool) → mine t ≡ true → k ≢ number i t second)
+      → Stays (state i.rows) (state j.rows) k
 
 -- of the variables
 pub record VarsKept (i j : Joint) (mine : ℕ → Bool) : Type 0 where
   pub calls : (v u : ℕ) → mine u ≡ false → call_at j v u ≡ call_at i v u
   pub plain : (v : ℕ) → var_at i v ≡ None → var_at j v ≡ None
-  pub there : (v : ℕ) (y : Var) → var_at j v ≡ Some y → (x : Var) × (var_at i v ≡ Some x) × (length y.calls ≡ length x.calls)
+  pub there : (v : ℕ) (y : Var) → var_at j v ≡ Some y → (x : Var) × (var_at i v ≡ Some x)
+      × (length y.calls ≡ length x.calls)
 
 -- of the seats
 pub record SeatsKept (i j : Joint) (mine : ℕ → Bool) : Type 0 where
@@ -103,12 +113,15 @@ pub record Anew (j : Joint) (t : ℕ) : Type 0 where
   pub seated : (v : ℕ) (c : OpenCall) → call_at j v t ≡ Some c → (seat_at j t).at ≡ Some v
   pub stands : (v : ℕ) (c : OpenCall) → call_at j v t ≡ Some c → Stands j t c c.core
   pub sits : (v : ℕ) → (seat_at j t).at ≡ Some v → (c : OpenCall) × (call_at j v t ≡ Some c)
-  pub one : (seat_at j t).at ≡ None → (row_call_at (state j.rows) (number j t false) ≡ None) ⊎ (row_call_at (state j.rows) (number j t true) ≡ None)
-  pub rows : (second : Bool) (c : Call) → row_call_at (state j.rows) (number j t second) ≡ Some c → var_at j c.lock ≡ None
+  pub one : (seat_at j t).at ≡ None → (row_call_at (state j.rows) (number j t false) ≡ None)
+      ⊎ (row_call_at (state j.rows) (number j t true) ≡ None)
+  pub rows : (second : Bool) (c : Call) → row_call_at (state j.rows) (number j t second) ≡ Some c
+      → var_at j c.lock ≡ None
 
 -- and of no thread alone
 abbrev pub HoldsWhole : State → Type 0
-HoldsWhole s = (k m : ℕ) → slice_get s.kinds m ≡ Some kind.Mutex → (excludes (hold_at s k m) ≡ true) ⊎ (owns_nothing (hold_at s k m) ≡ true)
+HoldsWhole s = (k m : ℕ) → slice_get s.kinds m ≡ Some kind.Mutex → (excludes (hold_at s k m) ≡ true)
+    ⊎ (owns_nothing (hold_at s k m) ≡ true)
 
 pub record AreShut (j : Joint) : Type 0 where
   pub sections : ((state j.rows).lot.section ≡ None) ⊎ (is_open_at_variables j ≡ false)
@@ -137,11 +150,16 @@ module _ (i j : Joint) (mine : ℕ → Bool) (f : Frame i j mine) where
 
   as_first : (k : ℕ) (b : Bool) → mine k ≡ b → k < length i.seats → Of k ⊎ Stays (state i.rows) (state j.rows) k
   as_first k true e low = inl (k, false, e, refl)
-  as_first k false e low = inr (f.rows.others k (λ t second m. first_apart (length i.seats) k t second low (differs mine k t e m)))
+  as_first k false e low =
+      inr (f.rows.others k (λ t second m. first_apart (length i.seats) k t second low (differs mine k t e m)))
 
-  as_second : (k : ℕ) (b : Bool) → mine (k - length i.seats) ≡ b → length i.seats ≤ k → Of k ⊎ Stays (state i.rows) (state j.rows) k
+  as_second : (k : ℕ) (b : Bool) → mine (k - length i.seats) ≡ b → length i.seats ≤ k → Of k
+      ⊎ Stays (state i.rows) (state j.rows) k
   as_second k true e high = inl (k - length i.seats, true, e, omega (arith, high, f.seats.count))
-  as_second k false e high = inr (f.rows.others k (λ t second m. second_apart (length i.seats) k t second high (f.low t m) (differs mine (k - length i.seats) t e m)))
+  as_second k false e high =
+      inr (f.rows.others k
+      (λ t second m. second_apart (length i.seats) k t second high (f.low t m)
+      (differs mine (k - length i.seats) t e m)))
 
   -- whose number that is, or that it stays
   who : (k : ℕ) → Of k ⊎ Stays (state i.rows) (state j.rows) k
@@ -151,12 +169,16 @@ module _ (i j : Joint) (mine : ℕ → Bool) (f : Frame i j mine) where
   ]
 
   -- the two numbers of one of the others stay
-  pub numbers_stay : (t : ℕ) (second : Bool) → t < length i.seats → mine t ≡ false → Stays (state i.rows) (state j.rows) (number j t second)
-  numbers_stay t second low e = subst (λ (n : ℕ). Stays (state i.rows) (state j.rows) (cond second (n + t) t)) (sym f.seats.count) (at second)
+  pub numbers_stay : (t : ℕ) (second : Bool) → t < length i.seats → mine t ≡ false
+      → Stays (state i.rows) (state j.rows) (number j t second)
+  numbers_stay t second low e = subst (λ (n : ℕ). Stays (state i.rows) (state j.rows) (cond second (n + t) t))
+      (sym f.seats.count) (at second)
     where
       at : (second : Bool) → Stays (state i.rows) (state j.rows) (number i t second)
       at false = f.rows.others t (λ u second m. first_apart (length i.seats) t u second low (differs mine t u e m))
-      at true = f.rows.others (length i.seats + t) (λ u second m. second_apart (length i.seats) (length i.seats + t) u second (omega arith) (f.low u m) (λ e'. differs mine t u e m (omega (arith, e'))))
+      at true = f.rows.others (length i.seats + t)
+          (λ u second m. second_apart (length i.seats) (length i.seats + t) u second (omega arith) (f.low u m)
+          (λ e'. differs mine t u e m (omega (arith, e'))))
 
 -- ONE OF THE OTHERS
 
@@ -170,18 +192,26 @@ low_at i h v u c here = go (var_at i v) refl here
 
 module _ (i j : Joint) (mine : ℕ → Bool) (h : IsWhole i) (f : Frame i j mine) where
   mutex_still : (m : ℕ) → IsMutex i m → IsMutex j m
-  mutex_still m x = record { kind = ap (λ (ks : List LockKind). slice_get ks m) f.rows.kinds ∙ x.kind; plain = f.vars.plain m x.plain }
+  mutex_still m x = record {
+    kind = ap (λ (ks : List LockKind). slice_get ks m) f.rows.kinds ∙ x.kind;
+    plain = f.vars.plain m x.plain;
+  }
 
   number_still : (t : ℕ) (second : Bool) → number j t second ≡ number i t second
   number_still t second = ap (λ (n : ℕ). cond second (n + t) t) f.seats.count
 
-  same_so : (a : AtMutex) (k l m : ℕ) → k ≡ l → Stays (state i.rows) (state j.rows) k → IsSo a (state i.rows) l m → IsSo a (state j.rows) k m
-  same_so a k l m e x so = so_still a (state i.rows) (state j.rows) k m x (subst (λ (n : ℕ). IsSo a (state i.rows) n m) (sym e) so)
+  same_so : (a : AtMutex) (k l m : ℕ) → k ≡ l → Stays (state i.rows) (state j.rows) k → IsSo a (state i.rows) l m
+      → IsSo a (state j.rows) k m
+  same_so a k l m e x so = so_still a (state i.rows) (state j.rows) k m x
+      (subst (λ (n : ℕ). IsSo a (state i.rows) n m) (sym e) so)
 
-  stand_still : (t : ℕ) (c : OpenCall) (k : Core) → t < length i.seats → mine t ≡ false → Stands i t c k → Stands j t c k
+  stand_still : (t : ℕ) (c : OpenCall) (k : Core) → t < length i.seats → mine t ≡ false → Stands i t c k
+      → Stands j t c k
   stand_still t c (core.Notify k) low e s = record {
-    first = none_still _ _ _ (numbers_stay i j mine f t false low e) (ap (λ (n : ℕ). row_call_at (state i.rows) n) (number_still t false) ∙ s.first);
-    second = none_still _ _ _ (numbers_stay i j mine f t true low e) (ap (λ (n : ℕ). row_call_at (state i.rows) n) (number_still t true) ∙ s.second);
+    first = none_still _ _ _ (numbers_stay i j mine f t false low e)
+        (ap (λ (n : ℕ). row_call_at (state i.rows) n) (number_still t false) ∙ s.first);
+    second = none_still _ _ _ (numbers_stay i j mine f t true low e)
+        (ap (λ (n : ℕ). row_call_at (state i.rows) n) (number_still t true) ∙ s.second);
     turns = s.turns;
   }
   stand_still t c (core.Wait k) low e s =
@@ -189,27 +219,37 @@ module _ (i j : Joint) (mine : ℕ → Bool) (h : IsWhole i) (f : Frame i j mine
       record {
         names = s.names;
         mutex = mutex_still (mutex_of c.call) s.mutex;
-        front = same_so (front_of k.phase) (front_number j t) (front_number i t) (mutex_of c.call) (ap (λ (x : Seat). number j t (not x.second)) seat ∙ number_still t _) (numbers_stay i j mine f t _ low e) s.front;
-        back = same_so (back_of c.listed k.phase) (back_number j t) (back_number i t) (mutex_of c.call) (ap (λ (x : Seat). number j t x.second) seat ∙ number_still t _) (numbers_stay i j mine f t _ low e) s.back;
+        front = same_so (front_of k.phase) (front_number j t) (front_number i t) (mutex_of c.call)
+            (ap (λ (x : Seat). number j t (not x.second)) seat ∙ number_still t _) (numbers_stay i j mine f t _ low e)
+            s.front;
+        back = same_so (back_of c.listed k.phase) (back_number j t) (back_number i t) (mutex_of c.call)
+            (ap (λ (x : Seat). number j t x.second) seat ∙ number_still t _) (numbers_stay i j mine f t _ low e) s.back;
       }
 
-  row_still : (k : ℕ) (c : Call) → Stays (state i.rows) (state j.rows) k → row_call_at (state j.rows) k ≡ Some c → var_at j c.lock ≡ None
+  row_still : (k : ℕ) (c : Call) → Stays (state i.rows) (state j.rows) k → row_call_at (state j.rows) k ≡ Some c
+      → var_at j c.lock ≡ None
   row_still k c x here =
-      let (d, was, lock) = has_place (row_call_at (state i.rows) k) c.lock (sym x.same.place ∙ ap (option_map (λ (y : Call). y.lock)) here) in
+      let (d, was, lock) = has_place (row_call_at (state i.rows) k) c.lock
+      (sym x.same.place ∙ ap (option_map (λ (y : Call). y.lock)) here) in
       f.vars.plain c.lock (subst (λ (m : ℕ). var_at i m ≡ None) lock (h.rows k d was))
 
   abbrev OneAtMost : ℕ → Type 0
-  OneAtMost t = (row_call_at (state j.rows) (number j t false) ≡ None) ⊎ (row_call_at (state j.rows) (number j t true) ≡ None)
+  OneAtMost t = (row_call_at (state j.rows) (number j t false) ≡ None)
+      ⊎ (row_call_at (state j.rows) (number j t true) ≡ None)
 
-  none_at : (t : ℕ) (second : Bool) → t < length i.seats → mine t ≡ false → row_call_at (state i.rows) (number i t second) ≡ None → row_call_at (state j.rows) (number j t second) ≡ None
-  none_at t second low e none = none_still _ _ _ (numbers_stay i j mine f t second low e) (ap (λ (n : ℕ). row_call_at (state i.rows) n) (number_still t second) ∙ none)
+  none_at : (t : ℕ) (second : Bool) → t < length i.seats → mine t ≡ false
+      → row_call_at (state i.rows) (number i t second) ≡ None → row_call_at (state j.rows) (number j t second) ≡ None
+  none_at t second low e none = none_still _ _ _ (numbers_stay i j mine f t second low e)
+      (ap (λ (n : ℕ). row_call_at (state i.rows) n) (number_still t second) ∙ none)
 
 -- THE WHOLE
 
 no_call : (s : State) (k : ℕ) → length s.calls ≤ k → row_call_at s k ≡ None
-no_call s k b = ap (λ (o : Option (Option Call)). option_and_then (λ (c : Option Call). c) o) (slice_get_past s.calls k b)
+no_call s k b = ap (λ (o : Option (Option Call)). option_and_then (λ (c : Option Call). c) o)
+    (slice_get_past s.calls k b)
 
-module _ (i j : Joint) (mine : ℕ → Bool) (h : IsWhole i) (f : Frame i j mine) (anew : (t : ℕ) → mine t ≡ true → Anew j t) where
+module _ (i j : Joint) (mine : ℕ → Bool) (h : IsWhole i) (f : Frame i j mine)
+    (anew : (t : ℕ) → mine t ≡ true → Anew j t) where
   numbers : length (state j.rows).calls ≡ 2 * length j.seats
   numbers = f.rows.count ∙ h.numbers ∙ ap (λ (n : ℕ). 2 * n) (sym f.seats.count)
 
@@ -218,15 +258,18 @@ module _ (i j : Joint) (mine : ℕ → Bool) (h : IsWhole i) (f : Frame i j mine
 
   seated : (v t : ℕ) (c : OpenCall) (b : Bool) → mine t ≡ b → call_at j v t ≡ Some c → (seat_at j t).at ≡ Some v
   seated v t c true e here = (anew t e).seated v c here
-  seated v t c false e here = ap (λ (x : Seat). x.at) (f.seats.seats t e) ∙ h.seated v t c (sym (f.vars.calls v t e) ∙ here)
+  seated v t c false e here = ap (λ (x : Seat). x.at) (f.seats.seats t e)
+      ∙ h.seated v t c (sym (f.vars.calls v t e) ∙ here)
 
   stands : (v t : ℕ) (c : OpenCall) (b : Bool) → mine t ≡ b → call_at j v t ≡ Some c → Stands j t c c.core
   stands v t c true e here = (anew t e).stands v c here
-  stands v t c false e here = let was = sym (f.vars.calls v t e) ∙ here in stand_still i j mine h f t c c.core (low_at i h v t c was) e (h.stands v t c was)
+  stands v t c false e here = let was = sym (f.vars.calls v t e) ∙ here in stand_still i j mine h f t c c.core
+      (low_at i h v t c was) e (h.stands v t c was)
 
   sits : (v t : ℕ) (b : Bool) → mine t ≡ b → (seat_at j t).at ≡ Some v → (c : OpenCall) × (call_at j v t ≡ Some c)
   sits v t true e at = (anew t e).sits v at
-  sits v t false e at = let (c, here) = h.sits v t (ap (λ (x : Seat). x.at) (sym (f.seats.seats t e)) ∙ at) in (c, f.vars.calls v t e ∙ here)
+  sits v t false e at = let (c, here) = h.sits v t (ap (λ (x : Seat). x.at) (sym (f.seats.seats t e)) ∙ at) in
+      (c, f.vars.calls v t e ∙ here)
 
   one : (t : ℕ) (b : Bool) → mine t ≡ b → t < length i.seats → (seat_at j t).at ≡ None → OneAtMost i j mine h f t
   one t true e low at = (anew t e).one at
@@ -268,7 +311,8 @@ pub rows_same : (i j : Joint) (mine : ℕ → Bool) → j.rows ≡ i.rows → Ro
 rows_same i j mine e = record {
   count = ap (λ (r : Rows). length (state r).calls) e;
   kinds = ap (λ (r : Rows). (state r).kinds) e;
-  others = λ k ne. untouched (state i.rows) (state j.rows) k (ap (λ (r : Rows). row_call_at (state r) k) e) (λ m. ap (λ (r : Rows). hold_at (state r) k m) e);
+  others = λ k ne. untouched (state i.rows) (state j.rows) k (ap (λ (r : Rows). row_call_at (state r) k) e)
+      (λ m. ap (λ (r : Rows). hold_at (state r) k m) e);
 }
 
 pub vars_same : (i j : Joint) (mine : ℕ → Bool) → j.vars ≡ i.vars → VarsKept i j mine
@@ -279,7 +323,11 @@ vars_same i j mine e = record {
 }
 
 pub seats_same : (i j : Joint) (mine : ℕ → Bool) → j.seats ≡ i.seats → SeatsKept i j mine
-seats_same i j mine e = record { count = ap (λ (ss : List Seat). length ss) e; seats = λ u out. ap (λ (ss : List Seat). unwrap_or (slice_get ss u) nowhere) e }
+seats_same i j mine e =
+    record {
+      count = ap (λ (ss : List Seat). length ss) e;
+      seats = λ u out. ap (λ (ss : List Seat). unwrap_or (slice_get ss u) nowhere) e;
+    }
 
 -- WHERE ONE THREAD'S ARE WRITTEN
 
@@ -294,34 +342,45 @@ is_not t u e same = go (u == t) (eq-eqb u t same) e
     go false e f = absurd cc
 
 -- of the locks one number's call, or two
-pub rows_by : (i j : Joint) (t : ℕ) (b : Bool) → length (state j.rows).calls ≡ length (state i.rows).calls → (state j.rows).kinds ≡ (state i.rows).kinds
+pub rows_by : (i j : Joint) (t : ℕ) (b : Bool) → length (state j.rows).calls ≡ length (state i.rows).calls
+    → (state j.rows).kinds ≡ (state i.rows).kinds
     → ((k : ℕ) → k ≢ number i t b → Stays (state i.rows) (state j.rows) k) → RowsKept i j (is t)
-rows_by i j t b count kinds others = record { count = count; kinds = kinds; others = λ k ne. others k (ne t b (eq-eqb t t refl)) }
+rows_by i j t b count kinds others =
+    record { count = count; kinds = kinds; others = λ k ne. others k (ne t b (eq-eqb t t refl)) }
 
 pub seats_at : (i j : Joint) (t : ℕ) (x : Seat) → j.seats ≡ slice_set i.seats t x → SeatsKept i j (is t)
 seats_at i j t x e = record {
   count = ap (λ (ss : List Seat). length ss) e ∙ length-set i.seats t x;
-  seats = λ u out. ap (λ (ss : List Seat). unwrap_or (slice_get ss u) nowhere) e ∙ ap (λ (o : Option Seat). unwrap_or o nowhere) (get-set_other i.seats t u x (λ e'. is_not t u out (sym e')));
+  seats = λ u out. ap (λ (ss : List Seat). unwrap_or (slice_get ss u) nowhere) e
+      ∙ ap (λ (o : Option Seat). unwrap_or o nowhere) (get-set_other i.seats t u x (λ e'. is_not t u out (sym e')));
 }
 
 -- the variable that is written, and others
-pub var_here : (i j : Joint) (v : ℕ) (x : Var) (y : Option Var) → var_at i v ≡ Some x → j.vars ≡ slice_set i.vars v y → var_at j v ≡ y
+pub var_here : (i j : Joint) (v : ℕ) (x : Var) (y : Option Var) → var_at i v ≡ Some x → j.vars ≡ slice_set i.vars v y
+    → var_at j v ≡ y
 var_here i j v x y at e = ap (λ (vs : List (Option Var)). var_in vs v) e ∙ call_here i.vars v y (within i.vars v x at)
 
-pub var_elsewhere : (i j : Joint) (v w : ℕ) (y : Option Var) → w ≢ v → j.vars ≡ slice_set i.vars v y → var_at j w ≡ var_at i w
+pub var_elsewhere : (i j : Joint) (v w : ℕ) (y : Option Var) → w ≢ v → j.vars ≡ slice_set i.vars v y
+    → var_at j w ≡ var_at i w
 var_elsewhere i j v w y ne e = ap (λ (vs : List (Option Var)). var_in vs w) e ∙ call_elsewhere i.vars v w y ne
 
 -- of one variable the calls of some threads
-module _ (i j : Joint) (mine : ℕ → Bool) (v : ℕ) (x y : Var) (at : var_at i v ≡ Some x) (count : length y.calls ≡ length x.calls) (same : (u : ℕ) → mine u ≡ false → var_call_in y.calls u ≡ var_call_in x.calls u) (vars : j.vars ≡ slice_set i.vars v (Some y)) where
+module _ (i j : Joint) (mine : ℕ → Bool) (v : ℕ) (x y : Var) (at : var_at i v ≡ Some x)
+    (count : length y.calls ≡ length x.calls)
+    (same : (u : ℕ) → mine u ≡ false → var_call_in y.calls u ≡ var_call_in x.calls u)
+    (vars : j.vars ≡ slice_set i.vars v (Some y)) where
   call_still : (w u : ℕ) (b : Bool) → (w == v) ≡ b → mine u ≡ false → call_at j w u ≡ call_at i w u
-  call_still w u true e out = subst (λ (n : ℕ). call_at j n u ≡ call_at i n u) (sym (eqb-true w v e)) (ap (λ (z : Option Var). call_in z u) (var_here i j v x (Some y) at vars) ∙ same u out ∙ sym (ap (λ (z : Option Var). call_in z u) at))
+  call_still w u true e out = subst (λ (n : ℕ). call_at j n u ≡ call_at i n u) (sym (eqb-true w v e))
+      (ap (λ (z : Option Var). call_in z u) (var_here i j v x (Some y) at vars) ∙ same u out
+      ∙ sym (ap (λ (z : Option Var). call_in z u) at))
   call_still w u false e out = ap (λ (z : Option Var). call_in z u) (var_elsewhere i j v w (Some y) (is_not v w e) vars)
 
   plain_still : (w : ℕ) (b : Bool) → (w == v) ≡ b → var_at i w ≡ None → var_at j w ≡ None
   plain_still w true e none = absurd (none-some x (sym none ∙ ap (λ (n : ℕ). var_at i n) (eqb-true w v e) ∙ at))
   plain_still w false e none = var_elsewhere i j v w (Some y) (is_not v w e) vars ∙ none
 
-  there_still : (w : ℕ) (z : Var) (b : Bool) → (w == v) ≡ b → var_at j w ≡ Some z → (q : Var) × (var_at i w ≡ Some q) × (length z.calls ≡ length q.calls)
+  there_still : (w : ℕ) (z : Var) (b : Bool) → (w == v) ≡ b → var_at j w ≡ Some z → (q : Var) × (var_at i w ≡ Some q)
+      × (length z.calls ≡ length q.calls)
   there_still w z true e here =
       let that = eqb-true w v e in
       let is_y = same_Some z y (sym here ∙ ap (λ (n : ℕ). var_at j n) that ∙ var_here i j v x (Some y) at vars) in
@@ -329,12 +388,19 @@ module _ (i j : Joint) (mine : ℕ → Bool) (v : ℕ) (x y : Var) (at : var_at 
   there_still w z false e here = (z, sym (var_elsewhere i j v w (Some y) (is_not v w e) vars) ∙ here, refl)
 
   pub vars_among : VarsKept i j mine
-  vars_among = record { calls = λ w u out. call_still w u (w == v) refl out; plain = λ w none. plain_still w (w == v) refl none; there = λ w z here. there_still w z (w == v) refl here }
+  vars_among = record {
+    calls = λ w u out. call_still w u (w == v) refl out;
+    plain = λ w none. plain_still w (w == v) refl none;
+    there = λ w z here. there_still w z (w == v) refl here;
+  }
 
 -- or one call
-pub vars_at : (i j : Joint) (t v : ℕ) (x y : Var) (o : Option OpenCall) → var_at i v ≡ Some x → y.calls ≡ slice_set x.calls t o → j.vars ≡ slice_set i.vars v (Some y) → VarsKept i j (is t)
+pub vars_at : (i j : Joint) (t v : ℕ) (x y : Var) (o : Option OpenCall) → var_at i v ≡ Some x
+    → y.calls ≡ slice_set x.calls t o → j.vars ≡ slice_set i.vars v (Some y) → VarsKept i j (is t)
 vars_at i j t v x y o at calls vars =
-    vars_among i j (is t) v x y at (ap (λ (cs : List (Option OpenCall)). length cs) calls ∙ length-set x.calls t o) (λ u no. ap (λ (cs : List (Option OpenCall)). var_call_in cs u) calls ∙ call_elsewhere x.calls t u o (is_not t u no)) vars
+    vars_among i j (is t) v x y at (ap (λ (cs : List (Option OpenCall)). length cs) calls ∙ length-set x.calls t o)
+    (λ u no. ap (λ (cs : List (Option OpenCall)). var_call_in cs u) calls
+    ∙ call_elsewhere x.calls t u o (is_not t u no)) vars
 
 -- WHICH SECTIONS ARE OPEN
 
@@ -355,17 +421,21 @@ open_at (x ∷ xs) (suc v) e = go (is_entered x) (open_at xs v e)
     go true e = refl
     go false e = e
 
-pub open_somewhere : (vars : List (Option Var)) → list_any is_entered vars ≡ true → (v : ℕ) × (is_entered (var_in vars v) ≡ true)
+pub open_somewhere : (vars : List (Option Var)) → list_any is_entered vars ≡ true → (v : ℕ)
+    × (is_entered (var_in vars v) ≡ true)
 open_somewhere [] e = absurd cc
 open_somewhere (x ∷ xs) e = go (is_entered x) refl e (open_somewhere xs)
   where
-    go : (b : Bool) → is_entered x ≡ b → (b || list_any is_entered xs) ≡ true → (list_any is_entered xs ≡ true → (v : ℕ) × (is_entered (var_in xs v) ≡ true)) → (v : ℕ) × (is_entered (var_in (x ∷ xs) v) ≡ true)
+    go : (b : Bool) → is_entered x ≡ b → (b || list_any is_entered xs) ≡ true
+        → (list_any is_entered xs ≡ true → (v : ℕ) × (is_entered (var_in xs v) ≡ true)) → (v : ℕ)
+        × (is_entered (var_in (x ∷ xs) v) ≡ true)
     go true here e later = (0, here)
     go false here e later = let (v, at) = later e in (suc v, at)
 
 module _ (i j : Joint) (h : IsWhole i) (fewer : (v : ℕ) → is_entered_at j v ≡ true → is_entered_at i v ≡ true) where
   shut_still : (b : Bool) → is_open_at_variables j ≡ b → is_open_at_variables i ≡ false → is_open_at_variables j ≡ false
-  shut_still true e shut = let (v, at) = open_somewhere j.vars e in both_ways (is_open_at_variables i) (open_at i.vars v (fewer v at)) shut
+  shut_still true e shut = let (v, at) = open_somewhere j.vars e in both_ways (is_open_at_variables i)
+      (open_at i.vars v (fewer v at)) shut
   shut_still false e shut = e
 
   -- no variable's section is open that wasn't
@@ -376,20 +446,25 @@ module _ (i j : Joint) (h : IsWhole i) (fewer : (v : ℕ) → is_entered_at j v 
   }
 
 -- a variable is written, and its section is open only if it was
-pub var_shut : (i j : Joint) → IsWhole i → (v : ℕ) (x y : Var) → var_at i v ≡ Some x → j.vars ≡ slice_set i.vars v (Some y) → (is_entered (Some y) ≡ true → is_entered (Some x) ≡ true)
+pub var_shut : (i j : Joint) → IsWhole i → (v : ℕ) (x y : Var) → var_at i v ≡ Some x
+    → j.vars ≡ slice_set i.vars v (Some y) → (is_entered (Some y) ≡ true → is_entered (Some x) ≡ true)
     → ((state j.rows).lot.section ≡ None) ⊎ (is_open_at_variables i ≡ false) → AreShut j
 var_shut i j h v x y at vars less sections = fewer_open i j h (λ w e. go w (w == v) refl e) sections
   where
     go : (w : ℕ) (b : Bool) → (w == v) ≡ b → is_entered_at j w ≡ true → is_entered_at i w ≡ true
     go w true e a =
         let same = eqb-true w v e in
-        ap is_entered (ap (λ (n : ℕ). var_at i n) same ∙ at) ∙ less (ap is_entered (sym (var_here i j v x (Some y) at vars)) ∙ ap (is_entered_at j) (sym same) ∙ a)
+        ap is_entered (ap (λ (n : ℕ). var_at i n) same ∙ at)
+        ∙ less (ap is_entered (sym (var_here i j v x (Some y) at vars)) ∙ ap (is_entered_at j) (sym same) ∙ a)
     go w false e a = ap is_entered (sym (var_elsewhere i j v w (Some y) (is_not v w e) vars)) ∙ a
 
 -- one is open, where none was
-pub now_open : (i j : Joint) (v : ℕ) (x : Var) (y : Option Var) → var_at i v ≡ Some x → j.vars ≡ slice_set i.vars v y → (state j.rows).lot.section ≡ None → is_open_at_variables i ≡ false → AreShut j
-now_open i j v x y at vars locks shut = record { sections = inl locks; alone = λ w u a b. here w (w == v) refl a ∙ sym (here u (u == v) refl b) }
+pub now_open : (i j : Joint) (v : ℕ) (x : Var) (y : Option Var) → var_at i v ≡ Some x → j.vars ≡ slice_set i.vars v y
+    → (state j.rows).lot.section ≡ None → is_open_at_variables i ≡ false → AreShut j
+now_open i j v x y at vars locks shut =
+    record { sections = inl locks; alone = λ w u a b. here w (w == v) refl a ∙ sym (here u (u == v) refl b) }
   where
     here : (w : ℕ) (b : Bool) → (w == v) ≡ b → is_entered_at j w ≡ true → w ≡ v
     here w true e a = eqb-true w v e
-    here w false e a = both_ways (is_open_at_variables i) (open_at i.vars w (sym (ap is_entered (var_elsewhere i j v w y (is_not v w e) vars)) ∙ a)) shut
+    here w false e a = both_ways (is_open_at_variables i)
+        (open_at i.vars w (sym (ap is_entered (var_elsewhere i j v w y (is_not v w e) vars)) ∙ a)) shut

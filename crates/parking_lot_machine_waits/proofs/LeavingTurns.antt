@@ -1,5 +1,8 @@
--- The turns of one in a call at a variable, beginnings, deadlines, and steps at a lock: each leaves what it doesn't change.
-use Rattle.std.proofs.Common.{◌≡◌, ◌≢◌, inl, inr, ℕ, zero, suc, ◌<◌, Bool, true, false, not, ◌&&◌, nat_lt, is_some, List, [], ◌∷◌, length, map, take, Option, Some, None, option_map, slice_get, refl, sym, ap, ◌∙◌, subst, arith}
+-- The turns of one in a call at a variable, beginnings, deadlines, and steps at a lock: each leaves what it doesn't
+-- change.
+use Rattle.std.proofs.Common.{◌≡◌, ◌≢◌, inl, inr, ℕ, zero, suc, ◌<◌, Bool, true, false, not, ◌&&◌, nat_lt, is_some}
+use Rattle.std.proofs.Common.{List, [], ◌∷◌, length, map, take, Option, Some, None, option_map, slice_get, refl, sym}
+use Rattle.std.proofs.Common.{ap, ◌∙◌, subst, arith}
 use Rattle.std.specs.List.{list_all}
 use Rattle.std.specs.Option.{option_and_then, option_map_or, unwrap_or}
 use Rattle.std.proofs.lemmas.Bool.{lt-ltb, ltb-true}
@@ -32,19 +35,25 @@ use Rattle.parking_lot_machine_waits.specs.declared.ended.Ended.{Ended}
 use Rattle.parking_lot_machine_waits.specs.declared.seat.Seat.{Seat}
 use Rattle.parking_lot_machine_waits.specs.declared.turn.Turn.{Turn}
 use Rattle.parking_lot_machine_waits.specs.declared.turn.Turn.TheVariants as turn
-use Rattle.parking_lot_machine_waits.specs.Joint.{Joint, back_number, busy_number, call_at, call_in, core_enters, enters_at_lock, front_number, has_by_second, nowhere, number, seat_at, var_at}
+use Rattle.parking_lot_machine_waits.specs.Joint.{Joint, back_number, busy_number, call_at, call_in, core_enters}
+use Rattle.parking_lot_machine_waits.specs.Joint.{enters_at_lock, front_number, has_by_second, nowhere, number, seat_at}
+use Rattle.parking_lot_machine_waits.specs.Joint.{var_at}
 use Rattle.parking_lot_machine_waits.specs.JointLaws.{PartsFit}
 use Rattle.parking_lot_machine_waits.specs.JointSides.{enters, enters_as, enters_at, turn_enters}
 use Rattle.parking_lot_machine_waits.specs.JointStays.{Leaves, StepsLeave, WasThere}
-use Rattle.parking_lot_machine_waits.specs.JointSteps.{ComesBackIf, FollowsAs, HearsOf, IsGoneAt, IsLateAt, KnownIn, MovesIn, Turned, freed, takes_now}
+use Rattle.parking_lot_machine_waits.specs.JointSteps.{ComesBackIf, FollowsAs, HearsOf, IsGoneAt, IsLateAt, KnownIn}
+use Rattle.parking_lot_machine_waits.specs.JointSteps.{MovesIn, Turned, freed, takes_now}
 use Rattle.parking_lot_machine_waits.specs.Moving.{back_in, entry, taken_of}
 use Rattle.parking_lot_machine_waits.specs.Turns.{is_late, mutex_of, notify_turn, turn_by, turn_of, wait_turn}
 use Rattle.parking_lot_machine_waits.specs.Whole.{IsMutex, IsWhole, Stands}
 use Rattle.parking_lot_machine_waits.proofs.Allowing.{all_of}
 use Rattle.parking_lot_machine_waits.proofs.Hearing.{both_true}
 use Rattle.parking_lot_machine_waits.proofs.Keeping.{low_at}
-use Rattle.parking_lot_machine_waits.proofs.Leaving.{Left, OfEach, left_all_taken, left_begun, left_both, left_expired, left_roused, left_same, left_stepped}
-use Rattle.parking_lot_machine_waits.proofs.LeavingSteps.{Own, SeatsLeft, VarsLeft, acts_left, begins_in, both, hears_left, is_act, leaves, notifies_in, own_first, seats_left, vars_kept, vars_written}
+use Rattle.parking_lot_machine_waits.proofs.Leaving.{Left, OfEach, left_all_taken, left_begun, left_both, left_expired}
+use Rattle.parking_lot_machine_waits.proofs.Leaving.{left_roused, left_same, left_stepped}
+use Rattle.parking_lot_machine_waits.proofs.LeavingSteps.{Own, SeatsLeft, VarsLeft, acts_left, begins_in, both}
+use Rattle.parking_lot_machine_waits.proofs.LeavingSteps.{hears_left, is_act, leaves, notifies_in, own_first}
+use Rattle.parking_lot_machine_waits.proofs.LeavingSteps.{seats_left, vars_kept, vars_written}
 use Rattle.parking_lot_machine_waits.proofs.Seating.{stands_mutex}
 
 -- WHOSE TURN ENTERS A SECTION
@@ -94,7 +103,8 @@ notify_stays (n.Ends count) = refl
 notify_stays n.Invalid = refl
 
 -- so it is with a mutex
-waits_with : (i : Joint) (t : ℕ) (c : OpenCall) (k : Core) → leaves_it (turn_by c.listed k) ≡ true → Stands i t c k → IsMutex i (mutex_of c.call)
+waits_with : (i : Joint) (t : ℕ) (c : OpenCall) (k : Core) → leaves_it (turn_by c.listed k) ≡ true → Stands i t c k
+    → IsMutex i (mutex_of c.call)
 waits_with i t c (core.Wait k) is s = s.mutex
 waits_with i t c (core.Notify k) is s = absurd (shut (sym (notify_stays k.phase) ∙ is))
   where
@@ -110,7 +120,8 @@ freed_left : (t : ℕ) (reply : Option CondvarReply) (i j : Joint) → j.seats �
 freed_left t None i j e = seats_left t i j e
 freed_left t (Some r) i j e = record {
   count = ap (λ (ss : List Seat). length ss) e ∙ length-set i.seats t nowhere;
-  others = λ u ne. ap (λ (ss : List Seat). unwrap_or (slice_get ss u) nowhere) e ∙ ap (λ (o : Option Seat). unwrap_or o nowhere) (get-set_other i.seats t u nowhere (λ x. ne (sym x)));
+  others = λ u ne. ap (λ (ss : List Seat). unwrap_or (slice_get ss u) nowhere) e
+      ∙ ap (λ (o : Option Seat). unwrap_or o nowhere) (get-set_other i.seats t u nowhere (λ x. ne (sym x)));
 }
 
 -- WHO WAITS HAS A SEAT
@@ -133,47 +144,63 @@ module _ (i : Joint) (h : IsWhole i) (v : ℕ) (x : Var) (at : var_at i v ≡ So
       let there = ap (λ (o : Option Var). call_in o u) at ∙ here in
       both _ _ (lt-ltb u (length i.seats) (low_at i h v u c there)) (ap is_some (h.seated v u c there))
 
-  by_call : (u : ℕ) (o : Option OpenCall) → var_call_at x u ≡ o → 0 < rules.weight rules.Waiting (phase_in o) → has_seat i u ≡ true
+  by_call : (u : ℕ) (o : Option OpenCall) → var_call_at x u ≡ o → 0 < rules.weight rules.Waiting (phase_in o)
+      → has_seat i u ≡ true
   by_call u None here some = absurd (weighs_none some)
   by_call u (Some c) here some = called u c here
 
-  by_slot : (u : ℕ) (o : Option (Option OpenCall)) → slice_get x.calls u ≡ o → 0 < at_index (rules.weight rules.Waiting) (option_map phase_in o) → has_seat i u ≡ true
+  by_slot : (u : ℕ) (o : Option (Option OpenCall)) → slice_get x.calls u ≡ o → 0 < at_index (rules.weight rules.Waiting)
+      (option_map phase_in o) → has_seat i u ≡ true
   by_slot u None is some = absurd (omega (arith, some))
   by_slot u (Some o) is some = by_call u o (ap (option_and_then (λ (y : Option OpenCall). y)) is) some
 
   waiters_seated : list_all (has_seat i) x.queue ≡ true
-  waiters_seated = all_of (has_seat i) x.queue (λ u some. by_slot u (slice_get x.calls u) refl (subst (λ m. 0 < m) (known.1.lists u ∙ ap (at_index (rules.weight rules.Waiting)) (slice_get-map phase_in x.calls u)) some))
+  waiters_seated = all_of (has_seat i) x.queue
+      (λ u some. by_slot u (slice_get x.calls u) refl
+      (subst (λ m. 0 < m)
+      (known.1.lists u ∙ ap (at_index (rules.weight rules.Waiting)) (slice_get-map phase_in x.calls u)) some))
 
   seat_there : (o : Option ℕ) → is_some o ≡ true → o ≢ None
   seat_there None e e' = cc
   seat_there (Some y) e e' = none-some y (sym e')
 
   own_waiter : (t u : ℕ) → has_seat i u ≡ true → Own i t (back_in i.seats u)
-  own_waiter t u is = (let (low, seat) = both_true _ _ is in (u, (seat_at i u).second, refl, ltb-true u (length i.seats) low, inr (seat_there (seat_at i u).at seat)))
+  own_waiter t u is =
+      (let (low, seat) = both_true _ _ is in
+      (u, (seat_at i u).second, refl, ltb-true u (length i.seats) low, inr (seat_there (seat_at i u).at seat)))
 
   own_all : (t : ℕ) (ws : List ℕ) → list_all (has_seat i) ws ≡ true → OfEach (Own i t) None (map (entry i.seats x) ws)
   own_all t [] all = tt
   own_all t (u ∷ ws) all = (let here = both_true _ _ all in (own_waiter t u here.0, own_all t ws here.1))
 
-  moved : (t m : ℕ) (u : State) (locked : Bool) (ws : List ℕ) → list_all (has_seat i) ws ≡ true → MovesIn (Some x) locked i.seats m ws (state i.rows) u → Left (Own i t) None false (state i.rows) u
-  moved t m u true ws all h = left_all_taken (Own i t) None false m (map (entry i.seats x) ws) (state i.rows) u (own_all t ws all) h
+  moved : (t m : ℕ) (u : State) (locked : Bool) (ws : List ℕ) → list_all (has_seat i) ws ≡ true
+      → MovesIn (Some x) locked i.seats m ws (state i.rows) u → Left (Own i t) None false (state i.rows) u
+  moved t m u true ws all h = left_all_taken (Own i t) None false m (map (entry i.seats x) ws) (state i.rows) u
+      (own_all t ws all) h
   moved t m u false [] all e = left_same (Own i t) None false (state i.rows) u e
   moved t m u false (y ∷ ws) all (mid, first, rest) =
       let here = both_true _ _ all in
-      left_both (Own i t) None false (state i.rows) mid u (left_roused (Own i t) None false (state i.rows) mid (back_in i.seats y) m false (own_waiter t y here.0) first)
+      left_both (Own i t) None false (state i.rows) mid u
+      (left_roused (Own i t) None false (state i.rows) mid (back_in i.seats y) m false (own_waiter t y here.0)
+      first)
       (left_all_taken (Own i t) None false m (map (entry i.seats x) ws) mid u (own_all t ws here.1) rest)
 
-moved_in : (i : Joint) (h : IsWhole i) (v t m : ℕ) (u : State) (locked : Bool) (c : CondvarCall) (o : Option Var) → var_at i v ≡ o → KnownIn o → MovesIn o locked i.seats m (takes_now c o) (state i.rows) u → Left (Own i t) None false (state i.rows) u
+moved_in : (i : Joint) (h : IsWhole i) (v t m : ℕ) (u : State) (locked : Bool) (c : CondvarCall) (o : Option Var)
+    → var_at i v ≡ o → KnownIn o → MovesIn o locked i.seats m (takes_now c o) (state i.rows) u
+    → Left (Own i t) None false (state i.rows) u
 moved_in i h v t m u locked c None at known moves = absurd moves
 moved_in i h v t m u locked c (Some x) at known moves =
-    moved i h v x at known t m u locked (takes_now c (Some x)) (taken_all (has_seat i) (taken_of c (length x.queue)) x.queue (waiters_seated i h v x at known)) moves
+    moved i h v x at known t m u locked (takes_now c (Some x))
+    (taken_all (has_seat i) (taken_of c (length x.queue)) x.queue (waiters_seated i h v x at known)) moves
 
 -- ITS TURNS
 
-rows_left : (i j : Joint) (t : ℕ) (asked : Option ℕ) → j.rows ≡ i.rows → Left (Own i t) asked false (state i.rows) (state j.rows)
+rows_left : (i j : Joint) (t : ℕ) (asked : Option ℕ) → j.rows ≡ i.rows → Left (Own i t) asked false (state i.rows)
+    (state j.rows)
 rows_left i j t asked e = left_same (Own i t) asked false (state i.rows) (state j.rows) (ap state e)
 
-module _ (i j : Joint) (t v : ℕ) (fair : Bool) (c : OpenCall) (h : IsWhole i) (fit : PartsFit i) (low : t < length i.seats) (here : call_at i v t ≡ Some c) (seats : SeatsLeft t i j) where
+module _ (i j : Joint) (t v : ℕ) (fair : Bool) (c : OpenCall) (h : IsWhole i) (fit : PartsFit i)
+    (low : t < length i.seats) (here : call_at i v t ≡ Some c) (seats : SeatsLeft t i j) where
   abbrev s : State
   s = state i.rows
 
@@ -187,9 +214,12 @@ module _ (i j : Joint) (t v : ℕ) (fair : Bool) (c : OpenCall) (h : IsWhole i) 
   same_out b e = e
 
   -- of a number in a call that goes on
-  stepped_of : (b : Bool) (a : Option CoreAnswer) (mid : State) (x : rows.IsStepped (number i t b) fair a s mid) → Left (Own i t) None (enters_at_lock i (number i t b)) s mid
+  stepped_of : (b : Bool) (a : Option CoreAnswer) (mid : State) (x : rows.IsStepped (number i t b) fair a s mid)
+      → Left (Own i t) None (enters_at_lock i (number i t b)) s mid
   stepped_of b a mid x =
-      subst (λ (e : Bool). Left (Own i t) None e s mid) (ap (λ (o : Option Call). option_map_or (λ (d : Call). core_enters d.core) o false) (sym x.here)) (left_stepped (Own i t) None s mid (number i t b) fair a fit.rows x)
+      subst (λ (e : Bool). Left (Own i t) None e s mid)
+      (ap (λ (o : Option Call). option_map_or (λ (d : Call). core_enters d.core) o false) (sym x.here))
+      (left_stepped (Own i t) None s mid (number i t b) fair a fit.rows x)
 
   hears_of : (a : Option CoreAnswer) → HearsOf a t v i j → VarsLeft false i j
   hears_of None vars = vars_kept false i j vars
@@ -198,53 +228,83 @@ module _ (i j : Joint) (t v : ℕ) (fair : Bool) (c : OpenCall) (h : IsWhole i) 
   there : (b : Bool) (d : Call) → row_call_at s (number i t b) ≡ Some d → WasThere None s d.lock
   there b d at = inr (inl (as_mutex i d.lock (stands_mutex i t c c.core (h.stands v t c here) b d at)))
 
-  again : (b : Bool) (a : CoreAnswer) (d : Call) (mid : State) → row_call_at s (number i t b) ≡ Some d → rows.IsStepped (number i t b) fair (Some a) s mid → rows.IsBegun (number i t b) d.lock LockCall.Lock mid u → Left (Own i t) None (enters_at_lock i (number i t b)) s u
+  again : (b : Bool) (a : CoreAnswer) (d : Call) (mid : State) → row_call_at s (number i t b) ≡ Some d
+      → rows.IsStepped (number i t b) fair (Some a) s mid → rows.IsBegun (number i t b) d.lock LockCall.Lock mid u
+      → Left (Own i t) None (enters_at_lock i (number i t b)) s u
   again b a d mid at x begins =
       let first = stepped_of b (Some a) mid x in
       left_both (Own i t) None (enters_at_lock i (number i t b)) s mid u first
-      (left_begun (Own i t) None (enters_at_lock i (number i t b)) mid u (number i t b) d.lock LockCall.Lock (own_first i t b low)
-      (inr (inl (ap (λ ks. manner_of (slice_get ks d.lock)) first.kinds ∙ as_mutex i d.lock (stands_mutex i t c c.core (h.stands v t c here) b d at)))) begins)
+      (left_begun (Own i t) None (enters_at_lock i (number i t b)) mid u (number i t b) d.lock LockCall.Lock
+      (own_first i t b low)
+      (inr (inl (ap (λ ks. manner_of (slice_get ks d.lock)) first.kinds
+      ∙ as_mutex i d.lock (stands_mutex i t c c.core (h.stands v t c here) b d at)))) begins)
 
-  onward : (b late : Bool) (a : Option CoreAnswer) (d : Call) (mid : State) → row_call_at s (number i t b) ≡ Some d → rows.IsStepped (number i t b) fair a s mid → FollowsAs late a t (number i t b) v c d i mid j
+  onward : (b late : Bool) (a : Option CoreAnswer) (d : Call) (mid : State) → row_call_at s (number i t b) ≡ Some d
+      → rows.IsStepped (number i t b) fair a s mid → FollowsAs late a t (number i t b) v c d i mid j
       → Left (Own i t) None (enters_at_lock i (number i t b)) s u × VarsLeft false i j
-  onward b true None d mid at x (same, vars) = (subst (Left (Own i t) None _ s) (sym same) (stepped_of b None mid x), vars_kept false i j vars)
-  onward b false None d mid at x (same, hears) = (subst (Left (Own i t) None _ s) (sym same) (stepped_of b None mid x), hears_left false i j t v _ hears)
-  onward b true (Some answer.Owned) d mid at x (same, hears) = (subst (Left (Own i t) None _ s) (sym same) (stepped_of b (Some answer.Owned) mid x), hears_left false i j t v _ hears)
-  onward b false (Some answer.Owned) d mid at x (same, hears) = (subst (Left (Own i t) None _ s) (sym same) (stepped_of b (Some answer.Owned) mid x), hears_left false i j t v _ hears)
-  onward b true (Some answer.Refused) d mid at x (begins, hears) = (again b answer.Refused d mid at x begins, hears_left false i j t v _ hears)
-  onward b false (Some answer.Refused) d mid at x (begins, hears) = (again b answer.Refused d mid at x begins, hears_left false i j t v _ hears)
-  onward b true (Some answer.Released) d mid at x (begins, hears) = (again b answer.Released d mid at x begins, hears_left false i j t v _ hears)
-  onward b false (Some answer.Released) d mid at x (begins, hears) = (again b answer.Released d mid at x begins, hears_left false i j t v _ hears)
+  onward b true None d mid at x (same, vars) =
+      (subst (Left (Own i t) None _ s) (sym same) (stepped_of b None mid x), vars_kept false i j vars)
+  onward b false None d mid at x (same, hears) =
+      (subst (Left (Own i t) None _ s) (sym same) (stepped_of b None mid x), hears_left false i j t v _ hears)
+  onward b true (Some answer.Owned) d mid at x (same, hears) = (
+    subst (Left (Own i t) None _ s) (sym same) (stepped_of b (Some answer.Owned) mid x),
+    hears_left false i j t v _ hears,
+  )
+  onward b false (Some answer.Owned) d mid at x (same, hears) = (
+    subst (Left (Own i t) None _ s) (sym same) (stepped_of b (Some answer.Owned) mid x),
+    hears_left false i j t v _ hears,
+  )
+  onward b true (Some answer.Refused) d mid at x (begins, hears) =
+      (again b answer.Refused d mid at x begins, hears_left false i j t v _ hears)
+  onward b false (Some answer.Refused) d mid at x (begins, hears) =
+      (again b answer.Refused d mid at x begins, hears_left false i j t v _ hears)
+  onward b true (Some answer.Released) d mid at x (begins, hears) =
+      (again b answer.Released d mid at x begins, hears_left false i j t v _ hears)
+  onward b false (Some answer.Released) d mid at x (begins, hears) =
+      (again b answer.Released d mid at x begins, hears_left false i j t v _ hears)
 
   comes_back : (may : Bool) → ComesBackIf may (back_number i t) i j → Left (Own i t) None false s u
   comes_back true x = left_expired (Own i t) None false s u (back_number i t) x
   comes_back false e = rows_left i j t None e
 
-  begun_of : (b : Bool) (d : LockCall) → IsMutex i (mutex_of c.call) → rows.IsBegun (number i t b) (mutex_of c.call) d s u → Left (Own i t) None false s u
-  begun_of b d mutex x = left_begun (Own i t) None false s u (number i t b) (mutex_of c.call) d (own_first i t b low) (inr (inl (as_mutex i (mutex_of c.call) mutex))) x
+  begun_of : (b : Bool) (d : LockCall) → IsMutex i (mutex_of c.call) → rows.IsBegun (number i t b) (mutex_of c.call) d s
+      u → Left (Own i t) None false s u
+  begun_of b d mutex x = left_begun (Own i t) None false s u (number i t b) (mutex_of c.call) d (own_first i t b low)
+      (inr (inl (as_mutex i (mutex_of c.call) mutex))) x
 
   turned : (x : Turn) (reply : Option CondvarReply) → turn_of c ≡ x → Turned x t v fair c reply i j → Result x
   turned turn.Sleeps reply is z = absurd z
   turned turn.Acts reply is (acts, same) =
-      leaves i j t None (var_turns.enters c) false (var_turns.enters c) (rows_left i j t None same) (acts_left i j t v c reply here (ap is_act is) acts) seats (λ e. refl) (λ e. e)
+      leaves i j t None (var_turns.enters c) false (var_turns.enters c) (rows_left i j t None same)
+      (acts_left i j t v c reply here (ap is_act is) acts) seats (λ e. refl) (λ e. e)
   turned turn.GivesUp reply is (acts, begins) =
-      leaves i j t None false false (var_turns.enters c) (begun_of (not (seat_at i t).second) LockCall.Unlock (waits_with i t c c.core (ap leaves_it is) (h.stands v t c here)) begins)
+      leaves i j t None false false (var_turns.enters c)
+      (begun_of (not (seat_at i t).second) LockCall.Unlock
+      (waits_with i t c c.core (ap leaves_it is) (h.stands v t c here)) begins)
       (acts_left i j t v c reply here (ap is_act is) acts) seats (λ e. refl) (λ e. leaves_out c (ap leaves_it is))
   turned turn.LocksAgain reply is (acts, begins) =
-      leaves i j t None false false (var_turns.enters c) (begun_of (seat_at i t).second LockCall.Lock (waits_with i t c c.core (ap leaves_it is) (h.stands v t c here)) begins)
+      leaves i j t None false false (var_turns.enters c)
+      (begun_of (seat_at i t).second LockCall.Lock (waits_with i t c c.core (ap leaves_it is) (h.stands v t c here))
+      begins)
       (acts_left i j t v c reply here (ap is_act is) acts) seats (λ e. refl) (λ e. leaves_out c (ap leaves_it is))
   turned turn.Unlocks reply is (none, a, x, hears) =
-      leaves i j t None (enters_at_lock i (front_number i t)) (enters_at_lock i (front_number i t)) false (stepped_of (not (seat_at i t).second) a u x) (hears_of a hears) seats (λ e. e) (λ e. refl)
+      leaves i j t None (enters_at_lock i (front_number i t)) (enters_at_lock i (front_number i t)) false
+      (stepped_of (not (seat_at i t).second) a u x) (hears_of a hears) seats (λ e. e) (λ e. refl)
   turned turn.Locks reply is (none, a, x, hears) =
-      leaves i j t None (enters_at_lock i (back_number i t)) (enters_at_lock i (back_number i t)) false (stepped_of (seat_at i t).second a u x) (hears_of a hears) seats (λ e. e) (λ e. refl)
+      leaves i j t None (enters_at_lock i (back_number i t)) (enters_at_lock i (back_number i t)) false
+      (stepped_of (seat_at i t).second a u x) (hears_of a hears) seats (λ e. e) (λ e. refl)
   turned turn.Follows reply is (none, z) =
       let both = onward (seat_at i t).second (is_late z.d.core) z.answer z.d z.mid z.there z.step z.onward in
-      leaves i j t None (enters_at_lock i (back_number i t)) (enters_at_lock i (back_number i t)) false both.0 both.1 seats (λ e. e) (λ e. refl)
-  turned turn.ComesBack reply is (none, hears, back) = leaves i j t None false false false (comes_back _ back) (hears_left false i j t v _ hears) seats (λ e. refl) (λ e. refl)
-  turned turn.Hears reply is (none, hears, same) = leaves i j t None false false false (rows_left i j t None same) (hears_left false i j t v _ hears) seats (λ e. refl) (λ e. refl)
+      leaves i j t None (enters_at_lock i (back_number i t)) (enters_at_lock i (back_number i t)) false both.0 both.1
+      seats (λ e. e) (λ e. refl)
+  turned turn.ComesBack reply is (none, hears, back) = leaves i j t None false false false (comes_back _ back)
+      (hears_left false i j t v _ hears) seats (λ e. refl) (λ e. refl)
+  turned turn.Hears reply is (none, hears, same) = leaves i j t None false false false (rows_left i j t None same)
+      (hears_left false i j t v _ hears) seats (λ e. refl) (λ e. refl)
   turned turn.Moves reply is (none, z) =
       leaves i j t None false false false (moved_in i h v t _ u _ c.call (var_at i v) refl (fit.vars v) z.moves)
-      (vars_written false i j v z.notifies.0 (notifies_in false t _ _ (var_at i v) z.notifies.0 z.notifies.1) z.notifies.2) seats (λ e. refl) (λ e. refl)
+      (vars_written false i j v z.notifies.0 (notifies_in false t _ _ (var_at i v) z.notifies.0 z.notifies.1)
+      z.notifies.2) seats (λ e. refl) (λ e. refl)
 
   enters_is : turn_enters (turn_of c) i t c ≡ enters i t
   enters_is = sym (
@@ -253,25 +313,36 @@ module _ (i j : Joint) (t v : ℕ) (fair : Bool) (c : OpenCall) (h : IsWhole i) 
       ∙ ap (λ (o : Option OpenCall). enters_as o i t) here
       )
 
-  pub turned_leaves : (reply : Option CondvarReply) → Turned (turn_of c) t v fair c reply i j → Leaves t (enters i t) None i j
+  pub turned_leaves : (reply : Option CondvarReply) → Turned (turn_of c) t v fair c reply i j
+      → Leaves t (enters i t) None i j
   turned_leaves reply z = subst (λ (e : Bool). Leaves t e None i j) enters_is (turned (turn_of c) reply refl z)
 
 -- ALL OF THEM
 
 module _ (i j : Joint) (t : ℕ) (h : IsWhole i) (fit : PartsFit i) (low : t < length i.seats) where
   enters_free : (seat_at i t).at ≡ None → enters i t ≡ enters_at_lock i (busy_number i t)
-  enters_free none = ap (λ (b : Bool). b && enters_at (seat_at i t).at i t) (lt-ltb t (length i.seats) low) ∙ ap (λ (o : Option ℕ). enters_at o i t) none
+  enters_free none = ap (λ (b : Bool). b && enters_at (seat_at i t).at i t) (lt-ltb t (length i.seats) low)
+      ∙ ap (λ (o : Option ℕ). enters_at o i t) none
 
-  gone : (at : Option ℕ) (fair : Bool) (end : Option Ended) → (seat_at i t).at ≡ at → IsGoneAt at t fair end i j → Leaves t (enters i t) None i j
+  gone : (at : Option ℕ) (fair : Bool) (end : Option Ended) → (seat_at i t).at ≡ at → IsGoneAt at t fair end i j
+      → Leaves t (enters i t) None i j
   gone None fair end none (a, z, ends) =
-      subst (λ (e : Bool). Leaves t e None i j) (sym (enters_free none ∙ ap (λ (o : Option Call). option_map_or (λ (d : Call). core_enters d.core) o false) z.step.here))
-      (leaves i j t None _ _ false (left_stepped (Own i t) None (state i.rows) (state j.rows) (busy_number i t) fair a fit.rows z.step) (vars_kept false i j z.vars) (seats_left t i j z.seats) (λ e. e) (λ e. refl))
-  gone (Some v) fair end seat (reply, z, ends) = turned_leaves i j t v fair z.call h fit low z.here (freed_left t reply i j z.seats) reply z.turned
+      subst (λ (e : Bool). Leaves t e None i j)
+      (sym (enters_free none ∙ ap (λ (o : Option Call). option_map_or (λ (d : Call). core_enters d.core) o false)
+      z.step.here))
+      (leaves i j t None _ _ false
+      (left_stepped (Own i t) None (state i.rows) (state j.rows) (busy_number i t) fair a fit.rows z.step)
+      (vars_kept false i j z.vars) (seats_left t i j z.seats) (λ e. e) (λ e. refl))
+  gone (Some v) fair end seat (reply, z, ends) = turned_leaves i j t v fair z.call h fit low z.here
+      (freed_left t reply i j z.seats) reply z.turned
 
   late : (at : Option ℕ) → IsLateAt at t i j → Leaves t false None i j
   late None (x, vars, seats) =
-      leaves i j t None false false false (left_expired (Own i t) None false (state i.rows) (state j.rows) (busy_number i t) x) (vars_kept false i j vars) (seats_left t i j seats) (λ e. refl) (λ e. refl)
-  late (Some v) (hears, same, seats) = leaves i j t None false false false (rows_left i j t None same) (hears_left false i j t v _ hears) (seats_left t i j seats) (λ e. refl) (λ e. refl)
+      leaves i j t None false false false
+      (left_expired (Own i t) None false (state i.rows) (state j.rows) (busy_number i t) x)
+      (vars_kept false i j vars) (seats_left t i j seats) (λ e. refl) (λ e. refl)
+  late (Some v) (hears, same, seats) = leaves i j t None false false false (rows_left i j t None same)
+      (hears_left false i j t v _ hears) (seats_left t i j seats) (λ e. refl) (λ e. refl)
 
 low_of : (t n : ℕ) (b : Bool) → (nat_lt t n && b) ≡ true → t < n
 low_of t n b may = ltb-true t n (both_true _ _ may).0
@@ -279,13 +350,15 @@ low_of t n b may = ltb-true t n (both_true _ _ may).0
 pub steps_leave : StepsLeave
 steps_leave = record {
   asks = λ t lock c i j h fit may x. leaves i j t (Some lock) false false false
-      (left_begun (Own i t) (Some lock) false (state i.rows) (state j.rows) (number i t (has_by_second i t lock)) lock c (own_first i t (has_by_second i t lock) (low_of t _ _ may)) (inr (inr refl)) x.begins)
+      (left_begun (Own i t) (Some lock) false (state i.rows) (state j.rows) (number i t (has_by_second i t lock)) lock c
+      (own_first i t (has_by_second i t lock) (low_of t _ _ may)) (inr (inr refl)) x.begins)
       (vars_kept false i j x.vars) (seats_left t i j x.seats) (λ e. refl) (λ e. refl);
   calls = λ t v c i j h fit may x. leaves i j t None false false false (rows_left i j t None x.rows)
       (vars_written false i j v x.begins.0 (begins_in false t c (var_at i v) x.begins.0 x.begins.1) x.begins.2)
       (record {
         count = ap (λ (ss : List Seat). length ss) x.seats ∙ length-set i.seats t _;
-        others = λ u ne. ap (λ (ss : List Seat). unwrap_or (slice_get ss u) nowhere) x.seats ∙ ap (λ (o : Option Seat). unwrap_or o nowhere) (get-set_other i.seats t u _ (λ e. ne (sym e)));
+        others = λ u ne. ap (λ (ss : List Seat). unwrap_or (slice_get ss u) nowhere) x.seats
+            ∙ ap (λ (o : Option Seat). unwrap_or o nowhere) (get-set_other i.seats t u _ (λ e. ne (sym e)));
       }) (λ e. refl) (λ e. refl);
   steps = λ t fair end i j h fit may x. gone i j t h fit (low_of t _ _ may) (seat_at i t).at fair end refl x;
   deadlines = λ t i j h fit may x. late i j t h fit (low_of t _ _ may) (seat_at i t).at x;

@@ -1,5 +1,8 @@
--- What one in no call at a variable does at the locks leaves a machine whole: it begins a call, makes a step, or its deadline comes.
-use Rattle.std.proofs.Common.{◌≡◌, ◌≢◌, ◌⊎◌, inl, inr, ℕ, zero, suc, ◌+◌, ◌*◌, ◌==◌, ◌<◌, Bool, true, false, not, cond, nat_lt, ◌&&◌, is_some, is_none, List, [], ◌∷◌, length, Option, Some, None, option_map, slice_get, slice_set, refl, sym, ap, ◌∙◌, subst, arith, eqb-true}
+-- What one in no call at a variable does at the locks leaves a machine whole: it begins a call, makes a step, or its
+-- deadline comes.
+use Rattle.std.proofs.Common.{◌≡◌, ◌≢◌, ◌⊎◌, inl, inr, ℕ, zero, suc, ◌+◌, ◌*◌, ◌==◌, ◌<◌, Bool, true, false, not, cond}
+use Rattle.std.proofs.Common.{nat_lt, ◌&&◌, is_some, is_none, List, [], ◌∷◌, length, Option, Some, None, option_map}
+use Rattle.std.proofs.Common.{slice_get, slice_set, refl, sym, ap, ◌∙◌, subst, arith, eqb-true}
 use Rattle.std.specs.Option.{option_map_or, unwrap_or}
 use Rattle.std.proofs.lemmas.Bool.{cases_lt, ltb-true}
 use Rattle.std.proofs.lemmas.List.{length-set}
@@ -28,12 +31,16 @@ use Rattle.parking_lot_machine.specs.RowFits.{FitsTogether}
 use Rattle.parking_lot_machine_calls.specs.CallKinds.{IsOfKind}
 use Rattle.parking_lot_machine.specs.Rows.{State, call_at as row_call_at, hold_at, hold_in, state}
 use Rattle.parking_lot_machine_waits.specs.declared.seat.Seat.{Seat}
-use Rattle.parking_lot_machine_waits.specs.Joint.{Joint, asking_number, busy_by, busy_number, call_in, core_enters, has_by_second, is_entered, is_open_at_variables, is_var, nowhere, number, row_goes, seat_at, var_at, var_in}
+use Rattle.parking_lot_machine_waits.specs.Joint.{Joint, asking_number, busy_by, busy_number, call_in, core_enters}
+use Rattle.parking_lot_machine_waits.specs.Joint.{has_by_second, is_entered, is_open_at_variables, is_var, nowhere}
+use Rattle.parking_lot_machine_waits.specs.Joint.{number, row_goes, seat_at, var_at, var_in}
 use Rattle.parking_lot_machine_waits.specs.JointMoves.{is_free, may_ask}
 use Rattle.parking_lot_machine_waits.specs.JointSteps.{IsAsked}
 use Rattle.parking_lot_machine_waits.specs.Whole.{IsIn, IsWhole, asks, asks_on, gives, place_of}
 use Rattle.parking_lot_machine_waits.proofs.Hearing.{both_true}
-use Rattle.parking_lot_machine_waits.proofs.Keeping.{Anew, AreShut, HoldsWhole, RowsKept, Stays, fewer_open, has_place, is, is_not, none_still, rows_by, seats_same, untouched, vars_same, whole_still}
+use Rattle.parking_lot_machine_waits.proofs.Keeping.{Anew, AreShut, HoldsWhole, RowsKept, Stays, fewer_open, has_place}
+use Rattle.parking_lot_machine_waits.proofs.Keeping.{is, is_not, none_still, rows_by, seats_same, untouched, vars_same}
+use Rattle.parking_lot_machine_waits.proofs.Keeping.{whole_still}
 use Rattle.parking_lot_machine_waits.proofs.Places.{Goes, Kept, Over, cells_apart, kept_same, over_same, stepped_goes}
 use Rattle.parking_lot_machine_waits.proofs.Seating.{anew_free, free_at}
 use Rattle.parking_lot_machine_waits.proofs.Stages.{Onward, Still}
@@ -41,32 +48,43 @@ use Rattle.parking_lot_machine_waits.proofs.Stages.{Onward, Still}
 -- A NUMBER'S CALL IS WRITTEN
 
 pub written_stays : (s u : State) (k : ℕ) (c : Call) → u ≡ with_call s k c → (l : ℕ) → l ≢ k → Stays s u l
-written_stays s u k c e l ne = untouched s u l (ap (λ (y : State). row_call_at y l) e ∙ call_elsewhere s.calls k l (Some c) ne) (λ m. ap (λ (y : State). hold_at y l m) e)
+written_stays s u k c e l ne =
+    untouched s u l (ap (λ (y : State). row_call_at y l) e ∙ call_elsewhere s.calls k l (Some c) ne)
+    (λ m. ap (λ (y : State). hold_at y l m) e)
 
-pub written_rows : (i j : Joint) (t : ℕ) (b : Bool) (c : Call) → state j.rows ≡ with_call (state i.rows) (number i t b) c → RowsKept i j (is t)
+pub written_rows : (i j : Joint) (t : ℕ) (b : Bool) (c : Call) → state j.rows ≡ with_call (state i.rows) (number i t b)
+    c → RowsKept i j (is t)
 written_rows i j t b c e =
-    rows_by i j t b (ap (λ (y : State). length y.calls) e ∙ length-set (state i.rows).calls (number i t b) (Some c)) (ap (λ (y : State). y.kinds) e) (written_stays (state i.rows) (state j.rows) (number i t b) c e)
+    rows_by i j t b (ap (λ (y : State). length y.calls) e ∙ length-set (state i.rows).calls (number i t b) (Some c))
+    (ap (λ (y : State). y.kinds) e) (written_stays (state i.rows) (state j.rows) (number i t b) c e)
 
 pub written_holds : (s u : State) (k : ℕ) (c : Call) → u ≡ with_call s k c → HoldsWhole s → HoldsWhole u
 written_holds s u k c e h = subst HoldsWhole (sym e) h
 
-pub written_here : (s u : State) (k : ℕ) (c : Call) → u ≡ with_call s k c → k < length s.calls → row_call_at u k ≡ Some c
+pub written_here : (s u : State) (k : ℕ) (c : Call) → u ≡ with_call s k c → k < length s.calls
+    → row_call_at u k ≡ Some c
 written_here s u k c e low = ap (λ (y : State). row_call_at y k) e ∙ call_here s.calls k (Some c) low
 
 pub kept_holds : (s u : State) → u.kinds ≡ s.kinds → u.holds ≡ s.holds → HoldsWhole s → HoldsWhole u
 kept_holds s u kinds holds h k n kind =
-    subst (λ (x : Hold). (excludes x ≡ true) ⊎ (owns_nothing x ≡ true)) (sym (ap (λ (hs : List Hold). hold_in hs (length u.kinds) k n) holds ∙ ap (λ (ks : List LockKind). hold_in s.holds (length ks) k n) kinds))
+    subst (λ (x : Hold). (excludes x ≡ true) ⊎ (owns_nothing x ≡ true))
+    (sym (ap (λ (hs : List Hold). hold_in hs (length u.kinds) k n) holds
+    ∙ ap (λ (ks : List LockKind). hold_in s.holds (length ks) k n) kinds))
     (h k n (ap (λ (ks : List LockKind). slice_get ks n) (sym kinds) ∙ kind))
 
 -- SECTIONS
 
 -- where the variables are the same
-pub same_shut : (i j : Joint) → IsWhole i → j.vars ≡ i.vars → ((state j.rows).lot.section ≡ None) ⊎ (is_open_at_variables i ≡ false) → AreShut j
-same_shut i j h vars sections = fewer_open i j h (λ v e. ap (λ (vs : List (Option Var)). is_entered (var_in vs v)) (sym vars) ∙ e) sections
+pub same_shut : (i j : Joint) → IsWhole i → j.vars ≡ i.vars → ((state j.rows).lot.section ≡ None)
+    ⊎ (is_open_at_variables i ≡ false) → AreShut j
+same_shut i j h vars sections =
+    fewer_open i j h (λ v e. ap (λ (vs : List (Option Var)). is_entered (var_in vs v)) (sym vars) ∙ e) sections
 
 -- where no section of a lock is opened
-pub written_sections : (i j : Joint) (k : ℕ) (c : Call) → IsWhole i → state j.rows ≡ with_call (state i.rows) k c → ((state j.rows).lot.section ≡ None) ⊎ (is_open_at_variables i ≡ false)
-written_sections i j k c h e = subst (λ (y : State). (y.lot.section ≡ None) ⊎ (is_open_at_variables i ≡ false)) (sym e) h.sections
+pub written_sections : (i j : Joint) (k : ℕ) (c : Call) → IsWhole i → state j.rows ≡ with_call (state i.rows) k c
+    → ((state j.rows).lot.section ≡ None) ⊎ (is_open_at_variables i ≡ false)
+written_sections i j k c h e = subst (λ (y : State). (y.lot.section ≡ None) ⊎ (is_open_at_variables i ≡ false)) (sym e)
+    h.sections
 
 -- TWO NUMBERS
 
@@ -74,7 +92,8 @@ pub own_apart : (n t : ℕ) (b : Bool) → t < n → cond (not b) (n + t) t ≢ 
 own_apart n t true low e = omega (arith, low, e)
 own_apart n t false low e = omega (arith, low, e)
 
-pub number_low : (i : Joint) → IsWhole i → (t : ℕ) (b : Bool) → t < length i.seats → number i t b < length (state i.rows).calls
+pub number_low : (i : Joint) → IsWhole i → (t : ℕ) (b : Bool) → t < length i.seats
+    → number i t b < length (state i.rows).calls
 number_low i h t true low = omega (arith, h.numbers, low)
 number_low i h t false low = omega (arith, h.numbers, low)
 
@@ -86,17 +105,20 @@ one_or_other false false = inl refl
 
 -- ONE THAT HAS NO SEAT
 
-module _ (i j : Joint) (t : ℕ) (h : IsWhole i) (low : t < length i.seats) (free : (seat_at i t).at ≡ None) (vars : j.vars ≡ i.vars) (seats : j.seats ≡ i.seats) where
+module _ (i j : Joint) (t : ℕ) (h : IsWhole i) (low : t < length i.seats) (free : (seat_at i t).at ≡ None)
+    (vars : j.vars ≡ i.vars) (seats : j.seats ≡ i.seats) where
   same_number : (second : Bool) → number j t second ≡ number i t second
   same_number second = ap (λ (ss : List Seat). cond second (length ss + t) t) seats
 
   low_of : (u : ℕ) → is t u ≡ true → u < length i.seats
   low_of u e = subst (λ (n : ℕ). n < length i.seats) (sym (eqb-true u t e)) low
 
-  at_number : (second : Bool) → row_call_at (state j.rows) (number i t second) ≡ None → row_call_at (state j.rows) (number j t second) ≡ None
+  at_number : (second : Bool) → row_call_at (state j.rows) (number i t second) ≡ None
+      → row_call_at (state j.rows) (number j t second) ≡ None
   at_number second e = ap (λ (n : ℕ). row_call_at (state j.rows) n) (same_number second) ∙ e
 
-  one_of : (b : Bool) → row_call_at (state j.rows) (number i t (not b)) ≡ None → (row_call_at (state j.rows) (number j t false) ≡ None) ⊎ (row_call_at (state j.rows) (number j t true) ≡ None)
+  one_of : (b : Bool) → row_call_at (state j.rows) (number i t (not b)) ≡ None
+      → (row_call_at (state j.rows) (number j t false) ≡ None) ⊎ (row_call_at (state j.rows) (number j t true) ≡ None)
   one_of true e = inl (at_number false e)
   one_of false e = inr (at_number true e)
 
@@ -104,18 +126,25 @@ module _ (i j : Joint) (t : ℕ) (h : IsWhole i) (low : t < length i.seats) (fre
   plain m e = ap (λ (vs : List (Option Var)). var_in vs m) vars ∙ e
 
   -- one of its numbers is in another call then, and the other in none
-  pub free_whole : (b : Bool) → RowsKept i j (is t) → row_call_at (state j.rows) (number i t (not b)) ≡ None → ((c : Call) → row_call_at (state j.rows) (number i t b) ≡ Some c → var_at i c.lock ≡ None)
+  pub free_whole : (b : Bool) → RowsKept i j (is t) → row_call_at (state j.rows) (number i t (not b)) ≡ None
+      → ((c : Call) → row_call_at (state j.rows) (number i t b) ≡ Some c → var_at i c.lock ≡ None)
       → HoldsWhole (state j.rows) → ((state j.rows).lot.section ≡ None) ⊎ (is_open_at_variables i ≡ false) → IsWhole j
   free_whole b rows other own holds sections =
-      whole_still i j (is t) h (record { rows = rows; vars = vars_same i j (is t) vars; seats = seats_same i j (is t) seats; low = low_of })
+      whole_still i j (is t) h
+      (record { rows = rows; vars = vars_same i j (is t) vars; seats = seats_same i j (is t) seats; low = low_of })
       (λ u e. subst (Anew j) (sym (eqb-true u t e))
-      (anew_free j t (ap (λ (ss : List Seat). (unwrap_or (slice_get ss t) nowhere).at) seats ∙ free) (λ v. ap (λ (vs : List (Option Var)). call_in (var_in vs v) t) vars ∙ free_at i h t free v) (one_of b other) clear))
+      (anew_free j t (ap (λ (ss : List Seat). (unwrap_or (slice_get ss t) nowhere).at) seats ∙ free)
+      (λ v. ap (λ (vs : List (Option Var)). call_in (var_in vs v) t) vars ∙ free_at i h t free v) (one_of b other)
+      clear))
       (same_shut i j h vars sections) holds
     where
-      moved : (c : Call) (x y : Bool) → x ≡ y → row_call_at (state j.rows) (number j t x) ≡ Some c → row_call_at (state j.rows) (number i t y) ≡ Some c
-      moved c x y e here = subst (λ (z : Bool). row_call_at (state j.rows) (number i t z) ≡ Some c) e (ap (λ (n : ℕ). row_call_at (state j.rows) n) (sym (same_number x)) ∙ here)
+      moved : (c : Call) (x y : Bool) → x ≡ y → row_call_at (state j.rows) (number j t x) ≡ Some c
+          → row_call_at (state j.rows) (number i t y) ≡ Some c
+      moved c x y e here = subst (λ (z : Bool). row_call_at (state j.rows) (number i t z) ≡ Some c) e
+          (ap (λ (n : ℕ). row_call_at (state j.rows) n) (sym (same_number x)) ∙ here)
 
-      clear : (second : Bool) (c : Call) → row_call_at (state j.rows) (number j t second) ≡ Some c → var_at j c.lock ≡ None
+      clear : (second : Bool) (c : Call) → row_call_at (state j.rows) (number j t second) ≡ Some c
+          → var_at j c.lock ≡ None
       clear second c here = elim (one_or_other b second) [
         | inl e ↦ plain c.lock (own c (moved c second b e here))
         | inr e ↦ absurd (none-some c (sym other ∙ moved c second (not b) e here))
@@ -130,11 +159,14 @@ is_no_var None e = refl
 is_no_var (Some x) e = absurd cc
 
 -- one that may ask so may begin that by the number by which it asks
-pub may_there : (j : Joint) (t lock : ℕ) (c : LockCall) → may_ask j t lock c ≡ true → rows.may_begin (state j.rows) (asking_number j t lock) lock c ≡ true
-may_there j t lock c may = (both_true (not (is_var j lock)) _ (both_true (is_free j t) _ (both_true (nat_lt t (length j.seats)) _ may).1).1).1
+pub may_there : (j : Joint) (t lock : ℕ) (c : LockCall) → may_ask j t lock c ≡ true
+    → rows.may_begin (state j.rows) (asking_number j t lock) lock c ≡ true
+may_there j t lock c may =
+    (both_true (not (is_var j lock)) _ (both_true (is_free j t) _ (both_true (nat_lt t (length j.seats)) _ may).1).1).1
 
 -- It begins a call there.
-module _ (i j : Joint) (t lock : ℕ) (c : LockCall) (h : IsWhole i) (may : may_ask i t lock c ≡ true) (x : IsAsked t lock c i j) where
+module _ (i j : Joint) (t lock : ℕ) (c : LockCall) (h : IsWhole i) (may : may_ask i t lock c ≡ true)
+    (x : IsAsked t lock c i j) where
   abbrev by : Bool
   by = has_by_second i t lock
 
@@ -153,14 +185,20 @@ module _ (i j : Joint) (t lock : ℕ) (c : LockCall) (h : IsWhole i) (may : may_
 
   pub ask_keeps : IsWhole j
   ask_keeps =
-      free_whole i j t h low (is_nobody _ (both_true _ _ freely).0) x.vars x.seats by (written_rows i j t by _ x.begins.became)
-      (none_still _ _ _ (written_stays _ _ (number i t by) _ x.begins.became (number i t (not by)) (own_apart (length i.seats) t by low)) (nowhere_else (not by)))
-      (λ d here. subst (λ (m : ℕ). var_at i m ≡ None) (ap (λ (e : Call). e.lock) (same_Some _ d (sym (written_here _ _ (number i t by) _ x.begins.became (number_low i h t by low)) ∙ here))) no_variable)
+      free_whole i j t h low (is_nobody _ (both_true _ _ freely).0) x.vars x.seats by
+      (written_rows i j t by _ x.begins.became)
+      (none_still _ _ _ (written_stays _ _ (number i t by) _ x.begins.became (number i t (not by))
+      (own_apart (length i.seats) t by low)) (nowhere_else (not by)))
+      (λ d here. subst (λ (m : ℕ). var_at i m ≡ None)
+      (ap (λ (e : Call). e.lock)
+      (same_Some _ d (sym (written_here _ _ (number i t by) _ x.begins.became (number_low i h t by low)) ∙ here)))
+      no_variable)
       (written_holds _ _ _ _ x.begins.became h.holds) (written_sections i j _ _ h x.begins.became)
 
 -- THE NUMBER THAT IS BUSY
 
-busy_case : (i : Joint) (t : ℕ) → IsWhole i → (seat_at i t).at ≡ None → (o : Option Call) → row_call_at (state i.rows) t ≡ o
+busy_case : (i : Joint) (t : ℕ) → IsWhole i → (seat_at i t).at ≡ None → (o : Option Call)
+    → row_call_at (state i.rows) t ≡ o
     → (b : Bool) × (busy_number i t ≡ number i t b) × (row_call_at (state i.rows) (number i t (not b)) ≡ None)
 busy_case i t h free None e = (true, ap (λ (p : Option Call). busy_by p t (number i t true)) e, e)
 busy_case i t h free (Some c) e = (false, ap (λ (p : Option Call). busy_by p t (number i t true)) e, other)
@@ -168,15 +206,23 @@ busy_case i t h free (Some c) e = (false, ap (λ (p : Option Call). busy_by p t 
     other : row_call_at (state i.rows) (number i t true) ≡ None
     other = elim (h.one t free) [ inl a ↦ absurd (none-some c (sym a ∙ e)) | inr a ↦ a ]
 
-pub busy : (i : Joint) (t : ℕ) → IsWhole i → (seat_at i t).at ≡ None → (b : Bool) × (busy_number i t ≡ number i t b) × (row_call_at (state i.rows) (number i t (not b)) ≡ None)
+pub busy : (i : Joint) (t : ℕ) → IsWhole i → (seat_at i t).at ≡ None → (b : Bool) × (busy_number i t ≡ number i t b)
+    × (row_call_at (state i.rows) (number i t (not b)) ≡ None)
 busy i t h free = busy_case i t h free (row_call_at (state i.rows) t) refl
 
 -- WHAT A STEP LEAVES
 
-in_on : (sort : RowCore → Bool) (s u : State) (k m : ℕ) → IsIn sort s k m → ((c d : RowCore) → Still c d → sort c ≡ true → sort d ≡ true) → Onward (row_call_at s k) (row_call_at u k) → IsIn sort u k m
+in_on : (sort : RowCore → Bool) (s u : State) (k m : ℕ) → IsIn sort s k m
+    → ((c d : RowCore) → Still c d → sort c ≡ true → sort d ≡ true) → Onward (row_call_at s k) (row_call_at u k)
+    → IsIn sort u k m
 in_on sort s u k m x keeps on =
     let go = subst (λ (o : Option Call). Onward o (row_call_at u k)) x.here on in
-    record { call = go.call; here = go.here; lock = go.lock ∙ x.lock; is = keeps x.call.core go.call.core go.still x.is }
+    record {
+      call = go.call;
+      here = go.here;
+      lock = go.lock ∙ x.lock;
+      is = keeps x.call.core go.call.core go.still x.is;
+    }
 
 -- each number stays where none's call is over
 pub kept_stays : {b : Bool} (s u : State) → Kept b s u → (k : ℕ) → Stays s u k
@@ -204,9 +250,11 @@ lock_low s t c fits here = elim (cases_lt c.lock (length s.kinds)) [
 ]
 
 -- and each other one where one's is over
-pub over_stays : (s u : State) (t : ℕ) (a : CoreAnswer) → FitsTogether s → (x : Over t a s u) → (k : ℕ) → k ≢ t → Stays s u k
+pub over_stays : (s u : State) (t : ℕ) (a : CoreAnswer) → FitsTogether s → (x : Over t a s u) → (k : ℕ) → k ≢ t
+    → Stays s u k
 over_stays s u t a fits x k ne =
-    untouched s u k (ap (λ (y : State). row_call_at y k) x.became ∙ call_elsewhere s.calls t k None ne) (over_same s u t a x (lock_low s t x.call fits x.here) k ne).holds
+    untouched s u k (ap (λ (y : State). row_call_at y k) x.became ∙ call_elsewhere s.calls t k None ne)
+    (over_same s u t a x (lock_low s t x.call fits x.here) k ne).holds
 
 -- A mutex is owned whole, or not at all, by one whose call there is over.
 after_phase : (p : MutexPhase) → (excludes (mutex_hold_after p) ≡ true) ⊎ (owns_nothing (mutex_hold_after p) ≡ true)
@@ -215,7 +263,8 @@ after_phase (m.Ends answer.Refused) = inr refl
 after_phase (m.Ends answer.Released) = inr refl
 after_phase p = inr refl
 
-after_call : (n : ℕ) (c : RowCore) → IsOfKind (Some kind.Mutex) c → (excludes (hold_after n c) ≡ true) ⊎ (owns_nothing (hold_after n c) ≡ true)
+after_call : (n : ℕ) (c : RowCore) → IsOfKind (Some kind.Mutex) c → (excludes (hold_after n c) ≡ true)
+    ⊎ (owns_nothing (hold_after n c) ≡ true)
 after_call n (row_core.Mutex k) is = after_phase k.phase
 after_call n (row_core.Late p) is = inr refl
 after_call n (row_core.Rw k) is = absurd cc
@@ -226,7 +275,8 @@ abbrev Whole : Hold → Type 0
 Whole x = (excludes x ≡ true) ⊎ (owns_nothing x ≡ true)
 
 -- what stands where one was written is that, or what stood there
-written_or : (xs : List Hold) (at k : ℕ) (x : Hold) → (slice_get (slice_set xs at x) k ≡ slice_get xs k) ⊎ ((k ≡ at) × (slice_get (slice_set xs at x) k ≡ Some x))
+written_or : (xs : List Hold) (at k : ℕ) (x : Hold) → (slice_get (slice_set xs at x) k ≡ slice_get xs k)
+    ⊎ ((k ≡ at) × (slice_get (slice_set xs at x) k ≡ Some x))
 written_or [] at k x = inl refl
 written_or (y ∷ ys) zero zero x = inr (refl, refl)
 written_or (y ∷ ys) zero (suc k) x = inl refl
@@ -243,32 +293,43 @@ same_cell n x i t l bi bl e = go (x == t) refl
 pub over_holds : (s u : State) (t : ℕ) (a : CoreAnswer) → FitsTogether s → Over t a s u → HoldsWhole s → HoldsWhole u
 over_holds s u t a fits x h = subst HoldsWhole (sym x.became) at
   where
-    within : (k n : ℕ) → n < length s.kinds → slice_get s.kinds n ≡ Some kind.Mutex → Whole (option_map_or (λ (y : Hold). y) (slice_get s.holds (k * length s.kinds + n)) (hold.Shares 0))
-        → Whole (option_map_or (λ (y : Hold). y) (slice_get (answered s t x.call).holds (k * length s.kinds + n)) (hold.Shares 0))
-    within k n low kind was = elim (written_or s.holds (t * length s.kinds + x.call.lock) (k * length s.kinds + n) (hold_after x.call.others x.call.core)) [
-      | inl e ↦ subst (λ (o : Option Hold). Whole (option_map_or (λ (y : Hold). y) o (hold.Shares 0))) (sym e) was
-      | inr e ↦ subst (λ (o : Option Hold). Whole (option_map_or (λ (y : Hold). y) o (hold.Shares 0))) (sym e.1)
-          (after_call x.call.others x.call.core (subst (λ (o : Option LockKind). IsOfKind o x.call.core)
-          (ap (slice_get s.kinds) (sym (same_cell (length s.kinds) k n t x.call.lock low (lock_low s t x.call fits x.here) e.0)) ∙ kind) (fits.rules.kinds t x.call x.here)))
-    ]
+    within : (k n : ℕ) → n < length s.kinds → slice_get s.kinds n ≡ Some kind.Mutex
+        → Whole (option_map_or (λ (y : Hold). y) (slice_get s.holds (k * length s.kinds + n)) (hold.Shares 0))
+        → Whole (option_map_or (λ (y : Hold). y) (slice_get (answered s t x.call).holds (k * length s.kinds + n))
+        (hold.Shares 0))
+    within k n low kind was =
+        elim (written_or s.holds (t * length s.kinds + x.call.lock) (k * length s.kinds + n)
+        (hold_after x.call.others x.call.core)) [
+          | inl e ↦ subst (λ (o : Option Hold). Whole (option_map_or (λ (y : Hold). y) o (hold.Shares 0))) (sym e) was
+          | inr e ↦ subst (λ (o : Option Hold). Whole (option_map_or (λ (y : Hold). y) o (hold.Shares 0))) (sym e.1)
+              (after_call x.call.others x.call.core (subst (λ (o : Option LockKind). IsOfKind o x.call.core)
+              (ap (slice_get s.kinds)
+              (sym (same_cell (length s.kinds) k n t x.call.lock low (lock_low s t x.call fits x.here) e.0)) ∙ kind)
+              (fits.rules.kinds t x.call x.here)))
+        ]
 
     at : HoldsWhole (answered s t x.call)
     at k n kind = by (nat_lt n (length s.kinds)) refl (h k n kind)
       where
-        by : (b : Bool) → nat_lt n (length s.kinds) ≡ b → Whole (cond b (option_map_or (λ (y : Hold). y) (slice_get s.holds (k * length s.kinds + n)) (hold.Shares 0)) (hold.Shares 0))
-            → Whole (cond b (option_map_or (λ (y : Hold). y) (slice_get (answered s t x.call).holds (k * length s.kinds + n)) (hold.Shares 0)) (hold.Shares 0))
+        by : (b : Bool) → nat_lt n (length s.kinds) ≡ b
+            → Whole (cond b (option_map_or (λ (y : Hold). y) (slice_get s.holds (k * length s.kinds + n))
+            (hold.Shares 0)) (hold.Shares 0))
+            → Whole (cond b (option_map_or (λ (y : Hold). y)
+            (slice_get (answered s t x.call).holds (k * length s.kinds + n)) (hold.Shares 0)) (hold.Shares 0))
         by true e was = within k n (ltb-true n (length s.kinds) e) kind was
         by false e was = was
 
 -- no section of a variable is open beside one of a lock, where none is entered beside another
-pub one_section : {X : Type 0} (enters beside : Bool) (o p : Option X) → (enters ≡ false → o ≡ None → p ≡ None) → not (enters && beside) ≡ true → (o ≡ None) ⊎ (beside ≡ false) → (p ≡ None) ⊎ (beside ≡ false)
+pub one_section : {X : Type 0} (enters beside : Bool) (o p : Option X) → (enters ≡ false → o ≡ None → p ≡ None)
+    → not (enters && beside) ≡ true → (o ≡ None) ⊎ (beside ≡ false) → (p ≡ None) ⊎ (beside ≡ false)
 one_section enters beside o p closed may (inr shut) = inr shut
 one_section false beside o p closed may (inl none) = inl (closed refl none)
 one_section true true o p closed may (inl none) = absurd cc
 one_section true false o p closed may (inl none) = inr refl
 
 -- It makes a step there, or its deadline comes.
-module _ (i j : Joint) (t : ℕ) (h : IsWhole i) (fits : FitsTogether (state i.rows)) (low : t < length i.seats) (free : (seat_at i t).at ≡ None) (vars : j.vars ≡ i.vars) (seats : j.seats ≡ i.seats) where
+module _ (i j : Joint) (t : ℕ) (h : IsWhole i) (fits : FitsTogether (state i.rows)) (low : t < length i.seats)
+    (free : (seat_at i t).at ≡ None) (vars : j.vars ≡ i.vars) (seats : j.seats ≡ i.seats) where
   abbrev s : State
   s = state i.rows
 
@@ -280,28 +341,42 @@ module _ (i j : Joint) (t : ℕ) (h : IsWhole i) (fits : FitsTogether (state i.r
       let (d, was, lock) = has_place (row_call_at s k) c.lock (sym e ∙ ap (option_map (λ (y : Call). y.lock)) here) in
       subst (λ (m : ℕ). var_at i m ≡ None) lock (h.rows k d was)
 
-  went : (b : Bool) → row_call_at s (number i t (not b)) ≡ None → (a : Option CoreAnswer) (enters : Bool) → not (enters && is_open_at_variables i) ≡ true → Goes a enters (number i t b) s u → IsWhole j
+  went : (b : Bool) → row_call_at s (number i t (not b)) ≡ None → (a : Option CoreAnswer) (enters : Bool)
+      → not (enters && is_open_at_variables i) ≡ true → Goes a enters (number i t b) s u → IsWhole j
   went b other None enters may x =
-      free_whole i j t h low free vars seats b (rows_by i j t b x.calls.count x.kinds (λ k ne. kept_stays s u x k)) (none_still s u _ (kept_stays s u x _) other)
-      (λ c here. still_clear _ c (kept_same s u x _).place here) (kept_holds s u x.kinds x.holds h.holds) (one_section enters (is_open_at_variables i) s.lot.section u.lot.section x.closed may h.sections)
+      free_whole i j t h low free vars seats b (rows_by i j t b x.calls.count x.kinds (λ k ne. kept_stays s u x k))
+      (none_still s u _ (kept_stays s u x _) other)
+      (λ c here. still_clear _ c (kept_same s u x _).place here) (kept_holds s u x.kinds x.holds h.holds)
+      (one_section enters (is_open_at_variables i) s.lot.section u.lot.section x.closed may h.sections)
   went b other (Some a) enters may x =
-      free_whole i j t h low free vars seats b (rows_by i j t b (ap (λ (y : State). length y.calls) x.became ∙ length-set s.calls (number i t b) None) (ap (λ (y : State). y.kinds) x.became) (over_stays s u (number i t b) a fits x))
+      free_whole i j t h low free vars seats b
+      (rows_by i j t b (ap (λ (y : State). length y.calls) x.became ∙ length-set s.calls (number i t b) None)
+      (ap (λ (y : State). y.kinds) x.became) (over_stays s u (number i t b) a fits x))
       (none_still s u _ (over_stays s u (number i t b) a fits x _ (own_apart (length i.seats) t b low)) other)
-      (λ c here. absurd (none-some c (sym (ap (λ (y : State). row_call_at y (number i t b)) x.became ∙ call_here s.calls (number i t b) None (number_low i h t b low)) ∙ here)))
+      (λ c here. absurd (none-some c
+      (sym (ap (λ (y : State). row_call_at y (number i t b)) x.became ∙ call_here s.calls (number i t b) None
+      (number_low i h t b low)) ∙ here)))
       (over_holds s u (number i t b) a fits x h.holds)
       (subst (λ (y : State). (y.lot.section ≡ None) ⊎ (is_open_at_variables i ≡ false)) (sym x.became) h.sections)
 
-  pub step_keeps : (fair : Bool) (a : Option CoreAnswer) → row_goes i (busy_number i t) ≡ true → rows.IsStepped (busy_number i t) fair a s u → IsWhole j
+  pub step_keeps : (fair : Bool) (a : Option CoreAnswer) → row_goes i (busy_number i t) ≡ true
+      → rows.IsStepped (busy_number i t) fair a s u → IsWhole j
   step_keeps fair a can x =
       let (b, at, other) = busy i t h free in
       went b other a (core_enters x.call.core)
-      (ap (λ (o : Option Call). not (option_map_or (λ (c : Call). core_enters c.core) o false && is_open_at_variables i)) (sym x.here) ∙ (both_true _ _ can).1)
+      (ap (λ (o : Option Call). not
+      (option_map_or (λ (c : Call). core_enters c.core) o false && is_open_at_variables i)) (sym x.here)
+      ∙ (both_true _ _ can).1)
       (subst (λ (k : ℕ). Goes a (core_enters x.call.core) k s u) at (stepped_goes s u (busy_number i t) fair a fits x))
 
   pub deadline_keeps : rows.IsExpired (busy_number i t) s u → IsWhole j
   deadline_keeps x =
       let (b, at, other) = busy i t h free in
       let became = subst (λ (k : ℕ). u ≡ with_call s k (record x.call { core = late_of x.call.core })) at x.became in
-      free_whole i j t h low free vars seats b (written_rows i j t b _ became) (none_still s u _ (written_stays s u (number i t b) _ became _ (own_apart (length i.seats) t b low)) other)
-      (λ d here. subst (λ (m : ℕ). var_at i m ≡ None) (ap (λ (e : Call). e.lock) (same_Some _ d (sym (written_here s u (number i t b) _ became (number_low i h t b low)) ∙ here))) (h.rows (busy_number i t) x.call x.here))
+      free_whole i j t h low free vars seats b (written_rows i j t b _ became)
+      (none_still s u _ (written_stays s u (number i t b) _ became _ (own_apart (length i.seats) t b low)) other)
+      (λ d here. subst (λ (m : ℕ). var_at i m ≡ None)
+      (ap (λ (e : Call). e.lock)
+      (same_Some _ d (sym (written_here s u (number i t b) _ became (number_low i h t b low)) ∙ here)))
+      (h.rows (busy_number i t) x.call x.here))
       (written_holds s u (number i t b) _ became h.holds) (written_sections i j (number i t b) _ h became)

@@ -1,5 +1,7 @@
 -- A notification that is about to move waiters may take as many as there are, or the first, and be told so.
-use Rattle.std.proofs.Common.{◌≡◌, ◌⊎◌, ℕ, zero, suc, ◌+◌, ◌-◌, ◌==◌, ◌<◌, ◌≤◌, Bool, true, false, not, nat_lt, ◌&&◌, List, length, take, Option, Some, None, slice_set, refl, sym, ap, ◌∙◌, subst, arith, lt-ltb, eq-eqb, inl, inr}
+use Rattle.std.proofs.Common.{◌≡◌, ◌⊎◌, ℕ, zero, suc, ◌+◌, ◌-◌, ◌==◌, ◌<◌, ◌≤◌, Bool, true, false, not, nat_lt, ◌&&◌}
+use Rattle.std.proofs.Common.{List, length, take, Option, Some, None, slice_set, refl, sym, ap, ◌∙◌, subst, arith}
+use Rattle.std.proofs.Common.{lt-ltb, eq-eqb, inl, inr}
 use Rattle.std.specs.Option.{option_map, option_map_or}
 use Rattle.std.proofs.lemmas.List.{length-take-le, length-set}
 use Rattle.std.proofs.lemmas.List.Edits.{length-remove}
@@ -16,15 +18,18 @@ use Rattle.parking_lot_machine_sides.specs.declared.condvar.open_call.OpenCall.{
 use Rattle.parking_lot_machine_sides.specs.declared.condvar.outside.Outside.TheVariants as outside
 use Rattle.parking_lot_machine_sides.specs.Condvar.Calls.{is_of_all, off_list}
 use Rattle.parking_lot_machine_sides.specs.Condvar.Fitting.{Fits, IsNotify, Knows}
-use Rattle.parking_lot_machine_sides.specs.Condvar.Machines.{State as Var, call_at, call_in, can_take, is_left, may_take}
-use Rattle.parking_lot_machine_sides.specs.Condvar.Outsides.{all_taken, can_be_told, hears_by, is_whole, may_hear, told, told_by, woken_of}
+use Rattle.parking_lot_machine_sides.specs.Condvar.Machines.{State as Var, call_at, call_in, can_take, is_left}
+use Rattle.parking_lot_machine_sides.specs.Condvar.Machines.{may_take}
+use Rattle.parking_lot_machine_sides.specs.Condvar.Outsides.{all_taken, can_be_told, hears_by, is_whole, may_hear, told}
+use Rattle.parking_lot_machine_sides.specs.Condvar.Outsides.{told_by, woken_of}
 use Rattle.parking_lot_machine_sides.specs.Condvar.Steps.{IsTaken, IsTold}
 use Rattle.parking_lot_machine_sides.proofs.CondvarFacts.Slots.{call_here, within}
 use Rattle.parking_lot_machine_waits.specs.declared.turn.Turn.{Turn}
 use Rattle.parking_lot_machine_waits.specs.declared.turn.Turn.TheVariants as turn
 use Rattle.parking_lot_machine_waits.specs.Joint.{call_in as call_of}
 use Rattle.parking_lot_machine_waits.specs.JointSteps.{KnownIn, takes_now}
-use Rattle.parking_lot_machine_waits.specs.Moving.{AreTaken, MayNotify, MayNotifyIn, MayTake, first_of, moved_of, taken_of}
+use Rattle.parking_lot_machine_waits.specs.Moving.{AreTaken, MayNotify, MayNotifyIn, MayTake, first_of, moved_of}
+use Rattle.parking_lot_machine_waits.specs.Moving.{taken_of}
 use Rattle.parking_lot_machine_waits.specs.Turns.{turn_by, turn_of, wait_turn, notify_turn}
 
 -- it is about to look whether the mutex is locked
@@ -83,7 +88,9 @@ marking c e = go c.core refl e
   where
     go : (k : Core) → c.core ≡ k → is_moving (turn_by c.listed k) ≡ true → Marking c
     go (core.Wait k) is e = no_wait c.listed k.phase e
-    go (core.Notify k) is e = (let p = which k.phase e in record { all = p.0; is = is ∙ ap (λ (q : NotifyPhase). core.Notify (record { phase = q })) p.1 })
+    go (core.Notify k) is e =
+        (let p = which k.phase e in
+        record { all = p.0; is = is ∙ ap (λ (q : NotifyPhase). core.Notify (record { phase = q })) p.1 })
 
 -- it is taking waiters, has taken so many, and so many are left
 pub record Taking (t : ℕ) (all locked : Bool) (done left : ℕ) (x : Var) : Type 0 where
@@ -94,26 +101,33 @@ pub record Taking (t : ℕ) (all locked : Bool) (done left : ℕ) (x : Var) : Ty
   pub queue : length x.queue ≡ left
 
 module _ (t : ℕ) (all locked : Bool) where
-  taken_more : (done left w : ℕ) (x y : Var) → Taking t all locked done left x → IsTaken t w x y → Taking t all locked (done + 1) (left - 1) y
+  taken_more : (done left w : ℕ) (x y : Var) → Taking t all locked done left x → IsTaken t w x y
+      → Taking t all locked (done + 1) (left - 1) y
   taken_more done left w x y k s =
       let same : s.call ≡ k.call = same_Some s.call k.call (sym s.here ∙ k.here) in
       record {
         call = record s.call { taken = s.call.taken + 1 };
-        here = ap (λ (z : Var). call_at z t) s.became ∙ call_here (slice_set x.calls w (option_map off_list (call_in x.calls w))) t (Some (record s.call { taken = s.call.taken + 1 }))
-            (subst (λ m. t < m) (sym (length-set x.calls w (option_map off_list (call_in x.calls w)))) (within x.calls t s.call s.here));
+        here = ap (λ (z : Var). call_at z t) s.became
+            ∙ call_here (slice_set x.calls w (option_map off_list (call_in x.calls w))) t
+            (Some (record s.call { taken = s.call.taken + 1 }))
+            (subst (λ m. t < m) (sym (length-set x.calls w (option_map off_list (call_in x.calls w))))
+            (within x.calls t s.call s.here));
         core = ap (λ (c : OpenCall). c.core) same ∙ k.core;
         taken = ap (λ (c : OpenCall). c.taken + 1) same ∙ ap (λ m. m + 1) k.taken;
-        queue = ap (λ (z : Var). length z.queue) s.became ∙ omega (arith, length-remove x.queue 0, slice_get_within x.queue 0 w s.first, k.queue);
+        queue = ap (λ (z : Var). length z.queue) s.became
+            ∙ omega (arith, length-remove x.queue 0, slice_get_within x.queue 0 w s.first, k.queue);
       }
 
   -- one of all may take where somebody waits, and one of one if it has taken nobody
-  may_one : (done left : ℕ) (x : Var) → Taking t all locked done left x → 0 < left → (all ≡ true) ⊎ (done ≡ 0) → can_take x t ≡ true
+  may_one : (done left : ℕ) (x : Var) → Taking t all locked done left x → 0 < left → (all ≡ true) ⊎ (done ≡ 0)
+      → can_take x t ≡ true
   may_one done left x k some first = ap (λ o. option_map_or (may_take x.queue) o false) k.here ∙ go all first k.core
     where
       waits : is_left x.queue ≡ true
       waits = lt-ltb 0 (length x.queue) (omega (arith, some, k.queue))
 
-      go : (b : Bool) → (b ≡ true) ⊎ (done ≡ 0) → k.call.core ≡ core.Notify (record { phase = n.Moves b locked }) → may_take x.queue k.call ≡ true
+      go : (b : Bool) → (b ≡ true) ⊎ (done ≡ 0) → k.call.core ≡ core.Notify (record { phase = n.Moves b locked })
+          → may_take x.queue k.call ≡ true
       go true first is = ap (λ (c : Core). may_take x.queue (record k.call { core = c })) is ∙ waits
       go false (inl e) is = absurd cc
       go false (inr e) is =
@@ -137,22 +151,28 @@ module _ (t : ℕ) (all locked : Bool) where
   so_many : (a b c d : ℕ) (z : Var) → a ≡ c → b ≡ d → Taking t all locked a b z → Taking t all locked c d z
   so_many a b c d z e f k = subst (λ n. Taking t all locked c n z) f (subst (λ n. Taking t all locked n b z) e k)
 
-  pub taken_all : (n done left : ℕ) (x z : Var) → Taking t all locked done left x → n ≤ left → AreTaken t n x z → Taking t all locked (done + n) (left - n) z
-  taken_all zero done left x z k low same = so_many done left (done + 0) (left - 0) z (omega arith) (omega arith) (subst (λ (y : Var). Taking t all locked done left y) (sym same) k)
+  pub taken_all : (n done left : ℕ) (x z : Var) → Taking t all locked done left x → n ≤ left → AreTaken t n x z
+      → Taking t all locked (done + n) (left - n) z
+  taken_all zero done left x z k low same = so_many done left (done + 0) (left - 0) z (omega arith) (omega arith)
+      (subst (λ (y : Var). Taking t all locked done left y) (sym same) k)
   taken_all (suc n) done left x z k low (y, before, w, s) =
       so_many (done + n + 1) (left - n - 1) (done + suc n) (left - suc n) z (omega arith) (omega arith)
       (taken_more (done + n) (left - n) w y z (taken_all n done left x y k (omega (arith, low)) before) s)
 
 -- it has looked whether the mutex is locked
-pub looked : (t : ℕ) (all locked : Bool) (c : OpenCall) (x y : Var) → call_at x t ≡ Some c → c.core ≡ core.Notify (record { phase = n.Marks all }) → c.taken ≡ 0 → IsTold t (outside.Marked locked) x y → Taking t all locked 0 (length x.queue) y
+pub looked : (t : ℕ) (all locked : Bool) (c : OpenCall) (x y : Var) → call_at x t ≡ Some c
+    → c.core ≡ core.Notify (record { phase = n.Marks all }) → c.taken ≡ 0 → IsTold t (outside.Marked locked) x y
+    → Taking t all locked 0 (length x.queue) y
 looked t all locked c x y here is none s =
     let same : s.call ≡ c = same_Some s.call c (sym s.here ∙ here) in
     let its : s.call.core ≡ core.Notify (record { phase = n.Marks all }) = ap (λ (d : OpenCall). d.core) same ∙ is in
     record {
       call = told s.call x.queue (outside.Marked locked);
-      here = ap (λ (z : Var). call_at z t) s.became ∙ call_here x.calls t (Some (told s.call x.queue (outside.Marked locked))) (within x.calls t s.call s.here);
+      here = ap (λ (z : Var). call_at z t) s.became
+          ∙ call_here x.calls t (Some (told s.call x.queue (outside.Marked locked))) (within x.calls t s.call s.here);
       core = ap (λ (k : Core). (told_by s.call (is_left x.queue) (outside.Marked locked) k).core) its;
-      taken = ap (λ (k : Core). (told_by s.call (is_left x.queue) (outside.Marked locked) k).taken) its ∙ ap (λ (d : OpenCall). d.taken) same ∙ none;
+      taken = ap (λ (k : Core). (told_by s.call (is_left x.queue) (outside.Marked locked) k).taken) its
+          ∙ ap (λ (d : OpenCall). d.taken) same ∙ none;
       queue = ap (λ (z : Var). length z.queue) s.became;
     }
 
@@ -173,7 +193,8 @@ abbrev count_of : Bool → ℕ → ℕ
 count_of true n = n
 count_of false n = first_of n
 
-whole : (all : Bool) (waiting left : ℕ) → left ≡ waiting - count_of all waiting → is_whole all (count_of all waiting) (nat_lt 0 left) ≡ true
+whole : (all : Bool) (waiting left : ℕ) → left ≡ waiting - count_of all waiting
+    → is_whole all (count_of all waiting) (nat_lt 0 left) ≡ true
 whole true waiting left e = ap (λ m. not (nat_lt 0 m)) (the_rest)
   where
     the_rest : left ≡ 0
@@ -185,28 +206,37 @@ both : (a b : Bool) → a ≡ true → b ≡ true → (a && b) ≡ true
 both true b x y = y
 both false b x y = absurd cc
 
-is_told_all : (t n : ℕ) (all locked : Bool) (left : ℕ) (z : Var) → Taking t all locked n left z → is_whole all n (nat_lt 0 left) ≡ true → can_be_told z t (moved_of locked n) ≡ true
+is_told_all : (t n : ℕ) (all locked : Bool) (left : ℕ) (z : Var) → Taking t all locked n left z
+    → is_whole all n (nat_lt 0 left) ≡ true → can_be_told z t (moved_of locked n) ≡ true
 is_told_all t n all locked left z k all_of =
     ap (λ o. option_map_or (may_hear z.queue (moved_of locked n)) o false) k.here
     ∙ ap (λ (c : Core). hears_by k.call (is_left z.queue) (moved_of locked n) c) k.core
     ∙ ap (λ m. all_taken m (is_left z.queue) all locked (woken_of locked n) (n - woken_of locked n)) k.taken
-    ∙ both _ _ (ap (λ m. is_whole all n (nat_lt 0 m)) k.queue ∙ all_of) (both _ _ (eq-eqb (woken_of locked n) (woken_of locked n) refl) (eq-eqb (n - woken_of locked n) (n - woken_of locked n) refl))
+    ∙ both _ _ (ap (λ m. is_whole all n (nat_lt 0 m)) k.queue ∙ all_of)
+    (both _ _ (eq-eqb (woken_of locked n) (woken_of locked n) refl)
+    (eq-eqb (n - woken_of locked n) (n - woken_of locked n) refl))
 
 count_low : (all : Bool) (n : ℕ) → count_of all n ≤ n
 count_low true n = omega arith
 count_low false n = first_low n
 
-notifies : (t : ℕ) (all locked : Bool) (c : OpenCall) (x : Var) → call_at x t ≡ Some c → c.core ≡ core.Notify (record { phase = n.Marks all }) → c.taken ≡ 0 → MayNotify t locked (count_of all (length x.queue)) x
+notifies : (t : ℕ) (all locked : Bool) (c : OpenCall) (x : Var) → call_at x t ≡ Some c
+    → c.core ≡ core.Notify (record { phase = n.Marks all }) → c.taken ≡ 0
+    → MayNotify t locked (count_of all (length x.queue)) x
 notifies t all locked c x here is none =
     let waiting = length x.queue in
     let few = count_low all waiting in
     record {
-      looks = ap (λ o. option_map_or (may_hear x.queue (outside.Marked locked)) o false) here ∙ ap (λ (k : Core). hears_by c (is_left x.queue) (outside.Marked locked) k) is;
+      looks = ap (λ o. option_map_or (may_hear x.queue (outside.Marked locked)) o false) here
+          ∙ ap (λ (k : Core). hears_by c (is_left x.queue) (outside.Marked locked) k) is;
       takes = λ y s. by_all all y (looked t all locked c x y here is none s);
       tells = λ y z s taken. (
-          let k = taken_all t all locked (count_of all waiting) 0 waiting y z (looked t all locked c x y here is none s) few taken in
-          let k2 = subst (λ m. Taking t all locked m (waiting - count_of all waiting) z) (zero_more (count_of all waiting)) k in
-          is_told_all t (count_of all waiting) all locked (waiting - count_of all waiting) z k2 (whole all waiting (waiting - count_of all waiting) refl)
+          let k = taken_all t all locked (count_of all waiting) 0 waiting y z (looked t all locked c x y here is none s)
+          few taken in
+          let k2 = subst (λ m. Taking t all locked m (waiting - count_of all waiting) z)
+          (zero_more (count_of all waiting)) k in
+          is_told_all t (count_of all waiting) all locked (waiting - count_of all waiting) z k2
+          (whole all waiting (waiting - count_of all waiting) refl)
           );
     }
   where
@@ -215,11 +245,16 @@ notifies t all locked c x here is none =
 
     by_all : (b : Bool) (y : Var) → Taking t b locked 0 (length x.queue) y → MayTake t (count_of b (length x.queue)) y
     by_all true y k = may_some t true locked (length x.queue) 0 (length x.queue) y refl k (omega arith)
-    by_all false y k = may_first t false locked (first_of (length x.queue)) (length x.queue) y k (first_low (length x.queue)) (first_two (length x.queue))
+    by_all false y k = may_first t false locked (first_of (length x.queue)) (length x.queue) y k
+        (first_low (length x.queue)) (first_two (length x.queue))
 
 -- what is known of it there
-pub marks_knows : (x : Var) (t : ℕ) (c : OpenCall) (all : Bool) → Fits x → call_at x t ≡ Some c → c.core ≡ core.Notify (record { phase = n.Marks all }) → IsNotify c.call × ((all ≡ is_of_all c.call) × (c.taken ≡ 0))
-marks_knows x t c all fits here is = subst (λ (k : Core). Knows c.call c.listed (length x.calls) x.word (length x.queue) c.taken k) is (fits.seated t c here).knows
+pub marks_knows : (x : Var) (t : ℕ) (c : OpenCall) (all : Bool) → Fits x → call_at x t ≡ Some c
+    → c.core ≡ core.Notify (record { phase = n.Marks all }) → IsNotify c.call
+    × ((all ≡ is_of_all c.call) × (c.taken ≡ 0))
+marks_knows x t c all fits here is =
+    subst (λ (k : Core). Knows c.call c.listed (length x.calls) x.word (length x.queue) c.taken k) is
+    (fits.seated t c here).knows
 
 count_is : (c : CondvarCall) (n : ℕ) → IsNotify c → count_of (is_of_all c) n ≡ taken_of c n
 count_is call.NotifyOne n h = refl
@@ -227,13 +262,15 @@ count_is call.NotifyAll n h = refl
 count_is (call.Wait m) n h = absurd h
 count_is (call.WaitUntil m) n h = absurd h
 
-pub may_notifies : (o : Option Var) (t : ℕ) (c : OpenCall) (locked : Bool) → KnownIn o → call_of o t ≡ Some c → turn_of c ≡ turn.Moves → MayNotifyIn t locked (length (takes_now c.call o)) o
+pub may_notifies : (o : Option Var) (t : ℕ) (c : OpenCall) (locked : Bool) → KnownIn o → call_of o t ≡ Some c
+    → turn_of c ≡ turn.Moves → MayNotifyIn t locked (length (takes_now c.call o)) o
 may_notifies None t c locked known here is = absurd (none-some c here)
 may_notifies (Some x) t c locked known here is =
     let mark = marking c (ap is_moving is) in
     let knows = marks_knows x t c mark.all known.0 here mark.is in
     let count : count_of mark.all (length x.queue) ≡ length (take (taken_of c.call (length x.queue)) x.queue) =
-    ap (λ b. count_of b (length x.queue)) knows.1.0 ∙ count_is c.call (length x.queue) knows.0 ∙ sym (taken_length (taken_of c.call (length x.queue)) x.queue (taken_low c.call (length x.queue))) in
+    ap (λ b. count_of b (length x.queue)) knows.1.0 ∙ count_is c.call (length x.queue) knows.0
+    ∙ sym (taken_length (taken_of c.call (length x.queue)) x.queue (taken_low c.call (length x.queue))) in
     subst (λ m. MayNotify t locked m x) count (notifies t mark.all locked c x here mark.is knows.1.1)
   where
     taken_low : (d : CondvarCall) (n : ℕ) → taken_of d n ≤ n

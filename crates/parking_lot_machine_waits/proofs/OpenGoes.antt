@@ -1,5 +1,6 @@
 -- Where a section is open, whoever can move enters none.
-use Rattle.std.proofs.Common.{◌≡◌, ℕ, Bool, true, false, not, ◌&&◌, ◌||◌, nat_lt, is_some, length, Option, Some, None, refl, sym, ap, ◌∙◌}
+use Rattle.std.proofs.Common.{◌≡◌, ℕ, Bool, true, false, not, ◌&&◌, ◌||◌, nat_lt, is_some, length, Option, Some, None}
+use Rattle.std.proofs.Common.{refl, sym, ap, ◌∙◌}
 use Rattle.std.specs.Option.{option_map_or}
 use Rattle.parking_lot_protocol.specs.declared.act.Act.{Act}
 use Rattle.parking_lot_machine_sides.specs.declared.condvar.open_call.OpenCall.{OpenCall}
@@ -15,7 +16,9 @@ use Rattle.parking_lot_machine.specs.SoundLaws.{Always, AwakeCanMove, SomebodyCa
 use Rattle.parking_lot_machine_calls.specs.Stances.{core_act}
 use Rattle.parking_lot_machine_waits.specs.declared.turn.Turn.{Turn}
 use Rattle.parking_lot_machine_waits.specs.declared.turn.Turn.TheVariants as turn
-use Rattle.parking_lot_machine_waits.specs.Joint.{Joint, back_number, busy_number, call_at, core_enters, enters_at_lock, front_number, is_entry, is_open_at_locks, is_open_at_variables, row_goes, seat_at, var_at, var_goes}
+use Rattle.parking_lot_machine_waits.specs.Joint.{Joint, back_number, busy_number, call_at, core_enters, enters_at_lock}
+use Rattle.parking_lot_machine_waits.specs.Joint.{front_number, is_entry, is_open_at_locks, is_open_at_variables}
+use Rattle.parking_lot_machine_waits.specs.Joint.{row_goes, seat_at, var_at, var_goes}
 use Rattle.parking_lot_machine_waits.specs.JointMoves.{may_go, may_go_as, may_go_at, may_turn}
 use Rattle.parking_lot_machine_waits.specs.JointProgress.{SomebodyInsideGoes}
 use Rattle.parking_lot_machine_waits.specs.JointSides.{enters, enters_as, enters_at, is_open, turn_enters}
@@ -61,7 +64,8 @@ module _ (s : State) (c : Call) (opened : is_some s.lot.section ≡ true) where
   core_out (Core.LateRw (LateRwPhase.Expires z)) can = absurd (late_no _ refl can)
   core_out (Core.LateRw p) can = refl
 
-call_out : (s : State) (o : Option Call) → is_some s.lot.section ≡ true → can_move_in s o ≡ true → option_map_or (λ (d : Call). core_enters d.core) o false ≡ false
+call_out : (s : State) (o : Option Call) → is_some s.lot.section ≡ true → can_move_in s o ≡ true
+    → option_map_or (λ (d : Call). core_enters d.core) o false ≡ false
 call_out s None opened can = refl
 call_out s (Some c) opened can = core_out s c opened c.core can
 
@@ -81,14 +85,17 @@ module _ (j : Joint) (opened : is_open j ≡ true) where
     where
       go : (b : Bool) → is_open_at_variables j ≡ b → (a : Bool) → is_open_at_locks j ≡ a → enters_at_lock j k ≡ false
       go true variables a locks = and_not (enters_at_lock j k) (is_open_at_variables j) (both_true _ _ goes).1 variables
-      go false variables true locks = call_out (state j.rows) (row_call_at (state j.rows) k) locks (both_true _ _ goes).0
-      go false variables false locks = absurd (none (sym (ap (λ x. x || is_open_at_variables j) locks ∙ variables) ∙ opened))
+      go false variables true locks = call_out (state j.rows) (row_call_at (state j.rows) k) locks
+          (both_true _ _ goes).0
+      go false variables false locks =
+          absurd (none (sym (ap (λ x. x || is_open_at_variables j) locks ∙ variables) ∙ opened))
         where
           none : false ≡ true → ⊥
           none e = cc
 
   var_out : (t : ℕ) (c : OpenCall) (o : Option Var) → var_goes j t c o ≡ true → var_turns.enters c ≡ false
-  var_out t c o goes = and_not (var_turns.enters c) (is_open_at_locks j || is_open_at_variables j) (both_true _ _ goes).1 opened
+  var_out t c o goes = and_not (var_turns.enters c) (is_open_at_locks j || is_open_at_variables j)
+      (both_true _ _ goes).1 opened
 
   turn_out : (x : Turn) (t v : ℕ) (c : OpenCall) → may_turn x j t v c ≡ true → turn_enters x j t c ≡ false
   turn_out turn.Sleeps t v c may = refl
@@ -111,11 +118,13 @@ module _ (j : Joint) (opened : is_open j ≡ true) where
   seat_out t (Some v) may = call_goes_out t v (call_at j v t) may
 
   pub goes_out : (t : ℕ) → may_go j t ≡ true → enters j t ≡ false
-  goes_out t may = last (nat_lt t (length j.seats)) (enters_at (seat_at j t).at j t) (seat_out t (seat_at j t).at (both_true _ _ may).1)
+  goes_out t may = last (nat_lt t (length j.seats)) (enters_at (seat_at j t).at j t)
+      (seat_out t (seat_at j t).at (both_true _ _ may).1)
     where
       last : (a b : Bool) → b ≡ false → (a && b) ≡ false
       last true b e = e
       last false b e = refl
 
 pub somebody_inside_goes : Always AwakeCanMove → Always RowSomebodyCanMove → SomebodyInsideGoes
-somebody_inside_goes awake somebody j h fits out opened = (let x = inside_moves awake somebody j h fits out opened in (x.0, x.1, goes_out j opened x.0 x.1))
+somebody_inside_goes awake somebody j h fits out opened =
+    (let x = inside_moves awake somebody j h fits out opened in (x.0, x.1, goes_out j opened x.0 x.1))

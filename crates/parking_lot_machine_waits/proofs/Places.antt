@@ -1,5 +1,6 @@
 -- What a step at the locks leaves of each number: the lock of its call, what its call is for, and what it owns.
-use Rattle.std.proofs.Common.{◌≡◌, ◌≢◌, inl, inr, ℕ, ◌+◌, ◌*◌, ◌==◌, ◌<◌, Bool, true, false, cond, nat_lt, List, length, Option, Some, None, option_map, slice_set, refl, sym, ap, ◌∙◌, subst, arith, eq-eqb}
+use Rattle.std.proofs.Common.{◌≡◌, ◌≢◌, inl, inr, ℕ, ◌+◌, ◌*◌, ◌==◌, ◌<◌, Bool, true, false, cond, nat_lt, List, length}
+use Rattle.std.proofs.Common.{Option, Some, None, option_map, slice_set, refl, sym, ap, ◌∙◌, subst, arith, eq-eqb}
 use Rattle.std.specs.Option.{option_map_or}
 use Rattle.std.proofs.lemmas.Bool.{cases_lt, ltb-true}
 use Rattle.std.proofs.lemmas.Nat.{mul-add-lt}
@@ -28,7 +29,8 @@ use Rattle.parking_lot_machine.specs.Rows.{State, call_at, hold_at, hold_in, wor
 use Rattle.parking_lot_machine_calls.specs.Stances.{Asleep, core_act, core_next, stance}
 use Rattle.parking_lot_machine_waits.specs.Joint.{core_enters, is_entry}
 use Rattle.parking_lot_machine_waits.specs.Whole.{asks, place_of}
-use Rattle.parking_lot_machine_waits.proofs.Stages.{AllGo, Onward, Still, all_stay, all_told, both_ways, call_of, heard, late_still, no_sort, one_goes, one_off, woken}
+use Rattle.parking_lot_machine_waits.proofs.Stages.{AllGo, Onward, Still, all_stay, all_told, both_ways, call_of, heard}
+use Rattle.parking_lot_machine_waits.proofs.Stages.{late_still, no_sort, one_goes, one_off, woken}
 use Rattle.parking_lot_rules.proofs.Slots.{set_elsewhere}
 
 -- A STEP THAT ENDS NO CALL
@@ -59,36 +61,106 @@ module _ (s : State) (t : ℕ) (c : Call) (fits : FitsTogether s) (here : call_a
   all = all_stay s.calls
 
   -- one that is told what its act gives
-  told : (a : Act) (x : ℕ) (what : ActResult) → core_act c.core ≡ a → sleeps a ≡ false → Gives a x what → Still c.core (core_next c.core what)
-  told a x what asks awake gives = heard c.core x what (ap sleeps asks ∙ awake) (subst (λ (b : Act). Gives b x what) (sym asks) gives)
+  told : (a : Act) (x : ℕ) (what : ActResult) → core_act c.core ≡ a → sleeps a ≡ false → Gives a x what
+      → Still c.core (core_next c.core what)
+  told a x what asks awake gives = heard c.core x what (ap sleeps asks ∙ awake)
+      (subst (λ (b : Act). Gives b x what) (sym asks) gives)
 
-  own : (ds : List (Option Call)) → AllGo s.calls ds → (d : Call) → d.lock ≡ c.lock → Still c.core d.core → AllGo s.calls (slice_set ds t (Some d))
-  own ds go d lock still = one_goes s.calls ds t c (Some d) here go (record { call = d; here = refl; lock = lock; still = still })
+  own : (ds : List (Option Call)) → AllGo s.calls ds → (d : Call) → d.lock ≡ c.lock → Still c.core d.core
+      → AllGo s.calls (slice_set ds t (Some d))
+  own ds go d lock still = one_goes s.calls ds t c (Some d) here go
+      (record { call = d; here = refl; lock = lock; still = still })
 
   abbrev none_of : (f : Section → Section) → s.lot.section ≡ None → option_map f s.lot.section ≡ None
   none_of f e = ap (option_map f) e
 
-  exchanges : {b : Bool} (from to : ℕ) (d : Bool) → (word_at s c.lock == from) ≡ d → core_act c.core ≡ Act.Exchange from to
-      → (u : State) → (Still c.core (core_next c.core ActResult.Exchanged) → Kept b s u) → Kept b s (cond d u (loaded s t c))
+  exchanges : {b : Bool} (from to : ℕ) (d : Bool) → (word_at s c.lock == from) ≡ d
+      → core_act c.core ≡ Act.Exchange from to
+      → (u : State) → (Still c.core (core_next c.core ActResult.Exchanged) → Kept b s u)
+      → Kept b s (cond d u (loaded s t c))
   exchanges from to true e asks u won = won (told (Act.Exchange from to) from ActResult.Exchanged asks refl refl)
   exchanges from to false e asks u won = record {
-    calls = own s.calls all _ refl (told (Act.Exchange from to) (word_at s c.lock) (ActResult.Word _) asks refl (refl, λ f. both_ways (eq-eqb _ from f) e));
+    calls = own s.calls all _ refl
+        (told (Act.Exchange from to) (word_at s c.lock) (ActResult.Word _) asks refl
+        (refl, λ f. both_ways (eq-eqb _ from f) e));
     holds = refl;
     kinds = refl;
     closed = λ b o. o;
   }
 
-  inside : {b : Bool} (k : SectionAct) (fair : Bool) (u : State) → core_act c.core ≡ Act.Section k → BecameInside k t fair c s u → Kept b s u
-  inside SectionAct.Check fair u a e = is u _ e (record { calls = own s.calls all _ refl (told _ _ _ a refl refl); holds = refl; kinds = refl; closed = λ b o. none_of _ o })
-  inside SectionAct.TakeFirst fair u a (k, stands, inl (nth, w, first, e)) = is u _ e (record { calls = own _ (one_off t w.thread s.calls) _ refl (told _ 0 _ a refl tt); holds = refl; kinds = refl; closed = λ b o. none_of _ o })
-  inside SectionAct.TakeFirst fair u a (k, stands, inr (empty, e)) = is u _ e (record { calls = own s.calls all _ refl (told _ 0 _ a refl tt); holds = refl; kinds = refl; closed = λ b o. none_of _ o })
-  inside (SectionAct.TakeNext sum) fair u a (k, stands, inl (nth, w, first, e)) = is u _ e (record { calls = own _ (one_off t w.thread s.calls) _ refl (told _ 0 _ a refl tt); holds = refl; kinds = refl; closed = λ b o. none_of _ o })
-  inside (SectionAct.TakeNext sum) fair u a (k, stands, inr (empty, e)) = is u _ e (record { calls = own s.calls all _ refl (told _ 0 _ a refl tt); holds = refl; kinds = refl; closed = λ b o. none_of _ o })
-  inside (SectionAct.Append token) fair u a (k, stands, e) = is u _ e (record { calls = own s.calls all _ refl (told _ 0 ActResult.Made a refl tt); holds = refl; kinds = refl; closed = λ b o. none_of _ o })
-  inside (SectionAct.Store plain handing) fair u a e = is u _ e (record { calls = all_told t _ s.calls _ (own s.calls all _ refl (told _ 0 (ActResult.Stored fair) a refl tt)); holds = refl; kinds = refl; closed = λ b o. none_of _ o })
-  inside SectionAct.Leave fair u a e = is u _ e (record { calls = own s.calls all _ refl (told _ 0 ActResult.Made a refl tt); holds = refl; kinds = refl; closed = λ b o. refl })
-  inside SectionAct.Wake fair u a (inr (empty, e)) = is u _ e (record { calls = own s.calls all _ refl (told _ 0 ActResult.Made a refl tt); holds = refl; kinds = refl; closed = λ b o. o })
-  inside SectionAct.Wake fair u a (inl (e, d, token, due, is_it)) = is u _ is_it (record { calls = own _ wakes _ refl (told _ 0 ActResult.Made a refl tt); holds = refl; kinds = refl; closed = λ b o. o })
+  inside : {b : Bool} (k : SectionAct) (fair : Bool) (u : State) → core_act c.core ≡ Act.Section k
+      → BecameInside k t fair c s u → Kept b s u
+  inside SectionAct.Check fair u a e =
+      is u _ e (record {
+        calls = own s.calls all _ refl (told _ _ _ a refl refl);
+        holds = refl;
+        kinds = refl;
+        closed = λ b o. none_of _ o;
+      })
+  inside SectionAct.TakeFirst fair u a (k, stands, inl (nth, w, first, e)) =
+      is u _ e (record {
+        calls = own _ (one_off t w.thread s.calls) _ refl (told _ 0 _ a refl tt);
+        holds = refl;
+        kinds = refl;
+        closed = λ b o. none_of _ o;
+      })
+  inside SectionAct.TakeFirst fair u a (k, stands, inr (empty, e)) =
+      is u _ e (record {
+        calls = own s.calls all _ refl (told _ 0 _ a refl tt);
+        holds = refl;
+        kinds = refl;
+        closed = λ b o. none_of _ o;
+      })
+  inside (SectionAct.TakeNext sum) fair u a (k, stands, inl (nth, w, first, e)) =
+      is u _ e (record {
+        calls = own _ (one_off t w.thread s.calls) _ refl (told _ 0 _ a refl tt);
+        holds = refl;
+        kinds = refl;
+        closed = λ b o. none_of _ o;
+      })
+  inside (SectionAct.TakeNext sum) fair u a (k, stands, inr (empty, e)) =
+      is u _ e (record {
+        calls = own s.calls all _ refl (told _ 0 _ a refl tt);
+        holds = refl;
+        kinds = refl;
+        closed = λ b o. none_of _ o;
+      })
+  inside (SectionAct.Append token) fair u a (k, stands, e) =
+      is u _ e (record {
+        calls = own s.calls all _ refl (told _ 0 ActResult.Made a refl tt);
+        holds = refl;
+        kinds = refl;
+        closed = λ b o. none_of _ o;
+      })
+  inside (SectionAct.Store plain handing) fair u a e =
+      is u _ e (record {
+        calls =
+            all_told t _ s.calls _ (own s.calls all _ refl (told _ 0 (ActResult.Stored fair) a refl tt));
+        holds = refl;
+        kinds = refl;
+        closed = λ b o. none_of _ o;
+      })
+  inside SectionAct.Leave fair u a e =
+      is u _ e (record {
+        calls = own s.calls all _ refl (told _ 0 ActResult.Made a refl tt);
+        holds = refl;
+        kinds = refl;
+        closed = λ b o. refl;
+      })
+  inside SectionAct.Wake fair u a (inr (empty, e)) =
+      is u _ e (record {
+        calls = own s.calls all _ refl (told _ 0 ActResult.Made a refl tt);
+        holds = refl;
+        kinds = refl;
+        closed = λ b o. o;
+      })
+  inside SectionAct.Wake fair u a (inl (e, d, token, due, is_it)) =
+      is u _ is_it (record {
+        calls = own _ wakes _ refl (told _ 0 ActResult.Made a refl tt);
+        holds = refl;
+        kinds = refl;
+        closed = λ b o. o;
+      })
     where
       taken : IsTaken s e
       taken = fits.lots.woken _ e due.first
@@ -96,20 +168,41 @@ module _ (s : State) (t : ℕ) (c : Call) (fits : FitsTogether s) (here : call_a
       asleep : stance d.core ≡ Asleep taken.key taken.token
       asleep = ap (λ (x : Call). stance x.core) (same_Some d taken.call (sym due.there ∙ taken.here)) ∙ taken.asleep
 
-      wakes : AllGo s.calls (slice_set s.calls e.thread (Some (record (hears d (ActResult.Woken token)) { spot = QueuePosition.Listed })))
-      wakes = one_goes s.calls s.calls e.thread d _ due.there all (record { call = record (hears d (ActResult.Woken token)) { spot = QueuePosition.Listed }; here = refl; lock = refl; still = woken d.core taken.key taken.token token asleep })
+      wakes : AllGo s.calls
+          (slice_set s.calls e.thread (Some (record (hears d (ActResult.Woken token)) { spot = QueuePosition.Listed })))
+      wakes = one_goes s.calls s.calls e.thread d _ due.there all
+          (record {
+            call = record (hears d (ActResult.Woken token)) { spot = QueuePosition.Listed };
+            here = refl;
+            lock = refl;
+            still = woken d.core taken.key taken.token token asleep;
+          })
 
   quits : (left : Bool) (l m : Machine) → l.section ≡ None → m.section ≡ None → (cond left l m).section ≡ None
   quits true l m a b = a
   quits false l m a b = b
 
   -- one whose moment has passed comes back, by where it stood
-  returns : {b : Bool} (at : QueuePosition) → b ≡ true → Still c.core (core_next c.core ActResult.Entered) → ((by : ℕ) (handed : Bool) → Still c.core (found_as by handed c.core)) → Kept b s (came_back at s t c)
-  returns QueuePosition.Listed opens entered found = record { calls = own s.calls all _ refl entered; holds = refl; kinds = refl; closed = λ b o. both_ways opens b }
-  returns (QueuePosition.Off by said) opens entered found = record { calls = own s.calls all _ refl (found by (is_handed said)); holds = refl; kinds = refl; closed = λ b o. both_ways opens b }
+  returns : {b : Bool} (at : QueuePosition) → b ≡ true → Still c.core (core_next c.core ActResult.Entered)
+      → ((by : ℕ) (handed : Bool) → Still c.core (found_as by handed c.core)) → Kept b s (came_back at s t c)
+  returns QueuePosition.Listed opens entered found =
+      record { calls = own s.calls all _ refl entered; holds = refl; kinds = refl; closed = λ b o. both_ways opens b }
+  returns (QueuePosition.Off by said) opens entered found =
+      record {
+        calls = own s.calls all _ refl (found by (is_handed said));
+        holds = refl;
+        kinds = refl;
+        closed = λ b o. both_ways opens b;
+      }
 
-  quit : {b : Bool} → ((left : Bool) → Still c.core (core_next c.core (ActResult.Took None left))) → Kept b s (quitted s t c)
-  quit still = record { calls = own s.calls all _ refl (still _); holds = refl; kinds = refl; closed = λ b o. quits _ _ _ (ap (option_map _) (none_of _ o)) (none_of _ o) }
+  quit : {b : Bool} → ((left : Bool) → Still c.core (core_next c.core (ActResult.Took None left)))
+      → Kept b s (quitted s t c)
+  quit still = record {
+    calls = own s.calls all _ refl (still _);
+    holds = refl;
+    kinds = refl;
+    closed = λ b o. quits _ _ _ (ap (option_map _) (none_of _ o)) (none_of _ o);
+  }
 
   abbrev OfCore : Core → (Core → Core) → Type 0
   OfCore k f = c.core ≡ k → Still k (f k) → Still c.core (f c.core)
@@ -119,11 +212,16 @@ module _ (s : State) (t : ℕ) (c : Call) (fits : FitsTogether s) (here : call_a
 
   late : (k : Core) (u : State) → c.core ≡ k → BecameLate k t c s u → Kept (core_enters k) s u
   late (Core.Late LatePhase.Expires) u same e =
-      is u _ e (returns c.spot refl (of_core _ (λ x. core_next x ActResult.Entered) same (late_still _ _ refl)) (λ by handed. of_core _ (found_as by handed) same (late_still _ _ refl)))
-  late (Core.Late LatePhase.Quits) u same e = is u _ e (quit (λ left. of_core _ (λ x. core_next x (ActResult.Took None left)) same (late_still _ _ refl)))
+      is u _ e (returns c.spot refl (of_core _ (λ x. core_next x ActResult.Entered) same (late_still _ _ refl))
+      (λ by handed. of_core _ (found_as by handed) same (late_still _ _ refl)))
+  late (Core.Late LatePhase.Quits) u same e =
+      is u _ e (quit (λ left. of_core _ (λ x. core_next x (ActResult.Took None left)) same (late_still _ _ refl)))
   late (Core.LateRw (LateRwPhase.Expires z)) u same e =
-      is u _ e (returns c.spot refl (of_core _ (λ x. core_next x ActResult.Entered) same (no_sort _ _ refl refl refl)) (λ by handed. of_core _ (found_as by handed) same (no_sort _ _ refl refl refl)))
-  late (Core.LateRw (LateRwPhase.Quits z)) u same e = is u _ e (quit (λ left. of_core _ (λ x. core_next x (ActResult.Took None left)) same (no_sort _ _ refl refl refl)))
+      is u _ e (returns c.spot refl (of_core _ (λ x. core_next x ActResult.Entered) same (no_sort _ _ refl refl refl))
+      (λ by handed. of_core _ (found_as by handed) same (no_sort _ _ refl refl refl)))
+  late (Core.LateRw (LateRwPhase.Quits z)) u same e =
+      is u _ e (quit (λ left. of_core _ (λ x. core_next x (ActResult.Took None left)) same
+      (no_sort _ _ refl refl refl)))
   late k u same e = absurd e
 
   entering : (k : Core) (key : ℕ) → core_act k ≡ Act.Enter key → core_enters k ≡ true
@@ -135,21 +233,56 @@ module _ (s : State) (t : ℕ) (c : Call) (fits : FitsTogether s) (here : call_a
   entering (Core.LateRw (LateRwPhase.Expires z)) key e = refl
   entering (Core.LateRw p) key e = absurd cc
 
-  after : (a : Act) (fair : Bool) (u : State) → core_act c.core ≡ a → Became a t fair c s u → Goes (end_of a) (core_enters c.core) t s u
-  after Act.Load fair u asks e = is u _ e (record { calls = own s.calls all _ refl (told Act.Load _ (ActResult.Word _) asks refl refl); holds = refl; kinds = refl; closed = λ b o. o })
+  after : (a : Act) (fair : Bool) (u : State) → core_act c.core ≡ a → Became a t fair c s u
+      → Goes (end_of a) (core_enters c.core) t s u
+  after Act.Load fair u asks e =
+      is u _ e (record {
+        calls = own s.calls all _ refl (told Act.Load _ (ActResult.Word _) asks refl refl);
+        holds = refl;
+        kinds = refl;
+        closed = λ b o. o;
+      })
   after (Act.Exchange from to) fair u asks e =
-      is u _ e (exchanges from to (word_at s c.lock == from) refl asks _ (λ still. record { calls = own s.calls all _ refl still; holds = refl; kinds = refl; closed = λ b o. o }))
-  after (Act.Add by) fair u asks e = is u _ e (record { calls = own s.calls all _ refl (told (Act.Add by) _ (ActResult.Before _) asks refl refl); holds = refl; kinds = refl; closed = λ b o. o })
+      is u _ e (exchanges from to (word_at s c.lock == from) refl asks _
+      (λ still. record { calls = own s.calls all _ refl still; holds = refl; kinds = refl; closed = λ b o. o }))
+  after (Act.Add by) fair u asks e =
+      is u _ e (record {
+        calls = own s.calls all _ refl (told (Act.Add by) _ (ActResult.Before _) asks refl refl);
+        holds = refl;
+        kinds = refl;
+        closed = λ b o. o;
+      })
   after (Act.FetchAnd keep) fair u asks e =
-      is u _ e (record { calls = all_told t _ s.calls _ (own s.calls all _ refl (told (Act.FetchAnd keep) _ (ActResult.Before _) asks refl refl)); holds = refl; kinds = refl; closed = λ b o. none_of _ o })
-  after Act.Spin fair u asks e = is u _ e (record { calls = own s.calls all _ refl (told Act.Spin 0 (ActResult.Spun true) asks refl tt); holds = refl; kinds = refl; closed = λ b o. o })
-  after (Act.Enter key) fair u asks e = is u _ e (record { calls = own s.calls all _ refl (told (Act.Enter key) 0 ActResult.Entered asks refl tt); holds = refl; kinds = refl; closed = λ b o. both_ways (entering c.core key asks) b })
+      is u _ e (record {
+        calls =
+            all_told t _ s.calls _
+            (own s.calls all _ refl (told (Act.FetchAnd keep) _ (ActResult.Before _) asks refl refl));
+        holds = refl;
+        kinds = refl;
+        closed = λ b o. none_of _ o;
+      })
+  after Act.Spin fair u asks e =
+      is u _ e (record {
+        calls = own s.calls all _ refl (told Act.Spin 0 (ActResult.Spun true) asks refl tt);
+        holds = refl;
+        kinds = refl;
+        closed = λ b o. o;
+      })
+  after (Act.Enter key) fair u asks e =
+      is u _ e (record {
+        calls = own s.calls all _ refl (told (Act.Enter key) 0 ActResult.Entered asks refl tt);
+        holds = refl;
+        kinds = refl;
+        closed = λ b o. both_ways (entering c.core key asks) b;
+      })
   after (Act.Section next) fair u asks b = inside next fair u asks b
   after Act.Sleep fair u asks b = late c.core u refl b
   after (Act.Done answer) fair u asks e = record { call = c; here = here; asks = asks; became = e }
 
-pub stepped_goes : (s u : State) (t : ℕ) (fair : Bool) (answer : Option CoreAnswer) → FitsTogether s → (x : IsStepped t fair answer s u) → Goes answer (core_enters x.call.core) t s u
-stepped_goes s u t fair answer fits x = subst (λ (a : Option CoreAnswer). Goes a (core_enters x.call.core) t s u) (sym x.answers) (after s t x.call fits x.here (core_act x.call.core) fair u refl x.became)
+pub stepped_goes : (s u : State) (t : ℕ) (fair : Bool) (answer : Option CoreAnswer) → FitsTogether s
+    → (x : IsStepped t fair answer s u) → Goes answer (core_enters x.call.core) t s u
+stepped_goes s u t fair answer fits x = subst (λ (a : Option CoreAnswer). Goes a (core_enters x.call.core) t s u)
+    (sym x.answers) (after s t x.call fits x.here (core_act x.call.core) fair u refl x.became)
 
 -- WHAT THAT IS FOR A NUMBER
 
@@ -169,9 +302,11 @@ kept_same s u x k = record {
 }
 
 -- where one number's call is written, others stay
-pub set_same : (s u : State) (t : ℕ) (o : Option Call) → u.calls ≡ slice_set s.calls t o → u.holds ≡ s.holds → u.kinds ≡ s.kinds → (k : ℕ) → k ≢ t → Same s u k
+pub set_same : (s u : State) (t : ℕ) (o : Option Call) → u.calls ≡ slice_set s.calls t o → u.holds ≡ s.holds
+    → u.kinds ≡ s.kinds → (k : ℕ) → k ≢ t → Same s u k
 set_same s u t o calls holds kinds k ne = record {
-  place = ap (option_map (λ (c : Call). c.lock)) (ap (λ (cs : List (Option Call)). call_of cs k) calls ∙ set_elsewhere s.calls t k o ne);
+  place = ap (option_map (λ (c : Call). c.lock))
+      (ap (λ (cs : List (Option Call)). call_of cs k) calls ∙ set_elsewhere s.calls t k o ne);
   holds = λ m. ap (λ hs. hold_in hs (length u.kinds) k m) holds ∙ ap (λ ks. hold_in s.holds (length ks) k m) kinds;
 }
 
@@ -189,13 +324,17 @@ beyond true x y z e = absurd cc
 beyond false x y z e = refl
 
 -- where one's call is over, others stay
-pub over_same : (s u : State) (t : ℕ) (a : CoreAnswer) (x : Over t a s u) → x.call.lock < length s.kinds → (k : ℕ) → k ≢ t → Same s u k
+pub over_same : (s u : State) (t : ℕ) (a : CoreAnswer) (x : Over t a s u) → x.call.lock < length s.kinds → (k : ℕ)
+    → k ≢ t → Same s u k
 over_same s u t a x low k ne = subst (λ (v : State). Same s v k) (sym x.became) (record {
   place = ap (option_map (λ (c : Call). c.lock)) (set_elsewhere s.calls t k None ne);
   holds = λ m. at m (nat_lt m (length s.kinds)) refl;
 })
   where
     at : (m : ℕ) (b : Bool) → nat_lt m (length s.kinds) ≡ b → hold_at (answered s t x.call) k m ≡ hold_at s k m
-    at m true e = ap (λ o. cond (nat_lt m (length s.kinds)) (option_map_or (λ (h : Hold). h) o (Hold.Shares 0)) (Hold.Shares 0))
-        (get-set_other s.holds (t * length s.kinds + x.call.lock) (k * length s.kinds + m) (hold_after x.call.others x.call.core) (λ f. cells_apart (length s.kinds) k m t x.call.lock (ltb-true m (length s.kinds) e) low ne (sym f)))
+    at m true e = ap (λ o. cond (nat_lt m (length s.kinds)) (option_map_or (λ (h : Hold). h) o (Hold.Shares 0))
+        (Hold.Shares 0))
+        (get-set_other s.holds (t * length s.kinds + x.call.lock) (k * length s.kinds + m)
+        (hold_after x.call.others x.call.core)
+        (λ f. cells_apart (length s.kinds) k m t x.call.lock (ltb-true m (length s.kinds) e) low ne (sym f)))
     at m false e = beyond (nat_lt m (length s.kinds)) _ _ (Hold.Shares 0) e

@@ -1,5 +1,7 @@
 -- Some thread can move, where one is in a call that doesn't wait for another.
-use Rattle.std.proofs.Common.{◌≡◌, ◌⊎◌, inl, inr, ℕ, zero, suc, ◌-◌, ◌<◌, ◌&&◌, ◌||◌, Bool, true, false, not, cond, is_none, is_some, List, [], ◌∷◌, length, Option, Some, None, slice_get, refl, sym, ap, ◌∙◌, subst, arith, eq-eqb}
+use Rattle.std.proofs.Common.{◌≡◌, ◌⊎◌, inl, inr, ℕ, zero, suc, ◌-◌, ◌<◌, ◌&&◌, ◌||◌, Bool, true, false, not, cond}
+use Rattle.std.proofs.Common.{is_none, is_some, List, [], ◌∷◌, length, Option, Some, None, slice_get, refl, sym, ap}
+use Rattle.std.proofs.Common.{◌∙◌, subst, arith, eq-eqb}
 use Rattle.std.specs.List.{list_any}
 use Rattle.std.specs.Option.{option_and_then, option_map_or}
 use Rattle.std.proofs.lemmas.Bool.{cases_lt, lt-ltb}
@@ -21,7 +23,8 @@ use Rattle.parking_lot_machine_sides.specs.declared.condvar.open_call.Core.TheVa
 use Rattle.parking_lot_machine_sides.specs.declared.condvar.open_call.OpenCall.{OpenCall}
 use Rattle.parking_lot_machine_sides.specs.Condvar.Fitting.{is_the}
 use Rattle.parking_lot_machine_sides.specs.Condvar.Machines.{State as Var, may_step}
-use Rattle.parking_lot_machine_sides.specs.Condvar.Turns.{enters, enters_by, is_inside_by, is_own, is_own_by, notify_is_inside, wait_is_inside}
+use Rattle.parking_lot_machine_sides.specs.Condvar.Turns.{enters, enters_by, is_inside_by, is_own, is_own_by}
+use Rattle.parking_lot_machine_sides.specs.Condvar.Turns.{notify_is_inside, wait_is_inside}
 use Rattle.parking_lot_machine_sides.proofs.CondvarFacts.Slots.{slot, within}
 use Rattle.parking_lot_machine_calls.specs.declared.open_call.Call.{Call}
 use Rattle.parking_lot_machine_calls.specs.declared.seat.Core.{Core as RowCore}
@@ -32,13 +35,18 @@ use Rattle.parking_lot_machine.specs.SoundLaws.{Always, AwakeCanMove, SomebodyCa
 use Rattle.parking_lot_machine_calls.specs.Stances.{core_act}
 use Rattle.parking_lot_machine.proofs.Carrying.{call_within}
 use Rattle.parking_lot_machine.proofs.Serving.{goes_on}
-use Rattle.parking_lot_machine_waits.specs.Joint.{Joint, back_number, busy_by, busy_number, call_at, call_in, enters_at_lock, front_number, is_entered, is_open_at_locks, is_open_at_variables, number, row_goes, seat_at, var_acts, var_at, var_goes}
+use Rattle.parking_lot_machine_waits.specs.Joint.{Joint, back_number, busy_by, busy_number, call_at, call_in}
+use Rattle.parking_lot_machine_waits.specs.Joint.{enters_at_lock, front_number, is_entered, is_open_at_locks}
+use Rattle.parking_lot_machine_waits.specs.Joint.{is_open_at_variables, number, row_goes, seat_at, var_acts, var_at}
+use Rattle.parking_lot_machine_waits.specs.Joint.{var_goes}
 use Rattle.parking_lot_machine_waits.specs.JointLaws.{PartsFit}
 use Rattle.parking_lot_machine_waits.specs.JointMoves.{is_free, may_go, may_go_as, may_go_at, may_turn}
 use Rattle.parking_lot_machine_waits.specs.JointProgress.{GiversAreOut, IsKeptOut, IsListed, SomebodyCanMove}
 use Rattle.parking_lot_machine_waits.specs.JointSteps.{KnownIn}
 use Rattle.parking_lot_machine_waits.specs.Turns.{notify_turn, turn_by, turn_of, wait_turn}
-use Rattle.parking_lot_machine_waits.specs.Whole.{AtMutex, Asks, IsIn, IsSo, IsWhole, Notifies, Stands, Waits, asks, asks_on, back_at_end, back_of, front_at_end, front_of, gives, phase_gives}
+use Rattle.parking_lot_machine_waits.specs.Whole.{AtMutex, Asks, IsIn, IsSo, IsWhole, Notifies, Stands, Waits, asks}
+use Rattle.parking_lot_machine_waits.specs.Whole.{asks_on, back_at_end, back_of, front_at_end, front_of, gives}
+use Rattle.parking_lot_machine_waits.specs.Whole.{phase_gives}
 use Rattle.parking_lot_machine_waits.proofs.RankParts.{idle_of}
 
 -- BOOLS
@@ -49,7 +57,8 @@ goes_anyway true true false x y = refl
 goes_anyway true false o x y = refl
 goes_anyway false e o x y = absurd cc
 
-may_act : (own e n l : Bool) → own ≡ true → (e ≡ false) ⊎ ((n ≡ true) × (l ≡ false)) → ((own && (not e || n)) && not (e && l)) ≡ true
+may_act : (own e n l : Bool) → own ≡ true → (e ≡ false) ⊎ ((n ≡ true) × (l ≡ false))
+    → ((own && (not e || n)) && not (e && l)) ≡ true
 may_act true true n l x (inl y) = absurd cc
 may_act true false n l x (inl y) = refl
 may_act true true true true x (inr (y, z)) = absurd cc
@@ -77,19 +86,27 @@ giver_awake (row_core.LateRw p) e = absurd cc
 giver_awake (row_core.Upgrade c) e = absurd cc
 
 -- a variable whose section is open
-open_somewhere : (vars : List (Option Var)) → list_any is_entered vars ≡ true → (v : ℕ) × (x : Var) × (slice_get vars v ≡ Some (Some x)) × (is_some x.inside ≡ true)
+open_somewhere : (vars : List (Option Var)) → list_any is_entered vars ≡ true → (v : ℕ) × (x : Var)
+    × (slice_get vars v ≡ Some (Some x)) × (is_some x.inside ≡ true)
 open_somewhere [] e = absurd cc
 open_somewhere (None ∷ vars) e = (let (v, x, at, some) = open_somewhere vars e in (suc v, x, at, some))
 open_somewhere (Some x ∷ vars) e = go (is_some x.inside) refl (λ f. open_somewhere vars f)
   where
-    go : (b : Bool) → is_some x.inside ≡ b → (list_any is_entered vars ≡ true → (v : ℕ) × (y : Var) × (slice_get vars v ≡ Some (Some y)) × (is_some y.inside ≡ true)) → (v : ℕ) × (y : Var) × (slice_get (Some x ∷ vars) v ≡ Some (Some y)) × (is_some y.inside ≡ true)
+    go : (b : Bool) → is_some x.inside ≡ b
+        → (list_any is_entered vars ≡ true → (v : ℕ) × (y : Var) × (slice_get vars v ≡ Some (Some y))
+        × (is_some y.inside ≡ true)) → (v : ℕ) × (y : Var) × (slice_get (Some x ∷ vars) v ≡ Some (Some y))
+        × (is_some y.inside ≡ true)
     go true is others = (zero, x, refl, is)
-    go false is others = (let (v, y, at, some) = others (sym (ap (λ b. b || list_any is_entered vars) is) ∙ e) in (suc v, y, at, some))
+    go false is others =
+        (let (v, y, at, some) = others (sym (ap (λ b. b || list_any is_entered vars) is) ∙ e) in (suc v, y, at, some))
 
 -- and none is
-shut_each : (vars : List (Option Var)) (v : ℕ) (x : Var) → list_any is_entered vars ≡ false → slice_get vars v ≡ Some (Some x) → x.inside ≡ None
+shut_each : (vars : List (Option Var)) (v : ℕ) (x : Var) → list_any is_entered vars ≡ false
+    → slice_get vars v ≡ Some (Some x) → x.inside ≡ None
 shut_each [] v x e at = absurd (none-some (Some x) at)
-shut_each (o ∷ vars) zero x e at = go x.inside (first (is_some x.inside) (sym (ap (λ p. is_entered p || list_any is_entered vars) (same_Some o (Some x) at)) ∙ e))
+shut_each (o ∷ vars) zero x e at =
+    go x.inside (first (is_some x.inside)
+    (sym (ap (λ p. is_entered p || list_any is_entered vars) (same_Some o (Some x) at)) ∙ e))
   where
     first : (b : Bool) → (b || list_any is_entered vars) ≡ false → b ≡ false
     first true e = absurd cc
@@ -116,7 +133,8 @@ module _ (j : Joint) (h : IsWhole j) (fits : PartsFit j) where
   Somebody = (u : ℕ) × (may_go j u ≡ true)
 
   -- a thread whose turn can be taken
-  turns : (t v : ℕ) (c : OpenCall) → t < length j.seats → call_at j v t ≡ Some c → may_turn (turn_of c) j t v c ≡ true → may_go j t ≡ true
+  turns : (t v : ℕ) (c : OpenCall) → t < length j.seats → call_at j v t ≡ Some c → may_turn (turn_of c) j t v c ≡ true
+      → may_go j t ≡ true
   turns t v c low here goes =
       ap (λ b. b && may_go_at (seat_at j t).at j t) (lt-ltb t (length j.seats) low)
       ∙ ap (λ (o : Option ℕ). may_go_at o j t) (h.seated v t c here)
@@ -124,22 +142,31 @@ module _ (j : Joint) (h : IsWhole j) (fits : PartsFit j) where
       ∙ goes
 
   -- it makes its own act at the variable
-  acts : (t v : ℕ) (c : OpenCall) (x : Var) → var_at j v ≡ Some x → call_at j v t ≡ Some c → is_own c ≡ true → (enters c ≡ false) ⊎ ((x.inside ≡ None) × (is_open_at_locks j ≡ false) × (is_open_at_variables j ≡ false)) → var_goes j t c (var_at j v) ≡ true
+  acts : (t v : ℕ) (c : OpenCall) (x : Var) → var_at j v ≡ Some x → call_at j v t ≡ Some c → is_own c ≡ true
+      → (enters c ≡ false) ⊎ ((x.inside ≡ None) × (is_open_at_locks j ≡ false) × (is_open_at_variables j ≡ false))
+      → var_goes j t c (var_at j v) ≡ true
   acts t v c x at here own free =
-      ap (λ b. b && not (enters c && (is_open_at_locks j || is_open_at_variables j))) (ap (λ (o : Option Var). var_acts o t) at ∙ ap (λ (o : Option OpenCall). option_map_or (may_step x.inside) o false) (sym (ap (λ (o : Option Var). call_in o t) at) ∙ here))
+      ap (λ b. b && not (enters c && (is_open_at_locks j || is_open_at_variables j)))
+      (ap (λ (o : Option Var). var_acts o t) at
+      ∙ ap (λ (o : Option OpenCall). option_map_or (may_step x.inside) o false)
+      (sym (ap (λ (o : Option Var). call_in o t) at) ∙ here))
       ∙ may_act (is_own c) (enters c) (is_none x.inside) (is_open_at_locks j || is_open_at_variables j) own (shut free)
     where
-      shut : (enters c ≡ false) ⊎ ((x.inside ≡ None) × (is_open_at_locks j ≡ false) × (is_open_at_variables j ≡ false)) → (enters c ≡ false) ⊎ ((is_none x.inside ≡ true) × ((is_open_at_locks j || is_open_at_variables j) ≡ false))
+      shut : (enters c ≡ false) ⊎ ((x.inside ≡ None) × (is_open_at_locks j ≡ false) × (is_open_at_variables j ≡ false))
+          → (enters c ≡ false) ⊎ ((is_none x.inside ≡ true) × ((is_open_at_locks j || is_open_at_variables j) ≡ false))
       shut (inl e) = inl e
-      shut (inr (none, locks, vars)) = inr (ap (λ (o : Option ℕ). is_none o) none, ap (λ b. b || is_open_at_variables j) locks ∙ vars)
+      shut (inr (none, locks, vars)) =
+          inr (ap (λ (o : Option ℕ). is_none o) none, ap (λ b. b || is_open_at_variables j) locks ∙ vars)
 
   -- INSIDE A VARIABLE'S SECTION
 
   module _ (t v : ℕ) (c : OpenCall) (x : Var) (at : var_at j v ≡ Some x) (here : call_at j v t ≡ Some c) where
-    acts_in : (k : Core) → c.core ≡ k → is_own_by c.listed k ≡ true → enters_by c.listed k ≡ false → var_goes j t c (var_at j v) ≡ true
+    acts_in : (k : Core) → c.core ≡ k → is_own_by c.listed k ≡ true → enters_by c.listed k ≡ false
+        → var_goes j t c (var_at j v) ≡ true
     acts_in k is own outside = acts t v c x at here (ap (is_own_by c.listed) is ∙ own) (inl (ap (enters_by c.listed) is ∙ outside))
 
-    wait_inside : (listed : Bool) (p : WaitPhase) → c.listed ≡ listed → c.core ≡ core.Wait (record { phase = p }) → wait_is_inside listed p ≡ true → may_turn (wait_turn listed p) j t v c ≡ true
+    wait_inside : (listed : Bool) (p : WaitPhase) → c.listed ≡ listed → c.core ≡ core.Wait (record { phase = p })
+        → wait_is_inside listed p ≡ true → may_turn (wait_turn listed p) j t v c ≡ true
     wait_inside listed (w.Checks k) e is i = acts_in _ is refl refl
     wait_inside listed w.Retreats e is i = acts_in _ is refl refl
     wait_inside listed (w.Appends k) e is i = acts_in _ is refl refl
@@ -165,7 +192,8 @@ module _ (j : Joint) (h : IsWhole j) (fits : PartsFit j) where
     wait_inside listed (w.Ends a) e is i = absurd cc
     wait_inside listed w.Invalid e is i = absurd cc
 
-    notify_inside : (p : NotifyPhase) → c.core ≡ core.Notify (record { phase = p }) → Notifies j t p → notify_is_inside p ≡ true → may_turn (notify_turn p) j t v c ≡ true
+    notify_inside : (p : NotifyPhase) → c.core ≡ core.Notify (record { phase = p }) → Notifies j t p
+        → notify_is_inside p ≡ true → may_turn (notify_turn p) j t v c ≡ true
     notify_inside (n.Checks all word) is s i = acts_in _ is refl refl
     notify_inside (n.Marks all) is s i = refl
     notify_inside (n.Moves all locked) is s i = absurd (s.turns refl)
@@ -179,7 +207,8 @@ module _ (j : Joint) (h : IsWhole j) (fits : PartsFit j) where
     notify_inside (n.Ends count) is s i = absurd cc
     notify_inside n.Invalid is s i = absurd cc
 
-    core_inside : (k : Core) → c.core ≡ k → Stands j t c k → is_inside_by c.listed k ≡ true → may_turn (turn_by c.listed k) j t v c ≡ true
+    core_inside : (k : Core) → c.core ≡ k → Stands j t c k → is_inside_by c.listed k ≡ true
+        → may_turn (turn_by c.listed k) j t v c ≡ true
     core_inside (core.Wait q) is stands i = wait_inside c.listed q.phase refl is i
     core_inside (core.Notify q) is stands i = notify_inside q.phase is stands i
 
@@ -216,9 +245,12 @@ module _ (j : Joint) (h : IsWhole j) (fits : PartsFit j) where
   end_back end.TimedOut k q d x here = busy k d here (idle_of s k x.0)
   end_back end.WrongLot k q d x here = absurd x
 
-  -- A number that can move at a lock: its thread's turn is that number's. Where the thread still gives its mutex up it is the other's.
+  -- A number that can move at a lock: its thread's turn is that number's. Where the thread still gives its mutex up it
+  -- is the other's.
   module _ (t v : ℕ) (c : OpenCall) where
-    front_turn : (listed : Bool) (p : WaitPhase) (q : ℕ) (d : Call) → IsSo (front_of p) s (front_number j t) q → row_call_at s (front_number j t) ≡ Some d → row_goes j (front_number j t) ≡ true → may_turn (wait_turn listed p) j t v c ≡ true
+    front_turn : (listed : Bool) (p : WaitPhase) (q : ℕ) (d : Call) → IsSo (front_of p) s (front_number j t) q
+        → row_call_at s (front_number j t) ≡ Some d → row_goes j (front_number j t) ≡ true
+        → may_turn (wait_turn listed p) j t v c ≡ true
     front_turn listed (w.Unlocks k) q d x here goes = goes
     front_turn listed (w.Enters k) q d x here goes = busy _ d here (idle_of s _ x.0)
     front_turn listed (w.Checks k) q d x here goes = busy _ d here (idle_of s _ x.0)
@@ -248,7 +280,9 @@ module _ (j : Joint) (h : IsWhole j) (fits : PartsFit j) where
     GivesOn (w.Unlocks k) = row_goes j (front_number j t) ≡ true
     GivesOn p = Unit {0}
 
-    back_turn : (listed : Bool) (p : WaitPhase) (q : ℕ) (d : Call) → GivesOn p → IsSo (back_of listed p) s (back_number j t) q → row_call_at s (back_number j t) ≡ Some d → row_goes j (back_number j t) ≡ true → may_turn (wait_turn listed p) j t v c ≡ true
+    back_turn : (listed : Bool) (p : WaitPhase) (q : ℕ) (d : Call) → GivesOn p
+        → IsSo (back_of listed p) s (back_number j t) q → row_call_at s (back_number j t) ≡ Some d
+        → row_goes j (back_number j t) ≡ true → may_turn (wait_turn listed p) j t v c ≡ true
     back_turn listed (w.Unlocks k) q d gives x here goes = gives
     back_turn true (w.Sleeps k) q d gives x here goes = busy _ d here (idle_of s _ x.0)
     back_turn false (w.Sleeps k) q d gives x here goes = goes
@@ -277,7 +311,9 @@ module _ (j : Joint) (h : IsWhole j) (fits : PartsFit j) where
     back_turn listed w.Invalid q d gives x here goes = absurd x
 
     -- by either number
-    by_number : (b second : Bool) → (seat_at j t).second ≡ second → (p : WaitPhase) → Waits j t c p → GivesOn p → (d : Call) → row_call_at s (number j t b) ≡ Some d → row_goes j (number j t b) ≡ true → may_turn (wait_turn c.listed p) j t v c ≡ true
+    by_number : (b second : Bool) → (seat_at j t).second ≡ second → (p : WaitPhase) → Waits j t c p → GivesOn p
+        → (d : Call) → row_call_at s (number j t b) ≡ Some d → row_goes j (number j t b) ≡ true
+        → may_turn (wait_turn c.listed p) j t v c ≡ true
     by_number true true is p x gives d here goes =
         let same = ap (number j t) is in
         back_turn c.listed p _ d gives x.back (ap (row_call_at s) same ∙ here) (ap (row_goes j) same ∙ goes)
@@ -291,27 +327,35 @@ module _ (j : Joint) (h : IsWhole j) (fits : PartsFit j) where
         let same = ap (λ b. number j t (not b)) is in
         front_turn c.listed p _ d x.front (ap (row_call_at s) same ∙ here) (ap (row_goes j) same ∙ goes)
 
-    notifier_idle : {X : Type 0} (b : Bool) (p : NotifyPhase) → Notifies j t p → (d : Call) → row_call_at s (number j t b) ≡ Some d → X
+    notifier_idle : {X : Type 0} (b : Bool) (p : NotifyPhase) → Notifies j t p → (d : Call)
+        → row_call_at s (number j t b) ≡ Some d → X
     notifier_idle true p x d here = busy _ d here x.second
     notifier_idle false p x d here = busy _ d here x.first
 
-    by_core : (b : Bool) (k : Core) → Stands j t c k → ((p : WaitPhase) → k ≡ core.Wait (record { phase = p }) → GivesOn p) → (d : Call) → row_call_at s (number j t b) ≡ Some d → row_goes j (number j t b) ≡ true → may_turn (turn_by c.listed k) j t v c ≡ true
+    by_core : (b : Bool) (k : Core) → Stands j t c k
+        → ((p : WaitPhase) → k ≡ core.Wait (record { phase = p }) → GivesOn p) → (d : Call)
+        → row_call_at s (number j t b) ≡ Some d → row_goes j (number j t b) ≡ true → may_turn (turn_by c.listed k) j t v
+        c ≡ true
     by_core b (core.Wait q) x gives d here goes = by_number b (seat_at j t).second refl q.phase x (gives q.phase refl) d here goes
     by_core b (core.Notify q) x gives d here goes = notifier_idle b q.phase x d here
 
   -- whoever gives its mutex up can
   abbrev GiversGo : ℕ → Type 0
-  GiversGo t = (v q : ℕ) (c : OpenCall) → call_at j v t ≡ Some c → c.core ≡ core.Wait (record { phase = w.Unlocks q }) → row_goes j (front_number j t) ≡ true
+  GiversGo t = (v q : ℕ) (c : OpenCall) → call_at j v t ≡ Some c → c.core ≡ core.Wait (record { phase = w.Unlocks q })
+      → row_goes j (front_number j t) ≡ true
 
-  number_goes : (t : ℕ) (b : Bool) (d : Call) → t < length j.seats → GiversGo t → row_call_at s (number j t b) ≡ Some d → row_goes j (number j t b) ≡ true → may_go j t ≡ true
+  number_goes : (t : ℕ) (b : Bool) (d : Call) → t < length j.seats → GiversGo t → row_call_at s (number j t b) ≡ Some d
+      → row_goes j (number j t b) ≡ true → may_go j t ≡ true
   number_goes t b d low givers here goes = by_seat (seat_at j t).at refl
     where
-      alone : (b : Bool) → (row_call_at s t ≡ None) ⊎ (row_call_at s (number j t true) ≡ None) → row_call_at s (number j t b) ≡ Some d → busy_number j t ≡ number j t b
+      alone : (b : Bool) → (row_call_at s t ≡ None) ⊎ (row_call_at s (number j t true) ≡ None)
+          → row_call_at s (number j t b) ≡ Some d → busy_number j t ≡ number j t b
       alone true (inl none) here = ap (λ (o : Option Call). busy_by o t (number j t true)) none
       alone true (inr none) here = busy _ d here none
       alone false other here = ap (λ (o : Option Call). busy_by o t (number j t true)) here
 
-      gives : (v : ℕ) (c : OpenCall) → call_at j v t ≡ Some c → (p : WaitPhase) → c.core ≡ core.Wait (record { phase = p }) → GivesOn t v c p
+      gives : (v : ℕ) (c : OpenCall) → call_at j v t ≡ Some c → (p : WaitPhase)
+          → c.core ≡ core.Wait (record { phase = p }) → GivesOn t v c p
       gives v c at (w.Unlocks q) is = givers v q c at is
       gives v c at p is = tt
 
@@ -334,13 +378,15 @@ module _ (j : Joint) (h : IsWhole j) (fits : PartsFit j) where
 
   -- WHERE NO SECTION OF A VARIABLE IS OPEN
 
-  module _ (out : GiversAreOut j) (awake : Always AwakeCanMove) (somebody : Always RowSomebodyCanMove) (shut : is_open_at_variables j ≡ false) where
+  module _ (out : GiversAreOut j) (awake : Always AwakeCanMove) (somebody : Always RowSomebodyCanMove)
+      (shut : is_open_at_variables j ≡ false) where
     row_free : (k : ℕ) → can_move s k ≡ true → row_goes j k ≡ true
     row_free k can = goes_anyway (can_move s k) (enters_at_lock j k) (is_open_at_variables j) can shut
 
     -- the one inside a section of a lock can move
     in_section : (o : Section) → s.lot.section ≡ Some o → Somebody
-    in_section o is = go (row_call_at s w) refl (goes_on s fits.rows o is (row_call_at s w) (fits.rows.lots.seated w (fits.rows.lots.opened o is).2))
+    in_section o is = go (row_call_at s w) refl
+        (goes_on s fits.rows o is (row_call_at s w) (fits.rows.lots.seated w (fits.rows.lots.opened o is).2))
       where
         w : ℕ
         w = (fits.rows.lots.opened o is).0
@@ -348,8 +394,13 @@ module _ (j : Joint) (h : IsWhole j) (fits : PartsFit j) where
         is_inside : inside s ≡ Some w
         is_inside = ap (option_and_then (λ (x : Section). x.thread)) is ∙ (fits.rows.lots.opened o is).1
 
-        it_goes : (d : Call) → row_call_at s w ≡ Some d → can_move s w ≡ true → (t : ℕ) (b : Bool) → t < length j.seats → w ≡ number j t b → Somebody
-        it_goes d here can t b low at = (t, number_goes t b d low givers (sym (ap (row_call_at s) at) ∙ here) (sym (ap (row_goes j) at) ∙ row_free w can))
+        it_goes : (d : Call) → row_call_at s w ≡ Some d → can_move s w ≡ true → (t : ℕ) (b : Bool) → t < length j.seats
+            → w ≡ number j t b → Somebody
+        it_goes d here can t b low at = (
+          t,
+          number_goes t b d low givers (sym (ap (row_call_at s) at) ∙ here)
+              (sym (ap (row_goes j) at) ∙ row_free w can),
+        )
           where
             givers : GiversGo t
             givers v q c there is = by (seat_at j t).second refl b refl
@@ -375,7 +426,9 @@ module _ (j : Joint) (h : IsWhole j) (fits : PartsFit j) where
       givers_go : (t : ℕ) → GiversGo t
       givers_go t v q c here is =
           let x = (subst (Stands j t c) is (h.stands v t c here)).front in
-          up (front_number j t) x.call x.here (ap (λ (o : Option Call). option_map_or (λ (d : Call). sleeps (core_act d.core)) o false) x.here ∙ giver_awake x.call.core x.is)
+          up (front_number j t) x.call x.here
+          (ap (λ (o : Option Call). option_map_or (λ (d : Call). sleeps (core_act d.core)) o false) x.here
+          ∙ giver_awake x.call.core x.is)
 
       anothers : (u : ℕ) → can_move s u ≡ true → Somebody
       anothers u can = go (row_call_at s u) refl can
@@ -383,8 +436,11 @@ module _ (j : Joint) (h : IsWhole j) (fits : PartsFit j) where
           go : (o : Option Call) → row_call_at s u ≡ o → can_move_in s o ≡ true → Somebody
           go None here x = absurd cc
           go (Some d) here x =
-              let (t, b, low, at) = number_of u (call_within s u d here) in
-              (t, number_goes t b d low (givers_go t) (sym (ap (row_call_at s) at) ∙ here) (sym (ap (row_goes j) at) ∙ row_free u can))
+              let (t, b, low, at) = number_of u (call_within s u d here) in (
+                t,
+                number_goes t b d low (givers_go t) (sym (ap (row_call_at s) at) ∙ here)
+                    (sym (ap (row_goes j) at) ∙ row_free u can),
+              )
 
       module _ (t : ℕ) (low : t < length j.seats) where
         abbrev Ends : Type 0
@@ -407,7 +463,12 @@ module _ (j : Joint) (h : IsWhole j) (fits : PartsFit j) where
             go : (o : Option Call) → row_call_at s t ≡ o → (p : Option Call) → row_call_at s (number j t true) ≡ p → Ends
             go (Some d) is p is' = at_lock false d is
             go None is (Some d) is' = at_lock true d is'
-            go None is None is' = absurd (both_ways (sym (ap (λ (o : Option ℕ). is_none o && (is_none (row_call_at s t) && is_none (row_call_at s (number j t true)))) seat ∙ ap (λ (o : Option Call). is_none o && is_none (row_call_at s (number j t true))) is ∙ ap (λ (o : Option Call). is_none o) is') ∙ called))
+            go None is None is' =
+                absurd (both_ways
+                (sym (ap (λ (o : Option ℕ). is_none o
+                && (is_none (row_call_at s t) && is_none (row_call_at s (number j t true)))) seat
+                ∙ ap (λ (o : Option Call). is_none o && is_none (row_call_at s (number j t true))) is
+                ∙ ap (λ (o : Option Call). is_none o) is') ∙ called))
               where
                 both_ways : true ≡ false → ⊥
                 both_ways e = cc
@@ -421,19 +482,27 @@ module _ (j : Joint) (h : IsWhole j) (fits : PartsFit j) where
             where
               go : (o : Option Var) → var_at j v ≡ o → var_goes j t c (var_at j v) ≡ true
               go None at = absurd (none-some c (sym (ap (λ (o : Option Var). call_in o t) at) ∙ here))
-              go (Some x) at = acts t v c x at here (ap (is_own_by c.listed) is ∙ own) (inr (shut_each j.vars v x shut (slot j.vars v x at), ap (λ (o : Option Section). is_some o) none, shut))
+              go (Some x) at = acts t v c x at here (ap (is_own_by c.listed) is ∙ own)
+                  (inr (
+                    shut_each j.vars v x shut (slot j.vars v x at),
+                    ap (λ (o : Option Section). is_some o) none,
+                    shut,
+                  ))
 
-          acting : (k : Core) → c.core ≡ k → is_own_by c.listed k ≡ true → may_turn (turn_by c.listed k) j t v c ≡ var_goes j t c (var_at j v) → Ends
+          acting : (k : Core) → c.core ≡ k → is_own_by c.listed k ≡ true → may_turn (turn_by c.listed k) j t v c
+              ≡ var_goes j t c (var_at j v) → Ends
           acting k is own turn = goes (ap (λ (x : Core). may_turn (turn_by c.listed x) j t v c) is ∙ turn ∙ acts_now k is own)
 
           -- one of its numbers is in a call at the mutex
           calling : (sort : RowCore → Bool) (b : Bool) (q : ℕ) → IsIn sort s (number j t b) q → Ends
           calling sort b q x = at_lock b x.call x.here
 
-          unlisted : (p : WaitPhase) (q : ℕ) → c.listed ≡ false → back_of false p ≡ Asks → IsSo (back_of c.listed p) s (back_number j t) q → IsSo Asks s (back_number j t) q
+          unlisted : (p : WaitPhase) (q : ℕ) → c.listed ≡ false → back_of false p ≡ Asks
+              → IsSo (back_of c.listed p) s (back_number j t) q → IsSo Asks s (back_number j t) q
           unlisted p q e asks x = subst (λ (a : AtMutex). IsSo a s (back_number j t) q) (ap (λ b. back_of b p) e ∙ asks) x
 
-          by_phase : (listed : Bool) (p : WaitPhase) → c.listed ≡ listed → c.core ≡ core.Wait (record { phase = p }) → Waits j t c p → Ends
+          by_phase : (listed : Bool) (p : WaitPhase) → c.listed ≡ listed → c.core ≡ core.Wait (record { phase = p })
+              → Waits j t c p → Ends
           by_phase listed (w.Enters k) e is x = acting _ is refl refl
           by_phase listed (w.Checks k) e is x = acting _ is refl refl
           by_phase listed w.Retreats e is x = acting _ is refl refl
@@ -441,10 +510,20 @@ module _ (j : Joint) (h : IsWhole j) (fits : PartsFit j) where
           by_phase listed (w.Shows k) e is x = acting _ is refl refl
           by_phase listed (w.Rests k) e is x = acting _ is refl refl
           by_phase listed (w.Unlocks k) e is x = calling gives (not (seat_at j t).second) _ x.front
-          by_phase true (w.Sleeps k) e is x = inr (inl (record { variable = v; call = c; here = here; listed = e; sleeps = ap (turn_by c.listed) is ∙ ap (λ b. wait_turn b (w.Sleeps k)) e }))
+          by_phase true (w.Sleeps k) e is x =
+              inr (inl (record {
+                variable = v;
+                call = c;
+                here = here;
+                listed = e;
+                sleeps = ap (turn_by c.listed) is
+                    ∙ ap (λ b. wait_turn b (w.Sleeps k)) e;
+              }))
           by_phase false (w.Sleeps k) e is x = calling asks (seat_at j t).second _ (unlisted (w.Sleeps k) _ e refl x.back)
           by_phase true (w.Expires k) e is x = acting _ is e (ap (λ b. may_turn (wait_turn b (w.Expires k)) j t v c) e)
-          by_phase false (w.Expires k) e is x = goes (ap (λ (y : Core). may_turn (turn_by c.listed y) j t v c) is ∙ ap (λ b. may_turn (wait_turn b (w.Expires k)) j t v c) e)
+          by_phase false (w.Expires k) e is x =
+              goes (ap (λ (y : Core). may_turn (turn_by c.listed y) j t v c) is
+              ∙ ap (λ b. may_turn (wait_turn b (w.Expires k)) j t v c) e)
           by_phase true (w.Quits k) e is x = acting _ is e (ap (λ b. may_turn (wait_turn b (w.Quits k)) j t v c) e)
           by_phase false (w.Quits k) e is x = calling asks (seat_at j t).second _ (unlisted (w.Quits k) _ e refl x.back)
           by_phase listed w.Forgets e is x = acting _ is refl refl
@@ -489,12 +568,16 @@ module _ (j : Joint) (h : IsWhole j) (fits : PartsFit j) where
                 seated_core v c here c.core refl (h.stands v t c here)
 
 -- whoever is in a section that is open can move
-pub inside_moves : Always AwakeCanMove → Always RowSomebodyCanMove → (j : Joint) → IsWhole j → PartsFit j → GiversAreOut j → (is_open_at_locks j || is_open_at_variables j) ≡ true → (u : ℕ) × (may_go j u ≡ true)
+pub inside_moves : Always AwakeCanMove → Always RowSomebodyCanMove → (j : Joint) → IsWhole j → PartsFit j
+    → GiversAreOut j → (is_open_at_locks j || is_open_at_variables j) ≡ true → (u : ℕ) × (may_go j u ≡ true)
 inside_moves awake somebody j h fits out opened = by_variables (is_open_at_variables j) refl
   where
-    by_locks : is_open_at_variables j ≡ false → (o : Option Section) → (state j.rows).lot.section ≡ o → (u : ℕ) × (may_go j u ≡ true)
+    by_locks : is_open_at_variables j ≡ false → (o : Option Section) → (state j.rows).lot.section ≡ o → (u : ℕ)
+        × (may_go j u ≡ true)
     by_locks shut (Some o) is = in_section j h fits out awake somebody shut o is
-    by_locks shut None is = absurd (nothing_open (sym (ap (λ (o : Option Section). is_some o || is_open_at_variables j) is ∙ shut) ∙ opened))
+    by_locks shut None is =
+        absurd (nothing_open (sym (ap (λ (o : Option Section). is_some o || is_open_at_variables j) is ∙ shut)
+        ∙ opened))
       where
         nothing_open : false ≡ true → ⊥
         nothing_open e = cc
@@ -506,7 +589,8 @@ inside_moves awake somebody j h fits out opened = by_variables (is_open_at_varia
 pub somebody_can_move : Always AwakeCanMove → Always RowSomebodyCanMove → SomebodyCanMove
 somebody_can_move awake somebody j t h fits out low called = by_variables (is_open_at_variables j) refl
   where
-    by_locks : is_open_at_variables j ≡ false → (o : Option Section) → (state j.rows).lot.section ≡ o → ((u : ℕ) × (may_go j u ≡ true)) ⊎ (IsListed j t ⊎ IsKeptOut j t)
+    by_locks : is_open_at_variables j ≡ false → (o : Option Section) → (state j.rows).lot.section ≡ o
+        → ((u : ℕ) × (may_go j u ≡ true)) ⊎ (IsListed j t ⊎ IsKeptOut j t)
     by_locks shut None is = quiet j h fits out awake somebody shut is t low called
     by_locks shut (Some o) is = inl (in_section j h fits out awake somebody shut o is)
 

@@ -1,5 +1,6 @@
 -- At every moment few steps are left at locks and condition variables together.
-use Rattle.std.proofs.Common.{◌≡◌, ℕ, zero, suc, ◌+◌, ◌*◌, ◌≤◌, List, [], ◌∷◌, length, Option, Some, None, slice_get, sum_by, refl, sym, ap, ◌∙◌, arith}
+use Rattle.std.proofs.Common.{◌≡◌, ℕ, zero, suc, ◌+◌, ◌*◌, ◌≤◌, List, [], ◌∷◌, length, Option, Some, None, slice_get}
+use Rattle.std.proofs.Common.{sum_by, refl, sym, ap, ◌∙◌, arith}
 use Rattle.std.specs.Option.{option_and_then, unwrap_or}
 use Rattle.std.proofs.lemmas.List.Sums.{sum_by-cons}
 use Rattle.parking_lot_protocol_waits.specs.declared.notify_core.NotifyPhase.{NotifyPhase}
@@ -48,7 +49,8 @@ wait_few (w.Ends a) = omega arith
 wait_few w.Invalid = omega arith
 
 -- a notification doesn't stand where it takes waiters: it takes them all in one step
-notify_few : (threads queue : ℕ) (p : NotifyPhase) → (notify_turn p ≡ turn.Sleeps → ⊥) → notify_steps threads queue p ≤ threads + 13
+notify_few : (threads queue : ℕ) (p : NotifyPhase) → (notify_turn p ≡ turn.Sleeps → ⊥)
+    → notify_steps threads queue p ≤ threads + 13
 notify_few threads queue (n.Notifying all) turns = omega arith
 notify_few threads queue (n.Loads all) turns = omega arith
 notify_few threads queue (n.Enters all word) turns = omega arith
@@ -62,7 +64,8 @@ notify_few threads queue (n.Wakes count) turns = omega arith
 notify_few threads queue (n.Ends count) turns = omega arith
 notify_few threads queue n.Invalid turns = omega arith
 
-core_few : (j : Joint) (t : ℕ) (c : OpenCall) (k : Core) (threads queue : ℕ) → Stands j t c k → core_steps threads queue k ≤ threads + 13
+core_few : (j : Joint) (t : ℕ) (c : OpenCall) (k : Core) (threads queue : ℕ) → Stands j t c k
+    → core_steps threads queue k ≤ threads + 13
 core_few j t c (core.Wait q) threads queue s = omega (arith, wait_few q.phase)
 core_few j t c (core.Notify q) threads queue s = notify_few threads queue q.phase s.turns
 
@@ -101,7 +104,8 @@ first_or_other most (Some zero) = omega arith
 first_or_other most (Some (suc u)) = omega arith
 
 module _ (most : ℕ) where
-  parts : (at : Seat → Option ℕ) (ss : List Seat) → sum_by (λ s. at_one most zero (at s)) ss + sum_by (λ s. at_any most (down (at s))) ss ≤ sum_by (λ s. at_any most (at s)) ss
+  parts : (at : Seat → Option ℕ) (ss : List Seat) → sum_by (λ s. at_one most zero (at s)) ss + sum_by
+      (λ s. at_any most (down (at s))) ss ≤ sum_by (λ s. at_any most (at s)) ss
   parts at [] = omega arith
   parts at (s ∷ ss) =
       omega (
@@ -114,14 +118,22 @@ module _ (most : ℕ) where
       )
 
   -- where each variable has no more than its seats count, all have no more than all seats
-  by_seats : (ss : List Seat) (vars : List (Option Var)) (at : Seat → Option ℕ) → ((v : ℕ) (x : Var) → slice_get vars v ≡ Some (Some x) → left x ≤ sum_by (λ s. at_one most v (at s)) ss) → sum_by left_in vars ≤ sum_by (λ s. at_any most (at s)) ss
+  by_seats : (ss : List Seat) (vars : List (Option Var)) (at : Seat → Option ℕ)
+      → ((v : ℕ) (x : Var) → slice_get vars v ≡ Some (Some x) → left x ≤ sum_by (λ s. at_one most v (at s)) ss)
+      → sum_by left_in vars ≤ sum_by (λ s. at_any most (at s)) ss
   by_seats ss [] at each = omega arith
   by_seats ss (o ∷ vars) at each =
       omega (
         arith,
         sum_by-cons left_in o vars,
         first o refl,
-        by_seats ss vars (λ s. down (at s)) (λ v x here. omega (arith, each (suc v) x here, same_sum (λ s. at_one most (suc v) (at s)) (λ s. at_one most v (down (at s))) ss (λ i s e. at_next most v (at s)))),
+        by_seats ss vars (λ s. down (at s))
+            (λ v x here. omega (
+              arith,
+              each (suc v) x here,
+              same_sum (λ s. at_one most (suc v) (at s)) (λ s. at_one most v (down (at s)))
+                  ss (λ i s e. at_next most v (at s)),
+            )),
         parts at ss,
       )
     where
@@ -138,17 +150,28 @@ any_few most None = omega arith
 any_few most (Some u) = omega arith
 
 -- two lists of one length, one below the other
-below : {X Y : Type 0} (f : X → ℕ) (g : Y → ℕ) (xs : List X) (ys : List Y) → length xs ≡ length ys → ((i : ℕ) (x : X) (y : Y) → slice_get xs i ≡ Some x → slice_get ys i ≡ Some y → f x ≤ g y) → sum_by f xs ≤ sum_by g ys
+below : {X Y : Type 0} (f : X → ℕ) (g : Y → ℕ) (xs : List X) (ys : List Y) → length xs ≡ length ys
+    → ((i : ℕ) (x : X) (y : Y) → slice_get xs i ≡ Some x → slice_get ys i ≡ Some y → f x ≤ g y)
+    → sum_by f xs ≤ sum_by g ys
 below f g [] [] e each = omega arith
 below f g [] (y ∷ ys) e each = omega arith
 below f g (x ∷ xs) [] e each = absurd (omega (arith, e))
-below f g (x ∷ xs) (y ∷ ys) e each = omega (arith, sum_by-cons f x xs, sum_by-cons g y ys, each zero x y refl refl, below f g xs ys (omega (arith, e)) (λ i a b. each (suc i) a b))
+below f g (x ∷ xs) (y ∷ ys) e each =
+    omega (
+      arith,
+      sum_by-cons f x xs,
+      sum_by-cons g y ys,
+      each zero x y refl refl,
+      below f g xs ys (omega (arith, e)) (λ i a b. each (suc i) a b),
+    )
 
 -- ALL OF THEM
 
 module _ (j : Joint) (h : IsWhole j) where
-  one_var : (v : ℕ) (x : Var) → slice_get j.vars v ≡ Some (Some x) → left x ≤ sum_by (λ (s : Seat). at_one (length j.seats + 13) v s.at) j.seats
-  one_var v x place = below (steps_in (length x.calls) (length x.queue)) (λ (s : Seat). at_one (length j.seats + 13) v s.at) x.calls j.seats threads each
+  one_var : (v : ℕ) (x : Var) → slice_get j.vars v ≡ Some (Some x)
+      → left x ≤ sum_by (λ (s : Seat). at_one (length j.seats + 13) v s.at) j.seats
+  one_var v x place = below (steps_in (length x.calls) (length x.queue))
+      (λ (s : Seat). at_one (length j.seats + 13) v s.at) x.calls j.seats threads each
     where
       at : var_at j v ≡ Some x
       at = ap (option_and_then (λ (o : Option Var). o)) place
@@ -156,7 +179,8 @@ module _ (j : Joint) (h : IsWhole j) where
       threads : length x.calls ≡ length j.seats
       threads = h.threads v x at
 
-      each : (t : ℕ) (o : Option OpenCall) (s : Seat) → slice_get x.calls t ≡ Some o → slice_get j.seats t ≡ Some s → steps_in (length x.calls) (length x.queue) o ≤ at_one (length j.seats + 13) v s.at
+      each : (t : ℕ) (o : Option OpenCall) (s : Seat) → slice_get x.calls t ≡ Some o → slice_get j.seats t ≡ Some s
+          → steps_in (length x.calls) (length x.queue) o ≤ at_one (length j.seats + 13) v s.at
       each t None s here seat = omega arith
       each t (Some c) s here seat =
           let call = ap (λ (o : Option Var). call_in o t) at ∙ ap (option_and_then (λ (o : Option OpenCall). o)) here in
@@ -174,7 +198,8 @@ module _ (j : Joint) (h : IsWhole j) where
       omega (
         arith,
         by_seats (length j.seats + 13) j.seats j.vars (λ (s : Seat). s.at) one_var,
-        all_few (length j.seats + 13) (λ (s : Seat). at_any (length j.seats + 13) s.at) j.seats (λ s. any_few (length j.seats + 13) s.at),
+        all_few (length j.seats + 13) (λ (s : Seat). at_any (length j.seats + 13) s.at) j.seats
+            (λ s. any_few (length j.seats + 13) s.at),
       )
 
 pub steps_are_few : Always RowStepsAreFew → StepsAreFew

@@ -1,5 +1,6 @@
 -- What begins and what comes late costs a stated number of steps; and one that can't move lets any other be stepped.
-use Rattle.std.proofs.Common.{◌≡◌, ℕ, ◌+◌, ◌*◌, ◌<◌, ◌≤◌, ◌&&◌, Bool, true, false, not, cond, is_none, List, length, Option, Some, None, slice_set, refl, sym, ap, ◌∙◌, subst, arith}
+use Rattle.std.proofs.Common.{◌≡◌, ℕ, ◌+◌, ◌*◌, ◌<◌, ◌≤◌, ◌&&◌, Bool, true, false, not, cond, is_none, List, length}
+use Rattle.std.proofs.Common.{Option, Some, None, slice_set, refl, sym, ap, ◌∙◌, subst, arith}
 use Rattle.std.specs.Option.{option_map_or}
 use Rattle.std.proofs.lemmas.Bool.{lt-ltb}
 use Rattle.std.proofs.lemmas.Option.{none-some}
@@ -25,16 +26,21 @@ use Rattle.parking_lot_machine.specs.Ranks as row
 use Rattle.parking_lot_machine.specs.Rows.{Rows, call_at as row_call_at, state}
 use Rattle.parking_lot_machine.proofs.WakesPaying.{any_may_be_stepped}
 use Rattle.parking_lot_machine_waits.specs.declared.seat.Seat.{Seat}
-use Rattle.parking_lot_machine_waits.specs.Joint.{Joint, back_number, busy_number, call_at, call_in, enters_at_lock, front_number, has_by_second, is_open_at_variables, number, row_goes, seat_at, var_at, var_hears}
+use Rattle.parking_lot_machine_waits.specs.Joint.{Joint, back_number, busy_number, call_at, call_in, enters_at_lock}
+use Rattle.parking_lot_machine_waits.specs.Joint.{front_number, has_by_second, is_open_at_variables, number, row_goes}
+use Rattle.parking_lot_machine_waits.specs.Joint.{seat_at, var_at, var_hears}
 use Rattle.parking_lot_machine_waits.specs.JointLaws.{PartsFit}
-use Rattle.parking_lot_machine_waits.specs.JointMoves.{is_free, may_ask, may_call_at, may_expire, may_go, may_go_as, may_go_at, may_turn}
-use Rattle.parking_lot_machine_waits.specs.JointRanks.{IsLateFor, is_in_front, left_at_variables, phase_in_front, stepping_number, steps_left, weight}
+use Rattle.parking_lot_machine_waits.specs.JointMoves.{is_free, may_ask, may_call_at, may_expire, may_go, may_go_as}
+use Rattle.parking_lot_machine_waits.specs.JointMoves.{may_go_at, may_turn}
+use Rattle.parking_lot_machine_waits.specs.JointRanks.{IsLateFor, is_in_front, left_at_variables, phase_in_front}
+use Rattle.parking_lot_machine_waits.specs.JointRanks.{stepping_number, steps_left, weight}
 use Rattle.parking_lot_machine_waits.specs.JointSteps.{BeginsIn, HearsAt, IsAsked, IsCalled, IsLate, IsLateAt}
 use Rattle.parking_lot_machine_waits.specs.Turns.{turn_by, wait_turn}
 use Rattle.parking_lot_machine_waits.specs.Whole.{IsWhole, Notifies, Stands, Waits, back_of, front_of}
 use Rattle.parking_lot_machine_waits.proofs.Hearing.{both_true, can_expire}
 use Rattle.parking_lot_machine_waits.proofs.Ranking.{Idle, away_idle, end_idle, listed_idle, owns_idle}
-use Rattle.parking_lot_machine_waits.proofs.RankParts.{busy_is, busy_least, free_number, hears_pay, idle_most, number_is, same_number, told_there, var_changes}
+use Rattle.parking_lot_machine_waits.proofs.RankParts.{busy_is, busy_least, free_number, hears_pay, idle_most}
+use Rattle.parking_lot_machine_waits.proofs.RankParts.{number_is, same_number, told_there, var_changes}
 
 -- WHAT BEGINS
 
@@ -43,13 +49,18 @@ none_of None e = refl
 none_of (Some x) e = absurd cc
 
 -- whoever is in no call has no seat, and neither number is in one
-pub free_of : (j : Joint) (t : ℕ) → is_free j t ≡ true → ((seat_at j t).at ≡ None) × ((b : Bool) → row_call_at (state j.rows) (number j t b) ≡ None)
+pub free_of : (j : Joint) (t : ℕ) → is_free j t ≡ true → ((seat_at j t).at ≡ None)
+    × ((b : Bool) → row_call_at (state j.rows) (number j t b) ≡ None)
 free_of j t e =
     let (seat, idle) = both_true _ _ e in
-    let (first, second) = both_true _ _ idle in
-    (none_of (seat_at j t).at seat, λ b. go b (none_of (row_call_at (state j.rows) t) first) (none_of (row_call_at (state j.rows) (number j t true)) second))
+    let (first, second) = both_true _ _ idle in (
+      none_of (seat_at j t).at seat,
+      λ b. go b (none_of (row_call_at (state j.rows) t) first)
+          (none_of (row_call_at (state j.rows) (number j t true)) second),
+    )
   where
-    go : (b : Bool) → row_call_at (state j.rows) t ≡ None → row_call_at (state j.rows) (number j t true) ≡ None → row_call_at (state j.rows) (number j t b) ≡ None
+    go : (b : Bool) → row_call_at (state j.rows) t ≡ None → row_call_at (state j.rows) (number j t true) ≡ None
+        → row_call_at (state j.rows) (number j t b) ≡ None
     go true first second = second
     go false first second = first
 
@@ -58,16 +69,23 @@ middle a b c e = (both_true b c (both_true a (b && c) e).1).0
 
 module _ (i j : Joint) (h : IsWhole i) (fi : PartsFit i) (t : ℕ) where
   -- one in no call is stepped by a number that is in none
-  from_free : is_free i t ≡ true → (u : ℕ) → row.steps_left (state i.rows) u ≤ row.steps_left (state i.rows) (stepping_number i t)
+  from_free : is_free i t ≡ true → (u : ℕ) → row.steps_left (state i.rows) u ≤ row.steps_left (state i.rows)
+      (stepping_number i t)
   from_free free u =
       let (seat, idle) = free_of i t free in
       let (b, is) = busy_is i t in
-      omega (arith, idle_most (state i.rows) fi.rows (number i t b) u (idle b), ap (row.steps_left (state i.rows)) (free_number i t seat ∙ is))
+      omega (
+        arith,
+        idle_most (state i.rows) fi.rows (number i t b) u (idle b),
+        ap (row.steps_left (state i.rows)) (free_number i t seat ∙ is),
+      )
 
-  pub ask_costs : IsWhole j → PartsFit j → (lock : ℕ) (c : LockCall) → may_ask i t lock c ≡ true → IsAsked t lock c i j → steps_left j t ≤ steps_left i t + row.cost (2 * length i.seats) c
+  pub ask_costs : IsWhole j → PartsFit j → (lock : ℕ) (c : LockCall) → may_ask i t lock c ≡ true → IsAsked t lock c i j
+      → steps_left j t ≤ steps_left i t + row.cost (2 * length i.seats) c
   ask_costs k fj lock c may x =
       let free = middle _ (is_free i t) _ may in
-      let seat = subst (λ (ss : List Seat). (seat_at (record j { seats = ss }) t).at ≡ None) (sym x.seats) (free_of i t free).0 in
+      let seat = subst (λ (ss : List Seat). (seat_at (record j { seats = ss }) t).at ≡ None) (sym x.seats)
+      (free_of i t free).0 in
       let b = has_by_second i t lock in
       omega (
         arith,
@@ -80,13 +98,15 @@ module _ (i j : Joint) (h : IsWhole i) (fi : PartsFit i) (t : ℕ) where
         ap (λ (vs : List (Option Var)). left_at_variables (record j { vars = vs })) x.vars,
       )
 
-  pub call_costs : (v : ℕ) (c : CondvarCall) → may_call_at i t v c ≡ true → IsCalled t v c i j → steps_left j t ≤ steps_left i t + weight * vars.cost (length i.seats) c
+  pub call_costs : (v : ℕ) (c : CondvarCall) → may_call_at i t v c ≡ true → IsCalled t v c i j
+      → steps_left j t ≤ steps_left i t + weight * vars.cost (length i.seats) c
   call_costs v c may x = go (var_at i v) refl x.begins.0 x.begins.1 x.begins.2
     where
       free : is_free i t ≡ true
       free = middle _ (is_free i t) _ may
 
-      go : (o : Option Var) → var_at i v ≡ o → (y : Option Var) → BeginsIn t c o y → j.vars ≡ slice_set i.vars v y → steps_left j t ≤ steps_left i t + weight * vars.cost (length i.seats) c
+      go : (o : Option Var) → var_at i v ≡ o → (y : Option Var) → BeginsIn t c o y → j.vars ≡ slice_set i.vars v y
+          → steps_left j t ≤ steps_left i t + weight * vars.cost (length i.seats) c
       go None at y begins is = absurd begins
       go (Some a) at None begins is = absurd begins
       go (Some a) at (Some b) begins is =
@@ -101,7 +121,8 @@ module _ (i j : Joint) (h : IsWhole i) (fi : PartsFit i) (t : ℕ) where
 
   -- WHAT COMES LATE
 
-  pub deadline_costs : IsWhole j → PartsFit j → (m : ℕ) → (seat_at i t).at ≡ None → IsLateFor i t m → IsLate t i j → steps_left j t ≤ steps_left i t + m
+  pub deadline_costs : IsWhole j → PartsFit j → (m : ℕ) → (seat_at i t).at ≡ None → IsLateFor i t m → IsLate t i j
+      → steps_left j t ≤ steps_left i t + m
   deadline_costs k fj m seat most late = go (subst (λ (o : Option ℕ). IsLateAt o t i j) seat late)
     where
       go : IsLateAt None t i j → steps_left j t ≤ steps_left i t + m
@@ -120,11 +141,13 @@ module _ (i j : Joint) (h : IsWhole i) (fi : PartsFit i) (t : ℕ) where
           )
 
 -- only one that sleeps is told that its deadline has come
-expires_back : (timed listed : Bool) (p : WaitPhase) → wait_fits timed listed p outside.Expired ≡ true → (phase_in_front p ≡ false) × (phase_in_front (next_phase p seen.Expired) ≡ false)
+expires_back : (timed listed : Bool) (p : WaitPhase) → wait_fits timed listed p outside.Expired ≡ true
+    → (phase_in_front p ≡ false) × (phase_in_front (next_phase p seen.Expired) ≡ false)
 expires_back timed listed (w.Sleeps m) e = (refl, refl)
 expires_back timed listed p e = absurd cc
 
-never_late : {X : Type 0} (taken : ℕ) (left : Bool) (p : NotifyPhase) → notify_fits taken left p outside.Expired ≡ true → X
+never_late : {X : Type 0} (taken : ℕ) (left : Bool) (p : NotifyPhase) → notify_fits taken left p outside.Expired ≡ true
+    → X
 never_late taken left (n.Notifying all) e = absurd cc
 never_late taken left (n.Loads all) e = absurd cc
 never_late taken left (n.Enters all word) e = absurd cc
@@ -138,18 +161,23 @@ never_late taken left (n.Wakes count) e = absurd cc
 never_late taken left (n.Ends count) e = absurd cc
 never_late taken left n.Invalid e = absurd cc
 
-core_expires : (c : OpenCall) (left : Bool) (k : Core) → hears_by c left outside.Expired k ≡ true → (queue : List ℕ) → (is_in_front k ≡ false) × (is_in_front (told_by c (is_left queue) outside.Expired k).core ≡ false)
+core_expires : (c : OpenCall) (left : Bool) (k : Core) → hears_by c left outside.Expired k ≡ true → (queue : List ℕ)
+    → (is_in_front k ≡ false) × (is_in_front (told_by c (is_left queue) outside.Expired k).core ≡ false)
 core_expires c left (core.Wait q) e queue = expires_back (is_timed c.call) c.listed q.phase e
 core_expires c left (core.Notify q) e queue = never_late c.taken left q.phase e
 
-may_hear_in : (o : Option Var) (t : ℕ) (c : OpenCall) (what : Outside) → call_in o t ≡ Some c → var_hears o t what ≡ true → (left : Bool) × (hears_by c left what c.core ≡ true)
+may_hear_in : (o : Option Var) (t : ℕ) (c : OpenCall) (what : Outside) → call_in o t ≡ Some c
+    → var_hears o t what ≡ true → (left : Bool) × (hears_by c left what c.core ≡ true)
 may_hear_in None t c what here e = absurd (none-some c here)
-may_hear_in (Some x) t c what here e = (is_left x.queue, sym (ap (λ o. option_map_or (may_hear x.queue what) o false) here) ∙ e)
+may_hear_in (Some x) t c what here e =
+    (is_left x.queue, sym (ap (λ o. option_map_or (may_hear x.queue what) o false) here) ∙ e)
 
-pub late_costs : (i j : Joint) (t v : ℕ) → IsWhole i → (seat_at i t).at ≡ Some v → may_expire i t ≡ true → IsLate t i j → steps_left j t ≤ steps_left i t
+pub late_costs : (i j : Joint) (t v : ℕ) → IsWhole i → (seat_at i t).at ≡ Some v → may_expire i t ≡ true → IsLate t i j
+    → steps_left j t ≤ steps_left i t
 late_costs i j t v h seat may late = go (subst (λ (o : Option ℕ). IsLateAt o t i j) seat late)
   where
-    by : HearsAt t v outside.Expired i j → j.rows ≡ i.rows → stepping_number j t ≡ stepping_number i t → steps_left j t ≤ steps_left i t
+    by : HearsAt t v outside.Expired i j → j.rows ≡ i.rows → stepping_number j t ≡ stepping_number i t
+        → steps_left j t ≤ steps_left i t
     by heard rows same =
         omega (
           arith,
@@ -161,7 +189,8 @@ late_costs i j t v h seat may late = go (subst (λ (o : Option ℕ). IsLateAt o 
     go : IsLateAt (Some v) t i j → steps_left j t ≤ steps_left i t
     go (heard, rows, seats) =
         let (c, here) = h.sits v t seat in
-        let (left, hears) = may_hear_in (var_at i v) t c outside.Expired here (can_expire (seat_at i t).at v i t seat (both_true _ _ may).1) in
+        let (left, hears) = may_hear_in (var_at i v) t c outside.Expired here
+        (can_expire (seat_at i t).at v i t seat (both_true _ _ may).1) in
         let (queue, there) = told_there t v outside.Expired c i j here heard in
         let (before, after) = core_expires c left c.core hears queue in
         by heard rows (same_number i j t v c (told c queue outside.Expired) seats seat here there (after ∙ sym before))
@@ -175,11 +204,14 @@ not_row true false o p e = absurd cc
 not_row false b o p e = refl
 
 -- nothing but its row shuts a number out
-row_stops : (j : Joint) (m : ℕ) → is_open_at_variables j ≡ false → row_goes j m ≡ false → rows.can_move (state j.rows) m ≡ false
+row_stops : (j : Joint) (m : ℕ) → is_open_at_variables j ≡ false → row_goes j m ≡ false
+    → rows.can_move (state j.rows) m ≡ false
 row_stops j m shut e = not_row (rows.can_move (state j.rows) m) (enters_at_lock j m) (is_open_at_variables j) shut e
 
-pub stopped_lets : (j : Joint) (t u : ℕ) → PartsFit j → rows.can_move (state j.rows) (stepping_number j t) ≡ false → steps_left j u ≤ steps_left j t
-stopped_lets j t u fits stops = omega (arith, any_may_be_stepped (state j.rows) fits.rows (stepping_number j t) stops (stepping_number j u))
+pub stopped_lets : (j : Joint) (t u : ℕ) → PartsFit j → rows.can_move (state j.rows) (stepping_number j t) ≡ false
+    → steps_left j u ≤ steps_left j t
+stopped_lets j t u fits stops =
+    omega (arith, any_may_be_stepped (state j.rows) fits.rows (stepping_number j t) stops (stepping_number j u))
 
 module _ (j : Joint) (h : IsWhole j) (fits : PartsFit j) (t : ℕ) (shut : is_open_at_variables j ≡ false) where
   abbrev Stops : Type 0
@@ -193,21 +225,30 @@ module _ (j : Joint) (h : IsWhole j) (fits : PartsFit j) (t : ℕ) (shut : is_op
 
   module _ (v : ℕ) (c : OpenCall) (seat : (seat_at j t).at ≡ Some v) (here : call_at j v t ≡ Some c) where
     front_is : (k : Core) → c.core ≡ k → is_in_front k ≡ true → stepping_number j t ≡ front_number j t
-    front_is k is side = number_is j t v c seat here ∙ ap (λ b. cond b (front_number j t) (back_number j t)) (ap is_in_front is ∙ side)
+    front_is k is side = number_is j t v c seat here ∙ ap (λ b. cond b (front_number j t) (back_number j t))
+        (ap is_in_front is ∙ side)
 
     back_is : (k : Core) → c.core ≡ k → is_in_front k ≡ false → stepping_number j t ≡ back_number j t
-    back_is k is side = number_is j t v c seat here ∙ ap (λ b. cond b (front_number j t) (back_number j t)) (ap is_in_front is ∙ side)
+    back_is k is side = number_is j t v c seat here ∙ ap (λ b. cond b (front_number j t) (back_number j t))
+        (ap is_in_front is ∙ side)
 
-    in_front : (p : WaitPhase) → c.core ≡ core.Wait (record { phase = p }) → phase_in_front p ≡ true → Waits j t c p → Idle (front_of p) → Stops
-    in_front p is side s idle = idle_stops (front_number j t) (front_is (core.Wait (record { phase = p })) is side) (idle (state j.rows) (front_number j t) _ s.front)
+    in_front : (p : WaitPhase) → c.core ≡ core.Wait (record { phase = p }) → phase_in_front p ≡ true → Waits j t c p
+        → Idle (front_of p) → Stops
+    in_front p is side s idle = idle_stops (front_number j t) (front_is (core.Wait (record { phase = p })) is side)
+        (idle (state j.rows) (front_number j t) _ s.front)
 
-    in_back : (p : WaitPhase) → c.core ≡ core.Wait (record { phase = p }) → phase_in_front p ≡ false → Waits j t c p → Idle (back_of c.listed p) → Stops
-    in_back p is side s idle = idle_stops (back_number j t) (back_is (core.Wait (record { phase = p })) is side) (idle (state j.rows) (back_number j t) _ s.back)
+    in_back : (p : WaitPhase) → c.core ≡ core.Wait (record { phase = p }) → phase_in_front p ≡ false → Waits j t c p
+        → Idle (back_of c.listed p) → Stops
+    in_back p is side s idle = idle_stops (back_number j t) (back_is (core.Wait (record { phase = p })) is side)
+        (idle (state j.rows) (back_number j t) _ s.back)
 
-    by_back : (p : WaitPhase) → c.core ≡ core.Wait (record { phase = p }) → phase_in_front p ≡ false → row_goes j (back_number j t) ≡ false → Stops
-    by_back p is side e = at_number (back_number j t) (back_is (core.Wait (record { phase = p })) is side) (row_stops j (back_number j t) shut e)
+    by_back : (p : WaitPhase) → c.core ≡ core.Wait (record { phase = p }) → phase_in_front p ≡ false
+        → row_goes j (back_number j t) ≡ false → Stops
+    by_back p is side e = at_number (back_number j t) (back_is (core.Wait (record { phase = p })) is side)
+        (row_stops j (back_number j t) shut e)
 
-    waits : (listed : Bool) (p : WaitPhase) → c.listed ≡ listed → c.core ≡ core.Wait (record { phase = p }) → Waits j t c p → may_turn (wait_turn listed p) j t v c ≡ false → Stops
+    waits : (listed : Bool) (p : WaitPhase) → c.listed ≡ listed → c.core ≡ core.Wait (record { phase = p })
+        → Waits j t c p → may_turn (wait_turn listed p) j t v c ≡ false → Stops
     waits listed (w.Waiting m) e is s x = absurd s.front
     waits listed w.Stranger e is s x = absurd s.front
     waits listed w.GivingWay e is s x = absurd s.front
@@ -218,7 +259,9 @@ module _ (j : Joint) (h : IsWhole j) (fits : PartsFit j) (t : ℕ) (shut : is_op
     waits listed (w.Appends m) e is s x = in_front (w.Appends m) is refl s owns_idle
     waits listed (w.Shows m) e is s x = in_front (w.Shows m) is refl s owns_idle
     waits listed (w.Rests m) e is s x = in_front (w.Rests m) is refl s owns_idle
-    waits listed (w.Unlocks m) e is s x = at_number (front_number j t) (front_is (core.Wait (record { phase = w.Unlocks m })) is refl) (row_stops j (front_number j t) shut x)
+    waits listed (w.Unlocks m) e is s x =
+        at_number (front_number j t) (front_is (core.Wait (record { phase = w.Unlocks m })) is refl)
+        (row_stops j (front_number j t) shut x)
     waits true (w.Sleeps m) e is s x = in_back (w.Sleeps m) is refl s (listed_idle c (w.Sleeps m) e refl)
     waits false (w.Sleeps m) e is s x = by_back (w.Sleeps m) is refl x
     waits true (w.Expires m) e is s x = in_back (w.Expires m) is refl s (listed_idle c (w.Expires m) e refl)
@@ -241,13 +284,15 @@ module _ (j : Joint) (h : IsWhole j) (fits : PartsFit j) (t : ℕ) (shut : is_op
 
     by_core : (k : Core) → c.core ≡ k → Stands j t c k → may_turn (turn_by c.listed k) j t v c ≡ false → Stops
     by_core (core.Wait q) is s x = waits c.listed q.phase refl is s x
-    by_core (core.Notify q) is s x = idle_stops (front_number j t) (front_is (core.Notify q) is refl) (both_none (not (seat_at j t).second) q.phase s)
+    by_core (core.Notify q) is s x = idle_stops (front_number j t) (front_is (core.Notify q) is refl)
+        (both_none (not (seat_at j t).second) q.phase s)
 
   by_seat : (at : Option ℕ) → (seat_at j t).at ≡ at → may_go_at at j t ≡ false → Stops
   by_seat None seat x = at_number (busy_number j t) (free_number j t seat) (row_stops j (busy_number j t) shut x)
   by_seat (Some v) seat x =
       let (c, here) = h.sits v t seat in
-      by_core v c seat here c.core refl (h.stands v t c here) (sym (ap (λ (o : Option OpenCall). may_go_as o j t v) here) ∙ x)
+      by_core v c seat here c.core refl (h.stands v t c here)
+      (sym (ap (λ (o : Option OpenCall). may_go_as o j t v) here) ∙ x)
 
   pub others_go_on : (u : ℕ) → t < length j.seats → may_go j t ≡ false → steps_left j u ≤ steps_left j t
   others_go_on u low stops =

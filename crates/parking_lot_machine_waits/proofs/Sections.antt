@@ -1,5 +1,8 @@
--- A step at a lock opens no section but its own number's, and a step at a variable leaves the calls of others in their phases.
-use Rattle.std.proofs.Common.{◌≡◌, ◌≢◌, ◌⊎◌, inl, inr, ℕ, zero, suc, ◌==◌, ◌≤◌, ◌||◌, Bool, true, false, cond, List, [], ◌∷◌, length, Option, Some, None, option_map, slice_get, slice_set, refl, sym, ap, ◌∙◌, subst}
+-- A step at a lock opens no section but its own number's, and a step at a variable leaves the calls of others in their
+-- phases.
+use Rattle.std.proofs.Common.{◌≡◌, ◌≢◌, ◌⊎◌, inl, inr, ℕ, zero, suc, ◌==◌, ◌≤◌, ◌||◌, Bool, true, false, cond, List, []}
+use Rattle.std.proofs.Common.{◌∷◌, length, Option, Some, None, option_map, slice_get, slice_set, refl, sym, ap, ◌∙◌}
+use Rattle.std.proofs.Common.{subst}
 use Rattle.std.specs.Option.{option_and_then}
 use Rattle.std.proofs.lemmas.Bool.{cases_eq, cases_lt}
 use Rattle.std.proofs.lemmas.List.{length-set}
@@ -63,7 +66,8 @@ phased : (ph : Phase) (o : Option Section) → who (option_map (λ (x : Section)
 phased ph None = refl
 phased ph (Some x) = refl
 
-stored_so : (ph : Phase) (token : UnparkToken) (o : Option Section) → who (option_map (λ (x : Section). record x { phase = ph; token = token }) o) ≡ who o
+stored_so : (ph : Phase) (token : UnparkToken) (o : Option Section)
+    → who (option_map (λ (x : Section). record x { phase = ph; token = token }) o) ≡ who o
 stored_so ph token None = refl
 stored_so ph token (Some x) = refl
 
@@ -119,18 +123,21 @@ module _ (s : State) (t : ℕ) (c : Call) where
   became Act.Sleep fair u e = late c.core u e
   became (Act.Done answer) fair u e = still u _ e refl
 
-pub step_opens : (s u : State) (t : ℕ) (fair : Bool) (answer : Option CoreAnswer) → IsStepped t fair answer s u → Opens t (inside s) (inside u)
+pub step_opens : (s u : State) (t : ℕ) (fair : Bool) (answer : Option CoreAnswer) → IsStepped t fair answer s u
+    → Opens t (inside s) (inside u)
 step_opens s u t fair answer x = became s t x.call (core_act x.call.core) fair u x.became
 
 -- those that are moved leave none open
-are_shut : (seats : List Seat) (x : Var) (lock : ℕ) (ws : List ℕ) (s u : State) → AreMoved seats x lock ws s u → (inside u ≡ None) ⊎ (u ≡ s)
+are_shut : (seats : List Seat) (x : Var) (lock : ℕ) (ws : List ℕ) (s u : State) → AreMoved seats x lock ws s u
+    → (inside u ≡ None) ⊎ (u ≡ s)
 are_shut seats x lock [] s u e = inr e
 are_shut seats x lock (v ∷ ws) s u (m, first, rest) = elim (are_shut seats x lock ws m u rest) [
   | inl e ↦ inl e
   | inr e ↦ inl (ap inside e ∙ ap who first.free)
 ]
 
-pub moved_shut : (locked : Bool) (seats : List Seat) (x : Var) (lock : ℕ) (ws : List ℕ) (s u : State) → AreMovedAs locked seats x lock ws s u → (inside u ≡ None) ⊎ (inside u ≡ inside s)
+pub moved_shut : (locked : Bool) (seats : List Seat) (x : Var) (lock : ℕ) (ws : List ℕ) (s u : State)
+    → AreMovedAs locked seats x lock ws s u → (inside u ≡ None) ⊎ (inside u ≡ inside s)
 moved_shut true seats x lock ws s u moved = elim (are_shut seats x lock ws s u moved) [
   | inl e ↦ inl e
   | inr e ↦ inr (ap inside e)
@@ -145,10 +152,16 @@ moved_shut false seats x lock (v ∷ ws) s u (m, first, rest) = elim (are_shut s
 
 -- each of the others is in its phase still
 abbrev pub Others : ℕ → Var → Var → Type 0
-Others t x y = (u : ℕ) (c : OpenCall) → u ≢ t → var.call_at y u ≡ Some c → (d : OpenCall) × (var.call_at x u ≡ Some d) × (d.core ≡ c.core)
+Others t x y = (u : ℕ) (c : OpenCall) → u ≢ t → var.call_at y u ≡ Some c → (d : OpenCall) × (var.call_at x u ≡ Some d)
+    × (d.core ≡ c.core)
 
 others_set : (t : ℕ) (x y : Var) (o : Option OpenCall) → y.calls ≡ slice_set x.calls t o → Others t x y
-others_set t x y o e u c ne here = (c, sym (ap (λ (cs : List (Option OpenCall)). option_and_then (λ (z : Option OpenCall). z) (slice_get cs u)) e ∙ call_elsewhere x.calls t u o ne) ∙ here, refl)
+others_set t x y o e u c ne here = (
+  c,
+  sym (ap (λ (cs : List (Option OpenCall)). option_and_then (λ (z : Option OpenCall). z) (slice_get cs u)) e
+      ∙ call_elsewhere x.calls t u o ne) ∙ here,
+  refl,
+)
 
 others_both : (t : ℕ) (x y z : Var) → Others t x y → Others t y z → Others t x z
 others_both t x y z a b u c ne here =
@@ -156,16 +169,19 @@ others_both t x y z a b u c ne here =
     let (e, first, was) = a u d ne then in
     (e, first, was ∙ same)
 
-stepped_set : (k : VarCore) (x : Var) (t : ℕ) (c : OpenCall) → (o : Option OpenCall) × ((stepped_by k x t c).calls ≡ slice_set x.calls t o)
+stepped_set : (k : VarCore) (x : Var) (t : ℕ) (c : OpenCall) → (o : Option OpenCall)
+    × ((stepped_by k x t c).calls ≡ slice_set x.calls t o)
 stepped_set (var_core.Wait q) x t c = (_, refl)
 stepped_set (var_core.Notify q) x t c = (_, refl)
 
-off_core : (o : Option OpenCall) (c : OpenCall) → option_map off_list o ≡ Some c → (d : OpenCall) × (o ≡ Some d) × (d.core ≡ c.core)
+off_core : (o : Option OpenCall) (c : OpenCall) → option_map off_list o ≡ Some c → (d : OpenCall) × (o ≡ Some d)
+    × (d.core ≡ c.core)
 off_core None c e = absurd (none-some c e)
 off_core (Some d) c e = (d, refl, ap (λ (z : OpenCall). z.core) (same_Some (off_list d) c e))
 
 pub stepped_others : (t : ℕ) (reply : Option CondvarReply) (x y : Var) → vars.IsStepped t reply x y → Others t x y
-stepped_others t reply x y z = (let (o, e) = stepped_set z.call.core x t z.call in others_set t x y o (ap (λ (a : Var). a.calls) z.became ∙ e))
+stepped_others t reply x y z =
+    (let (o, e) = stepped_set z.call.core x t z.call in others_set t x y o (ap (λ (a : Var). a.calls) z.became ∙ e))
 
 pub told_others : (t : ℕ) (seen : Outside) (x y : Var) → vars.IsTold t seen x y → Others t x y
 told_others t seen x y z = others_set t x y _ (ap (λ (a : Var). a.calls) z.became)
@@ -176,8 +192,13 @@ begun_others t c x y z = others_set t x y _ (ap (λ (a : Var). a.calls) z.became
 -- the one that is taken is off the list
 taken_others : (t w : ℕ) (x y : Var) → vars.IsTaken t w x y → Others t x y
 taken_others t w x y z u c ne here = elim (cases_eq u w) [
-  | inl e ↦ subst (λ v. (d : OpenCall) × (var.call_at x v ≡ Some d) × (d.core ≡ c.core)) (sym e) (off_core (find_call x.calls w) c (sym (mid ∙ ap (find_call off) e ∙ call_there) ∙ here))
-  | inr other ↦ (c, sym (mid ∙ call_elsewhere x.calls w u (option_map off_list (find_call x.calls w)) other) ∙ here, refl)
+  | inl e ↦ subst (λ v. (d : OpenCall) × (var.call_at x v ≡ Some d) × (d.core ≡ c.core)) (sym e)
+      (off_core (find_call x.calls w) c (sym (mid ∙ ap (find_call off) e ∙ call_there) ∙ here))
+  | inr other ↦ (
+    c,
+    sym (mid ∙ call_elsewhere x.calls w u (option_map off_list (find_call x.calls w)) other) ∙ here,
+    refl,
+  )
 ]
   where
     off : List (Option OpenCall)
@@ -189,47 +210,64 @@ taken_others t w x y z u c ne here = elim (cases_eq u w) [
     call_there : find_call off w ≡ option_map off_list (find_call x.calls w)
     call_there = elim (cases_lt w (length x.calls)) [
       | inl low ↦ call_here x.calls w (option_map off_list (find_call x.calls w)) low
-      | inr high ↦ beyond (slice_get_past x.calls w high) (slice_get_past off w (subst (λ m. m ≤ w) (sym (length-set x.calls w (option_map off_list (find_call x.calls w)))) high))
+      | inr high ↦ beyond (slice_get_past x.calls w high)
+          (slice_get_past off w
+          (subst (λ m. m ≤ w) (sym (length-set x.calls w (option_map off_list (find_call x.calls w)))) high))
     ]
       where
-        beyond : slice_get x.calls w ≡ None → slice_get off w ≡ None → find_call off w ≡ option_map off_list (find_call x.calls w)
-        beyond a b = ap (option_and_then (λ (o : Option OpenCall). o)) b ∙ sym (ap (λ o. option_map off_list (option_and_then (λ (p : Option OpenCall). p) o)) a)
+        beyond : slice_get x.calls w ≡ None → slice_get off w ≡ None → find_call off w ≡ option_map off_list
+            (find_call x.calls w)
+        beyond a b = ap (option_and_then (λ (o : Option OpenCall). o)) b
+            ∙ sym (ap (λ o. option_map off_list (option_and_then (λ (p : Option OpenCall). p) o)) a)
 
 same_var : (t : ℕ) (x y : Var) → y ≡ x → Others t x y
 same_var t x y e u c ne here = (c, sym (ap (λ (a : Var). var.call_at a u) e) ∙ here, refl)
 
 are_taken_others : (t n : ℕ) (x y : Var) → AreTaken t n x y → Others t x y
 are_taken_others t zero x y e = same_var t x y e
-are_taken_others t (suc n) x y (z, before, w, last) = others_both t x z y (are_taken_others t n x z before) (taken_others t w z y last)
+are_taken_others t (suc n) x y (z, before, w, last) = others_both t x z y (are_taken_others t n x z before)
+    (taken_others t w z y last)
 
 pub notified_others : (t : ℕ) (locked : Bool) (n : ℕ) (x y : Var) → Notifies t locked n x y → Others t x y
 notified_others t locked n x y z =
-    others_both t x z.taken y (others_both t x z.marked z.taken (told_others t _ x z.marked z.looks) (are_taken_others t n z.marked z.taken z.takes)) (told_others t _ z.taken y z.tells)
+    others_both t x z.taken y
+    (others_both t x z.marked z.taken (told_others t _ x z.marked z.looks)
+    (are_taken_others t n z.marked z.taken z.takes)) (told_others t _ z.taken y z.tells)
 
 -- IN THE MACHINE
 
 abbrev pub OthersAt : ℕ → Joint → Joint → Type 0
-OthersAt t i j = (v u : ℕ) (c : OpenCall) → u ≢ t → call_at j v u ≡ Some c → (d : OpenCall) × (call_at i v u ≡ Some d) × (d.core ≡ c.core)
+OthersAt t i j = (v u : ℕ) (c : OpenCall) → u ≢ t → call_at j v u ≡ Some c → (d : OpenCall) × (call_at i v u ≡ Some d)
+    × (d.core ≡ c.core)
 
 pub same_others : (t : ℕ) (i j : Joint) → j.vars ≡ i.vars → OthersAt t i j
 same_others t i j e v u c ne here = (c, sym (ap (λ (vs : List (Option Var)). call_in (var_in vs v) u) e) ∙ here, refl)
 
-pub var_elsewhere : (vars ws : List (Option Var)) (v u : ℕ) (y : Option Var) → ws ≡ slice_set vars v y → u ≢ v → var_in ws u ≡ var_in vars u
+pub var_elsewhere : (vars ws : List (Option Var)) (v u : ℕ) (y : Option Var) → ws ≡ slice_set vars v y → u ≢ v
+    → var_in ws u ≡ var_in vars u
 var_elsewhere vars ws v u y e ne = ap (λ (vs : List (Option Var)). var_in vs u) e ∙ call_elsewhere vars v u y ne
 
-pub var_others : (t w : ℕ) (i j : Joint) (x y : Var) → var_at i w ≡ Some x → j.vars ≡ slice_set i.vars w (Some y) → Others t x y → OthersAt t i j
+pub var_others : (t w : ℕ) (i j : Joint) (x y : Var) → var_at i w ≡ Some x → j.vars ≡ slice_set i.vars w (Some y)
+    → Others t x y → OthersAt t i j
 var_others t w i j x y at e others v u c ne here = elim (cases_eq v w) [
   | inl same ↦
-      let there = sym (ap (λ (o : Option Var). call_in o u) (ap (var_at j) same ∙ var_here i.vars j.vars w x y at e)) ∙ here in
+      let there = sym (ap (λ (o : Option Var). call_in o u) (ap (var_at j) same ∙ var_here i.vars j.vars w x y at e))
+      ∙ here in
       let (d, was, core) = others u c ne there in
       (d, ap (λ (o : Option Var). call_in o u) (ap (var_at i) same ∙ at) ∙ was, core)
-  | inr other ↦ (c, sym (ap (λ (o : Option Var). call_in o u) (var_elsewhere i.vars j.vars w v (Some y) e other)) ∙ here, refl)
+  | inr other ↦ (
+    c,
+    sym (ap (λ (o : Option Var). call_in o u) (var_elsewhere i.vars j.vars w v (Some y) e other))
+        ∙ here,
+    refl,
+  )
 ]
 
 pub acted_others : (t v : ℕ) (reply : Option CondvarReply) (i j : Joint) → ActsAt t v reply i j → OthersAt t i j
 acted_others t v reply i j (z, acts, e) = go (var_at i v) refl z acts e
   where
-    go : (o : Option Var) → var_at i v ≡ o → (y : Option Var) → ActsIn t reply o y → j.vars ≡ slice_set i.vars v y → OthersAt t i j
+    go : (o : Option Var) → var_at i v ≡ o → (y : Option Var) → ActsIn t reply o y → j.vars ≡ slice_set i.vars v y
+        → OthersAt t i j
     go None at y acts e = absurd acts
     go (Some x) at None acts e = absurd acts
     go (Some x) at (Some y) acts e = var_others t v i j x y at e (stepped_others t reply x y acts)
@@ -237,7 +275,8 @@ acted_others t v reply i j (z, acts, e) = go (var_at i v) refl z acts e
 pub heard_others : (t v : ℕ) (seen : Outside) (i j : Joint) → HearsAt t v seen i j → OthersAt t i j
 heard_others t v seen i j (z, hears, e) = go (var_at i v) refl z hears e
   where
-    go : (o : Option Var) → var_at i v ≡ o → (y : Option Var) → HearsIn t seen o y → j.vars ≡ slice_set i.vars v y → OthersAt t i j
+    go : (o : Option Var) → var_at i v ≡ o → (y : Option Var) → HearsIn t seen o y → j.vars ≡ slice_set i.vars v y
+        → OthersAt t i j
     go None at y hears e = absurd hears
     go (Some x) at None hears e = absurd hears
     go (Some x) at (Some y) hears e = var_others t v i j x y at e (told_others t seen x y hears)

@@ -1,5 +1,7 @@
 -- What a step at the locks does to the sort of each number's call: one that gives a mutex up, or asks for it.
-use Rattle.std.proofs.Common.{◌≡◌, ℕ, zero, suc, ◌==◌, Bool, true, false, not, cond, nat_lt, List, [], ◌∷◌, length, map, Option, Some, None, option_map, slice_get, slice_set, refl, sym, ap, ◌∙◌, subst, eq-eqb, eqb-true}
+use Rattle.std.proofs.Common.{◌≡◌, ℕ, zero, suc, ◌==◌, Bool, true, false, not, cond, nat_lt, List, [], ◌∷◌, length, map}
+use Rattle.std.proofs.Common.{Option, Some, None, option_map, slice_get, slice_set, refl, sym, ap, ◌∙◌, subst, eq-eqb}
+use Rattle.std.proofs.Common.{eqb-true}
 use Rattle.std.specs.Option.{option_and_then}
 use Rattle.std.proofs.lemmas.List.{length-map, length-set}
 use Rattle.std.proofs.lemmas.Option.{none-some}
@@ -19,7 +21,8 @@ use Rattle.parking_lot_machine_calls.specs.declared.seat.LatePhase.{LatePhase}
 use Rattle.parking_lot_machine_calls.specs.declared.seat.WakeResult.{WakeResult}
 use Rattle.parking_lot_machine.specs.Machines.{sleeps}
 use Rattle.parking_lot_machine_calls.specs.CallActs.{off_list, settled}
-use Rattle.parking_lot_machine_calls.specs.Stances.{Asleep, core_act, core_next, late_act, late_next, late_stance, mutex_stance, stance}
+use Rattle.parking_lot_machine_calls.specs.Stances.{Asleep, core_act, core_next, late_act, late_next, late_stance}
+use Rattle.parking_lot_machine_calls.specs.Stances.{mutex_stance, stance}
 use Rattle.parking_lot_machine_waits.specs.Whole.{asks, asks_on, gives, phase_asks, phase_gives}
 use Rattle.parking_lot_rules.proofs.Slots.{set_elsewhere, set_here}
 
@@ -27,10 +30,13 @@ use Rattle.parking_lot_rules.proofs.Slots.{set_elsewhere, set_here}
 
 seeks_on : (a : Asking) (word : ℕ) → phase_asks (seeks a word) ≡ true
 seeks_on a word =
-    either phase_asks (word == 0) _ _ _ refl (either phase_asks (word == 2) _ _ _ refl (either phase_asks (word == 1) _ _ _ (either phase_asks (nat_lt 0 a.rounds) _ _ _ refl refl) refl))
+    either phase_asks (word == 0) _ _ _ refl
+    (either phase_asks (word == 2) _ _ _ refl
+    (either phase_asks (word == 1) _ _ _ (either phase_asks (nat_lt 0 a.rounds) _ _ _ refl refl) refl))
 
 -- One that asks goes on asking, whatever its act gives.
-asking : (p : MutexPhase) (x : ℕ) (s : ActResult) → Gives (act_of p) x s → phase_asks p ≡ true → phase_asks (next_phase p s) ≡ true
+asking : (p : MutexPhase) (x : ℕ) (s : ActResult) → Gives (act_of p) x s → phase_asks p ≡ true
+    → phase_asks (next_phase p s) ≡ true
 asking (MutexPhase.Loads a) x (ActResult.Word word) g e = seeks_on a word
 asking (MutexPhase.Locks a waiters) x ActResult.Exchanged g e = refl
 asking (MutexPhase.Locks a waiters) x (ActResult.Word word) g e = seeks_on a word
@@ -57,16 +63,19 @@ asking (MutexPhase.Wakes a) x s g e = absurd cc
 asking (MutexPhase.Finishes a) x s g e = absurd cc
 asking p x s g e = absurd g
 
-releases : (again : Bool) → not again ≡ true → phase_gives (cond again MutexPhase.Relocks (MutexPhase.Ends CoreAnswer.Released)) ≡ true
+releases : (again : Bool) → not again ≡ true
+    → phase_gives (cond again MutexPhase.Relocks (MutexPhase.Ends CoreAnswer.Released)) ≡ true
 releases true e = absurd cc
 releases false e = refl
 
-no_more : {X : Type 0} (again : Bool) (x : ℕ) (s : ActResult) → Gives (cond again Act.Load (Act.Done CoreAnswer.Released)) x s → not again ≡ true → X
+no_more : {X : Type 0} (again : Bool) (x : ℕ) (s : ActResult)
+    → Gives (cond again Act.Load (Act.Done CoreAnswer.Released)) x s → not again ≡ true → X
 no_more true x s g e = absurd cc
 no_more false x s g e = absurd g
 
 -- One that gives up goes on giving up.
-giving : (p : MutexPhase) (x : ℕ) (s : ActResult) → Gives (act_of p) x s → phase_gives p ≡ true → phase_gives (next_phase p s) ≡ true
+giving : (p : MutexPhase) (x : ℕ) (s : ActResult) → Gives (act_of p) x s → phase_gives p ≡ true
+    → phase_gives (next_phase p s) ≡ true
 giving (MutexPhase.Unlocks a) x ActResult.Exchanged g e = releases a.again e
 giving (MutexPhase.Unlocks a) x (ActResult.Word word) g e = e
 giving (MutexPhase.Looks a) x ActResult.Entered g e = e
@@ -111,7 +120,8 @@ no_sort c d p q r = record { gives = λ e. absurd cc; asks = λ e. absurd cc; as
 pub late_still : (p : LatePhase) (d : Core) → asks d ≡ true → Still (Core.Late p) d
 late_still p d e = record { gives = λ f. absurd cc; asks = λ f. e; asks_on = λ f. absurd cc }
 
-late_goes : (p : LatePhase) (x : ℕ) (s : ActResult) → sleeps (late_act p) ≡ false → Gives (late_act p) x s → asks (late_next p s) ≡ true
+late_goes : (p : LatePhase) (x : ℕ) (s : ActResult) → sleeps (late_act p) ≡ false → Gives (late_act p) x s
+    → asks (late_next p s) ≡ true
 late_goes LatePhase.Masks x (ActResult.Before word) awake g = refl
 late_goes LatePhase.Leaves x ActResult.Made awake g = refl
 late_goes (LatePhase.WasTaken by true) x ActResult.Made awake g = refl
@@ -121,30 +131,40 @@ late_goes LatePhase.Quits x s awake g = absurd cc
 late_goes p x s awake g = absurd g
 
 -- one that was told what its act gives
-pub heard : (c : Core) (x : ℕ) (s : ActResult) → sleeps (core_act c) ≡ false → Gives (core_act c) x s → Still c (core_next c s)
-heard (Core.Mutex k) x s awake g = record { gives = giving k.phase x s g; asks = asking k.phase x s g; asks_on = asking k.phase x s g }
+pub heard : (c : Core) (x : ℕ) (s : ActResult) → sleeps (core_act c) ≡ false → Gives (core_act c) x s
+    → Still c (core_next c s)
+heard (Core.Mutex k) x s awake g =
+    record { gives = giving k.phase x s g; asks = asking k.phase x s g; asks_on = asking k.phase x s g }
 heard (Core.Late p) x s awake g = late_still p _ (late_goes p x s awake g)
 heard (Core.Rw k) x s awake g = no_sort _ _ refl refl refl
 heard (Core.LateRw p) x s awake g = no_sort _ _ refl refl refl
 heard (Core.Upgrade k) x s awake g = no_sort _ _ refl refl refl
 
 -- one that is woken
-mutex_wakes : (p : MutexPhase) (key : ℕ) (token : ParkToken) (said : UnparkToken) → mutex_stance p ≡ Asleep key token → phase_asks (next_phase p (ActResult.Woken said)) ≡ true
+mutex_wakes : (p : MutexPhase) (key : ℕ) (token : ParkToken) (said : UnparkToken) → mutex_stance p ≡ Asleep key token
+    → phase_asks (next_phase p (ActResult.Woken said)) ≡ true
 mutex_wakes MutexPhase.Sleeps key token said e = either phase_asks (said.0 == 1) _ _ _ refl refl
 mutex_wakes p key token said e = absurd cc
 
-asleep_keeps : (p : MutexPhase) (key : ℕ) (token : ParkToken) → mutex_stance p ≡ Asleep key token → phase_gives p ≡ false
+asleep_keeps : (p : MutexPhase) (key : ℕ) (token : ParkToken) → mutex_stance p ≡ Asleep key token
+    → phase_gives p ≡ false
 asleep_keeps MutexPhase.Sleeps key token e = refl
 asleep_keeps p key token e = absurd cc
 
-late_wakes : (p : LatePhase) (key : ℕ) (token : ParkToken) (said : UnparkToken) → late_stance p ≡ Asleep key token → asks (late_next p (ActResult.Woken said)) ≡ true
+late_wakes : (p : LatePhase) (key : ℕ) (token : ParkToken) (said : UnparkToken) → late_stance p ≡ Asleep key token
+    → asks (late_next p (ActResult.Woken said)) ≡ true
 late_wakes LatePhase.Expires key token said e = either phase_asks (said.0 == 1) _ _ _ refl refl
 late_wakes p key token said e = absurd cc
 
-pub woken : (c : Core) (key : ℕ) (token : ParkToken) (said : UnparkToken) → stance c ≡ Asleep key token → Still c (core_next c (ActResult.Woken said))
+pub woken : (c : Core) (key : ℕ) (token : ParkToken) (said : UnparkToken) → stance c ≡ Asleep key token
+    → Still c (core_next c (ActResult.Woken said))
 woken (Core.Mutex k) key token said e =
     let none = asleep_keeps k.phase key token e in
-    record { gives = λ f. absurd cc; asks = λ f. mutex_wakes k.phase key token said e; asks_on = λ f. mutex_wakes k.phase key token said e }
+    record {
+      gives = λ f. absurd cc;
+      asks = λ f. mutex_wakes k.phase key token said e;
+      asks_on = λ f. mutex_wakes k.phase key token said e;
+    }
 woken (Core.Late p) key token said e = late_still p _ (late_wakes p key token said e)
 woken (Core.Rw k) key token said e = no_sort _ _ refl refl refl
 woken (Core.LateRw p) key token said e = no_sort _ _ refl refl refl
@@ -187,31 +207,43 @@ still_there None p c e x = absurd (none-some c e)
 still_there (Some b) p c e x = (x.call, x.here)
 
 -- one call is written, over others that go on
-pub one_goes : (cs ds : List (Option Call)) (t : ℕ) (c : Call) (o : Option Call) → call_of cs t ≡ Some c → AllGo cs ds → GoesOn c o → AllGo cs (slice_set ds t o)
+pub one_goes : (cs ds : List (Option Call)) (t : ℕ) (c : Call) (o : Option Call) → call_of cs t ≡ Some c → AllGo cs ds
+    → GoesOn c o → AllGo cs (slice_set ds t o)
 one_goes cs ds t c o was all goes = record { count = length-set ds t o ∙ all.count; each = λ k. at k (k == t) refl }
   where
     mine : GoesOn c (call_of (slice_set ds t o) t)
-    mine = let there = still_there (call_of cs t) (call_of ds t) c was (all.each t) in subst (λ (p : Option Call). GoesOn c p) (sym (set_here ds t there.0 o there.1)) goes
+    mine = let there = still_there (call_of cs t) (call_of ds t) c was (all.each t) in
+        subst (λ (p : Option Call). GoesOn c p) (sym (set_here ds t there.0 o there.1)) goes
 
     at : (k : ℕ) (b : Bool) → (k == t) ≡ b → Onward (call_of cs k) (call_of (slice_set ds t o) k)
-    at k true e = subst (λ (n : ℕ). Onward (call_of cs n) (call_of (slice_set ds t o) n)) (sym (eqb-true k t e)) (subst (λ (p : Option Call). Onward p (call_of (slice_set ds t o) t)) (sym was) mine)
-    at k false e = subst (λ (p : Option Call). Onward (call_of cs k) p) (sym (set_elsewhere ds t k o (λ f. both_ways (eq-eqb k t f) e))) (all.each k)
+    at k true e = subst (λ (n : ℕ). Onward (call_of cs n) (call_of (slice_set ds t o) n)) (sym (eqb-true k t e))
+        (subst (λ (p : Option Call). Onward p (call_of (slice_set ds t o) t)) (sym was) mine)
+    at k false e = subst (λ (p : Option Call). Onward (call_of cs k) p)
+        (sym (set_elsewhere ds t k o (λ f. both_ways (eq-eqb k t f) e))) (all.each k)
 
 -- all are told something that says nothing of their sorts
-pub all_told : (t : ℕ) (said : WakeResult) (cs ds : List (Option Call)) → AllGo cs ds → AllGo cs (map (option_map (settled t said)) ds)
+pub all_told : (t : ℕ) (said : WakeResult) (cs ds : List (Option Call)) → AllGo cs ds
+    → AllGo cs (map (option_map (settled t said)) ds)
 all_told t said cs ds all = record {
   count = length-map ds (option_map (settled t said)) ∙ all.count;
-  each = λ k. subst (λ (p : Option Call). Onward (call_of cs k) p) (sym (at ds k)) (on (call_of cs k) (call_of ds k) (all.each k));
+  each = λ k. subst (λ (p : Option Call). Onward (call_of cs k) p) (sym (at ds k))
+      (on (call_of cs k) (call_of ds k) (all.each k));
 }
   where
-    at : (ds : List (Option Call)) (k : ℕ) → call_of (map (option_map (settled t said)) ds) k ≡ option_map (settled t said) (call_of ds k)
+    at : (ds : List (Option Call)) (k : ℕ) → call_of (map (option_map (settled t said)) ds) k ≡ option_map
+        (settled t said) (call_of ds k)
     at [] k = refl
     at (d ∷ ds) zero = refl
     at (d ∷ ds) (suc k) = at ds k
 
     on : (o p : Option Call) → Onward o p → Onward o (option_map (settled t said) p)
     on None p e = ap (option_map (settled t said)) e
-    on (Some c) p x = record { call = settled t said x.call; here = ap (option_map (settled t said)) x.here; lock = x.lock; still = x.still }
+    on (Some c) p x = record {
+      call = settled t said x.call;
+      here = ap (option_map (settled t said)) x.here;
+      lock = x.lock;
+      still = x.still;
+    }
 
 -- and one is off its list
 pub one_off : (t v : ℕ) (cs : List (Option Call)) → AllGo cs (slice_set cs v (option_map (off_list t) (call_of cs v)))
@@ -221,7 +253,8 @@ one_off t v cs = record { count = length-set cs v _; each = λ k. at cs v k }
     off None = refl
     off (Some d) = record { call = off_list t d; here = refl; lock = refl; still = still_same d.core }
 
-    at : (cs : List (Option Call)) (v k : ℕ) → Onward (call_of cs k) (call_of (slice_set cs v (option_map (off_list t) (call_of cs v))) k)
+    at : (cs : List (Option Call)) (v k : ℕ)
+        → Onward (call_of cs k) (call_of (slice_set cs v (option_map (off_list t) (call_of cs v))) k)
     at [] v k = refl
     at (c ∷ cs) zero zero = off c
     at (c ∷ cs) zero (suc k) = stays (call_of cs k)

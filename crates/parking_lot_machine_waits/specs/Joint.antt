@@ -1,5 +1,6 @@
 -- What a machine of locks and condition variables consists of, and which steps it makes.
-use Rattle.std.specs.Prelude.{ℕ, ◌+◌, ◌-◌, ◌&&◌, ◌||◌, not, nat_lt, Bool, true, false, if◌then◌else◌, List, [], length, Option, Some, None, is_some, is_none, slice_get}
+use Rattle.std.specs.Prelude.{ℕ, ◌+◌, ◌-◌, ◌&&◌, ◌||◌, not, nat_lt, Bool, true, false, if◌then◌else◌, List, [], length}
+use Rattle.std.specs.Prelude.{Option, Some, None, is_some, is_none, slice_get}
 use Rattle.std.specs.List.{list_any}
 use Rattle.std.specs.Option.{option_and_then, option_map_or, option_or, unwrap_or}
 use Rattle.parking_lot_protocol.specs.declared.act.Act.{Act}
@@ -160,7 +161,8 @@ word_at j lock = word_of (var_at j lock) (row.word_at (state j.rows) lock)
 -- how a thread owns a lock, by one of its numbers
 abbrev pub mode_at : Joint → ℕ → ℕ → Option OwnMode
 mode_at j t lock =
-    (if nat_lt t (length j.seats) then option_or (mode_in (row.lock_at (state j.rows) lock) t) (mode_in (row.lock_at (state j.rows) lock) (number j t true)) else None)
+    (if nat_lt t (length j.seats) then option_or (mode_in (row.lock_at (state j.rows) lock) t)
+    (mode_in (row.lock_at (state j.rows) lock) (number j t true)) else None)
 
 -- the thread of a number
 abbrev pub thread_of : Joint → ℕ → ℕ

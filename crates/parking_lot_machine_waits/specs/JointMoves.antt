@@ -1,5 +1,6 @@
 -- Which calls a thread may begin, and which steps it may make.
-use Rattle.std.specs.Prelude.{ℕ, ◌&&◌, ◌||◌, not, nat_lt, Bool, true, false, length, Option, Some, None, is_none, slice_get}
+use Rattle.std.specs.Prelude.{ℕ, ◌&&◌, ◌||◌, not, nat_lt, Bool, true, false, length, Option, Some, None, is_none}
+use Rattle.std.specs.Prelude.{slice_get}
 use Rattle.parking_lot_machine_sides.specs.declared.condvar.calls.CondvarCall.{CondvarCall}
 use Rattle.parking_lot_machine_sides.specs.declared.condvar.outside.Outside.TheVariants as outside
 use Rattle.parking_lot_machine_sides.specs.declared.condvar.open_call.OpenCall.{OpenCall}
@@ -13,16 +14,19 @@ use Rattle.parking_lot_machine.specs.Machines as rows
 use Rattle.parking_lot_machine.specs.Rows.{state}
 use Rattle.parking_lot_machine_waits.specs.declared.turn.Turn.{Turn}
 use Rattle.parking_lot_machine_waits.specs.declared.turn.Turn.TheVariants as turn
-use Rattle.parking_lot_machine_waits.specs.Joint.{Joint, asking_number, back_number, busy_number, call_at, front_number, is_idle, is_var, row_goes, seat_at, var_at, var_goes, var_hears}
+use Rattle.parking_lot_machine_waits.specs.Joint.{Joint, asking_number, back_number, busy_number, call_at, front_number}
+use Rattle.parking_lot_machine_waits.specs.Joint.{is_idle, is_var, row_goes, seat_at, var_at, var_goes, var_hears}
 use Rattle.parking_lot_machine_waits.specs.Turns.{is_wait, mutex_of, turn_of}
 
 -- whether a thread is in no call
 abbrev pub is_free : Joint → ℕ → Bool
 is_free j t = is_none (seat_at j t).at && is_idle j t
 
--- A thread may begin a call at a lock: it is in none, the lock is no variable, and by the number that has it, or by its first, it may ask so.
+-- A thread may begin a call at a lock: it is in none, the lock is no variable, and by the number that has it, or by its
+-- first, it may ask so.
 abbrev pub may_ask : Joint → ℕ → ℕ → LockCall → Bool
-may_ask j t lock c = nat_lt t (length j.seats) && (is_free j t && (not (is_var j lock) && rows.may_begin (state j.rows) (asking_number j t lock) lock c))
+may_ask j t lock c = nat_lt t (length j.seats)
+    && (is_free j t && (not (is_var j lock) && rows.may_begin (state j.rows) (asking_number j t lock) lock c))
 
 abbrev pub is_mutex : Option LockKind → Bool
 is_mutex (Some kind.Mutex) = true
@@ -31,7 +35,8 @@ is_mutex o = false
 -- the lock is a mutex that the thread owns by one of its numbers
 abbrev pub has_mutex : Joint → ℕ → ℕ → Bool
 has_mutex j t lock =
-    is_mutex (slice_get (state j.rows).kinds lock) && (not (is_var j lock) && rows.may_begin (state j.rows) (asking_number j t lock) lock call.Unlock)
+    is_mutex (slice_get (state j.rows).kinds lock)
+    && (not (is_var j lock) && rows.may_begin (state j.rows) (asking_number j t lock) lock call.Unlock)
 
 -- it may begin that call at that variable
 abbrev pub may_call : Option Var → ℕ → CondvarCall → Bool
@@ -40,7 +45,8 @@ may_call (Some x) t c = var.may_begin x t c
 
 -- A thread may begin a call at a variable: it is in none, and a wait is with a mutex that it owns.
 abbrev pub may_call_at : Joint → ℕ → ℕ → CondvarCall → Bool
-may_call_at j t v c = nat_lt t (length j.seats) && (is_free j t && (may_call (var_at j v) t c && (not (is_wait c) || has_mutex j t (mutex_of c))))
+may_call_at j t v c = nat_lt t (length j.seats)
+    && (is_free j t && (may_call (var_at j v) t c && (not (is_wait c) || has_mutex j t (mutex_of c))))
 
 -- STEPS
 

@@ -35,24 +35,33 @@ pub record IsKeptOut (j : Joint) (t : ℕ) : Type 0 where
   pub asleep : is_asleep (state j.rows) (number j t second) ≡ true
   pub kept : SomebodyKeeps (state j.rows) call.lock
 
--- Whoever gives its mutex up is in no section by its other number: that one is in no call, or was moved to the mutex's list, where it sleeps or was woken.
+-- Whoever gives its mutex up is in no section by its other number: that one is in no call, or was moved to the mutex's
+-- list, where it sleeps or was woken.
 abbrev pub GiversAreOut : Joint → Type 0
-GiversAreOut j = (v t m : ℕ) (c : OpenCall) → call_at j v t ≡ Some c → c.core ≡ core.Wait (record { phase = w.Unlocks m }) → inside (state j.rows) ≢ Some (back_number j t)
+GiversAreOut j = (v t m : ℕ) (c : OpenCall) → call_at j v t ≡ Some c
+    → c.core ≡ core.Wait (record { phase = w.Unlocks m }) → inside (state j.rows) ≢ Some (back_number j t)
 
--- Where a thread is in a call, some thread can move; or that thread itself waits in a list for a notification, its deadline, or an owner.
+-- Where a thread is in a call, some thread can move; or that thread itself waits in a list for a notification, its
+-- deadline, or an owner.
 abbrev pub SomebodyCanMove : Type 0
 SomebodyCanMove =
     (j : Joint) (t : ℕ) → IsWhole j → PartsFit j → GiversAreOut j → t < length j.seats → is_free j t ≡ false
     → ((u : ℕ) × (may_go j u ≡ true)) ⊎ (IsListed j t ⊎ IsKeptOut j t)
 
--- So it is where nobody is in a call at a variable; and a beginning, a step or a deadline that is allowed keeps it, where waits and mutexes are tied together.
+-- So it is where nobody is in a call at a variable; and a beginning, a step or a deadline that is allowed keeps it,
+-- where waits and mutexes are tied together.
 pub record GiversStayOut : Type 0 where
   pub starts : (j : Joint) → ((v t : ℕ) → call_at j v t ≡ None) → GiversAreOut j
-  pub asks : (t lock : ℕ) (c : LockCall) (i j : Joint) → IsWhole i → PartsFit i → GiversAreOut i → may_ask i t lock c ≡ true → IsAsked t lock c i j → GiversAreOut j
-  pub calls : (t v : ℕ) (c : CondvarCall) (i j : Joint) → IsWhole i → PartsFit i → GiversAreOut i → may_call_at i t v c ≡ true → IsCalled t v c i j → GiversAreOut j
-  pub steps : (t : ℕ) (fair : Bool) (end : Option Ended) (i j : Joint) → IsWhole i → PartsFit i → GiversAreOut i → may_go i t ≡ true → IsGone t fair end i j → GiversAreOut j
-  pub deadlines : (t : ℕ) (i j : Joint) → IsWhole i → PartsFit i → GiversAreOut i → may_expire i t ≡ true → IsLate t i j → GiversAreOut j
+  pub asks : (t lock : ℕ) (c : LockCall) (i j : Joint) → IsWhole i → PartsFit i → GiversAreOut i
+      → may_ask i t lock c ≡ true → IsAsked t lock c i j → GiversAreOut j
+  pub calls : (t v : ℕ) (c : CondvarCall) (i j : Joint) → IsWhole i → PartsFit i → GiversAreOut i
+      → may_call_at i t v c ≡ true → IsCalled t v c i j → GiversAreOut j
+  pub steps : (t : ℕ) (fair : Bool) (end : Option Ended) (i j : Joint) → IsWhole i → PartsFit i → GiversAreOut i
+      → may_go i t ≡ true → IsGone t fair end i j → GiversAreOut j
+  pub deadlines : (t : ℕ) (i j : Joint) → IsWhole i → PartsFit i → GiversAreOut i → may_expire i t ≡ true → IsLate t i j
+      → GiversAreOut j
 
 -- Where a section is open, somebody can move who enters none: whoever is inside.
 abbrev pub SomebodyInsideGoes : Type 0
-SomebodyInsideGoes = (j : Joint) → IsWhole j → PartsFit j → GiversAreOut j → is_open j ≡ true → (u : ℕ) × (may_go j u ≡ true) × (enters j u ≡ false)
+SomebodyInsideGoes = (j : Joint) → IsWhole j → PartsFit j → GiversAreOut j → is_open j ≡ true → (u : ℕ)
+    × (may_go j u ≡ true) × (enters j u ≡ false)

@@ -16,7 +16,8 @@ use Rattle.parking_lot_machine.specs.Ranks as row
 use Rattle.parking_lot_machine.specs.Rows.{call_at as row_call_at, state}
 use Rattle.parking_lot_machine.specs.SoundLaws.{most_steps}
 use Rattle.parking_lot_machine_waits.specs.declared.ended.Ended.{Ended}
-use Rattle.parking_lot_machine_waits.specs.Joint.{Joint, back_number, busy_number, call_at, front_number, is_open_at_variables, seat_at}
+use Rattle.parking_lot_machine_waits.specs.Joint.{Joint, back_number, busy_number, call_at, front_number}
+use Rattle.parking_lot_machine_waits.specs.Joint.{is_open_at_variables, seat_at}
 use Rattle.parking_lot_machine_waits.specs.JointLaws.{PartsFit}
 use Rattle.parking_lot_machine_waits.specs.JointMoves.{may_ask, may_call_at, may_expire, may_go}
 use Rattle.parking_lot_machine_waits.specs.JointSteps.{IsAsked, IsCalled, IsGone, IsLate}
@@ -72,25 +73,34 @@ steps_left j t = row.steps_left (state j.rows) (stepping_number j t) + weight * 
 
 -- the number by which a thread is in a call at a lock has a deadline there, which adds so many steps
 abbrev pub IsLateFor : Joint → ℕ → ℕ → Type 0
-IsLateFor i t n = (c : Call) → row_call_at (state i.rows) (busy_number i t) ≡ Some c → row.late_cost (length (state i.rows).calls) c.core ≤ n
+IsLateFor i t n = (c : Call) → row_call_at (state i.rows) (busy_number i t) ≡ Some c
+    → row.late_cost (length (state i.rows).calls) c.core ≤ n
 
--- Each step is paid for by the steps that were left, and with it all that it makes others do. What begins adds a stated number of steps, a deadline at a
--- lock too, and one at a variable none.
+-- Each step is paid for by the steps that were left, and with it all that it makes others do. What begins adds a stated
+-- number of steps, a deadline at a lock too, and one at a variable none.
 pub record StepsArePaidFor : Type 0 where
-  pub steps : (t : ℕ) (fair : Bool) (end : Option Ended) (i j : Joint) → IsWhole i → PartsFit i → IsWhole j → PartsFit j → IsGone t fair end i j → steps_left j t + 1 ≤ steps_left i t
-  pub asks : (t lock : ℕ) (c : LockCall) (i j : Joint) → IsWhole i → PartsFit i → IsWhole j → PartsFit j → may_ask i t lock c ≡ true → IsAsked t lock c i j
+  pub steps : (t : ℕ) (fair : Bool) (end : Option Ended) (i j : Joint) → IsWhole i → PartsFit i → IsWhole j → PartsFit j
+      → IsGone t fair end i j → steps_left j t + 1 ≤ steps_left i t
+  pub asks : (t lock : ℕ) (c : LockCall) (i j : Joint) → IsWhole i → PartsFit i → IsWhole j → PartsFit j
+      → may_ask i t lock c ≡ true → IsAsked t lock c i j
       → steps_left j t ≤ steps_left i t + row.cost (2 * length i.seats) c
-  pub calls : (t v : ℕ) (c : CondvarCall) (i j : Joint) → IsWhole i → PartsFit i → may_call_at i t v c ≡ true → IsCalled t v c i j
+  pub calls : (t v : ℕ) (c : CondvarCall) (i j : Joint) → IsWhole i → PartsFit i → may_call_at i t v c ≡ true
+      → IsCalled t v c i j
       → steps_left j t ≤ steps_left i t + weight * vars.cost (length i.seats) c
-  pub deadlines : (t n : ℕ) (i j : Joint) → IsWhole i → PartsFit i → IsWhole j → PartsFit j → (seat_at i t).at ≡ None → IsLateFor i t n → IsLate t i j
+  pub deadlines : (t n : ℕ) (i j : Joint) → IsWhole i → PartsFit i → IsWhole j → PartsFit j → (seat_at i t).at ≡ None
+      → IsLateFor i t n → IsLate t i j
       → steps_left j t ≤ steps_left i t + n
-  pub deadlines_at_variables : (t v : ℕ) (i j : Joint) → IsWhole i → PartsFit i → (seat_at i t).at ≡ Some v → may_expire i t ≡ true → IsLate t i j → steps_left j t ≤ steps_left i t
+  pub deadlines_at_variables : (t v : ℕ) (i j : Joint) → IsWhole i → PartsFit i → (seat_at i t).at ≡ Some v
+      → may_expire i t ≡ true → IsLate t i j → steps_left j t ≤ steps_left i t
   -- where its number can't move at the locks, as where it is in no call there, any other may be stepped from there on
-  pub stops : (t u : ℕ) (j : Joint) → PartsFit j → rows.can_move (state j.rows) (stepping_number j t) ≡ false → steps_left j u ≤ steps_left j t
+  pub stops : (t u : ℕ) (j : Joint) → PartsFit j → rows.can_move (state j.rows) (stepping_number j t) ≡ false
+      → steps_left j u ≤ steps_left j t
   -- where the thread can't move, and no section of a variable shuts it out, any other may be stepped from there on
-  pub others : (t u : ℕ) (j : Joint) → IsWhole j → PartsFit j → t < length j.seats → may_go j t ≡ false → is_open_at_variables j ≡ false → steps_left j u ≤ steps_left j t
+  pub others : (t u : ℕ) (j : Joint) → IsWhole j → PartsFit j → t < length j.seats → may_go j t ≡ false
+      → is_open_at_variables j ≡ false → steps_left j u ≤ steps_left j t
 
--- At every moment: of n threads, so many at a lock for each of their two numbers, and of each a call at one variable at most.
+-- At every moment: of n threads, so many at a lock for each of their two numbers, and of each a call at one variable at
+-- most.
 abbrev pub most_left : ℕ → ℕ
 most_left n = 2 * n * most_steps (2 * n) + weight * (n * (n + 13))
 

@@ -1,5 +1,7 @@
--- What a machine of locks and condition variables is to another one beside it: who is in a call, whose next step enters a section, and whether one is open.
-use Rattle.std.specs.Prelude.{ℕ, ◌*◌, ◌/◌, ◌==◌, ◌&&◌, ◌||◌, not, nat_lt, if◌then◌else◌, Bool, true, false, List, [], length, map, Option, Some, None}
+-- What a machine of locks and condition variables is to another one beside it: who is in a call, whose next step enters
+-- a section, and whether one is open.
+use Rattle.std.specs.Prelude.{ℕ, ◌*◌, ◌/◌, ◌==◌, ◌&&◌, ◌||◌, not, nat_lt, if◌then◌else◌, Bool, true, false, List, []}
+use Rattle.std.specs.Prelude.{length, map, Option, Some, None}
 use Rattle.std.specs.Option.{option_map_or}
 use Rattle.parking_lot_protocol_waits.specs.declared.notify_core.NotifyPhase.{NotifyPhase}
 use Rattle.parking_lot_protocol_waits.specs.declared.notify_core.NotifyPhase.TheVariants as n
@@ -14,7 +16,9 @@ use Rattle.parking_lot_machine.specs.Rows as lists
 use Rattle.parking_lot_machine.specs.Worlds as of_locks
 use Rattle.parking_lot_machine_waits.specs.declared.turn.Turn.{Turn}
 use Rattle.parking_lot_machine_waits.specs.declared.turn.Turn.TheVariants as turn
-use Rattle.parking_lot_machine_waits.specs.Joint.{Joint, back_number, busy_number, call_at, enters_at_lock, front_number, is_open_at_locks, is_open_at_variables, is_var, number, seat_at, thread_of, var_at, waiters_of}
+use Rattle.parking_lot_machine_waits.specs.Joint.{Joint, back_number, busy_number, call_at, enters_at_lock}
+use Rattle.parking_lot_machine_waits.specs.Joint.{front_number, is_open_at_locks, is_open_at_variables, is_var, number}
+use Rattle.parking_lot_machine_waits.specs.Joint.{seat_at, thread_of, var_at, waiters_of}
 use Rattle.parking_lot_machine_waits.specs.JointMoves.{is_free}
 use Rattle.parking_lot_machine_waits.specs.Turns.{turn_of}
 
@@ -71,11 +75,15 @@ owes_at (Some v) j t = option_map_or (λ c. call_owes c.listed c.core) (call_at 
 -- it owes by one of its numbers at the locks, or at the variable that it is in a call at
 abbrev pub is_indebted : Joint → ℕ → Bool
 is_indebted j t =
-    nat_lt t (length j.seats) && (owes_at (seat_at j t).at j t || (of_locks.is_indebted (state j.rows) (number j t false) || of_locks.is_indebted (state j.rows) (number j t true)))
+    nat_lt t (length j.seats)
+    && (owes_at (seat_at j t).at j t
+    || (of_locks.is_indebted (state j.rows) (number j t false) || of_locks.is_indebted (state j.rows)
+    (number j t true)))
 
 -- WHO WAITS UNDER A KEY
 
 -- that of a variable is the first of its two
 abbrev pub queue_at : Joint → ℕ → List ℕ
 queue_at j key =
-    (if is_var j (key / 2) then (if key == 2 * (key / 2) then waiters_of (var_at j (key / 2)) else []) else map (thread_of j) (lists.queue_at (state j.rows) key))
+    (if is_var j (key / 2) then (if key == 2 * (key / 2) then waiters_of (var_at j (key / 2)) else []) else map
+    (thread_of j) (lists.queue_at (state j.rows) key))

@@ -15,10 +15,12 @@ use Rattle.parking_lot_machine_waits.specs.Whole.{IsWhole}
 
 -- somebody is in a call at that lock, or it is a mutex, or the one that is asked now
 abbrev pub WasThere : Option ℕ → State → ℕ → Type 0
-WasThere asked s lock = ((k : ℕ) × (c : Call) × (row_call_at s k ≡ Some c) × (c.lock ≡ lock)) ⊎ ((manner_of (slice_get s.kinds lock) ≡ Some AsMutex) ⊎ (asked ≡ Some lock))
+WasThere asked s lock = ((k : ℕ) × (c : Call) × (row_call_at s k ≡ Some c) × (c.lock ≡ lock))
+    ⊎ ((manner_of (slice_get s.kinds lock) ≡ Some AsMutex) ⊎ (asked ≡ Some lock))
 
--- A step of thread t, which enters a section or doesn't: the locks and variables are those that they were, calls at locks are where there were some, or at
--- a mutex; nobody else has begun a call; and no section is open that wasn't, where none is entered.
+-- A step of thread t, which enters a section or doesn't: the locks and variables are those that they were, calls at
+-- locks are where there were some, or at a mutex; nobody else has begun a call; and no section is open that wasn't,
+-- where none is entered.
 pub record Leaves (t : ℕ) (enters : Bool) (asked : Option ℕ) (i j : Joint) : Type 0 where
   pub kinds : (state j.rows).kinds ≡ (state i.rows).kinds
   pub threads : length j.seats ≡ length i.seats
@@ -29,7 +31,11 @@ pub record Leaves (t : ℕ) (enters : Bool) (asked : Option ℕ) (i j : Joint) :
 
 -- So is each beginning, step and deadline.
 pub record StepsLeave : Type 0 where
-  pub asks : (t lock : ℕ) (c : LockCall) (i j : Joint) → IsWhole i → PartsFit i → may_ask i t lock c ≡ true → IsAsked t lock c i j → Leaves t false (Some lock) i j
-  pub calls : (t v : ℕ) (c : CondvarCall) (i j : Joint) → IsWhole i → PartsFit i → may_call_at i t v c ≡ true → IsCalled t v c i j → Leaves t false None i j
-  pub steps : (t : ℕ) (fair : Bool) (end : Option Ended) (i j : Joint) → IsWhole i → PartsFit i → may_go i t ≡ true → IsGone t fair end i j → Leaves t (enters i t) None i j
-  pub deadlines : (t : ℕ) (i j : Joint) → IsWhole i → PartsFit i → may_expire i t ≡ true → IsLate t i j → Leaves t false None i j
+  pub asks : (t lock : ℕ) (c : LockCall) (i j : Joint) → IsWhole i → PartsFit i → may_ask i t lock c ≡ true
+      → IsAsked t lock c i j → Leaves t false (Some lock) i j
+  pub calls : (t v : ℕ) (c : CondvarCall) (i j : Joint) → IsWhole i → PartsFit i → may_call_at i t v c ≡ true
+      → IsCalled t v c i j → Leaves t false None i j
+  pub steps : (t : ℕ) (fair : Bool) (end : Option Ended) (i j : Joint) → IsWhole i → PartsFit i → may_go i t ≡ true
+      → IsGone t fair end i j → Leaves t (enters i t) None i j
+  pub deadlines : (t : ℕ) (i j : Joint) → IsWhole i → PartsFit i → may_expire i t ≡ true → IsLate t i j
+      → Leaves t false None i j

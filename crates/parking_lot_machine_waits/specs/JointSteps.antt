@@ -1,5 +1,6 @@
 -- What each step leaves of a machine of locks and condition variables.
-use Rattle.std.specs.Prelude.{◌≡◌, ℕ, ◌%◌, ◌==◌, ◌&&◌, not, Bool, true, false, List, [], length, take, Option, Some, None, slice_set}
+use Rattle.std.specs.Prelude.{◌≡◌, ℕ, ◌%◌, ◌==◌, ◌&&◌, not, Bool, true, false, List, [], length, take, Option, Some}
+use Rattle.std.specs.Prelude.{None, slice_set}
 use Rattle.std.specs.Option.{option_map}
 use Rattle.parking_lot_protocol.specs.declared.act.CoreAnswer.{CoreAnswer}
 use Rattle.parking_lot_protocol.specs.declared.act.CoreAnswer.TheVariants as answer
@@ -23,7 +24,8 @@ use Rattle.parking_lot_machine_waits.specs.declared.ended.Ended.TheVariants as e
 use Rattle.parking_lot_machine_waits.specs.declared.seat.Seat.{Seat}
 use Rattle.parking_lot_machine_waits.specs.declared.turn.Turn.{Turn}
 use Rattle.parking_lot_machine_waits.specs.declared.turn.Turn.TheVariants as turn
-use Rattle.parking_lot_machine_waits.specs.Joint.{Joint, asking_number, back_number, busy_number, call_at, front_number, has_by_second, lock_of, nowhere, seat_at, var_at, var_in}
+use Rattle.parking_lot_machine_waits.specs.Joint.{Joint, asking_number, back_number, busy_number, call_at, front_number}
+use Rattle.parking_lot_machine_waits.specs.Joint.{has_by_second, lock_of, nowhere, seat_at, var_at, var_in}
 use Rattle.parking_lot_machine_waits.specs.Moving.{AreMovedAs, MayMoveAs, NotifiesIn, taken_of}
 use Rattle.parking_lot_machine_waits.specs.Turns.{handed, is_late, is_wait, mutex_of, retried, turn_of, wakes_with}
 
@@ -85,13 +87,14 @@ abbrev pub HearsOf : Option CoreAnswer → ℕ → ℕ → Joint → Joint → T
 HearsOf None t v i j = j.vars ≡ i.vars
 HearsOf (Some a) t v i j = HearsAt t v outside.Made i j
 
--- A waiter that was taken off the list has made a step of its call c at the mutex. The first that it makes awake says that it was woken; where the
--- call ends it owns the mutex, or it has taken itself off the mutex's list and asks again.
+-- A waiter that was taken off the list has made a step of its call c at the mutex. The first that it makes awake says
+-- that it was woken; where the call ends it owns the mutex, or it has taken itself off the mutex's list and asks again.
 abbrev pub FollowsAs : Bool → Option CoreAnswer → ℕ → ℕ → ℕ → OpenCall → Call → Joint → State → Joint → Type 0
 FollowsAs true None t k v c d i mid j = (state j.rows ≡ mid) × (j.vars ≡ i.vars)
 FollowsAs false None t k v c d i mid j = (state j.rows ≡ mid) × HearsAt t v (wakes_with c.core retried) i j
 FollowsAs late (Some answer.Owned) t k v c d i mid j = (state j.rows ≡ mid) × HearsAt t v (wakes_with c.core handed) i j
-FollowsAs late (Some a) t k v c d i mid j = rows.IsBegun k d.lock call.Lock mid (state j.rows) × HearsAt t v (wakes_with c.core retried) i j
+FollowsAs late (Some a) t k v c d i mid j = rows.IsBegun k d.lock call.Lock mid (state j.rows)
+    × HearsAt t v (wakes_with c.core retried) i j
 
 pub record IsFollowing (t v k : ℕ) (fair : Bool) (c : OpenCall) (i j : Joint) : Type 0 where
   pub d : Call
@@ -132,8 +135,10 @@ MayMoveIn (Some x) locked seats lock ws s = MayMoveAs locked seats x lock ws s
 
 -- A notification takes waiters off the variable's list, and moves them, in one step.
 pub record IsMoving (t v : ℕ) (c : OpenCall) (i j : Joint) : Type 0 where
-  pub moves : MovesIn (var_at i v) (is_locked i (lock_of (var_at i v))) i.seats (lock_of (var_at i v)) (takes_now c.call (var_at i v)) (state i.rows) (state j.rows)
-  pub notifies : (y : Option Var) × NotifiesIn t (is_locked i (lock_of (var_at i v))) (length (takes_now c.call (var_at i v))) (var_at i v) y × (j.vars ≡ slice_set i.vars v y)
+  pub moves : MovesIn (var_at i v) (is_locked i (lock_of (var_at i v))) i.seats (lock_of (var_at i v))
+      (takes_now c.call (var_at i v)) (state i.rows) (state j.rows)
+  pub notifies : (y : Option Var) × NotifiesIn t (is_locked i (lock_of (var_at i v)))
+      (length (takes_now c.call (var_at i v))) (var_at i v) y × (j.vars ≡ slice_set i.vars v y)
 
 -- THE STEPS
 
@@ -141,12 +146,17 @@ pub record IsMoving (t v : ℕ) (c : OpenCall) (i j : Joint) : Type 0 where
 abbrev pub Turned : Turn → ℕ → ℕ → Bool → OpenCall → Option CondvarReply → Joint → Joint → Type 0
 Turned turn.Sleeps t v fair c reply i j = ⊥
 Turned turn.Acts t v fair c reply i j = ActsAt t v reply i j × (j.rows ≡ i.rows)
-Turned turn.GivesUp t v fair c reply i j = ActsAt t v reply i j × rows.IsBegun (front_number i t) (mutex_of c.call) call.Unlock (state i.rows) (state j.rows)
-Turned turn.LocksAgain t v fair c reply i j = ActsAt t v reply i j × rows.IsBegun (back_number i t) (mutex_of c.call) call.Lock (state i.rows) (state j.rows)
-Turned turn.Unlocks t v fair c reply i j = (reply ≡ None) × (a : Option CoreAnswer) × rows.IsStepped (front_number i t) fair a (state i.rows) (state j.rows) × HearsOf a t v i j
-Turned turn.Locks t v fair c reply i j = (reply ≡ None) × (a : Option CoreAnswer) × rows.IsStepped (back_number i t) fair a (state i.rows) (state j.rows) × HearsOf a t v i j
+Turned turn.GivesUp t v fair c reply i j = ActsAt t v reply i j × rows.IsBegun (front_number i t) (mutex_of c.call)
+    call.Unlock (state i.rows) (state j.rows)
+Turned turn.LocksAgain t v fair c reply i j = ActsAt t v reply i j × rows.IsBegun (back_number i t) (mutex_of c.call)
+    call.Lock (state i.rows) (state j.rows)
+Turned turn.Unlocks t v fair c reply i j = (reply ≡ None) × (a : Option CoreAnswer)
+    × rows.IsStepped (front_number i t) fair a (state i.rows) (state j.rows) × HearsOf a t v i j
+Turned turn.Locks t v fair c reply i j = (reply ≡ None) × (a : Option CoreAnswer)
+    × rows.IsStepped (back_number i t) fair a (state i.rows) (state j.rows) × HearsOf a t v i j
 Turned turn.Follows t v fair c reply i j = (reply ≡ None) × IsFollowing t v (back_number i t) fair c i j
-Turned turn.ComesBack t v fair c reply i j = (reply ≡ None) × HearsAt t v outside.Made i j × ComesBackIf (rows.may_expire (state i.rows) (back_number i t)) (back_number i t) i j
+Turned turn.ComesBack t v fair c reply i j = (reply ≡ None) × HearsAt t v outside.Made i j
+    × ComesBackIf (rows.may_expire (state i.rows) (back_number i t)) (back_number i t) i j
 Turned turn.Hears t v fair c reply i j = (reply ≡ None) × HearsAt t v outside.Made i j × (j.rows ≡ i.rows)
 Turned turn.Moves t v fair c reply i j = (reply ≡ None) × IsMoving t v c i j
 
@@ -166,14 +176,16 @@ pub record GoesAtVariable (t v : ℕ) (fair : Bool) (reply : Option CondvarReply
 -- The thread has made a step.
 abbrev pub IsGoneAt : Option ℕ → ℕ → Bool → Option Ended → Joint → Joint → Type 0
 IsGoneAt None t fair end i j = (a : Option CoreAnswer) × GoesAtLock t fair a i j × (end ≡ option_map ended.AtLock a)
-IsGoneAt (Some v) t fair end i j = (reply : Option CondvarReply) × GoesAtVariable t v fair reply i j × (end ≡ option_map ended.AtVariable reply)
+IsGoneAt (Some v) t fair end i j = (reply : Option CondvarReply) × GoesAtVariable t v fair reply i j
+    × (end ≡ option_map ended.AtVariable reply)
 
 abbrev pub IsGone : ℕ → Bool → Option Ended → Joint → Joint → Type 0
 IsGone t fair end i j = IsGoneAt (seat_at i t).at t fair end i j
 
 -- Its deadline has come, and nothing else has changed.
 abbrev pub IsLateAt : Option ℕ → ℕ → Joint → Joint → Type 0
-IsLateAt None t i j = rows.IsExpired (busy_number i t) (state i.rows) (state j.rows) × (j.vars ≡ i.vars) × (j.seats ≡ i.seats)
+IsLateAt None t i j = rows.IsExpired (busy_number i t) (state i.rows) (state j.rows) × (j.vars ≡ i.vars)
+    × (j.seats ≡ i.seats)
 IsLateAt (Some v) t i j = HearsAt t v outside.Expired i j × (j.rows ≡ i.rows) × (j.seats ≡ i.seats)
 
 abbrev pub IsLate : ℕ → Joint → Joint → Type 0

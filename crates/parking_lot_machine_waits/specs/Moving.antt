@@ -1,5 +1,6 @@
 -- How a notification takes waiters off the list, and wakes them or moves them to their mutex.
-use Rattle.std.specs.Prelude.{◌≡◌, ℕ, zero, suc, ◌+◌, ◌-◌, ◌<◌, Bool, true, false, if◌then◌else◌, List, [], ◌∷◌, length, map, Option, Some, None, slice_get}
+use Rattle.std.specs.Prelude.{◌≡◌, ℕ, zero, suc, ◌+◌, ◌-◌, ◌<◌, Bool, true, false, if◌then◌else◌, List, [], ◌∷◌, length}
+use Rattle.std.specs.Prelude.{map, Option, Some, None, slice_get}
 use Rattle.std.specs.Option.{option_map_or, unwrap_or}
 use Rattle.parking_lot_machine_sides.specs.declared.condvar.calls.CondvarCall.{CondvarCall}
 use Rattle.parking_lot_machine_sides.specs.declared.condvar.calls.CondvarCall.TheVariants as call
@@ -52,7 +53,8 @@ pub record Notifies (t : ℕ) (locked : Bool) (n : ℕ) (x y : Var) : Type 0 whe
 pub record MayNotify (t : ℕ) (locked : Bool) (n : ℕ) (x : Var) : Type 0 where
   pub looks : can_be_told x t (outside.Marked locked) ≡ true
   pub takes : (y : Var) → vars.IsTold t (outside.Marked locked) x y → MayTake t n y
-  pub tells : (y z : Var) → vars.IsTold t (outside.Marked locked) x y → AreTaken t n y z → can_be_told z t (moved_of locked n) ≡ true
+  pub tells : (y z : Var) → vars.IsTold t (outside.Marked locked) x y → AreTaken t n y z
+      → can_be_told z t (moved_of locked n) ≡ true
 
 abbrev pub NotifiesIn : ℕ → Bool → ℕ → Option Var → Option Var → Type 0
 NotifiesIn t locked n (Some x) (Some y) = Notifies t locked n x y
@@ -82,15 +84,18 @@ AreMoved seats x lock ws s u = AreTakenIn lock (map (entry seats x) ws) s u
 
 abbrev pub MayMove : List Seat → Var → ℕ → List ℕ → State → Type 0
 MayMove seats x lock [] s = Unit {0}
-MayMove seats x lock (w ∷ ws) s = (w < length seats) × MayTakeIn s (back_in seats w) lock × ((u : State) → IsTakenIn (back_in seats w) lock (timed_in x w) s u → MayMove seats x lock ws u)
+MayMove seats x lock (w ∷ ws) s = (w < length seats) × MayTakeIn s (back_in seats w) lock
+    × ((u : State) → IsTakenIn (back_in seats w) lock (timed_in x w) s u → MayMove seats x lock ws u)
 
 -- Where the mutex is locked, all are; else the first is woken, and the others are moved behind it.
 abbrev pub AreMovedAs : Bool → List Seat → Var → ℕ → List ℕ → State → State → Type 0
 AreMovedAs true seats x lock ws s u = AreMoved seats x lock ws s u
 AreMovedAs false seats x lock [] s u = u ≡ s
-AreMovedAs false seats x lock (w ∷ ws) s u = (m : State) × IsRousedIn (back_in seats w) lock false s m × AreMoved seats x lock ws m u
+AreMovedAs false seats x lock (w ∷ ws) s u = (m : State) × IsRousedIn (back_in seats w) lock false s m
+    × AreMoved seats x lock ws m u
 
 abbrev pub MayMoveAs : Bool → List Seat → Var → ℕ → List ℕ → State → Type 0
 MayMoveAs true seats x lock ws s = MayMove seats x lock ws s
 MayMoveAs false seats x lock [] s = Unit {0}
-MayMoveAs false seats x lock (w ∷ ws) s = (w < length seats) × (may_rouse_in s (back_in seats w) lock ≡ true) × ((u : State) → IsRousedIn (back_in seats w) lock false s u → MayMove seats x lock ws u)
+MayMoveAs false seats x lock (w ∷ ws) s = (w < length seats) × (may_rouse_in s (back_in seats w) lock ≡ true)
+    × ((u : State) → IsRousedIn (back_in seats w) lock false s u → MayMove seats x lock ws u)

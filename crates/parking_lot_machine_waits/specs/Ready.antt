@@ -10,7 +10,8 @@ use Rattle.parking_lot_machine.specs.Requeues.{may_rouse_in}
 use Rattle.parking_lot_machine.specs.Rows.{call_at as row_call_at, state}
 use Rattle.parking_lot_machine_waits.specs.declared.turn.Turn.{Turn}
 use Rattle.parking_lot_machine_waits.specs.declared.turn.Turn.TheVariants as turn
-use Rattle.parking_lot_machine_waits.specs.Joint.{Joint, back_number, call_at, front_number, lock_of, seat_at, var_at, waiters_of}
+use Rattle.parking_lot_machine_waits.specs.Joint.{Joint, back_number, call_at, front_number, lock_of, seat_at, var_at}
+use Rattle.parking_lot_machine_waits.specs.Joint.{waiters_of}
 use Rattle.parking_lot_machine_waits.specs.Moving.{back_in}
 use Rattle.parking_lot_machine_waits.specs.Turns.{is_at_mutex, mutex_of, turn_of}
 
@@ -25,7 +26,8 @@ may_move_all j o = is_some o && list_all (may_move j (lock_of o)) (waiters_of o)
 abbrev pub is_there : Joint → ℕ → Bool
 is_there j k = option_map_or (λ c. is_at_mutex c.core) (row_call_at (state j.rows) k) false
 
--- A wait that leaves the variable's section owns its mutex, or nothing of it; one off the list is in a call there; whom a notification takes are in none.
+-- A wait that leaves the variable's section owns its mutex, or nothing of it; one off the list is in a call there; whom
+-- a notification takes are in none.
 abbrev pub turn_is_ready : Turn → Joint → ℕ → ℕ → OpenCall → Bool
 turn_is_ready turn.GivesUp j t v c = rows.may_begin (state j.rows) (front_number j t) (mutex_of c.call) call.Unlock
 turn_is_ready turn.LocksAgain j t v c = rows.may_begin (state j.rows) (back_number j t) (mutex_of c.call) call.Lock

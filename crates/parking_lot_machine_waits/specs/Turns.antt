@@ -92,7 +92,8 @@ is_at_mutex (row_core.Rw c) = false
 is_at_mutex (row_core.Upgrade c) = false
 is_at_mutex (row_core.LateRw p) = false
 
--- What a waiter hears that was taken off the list, once it is awake: where its moment has passed it finds that another had taken it before.
+-- What a waiter hears that was taken off the list, once it is awake: where its moment has passed it finds that another
+-- had taken it before.
 abbrev pub wait_wakes : WaitPhase → UnparkToken → Outside
 wait_wakes (w.Quits m) token = outside.WasTaken token
 wait_wakes p token = outside.Woken token

@@ -1,5 +1,7 @@
--- What ties waits and mutexes together: which call each of a waiter's two numbers is in at the mutex, and what it owns there.
-use Rattle.std.specs.Prelude.{◌≡◌, ◌≢◌, ◌⊎◌, ℕ, ◌*◌, ◌==◌, not, Bool, true, false, length, Option, Some, None, slice_get}
+-- What ties waits and mutexes together: which call each of a waiter's two numbers is in at the mutex, and what it owns
+-- there.
+use Rattle.std.specs.Prelude.{◌≡◌, ◌≢◌, ◌⊎◌, ℕ, ◌*◌, ◌==◌, not, Bool, true, false, length, Option, Some, None}
+use Rattle.std.specs.Prelude.{slice_get}
 use Rattle.std.specs.Option.{option_map}
 use Rattle.parking_lot_protocol.specs.declared.act.CoreAnswer.TheVariants as answer
 use Rattle.parking_lot_protocol.specs.declared.mutex_phase.MutexPhase.{MutexPhase}
@@ -20,7 +22,8 @@ use Rattle.parking_lot_machine_calls.specs.declared.seat.Core.TheVariants as row
 use Rattle.parking_lot_machine_calls.specs.Beginnings.{excludes, owns_nothing}
 use Rattle.parking_lot_machine.specs.Rows.{State, call_at as row_call_at, hold_at, state}
 use Rattle.parking_lot_machine_waits.specs.declared.turn.Turn.TheVariants as turn
-use Rattle.parking_lot_machine_waits.specs.Joint.{Joint, back_number, call_at, front_number, is_entered, is_open_at_variables, number, seat_at, var_at}
+use Rattle.parking_lot_machine_waits.specs.Joint.{Joint, back_number, call_at, front_number, is_entered}
+use Rattle.parking_lot_machine_waits.specs.Joint.{is_open_at_variables, number, seat_at, var_at}
 use Rattle.parking_lot_machine_waits.specs.Turns.{mutex_of, notify_turn}
 
 -- WHAT A CALL AT A MUTEX IS FOR
@@ -210,16 +213,19 @@ pub record IsWhole (j : Joint) : Type 0 where
   -- each thread has two numbers at the locks, and one at each variable
   pub numbers : length (state j.rows).calls ≡ 2 * length j.seats
   pub threads : (v : ℕ) (x : Var) → var_at j v ≡ Some x → length x.calls ≡ length j.seats
-  -- whoever is in a call at a variable has its seat there, and stands as it says; and whoever has a seat at one is in a call there
+  -- whoever is in a call at a variable has its seat there, and stands as it says; and whoever has a seat at one is in a
+  -- call there
   pub seated : (v t : ℕ) (c : OpenCall) → call_at j v t ≡ Some c → (seat_at j t).at ≡ Some v
   pub stands : (v t : ℕ) (c : OpenCall) → call_at j v t ≡ Some c → Stands j t c c.core
   pub sits : (v t : ℕ) → (seat_at j t).at ≡ Some v → (c : OpenCall) × (call_at j v t ≡ Some c)
   -- who has no seat is in one call at a lock at most
-  pub one : (t : ℕ) → (seat_at j t).at ≡ None → (row_call_at (state j.rows) (number j t false) ≡ None) ⊎ (row_call_at (state j.rows) (number j t true) ≡ None)
+  pub one : (t : ℕ) → (seat_at j t).at ≡ None → (row_call_at (state j.rows) (number j t false) ≡ None)
+      ⊎ (row_call_at (state j.rows) (number j t true) ≡ None)
   -- nobody is in a call at the row of a variable
   pub rows : (k : ℕ) (c : Call) → row_call_at (state j.rows) k ≡ Some c → var_at j c.lock ≡ None
   -- a mutex is owned whole, or not at all
-  pub holds : (k m : ℕ) → slice_get (state j.rows).kinds m ≡ Some kind.Mutex → (excludes (hold_at (state j.rows) k m) ≡ true) ⊎ (owns_nothing (hold_at (state j.rows) k m) ≡ true)
+  pub holds : (k m : ℕ) → slice_get (state j.rows).kinds m ≡ Some kind.Mutex
+      → (excludes (hold_at (state j.rows) k m) ≡ true) ⊎ (owns_nothing (hold_at (state j.rows) k m) ≡ true)
   -- no section of a variable is open beside one of a lock, or of another variable
   pub sections : ((state j.rows).lot.section ≡ None) ⊎ (is_open_at_variables j ≡ false)
   pub alone : (v u : ℕ) → is_entered_at j v ≡ true → is_entered_at j u ≡ true → v ≡ u

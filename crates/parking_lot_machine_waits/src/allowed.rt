@@ -1,7 +1,9 @@
 //! Which calls a thread may begin, and which steps it may make.
 ghost use Rattle.std.specs.Prelude.{◌≡◌, ◌<◌, length, Some};
-ghost use Rattle.parking_lot_machine_waits.specs.Joint.{core_enters, enters_at_lock, is_entry, lock_of, row_goes, var_at, var_goes, var_hears, waiters_of};
-ghost use Rattle.parking_lot_machine_waits.specs.JointMoves.{has_mutex, is_free, may_ask, may_call, may_call_at, may_expire, may_expire_as, may_go, may_go_as, sleeps_on};
+ghost use Rattle.parking_lot_machine_waits.specs.Joint.{core_enters, enters_at_lock, is_entry, lock_of, row_goes};
+ghost use Rattle.parking_lot_machine_waits.specs.Joint.{var_at, var_goes, var_hears, waiters_of};
+ghost use Rattle.parking_lot_machine_waits.specs.JointMoves.{has_mutex, is_free, may_ask, may_call, may_call_at};
+ghost use Rattle.parking_lot_machine_waits.specs.JointMoves.{may_expire, may_expire_as, may_go, may_go_as, sleeps_on};
 
 use crate::machines::Machines;
 use crate::turn::{Turn, is_wait, mutex_of, turn_of};
@@ -87,7 +89,8 @@ impl<A: Allocator> Machines<A> {
         self.seat(thread).at.is_none() && self.is_idle(thread)
     }
 
-    /// Whether a thread may begin a call at a lock: it is in none, the lock is no variable, and what it owns there allows it.
+    /// Whether a thread may begin a call at a lock: it is in none, the lock is no variable, and what it owns there
+    /// allows it.
     pub fn may_ask(&self, thread: usize, lock: usize, call: LockCall) -> bool
         ensures { result ≡ may_ask self.now thread lock call }
     {
@@ -121,7 +124,8 @@ impl<A: Allocator> Machines<A> {
         }
     }
 
-    /// Whether a thread may begin a call at a condition variable: it is in none, and a wait is with a mutex that it owns.
+    /// Whether a thread may begin a call at a condition variable: it is in none, and a wait is with a mutex that it
+    /// owns.
     pub fn may_call_at(&self, thread: usize, variable: usize, call: CondvarCall) -> bool
         ensures { result ≡ may_call_at self.now thread variable call }
     {
@@ -181,7 +185,8 @@ impl<A: Allocator> Machines<A> {
         }
     }
 
-    /// Whether a thread in that call sleeps: in the variable's list, or at the mutex that it was moved to, in its list or taken and not woken yet.
+    /// Whether a thread in that call sleeps: in the variable's list, or at the mutex that it was moved to, in its list
+    /// or taken and not woken yet.
     fn sleeps_on(&self, thread: usize, call: &OpenCall) -> bool
         requires low { thread < length self.now.seats }
         ensures { result ≡ sleeps_on call.now self.now thread }
@@ -189,8 +194,8 @@ impl<A: Allocator> Machines<A> {
         call.listed || self.rows.may_expire(self.back_number(thread))
     }
 
-    /// Whether a thread's deadline may come: it sleeps in a timed call, in a list or at a lock taken off it and not woken yet, and it hasn't come
-    /// before.
+    /// Whether a thread's deadline may come: it sleeps in a timed call, in a list or at a lock taken off it and not
+    /// woken yet, and it hasn't come before.
     pub fn may_expire(&self, thread: usize) -> bool
         ensures { result ≡ may_expire self.now thread }
     {

@@ -1,7 +1,9 @@
 //! The machines of the locks and of the condition variables, and who is in a call where.
 ghost use Rattle.std.specs.Prelude.{◌≡◌, ◌<◌, length, slice_get, true};
 ghost use Rattle.parking_lot_machine.specs.Rows.{state};
-ghost use Rattle.parking_lot_machine_waits.specs.Joint.{asking_number, back_number, busy_number, call_at, front_number, has_by_second, is_entered, is_idle, is_open_at_locks, is_open_at_variables, is_var, number, seat_at};
+ghost use Rattle.parking_lot_machine_waits.specs.Joint.{asking_number, back_number, busy_number, call_at, front_number};
+ghost use Rattle.parking_lot_machine_waits.specs.Joint.{has_by_second, is_entered, is_idle, is_open_at_locks};
+ghost use Rattle.parking_lot_machine_waits.specs.Joint.{is_open_at_variables, is_var, number, seat_at};
 
 use crate::seat::{NOWHERE, Seat};
 use parking_lot_machine::{Hold, RowMachine};

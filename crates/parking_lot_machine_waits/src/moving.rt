@@ -2,11 +2,14 @@
 ghost use Rattle.std.specs.Prelude.{◌≡◌, ◌<◌, length, slice_set, Some, true};
 ghost use Rattle.parking_lot_machine.specs.Rows.{state};
 ghost use Rattle.parking_lot_machine_waits.specs.Joint.{call_at, lock_of, var_at};
-ghost use Rattle.parking_lot_machine_waits.specs.JointSteps.{IsMoving, KnownIn, MayMoveIn, MovesIn, is_locked, takes_now};
+ghost use Rattle.parking_lot_machine_waits.specs.JointSteps.{IsMoving, KnownIn, MayMoveIn, MovesIn, is_locked};
+ghost use Rattle.parking_lot_machine_waits.specs.JointSteps.{takes_now};
 ghost use Rattle.parking_lot_machine_waits.specs.declared.turn.Turn.TheVariants as turn;
 ghost use Rattle.parking_lot_machine_waits.specs.Ready.{may_move_all};
 ghost use Rattle.parking_lot_machine_waits.specs.Turns.{turn_of};
-ghost use Rattle.parking_lot_machine_waits.specs.Moving.{AreMoved, AreMovedAs, AreTaken, MayMove, MayMoveAs, MayNotifyIn, MayTake, NotifiesIn, back_in, moved_of, taken_of, timed_in};
+ghost use Rattle.parking_lot_machine_waits.specs.Moving.{AreMoved, AreMovedAs, AreTaken, MayMove, MayMoveAs};
+ghost use Rattle.parking_lot_machine_waits.specs.Moving.{MayNotifyIn, MayTake, NotifiesIn, back_in, moved_of, taken_of};
+ghost use Rattle.parking_lot_machine_waits.specs.Moving.{timed_in};
 
 use crate::machines::Machines;
 use crate::seat::{NOWHERE, Seat};
@@ -26,7 +29,8 @@ pub(crate) fn taken_of(call: CondvarCall, waiting: usize) -> usize
     }
 }
 
-/// What a notification tells that has taken so many: of a mutex that isn't locked it wakes the first, and it moves the others.
+/// What a notification tells that has taken so many: of a mutex that isn't locked it wakes the first, and it moves the
+/// others.
 fn moved_of(locked: bool, taken: usize) -> Outside
     ensures { result ≡ moved_of locked taken }
 {
@@ -146,8 +150,10 @@ impl<A: Allocator> Machines<A> {
         lock: usize,
         locked: bool,
     ) -> usize
-        requires may { MayMoveIn (var_at self.old variable) locked self.old.seats lock (takes_now call (var_at self.old variable)) (state self.old.rows) }
-        ensures moves { MovesIn (var_at self.old variable) locked self.old.seats lock (takes_now call (var_at self.old variable)) (state self.old.rows) (state self.new.rows) }
+        requires may { MayMoveIn (var_at self.old variable) locked self.old.seats lock
+            (takes_now call (var_at self.old variable)) (state self.old.rows) }
+        ensures moves { MovesIn (var_at self.old variable) locked self.old.seats lock
+            (takes_now call (var_at self.old variable)) (state self.old.rows) (state self.new.rows) }
         ensures count { result ≡ length (takes_now call (var_at self.old variable)) }
         ensures vars { self.new.vars ≡ self.old.vars }
         ensures seats { self.new.seats ≡ self.old.seats }
@@ -165,7 +171,8 @@ impl<A: Allocator> Machines<A> {
     /// It takes them off the variable's list.
     fn notify_at(&mut self, thread: usize, variable: usize, locked: bool, count: usize)
         requires may { MayNotifyIn thread locked count (var_at self.old variable) }
-        ensures notifies { (y : _) × NotifiesIn thread locked count (var_at self.old variable) y × (self.new.vars ≡ slice_set self.old.vars variable y) }
+        ensures notifies { (y : _) × NotifiesIn thread locked count (var_at self.old variable) y
+            × (self.new.vars ≡ slice_set self.old.vars variable y) }
         ensures rows { self.new.rows ≡ self.old.rows }
         ensures seats { self.new.seats ≡ self.old.seats }
     {

@@ -14,16 +14,17 @@ use parking_lot_machine_sides::condvar::CondvarMachine;
 use std::alloc::Allocator;
 
 impl<A: Allocator + Clone + Drop> Machines<A> {
-    /// A machine of so many threads, in no call, of locks of these kinds, which nobody owns, and of condition variables on which nobody waits: 1 to
-    /// 65,536 threads, and 1 to 2^20 locks. `variables` says of each lock whether it is a condition variable; the row of such a one is never asked. All
-    /// memory that its steps need is taken here.
+    /// A machine of so many threads, in no call, of locks of these kinds, which nobody owns, and of condition variables
+    /// on which nobody waits: 1 to 65,536 threads, and 1 to 2^20 locks. `variables` says of each lock whether it is a
+    /// condition variable; the row of such a one is never asked. All memory that its steps need is taken here.
     pub fn new(
         alloc: &A,
         threads: usize,
         kinds: Vec<LockKind, A>,
         variables: &[bool],
     ) -> Result<Machines<A>, SizeFault>
-        ensures size { IsErrOf result BadSize ↔ ((threads ≡ 0) ⊎ (65536 < threads) ⊎ (length kinds.items ≡ 0) ⊎ (2 ^ 20 < length kinds.items)) }
+        ensures size { IsErrOf result BadSize ↔
+            ((threads ≡ 0) ⊎ (65536 < threads) ⊎ (length kinds.items ≡ 0) ⊎ (2 ^ 20 < length kinds.items)) }
         ensures rows { IfOk result (λ machine. state machine.rows ≡ at_rest (2 * threads) kinds.items) }
         ensures vars { IfOk result (λ machine. machine.vars ≡ map (var_of threads) variables.now) }
         ensures seats { IfOk result (λ machine. machine.seats ≡ replicate threads nowhere) }

@@ -7,7 +7,8 @@ ghost use Rattle.parking_lot_machine.specs.Rows as row;
 ghost use Rattle.parking_lot_machine_sides.specs.declared.condvar.outside.Outside.TheVariants.{Made};
 ghost use Rattle.parking_lot_machine_waits.specs.Joint.{row_goes, var_acts, var_at, var_hears};
 ghost use Rattle.parking_lot_machine_waits.specs.JointMoves.{may_call};
-ghost use Rattle.parking_lot_machine_waits.specs.JointSteps.{ActsAt, ActsIn, BeginsIn, HearsAt, HearsIn, HearsOf, KnownIn};
+ghost use Rattle.parking_lot_machine_waits.specs.JointSteps.{ActsAt, ActsIn, BeginsIn, HearsAt, HearsIn, HearsOf};
+ghost use Rattle.parking_lot_machine_waits.specs.JointSteps.{KnownIn};
 
 use crate::machines::Machines;
 use parking_lot_machine_sides::condvar::{CondvarCall, CondvarMachine, CondvarReply, Outside};
@@ -67,7 +68,8 @@ impl<A: Allocator> Machines<A> {
     /// A call begins at a variable.
     pub(crate) fn begin_at(&mut self, thread: usize, variable: usize, call: CondvarCall)
         requires may { may_call (var_at self.old variable) thread call ≡ true }
-        ensures begins { (y : _) × BeginsIn thread call (var_at self.old variable) y × (self.new.vars ≡ slice_set self.old.vars variable y) }
+        ensures begins { (y : _) × BeginsIn thread call (var_at self.old variable) y
+            × (self.new.vars ≡ slice_set self.old.vars variable y) }
         ensures rows { self.new.rows ≡ self.old.rows }
         ensures seats { self.new.seats ≡ self.old.seats }
     {
@@ -110,7 +112,8 @@ impl<A: Allocator> Machines<A> {
     pub(crate) fn go_at_mutex(&mut self, thread: usize, variable: usize, number: usize, fair: bool)
         requires can { row_goes self.old number ≡ true }
         requires hears { var_hears (var_at self.old variable) thread Made ≡ true }
-        ensures steps { (a : _) × rows.IsStepped number fair a (state self.old.rows) (state self.new.rows) × HearsOf a thread variable self.old self.new }
+        ensures steps { (a : _) × rows.IsStepped number fair a (state self.old.rows) (state self.new.rows)
+            × HearsOf a thread variable self.old self.new }
         ensures seats { self.new.seats ≡ self.old.seats }
     {
         let _ = &self.seats;

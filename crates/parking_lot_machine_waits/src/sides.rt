@@ -1,7 +1,8 @@
 //! What the machine is to another one beside it.
 ghost use Rattle.std.specs.Prelude.{◌≡◌, ◌<◌, length, Some};
 ghost use Rattle.parking_lot_machine_waits.specs.Joint.{seat_at};
-ghost use Rattle.parking_lot_machine_waits.specs.JointSides.{call_owes, enters, enters_as, is_busy, is_indebted, is_open, lock_call, notice_owes, owes_at};
+ghost use Rattle.parking_lot_machine_waits.specs.JointSides.{call_owes, enters, enters_as, is_busy, is_indebted};
+ghost use Rattle.parking_lot_machine_waits.specs.JointSides.{is_open, lock_call, notice_owes, owes_at};
 ghost use Rattle.parking_lot_machine_sides.specs.Condvar.Turns.{wait_is_inside};
 
 use crate::machines::Machines;
@@ -93,7 +94,8 @@ fn notice_owes(phase: NotifyPhase) -> bool
     }
 }
 
-/// Whether a thread in that call at a variable stands in its section, or has seen that somebody waits there, or is to wake whom it has taken.
+/// Whether a thread in that call at a variable stands in its section, or has seen that somebody waits there, or is to
+/// wake whom it has taken.
 fn call_owes(call: &OpenCall) -> bool
     ensures { result ≡ call_owes call.now.listed call.now.core }
 {
@@ -117,7 +119,8 @@ impl<A: Allocator> Machines<A> {
         }
     }
 
-    /// Whether a thread owes a section or a wake, or is about to retry: by one of its numbers at the locks, or at a variable.
+    /// Whether a thread owes a section or a wake, or is about to retry: by one of its numbers at the locks, or at a
+    /// variable.
     pub fn is_in_debt(&self, thread: usize) -> bool
         ensures { result ≡ is_indebted self.now thread }
     {

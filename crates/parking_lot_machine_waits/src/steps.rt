@@ -6,9 +6,12 @@ ghost use Rattle.parking_lot_machine.specs.Machines as rows;
 ghost use Rattle.parking_lot_machine.specs.Rows.{state};
 ghost use Rattle.parking_lot_machine.specs.Rows as row;
 ghost use Rattle.parking_lot_machine_waits.specs.declared.turn.Turn.TheVariants as turn;
-ghost use Rattle.parking_lot_machine_waits.specs.Joint.{back_number, call_at, nowhere, row_goes, var_acts, var_at, var_hears};
-ghost use Rattle.parking_lot_machine_waits.specs.JointMoves.{may_ask, may_call_at, may_expire, may_go, may_go_as, may_turn};
-ghost use Rattle.parking_lot_machine_waits.specs.JointSteps.{ActsAt, ComesBackIf, GoesAtVariable, HearsAt, IsAsked, IsCalled, IsFollowing, IsGone, IsLate, Turned};
+ghost use Rattle.parking_lot_machine_waits.specs.Joint.{back_number, call_at, nowhere, row_goes, var_acts, var_at};
+ghost use Rattle.parking_lot_machine_waits.specs.Joint.{var_hears};
+ghost use Rattle.parking_lot_machine_waits.specs.JointMoves.{may_ask, may_call_at, may_expire, may_go, may_go_as};
+ghost use Rattle.parking_lot_machine_waits.specs.JointMoves.{may_turn};
+ghost use Rattle.parking_lot_machine_waits.specs.JointSteps.{ActsAt, ComesBackIf, GoesAtVariable, HearsAt, IsAsked};
+ghost use Rattle.parking_lot_machine_waits.specs.JointSteps.{IsCalled, IsFollowing, IsGone, IsLate, Turned};
 ghost use Rattle.parking_lot_machine_waits.specs.Ready.{call_is_ready, is_ready, is_there, turn_is_ready};
 ghost use Rattle.parking_lot_machine_waits.specs.Turns.{is_at_mutex, retried, turn_of, wakes_with};
 
@@ -46,8 +49,9 @@ impl<A: Allocator> Machines<A> {
         };
     }
 
-    /// A thread's deadline comes as it sleeps in a timed call. From then on it can move, and takes itself off its list, unless it was taken: at
-    /// a lock it finds that out then, and goes on as its taker told it, and off a variable's list it goes on at the mutex.
+    /// A thread's deadline comes as it sleeps in a timed call. From then on it can move, and takes itself off its list,
+    /// unless it was taken: at a lock it finds that out then, and goes on as its taker told it, and off a variable's
+    /// list it goes on at the mutex.
     pub fn deadline(&mut self, thread: usize)
         requires may { may_expire self.old thread ≡ true }
         ensures { IsLate thread self.old self.new }
@@ -62,8 +66,9 @@ impl<A: Allocator> Machines<A> {
         }
     }
 
-    /// A waiter that was taken off the list makes a step at its mutex. The first that it makes awake is told at the variable; where its call there is
-    /// over it owns the mutex, or it has taken itself off the mutex's list and asks for it again.
+    /// A waiter that was taken off the list makes a step at its mutex. The first that it makes awake is told at the
+    /// variable; where its call there is over it owns the mutex, or it has taken itself off the mutex's list and asks
+    /// for it again.
     fn follow(
         &mut self,
         thread: usize,
@@ -241,8 +246,8 @@ impl<A: Allocator> Machines<A> {
         self.seats[thread] = NOWHERE;
     }
 
-    /// A thread makes a step. `fair` says whether it hands a lock over, where it stores in the section of an exclusive release. Answers how the call ended,
-    /// where it did.
+    /// A thread makes a step. `fair` says whether it hands a lock over, where it stores in the section of an exclusive
+    /// release. Answers how the call ended, where it did.
     pub fn step(&mut self, thread: usize, fair: bool) -> Option<Ended>
         requires can { may_go self.old thread ≡ true }
         requires ready { is_ready self.old thread ≡ true }

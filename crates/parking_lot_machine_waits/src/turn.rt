@@ -1,6 +1,7 @@
 //! What a thread in a call at a condition variable does next.
 ghost use Rattle.std.specs.Prelude.{◌≡◌};
-ghost use Rattle.parking_lot_machine_waits.specs.Turns.{is_at_mutex, is_late, is_wait, mutex_of, notify_turn, turn_of, wait_turn, wakes_with};
+ghost use Rattle.parking_lot_machine_waits.specs.Turns.{is_at_mutex, is_late, is_wait, mutex_of, notify_turn, turn_of};
+ghost use Rattle.parking_lot_machine_waits.specs.Turns.{wait_turn, wakes_with};
 
 use parking_lot_core_model::UnparkToken;
 use parking_lot_machine::Core as RowCore;

@@ -21,7 +21,8 @@ impl<A: Allocator> Machines<A> {
         self.rows.known();
     }
 
-    /// The word of a lock. That of a condition variable is 0 where nobody waits, and else the number of the mutex that all wait with, and 1 more.
+    /// The word of a lock. That of a condition variable is 0 where nobody waits, and else the number of the mutex that
+    /// all wait with, and 1 more.
     pub fn word(&self, lock: usize) -> u64
         ensures { result ≡ word_at self.now lock }
     {
@@ -79,7 +80,8 @@ impl<A: Allocator + Clone + Drop> Machines<A> {
         Ok(self.waiters(variable).to_vec(alloc)?)
     }
 
-    /// The threads of that key's list, in order. A lock has two keys: twice its number, and one more; the list of a condition variable is the first.
+    /// The threads of that key's list, in order. A lock has two keys: twice its number, and one more; the list of a
+    /// condition variable is the first.
     pub fn queue(&self, key: usize) -> Result<Vec<usize, A>, SizeFault>
         ensures ok { IfOk result (λ threads. threads.items ≡ queue_at self.now key) }
         ensures err { IfErr result (λ fault. fault ≡ NoMemory) }

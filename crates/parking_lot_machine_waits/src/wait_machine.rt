@@ -1,13 +1,16 @@
 //! The machine of locks and condition variables: threads at both, moved one atomic step at a time.
-ghost use Rattle.std.specs.Prelude.{◌≡◌, ◌<◌, ◌≤◌, ◌*◌, ◌↔◌, ◌⊎◌, ◌^◌, length, map, replicate, true, IsErrOf, IfErr, IfOk};
+ghost use Rattle.std.specs.Prelude.{◌≡◌, ◌<◌, ◌≤◌, ◌*◌, ◌↔◌, ◌⊎◌, ◌^◌, length, map, replicate, true, IsErrOf, IfErr};
+ghost use Rattle.std.specs.Prelude.{IfOk};
 ghost use Rattle.parking_lot_core_model.specs.declared.fault.SizeFault.TheVariants.{BadSize, NoMemory};
 ghost use Rattle.parking_lot_machine.specs.Machines.{at_rest};
 ghost use Rattle.parking_lot_machine.specs.Rows.{state};
-ghost use Rattle.parking_lot_machine_waits.specs.Joint.{call_at, is_var, mode_at, nowhere, seat_at, thread_of, var_at, waiters_of, word_at};
+ghost use Rattle.parking_lot_machine_waits.specs.Joint.{call_at, is_var, mode_at, nowhere, seat_at, thread_of, var_at};
+ghost use Rattle.parking_lot_machine_waits.specs.Joint.{waiters_of, word_at};
 ghost use Rattle.parking_lot_machine_waits.specs.JointMoves.{may_ask, may_call_at, may_expire, may_go};
 ghost use Rattle.parking_lot_machine_waits.specs.JointLaws.{PartsFit};
 ghost use Rattle.parking_lot_machine_waits.specs.JointProgress.{GiversAreOut};
-ghost use Rattle.parking_lot_machine_waits.specs.JointSides.{enters, is_busy, is_indebted, is_open, lock_call, queue_at};
+ghost use Rattle.parking_lot_machine_waits.specs.JointSides.{enters, is_busy, is_indebted, is_open, lock_call};
+ghost use Rattle.parking_lot_machine_waits.specs.JointSides.{queue_at};
 ghost use Rattle.parking_lot_machine_waits.specs.JointSteps.{IsAsked, IsCalled, IsGone, IsLate, var_of};
 ghost use Rattle.parking_lot_machine_waits.specs.Whole.{IsWhole};
 
@@ -23,8 +26,8 @@ use std::marker::Model;
 
 /// Locks and condition variables, and threads at them, each in one call at a time.
 ///
-/// A thread has two numbers at the locks. A wait gives its mutex up as one of them, and sleeps and locks it again as the other: so another thread may move
-/// it to the mutex's list while it is still giving the mutex up.
+/// A thread has two numbers at the locks. A wait gives its mutex up as one of them, and sleeps and locks it again as
+/// the other: so another thread may move it to the mutex's list while it is still giving the mutex up.
 #[derive(Drop)]
 pub struct WaitMachine<A: Allocator = Global> {
     machines: Machines<A>,
@@ -43,16 +46,17 @@ impl<A: Allocator> Model for WaitMachine<A> {
 }
 
 impl<A: Allocator + Clone + Drop> WaitMachine<A> {
-    /// A machine of so many threads, in no call, of locks of these kinds, which nobody owns, and of condition variables on which nobody waits: 1 to
-    /// 65,536 threads, and 1 to 2^20 locks. `variables` says of each lock whether it is a condition variable; the row of such a one is never asked. All
-    /// memory that its steps need is taken here.
+    /// A machine of so many threads, in no call, of locks of these kinds, which nobody owns, and of condition variables
+    /// on which nobody waits: 1 to 65,536 threads, and 1 to 2^20 locks. `variables` says of each lock whether it is a
+    /// condition variable; the row of such a one is never asked. All memory that its steps need is taken here.
     pub fn new(
         alloc: &A,
         threads: usize,
         kinds: Vec<LockKind, A>,
         variables: &[bool],
     ) -> Result<WaitMachine<A>, SizeFault>
-        ensures size { IsErrOf result BadSize ↔ ((threads ≡ 0) ⊎ (65536 < threads) ⊎ (length kinds.items ≡ 0) ⊎ (2 ^ 20 < length kinds.items)) }
+        ensures size { IsErrOf result BadSize ↔
+            ((threads ≡ 0) ⊎ (65536 < threads) ⊎ (length kinds.items ≡ 0) ⊎ (2 ^ 20 < length kinds.items)) }
         ensures rows { IfOk result (λ machine. state machine.rows ≡ at_rest (2 * threads) kinds.items) }
         ensures vars { IfOk result (λ machine. machine.vars ≡ map (var_of threads) variables.now) }
         ensures seats { IfOk result (λ machine. machine.seats ≡ replicate threads nowhere) }
@@ -105,7 +109,8 @@ impl<A: Allocator> WaitMachine<A> {
         self.machines.waiters(variable)
     }
 
-    /// The word of a lock. That of a condition variable is 0 where nobody waits, and else the number of the mutex that all wait with, and 1 more.
+    /// The word of a lock. That of a condition variable is 0 where nobody waits, and else the number of the mutex that
+    /// all wait with, and 1 more.
     pub fn word(&self, lock: usize) -> u64
         ensures { result ≡ word_at self.now lock }
     {
@@ -154,7 +159,8 @@ impl<A: Allocator> WaitMachine<A> {
         self.machines.lock_call(thread)
     }
 
-    /// Whether a thread owes a section or a wake, or is about to retry: by one of its numbers at the locks, or at a variable.
+    /// Whether a thread owes a section or a wake, or is about to retry: by one of its numbers at the locks, or at a
+    /// variable.
     pub fn is_in_debt(&self, thread: usize) -> bool
         ensures { result ≡ is_indebted self.now thread }
     {
@@ -172,7 +178,8 @@ impl<A: Allocator> WaitMachine<A> {
 }
 
 impl<A: Allocator + Clone + Drop> WaitMachine<A> {
-    /// The threads of that key's list, in order. A lock has two keys: twice its number, and one more; the list of a condition variable is the first.
+    /// The threads of that key's list, in order. A lock has two keys: twice its number, and one more; the list of a
+    /// condition variable is the first.
     pub fn queue(&self, key: usize) -> Result<Vec<usize, A>, SizeFault>
         ensures ok { IfOk result (λ threads. threads.items ≡ queue_at self.now key) }
         ensures err { IfErr result (λ fault. fault ≡ NoMemory) }
@@ -182,14 +189,16 @@ impl<A: Allocator + Clone + Drop> WaitMachine<A> {
 }
 
 impl<A: Allocator> WaitMachine<A> {
-    /// Whether a thread may begin a call at a lock: it is in none, the lock is no variable, and what it owns there allows it.
+    /// Whether a thread may begin a call at a lock: it is in none, the lock is no variable, and what it owns there
+    /// allows it.
     pub fn may_ask(&self, thread: usize, lock: usize, call: LockCall) -> bool
         ensures { result ≡ may_ask self.now thread lock call }
     {
         self.machines.may_ask(thread, lock, call)
     }
 
-    /// Whether a thread may begin a call at a condition variable: it is in none, and a wait is with a mutex that it owns.
+    /// Whether a thread may begin a call at a condition variable: it is in none, and a wait is with a mutex that it
+    /// owns.
     pub fn may_call_at(&self, thread: usize, variable: usize, call: CondvarCall) -> bool
         ensures { result ≡ may_call_at self.now thread variable call }
     {
@@ -232,8 +241,8 @@ impl<A: Allocator> WaitMachine<A> {
         self.machines.call(thread, variable, call);
     }
 
-    /// A thread makes a step. `fair` says whether it hands a lock over, where it stores in the section of an exclusive release. Answers how the call ended,
-    /// where it did.
+    /// A thread makes a step. `fair` says whether it hands a lock over, where it stores in the section of an exclusive
+    /// release. Answers how the call ended, where it did.
     pub fn step(&mut self, thread: usize, fair: bool) -> Option<Ended>
         requires can { may_go self.old thread ≡ true }
         ensures { IsGone thread fair result self.old self.new }
@@ -244,8 +253,8 @@ impl<A: Allocator> WaitMachine<A> {
         self.machines.step(thread, fair)
     }
 
-    /// A thread's deadline comes as it sleeps in a list of a timed call. From then on it can move, and takes itself off that list, unless it is taken
-    /// first.
+    /// A thread's deadline comes as it sleeps in a list of a timed call. From then on it can move, and takes itself off
+    /// that list, unless it is taken first.
     pub fn deadline(&mut self, thread: usize)
         requires may { may_expire self.old thread ≡ true }
         ensures { IsLate thread self.old self.new }

@@ -3,8 +3,8 @@ ghost use Rattle.std.specs.Prelude.{◌≡◌, true};
 
 use parking_lot_protocol::{Act, ActResult, CoreAnswer, MutexCore};
 
-/// The exchange from 0 to 1 is the way of a call that locks a free mutex: it is what the core asks for at 0, and once it is won
-/// the mutex is owned.
+/// The exchange from 0 to 1 is the way of a call that locks a free mutex: it is what the core asks for at 0, and once
+/// it is won the mutex is owned.
 pub fn one_exchange_locks() -> bool
     ensures { result ≡ true }
 {

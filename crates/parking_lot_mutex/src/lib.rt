@@ -1,15 +1,16 @@
-//! Mutexes of running threads, on the rows of a lock table: the raw mutex, the raw mutex whose every release is fair, how participants
-//! are told apart; and what waits beside them, the condition variable in [`condvar`] and one-time initialization in [`once`].
+//! Mutexes of running threads, on the rows of a lock table: the raw mutex, the raw mutex whose every release is fair,
+//! how participants are told apart; and what waits beside them, the condition variable in [`condvar`] and one-time
+//! initialization in [`once`].
 //!
-//! A raw lock owns one row. Each of its calls runs a decision core there, by `parking_lot_driver`. Where one exchange is enough it is
-//! made before a core is set up: that is the core's own first way, cut short.
+//! A raw lock owns one row. Each of its calls runs a decision core there, by `parking_lot_driver`. Where one exchange
+//! is enough it is made before a core is set up: that is the core's own first way, cut short.
 //!
-//! **An admission issues one token, a release spends it on its own row:** tokens bear the first key of their row, and two rows of
-//! a lot never have the same. Nothing is promised of a word, nor that a call comes back: what keeps two writers from one value
-//! is the std lock in which a generic lock keeps it.
+//! **An admission issues one token, a release spends it on its own row:** tokens bear the first key of their row, and
+//! two rows of a lot never have the same. Nothing is promised of a word, nor that a call comes back: what keeps two
+//! writers from one value is the std lock in which a generic lock keeps it.
 //!
-//! Calls that may sleep take the data of a participant of the table's lot. A participant of another lot can't sleep; it yields and
-//! asks again. A release may wait for the lot's short sections, in which sleeping threads are woken.
+//! Calls that may sleep take the data of a participant of the table's lot. A participant of another lot can't sleep; it
+//! yields and asks again. A release may wait for the lot's short sections, in which sleeping threads are woken.
 #![tactic(auto)]
 
 pub mod condvar;

@@ -14,8 +14,8 @@ use std::alloc::{Allocator, Global};
 use std::sync::Wait;
 use std::time::{Clock, Duration, Instant};
 
-/// A mutex on one row of a lock table that is handed over to the first that waits at every release, plain ones too. So nobody who
-/// comes later gets it before those that sleep.
+/// A mutex on one row of a lock table that is handed over to the first that waits at every release, plain ones too. So
+/// nobody who comes later gets it before those that sleep.
 ///
 /// Its word is that of a [`RawMutex`]: where threads sleep it stays locked over a release.
 #[derive(Drop)]
@@ -24,10 +24,11 @@ pub struct RawFairMutex<'t, 'l, R, A: Allocator = Global> {
 }
 
 impl<'t, 'l, R: Wait, A: Allocator> RawFairMutex<'t, 'l, R, A> {
-    /// Waits until the mutex is owned, or until the moment by the clock that is handed in: then it is off the list, and `None` is the
-    /// answer.
+    /// Waits until the mutex is owned, or until the moment by the clock that is handed in: then it is off the list, and
+    /// `None` is the answer.
     ///
-    /// The moment is looked at where the thread sleeps. So a mutex that can be had at once is had, also where the moment is past.
+    /// The moment is looked at where the thread sleeps. So a mutex that can be had at once is had, also where the
+    /// moment is past.
     #[inline(always)]
     pub fn lock_until<C: Clock>(
         &self,
@@ -35,21 +36,23 @@ impl<'t, 'l, R: Wait, A: Allocator> RawFairMutex<'t, 'l, R, A> {
         clock: &C,
         party: &mut ThreadData<A>,
     ) -> Option<GuardSend>
-        ensures issued { IfSome result (λ token. token ≡ (self.now.mutex.row.table.now.first_key + 2 * self.now.mutex.row.number) % 2 ^ 64) }
+        ensures issued { IfSome result
+            (λ token. token ≡ (self.now.mutex.row.table.now.first_key + 2 * self.now.mutex.row.number) % 2 ^ 64) }
         ensures call { MatchOption result (TimedEnded GivesUp) (λ _. OwnedInTime) }
     {
         self.mutex.lock_until(deadline, clock, party)
     }
 
-    /// As [`lock_until`](RawFairMutex::lock_until), with the moment that lies `timeout` ahead. Where no moment can say that, it waits as long as
-    /// it takes.
+    /// As [`lock_until`](RawFairMutex::lock_until), with the moment that lies `timeout` ahead. Where no moment can say
+    /// that, it waits as long as it takes.
     pub fn lock_for<C: Clock>(
         &self,
         timeout: Duration,
         clock: &C,
         party: &mut ThreadData<A>,
     ) -> Option<GuardSend>
-        ensures issued { IfSome result (λ token. token ≡ (self.now.mutex.row.table.now.first_key + 2 * self.now.mutex.row.number) % 2 ^ 64) }
+        ensures issued { IfSome result
+            (λ token. token ≡ (self.now.mutex.row.table.now.first_key + 2 * self.now.mutex.row.number) % 2 ^ 64) }
         ensures call { MatchOption result (TimedEnded GivesUp) (λ _. OwnedInTime) }
     {
         self.mutex.lock_for(timeout, clock, party)

@@ -26,7 +26,8 @@ pub struct RawMutex<'t, 'l, R, A: Allocator = Global> {
 }
 
 impl<'t, 'l, R, A: Allocator> RawMutex<'t, 'l, R, A> {
-    /// Its row. For the layer above: a condition variable moves waiters to the row's key, and announces them in its word.
+    /// Its row. For the layer above: a condition variable moves waiters to the row's key, and announces them in its
+    /// word.
     pub fn row(&self) -> &Row<'t, 'l, R, A>
         ensures { result.now ≡ self.now.row }
     {
@@ -66,7 +67,8 @@ impl<'t, 'l, R, A: Allocator> RawMutex<'t, 'l, R, A> {
 
     /// A token of this lock for a hold that was taken.
     fn token_if(&self, taken: bool) -> Option<GuardSend>
-        ensures { IfSome result (λ token. token ≡ (self.now.row.table.now.first_key + 2 * self.now.row.number) % 2 ^ 64) }
+        ensures { IfSome result
+            (λ token. token ≡ (self.now.row.table.now.first_key + 2 * self.now.row.number) % 2 ^ 64) }
     {
         if taken { Some(self.token()) } else { None }
     }
@@ -85,10 +87,11 @@ impl<'t, 'l, R: Wait, A: Allocator> RawMutex<'t, 'l, R, A> {
         unreachable!()
     }
 
-    /// Waits until the mutex is owned, or until the moment by the clock that is handed in: then it is off the list, and `None` is the
-    /// answer.
+    /// Waits until the mutex is owned, or until the moment by the clock that is handed in: then it is off the list, and
+    /// `None` is the answer.
     ///
-    /// The moment is looked at where the thread sleeps. So a mutex that can be had at once is had, also where the moment is past.
+    /// The moment is looked at where the thread sleeps. So a mutex that can be had at once is had, also where the
+    /// moment is past.
     #[inline(always)]
     pub fn lock_until<C: Clock>(
         &self,
@@ -96,7 +99,8 @@ impl<'t, 'l, R: Wait, A: Allocator> RawMutex<'t, 'l, R, A> {
         clock: &C,
         party: &mut ThreadData<A>,
     ) -> Option<GuardSend>
-        ensures issued { IfSome result (λ token. token ≡ (self.now.row.table.now.first_key + 2 * self.now.row.number) % 2 ^ 64) }
+        ensures issued { IfSome result
+            (λ token. token ≡ (self.now.row.table.now.first_key + 2 * self.now.row.number) % 2 ^ 64) }
         ensures call { MatchOption result (TimedEnded GivesUp) (λ _. OwnedInTime) }
     {
         if self.locks_at_once() || self.place().ask_in_time(deadline, clock, party) {
@@ -106,15 +110,16 @@ impl<'t, 'l, R: Wait, A: Allocator> RawMutex<'t, 'l, R, A> {
         }
     }
 
-    /// As [`lock_until`](RawMutex::lock_until), with the moment that lies `timeout` ahead. Where no moment can say that, it waits as long as
-    /// it takes.
+    /// As [`lock_until`](RawMutex::lock_until), with the moment that lies `timeout` ahead. Where no moment can say
+    /// that, it waits as long as it takes.
     pub fn lock_for<C: Clock>(
         &self,
         timeout: Duration,
         clock: &C,
         party: &mut ThreadData<A>,
     ) -> Option<GuardSend>
-        ensures issued { IfSome result (λ token. token ≡ (self.now.row.table.now.first_key + 2 * self.now.row.number) % 2 ^ 64) }
+        ensures issued { IfSome result
+            (λ token. token ≡ (self.now.row.table.now.first_key + 2 * self.now.row.number) % 2 ^ 64) }
         ensures call { MatchOption result (TimedEnded GivesUp) (λ _. OwnedInTime) }
     {
         match to_deadline(clock, timeout) {

@@ -7,8 +7,8 @@ use std::alloc::{Allocator, Global};
 use std::marker::PhantomData;
 use std::num::NonZeroUsize;
 
-/// Tells the participants of one lot apart, by their numbers plus one. Participants of two lots may have one number: a reentrant
-/// mutex is for those of its own lot alone.
+/// Tells the participants of one lot apart, by their numbers plus one. Participants of two lots may have one number: a
+/// reentrant mutex is for those of its own lot alone.
 #[derive(Drop)]
 pub struct RawThreadId<A = Global> {
     of: PhantomData<A>,

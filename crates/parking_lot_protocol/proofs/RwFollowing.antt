@@ -1,5 +1,7 @@
 -- Each answer to a reader-writer lock's core is the step that the table says.
-use Rattle.std.proofs.Common.{◌≡◌, ◌≢◌, ◌<◌, ℕ, ◌+◌, ◌-◌, ◌*◌, ◌/◌, ◌%◌, ◌^◌, ◌==◌, ◌&&◌, ◌||◌, ◌⊎◌, inl, inr, nat_lt, not, min, bit_and, Bool, true, false, cond, List, [], ◌∷◌, ◌++◌, length, Some, None, refl, sym, ap, ◌∙◌, subst, arith, eqb-true}
+use Rattle.std.proofs.Common.{◌≡◌, ◌≢◌, ◌<◌, ℕ, ◌+◌, ◌-◌, ◌*◌, ◌/◌, ◌%◌, ◌^◌, ◌==◌, ◌&&◌, ◌||◌, ◌⊎◌, inl, inr, nat_lt}
+use Rattle.std.proofs.Common.{not, min, bit_and, Bool, true, false, cond, List, [], ◌∷◌, ◌++◌, length, Some, None, refl}
+use Rattle.std.proofs.Common.{sym, ap, ◌∙◌, subst, arith, eqb-true}
 use Rattle.std.proofs.lemmas.Bool.{both_ways, ltb-true, eqb-false}
 use Rattle.std.proofs.Math.Nat.{mod-eq_of_lt}
 use Rattle.std.specs.Int.Bits.{and_zero_r}
@@ -11,14 +13,35 @@ use Rattle.parking_lot_protocol.specs.declared.act.ActResult.TheVariants as seen
 use Rattle.parking_lot_protocol.specs.declared.rw_phase.LockMode.{LockMode}
 use Rattle.parking_lot_protocol.specs.declared.rw_phase.LockMode.TheVariants.{Shared, Exclusive}
 use Rattle.parking_lot_protocol.specs.declared.rw_phase.AfterWake.{AfterWake}
-use Rattle.parking_lot_protocol.specs.declared.rw_phase.AfterWake.TheVariants.{FreedShared, FreedExclusive, Downgraded, AgainShared, AgainExclusive}
+use Rattle.parking_lot_protocol.specs.declared.rw_phase.AfterWake.TheVariants.{FreedShared, FreedExclusive, Downgraded}
+use Rattle.parking_lot_protocol.specs.declared.rw_phase.AfterWake.TheVariants.{AgainShared, AgainExclusive}
 use Rattle.parking_lot_protocol.specs.declared.rw_phase.RwPhase.{RwPhase}
-use Rattle.parking_lot_protocol.specs.declared.rw_phase.RwPhase.TheVariants.{Locking, Trying, UnlockingShared, UnlockingExclusive, Downgrading, BumpingShared, BumpingExclusive, Loads, Admits, Spins, SetParked, Enters, Checks, Retreats, Appends, Rests, Sleeps, DrainLoads, DrainSpins, DrainSetParked, DrainEnters, DrainChecks, DrainRetreats, DrainAppends, DrainRests, DrainSleeps, TryLoads, TryAdmits, Refuses, BumpLoads, Relocks, Unshares, EnterWriterWakeSection, TakeWriter, ClearWriterParked, LeaveWriterWakeSection, Unlocks, LooksExclusive, Downgrades, EnterWakeSection, Scans, Stores, Leaves, Wakes, Finishes, Ends, Invalid}
-use Rattle.parking_lot_protocol.specs.RwTable.{is_parked, is_writer_parked, is_written, has_readers, is_barred, is_admitted, is_tried, seeks, tries, retries, begins, admits, gains, share_of, bumps, over, wakes, goes_on, scans, scans_for, asks_again, last_act, hands, may_hand, count_of, store_of}
+use Rattle.parking_lot_protocol.specs.declared.rw_phase.RwPhase.TheVariants.{Locking, Trying, UnlockingShared}
+use Rattle.parking_lot_protocol.specs.declared.rw_phase.RwPhase.TheVariants.{UnlockingExclusive, Downgrading}
+use Rattle.parking_lot_protocol.specs.declared.rw_phase.RwPhase.TheVariants.{BumpingShared, BumpingExclusive, Loads}
+use Rattle.parking_lot_protocol.specs.declared.rw_phase.RwPhase.TheVariants.{Admits, Spins, SetParked, Enters, Checks}
+use Rattle.parking_lot_protocol.specs.declared.rw_phase.RwPhase.TheVariants.{Retreats, Appends, Rests, Sleeps}
+use Rattle.parking_lot_protocol.specs.declared.rw_phase.RwPhase.TheVariants.{DrainLoads, DrainSpins, DrainSetParked}
+use Rattle.parking_lot_protocol.specs.declared.rw_phase.RwPhase.TheVariants.{DrainEnters, DrainChecks, DrainRetreats}
+use Rattle.parking_lot_protocol.specs.declared.rw_phase.RwPhase.TheVariants.{DrainAppends, DrainRests, DrainSleeps}
+use Rattle.parking_lot_protocol.specs.declared.rw_phase.RwPhase.TheVariants.{TryLoads, TryAdmits, Refuses, BumpLoads}
+use Rattle.parking_lot_protocol.specs.declared.rw_phase.RwPhase.TheVariants.{Relocks, Unshares, EnterWriterWakeSection}
+use Rattle.parking_lot_protocol.specs.declared.rw_phase.RwPhase.TheVariants.{TakeWriter, ClearWriterParked}
+use Rattle.parking_lot_protocol.specs.declared.rw_phase.RwPhase.TheVariants.{LeaveWriterWakeSection, Unlocks}
+use Rattle.parking_lot_protocol.specs.declared.rw_phase.RwPhase.TheVariants.{LooksExclusive, Downgrades}
+use Rattle.parking_lot_protocol.specs.declared.rw_phase.RwPhase.TheVariants.{EnterWakeSection, Scans, Stores, Leaves}
+use Rattle.parking_lot_protocol.specs.declared.rw_phase.RwPhase.TheVariants.{Wakes, Finishes, Ends, Invalid}
+use Rattle.parking_lot_protocol.specs.RwTable.{is_parked, is_writer_parked, is_written, has_readers, is_barred}
+use Rattle.parking_lot_protocol.specs.RwTable.{is_admitted, is_tried, seeks, tries, retries, begins, admits, gains}
+use Rattle.parking_lot_protocol.specs.RwTable.{share_of, bumps, over, wakes, goes_on, scans, scans_for, asks_again}
+use Rattle.parking_lot_protocol.specs.RwTable.{last_act, hands, may_hand, count_of, store_of}
 use Rattle.parking_lot_protocol.specs.declared.rw_phase.Outcome.TheVariants as outcome
 use Rattle.parking_lot_protocol.specs.declared.rw_phase.Seeking.{Seeking}
 use Rattle.parking_lot_protocol.specs.declared.rw_phase.Draining.{Draining}
-use Rattle.parking_lot_protocol.specs.RwRules.{Follows, IsMove, IsReady, Move, Stays, Makes, QueuePosition, Listed, role, mode_of, MayAsk, IsWoken, waking, admission, try_admission, gives_shared, gives_exclusive, owned_at_last, scan_of, TakesOne, mode_by, IsToken, cause_of, ending, Telling}
+use Rattle.parking_lot_protocol.specs.RwRules.{Follows, IsMove, IsReady, Move, Stays, Makes, QueuePosition, Listed}
+use Rattle.parking_lot_protocol.specs.RwRules.{role, mode_of, MayAsk, IsWoken, waking, admission, try_admission}
+use Rattle.parking_lot_protocol.specs.RwRules.{gives_shared, gives_exclusive, owned_at_last, scan_of, TakesOne, mode_by}
+use Rattle.parking_lot_protocol.specs.RwRules.{IsToken, cause_of, ending, Telling}
 use Rattle.parking_lot_rules.specs.Steps.{Scan, scanning, Hand, Free, Keep, stored}
 use Rattle.parking_lot_rules.specs.Classes.{bit}
 use Rattle.parking_lot_protocol.specs.Acts.{Gives, change_of}
@@ -28,7 +51,10 @@ use Rattle.std.specs.Option.{option_map_or}
 use Rattle.parking_lot_rules.specs.Roles.{Fresh}
 use Rattle.parking_lot_rules.specs.Roles.{Normal, Handed, Asleep}
 use Rattle.parking_lot_protocol.proofs.MutexFollowing.{either}
-use Rattle.parking_lot_protocol.proofs.RwWords.{both, other, one, at, shares, pends, read, unread, parked, unparked, parked2, unparked2, bars, owns_nothing, shared_word, written_word, parked_word, parked2_word, downgraded_word, unshared_word, masked_word, kept_word, cleared_word}
+use Rattle.parking_lot_protocol.proofs.RwWords.{both, other, one, at, shares, pends, read, unread, parked, unparked}
+use Rattle.parking_lot_protocol.proofs.RwWords.{parked2, unparked2, bars, owns_nothing, shared_word, written_word}
+use Rattle.parking_lot_protocol.proofs.RwWords.{parked_word, parked2_word, downgraded_word, unshared_word, masked_word}
+use Rattle.parking_lot_protocol.proofs.RwWords.{kept_word, cleared_word}
 
 -- WHAT FOLLOWS A WORD
 
@@ -49,7 +75,9 @@ seeks_ready a word = go (is_admitted a.want word) (is_barred a.want word) (not (
     go false true false false eb ec ee = (ec, ee, eb)
     go false false d e eb ec ee = tt
 
-drains_role : (k : ℕ) (spot : QueuePosition) (us : List ℕ) (d : Draining) (word : ℕ) → role k spot us (cond (nat_lt 0 d.rounds) (DrainSpins d) (cond (is_writer_parked word) (DrainEnters d) (DrainSetParked d word))) ≡ role k spot us (DrainLoads d)
+drains_role : (k : ℕ) (spot : QueuePosition) (us : List ℕ) (d : Draining) (word : ℕ)
+    → role k spot us (cond (nat_lt 0 d.rounds) (DrainSpins d)
+    (cond (is_writer_parked word) (DrainEnters d) (DrainSetParked d word))) ≡ role k spot us (DrainLoads d)
 drains_role k spot us d word = either (role k spot us) (nat_lt 0 d.rounds) _ _ _ refl (either (role k spot us) (is_writer_parked word) _ _ _ refl refl)
 
 drains : (recursive : Bool) (k : ℕ) (us : List ℕ) (w : Word) → IsWord w → k ≡ 0 → (p : RwPhase) (d : Draining) → role 0 Listed us p ≡ plain.from (plain.Drain false d.woken)
@@ -107,8 +135,15 @@ module _ (recursive : Bool) (k : ℕ) (us : List ℕ) (w : Word) (h : IsWord w) 
       may (inl x) = inl x
       may (inr x) = absurd (both_ways false refl x.0)
   admitted Exclusive woken rounds e m =
-      let z = pends w h e in
-      (record { from = ap (λ n. record { owns = rules.Shares n; does = rules.Seeks rules.Exclusive woken }) m; to = ap (λ n. record { owns = rules.Shares n; does = rules.Drains false false }) m; may = z; written = written_word w h r z.0 }, tt)
+      let z = pends w h e in (
+        record {
+          from = ap (λ n. record { owns = rules.Shares n; does = rules.Seeks rules.Exclusive woken }) m;
+          to = ap (λ n. record { owns = rules.Shares n; does = rules.Drains false false }) m;
+          may = z;
+          written = written_word w h r z.0;
+        },
+        tt,
+      )
 
   tried : (want : LockMode) (left : ℕ) → is_tried want (number w) ≡ true → MayAsk recursive k want w
       → Moves (Makes (try_admission k want)) (TryAdmits want (number w) left) (Ends (gains want)) ((number w + share_of want) % 2 ^ 64)
@@ -439,7 +474,10 @@ follows (Enters want woken) seen.Entered recursive k us w rd h r f g =
     let e : ℕ → rules.Role = λ n. record { owns = rules.Shares n; does = rules.Enters1 (mode_of want) woken } in
     (record { from = ap s f; to = ap e f; may = refl; written = refl }, tt)
 follows (Checks want woken) (seen.Word v) recursive k us w rd h r f g =
-    let P : ℕ → Type 0 = λ x. IsMove recursive (cond (is_barred want x && is_parked x) (Makes (plain.Check1 (mode_of want) woken)) Stays) k us (Checks want woken) (cond (is_barred want x && is_parked x) (Appends want) (Retreats want woken)) w (number w)
+    let P : ℕ → Type 0 =
+    λ x. IsMove recursive (cond (is_barred want x && is_parked x) (Makes (plain.Check1 (mode_of want) woken)) Stays)
+    k us (Checks want woken) (cond (is_barred want x && is_parked x) (Appends want) (Retreats want woken)) w
+    (number w)
     × IsReady (cond (is_barred want x && is_parked x) (Appends want) (Retreats want woken)) in
     subst P (sym g) (checked recursive k us w h r want woken f (is_barred want (number w) && is_parked (number w)) refl)
 follows (Retreats want woken) seen.Made recursive k us w rd h r f g =
@@ -472,7 +510,10 @@ follows (DrainEnters d) seen.Entered recursive k us w rd h r f g =
     let e : ℕ → rules.Role = λ n. record { owns = rules.Shares n; does = rules.Enters2 false d.woken } in
     (record { from = ap s f; to = ap e f; may = refl; written = refl }, tt)
 follows (DrainChecks d) (seen.Word v) recursive k us w rd h r f g =
-    let P : ℕ → Type 0 = λ x. IsMove recursive (cond (has_readers x && is_writer_parked x) (Makes (plain.Check2 false d.woken)) Stays) k us (DrainChecks d) (cond (has_readers x && is_writer_parked x) (DrainAppends d.rounds) (DrainRetreats d)) w (number w)
+    let P : ℕ → Type 0 =
+    λ x. IsMove recursive (cond (has_readers x && is_writer_parked x) (Makes (plain.Check2 false d.woken)) Stays) k
+    us (DrainChecks d) (cond (has_readers x && is_writer_parked x) (DrainAppends d.rounds) (DrainRetreats d)) w
+    (number w)
     × IsReady (cond (has_readers x && is_writer_parked x) (DrainAppends d.rounds) (DrainRetreats d)) in
     subst P (sym g) (checked2 recursive k us w h r d f (has_readers (number w) && is_writer_parked (number w)) refl)
 follows (DrainRetreats d) seen.Made recursive k us w rd h r f g =
@@ -516,7 +557,9 @@ follows (Unlocks fair rest) seen.Exchanged recursive k us w rd h r f g = unlocke
 follows (Unlocks fair rest) (seen.Word v) recursive k us w rd h r f g = ((λ spot. refl, refl), rd)
 follows (LooksExclusive fair rest) seen.Entered recursive k us w rd h r f g = looks recursive k us w h r fair rest rd f
 follows Downgrades (seen.Before v) recursive k us w rd h r f g =
-    let P : ℕ → Type 0 = λ x. IsMove recursive (Makes (plain.Downgrade (is_parked x))) k us Downgrades (cond (is_parked x) EnterWakeSection (Ends outcome.Downgraded)) w ((number w + 8) % 2 ^ 64) × IsReady (cond (is_parked x) EnterWakeSection (Ends outcome.Downgraded)) in
+    let P : ℕ → Type 0 = λ x. IsMove recursive (Makes (plain.Downgrade (is_parked x))) k us Downgrades
+    (cond (is_parked x) EnterWakeSection (Ends outcome.Downgraded)) w ((number w + 8) % 2 ^ 64)
+    × IsReady (cond (is_parked x) EnterWakeSection (Ends outcome.Downgraded)) in
     subst P (sym g) (downgraded recursive k us w h r f (is_parked (number w)) refl)
 follows EnterWakeSection seen.Entered recursive k us w rd h r f g = (record { from = refl; to = ap (λ q. record { owns = rules.Shares 1; does = rules.Scans1 rules.Owed 0 false false q }) f; may = refl; written = refl }, refl)
 follows (Scans a) (seen.Took (Some token) left) recursive k us w rd h r f g = takes recursive k us w h r a left token rd f g

@@ -1,5 +1,6 @@
 -- What the number of a reader-writer lock's word says, and what acts make of it.
-use Rattle.std.proofs.Common.{◌≡◌, ◌≢◌, ◌≤◌, ◌<◌, ℕ, ◌+◌, ◌-◌, ◌*◌, ◌/◌, ◌%◌, ◌^◌, ◌==◌, ◌&&◌, ◌||◌, ◌⊎◌, inl, inr, not, bit_and, Bool, true, false, refl, sym, ap, ◌∙◌, arith, eqb-true}
+use Rattle.std.proofs.Common.{◌≡◌, ◌≢◌, ◌≤◌, ◌<◌, ℕ, ◌+◌, ◌-◌, ◌*◌, ◌/◌, ◌%◌, ◌^◌, ◌==◌, ◌&&◌, ◌||◌, ◌⊎◌, inl, inr, not}
+use Rattle.std.proofs.Common.{bit_and, Bool, true, false, refl, sym, ap, ◌∙◌, arith, eqb-true}
 use Rattle.std.proofs.lemmas.Bool.{both_ways, ltb-true, ltb-false, lt-ltb, eqb-false}
 use Rattle.std.proofs.Common.{lit<, lit≤}
 use Rattle.std.proofs.lemmas.Nat.{and_comm, and-not}
@@ -9,7 +10,8 @@ use Rattle.parking_lot_rules.specs.Clauses.{Word, IsWord, number}
 use Rattle.parking_lot_rules.specs.Plain as plain
 use Rattle.parking_lot_protocol.specs.declared.rw_phase.LockMode.{LockMode}
 use Rattle.parking_lot_protocol.specs.declared.rw_phase.LockMode.TheVariants.{Shared, Exclusive}
-use Rattle.parking_lot_protocol.specs.RwTable.{is_parked, is_writer_parked, is_upgradable, is_written, has_readers, has_room, is_barred, is_admitted}
+use Rattle.parking_lot_protocol.specs.RwTable.{is_parked, is_writer_parked, is_upgradable, is_written, has_readers}
+use Rattle.parking_lot_protocol.specs.RwTable.{has_room, is_barred, is_admitted}
 use Rattle.parking_lot_protocol.specs.RwRules.{mode_of, MayAsk}
 
 -- WHAT THE NUMBER OF A WORD SAYS
@@ -27,7 +29,13 @@ parts w word h e =
     let b = h.upgradable in
     let c = h.parked2 in
     let d = h.parked1 in
-    record { readers = omega arith; writer = omega arith; upgradable = omega arith; parked2 = omega arith; parked1 = omega arith }
+    record {
+      readers = omega arith;
+      writer = omega arith;
+      upgradable = omega arith;
+      parked2 = omega arith;
+      parked1 = omega arith;
+    }
 
 -- TESTS
 
@@ -99,10 +107,12 @@ module _ (w : Word) (h : IsWord w) where
       or false false ea eb e = absurd (both_ways false refl e)
 
   -- who is admitted may be
-  pub shares : (recursive : Bool) (us : ℕ) → is_admitted (Shared recursive) n ≡ true → (w.writer ≡ 0) ⊎ ((recursive ≡ true) × (0 < w.readers))
+  pub shares : (recursive : Bool) (us : ℕ) → is_admitted (Shared recursive) n ≡ true → (w.writer ≡ 0)
+      ⊎ ((recursive ≡ true) × (0 < w.readers))
   shares recursive us e = cases (has_room n) (is_written n) recursive (has_readers n) refl refl refl e
     where
-      cases : (a b c d : Bool) → is_written n ≡ b → c ≡ recursive → has_readers n ≡ d → a && (not b || (c && d)) ≡ true → (w.writer ≡ 0) ⊎ ((recursive ≡ true) × (0 < w.readers))
+      cases : (a b c d : Bool) → is_written n ≡ b → c ≡ recursive → has_readers n ≡ d → a && (not b || (c && d)) ≡ true
+          → (w.writer ≡ 0) ⊎ ((recursive ≡ true) × (0 < w.readers))
       cases true false c d eb ec ed e = inl (unwritten eb)
       cases true true true true eb ec ed e = inr (sym ec, read ed)
       cases true true true false eb ec ed e = absurd (both_ways false refl e)
@@ -112,13 +122,15 @@ module _ (w : Word) (h : IsWord w) where
   pub pends : is_admitted Exclusive n ≡ true → (w.writer ≡ 0) × (w.upgradable ≡ 0)
   pends e = cases (is_written n) (is_upgradable n) refl refl e
     where
-      cases : (a b : Bool) → is_written n ≡ a → is_upgradable n ≡ b → not (a || b) ≡ true → (w.writer ≡ 0) × (w.upgradable ≡ 0)
+      cases : (a b : Bool) → is_written n ≡ a → is_upgradable n ≡ b → not (a || b) ≡ true → (w.writer ≡ 0)
+          × (w.upgradable ≡ 0)
       cases false false ea eb e = (unwritten ea, no_upgraded eb)
       cases false true ea eb e = absurd (both_ways false refl e)
       cases true b ea eb e = absurd (both_ways false refl e)
 
   -- one that isn't admitted though it may ask owns nothing
-  pub owns_nothing : (recursive : Bool) (k : ℕ) (want : LockMode) → w.readers < 2 ^ 60 - 1 → MayAsk recursive k want w → is_barred want n ≡ true → is_admitted want n ≡ false → k ≡ 0
+  pub owns_nothing : (recursive : Bool) (k : ℕ) (want : LockMode) → w.readers < 2 ^ 60 - 1 → MayAsk recursive k want w
+      → is_barred want n ≡ true → is_admitted want n ≡ false → k ≡ 0
   owns_nothing recursive k Exclusive r m e f = m
   owns_nothing recursive k (Shared false) r m e f = m
   owns_nothing recursive k (Shared true) r m e f =
@@ -135,7 +147,8 @@ module _ (w : Word) (h : IsWord w) where
   -- WORDS AFTER
 
   pub small : w.readers < 2 ^ 60 - 1 → (k : ℕ) → k ≤ 16 → (n + k) % 2 ^ 64 ≡ n + k
-  small r k e = let a = h.writer in let b = h.upgradable in let c = h.parked2 in let d = h.parked1 in mod-eq_of_lt (omega arith)
+  small r k e = let a = h.writer in let b = h.upgradable in let c = h.parked2 in let d = h.parked1 in
+      mod-eq_of_lt (omega arith)
 
   pub shared_word : w.readers < 2 ^ 60 - 1 → (n + 16) % 2 ^ 64 ≡ number (record w { readers = w.readers + 1 })
   shared_word r = small r 16 (omega arith) ∙ omega arith
@@ -149,10 +162,12 @@ module _ (w : Word) (h : IsWord w) where
   pub parked2_word : w.readers < 2 ^ 60 - 1 → w.parked2 ≡ 0 → (n + 2) % 2 ^ 64 ≡ number (record w { parked2 = 1 })
   parked2_word r e = small r 2 (omega arith) ∙ omega arith
 
-  pub downgraded_word : w.readers < 2 ^ 60 - 1 → w.writer ≡ 1 → (n + 8) % 2 ^ 64 ≡ number (record w { readers = w.readers + 1; writer = 0 })
+  pub downgraded_word : w.readers < 2 ^ 60 - 1 → w.writer ≡ 1
+      → (n + 8) % 2 ^ 64 ≡ number (record w { readers = w.readers + 1; writer = 0 })
   downgraded_word r e = small r 8 (omega arith) ∙ omega arith
 
-  pub unshared_word : w.readers < 2 ^ 60 - 1 → 0 < w.readers → (n + (2 ^ 64 - 16)) % 2 ^ 64 ≡ number (record w { readers = w.readers - 1 })
+  pub unshared_word : w.readers < 2 ^ 60 - 1 → 0 < w.readers → (n + (2 ^ 64 - 16)) % 2 ^ 64 ≡ number
+      (record w { readers = w.readers - 1 })
   unshared_word r e =
       let a = h.writer in
       let b = h.upgradable in
@@ -185,7 +200,8 @@ module _ (w : Word) (h : IsWord w) where
       let k : bit_and n (2 ^ 64 - 2 + 1) + 0 ≡ n = omega arith in
       ap (λ x. x % 2 ^ 64) k ∙ mod-eq_of_lt f
 
-  pub cleared_word : w.readers < 2 ^ 60 - 1 → (bit_and n (2 ^ 64 - 2 + 0) + 0) % 2 ^ 64 ≡ number (record w { parked1 = 0 })
+  pub cleared_word : w.readers < 2 ^ 60 - 1 → (bit_and n (2 ^ 64 - 2 + 0) + 0) % 2 ^ 64 ≡ number
+      (record w { parked1 = 0 })
   cleared_word r =
       let a = h.writer in
       let b = h.upgradable in

@@ -1,10 +1,12 @@
 -- What a waking section does at a waiter is what the rules say.
-use Rattle.std.proofs.Common.{◌≡◌, ℕ, ◌+◌, ◌*◌, ◌/◌, ◌%◌, ◌==◌, ◌&&◌, ◌||◌, Bool, true, false, cond, List, refl, sym, ap, ◌∙◌, subst, arith}
+use Rattle.std.proofs.Common.{◌≡◌, ℕ, ◌+◌, ◌*◌, ◌/◌, ◌%◌, ◌==◌, ◌&&◌, ◌||◌, Bool, true, false, cond, List, refl, sym}
+use Rattle.std.proofs.Common.{ap, ◌∙◌, subst, arith}
 use Rattle.parking_lot_rules.specs.Roles.{Mode, Shared, Exclusive, Upgradable}
 use Rattle.parking_lot_rules.specs.Steps.{look, holds_upgradable}
 use Rattle.parking_lot_protocol.specs.declared.rw_phase.Scanning.{Scanning}
 use Rattle.parking_lot_protocol.specs.declared.rw_phase.AfterWake.{AfterWake}
-use Rattle.parking_lot_protocol.specs.declared.rw_phase.AfterWake.TheVariants.{FreedShared, FreedExclusive, Downgraded, AgainShared, AgainExclusive}
+use Rattle.parking_lot_protocol.specs.declared.rw_phase.AfterWake.TheVariants.{FreedShared, FreedExclusive, Downgraded}
+use Rattle.parking_lot_protocol.specs.declared.rw_phase.AfterWake.TheVariants.{AgainShared, AgainExclusive}
 use Rattle.parking_lot_rules.specs.Classes.{bit}
 use Rattle.parking_lot_core_model.specs.declared.parking.FilterOp.{FilterOp}
 use Rattle.parking_lot_core_model.specs.declared.parking.FilterOp.TheVariants.{Unpark, Skip, Stop}
@@ -29,7 +31,8 @@ bits : (s : Scanning) → Bits s.upgradable s.writer (sum_of s)
 bits s = by_rest s.rest
   where
     abbrevs : (m : ℕ) (k : ℕ) → m ≡ 16 * k + (20 * bit s.upgradable + 8 * bit s.writer) → Bits s.upgradable s.writer m
-    abbrevs m k e = let P : ℕ → Type 0 = λ y. Bits s.upgradable s.writer y in subst P (sym e) (bits_at k s.upgradable s.writer)
+    abbrevs m k e = let P : ℕ → Type 0 = λ y. Bits s.upgradable s.writer y in
+        subst P (sym e) (bits_at k s.upgradable s.writer)
 
     by_rest : (q : AfterWake) → Bits s.upgradable s.writer (base_of q + taken_sum s)
     by_rest FreedShared = abbrevs _ s.shared (omega arith)
@@ -51,8 +54,10 @@ by_bits false false Shared = refl
 by_bits false false Exclusive = refl
 by_bits false false Upgradable = refl
 
-answers : (sum : ℕ) (u x : Bool) (mode : Mode) → Bits u x sum → wake_answer sum (token_of mode) ≡ answer_to (look u x mode)
-answers sum u x mode b = ap (λ y. answer_by y (sum / 4 % 2) (token_of mode)) b.writer ∙ ap (λ y. answer_by (bit x) y (token_of mode)) b.upgradable ∙ by_bits u x mode
+answers : (sum : ℕ) (u x : Bool) (mode : Mode) → Bits u x sum → wake_answer sum (token_of mode) ≡ answer_to
+    (look u x mode)
+answers sum u x mode b = ap (λ y. answer_by y (sum / 4 % 2) (token_of mode)) b.writer
+    ∙ ap (λ y. answer_by (bit x) y (token_of mode)) b.upgradable ∙ by_bits u x mode
 
 holds : (n : ℕ) (s : Scanning) (us : List ℕ) → holds_upgradable (scan_of n s us) ≡ s.upgradable
 holds n s us = by_rest s.rest
@@ -66,4 +71,5 @@ holds n s us = by_rest s.rest
 
 pub looks_rightly : (sum token : ℕ) → LooksRightly sum token (wake_answer sum token)
 looks_rightly sum token s mode n us e t =
-    ap (λ y. wake_answer y token) e ∙ ap (λ y. wake_answer (sum_of s) y) t ∙ answers (sum_of s) s.upgradable s.writer mode (bits s) ∙ ap (λ u. answer_to (look u s.writer mode)) (sym (holds n s us))
+    ap (λ y. wake_answer y token) e ∙ ap (λ y. wake_answer (sum_of s) y) t ∙ answers (sum_of s) s.upgradable s.writer
+    mode (bits s) ∙ ap (λ u. answer_to (look u s.writer mode)) (sym (holds n s us))

@@ -1,13 +1,17 @@
 -- What acts do to a word, and what they show of it.
-use Rattle.std.specs.Prelude.{◌≡◌, ◌≢◌, ℕ, ◌+◌, ◌%◌, ◌^◌, Bool, true, false, if◌then◌else◌, bit_and, Option, Some, None, Result, Ok, Err}
+use Rattle.std.specs.Prelude.{◌≡◌, ◌≢◌, ℕ, ◌+◌, ◌%◌, ◌^◌, Bool, true, false, if◌then◌else◌, bit_and, Option, Some, None}
+use Rattle.std.specs.Prelude.{Result, Ok, Err}
 use Rattle.parking_lot_protocol.specs.declared.act.Act.{Act}
-use Rattle.parking_lot_protocol.specs.declared.act.Act.TheVariants.{Load, Exchange, Add, FetchAnd, Spin, Enter, Section, Sleep}
-use Rattle.parking_lot_protocol.specs.declared.act.SectionAct.TheVariants.{Check, TakeFirst, TakeNext, Append, Store, Leave, Wake}
+use Rattle.parking_lot_protocol.specs.declared.act.Act.TheVariants.{Load, Exchange, Add, FetchAnd, Spin, Enter, Section}
+use Rattle.parking_lot_protocol.specs.declared.act.Act.TheVariants.{Sleep}
+use Rattle.parking_lot_protocol.specs.declared.act.SectionAct.TheVariants.{Check, TakeFirst, TakeNext, Append, Store}
+use Rattle.parking_lot_protocol.specs.declared.act.SectionAct.TheVariants.{Leave, Wake}
 use Rattle.parking_lot_protocol.specs.declared.act.WordChange.{WordChange}
 use Rattle.parking_lot_protocol.specs.declared.act.ActResult.{ActResult}
 use Rattle.parking_lot_protocol.specs.declared.act.Taking.{Taking}
 use Rattle.parking_lot_core_model.specs.declared.parking.UnparkToken.{UnparkToken}
-use Rattle.parking_lot_protocol.specs.declared.act.ActResult.TheVariants.{Start, Word, Exchanged, Before, Spun, Entered, Took, Stored, Made, Woken}
+use Rattle.parking_lot_protocol.specs.declared.act.ActResult.TheVariants.{Start, Word, Exchanged, Before, Spun, Entered}
+use Rattle.parking_lot_protocol.specs.declared.act.ActResult.TheVariants.{Took, Stored, Made, Woken}
 
 -- the word after a change
 abbrev pub change_of : WordChange → ℕ → ℕ

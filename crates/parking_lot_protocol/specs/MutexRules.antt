@@ -7,7 +7,13 @@ use Rattle.parking_lot_protocol.specs.declared.act.ActResult.TheVariants as seen
 use Rattle.parking_lot_protocol.specs.declared.act.CoreAnswer.{CoreAnswer}
 use Rattle.parking_lot_protocol.specs.declared.act.CoreAnswer.TheVariants.{Owned, Refused, Released}
 use Rattle.parking_lot_protocol.specs.declared.mutex_phase.MutexPhase.{MutexPhase}
-use Rattle.parking_lot_protocol.specs.declared.mutex_phase.MutexPhase.TheVariants.{Locking, Trying, Unlocking, Bumping, Loads, Locks, Spins, Parks, Enters, Checks, Retreats, Appends, Rests, Sleeps, TryLoads, TryLocks, Refuses, BumpLoads, Relocks, Unlocks, Looks, Takes, Stores, Leaves, Wakes, Finishes, Ends, Invalid}
+use Rattle.parking_lot_protocol.specs.declared.mutex_phase.MutexPhase.TheVariants.{Locking, Trying, Unlocking, Bumping}
+use Rattle.parking_lot_protocol.specs.declared.mutex_phase.MutexPhase.TheVariants.{Loads, Locks, Spins, Parks, Enters}
+use Rattle.parking_lot_protocol.specs.declared.mutex_phase.MutexPhase.TheVariants.{Checks, Retreats, Appends, Rests}
+use Rattle.parking_lot_protocol.specs.declared.mutex_phase.MutexPhase.TheVariants.{Sleeps, TryLoads, TryLocks, Refuses}
+use Rattle.parking_lot_protocol.specs.declared.mutex_phase.MutexPhase.TheVariants.{BumpLoads, Relocks, Unlocks, Looks}
+use Rattle.parking_lot_protocol.specs.declared.mutex_phase.MutexPhase.TheVariants.{Takes, Stores, Leaves, Wakes}
+use Rattle.parking_lot_protocol.specs.declared.mutex_phase.MutexPhase.TheVariants.{Finishes, Ends, Invalid}
 use Rattle.parking_lot_protocol.specs.Acts.{Begins, Gives, word_after}
 use Rattle.parking_lot_protocol.specs.declared.act.Act.{Act}
 use Rattle.parking_lot_protocol.specs.declared.act.Act.TheVariants.{Done}
@@ -80,8 +86,8 @@ pub data Move : Type 0 where
   -- the thread's own steps
   Makes : (k : rules.Plain) → Move
   Joins : Move
-  -- it takes the first waiter; stores, where one was taken or not, the mutex is handed over or not, and waiters are left or not; and wakes
-  -- the one that it took
+  -- it takes the first waiter; stores, where one was taken or not, the mutex is handed over or not, and waiters are
+  -- left or not; and wakes the one that it took
   TakesOne : Move
   Tells : (taken handed left : Bool) → Move
   WakesOne : Move
@@ -123,7 +129,8 @@ pub record IsWord (w : rules.Word) : Type 0 where
   pub locked : w.locked ≤ 1
   pub parked : w.parked ≤ 1
 
--- The step k leads from the one role and word to the other, and it may be made: as far as the word goes, where nobody is inside.
+-- The step k leads from the one role and word to the other, and it may be made: as far as the word goes, where nobody
+-- is inside.
 pub record IsPlain (k : rules.Plain) (old new : rules.Role) (w : rules.Word) (word : ℕ) : Type 0 where
   pub from : old ≡ rules.from k
   pub to : new ≡ rules.to k
@@ -143,14 +150,19 @@ mark_of false = Normal
 abbrev pub IsMove : Move → ℕ → MutexPhase → MutexPhase → rules.Word → ℕ → Type 0
 IsMove Stays v p q w word = ((spot : QueuePosition) → role spot v q ≡ role spot v p) × (word ≡ rules.number w)
 IsMove (Makes k) v p q w word = IsPlain k (role Listed v p) (role Listed v q) w word
-IsMove Joins v p q w word = Keeps (role Listed v p) (rules.doing rules.Checked) (role Listed v q) (rules.doing (rules.Queued Fresh)) w word
-IsMove TakesOne v p q w word = Keeps (role Listed v p) (rules.doing (rules.Unlocks [])) (role Listed v q) (rules.doing (rules.Unlocks (v ∷ []))) w word
+IsMove Joins v p q w word = Keeps (role Listed v p) (rules.doing rules.Checked) (role Listed v q)
+    (rules.doing (rules.Queued Fresh)) w word
+IsMove TakesOne v p q w word = Keeps (role Listed v p) (rules.doing (rules.Unlocks [])) (role Listed v q)
+    (rules.doing (rules.Unlocks (v ∷ []))) w word
 IsMove (Tells taken handed left) v p q w word =
-    (role Listed v p ≡ rules.doing (rules.Unlocks (taken_of v taken))) × (role Listed v q ≡ rules.doing (rules.Stored (taken_of v taken)))
+    (role Listed v p ≡ rules.doing (rules.Unlocks (taken_of v taken)))
+    × (role Listed v q ≡ rules.doing (rules.Stored (taken_of v taken)))
     × (handed ≡ true → taken ≡ true) × (word ≡ rules.number (record { locked = bit handed; parked = bit left }))
-IsMove WakesOne v p q w word = Keeps (role Listed v p) (rules.doing (rules.Wakes (v ∷ []))) (role Listed v q) (rules.doing (rules.Wakes [])) w word
+IsMove WakesOne v p q w word = Keeps (role Listed v p) (rules.doing (rules.Wakes (v ∷ []))) (role Listed v q)
+    (rules.doing (rules.Wakes [])) w word
 IsMove (IsWoken handed) v p q w word =
-    (by : ℕ) → Keeps (role (Off by (mark_of handed)) v p) (rules.doing (rules.Taken by (mark_of handed) Asleep)) (role Listed v q)
+    (by : ℕ) → Keeps (role (Off by (mark_of handed)) v p) (rules.doing (rules.Taken by (mark_of handed) Asleep))
+    (role Listed v q)
     (if handed then record { owns = true; does = rules.Idle } else rules.doing (rules.Seeks true)) w word
 
 -- what a core may be told at a word: that it begins, or what its act gives
@@ -163,10 +175,11 @@ IsTold p word s = Gives (act_of p) word s
 
 -- What a core is told at a word is a step of the rules, of the kind that the table says.
 abbrev pub Follows : MutexPhase → ActResult → Type 0
-Follows p s = (w : rules.Word) (v : ℕ) → IsWord w → IsTold p (rules.number w) s → IsMove (move v p s) v p (next_phase p s) w (word_after (act_of p) s (rules.number w))
+Follows p s = (w : rules.Word) (v : ℕ) → IsWord w → IsTold p (rules.number w) s
+    → IsMove (move v p s) v p (next_phase p s) w (word_after (act_of p) s (rules.number w))
 
--- And so is the end of a call: of one that was refused or whose section is over, and of any other nothing is left to be done. Its thread
--- owns the mutex or not, as the answer says.
+-- And so is the end of a call: of one that was refused or whose section is over, and of any other nothing is left to be
+-- done. Its thread owns the mutex or not, as the answer says.
 abbrev pub IsLast : Move → MutexPhase → rules.Role → Type 0
 IsLast (Makes k) p new = (w : rules.Word) → IsPlain k (role Listed 0 p) new w (rules.number w)
 IsLast move p new = role Listed 0 p ≡ new

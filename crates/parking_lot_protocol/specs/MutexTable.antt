@@ -1,5 +1,6 @@
 -- The calls of a mutex: the act that each phase has asked for, and the phase that follows what it gives.
-use Rattle.std.specs.Prelude.{ℕ, ◌+◌, ◌-◌, ◌/◌, ◌%◌, ◌*◌, ◌==◌, nat_lt, ◌&&◌, ◌||◌, Bool, true, false, if◌then◌else◌, Option, Some, None, is_some, Result, Ok, Err}
+use Rattle.std.specs.Prelude.{ℕ, ◌+◌, ◌-◌, ◌/◌, ◌%◌, ◌*◌, ◌==◌, nat_lt, ◌&&◌, ◌||◌, Bool, true, false, if◌then◌else◌}
+use Rattle.std.specs.Prelude.{Option, Some, None, is_some, Result, Ok, Err}
 use Rattle.std.specs.Option.{option_map, option_map_or}
 use Rattle.parking_lot_core_model.specs.declared.parking.UnparkToken.{UnparkToken}
 use Rattle.parking_lot_protocol.specs.declared.act.Act.{Act}
@@ -10,8 +11,15 @@ use Rattle.parking_lot_protocol.specs.declared.act.CoreAnswer.TheVariants.{Owned
 use Rattle.parking_lot_protocol.specs.declared.act.ActResult.{ActResult}
 use Rattle.parking_lot_protocol.specs.declared.mutex_phase.Asking.{Asking}
 use Rattle.parking_lot_protocol.specs.declared.mutex_phase.MutexPhase.{MutexPhase}
-use Rattle.parking_lot_protocol.specs.declared.mutex_phase.MutexPhase.TheVariants.{Locking, Trying, Unlocking, Bumping, Loads, Locks, Spins, Parks, Enters, Checks, Retreats, Appends, Rests, Sleeps, TryLoads, TryLocks, Refuses, BumpLoads, Relocks, Unlocks, Looks, Takes, Stores, Leaves, Wakes, Finishes, Ends, Invalid}
-use Rattle.parking_lot_protocol.specs.Acts.{is_start, is_entered, is_made, word_seen, exchange_seen, spun_seen, took_seen, stored_seen, woken_seen}
+use Rattle.parking_lot_protocol.specs.declared.mutex_phase.MutexPhase.TheVariants.{Locking, Trying, Unlocking, Bumping}
+use Rattle.parking_lot_protocol.specs.declared.mutex_phase.MutexPhase.TheVariants.{Loads, Locks, Spins, Parks, Enters}
+use Rattle.parking_lot_protocol.specs.declared.mutex_phase.MutexPhase.TheVariants.{Checks, Retreats, Appends, Rests}
+use Rattle.parking_lot_protocol.specs.declared.mutex_phase.MutexPhase.TheVariants.{Sleeps, TryLoads, TryLocks, Refuses}
+use Rattle.parking_lot_protocol.specs.declared.mutex_phase.MutexPhase.TheVariants.{BumpLoads, Relocks, Unlocks, Looks}
+use Rattle.parking_lot_protocol.specs.declared.mutex_phase.MutexPhase.TheVariants.{Takes, Stores, Leaves, Wakes}
+use Rattle.parking_lot_protocol.specs.declared.mutex_phase.MutexPhase.TheVariants.{Finishes, Ends, Invalid}
+use Rattle.parking_lot_protocol.specs.Acts.{is_start, is_entered, is_made, word_seen, exchange_seen, spun_seen}
+use Rattle.parking_lot_protocol.specs.Acts.{took_seen, stored_seen, woken_seen}
 use Rattle.parking_lot_rules.specs.Classes.{bit}
 
 -- what a release stores: the lock stays locked where it is handed over, and the parked bit where waiters are left
@@ -42,7 +50,8 @@ act_of Relocks = act.Load
 act_of (Unlocks giving) = act.Exchange 1 0
 act_of (Looks giving) = act.Enter 0
 act_of (Takes giving) = act.Section section.TakeFirst
-act_of (Stores giving taken left) = act.Section (section.Store (store_of (giving.fair && taken) left) (store_of taken left))
+act_of (Stores giving taken left) =
+    act.Section (section.Store (store_of (giving.fair && taken) left) (store_of taken left))
 act_of (Leaves giving taken handed) = act.Section section.Leave
 act_of (Wakes giving) = act.Section section.Wake
 act_of (Finishes giving) = (if giving.again then act.Load else act.Done Released)
@@ -53,7 +62,8 @@ act_of Invalid = act.Done Refused
 abbrev pub begins : Bool → Asking
 begins woken = record { woken = woken; rounds = 10 }
 
--- One that asks has seen the word: it locks an unlocked mutex, waits a while for a locked one where nobody else waits, and else goes to sleep.
+-- One that asks has seen the word: it locks an unlocked mutex, waits a while for a locked one where nobody else waits,
+-- and else goes to sleep.
 abbrev pub seeks : Asking → ℕ → MutexPhase
 seeks a word =
     (if word == 0 then Locks a false else
@@ -85,7 +95,8 @@ after (Unlocking fair) s = once (is_start s) (Unlocks (record { fair = fair; aga
 after Bumping s = once (is_start s) BumpLoads
 after (Loads a) s = option_map (seeks a) (word_seen s)
 after (Locks a waiters) s = option_map (won_or (Ends Owned) (seeks a)) (exchange_seen s)
-after (Spins a) s = option_map (λ spun. if spun then Loads (record a { rounds = a.rounds - 1 }) else Parks a) (spun_seen s)
+after (Spins a) s = option_map (λ spun. if spun then Loads (record a { rounds = a.rounds - 1 }) else Parks a)
+    (spun_seen s)
 after (Parks a) s = option_map (won_or (Enters a.woken) (seeks a)) (exchange_seen s)
 after (Enters woken) s = once (is_entered s) (Checks woken)
 after (Checks woken) s = option_map (λ word. if word == 3 then Appends else Retreats woken) (word_seen s)
@@ -96,9 +107,12 @@ after Sleeps s = option_map (λ token. if token.0 == 1 then Ends Owned else Load
 after TryLoads s = option_map (tries 63) (word_seen s)
 after (TryLocks waiters left) s = option_map (won_or (Ends Owned) (retries left)) (exchange_seen s)
 after Refuses s = None
-after BumpLoads s = option_map (λ word. if word / 2 % 2 == 1 then Unlocks (record { fair = true; again = true }) else Ends Owned) (word_seen s)
+after BumpLoads s =
+    option_map (λ word. if word / 2 % 2 == 1 then Unlocks (record { fair = true; again = true }) else Ends Owned)
+    (word_seen s)
 after Relocks s = option_map (seeks (begins false)) (word_seen s)
-after (Unlocks g) s = option_map (won_or (if g.again then Relocks else Ends Released) (λ word. Looks g)) (exchange_seen s)
+after (Unlocks g) s = option_map (won_or (if g.again then Relocks else Ends Released) (λ word. Looks g))
+    (exchange_seen s)
 after (Looks g) s = once (is_entered s) (Takes g)
 after (Takes g) s = option_map (λ t. Stores g (is_some t.token) t.left) (took_seen s)
 after (Stores g taken left) s = option_map (λ fair. Leaves g taken (taken && (g.fair || fair))) (stored_seen s)

@@ -1,12 +1,16 @@
 -- Which step of the rules each answer to a reader-writer lock's core is, and in which role its thread is.
-use Rattle.std.specs.Prelude.{◌≡◌, ◌≤◌, ◌<◌, ℕ, ◌+◌, ◌-◌, ◌/◌, ◌^◌, ◌==◌, ◌&&◌, ◌||◌, ◌⊎◌, Bool, true, false, if◌then◌else◌, List, [], ◌∷◌, ◌++◌, length, Option, Some, None}
+use Rattle.std.specs.Prelude.{◌≡◌, ◌≤◌, ◌<◌, ℕ, ◌+◌, ◌-◌, ◌/◌, ◌^◌, ◌==◌, ◌&&◌, ◌||◌, ◌⊎◌, Bool, true, false}
+use Rattle.std.specs.Prelude.{if◌then◌else◌, List, [], ◌∷◌, ◌++◌, length, Option, Some, None}
 use Rattle.parking_lot_core_model.specs.declared.parking.ParkToken.{ParkToken}
-use Rattle.parking_lot_rules.specs.Roles.{Mode, Mark, Normal, Handed, Fresh, Asleep, Cause, Owned, Shares, Excludes, Upgrades, Role}
+use Rattle.parking_lot_rules.specs.Roles.{Mode, Mark, Normal, Handed, Fresh, Asleep, Cause, Owned, Shares, Excludes}
+use Rattle.parking_lot_rules.specs.Roles.{Upgrades, Role}
 use Rattle.parking_lot_rules.specs.Roles as rules
 use Rattle.parking_lot_rules.specs.Clauses.{Word, IsWord, number}
 use Rattle.parking_lot_rules.specs.Plain.{Plain}
 use Rattle.parking_lot_rules.specs.Plain as plain
-use Rattle.parking_lot_rules.specs.Steps.{Listing, Join1, Join2, listing_from, listing_to, Scan, scanning, taking, Ending, Free, Hand, Keep, ends_for, MayEnd, stored, Waking, Retry, Own, OwnPending, OwnUpgradable, Recheck, waking_from, waking_to}
+use Rattle.parking_lot_rules.specs.Steps.{Listing, Join1, Join2, listing_from, listing_to, Scan, scanning, taking}
+use Rattle.parking_lot_rules.specs.Steps.{Ending, Free, Hand, Keep, ends_for, MayEnd, stored, Waking, Retry, Own}
+use Rattle.parking_lot_rules.specs.Steps.{OwnPending, OwnUpgradable, Recheck, waking_from, waking_to}
 use Rattle.parking_lot_protocol.specs.declared.act.ActResult.{ActResult}
 use Rattle.parking_lot_protocol.specs.declared.act.ActResult.TheVariants as seen
 use Rattle.parking_lot_protocol.specs.declared.rw_phase.LockMode.{LockMode}
@@ -17,10 +21,25 @@ use Rattle.parking_lot_protocol.specs.declared.rw_phase.Outcome.{Outcome}
 use Rattle.parking_lot_protocol.specs.declared.rw_phase.Outcome.TheVariants as outcome
 use Rattle.parking_lot_protocol.specs.declared.rw_phase.Scanning.{Scanning}
 use Rattle.parking_lot_protocol.specs.declared.rw_phase.RwPhase.{RwPhase}
-use Rattle.parking_lot_protocol.specs.declared.rw_phase.RwPhase.TheVariants.{Locking, Trying, UnlockingShared, UnlockingExclusive, Downgrading, BumpingShared, BumpingExclusive, Loads, Admits, Spins, SetParked, Enters, Checks, Retreats, Appends, Rests, Sleeps, DrainLoads, DrainSpins, DrainSetParked, DrainEnters, DrainChecks, DrainRetreats, DrainAppends, DrainRests, DrainSleeps, TryLoads, TryAdmits, Refuses, BumpLoads, Relocks, Unshares, EnterWriterWakeSection, TakeWriter, ClearWriterParked, LeaveWriterWakeSection, Unlocks, LooksExclusive, Downgrades, EnterWakeSection, Scans, Stores, Leaves, Wakes, Finishes, Ends}
+use Rattle.parking_lot_protocol.specs.declared.rw_phase.RwPhase.TheVariants.{Locking, Trying, UnlockingShared}
+use Rattle.parking_lot_protocol.specs.declared.rw_phase.RwPhase.TheVariants.{UnlockingExclusive, Downgrading}
+use Rattle.parking_lot_protocol.specs.declared.rw_phase.RwPhase.TheVariants.{BumpingShared, BumpingExclusive, Loads}
+use Rattle.parking_lot_protocol.specs.declared.rw_phase.RwPhase.TheVariants.{Admits, Spins, SetParked, Enters, Checks}
+use Rattle.parking_lot_protocol.specs.declared.rw_phase.RwPhase.TheVariants.{Retreats, Appends, Rests, Sleeps}
+use Rattle.parking_lot_protocol.specs.declared.rw_phase.RwPhase.TheVariants.{DrainLoads, DrainSpins, DrainSetParked}
+use Rattle.parking_lot_protocol.specs.declared.rw_phase.RwPhase.TheVariants.{DrainEnters, DrainChecks, DrainRetreats}
+use Rattle.parking_lot_protocol.specs.declared.rw_phase.RwPhase.TheVariants.{DrainAppends, DrainRests, DrainSleeps}
+use Rattle.parking_lot_protocol.specs.declared.rw_phase.RwPhase.TheVariants.{TryLoads, TryAdmits, Refuses, BumpLoads}
+use Rattle.parking_lot_protocol.specs.declared.rw_phase.RwPhase.TheVariants.{Relocks, Unshares, EnterWriterWakeSection}
+use Rattle.parking_lot_protocol.specs.declared.rw_phase.RwPhase.TheVariants.{TakeWriter, ClearWriterParked}
+use Rattle.parking_lot_protocol.specs.declared.rw_phase.RwPhase.TheVariants.{LeaveWriterWakeSection, Unlocks}
+use Rattle.parking_lot_protocol.specs.declared.rw_phase.RwPhase.TheVariants.{LooksExclusive, Downgrades}
+use Rattle.parking_lot_protocol.specs.declared.rw_phase.RwPhase.TheVariants.{EnterWakeSection, Scans, Stores, Leaves}
+use Rattle.parking_lot_protocol.specs.declared.rw_phase.RwPhase.TheVariants.{Wakes, Finishes, Ends}
 use Rattle.parking_lot_protocol.specs.Acts.{Begins, Gives, word_after}
 use Rattle.parking_lot_rules.specs.Classes.{bit}
-use Rattle.parking_lot_protocol.specs.RwTable.{act_of, next_phase, is_admitted, is_barred, is_parked, is_writer_parked, is_tried, has_readers, hands, count_of}
+use Rattle.parking_lot_protocol.specs.RwTable.{act_of, next_phase, is_admitted, is_barred, is_parked, is_writer_parked}
+use Rattle.parking_lot_protocol.specs.RwTable.{is_tried, has_readers, hands, count_of}
 pub use Rattle.parking_lot_protocol.specs.Positions.{QueuePosition, Listed, Off}
 
 abbrev pub mode_of : LockMode → Mode
@@ -87,7 +106,14 @@ cause_of rest.AgainShared = rules.FromExclusive
 cause_of rest.AgainExclusive = rules.FromExclusive
 
 abbrev pub scan_of : ℕ → Scanning → List ℕ → Scan
-scan_of n s us = record { owns = owned_at_last n s.rest; cause = cause_of s.rest; shared = s.shared; upgradable = s.upgradable; writer = s.writer; taken = us }
+scan_of n s us = record {
+  owns = owned_at_last n s.rest;
+  cause = cause_of s.rest;
+  shared = s.shared;
+  upgradable = s.upgradable;
+  writer = s.writer;
+  taken = us;
+}
 
 -- What a thread is doing in each phase, in the words of the rules. us: whom it has taken and is to wake.
 abbrev pub does : QueuePosition → List ℕ → RwPhase → rules.Phase
@@ -175,23 +201,27 @@ move n us (Trying want) s = Makes (plain.Begin n (mode_of want))
 move n us (Admits a word) seen.Exchanged = Makes (admission n a.want a.woken)
 move n us (SetParked a word) seen.Exchanged = Makes (plain.Flag1 (mode_of a.want) a.woken)
 move n us (Enters want woken) s = Makes (plain.Enter1 (mode_of want) woken)
-move n us (Checks want woken) (seen.Word word) = (if is_barred want word && is_parked word then Makes (plain.Check1 (mode_of want) woken) else Stays)
+move n us (Checks want woken) (seen.Word word) =
+    (if is_barred want word && is_parked word then Makes (plain.Check1 (mode_of want) woken) else Stays)
 move n us (Retreats want woken) s = Makes (plain.Retreat1 (mode_of want) woken)
 move n us (Appends want) s = Joins (Join1 (mode_of want))
 move n us (Rests want) s = Makes (plain.Rest1 (mode_of want))
 move n us (Sleeps want) (seen.Woken token) = IsWoken (waking want (token.0 == 1))
 move n us (DrainLoads d) (seen.Word word) = (if has_readers word then Stays else Makes (plain.Drain false d.woken))
 move n us (DrainSetParked d flagged) seen.Exchanged = Makes (plain.Flag2 false d.woken)
-move n us (DrainSetParked d flagged) (seen.Word word) = (if has_readers word then Stays else Makes (plain.Drain false d.woken))
+move n us (DrainSetParked d flagged) (seen.Word word) =
+    (if has_readers word then Stays else Makes (plain.Drain false d.woken))
 move n us (DrainEnters d) s = Makes (plain.Enter2 false d.woken)
-move n us (DrainChecks d) (seen.Word word) = (if has_readers word && is_writer_parked word then Makes (plain.Check2 false d.woken) else Stays)
+move n us (DrainChecks d) (seen.Word word) =
+    (if has_readers word && is_writer_parked word then Makes (plain.Check2 false d.woken) else Stays)
 move n us (DrainRetreats d) s = Makes (plain.Retreat2 false d.woken)
 move n us (DrainAppends rounds) s = Joins (Join2 false)
 move n us (DrainRests rounds) s = Makes (plain.Rest2 false)
 move n us (DrainSleeps rounds) s = IsWoken (Recheck false)
 move n us (TryAdmits want word left) seen.Exchanged = Makes (try_admission n want)
 move n us (Relocks want) s = Makes (plain.Begin n (mode_of want))
-move n us (Unshares rest) (seen.Before word) = Makes (if word / 16 == 1 && is_writer_parked word then plain.UnshareLast n else plain.Unshare n)
+move n us (Unshares rest) (seen.Before word) =
+    Makes (if word / 16 == 1 && is_writer_parked word then plain.UnshareLast n else plain.Unshare n)
 move n us (EnterWriterWakeSection rest) s = Makes (plain.Look2 n)
 move n us (TakeWriter rest) (seen.Took (Some token) left) = TakesWriter
 move n us (ClearWriterParked rest taken) s = Makes (plain.Mask2 n us)
@@ -213,7 +243,8 @@ last_move n (Refuses want) = Makes (plain.Refuse n (mode_of want))
 last_move n (Finishes rest) = Makes (plain.Finish (owned_at_last n rest))
 last_move n p = Stays
 
--- The step k leads from the one role and word to the other, and it may be made: as far as the word goes, where nobody is inside a section.
+-- The step k leads from the one role and word to the other, and it may be made: as far as the word goes, where nobody
+-- is inside a section.
 pub record IsPlain (recursive : Bool) (k : Plain) (old new : Role) (w : Word) (word : ℕ) : Type 0 where
   pub from : old ≡ plain.from k
   pub to : new ≡ plain.to k
@@ -226,7 +257,8 @@ pub record TakingOne (n : ℕ) (us : List ℕ) (v : ℕ) (mode : Mode) (p q : Rw
   pub to : role n Listed (us ++ v ∷ []) q ≡ scanning (taking scan v mode)
 
 -- a thread that scans stores, and the word is the one of that ending
-pub record Telling (n : ℕ) (us : List ℕ) (end : Ending) (left : Bool) (p q : RwPhase) (scan : Scan) (w : Word) (word : ℕ) : Type 0 where
+pub record Telling (n : ℕ) (us : List ℕ) (end : Ending) (left : Bool) (p q : RwPhase) (scan : Scan) (w : Word)
+    (word : ℕ) : Type 0 where
   pub from : role n Listed us p ≡ scanning scan
   pub to : role n Listed us q ≡ record { owns = scan.owns; does = rules.Stored1 us }
   pub cause : scan.cause ≡ ends_for end
@@ -247,15 +279,21 @@ waker n us p = record { owns = owns n p; does = rules.Wakes us }
 
 -- The move leads from phase p to phase q, at word w, and leaves that number as the word.
 abbrev pub IsMove : Bool → Move → ℕ → List ℕ → RwPhase → RwPhase → Word → ℕ → Type 0
-IsMove recursive Stays n us p q w word = ((spot : QueuePosition) → role n spot us q ≡ role n spot us p) × (word ≡ number w)
+IsMove recursive Stays n us p q w word = ((spot : QueuePosition) → role n spot us q ≡ role n spot us p)
+    × (word ≡ number w)
 IsMove recursive (Makes k) n us p q w word = IsPlain recursive k (role n Listed us p) (role n Listed us q) w word
-IsMove recursive (Joins k) n us p q w word = (role n Listed us p ≡ listing_from k) × (role n Listed us q ≡ listing_to k) × (word ≡ number w)
-IsMove recursive (TakesOne mode) n us p q w word = (v : ℕ) → (scan : Scan) × TakingOne n us v mode p q scan × (word ≡ number w)
+IsMove recursive (Joins k) n us p q w word = (role n Listed us p ≡ listing_from k) × (role n Listed us q ≡ listing_to k)
+    × (word ≡ number w)
+IsMove recursive (TakesOne mode) n us p q w word = (v : ℕ) → (scan : Scan) × TakingOne n us v mode p q scan
+    × (word ≡ number w)
 IsMove recursive TakesWriter n us p q w word =
-    (v : ℕ) → (role n Listed us p ≡ record { owns = Shares n; does = rules.Scans2 [] }) × (role n Listed (v ∷ []) q ≡ record { owns = Shares n; does = rules.Scans2 (v ∷ []) }) × (word ≡ number w)
+    (v : ℕ) → (role n Listed us p ≡ record { owns = Shares n; does = rules.Scans2 [] })
+    × (role n Listed (v ∷ []) q ≡ record { owns = Shares n; does = rules.Scans2 (v ∷ []) }) × (word ≡ number w)
 IsMove recursive (Tells end left) n us p q w word = (scan : Scan) × Telling n us end left p q scan w word
-IsMove recursive WakesOne n us p q w word = (v : ℕ) → (role n Listed (v ∷ us) p ≡ waker n (v ∷ us) p) × (role n Listed us q ≡ waker n us p) × (word ≡ number w)
-IsMove recursive (IsWoken k) n us p q w word = (by : ℕ) → (role n (Off by (mark_for k)) us p ≡ waking_from k by Asleep) × (role n Listed us q ≡ waking_to k) × (word ≡ number w)
+IsMove recursive WakesOne n us p q w word = (v : ℕ) → (role n Listed (v ∷ us) p ≡ waker n (v ∷ us) p)
+    × (role n Listed us q ≡ waker n us p) × (word ≡ number w)
+IsMove recursive (IsWoken k) n us p q w word = (by : ℕ) → (role n (Off by (mark_for k)) us p ≡ waking_from k by Asleep)
+    × (role n Listed us q ≡ waking_to k) × (word ≡ number w)
 
 -- WHAT HOLDS OF A PHASE BY ITSELF
 
@@ -276,7 +314,8 @@ gives_exclusive rest.AgainExclusive = true
 -- An exchange starts from a word at which it is right, and a release is of the right kind.
 abbrev pub IsReady : RwPhase → Type 0
 IsReady (Admits a word) = is_admitted a.want word ≡ true
-IsReady (SetParked a word) = (is_barred a.want word ≡ true) × (is_parked word ≡ false) × (is_admitted a.want word ≡ false)
+IsReady (SetParked a word) = (is_barred a.want word ≡ true) × (is_parked word ≡ false)
+    × (is_admitted a.want word ≡ false)
 IsReady (DrainSetParked d word) = (has_readers word ≡ true) × (is_writer_parked word ≡ false)
 IsReady (TryAdmits want word left) = is_tried want word ≡ true
 IsReady (Unshares rest) = gives_shared rest ≡ true
@@ -353,19 +392,26 @@ IsTold BumpingExclusive word s = Begins s
 IsTold (Scans a) word (seen.Took token left) = IsToken token
 IsTold p word s = Gives (act_of p) word s
 
--- What a core is told at a word, at which one reader more can be counted, is a step of the rules, of the kind that the table says; and the
--- phase that follows is ready again.
+-- What a core is told at a word, at which one reader more can be counted, is a step of the rules, of the kind that the
+-- table says; and the phase that follows is ready again.
 abbrev pub Follows : RwPhase → ActResult → Type 0
-Follows p s = (recursive : Bool) (n : ℕ) (us : List ℕ) (w : Word) → IsReady p → IsWord w → w.readers < 2 ^ 60 - 1 → Fits recursive n us p w → IsTold p (number w) s
-    → IsMove recursive (move n us p s) n us p (next_phase p s) w (word_after (act_of p) s (number w)) × IsReady (next_phase p s)
+Follows p s = (recursive : Bool) (n : ℕ) (us : List ℕ) (w : Word) → IsReady p → IsWord w → w.readers < 2 ^ 60 - 1
+    → Fits recursive n us p w → IsTold p (number w) s
+    → IsMove recursive (move n us p s) n us p (next_phase p s) w (word_after (act_of p) s (number w))
+    × IsReady (next_phase p s)
 
--- And so is the end of a call: of one that was refused, or whose wakes are done, the last step is made, and of any other nothing is left.
+-- And so is the end of a call: of one that was refused, or whose wakes are done, the last step is made, and of any
+-- other nothing is left.
 abbrev pub IsLast : Bool → Move → ℕ → RwPhase → Owned → Type 0
-IsLast recursive (Makes k) n p after = (w : Word) → IsPlain recursive k (role n Listed [] p) (record { owns = after; does = rules.Idle }) w (number w)
+IsLast recursive (Makes k) n p after = (w : Word) → IsPlain recursive k (role n Listed [] p)
+    (record { owns = after; does = rules.Idle }) w (number w)
 IsLast recursive move n p after = role n Listed [] p ≡ record { owns = after; does = rules.Idle }
 
 abbrev pub Ended : RwPhase → Type 0
-Ended (Refuses want) = (recursive : Bool) (n : ℕ) → IsLast recursive (last_move n (Refuses want)) n (Refuses want) (Shares n)
-Ended (Finishes rest) = (recursive : Bool) (n : ℕ) → IsLast recursive (last_move n (Finishes rest)) n (Finishes rest) (owned_at_last n rest)
-Ended (Ends outcome) = (recursive : Bool) (n : ℕ) → IsLast recursive (last_move n (Ends outcome)) n (Ends outcome) (owned_after n outcome)
+Ended (Refuses want) = (recursive : Bool) (n : ℕ) → IsLast recursive (last_move n (Refuses want)) n (Refuses want)
+    (Shares n)
+Ended (Finishes rest) = (recursive : Bool) (n : ℕ) → IsLast recursive (last_move n (Finishes rest)) n (Finishes rest)
+    (owned_at_last n rest)
+Ended (Ends outcome) = (recursive : Bool) (n : ℕ) → IsLast recursive (last_move n (Ends outcome)) n (Ends outcome)
+    (owned_after n outcome)
 Ended p = Unit {0}

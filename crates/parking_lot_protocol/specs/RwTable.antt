@@ -1,5 +1,6 @@
 -- The calls of a reader-writer lock: the act that each phase has asked for, and the phase that follows what it gives.
-use Rattle.std.specs.Prelude.{ℕ, ◌+◌, ◌-◌, ◌/◌, ◌%◌, ◌*◌, ◌^◌, ◌==◌, nat_lt, ◌&&◌, ◌||◌, not, min, Bool, true, false, if◌then◌else◌, Option, Some, None, is_some, Result, Ok, Err}
+use Rattle.std.specs.Prelude.{ℕ, ◌+◌, ◌-◌, ◌/◌, ◌%◌, ◌*◌, ◌^◌, ◌==◌, nat_lt, ◌&&◌, ◌||◌, not, min, Bool, true, false}
+use Rattle.std.specs.Prelude.{if◌then◌else◌, Option, Some, None, is_some, Result, Ok, Err}
 use Rattle.std.specs.Option.{option_map, option_map_or, option_and_then}
 use Rattle.parking_lot_core_model.specs.declared.parking.ParkToken.{ParkToken}
 use Rattle.parking_lot_core_model.specs.declared.parking.UnparkToken.{UnparkToken}
@@ -20,8 +21,23 @@ use Rattle.parking_lot_protocol.specs.declared.rw_phase.Seeking.{Seeking}
 use Rattle.parking_lot_protocol.specs.declared.rw_phase.Draining.{Draining}
 use Rattle.parking_lot_protocol.specs.declared.rw_phase.Scanning.{Scanning}
 use Rattle.parking_lot_protocol.specs.declared.rw_phase.RwPhase.{RwPhase}
-use Rattle.parking_lot_protocol.specs.declared.rw_phase.RwPhase.TheVariants.{Locking, Trying, UnlockingShared, UnlockingExclusive, Downgrading, BumpingShared, BumpingExclusive, Loads, Admits, Spins, SetParked, Enters, Checks, Retreats, Appends, Rests, Sleeps, DrainLoads, DrainSpins, DrainSetParked, DrainEnters, DrainChecks, DrainRetreats, DrainAppends, DrainRests, DrainSleeps, TryLoads, TryAdmits, Refuses, BumpLoads, Relocks, Unshares, EnterWriterWakeSection, TakeWriter, ClearWriterParked, LeaveWriterWakeSection, Unlocks, LooksExclusive, Downgrades, EnterWakeSection, Scans, Stores, Leaves, Wakes, Finishes, Ends, Invalid}
-use Rattle.parking_lot_protocol.specs.Acts.{is_start, is_entered, is_made, word_seen, word_before, exchange_seen, spun_seen, took_seen, stored_seen, woken_seen}
+use Rattle.parking_lot_protocol.specs.declared.rw_phase.RwPhase.TheVariants.{Locking, Trying, UnlockingShared}
+use Rattle.parking_lot_protocol.specs.declared.rw_phase.RwPhase.TheVariants.{UnlockingExclusive, Downgrading}
+use Rattle.parking_lot_protocol.specs.declared.rw_phase.RwPhase.TheVariants.{BumpingShared, BumpingExclusive, Loads}
+use Rattle.parking_lot_protocol.specs.declared.rw_phase.RwPhase.TheVariants.{Admits, Spins, SetParked, Enters, Checks}
+use Rattle.parking_lot_protocol.specs.declared.rw_phase.RwPhase.TheVariants.{Retreats, Appends, Rests, Sleeps}
+use Rattle.parking_lot_protocol.specs.declared.rw_phase.RwPhase.TheVariants.{DrainLoads, DrainSpins, DrainSetParked}
+use Rattle.parking_lot_protocol.specs.declared.rw_phase.RwPhase.TheVariants.{DrainEnters, DrainChecks, DrainRetreats}
+use Rattle.parking_lot_protocol.specs.declared.rw_phase.RwPhase.TheVariants.{DrainAppends, DrainRests, DrainSleeps}
+use Rattle.parking_lot_protocol.specs.declared.rw_phase.RwPhase.TheVariants.{TryLoads, TryAdmits, Refuses, BumpLoads}
+use Rattle.parking_lot_protocol.specs.declared.rw_phase.RwPhase.TheVariants.{Relocks, Unshares, EnterWriterWakeSection}
+use Rattle.parking_lot_protocol.specs.declared.rw_phase.RwPhase.TheVariants.{TakeWriter, ClearWriterParked}
+use Rattle.parking_lot_protocol.specs.declared.rw_phase.RwPhase.TheVariants.{LeaveWriterWakeSection, Unlocks}
+use Rattle.parking_lot_protocol.specs.declared.rw_phase.RwPhase.TheVariants.{LooksExclusive, Downgrades}
+use Rattle.parking_lot_protocol.specs.declared.rw_phase.RwPhase.TheVariants.{EnterWakeSection, Scans, Stores, Leaves}
+use Rattle.parking_lot_protocol.specs.declared.rw_phase.RwPhase.TheVariants.{Wakes, Finishes, Ends, Invalid}
+use Rattle.parking_lot_protocol.specs.Acts.{is_start, is_entered, is_made, word_seen, word_before, exchange_seen}
+use Rattle.parking_lot_protocol.specs.Acts.{spun_seen, took_seen, stored_seen, woken_seen}
 use Rattle.parking_lot_rules.specs.Classes.{bit}
 
 -- WHAT A WORD SAYS
@@ -95,7 +111,8 @@ hands s fair = may_hand s.rest && (fair && nat_lt 0 (count_of s))
 -- what it stores, as the lock is handed over or not and waiters are left or not
 abbrev pub store_of : Scanning → Bool → Bool → WordChange
 store_of s true left = record { keep = 0; add = sum_of s + bit left }
-store_of s false left = (if may_hand s.rest then record { keep = 0; add = bit left } else record { keep = 2 ^ 64 - 2 + bit left; add = 0 })
+store_of s false left =
+    (if may_hand s.rest then record { keep = 0; add = bit left } else record { keep = 2 ^ 64 - 2 + bit left; add = 0 })
 
 -- the act that a phase has asked for
 abbrev pub answer_of : Outcome → CoreAnswer
@@ -154,7 +171,9 @@ act_of (LooksExclusive fair rest) = act.Enter 0
 act_of Downgrades = act.Add 8
 act_of EnterWakeSection = act.Enter 0
 act_of (Scans scanning) = act.Section (section.TakeNext (sum_of scanning))
-act_of (Stores scanning left) = act.Section (section.Store (store_of scanning (hands scanning scanning.fair) left) (store_of scanning (hands scanning true) left))
+act_of (Stores scanning left) =
+    act.Section (section.Store (store_of scanning (hands scanning scanning.fair) left)
+    (store_of scanning (hands scanning true) left))
 act_of (Leaves rest count handed) = act.Section section.Leave
 act_of (Wakes rest count) = act.Section section.Wake
 act_of (Finishes rest) = last_act rest
@@ -169,8 +188,8 @@ begins want woken = record { want = want; woken = woken; rounds = 10 }
 abbrev pub pends : Bool → Draining
 pends woken = record { woken = woken; rounds = 10 }
 
--- One that asks has seen the word: it is admitted, or spins a while where nobody sleeps, or goes to sleep. Where no reader more can be
--- counted it looks again.
+-- One that asks has seen the word: it is admitted, or spins a while where nobody sleeps, or goes to sleep. Where no
+-- reader more can be counted it looks again.
 abbrev pub seeks : Seeking → ℕ → RwPhase
 seeks s word =
     (if is_admitted s.want word then Admits s word else
@@ -179,10 +198,13 @@ seeks s word =
     (if is_parked word then Enters s.want s.woken else SetParked s word))
     else Loads s))
 
--- A pending writer has seen the word: it is admitted where there are no readers, else it spins a while, or goes to sleep.
+-- A pending writer has seen the word: it is admitted where there are no readers, else it spins a while, or goes to
+-- sleep.
 abbrev pub drains : Draining → ℕ → RwPhase
 drains d word =
-    (if has_readers word then (if nat_lt 0 d.rounds then DrainSpins d else (if is_writer_parked word then DrainEnters d else DrainSetParked d word)) else Ends outcome.Exclusive)
+    (if has_readers word then
+    (if nat_lt 0 d.rounds then DrainSpins d else
+    (if is_writer_parked word then DrainEnters d else DrainSetParked d word)) else Ends outcome.Exclusive)
 
 -- A try has seen it: a writer is admitted only at 0.
 abbrev pub is_tried : LockMode → ℕ → Bool
@@ -237,7 +259,8 @@ scans_for fair rest = record { fair = fair; rest = rest; shared = 0; upgradable 
 abbrev pub with_taken : Scanning → ParkToken → Option Scanning
 with_taken s token =
     (if token.0 == 16 then Some (record s { shared = min (s.shared + 1) (2 ^ 32 - 1) }) else
-    (if token.0 == 8 then Some (record s { writer = true }) else (if token.0 == 20 then Some (record s { upgradable = true }) else None)))
+    (if token.0 == 8 then Some (record s { writer = true }) else
+    (if token.0 == 20 then Some (record s { upgradable = true }) else None)))
 
 -- it goes on while waiters are left and no writer was taken
 abbrev pub goes_on : Bool → Scanning → RwPhase
@@ -275,20 +298,27 @@ after (Admits a word) s = option_map (won_or (admits a.want false) (seeks a)) (e
 after (Spins a) s = option_map (λ spun. Loads (record a { rounds = if spun then a.rounds - 1 else 0 })) (spun_seen s)
 after (SetParked a word) s = option_map (won_or (Enters a.want a.woken) (seeks a)) (exchange_seen s)
 after (Enters want woken) s = once (is_entered s) (Checks want woken)
-after (Checks want woken) s = option_map (λ word. if is_barred want word && is_parked word then Appends want else Retreats want woken) (word_seen s)
+after (Checks want woken) s =
+    option_map (λ word. if is_barred want word && is_parked word then Appends want else Retreats want woken)
+    (word_seen s)
 after (Retreats want woken) s = once (is_made s) (Loads (begins want woken))
 after (Appends want) s = once (is_made s) (Rests want)
 after (Rests want) s = once (is_made s) (Sleeps want)
-after (Sleeps want) s = option_map (λ token. if token.0 == 1 then admits want true else Loads (begins want true)) (woken_seen s)
+after (Sleeps want) s = option_map (λ token. if token.0 == 1 then admits want true else Loads (begins want true))
+    (woken_seen s)
 after (DrainLoads d) s = option_map (drains d) (word_seen s)
-after (DrainSpins d) s = option_map (λ spun. DrainLoads (record d { rounds = if spun then d.rounds - 1 else 0 })) (spun_seen s)
+after (DrainSpins d) s = option_map (λ spun. DrainLoads (record d { rounds = if spun then d.rounds - 1 else 0 }))
+    (spun_seen s)
 after (DrainSetParked d word) s = option_map (won_or (DrainEnters d) (drains d)) (exchange_seen s)
 after (DrainEnters d) s = once (is_entered s) (DrainChecks d)
-after (DrainChecks d) s = option_map (λ word. if has_readers word && is_writer_parked word then DrainAppends d.rounds else DrainRetreats d) (word_seen s)
+after (DrainChecks d) s =
+    option_map (λ word. if has_readers word && is_writer_parked word then DrainAppends d.rounds else DrainRetreats d)
+    (word_seen s)
 after (DrainRetreats d) s = once (is_made s) (DrainLoads d)
 after (DrainAppends rounds) s = once (is_made s) (DrainRests rounds)
 after (DrainRests rounds) s = once (is_made s) (DrainSleeps rounds)
-after (DrainSleeps rounds) s = option_map (λ token. DrainLoads (record { woken = true; rounds = rounds })) (woken_seen s)
+after (DrainSleeps rounds) s = option_map (λ token. DrainLoads (record { woken = true; rounds = rounds }))
+    (woken_seen s)
 after (TryLoads want) s = option_map (tries want 63) (word_seen s)
 after (TryAdmits want word left) s = option_map (won_or (Ends (gains want)) (retries want left)) (exchange_seen s)
 after (Refuses want) s = None
@@ -301,7 +331,8 @@ after (ClearWriterParked rest taken) s = option_map (λ word. LeaveWriterWakeSec
 after (LeaveWriterWakeSection rest taken) s = once (is_made s) (wakes rest (bit taken))
 after (Unlocks fair rest) s = option_map (won_or (over rest) (λ word. LooksExclusive fair rest)) (exchange_seen s)
 after (LooksExclusive fair rest) s = once (is_entered s) (Scans (scans_for fair rest))
-after Downgrades s = option_map (λ word. if is_parked word then EnterWakeSection else Ends outcome.Downgraded) (word_before s)
+after Downgrades s = option_map (λ word. if is_parked word then EnterWakeSection else Ends outcome.Downgraded)
+    (word_before s)
 after EnterWakeSection s = once (is_entered s) (Scans (scans_for false rest.Downgraded))
 after (Scans a) s = option_and_then (λ t. scans a t.token t.left) (took_seen s)
 after (Stores a left) s = option_map (λ fair. Leaves a.rest (count_of a) (hands a (a.fair || fair))) (stored_seen s)

@@ -21,4 +21,5 @@ answer_to Take = op.Unpark
 
 -- At the sum of a scan's tokens the answer is that of the rules, of those that it has taken.
 abbrev pub LooksRightly : ℕ → ℕ → FilterOp → Type 0
-LooksRightly sum token answer = (s : Scanning) (mode : Mode) (n : ℕ) (us : List ℕ) → sum ≡ sum_of s → token ≡ token_of mode → answer ≡ answer_to (look (holds_upgradable (scan_of n s us)) s.writer mode)
+LooksRightly sum token answer = (s : Scanning) (mode : Mode) (n : ℕ) (us : List ℕ) → sum ≡ sum_of s
+    → token ≡ token_of mode → answer ≡ answer_to (look (holds_upgradable (scan_of n s us)) s.writer mode)

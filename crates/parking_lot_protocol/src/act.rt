@@ -1,6 +1,7 @@
 //! What a decision core asks for, and what it is told of it.
 ghost use Rattle.std.specs.Prelude.{◌≡◌};
-ghost use Rattle.parking_lot_protocol.specs.Acts.{change_of, is_start, is_entered, is_made, word_seen, exchange_seen, spun_seen, took_seen, stored_seen, woken_seen};
+ghost use Rattle.parking_lot_protocol.specs.Acts.{change_of, is_start, is_entered, is_made, word_seen, exchange_seen};
+ghost use Rattle.parking_lot_protocol.specs.Acts.{spun_seen, took_seen, stored_seen, woken_seen};
 
 use parking_lot_core_model::{ParkToken, UnparkToken};
 
@@ -52,7 +53,8 @@ pub enum SectionAct {
     Wake,
 }
 
-/// A change of a word: the bits that stay, and what is added to them, modulo 2^64. With no bit that stays it stores `add`.
+/// A change of a word: the bits that stay, and what is added to them, modulo 2^64. With no bit that stays it stores
+/// `add`.
 #[derive(Clone, Copy, PartialEq, Eq, Debug)]
 pub struct WordChange {
     /// The bits that stay.

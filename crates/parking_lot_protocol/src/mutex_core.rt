@@ -2,7 +2,8 @@
 ghost use Rattle.std.specs.Prelude.{◌≡◌, true, false};
 ghost use Rattle.parking_lot_protocol.specs.MutexRules.{Ended, Follows};
 ghost use Rattle.parking_lot_protocol.specs.MutexTable.{act_of, next_phase, wakes_with};
-ghost use Rattle.parking_lot_protocol.specs.declared.mutex_phase.MutexPhase.TheVariants.{Locking, Trying, Unlocking, Bumping};
+ghost use Rattle.parking_lot_protocol.specs.declared.mutex_phase.MutexPhase.TheVariants.{Locking, Trying, Unlocking};
+ghost use Rattle.parking_lot_protocol.specs.declared.mutex_phase.MutexPhase.TheVariants.{Bumping};
 
 use crate::act::{Act, ActResult, HAND_OVER, TRY_AGAIN};
 use crate::mutex_phase::MutexPhase;

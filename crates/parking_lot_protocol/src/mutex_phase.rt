@@ -2,8 +2,12 @@
 ghost use Rattle.std.specs.Prelude.{◌≡◌, ◌==◌, ◌+◌, ◌*◌, ◌-◌, ◌/◌, ◌%◌, ◌&&◌, ◌||◌, true, is_some, if◌then◌else◌};
 ghost use Rattle.parking_lot_protocol.specs.declared.act.Act.TheVariants as act;
 ghost use Rattle.parking_lot_protocol.specs.declared.act.CoreAnswer.TheVariants.{Owned, Released};
-ghost use Rattle.parking_lot_protocol.specs.declared.mutex_phase.MutexPhase.TheVariants.{Loads, Locks, Parks, Enters, Appends, Retreats, Relocks, Unlocks, Looks, Stores, Leaves, Wakes, Finishes, Ends};
-ghost use Rattle.parking_lot_protocol.specs.MutexTable.{act_of, after, begins, once, retries, seeks, store_of, tries, won_or};
+ghost use Rattle.parking_lot_protocol.specs.declared.mutex_phase.MutexPhase.TheVariants.{Loads, Locks, Parks, Enters};
+ghost use Rattle.parking_lot_protocol.specs.declared.mutex_phase.MutexPhase.TheVariants.{Appends, Retreats, Relocks};
+ghost use Rattle.parking_lot_protocol.specs.declared.mutex_phase.MutexPhase.TheVariants.{Unlocks, Looks, Stores};
+ghost use Rattle.parking_lot_protocol.specs.declared.mutex_phase.MutexPhase.TheVariants.{Leaves, Wakes, Finishes, Ends};
+ghost use Rattle.parking_lot_protocol.specs.MutexTable.{act_of, after, begins, once, retries, seeks, store_of, tries};
+ghost use Rattle.parking_lot_protocol.specs.MutexTable.{won_or};
 ghost use Rattle.parking_lot_rules.specs.Classes.{bit};
 
 use crate::act::{Act, ActResult, CoreAnswer, HAND_OVER, SectionAct, Taking, WordChange};
@@ -15,15 +19,16 @@ pub(crate) const ROUNDS: u8 = 10;
 /// How many exchanges a try makes at most.
 pub(crate) const TRIES: u8 = 64;
 
-/// One that asks for the lock: whether it was woken to ask again, and how many rounds it may still spin before it goes to sleep.
+/// One that asks for the lock: whether it was woken to ask again, and how many rounds it may still spin before it goes
+/// to sleep.
 #[derive(Clone, Copy, PartialEq, Eq, Debug)]
 pub struct Asking {
     pub woken: bool,
     pub rounds: u8,
 }
 
-/// One that gives the lock up: whether it hands it over to the first waiter whatever the schedule says, and whether it asks for
-/// it again after that.
+/// One that gives the lock up: whether it hands it over to the first waiter whatever the schedule says, and whether it
+/// asks for it again after that.
 #[derive(Clone, Copy, PartialEq, Eq, Debug)]
 pub struct Giving {
     pub fair: bool,
@@ -38,13 +43,14 @@ pub enum MutexPhase {
     Trying,
     Unlocking(bool),
     Bumping,
-    /// On the way to the lock: a load; the exchange that locks it, from 0 or with waiters there; a round of spinning; the
-    /// exchange that sets the parked bit.
+    /// On the way to the lock: a load; the exchange that locks it, from 0 or with waiters there; a round of spinning;
+    /// the exchange that sets the parked bit.
     Loads(Asking),
     Locks(Asking, bool),
     Spins(Asking),
     Parks(Asking),
-    /// The section in which it goes to sleep: it enters, checks, and leaves at once; or it joins the list, leaves and sleeps.
+    /// The section in which it goes to sleep: it enters, checks, and leaves at once; or it joins the list, leaves and
+    /// sleeps.
     Enters(bool),
     Checks(bool),
     Retreats(bool),
@@ -58,8 +64,8 @@ pub enum MutexPhase {
     /// A bump looks for waiters; it begins to ask again.
     BumpLoads,
     Relocks,
-    /// The lock is given up: the exchange that unlocks it; else a section in which the first waiter is taken, with whether one
-    /// was and others are left; a wake; the end.
+    /// The lock is given up: the exchange that unlocks it; else a section in which the first waiter is taken, with
+    /// whether one was and others are left; a wake; the end.
     Unlocks(Giving),
     Looks(Giving),
     Takes(Giving),
@@ -82,8 +88,8 @@ fn begins(woken: bool) -> Asking
     }
 }
 
-/// One that asks has seen the word: it locks an unlocked mutex, waits a while for a locked one where nobody else waits, and else
-/// goes to sleep.
+/// One that asks has seen the word: it locks an unlocked mutex, waits a while for a locked one where nobody else waits,
+/// and else goes to sleep.
 fn seeks(asking: Asking, word: u64) -> MutexPhase
     ensures { result ≡ seeks asking word }
 {
@@ -270,7 +276,8 @@ fn once(seen: bool, phase: MutexPhase) -> Option<MutexPhase>
     if seen { Some(phase) } else { None }
 }
 
-/// The store of a release: the lock stays locked where it is handed over, and the parked bit stays where waiters are left.
+/// The store of a release: the lock stays locked where it is handed over, and the parked bit stays where waiters are
+/// left.
 fn store_of(handed: bool, left: bool) -> WordChange
     ensures { result ≡ store_of handed left }
 {
@@ -281,7 +288,8 @@ fn store_of(handed: bool, left: bool) -> WordChange
 }
 
 impl MutexPhase {
-    /// The act that it has asked for. Before it begins, and where it was told what its act can't give, it asks for nothing.
+    /// The act that it has asked for. Before it begins, and where it was told what its act can't give, it asks for
+    /// nothing.
     pub fn act(self) -> Act
         ensures { result ≡ act_of self }
     {

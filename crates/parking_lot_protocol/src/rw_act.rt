@@ -3,7 +3,8 @@ ghost use Rattle.std.specs.Prelude.{◌≡◌, ◌+◌, ◌<◌, ◌%◌, ◌^�
 ghost use Rattle.parking_lot_protocol.specs.declared.act.Act.TheVariants as act;
 ghost use Rattle.parking_lot_protocol.specs.declared.act.SectionAct.TheVariants as section;
 ghost use Rattle.parking_lot_rules.specs.Classes.{bit};
-ghost use Rattle.parking_lot_protocol.specs.RwTable.{act_of, answer_of, base_of, count_of, hands, last_act, may_hand, share_of, store_of, sum_of};
+ghost use Rattle.parking_lot_protocol.specs.RwTable.{act_of, answer_of, base_of, count_of, hands, last_act, may_hand};
+ghost use Rattle.parking_lot_protocol.specs.RwTable.{share_of, store_of, sum_of};
 
 use crate::act::{Act, CoreAnswer, SectionAct, WordChange};
 use crate::rw_phase::{AfterWake, LockMode, Outcome, RwPhase, Scanning};
@@ -129,7 +130,8 @@ impl Scanning {
 
     /// The two stores, as the release is plain or fair.
     fn stores(&self, left: bool) -> SectionAct
-        ensures { result ≡ section.Store (store_of self.now (hands self.now self.now.fair) left) (store_of self.now (hands self.now true) left) }
+        ensures { result ≡ section.Store (store_of self.now (hands self.now self.now.fair) left)
+            (store_of self.now (hands self.now true) left) }
     {
         SectionAct::Store {
             plain: self.store(self.hands(self.fair), left),
@@ -139,7 +141,8 @@ impl Scanning {
 }
 
 impl RwPhase {
-    /// The act that it has asked for. Before it begins, and where it was told what its act can't give, it asks for nothing.
+    /// The act that it has asked for. Before it begins, and where it was told what its act can't give, it asks for
+    /// nothing.
     pub fn act(self) -> Act
         ensures { result ≡ act_of self }
     {

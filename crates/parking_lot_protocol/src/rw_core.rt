@@ -1,7 +1,9 @@
 //! The calls of a reader-writer lock, as plain data.
 ghost use Rattle.std.specs.Prelude.{◌≡◌, true, false};
 ghost use Rattle.parking_lot_protocol.specs.declared.rw_phase.LockMode.TheVariants as want;
-ghost use Rattle.parking_lot_protocol.specs.declared.rw_phase.RwPhase.TheVariants.{Locking, Trying, UnlockingShared, UnlockingExclusive, Downgrading, BumpingShared, BumpingExclusive};
+ghost use Rattle.parking_lot_protocol.specs.declared.rw_phase.RwPhase.TheVariants.{Locking, Trying, UnlockingShared};
+ghost use Rattle.parking_lot_protocol.specs.declared.rw_phase.RwPhase.TheVariants.{UnlockingExclusive, Downgrading};
+ghost use Rattle.parking_lot_protocol.specs.declared.rw_phase.RwPhase.TheVariants.{BumpingShared, BumpingExclusive};
 ghost use Rattle.parking_lot_protocol.specs.RwRules.{Ended, Follows};
 ghost use Rattle.parking_lot_protocol.specs.RwTable.{act_of, next_phase, wakes_with};
 
@@ -95,7 +97,8 @@ impl RwCore {
         }
     }
 
-    /// A call that lets a writer go first: where one waits or owns the lock it gives its shared hold up and asks for one again.
+    /// A call that lets a writer go first: where one waits or owns the lock it gives its shared hold up and asks for
+    /// one again.
     pub fn bump_shared() -> RwCore
         ensures { result.phase ≡ BumpingShared }
     {
@@ -104,7 +107,8 @@ impl RwCore {
         }
     }
 
-    /// A call that lets waiters go first: where there are some it gives the exclusive hold up fairly and asks for it again.
+    /// A call that lets waiters go first: where there are some it gives the exclusive hold up fairly and asks for it
+    /// again.
     pub fn bump_exclusive() -> RwCore
         ensures { result.phase ≡ BumpingExclusive }
     {

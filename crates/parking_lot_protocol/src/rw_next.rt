@@ -1,9 +1,15 @@
 //! Where a call at a reader-writer lock goes on, by what its act gave.
 ghost use Rattle.std.specs.Prelude.{◌≡◌, ◌+◌, ◌-◌, ◌<◌, ◌==◌, ◌&&◌, ◌||◌, if◌then◌else◌, true, is_some, Some};
-ghost use Rattle.parking_lot_protocol.specs.declared.rw_phase.RwPhase.TheVariants.{Loads, Scans, DrainLoads, Appends, Retreats, DrainAppends, DrainRetreats, Ends, EnterWakeSection, Leaves};
+ghost use Rattle.parking_lot_protocol.specs.declared.rw_phase.RwPhase.TheVariants.{Loads, Scans, DrainLoads, Appends};
+ghost use Rattle.parking_lot_protocol.specs.declared.rw_phase.RwPhase.TheVariants.{Retreats, DrainAppends};
+ghost use Rattle.parking_lot_protocol.specs.declared.rw_phase.RwPhase.TheVariants.{DrainRetreats, Ends};
+ghost use Rattle.parking_lot_protocol.specs.declared.rw_phase.RwPhase.TheVariants.{EnterWakeSection, Leaves};
 ghost use Rattle.parking_lot_protocol.specs.declared.act.ActResult.TheVariants as seen;
 ghost use Rattle.parking_lot_protocol.specs.declared.rw_phase.Outcome.TheVariants as outcome;
-ghost use Rattle.parking_lot_protocol.specs.RwTable.{admits, after, asks_again, begins, bumps, count_of, drains, gains, goes_on, hands, has_readers, is_admitted, is_barred, is_parked, is_tried, is_writer_parked, over, retries, scans, scans_for, seeks, tries, unshares, wakes, with_taken};
+ghost use Rattle.parking_lot_protocol.specs.RwTable.{admits, after, asks_again, begins, bumps, count_of, drains, gains};
+ghost use Rattle.parking_lot_protocol.specs.RwTable.{goes_on, hands, has_readers, is_admitted, is_barred, is_parked};
+ghost use Rattle.parking_lot_protocol.specs.RwTable.{is_tried, is_writer_parked, over, retries, scans, scans_for};
+ghost use Rattle.parking_lot_protocol.specs.RwTable.{seeks, tries, unshares, wakes, with_taken};
 
 use crate::act::{ActResult, HAND_OVER};
 use crate::mutex_phase::{ROUNDS, TRIES};
@@ -142,8 +148,8 @@ impl LockMode {
 }
 
 impl Seeking {
-    /// It has seen the word: it is admitted, or spins a while where nobody sleeps, or goes to sleep. Where no reader more can be
-    /// counted it looks again.
+    /// It has seen the word: it is admitted, or spins a while where nobody sleeps, or goes to sleep. Where no reader
+    /// more can be counted it looks again.
     fn seeks(self, word: u64) -> RwPhase
         ensures { result ≡ seeks self word }
     {
@@ -203,7 +209,8 @@ impl Draining {
 
     /// It has looked at the word in the section.
     fn checks(self, word: u64) -> RwPhase
-        ensures { result ≡ (if has_readers word && is_writer_parked word then DrainAppends self.rounds else DrainRetreats self) }
+        ensures { result ≡ (if has_readers word && is_writer_parked word then DrainAppends self.rounds else
+            DrainRetreats self) }
     {
         if has_readers(word) && is_writer_parked(word) {
             RwPhase::DrainAppends(self.rounds)

@@ -9,8 +9,8 @@ pub enum LockMode {
     Exclusive,
 }
 
-/// One that asks for a first admission: how, whether it was woken to ask again, and how many rounds it may still spin before it
-/// goes to sleep.
+/// One that asks for a first admission: how, whether it was woken to ask again, and how many rounds it may still spin
+/// before it goes to sleep.
 #[derive(Clone, Copy, PartialEq, Eq, Debug)]
 pub struct Seeking {
     pub want: LockMode,
@@ -18,7 +18,8 @@ pub struct Seeking {
     pub rounds: u8,
 }
 
-/// A writer that waits until the readers have left: whether it was woken to look again, and how many rounds it may still spin.
+/// A writer that waits until the readers have left: whether it was woken to look again, and how many rounds it may
+/// still spin.
 #[derive(Clone, Copy, PartialEq, Eq, Debug)]
 pub struct Draining {
     pub woken: bool,
@@ -37,8 +38,8 @@ pub enum AfterWake {
     AgainExclusive,
 }
 
-/// What one that goes through the first list is to say in the end, and whom it has taken: how many readers, and whether an
-/// upgradable one and a writer.
+/// What one that goes through the first list is to say in the end, and whom it has taken: how many readers, and whether
+/// an upgradable one and a writer.
 #[derive(Clone, Copy, PartialEq, Eq, Debug)]
 pub struct Scanning {
     /// It hands the lock over whatever the schedule says.
@@ -73,13 +74,14 @@ pub enum RwPhase {
     Downgrading,
     BumpingShared,
     BumpingExclusive,
-    /// On the way to a first admission: a load; the exchange that admits it, from that word; a round of spinning; the exchange
-    /// that sets the parked bit.
+    /// On the way to a first admission: a load; the exchange that admits it, from that word; a round of spinning; the
+    /// exchange that sets the parked bit.
     Loads(Seeking),
     Admits(Seeking, u64),
     Spins(Seeking),
     SetParked(Seeking, u64),
-    /// The section in which it goes to sleep: it enters, checks, and leaves at once; or it joins the list, leaves and sleeps.
+    /// The section in which it goes to sleep: it enters, checks, and leaves at once; or it joins the list, leaves and
+    /// sleeps.
     Enters(LockMode, bool),
     Checks(LockMode, bool),
     Retreats(LockMode, bool),

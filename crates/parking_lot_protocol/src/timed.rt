@@ -1,7 +1,8 @@
 //! Calls of a mutex that give up at a moment, as plain data: the decision core of such a call.
 //!
-//! Until its moment passes while it sleeps it is a call that waits, act by act. Then it goes back into the section in which
-//! it fell asleep and takes itself off the list. As the last one there it masks the parked bit, and it changes nothing else.
+//! Until its moment passes while it sleeps it is a call that waits, act by act. Then it goes back into the section in
+//! which it fell asleep and takes itself off the list. As the last one there it masks the parked bit, and it changes
+//! nothing else.
 //! Where another had taken it before it goes on as if it were woken.
 
 mod course;

@@ -6,9 +6,10 @@ ghost use Rattle.parking_lot_protocol.specs.WakeRules.{LooksRightly};
 use crate::word::{READER, UPGRADABLE, WRITER, is_upgradable, is_written};
 use parking_lot_core_model::{FilterOp, ParkToken};
 
-/// What a waking section does at a waiter with that token, where the tokens that it has taken so far, and what its own thread
-/// keeps, come to `sum`: it stops behind a writer, skips one that wants more than a shared hold beside an upgradable owner, and
-/// else takes the waiter and adds its token. Tokens are 16 of a reader, 8 of a writer, 20 of one that wants the upgradable hold.
+/// What a waking section does at a waiter with that token, where the tokens that it has taken so far, and what its own
+/// thread keeps, come to `sum`: it stops behind a writer, skips one that wants more than a shared hold beside an
+/// upgradable owner, and else takes the waiter and adds its token. Tokens are 16 of a reader, 8 of a writer, 20 of one
+/// that wants the upgradable hold.
 ///
 /// ```text
 /// assert_eq!(rt; wake_sum(16, ParkToken(8)), FilterOp::Unpark);

@@ -1,9 +1,10 @@
 //! The word of a reader-writer lock: what each of its bits is worth, and what they say.
 //!
-//! An owner adds its share to the word, and takes it off again. So a word is also a sum of shares, and the tokens of those that
-//! sleep for the lock are the shares that they want.
+//! An owner adds its share to the word, and takes it off again. So a word is also a sum of shares, and the tokens of
+//! those that sleep for the lock are the shares that they want.
 ghost use Rattle.std.specs.Prelude.{◌≡◌, ◌/◌, ◌%◌, ◌==◌, ◌&&◌, nat_lt};
-ghost use Rattle.parking_lot_protocol.specs.RwTable.{has_readers, has_room, is_parked, is_upgradable, is_writer_parked, is_written};
+ghost use Rattle.parking_lot_protocol.specs.RwTable.{has_readers, has_room, is_parked, is_upgradable, is_writer_parked};
+ghost use Rattle.parking_lot_protocol.specs.RwTable.{is_written};
 
 /// The share of a reader.
 pub const READER: u64 = 16;
@@ -22,8 +23,8 @@ pub const PARKED: u64 = 1;
 
 /// The most readers that a word can count.
 ///
-/// It follows from the place of the count in this word. The limit of the raw traits is that of other words too, whose bits need
-/// not lie as they do here: so this number isn't taken from there.
+/// It follows from the place of the count in this word. The limit of the raw traits is that of other words too, whose
+/// bits need not lie as they do here: so this number isn't taken from there.
 pub const MAX_READERS: u64 = u64::MAX / READER;
 
 /// How many readers it counts.

@@ -7,9 +7,20 @@ use Rattle.parking_lot_protocol.specs.RwRules as rw
 use Rattle.parking_lot_protocol.specs.declared.rw_phase.RwPhase.{RwPhase}
 use Rattle.parking_lot_protocol.specs.declared.rw_phase.RwPhase.TheVariants as at
 use Rattle.parking_lot_protocol_rw.specs.declared.upgrade_phase.Hold.{Hold}
-use Rattle.parking_lot_protocol_rw.specs.declared.upgrade_phase.Hold.TheVariants.{Nothing, Shared, Upgradable, Exclusive}
+use Rattle.parking_lot_protocol_rw.specs.declared.upgrade_phase.Hold.TheVariants.{Nothing, Shared, Upgradable}
+use Rattle.parking_lot_protocol_rw.specs.declared.upgrade_phase.Hold.TheVariants.{Exclusive}
 use Rattle.parking_lot_protocol_rw.specs.declared.upgrade_phase.UpgradePhase.{UpgradePhase}
-use Rattle.parking_lot_protocol_rw.specs.declared.upgrade_phase.UpgradePhase.TheVariants.{Plain, Unlocking, Bumping, Upgrading, TryingToUpgrade, DowngradingToShared, DowngradingToUpgradable, GivingUp, Seeks, TryLoads, TryAdmits, Refuses, Drains, TryUpgradeLoads, TryUpgrades, BumpLoads, UnlockLoads, Unlocks, Frees, ToShared, ToUpgradable, YieldLoads, Yields, Owes, Ends}
+use Rattle.parking_lot_protocol_rw.specs.declared.upgrade_phase.UpgradePhase.TheVariants.{Plain, Unlocking, Bumping}
+use Rattle.parking_lot_protocol_rw.specs.declared.upgrade_phase.UpgradePhase.TheVariants.{Upgrading, TryingToUpgrade}
+use Rattle.parking_lot_protocol_rw.specs.declared.upgrade_phase.UpgradePhase.TheVariants.{DowngradingToShared}
+use Rattle.parking_lot_protocol_rw.specs.declared.upgrade_phase.UpgradePhase.TheVariants.{DowngradingToUpgradable}
+use Rattle.parking_lot_protocol_rw.specs.declared.upgrade_phase.UpgradePhase.TheVariants.{GivingUp, Seeks, TryLoads}
+use Rattle.parking_lot_protocol_rw.specs.declared.upgrade_phase.UpgradePhase.TheVariants.{TryAdmits, Refuses, Drains}
+use Rattle.parking_lot_protocol_rw.specs.declared.upgrade_phase.UpgradePhase.TheVariants.{TryUpgradeLoads, TryUpgrades}
+use Rattle.parking_lot_protocol_rw.specs.declared.upgrade_phase.UpgradePhase.TheVariants.{BumpLoads, UnlockLoads}
+use Rattle.parking_lot_protocol_rw.specs.declared.upgrade_phase.UpgradePhase.TheVariants.{Unlocks, Frees, ToShared}
+use Rattle.parking_lot_protocol_rw.specs.declared.upgrade_phase.UpgradePhase.TheVariants.{ToUpgradable, YieldLoads}
+use Rattle.parking_lot_protocol_rw.specs.declared.upgrade_phase.UpgradePhase.TheVariants.{Yields, Owes, Ends}
 use Rattle.parking_lot_protocol_rw.specs.declared.upgrade_phase.UpgradePhase.TheVariants as phase
 
 -- what a thread owns that has a hold
@@ -39,7 +50,8 @@ for_upgrade phase = phase
 
 -- one that goes through the first list gives the upgradable hold up
 abbrev pub for_release : rules.Phase → rules.Phase
-for_release (rules.Scans1 cause shared upgradable writer taken) = rules.Scans1 rules.FromUpgradable shared upgradable writer taken
+for_release (rules.Scans1 cause shared upgradable writer taken) = rules.Scans1 rules.FromUpgradable shared upgradable
+    writer taken
 for_release phase = phase
 
 -- which it has until it is inside the section

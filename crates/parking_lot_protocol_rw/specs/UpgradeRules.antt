@@ -20,7 +20,16 @@ use Rattle.parking_lot_protocol_rw.specs.UpgradeRoles.{owned, role}
 use Rattle.parking_lot_protocol_rw.specs.UpgradeTable.{act_of, is_alone, is_open, next_phase}
 use Rattle.parking_lot_protocol_rw.specs.declared.upgrade_phase.UpgradePhase.{UpgradePhase}
 use Rattle.parking_lot_protocol_rw.specs.declared.upgrade_phase.UpgradePhase.TheVariants as phase
-use Rattle.parking_lot_protocol_rw.specs.declared.upgrade_phase.UpgradePhase.TheVariants.{Plain, Locking, Trying, Unlocking, Bumping, Upgrading, TryingToUpgrade, DowngradingToShared, DowngradingToUpgradable, GivingUp, Seeks, TryAdmits, Refuses, Drains, TryUpgrades, Unlocks, Frees, ToShared, ToUpgradable, Yields, Owes, Ends}
+use Rattle.parking_lot_protocol_rw.specs.declared.upgrade_phase.UpgradePhase.TheVariants.{Plain, Locking, Trying}
+use Rattle.parking_lot_protocol_rw.specs.declared.upgrade_phase.UpgradePhase.TheVariants.{Unlocking, Bumping, Upgrading}
+use Rattle.parking_lot_protocol_rw.specs.declared.upgrade_phase.UpgradePhase.TheVariants.{TryingToUpgrade}
+use Rattle.parking_lot_protocol_rw.specs.declared.upgrade_phase.UpgradePhase.TheVariants.{DowngradingToShared}
+use Rattle.parking_lot_protocol_rw.specs.declared.upgrade_phase.UpgradePhase.TheVariants.{DowngradingToUpgradable}
+use Rattle.parking_lot_protocol_rw.specs.declared.upgrade_phase.UpgradePhase.TheVariants.{GivingUp, Seeks, TryAdmits}
+use Rattle.parking_lot_protocol_rw.specs.declared.upgrade_phase.UpgradePhase.TheVariants.{Refuses, Drains, TryUpgrades}
+use Rattle.parking_lot_protocol_rw.specs.declared.upgrade_phase.UpgradePhase.TheVariants.{Unlocks, Frees, ToShared}
+use Rattle.parking_lot_protocol_rw.specs.declared.upgrade_phase.UpgradePhase.TheVariants.{ToUpgradable, Yields, Owes}
+use Rattle.parking_lot_protocol_rw.specs.declared.upgrade_phase.UpgradePhase.TheVariants.{Ends}
 
 -- WHAT HOLDS OF A PHASE BY ITSELF
 
@@ -144,15 +153,19 @@ IsTold DowngradingToUpgradable word s = Begins s
 IsTold (GivingUp from) word s = Begins s
 IsTold p word s = Gives (act_of p) word s
 
--- What a core is told at a word, at which one reader more can be counted, is a step of the rules, of the kind that the table says; and the
--- phase that follows is ready again.
+-- What a core is told at a word, at which one reader more can be counted, is a step of the rules, of the kind that the
+-- table says; and the phase that follows is ready again.
 abbrev pub Follows : UpgradePhase → ActResult → Type 0
-Follows p s = (recursive : Bool) (n : ℕ) (us : List ℕ) (w : Word) → IsReady p → IsWord w → w.readers < 2 ^ 60 - 1 → Fits recursive n us p w → IsTold p (number w) s
-    → IsMove recursive (move n us p s) n us p (next_phase p s) w (word_after (act_of p) s (number w)) × IsReady (next_phase p s)
+Follows p s = (recursive : Bool) (n : ℕ) (us : List ℕ) (w : Word) → IsReady p → IsWord w → w.readers < 2 ^ 60 - 1
+    → Fits recursive n us p w → IsTold p (number w) s
+    → IsMove recursive (move n us p s) n us p (next_phase p s) w (word_after (act_of p) s (number w))
+    × IsReady (next_phase p s)
 
--- And so is the end of a call: of one that was refused, or whose wakes are done, the last step is made, and of any other nothing is left.
+-- And so is the end of a call: of one that was refused, or whose wakes are done, the last step is made, and of any
+-- other nothing is left.
 abbrev pub IsLast : Bool → Move → ℕ → UpgradePhase → Owned → Type 0
-IsLast recursive (Makes k) n p after = (w : Word) → IsPlain recursive k (role n Listed [] p) (record { owns = after; does = rules.Idle }) w (number w)
+IsLast recursive (Makes k) n p after = (w : Word) → IsPlain recursive k (role n Listed [] p)
+    (record { owns = after; does = rules.Idle }) w (number w)
 IsLast recursive move n p after = role n Listed [] p ≡ record { owns = after; does = rules.Idle }
 
 -- where a section's wakes are done
@@ -162,7 +175,8 @@ EndedInside inner p after = Unit {0}
 
 -- one that waited for readers to leave owns the lock exclusively
 abbrev pub EndedDraining : RwPhase → UpgradePhase → Type 0
-EndedDraining (at.Ends end) p = end ≡ outcome.Exclusive → (recursive : Bool) (n : ℕ) → IsLast recursive (last_move n p) n p rules.Excludes
+EndedDraining (at.Ends end) p = end ≡ outcome.Exclusive → (recursive : Bool) (n : ℕ)
+    → IsLast recursive (last_move n p) n p rules.Excludes
 EndedDraining inner p = Unit {0}
 
 abbrev pub Ended : UpgradePhase → Type 0
@@ -171,5 +185,6 @@ Ended (Drains core) = EndedDraining core.phase (Drains core)
 Ended (Frees r core) = EndedInside core.phase (Frees r core) (Shares 0)
 Ended (Owes hold answer core) = EndedInside core.phase (Owes hold answer core) (owned hold)
 Ended Refuses = (recursive : Bool) (n : ℕ) → IsLast recursive (last_move n Refuses) n Refuses (Shares 0)
-Ended (Ends hold answer) = (recursive : Bool) (n : ℕ) → IsLast recursive (last_move n (Ends hold answer)) n (Ends hold answer) (owned hold)
+Ended (Ends hold answer) = (recursive : Bool) (n : ℕ) → IsLast recursive (last_move n (Ends hold answer)) n
+    (Ends hold answer) (owned hold)
 Ended p = Unit {0}

@@ -1,5 +1,7 @@
--- The calls of a lock with upgradable holds: the act that each phase has asked for, and the phase that follows what it gives.
-use Rattle.std.specs.Prelude.{ℕ, ◌+◌, ◌-◌, ◌/◌, ◌%◌, ◌^◌, ◌==◌, nat_lt, ◌&&◌, ◌||◌, not, Bool, true, false, if◌then◌else◌}
+-- The calls of a lock with upgradable holds: the act that each phase has asked for, and the phase that follows what it
+-- gives.
+use Rattle.std.specs.Prelude.{ℕ, ◌+◌, ◌-◌, ◌/◌, ◌%◌, ◌^◌, ◌==◌, nat_lt, ◌&&◌, ◌||◌, not, Bool, true, false}
+use Rattle.std.specs.Prelude.{if◌then◌else◌}
 use Rattle.parking_lot_core_model.specs.declared.parking.UnparkToken.{UnparkToken}
 use Rattle.parking_lot_protocol.specs.Acts.{change_of}
 use Rattle.parking_lot_protocol.specs.RwTable as rw
@@ -20,11 +22,24 @@ use Rattle.parking_lot_protocol.specs.declared.rw_phase.Scanning.{Scanning}
 use Rattle.parking_lot_rules.specs.Classes.{bit}
 use Rattle.parking_lot_protocol_rw.specs.declared.upgrade_core.UpgradeCore.{UpgradeCore}
 use Rattle.parking_lot_protocol_rw.specs.declared.upgrade_phase.Hold.{Hold}
-use Rattle.parking_lot_protocol_rw.specs.declared.upgrade_phase.Hold.TheVariants.{Nothing, Shared, Upgradable, Exclusive}
+use Rattle.parking_lot_protocol_rw.specs.declared.upgrade_phase.Hold.TheVariants.{Nothing, Shared, Upgradable}
+use Rattle.parking_lot_protocol_rw.specs.declared.upgrade_phase.Hold.TheVariants.{Exclusive}
 use Rattle.parking_lot_protocol_rw.specs.declared.upgrade_phase.Release.{Release}
 use Rattle.parking_lot_protocol_rw.specs.declared.upgrade_phase.Release.TheVariants as release
 use Rattle.parking_lot_protocol_rw.specs.declared.upgrade_phase.UpgradePhase.{UpgradePhase}
-use Rattle.parking_lot_protocol_rw.specs.declared.upgrade_phase.UpgradePhase.TheVariants.{Plain, Locking, Trying, Unlocking, Bumping, Upgrading, TryingToUpgrade, DowngradingToShared, DowngradingToUpgradable, GivingUp, Seeks, TryLoads, TryAdmits, Refuses, Upgrades, Drains, TryUpgradeLoads, TryUpgrades, BumpLoads, Relocks, UnlockLoads, Unlocks, Frees, ToShared, ToUpgradable, YieldLoads, Yields, Owes, Ends, Invalid}
+use Rattle.parking_lot_protocol_rw.specs.declared.upgrade_phase.UpgradePhase.TheVariants.{Plain, Locking, Trying}
+use Rattle.parking_lot_protocol_rw.specs.declared.upgrade_phase.UpgradePhase.TheVariants.{Unlocking, Bumping, Upgrading}
+use Rattle.parking_lot_protocol_rw.specs.declared.upgrade_phase.UpgradePhase.TheVariants.{TryingToUpgrade}
+use Rattle.parking_lot_protocol_rw.specs.declared.upgrade_phase.UpgradePhase.TheVariants.{DowngradingToShared}
+use Rattle.parking_lot_protocol_rw.specs.declared.upgrade_phase.UpgradePhase.TheVariants.{DowngradingToUpgradable}
+use Rattle.parking_lot_protocol_rw.specs.declared.upgrade_phase.UpgradePhase.TheVariants.{GivingUp, Seeks, TryLoads}
+use Rattle.parking_lot_protocol_rw.specs.declared.upgrade_phase.UpgradePhase.TheVariants.{TryAdmits, Refuses, Upgrades}
+use Rattle.parking_lot_protocol_rw.specs.declared.upgrade_phase.UpgradePhase.TheVariants.{Drains, TryUpgradeLoads}
+use Rattle.parking_lot_protocol_rw.specs.declared.upgrade_phase.UpgradePhase.TheVariants.{TryUpgrades, BumpLoads}
+use Rattle.parking_lot_protocol_rw.specs.declared.upgrade_phase.UpgradePhase.TheVariants.{Relocks, UnlockLoads, Unlocks}
+use Rattle.parking_lot_protocol_rw.specs.declared.upgrade_phase.UpgradePhase.TheVariants.{Frees, ToShared, ToUpgradable}
+use Rattle.parking_lot_protocol_rw.specs.declared.upgrade_phase.UpgradePhase.TheVariants.{YieldLoads, Yields, Owes}
+use Rattle.parking_lot_protocol_rw.specs.declared.upgrade_phase.UpgradePhase.TheVariants.{Ends, Invalid}
 
 -- CALLS OF SHARED AND EXCLUSIVE HOLDS, AS WHICH A CALL GOES ON
 
@@ -75,13 +90,16 @@ seeks_act (at.Admits a word) = (if rw.has_room word then act.Exchange word ((wor
 seeks_act (at.Appends want) = act.Section (section.Append (record { 0 = 20 }))
 seeks_act phase = rw.act_of phase
 
--- one that gives the upgradable hold up in a section: it takes its own share off, and adds those of the threads to which it hands over
+-- one that gives the upgradable hold up in a section: it takes its own share off, and adds those of the threads to
+-- which it hands over
 abbrev pub frees_store : Scanning → Bool → Bool → WordChange
-frees_store s true left = record { keep = 2 ^ 64 - 2; add = ((rw.sum_of s + bit left) % 2 ^ 64 + (2 ^ 64 - 20)) % 2 ^ 64 }
+frees_store s true left =
+    record { keep = 2 ^ 64 - 2; add = ((rw.sum_of s + bit left) % 2 ^ 64 + (2 ^ 64 - 20)) % 2 ^ 64 }
 frees_store s false left = record { keep = 2 ^ 64 - 2 + bit left; add = 2 ^ 64 - 20 }
 
 abbrev pub frees_act : Release → RwPhase → Act
-frees_act r (at.Stores s left) = act.Section (section.Store (frees_store s (rw.hands s s.fair) left) (frees_store s (rw.hands s true) left))
+frees_act r (at.Stores s left) =
+    act.Section (section.Store (frees_store s (rw.hands s s.fair) left) (frees_store s (rw.hands s true) left))
 frees_act r (at.Finishes rest) = (if is_again r then act.Load else act.Done Released)
 frees_act r phase = rw.act_of phase
 
@@ -189,8 +207,8 @@ owes hold answer word = (if rw.is_parked word then Owes hold answer (core_at at.
 abbrev pub held_before : Bool → Hold
 held_before from = (if from then Upgradable else Nothing)
 
--- What follows by itself, where the call begins, a word was seen, an exchange was won, or an addition found a word. What doesn't fit
--- leads astray.
+-- What follows by itself, where the call begins, a word was seen, an exchange was won, or an addition found a word.
+-- What doesn't fit leads astray.
 abbrev pub begun : UpgradePhase → UpgradePhase
 begun Locking = Seeks (core_at (at.Loads (rw.begins want.Exclusive false)))
 begun Trying = TryLoads

@@ -3,7 +3,8 @@ ghost use Rattle.std.specs.Prelude.{◌≡◌, false};
 ghost use Rattle.parking_lot_protocol.specs.RwTable.{begins, pends};
 ghost use Rattle.parking_lot_protocol.specs.declared.rw_phase.AfterWake.TheVariants.{FreedExclusive};
 ghost use Rattle.parking_lot_protocol.specs.declared.rw_phase.LockMode.TheVariants.{Exclusive};
-ghost use Rattle.parking_lot_protocol.specs.declared.rw_phase.RwPhase.TheVariants.{DrainLoads, EnterWakeSection, Loads, LooksExclusive};
+ghost use Rattle.parking_lot_protocol.specs.declared.rw_phase.RwPhase.TheVariants.{DrainLoads, EnterWakeSection, Loads};
+ghost use Rattle.parking_lot_protocol.specs.declared.rw_phase.RwPhase.TheVariants.{LooksExclusive};
 ghost use Rattle.parking_lot_protocol_rw.specs.UpgradeTable.{core_at, seeking, told};
 
 use parking_lot_protocol::{ActResult, RwCore};

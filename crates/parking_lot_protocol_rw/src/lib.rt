@@ -1,9 +1,9 @@
-//! Calls of a reader-writer lock that ask for an upgradable hold, give it up or convert it, as plain data: one decision core of
-//! all calls of such a lock.
+//! Calls of a reader-writer lock that ask for an upgradable hold, give it up or convert it, as plain data: one decision
+//! core of all calls of such a lock.
 //!
-//! An upgradable hold stands beside readers and keeps writers and other upgradable ones out. It is asked for as an exclusive one
-//! is: the same words are waited for, and another share is added. To upgrade it a thread becomes a writer that waits for readers
-//! to leave.
+//! An upgradable hold stands beside readers and keeps writers and other upgradable ones out. It is asked for as an
+//! exclusive one is: the same words are waited for, and another share is added. To upgrade it a thread becomes a writer
+//! that waits for readers to leave.
 #![tactic(auto)]
 
 mod inner;

@@ -3,7 +3,8 @@ ghost use Rattle.std.specs.Prelude.{◌≡◌, ◌+◌, ◌-◌, ◌<◌, ◌%�
 ghost use Rattle.parking_lot_protocol.specs.declared.act.Act.TheVariants as act;
 ghost use Rattle.parking_lot_protocol.specs.declared.act.SectionAct.TheVariants as section;
 ghost use Rattle.parking_lot_protocol.specs.RwTable.{hands, may_hand, taken_sum};
-ghost use Rattle.parking_lot_protocol_rw.specs.UpgradeTable.{act_of, frees_act, frees_store, is_again, kept_share, owes_act, seeks_act, yield_change};
+ghost use Rattle.parking_lot_protocol_rw.specs.UpgradeTable.{act_of, frees_act, frees_store, is_again, kept_share};
+ghost use Rattle.parking_lot_protocol_rw.specs.UpgradeTable.{owes_act, seeks_act, yield_change};
 
 use crate::upgrade_phase::{Hold, Release, UpgradePhase};
 use parking_lot_core_model::ParkToken;
@@ -47,7 +48,8 @@ pub(crate) fn admission(word: u64) -> Act
     Act::Exchange(word, word.wrapping_add(UPGRADER))
 }
 
-/// The act of one that asks for the upgradable hold as for an exclusive one. Where no reader more can be counted it looks again.
+/// The act of one that asks for the upgradable hold as for an exclusive one. Where no reader more can be counted it
+/// looks again.
 fn seeks_act(phase: RwPhase) -> Act
     ensures { result ≡ seeks_act phase }
 {
@@ -159,7 +161,8 @@ fn yield_change(from: bool) -> WordChange
 }
 
 impl UpgradePhase {
-    /// The act that it has asked for. Before it begins, and where it was told what its act can't give, it asks for nothing.
+    /// The act that it has asked for. Before it begins, and where it was told what its act can't give, it asks for
+    /// nothing.
     pub fn act(self) -> Act
         ensures { result ≡ act_of self }
     {

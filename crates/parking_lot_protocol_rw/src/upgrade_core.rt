@@ -69,7 +69,8 @@ impl UpgradeCore {
         }
     }
 
-    /// A call that lets waiters go first: where there are some it gives the upgradable hold up fairly and asks for it again.
+    /// A call that lets waiters go first: where there are some it gives the upgradable hold up fairly and asks for it
+    /// again.
     pub fn bump() -> UpgradeCore
         ensures { result.phase ≡ at.Bumping }
     {
@@ -114,8 +115,8 @@ impl UpgradeCore {
         }
     }
 
-    /// A writer that waits for readers to leave waits no more: it has the upgradable hold again if it had it before, and else
-    /// nothing.
+    /// A writer that waits for readers to leave waits no more: it has the upgradable hold again if it had it before,
+    /// and else nothing.
     pub fn give_up(from: bool) -> UpgradeCore
         ensures { result.phase ≡ at.GivingUp from }
     {

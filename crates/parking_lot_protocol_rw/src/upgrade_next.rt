@@ -1,6 +1,9 @@
 //! Where a call goes on, by what its act gave.
 ghost use Rattle.std.specs.Prelude.{◌≡◌};
-ghost use Rattle.parking_lot_protocol_rw.specs.UpgradeTable.{added, asks_now, begun, bumps, frees, held_before, is_fair, is_handed, is_open, is_won, is_word, next_phase, over, own_next, owes, owns_now, retries, retries_upgrade, shown, tries, tries_upgrade, unlocks, won};
+ghost use Rattle.parking_lot_protocol_rw.specs.UpgradeTable.{added, asks_now, begun, bumps, frees, held_before};
+ghost use Rattle.parking_lot_protocol_rw.specs.UpgradeTable.{is_fair, is_handed, is_open, is_won, is_word, next_phase};
+ghost use Rattle.parking_lot_protocol_rw.specs.UpgradeTable.{over, own_next, owes, owns_now, retries, retries_upgrade};
+ghost use Rattle.parking_lot_protocol_rw.specs.UpgradeTable.{shown, tries, tries_upgrade, unlocks, won};
 ghost use Rattle.parking_lot_protocol_rw.specs.declared.upgrade_phase.UpgradePhase.TheVariants.{Frees, Seeks};
 
 use crate::inner::{asking, asking_at, draining, freeing, owing, told};

@@ -11,8 +11,8 @@ pub enum Hold {
     Exclusive,
 }
 
-/// How the upgradable hold is given up: waiters are handed the lock over where the schedule says so, or always; or always, and
-/// then it is asked for again.
+/// How the upgradable hold is given up: waiters are handed the lock over where the schedule says so, or always; or
+/// always, and then it is asked for again.
 #[derive(Clone, Copy, PartialEq, Eq, Debug)]
 pub enum Release {
     Plain,

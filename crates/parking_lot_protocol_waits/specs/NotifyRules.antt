@@ -1,4 +1,5 @@
--- Which step of the rules of a condition variable each answer to a notification is, and what its thread is doing there in each phase.
+-- Which step of the rules of a condition variable each answer to a notification is, and what its thread is doing there
+-- in each phase.
 use Rattle.std.specs.Prelude.{◌≡◌, ℕ, ◌+◌, ◌%◌, ◌^◌, ◌==◌, ◌&&◌, nat_lt, not, Bool, true, false, if◌then◌else◌}
 use Rattle.parking_lot_rules.specs.Variable as rules
 use Rattle.parking_lot_protocol_waits.specs.declared.notify_act.NotifySeen.{NotifySeen}
@@ -6,7 +7,9 @@ use Rattle.parking_lot_protocol_waits.specs.declared.notify_act.NotifySeen.TheVa
 use Rattle.parking_lot_protocol_waits.specs.declared.notify_act.NotifyAct.{NotifyAct}
 use Rattle.parking_lot_protocol_waits.specs.declared.notify_act.NotifyAct.TheVariants as act
 use Rattle.parking_lot_protocol_waits.specs.declared.notify_core.NotifyPhase.{NotifyPhase}
-use Rattle.parking_lot_protocol_waits.specs.declared.notify_core.NotifyPhase.TheVariants.{Notifying, Enters, Checks, Marks, Moves, MarksRest, Forgets, Leaves, Wakes, Ends}
+use Rattle.parking_lot_protocol_waits.specs.declared.notify_core.NotifyPhase.TheVariants.{Notifying, Enters, Checks}
+use Rattle.parking_lot_protocol_waits.specs.declared.notify_core.NotifyPhase.TheVariants.{Marks, Moves, MarksRest}
+use Rattle.parking_lot_protocol_waits.specs.declared.notify_core.NotifyPhase.TheVariants.{Forgets, Leaves, Wakes, Ends}
 use Rattle.parking_lot_protocol_waits.specs.NotifyTable.{act_of, next_phase, Gives}
 use Rattle.parking_lot_protocol_waits.specs.WaitRules.{IsPlain, Keeps}
 
@@ -45,7 +48,8 @@ pub data Move : Type 0 where
 abbrev pub move : NotifyPhase → NotifySeen → Move
 move (Enters all word) seen = Makes rules.Notify
 move (Checks all word) (Word now) = (if now == word then Stays else Closes true)
-move (Moves all locked) (Moved unparked requeued left) = Releases (unparked + requeued) (if not locked && nat_lt 0 requeued then false else left)
+move (Moves all locked) (Moved unparked requeued left) =
+    Releases (unparked + requeued) (if not locked && nat_lt 0 requeued then false else left)
 move (MarksRest notice) seen = Closes notice.left
 move (Forgets notice) seen = Makes (rules.Forget rules.Notifies)
 move (Leaves notice) seen = Makes rules.Go
@@ -61,12 +65,15 @@ abbrev pub closed : Bool → rules.Phase
 closed true = rules.Left
 closed false = rules.Notifies
 
--- The move leads from phase p to phase q, at a word, and leaves that word. Only a move that takes waiters changes how many were taken.
+-- The move leads from phase p to phase q, at a word, and leaves that word. Only a move that takes waiters changes how
+-- many were taken.
 abbrev pub IsMove : Move → NotifyPhase → NotifyPhase → ℕ → ℕ → Type 0
 IsMove Stays p q word after = (does q ≡ does p) × (taken_in q ≡ taken_in p) × (after ≡ word)
 IsMove (Makes k) p q word after = IsPlain k (does p) (does q) word after × (taken_in q ≡ taken_in p)
-IsMove (Closes closes) p q word after = Keeps (does p) rules.Notifies (does q) (closed closes) word after × (taken_in q ≡ taken_in p)
-IsMove (Releases count closes) p q word after = Keeps (does p) rules.Notifies (does q) (closed closes) word after × (taken_in q ≡ count % 2 ^ 64)
+IsMove (Closes closes) p q word after = Keeps (does p) rules.Notifies (does q) (closed closes) word after
+    × (taken_in q ≡ taken_in p)
+IsMove (Releases count closes) p q word after = Keeps (does p) rules.Notifies (does q) (closed closes) word after
+    × (taken_in q ≡ count % 2 ^ 64)
 
 -- what a notification may be told at a word: that it begins, or what its act gives
 abbrev pub IsTold : NotifyPhase → ℕ → NotifySeen → Type 0

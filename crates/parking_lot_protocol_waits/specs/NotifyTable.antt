@@ -1,15 +1,20 @@
 -- A notification: the act that each phase has asked for, and the phase that follows what it gives.
 use Rattle.std.specs.Prelude.{◌≡◌, ℕ, ◌+◌, ◌%◌, ◌^◌, ◌==◌, ◌&&◌, nat_lt, not, Bool, true, false, if◌then◌else◌}
 use Rattle.parking_lot_core_model.specs.declared.parking.RequeueOp.{RequeueOp}
-use Rattle.parking_lot_core_model.specs.declared.parking.RequeueOp.TheVariants.{Abort, UnparkOneRequeueRest, RequeueAll, UnparkOne, RequeueOne}
+use Rattle.parking_lot_core_model.specs.declared.parking.RequeueOp.TheVariants.{Abort, UnparkOneRequeueRest, RequeueAll}
+use Rattle.parking_lot_core_model.specs.declared.parking.RequeueOp.TheVariants.{UnparkOne, RequeueOne}
 use Rattle.parking_lot_protocol_waits.specs.declared.notify_act.NotifyAct.{NotifyAct}
 use Rattle.parking_lot_protocol_waits.specs.declared.notify_act.NotifyAct.TheVariants as act
 use Rattle.parking_lot_protocol_waits.specs.declared.notify_act.NotifySeen.{NotifySeen}
-use Rattle.parking_lot_protocol_waits.specs.declared.notify_act.NotifySeen.TheVariants.{Start, Word, Made, Marked, Moved}
+use Rattle.parking_lot_protocol_waits.specs.declared.notify_act.NotifySeen.TheVariants.{Start, Word, Made, Marked}
+use Rattle.parking_lot_protocol_waits.specs.declared.notify_act.NotifySeen.TheVariants.{Moved}
 use Rattle.parking_lot_protocol_waits.specs.declared.notify_core.Notice.{Notice}
 use Rattle.parking_lot_protocol_waits.specs.declared.notify_core.NotifyCore.{NotifyCore}
 use Rattle.parking_lot_protocol_waits.specs.declared.notify_core.NotifyPhase.{NotifyPhase}
-use Rattle.parking_lot_protocol_waits.specs.declared.notify_core.NotifyPhase.TheVariants.{Notifying, Loads, Enters, Checks, Marks, Moves, MarksRest, Forgets, Leaves, Wakes, Ends, Invalid}
+use Rattle.parking_lot_protocol_waits.specs.declared.notify_core.NotifyPhase.TheVariants.{Notifying, Loads, Enters}
+use Rattle.parking_lot_protocol_waits.specs.declared.notify_core.NotifyPhase.TheVariants.{Checks, Marks, Moves}
+use Rattle.parking_lot_protocol_waits.specs.declared.notify_core.NotifyPhase.TheVariants.{MarksRest, Forgets, Leaves}
+use Rattle.parking_lot_protocol_waits.specs.declared.notify_core.NotifyPhase.TheVariants.{Wakes, Ends, Invalid}
 
 -- what is done with the waiters, of all or of the first, where the mutex is locked or not
 abbrev pub operation : Bool → Bool → RequeueOp
@@ -37,7 +42,8 @@ act_of Invalid = act.Nothing
 abbrev pub forgets_or : Notice → NotifyPhase
 forgets_or notice = (if notice.left then Leaves notice else Forgets notice)
 
--- so many were taken to be woken, and so many moved: those that were moved to a mutex that isn't locked are still to be announced
+-- so many were taken to be woken, and so many moved: those that were moved to a mutex that isn't locked are still to be
+-- announced
 abbrev pub moved_to : Bool → ℕ → ℕ → Bool → NotifyPhase
 moved_to locked unparked requeued left =
     let notice : Notice = record { count = (unparked + requeued) % 2 ^ 64; wakes = nat_lt 0 unparked; left = left } in
@@ -52,7 +58,8 @@ abbrev pub next_phase : NotifyPhase → NotifySeen → NotifyPhase
 next_phase (Notifying all) Start = Loads all
 next_phase (Loads all) (Word word) = (if word == 0 then Ends 0 else Enters all word)
 next_phase (Enters all word) Made = Checks all word
-next_phase (Checks all word) (Word now) = (if now == word then Marks all else Leaves (record { count = 0; wakes = false; left = true }))
+next_phase (Checks all word) (Word now) =
+    (if now == word then Marks all else Leaves (record { count = 0; wakes = false; left = true }))
 next_phase (Marks all) (Marked locked) = Moves all locked
 next_phase (Moves all locked) (Moved unparked requeued left) = moved_to locked unparked requeued left
 next_phase (MarksRest notice) Made = forgets_or notice
@@ -64,7 +71,8 @@ next_phase phase seen = Invalid
 -- Whether an operation can take so many. One that takes the first to wake it moves others only behind that one.
 abbrev pub fits : RequeueOp → ℕ → ℕ → Bool → Bool
 fits Abort unparked requeued left = false
-fits UnparkOneRequeueRest unparked requeued left = nat_lt unparked 2 && not left && not ((unparked == 0) && nat_lt 0 requeued)
+fits UnparkOneRequeueRest unparked requeued left = nat_lt unparked 2 && not left
+    && not ((unparked == 0) && nat_lt 0 requeued)
 fits RequeueAll unparked requeued left = (unparked == 0) && not left
 fits UnparkOne unparked requeued left = nat_lt unparked 2 && (requeued == 0)
 fits RequeueOne unparked requeued left = (unparked == 0) && nat_lt requeued 2

@@ -1,11 +1,15 @@
--- Which step of the rules of a condition variable each answer to a wait is, and what its thread is doing there in each phase.
+-- Which step of the rules of a condition variable each answer to a wait is, and what its thread is doing there in each
+-- phase.
 use Rattle.std.specs.Prelude.{◌≡◌, ℕ, ◌+◌, ◌<◌, ◌^◌, ◌==◌, ◌||◌, Bool, true, if◌then◌else◌}
 use Rattle.parking_lot_rules.specs.Roles.{Fresh, Asleep, Late, Back}
 use Rattle.parking_lot_rules.specs.Variable as rules
 use Rattle.parking_lot_protocol_waits.specs.declared.wait_act.WaitSeen.{WaitSeen}
 use Rattle.parking_lot_protocol_waits.specs.declared.wait_act.WaitSeen.TheVariants.{Start, Word, Expired, Quit}
 use Rattle.parking_lot_protocol_waits.specs.declared.wait_core.WaitPhase.{WaitPhase}
-use Rattle.parking_lot_protocol_waits.specs.declared.wait_core.WaitPhase.TheVariants.{Waiting, Stranger, GivingWay, Enters, Checks, Appends, Shows, Rests, Unlocks, Sleeps, Expires, Quits, Forgets, Leaves}
+use Rattle.parking_lot_protocol_waits.specs.declared.wait_core.WaitPhase.TheVariants.{Waiting, Stranger, GivingWay}
+use Rattle.parking_lot_protocol_waits.specs.declared.wait_core.WaitPhase.TheVariants.{Enters, Checks, Appends, Shows}
+use Rattle.parking_lot_protocol_waits.specs.declared.wait_core.WaitPhase.TheVariants.{Rests, Unlocks, Sleeps, Expires}
+use Rattle.parking_lot_protocol_waits.specs.declared.wait_core.WaitPhase.TheVariants.{Quits, Forgets, Leaves}
 use Rattle.parking_lot_protocol_waits.specs.WaitTable.{act_of, next_phase, word_after, Gives}
 
 -- Where a waiter stands: in the variable's list, or off it, as a notification has moved or woken it.
@@ -63,7 +67,8 @@ move Forgets seen = Makes (rules.Forget rules.Leaves)
 move (Leaves true) seen = Makes rules.Go
 move p seen = Stays
 
--- The step k leads from the one phase and word to the other, and it may be made: as far as the word goes, where nobody is inside.
+-- The step k leads from the one phase and word to the other, and it may be made: as far as the word goes, where nobody
+-- is inside.
 pub record IsPlain (k : rules.Plain) (old new : rules.Phase) (word after : ℕ) : Type 0 where
   pub from : old ≡ rules.from k
   pub to : new ≡ rules.to k
@@ -79,8 +84,10 @@ abbrev pub IsMove : Move → WaitPhase → WaitPhase → ℕ → ℕ → Type 0
 IsMove Stays p q word after = ((spot : WaiterPosition) → does spot q ≡ does spot p) × (after ≡ word)
 IsMove (Makes k) p q word after = IsPlain k (does Listed p) (does Listed q) word after
 IsMove (Joins k) p q word after = Keeps (does Listed p) (rules.Checked k) (does Listed q) (rules.Joined k) word after
-IsMove (MakesThere k) p q word after = IsPlain k (does Listed p) (does Listed q) word after × Keeps (does Gone p) rules.Idle (does Gone q) rules.Idle word after
-IsMove (Quitting k last) p q word after = Keeps (does Listed p) (rules.Queued k Back) (does Listed q) (if last then rules.Leaves else rules.Left) word after
+IsMove (MakesThere k) p q word after = IsPlain k (does Listed p) (does Listed q) word after
+    × Keeps (does Gone p) rules.Idle (does Gone q) rules.Idle word after
+IsMove (Quitting k last) p q word after = Keeps (does Listed p) (rules.Queued k Back) (does Listed q)
+    (if last then rules.Leaves else rules.Left) word after
 IsMove WasGone p q word after = Keeps (does Gone p) rules.Idle (does Gone q) rules.Idle word after
 
 -- what a wait may be told at a word: that it begins, or what its act gives
@@ -98,4 +105,5 @@ CanBeShown p = Unit {0}
 
 -- What a wait is told at a word is a step of the rules, of the kind that the table says.
 abbrev pub Follows : WaitPhase → WaitSeen → Type 0
-Follows p s = (word : ℕ) → CanBeShown p → IsTold p word s → IsMove (move p s) p (next_phase p s) word (word_after (act_of p) s word)
+Follows p s = (word : ℕ) → CanBeShown p → IsTold p word s → IsMove (move p s) p (next_phase p s) word
+    (word_after (act_of p) s word)

@@ -5,10 +5,16 @@ use Rattle.parking_lot_protocol_waits.specs.declared.wait_act.WaitAct.{WaitAct}
 use Rattle.parking_lot_protocol_waits.specs.declared.wait_act.WaitAct.TheVariants as act
 use Rattle.parking_lot_protocol_waits.specs.declared.wait_act.WaitAnswer.TheVariants as answer
 use Rattle.parking_lot_protocol_waits.specs.declared.wait_act.WaitSeen.{WaitSeen}
-use Rattle.parking_lot_protocol_waits.specs.declared.wait_act.WaitSeen.TheVariants.{Start, Word, Made, Woken, Expired, Quit, WasTaken}
+use Rattle.parking_lot_protocol_waits.specs.declared.wait_act.WaitSeen.TheVariants.{Start, Word, Made, Woken, Expired}
+use Rattle.parking_lot_protocol_waits.specs.declared.wait_act.WaitSeen.TheVariants.{Quit, WasTaken}
 use Rattle.parking_lot_protocol_waits.specs.declared.wait_core.WaitCore.{WaitCore}
 use Rattle.parking_lot_protocol_waits.specs.declared.wait_core.WaitPhase.{WaitPhase}
-use Rattle.parking_lot_protocol_waits.specs.declared.wait_core.WaitPhase.TheVariants.{Waiting, Stranger, GivingWay, Looks, Enters, Checks, Retreats, Appends, Shows, Rests, Unlocks, Sleeps, Expires, Quits, Forgets, Masks, Leaves, Resumes, Yields, Locks, Ends, Invalid}
+use Rattle.parking_lot_protocol_waits.specs.declared.wait_core.WaitPhase.TheVariants.{Waiting, Stranger, GivingWay}
+use Rattle.parking_lot_protocol_waits.specs.declared.wait_core.WaitPhase.TheVariants.{Looks, Enters, Checks, Retreats}
+use Rattle.parking_lot_protocol_waits.specs.declared.wait_core.WaitPhase.TheVariants.{Appends, Shows, Rests, Unlocks}
+use Rattle.parking_lot_protocol_waits.specs.declared.wait_core.WaitPhase.TheVariants.{Sleeps, Expires, Quits, Forgets}
+use Rattle.parking_lot_protocol_waits.specs.declared.wait_core.WaitPhase.TheVariants.{Masks, Leaves, Resumes, Yields}
+use Rattle.parking_lot_protocol_waits.specs.declared.wait_core.WaitPhase.TheVariants.{Locks, Ends, Invalid}
 
 -- the word that shows a mutex
 abbrev pub shown_by : ℕ → ℕ

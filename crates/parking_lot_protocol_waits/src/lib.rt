@@ -1,9 +1,10 @@
 //! The calls of a condition variable as plain data: the decision cores of a wait and of a notification.
 //!
-//! A core does nothing itself: it is told what its last act gave, and answers the next act. So whoever runs it decides where the words
-//! lie and where the waiters stand.
+//! A core does nothing itself: it is told what its last act gave, and answers the next act. So whoever runs it decides
+//! where the words lie and where the waiters stand.
 //!
-//! The word of a condition variable is 0 where nobody waits, and else shows the mutex that all wait with: its number and 1 more.
+//! The word of a condition variable is 0 where nobody waits, and else shows the mutex that all wait with: its number
+//! and 1 more.
 #![tactic(auto)]
 
 mod notify_act;

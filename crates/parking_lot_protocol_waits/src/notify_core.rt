@@ -1,10 +1,12 @@
 //! The call of a thread that notifies those that wait on a condition variable.
 ghost use Rattle.std.specs.Prelude.{◌≡◌, ◌+◌, ◌%◌, ◌^◌, ◌==◌, ◌&&◌, nat_lt, not, true, false, if◌then◌else◌, IfSome};
 ghost use Rattle.parking_lot_protocol_waits.specs.NotifyRules.{Follows};
-ghost use Rattle.parking_lot_protocol_waits.specs.NotifyTable.{act_of, fits, forgets_or, moved_to, next_phase, operation, wakes_or, Gives, notify_asks, notify_told};
+ghost use Rattle.parking_lot_protocol_waits.specs.NotifyTable.{act_of, fits, forgets_or, moved_to, next_phase};
+ghost use Rattle.parking_lot_protocol_waits.specs.NotifyTable.{operation, wakes_or, Gives, notify_asks, notify_told};
 ghost use Rattle.parking_lot_protocol_waits.specs.declared.notify_act.NotifySeen.TheVariants as seen;
 ghost use Rattle.parking_lot_protocol_waits.specs.declared.notify_act.NotifyAct.TheVariants as act;
-ghost use Rattle.parking_lot_protocol_waits.specs.declared.notify_core.NotifyPhase.TheVariants.{Notifying, Enters, Marks, Leaves, Ends};
+ghost use Rattle.parking_lot_protocol_waits.specs.declared.notify_core.NotifyPhase.TheVariants.{Notifying, Enters};
+ghost use Rattle.parking_lot_protocol_waits.specs.declared.notify_core.NotifyPhase.TheVariants.{Marks, Leaves, Ends};
 
 use crate::notify_act::{NotifyAct, NotifySeen};
 use parking_lot_core_model::RequeueOp;
@@ -18,8 +20,8 @@ pub struct Notice {
     pub left: bool,
 }
 
-/// Where a notification stands: it has asked for the act that the case names, and waits for what it gives. `all` says that it is of
-/// all waiters, and a number is the word that it has seen.
+/// Where a notification stands: it has asked for the act that the case names, and waits for what it gives. `all` says
+/// that it is of all waiters, and a number is the word that it has seen.
 #[derive(Clone, Copy, PartialEq, Eq, Debug)]
 pub enum NotifyPhase {
     /// Before it begins.
@@ -28,8 +30,8 @@ pub enum NotifyPhase {
     Loads(bool),
     Enters(bool, u64),
     Checks(bool, u64),
-    /// It announces to the mutex, if that is locked, that waiters come; takes waiters, knowing whether it is; and announces those that
-    /// were moved behind one that is woken.
+    /// It announces to the mutex, if that is locked, that waiters come; takes waiters, knowing whether it is; and
+    /// announces those that were moved behind one that is woken.
     Marks(bool),
     Moves(bool, bool),
     MarksRest(Notice),
@@ -93,7 +95,8 @@ impl NotifyCore {
     }
 }
 
-/// What is done with the waiters: where the mutex is locked they are moved to its list, and else the first is woken and the rest moved.
+/// What is done with the waiters: where the mutex is locked they are moved to its list, and else the first is woken and
+/// the rest moved.
 fn operation(all: bool, locked: bool) -> RequeueOp
     ensures { result ≡ operation all locked }
 {

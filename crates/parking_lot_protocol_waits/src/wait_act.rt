@@ -2,7 +2,8 @@
 
 use parking_lot_core_model::UnparkToken;
 
-/// What a wait does next. All sections are those of the variable's key, but for one that takes itself off the mutex's list.
+/// What a wait does next. All sections are those of the variable's key, but for one that takes itself off the mutex's
+/// list.
 #[derive(Clone, Copy, PartialEq, Eq, Debug)]
 pub enum WaitAct {
     /// It asks for nothing: it hasn't begun, or was told what its act can't give.

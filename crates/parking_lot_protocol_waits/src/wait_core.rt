@@ -1,18 +1,23 @@
 //! The call of a thread that waits on a condition variable.
 ghost use Rattle.std.specs.Prelude.{◌≡◌, ◌+◌, ◌%◌, ◌^◌, ◌==◌, ◌||◌, if◌then◌else◌, IfSome};
 ghost use Rattle.parking_lot_protocol_waits.specs.WaitRules.{Follows};
-ghost use Rattle.parking_lot_protocol_waits.specs.WaitTable.{act_of, begins_again, next_phase, shown_by, Gives, wait_asks, wait_told};
-ghost use Rattle.parking_lot_protocol_waits.specs.declared.wait_act.WaitAnswer.TheVariants.{Woken, TimedOut, WrongMutex, WrongLot};
+ghost use Rattle.parking_lot_protocol_waits.specs.WaitTable.{act_of, begins_again, next_phase, shown_by, Gives};
+ghost use Rattle.parking_lot_protocol_waits.specs.WaitTable.{wait_asks, wait_told};
+ghost use Rattle.parking_lot_protocol_waits.specs.declared.wait_act.WaitAnswer.TheVariants.{Woken, TimedOut};
+ghost use Rattle.parking_lot_protocol_waits.specs.declared.wait_act.WaitAnswer.TheVariants.{WrongMutex, WrongLot};
 ghost use Rattle.parking_lot_protocol_waits.specs.declared.wait_act.WaitSeen.TheVariants as seen;
-ghost use Rattle.parking_lot_protocol_waits.specs.declared.wait_core.WaitPhase.TheVariants.{Waiting, Stranger, GivingWay, Appends, Retreats, Ends, Forgets, Masks, Leaves};
+ghost use Rattle.parking_lot_protocol_waits.specs.declared.wait_core.WaitPhase.TheVariants.{Waiting, Stranger};
+ghost use Rattle.parking_lot_protocol_waits.specs.declared.wait_core.WaitPhase.TheVariants.{GivingWay, Appends};
+ghost use Rattle.parking_lot_protocol_waits.specs.declared.wait_core.WaitPhase.TheVariants.{Retreats, Ends, Forgets};
+ghost use Rattle.parking_lot_protocol_waits.specs.declared.wait_core.WaitPhase.TheVariants.{Masks, Leaves};
 
 use crate::wait_act::{WaitAct, WaitAnswer, WaitSeen};
 use parking_lot_core_model::UnparkToken;
 use parking_lot_protocol::HAND_OVER;
 use parking_lot_protocol::timed::CallCore;
 
-/// Where a wait stands: it has asked for the act that the case names, and waits for what it gives. Where a number is kept, it is the
-/// mutex's.
+/// Where a wait stands: it has asked for the act that the case names, and waits for what it gives. Where a number is
+/// kept, it is the mutex's.
 #[derive(Clone, Copy, PartialEq, Eq, Debug)]
 pub enum WaitPhase {
     /// A wait, one with a mutex of another lot, and one of a thread that can't sleep here, before they begin.
@@ -21,8 +26,8 @@ pub enum WaitPhase {
     GivingWay,
     /// With a mutex of another lot it looks at the word, and is refused.
     Looks,
-    /// It enters the section and looks which mutex is shown; where that is another it leaves and is refused; else it joins the list,
-    /// shows its mutex and leaves.
+    /// It enters the section and looks which mutex is shown; where that is another it leaves and is refused; else it
+    /// joins the list, shows its mutex and leaves.
     Enters(u64),
     Checks(u64),
     Retreats,
@@ -35,7 +40,8 @@ pub enum WaitPhase {
     /// Its moment has passed: it enters the section of the list in which it stands, and takes itself off that.
     Expires(u64),
     Quits(u64),
-    /// It is off the list, and was the last there: the variable forgets the mutex, or the mutex's parked bit is masked off. It leaves.
+    /// It is off the list, and was the last there: the variable forgets the mutex, or the mutex's parked bit is masked
+    /// off. It leaves.
     Forgets,
     Masks,
     Leaves(bool),

@@ -1,10 +1,13 @@
 -- Steps of one thread alone keep a lock sound.
-use Rattle.std.proofs.Common.{◌≡◌, ℕ, ◌+◌, ◌⊎◌, ⊎_elim, Bool, true, false, List, Some, None, slice_get, slice_set, refl, sym, ap, ◌∙◌, inl, inr, arith}
+use Rattle.std.proofs.Common.{◌≡◌, ℕ, ◌+◌, ◌⊎◌, ⊎_elim, Bool, true, false, List, Some, None, slice_get, slice_set, refl}
+use Rattle.std.proofs.Common.{sym, ap, ◌∙◌, inl, inr, arith}
 use Rattle.std.proofs.lemmas.Option.{none-some}
 use Rattle.parking_lot_rules.specs.Roles.{Open, Normal, Handed, Role, away}
 use Rattle.parking_lot_rules.specs.Classes.{Waiting1, Waiting2, weight, total}
 use Rattle.parking_lot_rules.specs.Clauses.{Word, Fits}
-use Rattle.parking_lot_rules.specs.Plain.{Plain, ExpireTaken1, ReenterTaken1, Yield, YieldBack, Look2, Mask2, Depart2, LookExclusive, LookUpgradable, Downgrade, DowngradeToUpgradable, DowngradeUpgradable, LookOwed, Depart1, Finish, from, to, May, written}
+use Rattle.parking_lot_rules.specs.Plain.{Plain, ExpireTaken1, ReenterTaken1, Yield, YieldBack, Look2, Mask2, Depart2}
+use Rattle.parking_lot_rules.specs.Plain.{LookExclusive, LookUpgradable, Downgrade, DowngradeToUpgradable}
+use Rattle.parking_lot_rules.specs.Plain.{DowngradeUpgradable, LookOwed, Depart1, Finish, from, to, May, written}
 use Rattle.parking_lot_rules.specs.Lists.{occurs}
 use Rattle.parking_lot_rules.specs.Lock.{role_note, role_wakes, Note, On1, On2, note_of, to_wake, Sound}
 use Rattle.parking_lot_rules.proofs.Totals.{counts_all, total-set, total-at, same_counts}
@@ -109,11 +112,14 @@ same_wakes _ note = refl
 module _ (w : Word) (rs : List Role) (first second : List ℕ) (sound : Sound w rs first second) (t : ℕ) where
   -- how the clauses that count are kept where one role changes
   pub fits-set : (w' : Word) (a b : Role) → slice_get rs t ≡ Some a
-      → (Fits w (λ c. total c (slice_set rs t away) + weight c a) → Fits w' (λ c. total c (slice_set rs t away) + weight c b)) → Fits w' (λ c. total c (slice_set rs t b))
+      → (Fits w (λ c. total c (slice_set rs t away) + weight c a)
+      → Fits w' (λ c. total c (slice_set rs t away) + weight c b)) → Fits w' (λ c. total c (slice_set rs t b))
   fits-set w' a b at keeps =
-      same_counts (Fits w') _ _ (λ c. sym (total-set rs t a b at c)) (keeps (same_counts (Fits w) _ _ (total-at rs t a at) sound.fits))
+      same_counts (Fits w') _ _ (λ c. sym (total-set rs t a b at c))
+      (keeps (same_counts (Fits w) _ _ (total-at rs t a at) sound.fits))
 
-  pub sound_alone : (recursive : Bool) (k : Plain) → slice_get rs t ≡ Some (from k) → May recursive k w (λ c. total c rs) → Sound (written k w) (slice_set rs t (to k)) first second
+  pub sound_alone : (recursive : Bool) (k : Plain) → slice_get rs t ≡ Some (from k)
+      → May recursive k w (λ c. total c rs) → Sound (written k w) (slice_set rs t (to k)) first second
   sound_alone recursive k at may = record {
     fits = fits-set (written k w) (from k) (to k) at (λ before.
         plain_fits recursive k w (λ c. total c (slice_set rs t away)) (counts_all (slice_set rs t away)) before
@@ -121,6 +127,7 @@ module _ (w : Word) (rs : List Role) (first second : List ℕ) (sound : Sound w 
     waiting1 = lists-same (weight Waiting1) first rs t (from k) (to k) at sound.waiting1 (same_waiting1 k);
     waiting2 = lists-same (weight Waiting2) second rs t (from k) (to k) at sound.waiting2 (same_waiting2 k);
     noted = noted-set role_note role_wakes rs t (from k) (to k) at sound.noted
-        (λ by note took. ⊎_elim (λ none. absurd (none-some (by, note) (sym none ∙ took))) (λ same. sound.noted t by (from k) note at (sym same ∙ took)) (same_note k))
+        (λ by note took. ⊎_elim (λ none. absurd (none-some (by, note) (sym none ∙ took)))
+        (λ same. sound.noted t by (from k) note at (sym same ∙ took)) (same_note k))
         (λ u r note here took. omega (arith, ap (λ us. occurs u us) (same_wakes k note)));
   }

@@ -1,5 +1,6 @@
 -- Lists of all threads, by what each of them is.
-use Rattle.std.proofs.Common.{◌≡◌, ◌≢◌, ℕ, zero, suc, ◌+◌, ◌<◌, ◌≤◌, inl, inr, ◌==◌, cond, eq-eqb, List, [], ◌∷◌, length, map, Some, None, slice_get, slice_set, refl, sym, ap, ◌∙◌, arith}
+use Rattle.std.proofs.Common.{◌≡◌, ◌≢◌, ℕ, zero, suc, ◌+◌, ◌<◌, ◌≤◌, inl, inr, ◌==◌, cond, eq-eqb, List, [], ◌∷◌}
+use Rattle.std.proofs.Common.{length, map, Some, None, slice_get, slice_set, refl, sym, ap, ◌∙◌, arith}
 use Rattle.std.specs.List.{range_with_len}
 use Rattle.std.proofs.lemmas.Bool.{cases_lt, cases_eq, ne_eqb}
 use Rattle.parking_lot_rules.proofs.Indexed.{get-set_same, get-set_other}
@@ -11,7 +12,8 @@ module _ {R : Type 0} where
   same-lists [] [] h = refl
   same-lists [] (y ∷ ys) h = absurd (none-some y (h 0))
   same-lists (x ∷ xs) [] h = absurd (none-some x (sym (h 0)))
-  same-lists (x ∷ xs) (y ∷ ys) h = ap (λ z. z ∷ xs) (same_Some x y (h 0)) ∙ ap (λ zs. y ∷ zs) (same-lists xs ys (λ i. h (suc i)))
+  same-lists (x ∷ xs) (y ∷ ys) h = ap (λ z. z ∷ xs) (same_Some x y (h 0))
+      ∙ ap (λ zs. y ∷ zs) (same-lists xs ys (λ i. h (suc i)))
 
   abbrev pub all : (ℕ → R) → ℕ → ℕ → List R
   all f a n = map f (range_with_len a n)
@@ -45,7 +47,8 @@ module _ {R : Type 0} where
   ])
 
   -- where one has changed
-  pub change-all : (f g : ℕ → R) (n t : ℕ) → t < n → ((u : ℕ) → u < n → u ≢ t → g u ≡ f u) → all g 0 n ≡ slice_set (all f 0 n) t (g t)
+  pub change-all : (f g : ℕ → R) (n t : ℕ) → t < n → ((u : ℕ) → u < n → u ≢ t → g u ≡ f u)
+      → all g 0 n ≡ slice_set (all f 0 n) t (g t)
   change-all f g n t in_range h = same-lists (all g 0 n) (slice_set (all f 0 n) t (g t)) (λ i. elim (cases_lt i n) [
     | inl b ↦ get-all g n i b ∙ here i b
     | inr b ↦ past g n i b ∙ sym (beyond i b)
@@ -53,8 +56,10 @@ module _ {R : Type 0} where
     where
       here : (i : ℕ) → i < n → Some (g i) ≡ slice_get (slice_set (all f 0 n) t (g t)) i
       here i b = elim (cases_eq i t) [
-        | inl e ↦ ap (λ k. Some (g k)) e ∙ sym (get-set_same (all f 0 n) t (f t) (g t) (get-all f n t in_range)) ∙ ap (slice_get (slice_set (all f 0 n) t (g t))) (sym e)
-        | inr ne ↦ ap Some (h i b ne) ∙ sym (get-all f n i b) ∙ sym (get-set_other (all f 0 n) t i (g t) (λ e. ne (sym e)))
+        | inl e ↦ ap (λ k. Some (g k)) e ∙ sym (get-set_same (all f 0 n) t (f t) (g t) (get-all f n t in_range))
+            ∙ ap (slice_get (slice_set (all f 0 n) t (g t))) (sym e)
+        | inr ne ↦ ap Some (h i b ne) ∙ sym (get-all f n i b)
+            ∙ sym (get-set_other (all f 0 n) t i (g t) (λ e. ne (sym e)))
       ]
 
       beyond : (i : ℕ) → n ≤ i → slice_get (slice_set (all f 0 n) t (g t)) i ≡ None
@@ -77,12 +82,16 @@ module _ {R : Type 0} where
         | inl e ↦ ap g e ∙ sym (one-changed-here f g t) ∙ ap (one-changed f g t) (sym e)
         | inr nt ↦ h u b nt nv ∙ sym (one-changed-elsewhere f g t u nt)
       ])
-      ∙ ap (λ xs. slice_set xs v (g v)) (change-all f (one-changed f g t) n t ht (λ u b nt. one-changed-elsewhere f g t u nt) ∙ ap (slice_set (all f 0 n) t) (one-changed-here f g t))
+      ∙ ap (λ xs. slice_set xs v (g v))
+      (change-all f (one-changed f g t) n t ht (λ u b nt. one-changed-elsewhere f g t u nt)
+      ∙ ap (slice_set (all f 0 n) t) (one-changed-here f g t))
 
   map-all : (h : R → R) (f : ℕ → R) (a n : ℕ) → map h (all f a n) ≡ all (λ u. h (f u)) a n
   map-all h f a zero = refl
   map-all h f a (suc n) = ap (λ xs. h (f a) ∷ xs) (map-all h f (a + 1) n)
 
   -- and where all others have changed in the same way
-  pub settle-all : (h : R → R) (f g : ℕ → R) (n t : ℕ) → t < n → ((u : ℕ) → u < n → u ≢ t → g u ≡ h (f u)) → all g 0 n ≡ slice_set (map h (all f 0 n)) t (g t)
-  settle-all h f g n t in_range others = change-all (λ u. h (f u)) g n t in_range others ∙ ap (λ xs. slice_set xs t (g t)) (sym (map-all h f 0 n))
+  pub settle-all : (h : R → R) (f g : ℕ → R) (n t : ℕ) → t < n → ((u : ℕ) → u < n → u ≢ t → g u ≡ h (f u))
+      → all g 0 n ≡ slice_set (map h (all f 0 n)) t (g t)
+  settle-all h f g n t in_range others = change-all (λ u. h (f u)) g n t in_range others
+      ∙ ap (λ xs. slice_set xs t (g t)) (sym (map-all h f 0 n))

@@ -69,7 +69,8 @@ goes_run = (
   ),
 )
 
-runs-append : (ms ns : List Move) (w v x : World) → Runs (λ k. 0) (λ i. false) w ms v → Runs (λ k. 0) (λ i. false) v ns x → Runs (λ k. 0) (λ i. false) w (ms ++ ns) x
+runs-append : (ms ns : List Move) (w v x : World) → Runs (λ k. 0) (λ i. false) w ms v
+    → Runs (λ k. 0) (λ i. false) v ns x → Runs (λ k. 0) (λ i. false) w (ms ++ ns) x
 runs-append [] ns w v x e run = subst (λ (y : World). Runs (λ k. 0) (λ i. false) y ns x) e run
 runs-append (m ∷ ms) ns w v x first run = (first.0, runs-append ms ns (moved (λ k. 0) m w) v x first.1 run)
 
@@ -83,7 +84,11 @@ runs_are_there = record {
   reader = refl;
   pending = refl;
   owned = led goes (led comes (at_rest 2));
-  reached_then = record { threads = 2; moves = comes ++ goes; run = runs-append comes goes (at_rest 2) (led comes (at_rest 2)) _ comes_run goes_run };
+  reached_then = record {
+    threads = 2;
+    moves = comes ++ goes;
+    run = runs-append comes goes (at_rest 2) (led comes (at_rest 2)) _ comes_run goes_run;
+  };
   word_then = refl;
   queue_then = refl;
   writer_then = refl;

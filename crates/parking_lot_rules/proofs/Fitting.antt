@@ -1,10 +1,17 @@
 -- Steps that change a list or two roles keep the clauses that count.
 use Rattle.std.proofs.Common.{◌≡◌, ℕ, zero, suc, ◌+◌, ◌<◌, ◌≤◌, ◌⊎◌, Bool, true, false, List, [], refl, inl, inr, arith}
-use Rattle.parking_lot_rules.specs.Roles.{Mode, Shared, Exclusive, Upgradable, Owned, Shares, Excludes, Upgrades, Stay, Open, Cause, FromExclusive, FromUpgradable, Owed, Queued1, Taken1, Queued2, Taken2, Scans1, Stored1, Scans2, Wakes}
-use Rattle.parking_lot_rules.specs.Classes.{Class, Upgraders, Waiting1, weight, owned, bit, inside, called, if_exclusive, if_upgradable, if_owed}
+use Rattle.parking_lot_rules.specs.Roles.{Mode, Shared, Exclusive, Upgradable, Owned, Shares, Excludes, Upgrades, Stay}
+use Rattle.parking_lot_rules.specs.Roles.{Open, Cause, FromExclusive, FromUpgradable, Owed, Queued1, Taken1, Queued2}
+use Rattle.parking_lot_rules.specs.Roles.{Taken2, Scans1, Stored1, Scans2, Wakes}
+use Rattle.parking_lot_rules.specs.Classes.{Class, Upgraders, Waiting1, weight, owned, bit, inside, called}
+use Rattle.parking_lot_rules.specs.Classes.{if_exclusive, if_upgradable, if_owed}
 use Rattle.parking_lot_rules.specs.Clauses.{Word, Fits, Counts}
 use Rattle.parking_lot_rules.proofs.Totals.{bit_le}
-use Rattle.parking_lot_rules.specs.Steps.{Listing, Join1, Join2, Quit1, QuitLast1, Quit2, listing_from, listing_to, Take, look, has_upgradable, Scan, scanning, holds_upgradable, taking, Ending, Free, FreeUpgradable, Hand, HandUpgradable, Keep, ends_for, ends_saying, stored, settled, Waking, Retry, Own, OwnPending, OwnUpgradable, Recheck, waking_from, waking_to}
+use Rattle.parking_lot_rules.specs.Steps.{Listing, Join1, Join2, Quit1, QuitLast1, Quit2, listing_from, listing_to}
+use Rattle.parking_lot_rules.specs.Steps.{Take, look, has_upgradable, Scan, scanning, holds_upgradable, taking, Ending}
+use Rattle.parking_lot_rules.specs.Steps.{Free, FreeUpgradable, Hand, HandUpgradable, Keep, ends_for, ends_saying}
+use Rattle.parking_lot_rules.specs.Steps.{stored, settled, Waking, Retry, Own, OwnPending, OwnUpgradable, Recheck}
+use Rattle.parking_lot_rules.specs.Steps.{waking_from, waking_to}
 
 -- what the length of the first list has to be, as a number
 abbrev pub MayCount : Listing → ℕ → Type 0
@@ -56,7 +63,8 @@ one_cause FromUpgradable = refl
 one_cause Owed = refl
 
 module _ (w : Word) (rest : Class → ℕ) (counts : Counts rest) where
-  pub listing_fits : (k : Listing) → Fits w (λ x. rest x + weight x (listing_from k)) → MayCount k (rest Waiting1 + weight Waiting1 (listing_from k)) → Fits w (λ x. rest x + weight x (listing_to k))
+  pub listing_fits : (k : Listing) → Fits w (λ x. rest x + weight x (listing_from k))
+      → MayCount k (rest Waiting1 + weight Waiting1 (listing_from k)) → Fits w (λ x. rest x + weight x (listing_to k))
   unfolding weight
   listing_fits (Join1 m) fits may = omega (arith, zero_or _ fits.debt1)
   listing_fits (Join2 f) fits may = omega arith
@@ -65,9 +73,14 @@ module _ (w : Word) (rest : Class → ℕ) (counts : Counts rest) where
   listing_fits (Quit2 f i) fits may = omega arith
 
   -- two roles: a waiter is taken
-  take_parts : (o : Owned) (c : Cause) (r : ℕ) (u x : Bool) (us : List ℕ) (v t : ℕ) (m : Mode) (stay : Stay) → look (has_upgradable o c u) x m ≡ Take
-      → Fits w (λ k. rest k + (weight k (record { owns = o; does = Scans1 c r u x us }) + weight k (record { owns = Shares 0; does = Queued1 m stay })))
-      → Fits w (λ k. rest k + (weight k (scanning (taking (record { owns = o; cause = c; shared = r; upgradable = u; writer = x; taken = us }) v m))
+  take_parts : (o : Owned) (c : Cause) (r : ℕ) (u x : Bool) (us : List ℕ) (v t : ℕ) (m : Mode) (stay : Stay)
+      → look (has_upgradable o c u) x m ≡ Take
+      → Fits w (λ k. rest k +
+      (weight k (record { owns = o; does = Scans1 c r u x us }) + weight k
+      (record { owns = Shares 0; does = Queued1 m stay })))
+      → Fits w (λ k. rest k +
+      (weight k (scanning
+      (taking (record { owns = o; cause = c; shared = r; upgradable = u; writer = x; taken = us }) v m))
       + weight k (record { owns = Shares 0; does = Taken1 m t Open stay })))
   unfolding weight
   take_parts o c r u x us v t Shared stay looks fits = omega (arith, one_cause c)
@@ -80,22 +93,30 @@ module _ (w : Word) (rest : Class → ℕ) (counts : Counts rest) where
 
   pub take_fits : (s : Scan) (v t : ℕ) (m : Mode) (stay : Stay) → look (holds_upgradable s) s.writer m ≡ Take
       → Fits w (λ k. rest k + (weight k (scanning s) + weight k (record { owns = Shares 0; does = Queued1 m stay })))
-      → Fits w (λ k. rest k + (weight k (scanning (taking s v m)) + weight k (record { owns = Shares 0; does = Taken1 m t Open stay })))
-  take_fits s v t m stay looks fits = take_parts s.owns s.cause s.shared s.upgradable s.writer s.taken v t m stay looks fits
+      → Fits w (λ k. rest k +
+      (weight k (scanning (taking s v m)) + weight k (record { owns = Shares 0; does = Taken1 m t Open stay })))
+  take_fits s v t m stay looks fits = take_parts s.owns s.cause s.shared s.upgradable s.writer s.taken v t m stay looks
+      fits
 
   pub take2_fits : (o : Owned) (us : List ℕ) (v t : ℕ) (f : Bool) (stay : Stay)
-      → Fits w (λ k. rest k + (weight k (record { owns = o; does = Scans2 [] }) + weight k (record { owns = Shares 0; does = Queued2 f stay })))
-      → Fits w (λ k. rest k + (weight k (record { owns = o; does = Scans2 us }) + weight k (record { owns = Shares 0; does = Taken2 f t stay })))
+      → Fits w (λ k. rest k +
+      (weight k (record { owns = o; does = Scans2 [] }) + weight k
+      (record { owns = Shares 0; does = Queued2 f stay })))
+      → Fits w (λ k. rest k +
+      (weight k (record { owns = o; does = Scans2 us }) + weight k
+      (record { owns = Shares 0; does = Taken2 f t stay })))
   unfolding weight
   take2_fits o us v t f stay fits = omega arith
 
   -- the list of those that are still to wake weighs nothing
-  pub pass_fits : (o : Owned) (us vs : List ℕ) → Fits w (λ k. rest k + weight k (record { owns = o; does = Wakes us })) → Fits w (λ k. rest k + weight k (record { owns = o; does = Wakes vs }))
+  pub pass_fits : (o : Owned) (us vs : List ℕ) → Fits w (λ k. rest k + weight k (record { owns = o; does = Wakes us }))
+      → Fits w (λ k. rest k + weight k (record { owns = o; does = Wakes vs }))
   unfolding weight
   pass_fits o us vs fits = omega arith
 
   -- a thread is woken
-  pub wake_fits : (k : Waking) (t : ℕ) (stay : Stay) → inside stay ≡ 0 → Fits w (λ x. rest x + weight x (waking_from k t stay)) → Fits w (λ x. rest x + weight x (waking_to k))
+  pub wake_fits : (k : Waking) (t : ℕ) (stay : Stay) → inside stay ≡ 0
+      → Fits w (λ x. rest x + weight x (waking_from k t stay)) → Fits w (λ x. rest x + weight x (waking_to k))
   unfolding weight
   wake_fits (Retry m) t stay out fits = omega arith
   wake_fits Own t stay out fits = omega arith
@@ -104,17 +125,26 @@ module _ (w : Word) (rest : Class → ℕ) (counts : Counts rest) where
   wake_fits (Recheck f) t stay out fits = omega arith
 
   -- a section ends
-  pub store_parts : (e : Ending) (o : Owned) (r : ℕ) (u x : Bool) (us : List ℕ) (left : ℕ) → left ≡ rest Waiting1 → (0 < left → 0 < bit x + bit (has_upgradable o (ends_for e) u))
+  pub store_parts : (e : Ending) (o : Owned) (r : ℕ) (u x : Bool) (us : List ℕ) (left : ℕ) → left ≡ rest Waiting1
+      → (0 < left → 0 < bit x + bit (has_upgradable o (ends_for e) u))
       → Fits w (λ k. rest k + weight k (record { owns = o; does = Scans1 (ends_for e) r u x us }))
-      → Fits (stored e r u x left w) (λ k. settled (ends_saying e) rest k + weight k (record { owns = o; does = Stored1 us }))
+      → Fits (stored e r u x left w)
+      (λ k. settled (ends_saying e) rest k + weight k (record { owns = o; does = Stored1 us }))
   unfolding weight
   store_parts Free o r u x us zero same over fits = omega (arith, bit_le u, bit_le x, held o (ends_for Free) u)
-  store_parts Free o r u x us (suc left) same over fits = omega (arith, bit_le u, bit_le x, held o (ends_for Free) u, over (omega arith))
-  store_parts FreeUpgradable o r u x us zero same over fits = omega (arith, bit_le u, bit_le x, held o (ends_for FreeUpgradable) u)
-  store_parts FreeUpgradable o r u x us (suc left) same over fits = omega (arith, bit_le u, bit_le x, held o (ends_for FreeUpgradable) u, over (omega arith))
+  store_parts Free o r u x us (suc left) same over fits =
+      omega (arith, bit_le u, bit_le x, held o (ends_for Free) u, over (omega arith))
+  store_parts FreeUpgradable o r u x us zero same over fits =
+      omega (arith, bit_le u, bit_le x, held o (ends_for FreeUpgradable) u)
+  store_parts FreeUpgradable o r u x us (suc left) same over fits =
+      omega (arith, bit_le u, bit_le x, held o (ends_for FreeUpgradable) u, over (omega arith))
   store_parts Hand o r u x us zero same over fits = omega (arith, bit_le u, bit_le x, held o (ends_for Hand) u)
-  store_parts Hand o r u x us (suc left) same over fits = omega (arith, bit_le u, bit_le x, held o (ends_for Hand) u, over (omega arith))
-  store_parts HandUpgradable o r u x us zero same over fits = omega (arith, bit_le u, bit_le x, held o (ends_for HandUpgradable) u)
-  store_parts HandUpgradable o r u x us (suc left) same over fits = omega (arith, bit_le u, bit_le x, held o (ends_for HandUpgradable) u, over (omega arith))
+  store_parts Hand o r u x us (suc left) same over fits =
+      omega (arith, bit_le u, bit_le x, held o (ends_for Hand) u, over (omega arith))
+  store_parts HandUpgradable o r u x us zero same over fits =
+      omega (arith, bit_le u, bit_le x, held o (ends_for HandUpgradable) u)
+  store_parts HandUpgradable o r u x us (suc left) same over fits =
+      omega (arith, bit_le u, bit_le x, held o (ends_for HandUpgradable) u, over (omega arith))
   store_parts Keep o r u x us zero same over fits = omega (arith, bit_le u, bit_le x, held o (ends_for Keep) u)
-  store_parts Keep o r u x us (suc left) same over fits = omega (arith, bit_le u, bit_le x, held o (ends_for Keep) u, over (omega arith))
+  store_parts Keep o r u x us (suc left) same over fits =
+      omega (arith, bit_le u, bit_le x, held o (ends_for Keep) u, over (omega arith))

@@ -1,9 +1,11 @@
 -- A mutex at which nobody has done anything is sound, and so is what every run leads to.
-use Rattle.std.proofs.Common.{◌≡◌, ℕ, zero, suc, List, [], ◌∷◌, replicate, Option, Some, None, slice_get, refl, sym, ap, ◌∙◌, subst, arith}
+use Rattle.std.proofs.Common.{◌≡◌, ℕ, zero, suc, List, [], ◌∷◌, replicate, Option, Some, None, slice_get, refl, sym, ap}
+use Rattle.std.proofs.Common.{◌∙◌, subst, arith}
 use Rattle.std.proofs.lemmas.List.Sums.{sum_by-cons}
 use Rattle.std.proofs.lemmas.Option.{none-some, same_Some}
 use Rattle.parking_lot_rules.specs.Lists.{at_index}
-use Rattle.parking_lot_rules.specs.Mutex.{Role, away, Class, Waiting, weight, total, Fits, note_of, Mutex, IsSound, Step, after, Runs, unlocked, AlwaysOfMutex}
+use Rattle.parking_lot_rules.specs.Mutex.{Role, away, Class, Waiting, weight, total, Fits, note_of, Mutex, IsSound}
+use Rattle.parking_lot_rules.specs.Mutex.{Step, after, Runs, unlocked, AlwaysOfMutex}
 use Rattle.parking_lot_rules.proofs.Mutexes.{away_weighs, same_counts, step_sound}
 
 all_away : (n u : ℕ) (r : Role) → slice_get (replicate n away) u ≡ Some r → r ≡ away
@@ -11,11 +13,14 @@ all_away zero u r at = absurd (none-some r at)
 all_away (suc n) zero r at = sym (same_Some _ r at)
 all_away (suc n) (suc u) r at = all_away n u r at
 
-pub total-none : (c : Class) (rs : List Role) → ((u : ℕ) (r : Role) → slice_get rs u ≡ Some r → weight c r ≡ 0) → total c rs ≡ 0
+pub total-none : (c : Class) (rs : List Role) → ((u : ℕ) (r : Role) → slice_get rs u ≡ Some r → weight c r ≡ 0)
+    → total c rs ≡ 0
 total-none c [] none = refl
-total-none c (r ∷ rs) none = omega (arith, sum_by-cons (weight c) r rs, none 0 r refl, total-none c rs (λ u x at. none (suc u) x at))
+total-none c (r ∷ rs) none =
+    omega (arith, sum_by-cons (weight c) r rs, none 0 r refl, total-none c rs (λ u x at. none (suc u) x at))
 
-weighs_nothing : (c : Class) (rs : List Role) → ((u : ℕ) (r : Role) → slice_get rs u ≡ Some r → weight c r ≡ 0) → (u : ℕ) → at_index (weight c) (slice_get rs u) ≡ 0
+weighs_nothing : (c : Class) (rs : List Role) → ((u : ℕ) (r : Role) → slice_get rs u ≡ Some r → weight c r ≡ 0)
+    → (u : ℕ) → at_index (weight c) (slice_get rs u) ≡ 0
 weighs_nothing c rs none u = go (slice_get rs u) refl
   where
     go : (o : Option Role) → slice_get rs u ≡ o → at_index (weight c) o ≡ 0
@@ -28,7 +33,10 @@ zero_fits = omega arith
 pub rest_sound : (n : ℕ) → IsSound (unlocked n)
 rest_sound n = record {
   fits = same_counts (Fits (record { locked = 0; parked = 0 })) (λ c. 0) _ (λ c. sym (none c)) zero_fits;
-  waiting = record { count = sym (none Waiting); each = λ u. sym (weighs_nothing Waiting (replicate n away) (each Waiting) u) };
+  waiting = record {
+    count = sym (none Waiting);
+    each = λ u. sym (weighs_nothing Waiting (replicate n away) (each Waiting) u);
+  };
   noted = λ u by r mark at took. absurd (none-some (by, mark) (ap note_of (sym (all_away n u r at)) ∙ took));
 }
   where

@@ -1,5 +1,6 @@
 -- Who took a sleeper is still to wake it: kept where one role changes.
-use Rattle.std.proofs.Common.{◌≡◌, ◌≢◌, ℕ, ◌<◌, ◌≤◌, ◌⊎◌, ⊎_elim, List, Option, Some, slice_get, slice_set, sym, ap, ◌∙◌, subst, inl, inr, arith}
+use Rattle.std.proofs.Common.{◌≡◌, ◌≢◌, ℕ, ◌<◌, ◌≤◌, ◌⊎◌, ⊎_elim, List, Option, Some, slice_get, slice_set, sym, ap}
+use Rattle.std.proofs.Common.{◌∙◌, subst, inl, inr, arith}
 use Rattle.std.proofs.lemmas.Bool.{cases_eq}
 use Rattle.std.proofs.lemmas.Option.{same_Some}
 use Rattle.parking_lot_rules.specs.Roles.{Role}
@@ -14,9 +15,11 @@ WillWakeBy {R} {N} wakes rs by u n = (s : R) × (slice_get rs by ≡ Some s) × 
 abbrev pub WillWake : List Role → ℕ → ℕ → Note → Type 0
 WillWake rs by u note = WillWakeBy role_wakes rs by u note
 
-module _ {R N : Type 0} (note : R → Option (ℕ × N)) (wakes : R → N → List ℕ) (rs : List R) (t : ℕ) (a b : R) (at : slice_get rs t ≡ Some a) where
+module _ {R N : Type 0} (note : R → Option (ℕ × N)) (wakes : R → N → List ℕ) (rs : List R) (t : ℕ) (a b : R)
+    (at : slice_get rs t ≡ Some a) where
   pub noted-set : AreNotedBy note wakes rs → ((by : ℕ) (n : N) → note b ≡ Some (by, n) → WillWakeBy wakes rs by t n)
-      → ((u : ℕ) (r : R) (n : N) → slice_get (slice_set rs t b) u ≡ Some r → note r ≡ Some (t, n) → occurs u (wakes a n) ≤ occurs u (wakes b n))
+      → ((u : ℕ) (r : R) (n : N) → slice_get (slice_set rs t b) u ≡ Some r → note r ≡ Some (t, n)
+      → occurs u (wakes a n) ≤ occurs u (wakes b n))
       → AreNotedBy note wakes (slice_set rs t b)
   noted-set noted own grows u by r n here took = later (was (get-set_cases rs t u a r b at here))
     where

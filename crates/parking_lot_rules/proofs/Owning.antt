@@ -1,6 +1,8 @@
 -- Owners and their weights.
 use Rattle.std.proofs.Common.{◌≡◌, ℕ, zero, suc, ◌<◌, refl, arith}
-use Rattle.parking_lot_rules.specs.Roles.{Shared, Exclusive, Upgradable, Owned, Shares, Excludes, Upgrades, Handed, FromExclusive, FromUpgradable, Phase, Taken1, Drains, Enters2, Checked2, Queued2, Taken2, Leaves2, Yields, Scans1}
+use Rattle.parking_lot_rules.specs.Roles.{Shared, Exclusive, Upgradable, Owned, Shares, Excludes, Upgrades, Handed}
+use Rattle.parking_lot_rules.specs.Roles.{FromExclusive, FromUpgradable, Phase, Taken1, Drains, Enters2, Checked2}
+use Rattle.parking_lot_rules.specs.Roles.{Queued2, Taken2, Leaves2, Yields, Scans1}
 use Rattle.parking_lot_rules.specs.Classes.{Readers, Upgraders, Pending, Writers, Strange, weight}
 use Rattle.parking_lot_rules.specs.Owners.{Reading, Upgrading, Awaiting, Writing, owner_of}
 
@@ -22,7 +24,8 @@ owner_writes Excludes p e = omega arith
 owner_writes Upgrades p e = absurd cc
 owner_writes (Shares n) p e = absurd cc
 
-pub owner_awaits : (o : Owned) (p : Phase) → owner_of o p ≡ Awaiting → 0 < weight Pending (record { owns = o; does = p })
+pub owner_awaits : (o : Owned) (p : Phase) → owner_of o p ≡ Awaiting
+    → 0 < weight Pending (record { owns = o; does = p })
 unfolding weight
 owner_awaits o (Taken1 Shared by Handed s) e = absurd cc
 owner_awaits o (Taken1 Exclusive by Handed s) e = omega arith
@@ -40,7 +43,8 @@ owner_awaits Excludes p e = absurd cc
 owner_awaits Upgrades p e = absurd cc
 owner_awaits (Shares n) p e = absurd cc
 
-pub owner_upgrades : (o : Owned) (p : Phase) → owner_of o p ≡ Upgrading → 0 < weight Upgraders (record { owns = o; does = p })
+pub owner_upgrades : (o : Owned) (p : Phase) → owner_of o p ≡ Upgrading
+    → 0 < weight Upgraders (record { owns = o; does = p })
 unfolding weight
 owner_upgrades o (Taken1 Shared by Handed s) e = absurd cc
 owner_upgrades o (Taken1 Exclusive by Handed s) e = absurd cc
@@ -58,7 +62,8 @@ owner_upgrades Excludes p e = absurd cc
 owner_upgrades Upgrades p e = omega arith
 owner_upgrades (Shares n) p e = absurd cc
 
-pub owner_reads : (o : Owned) (p : Phase) (n : ℕ) → owner_of o p ≡ Reading (suc n) → 0 < weight Readers (record { owns = o; does = p })
+pub owner_reads : (o : Owned) (p : Phase) (n : ℕ) → owner_of o p ≡ Reading (suc n)
+    → 0 < weight Readers (record { owns = o; does = p })
 unfolding weight
 owner_reads o (Taken1 Shared by Handed s) n e = omega arith
 owner_reads o (Taken1 Exclusive by Handed s) n e = absurd cc
@@ -78,7 +83,8 @@ owner_reads (Shares zero) p n e = absurd cc
 owner_reads (Shares (suc m)) p n e = omega arith
 
 -- who counts as a reader, and waits for nothing, is one
-pub reader_of : (o : Owned) (p : Phase) → 0 < weight Readers (record { owns = o; does = p }) → weight Strange (record { owns = o; does = p }) ≡ 0 → (n : ℕ) × (owner_of o p ≡ Reading (suc n))
+pub reader_of : (o : Owned) (p : Phase) → 0 < weight Readers (record { owns = o; does = p })
+    → weight Strange (record { owns = o; does = p }) ≡ 0 → (n : ℕ) × (owner_of o p ≡ Reading (suc n))
 unfolding weight
 reader_of o (Taken1 Shared by Handed s) some proper = (0, refl)
 reader_of Excludes (Taken1 Exclusive by Handed s) some proper = absurd (omega arith)
@@ -130,7 +136,8 @@ reader_of Upgrades p some proper = absurd (omega arith)
 reader_of (Shares zero) p some proper = absurd (omega arith)
 reader_of (Shares (suc n)) p some proper = (n, refl)
 
-pub upgrader_of : (o : Owned) (p : Phase) → 0 < weight Upgraders (record { owns = o; does = p }) → weight Strange (record { owns = o; does = p }) ≡ 0 → owner_of o p ≡ Upgrading
+pub upgrader_of : (o : Owned) (p : Phase) → 0 < weight Upgraders (record { owns = o; does = p })
+    → weight Strange (record { owns = o; does = p }) ≡ 0 → owner_of o p ≡ Upgrading
 unfolding weight
 upgrader_of o (Taken1 Upgradable by Handed s) some proper = refl
 upgrader_of o (Scans1 FromUpgradable r u w us) some proper = refl

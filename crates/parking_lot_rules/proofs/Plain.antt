@@ -3,9 +3,18 @@ use Rattle.std.proofs.Common.{ℕ, ◌+◌, Bool, true, false, arith}
 use Rattle.parking_lot_rules.specs.Classes.{Class, weight}
 use Rattle.parking_lot_rules.specs.Clauses.{Word, Fits, Counts}
 use Rattle.parking_lot_rules.specs.Roles.{Shared, Exclusive, Upgradable}
-use Rattle.parking_lot_rules.specs.Plain.{Plain, Begin, Refuse, Share, Pend, Drain, Upgradably, Exclude, Flag1, Enter1, Check1, Retreat1, Rest1, Expire1, ExpireTaken1, Reenter1, ReenterTaken1, Mask1, Leave1, Resume1, ReceiveShared, ReceivePending, ReceiveUpgradable, Flag2, Enter2, Check2, Retreat2, Rest2, Expire2, ExpireTaken2, Reenter2, ReenterTaken2, Resume2, Leave2, Yield, YieldBack, Unshare, UnshareLast, Look2, Mask2, Depart2, Unlock, UnlockUpgradable, LookExclusive, LookUpgradable, Downgrade, DowngradeToUpgradable, DowngradeUpgradable, Upgrade, UpgradeAtOnce, LookOwed, Depart1, Finish, from, to, May, written}
+use Rattle.parking_lot_rules.specs.Plain.{Plain, Begin, Refuse, Share, Pend, Drain, Upgradably, Exclude, Flag1, Enter1}
+use Rattle.parking_lot_rules.specs.Plain.{Check1, Retreat1, Rest1, Expire1, ExpireTaken1, Reenter1, ReenterTaken1}
+use Rattle.parking_lot_rules.specs.Plain.{Mask1, Leave1, Resume1, ReceiveShared, ReceivePending, ReceiveUpgradable}
+use Rattle.parking_lot_rules.specs.Plain.{Flag2, Enter2, Check2, Retreat2, Rest2, Expire2, ExpireTaken2, Reenter2}
+use Rattle.parking_lot_rules.specs.Plain.{ReenterTaken2, Resume2, Leave2, Yield, YieldBack, Unshare, UnshareLast, Look2}
+use Rattle.parking_lot_rules.specs.Plain.{Mask2, Depart2, Unlock, UnlockUpgradable, LookExclusive, LookUpgradable}
+use Rattle.parking_lot_rules.specs.Plain.{Downgrade, DowngradeToUpgradable, DowngradeUpgradable, Upgrade, UpgradeAtOnce}
+use Rattle.parking_lot_rules.specs.Plain.{LookOwed, Depart1, Finish, from, to, May, written}
 
-pub plain_fits : (recursive : Bool) (k : Plain) (w : Word) (rest : Class → ℕ) → Counts rest → Fits w (λ x. rest x + weight x (from k)) → May recursive k w (λ x. rest x + weight x (from k)) → Fits (written k w) (λ x. rest x + weight x (to k))
+pub plain_fits : (recursive : Bool) (k : Plain) (w : Word) (rest : Class → ℕ) → Counts rest
+    → Fits w (λ x. rest x + weight x (from k)) → May recursive k w (λ x. rest x + weight x (from k))
+    → Fits (written k w) (λ x. rest x + weight x (to k))
 unfolding weight
 plain_fits recursive (Begin n m) w rest counts fits may = omega arith
 plain_fits recursive (Refuse n m) w rest counts fits may = omega arith

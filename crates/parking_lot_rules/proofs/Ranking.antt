@@ -1,17 +1,32 @@
 -- The ranks fall as a thread is stepped.
-use Rattle.std.proofs.Common.{◌≡◌, ◌≢◌, ℕ, zero, suc, ◌+◌, ◌-◌, ◌*◌, ◌<◌, ◌≤◌, ◌⊎◌, Bool, true, false, IsTrue, List, [], ◌∷◌, ◌++◌, length, map, remove, Some, option_map, slice_get, slice_set, sum_by, refl, sym, ap, ◌∙◌, subst, inl, inr, arith, length-append}
+use Rattle.std.proofs.Common.{◌≡◌, ◌≢◌, ℕ, zero, suc, ◌+◌, ◌-◌, ◌*◌, ◌<◌, ◌≤◌, ◌⊎◌, Bool, true, false, IsTrue, List, []}
+use Rattle.std.proofs.Common.{◌∷◌, ◌++◌, length, map, remove, Some, option_map, slice_get, slice_set, sum_by, refl, sym}
+use Rattle.std.proofs.Common.{ap, ◌∙◌, subst, inl, inr, arith, length-append}
 use Rattle.std.proofs.lemmas.List.{length-set, length-map}
 use Rattle.std.proofs.lemmas.List.Edits.{length-remove}
 use Rattle.std.proofs.lemmas.List.Sums.{sum_by-cons}
 use Rattle.std.proofs.lemmas.Option.{same_Some, slice_get-map, slice_get_within}
-use Rattle.parking_lot_rules.specs.Roles.{Mode, Shared, Exclusive, Upgradable, Owned, Shares, Stay, Fresh, Asleep, Late, Back, Mark, Open, Phase, Idle, Queued1, Taken1, Queued2, Taken2, Stored1, Scans2, Wakes, Role, away}
+use Rattle.parking_lot_rules.specs.Roles.{Mode, Shared, Exclusive, Upgradable, Owned, Shares, Stay, Fresh, Asleep, Late}
+use Rattle.parking_lot_rules.specs.Roles.{Back, Mark, Open, Phase, Idle, Queued1, Taken1, Queued2, Taken2, Stored1}
+use Rattle.parking_lot_rules.specs.Roles.{Scans2, Wakes, Role, away}
 use Rattle.parking_lot_rules.specs.Classes.{Class, Waiting1, Waiting2, weight, total}
 use Rattle.parking_lot_rules.specs.Clauses.{Word}
 use Rattle.parking_lot_rules.specs.Lock.{Lock, IsSound}
-use Rattle.parking_lot_rules.specs.Plain.{Plain, Begin, Refuse, Share, Pend, Drain, Upgradably, Exclude, Flag1, Enter1, Check1, Retreat1, Rest1, Expire1, ExpireTaken1, Reenter1, ReenterTaken1, Mask1, Leave1, Resume1, ReceiveShared, ReceivePending, ReceiveUpgradable, Flag2, Enter2, Check2, Retreat2, Rest2, Expire2, ExpireTaken2, Reenter2, ReenterTaken2, Resume2, Leave2, Yield, YieldBack, Unshare, UnshareLast, Look2, Mask2, Depart2, Unlock, UnlockUpgradable, LookExclusive, LookUpgradable, Downgrade, DowngradeToUpgradable, DowngradeUpgradable, Upgrade, UpgradeAtOnce, LookOwed, Depart1, Finish, bars, from, to, May, written}
-use Rattle.parking_lot_rules.specs.Steps.{Step, Alone, List_changes, Take1, Take2, Store, Wake, Pass, Allowed, after, Listing, Join1, Join2, Quit1, QuitLast1, Quit2, listing_from, listing_to, scanning, taking, ends_saying, settle, told, Waking, Retry, Own, OwnPending, OwnUpgradable, Recheck, waking_from, waking_to}
+use Rattle.parking_lot_rules.specs.Plain.{Plain, Begin, Refuse, Share, Pend, Drain, Upgradably, Exclude, Flag1, Enter1}
+use Rattle.parking_lot_rules.specs.Plain.{Check1, Retreat1, Rest1, Expire1, ExpireTaken1, Reenter1, ReenterTaken1}
+use Rattle.parking_lot_rules.specs.Plain.{Mask1, Leave1, Resume1, ReceiveShared, ReceivePending, ReceiveUpgradable}
+use Rattle.parking_lot_rules.specs.Plain.{Flag2, Enter2, Check2, Retreat2, Rest2, Expire2, ExpireTaken2, Reenter2}
+use Rattle.parking_lot_rules.specs.Plain.{ReenterTaken2, Resume2, Leave2, Yield, YieldBack, Unshare, UnshareLast, Look2}
+use Rattle.parking_lot_rules.specs.Plain.{Mask2, Depart2, Unlock, UnlockUpgradable, LookExclusive, LookUpgradable}
+use Rattle.parking_lot_rules.specs.Plain.{Downgrade, DowngradeToUpgradable, DowngradeUpgradable, Upgrade, UpgradeAtOnce}
+use Rattle.parking_lot_rules.specs.Plain.{LookOwed, Depart1, Finish, bars, from, to, May, written}
+use Rattle.parking_lot_rules.specs.Steps.{Step, Alone, List_changes, Take1, Take2, Store, Wake, Pass, Allowed, after}
+use Rattle.parking_lot_rules.specs.Steps.{Listing, Join1, Join2, Quit1, QuitLast1, Quit2, listing_from, listing_to}
+use Rattle.parking_lot_rules.specs.Steps.{scanning, taking, ends_saying, settle, told, Waking, Retry, Own, OwnPending}
+use Rattle.parking_lot_rules.specs.Steps.{OwnUpgradable, Recheck, waking_from, waking_to}
 use Rattle.parking_lot_rules.specs.Laws.{is_asleep}
-use Rattle.parking_lot_rules.specs.Ranks.{where_some, to_come, asks, drains, worst, fresh, rank_of_others, ranks, is_deadline, KnowsTheWord, RanksFall, RanksBegin, RanksChange}
+use Rattle.parking_lot_rules.specs.Ranks.{where_some, to_come, asks, drains, worst, fresh, rank_of_others, ranks}
+use Rattle.parking_lot_rules.specs.Ranks.{is_deadline, KnowsTheWord, RanksFall, RanksBegin, RanksChange}
 use Rattle.parking_lot_rules.proofs.Indexed.{get-set_same, get-set_other, sum_by-set_at, two_apart}
 use Rattle.parking_lot_rules.proofs.Changing.{taking_taken}
 use Rattle.parking_lot_rules.proofs.Sounds.{waking_apart}
@@ -64,18 +79,84 @@ module _ (recursive : Bool) (n a b : ℕ) (w : Word) (all : Class → ℕ) (few1
   plain_falls false (Upgradably c) busy may now knows = omega (arith, chosen (bars Upgradable w) (4 + (1 - w.parked1)) (1 + to_come Upgradable))
   plain_falls true Exclude busy may now knows = omega (arith, chosen (bars Exclusive w) (4 + (1 - w.parked1)) (1 + to_come Exclusive), chosen w.readers (4 + (1 - w.parked2)) 1)
   plain_falls false Exclude busy may now knows = omega (arith, chosen (bars Exclusive w) (4 + (1 - w.parked1)) (1 + to_come Exclusive), chosen w.readers (4 + (1 - w.parked2)) 1)
-  plain_falls true (Flag1 Shared c) busy may now knows = omega (arith, chosen (bars Shared w) (4 + (1 - w.parked1)) (1 + to_come Shared), chosen (bars Shared w) (4 + (1 - 1)) (1 + to_come Shared))
-  plain_falls true (Flag1 Exclusive c) busy may now knows = omega (arith, chosen (bars Exclusive w) (4 + (1 - w.parked1)) (1 + to_come Exclusive), chosen (bars Exclusive w) (4 + (1 - 1)) (1 + to_come Exclusive))
-  plain_falls true (Flag1 Upgradable c) busy may now knows = omega (arith, chosen (bars Upgradable w) (4 + (1 - w.parked1)) (1 + to_come Upgradable), chosen (bars Upgradable w) (4 + (1 - 1)) (1 + to_come Upgradable))
-  plain_falls false (Flag1 Shared c) busy may now knows = omega (arith, chosen (bars Shared w) (4 + (1 - w.parked1)) (1 + to_come Shared), chosen (bars Shared w) (4 + (1 - 1)) (1 + to_come Shared))
-  plain_falls false (Flag1 Exclusive c) busy may now knows = omega (arith, chosen (bars Exclusive w) (4 + (1 - w.parked1)) (1 + to_come Exclusive), chosen (bars Exclusive w) (4 + (1 - 1)) (1 + to_come Exclusive))
-  plain_falls false (Flag1 Upgradable c) busy may now knows = omega (arith, chosen (bars Upgradable w) (4 + (1 - w.parked1)) (1 + to_come Upgradable), chosen (bars Upgradable w) (4 + (1 - 1)) (1 + to_come Upgradable))
-  plain_falls true (Enter1 m c) busy may now knows = omega (arith, chosen (bars m w) (where_some w.parked1 3 (1 + asks m w)) (1 + asks m w), chosen w.parked1 3 (1 + asks m w), chosen (bars m w) (4 + (1 - w.parked1)) (1 + to_come m))
-  plain_falls false (Enter1 m c) busy may now knows = omega (arith, chosen (bars m w) (where_some w.parked1 3 (1 + asks m w)) (1 + asks m w), chosen w.parked1 3 (1 + asks m w), chosen (bars m w) (4 + (1 - w.parked1)) (1 + to_come m))
-  plain_falls true (Check1 m c) busy may now knows = omega (arith, chosen (bars m w) (where_some w.parked1 3 (1 + asks m w)) (1 + asks m w), chosen w.parked1 3 (1 + asks m w), chosen (bars m w) (4 + (1 - w.parked1)) (1 + to_come m))
-  plain_falls false (Check1 m c) busy may now knows = omega (arith, chosen (bars m w) (where_some w.parked1 3 (1 + asks m w)) (1 + asks m w), chosen w.parked1 3 (1 + asks m w), chosen (bars m w) (4 + (1 - w.parked1)) (1 + to_come m))
-  plain_falls true (Retreat1 m c) busy may now knows = omega (arith, chosen (bars m w) (where_some w.parked1 3 (1 + asks m w)) (1 + asks m w), chosen w.parked1 3 (1 + asks m w), chosen (bars m w) (4 + (1 - w.parked1)) (1 + to_come m))
-  plain_falls false (Retreat1 m c) busy may now knows = omega (arith, chosen (bars m w) (where_some w.parked1 3 (1 + asks m w)) (1 + asks m w), chosen w.parked1 3 (1 + asks m w), chosen (bars m w) (4 + (1 - w.parked1)) (1 + to_come m))
+  plain_falls true (Flag1 Shared c) busy may now knows =
+      omega (
+        arith,
+        chosen (bars Shared w) (4 + (1 - w.parked1)) (1 + to_come Shared),
+        chosen (bars Shared w) (4 + (1 - 1)) (1 + to_come Shared),
+      )
+  plain_falls true (Flag1 Exclusive c) busy may now knows =
+      omega (
+        arith,
+        chosen (bars Exclusive w) (4 + (1 - w.parked1)) (1 + to_come Exclusive),
+        chosen (bars Exclusive w) (4 + (1 - 1)) (1 + to_come Exclusive),
+      )
+  plain_falls true (Flag1 Upgradable c) busy may now knows =
+      omega (
+        arith,
+        chosen (bars Upgradable w) (4 + (1 - w.parked1)) (1 + to_come Upgradable),
+        chosen (bars Upgradable w) (4 + (1 - 1)) (1 + to_come Upgradable),
+      )
+  plain_falls false (Flag1 Shared c) busy may now knows =
+      omega (
+        arith,
+        chosen (bars Shared w) (4 + (1 - w.parked1)) (1 + to_come Shared),
+        chosen (bars Shared w) (4 + (1 - 1)) (1 + to_come Shared),
+      )
+  plain_falls false (Flag1 Exclusive c) busy may now knows =
+      omega (
+        arith,
+        chosen (bars Exclusive w) (4 + (1 - w.parked1)) (1 + to_come Exclusive),
+        chosen (bars Exclusive w) (4 + (1 - 1)) (1 + to_come Exclusive),
+      )
+  plain_falls false (Flag1 Upgradable c) busy may now knows =
+      omega (
+        arith,
+        chosen (bars Upgradable w) (4 + (1 - w.parked1)) (1 + to_come Upgradable),
+        chosen (bars Upgradable w) (4 + (1 - 1)) (1 + to_come Upgradable),
+      )
+  plain_falls true (Enter1 m c) busy may now knows =
+      omega (
+        arith,
+        chosen (bars m w) (where_some w.parked1 3 (1 + asks m w)) (1 + asks m w),
+        chosen w.parked1 3 (1 + asks m w),
+        chosen (bars m w) (4 + (1 - w.parked1)) (1 + to_come m),
+      )
+  plain_falls false (Enter1 m c) busy may now knows =
+      omega (
+        arith,
+        chosen (bars m w) (where_some w.parked1 3 (1 + asks m w)) (1 + asks m w),
+        chosen w.parked1 3 (1 + asks m w),
+        chosen (bars m w) (4 + (1 - w.parked1)) (1 + to_come m),
+      )
+  plain_falls true (Check1 m c) busy may now knows =
+      omega (
+        arith,
+        chosen (bars m w) (where_some w.parked1 3 (1 + asks m w)) (1 + asks m w),
+        chosen w.parked1 3 (1 + asks m w),
+        chosen (bars m w) (4 + (1 - w.parked1)) (1 + to_come m),
+      )
+  plain_falls false (Check1 m c) busy may now knows =
+      omega (
+        arith,
+        chosen (bars m w) (where_some w.parked1 3 (1 + asks m w)) (1 + asks m w),
+        chosen w.parked1 3 (1 + asks m w),
+        chosen (bars m w) (4 + (1 - w.parked1)) (1 + to_come m),
+      )
+  plain_falls true (Retreat1 m c) busy may now knows =
+      omega (
+        arith,
+        chosen (bars m w) (where_some w.parked1 3 (1 + asks m w)) (1 + asks m w),
+        chosen w.parked1 3 (1 + asks m w),
+        chosen (bars m w) (4 + (1 - w.parked1)) (1 + to_come m),
+      )
+  plain_falls false (Retreat1 m c) busy may now knows =
+      omega (
+        arith,
+        chosen (bars m w) (where_some w.parked1 3 (1 + asks m w)) (1 + asks m w),
+        chosen w.parked1 3 (1 + asks m w),
+        chosen (bars m w) (4 + (1 - w.parked1)) (1 + to_come m),
+      )
   plain_falls true (Rest1 m) busy may now knows = omega arith
   plain_falls false (Rest1 m) busy may now knows = omega arith
   plain_falls stale (Expire1 m) busy may now knows = absurd cc
@@ -98,12 +179,48 @@ module _ (recursive : Bool) (n a b : ℕ) (w : Word) (all : Class → ℕ) (few1
   plain_falls false (ReceiveUpgradable by) busy may now knows = omega arith
   plain_falls true (Flag2 f c) busy may now knows = omega (arith, chosen w.readers (4 + (1 - w.parked2)) 1, chosen w.readers (4 + (1 - 1)) 1)
   plain_falls false (Flag2 f c) busy may now knows = omega (arith, chosen w.readers (4 + (1 - w.parked2)) 1, chosen w.readers (4 + (1 - 1)) 1)
-  plain_falls true (Enter2 f c) busy may now knows = omega (arith, chosen w.readers (where_some w.parked2 3 (1 + drains w)) (1 + drains w), chosen w.parked2 3 (1 + drains w), chosen w.readers (4 + (1 - w.parked2)) 1)
-  plain_falls false (Enter2 f c) busy may now knows = omega (arith, chosen w.readers (where_some w.parked2 3 (1 + drains w)) (1 + drains w), chosen w.parked2 3 (1 + drains w), chosen w.readers (4 + (1 - w.parked2)) 1)
-  plain_falls true (Check2 f c) busy may now knows = omega (arith, chosen w.readers (where_some w.parked2 3 (1 + drains w)) (1 + drains w), chosen w.parked2 3 (1 + drains w), chosen w.readers (4 + (1 - w.parked2)) 1)
-  plain_falls false (Check2 f c) busy may now knows = omega (arith, chosen w.readers (where_some w.parked2 3 (1 + drains w)) (1 + drains w), chosen w.parked2 3 (1 + drains w), chosen w.readers (4 + (1 - w.parked2)) 1)
-  plain_falls true (Retreat2 f c) busy may now knows = omega (arith, chosen w.readers (where_some w.parked2 3 (1 + drains w)) (1 + drains w), chosen w.parked2 3 (1 + drains w), chosen w.readers (4 + (1 - w.parked2)) 1)
-  plain_falls false (Retreat2 f c) busy may now knows = omega (arith, chosen w.readers (where_some w.parked2 3 (1 + drains w)) (1 + drains w), chosen w.parked2 3 (1 + drains w), chosen w.readers (4 + (1 - w.parked2)) 1)
+  plain_falls true (Enter2 f c) busy may now knows =
+      omega (
+        arith,
+        chosen w.readers (where_some w.parked2 3 (1 + drains w)) (1 + drains w),
+        chosen w.parked2 3 (1 + drains w),
+        chosen w.readers (4 + (1 - w.parked2)) 1,
+      )
+  plain_falls false (Enter2 f c) busy may now knows =
+      omega (
+        arith,
+        chosen w.readers (where_some w.parked2 3 (1 + drains w)) (1 + drains w),
+        chosen w.parked2 3 (1 + drains w),
+        chosen w.readers (4 + (1 - w.parked2)) 1,
+      )
+  plain_falls true (Check2 f c) busy may now knows =
+      omega (
+        arith,
+        chosen w.readers (where_some w.parked2 3 (1 + drains w)) (1 + drains w),
+        chosen w.parked2 3 (1 + drains w),
+        chosen w.readers (4 + (1 - w.parked2)) 1,
+      )
+  plain_falls false (Check2 f c) busy may now knows =
+      omega (
+        arith,
+        chosen w.readers (where_some w.parked2 3 (1 + drains w)) (1 + drains w),
+        chosen w.parked2 3 (1 + drains w),
+        chosen w.readers (4 + (1 - w.parked2)) 1,
+      )
+  plain_falls true (Retreat2 f c) busy may now knows =
+      omega (
+        arith,
+        chosen w.readers (where_some w.parked2 3 (1 + drains w)) (1 + drains w),
+        chosen w.parked2 3 (1 + drains w),
+        chosen w.readers (4 + (1 - w.parked2)) 1,
+      )
+  plain_falls false (Retreat2 f c) busy may now knows =
+      omega (
+        arith,
+        chosen w.readers (where_some w.parked2 3 (1 + drains w)) (1 + drains w),
+        chosen w.parked2 3 (1 + drains w),
+        chosen w.readers (4 + (1 - w.parked2)) 1,
+      )
   plain_falls true (Rest2 f) busy may now knows = omega arith
   plain_falls false (Rest2 f) busy may now knows = omega arith
   plain_falls stale (Expire2 f) busy may now knows = absurd cc
@@ -224,7 +341,14 @@ module _ (n : ℕ) where
   others-told : (rs : List Role) (t : ℕ) (a b : Role) (h : Mark) → slice_get rs t ≡ Some a → rank_of_others n (slice_set (map (settle h) rs) t b) t ≡ rank_of_others n rs t
   others-told rs t a b h at =
       let still : slice_get (map (settle h) rs) t ≡ Some (settle h a) = slice_get-map (settle h) rs t ∙ ap (option_map (settle h)) at in
-      omega (arith, others-set (map (settle h) rs) t (settle h a) b still, others-at (map (settle h) rs) t (settle h a) still, sum-settle h rs, others-at rs t a at, told_same n h a.does)
+      omega (
+        arith,
+        others-set (map (settle h) rs) t (settle h a) b still,
+        others-at (map (settle h) rs) t (settle h a) still,
+        sum-settle h rs,
+        others-at rs t a at,
+        told_same n h a.does,
+      )
 
 module _ (recursive : Bool) (t : ℕ) (l : Lock) (sound : IsSound l) where
   pub few1 : length l.first ≤ length l.roles
@@ -267,7 +391,8 @@ module _ (recursive : Bool) (t : ℕ) (l : Lock) (sound : IsSound l) where
   step_falls stale (Alone k) may busy now knows = falls stale (after t (Alone k) l) (from k).does (to k).does (length-set l.roles t (to k))
       (omega (
         arith,
-        plain_falls recursive (length l.roles) (length l.first) (length l.second) l.word (λ c. total c l.roles) few1 few2 sound.fits.bit1 sound.fits.bit2 stale k busy may.1 now knows,
+        plain_falls recursive (length l.roles) (length l.first) (length l.second) l.word (λ c. total c l.roles) few1
+            few2 sound.fits.bit1 sound.fits.bit2 stale k busy may.1 now knows,
         others-set (length l.roles) l.roles t (from k) (to k) may.0,
       ))
   step_falls stale (List_changes k) may busy now knows = falls stale (after t (List_changes k) l) (listing_from k).does (listing_to k).does (length-set l.roles t (listing_to k))
@@ -284,7 +409,8 @@ module _ (recursive : Bool) (t : ℕ) (l : Lock) (sound : IsSound l) where
       ne : t ≢ v
       ne = two_apart (λ (r : Role). r.does) l.roles t v (scanning s) (record { owns = Shares 0; does = Queued1 m stay }) may.0 may.1.role (λ e. cc)
 
-      go : (stale : Bool) → fresh (length l.roles) l.word (length (remove l.first i)) (length l.second) (scanning (taking s v m)).does + rank_of_others (length l.roles) (after t (Take1 s i v m stay) l).roles t + 1
+      go : (stale : Bool) → fresh (length l.roles) l.word (length (remove l.first i)) (length l.second)
+          (scanning (taking s v m)).does + rank_of_others (length l.roles) (after t (Take1 s i v m stay) l).roles t + 1
           ≤ before stale (length l.roles) l.word (length l.first) (length l.second) (scanning s).does + rank_of_others (length l.roles) l.roles t
       go true = omega (
         arith,
@@ -311,7 +437,8 @@ module _ (recursive : Bool) (t : ℕ) (l : Lock) (sound : IsSound l) where
       ne : t ≢ v
       ne = two_apart (λ (r : Role). r.does) l.roles t v (record { owns = o; does = Scans2 [] }) (record { owns = Shares 0; does = Queued2 f stay }) may.0 may.2 (λ e. cc)
 
-      go : (stale : Bool) → fresh (length l.roles) l.word (length l.first) (length (remove l.second 0)) (Scans2 (v ∷ [])) + rank_of_others (length l.roles) (after t (Take2 o v f stay) l).roles t + 1
+      go : (stale : Bool) → fresh (length l.roles) l.word (length l.first) (length (remove l.second 0))
+          (Scans2 (v ∷ [])) + rank_of_others (length l.roles) (after t (Take2 o v f stay) l).roles t + 1
           ≤ before stale (length l.roles) l.word (length l.first) (length l.second) (Scans2 []) + rank_of_others (length l.roles) l.roles t
       go true = omega (
         arith,
@@ -369,14 +496,24 @@ module _ (recursive : Bool) (t : ℕ) (l : Lock) (sound : IsSound l) where
   role_after (List_changes k) may r at = ap (λ (x : Role). x.does) (same_Some _ r (sym (get-set_same l.roles t _ (listing_to k) may.0) ∙ at))
   role_after (Take1 s i v m stay) may r at =
       let apart : t ≢ v = two_apart (λ (r : Role). r.does) l.roles t v (scanning s) (record { owns = Shares 0; does = Queued1 m stay }) may.0 may.1.role (λ e. cc) in
-      ap (λ (x : Role). x.does) (same_Some _ r (sym (get-set_other (slice_set l.roles t (scanning (taking s v m))) v t (record { owns = Shares 0; does = Taken1 m t Open stay }) (λ e. apart (sym e))
+      ap (λ (x : Role). x.does)
+      (same_Some _ r (sym
+      (get-set_other (slice_set l.roles t (scanning (taking s v m))) v t
+      (record { owns = Shares 0; does = Taken1 m t Open stay }) (λ e. apart (sym e))
       ∙ get-set_same l.roles t _ (scanning (taking s v m)) may.0) ∙ at))
   role_after (Take2 o v f stay) may r at =
-      let apart : t ≢ v = two_apart (λ (r : Role). r.does) l.roles t v (record { owns = o; does = Scans2 [] }) (record { owns = Shares 0; does = Queued2 f stay }) may.0 may.2 (λ e. cc) in
-      ap (λ (x : Role). x.does) (same_Some _ r (sym (get-set_other (slice_set l.roles t (record { owns = o; does = Scans2 (v ∷ []) })) v t (record { owns = Shares 0; does = Taken2 f t stay }) (λ e. apart (sym e))
+      let apart : t ≢ v = two_apart (λ (r : Role). r.does) l.roles t v (record { owns = o; does = Scans2 [] })
+      (record { owns = Shares 0; does = Queued2 f stay }) may.0 may.2 (λ e. cc) in
+      ap (λ (x : Role). x.does)
+      (same_Some _ r (sym
+      (get-set_other (slice_set l.roles t (record { owns = o; does = Scans2 (v ∷ []) })) v t
+      (record { owns = Shares 0; does = Taken2 f t stay }) (λ e. apart (sym e))
       ∙ get-set_same l.roles t _ (record { owns = o; does = Scans2 (v ∷ []) }) may.0) ∙ at))
   role_after (Store e s) may r at =
-      ap (λ (x : Role). x.does) (same_Some _ r (sym (get-set_same (map (settle (ends_saying e)) l.roles) t (settle (ends_saying e) (scanning s)) _ (slice_get-map (settle (ends_saying e)) l.roles t ∙ ap (option_map (settle (ends_saying e))) may.0)) ∙ at))
+      ap (λ (x : Role). x.does)
+      (same_Some _ r (sym
+      (get-set_same (map (settle (ends_saying e)) l.roles) t (settle (ends_saying e) (scanning s)) _
+      (slice_get-map (settle (ends_saying e)) l.roles t ∙ ap (option_map (settle (ends_saying e))) may.0)) ∙ at))
   role_after (Wake o v us k stay) may r at =
       ap (λ (x : Role). x.does) (same_Some _ r (sym (get-set_same (slice_set l.roles v (waking_to k)) t _ (record { owns = o; does = Wakes us })
       (get-set_other l.roles v t (waking_to k) (λ e. waking_apart k t stay o (v ∷ us) (same_Some _ _ (sym may.0 ∙ ap (λ i. slice_get l.roles i) (sym e) ∙ may.1))) ∙ may.0)) ∙ at))
@@ -426,14 +563,20 @@ module _ (recursive : Bool) (n a b : ℕ) (w : Word) (few1 : a ≤ n) (few2 : b 
   plain_begins k idle = absurd cc
 
 pub ranks_begin : (recursive : Bool) (t : ℕ) (step : Step) (l : Lock) → IsSound l → Allowed recursive t step l → RanksBegin recursive t step l (after t step l)
-ranks_begin recursive t step l sound may a b at there idle = begins step may (role_before recursive t l sound step may a at ∙ idle) (role_after recursive t l sound step may b there)
+ranks_begin recursive t step l sound may a b at there idle =
+    begins step may (role_before recursive t l sound step may a at ∙ idle)
+    (role_after recursive t l sound step may b there)
   where
-    begins : (step : Step) → Allowed recursive t step l → phase_before recursive t l sound step ≡ Idle → phase_after recursive t l sound step ≡ b.does → ranks false (after t step l) t b.does ≤ ranks false l t a.does + (18 * length l.roles + 9)
+    begins : (step : Step) → Allowed recursive t step l → phase_before recursive t l sound step ≡ Idle
+        → phase_after recursive t l sound step ≡ b.does → ranks false (after t step l) t b.does ≤ ranks false l t a.does
+        + (18 * length l.roles + 9)
     begins (Alone k) may was now =
         let small = plain_begins recursive (length l.roles) (length l.first) (length l.second) l.word (few1 recursive t l sound) (few2 recursive t l sound) k was in
         let same = others-set (length l.roles) l.roles t (from k) (to k) may.0 in
         subst (λ x. ranks false (after t (Alone k) l) t x ≤ ranks false l t a.does + (18 * length l.roles + 9)) now
-        (subst (λ m. fresh m (written k l.word) (length l.first) (length l.second) (to k).does + rank_of_others m (slice_set l.roles t (to k)) t ≤ ranks false l t a.does + (18 * length l.roles + 9)) (sym (length-set l.roles t (to k)))
+        (subst (λ m. fresh m (written k l.word) (length l.first) (length l.second) (to k).does + rank_of_others m
+        (slice_set l.roles t (to k)) t ≤ ranks false l t a.does + (18 * length l.roles + 9))
+        (sym (length-set l.roles t (to k)))
         (omega (arith, small, same)))
     begins (List_changes (Join1 m)) may was now = absurd cc
     begins (List_changes (Join2 f)) may was now = absurd cc

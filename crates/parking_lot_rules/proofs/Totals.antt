@@ -1,5 +1,6 @@
 -- Totals over the roles: what holds of any roles at all, and how the totals change where one role does.
-use Rattle.std.proofs.Common.{◌≡◌, ℕ, ◌+◌, ◌≤◌, Bool, true, false, List, [], ◌∷◌, Some, slice_get, slice_set, subst, refl, arith}
+use Rattle.std.proofs.Common.{◌≡◌, ℕ, ◌+◌, ◌≤◌, Bool, true, false, List, [], ◌∷◌, Some, slice_get, slice_set, subst}
+use Rattle.std.proofs.Common.{refl, arith}
 use Rattle.std.proofs.lemmas.List.Sums.{sum_by-cons}
 use Rattle.parking_lot_rules.specs.Roles.{Owned, Phase, Scans1, Role, away}
 use Rattle.parking_lot_rules.specs.Classes.{Class, Readers, Inside1, TakenReaders, weight, total, bit}
@@ -43,10 +44,13 @@ away_weighs Readers = refl
 away_weighs _ = refl
 
 -- the totals without one role, and with another in its place
-pub total-set : (rs : List Role) (t : ℕ) (a b : Role) → slice_get rs t ≡ Some a → (c : Class) → total c (slice_set rs t b) ≡ total c (slice_set rs t away) + weight c b
-total-set rs t a b at c = omega (arith, sum_by-set_at (weight c) rs t a b at, sum_by-set_at (weight c) rs t a away at, away_weighs c)
+pub total-set : (rs : List Role) (t : ℕ) (a b : Role) → slice_get rs t ≡ Some a → (c : Class)
+    → total c (slice_set rs t b) ≡ total c (slice_set rs t away) + weight c b
+total-set rs t a b at c =
+    omega (arith, sum_by-set_at (weight c) rs t a b at, sum_by-set_at (weight c) rs t a away at, away_weighs c)
 
-pub total-at : (rs : List Role) (t : ℕ) (a : Role) → slice_get rs t ≡ Some a → (c : Class) → total c rs ≡ total c (slice_set rs t away) + weight c a
+pub total-at : (rs : List Role) (t : ℕ) (a : Role) → slice_get rs t ≡ Some a → (c : Class)
+    → total c rs ≡ total c (slice_set rs t away) + weight c a
 total-at rs t a at c = omega (arith, sum_by-set_at (weight c) rs t a away at, away_weighs c)
 
 -- what holds of the counts holds of equal ones

@@ -4,7 +4,8 @@ use Rattle.parking_lot_rules.specs.Lists.{at_index}
 use Rattle.parking_lot_rules.specs.Lock.{Lock, IsSound}
 use Rattle.parking_lot_rules.specs.Steps.{Step, Allowed, after}
 use Rattle.parking_lot_rules.specs.Roles.{Role, Idle}
-use Rattle.parking_lot_rules.specs.Family.{Key, First, Second, Crossing, Stays, Comes, Goes, crossing, Family, Rules, StepOf, SoundFamilyOf, rw_inside}
+use Rattle.parking_lot_rules.specs.Family.{Key, First, Second, Crossing, Stays, Comes, Goes, crossing, Family, Rules}
+use Rattle.parking_lot_rules.specs.Family.{StepOf, SoundFamilyOf, rw_inside}
 use Rattle.parking_lot_rules.specs.Mutex as mutex
 use Rattle.parking_lot_rules.specs.Mutex.{Mutex}
 
@@ -78,9 +79,18 @@ IsIdleAt (Rw l) t = (r : Role) → slice_get l.roles t ≡ Some r → r.does ≡
 IsIdleAt (Mx m) t = (r : mutex.Role) → slice_get m.roles t ≡ Some r → r.does ≡ mutex.Idle
 
 abbrev pub any_rules : (ℕ → Bool) → Rules AnyLock AnyStep
-any_rules recursive = record { allowed = any_allowed recursive; after = any_after; sound = AnySound; inside = any_inside; crosses = any_crossing; idle = IsIdleAt }
+any_rules recursive =
+    record {
+      allowed = any_allowed recursive;
+      after = any_after;
+      sound = AnySound;
+      inside = any_inside;
+      crosses = any_crossing;
+      idle = IsIdleAt;
+    }
 
 -- Each step at one lock keeps such a family sound: each lock, and the marks of the buckets.
 abbrev pub FamiliesStaySound : Type 0
-FamiliesStaySound = (recursive : ℕ → Bool) (bucket : ℕ → ℕ) (j t : ℕ) (step : AnyStep) (old new : Family AnyLock) → SoundFamilyOf AnySound any_inside bucket old
+FamiliesStaySound = (recursive : ℕ → Bool) (bucket : ℕ → ℕ) (j t : ℕ) (step : AnyStep) (old new : Family AnyLock)
+    → SoundFamilyOf AnySound any_inside bucket old
     → StepOf (any_rules recursive) bucket j t step old new → SoundFamilyOf AnySound any_inside bucket new

@@ -2,7 +2,11 @@
 use Rattle.std.specs.Prelude.{ℕ, zero, suc, ◌+◌, Bool, true, false, List, Option}
 use Rattle.std.specs.List.{sum_by}
 use Rattle.parking_lot_rules.specs.Lists.{at_index}
-use Rattle.parking_lot_rules.specs.Roles.{Mode, Shared, Exclusive, Upgradable, Owned, Shares, Excludes, Upgrades, Stay, Fresh, Asleep, Late, Back, Mark, Open, Normal, Handed, Cause, FromExclusive, FromUpgradable, Owed, Phase, Seeks, Enters1, Checked1, Queued1, Taken1, Masks1, Leaves1, Drains, Enters2, Checked2, Queued2, Taken2, Leaves2, Yields, Owes1, Scans1, Stored1, Owes2, Scans2, Masked2, Role}
+use Rattle.parking_lot_rules.specs.Roles.{Mode, Shared, Exclusive, Upgradable, Owned, Shares, Excludes, Upgrades, Stay}
+use Rattle.parking_lot_rules.specs.Roles.{Fresh, Asleep, Late, Back, Mark, Open, Normal, Handed, Cause, FromExclusive}
+use Rattle.parking_lot_rules.specs.Roles.{FromUpgradable, Owed, Phase, Seeks, Enters1, Checked1, Queued1, Taken1}
+use Rattle.parking_lot_rules.specs.Roles.{Masks1, Leaves1, Drains, Enters2, Checked2, Queued2, Taken2, Leaves2, Yields}
+use Rattle.parking_lot_rules.specs.Roles.{Owes1, Scans1, Stored1, Owes2, Scans2, Masked2, Role}
 
 pub data Class : Type 0 where
   -- the owners: shared holds, the upgradable one, the pending one, the exclusive one

@@ -1,6 +1,9 @@
 -- The clauses that hold of a lock at every moment.
 use Rattle.std.specs.Prelude.{◌≡◌, ℕ, ◌+◌, ◌≤◌, ◌<◌, ◌*◌, ◌/◌, ◌%◌}
-use Rattle.parking_lot_rules.specs.Classes.{Class, Readers, Upgraders, Pending, Writers, Inside1, Inside2, Waiting1, Waiting2, Joining1, Joining2, Masking, Owing1, Owing2, Called, OpenReaders, OpenUpgraders, OpenWriters, TakenReaders, TakenUpgraders, TakenWriters, Strange}
+use Rattle.parking_lot_rules.specs.Classes.{Class, Readers, Upgraders, Pending, Writers, Inside1, Inside2, Waiting1}
+use Rattle.parking_lot_rules.specs.Classes.{Waiting2, Joining1, Joining2, Masking, Owing1, Owing2, Called, OpenReaders}
+use Rattle.parking_lot_rules.specs.Classes.{OpenUpgraders, OpenWriters, TakenReaders, TakenUpgraders, TakenWriters}
+use Rattle.parking_lot_rules.specs.Classes.{Strange}
 
 -- The word of a lock by its parts: the reader count, and the bits writer, upgradable, writer parked and parked.
 pub record Word : Type 0 where
@@ -16,7 +19,13 @@ number w = 16 * w.readers + 8 * w.writer + 4 * w.upgradable + 2 * w.parked2 + w.
 
 -- and the parts that a number tells
 abbrev pub word_of : ℕ → Word
-word_of n = record { readers = n / 16; writer = n / 8 % 2; upgradable = n / 4 % 2; parked2 = n / 2 % 2; parked1 = n % 2 }
+word_of n = record {
+  readers = n / 16;
+  writer = n / 8 % 2;
+  upgradable = n / 4 % 2;
+  parked2 = n / 2 % 2;
+  parked1 = n % 2;
+}
 
 -- each of its bits is 0 or 1
 pub record IsWord (w : Word) : Type 0 where
@@ -38,7 +47,8 @@ pub record Fits (w : Word) (n : Class → ℕ) : Type 0 where
   -- one thread at a time is inside a section
   pub inside1 : n Inside1 ≤ 1
   pub inside2 : n Inside2 ≤ 1
-  -- who waits in the first list is announced by the parked bit, the bit has a cause, and somebody owes the waiters a look
+  -- who waits in the first list is announced by the parked bit, the bit has a cause, and somebody owes the waiters a
+  -- look
   pub announced1 : 0 < n Waiting1 + n Joining1 → w.parked1 ≡ 1
   pub cause1 : w.parked1 ≤ w.writer + w.upgradable + n Waiting1 + n Owing1 + n Masking
   pub debt1 : 0 < n Waiting1 → 0 < w.writer + w.upgradable + n Owing1 + n Called + n OpenWriters + n OpenUpgraders
@@ -48,7 +58,8 @@ pub record Fits (w : Word) (n : Class → ℕ) : Type 0 where
   pub debt2_readers : w.parked2 ≤ n Owing2 + n Readers
   -- the parked bit is cleared by one that found itself the last of the first list
   pub masks : 0 < n Masking → n Waiting1 ≡ 0
-  -- one that goes through the first list knows whom it has taken, and takes at most one that wants more than a shared hold
+  -- one that goes through the first list knows whom it has taken, and takes at most one that wants more than a shared
+  -- hold
   pub taken_readers : n OpenReaders ≡ n TakenReaders
   pub taken_upgraders : n OpenUpgraders ≡ n TakenUpgraders
   pub taken_writers : n OpenWriters ≡ n TakenWriters

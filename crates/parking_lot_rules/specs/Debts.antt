@@ -1,11 +1,18 @@
 -- Who is in debt: the threads that owe a section or a wake, and those that are about to try again.
-use Rattle.std.specs.Prelude.{◌≡◌, ◌≢◌, ℕ, suc, ◌+◌, ◌<◌, Bool, true, false, ◌||◌, ◌⊎◌, if◌then◌else◌, ◌==◌, List, [], ◌∷◌, ◌++◌, length, slice_get, Some, IsTrue}
-use Rattle.parking_lot_rules.specs.Roles.{Mode, Shared, Exclusive, Upgradable, Stay, Fresh, Asleep, Late, Back, Mark, Open, Normal, Handed, Phase, Seeks, Enters1, Checked1, Queued1, Taken1, Masks1, Leaves1, Drains, Enters2, Checked2, Queued2, Taken2, Leaves2, Owes1, Scans1, Stored1, Owes2, Scans2, Masked2, Wakes, Role}
+use Rattle.std.specs.Prelude.{◌≡◌, ◌≢◌, ℕ, suc, ◌+◌, ◌<◌, Bool, true, false, ◌||◌, ◌⊎◌, if◌then◌else◌, ◌==◌, List, []}
+use Rattle.std.specs.Prelude.{◌∷◌, ◌++◌, length, slice_get, Some, IsTrue}
+use Rattle.parking_lot_rules.specs.Roles.{Mode, Shared, Exclusive, Upgradable, Stay, Fresh, Asleep, Late, Back, Mark}
+use Rattle.parking_lot_rules.specs.Roles.{Open, Normal, Handed, Phase, Seeks, Enters1, Checked1, Queued1, Taken1}
+use Rattle.parking_lot_rules.specs.Roles.{Masks1, Leaves1, Drains, Enters2, Checked2, Queued2, Taken2, Leaves2, Owes1}
+use Rattle.parking_lot_rules.specs.Roles.{Scans1, Stored1, Owes2, Scans2, Masked2, Wakes, Role}
 use Rattle.parking_lot_rules.specs.Classes.{Readers, Upgraders, Pending, Writers, weight, bit}
 use Rattle.parking_lot_rules.specs.Lists.{occurs}
 use Rattle.parking_lot_rules.specs.Lock.{Lock}
-use Rattle.parking_lot_rules.specs.Plain.{Share, Pend, Drain, Upgradably, Exclude, ExpireTaken1, ExpireTaken2, Resume1, Resume2, ReceivePending, Check1, Check2, UnshareLast, Yield, YieldBack, Downgrade, DowngradeToUpgradable, DowngradeUpgradable, Depart1, Depart2}
-use Rattle.parking_lot_rules.specs.Steps.{Step, Alone, Take1, Take2, Store, Wake, Pass, Hand, HandUpgradable, Waking, Retry, Own, OwnPending, OwnUpgradable, Recheck}
+use Rattle.parking_lot_rules.specs.Plain.{Share, Pend, Drain, Upgradably, Exclude, ExpireTaken1, ExpireTaken2, Resume1}
+use Rattle.parking_lot_rules.specs.Plain.{Resume2, ReceivePending, Check1, Check2, UnshareLast, Yield, YieldBack}
+use Rattle.parking_lot_rules.specs.Plain.{Downgrade, DowngradeToUpgradable, DowngradeUpgradable, Depart1, Depart2}
+use Rattle.parking_lot_rules.specs.Steps.{Step, Alone, Take1, Take2, Store, Wake, Pass, Hand, HandUpgradable, Waking}
+use Rattle.parking_lot_rules.specs.Steps.{Retry, Own, OwnPending, OwnUpgradable, Recheck}
 use Rattle.parking_lot_rules.specs.Family.{Crossing, Stays, Comes, Goes, crossing}
 use Rattle.parking_lot_rules.specs.Laws.{held, is_asleep}
 
@@ -45,8 +52,8 @@ owes_section (Masked2 taken) = true
 owes_section (Wakes (v ∷ taken)) = true
 owes_section phase = false
 
--- A thread that was taken isn't about to try where it was handed what it wants; a writer that was handed the lock is to look whether
--- readers are left.
+-- A thread that was taken isn't about to try where it was handed what it wants; a writer that was handed the lock is to
+-- look whether readers are left.
 abbrev pub still_tries : Mode → Mark → Bool
 still_tries mode Open = true
 still_tries mode Normal = true
@@ -58,7 +65,8 @@ abbrev pub and_up : Bool → Stay → Bool
 and_up false stay = false
 and_up true stay = is_up stay
 
--- It was woken, or it was taken and is awake, and it is about to try: it neither owns what it asks for nor waits for it again.
+-- It was woken, or it was taken and is awake, and it is about to try: it neither owns what it asks for nor waits for it
+-- again.
 abbrev pub retries : Phase → Bool
 retries (Seeks mode woken) = woken
 retries (Enters1 mode woken) = woken
@@ -76,8 +84,8 @@ abbrev pub passing : {R : Type 0} → (ℕ → R → Bool) → ℕ → List R �
 passing test n [] = []
 passing test n (r ∷ rs) = if test n r then n ∷ passing test (suc n) rs else passing test (suc n) rs
 
--- Those in debt at a lock. `saw` says which owners have begun to give the lock up and found that they have to look through the list: they
--- still own it, and enter a section next.
+-- Those in debt at a lock. `saw` says which owners have begun to give the lock up and found that they have to look
+-- through the list: they still own it, and enter a section next.
 abbrev pub debts : (ℕ → Bool) → Lock → List ℕ
 debts saw l = passing (λ u r. saw u || is_in_debt r.does) 0 l.roles
 
@@ -112,7 +120,8 @@ by_crossing (Comes k) taken = Begins
 by_crossing (Goes k) taken = ends_without taken
 by_crossing Stays taken = Remains
 
--- A thread owes from the step at which it saw waiters, or entered a section, until that section has ended and all whom it took are woken.
+-- A thread owes from the step at which it saw waiters, or entered a section, until that section has ended and all whom
+-- it took are woken.
 abbrev pub owing : Step → DebtChange
 owing (Alone (UnshareLast n)) = Begins
 owing (Alone (Yield saw)) = begins_if saw
@@ -173,9 +182,11 @@ retrying_other step u phase = Remains
 -- A thread begins to owe, or to try again, and ends it, at these steps and at no other.
 pub record DebtsAreBooked (recursive : Bool) (t : ℕ) (step : Step) (old new : Lock) : Type 0 where
   pub mover : (a b : Role) → slice_get old.roles t ≡ Some a → slice_get new.roles t ≡ Some b
-      → (owes_section b.does ≡ turned (owing step) (owes_section a.does)) × (retries b.does ≡ turned (retrying step) (retries a.does))
+      → (owes_section b.does ≡ turned (owing step) (owes_section a.does))
+      × (retries b.does ≡ turned (retrying step) (retries a.does))
   pub others : (u : ℕ) (a b : Role) → u ≢ t → slice_get old.roles u ≡ Some a → slice_get new.roles u ≡ Some b
-      → (owes_section b.does ≡ owes_section a.does) × (retries b.does ≡ turned (retrying_other step u a.does) (retries a.does))
+      → (owes_section b.does ≡ owes_section a.does)
+      × (retries b.does ≡ turned (retrying_other step u a.does) (retries a.does))
 
 -- some thread is in debt
 abbrev pub SomebodyIsInDebt : Lock → Type 0
@@ -183,21 +194,26 @@ SomebodyIsInDebt l = (u : ℕ) × (r : Role) × (slice_get l.roles u ≡ Some r)
 
 -- some thread owns the lock, pending or not, and isn't asleep there
 abbrev pub SomebodyOwns : Lock → Type 0
-SomebodyOwns l = (u : ℕ) × (r : Role) × (slice_get l.roles u ≡ Some r) × (0 < weight Readers r + weight Upgraders r + weight Pending r + weight Writers r) × (is_asleep r.does ≡ false)
+SomebodyOwns l = (u : ℕ) × (r : Role) × (slice_get l.roles u ≡ Some r)
+    × (0 < weight Readers r + weight Upgraders r + weight Pending r + weight Writers r) × (is_asleep r.does ≡ false)
 
--- The list of those in debt holds each of them once, and no other thread. Where somebody waits on the first key and there is no exclusive,
--- pending or upgradable owner, or a pending writer waits and there is no reader, it isn't empty. Where somebody sleeps, it isn't empty, or
--- some owner is awake.
+-- The list of those in debt holds each of them once, and no other thread. Where somebody waits on the first key and
+-- there is no exclusive, pending or upgradable owner, or a pending writer waits and there is no reader, it isn't empty.
+-- Where somebody sleeps, it isn't empty, or some owner is awake.
 pub record DebtsArePaid (l : Lock) : Type 0 where
-  pub listed : (saw : ℕ → Bool) (u : ℕ) (r : Role) → slice_get l.roles u ≡ Some r → occurs u (debts saw l) ≡ bit (saw u || is_in_debt r.does)
+  pub listed : (saw : ℕ → Bool) (u : ℕ) (r : Role) → slice_get l.roles u ≡ Some r
+      → occurs u (debts saw l) ≡ bit (saw u || is_in_debt r.does)
   pub strangers : (saw : ℕ → Bool) (u : ℕ) → 0 < occurs u (debts saw l) → (r : Role) × (slice_get l.roles u ≡ Some r)
   pub first : 0 < length l.first → held Writers l + held Pending l + held Upgraders l ≡ 0 → SomebodyIsInDebt l
   pub second : 0 < length l.second → held Readers l + held Upgraders l ≡ 0 → SomebodyIsInDebt l
-  pub sleepers : (u : ℕ) (r : Role) → slice_get l.roles u ≡ Some r → IsTrue (is_asleep r.does) → SomebodyIsInDebt l ⊎ SomebodyOwns l
+  pub sleepers : (u : ℕ) (r : Role) → slice_get l.roles u ≡ Some r → IsTrue (is_asleep r.does) → SomebodyIsInDebt l
+      ⊎ SomebodyOwns l
 
 -- The last owner that keeps those waiting out goes in debt as it goes: it passes the lock on.
 pub record DebtsArePassedOn (recursive : Bool) (t : ℕ) (step : Step) (old new : Lock) : Type 0 where
-  pub first : (b : Role) → slice_get new.roles t ≡ Some b → 0 < length old.first → 0 < held Writers old + held Pending old + held Upgraders old
+  pub first : (b : Role) → slice_get new.roles t ≡ Some b → 0 < length old.first
+      → 0 < held Writers old + held Pending old + held Upgraders old
       → held Writers new + held Pending new + held Upgraders new ≡ 0 → IsTrue (is_in_debt b.does)
-  pub second : (b : Role) → slice_get new.roles t ≡ Some b → 0 < length old.second → 0 < held Readers old + held Upgraders old
+  pub second : (b : Role) → slice_get new.roles t ≡ Some b → 0 < length old.second
+      → 0 < held Readers old + held Upgraders old
       → held Readers new + held Upgraders new ≡ 0 → IsTrue (is_in_debt b.does)

@@ -1,5 +1,6 @@
 -- Locks of every kind in one family, with buckets in common; and steps of a thread at two of them at one time.
-use Rattle.std.specs.Prelude.{◌≡◌, ◌≢◌, ℕ, ◌+◌, ◌<◌, ◌⊎◌, Bool, true, false, List, [], ◌∷◌, ◌++◌, slice_get, Option, Some, None, IsTrue}
+use Rattle.std.specs.Prelude.{◌≡◌, ◌≢◌, ℕ, ◌+◌, ◌<◌, ◌⊎◌, Bool, true, false, List, [], ◌∷◌, ◌++◌, slice_get, Option}
+use Rattle.std.specs.Prelude.{Some, None, IsTrue}
 use Rattle.parking_lot_rules.specs.Roles.{Stay, Asleep, Late, Role}
 use Rattle.parking_lot_rules.specs.Lists.{occurs, at_index}
 use Rattle.parking_lot_rules.specs.Laws as rw
@@ -9,7 +10,8 @@ use Rattle.parking_lot_rules.specs.Mutex as mutex
 use Rattle.parking_lot_rules.specs.Mutex.{Mutex}
 use Rattle.parking_lot_rules.specs.Variable as variable
 use Rattle.parking_lot_rules.specs.Variable.{Variable}
-use Rattle.parking_lot_rules.specs.Family.{Key, First, Second, key, Crossing, Stays, Comes, Goes, Family, Rules, IsFree, entered_after, StepOf, SoundFamilyOf}
+use Rattle.parking_lot_rules.specs.Family.{Key, First, Second, key, Crossing, Stays, Comes, Goes, Family, Rules, IsFree}
+use Rattle.parking_lot_rules.specs.Family.{entered_after, StepOf, SoundFamilyOf}
 use Rattle.parking_lot_rules.specs.World.{lock_at}
 use Rattle.parking_lot_rules.specs.Runs.{at_rest}
 use Rattle.parking_lot_rules.specs.Any.{AnyLock, Rw, Mx, AnyStep, MxStep, any_rules}
@@ -106,9 +108,10 @@ AreTogether (Comes a) (Comes b) = Unit {0}
 AreTogether (Goes a) (Goes b) = Unit {0}
 AreTogether c d = ⊥
 
--- Thread t makes a step at lock j and one at lock k at one time, or at one of them while it is at both: it enters both sections, or is inside
--- both, or leaves both.
-pub record BothOf {L S : Type 0} (rules : Rules L S) (bucket : ℕ → ℕ) (j k t : ℕ) (one two : Option S) (old new : Family L) : Type 0 where
+-- Thread t makes a step at lock j and one at lock k at one time, or at one of them while it is at both: it enters both
+-- sections, or is inside both, or leaves both.
+pub record BothOf {L S : Type 0} (rules : Rules L S) (bucket : ℕ → ℕ) (j k t : ℕ) (one two : Option S)
+    (old new : Family L) : Type 0 where
   pub apart : j ≢ k
   pub allowed_one : if_any_allowed rules j t one (old.locks j)
   pub allowed_two : if_any_allowed rules k t two (old.locks k)
@@ -119,7 +122,9 @@ pub record BothOf {L S : Type 0} (rules : Rules L S) (bucket : ℕ → ℕ) (j k
   pub here_one : new.locks j ≡ if_any_after rules t one (old.locks j)
   pub here_two : new.locks k ≡ if_any_after rules t two (old.locks k)
   pub elsewhere : (i : ℕ) → i ≢ j → i ≢ k → new.locks i ≡ old.locks i
-  pub entered : (b : ℕ) → new.entered b ≡ entered_after bucket (λ x. entered_after bucket old.entered j t (if_any_crosses rules one) x) k t (if_any_crosses rules two) b
+  pub entered : (b : ℕ)
+      → new.entered b ≡ entered_after bucket (λ x. entered_after bucket old.entered j t (if_any_crosses rules one) x) k
+      t (if_any_crosses rules two) b
 
 -- What a thread does at one time.
 pub data Act : Type 0 where
@@ -161,7 +166,8 @@ pub record IsReached (bucket : ℕ → ℕ) (recursive : ℕ → Bool) (f : Fami
   pub turns : List ScheduledAct
   pub run : Turns bucket recursive (all_resting kinds threads) turns f
 
--- a thread sleeps at a lock, and waits for what its owner or a waker does; one that waits for a condition variable waits for no owner
+-- a thread sleeps at a lock, and waits for what its owner or a waker does; one that waits for a condition variable
+-- waits for no owner
 abbrev pub IsAsleepAt : EveryLock → ℕ → Type 0
 IsAsleepAt (Of (Rw l)) u = (r : Role) × (slice_get l.roles u ≡ Some r) × IsTrue (rw.is_asleep r.does)
 IsAsleepAt (Of (Mx m)) u = (r : mutex.Role) × (slice_get m.roles u ≡ Some r) × IsTrue (mutex_laws.is_asleep r.does)
@@ -202,21 +208,26 @@ OwnsIdly (Cv v) u = ⊥
 
 -- some thread is in the middle of a call at some lock, awake, and no bucket is entered that it may have to enter next
 abbrev pub SomebodyMoves : (ℕ → ℕ) → Family EveryLock → Type 0
-SomebodyMoves bucket f = (i u : ℕ) × WorksAt (f.locks i) u × ((k : Key) → IsBefore (f.locks i) u k → f.entered (bucket (key i k)) ≡ None)
+SomebodyMoves bucket f = (i u : ℕ) × WorksAt (f.locks i) u
+    × ((k : Key) → IsBefore (f.locks i) u k → f.entered (bucket (key i k)) ≡ None)
 
 -- where a thread sleeps at a lock, some thread can move, or one owns that lock and is in no call there
 abbrev pub SleepersAreServed : (ℕ → ℕ) → Family EveryLock → Type 0
-SleepersAreServed bucket f = (i u : ℕ) → IsAsleepAt (f.locks i) u → SomebodyMoves bucket f ⊎ ((v : ℕ) × OwnsIdly (f.locks i) v)
+SleepersAreServed bucket f = (i u : ℕ) → IsAsleepAt (f.locks i) u → SomebodyMoves bucket f
+    ⊎ ((v : ℕ) × OwnsIdly (f.locks i) v)
 
--- Where each thread sleeps at one lock at most, and one that owns a lock sleeps at a higher one: some thread can move, or one owns a lock, is
--- in no call there, and sleeps nowhere. `at`: for each thread the one lock.
+-- Where each thread sleeps at one lock at most, and one that owns a lock sleeps at a higher one: some thread can move,
+-- or one owns a lock, is in no call there, and sleeps nowhere. `at`: for each thread the one lock.
 abbrev pub NoDeadlock : (ℕ → ℕ) → Family EveryLock → Type 0
-NoDeadlock bucket f = (at : List ℕ) → ((i u : ℕ) → IsAsleepAt (f.locks i) u → slice_get at u ≡ Some i) → ((i j u : ℕ) → IsAsleepAt (f.locks i) u → OwnsIdly (f.locks j) u → j < i)
-    → (i u : ℕ) → IsAsleepAt (f.locks i) u → SomebodyMoves bucket f ⊎ ((v j : ℕ) × OwnsIdly (f.locks j) v × ((x : ℕ) → IsAsleepAt (f.locks x) v → ⊥))
+NoDeadlock bucket f = (at : List ℕ) → ((i u : ℕ) → IsAsleepAt (f.locks i) u → slice_get at u ≡ Some i)
+    → ((i j u : ℕ) → IsAsleepAt (f.locks i) u → OwnsIdly (f.locks j) u → j < i)
+    → (i u : ℕ) → IsAsleepAt (f.locks i) u → SomebodyMoves bucket f
+    ⊎ ((v j : ℕ) × OwnsIdly (f.locks j) v × ((x : ℕ) → IsAsleepAt (f.locks x) v → ⊥))
 
 -- what holds in every run
 abbrev pub InEveryRun : ((ℕ → ℕ) → (ℕ → Bool) → Family EveryLock → Type 0) → Type 0
-InEveryRun P = (bucket : ℕ → ℕ) (recursive : ℕ → Bool) (f : Family EveryLock) → IsReached bucket recursive f → P bucket recursive f
+InEveryRun P = (bucket : ℕ → ℕ) (recursive : ℕ → Bool) (f : Family EveryLock) → IsReached bucket recursive f
+    → P bucket recursive f
 
 -- each lock is sound, and so are the marks that say who has entered each bucket
 abbrev pub IsSoundEverywhere : (ℕ → ℕ) → (ℕ → Bool) → Family EveryLock → Type 0
@@ -226,14 +237,16 @@ pub record NobodyIsForgotten (bucket : ℕ → ℕ) (recursive : ℕ → Bool) (
   pub served : SleepersAreServed bucket f
   pub alive : NoDeadlock bucket f
 
--- A notifier inside both sections takes the first waiter off a condition variable's list, and puts it at the end of the list of the mutex
--- that it waits with.
-abbrev pub Requeues : (ℕ → ℕ) → (ℕ → Bool) → (cv mx t v : ℕ) → Bool → Stay → Family EveryLock → Family EveryLock → Type 0
+-- A notifier inside both sections takes the first waiter off a condition variable's list, and puts it at the end of the
+-- list of the mutex that it waits with.
+abbrev pub Requeues : (ℕ → ℕ) → (ℕ → Bool) → (cv mx t v : ℕ) → Bool → Stay → Family EveryLock → Family EveryLock
+    → Type 0
 Requeues bucket recursive cv mx t v owns stay old new =
-    Acts bucket recursive t (Two cv mx (Some (CvStep (variable.Release v mx stay))) (Some (OfStep (MxStep (mutex.Requeue owns v))))) old new
+    Acts bucket recursive t
+    (Two cv mx (Some (CvStep (variable.Release v mx stay))) (Some (OfStep (MxStep (mutex.Requeue owns v))))) old new
 
--- Then it stands in that list alone, once, and the two lists are otherwise as they were; and what the word of the variable shows, is the mutex
--- that each of its waiters waits with.
+-- Then it stands in that list alone, once, and the two lists are otherwise as they were; and what the word of the
+-- variable shows, is the mutex that each of its waiters waits with.
 pub record IsRequeued (cv mx v : ℕ) (old new : Family EveryLock) : Type 0 where
   pub variable : Variable
   pub mutex : Mutex
@@ -250,9 +263,12 @@ pub record IsRequeued (cv mx v : ℕ) (old new : Family EveryLock) : Type 0 wher
   pub shown : variable.word ≡ mx + 1
 
 abbrev pub RequeuesAreSeenAtBoth : (ℕ → ℕ) → (ℕ → Bool) → Family EveryLock → Type 0
-RequeuesAreSeenAtBoth bucket recursive f = (cv mx t v : ℕ) (owns : Bool) (stay : Stay) (g : Family EveryLock) → Requeues bucket recursive cv mx t v owns stay f g
+RequeuesAreSeenAtBoth bucket recursive f = (cv mx t v : ℕ) (owns : Bool) (stay : Stay) (g : Family EveryLock)
+    → Requeues bucket recursive cv mx t v owns stay f g
     → IsRequeued cv mx v f g × IsSoundEverywhere bucket recursive g
 
 -- every act keeps every lock sound, and the marks
 abbrev pub TwoKeepSound : Type 0
-TwoKeepSound = (bucket : ℕ → ℕ) (recursive : ℕ → Bool) (t : ℕ) (act : Act) (old new : Family EveryLock) → IsSoundEverywhere bucket recursive old → Acts bucket recursive t act old new → IsSoundEverywhere bucket recursive new
+TwoKeepSound = (bucket : ℕ → ℕ) (recursive : ℕ → Bool) (t : ℕ) (act : Act) (old new : Family EveryLock)
+    → IsSoundEverywhere bucket recursive old → Acts bucket recursive t act old new
+    → IsSoundEverywhere bucket recursive new

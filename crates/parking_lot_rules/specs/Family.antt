@@ -2,7 +2,10 @@
 use Rattle.std.specs.Prelude.{◌≡◌, ◌≢◌, ℕ, ◌+◌, ◌*◌, Bool, if◌then◌else◌, ◌==◌, Option, Some, None, slice_get}
 use Rattle.parking_lot_rules.specs.Roles.{Idle, Role}
 use Rattle.parking_lot_rules.specs.Classes.{Class, Inside1, Inside2, weighs}
-use Rattle.parking_lot_rules.specs.Plain.{Enter1, Reenter1, ReenterTaken1, LookExclusive, LookUpgradable, LookOwed, Enter2, Reenter2, ReenterTaken2, Look2, Retreat1, Rest1, Leave1, Resume1, ReceiveShared, ReceivePending, ReceiveUpgradable, Depart1, Retreat2, Rest2, Resume2, Leave2, Depart2}
+use Rattle.parking_lot_rules.specs.Plain.{Enter1, Reenter1, ReenterTaken1, LookExclusive, LookUpgradable, LookOwed}
+use Rattle.parking_lot_rules.specs.Plain.{Enter2, Reenter2, ReenterTaken2, Look2, Retreat1, Rest1, Leave1, Resume1}
+use Rattle.parking_lot_rules.specs.Plain.{ReceiveShared, ReceivePending, ReceiveUpgradable, Depart1, Retreat2, Rest2}
+use Rattle.parking_lot_rules.specs.Plain.{Resume2, Leave2, Depart2}
 use Rattle.parking_lot_rules.specs.Steps.{Step, Alone, Allowed, after}
 use Rattle.parking_lot_rules.specs.Lock.{Lock, IsSound}
 
@@ -74,9 +77,9 @@ entered_after bucket entered j t Stays b = entered b
 entered_after bucket entered j t (Comes k) b = put entered (bucket (key j k)) (Some t) b
 entered_after bucket entered j t (Goes k) b = put entered (bucket (key j k)) None b
 
--- What is to be known of a kind of locks: when a thread may make a step at the lock of a number, the lock after it, what holds of a
--- lock at every moment, how much a thread is inside a section of a key, what a step does to the sections, and when a thread is doing
--- nothing there.
+-- What is to be known of a kind of locks: when a thread may make a step at the lock of a number, the lock after it,
+-- what holds of a lock at every moment, how much a thread is inside a section of a key, what a step does to the
+-- sections, and when a thread is doing nothing there.
 pub record Rules (L S : Type 0) : Type 1 where
   pub allowed : ℕ → ℕ → S → L → Type 0
   pub after : ℕ → S → L → L
@@ -85,21 +88,26 @@ pub record Rules (L S : Type 0) : Type 1 where
   pub crosses : S → Crossing
   pub idle : L → ℕ → Type 0
 
--- Thread t makes a step at lock j: that lock changes as by itself, and no other. `bucket` says which bucket a key is in.
-pub record StepOf {L S : Type 0} (rules : Rules L S) (bucket : ℕ → ℕ) (j t : ℕ) (step : S) (old new : Family L) : Type 0 where
-  pub allowed : rules.allowed j t step (old.locks j)
-  pub free : IsFree bucket old.entered j (rules.crosses step)
-  -- the thread is doing nothing at another lock
-  pub idle : (i : ℕ) → i ≢ j → rules.idle (old.locks i) t
-  pub here : new.locks j ≡ rules.after t step (old.locks j)
-  pub elsewhere : (i : ℕ) → i ≢ j → new.locks i ≡ old.locks i
-  pub entered : (b : ℕ) → new.entered b ≡ entered_after bucket old.entered j t (rules.crosses step) b
+-- Thread t makes a step at lock j: that lock changes as by itself, and no other. `bucket` says which bucket a key is
+-- in.
+pub record StepOf {L S : Type 0} (rules : Rules L S) (bucket : ℕ → ℕ) (j t : ℕ) (step : S) (old new : Family L) : Type 0
+  where
+    pub allowed : rules.allowed j t step (old.locks j)
+    pub free : IsFree bucket old.entered j (rules.crosses step)
+    -- the thread is doing nothing at another lock
+    pub idle : (i : ℕ) → i ≢ j → rules.idle (old.locks i) t
+    pub here : new.locks j ≡ rules.after t step (old.locks j)
+    pub elsewhere : (i : ℕ) → i ≢ j → new.locks i ≡ old.locks i
+    pub entered : (b : ℕ) → new.entered b ≡ entered_after bucket old.entered j t (rules.crosses step) b
 
--- Each lock is sound, who is inside a section has entered its bucket, and who has entered a bucket is inside a section there.
-pub record SoundFamilyOf {L : Type 0} (sound_lock : L → Type 0) (inside : L → Key → ℕ → ℕ) (bucket : ℕ → ℕ) (f : Family L) : Type 0 where
+-- Each lock is sound, who is inside a section has entered its bucket, and who has entered a bucket is inside a section
+-- there.
+pub record SoundFamilyOf {L : Type 0} (sound_lock : L → Type 0) (inside : L → Key → ℕ → ℕ) (bucket : ℕ → ℕ)
+    (f : Family L) : Type 0 where
   pub sound : (i : ℕ) → sound_lock (f.locks i)
   pub entered : (i : ℕ) (k : Key) (u : ℕ) → inside (f.locks i) k u ≡ 1 → f.entered (bucket (key i k)) ≡ Some u
-  pub is_inside : (b u : ℕ) → f.entered b ≡ Some u → (i : ℕ) × (k : Key) × (bucket (key i k) ≡ b) × (inside (f.locks i) k u ≡ 1)
+  pub is_inside : (b u : ℕ) → f.entered b ≡ Some u → (i : ℕ) × (k : Key) × (bucket (key i k) ≡ b)
+      × (inside (f.locks i) k u ≡ 1)
 
 -- reader-writer locks, some of which are recursive
 abbrev pub rw_inside : Lock → Key → ℕ → ℕ

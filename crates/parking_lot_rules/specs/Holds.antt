@@ -54,8 +54,8 @@ all_holds l = sum_by (λ (r : Role). shared_holds r.owns) l.roles
 abbrev pub all_handed : Lock → ℕ
 all_handed l = sum_by (λ (r : Role). handed_one r.does) l.roles
 
--- The word of a lock counts all holds, those that were handed over, and the upgradable one. No thread has more holds than the limit; so the word
--- is a small number.
+-- The word of a lock counts all holds, those that were handed over, and the upgradable one. No thread has more holds
+-- than the limit; so the word is a small number.
 pub record HoldsAreCounted (limit : ℕ) (l : Lock) : Type 0 where
   pub counted : l.word.readers ≡ all_holds l + all_handed l + held Upgraders l
   pub each : (u : ℕ) (r : Role) → slice_get l.roles u ≡ Some r → shared_holds r.owns ≤ limit
@@ -64,8 +64,10 @@ pub record HoldsAreCounted (limit : ℕ) (l : Lock) : Type 0 where
   pub small : number l.word ≤ 16 * (limit * length l.roles) + 31
 
 abbrev pub HoldsAreWithin : Type 0
-HoldsAreWithin = (bucket : ℕ → ℕ) (recursive : ℕ → Bool) (limit : ℕ) (w : World) (i : ℕ) → 1 ≤ limit → IsReachedWithin bucket recursive limit w → HoldsAreCounted limit (lock_at w i)
+HoldsAreWithin = (bucket : ℕ → ℕ) (recursive : ℕ → Bool) (limit : ℕ) (w : World) (i : ℕ) → 1 ≤ limit
+    → IsReachedWithin bucket recursive limit w → HoldsAreCounted limit (lock_at w i)
 
 -- of up to 65,536 threads with up to 255 holds each
 abbrev pub WordsAreSmall : Type 0
-WordsAreSmall = (bucket : ℕ → ℕ) (recursive : ℕ → Bool) (w : World) (i : ℕ) → IsReachedWithin bucket recursive 255 w → length w.places ≤ 65536 → number (w.words i) < 2 ^ 60
+WordsAreSmall = (bucket : ℕ → ℕ) (recursive : ℕ → Bool) (w : World) (i : ℕ) → IsReachedWithin bucket recursive 255 w
+    → length w.places ≤ 65536 → number (w.words i) < 2 ^ 60

@@ -1,7 +1,10 @@
 -- What follows for a lock, in plain words.
-use Rattle.std.specs.Prelude.{◌≡◌, ◌≢◌, ℕ, ◌+◌, ◌*◌, ◌<◌, ◌≤◌, ◌⊎◌, Bool, true, false, IsTrue, [], length, slice_get, Some}
-use Rattle.parking_lot_rules.specs.Roles.{Mode, Shares, Asleep, Late, Phase, Idle, Seeks, Queued1, Taken1, Drains, Queued2, Taken2, Yields, Wakes, Role, away}
-use Rattle.parking_lot_rules.specs.Classes.{Class, Readers, Upgraders, Pending, Writers, Waiting1, Waiting2, total, weighs}
+use Rattle.std.specs.Prelude.{◌≡◌, ◌≢◌, ℕ, ◌+◌, ◌*◌, ◌<◌, ◌≤◌, ◌⊎◌, Bool, true, false, IsTrue, [], length, slice_get}
+use Rattle.std.specs.Prelude.{Some}
+use Rattle.parking_lot_rules.specs.Roles.{Mode, Shares, Asleep, Late, Phase, Idle, Seeks, Queued1, Taken1, Drains}
+use Rattle.parking_lot_rules.specs.Roles.{Queued2, Taken2, Yields, Wakes, Role, away}
+use Rattle.parking_lot_rules.specs.Classes.{Class, Readers, Upgraders, Pending, Writers, Waiting1, Waiting2, total}
+use Rattle.parking_lot_rules.specs.Classes.{weighs}
 use Rattle.parking_lot_rules.specs.Clauses.{number}
 use Rattle.parking_lot_rules.specs.Plain.{YieldBack}
 use Rattle.parking_lot_rules.specs.Steps.{Step, Alone}
@@ -15,20 +18,25 @@ held c l = total c l.roles
 abbrev pub holds : Class → Lock → ℕ → ℕ
 holds c l u = weighs c (slice_get l.roles u)
 
--- The word is 16 for each shared hold, 20 for the upgradable one, 8 for the exclusive or pending one, and the two parked bits.
+-- The word is 16 for each shared hold, 20 for the upgradable one, 8 for the exclusive or pending one, and the two
+-- parked bits.
 pub record WordTells (l : Lock) : Type 0 where
-  pub number : number l.word ≡ 16 * held Readers l + 20 * held Upgraders l + 8 * (held Pending l + held Writers l) + 2 * l.word.parked2 + l.word.parked1
+  pub number : number l.word ≡ 16 * held Readers l + 20 * held Upgraders l + 8 * (held Pending l + held Writers l) + 2 *
+      l.word.parked2 + l.word.parked1
   pub bit1 : l.word.parked1 ≤ 1
   pub bit2 : l.word.parked2 ≤ 1
 
 -- Beside an exclusive owner there is no other. Of upgradable, pending and exclusive owners there is one.
 pub record OwnersExclude (l : Lock) : Type 0 where
-  pub exclusive : (t u : ℕ) → t ≢ u → 0 < holds Writers l t → holds Readers l u + holds Upgraders l u + holds Pending l u + holds Writers l u ≡ 0
-  pub one : (t u : ℕ) → t ≢ u → 0 < holds Upgraders l t + holds Pending l t + holds Writers l t → holds Upgraders l u + holds Pending l u + holds Writers l u ≡ 0
+  pub exclusive : (t u : ℕ) → t ≢ u → 0 < holds Writers l t → holds Readers l u + holds Upgraders l u + holds Pending l
+      u + holds Writers l u ≡ 0
+  pub one : (t u : ℕ) → t ≢ u → 0 < holds Upgraders l t + holds Pending l t + holds Writers l t
+      → holds Upgraders l u + holds Pending l u + holds Writers l u ≡ 0
 
 -- where all threads are away, the word is 0 and nobody stands in a list
 abbrev pub NothingIsLeft : Lock → Type 0
-NothingIsLeft l = ((u : ℕ) (r : Role) → slice_get l.roles u ≡ Some r → r ≡ away) → (number l.word ≡ 0) × (l.first ≡ []) × (l.second ≡ [])
+NothingIsLeft l = ((u : ℕ) (r : Role) → slice_get l.roles u ≡ Some r → r ≡ away) → (number l.word ≡ 0) × (l.first ≡ [])
+    × (l.second ≡ [])
 
 -- a thread sleeps
 abbrev pub is_asleep : Phase → Bool
@@ -42,15 +50,16 @@ is_asleep phase = false
 abbrev pub IsWaker : Lock → ℕ → ℕ → Type 0
 IsWaker l by u = (s : Role) × (note : Note) × (slice_get l.roles by ≡ Some s) × (0 < occurs u (to_wake s.does note))
 
--- The first list holds exactly those that wait on the first key, the second exactly those on the second. A sleeper stands once in
--- one list, or was taken by a thread that is still to wake it.
+-- The first list holds exactly those that wait on the first key, the second exactly those on the second. A sleeper
+-- stands once in one list, or was taken by a thread that is still to wake it.
 pub record SleepersAreKnown (l : Lock) : Type 0 where
   pub first : (u : ℕ) → occurs u l.first ≡ holds Waiting1 l u
   pub second : (u : ℕ) → occurs u l.second ≡ holds Waiting2 l u
-  pub asleep : (u : ℕ) (r : Role) → slice_get l.roles u ≡ Some r → IsTrue (is_asleep r.does) → (occurs u l.first + occurs u l.second ≡ 1) ⊎ ((by : ℕ) × IsWaker l by u)
+  pub asleep : (u : ℕ) (r : Role) → slice_get l.roles u ≡ Some r → IsTrue (is_asleep r.does)
+      → (occurs u l.first + occurs u l.second ≡ 1) ⊎ ((by : ℕ) × IsWaker l by u)
 
--- A thread owes a look at a list, or wakes, or is about to try again: it is inside a section, or has seen waiters, or has taken
--- some, or was woken, or is awake since its deadline and was taken.
+-- A thread owes a look at a list, or wakes, or is about to try again: it is inside a section, or has seen waiters, or
+-- has taken some, or was woken, or is awake since its deadline and was taken.
 abbrev pub owes : Phase → Bool
 owes Idle = false
 owes (Seeks mode woken) = woken
@@ -69,8 +78,8 @@ owes phase = true
 abbrev pub SomebodyOwes : Lock → Type 0
 SomebodyOwes l = (u : ℕ) × (r : Role) × (slice_get l.roles u ≡ Some r) × IsTrue (owes r.does)
 
--- Where somebody waits on the first key and there is no exclusive, pending or upgradable owner, or a pending writer waits on the second
--- and there is no reader, somebody owes.
+-- Where somebody waits on the first key and there is no exclusive, pending or upgradable owner, or a pending writer
+-- waits on the second and there is no reader, somebody owes.
 pub record DebtsAreKept (l : Lock) : Type 0 where
   pub first : 0 < length l.first → held Writers l + held Pending l + held Upgraders l ≡ 0 → SomebodyOwes l
   pub second : 0 < length l.second → held Readers l + held Upgraders l ≡ 0 → SomebodyOwes l
@@ -98,7 +107,8 @@ SomebodyCanMove l = (u : ℕ) (r : Role) → slice_get l.roles u ≡ Some r → 
 
 -- Where a thread that owns nothing and asks by a try finds a word that isn't 0, another thread is at the lock.
 abbrev pub RefusalsHaveACause : Lock → Type 0
-RefusalsHaveACause l = (t : ℕ) (mode : Mode) (woken : Bool) → slice_get l.roles t ≡ Some (record { owns = Shares 0; does = Seeks mode woken }) → number l.word ≢ 0
+RefusalsHaveACause l = (t : ℕ) (mode : Mode) (woken : Bool)
+    → slice_get l.roles t ≡ Some (record { owns = Shares 0; does = Seeks mode woken }) → number l.word ≢ 0
     → (u : ℕ) × (r : Role) × (u ≢ t) × (slice_get l.roles u ≡ Some r) × (r ≢ away)
 
 -- a pending writer that came from the upgradable hold gives up, and has that hold again
@@ -108,4 +118,5 @@ gives_back step = false
 
 -- While a writer is pending on a lock that isn't recursive, the reader count doesn't grow, but by such a step.
 abbrev pub ReadersAreKeptOut : Bool → ℕ → Step → Lock → Lock → Type 0
-ReadersAreKeptOut recursive t step old new = recursive ≡ false → 0 < held Pending old → gives_back step ≡ false → new.word.readers ≤ old.word.readers
+ReadersAreKeptOut recursive t step old new = recursive ≡ false → 0 < held Pending old → gives_back step ≡ false
+    → new.word.readers ≤ old.word.readers

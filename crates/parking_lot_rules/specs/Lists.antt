@@ -18,4 +18,5 @@ pub record IsListOf {R : Type 0} (f : R → ℕ) (q : List ℕ) (rs : List R) : 
 
 -- Whose role says that it was taken by a thread stands in that thread's list of those to wake.
 abbrev pub AreNotedBy : {R N : Type 0} → (R → Option (ℕ × N)) → (R → N → List ℕ) → List R → Type 0
-AreNotedBy {R} {N} note wakes rs = (u by : ℕ) (r : R) (n : N) → slice_get rs u ≡ Some r → note r ≡ Some (by, n) → (s : R) × (slice_get rs by ≡ Some s) × (0 < occurs u (wakes s n))
+AreNotedBy {R} {N} note wakes rs = (u by : ℕ) (r : R) (n : N) → slice_get rs u ≡ Some r → note r ≡ Some (by, n)
+    → (s : R) × (slice_get rs by ≡ Some s) × (0 < occurs u (wakes s n))

@@ -1,12 +1,13 @@
 -- A lock, and what holds of it at every moment.
 use Rattle.std.specs.Prelude.{ℕ, List, [], Option, Some, None}
 use Rattle.parking_lot_rules.specs.Lists.{IsListOf, AreNotedBy}
-use Rattle.parking_lot_rules.specs.Roles.{Mark, Open, Asleep, Phase, Taken1, Taken2, Scans1, Stored1, Scans2, Masked2, Wakes, Role}
+use Rattle.parking_lot_rules.specs.Roles.{Mark, Open, Asleep, Phase, Taken1, Taken2, Scans1, Stored1, Scans2, Masked2}
+use Rattle.parking_lot_rules.specs.Roles.{Wakes, Role}
 use Rattle.parking_lot_rules.specs.Classes.{Class, Waiting1, Waiting2, weight, total}
 use Rattle.parking_lot_rules.specs.Clauses.{Word, Fits}
 
--- The word of a lock, a role for each thread, and the lists of the threads that wait, oldest first: on the first key those that
--- want the lock, on the second the pending writer.
+-- The word of a lock, a role for each thread, and the lists of the threads that wait, oldest first: on the first key
+-- those that want the lock, on the second the pending writer.
 pub record Lock : Type 0 where
   pub word : Word
   pub roles : List Role

@@ -1,5 +1,7 @@
--- The rules of a mutex, by the same form: one key, and one kind of owner. A thread may move waiters of a condition variable into the list.
-use Rattle.std.specs.Prelude.{◌≡◌, ◌≢◌, ℕ, zero, suc, ◌+◌, ◌<◌, ◌≤◌, Bool, true, false, List, [], ◌∷◌, ◌++◌, length, map, replicate, slice_get, slice_set, Option, Some, None}
+-- The rules of a mutex, by the same form: one key, and one kind of owner. A thread may move waiters of a condition
+-- variable into the list.
+use Rattle.std.specs.Prelude.{◌≡◌, ◌≢◌, ℕ, zero, suc, ◌+◌, ◌<◌, ◌≤◌, Bool, true, false, List, [], ◌∷◌, ◌++◌, length}
+use Rattle.std.specs.Prelude.{map, replicate, slice_get, slice_set, Option, Some, None}
 use Rattle.std.specs.List.{sum_by, remove}
 use Rattle.parking_lot_rules.specs.Roles.{Stay, Fresh, Asleep, Late, Back, Mark, Open, Normal, Handed}
 use Rattle.parking_lot_rules.specs.Lists.{IsListOf, AreNotedBy}
@@ -159,7 +161,8 @@ pub data Plain : Type 0 where
   -- a call begins, and a try is refused
   Begin : Plain
   Refuse : Plain
-  -- it is admitted; or it sets the parked bit, enters the section, looks at the word again, and leaves it, with or without a place in the list
+  -- it is admitted; or it sets the parked bit, enters the section, looks at the word again, and leaves it, with or
+  -- without a place in the list
   Lock : (woken : Bool) → Plain
   Flag : (woken : Bool) → Plain
   Enter : (woken : Bool) → Plain
@@ -180,7 +183,8 @@ pub data Plain : Type 0 where
   Look : Plain
   Depart : (owns : Bool) → (taken : List ℕ) → Plain
   Finish : (owns : Bool) → Plain
-  -- a thread comes to move waiters of a condition variable here: it sets the parked bit if the mutex is locked, and goes again
+  -- a thread comes to move waiters of a condition variable here: it sets the parked bit if the mutex is locked, and
+  -- goes again
   Come : (owns : Bool) → Plain
   MarkParked : (owns : Bool) → Plain
   GoUnmarked : (owns : Bool) → Plain
@@ -336,17 +340,26 @@ doing p = record { owns = false; does = p }
 abbrev pub Allowed : ℕ → Step → Mutex → Type 0
 Allowed t (Alone k) m = (slice_get m.roles t ≡ Some (from k)) × May k m.word (λ c. total c m.roles)
 Allowed t Join m = slice_get m.roles t ≡ Some (doing Checked)
-Allowed t (Quit i) m = (slice_get m.roles t ≡ Some (doing (Queued Back))) × (slice_get m.queue i ≡ Some t) × (1 < length m.queue)
-Allowed t (QuitLast i) m = (slice_get m.roles t ≡ Some (doing (Queued Back))) × (slice_get m.queue i ≡ Some t) × (length m.queue ≡ 1)
-Allowed t (Requeue o v) m = (slice_get m.roles t ≡ Some (record { owns = o; does = Moves })) × (slice_get m.roles v ≡ Some away)
-Allowed t (Pull o v) m = (slice_get m.roles t ≡ Some (record { owns = o; does = Comes })) × (slice_get m.roles v ≡ Some away)
-Allowed t (Follow o v stay w) m = (slice_get m.roles t ≡ Some (record { owns = o; does = Stored (v ∷ []) })) × (slice_get m.roles v ≡ Some (doing (Taken t Normal stay))) × (slice_get m.roles w ≡ Some away)
-Allowed t (Take v stay) m = (slice_get m.roles t ≡ Some (doing (Unlocks []))) × (slice_get m.queue 0 ≡ Some v) × (slice_get m.roles v ≡ Some (doing (Queued stay)))
+Allowed t (Quit i) m = (slice_get m.roles t ≡ Some (doing (Queued Back))) × (slice_get m.queue i ≡ Some t)
+    × (1 < length m.queue)
+Allowed t (QuitLast i) m = (slice_get m.roles t ≡ Some (doing (Queued Back))) × (slice_get m.queue i ≡ Some t)
+    × (length m.queue ≡ 1)
+Allowed t (Requeue o v) m = (slice_get m.roles t ≡ Some (record { owns = o; does = Moves }))
+    × (slice_get m.roles v ≡ Some away)
+Allowed t (Pull o v) m = (slice_get m.roles t ≡ Some (record { owns = o; does = Comes }))
+    × (slice_get m.roles v ≡ Some away)
+Allowed t (Follow o v stay w) m = (slice_get m.roles t ≡ Some (record { owns = o; does = Stored (v ∷ []) }))
+    × (slice_get m.roles v ≡ Some (doing (Taken t Normal stay))) × (slice_get m.roles w ≡ Some away)
+Allowed t (Take v stay) m = (slice_get m.roles t ≡ Some (doing (Unlocks []))) × (slice_get m.queue 0 ≡ Some v)
+    × (slice_get m.roles v ≡ Some (doing (Queued stay)))
 Allowed t (Free taken) m = (slice_get m.roles t ≡ Some (doing (Unlocks taken))) × (taken ≡ [] → m.queue ≡ [])
 Allowed t (Hand v) m = slice_get m.roles t ≡ Some (doing (Unlocks (v ∷ [])))
-Allowed t (Wake o v us stay) m = (slice_get m.roles t ≡ Some (record { owns = o; does = Wakes (v ∷ us) })) × (slice_get m.roles v ≡ Some (doing (Taken t Normal stay))) × (inside stay ≡ 0)
-Allowed t (WakeOwner o v us stay) m = (slice_get m.roles t ≡ Some (record { owns = o; does = Wakes (v ∷ us) })) × (slice_get m.roles v ≡ Some (doing (Taken t Handed stay))) × (inside stay ≡ 0)
-Allowed t (Pass o ws v us) m = (slice_get m.roles t ≡ Some (record { owns = o; does = Wakes (ws ++ v ∷ us) })) × ((r : Role) (mark : Mark) → slice_get m.roles v ≡ Some r → note_of r ≢ Some (t, mark))
+Allowed t (Wake o v us stay) m = (slice_get m.roles t ≡ Some (record { owns = o; does = Wakes (v ∷ us) }))
+    × (slice_get m.roles v ≡ Some (doing (Taken t Normal stay))) × (inside stay ≡ 0)
+Allowed t (WakeOwner o v us stay) m = (slice_get m.roles t ≡ Some (record { owns = o; does = Wakes (v ∷ us) }))
+    × (slice_get m.roles v ≡ Some (doing (Taken t Handed stay))) × (inside stay ≡ 0)
+Allowed t (Pass o ws v us) m = (slice_get m.roles t ≡ Some (record { owns = o; does = Wakes (ws ++ v ∷ us) }))
+    × ((r : Role) (mark : Mark) → slice_get m.roles v ≡ Some r → note_of r ≢ Some (t, mark))
 
 -- the mutex after it
 abbrev pub after : ℕ → Step → Mutex → Mutex
@@ -355,13 +368,39 @@ after t Join m = record m { roles = slice_set m.roles t (doing (Queued Fresh)); 
 after t (Quit i) m = record m { roles = slice_set m.roles t (doing Leaves); queue = remove m.queue i }
 after t (QuitLast i) m = record m { roles = slice_set m.roles t (doing Masks); queue = remove m.queue i }
 after t (Requeue o v) m = record m { roles = slice_set m.roles v (doing (Queued Asleep)); queue = m.queue ++ v ∷ [] }
-after t (Pull o v) m = record m { roles = slice_set (slice_set m.roles t (record { owns = o; does = Stored (v ∷ []) })) v (doing (Taken t Normal Asleep)) }
-after t (Follow o v stay w) m = record m { word = record m.word { parked = 1 }; roles = slice_set m.roles w (doing (Queued Asleep)); queue = m.queue ++ w ∷ [] }
-after t (Take v stay) m = record m { roles = slice_set (slice_set m.roles t (doing (Unlocks (v ∷ [])))) v (doing (Taken t Open stay)); queue = remove m.queue 0 }
-after t (Free taken) m = record m { word = record { locked = 0; parked = are_left (length m.queue) }; roles = slice_set (map (settle Normal) m.roles) t (doing (Stored taken)) }
-after t (Hand v) m = record m { word = record { locked = 1; parked = are_left (length m.queue) }; roles = slice_set (map (settle Handed) m.roles) t (doing (Stored (v ∷ []))) }
-after t (Wake o v us stay) m = record m { roles = slice_set (slice_set m.roles v (doing (Seeks true))) t (record { owns = o; does = Wakes us }) }
-after t (WakeOwner o v us stay) m = record m { roles = slice_set (slice_set m.roles v (record { owns = true; does = Idle })) t (record { owns = o; does = Wakes us }) }
+after t (Pull o v) m =
+    record m {
+      roles = slice_set (slice_set m.roles t (record { owns = o; does = Stored (v ∷ []) })) v
+          (doing (Taken t Normal Asleep));
+    }
+after t (Follow o v stay w) m =
+    record m {
+      word = record m.word { parked = 1 };
+      roles = slice_set m.roles w (doing (Queued Asleep));
+      queue = m.queue ++ w ∷ [];
+    }
+after t (Take v stay) m =
+    record m {
+      roles = slice_set (slice_set m.roles t (doing (Unlocks (v ∷ [])))) v (doing (Taken t Open stay));
+      queue = remove m.queue 0;
+    }
+after t (Free taken) m =
+    record m {
+      word = record { locked = 0; parked = are_left (length m.queue) };
+      roles = slice_set (map (settle Normal) m.roles) t (doing (Stored taken));
+    }
+after t (Hand v) m =
+    record m {
+      word = record { locked = 1; parked = are_left (length m.queue) };
+      roles = slice_set (map (settle Handed) m.roles) t (doing (Stored (v ∷ [])));
+    }
+after t (Wake o v us stay) m =
+    record m { roles = slice_set (slice_set m.roles v (doing (Seeks true))) t (record { owns = o; does = Wakes us }) }
+after t (WakeOwner o v us stay) m =
+    record m {
+      roles = slice_set (slice_set m.roles v (record { owns = true; does = Idle })) t
+          (record { owns = o; does = Wakes us });
+    }
 after t (Pass o ws v us) m = record m { roles = slice_set m.roles t (record { owns = o; does = Wakes (ws ++ us) }) }
 
 -- any schedule, of any number of threads

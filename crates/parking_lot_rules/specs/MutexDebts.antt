@@ -1,10 +1,15 @@
 -- Who is in debt at a mutex, by the same words.
-use Rattle.std.specs.Prelude.{◌≡◌, ◌≢◌, ℕ, ◌<◌, Bool, true, false, ◌||◌, ◌⊎◌, List, [], ◌∷◌, ◌++◌, length, slice_get, Some, IsTrue}
+use Rattle.std.specs.Prelude.{◌≡◌, ◌≢◌, ℕ, ◌<◌, Bool, true, false, ◌||◌, ◌⊎◌, List, [], ◌∷◌, ◌++◌, length, slice_get}
+use Rattle.std.specs.Prelude.{Some, IsTrue}
 use Rattle.parking_lot_rules.specs.Roles.{Mark, Open, Normal, Handed}
 use Rattle.parking_lot_rules.specs.Classes.{bit}
 use Rattle.parking_lot_rules.specs.Lists.{occurs}
-use Rattle.parking_lot_rules.specs.Debts.{is_inside, is_up, and_up, passing, DebtChange, Begins, Ends, Remains, turned, begins_if, ends_without, by_crossing, where_same}
-use Rattle.parking_lot_rules.specs.Mutex.{Phase, Seeks, Enters, Checked, Queued, Taken, Masks, Leaves, Unlocks, Stored, Wakes, Comes, Moves, Role, Owning, weight, total, Mutex, Lock, Check, ExpireTaken, Resume, Depart, Step, Alone, Take, Hand, Wake, WakeOwner, Pass, Allowed, after, Runs, unlocked}
+use Rattle.parking_lot_rules.specs.Debts.{is_inside, is_up, and_up, passing, DebtChange, Begins, Ends, Remains, turned}
+use Rattle.parking_lot_rules.specs.Debts.{begins_if, ends_without, by_crossing, where_same}
+use Rattle.parking_lot_rules.specs.Mutex.{Phase, Seeks, Enters, Checked, Queued, Taken, Masks, Leaves, Unlocks, Stored}
+use Rattle.parking_lot_rules.specs.Mutex.{Wakes, Comes, Moves, Role, Owning, weight, total, Mutex, Lock, Check}
+use Rattle.parking_lot_rules.specs.Mutex.{ExpireTaken, Resume, Depart, Step, Alone, Take, Hand, Wake, WakeOwner, Pass}
+use Rattle.parking_lot_rules.specs.Mutex.{Allowed, after, Runs, unlocked}
 use Rattle.parking_lot_rules.specs.MutexLaws.{is_asleep}
 use Rattle.parking_lot_rules.specs.Any.{mutex_crossing}
 
@@ -72,30 +77,38 @@ retrying_other step u phase = Remains
 -- what a step does to whether its thread, and any other, owes or is about to try again
 pub record StepIsBooked (t : ℕ) (step : Step) (old new : Mutex) : Type 0 where
   pub mover : (a b : Role) → slice_get old.roles t ≡ Some a → slice_get new.roles t ≡ Some b
-      → (owes_section b.does ≡ turned (owing step) (owes_section a.does)) × (retries b.does ≡ turned (retrying step) (retries a.does))
+      → (owes_section b.does ≡ turned (owing step) (owes_section a.does))
+      × (retries b.does ≡ turned (retrying step) (retries a.does))
   pub others : (u : ℕ) (a b : Role) → u ≢ t → slice_get old.roles u ≡ Some a → slice_get new.roles u ≡ Some b
-      → (owes_section b.does ≡ owes_section a.does) × (retries b.does ≡ turned (retrying_other step u a.does) (retries a.does))
+      → (owes_section b.does ≡ owes_section a.does)
+      × (retries b.does ≡ turned (retrying_other step u a.does) (retries a.does))
 
 abbrev pub SomebodyIsInDebt : Mutex → Type 0
 SomebodyIsInDebt m = (u : ℕ) × (r : Role) × (slice_get m.roles u ≡ Some r) × IsTrue (is_in_debt r.does)
 
 -- some thread owns the mutex, and isn't asleep there
 abbrev pub SomebodyOwns : Mutex → Type 0
-SomebodyOwns m = (u : ℕ) × (r : Role) × (slice_get m.roles u ≡ Some r) × (0 < weight Owning r) × (is_asleep r.does ≡ false)
+SomebodyOwns m = (u : ℕ) × (r : Role) × (slice_get m.roles u ≡ Some r) × (0 < weight Owning r)
+    × (is_asleep r.does ≡ false)
 
--- Who is in debt begins and ends where it is said; the list has each of them once; where somebody waits and nobody owns the mutex it isn't
--- empty; where somebody sleeps it isn't, or the owner is awake; and an owner that goes while somebody waits is in debt then.
+-- Who is in debt begins and ends where it is said; the list has each of them once; where somebody waits and nobody owns
+-- the mutex it isn't empty; where somebody sleeps it isn't, or the owner is awake; and an owner that goes while
+-- somebody waits is in debt then.
 pub record MutexDebtsArePaid (m : Mutex) : Type 0 where
-  pub listed : (saw : ℕ → Bool) (u : ℕ) (r : Role) → slice_get m.roles u ≡ Some r → occurs u (debts saw m) ≡ bit (saw u || is_in_debt r.does)
+  pub listed : (saw : ℕ → Bool) (u : ℕ) (r : Role) → slice_get m.roles u ≡ Some r
+      → occurs u (debts saw m) ≡ bit (saw u || is_in_debt r.does)
   pub strangers : (saw : ℕ → Bool) (u : ℕ) → 0 < occurs u (debts saw m) → (r : Role) × (slice_get m.roles u ≡ Some r)
   pub waiters : 0 < length m.queue → total Owning m.roles ≡ 0 → SomebodyIsInDebt m
-  pub sleepers : (u : ℕ) (r : Role) → slice_get m.roles u ≡ Some r → IsTrue (is_asleep r.does) → SomebodyIsInDebt m ⊎ SomebodyOwns m
+  pub sleepers : (u : ℕ) (r : Role) → slice_get m.roles u ≡ Some r → IsTrue (is_asleep r.does) → SomebodyIsInDebt m
+      ⊎ SomebodyOwns m
 
 -- what a step of a sound mutex books, and passes on
 pub record MutexDebtsAreBooked (t : ℕ) (step : Step) (old new : Mutex) : Type 0 where
   pub booked : StepIsBooked t step old new
-  pub passed : (b : Role) → slice_get new.roles t ≡ Some b → 0 < length old.queue → 0 < total Owning old.roles → total Owning new.roles ≡ 0 → IsTrue (is_in_debt b.does)
+  pub passed : (b : Role) → slice_get new.roles t ≡ Some b → 0 < length old.queue → 0 < total Owning old.roles
+      → total Owning new.roles ≡ 0 → IsTrue (is_in_debt b.does)
 
 -- at every step of every run
 abbrev pub ThroughoutMutex : (ℕ → Step → Mutex → Mutex → Type 0) → Type 0
-ThroughoutMutex P = (threads : ℕ) (steps : List (ℕ × Step)) (m : Mutex) (t : ℕ) (step : Step) → Runs (unlocked threads) steps m → Allowed t step m → P t step m (after t step m)
+ThroughoutMutex P = (threads : ℕ) (steps : List (ℕ × Step)) (m : Mutex) (t : ℕ) (step : Step)
+    → Runs (unlocked threads) steps m → Allowed t step m → P t step m (after t step m)

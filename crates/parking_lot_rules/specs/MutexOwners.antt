@@ -2,7 +2,8 @@
 use Rattle.std.specs.Prelude.{◌≡◌, ℕ, Bool, true, false, List, [], ◌∷◌, ◌++◌, map, slice_get, slice_set, Some}
 use Rattle.std.specs.List.{remove}
 use Rattle.parking_lot_rules.specs.Roles.{Open, Handed}
-use Rattle.parking_lot_rules.specs.Mutex.{Phase, Queued, Taken, Unlocks, Role, Mutex, Step, Alone, Join, Quit, QuitLast, Requeue, Follow, Take, Free, Hand, Lock, Unlock, Allowed, after}
+use Rattle.parking_lot_rules.specs.Mutex.{Phase, Queued, Taken, Unlocks, Role, Mutex, Step, Alone, Join, Quit, QuitLast}
+use Rattle.parking_lot_rules.specs.Mutex.{Requeue, Follow, Take, Free, Hand, Lock, Unlock, Allowed, after}
 
 -- Where a thread stands: not in the list, in it, or taken off it and not told yet what for.
 pub data Stand : Type 0 where
@@ -79,12 +80,18 @@ abbrev pub IsCase : ℕ → Case → Owners → Owners → Type 0
 IsCase t Nothing a b = b ≡ a
 IsCase t Admit a b = At a t false Apart × NoOwner a × (b ≡ record a { threads = with_standing a.threads t true Apart })
 IsCase t Leave a b = At a t true Apart × (b ≡ record a { threads = with_standing a.threads t false Apart })
-IsCase t Enter a b = At a t false Apart × (b ≡ record a { threads = with_standing a.threads t false Waits; queue = a.queue ++ t ∷ [] })
-IsCase t (QuitList i) a b = At a t false Waits × (slice_get a.queue i ≡ Some t) × (b ≡ record a { threads = with_standing a.threads t false Apart; queue = remove a.queue i })
-IsCase t (Move v) a b = At a v false Apart × (b ≡ record a { threads = with_standing a.threads v false Waits; queue = a.queue ++ v ∷ [] })
-IsCase t (Choose v) a b = (slice_get a.queue 0 ≡ Some v) × At a v false Waits × (b ≡ record a { threads = with_standing a.threads v false Chosen; queue = remove a.queue 0 })
-IsCase t LeaveTelling a b = At a t true Apart × (b ≡ record a { threads = with_standing (map dismissed a.threads) t false Apart })
-IsCase t HandOver a b = At a t true Apart × (b ≡ record a { threads = with_standing (map appointed a.threads) t false Apart })
+IsCase t Enter a b = At a t false Apart
+    × (b ≡ record a { threads = with_standing a.threads t false Waits; queue = a.queue ++ t ∷ [] })
+IsCase t (QuitList i) a b = At a t false Waits × (slice_get a.queue i ≡ Some t)
+    × (b ≡ record a { threads = with_standing a.threads t false Apart; queue = remove a.queue i })
+IsCase t (Move v) a b = At a v false Apart
+    × (b ≡ record a { threads = with_standing a.threads v false Waits; queue = a.queue ++ v ∷ [] })
+IsCase t (Choose v) a b = (slice_get a.queue 0 ≡ Some v) × At a v false Waits
+    × (b ≡ record a { threads = with_standing a.threads v false Chosen; queue = remove a.queue 0 })
+IsCase t LeaveTelling a b = At a t true Apart
+    × (b ≡ record a { threads = with_standing (map dismissed a.threads) t false Apart })
+IsCase t HandOver a b = At a t true Apart
+    × (b ≡ record a { threads = with_standing (map appointed a.threads) t false Apart })
 
 -- the case of each step
 abbrev pub case_of : Step → Case
@@ -102,4 +109,5 @@ case_of step = Nothing
 
 -- each step is of its case, at every moment of every run
 abbrev pub StepsAreCases : Mutex → Type 0
-StepsAreCases m = (t : ℕ) (step : Step) → Allowed t step m → IsCase t (case_of step) (owners m) (owners (after t step m))
+StepsAreCases m = (t : ℕ) (step : Step) → Allowed t step m
+    → IsCase t (case_of step) (owners m) (owners (after t step m))

@@ -1,20 +1,27 @@
 -- A lock without its word: who owns it and how, and who waits in its two lists.
-use Rattle.std.specs.Prelude.{◌≡◌, ◌≢◌, ℕ, suc, ◌+◌, ◌<◌, ◌⊎◌, Bool, true, List, [], ◌∷◌, ◌++◌, map, slice_get, slice_set, Some}
+use Rattle.std.specs.Prelude.{◌≡◌, ◌≢◌, ℕ, suc, ◌+◌, ◌<◌, ◌⊎◌, Bool, true, List, [], ◌∷◌, ◌++◌, map, slice_get}
+use Rattle.std.specs.Prelude.{slice_set, Some}
 use Rattle.std.specs.List.{remove}
-use Rattle.parking_lot_rules.specs.Roles.{Mode, Shared, Exclusive, Upgradable, Owned, Shares, Excludes, Upgrades, Open, Handed, FromExclusive, FromUpgradable, Phase, Queued1, Taken1, Drains, Enters2, Checked2, Queued2, Taken2, Leaves2, Yields, Scans1, Role}
+use Rattle.parking_lot_rules.specs.Roles.{Mode, Shared, Exclusive, Upgradable, Owned, Shares, Excludes, Upgrades, Open}
+use Rattle.parking_lot_rules.specs.Roles.{Handed, FromExclusive, FromUpgradable, Phase, Queued1, Taken1, Drains}
+use Rattle.parking_lot_rules.specs.Roles.{Enters2, Checked2, Queued2, Taken2, Leaves2, Yields, Scans1, Role}
 use Rattle.parking_lot_rules.specs.Lock.{Lock}
-use Rattle.parking_lot_rules.specs.Plain.{Share, Pend, Drain, Upgradably, Exclude, Yield, YieldBack, Unshare, UnshareLast, Unlock, UnlockUpgradable, Downgrade, DowngradeToUpgradable, DowngradeUpgradable, Upgrade, UpgradeAtOnce}
-use Rattle.parking_lot_rules.specs.Steps.{Step, Alone, List_changes, Take1, Take2, Store, Join1, Join2, Quit1, QuitLast1, Quit2, Free, FreeUpgradable, Hand, HandUpgradable, Keep}
+use Rattle.parking_lot_rules.specs.Plain.{Share, Pend, Drain, Upgradably, Exclude, Yield, YieldBack, Unshare}
+use Rattle.parking_lot_rules.specs.Plain.{UnshareLast, Unlock, UnlockUpgradable, Downgrade, DowngradeToUpgradable}
+use Rattle.parking_lot_rules.specs.Plain.{DowngradeUpgradable, Upgrade, UpgradeAtOnce}
+use Rattle.parking_lot_rules.specs.Steps.{Step, Alone, List_changes, Take1, Take2, Store, Join1, Join2, Quit1}
+use Rattle.parking_lot_rules.specs.Steps.{QuitLast1, Quit2, Free, FreeUpgradable, Hand, HandUpgradable, Keep}
 
--- How a thread owns a lock: by a number of shared holds (0 is not at all), upgradably, exclusively but for readers that are to leave
--- first, or exclusively.
+-- How a thread owns a lock: by a number of shared holds (0 is not at all), upgradably, exclusively but for readers that
+-- are to leave first, or exclusively.
 pub data Owner : Type 0 where
   Reading : (holds : ℕ) → Owner
   Upgrading : Owner
   Awaiting : Owner
   Writing : Owner
 
--- Where it stands: in no list, in the first one with what it wants, in the second, or taken off the first one and not told yet what for.
+-- Where it stands: in no list, in the first one with what it wants, in the second, or taken off the first one and not
+-- told yet what for.
 pub data Stand : Type 0 where
   Apart : Stand
   Waits : (mode : Mode) → Stand
@@ -75,11 +82,13 @@ abbrev pub NoUpgrader : Owners → Type 0
 NoUpgrader a = (u : ℕ) (s : Standing) → slice_get a.threads u ≡ Some s → s.owner ≢ Upgrading
 
 abbrev pub NoReader : Owners → Type 0
-NoReader a = (u n : ℕ) (s : Standing) → slice_get a.threads u ≡ Some s → (s.owner ≢ Reading (suc n)) × (s.owner ≢ Upgrading)
+NoReader a = (u n : ℕ) (s : Standing) → slice_get a.threads u ≡ Some s → (s.owner ≢ Reading (suc n))
+    × (s.owner ≢ Upgrading)
 
 -- some owner reads, upgradable or not
 abbrev pub SomeReader : Owners → Type 0
-SomeReader a = (u : ℕ) × (s : Standing) × (slice_get a.threads u ≡ Some s) × (((n : ℕ) × (s.owner ≡ Reading (suc n))) ⊎ (s.owner ≡ Upgrading))
+SomeReader a = (u : ℕ) × (s : Standing) × (slice_get a.threads u ≡ Some s)
+    × (((n : ℕ) × (s.owner ≡ Reading (suc n))) ⊎ (s.owner ≡ Upgrading))
 
 -- What a step does: nothing to owners and lists, or one of these.
 pub data Case : Type 0 where
@@ -134,7 +143,8 @@ with_standing threads t o s = slice_set threads t (record { owner = o; stand = s
 
 -- those that stand before a waiter that is chosen want more than a shared hold
 abbrev pub ArePassedOver : Owners → ℕ → Type 0
-ArePassedOver a i = (j u : ℕ) (s : Standing) → j < i → slice_get a.first j ≡ Some u → slice_get a.threads u ≡ Some s → s.stand ≢ Waits Shared
+ArePassedOver a i = (j u : ℕ) (s : Standing) → j < i → slice_get a.first j ≡ Some u → slice_get a.threads u ≡ Some s
+    → s.stand ≢ Waits Shared
 
 -- what an owner may become without asking
 abbrev pub Converts : Owner → Owner → Type 0
@@ -154,31 +164,49 @@ Leaves from to = ⊥
 -- A step of thread t from the one state to the other, by its case. Nothing is said of the word.
 abbrev pub IsCase : Bool → ℕ → Case → Owners → Owners → Type 0
 IsCase recursive t Nothing a b = b ≡ a
-IsCase recursive t (Enter m) a b = At a t (Reading 0) Apart × (b ≡ record a { threads = with_standing a.threads t (Reading 0) (Waits m); first = a.first ++ t ∷ [] })
-IsCase recursive t EnterSecond a b = At a t Awaiting Apart × (b ≡ record a { threads = with_standing a.threads t Awaiting WaitsForReaders; second = a.second ++ t ∷ [] })
+IsCase recursive t (Enter m) a b = At a t (Reading 0) Apart
+    × (b ≡ record a { threads = with_standing a.threads t (Reading 0) (Waits m); first = a.first ++ t ∷ [] })
+IsCase recursive t EnterSecond a b = At a t Awaiting Apart
+    × (b ≡ record a { threads = with_standing a.threads t Awaiting WaitsForReaders; second = a.second ++ t ∷ [] })
 IsCase recursive t (Quit m i) a b =
-    At a t (Reading 0) (Waits m) × (slice_get a.first i ≡ Some t) × (b ≡ record a { threads = with_standing a.threads t (Reading 0) Apart; first = remove a.first i })
+    At a t (Reading 0) (Waits m) × (slice_get a.first i ≡ Some t)
+    × (b ≡ record a { threads = with_standing a.threads t (Reading 0) Apart; first = remove a.first i })
 IsCase recursive t (QuitSecond i) a b =
-    At a t Awaiting WaitsForReaders × (slice_get a.second i ≡ Some t) × (b ≡ record a { threads = with_standing a.threads t Awaiting Apart; second = remove a.second i })
+    At a t Awaiting WaitsForReaders × (slice_get a.second i ≡ Some t)
+    × (b ≡ record a { threads = with_standing a.threads t Awaiting Apart; second = remove a.second i })
 IsCase recursive t (AdmitShared n) a b =
-    At a t (Reading n) Apart × (NoWriter a ⊎ ((recursive ≡ true) × SomeReader a)) × (b ≡ record a { threads = with_standing a.threads t (Reading (n + 1)) Apart })
-IsCase recursive t AdmitPending a b = At a t (Reading 0) Apart × NoWriter a × NoUpgrader a × (b ≡ record a { threads = with_standing a.threads t Awaiting Apart })
-IsCase recursive t AdmitExclusive a b = At a t Awaiting Apart × NoReader a × (b ≡ record a { threads = with_standing a.threads t Writing Apart })
-IsCase recursive t AdmitAtOnce a b = At a t (Reading 0) Apart × NoWriter a × NoReader a × (b ≡ record a { threads = with_standing a.threads t Writing Apart })
-IsCase recursive t AdmitUpgradable a b = At a t (Reading 0) Apart × NoWriter a × NoUpgrader a × (b ≡ record a { threads = with_standing a.threads t Upgrading Apart })
-IsCase recursive t (Convert from to) a b = At a t from Apart × Converts from to × (b ≡ record a { threads = with_standing a.threads t to Apart })
-IsCase recursive t ConvertAlone a b =
-    At a t Upgrading Apart × ((u n : ℕ) (s : Standing) → u ≢ t → slice_get a.threads u ≡ Some s → (s.owner ≢ Reading (suc n)) × (s.owner ≢ Upgrading))
+    At a t (Reading n) Apart × (NoWriter a ⊎ ((recursive ≡ true) × SomeReader a))
+    × (b ≡ record a { threads = with_standing a.threads t (Reading (n + 1)) Apart })
+IsCase recursive t AdmitPending a b = At a t (Reading 0) Apart × NoWriter a × NoUpgrader a
+    × (b ≡ record a { threads = with_standing a.threads t Awaiting Apart })
+IsCase recursive t AdmitExclusive a b = At a t Awaiting Apart × NoReader a
     × (b ≡ record a { threads = with_standing a.threads t Writing Apart })
-IsCase recursive t (Leave from to) a b = At a t from Apart × Leaves from to × (b ≡ record a { threads = with_standing a.threads t to Apart })
-IsCase recursive t (GiveUp to) a b = At a t Awaiting Apart × ((to ≡ Reading 0) ⊎ (to ≡ Upgrading)) × (b ≡ record a { threads = with_standing a.threads t to Apart })
+IsCase recursive t AdmitAtOnce a b = At a t (Reading 0) Apart × NoWriter a × NoReader a
+    × (b ≡ record a { threads = with_standing a.threads t Writing Apart })
+IsCase recursive t AdmitUpgradable a b = At a t (Reading 0) Apart × NoWriter a × NoUpgrader a
+    × (b ≡ record a { threads = with_standing a.threads t Upgrading Apart })
+IsCase recursive t (Convert from to) a b = At a t from Apart × Converts from to
+    × (b ≡ record a { threads = with_standing a.threads t to Apart })
+IsCase recursive t ConvertAlone a b =
+    At a t Upgrading Apart
+    × ((u n : ℕ) (s : Standing) → u ≢ t → slice_get a.threads u ≡ Some s → (s.owner ≢ Reading (suc n))
+    × (s.owner ≢ Upgrading))
+    × (b ≡ record a { threads = with_standing a.threads t Writing Apart })
+IsCase recursive t (Leave from to) a b = At a t from Apart × Leaves from to
+    × (b ≡ record a { threads = with_standing a.threads t to Apart })
+IsCase recursive t (GiveUp to) a b = At a t Awaiting Apart × ((to ≡ Reading 0) ⊎ (to ≡ Upgrading))
+    × (b ≡ record a { threads = with_standing a.threads t to Apart })
 IsCase recursive t (Choose i v m) a b =
-    (slice_get a.first i ≡ Some v) × At a v (Reading 0) (Waits m) × ArePassedOver a i × (b ≡ record a { threads = with_standing a.threads v (Reading 0) (Chosen m); first = remove a.first i })
+    (slice_get a.first i ≡ Some v) × At a v (Reading 0) (Waits m) × ArePassedOver a i
+    × (b ≡ record a { threads = with_standing a.threads v (Reading 0) (Chosen m); first = remove a.first i })
 IsCase recursive t (Rouse v) a b =
-    (slice_get a.second 0 ≡ Some v) × At a v Awaiting WaitsForReaders × (b ≡ record a { threads = with_standing a.threads v Awaiting Apart; second = remove a.second 0 })
+    (slice_get a.second 0 ≡ Some v) × At a v Awaiting WaitsForReaders
+    × (b ≡ record a { threads = with_standing a.threads v Awaiting Apart; second = remove a.second 0 })
 IsCase recursive t Tell a b = b ≡ record a { threads = map dismissed a.threads }
-IsCase recursive t (LeaveTelling from) a b = At a t from Apart × Leaves from (Reading 0) × (b ≡ record a { threads = with_standing (map dismissed a.threads) t (Reading 0) Apart })
-IsCase recursive t (HandOver from) a b = At a t from Apart × Leaves from (Reading 0) × (b ≡ record a { threads = with_standing (map appointed a.threads) t (Reading 0) Apart })
+IsCase recursive t (LeaveTelling from) a b = At a t from Apart × Leaves from (Reading 0)
+    × (b ≡ record a { threads = with_standing (map dismissed a.threads) t (Reading 0) Apart })
+IsCase recursive t (HandOver from) a b = At a t from Apart × Leaves from (Reading 0)
+    × (b ≡ record a { threads = with_standing (map appointed a.threads) t (Reading 0) Apart })
 
 -- the case of each step
 abbrev pub case_of : Step → Case

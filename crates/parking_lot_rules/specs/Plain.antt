@@ -1,6 +1,10 @@
 -- The steps that change nothing but the word and the role of the thread that makes them.
 use Rattle.std.specs.Prelude.{◌≡◌, ◌≢◌, ℕ, ◌+◌, ◌-◌, ◌<◌, Bool, true, false, ◌⊎◌, List, [], if◌then◌else◌}
-use Rattle.parking_lot_rules.specs.Roles.{Mode, Shared, Exclusive, Upgradable, Owned, Shares, Excludes, Upgrades, Fresh, Asleep, Late, Back, Mark, Normal, Handed, FromExclusive, FromUpgradable, Owed, Idle, Seeks, Enters1, Checked1, Queued1, Taken1, Masks1, Leaves1, Drains, Enters2, Checked2, Queued2, Taken2, Leaves2, Yields, Owes1, Scans1, Stored1, Owes2, Scans2, Masked2, Wakes, Role}
+use Rattle.parking_lot_rules.specs.Roles.{Mode, Shared, Exclusive, Upgradable, Owned, Shares, Excludes, Upgrades, Fresh}
+use Rattle.parking_lot_rules.specs.Roles.{Asleep, Late, Back, Mark, Normal, Handed, FromExclusive, FromUpgradable, Owed}
+use Rattle.parking_lot_rules.specs.Roles.{Idle, Seeks, Enters1, Checked1, Queued1, Taken1, Masks1, Leaves1, Drains}
+use Rattle.parking_lot_rules.specs.Roles.{Enters2, Checked2, Queued2, Taken2, Leaves2, Yields, Owes1, Scans1, Stored1}
+use Rattle.parking_lot_rules.specs.Roles.{Owes2, Scans2, Masked2, Wakes, Role}
 use Rattle.parking_lot_rules.specs.Classes.{Class, Inside1, Inside2, Waiting2, bit}
 use Rattle.parking_lot_rules.specs.Clauses.{Word}
 
@@ -14,7 +18,8 @@ pub data Plain : Type 0 where
   Drain : (from : Bool) → (woken : Bool) → Plain
   Upgradably : (woken : Bool) → Plain
   Exclude : Plain
-  -- waiting on the first key: the parked bit, the section, its check, and back out of it, with or without a place in the list
+  -- waiting on the first key: the parked bit, the section, its check, and back out of it, with or without a place in
+  -- the list
   Flag1 : (mode : Mode) → (woken : Bool) → Plain
   Enter1 : (mode : Mode) → (woken : Bool) → Plain
   Check1 : (mode : Mode) → (woken : Bool) → Plain

@@ -1,8 +1,13 @@
 -- The steps that change a list, or the place of another thread; and all steps together.
-use Rattle.std.specs.Prelude.{◌≡◌, ◌≢◌, ℕ, zero, suc, ◌+◌, ◌-◌, ◌<◌, Bool, true, false, ◌⊎◌, List, [], ◌∷◌, ◌++◌, length, map, slice_get, slice_set, Some}
+use Rattle.std.specs.Prelude.{◌≡◌, ◌≢◌, ℕ, zero, suc, ◌+◌, ◌-◌, ◌<◌, Bool, true, false, ◌⊎◌, List, [], ◌∷◌, ◌++◌}
+use Rattle.std.specs.Prelude.{length, map, slice_get, slice_set, Some}
 use Rattle.std.specs.List.{remove}
-use Rattle.parking_lot_rules.specs.Roles.{Mode, Shared, Exclusive, Upgradable, Owned, Shares, Excludes, Upgrades, Stay, Fresh, Back, Mark, Open, Normal, Handed, Cause, FromExclusive, FromUpgradable, Owed, Phase, Idle, Seeks, Checked1, Queued1, Taken1, Masks1, Leaves1, Drains, Checked2, Queued2, Taken2, Leaves2, Scans1, Stored1, Scans2, Wakes, Role}
-use Rattle.parking_lot_rules.specs.Classes.{Class, Readers, Upgraders, Pending, Called, OpenReaders, OpenUpgraders, OpenWriters, total, bit, inside}
+use Rattle.parking_lot_rules.specs.Roles.{Mode, Shared, Exclusive, Upgradable, Owned, Shares, Excludes, Upgrades, Stay}
+use Rattle.parking_lot_rules.specs.Roles.{Fresh, Back, Mark, Open, Normal, Handed, Cause, FromExclusive, FromUpgradable}
+use Rattle.parking_lot_rules.specs.Roles.{Owed, Phase, Idle, Seeks, Checked1, Queued1, Taken1, Masks1, Leaves1, Drains}
+use Rattle.parking_lot_rules.specs.Roles.{Checked2, Queued2, Taken2, Leaves2, Scans1, Stored1, Scans2, Wakes, Role}
+use Rattle.parking_lot_rules.specs.Classes.{Class, Readers, Upgraders, Pending, Called, OpenReaders, OpenUpgraders}
+use Rattle.parking_lot_rules.specs.Classes.{OpenWriters, total, bit, inside}
 use Rattle.parking_lot_rules.specs.Clauses.{Word}
 use Rattle.parking_lot_rules.specs.Plain.{Plain, from, to, May, written}
 use Rattle.parking_lot_rules.specs.Lock.{Lock, Note, note_of}
@@ -52,7 +57,8 @@ second_after (Quit1 m i) t second = second
 second_after (QuitLast1 m i) t second = second
 second_after (Quit2 f i) t second = remove second i
 
--- What one that goes through the first list does at a waiter, by whether those it has taken want the upgradable hold or a writer's.
+-- What one that goes through the first list does at a waiter, by whether those it has taken want the upgradable hold or
+-- a writer's.
 pub data Look : Type 0 where
   Stop : Look
   Skip : Look
@@ -80,7 +86,8 @@ wants phase = Shared
 
 -- the first i waiters of a list are skipped
 abbrev pub AreSkipped : Bool → Bool → List Role → List ℕ → ℕ → Type 0
-AreSkipped upgradable writer roles q i = (j u : ℕ) (r : Role) → j < i → slice_get q j ≡ Some u → slice_get roles u ≡ Some r → look upgradable writer (wants r.does) ≡ Skip
+AreSkipped upgradable writer roles q i = (j u : ℕ) (r : Role) → j < i → slice_get q j ≡ Some u
+    → slice_get roles u ≡ Some r → look upgradable writer (wants r.does) ≡ Skip
 
 -- One that goes through the first list, what it owns and has taken so far.
 pub record Scan : Type 0 where
@@ -158,12 +165,15 @@ abbrev pub kept : ℕ → ℕ → ℕ
 kept zero bit = 0
 kept (suc n) bit = bit
 
--- the word that is stored, where so many shared waiters, an upgradable one and a writer were taken, and so many waiters are left
+-- the word that is stored, where so many shared waiters, an upgradable one and a writer were taken, and so many waiters
+-- are left
 abbrev pub stored : Ending → (shared : ℕ) → (upgradable writer : Bool) → (left : ℕ) → Word → Word
 stored Free r u x n w = record { readers = 0; writer = 0; upgradable = 0; parked2 = 0; parked1 = are_left n }
 stored FreeUpgradable r u x n w = record w { readers = w.readers - 1; upgradable = 0; parked1 = kept n w.parked1 }
-stored Hand r u x n w = record { readers = r + bit u; writer = bit x; upgradable = bit u; parked2 = 0; parked1 = are_left n }
-stored HandUpgradable r u x n w = record w { readers = w.readers - 1 + r + bit u; writer = bit x; upgradable = bit u; parked1 = are_left n }
+stored Hand r u x n w =
+    record { readers = r + bit u; writer = bit x; upgradable = bit u; parked2 = 0; parked1 = are_left n }
+stored HandUpgradable r u x n w =
+    record w { readers = w.readers - 1 + r + bit u; writer = bit x; upgradable = bit u; parked1 = are_left n }
 stored Keep r u x n w = record w { parked1 = kept n w.parked1 }
 
 -- what a thread learns that was taken and not told yet
@@ -188,7 +198,8 @@ settled Handed n OpenUpgraders = 0
 settled Handed n OpenWriters = 0
 settled mark n c = n c
 
--- What a thread that is woken goes on with: it tries again, or owns what was handed over, or looks again as the pending writer.
+-- What a thread that is woken goes on with: it tries again, or owns what was handed over, or looks again as the pending
+-- writer.
 pub data Waking : Type 0 where
   Retry : (mode : Mode) → Waking
   Own : Waking
@@ -226,32 +237,43 @@ pub data Step : Type 0 where
 abbrev pub Allowed : Bool → ℕ → Step → Lock → Type 0
 Allowed recursive t (Alone k) l = (slice_get l.roles t ≡ Some (from k)) × May recursive k l.word (λ c. total c l.roles)
 Allowed recursive t (List_changes k) l = (slice_get l.roles t ≡ Some (listing_from k)) × MayList k t l.first l.second
-Allowed recursive t (Take1 s i v m stay) l = (slice_get l.roles t ≡ Some (scanning s)) × MayTake s i v m stay l.roles l.first
+Allowed recursive t (Take1 s i v m stay) l = (slice_get l.roles t ≡ Some (scanning s))
+    × MayTake s i v m stay l.roles l.first
 Allowed recursive t (Take2 o v f stay) l =
     (slice_get l.roles t ≡ Some (record { owns = o; does = Scans2 [] })) × (slice_get l.second 0 ≡ Some v)
     × (slice_get l.roles v ≡ Some (record { owns = Shares 0; does = Queued2 f stay }))
 Allowed recursive t (Store e s) l =
     (slice_get l.roles t ≡ Some (scanning s)) × (s.cause ≡ ends_for e) × MayEnd e s.taken × IsOver s l.roles l.first
 Allowed recursive t (Wake o v us k stay) l =
-    (slice_get l.roles t ≡ Some (record { owns = o; does = Wakes (v ∷ us) })) × (slice_get l.roles v ≡ Some (waking_from k t stay)) × (inside stay ≡ 0)
+    (slice_get l.roles t ≡ Some (record { owns = o; does = Wakes (v ∷ us) }))
+    × (slice_get l.roles v ≡ Some (waking_from k t stay)) × (inside stay ≡ 0)
 Allowed recursive t (Pass o ws v us) l =
-    (slice_get l.roles t ≡ Some (record { owns = o; does = Wakes (ws ++ v ∷ us) })) × ((r : Role) (note : Note) → slice_get l.roles v ≡ Some r → note_of r.does ≢ Some (t, note))
+    (slice_get l.roles t ≡ Some (record { owns = o; does = Wakes (ws ++ v ∷ us) }))
+    × ((r : Role) (note : Note) → slice_get l.roles v ≡ Some r → note_of r.does ≢ Some (t, note))
 
 -- the lock after the step
 abbrev pub after : ℕ → Step → Lock → Lock
 after t (Alone k) l = record l { word = written k l.word; roles = slice_set l.roles t (to k) }
-after t (List_changes k) l = record l { roles = slice_set l.roles t (listing_to k); first = first_after k t l.first; second = second_after k t l.second }
+after t (List_changes k) l =
+    record l {
+      roles = slice_set l.roles t (listing_to k);
+      first = first_after k t l.first;
+      second = second_after k t l.second;
+    }
 after t (Take1 s i v m stay) l = record l {
-  roles = slice_set (slice_set l.roles t (scanning (taking s v m))) v (record { owns = Shares 0; does = Taken1 m t Open stay });
+  roles = slice_set (slice_set l.roles t (scanning (taking s v m))) v
+      (record { owns = Shares 0; does = Taken1 m t Open stay });
   first = remove l.first i;
 }
 after t (Take2 o v f stay) l = record l {
-  roles = slice_set (slice_set l.roles t (record { owns = o; does = Scans2 (v ∷ []) })) v (record { owns = Shares 0; does = Taken2 f t stay });
+  roles = slice_set (slice_set l.roles t (record { owns = o; does = Scans2 (v ∷ []) })) v
+      (record { owns = Shares 0; does = Taken2 f t stay });
   second = remove l.second 0;
 }
 after t (Store e s) l = record l {
   word = stored e s.shared s.upgradable s.writer (length l.first) l.word;
   roles = slice_set (map (settle (ends_saying e)) l.roles) t (record { owns = s.owns; does = Stored1 s.taken });
 }
-after t (Wake o v us k stay) l = record l { roles = slice_set (slice_set l.roles v (waking_to k)) t (record { owns = o; does = Wakes us }) }
+after t (Wake o v us k stay) l =
+    record l { roles = slice_set (slice_set l.roles v (waking_to k)) t (record { owns = o; does = Wakes us }) }
 after t (Pass o ws v us) l = record l { roles = slice_set l.roles t (record { owns = o; does = Wakes (ws ++ us) }) }

@@ -1,5 +1,6 @@
 -- Tries: a load, and then a limited number of exchanges.
-use Rattle.std.specs.Prelude.{◌≡◌, ◌≢◌, ℕ, zero, suc, ◌+◌, ◌<◌, ◌≤◌, ◌⊎◌, Bool, false, ◌==◌, List, [], ◌∷◌, length, slice_get, Some}
+use Rattle.std.specs.Prelude.{◌≡◌, ◌≢◌, ℕ, zero, suc, ◌+◌, ◌<◌, ◌≤◌, ◌⊎◌, Bool, false, ◌==◌, List, [], ◌∷◌, length}
+use Rattle.std.specs.Prelude.{slice_get, Some}
 use Rattle.std.specs.List.{count_by}
 use Rattle.parking_lot_rules.specs.Roles.{Shared, Exclusive, Upgradable, Shares, Upgrades, Idle, Seeks, Role, away}
 use Rattle.parking_lot_rules.specs.Classes.{Readers, Upgraders, Pending, Writers}
@@ -16,13 +17,16 @@ pub record Interference (W E : Type 0) : Type 0 where
   pub steps : List E
   pub next : W
 
--- A try that has seen the word where it stands, and has so many exchanges left, is refused: that word keeps it out; or no exchange is left; or
--- others make steps, its exchange is lost, since the word is another one by then, and the try goes on with the word that it saw.
-abbrev pub IsRefused : {W E V : Type 0} → (W → List E → W → Type 0) → (W → V) → (V → Type 0) → ℕ → W → List (Interference W E) → Type 0
+-- A try that has seen the word where it stands, and has so many exchanges left, is refused: that word keeps it out; or
+-- no exchange is left; or others make steps, its exchange is lost, since the word is another one by then, and the try
+-- goes on with the word that it saw.
+abbrev pub IsRefused : {W E V : Type 0} → (W → List E → W → Type 0) → (W → V) → (V → Type 0) → ℕ → W
+    → List (Interference W E) → Type 0
 IsRefused make word out zero w [] = Unit {0}
 IsRefused make word out zero w (s ∷ stages) = ⊥
 IsRefused make word out (suc n) w [] = out (word w)
-IsRefused make word out (suc n) w (s ∷ stages) = make w s.steps s.next × (word s.next ≢ word w) × IsRefused make word out n s.next stages
+IsRefused make word out (suc n) w (s ∷ stages) = make w s.steps s.next × (word s.next ≢ word w)
+    × IsRefused make word out n s.next stages
 
 -- how much all stages count together
 abbrev pub in_all : {W E : Type 0} → (List E → ℕ) → List (Interference W E) → ℕ
@@ -57,8 +61,8 @@ trying TryExclusive n = record { owns = Shares 0; does = Seeks Exclusive false }
 trying TryUpgradable n = record { owns = Shares 0; does = Seeks Upgradable false }
 trying TryUpgrade n = record { owns = Upgrades; does = Idle }
 
--- another thread keeps it out: an exclusive or pending owner; any thread that owns the lock or is in a call there; one of these or an
--- upgradable owner; another reader
+-- another thread keeps it out: an exclusive or pending owner; any thread that owns the lock or is in a call there; one
+-- of these or an upgradable owner; another reader
 abbrev pub Cause : Tried → Lock → ℕ → Type 0
 Cause TryShared l t = (u : ℕ) × (u ≢ t) × (0 < holds Pending l u + holds Writers l u)
 Cause TryExclusive l t = (u : ℕ) × (r : Role) × (u ≢ t) × (slice_get l.roles u ≡ Some r) × (r ≢ away)
@@ -77,12 +81,15 @@ others_run bucket recursive t w ms v = Runs bucket recursive w ms v × AreOthers
 abbrev pub moves_at : ℕ → List Move → ℕ
 moves_at i ms = count_by (λ (m : Move). m.lock == i) ms
 
--- A try that is refused saw, at some moment, a word that kept it out, and some other thread is the cause at that moment; or other threads made
--- as many moves at that lock during the try as it has exchanges.
+-- A try that is refused saw, at some moment, a word that kept it out, and some other thread is the cause at that
+-- moment; or other threads made as many moves at that lock during the try as it has exchanges.
 abbrev pub RefusedTriesHaveACause : Type 0
-RefusedTriesHaveACause = (bucket : ℕ → ℕ) (recursive : ℕ → Bool) (w : World) (i t n : ℕ) (tried : Tried) (stages : List (Interference World Move)) → IsReached bucket recursive w
-    → slice_get (lock_at w i).roles t ≡ Some (trying tried n) → IsRefused (others_run bucket recursive t) (λ (v : World). v.words i) (KeepsOut (recursive i) tried) (limit tried) w stages
-    → ((v : World) × IsReached bucket recursive v × KeepsOut (recursive i) tried (v.words i) × Cause tried (lock_at v i) t) ⊎ (limit tried ≤ in_all (moves_at i) stages)
+RefusedTriesHaveACause = (bucket : ℕ → ℕ) (recursive : ℕ → Bool) (w : World) (i t n : ℕ) (tried : Tried)
+    (stages : List (Interference World Move)) → IsReached bucket recursive w
+    → slice_get (lock_at w i).roles t ≡ Some (trying tried n) → IsRefused (others_run bucket recursive t)
+    (λ (v : World). v.words i) (KeepsOut (recursive i) tried) (limit tried) w stages
+    → ((v : World) × IsReached bucket recursive v × KeepsOut (recursive i) tried (v.words i)
+    × Cause tried (lock_at v i) t) ⊎ (limit tried ≤ in_all (moves_at i) stages)
 
 -- a mutex: the steps are all at it
 abbrev pub AreOthersThere : ℕ → List (ℕ × mutex.Step) → Type 0
@@ -100,6 +107,7 @@ IsReachedMutex m = (threads : ℕ) × (steps : List (ℕ × mutex.Step)) × mute
 
 -- A try at a mutex that is refused saw an owner, another thread; or others made 64 steps there during it.
 abbrev pub RefusedTriesAtAMutexHaveACause : Type 0
-RefusedTriesAtAMutexHaveACause = (m : Mutex) (t : ℕ) (stages : List (Interference Mutex (ℕ × mutex.Step))) → IsReachedMutex m → slice_get m.roles t ≡ Some (mutex.doing (mutex.Seeks false))
+RefusedTriesAtAMutexHaveACause = (m : Mutex) (t : ℕ) (stages : List (Interference Mutex (ℕ × mutex.Step)))
+    → IsReachedMutex m → slice_get m.roles t ≡ Some (mutex.doing (mutex.Seeks false))
     → IsRefused (others_run_there t) (λ (v : Mutex). v.word) (λ (w : mutex.Word). 0 < w.locked) 64 m stages
     → ((v : Mutex) × IsReachedMutex v × (0 < v.word.locked) × OwnerOf v t) ⊎ (64 ≤ in_all (λ es. length es) stages)

@@ -1,6 +1,8 @@
--- The rules of a condition variable: the list of those that wait for it, and the mutex that they wait with. Whoever waits stands here under a
--- number of its own, apart from its thread's: the thread is still to give up the mutex then, while another may already move the waiter.
-use Rattle.std.specs.Prelude.{◌≡◌, ◌≢◌, ℕ, ◌+◌, ◌<◌, ◌≤◌, ◌⊎◌, List, [], ◌∷◌, ◌++◌, replicate, slice_get, slice_set, Some}
+-- The rules of a condition variable: the list of those that wait for it, and the mutex that they wait with. Whoever
+-- waits stands here under a number of its own, apart from its thread's: the thread is still to give up the mutex then,
+-- while another may already move the waiter.
+use Rattle.std.specs.Prelude.{◌≡◌, ◌≢◌, ℕ, ◌+◌, ◌<◌, ◌≤◌, ◌⊎◌, List, [], ◌∷◌, ◌++◌, replicate, slice_get, slice_set}
+use Rattle.std.specs.Prelude.{Some}
 use Rattle.std.specs.List.{sum_by, remove}
 use Rattle.parking_lot_rules.specs.Roles.{Stay, Fresh, Asleep, Late, Back}
 use Rattle.parking_lot_rules.specs.Classes.{inside}
@@ -151,7 +153,8 @@ abbrev pub Allowed : ℕ → Step → Variable → Type 0
 Allowed t (Alone k) v = (slice_get v.phases t ≡ Some (from k)) × May k v.word (λ c. total c v.phases)
 Allowed t (Join k) v = slice_get v.phases t ≡ Some (Checked k)
 Allowed t (Quit k i) v = (slice_get v.phases t ≡ Some (Queued k Back)) × (slice_get v.queue i ≡ Some t)
-Allowed t (Release u k stay) v = (slice_get v.phases t ≡ Some Notifies) × (slice_get v.queue 0 ≡ Some u) × (slice_get v.phases u ≡ Some (Queued k stay)) × (inside stay ≡ 0)
+Allowed t (Release u k stay) v = (slice_get v.phases t ≡ Some Notifies) × (slice_get v.queue 0 ≡ Some u)
+    × (slice_get v.phases u ≡ Some (Queued k stay)) × (inside stay ≡ 0)
 
 abbrev pub after : ℕ → Step → Variable → Variable
 after t (Alone k) v = record v { word = written k v.word; phases = slice_set v.phases t (to k) }

@@ -1,10 +1,13 @@
 -- Threads and locks: each thread is at one lock at a time, and may own many.
-use Rattle.std.specs.Prelude.{◌≡◌, ℕ, zero, suc, Bool, true, false, ◌⊎◌, if◌then◌else◌, ◌==◌, List, [], ◌∷◌, ◌++◌, map, Option, slice_get, Some}
-use Rattle.parking_lot_rules.specs.Roles.{Owned, Shares, Mark, Open, Phase, Idle, Taken1, Taken2, Scans2, Stored1, Wakes, Role}
+use Rattle.std.specs.Prelude.{◌≡◌, ℕ, zero, suc, Bool, true, false, ◌⊎◌, if◌then◌else◌, ◌==◌, List, [], ◌∷◌, ◌++◌, map}
+use Rattle.std.specs.Prelude.{Option, slice_get, Some}
+use Rattle.parking_lot_rules.specs.Roles.{Owned, Shares, Mark, Open, Phase, Idle, Taken1, Taken2, Scans2, Stored1}
+use Rattle.parking_lot_rules.specs.Roles.{Wakes, Role}
 use Rattle.parking_lot_rules.specs.Clauses.{Word}
 use Rattle.parking_lot_rules.specs.Lock.{Lock}
 use Rattle.parking_lot_rules.specs.Plain.{to}
-use Rattle.parking_lot_rules.specs.Steps.{Step, Alone, List_changes, Take1, Take2, Store, Wake, Pass, Allowed, after, listing_to, scanning, taking, ends_saying, waking_to}
+use Rattle.parking_lot_rules.specs.Steps.{Step, Alone, List_changes, Take1, Take2, Store, Wake, Pass, Allowed, after}
+use Rattle.parking_lot_rules.specs.Steps.{listing_to, scanning, taking, ends_saying, waking_to}
 use Rattle.parking_lot_rules.specs.Family.{First, Second, key, crossing, Family, put, IsFree, entered_after}
 
 -- What a thread owns of each lock, which lock it is at, and what it is doing there.
@@ -30,7 +33,12 @@ role_at i p = record { owns = p.owns i; does = seen (p.at == i) p.does }
 
 -- one lock of the world
 abbrev pub lock_at : World → ℕ → Lock
-lock_at w i = record { word = w.words i; roles = map (role_at i) w.places; first = w.queues (key i First); second = w.queues (key i Second) }
+lock_at w i = record {
+  word = w.words i;
+  roles = map (role_at i) w.places;
+  first = w.queues (key i First);
+  second = w.queues (key i Second);
+}
 
 abbrev pub family : World → Family Lock
 family w = record { locks = lock_at w; entered = w.entered }
@@ -58,30 +66,35 @@ heard false t mark phase = phase
 abbrev pub tell : ℕ → ℕ → Mark → Place → Place
 tell j t mark p = record p { does = heard (p.at == j) t mark p.does }
 
--- The places once thread t has made a step at lock j: its own changes, and that of a thread that it takes or wakes, or those of all
--- that it tells.
+-- The places once thread t has made a step at lock j: its own changes, and that of a thread that it takes or wakes, or
+-- those of all that it tells.
 abbrev pub places_after : ℕ → ℕ → Step → List Place → List Place
 places_after j t (Alone k) ps = change (with_role j (to k)) ps t
 places_after j t (List_changes k) ps = change (with_role j (listing_to k)) ps t
 places_after j t (Take1 s i v m stay) ps =
-    change (with_role j (record { owns = Shares 0; does = Taken1 m t Open stay })) (change (with_role j (scanning (taking s v m))) ps t) v
+    change (with_role j (record { owns = Shares 0; does = Taken1 m t Open stay }))
+    (change (with_role j (scanning (taking s v m))) ps t) v
 places_after j t (Take2 o v f stay) ps =
-    change (with_role j (record { owns = Shares 0; does = Taken2 f t stay })) (change (with_role j (record { owns = o; does = Scans2 (v ∷ []) })) ps t) v
-places_after j t (Store e s) ps = change (with_role j (record { owns = s.owns; does = Stored1 s.taken })) (map (tell j t (ends_saying e)) ps) t
-places_after j t (Wake o v us k stay) ps = change (with_role j (record { owns = o; does = Wakes us })) (change (with_role j (waking_to k)) ps v) t
+    change (with_role j (record { owns = Shares 0; does = Taken2 f t stay }))
+    (change (with_role j (record { owns = o; does = Scans2 (v ∷ []) })) ps t) v
+places_after j t (Store e s) ps = change (with_role j (record { owns = s.owns; does = Stored1 s.taken }))
+    (map (tell j t (ends_saying e)) ps) t
+places_after j t (Wake o v us k stay) ps = change (with_role j (record { owns = o; does = Wakes us }))
+    (change (with_role j (waking_to k)) ps v) t
 places_after j t (Pass o ws v us) ps = change (with_role j (record { owns = o; does = Wakes (ws ++ us) })) ps t
 
 -- the world after it; `bucket` says which bucket a key is in
 abbrev pub world_after : (ℕ → ℕ) → ℕ → ℕ → Step → World → World
 world_after bucket j t step w = record {
   words = put w.words j (after t step (lock_at w j)).word;
-  queues = put (put w.queues (key j First) (after t step (lock_at w j)).first) (key j Second) (after t step (lock_at w j)).second;
+  queues = put (put w.queues (key j First) (after t step (lock_at w j)).first) (key j Second)
+      (after t step (lock_at w j)).second;
   places = places_after j t step w.places;
   entered = entered_after bucket w.entered j t (crossing step);
 }
 
--- Thread t may make the step at lock j: it is there, or doing nothing; the lock allows it; and where it enters a section, nobody has
--- entered the bucket.
+-- Thread t may make the step at lock j: it is there, or doing nothing; the lock allows it; and where it enters a
+-- section, nobody has entered the bucket.
 pub record MayStep (bucket : ℕ → ℕ) (recursive : ℕ → Bool) (j t : ℕ) (step : Step) (w : World) : Type 0 where
   pub place : Place
   pub here : slice_get w.places t ≡ Some place

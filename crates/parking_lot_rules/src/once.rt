@@ -1,5 +1,6 @@
-//! The rules of a one-time initialization whose waiters sleep in a list: what a thread can be doing there, what each of its steps does
-//! to the word and to the list, and the proof that one closure at most ends well and no waiter is forgotten, under every schedule.
+//! The rules of a one-time initialization whose waiters sleep in a list: what a thread can be doing there, what each of
+//! its steps does to the word and to the list, and the proof that one closure at most ends well and no waiter is
+//! forgotten, under every schedule.
 
 mod example;
 pub mod laws;

@@ -1,7 +1,9 @@
 //! Steps that would be wrong: each has a sound lock from which it leads to one that isn't.
-ghost use Rattle.parking_lot_rules.specs.Wrong.{DebtsAloneBreak, ForgetsTheWriter, GoesPastAWriter, IsWrong, JoinsUnchecked, KeepsItsBit, LeavesTheBit, StoresZero, WakesByNumber};
+ghost use Rattle.parking_lot_rules.specs.Wrong.{DebtsAloneBreak, ForgetsTheWriter, GoesPastAWriter, IsWrong};
+ghost use Rattle.parking_lot_rules.specs.Wrong.{JoinsUnchecked, KeepsItsBit, LeavesTheBit, StoresZero, WakesByNumber};
 
-/// A reader's section that clears the second key's bit, and leaves the pending writer in the list: the writer would sleep for good.
+/// A reader's section that clears the second key's bit, and leaves the pending writer in the list: the writer would
+/// sleep for good.
 pub fn a_section_that_forgets_the_writer_is_wrong()
     ensures { IsWrong ForgetsTheWriter }
 {}
@@ -36,8 +38,8 @@ pub fn a_give_up_that_keeps_its_bit_is_wrong()
     ensures { IsWrong KeepsItsBit }
 {}
 
-/// That somebody owes the waiters something is true at every moment, and isn't enough to go on with: beside a woken reader alone it
-/// holds, and once that reader owns the lock it doesn't. So the rules say more than that.
+/// That somebody owes the waiters something is true at every moment, and isn't enough to go on with: beside a woken
+/// reader alone it holds, and once that reader owns the lock it doesn't. So the rules say more than that.
 pub fn debts_alone_are_not_kept()
     ensures { DebtsAloneBreak }
 {}

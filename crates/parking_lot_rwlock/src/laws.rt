@@ -4,8 +4,8 @@ ghost use Rattle.std.specs.Prelude.{◌≡◌, ◌≢◌, ◌<◌, ◌+◌, ◌*
 use parking_lot_protocol::{Act, ActResult, CoreAnswer, RwCore};
 use parking_lot_protocol_rw::UpgradeCore;
 
-/// Where no writer owns the lock or waits for readers to leave, and one reader more can be counted, adding 16 to the word is the
-/// way of a call that reads.
+/// Where no writer owns the lock or waits for readers to leave, and one reader more can be counted, adding 16 to the
+/// word is the way of a call that reads.
 pub fn one_exchange_reads(recursive: bool, word: u64) -> bool
     requires free { word / 8 % 2 ≡ 0 }
     requires room { word / 16 + 1 < 2 ^ 60 }
@@ -17,7 +17,8 @@ pub fn one_exchange_reads(recursive: bool, word: u64) -> bool
         && core.next(ActResult::Exchanged) == Act::Done(CoreAnswer::Owned)
 }
 
-/// Taking 16 off the word is the way of a call that stops reading, where no writer may sleep until the readers have left.
+/// Taking 16 off the word is the way of a call that stops reading, where no writer may sleep until the readers have
+/// left.
 pub fn one_sum_stops_reading(word: u64) -> bool
     requires { word / 2 % 2 ≡ 0 }
     ensures { result ≡ true }
@@ -27,8 +28,8 @@ pub fn one_sum_stops_reading(word: u64) -> bool
         && core.next(ActResult::Before(word)) == Act::Done(CoreAnswer::Released)
 }
 
-/// The exchange from 0 to 8 is the way of a call that writes: the core looks once more for readers, and since the exchange there
-/// is none.
+/// The exchange from 0 to 8 is the way of a call that writes: the core looks once more for readers, and since the
+/// exchange there is none.
 pub fn one_exchange_writes(word: u64) -> bool
     requires { word / 16 ≡ 0 }
     ensures { result ≡ true }
@@ -63,8 +64,8 @@ pub fn one_sum_downgrades(word: u64) -> bool
         && core.next(ActResult::Before(word)) == Act::Done(CoreAnswer::Owned)
 }
 
-/// Where neither a writer nor an upgradable owner is in the way, and one reader more can be counted, adding 20 to the word is the way of
-/// a call that asks for the upgradable hold.
+/// Where neither a writer nor an upgradable owner is in the way, and one reader more can be counted, adding 20 to the
+/// word is the way of a call that asks for the upgradable hold.
 pub fn one_exchange_takes_the_upgradable_hold(word: u64) -> bool
     requires unwritten { word / 8 % 2 ≡ 0 }
     requires free { word / 4 % 2 ≡ 0 }
@@ -77,8 +78,8 @@ pub fn one_exchange_takes_the_upgradable_hold(word: u64) -> bool
         && core.next(ActResult::Exchanged) == Act::Done(CoreAnswer::Owned)
 }
 
-/// Taking 20 off the word is the way of a call that gives the upgradable hold up, fairly or not, where nobody may sleep that wants the
-/// lock.
+/// Taking 20 off the word is the way of a call that gives the upgradable hold up, fairly or not, where nobody may sleep
+/// that wants the lock.
 pub fn one_exchange_gives_the_upgradable_hold_up(fair: bool, word: u64) -> bool
     requires { word % 2 ≡ 0 }
     ensures { result ≡ true }
@@ -94,8 +95,8 @@ pub fn one_exchange_gives_the_upgradable_hold_up(fair: bool, word: u64) -> bool
         && core.next(ActResult::Exchanged) == Act::Done(CoreAnswer::Released)
 }
 
-/// Adding 8 less 20 to the word is the way of an upgradable owner that becomes a writer: the core looks once more for readers, and
-/// where the owner was alone there is none.
+/// Adding 8 less 20 to the word is the way of an upgradable owner that becomes a writer: the core looks once more for
+/// readers, and where the owner was alone there is none.
 pub fn one_sum_upgrades(word: u64, left: u64) -> bool
     requires { left / 16 ≡ 0 }
     ensures { result ≡ true }
@@ -116,7 +117,8 @@ pub fn one_exchange_upgrades() -> bool
         && core.next(ActResult::Exchanged) == Act::Done(CoreAnswer::Owned)
 }
 
-/// Taking 4 off the word is the way of an upgradable owner that becomes a reader, where nobody may sleep that wants the lock.
+/// Taking 4 off the word is the way of an upgradable owner that becomes a reader, where nobody may sleep that wants the
+/// lock.
 pub fn one_sum_gives_the_upgrade_up(word: u64) -> bool
     requires { word % 2 ≡ 0 }
     ensures { result ≡ true }
@@ -126,7 +128,8 @@ pub fn one_sum_gives_the_upgrade_up(word: u64) -> bool
         && core.next(ActResult::Before(word)) == Act::Done(CoreAnswer::Owned)
 }
 
-/// Adding 12 to the word is the way of a writer that becomes an upgradable owner, where nobody may sleep that wants the lock.
+/// Adding 12 to the word is the way of a writer that becomes an upgradable owner, where nobody may sleep that wants the
+/// lock.
 pub fn one_sum_keeps_the_upgradable_hold(word: u64) -> bool
     requires { word % 2 ≡ 0 }
     ensures { result ≡ true }

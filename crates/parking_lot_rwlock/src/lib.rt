@@ -1,12 +1,12 @@
-//! The raw reader-writer lock of running threads, on a row of a lock table: shared, exclusive and upgradable holds, recursive reads,
-//! tries, calls that may give up, fair releases, and conversions of one hold into another.
+//! The raw reader-writer lock of running threads, on a row of a lock table: shared, exclusive and upgradable holds,
+//! recursive reads, tries, calls that may give up, fair releases, and conversions of one hold into another.
 //!
-//! Each call runs a decision core on the row, by `parking_lot_driver`. Where one exchange is enough it is made before a core is set
-//! up: that is the core's own first way, cut short.
+//! Each call runs a decision core on the row, by `parking_lot_driver`. Where one exchange is enough it is made before a
+//! core is set up: that is the core's own first way, cut short.
 //!
-//! **An admission issues one token, a release spends it on its own row:** tokens bear the first key of their row, and two rows of
-//! a lot never have the same. Nothing is promised of a word, nor that a call comes back: what keeps two writers from one value
-//! is the std lock in which a generic lock keeps it.
+//! **An admission issues one token, a release spends it on its own row:** tokens bear the first key of their row, and
+//! two rows of a lot never have the same. Nothing is promised of a word, nor that a call comes back: what keeps two
+//! writers from one value is the std lock in which a generic lock keeps it.
 #![tactic(auto)]
 
 pub mod laws;

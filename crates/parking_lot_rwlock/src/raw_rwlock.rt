@@ -1,5 +1,6 @@
 //! The raw reader-writer lock.
-ghost use Rattle.std.specs.Prelude.{◌≡◌, ◌+◌, ◌-◌, ◌*◌, ◌/◌, ◌%◌, ◌^◌, ◌&&◌, ◌||◌, ◌==◌, nat_lt, not, ◌≤◌, IfOk, IfSome, min, max, true, false};
+ghost use Rattle.std.specs.Prelude.{◌≡◌, ◌+◌, ◌-◌, ◌*◌, ◌/◌, ◌%◌, ◌^◌, ◌&&◌, ◌||◌, ◌==◌, nat_lt, not, ◌≤◌, IfOk};
+ghost use Rattle.std.specs.Prelude.{IfSome, min, max, true, false};
 ghost use Rattle.lock_api_raw.specs.Limits.{kept_limit};
 ghost use Rattle.parking_lot_driver.specs.Ends.{RwEnded, UpgradeEnded};
 ghost use Rattle.parking_lot_driver.specs.Runs.{Ended};
@@ -7,7 +8,9 @@ ghost use Rattle.parking_lot_protocol.specs.RwTable.{is_upgradable, is_written};
 ghost use Rattle.parking_lot_protocol.specs.declared.act.CoreAnswer.{CoreAnswer};
 ghost use Rattle.parking_lot_protocol.specs.declared.act.CoreAnswer.TheVariants.{Owned};
 ghost use Rattle.parking_lot_protocol.specs.declared.rw_phase.LockMode.TheVariants.{Shared, Exclusive};
-ghost use Rattle.parking_lot_protocol.specs.declared.rw_phase.RwPhase.TheVariants.{Locking, UnlockingShared, UnlockingExclusive, Downgrading, BumpingShared, BumpingExclusive};
+ghost use Rattle.parking_lot_protocol.specs.declared.rw_phase.RwPhase.TheVariants.{Locking, UnlockingShared};
+ghost use Rattle.parking_lot_protocol.specs.declared.rw_phase.RwPhase.TheVariants.{UnlockingExclusive, Downgrading};
+ghost use Rattle.parking_lot_protocol.specs.declared.rw_phase.RwPhase.TheVariants.{BumpingShared, BumpingExclusive};
 ghost use Rattle.parking_lot_protocol_rw.specs.declared.upgrade_phase.UpgradePhase.TheVariants as call;
 
 use lock_api_raw::{
@@ -24,8 +27,8 @@ use std::alloc::{Allocator, Global};
 use std::marker::Model;
 use std::sync::Wait;
 
-/// Whether a reader is admitted at once: no writer owns the lock or waits for readers to leave, and the word is less than one
-/// with the most readers.
+/// Whether a reader is admitted at once: no writer owns the lock or waits for readers to leave, and the word is less
+/// than one with the most readers.
 #[inline(always)]
 fn is_open(word: u64, full: u64) -> bool
     ensures { result ≡ (not (is_written word) && nat_lt word full) }
@@ -33,8 +36,8 @@ fn is_open(word: u64, full: u64) -> bool
     !word::is_written(word) && word < full
 }
 
-/// Whether an upgradable owner is admitted at once: neither a writer nor another upgradable owner keeps it out, and the word is less
-/// than one with the most readers.
+/// Whether an upgradable owner is admitted at once: neither a writer nor another upgradable owner keeps it out, and the
+/// word is less than one with the most readers.
 #[inline(always)]
 fn is_open_to_upgradable(word: u64, full: u64) -> bool
     ensures { result ≡ (not (is_written word || is_upgradable word) && nat_lt word full) }
@@ -78,11 +81,11 @@ impl Full {
     }
 }
 
-/// An unfair reader-writer lock on one row of a lock table. A writer that waits keeps new readers out; where `RECURSIVE` is 1
-/// a thread that reads may read again past it, and else `RECURSIVE` is 0.
+/// An unfair reader-writer lock on one row of a lock table. A writer that waits keeps new readers out; where
+/// `RECURSIVE` is 1 a thread that reads may read again past it, and else `RECURSIVE` is 0.
 ///
-/// Its word is 16 for each reader, 20 for an upgradable owner, and 8 for a writer, also while that waits for readers to leave; where
-/// such a writer may sleep 2 is added, and where threads may sleep that want the lock, 1.
+/// Its word is 16 for each reader, 20 for an upgradable owner, and 8 for a writer, also while that waits for readers to
+/// leave; where such a writer may sleep 2 is added, and where threads may sleep that want the lock, 1.
 #[derive(Drop)]
 pub struct RawRwLock<'t, 'l, R, const RECURSIVE: u8, A: Allocator = Global> {
     row: Row<'t, 'l, R, A>,
@@ -117,7 +120,8 @@ impl<'t, 'l, R, const RECURSIVE: u8, A: Allocator> RawRwLock<'t, 'l, R, RECURSIV
     /// A token of this lock for a hold that was taken.
     #[inline(always)]
     pub(crate) fn token_if(&self, taken: bool) -> Option<GuardSend>
-        ensures { IfSome result (λ token. token ≡ (self.now.row.table.now.first_key + 2 * self.now.row.number) % 2 ^ 64) }
+        ensures { IfSome result
+            (λ token. token ≡ (self.now.row.table.now.first_key + 2 * self.now.row.number) % 2 ^ 64) }
     {
         if taken { Some(self.token()) } else { None }
     }
@@ -208,8 +212,8 @@ impl<'t, 'l, R: Wait, const RECURSIVE: u8, A: Allocator> RawRwLock<'t, 'l, R, RE
         self.own(BumpWriter, party);
     }
 
-    /// Asks until a shared hold is owned. A fair writer may hand the lock over to more readers than there may be: then this one
-    /// gives its hold back, and asks again.
+    /// Asks until a shared hold is owned. A fair writer may hand the lock over to more readers than there may be: then
+    /// this one gives its hold back, and asks again.
     fn own_shared<K: Call>(&self, call: K, party: &mut ThreadData<A>)
         ensures { Ended K.Core.told K.Core.asks K.begun Owned }
     {
@@ -243,8 +247,8 @@ impl<'t, 'l, R: Wait, const RECURSIVE: u8, A: Allocator> RawRwLock<'t, 'l, R, RE
         self.own(Write, party);
     }
 
-    /// A shared hold was taken off this word, and a writer may sleep until the readers have left: the core says whether to wake
-    /// it.
+    /// A shared hold was taken off this word, and a writer may sleep until the readers have left: the core says whether
+    /// to wake it.
     #[cold]
     #[inline(never)]
     fn unread_slowly(&self, word: u64)

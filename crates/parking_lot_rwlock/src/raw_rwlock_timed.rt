@@ -1,6 +1,7 @@
 //! Calls of the raw reader-writer lock that may give up.
 ghost use Rattle.std.specs.Prelude.{◌≡◌, ◌+◌, ◌*◌, ◌%◌, ◌^◌, ◌==◌, IfSome, MatchBool, MatchOption, MatchResult};
-ghost use Rattle.parking_lot_driver.specs.Ends.{RwEnded, RwOwned, TimedRwEnded, UpgradeEnded, asking_in_time, reading_in_time, upgrading_in_time, writing_in_time};
+ghost use Rattle.parking_lot_driver.specs.Ends.{RwEnded, RwOwned, TimedRwEnded, UpgradeEnded, asking_in_time};
+ghost use Rattle.parking_lot_driver.specs.Ends.{reading_in_time, upgrading_in_time, writing_in_time};
 ghost use Rattle.parking_lot_protocol.specs.declared.act.Act.TheVariants.{Done};
 ghost use Rattle.parking_lot_protocol.specs.declared.act.CoreAnswer.TheVariants.{Owned};
 ghost use Rattle.parking_lot_protocol.specs.declared.rw_phase.LockMode.TheVariants.{Shared, Exclusive};
@@ -31,7 +32,8 @@ impl<'t, 'l, R: Wait, const RECURSIVE: u8, A: Allocator> RawRwLock<'t, 'l, R, RE
         clock: &C,
         party: &mut ThreadData<A>,
     ) -> bool
-        ensures { MatchBool result (TimedRwEnded (reading_in_time RECURSIVE) (Makes (Done Owned))) (TimedRwEnded (reading_in_time RECURSIVE) GivesUp) }
+        ensures { MatchBool result (TimedRwEnded (reading_in_time RECURSIVE) (Makes (Done Owned)))
+            (TimedRwEnded (reading_in_time RECURSIVE) GivesUp) }
     {
         for _call in self.row().lot().runtime().forever() {
             let call = ReadInTime::<RECURSIVE>;
@@ -47,7 +49,8 @@ impl<'t, 'l, R: Wait, const RECURSIVE: u8, A: Allocator> RawRwLock<'t, 'l, R, RE
         unreachable!()
     }
 
-    /// Asks for the upgradable hold until the moment. A hold beyond the most readers is given back, and asked for again.
+    /// Asks for the upgradable hold until the moment. A hold beyond the most readers is given back, and asked for
+    /// again.
     #[cold]
     #[inline(never)]
     fn own_upgradable_in_time<C: Clock>(
@@ -56,7 +59,8 @@ impl<'t, 'l, R: Wait, const RECURSIVE: u8, A: Allocator> RawRwLock<'t, 'l, R, RE
         clock: &C,
         party: &mut ThreadData<A>,
     ) -> bool
-        ensures { MatchBool result (TimedRwEnded asking_in_time (Makes (Done Owned))) (TimedRwEnded asking_in_time GivesUp) }
+        ensures { MatchBool result (TimedRwEnded asking_in_time (Makes (Done Owned)))
+            (TimedRwEnded asking_in_time GivesUp) }
     {
         for _call in self.row().lot().runtime().forever() {
             let call = AskUpgradablyInTime;
@@ -72,10 +76,11 @@ impl<'t, 'l, R: Wait, const RECURSIVE: u8, A: Allocator> RawRwLock<'t, 'l, R, RE
         unreachable!()
     }
 
-    /// Waits until a shared hold is owned, or until the moment by the clock that is handed in: then it is off the list, and `None` is
-    /// the answer.
+    /// Waits until a shared hold is owned, or until the moment by the clock that is handed in: then it is off the list,
+    /// and `None` is the answer.
     ///
-    /// The moment is looked at where the thread sleeps. So a lock that can be had at once is had, also where the moment is past.
+    /// The moment is looked at where the thread sleeps. So a lock that can be had at once is had, also where the moment
+    /// is past.
     #[inline(always)]
     pub fn read_until<C: Clock>(
         &self,
@@ -83,8 +88,10 @@ impl<'t, 'l, R: Wait, const RECURSIVE: u8, A: Allocator> RawRwLock<'t, 'l, R, RE
         clock: &C,
         party: &mut ThreadData<A>,
     ) -> Option<GuardSend>
-        ensures issued { IfSome result (λ token. token ≡ (self.now.row.table.now.first_key + 2 * self.now.row.number) % 2 ^ 64) }
-        ensures call { MatchOption result (TimedRwEnded (reading_in_time RECURSIVE) GivesUp) (λ _. RwOwned (RwEnded (Locking (Shared (RECURSIVE == 1))) Owned) (reading_in_time RECURSIVE)) }
+        ensures issued { IfSome result
+            (λ token. token ≡ (self.now.row.table.now.first_key + 2 * self.now.row.number) % 2 ^ 64) }
+        ensures call { MatchOption result (TimedRwEnded (reading_in_time RECURSIVE) GivesUp)
+            (λ _. RwOwned (RwEnded (Locking (Shared (RECURSIVE == 1))) Owned) (reading_in_time RECURSIVE)) }
     {
         if self.reads_at_once() || self.read_in_time(deadline, clock, party) {
             Some(self.token())
@@ -93,16 +100,18 @@ impl<'t, 'l, R: Wait, const RECURSIVE: u8, A: Allocator> RawRwLock<'t, 'l, R, RE
         }
     }
 
-    /// As [`read_until`](RawRwLock::read_until), with the moment that lies `timeout` ahead. Where no moment can say that, it waits as
-    /// long as it takes.
+    /// As [`read_until`](RawRwLock::read_until), with the moment that lies `timeout` ahead. Where no moment can say
+    /// that, it waits as long as it takes.
     pub fn read_for<C: Clock>(
         &self,
         timeout: Duration,
         clock: &C,
         party: &mut ThreadData<A>,
     ) -> Option<GuardSend>
-        ensures issued { IfSome result (λ token. token ≡ (self.now.row.table.now.first_key + 2 * self.now.row.number) % 2 ^ 64) }
-        ensures call { MatchOption result (TimedRwEnded (reading_in_time RECURSIVE) GivesUp) (λ _. RwOwned (RwEnded (Locking (Shared (RECURSIVE == 1))) Owned) (reading_in_time RECURSIVE)) }
+        ensures issued { IfSome result
+            (λ token. token ≡ (self.now.row.table.now.first_key + 2 * self.now.row.number) % 2 ^ 64) }
+        ensures call { MatchOption result (TimedRwEnded (reading_in_time RECURSIVE) GivesUp)
+            (λ _. RwOwned (RwEnded (Locking (Shared (RECURSIVE == 1))) Owned) (reading_in_time RECURSIVE)) }
     {
         match to_deadline(clock, timeout) {
             Some(deadline) => self.read_until(deadline, clock, party),
@@ -110,8 +119,8 @@ impl<'t, 'l, R: Wait, const RECURSIVE: u8, A: Allocator> RawRwLock<'t, 'l, R, RE
         }
     }
 
-    /// As [`read_until`](RawRwLock::read_until), of the exclusive hold. One that waits for readers to leave gives up there too: the lock
-    /// is as if it had never asked, and those that it kept out are looked after.
+    /// As [`read_until`](RawRwLock::read_until), of the exclusive hold. One that waits for readers to leave gives up
+    /// there too: the lock is as if it had never asked, and those that it kept out are looked after.
     #[inline(always)]
     pub fn write_until<C: Clock>(
         &self,
@@ -119,8 +128,10 @@ impl<'t, 'l, R: Wait, const RECURSIVE: u8, A: Allocator> RawRwLock<'t, 'l, R, RE
         clock: &C,
         party: &mut ThreadData<A>,
     ) -> Option<GuardSend>
-        ensures issued { IfSome result (λ token. token ≡ (self.now.row.table.now.first_key + 2 * self.now.row.number) % 2 ^ 64) }
-        ensures call { MatchOption result (TimedRwEnded writing_in_time GivesUp) (λ _. RwOwned (RwEnded (Locking Exclusive) Owned) writing_in_time) }
+        ensures issued { IfSome result
+            (λ token. token ≡ (self.now.row.table.now.first_key + 2 * self.now.row.number) % 2 ^ 64) }
+        ensures call { MatchOption result (TimedRwEnded writing_in_time GivesUp)
+            (λ _. RwOwned (RwEnded (Locking Exclusive) Owned) writing_in_time) }
     {
         if self.writes_at_once()
             || self
@@ -140,8 +151,10 @@ impl<'t, 'l, R: Wait, const RECURSIVE: u8, A: Allocator> RawRwLock<'t, 'l, R, RE
         clock: &C,
         party: &mut ThreadData<A>,
     ) -> Option<GuardSend>
-        ensures issued { IfSome result (λ token. token ≡ (self.now.row.table.now.first_key + 2 * self.now.row.number) % 2 ^ 64) }
-        ensures call { MatchOption result (TimedRwEnded writing_in_time GivesUp) (λ _. RwOwned (RwEnded (Locking Exclusive) Owned) writing_in_time) }
+        ensures issued { IfSome result
+            (λ token. token ≡ (self.now.row.table.now.first_key + 2 * self.now.row.number) % 2 ^ 64) }
+        ensures call { MatchOption result (TimedRwEnded writing_in_time GivesUp)
+            (λ _. RwOwned (RwEnded (Locking Exclusive) Owned) writing_in_time) }
     {
         match to_deadline(clock, timeout) {
             Some(deadline) => self.write_until(deadline, clock, party),
@@ -157,8 +170,10 @@ impl<'t, 'l, R: Wait, const RECURSIVE: u8, A: Allocator> RawRwLock<'t, 'l, R, RE
         clock: &C,
         party: &mut ThreadData<A>,
     ) -> Option<GuardSend>
-        ensures issued { IfSome result (λ token. token ≡ (self.now.row.table.now.first_key + 2 * self.now.row.number) % 2 ^ 64) }
-        ensures call { MatchOption result (TimedRwEnded asking_in_time GivesUp) (λ _. RwOwned (UpgradeEnded call.Locking Owned) asking_in_time) }
+        ensures issued { IfSome result
+            (λ token. token ≡ (self.now.row.table.now.first_key + 2 * self.now.row.number) % 2 ^ 64) }
+        ensures call { MatchOption result (TimedRwEnded asking_in_time GivesUp)
+            (λ _. RwOwned (UpgradeEnded call.Locking Owned) asking_in_time) }
     {
         if self.upgradable_at_once() || self.own_upgradable_in_time(deadline, clock, party) {
             Some(self.token())
@@ -174,8 +189,10 @@ impl<'t, 'l, R: Wait, const RECURSIVE: u8, A: Allocator> RawRwLock<'t, 'l, R, RE
         clock: &C,
         party: &mut ThreadData<A>,
     ) -> Option<GuardSend>
-        ensures issued { IfSome result (λ token. token ≡ (self.now.row.table.now.first_key + 2 * self.now.row.number) % 2 ^ 64) }
-        ensures call { MatchOption result (TimedRwEnded asking_in_time GivesUp) (λ _. RwOwned (UpgradeEnded call.Locking Owned) asking_in_time) }
+        ensures issued { IfSome result
+            (λ token. token ≡ (self.now.row.table.now.first_key + 2 * self.now.row.number) % 2 ^ 64) }
+        ensures call { MatchOption result (TimedRwEnded asking_in_time GivesUp)
+            (λ _. RwOwned (UpgradeEnded call.Locking Owned) asking_in_time) }
     {
         match to_deadline(clock, timeout) {
             Some(deadline) => self.upgradable_until(deadline, clock, party),
@@ -183,8 +200,8 @@ impl<'t, 'l, R: Wait, const RECURSIVE: u8, A: Allocator> RawRwLock<'t, 'l, R, RE
         }
     }
 
-    /// Makes the upgradable hold the exclusive one, or gives up at the moment: then it is the upgradable one again, with nobody
-    /// exclusive in between, and the token comes back.
+    /// Makes the upgradable hold the exclusive one, or gives up at the moment: then it is the upgradable one again,
+    /// with nobody exclusive in between, and the token comes back.
     #[inline(always)]
     pub fn upgraded_until<C: Clock>(
         &self,
@@ -194,7 +211,8 @@ impl<'t, 'l, R: Wait, const RECURSIVE: u8, A: Allocator> RawRwLock<'t, 'l, R, RE
         party: &mut ThreadData<A>,
     ) -> Result<GuardSend, GuardSend>
         ensures token { MatchResult result (λ token. token ≡ guard) (λ token. token ≡ guard) }
-        ensures call { MatchResult result (λ _. RwOwned (UpgradeEnded call.Upgrading Owned) upgrading_in_time) (λ _. TimedRwEnded upgrading_in_time GivesUp) }
+        ensures call { MatchResult result (λ _. RwOwned (UpgradeEnded call.Upgrading Owned) upgrading_in_time)
+            (λ _. TimedRwEnded upgrading_in_time GivesUp) }
     {
         let Err(word) = self.upgrades_at_once() else {
             return Ok(guard);
@@ -219,7 +237,8 @@ impl<'t, 'l, R: Wait, const RECURSIVE: u8, A: Allocator> RawRwLock<'t, 'l, R, RE
         party: &mut ThreadData<A>,
     ) -> Result<GuardSend, GuardSend>
         ensures token { MatchResult result (λ token. token ≡ guard) (λ token. token ≡ guard) }
-        ensures call { MatchResult result (λ _. RwOwned (UpgradeEnded call.Upgrading Owned) upgrading_in_time) (λ _. TimedRwEnded upgrading_in_time GivesUp) }
+        ensures call { MatchResult result (λ _. RwOwned (UpgradeEnded call.Upgrading Owned) upgrading_in_time)
+            (λ _. TimedRwEnded upgrading_in_time GivesUp) }
     {
         match to_deadline(clock, timeout) {
             Some(deadline) => self.upgraded_until(guard, deadline, clock, party),
@@ -234,9 +253,11 @@ impl<'t, 'l, R, const RECURSIVE: u8, A: Allocator> RawRwLockTimed
 
     type Instant = Instant;
 
-    ghost shared_locked_in_time = { λ answer. MatchOption answer (TimedRwEnded (reading_in_time RECURSIVE) GivesUp) (λ _. RwOwned (RwEnded (Locking (Shared (RECURSIVE == 1))) Owned) (reading_in_time RECURSIVE)) };
+    ghost shared_locked_in_time = { λ answer. MatchOption answer (TimedRwEnded (reading_in_time RECURSIVE) GivesUp)
+        (λ _. RwOwned (RwEnded (Locking (Shared (RECURSIVE == 1))) Owned) (reading_in_time RECURSIVE)) };
 
-    ghost exclusive_locked_in_time = { λ answer. MatchOption answer (TimedRwEnded writing_in_time GivesUp) (λ _. RwOwned (RwEnded (Locking Exclusive) Owned) writing_in_time) };
+    ghost exclusive_locked_in_time = { λ answer. MatchOption answer (TimedRwEnded writing_in_time GivesUp)
+        (λ _. RwOwned (RwEnded (Locking Exclusive) Owned) writing_in_time) };
 
     fn try_lock_shared_for<C: Clock>(
         &self,
@@ -291,9 +312,11 @@ impl<'t, 'l, R, const RECURSIVE: u8, A: Allocator> RawRwLockTimed
 
 impl<'t, 'l, R, const RECURSIVE: u8, A: Allocator> RawRwLockUpgradeTimed
     for RawRwLock<'t, 'l, R, RECURSIVE, A> {
-    ghost upgradable_locked_in_time = { λ answer. MatchOption answer (TimedRwEnded asking_in_time GivesUp) (λ _. RwOwned (UpgradeEnded call.Locking Owned) asking_in_time) };
+    ghost upgradable_locked_in_time = { λ answer. MatchOption answer (TimedRwEnded asking_in_time GivesUp)
+        (λ _. RwOwned (UpgradeEnded call.Locking Owned) asking_in_time) };
 
-    ghost upgraded_in_time = { λ _ tried. MatchResult tried (λ _. RwOwned (UpgradeEnded call.Upgrading Owned) upgrading_in_time) (λ _. TimedRwEnded upgrading_in_time GivesUp) };
+    ghost upgraded_in_time = { λ _ tried. MatchResult tried (λ _. RwOwned (UpgradeEnded call.Upgrading Owned) upgrading_in_time)
+        (λ _. TimedRwEnded upgrading_in_time GivesUp) };
 
     fn try_lock_upgradable_for<C: Clock>(
         &self,

@@ -5,7 +5,11 @@ ghost use Rattle.parking_lot_driver.specs.Runs.{Ended};
 ghost use Rattle.parking_lot_protocol.specs.declared.act.CoreAnswer.{CoreAnswer};
 ghost use Rattle.parking_lot_protocol.specs.declared.act.CoreAnswer.TheVariants.{Owned, Released};
 ghost use Rattle.parking_lot_protocol_rw.specs.declared.upgrade_phase.Release.TheVariants as release;
-ghost use Rattle.parking_lot_protocol_rw.specs.declared.upgrade_phase.UpgradePhase.TheVariants.{Locking, Unlocking, Bumping, Upgrading, TryingToUpgrade, DowngradingToShared, DowngradingToUpgradable};
+ghost use Rattle.parking_lot_protocol_rw.specs.declared.upgrade_phase.UpgradePhase.TheVariants.{Locking, Unlocking};
+ghost use Rattle.parking_lot_protocol_rw.specs.declared.upgrade_phase.UpgradePhase.TheVariants.{Bumping, Upgrading};
+ghost use Rattle.parking_lot_protocol_rw.specs.declared.upgrade_phase.UpgradePhase.TheVariants.{TryingToUpgrade};
+ghost use Rattle.parking_lot_protocol_rw.specs.declared.upgrade_phase.UpgradePhase.TheVariants.{DowngradingToShared};
+ghost use Rattle.parking_lot_protocol_rw.specs.declared.upgrade_phase.UpgradePhase.TheVariants.{DowngradingToUpgradable};
 
 use crate::raw_rwlock::RawRwLock;
 use lock_api_raw::{GuardSend, RawRwLockUpgrade, RawRwLockUpgradeDowngrade, RawRwLockUpgradeFair};
@@ -21,8 +25,8 @@ use std::alloc::Allocator;
 use std::sync::Wait;
 
 impl<'t, 'l, R: Wait, const RECURSIVE: u8, A: Allocator> RawRwLock<'t, 'l, R, RECURSIVE, A> {
-    /// Asks until the upgradable hold is owned. A fair writer may hand the lock over to more readers than there may be: then this one
-    /// gives its hold back, and asks again.
+    /// Asks until the upgradable hold is owned. A fair writer may hand the lock over to more readers than there may be:
+    /// then this one gives its hold back, and asks again.
     fn own_upgradable<K: Call>(&self, call: K, party: &mut ThreadData<A>)
         ensures { Ended K.Core.told K.Core.asks K.begun Owned }
     {
@@ -145,8 +149,8 @@ impl<'t, 'l, R: Wait, const RECURSIVE: u8, A: Allocator> RawRwLock<'t, 'l, R, RE
 }
 
 impl<'t, 'l, R, const RECURSIVE: u8, A: Allocator> RawRwLock<'t, 'l, R, RECURSIVE, A> {
-    /// Makes the upgradable hold the exclusive one at once, where nobody else reads. Else it is one that waits for readers now, and the
-    /// word before comes back.
+    /// Makes the upgradable hold the exclusive one at once, where nobody else reads. Else it is one that waits for
+    /// readers now, and the word before comes back.
     #[inline(always)]
     pub(crate) fn upgrades_at_once(&self) -> Result<(), u64>
         ensures { IfOk result (λ _. UpgradeEnded Upgrading Owned) }

@@ -1,4 +1,5 @@
-//! Searches of all schedules of threads at locks, onces and condition variables of a world: what has to hold on the way and at the end.
+//! Searches of all schedules of threads at locks, onces and condition variables of a world: what has to hold on the way
+//! and at the end.
 #![tactic(auto)]
 
 #[cfg(test)]

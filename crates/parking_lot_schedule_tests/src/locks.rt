@@ -62,8 +62,8 @@ fn explore(rt: &(impl AllocGlobal + Abort), kind: LockKind, pair: Pair) -> Resul
     Ok(found.states)
 }
 
-/// A search of all schedules of some pairs of programs at a lock of that kind, and how many states it has at least. Were there fewer, different
-/// ones might have been taken for one.
+/// A search of all schedules of some pairs of programs at a lock of that kind, and how many states it has at least.
+/// Were there fewer, different ones might have been taken for one.
 type Row<'s> = (LockKind, &'s [Pairs<'s, Program>], u64);
 
 /// Makes each of the searches.

@@ -1,4 +1,5 @@
-//! All schedules of threads at one once: they come to what calls come to that are made whole, one after another, and to nothing else.
+//! All schedules of threads at one once: they come to what calls come to that are made whole, one after another, and to
+//! nothing else.
 
 mod rules;
 mod watch;
@@ -59,8 +60,8 @@ fn of_two(rt: &impl AllocGlobal) -> Result<Vec<Calls>, Fail> {
     Ok(programs)
 }
 
-/// Those of so many of the programs, from that one on, each beside itself and all behind it. Were there fewer states than the least, different ones
-/// might have been taken for one.
+/// Those of so many of the programs, from that one on, each beside itself and all behind it. Were there fewer states
+/// than the least, different ones might have been taken for one.
 fn search(
     rt: &(impl AllocGlobal + Abort),
     programs: &[Calls],
@@ -142,8 +143,8 @@ fn of_a_forced_wait_and_one_more(rt: HostRuntime) -> Result<(), Fail> {
     search_two(&rt, 30, 6, 20_200)
 }
 
-/// One call each of three threads: a failure, a refusal and a forced call; two that wait for a failure; two that wait for an end; a failure, a forced
-/// call and a wait.
+/// One call each of three threads: a failure, a refusal and a forced call; two that wait for a failure; two that wait
+/// for an end; a failure, a forced call and a wait.
 const OF_THREE: [[LockCall; 3]; 4] = [
     [
         LockCall::CallOnce(false),

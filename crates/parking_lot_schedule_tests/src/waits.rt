@@ -1,5 +1,5 @@
-//! All schedules of threads at a condition variable and its mutexes: they come to what calls come to that are made whole, one after another, and to
-//! nothing else.
+//! All schedules of threads at a condition variable and its mutexes: they come to what calls come to that are made
+//! whole, one after another, and to nothing else.
 
 mod notes;
 mod rules;
@@ -31,7 +31,8 @@ fn explore(
     Ok(found.states)
 }
 
-/// Those of some pairs of programs. Were there fewer states than the least, different ones might have been taken for one.
+/// Those of some pairs of programs. Were there fewer states than the least, different ones might have been taken for
+/// one.
 fn search(
     rt: &(impl AllocGlobal + Abort),
     groups: &[Pairs<'_, Calls>],

@@ -1,5 +1,5 @@
-//! Tests of the locks of the parking lot, for what no clause of them says: their words, calls told one thing after another, that
-//! threads sleep and are woken, and that each admission excludes.
+//! Tests of the locks of the parking lot, for what no clause of them says: their words, calls told one thing after
+//! another, that threads sleep and are woken, and that each admission excludes.
 #![tactic(auto)]
 
 #[cfg(test)]

@@ -347,7 +347,8 @@ const ADDS_BEHIND_A_READER: &[Line] = &[
     END,
 ];
 
-/// What a guard does once a writer sleeps behind it: nobody else comes in before that one, or it has been there behind a bump.
+/// What a guard does once a writer sleeps behind it: nobody else comes in before that one, or it has been there behind
+/// a bump.
 const STOPS_WRITING: &[Line] = &[
     WRITE,
     put!(1),

@@ -1,4 +1,5 @@
-//! Where plays take place: a running lock on a lot, with up to three threads that follow their lines, or four that make rounds.
+//! Where plays take place: a running lock on a lot, with up to three threads that follow their lines, or four that make
+//! rounds.
 
 use crate::calls::{Line, NOTHING, Round, Tally, Verdict, WRONG, sum};
 use crate::scene::Scene;
@@ -426,7 +427,8 @@ fn staged<R: Wait + Threads + Clock + Abort + Sync + Copy + Drop>(
     Ok(outcome)
 }
 
-/// Has four threads make the rounds so many times at a new lock of that kind. It answers what they have added, which must be the count.
+/// Has four threads make the rounds so many times at a new lock of that kind. It answers what they have added, which
+/// must be the count.
 pub fn crowd<R: Wait + Threads + Clock + Abort + Sync + Copy + Drop>(
     rt: R,
     alloc: Global,

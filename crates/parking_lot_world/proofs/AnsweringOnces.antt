@@ -1,5 +1,6 @@
 -- What a call at a once is answered, whatever the schedule.
-use Rattle.std.proofs.Common.{◌≡◌, ◌≢◌, ◌⊎◌, inl, inr, ℕ, ◌<◌, ◌==◌, Bool, true, false, ◌||◌, is_some, length, Option, Some, None, slice_get, slice_set, refl, sym, ap, ◌∙◌, subst, arith}
+use Rattle.std.proofs.Common.{◌≡◌, ◌≢◌, ◌⊎◌, inl, inr, ℕ, ◌<◌, ◌==◌, Bool, true, false, ◌||◌, is_some, length, Option}
+use Rattle.std.proofs.Common.{Some, None, slice_get, slice_set, refl, sym, ap, ◌∙◌, subst, arith}
 use Rattle.std.specs.Option.{option_and_then, option_map}
 use Rattle.std.proofs.lemmas.Bool.{eqb-true}
 use Rattle.std.proofs.lemmas.List.{length-set}
@@ -27,7 +28,8 @@ use Rattle.parking_lot_machine_sides.specs.Once.OnceActs as acts
 use Rattle.parking_lot_machine_sides.specs.Once.OnceMachineLasting.{MayReply, RepliesFit}
 use Rattle.parking_lot_machine_sides.specs.Once.OnceSteps.{IsStepped}
 use Rattle.parking_lot_world.specs.WorldAnswers.{may_end}
-use Rattle.parking_lot_world.proofs.Following.{Goes, IsOver, answer_gone, answered_fits, elsewhere, not_it, or_not, allowed}
+use Rattle.parking_lot_world.proofs.Following.{Goes, IsOver, answer_gone, answered_fits, elsewhere, not_it, or_not}
+use Rattle.parking_lot_world.proofs.Following.{allowed}
 use Rattle.parking_lot_world.proofs.OnceAsked.{another_begins, another_keeps, its_end, its_own}
 
 -- the answer fits
@@ -78,39 +80,57 @@ module _ (replies : RepliesFit) (t i : ℕ) (d : OnceCall) where
       go false e = e
       go true e = absurd (none-some m.call (sym (fit.whole.apart t e) ∙ m.here))
 
-  same_onces : (v x : Shown) (late : Bool) → x.onces ≡ v.onces → answer_at x t ≡ answer_at v t → InOnce v late → InOnce x late
-  same_onces v x late e same m = record { call = m.call; here = ap (λ (o : Onces). onces.call_at o t) e ∙ m.here; asks = m.asks; unanswered = same ∙ m.unanswered }
+  same_onces : (v x : Shown) (late : Bool) → x.onces ≡ v.onces → answer_at x t ≡ answer_at v t → InOnce v late
+      → InOnce x late
+  same_onces v x late e same m =
+      record {
+        call = m.call;
+        here = ap (λ (o : Onces). onces.call_at o t) e ∙ m.here;
+        asks = m.asks;
+        unanswered = same
+            ∙ m.unanswered;
+      }
 
   -- THE STEPS OF ANOTHER
 
-  asked_by : (v x : Shown) (late : Bool) (u l : ℕ) (call : Asked) → t ≢ u → IsAsked u l call v x → answer_at x t ≡ answer_at v t → InOnce v late → InOnce x late
+  asked_by : (v x : Shown) (late : Bool) (u l : ℕ) (call : Asked) → t ≢ u → IsAsked u l call v x
+      → answer_at x t ≡ answer_at v t → InOnce v late → InOnce x late
   asked_by v x late u l (Asked.OfLock e) ne (begun, same) answers m = same_onces v x late same answers m
   asked_by v x late u l (Asked.OfVariable e) ne (begun, same) answers m = same_onces v x late same answers m
   asked_by v x late u l (Asked.OfOnce e) ne (begun, same) answers m =
       let on = another_begins t u l ne v.onces x.onces _ m.call (ap (λ (o : Onces). o.calls) begun.became) m.here in
       record { call = on.call; here = on.here; asks = on.same ∙ m.asks; unanswered = answers ∙ m.unanswered }
 
-  gone_by : (v x : Shown) (late : Bool) (u : ℕ) (fair b : Bool) → t ≢ u → IsGone b u fair v x → answer_at x t ≡ answer_at v t → InOnce v late → InOnce x late
+  gone_by : (v x : Shown) (late : Bool) (u : ℕ) (fair b : Bool) → t ≢ u → IsGone b u fair v x
+      → answer_at x t ≡ answer_at v t → InOnce v late → InOnce x late
   gone_by v x late u fair false ne (end, gone, same, told) answers m = same_onces v x late same answers m
   gone_by v x late u fair true ne (reply, made, same, told) answers m =
       let on = another_keeps t u ne v.onces x.onces reply m.call made m.here in
       record { call = on.call; here = on.here; asks = on.same ∙ m.asks; unanswered = answers ∙ m.unanswered }
 
   late_by : (v x : Shown) (late : Bool) (u : ℕ) → IsLate u v x → InOnce v late → InOnce x late
-  late_by v x late u (came, same, answers) m = same_onces v x late same (ap (λ xs. option_and_then (λ a. a) (slice_get xs t)) answers) m
+  late_by v x late u (came, same, answers) m =
+      same_onces v x late same (ap (λ xs. option_and_then (λ a. a) (slice_get xs t)) answers) m
 
   -- ITS OWN STEPS
 
   module _ (v x : Shown) (fit : IsFit v) (late : Bool) (low : t < length v.answers) (m : InOnce v late) where
-    made_itself : (reply : Option OnceReply) → IsStepped t reply v.onces x.onces → x.waits ≡ v.waits → x.answers ≡ noted t (option_map of_reply reply) v.answers → InOnce x late ⊎ Over x late
+    made_itself : (reply : Option OnceReply) → IsStepped t reply v.onces x.onces → x.waits ≡ v.waits
+        → x.answers ≡ noted t (option_map of_reply reply) v.answers → InOnce x late ⊎ Over x late
     made_itself None made same answers =
         let on = its_own t v.onces x.onces m.call made m.here in
-        inl (record { call = on.call; here = on.here; asks = on.same ∙ m.asks; unanswered = ap (λ xs. option_and_then (λ a. a) (slice_get xs t)) answers ∙ m.unanswered })
+        inl (record {
+          call = on.call;
+          here = on.here;
+          asks = on.same ∙ m.asks;
+          unanswered = ap (λ xs. option_and_then (λ a. a) (slice_get xs t)) answers ∙ m.unanswered;
+        })
     made_itself (Some r) made same answers = inr (record {
       idle = ap (λ (j : Joint). is_busy j t) same ∙ not_busy v late fit m;
       out = its_end t v.onces x.onces r made;
       answer = of_reply r;
-      answered = ap (λ xs. option_and_then (λ a. a) (slice_get xs t)) answers ∙ set_there v.answers t (Some (of_reply r)) low;
+      answered = ap (λ xs. option_and_then (λ a. a) (slice_get xs t)) answers
+          ∙ set_there v.answers t (Some (of_reply r)) low;
       fits = ends_so m.call.call d r late m.asks (replies v.onces x.onces t m.call r fit.onces m.here made);
     })
 
@@ -123,15 +143,22 @@ module _ (replies : RepliesFit) (t i : ℕ) (d : OnceCall) where
 
   -- ANY STEP BUT A BEGINNING OF ITS OWN
 
-  goes_by : (v x : Shown) (late : Bool) (u : ℕ) (fair : Bool) → IsFit v → t < length v.answers → IsGone (is_in_once v u) u fair v x → InOnce v late → (b : Bool) → (u == t) ≡ b → InOnce x late ⊎ Over x late
-  goes_by v x late u fair fit low gone m true e = goes_itself v x fit late low m fair (is_in_once v t) refl (subst (λ n. IsGone (is_in_once v n) n fair v x) (eqb-true u t e) gone)
+  goes_by : (v x : Shown) (late : Bool) (u : ℕ) (fair : Bool) → IsFit v → t < length v.answers
+      → IsGone (is_in_once v u) u fair v x → InOnce v late → (b : Bool) → (u == t) ≡ b → InOnce x late ⊎ Over x late
+  goes_by v x late u fair fit low gone m true e = goes_itself v x fit late low m fair (is_in_once v t) refl
+      (subst (λ n. IsGone (is_in_once v n) n fair v x) (eqb-true u t e) gone)
   goes_by v x late u fair fit low gone m false e =
       let ne = not_it t (may_end d) u e in
       inl (gone_by v x late u fair (is_in_once v u) ne gone (answer_gone t (may_end d) v x u fair ne gone) m)
 
-  lates_by : (v x : Shown) (late : Bool) (u : ℕ) → IsFit v → joint.may_expire v.waits u ≡ true → IsLate u v x → InOnce v late → (b : Bool) → (u == t) ≡ b → InOnce x (late || b)
-  lates_by v x late u fit may came m true e = both_ways (is_busy v.waits t) (expires_busy v.waits t (subst (λ n. joint.may_expire v.waits n ≡ true) (eqb-true u t e) may)) (not_busy v late fit m)
-  lates_by v x late u fit may came m false e = subst (InOnce x) (sym (or_not t (may_end d) late)) (late_by v x late u came m)
+  lates_by : (v x : Shown) (late : Bool) (u : ℕ) → IsFit v → joint.may_expire v.waits u ≡ true → IsLate u v x
+      → InOnce v late → (b : Bool) → (u == t) ≡ b → InOnce x (late || b)
+  lates_by v x late u fit may came m true e =
+      both_ways (is_busy v.waits t)
+      (expires_busy v.waits t (subst (λ n. joint.may_expire v.waits n ≡ true) (eqb-true u t e) may))
+      (not_busy v late fit m)
+  lates_by v x late u fit may came m false e = subst (InOnce x) (sym (or_not t (may_end d) late))
+      (late_by v x late u came m)
 
   abbrev On : Shown → Bool → Type 0
   On x late = InOnce x late ⊎ Over x late
@@ -139,16 +166,22 @@ module _ (replies : RepliesFit) (t i : ℕ) (d : OnceCall) where
   goes : Goes t (may_end d) InOnce
   goes v x late (step.Begin u l call) fit fits low there may (begun, answers, kinds) begins m =
       let ne = not_it t (may_end d) u begins in
-      inl (subst (InOnce x) (sym (or_not t (may_end d) late)) (asked_by v x late u l (asked call) ne begun (ap (λ xs. option_and_then (λ a. a) (slice_get xs t)) answers ∙ elsewhere v.answers t u None ne) m))
-  goes v x late (step.Go u fair) fit fits low there may (gone, kinds) begins m = subst (On x) (sym (or_not t (may_end d) late)) (goes_by v x late u fair fit low gone m (u == t) refl)
-  goes v x late (step.Deadline u) fit fits low there may (came, kinds) begins m = inl (lates_by v x late u fit may came m (u == t) refl)
+      inl (subst (InOnce x) (sym (or_not t (may_end d) late))
+      (asked_by v x late u l (asked call) ne begun
+      (ap (λ xs. option_and_then (λ a. a) (slice_get xs t)) answers ∙ elsewhere v.answers t u None ne) m))
+  goes v x late (step.Go u fair) fit fits low there may (gone, kinds) begins m =
+      subst (On x) (sym (or_not t (may_end d) late)) (goes_by v x late u fair fit low gone m (u == t) refl)
+  goes v x late (step.Deadline u) fit fits low there may (came, kinds) begins m =
+      inl (lates_by v x late u fit may came m (u == t) refl)
 
   -- ITS BEGINNING
 
-  first : (v x : Shown) → IsFit v → t < length v.answers → IsAsked t i (Asked.OfOnce d) v x → x.answers ≡ slice_set v.answers t None → InOnce x false
+  first : (v x : Shown) → IsFit v → t < length v.answers → IsAsked t i (Asked.OfOnce d) v x
+      → x.answers ≡ slice_set v.answers t None → InOnce x false
   first v x fit low (begun, same) answers = record {
     call = acts.call_for i d;
-    here = ap (λ (o : Onces). onces.call_at o t) begun.became ∙ set_there v.onces.calls t (Some (acts.call_for i d)) (omega (arith, low, fit.whole.once_threads));
+    here = ap (λ (o : Onces). onces.call_at o t) begun.became ∙ set_there v.onces.calls t (Some (acts.call_for i d))
+        (omega (arith, low, fit.whole.once_threads));
     asks = refl;
     unanswered = ap (λ xs. option_and_then (λ a. a) (slice_get xs t)) answers ∙ set_there v.answers t None low;
   }
@@ -158,4 +191,5 @@ module _ (replies : RepliesFit) (t i : ℕ) (d : OnceCall) where
       let may = allowed t (may_end d) v (step.Begin t i asks) ok in
       let m = first v mid fit may.0 (subst (λ q. IsAsked t i q v mid) is begun) answers in
       let many = ap (λ xs. length xs) answers ∙ length-set v.answers t None in
-      answered_fits t (may_end d) InOnce goes (λ y late k. k.unanswered) mid x steps a fits (omega (arith, may.0, many)) m rest begins said
+      answered_fits t (may_end d) InOnce goes (λ y late k. k.unanswered) mid x steps a fits (omega (arith, may.0, many))
+      m rest begins said

@@ -1,5 +1,7 @@
 -- What a call at a condition variable is answered, whatever the schedule.
-use Rattle.std.proofs.Common.{◌≡◌, ◌≢◌, ◌⊎◌, inl, inr, ℕ, zero, suc, ◌+◌, ◌<◌, ◌==◌, Bool, true, false, not, cond, ◌&&◌, ◌||◌, is_some, List, [], ◌∷◌, length, Option, Some, None, slice_get, slice_set, refl, sym, ap, ◌∙◌, subst, arith}
+use Rattle.std.proofs.Common.{◌≡◌, ◌≢◌, ◌⊎◌, inl, inr, ℕ, zero, suc, ◌+◌, ◌<◌, ◌==◌, Bool, true, false, not, cond, ◌&&◌}
+use Rattle.std.proofs.Common.{◌||◌, is_some, List, [], ◌∷◌, length, Option, Some, None, slice_get, slice_set, refl, sym}
+use Rattle.std.proofs.Common.{ap, ◌∙◌, subst, arith}
 use Rattle.std.specs.Option.{option_and_then, option_map, unwrap_or}
 use Rattle.std.proofs.lemmas.Bool.{eqb-true, lt-ltb}
 use Rattle.std.proofs.lemmas.List.{length-set}
@@ -29,7 +31,8 @@ use Rattle.parking_lot_machine_sides.specs.declared.condvar.calls.CondvarReply.T
 use Rattle.parking_lot_machine_sides.specs.declared.condvar.open_call.Core.{Core}
 use Rattle.parking_lot_machine_sides.specs.declared.condvar.open_call.OpenCall.{OpenCall as Wait}
 use Rattle.parking_lot_machine_sides.specs.declared.condvar.outside.Outside.TheVariants as outside
-use Rattle.parking_lot_machine_sides.specs.Condvar.Calls.{call_for, is_of_all, reply_by, reply_in_notify, reply_in_wait, reply_of}
+use Rattle.parking_lot_machine_sides.specs.Condvar.Calls.{call_for, is_of_all, reply_by, reply_in_notify, reply_in_wait}
+use Rattle.parking_lot_machine_sides.specs.Condvar.Calls.{reply_of}
 use Rattle.parking_lot_machine_sides.specs.Condvar.MachineLaws.{MayReply}
 use Rattle.parking_lot_machine_sides.specs.Condvar.Machines.{State as Var, call_at as var_call_at, is_left}
 use Rattle.parking_lot_machine_sides.specs.Condvar.Outsides.{told, told_by}
@@ -50,17 +53,21 @@ use Rattle.parking_lot_machine_waits.proofs.RankParts.{acts_reply, told_there, v
 use Rattle.parking_lot_world.specs.WorldAnswers.{may_tell}
 use Rattle.parking_lot_world.specs.WorldCalls.{of_condvar}
 use Rattle.parking_lot_world.proofs.Busy.{free_idle, seated_busy}
-use Rattle.parking_lot_world.proofs.Following.{Goes, IsOver, answer_gone, answered_fits, elsewhere, not_it, or_not, or_so, seats_gone, seats_late, seats_same, seats_set, allowed}
-use Rattle.parking_lot_world.proofs.Waiting.{KeepsAt, begun_other, core_late, late_other, same_keeps, turned_itself, turned_other}
+use Rattle.parking_lot_world.proofs.Following.{Goes, IsOver, answer_gone, answered_fits, elsewhere, not_it, or_not}
+use Rattle.parking_lot_world.proofs.Following.{or_so, seats_gone, seats_late, seats_same, seats_set, allowed}
+use Rattle.parking_lot_world.proofs.Waiting.{KeepsAt, begun_other, core_late, late_other, same_keeps, turned_itself}
+use Rattle.parking_lot_world.proofs.Waiting.{turned_other}
 
 -- WHERE A CALL IS ANSWERED
 
 -- its next turn is an act at its variable
-wait_acts : (listed : Bool) (p : WaitPhase) (r : CondvarReply) → reply_in_wait p ≡ Some r → wait_turn listed p ≡ turn.Acts
+wait_acts : (listed : Bool) (p : WaitPhase) (r : CondvarReply) → reply_in_wait p ≡ Some r
+    → wait_turn listed p ≡ turn.Acts
 wait_acts listed (w.Ends a) r e = refl
 wait_acts listed p r e = absurd (none-some r e)
 
-notify_acts : (all : Bool) (p : NotifyPhase) (r : CondvarReply) → reply_in_notify all p ≡ Some r → notify_turn p ≡ turn.Acts
+notify_acts : (all : Bool) (p : NotifyPhase) (r : CondvarReply) → reply_in_notify all p ≡ Some r
+    → notify_turn p ≡ turn.Acts
 notify_acts all (n.Ends count) r e = refl
 notify_acts all p r e = absurd (none-some r e)
 
@@ -69,7 +76,8 @@ core_acts c (Core.Wait q) r e = wait_acts c.listed q.phase r e
 core_acts c (Core.Notify q) r e = notify_acts (is_of_all c.call) q.phase r e
 
 -- it timed out only where its deadline has come
-phase_timed : (p : WaitPhase) → reply_in_wait p ≡ Some told_as.TimedOut → core_late (Core.Wait (record { phase = p })) ≡ true
+phase_timed : (p : WaitPhase) → reply_in_wait p ≡ Some told_as.TimedOut → core_late (Core.Wait (record { phase = p }))
+    ≡ true
 phase_timed (w.Ends ends.TimedOut) e = refl
 phase_timed (w.Ends ends.Woken) e = absurd cc
 phase_timed (w.Ends ends.WrongMutex) e = absurd cc
@@ -86,10 +94,13 @@ core_timed c (Core.Notify q) e = absurd (by (is_of_all c.call) q.phase e)
     by all p e = none-some told_as.TimedOut e
 
 -- and the answer fits
-tells : (c : Wait) (d : CondvarCall) (r : CondvarReply) (late : Bool) → c.call ≡ d → MayReply c r → (r ≡ told_as.TimedOut → late ≡ true) → may_tell d late (of_condvar r) ≡ true
-tells c d r late same may timed = by d r (subst (λ (e : CondvarCall). MayReply (record c { call = e }) r) same may) timed
+tells : (c : Wait) (d : CondvarCall) (r : CondvarReply) (late : Bool) → c.call ≡ d → MayReply c r
+    → (r ≡ told_as.TimedOut → late ≡ true) → may_tell d late (of_condvar r) ≡ true
+tells c d r late same may timed = by d r (subst (λ (e : CondvarCall). MayReply (record c { call = e }) r) same may)
+    timed
   where
-    by : (d : CondvarCall) (r : CondvarReply) → MayReply (record c { call = d }) r → (r ≡ told_as.TimedOut → late ≡ true) → may_tell d late (of_condvar r) ≡ true
+    by : (d : CondvarCall) (r : CondvarReply) → MayReply (record c { call = d }) r
+        → (r ≡ told_as.TimedOut → late ≡ true) → may_tell d late (of_condvar r) ≡ true
     by (variable.Wait m) told_as.Woken may timed = refl
     by (variable.Wait m) told_as.TimedOut may timed = absurd cc
     by (variable.Wait m) told_as.WrongMutex may timed = refl
@@ -132,17 +143,21 @@ back_away ends.WrongLot s k m so = absurd so
 abbrev Away : Joint → ℕ → Type 0
 Away j t = (b : Bool) → call_at (state j.rows) (number j t b) ≡ None
 
-by_sides : (j : Joint) (t : ℕ) (second : Bool) → call_at (state j.rows) (number j t (not second)) ≡ None → call_at (state j.rows) (number j t second) ≡ None → Away j t
+by_sides : (j : Joint) (t : ℕ) (second : Bool) → call_at (state j.rows) (number j t (not second)) ≡ None
+    → call_at (state j.rows) (number j t second) ≡ None → Away j t
 by_sides j t true front back true = back
 by_sides j t true front back false = front
 by_sides j t false front back true = front
 by_sides j t false front back false = back
 
-wait_away : (j : Joint) (t : ℕ) (c : Wait) (p : WaitPhase) (r : CondvarReply) → Waits j t c p → reply_in_wait p ≡ Some r → Away j t
-wait_away j t c (w.Ends a) r s e = by_sides j t (seat_at j t).second (front_away a (state j.rows) (front_number j t) _ s.front) (back_away a (state j.rows) (back_number j t) _ s.back)
+wait_away : (j : Joint) (t : ℕ) (c : Wait) (p : WaitPhase) (r : CondvarReply) → Waits j t c p → reply_in_wait p ≡ Some r
+    → Away j t
+wait_away j t c (w.Ends a) r s e = by_sides j t (seat_at j t).second
+    (front_away a (state j.rows) (front_number j t) _ s.front) (back_away a (state j.rows) (back_number j t) _ s.back)
 wait_away j t c p r s e = absurd (none-some r e)
 
-core_away : (j : Joint) (t : ℕ) (c : Wait) (k : Core) (r : CondvarReply) → Stands j t c k → reply_by c.call k ≡ Some r → Away j t
+core_away : (j : Joint) (t : ℕ) (c : Wait) (k : Core) (r : CondvarReply) → Stands j t c k → reply_by c.call k ≡ Some r
+    → Away j t
 core_away j t c (Core.Wait q) r s e = wait_away j t c q.phase r s e
 core_away j t c (Core.Notify q) r s e = λ b. notify_away b
   where
@@ -164,7 +179,8 @@ module _ (replies : RepliesFit) (t i : ℕ) (d : CondvarCall) where
     in_time : late ≡ false → core_late call.core ≡ false
     unanswered : answer_at x t ≡ None
 
-  carry : (v x : Shown) (late : Bool) (m : InWait v late) → seat_at x.waits t ≡ seat_at v.waits t → KeepsAt t v.waits x.waits → answer_at x t ≡ answer_at v t → InWait x late
+  carry : (v x : Shown) (late : Bool) (m : InWait v late) → seat_at x.waits t ≡ seat_at v.waits t
+      → KeepsAt t v.waits x.waits → answer_at x t ≡ answer_at v t → InWait x late
   carry v x late m seat keeps same =
       let on = keeps i m.call m.here in
       record {
@@ -180,21 +196,29 @@ module _ (replies : RepliesFit) (t i : ℕ) (d : CondvarCall) where
 
   module _ (v x : Shown) (late : Bool) (u : ℕ) (ne : t ≢ u) where
     same_waits : x.waits ≡ v.waits → answer_at x t ≡ answer_at v t → InWait v late → InWait x late
-    same_waits e same m = carry v x late m (ap (λ (j : Joint). seat_at j t) e) (same_keeps t v.waits x.waits (ap (λ (j : Joint). j.vars) e)) same
+    same_waits e same m = carry v x late m (ap (λ (j : Joint). seat_at j t) e)
+        (same_keeps t v.waits x.waits (ap (λ (j : Joint). j.vars) e)) same
 
-    asked_by : (l : ℕ) (call : Asked) → IsAsked u l call v x → answer_at x t ≡ answer_at v t → InWait v late → InWait x late
-    asked_by l (Asked.OfLock e) (begun, same) answers m = carry v x late m (seats_same t (may_tell d) v x begun.seats).seat (same_keeps t v.waits x.waits begun.vars) answers
+    asked_by : (l : ℕ) (call : Asked) → IsAsked u l call v x → answer_at x t ≡ answer_at v t → InWait v late
+        → InWait x late
+    asked_by l (Asked.OfLock e) (begun, same) answers m =
+        carry v x late m (seats_same t (may_tell d) v x begun.seats).seat (same_keeps t v.waits x.waits begun.vars)
+        answers
     asked_by l (Asked.OfVariable e) (begun, same) answers m =
-        carry v x late m (seats_set t (may_tell d) v x u _ ne begun.seats).seat (begun_other t u l e v.waits x.waits ne begun.begins.0 begun.begins.1 begun.begins.2) answers
+        carry v x late m (seats_set t (may_tell d) v x u _ ne begun.seats).seat
+        (begun_other t u l e v.waits x.waits ne begun.begins.0 begun.begins.1 begun.begins.2) answers
     asked_by l (Asked.OfOnce e) (begun, same) answers m = same_waits same answers m
 
-    keeps_gone : (at : Option ℕ) (fair : Bool) (end : Option Ended) → IsGoneAt at u fair end v.waits x.waits → KeepsAt t v.waits x.waits
+    keeps_gone : (at : Option ℕ) (fair : Bool) (end : Option Ended) → IsGoneAt at u fair end v.waits x.waits
+        → KeepsAt t v.waits x.waits
     keeps_gone None fair end (a, z, ends) = same_keeps t v.waits x.waits z.vars
-    keeps_gone (Some m) fair end (reply, z, ends) = turned_other t v.waits x.waits u m fair z.call reply ne (turn_of z.call) z.turned
+    keeps_gone (Some m) fair end (reply, z, ends) = turned_other t v.waits x.waits u m fair z.call reply ne
+        (turn_of z.call) z.turned
 
     gone_by : (fair b : Bool) → IsGone b u fair v x → answer_at x t ≡ answer_at v t → InWait v late → InWait x late
     gone_by fair false (end, gone, same, told) answers m =
-        carry v x late m (seats_gone t (may_tell d) v x u (seat_at v.waits u).at fair end ne gone).seat (keeps_gone (seat_at v.waits u).at fair end gone) answers
+        carry v x late m (seats_gone t (may_tell d) v x u (seat_at v.waits u).at fair end ne gone).seat
+        (keeps_gone (seat_at v.waits u).at fair end gone) answers
     gone_by fair true (reply, made, same, told) answers m = same_waits same answers m
 
     keeps_late : (at : Option ℕ) → IsLateAt at u v.waits x.waits → KeepsAt t v.waits x.waits
@@ -203,7 +227,8 @@ module _ (replies : RepliesFit) (t i : ℕ) (d : CondvarCall) where
 
     late_by : IsLate u v x → InWait v late → InWait x late
     late_by (came, same, answers) m =
-        carry v x late m (seats_late t (may_tell d) v x u (seat_at v.waits u).at came).seat (keeps_late (seat_at v.waits u).at came) (ap (λ xs. option_and_then (λ a. a) (slice_get xs t)) answers)
+        carry v x late m (seats_late t (may_tell d) v x u (seat_at v.waits u).at came).seat
+        (keeps_late (seat_at v.waits u).at came) (ap (λ xs. option_and_then (λ a. a) (slice_get xs t)) answers)
 
   -- ITS OWN STEPS
 
@@ -214,8 +239,10 @@ module _ (replies : RepliesFit) (t i : ℕ) (d : CondvarCall) where
     no_once : onces.call_at v.onces t ≡ None
     no_once = fit.whole.apart t (seated_busy v.waits t i (lt-ltb t (length v.waits.seats) low_seat) m.seat)
 
-    goes_on : (fair : Bool) (z : GoesAtVariable t i fair None v.waits x.waits) → answer_at x t ≡ answer_at v t → InWait x late
-    goes_on fair z answers = carry v x late m (seats_freed_none z.seats) (turned_itself t v.waits x.waits i fair z.call (turn_of z.call) z.turned) answers
+    goes_on : (fair : Bool) (z : GoesAtVariable t i fair None v.waits x.waits) → answer_at x t ≡ answer_at v t
+        → InWait x late
+    goes_on fair z answers = carry v x late m (seats_freed_none z.seats)
+        (turned_itself t v.waits x.waits i fair z.call (turn_of z.call) z.turned) answers
       where
         seats_freed_none : x.waits.seats ≡ v.waits.seats → seat_at x.waits t ≡ seat_at v.waits t
         seats_freed_none e = ap (λ (ss : List Seat). unwrap_or (slice_get ss t) nowhere) e
@@ -240,16 +267,19 @@ module _ (replies : RepliesFit) (t i : ℕ) (d : CondvarCall) where
       replied = replied_by (turn_of z.call) z.turned
 
       rows_same : x.waits.rows ≡ v.waits.rows
-      rows_same = (subst (λ y. Turned y t i fair z.call (Some r) v.waits x.waits) (core_acts z.call z.call.core r replied) z.turned).1
+      rows_same = (subst (λ y. Turned y t i fair z.call (Some r) v.waits x.waits)
+          (core_acts z.call z.call.core r replied) z.turned).1
 
       away : Away v.waits t
       away = core_away v.waits t z.call z.call.core r (fit.tied.stands i t z.call z.here) replied
 
       -- its seat is free
       seat_free : seat_at x.waits t ≡ nowhere
-      seat_free = ap (λ (ss : List Seat). unwrap_or (slice_get ss t) nowhere) z.seats ∙ freed_here v.waits.seats t low_seat
+      seat_free = ap (λ (ss : List Seat). unwrap_or (slice_get ss t) nowhere) z.seats
+          ∙ freed_here v.waits.seats t low_seat
         where
-          freed_here : (ss : List Seat) (k : ℕ) → k < length ss → unwrap_or (slice_get (slice_set ss k nowhere) k) nowhere ≡ nowhere
+          freed_here : (ss : List Seat) (k : ℕ) → k < length ss → unwrap_or (slice_get (slice_set ss k nowhere) k)
+              nowhere ≡ nowhere
           freed_here [] k low = absurd (omega (arith, low))
           freed_here (s ∷ ss) zero low = refl
           freed_here (s ∷ ss) (suc k) low = freed_here ss k (omega (arith, low))
@@ -258,7 +288,8 @@ module _ (replies : RepliesFit) (t i : ℕ) (d : CondvarCall) where
       count = ap (λ (ss : List Seat). length ss) z.seats ∙ length-set v.waits.seats t nowhere
 
       none_by : (b : Bool) → call_at (rows_of x) (number x.waits t b) ≡ None
-      none_by b = ap (λ rs. call_at (state rs) (number x.waits t b)) rows_same ∙ ap (λ n. call_at (rows_of v) (cond b (n + t) t)) count ∙ away b
+      none_by b = ap (λ rs. call_at (state rs) (number x.waits t b)) rows_same
+          ∙ ap (λ n. call_at (rows_of v) (cond b (n + t) t)) count ∙ away b
 
       timed : r ≡ told_as.TimedOut → late ≡ true
       timed e = go late refl
@@ -276,10 +307,12 @@ module _ (replies : RepliesFit) (t i : ℕ) (d : CondvarCall) where
         out = ap (λ (o : Onces). onces.call_at o t) same ∙ no_once;
         answer = of_condvar r;
         answered = answers;
-        fits = tells z.call d r late (ap (λ (c : Wait). c.call) mine ∙ m.asks) (replies t i fair r v.waits x.waits (fit.parts.vars i) z) timed;
+        fits = tells z.call d r late (ap (λ (c : Wait). c.call) mine ∙ m.asks)
+            (replies t i fair r v.waits x.waits (fit.parts.vars i) z) timed;
       }
 
-    gone_itself : (fair : Bool) (at : Option ℕ) → (seat_at v.waits t).at ≡ at → (end : Option Ended) → IsGoneAt at t fair end v.waits x.waits → x.onces ≡ v.onces
+    gone_itself : (fair : Bool) (at : Option ℕ) → (seat_at v.waits t).at ≡ at → (end : Option Ended)
+        → IsGoneAt at t fair end v.waits x.waits → x.onces ≡ v.onces
         → x.answers ≡ noted t (option_map (of_ended (lock_call v.waits t)) end) v.answers → InWait x late ⊎ Over x late
     gone_itself fair None seat end gone same answers = absurd (none-some i (sym seat ∙ m.seat))
     gone_itself fair (Some k) seat end gone same answers = at (same_Some k i (sym seat ∙ m.seat)) gone
@@ -288,25 +321,32 @@ module _ (replies : RepliesFit) (t i : ℕ) (d : CondvarCall) where
         at e gone = there (subst (λ n. IsGoneAt (Some n) t fair end v.waits x.waits) e gone)
           where
             there : IsGoneAt (Some i) t fair end v.waits x.waits → InWait x late ⊎ Over x late
-            there (None, z, ends) = inl (goes_on fair z (ap (λ xs. option_and_then (λ a. a) (slice_get xs t)) (answers ∙ ap (λ e. noted t (option_map (of_ended (lock_call v.waits t)) e) v.answers) ends)))
+            there (None, z, ends) =
+                inl (goes_on fair z
+                (ap (λ xs. option_and_then (λ a. a) (slice_get xs t))
+                (answers ∙ ap (λ e. noted t (option_map (of_ended (lock_call v.waits t)) e) v.answers) ends)))
             there (Some r, z, ends) = inr (is_over fair r z same (
-                ap (λ xs. option_and_then (λ a. a) (slice_get xs t)) (answers ∙ ap (λ e. noted t (option_map (of_ended (lock_call v.waits t)) e) v.answers) ends)
+                ap (λ xs. option_and_then (λ a. a) (slice_get xs t))
+                (answers ∙ ap (λ e. noted t (option_map (of_ended (lock_call v.waits t)) e) v.answers) ends)
                 ∙ set_there v.answers t (Some (of_condvar r)) low
                 ))
 
     goes_itself : (fair b : Bool) → is_in_once v t ≡ b → IsGone b t fair v x → InWait x late ⊎ Over x late
     goes_itself fair true is gone = both_ways (is_in_once v t) is (ap (λ (o : Option OpenCall). is_some o) no_once)
-    goes_itself fair false is (end, gone, same, answers) = gone_itself fair (seat_at v.waits t).at refl end gone same answers
+    goes_itself fair false is (end, gone, same, answers) = gone_itself fair (seat_at v.waits t).at refl end gone same
+        answers
 
     -- its deadline
     told_same : (c : Wait) (left : Bool) (k : Core) → (told_by c left outside.Expired k).call ≡ c.call
     told_same c left (Core.Wait q) = refl
     told_same c left (Core.Notify q) = refl
 
-    late_itself : (at : Option ℕ) → (seat_at v.waits t).at ≡ at → IsLateAt at t v.waits x.waits → answer_at x t ≡ answer_at v t → InWait x true
+    late_itself : (at : Option ℕ) → (seat_at v.waits t).at ≡ at → IsLateAt at t v.waits x.waits
+        → answer_at x t ≡ answer_at v t → InWait x true
     late_itself None seat came answers = absurd (none-some i (sym seat ∙ m.seat))
     late_itself (Some k) seat (hears, same, seats) answers =
-        let there = told_there t i outside.Expired m.call v.waits x.waits m.here (subst (λ n. HearsAt t n outside.Expired v.waits x.waits) (same_Some k i (sym seat ∙ m.seat)) hears) in
+        let there = told_there t i outside.Expired m.call v.waits x.waits m.here
+        (subst (λ n. HearsAt t n outside.Expired v.waits x.waits) (same_Some k i (sym seat ∙ m.seat)) hears) in
         record {
           seat = ap (λ (ss : List Seat). (unwrap_or (slice_get ss t) nowhere).at) seats ∙ m.seat;
           call = told m.call there.0 outside.Expired;
@@ -320,19 +360,25 @@ module _ (replies : RepliesFit) (t i : ℕ) (d : CondvarCall) where
         no e = cc
 
     expires_itself : IsLate t v x → InWait x true
-    expires_itself (came, same, answers) = late_itself (seat_at v.waits t).at refl came (ap (λ xs. option_and_then (λ a. a) (slice_get xs t)) answers)
+    expires_itself (came, same, answers) = late_itself (seat_at v.waits t).at refl came
+        (ap (λ xs. option_and_then (λ a. a) (slice_get xs t)) answers)
 
   -- ANY STEP BUT A BEGINNING OF ITS OWN
 
-  goes_by : (v x : Shown) (late : Bool) (u : ℕ) (fair : Bool) → IsFit v → t < length v.answers → IsGone (is_in_once v u) u fair v x → InWait v late → (b : Bool) → (u == t) ≡ b → InWait x late ⊎ Over x late
-  goes_by v x late u fair fit low gone m true e = goes_itself v x fit late low m fair (is_in_once v t) refl (subst (λ n. IsGone (is_in_once v n) n fair v x) (eqb-true u t e) gone)
+  goes_by : (v x : Shown) (late : Bool) (u : ℕ) (fair : Bool) → IsFit v → t < length v.answers
+      → IsGone (is_in_once v u) u fair v x → InWait v late → (b : Bool) → (u == t) ≡ b → InWait x late ⊎ Over x late
+  goes_by v x late u fair fit low gone m true e = goes_itself v x fit late low m fair (is_in_once v t) refl
+      (subst (λ n. IsGone (is_in_once v n) n fair v x) (eqb-true u t e) gone)
   goes_by v x late u fair fit low gone m false e =
       let ne = not_it t (may_tell d) u e in
       inl (gone_by v x late u ne fair (is_in_once v u) gone (answer_gone t (may_tell d) v x u fair ne gone) m)
 
-  lates_by : (v x : Shown) (late : Bool) (u : ℕ) → IsFit v → t < length v.answers → IsLate u v x → InWait v late → (b : Bool) → (u == t) ≡ b → InWait x (late || b)
-  lates_by v x late u fit low came m true e = subst (InWait x) (sym (or_so t (may_tell d) late)) (expires_itself v x fit late low m (subst (λ n. IsLate n v x) (eqb-true u t e) came))
-  lates_by v x late u fit low came m false e = subst (InWait x) (sym (or_not t (may_tell d) late)) (late_by v x late u (not_it t (may_tell d) u e) came m)
+  lates_by : (v x : Shown) (late : Bool) (u : ℕ) → IsFit v → t < length v.answers → IsLate u v x → InWait v late
+      → (b : Bool) → (u == t) ≡ b → InWait x (late || b)
+  lates_by v x late u fit low came m true e = subst (InWait x) (sym (or_so t (may_tell d) late))
+      (expires_itself v x fit late low m (subst (λ n. IsLate n v x) (eqb-true u t e) came))
+  lates_by v x late u fit low came m false e = subst (InWait x) (sym (or_not t (may_tell d) late))
+      (late_by v x late u (not_it t (may_tell d) u e) came m)
 
   abbrev On : Shown → Bool → Type 0
   On x late = InWait x late ⊎ Over x late
@@ -340,9 +386,13 @@ module _ (replies : RepliesFit) (t i : ℕ) (d : CondvarCall) where
   goes : Goes t (may_tell d) InWait
   goes v x late (step.Begin u l call) fit fits low there may (begun, answers, kinds) begins m =
       let ne = not_it t (may_tell d) u begins in
-      inl (subst (InWait x) (sym (or_not t (may_tell d) late)) (asked_by v x late u ne l (asked call) begun (ap (λ xs. option_and_then (λ a. a) (slice_get xs t)) answers ∙ elsewhere v.answers t u None ne) m))
-  goes v x late (step.Go u fair) fit fits low there may (gone, kinds) begins m = subst (On x) (sym (or_not t (may_tell d) late)) (goes_by v x late u fair fit low gone m (u == t) refl)
-  goes v x late (step.Deadline u) fit fits low there may (came, kinds) begins m = inl (lates_by v x late u fit low came m (u == t) refl)
+      inl (subst (InWait x) (sym (or_not t (may_tell d) late))
+      (asked_by v x late u ne l (asked call) begun
+      (ap (λ xs. option_and_then (λ a. a) (slice_get xs t)) answers ∙ elsewhere v.answers t u None ne) m))
+  goes v x late (step.Go u fair) fit fits low there may (gone, kinds) begins m =
+      subst (On x) (sym (or_not t (may_tell d) late)) (goes_by v x late u fair fit low gone m (u == t) refl)
+  goes v x late (step.Deadline u) fit fits low there may (came, kinds) begins m =
+      inl (lates_by v x late u fit low came m (u == t) refl)
 
   -- ITS BEGINNING
 
@@ -352,26 +402,32 @@ module _ (replies : RepliesFit) (t i : ℕ) (d : CondvarCall) where
   starts_in_time variable.NotifyOne = refl
   starts_in_time variable.NotifyAll = refl
 
-  first : (v x : Shown) → IsFit v → IsFit x → t < length v.answers → IsAsked t i (Asked.OfVariable d) v x → x.answers ≡ slice_set v.answers t None → InWait x false
+  first : (v x : Shown) → IsFit v → IsFit x → t < length v.answers → IsAsked t i (Asked.OfVariable d) v x
+      → x.answers ≡ slice_set v.answers t None → InWait x false
   first v x fit fits low (begun, same) answers = go (fits.tied.sits i t seat)
     where
       low_now : t < length v.waits.seats
       low_now = omega (arith, low, fit.whole.wait_threads)
 
-      seat_now : (ss : List Seat) (k : ℕ) (s : Seat) → k < length ss → unwrap_or (slice_get (slice_set ss k s) k) nowhere ≡ s
+      seat_now : (ss : List Seat) (k : ℕ) (s : Seat) → k < length ss → unwrap_or (slice_get (slice_set ss k s) k)
+          nowhere ≡ s
       seat_now [] k s low = absurd (omega (arith, low))
       seat_now (y ∷ ss) zero s low = refl
       seat_now (y ∷ ss) (suc k) s low = seat_now ss k s (omega (arith, low))
 
       seat : (seat_at x.waits t).at ≡ Some i
-      seat = ap (λ (ss : List Seat). (unwrap_or (slice_get ss t) nowhere).at) begun.seats ∙ ap (λ (s : Seat). s.at) (seat_now v.waits.seats t _ low_now)
+      seat = ap (λ (ss : List Seat). (unwrap_or (slice_get ss t) nowhere).at) begun.seats
+          ∙ ap (λ (s : Seat). s.at) (seat_now v.waits.seats t _ low_now)
 
       -- its call is the one that has begun
-      begun_call : (o : Option Var) → var_at v.waits i ≡ o → (y : Option Var) → BeginsIn t d o y → x.waits.vars ≡ slice_set v.waits.vars i y → (c : Wait) → wait_at x.waits i t ≡ Some c → c ≡ call_for d
+      begun_call : (o : Option Var) → var_at v.waits i ≡ o → (y : Option Var) → BeginsIn t d o y
+          → x.waits.vars ≡ slice_set v.waits.vars i y → (c : Wait) → wait_at x.waits i t ≡ Some c → c ≡ call_for d
       begun_call None at y begins e c here = absurd begins
       begun_call (Some z) at None begins e c here = absurd begins
-      begun_call (Some z) at (Some y) begins e c here = sym (same_Some (call_for d) c (read_back z.calls t (Some (call_for d)) c (
-          sym (ap (λ (o : Option Var). call_in o t) (var_here v.waits.vars x.waits.vars i z y at e) ∙ ap (λ (q : Var). var_call_at q t) begins.became) ∙ here
+      begun_call (Some z) at (Some y) begins e c here =
+          sym (same_Some (call_for d) c (read_back z.calls t (Some (call_for d)) c (
+          sym (ap (λ (o : Option Var). call_in o t) (var_here v.waits.vars x.waits.vars i z y at e)
+          ∙ ap (λ (q : Var). var_call_at q t) begins.became) ∙ here
           )))
 
       go : (c : Wait) × (wait_at x.waits i t ≡ Some c) → InWait x false
@@ -391,4 +447,5 @@ module _ (replies : RepliesFit) (t i : ℕ) (d : CondvarCall) where
       let may = allowed t (may_tell d) v (step.Begin t i asks) ok in
       let m = first v mid fit fits may.0 (subst (λ q. IsAsked t i q v mid) is begun) answers in
       let many = ap (λ xs. length xs) answers ∙ length-set v.answers t None in
-      answered_fits t (may_tell d) InWait goes (λ y late k. k.unanswered) mid x steps a fits (omega (arith, may.0, many)) m rest begins said
+      answered_fits t (may_tell d) InWait goes (λ y late k. k.unanswered) mid x steps a fits
+      (omega (arith, may.0, many)) m rest begins said

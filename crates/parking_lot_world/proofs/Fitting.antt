@@ -11,17 +11,20 @@ use Rattle.parking_lot_machine_calls.specs.declared.calls.OwnMode.{OwnMode}
 use Rattle.parking_lot_world.specs.WorldAnswers.{is_owned, is_refused, is_released, is_timed_out, may_answer}
 use Rattle.parking_lot_world.specs.WorldCalls.{of_core, of_timed}
 
-asks : (m : OwnMode) (from late : Bool) (a : CoreAnswer) → may_end (Asks m from) false a ≡ true → is_owned (of_core a) ≡ true
+asks : (m : OwnMode) (from late : Bool) (a : CoreAnswer) → may_end (Asks m from) false a ≡ true
+    → is_owned (of_core a) ≡ true
 asks m from late Owned e = refl
 asks m from late Refused e = absurd cc
 asks m from late Released e = absurd cc
 
-tries : (m : OwnMode) (from late : Bool) (a : CoreAnswer) → may_end (Tries m from) late a ≡ true → is_owned (of_core a) || is_refused (of_core a) ≡ true
+tries : (m : OwnMode) (from late : Bool) (a : CoreAnswer) → may_end (Tries m from) late a ≡ true → is_owned (of_core a)
+    || is_refused (of_core a) ≡ true
 tries m from late Owned e = refl
 tries m from late Refused e = refl
 tries m from late Released e = absurd cc
 
-until : (m : OwnMode) (from late : Bool) (a : CoreAnswer) → may_end (Asks m from) late a ≡ true → is_owned (of_timed a) || (late && is_timed_out (of_timed a)) ≡ true
+until : (m : OwnMode) (from late : Bool) (a : CoreAnswer) → may_end (Asks m from) late a ≡ true → is_owned (of_timed a)
+    || (late && is_timed_out (of_timed a)) ≡ true
 until m from late Owned e = refl
 until m from true Refused e = refl
 until m from false Refused e = absurd cc
@@ -38,7 +41,8 @@ turns m late Owned e = refl
 turns m late Refused e = absurd cc
 turns m late Released e = absurd cc
 
-pub answers_fit : (c : LockCall) (late : Bool) (a : CoreAnswer) → may_end (stage_of c) (is_timed c && late) a ≡ true → may_answer c late (cond (is_timed c) (of_timed a) (of_core a)) ≡ true
+pub answers_fit : (c : LockCall) (late : Bool) (a : CoreAnswer) → may_end (stage_of c) (is_timed c && late) a ≡ true
+    → may_answer c late (cond (is_timed c) (of_timed a) (of_core a)) ≡ true
 answers_fit call.Lock late a e = asks OwnMode.Exclusive false late a e
 answers_fit call.TryLock late a e = tries OwnMode.Exclusive false false a e
 answers_fit call.LockUntil late a e = until OwnMode.Exclusive false late a e

@@ -1,5 +1,6 @@
 -- A new world is whole.
-use Rattle.std.proofs.Common.{◌≡◌, ℕ, zero, suc, ◌*◌, ◌&&◌, not, nat_lt, inr, Bool, true, false, is_some, is_none, map, length, List, [], ◌∷◌, replicate, Option, None, slice_get, refl, sym, ap, ◌∙◌}
+use Rattle.std.proofs.Common.{◌≡◌, ℕ, zero, suc, ◌*◌, ◌&&◌, not, nat_lt, inr, Bool, true, false, is_some, is_none, map}
+use Rattle.std.proofs.Common.{length, List, [], ◌∷◌, replicate, Option, None, slice_get, refl, sym, ap, ◌∙◌}
 use Rattle.std.specs.Option.{option_and_then, option_map_or, unwrap_or}
 use Rattle.std.proofs.lemmas.List.{length-replicate}
 use Rattle.std.proofs.lemmas.Option.{none-some}
@@ -29,7 +30,8 @@ unseated (suc n) zero = refl
 unseated (suc n) (suc t) = unseated n t
 
 -- a place is a variable where its lock is one
-var_there : (n : ℕ) (kinds : List LockKind) (v : ℕ) → is_some (var_in (map (var_of n) (map is_variable kinds)) v) ≡ option_map_or is_variable (slice_get kinds v) false
+var_there : (n : ℕ) (kinds : List LockKind) (v : ℕ) → is_some (var_in (map (var_of n) (map is_variable kinds)) v)
+    ≡ option_map_or is_variable (slice_get kinds v) false
 var_there n [] v = refl
 var_there n (k ∷ ks) zero = at (is_variable k)
   where
@@ -45,7 +47,9 @@ none_of false b c d e f g = absurd cc
 none_of true false c d e f g = absurd cc
 none_of true true false d e f g = absurd cc
 
-module _ (w : Shown) (threads : ℕ) (rows_new : state w.waits.rows ≡ rows.at_rest (2 * threads) (map row_kind w.kinds)) (vars : w.waits.vars ≡ map (var_of threads) (map is_variable w.kinds)) (seats : w.waits.seats ≡ replicate threads nowhere)
+module _ (w : Shown) (threads : ℕ) (rows_new : state w.waits.rows ≡ rows.at_rest (2 * threads) (map row_kind w.kinds))
+    (vars : w.waits.vars ≡ map (var_of threads) (map is_variable w.kinds))
+    (seats : w.waits.seats ≡ replicate threads nowhere)
     (onces_new : w.onces ≡ once.at_rest threads (length w.kinds)) (answers : w.answers ≡ replicate threads None) where
   as_many : length w.answers ≡ threads
   as_many = ap length answers ∙ length-replicate threads None
@@ -54,7 +58,9 @@ module _ (w : Shown) (threads : ℕ) (rows_new : state w.waits.rows ≡ rows.at_
   no_call k = ap (λ (s : State). call_at s k) rows_new ∙ nobody (2 * threads) k
 
   not_busy : (t : ℕ) → is_busy w.waits t ≡ false
-  not_busy t = none_of _ _ _ (nat_lt t (length w.waits.seats)) (ap (λ (ss : List Seat). is_none (unwrap_or (slice_get ss t) nowhere).at) seats ∙ ap (λ (x : Seat). is_none x.at) (unseated threads t))
+  not_busy t = none_of _ _ _ (nat_lt t (length w.waits.seats))
+      (ap (λ (ss : List Seat). is_none (unwrap_or (slice_get ss t) nowhere).at) seats
+      ∙ ap (λ (x : Seat). is_none x.at) (unseated threads t))
       (ap is_none (no_call t)) (ap is_none (no_call (number w.waits t true)))
 
   pub new_whole : IsWhole w
@@ -66,6 +72,7 @@ module _ (w : Shown) (threads : ℕ) (rows_new : state w.waits.rows ≡ rows.at_
     once_count = ap (λ (s : Onces). length s.words) onces_new ∙ length-replicate (length w.kinds) 0;
     apart = λ t busy. both_ways (is_busy w.waits t) busy (not_busy t);
     at_locks = λ k c here. absurd (none-some c (sym (no_call k) ∙ here));
-    at_onces = λ t c is. absurd (none-some c (sym (ap (λ (s : Onces). onces.call_at s t) onces_new ∙ nobody threads t) ∙ is));
+    at_onces = λ t c is. absurd
+        (none-some c (sym (ap (λ (s : Onces). onces.call_at s t) onces_new ∙ nobody threads t) ∙ is));
     sections = inr (ap (λ (s : Onces). s.inside) onces_new);
   }

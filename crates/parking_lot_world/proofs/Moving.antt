@@ -1,5 +1,6 @@
 -- In a world somebody can move.
-use Rattle.std.proofs.Common.{◌≡◌, ℕ, inl, inr, Bool, true, false, cond, is_some, is_none, length, Option, Some, None, refl, sym, ap, ◌∙◌}
+use Rattle.std.proofs.Common.{◌≡◌, ℕ, inl, inr, Bool, true, false, cond, is_some, is_none, length, Option, Some, None}
+use Rattle.std.proofs.Common.{refl, sym, ap, ◌∙◌}
 use Rattle.std.specs.Option.{option_map_or}
 use Rattle.std.proofs.lemmas.Bool.{ltb-true}
 use Rattle.parking_lot_protocol_waits.specs.declared.once.once_phase.OncePhase.{OncePhase}
@@ -19,7 +20,8 @@ use Rattle.parking_lot_machine_waits.specs.JointProgress.{GiversAreOut, Somebody
 use Rattle.parking_lot_machine_waits.specs.JointProgress as wait_laws
 use Rattle.parking_lot_machine_waits.specs.Whole as waits
 use Rattle.parking_lot_world.specs.WorldLaws.{Moves, SomebodyCanMove}
-use Rattle.parking_lot_world.specs.Worlds.{IsWhole, Shown, goes, is_entry, is_in_once, may_go, once_enters, once_side, wait_side}
+use Rattle.parking_lot_world.specs.Worlds.{IsWhole, Shown, goes, is_entry, is_in_once, may_go, once_enters, once_side}
+use Rattle.parking_lot_world.specs.Worlds.{wait_side}
 use Rattle.parking_lot_world.proofs.Busy.{goes_busy}
 use Rattle.parking_lot_world.proofs.Sides.{IsOrderly, somebody_goes}
 use Rattle.parking_lot_world.proofs.Whole.{both_true, not_true}
@@ -67,44 +69,56 @@ some_call f (Some c) e = refl
 module _ (s : Onces) (h : Fits s) where
   pub onces_orderly : IsOrderly (once_side s)
   onces_orderly = record {
-    busy = λ t moves. some_call (λ (c : OpenCall). once.is_possible (is_none s.inside) (of_once.act_of c.core.phase)) (onces.call_at s t) moves;
+    busy = λ t moves. some_call (λ (c : OpenCall). once.is_possible (is_none s.inside) (of_once.act_of c.core.phase))
+        (onces.call_at s t) moves;
     inside = λ some. go s.inside refl some;
   }
     where
       shut : false ≡ true → ⊥
       shut e = cc
 
-      go : (o : Option ℕ) → s.inside ≡ o → is_some s.inside ≡ true → (u : ℕ) × (once.can_move s u ≡ true) × (once_enters s u ≡ false)
+      go : (o : Option ℕ) → s.inside ≡ o → is_some s.inside ≡ true → (u : ℕ) × (once.can_move s u ≡ true)
+          × (once_enters s u ≡ false)
       go None is some = absurd (shut (sym (ap is_some is) ∙ some))
       go (Some u) is some =
           let d = h.inside u is in
           let works = once_works d.0.core.phase ((h.seated u d.0 d.1).section ∙ is_one s.inside u is) in
           let w = once_goes (of_once.act_of d.0.core.phase) (is_none s.inside) works in (
             u,
-            ap (λ o. option_map_or (λ (c : OpenCall). once.is_possible (is_none s.inside) (of_once.act_of c.core.phase)) o false) d.1 ∙ w.0,
+            ap (λ o. option_map_or (λ (c : OpenCall). once.is_possible (is_none s.inside) (of_once.act_of c.core.phase))
+                o false) d.1 ∙ w.0,
             ap (λ o. option_map_or (λ (c : OpenCall). is_entry (of_once.act_of c.core.phase)) o false) d.1 ∙ w.1,
           )
 
 -- BOTH
 
-module _ (inside : SomebodyInsideGoes) (w : Shown) (whole : IsWhole w) (tied : waits.IsWhole w.waits) (givers : GiversAreOut w.waits) (parts : PartsFit w.waits) (onces_fit : Fits w.onces) where
+module _ (inside : SomebodyInsideGoes) (w : Shown) (whole : IsWhole w) (tied : waits.IsWhole w.waits)
+    (givers : GiversAreOut w.waits) (parts : PartsFit w.waits) (onces_fit : Fits w.onces) where
   waits_orderly : IsOrderly (wait_side w.waits)
-  waits_orderly = record { busy = λ t moves. goes_busy w.waits t moves; inside = λ some. inside w.waits tied parts givers some }
+  waits_orderly = record {
+    busy = λ t moves. goes_busy w.waits t moves;
+    inside = λ some. inside w.waits tied parts givers some;
+  }
 
-  may : (t : ℕ) (b : Bool) → is_in_once w t ≡ b → cond b (goes (once_side w.onces) (wait_side w.waits) t) (goes (wait_side w.waits) (once_side w.onces) t) ≡ true → may_go w t ≡ true
-  may t b there goes_so = ap (λ c. cond c (goes (once_side w.onces) (wait_side w.waits) t) (goes (wait_side w.waits) (once_side w.onces) t)) there ∙ goes_so
+  may : (t : ℕ) (b : Bool) → is_in_once w t ≡ b → cond b (goes (once_side w.onces) (wait_side w.waits) t)
+      (goes (wait_side w.waits) (once_side w.onces) t) ≡ true → may_go w t ≡ true
+  may t b there goes_so =
+      ap (λ c. cond c (goes (once_side w.onces) (wait_side w.waits) t) (goes (wait_side w.waits) (once_side w.onces) t))
+      there ∙ goes_so
 
   of_waits : (u : ℕ) → joint.may_go w.waits u ≡ true → goes (wait_side w.waits) (once_side w.onces) u ≡ true → Moves w
-  of_waits u moves so = (u, may u false (ap (λ (o : Option OpenCall). is_some o) (whole.apart u (goes_busy w.waits u moves))) so)
+  of_waits u moves so =
+      (u, may u false (ap (λ (o : Option OpenCall). is_some o) (whole.apart u (goes_busy w.waits u moves))) so)
 
   of_onces : (u : ℕ) → once.can_move w.onces u ≡ true → goes (once_side w.onces) (wait_side w.waits) u ≡ true → Moves w
   of_onces u moves so = (u, may u true ((onces_orderly w.onces onces_fit).busy u moves) so)
 
   waits_move : (u : ℕ) → joint.may_go w.waits u ≡ true → Moves w
-  waits_move u moves = elim (somebody_goes (wait_side w.waits) (once_side w.onces) (onces_orderly w.onces onces_fit) u moves) [
-    | inl so ↦ of_waits u moves so
-    | inr x ↦ of_onces x.0 x.1 x.2
-  ]
+  waits_move u moves =
+      elim (somebody_goes (wait_side w.waits) (once_side w.onces) (onces_orderly w.onces onces_fit) u moves) [
+        | inl so ↦ of_waits u moves so
+        | inr x ↦ of_onces x.0 x.1 x.2
+      ]
 
   onces_move : (u : ℕ) → once.can_move w.onces u ≡ true → Moves w
   onces_move u moves = elim (somebody_goes (once_side w.onces) (wait_side w.waits) waits_orderly u moves) [
@@ -114,10 +128,12 @@ module _ (inside : SomebodyInsideGoes) (w : Shown) (whole : IsWhole w) (tied : w
 
   pub somebody_can_move : wait_laws.SomebodyCanMove → once_laws.SomebodyCanMove w.onces → SomebodyCanMove w
   somebody_can_move of_theirs of_their_onces = record {
-    waits = λ t busy. (let x = both_true _ _ busy in elim (of_theirs w.waits t tied parts givers (ltb-true t (length w.waits.seats) x.0) (not_true (is_free w.waits t) x.1)) [
-      | inl y ↦ inl (waits_move y.0 y.1)
-      | inr kept ↦ inr kept
-    ]);
+    waits = λ t busy. (let x = both_true _ _ busy in
+        elim (of_theirs w.waits t tied parts givers (ltb-true t (length w.waits.seats) x.0)
+        (not_true (is_free w.waits t) x.1)) [
+          | inl y ↦ inl (waits_move y.0 y.1)
+          | inr kept ↦ inr kept
+        ]);
     onces = λ t c here. elim (of_their_onces t c here) [
       | inl x ↦ inl (onces_move x.0 x.1)
       | inr only ↦ inr only

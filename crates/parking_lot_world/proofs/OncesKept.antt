@@ -1,5 +1,5 @@
--- What a step of the machine of onces leaves as it was: who is in a call at which once, how many there are, and that no section is open, where it
--- enters none.
+-- What a step of the machine of onces leaves as it was: who is in a call at which once, how many there are, and that no
+-- section is open, where it enters none.
 use Rattle.std.proofs.Common.{◌≡◌, ℕ, Bool, false, length, Option, Some, None, refl, sym, ap, ◌∙◌, subst}
 use Rattle.std.specs.List.{position}
 use Rattle.std.proofs.lemmas.List.{length-set}
@@ -9,7 +9,8 @@ use Rattle.parking_lot_protocol_waits.specs.declared.once.once_phase.OnceAnswer.
 use Rattle.parking_lot_protocol_waits.specs.Once.OnceTable.{act_of, answer_of}
 use Rattle.parking_lot_machine_sides.specs.declared.once.calls.OnceReply.{OnceReply}
 use Rattle.parking_lot_machine_sides.specs.Once.Entries.{is_in}
-use Rattle.parking_lot_machine_sides.specs.Once.OnceActs.{acted, ended_by, inside_after, off_list, stepped, took_by, with_call, woke_by, woken}
+use Rattle.parking_lot_machine_sides.specs.Once.OnceActs.{acted, ended_by, inside_after, off_list, stepped, took_by}
+use Rattle.parking_lot_machine_sides.specs.Once.OnceActs.{with_call, woke_by, woken}
 use Rattle.parking_lot_machine_sides.specs.Once.OnceSteps.{IsStepped}
 use Rattle.parking_lot_machine_sides.specs.declared.once.open_call.OpenCall.{OpenCall}
 use Rattle.parking_lot_machine_sides.specs.Once.Onces.{Onces, call_at}
@@ -31,11 +32,22 @@ module _ (s : Onces) (t : ℕ) (c : OpenCall) (here : call_at s t ≡ Some c) wh
 
   takes : (o : Option ℕ) (b : Bool) → Kept b s (took_by o s t c)
   takes None b = own b _ refl
-  takes (Some n) b = record { calls = own_stays once_of s.calls _ _ t c _ here refl (other_stays once_of s.calls _ (off_list t) (λ d. refl)); count = refl; closed = λ e o. o }
+  takes (Some n) b =
+      record {
+        calls = own_stays once_of s.calls _ _ t c _ here refl
+            (other_stays once_of s.calls _ (off_list t) (λ d. refl));
+        count = refl;
+        closed = λ e o. o;
+      }
 
   wakes : (o : Option ℕ) (b : Bool) → Kept b s (woke_by o s t c)
   wakes None b = record { calls = itself once_of s.calls; count = refl; closed = λ e o. o }
-  wakes (Some n) b = record { calls = own_stays once_of s.calls _ _ t c _ here refl (other_stays once_of s.calls _ woken (λ d. refl)); count = refl; closed = λ e o. o }
+  wakes (Some n) b =
+      record {
+        calls = own_stays once_of s.calls _ _ t c _ here refl (other_stays once_of s.calls _ woken (λ d. refl));
+        count = refl;
+        closed = λ e o. o;
+      }
 
   ends : (o : Option OnceAnswer) (b : Bool) → Kept b s (ended_by o s t c)
   ends None b = record { calls = itself once_of s.calls; count = refl; closed = λ e o. o }
@@ -45,7 +57,8 @@ module _ (s : Onces) (t : ℕ) (c : OpenCall) (here : call_at s t ≡ Some c) wh
   ends (Some OnceAnswer.Finished) b = record { calls = end_stays once_of s.calls t; count = refl; closed = λ e o. o }
 
   -- an act of its own
-  acts : (a : Act) → act_of c.core.phase ≡ a → (is_entry a ≡ false → s.inside ≡ None → inside_after a t s.inside ≡ None) → Kept (is_entry a) s (acted s t c)
+  acts : (a : Act) → act_of c.core.phase ≡ a → (is_entry a ≡ false → s.inside ≡ None → inside_after a t s.inside ≡ None)
+      → Kept (is_entry a) s (acted s t c)
   acts a asks closed = record {
     calls = next_stays once_of s.calls t c _ here refl;
     count = length-set s.words c.once _;
@@ -75,5 +88,7 @@ module _ (s : Onces) (t : ℕ) (c : OpenCall) (here : call_at s t ≡ Some c) wh
   after Act.Sleep asks = acts _ asks (λ e o. o)
   after (Act.Done answer) asks = ends (answer_of c.core.phase) false
 
-pub stepped_kept : (s u : Onces) (t : ℕ) (reply : Option OnceReply) (x : IsStepped t reply s u) → Kept (is_entry (act_of x.call.core.phase)) s u
-stepped_kept s u t reply x = subst (Kept (is_entry (act_of x.call.core.phase)) s) (sym x.became) (after s t x.call x.here (act_of x.call.core.phase) refl)
+pub stepped_kept : (s u : Onces) (t : ℕ) (reply : Option OnceReply) (x : IsStepped t reply s u)
+    → Kept (is_entry (act_of x.call.core.phase)) s u
+stepped_kept s u t reply x = subst (Kept (is_entry (act_of x.call.core.phase)) s) (sym x.became)
+    (after s t x.call x.here (act_of x.call.core.phase) refl)

@@ -1,5 +1,6 @@
 -- All that is promised of a world, and what is done stays done there.
-use Rattle.std.proofs.Common.{◌≡◌, inl, inr, ◌+◌, ◌-◌, ◌*◌, ◌/◌, ◌<◌, ◌≤◌, ◌==◌, ◌&&◌, ◌||◌, ℕ, Bool, true, false, cond, nat_lt, [], length, map, Option, None, Some, slice_get, refl, sym, ap, ◌∙◌, subst, arith}
+use Rattle.std.proofs.Common.{◌≡◌, inl, inr, ◌+◌, ◌-◌, ◌*◌, ◌/◌, ◌<◌, ◌≤◌, ◌==◌, ◌&&◌, ◌||◌, ℕ, Bool, true, false, cond}
+use Rattle.std.proofs.Common.{nat_lt, [], length, map, Option, None, Some, slice_get, refl, sym, ap, ◌∙◌, subst, arith}
 use Rattle.std.specs.Option.{option_map_or, option_or}
 use Rattle.std.proofs.lemmas.Bool.{cases_lt, lt-ltb, ltb-true}
 use Rattle.std.proofs.lemmas.List.{length-map}
@@ -32,8 +33,10 @@ use Rattle.parking_lot_machine.proofs.Carrying.{call_within}
 use Rattle.parking_lot_world.specs.declared.calls.Asked.{Asked}
 use Rattle.parking_lot_world.specs.declared.step.WorldStep.{WorldStep}
 use Rattle.parking_lot_world.specs.WorldCalls.{asked, is_once}
-use Rattle.parking_lot_world.specs.WorldLaws.{DebtsAreKept, DoneStays, IsOwned, IsSoundWorld, OwnersAgree, SomebodyIsInDebt, StepsAreFew}
-use Rattle.parking_lot_world.specs.Worlds.{IsAsked, IsGone, IsMade, IsWhole, Shown, is_in_once, is_once_at, is_variable_at, mode_at, queue_at, rows_of}
+use Rattle.parking_lot_world.specs.WorldLaws.{DebtsAreKept, DoneStays, IsOwned, IsSoundWorld, OwnersAgree}
+use Rattle.parking_lot_world.specs.WorldLaws.{SomebodyIsInDebt, StepsAreFew}
+use Rattle.parking_lot_world.specs.Worlds.{IsAsked, IsGone, IsMade, IsWhole, Shown, is_in_once, is_once_at}
+use Rattle.parking_lot_world.specs.Worlds.{is_variable_at, mode_at, queue_at, rows_of}
 use Rattle.parking_lot_world.proofs.Moving.{somebody_can_move}
 
 -- one that is either is the first or the second
@@ -41,98 +44,136 @@ either : {X : Type 0} (o p : Option X) (x : X) → option_or o p ≡ Some x → 
 either None p x e = (true, e)
 either (Some y) p x e = (false, e)
 
-module _ (w : Shown) (whole : IsWhole w) (tied : waits.IsWhole w.waits) (givers : GiversAreOut w.waits) (parts : PartsFit w.waits) (locks : row_laws.IsSoundMachine (rows_of w)) (onces : once_laws.IsSoundMachine w.onces) where
-  abbrev n : ℕ
-  n = length w.waits.seats
+module _ (w : Shown) (whole : IsWhole w) (tied : waits.IsWhole w.waits) (givers : GiversAreOut w.waits)
+    (parts : PartsFit w.waits) (locks : row_laws.IsSoundMachine (rows_of w)) (onces : once_laws.IsSoundMachine w.onces)
+  where
+    abbrev n : ℕ
+    n = length w.waits.seats
 
-  -- who owns a lock does so by one of its numbers
-  owned_by : (i t : ℕ) (a : OwnMode) → mode_at w i t ≡ Some a → (b : Bool) × (t < n) × (mode_in (lock_at (rows_of w) i) (number w.waits t b) ≡ Some a)
-  owned_by i t a owns = go (is_once_at w i || is_variable_at w i) refl (nat_lt t n) refl
-    where
-      go : (c : Bool) → (is_once_at w i || is_variable_at w i) ≡ c → (d : Bool) → nat_lt t n ≡ d → (b : Bool) × (t < n) × (mode_in (lock_at (rows_of w) i) (number w.waits t b) ≡ Some a)
-      go true e d low = absurd (none-some a (sym (ap (λ c. cond c None (joints.mode_at w.waits t i)) e) ∙ owns))
-      go false e false low = absurd (none-some a (sym (ap (λ c. cond c (option_or (mode_in (lock_at (rows_of w) i) t) (mode_in (lock_at (rows_of w) i) (number w.waits t true))) None) low) ∙ sym (ap (λ c. cond c None (joints.mode_at w.waits t i)) e) ∙ owns))
-      go false e true low =
-          let x = either (mode_in (lock_at (rows_of w) i) t) (mode_in (lock_at (rows_of w) i) (number w.waits t true)) a
-          (sym (ap (λ c. cond c (option_or (mode_in (lock_at (rows_of w) i) t) (mode_in (lock_at (rows_of w) i) (number w.waits t true))) None) low) ∙ sym (ap (λ c. cond c None (joints.mode_at w.waits t i)) e) ∙ owns) in
-          (x.0, ltb-true t n low, at x.0 ∙ x.1)
-        where
-          at : (b : Bool) → mode_in (lock_at (rows_of w) i) (number w.waits t b) ≡ cond b (mode_in (lock_at (rows_of w) i) (number w.waits t true)) (mode_in (lock_at (rows_of w) i) t)
-          at true = refl
-          at false = refl
+    -- who owns a lock does so by one of its numbers
+    owned_by : (i t : ℕ) (a : OwnMode) → mode_at w i t ≡ Some a → (b : Bool) × (t < n)
+        × (mode_in (lock_at (rows_of w) i) (number w.waits t b) ≡ Some a)
+    owned_by i t a owns = go (is_once_at w i || is_variable_at w i) refl (nat_lt t n) refl
+      where
+        go : (c : Bool) → (is_once_at w i || is_variable_at w i) ≡ c → (d : Bool) → nat_lt t n ≡ d → (b : Bool)
+            × (t < n)
+            × (mode_in (lock_at (rows_of w) i) (number w.waits t b) ≡ Some a)
+        go true e d low = absurd (none-some a (sym (ap (λ c. cond c None (joints.mode_at w.waits t i)) e) ∙ owns))
+        go false e false low =
+            absurd (none-some a
+            (sym (ap (λ c. cond c
+            (option_or (mode_in (lock_at (rows_of w) i) t) (mode_in (lock_at (rows_of w) i) (number w.waits t true)))
+            None) low) ∙ sym (ap (λ c. cond c None (joints.mode_at w.waits t i)) e) ∙ owns))
+        go false e true low =
+            let x = either (mode_in (lock_at (rows_of w) i) t)
+            (mode_in (lock_at (rows_of w) i) (number w.waits t true)) a
+            (sym (ap (λ c. cond c
+            (option_or (mode_in (lock_at (rows_of w) i) t) (mode_in (lock_at (rows_of w) i) (number w.waits t true)))
+            None) low) ∙ sym (ap (λ c. cond c None (joints.mode_at w.waits t i)) e) ∙ owns) in
+            (x.0, ltb-true t n low, at x.0 ∙ x.1)
+          where
+            at : (b : Bool) → mode_in (lock_at (rows_of w) i) (number w.waits t b) ≡ cond b
+                (mode_in (lock_at (rows_of w) i) (number w.waits t true)) (mode_in (lock_at (rows_of w) i) t)
+            at true = refl
+            at false = refl
 
-  owners : OwnersAgree w
-  owners i t u a b ne first second =
-      let x = owned_by i t a first in
-      let y = owned_by i u b second in
-      locks.owners i (number w.waits t x.0) (number w.waits u y.0) a b (apart n t u x.0 y.0 x.1 y.1 ne) x.2 y.2
+    owners : OwnersAgree w
+    owners i t u a b ne first second =
+        let x = owned_by i t a first in
+        let y = owned_by i u b second in
+        locks.owners i (number w.waits t x.0) (number w.waits u y.0) a b (apart n t u x.0 y.0 x.1 y.1 ne) x.2 y.2
 
-  or_else : (a b : Bool) → b ≡ true → (a || b) ≡ true
-  or_else true b e = refl
-  or_else false b e = e
+    or_else : (a b : Bool) → b ≡ true → (a || b) ≡ true
+    or_else true b e = refl
+    or_else false b e = e
 
-  or_first : (a b : Bool) → a ≡ true → (a || b) ≡ true
-  or_first true b e = refl
-  or_first false b e = absurd cc
+    or_first : (a b : Bool) → a ≡ true → (a || b) ≡ true
+    or_first true b e = refl
+    or_first false b e = absurd cc
 
-  both : (a b : Bool) → a ≡ true → b ≡ true → (a && b) ≡ true
-  both true b e f = f
-  both false b e f = absurd cc
+    both : (a b : Bool) → a ≡ true → b ≡ true → (a && b) ≡ true
+    both true b e f = f
+    both false b e f = absurd cc
 
-  -- the thread of a number is in debt where the number is
-  owes_there : (k : ℕ) → k < length (rows_of w).calls → is_indebted (rows_of w) k ≡ true → sides.is_indebted w.waits (thread_of w.waits k) ≡ true
-  owes_there k low owes = elim (cases_lt k n) [
-    | inl less ↦ subst (λ (t : ℕ). sides.is_indebted w.waits t ≡ true) (sym (ap (λ (b : Bool). cond b k (k - n)) (lt-ltb k n less)))
-        (both _ _ (lt-ltb k n less) (or_else _ _ (or_first _ _ owes)))
-    | inr more ↦ subst (λ (t : ℕ). sides.is_indebted w.waits t ≡ true) (sym (ap (λ (b : Bool). cond b k (k - n)) (not_less k n more)))
-        (both _ _ (lt-ltb (k - n) n (omega (arith, low, tied.numbers, more))) (or_else _ _ (or_else _ _ (subst (λ (m : ℕ). is_indebted (rows_of w) m ≡ true) (omega (arith, more)) owes))))
-  ]
-    where
-      not_less : (a b : ℕ) → b ≤ a → nat_lt a b ≡ false
-      not_less a b le = go (nat_lt a b) refl
-        where
-          go : (c : Bool) → nat_lt a b ≡ c → nat_lt a b ≡ false
-          go false e = e
-          go true e = absurd (omega (arith, le, ltb-true a b e))
+    -- the thread of a number is in debt where the number is
+    owes_there : (k : ℕ) → k < length (rows_of w).calls → is_indebted (rows_of w) k ≡ true
+        → sides.is_indebted w.waits (thread_of w.waits k) ≡ true
+    owes_there k low owes = elim (cases_lt k n) [
+      | inl less ↦ subst (λ (t : ℕ). sides.is_indebted w.waits t ≡ true)
+          (sym (ap (λ (b : Bool). cond b k (k - n)) (lt-ltb k n less)))
+          (both _ _ (lt-ltb k n less) (or_else _ _ (or_first _ _ owes)))
+      | inr more ↦ subst (λ (t : ℕ). sides.is_indebted w.waits t ≡ true)
+          (sym (ap (λ (b : Bool). cond b k (k - n)) (not_less k n more)))
+          (both _ _ (lt-ltb (k - n) n (omega (arith, low, tied.numbers, more)))
+          (or_else _ _ (or_else _ _
+          (subst (λ (m : ℕ). is_indebted (rows_of w) m ≡ true) (omega (arith, more)) owes))))
+    ]
+      where
+        not_less : (a b : ℕ) → b ≤ a → nat_lt a b ≡ false
+        not_less a b le = go (nat_lt a b) refl
+          where
+            go : (c : Bool) → nat_lt a b ≡ c → nat_lt a b ≡ false
+            go false e = e
+            go true e = absurd (omega (arith, le, ltb-true a b e))
 
-  within : (k : ℕ) (c : Call) → call_at (rows_of w) k ≡ Some c → k < length (rows_of w).calls
-  within k c here = call_within (rows_of w) k c here
+    within : (k : ℕ) (c : Call) → call_at (rows_of w) k ≡ Some c → k < length (rows_of w).calls
+    within k c here = call_within (rows_of w) k c here
 
-  owed_there : (i : ℕ) → row_laws.SomebodyIsInDebt (rows_of w) i → SomebodyIsInDebt w i
-  owed_there i (k, c, here, there, owes) = (k, c, here, there, or_else (once_debts.is_in_debt w.onces (thread_of w.waits k)) (sides.is_indebted w.waits (thread_of w.waits k)) (owes_there k (within k c here) owes))
+    owed_there : (i : ℕ) → row_laws.SomebodyIsInDebt (rows_of w) i → SomebodyIsInDebt w i
+    owed_there i (k, c, here, there, owes) = (
+      k,
+      c,
+      here,
+      there,
+      or_else (once_debts.is_in_debt w.onces (thread_of w.waits k))
+          (sides.is_indebted w.waits (thread_of w.waits k)) (owes_there k (within k c here) owes),
+    )
 
-  -- at a lock the lists are those of the machine of locks
-  queue_there : (i key : ℕ) → key / 2 ≡ i → IsOwned w i → queue_at w key ≡ map (thread_of w.waits) (rows.queue_at (rows_of w) key)
-  queue_there i key half owned =
-      ap (λ d. cond d (cond (key == 2 * (key / 2)) (list_of w.onces.waiting (key / 2)) []) (sides.queue_at w.waits key)) (ap (is_once_at w) half ∙ owned.no_once)
-      ∙ ap (λ d. cond d (cond (key == 2 * (key / 2)) (joints.waiters_of (joints.var_at w.waits (key / 2))) []) (map (thread_of w.waits) (rows.queue_at (rows_of w) key))) (whole.variables (key / 2) ∙ ap (is_variable_at w) half ∙ owned.no_variable)
+    -- at a lock the lists are those of the machine of locks
+    queue_there : (i key : ℕ) → key / 2 ≡ i → IsOwned w i → queue_at w key ≡ map (thread_of w.waits)
+        (rows.queue_at (rows_of w) key)
+    queue_there i key half owned =
+        ap (λ d. cond d (cond (key == 2 * (key / 2)) (list_of w.onces.waiting (key / 2)) [])
+        (sides.queue_at w.waits key))
+        (ap (is_once_at w) half ∙ owned.no_once)
+        ∙ ap (λ d. cond d (cond (key == 2 * (key / 2)) (joints.waiters_of (joints.var_at w.waits (key / 2))) [])
+        (map (thread_of w.waits) (rows.queue_at (rows_of w) key)))
+        (whole.variables (key / 2) ∙ ap (is_variable_at w) half ∙ owned.no_variable)
 
-  some_there : (i key : ℕ) → key / 2 ≡ i → IsOwned w i → 0 < length (queue_at w key) → 0 < length (rows.queue_at (rows_of w) key)
-  some_there i key half owned some = subst (λ (m : ℕ). 0 < m) (ap (λ us. length us) (queue_there i key half owned) ∙ length-map (rows.queue_at (rows_of w) key) (thread_of w.waits)) some
+    some_there : (i key : ℕ) → key / 2 ≡ i → IsOwned w i → 0 < length (queue_at w key)
+        → 0 < length (rows.queue_at (rows_of w) key)
+    some_there i key half owned some =
+        subst (λ (m : ℕ). 0 < m)
+        (ap (λ us. length us) (queue_there i key half owned) ∙ length-map (rows.queue_at (rows_of w) key)
+        (thread_of w.waits)) some
 
-  debts : DebtsAreKept w
-  debts = record {
-    first = λ i owned some only. owed_there i (locks.debts.first i (some_there i (2 * i) (omega arith) owned some) only);
-    second = λ i owned kind some none. owed_there i (locks.debts.second i kind (some_there i (2 * i + 1) (omega arith) owned some) none);
-  }
+    debts : DebtsAreKept w
+    debts = record {
+      first = λ i owned some only. owed_there i
+          (locks.debts.first i (some_there i (2 * i) (omega arith) owned some) only);
+      second = λ i owned kind some none. owed_there i
+          (locks.debts.second i kind (some_there i (2 * i + 1) (omega arith) owned some) none);
+    }
 
-  few : wait_ranks.StepsAreFew → StepsAreFew w
-  few of_theirs t = omega (
-    arith,
-    subst (λ m. wait_ranks.steps_left w.waits t ≤ wait_ranks.most_left m) whole.wait_threads (of_theirs w.waits t tied parts),
-    subst (λ m. once_ranks.left w.onces t ≤ m * once_ranks.most m) whole.once_threads (onces.few t),
-  )
+    few : wait_ranks.StepsAreFew → StepsAreFew w
+    few of_theirs t = omega (
+      arith,
+      subst (λ m. wait_ranks.steps_left w.waits t ≤ wait_ranks.most_left m) whole.wait_threads
+          (of_theirs w.waits t tied parts),
+      subst (λ m. once_ranks.left w.onces t ≤ m * once_ranks.most m) whole.once_threads (onces.few t),
+    )
 
-  pub sound_world : SomebodyInsideGoes → wait_laws.SomebodyCanMove → wait_ranks.StepsAreFew → Fits w.onces → IsSoundWorld w
-  sound_world inside moves are_few onces_fit = record {
-    fit = record { whole = whole; tied = tied; givers = givers; parts = parts; onces = onces_fit };
-    locks = locks;
-    onces = onces;
-    owners = owners;
-    debts = debts;
-    moves = somebody_can_move inside w whole tied givers parts onces_fit moves onces.moves;
-    few = few are_few;
-  }
+    pub sound_world : SomebodyInsideGoes → wait_laws.SomebodyCanMove → wait_ranks.StepsAreFew → Fits w.onces
+        → IsSoundWorld w
+    sound_world inside moves are_few onces_fit = record {
+      fit = record { whole = whole; tied = tied; givers = givers; parts = parts; onces = onces_fit };
+      locks = locks;
+      onces = onces;
+      owners = owners;
+      debts = debts;
+      moves = somebody_can_move inside w whole tied givers parts onces_fit moves onces.moves;
+      few = few are_few;
+    }
 
 -- WHAT IS DONE STAYS DONE
 

@@ -18,7 +18,8 @@ stays_in true false p a b = refl
 stays_in true true p a b = absurd cc
 stays_in false e p a b = absurd cc
 
-pub somebody_goes : (a b : Side) → IsOrderly b → (t : ℕ) → a.moves t ≡ true → (goes a b t ≡ true) ⊎ ((u : ℕ) × (b.moves u ≡ true) × (goes b a u ≡ true))
+pub somebody_goes : (a b : Side) → IsOrderly b → (t : ℕ) → a.moves t ≡ true → (goes a b t ≡ true)
+    ⊎ ((u : ℕ) × (b.moves u ≡ true) × (goes b a u ≡ true))
 somebody_goes a b orderly t moves = go b.is_open refl
   where
     go : (p : Bool) → b.is_open ≡ p → (goes a b t ≡ true) ⊎ ((u : ℕ) × (b.moves u ≡ true) × (goes b a u ≡ true))

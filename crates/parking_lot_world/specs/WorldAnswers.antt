@@ -1,5 +1,6 @@
 -- What the calls of a world are answered, whatever the schedule.
-use Rattle.std.specs.Prelude.{◌≡◌, ℕ, ◌&&◌, ◌||◌, ◌==◌, Bool, true, false, if◌then◌else◌, List, ◌∷◌, Option, Some, slice_get}
+use Rattle.std.specs.Prelude.{◌≡◌, ℕ, ◌&&◌, ◌||◌, ◌==◌, Bool, true, false, if◌then◌else◌, List, ◌∷◌, Option, Some}
+use Rattle.std.specs.Prelude.{slice_get}
 use Rattle.std.specs.List.{list_any}
 use Rattle.std.specs.Option.{option_and_then}
 use Rattle.parking_lot_machine_sides.specs.declared.condvar.calls.CondvarCall.{CondvarCall}
@@ -99,25 +100,28 @@ may_answer call.WriteUntil late a = is_owned a || (late && is_timed_out a)
 may_answer call.UpgradableUntil late a = is_owned a || (late && is_timed_out a)
 may_answer call.UpgradeUntil late a = is_owned a || (late && is_timed_out a)
 
--- And one at a condition variable: a wait owns its mutex again, however it ends, but for one that is refused since others wait with another mutex.
+-- And one at a condition variable: a wait owns its mutex again, however it ends, but for one that is refused since
+-- others wait with another mutex.
 abbrev pub may_tell : CondvarCall → Bool → LockAnswer → Bool
 may_tell (variable.Wait m) late a = is_owned a || is_wrong_mutex a
 may_tell (variable.WaitUntil m) late a = is_owned a || (is_wrong_mutex a || (late && is_timed_out a))
 may_tell variable.NotifyOne late a = is_flag a
 may_tell variable.NotifyAll late a = is_count a
 
--- And one at a once: its closure ran, and ended as the call said that it does; or the once was poisoned, where it isn't forced; or it was done already.
+-- And one at a once: its closure ran, and ended as the call said that it does; or the once was poisoned, where it isn't
+-- forced; or it was done already.
 abbrev pub may_end : OnceCall → Bool → LockAnswer → Bool
 may_end (once.CallOnce well) late a = (if well then is_ran a else is_failed a) || (is_poisoned a || is_completed a)
 may_end (once.CallOnceForce well) late a = (if well then is_ran a else is_failed a) || is_completed a
 may_end once.OnceWait late a = is_poisoned a || is_completed a
 may_end once.OnceWaitForce late a = is_completed a
 
--- Behind every run that begins with a call of thread t, and begins no other of it: what the thread is answered fits the call, and it timed out only where
--- its deadline is among the steps.
+-- Behind every run that begins with a call of thread t, and begins no other of it: what the thread is answered fits the
+-- call, and it timed out only where its deadline is among the steps.
 abbrev pub Fits : (Bool → LockAnswer → Bool) → ℕ → ℕ → LockCall → Type 0
 Fits may t i asks =
-    (w x : Shown) (steps : List WorldStep) (a : LockAnswer) → IsFit w → Ran w (step.Begin t i asks ∷ steps) x → list_any (begins_for t) steps ≡ false → answer_at x t ≡ Some a
+    (w x : Shown) (steps : List WorldStep) (a : LockAnswer) → IsFit w → Ran w (step.Begin t i asks ∷ steps) x
+    → list_any (begins_for t) steps ≡ false → answer_at x t ≡ Some a
     → may (list_any (is_late_for t) steps) a ≡ true
 
 -- So is each call at a lock, at a condition variable and at a once answered.

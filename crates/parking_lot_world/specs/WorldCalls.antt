@@ -41,7 +41,8 @@ is_variable kind.RwRecursive = false
 is_variable kind.Condvar = true
 is_variable kind.Once = false
 
--- The row of a machine of locks. At that of a condition variable and of a once nobody is ever in a call; that of a once is no mutex, so nobody waits with it.
+-- The row of a machine of locks. At that of a condition variable and of a once nobody is ever in a call; that of a once
+-- is no mutex, so nobody waits with it.
 abbrev pub row_kind : LockKind → RowKind
 row_kind kind.Mutex = rows.Mutex
 row_kind kind.FairMutex = rows.FairMutex

@@ -1,5 +1,8 @@
--- What a world of locks, condition variables and onces consists of, which steps of a schedule it makes, and what is seen of it.
-use Rattle.std.specs.Prelude.{◌≡◌, ◌⊎◌, ◌++◌, ℕ, zero, suc, ◌/◌, ◌*◌, ◌==◌, Bool, true, false, not, ◌&&◌, ◌||◌, is_some, is_none, nat_lt, if◌then◌else◌, List, [], ◌∷◌, length, map, Option, Some, None, Result, Ok, Err, slice_get, slice_set}
+-- What a world of locks, condition variables and onces consists of, which steps of a schedule it makes, and what is
+-- seen of it.
+use Rattle.std.specs.Prelude.{◌≡◌, ◌⊎◌, ◌++◌, ℕ, zero, suc, ◌/◌, ◌*◌, ◌==◌, Bool, true, false, not, ◌&&◌, ◌||◌, is_some}
+use Rattle.std.specs.Prelude.{is_none, nat_lt, if◌then◌else◌, List, [], ◌∷◌, length, map, Option, Some, None, Result}
+use Rattle.std.specs.Prelude.{Ok, Err, slice_get, slice_set}
 use Rattle.std.specs.Option.{option_map, option_map_or}
 use Rattle.parking_lot_protocol.specs.declared.act.Act.{Act}
 use Rattle.parking_lot_protocol.specs.declared.act.Act.TheVariants as act
@@ -41,7 +44,8 @@ use Rattle.parking_lot_world.specs.WorldCalls.{asked, is_once, is_variable, of_e
 pub record Shown : Type 0 where
   -- by the number of the lock
   pub kinds : List LockKind
-  -- the machine of locks and condition variables, and that of onces: each has a place for every lock, and nobody is ever in a call at one of the other machine's
+  -- the machine of locks and condition variables, and that of onces: each has a place for every lock, and nobody is
+  -- ever in a call at one of the other machine's
   pub waits : Joint
   pub onces : Onces
   -- by the number of the thread: what its last call answered
@@ -61,8 +65,8 @@ is_variable_at w i = option_map_or is_variable (slice_get w.kinds i) false
 
 -- THE TWO MACHINES, SIDE BY SIDE
 
--- What one machine is to the other: who is in a call there, who can make a step as far as that machine goes, whose next step enters a section,
--- and whether one is open.
+-- What one machine is to the other: who is in a call there, who can make a step as far as that machine goes, whose next
+-- step enters a section, and whether one is open.
 pub record Side : Type 0 where
   pub calls : ℕ → Bool
   pub moves : ℕ → Bool
@@ -80,7 +84,12 @@ abbrev pub wait_side : Joint → Side
 wait_side j = record { calls = is_busy j; moves = joint.may_go j; enters = sides.enters j; is_open = sides.is_open j }
 
 abbrev pub once_side : Onces → Side
-once_side s = record { calls = λ t. is_some (onces.call_at s t); moves = once.can_move s; enters = once_enters s; is_open = is_some s.inside }
+once_side s = record {
+  calls = λ t. is_some (onces.call_at s t);
+  moves = once.can_move s;
+  enters = once_enters s;
+  is_open = is_some s.inside;
+}
 
 -- It can move in its machine, and enters no section while one is open in the other.
 abbrev pub goes : Side → Side → ℕ → Bool
@@ -98,7 +107,8 @@ may_ask w t i (OfVariable c) = is_none (onces.call_at w.onces t) && joint.may_ca
 may_ask w t i (OfOnce c) = is_once_at w i && (not (is_busy w.waits t) && once.may_begin w.onces t i)
 
 abbrev pub may_go : Shown → ℕ → Bool
-may_go w t = if is_in_once w t then goes (once_side w.onces) (wait_side w.waits) t else goes (wait_side w.waits) (once_side w.onces) t
+may_go w t = if is_in_once w t then goes (once_side w.onces) (wait_side w.waits) t else goes (wait_side w.waits)
+    (once_side w.onces) t
 
 -- the step is allowed now, of a thread that the world has
 abbrev pub may_make : Shown → WorldStep → Bool
@@ -126,7 +136,8 @@ IsAsked t i (OfOnce c) w v = once_steps.IsBegun t i c w.onces v.onces × (v.wait
 
 -- A step is made by the machine at which the thread is in a call, and the other stays.
 abbrev pub IsGone : Bool → ℕ → Bool → Shown → Shown → Type 0
-IsGone true t fair w v = (reply : Option OnceReply) × once_steps.IsStepped t reply w.onces v.onces × (v.waits ≡ w.waits) × (v.answers ≡ noted t (option_map of_reply reply) w.answers)
+IsGone true t fair w v = (reply : Option OnceReply) × once_steps.IsStepped t reply w.onces v.onces × (v.waits ≡ w.waits)
+    × (v.answers ≡ noted t (option_map of_reply reply) w.answers)
 IsGone false t fair w v =
     (end : Option Ended) × joint_steps.IsGone t fair end w.waits v.waits × (v.onces ≡ w.onces)
     × (v.answers ≡ noted t (option_map (of_ended (lock_call w.waits t)) end) w.answers)
@@ -137,7 +148,8 @@ IsLate t w v = joint_steps.IsLate t w.waits v.waits × (v.onces ≡ w.onces) × 
 
 -- the step is made
 abbrev pub IsMade : WorldStep → Shown → Shown → Type 0
-IsMade (step.Begin thread lock call) w v = IsAsked thread lock (asked call) w v × (v.answers ≡ slice_set w.answers thread None) × (v.kinds ≡ w.kinds)
+IsMade (step.Begin thread lock call) w v = IsAsked thread lock (asked call) w v
+    × (v.answers ≡ slice_set w.answers thread None) × (v.kinds ≡ w.kinds)
 IsMade (step.Go thread fair) w v = IsGone (is_in_once w thread) thread fair w v × (v.kinds ≡ w.kinds)
 IsMade (step.Deadline thread) w v = IsLate thread w v × (v.kinds ≡ w.kinds)
 
@@ -152,7 +164,8 @@ mode_at w i t = if is_once_at w i || is_variable_at w i then None else joints.mo
 
 -- a once has the first of its two keys
 abbrev pub queue_at : Shown → ℕ → List ℕ
-queue_at w key = if is_once_at w (key / 2) then (if key == 2 * (key / 2) then list_of w.onces.waiting (key / 2) else []) else sides.queue_at w.waits key
+queue_at w key = if is_once_at w (key / 2) then (if key == 2 * (key / 2) then list_of w.onces.waiting (key / 2) else [])
+    else sides.queue_at w.waits key
 
 -- of so many threads those that own, and how, in the order of their numbers
 abbrev pub entry : ℕ → Option OwnMode → List (ℕ × OwnMode)
@@ -174,7 +187,8 @@ is_indebted w t = once_debts.is_in_debt w.onces t || sides.is_indebted w.waits t
 
 -- WHAT HOLDS TOGETHER
 
--- A thread is in a call of one machine at most, at a lock of a kind that is the machine's; and at most one section is open.
+-- A thread is in a call of one machine at most, at a lock of a kind that is the machine's; and at most one section is
+-- open.
 pub record IsWhole (w : Shown) : Type 0 where
   pub wait_threads : length w.waits.seats ≡ length w.answers
   pub once_threads : length w.onces.calls ≡ length w.answers
@@ -196,7 +210,8 @@ pub record IsFit (w : Shown) : Type 0 where
   pub parts : PartsFit w.waits
   pub onces : Fits w.onces
 
--- the steps lead from one world to the other, one after another; none is refused, and each leaves a world that fits together
+-- the steps lead from one world to the other, one after another; none is refused, and each leaves a world that fits
+-- together
 abbrev pub Ran : Shown → List WorldStep → Shown → Type 0
 Ran w [] v = v ≡ w
 Ran w (s ∷ steps) v = (mid : Shown) × (refusal w s ≡ None) × IsMade s w mid × IsFit mid × Ran mid steps v

@@ -1,6 +1,7 @@
 //! Which steps a world allows.
 ghost use Rattle.std.specs.Prelude.{◌≡◌};
-ghost use Rattle.parking_lot_world.specs.Worlds.{goes, is_entry, is_in_once, is_once_at, is_variable_at, may_ask, may_go, may_make, once_enters, once_side, wait_side};
+ghost use Rattle.parking_lot_world.specs.Worlds.{goes, is_entry, is_in_once, is_once_at, is_variable_at, may_ask};
+ghost use Rattle.parking_lot_world.specs.Worlds.{may_go, may_make, once_enters, once_side, wait_side};
 
 use crate::calls::Asked;
 use crate::step::WorldStep;

@@ -1,6 +1,7 @@
 //! What threads ask of the locks, condition variables and onces of a world.
 ghost use Rattle.std.specs.Prelude.{◌≡◌};
-ghost use Rattle.parking_lot_world.specs.WorldCalls.{asked, is_once, is_variable, of_condvar, of_core, of_ended, of_reply, of_timed, row_kind, said};
+ghost use Rattle.parking_lot_world.specs.WorldCalls.{asked, is_once, is_variable, of_condvar, of_core, of_ended};
+ghost use Rattle.parking_lot_world.specs.WorldCalls.{of_reply, of_timed, row_kind, said};
 
 use parking_lot_machine::{Call, LockCall as RowCall, LockKind as RowKind};
 use parking_lot_machine_sides::once::{OnceCall, OnceReply, OnceState};
@@ -57,7 +58,8 @@ pub enum LockCall {
     UnlockUpgradable,
     /// It makes its upgradable hold the exclusive one, and waits until the readers have left.
     Upgrade,
-    /// It makes its upgradable hold the exclusive one where nobody else reads, and doesn't wait. Where it is refused it keeps what it has.
+    /// It makes its upgradable hold the exclusive one where nobody else reads, and doesn't wait. Where it is refused it
+    /// keeps what it has.
     TryUpgrade,
     /// It makes its exclusive hold the upgradable one.
     DowngradeToUpgradable,
@@ -69,11 +71,11 @@ pub enum LockCall {
     WriteUntil,
     /// It wants the upgradable hold, and waits for it until its deadline.
     UpgradableUntil,
-    /// It makes its upgradable hold the exclusive one, and waits until its deadline for the readers to leave. Where it gives up it has the
-    /// upgradable hold again.
+    /// It makes its upgradable hold the exclusive one, and waits until its deadline for the readers to leave. Where it
+    /// gives up it has the upgradable hold again.
     UpgradeUntil,
-    /// At a condition variable: it gives the mutex of that number up, which it owns, waits until it is notified, and locks the mutex again. Where
-    /// others wait with another mutex it is refused, and owns its mutex still.
+    /// At a condition variable: it gives the mutex of that number up, which it owns, waits until it is notified, and
+    /// locks the mutex again. Where others wait with another mutex it is refused, and owns its mutex still.
     Wait(usize),
     /// The same, until its deadline. Where it comes before anybody has notified it, it locks the mutex again, too.
     WaitUntil(usize),
@@ -81,8 +83,8 @@ pub enum LockCall {
     NotifyOne,
     /// It notifies all that wait.
     NotifyAll,
-    /// At a once: it runs its closure where none has run, waits while one runs, and is refused where the last one has failed. This says whether
-    /// its closure ends well, if it is run.
+    /// At a once: it runs its closure where none has run, waits while one runs, and is refused where the last one has
+    /// failed. This says whether its closure ends well, if it is run.
     CallOnce(bool),
     /// The same, but it runs its closure also where the last one has failed.
     CallOnceForce(bool),
@@ -106,16 +108,18 @@ pub enum Asked {
 /// How a call ended.
 #[derive(Clone, Copy, PartialEq, Eq, Debug)]
 pub enum LockAnswer {
-    /// The thread owns the lock as it asked for it; after a downgrade as a reader, or as the upgradable one. After a wait it owns its mutex again.
+    /// The thread owns the lock as it asked for it; after a downgrade as a reader, or as the upgradable one. After a
+    /// wait it owns its mutex again.
     Owned,
     /// A try found the lock taken; one to upgrade keeps its hold.
     Refused,
     /// The thread owns the lock no more.
     Released,
-    /// The deadline came first, and the thread has given up. It owns nothing; after a timed upgrade it has its upgradable hold again, and after a
-    /// wait its mutex.
+    /// The deadline came first, and the thread has given up. It owns nothing; after a timed upgrade it has its
+    /// upgradable hold again, and after a wait its mutex.
     TimedOut,
-    /// At a condition variable: others wait with another mutex. Nothing has changed, and the thread owns its mutex still.
+    /// At a condition variable: others wait with another mutex. Nothing has changed, and the thread owns its mutex
+    /// still.
     WrongMutex,
     /// Whether one that waited was notified.
     Flag(bool),
@@ -154,8 +158,8 @@ impl LockKind {
         }
     }
 
-    /// The row of a machine of locks that a lock of this kind has. At that of a condition variable and of a once nobody is ever in a call; that of
-    /// a once is no mutex, so nobody waits with it.
+    /// The row of a machine of locks that a lock of this kind has. At that of a condition variable and of a once nobody
+    /// is ever in a call; that of a once is no mutex, so nobody waits with it.
     pub(crate) fn row(&self) -> RowKind
         ensures { result ≡ row_kind self.now }
     {
@@ -219,7 +223,8 @@ impl LockAnswer {
         }
     }
 
-    /// What a thread is answered whose call with a deadline ends so: where it hasn't what it asked for, it has given up.
+    /// What a thread is answered whose call with a deadline ends so: where it hasn't what it asked for, it has given
+    /// up.
     fn of_timed(answer: CoreAnswer) -> LockAnswer
         ensures { result ≡ of_timed answer }
     {

@@ -1,4 +1,5 @@
-//! Worlds of locks, condition variables and one-time initializations: threads' calls at them, one atomic step at a time, by any schedule.
+//! Worlds of locks, condition variables and one-time initializations: threads' calls at them, one atomic step at a
+//! time, by any schedule.
 #![tactic(auto)]
 
 mod allowed;

@@ -1,5 +1,6 @@
 //! How a world is made.
-ghost use Rattle.std.specs.Prelude.{◌≡◌, ◌<◌, ◌≤◌, ◌*◌, ◌↔◌, ◌⊎◌, ◌^◌, ◌≢◌, length, map, replicate, None, IsErrOf, IfErr, IfOk};
+ghost use Rattle.std.specs.Prelude.{◌≡◌, ◌<◌, ◌≤◌, ◌*◌, ◌↔◌, ◌⊎◌, ◌^◌, ◌≢◌, length, map, replicate, None, IsErrOf};
+ghost use Rattle.std.specs.Prelude.{IfErr, IfOk};
 ghost use Rattle.parking_lot_core_model.specs.declared.fault.SizeFault.TheVariants.{BadSize, NoMemory};
 ghost use Rattle.parking_lot_machine_sides.specs.Once.OnceActs as once;
 ghost use Rattle.parking_lot_machine_waits.specs.Joint.{nowhere};
@@ -22,16 +23,18 @@ const MAX_THREADS: usize = 65_536;
 const MAX_LOCKS: usize = 1 << 20;
 
 impl<A: Allocator + Clone + Drop> World<A> {
-    /// So many threads, in no call, and locks of these kinds, which nobody owns: 1 to 65,536 threads, and 1 to 2^20 locks. Every word is 0, nobody
-    /// waits at a condition variable, and the onces are new.
+    /// So many threads, in no call, and locks of these kinds, which nobody owns: 1 to 65,536 threads, and 1 to 2^20
+    /// locks. Every word is 0, nobody waits at a condition variable, and the onces are new.
     ///
     /// # Errors
     ///
     /// `BadSize` where there are too few or too many threads or locks, and else `NoMemory` where memory is short.
     pub fn new(alloc: A, threads: usize, locks: Vec<LockKind, A>) -> Result<World<A>, SizeFault>
-        ensures size { IsErrOf result BadSize ↔ ((threads ≡ 0) ⊎ (65536 < threads) ⊎ (length locks.items ≡ 0) ⊎ (2 ^ 20 < length locks.items)) }
+        ensures size { IsErrOf result BadSize ↔
+            ((threads ≡ 0) ⊎ (65536 < threads) ⊎ (length locks.items ≡ 0) ⊎ (2 ^ 20 < length locks.items)) }
         ensures kinds { IfOk result (λ world. world.kinds ≡ locks.items) }
-        ensures rows { IfOk result (λ world. state world.waits.rows ≡ rows.at_rest (2 * threads) (map row_kind locks.items)) }
+        ensures rows { IfOk result
+            (λ world. state world.waits.rows ≡ rows.at_rest (2 * threads) (map row_kind locks.items)) }
         ensures variables { IfOk result (λ world. world.waits.vars ≡ map (var_of threads) (map is_variable locks.items)) }
         ensures seats { IfOk result (λ world. world.waits.seats ≡ replicate threads nowhere) }
         ensures onces { IfOk result (λ world. world.onces ≡ once.at_rest threads (length locks.items)) }
@@ -50,7 +53,8 @@ impl<A: Allocator + Clone + Drop> World<A> {
         requires locks { (0 < length locks.items) × (length locks.items ≤ 2 ^ 20) }
         ensures err { IfErr result (λ fault. fault ≡ NoMemory) }
         ensures kinds { IfOk result (λ world. world.kinds ≡ locks.items) }
-        ensures rows { IfOk result (λ world. state world.waits.rows ≡ rows.at_rest (2 * threads) (map row_kind locks.items)) }
+        ensures rows { IfOk result
+            (λ world. state world.waits.rows ≡ rows.at_rest (2 * threads) (map row_kind locks.items)) }
         ensures variables { IfOk result (λ world. world.waits.vars ≡ map (var_of threads) (map is_variable locks.items)) }
         ensures seats { IfOk result (λ world. world.waits.seats ≡ replicate threads nowhere) }
         ensures onces { IfOk result (λ world. world.onces ≡ once.at_rest threads (length locks.items)) }

@@ -9,10 +9,11 @@ use crate::calls::LockCall;
 pub enum WorldStep {
     /// A thread asks for something of a lock: their numbers, and what it asks for.
     Begin(usize, usize, LockCall),
-    /// A thread makes one step of its call. Where it gives the lock up by a section and stores in this step, the release is fair if
-    /// this says so.
+    /// A thread makes one step of its call. Where it gives the lock up by a section and stores in this step, the
+    /// release is fair if this says so.
     Go(usize, bool),
-    /// A thread's deadline comes, as it sleeps in a timed call. It gives up from then on, unless it was taken off its list, before that or after:
+    /// A thread's deadline comes, as it sleeps in a timed call. It gives up from then on, unless it was taken off its
+    /// list, before that or after:
     /// then it goes on as its taker has told it, woken or by itself.
     Deadline(usize),
 }

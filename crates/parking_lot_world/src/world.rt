@@ -1,9 +1,11 @@
 //! Worlds of locks, condition variables and onces: threads at them, moved by a schedule.
-ghost use Rattle.std.specs.Prelude.{◌≡◌, length, take, slice_get, slice_set, None, Some, true, false, IfErr, MatchResult};
+ghost use Rattle.std.specs.Prelude.{◌≡◌, length, take, slice_get, slice_set, None, Some, true, false, IfErr};
+ghost use Rattle.std.specs.Prelude.{MatchResult};
 ghost use Rattle.parking_lot_machine_waits.specs.JointMoves as joint;
 ghost use Rattle.parking_lot_world.specs.declared.calls.Asked.TheVariants.{OfLock, OfOnce, OfVariable};
 ghost use Rattle.parking_lot_world.specs.WorldLaws.{DoneStays, IsSoundWorld};
-ghost use Rattle.parking_lot_world.specs.Worlds.{IsAsked, IsFit, IsGone, IsLate, IsMade, IsWhole, Ran, is_in_once, may_ask, may_go, may_make, refusal, steps_done};
+ghost use Rattle.parking_lot_world.specs.Worlds.{IsAsked, IsFit, IsGone, IsLate, IsMade, IsWhole, Ran, is_in_once};
+ghost use Rattle.parking_lot_world.specs.Worlds.{may_ask, may_go, may_make, refusal, steps_done};
 
 use crate::calls::{Asked, LockAnswer, LockKind};
 use crate::fault::{WorldFault, WorldRefusal};
@@ -17,13 +19,13 @@ use std::marker::Model;
 
 /// Threads, and locks, condition variables and onces, stepped by a schedule.
 ///
-/// Nothing in it moves by itself: [`run`](World::run) is told which thread makes each step. A step is one atomic act of a
-/// thread's call, as a load of the lock's word, an exchange, entering a section, or running a closure, and it is done
-/// whole. At most one section is open in the whole world. Its code takes nothing from outside, so a run can be repeated;
-/// no clause says that it ends the same.
+/// Nothing in it moves by itself: [`run`](World::run) is told which thread makes each step. A step is one atomic act of
+/// a thread's call, as a load of the lock's word, an exchange, entering a section, or running a closure, and it is done
+/// whole. At most one section is open in the whole world. Its code takes nothing from outside, so a run can be
+/// repeated; no clause says that it ends the same.
 ///
-/// The locks have the numbers of their kinds in the list that the world is made with, and threads are numbered from 0. It takes all memory
-/// that its runs need where it is made.
+/// The locks have the numbers of their kinds in the list that the world is made with, and threads are numbered from 0.
+/// It takes all memory that its runs need where it is made.
 ///
 /// ```text
 /// let mut world = World::new(alloc, 2, vec![in alloc; LockKind::Rw, LockKind::Once]?)?;
@@ -46,7 +48,8 @@ impl<A: Allocator> Model for World<A> {
 
     ghost view = { λ w. record { kinds = w.kinds.items; waits = w.waits; onces = w.onces; answers = w.answers.items } };
 
-    ghost invariant = { λ w. IsWhole (record { kinds = w.kinds.items; waits = w.waits; onces = w.onces; answers = w.answers.items }) };
+    ghost invariant = { λ w. IsWhole
+        (record { kinds = w.kinds.items; waits = w.waits; onces = w.onces; answers = w.answers.items }) };
 }
 
 impl<A: Allocator> World<A> {
@@ -204,7 +207,8 @@ impl<A: Allocator> World<A> {
     /// Makes the steps, one after another, up to the first that is refused.
     fn make_steps(&mut self, steps: &[WorldStep]) -> Result<(), WorldFault>
         ensures ran { Ran self.old (take (steps_done result (length steps.now)) steps.now) self.new }
-        ensures refused { IfErr result (λ fault. (step : _) × (slice_get steps.now fault.done ≡ Some step) × (refusal self.new step ≡ Some fault.fault)) }
+        ensures refused { IfErr result (λ fault. (step : _) × (slice_get steps.now fault.done ≡ Some step)
+            × (refusal self.new step ≡ Some fault.fault)) }
         ensures lasts { DoneStays self.old self.new }
     {
         let mut done = 0;
@@ -219,22 +223,26 @@ impl<A: Allocator> World<A> {
 
     /// Makes the steps, one after another, up to the first that is refused. It takes no memory.
     ///
-    /// Each is steps of the rules of the lock, the condition variable or the once that the thread's call is at, and after it each is still sound. A
-    /// wait gives its mutex up and locks it again by steps at the mutex.
+    /// Each is steps of the rules of the lock, the condition variable or the once that the thread's call is at, and
+    /// after it each is still sound. A wait gives its mutex up and locks it again by steps at the mutex.
     ///
     /// # Errors
     ///
-    /// The steps before the refused one are done, and the fault has their number. The refused one changes nothing, and the steps behind it
-    /// aren't tried. `NoSuchThread` where the world doesn't have the thread; else `CannotMove` where the step isn't allowed now:
+    /// The steps before the refused one are done, and the fault has their number. The refused one changes nothing, and
+    /// the steps behind it aren't tried. `NoSuchThread` where the world doesn't have the thread; else `CannotMove`
+    /// where the step isn't allowed now:
     ///
-    /// - `Begin` where the thread is in a call, the world has no such lock or it is of another kind, or the call gives up what the thread
-    ///   doesn't own or asks for a lock that it owns, but for a reader of a recursive lock that reads again and has fewer than 255 holds; that of a
+    /// - `Begin` where the thread is in a call, the world has no such lock or it is of another kind, or the call gives
+    ///   up what the thread
+    /// doesn't own or asks for a lock that it owns, but for a reader of a recursive lock that reads again and has fewer
+    /// than 255 holds; that of a
     ///   wait also where its mutex is no lock of the kind `Mutex` that the thread owns;
     /// - `Go` where the thread is in no call, sleeps, or is before a section while one is open;
     /// - `Deadline` where the thread doesn't sleep in a timed call, or its deadline has come before in that sleep.
     pub fn run(&mut self, steps: &[WorldStep]) -> Result<(), WorldFault>
         ensures ran { Ran self.old (take (steps_done result (length steps.now)) steps.now) self.new }
-        ensures refused { IfErr result (λ fault. (step : _) × (slice_get steps.now fault.done ≡ Some step) × (refusal self.new step ≡ Some fault.fault)) }
+        ensures refused { IfErr result (λ fault. (step : _) × (slice_get steps.now fault.done ≡ Some step)
+            × (refusal self.new step ≡ Some fault.fault)) }
         ensures promises { IsSoundWorld self.new }
         ensures lasts { DoneStays self.old self.new }
     {

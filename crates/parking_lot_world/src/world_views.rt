@@ -34,9 +34,9 @@ impl<A: Allocator> World<A> {
         self.kinds.get(lock).copied()
     }
 
-    /// The lock's word; 0 of one that the world doesn't have. That of a once is 0 where it is new, 1 where it is done, 2 where it is poisoned, 4
-    /// while a closure runs, and 8 more where callers may wait. That of a condition variable is 0 where nobody waits, and else the number of the
-    /// mutex that all wait with, and 1 more.
+    /// The lock's word; 0 of one that the world doesn't have. That of a once is 0 where it is new, 1 where it is done,
+    /// 2 where it is poisoned, 4 while a closure runs, and 8 more where callers may wait. That of a condition variable
+    /// is 0 where nobody waits, and else the number of the mutex that all wait with, and 1 more.
     pub fn word(&self, lock: usize) -> u64
         ensures { result ≡ word_at self.now lock }
     {
@@ -74,9 +74,11 @@ impl<A: Allocator> World<A> {
 }
 
 impl<A: Allocator + Clone + Drop> World<A> {
-    /// The threads that own the lock, and how, in the order of their numbers. One that sleeps and was handed the lock owns it.
+    /// The threads that own the lock, and how, in the order of their numbers. One that sleeps and was handed the lock
+    /// owns it.
     pub fn owners(&self, lock: usize) -> Result<Vec<(usize, OwnMode), A>, SizeFault>
-        ensures ok { IfOk result (λ owners. owners.items ≡ owners_below (mode_at self.now lock) (length self.now.answers)) }
+        ensures ok { IfOk result
+            (λ owners. owners.items ≡ owners_below (mode_at self.now lock) (length self.now.answers)) }
         ensures err { IfErr result (λ fault. fault ≡ NoMemory) }
     {
         let threads = self.answers.len();
@@ -90,8 +92,8 @@ impl<A: Allocator + Clone + Drop> World<A> {
         Ok(owners)
     }
 
-    /// The threads of that key's list, in order. A lock has two keys: twice its number, and one more; the list of a once and that of a condition
-    /// variable is the first.
+    /// The threads of that key's list, in order. A lock has two keys: twice its number, and one more; the list of a
+    /// once and that of a condition variable is the first.
     pub fn queue(&self, key: usize) -> Result<Vec<usize, A>, SizeFault>
         ensures ok { IfOk result (λ threads. threads.items ≡ queue_at self.now key) }
         ensures err { IfErr result (λ fault. fault ≡ NoMemory) }
@@ -109,7 +111,8 @@ impl<A: Allocator + Clone + Drop> World<A> {
 
     /// The threads that owe a wake or are about to retry, in the order of their numbers.
     pub fn debts(&self) -> Result<Vec<usize, A>, SizeFault>
-        ensures ok { IfOk result (λ threads. threads.items ≡ those_below (is_indebted self.now) (length self.now.answers)) }
+        ensures ok { IfOk result
+            (λ threads. threads.items ≡ those_below (is_indebted self.now) (length self.now.answers)) }
         ensures err { IfErr result (λ fault. fault ≡ NoMemory) }
     {
         let threads = self.answers.len();

@@ -10,7 +10,8 @@ const MOST_STEPS: u32 = 50;
 /// What is done in a world, or asked of it.
 #[derive(Clone, Copy)]
 enum Deed {
-    /// A thread makes a call at a lock, to its answer or its sleep, and what it releases it hands over where this says so.
+    /// A thread makes a call at a lock, to its answer or its sleep, and what it releases it hands over where this says
+    /// so.
     Calls(usize, usize, LockCall, bool),
     /// A thread goes on, to its answer or its sleep.
     GoesOn(usize),

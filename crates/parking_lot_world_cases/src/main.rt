@@ -1,5 +1,5 @@
-//! Cases of threads at the locks of a world, worked by hand, each a paragraph of a file: its lines are done one after another, and what comes of
-//! them is compared with what they say.
+//! Cases of threads at the locks of a world, worked by hand, each a paragraph of a file: its lines are done one after
+//! another, and what comes of them is compared with what they say.
 #![tactic(auto)]
 
 mod deed;

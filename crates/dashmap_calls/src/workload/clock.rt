@@ -2,8 +2,8 @@
 use std::io;
 use std::time::Instant;
 
-/// Prints a name and how many nanoseconds each of so many operations took since a moment, and the sum of what they saw to
-/// standard error, so that none of them is left out. A tool that counts instructions may count between its calls.
+/// Prints a name and how many nanoseconds each of so many operations took since a moment, and the sum of what they saw
+/// to standard error, so that none of them is left out. A tool that counts instructions may count between its calls.
 #[inline(never)]
 pub fn report(
     rt: &HostRuntime,

@@ -57,7 +57,8 @@ where
 
     ghost view = { λ s. (s.guard, s.hash, s.key) };
 
-    ghost invariant = { λ s. (slot_of K.eq (W.part s.guard.inner).slots s.hash s.key ≡ None) × (count (W.part s.guard.inner).slots < (W.part s.guard.inner).room) };
+    ghost invariant = { λ s. (slot_of K.eq (W.part s.guard.inner).slots s.hash s.key ≡ None)
+        × (count (W.part s.guard.inner).slots < (W.part s.guard.inner).room) };
 }
 
 impl<K: Eq + Hash, V, A: Allocator, W: Lender<Part = Shard<K, V, A>> + Drop, H: Hold, D> Drop
@@ -127,7 +128,8 @@ where
     where
         K: Drop,
         V: Drop,
-        ensures added { Adds K.eq (W.part self.0.inner) (W.part result.0.inner) (entry_with self.1 self.2 value) result.1 }
+        ensures added { Adds K.eq (W.part self.0.inner) (W.part result.0.inner) (entry_with self.1 self.2 value)
+            result.1 }
         ensures held { result.0.held ≡ self.0.held }
     {
         let VacantEntry {
@@ -140,8 +142,8 @@ where
         RefMut::of_slot(guard, slot)
     }
 
-    /// Adds the pair with a clone of the key, and stays at it. Where the clone is refused, entry and value come back and nothing is
-    /// added. A key has to be equal to its clone.
+    /// Adds the pair with a clone of the key, and stays at it. Where the clone is refused, entry and value come back
+    /// and nothing is added. A key has to be equal to its clone.
     pub fn insert_entry(
         self,
         value: V,
@@ -151,7 +153,8 @@ where
         V: Drop,
         requires { (k copy : K) → K.is_clone k copy → copy ≡ k }
         ensures { MatchResult result
-            (λ o. Adds K.eq (W.part self.0.inner) (W.part o.0.0.inner) (entry_with self.1 self.2 value) o.0.1 × (o.0.0.held ≡ self.0.held) × (o.1 ≡ self.2))
+            (λ o. Adds K.eq (W.part self.0.inner) (W.part o.0.0.inner) (entry_with self.1 self.2 value) o.0.1
+            × (o.0.0.held ≡ self.0.held) × (o.1 ≡ self.2))
             (λ back. back ≡ (self, value)) }
     {
         let Ok(copy) = self.key.clone() else {
@@ -276,7 +279,16 @@ where
 {
     /// The value for writing.
     pub fn get_mut(&mut self) -> &mut V
-        ensures* writes_back { sem 𝓛 (Lends (occupied.the_row K.row V.row A.row W.row H.row D.row H.Lock.row H.Runtime.row H.Party.row H.Apart.row K.PartialEq (record { hash_input = K.hash_input }) A.Allocator W.Lender H.Hold) V.row self.entry result (λ value. ((record self.old.0.0 { inner = W.with_part self.old.0.0.inner (with_value (W.part self.old.0.0.inner) self.old.0.1 value) }, self.old.0.1), self.old.1))) }
+        ensures* writes_back { sem 𝓛 (Lends (occupied.the_row K.row V.row A.row W.row H.row D.row H.Lock.row H.Runtime.row H.Party.row
+            H.Apart.row K.PartialEq (record { hash_input = K.hash_input }) A.Allocator W.Lender H.Hold) V.row self.entry
+            result (λ value. (
+              (
+                record self.old.0.0
+                    { inner = W.with_part self.old.0.0.inner (with_value (W.part self.old.0.0.inner) self.old.0.1 value) },
+                self.old.0.1,
+              ),
+              self.old.1,
+            ))) }
         ensures value { value_in (W.part self.old.0.0.inner) self.old.0.1 ≡ Some result.now }
     {
         self.of.value_mut()
@@ -285,7 +297,15 @@ where
     /// Stores the value and answers the old one. The stored key stays.
     pub fn insert(&mut self, value: V) -> V
         ensures old { value_in (W.part self.old.0.0.inner) self.old.0.1 ≡ Some result }
-        ensures new { self.new ≡ ((record self.old.0.0 { inner = W.with_part self.old.0.0.inner (with_value (W.part self.old.0.0.inner) self.old.0.1 value) }, self.old.0.1), self.old.1) }
+        ensures new { self.new
+            ≡ (
+              (
+                record self.old.0.0
+                    { inner = W.with_part self.old.0.0.inner (with_value (W.part self.old.0.0.inner) self.old.0.1 value) },
+                self.old.0.1,
+              ),
+              self.old.1,
+            ) }
     {
         mem::replace(self.of.value_mut(), value)
     }
@@ -326,7 +346,8 @@ where
         value
     }
 
-    /// Stores the key that was handed in and the value, and answers the old pair with the guard of the shard. For the layer above.
+    /// Stores the key that was handed in and the value, and answers the old pair with the guard of the shard. For the
+    /// layer above.
     pub fn put(self, value: V) -> (Guard<W, H>, (K, V))
     where
         K: Drop,
@@ -424,15 +445,18 @@ where
 
     /// The place of a key in a shard that is held exclusively. For the layer above.
     ///
-    /// An absent key's room is made here. Where the shard would have to grow for it and can't, the key comes back, the shard is let go and
-    /// nothing has changed.
+    /// An absent key's room is made here. Where the shard would have to grow for it and can't, the key comes back, the
+    /// shard is let go and nothing has changed.
     pub fn find(guard: Guard<W, H>, hash: u64, key: K) -> Result<Entry<K, V, A, W, H, D>, K>
     where
         A: Clone,
         ensures found { IfOk result (by_entry
             (λ o. (o.1 ≡ key) × (o.0.0 ≡ guard) × (slot_of K.eq (W.part guard.inner).slots hash key ≡ Some o.0.1))
-            (λ v. (v.1 ≡ hash) × (v.2 ≡ key) × (v.0.held ≡ guard.held) × (slot_of K.eq (W.part guard.inner).slots hash key ≡ None) × SamePairs K.eq (W.part guard.inner) (W.part v.0.inner))) }
-        ensures refused { IfErr result (λ back. (back ≡ key) × (slot_of K.eq (W.part guard.inner).slots hash key ≡ None) × ((W.part guard.inner).room ≤ count (W.part guard.inner).slots)) }
+            (λ v. (v.1 ≡ hash) × (v.2 ≡ key) × (v.0.held ≡ guard.held)
+            × (slot_of K.eq (W.part guard.inner).slots hash key ≡ None) × SamePairs K.eq (W.part guard.inner)
+            (W.part v.0.inner))) }
+        ensures refused { IfErr result (λ back. (back ≡ key) × (slot_of K.eq (W.part guard.inner).slots hash key ≡ None)
+            × ((W.part guard.inner).room ≤ count (W.part guard.inner).slots)) }
     {
         let mut guard = guard;
         match guard.look().find(hash, &key) {
@@ -456,7 +480,8 @@ where
     pub fn or_insert(self, value: V) -> RefMut<K, V, A, W, H, D>
         ensures { by_entry
             (λ o. result ≡ o.0)
-            (λ v. Adds K.eq (W.part v.0.inner) (W.part result.0.inner) (entry_with v.1 v.2 value) result.1 × (result.0.held ≡ v.0.held)) self }
+            (λ v. Adds K.eq (W.part v.0.inner) (W.part result.0.inner) (entry_with v.1 v.2 value) result.1
+            × (result.0.held ≡ v.0.held)) self }
     {
         match self {
             Entry::Occupied(entry) => entry.into_ref(),
@@ -467,8 +492,13 @@ where
     /// Stores the value. An occupied entry keeps its stored key.
     pub fn insert(self, value: V) -> RefMut<K, V, A, W, H, D>
         ensures { by_entry
-            (λ o. result ≡ (record o.0.0 { inner = W.with_part o.0.0.inner (with_value (W.part o.0.0.inner) o.0.1 value) }, o.0.1))
-            (λ v. Adds K.eq (W.part v.0.inner) (W.part result.0.inner) (entry_with v.1 v.2 value) result.1 × (result.0.held ≡ v.0.held)) self }
+            (λ o. result ≡ (
+              record o.0.0
+                  { inner = W.with_part o.0.0.inner (with_value (W.part o.0.0.inner) o.0.1 value) },
+              o.0.1,
+            ))
+            (λ v. Adds K.eq (W.part v.0.inner) (W.part result.0.inner) (entry_with v.1 v.2 value) result.1
+            × (result.0.held ≡ v.0.held)) self }
     {
         match self {
             Entry::Occupied(mut entry) => {
@@ -483,7 +513,12 @@ where
     pub fn and_modify<F: FnOnce(&mut V) + Drop>(self, f: F) -> Entry<K, V, A, W, H, D>
         requires { F.IsAlwaysCallable f }
         ensures { by_entry
-            (λ o. (old : V) × (new : V) × (value_in (W.part o.0.0.inner) o.0.1 ≡ Some old) × FnOnceReturnsAtMut F.FnOnce f old tt new × (result ≡ Occupied ((record o.0.0 { inner = W.with_part o.0.0.inner (with_value (W.part o.0.0.inner) o.0.1 new) }, o.0.1), o.1)))
+            (λ o. (old : V) × (new : V) × (value_in (W.part o.0.0.inner) o.0.1 ≡ Some old)
+            × FnOnceReturnsAtMut F.FnOnce f old tt new
+            × (result ≡ Occupied (
+              (record o.0.0 { inner = W.with_part o.0.0.inner (with_value (W.part o.0.0.inner) o.0.1 new) }, o.0.1),
+              o.1,
+            )))
             (λ v. result ≡ Vacant v) self }
     {
         match self {
@@ -500,7 +535,8 @@ where
         requires { F.IsAlwaysCallable f }
         ensures { by_entry
             (λ o. result ≡ o.0)
-            (λ v. (value : V) × F.post f value × Adds K.eq (W.part v.0.inner) (W.part result.0.inner) (entry_with v.1 v.2 value) result.1 × (result.0.held ≡ v.0.held)) self }
+            (λ v. (value : V) × F.post f value × Adds K.eq (W.part v.0.inner) (W.part result.0.inner)
+            (entry_with v.1 v.2 value) result.1 × (result.0.held ≡ v.0.held)) self }
     {
         match self {
             Entry::Occupied(entry) => entry.into_ref(),
@@ -517,7 +553,8 @@ where
         ensures { by_entry
             (λ o. result ≡ Ok o.0)
             (λ v. MatchResult result
-            (λ r. (value : V) × F.post f (Ok value) × Adds K.eq (W.part v.0.inner) (W.part r.0.inner) (entry_with v.1 v.2 value) r.1 × (r.0.held ≡ v.0.held))
+            (λ r. (value : V) × F.post f (Ok value) × Adds K.eq (W.part v.0.inner) (W.part r.0.inner)
+            (entry_with v.1 v.2 value) r.1 × (r.0.held ≡ v.0.held))
             (λ e. F.post f (Err e))) self }
     {
         match self {
@@ -535,7 +572,8 @@ where
         V: Default,
         ensures { by_entry
             (λ o. result ≡ o.0)
-            (λ v. (value : V) × V.is_default value × Adds K.eq (W.part v.0.inner) (W.part result.0.inner) (entry_with v.1 v.2 value) result.1 × (result.0.held ≡ v.0.held)) self }
+            (λ v. (value : V) × V.is_default value × Adds K.eq (W.part v.0.inner) (W.part result.0.inner)
+            (entry_with v.1 v.2 value) result.1 × (result.0.held ≡ v.0.held)) self }
     {
         match self {
             Entry::Occupied(entry) => entry.into_ref(),
@@ -553,9 +591,16 @@ where
         K: Clone,
         requires { (k copy : K) → K.is_clone k copy → copy ≡ k }
         ensures { by_entry
-            (λ o. result ≡ Ok ((record o.0.0 { inner = W.with_part o.0.0.inner (with_value (W.part o.0.0.inner) o.0.1 value) }, o.0.1), o.1))
+            (λ o. result ≡ Ok (
+              (
+                record o.0.0 { inner = W.with_part o.0.0.inner (with_value (W.part o.0.0.inner) o.0.1 value) },
+                o.0.1,
+              ),
+              o.1,
+            ))
             (λ v. MatchResult result
-            (λ o. Adds K.eq (W.part v.0.inner) (W.part o.0.0.inner) (entry_with v.1 v.2 value) o.0.1 × (o.0.0.held ≡ v.0.held) × (o.1 ≡ v.2))
+            (λ o. Adds K.eq (W.part v.0.inner) (W.part o.0.0.inner) (entry_with v.1 v.2 value) o.0.1
+            × (o.0.0.held ≡ v.0.held) × (o.1 ≡ v.2))
             (λ back. back ≡ (self, value))) self }
     {
         match self {

@@ -22,7 +22,8 @@ use std::sync::Wait;
 
 /// A guard of one pair that is narrowed to a part of its value, which is there as long as the guard lives.
 ///
-/// It is named [`MappedRef`] and [`MappedRefMut`]. The part is found anew by the projection at each access. Its drop ends the guard.
+/// It is named [`MappedRef`] and [`MappedRefMut`]. The part is found anew by the projection at each access. Its drop
+/// ends the guard.
 pub struct MappedGuard<
     K: Eq + Hash,
     V,
@@ -43,7 +44,8 @@ where
 /// A [`Ref`](crate::mapref::one::Ref) narrowed to a part of its value.
 pub type MappedRef<K, V, A, W, H, D, P> = MappedGuard<K, V, A, W, H, D, Reads, P>;
 
-/// A [`RefMut`](crate::mapref::one::RefMut) narrowed to a part of its value. What is written to the part is written into the whole.
+/// A [`RefMut`](crate::mapref::one::RefMut) narrowed to a part of its value. What is written to the part is written
+/// into the whole.
 pub type MappedRefMut<K, V, A, W, H, D, P> = MappedGuard<K, V, A, W, H, D, Writes, P>;
 
 impl<
@@ -189,7 +191,9 @@ where
         self,
         projection: Q,
     ) -> Result<MappedGuard<K, V, A, W, H, D, M, Then<P, Q>>, MappedGuard<K, V, A, W, H, D, M, P>>
-        ensures { Narrows (part_in (then_focus (P.focus self.1) (P.with_focus self.1) (Q.focus projection) (Q.with_focus projection)) (W.part self.0.0.inner) self.0.1) (self.0, record { first = self.1; second = projection }) self result }
+        ensures { Narrows
+            (part_in (then_focus (P.focus self.1) (P.with_focus self.1) (Q.focus projection) (Q.with_focus projection))
+            (W.part self.0.0.inner) self.0.1) (self.0, record { first = self.1; second = projection }) self result }
     {
         if projection.get(self.value()).is_some() {
             let MappedGuard { of, by } = self;
@@ -217,7 +221,19 @@ where
 {
     /// The part for writing, beside the stored key. What is written is written into the whole value.
     pub fn pair_mut(&mut self) -> (&K, &mut P::Out)
-        ensures* writes_back { sem 𝓛 (Lends (the_row K.row V.row A.row W.row H.row D.row writes.the_row P.row H.Lock.row H.Runtime.row H.Party.row H.Apart.row P.Out.row K.PartialEq (record { hash_input = K.hash_input }) A.Allocator W.Lender H.Hold P.Projection) P.Out.row self.entry result.1 (λ part. ((record self.old.0.0 { inner = W.with_part self.old.0.0.inner (with_part_in (P.with_focus self.old.1) (W.part self.old.0.0.inner) self.old.0.1 part) }, self.old.0.1), self.old.1))) }
+        ensures* writes_back { sem 𝓛 (Lends (the_row K.row V.row A.row W.row H.row D.row writes.the_row P.row H.Lock.row H.Runtime.row
+            H.Party.row H.Apart.row P.Out.row K.PartialEq (record { hash_input = K.hash_input }) A.Allocator W.Lender
+            H.Hold P.Projection) P.Out.row self.entry result.1
+            (λ part. (
+              (
+                record self.old.0.0 {
+                  inner = W.with_part self.old.0.0.inner
+                      (with_part_in (P.with_focus self.old.1) (W.part self.old.0.0.inner) self.old.0.1 part);
+                },
+                self.old.0.1,
+              ),
+              self.old.1,
+            ))) }
         ensures key { key_in (W.part self.old.0.0.inner) self.old.0.1 ≡ Some result.0.now }
         ensures part { part_in (P.focus self.old.1) (W.part self.old.0.0.inner) self.old.0.1 ≡ Some result.1.now }
     {
@@ -227,7 +243,19 @@ where
 
     /// The part for writing.
     pub fn value_mut(&mut self) -> &mut P::Out
-        ensures* writes_back { sem 𝓛 (Lends (the_row K.row V.row A.row W.row H.row D.row writes.the_row P.row H.Lock.row H.Runtime.row H.Party.row H.Apart.row P.Out.row K.PartialEq (record { hash_input = K.hash_input }) A.Allocator W.Lender H.Hold P.Projection) P.Out.row self.entry result (λ part. ((record self.old.0.0 { inner = W.with_part self.old.0.0.inner (with_part_in (P.with_focus self.old.1) (W.part self.old.0.0.inner) self.old.0.1 part) }, self.old.0.1), self.old.1))) }
+        ensures* writes_back { sem 𝓛 (Lends (the_row K.row V.row A.row W.row H.row D.row writes.the_row P.row H.Lock.row H.Runtime.row
+            H.Party.row H.Apart.row P.Out.row K.PartialEq (record { hash_input = K.hash_input }) A.Allocator W.Lender
+            H.Hold P.Projection) P.Out.row self.entry result
+            (λ part. (
+              (
+                record self.old.0.0 {
+                  inner = W.with_part self.old.0.0.inner
+                      (with_part_in (P.with_focus self.old.1) (W.part self.old.0.0.inner) self.old.0.1 part);
+                },
+                self.old.0.1,
+              ),
+              self.old.1,
+            ))) }
         ensures part { part_in (P.focus self.old.1) (W.part self.old.0.0.inner) self.old.0.1 ≡ Some result.now }
     {
         self.pair_mut().1
@@ -271,7 +299,19 @@ where
     ghost deref_mut_gives = { λ m part. part_in (P.focus m.1) (W.part m.0.0.inner) m.0.1 ≡ Some part };
 
     fn deref_mut(&mut self) -> &mut P::Out
-        ensures* writes_back { sem 𝓛 (Lends (the_row K.row V.row A.row W.row H.row D.row writes.the_row P.row H.Lock.row H.Runtime.row H.Party.row H.Apart.row P.Out.row K.PartialEq (record { hash_input = K.hash_input }) A.Allocator W.Lender H.Hold P.Projection) P.Out.row self.entry result (λ part. ((record self.old.0.0 { inner = W.with_part self.old.0.0.inner (with_part_in (P.with_focus self.old.1) (W.part self.old.0.0.inner) self.old.0.1 part) }, self.old.0.1), self.old.1))) }
+        ensures* writes_back { sem 𝓛 (Lends (the_row K.row V.row A.row W.row H.row D.row writes.the_row P.row H.Lock.row H.Runtime.row
+            H.Party.row H.Apart.row P.Out.row K.PartialEq (record { hash_input = K.hash_input }) A.Allocator W.Lender
+            H.Hold P.Projection) P.Out.row self.entry result
+            (λ part. (
+              (
+                record self.old.0.0 {
+                  inner = W.with_part self.old.0.0.inner
+                      (with_part_in (P.with_focus self.old.1) (W.part self.old.0.0.inner) self.old.0.1 part);
+                },
+                self.old.0.1,
+              ),
+              self.old.1,
+            ))) }
         ensures part { part_in (P.focus self.old.1) (W.part self.old.0.0.inner) self.old.0.1 ≡ Some result.now }
     {
         self.value_mut()

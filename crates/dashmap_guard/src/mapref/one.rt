@@ -24,7 +24,8 @@ pub struct Reads {}
 /// A guard that may write, too.
 pub struct Writes {}
 
-/// A guard of one pair: a hold of its shard, and its slot. It lends the pair, which is there as long as the guard lives.
+/// A guard of one pair: a hold of its shard, and its slot. It lends the pair, which is there as long as the guard
+/// lives.
 ///
 /// It is named [`Ref`] and [`RefMut`]. Its drop releases the shard and may wait for the lot's short sections.
 pub struct PairGuard<
@@ -45,7 +46,8 @@ where
     kind: PhantomData<M>,
 }
 
-/// A guard of one pair that only reads it: a shared hold of its shard, or, after [`RefMut::downgrade`], an exclusive one.
+/// A guard of one pair that only reads it: a shared hold of its shard, or, after [`RefMut::downgrade`], an exclusive
+/// one.
 ///
 /// The pair stays the same until the guard is dropped.
 ///
@@ -55,7 +57,8 @@ where
 /// ```
 pub type Ref<K, V, A, W, H, D> = PairGuard<K, V, A, W, H, D, Reads>;
 
-/// A guard of one pair that may write its value: an exclusive hold of its shard. What is written through it is what it lends next.
+/// A guard of one pair that may write its value: an exclusive hold of its shard. What is written through it is what it
+/// lends next.
 ///
 /// ```rust
 /// let mut guard = map.get_mut(&"seven", &mut me).ok_or("gone")?;
@@ -116,9 +119,11 @@ where
         }
     }
 
-    /// The guard of a key's pair in a shard that is held. Where the key isn't there, the shard is let go. For the layer above.
+    /// The guard of a key's pair in a shard that is held. Where the key isn't there, the shard is let go. For the layer
+    /// above.
     pub fn find(guard: Guard<W, H>, hash: u64, key: &K) -> Option<PairGuard<K, V, A, W, H, D, M>>
-        ensures place { MatchOption result (slot_of K.eq (W.part guard.inner).slots hash key.now ≡ None) (λ r. (r.0 ≡ guard) × (slot_of K.eq (W.part guard.inner).slots hash key.now ≡ Some r.1)) }
+        ensures place { MatchOption result (slot_of K.eq (W.part guard.inner).slots hash key.now ≡ None)
+            (λ r. (r.0 ≡ guard) × (slot_of K.eq (W.part guard.inner).slots hash key.now ≡ Some r.1)) }
         ensures asked { IfSome result (λ r. IfSome (key_in (W.part r.0.inner) r.1) (λ k. IsTrue (K.eq k key.now))) }
     {
         match guard.look().find(hash, key) {
@@ -200,7 +205,14 @@ where
 {
     /// The value for writing, beside the stored key. What is left there is what the guard lends from then on.
     pub fn pair_mut(&mut self) -> (&K, &mut V)
-        ensures* writes_back { sem 𝓛 (Lends (the_row K.row V.row A.row W.row H.row D.row writes.the_row H.Lock.row H.Runtime.row H.Party.row H.Apart.row K.PartialEq (record { hash_input = K.hash_input }) A.Allocator W.Lender H.Hold) V.row self.entry result.1 (λ value. (record self.old.0 { inner = W.with_part self.old.0.inner (with_value (W.part self.old.0.inner) self.old.1 value) }, self.old.1))) }
+        ensures* writes_back { sem 𝓛 (Lends (the_row K.row V.row A.row W.row H.row D.row writes.the_row H.Lock.row H.Runtime.row
+            H.Party.row H.Apart.row K.PartialEq (record { hash_input = K.hash_input }) A.Allocator W.Lender H.Hold)
+            V.row self.entry result.1
+            (λ value. (
+              record self.old.0
+                  { inner = W.with_part self.old.0.inner (with_value (W.part self.old.0.inner) self.old.1 value) },
+              self.old.1,
+            ))) }
         ensures pair { pair_in (W.part self.old.0.inner) self.old.1 ≡ Some (result.0.now, result.1.now) }
     {
         self.guard.lend().lend(self.slot)
@@ -208,7 +220,14 @@ where
 
     /// The value for writing.
     pub fn value_mut(&mut self) -> &mut V
-        ensures* writes_back { sem 𝓛 (Lends (the_row K.row V.row A.row W.row H.row D.row writes.the_row H.Lock.row H.Runtime.row H.Party.row H.Apart.row K.PartialEq (record { hash_input = K.hash_input }) A.Allocator W.Lender H.Hold) V.row self.entry result (λ value. (record self.old.0 { inner = W.with_part self.old.0.inner (with_value (W.part self.old.0.inner) self.old.1 value) }, self.old.1))) }
+        ensures* writes_back { sem 𝓛 (Lends (the_row K.row V.row A.row W.row H.row D.row writes.the_row H.Lock.row H.Runtime.row
+            H.Party.row H.Apart.row K.PartialEq (record { hash_input = K.hash_input }) A.Allocator W.Lender H.Hold)
+            V.row self.entry result
+            (λ value. (
+              record self.old.0
+                  { inner = W.with_part self.old.0.inner (with_value (W.part self.old.0.inner) self.old.1 value) },
+              self.old.1,
+            ))) }
         ensures value { value_in (W.part self.old.0.inner) self.old.1 ≡ Some result.now }
     {
         self.pair_mut().1
@@ -237,7 +256,14 @@ where
     ghost deref_mut_gives = { λ r value. value_in (W.part r.0.inner) r.1 ≡ Some value };
 
     fn deref_mut(&mut self) -> &mut V
-        ensures* writes_back { sem 𝓛 (Lends (the_row K.row V.row A.row W.row H.row D.row writes.the_row H.Lock.row H.Runtime.row H.Party.row H.Apart.row K.PartialEq (record { hash_input = K.hash_input }) A.Allocator W.Lender H.Hold) V.row self.entry result (λ value. (record self.old.0 { inner = W.with_part self.old.0.inner (with_value (W.part self.old.0.inner) self.old.1 value) }, self.old.1))) }
+        ensures* writes_back { sem 𝓛 (Lends (the_row K.row V.row A.row W.row H.row D.row writes.the_row H.Lock.row H.Runtime.row
+            H.Party.row H.Apart.row K.PartialEq (record { hash_input = K.hash_input }) A.Allocator W.Lender H.Hold)
+            V.row self.entry result
+            (λ value. (
+              record self.old.0
+                  { inner = W.with_part self.old.0.inner (with_value (W.part self.old.0.inner) self.old.1 value) },
+              self.old.1,
+            ))) }
         ensures value { value_in (W.part self.old.0.inner) self.old.1 ≡ Some result.now }
     {
         self.value_mut()

@@ -12,11 +12,13 @@ use Rattle.dashmap_iter.specs.Walks.Visits.{Walked}
 module _ {K V Q : Type 0} (Token Runtime Party : Type 0) where
   -- there was an exclusive hold of a lock, and P holds of its shard before and after
   abbrev pub WhileHeld : Q → (Table K V → Table K V → Type 0) → Type 0
-  WhileHeld lock P = (guard : Guard (RwLockWriteGuard (Table K V)) (Issued (Bor Q) Token) Q Runtime Party (Bor Q)) × (after : Table K V) × (guard.held.0.place.now ≡ lock) × P (write_guard_value guard.inner) after
+  WhileHeld lock P = (guard : Guard (RwLockWriteGuard (Table K V)) (Issued (Bor Q) Token) Q Runtime Party (Bor Q))
+      × (after : Table K V) × (guard.held.0.place.now ≡ lock) × P (write_guard_value guard.inner) after
 
   -- the first n shards of a map were held in turn, and P took f to g over them
   abbrev pub HeldUpTo : {F S : Type 0} → Locked Q S → (F × Table K V → F × Table K V → Type 0) → ℕ → F → F → Type 0
-  HeldUpTo m P n f g = Walked (λ f i g. (lock : Q) × (lock_at m i ≡ Some lock) × WhileHeld lock (λ old new. P (f, old) (g, new))) n f g
+  HeldUpTo m P n f g =
+      Walked (λ f i g. (lock : Q) × (lock_at m i ≡ Some lock) × WhileHeld lock (λ old new. P (f, old) (g, new))) n f g
 
   -- each shard of a map was held in turn, from the first on, and P took f to g over them
   abbrev pub EachHeld : {F S : Type 0} → Locked Q S → (F × Table K V → F × Table K V → Type 0) → F → F → Type 0

@@ -12,7 +12,8 @@ Walked R zero p q = p ≡ q
 Walked {P} R (suc n) p q = (m : P) × Walked R n p m × R m n q
 
 -- f, called at k and a `&mut` to v, may answer r, leave w there and be g afterwards
-pub record AnswersNext {F K V R : Type 0} (member : Mut F (Bor K × (MutBor V × Unit {0})) (R × (MutBor V × Unit {0}))) (f : F) (k : K) (v : V) (r : R) (w : V) (g : F) : Type 0 where
+pub record AnswersNext {F K V R : Type 0} (member : Mut F (Bor K × (MutBor V × Unit {0})) (R × (MutBor V × Unit {0})))
+    (f : F) (k : K) (v : V) (r : R) (w : V) (g : F) : Type 0 where
   pub key : Bor K
   pub value : MutBor V
   pub shows : (key.now ≡ k) × (value.now ≡ v)
@@ -21,7 +22,8 @@ pub record AnswersNext {F K V R : Type 0} (member : Mut F (Bor K × (MutBor V ×
   pub leaves : left.now ≡ w
 
 -- f, called at k and with v, may make w of it and be g afterwards
-pub record MakesNext {F K V : Type 0} (member : Mut F (Bor K × (V × Unit {0})) V) (f : F) (k : K) (v w : V) (g : F) : Type 0 where
+pub record MakesNext {F K V : Type 0} (member : Mut F (Bor K × (V × Unit {0})) V) (f : F) (k : K) (v w : V)
+    (g : F) : Type 0 where
   pub key : Bor K
   pub shows : key.now ≡ k
   pub called : Called member f (key, (v, tt)) w g
@@ -41,8 +43,10 @@ module _ {F K V : Type 0} where
   AtFull Q p i q = MatchOption (at p.1.slots i) (q ≡ p) (λ e. Q p e i q)
 
   -- the closure is asked of the pair, which may be written, and the pair goes where it answers no
-  abbrev pub Keeps : Mut F (Bor K × (MutBor V × Unit {0})) (Bool × (MutBor V × Unit {0})) → Turn F K V → Entry K V → ℕ → Turn F K V → Type 0
-  Keeps member p e i q = (answer : Bool) × (left : V) × AnswersNext member p.0 e.key e.value answer left q.0 × StaysIf answer (with_value p.1 i left) q.1 i
+  abbrev pub Keeps : Mut F (Bor K × (MutBor V × Unit {0})) (Bool × (MutBor V × Unit {0})) → Turn F K V → Entry K V → ℕ
+      → Turn F K V → Type 0
+  Keeps member p e i q = (answer : Bool) × (left : V) × AnswersNext member p.0 e.key e.value answer left q.0
+      × StaysIf answer (with_value p.1 i left) q.1 i
 
   -- the value is what the closure makes of it
   abbrev pub Alters : Mut F (Bor K × (V × Unit {0})) V → Turn F K V → Entry K V → ℕ → Turn F K V → Type 0

@@ -59,7 +59,8 @@ impl<'m, K: Eq + Hash, V, S: BuildHasher, Q, A: Allocator> ShardsView<'m, K, V, 
     where
         Q: RawRwLock,
         Q::Runtime: Wait,
-        ensures { MatchOption result (length self.now.locks ≤ shard) (λ g. lock_at self.now shard ≡ Some g.held.0.place.now) }
+        ensures { MatchOption result (length self.now.locks ≤ shard)
+            (λ g. lock_at self.now shard ≡ Some g.held.0.place.now) }
     {
         if shard < self.count() {
             Some(hold_to_read(self.lock(shard), td))

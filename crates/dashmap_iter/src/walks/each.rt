@@ -1,4 +1,5 @@
-//! What a walk does to a shard while it holds it: to each pair in turn, in the order of the slots. For the walks of the map.
+//! What a walk does to a shard while it holds it: to each pair in turn, in the order of the slots. For the walks of the
+//! map.
 ghost use Rattle.std.specs.Prelude.{◌≡◌, ℕ, ◌≤◌, None, IsSome, length};
 ghost use Rattle.dashmap_table.specs.Slots.{at};
 ghost use Rattle.dashmap_iter.specs.Walks.Visits.{Walked, AtFull, Keeps, Alters, AnswersNext, MakesNext};

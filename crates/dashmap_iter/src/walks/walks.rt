@@ -19,8 +19,8 @@ use std::sync::Wait;
 
 /// Walks over a map, which takes its shards in their order. What waits is lent what the thread has last.
 ///
-/// What lies behind a lock is known to its holder alone, so each contract says what happens to each shard while it is held: each shard
-/// once, from the first on. What others do to a shard before or after, no clause can say.
+/// What lies behind a lock is known to its holder alone, so each contract says what happens to each shard while it is
+/// held: each shard once, from the first on. What others do to a shard before or after, no clause can say.
 ///
 /// ```text
 /// map.retain(|_, age| *age > 20, &mut me);
@@ -34,26 +34,29 @@ where
     /// The locks and the hasher of a map.
     ghost seen: { Self → Locked Q S };
 
-    /// Asks the closure of each pair, whose value it may write, and takes those out of which it answers false. One shard is held at a
-    /// time.
+    /// Asks the closure of each pair, whose value it may write, and takes those out of which it answers false. One
+    /// shard is held at a time.
     fn retain<F: FnMut(&K, &mut V) -> bool + Drop>(&self, f: F, td: &mut Q::Party)
     where
         K: Drop,
         V: Drop,
         requires { F.IsAlwaysCallable f }
-        ensures { (last : F) × EachHeld Q.ExclusiveGuard Q.Runtime Q.Party (seen self.now) (λ p q. Walked (AtFull (Keeps F.FnMut)) (length p.1.slots) p q) f last };
+        ensures { (last : F) × EachHeld Q.ExclusiveGuard Q.Runtime Q.Party (seen self.now)
+            (λ p q. Walked (AtFull (Keeps F.FnMut)) (length p.1.slots) p q) f last };
 
     /// Stores what the closure makes of each value. The next shard is held before the last one is given back.
     fn alter_all<F: FnMut(&K, V) -> V + Drop>(&self, f: F, td: &mut Q::Party)
         requires { F.IsAlwaysCallable f }
-        ensures { (last : F) × EachHeld Q.ExclusiveGuard Q.Runtime Q.Party (seen self.now) (λ p q. Walked (AtFull (Alters F.FnMut)) (length p.1.slots) p q) f last };
+        ensures { (last : F) × EachHeld Q.ExclusiveGuard Q.Runtime Q.Party (seen self.now)
+            (λ p q. Walked (AtFull (Alters F.FnMut)) (length p.1.slots) p q) f last };
 
     /// Takes every pair out; the room stays. One shard is held at a time.
     fn clear(&self, td: &mut Q::Party)
     where
         K: Drop,
         V: Drop,
-        ensures { EachHeld {K = K} {V = V} Q.ExclusiveGuard Q.Runtime Q.Party {F = Unit {0}} (seen self.now) (λ p q. (i : ℕ) → at q.1.slots i ≡ None) tt tt };
+        ensures { EachHeld {K = K} {V = V} Q.ExclusiveGuard Q.Runtime Q.Party {F = Unit {0}} (seen self.now)
+            (λ p q. (i : ℕ) → at q.1.slots i ≡ None) tt tt };
 
     /// As `retain`.
     fn _retain<F: FnMut(&K, &mut V) -> bool + Drop>(&self, f: F, td: &mut Q::Party)
@@ -61,19 +64,22 @@ where
         K: Drop,
         V: Drop,
         requires { F.IsAlwaysCallable f }
-        ensures { (last : F) × EachHeld Q.ExclusiveGuard Q.Runtime Q.Party (seen self.now) (λ p q. Walked (AtFull (Keeps F.FnMut)) (length p.1.slots) p q) f last };
+        ensures { (last : F) × EachHeld Q.ExclusiveGuard Q.Runtime Q.Party (seen self.now)
+            (λ p q. Walked (AtFull (Keeps F.FnMut)) (length p.1.slots) p q) f last };
 
     /// As `alter_all`.
     fn _alter_all<F: FnMut(&K, V) -> V + Drop>(&self, f: F, td: &mut Q::Party)
         requires { F.IsAlwaysCallable f }
-        ensures { (last : F) × EachHeld Q.ExclusiveGuard Q.Runtime Q.Party (seen self.now) (λ p q. Walked (AtFull (Alters F.FnMut)) (length p.1.slots) p q) f last };
+        ensures { (last : F) × EachHeld Q.ExclusiveGuard Q.Runtime Q.Party (seen self.now)
+            (λ p q. Walked (AtFull (Alters F.FnMut)) (length p.1.slots) p q) f last };
 
     /// As `clear`.
     fn _clear(&self, td: &mut Q::Party)
     where
         K: Drop,
         V: Drop,
-        ensures { EachHeld {K = K} {V = V} Q.ExclusiveGuard Q.Runtime Q.Party {F = Unit {0}} (seen self.now) (λ p q. (i : ℕ) → at q.1.slots i ≡ None) tt tt };
+        ensures { EachHeld {K = K} {V = V} Q.ExclusiveGuard Q.Runtime Q.Party {F = Unit {0}} (seen self.now)
+            (λ p q. (i : ℕ) → at q.1.slots i ≡ None) tt tt };
 }
 
 /// The lock of a shard. For the layer above.
@@ -98,7 +104,8 @@ fn retain_behind<
 where
     Q::Runtime: Wait,
     requires { F.IsAlwaysCallable f }
-    ensures held { WhileHeld Q.ExclusiveGuard Q.Runtime Q.Party lock.now (λ old new. Walked (AtFull (Keeps F.FnMut)) (length old.slots) (f, old) (result, new)) }
+    ensures held { WhileHeld Q.ExclusiveGuard Q.Runtime Q.Party lock.now
+        (λ old new. Walked (AtFull (Keeps F.FnMut)) (length old.slots) (f, old) (result, new)) }
     ensures again { F.IsAlwaysCallable result }
 {
     let mut guard = lock.write(td);
@@ -112,7 +119,8 @@ fn clear_behind<K: Eq + Hash + Drop, V: Drop, Q: RawRwLock, A: Allocator>(
 )
 where
     Q::Runtime: Wait,
-    ensures { WhileHeld {K = K} {V = V} Q.ExclusiveGuard Q.Runtime Q.Party lock.now (λ old new. (i : ℕ) → at new.slots i ≡ None) }
+    ensures { WhileHeld {K = K} {V = V} Q.ExclusiveGuard Q.Runtime Q.Party lock.now
+        (λ old new. (i : ℕ) → at new.slots i ≡ None) }
 {
     let mut guard = lock.write(td);
     clear_in(&mut *guard);

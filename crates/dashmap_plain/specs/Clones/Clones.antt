@@ -14,7 +14,9 @@ use Rattle.dashmap_map.specs.Locked.{Locked}
 module _ {K V Q : Type 0} (Token Runtime Party : Type 0) where
   -- there was a shared hold of a lock, and the clone is of the shard that it showed
   abbrev pub IsCloneBehind : (K → K → Bool) → Q → Table K V → Type 0
-  IsCloneBehind eq lock clone = (guard : Guard (RwLockReadGuard (Table K V)) (Issued (Bor Q) Token) Q Runtime Party (Bor Q)) × (guard.held.0.place.now ≡ lock) × IsCloneOf eq (read_guard_value guard.inner) clone
+  IsCloneBehind eq lock clone =
+      (guard : Guard (RwLockReadGuard (Table K V)) (Issued (Bor Q) Token) Q Runtime Party (Bor Q))
+      × (guard.held.0.place.now ≡ lock) × IsCloneOf eq (read_guard_value guard.inner) clone
 
   -- each shard of a map was held in its turn, and its clone stands at its number
   abbrev pub AreClonesBehind : {S : Type 0} → (K → K → Bool) → Locked Q S → List (Table K V) → Type 0

@@ -25,8 +25,8 @@ pub trait CloneMap<K: Eq + Hash, V, S: BuildHasher, Q: RawRwLock, A: Allocator>:
     /// The locks and the hasher of a map.
     ghost seen: { Self → Locked Q S };
 
-    /// A map with clones of all pairs, and as many shards. The shards are taken in their order, and one is held at a time: pairs that
-    /// others put in or take out meanwhile may be there or not.
+    /// A map with clones of all pairs, and as many shards. The shards are taken in their order, and one is held at a
+    /// time: pairs that others put in or take out meanwhile may be there or not.
     ///
     /// Refused as `TableFull` or `NoMemory`, in this order; then the rows that were taken stay used.
     fn clone<T: Copy>(&self, table: T, td: &mut Q::Party) -> Result<Self, MapFault>
@@ -39,7 +39,8 @@ pub trait CloneMap<K: Eq + Hash, V, S: BuildHasher, Q: RawRwLock, A: Allocator>:
         requires keys { (key copy : K) → K.is_clone key copy → copy ≡ key }
         requires values { (value copy : V) → V.is_clone value copy → copy ≡ value }
         requires hasher { (hasher copy : S) → S.is_clone hasher copy → copy ≡ hasher }
-        ensures made { IfOk result (λ m. (length (seen m).locks ≡ length (seen self.now).locks) × ((seen m).hasher ≡ (seen self.now).hasher)) }
+        ensures made { IfOk result
+            (λ m. (length (seen m).locks ≡ length (seen self.now).locks) × ((seen m).hasher ≡ (seen self.now).hasher)) }
         ensures refused { IfErr result (λ fault. (fault ≡ MapFault.TableFull) ⊎ (fault ≡ MapFault.NoMemory)) };
 }
 
@@ -59,7 +60,8 @@ where
     clone_shard(&*guard, alloc)
 }
 
-/// Clones of all shards of a map, in their order, each of what its lock showed while it was held. One is held at a time.
+/// Clones of all shards of a map, in their order, each of what its lock showed while it was held. One is held at a
+/// time.
 ///
 /// This is what `clone` puts behind the locks of the new map.
 pub fn clone_locked<

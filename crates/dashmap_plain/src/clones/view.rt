@@ -22,7 +22,8 @@ pub trait CloneView<K: Eq + Hash, V, S, Q>: Sized {
     /// The shards, the hasher and the locks of a view.
     ghost opened: { Self → Opened K V S Q };
 
-    /// A view of clones of all pairs, with as many shards and locks of its own. Every key finds in it what it finds in this one.
+    /// A view of clones of all pairs, with as many shards and locks of its own. Every key finds in it what it finds in
+    /// this one.
     ///
     /// Refused as `TableFull` or `NoMemory`, in this order; then the rows that were taken stay used.
     fn clone<T: Copy>(&self, table: T) -> Result<Self, MapFault>
@@ -34,7 +35,8 @@ pub trait CloneView<K: Eq + Hash, V, S, Q>: Sized {
         requires keys { (key copy : K) → K.is_clone key copy → copy ≡ key }
         requires values { (value copy : V) → V.is_clone value copy → copy ≡ value }
         requires hasher { (hasher copy : S) → S.is_clone hasher copy → copy ≡ hasher }
-        ensures shards { IfOk result (λ v. AllZip (IsCloneOf K.eq) (opened self.now).plain.tables (opened v).plain.tables) }
+        ensures shards { IfOk result
+            (λ v. AllZip (IsCloneOf K.eq) (opened self.now).plain.tables (opened v).plain.tables) }
         ensures hasher { IfOk result (λ v. (opened v).plain.hasher ≡ (opened self.now).plain.hasher) }
         ensures locks { IfOk result (λ v. length (opened v).locks ≡ length (opened self.now).plain.tables) }
         ensures refused { IfErr result (λ fault. (fault ≡ MapFault.TableFull) ⊎ (fault ≡ MapFault.NoMemory)) };

@@ -26,7 +26,8 @@ beq-symm false true = refl
 beq-symm false false = refl
 
 nat_eq-symm : (a b : ℕ) → nat_eq a b ≡ nat_eq b a
-nat_eq-symm a b = either (nat_eq a b) (nat_eq b a) (λ is. eq-eqb b a (sym (eqb-true a b is))) (λ is. eq-eqb a b (sym (eqb-true b a is)))
+nat_eq-symm a b = either (nat_eq a b) (nat_eq b a) (λ is. eq-eqb b a (sym (eqb-true a b is)))
+    (λ is. eq-eqb a b (sym (eqb-true b a is)))
 
 module _ {K V : Type 0} (eq : K → K → Bool) (alike : V → V → Bool) where
   pub same-stamp : (d e : Entered K V) → same_entry eq alike d e ≡ true → d.stamp ≡ e.stamp
@@ -77,5 +78,6 @@ module _ {K V : Type 0} (eq : K → K → Bool) (alike : V → V → Bool) where
 
     pub same-symm : (d e : Entered K V) → same_entry eq alike d e ≡ same_entry eq alike e d
     same-symm d e =
-        both (nat_eq-symm d.caller e.caller) (both (nat_eq-symm d.stamp e.stamp) (both (nat_eq-symm d.shard e.shard) (both (nat_eq-symm d.hash e.hash)
+        both (nat_eq-symm d.caller e.caller)
+        (both (nat_eq-symm d.stamp e.stamp) (both (nat_eq-symm d.shard e.shard) (both (nat_eq-symm d.hash e.hash)
         (both (call-symm d.call e.call) (reply-symm d.reply e.reply)))))

@@ -1,5 +1,6 @@
 -- What is true of each element of a list, or of some; lists that rise; and two rising lists with the same elements.
-use Rattle.std.proofs.Common.{◌≡◌, ℕ, suc, ◌+◌, ◌<◌, ◌≤◌, length, get_or, Bool, true, false, List, [], ◌∷◌, ◌++◌, ◌⊎◌, inl, inr, refl, sym, subst, arith}
+use Rattle.std.proofs.Common.{◌≡◌, ℕ, suc, ◌+◌, ◌<◌, ◌≤◌, length, get_or, Bool, true, false, List, [], ◌∷◌, ◌++◌, ◌⊎◌}
+use Rattle.std.proofs.Common.{inl, inr, refl, sym, subst, arith}
 use Rattle.std.specs.Bool.{⊤}
 use Rattle.std.specs.List.{AllPairs, AllZip, AllByRecursion, filter}
 use Rattle.std.proofs.lemmas.List.Kept.{AllPairs-cons}
@@ -44,7 +45,8 @@ module _ {X : Type 0} where
   -- each element is one
   pub each_itself : (xs : List X) → Each (λ x. Has (λ y. x ≡ y) xs) xs
   each_itself [] = tt
-  each_itself (x ∷ xs) = (inl refl, each (λ z. Has (λ y. z ≡ y) xs) (λ z. Has (λ y. z ≡ y) (x ∷ xs)) (λ z h. inr h) xs (each_itself xs))
+  each_itself (x ∷ xs) =
+      (inl refl, each (λ z. Has (λ y. z ≡ y) xs) (λ z. Has (λ y. z ≡ y) (x ∷ xs)) (λ z h. inr h) xs (each_itself xs))
 
   pub each_append : (P : X → Type 0) (xs ys : List X) → Each P xs → Each P ys → Each P (xs ++ ys)
   each_append P [] ys _ q = q
@@ -74,7 +76,8 @@ module _ {X : Type 0} where
     pub each_filtered : (P : X → Type 0) (xs : List X) → Each P xs → Each (λ x. (p x ≡ true) × P x) (filter p xs)
     each_filtered P [] _ = tt
     each_filtered P (x ∷ xs) h = elim (cases_Bool (p x)) [
-      | inl passes ↦ subst (Each (λ y. (p y ≡ true) × P y)) (sym (filtered-yes x xs passes)) ((passes, h.0), each_filtered P xs h.1)
+      | inl passes ↦ subst (Each (λ y. (p y ≡ true) × P y)) (sym (filtered-yes x xs passes))
+          ((passes, h.0), each_filtered P xs h.1)
       | inr fails ↦ subst (Each (λ y. (p y ≡ true) × P y)) (sym (filtered-no x xs fails)) (each_filtered P xs h.1)
     ]
 
@@ -87,20 +90,27 @@ module _ {X : Type 0} where
     ]
 
     -- what rises by L rises by M among what passes, where M follows there
-    pub up_filtered : (L M : X → X → Type 0) → ((x y : X) → p x ≡ true → p y ≡ true → L x y → M x y) → (xs : List X) → Up L xs → Up M (filter p xs)
+    pub up_filtered : (L M : X → X → Type 0) → ((x y : X) → p x ≡ true → p y ≡ true → L x y → M x y) → (xs : List X)
+        → Up L xs → Up M (filter p xs)
     up_filtered L M f [] _ = tt
     up_filtered L M f (x ∷ xs) h = elim (cases_Bool (p x)) [
       | inl passes ↦
-          subst (Up M) (sym (filtered-yes x xs passes))
-          (each (λ y. (p y ≡ true) × L x y) (M x) (λ y q. f x y passes q.0 q.1) (filter p xs) (each_filtered (L x) xs h.0), up_filtered L M f xs h.1)
+          subst (Up M) (sym (filtered-yes x xs passes)) (
+            each (λ y. (p y ≡ true) × L x y) (M x) (λ y q. f x y passes q.0 q.1) (filter p xs)
+                (each_filtered (L x) xs h.0),
+            up_filtered L M f xs h.1,
+          )
       | inr fails ↦ subst (Up M) (sym (filtered-no x xs fails)) (up_filtered L M f xs h.1)
     ]
 
   -- what rises, with what is true of each
-  pub up_with : (P : X → Type 0) (L : X → X → Type 0) (xs : List X) → Each P xs → Up L xs → Up (λ x y. P x × P y × L x y) xs
+  pub up_with : (P : X → Type 0) (L : X → X → Type 0) (xs : List X) → Each P xs → Up L xs
+      → Up (λ x y. P x × P y × L x y) xs
   up_with P L [] _ _ = tt
-  up_with P L (x ∷ xs) e u =
-      (each (λ y. P y × L x y) (λ y. P x × P y × L x y) (λ y q. (e.0, q.0, q.1)) xs (each_both P (L x) xs e.1 u.0), up_with P L xs e.1 u.1)
+  up_with P L (x ∷ xs) e u = (
+    each (λ y. P y × L x y) (λ y. P x × P y × L x y) (λ y q. (e.0, q.0, q.1)) xs (each_both P (L x) xs e.1 u.0),
+    up_with P L xs e.1 u.1,
+  )
 
   module _ (n : X → ℕ) where
     -- numbers rise strictly
@@ -108,16 +118,19 @@ module _ {X : Type 0} where
     Rises xs = Up (λ x y. n x < n y) xs
 
     -- two elements of one number are one
-    pub meet : (P Q : X → Type 0) (s : ℕ) (xs : List X) → Rises xs → Has (λ x. P x × (n x ≡ s)) xs → Has (λ x. Q x × (n x ≡ s)) xs → Has (λ x. P x × Q x) xs
+    pub meet : (P Q : X → Type 0) (s : ℕ) (xs : List X) → Rises xs → Has (λ x. P x × (n x ≡ s)) xs
+        → Has (λ x. Q x × (n x ≡ s)) xs → Has (λ x. P x × Q x) xs
     meet P Q s [] u p q = p
     meet P Q s (x ∷ xs) u (inl p) (inl q) = inl (p.0, q.0)
     meet P Q s (x ∷ xs) u (inl p) (inr q) =
-        out_of (λ y. n x < n y) (λ y. Q y × (n y ≡ s)) xs u.0 q (λ y above is. absurd (no_less (n x) (n y) s above p.1 is.1))
+        out_of (λ y. n x < n y) (λ y. Q y × (n y ≡ s)) xs u.0 q
+        (λ y above is. absurd (no_less (n x) (n y) s above p.1 is.1))
       where
         no_less : (a b c : ℕ) → a < b → a ≡ c → b ≡ c → ⊥
         no_less a b c less e f = omega (arith, less, e, f)
     meet P Q s (x ∷ xs) u (inr p) (inl q) =
-        out_of (λ y. n x < n y) (λ y. P y × (n y ≡ s)) xs u.0 p (λ y above is. absurd (no_less (n x) (n y) s above q.1 is.1))
+        out_of (λ y. n x < n y) (λ y. P y × (n y ≡ s)) xs u.0 p
+        (λ y above is. absurd (no_less (n x) (n y) s above q.1 is.1))
       where
         no_less : (a b c : ℕ) → a < b → a ≡ c → b ≡ c → ⊥
         no_less a b c less e f = omega (arith, less, e, f)
@@ -131,11 +144,13 @@ module _ {X : Type 0} where
 
       least_back : (x : X) (xs : List X) (y : X) → Rises (x ∷ xs) → Has (λ z. R z y) (x ∷ xs) → n x ≤ n y
       least_back x xs y u (inl r) = omega (arith, level x y r)
-      least_back x xs y u (inr h) = out_of (λ z. n x < n z) (λ z. R z y) xs u.0 h (λ z above r. omega (arith, above, level z y r))
+      least_back x xs y u (inr h) = out_of (λ z. n x < n z) (λ z. R z y) xs u.0 h
+          (λ z above r. omega (arith, above, level z y r))
 
       first : (x y : X) (ys : List X) → Rises (y ∷ ys) → n x ≤ n y → Has (R x) (y ∷ ys) → R x y
       first x y ys u low (inl r) = r
-      first x y ys u low (inr h) = out_of (λ z. n y < n z) (R x) ys u.0 h (λ z above r. absurd (no_room (n x) (n y) (n z) low above (level x z r)))
+      first x y ys u low (inr h) = out_of (λ z. n y < n z) (R x) ys u.0 h
+          (λ z above r. absurd (no_room (n x) (n y) (n z) low above (level x z r)))
         where
           no_room : (a b c : ℕ) → a ≤ b → b < c → a ≡ c → ⊥
           no_room a b c p q e = omega (arith, p, q, e)
@@ -154,7 +169,8 @@ module _ {X : Type 0} where
           no_room a b p e = omega (arith, p, e)
       later_back x xs y high (inr h) = h
 
-      pub paired : (xs ys : List X) → Rises xs → Rises ys → Each (λ x. Has (R x) ys) xs → Each (λ y. Has (λ x. R x y) xs) ys → AllZip R xs ys
+      pub paired : (xs ys : List X) → Rises xs → Rises ys → Each (λ x. Has (R x) ys) xs
+          → Each (λ y. Has (λ x. R x y) xs) ys → AllZip R xs ys
       paired [] [] u v there back = tt
       paired [] (y ∷ ys) u v there back = back.0
       paired (x ∷ xs) [] u v there back = there.0
@@ -163,8 +179,12 @@ module _ {X : Type 0} where
           let high : n y ≤ n x = least x y ys v there.0 in (
             first x y ys v low there.0,
             paired xs ys u.1 v.1
-                (each (λ z. (n x < n z) × Has (R z) (y ∷ ys)) (λ z. Has (R z) ys) (λ z q. later z y ys (omega (arith, high, q.0)) q.1) xs (each_both (λ z. n x < n z) (λ z. Has (R z) (y ∷ ys)) xs u.0 there.1))
-                (each (λ z. (n y < n z) × Has (λ w. R w z) (x ∷ xs)) (λ z. Has (λ w. R w z) xs) (λ z q. later_back x xs z (omega (arith, low, q.0)) q.1) ys (each_both (λ z. n y < n z) (λ z. Has (λ w. R w z) (x ∷ xs)) ys v.0 back.1)),
+                (each (λ z. (n x < n z) × Has (R z) (y ∷ ys)) (λ z. Has (R z) ys)
+                (λ z q. later z y ys (omega (arith, high, q.0)) q.1) xs
+                (each_both (λ z. n x < n z) (λ z. Has (R z) (y ∷ ys)) xs u.0 there.1))
+                (each (λ z. (n y < n z) × Has (λ w. R w z) (x ∷ xs)) (λ z. Has (λ w. R w z) xs)
+                (λ z q. later_back x xs z (omega (arith, low, q.0)) q.1) ys
+                (each_both (λ z. n y < n z) (λ z. Has (λ w. R w z) (x ∷ xs)) ys v.0 back.1)),
           )
 
 module _ {X : Type 0} where
@@ -189,15 +209,18 @@ module _ {X : Type 0} where
 
       rest_steps : (x : X) (xs : List X) → Steps (x ∷ xs) → Steps xs
       unfolding Steps
-      rest_steps x xs steps k d within = subst (λ j. L (get_or xs k d) (get_or (x ∷ xs) j d)) {x = suc k + 1} {y = suc (k + 1)} (omega arith) (steps (suc k) d (omega (arith, within)))
+      rest_steps x xs steps k d within = subst (λ j. L (get_or xs k d) (get_or (x ∷ xs) j d)) {x = suc k + 1}
+          {y = suc (k + 1)} (omega arith) (steps (suc k) d (omega (arith, within)))
 
       above : (x : X) (xs : List X) → Steps (x ∷ xs) → Each (L x) xs
       unfolding Steps
       above x [] steps = tt
       above x (y ∷ ys) steps =
-          let here : L x y = steps 0 x (omega arith) in (here, each (L y) (L x) (λ z beyond. far x y z here beyond) ys (above y ys (rest_steps x (y ∷ ys) steps)))
+          let here : L x y = steps 0 x (omega arith) in
+          (here, each (L y) (L x) (λ z beyond. far x y z here beyond) ys (above y ys (rest_steps x (y ∷ ys) steps)))
 
-      pub up_from_steps : (xs : List X) → ((k : ℕ) (d : X) → k + 1 < length xs → L (get_or xs k d) (get_or xs (k + 1) d)) → Up L xs
+      pub up_from_steps : (xs : List X)
+          → ((k : ℕ) (d : X) → k + 1 < length xs → L (get_or xs k d) (get_or xs (k + 1) d)) → Up L xs
       unfolding Steps
       up_from_steps [] steps = tt
       up_from_steps (x ∷ xs) steps = (above x xs steps, up_from_steps xs (rest_steps x xs steps))

@@ -1,5 +1,6 @@
 -- A list in no falling order of two numbers rises from neighbour to neighbour, by the first and then by the second.
-use Rattle.std.proofs.Common.{◌≡◌, ℕ, ◌<◌, ◌≤◌, ◌⊎◌, inl, inr, false, List, [], ◌∷◌, ◌++◌, length, take, refl, sym, ap, ◌∙◌, subst, arith}
+use Rattle.std.proofs.Common.{◌≡◌, ℕ, ◌<◌, ◌≤◌, ◌⊎◌, inl, inr, false, List, [], ◌∷◌, ◌++◌, length, take, refl, sym, ap}
+use Rattle.std.proofs.Common.{◌∙◌, subst, arith}
 use Rattle.std.specs.Ordering.{nat_cmp, ordering_then, is_lt}
 use Rattle.std.specs.declared.cmp.Ordering.TheVariants.{Less, Equal, Greater}
 use Rattle.std.proofs.lemmas.Bool.{true≢false, cases_lt, cases_eq, cond-true, cond-false, lt-ltb, le-ltb, eq-eqb}
@@ -22,7 +23,9 @@ not_less s t a b not = elim (cases_lt s t) [
     second : s ≡ t → b ≤ a
     second level = elim (cases_lt a b) [
       | inl less ↦
-          absurd (true≢false (sym (ap (λ o. is_lt (ordering_then (nat_cmp s t) o)) (less_is a b less) ∙ ap (λ o. is_lt (ordering_then o Less)) (subst (λ z. nat_cmp s z ≡ Equal) level (level_is s))) ∙ not))
+          absurd (true≢false
+          (sym (ap (λ o. is_lt (ordering_then (nat_cmp s t) o)) (less_is a b less)
+          ∙ ap (λ o. is_lt (ordering_then o Less)) (subst (λ z. nat_cmp s z ≡ Equal) level (level_is s))) ∙ not))
       | inr up ↦ up
     ]
 

@@ -8,12 +8,16 @@ use Rattle.dashmap_record.specs.declared.history.fault.GatherFault.{GatherFault}
 use Rattle.dashmap_record.specs.declared.history.fault.GatherFault.TheVariants as fault
 
 -- what is known of lists is known of their items
-pub of_items : {L X : Type 0} (p : List X → Bool) (items : L → List X) (ls : List L) (r v : Bool) → r ≡ list_all (λ l. p (items l)) ls → r ≡ v → list_all p (map items ls) ≡ v
+pub of_items : {L X : Type 0} (p : List X → Bool) (items : L → List X) (ls : List L) (r v : Bool)
+    → r ≡ list_all (λ l. p (items l)) ls → r ≡ v → list_all p (map items ls) ≡ v
 of_items p items ls r v told is = list_all-map p items ls ∙ (sym told ∙ is)
 
 abbrev pub verdict : Bool → Bool → Bool → Bool → Bool → Option GatherFault
 verdict a b c d e =
-    cond (not a) (Some fault.StampOrder) (cond (not b) (Some fault.NotInLog) (cond (not c) (Some fault.NotInHistory) (cond (not d) (Some fault.WrongShard) (cond (not e) (Some fault.WrongHash) None))))
+    cond (not a) (Some fault.StampOrder)
+    (cond (not b) (Some fault.NotInLog)
+    (cond (not c) (Some fault.NotInHistory)
+    (cond (not d) (Some fault.WrongShard) (cond (not e) (Some fault.WrongHash) None))))
 
 pub not_rising : (a b c d e : Bool) → a ≡ false → Some fault.StampOrder ≡ verdict a b c d e
 not_rising false b c d e is = refl
@@ -42,14 +46,16 @@ not_kept true true true d e _ _ is = absurd (true≢false is)
 not_kept true false c d e _ is _ = absurd (false≢true is)
 not_kept false b c d e is _ _ = absurd (false≢true is)
 
-pub not_routed : (a b c d e : Bool) → a ≡ true → b ≡ true → c ≡ true → d ≡ false → Some fault.WrongShard ≡ verdict a b c d e
+pub not_routed : (a b c d e : Bool) → a ≡ true → b ≡ true → c ≡ true → d ≡ false → Some fault.WrongShard ≡ verdict a b c
+    d e
 not_routed true true true false e _ _ _ _ = refl
 not_routed true true true true e _ _ _ is = absurd (true≢false is)
 not_routed true true false d e _ _ is _ = absurd (false≢true is)
 not_routed true false c d e _ is _ _ = absurd (false≢true is)
 not_routed false b c d e is _ _ _ = absurd (false≢true is)
 
-pub not_hashed : (a b c d e : Bool) → a ≡ true → b ≡ true → c ≡ true → d ≡ true → e ≡ false → Some fault.WrongHash ≡ verdict a b c d e
+pub not_hashed : (a b c d e : Bool) → a ≡ true → b ≡ true → c ≡ true → d ≡ true → e ≡ false
+    → Some fault.WrongHash ≡ verdict a b c d e
 not_hashed true true true true false _ _ _ _ _ = refl
 not_hashed true true true true true _ _ _ _ is = absurd (true≢false is)
 not_hashed true true true false e _ _ _ is _ = absurd (false≢true is)

@@ -32,4 +32,6 @@ module _ {K V : Type 0} (eq : K → K → Bool) (alike : V → V → Bool) where
   -- part by part
   abbrev pub same_entry : Entered K V → Entered K V → Bool
   same_entry d e =
-      (d.caller == e.caller) && ((d.stamp == e.stamp) && ((d.shard == e.shard) && ((d.hash == e.hash) && (same_call d.call e.call && same_reply d.reply e.reply))))
+      (d.caller == e.caller)
+      && ((d.stamp == e.stamp)
+      && ((d.shard == e.shard) && ((d.hash == e.hash) && (same_call d.call e.call && same_reply d.reply e.reply))))

@@ -1,7 +1,9 @@
 -- What the faults of gathering are called and numbered.
 use Rattle.std.specs.Prelude.{ℕ, List, codes}
 use Rattle.dashmap_record.specs.declared.history.fault.GatherFault.{GatherFault}
-use Rattle.dashmap_record.specs.declared.history.fault.GatherFault.TheVariants.{StampOrder, NotInLog, NotInHistory, WrongShard, WrongHash, WrongReply, NoMemory}
+use Rattle.dashmap_record.specs.declared.history.fault.GatherFault.TheVariants.{StampOrder, NotInLog, NotInHistory}
+use Rattle.dashmap_record.specs.declared.history.fault.GatherFault.TheVariants.{WrongShard, WrongHash, WrongReply}
+use Rattle.dashmap_record.specs.declared.history.fault.GatherFault.TheVariants.{NoMemory}
 
 abbrev pub gather_fault_code : GatherFault → ℕ
 gather_fault_code StampOrder = 42

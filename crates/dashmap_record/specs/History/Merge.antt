@@ -26,10 +26,12 @@ module _ {K V : Type 0} where
     pub ordered : AllPairs IsBefore all
 
   -- one legal history of one plain map
-  pub record IsLegal (eq : K → K → Bool) (alike : V → V → Bool) (histories logs : List (List (Entered K V))) (all : List (Entered K V)) : Type 0 where
+  pub record IsLegal (eq : K → K → Bool) (alike : V → V → Bool) (histories logs : List (List (Entered K V)))
+      (all : List (Entered K V)) : Type 0 where
     -- one map that takes the calls in this order, from empty, gives these replies
     pub replies : IsTrue (replies_hold eq alike (nothing K V) all)
     -- each shard's calls are in its order
     pub shards : (i : ℕ) → filter (λ e. e.shard == i) all ≡ list_at histories i
     -- each caller's calls are in its order, each once
-    pub callers : (i : ℕ) → AllZip (λ d e. IsTrue (same_entry eq alike d e)) (filter (λ e. e.caller == i) all) (list_at logs i)
+    pub callers : (i : ℕ) → AllZip (λ d e. IsTrue (same_entry eq alike d e)) (filter (λ e. e.caller == i) all)
+        (list_at logs i)

@@ -60,4 +60,5 @@ module _ {K V : Type 0} where
       -- whether each reply is what the call answers, one after another
       abbrev pub replies_hold : PlainMap K V → List (Entered K V) → Bool
       replies_hold m [] = true
-      replies_hold m (e ∷ es) = same_reply eq alike e.reply (told alike e.call (m (key_of e.call))) && replies_hold (after e.call m) es
+      replies_hold m (e ∷ es) = same_reply eq alike e.reply (told alike e.call (m (key_of e.call)))
+          && replies_hold (after e.call m) es

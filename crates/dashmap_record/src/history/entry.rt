@@ -59,12 +59,13 @@ pub struct Entered<K, V> {
     pub reply: CallReply<K, V>,
 }
 
-/// The stamp of a call: one above the greater of the caller's last and the shard's last; `None` where there is no number
-/// above it.
+/// The stamp of a call: one above the greater of the caller's last and the shard's last; `None` where there is no
+/// number above it.
 ///
 /// The last stamps 4 and 7 give 8, and 0 and 0 give 1.
 pub fn next_stamp(caller_last: u64, shard_last: u64) -> Option<u64>
-    ensures { MatchOption result (2 ^ 64 ≤ max caller_last shard_last + 1) (λ stamp. stamp ≡ max caller_last shard_last + 1) }
+    ensures { MatchOption result (2 ^ 64 ≤ max caller_last shard_last + 1)
+        (λ stamp. stamp ≡ max caller_last shard_last + 1) }
 {
     caller_last.max(shard_last).checked_add(1)
 }

@@ -7,8 +7,8 @@ use std::alloc::AllocError;
 use std::error::Error;
 use std::fmt;
 
-/// Why histories and logs aren't gathered. The faults are looked for in this order, each over all histories and logs; want
-/// of memory may come at any point.
+/// Why histories and logs aren't gathered. The faults are looked for in this order, each over all histories and logs;
+/// want of memory may come at any point.
 #[derive(Clone, Copy, Debug, PartialEq, Eq)]
 pub enum GatherFault {
     /// The stamps of a log or of a history don't rise strictly: code 42.

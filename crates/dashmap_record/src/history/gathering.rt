@@ -1,5 +1,6 @@
 //! All entries of histories and logs that belong together, in one order.
-ghost use Rattle.std.specs.Prelude.{◌≡◌, ◌⊎◌, ◌+◌, ◌<◌, ℕ, map, flat_map, length, slice_index_or, Some, None, IfOk, IfErr};
+ghost use Rattle.std.specs.Prelude.{◌≡◌, ◌⊎◌, ◌+◌, ◌<◌, ℕ, map, flat_map, length, slice_index_or, Some, None, IfOk};
+ghost use Rattle.std.specs.Prelude.{IfErr};
 ghost use Rattle.std.specs.List.Sorted.{IsPermutation};
 ghost use Rattle.dashmap_table.specs.Shards.{key_hash};
 ghost use Rattle.dashmap_record.specs.declared.history.fault.GatherFault.{GatherFault};
@@ -21,7 +22,8 @@ fn mismatch<K: Eq + Hash, V: PartialEq, S: BuildHasher, A: Allocator>(
     hasher: &S,
 ) -> Option<GatherFault>
     ensures { let hash = key_hash S.BuildHasher S.Hasher.Hasher K.hash_input hasher.now in
-        result ≡ first_mismatch K.eq V.eq hash (map (λ list. list.items) histories.now) (map (λ list. list.items) logs.now) }
+        result ≡ first_mismatch K.eq V.eq hash (map (λ list. list.items) histories.now)
+        (map (λ list. list.items) logs.now) }
 {
     if !all_rise(histories) {
         return Some(GatherFault::StampOrder);
@@ -52,7 +54,8 @@ fn fault_of<K: Copy + Eq + Hash, V: Copy + Eq, S: BuildHasher, A: Allocator + Cl
     hasher: &S,
 ) -> Result<Option<GatherFault>, NoMemory>
     ensures { let hash = key_hash S.BuildHasher S.Hasher.Hasher K.hash_input hasher.now in
-        IfOk result (λ fault. fault ≡ first_fault K.eq V.eq hash (map (λ list. list.items) histories.now) (map (λ list. list.items) logs.now)) }
+        IfOk result (λ fault. fault ≡ first_fault K.eq V.eq hash (map (λ list. list.items) histories.now)
+        (map (λ list. list.items) logs.now)) }
 {
     if let Some(fault) = mismatch(histories, logs, hasher) {
         return Ok(Some(fault));
@@ -110,7 +113,9 @@ fn gathered<K: Copy + Eq + Hash, V: Copy + Eq, S: BuildHasher, A: Allocator + Cl
 ) -> Result<Vec<Entered<K, V>, A>, GatherFault>
     // They belong together, and these are all entries.
     ensures matched { let hash = key_hash S.BuildHasher S.Hasher.Hasher K.hash_input hasher.now in
-        IfOk result (λ all. (first_fault K.eq V.eq hash (map (λ list. list.items) histories.now) (map (λ list. list.items) logs.now) ≡ None)
+        IfOk result (λ all.
+        (first_fault K.eq V.eq hash (map (λ list. list.items) histories.now) (map (λ list. list.items) logs.now)
+        ≡ None)
         × IsMerge (map (λ list. list.items) histories.now) all.items) }
 
     // They are a legal history of one plain map, in each shard's and each caller's order.
@@ -120,7 +125,8 @@ fn gathered<K: Copy + Eq + Hash, V: Copy + Eq, S: BuildHasher, A: Allocator + Cl
     // They don't belong together, and this is the first clause that fails.
     ensures fault { let hash = key_hash S.BuildHasher S.Hasher.Hasher K.hash_input hasher.now in
         IfErr result (λ fault. (fault ≡ GatherFault.NoMemory)
-        ⊎ (first_fault K.eq V.eq hash (map (λ list. list.items) histories.now) (map (λ list. list.items) logs.now) ≡ Some fault)) }
+        ⊎ (first_fault K.eq V.eq hash (map (λ list. list.items) histories.now) (map (λ list. list.items) logs.now)
+        ≡ Some fault)) }
 {
     match fault_of(alloc.clone()?, histories, logs, hasher)? {
         Some(fault) => Err(fault),
@@ -128,11 +134,11 @@ fn gathered<K: Copy + Eq + Hash, V: Copy + Eq, S: BuildHasher, A: Allocator + Cl
     }
 }
 
-/// Tests that the histories of shards 0, 1, .. and the logs of callers 0, 1, .. belong together, and answers all entries in
-/// order of stamp, then of shard. So what is answered is one legal history of one plain map.
+/// Tests that the histories of shards 0, 1, .. and the logs of callers 0, 1, .. belong together, and answers all
+/// entries in order of stamp, then of shard. So what is answered is one legal history of one plain map.
 ///
-/// It takes some n log n steps for n entries, and memory for a copy of all entries and for one history's map at a time. It
-/// can be refused for memory at any point, and gives no list then.
+/// It takes some n log n steps for n entries, and memory for a copy of all entries and for one history's map at a time.
+/// It can be refused for memory at any point, and gives no list then.
 ///
 /// ```rust
 /// let all = gather(alloc, map.histories(), logs, &hasher)?;
@@ -146,7 +152,9 @@ pub fn gather<K: Copy + Eq + Hash, V: Copy + Eq, S: BuildHasher, A: Allocator + 
 ) -> Result<Vec<Entered<K, V>, A>, GatherFault>
     // They belong together, and these are all entries.
     ensures matched { let hash = key_hash S.BuildHasher S.Hasher.Hasher K.hash_input hasher.now in
-        IfOk result (λ all. (first_fault K.eq V.eq hash (map (λ list. list.items) histories.items) (map (λ list. list.items) logs.items) ≡ None)
+        IfOk result (λ all.
+        (first_fault K.eq V.eq hash (map (λ list. list.items) histories.items) (map (λ list. list.items) logs.items)
+        ≡ None)
         × IsMerge (map (λ list. list.items) histories.items) all.items) }
 
     // They are a legal history of one plain map, in each shard's and each caller's order.
@@ -156,7 +164,8 @@ pub fn gather<K: Copy + Eq + Hash, V: Copy + Eq, S: BuildHasher, A: Allocator + 
     // They don't belong together, and this is the first clause that fails.
     ensures fault { let hash = key_hash S.BuildHasher S.Hasher.Hasher K.hash_input hasher.now in
         IfErr result (λ fault. (fault ≡ GatherFault.NoMemory)
-        ⊎ (first_fault K.eq V.eq hash (map (λ list. list.items) histories.items) (map (λ list. list.items) logs.items) ≡ Some fault)) }
+        ⊎ (first_fault K.eq V.eq hash (map (λ list. list.items) histories.items) (map (λ list. list.items) logs.items)
+        ≡ Some fault)) }
 {
     gathered(alloc, &histories, &logs, hasher)
 }

@@ -3,7 +3,8 @@ ghost use Rattle.std.specs.Prelude.{◌≡◌, ◌==◌, IsTrue, map};
 ghost use Rattle.std.specs.List.{list_all};
 ghost use Rattle.dashmap_table.specs.Shards.{key_hash};
 ghost use Rattle.dashmap_record.specs.History.Entries.{key_of};
-ghost use Rattle.dashmap_record.specs.History.Match.{is_above, rises, all_rise, is_routed, is_in, is_kept, are_kept, are_routed};
+ghost use Rattle.dashmap_record.specs.History.Match.{is_above, rises, all_rise, is_routed, is_in, is_kept, are_kept};
+ghost use Rattle.dashmap_record.specs.History.Match.{are_routed};
 
 use crate::history::entry::{Entered, same_entry};
 use dashmap_table::{is_shard_amount, route};
@@ -166,7 +167,8 @@ pub(crate) fn are_routed<K, V, A: Allocator>(histories: &[List<K, V, A>]) -> boo
 
 /// Whether each entry's hash is the hasher's hash of its key.
 fn is_hashed<K: Eq + Hash, V, S: BuildHasher>(history: &[Entered<K, V>], hasher: &S) -> bool
-    ensures { result ≡ list_all (λ e. e.hash == key_hash S.BuildHasher S.Hasher.Hasher K.hash_input hasher.now (key_of e.call)) history.now }
+    ensures { result ≡ list_all
+        (λ e. e.hash == key_hash S.BuildHasher S.Hasher.Hasher K.hash_input hasher.now (key_of e.call)) history.now }
 {
     history
         .iter()

@@ -5,7 +5,8 @@ ghost use Rattle.std.specs.Option.{option_map};
 ghost use Rattle.dashmap_table.specs.Shards.{pair_at};
 ghost use Rattle.dashmap_record.specs.declared.history.entry.Call.TheVariants.{ReplaceIf};
 ghost use Rattle.dashmap_record.specs.History.Entries.{key_of};
-ghost use Rattle.dashmap_record.specs.History.Replay.{PlainMap, nothing, value_told, pair_told, has_value, told, with_value_at, after, replies_hold};
+ghost use Rattle.dashmap_record.specs.History.Replay.{PlainMap, nothing, value_told, pair_told, has_value, told};
+ghost use Rattle.dashmap_record.specs.History.Replay.{with_value_at, after, replies_hold};
 
 use crate::history::entry::{Call, CallReply, Entered, same_reply};
 use crate::history::matching::List;
@@ -65,7 +66,8 @@ fn has_value<K: Eq + Hash, V: Copy + Eq, S: BuildHasher, A: Allocator>(
     key: &K,
     seen: &V,
 ) -> bool
-    ensures { result ≡ has_value V.eq seen.now (pair_at S.BuildHasher S.Hasher.Hasher K.hash_input K.eq map.now key.now) }
+    ensures { result ≡ has_value V.eq seen.now
+        (pair_at S.BuildHasher S.Hasher.Hasher K.hash_input K.eq map.now key.now) }
 {
     match value_of(map, key) {
         Some(stored) => stored == *seen,
@@ -98,7 +100,8 @@ fn answer<K: Copy + Eq + Hash, V: Copy + Eq, S: BuildHasher, A: Allocator + Clon
     call: &Call<K, V>,
 ) -> Result<CallReply<K, V>, NoMemory>
     ensures reply { IfOk result (λ reply.
-        reply ≡ told V.eq call.now (pair_at S.BuildHasher S.Hasher.Hasher K.hash_input K.eq map.old (key_of call.now))) }
+        reply ≡ told V.eq call.now
+        (pair_at S.BuildHasher S.Hasher.Hasher K.hash_input K.eq map.old (key_of call.now))) }
     ensures after { let at = pair_at S.BuildHasher S.Hasher.Hasher K.hash_input K.eq in
         IfOk result (λ _. (q : K) → at map.new q ≡ after K.eq V.eq call.now (at map.old) q) }
 {
@@ -166,7 +169,8 @@ pub(crate) fn are_replayed<K: Copy + Eq + Hash, V: Copy + Eq, S: BuildHasher, A:
     histories: &[List<K, V, A>],
     hasher: &S,
 ) -> Result<bool, NoMemory>
-    ensures { IfOk result (λ are. are ≡ list_all (λ history. replies_hold K.eq V.eq (nothing K V) history.items) histories.now) }
+    ensures { IfOk result
+        (λ are. are ≡ list_all (λ history. replies_hold K.eq V.eq (nothing K V) history.items) histories.now) }
 {
     for history in histories {
         if !is_replayed(alloc.clone()?, history, Lent { hasher })? {

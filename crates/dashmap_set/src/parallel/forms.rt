@@ -35,7 +35,8 @@ impl<K: Eq + Hash, S: BuildHasher, Q: RawRwLock, A: Allocator> DashSet<K, S, Q, 
 }
 
 impl<K: Eq + Hash + Drop, S: BuildHasher + Drop, Q: Drop, A: Allocator> DashSet<K, S, Q, A> {
-    /// All keys by value: the keys of one shard are one piece of work, and shards go side by side. The locks go; their rows stay used.
+    /// All keys by value: the keys of one shard are one piece of work, and shards go side by side. The locks go; their
+    /// rows stay used.
     pub fn into_par_iter(self) -> OwningIter<K, A>
         ensures { length result ≡ length self.locks }
     {
@@ -45,10 +46,11 @@ impl<K: Eq + Hash + Drop, S: BuildHasher + Drop, Q: Drop, A: Allocator> DashSet<
 }
 
 impl<K: Eq + Hash + Drop, S: BuildHasher, Q, A: Allocator + Clone> DashSet<K, S, Q, A> {
-    /// Puts keys in, as `extend` does, in the order in which they are handed in. The first one that is refused comes back: the keys before
-    /// it stay, and those behind it are let go.
+    /// Puts keys in, as `extend` does, in the order in which they are handed in. The first one that is refused comes
+    /// back: the keys before it stay, and those behind it are let go.
     pub fn par_extend(&mut self, keys: Vec<K, A>) -> Result<(), K>
-        ensures refused { IfErr result (λ back. (before : List K) × (rest : List K) × (keys.items ≡ before ++ back ∷ rest)) }
+        ensures refused { IfErr result
+            (λ back. (before : List K) × (rest : List K) × (keys.items ≡ before ++ back ∷ rest)) }
         ensures locks { self.new ≡ self.old }
     {
         self.extend(keys.into_iter())
@@ -73,7 +75,8 @@ impl<K: Eq + Hash + Drop, S: BuildHasher + Drop, Q: RawRwLock + Drop, A: Allocat
     ) -> Result<DashSet<K, S, Q, A>, MapFault>
     where
         Q: MakeLock<T>,
-        ensures made { IfOk result (λ s. IsNextPowerOfTwo (wanted_shards parallelism) (length s.locks) × (s.hasher ≡ hasher)) }
+        ensures made { IfOk result (λ s. IsNextPowerOfTwo (wanted_shards parallelism) (length s.locks)
+            × (s.hasher ≡ hasher)) }
         ensures bad_shards { (result ≡ Err MapFault.BadShards) ↔ (2 ^ 16 < wanted_shards parallelism) }
         ensures fits { ¬ (result ≡ Err MapFault.CapacityOverflow) }
     {

@@ -14,11 +14,11 @@ use std::marker::Model;
 use std::sync::Wait;
 use std::thread::Threads;
 
-/// The keys of a shared set, lent to a closure that threads share. It borrows the set and the threads' data, and holds no shard until it
-/// is run.
+/// The keys of a shared set, lent to a closure that threads share. It borrows the set and the threads' data, and holds
+/// no shard until it is run.
 ///
-/// The shards are cut into contiguous pieces, one for each thread's data, whose sizes differ by one at the most; larger pieces come first. A
-/// contract sees the raw locks of the shards.
+/// The shards are cut into contiguous pieces, one for each thread's data, whose sizes differ by one at the most; larger
+/// pieces come first. A contract sees the raw locks of the shards.
 #[derive(Drop)]
 pub struct Iter<'m, 'd, K: Eq + Hash, Q: RawRwLock, A: Allocator = Global> {
     pairs: SharedIter<'m, 'd, K, (), Q, A>,
@@ -64,7 +64,8 @@ where
     /// Calls the closure once for each key. It takes no memory.
     pub fn for_each<R: Threads + Sync, F: Fn(&K) + Sync>(self, rt: &R, f: F)
         requires { F.IsAlwaysCallable f }
-        ensures { All (λ lock. WhileShared {K = K} {V = Unit {0}} Q.SharedGuard Q.Runtime Q.Party (padded_value lock) (λ table. All (λ p. AnswersOfKey F.Fn f p.0 tt) (pairs_of table.slots))) self.entry }
+        ensures { All (λ lock. WhileShared {K = K} {V = Unit {0}} Q.SharedGuard Q.Runtime Q.Party (padded_value lock)
+            (λ table. All (λ p. AnswersOfKey F.Fn f p.0 tt) (pairs_of table.slots))) self.entry }
     {
         let Iter { pairs } = self;
         let f = &f;
@@ -87,7 +88,9 @@ where
         F: Fn(&K) -> T + Sync,
     >(self, rt: &R, alloc: B, f: F) -> Result<Vec<T, B>, NoMemory>
         requires { F.IsAlwaysCallable f }
-        ensures { IfOk result (λ v. GatheredFrom {K = K} {V = Unit {0}} Q.SharedGuard Q.Runtime Q.Party (λ table. AllZip (λ p. AnswersOfKey F.Fn f p.0) (pairs_of table.slots)) self.entry v.items) }
+        ensures { IfOk result
+            (λ v. GatheredFrom {K = K} {V = Unit {0}} Q.SharedGuard Q.Runtime Q.Party
+            (λ table. AllZip (λ p. AnswersOfKey F.Fn f p.0) (pairs_of table.slots)) self.entry v.items) }
     {
         let Iter { pairs } = self;
         let f = &f;

@@ -13,8 +13,8 @@ use std::thread::Threads;
 
 /// The keys of a set that is given up, by value. A contract sees the shards.
 ///
-/// The keys of one shard are one piece of work: shards go side by side, in as many threads as there are processors. A shard's memory is
-/// given up once its keys are given.
+/// The keys of one shard are one piece of work: shards go side by side, in as many threads as there are processors. A
+/// shard's memory is given up once its keys are given.
 #[derive(Drop)]
 pub struct OwningIter<K: Eq + Hash, A: Allocator = Global> {
     pairs: Pairs<K, (), A>,
@@ -57,7 +57,8 @@ impl<K: Eq + Hash + Send + Drop, A: Allocator + Clone + Send> OwningIter<K, A> {
         );
     }
 
-    /// What the closure answers of each key, in the order of the shards and of their slots: the list that one thread would make.
+    /// What the closure answers of each key, in the order of the shards and of their slots: the list that one thread
+    /// would make.
     ///
     /// Refused as `NoMemory`, where the list or a part of it finds no room; then all keys are let go.
     pub fn map_collect<

@@ -30,12 +30,13 @@ where
     Q::Runtime: Wait,
     Q::Party: Send,
 {
-    /// Puts keys into a shared set, as the map's `par_extend_shared` puts pairs: each goes to the piece of its shard, which takes its keys in
-    /// their order, and pieces go side by side, one for each thread's data.
+    /// Puts keys into a shared set, as the map's `par_extend_shared` puts pairs: each goes to the piece of its shard,
+    /// which takes its keys in their order, and pieces go side by side, one for each thread's data.
     ///
-    /// Refused as `NoThreadData`, where no thread's data was handed in, and nothing is done. Refused as `NoMemory`, where there is no memory
-    /// to deal the keys out, and nothing is put in; or where a shard would have to grow and can't. Then its piece stops, and lets go of what
-    /// it has left, while the others go on to their end: what is put in stays.
+    /// Refused as `NoThreadData`, where no thread's data was handed in, and nothing is done. Refused as `NoMemory`,
+    /// where there is no memory to deal the keys out, and nothing is put in; or where a shard would have to grow and
+    /// can't. Then its piece stops, and lets go of what it has left, while the others go on to their end: what is put
+    /// in stays.
     ///
     /// ```text
     /// set.par_extend_shared(&rt, keys, &mut datas)?;
@@ -50,8 +51,11 @@ where
         K: Drop + Send + Sync,
         Q: Sync,
         A: Clone + Send + Sync,
-        ensures threads { MatchResult result (λ _. 0 < length tds.old) (λ fault. (fault ≡ ParExtendFault.NoThreadData) ↔ (length tds.old ≡ 0)) }
-        ensures put { OnOk result (All (λ k. WasPut {V = Unit {0}} S.BuildHasher S.Hasher.Hasher K.hash_input K.eq Q.ExclusiveGuard Q.Runtime Q.Party self.now (k, tt)) keys.items) }
+        ensures threads { MatchResult result (λ _. 0 < length tds.old)
+            (λ fault. (fault ≡ ParExtendFault.NoThreadData) ↔ (length tds.old ≡ 0)) }
+        ensures put { OnOk result
+            (All (λ k. WasPut {V = Unit {0}} S.BuildHasher S.Hasher.Hasher K.hash_input K.eq Q.ExclusiveGuard Q.Runtime
+            Q.Party self.now (k, tt)) keys.items) }
     {
         if tds.is_empty() {
             return Err(ParExtendFault::NoThreadData);

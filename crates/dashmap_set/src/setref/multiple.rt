@@ -14,8 +14,8 @@ use std::ops::Deref;
 use std::sync;
 use std::sync::Wait;
 
-/// An item of a walk over a set: one key of the shard that the walk holds. It shares the hold with the walk, and keeps it as long as it
-/// lives, also where the walk has gone on.
+/// An item of a walk over a set: one key of the shard that the walk holds. It shares the hold with the walk, and keeps
+/// it as long as it lives, also where the walk has gone on.
 ///
 /// It is named [`RefMulti`].
 pub struct KeyMulti<

@@ -14,7 +14,8 @@ use std::ops::Deref;
 use std::sync;
 use std::sync::Wait;
 
-/// A guard of one key: a hold of its shard, and its slot. It lends the stored key, which is there as long as the guard lives.
+/// A guard of one key: a hold of its shard, and its slot. It lends the stored key, which is there as long as the guard
+/// lives.
 ///
 /// It is named [`Ref`]. Its drop releases the shard and may wait for the lot's short sections.
 pub struct KeyGuard<

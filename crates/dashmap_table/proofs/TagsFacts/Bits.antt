@@ -5,7 +5,8 @@ use Rattle.std.proofs.Math.Nat.{div-eq_of_lt}
 use Rattle.std.proofs.Math.Pow.{pow_mono}
 use Rattle.std.proofs.lemmas.Bool.{cases_lt}
 use Rattle.std.proofs.lemmas.Nat.{and_le_l}
-use Rattle.std.proofs.lemmas.Nat.Bits.{bit_at-zero, bit_at-lt, bit_at-trailing_zeros, bit_at_and, bit_at_clear_same, bit_at_clear_other}
+use Rattle.std.proofs.lemmas.Nat.Bits.{bit_at-zero, bit_at-lt, bit_at-trailing_zeros, bit_at_and, bit_at_clear_same}
+use Rattle.std.proofs.lemmas.Nat.Bits.{bit_at_clear_other}
 
 -- a bit that is set is below the number's width
 pub bit-within : (n k : ℕ) → n < 2 ^ 64 → bit_at n k ≡ 1 → k < 64
@@ -27,20 +28,24 @@ zero_of_none n small none = elim (cases_lt 0 n) [
   | inr zero ↦ omega (arith, zero)
 ]
 
-pub lowest : (n : ℕ) → 0 < n → n < 2 ^ 64 → (bit_at n (trailing_zeros w64 n) ≡ 1) × ((k : ℕ) → k < trailing_zeros w64 n → bit_at n k ≡ 1 → ⊥)
+pub lowest : (n : ℕ) → 0 < n → n < 2 ^ 64 → (bit_at n (trailing_zeros w64 n) ≡ 1)
+    × ((k : ℕ) → k < trailing_zeros w64 n → bit_at n k ≡ 1 → ⊥)
 lowest n some small =
-    let is = bit_at-trailing_zeros w64 n some small in (is.1, λ k below set. let none = is.2 k below in absurd (omega (arith, set, none)))
+    let is = bit_at-trailing_zeros w64 n some small in
+    (is.1, λ k below set. let none = is.2 k below in absurd (omega (arith, set, none)))
 
 abbrev cleared : ℕ → ℕ → ℕ
 cleared n k = bit_and n (bit_not w64 (1 * 2 ^ k % 2 ^ 64))
 
-pub without-others : (n k : ℕ) → n < 2 ^ 64 → bit_at n k ≡ 1 → (i : ℕ) → (bit_at (cleared n k) i ≡ 1) ↔ ((bit_at n i ≡ 1) × (i ≢ k))
+pub without-others : (n k : ℕ) → n < 2 ^ 64 → bit_at n k ≡ 1 → (i : ℕ)
+    → (bit_at (cleared n k) i ≡ 1) ↔ ((bit_at n i ≡ 1) × (i ≢ k))
 without-others n k small set i =
     let within = bit-within n k small set in (
       λ here.
           let other : i ≢ k = λ same.
           let gone = bit_at_clear_same w64 n k within in
-          let also : bit_at (cleared n k) k ≡ 1 = subst (λ j. bit_at (cleared n k) j ≡ 1) same here in absurd (omega (arith, gone, also)) in
+          let also : bit_at (cleared n k) k ≡ 1 = subst (λ j. bit_at (cleared n k) j ≡ 1) same here in
+          absurd (omega (arith, gone, also)) in
           let both = bit_at_and n (bit_not w64 (1 * 2 ^ k % 2 ^ 64)) i in
           let small = bit_at-lt n i in
           (omega (arith, both, here, small), other),

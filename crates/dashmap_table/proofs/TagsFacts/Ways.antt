@@ -16,8 +16,18 @@ round-back n a k back = cond-false (nat_lt (a + k) n) (a + k) (a + k - n) (le-lt
 
 round-comes : (n a w : ℕ) → a < n → w < n → (k : ℕ) × (k < n) × (round n a k ≡ w)
 round-comes n a w first within = elim (cases_lt w a) [
-  | inl before ↦ (w + n - a, omega (arith, before, first), round-back n a (w + n - a) (omega (arith, before, first)) ∙ omega (arith, before, first))
-  | inr behind ↦ (w - a, omega (arith, within), round-on n a (w - a) (omega (arith, behind, within)) ∙ omega (arith, behind))
+  | inl before ↦ (
+    w + n - a,
+    omega (arith, before, first),
+    round-back n a (w + n - a) (omega (arith, before, first))
+        ∙ omega (arith, before, first),
+  )
+  | inr behind ↦ (
+    w - a,
+    omega (arith, within),
+    round-on n a (w - a) (omega (arith, behind, within))
+        ∙ omega (arith, behind),
+  )
 ]
 
 round-once : (n a j k : ℕ) → j < n → k < n → round n a j ≡ round n a k → j ≡ k
@@ -39,7 +49,8 @@ pub way-once : (n h j k : ℕ) → j < n → k < n → on_way n h j ≡ on_way n
 way-once n h j k hj hk same = round-once n (home n h) j k hj hk same
 
 -- a slot is in a window, and in its window's lanes
-pub slot-window : (slots l : ℕ) → l < slots → (l / 16 < windows_of slots) × (16 * (l / 16) ≤ l) × (l < 16 * (l / 16) + 16)
+pub slot-window : (slots l : ℕ) → l < slots → (l / 16 < windows_of slots) × (16 * (l / 16) ≤ l)
+    × (l < 16 * (l / 16) + 16)
 slot-window slots l within = (omega (arith, within), omega arith, omega arith)
 
 -- a lane of a window is in it
@@ -50,7 +61,8 @@ pub first-on_way : (n h : ℕ) → 0 < n → on_way n h 0 ≡ home n h
 first-on_way n h some = round-on n (home n h) 0 (omega (arith, home-below n h some)) ∙ omega arith
 
 -- among whole windows, the first on a way is told by as many of the hash's bits as there are windows
-pub first-window : (slots h : ℕ) → 16 ≤ slots → slots % 16 ≡ 0 → on_way (windows_of slots) h 0 ≡ bit_and (h / 16) (slots / 16 - 1)
+pub first-window : (slots h : ℕ) → 16 ≤ slots → slots % 16 ≡ 0 → on_way (windows_of slots) h 0 ≡ bit_and (h / 16)
+    (slots / 16 - 1)
 unfolding home
 first-window slots h many whole =
     let windows : windows_of slots ≡ slots / 16 = omega (arith, whole) in

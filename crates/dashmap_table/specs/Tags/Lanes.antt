@@ -18,7 +18,8 @@ accepts Full tag = nat_lt tag 128
 
 -- a lane of the window from a slot on is wanted
 abbrev pub IsWanted : Wanted → List ℕ → ℕ → ℕ → Type 0
-IsWanted wanted tags from k = (k < 16) × (from + k < length tags) × IsTrue (accepts wanted (slice_index tags (from + k)))
+IsWanted wanted tags from k = (k < 16) × (from + k < length tags)
+    × IsTrue (accepts wanted (slice_index tags (from + k)))
 
 -- the wanted lanes as a number
 abbrev pub lanes_by : Wanted → List ℕ → ℕ → ℕ

@@ -20,7 +20,8 @@ impl Lanes {
     /// The lowest lane.
     #[inline(always)]
     pub fn first(self) -> Option<usize>
-        ensures { MatchOption result ((k : ℕ) → ¬ HasLane self k) (λ lane. HasLane self lane × ((k : ℕ) → k < lane → ¬ HasLane self k)) }
+        ensures { MatchOption result ((k : ℕ) → ¬ HasLane self k)
+            (λ lane. HasLane self lane × ((k : ℕ) → k < lane → ¬ HasLane self k)) }
     {
         if self.bits == 0 {
             None

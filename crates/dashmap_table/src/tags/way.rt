@@ -39,9 +39,9 @@ pub fn first_on_way(hash: u64, slots: usize) -> usize
     WIDTH * ((hash / 16) as usize & (slots / WIDTH - 1))
 }
 
-/// The window that is looked through for a hash after so many others. The first one is chosen by the hash's bits from the
-/// fifth on, so that the number of its first slot is the hash with some bits left out. Each further one is the one behind,
-/// with the first behind the last.
+/// The window that is looked through for a hash after so many others. The first one is chosen by the hash's bits from
+/// the fifth on, so that the number of its first slot is the hash with some bits left out. Each further one is the one
+/// behind, with the first behind the last.
 #[inline(always)]
 pub fn window_on_way(hash: u64, passed: usize, windows: usize) -> usize
     requires within { passed < windows }

@@ -72,8 +72,8 @@ fn part(tags: &[u8], from: usize, wanted: Wanted) -> Lanes
     Lanes { bits }
 }
 
-/// The lanes of the window that begins at a slot, among those that are wanted. There are fewer than sixteen where the tags
-/// end before, and then they are looked at one after another.
+/// The lanes of the window that begins at a slot, among those that are wanted. There are fewer than sixteen where the
+/// tags end before, and then they are looked at one after another.
 #[inline(always)]
 pub fn lanes_at(tags: &[u8], from: usize, wanted: Wanted) -> Lanes
     requires { from ≤ length tags.now }

@@ -14,7 +14,8 @@ use std::hash::Hash;
 use std::marker::Model;
 use std::thread::Threads;
 
-/// The pairs of some plain shards, those of a view among them, lent to a closure that threads share. A contract sees the shards.
+/// The pairs of some plain shards, those of a view among them, lent to a closure that threads share. A contract sees
+/// the shards.
 ///
 /// The pairs of one shard are one piece of work: shards go side by side, in as many threads as there are processors.
 #[derive(Drop)]
@@ -56,7 +57,8 @@ impl<'v, K: Eq + Hash + Sync, V: Sync, A: Allocator + Sync> Iter<'v, K, V, A> {
         );
     }
 
-    /// What the closure answers of each pair, in the order of the shards and of their slots: the list that one thread would make.
+    /// What the closure answers of each pair, in the order of the shards and of their slots: the list that one thread
+    /// would make.
     ///
     /// Refused as `NoMemory`, where the list or a part of it finds no room.
     pub fn map_collect<
@@ -77,7 +79,8 @@ impl<'v, K: Eq + Hash + Sync, V: Sync, A: Allocator + Sync> Iter<'v, K, V, A> {
             .map(
                 |shard: &Shard<K, V, A>| -> Result<Vec<T, B>, NoMemory>
                     requires { F.IsAlwaysCallable f.now }
-                    ensures { IfOk result (λ v. AllZip (AnswersOf F.Fn f.entry.now) (pairs_of shard.now.slots) v.items) }
+                    ensures { IfOk result
+                        (λ v. AllZip (AnswersOf F.Fn f.entry.now) (pairs_of shard.now.slots) v.items) }
                 { answers_of(shard, f, alloc.clone()?) },
             )
             .collect(rt, alloc.clone()?)?;

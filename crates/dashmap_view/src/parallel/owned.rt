@@ -16,8 +16,8 @@ use std::thread::Threads;
 
 /// The pairs of some plain shards, given to a closure that threads share. A contract sees the shards.
 ///
-/// The pairs of one shard are one piece of work: shards go side by side, in as many threads as there are processors. A shard's memory
-/// is given up once its pairs are given.
+/// The pairs of one shard are one piece of work: shards go side by side, in as many threads as there are processors. A
+/// shard's memory is given up once its pairs are given.
 #[derive(Drop)]
 pub struct OwningIter<K: Eq + Hash, V, A: Allocator = Global> {
     shards: Vec<Shard<K, V, A>, A>,
@@ -58,7 +58,8 @@ impl<K: Eq + Hash + Send + Drop, V: Send + Drop, A: Allocator + Clone + Send> Ow
         );
     }
 
-    /// What the closure answers of each pair, in the order of the shards and of their slots: the list that one thread would make.
+    /// What the closure answers of each pair, in the order of the shards and of their slots: the list that one thread
+    /// would make.
     ///
     /// Refused as `NoMemory`, where the list or a part of it finds no room; then all pairs are let go.
     pub fn map_collect<

@@ -9,8 +9,9 @@ use std::alloc::Allocator;
 use std::hash::Hash;
 use std::thread::Threads;
 
-/// Lends a closure that threads share the value of each pair of some plain shards for writing, each once. The pairs of one shard are
-/// one piece of work: shards go side by side, in as many threads as there are processors. It takes no memory.
+/// Lends a closure that threads share the value of each pair of some plain shards for writing, each once. The pairs of
+/// one shard are one piece of work: shards go side by side, in as many threads as there are processors. It takes no
+/// memory.
 ///
 /// Afterwards each value is what a call of the closure left of it, and all else is as it was.
 pub fn par_write<

@@ -46,7 +46,8 @@ where
     read_waited & read_at_once & write_waited & write_at_once
 }
 
-/// Timed forms give up beside a guard that excludes them, and have a free lock. A moment that has come gives up at once.
+/// Timed forms give up beside a guard that excludes them, and have a free lock. A moment that has come gives up at
+/// once.
 pub fn gives_up_in_time<
     R: RawRwLockTimed<Duration = Duration, Instant = Instant> + MakeLock<S> + Drop,
     C: Clock,
@@ -163,8 +164,8 @@ where
     Guard::try_upgrade_until(upgradable, past, clock, party).err()
 }
 
-/// Whether an upgradable guard of 5 comes back from its waits beside a reader, holds and reads, and is upgraded by a wait
-/// beside nobody.
+/// Whether an upgradable guard of 5 comes back from its waits beside a reader, holds and reads, and is upgraded by a
+/// wait beside nobody.
 fn upgrades_in_time<
     W: Lender<Part = u64> + Drop,
     H: TimedUpgradeHold<Duration = Duration, Instant = Instant>,
@@ -296,8 +297,8 @@ where
     ArcGuard::try_upgrade_until(upgradable, past, clock, party).err()
 }
 
-/// Whether an upgradable Arc guard comes back from its waits beside a reader and holds, and is upgraded by a wait beside
-/// nobody.
+/// Whether an upgradable Arc guard comes back from its waits beside a reader and holds, and is upgraded by a wait
+/// beside nobody.
 fn upgrades_an_arc_in_time<
     H: TimedUpgradeHold<Duration = Duration, Instant = Instant>,
     V: Drop,
@@ -328,8 +329,8 @@ where
     held & upgraded.is_ok() & is_alone(lock)
 }
 
-/// Whether writing under an upgradable Arc guard of 5 gives up beside a reader with no closure called, and writes beside
-/// nobody.
+/// Whether writing under an upgradable Arc guard of 5 gives up beside a reader with no closure called, and writes
+/// beside nobody.
 fn writes_an_arc_in_time<
     H: RestoreHold + TimedUpgradeHold<Duration = Duration, Instant = Instant>,
     V: Drop,

@@ -294,7 +294,8 @@ where
     ])
 }
 
-/// Whether 5 is written under the upgraded guard, which is alone for the closure's time and not afterwards, and the guard.
+/// Whether 5 is written under the upgraded guard, which is alone for the closure's time and not afterwards, and the
+/// guard.
 fn writes_alone<W: Lender<Part = u64> + Drop, H: RestoreHold + Access<Inner = W>, L: Look>(
     upgradable: Guard<W, H>,
     lock: &L,

@@ -9,17 +9,21 @@ use Rattle.mapworld_calls.specs.Setup.{Setup, ask_at}
 use Rattle.mapworld_calls.specs.Placed.{IsDoneWithin}
 use Rattle.mapworld_calls.specs.HistoryLaws.Worlds.{IsWorld, IsBlockOf}
 
-module _ {K V D T : Type 0} (w : Setup K V D T) (bs : List (Block K)) (t c : ℕ) (a : Ask K V D) (asked : ask_at w t c ≡ Some a) where
+module _ {K V D T : Type 0} (w : Setup K V D T) (bs : List (Block K)) (t c : ℕ) (a : Ask K V D)
+    (asked : ask_at w t c ≡ Some a) where
   pub own-ask : (i : ℕ) (b : Block K) → IsBlockOf bs i b t c → ask_at w b.thread b.call ≡ Some a
   own-ask i b of = ap (λ x. ask_at w x b.call) of.thread ∙ ap (λ x. ask_at w t x) of.call ∙ asked
 
   -- what a block of the call has done is bounded by the call
-  pub own-done : {A : Type 0} (replies : List (Reply K V T A)) (world : IsWorld w bs replies) (i : ℕ) (b : Block K) → IsBlockOf bs i b t c → IsDoneWithin w world.started bs replies i b a
+  pub own-done : {A : Type 0} (replies : List (Reply K V T A)) (world : IsWorld w bs replies) (i : ℕ) (b : Block K)
+      → IsBlockOf bs i b t c → IsDoneWithin w world.started bs replies i b a
   own-done replies world i b of =
       let placed = world.placed.placed i b of.listed in
-      subst (λ (x : Ask K V D). IsDoneWithin w world.started bs replies i b x) (same_Some placed.ask a (sym placed.asked ∙ own-ask i b of)) placed.done
+      subst (λ (x : Ask K V D). IsDoneWithin w world.started bs replies i b x)
+      (same_Some placed.ask a (sym placed.asked ∙ own-ask i b of)) placed.done
 
-module _ {K V D T A : Type 0} (w : Setup K V D T) (bs : List (Block K)) (replies : List (Reply K V T A)) (world : IsWorld w bs replies) (t c : ℕ) where
+module _ {K V D T A : Type 0} (w : Setup K V D T) (bs : List (Block K)) (replies : List (Reply K V T A))
+    (world : IsWorld w bs replies) (t c : ℕ) where
   -- visits of one call rise along the list
   pub visits-rise : (i j : ℕ) (b d : Block K) → IsBlockOf bs i b t c → IsBlockOf bs j d t c → i < j → b.visit < d.visit
   visits-rise i j b d first second lt =
@@ -34,5 +38,6 @@ module _ {K V D T A : Type 0} (w : Setup K V D T) (bs : List (Block K)) (replies
   one-place i j b d first second same =
       ⊎_elim
       (λ lt. let rise = visits-rise i j b d first second lt in absurd (omega arith))
-      (λ le. ⊎_elim (λ lt. let rise = visits-rise j i d b second first lt in absurd (omega arith)) (λ ge. omega arith) (cases_lt j i))
+      (λ le. ⊎_elim (λ lt. let rise = visits-rise j i d b second first lt in absurd (omega arith)) (λ ge. omega arith)
+      (cases_lt j i))
       (cases_lt i j)

@@ -1,5 +1,6 @@
 -- The smallest world in which an insertion finds its key and is refused for memory all the same.
-use Rattle.std.proofs.Common.{◌≡◌, ℕ, zero, suc, true, List, [], ◌∷◌, Some, None, slice_get, take, refl, ap, sym, ◌∙◌, subst, inr, arith}
+use Rattle.std.proofs.Common.{◌≡◌, ℕ, zero, suc, true, List, [], ◌∷◌, Some, None, slice_get, take, refl, ap, sym, ◌∙◌}
+use Rattle.std.proofs.Common.{subst, inr, arith}
 use Rattle.std.proofs.lemmas.Option.{same_Some, none-some}
 use Rattle.mapworld_calls.specs.declared.reply.Reply.{Reply}
 use Rattle.mapworld_calls.specs.declared.block.Block.{Block}
@@ -40,20 +41,26 @@ module _ {K V D T : Type 0} (A : Type 0) (deeds : Deeds D K V T) (k : K) (v u : 
   had (suc i) = refl
 
   refused : IsAnswered {A = A} world blocks 0 0 answer.NoMemory
-  refused = record { ask = ask.Keyed (keyed.Insert k u); asked = refl; answered = inr (refl, refl, λ i b at thread call. none-some b at) }
+  refused = record {
+    ask = ask.Keyed (keyed.Insert k u);
+    asked = refl;
+    answered = inr (refl, refl, λ i b at thread call. none-some b at);
+  }
 
   agrees : Agrees world blocks ((k, v) ∷ []) (reply ∷ [])
   agrees =
       record {
         distinct = λ i j p r hi hj same. (only-one (k, v) p i hi).0 ∙ sym (only-one (k, v) r j hj).0;
         contents_are = λ q. refl;
-        replies_are = λ i r at. subst (λ (x : Reply K V T A). IsAnswered world blocks x.thread x.call x.answer) (only-one reply r i at).1 refused;
+        replies_are = λ i r at. subst (λ (x : Reply K V T A). IsAnswered world blocks x.thread x.call x.answer)
+            (only-one reply r i at).1 refused;
       }
 
   timed : IsTimed (0 ∷ 0 ∷ []) reply
   timed = record { start = (omega arith, refl); end = (omega arith, refl); order = omega arith }
 
-  first-turn : (i : ℕ) (r : Reply K V T A) → slice_get (reply ∷ []) i ≡ Some r → r.call ≡ answered_of (take i (reply ∷ [])) r.thread
+  first-turn : (i : ℕ) (r : Reply K V T A) → slice_get (reply ∷ []) i ≡ Some r
+      → r.call ≡ answered_of (take i (reply ∷ [])) r.thread
   first-turn i r at =
       let h = only-one reply r i at in
       subst (λ (x : Reply K V T A). x.call ≡ answered_of (take i (reply ∷ [])) x.thread) h.1
@@ -66,18 +73,28 @@ module _ {K V D T : Type 0} (A : Type 0) (deeds : Deeds D K V T) (k : K) (v u : 
         rising = λ i j b c hi hj lt. absurd (none-some b hi);
         own_order = λ i j b c hi hj lt own. absurd (none-some b hi);
         timed = λ i r at. subst (λ (x : Reply K V T A). IsTimed (0 ∷ 0 ∷ []) x) (only-one reply r i at).1 timed;
-        ends_rise = λ i j r s hi hj lt. absurd (let a = (only-one reply r i hi).0 in let b = (only-one reply s j hj).0 in omega (arith, a, b, lt));
+        ends_rise = λ i j r s hi hj lt. absurd
+            (let a = (only-one reply r i hi).0 in let b = (only-one reply s j hj).0 in omega (arith, a, b, lt));
         in_turn = first-turn;
       }
 
   laws : Laws world
-  laws = record { equivalence = record { refl = λ a. refl; symm = λ a b. refl; congr = λ a b c e. refl }; routes = λ a b e. refl }
+  laws = record {
+    equivalence = record { refl = λ a. refl; symm = λ a b. refl; congr = λ a b c e. refl };
+    routes = λ a b e. refl;
+  }
 
   pub finds-and_is_refused : FindsAndIsRefused k v u world blocks (reply ∷ [])
   finds-and_is_refused =
       record {
         laws = laws;
-        world = record { steps = 0 ∷ 0 ∷ []; started = λ t. None; pairs = (k, v) ∷ []; placed = placed; agrees = agrees };
+        world = record {
+          steps = 0 ∷ 0 ∷ [];
+          started = λ t. None;
+          pairs = (k, v) ∷ [];
+          placed = placed;
+          agrees = agrees;
+        };
         place = 0;
         reply = reply;
         listed = refl;
@@ -87,4 +104,5 @@ module _ {K V D T : Type 0} (A : Type 0) (deeds : Deeds D K V T) (k : K) (v u : 
       }
 
 pub refusals-may_find : {K V D T A : Type 0} → RefusalsMayFindTheirKey K V D T A
-refusals-may_find {A} deeds k v u = (world A deeds k v u, blocks A deeds k v u, reply A deeds k v u ∷ [], finds-and_is_refused A deeds k v u)
+refusals-may_find {A} deeds k v u =
+    (world A deeds k v u, blocks A deeds k v u, reply A deeds k v u ∷ [], finds-and_is_refused A deeds k v u)

@@ -1,5 +1,6 @@
 -- No block tells a refusal, so who is refused has none.
-use Rattle.std.proofs.Common.{◌≡◌, ℕ, ◌⊎◌, inl, inr, ⊎_elim, Bool, true, false, if◌then◌else◌, List, Option, Some, None, slice_get, option_map, refl, ap, sym, ◌∙◌, subst}
+use Rattle.std.proofs.Common.{◌≡◌, ℕ, ◌⊎◌, inl, inr, ⊎_elim, Bool, true, false, if◌then◌else◌, List, Option, Some, None}
+use Rattle.std.proofs.Common.{slice_get, option_map, refl, ap, sym, ◌∙◌, subst}
 use Rattle.std.proofs.lemmas.Option.{same_Some, none-some}
 use Rattle.mapworld_calls.specs.declared.block.Block.{Block}
 use Rattle.mapworld_calls.specs.Deeds.{Deeds}
@@ -15,11 +16,13 @@ use Rattle.mapworld_calls.specs.declared.ask.Walk.{Walk}
 use Rattle.mapworld_calls.specs.declared.ask.Walk.TheVariants as walk
 use Rattle.mapworld_calls.specs.declared.reply.Answer.{Answer}
 use Rattle.mapworld_calls.specs.declared.reply.Answer.TheVariants as answer
-use Rattle.mapworld_calls.specs.Calls.{At, free, shared, exclusive, occupied, vacant, pair_in, keyed_answer, opening_answer, held_answer, visit_answer, told}
+use Rattle.mapworld_calls.specs.Calls.{At, free, shared, exclusive, occupied, vacant, pair_in, keyed_answer}
+use Rattle.mapworld_calls.specs.Calls.{opening_answer, held_answer, visit_answer, told}
 use Rattle.mapworld_calls.specs.Setup.{Setup, ask_at, session_of}
 use Rattle.mapworld_calls.specs.Replay.{Work, one, visit, nothing, block_work, reached, done_keys, told_as, before}
 use Rattle.mapworld_calls.specs.Agrees.{Visit, IsToldBy, HasNoBlock, IsWalkAnswer, IsAnsweredInSession, IsAnsweredBy}
-use Rattle.mapworld_calls.specs.HistoryLaws.Refusals.{IsRefusedForMemory, RefusedForMemoryHasNoBlock, IsRefusedAsLocked, LockedHasNoBlock, NoGuardIsAnswered}
+use Rattle.mapworld_calls.specs.HistoryLaws.Refusals.{IsRefusedForMemory, RefusedForMemoryHasNoBlock, IsRefusedAsLocked}
+use Rattle.mapworld_calls.specs.HistoryLaws.Refusals.{LockedHasNoBlock, NoGuardIsAnswered}
 
 -- whether an answer is a refusal that only a call without a block is given
 abbrev pub refuses : {K V T A : Type 0} → Answer K V T A → Bool
@@ -28,7 +31,8 @@ refuses answer.Locked = true
 refuses a = false
 
 module _ {D K V T : Type 0} (A : Type 0) (deeds : Deeds D K V T) where
-  if-told : (b : Bool) (x y : Answer K V T A) → refuses x ≡ false → refuses y ≡ false → refuses (if b then x else y) ≡ false
+  if-told : (b : Bool) (x y : Answer K V T A) → refuses x ≡ false → refuses y ≡ false
+      → refuses (if b then x else y) ≡ false
   if-told true x y hx hy = hx
   if-told false x y hx hy = hy
 
@@ -40,7 +44,8 @@ module _ {D K V T : Type 0} (A : Type 0) (deeds : Deeds D K V T) where
   keyed-told (keyed.RemoveIf k d) None = refl
   keyed-told (keyed.RemoveIf k d) (Some p) = if-told (deeds.keep d p.0 p.1) answer.None (answer.Pair p.0 p.1) refl refl
   keyed-told (keyed.RemoveIfMut k d) None = refl
-  keyed-told (keyed.RemoveIfMut k d) (Some p) = if-told (deeds.keep d p.0 p.1) answer.None (answer.Pair p.0 (deeds.effect d p.0 p.1)) refl refl
+  keyed-told (keyed.RemoveIfMut k d) (Some p) = if-told (deeds.keep d p.0 p.1) answer.None
+      (answer.Pair p.0 (deeds.effect d p.0 p.1)) refl refl
   keyed-told (keyed.Alter k d) o = refl
   keyed-told (keyed.View k d) None = refl
   keyed-told (keyed.View k d) (Some p) = refl
@@ -84,15 +89,19 @@ module _ {D K V T : Type 0} (A : Type 0) (deeds : Deeds D K V T) where
   told-told (ask.Held h) s = held-told h s
   told-told (ask.Walk f) s = visit-told f (pair_in s)
 
-mapped-told : {X K V T A : Type 0} (g : X → Answer K V T A) (o : Option X) (a : Answer K V T A) → ((x : X) → refuses (g x) ≡ false) → option_map g o ≡ Some a → refuses a ≡ false
+mapped-told : {X K V T A : Type 0} (g : X → Answer K V T A) (o : Option X) (a : Answer K V T A)
+    → ((x : X) → refuses (g x) ≡ false) → option_map g o ≡ Some a → refuses a ≡ false
 mapped-told g None a none is = absurd (none-some a is)
 mapped-told g (Some x) a none is = ap refuses (sym (same_Some (g x) a is)) ∙ none x
 
 module _ {K V D T A : Type 0} (w : Setup K V D T) (bs : List (Block K)) where
-  works-told : (x : Work K D) (b : Block K) (n : ℕ) (m : K → Option (K × V)) (a : Answer K V T A) → told_as w x b n m ≡ Some a → refuses a ≡ false
+  works-told : (x : Work K D) (b : Block K) (n : ℕ) (m : K → Option (K × V)) (a : Answer K V T A)
+      → told_as w x b n m ≡ Some a → refuses a ≡ false
   works-told (one k) b n m a is =
-      mapped-told (λ x. told w.deeds x (reached w b.thread b.call n (m k))) (ask_at w b.thread _) a (λ x. told-told A w.deeds x (reached w b.thread b.call n (m k))) is
-  works-told (visit f) b n m a is = mapped-told (λ k. visit_answer w.deeds f (m k)) (slice_get (done_keys w b) n) a (λ k. visit-told A w.deeds f (m k)) is
+      mapped-told (λ x. told w.deeds x (reached w b.thread b.call n (m k))) (ask_at w b.thread _) a
+      (λ x. told-told A w.deeds x (reached w b.thread b.call n (m k))) is
+  works-told (visit f) b n m a is = mapped-told (λ k. visit_answer w.deeds f (m k)) (slice_get (done_keys w b) n) a
+      (λ k. visit-told A w.deeds f (m k)) is
   works-told nothing b n m a is = absurd (none-some a is)
 
   block-told : (t c n : ℕ) (a : Answer K V T A) → IsToldBy w bs t c n a → refuses a ≡ false
@@ -116,19 +125,25 @@ module _ {K V D T A : Type 0} (w : Setup K V D T) (bs : List (Block K)) where
   never : (a : Answer K V T A) → refuses a ≡ false → refuses a ≡ true → ⊥
   never a tells refused = cc
 
-  memory-told : (t c : ℕ) (x : Ask K V D) (a : Answer K V T A) → a ≡ answer.NoMemory → IsAnsweredBy w bs t c x a → IsRefusedForMemory w bs t c x
-  memory-told t c (ask.Keyed k) a is h = ⊎_elim (λ told. absurd (never a (block-told t c 0 a told) (ap refuses is))) (λ none. (none.1, none.2)) h
+  memory-told : (t c : ℕ) (x : Ask K V D) (a : Answer K V T A) → a ≡ answer.NoMemory → IsAnsweredBy w bs t c x a
+      → IsRefusedForMemory w bs t c x
+  memory-told t c (ask.Keyed k) a is h = ⊎_elim (λ told. absurd (never a (block-told t c 0 a told) (ap refuses is)))
+      (λ none. (none.1, none.2)) h
   memory-told t c (ask.Begin b) a is h =
       ⊎_elim
       (λ told. absurd (never a (block-told t c 0 a told) (ap refuses is)))
       (λ none. ⊎_elim (λ memory. (memory.1, none.1)) (λ locked. absurd (let other = locked.0 in cc)) none.0)
       h
   memory-told t c (ask.Held g) a is h = never a (session-told t c (session_of w t c) a h) (ap refuses is)
-  memory-told t c (ask.Walk f) a is h = ⊎_elim (λ told. absurd (never a (walk-told f told.visits a told.answered) (ap refuses is))) (λ refused. refused.1) h
+  memory-told t c (ask.Walk f) a is h =
+      ⊎_elim (λ told. absurd (never a (walk-told f told.visits a told.answered) (ap refuses is))) (λ refused. refused.1)
+      h
 
-  locked-told : (t c : ℕ) (x : Ask K V D) (a : Answer K V T A) → ask_at w t c ≡ Some x → a ≡ answer.Locked → IsAnsweredBy w bs t c x a → IsRefusedAsLocked w bs t c
+  locked-told : (t c : ℕ) (x : Ask K V D) (a : Answer K V T A) → ask_at w t c ≡ Some x → a ≡ answer.Locked
+      → IsAnsweredBy w bs t c x a → IsRefusedAsLocked w bs t c
   locked-told t c (ask.Keyed k) a asked is h =
-      ⊎_elim (λ told. absurd (never a (block-told t c 0 a told) (ap refuses is))) (λ none. absurd (let other = none.0 in cc)) h
+      ⊎_elim (λ told. absurd (never a (block-told t c 0 a told) (ap refuses is)))
+      (λ none. absurd (let other = none.0 in cc)) h
   locked-told t c (ask.Begin b) a asked is h =
       ⊎_elim
       (λ told. absurd (never a (block-told t c 0 a told) (ap refuses is)))
@@ -139,9 +154,11 @@ module _ {K V D T A : Type 0} (w : Setup K V D T) (bs : List (Block K)) where
       h
   locked-told t c (ask.Held g) a asked is h = absurd (never a (session-told t c (session_of w t c) a h) (ap refuses is))
   locked-told t c (ask.Walk f) a asked is h =
-      ⊎_elim (λ told. absurd (never a (walk-told f told.visits a told.answered) (ap refuses is))) (λ refused. absurd (let other = refused.0 in cc)) h
+      ⊎_elim (λ told. absurd (never a (walk-told f told.visits a told.answered) (ap refuses is)))
+      (λ refused. absurd (let other = refused.0 in cc)) h
 
-  guardless : (t c : ℕ) (s : Option ℕ) (a : Answer K V T A) → (s ≡ None) ⊎ ((o : ℕ) × (s ≡ Some o) × HasNoBlock bs t o) → IsAnsweredInSession w bs t c s a → a ≡ answer.NoGuard
+  guardless : (t c : ℕ) (s : Option ℕ) (a : Answer K V T A) → (s ≡ None) ⊎ ((o : ℕ) × (s ≡ Some o) × HasNoBlock bs t o)
+      → IsAnsweredInSession w bs t c s a → a ≡ answer.NoGuard
   guardless t c None a none h = h
   guardless t c (Some o) a (inl none) h = absurd (none-some o (sym none))
   guardless t c (Some o) a (inr none) h =
@@ -154,7 +171,8 @@ pub refused-has_no_block : {K V D T A : Type 0} → RefusedForMemoryHasNoBlock K
 refused-has_no_block w bs pairs replies agrees i r at is a asked =
     let h = agrees.replies_are i r at in
     memory-told w bs r.thread r.call a r.answer is
-    (subst (λ (x : Ask _ _ _). IsAnsweredBy w bs r.thread r.call x r.answer) (same_Some h.ask a (sym h.asked ∙ asked)) h.answered)
+    (subst (λ (x : Ask _ _ _). IsAnsweredBy w bs r.thread r.call x r.answer) (same_Some h.ask a (sym h.asked ∙ asked))
+    h.answered)
 
 pub locked-has_no_block : {K V D T A : Type 0} → LockedHasNoBlock K V D T A
 locked-has_no_block w bs pairs replies agrees i r at is =
@@ -165,4 +183,5 @@ pub no-guard_answered : {K V D T A : Type 0} → NoGuardIsAnswered K V D T A
 no-guard_answered w bs pairs replies agrees i r at g asked none =
     let h = agrees.replies_are i r at in
     guardless w bs r.thread r.call (session_of w r.thread r.call) r.answer none
-    (subst (λ (x : Ask _ _ _). IsAnsweredBy w bs r.thread r.call x r.answer) (same_Some h.ask (ask.Held g) (sym h.asked ∙ asked)) h.answered)
+    (subst (λ (x : Ask _ _ _). IsAnsweredBy w bs r.thread r.call x r.answer)
+    (same_Some h.ask (ask.Held g) (sym h.asked ∙ asked)) h.answered)

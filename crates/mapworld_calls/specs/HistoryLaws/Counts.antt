@@ -12,7 +12,8 @@ use Rattle.mapworld_calls.specs.Replay.{before}
 use Rattle.mapworld_calls.specs.HistoryLaws.Worlds.{IsWorld, RouteWithin, StandsBetween, IsLeftAlone}
 
 -- these are the pairs of the map when the turn of the block at that place comes
-pub record AreThePairs {K V D T : Type 0} (w : Setup K V D T) (bs : List (Block K)) (i : ℕ) (pairs : List (K × V)) : Type 0 where
+pub record AreThePairs {K V D T : Type 0} (w : Setup K V D T) (bs : List (Block K)) (i : ℕ)
+    (pairs : List (K × V)) : Type 0 where
   pub distinct : AreDistinct w.eq pairs
   pub are : (q : K) → pair_of w.eq pairs q ≡ before w bs i q
 
@@ -23,10 +24,12 @@ pub record CountsThem {K V D T A : Type 0} (w : Setup K V D T) (r : Reply K V T 
   pub capacity : ask_at w r.thread r.call ≡ Some (ask.Walk walk.Capacity)
       → (n : ℕ) × (length pairs ≤ n) × (r.answer ≡ answer.Count (saturated n))
 
--- where no other block changes a pair from a walk's first visit to its last, it counts the pairs that were there before it
+-- where no other block changes a pair from a walk's first visit to its last, it counts the pairs that were there before
+-- it
 abbrev pub CountsAreNumbers : Type 0 → Type 0 → Type 0 → Type 0 → Type 0 → Type 0
 CountsAreNumbers K V D T A =
-    (w : Setup K V D T) → Laws w → RouteWithin w → (bs : List (Block K)) (replies : List (Reply K V T A)) → IsWorld w bs replies
+    (w : Setup K V D T) → Laws w → RouteWithin w → (bs : List (Block K)) (replies : List (Reply K V T A))
+    → IsWorld w bs replies
     → (i : ℕ) (r : Reply K V T A) → slice_get replies i ≡ Some r
     → (first last : ℕ) → StandsBetween bs r.thread r.call first last
     → ((q : K) → IsLeftAlone w bs r.thread r.call first last q)

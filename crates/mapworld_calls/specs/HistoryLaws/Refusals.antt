@@ -15,8 +15,8 @@ use Rattle.mapworld_calls.specs.Replay.{before}
 use Rattle.mapworld_calls.specs.Agrees.{HasNoBlock, IsRefusedWalk, Agrees}
 use Rattle.mapworld_calls.specs.HistoryLaws.Worlds.{IsWorld}
 
--- a call that was refused for memory is one that may grow and has no block; a walk has whole visits alone, and none of the shard
--- at which it was refused
+-- a call that was refused for memory is one that may grow and has no block; a walk has whole visits alone, and none of
+-- the shard at which it was refused
 abbrev pub IsRefusedForMemory : {K V D T : Type 0} → Setup K V D T → List (Block K) → ℕ → ℕ → Ask K V D → Type 0
 IsRefusedForMemory w bs t c (ask.Keyed k) = IsTrue (may_grow k) × HasNoBlock bs t c
 IsRefusedForMemory w bs t c (ask.Begin b) = IsTrue (opening_may_grow b) × HasNoBlock bs t c
@@ -25,7 +25,8 @@ IsRefusedForMemory w bs t c (ask.Walk f) = IsRefusedWalk w bs t c f
 
 abbrev pub RefusedForMemoryHasNoBlock : Type 0 → Type 0 → Type 0 → Type 0 → Type 0 → Type 0
 RefusedForMemoryHasNoBlock K V D T A =
-    (w : Setup K V D T) (bs : List (Block K)) (pairs : List (K × V)) (replies : List (Reply K V T A)) → Agrees w bs pairs replies
+    (w : Setup K V D T) (bs : List (Block K)) (pairs : List (K × V)) (replies : List (Reply K V T A))
+    → Agrees w bs pairs replies
     → (i : ℕ) (r : Reply K V T A) → slice_get replies i ≡ Some r → r.answer ≡ answer.NoMemory
     → (a : Ask K V D) → ask_at w r.thread r.call ≡ Some a → IsRefusedForMemory w bs r.thread r.call a
 
@@ -38,7 +39,8 @@ pub record IsRefusedAsLocked {K V D T : Type 0} (w : Setup K V D T) (bs : List (
 
 abbrev pub LockedHasNoBlock : Type 0 → Type 0 → Type 0 → Type 0 → Type 0 → Type 0
 LockedHasNoBlock K V D T A =
-    (w : Setup K V D T) (bs : List (Block K)) (pairs : List (K × V)) (replies : List (Reply K V T A)) → Agrees w bs pairs replies
+    (w : Setup K V D T) (bs : List (Block K)) (pairs : List (K × V)) (replies : List (Reply K V T A))
+    → Agrees w bs pairs replies
     → (i : ℕ) (r : Reply K V T A) → slice_get replies i ≡ Some r → r.answer ≡ answer.Locked
     → IsRefusedAsLocked w bs r.thread r.call
 
@@ -48,13 +50,16 @@ HasNoGuard w bs t c = (session_of w t c ≡ None) ⊎ ((o : ℕ) × (session_of 
 
 abbrev pub NoGuardIsAnswered : Type 0 → Type 0 → Type 0 → Type 0 → Type 0 → Type 0
 NoGuardIsAnswered K V D T A =
-    (w : Setup K V D T) (bs : List (Block K)) (pairs : List (K × V)) (replies : List (Reply K V T A)) → Agrees w bs pairs replies
+    (w : Setup K V D T) (bs : List (Block K)) (pairs : List (K × V)) (replies : List (Reply K V T A))
+    → Agrees w bs pairs replies
     → (i : ℕ) (r : Reply K V T A) → slice_get replies i ≡ Some r
     → (h : Held V D) → ask_at w r.thread r.call ≡ Some (ask.Held h) → HasNoGuard w bs r.thread r.call
     → r.answer ≡ answer.NoGuard
 
--- an insertion that is answered `NoMemory`, in a world in which its key has a pair at every place of the order of blocks
-pub record FindsAndIsRefused {K V D T A : Type 0} (k : K) (v u : V) (w : Setup K V D T) (bs : List (Block K)) (replies : List (Reply K V T A)) : Type 0 where
+-- an insertion that is answered `NoMemory`, in a world in which its key has a pair at every place of the order of
+-- blocks
+pub record FindsAndIsRefused {K V D T A : Type 0} (k : K) (v u : V) (w : Setup K V D T) (bs : List (Block K))
+    (replies : List (Reply K V T A)) : Type 0 where
   pub laws : Laws w
   pub world : IsWorld w bs replies
   pub place : ℕ
@@ -64,9 +69,10 @@ pub record FindsAndIsRefused {K V D T A : Type 0} (k : K) (v u : V) (w : Setup K
   pub refused : reply.answer ≡ answer.NoMemory
   pub had : (i : ℕ) → before w bs i k ≡ Some (k, v)
 
--- there is such a world: that blocks are well placed and replies are those of the replay doesn't say that a refused insertion
--- found no key
+-- there is such a world: that blocks are well placed and replies are those of the replay doesn't say that a refused
+-- insertion found no key
 abbrev pub RefusalsMayFindTheirKey : Type 0 → Type 0 → Type 0 → Type 0 → Type 0 → Type 0
 RefusalsMayFindTheirKey K V D T A =
     (deeds : Deeds D K V T) (k : K) (v u : V)
-    → (w : Setup K V D T) × (bs : List (Block K)) × (replies : List (Reply K V T A)) × FindsAndIsRefused k v u w bs replies
+    → (w : Setup K V D T) × (bs : List (Block K)) × (replies : List (Reply K V T A))
+    × FindsAndIsRefused k v u w bs replies

@@ -1,5 +1,5 @@
--- What the calls of a session are answered is told by the session: by what its key had at the session's place in the order
--- of blocks, and by the session's own calls up to each of them.
+-- What the calls of a session are answered is told by the session: by what its key had at the session's place in the
+-- order of blocks, and by the session's own calls up to each of them.
 use Rattle.std.specs.Prelude.{◌≡◌, ℕ, ◌+◌, ◌<◌, ◌≤◌, ◌⊎◌, Bool, true, false, List, Option, Some, slice_get, IsTrue}
 use Rattle.mapworld_calls.specs.declared.reply.Reply.{Reply}
 use Rattle.mapworld_calls.specs.Programs.{opening_key}
@@ -57,9 +57,10 @@ reads_or_downgrades (Some (ask.Held (held.Read d))) = true
 reads_or_downgrades (Some (ask.Held held.Downgrade)) = true
 reads_or_downgrades a = false
 
--- call n of the session writes by the deed e, on an exclusive guard of the pair p, and call m reads by the deed d; between
--- them the session reads and downgrades only
-pub record IsReadBehindWrite {K V D T : Type 0} (w : Setup K V D T) (t o n m : ℕ) (e d : D) (found : At K V) (p : K × V) : Type 0 where
+-- call n of the session writes by the deed e, on an exclusive guard of the pair p, and call m reads by the deed d;
+-- between them the session reads and downgrades only
+pub record IsReadBehindWrite {K V D T : Type 0} (w : Setup K V D T) (t o n m : ℕ) (e d : D) (found : At K V)
+    (p : K × V) : Type 0 where
   pub guard : found ≡ exclusive p
   pub writes : ask_at w t (o + n) ≡ Some (ask.Held (held.Write e))
   pub order : n < m

@@ -28,7 +28,8 @@ deed_read (walk.IterMut d stop) = Some d
 deed_read f = None
 
 -- a walk's visits gave the pair: at some place they gave a key that is the pair's
-pub record IsGiven {K V D T : Type 0} (w : Setup K V D T) (bs : List (Block K)) (f : Walk D) (vs : List (Visit K)) (q : K) (p : K × V) : Type 0 where
+pub record IsGiven {K V D T : Type 0} (w : Setup K V D T) (bs : List (Block K)) (f : Walk D) (vs : List (Visit K))
+    (q : K) (p : K × V) : Type 0 where
   pub place : ℕ
   pub key : K
   pub listed : slice_get (keys_given w vs) place ≡ Some key
@@ -36,15 +37,17 @@ pub record IsGiven {K V D T : Type 0} (w : Setup K V D T) (bs : List (Block K)) 
   -- and if the walk reads, what it read there is the deed's answer of the pair
   pub read : (d : D) → deed_read f ≡ Some d → slice_get (reads_of w bs f vs) place ≡ Some (w.deeds.answer d p.0 p.1)
 
--- a walk that goes to the end gives each pair that was there before it, and that no other block changes from its first visit
--- to its last
-abbrev pub GivesWhatIsLeftAlone : {K V D T : Type 0} → Setup K V D T → List (Block K) → ℕ → ℕ → Walk D → List (Visit K) → Type 0
+-- a walk that goes to the end gives each pair that was there before it, and that no other block changes from its first
+-- visit to its last
+abbrev pub GivesWhatIsLeftAlone : {K V D T : Type 0} → Setup K V D T → List (Block K) → ℕ → ℕ → Walk D → List (Visit K)
+    → Type 0
 GivesWhatIsLeftAlone {K} {V} w bs t c f vs =
     (first last : ℕ) → StandsBetween bs t c first last
     → (q : K) (p : K × V) → before w bs first q ≡ Some p → IsLeftAlone w bs t c first last q → IsGiven w bs f vs q p
 
 -- what an answered walk gave
-pub record GivesEachOnce {K V D T A : Type 0} (w : Setup K V D T) (bs : List (Block K)) (t c : ℕ) (f : Walk D) (a : Answer K V T A) : Type 0 where
+pub record GivesEachOnce {K V D T A : Type 0} (w : Setup K V D T) (bs : List (Block K)) (t c : ℕ) (f : Walk D)
+    (a : Answer K V T A) : Type 0 where
   pub visits : List (Visit K)
   pub visited : IsVisited w bs t c f visits
   pub answered : IsWalkAnswer w bs f visits a
@@ -53,19 +56,20 @@ pub record GivesEachOnce {K V D T A : Type 0} (w : Setup K V D T) (bs : List (Bl
   pub as_many : (d : D) → deed_read f ≡ Some d → length (reads_of w bs f visits) ≡ length (keys_given w visits)
   pub all : RouteWithin w → stop_of f ≡ None → GivesWhatIsLeftAlone w bs t c f visits
 
--- a walk that is answered and wasn't refused gives each key at most once, and where it goes to the end, each pair that is left
--- alone
+-- a walk that is answered and wasn't refused gives each key at most once, and where it goes to the end, each pair that
+-- is left alone
 abbrev pub WalksGiveEachOnce : Type 0 → Type 0 → Type 0 → Type 0 → Type 0 → Type 0
 WalksGiveEachOnce K V D T A =
     (w : Setup K V D T) → Laws w → (bs : List (Block K)) (replies : List (Reply K V T A)) → IsWorld w bs replies
     → (i : ℕ) (r : Reply K V T A) → slice_get replies i ≡ Some r → r.answer ≢ answer.NoMemory
     → (f : Walk D) → ask_at w r.thread r.call ≡ Some (ask.Walk f) → GivesEachOnce w bs r.thread r.call f r.answer
 
--- no two visits of a walk have done equal keys, and none has done one twice: also while the walk goes on, and where it was
--- refused
+-- no two visits of a walk have done equal keys, and none has done one twice: also while the walk goes on, and where it
+-- was refused
 abbrev pub VisitsGiveEachOnce : Type 0 → Type 0 → Type 0 → Type 0 → Type 0 → Type 0
 VisitsGiveEachOnce K V D T A =
     (w : Setup K V D T) → Laws w → (bs : List (Block K)) (replies : List (Reply K V T A)) → IsWorld w bs replies
     → (t c : ℕ) (f : Walk D) → ask_at w t c ≡ Some (ask.Walk f)
     → (i j m n : ℕ) (b d : Block K) (p q : K) → IsBlockOf bs i b t c → IsBlockOf bs j d t c
-    → slice_get (done_keys w b) m ≡ Some p → slice_get (done_keys w d) n ≡ Some q → IsTrue (w.eq p q) → (i ≡ j) × (m ≡ n)
+    → slice_get (done_keys w b) m ≡ Some p → slice_get (done_keys w d) n ≡ Some q → IsTrue (w.eq p q) → (i ≡ j)
+    × (m ≡ n)

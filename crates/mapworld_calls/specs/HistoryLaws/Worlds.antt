@@ -8,7 +8,8 @@ use Rattle.mapworld_calls.specs.Agrees.{Agrees}
 use Rattle.mapworld_calls.specs.Placed.{WellPlaced}
 
 -- a world whose blocks are well placed, and whose contents and replies are those of its blocks
-pub record IsWorld {K V D T A : Type 0} (w : Setup K V D T) (bs : List (Block K)) (replies : List (Reply K V T A)) : Type 0 where
+pub record IsWorld {K V D T A : Type 0} (w : Setup K V D T) (bs : List (Block K))
+    (replies : List (Reply K V T A)) : Type 0 where
   pub steps : List ℕ
   pub started : ℕ → Option ℕ
   pub pairs : List (K × V)

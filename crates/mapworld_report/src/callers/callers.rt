@@ -83,8 +83,8 @@ where
     count_of(alloc, map.histories(), one?, two?)
 }
 
-/// Makes a recorded map of two shards, lets two callers make four inserts each, keys 0 to 3 and 4 to 7, in threads of their own,
-/// and answers how many calls are gathered afterwards.
+/// Makes a recorded map of two shards, lets two callers make four inserts each, keys 0 to 3 and 4 to 7, in threads of
+/// their own, and answers how many calls are gathered afterwards.
 ///
 /// It is refused as the lot, the table, the map, its calls or the gathering are.
 pub fn gathered<R: Threads + Wait + Sync + Copy>(

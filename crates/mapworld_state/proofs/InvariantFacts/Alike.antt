@@ -1,10 +1,12 @@
 -- Blocks that show the ends of one call: nothing else of them is another.
-use Rattle.std.proofs.Common.{◌≡◌, ℕ, zero, suc, ◌+◌, ◌⊎◌, inl, inr, ◌==◌, ◌&&◌, if◌then◌else◌, List, [], ◌∷◌, length, take, fold, filter, Option, Some, slice_get, slice_set, refl, ap, sym, ◌∙◌, subst}
+use Rattle.std.proofs.Common.{◌≡◌, ℕ, zero, suc, ◌+◌, ◌⊎◌, inl, inr, ◌==◌, ◌&&◌, if◌then◌else◌, List, [], ◌∷◌, length}
+use Rattle.std.proofs.Common.{take, fold, filter, Option, Some, slice_get, slice_set, refl, ap, sym, ◌∙◌, subst}
 use Rattle.std.specs.List.{list_any}
 use Rattle.std.proofs.lemmas.Option.{none-some, same_Some}
 use Rattle.mapworld_calls.specs.declared.block.Block.{Block}
 use Rattle.mapworld_calls.specs.Setup.{Setup}
-use Rattle.mapworld_calls.specs.Replay.{Work, one, visit, nothing, block_work, block_key, done_keys, shard_by, frame_of, works_on, left_by, left, told_as, told_by, contents, before}
+use Rattle.mapworld_calls.specs.Replay.{Work, one, visit, nothing, block_work, block_key, done_keys, shard_by, frame_of}
+use Rattle.mapworld_calls.specs.Replay.{works_on, left_by, left, told_as, told_by, contents, before}
 use Rattle.mapworld_calls.specs.Placed.{done_by_walk}
 
 -- the block c is b, or shows the end of the call n of the thread t
@@ -26,7 +28,16 @@ AreAlike t n end bs cs = ⊥
 
 module _ {K : Type 0} (t n end : ℕ) where
   pub shows-same : (b : Block K) → Shows t n end b b
-  shows-same b = record { thread = refl; call = refl; visit = refl; start = refl; position = refl; done = refl; visited = refl; ended = inr refl }
+  shows-same b = record {
+    thread = refl;
+    call = refl;
+    visit = refl;
+    start = refl;
+    position = refl;
+    done = refl;
+    visited = refl;
+    ended = inr refl;
+  }
 
   shows-then : (b c d : Block K) → Shows t n end b c → Shows t n end c d → Shows t n end b d
   shows-then b c d f g = record {
@@ -50,7 +61,8 @@ module _ {K : Type 0} (t n end : ℕ) where
   alike-same [] = tt
   alike-same (b ∷ bs) = (shows-same b, alike-same bs)
 
-  pub alike-then : (bs cs ds : List (Block K)) → AreAlike t n end bs cs → AreAlike t n end cs ds → AreAlike t n end bs ds
+  pub alike-then : (bs cs ds : List (Block K)) → AreAlike t n end bs cs → AreAlike t n end cs ds
+      → AreAlike t n end bs ds
   alike-then [] [] [] f g = tt
   alike-then (b ∷ bs) (c ∷ cs) (d ∷ ds) f g = (shows-then b c d f.0 g.0, alike-then bs cs ds f.1 g.1)
   alike-then [] [] (d ∷ ds) f g = absurd g
@@ -58,9 +70,11 @@ module _ {K : Type 0} (t n end : ℕ) where
   alike-then (b ∷ bs) [] ds f g = absurd f
   alike-then (b ∷ bs) (c ∷ cs) [] f g = absurd g
 
-  pub alike-set : (bs : List (Block K)) (i : ℕ) (b c : Block K) → slice_get bs i ≡ Some b → Shows t n end b c → AreAlike t n end bs (slice_set bs i c)
+  pub alike-set : (bs : List (Block K)) (i : ℕ) (b c : Block K) → slice_get bs i ≡ Some b → Shows t n end b c
+      → AreAlike t n end bs (slice_set bs i c)
   alike-set [] i b c at h = absurd (none-some b at)
-  alike-set (d ∷ bs) zero b c at h = (subst (λ (z : Block K). Shows t n end z c) (sym (same_Some d b at)) h, alike-same bs)
+  alike-set (d ∷ bs) zero b c at h =
+      (subst (λ (z : Block K). Shows t n end z c) (sym (same_Some d b at)) h, alike-same bs)
   alike-set (d ∷ bs) (suc i) b c at h = (shows-same d, alike-set bs i b c at h)
 
   alike-take : (m : ℕ) (bs cs : List (Block K)) → AreAlike t n end bs cs → AreAlike t n end (take m bs) (take m cs)
@@ -71,35 +85,39 @@ module _ {K : Type 0} (t n end : ℕ) where
   alike-take (suc m) (b ∷ bs) [] h = absurd h
 
   -- what a block was, and what it is
-  pub alike-was : (bs cs : List (Block K)) → AreAlike t n end bs cs → (i : ℕ) (c : Block K) → slice_get cs i ≡ Some c → (b : Block K) × (slice_get bs i ≡ Some b) × Shows t n end b c
+  pub alike-was : (bs cs : List (Block K)) → AreAlike t n end bs cs → (i : ℕ) (c : Block K) → slice_get cs i ≡ Some c
+      → (b : Block K) × (slice_get bs i ≡ Some b) × Shows t n end b c
   alike-was [] [] h i c at = absurd (none-some c at)
   alike-was (b ∷ bs) (d ∷ cs) h zero c at = (b, refl, subst (λ (z : Block K). Shows t n end b z) (same_Some d c at) h.0)
   alike-was (b ∷ bs) (d ∷ cs) h (suc i) c at = alike-was bs cs h.1 i c at
   alike-was [] (d ∷ cs) h i c at = absurd h
   alike-was (b ∷ bs) [] h i c at = absurd h
 
-  pub alike-comes : (bs cs : List (Block K)) → AreAlike t n end bs cs → (i : ℕ) (b : Block K) → slice_get bs i ≡ Some b → (c : Block K) × (slice_get cs i ≡ Some c) × Shows t n end b c
+  pub alike-comes : (bs cs : List (Block K)) → AreAlike t n end bs cs → (i : ℕ) (b : Block K) → slice_get bs i ≡ Some b
+      → (c : Block K) × (slice_get cs i ≡ Some c) × Shows t n end b c
   alike-comes [] [] h i b at = absurd (none-some b at)
-  alike-comes (d ∷ bs) (c ∷ cs) h zero b at = (c, refl, subst (λ (z : Block K). Shows t n end z c) (same_Some d b at) h.0)
+  alike-comes (d ∷ bs) (c ∷ cs) h zero b at =
+      (c, refl, subst (λ (z : Block K). Shows t n end z c) (same_Some d b at) h.0)
   alike-comes (d ∷ bs) (c ∷ cs) h (suc i) b at = alike-comes bs cs h.1 i b at
   alike-comes [] (c ∷ cs) h i b at = absurd h
   alike-comes (d ∷ bs) [] h i b at = absurd h
 
 -- two blocks of one call, and one visit, work on the same, on one shard
-module _ {K V D T : Type 0} (x : Setup K V D T) (b c : Block K) (thread : c.thread ≡ b.thread) (call : c.call ≡ b.call) where
-  pub same-key : block_key x c ≡ block_key x b
-  same-key = rw (thread, call) refl
+module _ {K V D T : Type 0} (x : Setup K V D T) (b c : Block K) (thread : c.thread ≡ b.thread) (call : c.call ≡ b.call)
+  where
+    pub same-key : block_key x c ≡ block_key x b
+    same-key = rw (thread, call) refl
 
-  pub same-work : block_work x c ≡ block_work x b
-  same-work = rw (thread, call) refl
+    pub same-work : block_work x c ≡ block_work x b
+    same-work = rw (thread, call) refl
 
-  pub same-shard : c.visit ≡ b.visit → (frame_of x).shard c ≡ (frame_of x).shard b
-  same-shard visit_is = ap (λ k. shard_by x k c) same-work ∙ by-work (block_work x b)
-    where
-      by-work : (k : Work K D) → shard_by x k c ≡ shard_by x k b
-      by-work (one k) = refl
-      by-work (visit f) = ap Some visit_is
-      by-work nothing = refl
+    pub same-shard : c.visit ≡ b.visit → (frame_of x).shard c ≡ (frame_of x).shard b
+    same-shard visit_is = ap (λ k. shard_by x k c) same-work ∙ by-work (block_work x b)
+      where
+        by-work : (k : Work K D) → shard_by x k c ≡ shard_by x k b
+        by-work (one k) = refl
+        by-work (visit f) = ap Some visit_is
+        by-work nothing = refl
 
 -- blocks that show other ends do the same
 module _ {K V D T : Type 0} (x : Setup K V D T) (t n end : ℕ) where
@@ -108,7 +126,8 @@ module _ {K V D T : Type 0} (x : Setup K V D T) (t n end : ℕ) where
     work-alike = same-work x b c h.thread h.call
 
     pub keys-alike : done_keys x c ≡ done_keys x b
-    keys-alike = ap (λ v. filter (λ k. x.route k == v) c.visited.items) h.visit ∙ ap (λ ks. filter (λ k. x.route k == b.visit) ks) h.visited
+    keys-alike = ap (λ v. filter (λ k. x.route k == v) c.visited.items) h.visit
+        ∙ ap (λ ks. filter (λ k. x.route k == b.visit) ks) h.visited
 
     pub shard-alike : (frame_of x).shard c ≡ (frame_of x).shard b
     shard-alike = same-shard x b c h.thread h.call h.visit
@@ -129,7 +148,8 @@ module _ {K V D T : Type 0} (x : Setup K V D T) (t n end : ℕ) where
         ∙ ap (λ z. if z then left_by x (block_work x b) c o else o) (works-alike (block_work x b) q)
         ∙ ap (λ z. if works_on x (block_work x b) b q then z else o) (leaves-alike (block_work x b) o)
 
-    says-alike : {A : Type 0} (k : Work K D) (m : ℕ) (has : K → Option (K × V)) → told_as x {A = A} k c m has ≡ told_as x k b m has
+    says-alike : {A : Type 0} (k : Work K D) (m : ℕ) (has : K → Option (K × V)) → told_as x {A = A} k c m has ≡ told_as
+        x k b m has
     says-alike (one k) m has = rw (h.thread, h.call) refl
     says-alike (visit f) m has = rw keys-alike refl
     says-alike nothing m has = refl
@@ -137,9 +157,11 @@ module _ {K V D T : Type 0} (x : Setup K V D T) (t n end : ℕ) where
     pub tells-alike : {A : Type 0} (m : ℕ) (has : K → Option (K × V)) → told_by x {A = A} m c has ≡ told_by x m b has
     tells-alike m has = ap (λ k. told_as x k c m has) work-alike ∙ says-alike (block_work x b) m has
 
-  fold-alike : (bs cs : List (Block K)) → AreAlike t n end bs cs → (q : K) (o : Option (K × V)) → fold (λ o b. left x b q o) o cs ≡ fold (λ o b. left x b q o) o bs
+  fold-alike : (bs cs : List (Block K)) → AreAlike t n end bs cs → (q : K) (o : Option (K × V))
+      → fold (λ o b. left x b q o) o cs ≡ fold (λ o b. left x b q o) o bs
   fold-alike [] [] h q o = refl
-  fold-alike (b ∷ bs) (c ∷ cs) h q o = ap (λ z. fold (λ o b. left x b q o) z cs) (left-alike b c h.0 q o) ∙ fold-alike bs cs h.1 q (left x b q o)
+  fold-alike (b ∷ bs) (c ∷ cs) h q o = ap (λ z. fold (λ o b. left x b q o) z cs) (left-alike b c h.0 q o)
+      ∙ fold-alike bs cs h.1 q (left x b q o)
   fold-alike [] (c ∷ cs) h q o = absurd h
   fold-alike (b ∷ bs) [] h q o = absurd h
 
@@ -159,13 +181,16 @@ module _ {K V D T : Type 0} (x : Setup K V D T) (t n end : ℕ) where
       ∙ ap (λ y. if (y == u) && (c.call == m) then length (done_keys x b) else 0) h.thread
       ∙ ap (λ y. if (b.thread == u) && (y == m) then length (done_keys x b) else 0) h.call
 
-  sum-alike : (bs cs : List (Block K)) → AreAlike t n end bs cs → (u m k : ℕ) → fold (λ l d. l + counted u m d) k cs ≡ fold (λ l d. l + counted u m d) k bs
+  sum-alike : (bs cs : List (Block K)) → AreAlike t n end bs cs → (u m k : ℕ)
+      → fold (λ l d. l + counted u m d) k cs ≡ fold (λ l d. l + counted u m d) k bs
   sum-alike [] [] h u m k = refl
   sum-alike (b ∷ bs) (c ∷ cs) h u m k =
-      ap (λ l. fold (λ l d. l + counted u m d) (k + l) cs) (counted-alike b c h.0 u m) ∙ sum-alike bs cs h.1 u m (k + counted u m b)
+      ap (λ l. fold (λ l d. l + counted u m d) (k + l) cs) (counted-alike b c h.0 u m)
+      ∙ sum-alike bs cs h.1 u m (k + counted u m b)
   sum-alike [] (c ∷ cs) h u m k = absurd h
   sum-alike (b ∷ bs) [] h u m k = absurd h
 
   -- a walk's pairs that are done by the blocks before a place
-  pub counts-alike : (bs cs : List (Block K)) → AreAlike t n end bs cs → (i u m : ℕ) → done_by_walk x (take i cs) u m ≡ done_by_walk x (take i bs) u m
+  pub counts-alike : (bs cs : List (Block K)) → AreAlike t n end bs cs → (i u m : ℕ)
+      → done_by_walk x (take i cs) u m ≡ done_by_walk x (take i bs) u m
   counts-alike bs cs h i u m = sum-alike (take i bs) (take i cs) (alike-take t n end i bs cs h) u m 0

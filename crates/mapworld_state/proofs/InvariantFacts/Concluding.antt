@@ -1,5 +1,7 @@
--- What ends with the step of an answer: what was owed to a lock, a try that could not have its shard, or a walk that was to give no item.
-use Rattle.std.proofs.Common.{◌≡◌, ℕ, ◌+◌, ◌⊎◌, inl, inr, ⊎_elim, true, List, [], Some, None, slice_get, refl, ap, sym, ◌∙◌, subst, arith}
+-- What ends with the step of an answer: what was owed to a lock, a try that could not have its shard, or a walk that
+-- was to give no item.
+use Rattle.std.proofs.Common.{◌≡◌, ℕ, ◌+◌, ◌⊎◌, inl, inr, ⊎_elim, true, List, [], Some, None, slice_get, refl, ap, sym}
+use Rattle.std.proofs.Common.{◌∙◌, subst, arith}
 use Rattle.std.proofs.lemmas.Bool.{cases_Bool, false≢true}
 use Rattle.std.proofs.lemmas.Option.{same_Some, none-some}
 use Rattle.mapworld_calls.specs.declared.ask.Ask.TheVariants as ask
@@ -25,12 +27,15 @@ use Rattle.mapworld_state.specs.Steps.{IsLocked, GivesNone, Concludes, owed, loc
 use Rattle.mapworld_state.specs.Sound.{may_own, block_after, IsReady, Sound}
 use Rattle.mapworld_state.proofs.HoldsTable.{none-there}
 use Rattle.mapworld_state.proofs.InvariantFacts.Holding.{owes-none, stand-at, holds-same, holds-refused}
-use Rattle.mapworld_state.proofs.InvariantFacts.Building.{in_call-moved, claim-at, taken-at, within-at, walks-at, none-at, no-visits, ready-outside, block_after-none}
-use Rattle.mapworld_state.proofs.InvariantFacts.Admitting.{owns-on, sound-silent, sound-leaves, none-yet, walk-apart, unopened-ready}
+use Rattle.mapworld_state.proofs.InvariantFacts.Building.{in_call-moved, claim-at, taken-at, within-at, walks-at}
+use Rattle.mapworld_state.proofs.InvariantFacts.Building.{none-at, no-visits, ready-outside, block_after-none}
+use Rattle.mapworld_state.proofs.InvariantFacts.Admitting.{owns-on, sound-silent, sound-leaves, none-yet, walk-apart}
+use Rattle.mapworld_state.proofs.InvariantFacts.Admitting.{unopened-ready}
 use Rattle.mapworld_calls.proofs.Walking.{none-visited}
 
 -- a walk that was to give no item is answered by what it has read without a visit
-unvisited-answer : {K V D T A : Type 0} (x : Setup K V D T) (bs : List (Block K)) (f : Walk D) (a : Answer K V T A) → stop_of f ≡ Some 0 → HasRead [] a → IsWalkAnswer x bs f [] a
+unvisited-answer : {K V D T A : Type 0} (x : Setup K V D T) (bs : List (Block K)) (f : Walk D) (a : Answer K V T A)
+    → stop_of f ≡ Some 0 → HasRead [] a → IsWalkAnswer x bs f [] a
 unvisited-answer x bs (walk.Iter d s) a is read = read
 unvisited-answer x bs (walk.IterMut d s) a is read = read
 unvisited-answer x bs f a is read = absurd (none-some 0 is)
@@ -38,10 +43,14 @@ unvisited-answer x bs f a is read = absurd (none-some 0 is)
 owned≢refused : Owned ≡ Refused → ⊥
 owned≢refused e = absurd cc
 
-module _ {K V S D T A : Type 0} (x : Setup K V D T) (w : State K V S D T A) (t : ℕ) (mid : State K V S D T A) (sound : Sound x w) where
+module _ {K V S D T A : Type 0} (x : Setup K V D T) (w : State K V S D T A) (t : ℕ) (mid : State K V S D T A)
+    (sound : Sound x w) where
   -- what a try that was refused its shard is answered, and where it leads
-  refused-try : (p : Place K V D T A) → slice_get w.places t ≡ Some p → (r : Request K V D) → p.phase ≡ phase.Admit r → ask_at x t p.next ≡ Some (ask_of r) → request_tries r ≡ true → (p' : Place K V D T A) → p'.guard ≡ None → block_after p' ≡ None
-      → IsAnsweredBy {A = A} x w.blocks t p.next (ask_of r) answer.Locked × IsReady x w.blocks w.tables t p' (p.next + 1) (block_after p')
+  refused-try : (p : Place K V D T A) → slice_get w.places t ≡ Some p → (r : Request K V D) → p.phase ≡ phase.Admit r
+      → ask_at x t p.next ≡ Some (ask_of r) → request_tries r ≡ true → (p' : Place K V D T A) → p'.guard ≡ None
+      → block_after p' ≡ None
+      → IsAnsweredBy {A = A} x w.blocks t p.next (ask_of r) answer.Locked
+      × IsReady x w.blocks w.tables t p' (p.next + 1) (block_after p')
   refused-try p at (request.Keyed k) before asked tries p' guard block = absurd (false≢true tries)
   refused-try p at (request.Begin b) before asked tries p' guard block = (
     inr (inr (refl, tries), none-yet x w t sound p at (ap may_own before)),
@@ -57,12 +66,19 @@ module _ {K V S D T A : Type 0} (x : Setup K V D T) (w : State K V S D T A) (t :
       let c = claim-at x (threads_of w) w.blocks w.replies w.tables t p f e.before st in
       let none = none-at x (threads_of w) w.blocks w.replies w.tables t p f e.before st refl in
       let wants = stand-at w.places w.locks sound.holds t p e.stands f e.before in
-      let stand : e.ends.stand ≡ record { shard = p.shard; aim = Gets (at_desk (mode_of e.request)); trying = wants.trying } = same_Some e.ends.stand _ (sym e.ends.stood ∙ wants.is) in
+      let stand : e.ends.stand ≡ record {
+        shard = p.shard;
+        aim = Gets (at_desk (mode_of e.request));
+        trying = wants.trying;
+      } = same_Some e.ends.stand _ (sym e.ends.stood ∙ wants.is) in
       let aim = ap (λ (z : Stand). z.aim) stand in
       let tries : request_tries e.request ≡ true = ⊎_elim (λ yes_. yes_)
-      (λ no_. absurd (owned≢refused (sym (e.ends.patient (at_desk (mode_of e.request)) aim (ap (λ (z : Stand). z.trying) stand ∙ wants.patient no_)))))
+      (λ no_. absurd (owned≢refused
+      (sym (e.ends.patient (at_desk (mode_of e.request)) aim
+      (ap (λ (z : Stand). z.trying) stand ∙ wants.patient no_)))))
       (cases_Bool (request_tries e.request)) in
-      let told = refused-try p e.stands e.request e.before c.0.asked tries p' c.1.guard (block_after-none p' c.1.block) in
+      let told = refused-try p e.stands e.request e.before c.0.asked tries p' c.1.guard (block_after-none p' c.1.block)
+      in
       subst (Sound x) (sym e.after) (sound-silent x w t p p' e.stands sound e.locks refl
       (record {
         program = st.program;
@@ -73,10 +89,17 @@ module _ {K V S D T A : Type 0} (x : Setup K V D T) (w : State K V S D T A) (t :
         own_block = st.own_block;
         own_visits = no-visits x w.blocks t p' none.visits;
         owns = owns-on w.blocks t p p' st.owns refl refl refl (λ own. refl);
-        claim = (ask_of e.request, in_call-moved x p p' (threads_of w) t _ refl refl refl c.0, (λ z. c.2), told.0, told.1);
+        claim = (
+          ask_of e.request,
+          in_call-moved x p p' (threads_of w) t _ refl refl refl c.0,
+          (λ z. c.2),
+          told.0,
+          told.1,
+        );
         walks = none.reads;
       })
-      (holds-refused w.places w.locks sound.holds t p p' e.stands refl e.locks e.ends (at_desk (mode_of e.request)) aim tt))
+      (holds-refused w.places w.locks sound.holds t p p' e.stands refl e.locks e.ends (at_desk (mode_of e.request)) aim
+      tt))
 
   sound-idle : GivesNone w t mid → Sound x mid
   sound-idle e =
@@ -115,11 +138,13 @@ module _ {K V S D T A : Type 0} (x : Setup K V D T) (w : State K V S D T A) (t :
             ended = inr walks.1;
             answered = unvisited-answer x w.blocks e.walk e.answer walks.1 e.told;
           }),
-          ready-outside x w.blocks w.tables t p' (p.next + 1) (block_after p') outside.1 c.1.1 (block_after-none p' c.1.0),
+          ready-outside x w.blocks w.tables t p' (p.next + 1) (block_after p') outside.1 c.1.1
+              (block_after-none p' c.1.0),
         );
         walks = none.reads;
       })
-      (holds-same w.places w.locks sound.holds t p p' e.stands refl (owes-none p' _ (stand-at w.places w.locks sound.holds t p e.stands f e.before))))
+      (holds-same w.places w.locks sound.holds t p p' e.stands refl
+      (owes-none p' _ (stand-at w.places w.locks sound.holds t p e.stands f e.before))))
 
   sound-concludes : Concludes w t mid → Sound x mid
   sound-concludes (owed e) = sound-leaves x w t mid sound e

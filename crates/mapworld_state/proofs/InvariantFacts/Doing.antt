@@ -1,5 +1,7 @@
 -- A deed of a walk: the block of its visit has done one pair more.
-use Rattle.std.proofs.Common.{◌≡◌, ◌≢◌, ℕ, zero, suc, ◌+◌, ◌≤◌, ◌⊎◌, ◌==◌, ◌||◌, ◌&&◌, inl, inr, ⊎_elim, IsSome, Bool, true, false, if◌then◌else◌, filter, List, [], ◌∷◌, ◌++◌, length, map, Option, Some, None, slice_get, slice_set, take, drop, refl, ap, sym, ◌∙◌, subst, arith, eq-eqb, length-set}
+use Rattle.std.proofs.Common.{◌≡◌, ◌≢◌, ℕ, zero, suc, ◌+◌, ◌≤◌, ◌⊎◌, ◌==◌, ◌||◌, ◌&&◌, inl, inr, ⊎_elim, IsSome, Bool}
+use Rattle.std.proofs.Common.{true, false, if◌then◌else◌, filter, List, [], ◌∷◌, ◌++◌, length, map, Option, Some, None}
+use Rattle.std.proofs.Common.{slice_get, slice_set, take, drop, refl, ap, sym, ◌∙◌, subst, arith, eq-eqb, length-set}
 use Rattle.std.specs.List.{list_any, list_all}
 use Rattle.std.specs.Option.{option_map}
 use Rattle.std.proofs.lemmas.Bool.{cases_Bool, cases_eq, false≢true}
@@ -17,7 +19,8 @@ use Rattle.mapworld_calls.specs.Programs.{saturated, stop_of}
 use Rattle.mapworld_calls.specs.Setup.{Setup, Laws, ask_at, session_of}
 use Rattle.mapworld_calls.specs.Frame.{Grows}
 use Rattle.mapworld_calls.specs.Growth.{GoesOn, Visits}
-use Rattle.mapworld_calls.specs.Replay.{visit, work_of, block_work, left, done_keys, frame_of, contents, before, IsLastOnShard}
+use Rattle.mapworld_calls.specs.Replay.{visit, work_of, block_work, left, done_keys, frame_of, contents, before}
+use Rattle.mapworld_calls.specs.Replay.{IsLastOnShard}
 use Rattle.mapworld_calls.specs.Agrees.{Visit, IsVisitOf, IsVisited, IsWhole, AreWhole, IsBelow, number_of, reads_of}
 use Rattle.mapworld_calls.specs.Placed.{IsDoneWithin, IsPlaced, IsVisitDone, answered_of, done_by_walk}
 use Rattle.mapworld_calls.specs.Laws.{IsLastOfCall}
@@ -26,7 +29,8 @@ use Rattle.mapworld_calls.proofs.Folds.{slice_set-itself, take-set_above}
 use Rattle.mapworld_calls.proofs.Pairs.{eq-same_right}
 use Rattle.mapworld_calls.proofs.Replays.{before-same}
 use Rattle.mapworld_calls.proofs.Kept.{keeps-grown}
-use Rattle.mapworld_calls.proofs.Visiting.{visit-grows, visited-own, visited-other, visited-quiet, visit-stays_done, keys-added}
+use Rattle.mapworld_calls.proofs.Visiting.{visit-grows, visited-own, visited-other, visited-quiet, visit-stays_done}
+use Rattle.mapworld_calls.proofs.Visiting.{keys-added}
 use Rattle.mapworld_calls.proofs.Walking.{visit_at, number-more, visited-more, reads-more}
 use Rattle.mapworld_state.specs.declared.holds.Mode.{Mode}
 use Rattle.mapworld_state.specs.declared.holds.Mode.TheVariants.{Exclusive}
@@ -39,13 +43,16 @@ use Rattle.mapworld_state.specs.Moves.{stepped}
 use Rattle.mapworld_state.specs.Steps.{DoesItem}
 use Rattle.mapworld_state.specs.Walks.{IsItemOf, all_visited, gives_items, is_visited, walk_ends, walk_mode}
 use Rattle.mapworld_state.specs.Locks.Stands.{stand_in}
-use Rattle.mapworld_state.specs.Sound.{Claim, HasOwnVisits, HoldsShard, IsCount, IsInCall, IsOutside, IsWithinVisit, OwnsBlocks, Sound, Stands, TablesAgree, Walks, is_resting, may_own}
+use Rattle.mapworld_state.specs.Sound.{Claim, HasOwnVisits, HoldsShard, IsCount, IsInCall, IsOutside, IsWithinVisit}
+use Rattle.mapworld_state.specs.Sound.{OwnsBlocks, Sound, Stands, TablesAgree, Walks, is_resting, may_own}
 use Rattle.mapworld_state.proofs.Tables.{pair_of-is, pair_of-same}
 use Rattle.mapworld_state.proofs.InvariantFacts.Effects.{Anyhow, effect-grow, last-grown}
 use Rattle.mapworld_state.proofs.InvariantFacts.Others.{IsInCall-push}
 use Rattle.mapworld_state.proofs.InvariantFacts.Timing.{placed-grown}
 use Rattle.mapworld_state.proofs.InvariantFacts.Holding.{holds-same, stand-at}
-use Rattle.mapworld_state.proofs.InvariantFacts.Building.{Goes, claim-at, holds-moved, in_call-moved, last-of, replies-kept, reply-below, sound-by, started-stays, tables-changed, tables-same, taken-at, walks-at, within-at}
+use Rattle.mapworld_state.proofs.InvariantFacts.Building.{Goes, claim-at, holds-moved, in_call-moved, last-of}
+use Rattle.mapworld_state.proofs.InvariantFacts.Building.{replies-kept, reply-below, sound-by, started-stays}
+use Rattle.mapworld_state.proofs.InvariantFacts.Building.{tables-changed, tables-same, taken-at, walks-at, within-at}
 use Rattle.mapworld_state.proofs.InvariantFacts.Sums.{sum-upto}
 use Rattle.mapworld_state.proofs.InvariantFacts.Leading.{IsLeft, leads, leads-out, leads-own, leads-rests}
 use Rattle.mapworld_state.proofs.InvariantFacts.Admitting.{kept-alone, walk-apart}
@@ -414,7 +421,9 @@ module _ {K V S D T A : Type 0} (x : Setup K V D T) (laws : Laws x) (w : State K
 
       other-key : x.eq key q ≡ false → pair_of x.eq a.changed.items q ≡ left x c q (before x bs' a.index q)
       other-key e =
-          let same : left x c q (before x bs' a.index q) ≡ left x b q (before x w.blocks a.index q) = ap (left x c q) (turn-stays q) ∙ left-like x b c f q (before x w.blocks a.index q) work work' (now-done ∙ or-none (list_any (λ k. x.eq k q) (done_keys x b)) (x.eq key q) e) in
+          let same : left x c q (before x bs' a.index q) ≡ left x b q (before x w.blocks a.index q) =
+          ap (left x c q) (turn-stays q) ∙ left-like x b c f q (before x w.blocks a.index q) work work'
+          (now-done ∙ or-none (list_any (λ k. x.eq k q) (done_keys x b)) (x.eq key q) e) in
           other-stays q e ∙ (there q on ∙ sym same)
 
   abbrev p' : Place K V D T A

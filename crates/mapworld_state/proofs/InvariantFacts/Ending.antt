@@ -1,5 +1,7 @@
 -- What blocks that show the ends of a call leave: all that was told stays told.
-use Rattle.std.proofs.Common.{◌≡◌, ℕ, zero, suc, ◌+◌, ◌-◌, ◌⊎◌, ◌==◌, inl, inr, ⊎_elim, IsSome, Bool, List, [], ◌∷◌, ◌++◌, length, flat_map, fold, take, Option, Some, None, slice_get, slice_set, MatchBool, refl, ap, sym, ◌∙◌, subst, arith}
+use Rattle.std.proofs.Common.{◌≡◌, ℕ, zero, suc, ◌+◌, ◌-◌, ◌⊎◌, ◌==◌, inl, inr, ⊎_elim, IsSome, Bool, List, [], ◌∷◌}
+use Rattle.std.proofs.Common.{◌++◌, length, flat_map, fold, take, Option, Some, None, slice_get, slice_set, MatchBool}
+use Rattle.std.proofs.Common.{refl, ap, sym, ◌∙◌, subst, arith}
 use Rattle.std.proofs.lemmas.Bool.{cases_Bool, eqb-true, eqb-false}
 use Rattle.std.proofs.lemmas.Option.{same_Some, none-some}
 use Rattle.mapworld_calls.specs.declared.ask.Ask.{Ask}
@@ -12,16 +14,21 @@ use Rattle.mapworld_calls.specs.Calls.{visit_reads}
 use Rattle.mapworld_calls.specs.Programs.{stop_of}
 use Rattle.mapworld_calls.specs.Setup.{Setup, Laws, session_of}
 use Rattle.mapworld_calls.specs.Replay.{block_key, at_key, done_keys, before, found, IsLastOnShard}
-use Rattle.mapworld_calls.specs.Agrees.{IsToldBy, HasNoBlock, IsAnsweredInSession, Visit, IsWhole, AreWhole, AreCapacities, IsBelow, IsAtMost, IsVisited, number_of, reads_of, IsWalkAnswer, IsWalked, IsRefusedWalk, IsAnsweredBy}
+use Rattle.mapworld_calls.specs.Agrees.{IsToldBy, HasNoBlock, IsAnsweredInSession, Visit, IsWhole, AreWhole}
+use Rattle.mapworld_calls.specs.Agrees.{AreCapacities, IsBelow, IsAtMost, IsVisited, number_of, reads_of, IsWalkAnswer}
+use Rattle.mapworld_calls.specs.Agrees.{IsWalked, IsRefusedWalk, IsAnsweredBy}
 use Rattle.mapworld_calls.proofs.Lists.{slice_get-set_same, slice_get-set_cases}
 use Rattle.mapworld_calls.proofs.Works.{looks-at_shard}
 use Rattle.mapworld_state.specs.Moves.{EndsAt, EndsBlock, EndsVisits, EndsCall}
 use Rattle.mapworld_state.specs.Places.{Place}
 use Rattle.mapworld_state.specs.Sound.{IsIn, OwnsBlocks, HasOwnBlock, HasOwnVisits}
-use Rattle.mapworld_state.proofs.InvariantFacts.Alike.{Shows, AreAlike, shows-same, alike-same, alike-then, alike-set, alike-was, alike-comes, keys-alike, shard-alike, tells-alike, before-alike}
+use Rattle.mapworld_state.proofs.InvariantFacts.Alike.{Shows, AreAlike, shows-same, alike-same, alike-then, alike-set}
+use Rattle.mapworld_state.proofs.InvariantFacts.Alike.{alike-was, alike-comes, keys-alike, shard-alike, tells-alike}
+use Rattle.mapworld_state.proofs.InvariantFacts.Alike.{before-alike}
 use Rattle.mapworld_state.proofs.InvariantFacts.Effects.{Effect, Anyhow}
 
-module _ {K V D T : Type 0} (A : Type 0) (x : Setup K V D T) (laws : Laws x) (t n end : ℕ) (bs bs' : List (Block K)) (h : AreAlike t n end bs bs') where
+module _ {K V D T : Type 0} (A : Type 0) (x : Setup K V D T) (laws : Laws x) (t n end : ℕ) (bs bs' : List (Block K))
+    (h : AreAlike t n end bs bs') where
   told-alike : (u c m : ℕ) (a : Answer K V T A) → IsToldBy x bs u c m a → IsToldBy x bs' u c m a
   told-alike u c m a g =
       let d = alike-comes t n end bs bs' h g.place g.block g.listed in
@@ -33,7 +40,8 @@ module _ {K V D T : Type 0} (A : Type 0) (x : Setup K V D T) (laws : Laws x) (t 
         call = d.2.call ∙ g.call;
         done = rw d.2.done g.done;
         told = tells-alike x t n end g.block d.0 d.2 m (before x bs' g.place)
-            ∙ looks-at_shard x laws {A = A} m g.block (before x bs' g.place) (before x bs g.place) (λ q on. before-alike x t n end bs bs' h g.place q)
+            ∙ looks-at_shard x laws {A = A} m g.block (before x bs' g.place) (before x bs g.place)
+            (λ q on. before-alike x t n end bs bs' h g.place q)
             ∙ g.told;
       }
 
@@ -69,7 +77,8 @@ module _ {K V D T : Type 0} (A : Type 0) (x : Setup K V D T) (laws : Laws x) (t 
 
   -- what a block has found
   pub found-alike : (i : ℕ) (b c : Block K) → Shows t n end b c → found x bs' i c ≡ found x bs i b
-  found-alike i b c same = ap (λ k. at_key (before x bs' i) k) (let e : block_key x c ≡ block_key x b = rw (same.thread, same.call) refl in e) ∙ at-key (block_key x b)
+  found-alike i b c same = ap (λ k. at_key (before x bs' i) k)
+      (let e : block_key x c ≡ block_key x b = rw (same.thread, same.call) refl in e) ∙ at-key (block_key x b)
     where
       at-key : (o : Option K) → at_key (before x bs' i) o ≡ at_key (before x bs i) o
       at-key None = refl
@@ -84,14 +93,17 @@ module _ {K V D T : Type 0} (A : Type 0) (x : Setup K V D T) (laws : Laws x) (t 
   AreAgain (v ∷ vs) (u ∷ us) = Again v u × AreAgain vs us
   AreAgain vs us = ⊥
 
-  visits-again : (vs : List (Visit K)) → ((m : ℕ) (v : Visit K) → slice_get vs m ≡ Some v → slice_get bs v.place ≡ Some v.block) → (us : List (Visit K)) × AreAgain vs us
+  visits-again : (vs : List (Visit K))
+      → ((m : ℕ) (v : Visit K) → slice_get vs m ≡ Some v → slice_get bs v.place ≡ Some v.block) → (us : List (Visit K))
+      × AreAgain vs us
   visits-again [] listed = ([], tt)
   visits-again (v ∷ vs) listed =
       let d = alike-comes t n end bs bs' h v.place v.block (listed zero v refl) in
       let rest = visits-again vs (λ m u at. listed (suc m) u at) in
       (record { place = v.place; block = d.0 } ∷ rest.0, ((refl, d.2, d.1), rest.1))
 
-  again-was : (vs us : List (Visit K)) → AreAgain vs us → (m : ℕ) (u : Visit K) → slice_get us m ≡ Some u → (v : Visit K) × (slice_get vs m ≡ Some v) × Again v u
+  again-was : (vs us : List (Visit K)) → AreAgain vs us → (m : ℕ) (u : Visit K) → slice_get us m ≡ Some u
+      → (v : Visit K) × (slice_get vs m ≡ Some v) × Again v u
   again-was [] [] g m u at = absurd (none-some u at)
   again-was (v ∷ vs) (y ∷ us) g zero u at = (v, refl, subst (λ (z : Visit K). Again v z) (same_Some y u at) g.0)
   again-was (v ∷ vs) (y ∷ us) g (suc m) u at = again-was vs us g.1 m u at
@@ -111,10 +123,12 @@ module _ {K V D T : Type 0} (A : Type 0) (x : Setup K V D T) (laws : Laws x) (t 
   again-take (suc m) [] (u ∷ us) g = absurd g
   again-take (suc m) (v ∷ vs) [] g = absurd g
 
-  again-sum : (vs us : List (Visit K)) → AreAgain vs us → (k : ℕ) → fold (λ l v. l + length (done_keys x v.block)) k us ≡ fold (λ l v. l + length (done_keys x v.block)) k vs
+  again-sum : (vs us : List (Visit K)) → AreAgain vs us → (k : ℕ) → fold (λ l v. l + length (done_keys x v.block)) k us
+      ≡ fold (λ l v. l + length (done_keys x v.block)) k vs
   again-sum [] [] g k = refl
   again-sum (v ∷ vs) (u ∷ us) g k =
-      ap (λ ks. fold (λ l v. l + length (done_keys x v.block)) (k + length ks) us) (keys-alike x t n end v.block u.block g.0.1)
+      ap (λ ks. fold (λ l v. l + length (done_keys x v.block)) (k + length ks) us)
+      (keys-alike x t n end v.block u.block g.0.1)
       ∙ again-sum vs us g.1 (k + length (done_keys x v.block))
   again-sum [] (u ∷ us) g k = absurd g
   again-sum (v ∷ vs) [] g k = absurd g
@@ -122,10 +136,12 @@ module _ {K V D T : Type 0} (A : Type 0) (x : Setup K V D T) (laws : Laws x) (t 
   again-number : (vs us : List (Visit K)) → AreAgain vs us → number_of x us ≡ number_of x vs
   again-number vs us g = again-sum vs us g 0
 
-  reads-at : (f : Walk D) (i : ℕ) (ks : List K) → flat_map (λ k. visit_reads x.deeds f (before x bs' i k)) ks ≡ flat_map (λ k. visit_reads x.deeds f (before x bs i k)) ks
+  reads-at : (f : Walk D) (i : ℕ) (ks : List K) → flat_map (λ k. visit_reads x.deeds f (before x bs' i k)) ks ≡ flat_map
+      (λ k. visit_reads x.deeds f (before x bs i k)) ks
   reads-at f i [] = refl
   reads-at f i (k ∷ ks) =
-      ap (λ o. visit_reads x.deeds f o ++ flat_map (λ k. visit_reads x.deeds f (before x bs' i k)) ks) (before-alike x t n end bs bs' h i k)
+      ap (λ o. visit_reads x.deeds f o ++ flat_map (λ k. visit_reads x.deeds f (before x bs' i k)) ks)
+      (before-alike x t n end bs bs' h i k)
       ∙ ap (λ zs. visit_reads x.deeds f (before x bs i k) ++ zs) (reads-at f i ks)
 
   again-reads : (f : Walk D) (vs us : List (Visit K)) → AreAgain vs us → reads_of x bs' f us ≡ reads_of x bs f vs
@@ -133,16 +149,20 @@ module _ {K V D T : Type 0} (A : Type 0) (x : Setup K V D T) (laws : Laws x) (t 
   again-reads f (v ∷ vs) (u ∷ us) g =
       ap (λ zs. zs ++ reads_of x bs' f us)
       (ap (λ i. flat_map (λ k. visit_reads x.deeds f (before x bs' i k)) (done_keys x u.block)) g.0.0
-      ∙ ap (λ ks. flat_map (λ k. visit_reads x.deeds f (before x bs' v.place k)) ks) (keys-alike x t n end v.block u.block g.0.1)
+      ∙ ap (λ ks. flat_map (λ k. visit_reads x.deeds f (before x bs' v.place k)) ks)
+      (keys-alike x t n end v.block u.block g.0.1)
       ∙ reads-at f v.place (done_keys x v.block))
-      ∙ ap (λ zs. flat_map (λ k. visit_reads x.deeds f (before x bs v.place k)) (done_keys x v.block) ++ zs) (again-reads f vs us g.1)
+      ∙ ap (λ zs. flat_map (λ k. visit_reads x.deeds f (before x bs v.place k)) (done_keys x v.block) ++ zs)
+      (again-reads f vs us g.1)
   again-reads f [] (u ∷ us) g = absurd g
   again-reads f (v ∷ vs) [] g = absurd g
 
   whole-again : (v u : Visit K) → Again v u → IsWhole x bs v.place v.block → IsWhole x bs' u.place u.block
   whole-again v u g w q on there =
       rw (keys-alike x t n end v.block u.block g.1)
-      (w q (on ∙ g.1.visit) (subst (λ (o : Option (K × V)). IsSome o) (ap (λ i. before x bs' i q) g.0 ∙ before-alike x t n end bs bs' h v.place q) there))
+      (w q (on ∙ g.1.visit)
+      (subst (λ (o : Option (K × V)). IsSome o)
+      (ap (λ i. before x bs' i q) g.0 ∙ before-alike x t n end bs bs' h v.place q) there))
 
   module _ (u c : ℕ) (f : Walk D) (vs us : List (Visit K)) (g : AreAgain vs us) (v : IsVisited x bs u c f vs) where
     visited-again : IsVisited x bs' u c f us
@@ -152,9 +172,16 @@ module _ {K V D T : Type 0} (A : Type 0) (x : Setup K V D T) (laws : Laws x) (t 
           are = λ m z at.
               let o = again-was vs us g m z at in
               let is = v.are m o.0 o.1 in
-              record { listed = o.2.2; thread = o.2.1.thread ∙ is.thread; call = o.2.1.call ∙ is.call; visit = o.2.1.visit ∙ is.visit };
-          goes_on = λ m lt. subst (λ (k : ℕ). IsBelow (stop_of f) k) (sym (again-number (take m vs) (take m us) (again-take m vs us g))) (v.goes_on m (rw (sym size) lt));
-          whole = λ m z at lt. let o = again-was vs us g m z at in whole-again o.0 z o.2 (v.whole m o.0 o.1 (rw (sym size) lt));
+              record {
+                listed = o.2.2;
+                thread = o.2.1.thread ∙ is.thread;
+                call = o.2.1.call ∙ is.call;
+                visit = o.2.1.visit ∙ is.visit;
+              };
+          goes_on = λ m lt. subst (λ (k : ℕ). IsBelow (stop_of f) k)
+              (sym (again-number (take m vs) (take m us) (again-take m vs us g))) (v.goes_on m (rw (sym size) lt));
+          whole = λ m z at lt. let o = again-was vs us g m z at in
+              whole-again o.0 z o.2 (v.whole m o.0 o.1 (rw (sym size) lt));
           within = subst (λ (k : ℕ). IsAtMost (stop_of f) k) (sym (again-number vs us g)) v.within;
           all = λ i d at thread call.
               let o = alike-was t n end bs bs' h i d at in
@@ -167,12 +194,16 @@ module _ {K V D T : Type 0} (A : Type 0) (x : Setup K V D T) (laws : Laws x) (t 
     capacities-again : (ns : List ℕ) → AreCapacities x vs ns → AreCapacities x us ns
     capacities-again ns caps = record {
       each = caps.each ∙ sym (again-length vs us g);
-      hold = λ i m z hm hz. let o = again-was vs us g i z hz in rw (keys-alike x t n end o.0.block z.block o.2.1) (caps.hold i m o.0 hm o.1);
+      hold = λ i m z hm hz. let o = again-was vs us g i z hz in rw (keys-alike x t n end o.0.block z.block o.2.1)
+          (caps.hold i m o.0 hm o.1);
     }
 
-  answer-again : (f : Walk D) (vs us : List (Visit K)) → AreAgain vs us → (u c : ℕ) → IsVisited x bs u c f vs → (a : Answer K V T A) → IsWalkAnswer x bs f vs a → IsWalkAnswer x bs' f us a
-  answer-again (walk.Iter d s) vs us g u c v a e = record { list = e.list; has = e.has ∙ sym (again-reads (walk.Iter d s) vs us g); is = e.is }
-  answer-again (walk.IterMut d s) vs us g u c v a e = record { list = e.list; has = e.has ∙ sym (again-reads (walk.IterMut d s) vs us g); is = e.is }
+  answer-again : (f : Walk D) (vs us : List (Visit K)) → AreAgain vs us → (u c : ℕ) → IsVisited x bs u c f vs
+      → (a : Answer K V T A) → IsWalkAnswer x bs f vs a → IsWalkAnswer x bs' f us a
+  answer-again (walk.Iter d s) vs us g u c v a e =
+      record { list = e.list; has = e.has ∙ sym (again-reads (walk.Iter d s) vs us g); is = e.is }
+  answer-again (walk.IterMut d s) vs us g u c v a e =
+      record { list = e.list; has = e.has ∙ sym (again-reads (walk.IterMut d s) vs us g); is = e.is }
   answer-again (walk.Retain d) vs us g u c v a e = e
   answer-again (walk.AlterAll d) vs us g u c v a e = e
   answer-again walk.Clear vs us g u c v a e = e
@@ -188,7 +219,11 @@ module _ {K V D T : Type 0} (A : Type 0) (x : Setup K V D T) (laws : Laws x) (t 
         visits = again.0;
         visited = visited-again u c f w.visits again.0 again.1 w.visited;
         ended = elim w.ended [
-          | inl whole ↦ inl (again-length w.visits again.0 again.1 ∙ whole.0, all-again u c f w.visits again.0 again.1 w.visited whole.1)
+          | inl whole ↦ inl (
+            again-length w.visits again.0 again.1 ∙ whole.0,
+            all-again u c f w.visits again.0 again.1 w.visited
+                whole.1,
+          )
           | inr stop ↦ inr (stop ∙ ap (λ k. Some k) (sym (again-number w.visits again.0 again.1)))
         ];
         answered = answer-again f w.visits again.0 again.1 u c w.visited a w.answered;
@@ -206,16 +241,26 @@ module _ {K V D T : Type 0} (A : Type 0) (x : Setup K V D T) (laws : Laws x) (t 
         goes_on = subst (λ (k : ℕ). IsBelow (stop_of f) k) (sym (again-number w.visits again.0 again.1)) w.goes_on;
       }
 
-  in_session-alike : (u c : ℕ) (o : Option ℕ) (a : Answer K V T A) → IsAnsweredInSession x bs u c o a → IsAnsweredInSession x bs' u c o a
+  in_session-alike : (u c : ℕ) (o : Option ℕ) (a : Answer K V T A) → IsAnsweredInSession x bs u c o a
+      → IsAnsweredInSession x bs' u c o a
   in_session-alike u c None a g = g
-  in_session-alike u c (Some b) a g = elim g [ inl told ↦ inl (told-alike u b (c - b) a told) | inr none ↦ inr (none.0, none-alike u b none.1) ]
+  in_session-alike u c (Some b) a g =
+      elim g [ inl told ↦ inl (told-alike u b (c - b) a told) | inr none ↦ inr (none.0, none-alike u b none.1) ]
 
   -- what a call was answered by
-  pub answered-alike : (u c : ℕ) (a : Ask K V D) (r : Answer K V T A) → IsAnsweredBy x bs u c a r → IsAnsweredBy x bs' u c a r
-  answered-alike u c (ask.Keyed k) r g = elim g [ inl told ↦ inl (told-alike u c 0 r told) | inr none ↦ inr (none.0, none.1, none-alike u c none.2) ]
-  answered-alike u c (ask.Begin b) r g = elim g [ inl told ↦ inl (told-alike u c 0 r told) | inr none ↦ inr (none.0, none-alike u c none.1) ]
+  pub answered-alike : (u c : ℕ) (a : Ask K V D) (r : Answer K V T A) → IsAnsweredBy x bs u c a r
+      → IsAnsweredBy x bs' u c a r
+  answered-alike u c (ask.Keyed k) r g =
+      elim g [ inl told ↦ inl (told-alike u c 0 r told) | inr none ↦ inr (none.0, none.1, none-alike u c none.2) ]
+  answered-alike u c (ask.Begin b) r g =
+      elim g [ inl told ↦ inl (told-alike u c 0 r told) | inr none ↦ inr (none.0, none-alike u c none.1) ]
   answered-alike u c (ask.Held d) r g = in_session-alike u c (session_of x u c) r g
-  answered-alike u c (ask.Walk f) r g = elim g [ inl walked ↦ inl (walked-again u c f r walked) | inr refused ↦ inr (refused.0, refused-again u c f refused.1) ]
+  answered-alike u c (ask.Walk f) r g =
+      elim g [
+        | inl walked ↦ inl (walked-again u c f r walked)
+        | inr refused ↦ inr
+            (refused.0, refused-again u c f refused.1)
+      ]
 
 -- an answer ends the block of its call, or all visits of its walk
 module _ {K : Type 0} (t n end : ℕ) where
@@ -234,7 +279,8 @@ module _ {K : Type 0} (t n end : ℕ) where
   abbrev AreOf : List (Block K) → List ℕ → Type 0
   AreOf bs visits = (i : ℕ) (b : Block K) → IsIn i visits → slice_get bs i ≡ Some b → (b.thread ≡ t) × (b.call ≡ n)
 
-  still-of : (bs : List (Block K)) (i : ℕ) (visits : List ℕ) (b c : Block K) → slice_get bs i ≡ Some b → EndsAt end b c → AreOf bs (i ∷ visits) → AreOf (slice_set bs i c) visits
+  still-of : (bs : List (Block K)) (i : ℕ) (visits : List ℕ) (b c : Block K) → slice_get bs i ≡ Some b → EndsAt end b c
+      → AreOf bs (i ∷ visits) → AreOf (slice_set bs i c) visits
   still-of bs i visits b c at e own j d in_ here =
       elim (slice_get-set_cases bs i j b d c at here) [
         | inl same ↦
@@ -243,7 +289,8 @@ module _ {K : Type 0} (t n end : ℕ) where
         | inr other ↦ own j d (suc in_.0, in_.1) other.1
       ]
 
-  visits-alike : (visits : List ℕ) (bs bs' : List (Block K)) → AreOf bs visits → EndsVisits bs visits end bs' → AreAlike t n end bs bs'
+  visits-alike : (visits : List ℕ) (bs bs' : List (Block K)) → AreOf bs visits → EndsVisits bs visits end bs'
+      → AreAlike t n end bs bs'
   visits-alike [] bs bs' own h = rw h (alike-same t n end bs)
   visits-alike (i ∷ visits) bs bs' own h =
       let b = h.0 in let c = h.1 in
@@ -251,7 +298,8 @@ module _ {K : Type 0} (t n end : ℕ) where
       alike-then t n end bs (slice_set bs i c) bs' (alike-set t n end bs i b c h.2 (shows-end b c was.0 was.1 h.3))
       (visits-alike visits (slice_set bs i c) bs' (still-of bs i visits b c h.2 h.3 own) h.4)
 
-  visits-end : (visits : List ℕ) (bs bs' : List (Block K)) → AreOf bs visits → EndsVisits bs visits end bs' → (j : ℕ) → IsIn j visits → (d : Block K) → slice_get bs' j ≡ Some d → d.end ≡ Some end
+  visits-end : (visits : List ℕ) (bs bs' : List (Block K)) → AreOf bs visits → EndsVisits bs visits end bs' → (j : ℕ)
+      → IsIn j visits → (d : Block K) → slice_get bs' j ≡ Some d → d.end ≡ Some end
   visits-end [] bs bs' own h j in_ d at = absurd (none-some j in_.1)
   visits-end (i ∷ visits) bs bs' own h j in_ d at =
       let rest-own = still-of bs i visits h.0 h.1 h.2 h.3 own in
@@ -260,21 +308,28 @@ module _ {K : Type 0} (t n end : ℕ) where
       -- what shows its end goes on showing it
       first : j ≡ i → d.end ≡ Some end
       first same =
-          let o = alike-was t n end (slice_set bs i h.1) bs' (visits-alike visits (slice_set bs i h.1) bs' (still-of bs i visits h.0 h.1 h.2 h.3 own) h.4) j d at in
-          let its : o.0 ≡ h.1 = same_Some o.0 h.1 (sym o.1 ∙ ap (λ k. slice_get (slice_set bs i h.1) k) same ∙ slice_get-set_same bs i h.0 h.1 h.2) in
+          let o = alike-was t n end (slice_set bs i h.1) bs'
+          (visits-alike visits (slice_set bs i h.1) bs' (still-of bs i visits h.0 h.1 h.2 h.3 own) h.4) j d at in
+          let its : o.0 ≡ h.1 =
+          same_Some o.0 h.1
+          (sym o.1 ∙ ap (λ k. slice_get (slice_set bs i h.1) k) same ∙ slice_get-set_same bs i h.0 h.1 h.2) in
           elim o.2.ended [ inl now ↦ now.2 | inr is ↦ ap (λ z. z.end) (is ∙ its) ∙ h.3.end ]
 
-      by-index : (k : ℕ) → slice_get (i ∷ visits) k ≡ Some j → ((l : ℕ) → slice_get visits l ≡ Some j → d.end ≡ Some end) → d.end ≡ Some end
+      by-index : (k : ℕ) → slice_get (i ∷ visits) k ≡ Some j
+          → ((l : ℕ) → slice_get visits l ≡ Some j → d.end ≡ Some end) → d.end ≡ Some end
       by-index zero e later = first (sym (same_Some i j e))
       by-index (suc k) e later = later k e
 
-module _ {K V D T A : Type 0} (x : Setup K V D T) (bs bs' : List (Block K)) (t : ℕ) (p : Place K V D T A) (own : HasOwnBlock bs t p) (visits : HasOwnVisits x bs t p) (owns : OwnsBlocks bs t p) (end : ℕ) where
+module _ {K V D T A : Type 0} (x : Setup K V D T) (bs bs' : List (Block K)) (t : ℕ) (p : Place K V D T A)
+    (own : HasOwnBlock bs t p) (visits : HasOwnVisits x bs t p) (owns : OwnsBlocks bs t p) (end : ℕ) where
   -- the blocks behind an answer are alike, and those of its call show its end
   abbrev pub Ended : Type 0
-  Ended = AreAlike t p.next end bs bs' × ((i : ℕ) (c : Block K) → slice_get bs' i ≡ Some c → c.thread ≡ t → c.call ≡ p.next → c.end ≡ Some end)
+  Ended = AreAlike t p.next end bs bs'
+      × ((i : ℕ) (c : Block K) → slice_get bs' i ≡ Some c → c.thread ≡ t → c.call ≡ p.next → c.end ≡ Some end)
 
   -- a block of the call is the place's own
-  own-of : AreAlike t p.next end bs bs' → (i : ℕ) (c : Block K) → slice_get bs' i ≡ Some c → c.thread ≡ t → c.call ≡ p.next → (p.block ≡ Some i) ⊎ IsIn i p.visits
+  own-of : AreAlike t p.next end bs bs' → (i : ℕ) (c : Block K) → slice_get bs' i ≡ Some c → c.thread ≡ t
+      → c.call ≡ p.next → (p.block ≡ Some i) ⊎ IsIn i p.visits
   own-of alike i c at thread call =
       let o = alike-was t p.next end bs bs' alike i c at in
       elim (owns i o.0 o.1 (sym o.2.thread ∙ thread)) [
@@ -311,7 +366,10 @@ module _ {K V D T A : Type 0} (x : Setup K V D T) (bs bs' : List (Block K)) (t :
             λ j c at thread call. elim (own-of alike j c at thread call) [
               | inl its ↦
                   let same : j ≡ i = same_Some j i (sym its ∙ mine) in
-                  let is : c ≡ h.1 = same_Some c h.1 (sym at ∙ ap (λ z. slice_get z j) h.4 ∙ ap (λ k. slice_get (slice_set bs i h.1) k) same ∙ slice_get-set_same bs i h.0 h.1 h.2) in
+                  let is : c ≡ h.1 =
+                  same_Some c h.1
+                  (sym at ∙ ap (λ z. slice_get z j) h.4 ∙ ap (λ k. slice_get (slice_set bs i h.1) k) same
+                  ∙ slice_get-set_same bs i h.0 h.1 h.2) in
                   ap (λ z. z.end) is ∙ ends (ap (λ z. z.call) (sym is) ∙ call)
               | inr in_ ↦ absurd (none-some j (sym (ap (λ (z : List ℕ). slice_get z in_.0) empty) ∙ in_.1))
             ],
@@ -338,4 +396,5 @@ module _ {K V D T A : Type 0} (x : Setup K V D T) (bs bs' : List (Block K)) (t :
     where
       by : (vs : List ℕ) → p.visits ≡ vs → EndsCall bs p.block vs p.next end bs' → Ended
       by [] empty h = ended-block p.block refl empty h
-      by (i ∷ vs) is h = ended-visits (subst (λ (z : List ℕ). EndsVisits bs z end bs') (sym is) h) i (0, ap (λ (z : List ℕ). slice_get z 0) is)
+      by (i ∷ vs) is h = ended-visits (subst (λ (z : List ℕ). EndsVisits bs z end bs') (sym is) h) i
+          (0, ap (λ (z : List ℕ). slice_get z 0) is)

@@ -1,5 +1,7 @@
 -- A find lists the call's block at its position, or finds that the shard has to grow first.
-use Rattle.std.proofs.Common.{◌≡◌, ◌≢◌, ℕ, ◌+◌, ◌-◌, ◌<◌, ◌≤◌, inl, Bool, true, false, if◌then◌else◌, List, [], ◌∷◌, ◌++◌, length, drop, Option, Some, None, IsSome, is_some, slice_get, slice_set, refl, ap, sym, ◌∙◌, subst, arith, length-append}
+use Rattle.std.proofs.Common.{◌≡◌, ◌≢◌, ℕ, ◌+◌, ◌-◌, ◌<◌, ◌≤◌, inl, Bool, true, false, if◌then◌else◌, List, [], ◌∷◌}
+use Rattle.std.proofs.Common.{◌++◌, length, drop, Option, Some, None, IsSome, is_some, slice_get, slice_set, refl, ap}
+use Rattle.std.proofs.Common.{sym, ◌∙◌, subst, arith, length-append}
 use Rattle.mapworld_state.specs.Shards.{ShardPairs, has_room}
 use Rattle.std.proofs.Math.ListN.{length-set}
 use Rattle.std.proofs.lemmas.Option.{same_Some, none-some, slice_get_within}
@@ -13,7 +15,8 @@ use Rattle.mapworld_calls.specs.declared.ask.Begin.TheVariants as begin
 use Rattle.mapworld_calls.specs.declared.block.Block.{Block}
 use Rattle.mapworld_calls.specs.declared.reply.Answer.{Answer}
 use Rattle.mapworld_calls.specs.declared.reply.Answer.TheVariants as answer
-use Rattle.mapworld_calls.specs.Calls.{At, free, vacant, pair_in, told, after, keyed_answer, keyed_leaves, opening_answer, opened}
+use Rattle.mapworld_calls.specs.Calls.{At, free, vacant, pair_in, told, after, keyed_answer, keyed_leaves}
+use Rattle.mapworld_calls.specs.Calls.{opening_answer, opened}
 use Rattle.mapworld_calls.specs.Programs.{keyed_key, key_of}
 use Rattle.mapworld_calls.specs.Setup.{Setup, Laws, session_of}
 use Rattle.mapworld_calls.specs.Pairs.{pair_of}
@@ -34,13 +37,20 @@ use Rattle.mapworld_state.specs.declared.place.Phase.{Phase}
 use Rattle.mapworld_state.specs.declared.place.Phase.TheVariants as phase
 use Rattle.mapworld_state.specs.Places.{Place}
 use Rattle.mapworld_state.specs.State.{State, threads_of, started_of}
-use Rattle.mapworld_state.specs.Moves.{request_key, keyed_mode, opening_way, opening_mode, mode_of, lent, stepped, request_of, growth_key, found_phase, found_done, found_guard, block_behind, IsListed, ListsBlock}
+use Rattle.mapworld_state.specs.Moves.{request_key, keyed_mode, opening_way, opening_mode, mode_of, lent, stepped}
+use Rattle.mapworld_state.specs.Moves.{request_of, growth_key, found_phase, found_done, found_guard, block_behind}
+use Rattle.mapworld_state.specs.Moves.{IsListed, ListsBlock}
 use Rattle.mapworld_state.specs.Steps.{Finds, GrowsShard, Views}
-use Rattle.mapworld_state.specs.Sound.{is_resting, may_own, block_after, GuardIs, HoldsShard, IsInCall, IsOnItsWay, IsBeforeDeed, HasReached, HasSession, IsInSession, IsReady, HasPairs, Claim, HasNoWalk, TablesAgree, Sound}
+use Rattle.mapworld_state.specs.Sound.{is_resting, may_own, block_after, GuardIs, HoldsShard, IsInCall, IsOnItsWay}
+use Rattle.mapworld_state.specs.Sound.{IsBeforeDeed, HasReached, HasSession, IsInSession, IsReady, HasPairs, Claim}
+use Rattle.mapworld_state.specs.Sound.{HasNoWalk, TablesAgree, Sound}
 use Rattle.mapworld_state.proofs.InvariantFacts.Others.{IsInCall-push}
 use Rattle.mapworld_state.proofs.InvariantFacts.Timing.{placed-same}
 use Rattle.mapworld_state.proofs.InvariantFacts.Holding.{holds-same, owes-none, stand-at}
-use Rattle.mapworld_state.proofs.InvariantFacts.Building.{Goes, in_call-moved, holds-moved, tables-same, tables-grown, started-stays, sound-by, claim-at, taken-at, within-at, none-at, none-moved, no-visits, reached-one, told-one, ready-outside}
+use Rattle.mapworld_state.proofs.InvariantFacts.Building.{Goes, in_call-moved, holds-moved, tables-same, tables-grown}
+use Rattle.mapworld_state.proofs.InvariantFacts.Building.{started-stays, sound-by, claim-at, taken-at, within-at}
+use Rattle.mapworld_state.proofs.InvariantFacts.Building.{none-at, none-moved, no-visits, reached-one, told-one}
+use Rattle.mapworld_state.proofs.InvariantFacts.Building.{ready-outside}
 use Rattle.mapworld_state.proofs.InvariantFacts.Admitting.{leaves-same, kept-alone, owns-on, keyed-apart, begin-apart}
 use Rattle.mapworld_state.proofs.InvariantFacts.Listing.{new-key, new-finds, new-before, sound-listed, contents-listed}
 
@@ -324,7 +334,9 @@ module _ {K V S D T A : Type 0} (x : Setup K V D T) (laws : Laws x) (w : State K
         (λ o h. ap pair_in (reached-new x laws w s sound p at _ c.0 k key c.1.shard not_yet table held listed.0 l o) ∙ opened-quiet b o))))
 
     -- an entry on an absent key for whose pair the shard has room, perhaps since it has grown
-    entered : (b : Begin K) (k : K) → key_of {V = V} {D = D} (ask.Begin b) ≡ Some k → opened {V = V} b None ≡ vacant k → opening_answer {V = V} {T = T} {A = A} b None ≡ answer.Vacant → (f : Phase K V D T A) → p.phase ≡ f → is_resting f ≡ false → may_own f ≡ false
+    entered : (b : Begin K) (k : K) → key_of {V = V} {D = D} (ask.Begin b) ≡ Some k → opened {V = V} b None ≡ vacant k
+        → opening_answer {V = V} {T = T} {A = A} b None ≡ answer.Vacant → (f : Phase K V D T A) → p.phase ≡ f
+        → is_resting f ≡ false → may_own f ≡ false
         → IsInCall x (threads_of w) s.thread p (ask.Begin b) → IsOnItsWay x p k → HoldsShard p Exclusive
         → pair_of x.eq table.items k ≡ None → (blocks : List (Block K)) → ListsBlock w s.thread p (Some 1) blocks
         → (tables' : List (ShardPairs K V)) → length tables' ≡ length w.tables
@@ -345,7 +357,9 @@ module _ {K V S D T A : Type 0} (x : Setup K V D T) (laws : Laws x) (w : State K
         (λ g k' e own. record {
           table = roomy.table;
           held = roomy.held;
-          so = subst (λ (z : K). pair_of x.eq roomy.table.items z ≡ pair_in (opened {V = V} b None)) (same_Some k k' (sym (new-key x laws w s sound p at _ call k key Exclusive holds way.shard not_yet 1 d l) ∙ own)) (roomy.so.1 ∙ sym (opened-quiet b None));
+          so = subst (λ (z : K). pair_of x.eq roomy.table.items z ≡ pair_in (opened {V = V} b None))
+              (same_Some k k' (sym (new-key x laws w s sound p at _ call k key Exclusive holds way.shard not_yet 1 d l)
+              ∙ own)) (roomy.so.1 ∙ sym (opened-quiet b None));
         }) in
         let none' : HasNoWalk p' = still f before unowned p' refl refl refl in
         subst (λ (z : List (Block K)). Goes x s.thread w (record (stepped w s p') { tables = tables'; blocks = z })) (sym listed.2)
@@ -519,7 +533,9 @@ module _ {K V S D T A : Type 0} (x : Setup K V D T) (laws : Laws x) (w : State K
   roomy-grown a = let len = a.grows.counted in let room = a.grows.room in lt-ltb (length a.grown.items) a.grown.room (omega arith)
 
   grown-entry : {w' : State K V S D T A} (a : GrowsShard x w s w') (g : Growth K V) (b : Begin K) (k : K) → a.place.phase ≡ phase.Grow g
-      → ((threads : List ℕ) (bs : List (Block K)) (tables : List (ShardPairs K V)) (p : Place K V D T A) → Claim x threads bs tables s.thread p (phase.Grow g) → IsInCall x threads s.thread p (ask.Begin b) × IsOnItsWay x p k × HoldsShard p Exclusive)
+      → ((threads : List ℕ) (bs : List (Block K)) (tables : List (ShardPairs K V)) (p : Place K V D T A)
+      → Claim x threads bs tables s.thread p (phase.Grow g) → IsInCall x threads s.thread p (ask.Begin b)
+      × IsOnItsWay x p k × HoldsShard p Exclusive)
       → key_of {V = V} {D = D} (ask.Begin b) ≡ Some k → opened {V = V} b None ≡ vacant k → opening_answer {V = V} {T = T} {A = A} b None ≡ answer.Vacant
       → pair_of x.eq a.table.items k ≡ None → ListsBlock w s.thread a.place (Some 1) a.blocks
       → Goes x s.thread w (record (stepped w s (record (a.place) { block = Some (length w.blocks); guard = Some (guard.Vacant k); phase = phase.Answer answer.Vacant })) {

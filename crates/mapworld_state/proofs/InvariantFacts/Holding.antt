@@ -1,8 +1,10 @@
 -- The places' holds match the locks: kept by a step that changes neither, and by each act of a thread at a lock.
-use Rattle.std.proofs.Common.{◌≡◌, ◌≢◌, ℕ, zero, suc, ◌⊎◌, inl, inr, ⊎_elim, Bool, true, false, List, [], ◌∷◌, ◌++◌, length, Option, Some, None, slice_get, slice_set, refl, ap, sym, ◌∙◌, subst, arith}
+use Rattle.std.proofs.Common.{◌≡◌, ◌≢◌, ℕ, zero, suc, ◌⊎◌, inl, inr, ⊎_elim, Bool, true, false, List, [], ◌∷◌, ◌++◌}
+use Rattle.std.proofs.Common.{length, Option, Some, None, slice_get, slice_set, refl, ap, sym, ◌∙◌, subst, arith}
 use Rattle.std.proofs.lemmas.Bool.{cases_eq, false≢true}
 use Rattle.std.proofs.lemmas.Option.{none-some, same_Some}
-use Rattle.mapworld_calls.proofs.Lists.{slice_get-set_cases, slice_get-push_below, slice_get-push_at, slice_get-push_cases}
+use Rattle.mapworld_calls.proofs.Lists.{slice_get-set_cases, slice_get-push_below, slice_get-push_at}
+use Rattle.mapworld_calls.proofs.Lists.{slice_get-push_cases}
 use Rattle.lock_api_desk.specs.declared.mode.Mode.{Mode as DeskMode}
 use Rattle.lock_api_desk.specs.declared.mode.Mode.TheVariants as desk
 use Rattle.lock_api_desk.specs.Guards.{excludes}
@@ -48,12 +50,14 @@ pub owes-none : {K V D T A : Type 0} (p : Place K V D T A) (o : Option Stand) �
 owes-none p o none = subst (λ (z : Option Stand). IsOwing p z) (sym none) tt
 
 module _ {K V D T A : Type 0} (p : Place K V D T A) (mode : Mode) (tries : Bool) (stand : Stand) where
-  wanting : IsWanting p mode tries (Some stand) → ((m : DeskMode) × (stand.shard ≡ p.shard) × (stand.aim ≡ Gets m)) ⊎ MayOwe p stand.shard stand.aim
+  wanting : IsWanting p mode tries (Some stand) → ((m : DeskMode) × (stand.shard ≡ p.shard) × (stand.aim ≡ Gets m))
+      ⊎ MayOwe p stand.shard stand.aim
   wanting h =
       let same = same_Some stand (record { shard = p.shard; aim = Gets (at_desk mode); trying = h.trying }) h.is in
       inl (at_desk mode, ap (λ (z : Stand). z.shard) same, ap (λ (z : Stand). z.aim) same)
 
-  moved-wanting : (trying : Bool) → (stand.trying ≡ false → trying ≡ false) → IsWanting p mode tries (Some stand) → IsWanting p mode tries (Some (record stand { trying = trying }))
+  moved-wanting : (trying : Bool) → (stand.trying ≡ false → trying ≡ false) → IsWanting p mode tries (Some stand)
+      → IsWanting p mode tries (Some (record stand { trying = trying }))
   moved-wanting trying patient h =
       let same = same_Some stand (record { shard = p.shard; aim = Gets (at_desk mode); trying = h.trying }) h.is in
       record {
@@ -88,7 +92,8 @@ in-call p (phase.Release a) stand h = absurd (none-some stand (sym h))
 in-call p (phase.Answer a) stand h = inr h
 
 -- a step of its call that isn't an answer leaves it where it stands: one that can't be refused stays so
-moved-stand : {K V D T A : Type 0} (p : Place K V D T A) (f : Phase K V D T A) (stand : Stand) (trying : Bool) → (stand.trying ≡ false → trying ≡ false) → StandsBefore p f (Some stand)
+moved-stand : {K V D T A : Type 0} (p : Place K V D T A) (f : Phase K V D T A) (stand : Stand) (trying : Bool)
+    → (stand.trying ≡ false → trying ≡ false) → StandsBefore p f (Some stand)
     → StandsBefore p f (Some (record stand { trying = trying }))
 moved-stand p phase.Rest stand trying patient h = absurd (none-some stand (sym h))
 moved-stand p (phase.Admit r) stand trying patient h = moved-wanting p (mode_of r) (request_tries r) stand trying patient h
@@ -113,7 +118,8 @@ moved-stand p (phase.Release a) stand trying patient h = absurd (none-some stand
 moved-stand p (phase.Answer a) stand trying patient h = h
 
 -- what may be owed, where something may be
-owes-at : {K V D T A : Type 0} (p : Place K V D T A) (f : Phase K V D T A) (o : Option Stand) → owes_in (class_of f) ≡ true → StandsBefore p f o → IsOwing p o
+owes-at : {K V D T A : Type 0} (p : Place K V D T A) (f : Phase K V D T A) (o : Option Stand)
+    → owes_in (class_of f) ≡ true → StandsBefore p f o → IsOwing p o
 owes-at p phase.Rest o owes h = absurd (false≢true owes)
 owes-at p (phase.Admit r) o owes h = absurd (false≢true owes)
 owes-at p (phase.Find r) o owes h = absurd (false≢true owes)
@@ -136,7 +142,8 @@ owes-at p (phase.Onward f) o owes h = h
 owes-at p (phase.Release a) o owes h = absurd (false≢true owes)
 owes-at p (phase.Answer a) o owes h = h
 
-owes-none-at : {K V D T A : Type 0} (p : Place K V D T A) (f : Phase K V D T A) (o : Option Stand) → owes_in (class_of f) ≡ true → o ≡ None → StandsBefore p f o
+owes-none-at : {K V D T A : Type 0} (p : Place K V D T A) (f : Phase K V D T A) (o : Option Stand)
+    → owes_in (class_of f) ≡ true → o ≡ None → StandsBefore p f o
 owes-none-at p phase.Rest o owes none = absurd (false≢true owes)
 owes-none-at p (phase.Admit r) o owes none = absurd (false≢true owes)
 owes-none-at p (phase.Find r) o owes none = absurd (false≢true owes)
@@ -159,15 +166,18 @@ owes-none-at p (phase.Onward f) o owes none = owes-none p o none
 owes-none-at p (phase.Release a) o owes none = absurd (false≢true owes)
 owes-none-at p (phase.Answer a) o owes none = owes-none p o none
 
--- what an act of a thread at the locks leaves of all others: their calls and holds, beside which one may have been handed the lock that it asks for
+-- what an act of a thread at the locks leaves of all others: their calls and holds, beside which one may have been
+-- handed the lock that it asks for
 pub record LeavesOthers (t : ℕ) (old new : Shown) : Type 0 where
   pub stands : (v : ℕ) → v ≢ t → stand_in new v ≡ stand_in old v
   pub kept : (v i : ℕ) (m : DeskMode) → v ≢ t → owner_in old i v ≡ Some m → owner_in new i v ≡ Some m
   pub gained : (v i : ℕ) (m : DeskMode) → v ≢ t → owner_in new i v ≡ Some m → (owner_in old i v ≡ Some m) ⊎ IsAt old v i
 
 -- where nobody's hold is another
-still-owned : (t : ℕ) (old new : Shown) → ((v : ℕ) → v ≢ t → stand_in new v ≡ stand_in old v) → ((v i : ℕ) → owner_in new i v ≡ owner_in old i v) → LeavesOthers t old new
-still-owned t old new stands holds = record { stands = stands; kept = λ v i m ne o. holds v i ∙ o; gained = λ v i m ne o. inl (sym (holds v i) ∙ o) }
+still-owned : (t : ℕ) (old new : Shown) → ((v : ℕ) → v ≢ t → stand_in new v ≡ stand_in old v)
+    → ((v i : ℕ) → owner_in new i v ≡ owner_in old i v) → LeavesOthers t old new
+still-owned t old new stands holds =
+    record { stands = stands; kept = λ v i m ne o. holds v i ∙ o; gained = λ v i m ne o. inl (sym (holds v i) ∙ o) }
 
 moved-others : (t : ℕ) (fair : Bool) (old new : Shown) → LockMoves t fair old new → LeavesOthers t old new
 moved-others t fair old new a = record {
@@ -176,21 +186,25 @@ moved-others t fair old new a = record {
   gained = λ v i m ne o. elim (a.gained v i m ne o) [ inl was ↦ inl was | inr at ↦ inr (at.0, at.1, at.2) ];
 }
 
-started-others : (t shard : ℕ) (call : LockCall) (fair : Bool) (old new : Shown) → LockStarts t shard call fair old new → LeavesOthers t old new
+started-others : (t shard : ℕ) (call : LockCall) (fair : Bool) (old new : Shown) → LockStarts t shard call fair old new
+    → LeavesOthers t old new
 started-others t shard call fair old new a =
     let b = a.begins in let g = moved-others t fair a.mid new a.moves in
     record {
       stands = λ v ne. g.stands v ne ∙ b.others v ne;
       kept = λ v i m ne o. g.kept v i m ne (b.holds v i ∙ o);
-      gained = λ v i m ne o. elim (g.gained v i m ne o) [ inl was ↦ inl (sym (b.holds v i) ∙ was) | inr at ↦ inr (at.0, sym (b.others v ne) ∙ at.1, at.2) ];
+      gained = λ v i m ne o. elim (g.gained v i m ne o)
+          [ inl was ↦ inl (sym (b.holds v i) ∙ was) | inr at ↦ inr (at.0, sym (b.others v ne) ∙ at.1, at.2) ];
     }
 
 -- what is so of a thread's own place, beside those of others
-pub record OwnMatches {K V D T A : Type 0} (places : List (Place K V D T A)) (t : ℕ) (p : Place K V D T A) (locks : Shown) : Type 0 where
+pub record OwnMatches {K V D T A : Type 0} (places : List (Place K V D T A)) (t : ℕ) (p : Place K V D T A)
+    (locks : Shown) : Type 0 where
   pub owned : (i : ℕ) (a : Hold) → slice_get p.holds i ≡ Some a → owner_in locks a.shard t ≡ Some (at_desk a.mode)
   pub known : (shard : ℕ) (m : DeskMode) → owner_in locks shard t ≡ Some m → IsAmong shard m p.holds ⊎ IsAt locks t shard
   pub once : (i j : ℕ) (a b : Hold) → slice_get p.holds i ≡ Some a → slice_get p.holds j ≡ Some b → a.shard ≡ b.shard → i ≡ j
-  pub compatible : (u i j : ℕ) (q : Place K V D T A) (a b : Hold) → u ≢ t → slice_get places u ≡ Some q → slice_get p.holds i ≡ Some a → slice_get q.holds j ≡ Some b → a.shard ≡ b.shard
+  pub compatible : (u i j : ℕ) (q : Place K V D T A) (a b : Hold) → u ≢ t → slice_get places u ≡ Some q
+      → slice_get p.holds i ≡ Some a → slice_get q.holds j ≡ Some b → a.shard ≡ b.shard
       → (a.mode ≡ Shared) × (b.mode ≡ Shared)
   pub stands : StandsBefore p p.phase (stand_in locks t)
 
@@ -198,18 +212,22 @@ module _ {K V D T A : Type 0} (places : List (Place K V D T A)) (locks : Shown) 
   -- two threads that hold one shard share it
   pub exclusion : (t u : ℕ) (p q : Place K V D T A) (a b : Hold) → t ≢ u → slice_get places t ≡ Some p → slice_get places u ≡ Some q
       → p.holds ≡ a ∷ [] → q.holds ≡ b ∷ [] → a.shard ≡ b.shard → (a.mode ≡ Shared) × (b.mode ≡ Shared)
-  exclusion t u p q a b ne hp hq ha hb shard = h.compatible t u 0 0 p q a b ne hp hq (first-there p.holds a [] ha) (first-there q.holds b [] hb) shard
+  exclusion t u p q a b ne hp hq ha hb shard = h.compatible t u 0 0 p q a b ne hp hq (first-there p.holds a [] ha)
+      (first-there q.holds b [] hb) shard
 
   -- the lock's call that a thread is in, by the phase that it stands before
-  pub stand-at : (t : ℕ) (p : Place K V D T A) → slice_get places t ≡ Some p → (f : Phase K V D T A) → p.phase ≡ f → StandsBefore p f (stand_in locks t)
+  pub stand-at : (t : ℕ) (p : Place K V D T A) → slice_get places t ≡ Some p → (f : Phase K V D T A) → p.phase ≡ f
+      → StandsBefore p f (stand_in locks t)
   stand-at t p at f before = subst (λ (g : Phase K V D T A). StandsBefore p g (stand_in locks t)) before (h.stands t p at)
 
   module _ (t : ℕ) (p p' : Place K V D T A) (at : slice_get places t ≡ Some p) where
     -- a thread that another one's step leaves, and the one that made it
-    there : (u : ℕ) (q : Place K V D T A) → slice_get (slice_set places t p') u ≡ Some q → ((u ≡ t) × (q ≡ p')) ⊎ ((u ≢ t) × (slice_get places u ≡ Some q))
+    there : (u : ℕ) (q : Place K V D T A) → slice_get (slice_set places t p') u ≡ Some q → ((u ≡ t) × (q ≡ p'))
+        ⊎ ((u ≢ t) × (slice_get places u ≡ Some q))
     there u q hq = slice_get-set_cases places t u p q p' at hq
 
-    holds-by : (locks' : Shown) → LeavesOthers t locks locks' → OwnMatches places t p' locks' → HoldsMatch (slice_set places t p') locks'
+    holds-by : (locks' : Shown) → LeavesOthers t locks locks' → OwnMatches places t p' locks'
+        → HoldsMatch (slice_set places t p') locks'
     holds-by locks' others own = record {
       owned = λ u i q a hq ha. elim (there u q hq) [
         | inl mine ↦ ap (λ v. owner_in locks' a.shard v) mine.0 ∙ own.owned i a (now i q a mine.1 ha)
@@ -253,8 +271,10 @@ module _ {K V D T A : Type 0} (places : List (Place K V D T A)) (locks : Shown) 
     was-among same shard m o = subst (λ (hs : List Hold). IsAmong shard m hs) (sym same) o
 
     -- without another hold, where each hold is still owned
-    own-same : p'.holds ≡ p.holds → (locks' : Shown) → ((i : ℕ) (a : Hold) → slice_get p.holds i ≡ Some a → owner_in locks' a.shard t ≡ Some (at_desk a.mode))
-        → ((shard : ℕ) (m : DeskMode) → owner_in locks' shard t ≡ Some m → IsAmong shard m p.holds ⊎ IsAt locks' t shard) → StandsBefore p' p'.phase (stand_in locks' t)
+    own-same : p'.holds ≡ p.holds → (locks' : Shown)
+        → ((i : ℕ) (a : Hold) → slice_get p.holds i ≡ Some a → owner_in locks' a.shard t ≡ Some (at_desk a.mode))
+        → ((shard : ℕ) (m : DeskMode) → owner_in locks' shard t ≡ Some m → IsAmong shard m p.holds
+        ⊎ IsAt locks' t shard) → StandsBefore p' p'.phase (stand_in locks' t)
         → OwnMatches places t p' locks'
     own-same same locks' owned known stands = record {
       owned = λ i a ha. owned i a (was same i a ha);
@@ -271,36 +291,53 @@ module _ {K V D T A : Type 0} (places : List (Place K V D T A)) (locks : Shown) 
         (own-same same locks (λ i a ha. h.owned t i p a at ha) (λ shard m o. h.known t shard p m at o) stands)
 
     -- it begins a call, and has the holds that it had
-    pub holds-begun : p'.holds ≡ p.holds → stand_in locks t ≡ None → (locks' : Shown) (shard : ℕ) (call : LockCall) → LockBegins t shard call locks locks'
-        → StandsBefore p' p'.phase (Some (record { shard = shard; aim = aim_of call; trying = is_try call })) → HoldsMatch (slice_set places t p') locks'
+    pub holds-begun : p'.holds ≡ p.holds → stand_in locks t ≡ None → (locks' : Shown) (shard : ℕ) (call : LockCall)
+        → LockBegins t shard call locks locks'
+        → StandsBefore p' p'.phase (Some (record { shard = shard; aim = aim_of call; trying = is_try call }))
+        → HoldsMatch (slice_set places t p') locks'
     holds-begun same out locks' shard call a stands =
         holds-by locks' (still-owned t locks locks' a.others a.holds)
         (own-same same locks' (λ i b hb. a.holds t b.shard ∙ h.owned t i p b at hb)
-        (λ i m o. elim (h.known t i p m at (sym (a.holds t i) ∙ o)) [ inl among ↦ inl among | inr is ↦ absurd (none-some is.0 (sym out ∙ is.1)) ])
+        (λ i m o. elim (h.known t i p m at (sym (a.holds t i) ∙ o))
+        [ inl among ↦ inl among | inr is ↦ absurd (none-some is.0 (sym out ∙ is.1)) ])
         (subst (λ (o : Option Stand). StandsBefore p' p'.phase o) (sym a.stand) stands))
 
     -- no call is begun
-    unlocked : p'.holds ≡ p.holds → stand_in locks t ≡ None → (locks' : Shown) (f : Phase K V D T A) → p'.phase ≡ f → StandsBefore p' f None → locks' ≡ locks → HoldsMatch (slice_set places t p') locks'
+    unlocked : p'.holds ≡ p.holds → stand_in locks t ≡ None → (locks' : Shown) (f : Phase K V D T A) → p'.phase ≡ f
+        → StandsBefore p' f None → locks' ≡ locks → HoldsMatch (slice_set places t p') locks'
     unlocked same out locks' f is stands e =
         subst (λ (l : Shown). HoldsMatch (slice_set places t p') l) (sym e)
-        (holds-same same (subst (λ (g : Phase K V D T A). StandsBefore p' g (stand_in locks t)) (sym is) (subst (λ (o : Option Stand). StandsBefore p' f o) (sym out) stands)))
+        (holds-same same (subst (λ (g : Phase K V D T A). StandsBefore p' g (stand_in locks t)) (sym is)
+        (subst (λ (o : Option Stand). StandsBefore p' f o) (sym out) stands)))
 
     -- the call that it begins asks for its shard
-    begun-wanting : (mode : Mode) (tries : Bool) → IsWanting p' mode tries (Some (record { shard = p'.shard; aim = aim_of (wants_for tries mode); trying = is_try (wants_for tries mode) }))
+    begun-wanting : (mode : Mode) (tries : Bool)
+        → IsWanting p' mode tries
+        (Some (record {
+          shard = p'.shard;
+          aim = aim_of (wants_for tries mode);
+          trying = is_try (wants_for tries mode);
+        }))
     begun-wanting Shared true = record { trying = true; is = refl; patient = λ e. absurd (false≢true (sym e)) }
     begun-wanting Exclusive true = record { trying = true; is = refl; patient = λ e. absurd (false≢true (sym e)) }
     begun-wanting Shared false = record { trying = false; is = refl; patient = λ e. refl }
     begun-wanting Exclusive false = record { trying = false; is = refl; patient = λ e. refl }
 
-    begun-at : p'.holds ≡ p.holds → stand_in locks t ≡ None → (locks' : Shown) (f : Phase K V D T A) → p'.phase ≡ f → (call : LockCall) → LockBegins t p'.shard call locks locks'
-        → StandsBefore p' f (Some (record { shard = p'.shard; aim = aim_of call; trying = is_try call })) → HoldsMatch (slice_set places t p') locks'
+    begun-at : p'.holds ≡ p.holds → stand_in locks t ≡ None → (locks' : Shown) (f : Phase K V D T A) → p'.phase ≡ f
+        → (call : LockCall) → LockBegins t p'.shard call locks locks'
+        → StandsBefore p' f (Some (record { shard = p'.shard; aim = aim_of call; trying = is_try call }))
+        → HoldsMatch (slice_set places t p') locks'
     begun-at same out locks' f is call a stands =
-        holds-begun same out locks' p'.shard call a (subst (λ (g : Phase K V D T A). StandsBefore p' g (Some (record { shard = p'.shard; aim = aim_of call; trying = is_try call }))) (sym is) stands)
+        holds-begun same out locks' p'.shard call a
+        (subst (λ (g : Phase K V D T A). StandsBefore p' g
+        (Some (record { shard = p'.shard; aim = aim_of call; trying = is_try call }))) (sym is) stands)
 
     -- the call of its shard's lock is begun where it is to wait there, and else none
-    pub holds-entered : p'.holds ≡ p.holds → stand_in locks t ≡ None → (locks' : Shown) (f : Phase K V D T A) → p'.phase ≡ f → EntersBy t p'.shard f locks locks' → HoldsMatch (slice_set places t p') locks'
+    pub holds-entered : p'.holds ≡ p.holds → stand_in locks t ≡ None → (locks' : Shown) (f : Phase K V D T A)
+        → p'.phase ≡ f → EntersBy t p'.shard f locks locks' → HoldsMatch (slice_set places t p') locks'
     holds-entered same out locks' phase.Rest is a = unlocked same out locks' phase.Rest is refl a
-    holds-entered same out locks' (phase.Admit r) is a = begun-at same out locks' (phase.Admit r) is (wants_for (request_tries r) (mode_of r)) a (begun-wanting (mode_of r) (request_tries r))
+    holds-entered same out locks' (phase.Admit r) is a = begun-at same out locks' (phase.Admit r) is
+        (wants_for (request_tries r) (mode_of r)) a (begun-wanting (mode_of r) (request_tries r))
     holds-entered same out locks' (phase.Find r) is a = unlocked same out locks' (phase.Find r) is refl a
     holds-entered same out locks' (phase.Grow c) is a = unlocked same out locks' (phase.Grow c) is refl a
     holds-entered same out locks' (phase.Append k v) is a = unlocked same out locks' (phase.Append k v) is refl a
@@ -311,7 +348,8 @@ module _ {K V D T A : Type 0} (places : List (Place K V D T A)) (locks : Shown) 
     holds-entered same out locks' (phase.Fill v) is a = unlocked same out locks' (phase.Fill v) is refl a
     holds-entered same out locks' phase.Downgrade is a = unlocked same out locks' phase.Downgrade is refl a
     holds-entered same out locks' (phase.Idle f) is a = unlocked same out locks' (phase.Idle f) is refl a
-    holds-entered same out locks' (phase.Reach f) is a = begun-at same out locks' (phase.Reach f) is (asks_for (walk_mode f)) a (begun-wanting (walk_mode f) false)
+    holds-entered same out locks' (phase.Reach f) is a = begun-at same out locks' (phase.Reach f) is
+        (asks_for (walk_mode f)) a (begun-wanting (walk_mode f) false)
     holds-entered same out locks' (phase.Part f) is a = unlocked same out locks' (phase.Part f) is refl a
     holds-entered same out locks' (phase.Visit f) is a = unlocked same out locks' (phase.Visit f) is tt a
     holds-entered same out locks' (phase.Seek f) is a = unlocked same out locks' (phase.Seek f) is refl a
@@ -326,7 +364,8 @@ module _ {K V D T A : Type 0} (places : List (Place K V D T A)) (locks : Shown) 
     only-now a taken i b hb = only-first p'.holds a i b taken hb
 
     -- its admission is over, and it has one hold more, of a shard of which it had none
-    module _ (a : Hold) (taken : p'.holds ≡ p.holds ++ a ∷ []) (apart : (i : ℕ) (b : Hold) → slice_get p.holds i ≡ Some b → b.shard ≢ a.shard) where
+    module _ (a : Hold) (taken : p'.holds ≡ p.holds ++ a ∷ [])
+        (apart : (i : ℕ) (b : Hold) → slice_get p.holds i ≡ Some b → b.shard ≢ a.shard) where
       either : (i : ℕ) (b : Hold) → slice_get p'.holds i ≡ Some b → (slice_get p.holds i ≡ Some b) ⊎ ((i ≡ length p.holds) × (b ≡ a))
       either i b hb = slice_get-push_cases p.holds i b a (ap (λ hs. slice_get hs i) (sym taken) ∙ hb)
 
@@ -340,7 +379,8 @@ module _ {K V D T A : Type 0} (places : List (Place K V D T A)) (locks : Shown) 
       }
 
       pub holds-admitted : (answer : CoreAnswer) (locks' : Shown) (e : LockEnds t answer locks locks') → e.stand.shard ≡ a.shard
-          → owner_in locks' a.shard t ≡ Some (at_desk a.mode) → StandsBefore p' p'.phase None → HoldsMatch (slice_set places t p') locks'
+          → owner_in locks' a.shard t ≡ Some (at_desk a.mode) → StandsBefore p' p'.phase None
+          → HoldsMatch (slice_set places t p') locks'
       holds-admitted answer locks' e shard mine stands =
           holds-by locks' (still-owned t locks locks' e.others e.holds) (record {
             owned = λ i b hb. elim (either i b hb) [
@@ -361,22 +401,27 @@ module _ {K V D T A : Type 0} (places : List (Place K V D T A)) (locks : Shown) 
                   })
             ];
             once = λ i j b c hb hc same. ⊎_elim
-                (λ old. ⊎_elim (λ older. h.once t i j p b c at old older same) (λ new. absurd (apart i b old (same ∙ ap (λ (z : Hold). z.shard) new.1))) (either j c hc))
-                (λ new. ⊎_elim (λ old. absurd (apart j c old (sym same ∙ ap (λ (z : Hold). z.shard) new.1))) (λ newer. new.0 ∙ sym newer.0) (either j c hc))
+                (λ old. ⊎_elim (λ older. h.once t i j p b c at old older same)
+                (λ new. absurd (apart i b old (same ∙ ap (λ (z : Hold). z.shard) new.1))) (either j c hc))
+                (λ new. ⊎_elim (λ old. absurd (apart j c old (sym same ∙ ap (λ (z : Hold). z.shard) new.1)))
+                (λ newer. new.0 ∙ sym newer.0) (either j c hc))
                 (either i b hb);
             compatible = λ u i j q b c ne hq hb hc same. ⊎_elim
                 (λ old. h.compatible t u i j p q b c (λ z. ne (sym z)) at hq old hc same)
                 (λ new.
                 let here : c.shard ≡ a.shard = sym same ∙ ap (λ (z : Hold). z.shard) new.1 in
-                let theirs : owner_in locks' a.shard u ≡ Some (at_desk c.mode) = ap (λ k. owner_in locks' k u) (sym here) ∙ e.holds u c.shard ∙ h.owned u j q c hq hc in
-                let both = both-share a.mode c.mode (e.together a.shard t u (at_desk a.mode) (at_desk c.mode) (λ z. ne (sym z)) mine theirs) in
+                let theirs : owner_in locks' a.shard u ≡ Some (at_desk c.mode) = ap (λ k. owner_in locks' k u)
+                (sym here) ∙ e.holds u c.shard ∙ h.owned u j q c hq hc in
+                let both = both-share a.mode c.mode
+                (e.together a.shard t u (at_desk a.mode) (at_desk c.mode) (λ z. ne (sym z)) mine theirs) in
                 (ap (λ (z : Hold). z.mode) new.1 ∙ both.0, both.1))
                 (either i b hb);
             stands = subst (λ (o : Option Stand). StandsBefore p' p'.phase o) (sym e.gone) stands;
           })
 
     -- it was refused its shard, and has the holds that it had
-    pub holds-refused : p'.holds ≡ p.holds → (locks' : Shown) (e : LockEnds t Refused locks locks') (m : DeskMode) → e.stand.aim ≡ Gets m → StandsBefore p' p'.phase None → HoldsMatch (slice_set places t p') locks'
+    pub holds-refused : p'.holds ≡ p.holds → (locks' : Shown) (e : LockEnds t Refused locks locks') (m : DeskMode)
+        → e.stand.aim ≡ Gets m → StandsBefore p' p'.phase None → HoldsMatch (slice_set places t p') locks'
     holds-refused same locks' e m aim stands =
         holds-by locks' (still-owned t locks locks' e.others e.holds)
         (own-same same locks' (λ i b hb. e.holds t b.shard ∙ h.owned t i p b at hb)
@@ -389,9 +434,11 @@ module _ {K V D T A : Type 0} (places : List (Place K V D T A)) (locks : Shown) 
         (subst (λ (o : Option Stand). StandsBefore p' p'.phase o) (sym e.gone) stands))
 
     -- a lock's call that gives its first hold up or shares it has begun, and has made its first act
-    module _ (a : Hold) (more : List Hold) (held : p.holds ≡ a ∷ more) (out : stand_in locks t ≡ None) (call : LockCall) (fair : Bool) (locks' : Shown) (s : LockStarts t a.shard call fair locks locks') where
+    module _ (a : Hold) (more : List Hold) (held : p.holds ≡ a ∷ more) (out : stand_in locks t ≡ None) (call : LockCall)
+        (fair : Bool) (locks' : Shown) (s : LockStarts t a.shard call fair locks locks') where
       stand-is : s.moves.stand ≡ record { shard = a.shard; aim = aim_of call; trying = is_try call }
-      stand-is = same_Some s.moves.stand (record { shard = a.shard; aim = aim_of call; trying = is_try call }) (sym s.moves.stood ∙ s.begins.stand)
+      stand-is = same_Some s.moves.stand (record { shard = a.shard; aim = aim_of call; trying = is_try call })
+          (sym s.moves.stood ∙ s.begins.stand)
 
       stand-now : stand_in locks' t ≡ Some (record { shard = a.shard; aim = aim_of call; trying = s.moves.trying })
       stand-now = s.moves.stands ∙ ap (λ (z : Stand). Some (record z { trying = s.moves.trying })) stand-is
@@ -424,14 +471,19 @@ module _ {K V D T A : Type 0} (places : List (Place K V D T A)) (locks : Shown) 
           ])
           (cases_eq i a.shard)
 
-      pub holds-given : (m : Mode) → call ≡ gives_up m → p'.holds ≡ more → ((o : Option Stand) → IsOwing p' o → StandsBefore p' p'.phase o) → HoldsMatch (slice_set places t p') locks'
+      pub holds-given : (m : Mode) → call ≡ gives_up m → p'.holds ≡ more
+          → ((o : Option Stand) → IsOwing p' o → StandsBefore p' p'.phase o) → HoldsMatch (slice_set places t p') locks'
       holds-given m gives left owes =
           holds-by locks' (started-others t a.shard call fair locks locks' s) (record {
-            owned = λ i b hb. let here = there-still i b hb in apart-same b.shard (elsewhere i b here) ∙ h.owned t (suc i) p b at (behind i b here);
-            known = λ i m o. elim (known-now i m o) [ inl among ↦ inl (subst (λ (hs : List Hold). IsAmong i m hs) (sym left) among) | inr is ↦ inr is ];
+            owned = λ i b hb. let here = there-still i b hb in apart-same b.shard (elsewhere i b here)
+                ∙ h.owned t (suc i) p b at (behind i b here);
+            known = λ i m o. elim (known-now i m o)
+                [ inl among ↦ inl (subst (λ (hs : List Hold). IsAmong i m hs) (sym left) among) | inr is ↦ inr is ];
             once = λ i j b c hb hc same.
-                let e = h.once t (suc i) (suc j) p b c at (behind i b (there-still i b hb)) (behind j c (there-still j c hc)) same in omega arith;
-            compatible = λ u i j q b c ne hq hb hc same. h.compatible t u (suc i) j p q b c (λ z. ne (sym z)) at hq (behind i b (there-still i b hb)) hc same;
+                let e = h.once t (suc i) (suc j) p b c at (behind i b (there-still i b hb))
+                (behind j c (there-still j c hc)) same in omega arith;
+            compatible = λ u i j q b c ne hq hb hc same. h.compatible t u (suc i) j p q b c (λ z. ne (sym z)) at hq
+                (behind i b (there-still i b hb)) hc same;
             stands = owes (stand_in locks' t) (subst (λ (o : Option Stand). IsOwing p' o) (sym stand-now) (rw gives (gone m)));
           })
         where
@@ -442,27 +494,36 @@ module _ {K V D T A : Type 0} (places : List (Place K V D T A)) (locks : Shown) 
           gone Shared = λ i b hb. elsewhere i b (there-still i b hb)
           gone Exclusive = λ i b hb. elsewhere i b (there-still i b hb)
 
-      pub holds-shared : more ≡ [] → call ≡ Downgrade → p'.holds ≡ record a { mode = Shared } ∷ [] → ((o : Option Stand) → IsOwing p' o → StandsBefore p' p'.phase o) → HoldsMatch (slice_set places t p') locks'
+      pub holds-shared : more ≡ [] → call ≡ Downgrade → p'.holds ≡ record a { mode = Shared } ∷ []
+          → ((o : Option Stand) → IsOwing p' o → StandsBefore p' p'.phase o) → HoldsMatch (slice_set places t p') locks'
       holds-shared only turns taken owes =
           let now-held : Hold = record a { mode = Shared } in
           holds-by locks' (started-others t a.shard call fair locks locks' s) (record {
-            owned = λ i b hb. subst (λ (z : Hold). owner_in locks' z.shard t ≡ Some (at_desk z.mode)) (only-now now-held taken i b hb).1 (s.turned turns);
-            known = λ i m o. elim (known-now i m o) [ inl among ↦ absurd (none-there more among.index among.hold only among.there) | inr is ↦ inr is ];
+            owned = λ i b hb. subst (λ (z : Hold). owner_in locks' z.shard t ≡ Some (at_desk z.mode))
+                (only-now now-held taken i b hb).1 (s.turned turns);
+            known = λ i m o. elim (known-now i m o)
+                [ inl among ↦ absurd (none-there more among.index among.hold only among.there) | inr is ↦ inr is ];
             once = λ i j b c hb hc same. (only-now now-held taken i b hb).0 ∙ sym (only-now now-held taken j c hc).0;
             compatible = λ u i j q b c ne hq hb hc same.
                 let its = (only-now now-held taken i b hb).1 in
-                let both = h.compatible t u 0 j p q a c (λ z. ne (sym z)) at hq (first-there p.holds a more held) hc (ap (λ (z : Hold). z.shard) its ∙ same) in
+                let both = h.compatible t u 0 j p q a c (λ z. ne (sym z)) at hq (first-there p.holds a more held) hc
+                (ap (λ (z : Hold). z.shard) its ∙ same) in
                 (ap (λ (z : Hold). z.mode) (sym its), both.1);
-            stands = owes (stand_in locks' t) (subst (λ (o : Option Stand). IsOwing p' o) (sym stand-now) (rw turns (now-held, taken, refl, refl)));
+            stands = owes (stand_in locks' t)
+                (subst (λ (o : Option Stand). IsOwing p' o) (sym stand-now) (rw turns (now-held, taken, refl, refl)));
           })
 
   module _ (t : ℕ) (p : Place K V D T A) (at : slice_get places t ≡ Some p) where
     -- a step of a lock's call that isn't an answer: a thread that waits for a shard has no hold of it yet
-    pub holds-stepped : (fair : Bool) (locks' : Shown) (a : LockMoves t fair locks locks') → ((m : DeskMode) → a.stand.aim ≡ Gets m → (i : ℕ) (b : Hold) → slice_get p.holds i ≡ Some b → b.shard ≢ a.stand.shard)
+    pub holds-stepped : (fair : Bool) (locks' : Shown) (a : LockMoves t fair locks locks')
+        → ((m : DeskMode) → a.stand.aim ≡ Gets m → (i : ℕ) (b : Hold) → slice_get p.holds i ≡ Some b
+        → b.shard ≢ a.stand.shard)
         → HoldsMatch (slice_set places t p) locks'
     holds-stepped fair locks' a waits =
         holds-by t p p at locks' (moved-others t fair locks locks' a)
-        (own-same t p p at refl locks' owned known (subst (λ (o : Option Stand). StandsBefore p p.phase o) (sym a.stands) (moved-stand p p.phase a.stand a.trying a.patient stood)))
+        (own-same t p p at refl locks' owned known
+        (subst (λ (o : Option Stand). StandsBefore p p.phase o) (sym a.stands)
+        (moved-stand p p.phase a.stand a.trying a.patient stood)))
       where
         stood : StandsBefore p p.phase (Some a.stand)
         stood = subst (λ (o : Option Stand). StandsBefore p p.phase o) a.stood (h.stands t p at)
@@ -477,13 +538,16 @@ module _ {K V D T A : Type 0} (places : List (Place K V D T A)) (locks : Shown) 
             (cases_eq i a.stand.shard)
 
         -- what it owes leaves its shared hold
-        owed : (aim : Aim) → a.stand.aim ≡ aim → MayOwe p a.stand.shard aim → (i : ℕ) (b : Hold) → slice_get p.holds i ≡ Some b → b.shard ≡ a.stand.shard → owner_in locks' a.stand.shard t ≡ Some (at_desk b.mode)
+        owed : (aim : Aim) → a.stand.aim ≡ aim → MayOwe p a.stand.shard aim → (i : ℕ) (b : Hold)
+            → slice_get p.holds i ≡ Some b → b.shard ≡ a.stand.shard → owner_in locks' a.stand.shard t ≡ Some
+            (at_desk b.mode)
         owed (Gets m) is owes i b hb here = absurd owes
         owed (GivesUp m) is owes i b hb here = absurd (owes i b hb here)
         owed Turns is owes i b hb here =
             let its : owes.0 ≡ b = (only-first p.holds owes.0 i b owes.1 hb).1 in
             let shares : b.mode ≡ Shared = ap (λ (z : Hold). z.mode) (sym its) ∙ owes.3 in
-            a.turned is (ap (λ k. owner_in locks k t) (sym here) ∙ h.owned t i p b at hb ∙ ap (λ m. Some (at_desk m)) shares) ∙ ap (λ m. Some (at_desk m)) (sym shares)
+            a.turned is (ap (λ k. owner_in locks k t) (sym here) ∙ h.owned t i p b at hb
+            ∙ ap (λ m. Some (at_desk m)) shares) ∙ ap (λ m. Some (at_desk m)) (sym shares)
 
         owned : (i : ℕ) (b : Hold) → slice_get p.holds i ≡ Some b → owner_in locks' b.shard t ≡ Some (at_desk b.mode)
         owned i b hb = ⊎_elim
@@ -495,16 +559,19 @@ module _ {K V D T A : Type 0} (places : List (Place K V D T A)) (locks : Shown) 
             (cases_eq b.shard a.stand.shard)
 
     -- what was owed to a lock is done
-    pub holds-left : owes_in (class_of p.phase) ≡ true → (answer : CoreAnswer) (locks' : Shown) → LockEnds t answer locks locks' → HoldsMatch places locks'
+    pub holds-left : owes_in (class_of p.phase) ≡ true → (answer : CoreAnswer) (locks' : Shown)
+        → LockEnds t answer locks locks' → HoldsMatch places locks'
     holds-left may answer locks' e =
         subst (λ (ps : List (Place K V D T A)). HoldsMatch ps locks') (set_same places t p at)
         (holds-by t p p at locks' (still-owned t locks locks' e.others e.holds)
-        (own-same t p p at refl locks' (λ i b hb. e.holds t b.shard ∙ h.owned t i p b at hb) known (owes-none-at p p.phase (stand_in locks' t) may e.gone)))
+        (own-same t p p at refl locks' (λ i b hb. e.holds t b.shard ∙ h.owned t i p b at hb) known
+        (owes-none-at p p.phase (stand_in locks' t) may e.gone)))
       where
         owes : MayOwe p e.stand.shard e.stand.aim
         owes = subst (λ (o : Option Stand). IsOwing p o) e.stood (owes-at p p.phase (stand_in locks t) may (h.stands t p at))
 
-        done : (aim : Aim) → e.stand.aim ≡ aim → MayOwe p e.stand.shard aim → (m : DeskMode) → owner_in locks' e.stand.shard t ≡ Some m → IsAmong e.stand.shard m p.holds
+        done : (aim : Aim) → e.stand.aim ≡ aim → MayOwe p e.stand.shard aim → (m : DeskMode)
+            → owner_in locks' e.stand.shard t ≡ Some m → IsAmong e.stand.shard m p.holds
         done (Gets mode) is owes m o = absurd owes
         done (GivesUp mode) is owes m o = absurd (none-some m (sym (e.freed mode is) ∙ o))
         done Turns is owes m o = record {

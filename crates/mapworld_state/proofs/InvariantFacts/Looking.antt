@@ -1,5 +1,8 @@
 -- A walk's look into a shard: it lists the block of its visit, or is refused the room that it needs.
-use Rattle.std.proofs.Common.{◌≡◌, ◌≢◌, ℕ, suc, ◌+◌, ◌≤◌, ◌⊎◌, ◌==◌, ◌&&◌, inl, inr, ⊎_elim, IsSome, Bool, true, false, if◌then◌else◌, List, [], ◌∷◌, ◌++◌, append-nil, length, length-append, length-set, map, flat_map, take, take_all, drop, Option, Some, slice_get, slice_set, refl, ap, sym, ◌∙◌, subst, arith}
+use Rattle.std.proofs.Common.{◌≡◌, ◌≢◌, ℕ, suc, ◌+◌, ◌≤◌, ◌⊎◌, ◌==◌, ◌&&◌, inl, inr, ⊎_elim, IsSome, Bool, true, false}
+use Rattle.std.proofs.Common.{if◌then◌else◌, List, [], ◌∷◌, ◌++◌, append-nil, length, length-append, length-set, map}
+use Rattle.std.proofs.Common.{flat_map, take, take_all, drop, Option, Some, slice_get, slice_set, refl, ap, sym, ◌∙◌}
+use Rattle.std.proofs.Common.{subst, arith}
 use Rattle.std.specs.List.{list_any}
 use Rattle.std.proofs.Math.Seq.{take-append_seam}
 use Rattle.std.proofs.lemmas.Bool.{cases_Bool, cases_lt, false≢true, eq-eqb}
@@ -16,11 +19,13 @@ use Rattle.mapworld_calls.specs.Pairs.{pair_of, AreDistinct}
 use Rattle.mapworld_calls.specs.Programs.{stop_of}
 use Rattle.mapworld_calls.specs.Setup.{Setup, Laws, ask_at}
 use Rattle.mapworld_calls.specs.Replay.{visit, block_work, done_keys, left, contents, before, frame_of}
-use Rattle.mapworld_calls.specs.Agrees.{Visit, IsVisitOf, IsVisited, IsWhole, AreWhole, IsBelow, IsAtMost, number_of, reads_of}
+use Rattle.mapworld_calls.specs.Agrees.{Visit, IsVisitOf, IsVisited, IsWhole, AreWhole, IsBelow, IsAtMost, number_of}
+use Rattle.mapworld_calls.specs.Agrees.{reads_of}
 use Rattle.mapworld_calls.proofs.Lists.{slice_get-push_below, slice_get-push_at, slice_get-push_cases}
 use Rattle.mapworld_calls.proofs.Kept.{before-push, flat_map-same}
 use Rattle.mapworld_calls.proofs.Walking.{visit_at}
-use Rattle.mapworld_calls.specs.Placed.{IsStepOf, answered_of, done_by_walk, IsVisitedBefore, IsVisitDone, IsPlaced, IsEarlier}
+use Rattle.mapworld_calls.specs.Placed.{IsStepOf, answered_of, done_by_walk, IsVisitedBefore, IsVisitDone, IsPlaced}
+use Rattle.mapworld_calls.specs.Placed.{IsEarlier}
 use Rattle.mapworld_calls.proofs.Folds.{slice_set-itself}
 use Rattle.mapworld_calls.proofs.Lists.{slice_get-set_same}
 use Rattle.mapworld_calls.proofs.Replays.{contents-push}
@@ -35,16 +40,23 @@ use Rattle.mapworld_state.specs.State.{State, threads_of, started_of, next_step}
 use Rattle.mapworld_state.specs.Moves.{stepped}
 use Rattle.mapworld_state.specs.Walks.{walk_mode, gives_items, all_visited, looked_keys, walk_ends}
 use Rattle.mapworld_state.specs.Steps.{LooksAround, IsRefusedVisit, Visits}
-use Rattle.mapworld_state.specs.Sound.{is_resting, may_own, HoldsShard, IsInCall, IsOutside, Claim, IsCount, IsBetweenVisits, Walks, OwnsBlocks, HasOwnVisits, Stands, TablesAgree, Sound, block_after, IsReleasing}
+use Rattle.mapworld_state.specs.Sound.{is_resting, may_own, HoldsShard, IsInCall, IsOutside, Claim, IsCount}
+use Rattle.mapworld_state.specs.Sound.{IsBetweenVisits, Walks, OwnsBlocks, HasOwnVisits, Stands, TablesAgree, Sound}
+use Rattle.mapworld_state.specs.Sound.{block_after, IsReleasing}
 use Rattle.mapworld_state.proofs.InvariantFacts.Others.{IsStepOf-push, IsInCall-push, visit-works_there}
-use Rattle.mapworld_state.proofs.InvariantFacts.Building.{Goes, goes-from, map-push, claim-at, walks-at, holds-moved, in_call-moved, tables-kept, sound-by, started-own, started-stays, taken-at, within-at, tables-same, visits-moved, replies-kept, reply-below, ready-outside, block_after-none}
+use Rattle.mapworld_state.proofs.InvariantFacts.Building.{Goes, goes-from, map-push, claim-at, walks-at, holds-moved}
+use Rattle.mapworld_state.proofs.InvariantFacts.Building.{in_call-moved, tables-kept, sound-by, started-own}
+use Rattle.mapworld_state.proofs.InvariantFacts.Building.{started-stays, taken-at, within-at, tables-same, visits-moved}
+use Rattle.mapworld_state.proofs.InvariantFacts.Building.{replies-kept, reply-below, ready-outside, block_after-none}
 use Rattle.mapworld_state.proofs.InvariantFacts.Admitting.{kept-alone, walk-apart, leaves-same, owns-on}
 use Rattle.mapworld_state.proofs.InvariantFacts.Listing.{length-map}
 use Rattle.mapworld_state.proofs.InvariantFacts.Finding.{last-new}
 use Rattle.mapworld_state.proofs.InvariantFacts.Sums.{sum-all}
 use Rattle.mapworld_state.proofs.InvariantFacts.Leading.{IsLeft, leads, leads-out, leads-own, leads-rests}
-use Rattle.mapworld_state.proofs.InvariantFacts.Doing.{left-undone, left-done, all-whole, walk-asked, walk-work, done-all}
-use Rattle.mapworld_state.proofs.InvariantFacts.Looked.{looked-cases, counting-leaves, counting-reads, counting-stop, below-most, flat_map-none, map-from, own-visited, count-looked}
+use Rattle.mapworld_state.proofs.InvariantFacts.Doing.{left-undone, left-done, all-whole, walk-asked, walk-work}
+use Rattle.mapworld_state.proofs.InvariantFacts.Doing.{done-all}
+use Rattle.mapworld_state.proofs.InvariantFacts.Looked.{looked-cases, counting-leaves, counting-reads, counting-stop}
+use Rattle.mapworld_state.proofs.InvariantFacts.Looked.{below-most, flat_map-none, map-from, own-visited, count-looked}
 use Rattle.mapworld_state.proofs.Tables.{pair_of-at}
 use Rattle.mapworld_state.proofs.InvariantFacts.Timing.{IsStepOf-below, IsStepOf-next, placed-push, placed-same}
 use Rattle.mapworld_state.proofs.InvariantFacts.Effects.{effect-push}
@@ -54,7 +66,8 @@ use Rattle.mapworld_calls.specs.Frame.{AreApart}
 use Rattle.mapworld_state.specs.Locks.Stands.{stand_in}
 
 -- a visit is added to those of its walk
-module _ {K V D T : Type 0} (x : Setup K V D T) (bs : List (Block K)) (d : Block K) (t c : ℕ) (f : Walk D) (vs : List (Visit K)) (v : IsVisited x bs t c f vs) where
+module _ {K V D T : Type 0} (x : Setup K V D T) (bs : List (Block K)) (d : Block K) (t c : ℕ) (f : Walk D)
+    (vs : List (Visit K)) (v : IsVisited x bs t c f vs) where
   before-old : (n : ℕ) (u : Visit K) → slice_get vs n ≡ Some u → before x (bs ++ d ∷ []) u.place ≡ before x bs u.place
   before-old n u at = before-push x bs d u.place u.block (v.are n u at).listed
 
@@ -67,12 +80,18 @@ module _ {K V D T : Type 0} (x : Setup K V D T) (bs : List (Block K)) (d : Block
   pub longer : length pushed ≡ length vs + 1
   longer = length-append vs (visit_at (length bs) d ∷ [])
 
-  pub reads-looked : flat_map (λ q. visit_reads x.deeds f (before x (bs ++ d ∷ []) (length bs) q)) (done_keys x d) ≡ [] → reads_of x (bs ++ d ∷ []) f pushed ≡ reads_of x bs f vs
+  pub reads-looked : flat_map (λ q. visit_reads x.deeds f (before x (bs ++ d ∷ []) (length bs) q)) (done_keys x d) ≡ []
+      → reads_of x (bs ++ d ∷ []) f pushed ≡ reads_of x bs f vs
   reads-looked none =
-      flat_map-append (λ u. flat_map (λ q. visit_reads x.deeds f (before x (bs ++ d ∷ []) u.place q)) (done_keys x u.block)) vs (visit_at (length bs) d ∷ [])
-      ∙ ap (λ rs. flat_map (λ u. flat_map (λ q. visit_reads x.deeds f (before x (bs ++ d ∷ []) u.place q)) (done_keys x u.block)) vs ++ (rs ++ [])) none
+      flat_map-append (λ u. flat_map (λ q. visit_reads x.deeds f (before x (bs ++ d ∷ []) u.place q))
+      (done_keys x u.block)) vs (visit_at (length bs) d ∷ [])
+      ∙ ap (λ rs. flat_map
+      (λ u. flat_map (λ q. visit_reads x.deeds f (before x (bs ++ d ∷ []) u.place q)) (done_keys x u.block)) vs ++
+      (rs ++ [])) none
       ∙ append-nil (flat_map (λ u. flat_map (λ q. visit_reads x.deeds f (before x (bs ++ d ∷ []) u.place q)) (done_keys x u.block)) vs)
-      ∙ flat_map-same (λ u. flat_map (λ q. visit_reads x.deeds f (before x (bs ++ d ∷ []) u.place q)) (done_keys x u.block)) (λ u. flat_map (λ q. visit_reads x.deeds f (before x bs u.place q)) (done_keys x u.block)) vs
+      ∙ flat_map-same (λ u. flat_map (λ q. visit_reads x.deeds f (before x (bs ++ d ∷ []) u.place q))
+      (done_keys x u.block))
+      (λ u. flat_map (λ q. visit_reads x.deeds f (before x bs u.place q)) (done_keys x u.block)) vs
       (λ n u at. ap (λ z. flat_map (λ q. visit_reads x.deeds f (z q)) (done_keys x u.block)) (before-old n u at))
 
   module _ (thread : d.thread ≡ t) (call : d.call ≡ c) (visit_is : d.visit ≡ length vs) where
@@ -86,7 +105,8 @@ module _ {K V D T : Type 0} (x : Setup K V D T) (bs : List (Block K)) (d : Block
           (record { listed = slice_get-push_at bs d; thread = thread; call = call; visit = visit_is ∙ sym new.0 })
     ]
 
-    pub visited-looked : AreWhole x bs vs → IsBelow (stop_of f) (number_of x vs) → IsAtMost (stop_of f) (number_of x pushed) → IsVisited x (bs ++ d ∷ []) t c f pushed
+    pub visited-looked : AreWhole x bs vs → IsBelow (stop_of f) (number_of x vs)
+        → IsAtMost (stop_of f) (number_of x pushed) → IsVisited x (bs ++ d ∷ []) t c f pushed
     visited-looked whole below within =
         let size = longer in
         let front = λ (n : ℕ) (le : n ≤ length vs). ap (λ us. number_of x us) (take-append-le n vs (visit_at (length bs) d ∷ []) le) in
@@ -96,7 +116,9 @@ module _ {K V D T : Type 0} (x : Setup K V D T) (bs : List (Block K)) (d : Block
               (λ old. subst (λ (z : ℕ). IsBelow (stop_of f) z) (sym (front n (omega (arith, old)))) (v.goes_on n old))
               (λ le.
               let at : n ≡ length vs = omega (arith, size, lt, le) in
-              subst (λ (z : ℕ). IsBelow (stop_of f) z) (sym (ap (λ j. number_of x (take j pushed)) at ∙ ap (λ us. number_of x us) (take-append_seam vs (visit_at (length bs) d ∷ [])))) below)
+              subst (λ (z : ℕ). IsBelow (stop_of f) z)
+              (sym (ap (λ j. number_of x (take j pushed)) at
+              ∙ ap (λ us. number_of x us) (take-append_seam vs (visit_at (length bs) d ∷ [])))) below)
               (cases_lt n (length vs));
           whole = λ n u at lt. elim (slice_get-push_cases vs n u (visit_at (length bs) d) at) [
             | inl old ↦ whole-old n u old (whole n u old)
@@ -112,7 +134,8 @@ module _ {K V D T : Type 0} (x : Setup K V D T) (bs : List (Block K)) (d : Block
 step-at : (steps : List ℕ) (t n u m : ℕ) → u ≡ t → m ≡ n → IsStepOf steps t n → IsStepOf steps u m
 step-at steps t n u m thread number h = rw (thread, number) h
 
-module _ {K V S D T A : Type 0} (x : Setup K V D T) (laws : Laws x) (w : State K V S D T A) (s : Step) (w' : State K V S D T A) (sound : Sound x w) (a : LooksAround x w s w') where
+module _ {K V S D T A : Type 0} (x : Setup K V D T) (laws : Laws x) (w : State K V S D T A) (s : Step)
+    (w' : State K V S D T A) (sound : Sound x w) (a : LooksAround x w s w') where
   abbrev p : Place K V D T A
   p = a.place
 
@@ -156,7 +179,8 @@ module _ {K V S D T A : Type 0} (x : Setup K V D T) (laws : Laws x) (w : State K
   key-at : (n : ℕ) (k : K) → slice_get d.visited.items n ≡ Some k → (pair : K × V) × (slice_get a.table.items n ≡ Some pair) × (k ≡ pair.0)
   key-at n k at = by (gives_items f) (ap (λ ks. slice_get ks n) (sym a.listed.visited) ∙ at)
     where
-      by : (gives : Bool) → slice_get (if gives then [] else map (λ (q : K × V). q.0) a.table.items) n ≡ Some k → (pair : K × V) × (slice_get a.table.items n ≡ Some pair) × (k ≡ pair.0)
+      by : (gives : Bool) → slice_get (if gives then [] else map (λ (q : K × V). q.0) a.table.items) n ≡ Some k
+          → (pair : K × V) × (slice_get a.table.items n ≡ Some pair) × (k ≡ pair.0)
       by true e = absurd (none-some k e)
       by false e = map-from (λ (q : K × V). q.0) a.table.items n k e
 
@@ -176,7 +200,8 @@ module _ {K V S D T A : Type 0} (x : Setup K V D T) (laws : Laws x) (w : State K
   quiet : (q : K) (o : Option (K × V)) → left x d q o ≡ o
   quiet q o = ⊎_elim
       (λ gives. left-undone x d f q o work (ap (λ ks. list_any (λ k. x.eq k q) ks) (none-done gives)))
-      (λ counts. ⊎_elim (λ is. left-done x d f q o work is ∙ counting-leaves x.deeds f counts o) (λ none. left-undone x d f q o work none) (cases_Bool (list_any (λ k. x.eq k q) (done_keys x d))))
+      (λ counts. ⊎_elim (λ is. left-done x d f q o work is ∙ counting-leaves x.deeds f counts o)
+      (λ none. left-undone x d f q o work none) (cases_Bool (list_any (λ k. x.eq k q) (done_keys x d))))
       (cases_Bool (gives_items f))
 
   contents-stay : (q : K) → contents x bs' q ≡ contents x w.blocks q
@@ -199,9 +224,12 @@ module _ {K V S D T A : Type 0} (x : Setup K V D T) (laws : Laws x) (w : State K
   agree : TablesAgree x bs' tables'
   agree = tables-kept x laws w.blocks bs' w.tables sound.tables p.shard a.table a.behind a.held distinct finds contents-stay
 
-  others-keep : (u : ℕ) (q : Place K V D T A) (m : Mode) → u ≢ t → slice_get w.places u ≡ Some q → HoldsShard q m → slice_get tables' q.shard ≡ slice_get w.tables q.shard
+  others-keep : (u : ℕ) (q : Place K V D T A) (m : Mode) → u ≢ t → slice_get w.places u ≡ Some q → HoldsShard q m
+      → slice_get tables' q.shard ≡ slice_get w.tables q.shard
   others-keep u q m ne hq h = elim look [
-    | inl same ↦ ap (λ (ts : List (ShardPairs K V)). slice_get ts q.shard) (ap (λ (z : ShardPairs K V). slice_set w.tables p.shard z) same ∙ slice_set-itself w.tables p.shard a.table a.held)
+    | inl same ↦ ap (λ (ts : List (ShardPairs K V)). slice_get ts q.shard)
+        (ap (λ (z : ShardPairs K V). slice_set w.tables p.shard z) same ∙ slice_set-itself w.tables p.shard a.table
+        a.held)
     | inr more ↦ kept-alone x w s p a.stands sound a.behind (subst (λ (k : Mode). HoldsShard p k) more.1 claimed.2) u q m ne hq h
   ]
 
@@ -229,17 +257,22 @@ module _ {K V S D T A : Type 0} (x : Setup K V D T) (laws : Laws x) (w : State K
   -- it has given no more items than it was to give
   at-most : (n : ℕ) → n ≡ number_of x vs + length (done_keys x d) → IsAtMost (stop_of f) n
   at-most n is = ⊎_elim
-      (λ gives. below-most (stop_of f) n (subst (λ (k : ℕ). IsBelow (stop_of f) k) (let none = ap length (none-done gives) in let e : number_of x vs ≡ n = omega (arith, is, none) in e) v.goes_on))
+      (λ gives. below-most (stop_of f) n
+      (subst (λ (k : ℕ). IsBelow (stop_of f) k)
+      (let none = ap length (none-done gives) in let e : number_of x vs ≡ n = omega (arith, is, none) in e)
+      v.goes_on))
       (λ counts. subst (λ (o : Option ℕ). IsAtMost o n) (sym (counting-stop f counts)) tt)
       (cases_Bool (gives_items f))
 
   visited' : IsVisited x bs' t p.next f vs'
-  visited' = visited-looked x w.blocks d t p.next f vs v.so_far.visited a.listed.thread a.listed.call visit-is v.whole v.goes_on (at-most (number_of x vs') number')
+  visited' = visited-looked x w.blocks d t p.next f vs v.so_far.visited a.listed.thread a.listed.call visit-is v.whole
+      v.goes_on (at-most (number_of x vs') number')
 
   reads' : p.reads ≡ reads_of x bs' f vs'
   reads' = v.so_far.reads ∙ sym (reads-looked x w.blocks d t p.next f vs v.so_far.visited (⊎_elim
       (λ gives. ap (λ ks. flat_map (λ q. visit_reads x.deeds f (before x bs' i q)) ks) (none-done gives))
-      (λ counts. flat_map-none (λ q. visit_reads x.deeds f (before x bs' i q)) (done_keys x d) (λ q. counting-reads x.deeds f counts (before x bs' i q)))
+      (λ counts. flat_map-none (λ q. visit_reads x.deeds f (before x bs' i q)) (done_keys x d)
+      (λ q. counting-reads x.deeds f counts (before x bs' i q)))
       (cases_Bool (gives_items f))))
 
   count' : IsCount x f vs' a.count
@@ -275,7 +308,8 @@ module _ {K V S D T A : Type 0} (x : Setup K V D T) (laws : Laws x) (w : State K
     | inl old ↦ whole-old x w.blocks d t p.next f vs v.so_far.visited n u old (v.whole n u old)
     | inr new ↦
         subst (λ (z : Visit K). IsWhole x bs' z.place z.block) (sym new.1)
-        (all-whole x laws bs' i d f a.table work keys (λ q on. there q (on ∙ a.listed.visit)) (ap (λ ks. all_visited x.eq ks a.table.items) a.listed.visited ∙ all))
+        (all-whole x laws bs' i d f a.table work keys (λ q on. there q (on ∙ a.listed.visit))
+        (ap (λ ks. all_visited x.eq ks a.table.items) a.listed.visited ∙ all))
   ]
 
   rest' : done ≡ false → IsLeft x (threads_of w ++ t ∷ []) bs' tables' t p' f vs'
@@ -296,8 +330,11 @@ module _ {K V S D T A : Type 0} (x : Setup K V D T) (laws : Laws x) (w : State K
 
   stays : Claim x (threads_of w ++ t ∷ []) bs' tables' t p' a.next × Walks x bs' tables' t p' a.next
   stays =
-      leads x (threads_of w ++ t ∷ []) bs' tables' t p' f (IsInCall-push x (threads_of w) t t p' (ask.Walk f) (in_call-moved x p p' (threads_of w) t (ask.Walk f) refl refl refl claimed.0)) (claimed.1.0, claimed.1.1)
-      (holds-moved x p p' (walk_mode f) refl refl claimed.2) (walk-apart x w t sound p st f asked).1 (sound.stops t p.next f asked) v.left vs' named' visited' p.reads reads' count' length' done whole' rest'
+      leads x (threads_of w ++ t ∷ []) bs' tables' t p' f
+      (IsInCall-push x (threads_of w) t t p' (ask.Walk f)
+      (in_call-moved x p p' (threads_of w) t (ask.Walk f) refl refl refl claimed.0)) (claimed.1.0, claimed.1.1)
+      (holds-moved x p p' (walk_mode f) refl refl claimed.2) (walk-apart x w t sound p st f asked).1
+      (sound.stops t p.next f asked) v.left vs' named' visited' p.reads reads' count' length' done whole' rest'
       (walk_ends x.shards f p.shard done a.count) done refl refl a.next a.reads a.leads refl
 
   rests : is_resting a.next ≡ false
@@ -312,7 +349,11 @@ module _ {K V S D T A : Type 0} (x : Setup K V D T) (laws : Laws x) (w : State K
       | inl below ↦ inl below
       | inr mine ↦ inr (mine.0, elim mine.1 [ inl its ↦ inl its | inr in_ ↦ inr (in_.0, slice_get-push_below p.visits in_.0 j i in_.1) ], owned)
     ]
-    | inr new ↦ inr (ap (λ z. z.call) new.1 ∙ a.listed.call, inr (length p.visits, slice_get-push_at p.visits i ∙ ap (λ n. Some n) (sym new.0)), owned)
+    | inr new ↦ inr (
+      ap (λ z. z.call) new.1 ∙ a.listed.call,
+      inr (length p.visits, slice_get-push_at p.visits i ∙ ap (λ n. Some n) (sym new.0)),
+      owned,
+    )
   ]
 
   visits' : HasOwnVisits x bs' t p'
@@ -363,7 +404,8 @@ module _ {K V S D T A : Type 0} (x : Setup K V D T) (laws : Laws x) (w : State K
 
   sums-more : done_by_walk x (take (suc i) bs') d.thread d.call ≡ number_of x vs + length (done_keys x d)
   sums-more =
-      let own : (if (d.thread == d.thread) && (d.call == d.call) then length (done_keys x d) else 0) ≡ length (done_keys x d) = rw (eq-eqb d.thread d.thread refl, eq-eqb d.call d.call refl) refl in
+      let own : (if (d.thread == d.thread) && (d.call == d.call) then length (done_keys x d) else 0) ≡ length
+      (done_keys x d) = rw (eq-eqb d.thread d.thread refl, eq-eqb d.call d.call refl) refl in
       ap (λ ds. done_by_walk x ds d.thread d.call) (take_all (suc i) bs' (let e = length-append w.blocks (d ∷ []) in omega (arith, e)))
       ∙ sum_by_push (λ b. if (b.thread == d.thread) && (b.call == d.call) then length (done_keys x b) else 0) w.blocks d
       ∙ ap (λ n. done_by_walk x w.blocks d.thread d.call + n) own
@@ -399,10 +441,12 @@ module _ {K V S D T A : Type 0} (x : Setup K V D T) (laws : Laws x) (w : State K
     there = λ n k at.
         let y = key-at n k at in
         let finds : pair_of x.eq a.table.items k ≡ Some y.0 =
-        ap (λ q. pair_of x.eq a.table.items q) y.2 ∙ pair_of-at x.eq laws.equivalence a.table.items n y.0 y.0.0 (sound.tables.distinct p.shard a.table a.held) y.1 (laws.equivalence.refl y.0.0) in
+        ap (λ q. pair_of x.eq a.table.items q) y.2 ∙ pair_of-at x.eq laws.equivalence a.table.items n y.0 y.0.0
+        (sound.tables.distinct p.shard a.table a.held) y.1 (laws.equivalence.refl y.0.0) in
         subst (λ (o : Option (K × V)). IsSome o) (sym (before-new k ∙ sym (has-now k (on-shard n k at)) ∙ finds)) refl;
     in_turn = before-it;
-    begins = subst (λ (n : ℕ). IsBelow (stop_of f) n) (sym (ap (λ ds. done_by_walk x ds d.thread d.call) (take-append_seam w.blocks (d ∷ [])) ∙ sums)) v.goes_on;
+    begins = subst (λ (n : ℕ). IsBelow (stop_of f) n)
+        (sym (ap (λ ds. done_by_walk x ds d.thread d.call) (take-append_seam w.blocks (d ∷ [])) ∙ sums)) v.goes_on;
     stops = at-most (done_by_walk x (take (suc i) bs') d.thread d.call) sums-more;
   }
 
@@ -414,8 +458,10 @@ module _ {K V S D T A : Type 0} (x : Setup K V D T) (laws : Laws x) (w : State K
     ask = ask.Walk f;
     asked = walk-asked x d t p.next f asked a.listed.thread a.listed.call;
     done = (visit-done, a.listed.done);
-    start = step-at (threads_of w ++ t ∷ []) t claimed.0.start d.thread d.start a.listed.thread start-is (IsStepOf-push (threads_of w) t t claimed.0.start claimed.0.begun);
-    position = step-at (threads_of w ++ t ∷ []) t (length (threads_of w) + 1) d.thread d.position a.listed.thread (a.listed.position ∙ number) (IsStepOf-next (threads_of w) t);
+    start = step-at (threads_of w ++ t ∷ []) t claimed.0.start d.thread d.start a.listed.thread start-is
+        (IsStepOf-push (threads_of w) t t claimed.0.start claimed.0.begun);
+    position = step-at (threads_of w ++ t ∷ []) t (length (threads_of w) + 1) d.thread d.position a.listed.thread
+        (a.listed.position ∙ number) (IsStepOf-next (threads_of w) t);
     order =
         let lt = IsStepOf-below (threads_of w) t claimed.0.start claimed.0.begun in
         let at = a.listed.position ∙ number in
@@ -456,8 +502,10 @@ module _ {K V S D T A : Type 0} (x : Setup K V D T) (laws : Laws x) (w : State K
       (record {
         program = st.program;
         has = st.has;
-        asks_left = taken-at x (threads_of w) w.blocks w.replies w.tables t p (phase.Visit f) a.before st ∙ ap (λ (z : Bool). drop (if z then p.next else p.next + 1) st.program) (sym rests);
-        within = subst (λ (z : Bool). (if z then p.next else p.next + 1) ≤ length st.program) (sym rests) (within-at x (threads_of w) w.blocks w.replies w.tables t p (phase.Visit f) a.before st);
+        asks_left = taken-at x (threads_of w) w.blocks w.replies w.tables t p (phase.Visit f) a.before st
+            ∙ ap (λ (z : Bool). drop (if z then p.next else p.next + 1) st.program) (sym rests);
+        within = subst (λ (z : Bool). (if z then p.next else p.next + 1) ≤ length st.program) (sym rests)
+            (within-at x (threads_of w) w.blocks w.replies w.tables t p (phase.Visit f) a.before st);
         answered = st.answered;
         owns = owns';
         own_block = λ j mine. absurd (none-some j (sym claimed.1.0 ∙ mine));
@@ -466,8 +514,10 @@ module _ {K V S D T A : Type 0} (x : Setup K V D T) (laws : Laws x) (w : State K
         walks = stays.1;
       })
       agree
-      (holds-same w.places w.locks sound.holds t p p' a.stands refl (leads-out f p.reads a.count p' (stand_in w.locks t) a.out _ _ a.next a.reads a.leads))
-      (placed-push x (threads_of w) t (started_of w) (started_of (stepped w s p')) w.blocks w.replies (started-stays x w s p p' a.stands (λ n z. z)) d new-placed (a.listed.position ∙ number) earlier sound.placed)
+      (holds-same w.places w.locks sound.holds t p p' a.stands refl
+      (leads-out f p.reads a.count p' (stand_in w.locks t) a.out _ _ a.next a.reads a.leads))
+      (placed-push x (threads_of w) t (started_of w) (started_of (stepped w s p')) w.blocks w.replies
+      (started-stays x w s p p' a.stands (λ n z. z)) d new-placed (a.listed.position ∙ number) earlier sound.placed)
       (replies-kept x w.blocks bs' w.replies
       (λ j r hr. keeps-push x w.blocks d r.thread r.call (λ same.
       let below = reply-below x (threads_of w) (started_of w) w.blocks w.replies sound.placed j r hr in
@@ -478,7 +528,8 @@ module _ {K V S D T A : Type 0} (x : Setup K V D T) (laws : Laws x) (w : State K
       sound.replies))
 
 -- a look that is refused room leads to the walk's release
-pub sound-refused_visit : {K V S D T A : Type 0} (x : Setup K V D T) (w : State K V S D T A) (s : Step) (w' : State K V S D T A) → Sound x w → IsRefusedVisit x w s w' → Goes x s.thread w w'
+pub sound-refused_visit : {K V S D T A : Type 0} (x : Setup K V D T) (w : State K V S D T A) (s : Step)
+    (w' : State K V S D T A) → Sound x w → IsRefusedVisit x w s w' → Goes x s.thread w w'
 sound-refused_visit x w s w' sound a =
     let p = a.place in
     let t = s.thread in
@@ -523,14 +574,21 @@ sound-refused_visit x w s w' sound a =
     })
     (tables-same x w.blocks w.blocks w.tables sound.tables (λ q. refl))
     (holds-same w.places w.locks sound.holds t p p' a.stands refl a.out)
-    (placed-same x (threads_of w) t (started_of w) (started_of (stepped w s p')) w.blocks w.replies (started-stays x w s p p' a.stands (λ n z. z)) sound.placed)
+    (placed-same x (threads_of w) t (started_of w) (started_of (stepped w s p')) w.blocks w.replies
+    (started-stays x w s p p' a.stands (λ n z. z)) sound.placed)
     sound.replies)
 
-pub sound-looks : {K V S D T A : Type 0} (x : Setup K V D T) → Laws x → (w : State K V S D T A) (s : Step) (w' : State K V S D T A) → Sound x w → Visits x w s w' → Goes x s.thread w w'
+pub sound-looks : {K V S D T A : Type 0} (x : Setup K V D T) → Laws x
+    → (w : State K V S D T A) (s : Step) (w' : State K V S D T A) → Sound x w → Visits x w s w' → Goes x s.thread w w'
 sound-looks x laws w s w' sound h =
     let there = sound-let_in x w s.thread h.mid sound h.enters in
     let same : h.mid.blocks ≡ w.blocks = elim h.enters [
       | inl same ↦ ap (λ z. z.blocks) same
       | inr more ↦ elim more [ inl e ↦ ap (λ z. z.blocks) e.after | inr e ↦ ap (λ z. z.blocks) e.after ]
     ] in
-    goes-from x s.thread w h.mid w' same (elim h.looks [ inl look ↦ sound-looks_around x laws h.mid s w' there look | inr no_ ↦ sound-refused_visit x h.mid s w' there no_ ])
+    goes-from x s.thread w h.mid w' same
+    (elim h.looks [
+      | inl look ↦ sound-looks_around x laws h.mid s w' there look
+      | inr no_ ↦ sound-refused_visit x
+          h.mid s w' there no_
+    ])

@@ -1,5 +1,6 @@
 -- What holds of a thread's place stays while its blocks stay, as when another thread makes a step.
-use Rattle.std.proofs.Common.{◌≡◌, ℕ, ◌+◌, ◌-◌, ◌<◌, List, [], ◌∷◌, ◌++◌, Option, Some, None, slice_get, refl, ap, sym, ◌∙◌, subst, arith}
+use Rattle.std.proofs.Common.{◌≡◌, ℕ, ◌+◌, ◌-◌, ◌<◌, List, [], ◌∷◌, ◌++◌, Option, Some, None, slice_get, refl, ap, sym}
+use Rattle.std.proofs.Common.{◌∙◌, subst, arith}
 use Rattle.std.specs.Option.{option_and_then}
 use Rattle.std.proofs.lemmas.Option.{same_Some, none-some}
 use Rattle.mapworld_state.specs.Shards.{ShardPairs}
@@ -29,15 +30,24 @@ use Rattle.mapworld_state.specs.declared.place.Guard.TheVariants as guard
 use Rattle.mapworld_state.specs.Places.{Place}
 use Rattle.mapworld_state.specs.Moves.{way_mode}
 use Rattle.mapworld_state.specs.Walks.{walk_mode}
-use Rattle.mapworld_state.specs.Sound.{HoldsShard, GuardIs, IsInSessionOf, IsInSession, IsReady, IsInCall, IsBeforeDeed, HasPairs, IsReleasing, block_after, Claim, HasVisited, IsBetweenVisits, IsWithinVisit, Walks, HasOwnVisits, Stands}
+use Rattle.mapworld_state.specs.Sound.{HoldsShard, GuardIs, IsInSessionOf, IsInSession, IsReady, IsInCall, IsBeforeDeed}
+use Rattle.mapworld_state.specs.Sound.{HasPairs, IsReleasing, block_after, Claim, HasVisited, IsBetweenVisits}
+use Rattle.mapworld_state.specs.Sound.{IsWithinVisit, Walks, HasOwnVisits, Stands}
 use Rattle.mapworld_state.proofs.InvariantFacts.Effects.{KeepsBlocks, finds-kept, none-kept, visits-kept, keeps-of}
 
 pub IsStepOf-push : (threads : List ℕ) (s t n : ℕ) → IsStepOf threads t n → IsStepOf (threads ++ s ∷ []) t n
 IsStepOf-push threads s t n h = (h.0, slice_get-push_below threads (n - 1) t s h.1)
 
-module _ {K V D T A : Type 0} (x : Setup K V D T) (threads : List ℕ) (s : ℕ) (t : ℕ) (p : Place K V D T A) (a : Ask K V D) where
+module _ {K V D T A : Type 0} (x : Setup K V D T) (threads : List ℕ) (s : ℕ) (t : ℕ) (p : Place K V D T A)
+    (a : Ask K V D) where
   pub IsInCall-push : IsInCall x threads t p a → IsInCall x (threads ++ s ∷ []) t p a
-  IsInCall-push h = record { asked = h.asked; closes = h.closes; start = h.start; started = h.started; begun = IsStepOf-push threads s t h.start h.begun }
+  IsInCall-push h = record {
+    asked = h.asked;
+    closes = h.closes;
+    start = h.start;
+    started = h.started;
+    begun = IsStepOf-push threads s t h.start h.begun;
+  }
 
 module _ {K V D T : Type 0} (x : Setup K V D T) (t c b : ℕ) where
   pub session-below : session_of x t c ≡ Some b → b < c
@@ -51,30 +61,37 @@ module _ {K V D T : Type 0} (x : Setup K V D T) (t c b : ℕ) where
   pub session-opens : session_of x t c ≡ Some b → (g : Begin K) × (ask_at x t b ≡ Some (ask.Begin g))
   session-opens h = at (slice_get x.programs t) h
     where
-      at : (o : Option (List (Ask K V D))) → option_and_then (λ program. opening_before program c) o ≡ Some b → (g : Begin K) × (option_and_then (λ program. slice_get program b) o ≡ Some (ask.Begin g))
+      at : (o : Option (List (Ask K V D))) → option_and_then (λ program. opening_before program c) o ≡ Some b
+          → (g : Begin K) × (option_and_then (λ program. slice_get program b) o ≡ Some (ask.Begin g))
       at None e = absurd (none-some b e)
       at (Some program) e = opening_is program c b e
 
 -- so its block works on the opening's key
-pub opening-key_of : {K V D T : Type 0} (x : Setup K V D T) (b : Block K) (t c : ℕ) (g : Begin K) → b.thread ≡ t → b.call ≡ c → ask_at x t c ≡ Some (ask.Begin g) → block_key x b ≡ Some (opening_key g)
+pub opening-key_of : {K V D T : Type 0} (x : Setup K V D T) (b : Block K) (t c : ℕ) (g : Begin K) → b.thread ≡ t
+    → b.call ≡ c → ask_at x t c ≡ Some (ask.Begin g) → block_key x b ≡ Some (opening_key g)
 opening-key_of x b t c g thread call asked = rw (thread, call, asked) refl
 
 -- the block works on the place's shard
 abbrev pub WorksThere : {K V D T A : Type 0} → Setup K V D T → Place K V D T A → Block K → Type 0
 WorksThere x p b = (s : ℕ) → (frame_of x).shard b ≡ Some s → s ≡ p.shard
 
-pub key-works_there : {K V D T A : Type 0} (x : Setup K V D T) (p : Place K V D T A) (b : Block K) (key : K) → block_key x b ≡ Some key → p.shard ≡ x.route key → WorksThere x p b
+pub key-works_there : {K V D T A : Type 0} (x : Setup K V D T) (p : Place K V D T A) (b : Block K) (key : K)
+    → block_key x b ≡ Some key → p.shard ≡ x.route key → WorksThere x p b
 key-works_there x p b key is here s at = same_Some s (x.route key) (sym at ∙ on-shard x b key is) ∙ sym here
 
-pub visit-works_there : {K V D T A : Type 0} (x : Setup K V D T) (p : Place K V D T A) (f : Walk D) (b : Block K) (t c : ℕ) → ask_at x t c ≡ Some (ask.Walk f) → b.thread ≡ t → b.call ≡ c → b.visit ≡ p.shard → WorksThere x p b
-visit-works_there x p f b t c asked thread call here s at = same_Some s p.shard (sym at ∙ visit-shard x f b t c asked thread call p.shard (sym here))
+pub visit-works_there : {K V D T A : Type 0} (x : Setup K V D T) (p : Place K V D T A) (f : Walk D) (b : Block K)
+    (t c : ℕ) → ask_at x t c ≡ Some (ask.Walk f) → b.thread ≡ t → b.call ≡ c → b.visit ≡ p.shard → WorksThere x p b
+visit-works_there x p f b t c asked thread call here s at =
+    same_Some s p.shard (sym at ∙ visit-shard x f b t c asked thread call p.shard (sym here))
 
-module _ {K V D T A : Type 0} (x : Setup K V D T) (threads : List ℕ) (s : ℕ) (bs bs' : List (Block K)) (replies replies' : List (Reply K V T A))
+module _ {K V D T A : Type 0} (x : Setup K V D T) (threads : List ℕ) (s : ℕ) (bs bs' : List (Block K))
+    (replies replies' : List (Reply K V T A))
     (tables tables' : List (ShardPairs K V)) (u : ℕ) (p : Place K V D T A) (F : Block K → Type 0)
     (blocks : KeepsBlocks A x bs bs' u F) (count : answered_of replies' u ≡ answered_of replies u)
     (kept : (m : Mode) → HoldsShard p m → slice_get tables' p.shard ≡ slice_get tables p.shard)
     (foreign : (b : Block K) → HoldsShard p Exclusive → WorksThere x p b → F b) where
-  list-kept : (m : Mode) (IsSo : ShardPairs K V → Type 0) → HoldsShard p m → HasPairs tables p.shard IsSo → HasPairs tables' p.shard IsSo
+  list-kept : (m : Mode) (IsSo : ShardPairs K V → Type 0) → HoldsShard p m → HasPairs tables p.shard IsSo
+      → HasPairs tables' p.shard IsSo
   list-kept m IsSo h has = record { table = has.table; held = kept m h ∙ has.held; so = has.so }
 
   guard-kept : (g : Option (Guard K)) (at at' : At K V) → at' ≡ at → GuardIs tables p g at → GuardIs tables' p g at'
@@ -87,7 +104,8 @@ module _ {K V D T A : Type 0} (x : Setup K V D T) (threads : List ℕ) (s : ℕ)
   guard-mode (guard.Pair kind) at h = (way_mode kind, h.2)
   guard-mode (guard.Vacant k) at h = (Exclusive, h.1)
 
-  session-kept : (n c : ℕ) → session_of x u n ≡ Some c → (o : Option ℕ) → IsInSessionOf x bs tables u p n c o → IsInSessionOf x bs' tables' u p n c o
+  session-kept : (n c : ℕ) → session_of x u n ≡ Some c → (o : Option ℕ) → IsInSessionOf x bs tables u p n c o
+      → IsInSessionOf x bs' tables' u p n c o
   session-kept n c inside (Some i) h =
       let finds = finds-kept x bs bs' u F blocks i h.block h.listed in
       let g = session-opens x u n c inside in
@@ -99,20 +117,30 @@ module _ {K V D T A : Type 0} (x : Setup K V D T) (threads : List ℕ) (s : ℕ)
         call = h.call;
         below = h.below;
         done = h.done;
-        guard = guard-kept p.guard (reached x u c (n - c) (found x bs i h.block)) (reached x u c (n - c) (found x bs' i h.block)) (ap (λ o. reached x u c (n - c) o) finds) h.guard;
+        guard = guard-kept p.guard (reached x u c (n - c) (found x bs i h.block))
+            (reached x u c (n - c) (found x bs' i h.block)) (ap (λ o. reached x u c (n - c) o) finds) h.guard;
         there = λ g key e is.
             let at : At K V = reached x u c (n - c) (found x bs i h.block) in
             let holds = guard-mode g at (subst (λ (z : Option (Guard K)). GuardIs tables p z at) e h.guard) in
             let has = list-kept holds.0 _ holds.1 (h.there g key e is) in
-            record { table = has.table; held = has.held; so = has.so ∙ ap (λ o. pair_in (reached x u c (n - c) o)) (sym finds) };
+            record {
+              table = has.table;
+              held = has.held;
+              so = has.so ∙ ap (λ o. pair_in (reached x u c (n - c) o))
+                  (sym finds);
+            };
         settled = record {
           here = h.settled.here;
-          last = λ alone. blocks.last i h.block h.listed (foreign h.block alone (key-works_there x p h.block (opening_key g.0) key (h.settled.here (opening_key g.0) key))) (h.settled.last alone);
+          last = λ alone. blocks.last i h.block h.listed
+              (foreign h.block alone
+              (key-works_there x p h.block (opening_key g.0) key (h.settled.here (opening_key g.0) key)))
+              (h.settled.last alone);
         };
       }
   session-kept n c inside None h = (h.0, none-kept x bs bs' u F blocks c h.1)
 
-  in_session-kept : (n : ℕ) (o : Option ℕ) → session_of x u n ≡ o → (block : Option ℕ) → IsInSession x bs tables u p n o block → IsInSession x bs' tables' u p n o block
+  in_session-kept : (n : ℕ) (o : Option ℕ) → session_of x u n ≡ o → (block : Option ℕ)
+      → IsInSession x bs tables u p n o block → IsInSession x bs' tables' u p n o block
   in_session-kept n (Some c) inside block h = session-kept n c inside block h
   in_session-kept n None inside block h = h
 
@@ -122,9 +150,11 @@ module _ {K V D T A : Type 0} (x : Setup K V D T) (threads : List ℕ) (s : ℕ)
   in_call : (a : Ask K V D) → IsInCall x threads u p a → IsInCall x (threads ++ s ∷ []) u p a
   in_call a h = IsInCall-push x threads s u p a h
 
-  answered : (c : ℕ) (a : Ask K V D) (r : Answer K V T A) → ask_at x u c ≡ Some a → IsAnsweredBy x bs u c a r → IsAnsweredBy x bs' u c a r
+  answered : (c : ℕ) (a : Ask K V D) (r : Answer K V T A) → ask_at x u c ≡ Some a → IsAnsweredBy x bs u c a r
+      → IsAnsweredBy x bs' u c a r
   answered c a r asked h =
-      answered-by x bs bs' u c a r asked (keeps-of x bs bs' u F blocks c) (λ b e. let lt = session-below x u c b e in omega arith) h
+      answered-by x bs bs' u c a r asked (keeps-of x bs bs' u F blocks c)
+      (λ b e. let lt = session-below x u c b e in omega arith) h
 
   before_deed : (k : K) (o : Option (K × V)) → IsBeforeDeed x bs u p k o → IsBeforeDeed x bs' u p k o
   before_deed k o d = record {
@@ -136,14 +166,16 @@ module _ {K V D T A : Type 0} (x : Setup K V D T) (threads : List ℕ) (s : ℕ)
     call = d.call;
     key_is = d.key_is;
     done = d.done;
-    last = blocks.last d.index d.block d.listed (foreign d.block d.alone (key-works_there x p d.block k d.key_is d.shard)) d.last;
+    last = blocks.last d.index d.block d.listed
+        (foreign d.block d.alone (key-works_there x p d.block k d.key_is d.shard)) d.last;
     found_is = finds-kept x bs bs' u F blocks d.index d.block d.listed ∙ d.found_is;
     guard = d.guard;
     shard = d.shard;
     alone = d.alone;
   }
 
-  releasing : (a : Ask K V D) (r : Answer K V T A) (g : Option (Guard K)) → ask_at x u p.next ≡ Some a → IsReleasing x bs tables u p a r g → IsReleasing x bs' tables' u p a r g
+  releasing : (a : Ask K V D) (r : Answer K V T A) (g : Option (Guard K)) → ask_at x u p.next ≡ Some a
+      → IsReleasing x bs tables u p a r g → IsReleasing x bs' tables' u p a r g
   releasing a r (Some i) asked h = (h.0, h.1, ready p.next p.block h.2)
   releasing a r None asked h = (answered p.next a r asked h.0, ready (p.next + 1) (block_after p) h.1)
 
@@ -168,7 +200,8 @@ module _ {K V D T A : Type 0} (x : Setup K V D T) (threads : List ℕ) (s : ℕ)
   claim (phase.Give f) h = (in_call _ h.0, h.1, h.2, h.3)
   claim (phase.Onward f) h = (in_call _ h.0, h.1, h.2)
   claim (phase.Release r) h = (h.0, h.1, in_call h.0 h.2, h.3, releasing h.0 r p.guard h.2.asked h.4)
-  claim (phase.Answer r) h = (h.0, in_call h.0 h.1, h.2, answered p.next h.0 r h.1.asked h.3, ready (p.next + 1) (block_after p) h.4)
+  claim (phase.Answer r) h =
+      (h.0, in_call h.0 h.1, h.2, answered p.next h.0 r h.1.asked h.3, ready (p.next + 1) (block_after p) h.4)
 
   -- a walk's visits so far
   module _ (f : Walk D) (asked : ask_at x u p.next ≡ Some (ask.Walk f)) where
@@ -211,9 +244,12 @@ module _ {K V D T A : Type 0} (x : Setup K V D T) (threads : List ℕ) (s : ℕ)
           there = λ q on.
               h.there q on
               ∙ ap (left x h.block q)
-              (sym (blocks.turns h.index h.block is.listed q (visit-shard x f h.block u p.next asked is.thread is.call (x.route q) (on ∙ sym is.visit))));
+              (sym (blocks.turns h.index h.block is.listed q
+              (visit-shard x f h.block u p.next asked is.thread is.call (x.route q) (on ∙ sym is.visit))));
           some = h.some;
-          last = λ alone. blocks.last h.index h.block is.listed (foreign h.block alone (visit-works_there x p f h.block u p.next asked is.thread is.call is.visit)) (h.last alone);
+          last = λ alone. blocks.last h.index h.block is.listed
+              (foreign h.block alone (visit-works_there x p f h.block u p.next asked is.thread is.call is.visit))
+              (h.last alone);
         }
 
   walks : (f : Phase K V D T A) → Claim x threads bs tables u p f → Walks x bs tables u p f → Walks x bs' tables' u p f

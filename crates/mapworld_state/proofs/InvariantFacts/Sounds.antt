@@ -3,7 +3,10 @@ use Rattle.std.proofs.Common.{◌≡◌, ℕ, ◌⊎◌, inl, inr, ap}
 use Rattle.mapworld_calls.specs.Setup.{Setup, Laws}
 use Rattle.mapworld_state.specs.declared.step.Step.{Step}
 use Rattle.mapworld_state.specs.State.{State}
-use Rattle.mapworld_state.specs.Steps.{Concludes, owed, locked, idle, Enters, IsStep, start, lock, find, find_grows, find_refused, deed_appends, deed_applies, deed_views, deed_reads, deed_changes, deed_fills, downgrade, release, answers, visit_starts, visit_parts, visit_looks, visit_seeks, visit_does, visit_gives}
+use Rattle.mapworld_state.specs.Steps.{Concludes, owed, locked, idle, Enters, IsStep, start, lock, find, find_grows}
+use Rattle.mapworld_state.specs.Steps.{find_refused, deed_appends, deed_applies, deed_views, deed_reads, deed_changes}
+use Rattle.mapworld_state.specs.Steps.{deed_fills, downgrade, release, answers, visit_starts, visit_parts, visit_looks}
+use Rattle.mapworld_state.specs.Steps.{visit_seeks, visit_does, visit_gives}
 use Rattle.mapworld_state.specs.Sound.{Sound}
 use Rattle.mapworld_state.proofs.InvariantFacts.Building.{Goes, goes-from}
 use Rattle.mapworld_state.proofs.InvariantFacts.Starting.{sound-starts}
@@ -20,10 +23,12 @@ use Rattle.mapworld_state.proofs.InvariantFacts.Sharing.{sound-downgrades}
 use Rattle.mapworld_state.proofs.InvariantFacts.Answering.{sound-answers}
 
 -- no block is another in the worlds between
-entered-blocks : {K V S D T A : Type 0} (w : State K V S D T A) (t : ℕ) (mid : State K V S D T A) → (mid ≡ w) ⊎ Enters w t mid → mid.blocks ≡ w.blocks
+entered-blocks : {K V S D T A : Type 0} (w : State K V S D T A) (t : ℕ) (mid : State K V S D T A) → (mid ≡ w)
+    ⊎ Enters w t mid → mid.blocks ≡ w.blocks
 entered-blocks w t mid h = elim h [ inl same ↦ ap (λ z. z.blocks) same | inr e ↦ ap (λ z. z.blocks) e.after ]
 
-left-blocks : {K V S D T A : Type 0} (w : State K V S D T A) (t : ℕ) (mid : State K V S D T A) → (mid ≡ w) ⊎ Concludes w t mid → mid.blocks ≡ w.blocks
+left-blocks : {K V S D T A : Type 0} (w : State K V S D T A) (t : ℕ) (mid : State K V S D T A) → (mid ≡ w)
+    ⊎ Concludes w t mid → mid.blocks ≡ w.blocks
 left-blocks w t mid h = elim h [ inl same ↦ ap (λ z. z.blocks) same | inr e ↦ concluded e ]
   where
     concluded : Concludes w t mid → mid.blocks ≡ w.blocks
@@ -31,11 +36,13 @@ left-blocks w t mid h = elim h [ inl same ↦ ap (λ z. z.blocks) same | inr e �
     concluded (locked e) = ap (λ z. z.blocks) e.after
     concluded (idle e) = ap (λ z. z.blocks) e.after
 
-pub step-goes : {K V S D T A : Type 0} (x : Setup K V D T) → Laws x → (w : State K V S D T A) (s : Step) (w' : State K V S D T A) → Sound x w → IsStep x w s w' → Goes x s.thread w w'
+pub step-goes : {K V S D T A : Type 0} (x : Setup K V D T) → Laws x
+    → (w : State K V S D T A) (s : Step) (w' : State K V S D T A) → Sound x w → IsStep x w s w' → Goes x s.thread w w'
 step-goes x laws w s w' sound (start h) = sound-starts x laws w s w' sound h
 step-goes x laws w s w' sound (lock h) = sound-moves x w s w' sound h
 step-goes x laws w s w' sound (find h) =
-    goes-from x s.thread w h.mid w' (entered-blocks w s.thread h.mid h.enters) (sound-finds x laws h.mid s (sound-entered x w s.thread h.mid sound h.enters) w' h.finds)
+    goes-from x s.thread w h.mid w' (entered-blocks w s.thread h.mid h.enters)
+    (sound-finds x laws h.mid s (sound-entered x w s.thread h.mid sound h.enters) w' h.finds)
 step-goes x laws w s w' sound (find_grows h) = sound-grows x laws w s sound w' h
 step-goes x laws w s w' sound (find_refused h) = sound-refused x laws w s w' sound h
 step-goes x laws w s w' sound (deed_appends h) = sound-appends x laws w s w' sound h
@@ -47,7 +54,8 @@ step-goes x laws w s w' sound (deed_fills h) = sound-fills x laws w s w' sound h
 step-goes x laws w s w' sound (downgrade h) = sound-downgrades x laws w s w' sound h
 step-goes x laws w s w' sound (release h) = sound-releases x laws w s w' sound h
 step-goes x laws w s w' sound (answers h) =
-    goes-from x s.thread w h.mid w' (left-blocks w s.thread h.mid h.leaves) (sound-answers x laws h.mid s w' (sound-left x w s.thread h.mid sound h.leaves) h.answers)
+    goes-from x s.thread w h.mid w' (left-blocks w s.thread h.mid h.leaves)
+    (sound-answers x laws h.mid s w' (sound-left x w s.thread h.mid sound h.leaves) h.answers)
 step-goes x laws w s w' sound (visit_starts h) = sound-goes_on x w s w' sound h
 step-goes x laws w s w' sound (visit_parts h) = sound-parts x w s w' sound h
 step-goes x laws w s w' sound (visit_looks h) = sound-looks x laws w s w' sound h
@@ -55,5 +63,6 @@ step-goes x laws w s w' sound (visit_seeks h) = sound-seeks x w s w' sound h
 step-goes x laws w s w' sound (visit_does h) = sound-does x laws w s w' sound h
 step-goes x laws w s w' sound (visit_gives h) = sound-gives_back x w s w' sound h
 
-pub sound-step : {K V S D T A : Type 0} (x : Setup K V D T) → Laws x → (w : State K V S D T A) (s : Step) (w' : State K V S D T A) → Sound x w → IsStep x w s w' → Sound x w'
+pub sound-step : {K V S D T A : Type 0} (x : Setup K V D T) → Laws x
+    → (w : State K V S D T A) (s : Step) (w' : State K V S D T A) → Sound x w → IsStep x w s w' → Sound x w'
 sound-step x laws w s w' sound step = (step-goes x laws w s w' sound step).sound

@@ -1,5 +1,7 @@
 -- The start of a call.
-use Rattle.std.proofs.Common.{◌≡◌, ℕ, ◌+◌, ◌-◌, ◌<◌, ◌≤◌, inl, inr, Bool, true, false, ◌&&◌, if◌then◌else◌, List, [], ◌∷◌, ◌++◌, length, drop, Option, Some, None, slice_get, slice_set, refl, ap, sym, ◌∙◌, subst, arith}
+use Rattle.std.proofs.Common.{◌≡◌, ℕ, ◌+◌, ◌-◌, ◌<◌, ◌≤◌, inl, inr, Bool, true, false, ◌&&◌, if◌then◌else◌, List, []}
+use Rattle.std.proofs.Common.{◌∷◌, ◌++◌, length, drop, Option, Some, None, slice_get, slice_set, refl, ap, sym, ◌∙◌}
+use Rattle.std.proofs.Common.{subst, arith}
 use Rattle.mapworld_state.specs.Shards.{ShardPairs}
 use Rattle.std.proofs.lemmas.Option.{same_Some, none-some}
 use Rattle.std.proofs.lemmas.Bool.{false≢true}
@@ -30,14 +32,22 @@ use Rattle.mapworld_state.specs.declared.place.Phase.{Phase}
 use Rattle.mapworld_state.specs.declared.place.Phase.TheVariants as phase
 use Rattle.mapworld_state.specs.Places.{Place}
 use Rattle.mapworld_state.specs.State.{State, threads_of, started_of, next_step}
-use Rattle.mapworld_state.specs.Moves.{is_last, way_mode, lent, is_change, shared_phase, exclusive_phase, occupied_phase, vacant_phase, held_phase, stops_at, held_guard, start_phase, start_guard, start_shard, start_counts, stepped, CountsCall}
+use Rattle.mapworld_state.specs.Moves.{is_last, way_mode, lent, is_change, shared_phase, exclusive_phase}
+use Rattle.mapworld_state.specs.Moves.{occupied_phase, vacant_phase, held_phase, stops_at, held_guard, start_phase}
+use Rattle.mapworld_state.specs.Moves.{start_guard, start_shard, start_counts, stepped, CountsCall}
 use Rattle.mapworld_state.specs.Walks.{walk_mode, hands_over, kept_over}
 use Rattle.mapworld_state.specs.Steps.{EntersBy, Starts}
-use Rattle.mapworld_state.specs.Sound.{is_resting, may_own, block_after, GuardIs, HoldsShard, HasSession, IsInSessionOf, IsInSession, IsReady, IsInCall, IsReleasing, IsOutside, KeepsOver, Claim, HasVisited, HasNoWalk, Walks, Stands, Sound}
+use Rattle.mapworld_state.specs.Sound.{is_resting, may_own, block_after, GuardIs, HoldsShard, HasSession, IsInSessionOf}
+use Rattle.mapworld_state.specs.Sound.{IsInSession, IsReady, IsInCall, IsReleasing, IsOutside, KeepsOver, Claim}
+use Rattle.mapworld_state.specs.Sound.{HasVisited, HasNoWalk, Walks, Stands, Sound}
 use Rattle.mapworld_state.proofs.InvariantFacts.Timing.{IsStepOf-next, placed-same}
 use Rattle.mapworld_state.proofs.InvariantFacts.Holding.{holds-entered, stand-at}
-use Rattle.mapworld_state.proofs.InvariantFacts.Building.{Goes, drop-first, asked-at, session-next, holds-moved, guard-moved, ready-moved, tables-same, started-stays, sound-by, claim-at, walks-at, none-moved, no-visits, taken-at, ready-outside, block_after-none}
-use Rattle.mapworld_state.proofs.InvariantFacts.Admitting.{leaves-same, owns-on, none-yet, keyed-apart, begin-apart, walk-apart}
+use Rattle.mapworld_state.proofs.InvariantFacts.Building.{Goes, drop-first, asked-at, session-next, holds-moved}
+use Rattle.mapworld_state.proofs.InvariantFacts.Building.{guard-moved, ready-moved, tables-same, started-stays}
+use Rattle.mapworld_state.proofs.InvariantFacts.Building.{sound-by, claim-at, walks-at, none-moved, no-visits, taken-at}
+use Rattle.mapworld_state.proofs.InvariantFacts.Building.{ready-outside, block_after-none}
+use Rattle.mapworld_state.proofs.InvariantFacts.Admitting.{leaves-same, owns-on, none-yet, keyed-apart, begin-apart}
+use Rattle.mapworld_state.proofs.InvariantFacts.Admitting.{walk-apart}
 use Rattle.mapworld_state.proofs.InvariantFacts.Walked.{stops-none, stops-below, none-counted}
 use Rattle.mapworld_calls.proofs.Walking.{none-visited}
 use Rattle.mapworld_state.proofs.InvariantFacts.Listing.{length-map}
@@ -513,7 +523,9 @@ module _ {K V S D T A : Type 0} (x : Setup K V D T) (laws : Laws x) (w : State K
   begun-by (ask.Held (held.Read d)) asks (Some (guard.Vacant k)) e blocks n = wrong-vacant (held.Read d) asks k e refl refl refl (refl, refl) blocks p.block refl n
   begun-by (ask.Held (held.Write d)) asks (Some (guard.Pair way.Shared)) e blocks n = wrong-pair (held.Write d) asks way.Shared e refl refl refl (λ pair. (refl, refl)) blocks p.block refl n
   begun-by (ask.Held (held.Write d)) asks (Some (guard.Pair way.Exclusive)) e blocks n = same-blocks (ask.Held (held.Write d)) (Some (guard.Pair way.Exclusive)) blocks n (to-change (held.Write d) asks way.Exclusive e refl refl refl refl)
-  begun-by (ask.Held (held.Write d)) asks (Some (guard.Pair (way.Occupied k))) e blocks n = same-blocks (ask.Held (held.Write d)) (Some (guard.Pair (way.Occupied k))) blocks n (to-change (held.Write d) asks (way.Occupied k) e refl refl refl refl)
+  begun-by (ask.Held (held.Write d)) asks (Some (guard.Pair (way.Occupied k))) e blocks n =
+      same-blocks (ask.Held (held.Write d)) (Some (guard.Pair (way.Occupied k))) blocks n
+      (to-change (held.Write d) asks (way.Occupied k) e refl refl refl refl)
   begun-by (ask.Held (held.Write d)) asks (Some (guard.Vacant k)) e blocks n = wrong-vacant (held.Write d) asks k e refl refl refl (refl, refl) blocks p.block refl n
   begun-by (ask.Held held.Downgrade) asks (Some (guard.Pair way.Shared)) e blocks n = wrong-pair held.Downgrade asks way.Shared e refl refl refl (λ pair. (refl, refl)) blocks p.block refl n
   begun-by (ask.Held held.Downgrade) asks (Some (guard.Pair way.Exclusive)) e blocks n =
@@ -525,7 +537,9 @@ module _ {K V S D T A : Type 0} (x : Setup K V D T) (laws : Laws x) (w : State K
   begun-by (ask.Held held.Downgrade) asks (Some (guard.Vacant k)) e blocks n = wrong-vacant held.Downgrade asks k e refl refl refl (refl, refl) blocks p.block refl n
   begun-by (ask.Held (held.Insert v)) asks (Some (guard.Pair way.Shared)) e blocks n = wrong-pair (held.Insert v) asks way.Shared e refl refl refl (λ pair. (refl, refl)) blocks p.block refl n
   begun-by (ask.Held (held.Insert v)) asks (Some (guard.Pair way.Exclusive)) e blocks n = wrong-pair (held.Insert v) asks way.Exclusive e refl refl refl (λ pair. (refl, refl)) blocks p.block refl n
-  begun-by (ask.Held (held.Insert v)) asks (Some (guard.Pair (way.Occupied k))) e blocks n = same-blocks (ask.Held (held.Insert v)) (Some (guard.Pair (way.Occupied k))) blocks n (to-change (held.Insert v) asks (way.Occupied k) e refl refl refl refl)
+  begun-by (ask.Held (held.Insert v)) asks (Some (guard.Pair (way.Occupied k))) e blocks n =
+      same-blocks (ask.Held (held.Insert v)) (Some (guard.Pair (way.Occupied k))) blocks n
+      (to-change (held.Insert v) asks (way.Occupied k) e refl refl refl refl)
   begun-by (ask.Held (held.Insert v)) asks (Some (guard.Vacant k)) e blocks n =
       let a : Ask K V D = ask.Held (held.Insert v) in
       let g = Some (guard.Vacant k) in
@@ -541,11 +555,15 @@ module _ {K V S D T A : Type 0} (x : Setup K V D T) (laws : Laws x) (w : State K
   begun-by (ask.Held held.Remove) asks (Some (guard.Vacant k)) e blocks n = wrong-vacant held.Remove asks k e refl refl refl (refl, refl) blocks p.block refl n
   begun-by (ask.Held held.RemoveEntry) asks (Some (guard.Pair way.Shared)) e blocks n = wrong-pair held.RemoveEntry asks way.Shared e refl refl refl (λ pair. (refl, refl)) blocks p.block refl n
   begun-by (ask.Held held.RemoveEntry) asks (Some (guard.Pair way.Exclusive)) e blocks n = wrong-pair held.RemoveEntry asks way.Exclusive e refl refl refl (λ pair. (refl, refl)) blocks p.block refl n
-  begun-by (ask.Held held.RemoveEntry) asks (Some (guard.Pair (way.Occupied k))) e blocks n = same-blocks (ask.Held held.RemoveEntry) (Some (guard.Pair (way.Occupied k))) blocks n (to-change held.RemoveEntry asks (way.Occupied k) e refl refl refl refl)
+  begun-by (ask.Held held.RemoveEntry) asks (Some (guard.Pair (way.Occupied k))) e blocks n =
+      same-blocks (ask.Held held.RemoveEntry) (Some (guard.Pair (way.Occupied k))) blocks n
+      (to-change held.RemoveEntry asks (way.Occupied k) e refl refl refl refl)
   begun-by (ask.Held held.RemoveEntry) asks (Some (guard.Vacant k)) e blocks n = wrong-vacant held.RemoveEntry asks k e refl refl refl (refl, refl) blocks p.block refl n
   begun-by (ask.Held (held.ReplaceEntry v)) asks (Some (guard.Pair way.Shared)) e blocks n = wrong-pair (held.ReplaceEntry v) asks way.Shared e refl refl refl (λ pair. (refl, refl)) blocks p.block refl n
   begun-by (ask.Held (held.ReplaceEntry v)) asks (Some (guard.Pair way.Exclusive)) e blocks n = wrong-pair (held.ReplaceEntry v) asks way.Exclusive e refl refl refl (λ pair. (refl, refl)) blocks p.block refl n
-  begun-by (ask.Held (held.ReplaceEntry v)) asks (Some (guard.Pair (way.Occupied k))) e blocks n = same-blocks (ask.Held (held.ReplaceEntry v)) (Some (guard.Pair (way.Occupied k))) blocks n (to-change (held.ReplaceEntry v) asks (way.Occupied k) e refl refl refl refl)
+  begun-by (ask.Held (held.ReplaceEntry v)) asks (Some (guard.Pair (way.Occupied k))) e blocks n =
+      same-blocks (ask.Held (held.ReplaceEntry v)) (Some (guard.Pair (way.Occupied k))) blocks n
+      (to-change (held.ReplaceEntry v) asks (way.Occupied k) e refl refl refl refl)
   begun-by (ask.Held (held.ReplaceEntry v)) asks (Some (guard.Vacant k)) e blocks n = wrong-vacant (held.ReplaceEntry v) asks k e refl refl refl (refl, refl) blocks p.block refl n
   begun-by (ask.Held held.IntoKey) asks (Some (guard.Pair way.Shared)) e blocks n = wrong-pair held.IntoKey asks way.Shared e refl refl refl (λ pair. (refl, refl)) blocks p.block refl n
   begun-by (ask.Held held.IntoKey) asks (Some (guard.Pair way.Exclusive)) e blocks n = wrong-pair held.IntoKey asks way.Exclusive e refl refl refl (λ pair. (refl, refl)) blocks p.block refl n

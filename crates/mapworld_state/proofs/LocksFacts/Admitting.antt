@@ -1,5 +1,7 @@
 -- A desk on which guards are admitted, given up and turned keeps its seats, and refuses none of them.
-use Rattle.std.proofs.Common.{◌≡◌, ℕ, zero, suc, ◌<◌, inl, inr, Bool, true, false, cond, not, ◌&&◌, nat_le, List, [], ◌∷◌, ◌++◌, length, Option, Some, None, is_some, slice_get, refl, sym, ap, ◌∙◌, subst, arith}
+use Rattle.std.proofs.Common.{◌≡◌, ℕ, zero, suc, ◌<◌, inl, inr, Bool, true, false, cond, not, ◌&&◌, nat_le, List, []}
+use Rattle.std.proofs.Common.{◌∷◌, ◌++◌, length, Option, Some, None, is_some, slice_get, refl, sym, ap, ◌∙◌, subst}
+use Rattle.std.proofs.Common.{arith}
 use Rattle.std.proofs.lemmas.Bool.{cases_eq, false≢true, and_from, lt-leb}
 use Rattle.std.proofs.lemmas.List.Sums.{count_by-le-length}
 use Rattle.std.proofs.lemmas.Option.{none-some, same_Some}
@@ -16,13 +18,15 @@ not_full : (limit : ℕ) (mode : Mode) (guards : List Guard) → length guards <
 not_full limit mode guards few = by (is_reader mode)
   where
     low : nat_le limit (readers guards) ≡ false
-    low = lt-leb limit (readers guards) (omega (arith, few, count_by-le-length (λ g. is_held g && is_reader g.mode) guards))
+    low = lt-leb limit (readers guards)
+        (omega (arith, few, count_by-le-length (λ g. is_held g && is_reader g.mode) guards))
 
     by : (b : Bool) → (b && nat_le limit (readers guards)) ≡ false
     by true = low
     by false = refl
 
-module _ (modes : ℕ → Option Mode) (threads : ℕ) (desk : DeskState (Unit {0})) (can : CanSeat modes threads desk) (t : ℕ) (mode : Mode) (holds : modes t ≡ Some mode) (none : guards_of t desk.guards ≡ []) where
+module _ (modes : ℕ → Option Mode) (threads : ℕ) (desk : DeskState (Unit {0})) (can : CanSeat modes threads desk)
+    (t : ℕ) (mode : Mode) (holds : modes t ≡ Some mode) (none : guards_of t desk.guards ≡ []) where
   has_room : length desk.guards < threads
   has_room = room_for modes desk.guards threads t can.half can.low (can.low t mode holds) none
 
@@ -54,15 +58,18 @@ module _ (modes : ℕ → Option Mode) (threads : ℕ) (desk : DeskState (Unit {
 abbrev pub IsSeated : (ℕ → Option Mode) → List Guard → ℕ → Type 0
 IsSeated modes guards t = guards_of t guards ≡ seat_of t (modes t)
 
-module _ (modes : ℕ → Option Mode) (threads : ℕ) (desk : DeskState (Unit {0})) (can : CanSeat modes threads desk) (t : ℕ) where
+module _ (modes : ℕ → Option Mode) (threads : ℕ) (desk : DeskState (Unit {0})) (can : CanSeat modes threads desk)
+    (t : ℕ) where
   names : Seating.IsNamed t desk.guards
   names = Seating.named modes desk.guards can.half t
 
   -- one that isn't found has none
-  none_yet : (mode : Mode) → modes t ≡ Some mode → is_some (held_of t desk.guards) ≡ false → guards_of t desk.guards ≡ []
+  none_yet : (mode : Mode) → modes t ≡ Some mode → is_some (held_of t desk.guards) ≡ false
+      → guards_of t desk.guards ≡ []
   none_yet mode holds missing = elim (can.half t) [
     | inl none ↦ none
-    | inr seat ↦ absurd (false≢true (sym missing ∙ Seating.held_found t desk.guards names mode (seat ∙ ap (seat_of t) holds)))
+    | inr seat ↦ absurd
+        (false≢true (sym missing ∙ Seating.held_found t desk.guards names mode (seat ∙ ap (seat_of t) holds)))
   ]
 
   -- one that is found has its seat
@@ -79,13 +86,15 @@ record Seats (modes : ℕ → Option Mode) (threads t : ℕ) (old new : DeskStat
   seat : IsSeated modes new.guards t
 
 -- all of the list
-pub record AllSeated (modes : ℕ → Option Mode) (threads : ℕ) (us : List ℕ) (old new : DeskState (Unit {0})) : Type 0 where
-  pub can : CanSeat modes threads new
-  pub stay : (v : ℕ) → IsSeated modes old.guards v → IsSeated modes new.guards v
-  pub seat : (k v : ℕ) → slice_get us k ≡ Some v → IsSeated modes new.guards v
+pub record AllSeated (modes : ℕ → Option Mode) (threads : ℕ) (us : List ℕ) (old new : DeskState (Unit {0})) : Type 0
+  where
+    pub can : CanSeat modes threads new
+    pub stay : (v : ℕ) → IsSeated modes old.guards v → IsSeated modes new.guards v
+    pub seat : (k v : ℕ) → slice_get us k ≡ Some v → IsSeated modes new.guards v
 
 module _ (modes : ℕ → Option Mode) (threads : ℕ) where
-  seats_one : (desk : DeskState (Unit {0})) → CanSeat modes threads desk → (t : ℕ) → Seats modes threads t desk (admitted_as t (modes t) desk)
+  seats_one : (desk : DeskState (Unit {0})) → CanSeat modes threads desk → (t : ℕ)
+      → Seats modes threads t desk (admitted_as t (modes t) desk)
   seats_one desk can t = by (modes t) refl
     where
       by : (o : Option Mode) → modes t ≡ o → Seats modes threads t desk (admitted_as t o desk)
@@ -99,12 +108,14 @@ module _ (modes : ℕ → Option Mode) (threads : ℕ) where
       }
       by (Some mode) e = or_not (is_some (held_of t desk.guards)) refl
         where
-          or_not : (b : Bool) → is_some (held_of t desk.guards) ≡ b → Seats modes threads t desk (cond (is_some (held_of t desk.guards)) desk (admitted mode t t desk))
-          or_not true f = subst (λ (b : Bool). Seats modes threads t desk (cond b desk (admitted mode t t desk))) (sym f) (record {
-            can = can;
-            stay = λ v seat. seat;
-            seat = seat_found modes threads desk can t f;
-          })
+          or_not : (b : Bool) → is_some (held_of t desk.guards) ≡ b
+              → Seats modes threads t desk (cond (is_some (held_of t desk.guards)) desk (admitted mode t t desk))
+          or_not true f = subst (λ (b : Bool). Seats modes threads t desk (cond b desk (admitted mode t t desk)))
+              (sym f) (record {
+                can = can;
+                stay = λ v seat. seat;
+                seat = seat_found modes threads desk can t f;
+              })
           or_not false f =
               let none = none_yet modes threads desk can t mode e f in
               subst (λ (b : Bool). Seats modes threads t desk (cond b desk (admitted mode t t desk))) (sym f) (record {
@@ -119,7 +130,8 @@ module _ (modes : ℕ → Option Mode) (threads : ℕ) where
               own : guards_of t desk.guards ≡ [] → IsSeated modes (Seating.with_guard mode t desk.guards) t
               own none = Seating.first_guard mode t desk.guards none ∙ sym (ap (seat_of t) e)
 
-  pub seats_all : (us : List ℕ) (desk : DeskState (Unit {0})) → CanSeat modes threads desk → AllSeated modes threads us desk (all_admitted modes us desk)
+  pub seats_all : (us : List ℕ) (desk : DeskState (Unit {0})) → CanSeat modes threads desk
+      → AllSeated modes threads us desk (all_admitted modes us desk)
   seats_all [] desk can = record { can = can; stay = λ v seat. seat; seat = λ k v e. absurd (none-some v e) }
   seats_all (t ∷ us) desk can =
       let one = seats_one desk can t in
@@ -131,8 +143,11 @@ module _ (modes : ℕ → Option Mode) (threads : ℕ) where
       }
     where
       at : (k v : ℕ) → slice_get (t ∷ us) k ≡ Some v → Seats modes threads t desk (admitted_as t (modes t) desk)
-          → AllSeated modes threads us (admitted_as t (modes t) desk) (all_admitted modes us (admitted_as t (modes t) desk)) → IsSeated modes (all_admitted modes us (admitted_as t (modes t) desk)).guards v
-      at zero v e one rest = subst (IsSeated modes (all_admitted modes us (admitted_as t (modes t) desk)).guards) (same_Some t v e) (rest.stay t one.seat)
+          → AllSeated modes threads us (admitted_as t (modes t) desk)
+          (all_admitted modes us (admitted_as t (modes t) desk))
+          → IsSeated modes (all_admitted modes us (admitted_as t (modes t) desk)).guards v
+      at zero v e one rest = subst (IsSeated modes (all_admitted modes us (admitted_as t (modes t) desk)).guards)
+          (same_Some t v e) (rest.stay t one.seat)
       at (suc k) v e one rest = rest.seat k v e
 
   -- and none is refused
@@ -141,9 +156,11 @@ module _ (modes : ℕ → Option Mode) (threads : ℕ) where
     where
       by : (o : Option Mode) → modes t ≡ o → MayAdmitAs t o desk
       by None e = tt
-      by (Some mode) e = λ missing. may_come modes threads desk can t mode e (none_yet modes threads desk can t mode e missing)
+      by (Some mode) e = λ missing. may_come modes threads desk can t mode e
+          (none_yet modes threads desk can t mode e missing)
 
 -- one more of a list
-pub admitted_more : (modes : ℕ → Option Mode) (us : List ℕ) (t : ℕ) (desk : DeskState (Unit {0})) → all_admitted modes (us ++ t ∷ []) desk ≡ admitted_as t (modes t) (all_admitted modes us desk)
+pub admitted_more : (modes : ℕ → Option Mode) (us : List ℕ) (t : ℕ) (desk : DeskState (Unit {0}))
+    → all_admitted modes (us ++ t ∷ []) desk ≡ admitted_as t (modes t) (all_admitted modes us desk)
 admitted_more modes [] t desk = refl
 admitted_more modes (u ∷ us) t desk = admitted_more modes us t (admitted_as u (modes u) desk)

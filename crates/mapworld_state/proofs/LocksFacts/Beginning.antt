@@ -1,8 +1,11 @@
 -- A call that may be asked for may begin, and its beginning changes nobody's hold.
-use Rattle.std.proofs.Common.{◌≡◌, ◌≢◌, ℕ, zero, suc, ◌<◌, ◌+◌, ◌-◌, ◌*◌, inl, inr, Bool, true, false, cond, ◌==◌, nat_lt, List, length, Option, Some, None, is_none, get_or, slice_get, slice_set, refl, sym, ap, ◌∙◌, subst, arith}
+use Rattle.std.proofs.Common.{◌≡◌, ◌≢◌, ℕ, zero, suc, ◌<◌, ◌+◌, ◌-◌, ◌*◌, inl, inr, Bool, true, false, cond, ◌==◌}
+use Rattle.std.proofs.Common.{nat_lt, List, length, Option, Some, None, is_none, get_or, slice_get, slice_set, refl}
+use Rattle.std.proofs.Common.{sym, ap, ◌∙◌, subst, arith}
 use Rattle.std.specs.List.{All}
 use Rattle.std.specs.Option.{option_map, option_map_or, unwrap_or}
-use Rattle.std.proofs.lemmas.Bool.{cases_Bool, cases_eq, cases_lt, false≢true, and_from, eqb-true, cond-true, cond-false, lt-ltb}
+use Rattle.std.proofs.lemmas.Bool.{cases_Bool, cases_eq, cases_lt, false≢true, and_from, eqb-true, cond-true}
+use Rattle.std.proofs.lemmas.Bool.{cond-false, lt-ltb}
 use Rattle.std.proofs.lemmas.List.{length-set}
 use Rattle.std.proofs.lemmas.Option.{none-some, same_Some, slice_get-get_or, slice_get_within}
 use Rattle.lock_api_desk.specs.declared.mode.Mode.{Mode}
@@ -18,7 +21,8 @@ use Rattle.parking_lot_machine_calls.specs.declared.calls.LockKind.TheVariants a
 use Rattle.parking_lot_machine_calls.specs.declared.open_call.Call.{Call}
 use Rattle.parking_lot_machine_calls.specs.declared.seat.Hold.{Hold}
 use Rattle.parking_lot_machine_calls.specs.declared.seat.QueuePosition.{QueuePosition}
-use Rattle.parking_lot_machine_calls.specs.Beginnings.{core_of, holds as shares_of, holds_beside, is_allowed, owns_nothing}
+use Rattle.parking_lot_machine_calls.specs.Beginnings.{core_of, holds as shares_of, holds_beside, is_allowed}
+use Rattle.parking_lot_machine_calls.specs.Beginnings.{owns_nothing}
 use Rattle.parking_lot_machine_calls.specs.Calls.{is_timed, manner_for, takes}
 use Rattle.parking_lot_machine_calls.specs.CallViews.{mode_of, rw_mode}
 use Rattle.parking_lot_machine.specs.Machines.{IsBegun, call_for, may_begin}
@@ -47,24 +51,33 @@ not_some None h = refl
 not_some (Some x) h = absurd (h x refl)
 
 -- a thread in the same role holds as before
-pub held_so : (s u : State) (i v : ℕ) → All (λ k. k ≡ kind.Rw) s.kinds → All (λ k. k ≡ kind.Rw) u.kinds → length u.calls ≡ length s.calls → held_as (rw_mode (rw_role_at u i v)) ≡ held_as (rw_mode (rw_role_at s i v)) → held_at u i v ≡ held_at s i v
+pub held_so : (s u : State) (i v : ℕ) → All (λ k. k ≡ kind.Rw) s.kinds → All (λ k. k ≡ kind.Rw) u.kinds
+    → length u.calls ≡ length s.calls → held_as (rw_mode (rw_role_at u i v)) ≡ held_as (rw_mode (rw_role_at s i v))
+    → held_at u i v ≡ held_at s i v
 held_so s u i v rws next count same = elim (cases_lt v (length s.calls)) [
   | inl low ↦ held_by_role u i v next (omega (arith, low, count)) ∙ same ∙ sym (held_by_role s i v rws low)
-  | inr past ↦ not_some (held_at u i v) (λ m e. absurd (omega (arith, past, count, holders_are_threads u i next v m e))) ∙ sym (not_some (held_at s i v) (λ m e. absurd (omega (arith, past, holders_are_threads s i rws v m e))))
+  | inr past ↦ not_some (held_at u i v) (λ m e. absurd (omega (arith, past, count, holders_are_threads u i next v m e)))
+      ∙ sym (not_some (held_at s i v) (λ m e. absurd (omega (arith, past, holders_are_threads s i rws v m e))))
 ]
 
 -- of a thread in no call its hold tells it
-pub held_rest : (s : State) (i t : ℕ) → All (λ k. k ≡ kind.Rw) s.kinds → t < length s.calls → call_at s t ≡ None → held_at s i t ≡ held_as (hold_mode (Some kind.Rw) (hold_at s t i))
-held_rest s i t rws low free = held_by_role s i t rws low ∙ ap (λ o. held_as (rw_mode (rw_role_in i (taken_by s.wakes t) (hold_at s t i) o))) free ∙ ap held_as (idle_mode (hold_at s t i))
+pub held_rest : (s : State) (i t : ℕ) → All (λ k. k ≡ kind.Rw) s.kinds → t < length s.calls → call_at s t ≡ None
+    → held_at s i t ≡ held_as (hold_mode (Some kind.Rw) (hold_at s t i))
+held_rest s i t rws low free = held_by_role s i t rws low
+    ∙ ap (λ o. held_as (rw_mode (rw_role_in i (taken_by s.wakes t) (hold_at s t i) o))) free
+    ∙ ap held_as (idle_mode (hold_at s t i))
 
 pub single_hold : (s : State) (t i : ℕ) → All (λ h. is_single h ≡ true) s.holds → is_single (hold_at s t i) ≡ true
 single_hold s t i single = by (nat_lt i (length s.kinds))
   where
-    at : (o : Option Hold) → slice_get s.holds (t * length s.kinds + i) ≡ o → is_single (option_map_or (λ h. h) o (Hold.Shares 0)) ≡ true
+    at : (o : Option Hold) → slice_get s.holds (t * length s.kinds + i) ≡ o
+        → is_single (option_map_or (λ h. h) o (Hold.Shares 0)) ≡ true
     at None e = refl
     at (Some h) e = all_at (λ h. is_single h ≡ true) s.holds (t * length s.kinds + i) h single e
 
-    by : (b : Bool) → is_single (cond b (option_map_or (λ h. h) (slice_get s.holds (t * length s.kinds + i)) (Hold.Shares 0)) (Hold.Shares 0)) ≡ true
+    by : (b : Bool) → is_single
+        (cond b (option_map_or (λ h. h) (slice_get s.holds (t * length s.kinds + i)) (Hold.Shares 0)) (Hold.Shares 0))
+        ≡ true
     by true = at (slice_get s.holds (t * length s.kinds + i)) refl
     by false = refl
 
@@ -81,7 +94,8 @@ none_held (Hold.Shares (suc n)) may = absurd (false≢true may)
 none_held Hold.Excludes may = refl
 none_held Hold.Upgrades may = absurd (false≢true may)
 
-none_beside : (call : LockCall) (h : Hold) → is_allowed kind.Rw h call ≡ true → is_single h ≡ true → holds_beside call h ≡ 0
+none_beside : (call : LockCall) (h : Hold) → is_allowed kind.Rw h call ≡ true → is_single h ≡ true
+    → holds_beside call h ≡ 0
 none_beside LockCall.Read h may is = none_held h may
 none_beside LockCall.TryRead h may is = none_held h may
 none_beside LockCall.ReadUntil h may is = none_held h may
@@ -99,7 +113,8 @@ pub differ : (a b : Option Mode) → mode_number a ≢ mode_number b → a ≢ b
 differ a b ne e = ne (ap mode_number e)
 
 -- one that holds as the call needs may make it
-allowed : (h : Hold) (call : LockCall) → is_of_shards call ≡ true → held_as (hold_mode (Some kind.Rw) h) ≡ needs call → is_allowed kind.Rw h call ≡ true
+allowed : (h : Hold) (call : LockCall) → is_of_shards call ≡ true → held_as (hold_mode (Some kind.Rw) h) ≡ needs call
+    → is_allowed kind.Rw h call ≡ true
 allowed h LockCall.Lock k e = absurd (false≢true k)
 allowed h LockCall.TryLock k e = absurd (false≢true k)
 allowed h LockCall.LockUntil k e = absurd (false≢true k)
@@ -148,8 +163,10 @@ shares_again : (n : ℕ) → suc n - 1 + 1 ≡ suc n
 shares_again n = omega arith
 
 -- and holds the lock in its call as before
-begun_mode : (x : LockKind) (h : Hold) (call : LockCall) (us : List ℕ) → is_of_shards call ≡ true → is_allowed kind.Rw h call ≡ true
-    → rw_mode (rw_core_role (holds_beside call h) QueuePosition.Listed us (core_next (core_of x call) ActResult.Start)) ≡ rw_mode (record { owns = owned_of h; does = Idle })
+begun_mode : (x : LockKind) (h : Hold) (call : LockCall) (us : List ℕ) → is_of_shards call ≡ true
+    → is_allowed kind.Rw h call ≡ true
+    → rw_mode (rw_core_role (holds_beside call h) QueuePosition.Listed us (core_next (core_of x call) ActResult.Start))
+    ≡ rw_mode (record { owns = owned_of h; does = Idle })
 begun_mode x h LockCall.Lock us k e = absurd (false≢true k)
 begun_mode x h LockCall.TryLock us k e = absurd (false≢true k)
 begun_mode x h LockCall.LockUntil us k e = absurd (false≢true k)
@@ -195,7 +212,15 @@ begun_mode x h LockCall.UpgradableUntil us k e = absurd (false≢true k)
 begun_mode x h LockCall.UpgradeUntil us k e = absurd (false≢true k)
 
 -- and is about what it is for
-begun_stand : (x : LockKind) (i n : ℕ) (call : LockCall) → is_of_shards call ≡ true → stand_of (record { lock = i; others = n; core = core_next (core_of x call) ActResult.Start; spot = QueuePosition.Listed; timed = is_timed call }) ≡ record { shard = i; aim = aim_of call; trying = is_try call }
+begun_stand : (x : LockKind) (i n : ℕ) (call : LockCall) → is_of_shards call ≡ true
+    → stand_of (record {
+      lock = i;
+      others = n;
+      core = core_next (core_of x call) ActResult.Start;
+      spot = QueuePosition.Listed;
+      timed = is_timed call;
+    })
+    ≡ record { shard = i; aim = aim_of call; trying = is_try call }
 begun_stand x i n LockCall.Lock k = absurd (false≢true k)
 begun_stand x i n LockCall.TryLock k = absurd (false≢true k)
 begun_stand x i n LockCall.LockUntil k = absurd (false≢true k)
@@ -230,7 +255,8 @@ as_rw LockCall.UnlockWrite k = refl
 as_rw LockCall.Downgrade k = refl
 as_rw call k = absurd (false≢true k)
 
-begun_plain : (x : LockKind) (call : LockCall) → is_of_shards call ≡ true → is_plain (core_next (core_of x call) ActResult.Start) ≡ true
+begun_plain : (x : LockKind) (call : LockCall) → is_of_shards call ≡ true
+    → is_plain (core_next (core_of x call) ActResult.Start) ≡ true
 begun_plain x LockCall.Read k = refl
 begun_plain x LockCall.TryRead k = refl
 begun_plain x LockCall.UnlockRead k = refl
@@ -244,12 +270,16 @@ none_of : (o : Option Call) → option_map stand_of o ≡ None → o ≡ None
 none_of None e = refl
 none_of (Some c) e = absurd (none-some (stand_of c) (sym e))
 
-rw_at : (kinds : List LockKind) (i : ℕ) → All (λ k. k ≡ kind.Rw) kinds → i < length kinds → slice_get kinds i ≡ Some kind.Rw
-rw_at kinds i rws low = slice_get-get_or kinds i kind.Rw low ∙ ap Some (all_at (λ k. k ≡ kind.Rw) kinds i (get_or kinds i kind.Rw) rws (slice_get-get_or kinds i kind.Rw low))
+rw_at : (kinds : List LockKind) (i : ℕ) → All (λ k. k ≡ kind.Rw) kinds → i < length kinds
+    → slice_get kinds i ≡ Some kind.Rw
+rw_at kinds i rws low = slice_get-get_or kinds i kind.Rw low
+    ∙ ap Some (all_at (λ k. k ≡ kind.Rw) kinds i (get_or kinds i kind.Rw) rws (slice_get-get_or kinds i kind.Rw low))
 
 -- Where nobody's hold changes, the desks fit as they are.
-pub same_holds : (old : Shown) → LocksFit old → (rows : Rows) → FitsTogether (state rows) → IsPlain (state rows) → rows.kinds ≡ old.rows.kinds → length rows.calls ≡ length old.rows.calls
-    → ((v j : ℕ) → held_at (state rows) j v ≡ held_at (state old.rows) j v) → LocksFit (record { rows = rows; desks = old.desks })
+pub same_holds : (old : Shown) → LocksFit old → (rows : Rows) → FitsTogether (state rows) → IsPlain (state rows)
+    → rows.kinds ≡ old.rows.kinds → length rows.calls ≡ length old.rows.calls
+    → ((v j : ℕ) → held_at (state rows) j v ≡ held_at (state old.rows) j v)
+    → LocksFit (record { rows = rows; desks = old.desks })
 same_holds old fit rows fits plain kinds count holds = record {
   fits = fits;
   plain = plain;
@@ -285,7 +315,8 @@ module _ (old : Shown) (fit : LocksFit old) (t i : ℕ) (call : LockCall) (ask :
   of_kind = ap (λ k. takes k call) here_rw ∙ ap (is_manner (Some AsRw)) (as_rw call ask.of_kind)
 
   pub may : may_begin s t i call ≡ true
-  may = and_from _ _ (lt-ltb t (length s.calls) ask.thread) (and_from _ _ (ap is_none free) (and_from _ _ of_kind allowed_so))
+  may = and_from _ _ (lt-ltb t (length s.calls) ask.thread)
+      (and_from _ _ (ap is_none free) (and_from _ _ of_kind allowed_so))
 
   module _ (rows : Rows) (x : IsBegun t i call s (state rows)) where
     abbrev new : Shown
@@ -319,7 +350,8 @@ module _ (old : Shown) (fit : LocksFit old) (t i : ℕ) (call : LockCall) (ask :
     hold_same v j = ap (λ (w : State). hold_at w v j) x.became
 
     others_role : (v j : ℕ) → v ≢ t → rw_role_at u j v ≡ rw_role_at s j v
-    others_role v j ne = ap (λ (w : State). rw_role_in j (taken_by w.wakes v) (hold_at w v j) (call_at u v)) x.became ∙ ap (rw_role_in j (taken_by s.wakes v) (hold_at s v j)) (apart v ne)
+    others_role v j ne = ap (λ (w : State). rw_role_in j (taken_by w.wakes v) (hold_at w v j) (call_at u v)) x.became
+        ∙ ap (rw_role_in j (taken_by s.wakes v) (hold_at s v j)) (apart v ne)
 
     own_mode : (j : ℕ) → rw_mode (rw_role_at u j t) ≡ rw_mode (rw_role_at s j t)
     own_mode j =
@@ -328,17 +360,27 @@ module _ (old : Shown) (fit : LocksFit old) (t i : ℕ) (call : LockCall) (ask :
         ∙ at
         ∙ sym (ap (λ o. rw_mode (rw_role_in j (taken_by s.wakes t) (hold_at s t j) o)) free)
       where
-        at : rw_mode (rw_role_in j (taken_by s.wakes t) (hold_at s t j) (Some c)) ≡ rw_mode (record { owns = owned_of (hold_at s t j); does = Idle })
+        at : rw_mode (rw_role_in j (taken_by s.wakes t) (hold_at s t j) (Some c)) ≡ rw_mode
+            (record { owns = owned_of (hold_at s t j); does = Idle })
         at = elim (cases_Bool (i == j)) [
           | inl e ↦
-              ap rw_mode (cond-true (i == j) (rw_core_role (holds_beside call h) QueuePosition.Listed (taken_by s.wakes t) (core_next (core_of (kind_in s.kinds i) call) ActResult.Start)) (record { owns = owned_of (hold_at s t j); does = Idle }) e)
-              ∙ begun_mode (kind_in s.kinds i) h call (taken_by s.wakes t) ask.of_kind is_allowed_here ∙ ap (λ n. rw_mode (record { owns = owned_of (hold_at s t n); does = Idle })) (eqb-true i j e)
-          | inr e ↦ ap rw_mode (cond-false (i == j) (rw_core_role (holds_beside call h) QueuePosition.Listed (taken_by s.wakes t) (core_next (core_of (kind_in s.kinds i) call) ActResult.Start)) (record { owns = owned_of (hold_at s t j); does = Idle }) e)
+              ap rw_mode (cond-true (i == j)
+              (rw_core_role (holds_beside call h) QueuePosition.Listed (taken_by s.wakes t)
+              (core_next (core_of (kind_in s.kinds i) call) ActResult.Start))
+              (record { owns = owned_of (hold_at s t j); does = Idle }) e)
+              ∙ begun_mode (kind_in s.kinds i) h call (taken_by s.wakes t) ask.of_kind is_allowed_here
+              ∙ ap (λ n. rw_mode (record { owns = owned_of (hold_at s t n); does = Idle })) (eqb-true i j e)
+          | inr e ↦ ap rw_mode
+              (cond-false (i == j)
+              (rw_core_role (holds_beside call h) QueuePosition.Listed (taken_by s.wakes t)
+              (core_next (core_of (kind_in s.kinds i) call) ActResult.Start))
+              (record { owns = owned_of (hold_at s t j); does = Idle }) e)
         ]
 
     holds : (v j : ℕ) → held_at u j v ≡ held_at s j v
     holds v j = held_so s u j v fit.plain.kinds next count (elim (cases_eq v t) [
-      | inl e ↦ ap (λ n. held_as (rw_mode (rw_role_at u j n))) e ∙ ap held_as (own_mode j) ∙ sym (ap (λ n. held_as (rw_mode (rw_role_at s j n))) e)
+      | inl e ↦ ap (λ n. held_as (rw_mode (rw_role_at u j n))) e ∙ ap held_as (own_mode j)
+          ∙ sym (ap (λ n. held_as (rw_mode (rw_role_at s j n))) e)
       | inr ne ↦ ap (λ r. held_as (rw_mode r)) (others_role v j ne)
     ])
 
@@ -347,11 +389,13 @@ module _ (old : Shown) (fit : LocksFit old) (t i : ℕ) (call : LockCall) (ask :
       kinds = next;
       single = subst (All (λ h. is_single h ≡ true)) (sym (ap (λ (w : State). w.holds) x.became)) fit.plain.single;
       alone = λ v d at. elim (cases_eq v t) [
-        | inl e ↦ ap (λ (y : Call). y.others) (same_Some d c (sym at ∙ ap (call_at u) e ∙ here)) ∙ none_beside call h is_allowed_here (single_hold s t i fit.plain.single)
+        | inl e ↦ ap (λ (y : Call). y.others) (same_Some d c (sym at ∙ ap (call_at u) e ∙ here))
+            ∙ none_beside call h is_allowed_here (single_hold s t i fit.plain.single)
         | inr ne ↦ fit.plain.alone v d (sym (apart v ne) ∙ at)
       ];
       cores = λ v d at. elim (cases_eq v t) [
-        | inl e ↦ ap (λ (y : Call). is_plain y.core) (same_Some d c (sym at ∙ ap (call_at u) e ∙ here)) ∙ begun_plain (kind_in s.kinds i) call ask.of_kind
+        | inl e ↦ ap (λ (y : Call). is_plain y.core) (same_Some d c (sym at ∙ ap (call_at u) e ∙ here))
+            ∙ begun_plain (kind_in s.kinds i) call ask.of_kind
         | inr ne ↦ fit.plain.cores v d (sym (apart v ne) ∙ at)
       ];
     }
@@ -364,26 +408,33 @@ module _ (old : Shown) (fit : LocksFit old) (t i : ℕ) (call : LockCall) (ask :
       became = x;
       whole = record { threads = count; kinds = kinds_same };
       desks = refl;
-      stand = ap (option_map stand_of) here ∙ ap Some (begun_stand (kind_in s.kinds i) i (holds_beside call h) call ask.of_kind);
+      stand = ap (option_map stand_of) here
+          ∙ ap Some (begun_stand (kind_in s.kinds i) i (holds_beside call h) call ask.of_kind);
       others = λ v ne. ap (option_map stand_of) (apart v ne);
       holds = holds;
     }
 
--- Whoever begins a call has no hold beside the one that it is about: only a reader of a recursive lock asks for a further one.
-pub begun_alone : (s u : State) (t i : ℕ) (call : LockCall) → All (λ k. k ≡ kind.Rw) s.kinds → All (λ h. is_single h ≡ true) s.holds → (d : Call) → call_at u t ≡ Some d → IsBegun t i call s u → holds_beside call (hold_at s t i) ≡ 0
+-- Whoever begins a call has no hold beside the one that it is about: only a reader of a recursive lock asks for a
+-- further one.
+pub begun_alone : (s u : State) (t i : ℕ) (call : LockCall) → All (λ k. k ≡ kind.Rw) s.kinds
+    → All (λ h. is_single h ≡ true) s.holds → (d : Call) → call_at u t ≡ Some d → IsBegun t i call s u
+    → holds_beside call (hold_at s t i) ≡ 0
 begun_alone s u t i call rws single d at x = by call refl
   where
     h : Hold
     h = hold_at s t i
 
     low : t < length s.calls
-    low = subst (λ n. t < n) (ap (λ (w : State). length w.calls) x.became ∙ length-set s.calls t _) (slice_get_within u.calls t (Some d) (slot u.calls t d at))
+    low = subst (λ n. t < n) (ap (λ (w : State). length w.calls) x.became ∙ length-set s.calls t _)
+        (slice_get_within u.calls t (Some d) (slot u.calls t d at))
 
     here : call_at u t ≡ Some (hears (call_for s t i call) ActResult.Start)
     here = ap (λ (w : State). call_at w t) x.became ∙ set_low s.calls t _ low
 
-    asks : (c : LockCall) → call ≡ c → IsPrepared (recursive_in u.kinds i) (holds_beside c h) (core_next (core_of (kind_in s.kinds i) c) ActResult.Start)
-    asks c e = subst (λ k. IsPrepared (recursive_in u.kinds i) (holds_beside k h) (core_next (core_of (kind_in s.kinds i) k) ActResult.Start)) e (x.acts.fits.rules.prepared t _ here)
+    asks : (c : LockCall) → call ≡ c → IsPrepared (recursive_in u.kinds i) (holds_beside c h)
+        (core_next (core_of (kind_in s.kinds i) c) ActResult.Start)
+    asks c e = subst (λ k. IsPrepared (recursive_in u.kinds i) (holds_beside k h)
+        (core_next (core_of (kind_in s.kinds i) k) ActResult.Start)) e (x.acts.fits.rules.prepared t _ here)
 
     alone : (r : Bool) → r ≡ false → Asks (recursive_in u.kinds i) (shares_of h) (want.Shared r) → shares_of h ≡ 0
     alone r e a = subst (λ b. Asks (recursive_in u.kinds i) (shares_of h) (want.Shared b)) e a

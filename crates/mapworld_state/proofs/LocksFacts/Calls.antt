@@ -1,5 +1,6 @@
 -- How the calls of all threads follow from those before a step.
-use Rattle.std.proofs.Common.{◌⊎◌, ◌≡◌, ◌≢◌, ℕ, zero, suc, inl, inr, Bool, true, false, cond, List, [], ◌∷◌, map, length, Option, Some, None, slice_get, slice_set, refl, sym, ap, ◌∙◌, subst}
+use Rattle.std.proofs.Common.{◌⊎◌, ◌≡◌, ◌≢◌, ℕ, zero, suc, inl, inr, Bool, true, false, cond, List, [], ◌∷◌, map}
+use Rattle.std.proofs.Common.{length, Option, Some, None, slice_get, slice_set, refl, sym, ap, ◌∙◌, subst}
 use Rattle.std.specs.Option.{option_and_then, option_map}
 use Rattle.std.proofs.lemmas.Bool.{cases_eq}
 use Rattle.std.proofs.lemmas.Option.{none-some, same_Some, slice_get-map}
@@ -35,22 +36,40 @@ call_of calls t = option_and_then (λ c. c) (slice_get calls t)
 
 -- A call goes on by what it was told; or its moment has passed, and it has found that another has taken it.
 abbrev pub Hears : Core → Core → Type 0
-Hears k m = ((told : ActResult) × (m ≡ core_next k told)) ⊎ ((by : ℕ) × (handed : Bool) × (comes_late k ≡ true) × (m ≡ found_as by handed k))
+Hears k m = ((told : ActResult) × (m ≡ core_next k told))
+    ⊎ ((by : ℕ) × (handed : Bool) × (comes_late k ≡ true) × (m ≡ found_as by handed k))
 
--- What one leaves whose moment has passed, as it comes back or takes itself out: its call goes on, and the lot has changed, and
--- who is still to be woken.
+-- What one leaves whose moment has passed, as it comes back or takes itself out: its call goes on, and the lot has
+-- changed, and who is still to be woken.
 abbrev pub LateGoes : State → ℕ → Call → State → Type 0
 LateGoes s t c u =
-    (d : Call) × (l : Machine) × (ws : List Wakeup) × (u ≡ record (with_lot (with_call s t d) l) { wakes = ws }) × (d.lock ≡ c.lock) × (d.others ≡ c.others) × Hears c.core d.core
+    (d : Call) × (l : Machine) × (ws : List Wakeup) × (u ≡ record (with_lot (with_call s t d) l) { wakes = ws })
+    × (d.lock ≡ c.lock) × (d.others ≡ c.others) × Hears c.core d.core
 
 module _ (s u : State) (t : ℕ) (c : Call) where
   late_back : (at : QueuePosition) → comes_late c.core ≡ true → u ≡ came_back at s t c → LateGoes s t c u
-  late_back QueuePosition.Listed comes e = (hears c ActResult.Entered, _, s.wakes, e, refl, refl, inl (ActResult.Entered, refl))
-  late_back (QueuePosition.Off by said) comes e =
-      (record c { core = found_as by (is_handed said) c.core; spot = QueuePosition.Listed }, _, _, e, refl, refl, inr (by, is_handed said, comes, refl))
+  late_back QueuePosition.Listed comes e =
+      (hears c ActResult.Entered, _, s.wakes, e, refl, refl, inl (ActResult.Entered, refl))
+  late_back (QueuePosition.Off by said) comes e = (
+    record c { core = found_as by (is_handed said) c.core; spot = QueuePosition.Listed },
+    _,
+    _,
+    e,
+    refl,
+    refl,
+    inr (by, is_handed said, comes, refl),
+  )
 
   late_out : u ≡ quitted s t c → LateGoes s t c u
-  late_out e = (hears c (ActResult.Took None (others_left s t c)), _, s.wakes, e, refl, refl, inl (ActResult.Took None (others_left s t c), refl))
+  late_out e = (
+    hears c (ActResult.Took None (others_left s t c)),
+    _,
+    s.wakes,
+    e,
+    refl,
+    refl,
+    inl (ActResult.Took None (others_left s t c), refl),
+  )
 
   pub late_is : (k : Core) → c.core ≡ k → BecameLate k t c s u → LateGoes s t c u
   late_is (Core.Late LatePhase.Expires) same e = late_back c.spot (ap comes_late same) e
@@ -105,14 +124,16 @@ late_keeps LatePhase.Leaves ActResult.Made = refl
 late_keeps (LatePhase.WasTaken by handed) ActResult.Made = refl
 late_keeps p told = refl
 
-pub next_keeps : (k : Core) (told : ActResult) → is_plain k ≡ true → IsProper (core_next k told) → core_aim (core_next k told) ≡ core_aim k
+pub next_keeps : (k : Core) (told : ActResult) → is_plain k ≡ true → IsProper (core_next k told)
+    → core_aim (core_next k told) ≡ core_aim k
 next_keeps (Core.Rw c) told so p = next_aim c.phase told p
 next_keeps (Core.Mutex c) told so p = refl
 next_keeps (Core.Late p) told so proper = late_keeps p told
 next_keeps (Core.LateRw p) told so proper = absurd cc
 next_keeps (Core.Upgrade c) told so p = refl
 
-pub follows_told : (c d : Call) (told : ActResult) → d.lock ≡ c.lock → d.others ≡ c.others → d.core ≡ core_next c.core told → Follows c d
+pub follows_told : (c d : Call) (told : ActResult) → d.lock ≡ c.lock → d.others ≡ c.others
+    → d.core ≡ core_next c.core told → Follows c d
 follows_told c d told lock others core = record {
   lock = lock;
   others = others;
@@ -132,7 +153,8 @@ found_aim by handed k = refl
 
 pub follows_heard : (c d : Call) → d.lock ≡ c.lock → d.others ≡ c.others → Hears c.core d.core → Follows c d
 follows_heard c d lock others (inl (told, core)) = follows_told c d told lock others core
-follows_heard c d lock others (inr (by, handed, comes, core)) = record { lock = lock; others = others; plain = λ so. ap is_plain core ∙ found_plain by handed c.core ∙ so }
+follows_heard c d lock others (inr (by, handed, comes, core)) =
+    record { lock = lock; others = others; plain = λ so. ap is_plain core ∙ found_plain by handed c.core ∙ so }
 
 pub heard_keeps : (k m : Core) → Hears k m → is_plain k ≡ true → IsProper m → core_aim m ≡ core_aim k
 heard_keeps k m (inl (told, core)) so proper = ap core_aim core ∙ next_keeps k told so (subst IsProper core proper)
@@ -157,7 +179,8 @@ pub record GoesOn (a b : List (Option Call)) : Type 0 where
   pub rests : RestStay a b
   pub count : length b ≡ length a
 
-pub slot : (calls : List (Option Call)) (t : ℕ) (c : Call) → call_of calls t ≡ Some c → slice_get calls t ≡ Some (Some c)
+pub slot : (calls : List (Option Call)) (t : ℕ) (c : Call) → call_of calls t ≡ Some c
+    → slice_get calls t ≡ Some (Some c)
 slot calls t c h = at (slice_get calls t) refl
   where
     at : (o : Option (Option Call)) → slice_get calls t ≡ o → slice_get calls t ≡ Some (Some c)
@@ -167,11 +190,14 @@ slot calls t c h = at (slice_get calls t) refl
 stays_itself : (o : Option Call) (d : Call) → o ≡ Some d → Comes o d
 stays_itself o d e = record { call = d; was = e; follows = follows_itself d d refl refl refl }
 
-pub set_goes : (calls : List (Option Call)) (t : ℕ) (c d : Call) → call_of calls t ≡ Some c → Follows c d → GoesOn calls (slice_set calls t (Some d))
+pub set_goes : (calls : List (Option Call)) (t : ℕ) (c d : Call) → call_of calls t ≡ Some c → Follows c d
+    → GoesOn calls (slice_set calls t (Some d))
 set_goes calls t c d here f = record {
   comes = λ v x at. elim (cases_eq v t) [
     | inl e ↦
-        let same : d ≡ x = same_Some d x (sym (set_here calls t c (Some d) here) ∙ ap (call_of (slice_set calls t (Some d))) (sym e) ∙ at) in
+        let same : d ≡ x =
+        same_Some d x (sym (set_here calls t c (Some d) here) ∙ ap (call_of (slice_set calls t (Some d))) (sym e)
+        ∙ at) in
         record { call = c; was = ap (call_of calls) e ∙ here; follows = subst (Follows c) same f }
     | inr ne ↦ stays_itself (call_of calls v) x (sym (set_elsewhere calls t v (Some d) ne) ∙ at)
   ];
@@ -182,10 +208,12 @@ set_goes calls t c d here f = record {
   count = length-set calls t (Some d);
 }
 
-pub ends_goes : (calls : List (Option Call)) (t : ℕ) (c : Call) → call_of calls t ≡ Some c → GoesOn calls (slice_set calls t None)
+pub ends_goes : (calls : List (Option Call)) (t : ℕ) (c : Call) → call_of calls t ≡ Some c
+    → GoesOn calls (slice_set calls t None)
 ends_goes calls t c here = record {
   comes = λ v x at. elim (cases_eq v t) [
-    | inl e ↦ absurd (none-some x (sym (set_here calls t c None here) ∙ ap (call_of (slice_set calls t None)) (sym e) ∙ at))
+    | inl e ↦ absurd (none-some x (sym (set_here calls t c None here) ∙ ap (call_of (slice_set calls t None)) (sym e)
+        ∙ at))
     | inr ne ↦ stays_itself (call_of calls v) x (sym (set_elsewhere calls t v None ne) ∙ at)
   ];
   rests = λ v none. elim (cases_eq v t) [
@@ -197,19 +225,23 @@ ends_goes calls t c here = record {
 
 pub goes_then : (a b c : List (Option Call)) → GoesOn a b → GoesOn b c → GoesOn a c
 goes_then a b c f g = record {
-  comes = λ v d at. (let y = g.comes v d at in let x = f.comes v y.call y.was in record { call = x.call; was = x.was; follows = follows_then x.call y.call d x.follows y.follows });
+  comes = λ v d at. (let y = g.comes v d at in let x = f.comes v y.call y.was in
+      record { call = x.call; was = x.was; follows = follows_then x.call y.call d x.follows y.follows });
   rests = λ v none. g.rests v (f.rests v none);
   count = g.count ∙ f.count;
 }
 
-pub map_of : (f : Call → Call) (calls : List (Option Call)) (v : ℕ) → call_of (map (option_map f) calls) v ≡ option_map f (call_of calls v)
+pub map_of : (f : Call → Call) (calls : List (Option Call)) (v : ℕ) → call_of (map (option_map f) calls) v ≡ option_map
+    f (call_of calls v)
 map_of f calls v = ap (option_and_then (λ y. y)) (slice_get-map (option_map f) calls v) ∙ at (slice_get calls v)
   where
-    at : (o : Option (Option Call)) → option_and_then (λ y. y) (option_map (option_map f) o) ≡ option_map f (option_and_then (λ y. y) o)
+    at : (o : Option (Option Call)) → option_and_then (λ y. y) (option_map (option_map f) o) ≡ option_map f
+        (option_and_then (λ y. y) o)
     at None = refl
     at (Some x) = refl
 
-map_goes : (f : Call → Call) (calls : List (Option Call)) → ((c : Call) → Follows c (f c)) → GoesOn calls (map (option_map f) calls)
+map_goes : (f : Call → Call) (calls : List (Option Call)) → ((c : Call) → Follows c (f c))
+    → GoesOn calls (map (option_map f) calls)
 map_goes f calls follows = record {
   comes = λ v d at. by (call_of calls v) d (sym (map_of f calls v) ∙ at);
   rests = λ v none. map_of f calls v ∙ ap (option_map f) none;
@@ -220,20 +252,23 @@ map_goes f calls follows = record {
     by None d e = absurd (none-some d e)
     by (Some c) d e = record { call = c; was = refl; follows = subst (Follows c) (same_Some (f c) d e) (follows c) }
 
-pub set_nothing : (calls : List (Option Call)) (w : ℕ) (o : Option Call) → slice_get calls w ≡ None → slice_get (slice_set calls w o) w ≡ None
+pub set_nothing : (calls : List (Option Call)) (w : ℕ) (o : Option Call) → slice_get calls w ≡ None
+    → slice_get (slice_set calls w o) w ≡ None
 set_nothing [] w o e = refl
 set_nothing (c ∷ cs) zero o e = absurd (none-some c (sym e))
 set_nothing (c ∷ cs) (suc w) o e = set_nothing cs w o e
 
 -- one that is taken off its list, if it is in a call
-off_goes : (calls : List (Option Call)) (t w : ℕ) → GoesOn calls (slice_set calls w (option_map (off_list t) (call_of calls w)))
+off_goes : (calls : List (Option Call)) (t w : ℕ)
+    → GoesOn calls (slice_set calls w (option_map (off_list t) (call_of calls w)))
 off_goes calls t w = at (call_of calls w) refl
   where
     at : (o : Option Call) → call_of calls w ≡ o → GoesOn calls (slice_set calls w (option_map (off_list t) o))
     at (Some c) e = set_goes calls w c (off_list t c) e (follows_itself c (off_list t c) refl refl refl)
     at None e = record {
       comes = λ v d there. elim (cases_eq v w) [
-        | inl eq ↦ absurd (none-some d (sym (gone (slice_get calls w) refl) ∙ ap (call_of (slice_set calls w None)) (sym eq) ∙ there))
+        | inl eq ↦ absurd
+            (none-some d (sym (gone (slice_get calls w) refl) ∙ ap (call_of (slice_set calls w None)) (sym eq) ∙ there))
         | inr ne ↦ stays_itself (call_of calls v) d (sym (set_elsewhere calls w v None ne) ∙ there)
       ];
       rests = λ v none. elim (cases_eq v w) [
@@ -250,7 +285,8 @@ off_goes calls t w = at (call_of calls w) refl
 -- THE ACTS
 
 -- everybody is told what a thread says to those that it has taken
-settled_goes : (calls : List (Option Call)) (t : ℕ) (said : WakeResult) → GoesOn calls (map (option_map (settled t said)) calls)
+settled_goes : (calls : List (Option Call)) (t : ℕ) (said : WakeResult)
+    → GoesOn calls (map (option_map (settled t said)) calls)
 settled_goes calls t said = map_goes (settled t said) calls (λ c. follows_itself c (settled t said c) refl refl refl)
 
 module _ (s : State) (t : ℕ) (c : Call) (here : call_at s t ≡ Some c) where
@@ -260,7 +296,8 @@ module _ (s : State) (t : ℕ) (c : Call) (here : call_at s t ≡ Some c) where
   is : (u v : State) → u ≡ v → GoesOn s.calls v.calls → GoesOn s.calls u.calls
   is u v e h = subst (λ (x : State). GoesOn s.calls x.calls) (sym e) h
 
-  either : (b : Bool) (u v : State) → GoesOn s.calls u.calls → GoesOn s.calls v.calls → GoesOn s.calls (cond b u v).calls
+  either : (b : Bool) (u v : State) → GoesOn s.calls u.calls → GoesOn s.calls v.calls
+      → GoesOn s.calls (cond b u v).calls
   either true u v h k = h
   either false u v h k = k
 
@@ -270,17 +307,21 @@ module _ (s : State) (t : ℕ) (c : Call) (here : call_at s t ≡ Some c) where
   says : (k : ActResult) (r : WakeResult) → GoesOn s.calls (said k r)
   says k r = goes_then s.calls (slice_set s.calls t (Some (hears c k))) (said k r) (told k) (settled_goes _ t r)
 
-  joined : (d : Call) → d ≡ record (hears c ActResult.Made) { spot = QueuePosition.Listed } → GoesOn s.calls (slice_set s.calls t (Some d))
-  joined d e = set_goes s.calls t c d here (follows_told c d ActResult.Made (ap (λ x. x.lock) e) (ap (λ x. x.others) e) (ap (λ x. x.core) e))
+  joined : (d : Call) → d ≡ record (hears c ActResult.Made) { spot = QueuePosition.Listed }
+      → GoesOn s.calls (slice_set s.calls t (Some d))
+  joined d e = set_goes s.calls t c d here
+      (follows_told c d ActResult.Made (ap (λ x. x.lock) e) (ap (λ x. x.others) e) (ap (λ x. x.core) e))
 
   -- after another's call went on, its own does
-  told_then : (w : ℕ) (o : Option Call) (k : ActResult) → GoesOn s.calls (slice_set s.calls w o) → GoesOn s.calls (slice_set (slice_set s.calls w o) t (Some (hears c k)))
+  told_then : (w : ℕ) (o : Option Call) (k : ActResult) → GoesOn s.calls (slice_set s.calls w o)
+      → GoesOn s.calls (slice_set (slice_set s.calls w o) t (Some (hears c k)))
   told_then w o k g = record {
     comes = λ v d at. elim (cases_eq v t) [
       | inl e ↦ record {
         call = c;
         was = ap (call_of s.calls) e ∙ here;
-        follows = (let same : hears c k ≡ d = at_own v d e at in follows_told c d k (sym (ap (λ x. x.lock) same)) (sym (ap (λ x. x.others) same)) (sym (ap (λ x. x.core) same)));
+        follows = (let same : hears c k ≡ d = at_own v d e at in follows_told c d k (sym (ap (λ x. x.lock) same))
+            (sym (ap (λ x. x.others) same)) (sym (ap (λ x. x.core) same)));
       }
       | inr ne ↦ g.comes v d (sym (set_elsewhere (slice_set s.calls w o) t v (Some (hears c k)) ne) ∙ at)
     ];
@@ -291,25 +332,35 @@ module _ (s : State) (t : ℕ) (c : Call) (here : call_at s t ≡ Some c) where
     count = length-set (slice_set s.calls w o) t (Some (hears c k)) ∙ g.count;
   }
     where
-      there : (x : Option (Option Call)) → slice_get (slice_set s.calls w o) t ≡ x → (d : Call) → call_of (slice_set (slice_set s.calls w o) t (Some (hears c k))) t ≡ Some d → hears c k ≡ d
-      there (Some y) e d at = same_Some (hears c k) d (sym (ap (option_and_then (λ y. y)) (get-set_same (slice_set s.calls w o) t y (Some (hears c k)) e)) ∙ at)
-      there None e d at = absurd (none-some d (sym (ap (option_and_then (λ y. y)) (set_nothing (slice_set s.calls w o) t (Some (hears c k)) e)) ∙ at))
+      there : (x : Option (Option Call)) → slice_get (slice_set s.calls w o) t ≡ x → (d : Call)
+          → call_of (slice_set (slice_set s.calls w o) t (Some (hears c k))) t ≡ Some d → hears c k ≡ d
+      there (Some y) e d at =
+          same_Some (hears c k) d
+          (sym (ap (option_and_then (λ y. y)) (get-set_same (slice_set s.calls w o) t y (Some (hears c k)) e)) ∙ at)
+      there None e d at =
+          absurd (none-some d
+          (sym (ap (option_and_then (λ y. y)) (set_nothing (slice_set s.calls w o) t (Some (hears c k)) e)) ∙ at))
 
-      at_own : (v : ℕ) (d : Call) → v ≡ t → call_of (slice_set (slice_set s.calls w o) t (Some (hears c k))) v ≡ Some d → hears c k ≡ d
-      at_own v d e at = there (slice_get (slice_set s.calls w o) t) refl d (ap (call_of (slice_set (slice_set s.calls w o) t (Some (hears c k)))) (sym e) ∙ at)
+      at_own : (v : ℕ) (d : Call) → v ≡ t → call_of (slice_set (slice_set s.calls w o) t (Some (hears c k))) v ≡ Some d
+          → hears c k ≡ d
+      at_own v d e at = there (slice_get (slice_set s.calls w o) t) refl d
+          (ap (call_of (slice_set (slice_set s.calls w o) t (Some (hears c k)))) (sym e) ∙ at)
 
   goes_inside : (k : SectionAct) (fair : Bool) (u : State) → BecameInside k t fair c s u → GoesOn s.calls u.calls
   goes_inside SectionAct.Check fair u e = is u _ e (told _)
-  goes_inside SectionAct.TakeFirst fair u (k, stands, inl (nth, w, first, e)) = is u _ e (told_then w.thread _ _ (off_goes s.calls t w.thread))
+  goes_inside SectionAct.TakeFirst fair u (k, stands, inl (nth, w, first, e)) =
+      is u _ e (told_then w.thread _ _ (off_goes s.calls t w.thread))
   goes_inside SectionAct.TakeFirst fair u (k, stands, inr (empty, e)) = is u _ e (told _)
-  goes_inside (SectionAct.TakeNext sum) fair u (k, stands, inl (nth, w, first, e)) = is u _ e (told_then w.thread _ _ (off_goes s.calls t w.thread))
+  goes_inside (SectionAct.TakeNext sum) fair u (k, stands, inl (nth, w, first, e)) =
+      is u _ e (told_then w.thread _ _ (off_goes s.calls t w.thread))
   goes_inside (SectionAct.TakeNext sum) fair u (k, stands, inr (empty, e)) = is u _ e (told _)
   goes_inside (SectionAct.Append token) fair u (k, stands, e) = is u _ e (joined _ refl)
   goes_inside (SectionAct.Store plain handing) fair u e = is u _ e (says _ _)
   goes_inside SectionAct.Leave fair u e = is u _ e (told _)
   goes_inside SectionAct.Wake fair u (inr (gone, is_it)) = is u _ is_it (told _)
   goes_inside SectionAct.Wake fair u (inl (e, d, token, due, is_it)) =
-      is u _ is_it (told_then e.thread _ _ (set_goes s.calls e.thread d _ due.there (follows_told d _ (ActResult.Woken token) refl refl refl)))
+      is u _ is_it (told_then e.thread _ _
+      (set_goes s.calls e.thread d _ due.there (follows_told d _ (ActResult.Woken token) refl refl refl)))
 
   goes : (a : Act) (fair : Bool) (u : State) → Became a t fair c s u → GoesOn s.calls u.calls
   goes Act.Load fair u e = is u _ e (told _)
@@ -319,8 +370,10 @@ module _ (s : State) (t : ℕ) (c : Call) (here : call_at s t ≡ Some c) where
   goes Act.Spin fair u e = is u _ e (told _)
   goes (Act.Enter key) fair u e = is u _ e (told _)
   goes (Act.Section next) fair u b = goes_inside next fair u b
-  goes Act.Sleep fair u b = let l = late_is s u t c c.core refl b in is u _ l.3 (set_goes s.calls t c l.0 here (follows_heard c l.0 l.4 l.5 l.6))
+  goes Act.Sleep fair u b = let l = late_is s u t c c.core refl b in
+      is u _ l.3 (set_goes s.calls t c l.0 here (follows_heard c l.0 l.4 l.5 l.6))
   goes (Act.Done answer) fair u e = is u _ e (ends_goes s.calls t c here)
 
-pub stepped_goes : (s u : State) (t : ℕ) (fair : Bool) (answer : Option CoreAnswer) → IsStepped t fair answer s u → GoesOn s.calls u.calls
+pub stepped_goes : (s u : State) (t : ℕ) (fair : Bool) (answer : Option CoreAnswer) → IsStepped t fair answer s u
+    → GoesOn s.calls u.calls
 stepped_goes s u t fair answer x = goes s t x.call x.here (core_act x.call.core) fair u x.became

@@ -1,5 +1,6 @@
 -- How many guards there are, by their parties.
-use Rattle.std.proofs.Common.{◌≡◌, ◌≢◌, ℕ, zero, suc, ◌+◌, ◌<◌, ◌≤◌, inl, inr, List, [], ◌∷◌, length, Option, Some, None, slice_get, refl, sym, ap, subst, arith}
+use Rattle.std.proofs.Common.{◌≡◌, ◌≢◌, ℕ, zero, suc, ◌+◌, ◌<◌, ◌≤◌, inl, inr, List, [], ◌∷◌, length, Option, Some}
+use Rattle.std.proofs.Common.{None, slice_get, refl, sym, ap, subst, arith}
 use Rattle.std.proofs.lemmas.Bool.{cases_eq, eq-eqb, ne_eqb, cond-true, cond-false}
 use Rattle.lock_api_desk.specs.declared.mode.Mode.{Mode}
 use Rattle.lock_api_desk.specs.Guards.{Guard}
@@ -34,7 +35,8 @@ at_most f zero few = omega arith
 at_most f (suc n) few = omega (arith, at_most f n few, few n)
 
 -- with x more at one place
-sum_more : (f g : ℕ → ℕ) (p x n : ℕ) → p < n → g p ≡ x + f p → ((t : ℕ) → t ≢ p → g t ≡ f t) → sum_to g n ≡ x + sum_to f n
+sum_more : (f g : ℕ → ℕ) (p x n : ℕ) → p < n → g p ≡ x + f p → ((t : ℕ) → t ≢ p → g t ≡ f t)
+    → sum_to g n ≡ x + sum_to f n
 sum_more f g p x zero low here others = absurd (omega (arith, low))
 sum_more f g p x (suc n) low here others = elim (cases_eq n p) [
   | inl e ↦
@@ -43,15 +45,19 @@ sum_more f g p x (suc n) low here others = elim (cases_eq n p) [
   | inr ne ↦ omega (arith, others n ne, sum_more f g p x n (omega (arith, low, ne)) here others)
 ]
 
-pub weigh_parts : (w : Guard → ℕ) (n : ℕ) (gs : List Guard) → ((k : ℕ) (g : Guard) → slice_get gs k ≡ Some g → g.party < n) → weigh w gs ≡ sum_to (λ t. weigh w (guards_of t gs)) n
+pub weigh_parts : (w : Guard → ℕ) (n : ℕ) (gs : List Guard)
+    → ((k : ℕ) (g : Guard) → slice_get gs k ≡ Some g → g.party < n)
+    → weigh w gs ≡ sum_to (λ t. weigh w (guards_of t gs)) n
 weigh_parts w n [] low = sym (sum_of_none (λ t. 0) n (λ t. refl))
 weigh_parts w n (g ∷ gs) low =
     omega (
       arith,
       weigh_parts w n gs (λ k x e. low (suc k) x e),
       sum_more (λ t. weigh w (guards_of t gs)) (λ t. weigh w (guards_of t (g ∷ gs))) g.party (w g) n (low 0 g refl)
-          (ap (weigh w) (cond-true (is_of g.party g) (g ∷ guards_of g.party gs) (guards_of g.party gs) (eq-eqb g.party g.party refl)))
-          (λ t ne. ap (weigh w) (cond-false (is_of t g) (g ∷ guards_of t gs) (guards_of t gs) (ne_eqb g.party t (λ e. ne (sym e))))),
+          (ap (weigh w) (cond-true (is_of g.party g) (g ∷ guards_of g.party gs) (guards_of g.party gs)
+          (eq-eqb g.party g.party refl)))
+          (λ t ne. ap (weigh w)
+          (cond-false (is_of t g) (g ∷ guards_of t gs) (guards_of t gs) (ne_eqb g.party t (λ e. ne (sym e))))),
     )
 
 -- one of the places has nothing, and none has more than one
@@ -62,7 +68,8 @@ less_than f t (suc n) low none few = elim (cases_eq t n) [
   | inr ne ↦ omega (arith, few n, less_than f t n (omega (arith, low, ne)) none few)
 ]
 
-few_of : (modes : ℕ → Option Mode) (guards : List Guard) → AreHalfSeated modes guards → (v : ℕ) → weigh one (guards_of v guards) ≤ 1
+few_of : (modes : ℕ → Option Mode) (guards : List Guard) → AreHalfSeated modes guards → (v : ℕ)
+    → weigh one (guards_of v guards) ≤ 1
 few_of modes guards seats v = elim (seats v) [
   | inl none ↦ omega (arith, ap (weigh one) none)
   | inr seat ↦ by (modes v) seat
@@ -73,7 +80,8 @@ few_of modes guards seats v = elim (seats v) [
     by (Some m) is = omega (arith, ap (weigh one) is)
 
 -- Where a party has none, there is room for its guard.
-pub room_for : (modes : ℕ → Option Mode) (guards : List Guard) (n t : ℕ) → AreHalfSeated modes guards → ((v : ℕ) (m : Mode) → modes v ≡ Some m → v < n) → t < n → guards_of t guards ≡ [] → length guards < n
+pub room_for : (modes : ℕ → Option Mode) (guards : List Guard) (n t : ℕ) → AreHalfSeated modes guards
+    → ((v : ℕ) (m : Mode) → modes v ≡ Some m → v < n) → t < n → guards_of t guards ≡ [] → length guards < n
 room_for modes guards n t seats low t_low none =
     omega (
       arith,

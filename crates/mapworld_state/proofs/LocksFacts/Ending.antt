@@ -1,5 +1,6 @@
 -- Where a call is answered its thread holds the shard as it did in the call.
-use Rattle.std.proofs.Common.{◌≡◌, ℕ, zero, suc, ◌+◌, ◌*◌, ◌<◌, ◌≤◌, get_or, inl, inr, true, cond, ◌==◌, length, Option, Some, None, slice_get, slice_set, refl, sym, ap, ◌∙◌, subst, arith}
+use Rattle.std.proofs.Common.{◌≡◌, ℕ, zero, suc, ◌+◌, ◌*◌, ◌<◌, ◌≤◌, get_or, inl, inr, true, cond, ◌==◌, length, Option}
+use Rattle.std.proofs.Common.{Some, None, slice_get, slice_set, refl, sym, ap, ◌∙◌, subst, arith}
 use Rattle.std.specs.List.{All}
 use Rattle.std.specs.Option.{option_and_then, option_map, option_map_or}
 use Rattle.std.proofs.lemmas.Bool.{cases_eq, eq-eqb, cond-true, lt-ltb}
@@ -32,10 +33,13 @@ use Rattle.mapworld_state.proofs.LocksFacts.Owning.{mode_standing}
 use Rattle.mapworld_state.proofs.LocksFacts.Within.{done_hold, is_done}
 
 -- a thread holds a shard as its role says
-pub held_by_role : (s : State) (i t : ℕ) → All (λ k. k ≡ kind.Rw) s.kinds → t < length s.calls → held_at s i t ≡ held_as (rw_mode (rw_role_at s i t))
+pub held_by_role : (s : State) (i t : ℕ) → All (λ k. k ≡ kind.Rw) s.kinds → t < length s.calls
+    → held_at s i t ≡ held_as (rw_mode (rw_role_at s i t))
 held_by_role s i t rws low =
     held_is s rws i t
-    ∙ ap (λ o. held_as (option_and_then mode_standing o)) (slice_get-map standing (rw_lock_at s i).roles t ∙ ap (option_map standing) (one_of_all (rw_role_at s i) (length s.calls) t low))
+    ∙ ap (λ o. held_as (option_and_then mode_standing o))
+    (slice_get-map standing (rw_lock_at s i).roles t
+    ∙ ap (option_map standing) (one_of_all (rw_role_at s i) (length s.calls) t low))
 
 -- of one that is in no call its hold tells it
 pub idle_mode : (h : Hold) → rw_mode (record { owns = owned_of h; does = Idle }) ≡ hold_mode (Some kind.Rw) h
@@ -45,16 +49,24 @@ idle_mode Hold.Excludes = refl
 idle_mode Hold.Upgrades = refl
 
 -- and of one that is to be answered, the hold that it will have
-done_mode : (s : State) (t : ℕ) (c : Call) → FitsTogether s → All (λ k. k ≡ kind.Rw) s.kinds → is_plain c.core ≡ true → call_at s t ≡ Some c → is_done (core_act c.core) ≡ true
+done_mode : (s : State) (t : ℕ) (c : Call) → FitsTogether s → All (λ k. k ≡ kind.Rw) s.kinds → is_plain c.core ≡ true
+    → call_at s t ≡ Some c → is_done (core_act c.core) ≡ true
     → held_as (rw_mode (rw_role_at s c.lock t)) ≡ held_as (hold_mode (Some kind.Rw) (hold_after c.others c.core))
-done_mode s t c h rws plain here done = ap held_as (ap rw_mode role ∙ by c.core plain (h.rules.kinds t c here) (h.rules.prepared t c here) done)
+done_mode s t c h rws plain here done =
+    ap held_as (ap rw_mode role ∙ by c.core plain (h.rules.kinds t c here) (h.rules.prepared t c here) done)
   where
     role : rw_role_at s c.lock t ≡ rw_core_role c.others c.spot (taken_by s.wakes t) c.core
     role = ap (rw_role_in c.lock (taken_by s.wakes t) (hold_at s t c.lock)) here
-        ∙ cond-true (c.lock == c.lock) (rw_core_role c.others c.spot (taken_by s.wakes t) c.core) (record { owns = owned_of (hold_at s t c.lock); does = Idle }) (eq-eqb c.lock c.lock refl)
+        ∙ cond-true (c.lock == c.lock) (rw_core_role c.others c.spot (taken_by s.wakes t) c.core)
+        (record { owns = owned_of (hold_at s t c.lock); does = Idle }) (eq-eqb c.lock c.lock refl)
 
-    by : (k : Core) → is_plain k ≡ true → IsOfKind (slice_get s.kinds c.lock) k → IsPrepared (recursive_in s.kinds c.lock) c.others k → is_done (core_act k) ≡ true → rw_mode (rw_core_role c.others c.spot (taken_by s.wakes t) k) ≡ hold_mode (Some kind.Rw) (hold_after c.others k)
-    by (Core.Rw x) plain of_kind ready done = sym (done_hold (recursive_in s.kinds c.lock) c.others (rw_spot c.spot) (taken_by s.wakes t) x.phase ready.1 done)
+    by : (k : Core) → is_plain k ≡ true → IsOfKind (slice_get s.kinds c.lock) k
+        → IsPrepared (recursive_in s.kinds c.lock) c.others k → is_done (core_act k) ≡ true
+        → rw_mode (rw_core_role c.others c.spot (taken_by s.wakes t) k) ≡ hold_mode (Some kind.Rw)
+        (hold_after c.others k)
+    by (Core.Rw x) plain of_kind ready done =
+        sym (done_hold (recursive_in s.kinds c.lock) c.others (rw_spot c.spot) (taken_by s.wakes t) x.phase ready.1
+        done)
     by (Core.Mutex x) plain of_kind ready done = absurd (no_mutex (goes_by s c.lock AsMutex rws of_kind))
     by (Core.Late x) plain of_kind ready done = absurd (no_mutex (goes_by s c.lock AsMutex rws of_kind))
     by (Core.LateRw x) plain of_kind ready done = absurd cc
@@ -68,7 +80,9 @@ rows_apart locks t (suc n) b = elim (cases_eq t n) [
 ]
 
 -- An answer changes nothing of what its thread holds.
-pub answered_holds : (s : State) (t : ℕ) (c : Call) → FitsTogether s → All (λ k. k ≡ kind.Rw) s.kinds → is_plain c.core ≡ true → call_at s t ≡ Some c → is_done (core_act c.core) ≡ true → held_at (answered s t c) c.lock t ≡ held_at s c.lock t
+pub answered_holds : (s : State) (t : ℕ) (c : Call) → FitsTogether s → All (λ k. k ≡ kind.Rw) s.kinds
+    → is_plain c.core ≡ true → call_at s t ≡ Some c → is_done (core_act c.core) ≡ true
+    → held_at (answered s t c) c.lock t ≡ held_at s c.lock t
 answered_holds s t c h rws plain here done =
     held_by_role (answered s t c) c.lock t rws (omega (arith, low, length-set s.calls t none))
     ∙ ap held_as (ap rw_mode role ∙ idle_mode now)
@@ -98,8 +112,14 @@ answered_holds s t c h rws plain here done =
 
     hold_now : hold_at (answered s t c) t c.lock ≡ now
     hold_now =
-        ap (λ b. cond b (option_map_or (λ x. x) (slice_get (slice_set s.holds (t * length s.kinds + c.lock) now) (t * length s.kinds + c.lock)) (Hold.Shares 0)) (Hold.Shares 0)) (lt-ltb c.lock (length s.kinds) lock_low)
-        ∙ ap (λ o. option_map_or (λ x. x) o (Hold.Shares 0)) (get-set_same s.holds (t * length s.kinds + c.lock) (get_or s.holds (t * length s.kinds + c.lock) (Hold.Shares 0)) now (slice_get-get_or s.holds (t * length s.kinds + c.lock) (Hold.Shares 0) cell_low))
+        ap (λ b. cond b (option_map_or (λ x. x)
+        (slice_get (slice_set s.holds (t * length s.kinds + c.lock) now) (t * length s.kinds + c.lock))
+        (Hold.Shares 0)) (Hold.Shares 0)) (lt-ltb c.lock (length s.kinds) lock_low)
+        ∙ ap (λ o. option_map_or (λ x. x) o (Hold.Shares 0))
+        (get-set_same s.holds (t * length s.kinds + c.lock)
+        (get_or s.holds (t * length s.kinds + c.lock) (Hold.Shares 0)) now
+        (slice_get-get_or s.holds (t * length s.kinds + c.lock) (Hold.Shares 0) cell_low))
 
     role : rw_role_at (answered s t c) c.lock t ≡ record { owns = owned_of now; does = Idle }
-    role = ap (rw_role_in c.lock (taken_by s.wakes t) (hold_at (answered s t c) t c.lock)) (set_here s.calls t c none here) ∙ ap (λ x. record { owns = owned_of x; does = Idle }) hold_now
+    role = ap (rw_role_in c.lock (taken_by s.wakes t) (hold_at (answered s t c) t c.lock))
+        (set_here s.calls t c none here) ∙ ap (λ x. record { owns = owned_of x; does = Idle }) hold_now

@@ -1,5 +1,6 @@
 -- How a call ends that is only to be answered, and that its answer changes nobody's hold.
-use Rattle.std.proofs.Common.{◌≡◌, ◌⊎◌, ℕ, inl, inr, Bool, true, false, List, Option, Some, None, slice_get, refl, sym, ap, ◌∙◌, subst}
+use Rattle.std.proofs.Common.{◌≡◌, ◌⊎◌, ℕ, inl, inr, Bool, true, false, List, Option, Some, None, slice_get, refl, sym}
+use Rattle.std.proofs.Common.{ap, ◌∙◌, subst}
 use Rattle.std.specs.Option.{option_and_then, option_map}
 use Rattle.std.proofs.lemmas.Bool.{cases_eq, false≢true}
 use Rattle.std.proofs.lemmas.Option.{slice_get_within}
@@ -49,7 +50,8 @@ abbrev EndsBy : Option CoreAnswer → Aim → Bool → Option Mode → Type 0
 EndsBy None aim trying o = Unit {0}
 EndsBy (Some answer) aim trying o = EndsSo aim trying answer o
 
-phase_ends : (twice : Bool) (at : of_rw.QueuePosition) (us : List ℕ) (p : RwPhase) → rw_keeps twice 0 p → EndsBy (end_of (act_of p)) (phase_aim p) (is_trying p) (held_as (rw_mode (of_rw.role 0 at us p)))
+phase_ends : (twice : Bool) (at : of_rw.QueuePosition) (us : List ℕ) (p : RwPhase) → rw_keeps twice 0 p
+    → EndsBy (end_of (act_of p)) (phase_aim p) (is_trying p) (held_as (rw_mode (of_rw.role 0 at us p)))
 phase_ends twice at us (RwPhase.Locking want) keeps = absurd keeps
 phase_ends twice at us (RwPhase.Trying want) keeps = absurd keeps
 phase_ends twice at us RwPhase.UnlockingShared keeps = absurd keeps
@@ -107,27 +109,39 @@ phase_ends twice at us (RwPhase.Ends Outcome.FreedShared) keeps = refl
 phase_ends twice at us (RwPhase.Ends Outcome.FreedExclusive) keeps = refl
 phase_ends twice at us RwPhase.Invalid keeps = absurd keeps
 
-call_ends : (s : State) (t : ℕ) (c : Call) (answer : CoreAnswer) → FitsTogether s → IsPlain s → call_at s t ≡ Some c → end_of (core_act c.core) ≡ Some answer → EndsSo (core_aim c.core) (core_tries c.core) answer (held_at s c.lock t)
+call_ends : (s : State) (t : ℕ) (c : Call) (answer : CoreAnswer) → FitsTogether s → IsPlain s → call_at s t ≡ Some c
+    → end_of (core_act c.core) ≡ Some answer → EndsSo (core_aim c.core) (core_tries c.core) answer (held_at s c.lock t)
 call_ends s t c answer h plain here over =
     subst (EndsSo (core_aim c.core) (core_tries c.core) answer) (sym (call_holds s t c plain here))
-    (subst (λ e. EndsBy e (core_aim c.core) (core_tries c.core) (held_as (rw_mode (rw_core_role 0 c.spot (taken_by s.wakes t) c.core)))) over
-    (by c.core (plain.cores t c here) (h.rules.kinds t c here) (subst (λ n. IsPrepared (recursive_in s.kinds c.lock) n c.core) (plain.alone t c here) (h.rules.prepared t c here))))
+    (subst (λ e. EndsBy e (core_aim c.core) (core_tries c.core)
+    (held_as (rw_mode (rw_core_role 0 c.spot (taken_by s.wakes t) c.core)))) over
+    (by c.core (plain.cores t c here) (h.rules.kinds t c here)
+    (subst (λ n. IsPrepared (recursive_in s.kinds c.lock) n c.core) (plain.alone t c here)
+    (h.rules.prepared t c here))))
   where
-    by : (k : Core) → is_plain k ≡ true → IsOfKind (slice_get s.kinds c.lock) k → IsPrepared (recursive_in s.kinds c.lock) 0 k → EndsBy (end_of (core_act k)) (core_aim k) (core_tries k) (held_as (rw_mode (rw_core_role 0 c.spot (taken_by s.wakes t) k)))
-    by (Core.Rw x) so of_kind ready = phase_ends (recursive_in s.kinds c.lock) (rw_spot c.spot) (taken_by s.wakes t) x.phase ready.1
+    by : (k : Core) → is_plain k ≡ true → IsOfKind (slice_get s.kinds c.lock) k
+        → IsPrepared (recursive_in s.kinds c.lock) 0 k → EndsBy (end_of (core_act k)) (core_aim k) (core_tries k)
+        (held_as (rw_mode (rw_core_role 0 c.spot (taken_by s.wakes t) k)))
+    by (Core.Rw x) so of_kind ready = phase_ends (recursive_in s.kinds c.lock) (rw_spot c.spot) (taken_by s.wakes t)
+        x.phase ready.1
     by (Core.Mutex x) so of_kind ready = absurd (not_mutex s c.lock plain.kinds of_kind)
     by (Core.Late x) so of_kind ready = absurd (not_mutex s c.lock plain.kinds of_kind)
     by (Core.LateRw p) so of_kind ready = absurd cc
     by (Core.Upgrade x) so of_kind ready = absurd cc
 
 -- what that says of each aim
-ends_owned : (aim : Aim) (trying : Bool) (answer : CoreAnswer) (o : Option Mode) → EndsSo aim trying answer o → (m : Mode) → aim ≡ Gets m → answer ≡ CoreAnswer.Owned → o ≡ Some m
-ends_owned aim trying answer o h m e f = subst (λ a. EndsSo (Gets m) trying a o) f (subst (λ a. EndsSo a trying answer o) e h)
+ends_owned : (aim : Aim) (trying : Bool) (answer : CoreAnswer) (o : Option Mode) → EndsSo aim trying answer o
+    → (m : Mode) → aim ≡ Gets m → answer ≡ CoreAnswer.Owned → o ≡ Some m
+ends_owned aim trying answer o h m e f = subst (λ a. EndsSo (Gets m) trying a o) f
+    (subst (λ a. EndsSo a trying answer o) e h)
 
-ends_refused : (aim : Aim) (trying : Bool) (answer : CoreAnswer) (o : Option Mode) → EndsSo aim trying answer o → (m : Mode) → aim ≡ Gets m → answer ≡ CoreAnswer.Refused → o ≡ None
-ends_refused aim trying answer o h m e f = (subst (λ a. EndsSo (Gets m) trying a o) f (subst (λ a. EndsSo a trying answer o) e h)).1
+ends_refused : (aim : Aim) (trying : Bool) (answer : CoreAnswer) (o : Option Mode) → EndsSo aim trying answer o
+    → (m : Mode) → aim ≡ Gets m → answer ≡ CoreAnswer.Refused → o ≡ None
+ends_refused aim trying answer o h m e f =
+    (subst (λ a. EndsSo (Gets m) trying a o) f (subst (λ a. EndsSo a trying answer o) e h)).1
 
-ends_patient : (aim : Aim) (trying : Bool) (answer : CoreAnswer) (o : Option Mode) → EndsSo aim trying answer o → (m : Mode) → aim ≡ Gets m → trying ≡ false → answer ≡ CoreAnswer.Owned
+ends_patient : (aim : Aim) (trying : Bool) (answer : CoreAnswer) (o : Option Mode) → EndsSo aim trying answer o
+    → (m : Mode) → aim ≡ Gets m → trying ≡ false → answer ≡ CoreAnswer.Owned
 ends_patient aim trying answer o h m e calm = by answer (subst (λ a. EndsSo a trying answer o) e h)
   where
     by : (a : CoreAnswer) → EndsSo (Gets m) trying a o → a ≡ CoreAnswer.Owned
@@ -135,7 +149,8 @@ ends_patient aim trying answer o h m e calm = by answer (subst (λ a. EndsSo a t
     by CoreAnswer.Refused k = absurd (false≢true (sym calm ∙ k.0))
     by CoreAnswer.Released k = absurd k
 
-ends_settled : (aim : Aim) (trying : Bool) (answer : CoreAnswer) (o : Option Mode) → EndsSo aim trying answer o → (m : Mode) → aim ≡ Gets m → (answer ≡ CoreAnswer.Owned) ⊎ (answer ≡ CoreAnswer.Refused)
+ends_settled : (aim : Aim) (trying : Bool) (answer : CoreAnswer) (o : Option Mode) → EndsSo aim trying answer o
+    → (m : Mode) → aim ≡ Gets m → (answer ≡ CoreAnswer.Owned) ⊎ (answer ≡ CoreAnswer.Refused)
 ends_settled aim trying answer o h m e = by answer (subst (λ a. EndsSo a trying answer o) e h)
   where
     by : (a : CoreAnswer) → EndsSo (Gets m) trying a o → (a ≡ CoreAnswer.Owned) ⊎ (a ≡ CoreAnswer.Refused)
@@ -143,7 +158,8 @@ ends_settled aim trying answer o h m e = by answer (subst (λ a. EndsSo a trying
     by CoreAnswer.Refused k = inr refl
     by CoreAnswer.Released k = absurd k
 
-module _ (laws : StepsAreCases) (old : Shown) (fit : LocksFit old) (t : ℕ) (rows : Rows) (answer : CoreAnswer) (x : IsStepped t false (Some answer) (state old.rows) (state rows)) where
+module _ (laws : StepsAreCases) (old : Shown) (fit : LocksFit old) (t : ℕ) (rows : Rows) (answer : CoreAnswer)
+    (x : IsStepped t false (Some answer) (state old.rows) (state rows)) where
   abbrev s : State
   s = state old.rows
 
@@ -164,18 +180,23 @@ module _ (laws : StepsAreCases) (old : Shown) (fit : LocksFit old) (t : ℕ) (ro
 
   holds : (v j : ℕ) → held_at u j v ≡ held_at s j v
   holds v j = elim (cases_eq j c.lock) [
-    | inl e ↦ ap (λ n. held_at u n v) e ∙ answer_leaves_holds laws s u t false answer fit.fits fit.plain x v ∙ ap (λ n. held_at s n v) (sym e)
-    | inr ne ↦ elsewhere laws s u t false (Some answer) fit.fits fit.plain.kinds plain.kinds fit.plain.alone fit.plain.cores x j v ne
+    | inl e ↦ ap (λ n. held_at u n v) e ∙ answer_leaves_holds laws s u t false answer fit.fits fit.plain x v
+        ∙ ap (λ n. held_at s n v) (sym e)
+    | inr ne ↦ elsewhere laws s u t false (Some answer) fit.fits fit.plain.kinds plain.kinds fit.plain.alone
+        fit.plain.cores x j v ne
   ]
 
   gone : call_at u t ≡ None
-  gone = ap (λ (w : State). call_at w t) (is_answer s u t false c answer (core_act c.core) x.answers x.became).0 ∙ set_low s.calls t None (slice_get_within s.calls t (Some c) (slot s.calls t c x.here))
+  gone = ap (λ (w : State). call_at w t) (is_answer s u t false c answer (core_act c.core) x.answers x.became).0
+      ∙ set_low s.calls t None (slice_get_within s.calls t (Some c) (slot s.calls t c x.here))
 
   how : EndsSo (core_aim c.core) (core_tries c.core) answer (held_at u c.lock t)
-  how = subst (EndsSo (core_aim c.core) (core_tries c.core) answer) (sym (holds t c.lock)) (call_ends s t c answer fit.fits fit.plain x.here (sym x.answers))
+  how = subst (EndsSo (core_aim c.core) (core_tries c.core) answer) (sym (holds t c.lock))
+      (call_ends s t c answer fit.fits fit.plain x.here (sym x.answers))
 
   pub ended_fit : LocksFit new
-  ended_fit = same_holds old fit rows fits plain (stepped_kinds s u t false (Some answer) fit.plain x) (stepped_goes s u t false (Some answer) x).count holds
+  ended_fit = same_holds old fit rows fits plain (stepped_kinds s u t false (Some answer) fit.plain x)
+      (stepped_goes s u t false (Some answer) x).count holds
 
   pub ends : LockEnds t answer old new
   ends = record {
@@ -183,7 +204,10 @@ module _ (laws : StepsAreCases) (old : Shown) (fit : LocksFit old) (t : ℕ) (ro
     stood = ap (option_map stand_of) x.here;
     over = ap (option_and_then (λ (y : Call). end_of (core_act y.core))) x.here ∙ sym x.answers;
     steps = x;
-    whole = record { threads = (stepped_goes s u t false (Some answer) x).count; kinds = stepped_kinds s u t false (Some answer) fit.plain x };
+    whole = record {
+      threads = (stepped_goes s u t false (Some answer) x).count;
+      kinds = stepped_kinds s u t false (Some answer) fit.plain x;
+    };
     desks = refl;
     gone = ap (option_map stand_of) gone;
     others = λ v ne. others_stand s u t false (Some answer) fit.fits fit.plain.cores fits x v ne;

@@ -1,5 +1,6 @@
 -- A step and its desk, as the code makes them: it looks at the call and at the hold before the step.
-use Rattle.std.proofs.Common.{◌≡◌, ℕ, ◌<◌, Bool, List, length, Option, Some, None, slice_get, slice_set, sym, ap, ◌∙◌, subst}
+use Rattle.std.proofs.Common.{◌≡◌, ℕ, ◌<◌, Bool, List, length, Option, Some, None, slice_get, slice_set, sym, ap, ◌∙◌}
+use Rattle.std.proofs.Common.{subst}
 use Rattle.std.proofs.lemmas.Option.{same_Some}
 use Rattle.lock_api_desk.specs.declared.mode.Mode.{Mode}
 use Rattle.lock_api_desk.specs.Desk.{DeskState}
@@ -14,7 +15,8 @@ use Rattle.mapworld_state.specs.Locks.Steps.{LockMoves}
 use Rattle.mapworld_state.specs.Locks.Views.{Shown, held_at}
 use Rattle.mapworld_state.proofs.LocksFacts.Stepping.{can_follow, in_range, stepped_fit, stepped_moves, stepped_open}
 
-module _ (laws : StepsAreCases) (agree : Always OwnersAgree) (old : Shown) (fit : LocksFit old) (t : ℕ) (fair : Bool) (rows : Rows) (answer : Option CoreAnswer) (step : IsStepped t fair answer (state old.rows) (state rows))
+module _ (laws : StepsAreCases) (agree : Always OwnersAgree) (old : Shown) (fit : LocksFit old) (t : ℕ) (fair : Bool)
+    (rows : Rows) (answer : Option CoreAnswer) (step : IsStepped t fair answer (state old.rows) (state rows))
     (going : ended (state old.rows) t ≡ None) (call : Call) (there : call_at (state old.rows) t ≡ Some call) where
   abbrev s : State
   s = state old.rows
@@ -31,7 +33,8 @@ module _ (laws : StepsAreCases) (agree : Always OwnersAgree) (old : Shown) (fit 
   pub low : call.lock < length old.desks
   low = subst (λ n. n < length old.desks) (sym same) (in_range laws agree old fit t fair rows x)
 
-  module _ (before : Option Mode) (was : before ≡ held_at s call.lock t) (desk : DeskState (Unit {0})) (at : slice_get old.desks call.lock ≡ Some desk) where
+  module _ (before : Option Mode) (was : before ≡ held_at s call.lock t) (desk : DeskState (Unit {0}))
+      (at : slice_get old.desks call.lock ≡ Some desk) where
     was_there : before ≡ held_at s x.call.lock t
     was_there = was ∙ ap (λ n. held_at s n t) same
 
@@ -40,17 +43,21 @@ module _ (laws : StepsAreCases) (agree : Always OwnersAgree) (old : Shown) (fit 
 
     pub follows : CanFollow before (held_at u call.lock) (length u.calls) t desk
     follows = subst (λ n. CanFollow before (held_at u n) (length u.calls) t desk) (sym same)
-        (subst (λ o. CanFollow o (held_at u x.call.lock) (length u.calls) t desk) (sym was_there) (can_follow laws agree old fit t fair rows x desk at_there))
+        (subst (λ o. CanFollow o (held_at u x.call.lock) (length u.calls) t desk) (sym was_there)
+        (can_follow laws agree old fit t fair rows x desk at_there))
 
-    module _ (next : DeskState (Unit {0})) (is : next ≡ desk_after (λ _. before) (held_at u call.lock) t (taken_by rows.wakes t) desk) where
+    module _ (next : DeskState (Unit {0}))
+        (is : next ≡ desk_after (λ _. before) (held_at u call.lock) t (taken_by rows.wakes t) desk) where
       abbrev desks : List (DeskState (Unit {0}))
       desks = slice_set old.desks call.lock next
 
-      set_there : desks ≡ slice_set old.desks x.call.lock (desk_after (held_at s x.call.lock) (held_at u x.call.lock) t (taken_by rows.wakes t) desk)
+      set_there : desks ≡ slice_set old.desks x.call.lock
+          (desk_after (held_at s x.call.lock) (held_at u x.call.lock) t (taken_by rows.wakes t) desk)
       set_there =
           ap (slice_set old.desks call.lock) is
           ∙ ap (λ n. slice_set old.desks n (desk_after (λ _. before) (held_at u n) t (taken_by rows.wakes t) desk)) same
-          ∙ ap (λ o. slice_set old.desks x.call.lock (desk_after (λ _. o) (held_at u x.call.lock) t (taken_by rows.wakes t) desk)) was_there
+          ∙ ap (λ o. slice_set old.desks x.call.lock
+          (desk_after (λ _. o) (held_at u x.call.lock) t (taken_by rows.wakes t) desk)) was_there
 
       pub fit_after : LocksFit (record { rows = rows; desks = desks })
       fit_after = stepped_fit laws agree old fit t fair rows x desk at_there desks set_there

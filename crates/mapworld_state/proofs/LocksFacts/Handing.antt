@@ -1,5 +1,6 @@
 -- How shards' holds change in a step of the machine.
-use Rattle.std.proofs.Common.{◌≡◌, ◌≢◌, ◌<◌, ℕ, zero, suc, inl, inr, ◌⊎◌, Bool, true, false, ◌==◌, List, length, Option, Some, None, slice_get, refl, sym, ap, ◌∙◌, subst, arith}
+use Rattle.std.proofs.Common.{◌≡◌, ◌≢◌, ◌<◌, ℕ, zero, suc, inl, inr, ◌⊎◌, Bool, true, false, ◌==◌, List, length, Option}
+use Rattle.std.proofs.Common.{Some, None, slice_get, refl, sym, ap, ◌∙◌, subst, arith}
 use Rattle.std.specs.List.{All}
 use Rattle.std.specs.Option.{option_and_then, option_map, unwrap_or}
 use Rattle.std.proofs.lemmas.Bool.{cases_Bool, false≢true, eq-eqb, eqb-true, cond-true, cond-false}
@@ -9,7 +10,8 @@ use Rattle.parking_lot_core_model.specs.declared.parking.ParkToken.{ParkToken}
 use Rattle.parking_lot_protocol.specs.declared.act.CoreAnswer.{CoreAnswer}
 use Rattle.parking_lot_rules.specs.Any.{AnyLock, Rw}
 use Rattle.parking_lot_rules.specs.Lock.{Lock}
-use Rattle.parking_lot_rules.specs.Owners.{Owner, Reading, Upgrading, Awaiting, Writing, Case, IsCase, Leaves, Standing, owners, standing}
+use Rattle.parking_lot_rules.specs.Owners.{Owner, Reading, Upgrading, Awaiting, Writing, Case, IsCase, Leaves, Standing}
+use Rattle.parking_lot_rules.specs.Owners.{owners, standing}
 use Rattle.parking_lot_rules.specs.Roles.{Idle, Role}
 use Rattle.parking_lot_machine_calls.specs.Kinds.{Manner, AsMutex, AsRw, manner, manner_of, is_recursive, recursive_in}
 use Rattle.parking_lot_machine_calls.specs.declared.calls.LockKind.{LockKind}
@@ -20,7 +22,8 @@ use Rattle.parking_lot_machine_calls.specs.declared.seat.Hold.{Hold}
 use Rattle.parking_lot_machine_calls.specs.CallViews.{mode_of}
 use Rattle.parking_lot_machine.specs.Machines.{IsStepped}
 use Rattle.parking_lot_machine.specs.RowFits.{FitsTogether}
-use Rattle.parking_lot_machine.specs.Rows.{State, any_lock, call_at, hold_at, lock_at, rw_lock_at, rw_role_at, rw_role_in, taken_by}
+use Rattle.parking_lot_machine.specs.Rows.{State, any_lock, call_at, hold_at, lock_at, rw_lock_at, rw_role_at}
+use Rattle.parking_lot_machine.specs.Rows.{rw_role_in, taken_by}
 use Rattle.parking_lot_machine_calls.specs.CallRoles.{owned_of, rw_core_role}
 use Rattle.parking_lot_machine.specs.SoundLaws.{IsCaseAt, IsStepAt, StepsAreCases}
 use Rattle.parking_lot_machine_calls.specs.Stances.{Asleep, stance}
@@ -28,7 +31,8 @@ use Rattle.parking_lot_machine.specs.Worlds.{mode_in}
 use Rattle.mapworld_state.specs.Locks.Views.{held_as, held_at}
 use Rattle.mapworld_state.specs.Locks.Fits.{is_plain}
 use Rattle.mapworld_state.proofs.LocksFacts.Lists.{all_at, among_all}
-use Rattle.mapworld_state.proofs.LocksFacts.Owning.{IsHanded, mode_is_owned, mode_standing, others_stay, own_stays, owned_in}
+use Rattle.mapworld_state.proofs.LocksFacts.Owning.{IsHanded, mode_is_owned, mode_standing, others_stay, own_stays}
+use Rattle.mapworld_state.proofs.LocksFacts.Owning.{owned_in}
 use Rattle.mapworld_state.proofs.LocksFacts.Taking.{HasTaken, IsUntold, untold_or_taken}
 use Rattle.mapworld_state.proofs.LocksFacts.Within.{chosen_sleeps, is_chosen}
 
@@ -36,12 +40,14 @@ pub no_mutex : AsMutex ≢ AsRw
 no_mutex e = false≢true (ap (λ m. elim m as (λ x. Bool) [ AsMutex ↦ false | AsRw ↦ true ]) e)
 
 -- a lock that goes by some rules goes by those of reader-writer locks, and isn't recursive
-pub goes_by : (s : State) (i : ℕ) (m : Manner) → All (λ k. k ≡ kind.Rw) s.kinds → manner_of (slice_get s.kinds i) ≡ Some m → m ≡ AsRw
+pub goes_by : (s : State) (i : ℕ) (m : Manner) → All (λ k. k ≡ kind.Rw) s.kinds → manner_of (slice_get s.kinds i) ≡ Some
+    m → m ≡ AsRw
 goes_by s i m all is = at (slice_get s.kinds i) refl
   where
     at : (o : Option LockKind) → slice_get s.kinds i ≡ o → m ≡ AsRw
     at None e = absurd (none-some m (sym (ap manner_of e) ∙ is))
-    at (Some k) e = same_Some m AsRw (sym is ∙ ap manner_of e ∙ ap (λ x. Some (manner x)) (all_at (λ k. k ≡ kind.Rw) s.kinds i k all e))
+    at (Some k) e = same_Some m AsRw
+        (sym is ∙ ap manner_of e ∙ ap (λ x. Some (manner x)) (all_at (λ k. k ≡ kind.Rw) s.kinds i k all e))
 
 -- and is one that there is
 pub within_kinds : (s : State) (i : ℕ) (m : Manner) → manner_of (slice_get s.kinds i) ≡ Some m → i < length s.kinds
@@ -56,7 +62,8 @@ not_recursive s i all = at (slice_get s.kinds i) refl
   where
     at : (o : Option LockKind) → slice_get s.kinds i ≡ o → recursive_in s.kinds i ≡ false
     at None e = ap (λ o. is_recursive (unwrap_or o kind.Rw)) e
-    at (Some k) e = ap (λ o. is_recursive (unwrap_or o kind.Rw)) e ∙ ap is_recursive (all_at (λ k. k ≡ kind.Rw) s.kinds i k all e)
+    at (Some k) e = ap (λ o. is_recursive (unwrap_or o kind.Rw)) e
+        ∙ ap is_recursive (all_at (λ k. k ≡ kind.Rw) s.kinds i k all e)
 
 -- every lock is a reader-writer lock
 pub is_rw : (s : State) → All (λ k. k ≡ kind.Rw) s.kinds → (i : ℕ) → lock_at s i ≡ Rw (rw_lock_at s i)
@@ -66,12 +73,15 @@ is_rw s all i = at (slice_get s.kinds i) refl
     at None e = ap (λ k. any_lock k s i) e
     at (Some k) e = ap (λ k. any_lock k s i) (e ∙ ap Some (all_at (λ k. k ≡ kind.Rw) s.kinds i k all e))
 
-pub held_is : (s : State) → All (λ k. k ≡ kind.Rw) s.kinds → (i t : ℕ) → held_at s i t ≡ held_as (owned_in (owners (rw_lock_at s i)).threads t)
+pub held_is : (s : State) → All (λ k. k ≡ kind.Rw) s.kinds → (i t : ℕ)
+    → held_at s i t ≡ held_as (owned_in (owners (rw_lock_at s i)).threads t)
 held_is s all i t = ap (λ l. held_as (mode_in l t)) (is_rw s all i) ∙ ap held_as (mode_is_owned (rw_lock_at s i) t)
 
 -- a step at a lock, of which nothing but the lock is known
-rw_case : (recursive : Bool) (t : ℕ) (l m : Lock) (a b : AnyLock) → recursive ≡ false → a ≡ Rw l → b ≡ Rw m → IsCaseAt recursive t a b → (case : Case) × IsCase false t case (owners l) (owners m)
-rw_case recursive t l m a b plain e f h = subst (λ (y : AnyLock). IsCaseAt false t (Rw l) y) f (subst (λ (x : AnyLock). IsCaseAt false t x b) e (subst (λ (r : Bool). IsCaseAt r t a b) plain h))
+rw_case : (recursive : Bool) (t : ℕ) (l m : Lock) (a b : AnyLock) → recursive ≡ false → a ≡ Rw l → b ≡ Rw m
+    → IsCaseAt recursive t a b → (case : Case) × IsCase false t case (owners l) (owners m)
+rw_case recursive t l m a b plain e f h = subst (λ (y : AnyLock). IsCaseAt false t (Rw l) y) f
+    (subst (λ (x : AnyLock). IsCaseAt false t x b) e (subst (λ (r : Bool). IsCaseAt r t a b) plain h))
 
 -- what is left of what one holds that leaves
 held_left : (from : Owner) → Leaves from (Reading 0) → held_as (mode_of from) ≢ None
@@ -81,7 +91,8 @@ held_left Upgrading h e = none-some held.Upgradable (sym e)
 held_left Awaiting h e = absurd h
 held_left Writing h e = none-some held.Exclusive (sym e)
 
--- A thread was handed a lock: it held nothing, the one that handed it over has taken it, held the lock, and holds it no longer.
+-- A thread was handed a lock: it held nothing, the one that handed it over has taken it, held the lock, and holds it no
+-- longer.
 pub record IsHandedOver (t i v : ℕ) (s u : State) : Type 0 where
   pub nothing : held_at s i v ≡ None
   -- it sleeps at that lock
@@ -96,11 +107,13 @@ pub record IsHandedOver (t i v : ℕ) (s u : State) : Type 0 where
   pub after : held_at u i t ≡ None
 
 -- the standing of a thread is that of its role
-role_of : (s : State) (i v : ℕ) (x : Standing) → slice_get (owners (rw_lock_at s i)).threads v ≡ Some x → x ≡ standing (rw_role_at s i v)
+role_of : (s : State) (i v : ℕ) (x : Standing) → slice_get (owners (rw_lock_at s i)).threads v ≡ Some x
+    → x ≡ standing (rw_role_at s i v)
 role_of s i v x e = at (slice_get (rw_lock_at s i).roles v) refl
   where
     at : (o : Option Role) → slice_get (rw_lock_at s i).roles v ≡ o → x ≡ standing (rw_role_at s i v)
-    at None f = absurd (none-some x (sym (slice_get-map standing (rw_lock_at s i).roles v ∙ ap (option_map standing) f) ∙ e))
+    at None f = absurd
+        (none-some x (sym (slice_get-map standing (rw_lock_at s i).roles v ∙ ap (option_map standing) f) ∙ e))
     at (Some r) f =
         same_Some x (standing r) (sym e ∙ slice_get-map standing (rw_lock_at s i).roles v ∙ ap (option_map standing) f)
         ∙ ap standing (among_all (rw_role_at s i) (length s.calls) v r f).1
@@ -117,41 +130,62 @@ record IsChosenCall (s : State) (i v : ℕ) : Type 0 where
   again : (w : State) → call_at w v ≡ Some call → chosen_stand (rw_role_at w i v) ≡ true
 
 module _ (s : State) (cores : (v : ℕ) (c : Call) → call_at s v ≡ Some c → is_plain c.core ≡ true) (i v : ℕ) where
-  by_core : (us : List ℕ) (h : Hold) (c : Call) → call_at s v ≡ Some c → c.lock ≡ i → (k : Core) → c.core ≡ k → rw_role_at s i v ≡ rw_core_role c.others c.spot us k
+  by_core : (us : List ℕ) (h : Hold) (c : Call) → call_at s v ≡ Some c → c.lock ≡ i → (k : Core) → c.core ≡ k
+      → rw_role_at s i v ≡ rw_core_role c.others c.spot us k
       → chosen_stand (rw_core_role c.others c.spot us k) ≡ true → IsChosenCall s i v
   by_core us h c there lock (Core.Mutex k) core role is = absurd (false≢true is)
   by_core us h c there lock (Core.Late k) core role is = absurd (false≢true is)
-  by_core us h c there lock (Core.LateRw k) core role is = absurd (false≢true (sym (ap is_plain core) ∙ cores v c there))
-  by_core us h c there lock (Core.Upgrade k) core role is = absurd (false≢true (sym (ap is_plain core) ∙ cores v c there))
+  by_core us h c there lock (Core.LateRw k) core role is =
+      absurd (false≢true (sym (ap is_plain core) ∙ cores v c there))
+  by_core us h c there lock (Core.Upgrade k) core role is =
+      absurd (false≢true (sym (ap is_plain core) ∙ cores v c there))
   by_core us h c there lock (Core.Rw k) core role is =
       let x = chosen_sleeps c.others c.spot us k.phase is in
       record {
         call = c;
-        untold = record { there = there; by = x.by; off = x.off; key = x.key; token = x.token; asleep = ap stance core ∙ x.asleep };
+        untold = record {
+          there = there;
+          by = x.by;
+          off = x.off;
+          key = x.key;
+          token = x.token;
+          asleep = ap stance core
+              ∙ x.asleep;
+        };
         lock = lock;
         nothing = ap (λ r. mode_standing (standing r)) role ∙ ap mode_of x.owner;
         again = λ w same.
             ap (λ o. chosen_stand (rw_role_in i (taken_by w.wakes v) (hold_at w v i) o)) same
-            ∙ ap chosen_stand (cond-true (c.lock == i) (rw_core_role c.others c.spot (taken_by w.wakes v) c.core) (record { owns = owned_of (hold_at w v i); does = Idle }) (eq-eqb c.lock i lock))
-            ∙ ap (λ q. chosen_stand (rw_core_role c.others c.spot (taken_by w.wakes v) q)) core ∙ x.chosen (taken_by w.wakes v);
+            ∙ ap chosen_stand
+            (cond-true (c.lock == i) (rw_core_role c.others c.spot (taken_by w.wakes v) c.core)
+            (record { owns = owned_of (hold_at w v i); does = Idle }) (eq-eqb c.lock i lock))
+            ∙ ap (λ q. chosen_stand (rw_core_role c.others c.spot (taken_by w.wakes v) q)) core
+            ∙ x.chosen (taken_by w.wakes v);
       }
 
-  by_call : (us : List ℕ) (h : Hold) (o : Option Call) → call_at s v ≡ o → rw_role_at s i v ≡ rw_role_in i us h o → chosen_stand (rw_role_in i us h o) ≡ true → IsChosenCall s i v
+  by_call : (us : List ℕ) (h : Hold) (o : Option Call) → call_at s v ≡ o → rw_role_at s i v ≡ rw_role_in i us h o
+      → chosen_stand (rw_role_in i us h o) ≡ true → IsChosenCall s i v
   by_call us (Hold.Shares n) None there role is = absurd (false≢true is)
   by_call us Hold.Excludes None there role is = absurd (false≢true is)
   by_call us Hold.Upgrades None there role is = absurd (false≢true is)
   by_call us h (Some c) there role is = elim (cases_Bool (c.lock == i)) [
     | inl here ↦
-        let reads : rw_role_in i us h (Some c) ≡ rw_core_role c.others c.spot us c.core = cond-true (c.lock == i) _ _ here in
+        let reads : rw_role_in i us h (Some c) ≡ rw_core_role c.others c.spot us c.core =
+        cond-true (c.lock == i) _ _ here in
         by_core us h c there (eqb-true c.lock i here) c.core refl (role ∙ reads) (sym (ap chosen_stand reads) ∙ is)
-    | inr other ↦ absurd (false≢true (sym (ap chosen_stand (cond-false (c.lock == i) (rw_core_role c.others c.spot us c.core) (record { owns = owned_of h; does = Idle }) other)) ∙ is))
+    | inr other ↦ absurd
+        (false≢true (sym (ap chosen_stand
+        (cond-false (c.lock == i) (rw_core_role c.others c.spot us c.core) (record { owns = owned_of h; does = Idle })
+        other)) ∙ is))
   ]
 
   chosen_call : chosen_stand (rw_role_at s i v) ≡ true → IsChosenCall s i v
   chosen_call is = by_call (taken_by s.wakes v) (hold_at s v i) (call_at s v) refl refl is
 
-module _ (laws : StepsAreCases) (s u : State) (t : ℕ) (fair : Bool) (answer : Option CoreAnswer) (h : FitsTogether s) (rws : All (λ k. k ≡ kind.Rw) s.kinds) (next : All (λ k. k ≡ kind.Rw) u.kinds)
-    (alone : (v : ℕ) (c : Call) → call_at s v ≡ Some c → c.others ≡ 0) (cores : (v : ℕ) (c : Call) → call_at s v ≡ Some c → is_plain c.core ≡ true)
+module _ (laws : StepsAreCases) (s u : State) (t : ℕ) (fair : Bool) (answer : Option CoreAnswer) (h : FitsTogether s)
+    (rws : All (λ k. k ≡ kind.Rw) s.kinds) (next : All (λ k. k ≡ kind.Rw) u.kinds)
+    (alone : (v : ℕ) (c : Call) → call_at s v ≡ Some c → c.others ≡ 0)
+    (cores : (v : ℕ) (c : Call) → call_at s v ≡ Some c → is_plain c.core ≡ true)
     (x : IsStepped t fair answer s u) where
   abbrev i : ℕ
   i = x.call.lock
@@ -160,18 +194,22 @@ module _ (laws : StepsAreCases) (s u : State) (t : ℕ) (fair : Bool) (answer : 
   at_lock = laws.step s u t fair answer h x
 
   the_case : (case : Case) × IsCase false t case (owners (rw_lock_at s i)) (owners (rw_lock_at u i))
-  the_case = rw_case (recursive_in s.kinds i) t (rw_lock_at s i) (rw_lock_at u i) (lock_at s i) (lock_at u i) (not_recursive s i rws) (is_rw s rws i) (is_rw u next i) at_lock.case
+  the_case = rw_case (recursive_in s.kinds i) t (rw_lock_at s i) (rw_lock_at u i) (lock_at s i) (lock_at u i)
+      (not_recursive s i rws) (is_rw s rws i) (is_rw u next i) at_lock.case
 
   -- nothing changes at other locks
   pub elsewhere : (j v : ℕ) → j ≢ i → held_at u j v ≡ held_at s j v
   elsewhere j v ne = ap (λ l. held_as (mode_in l v)) (at_lock.elsewhere j ne)
 
-  handed : (v : ℕ) → v ≢ t → IsHanded t v (owners (rw_lock_at s i)).threads (owners (rw_lock_at u i)).threads → IsHandedOver t i v s u
+  handed : (v : ℕ) → v ≢ t → IsHanded t v (owners (rw_lock_at s i)).threads (owners (rw_lock_at u i)).threads
+      → IsHandedOver t i v s u
   handed v ne y =
       let role = role_of s i v y.before y.was in
       let z = chosen_call s cores i v (ap is_chosen (sym (ap (λ st. st.stand) role) ∙ y.chosen)) in
       record {
-        nothing = held_is s rws i v ∙ ap held_as (ap (option_and_then mode_standing) y.was ∙ ap mode_standing role ∙ z.nothing ∙ ap (λ n. mode_of (Reading n)) (alone v z.call z.untold.there));
+        nothing = held_is s rws i v
+            ∙ ap held_as (ap (option_and_then mode_standing) y.was ∙ ap mode_standing role ∙ z.nothing
+            ∙ ap (λ n. mode_of (Reading n)) (alone v z.call z.untold.there));
         call = z.call;
         there = z.untold.there;
         lock = z.lock;
@@ -180,9 +218,11 @@ module _ (laws : StepsAreCases) (s u : State) (t : ℕ) (fair : Bool) (answer : 
         asleep = z.untold.asleep;
         taken = elim (untold_or_taken s u t fair answer h x v z.call z.untold ne) [
           | inr taken ↦ taken
-          | inl same ↦ absurd (false≢true (ap is_chosen (ap (λ st. st.stand) (role_of u i v _ y.after)) ∙ z.again u same))
+          | inl same ↦ absurd
+              (false≢true (ap is_chosen (ap (λ st. st.stand) (role_of u i v _ y.after)) ∙ z.again u same))
         ];
-        before = λ none. held_left y.from y.leaves (sym (ap held_as (ap (option_and_then mode_standing) y.left)) ∙ sym (held_is s rws i t) ∙ none);
+        before = λ none. held_left y.from y.leaves
+            (sym (ap held_as (ap (option_and_then mode_standing) y.left)) ∙ sym (held_is s rws i t) ∙ none);
         after = held_is u next i t ∙ ap held_as (ap (option_and_then mode_standing) y.gone);
       }
 
@@ -195,4 +235,5 @@ module _ (laws : StepsAreCases) (s u : State) (t : ℕ) (fair : Bool) (answer : 
 
   -- it doesn't turn a shared hold into the exclusive one
   pub own : held_at s i t ≡ Some held.Shared → held_at u i t ≢ Some held.Exclusive
-  own was is = own_stays t the_case.0 (owners (rw_lock_at s i)) (owners (rw_lock_at u i)) the_case.1 (sym (held_is s rws i t) ∙ was) (sym (held_is u next i t) ∙ is)
+  own was is = own_stays t the_case.0 (owners (rw_lock_at s i)) (owners (rw_lock_at u i)) the_case.1
+      (sym (held_is s rws i t) ∙ was) (sym (held_is u next i t) ∙ is)

@@ -127,7 +127,8 @@ module _ (s : State) (t : ℕ) (c : Call) (plain : IsPlain s) where
   is : (u v : State) → u ≡ v → v.kinds ≡ s.kinds → v.holds ≡ s.holds → Keeps u
   is u v e k h = same u (ap (λ (x : State). x.kinds) e ∙ k) (ap (λ (x : State). x.holds) e ∙ h)
 
-  either : (b : Bool) (u v w : State) → w ≡ cond b u v → u.kinds ≡ s.kinds → u.holds ≡ s.holds → v.kinds ≡ s.kinds → v.holds ≡ s.holds → Keeps w
+  either : (b : Bool) (u v w : State) → w ≡ cond b u v → u.kinds ≡ s.kinds → u.holds ≡ s.holds → v.kinds ≡ s.kinds
+      → v.holds ≡ s.holds → Keeps w
   either true u v w e k h l i = is w u e k h
   either false u v w e k h l i = is w v e l i
 
@@ -154,7 +155,9 @@ module _ (s : State) (t : ℕ) (c : Call) (plain : IsPlain s) where
   goes here Act.Sleep fair u b = let l = late_is s u t c c.core refl b in is u _ l.3 refl refl
   goes here (Act.Done answer) fair u e = record {
     kinds = ap (λ (x : State). x.kinds) e;
-    single = subst (All IsSingle) (sym (ap (λ (x : State). x.holds) e)) (all_set IsSingle s.holds (cell s t c.lock) (hold_after c.others c.core) plain.single (after c.core (plain.alone t c here) (plain.cores t c here)));
+    single = subst (All IsSingle) (sym (ap (λ (x : State). x.holds) e))
+        (all_set IsSingle s.holds (cell s t c.lock) (hold_after c.others c.core) plain.single
+        (after c.core (plain.alone t c here) (plain.cores t c here)));
   }
     where
       after : (k : Core) → c.others ≡ 0 → is_plain k ≡ true → IsSingle (hold_after c.others k)
@@ -164,16 +167,20 @@ module _ (s : State) (t : ℕ) (c : Call) (plain : IsPlain s) where
       after (Core.LateRw p) none so = absurd cc
       after (Core.Upgrade x) none so = absurd cc
 
-pub stepped_plain : (s u : State) (t : ℕ) (fair : Bool) (answer : Option CoreAnswer) → IsPlain s → IsStepped t fair answer s u → IsPlain u
+pub stepped_plain : (s u : State) (t : ℕ) (fair : Bool) (answer : Option CoreAnswer) → IsPlain s
+    → IsStepped t fair answer s u → IsPlain u
 stepped_plain s u t fair answer plain x =
     let k = goes s t x.call plain x.here (core_act x.call.core) fair u x.became in
     record {
       kinds = subst (All (λ k. k ≡ kind.Rw)) (sym k.kinds) plain.kinds;
       single = k.single;
-      alone = λ v d at. (let from = (stepped_goes s u t fair answer x).comes v d at in from.follows.others ∙ plain.alone v from.call from.was);
-      cores = λ v d at. (let from = (stepped_goes s u t fair answer x).comes v d at in from.follows.plain (plain.cores v from.call from.was));
+      alone = λ v d at. (let from = (stepped_goes s u t fair answer x).comes v d at in from.follows.others
+          ∙ plain.alone v from.call from.was);
+      cores = λ v d at. (let from = (stepped_goes s u t fair answer x).comes v d at in
+          from.follows.plain (plain.cores v from.call from.was));
     }
 
 -- the locks stay what they are
-pub stepped_kinds : (s u : State) (t : ℕ) (fair : Bool) (answer : Option CoreAnswer) → IsPlain s → IsStepped t fair answer s u → u.kinds ≡ s.kinds
+pub stepped_kinds : (s u : State) (t : ℕ) (fair : Bool) (answer : Option CoreAnswer) → IsPlain s
+    → IsStepped t fair answer s u → u.kinds ≡ s.kinds
 stepped_kinds s u t fair answer plain x = (goes s t x.call plain x.here (core_act x.call.core) fair u x.became).kinds

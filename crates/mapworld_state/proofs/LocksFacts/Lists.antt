@@ -1,5 +1,6 @@
 -- Lists of all threads, and facts of each element.
-use Rattle.std.proofs.Common.{◌≡◌, ℕ, zero, suc, ◌+◌, ◌<◌, ◌≤◌, List, [], ◌∷◌, length, map, Some, None, slice_get, slice_set, refl, sym, ap, ◌∙◌, subst, arith}
+use Rattle.std.proofs.Common.{◌≡◌, ℕ, zero, suc, ◌+◌, ◌<◌, ◌≤◌, List, [], ◌∷◌, length, map, Some, None, slice_get}
+use Rattle.std.proofs.Common.{slice_set, refl, sym, ap, ◌∙◌, subst, arith}
 use Rattle.std.specs.List.{All, range_with_len}
 use Rattle.std.proofs.lemmas.List.Elements.{All-cons, All-head, All-tail}
 use Rattle.std.proofs.lemmas.Option.{none-some, same_Some, slice_get_within, slice_get_past}
@@ -13,7 +14,8 @@ module _ {X : Type 0} where
   pub all_set : (P : X → Type 0) (xs : List X) (i : ℕ) (x : X) → All P xs → P x → All P (slice_set xs i x)
   all_set P [] i x h p = h
   all_set P (y ∷ ys) zero x h p = All-cons P x ys p (All-tail P y ys h)
-  all_set P (y ∷ ys) (suc i) x h p = All-cons P y (slice_set ys i x) (All-head P y ys h) (all_set P ys i x (All-tail P y ys h) p)
+  all_set P (y ∷ ys) (suc i) x h p = All-cons P y (slice_set ys i x) (All-head P y ys h)
+      (all_set P ys i x (All-tail P y ys h) p)
 
   abbrev pub everyone : (ℕ → X) → ℕ → ℕ → List X
   everyone f a n = map f (range_with_len a n)

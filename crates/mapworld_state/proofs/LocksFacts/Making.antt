@@ -1,5 +1,6 @@
 -- Shards' locks that are made fit together, and nobody has done anything.
-use Rattle.std.proofs.Common.{◌≡◌, ℕ, ◌+◌, ◌*◌, inl, inr, Bool, true, false, cond, nat_lt, List, length, replicate, Option, Some, None, slice_get, refl, sym, ap, ◌∙◌, subst, arith}
+use Rattle.std.proofs.Common.{◌≡◌, ℕ, ◌+◌, ◌*◌, inl, inr, Bool, true, false, cond, nat_lt, List, length, replicate}
+use Rattle.std.proofs.Common.{Option, Some, None, slice_get, refl, sym, ap, ◌∙◌, subst, arith}
 use Rattle.std.specs.List.{All}
 use Rattle.std.specs.Option.{option_and_then, option_map, option_map_or}
 use Rattle.std.proofs.lemmas.Bool.{cases_lt}
@@ -23,7 +24,9 @@ use Rattle.mapworld_state.proofs.LocksFacts.Beginning.{held_rest, not_some}
 use Rattle.mapworld_state.proofs.LocksFacts.Lists.{all_at}
 use Rattle.mapworld_state.proofs.LocksFacts.Together.{holders_are_threads}
 
-module _ (threads shards : ℕ) (rows : Rows) (desks : List (DeskState (Unit {0}))) (made : state rows ≡ at_rest threads (replicate shards kind.Rw)) (fits : FitsTogether (state rows)) (empty : All (IsEmptyFor threads) desks)
+module _ (threads shards : ℕ) (rows : Rows) (desks : List (DeskState (Unit {0})))
+    (made : state rows ≡ at_rest threads (replicate shards kind.Rw)) (fits : FitsTogether (state rows))
+    (empty : All (IsEmptyFor threads) desks)
     (count : length desks ≡ shards) where
   abbrev u : State
   u = state rows
@@ -41,38 +44,47 @@ module _ (threads shards : ℕ) (rows : Rows) (desks : List (DeskState (Unit {0}
   free t = at (slice_get u.calls t) refl
     where
       none : All (λ o. o ≡ nothing) u.calls
-      none = subst (All (λ o. o ≡ nothing)) (sym (ap (λ (w : State). w.calls) made)) (All-replicate (λ o. o ≡ nothing) threads nothing refl)
+      none = subst (All (λ o. o ≡ nothing)) (sym (ap (λ (w : State). w.calls) made))
+          (All-replicate (λ o. o ≡ nothing) threads nothing refl)
 
-      at : (o : Option (Option Call)) → slice_get u.calls t ≡ o → option_and_then (λ c. c) (slice_get u.calls t) ≡ nothing
+      at : (o : Option (Option Call)) → slice_get u.calls t ≡ o → option_and_then (λ c. c) (slice_get u.calls t)
+          ≡ nothing
       at None e = ap (option_and_then (λ c. c)) e
       at (Some o) e = ap (option_and_then (λ c. c)) e ∙ all_at (λ o. o ≡ nothing) u.calls t o none e
 
   no_holds : All (λ h. h ≡ Hold.Shares 0) u.holds
-  no_holds = subst (All (λ h. h ≡ Hold.Shares 0)) (sym (ap (λ (w : State). w.holds) made)) (All-replicate (λ h. h ≡ Hold.Shares 0) _ (Hold.Shares 0) refl)
+  no_holds = subst (All (λ h. h ≡ Hold.Shares 0)) (sym (ap (λ (w : State). w.holds) made))
+      (All-replicate (λ h. h ≡ Hold.Shares 0) _ (Hold.Shares 0) refl)
 
   hold_none : (t i : ℕ) → hold_at u t i ≡ Hold.Shares 0
   hold_none t i = by (nat_lt i (length u.kinds))
     where
-      at : (o : Option Hold) → slice_get u.holds (t * length u.kinds + i) ≡ o → option_map_or (λ h. h) o (Hold.Shares 0) ≡ Hold.Shares 0
+      at : (o : Option Hold) → slice_get u.holds (t * length u.kinds + i) ≡ o → option_map_or (λ h. h) o (Hold.Shares 0)
+          ≡ Hold.Shares 0
       at None e = refl
       at (Some h) e = all_at (λ h. h ≡ Hold.Shares 0) u.holds (t * length u.kinds + i) h no_holds e
 
-      by : (b : Bool) → cond b (option_map_or (λ h. h) (slice_get u.holds (t * length u.kinds + i)) (Hold.Shares 0)) (Hold.Shares 0) ≡ Hold.Shares 0
+      by : (b : Bool) → cond b (option_map_or (λ h. h) (slice_get u.holds (t * length u.kinds + i)) (Hold.Shares 0))
+          (Hold.Shares 0) ≡ Hold.Shares 0
       by true = at (slice_get u.holds (t * length u.kinds + i)) refl
       by false = refl
 
   plain : IsPlain u
   plain = record {
-    kinds = subst (All (λ k. k ≡ kind.Rw)) (sym (ap (λ (w : State). w.kinds) made)) (All-replicate (λ k. k ≡ kind.Rw) shards kind.Rw refl);
-    single = subst (All (λ h. is_single h ≡ true)) (sym (ap (λ (w : State). w.holds) made)) (All-replicate (λ h. is_single h ≡ true) _ (Hold.Shares 0) refl);
+    kinds = subst (All (λ k. k ≡ kind.Rw)) (sym (ap (λ (w : State). w.kinds) made))
+        (All-replicate (λ k. k ≡ kind.Rw) shards kind.Rw refl);
+    single = subst (All (λ h. is_single h ≡ true)) (sym (ap (λ (w : State). w.holds) made))
+        (All-replicate (λ h. is_single h ≡ true) _ (Hold.Shares 0) refl);
     alone = λ t c at. absurd (none-some c (sym (free t) ∙ at));
     cores = λ t c at. absurd (none-some c (sym (free t) ∙ at));
   }
 
   unheld : (i t : ℕ) → held_at u i t ≡ None
   unheld i t = elim (cases_lt t (length u.calls)) [
-    | inl low ↦ held_rest u i t plain.kinds low (free t) ∙ ap (λ h. held_as (hold_mode (Some kind.Rw) h)) (hold_none t i)
-    | inr past ↦ not_some (held_at u i t) (λ m e. absurd (omega (arith, past, holders_are_threads u i plain.kinds t m e)))
+    | inl low ↦ held_rest u i t plain.kinds low (free t) ∙ ap (λ h. held_as (hold_mode (Some kind.Rw) h))
+        (hold_none t i)
+    | inr past ↦ not_some (held_at u i t)
+        (λ m e. absurd (omega (arith, past, holders_are_threads u i plain.kinds t m e)))
   ]
 
   pub fresh_fit : LocksFit (record { rows = rows; desks = desks })

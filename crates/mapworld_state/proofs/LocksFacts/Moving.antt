@@ -1,5 +1,6 @@
 -- The guard of a thread that makes a step moves as the thread does, and the desk doesn't refuse it.
-use Rattle.std.proofs.Common.{◌≡◌, ◌≢◌, ℕ, ◌<◌, ◌≤◌, inl, inr, ◌⊎◌, List, [], Option, Some, None, refl, sym, ap, ◌∙◌, subst, arith}
+use Rattle.std.proofs.Common.{◌≡◌, ◌≢◌, ℕ, ◌<◌, ◌≤◌, inl, inr, ◌⊎◌, List, [], Option, Some, None, refl, sym, ap, ◌∙◌}
+use Rattle.std.proofs.Common.{subst, arith}
 use Rattle.std.proofs.lemmas.Bool.{cases_eq}
 use Rattle.lock_api_desk.specs.declared.mode.Mode.{Mode}
 use Rattle.lock_api_desk.specs.declared.mode.Mode.TheVariants as held
@@ -23,14 +24,16 @@ pub record Moves (before after : ℕ → Option Mode) (threads t : ℕ) (desk : 
   pub was_plain : before t ≢ Some held.Upgradable
   pub is_plain : after t ≢ Some held.Upgradable
 
--- What is left: all that hold can be seated, the thread's own guard is as it should be, and so are those of whom nothing has changed.
+-- What is left: all that hold can be seated, the thread's own guard is as it should be, and so are those of whom
+-- nothing has changed.
 pub record Moved (before after : ℕ → Option Mode) (threads t : ℕ) (old new : DeskState (Unit {0})) : Type 0 where
   pub may : MayMove t (before t) (after t) old
   pub can : CanSeat after threads new
   pub own : IsSeated after new.guards t
   pub others : (v : ℕ) → v ≢ t → after v ≡ before v → IsSeated after new.guards v
 
-module _ (before after : ℕ → Option Mode) (threads t : ℕ) (desk : DeskState (Unit {0})) (m : Moves before after threads t desk) where
+module _ (before after : ℕ → Option Mode) (threads t : ℕ) (desk : DeskState (Unit {0}))
+    (m : Moves before after threads t desk) where
   names : Seating.IsNamed t desk.guards
   names = Seating.named before desk.guards (Seating.half before desk.guards m.seated) t
 
@@ -38,10 +41,12 @@ module _ (before after : ℕ → Option Mode) (threads t : ℕ) (desk : DeskStat
   abbrev OthersStay : List Guard → Type 0
   OthersStay guards = (v : ℕ) → v ≢ t → guards_of v guards ≡ guards_of v desk.guards
 
-  other_seat : (guards : List Guard) → OthersStay guards → (v : ℕ) → v ≢ t → after v ≡ before v → IsSeated after guards v
+  other_seat : (guards : List Guard) → OthersStay guards → (v : ℕ) → v ≢ t → after v ≡ before v
+      → IsSeated after guards v
   other_seat guards same v ne e = same v ne ∙ m.seated v ∙ ap (seat_of v) (sym e)
 
-  half : (guards : List Guard) → OthersStay guards → (guards_of t guards ≡ []) ⊎ IsSeated after guards t → AreHalfSeated after guards
+  half : (guards : List Guard) → OthersStay guards → (guards_of t guards ≡ []) ⊎ IsSeated after guards t
+      → AreHalfSeated after guards
   half guards same own v = elim (cases_eq v t) [
     | inl e ↦ subst (λ (n : ℕ). (guards_of n guards ≡ []) ⊎ IsSeated after guards n) (sym e) own
     | inr ne ↦ elim (m.others v ne) [
@@ -50,7 +55,8 @@ module _ (before after : ℕ → Option Mode) (threads t : ℕ) (desk : DeskStat
     ]
   ]
 
-  can : (new : DeskState (Unit {0})) → AreHalfSeated after new.guards → new.room ≡ desk.room → new.limit ≡ desk.limit → CanSeat after threads new
+  can : (new : DeskState (Unit {0})) → AreHalfSeated after new.guards → new.room ≡ desk.room → new.limit ≡ desk.limit
+      → CanSeat after threads new
   can new seats room limit = record {
     half = seats;
     together = m.together;
@@ -61,7 +67,8 @@ module _ (before after : ℕ → Option Mode) (threads t : ℕ) (desk : DeskStat
 
   -- it may move as its holds say
   may : (o p : Option Mode) → before t ≡ o → after t ≡ p → MayMove t o p desk → MayMove t (before t) (after t) desk
-  may o p was is h = subst (λ (x : Option Mode). MayMove t x (after t) desk) (sym was) (subst (λ (y : Option Mode). MayMove t o y desk) (sym is) h)
+  may o p was is h = subst (λ (x : Option Mode). MayMove t x (after t) desk) (sym was)
+      (subst (λ (y : Option Mode). MayMove t o y desk) (sym is) h)
 
   nobody_else : OthersStay desk.guards
   nobody_else v ne = refl
@@ -77,7 +84,8 @@ module _ (before after : ℕ → Option Mode) (threads t : ℕ) (desk : DeskStat
         others = other_seat desk.guards nobody_else;
       }
 
-  comes : (mode : Mode) → before t ≡ None → after t ≡ Some mode → Moved before after threads t desk (admitted mode t t desk)
+  comes : (mode : Mode) → before t ≡ None → after t ≡ Some mode
+      → Moved before after threads t desk (admitted mode t t desk)
   comes mode was is =
       let none : guards_of t desk.guards ≡ [] = m.seated t ∙ ap (seat_of t) was in
       let seats = can desk (half desk.guards nobody_else (inl none)) refl refl in
@@ -85,7 +93,8 @@ module _ (before after : ℕ → Option Mode) (threads t : ℕ) (desk : DeskStat
         may = may None (Some mode) was is (may_come after threads desk seats t mode is none);
         can = seat_more after threads desk seats t mode is none;
         own = Seating.first_guard mode t desk.guards none ∙ sym (ap (seat_of t) is);
-        others = other_seat (Seating.with_guard mode t desk.guards) (λ v ne. Seating.other_guards mode t desk.guards v ne);
+        others = other_seat (Seating.with_guard mode t desk.guards)
+            (λ v ne. Seating.other_guards mode t desk.guards v ne);
       }
 
   leaves : (mode : Mode) → before t ≡ Some mode → after t ≡ None → Moved before after threads t desk (released t desk)
@@ -94,20 +103,26 @@ module _ (before after : ℕ → Option Mode) (threads t : ℕ) (desk : DeskStat
       let gone = Seating.own_gone t desk.guards names in
       let same : OthersStay (released t desk).guards = λ v ne. Seating.others_left t desk.guards names v ne in
       record {
-        may = may (Some mode) None was is (not_refused is_held t (guard_of t desk.guards) (held_guard mode t) (Seating.found t desk.guards names mode seat) refl refl);
+        may = may (Some mode) None was is
+            (not_refused is_held t (guard_of t desk.guards) (held_guard mode t)
+            (Seating.found t desk.guards names mode seat) refl refl);
         can = can (released t desk) (half (released t desk).guards same (inl gone)) refl refl;
         own = gone ∙ sym (ap (seat_of t) is);
         others = other_seat (released t desk).guards same;
       }
 
-  turns : before t ≡ Some held.Exclusive → after t ≡ Some held.Shared → Moved before after threads t desk (turned held.Shared t desk)
+  turns : before t ≡ Some held.Exclusive → after t ≡ Some held.Shared
+      → Moved before after threads t desk (turned held.Shared t desk)
   turns was is =
       let seat : guards_of t desk.guards ≡ seat_of t (Some held.Exclusive) = m.seated t ∙ ap (seat_of t) was in
-      let own : IsSeated after (turned held.Shared t desk).guards t = Seating.own_turned t desk.guards names held.Exclusive held.Shared seat ∙ sym (ap (seat_of t) is) in
-      let same : OthersStay (turned held.Shared t desk).guards = λ v ne. Seating.others_kept t desk.guards names held.Shared v ne in
+      let own : IsSeated after (turned held.Shared t desk).guards t = Seating.own_turned t desk.guards names
+      held.Exclusive held.Shared seat ∙ sym (ap (seat_of t) is) in
+      let same : OthersStay (turned held.Shared t desk).guards = λ v ne. Seating.others_kept t desk.guards names
+      held.Shared v ne in
       record {
         may = may (Some held.Exclusive) (Some held.Shared) was is
-            (not_refused (holds held.Exclusive) t (guard_of t desk.guards) (held_guard held.Exclusive t) (Seating.found t desk.guards names held.Exclusive seat) refl refl);
+            (not_refused (holds held.Exclusive) t (guard_of t desk.guards) (held_guard held.Exclusive t)
+            (Seating.found t desk.guards names held.Exclusive seat) refl refl);
         can = can (turned held.Shared t desk) (half (turned held.Shared t desk).guards same (inr own)) refl refl;
         own = own;
         others = other_seat (turned held.Shared t desk).guards same;

@@ -28,8 +28,13 @@ module _ (l l' : Shown) where
   pub ends-size : (t : ℕ) (answer : CoreAnswer) → LockEnds t answer l l' → KeepsSize l l'
   ends-size t answer h = sized h.whole (ap length h.desks)
 
-pub starts-size : (l l' : Shown) (t shard : ℕ) (call : LockCall) (fair : Bool) → LockStarts t shard call fair l l' → KeepsSize l l'
+pub starts-size : (l l' : Shown) (t shard : ℕ) (call : LockCall) (fair : Bool) → LockStarts t shard call fair l l'
+    → KeepsSize l l'
 starts-size l l' t shard call fair h =
     let a = begins-size l h.mid t shard call h.begins in
     let b = moves-size h.mid l' t fair h.moves in
-    record { threads_are = b.threads_are ∙ a.threads_are; shards_are = b.shards_are ∙ a.shards_are; desks_are = b.desks_are ∙ a.desks_are }
+    record {
+      threads_are = b.threads_are ∙ a.threads_are;
+      shards_are = b.shards_are ∙ a.shards_are;
+      desks_are = b.desks_are ∙ a.desks_are;
+    }

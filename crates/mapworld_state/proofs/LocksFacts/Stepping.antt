@@ -1,5 +1,7 @@
--- A step of a thread, with its desk: locks and desks fit together afterwards, and what has changed is what the step may change.
-use Rattle.std.proofs.Common.{◌≡◌, ◌≢◌, ℕ, ◌<◌, inl, inr, ◌⊎◌, Bool, true, false, ◌==◌, List, length, Option, Some, None, is_none, slice_get, slice_set, refl, sym, ap, ◌∙◌, subst, arith}
+-- A step of a thread, with its desk: locks and desks fit together afterwards, and what has changed is what the step may
+-- change.
+use Rattle.std.proofs.Common.{◌≡◌, ◌≢◌, ℕ, ◌<◌, inl, inr, ◌⊎◌, Bool, true, false, ◌==◌, List, length, Option, Some}
+use Rattle.std.proofs.Common.{None, is_none, slice_get, slice_set, refl, sym, ap, ◌∙◌, subst, arith}
 use Rattle.std.specs.List.{All}
 use Rattle.std.specs.Option.{option_and_then, option_map}
 use Rattle.std.proofs.lemmas.Bool.{cases_eq, false≢true, eq-eqb, cond-true, cond-false}
@@ -36,35 +38,48 @@ use Rattle.mapworld_state.proofs.LocksFacts.Admitting.{AllSeated, IsSeated, seat
 use Rattle.mapworld_state.proofs.LocksFacts.Answering.{stepped_fits}
 use Rattle.mapworld_state.proofs.LocksFacts.Calls.{heard_keeps, IsProper, slot, stepped_goes}
 use Rattle.mapworld_state.proofs.LocksFacts.Ending.{held_by_role}
-use Rattle.mapworld_state.proofs.LocksFacts.Handing.{IsHandedOver, elsewhere, others, own, goes_by, no_mutex, within_kinds}
+use Rattle.mapworld_state.proofs.LocksFacts.Handing.{IsHandedOver, elsewhere, others, own, goes_by, no_mutex}
+use Rattle.mapworld_state.proofs.LocksFacts.Handing.{within_kinds}
 use Rattle.mapworld_state.proofs.LocksFacts.Keeping.{stepped_kinds, stepped_plain}
 use Rattle.mapworld_state.proofs.LocksFacts.Moving.{Moved, Moves, moved}
-use Rattle.mapworld_state.proofs.LocksFacts.Standing.{heard_patient, GoesOnBy, kept_proper, others_stand, own_call, sleeps}
+use Rattle.mapworld_state.proofs.LocksFacts.Standing.{heard_patient, GoesOnBy, kept_proper, others_stand, own_call}
+use Rattle.mapworld_state.proofs.LocksFacts.Standing.{sleeps}
 use Rattle.mapworld_state.proofs.LocksFacts.Together.{go_together, holders_are_threads}
 use Rattle.mapworld_state.proofs.LocksFacts.Within.{within}
 
 -- HOLDS WITHIN CALLS
 
 -- the role of a thread at the lock of its call
-pub call_role : (s : State) (t : ℕ) (c : Call) → call_at s t ≡ Some c → rw_role_at s c.lock t ≡ rw_core_role c.others c.spot (taken_by s.wakes t) c.core
+pub call_role : (s : State) (t : ℕ) (c : Call) → call_at s t ≡ Some c → rw_role_at s c.lock t ≡ rw_core_role c.others
+    c.spot (taken_by s.wakes t) c.core
 call_role s t c here = ap (rw_role_in c.lock (taken_by s.wakes t) (hold_at s t c.lock)) here
-    ∙ cond-true (c.lock == c.lock) (rw_core_role c.others c.spot (taken_by s.wakes t) c.core) (record { owns = owned_of (hold_at s t c.lock); does = Idle }) (eq-eqb c.lock c.lock refl)
+    ∙ cond-true (c.lock == c.lock) (rw_core_role c.others c.spot (taken_by s.wakes t) c.core)
+    (record { owns = owned_of (hold_at s t c.lock); does = Idle }) (eq-eqb c.lock c.lock refl)
 
 -- how it holds that lock
-pub call_holds : (s : State) (t : ℕ) (c : Call) → IsPlain s → call_at s t ≡ Some c → held_at s c.lock t ≡ held_as (rw_mode (rw_core_role 0 c.spot (taken_by s.wakes t) c.core))
+pub call_holds : (s : State) (t : ℕ) (c : Call) → IsPlain s → call_at s t ≡ Some c
+    → held_at s c.lock t ≡ held_as (rw_mode (rw_core_role 0 c.spot (taken_by s.wakes t) c.core))
 call_holds s t c plain here =
     held_by_role s c.lock t plain.kinds (slice_get_within s.calls t (Some c) (slot s.calls t c here))
-    ∙ ap (λ r. held_as (rw_mode r)) (call_role s t c here) ∙ ap (λ n. held_as (rw_mode (rw_core_role n c.spot (taken_by s.wakes t) c.core))) (plain.alone t c here)
+    ∙ ap (λ r. held_as (rw_mode r)) (call_role s t c here)
+    ∙ ap (λ n. held_as (rw_mode (rw_core_role n c.spot (taken_by s.wakes t) c.core))) (plain.alone t c here)
 
 pub not_mutex : (s : State) (i : ℕ) → All (λ k. k ≡ kind.Rw) s.kinds → manner_of (slice_get s.kinds i) ≢ Some AsMutex
 not_mutex s i rws e = no_mutex (goes_by s i AsMutex rws e)
 
 -- it holds nothing beyond what it is about
-pub call_within : (s : State) (t : ℕ) (c : Call) → FitsTogether s → IsPlain s → call_at s t ≡ Some c → is_within (core_aim c.core) (held_at s c.lock t) ≡ true
-call_within s t c h plain here = ap (is_within (core_aim c.core)) (call_holds s t c plain here) ∙ by c.core (plain.cores t c here) (h.rules.kinds t c here) (subst (λ n. IsPrepared (recursive_in s.kinds c.lock) n c.core) (plain.alone t c here) (h.rules.prepared t c here))
+pub call_within : (s : State) (t : ℕ) (c : Call) → FitsTogether s → IsPlain s → call_at s t ≡ Some c
+    → is_within (core_aim c.core) (held_at s c.lock t) ≡ true
+call_within s t c h plain here = ap (is_within (core_aim c.core)) (call_holds s t c plain here)
+    ∙ by c.core (plain.cores t c here) (h.rules.kinds t c here)
+    (subst (λ n. IsPrepared (recursive_in s.kinds c.lock) n c.core) (plain.alone t c here) (h.rules.prepared t c here))
   where
-    by : (k : Core) → is_plain k ≡ true → IsOfKind (slice_get s.kinds c.lock) k → IsPrepared (recursive_in s.kinds c.lock) 0 k → is_within (core_aim k) (held_as (rw_mode (rw_core_role 0 c.spot (taken_by s.wakes t) k))) ≡ true
-    by (Core.Rw x) so of_kind ready = within (rw_spot c.spot) (taken_by s.wakes t) x.phase ready.0 (λ e. absurd (subst (λ p. IsPrepared (recursive_in s.kinds c.lock) 0 (Core.Rw (record { phase = p }))) e ready).1)
+    by : (k : Core) → is_plain k ≡ true → IsOfKind (slice_get s.kinds c.lock) k
+        → IsPrepared (recursive_in s.kinds c.lock) 0 k
+        → is_within (core_aim k) (held_as (rw_mode (rw_core_role 0 c.spot (taken_by s.wakes t) k))) ≡ true
+    by (Core.Rw x) so of_kind ready = within (rw_spot c.spot) (taken_by s.wakes t) x.phase ready.0
+        (λ e. absurd (subst (λ p. IsPrepared (recursive_in s.kinds c.lock) 0 (Core.Rw (record { phase = p }))) e
+        ready).1)
     by (Core.Mutex x) so of_kind ready = absurd (not_mutex s c.lock plain.kinds of_kind)
     by (Core.Late x) so of_kind ready = absurd (not_mutex s c.lock plain.kinds of_kind)
     by (Core.LateRw p) so of_kind ready = absurd cc
@@ -79,8 +94,11 @@ never_upgradable (GivesUp held.Exclusive) = refl
 never_upgradable (GivesUp held.Upgradable) = refl
 never_upgradable Turns = refl
 
-pub call_plain : (s : State) (t : ℕ) (c : Call) → FitsTogether s → IsPlain s → call_at s t ≡ Some c → held_at s c.lock t ≢ Some held.Upgradable
-call_plain s t c h plain here e = false≢true (sym (never_upgradable (core_aim c.core)) ∙ ap (is_within (core_aim c.core)) (sym e) ∙ call_within s t c h plain here)
+pub call_plain : (s : State) (t : ℕ) (c : Call) → FitsTogether s → IsPlain s → call_at s t ≡ Some c
+    → held_at s c.lock t ≢ Some held.Upgradable
+call_plain s t c h plain here e =
+    false≢true (sym (never_upgradable (core_aim c.core)) ∙ ap (is_within (core_aim c.core)) (sym e)
+    ∙ call_within s t c h plain here)
 
 -- one that turns its hold and has turned it holds it still
 turns_on : (o : Option Mode) → is_within Turns o ≡ true → o ≢ Some held.Exclusive → o ≡ Some held.Shared
@@ -90,7 +108,8 @@ turns_on (Some held.Exclusive) is ne = absurd (ne refl)
 turns_on (Some held.Upgradable) is ne = absurd (false≢true is)
 
 -- a sleeper comes to hold only what it asks for
-asleep_gets : (p : RwPhase) (m : Mode) → sleeps (rw_stance p) ≡ true → is_within (phase_aim p) (Some m) ≡ true → phase_aim p ≡ Gets m
+asleep_gets : (p : RwPhase) (m : Mode) → sleeps (rw_stance p) ≡ true → is_within (phase_aim p) (Some m) ≡ true
+    → phase_aim p ≡ Gets m
 asleep_gets (RwPhase.Locking want) m is fits = absurd (false≢true is)
 asleep_gets (RwPhase.Trying want) m is fits = absurd (false≢true is)
 asleep_gets RwPhase.UnlockingShared m is fits = absurd (false≢true is)
@@ -146,7 +165,9 @@ asleep_gets (RwPhase.Finishes rest) m is fits = absurd (false≢true is)
 asleep_gets (RwPhase.Ends outcome) m is fits = absurd (false≢true is)
 asleep_gets RwPhase.Invalid m is fits = absurd (false≢true is)
 
-core_gets : (k : Core) (kinds : Option _) (m : Mode) → is_plain k ≡ true → IsOfKind kinds k → manner_of kinds ≢ Some AsMutex → sleeps (stance k) ≡ true → is_within (core_aim k) (Some m) ≡ true → core_aim k ≡ Gets m
+core_gets : (k : Core) (kinds : Option _) (m : Mode) → is_plain k ≡ true → IsOfKind kinds k
+    → manner_of kinds ≢ Some AsMutex → sleeps (stance k) ≡ true → is_within (core_aim k) (Some m) ≡ true
+    → core_aim k ≡ Gets m
 core_gets (Core.Rw c) kinds m so of_kind ne is fits = asleep_gets c.phase m is fits
 core_gets (Core.Mutex c) kinds m so of_kind ne is fits = absurd (ne of_kind)
 core_gets (Core.Late c) kinds m so of_kind ne is fits = absurd (ne of_kind)
@@ -159,12 +180,14 @@ left_so None b ne none = absurd (ne refl)
 left_so (Some m) b ne none = ap is_none none
 
 -- the call that stands so
-pub called : (o : Option Call) (st : Stand) → option_map stand_of o ≡ Some st → (c : Call) × (o ≡ Some c) × (stand_of c ≡ st)
+pub called : (o : Option Call) (st : Stand) → option_map stand_of o ≡ Some st → (c : Call) × (o ≡ Some c)
+    × (stand_of c ≡ st)
 called None st e = absurd (none-some st e)
 called (Some c) st e = (c, refl, same_Some (stand_of c) st e)
 
 -- a step of a call that isn't over gives no answer
-pub stepped_open : (s u : State) (t : ℕ) (fair : Bool) (answer : Option CoreAnswer) → ended s t ≡ None → IsStepped t fair answer s u → IsStepped t fair None s u
+pub stepped_open : (s u : State) (t : ℕ) (fair : Bool) (answer : Option CoreAnswer) → ended s t ≡ None
+    → IsStepped t fair answer s u → IsStepped t fair None s u
 stepped_open s u t fair answer going x =
     let none : answer ≡ None = x.answers ∙ sym (ap (option_and_then (λ c. end_of (core_act c.core))) x.here) ∙ going in
     record {
@@ -176,7 +199,8 @@ stepped_open s u t fair answer going x =
       pays = x.pays;
     }
 
-module _ (laws : StepsAreCases) (agree : Always OwnersAgree) (old : Shown) (fit : LocksFit old) (t : ℕ) (fair : Bool) (rows : Rows) (x : IsStepped t fair None (state old.rows) (state rows)) where
+module _ (laws : StepsAreCases) (agree : Always OwnersAgree) (old : Shown) (fit : LocksFit old) (t : ℕ) (fair : Bool)
+    (rows : Rows) (x : IsStepped t fair None (state old.rows) (state rows)) where
   abbrev s : State
   s = state old.rows
 
@@ -228,7 +252,8 @@ module _ (laws : StepsAreCases) (agree : Always OwnersAgree) (old : Shown) (fit 
   other v ne = others laws s u t fair None fit.fits fit.plain.kinds plain.kinds fit.plain.alone fit.plain.cores x v ne
 
   elsewhere_same : (j v : ℕ) → j ≢ i → held_at u j v ≡ held_at s j v
-  elsewhere_same j v ne = elsewhere laws s u t fair None fit.fits fit.plain.kinds plain.kinds fit.plain.alone fit.plain.cores x j v ne
+  elsewhere_same j v ne = elsewhere laws s u t fair None fit.fits fit.plain.kinds plain.kinds fit.plain.alone
+      fit.plain.cores x j v ne
 
   own_kept : held_at s i t ≡ Some held.Shared → held_at u i t ≢ Some held.Exclusive
   own_kept = own laws s u t fair None fit.fits fit.plain.kinds plain.kinds fit.plain.alone fit.plain.cores x
@@ -258,7 +283,8 @@ module _ (laws : StepsAreCases) (agree : Always OwnersAgree) (old : Shown) (fit 
       is_plain = λ e. call_plain u t d fits plain own_goes.there (own_held ∙ e);
     }
 
-    has_moved : Moved (held_at s i) (held_at u i) (length u.calls) t desk (own_moved t (held_at s i t) (held_at u i t) desk)
+    has_moved : Moved (held_at s i) (held_at u i) (length u.calls) t desk
+        (own_moved t (held_at s i t) (held_at u i t) desk)
     has_moved = moved (held_at s i) (held_at u i) (length u.calls) t desk moves
 
     pub can_follow : CanFollow (held_at s i t) (held_at u i) (length u.calls) t desk
@@ -303,15 +329,20 @@ module _ (laws : StepsAreCases) (agree : Always OwnersAgree) (old : Shown) (fit 
       limit = has_moved.can.limit;
     })
 
-    desk_fits : (j : ℕ) (new : DeskState (Unit {0})) → slice_get (slice_set old.desks i after) j ≡ Some new → DeskFits u j new
+    desk_fits : (j : ℕ) (new : DeskState (Unit {0})) → slice_get (slice_set old.desks i after) j ≡ Some new
+        → DeskFits u j new
     desk_fits j new e = elim (cases_eq j i) [
       | inl eq ↦ subst (λ (n : ℕ). DeskFits u n new) (sym eq)
-          (subst (DeskFits u i) (same_Some after new (sym (get-set_same old.desks i desk after at) ∙ ap (slice_get (slice_set old.desks i after)) (sym eq) ∙ e)) (fits_with (has_left (held_at s i t) (held_at u i t)) refl))
-      | inr ne ↦ (let was = fit.desks_fit j new (sym (get-set_other old.desks i j after (λ q. ne (sym q))) ∙ e) in record {
-        seated = λ v. was.seated v ∙ ap (seat_of v) (sym (elsewhere_same j v ne));
-        room = omega (arith, was.room, count);
-        limit = omega (arith, was.limit, count);
-      })
+          (subst (DeskFits u i)
+          (same_Some after new
+          (sym (get-set_same old.desks i desk after at) ∙ ap (slice_get (slice_set old.desks i after)) (sym eq)
+          ∙ e)) (fits_with (has_left (held_at s i t) (held_at u i t)) refl))
+      | inr ne ↦ (let was = fit.desks_fit j new (sym (get-set_other old.desks i j after (λ q. ne (sym q))) ∙ e) in
+          record {
+            seated = λ v. was.seated v ∙ ap (seat_of v) (sym (elsewhere_same j v ne));
+            room = omega (arith, was.room, count);
+            limit = omega (arith, was.limit, count);
+          })
     ]
 
     module _ (desks : List (DeskState (Unit {0}))) (is : desks ≡ slice_set old.desks i after) where
@@ -342,27 +373,40 @@ module _ (laws : StepsAreCases) (agree : Always OwnersAgree) (old : Shown) (fit 
       stands_same = others_stand s u t fair None fit.fits fit.plain.cores fits x
 
       -- one that is handed the lock has asked for it
-      handed_gets : (v : ℕ) (m : Mode) → v ≢ t → (given : IsHandedOver t i v s u) → held_at u i v ≡ Some m → core_aim given.call.core ≡ Gets m
+      handed_gets : (v : ℕ) (m : Mode) → v ≢ t → (given : IsHandedOver t i v s u) → held_at u i v ≡ Some m
+          → core_aim given.call.core ≡ Gets m
       handed_gets v m ne given e =
-          let (y, there, same) = called (call_at u v) (stand_of given.call) (stands_same v ne ∙ ap (option_map stand_of) given.there) in
+          let (y, there, same) = called (call_at u v) (stand_of given.call)
+          (stands_same v ne ∙ ap (option_map stand_of) given.there) in
           let lock : y.lock ≡ i = ap (λ (z : Stand). z.shard) same ∙ given.lock in
           let fits_in : is_within (core_aim given.call.core) (Some m) ≡ true =
-          ap (λ a. is_within a (Some m)) (sym (ap (λ (z : Stand). z.aim) same)) ∙ ap (is_within (core_aim y.core)) (sym (ap (λ n. held_at u n v) lock ∙ e)) ∙ call_within u v y fits plain there in
-          core_gets given.call.core (slice_get s.kinds given.call.lock) m (fit.plain.cores v given.call given.there) (fit.fits.rules.kinds v given.call given.there) (not_mutex s given.call.lock fit.plain.kinds) (ap sleeps given.asleep) fits_in
+          ap (λ a. is_within a (Some m)) (sym (ap (λ (z : Stand). z.aim) same))
+          ∙ ap (is_within (core_aim y.core)) (sym (ap (λ n. held_at u n v) lock ∙ e))
+          ∙ call_within u v y fits plain there in
+          core_gets given.call.core (slice_get s.kinds given.call.lock) m (fit.plain.cores v given.call given.there)
+          (fit.fits.rules.kinds v given.call given.there) (not_mutex s given.call.lock fit.plain.kinds)
+          (ap sleeps given.asleep) fits_in
 
       gained : (v j : ℕ) (m : Mode) → v ≢ t → held_at u j v ≡ Some m
-          → (held_at s j v ≡ Some m) ⊎ ((sv : Stand) × (option_map stand_of (call_at s v) ≡ Some sv) × (sv.shard ≡ j) × (sv.aim ≡ Gets m))
+          → (held_at s j v ≡ Some m)
+          ⊎ ((sv : Stand) × (option_map stand_of (call_at s v) ≡ Some sv) × (sv.shard ≡ j) × (sv.aim ≡ Gets m))
       gained v j m ne e = elim (cases_eq j i) [
         | inl eq ↦ elim (other v ne) [
           | inl same ↦ inl (ap (λ n. held_at s n v) eq ∙ sym same ∙ ap (λ n. held_at u n v) (sym eq) ∙ e)
-          | inr given ↦ inr (stand_of given.call, ap (option_map stand_of) given.there, given.lock ∙ sym eq, handed_gets v m ne given (ap (λ n. held_at u n v) (sym eq) ∙ e))
+          | inr given ↦ inr (
+            stand_of given.call,
+            ap (option_map stand_of) given.there,
+            given.lock ∙ sym eq,
+            handed_gets v m ne given (ap (λ n. held_at u n v) (sym eq) ∙ e),
+          )
         ]
         | inr apart ↦ inl (sym (elsewhere_same j v apart) ∙ e)
       ]
 
       turned : core_aim c.core ≡ Turns → held_at s i t ≡ Some held.Shared → held_at u i t ≡ Some held.Shared
       turned aim was = turns_on (held_at u i t)
-          (ap (is_within Turns) (sym own_held) ∙ ap (λ a. is_within a (held_at u d.lock t)) (sym (aim_same ∙ aim)) ∙ call_within u t d fits plain own_goes.there) (own_kept was)
+          (ap (is_within Turns) (sym own_held) ∙ ap (λ a. is_within a (held_at u d.lock t)) (sym (aim_same ∙ aim))
+          ∙ call_within u t d fits plain own_goes.there) (own_kept was)
 
       pub stepped_moves : LockMoves t fair old new
       stepped_moves = record {

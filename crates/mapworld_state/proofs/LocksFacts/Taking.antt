@@ -1,5 +1,7 @@
 -- Whoever waits to be told, and goes on in a step of another, was taken by that one.
-use Rattle.std.proofs.Common.{◌≡◌, ◌≢◌, ℕ, ◌<◌, ◌+◌, ◌*◌, length, zero, suc, inl, inr, ◌⊎◌, Bool, true, false, cond, ◌==◌, List, [], ◌∷◌, ◌++◌, map, filter, Option, Some, None, slice_get, slice_set, refl, sym, ap, ◌∙◌, subst}
+use Rattle.std.proofs.Common.{◌≡◌, ◌≢◌, ℕ, ◌<◌, ◌+◌, ◌*◌, length, zero, suc, inl, inr, ◌⊎◌, Bool, true, false, cond}
+use Rattle.std.proofs.Common.{◌==◌, List, [], ◌∷◌, ◌++◌, map, filter, Option, Some, None, slice_get, slice_set, refl}
+use Rattle.std.proofs.Common.{sym, ap, ◌∙◌, subst}
 use Rattle.std.specs.Option.{option_and_then, option_map}
 use Rattle.std.proofs.lemmas.Bool.{cases_eq, cases_Bool, false≢true, eq-eqb, ne_eqb, cond-true, cond-false}
 use Rattle.std.proofs.lemmas.Option.{none-some, same_Some, slice_get-map, slice_get_within}
@@ -29,12 +31,16 @@ abbrev pub HasTaken : List Wakeup → ℕ → ℕ → Type 0
 HasTaken wakes t v = (k : ℕ) × (slice_get (taken_by wakes t) k ≡ Some v)
 
 by_passes : (t : ℕ) (e : Wakeup) (rest : List Wakeup) → e.by ≡ t → taken_by (e ∷ rest) t ≡ e.thread ∷ taken_by rest t
-by_passes t e rest own = ap (map (λ w. w.thread)) (cond-true (is_by t e) (e ∷ filter (is_by t) rest) (filter (is_by t) rest) (eq-eqb e.by t own))
+by_passes t e rest own =
+    ap (map (λ w. w.thread))
+    (cond-true (is_by t e) (e ∷ filter (is_by t) rest) (filter (is_by t) rest) (eq-eqb e.by t own))
 
 by_other : (t : ℕ) (e : Wakeup) (rest : List Wakeup) → is_by t e ≡ false → taken_by (e ∷ rest) t ≡ taken_by rest t
-by_other t e rest other = ap (map (λ w. w.thread)) (cond-false (is_by t e) (e ∷ filter (is_by t) rest) (filter (is_by t) rest) other)
+by_other t e rest other =
+    ap (map (λ w. w.thread)) (cond-false (is_by t e) (e ∷ filter (is_by t) rest) (filter (is_by t) rest) other)
 
-pub has_taken : (wakes : List Wakeup) (t n : ℕ) (e : Wakeup) → slice_get wakes n ≡ Some e → e.by ≡ t → HasTaken wakes t e.thread
+pub has_taken : (wakes : List Wakeup) (t n : ℕ) (e : Wakeup) → slice_get wakes n ≡ Some e → e.by ≡ t
+    → HasTaken wakes t e.thread
 has_taken [] t n e at own = absurd (none-some e at)
 has_taken (x ∷ xs) t zero e at own =
     let same : x ≡ e = same_Some x e at in
@@ -42,7 +48,12 @@ has_taken (x ∷ xs) t zero e at own =
 has_taken (x ∷ xs) t (suc n) e at own =
     let (k, there) = has_taken xs t n e at own in
     elim (cases_Bool (is_by t x)) [
-      | inl own2 ↦ (suc k, ap (λ us. slice_get us (suc k)) (ap (map (λ w. w.thread)) (cond-true (is_by t x) (x ∷ filter (is_by t) xs) (filter (is_by t) xs) own2)) ∙ there)
+      | inl own2 ↦ (
+        suc k,
+        ap (λ us. slice_get us (suc k))
+            (ap (map (λ w. w.thread)) (cond-true (is_by t x) (x ∷ filter (is_by t) xs) (filter (is_by t) xs) own2))
+            ∙ there,
+      )
       | inr other ↦ (k, ap (λ us. slice_get us k) (by_other t x xs other) ∙ there)
     ]
 
@@ -68,8 +79,10 @@ is_taken (Some (Place.Taken token sleep woken)) = true
 is_taken other = false
 
 -- it stands off its list, and nothing was said to it: then its place isn't that of one who is to be woken
-not_due : (by key : ℕ) (place : Option Place) (section : Option Section) → IsAt (QueuePosition.Off by WakeResult.Nothing) place section key → is_taken place ≡ true → ⊥
-not_due by key place section (sleep, late, inl (held, opened, is_it, own, said)) is = false≢true (sym (ap is_taken held) ∙ is)
+not_due : (by key : ℕ) (place : Option Place) (section : Option Section)
+    → IsAt (QueuePosition.Off by WakeResult.Nothing) place section key → is_taken place ≡ true → ⊥
+not_due by key place section (sleep, late, inl (held, opened, is_it, own, said)) is =
+    false≢true (sym (ap is_taken held) ∙ is)
 not_due by key place section (sleep, late, inr (token, place_is, said)) is = told_something token (sym said)
 
 -- a thread that was taken by another, and isn't told yet
@@ -81,7 +94,8 @@ pub record IsUntold (s : State) (v : ℕ) (d : Call) : Type 0 where
   pub token : ParkToken
   pub asleep : stance d.core ≡ Asleep key token
 
-module _ (s : State) (h : FitsTogether s) (t : ℕ) (c : Call) (here : call_at s t ≡ Some c) (v : ℕ) (d : Call) (x : IsUntold s v d) (other : v ≢ t) where
+module _ (s : State) (h : FitsTogether s) (t : ℕ) (c : Call) (here : call_at s t ≡ Some c) (v : ℕ) (d : Call)
+    (x : IsUntold s v d) (other : v ≢ t) where
   -- it goes on as it was, or that thread has taken it
   abbrev ResultOf : List (Option Call) → List Wakeup → Type 0
   ResultOf calls wakes = (call_of calls v ≡ Some d) ⊎ HasTaken wakes t v
@@ -100,11 +114,13 @@ module _ (s : State) (h : FitsTogether s) (t : ℕ) (c : Call) (here : call_at s
   apart o = set_elsewhere s.calls t v o other ∙ x.there
 
   -- it is told by whom has taken it
-  told_by : (r : WakeResult) (by : ℕ) → d.spot ≡ QueuePosition.Off by WakeResult.Nothing → (settled t r d ≡ d) ⊎ (by ≡ t)
+  told_by : (r : WakeResult) (by : ℕ) → d.spot ≡ QueuePosition.Off by WakeResult.Nothing → (settled t r d ≡ d)
+      ⊎ (by ≡ t)
   told_by r by off = elim (cases_eq by t) [
     | inl e ↦ inr e
     | inr ne ↦ inl (ap (λ p. record d { spot = p })
-        (ap (settled_spot t r) off ∙ ap (QueuePosition.Off by) (cond-false (by == t) r WakeResult.Nothing (ne_eqb by t ne)) ∙ sym off))
+        (ap (settled_spot t r) off
+        ∙ ap (QueuePosition.Off by) (cond-false (by == t) r WakeResult.Nothing (ne_eqb by t ne)) ∙ sym off))
   ]
 
   taken_already : (by : ℕ) → d.spot ≡ QueuePosition.Off by WakeResult.Nothing → by ≡ t → HasTaken s.wakes t v
@@ -118,10 +134,13 @@ module _ (s : State) (h : FitsTogether s) (t : ℕ) (c : Call) (here : call_at s
     | inr own ↦ inr (taken_already x.by x.off own)
   ]
     where
-      mapped : call_of (map (option_map (settled t r)) (slice_set s.calls t o)) v ≡ option_map (settled t r) (call_of (slice_set s.calls t o) v)
-      mapped = ap (option_and_then (λ y. y)) (slice_get-map (option_map (settled t r)) (slice_set s.calls t o) v) ∙ at (slice_get (slice_set s.calls t o) v)
+      mapped : call_of (map (option_map (settled t r)) (slice_set s.calls t o)) v ≡ option_map (settled t r)
+          (call_of (slice_set s.calls t o) v)
+      mapped = ap (option_and_then (λ y. y)) (slice_get-map (option_map (settled t r)) (slice_set s.calls t o) v)
+          ∙ at (slice_get (slice_set s.calls t o) v)
         where
-          at : (o : Option (Option Call)) → option_and_then (λ y. y) (option_map (option_map (settled t r)) o) ≡ option_map (settled t r) (option_and_then (λ y. y) o)
+          at : (o : Option (Option Call)) → option_and_then (λ y. y) (option_map (option_map (settled t r)) o)
+              ≡ option_map (settled t r) (option_and_then (λ y. y) o)
           at None = refl
           at (Some y) = refl
 
@@ -129,17 +148,20 @@ module _ (s : State) (h : FitsTogether s) (t : ℕ) (c : Call) (here : call_at s
   two : (w : ℕ) (o p : Option Call) → v ≢ w → call_of (slice_set (slice_set s.calls w o) t p) v ≡ Some d
   two w o p ne = set_elsewhere (slice_set s.calls w o) t v p other ∙ set_elsewhere s.calls w v o ne ∙ x.there
 
-  takes : (o p : Option Call) (e : Wakeup) → e.by ≡ t → ResultOf (slice_set (slice_set s.calls e.thread o) t p) (s.wakes ++ e ∷ [])
+  takes : (o p : Option Call) (e : Wakeup) → e.by ≡ t → ResultOf (slice_set (slice_set s.calls e.thread o) t p)
+      (s.wakes ++ e ∷ [])
   takes o p e own = elim (cases_eq v e.thread) [
     | inr ne ↦ inl (two e.thread o p ne)
     | inl eq ↦ inr (let (n, at) = at_end s.wakes e in
         let (k, there) = has_taken (s.wakes ++ e ∷ []) t n e at own in (k, there ∙ ap Some (sym eq)))
   ]
 
-  wakes : (e : Wakeup) (d2 : Call) (token : UnparkToken) (o p : Option Call) (ws : List Wakeup) → IsDue s t e d2 token → ResultOf (slice_set (slice_set s.calls e.thread o) t p) ws
+  wakes : (e : Wakeup) (d2 : Call) (token : UnparkToken) (o p : Option Call) (ws : List Wakeup) → IsDue s t e d2 token
+      → ResultOf (slice_set (slice_set s.calls e.thread o) t p) ws
   wakes e d2 token o p ws due = elim (cases_eq v e.thread) [
     | inr ne ↦ inl (two e.thread o p ne)
-    | inl eq ↦ absurd (not_due x.by (2 * d.lock + x.key) (place_at s.lot.places v) s.lot.section off_list_place (taken_place eq))
+    | inl eq ↦ absurd (not_due x.by (2 * d.lock + x.key) (place_at s.lot.places v) s.lot.section off_list_place
+        (taken_place eq))
   ]
     where
       taken_place : v ≡ e.thread → is_taken (place_at s.lot.places v) ≡ true
@@ -149,11 +171,16 @@ module _ (s : State) (h : FitsTogether s) (t : ℕ) (c : Call) (here : call_at s
       low = slice_get_within s.calls v (Some d) (slot s.calls v d x.there)
 
       stands : Stands v d.lock (stance d.core) d.spot (place_at s.lot.places v) s.lot.section
-      stands = subst (λ (o : Option Call). Seated v o (place_at s.lot.places v) s.lot.section) x.there (h.lots.seated v low)
+      stands = subst (λ (o : Option Call). Seated v o (place_at s.lot.places v) s.lot.section) x.there
+          (h.lots.seated v low)
 
-      off_list_place : IsAt (QueuePosition.Off x.by WakeResult.Nothing) (place_at s.lot.places v) s.lot.section (2 * d.lock + x.key)
-      off_list_place = (subst (λ (at : QueuePosition). Stands v d.lock (Asleep x.key x.token) at (place_at s.lot.places v) s.lot.section) x.off
-          (subst (λ (st : Stance). Stands v d.lock st d.spot (place_at s.lot.places v) s.lot.section) x.asleep stands)).0
+      off_list_place : IsAt (QueuePosition.Off x.by WakeResult.Nothing) (place_at s.lot.places v) s.lot.section
+          (2 * d.lock + x.key)
+      off_list_place = (subst
+          (λ (at : QueuePosition). Stands v d.lock (Asleep x.key x.token) at (place_at s.lot.places v) s.lot.section)
+          x.off
+          (subst (λ (st : Stance). Stands v d.lock st d.spot (place_at s.lot.places v) s.lot.section) x.asleep
+          stands)).0
 
   goes_inside : (k : SectionAct) (fair : Bool) (u : State) → BecameInside k t fair c s u → Result u
   goes_inside SectionAct.Check fair u e = is u _ e (inl (apart _))
@@ -178,6 +205,8 @@ module _ (s : State) (h : FitsTogether s) (t : ℕ) (c : Call) (here : call_at s
   goes Act.Sleep fair u b = let l = late_is s u t c c.core refl b in is u _ l.3 (inl (apart _))
   goes (Act.Done answer) fair u e = is u _ e (inl (apart _))
 
-pub untold_or_taken : (s u : State) (t : ℕ) (fair : Bool) (answer : Option CoreAnswer) → FitsTogether s → IsStepped t fair answer s u
+pub untold_or_taken : (s u : State) (t : ℕ) (fair : Bool) (answer : Option CoreAnswer) → FitsTogether s
+    → IsStepped t fair answer s u
     → (v : ℕ) (d : Call) → IsUntold s v d → v ≢ t → (call_at u v ≡ Some d) ⊎ HasTaken u.wakes t v
-untold_or_taken s u t fair answer h x v d y ne = goes s h t x.call x.here v d y ne (core_act x.call.core) fair u x.became
+untold_or_taken s u t fair answer h x v d y ne = goes s h t x.call x.here v d y ne (core_act x.call.core) fair u
+    x.became

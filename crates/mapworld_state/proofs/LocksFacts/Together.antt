@@ -21,12 +21,16 @@ use Rattle.mapworld_state.proofs.LocksFacts.Lists.{among_all}
 use Rattle.mapworld_state.proofs.LocksFacts.Owning.{mode_standing, owned_in}
 
 -- owners that agree hold beside each other
-beside : (a b : OwnMode) (m n : Mode) → held_as (Some a) ≡ Some m → held_as (Some b) ≡ Some n → agrees a b ≡ true → excludes m n ≡ false
-beside OwnMode.Shared OwnMode.Shared m n e f h = ap (λ x. excludes x n) (sym (same_Some held.Shared m e)) ∙ ap (excludes held.Shared) (sym (same_Some held.Shared n f))
-beside OwnMode.Shared OwnMode.Upgradable m n e f h = ap (λ x. excludes x n) (sym (same_Some held.Shared m e)) ∙ ap (excludes held.Shared) (sym (same_Some held.Upgradable n f))
+beside : (a b : OwnMode) (m n : Mode) → held_as (Some a) ≡ Some m → held_as (Some b) ≡ Some n → agrees a b ≡ true
+    → excludes m n ≡ false
+beside OwnMode.Shared OwnMode.Shared m n e f h = ap (λ x. excludes x n) (sym (same_Some held.Shared m e))
+    ∙ ap (excludes held.Shared) (sym (same_Some held.Shared n f))
+beside OwnMode.Shared OwnMode.Upgradable m n e f h = ap (λ x. excludes x n) (sym (same_Some held.Shared m e))
+    ∙ ap (excludes held.Shared) (sym (same_Some held.Upgradable n f))
 beside OwnMode.Shared OwnMode.Pending m n e f h = absurd (none-some n f)
 beside OwnMode.Shared OwnMode.Exclusive m n e f h = absurd (false≢true h)
-beside OwnMode.Upgradable OwnMode.Shared m n e f h = ap (λ x. excludes x n) (sym (same_Some held.Upgradable m e)) ∙ ap (excludes held.Upgradable) (sym (same_Some held.Shared n f))
+beside OwnMode.Upgradable OwnMode.Shared m n e f h = ap (λ x. excludes x n) (sym (same_Some held.Upgradable m e))
+    ∙ ap (excludes held.Upgradable) (sym (same_Some held.Shared n f))
 beside OwnMode.Upgradable OwnMode.Upgradable m n e f h = absurd (false≢true h)
 beside OwnMode.Upgradable OwnMode.Pending m n e f h = absurd (false≢true h)
 beside OwnMode.Upgradable OwnMode.Exclusive m n e f h = absurd (false≢true h)
@@ -45,12 +49,16 @@ go_together s i agree t v m n ne e f =
     beside a b m n (ap held_as (sym x) ∙ e) (ap held_as (sym y) ∙ f) (agree i t v a b ne x y)
 
 -- whoever holds a shard is a thread of the machine
-pub holders_are_threads : (s : State) (i : ℕ) → All (λ k. k ≡ kind.Rw) s.kinds → (v : ℕ) (m : Mode) → held_at s i v ≡ Some m → v < length s.calls
+pub holders_are_threads : (s : State) (i : ℕ) → All (λ k. k ≡ kind.Rw) s.kinds → (v : ℕ) (m : Mode)
+    → held_at s i v ≡ Some m → v < length s.calls
 holders_are_threads s i rws v m e = at (slice_get (rw_lock_at s i).roles v) refl
   where
     known : held_as (owned_in (owners (rw_lock_at s i)).threads v) ≡ Some m
     known = sym (held_is s rws i v) ∙ e
 
     at : (o : Option Role) → slice_get (rw_lock_at s i).roles v ≡ o → v < length s.calls
-    at None f = absurd (none-some m (sym (ap (λ x. held_as (option_and_then mode_standing x)) (slice_get-map standing (rw_lock_at s i).roles v ∙ ap (option_map standing) f)) ∙ known))
+    at None f = absurd
+        (none-some m (sym
+        (ap (λ x. held_as (option_and_then mode_standing x))
+        (slice_get-map standing (rw_lock_at s i).roles v ∙ ap (option_map standing) f)) ∙ known))
     at (Some r) f = (among_all (rw_role_at s i) (length s.calls) v r f).0

@@ -1,5 +1,6 @@
 -- How much a thread's role counts at a lock is how it holds the lock.
-use Rattle.std.proofs.Common.{◌≡◌, ◌≢◌, ℕ, zero, suc, ◌+◌, ◌<◌, ◌≤◌, inl, inr, true, false, ◌==◌, List, length, Option, Some, None, slice_get, refl, sym, ap, ◌∙◌, subst, arith}
+use Rattle.std.proofs.Common.{◌≡◌, ◌≢◌, ℕ, zero, suc, ◌+◌, ◌<◌, ◌≤◌, inl, inr, true, false, ◌==◌, List, length, Option}
+use Rattle.std.proofs.Common.{Some, None, slice_get, refl, sym, ap, ◌∙◌, subst, arith}
 use Rattle.std.proofs.lemmas.Bool.{cases_Bool, false≢true, eqb-true, cond-true, cond-false}
 use Rattle.std.proofs.lemmas.Option.{none-some}
 use Rattle.lock_api_desk.specs.declared.mode.Mode.{Mode}
@@ -40,7 +41,8 @@ adds a b few nothing = omega (arith, few, nothing)
 
 -- NOBODY READS TWICE
 
-rest_reads : (rest : AfterWake) (d : Phase) → done Readers d ≡ 0 → weight Readers (record { owns = of_rw.owned_at_last 0 rest; does = d }) ≤ 1
+rest_reads : (rest : AfterWake) (d : Phase) → done Readers d ≡ 0
+    → weight Readers (record { owns = of_rw.owned_at_last 0 rest; does = d }) ≤ 1
 unfolding weight
 rest_reads AfterWake.FreedShared d e = adds 0 (done Readers d) (omega arith) e
 rest_reads AfterWake.FreedExclusive d e = adds 0 (done Readers d) (omega arith) e
@@ -98,7 +100,8 @@ phase_reads at us RwPhase.Downgrades = none refl
 phase_reads at us RwPhase.EnterWakeSection = once refl
 phase_reads at us (RwPhase.Scans s) = rest_reads s.rest (of_rw.does at us (RwPhase.Scans s)) refl
 phase_reads at us (RwPhase.Stores s left) = rest_reads s.rest (of_rw.does at us (RwPhase.Stores s left)) refl
-phase_reads at us (RwPhase.Leaves rest count handed) = rest_reads rest (of_rw.does at us (RwPhase.Leaves rest count handed)) refl
+phase_reads at us (RwPhase.Leaves rest count handed) =
+    rest_reads rest (of_rw.does at us (RwPhase.Leaves rest count handed)) refl
 phase_reads at us (RwPhase.Wakes rest count) = rest_reads rest (of_rw.does at us (RwPhase.Wakes rest count)) refl
 phase_reads at us (RwPhase.Finishes rest) = rest_reads rest (of_rw.does at us (RwPhase.Finishes rest)) refl
 phase_reads at us (RwPhase.Ends Outcome.Shared) = once refl
@@ -130,10 +133,13 @@ module _ (s : State) (h : FitsTogether s) (plain : IsPlain s) (i t : ℕ) where
   us = taken_by s.wakes t
 
   -- its call is at another lock, or it is in none
-  idle_in : (c : Call) → (c.lock == i) ≡ false → rw_role_in i us hold (Some c) ≡ record { owns = owned_of hold; does = Idle }
-  idle_in c other = cond-false (c.lock == i) (rw_core_role c.others c.spot us c.core) (record { owns = owned_of hold; does = Idle }) other
+  idle_in : (c : Call) → (c.lock == i) ≡ false
+      → rw_role_in i us hold (Some c) ≡ record { owns = owned_of hold; does = Idle }
+  idle_in c other = cond-false (c.lock == i) (rw_core_role c.others c.spot us c.core)
+      (record { owns = owned_of hold; does = Idle }) other
 
-  core_reads : (c : Call) → call_at s t ≡ Some c → (k : Core) → is_plain k ≡ true → IsOfKind (slice_get s.kinds c.lock) k → weight Readers (rw_core_role 0 c.spot us k) ≤ 1
+  core_reads : (c : Call) → call_at s t ≡ Some c → (k : Core) → is_plain k ≡ true
+      → IsOfKind (slice_get s.kinds c.lock) k → weight Readers (rw_core_role 0 c.spot us k) ≤ 1
   core_reads c here (Core.Rw x) so of_kind = phase_reads (rw_spot c.spot) us x.phase
   core_reads c here (Core.Mutex x) so of_kind = absurd (not_mutex s c.lock plain.kinds of_kind)
   core_reads c here (Core.Late x) so of_kind = absurd (not_mutex s c.lock plain.kinds of_kind)
@@ -143,16 +149,22 @@ module _ (s : State) (h : FitsTogether s) (plain : IsPlain s) (i t : ℕ) where
   reads_by : (o : Option Call) → call_at s t ≡ o → weight Readers (rw_role_in i us hold o) ≤ 1
   reads_by None e = idle_reads hold (single_hold s t i plain.single)
   reads_by (Some c) e = elim (cases_Bool (c.lock == i)) [
-    | inr other ↦ subst (λ r. weight Readers r ≤ 1) (sym (idle_in c other)) (idle_reads hold (single_hold s t i plain.single))
-    | inl same ↦ subst (λ r. weight Readers r ≤ 1) (sym (cond-true (c.lock == i) (rw_core_role c.others c.spot us c.core) (record { owns = owned_of hold; does = Idle }) same))
-        (subst (λ n. weight Readers (rw_core_role n c.spot us c.core) ≤ 1) (sym (plain.alone t c e)) (core_reads c e c.core (plain.cores t c e) (h.rules.kinds t c e)))
+    | inr other ↦ subst (λ r. weight Readers r ≤ 1) (sym (idle_in c other))
+        (idle_reads hold (single_hold s t i plain.single))
+    | inl same ↦ subst (λ r. weight Readers r ≤ 1)
+        (sym (cond-true (c.lock == i) (rw_core_role c.others c.spot us c.core)
+        (record { owns = owned_of hold; does = Idle }) same))
+        (subst (λ n. weight Readers (rw_core_role n c.spot us c.core) ≤ 1) (sym (plain.alone t c e))
+        (core_reads c e c.core (plain.cores t c e) (h.rules.kinds t c e)))
   ]
 
   pub reads_once : weight Readers (rw_role_at s i t) ≤ 1
   reads_once = reads_by (call_at s t) refl
 
-  idle_never : t < length s.calls → rw_role_at s i t ≡ record { owns = owned_of hold; does = Idle } → held_at s i t ≢ Some held.Upgradable
-  idle_never low role e = never_so hold (single_hold s t i plain.single) (sym (held_by_role s i t plain.kinds low ∙ ap (λ r. held_as (rw_mode r)) role ∙ ap held_as (idle_mode hold)) ∙ e)
+  idle_never : t < length s.calls → rw_role_at s i t ≡ record { owns = owned_of hold; does = Idle }
+      → held_at s i t ≢ Some held.Upgradable
+  idle_never low role e = never_so hold (single_hold s t i plain.single)
+      (sym (held_by_role s i t plain.kinds low ∙ ap (λ r. held_as (rw_mode r)) role ∙ ap held_as (idle_mode hold)) ∙ e)
 
   never_by : (o : Option Call) → call_at s t ≡ o → t < length s.calls → held_at s i t ≢ Some held.Upgradable
   never_by None e low = idle_never low (ap (rw_role_in i us hold) e)
@@ -178,7 +190,8 @@ pending_weight (Some OwnMode.Pending) = 1
 pending_weight (Some OwnMode.Exclusive) = 0
 
 pub weighed : (o : Option OwnMode) (r u p w : ℕ) → Weighs r u p w o → r ≤ 1 → held_as o ≢ Some held.Upgradable
-    → (r + u ≡ mode_weight held.Shared (held_as o)) × (w ≡ mode_weight held.Exclusive (held_as o)) × (p ≡ pending_weight o)
+    → (r + u ≡ mode_weight held.Shared (held_as o)) × (w ≡ mode_weight held.Exclusive (held_as o))
+    × (p ≡ pending_weight o)
 weighed None r u p w (a, b, c, d) few ne = (omega (arith, a, b), d, c)
 weighed (Some OwnMode.Shared) r u p w (a, b, c, d) few ne = (omega (arith, a, b, few), d, c)
 weighed (Some OwnMode.Upgradable) r u p w h few ne = absurd (ne refl)

@@ -29,33 +29,59 @@ none_for : (want : LockMode) → is_within (aim_for want) None ≡ true
 none_for (LockMode.Shared recursive) = refl
 none_for LockMode.Exclusive = refl
 
-sleeps : (at : of_rw.QueuePosition) (us : List ℕ) (want : LockMode) → is_within (aim_for want) (held_as (rw_mode (of_rw.role 0 at us (RwPhase.Sleeps want)))) ≡ true
+sleeps : (at : of_rw.QueuePosition) (us : List ℕ) (want : LockMode)
+    → is_within (aim_for want) (held_as (rw_mode (of_rw.role 0 at us (RwPhase.Sleeps want)))) ≡ true
 sleeps of_rw.Listed us want = none_for want
 sleeps (of_rw.Off by Open) us want = none_for want
 sleeps (of_rw.Off by Normal) us want = none_for want
 sleeps (of_rw.Off by Handed) us (LockMode.Shared recursive) = refl
 sleeps (of_rw.Off by Handed) us LockMode.Exclusive = refl
 
-drain_sleeps : (at : of_rw.QueuePosition) (us : List ℕ) (rounds : ℕ) → is_within (phase_aim (RwPhase.DrainSleeps rounds)) (held_as (rw_mode (of_rw.role 0 at us (RwPhase.DrainSleeps rounds)))) ≡ true
+drain_sleeps : (at : of_rw.QueuePosition) (us : List ℕ) (rounds : ℕ)
+    → is_within (phase_aim (RwPhase.DrainSleeps rounds))
+    (held_as (rw_mode (of_rw.role 0 at us (RwPhase.DrainSleeps rounds)))) ≡ true
 drain_sleeps of_rw.Listed us rounds = refl
 drain_sleeps (of_rw.Off by mark) us rounds = refl
 
-scans : (at : of_rw.QueuePosition) (us : List ℕ) (s : Scanning) (rest : AfterWake) → s.rest ≡ rest → of_rw.gives_shared s.rest ≡ false → is_within (aim_after s.rest) (held_as (rw_mode (of_rw.role 0 at us (RwPhase.Scans s)))) ≡ true
+scans : (at : of_rw.QueuePosition) (us : List ℕ) (s : Scanning) (rest : AfterWake) → s.rest ≡ rest
+    → of_rw.gives_shared s.rest ≡ false
+    → is_within (aim_after s.rest) (held_as (rw_mode (of_rw.role 0 at us (RwPhase.Scans s)))) ≡ true
 scans at us s AfterWake.FreedShared e ready = absurd (false≢true (sym ready ∙ ap of_rw.gives_shared e))
-scans at us s AfterWake.FreedExclusive e ready = ap (λ r. is_within (aim_after r) (held_as (mode_of (owner_of (of_rw.owned_at_last 0 r) (rules.Scans1 (of_rw.cause_of r) s.shared s.upgradable s.writer us))))) e
-scans at us s AfterWake.Downgraded e ready = ap (λ r. is_within (aim_after r) (held_as (mode_of (owner_of (of_rw.owned_at_last 0 r) (rules.Scans1 (of_rw.cause_of r) s.shared s.upgradable s.writer us))))) e
+scans at us s AfterWake.FreedExclusive e ready =
+    ap (λ r. is_within (aim_after r)
+    (held_as (mode_of (owner_of (of_rw.owned_at_last 0 r)
+    (rules.Scans1 (of_rw.cause_of r) s.shared s.upgradable s.writer us))))) e
+scans at us s AfterWake.Downgraded e ready =
+    ap (λ r. is_within (aim_after r)
+    (held_as (mode_of (owner_of (of_rw.owned_at_last 0 r)
+    (rules.Scans1 (of_rw.cause_of r) s.shared s.upgradable s.writer us))))) e
 scans at us s AfterWake.AgainShared e ready = absurd (false≢true (sym ready ∙ ap of_rw.gives_shared e))
-scans at us s AfterWake.AgainExclusive e ready = ap (λ r. is_within (aim_after r) (held_as (mode_of (owner_of (of_rw.owned_at_last 0 r) (rules.Scans1 (of_rw.cause_of r) s.shared s.upgradable s.writer us))))) e
+scans at us s AfterWake.AgainExclusive e ready =
+    ap (λ r. is_within (aim_after r)
+    (held_as (mode_of (owner_of (of_rw.owned_at_last 0 r)
+    (rules.Scans1 (of_rw.cause_of r) s.shared s.upgradable s.writer us))))) e
 
-stores : (at : of_rw.QueuePosition) (us : List ℕ) (s : Scanning) (left : Bool) (rest : AfterWake) → s.rest ≡ rest → of_rw.gives_shared s.rest ≡ false → is_within (aim_after s.rest) (held_as (rw_mode (of_rw.role 0 at us (RwPhase.Stores s left)))) ≡ true
+stores : (at : of_rw.QueuePosition) (us : List ℕ) (s : Scanning) (left : Bool) (rest : AfterWake) → s.rest ≡ rest
+    → of_rw.gives_shared s.rest ≡ false
+    → is_within (aim_after s.rest) (held_as (rw_mode (of_rw.role 0 at us (RwPhase.Stores s left)))) ≡ true
 stores at us s left AfterWake.FreedShared e ready = absurd (false≢true (sym ready ∙ ap of_rw.gives_shared e))
-stores at us s left AfterWake.FreedExclusive e ready = ap (λ r. is_within (aim_after r) (held_as (mode_of (owner_of (of_rw.owned_at_last 0 r) (rules.Scans1 (of_rw.cause_of r) s.shared s.upgradable s.writer us))))) e
-stores at us s left AfterWake.Downgraded e ready = ap (λ r. is_within (aim_after r) (held_as (mode_of (owner_of (of_rw.owned_at_last 0 r) (rules.Scans1 (of_rw.cause_of r) s.shared s.upgradable s.writer us))))) e
+stores at us s left AfterWake.FreedExclusive e ready =
+    ap (λ r. is_within (aim_after r)
+    (held_as (mode_of (owner_of (of_rw.owned_at_last 0 r)
+    (rules.Scans1 (of_rw.cause_of r) s.shared s.upgradable s.writer us))))) e
+stores at us s left AfterWake.Downgraded e ready =
+    ap (λ r. is_within (aim_after r)
+    (held_as (mode_of (owner_of (of_rw.owned_at_last 0 r)
+    (rules.Scans1 (of_rw.cause_of r) s.shared s.upgradable s.writer us))))) e
 stores at us s left AfterWake.AgainShared e ready = absurd (false≢true (sym ready ∙ ap of_rw.gives_shared e))
-stores at us s left AfterWake.AgainExclusive e ready = ap (λ r. is_within (aim_after r) (held_as (mode_of (owner_of (of_rw.owned_at_last 0 r) (rules.Scans1 (of_rw.cause_of r) s.shared s.upgradable s.writer us))))) e
+stores at us s left AfterWake.AgainExclusive e ready =
+    ap (λ r. is_within (aim_after r)
+    (held_as (mode_of (owner_of (of_rw.owned_at_last 0 r)
+    (rules.Scans1 (of_rw.cause_of r) s.shared s.upgradable s.writer us))))) e
 
 -- with no shared hold beside
-pub within : (at : of_rw.QueuePosition) (us : List ℕ) (p : RwPhase) → of_rw.IsReady p → p ≢ RwPhase.Invalid → is_within (phase_aim p) (held_as (rw_mode (of_rw.role 0 at us p))) ≡ true
+pub within : (at : of_rw.QueuePosition) (us : List ℕ) (p : RwPhase) → of_rw.IsReady p → p ≢ RwPhase.Invalid
+    → is_within (phase_aim p) (held_as (rw_mode (of_rw.role 0 at us p))) ≡ true
 within at us (RwPhase.Locking want) ready ne = none_for want
 within at us (RwPhase.Trying want) ready ne = none_for want
 within at us RwPhase.UnlockingShared ready ne = refl
@@ -159,7 +185,9 @@ shares zero = refl
 shares (suc n) = refl
 
 -- What one owns whose call is answered is what it owned in the call.
-pub done_hold : (recursive : Bool) (n : ℕ) (at : of_rw.QueuePosition) (us : List ℕ) (p : RwPhase) → rw_keeps recursive n p → is_done (act_of p) ≡ true → hold_mode (Some kind.Rw) (rw_hold_after n p) ≡ rw_mode (of_rw.role n at us p)
+pub done_hold : (recursive : Bool) (n : ℕ) (at : of_rw.QueuePosition) (us : List ℕ) (p : RwPhase)
+    → rw_keeps recursive n p → is_done (act_of p) ≡ true → hold_mode (Some kind.Rw) (rw_hold_after n p) ≡ rw_mode
+    (of_rw.role n at us p)
 done_hold recursive n at us (RwPhase.Locking want) keeps done = absurd keeps
 done_hold recursive n at us (RwPhase.Trying want) keeps done = absurd keeps
 done_hold recursive n at us RwPhase.UnlockingShared keeps done = absurd keeps
@@ -231,7 +259,8 @@ pub record IsAwaited (n : ℕ) (at : QueuePosition) (us : List ℕ) (p : RwPhase
   -- whomever it has taken
   pub chosen : (vs : List ℕ) → is_chosen (stand_of (of_rw.does (rw_spot at) vs p)) ≡ true
 
-pub chosen_sleeps : (n : ℕ) (at : QueuePosition) (us : List ℕ) (p : RwPhase) → is_chosen (stand_of (of_rw.does (rw_spot at) us p)) ≡ true → IsAwaited n at us p
+pub chosen_sleeps : (n : ℕ) (at : QueuePosition) (us : List ℕ) (p : RwPhase)
+    → is_chosen (stand_of (of_rw.does (rw_spot at) us p)) ≡ true → IsAwaited n at us p
 chosen_sleeps n at us (RwPhase.Locking want) is = absurd (false≢true is)
 chosen_sleeps n at us (RwPhase.Trying want) is = absurd (false≢true is)
 chosen_sleeps n at us RwPhase.UnlockingShared is = absurd (false≢true is)
@@ -249,7 +278,8 @@ chosen_sleeps n at us (RwPhase.Retreats want woken) is = absurd (false≢true is
 chosen_sleeps n at us (RwPhase.Appends want) is = absurd (false≢true is)
 chosen_sleeps n at us (RwPhase.Rests want) is = absurd (false≢true is)
 chosen_sleeps n QueuePosition.Listed us (RwPhase.Sleeps want) is = absurd (false≢true is)
-chosen_sleeps n (QueuePosition.Off by WakeResult.Nothing) us (RwPhase.Sleeps want) is = record { by = by; off = refl; key = 0; token = _; asleep = refl; owner = refl; chosen = λ vs. refl }
+chosen_sleeps n (QueuePosition.Off by WakeResult.Nothing) us (RwPhase.Sleeps want) is =
+    record { by = by; off = refl; key = 0; token = _; asleep = refl; owner = refl; chosen = λ vs. refl }
 chosen_sleeps n (QueuePosition.Off by WakeResult.TryAgain) us (RwPhase.Sleeps want) is = absurd (false≢true is)
 chosen_sleeps n (QueuePosition.Off by WakeResult.HandedOver) us (RwPhase.Sleeps want) is = absurd (false≢true is)
 chosen_sleeps n at us (RwPhase.DrainLoads d) is = absurd (false≢true is)

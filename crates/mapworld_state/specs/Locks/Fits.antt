@@ -36,8 +36,8 @@ pub record IsPlain (s : State) : Type 0 where
   pub alone : (t : ℕ) (c : Call) → call_at s t ≡ Some c → c.others ≡ 0
   pub cores : (t : ℕ) (c : Call) → call_at s t ≡ Some c → is_plain c.core ≡ true
 
--- The desk beside a shard's word: its guards are the lock's owners but pending ones, each under the number of its thread, and those that were
--- handed the lock are among them. There is room for a guard of each thread.
+-- The desk beside a shard's word: its guards are the lock's owners but pending ones, each under the number of its
+-- thread, and those that were handed the lock are among them. There is room for a guard of each thread.
 pub record DeskFits (s : State) (shard : ℕ) (desk : DeskState (Unit {0})) : Type 0 where
   pub seated : AreSeated (held_at s shard) desk.guards
   pub room : length s.calls ≤ desk.room
@@ -48,6 +48,7 @@ pub record LocksFit (sh : Shown) : Type 0 where
   pub fits : FitsTogether (state sh.rows)
   pub plain : IsPlain (state sh.rows)
   pub count : length sh.desks ≡ length sh.rows.kinds
-  pub desks_fit : (shard : ℕ) (desk : DeskState (Unit {0})) → slice_get sh.desks shard ≡ Some desk → DeskFits (state sh.rows) shard desk
+  pub desks_fit : (shard : ℕ) (desk : DeskState (Unit {0})) → slice_get sh.desks shard ≡ Some desk
+      → DeskFits (state sh.rows) shard desk
   -- who holds a shard may hold it beside the others
   pub together : (shard : ℕ) → GoTogether (owner_in sh shard)

@@ -14,8 +14,12 @@ pub record StaysAt (s u : State) (i : ℕ) : Type 0 where
 -- Of lock i the word changes, or one of the two queues, or nothing, and nothing of any other lock.
 pub record TouchesOnly (i : ℕ) (s u : State) : Type 0 where
   pub elsewhere : (j : ℕ) → j ≢ i → StaysAt s u j
-  pub word_or_queues : (word_at u i ≡ word_at s i) ⊎ ((queue_at u (first_key i) ≡ queue_at s (first_key i)) × (queue_at u (second_key i) ≡ queue_at s (second_key i)))
-  pub one_queue : (queue_at u (first_key i) ≡ queue_at s (first_key i)) ⊎ (queue_at u (second_key i) ≡ queue_at s (second_key i))
+  pub word_or_queues : (word_at u i ≡ word_at s i)
+      ⊎ ((queue_at u (first_key i) ≡ queue_at s (first_key i))
+      × (queue_at u (second_key i) ≡ queue_at s (second_key i)))
+  pub one_queue : (queue_at u (first_key i) ≡ queue_at s (first_key i))
+      ⊎ (queue_at u (second_key i) ≡ queue_at s (second_key i))
 
 abbrev pub StepsTouchOneLock : Type 0
-StepsTouchOneLock = (t : ℕ) (fair : Bool) (old new : Shown) → LocksFit old → (x : LockMoves t fair old new) → TouchesOnly x.stand.shard (state old.rows) (state new.rows)
+StepsTouchOneLock = (t : ℕ) (fair : Bool) (old new : Shown) → LocksFit old → (x : LockMoves t fair old new)
+    → TouchesOnly x.stand.shard (state old.rows) (state new.rows)

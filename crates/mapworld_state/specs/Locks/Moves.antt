@@ -1,5 +1,6 @@
 -- What a step of a thread makes of the desk of its shard.
-use Rattle.std.specs.Prelude.{◌≡◌, ℕ, ◌<◌, ◌≤◌, Bool, true, false, ◌&&◌, if◌then◌else◌, List, [], ◌∷◌, Option, Some, None, is_some, is_none, length}
+use Rattle.std.specs.Prelude.{◌≡◌, ℕ, ◌<◌, ◌≤◌, Bool, true, false, ◌&&◌, if◌then◌else◌, List, [], ◌∷◌, Option, Some}
+use Rattle.std.specs.Prelude.{None, is_some, is_none, length}
 use Rattle.lock_api_desk.specs.declared.mode.Mode.{Mode}
 use Rattle.lock_api_desk.specs.declared.mode.Mode.TheVariants as held
 use Rattle.lock_api_desk.specs.Guards.{granted, held_of, holds, is_held, is_in_use}
@@ -63,7 +64,9 @@ pub record CanSeat (modes : ℕ → Option Mode) (threads : ℕ) (desk : DeskSta
   pub room : threads ≤ desk.room
   pub limit : threads ≤ desk.limit
 
--- A desk can follow its thread, which held so before: the guard of the thread moves, and then whoever holds can be seated.
-pub record CanFollow (before : Option Mode) (after : ℕ → Option Mode) (threads t : ℕ) (desk : DeskState (Unit {0})) : Type 0 where
+-- A desk can follow its thread, which held so before: the guard of the thread moves, and then whoever holds can be
+-- seated.
+pub record CanFollow (before : Option Mode) (after : ℕ → Option Mode) (threads t : ℕ)
+    (desk : DeskState (Unit {0})) : Type 0 where
   pub may : MayMove t before (after t) desk
   pub can : CanSeat after threads (own_moved t before (after t) desk)

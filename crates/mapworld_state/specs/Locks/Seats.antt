@@ -25,7 +25,8 @@ AreSeated modes guards = (party : ℕ) → guards_of party guards ≡ seat_of pa
 
 -- Each party has the guard that it should, or none yet.
 abbrev pub AreHalfSeated : (ℕ → Option Mode) → List Guard → Type 0
-AreHalfSeated modes guards = (party : ℕ) → (guards_of party guards ≡ []) ⊎ (guards_of party guards ≡ seat_of party (modes party))
+AreHalfSeated modes guards = (party : ℕ) → (guards_of party guards ≡ [])
+    ⊎ (guards_of party guards ≡ seat_of party (modes party))
 
 -- who holds so may hold so at one time
 abbrev pub GoTogether : (ℕ → Option Mode) → Type 0

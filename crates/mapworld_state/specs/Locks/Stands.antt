@@ -28,7 +28,8 @@ is_trying (r.TryAdmits want word left) = true
 is_trying (r.Refuses want) = true
 is_trying other = false
 
--- all locks are reader-writer locks that are read and written alone, so a mutex's call and an upgradable one have an aim only for the sake of a whole table
+-- all locks are reader-writer locks that are read and written alone, so a mutex's call and an upgradable one have an
+-- aim only for the sake of a whole table
 abbrev pub core_aim : Core → Aim
 core_aim (core.Rw c) = phase_aim c.phase
 core_aim (core.Mutex c) = Turns

@@ -46,7 +46,8 @@ pub record LockMoves (t : ℕ) (fair : Bool) (old new : Shown) : Type 0 where
   -- the desk of its shard follows the owners there
   pub desk : DeskState (Unit {0})
   pub at_shard : slice_get old.desks stand.shard ≡ Some desk
-  pub desks : new.desks ≡ slice_set old.desks stand.shard (desk_after (owner_in old stand.shard) (owner_in new stand.shard) t (taken_by new.rows.wakes t) desk)
+  pub desks : new.desks ≡ slice_set old.desks stand.shard
+      (desk_after (owner_in old stand.shard) (owner_in new stand.shard) t (taken_by new.rows.wakes t) desk)
   -- it is about what it was, and one that can't be refused stays so
   pub trying : Bool
   pub stands : stand_in new t ≡ Some (record stand { trying = trying })
@@ -59,7 +60,8 @@ pub record LockMoves (t : ℕ) (fair : Bool) (old new : Shown) : Type 0 where
   pub elsewhere : (i : ℕ) → i ≢ stand.shard → owner_in new i t ≡ owner_in old i t
   -- at other shards nobody's hold changes
   pub apart : (v i : ℕ) → i ≢ stand.shard → owner_in new i v ≡ owner_in old i v
-  pub turned : stand.aim ≡ Turns → owner_in old stand.shard t ≡ Some held.Shared → owner_in new stand.shard t ≡ Some held.Shared
+  pub turned : stand.aim ≡ Turns → owner_in old stand.shard t ≡ Some held.Shared
+      → owner_in new stand.shard t ≡ Some held.Shared
 
 -- It has begun to give its hold up or to turn it, and has made the first act of that.
 pub record LockStarts (t shard : ℕ) (call : LockCall) (fair : Bool) (old new : Shown) : Type 0 where

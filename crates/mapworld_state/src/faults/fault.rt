@@ -1,6 +1,7 @@
 //! Why a world isn't made, and why a run stops.
 ghost use Rattle.std.specs.Prelude.{◌≡◌};
-ghost use Rattle.mapworld_state.specs.Faults.Faults.{new_fault_code, new_fault_name, run_fault_code, run_fault_done, run_fault_name};
+ghost use Rattle.mapworld_state.specs.Faults.Faults.{new_fault_code, new_fault_name, run_fault_code, run_fault_done};
+ghost use Rattle.mapworld_state.specs.Faults.Faults.{run_fault_name};
 
 use std::alloc::{AllocError, AllocFailed};
 use std::error::Error;
@@ -92,8 +93,8 @@ impl<T: Drop> From<AllocFailed<T>> for WorldNewFault {
     }
 }
 
-/// Why `MapWorld::run` stopped before the end of its steps. Each case has the number of steps of that run that were done,
-/// and they stay done. At each step the refusals are tried in this order.
+/// Why `MapWorld::run` stopped before the end of its steps. Each case has the number of steps of that run that were
+/// done, and they stay done. At each step the refusals are tried in this order.
 #[derive(Clone, Copy, Debug, PartialEq, Eq)]
 pub enum RunFault {
     /// The thread's number isn't below the number of programs: code 61.

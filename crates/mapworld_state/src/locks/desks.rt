@@ -2,7 +2,8 @@
 ghost use Rattle.std.specs.Prelude.{◌≡◌, length};
 ghost use Rattle.lock_api_desk.specs.Desk.{admitted};
 ghost use Rattle.parking_lot_machine.specs.Rows.{state, taken_by};
-ghost use Rattle.mapworld_state.specs.Locks.Moves.{CanFollow, CanSeat, MayAdmit, MayAdmitAs, MayMove, admitted_as, all_admitted, desk_after, own_moved};
+ghost use Rattle.mapworld_state.specs.Locks.Moves.{CanFollow, CanSeat, MayAdmit, MayAdmitAs, MayMove, admitted_as};
+ghost use Rattle.mapworld_state.specs.Locks.Moves.{all_admitted, desk_after, own_moved};
 ghost use Rattle.mapworld_state.specs.Locks.Views.{held_as, held_at};
 
 use lock_api_desk::{Desk, Mode, TokenTable};
@@ -92,7 +93,8 @@ fn admit_taken<A: Allocator>(
     shard: usize,
 )
     requires can { CanSeat (held_at (state machine.now) shard) (length (state machine.now).calls) desk.old }
-    ensures { desk.new ≡ all_admitted (held_at (state machine.now) shard) (taken_by (state machine.now).wakes thread) desk.old }
+    ensures { desk.new ≡ all_admitted (held_at (state machine.now) shard) (taken_by (state machine.now).wakes thread)
+        desk.old }
 {
     for wakeup in machine.wakes() {
         if wakeup.by == thread {
@@ -102,8 +104,8 @@ fn admit_taken<A: Allocator>(
     }
 }
 
-/// Lets the desk of a shard follow a step of a thread, which held the shard so before it: its guard moves, and where it has left those to whom
-/// it handed the lock are admitted.
+/// Lets the desk of a shard follow a step of a thread, which held the shard so before it: its guard moves, and where it
+/// has left those to whom it handed the lock are admitted.
 pub(crate) fn follow<A: Allocator>(
     desk: &mut ShardDesk<A>,
     machine: &RowMachine<A>,
@@ -111,8 +113,10 @@ pub(crate) fn follow<A: Allocator>(
     shard: usize,
     before: Option<Mode>,
 )
-    requires can { CanFollow before (held_at (state machine.now) shard) (length (state machine.now).calls) thread desk.old }
-    ensures { desk.new ≡ desk_after (λ _. before) (held_at (state machine.now) shard) thread (taken_by (state machine.now).wakes thread) desk.old }
+    requires can { CanFollow before (held_at (state machine.now) shard) (length (state machine.now).calls) thread
+        desk.old }
+    ensures { desk.new ≡ desk_after (λ _. before) (held_at (state machine.now) shard) thread
+        (taken_by (state machine.now).wakes thread) desk.old }
 {
     let after = holds(machine, thread, shard);
     move_guard(desk, thread, before, after);

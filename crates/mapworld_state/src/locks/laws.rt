@@ -4,7 +4,8 @@ ghost use Rattle.mapworld_state.specs.Locks.Footprints.{StepsTouchOneLock};
 
 use parking_lot_machine::laws;
 
-/// A step changes the word of its thread's lock, or one of that lock's two queues, or neither, and no word and no queue of another lock.
+/// A step changes the word of its thread's lock, or one of that lock's two queues, or neither, and no word and no queue
+/// of another lock.
 pub fn steps_touch_one_lock()
     ensures { StepsTouchOneLock }
 {
@@ -18,16 +19,16 @@ pub fn queues_are_waiters()
     laws::lists_are_waiters();
 }
 
-/// A desk has as many shared guards as its shard's word counts readers, and an exclusive one exactly where the writer bit is set and nobody is
-/// pending.
+/// A desk has as many shared guards as its shard's word counts readers, and an exclusive one exactly where the writer
+/// bit is set and nobody is pending.
 pub fn desks_count_as_words()
     ensures { DesksCountAsWords }
 {
     laws::modes_are_weighed();
 }
 
-/// In a call a thread holds its shard in no other way than the call is about: one that asks holds nothing or what it asks for, one that gives up
-/// holds that or nothing, and one that turns its hold holds it.
+/// In a call a thread holds its shard in no other way than the call is about: one that asks holds nothing or what it
+/// asks for, one that gives up holds that or nothing, and one that turns its hold holds it.
 pub fn calls_hold_within()
     ensures { CallsHoldWithin }
 {}

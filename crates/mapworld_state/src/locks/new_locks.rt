@@ -46,8 +46,8 @@ fn desks_for<A: Allocator + Clone>(
 }
 
 impl<A: Allocator + Clone + Drop> ShardLocks<A> {
-    /// The locks of so many shards, which nobody holds, and so many threads, in no call: 1 to 65,536 threads, and 1 to 2^20 shards. All memory
-    /// that their steps need is taken here.
+    /// The locks of so many shards, which nobody holds, and so many threads, in no call: 1 to 65,536 threads, and 1 to
+    /// 2^20 shards. All memory that their steps need is taken here.
     pub fn new(alloc: A, threads: usize, shards: usize) -> Result<ShardLocks<A>, SizeFault>
         ensures size { IsErrOf result BadSize ↔ ((threads ≡ 0) ⊎ (65536 < threads) ⊎ (shards ≡ 0) ⊎ (2 ^ 20 < shards)) }
         ensures made { IfOk result (λ locks. AreFresh threads shards locks) }

@@ -18,9 +18,10 @@ use std::marker::Model;
 
 /// The locks of shards, one for each, and beside each the guards of the threads that hold it.
 ///
-/// A thread [begins](ShardLocks::begin) a call at a shard, or [starts](ShardLocks::start) to give its hold up, makes one atomic
-/// [step](ShardLocks::step) after another, in any order among the threads, and [finishes](ShardLocks::finish) where only the answer is left. The
-/// desk of a shard has a guard for each thread that holds the shard, in the same step in which it comes to hold it.
+/// A thread [begins](ShardLocks::begin) a call at a shard, or [starts](ShardLocks::start) to give its hold up, makes
+/// one atomic [step](ShardLocks::step) after another, in any order among the threads, and
+/// [finishes](ShardLocks::finish) where only the answer is left. The desk of a shard has a guard for each thread that
+/// holds the shard, in the same step in which it comes to hold it.
 #[derive(Drop)]
 pub struct ShardLocks<A: Allocator = Global> {
     pub(crate) machine: RowMachine<A>,
@@ -48,8 +49,8 @@ impl<A: Allocator> ShardLocks<A> {
         self.machine.begin(thread, shard, call);
     }
 
-    /// A thread begins to give its hold of a shard up, or to turn it into a shared one, and makes the first act of that at once: nobody can come
-    /// in between.
+    /// A thread begins to give its hold of a shard up, or to turn it into a shared one, and makes the first act of that
+    /// at once: nobody can come in between.
     pub fn start(&mut self, thread: usize, shard: usize, call: LockCall, fair: bool)
         requires may { MayAsk thread shard call self.old }
         requires gives { gives call ≡ true }
@@ -60,7 +61,8 @@ impl<A: Allocator> ShardLocks<A> {
         self.known();
     }
 
-    /// A thread makes one step of its call. `fair` says whether it hands a lock over, where it stores in the section of an exclusive release.
+    /// A thread makes one step of its call. `fair` says whether it hands a lock over, where it stores in the section of
+    /// an exclusive release.
     pub fn step(&mut self, thread: usize, fair: bool)
         requires can { can_move (state self.old.rows) thread ≡ true }
         requires open { ended (state self.old.rows) thread ≡ None }
@@ -135,7 +137,8 @@ impl<A: Allocator> ShardLocks<A> {
         holds(&self.machine, thread, shard)
     }
 
-    /// Whether a thread can make a step: it is in a call, doesn't sleep, and isn't before a section that another has entered.
+    /// Whether a thread can make a step: it is in a call, doesn't sleep, and isn't before a section that another has
+    /// entered.
     pub fn can_move(&self, thread: usize) -> bool
         ensures { result ≡ can_move (state self.now.rows) thread }
     {
@@ -199,7 +202,8 @@ fn needed(call: LockCall) -> Option<Mode>
 }
 
 impl<A: Allocator + Clone> ShardLocks<A> {
-    /// The threads that wait in the list of a key, in order: the first list of shard `i` has key `2 * i`, the second `2 * i + 1`.
+    /// The threads that wait in the list of a key, in order: the first list of shard `i` has key `2 * i`, the second `2
+    /// * i + 1`.
     pub fn queue(&self, key: usize) -> Result<Vec<usize, A>, SizeFault>
         ensures ok { IfOk result (λ threads. threads.items ≡ queue_at (state self.now.rows) key) }
         ensures err { IfErr result (λ fault. fault ≡ NoMemory) }

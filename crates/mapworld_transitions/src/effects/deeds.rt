@@ -23,7 +23,8 @@ pub fn append<K: Eq + Hash + Drop, V: Drop, S: BuildHasher, D: Deed<K, V> + Drop
     requires slots { IsSlotted D.Deed S.BuildHasher S.Hasher.Hasher K.eq K.hash_input core.old }
     requires room { Room core.old }
     requires numbers { has_next (state_of core.old) ≡ true }
-    requires before { (key : _) × (value : _) × IsBefore (state_of core.old).places step.thread (phase.Append key value) }
+    requires before { (key : _) × (value : _) × IsBefore (state_of core.old).places step.thread
+        (phase.Append key value) }
     ensures step { MakesStep Appends D.Deed S.BuildHasher S.Hasher.Hasher K.eq K.hash_input core.old step core.new }
     ensures slots { IsSlotted D.Deed S.BuildHasher S.Hasher.Hasher K.eq K.hash_input core.new }
     ensures room { Room core.new }

@@ -13,7 +13,8 @@ use std::alloc::Allocator;
 use std::hash::{BuildHasher, Hash};
 use std::mem;
 
-/// The deed of a walk at the pair that its visit has come to; then the walk goes on to the next pair or the next shard, or it ends.
+/// The deed of a walk at the pair that its visit has come to; then the walk goes on to the next pair or the next shard,
+/// or it ends.
 pub fn item<K: Eq + Hash + Drop, V: Drop, S: BuildHasher, D: Deed<K, V> + Drop, A: Allocator>(
     core: &mut Core<K, V, S, D, D::Answer, A>,
     step: Step,

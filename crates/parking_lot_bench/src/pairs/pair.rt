@@ -3,7 +3,8 @@
 /// A pair of a lock and its release, or a call that is over at once.
 #[derive(Clone, Copy)]
 pub enum Pair {
-    /// The raw mutex: by a call that waits, by a try, by a fair release, by a call that may give up, and with a bump before the release.
+    /// The raw mutex: by a call that waits, by a try, by a fair release, by a call that may give up, and with a bump
+    /// before the release.
     Mutex,
     MutexTry,
     MutexFairly,
@@ -11,7 +12,8 @@ pub enum Pair {
     MutexBump,
     /// The raw fair mutex.
     FairMutex,
-    /// Shared holds of the raw reader-writer lock: by a call that waits, by a try, of the recursive lock, and by a call that may give up.
+    /// Shared holds of the raw reader-writer lock: by a call that waits, by a try, of the recursive lock, and by a call
+    /// that may give up.
     Read,
     ReadTry,
     ReadRecursive,
@@ -20,8 +22,8 @@ pub enum Pair {
     Write,
     WriteInTime,
     Downgrade,
-    /// Its upgradable hold, by a call that waits and by one that may give up; one that is upgraded, by a call that waits, by a try and by a
-    /// call that may give up; and one that becomes a shared hold, or was an exclusive one.
+    /// Its upgradable hold, by a call that waits and by one that may give up; one that is upgraded, by a call that
+    /// waits, by a try and by a call that may give up; and one that becomes a shared hold, or was an exclusive one.
     Upgradable,
     UpgradableInTime,
     Upgrade,

@@ -1,5 +1,6 @@
 -- A step that changes one call keeps what holds of the machine.
-use Rattle.std.proofs.Common.{◌≡◌, ◌≢◌, ℕ, ◌<◌, ◌≤◌, ◌⊎◌, inl, inr, Bool, true, false, List, [], ◌∷◌, length, map, Option, Some, None, slice_get, slice_set, refl, sym, ap, ◌∙◌, subst, eqb-true, eq-eqb}
+use Rattle.std.proofs.Common.{◌≡◌, ◌≢◌, ℕ, ◌<◌, ◌≤◌, ◌⊎◌, inl, inr, Bool, true, false, List, [], ◌∷◌, length, map}
+use Rattle.std.proofs.Common.{Option, Some, None, slice_get, slice_set, refl, sym, ap, ◌∙◌, subst, eqb-true, eq-eqb}
 use Rattle.std.proofs.lemmas.Bool.{cases_eq, ne_eqb}
 use Rattle.std.proofs.lemmas.List.{length-set}
 use Rattle.std.proofs.lemmas.Option.{none-some, same_Some}
@@ -32,7 +33,8 @@ pub who_is : (inside : Option ℕ) (t : ℕ) → is_the inside t ≡ true → in
 who_is None t h = absurd cc
 who_is (Some u) t h = ap Some (eqb-true u t h)
 
-wait_still : (timed listed : Bool) (waiting after : ℕ) (p : WaitPhase) → wait_is_inside listed p ≡ false → WaitKnows timed listed waiting p → WaitKnows timed listed after p
+wait_still : (timed listed : Bool) (waiting after : ℕ) (p : WaitPhase) → wait_is_inside listed p ≡ false
+    → WaitKnows timed listed waiting p → WaitKnows timed listed after p
 wait_still timed listed waiting after w.Forgets out h = absurd cc
 wait_still timed listed waiting after (w.Locks true) out h = h
 wait_still timed listed waiting after (w.Locks false) out h = h
@@ -47,12 +49,16 @@ notify_still all threads word new waiting after taken (n.Forgets notice) out h =
 notify_still all threads word new waiting after taken p out h = h
 
 -- one outside the section knows nothing of the list and the word
-pub knows_still : (call : CondvarCall) (listed : Bool) (threads word new waiting after taken : ℕ) (k : Core) → is_inside_by listed k ≡ false
+pub knows_still : (call : CondvarCall) (listed : Bool) (threads word new waiting after taken : ℕ) (k : Core)
+    → is_inside_by listed k ≡ false
     → Knows call listed threads word waiting taken k → Knows call listed threads new after taken k
-knows_still call listed threads word new waiting after taken (core.Wait k) out h = (h.0, wait_still (is_timed call) listed waiting after k.phase out h.1)
-knows_still call listed threads word new waiting after taken (core.Notify k) out h = (h.0, notify_still (is_of_all call) threads word new waiting after taken k.phase out h.1)
+knows_still call listed threads word new waiting after taken (core.Wait k) out h =
+    (h.0, wait_still (is_timed call) listed waiting after k.phase out h.1)
+knows_still call listed threads word new waiting after taken (core.Notify k) out h =
+    (h.0, notify_still (is_of_all call) threads word new waiting after taken k.phase out h.1)
 
-pub same_variable : (a b : ℕ) (ps qs : List Phase) (q r : List ℕ) → a ≡ b → ps ≡ qs → q ≡ r → ◌≡◌ {A = Variable} (record { word = a; phases = ps; queue = q }) (record { word = b; phases = qs; queue = r })
+pub same_variable : (a b : ℕ) (ps qs : List Phase) (q r : List ℕ) → a ≡ b → ps ≡ qs → q ≡ r
+    → ◌≡◌ {A = Variable} (record { word = a; phases = ps; queue = q }) (record { word = b; phases = qs; queue = r })
 same_variable a b ps qs q r e f g =
     ap (λ (x : ℕ). record { word = x; phases = ps; queue = q }) e
     ∙ ap (λ (x : List Phase). record { word = b; phases = x; queue = q }) f
@@ -66,15 +72,18 @@ IsQuiet t s u = ((u.word ≡ s.word) × (length u.queue ≡ length s.queue)) ⊎
 abbrev pub OthersStay : ℕ → State → State → Type 0
 OthersStay t s u = (x : ℕ) → x ≢ t → is_the u.inside x ≡ is_the s.inside x
 
-module _ (s u : State) (t : ℕ) (c : OpenCall) (o : Option OpenCall) (fits : Fits s) (here : call_at s t ≡ Some c) (calls : u.calls ≡ slice_set s.calls t o) where
+module _ (s u : State) (t : ℕ) (c : OpenCall) (o : Option OpenCall) (fits : Fits s) (here : call_at s t ≡ Some c)
+    (calls : u.calls ≡ slice_set s.calls t o) where
   threads : length u.calls ≡ length s.calls
   threads = ap (λ (cs : List (Option OpenCall)). length cs) calls ∙ length-set s.calls t o
 
   others : (x : ℕ) → x ≢ t → call_at u x ≡ call_at s x
-  others x ne = ap (λ (cs : List (Option OpenCall)). call_at (record u { calls = cs }) x) calls ∙ call_elsewhere s.calls t x o ne
+  others x ne = ap (λ (cs : List (Option OpenCall)). call_at (record u { calls = cs }) x) calls
+      ∙ call_elsewhere s.calls t x o ne
 
   its : call_at u t ≡ o
-  its = ap (λ (cs : List (Option OpenCall)). call_at (record u { calls = cs }) t) calls ∙ call_here s.calls t o (within s.calls t c here)
+  its = ap (λ (cs : List (Option OpenCall)). call_at (record u { calls = cs }) t) calls
+      ∙ call_here s.calls t o (within s.calls t c here)
 
   pub phases_one : (variable u).phases ≡ slice_set (variable s).phases t (phase_in o)
   phases_one = ap (map phase_in) calls ∙ map_set phase_in s.calls t o
@@ -88,9 +97,11 @@ module _ (s u : State) (t : ℕ) (c : OpenCall) (o : Option OpenCall) (fits : Fi
       go : IsQuiet t s u → Knows d.call d.listed (length s.calls) u.word (length u.queue) d.taken d.core
       go (inl q) = subst (λ m. Knows d.call d.listed (length s.calls) m (length u.queue) d.taken d.core) (sym q.0)
           (subst (λ m. Knows d.call d.listed (length s.calls) s.word m d.taken d.core) (sym q.1) sits.knows)
-      go (inr its) = knows_still d.call d.listed (length s.calls) s.word u.word (length s.queue) (length u.queue) d.taken d.core (sits.section ∙ not_another s.inside t x ne its) sits.knows
+      go (inr its) = knows_still d.call d.listed (length s.calls) s.word u.word (length s.queue) (length u.queue)
+          d.taken d.core (sits.section ∙ not_another s.inside t x ne its) sits.knows
 
-  pub fits_one : (steps : List Step) → Runs t steps (variable s) (variable u) → ((d : OpenCall) → o ≡ Some d → Sits u t d) → IsQuiet t s u → OthersStay t s u
+  pub fits_one : (steps : List Step) → Runs t steps (variable s) (variable u)
+      → ((d : OpenCall) → o ≡ Some d → Sits u t d) → IsQuiet t s u → OthersStay t s u
       → (is_the u.inside t ≡ true → (d : OpenCall) × (o ≡ Some d)) → Fits u
   fits_one steps run sits quiet stay stands = record {
     sound = runs_sound t steps (variable s) (variable u) fits.sound run;
@@ -99,23 +110,28 @@ module _ (s u : State) (t : ℕ) (c : OpenCall) (o : Option OpenCall) (fits : Fi
       | inr ne ↦ other_sits quiet stay x d ne (fits.seated x d (sym (others x ne) ∙ at))
     ];
     inside = λ x at. elim (cases_eq x t) [
-      | inl e ↦ let d = stands (ap (λ i. is_the i t) at ∙ ap (λ y. is_the (Some y) t) e ∙ it_is t) in (d.0, ap (call_at u) e ∙ its ∙ d.1)
-      | inr ne ↦ let d = fits.inside x (who_is s.inside x (sym (stay x ne) ∙ ap (λ i. is_the i x) at ∙ it_is x)) in (d.0, others x ne ∙ d.1)
+      | inl e ↦ let d = stands (ap (λ i. is_the i t) at ∙ ap (λ y. is_the (Some y) t) e ∙ it_is t) in
+          (d.0, ap (call_at u) e ∙ its ∙ d.1)
+      | inr ne ↦ let d = fits.inside x (who_is s.inside x (sym (stay x ne) ∙ ap (λ i. is_the i x) at ∙ it_is x)) in
+          (d.0, others x ne ∙ d.1)
     ];
     small = subst (λ m. m ≤ 65536) (sym threads) fits.small;
   }
 
   -- a step of the rules that changes the word and the thread's phase
-  pub makes_plain : (k : Plain) → phase_of c ≡ rules.from k → phase_in o ≡ rules.to k → May k s.word (λ x. total x (variable s).phases) → u.word ≡ written k s.word → u.queue ≡ s.queue
+  pub makes_plain : (k : Plain) → phase_of c ≡ rules.from k → phase_in o ≡ rules.to k
+      → May k s.word (λ x. total x (variable s).phases) → u.word ≡ written k s.word → u.queue ≡ s.queue
       → Runs t (Alone k ∷ []) (variable s) (variable u)
   makes_plain k from to may word queue = (
     (phase_there s t c here ∙ ap Some from, may),
-    same_variable u.word (written k s.word) (variable u).phases (slice_set (variable s).phases t (rules.to k)) u.queue s.queue word (phases_one ∙ ap (slice_set (variable s).phases t) to) queue,
+    same_variable u.word (written k s.word) (variable u).phases (slice_set (variable s).phases t (rules.to k)) u.queue
+        s.queue word (phases_one ∙ ap (slice_set (variable s).phases t) to) queue,
   )
 
   -- none
   pub makes_none : phase_in o ≡ phase_of c → u.word ≡ s.word → u.queue ≡ s.queue → Runs t [] (variable s) (variable u)
   makes_none same word queue =
       same_variable u.word s.word (variable u).phases (variable s).phases u.queue s.queue word
-      (phases_one ∙ ap (slice_set (variable s).phases t) same ∙ set-same (variable s).phases t (phase_of c) (phase_there s t c here))
+      (phases_one ∙ ap (slice_set (variable s).phases t) same ∙ set-same (variable s).phases t (phase_of c)
+      (phase_there s t c here))
       queue

@@ -1,5 +1,7 @@
 -- A machine where nobody is in a call, and one where a call begins.
-use Rattle.std.proofs.Common.{◌≡◌, ◌≢◌, ℕ, zero, suc, ◌+◌, ◌-◌, ◌^◌, ◌<◌, ◌≤◌, inl, inr, ◌&&◌, Bool, true, false, nat_lt, List, [], ◌∷◌, length, map, replicate, Option, Some, None, is_none, slice_get, slice_set, refl, sym, ap, ◌∙◌, subst, arith}
+use Rattle.std.proofs.Common.{◌≡◌, ◌≢◌, ℕ, zero, suc, ◌+◌, ◌-◌, ◌^◌, ◌<◌, ◌≤◌, inl, inr, ◌&&◌, Bool, true, false}
+use Rattle.std.proofs.Common.{nat_lt, List, [], ◌∷◌, length, map, replicate, Option, Some, None, is_none, slice_get}
+use Rattle.std.proofs.Common.{slice_set, refl, sym, ap, ◌∙◌, subst, arith}
 use Rattle.std.proofs.lemmas.Bool.{cases_eq, ltb-true}
 use Rattle.std.proofs.lemmas.List.{length-set}
 use Rattle.std.proofs.lemmas.Option.{none-some, same_Some, slice_get-map, slice_get_within}
@@ -11,10 +13,12 @@ use Rattle.parking_lot_rules.proofs.Casing.{set-same}
 use Rattle.parking_lot_rules.proofs.Indexed.{sum_by-set_at}
 use Rattle.parking_lot_rules.proofs.Variables.{quiet_sound}
 use Rattle.parking_lot_machine_sides.specs.declared.condvar.calls.CondvarCall.{CondvarCall}
-use Rattle.parking_lot_machine_sides.specs.declared.condvar.calls.CondvarCall.TheVariants.{Wait, WaitUntil, NotifyOne, NotifyAll}
+use Rattle.parking_lot_machine_sides.specs.declared.condvar.calls.CondvarCall.TheVariants.{Wait, WaitUntil, NotifyOne}
+use Rattle.parking_lot_machine_sides.specs.declared.condvar.calls.CondvarCall.TheVariants.{NotifyAll}
 use Rattle.parking_lot_machine_sides.specs.Condvar.Calls.{OpenCall, call_for}
 use Rattle.parking_lot_machine_sides.specs.Condvar.Fitting.{Fits, Knows, Sits, is_the}
-use Rattle.parking_lot_machine_sides.specs.Condvar.Machines.{State, at_rest, call_at, has_number, may_begin, phase_in, phase_of, variable}
+use Rattle.parking_lot_machine_sides.specs.Condvar.Machines.{State, at_rest, call_at, has_number, may_begin, phase_in}
+use Rattle.parking_lot_machine_sides.specs.Condvar.Machines.{phase_of, variable}
 use Rattle.parking_lot_machine_sides.specs.Condvar.Ranks.{core_steps, cost, left, steps_in}
 use Rattle.parking_lot_machine_sides.specs.Condvar.Steps.{IsBegun, begun}
 use Rattle.parking_lot_machine_sides.specs.Condvar.Turns.{is_inside}
@@ -42,7 +46,9 @@ length_rest (suc n) = ap suc (length_rest n)
 
 pub rest_fits : (threads : ℕ) → threads ≤ 65536 → Fits (at_rest threads)
 rest_fits threads few = record {
-  sound = subst IsSound (sym (same_variable 0 0 (map phase_in (replicate threads None)) (replicate threads rules.Idle) [] [] refl (same_rest threads) refl)) (quiet_sound threads);
+  sound = subst IsSound
+      (sym (same_variable 0 0 (map phase_in (replicate threads None)) (replicate threads rules.Idle) [] [] refl
+      (same_rest threads) refl)) (quiet_sound threads);
   seated = λ t c at. absurd (none-some c (sym (none_there threads t) ∙ at));
   inside = λ t at. absurd (none-some t at);
   small = omega (arith, few, length_rest threads);
@@ -50,7 +56,8 @@ rest_fits threads few = record {
 
 -- A CALL BEGINS
 
-free : (calls : List (Option OpenCall)) (t : ℕ) → t < length calls → option_and_then (λ c. c) (slice_get calls t) ≡ None → slice_get calls t ≡ Some None
+free : (calls : List (Option OpenCall)) (t : ℕ) → t < length calls → option_and_then (λ c. c) (slice_get calls t) ≡ None
+    → slice_get calls t ≡ Some None
 free calls t low none = go (has_slot calls t low).0 (has_slot calls t low).1
   where
     go : (o : Option OpenCall) → slice_get calls t ≡ Some o → slice_get calls t ≡ Some None
@@ -76,13 +83,15 @@ out_at_first NotifyAll = refl
 below : (mutex : ℕ) → nat_lt mutex (2 ^ 64 - 1) ≡ true → mutex + 1 < 2 ^ 64
 below mutex h = omega (arith, ltb-true mutex (2 ^ 64 - 1) h)
 
-knows_at_first : (call : CondvarCall) (threads word waiting : ℕ) → has_number call ≡ true → Knows call true threads word waiting 0 (call_for call).core
+knows_at_first : (call : CondvarCall) (threads word waiting : ℕ) → has_number call ≡ true
+    → Knows call true threads word waiting 0 (call_for call).core
 knows_at_first (Wait mutex) threads word waiting h = (tt, (refl, below mutex h))
 knows_at_first (WaitUntil mutex) threads word waiting h = (tt, (refl, below mutex h))
 knows_at_first NotifyOne threads word waiting h = (tt, (refl, refl))
 knows_at_first NotifyAll threads word waiting h = (tt, (refl, refl))
 
-costs_alike : (call : CondvarCall) (threads queue : ℕ) → core_steps threads queue (call_for call).core ≡ cost threads call
+costs_alike : (call : CondvarCall) (threads queue : ℕ) → core_steps threads queue (call_for call).core ≡ cost threads
+    call
 costs_alike (Wait mutex) threads queue = refl
 costs_alike (WaitUntil mutex) threads queue = refl
 costs_alike NotifyOne threads queue = refl
@@ -90,7 +99,8 @@ costs_alike NotifyAll threads queue = refl
 
 module _ (s : State) (t : ℕ) (call : CondvarCall) (fits : Fits s) (may : may_begin s t call ≡ true) where
   low : t < length s.calls
-  low = ltb-true t (length s.calls) (first_of (nat_lt t (length s.calls)) (is_none (call_at s t) && has_number call) may)
+  low = ltb-true t (length s.calls)
+      (first_of (nat_lt t (length s.calls)) (is_none (call_at s t) && has_number call) may)
 
   rest : (is_none (call_at s t) && has_number call) ≡ true
   rest = second_of (nat_lt t (length s.calls)) (is_none (call_at s t) && has_number call) may
@@ -116,8 +126,15 @@ module _ (s : State) (t : ℕ) (call : CondvarCall) (fits : Fits s) (may : may_b
   costs : left u ≡ left s + cost (length s.calls) call
   costs =
       let f = steps_in (length s.calls) (length s.queue) in
-      let now : left u ≡ sum_by f (slice_set s.calls t (Some c)) = ap (λ k. sum_by (steps_in k (length s.queue)) (slice_set s.calls t (Some c))) (length-set s.calls t (Some c)) in
-      omega (arith, now, sum_by-set_at f s.calls t None (Some c) empty, costs_alike call (length s.calls) (length s.queue))
+      let now : left u ≡ sum_by f (slice_set s.calls t (Some c)) =
+      ap (λ k. sum_by (steps_in k (length s.queue)) (slice_set s.calls t (Some c))) (length-set s.calls t (Some c))
+      in
+      omega (
+        arith,
+        now,
+        sum_by-set_at f s.calls t None (Some c) empty,
+        costs_alike call (length s.calls) (length s.queue),
+      )
 
   pub begins_so : IsBegun t call s u
   begins_so = record { became = refl; stays = stays; costs = costs }
@@ -129,7 +146,8 @@ module _ (s : State) (t : ℕ) (call : CondvarCall) (fits : Fits s) (may : may_b
 
   sits_at_first : Sits u t c
   sits_at_first = record {
-    knows = knows_at_first call (length u.calls) s.word (length s.queue) (second_of (is_none (call_at s t)) (has_number call) rest);
+    knows = knows_at_first call (length u.calls) s.word (length s.queue)
+        (second_of (is_none (call_at s t)) (has_number call) rest);
     section = out_at_first call ∙ sym (not_in (is_the s.inside t) refl);
   }
 
@@ -137,9 +155,15 @@ module _ (s : State) (t : ℕ) (call : CondvarCall) (fits : Fits s) (may : may_b
   begins_fits = record {
     sound = subst IsSound (sym stays) fits.sound;
     seated = λ x d at. elim (cases_eq x t) [
-      | inl e ↦ subst (λ y. Sits u y d) (sym e) (subst (Sits u t) (same_Some c d (sym (call_here s.calls t (Some c) low) ∙ ap (call_at u) (sym e) ∙ at)) sits_at_first)
+      | inl e ↦ subst (λ y. Sits u y d) (sym e)
+          (subst (Sits u t) (same_Some c d (sym (call_here s.calls t (Some c) low) ∙ ap (call_at u) (sym e) ∙ at))
+          sits_at_first)
       | inr ne ↦ let sits = fits.seated x d (sym (call_elsewhere s.calls t x (Some c) ne) ∙ at) in
-          record { knows = subst (λ m. Knows d.call d.listed m s.word (length s.queue) d.taken d.core) (sym (length-set s.calls t (Some c))) sits.knows; section = sits.section }
+          record {
+            knows = subst (λ m. Knows d.call d.listed m s.word (length s.queue) d.taken d.core)
+                (sym (length-set s.calls t (Some c))) sits.knows;
+            section = sits.section;
+          }
     ];
     inside = λ x at. elim (cases_eq x t) [
       | inl e ↦ (c, ap (call_at u) e ∙ call_here s.calls t (Some c) low)

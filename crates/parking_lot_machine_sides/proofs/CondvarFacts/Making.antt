@@ -1,5 +1,6 @@
 -- What the machine's parts make together.
-use Rattle.std.proofs.Common.{◌≡◌, ℕ, ◌<◌, ◌≤◌, true, List, [], ◌∷◌, get_or, length, remove, is_some, Option, Some, None, slice_get, slice_set, refl, sym, ap, ◌∙◌, subst, arith}
+use Rattle.std.proofs.Common.{◌≡◌, ℕ, ◌<◌, ◌≤◌, true, List, [], ◌∷◌, get_or, length, remove, is_some, Option, Some}
+use Rattle.std.proofs.Common.{None, slice_get, slice_set, refl, sym, ap, ◌∙◌, subst, arith}
 use Rattle.std.specs.Option.{IfSome, option_map}
 use Rattle.std.proofs.lemmas.Option.{slice_get-get_or}
 use Rattle.parking_lot_rules.specs.Variable.{Waiting, weight}
@@ -12,8 +13,12 @@ use Rattle.parking_lot_machine_sides.specs.declared.condvar.open_call.Core.{Core
 use Rattle.parking_lot_machine_sides.specs.declared.condvar.open_call.Core.TheVariants as core
 use Rattle.parking_lot_machine_sides.specs.Condvar.Calls.{OpenCall, off_list, took_one}
 use Rattle.parking_lot_machine_sides.specs.Condvar.Fitting.{Fits}
-use Rattle.parking_lot_machine_sides.specs.Condvar.Machines.{State, call_at, call_in, is_left, may_step, may_take, phase_by}
-use Rattle.parking_lot_machine_sides.specs.Condvar.OwnSteps.{WhereItJoins, inside_after_notify, inside_after_wait, notify_goes, notify_sees, queue_after_wait, stepped, stepped_by, wait_goes, wait_sees, word_after_notify, word_after_wait}
+use Rattle.parking_lot_machine_sides.specs.Condvar.Machines.{State, call_at, call_in, is_left, may_step, may_take}
+use Rattle.parking_lot_machine_sides.specs.Condvar.Machines.{phase_by}
+use Rattle.parking_lot_machine_sides.specs.Condvar.OwnSteps.{WhereItJoins, inside_after_notify, inside_after_wait}
+use Rattle.parking_lot_machine_sides.specs.Condvar.OwnSteps.{notify_goes, notify_sees, queue_after_wait, stepped}
+use Rattle.parking_lot_machine_sides.specs.Condvar.OwnSteps.{stepped_by, wait_goes, wait_sees, word_after_notify}
+use Rattle.parking_lot_machine_sides.specs.Condvar.OwnSteps.{word_after_wait}
 use Rattle.parking_lot_machine_sides.specs.Condvar.Steps.{IsTaken, taken_by}
 use Rattle.parking_lot_machine_sides.proofs.CondvarFacts.Phases.{fewer_wait}
 use Rattle.parking_lot_machine_sides.proofs.CondvarFacts.Slots.{within}
@@ -28,25 +33,36 @@ low {m} t c e here = within m.calls t c (held t c e here)
 pub may_so : {m n : State} (c : OpenCall) → m ≡ n → may_step n.inside c ≡ true → may_step m.inside c ≡ true
 may_so c e may = ap (λ (x : State). may_step x.inside c) e ∙ may
 
-same_state : (a b : ℕ) (cs ds : List (Option OpenCall)) (q r : List ℕ) (i j : Option ℕ) → a ≡ b → cs ≡ ds → q ≡ r → i ≡ j
-    → ◌≡◌ {A = State} (record { word = a; calls = cs; queue = q; inside = i }) (record { word = b; calls = ds; queue = r; inside = j })
+same_state : (a b : ℕ) (cs ds : List (Option OpenCall)) (q r : List ℕ) (i j : Option ℕ) → a ≡ b → cs ≡ ds → q ≡ r
+    → i ≡ j
+    → ◌≡◌ {A = State} (record { word = a; calls = cs; queue = q; inside = i })
+    (record { word = b; calls = ds; queue = r; inside = j })
 same_state a b cs ds q r i j e f g h =
     ap (λ (x : ℕ). record { word = x; calls = cs; queue = q; inside = i }) e
     ∙ ap (λ (x : List (Option OpenCall)). record { word = b; calls = x; queue = q; inside = i }) f
     ∙ ap (λ (x : List ℕ). record { word = b; calls = ds; queue = x; inside = i }) g
     ∙ ap (λ (x : Option ℕ). record { word = b; calls = ds; queue = r; inside = x }) h
 
-pub notified : (m : State) (t : ℕ) (c : OpenCall) (k : NotifyCore) → c.core ≡ core.Notify k → (word : ℕ) (goes : Option OpenCall) (inside : Option ℕ)
-    → word ≡ word_after_notify k.phase m.word → goes ≡ notify_goes c k (notify_sees m.word k.phase) k.phase → inside ≡ inside_after_notify t k.phase m.inside
-    → ◌≡◌ {A = State} (record { word = word; calls = slice_set m.calls t goes; queue = m.queue; inside = inside }) (stepped m t c)
+pub notified : (m : State) (t : ℕ) (c : OpenCall) (k : NotifyCore) → c.core ≡ core.Notify k
+    → (word : ℕ) (goes : Option OpenCall) (inside : Option ℕ)
+    → word ≡ word_after_notify k.phase m.word → goes ≡ notify_goes c k (notify_sees m.word k.phase) k.phase
+    → inside ≡ inside_after_notify t k.phase m.inside
+    → ◌≡◌ {A = State} (record { word = word; calls = slice_set m.calls t goes; queue = m.queue; inside = inside })
+    (stepped m t c)
 notified m t c k its word goes inside e f g =
-    same_state word _ (slice_set m.calls t goes) _ m.queue m.queue inside _ e (ap (λ o. slice_set m.calls t o) f) refl g ∙ sym (ap (λ x. stepped_by x m t c) its)
+    same_state word _ (slice_set m.calls t goes) _ m.queue m.queue inside _ e (ap (λ o. slice_set m.calls t o) f) refl g
+    ∙ sym (ap (λ x. stepped_by x m t c) its)
 
-pub waited : (m : State) (t : ℕ) (c : OpenCall) (k : WaitCore) → c.core ≡ core.Wait k → (word : ℕ) (goes : Option OpenCall) (queue : List ℕ) (inside : Option ℕ)
-    → word ≡ word_after_wait k.phase m.word → goes ≡ wait_goes c k (wait_sees m.word (is_left queue) k.phase) k.phase → queue ≡ queue_after_wait t k.phase m.queue → inside ≡ inside_after_wait t k.phase m.inside
-    → ◌≡◌ {A = State} (record { word = word; calls = slice_set m.calls t goes; queue = queue; inside = inside }) (stepped m t c)
+pub waited : (m : State) (t : ℕ) (c : OpenCall) (k : WaitCore) → c.core ≡ core.Wait k
+    → (word : ℕ) (goes : Option OpenCall) (queue : List ℕ) (inside : Option ℕ)
+    → word ≡ word_after_wait k.phase m.word → goes ≡ wait_goes c k (wait_sees m.word (is_left queue) k.phase) k.phase
+    → queue ≡ queue_after_wait t k.phase m.queue → inside ≡ inside_after_wait t k.phase m.inside
+    → ◌≡◌ {A = State} (record { word = word; calls = slice_set m.calls t goes; queue = queue; inside = inside })
+    (stepped m t c)
 waited m t c k its word goes queue inside e f g h =
-    same_state word _ (slice_set m.calls t goes) _ queue _ inside _ e (ap (λ o. slice_set m.calls t o) (f ∙ ap (λ q. wait_goes c k (wait_sees m.word (is_left q) k.phase) k.phase) g)) g h
+    same_state word _ (slice_set m.calls t goes) _ queue _ inside _ e
+    (ap (λ o. slice_set m.calls t o) (f ∙ ap (λ q. wait_goes c k (wait_sees m.word (is_left q) k.phase) k.phase) g))
+    g h
     ∙ sym (ap (λ x. stepped_by x m t c) its)
 
 -- there is room in the list for one that joins it
@@ -54,11 +70,18 @@ checked_waits : (k : ℕ) → weight Waiting (rules.Checked k) ≡ 0
 unfolding weight
 checked_waits k = refl
 
-pub has_room : (s : State) (t : ℕ) (c : OpenCall) (k : WaitCore) (room : ℕ) → Fits s → call_at s t ≡ Some c → c.core ≡ core.Wait k → length s.calls ≤ room → WhereItJoins k.phase (length s.queue < room)
+pub has_room : (s : State) (t : ℕ) (c : OpenCall) (k : WaitCore) (room : ℕ) → Fits s → call_at s t ≡ Some c
+    → c.core ≡ core.Wait k → length s.calls ≤ room → WhereItJoins k.phase (length s.queue < room)
 has_room s t c k room fits here its enough = by k.phase refl
   where
     joins : (mutex : ℕ) → k.phase ≡ w.Appends mutex → length s.queue < room
-    joins mutex e = omega (arith, enough, fewer_wait s t c fits here (ap (λ (x : Core). weight Waiting (phase_by c.listed x)) its ∙ ap (λ p. weight Waiting (phase_by c.listed (core.Wait (record { phase = p })))) e ∙ checked_waits mutex))
+    joins mutex e = omega (
+      arith,
+      enough,
+      fewer_wait s t c fits here
+          (ap (λ (x : Core). weight Waiting (phase_by c.listed x)) its
+          ∙ ap (λ p. weight Waiting (phase_by c.listed (core.Wait (record { phase = p })))) e ∙ checked_waits mutex),
+    )
 
     by : (p : WaitPhase) → k.phase ≡ p → WhereItJoins p (length s.queue < room)
     by (w.Appends mutex) e = joins mutex e
@@ -72,15 +95,21 @@ has_first (v ∷ vs) h = refl
 pub its_first : (queue : List ℕ) (v : ℕ) → 0 < length queue → v ≡ get_or queue 0 v → slice_get queue 0 ≡ Some v
 its_first queue v some is = slice_get-get_or queue 0 v some ∙ ap Some (sym is)
 
-pub took : (m : State) (t : ℕ) (c : OpenCall) (v : ℕ) (off : Option OpenCall) (one : OpenCall) (queue : List ℕ) → off ≡ option_map off_list (call_in m.calls v) → one ≡ took_one c → queue ≡ remove m.queue 0
-    → ◌≡◌ {A = State} (record m { calls = slice_set (slice_set m.calls v off) t (Some one); queue = queue }) (taken_by m t c v)
+pub took : (m : State) (t : ℕ) (c : OpenCall) (v : ℕ) (off : Option OpenCall) (one : OpenCall) (queue : List ℕ)
+    → off ≡ option_map off_list (call_in m.calls v) → one ≡ took_one c → queue ≡ remove m.queue 0
+    → ◌≡◌ {A = State} (record m { calls = slice_set (slice_set m.calls v off) t (Some one); queue = queue })
+    (taken_by m t c v)
 took m t c v off one queue e f g =
     same_state m.word m.word (slice_set (slice_set m.calls v off) t (Some one)) _ queue _ m.inside m.inside refl
-    (ap (λ o. slice_set (slice_set m.calls v o) t (Some one)) e ∙ ap (λ d. slice_set (slice_set m.calls v (option_map off_list (call_in m.calls v))) t (Some d)) f)
+    (ap (λ o. slice_set (slice_set m.calls v o) t (Some one)) e
+    ∙ ap (λ d. slice_set (slice_set m.calls v (option_map off_list (call_in m.calls v))) t (Some d)) f)
     g
     refl
 
 -- whoever was taken, was the first
-pub taken_if : (s : State) (t : ℕ) (c : OpenCall) → Fits s → call_at s t ≡ Some c → may_take s.queue c ≡ true → (r : Option ℕ) (u : State) → r ≡ slice_get s.queue 0 → IfSome r (λ v. u ≡ taken_by s t c v) → IfSome r (λ v. IsTaken t v s u)
+pub taken_if : (s : State) (t : ℕ) (c : OpenCall) → Fits s → call_at s t ≡ Some c → may_take s.queue c ≡ true
+    → (r : Option ℕ) (u : State) → r ≡ slice_get s.queue 0 → IfSome r (λ v. u ≡ taken_by s t c v)
+    → IfSome r (λ v. IsTaken t v s u)
 taken_if s t c fits here may None u first became = tt
-taken_if s t c fits here may (Some v) u first became = subst (IsTaken t v s) (sym became) (take_so s t c fits here may v (sym first)).1
+taken_if s t c fits here may (Some v) u first became = subst (IsTaken t v s) (sym became)
+    (take_so s t c fits here may v (sym first)).1

@@ -1,5 +1,7 @@
 -- A notification takes the first that waits: the rules' step, and what holds of the machine is kept.
-use Rattle.std.proofs.Common.{◌≡◌, ◌≢◌, ℕ, zero, suc, ◌+◌, ◌<◌, ◌≤◌, ◌==◌, ◌&&◌, inl, inr, Bool, true, false, List, [], ◌∷◌, length, map, Option, Some, None, nat_lt, remove, slice_get, slice_set, refl, sym, ap, ◌∙◌, subst, arith, eqb-true}
+use Rattle.std.proofs.Common.{◌≡◌, ◌≢◌, ℕ, zero, suc, ◌+◌, ◌<◌, ◌≤◌, ◌==◌, ◌&&◌, inl, inr, Bool, true, false, List, []}
+use Rattle.std.proofs.Common.{◌∷◌, length, map, Option, Some, None, nat_lt, remove, slice_get, slice_set, refl, sym, ap}
+use Rattle.std.proofs.Common.{◌∙◌, subst, arith, eqb-true}
 use Rattle.std.proofs.lemmas.Bool.{cases_eq, ltb-true}
 use Rattle.std.proofs.lemmas.List.{length-set}
 use Rattle.std.proofs.lemmas.List.Edits.{length-remove}
@@ -22,14 +24,17 @@ use Rattle.parking_lot_machine_sides.specs.declared.condvar.calls.CondvarCall.{C
 use Rattle.parking_lot_machine_sides.specs.declared.condvar.open_call.Core.{Core}
 use Rattle.parking_lot_machine_sides.specs.declared.condvar.open_call.Core.TheVariants as core
 use Rattle.parking_lot_machine_sides.specs.Condvar.Calls.{OpenCall, is_of_all, is_timed, off_list, took_one}
-use Rattle.parking_lot_machine_sides.specs.Condvar.Fitting.{Fits, Knows, IsWait, NotifyKnows, Sits, TakesFew, WaitKnows, is_the}
-use Rattle.parking_lot_machine_sides.specs.Condvar.Machines.{State, call_at, call_in, is_left, may_take, phase_by, phase_in, phase_of, spot_of, variable}
+use Rattle.parking_lot_machine_sides.specs.Condvar.Fitting.{Fits, Knows, IsWait, NotifyKnows, Sits, TakesFew, WaitKnows}
+use Rattle.parking_lot_machine_sides.specs.Condvar.Fitting.{is_the}
+use Rattle.parking_lot_machine_sides.specs.Condvar.Machines.{State, call_at, call_in, is_left, may_take, phase_by}
+use Rattle.parking_lot_machine_sides.specs.Condvar.Machines.{phase_in, phase_of, spot_of, variable}
 use Rattle.parking_lot_machine_sides.specs.Condvar.Steps.{Runs, taken_by}
 use Rattle.parking_lot_machine_sides.specs.Condvar.Turns.{is_inside, is_inside_by, wait_is_inside}
 use Rattle.parking_lot_machine_sides.proofs.CondvarFacts.Acting.{it_is, knows_still, not_another, same_variable, who_is}
 use Rattle.parking_lot_machine_sides.proofs.CondvarFacts.NotifyActs.{notifying}
 use Rattle.parking_lot_machine_sides.proofs.CondvarFacts.Phases.{phase_there, runs_sound}
-use Rattle.parking_lot_machine_sides.proofs.CondvarFacts.Slots.{call_elsewhere, call_here, map_set, mapped, slot, within}
+use Rattle.parking_lot_machine_sides.proofs.CondvarFacts.Slots.{call_elsewhere, call_here, map_set, mapped, slot}
+use Rattle.parking_lot_machine_sides.proofs.CondvarFacts.Slots.{within}
 
 -- THE WAITER
 
@@ -41,13 +46,18 @@ pub record IsWaiter (listed : Bool) (k : Core) : Type 0 where
   pub out : inside stay ≡ 0
   pub gone : phase_by false k ≡ rules.Idle
   pub away : is_inside_by false k ≡ false
-  pub still : (call : CondvarCall) (threads word waiting taken : ℕ) → Knows call listed threads word waiting taken k → Knows call false threads word waiting taken k
+  pub still : (call : CondvarCall) (threads word waiting taken : ℕ) → Knows call listed threads word waiting taken k
+      → Knows call false threads word waiting taken k
 
-wait_waits : (listed : Bool) (p : WaitPhase) → 0 < weight Waiting (waits.does (spot_of listed) p) → wait_is_inside listed p ≡ false → IsWaiter listed (core.Wait (record { phase = p }))
+wait_waits : (listed : Bool) (p : WaitPhase) → 0 < weight Waiting (waits.does (spot_of listed) p)
+    → wait_is_inside listed p ≡ false → IsWaiter listed (core.Wait (record { phase = p }))
 unfolding weight
-wait_waits true (w.Unlocks k) h out = record { mutex = k; stay = Asleep; is = refl; out = refl; gone = refl; away = refl; still = λ call a b c d x. x }
-wait_waits true (w.Sleeps k) h out = record { mutex = k; stay = Asleep; is = refl; out = refl; gone = refl; away = refl; still = λ call a b c d x. x }
-wait_waits true (w.Expires k) h out = record { mutex = k; stay = Late; is = refl; out = refl; gone = refl; away = refl; still = λ call a b c d x. x }
+wait_waits true (w.Unlocks k) h out =
+    record { mutex = k; stay = Asleep; is = refl; out = refl; gone = refl; away = refl; still = λ call a b c d x. x }
+wait_waits true (w.Sleeps k) h out =
+    record { mutex = k; stay = Asleep; is = refl; out = refl; gone = refl; away = refl; still = λ call a b c d x. x }
+wait_waits true (w.Expires k) h out =
+    record { mutex = k; stay = Late; is = refl; out = refl; gone = refl; away = refl; still = λ call a b c d x. x }
 wait_waits true (w.Quits k) h out = absurd cc
 wait_waits false (w.Unlocks k) h out = absurd (omega (arith, h))
 wait_waits false (w.Sleeps k) h out = absurd (omega (arith, h))
@@ -69,7 +79,8 @@ none_notified (n.Forgets notice) = refl
 none_notified (n.Leaves notice) = refl
 none_notified p = refl
 
-waiter : (listed : Bool) (k : Core) → 0 < weight Waiting (phase_by listed k) → is_inside_by listed k ≡ false → IsWaiter listed k
+waiter : (listed : Bool) (k : Core) → 0 < weight Waiting (phase_by listed k) → is_inside_by listed k ≡ false
+    → IsWaiter listed k
 waiter listed (core.Wait k) h out = wait_waits listed k.phase h out
 waiter listed (core.Notify k) h out = absurd (omega (arith, h, none_notified k.phase))
 
@@ -79,7 +90,8 @@ idle_waits = refl
 
 -- THE STEP
 
-module _ (s : State) (t : ℕ) (call : CondvarCall) (its_list : Bool) (taken : ℕ) (all locked : Bool) (fits : Fits s) (here : call_at s t ≡ Some (notifying call its_list taken (n.Moves all locked)))
+module _ (s : State) (t : ℕ) (call : CondvarCall) (its_list : Bool) (taken : ℕ) (all locked : Bool) (fits : Fits s)
+    (here : call_at s t ≡ Some (notifying call its_list taken (n.Moves all locked)))
     (few : TakesFew (is_of_all call) (taken + 1)) (v : ℕ) (first : slice_get s.queue 0 ≡ Some v) where
   abbrev pub c : OpenCall
   c = notifying call its_list taken (n.Moves all locked)
@@ -114,7 +126,13 @@ module _ (s : State) (t : ℕ) (call : CondvarCall) (its_list : Bool) (taken : �
   b = its_waiter.0
 
   pub apart : v ≢ t
-  apart e = omega (arith, found.2, ap (weight Waiting) (same_Some found.0 (phase_of c) (sym found.1 ∙ ap (slice_get (variable s).phases) e ∙ phase_there s t c here)), none_notified (n.Moves all locked))
+  apart e = omega (
+    arith,
+    found.2,
+    ap (weight Waiting)
+        (same_Some found.0 (phase_of c) (sym found.1 ∙ ap (slice_get (variable s).phases) e ∙ phase_there s t c here)),
+    none_notified (n.Moves all locked),
+  )
 
   outside : is_inside b ≡ false
   outside = (fits.seated v b its_waiter.1).section ∙ not_another s.inside t v apart (sym its)
@@ -135,38 +153,48 @@ module _ (s : State) (t : ℕ) (call : CondvarCall) (its_list : Bool) (taken : �
   high = within s.calls v b its_waiter.1
 
   pub threads : length u.calls ≡ length s.calls
-  threads = ap (λ (cs : List (Option OpenCall)). length cs) calls_are ∙ length-set (slice_set s.calls v (Some e)) t (Some d) ∙ length-set s.calls v (Some e)
+  threads = ap (λ (cs : List (Option OpenCall)). length cs) calls_are ∙ length-set (slice_set s.calls v (Some e)) t
+      (Some d) ∙ length-set s.calls v (Some e)
 
   pub one_less : length u.queue + 1 ≡ length s.queue
   one_less = omega (arith, length-remove s.queue 0, slice_get_within s.queue 0 v first)
 
   first_call : call_at u t ≡ Some d
-  first_call = ap (λ (cs : List (Option OpenCall)). call_in cs t) calls_are ∙ call_here (slice_set s.calls v (Some e)) t (Some d) (omega (arith, low, length-set s.calls v (Some e)))
+  first_call = ap (λ (cs : List (Option OpenCall)). call_in cs t) calls_are ∙ call_here (slice_set s.calls v (Some e)) t
+      (Some d) (omega (arith, low, length-set s.calls v (Some e)))
 
   second_call : call_at u v ≡ Some e
-  second_call = ap (λ (cs : List (Option OpenCall)). call_in cs v) calls_are ∙ call_elsewhere (slice_set s.calls v (Some e)) t v (Some d) apart ∙ call_here s.calls v (Some e) high
+  second_call = ap (λ (cs : List (Option OpenCall)). call_in cs v) calls_are
+      ∙ call_elsewhere (slice_set s.calls v (Some e)) t v (Some d) apart ∙ call_here s.calls v (Some e) high
 
   others : (x : ℕ) → x ≢ t → x ≢ v → call_at u x ≡ call_at s x
-  others x nt nv = ap (λ (cs : List (Option OpenCall)). call_in cs x) calls_are ∙ call_elsewhere (slice_set s.calls v (Some e)) t x (Some d) nt ∙ call_elsewhere s.calls v x (Some e) nv
+  others x nt nv = ap (λ (cs : List (Option OpenCall)). call_in cs x) calls_are
+      ∙ call_elsewhere (slice_set s.calls v (Some e)) t x (Some d) nt ∙ call_elsewhere s.calls v x (Some e) nv
 
   phases_are : (variable u).phases ≡ slice_set (variable s).phases v rules.Idle
   phases_are =
       ap (map phase_in) calls_are
       ∙ map_set phase_in (slice_set s.calls v (Some e)) t (Some d)
-      ∙ ap (λ (ps : List Phase). slice_set ps t rules.Notifies) (map_set phase_in s.calls v (Some e) ∙ ap (slice_set (variable s).phases v) is_waiter.gone)
-      ∙ set-same (slice_set (variable s).phases v rules.Idle) t rules.Notifies (get-set_other (variable s).phases v t rules.Idle apart ∙ phase_there s t c here)
+      ∙ ap (λ (ps : List Phase). slice_set ps t rules.Notifies)
+      (map_set phase_in s.calls v (Some e) ∙ ap (slice_set (variable s).phases v) is_waiter.gone)
+      ∙ set-same (slice_set (variable s).phases v rules.Idle) t rules.Notifies
+      (get-set_other (variable s).phases v t rules.Idle apart ∙ phase_there s t c here)
 
   pub takes_lawful : Runs t (rules.Release v is_waiter.mutex is_waiter.stay ∷ []) (variable s) (variable u)
   takes_lawful = (
     (phase_there s t c here, first, phase_there s v b its_waiter.1 ∙ ap Some is_waiter.is, is_waiter.out),
-    same_variable s.word s.word (variable u).phases (slice_set (variable s).phases v rules.Idle) (remove s.queue 0) (remove s.queue 0) refl phases_are refl,
+    same_variable s.word s.word (variable u).phases (slice_set (variable s).phases v rules.Idle) (remove s.queue 0)
+        (remove s.queue 0) refl phases_are refl,
   )
 
-  sits_still : (x : ℕ) (f : OpenCall) → x ≢ t → (g : OpenCall) → (Knows f.call f.listed (length s.calls) s.word (length s.queue) f.taken f.core → Knows g.call g.listed (length s.calls) s.word (length s.queue) g.taken g.core)
+  sits_still : (x : ℕ) (f : OpenCall) → x ≢ t → (g : OpenCall)
+      → (Knows f.call f.listed (length s.calls) s.word (length s.queue) f.taken f.core
+      → Knows g.call g.listed (length s.calls) s.word (length s.queue) g.taken g.core)
       → is_inside g ≡ false → is_inside f ≡ false → Sits s x f → Sits u x g
   sits_still x f ne g know out was sits = record {
     knows = subst (λ m. Knows g.call g.listed m s.word (length u.queue) g.taken g.core) (sym threads)
-        (knows_still g.call g.listed (length s.calls) s.word s.word (length s.queue) (length u.queue) g.taken g.core out (know sits.knows));
+        (knows_still g.call g.listed (length s.calls) s.word s.word (length s.queue) (length u.queue) g.taken g.core out
+        (know sits.knows));
     section = out ∙ sym was ∙ sits.section;
   }
 
@@ -178,13 +206,16 @@ module _ (s : State) (t : ℕ) (call : CondvarCall) (its_list : Bool) (taken : �
 
   pub takes_fits : Fits u
   takes_fits = record {
-    sound = runs_sound t (rules.Release v is_waiter.mutex is_waiter.stay ∷ []) (variable s) (variable u) fits.sound takes_lawful;
+    sound = runs_sound t (rules.Release v is_waiter.mutex is_waiter.stay ∷ []) (variable s) (variable u) fits.sound
+        takes_lawful;
     seated = λ x f at. elim (cases_eq x t) [
-      | inl eq ↦ subst (λ y. Sits u y f) (sym eq) (subst (Sits u t) (same_Some d f (sym first_call ∙ ap (call_at u) (sym eq) ∙ at)) its_sits)
+      | inl eq ↦ subst (λ y. Sits u y f) (sym eq)
+          (subst (Sits u t) (same_Some d f (sym first_call ∙ ap (call_at u) (sym eq) ∙ at)) its_sits)
       | inr nt ↦ elim (cases_eq x v) [
         | inl eq ↦ subst (λ y. Sits u y f) (sym eq)
             (subst (Sits u v) (same_Some e f (sym second_call ∙ ap (call_at u) (sym eq) ∙ at))
-            (sits_still v b apart e (is_waiter.still b.call (length s.calls) s.word (length s.queue) b.taken) is_waiter.away outside (fits.seated v b its_waiter.1)))
+            (sits_still v b apart e (is_waiter.still b.call (length s.calls) s.word (length s.queue) b.taken)
+            is_waiter.away outside (fits.seated v b its_waiter.1)))
         | inr nv ↦ let sits = fits.seated x f (sym (others x nt nv) ∙ at) in
             let out = sits.section ∙ not_another s.inside t x nt (sym its) in sits_still x f nt f (λ h. h) out out sits
       ]

@@ -1,9 +1,13 @@
 -- How a call begins.
-use Rattle.std.proofs.Common.{◌≡◌, ◌≢◌, ℕ, ◌<◌, inl, inr, Bool, true, false, ◌&&◌, List, length, Option, Some, None, is_none, slice_get, refl, sym, ap, ◌∙◌, subst, arith}
+use Rattle.std.proofs.Common.{◌≡◌, ◌≢◌, ℕ, ◌<◌, inl, inr, Bool, true, false, ◌&&◌, List, length, Option, Some, None}
+use Rattle.std.proofs.Common.{is_none, slice_get, refl, sym, ap, ◌∙◌, subst, arith}
 use Rattle.std.proofs.lemmas.Bool.{cases_eq}
 use Rattle.std.proofs.lemmas.List.{length-set}
 use Rattle.std.proofs.lemmas.Option.{none-some, same_Some}
-use Rattle.parking_lot_rules.specs.Once.Once.{Role, Idle, Word, Once, Step, Plain, Alone, Begin, Start, Complete, Refuse, Flag, Enter, Check, Retreat, Rest, Return, Finish, Look, Store, Depart, Leave, Allowed, after, written, from, to, Class, Inside, Listed, weight, total, number, waits}
+use Rattle.parking_lot_rules.specs.Once.Once.{Role, Idle, Word, Once, Step, Plain, Alone, Begin, Start, Complete}
+use Rattle.parking_lot_rules.specs.Once.Once.{Refuse, Flag, Enter, Check, Retreat, Rest, Return, Finish, Look, Store}
+use Rattle.parking_lot_rules.specs.Once.Once.{Depart, Leave, Allowed, after, written, from, to, Class, Inside, Listed}
+use Rattle.parking_lot_rules.specs.Once.Once.{weight, total, number, waits}
 use Rattle.parking_lot_machine_sides.specs.Once.Entries.{list_of}
 use Rattle.parking_lot_machine_sides.specs.declared.once.calls.OnceCall.{OnceCall}
 use Rattle.parking_lot_machine_sides.specs.Once.OnceCalls.{wish_of}
@@ -18,7 +22,8 @@ use Rattle.std.proofs.lemmas.Bool.{ltb-true}
 use Rattle.std.proofs.Common.{nat_lt}
 use Rattle.parking_lot_rules.specs.Once.Once as rules
 use Rattle.parking_lot_machine_sides.specs.Once.OnceActs.{begun, call_for, may_begin}
-use Rattle.parking_lot_machine_sides.proofs.OnceFacts.Acting.{Elsewhere, call_elsewhere, call_here, has_slot, role_same, role_there, sound_all}
+use Rattle.parking_lot_machine_sides.proofs.OnceFacts.Acting.{Elsewhere, call_elsewhere, call_here, has_slot, role_same}
+use Rattle.parking_lot_machine_sides.proofs.OnceFacts.Acting.{role_there, sound_all}
 use Rattle.parking_lot_core_model.proofs.Numbers.{count_by-set}
 
 both : (a b : Bool) → (a && b) ≡ true → (a ≡ true) × (b ≡ true)
@@ -38,9 +43,14 @@ pub may_so : (s : Onces) (t i : ℕ) → may_begin s t i ≡ true → May s t i
 may_so s t i e =
     let a = both (nat_lt t (length s.calls)) (is_none (call_at s t) && nat_lt i (length s.words)) e in
     let b = both (is_none (call_at s t)) (nat_lt i (length s.words)) a.1 in
-    record { low = ltb-true t (length s.calls) a.0; free = is_nothing (call_at s t) b.0; there = ltb-true i (length s.words) b.1 }
+    record {
+      low = ltb-true t (length s.calls) a.0;
+      free = is_nothing (call_at s t) b.0;
+      there = ltb-true i (length s.words) b.1;
+    }
 
-flat : (calls : List (Option OpenCall)) (t : ℕ) → t < length calls → call_in calls t ≡ None → slice_get calls t ≡ Some None
+flat : (calls : List (Option OpenCall)) (t : ℕ) → t < length calls → call_in calls t ≡ None
+    → slice_get calls t ≡ Some None
 flat calls t low none = let x = has_slot calls t low in x.1 ∙ ap Some (sym (ap (option_and_then (λ y. y)) x.1) ∙ none)
 
 module _ (s : Onces) (t i : ℕ) (call : OnceCall) (fits : Fits s) (may : May s t i) where
@@ -62,7 +72,10 @@ module _ (s : Onces) (t i : ℕ) (call : OnceCall) (fits : Fits s) (may : May s 
     words = λ j ne. refl;
     waiting = λ j ne. refl;
     calls = λ x. elim (cases_eq x t) [
-      | inl e ↦ inr (subst (IsThere i) (sym (ap (call_at s) e ∙ may.free)) tt, subst (IsThere i) (sym (ap (call_at u) e ∙ now)) refl)
+      | inl e ↦ inr (
+        subst (IsThere i) (sym (ap (call_at s) e ∙ may.free)) tt,
+        subst (IsThere i) (sym (ap (call_at u) e ∙ now)) refl,
+      )
       | inr ne ↦ inl (others x ne, refl)
     ];
   }
@@ -71,7 +84,10 @@ module _ (s : Onces) (t i : ℕ) (call : OnceCall) (fits : Fits s) (may : May s 
   begins_so = record {
     here = (
       (role_there s i t may.low ∙ ap Some (ap (role_in i (list_of s.wakes t)) may.free), tt),
-      same_once _ _ _ _ _ _ refl (roles_one i s u elsewhere t (rules.Seeks (wish_of call)) may.low (λ x ne. role_same s u i x (others x ne) refl) (ap (role_in i (list_of s.wakes t)) now ∙ role_here i (list_of s.wakes t) d refl)) refl,
+      same_once _ _ _ _ _ _ refl
+          (roles_one i s u elsewhere t (rules.Seeks (wish_of call)) may.low
+          (λ x ne. role_same s u i x (others x ne) refl)
+          (ap (role_in i (list_of s.wakes t)) now ∙ role_here i (list_of s.wakes t) d refl)) refl,
     );
     there = once_elsewhere i s u elsewhere;
   }
@@ -97,8 +113,10 @@ module _ (s : Onces) (t i : ℕ) (call : OnceCall) (fits : Fits s) (may : May s 
     sound = sound_all t i (Some (Alone (Begin (wish_of call)))) s u fits begins_so;
     words = fits.words;
     seated = λ x e at. elim (cases_eq x t) [
-      | inl eq ↦ subst (λ (k : ℕ). Sits (length s.words) k e (list_of s.wakes k) (list_of s.waiting e.once) s.inside) (sym eq)
-          (subst (λ (y : OpenCall). Sits (length s.words) t y (list_of s.wakes t) (list_of s.waiting y.once) s.inside) (same_Some d e (sym now ∙ ap (call_at u) (sym eq) ∙ at)) its_sits)
+      | inl eq ↦ subst (λ (k : ℕ). Sits (length s.words) k e (list_of s.wakes k) (list_of s.waiting e.once) s.inside)
+          (sym eq)
+          (subst (λ (y : OpenCall). Sits (length s.words) t y (list_of s.wakes t) (list_of s.waiting y.once) s.inside)
+          (same_Some d e (sym now ∙ ap (call_at u) (sym eq) ∙ at)) its_sits)
       | inr ne ↦ fits.seated x e (sym (others x ne) ∙ at)
     ];
     idle = λ x at. elim (cases_eq x t) [

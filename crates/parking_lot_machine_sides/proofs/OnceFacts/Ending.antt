@@ -1,5 +1,6 @@
 -- How a call ends: its closure runs and returns, or it is answered; and how one begins.
-use Rattle.std.proofs.Common.{◌≡◌, ℕ, inl, inr, Bool, true, false, cond, List, length, Option, Some, None, refl, sym, ap, ◌∙◌, subst, arith}
+use Rattle.std.proofs.Common.{◌≡◌, ℕ, inl, inr, Bool, true, false, cond, List, length, Option, Some, None, refl, sym}
+use Rattle.std.proofs.Common.{ap, ◌∙◌, subst, arith}
 use Rattle.std.proofs.lemmas.List.{nil_from_length}
 use Rattle.std.proofs.lemmas.Option.{none-some, same_Some}
 use Rattle.parking_lot_protocol.specs.declared.act.Act.TheVariants as act
@@ -12,14 +13,21 @@ use Rattle.parking_lot_rules.specs.Once.Once.{Idle, Step, Plain, Alone, Return, 
 use Rattle.parking_lot_protocol_waits.specs.declared.once.once_phase.OnceAnswer.{OnceAnswer}
 use Rattle.parking_lot_protocol_waits.specs.declared.once.once_phase.OnceAnswer.TheVariants as end
 use Rattle.parking_lot_protocol_waits.specs.declared.once.once_phase.OncePhase.{OncePhase}
-use Rattle.parking_lot_protocol_waits.specs.declared.once.once_phase.OncePhase.TheVariants.{Asking, Returning, Loads, Starts, Spins, Parks, Enters, Checks, Retreats, Appends, Rests, Sleeps, Stores, Looks, Scans, Clears, Leaves, Wakes, Finishes, Ends, Invalid}
+use Rattle.parking_lot_protocol_waits.specs.declared.once.once_phase.OncePhase.TheVariants.{Asking, Returning, Loads}
+use Rattle.parking_lot_protocol_waits.specs.declared.once.once_phase.OncePhase.TheVariants.{Starts, Spins, Parks}
+use Rattle.parking_lot_protocol_waits.specs.declared.once.once_phase.OncePhase.TheVariants.{Enters, Checks, Retreats}
+use Rattle.parking_lot_protocol_waits.specs.declared.once.once_phase.OncePhase.TheVariants.{Appends, Rests, Sleeps}
+use Rattle.parking_lot_protocol_waits.specs.declared.once.once_phase.OncePhase.TheVariants.{Stores, Looks, Scans}
+use Rattle.parking_lot_protocol_waits.specs.declared.once.once_phase.OncePhase.TheVariants.{Clears, Leaves, Wakes}
+use Rattle.parking_lot_protocol_waits.specs.declared.once.once_phase.OncePhase.TheVariants.{Finishes, Ends, Invalid}
 use Rattle.parking_lot_protocol_waits.specs.Once.OnceMoves.{Stays, Makes, role}
 use Rattle.parking_lot_protocol_waits.specs.Once.OnceTable.{act_of, answer_of, next_phase}
 use Rattle.parking_lot_machine_sides.specs.Once.Entries.{list_of}
 use Rattle.parking_lot_machine_sides.specs.declared.once.calls.OnceCall.{OnceCall}
 use Rattle.parking_lot_machine_sides.specs.Once.OnceActs.{shown}
 use Rattle.parking_lot_machine_sides.specs.Once.OnceCalls.{ends_well}
-use Rattle.parking_lot_machine_sides.specs.Once.OnceFits.{Fits, Sits, GoesOn, is_in_section, is_listed, is_sleeping, taken_count}
+use Rattle.parking_lot_machine_sides.specs.Once.OnceFits.{Fits, Sits, GoesOn, is_in_section, is_listed, is_sleeping}
+use Rattle.parking_lot_machine_sides.specs.Once.OnceFits.{taken_count}
 use Rattle.parking_lot_machine_sides.specs.Once.OnceSteps.{IsLawful, given_by, move_by, move_of}
 use Rattle.parking_lot_machine_sides.specs.declared.once.open_call.OpenCall.{OpenCall}
 use Rattle.parking_lot_machine_sides.specs.Once.Onces.{Onces, word_at, call_at, known_of}
@@ -28,7 +36,8 @@ use Rattle.parking_lot_machine_sides.proofs.OnceFacts.Owning.{One, fits_one, is_
 use Rattle.parking_lot_machine_sides.specs.Once.OnceActs.{ran, ended_by, ended, with_call}
 use Rattle.parking_lot_machine_sides.proofs.OnceFacts.OwnActs.{Made}
 
-went_so : (before : OnceState) (call : OnceCall) (b : OnceState) → GoesOn call b (Ends (end.Runs before)) → GoesOn call before (next_phase (Returning (ends_well call)) seen.Start)
+went_so : (before : OnceState) (call : OnceCall) (b : OnceState) → GoesOn call b (Ends (end.Runs before))
+    → GoesOn call before (next_phase (Returning (ends_well call)) seen.Start)
 went_so before call b (inl h) = inr (refl, h)
 went_so before call b (inr h) = absurd h.0
 
@@ -58,8 +67,10 @@ module _ (s : Onces) (t : ℕ) (c : OpenCall) (fits : Fits s) (here : call_at s 
   with_one o = record { calls = refl; wakes = refl; onces = refl; words = λ j ne. refl; waiting = λ j ne. refl }
 
   -- it is over
-  over_fits : (step : Option Step) → IsLawful t c.once step s (with None) → taken_count c.core.phase ≡ 0 → is_in_section c.core.phase ≡ false → is_listed c.core.phase ≡ false → Fits (with None)
-  over_fits step lawful none out away = fits_one s (with None) t c None fits here (with_one None) tt step lawful (fits.words c.once)
+  over_fits : (step : Option Step) → IsLawful t c.once step s (with None) → taken_count c.core.phase ≡ 0
+      → is_in_section c.core.phase ≡ false → is_listed c.core.phase ≡ false → Fits (with None)
+  over_fits step lawful none out away = fits_one s (with None) t c None fits here (with_one None) tt step lawful
+      (fits.words c.once)
       (λ d is. absurd (none-some d is))
       (λ e. nil_from_length us (sits.taken ∙ none))
       (inl refl)
@@ -67,30 +78,47 @@ module _ (s : Onces) (t : ℕ) (c : OpenCall) (fits : Fits s) (here : call_at s 
       (λ e. absurd (let yes : true ≡ false = sym (is_one s.inside t e) ∙ sym sits.section ∙ out in cc))
       (omega (arith, ap {B = ℕ} (λ b. cond b 1 0) away))
 
-  over_stays : (p : OncePhase) → c.core.phase ≡ p → role c.taker (known_of us c) p ≡ Idle → taken_count p ≡ 0 → is_in_section p ≡ false → is_listed p ≡ false → Made t c Stays s (with None)
+  over_stays : (p : OncePhase) → c.core.phase ≡ p → role c.taker (known_of us c) p ≡ Idle → taken_count p ≡ 0
+      → is_in_section p ≡ false → is_listed p ≡ false → Made t c Stays s (with None)
   over_stays p e idle none out away =
-      let lawful : IsLawful t c.once None s (with None) = stays_one s (with None) t c None fits here (with_one None) tt (ap (role c.taker (known_of us c)) e ∙ idle) refl refl in
-      record { step = None; named = refl; lawful = lawful; fits = over_fits None lawful (ap taken_count e ∙ none) (ap is_in_section e ∙ out) (ap is_listed e ∙ away) }
+      let lawful : IsLawful t c.once None s (with None) = stays_one s (with None) t c None fits here (with_one None) tt
+      (ap (role c.taker (known_of us c)) e ∙ idle) refl refl in
+      record {
+        step = None;
+        named = refl;
+        lawful = lawful;
+        fits = over_fits None lawful (ap taken_count e ∙ none)
+            (ap is_in_section e ∙ out) (ap is_listed e ∙ away);
+      }
 
   -- it has woken all
   over_leaves : c.core.phase ≡ Finishes → Made t c (Makes Leave) s (with None)
   over_leaves e =
-      let lawful : IsLawful t c.once (Some (Alone Leave)) s (with None) = makes_one s (with None) t c None fits here (with_one None) tt Leave (ap (role c.taker (known_of us c)) e) refl tt refl refl in
-      record { step = Some (Alone Leave); named = refl; lawful = lawful; fits = over_fits (Some (Alone Leave)) lawful (ap taken_count e) (ap is_in_section e) (ap is_listed e) }
+      let lawful : IsLawful t c.once (Some (Alone Leave)) s (with None) = makes_one s (with None) t c None fits here
+      (with_one None) tt Leave (ap (role c.taker (known_of us c)) e) refl tt refl refl in
+      record {
+        step = Some (Alone Leave);
+        named = refl;
+        lawful = lawful;
+        fits = over_fits (Some (Alone Leave)) lawful (ap taken_count e) (ap is_in_section e) (ap is_listed e);
+      }
 
   -- its closure runs and returns
-  has_run : (before : OnceState) → c.core.phase ≡ Ends (end.Runs before) → Made t c (Makes (Return before (ends_well c.call))) s (with (Some (ran c before)))
+  has_run : (before : OnceState) → c.core.phase ≡ Ends (end.Runs before)
+      → Made t c (Makes (Return before (ends_well c.call))) s (with (Some (ran c before)))
   has_run before e =
       let d : OpenCall = ran c before in
       let one : One s (with (Some d)) t c.once (Some d) = with_one (Some d) in
       let k : Plain = Return before (ends_well c.call) in
-      let lawful : IsLawful t c.once (Some (Alone k)) s (with (Some d)) = makes_one s (with (Some d)) t c (Some d) fits here one refl k (ap (role c.taker (known_of us c)) e) (role_here c.once us d refl) tt refl refl in
+      let lawful : IsLawful t c.once (Some (Alone k)) s (with (Some d)) = makes_one s (with (Some d)) t c (Some d) fits
+      here one refl k (ap (role c.taker (known_of us c)) e) (role_here c.once us d refl) tt refl refl in
       record {
         step = Some (Alone k);
         named = refl;
         lawful = lawful;
         fits = fits_one s (with (Some d)) t c (Some d) fits here one refl (Some (Alone k)) lawful (fits.words c.once)
-            (λ x is. subst (λ (y : OpenCall). Sits (length s.words) t y us (list_of s.waiting y.once) s.inside) (same_Some d x is) (ran_sits before e))
+            (λ x is. subst (λ (y : OpenCall). Sits (length s.words) t y us (list_of s.waiting y.once) s.inside)
+            (same_Some d x is) (ran_sits before e))
             (λ none. absurd (none-some d (sym none)))
             (inl refl)
             (λ x ne. refl)
@@ -98,7 +126,8 @@ module _ (s : Onces) (t : ℕ) (c : OpenCall) (fits : Fits s) (here : call_at s 
             (omega (arith, ap {B = ℕ} (λ p. cond (is_listed p) 1 0) e));
       }
     where
-      ran_sits : (before : OnceState) → c.core.phase ≡ Ends (end.Runs before) → Sits (length s.words) t (ran c before) us (list_of s.waiting c.once) s.inside
+      ran_sits : (before : OnceState) → c.core.phase ≡ Ends (end.Runs before) → Sits (length s.words) t (ran c before)
+          us (list_of s.waiting c.once) s.inside
       ran_sits before e = record {
         low = sits.low;
         goes = went_so before c.call c.before (subst (GoesOn c.call c.before) e sits.goes);
@@ -110,7 +139,8 @@ module _ (s : Onces) (t : ℕ) (c : OpenCall) (fits : Fits s) (here : call_at s 
         awake = λ up. sits.awake (ap is_sleeping e);
       }
 
-  by_phase : (p : OncePhase) (x : ActResult) (answer : CoreAnswer) → c.core.phase ≡ p → act_of p ≡ act.Done answer → GoesOn c.call c.before p → Made t c (move_by us c x p) s (ended_by (answer_of p) s t c)
+  by_phase : (p : OncePhase) (x : ActResult) (answer : CoreAnswer) → c.core.phase ≡ p → act_of p ≡ act.Done answer
+      → GoesOn c.call c.before p → Made t c (move_by us c x p) s (ended_by (answer_of p) s t c)
   by_phase (Ends (end.Runs before)) x answer e asked goes = has_run before e
   by_phase (Ends end.Completed) x answer e asked goes = over_stays (Ends end.Completed) e refl refl refl refl
   by_phase (Ends end.Poisoned) x answer e asked goes = over_stays (Ends end.Poisoned) e refl refl refl refl
@@ -137,7 +167,11 @@ module _ (s : Onces) (t : ℕ) (c : OpenCall) (fits : Fits s) (here : call_at s 
   by_phase (Wakes count) x answer e asked goes = absurd cc
 
   pub ends_so : (answer : CoreAnswer) → act_of c.core.phase ≡ act.Done answer → Made t c (move_of s t c) s (ended s t c)
-  ends_so answer asked = by_phase c.core.phase (given_by (list_of s.waiting c.once) (shown (act_of c.core.phase) (word_at s c.once)) c.core.phase) answer refl asked sits.goes
+  ends_so answer asked =
+      by_phase c.core.phase
+      (given_by (list_of s.waiting c.once) (shown (act_of c.core.phase) (word_at s c.once)) c.core.phase) answer refl
+      asked sits.goes
 
-  pub ended_fits : (answer : CoreAnswer) → act_of c.core.phase ≡ act.Done answer → (o : Option OnceAnswer) → answer_of c.core.phase ≡ o → Fits (ended_by o s t c)
+  pub ended_fits : (answer : CoreAnswer) → act_of c.core.phase ≡ act.Done answer → (o : Option OnceAnswer)
+      → answer_of c.core.phase ≡ o → Fits (ended_by o s t c)
   ended_fits answer asked o e = subst (λ x. Fits (ended_by x s t c)) e (ends_so answer asked).fits

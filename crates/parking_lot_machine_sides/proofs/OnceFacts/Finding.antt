@@ -1,5 +1,6 @@
 -- One that goes through the list finds nobody there.
-use Rattle.std.proofs.Common.{◌≡◌, ℕ, ◌-◌, ◌^◌, ◌<◌, ◌≤◌, inl, Bool, false, cond, List, [], length, Some, None, refl, sym, ap, ◌∙◌, subst, arith}
+use Rattle.std.proofs.Common.{◌≡◌, ℕ, ◌-◌, ◌^◌, ◌<◌, ◌≤◌, inl, Bool, false, cond, List, [], length, Some, None, refl}
+use Rattle.std.proofs.Common.{sym, ap, ◌∙◌, subst, arith}
 use Rattle.std.proofs.lemmas.List.Sums.{count_by-le-length}
 use Rattle.std.proofs.lemmas.Option.{none-some, same_Some}
 use Rattle.parking_lot_protocol.specs.declared.act.Act.TheVariants as act
@@ -8,13 +9,20 @@ use Rattle.parking_lot_protocol.specs.declared.act.ActResult.TheVariants as seen
 use Rattle.parking_lot_protocol.specs.Acts.{Gives}
 use Rattle.parking_lot_rules.specs.Once.Once.{number}
 use Rattle.parking_lot_protocol_waits.specs.declared.once.once_phase.OncePhase.{OncePhase}
-use Rattle.parking_lot_protocol_waits.specs.declared.once.once_phase.OncePhase.TheVariants.{Asking, Returning, Loads, Starts, Spins, Parks, Enters, Checks, Retreats, Appends, Rests, Sleeps, Stores, Looks, Scans, Clears, Leaves, Wakes, Finishes, Ends, Invalid}
+use Rattle.parking_lot_protocol_waits.specs.declared.once.once_phase.OncePhase.TheVariants.{Asking, Returning, Loads}
+use Rattle.parking_lot_protocol_waits.specs.declared.once.once_phase.OncePhase.TheVariants.{Starts, Spins, Parks}
+use Rattle.parking_lot_protocol_waits.specs.declared.once.once_phase.OncePhase.TheVariants.{Enters, Checks, Retreats}
+use Rattle.parking_lot_protocol_waits.specs.declared.once.once_phase.OncePhase.TheVariants.{Appends, Rests, Sleeps}
+use Rattle.parking_lot_protocol_waits.specs.declared.once.once_phase.OncePhase.TheVariants.{Stores, Looks, Scans}
+use Rattle.parking_lot_protocol_waits.specs.declared.once.once_phase.OncePhase.TheVariants.{Clears, Leaves, Wakes}
+use Rattle.parking_lot_protocol_waits.specs.declared.once.once_phase.OncePhase.TheVariants.{Finishes, Ends, Invalid}
 use Rattle.parking_lot_protocol_waits.specs.Once.OnceMoves.{Stays, role, IsMove, IsReady}
 use Rattle.parking_lot_protocol_waits.specs.Once.OnceTable.{act_of, next_phase}
 use Rattle.parking_lot_protocol_waits.proofs.OnceFacts.OnceFollowing.{follows}
 use Rattle.parking_lot_machine_sides.specs.Once.Entries.{list_of}
 use Rattle.parking_lot_machine_sides.specs.Once.OnceActs.{shown, told}
-use Rattle.parking_lot_machine_sides.specs.Once.OnceFits.{Fits, Sits, Knows, is_in_section, is_listed, is_sleeping, lies, taken_count, rounds_of}
+use Rattle.parking_lot_machine_sides.specs.Once.OnceFits.{Fits, Sits, Knows, is_in_section, is_listed, is_sleeping}
+use Rattle.parking_lot_machine_sides.specs.Once.OnceFits.{lies, taken_count, rounds_of}
 use Rattle.parking_lot_machine_sides.specs.Once.OnceSteps.{IsLawful, given_by, move_by, move_of}
 use Rattle.parking_lot_machine_sides.specs.declared.once.open_call.OpenCall.{OpenCall}
 use Rattle.parking_lot_machine_sides.specs.Once.Onces.{Onces, word_at, call_at, known_of, word_of}
@@ -24,7 +32,8 @@ use Rattle.parking_lot_machine_sides.proofs.OnceFacts.Owning.{One, fits_one, sta
 use Rattle.parking_lot_machine_sides.specs.Once.OnceActs.{with_call}
 use Rattle.parking_lot_machine_sides.proofs.OnceFacts.OwnActs.{Made, goes_so}
 
-pub takes_is : (p : OncePhase) (sum : ℕ) → act_of p ≡ act.Section (section.TakeNext sum) → (well : Bool) × (taken : ℕ) × (p ≡ Scans well taken)
+pub takes_is : (p : OncePhase) (sum : ℕ) → act_of p ≡ act.Section (section.TakeNext sum) → (well : Bool) × (taken : ℕ)
+    × (p ≡ Scans well taken)
 takes_is (Scans well taken) sum e = (well, taken, refl)
 takes_is (Asking wish) sum e = absurd cc
 takes_is (Returning well) sum e = absurd cc
@@ -76,13 +85,16 @@ module _ (s : Onces) (t : ℕ) (c : OpenCall) (fits : Fits s) (here : call_at s 
     few : length us < 2 ^ 32 - 1
     few = omega (arith, short t s.wakes, fits.room, count_by-le-length lies s.calls, fits.small)
 
-    followed : IsMove Stays (known_of us c) (Scans well taken) q (word_of (word_at s c.once)) (number (word_of (word_at s c.once))) × IsReady q
-    followed = follows (Scans well taken) (seen.Took None false) (known_of us c) (word_of (word_at s c.once)) tt (fits.sound c.once).fits.bit (sits.taken ∙ ap taken_count e) few tt
+    followed : IsMove Stays (known_of us c) (Scans well taken) q (word_of (word_at s c.once))
+        (number (word_of (word_at s c.once))) × IsReady q
+    followed = follows (Scans well taken) (seen.Took None false) (known_of us c) (word_of (word_at s c.once)) tt
+        (fits.sound c.once).fits.bit (sits.taken ∙ ap taken_count e) few tt
 
     empty_sits : Sits (length s.words) t d us queue s.inside
     empty_sits = record {
       low = sits.low;
-      goes = goes_so c.call c.before c.core.phase (seen.Took None false) 0 sits.goes (subst (λ p. Gives (act_of p) 0 (seen.Took None false)) (sym e) tt);
+      goes = goes_so c.call c.before c.core.phase (seen.Took None false) 0 sits.goes
+          (subst (λ p. Gives (act_of p) 0 (seen.Took None false)) (sym e) tt);
       ready = subst IsReady (sym f) tt;
       taken = followed.0.2 ∙ sym (ap taken_count f);
       knows = subst (Knows queue) (sym f) none;
@@ -93,13 +105,16 @@ module _ (s : Onces) (t : ℕ) (c : OpenCall) (fits : Fits s) (here : call_at s 
 
     finds_by : Made t c Stays s u
     finds_by =
-        let lawful : IsLawful t c.once None s u = stays_one s u t c (Some d) fits here one refl (ap (role c.taker (known_of us c)) e ∙ sym (followed.0.0 c.taker) ∙ sym (ap (role c.taker (known_of us c)) f) ∙ sym (role_here c.once us d refl)) refl refl in
+        let lawful : IsLawful t c.once None s u = stays_one s u t c (Some d) fits here one refl
+        (ap (role c.taker (known_of us c)) e ∙ sym (followed.0.0 c.taker)
+        ∙ sym (ap (role c.taker (known_of us c)) f) ∙ sym (role_here c.once us d refl)) refl refl in
         record {
           step = None;
           named = refl;
           lawful = lawful;
           fits = fits_one s u t c (Some d) fits here one refl None lawful (fits.words c.once)
-              (λ x is. subst (λ (y : OpenCall). Sits (length s.words) t y us (list_of s.waiting y.once) s.inside) (same_Some d x is) empty_sits)
+              (λ x is. subst (λ (y : OpenCall). Sits (length s.words) t y us (list_of s.waiting y.once) s.inside)
+              (same_Some d x is) empty_sits)
               (λ no. absurd (none-some d (sym no)))
               (inl refl)
               (λ x ne. refl)
@@ -108,5 +123,9 @@ module _ (s : Onces) (t : ℕ) (c : OpenCall) (fits : Fits s) (here : call_at s 
         }
 
     pub finds_nobody : Made t c (move_of s t c) s u
-    finds_nobody = subst (λ (p : OncePhase). Made t c (move_by us c (given_by queue (shown (act_of c.core.phase) (word_at s c.once)) p) p) s u) (sym e)
-        (subst (λ (vs : List ℕ). Made t c (move_by us c (given_by vs (shown (act_of c.core.phase) (word_at s c.once)) (Scans well taken)) (Scans well taken)) s u) (sym none) finds_by)
+    finds_nobody = subst
+        (λ (p : OncePhase). Made t c
+        (move_by us c (given_by queue (shown (act_of c.core.phase) (word_at s c.once)) p) p) s u) (sym e)
+        (subst (λ (vs : List ℕ). Made t c
+        (move_by us c (given_by vs (shown (act_of c.core.phase) (word_at s c.once)) (Scans well taken))
+        (Scans well taken)) s u) (sym none) finds_by)

@@ -7,12 +7,19 @@ use Rattle.parking_lot_protocol.specs.declared.act.ActResult.TheVariants as seen
 use Rattle.parking_lot_protocol.specs.Acts.{Gives}
 use Rattle.parking_lot_rules.specs.declared.once.wish.Wish.{Wish}
 use Rattle.parking_lot_protocol_waits.specs.declared.once.once_phase.OncePhase.{OncePhase}
-use Rattle.parking_lot_protocol_waits.specs.declared.once.once_phase.OncePhase.TheVariants.{Asking, Returning, Loads, Starts, Spins, Parks, Enters, Checks, Retreats, Appends, Rests, Sleeps, Stores, Looks, Scans, Clears, Leaves, Wakes, Finishes, Ends, Invalid}
+use Rattle.parking_lot_protocol_waits.specs.declared.once.once_phase.OncePhase.TheVariants.{Asking, Returning, Loads}
+use Rattle.parking_lot_protocol_waits.specs.declared.once.once_phase.OncePhase.TheVariants.{Starts, Spins, Parks}
+use Rattle.parking_lot_protocol_waits.specs.declared.once.once_phase.OncePhase.TheVariants.{Enters, Checks, Retreats}
+use Rattle.parking_lot_protocol_waits.specs.declared.once.once_phase.OncePhase.TheVariants.{Appends, Rests, Sleeps}
+use Rattle.parking_lot_protocol_waits.specs.declared.once.once_phase.OncePhase.TheVariants.{Stores, Looks, Scans}
+use Rattle.parking_lot_protocol_waits.specs.declared.once.once_phase.OncePhase.TheVariants.{Clears, Leaves, Wakes}
+use Rattle.parking_lot_protocol_waits.specs.declared.once.once_phase.OncePhase.TheVariants.{Finishes, Ends, Invalid}
 use Rattle.parking_lot_protocol_waits.specs.Once.OnceMoves.{Joins, role, IsReady}
 use Rattle.parking_lot_protocol_waits.specs.Once.OnceTable.{act_of, next_phase}
 use Rattle.parking_lot_machine_sides.specs.Once.Entries.{list_of}
 use Rattle.parking_lot_machine_sides.specs.Once.OnceActs.{shown, told}
-use Rattle.parking_lot_machine_sides.specs.Once.OnceFits.{Fits, Sits, Knows, is_in_section, is_listed, is_sleeping, taken_count, rounds_of}
+use Rattle.parking_lot_machine_sides.specs.Once.OnceFits.{Fits, Sits, Knows, is_in_section, is_listed, is_sleeping}
+use Rattle.parking_lot_machine_sides.specs.Once.OnceFits.{taken_count, rounds_of}
 use Rattle.parking_lot_machine_sides.specs.Once.OnceSteps.{IsLawful, given_by, move_by, move_of}
 use Rattle.parking_lot_machine_sides.specs.declared.once.open_call.OpenCall.{OpenCall}
 use Rattle.parking_lot_machine_sides.specs.Once.Onces.{Onces, word_at, call_at, known_of}
@@ -25,7 +32,8 @@ use Rattle.parking_lot_machine_sides.proofs.OnceFacts.Listing.{length_push, push
 use Rattle.parking_lot_machine_sides.proofs.OnceFacts.Owning.{joins_one}
 use Rattle.parking_lot_machine_sides.proofs.OnceFacts.OwnActs.{Made, goes_so}
 
-pub appends_is : (p : OncePhase) (token : ParkToken) → act_of p ≡ act.Section (section.Append token) → (wish : Wish) × (p ≡ Appends wish)
+pub appends_is : (p : OncePhase) (token : ParkToken) → act_of p ≡ act.Section (section.Append token) → (wish : Wish)
+    × (p ≡ Appends wish)
 appends_is (Appends wish) token e = (wish, refl)
 appends_is (Asking wish) token e = absurd cc
 appends_is (Returning well) token e = absurd cc
@@ -68,7 +76,13 @@ module _ (s : Onces) (t : ℕ) (c : OpenCall) (fits : Fits s) (here : call_at s 
     u = appended s t c
 
     joined_one : One s u t c.once (Some d)
-    joined_one = record { calls = refl; wakes = refl; onces = refl; words = λ j ne. refl; waiting = λ j ne. push_other s.waiting c.once t j ne }
+    joined_one = record {
+      calls = refl;
+      wakes = refl;
+      onces = refl;
+      words = λ j ne. refl;
+      waiting = λ j ne. push_other s.waiting c.once t j ne;
+    }
 
     f : d.core.phase ≡ Rests wish
     f = ap (λ p. next_phase p seen.Made) e
@@ -76,7 +90,8 @@ module _ (s : Onces) (t : ℕ) (c : OpenCall) (fits : Fits s) (here : call_at s 
     joined_sits : Sits (length s.words) t d us (list_of u.waiting c.once) s.inside
     joined_sits = record {
       low = sits.low;
-      goes = goes_so c.call c.before c.core.phase seen.Made 0 sits.goes (subst (λ p. Gives (act_of p) 0 seen.Made) (sym e) tt);
+      goes = goes_so c.call c.before c.core.phase seen.Made 0 sits.goes
+          (subst (λ p. Gives (act_of p) 0 seen.Made) (sym e) tt);
       ready = subst IsReady (sym f) tt;
       taken = sits.taken ∙ ap taken_count e ∙ sym (ap taken_count f);
       knows = subst (Knows (list_of u.waiting c.once)) (sym f) tt;
@@ -87,19 +102,28 @@ module _ (s : Onces) (t : ℕ) (c : OpenCall) (fits : Fits s) (here : call_at s 
 
     joins_by : Made t c (Joins wish) s u
     joins_by =
-        let lawful : IsLawful t c.once (Some (Join wish)) s u = joins_one s u t c (Some d) fits here joined_one refl wish (ap (role c.taker (known_of us c)) e) (role_here c.once us d refl ∙ ap (role c.taker (known_of us c)) f) refl (push_same s.waiting c.once t) in
+        let lawful : IsLawful t c.once (Some (Join wish)) s u = joins_one s u t c (Some d) fits here joined_one refl
+        wish (ap (role c.taker (known_of us c)) e)
+        (role_here c.once us d refl ∙ ap (role c.taker (known_of us c)) f) refl (push_same s.waiting c.once t) in
         record {
           step = Some (Join wish);
           named = refl;
           lawful = lawful;
           fits = fits_one s u t c (Some d) fits here joined_one refl (Some (Join wish)) lawful (fits.words c.once)
-              (λ x is. subst (λ (y : OpenCall). Sits (length s.words) t y us (list_of u.waiting y.once) s.inside) (same_Some d x is) joined_sits)
+              (λ x is. subst (λ (y : OpenCall). Sits (length s.words) t y us (list_of u.waiting y.once) s.inside)
+              (same_Some d x is) joined_sits)
               (λ none. absurd (none-some d (sym none)))
               (inr (sym sits.section ∙ ap is_in_section e))
               (λ x ne. refl)
               (λ at. (d, refl))
-              (omega (arith, length_push s.waiting c.once t, ap {B = ℕ} (λ p. cond (is_listed p) 1 0) e, ap {B = ℕ} (λ p. cond (is_listed p) 1 0) f));
+              (omega (
+                arith,
+                length_push s.waiting c.once t,
+                ap {B = ℕ} (λ p. cond (is_listed p) 1 0) e,
+                ap {B = ℕ} (λ p. cond (is_listed p) 1 0) f,
+              ));
         }
 
     pub joins_so : Made t c (move_of s t c) s u
-    joins_so = subst (λ (p : OncePhase). Made t c (move_by us c (given_by queue (shown (act_of c.core.phase) (word_at s c.once)) p) p) s u) (sym e) joins_by
+    joins_so = subst (λ (p : OncePhase). Made t c
+        (move_by us c (given_by queue (shown (act_of c.core.phase) (word_at s c.once)) p) p) s u) (sym e) joins_by

@@ -1,5 +1,6 @@
 -- An act of a thread and its once alone is a step of the rules, or none, and keeps what holds of the machine.
-use Rattle.std.proofs.Common.{◌≡◌, ◌≢◌, ℕ, ◌-◌, ◌^◌, ◌<◌, ◌≤◌, inl, inr, Bool, true, false, cond, ◌==◌, ◌&&◌, List, [], ◌∷◌, length, Option, Some, None, refl, sym, ap, ◌∙◌, subst, arith}
+use Rattle.std.proofs.Common.{◌≡◌, ◌≢◌, ℕ, ◌-◌, ◌^◌, ◌<◌, ◌≤◌, inl, inr, Bool, true, false, cond, ◌==◌, ◌&&◌, List, []}
+use Rattle.std.proofs.Common.{◌∷◌, length, Option, Some, None, refl, sym, ap, ◌∙◌, subst, arith}
 use Rattle.std.proofs.lemmas.Bool.{ne_eqb}
 use Rattle.std.proofs.lemmas.List.{length-set, nil_from_length}
 use Rattle.std.proofs.lemmas.List.Sums.{count_by-le-length}
@@ -14,12 +15,21 @@ use Rattle.parking_lot_rules.specs.Classes.{bit}
 use Rattle.parking_lot_rules.specs.declared.once.once_state.OnceState.{OnceState}
 use Rattle.parking_lot_rules.specs.declared.once.once_state.OnceState.TheVariants.{New, Poisoned, InProgress, Done}
 use Rattle.parking_lot_rules.specs.declared.once.wish.Wish.{Wish}
-use Rattle.parking_lot_rules.specs.Once.Once.{Idle, Word, Step, Plain, Alone, Begin, Start, Complete, Refuse, Flag, Enter, Check, Retreat, Rest, Return, Finish, Look, Store, Depart, Leave, May, written, Class, Inside, Listed, weight, total, number, waits}
+use Rattle.parking_lot_rules.specs.Once.Once.{Idle, Word, Step, Plain, Alone, Begin, Start, Complete, Refuse, Flag}
+use Rattle.parking_lot_rules.specs.Once.Once.{Enter, Check, Retreat, Rest, Return, Finish, Look, Store, Depart, Leave}
+use Rattle.parking_lot_rules.specs.Once.Once.{May, written, Class, Inside, Listed, weight, total, number, waits}
 use Rattle.parking_lot_rules.proofs.OnceFacts.Soundness.{total-none}
 use Rattle.parking_lot_protocol_waits.specs.declared.once.once_phase.OnceAnswer.TheVariants as end
 use Rattle.parking_lot_protocol_waits.specs.declared.once.once_phase.OncePhase.{OncePhase}
-use Rattle.parking_lot_protocol_waits.specs.declared.once.once_phase.OncePhase.TheVariants.{Asking, Returning, Loads, Starts, Spins, Parks, Enters, Checks, Retreats, Appends, Rests, Sleeps, Stores, Looks, Scans, Clears, Leaves, Wakes, Finishes, Ends, Invalid}
-use Rattle.parking_lot_protocol_waits.specs.Once.OnceMoves.{Known, Move, Stays, Makes, Joins, TakesOne, WakesOne, IsWoken, role, move, seeing, IsMove, IsReady, IsTold, Holds}
+use Rattle.parking_lot_protocol_waits.specs.declared.once.once_phase.OncePhase.TheVariants.{Asking, Returning, Loads}
+use Rattle.parking_lot_protocol_waits.specs.declared.once.once_phase.OncePhase.TheVariants.{Starts, Spins, Parks}
+use Rattle.parking_lot_protocol_waits.specs.declared.once.once_phase.OncePhase.TheVariants.{Enters, Checks, Retreats}
+use Rattle.parking_lot_protocol_waits.specs.declared.once.once_phase.OncePhase.TheVariants.{Appends, Rests, Sleeps}
+use Rattle.parking_lot_protocol_waits.specs.declared.once.once_phase.OncePhase.TheVariants.{Stores, Looks, Scans}
+use Rattle.parking_lot_protocol_waits.specs.declared.once.once_phase.OncePhase.TheVariants.{Clears, Leaves, Wakes}
+use Rattle.parking_lot_protocol_waits.specs.declared.once.once_phase.OncePhase.TheVariants.{Finishes, Ends, Invalid}
+use Rattle.parking_lot_protocol_waits.specs.Once.OnceMoves.{Known, Move, Stays, Makes, Joins, TakesOne, WakesOne}
+use Rattle.parking_lot_protocol_waits.specs.Once.OnceMoves.{IsWoken, role, move, seeing, IsMove, IsReady, IsTold, Holds}
 use Rattle.parking_lot_protocol_waits.specs.Once.OnceTable.{state_of, is_parked, act_of, next_phase}
 use Rattle.parking_lot_protocol_waits.proofs.OnceFacts.OnceAnswering.{goes_on}
 use Rattle.parking_lot_protocol_waits.proofs.OnceFacts.OnceFollowing.{follows}
@@ -28,10 +38,13 @@ use Rattle.parking_lot_machine_sides.specs.declared.once.calls.OnceCall.{OnceCal
 use Rattle.parking_lot_machine_sides.specs.Once.OnceActs as does
 use Rattle.parking_lot_machine_sides.specs.Once.OnceActs.{shown, told, acted, inside_after}
 use Rattle.parking_lot_machine_sides.specs.Once.OnceCalls.{wish_of, ends_well}
-use Rattle.parking_lot_machine_sides.specs.Once.OnceFits.{Fits, Sits, GoesOn, Knows, is_in_section, is_the, lies, taken_count}
-use Rattle.parking_lot_machine_sides.specs.Once.OnceSteps.{IsActOfItsOwn, IsEntry, IsLawful, IsStepOf, given_by, move_by, move_of}
+use Rattle.parking_lot_machine_sides.specs.Once.OnceFits.{Fits, Sits, GoesOn, Knows, is_in_section, is_the, lies}
+use Rattle.parking_lot_machine_sides.specs.Once.OnceFits.{taken_count}
+use Rattle.parking_lot_machine_sides.specs.Once.OnceSteps.{IsActOfItsOwn, IsEntry, IsLawful, IsStepOf, given_by}
+use Rattle.parking_lot_machine_sides.specs.Once.OnceSteps.{move_by, move_of}
 use Rattle.parking_lot_machine_sides.specs.declared.once.open_call.OpenCall.{OpenCall}
-use Rattle.parking_lot_machine_sides.specs.Once.Onces.{Onces, word_at, call_at, known_of, role_in, role_at, word_of, once_at}
+use Rattle.parking_lot_machine_sides.specs.Once.Onces.{Onces, word_at, call_at, known_of, role_in, role_at, word_of}
+use Rattle.parking_lot_machine_sides.specs.Once.Onces.{once_at}
 use Rattle.parking_lot_machine_sides.proofs.OnceFacts.Acting.{plays, role_here, shows_word, word_here, word_elsewhere}
 use Rattle.parking_lot_rules.proofs.Everybody.{was-all}
 use Rattle.parking_lot_machine_sides.proofs.OnceFacts.Listing.{short}
@@ -55,7 +68,8 @@ holds_so us (Leaves taken) e = e
 holds_so us (Wakes count) e = e
 holds_so us p e = tt
 
-own_move : (us queue : List ℕ) (c : OpenCall) (s : ActResult) (p : OncePhase) → IsActOfItsOwn (act_of p) → move_by us c (given_by queue s p) p ≡ move (known_of us c) p s
+own_move : (us queue : List ℕ) (c : OpenCall) (s : ActResult) (p : OncePhase) → IsActOfItsOwn (act_of p)
+    → move_by us c (given_by queue s p) p ≡ move (known_of us c) p s
 own_move us [] c s (Loads a) own = refl
 own_move us (v ∷ vs) c s (Loads a) own = refl
 own_move us [] c s (Starts a before parked) own = refl
@@ -90,7 +104,8 @@ own_move us queue c s Finishes own = absurd own
 own_move us queue c s (Ends answer) own = absurd own
 own_move us queue c s Invalid own = absurd own
 
-pub goes_so : (call : OnceCall) (before : OnceState) (p : OncePhase) (s : ActResult) (n : ℕ) → GoesOn call before p → Gives (act_of p) n s → GoesOn call before (next_phase p s)
+pub goes_so : (call : OnceCall) (before : OnceState) (p : OncePhase) (s : ActResult) (n : ℕ) → GoesOn call before p
+    → Gives (act_of p) n s → GoesOn call before (next_phase p s)
 goes_so call before p s n (inl e) g = inl (goes_on (Asking (wish_of call)) p s n e g)
 goes_so call before p s n (inr e) g = inr (goes_on (Returning (ends_well call)) p s n e.0 g, e.1)
 
@@ -130,13 +145,17 @@ idle_inside = refl
 
 -- where no section is open nobody is inside
 pub none_inside : (s : Onces) (i : ℕ) → Fits s → s.inside ≡ None → total Inside (once_at s i).roles ≡ 0
-none_inside s i fits e = total-none (weight Inside) (once_at s i).roles (λ x r at. ap (weight Inside) (was-all (role_at s i) (length s.calls) x r at) ∙ go x (call_at s x) refl)
+none_inside s i fits e = total-none (weight Inside) (once_at s i).roles
+    (λ x r at. ap (weight Inside) (was-all (role_at s i) (length s.calls) x r at) ∙ go x (call_at s x) refl)
   where
-    by_once : (x : ℕ) (c : OpenCall) → call_at s x ≡ Some c → (b : Bool) → weight Inside (cond b (plays c (list_of s.wakes x)) Idle) ≡ 0
-    by_once x c at true = inside_weighs c.taker (known_of (list_of s.wakes x) c) c.core.phase ∙ ap bit ((fits.seated x c at).section ∙ ap (λ o. is_the o x) e)
+    by_once : (x : ℕ) (c : OpenCall) → call_at s x ≡ Some c → (b : Bool)
+        → weight Inside (cond b (plays c (list_of s.wakes x)) Idle) ≡ 0
+    by_once x c at true = inside_weighs c.taker (known_of (list_of s.wakes x) c) c.core.phase
+        ∙ ap bit ((fits.seated x c at).section ∙ ap (λ o. is_the o x) e)
     by_once x c at false = idle_inside
 
-    go : (x : ℕ) (o : Option OpenCall) → call_at s x ≡ o → weight Inside (role_in i (list_of s.wakes x) (call_at s x)) ≡ 0
+    go : (x : ℕ) (o : Option OpenCall) → call_at s x ≡ o → weight Inside (role_in i (list_of s.wakes x) (call_at s x))
+        ≡ 0
     go x None at = ap (λ o. weight Inside (role_in i (list_of s.wakes x) o)) at ∙ idle_inside
     go x (Some c) at = ap (λ o. weight Inside (role_in i (list_of s.wakes x) o)) at ∙ by_once x c at (c.once == i)
 
@@ -200,16 +219,19 @@ check_needs : (wish : Wish) (b : Bool) (all : Class → ℕ) → NeedsOf (cond b
 check_needs wish true all = tt
 check_needs wish false all = tt
 
-needs_so : (k : Known) (p : OncePhase) (s : ActResult) (n : ℕ) (queue : List ℕ) (all : Class → ℕ) → IsActOfItsOwn (act_of p) → Gives (act_of p) n s
+needs_so : (k : Known) (p : OncePhase) (s : ActResult) (n : ℕ) (queue : List ℕ) (all : Class → ℕ)
+    → IsActOfItsOwn (act_of p) → Gives (act_of p) n s
     → IsEntry (act_of p) (all Inside ≡ 0) → Knows queue p → (queue ≡ [] → all Listed ≡ 0) → NeedsOf (move k p s) all
 needs_so k (Loads a) (seen.Word m) n queue all own g free knows empty = seeing_needs a.wish (state_of m) all
 needs_so k (Starts a before parked) seen.Exchanged n queue all own g free knows empty = tt
-needs_so k (Starts a before parked) (seen.Word m) n queue all own g free knows empty = seeing_needs a.wish (state_of m) all
+needs_so k (Starts a before parked) (seen.Word m) n queue all own g free knows empty = seeing_needs a.wish (state_of m)
+    all
 needs_so k (Spins a s) (seen.Spun b) n queue all own g free knows empty = tt
 needs_so k (Parks a s) seen.Exchanged n queue all own g free knows empty = tt
 needs_so k (Parks a s) (seen.Word m) n queue all own g free knows empty = seeing_needs a.wish (state_of m) all
 needs_so k (Enters wish) seen.Entered n queue all own g free knows empty = free
-needs_so k (Checks wish) (seen.Word m) n queue all own g free knows empty = check_needs wish (waits wish (state_of m) && is_parked m) all
+needs_so k (Checks wish) (seen.Word m) n queue all own g free knows empty =
+    check_needs wish (waits wish (state_of m) && is_parked m) all
 needs_so k (Retreats wish) seen.Made n queue all own g free knows empty = tt
 needs_so k (Rests wish) seen.Made n queue all own g free knows empty = tt
 needs_so k (Stores well) seen.Exchanged n queue all own g free knows empty = tt
@@ -242,7 +264,8 @@ pub is_number : (n : ℕ) (w : Word) → w.parked ≤ 1 → n ≡ number w → n
 is_number n w le e = ap (λ x. number (word_of x)) e ∙ ap number (shows_word w le) ∙ sym e
 
 -- other threads are inside as before
-pub insides : (a : Act) (t : ℕ) (inside : Option ℕ) (x : ℕ) → x ≢ t → IsEntry a (inside ≡ None) → (a ≡ act.Section section.Leave → is_the inside t ≡ true) → is_the (inside_after a t inside) x ≡ is_the inside x
+pub insides : (a : Act) (t : ℕ) (inside : Option ℕ) (x : ℕ) → x ≢ t → IsEntry a (inside ≡ None)
+    → (a ≡ act.Section section.Leave → is_the inside t ≡ true) → is_the (inside_after a t inside) x ≡ is_the inside x
 insides (act.Enter key) t inside x ne free leave = ne_eqb t x (λ e. ne (sym e)) ∙ sym (ap (λ o. is_the o x) free)
 insides (act.Section section.Leave) t inside x ne free leave = sym (not_another inside t x ne (leave refl))
 insides a t inside x ne free leave = refl
@@ -275,7 +298,8 @@ entry_needs (act.Enter key) X Y f x = f x
 entry_needs (act.Load) X Y f x = tt
 entry_needs a X Y f x = tt
 
-module _ (s : Onces) (t : ℕ) (c : OpenCall) (fits : Fits s) (here : call_at s t ≡ Some c) (own : IsActOfItsOwn (act_of c.core.phase)) (free : IsEntry (act_of c.core.phase) (s.inside ≡ None)) where
+module _ (s : Onces) (t : ℕ) (c : OpenCall) (fits : Fits s) (here : call_at s t ≡ Some c)
+    (own : IsActOfItsOwn (act_of c.core.phase)) (free : IsEntry (act_of c.core.phase) (s.inside ≡ None)) where
   abbrev p : OncePhase
   p = c.core.phase
 
@@ -318,7 +342,8 @@ module _ (s : Onces) (t : ℕ) (c : OpenCall) (fits : Fits s) (here : call_at s 
   bit_low : (once_at s c.once).word.parked ≤ 1
   bit_low = (fits.sound c.once).fits.bit
 
-  followed : IsMove (move (known_of taken c) p given) (known_of taken c) p (next_phase p given) (word_of n) (word_after (act_of p) given (number (word_of n))) × IsReady (next_phase p given)
+  followed : IsMove (move (known_of taken c) p given) (known_of taken c) p (next_phase p given) (word_of n)
+      (word_after (act_of p) given (number (word_of n))) × IsReady (next_phase p given)
   followed = follows p given (known_of taken c) (word_of n) sits.ready bit_low (holds_so taken p sits.taken) few
       (subst (λ x. IsTold p x given) (sym (fits.words c.once)) (told_so p n given own (shows (act_of p) n own)))
 
@@ -335,8 +360,10 @@ module _ (s : Onces) (t : ℕ) (c : OpenCall) (fits : Fits s) (here : call_at s 
   plays_next = role_here c.once taken d refl ∙ ap (λ by. role by (known_of taken c) (next_phase p given)) awake
 
   needed : NeedsOf (move (known_of taken c) p given) (λ x. total x (once_at s c.once).roles)
-  needed = needs_so (known_of taken c) p given n (list_of s.waiting c.once) (λ x. total x (once_at s c.once).roles) own (shows (act_of p) n own)
-      (entry_needs (act_of p) (s.inside ≡ None) (total Inside (once_at s c.once).roles ≡ 0) (none_inside s c.once fits) free)
+  needed = needs_so (known_of taken c) p given n (list_of s.waiting c.once) (λ x. total x (once_at s c.once).roles) own
+      (shows (act_of p) n own)
+      (entry_needs (act_of p) (s.inside ≡ None) (total Inside (once_at s c.once).roles ≡ 0) (none_inside s c.once fits)
+      free)
       sits.knows
       (λ e. sym (fits.sound c.once).listed.count ∙ ap (λ (q : List ℕ). length q) e)
 
@@ -352,30 +379,49 @@ module _ (s : Onces) (t : ℕ) (c : OpenCall) (fits : Fits s) (here : call_at s 
     awake = λ e. awake;
   }
 
-  own_fits : (step : Option Step) → IsLawful t c.once step s u → number (word_of (word_at u c.once)) ≡ word_at u c.once → Fits u
+  own_fits : (step : Option Step) → IsLawful t c.once step s u → number (word_of (word_at u c.once)) ≡ word_at u c.once
+      → Fits u
   own_fits step lawful word = fits_one s u t c (Some d) fits here own_one refl step lawful word
-      (λ e is. subst (λ (x : OpenCall). Sits (length u.words) t x taken (list_of u.waiting x.once) u.inside) (same_Some d e is) own_sits)
+      (λ e is. subst (λ (x : OpenCall). Sits (length u.words) t x taken (list_of u.waiting x.once) u.inside)
+      (same_Some d e is) own_sits)
       (λ e. absurd (none-some d (sym e)))
       (inl refl)
       (λ x ne. insides (act_of p) t s.inside x ne free (λ e. sym sits.section ∙ leaves_section p e))
       (λ e. (d, refl))
       (omega (arith, ap {B = ℕ} (λ b. cond b 1 0) led.lies))
 
-  by_move : (m : Move) → move (known_of taken c) p given ≡ m → IsMove m (known_of taken c) p (next_phase p given) (word_of n) (word_after (act_of p) given (number (word_of n)))
+  by_move : (m : Move) → move (known_of taken c) p given ≡ m → IsMove m (known_of taken c) p (next_phase p given)
+      (word_of n) (word_after (act_of p) given (number (word_of n)))
       → NeedsOf m (λ x. total x (once_at s c.once).roles) → Made t c m s u
   by_move Stays e h needs =
       let lawful : IsLawful t c.once None s u = stays_one s u t c (Some d) fits here own_one refl
-      (sym (h.0 c.taker) ∙ sym (role_here c.once taken d refl)) (ap word_of (sym left_word ∙ h.1) ∙ shows_word (word_of n) bit_low) refl in
-      record { step = None; named = refl; lawful = lawful; fits = own_fits None lawful (is_number (word_at u c.once) (word_of n) bit_low (sym left_word ∙ h.1)) }
+      (sym (h.0 c.taker) ∙ sym (role_here c.once taken d refl))
+      (ap word_of (sym left_word ∙ h.1) ∙ shows_word (word_of n) bit_low) refl in
+      record {
+        step = None;
+        named = refl;
+        lawful = lawful;
+        fits = own_fits None lawful (is_number (word_at u c.once) (word_of n) bit_low (sym left_word ∙ h.1));
+      }
   by_move (Makes k) e h needs =
       let lawful : IsLawful t c.once (Some (Alone k)) s u = makes_one s u t c (Some d) fits here own_one refl k
-      (played ∙ h.0.from) (plays_next ∙ h.0.to) (may_all k (word_of n) (λ x. total x (once_at s c.once).roles) h.0.may needs)
-      (ap word_of (sym left_word ∙ h.0.written) ∙ shows_word (written k (word_of n)) (written_bit k (word_of n) bit_low)) refl in
-      record { step = Some (Alone k); named = refl; lawful = lawful; fits = own_fits (Some (Alone k)) lawful (is_number (word_at u c.once) (written k (word_of n)) (written_bit k (word_of n) bit_low) (sym left_word ∙ h.0.written)) }
+      (played ∙ h.0.from) (plays_next ∙ h.0.to)
+      (may_all k (word_of n) (λ x. total x (once_at s c.once).roles) h.0.may needs)
+      (ap word_of (sym left_word ∙ h.0.written)
+      ∙ shows_word (written k (word_of n)) (written_bit k (word_of n) bit_low)) refl in
+      record {
+        step = Some (Alone k);
+        named = refl;
+        lawful = lawful;
+        fits = own_fits (Some (Alone k)) lawful
+            (is_number (word_at u c.once) (written k (word_of n)) (written_bit k (word_of n) bit_low)
+            (sym left_word ∙ h.0.written));
+      }
   by_move (Joins wish) e h needs = absurd needs
   by_move (TakesOne well) e h needs = absurd needs
   by_move WakesOne e h needs = absurd needs
   by_move (IsWoken wish) e h needs = absurd needs
 
   pub acts_so : Made t c (move_of s t c) s u
-  acts_so = subst (λ (m : Move). Made t c m s u) (sym (own_move taken (list_of s.waiting c.once) c given p own)) (by_move (move (known_of taken c) p given) refl followed.0 needed)
+  acts_so = subst (λ (m : Move). Made t c m s u) (sym (own_move taken (list_of s.waiting c.once) c given p own))
+      (by_move (move (known_of taken c) p given) refl followed.0 needed)

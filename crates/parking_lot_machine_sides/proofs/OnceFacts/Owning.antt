@@ -1,18 +1,25 @@
--- A step that changes one thread's call alone keeps what holds of the machine; and an act of a thread and its once alone is such a step.
-use Rattle.std.proofs.Common.{◌≡◌, ◌≢◌, ℕ, ◌+◌, ◌<◌, ◌⊎◌, inl, inr, true, false, cond, List, [], ◌∷◌, ◌++◌, length, Option, Some, None, slice_set, refl, sym, ap, ◌∙◌, subst, arith, eqb-true, eq-eqb, count_by}
+-- A step that changes one thread's call alone keeps what holds of the machine; and an act of a thread and its once
+-- alone is such a step.
+use Rattle.std.proofs.Common.{◌≡◌, ◌≢◌, ℕ, ◌+◌, ◌<◌, ◌⊎◌, inl, inr, true, false, cond, List, [], ◌∷◌, ◌++◌, length}
+use Rattle.std.proofs.Common.{Option, Some, None, slice_set, refl, sym, ap, ◌∙◌, subst, arith, eqb-true, eq-eqb}
+use Rattle.std.proofs.Common.{count_by}
 use Rattle.std.proofs.lemmas.Bool.{cases_eq, ne_eqb}
 use Rattle.std.proofs.lemmas.List.{length-set}
 use Rattle.parking_lot_core_model.proofs.Numbers.{count_by-set}
 use Rattle.parking_lot_rules.specs.declared.once.wish.Wish.{Wish}
-use Rattle.parking_lot_rules.specs.Once.Once.{Checked, Joined, Step, Plain, Alone, Join, May, written, from, to, total, number}
+use Rattle.parking_lot_rules.specs.Once.Once.{Checked, Joined, Step, Plain, Alone, Join, May, written, from, to, total}
+use Rattle.parking_lot_rules.specs.Once.Once.{number}
 use Rattle.parking_lot_protocol_waits.specs.declared.once.once_phase.OncePhase.{OncePhase}
 use Rattle.parking_lot_protocol_waits.specs.declared.once.once_phase.OncePhase.TheVariants.{Clears}
 use Rattle.parking_lot_machine_sides.specs.declared.once.entry.Entry.{Entry}
 use Rattle.parking_lot_machine_sides.specs.Once.Entries.{list_of}
 use Rattle.parking_lot_machine_sides.specs.Once.OnceFits.{Fits, Sits, Knows, is_in_section, is_the, lies}
 use Rattle.parking_lot_machine_sides.specs.Once.OnceSteps.{IsLawful}
-use Rattle.parking_lot_machine_sides.specs.Once.Onces.{OpenCall, Onces, word_at, call_in, call_at, role_in, role_at, word_of, once_at}
-use Rattle.parking_lot_machine_sides.proofs.OnceFacts.Acting.{IsThere, Elsewhere, call_here, call_elsewhere, within, once_elsewhere, plays, role_here, role_now, role_same, roles_one, roles_same, same_once, slot, sound_all}
+use Rattle.parking_lot_machine_sides.specs.Once.Onces.{OpenCall, Onces, word_at, call_in, call_at, role_in, role_at}
+use Rattle.parking_lot_machine_sides.specs.Once.Onces.{word_of, once_at}
+use Rattle.parking_lot_machine_sides.proofs.OnceFacts.Acting.{IsThere, Elsewhere, call_here, call_elsewhere, within}
+use Rattle.parking_lot_machine_sides.proofs.OnceFacts.Acting.{once_elsewhere, plays, role_here, role_now, role_same}
+use Rattle.parking_lot_machine_sides.proofs.OnceFacts.Acting.{roles_one, roles_same, same_once, slot, sound_all}
 
 -- WHO IS IN THE SECTION
 
@@ -41,7 +48,8 @@ pub record One (s u : Onces) (t i : ℕ) (o : Option OpenCall) : Type 0 where
   pub words : (j : ℕ) → j ≢ i → word_at u j ≡ word_at s j
   pub waiting : (j : ℕ) → j ≢ i → list_of u.waiting j ≡ list_of s.waiting j
 
-module _ (s u : Onces) (t : ℕ) (c : OpenCall) (o : Option OpenCall) (fits : Fits s) (here : call_at s t ≡ Some c) (one : One s u t c.once o) (there : IsThere c.once o) where
+module _ (s u : Onces) (t : ℕ) (c : OpenCall) (o : Option OpenCall) (fits : Fits s) (here : call_at s t ≡ Some c)
+    (one : One s u t c.once o) (there : IsThere c.once o) where
   pub its_low : t < length s.calls
   its_low = within s.calls t c here
 
@@ -60,7 +68,10 @@ module _ (s u : Onces) (t : ℕ) (c : OpenCall) (o : Option OpenCall) (fits : Fi
     words = one.words;
     waiting = one.waiting;
     calls = λ x. elim (cases_eq x t) [
-      | inl e ↦ inr (subst (IsThere c.once) (sym (ap (call_at s) e ∙ here)) refl, subst (IsThere c.once) (sym (ap (call_at u) e ∙ its)) there)
+      | inl e ↦ inr (
+        subst (IsThere c.once) (sym (ap (call_at s) e ∙ here)) refl,
+        subst (IsThere c.once) (sym (ap (call_at u) e ∙ its)) there,
+      )
       | inr ne ↦ inl (others x ne, same_taken x)
     ];
   }
@@ -72,8 +83,10 @@ module _ (s u : Onces) (t : ℕ) (c : OpenCall) (o : Option OpenCall) (fits : Fi
   its_role = ap (λ us. role_in c.once us (call_at u t)) (same_taken t) ∙ ap (role_in c.once (list_of s.wakes t)) its
 
   -- another sits as before
-  other_sits : (x : ℕ) (e : OpenCall) → x ≢ t → (list_of u.waiting c.once ≡ list_of s.waiting c.once) ⊎ (is_the s.inside t ≡ true) → is_the u.inside x ≡ is_the s.inside x
-      → Sits (length s.words) x e (list_of s.wakes x) (list_of s.waiting e.once) s.inside → Sits (length u.words) x e (list_of u.wakes x) (list_of u.waiting e.once) u.inside
+  other_sits : (x : ℕ) (e : OpenCall) → x ≢ t → (list_of u.waiting c.once ≡ list_of s.waiting c.once)
+      ⊎ (is_the s.inside t ≡ true) → is_the u.inside x ≡ is_the s.inside x
+      → Sits (length s.words) x e (list_of s.wakes x) (list_of s.waiting e.once) s.inside
+      → Sits (length u.words) x e (list_of u.wakes x) (list_of u.waiting e.once) u.inside
   other_sits x e ne quiet same sits = record {
     low = omega (arith, sits.low, one.onces);
     goes = sits.goes;
@@ -81,8 +94,10 @@ module _ (s u : Onces) (t : ℕ) (c : OpenCall) (o : Option OpenCall) (fits : Fi
     taken = ap (λ (us : List ℕ). length us) (same_taken x) ∙ sits.taken;
     knows = elim (cases_eq e.once c.once) [
       | inl eq ↦ elim quiet [
-        | inl stays ↦ subst (λ (us : List ℕ). Knows us e.core.phase) (sym (ap (list_of u.waiting) eq ∙ stays ∙ ap (list_of s.waiting) (sym eq))) sits.knows
-        | inr its ↦ knows_still e.core.phase (list_of s.waiting e.once) (list_of u.waiting e.once) (sits.section ∙ not_another s.inside t x ne its) sits.knows
+        | inl stays ↦ subst (λ (us : List ℕ). Knows us e.core.phase)
+            (sym (ap (list_of u.waiting) eq ∙ stays ∙ ap (list_of s.waiting) (sym eq))) sits.knows
+        | inr its ↦ knows_still e.core.phase (list_of s.waiting e.once) (list_of u.waiting e.once)
+            (sits.section ∙ not_another s.inside t x ne its) sits.knows
       ]
       | inr apart ↦ subst (λ (us : List ℕ). Knows us e.core.phase) (sym (one.waiting e.once apart)) sits.knows
     ];
@@ -91,8 +106,10 @@ module _ (s u : Onces) (t : ℕ) (c : OpenCall) (o : Option OpenCall) (fits : Fi
     awake = sits.awake;
   }
 
-  pub fits_one : (step : Option Step) → IsLawful t c.once step s u → number (word_of (word_at u c.once)) ≡ word_at u c.once
-      → ((d : OpenCall) → o ≡ Some d → Sits (length u.words) t d (list_of s.wakes t) (list_of u.waiting d.once) u.inside)
+  pub fits_one : (step : Option Step) → IsLawful t c.once step s u → number (word_of (word_at u c.once)) ≡ word_at u
+      c.once
+      → ((d : OpenCall) → o ≡ Some d → Sits (length u.words) t d (list_of s.wakes t) (list_of u.waiting d.once)
+      u.inside)
       → (o ≡ None → list_of s.wakes t ≡ [])
       → (list_of u.waiting c.once ≡ list_of s.waiting c.once) ⊎ (is_the s.inside t ≡ true)
       → ((x : ℕ) → x ≢ t → is_the u.inside x ≡ is_the s.inside x)
@@ -106,8 +123,10 @@ module _ (s u : Onces) (t : ℕ) (c : OpenCall) (o : Option OpenCall) (fits : Fi
       | inr ne ↦ ap (λ n. number (word_of n)) (one.words j ne) ∙ fits.words j ∙ sym (one.words j ne)
     ];
     seated = λ x e at. elim (cases_eq x t) [
-      | inl eq ↦ subst (λ (k : ℕ). Sits (length u.words) k e (list_of u.wakes k) (list_of u.waiting e.once) u.inside) (sym eq)
-          (subst (λ (us : List ℕ). Sits (length u.words) t e us (list_of u.waiting e.once) u.inside) (sym (same_taken t)) (sits e (sym its ∙ ap (call_at u) (sym eq) ∙ at)))
+      | inl eq ↦ subst (λ (k : ℕ). Sits (length u.words) k e (list_of u.wakes k) (list_of u.waiting e.once) u.inside)
+          (sym eq)
+          (subst (λ (us : List ℕ). Sits (length u.words) t e us (list_of u.waiting e.once) u.inside)
+          (sym (same_taken t)) (sits e (sym its ∙ ap (call_at u) (sym eq) ∙ at)))
       | inr ne ↦ other_sits x e ne quiet (insides x ne) (fits.seated x e (sym (others x ne) ∙ at))
     ];
     idle = λ x at. elim (cases_eq x t) [
@@ -116,7 +135,8 @@ module _ (s u : Onces) (t : ℕ) (c : OpenCall) (o : Option OpenCall) (fits : Fi
     ];
     inside = λ x at. elim (cases_eq x t) [
       | inl eq ↦ let d = inside (at ∙ ap Some eq) in (d.0, ap (call_at u) eq ∙ its ∙ d.1)
-      | inr ne ↦ let d = fits.inside x (the_one s.inside x (sym (insides x ne) ∙ is_one u.inside x at)) in (d.0, others x ne ∙ d.1)
+      | inr ne ↦ let d = fits.inside x (the_one s.inside x (sym (insides x ne) ∙ is_one u.inside x at)) in
+          (d.0, others x ne ∙ d.1)
     ];
     room = omega (
       arith,
@@ -131,7 +151,8 @@ module _ (s u : Onces) (t : ℕ) (c : OpenCall) (o : Option OpenCall) (fits : Fi
 
 -- WHICH STEP OF THE RULES IT IS
 
-module _ (s u : Onces) (t : ℕ) (c : OpenCall) (o : Option OpenCall) (fits : Fits s) (here : call_at s t ≡ Some c) (one : One s u t c.once o) (there : IsThere c.once o) where
+module _ (s u : Onces) (t : ℕ) (c : OpenCall) (o : Option OpenCall) (fits : Fits s) (here : call_at s t ≡ Some c)
+    (one : One s u t c.once o) (there : IsThere c.once o) where
   abbrev us : List ℕ
   us = list_of s.wakes t
 
@@ -142,33 +163,43 @@ module _ (s u : Onces) (t : ℕ) (c : OpenCall) (o : Option OpenCall) (fits : Fi
   beyond = once_elsewhere c.once s u (elsewhere s u t c o fits here one there)
 
   -- none, where the thread plays the same part
-  pub stays_one : plays c us ≡ role_in c.once us o → word_of (word_at u c.once) ≡ word_of (word_at s c.once) → list_of u.waiting c.once ≡ list_of s.waiting c.once → IsLawful t c.once None s u
+  pub stays_one : plays c us ≡ role_in c.once us o → word_of (word_at u c.once) ≡ word_of (word_at s c.once)
+      → list_of u.waiting c.once ≡ list_of s.waiting c.once → IsLawful t c.once None s u
   stays_one e w q = record {
-    here = same_once _ _ _ _ _ _ w (roles_same c.once s u (elsewhere s u t c o fits here one there) (λ x. elim (cases_eq x t) [
-      | inl eq ↦ ap (role_at u c.once) eq ∙ its_role s u t c o fits here one there ∙ sym e ∙ sym its_before ∙ ap (role_at s c.once) (sym eq)
-      | inr ne ↦ other_role s u t c o fits here one there x ne
-    ])) q;
+    here = same_once _ _ _ _ _ _ w
+        (roles_same c.once s u (elsewhere s u t c o fits here one there) (λ x. elim (cases_eq x t) [
+          | inl eq ↦ ap (role_at u c.once) eq ∙ its_role s u t c o fits here one there ∙ sym e ∙ sym its_before
+              ∙ ap (role_at s c.once) (sym eq)
+          | inr ne ↦ other_role s u t c o fits here one there x ne
+        ])) q;
     there = beyond;
   }
 
   -- one of the thread alone
-  pub makes_one : (k : Plain) → plays c us ≡ from k → role_in c.once us o ≡ to k → May k (word_of (word_at s c.once)) (λ x. total x (once_at s c.once).roles)
-      → word_of (word_at u c.once) ≡ written k (word_of (word_at s c.once)) → list_of u.waiting c.once ≡ list_of s.waiting c.once → IsLawful t c.once (Some (Alone k)) s u
+  pub makes_one : (k : Plain) → plays c us ≡ from k → role_in c.once us o ≡ to k
+      → May k (word_of (word_at s c.once)) (λ x. total x (once_at s c.once).roles)
+      → word_of (word_at u c.once) ≡ written k (word_of (word_at s c.once))
+      → list_of u.waiting c.once ≡ list_of s.waiting c.once → IsLawful t c.once (Some (Alone k)) s u
   makes_one k e f may w q = record {
     here = (
       (role_now s t c here ∙ ap Some e, may),
-      same_once _ _ _ _ _ _ w (roles_one c.once s u (elsewhere s u t c o fits here one there) t (to k) (within s.calls t c here) (other_role s u t c o fits here one there) (its_role s u t c o fits here one there ∙ f)) q,
+      same_once _ _ _ _ _ _ w
+          (roles_one c.once s u (elsewhere s u t c o fits here one there) t (to k) (within s.calls t c here)
+          (other_role s u t c o fits here one there) (its_role s u t c o fits here one there ∙ f)) q,
     );
     there = beyond;
   }
 
   -- it joins the list
-  pub joins_one : (wish : Wish) → plays c us ≡ Checked wish → role_in c.once us o ≡ Joined wish → word_of (word_at u c.once) ≡ word_of (word_at s c.once)
+  pub joins_one : (wish : Wish) → plays c us ≡ Checked wish → role_in c.once us o ≡ Joined wish
+      → word_of (word_at u c.once) ≡ word_of (word_at s c.once)
       → list_of u.waiting c.once ≡ list_of s.waiting c.once ++ t ∷ [] → IsLawful t c.once (Some (Join wish)) s u
   joins_one wish e f w q = record {
     here = (
       role_now s t c here ∙ ap Some e,
-      same_once _ _ _ _ _ _ w (roles_one c.once s u (elsewhere s u t c o fits here one there) t (Joined wish) (within s.calls t c here) (other_role s u t c o fits here one there) (its_role s u t c o fits here one there ∙ f)) q,
+      same_once _ _ _ _ _ _ w
+          (roles_one c.once s u (elsewhere s u t c o fits here one there) t (Joined wish) (within s.calls t c here)
+          (other_role s u t c o fits here one there) (its_role s u t c o fits here one there ∙ f)) q,
     );
     there = beyond;
   }

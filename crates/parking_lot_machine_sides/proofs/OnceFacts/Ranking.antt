@@ -1,5 +1,6 @@
 -- Each step of the machine is paid for by the steps that are left.
-use Rattle.std.proofs.Common.{◌≡◌, ℕ, ◌+◌, ◌-◌, ◌<◌, ◌≤◌, Bool, true, false, List, [], ◌∷◌, length, Option, Some, None, is_none, slice_set, refl, sym, ap, ◌∙◌, subst, arith, eq-eqb}
+use Rattle.std.proofs.Common.{◌≡◌, ℕ, ◌+◌, ◌-◌, ◌<◌, ◌≤◌, Bool, true, false, List, [], ◌∷◌, length, Option, Some, None}
+use Rattle.std.proofs.Common.{is_none, slice_set, refl, sym, ap, ◌∙◌, subst, arith, eq-eqb}
 use Rattle.std.proofs.lemmas.List.{length-set}
 use Rattle.std.proofs.lemmas.List.Sums.{count_by-le-length}
 use Rattle.parking_lot_protocol.specs.declared.act.Act.{Act}
@@ -12,7 +13,13 @@ use Rattle.parking_lot_rules.specs.declared.once.wish.Wish.{Wish}
 use Rattle.parking_lot_rules.specs.Once.Once.{from, to}
 use Rattle.parking_lot_protocol_waits.specs.declared.once.once_phase.OnceAnswer.TheVariants as end
 use Rattle.parking_lot_protocol_waits.specs.declared.once.once_phase.OncePhase.{OncePhase}
-use Rattle.parking_lot_protocol_waits.specs.declared.once.once_phase.OncePhase.TheVariants.{Asking, Returning, Loads, Starts, Spins, Parks, Enters, Checks, Retreats, Appends, Rests, Sleeps, Stores, Looks, Scans, Clears, Leaves, Wakes, Finishes, Ends, Invalid}
+use Rattle.parking_lot_protocol_waits.specs.declared.once.once_phase.OncePhase.TheVariants.{Asking, Returning, Loads}
+use Rattle.parking_lot_protocol_waits.specs.declared.once.once_phase.OncePhase.TheVariants.{Starts, Spins, Parks}
+use Rattle.parking_lot_protocol_waits.specs.declared.once.once_phase.OncePhase.TheVariants.{Enters, Checks, Retreats}
+use Rattle.parking_lot_protocol_waits.specs.declared.once.once_phase.OncePhase.TheVariants.{Appends, Rests, Sleeps}
+use Rattle.parking_lot_protocol_waits.specs.declared.once.once_phase.OncePhase.TheVariants.{Stores, Looks, Scans}
+use Rattle.parking_lot_protocol_waits.specs.declared.once.once_phase.OncePhase.TheVariants.{Clears, Leaves, Wakes}
+use Rattle.parking_lot_protocol_waits.specs.declared.once.once_phase.OncePhase.TheVariants.{Finishes, Ends, Invalid}
 use Rattle.parking_lot_protocol_waits.specs.Once.OnceTable.{act_of, next_phase}
 use Rattle.parking_lot_machine_sides.specs.Once.Entries.{list_of}
 use Rattle.parking_lot_machine_sides.specs.declared.once.calls.OnceCall.{OnceCall}
@@ -31,11 +38,15 @@ use Rattle.std.proofs.lemmas.List.Sums.{sum_by-cons}
 use Rattle.std.proofs.Math.Nat.{suc-mul}
 use Rattle.std.specs.Option.{option_map, option_map_or}
 use Rattle.parking_lot_protocol_waits.specs.Once.OnceTable.{begins}
-use Rattle.parking_lot_machine_sides.specs.Once.OnceActs.{appended, begun, call_for, can_move, is_possible, off_list, ran, thread_in, took_at, with_call, woke_at, woken}
-use Rattle.parking_lot_machine_sides.specs.Once.OnceRanks.{AnyMayBeStepped, Costs, FewAreLeft, Pays, Sees, Unseen, far_steps, in_hand, is_shut_to, left, most, own_steps, phase_steps, view_of}
+use Rattle.parking_lot_machine_sides.specs.Once.OnceActs.{appended, begun, call_for, can_move, is_possible, off_list}
+use Rattle.parking_lot_machine_sides.specs.Once.OnceActs.{ran, thread_in, took_at, with_call, woke_at, woken}
+use Rattle.parking_lot_machine_sides.specs.Once.OnceRanks.{AnyMayBeStepped, Costs, FewAreLeft, Pays, Sees, Unseen}
+use Rattle.parking_lot_machine_sides.specs.Once.OnceRanks.{far_steps, in_hand, is_shut_to, left, most, own_steps}
+use Rattle.parking_lot_machine_sides.specs.Once.OnceRanks.{phase_steps, view_of}
 use Rattle.parking_lot_machine_sides.proofs.OnceFacts.Acting.{call_here}
 use Rattle.parking_lot_machine_sides.proofs.OnceFacts.Beginning.{May}
-use Rattle.parking_lot_machine_sides.proofs.OnceFacts.Falling.{IsOpen, IsStuck, falls, few_steps, finds_falls, runs_less, sees_less, stuck_same, takes_falls, wakes_le}
+use Rattle.parking_lot_machine_sides.proofs.OnceFacts.Falling.{IsOpen, IsStuck, falls, few_steps, finds_falls}
+use Rattle.parking_lot_machine_sides.proofs.OnceFacts.Falling.{runs_less, sees_less, stuck_same, takes_falls, wakes_le}
 use Rattle.parking_lot_machine_sides.proofs.OnceFacts.Listing.{IsFirst, out_same}
 use Rattle.parking_lot_machine_sides.proofs.OnceFacts.OwnActs.{leaves_section}
 use Rattle.parking_lot_machine_sides.proofs.OnceFacts.Summing.{others_and_one, others_change, others_same}
@@ -44,13 +55,23 @@ abbrev far : ℕ → List (Option OpenCall) → ℕ → ℕ
 far n calls t = sum_by (far_steps n) (slice_set calls t None)
 
 -- its own steps fall, and those of the others rise by less
-module _ (s u : Onces) (t k : ℕ) (c : OpenCall) (o : Option OpenCall) (here : call_at s t ≡ Some c) (there : call_at u t ≡ o) (threads : length u.calls ≡ length s.calls)
+module _ (s u : Onces) (t k : ℕ) (c : OpenCall) (o : Option OpenCall) (here : call_at s t ≡ Some c)
+    (there : call_at u t ≡ o) (threads : length u.calls ≡ length s.calls)
     (others : far (length s.calls) u.calls t ≤ far (length s.calls) s.calls t + k) where
   pub pays_by : own_steps u t o + (1 + k) ≤ own_steps s t (Some c) → Pays t s u
-  pays_by own = omega (arith, ap (own_steps s t) here, ap (own_steps u t) there, ap (λ n. far n u.calls t) threads, others, own)
+  pays_by own = omega (
+    arith,
+    ap (own_steps s t) here,
+    ap (own_steps u t) there,
+    ap (λ n. far n u.calls t) threads,
+    others,
+    own,
+  )
 
-same_view : (w x first next : ℕ) (shut closed : Bool) → w ≡ x → first ≡ next → shut ≡ closed → Sees w first shut ≡ Sees x next closed
-same_view w x first next shut closed e f g = ap (λ y. Sees y first shut) e ∙ ap (λ y. Sees x y shut) f ∙ ap (λ y. Sees x next y) g
+same_view : (w x first next : ℕ) (shut closed : Bool) → w ≡ x → first ≡ next → shut ≡ closed
+    → Sees w first shut ≡ Sees x next closed
+same_view w x first next shut closed e f g = ap (λ y. Sees y first shut) e ∙ ap (λ y. Sees x y shut) f
+    ∙ ap (λ y. Sees x next y) g
 
 -- a thread in its own section isn't shut out of it
 shut_own : (o : Option ℕ) (t : ℕ) → is_the o t ≡ true → is_shut_to t o ≡ false
@@ -59,12 +80,14 @@ shut_own o t e = ap (is_shut_to t) (the_one o t e) ∙ ap not (eq-eqb t t refl)
 shut_none : (o : Option ℕ) (t : ℕ) → o ≡ None → is_shut_to t o ≡ false
 shut_none o t e = ap (is_shut_to t) e
 
-shut_after : (a : Act) (t : ℕ) (o : Option ℕ) → IsEntry a (o ≡ None) → (a ≡ act.Section section.Leave → is_the o t ≡ true) → is_shut_to t (inside_after a t o) ≡ is_shut_to t o
+shut_after : (a : Act) (t : ℕ) (o : Option ℕ) → IsEntry a (o ≡ None)
+    → (a ≡ act.Section section.Leave → is_the o t ≡ true) → is_shut_to t (inside_after a t o) ≡ is_shut_to t o
 shut_after (act.Enter key) t o free leave = ap not (eq-eqb t t refl) ∙ sym (shut_none o t free)
 shut_after (act.Section section.Leave) t o free leave = sym (shut_own o t (leave refl))
 shut_after a t o free leave = refl
 
-open_so : (a : Act) (t : ℕ) (o : Option ℕ) → IsEntry a (o ≡ None) → (a ≡ act.Section section.Leave → is_the o t ≡ true) → IsOpen a (is_shut_to t o)
+open_so : (a : Act) (t : ℕ) (o : Option ℕ) → IsEntry a (o ≡ None) → (a ≡ act.Section section.Leave → is_the o t ≡ true)
+    → IsOpen a (is_shut_to t o)
 open_so (act.Enter key) t o free leave = shut_none o t free
 open_so (act.Section section.Leave) t o free leave = shut_own o t (leave refl)
 open_so act.Load t o free leave = tt
@@ -111,7 +134,8 @@ module _ (s : Onces) (t : ℕ) (c : OpenCall) (fits : Fits s) (here : call_at s 
   low = within s.calls t c here
 
   -- where its call alone changes
-  one_pays : (u : Onces) (o : Option OpenCall) → u.calls ≡ slice_set s.calls t o → own_steps u t o + 1 ≤ phase_steps n (Sees w first shut) p → Pays t s u
+  one_pays : (u : Onces) (o : Option OpenCall) → u.calls ≡ slice_set s.calls t o
+      → own_steps u t o + 1 ≤ phase_steps n (Sees w first shut) p → Pays t s u
   one_pays u o e own = pays_by s u t 0 c o here
       (ap (λ cs. call_in cs t) e ∙ call_here s.calls t o low)
       (ap (λ (cs : List (Option OpenCall)). length cs) e ∙ length-set s.calls t o)
@@ -120,12 +144,14 @@ module _ (s : Onces) (t : ℕ) (c : OpenCall) (fits : Fits s) (here : call_at s 
 
   pub own_pays : IsActOfItsOwn (act_of p) → IsEntry (act_of p) (s.inside ≡ None) → Pays t s (acted s t c)
   own_pays own free =
-      let leave : act_of p ≡ act.Section section.Leave → is_the s.inside t ≡ true = λ e. sym sits.section ∙ leaves_section p e in
+      let leave : act_of p ≡ act.Section section.Leave → is_the s.inside t ≡ true = λ e. sym sits.section
+      ∙ leaves_section p e in
       let u : Onces = acted s t c in
       let d : OpenCall = told c (shown (act_of p) w) in
       let fall = falls n p w first shut own sits.ready (fits.words c.once) (open_so (act_of p) t s.inside free leave) in
       let same : Sees (word_at u c.once) first (is_shut_to t u.inside) ≡ Sees (does.written (act_of p) w) first shut =
-      same_view _ _ _ _ _ _ (word_here s.words c.once (does.written (act_of p) w) sits.low) refl (shut_after (act_of p) t s.inside free leave) in
+      same_view _ _ _ _ _ _ (word_here s.words c.once (does.written (act_of p) w) sits.low) refl
+      (shut_after (act_of p) t s.inside free leave) in
       one_pays u (Some d) refl (omega (
         arith,
         fall,
@@ -144,7 +170,8 @@ module _ (s : Onces) (t : ℕ) (c : OpenCall) (fits : Fits s) (here : call_at s 
         ap (phase_steps n (Sees w first shut)) e,
       ))
 
-  pub finds_pay : (well : Bool) (taken : ℕ) → p ≡ Scans well taken → Pays t s (with_call s t (Some (told c (seen.Took None false))))
+  pub finds_pay : (well : Bool) (taken : ℕ) → p ≡ Scans well taken
+      → Pays t s (with_call s t (Some (told c (seen.Took None false))))
   finds_pay well taken e =
       let d : OpenCall = told c (seen.Took None false) in
       let u : Onces = with_call s t (Some d) in
@@ -170,19 +197,28 @@ module _ (s : Onces) (t : ℕ) (c : OpenCall) (fits : Fits s) (here : call_at s 
       ))
 
   -- where another's call changes too
-  two_pay : (u : Onces) (v k : ℕ) (x : Option OpenCall) (d : OpenCall) → u.calls ≡ slice_set (slice_set s.calls v x) t (Some d) → far_steps n x ≤ far_steps n (call_at s v) + k
+  two_pay : (u : Onces) (v k : ℕ) (x : Option OpenCall) (d : OpenCall) → u.calls ≡ slice_set (slice_set s.calls v x) t
+      (Some d) → far_steps n x ≤ far_steps n (call_at s v) + k
       → own_steps u t (Some d) + (1 + k) ≤ phase_steps n (Sees w first shut) p → Pays t s u
   two_pay u v k x d e more own = pays_by s u t k c (Some d) here
-      (ap (λ cs. call_in cs t) e ∙ call_here (slice_set s.calls v x) t (Some d) (omega (arith, low, length-set s.calls v x)))
-      (ap (λ (cs : List (Option OpenCall)). length cs) e ∙ length-set (slice_set s.calls v x) t (Some d) ∙ length-set s.calls v x)
-      (omega (arith, ap (λ cs. far n cs t) e, others_same n (slice_set s.calls v x) t (Some d), others_change n s.calls t v k x more))
+      (ap (λ cs. call_in cs t) e ∙ call_here (slice_set s.calls v x) t (Some d)
+      (omega (arith, low, length-set s.calls v x)))
+      (ap (λ (cs : List (Option OpenCall)). length cs) e ∙ length-set (slice_set s.calls v x) t (Some d)
+      ∙ length-set s.calls v x)
+      (omega (
+        arith,
+        ap (λ cs. far n cs t) e,
+        others_same n (slice_set s.calls v x) t (Some d),
+        others_change n s.calls t v k x more,
+      ))
       (omega (arith, own))
 
   off_far : (o : Option OpenCall) → far_steps n (option_map (off_list t) o) ≤ far_steps n o + 0
   off_far None = omega arith
   off_far (Some b) = omega arith
 
-  pub takes_pay : (well : Bool) (taken m : ℕ) → p ≡ Scans well taken → IsFirst c.once s.waiting m → Pays t s (took_at s t c m (thread_in s.waiting m))
+  pub takes_pay : (well : Bool) (taken m : ℕ) → p ≡ Scans well taken → IsFirst c.once s.waiting m
+      → Pays t s (took_at s t c m (thread_in s.waiting m))
   takes_pay well taken m e at =
       let v : ℕ = thread_in s.waiting m in
       let rest : List ℕ = list_of (remove s.waiting m) c.once in
@@ -194,14 +230,18 @@ module _ (s : Onces) (t : ℕ) (c : OpenCall) (fits : Fits s) (here : call_at s 
       two_pay u v 0 (option_map (off_list t) (call_at s v)) d refl (off_far (call_at s v)) (omega (
         arith,
         takes_falls n taken w (length rest) well (does.is_left (remove s.waiting m) c.once),
-        ap (λ k. phase_steps k (view_of u t d) d.core.phase) (length-set (slice_set s.calls v (option_map (off_list t) (call_at s v))) t (Some d) ∙ length-set s.calls v (option_map (off_list t) (call_at s v))),
+        ap (λ k. phase_steps k (view_of u t d) d.core.phase)
+            (length-set (slice_set s.calls v (option_map (off_list t) (call_at s v))) t (Some d)
+            ∙ length-set s.calls v (option_map (off_list t) (call_at s v))),
         ap (λ y. phase_steps n (Sees w (length rest) y) d.core.phase) open_now,
         ap (λ q. phase_steps n (Sees w (length rest) false) (next_phase q given)) e,
         ap (phase_steps n (Sees w first shut)) e,
-        ap (λ y. phase_steps n y (Scans well taken)) (same_view w w first (suc (length rest)) shut false refl longer open_now),
+        ap (λ y. phase_steps n y (Scans well taken))
+            (same_view w w first (suc (length rest)) shut false refl longer open_now),
       ))
 
-  woken_far : (o : Option OpenCall) (b : OpenCall) (wish : Wish) → o ≡ Some b → b.core.phase ≡ Sleeps wish → far_steps n (option_map woken o) ≤ far_steps n o + 51
+  woken_far : (o : Option OpenCall) (b : OpenCall) (wish : Wish) → o ≡ Some b → b.core.phase ≡ Sleeps wish
+      → far_steps n (option_map woken o) ≤ far_steps n o + 51
   woken_far o b wish e f = omega (
     arith,
     ap (λ x. far_steps n (option_map woken x)) e,
@@ -210,7 +250,9 @@ module _ (s : Onces) (t : ℕ) (c : OpenCall) (fits : Fits s) (here : call_at s 
     ap (λ q. phase_steps n Unseen (next_phase q (seen.Woken (record { 0 = 0 })))) f,
   )
 
-  pub wakes_pay : (count m : ℕ) → p ≡ Wakes count → (b : OpenCall) (wish : Wish) → call_at s (thread_in s.wakes m) ≡ Some b → b.core.phase ≡ Sleeps wish → Pays t s (woke_at s t c m (thread_in s.wakes m))
+  pub wakes_pay : (count m : ℕ) → p ≡ Wakes count → (b : OpenCall) (wish : Wish)
+      → call_at s (thread_in s.wakes m) ≡ Some b → b.core.phase ≡ Sleeps wish
+      → Pays t s (woke_at s t c m (thread_in s.wakes m))
   wakes_pay count m e b wish there asleep =
       let v : ℕ = thread_in s.wakes m in
       let u : Onces = woke_at s t c m v in
@@ -219,7 +261,9 @@ module _ (s : Onces) (t : ℕ) (c : OpenCall) (fits : Fits s) (here : call_at s 
         arith,
         wakes_le n w first shut (count - 1),
         subst (Knows (list_of s.waiting c.once)) e sits.knows,
-        ap (λ k. phase_steps k (view_of u t d) d.core.phase) (length-set (slice_set s.calls v (option_map woken (call_at s v))) t (Some d) ∙ length-set s.calls v (option_map woken (call_at s v))),
+        ap (λ k. phase_steps k (view_of u t d) d.core.phase)
+            (length-set (slice_set s.calls v (option_map woken (call_at s v))) t (Some d)
+            ∙ length-set s.calls v (option_map woken (call_at s v))),
         ap (λ q. phase_steps n (Sees w first shut) (next_phase q seen.Made)) e,
         ap (phase_steps n (Sees w first shut)) e,
       ))
@@ -245,14 +289,16 @@ begins_cost s t i call may =
 module _ (s : Onces) (fits : Fits s) where
   own_less : (t : ℕ) (o : Option OpenCall) → call_at s t ≡ o → own_steps s t o ≤ far_steps (length s.calls) o
   own_less t None e = omega arith
-  own_less t (Some c) e = sees_less (length s.calls) c.core.phase (word_at s c.once) (length (list_of s.waiting c.once)) (is_shut_to t s.inside) (first_le s fits c.once)
+  own_less t (Some c) e = sees_less (length s.calls) c.core.phase (word_at s c.once) (length (list_of s.waiting c.once))
+      (is_shut_to t s.inside) (first_le s fits c.once)
 
   -- it stands before a section that another is in
   shut_so : (t : ℕ) (o : Option ℕ) → is_the o t ≡ false → is_none o ≡ false → is_shut_to t o ≡ true
   shut_so t None e f = absurd cc
   shut_so t (Some u) e f = ap not e
 
-  stuck_so : (t : ℕ) (c : OpenCall) (p : OncePhase) → is_in_section p ≡ is_the s.inside t → is_possible (is_none s.inside) (act_of p) ≡ false → IsStuck (act_of p) (is_shut_to t s.inside)
+  stuck_so : (t : ℕ) (c : OpenCall) (p : OncePhase) → is_in_section p ≡ is_the s.inside t
+      → is_possible (is_none s.inside) (act_of p) ≡ false → IsStuck (act_of p) (is_shut_to t s.inside)
   stuck_so t c (Enters wish) out e = shut_so t s.inside (sym out) e
   stuck_so t c (Looks well) out e = shut_so t s.inside (sym out) e
   stuck_so t c (Sleeps wish) out e = tt
@@ -275,23 +321,50 @@ module _ (s : Onces) (fits : Fits s) where
   stuck_so t c (Ends answer) out e = absurd cc
   stuck_so t c Invalid out e = absurd cc
 
-  own_same : (t : ℕ) (o : Option OpenCall) → call_at s t ≡ o → option_map_or (λ c. is_possible (is_none s.inside) (act_of c.core.phase)) o false ≡ false → far_steps (length s.calls) o ≤ own_steps s t o
+  own_same : (t : ℕ) (o : Option OpenCall) → call_at s t ≡ o
+      → option_map_or (λ c. is_possible (is_none s.inside) (act_of c.core.phase)) o false ≡ false
+      → far_steps (length s.calls) o ≤ own_steps s t o
   own_same t None e stuck = omega arith
-  own_same t (Some c) e stuck = stuck_same (length s.calls) c.core.phase (word_at s c.once) (length (list_of s.waiting c.once)) (is_shut_to t s.inside) (stuck_so t c c.core.phase (fits.seated t c e).section stuck)
+  own_same t (Some c) e stuck = stuck_same (length s.calls) c.core.phase (word_at s c.once)
+      (length (list_of s.waiting c.once)) (is_shut_to t s.inside)
+      (stuck_so t c c.core.phase (fits.seated t c e).section stuck)
 
   left_le : (t : ℕ) → left s t ≤ sum_by (far_steps (length s.calls)) s.calls
   left_le t = omega (arith, own_less t (call_at s t) refl, others_and_one (length s.calls) s.calls t)
 
   pub any_may_be_stepped : (t : ℕ) → can_move s t ≡ false → AnyMayBeStepped s t
-  any_may_be_stepped t stuck u = omega (arith, left_le u, own_same t (call_at s t) refl stuck, others_and_one (length s.calls) s.calls t)
+  any_may_be_stepped t stuck u =
+      omega (arith, left_le u, own_same t (call_at s t) refl stuck, others_and_one (length s.calls) s.calls t)
 
   few_of : (c : OpenCall) (t : ℕ) → call_at s t ≡ Some c → far_steps (length s.calls) (Some c) ≤ most (length s.calls)
-  few_of c t here = let sits = fits.seated t c here in few_steps (length s.calls) c.core.phase sits.few (omega (arith, sits.taken, taken_le s fits t))
+  few_of c t here = let sits = fits.seated t c here in few_steps (length s.calls) c.core.phase sits.few
+      (omega (arith, sits.taken, taken_le s fits t))
 
-few_all : (n k : ℕ) (calls : List (Option OpenCall)) → ((t : ℕ) (c : OpenCall) → call_in calls t ≡ Some c → far_steps n (Some c) ≤ k) → sum_by (far_steps n) calls ≤ length calls * k
+few_all : (n k : ℕ) (calls : List (Option OpenCall))
+    → ((t : ℕ) (c : OpenCall) → call_in calls t ≡ Some c → far_steps n (Some c) ≤ k)
+    → sum_by (far_steps n) calls ≤ length calls * k
 few_all n k [] h = omega arith
-few_all n k (None ∷ calls) h = omega (arith, sum_by-cons (far_steps n) None calls, few_all n k calls (λ t c e. h (suc t) c e), suc-mul (length calls) k)
-few_all n k (Some c ∷ calls) h = omega (arith, sum_by-cons (far_steps n) (Some c) calls, h 0 c refl, few_all n k calls (λ t d e. h (suc t) d e), suc-mul (length calls) k)
+few_all n k (None ∷ calls) h =
+    omega (
+      arith,
+      sum_by-cons (far_steps n) None calls,
+      few_all n k calls (λ t c e. h (suc t) c e),
+      suc-mul (length calls) k,
+    )
+few_all n k (Some c ∷ calls) h =
+    omega (
+      arith,
+      sum_by-cons (far_steps n) (Some c) calls,
+      h 0 c refl,
+      few_all n k calls (λ t d e. h (suc t) d e),
+      suc-mul (length calls) k,
+    )
 
 pub few_are_left : (s : Onces) → Fits s → FewAreLeft s
-few_are_left s fits t = omega (arith, left_le s fits t, few_all (length s.calls) (most (length s.calls)) s.calls (λ x c e. few_of s fits c x e))
+few_are_left s fits t =
+    omega (
+      arith,
+      left_le s fits t,
+      few_all (length s.calls) (most (length s.calls)) s.calls
+          (λ x c e. few_of s fits c x e),
+    )

@@ -1,5 +1,6 @@
 -- A new machine fits together.
-use Rattle.std.proofs.Common.{◌≡◌, ℕ, zero, suc, ◌+◌, ◌≤◌, false, [], ◌∷◌, length, replicate, count_by, Option, None, slice_get, refl, sym, ap, ◌∙◌, subst, arith}
+use Rattle.std.proofs.Common.{◌≡◌, ℕ, zero, suc, ◌+◌, ◌≤◌, false, [], ◌∷◌, length, replicate, count_by, Option, None}
+use Rattle.std.proofs.Common.{slice_get, refl, sym, ap, ◌∙◌, subst, arith}
 use Rattle.std.proofs.lemmas.Option.{none-some}
 use Rattle.std.specs.Option.{option_map_or}
 use Rattle.parking_lot_core_model.proofs.Numbers.{count_by-cons}
@@ -40,7 +41,8 @@ module _ (threads onces : ℕ) (few : threads ≤ 65536) where
 
   same : (i : ℕ) → unused false threads ≡ once_at s i
   same i = same_once _ _ _ _ _ _ (sym (ap word_of (no_word onces i)))
-      (sym (ap (λ n. all (role_at s i) 0 n) (threads_at_rest threads) ∙ all_idle (role_at s i) 0 threads (λ x. ap (role_in i []) (no_call threads x)))) refl
+      (sym (ap (λ n. all (role_at s i) 0 n) (threads_at_rest threads)
+      ∙ all_idle (role_at s i) 0 threads (λ x. ap (role_in i []) (no_call threads x)))) refl
 
   pub rest_fits : Fits s
   rest_fits = record {

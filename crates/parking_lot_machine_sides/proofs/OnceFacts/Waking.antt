@@ -1,5 +1,6 @@
 -- One that has taken waiters wakes the first of them.
-use Rattle.std.proofs.Common.{◌≡◌, ◌≢◌, ℕ, ◌-◌, ◌^◌, ◌<◌, ◌≤◌, inl, Bool, true, false, cond, List, [], ◌∷◌, length, Some, None, slice_get, slice_set, refl, sym, ap, ◌∙◌, subst, arith}
+use Rattle.std.proofs.Common.{◌≡◌, ◌≢◌, ℕ, ◌-◌, ◌^◌, ◌<◌, ◌≤◌, inl, Bool, true, false, cond, List, [], ◌∷◌, length}
+use Rattle.std.proofs.Common.{Some, None, slice_get, slice_set, refl, sym, ap, ◌∙◌, subst, arith}
 use Rattle.std.proofs.lemmas.List.Sums.{count_by-le-length}
 use Rattle.std.proofs.lemmas.Option.{same_Some}
 use Rattle.parking_lot_protocol.specs.declared.act.Act.TheVariants as act
@@ -8,15 +9,25 @@ use Rattle.parking_lot_protocol.specs.declared.act.ActResult.{ActResult}
 use Rattle.parking_lot_protocol.specs.declared.act.ActResult.TheVariants as seen
 use Rattle.parking_lot_protocol.specs.Acts.{Gives}
 use Rattle.parking_lot_rules.specs.declared.once.wish.Wish.{Wish}
-use Rattle.parking_lot_rules.specs.Once.Once.{Role, Idle, Word, Once, Step, Plain, Alone, Begin, Start, Complete, Refuse, Flag, Enter, Check, Retreat, Rest, Return, Finish, Look, Store, Depart, Leave, Allowed, after, May, written, from, to, Class, Inside, Listed, weight, total, number, waits}
+use Rattle.parking_lot_rules.specs.Once.Once.{Role, Idle, Word, Once, Step, Plain, Alone, Begin, Start, Complete}
+use Rattle.parking_lot_rules.specs.Once.Once.{Refuse, Flag, Enter, Check, Retreat, Rest, Return, Finish, Look, Store}
+use Rattle.parking_lot_rules.specs.Once.Once.{Depart, Leave, Allowed, after, May, written, from, to, Class, Inside}
+use Rattle.parking_lot_rules.specs.Once.Once.{Listed, weight, total, number, waits}
 use Rattle.parking_lot_protocol_waits.specs.declared.once.once_phase.OncePhase.{OncePhase}
-use Rattle.parking_lot_protocol_waits.specs.declared.once.once_phase.OncePhase.TheVariants.{Asking, Returning, Loads, Starts, Spins, Parks, Enters, Checks, Retreats, Appends, Rests, Sleeps, Stores, Looks, Scans, Clears, Leaves, Wakes, Finishes, Ends, Invalid}
+use Rattle.parking_lot_protocol_waits.specs.declared.once.once_phase.OncePhase.TheVariants.{Asking, Returning, Loads}
+use Rattle.parking_lot_protocol_waits.specs.declared.once.once_phase.OncePhase.TheVariants.{Starts, Spins, Parks}
+use Rattle.parking_lot_protocol_waits.specs.declared.once.once_phase.OncePhase.TheVariants.{Enters, Checks, Retreats}
+use Rattle.parking_lot_protocol_waits.specs.declared.once.once_phase.OncePhase.TheVariants.{Appends, Rests, Sleeps}
+use Rattle.parking_lot_protocol_waits.specs.declared.once.once_phase.OncePhase.TheVariants.{Stores, Looks, Scans}
+use Rattle.parking_lot_protocol_waits.specs.declared.once.once_phase.OncePhase.TheVariants.{Clears, Leaves, Wakes}
+use Rattle.parking_lot_protocol_waits.specs.declared.once.once_phase.OncePhase.TheVariants.{Finishes, Ends, Invalid}
 use Rattle.parking_lot_protocol_waits.specs.Once.OnceMoves.{Move, WakesOne, role, IsMove, IsReady}
 use Rattle.parking_lot_protocol_waits.specs.Once.OnceTable.{act_of, next_phase}
 use Rattle.parking_lot_protocol_waits.proofs.OnceFacts.OnceFollowing.{follows}
 use Rattle.parking_lot_machine_sides.specs.Once.Entries.{list_of}
 use Rattle.parking_lot_machine_sides.specs.Once.OnceActs.{shown, told}
-use Rattle.parking_lot_machine_sides.specs.Once.OnceFits.{Fits, Sits, Knows, is_in_section, is_listed, is_sleeping, lies, taken_count, rounds_of}
+use Rattle.parking_lot_machine_sides.specs.Once.OnceFits.{Fits, Sits, Knows, is_in_section, is_listed, is_sleeping}
+use Rattle.parking_lot_machine_sides.specs.Once.OnceFits.{lies, taken_count, rounds_of}
 use Rattle.parking_lot_machine_sides.specs.Once.OnceSteps.{IsLawful, given_by, move_by, move_of}
 use Rattle.parking_lot_machine_sides.specs.declared.once.open_call.OpenCall.{OpenCall}
 use Rattle.parking_lot_machine_sides.specs.Once.Onces.{Onces, word_at, call_at, known_of, word_of, once_at}
@@ -91,7 +102,8 @@ wakes_is Finishes e = absurd cc
 wakes_is (Ends answer) e = absurd cc
 wakes_is Invalid e = absurd cc
 
-module _ (s : Onces) (t : ℕ) (c : OpenCall) (fits : Fits s) (here : call_at s t ≡ Some c) (count : ℕ) (e : c.core.phase ≡ Wakes count) where
+module _ (s : Onces) (t : ℕ) (c : OpenCall) (fits : Fits s) (here : call_at s t ≡ Some c) (count : ℕ)
+    (e : c.core.phase ≡ Wakes count) where
   abbrev us : List ℕ
   us = list_of s.wakes t
 
@@ -103,7 +115,13 @@ module _ (s : Onces) (t : ℕ) (c : OpenCall) (fits : Fits s) (here : call_at s 
 
   -- there is somebody
   pub somebody : us ≡ [] → ⊥
-  somebody none = omega (arith, subst (Knows queue) e sits.knows, ap taken_count e, sits.taken, ap (λ (vs : List ℕ). length vs) none)
+  somebody none = omega (
+    arith,
+    subst (Knows queue) e sits.knows,
+    ap taken_count e,
+    sits.taken,
+    ap (λ (vs : List ℕ). length vs) none,
+  )
 
   module _ (n : ℕ) (first : IsFirst t s.wakes n) where
     abbrev v : ℕ
@@ -122,12 +140,14 @@ module _ (s : Onces) (t : ℕ) (c : OpenCall) (fits : Fits s) (here : call_at s 
     waking = ap (role c.taker (known_of us c)) e ∙ ap (λ vs. rules.Wakes vs) stands_first
 
     found : (wish : Wish) × (slice_get (once_at s c.once).roles v ≡ Some (rules.Taken wish t))
-    found = (wakers_can_go_on (once_at s c.once) (fits.sound c.once)).wakes t v rest (role_now s t c here ∙ ap Some waking)
+    found = (wakers_can_go_on (once_at s c.once) (fits.sound c.once)).wakes t v rest
+        (role_now s t c here ∙ ap Some waking)
 
     abbrev wish : Wish
     wish = found.0
 
-    sleeper : (b : OpenCall) × (call_at s v ≡ Some b) × (b.once ≡ c.once) × (plays b (list_of s.wakes v) ≡ rules.Taken wish t)
+    sleeper : (b : OpenCall) × (call_at s v ≡ Some b) × (b.once ≡ c.once)
+        × (plays b (list_of s.wakes v) ≡ rules.Taken wish t)
     sleeper = who_plays s c.once v (rules.Taken wish t) found.1 (not_idle wish t)
 
     abbrev b : OpenCall
@@ -137,7 +157,9 @@ module _ (s : Onces) (t : ℕ) (c : OpenCall) (fits : Fits s) (here : call_at s 
     asleep = taken_so b.taker (known_of (list_of s.wakes v) b) b.core.phase wish t sleeper.3
 
     apart : v ≢ t
-    apart eq = asleep_apart count wish (sym e ∙ ap (λ (x : OpenCall). x.core.phase) (same_Some c b (sym here ∙ ap (call_at s) (sym eq) ∙ sleeper.1)) ∙ asleep)
+    apart eq = asleep_apart count wish
+        (sym e ∙ ap (λ (x : OpenCall). x.core.phase) (same_Some c b (sym here ∙ ap (call_at s) (sym eq) ∙ sleeper.1))
+        ∙ asleep)
 
     abbrev d : OpenCall
     d = told c seen.Made
@@ -157,8 +179,10 @@ module _ (s : Onces) (t : ℕ) (c : OpenCall) (fits : Fits s) (here : call_at s 
     few : length us < 2 ^ 32 - 1
     few = omega (arith, short t s.wakes, fits.room, count_by-le-length lies s.calls, fits.small)
 
-    followed : IsMove WakesOne (known_of us c) (Wakes count) (wakes (count - 1)) (word_of (word_at s c.once)) (number (word_of (word_at s c.once))) × IsReady (wakes (count - 1))
-    followed = follows (Wakes count) seen.Made (known_of us c) (word_of (word_at s c.once)) tt (fits.sound c.once).fits.bit (sits.taken ∙ ap taken_count e) few tt
+    followed : IsMove WakesOne (known_of us c) (Wakes count) (wakes (count - 1)) (word_of (word_at s c.once))
+        (number (word_of (word_at s c.once))) × IsReady (wakes (count - 1))
+    followed = follows (Wakes count) seen.Made (known_of us c) (word_of (word_at s c.once)) tt
+        (fits.sound c.once).fits.bit (sits.taken ∙ ap taken_count e) few tt
 
     two : Two s u t v c.once d f
     two = record {
@@ -170,7 +194,8 @@ module _ (s : Onces) (t : ℕ) (c : OpenCall) (fits : Fits s) (here : call_at s 
     }
 
     first_is : plays d rest ≡ rules.Wakes rest
-    first_is = ap (λ by. role by (known_of rest d) d.core.phase) awake ∙ ap (role None (known_of rest d)) next ∙ (followed.0 v rest stands_first).1
+    first_is = ap (λ by. role by (known_of rest d) d.core.phase) awake ∙ ap (role None (known_of rest d)) next
+        ∙ (followed.0 v rest stands_first).1
 
     second_is : plays f (list_of s.wakes v) ≡ rules.Seeks wish
     second_is = ap (role None (known_of (list_of s.wakes v) f)) wakened
@@ -179,7 +204,9 @@ module _ (s : Onces) (t : ℕ) (c : OpenCall) (fits : Fits s) (here : call_at s 
     lawful = record {
       here = (
         (role_now s t c here ∙ ap Some waking, found.1),
-        same_once _ _ _ _ _ _ refl (roles_second s u t v c b d f fits here sleeper.1 apart sleeper.2 refl sleeper.2 two (rules.Wakes rest) (rules.Seeks wish) first_is second_is) refl,
+        same_once _ _ _ _ _ _ refl
+            (roles_second s u t v c b d f fits here sleeper.1 apart sleeper.2 refl sleeper.2 two (rules.Wakes rest)
+            (rules.Seeks wish) first_is second_is) refl,
       );
       there = two_beyond s u t v c b d f fits here sleeper.1 apart sleeper.2 refl sleeper.2 two;
     }
@@ -187,9 +214,17 @@ module _ (s : Onces) (t : ℕ) (c : OpenCall) (fits : Fits s) (here : call_at s 
     first_sits : Sits (length s.words) t d rest queue s.inside
     first_sits = record {
       low = sits.low;
-      goes = goes_so c.call c.before c.core.phase seen.Made 0 sits.goes (subst (λ p. Gives (act_of p) 0 seen.Made) (sym e) tt);
+      goes = goes_so c.call c.before c.core.phase seen.Made 0 sits.goes
+          (subst (λ p. Gives (act_of p) 0 seen.Made) (sym e) tt);
       ready = subst IsReady (sym next) followed.1;
-      taken = omega (arith, ap (λ (vs : List ℕ). length vs) stands_first, sits.taken, ap taken_count e, ap taken_count next, wakes_count (count - 1));
+      taken = omega (
+        arith,
+        ap (λ (vs : List ℕ). length vs) stands_first,
+        sits.taken,
+        ap taken_count e,
+        ap taken_count next,
+        wakes_count (count - 1),
+      );
       knows = subst (Knows queue) (sym next) (wakes_know queue (count - 1));
       few = subst (λ p. rounds_of p ≤ 10) (sym next) (wakes_few (count - 1));
       section = ap is_in_section next ∙ wakes_outside (count - 1) ∙ sym (ap is_in_section e) ∙ sits.section;
@@ -202,9 +237,11 @@ module _ (s : Onces) (t : ℕ) (c : OpenCall) (fits : Fits s) (here : call_at s 
     second_sits : Sits (length s.words) v f (list_of u.wakes v) (list_of s.waiting b.once) s.inside
     second_sits = record {
       low = sits_there.low;
-      goes = goes_so b.call b.before b.core.phase (seen.Woken (record { 0 = 0 })) 0 sits_there.goes (subst (λ p. Gives (act_of p) 0 (seen.Woken (record { 0 = 0 }))) (sym asleep) tt);
+      goes = goes_so b.call b.before b.core.phase (seen.Woken (record { 0 = 0 })) 0 sits_there.goes
+          (subst (λ p. Gives (act_of p) 0 (seen.Woken (record { 0 = 0 }))) (sym asleep) tt);
       ready = subst IsReady (sym wakened) tt;
-      taken = ap (λ (vs : List ℕ). length vs) (out_other t s.wakes n v first apart) ∙ sits_there.taken ∙ ap taken_count asleep ∙ sym (ap taken_count wakened);
+      taken = ap (λ (vs : List ℕ). length vs) (out_other t s.wakes n v first apart) ∙ sits_there.taken
+          ∙ ap taken_count asleep ∙ sym (ap taken_count wakened);
       knows = subst (Knows (list_of s.waiting b.once)) (sym wakened) tt;
       few = subst (λ p. rounds_of p ≤ 10) (sym wakened) (omega arith);
       section = ap is_in_section wakened ∙ sym (ap is_in_section asleep) ∙ sits_there.section;
@@ -212,7 +249,8 @@ module _ (s : Onces) (t : ℕ) (c : OpenCall) (fits : Fits s) (here : call_at s 
     }
 
     woken_fits : Fits u
-    woken_fits = fits_two s u t v c b d f fits here sleeper.1 apart sleeper.2 refl sleeper.2 two (Some (Wake v rest wish)) lawful first_sits second_sits
+    woken_fits = fits_two s u t v c b d f fits here sleeper.1 apart sleeper.2 refl sleeper.2 two
+        (Some (Wake v rest wish)) lawful first_sits second_sits
         (inl refl)
         (omega (
           arith,
@@ -229,8 +267,15 @@ module _ (s : Onces) (t : ℕ) (c : OpenCall) (fits : Fits s) (here : call_at s 
     move_on (y ∷ ys) x = refl
 
     pub wakes_one : Made t c (move_of s t c) s u
-    wakes_one = subst (λ (p : OncePhase). Made t c (move_by us c (given_by queue (shown (act_of c.core.phase) (word_at s c.once)) p) p) s u) (sym e)
-        (subst (λ (m : Move). Made t c m s u) (sym (move_on queue (shown (act_of c.core.phase) (word_at s c.once)))) (record { step = Some (Wake v rest wish); named = (v, rest, wish, refl); lawful = lawful; fits = woken_fits }))
+    wakes_one = subst (λ (p : OncePhase). Made t c
+        (move_by us c (given_by queue (shown (act_of c.core.phase) (word_at s c.once)) p) p) s u) (sym e)
+        (subst (λ (m : Move). Made t c m s u) (sym (move_on queue (shown (act_of c.core.phase) (word_at s c.once))))
+        (record {
+          step = Some (Wake v rest wish);
+          named = (v, rest, wish, refl);
+          lawful = lawful;
+          fits = woken_fits;
+        }))
 
     -- whom it wakes
     pub whom : (b : OpenCall) × (wish : Wish) × (call_at s v ≡ Some b) × (b.core.phase ≡ Sleeps wish) × (v ≢ t)

@@ -11,7 +11,8 @@ use Rattle.parking_lot_protocol_waits.specs.declared.notify_core.NotifyPhase.The
 use Rattle.parking_lot_protocol_waits.specs.WaitTable.{wait_told}
 use Rattle.parking_lot_protocol_waits.specs.NotifyTable.{notify_told}
 use Rattle.parking_lot_machine_sides.specs.declared.condvar.calls.CondvarCall.{CondvarCall}
-use Rattle.parking_lot_machine_sides.specs.declared.condvar.calls.CondvarCall.TheVariants.{Wait, WaitUntil, NotifyOne, NotifyAll}
+use Rattle.parking_lot_machine_sides.specs.declared.condvar.calls.CondvarCall.TheVariants.{Wait, WaitUntil, NotifyOne}
+use Rattle.parking_lot_machine_sides.specs.declared.condvar.calls.CondvarCall.TheVariants.{NotifyAll}
 use Rattle.parking_lot_machine_sides.specs.declared.condvar.calls.CondvarReply.{CondvarReply}
 use Rattle.parking_lot_machine_sides.specs.declared.condvar.calls.CondvarReply.TheVariants as reply
 use Rattle.parking_lot_machine_sides.specs.declared.condvar.open_call.Core.{Core}

@@ -9,7 +9,8 @@ use Rattle.parking_lot_protocol_waits.specs.declared.wait_core.WaitPhase.TheVari
 use Rattle.parking_lot_protocol_waits.specs.declared.notify_core.NotifyPhase.{NotifyPhase}
 use Rattle.parking_lot_protocol_waits.specs.declared.notify_core.NotifyPhase.TheVariants as n
 use Rattle.parking_lot_machine_sides.specs.declared.condvar.calls.CondvarCall.{CondvarCall}
-use Rattle.parking_lot_machine_sides.specs.declared.condvar.calls.CondvarCall.TheVariants.{Wait, WaitUntil, NotifyOne, NotifyAll}
+use Rattle.parking_lot_machine_sides.specs.declared.condvar.calls.CondvarCall.TheVariants.{Wait, WaitUntil, NotifyOne}
+use Rattle.parking_lot_machine_sides.specs.declared.condvar.calls.CondvarCall.TheVariants.{NotifyAll}
 use Rattle.parking_lot_machine_sides.specs.declared.condvar.open_call.Core.{Core}
 use Rattle.parking_lot_machine_sides.specs.declared.condvar.open_call.Core.TheVariants as core
 use Rattle.parking_lot_machine_sides.specs.Condvar.Calls.{OpenCall, is_of_all, is_timed}
@@ -27,8 +28,8 @@ EndsInTime timed answer.WrongMutex = Unit {0}
 EndsInTime timed answer.TimedOut = timed ≡ true
 EndsInTime timed answer.WrongLot = ⊥
 
--- A wait is under way: what it knows is so, where so many wait, with a mutex whose number can be shown. It hasn't been taken off the list before it
--- has slept, and it gives up only if it has a deadline.
+-- A wait is under way: what it knows is so, where so many wait, with a mutex whose number can be shown. It hasn't been
+-- taken off the list before it has slept, and it gives up only if it has a deadline.
 abbrev pub WaitKnows : Bool → Bool → ℕ → WaitPhase → Type 0
 WaitKnows timed listed waiting (w.Enters k) = (listed ≡ true) × (k + 1 < 2 ^ 64)
 WaitKnows timed listed waiting (w.Checks k) = (listed ≡ true) × (k + 1 < 2 ^ 64)
@@ -54,15 +55,20 @@ abbrev pub TakesFew : Bool → ℕ → Type 0
 TakesFew true taken = Unit {0}
 TakesFew false taken = taken ≤ 1
 
--- A notification is under way: what it knows is so, among so many threads, at that word, where so many wait. It counts whom it has taken.
+-- A notification is under way: what it knows is so, among so many threads, at that word, where so many wait. It counts
+-- whom it has taken.
 abbrev pub NotifyKnows : Bool → ℕ → ℕ → ℕ → ℕ → NotifyPhase → Type 0
 NotifyKnows of_all threads word waiting taken (n.Loads all) = (all ≡ of_all) × (taken ≡ 0)
 NotifyKnows of_all threads word waiting taken (n.Enters all found) = (all ≡ of_all) × (taken ≡ 0)
-NotifyKnows of_all threads word waiting taken (n.Checks all found) = (all ≡ of_all) × (taken ≡ 0) × (0 < word → 0 < waiting)
+NotifyKnows of_all threads word waiting taken (n.Checks all found) = (all ≡ of_all) × (taken ≡ 0)
+    × (0 < word → 0 < waiting)
 NotifyKnows of_all threads word waiting taken (n.Marks all) = (all ≡ of_all) × (taken ≡ 0)
-NotifyKnows of_all threads word waiting taken (n.Moves all locked) = (all ≡ of_all) × (taken + waiting ≤ threads) × TakesFew of_all taken
-NotifyKnows of_all threads word waiting taken (n.MarksRest notice) = (notice.count ≡ taken) × (notice.left ≡ false) × (waiting ≡ 0) × TakesFew of_all taken
-NotifyKnows of_all threads word waiting taken (n.Forgets notice) = (notice.count ≡ taken) × (waiting ≡ 0) × TakesFew of_all taken
+NotifyKnows of_all threads word waiting taken (n.Moves all locked) = (all ≡ of_all) × (taken + waiting ≤ threads)
+    × TakesFew of_all taken
+NotifyKnows of_all threads word waiting taken (n.MarksRest notice) = (notice.count ≡ taken) × (notice.left ≡ false)
+    × (waiting ≡ 0) × TakesFew of_all taken
+NotifyKnows of_all threads word waiting taken (n.Forgets notice) = (notice.count ≡ taken) × (waiting ≡ 0)
+    × TakesFew of_all taken
 NotifyKnows of_all threads word waiting taken (n.Leaves notice) = (notice.count ≡ taken) × TakesFew of_all taken
 NotifyKnows of_all threads word waiting taken (n.Wakes count) = (count ≡ taken) × TakesFew of_all taken
 NotifyKnows of_all threads word waiting taken (n.Ends count) = (count ≡ taken) × TakesFew of_all taken
@@ -79,8 +85,10 @@ IsNotify NotifyAll = Unit {0}
 IsNotify call = ⊥
 
 abbrev pub Knows : CondvarCall → Bool → ℕ → ℕ → ℕ → ℕ → Core → Type 0
-Knows call listed threads word waiting taken (core.Wait k) = IsWait call × WaitKnows (is_timed call) listed waiting k.phase
-Knows call listed threads word waiting taken (core.Notify k) = IsNotify call × NotifyKnows (is_of_all call) threads word waiting taken k.phase
+Knows call listed threads word waiting taken (core.Wait k) = IsWait call × WaitKnows (is_timed call) listed waiting
+    k.phase
+Knows call listed threads word waiting taken (core.Notify k) = IsNotify call × NotifyKnows (is_of_all call) threads word
+    waiting taken k.phase
 
 -- what holds of a thread in a call
 pub record Sits (s : State) (t : ℕ) (c : OpenCall) : Type 0 where

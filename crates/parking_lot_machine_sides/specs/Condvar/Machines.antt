@@ -1,5 +1,6 @@
 -- What a machine of a condition variable consists of, and which condition variable of the rules it shows.
-use Rattle.std.specs.Prelude.{ℕ, ◌-◌, ◌^◌, ◌==◌, ◌&&◌, ◌||◌, nat_lt, is_none, Bool, true, false, not, List, [], length, map, replicate, Option, Some, None, slice_get}
+use Rattle.std.specs.Prelude.{ℕ, ◌-◌, ◌^◌, ◌==◌, ◌&&◌, ◌||◌, nat_lt, is_none, Bool, true, false, not, List, [], length}
+use Rattle.std.specs.Prelude.{map, replicate, Option, Some, None, slice_get}
 use Rattle.std.specs.Option.{option_and_then, option_map_or}
 use Rattle.parking_lot_rules.specs.Variable as rules
 use Rattle.parking_lot_protocol_waits.specs.WaitRules as waits

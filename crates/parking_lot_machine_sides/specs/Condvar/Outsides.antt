@@ -1,5 +1,6 @@
 -- What a call is told of acts that are made elsewhere, and which steps of the rules that is.
-use Rattle.std.specs.Prelude.{ℕ, ◌-◌, ◌==◌, ◌&&◌, ◌||◌, nat_lt, if◌then◌else◌, Bool, true, false, not, List, [], ◌∷◌, Option, Some, slice_set}
+use Rattle.std.specs.Prelude.{ℕ, ◌-◌, ◌==◌, ◌&&◌, ◌||◌, nat_lt, if◌then◌else◌, Bool, true, false, not, List, [], ◌∷◌}
+use Rattle.std.specs.Prelude.{Option, Some, slice_set}
 use Rattle.std.specs.Option.{option_map_or}
 use Rattle.parking_lot_rules.specs.Variable as rules
 use Rattle.parking_lot_protocol_waits.specs.declared.wait_act.WaitSeen.{WaitSeen}
@@ -34,7 +35,8 @@ wait_fits timed listed (w.Leaves here) outside.Made = not here
 wait_fits timed listed (w.Resumes token) outside.Made = true
 wait_fits timed listed p seen = false
 
--- A notification of all takes all, and one of one the first, if there is one. Of a mutex that isn't locked the first is woken, and nobody else.
+-- A notification of all takes all, and one of one the first, if there is one. Of a mutex that isn't locked the first is
+-- woken, and nobody else.
 abbrev pub is_whole : Bool → ℕ → Bool → Bool
 is_whole true taken left = not left
 is_whole false taken left = nat_lt taken 2 && not (left && (taken == 0))
@@ -43,11 +45,13 @@ abbrev pub woken_of : Bool → ℕ → ℕ
 woken_of locked taken = (if locked || (taken == 0) then 0 else 1)
 
 abbrev pub all_taken : ℕ → Bool → Bool → Bool → ℕ → ℕ → Bool
-all_taken taken left all locked unparked requeued = is_whole all taken left && ((unparked == woken_of locked taken) && (requeued == taken - woken_of locked taken))
+all_taken taken left all locked unparked requeued = is_whole all taken left
+    && ((unparked == woken_of locked taken) && (requeued == taken - woken_of locked taken))
 
 abbrev pub notify_fits : ℕ → Bool → NotifyPhase → Outside → Bool
 notify_fits taken left (n.Marks all) (outside.Marked locked) = true
-notify_fits taken left (n.Moves all locked) (outside.Moved unparked requeued) = all_taken taken left all locked unparked requeued
+notify_fits taken left (n.Moves all locked) (outside.Moved unparked requeued) = all_taken taken left all locked unparked
+    requeued
 notify_fits taken left (n.MarksRest notice) outside.Made = true
 notify_fits taken left (n.Wakes count) outside.Made = true
 notify_fits taken left p seen = false
@@ -106,7 +110,8 @@ closes true = closing rules.Notifies true ∷ []
 closes false = []
 
 abbrev pub notify_closes : Bool → NotifyPhase → Outside → List rules.Step
-notify_closes left (n.Moves all locked) (outside.Moved unparked requeued) = closes (left && not (not locked && nat_lt 0 requeued))
+notify_closes left (n.Moves all locked) (outside.Moved unparked requeued) =
+    closes (left && not (not locked && nat_lt 0 requeued))
 notify_closes left (n.MarksRest notice) seen = closes notice.left
 notify_closes left p seen = []
 

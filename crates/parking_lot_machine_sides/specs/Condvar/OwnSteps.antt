@@ -1,5 +1,6 @@
 -- What an act at the variable leaves of the machine, and which steps of the rules it is.
-use Rattle.std.specs.Prelude.{ℕ, ◌+◌, ◌==◌, ◌||◌, Bool, true, false, not, if◌then◌else◌, List, [], ◌∷◌, ◌++◌, remove, Option, Some, None, slice_set}
+use Rattle.std.specs.Prelude.{ℕ, ◌+◌, ◌==◌, ◌||◌, Bool, true, false, not, if◌then◌else◌, List, [], ◌∷◌, ◌++◌, remove}
+use Rattle.std.specs.Prelude.{Option, Some, None, slice_set}
 use Rattle.std.specs.List.{position}
 use Rattle.parking_lot_rules.specs.Variable as rules
 use Rattle.parking_lot_protocol_waits.specs.declared.wait_act.WaitSeen.{WaitSeen}
@@ -87,7 +88,8 @@ notify_goes c k seen p = Some (record c { core = core.Notify (notify_told k seen
 abbrev pub stepped_by : Core → State → ℕ → OpenCall → State
 stepped_by (core.Wait k) s t c = record {
   word = word_after_wait k.phase s.word;
-  calls = slice_set s.calls t (wait_goes c k (wait_sees s.word (is_left (queue_after_wait t k.phase s.queue)) k.phase) k.phase);
+  calls = slice_set s.calls t
+      (wait_goes c k (wait_sees s.word (is_left (queue_after_wait t k.phase s.queue)) k.phase) k.phase);
   queue = queue_after_wait t k.phase s.queue;
   inside = inside_after_wait t k.phase s.inside;
 }

@@ -27,8 +27,8 @@ pub record IsBegun (t : ℕ) (call : CondvarCall) (s u : State) : Type 0 where
   pub stays : variable u ≡ variable s
   pub costs : left u ≡ left s + cost (length s.calls) call
 
--- A thread in a call has made an act at the variable, and is answered where its call is over. All that the act changes follows from the call, it is
--- steps of the rules, and one step less is left.
+-- A thread in a call has made an act at the variable, and is answered where its call is over. All that the act changes
+-- follows from the call, it is steps of the rules, and one step less is left.
 pub record IsStepped (t : ℕ) (reply : Option CondvarReply) (s u : State) : Type 0 where
   pub call : OpenCall
   pub here : call_at s t ≡ Some call
@@ -39,9 +39,14 @@ pub record IsStepped (t : ℕ) (reply : Option CondvarReply) (s u : State) : Typ
 
 -- it takes v, the first, off the list
 abbrev pub taken_by : State → ℕ → OpenCall → ℕ → State
-taken_by s t c v = record s { calls = slice_set (slice_set s.calls v (option_map off_list (call_in s.calls v))) t (Some (took_one c)); queue = remove s.queue 0 }
+taken_by s t c v =
+    record s {
+      calls = slice_set (slice_set s.calls v (option_map off_list (call_in s.calls v))) t (Some (took_one c));
+      queue = remove s.queue 0;
+    }
 
--- A notification has taken the first that waits, and nothing else has changed: that is the rules' step, and one step less is left.
+-- A notification has taken the first that waits, and nothing else has changed: that is the rules' step, and one step
+-- less is left.
 pub record IsTaken (t v : ℕ) (s u : State) : Type 0 where
   pub call : OpenCall
   pub here : call_at s t ≡ Some call

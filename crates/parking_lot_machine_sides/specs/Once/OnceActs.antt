@@ -1,5 +1,6 @@
 -- What each act of a call gives, and what it leaves of the machine.
-use Rattle.std.specs.Prelude.{ℕ, ◌==◌, ◌&&◌, Bool, true, false, is_some, is_none, nat_lt, if◌then◌else◌, List, [], length, remove, replicate, Option, Some, None, slice_get, slice_set}
+use Rattle.std.specs.Prelude.{ℕ, ◌==◌, ◌&&◌, Bool, true, false, is_some, is_none, nat_lt, if◌then◌else◌, List, []}
+use Rattle.std.specs.Prelude.{length, remove, replicate, Option, Some, None, slice_get, slice_set}
 use Rattle.std.specs.List.{position}
 use Rattle.std.specs.Option.{option_map, option_and_then, option_map_or}
 use Rattle.parking_lot_protocol.specs.declared.act.Act.{Act}
@@ -27,7 +28,14 @@ abbrev pub told : OpenCall → ActResult → OpenCall
 told c s = record c { core = record { phase = next_phase c.core.phase s } }
 
 abbrev pub call_for : ℕ → OnceCall → OpenCall
-call_for i call = record { once = i; call = call; core = record { phase = next_phase (Asking (wish_of call)) seen.Start }; taker = None; before = New; woken = false }
+call_for i call = record {
+  once = i;
+  call = call;
+  core = record { phase = next_phase (Asking (wish_of call)) seen.Start };
+  taker = None;
+  before = New;
+  woken = false;
+}
 
 abbrev pub off_list : ℕ → OpenCall → OpenCall
 off_list by c = record c { taker = Some by }
@@ -37,7 +45,10 @@ woken c = record (told c (seen.Woken (record { 0 = 0 }))) { taker = None; woken 
 
 -- its closure has run, which was handed that state
 abbrev pub ran : OpenCall → OnceState → OpenCall
-ran c before = record c { core = record { phase = next_phase (Returning (ends_well c.call)) seen.Start }; before = before }
+ran c before = record c {
+  core = record { phase = next_phase (Returning (ends_well c.call)) seen.Start };
+  before = before;
+}
 
 -- ACTS
 
@@ -90,7 +101,8 @@ thread_in es n = option_map_or (λ (e : Entry). e.thread) (slice_get es n) 0
 -- it takes v off the list, which stands n-th among all that wait
 abbrev pub took_at : Onces → ℕ → OpenCall → ℕ → ℕ → Onces
 took_at s t c n v = record s {
-  calls = slice_set (slice_set s.calls v (option_map (off_list t) (call_at s v))) t (Some (told c (seen.Took (Some (record { 0 = 0 })) (is_left (remove s.waiting n) c.once))));
+  calls = slice_set (slice_set s.calls v (option_map (off_list t) (call_at s v))) t
+      (Some (told c (seen.Took (Some (record { 0 = 0 })) (is_left (remove s.waiting n) c.once))));
   waiting = remove s.waiting n;
   wakes = joined s.wakes t v;
 }
@@ -105,7 +117,11 @@ took s t c = took_by (position (is_in c.once) s.waiting) s t c
 
 -- it wakes v, which stands n-th among all that are to be woken
 abbrev pub woke_at : Onces → ℕ → OpenCall → ℕ → ℕ → Onces
-woke_at s t c n v = record s { calls = slice_set (slice_set s.calls v (option_map woken (call_at s v))) t (Some (told c seen.Made)); wakes = remove s.wakes n }
+woke_at s t c n v =
+    record s {
+      calls = slice_set (slice_set s.calls v (option_map woken (call_at s v))) t (Some (told c seen.Made));
+      wakes = remove s.wakes n;
+    }
 
 abbrev pub woke_by : Option ℕ → Onces → ℕ → OpenCall → Onces
 woke_by None s t c = s
@@ -167,4 +183,5 @@ is_asleep s t = option_map_or (λ c. sleeps (act_of c.core.phase)) (call_at s t)
 
 -- a machine of new onces, where nobody is in a call
 abbrev pub at_rest : ℕ → ℕ → Onces
-at_rest threads onces = record { words = replicate onces 0; calls = replicate threads None; waiting = []; wakes = []; inside = None }
+at_rest threads onces =
+    record { words = replicate onces 0; calls = replicate threads None; waiting = []; wakes = []; inside = None }

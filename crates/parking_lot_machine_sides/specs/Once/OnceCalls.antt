@@ -7,7 +7,8 @@ use Rattle.parking_lot_protocol_waits.specs.declared.once.once_phase.OnceAnswer.
 use Rattle.parking_lot_protocol_waits.specs.declared.once.once_phase.OnceAnswer.TheVariants as end
 use Rattle.parking_lot_protocol_waits.specs.declared.once.once_phase.OncePhase.TheVariants.{Asking}
 use Rattle.parking_lot_machine_sides.specs.declared.once.calls.OnceCall.{OnceCall}
-use Rattle.parking_lot_machine_sides.specs.declared.once.calls.OnceCall.TheVariants.{CallOnce, CallOnceForce, OnceWait, OnceWaitForce}
+use Rattle.parking_lot_machine_sides.specs.declared.once.calls.OnceCall.TheVariants.{CallOnce, CallOnceForce, OnceWait}
+use Rattle.parking_lot_machine_sides.specs.declared.once.calls.OnceCall.TheVariants.{OnceWaitForce}
 use Rattle.parking_lot_machine_sides.specs.declared.once.calls.OnceReply.{OnceReply}
 use Rattle.parking_lot_machine_sides.specs.declared.once.calls.OnceReply.TheVariants as reply
 

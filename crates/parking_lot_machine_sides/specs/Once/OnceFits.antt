@@ -1,11 +1,16 @@
 -- What holds of a machine of onces at every moment.
-use Rattle.std.specs.Prelude.{◌≡◌, ℕ, ◌+◌, ◌<◌, ◌≤◌, ◌==◌, ◌⊎◌, Bool, true, false, count_by, List, [], length, Option, Some, None}
+use Rattle.std.specs.Prelude.{◌≡◌, ℕ, ◌+◌, ◌<◌, ◌≤◌, ◌==◌, ◌⊎◌, Bool, true, false, count_by, List, [], length, Option}
+use Rattle.std.specs.Prelude.{Some, None}
 use Rattle.std.specs.Option.{option_map_or}
 use Rattle.parking_lot_rules.specs.Once.Once.{IsSound, number}
 use Rattle.parking_lot_rules.specs.declared.once.once_state.OnceState.{OnceState}
 use Rattle.parking_lot_protocol_waits.specs.declared.once.once_phase.OnceAnswer.TheVariants as end
 use Rattle.parking_lot_protocol_waits.specs.declared.once.once_phase.OncePhase.{OncePhase}
-use Rattle.parking_lot_protocol_waits.specs.declared.once.once_phase.OncePhase.TheVariants.{Asking, Returning, Loads, Starts, Spins, Parks, Checks, Retreats, Appends, Rests, Sleeps, Scans, Clears, Leaves, Wakes}
+use Rattle.parking_lot_protocol_waits.specs.declared.once.once_phase.OncePhase.TheVariants.{Asking, Returning, Loads}
+use Rattle.parking_lot_protocol_waits.specs.declared.once.once_phase.OncePhase.TheVariants.{Starts, Spins, Parks}
+use Rattle.parking_lot_protocol_waits.specs.declared.once.once_phase.OncePhase.TheVariants.{Checks, Retreats, Appends}
+use Rattle.parking_lot_protocol_waits.specs.declared.once.once_phase.OncePhase.TheVariants.{Rests, Sleeps, Scans}
+use Rattle.parking_lot_protocol_waits.specs.declared.once.once_phase.OncePhase.TheVariants.{Clears, Leaves, Wakes}
 use Rattle.parking_lot_protocol_waits.specs.Once.OnceAnswers.{IsUnderWay, MayAnswer}
 use Rattle.parking_lot_protocol_waits.specs.Once.OnceMoves.{IsReady}
 use Rattle.parking_lot_machine_sides.specs.declared.once.calls.OnceCall.{OnceCall}
@@ -59,13 +64,15 @@ Knows queue p = Unit {0}
 
 -- The call is under way, and wants the same still; or its closure has run, as it might, and it ends.
 abbrev pub GoesOn : OnceCall → OnceState → OncePhase → Type 0
-GoesOn call before p = IsUnderWay (Asking (wish_of call)) p ⊎ (IsUnderWay (Returning (ends_well call)) p × MayAnswer (Asking (wish_of call)) (end.Runs before))
+GoesOn call before p = IsUnderWay (Asking (wish_of call)) p
+    ⊎ (IsUnderWay (Returning (ends_well call)) p × MayAnswer (Asking (wish_of call)) (end.Runs before))
 
 -- that thread is the one
 abbrev pub is_the : Option ℕ → ℕ → Bool
 is_the o t = option_map_or (λ u. u == t) o false
 
--- what holds of a thread in a call, among so many onces, with whom it is to wake, its once's list, and who is in the section
+-- what holds of a thread in a call, among so many onces, with whom it is to wake, its once's list, and who is in the
+-- section
 pub record Sits (onces t : ℕ) (c : OpenCall) (us queue : List ℕ) (inside : Option ℕ) : Type 0 where
   pub low : c.once < onces
   pub goes : GoesOn c.call c.before c.core.phase
@@ -84,7 +91,8 @@ pub record Fits (s : Onces) : Type 0 where
   -- each once is sound in the sense of the rules, and its word is a number of theirs
   pub sound : (i : ℕ) → IsSound (once_at s i)
   pub words : (i : ℕ) → number (word_of (word_at s i)) ≡ word_at s i
-  pub seated : (t : ℕ) (c : OpenCall) → call_at s t ≡ Some c → Sits (length s.words) t c (list_of s.wakes t) (list_of s.waiting c.once) s.inside
+  pub seated : (t : ℕ) (c : OpenCall) → call_at s t ≡ Some c → Sits (length s.words) t c (list_of s.wakes t)
+      (list_of s.waiting c.once) s.inside
   -- one in no call is to wake nobody; and who is in the section is in a call
   pub idle : (t : ℕ) → call_at s t ≡ None → list_of s.wakes t ≡ []
   pub inside : (t : ℕ) → s.inside ≡ Some t → (c : OpenCall) × (call_at s t ≡ Some c)

@@ -12,7 +12,8 @@ use Rattle.parking_lot_machine_sides.specs.Once.OnceRanks.{FewAreLeft}
 
 -- one thread at most runs a closure of a once
 abbrev pub OneRuns : Onces → Type 0
-OneRuns s = (i t u : ℕ) → t ≢ u → t < length s.calls → u < length s.calls → 0 < weight Running (role_at s i t) → weight Running (role_at s i u) ≡ 0
+OneRuns s = (i t u : ℕ) → t ≢ u → t < length s.calls → u < length s.calls → 0 < weight Running (role_at s i t)
+    → weight Running (role_at s i u) ≡ 0
 
 -- a list has exactly the threads that stand in it, each once
 abbrev pub ListsAreWaiters : Onces → Type 0
@@ -20,13 +21,15 @@ ListsAreWaiters s = (i t : ℕ) → t < length s.calls → occurs t (once_at s i
 
 -- it only waits, in its call at the once, for a closure that nobody has begun
 abbrev pub OnlyWaits : Onces → ℕ → OpenCall → Type 0
-OnlyWaits s t c = (wish : Wish) × (c.core.phase ≡ Sleeps wish) × (wish.runs ≡ false) × IsTrue (waits wish (once_at s c.once).word.state) × ((once_at s c.once).word.state ≢ InProgress)
+OnlyWaits s t c = (wish : Wish) × (c.core.phase ≡ Sleeps wish) × (wish.runs ≡ false)
+    × IsTrue (waits wish (once_at s c.once).word.state) × ((once_at s c.once).word.state ≢ InProgress)
 
 -- where a thread is in a call, somebody can move, or it only waits for a closure that nobody has begun
 abbrev pub SomebodyCanMove : Onces → Type 0
 SomebodyCanMove s = (t : ℕ) (c : OpenCall) → call_at s t ≡ Some c → ((v : ℕ) × (can_move s v ≡ true)) ⊎ OnlyWaits s t c
 
--- All of it: each once is sound, so what the rules promise of every sound once holds of it, and the steps that are left are few.
+-- All of it: each once is sound, so what the rules promise of every sound once holds of it, and the steps that are left
+-- are few.
 pub record IsSoundMachine (s : Onces) : Type 0 where
   pub sound : (i : ℕ) → IsSound (once_at s i)
   pub runs : OneRuns s

@@ -1,20 +1,29 @@
--- How many steps a thread still makes in its call, and all threads in theirs, where one of them is stepped until it can't move.
-use Rattle.std.specs.Prelude.{ℕ, ◌+◌, ◌-◌, ◌*◌, ◌≤◌, ◌==◌, ◌&&◌, not, Bool, false, if◌then◌else◌, length, Option, Some, None, slice_set}
+-- How many steps a thread still makes in its call, and all threads in theirs, where one of them is stepped until it
+-- can't move.
+use Rattle.std.specs.Prelude.{ℕ, ◌+◌, ◌-◌, ◌*◌, ◌≤◌, ◌==◌, ◌&&◌, not, Bool, false, if◌then◌else◌, length, Option, Some}
+use Rattle.std.specs.Prelude.{None, slice_set}
 use Rattle.std.specs.List.{sum_by}
 use Rattle.parking_lot_rules.specs.declared.once.wish.Wish.{Wish}
 use Rattle.parking_lot_rules.specs.Once.Once.{waits}
 use Rattle.parking_lot_protocol_waits.specs.declared.once.once_phase.OnceAnswer.{OnceAnswer}
 use Rattle.parking_lot_protocol_waits.specs.declared.once.once_phase.OnceAnswer.TheVariants as end
 use Rattle.parking_lot_protocol_waits.specs.declared.once.once_phase.OncePhase.{OncePhase}
-use Rattle.parking_lot_protocol_waits.specs.declared.once.once_phase.OncePhase.TheVariants.{Asking, Returning, Loads, Starts, Spins, Parks, Enters, Checks, Retreats, Appends, Rests, Sleeps, Stores, Looks, Scans, Clears, Leaves, Wakes, Finishes, Ends, Invalid}
+use Rattle.parking_lot_protocol_waits.specs.declared.once.once_phase.OncePhase.TheVariants.{Asking, Returning, Loads}
+use Rattle.parking_lot_protocol_waits.specs.declared.once.once_phase.OncePhase.TheVariants.{Starts, Spins, Parks}
+use Rattle.parking_lot_protocol_waits.specs.declared.once.once_phase.OncePhase.TheVariants.{Enters, Checks, Retreats}
+use Rattle.parking_lot_protocol_waits.specs.declared.once.once_phase.OncePhase.TheVariants.{Appends, Rests, Sleeps}
+use Rattle.parking_lot_protocol_waits.specs.declared.once.once_phase.OncePhase.TheVariants.{Stores, Looks, Scans}
+use Rattle.parking_lot_protocol_waits.specs.declared.once.once_phase.OncePhase.TheVariants.{Clears, Leaves, Wakes}
+use Rattle.parking_lot_protocol_waits.specs.declared.once.once_phase.OncePhase.TheVariants.{Finishes, Ends, Invalid}
 use Rattle.parking_lot_protocol_waits.specs.Once.OnceTable.{state_of, is_parked, word_of}
 use Rattle.parking_lot_machine_sides.specs.declared.once.calls.OnceCall.{OnceCall}
 use Rattle.parking_lot_machine_sides.specs.Once.OnceCalls.{wish_of}
 use Rattle.parking_lot_machine_sides.specs.Once.Entries.{list_of}
 use Rattle.parking_lot_machine_sides.specs.Once.Onces.{OpenCall, Onces, word_at, call_at}
 
--- What counts of the machine for a thread's steps: nothing, where another thread is stepped, and all that it has seen may be out of date; else
--- the word of its once, how many wait there, and whether another thread is inside a section and shuts it out.
+-- What counts of the machine for a thread's steps: nothing, where another thread is stepped, and all that it has seen
+-- may be out of date; else the word of its once, how many wait there, and whether another thread is inside a section
+-- and shuts it out.
 pub data View : Type 0 where
   Unseen : View
   Sees : (word first : ℕ) → (shut : Bool) → View
@@ -54,8 +63,8 @@ closing n = (wake + 1) * n + 7
 abbrev pub in_hand : ℕ → Wish → ℕ
 in_hand n wish = if wish.runs then closing n else 0
 
--- It parks: it sets the parked bit, enters, checks, joins the list and leaves. It leaves in vain, and asks again from the beginning, only
--- where the word has changed meanwhile.
+-- It parks: it sets the parked bit, enters, checks, joins the list and leaves. It leaves in vain, and asks again from
+-- the beginning, only where the word has changed meanwhile.
 abbrev pub parks : View → ℕ
 parks v = if is_free v then 4 else 29
 
@@ -72,9 +81,11 @@ abbrev pub phase_steps : ℕ → View → OncePhase → ℕ
 phase_steps n v (Asking wish) = 52 + in_hand n wish
 phase_steps n v (Returning well) = closing n
 phase_steps n v (Loads a) = 1 + asks v a.rounds + in_hand n a.wish
-phase_steps n v (Starts a before parked) = (if is_at v (word_of before parked) then 1 else 1 + asks v a.rounds) + in_hand n a.wish
+phase_steps n v (Starts a before parked) = (if is_at v (word_of before parked) then 1 else 1 + asks v a.rounds) +
+    in_hand n a.wish
 phase_steps n v (Spins a state) = 2 + asks v (a.rounds - 1) + in_hand n a.wish
-phase_steps n v (Parks a state) = (if is_at v (word_of state false) then 1 + parks v else 1 + asks v a.rounds) + in_hand n a.wish
+phase_steps n v (Parks a state) = (if is_at v (word_of state false) then 1 + parks v else 1 + asks v a.rounds) + in_hand
+    n a.wish
 phase_steps n v (Enters wish) = (if keeps_waiting v wish then parks v else 29) + in_hand n wish
 phase_steps n v (Checks wish) = (if keeps_waiting v wish then 3 else 28) + in_hand n wish
 phase_steps n v (Retreats wish) = 27 + in_hand n wish

@@ -10,7 +10,8 @@ use Rattle.parking_lot_rules.specs.Once.Once.{Once, Step, Alone, Join, Take, Wak
 use Rattle.parking_lot_protocol_waits.specs.declared.once.once_phase.OnceAnswer.TheVariants as end
 use Rattle.parking_lot_protocol_waits.specs.declared.once.once_phase.OncePhase.{OncePhase}
 use Rattle.parking_lot_protocol_waits.specs.declared.once.once_phase.OncePhase.TheVariants.{Scans, Finishes, Ends}
-use Rattle.parking_lot_protocol_waits.specs.Once.OnceMoves.{Move, Stays, Makes, Joins, TakesOne, WakesOne, IsWoken, move}
+use Rattle.parking_lot_protocol_waits.specs.Once.OnceMoves.{Move, Stays, Makes, Joins, TakesOne, WakesOne, IsWoken}
+use Rattle.parking_lot_protocol_waits.specs.Once.OnceMoves.{move}
 use Rattle.parking_lot_protocol_waits.specs.Once.OnceTable.{act_of}
 use Rattle.parking_lot_machine_sides.specs.declared.once.calls.OnceCall.{OnceCall}
 use Rattle.parking_lot_machine_sides.specs.declared.once.calls.OnceReply.{OnceReply}
@@ -44,8 +45,8 @@ given_by [] a (Scans well taken) = seen.Took None false
 given_by (v ∷ vs) a (Scans well taken) = seen.Took (Some (record { 0 = 0 })) false
 given_by vs a p = a
 
--- What a step of a thread in that call is to its once, where it is to wake these and its act gives that, by its core's table: its closure
--- returns, it leaves, or what the answer to its core is.
+-- What a step of a thread in that call is to its once, where it is to wake these and its act gives that, by its core's
+-- table: its closure returns, it leaves, or what the answer to its core is.
 abbrev pub move_by : List ℕ → OpenCall → ActResult → OncePhase → Move
 move_by us c a (Ends (end.Runs before)) = Makes (Return before (ends_well c.call))
 move_by us c a (Ends end.Completed) = Stays
@@ -55,7 +56,8 @@ move_by us c a Finishes = Makes Leave
 move_by us c a p = move (known_of us c) p a
 
 abbrev pub move_of : Onces → ℕ → OpenCall → Move
-move_of s t c = move_by (list_of s.wakes t) c (given_by (list_of s.waiting c.once) (shown (act_of c.core.phase) (word_at s c.once)) c.core.phase) c.core.phase
+move_of s t c = move_by (list_of s.wakes t) c
+    (given_by (list_of s.waiting c.once) (shown (act_of c.core.phase) (word_at s c.once)) c.core.phase) c.core.phase
 
 -- the step of the rules of such a move, of one who is to wake these; whom it takes or wakes, the rules say
 abbrev pub IsStepOf : List ℕ → Move → Option Step → Type 0
@@ -82,8 +84,8 @@ pub record IsBegun (t i : ℕ) (call : OnceCall) (s u : Onces) : Type 0 where
   pub lawful : IsLawful t i (Some (Alone (Begin (wish_of call)))) s u
   pub costs : Costs t call s u
 
--- A thread in a call has made a step, and is answered where its call is over. All that the step changes follows from the call and its act, it is
--- a step of the rules, and it is paid for by the steps that were left.
+-- A thread in a call has made a step, and is answered where its call is over. All that the step changes follows from
+-- the call and its act, it is a step of the rules, and it is paid for by the steps that were left.
 pub record IsStepped (t : ℕ) (reply : Option OnceReply) (s u : Onces) : Type 0 where
   pub call : OpenCall
   pub here : call_at s t ≡ Some call

@@ -54,4 +54,8 @@ word_of n = record { state = state_of n; parked = bit (is_parked n) }
 
 -- beyond the last number there are new ones too, where nobody is
 abbrev pub once_at : Onces → ℕ → Once
-once_at s i = record { word = word_of (word_at s i); roles = everybody (role_at s i) (length s.calls); queue = list_of s.waiting i }
+once_at s i = record {
+  word = word_of (word_at s i);
+  roles = everybody (role_at s i) (length s.calls);
+  queue = list_of s.waiting i;
+}

@@ -4,7 +4,10 @@ ghost use Rattle.std.specs.Option.{option_map};
 ghost use Rattle.parking_lot_machine_sides.specs.declared.condvar.open_call.Core.TheVariants as of;
 ghost use Rattle.parking_lot_machine_sides.specs.Condvar.Calls.{off_list};
 ghost use Rattle.parking_lot_machine_sides.specs.Condvar.Machines.{call_at, call_in, is_left, may_step, may_take};
-ghost use Rattle.parking_lot_machine_sides.specs.Condvar.OwnSteps.{WhereItJoins, inside_after_notify, inside_after_wait, notify_sees, place_of, queue_after_wait, stepped, wait_sees, without, word_after_notify, word_after_wait};
+ghost use Rattle.parking_lot_machine_sides.specs.Condvar.OwnSteps.{WhereItJoins, inside_after_notify};
+ghost use Rattle.parking_lot_machine_sides.specs.Condvar.OwnSteps.{inside_after_wait, notify_sees, place_of};
+ghost use Rattle.parking_lot_machine_sides.specs.Condvar.OwnSteps.{queue_after_wait, stepped, wait_sees, without};
+ghost use Rattle.parking_lot_machine_sides.specs.Condvar.OwnSteps.{word_after_notify, word_after_wait};
 ghost use Rattle.parking_lot_machine_sides.specs.Condvar.Steps.{taken_by};
 
 use crate::condvar::condvar_machine::CondvarMachine;

@@ -12,10 +12,10 @@ use std::marker::Model;
 
 /// A condition variable, and threads at it, each in one call at a time.
 ///
-/// A thread [begins](CondvarMachine::begin) a call, and then makes one atomic [step](CondvarMachine::step) at the variable after another, in any
-/// order among the threads, until the call is answered. What a call does elsewhere (it gives its mutex up and locks it again, sleeps, moves
-/// waiters to the mutex's list) is for whoever runs the machine, who [tells](CondvarMachine::tell) the call what came of it. All room is taken
-/// where the machine is made.
+/// A thread [begins](CondvarMachine::begin) a call, and then makes one atomic [step](CondvarMachine::step) at the
+/// variable after another, in any order among the threads, until the call is answered. What a call does elsewhere (it
+/// gives its mutex up and locks it again, sleeps, moves waiters to the mutex's list) is for whoever runs the machine,
+/// who [tells](CondvarMachine::tell) the call what came of it. All room is taken where the machine is made.
 #[derive(Drop)]
 pub struct CondvarMachine<A: Allocator = Global> {
     pub(crate) word: u64,
@@ -34,7 +34,9 @@ impl<A: Allocator> Model for CondvarMachine<A> {
 
     ghost view = { λ m. record { word = m.word; calls = m.calls.items; queue = m.queue.items; inside = m.inside } };
 
-    ghost invariant = { λ m. Fits (record { word = m.word; calls = m.calls.items; queue = m.queue.items; inside = m.inside }) × (length m.calls.items ≤ vec_capacity m.queue) };
+    ghost invariant = { λ m. Fits
+        (record { word = m.word; calls = m.calls.items; queue = m.queue.items; inside = m.inside })
+        × (length m.calls.items ≤ vec_capacity m.queue) };
 }
 
 impl<A: Allocator> CondvarMachine<A> {
@@ -73,7 +75,8 @@ impl<A: Allocator> CondvarMachine<A> {
         self.inside
     }
 
-    /// Whether a thread's next act is one of its own at the variable, and can be made: a section is entered only while nobody is inside.
+    /// Whether a thread's next act is one of its own at the variable, and can be made: a section is entered only while
+    /// nobody is inside.
     pub fn can_step(&self, thread: usize) -> bool
         ensures { result ≡ can_step self.now thread }
     {
@@ -103,7 +106,8 @@ impl<A: Allocator> CondvarMachine<A> {
         }
     }
 
-    /// Whether a thread may begin that call: the machine has it, it is in no call, and the number of the mutex is below 2^64 - 1.
+    /// Whether a thread may begin that call: the machine has it, it is in no call, and the number of the mutex is below
+    /// 2^64 - 1.
     pub fn may_begin(&self, thread: usize, call: CondvarCall) -> bool
         ensures { result ≡ may_begin self.now thread call }
     {
@@ -119,7 +123,8 @@ impl<A: Allocator> CondvarMachine<A> {
         self.calls[thread] = Some(OpenCall::begun(call));
     }
 
-    /// A thread makes one act at the variable. Answers how the call ended, where it did. Each lowers the steps that are left of all calls.
+    /// A thread makes one act at the variable. Answers how the call ended, where it did. Each lowers the steps that are
+    /// left of all calls.
     pub fn step(&mut self, thread: usize) -> Option<CondvarReply>
         requires can { can_step self.old thread ≡ true }
         ensures { IsStepped thread result self.old self.new }
@@ -133,8 +138,8 @@ impl<A: Allocator> CondvarMachine<A> {
         call.reply()
     }
 
-    /// A thread that notifies takes the first that waits off the list, and answers who that was: it is to be woken, or moved to the list of its
-    /// mutex.
+    /// A thread that notifies takes the first that waits off the list, and answers who that was: it is to be woken, or
+    /// moved to the list of its mutex.
     pub fn take_first(&mut self, thread: usize) -> Option<usize>
         requires can { can_take self.old thread ≡ true }
         ensures took { IfSome result (λ waiter. IsTaken thread waiter self.old self.new) }

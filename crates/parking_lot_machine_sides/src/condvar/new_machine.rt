@@ -11,7 +11,8 @@ use std::alloc::Allocator;
 const MAX_THREADS: usize = 65_536;
 
 impl<A: Allocator + Clone + Drop> CondvarMachine<A> {
-    /// A condition variable on which nobody waits, and so many threads, in no call: 1 to 65,536. All memory that its steps need is taken here.
+    /// A condition variable on which nobody waits, and so many threads, in no call: 1 to 65,536. All memory that its
+    /// steps need is taken here.
     pub fn new(alloc: &A, threads: usize) -> Result<CondvarMachine<A>, SizeFault>
         ensures size { IsErrOf result BadSize ↔ ((threads ≡ 0) ⊎ (65536 < threads)) }
         ensures made { IfOk result (λ machine. machine ≡ at_rest threads) }

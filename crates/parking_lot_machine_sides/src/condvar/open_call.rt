@@ -3,7 +3,8 @@ ghost use Rattle.std.specs.Prelude.{◌≡◌, ◌+◌, ◌^◌, ◌<◌, ◌==�
 ghost use Rattle.parking_lot_protocol_waits.specs.NotifyTable.{notify_told};
 ghost use Rattle.parking_lot_protocol_waits.specs.WaitTable.{wait_told};
 ghost use Rattle.parking_lot_machine_sides.specs.declared.condvar.open_call.Core.TheVariants as of;
-ghost use Rattle.parking_lot_machine_sides.specs.Condvar.Calls.{call_for, off_list, reply_of, reply_in_notify, reply_in_wait, started, took_one};
+ghost use Rattle.parking_lot_machine_sides.specs.Condvar.Calls.{call_for, off_list, reply_of, reply_in_notify};
+ghost use Rattle.parking_lot_machine_sides.specs.Condvar.Calls.{reply_in_wait, started, took_one};
 ghost use Rattle.parking_lot_machine_sides.specs.Condvar.Outsides.{hears_by, told_by};
 ghost use Rattle.parking_lot_machine_sides.specs.Condvar.OwnSteps.{notify_goes, wait_goes};
 ghost use Rattle.parking_lot_machine_sides.specs.Condvar.Turns.{enters, is_own, notify_is_own, takes_by, wait_is_own};
@@ -57,7 +58,8 @@ impl OpenCall {
         }
     }
 
-    /// Whether its next act is one at the variable, of its own thread. Else it sleeps, acts at the mutex, or takes waiters.
+    /// Whether its next act is one at the variable, of its own thread. Else it sleeps, acts at the mutex, or takes
+    /// waiters.
     pub fn is_own(&self) -> bool
         ensures { result ≡ is_own self.now }
     {

@@ -1,6 +1,7 @@
 //! What a call is told of acts that are made elsewhere.
 ghost use Rattle.std.specs.Prelude.{◌≡◌};
-ghost use Rattle.parking_lot_machine_sides.specs.Condvar.Outsides.{all_taken, is_whole, notify_fits, notify_hears, wait_fits, wait_hears};
+ghost use Rattle.parking_lot_machine_sides.specs.Condvar.Outsides.{all_taken, is_whole, notify_fits, notify_hears};
+ghost use Rattle.parking_lot_machine_sides.specs.Condvar.Outsides.{wait_fits, wait_hears};
 
 use parking_lot_core_model::UnparkToken;
 use parking_lot_protocol_waits::{NotifyPhase, NotifySeen, WaitPhase, WaitSeen};
@@ -8,8 +9,8 @@ use parking_lot_protocol_waits::{NotifyPhase, NotifySeen, WaitPhase, WaitSeen};
 /// What an act that isn't made at the variable gave: at the mutex, by the thread that wakes it, or by the clock.
 #[derive(Clone, Copy, PartialEq, Eq, Debug)]
 pub enum Outside {
-    /// It was made: the mutex was given up or locked, its parked bit was set or masked off, its section was entered or left, or the one that was
-    /// taken was woken.
+    /// It was made: the mutex was given up or locked, its parked bit was set or masked off, its section was entered or
+    /// left, or the one that was taken was woken.
     Made,
     /// One that was taken off the list was woken with that token.
     Woken(UnparkToken),
@@ -89,8 +90,8 @@ pub(crate) fn notify_fits(taken: usize, left: bool, phase: NotifyPhase, seen: Ou
     }
 }
 
-/// Whether a notification that has taken so many, and woken and moved so many of them, has taken all that it takes: of a mutex that is locked
-/// none is woken, and else the first alone.
+/// Whether a notification that has taken so many, and woken and moved so many of them, has taken all that it takes: of
+/// a mutex that is locked none is woken, and else the first alone.
 fn all_taken(
     taken: usize,
     left: bool,

@@ -7,7 +7,8 @@ ghost use Rattle.parking_lot_protocol.specs.declared.act.SectionAct.TheVariants 
 ghost use Rattle.parking_lot_core_model.specs.declared.parking.ParkToken.{ParkToken};
 ghost use Rattle.parking_lot_protocol_waits.specs.Once.OnceTable.{act_of};
 ghost use Rattle.parking_lot_machine_sides.specs.Once.Onces.{call_at, call_in};
-ghost use Rattle.parking_lot_machine_sides.specs.Once.OnceActs.{acted, appended, ended, inside_after, off_list, replied, shown, took, woke, woken, written};
+ghost use Rattle.parking_lot_machine_sides.specs.Once.OnceActs.{acted, appended, ended, inside_after, off_list};
+ghost use Rattle.parking_lot_machine_sides.specs.Once.OnceActs.{replied, shown, took, woke, woken, written};
 ghost use Rattle.parking_lot_machine_sides.specs.Once.OnceSteps.{IsActOfItsOwn, IsEntry};
 
 use crate::once::calls::OnceReply;

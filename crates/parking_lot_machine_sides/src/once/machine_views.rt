@@ -17,7 +17,8 @@ use parking_lot_protocol_waits::once::OncePhase;
 use std::alloc::Allocator;
 
 impl OpenCall {
-    /// Whether its thread is in debt: it is in a section or is still to wake somebody; or it was woken, and doesn't wait again.
+    /// Whether its thread is in debt: it is in a section or is still to wake somebody; or it was woken, and doesn't
+    /// wait again.
     pub fn is_in_debt(&self) -> bool
         ensures { result ≡ owes self.now }
     {
@@ -50,8 +51,8 @@ impl<A: Allocator> OnceMachine<A> {
         }
     }
 
-    /// Whether a thread is in debt: from the step at which it has entered a section until that has ended and all whom it took are woken, and
-    /// from where it was woken until it is answered or sleeps again.
+    /// Whether a thread is in debt: from the step at which it has entered a section until that has ended and all whom
+    /// it took are woken, and from where it was woken until it is answered or sleeps again.
     pub fn is_in_debt(&self, thread: usize) -> bool
         ensures { result ≡ is_in_debt self.now thread }
     {
@@ -69,8 +70,8 @@ impl<A: Allocator> OnceMachine<A> {
         let _ = &self.words;
     }
 
-    /// That another thread may be stepped from here on where this one can't move, for who goes on so: no more steps are left than before. It
-    /// does nothing.
+    /// That another thread may be stepped from here on where this one can't move, for who goes on so: no more steps are
+    /// left than before. It does nothing.
     pub fn others_go_on(&self, thread: usize)
         ensures { can_move self.now thread ≡ false → AnyMayBeStepped self.now thread }
     {

@@ -14,8 +14,8 @@ const MAX_THREADS: usize = 65_536;
 const MAX_ONCES: usize = 1 << 20;
 
 impl<A: Allocator + Clone + Drop> OnceMachine<A> {
-    /// A machine of so many threads, in no call, and of so many new onces: 1 to 65,536 threads, and 1 to 2^20 onces. All memory that its steps
-    /// need is taken here.
+    /// A machine of so many threads, in no call, and of so many new onces: 1 to 65,536 threads, and 1 to 2^20 onces.
+    /// All memory that its steps need is taken here.
     pub fn new(alloc: &A, threads: usize, onces: usize) -> Result<OnceMachine<A>, SizeFault>
         ensures size { IsErrOf result BadSize ↔ ((threads ≡ 0) ⊎ (65536 < threads) ⊎ (onces ≡ 0) ⊎ (2 ^ 20 < onces)) }
         ensures made { IfOk result (λ machine. machine ≡ at_rest threads onces) }

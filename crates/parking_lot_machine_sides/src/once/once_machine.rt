@@ -15,9 +15,10 @@ use std::marker::Model;
 
 /// One-time initializations, and threads at them, each in one call at a time.
 ///
-/// A thread [begins](OnceMachine::begin) a call at a once, and then makes one atomic [step](OnceMachine::step) after another, in any order
-/// among the threads, until the call is answered. Each step is a step of the rules of the once, or changes nothing there. All room is taken
-/// where the machine is made. At most one section is open in the whole machine.
+/// A thread [begins](OnceMachine::begin) a call at a once, and then makes one atomic [step](OnceMachine::step) after
+/// another, in any order among the threads, until the call is answered. Each step is a step of the rules of the once,
+/// or changes nothing there. All room is taken where the machine is made. At most one section is open in the whole
+/// machine.
 #[derive(Drop)]
 pub struct OnceMachine<A: Allocator = Global> {
     pub(crate) words: Vec<u64, A>,
@@ -37,9 +38,23 @@ impl<A: Allocator> Model for OnceMachine<A> {
 
     ghost Value = { Onces };
 
-    ghost view = { λ m. record { words = m.words.items; calls = m.calls.items; waiting = m.waiting.items; wakes = m.wakes.items; inside = m.inside } };
+    ghost view = { λ m. record {
+      words = m.words.items;
+      calls = m.calls.items;
+      waiting = m.waiting.items;
+      wakes = m.wakes.items;
+      inside = m.inside;
+    } };
 
-    ghost invariant = { λ m. Fits (record { words = m.words.items; calls = m.calls.items; waiting = m.waiting.items; wakes = m.wakes.items; inside = m.inside }) × (length m.calls.items ≤ vec_capacity m.waiting) × (length m.calls.items ≤ vec_capacity m.wakes) };
+    ghost invariant = { λ m. Fits
+        (record {
+          words = m.words.items;
+          calls = m.calls.items;
+          waiting = m.waiting.items;
+          wakes = m.wakes.items;
+          inside = m.inside;
+        }) × (length m.calls.items ≤ vec_capacity m.waiting)
+        × (length m.calls.items ≤ vec_capacity m.wakes) };
 }
 
 impl<A: Allocator> OnceMachine<A> {
@@ -57,8 +72,8 @@ impl<A: Allocator> OnceMachine<A> {
         self.words.len()
     }
 
-    /// The word of a once: 0 where it is new, 1 where it is done, 2 where it is poisoned, 4 while a closure runs, and 8 more where callers may
-    /// wait; 0 beyond the last.
+    /// The word of a once: 0 where it is new, 1 where it is done, 2 where it is poisoned, 4 while a closure runs, and 8
+    /// more where callers may wait; 0 beyond the last.
     pub fn word(&self, once: usize) -> u64
         ensures { result ≡ word_at self.now once }
     {
@@ -100,8 +115,8 @@ impl<A: Allocator> OnceMachine<A> {
         thread < self.threads() && self.call(thread).is_none() && once < self.onces()
     }
 
-    /// A thread begins a call at a once. It is the call's first step, and adds to the steps that are left 51 at most, and where the call has a
-    /// closure 53 for each thread and 7 more.
+    /// A thread begins a call at a once. It is the call's first step, and adds to the steps that are left 51 at most,
+    /// and where the call has a closure 53 for each thread and 7 more.
     pub fn begin(&mut self, thread: usize, once: usize, call: OnceCall)
         requires may { may_begin self.old thread once ≡ true }
         ensures { IsBegun thread once call self.old self.new }
@@ -112,8 +127,8 @@ impl<A: Allocator> OnceMachine<A> {
 
     /// A thread makes one step. Answers how the call ended, where it did. To run the call's own closure is one step.
     ///
-    /// Each step lowers the steps that are left of all threads' calls, where the same thread is stepped on. So no thread can be stepped for
-    /// ever: it sleeps, is shut out of a section or is answered.
+    /// Each step lowers the steps that are left of all threads' calls, where the same thread is stepped on. So no
+    /// thread can be stepped for ever: it sleeps, is shut out of a section or is answered.
     pub fn step(&mut self, thread: usize) -> Option<OnceReply>
         requires can { can_move self.old thread ≡ true }
         ensures { IsStepped thread result self.old self.new }

@@ -52,7 +52,8 @@ WaitedInTime mutex (Err fault) = WaitRefused mutex fault
 
 -- a notification took so many
 abbrev pub Notified : Bool → ℕ → Type 0
-Notified all count = EndedAt notify.Gives notify.notify_told notify.notify_asks notify_seen.Start (record { phase = Notifying all }) (notify_act.Done count)
+Notified all count = EndedAt notify.Gives notify.notify_told notify.notify_asks notify_seen.Start
+    (record { phase = Notifying all }) (notify_act.Done count)
 
 -- a notification of one waiter answered whether it took one
 abbrev pub NotifiedOne : Bool → Type 0

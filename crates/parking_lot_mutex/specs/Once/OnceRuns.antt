@@ -12,10 +12,11 @@ use Rattle.parking_lot_protocol_waits.specs.Once.OnceTable.{act_of, answer_of, n
 use Rattle.parking_lot_mutex.specs.declared.once.fault.OnceFault.{OnceFault}
 use Rattle.parking_lot_mutex.specs.declared.once.fault.OnceFault.TheVariants.{Poisoned, Failed}
 
--- A call that began in this phase ended by this answer: its core was told nothing but what the acts that it asked for can give. Nothing opens
--- it but the proofs of this crate.
+-- A call that began in this phase ended by this answer: its core was told nothing but what the acts that it asked for
+-- can give. Nothing opens it but the proofs of this crate.
 unfoldable pub Answered : OncePhase → OnceAnswer → Type 0
-Answered begun answer = (seen : List ActResult) × IsRun next_phase act_of begun seen × (answer_of (told_all next_phase begun seen) ≡ Some answer)
+Answered begun answer = (seen : List ActResult) × IsRun next_phase act_of begun seen
+    × (answer_of (told_all next_phase begun seen) ≡ Some answer)
 
 -- what a call of each name wants
 abbrev pub plain : Wish
@@ -40,7 +41,8 @@ ended_well (Err error) = false
 
 -- The closure ran, as one that was to run, and this is how it ended; and that is stored, and all that waited are woken.
 abbrev pub Ran : {E : Type 0} → Wish → (OnceState → Result (Unit {0}) E → Type 0) → Result (Unit {0}) E → Type 0
-Ran wish may_end end = (before : OnceState) × MayRun wish before × may_end before end × Answered (Returning (ended_well end)) answer.Finished
+Ran wish may_end end = (before : OnceState) × MayRun wish before × may_end before end
+    × Answered (Returning (ended_well end)) answer.Finished
 
 -- what a call answers whose closure ends so: Ok where a closure has ended well, the own or an earlier one
 abbrev pub Calls : {E : Type 0} → Wish → (OnceState → Result (Unit {0}) E → Type 0) → Result (Unit {0}) E → Type 0
@@ -48,7 +50,8 @@ Calls wish may_end (Ok u) = Answered (Asking wish) answer.Completed ⊎ Ran wish
 Calls wish may_end (Err error) = Ran wish may_end (Err error)
 
 -- the same of one that is refused where the last closure has failed
-abbrev pub CallsUnlessPoisoned : {E : Type 0} → (Result (Unit {0}) E → Type 0) → Result (Unit {0}) (OnceFault E) → Type 0
+abbrev pub CallsUnlessPoisoned : {E : Type 0} → (Result (Unit {0}) E → Type 0) → Result (Unit {0}) (OnceFault E)
+    → Type 0
 CallsUnlessPoisoned may_end (Ok u) = Calls plain (λ before. may_end) (Ok u)
 CallsUnlessPoisoned may_end (Err Poisoned) = Answered (Asking plain) answer.Poisoned
 CallsUnlessPoisoned may_end (Err (Failed error)) = Calls plain (λ before. may_end) (Err error)

@@ -50,7 +50,8 @@ fn nobody(word: u64, all: bool) -> usize
 }
 
 impl<R: Wait, A: Allocator> RawCondvar<'_, '_, R, A> {
-    /// Runs a notification of the first waiter, or of all, and answers how many it took. Where nobody waits it is over with one look at the word.
+    /// Runs a notification of the first waiter, or of all, and answers how many it took. Where nobody waits it is over
+    /// with one look at the word.
     #[inline(always)]
     pub(crate) fn notify(&self, all: bool) -> usize
         ensures { Notified all result }

@@ -1,6 +1,7 @@
 //! The raw condition variable.
 ghost use Rattle.std.specs.Prelude.{◌≡◌, ◌+◌, ◌*◌, ◌%◌, ◌^◌, ◌==◌, Bool, true, false};
-ghost use Rattle.parking_lot_mutex.specs.Condvar.Calls.{answer_of, IsOfLotWhere, Notified, NotifiedOne, Waited, WaitedInTime, WaitRan};
+ghost use Rattle.parking_lot_mutex.specs.Condvar.Calls.{answer_of, IsOfLotWhere, Notified, NotifiedOne, Waited};
+ghost use Rattle.parking_lot_mutex.specs.Condvar.Calls.{WaitedInTime, WaitRan};
 ghost use Rattle.parking_lot_protocol_waits.specs.declared.wait_core.WaitPhase.TheVariants.{Stranger};
 
 use crate::condvar::clock::StillClock;
@@ -19,7 +20,8 @@ const PARKED: u64 = 2;
 
 /// A condition variable on one row of a lock table, for mutexes of the table's lot.
 ///
-/// Its word is 0 where nobody waits, and else shows the mutex that all wait with: the first key of the mutex's row and 1 more.
+/// Its word is 0 where nobody waits, and else shows the mutex that all wait with: the first key of the mutex's row and
+/// 1 more.
 #[derive(Drop)]
 pub struct RawCondvar<'t, 'l, R, A: Allocator = Global> {
     row: Row<'t, 'l, R, A>,
@@ -84,7 +86,8 @@ impl<'t, 'l, R: Wait, A: Allocator> RawCondvar<'t, 'l, R, A> {
         party: &mut ThreadData<A>,
     ) -> Result<(), WaitFault>
         ensures ran { Waited ((mutex.now.row.table.now.first_key + 2 * mutex.now.row.number) % 2 ^ 64) result }
-        ensures lot { IsOfLotWhere (self.now.row.table.now.lot.now.number == mutex.now.row.table.now.lot.now.number) result }
+        ensures lot { IsOfLotWhere (self.now.row.table.now.lot.now.number == mutex.now.row.table.now.lot.now.number)
+            result }
     {
         if !self.is_of_lot(mutex) {
             return Err(self.refusal());
@@ -105,7 +108,8 @@ impl<'t, 'l, R: Wait, A: Allocator> RawCondvar<'t, 'l, R, A> {
         party: &mut ThreadData<A>,
     ) -> Result<bool, WaitFault>
         ensures ran { WaitedInTime ((mutex.now.row.table.now.first_key + 2 * mutex.now.row.number) % 2 ^ 64) result }
-        ensures lot { IsOfLotWhere (self.now.row.table.now.lot.now.number == mutex.now.row.table.now.lot.now.number) result }
+        ensures lot { IsOfLotWhere (self.now.row.table.now.lot.now.number == mutex.now.row.table.now.lot.now.number)
+            result }
     {
         if !self.is_of_lot(mutex) {
             return Err(self.refusal());

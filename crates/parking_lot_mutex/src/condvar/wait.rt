@@ -33,7 +33,8 @@ fn joins(mut course: Course<WaitCore>, word: u64) -> bool {
     course.tell(WaitSeen::Word(word)) == WaitAct::Append
 }
 
-/// Tells a call that it has seen the word, has joined the list and shown its mutex, has left the section and given the mutex up.
+/// Tells a call that it has seen the word, has joined the list and shown its mutex, has left the section and given the
+/// mutex up.
 fn sleeps(course: &mut Course<WaitCore>, word: u64)
     ensures { course.new.0 ≡ course.old.0 }
 {

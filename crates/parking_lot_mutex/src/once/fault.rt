@@ -5,7 +5,8 @@ ghost use Rattle.parking_lot_mutex.specs.Once.Faults.{fault_code};
 use std::error::Error;
 use std::fmt;
 
-/// The last closure has failed, and nobody has run one since: code 24. [`Once::wait`](crate::once::Once::wait) answers it.
+/// The last closure has failed, and nobody has run one since: code 24. [`Once::wait`](crate::once::Once::wait) answers
+/// it.
 #[derive(Clone, Copy, Debug, PartialEq, Eq)]
 pub struct Poisoned;
 
@@ -35,7 +36,8 @@ impl Error for Poisoned {}
 pub enum OnceFault<E> {
     /// The last closure has failed: the caller's own has not run. Code 24.
     Poisoned,
-    /// The caller's closure ran and has failed with this error, which has no code of its own. The thing is poisoned now.
+    /// The caller's closure ran and has failed with this error, which has no code of its own. The thing is poisoned
+    /// now.
     Failed(E),
 }
 

@@ -1,6 +1,7 @@
 //! One-time initialization on a row of a lock table.
 ghost use Rattle.std.specs.Prelude.{◌≡◌, IfOk, true};
-ghost use Rattle.parking_lot_mutex.specs.Once.OnceRuns.{Answered, Calls, CallsUnlessPoisoned, MayRun, WaitEnds, ended_well, forced, plain, waiting_on};
+ghost use Rattle.parking_lot_mutex.specs.Once.OnceRuns.{Answered, Calls, CallsUnlessPoisoned, MayRun, WaitEnds};
+ghost use Rattle.parking_lot_mutex.specs.Once.OnceRuns.{ended_well, forced, plain, waiting_on};
 ghost use Rattle.parking_lot_rules.specs.declared.once.once_state.OnceState.{OnceState};
 ghost use Rattle.parking_lot_rules.specs.declared.once.once_state.OnceState.TheVariants.{New};
 ghost use Rattle.parking_lot_rules.specs.declared.once.wish.Wish.{Wish};
@@ -23,8 +24,8 @@ use std::sync::Wait;
 /// The word of one that is done.
 const DONE: u64 = 1;
 
-/// Runs one closure once, on one row of a lock table. A closure answers a `Result`: its error poisons, and then only a forced call runs
-/// another. No call takes memory.
+/// Runs one closure once, on one row of a lock table. A closure answers a `Result`: its error poisons, and then only a
+/// forced call runs another. No call takes memory.
 ///
 /// ```text
 /// let lot = ParkingLot::new(rt, alloc, 16, 7)?;
@@ -118,7 +119,8 @@ impl<R: Wait, A: Allocator> Once<'_, '_, R, A> {
 
     /// Runs the closure where none has run. Where one has ended well it is over at once, and while one runs it waits.
     ///
-    /// [`OnceFault::Poisoned`] where the last closure has failed; [`OnceFault::Failed`] where this one does, with its error.
+    /// [`OnceFault::Poisoned`] where the last closure has failed; [`OnceFault::Failed`] where this one does, with its
+    /// error.
     pub fn call_once<E, F: FnOnce() -> Result<(), E> + Drop>(
         &self,
         party: &mut ThreadData<A>,
@@ -141,8 +143,8 @@ impl<R: Wait, A: Allocator> Once<'_, '_, R, A> {
         }
     }
 
-    /// The same as [`call_once`](Once::call_once), but it runs the closure also where the last one has failed. The closure is handed
-    /// the state before, and its error is handed on.
+    /// The same as [`call_once`](Once::call_once), but it runs the closure also where the last one has failed. The
+    /// closure is handed the state before, and its error is handed on.
     pub fn call_once_force<E, F: FnOnce(OnceState) -> Result<(), E> + Drop>(
         &self,
         party: &mut ThreadData<A>,

@@ -11,7 +11,8 @@ use Rattle.parking_lot_protocol.specs.Timed.TimedTable.{asking}
 use Rattle.parking_lot_protocol.specs.Timed.TimedRules.{Follows, expire, role}
 
 -- the moment of one that sleeps passes, wherever it stands
-passes : (spot : QueuePosition) (v : ℕ) (w : rules.Word) → mutex.IsPlain (expire spot) (role spot v (asking Sleeps)) (role spot v Expires) w (rules.number w)
+passes : (spot : QueuePosition) (v : ℕ) (w : rules.Word) → mutex.IsPlain (expire spot) (role spot v (asking Sleeps))
+    (role spot v Expires) w (rules.number w)
 passes Listed v w = record { from = refl; to = refl; may = tt; written = refl }
 passes (Off by mark) v w = record { from = refl; to = refl; may = tt; written = refl }
 

@@ -9,7 +9,9 @@ use Rattle.parking_lot_protocol.specs.declared.timed.timed_act.TimedAct.TheVaria
 use Rattle.parking_lot_protocol.specs.declared.timed.timed_act.TimedSeen.{TimedSeen}
 use Rattle.parking_lot_protocol.specs.declared.timed.timed_act.TimedSeen.TheVariants.{Plain, Quit, WasTaken}
 use Rattle.parking_lot_protocol.specs.declared.timed.timed_core.TimedMutexPhase.{TimedMutexPhase}
-use Rattle.parking_lot_protocol.specs.declared.timed.timed_core.TimedMutexPhase.TheVariants.{Asks, Expires, Quits, Masks, Leaves, GivesUp, Resumes}
+use Rattle.parking_lot_protocol.specs.declared.timed.timed_core.TimedMutexPhase.TheVariants.{Asks, Expires, Quits}
+use Rattle.parking_lot_protocol.specs.declared.timed.timed_core.TimedMutexPhase.TheVariants.{Masks, Leaves, GivesUp}
+use Rattle.parking_lot_protocol.specs.declared.timed.timed_core.TimedMutexPhase.TheVariants.{Resumes}
 use Rattle.parking_lot_protocol.specs.Timed.TimedTable.{act_of, next_phase, word_after, Gives}
 
 -- one whose moment has passed, where it stands: still in the list, or off it
@@ -85,14 +87,19 @@ resume by handed = if handed then rules.Receive by else rules.Resume by
 abbrev pub IsMove : Move → ℕ → TimedMutexPhase → TimedMutexPhase → rules.Word → ℕ → Type 0
 IsMove (Asking m) v (Asks old) (Asks new) w word = mutex.IsMove m v old.phase new.phase w word
 IsMove (Asking m) v p q w word = ⊥
-IsMove Expiring v p q w word = (spot : QueuePosition) → mutex.IsPlain (expire spot) (role spot v p) (role spot v q) w word
-IsMove Reentering v p q w word = (spot : QueuePosition) → mutex.IsPlain (reenter spot) (role spot v p) (role spot v q) w word
+IsMove Expiring v p q w word = (spot : QueuePosition) → mutex.IsPlain (expire spot) (role spot v p) (role spot v q) w
+    word
+IsMove Reentering v p q w word = (spot : QueuePosition) → mutex.IsPlain (reenter spot) (role spot v p) (role spot v q) w
+    word
 IsMove (Quitting last) v p q w word =
-    mutex.Keeps (role Listed v p) (rules.doing (rules.Queued Back)) (role Listed v q) (if last then rules.doing rules.Masks else rules.doing rules.Leaves) w word
+    mutex.Keeps (role Listed v p) (rules.doing (rules.Queued Back)) (role Listed v q)
+    (if last then rules.doing rules.Masks else rules.doing rules.Leaves) w word
 IsMove (FindingItselfTaken handed) v p q w word = (by : ℕ) → let here = Off by (mutex.mark_of handed) in
-    mutex.Keeps (role here v p) (rules.doing (rules.Taken by (mutex.mark_of handed) Back)) (role here v q) (rules.doing (rules.Taken by (mutex.mark_of handed) Back)) w word
+    mutex.Keeps (role here v p) (rules.doing (rules.Taken by (mutex.mark_of handed) Back)) (role here v q)
+    (rules.doing (rules.Taken by (mutex.mark_of handed) Back)) w word
 IsMove (Making k) v p q w word = mutex.IsPlain k (role Listed v p) (role Listed v q) w word
-IsMove (Resuming handed) v p q w word = (by : ℕ) → mutex.IsPlain (resume by handed) (role (Off by (mutex.mark_of handed)) v p) (role Listed v q) w word
+IsMove (Resuming handed) v p q w word = (by : ℕ)
+    → mutex.IsPlain (resume by handed) (role (Off by (mutex.mark_of handed)) v p) (role Listed v q) w word
 
 -- what a core may be told at a word: that it begins, or what its act gives
 abbrev pub IsTold : TimedMutexPhase → ℕ → TimedSeen → Type 0
@@ -101,9 +108,11 @@ IsTold p word seen = Gives (act_of p) word seen
 
 -- What a core is told at a word is a step of the rules, of the kind that the table says.
 abbrev pub Follows : TimedMutexPhase → TimedSeen → Type 0
-Follows p s = (w : rules.Word) (v : ℕ) → mutex.IsWord w → IsTold p (rules.number w) s → IsMove (move v p s) v p (next_phase p s) w (word_after (act_of p) s (rules.number w))
+Follows p s = (w : rules.Word) (v : ℕ) → mutex.IsWord w → IsTold p (rules.number w) s
+    → IsMove (move v p s) v p (next_phase p s) w (word_after (act_of p) s (rules.number w))
 
--- The end of a call is that of one that waits; or it has given up: then it owns nothing, and does nothing at the mutex any more.
+-- The end of a call is that of one that waits; or it has given up: then it owns nothing, and does nothing at the mutex
+-- any more.
 abbrev pub EndsRightly : TimedMutexPhase → TimedAct → Type 0
 EndsRightly (Asks core) (act.Makes act) = mutex.Ended core.phase act
 EndsRightly p act.GivesUp = (spot : QueuePosition) (v : ℕ) → role spot v p ≡ rules.away

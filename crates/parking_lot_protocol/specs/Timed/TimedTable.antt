@@ -9,10 +9,13 @@ use Rattle.parking_lot_protocol.specs.MutexTable as mutex
 use Rattle.parking_lot_protocol.specs.declared.timed.timed_act.TimedAct.{TimedAct}
 use Rattle.parking_lot_protocol.specs.declared.timed.timed_act.TimedAct.TheVariants as act
 use Rattle.parking_lot_protocol.specs.declared.timed.timed_act.TimedSeen.{TimedSeen}
-use Rattle.parking_lot_protocol.specs.declared.timed.timed_act.TimedSeen.TheVariants.{Plain, Expired, Reentered, Quit, WasTaken, Masked, Left}
+use Rattle.parking_lot_protocol.specs.declared.timed.timed_act.TimedSeen.TheVariants.{Plain, Expired, Reentered, Quit}
+use Rattle.parking_lot_protocol.specs.declared.timed.timed_act.TimedSeen.TheVariants.{WasTaken, Masked, Left}
 use Rattle.parking_lot_protocol.specs.declared.timed.timed_core.TimedMutexCore.{TimedMutexCore}
 use Rattle.parking_lot_protocol.specs.declared.timed.timed_core.TimedMutexPhase.{TimedMutexPhase}
-use Rattle.parking_lot_protocol.specs.declared.timed.timed_core.TimedMutexPhase.TheVariants.{Asks, Expires, Quits, Masks, Leaves, GivesUp, Resumes}
+use Rattle.parking_lot_protocol.specs.declared.timed.timed_core.TimedMutexPhase.TheVariants.{Asks, Expires, Quits}
+use Rattle.parking_lot_protocol.specs.declared.timed.timed_core.TimedMutexPhase.TheVariants.{Masks, Leaves, GivesUp}
+use Rattle.parking_lot_protocol.specs.declared.timed.timed_core.TimedMutexPhase.TheVariants.{Resumes}
 
 -- the act that a phase has asked for
 abbrev pub act_of : TimedMutexPhase → TimedAct

@@ -42,7 +42,8 @@ pub trait CallCore: Copy {
         ensures { self.new ≡ told self.old seen };
 }
 
-/// A call that has begun as one core: that core now, which was told nothing but what the acts that it asked for can give.
+/// A call that has begun as one core: that core now, which was told nothing but what the acts that it asked for can
+/// give.
 ///
 /// A contract sees it as the core that the call began as, and the core that it is now.
 #[derive(Copy)]
@@ -86,7 +87,8 @@ impl<C: CallCore> Course<C> {
         self.core.act()
     }
 
-    /// Is told what its act gave, and answers the next. What the act can't give isn't told: then it asks for the same again.
+    /// Is told what its act gave, and answers the next. What the act can't give isn't told: then it asks for the same
+    /// again.
     pub fn tell(&mut self, seen: C::Seen) -> C::Act
         ensures begun { self.new.0 ≡ self.old.0 }
         ensures act { result ≡ C.asks self.new.1 }

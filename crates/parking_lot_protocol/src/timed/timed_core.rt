@@ -5,9 +5,11 @@ ghost use Rattle.parking_lot_protocol.specs.MutexTable as mutex;
 ghost use Rattle.parking_lot_protocol.specs.declared.act.ActResult.TheVariants.{Start};
 ghost use Rattle.parking_lot_protocol.specs.declared.mutex_phase.MutexPhase.TheVariants.{Locking, Sleeps, Invalid};
 ghost use Rattle.parking_lot_protocol.specs.Timed.TimedRules.{EndsRightly, Follows};
-ghost use Rattle.parking_lot_protocol.specs.Timed.TimedTable.{act_of, asking, is_asleep, next_phase, Gives, timed_asks, timed_told};
+ghost use Rattle.parking_lot_protocol.specs.Timed.TimedTable.{act_of, asking, is_asleep, next_phase, Gives, timed_asks};
+ghost use Rattle.parking_lot_protocol.specs.Timed.TimedTable.{timed_told};
 ghost use Rattle.parking_lot_protocol.specs.declared.timed.timed_act.TimedSeen.TheVariants.{Plain};
-ghost use Rattle.parking_lot_protocol.specs.declared.timed.timed_core.TimedMutexPhase.TheVariants.{Expires, Masks, Leaves};
+ghost use Rattle.parking_lot_protocol.specs.declared.timed.timed_core.TimedMutexPhase.TheVariants.{Expires, Masks};
+ghost use Rattle.parking_lot_protocol.specs.declared.timed.timed_core.TimedMutexPhase.TheVariants.{Leaves};
 
 use crate::timed::course::CallCore;
 use crate::timed::plain_acts::giving;

@@ -24,7 +24,9 @@ use Rattle.parking_lot_protocol_rw.specs.declared.upgrade_phase.UpgradePhase.{Up
 use Rattle.parking_lot_protocol_rw.specs.declared.upgrade_phase.UpgradePhase.TheVariants as call
 use Rattle.parking_lot_protocol_rw.specs.Timed.TimedTable.{act_of, next_phase, word_after}
 use Rattle.parking_lot_protocol_rw.specs.declared.timed.timed_phase.TimedRwPhase.{TimedRwPhase}
-use Rattle.parking_lot_protocol_rw.specs.declared.timed.timed_phase.TimedRwPhase.TheVariants.{Asks, Expires, Quits, Masks, Leaves, GivesUp, LeavesPending, Resumes}
+use Rattle.parking_lot_protocol_rw.specs.declared.timed.timed_phase.TimedRwPhase.TheVariants.{Asks, Expires, Quits}
+use Rattle.parking_lot_protocol_rw.specs.declared.timed.timed_phase.TimedRwPhase.TheVariants.{Masks, Leaves, GivesUp}
+use Rattle.parking_lot_protocol_rw.specs.declared.timed.timed_phase.TimedRwPhase.TheVariants.{LeavesPending, Resumes}
 
 -- WHAT A THREAD IS DOING
 
@@ -140,17 +142,24 @@ resume (Pending from) by handed = plain.Resume2 from by
 
 -- The move leads from phase p to phase q, at word w, and leaves that number as the word.
 abbrev pub IsMove : Bool → Move → ℕ → List ℕ → TimedRwPhase → TimedRwPhase → Word → ℕ → Type 0
-IsMove recursive (Asking m) n us (Asks old) (Asks new) w word = upgrades.IsMove recursive m n us old.phase new.phase w word
+IsMove recursive (Asking m) n us (Asks old) (Asks new) w word = upgrades.IsMove recursive m n us old.phase new.phase w
+    word
 IsMove recursive (Asking m) n us p q w word = ⊥
-IsMove recursive (Expiring who) n us p q w word = (spot : QueuePosition) → IsPlain recursive (expire who spot) (role n spot us p) (role n spot us q) w word
-IsMove recursive (Reentering who) n us p q w word = (spot : QueuePosition) → IsPlain recursive (reenter who spot) (role n spot us p) (role n spot us q) w word
+IsMove recursive (Expiring who) n us p q w word = (spot : QueuePosition)
+    → IsPlain recursive (expire who spot) (role n spot us p) (role n spot us q) w word
+IsMove recursive (Reentering who) n us p q w word = (spot : QueuePosition)
+    → IsPlain recursive (reenter who spot) (role n spot us p) (role n spot us q) w word
 IsMove recursive (Quitting who last) n us p q w word =
-    (i : ℕ) → (role n Listed us p ≡ listing_from (quit who last i)) × (role n Listed us q ≡ listing_to (quit who last i)) × (word ≡ number w)
+    (i : ℕ) → (role n Listed us p ≡ listing_from (quit who last i))
+    × (role n Listed us q ≡ listing_to (quit who last i)) × (word ≡ number w)
 IsMove recursive (FindingItselfTaken who) n us p q w word =
-    (by : ℕ) (mark : Mark) → (role n (Off by mark) us p ≡ record { owns = Shares 0; does = standing Back who (Off by mark) }) × (role n (Off by mark) us q ≡ role n (Off by mark) us p) × (word ≡ number w)
+    (by : ℕ) (mark : Mark)
+    → (role n (Off by mark) us p ≡ record { owns = Shares 0; does = standing Back who (Off by mark) })
+    × (role n (Off by mark) us q ≡ role n (Off by mark) us p) × (word ≡ number w)
 IsMove recursive (Making k) n us p q w word = IsPlain recursive k (role n Listed us p) (role n Listed us q) w word
 IsMove recursive (Resuming who handed) n us p q w word =
-    (by : ℕ) → IsPlain recursive (resume who by handed) (role n (Off by (mark_of handed)) us p) (role n Listed us q) w word
+    (by : ℕ) → IsPlain recursive (resume who by handed) (role n (Off by (mark_of handed)) us p) (role n Listed us q) w
+    word
 
 -- one that sleeps
 abbrev pub IsAsleep : Option Waiter → Type 0
@@ -176,14 +185,16 @@ abbrev pub IsTold : TimedRwPhase → ℕ → TimedSeen → Type 0
 IsTold (Asks core) word (seen.Plain s) = calls.IsTold core.phase word s
 IsTold p word s = Gives (act_of p) word s
 
--- What a core is told at a word, at which one reader more can be counted, is a step of the rules, of the kind that the table says; and the
--- phase that follows is ready again.
+-- What a core is told at a word, at which one reader more can be counted, is a step of the rules, of the kind that the
+-- table says; and the phase that follows is ready again.
 abbrev pub Follows : TimedRwPhase → TimedSeen → Type 0
-Follows p s = (recursive : Bool) (n : ℕ) (us : List ℕ) (w : Word) → IsReady p → IsWord w → w.readers < 2 ^ 60 - 1 → Fits recursive n us p w → IsTold p (number w) s
-    → IsMove recursive (move n us p s) n us p (next_phase p s) w (word_after (act_of p) s (number w)) × IsReady (next_phase p s)
+Follows p s = (recursive : Bool) (n : ℕ) (us : List ℕ) (w : Word) → IsReady p → IsWord w → w.readers < 2 ^ 60 - 1
+    → Fits recursive n us p w → IsTold p (number w) s
+    → IsMove recursive (move n us p s) n us p (next_phase p s) w (word_after (act_of p) s (number w))
+    × IsReady (next_phase p s)
 
--- The end of a call is that of one that waits; or it has given up on the first list: then it owns nothing, and does nothing at the lock any
--- more.
+-- The end of a call is that of one that waits; or it has given up on the first list: then it owns nothing, and does
+-- nothing at the lock any more.
 abbrev pub EndsRightly : TimedRwPhase → TimedAct → Type 0
 EndsRightly (Asks core) last = calls.Ended core.phase
 EndsRightly p act.GivesUp = (n : ℕ) (spot : QueuePosition) (us : List ℕ) → role n spot us p ≡ rules.away

@@ -1,4 +1,5 @@
--- A reader-writer lock's call that may give up: the act that each phase has asked for, and the phase that follows what it gives.
+-- A reader-writer lock's call that may give up: the act that each phase has asked for, and the phase that follows what
+-- it gives.
 use Rattle.std.specs.Prelude.{ℕ, ◌-◌, ◌^◌, Bool, true, false, if◌then◌else◌, bit_and, Option, Some, None}
 use Rattle.parking_lot_core_model.specs.declared.parking.UnparkToken.{UnparkToken}
 use Rattle.parking_lot_protocol.specs.Acts as acts
@@ -11,7 +12,8 @@ use Rattle.parking_lot_protocol.specs.declared.rw_phase.RwPhase.TheVariants.{Sle
 use Rattle.parking_lot_protocol.specs.declared.timed.timed_act.TimedAct.{TimedAct}
 use Rattle.parking_lot_protocol.specs.declared.timed.timed_act.TimedAct.TheVariants as act
 use Rattle.parking_lot_protocol.specs.declared.timed.timed_act.TimedSeen.{TimedSeen}
-use Rattle.parking_lot_protocol.specs.declared.timed.timed_act.TimedSeen.TheVariants.{Plain, Expired, Reentered, Quit, WasTaken, Masked, Left}
+use Rattle.parking_lot_protocol.specs.declared.timed.timed_act.TimedSeen.TheVariants.{Plain, Expired, Reentered, Quit}
+use Rattle.parking_lot_protocol.specs.declared.timed.timed_act.TimedSeen.TheVariants.{WasTaken, Masked, Left}
 use Rattle.parking_lot_protocol_rw.specs.UpgradeTable as upgrades
 use Rattle.parking_lot_protocol_rw.specs.UpgradeTable.{core_at, upgrade_told, upgrade_asks}
 use Rattle.parking_lot_protocol_rw.specs.declared.upgrade_core.UpgradeCore.{UpgradeCore}
@@ -21,7 +23,9 @@ use Rattle.parking_lot_protocol_rw.specs.declared.timed.timed_core.TimedRwCore.{
 use Rattle.parking_lot_protocol_rw.specs.declared.timed.timed_phase.Sleeper.{Sleeper}
 use Rattle.parking_lot_protocol_rw.specs.declared.timed.timed_phase.Sleeper.TheVariants.{Wanting, Pending}
 use Rattle.parking_lot_protocol_rw.specs.declared.timed.timed_phase.TimedRwPhase.{TimedRwPhase}
-use Rattle.parking_lot_protocol_rw.specs.declared.timed.timed_phase.TimedRwPhase.TheVariants.{Asks, Expires, Quits, Masks, Leaves, GivesUp, LeavesPending, Resumes}
+use Rattle.parking_lot_protocol_rw.specs.declared.timed.timed_phase.TimedRwPhase.TheVariants.{Asks, Expires, Quits}
+use Rattle.parking_lot_protocol_rw.specs.declared.timed.timed_phase.TimedRwPhase.TheVariants.{Masks, Leaves, GivesUp}
+use Rattle.parking_lot_protocol_rw.specs.declared.timed.timed_phase.TimedRwPhase.TheVariants.{LeavesPending, Resumes}
 
 -- an act of a call that waits: one that may give up never ends with a release but by giving up
 abbrev pub made : Act → TimedAct

@@ -4,7 +4,9 @@ ghost use Rattle.parking_lot_protocol.specs.declared.act.ActResult.TheVariants.{
 ghost use Rattle.parking_lot_protocol.specs.declared.rw_phase.LockMode.TheVariants.{Shared, Exclusive};
 ghost use Rattle.parking_lot_protocol.specs.declared.rw_phase.RwPhase.TheVariants.{Locking};
 ghost use Rattle.parking_lot_protocol_rw.specs.Timed.TimedRules.{EndsRightly, Follows};
-ghost use Rattle.parking_lot_protocol_rw.specs.Timed.TimedTable.{act_of, astray, expires, made, next_phase, pending, plain_at, quits, timed_asks, timed_told, upgrade_at, wakes_with};
+ghost use Rattle.parking_lot_protocol_rw.specs.Timed.TimedTable.{act_of, astray, expires, made, next_phase, pending};
+ghost use Rattle.parking_lot_protocol_rw.specs.Timed.TimedTable.{plain_at, quits, timed_asks, timed_told, upgrade_at};
+ghost use Rattle.parking_lot_protocol_rw.specs.Timed.TimedTable.{wakes_with};
 ghost use Rattle.parking_lot_protocol_rw.specs.declared.timed.timed_phase.TimedRwPhase.TheVariants.{Asks};
 ghost use Rattle.parking_lot_protocol.specs.Timed.TimedTable.{Gives};
 ghost use Rattle.parking_lot_protocol.specs.declared.timed.timed_act.TimedSeen.TheVariants.{Plain};
@@ -17,7 +19,8 @@ use parking_lot_core_model::UnparkToken;
 use parking_lot_protocol::timed::{CallCore, TimedAct, TimedMutexCore, TimedSeen};
 use parking_lot_protocol::{Act, ActResult, CoreAnswer, RwCore, TRY_AGAIN};
 
-/// The state of one call at a reader-writer lock that may give up. It is told what its last act gave, and answers the next one.
+/// The state of one call at a reader-writer lock that may give up. It is told what its last act gave, and answers the
+/// next one.
 ///
 /// ```text
 /// let mut core = TimedRwCore::lock_shared_until(false);
@@ -29,8 +32,8 @@ pub struct TimedRwCore {
 }
 
 impl TimedRwCore {
-    /// A call that waits until it has a shared hold, or its moment passes as it sleeps. On a recursive lock one that has a hold may
-    /// ask again.
+    /// A call that waits until it has a shared hold, or its moment passes as it sleeps. On a recursive lock one that
+    /// has a hold may ask again.
     pub fn lock_shared_until(recursive: bool) -> TimedRwCore
         ensures { result.phase ≡ plain_at (Locking (Shared recursive)) }
     {
@@ -57,8 +60,8 @@ impl TimedRwCore {
         }
     }
 
-    /// A call that makes the upgradable hold the exclusive one, and waits until the readers have left, or its moment passes as it
-    /// sleeps: then it has the upgradable hold again.
+    /// A call that makes the upgradable hold the exclusive one, and waits until the readers have left, or its moment
+    /// passes as it sleeps: then it has the upgradable hold again.
     pub fn upgrade_until() -> TimedRwCore
         ensures { result.phase ≡ upgrade_at call.Upgrading }
     {

@@ -6,7 +6,8 @@ use crate::{UpgradeCore, UpgradePhase};
 use parking_lot_core_model::UnparkToken;
 use parking_lot_protocol::RwPhase;
 
-/// Who sleeps: one that wants the lock; or one that waits for readers to leave, and had the upgradable hold before or nothing.
+/// Who sleeps: one that wants the lock; or one that waits for readers to leave, and had the upgradable hold before or
+/// nothing.
 #[derive(Clone, Copy, PartialEq, Eq, Debug)]
 pub enum Sleeper {
     Wanting,

@@ -1,5 +1,6 @@
 -- Which step of the rules each answer to a core is, and in which role its thread is.
-use Rattle.std.specs.Prelude.{◌≡◌, ◌<◌, ◌≤◌, ℕ, ◌-◌, ◌^◌, ◌&&◌, Bool, true, if◌then◌else◌, List, [], ◌∷◌, ◌++◌, length, Option, Some, None}
+use Rattle.std.specs.Prelude.{◌≡◌, ◌<◌, ◌≤◌, ℕ, ◌-◌, ◌^◌, ◌&&◌, Bool, true, if◌then◌else◌, List, [], ◌∷◌, ◌++◌, length}
+use Rattle.std.specs.Prelude.{Option, Some, None}
 use Rattle.parking_lot_protocol.specs.declared.act.ActResult.{ActResult}
 use Rattle.parking_lot_protocol.specs.declared.act.ActResult.TheVariants as seen
 use Rattle.parking_lot_protocol.specs.Acts.{Begins, Gives, word_after}
@@ -11,7 +12,13 @@ use Rattle.parking_lot_rules.specs.Once.Once as rules
 use Rattle.parking_lot_protocol_waits.specs.declared.once.once_phase.OnceAnswer.{OnceAnswer}
 use Rattle.parking_lot_protocol_waits.specs.declared.once.once_phase.OnceAnswer.TheVariants as answer
 use Rattle.parking_lot_protocol_waits.specs.declared.once.once_phase.OncePhase.{OncePhase}
-use Rattle.parking_lot_protocol_waits.specs.declared.once.once_phase.OncePhase.TheVariants.{Asking, Returning, Loads, Starts, Spins, Parks, Enters, Checks, Retreats, Appends, Rests, Sleeps, Stores, Looks, Scans, Clears, Leaves, Wakes, Finishes, Ends, Invalid}
+use Rattle.parking_lot_protocol_waits.specs.declared.once.once_phase.OncePhase.TheVariants.{Asking, Returning, Loads}
+use Rattle.parking_lot_protocol_waits.specs.declared.once.once_phase.OncePhase.TheVariants.{Starts, Spins, Parks}
+use Rattle.parking_lot_protocol_waits.specs.declared.once.once_phase.OncePhase.TheVariants.{Enters, Checks, Retreats}
+use Rattle.parking_lot_protocol_waits.specs.declared.once.once_phase.OncePhase.TheVariants.{Appends, Rests, Sleeps}
+use Rattle.parking_lot_protocol_waits.specs.declared.once.once_phase.OncePhase.TheVariants.{Stores, Looks, Scans}
+use Rattle.parking_lot_protocol_waits.specs.declared.once.once_phase.OncePhase.TheVariants.{Clears, Leaves, Wakes}
+use Rattle.parking_lot_protocol_waits.specs.declared.once.once_phase.OncePhase.TheVariants.{Finishes, Ends, Invalid}
 use Rattle.parking_lot_protocol_waits.specs.Once.OnceTable.{state_of, is_parked, act_of, next_phase}
 
 -- What whoever runs a core knows: the state that its closure was handed, and whom it has taken and is to wake.
@@ -31,7 +38,8 @@ role_after answer.Completed = rules.Idle
 role_after answer.Poisoned = rules.Idle
 role_after answer.Finished = rules.Idle
 
--- What a thread is doing in each phase, in the words of the rules. by: the thread that has taken it off the list, if it sleeps.
+-- What a thread is doing in each phase, in the words of the rules. by: the thread that has taken it off the list, if it
+-- sleeps.
 abbrev pub role : Option ℕ → Known → OncePhase → rules.Role
 role by k (Asking wish) = rules.Idle
 role by k (Returning well) = rules.Runs k.before
@@ -86,7 +94,8 @@ move k (Starts a before parked) (seen.Word word) = seeing a.wish (state_of word)
 move k (Parks a state) seen.Exchanged = Makes (rules.Flag a.wish)
 move k (Parks a state) (seen.Word word) = seeing a.wish (state_of word)
 move k (Enters wish) s = Makes (rules.Enter wish)
-move k (Checks wish) (seen.Word word) = (if waits wish (state_of word) && is_parked word then Makes (rules.Check wish) else Stays)
+move k (Checks wish) (seen.Word word) =
+    (if waits wish (state_of word) && is_parked word then Makes (rules.Check wish) else Stays)
 move k (Retreats wish) s = Makes (rules.Retreat wish)
 move k (Appends wish) s = Joins wish
 move k (Rests wish) s = Makes (rules.Rest wish)
@@ -103,7 +112,8 @@ move k p s = Stays
 abbrev pub IsWord : rules.Word → Type 0
 IsWord w = w.parked ≤ 1
 
--- The step k leads from the one role and word to the other, and it may be made: as far as the word goes, where nobody is inside or waits.
+-- The step k leads from the one role and word to the other, and it may be made: as far as the word goes, where nobody
+-- is inside or waits.
 pub record IsPlain (k : rules.Plain) (old new : rules.Role) (w : rules.Word) (word : ℕ) : Type 0 where
   pub from : old ≡ rules.from k
   pub to : new ≡ rules.to k
@@ -128,18 +138,23 @@ IsReady (Spins a state) = waits a.wish state ≡ true
 IsReady (Parks a state) = waits a.wish state ≡ true
 IsReady p = Unit {0}
 
--- The move leads from phase p to phase q, at word w, and leaves that number as the word; and the next phase counts whom it has taken.
+-- The move leads from phase p to phase q, at word w, and leaves that number as the word; and the next phase counts whom
+-- it has taken.
 abbrev pub IsMove : Move → Known → OncePhase → OncePhase → rules.Word → ℕ → Type 0
 IsMove Stays k p q w word = ((by : Option ℕ) → role by k q ≡ role by k p) × (word ≡ rules.number w) × Holds k.taken q
 IsMove (Makes step) k p q w word = IsPlain step (role None k p) (role None k q) w word × Holds k.taken q
-IsMove (Joins wish) k p q w word = (role None k p ≡ rules.Checked wish) × (role None k q ≡ rules.Joined wish) × (word ≡ rules.number w)
+IsMove (Joins wish) k p q w word = (role None k p ≡ rules.Checked wish) × (role None k q ≡ rules.Joined wish)
+    × (word ≡ rules.number w)
 IsMove (TakesOne well) k p q w word =
     (v : ℕ) → let later : Known = record k { taken = k.taken ++ v ∷ [] } in
-    (role None k p ≡ rules.Scans well k.taken) × (role None later q ≡ rules.Scans well later.taken) × (word ≡ rules.number w) × Holds later.taken q
+    (role None k p ≡ rules.Scans well k.taken) × (role None later q ≡ rules.Scans well later.taken)
+    × (word ≡ rules.number w) × Holds later.taken q
 IsMove WakesOne k p q w word =
     (v : ℕ) (left : List ℕ) → k.taken ≡ v ∷ left → let later : Known = record k { taken = left } in
-    (role None k p ≡ rules.Wakes (v ∷ left)) × (role None later q ≡ rules.Wakes left) × (word ≡ rules.number w) × Holds left q
-IsMove (IsWoken wish) k p q w word = (by : ℕ) → (role (Some by) k p ≡ rules.Taken wish by) × (role None k q ≡ rules.Seeks wish) × (word ≡ rules.number w)
+    (role None k p ≡ rules.Wakes (v ∷ left)) × (role None later q ≡ rules.Wakes left) × (word ≡ rules.number w)
+    × Holds left q
+IsMove (IsWoken wish) k p q w word = (by : ℕ) → (role (Some by) k p ≡ rules.Taken wish by)
+    × (role None k q ≡ rules.Seeks wish) × (word ≡ rules.number w)
 
 -- what a core may be told at a word: that it begins, or what its act gives
 abbrev pub IsTold : OncePhase → ℕ → ActResult → Type 0
@@ -147,13 +162,16 @@ IsTold (Asking wish) word s = Begins s
 IsTold (Returning well) word s = Begins s
 IsTold p word s = Gives (act_of p) word s
 
--- What a core is told at a word is a step of the rules, of the kind that the table says; and the phase that follows is ready again.
+-- What a core is told at a word is a step of the rules, of the kind that the table says; and the phase that follows is
+-- ready again.
 abbrev pub Follows : OncePhase → ActResult → Type 0
-Follows p s = (k : Known) (w : rules.Word) → IsReady p → IsWord w → Holds k.taken p → length k.taken < 2 ^ 32 - 1 → IsTold p (rules.number w) s
+Follows p s = (k : Known) (w : rules.Word) → IsReady p → IsWord w → Holds k.taken p → length k.taken < 2 ^ 32 - 1
+    → IsTold p (rules.number w) s
     → IsMove (move k p s) k p (next_phase p s) w (word_after (act_of p) s (rules.number w)) × IsReady (next_phase p s)
 
 -- And so is the end of a call: where it has woken all, it leaves, and else nothing is left to be done.
 abbrev pub Ended : OncePhase → Type 0
-Ended Finishes = (k : Known) (w : rules.Word) → IsPlain rules.Leave (role None k Finishes) (role_after answer.Finished) w (rules.number w)
+Ended Finishes = (k : Known) (w : rules.Word) → IsPlain rules.Leave (role None k Finishes) (role_after answer.Finished)
+    w (rules.number w)
 Ended (Ends end) = (k : Known) → role None k (Ends end) ≡ role_after end
 Ended p = Unit {0}

@@ -1,5 +1,7 @@
--- The protocol of a one-time initialization as a table: the act of each phase, and the phase that follows what the act gave.
-use Rattle.std.specs.Prelude.{ℕ, ◌+◌, ◌*◌, ◌-◌, ◌/◌, ◌%◌, ◌^◌, ◌==◌, ◌&&◌, nat_lt, min, Bool, true, false, is_some, if◌then◌else◌, Option, Some, None, option_map, Result, Ok, Err}
+-- The protocol of a one-time initialization as a table: the act of each phase, and the phase that follows what the act
+-- gave.
+use Rattle.std.specs.Prelude.{ℕ, ◌+◌, ◌*◌, ◌-◌, ◌/◌, ◌%◌, ◌^◌, ◌==◌, ◌&&◌, nat_lt, min, Bool, true, false, is_some}
+use Rattle.std.specs.Prelude.{if◌then◌else◌, Option, Some, None, option_map, Result, Ok, Err}
 use Rattle.std.specs.Option.{option_map_or}
 use Rattle.parking_lot_rules.specs.Classes.{bit}
 use Rattle.parking_lot_protocol.specs.declared.act.Act.{Act}
@@ -9,7 +11,8 @@ use Rattle.parking_lot_protocol.specs.declared.act.WordChange.{WordChange}
 use Rattle.parking_lot_protocol.specs.declared.act.CoreAnswer.{CoreAnswer}
 use Rattle.parking_lot_protocol.specs.declared.act.CoreAnswer.TheVariants.{Owned, Refused, Released}
 use Rattle.parking_lot_protocol.specs.declared.act.ActResult.{ActResult}
-use Rattle.parking_lot_protocol.specs.Acts.{is_start, is_entered, is_made, word_seen, exchange_seen, spun_seen, took_seen, stored_seen, woken_seen}
+use Rattle.parking_lot_protocol.specs.Acts.{is_start, is_entered, is_made, word_seen, exchange_seen, spun_seen}
+use Rattle.parking_lot_protocol.specs.Acts.{took_seen, stored_seen, woken_seen}
 use Rattle.parking_lot_rules.specs.declared.once.once_state.OnceState.{OnceState}
 use Rattle.parking_lot_rules.specs.declared.once.once_state.OnceState.TheVariants.{New, Poisoned, InProgress, Done}
 use Rattle.parking_lot_rules.specs.declared.once.wish.Wish.{Wish}
@@ -18,11 +21,18 @@ use Rattle.parking_lot_protocol_waits.specs.declared.once.once_phase.Seeking.{Se
 use Rattle.parking_lot_protocol_waits.specs.declared.once.once_phase.OnceAnswer.{OnceAnswer}
 use Rattle.parking_lot_protocol_waits.specs.declared.once.once_phase.OnceAnswer.TheVariants as answer
 use Rattle.parking_lot_protocol_waits.specs.declared.once.once_phase.OncePhase.{OncePhase}
-use Rattle.parking_lot_protocol_waits.specs.declared.once.once_phase.OncePhase.TheVariants.{Asking, Returning, Loads, Starts, Spins, Parks, Enters, Checks, Retreats, Appends, Rests, Sleeps, Stores, Looks, Scans, Clears, Leaves, Wakes, Finishes, Ends, Invalid}
+use Rattle.parking_lot_protocol_waits.specs.declared.once.once_phase.OncePhase.TheVariants.{Asking, Returning, Loads}
+use Rattle.parking_lot_protocol_waits.specs.declared.once.once_phase.OncePhase.TheVariants.{Starts, Spins, Parks}
+use Rattle.parking_lot_protocol_waits.specs.declared.once.once_phase.OncePhase.TheVariants.{Enters, Checks, Retreats}
+use Rattle.parking_lot_protocol_waits.specs.declared.once.once_phase.OncePhase.TheVariants.{Appends, Rests, Sleeps}
+use Rattle.parking_lot_protocol_waits.specs.declared.once.once_phase.OncePhase.TheVariants.{Stores, Looks, Scans}
+use Rattle.parking_lot_protocol_waits.specs.declared.once.once_phase.OncePhase.TheVariants.{Clears, Leaves, Wakes}
+use Rattle.parking_lot_protocol_waits.specs.declared.once.once_phase.OncePhase.TheVariants.{Finishes, Ends, Invalid}
 
 -- the state that a word has, and whether callers may wait
 abbrev pub state_of : ℕ → OnceState
-state_of word = (if word % 2 == 1 then Done else (if word / 2 % 2 == 1 then Poisoned else (if word / 4 % 2 == 1 then InProgress else New)))
+state_of word = (if word % 2 ==
+    1 then Done else (if word / 2 % 2 == 1 then Poisoned else (if word / 4 % 2 == 1 then InProgress else New)))
 
 abbrev pub is_parked : ℕ → Bool
 is_parked word = word / 8 % 2 == 1
@@ -78,12 +88,16 @@ begins wish = record { wish = wish; rounds = 10 }
 
 -- One that has to wait: it spins a while where nobody else waits, and else goes to sleep.
 abbrev pub waiting : Seeking → OnceState → Bool → OncePhase
-waiting a state parked = (if parked then Enters a.wish else (if nat_lt 0 a.rounds then Spins a state else Parks a state))
+waiting a state parked =
+    (if parked then Enters a.wish else (if nat_lt 0 a.rounds then Spins a state else Parks a state))
 
--- One that asks has seen the state: it is done, or refused where the last closure failed; it begins to run its closure, or has to wait.
+-- One that asks has seen the state: it is done, or refused where the last closure failed; it begins to run its closure,
+-- or has to wait.
 abbrev pub seeks : Seeking → OnceState → Bool → OncePhase
 seeks a Done parked = Ends answer.Completed
-seeks a Poisoned parked = (if a.wish.force then (if a.wish.runs then Starts a Poisoned parked else waiting a Poisoned parked) else Ends answer.Poisoned)
+seeks a Poisoned parked =
+    (if a.wish.force then (if a.wish.runs then Starts a Poisoned parked else waiting a Poisoned parked) else Ends
+    answer.Poisoned)
 seeks a New parked = (if a.wish.runs then Starts a New parked else waiting a New parked)
 seeks a InProgress parked = waiting a InProgress parked
 
@@ -118,10 +132,13 @@ after (Asking wish) s = once (is_start s) (Loads (begins wish))
 after (Returning well) s = once (is_start s) (Stores well)
 after (Loads a) s = option_map (sees a) (word_seen s)
 after (Starts a before parked) s = option_map (won_or (Ends (answer.Runs before)) (sees a)) (exchange_seen s)
-after (Spins a state) s = option_map (λ spun. if spun then Loads (record a { rounds = a.rounds - 1 }) else Parks a state) (spun_seen s)
+after (Spins a state) s =
+    option_map (λ spun. if spun then Loads (record a { rounds = a.rounds - 1 }) else Parks a state) (spun_seen s)
 after (Parks a state) s = option_map (won_or (Enters a.wish) (sees a)) (exchange_seen s)
 after (Enters wish) s = once (is_entered s) (Checks wish)
-after (Checks wish) s = option_map (λ word. if waits wish (state_of word) && is_parked word then Appends wish else Retreats wish) (word_seen s)
+after (Checks wish) s =
+    option_map (λ word. if waits wish (state_of word) && is_parked word then Appends wish else Retreats wish)
+    (word_seen s)
 after (Retreats wish) s = once (is_made s) (Loads (begins wish))
 after (Appends wish) s = once (is_made s) (Rests wish)
 after (Rests wish) s = once (is_made s) (Sleeps wish)

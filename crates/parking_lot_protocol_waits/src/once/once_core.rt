@@ -13,7 +13,8 @@ use parking_lot_rules::once::Wish;
 
 /// The state of one call of a one-time initialization. It is told what its last act gave, and answers the next one.
 ///
-/// A call that is to run its closure ends with [`OnceAnswer::Runs`], and its end is a call of its own, [`OnceCore::finish`].
+/// A call that is to run its closure ends with [`OnceAnswer::Runs`], and its end is a call of its own,
+/// [`OnceCore::finish`].
 ///
 /// ```text
 /// let mut core = OnceCore::call_once();
@@ -28,7 +29,8 @@ pub struct OnceCore {
 }
 
 impl OnceCore {
-    /// A call that runs its closure where none has run, waits where one runs, and is refused where the last one has failed.
+    /// A call that runs its closure where none has run, waits where one runs, and is refused where the last one has
+    /// failed.
     pub fn call_once() -> OnceCore
         ensures { result.phase ≡ Asking (record { runs = true; force = false }) }
     {
@@ -103,7 +105,8 @@ impl OnceCore {
         TRY_AGAIN
     }
 
-    /// Is told what the last act gave, and answers the next. What doesn't fit the act is met by `Done(Refused)`, and no answer.
+    /// Is told what the last act gave, and answers the next. What doesn't fit the act is met by `Done(Refused)`, and no
+    /// answer.
     pub fn next(&mut self, seen: ActResult) -> Act
         ensures phase { self.new.phase ≡ next_phase self.old.phase seen }
         ensures act { result ≡ act_of self.new.phase }

@@ -2,8 +2,12 @@
 ghost use Rattle.std.specs.Prelude.{◌≡◌, ◌==◌, ◌+◌, ◌*◌, ◌-◌, ◌/◌, ◌%◌, ◌^◌, ◌&&◌, min, true, false, if◌then◌else◌};
 ghost use Rattle.parking_lot_rules.specs.Once.Once.{ended, state_number, waits};
 ghost use Rattle.parking_lot_protocol_waits.specs.declared.once.once_phase.OnceAnswer.TheVariants as answer;
-ghost use Rattle.parking_lot_protocol_waits.specs.declared.once.once_phase.OncePhase.TheVariants.{Loads, Enters, Parks, Looks, Appends, Retreats, Ends};
-ghost use Rattle.parking_lot_protocol_waits.specs.Once.OnceTable.{act_of, after, answer_of, begins, core_answer, end_store, is_parked, scans, sees, seeks, state_of, waiting, wakes, with_taken, won_or, word_of};
+ghost use Rattle.parking_lot_protocol_waits.specs.declared.once.once_phase.OncePhase.TheVariants.{Loads, Enters, Parks};
+ghost use Rattle.parking_lot_protocol_waits.specs.declared.once.once_phase.OncePhase.TheVariants.{Looks, Appends};
+ghost use Rattle.parking_lot_protocol_waits.specs.declared.once.once_phase.OncePhase.TheVariants.{Retreats, Ends};
+ghost use Rattle.parking_lot_protocol_waits.specs.Once.OnceTable.{act_of, after, answer_of, begins, core_answer};
+ghost use Rattle.parking_lot_protocol_waits.specs.Once.OnceTable.{end_store, is_parked, scans, sees, seeks, state_of};
+ghost use Rattle.parking_lot_protocol_waits.specs.Once.OnceTable.{waiting, wakes, with_taken, won_or, word_of};
 
 use crate::once::seen;
 use parking_lot_core_model::DEFAULT_PARK_TOKEN;
@@ -39,21 +43,22 @@ pub enum OncePhase {
     /// A call that asks, and one whose closure has ended well or not, before they begin.
     Asking(Wish),
     Returning(bool),
-    /// On the way: a load; the exchange that begins to run the closure, from that state and with callers waiting or not; a round of
-    /// spinning; the exchange that sets the parked bit.
+    /// On the way: a load; the exchange that begins to run the closure, from that state and with callers waiting or
+    /// not; a round of spinning; the exchange that sets the parked bit.
     Loads(Seeking),
     Starts(Seeking, OnceState, bool),
     Spins(Seeking, OnceState),
     Parks(Seeking, OnceState),
-    /// The section in which it goes to sleep: it enters, checks, and leaves at once; or it joins the list, leaves and sleeps.
+    /// The section in which it goes to sleep: it enters, checks, and leaves at once; or it joins the list, leaves and
+    /// sleeps.
     Enters(Wish),
     Checks(Wish),
     Retreats(Wish),
     Appends(Wish),
     Rests(Wish),
     Sleeps(Wish),
-    /// The end of the closure is stored: by an exchange where nobody waits; else in a section in which all that wait are taken, so
-    /// many so far; it leaves, and wakes them, so many still.
+    /// The end of the closure is stored: by an exchange where nobody waits; else in a section in which all that wait
+    /// are taken, so many so far; it leaves, and wakes them, so many still.
     Stores(bool),
     Looks(bool),
     Scans(bool, u32),
@@ -167,7 +172,8 @@ impl Seeking {
         }
     }
 
-    /// It has seen the state: it is done, or refused where the last closure has failed; it begins to run its closure, or has to wait.
+    /// It has seen the state: it is done, or refused where the last closure has failed; it begins to run its closure,
+    /// or has to wait.
     fn seeks(self, state: OnceState, parked: bool) -> OncePhase
         ensures { result ≡ seeks self state parked }
     {
@@ -268,7 +274,8 @@ fn end_store(well: bool) -> WordChange
 }
 
 impl OncePhase {
-    /// The act that it has asked for. Before it begins, and where it was told what its act can't give, it asks for nothing.
+    /// The act that it has asked for. Before it begins, and where it was told what its act can't give, it asks for
+    /// nothing.
     pub fn act(self) -> Act
         ensures { result ≡ act_of self }
     {

@@ -1,6 +1,7 @@
 //! What is seen, by the kind of act that gives it.
 ghost use Rattle.std.specs.Prelude.{◌≡◌, Some, None, is_some, option_map};
-ghost use Rattle.parking_lot_protocol.specs.Acts.{is_start, is_entered, is_made, word_seen, exchange_seen, spun_seen, took_seen, stored_seen, woken_seen};
+ghost use Rattle.parking_lot_protocol.specs.Acts.{is_start, is_entered, is_made, word_seen, exchange_seen, spun_seen};
+ghost use Rattle.parking_lot_protocol.specs.Acts.{took_seen, stored_seen, woken_seen};
 ghost use Rattle.parking_lot_protocol_waits.specs.Once.OnceTable.{once};
 
 use crate::once::once_phase::OncePhase;

@@ -5,5 +5,37 @@ use Rattle.parking_lot_rules.specs.Once.OnceExample.{RunIsThere}
 
 pub run_is_there : RunIsThere
 unfolding weight
-run_is_there =
-    ((refl, tt), ((refl, (refl, refl)), ((refl, tt), ((refl, (refl, refl)), ((refl, refl), ((refl, (refl, refl)), (refl, ((refl, tt), ((refl, tt), ((refl, refl), ((refl, refl, refl), ((refl, refl), ((refl, tt), ((refl, refl), ((refl, tt), ((refl, refl), refl))))))))))))))))
+run_is_there = (
+  (refl, tt),
+  (
+    (refl, (refl, refl)),
+    (
+      (refl, tt),
+      (
+        (refl, (refl, refl)),
+        (
+          (refl, refl),
+          (
+            (refl, (refl, refl)),
+            (
+              refl,
+              (
+                (refl, tt),
+                (
+                  (refl, tt),
+                  (
+                    (refl, refl),
+                    (
+                      (refl, refl, refl),
+                      ((refl, refl), ((refl, tt), ((refl, refl), ((refl, tt), ((refl, refl), refl))))),
+                    ),
+                  ),
+                ),
+              ),
+            ),
+          ),
+        ),
+      ),
+    ),
+  ),
+)

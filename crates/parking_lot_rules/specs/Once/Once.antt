@@ -1,5 +1,7 @@
--- The rules of a one-time initialization whose waiters sleep in a list: what a thread can be doing there, and what each of its steps does.
-use Rattle.std.specs.Prelude.{◌≡◌, ℕ, ◌+◌, ◌*◌, ◌<◌, ◌≤◌, ◌==◌, Bool, true, false, not, if◌then◌else◌, IsTrue, List, [], ◌∷◌, ◌++◌, replicate, slice_get, slice_set, Option, Some, None}
+-- The rules of a one-time initialization whose waiters sleep in a list: what a thread can be doing there, and what each
+-- of its steps does.
+use Rattle.std.specs.Prelude.{◌≡◌, ℕ, ◌+◌, ◌*◌, ◌<◌, ◌≤◌, ◌==◌, Bool, true, false, not, if◌then◌else◌, IsTrue, List, []}
+use Rattle.std.specs.Prelude.{◌∷◌, ◌++◌, replicate, slice_get, slice_set, Option, Some, None}
 use Rattle.std.specs.List.{sum_by, remove}
 use Rattle.parking_lot_rules.specs.Classes.{bit}
 use Rattle.parking_lot_rules.specs.Lists.{IsListOf}
@@ -11,7 +13,8 @@ pub use Rattle.parking_lot_rules.specs.declared.once.wish.Wish.{Wish}
 pub data Role : Type 0 where
   Idle : Role
   Seeks : (wish : Wish) → Role
-  -- in a section to go to sleep: it looks at the word, joins the list, and sleeps; or it was taken off the list and not yet woken
+  -- in a section to go to sleep: it looks at the word, joins the list, and sleeps; or it was taken off the list and not
+  -- yet woken
   Enters : (wish : Wish) → Role
   Checked : (wish : Wish) → Role
   Joined : (wish : Wish) → Role
@@ -145,7 +148,8 @@ pub record Once : Type 0 where
   pub roles : List Role
   pub queue : List ℕ
 
--- The word fits the roles, the list holds those that wait there, and each thread is to wake those that it has taken, each once.
+-- The word fits the roles, the list holds those that wait there, and each thread is to wake those that it has taken,
+-- each once.
 pub record Sound (w : Word) (rs : List Role) (q : List ℕ) : Type 0 where
   pub fits : Fits w (λ c. total c rs)
   pub listed : IsListOf (weight Listed) q rs
@@ -161,7 +165,8 @@ pub data Plain : Type 0 where
   Start : (force : Bool) → (before : OnceState) → Plain
   Complete : (wish : Wish) → Plain
   Refuse : (runs : Bool) → Plain
-  -- it sets the parked bit, enters the section, looks at the word again, and leaves it, with or without a place in the list
+  -- it sets the parked bit, enters the section, looks at the word again, and leaves it, with or without a place in the
+  -- list
   Flag : (wish : Wish) → Plain
   Enter : (wish : Wish) → Plain
   Check : (wish : Wish) → Plain
@@ -260,14 +265,20 @@ pub data Step : Type 0 where
 abbrev pub Allowed : ℕ → Step → Once → Type 0
 Allowed t (Alone k) m = (slice_get m.roles t ≡ Some (from k)) × May k m.word (λ c. total c m.roles)
 Allowed t (Join wish) m = slice_get m.roles t ≡ Some (Checked wish)
-Allowed t (Take well taken v wish) m = (slice_get m.roles t ≡ Some (Scans well taken)) × (slice_get m.queue 0 ≡ Some v) × (slice_get m.roles v ≡ Some (Sleeps wish))
-Allowed t (Wake v left wish) m = (slice_get m.roles t ≡ Some (Wakes (v ∷ left))) × (slice_get m.roles v ≡ Some (Taken wish t))
+Allowed t (Take well taken v wish) m = (slice_get m.roles t ≡ Some (Scans well taken)) × (slice_get m.queue 0 ≡ Some v)
+    × (slice_get m.roles v ≡ Some (Sleeps wish))
+Allowed t (Wake v left wish) m = (slice_get m.roles t ≡ Some (Wakes (v ∷ left)))
+    × (slice_get m.roles v ≡ Some (Taken wish t))
 
 -- what it leaves
 abbrev pub after : ℕ → Step → Once → Once
 after t (Alone k) m = record m { word = written k m.word; roles = slice_set m.roles t (to k) }
 after t (Join wish) m = record m { roles = slice_set m.roles t (Joined wish); queue = m.queue ++ t ∷ [] }
-after t (Take well taken v wish) m = record m { roles = slice_set (slice_set m.roles t (Scans well (taken ++ v ∷ []))) v (Taken wish t); queue = remove m.queue 0 }
+after t (Take well taken v wish) m =
+    record m {
+      roles = slice_set (slice_set m.roles t (Scans well (taken ++ v ∷ []))) v (Taken wish t);
+      queue = remove m.queue 0;
+    }
 after t (Wake v left wish) m = record m { roles = slice_set (slice_set m.roles v (Seeks wish)) t (Wakes left) }
 
 -- any schedule, of any number of threads
@@ -277,8 +288,14 @@ IsRun m (e ∷ es) n = Allowed e.0 e.1 m × IsRun (after e.0 e.1 m) es n
 
 -- one of which nobody has made use: a new one, or one that is done from the beginning
 abbrev pub unused : Bool → ℕ → Once
-unused done threads = record { word = record { state = if done then Done else New; parked = 0 }; roles = replicate threads Idle; queue = [] }
+unused done threads =
+    record {
+      word = record { state = if done then Done else New; parked = 0 };
+      roles = replicate threads Idle;
+      queue = [];
+    }
 
 -- what holds at every moment of every run
 abbrev pub AlwaysOfOnce : (Once → Type 0) → Type 0
-AlwaysOfOnce P = (done : Bool) (threads : ℕ) (steps : List (ℕ × Step)) (m : Once) → IsRun (unused done threads) steps m → P m
+AlwaysOfOnce P = (done : Bool) (threads : ℕ) (steps : List (ℕ × Step)) (m : Once) → IsRun (unused done threads) steps m
+    → P m

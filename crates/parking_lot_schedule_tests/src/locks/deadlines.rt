@@ -35,7 +35,8 @@ const TRIES: [Program; 3] = [
     calls!(TryUpgradableRead, UnlockUpgradable),
 ];
 
-/// Calls with deadlines at a recursive lock: of one that reads again, that reads, that writes, and that has the upgradable hold.
+/// Calls with deadlines at a recursive lock: of one that reads again, that reads, that writes, and that has the
+/// upgradable hold.
 const AT_A_RECURSIVE_LOCK: [Program; 5] = [
     calls!(ReadUntil, ReadUntil),
     READS_IN_TIME,

@@ -46,8 +46,8 @@ impl Open {
         }
     }
 
-    /// Whether its thread, which owns the lock so, was taken out of a list for nothing so far: it isn't what it waited there to be. One whose
-    /// deadline has come may have taken itself out.
+    /// Whether its thread, which owns the lock so, was taken out of a list for nothing so far: it isn't what it waited
+    /// there to be. One whose deadline has come may have taken itself out.
     pub fn is_due(self, mode: Option<OwnMode>) -> bool {
         let is_out = self.first && mode.is_none() || self.second && mode == Some(OwnMode::Pending);
         is_out && !self.late
@@ -58,8 +58,8 @@ impl Open {
         Open { late: true, ..self }
     }
 
-    /// Whether it may be answered so: as fits it, refused only where the other has owned the lock meanwhile, and timed out only where its
-    /// deadline has come as it stood in a list.
+    /// Whether it may be answered so: as fits it, refused only where the other has owned the lock meanwhile, and timed
+    /// out only where its deadline has come as it stood in a list.
     fn may_be_answered(self, answer: LockAnswer) -> bool {
         let is_so = match answer {
             LockAnswer::Refused => self.met,
@@ -102,8 +102,8 @@ impl Progress {
         }
     }
 
-    /// What may be its next steps. Others are never allowed; these aren't where it is at the end, sleeps, or is before a section that
-    /// another has entered.
+    /// What may be its next steps. Others are never allowed; these aren't where it is at the end, sleeps, or is before
+    /// a section that another has entered.
     pub fn steps(self, thread: usize) -> [Option<WorldStep>; 3] {
         let goes = WorldStep::Go(thread, false);
         let other = match (self.stage, self.rest[0]) {
@@ -118,7 +118,8 @@ impl Progress {
         ]
     }
 
-    /// Whether it is in a call where it goes on, in none where it begins one, and in a timed one where its deadline comes.
+    /// Whether it is in a call where it goes on, in none where it begins one, and in a timed one where its deadline
+    /// comes.
     pub fn may_make(self, step: WorldStep) -> bool {
         match step {
             WorldStep::Begin(_, _, _) => matches!(self.stage, Stage::Between(_)),

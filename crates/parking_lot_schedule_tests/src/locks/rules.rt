@@ -48,7 +48,8 @@ fn broken_by_lock(shown: Shown<'_>) -> Option<&'static str> {
     ])
 }
 
-/// The word counts the shared holds that threads have by their calls so far, and of a call that isn't answered what it adds or takes, or not yet.
+/// The word counts the shared holds that threads have by their calls so far, and of a call that isn't answered what it
+/// adds or takes, or not yet.
 fn broken_by_holds(threads: [Progress; 2], shown: Shown<'_>) -> Option<&'static str> {
     let [first, second] = threads;
     let (least, most) = first.holds();

@@ -101,9 +101,10 @@ impl Note {
         self.since == Three(false, false, false)
     }
 
-    /// Whether a call may be answered so: a wait as woken exactly where another took it off the list, as timed out only where its deadline came
-    /// first, and as one with the wrong mutex only where it never stood there; a notification by how many it took, and that it took nobody, or
-    /// all, only where nobody of those is left that were seen to wait as it began.
+    /// Whether a call may be answered so: a wait as woken exactly where another took it off the list, as timed out only
+    /// where its deadline came first, and as one with the wrong mutex only where it never stood there; a notification
+    /// by how many it took, and that it took nobody, or all, only where nobody of those is left that were seen to wait
+    /// as it began.
     pub fn may_be_answered(self, asked: Ask, answer: LockAnswer) -> bool {
         match (asked.call, answer) {
             (LockCall::Lock, LockAnswer::Owned) => true,
@@ -124,8 +125,8 @@ impl Note {
         }
     }
 
-    /// Whether a step of that call may make the one list the other: a wait joins it as the last, and leaves it once its deadline has come; a
-    /// notification takes the first, or all.
+    /// Whether a step of that call may make the one list the other: a wait joins it as the last, and leaves it once its
+    /// deadline has come; a notification takes the first, or all.
     pub fn may_change(self, thread: usize, asked: Ask, before: &[usize], behind: &[usize]) -> bool {
         if before == behind {
             return true;

@@ -27,7 +27,8 @@ impl Moment<'_> {
         open.mutex()
     }
 
-    /// The variable's word shows the mutex that all wait with. Only within a section it may show none, or one that nobody waits with.
+    /// The variable's word shows the mutex that all wait with. Only within a section it may show none, or one that
+    /// nobody waits with.
     fn shows_its_mutex(self) -> bool {
         let shown = self.variable().word;
         let order = self.order();

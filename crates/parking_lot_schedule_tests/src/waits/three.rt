@@ -1,4 +1,5 @@
-//! All schedules of three threads. A step that nobody else sees is made at once, as its order to steps of others changes nothing.
+//! All schedules of three threads. A step that nobody else sees is made at once, as its order to steps of others
+//! changes nothing.
 
 use super::{
     LOCK, LOCK_OTHER, NOTIFY_ALL, NOTIFY_ONE, UNLOCK, UNLOCK_OTHER, WAIT, WAIT_OTHER, WAIT_UNTIL,
@@ -18,7 +19,8 @@ const ONE: Calls = [NOTIFY_ONE, None, None];
 
 const ALL: Calls = [NOTIFY_ALL, None, None];
 
-/// Makes all schedules of three threads. Were there fewer states than that, different ones might have been taken for one.
+/// Makes all schedules of three threads. Were there fewer states than that, different ones might have been taken for
+/// one.
 fn search(
     rt: &(impl AllocGlobal + Abort),
     first: Calls,

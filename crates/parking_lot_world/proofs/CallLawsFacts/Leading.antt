@@ -1,5 +1,7 @@
 -- Each step of a machine leads every call on.
-use Rattle.std.proofs.Common.{◌≡◌, ◌⊎◌, inl, inr, ℕ, zero, suc, ◌+◌, ◌*◌, ◌<◌, ◌≤◌, nat_lt, ◌&&◌, Bool, true, false, cond, List, length, Option, Some, None, get_or, slice_get, slice_set, refl, sym, ap, ◌∙◌, subst, arith}
+use Rattle.std.proofs.Common.{◌≡◌, ◌⊎◌, inl, inr, ℕ, zero, suc, ◌+◌, ◌*◌, ◌<◌, ◌≤◌, nat_lt, ◌&&◌, Bool, true, false}
+use Rattle.std.proofs.Common.{cond, List, length, Option, Some, None, get_or, slice_get, slice_set, refl, sym, ap, ◌∙◌}
+use Rattle.std.proofs.Common.{subst, arith}
 use Rattle.std.specs.Option.{option_map_or}
 use Rattle.std.proofs.lemmas.Bool.{cases_eq, false≢true, lt-ltb, ltb-true}
 use Rattle.std.proofs.lemmas.Option.{none-some, same_Some, slice_get-get_or, slice_get_within}
@@ -35,21 +37,34 @@ use Rattle.parking_lot_world.proofs.CallLawsFacts.Heard.{Hears, begins_there, he
 
 -- A STEP
 
-leads_on : (recursive then : Bool) (c d : Call) → d.others ≡ c.others → IsPrepared recursive c.others c.core → IsPrepared then d.others d.core → (d.core ≡ c.core) ⊎ Hears c.core d.core → Leads c.others (stage c) (stage d)
-leads_on recursive then c d same ready after (inl e) = inl (ap (λ n. core_stage n d.core) same ∙ ap (core_stage c.others) e)
+leads_on : (recursive then : Bool) (c d : Call) → d.others ≡ c.others → IsPrepared recursive c.others c.core
+    → IsPrepared then d.others d.core → (d.core ≡ c.core) ⊎ Hears c.core d.core → Leads c.others (stage c) (stage d)
+leads_on recursive then c d same ready after (inl e) =
+    inl (ap (λ n. core_stage n d.core) same ∙ ap (core_stage c.others) e)
 leads_on recursive then c d same ready after (inr heard) =
-    subst (λ n. Leads c.others (stage c) (core_stage n d.core)) (sym same) (heard_leads recursive then c.others c.core d.core ready (subst (λ n. IsPrepared then n d.core) same after) heard)
+    subst (λ n. Leads c.others (stage c) (core_stage n d.core)) (sym same)
+    (heard_leads recursive then c.others c.core d.core ready (subst (λ n. IsPrepared then n d.core) same after)
+    heard)
 
 module _ (s u : State) (fits : FitsTogether s) (then : FitsTogether u) (k : ℕ) where
   onward : (o : Option Call) → call_at s k ≡ o → calls.Onward o (call_at u k) → laws.Onward o (call_at u k)
   onward None was go = go
   onward (Some c) was go = record {
     to = stage go.call;
-    kept = record { call = go.call; here = go.here; there = go.lock; beside = go.others; deadline = go.timed; stands = refl };
-    leads = leads_on (recursive_in s.kinds c.lock) (recursive_in u.kinds go.call.lock) c go.call go.others (fits.rules.prepared k c was) (then.rules.prepared k go.call go.here) go.heard;
+    kept = record {
+      call = go.call;
+      here = go.here;
+      there = go.lock;
+      beside = go.others;
+      deadline = go.timed;
+      stands = refl;
+    };
+    leads = leads_on (recursive_in s.kinds c.lock) (recursive_in u.kinds go.call.lock) c go.call go.others
+        (fits.rules.prepared k c was) (then.rules.prepared k go.call go.here) go.heard;
   }
 
-steps : (s u : State) (t : ℕ) (fair : Bool) → FitsTogether s → IsStepped t fair None s u → (k : ℕ) → laws.Onward (call_at s k) (call_at u k)
+steps : (s u : State) (t : ℕ) (fair : Bool) → FitsTogether s → IsStepped t fair None s u → (k : ℕ)
+    → laws.Onward (call_at s k) (call_at u k)
 steps s u t fair fits x k = onward s u fits x.lawful.1.fits k (call_at s k) refl (stepped_goes s u t fair fits x k)
 
 -- AN ANSWER
@@ -62,7 +77,8 @@ rows_apart locks t (suc n) b = elim (cases_eq t n) [
 ]
 
 -- a call's lock is one of the machine
-lock_there : (kinds : List LockKind) (lock : ℕ) (m : Manner) → manner_of (slice_get kinds lock) ≡ Some m → lock < length kinds
+lock_there : (kinds : List LockKind) (lock : ℕ) (m : Manner) → manner_of (slice_get kinds lock) ≡ Some m
+    → lock < length kinds
 lock_there kinds lock m e = at (slice_get kinds lock) refl e
   where
     at : (o : Option LockKind) → slice_get kinds lock ≡ o → manner_of o ≡ Some m → lock < length kinds
@@ -76,10 +92,14 @@ within kinds lock (core.Late p) e = lock_there kinds lock _ e
 within kinds lock (core.LateRw p) e = lock_there kinds lock _ e
 within kinds lock (core.Upgrade c) e = lock_there kinds lock _ e
 
-answered_hold : (s : State) (t : ℕ) (c : Call) → FitsTogether s → call_at s t ≡ Some c → hold_at (answered s t c) t c.lock ≡ hold_after c.others c.core
+answered_hold : (s : State) (t : ℕ) (c : Call) → FitsTogether s → call_at s t ≡ Some c
+    → hold_at (answered s t c) t c.lock ≡ hold_after c.others c.core
 answered_hold s t c fits here =
-    ap (λ b. cond b (option_map_or (λ x. x) (slice_get (slice_set s.holds cell now) cell) (Hold.Shares 0)) (Hold.Shares 0)) (lt-ltb c.lock (length s.kinds) low)
-    ∙ ap (λ o. option_map_or (λ x. x) o (Hold.Shares 0)) (get-set_same s.holds cell (get_or s.holds cell (Hold.Shares 0)) now (slice_get-get_or s.holds cell (Hold.Shares 0) cell_low))
+    ap (λ b. cond b (option_map_or (λ x. x) (slice_get (slice_set s.holds cell now) cell) (Hold.Shares 0))
+    (Hold.Shares 0)) (lt-ltb c.lock (length s.kinds) low)
+    ∙ ap (λ o. option_map_or (λ x. x) o (Hold.Shares 0))
+    (get-set_same s.holds cell (get_or s.holds cell (Hold.Shares 0)) now
+    (slice_get-get_or s.holds cell (Hold.Shares 0) cell_low))
   where
     now : Hold
     now = hold_after c.others c.core
@@ -91,9 +111,15 @@ answered_hold s t c fits here =
     low = within s.kinds c.lock c.core (fits.rules.kinds t c here)
 
     cell_low : t * length s.kinds + c.lock < length s.holds
-    cell_low = omega (arith, rows_apart (length s.kinds) t (length s.calls) (slot_low s.calls t c here), low, fits.rules.size_holds)
+    cell_low = omega (
+      arith,
+      rows_apart (length s.kinds) t (length s.calls) (slot_low s.calls t c here),
+      low,
+      fits.rules.size_holds,
+    )
 
-module _ (s u : State) (t : ℕ) (fair : Bool) (answer : CoreAnswer) (fits : FitsTogether s) (x : IsStepped t fair (Some answer) s u) where
+module _ (s u : State) (t : ℕ) (fair : Bool) (answer : CoreAnswer) (fits : FitsTogether s)
+    (x : IsStepped t fair (Some answer) s u) where
   became : u ≡ answered s t x.call
   became = answer_is s u t fair x.call answer (core_act x.call.core) x.answers x.became
 
@@ -106,20 +132,24 @@ module _ (s u : State) (t : ℕ) (fair : Bool) (answer : CoreAnswer) (fits : Fit
   is_answered : IsAnswered t x.call answer s u
   is_answered = record {
     hold = hold_after x.call.others x.call.core;
-    over = core_done (recursive_in s.kinds x.call.lock) x.call.others x.call.core answer (fits.rules.prepared t x.call x.here) (fits.rules.begun t x.call x.here).begun x.answers;
+    over = core_done (recursive_in s.kinds x.call.lock) x.call.others x.call.core answer
+        (fits.rules.prepared t x.call x.here) (fits.rules.begun t x.call x.here).begun x.answers;
     gone = gone;
     holds = holds;
     owns = apart_owner u t x.lawful.fits x.call.lock (subst (λ (o : Option Call). IsApart x.call.lock o) (sym gone) tt)
         ∙ ap (hold_mode (slice_get u.kinds x.call.lock)) holds
-        ∙ ap (λ (ks : List LockKind). hold_mode (slice_get ks x.call.lock) (hold_after x.call.others x.call.core)) (ap (λ (w : State). w.kinds) became);
+        ∙ ap (λ (ks : List LockKind). hold_mode (slice_get ks x.call.lock) (hold_after x.call.others x.call.core))
+        (ap (λ (w : State). w.kinds) became);
   }
 
 -- A BEGINNING, AND A DEADLINE
 
-begins : (s u : State) (t lock : ℕ) (call : LockCall) → may_begin s t lock call ≡ true → IsBegun t lock call s u → IsOpen (call_at u t) lock (holds_beside call (hold_at s t lock)) (is_timed call) (stage_of call)
+begins : (s u : State) (t lock : ℕ) (call : LockCall) → may_begin s t lock call ≡ true → IsBegun t lock call s u
+    → IsOpen (call_at u t) lock (holds_beside call (hold_at s t lock)) (is_timed call) (stage_of call)
 begins s u t lock call may x = record {
   call = _;
-  here = ap (λ (w : State). call_at w t) x.became ∙ set_there s.calls t _ (ltb-true t (length s.calls) (first (nat_lt t (length s.calls)) _ may));
+  here = ap (λ (w : State). call_at w t) x.became
+      ∙ set_there s.calls t _ (ltb-true t (length s.calls) (first (nat_lt t (length s.calls)) _ may));
   there = refl;
   beside = refl;
   deadline = refl;
@@ -133,13 +163,15 @@ begins s u t lock call may x = record {
 -- Its moment passes.
 sleeping : (o : Option Call) (c : Call) → o ≡ Some c → may_expire_in o ≡ true → sleeps_in_time c.core ≡ true
 sleeping None c e may = absurd (none-some c e)
-sleeping (Some d) c e may = subst (λ (x : Call). sleeps_in_time x.core ≡ true) (same_Some d c e) (second d.timed (sleeps_in_time d.core) may)
+sleeping (Some d) c e may = subst (λ (x : Call). sleeps_in_time x.core ≡ true) (same_Some d c e)
+    (second d.timed (sleeps_in_time d.core) may)
   where
     second : (a b : Bool) → a && b ≡ true → b ≡ true
     second true b e = e
     second false b e = absurd (false≢true e)
 
-deadlines : (s u : State) (t : ℕ) → may_expire s t ≡ true → (x : IsExpired t s u) → IsOpen (call_at u t) x.call.lock x.call.others x.call.timed (quits (stage x.call))
+deadlines : (s u : State) (t : ℕ) → may_expire s t ≡ true → (x : IsExpired t s u)
+    → IsOpen (call_at u t) x.call.lock x.call.others x.call.timed (quits (stage x.call))
 deadlines s u t may x = record {
   call = record x.call { core = late_of x.call.core };
   here = ap (λ (w : State). call_at w t) x.became ∙ set_here s.calls t x.call _ x.here;

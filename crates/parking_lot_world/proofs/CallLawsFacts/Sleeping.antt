@@ -14,7 +14,9 @@ use Rattle.parking_lot_protocol_rw.specs.declared.upgrade_phase.Hold.{Hold}
 use Rattle.parking_lot_protocol_rw.specs.declared.upgrade_phase.Release.{Release}
 use Rattle.parking_lot_protocol_rw.specs.declared.upgrade_phase.UpgradePhase.{UpgradePhase}
 use Rattle.parking_lot_protocol_rw.specs.declared.upgrade_phase.UpgradePhase.TheVariants as u
-use Rattle.parking_lot_machine_calls.specs.Stances.{Asleep, Stance, core_act, found_as, late_act, late_rw_act, late_rw_stance, late_stance, mutex_stance, rw_stance, seeks_stance, sleeper_stance, stance, upgrade_stance}
+use Rattle.parking_lot_machine_calls.specs.Stances.{Asleep, Stance, core_act, found_as, late_act, late_rw_act}
+use Rattle.parking_lot_machine_calls.specs.Stances.{late_rw_stance, late_stance, mutex_stance, rw_stance, seeks_stance}
+use Rattle.parking_lot_machine_calls.specs.Stances.{sleeper_stance, stance, upgrade_stance}
 use Rattle.parking_lot_machine_calls.specs.declared.late_rw.LateRwPhase.{LateRwPhase}
 use Rattle.parking_lot_machine_calls.specs.declared.late_rw.LateRwPhase.TheVariants as late_rw
 use Rattle.parking_lot_machine_calls.specs.declared.seat.Core.{Core}
@@ -22,7 +24,8 @@ use Rattle.parking_lot_machine_calls.specs.declared.seat.Core.TheVariants as cor
 use Rattle.parking_lot_machine_calls.specs.declared.seat.LatePhase.{LatePhase}
 use Rattle.parking_lot_machine_calls.specs.declared.seat.LatePhase.TheVariants as late
 
-mutex_sleeps : (p : MutexPhase) (key : ℕ) (token : ParkToken) → mutex_stance p ≡ Asleep key token → mutex.act_of p ≡ Act.Sleep
+mutex_sleeps : (p : MutexPhase) (key : ℕ) (token : ParkToken) → mutex_stance p ≡ Asleep key token
+    → mutex.act_of p ≡ Act.Sleep
 mutex_sleeps mx.Sleeps key token e = refl
 mutex_sleeps p key token e = absurd cc
 
@@ -31,22 +34,26 @@ rw_sleeps (r.Sleeps want) key token e = refl
 rw_sleeps (r.DrainSleeps rounds) key token e = refl
 rw_sleeps p key token e = absurd cc
 
-seeks_sleeps : (p : RwPhase) (key : ℕ) (token : ParkToken) → seeks_stance p ≡ Asleep key token → upgrade.seeks_act p ≡ Act.Sleep
+seeks_sleeps : (p : RwPhase) (key : ℕ) (token : ParkToken) → seeks_stance p ≡ Asleep key token
+    → upgrade.seeks_act p ≡ Act.Sleep
 seeks_sleeps (r.Sleeps want) key token e = refl
 seeks_sleeps (r.DrainSleeps rounds) key token e = refl
 seeks_sleeps p key token e = absurd cc
 
-frees_sleeps : (way : Release) (p : RwPhase) (key : ℕ) (token : ParkToken) → rw_stance p ≡ Asleep key token → upgrade.frees_act way p ≡ Act.Sleep
+frees_sleeps : (way : Release) (p : RwPhase) (key : ℕ) (token : ParkToken) → rw_stance p ≡ Asleep key token
+    → upgrade.frees_act way p ≡ Act.Sleep
 frees_sleeps way (r.Sleeps want) key token e = refl
 frees_sleeps way (r.DrainSleeps rounds) key token e = refl
 frees_sleeps way p key token e = absurd cc
 
-owes_sleeps : (kept : Hold) (answer : CoreAnswer) (p : RwPhase) (key : ℕ) (token : ParkToken) → rw_stance p ≡ Asleep key token → upgrade.owes_act kept answer p ≡ Act.Sleep
+owes_sleeps : (kept : Hold) (answer : CoreAnswer) (p : RwPhase) (key : ℕ) (token : ParkToken)
+    → rw_stance p ≡ Asleep key token → upgrade.owes_act kept answer p ≡ Act.Sleep
 owes_sleeps kept answer (r.Sleeps want) key token e = refl
 owes_sleeps kept answer (r.DrainSleeps rounds) key token e = refl
 owes_sleeps kept answer p key token e = absurd cc
 
-upgrade_sleeps : (p : UpgradePhase) (key : ℕ) (token : ParkToken) → upgrade_stance p ≡ Asleep key token → upgrade.act_of p ≡ Act.Sleep
+upgrade_sleeps : (p : UpgradePhase) (key : ℕ) (token : ParkToken) → upgrade_stance p ≡ Asleep key token
+    → upgrade.act_of p ≡ Act.Sleep
 upgrade_sleeps (u.Plain c) key token e = rw_sleeps c.phase key token e
 upgrade_sleeps (u.Seeks c) key token e = seeks_sleeps c.phase key token e
 upgrade_sleeps (u.Drains c) key token e = rw_sleeps c.phase key token e
@@ -63,7 +70,8 @@ found_awake : (a : Stance) (key : ℕ) (token : ParkToken) → found_as a ≡ As
 found_awake (Asleep k park) key token e = cc
 found_awake a key token e = cc
 
-late_rw_sleeps : (p : LateRwPhase) (key : ℕ) (token : ParkToken) → late_rw_stance p ≡ Asleep key token → late_rw_act p ≡ Act.Sleep
+late_rw_sleeps : (p : LateRwPhase) (key : ℕ) (token : ParkToken) → late_rw_stance p ≡ Asleep key token
+    → late_rw_act p ≡ Act.Sleep
 late_rw_sleeps (late_rw.Expires k) key token e = refl
 late_rw_sleeps (late_rw.Quits k) key token e = refl
 late_rw_sleeps (late_rw.WasTaken k by handed) key token e = absurd (found_awake (sleeper_stance k) key token e)

@@ -5,9 +5,11 @@ use Rattle.parking_lot_protocol.specs.declared.act.CoreAnswer.TheVariants.{Owned
 use Rattle.parking_lot_machine_calls.specs.declared.calls.LockCall.{LockCall}
 use Rattle.parking_lot_machine_calls.specs.declared.calls.LockCall.TheVariants as call
 use Rattle.parking_lot_world.specs.CallLaws.Answers.{EndsAt, MayStand, is_beginning, may_end}
-use Rattle.parking_lot_world.specs.CallLaws.Stages.{Asks, Frees, Leads, Over, Quits, Reaches, Stage, Tries, Turns, quits, stage_of}
+use Rattle.parking_lot_world.specs.CallLaws.Stages.{Asks, Frees, Leads, Over, Quits, Reaches, Stage, Tries, Turns}
+use Rattle.parking_lot_world.specs.CallLaws.Stages.{quits, stage_of}
 
-from_there : (n : ℕ) (start to : Stage) (late : Bool) → is_beginning start ≡ true → Reaches n start to → MayStand n start late to
+from_there : (n : ℕ) (start to : Stage) (late : Bool) → is_beginning start ≡ true → Reaches n start to
+    → MayStand n start late to
 from_there n (Asks m from) (Over Owned h) late is r = inr (inr (refl, r))
 from_there n (Tries m from) (Over Owned h) late is r = inr (inr (refl, r))
 from_there n (Tries m from) (Over Refused h) late is r = inr (inr (refl, r))
@@ -16,8 +18,10 @@ from_there n (Turns m) (Over Owned h) late is r = inr (inr (refl, r))
 from_there n (Quits m from) to late is r = absurd cc
 from_there n start to late is r = absurd r
 
-from_quitting : (n : ℕ) (start to : Stage) (late : Bool) → is_beginning start ≡ true → late ≡ true → Reaches n (quits start) to → MayStand n start late to
-from_quitting n (Asks m from) (Asks k back) late is came (mode, held) = inl (ap (λ x. Asks x back) mode ∙ ap (Asks m) held)
+from_quitting : (n : ℕ) (start to : Stage) (late : Bool) → is_beginning start ≡ true → late ≡ true
+    → Reaches n (quits start) to → MayStand n start late to
+from_quitting n (Asks m from) (Asks k back) late is came (mode, held) =
+    inl (ap (λ x. Asks x back) mode ∙ ap (Asks m) held)
 from_quitting n (Asks m from) (Over Owned h) late is came r = inr (inr (refl, r))
 from_quitting n (Asks m from) (Over Refused h) late is came r = inr (inr (came, r))
 from_quitting n (Asks m from) (Over Released h) late is came r = inr (inr (came, r))
@@ -27,14 +31,18 @@ from_quitting n (Frees all) to late is came r = from_there n (Frees all) to late
 from_quitting n (Turns m) to late is came r = from_there n (Turns m) to late is r
 from_quitting n start to late is came r = absurd cc
 
-from_end : (n : ℕ) (start at to : Stage) (late : Bool) → EndsAt n start late at → Reaches n at to → MayStand n start late to
+from_end : (n : ℕ) (start at to : Stage) (late : Bool) → EndsAt n start late at → Reaches n at to
+    → MayStand n start late to
 from_end n start (Over answer h) to late ends r = absurd r
 from_end n start at to late ends r = absurd ends
 
-pub stands_on : (n : ℕ) (start at to : Stage) (late : Bool) → is_beginning start ≡ true → MayStand n start late at → Leads n at to → MayStand n start late to
+pub stands_on : (n : ℕ) (start at to : Stage) (late : Bool) → is_beginning start ≡ true → MayStand n start late at
+    → Leads n at to → MayStand n start late to
 stands_on n start at to late is stands (inl e) = subst (MayStand n start late) (sym e) stands
-stands_on n start at to late is (inl e) (inr r) = from_there n start to late is (subst (λ (x : Stage). Reaches n x to) e r)
-stands_on n start at to late is (inr (inl (came, e))) (inr r) = from_quitting n start to late is came (subst (λ (x : Stage). Reaches n x to) e r)
+stands_on n start at to late is (inl e) (inr r) =
+    from_there n start to late is (subst (λ (x : Stage). Reaches n x to) e r)
+stands_on n start at to late is (inr (inl (came, e))) (inr r) = from_quitting n start to late is came
+    (subst (λ (x : Stage). Reaches n x to) e r)
 stands_on n start at to late is (inr (inr ends)) (inr r) = from_end n start at to late ends r
 
 quits_still : (start : Stage) → quits (quits start) ≡ quits start
@@ -45,7 +53,8 @@ quits_still (Frees all) = refl
 quits_still (Turns m) = refl
 quits_still (Over answer h) = refl
 
-late_may : (start : Stage) (late : Bool) (answer : CoreAnswer) → may_end start late answer ≡ true → may_end start true answer ≡ true
+late_may : (start : Stage) (late : Bool) (answer : CoreAnswer) → may_end start late answer ≡ true
+    → may_end start true answer ≡ true
 late_may (Asks m from) late Owned e = refl
 late_may (Asks m from) late Refused e = refl
 late_may (Asks m from) late Released e = refl
@@ -65,7 +74,8 @@ stands_late n start at late (inr (inl (came, e))) = inr (inl (refl, ap quits e �
 stands_late n start at late (inr (inr ends)) = inr (inr (ends_late n start at late ends))
 
 -- what it is answered where it is over
-pub ends_so : (n : ℕ) (start at : Stage) (late : Bool) (answer : CoreAnswer) (h : _) → is_beginning start ≡ true → MayStand n start late at → at ≡ Over answer h → EndsAt n start late (Over answer h)
+pub ends_so : (n : ℕ) (start at : Stage) (late : Bool) (answer : CoreAnswer) (h : _) → is_beginning start ≡ true
+    → MayStand n start late at → at ≡ Over answer h → EndsAt n start late (Over answer h)
 ends_so n start at late answer h is (inl e) over = absurd (no_end start is (sym e ∙ over))
   where
     no_end : (s : Stage) → is_beginning s ≡ true → s ≡ Over answer h → ⊥

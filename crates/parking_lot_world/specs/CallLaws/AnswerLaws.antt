@@ -43,13 +43,19 @@ pub record IsAnswered (t : ℕ) (c : Call) (answer : CoreAnswer) (s u : State) :
 -- Of every machine that fits together.
 pub record CallsLead : Type 0 where
   -- a call begins where its table says, and nobody else's changes
-  pub begins : (s u : State) (t lock : ℕ) (call : LockCall) → may_begin s t lock call ≡ true → IsBegun t lock call s u → IsOpen (call_at u t) lock (holds_beside call (hold_at s t lock)) (is_timed call) (stage_of call)
-  pub begins_alone : (s u : State) (t lock : ℕ) (call : LockCall) → IsBegun t lock call s u → (k : ℕ) → k ≢ t → call_at u k ≡ call_at s k
+  pub begins : (s u : State) (t lock : ℕ) (call : LockCall) → may_begin s t lock call ≡ true → IsBegun t lock call s u
+      → IsOpen (call_at u t) lock (holds_beside call (hold_at s t lock)) (is_timed call) (stage_of call)
+  pub begins_alone : (s u : State) (t lock : ℕ) (call : LockCall) → IsBegun t lock call s u → (k : ℕ) → k ≢ t
+      → call_at u k ≡ call_at s k
   -- a step that answers nothing leads every call on
-  pub steps : (s u : State) (t : ℕ) (fair : Bool) → FitsTogether s → IsStepped t fair None s u → (k : ℕ) → Onward (call_at s k) (call_at u k)
+  pub steps : (s u : State) (t : ℕ) (fair : Bool) → FitsTogether s → IsStepped t fair None s u → (k : ℕ)
+      → Onward (call_at s k) (call_at u k)
   -- one that answers a call leaves all others
-  pub answers : (s u : State) (t : ℕ) (fair : Bool) (answer : CoreAnswer) → FitsTogether s → (x : IsStepped t fair (Some answer) s u) → IsAnswered t x.call answer s u
-  pub answers_alone : (s u : State) (t : ℕ) (fair : Bool) (answer : CoreAnswer) → IsStepped t fair (Some answer) s u → (k : ℕ) → k ≢ t → call_at u k ≡ call_at s k
+  pub answers : (s u : State) (t : ℕ) (fair : Bool) (answer : CoreAnswer) → FitsTogether s
+      → (x : IsStepped t fair (Some answer) s u) → IsAnswered t x.call answer s u
+  pub answers_alone : (s u : State) (t : ℕ) (fair : Bool) (answer : CoreAnswer) → IsStepped t fair (Some answer) s u
+      → (k : ℕ) → k ≢ t → call_at u k ≡ call_at s k
   -- a call whose deadline comes quits, and nobody else's changes
-  pub deadlines : (s u : State) (t : ℕ) → may_expire s t ≡ true → (x : IsExpired t s u) → IsOpen (call_at u t) x.call.lock x.call.others x.call.timed (quits (stage x.call))
+  pub deadlines : (s u : State) (t : ℕ) → may_expire s t ≡ true → (x : IsExpired t s u)
+      → IsOpen (call_at u t) x.call.lock x.call.others x.call.timed (quits (stage x.call))
   pub deadlines_alone : (s u : State) (t : ℕ) → IsExpired t s u → (k : ℕ) → k ≢ t → call_at u k ≡ call_at s k

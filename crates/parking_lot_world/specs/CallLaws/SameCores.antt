@@ -16,7 +16,8 @@ use Rattle.parking_lot_protocol.specs.Timed.TimedTable.{asking}
 use Rattle.parking_lot_protocol.specs.declared.timed.timed_act.TimedAct.{TimedAct}
 use Rattle.parking_lot_protocol.specs.declared.timed.timed_act.TimedAct.TheVariants as act
 use Rattle.parking_lot_protocol.specs.declared.timed.timed_act.TimedSeen.{TimedSeen}
-use Rattle.parking_lot_protocol.specs.declared.timed.timed_act.TimedSeen.TheVariants.{Plain, Expired, Reentered, Quit, WasTaken, Masked, Left}
+use Rattle.parking_lot_protocol.specs.declared.timed.timed_act.TimedSeen.TheVariants.{Plain, Expired, Reentered, Quit}
+use Rattle.parking_lot_protocol.specs.declared.timed.timed_act.TimedSeen.TheVariants.{WasTaken, Masked, Left}
 use Rattle.parking_lot_protocol.specs.declared.timed.timed_core.TimedMutexPhase.{TimedMutexPhase}
 use Rattle.parking_lot_protocol.specs.declared.timed.timed_core.TimedMutexPhase.TheVariants as phase
 use Rattle.parking_lot_protocol_rw.specs.declared.upgrade_core.UpgradeCore.{UpgradeCore}
@@ -119,14 +120,21 @@ hears_as k s = Plain s
 pub record GoesAs (P : Type 0) (at : Core → Option P) (act : P → TimedAct) (next : P → TimedSeen → P) : Type 0 where
   pub acts : (k : Core) (p : P) → at k ≡ Some p → act p ≡ act_as k
   -- what its act gives
-  pub told : (k : Core) (p : P) (word : ℕ) (s : ActResult) → at k ≡ Some p → IsInOrder k → comes_late k ≡ false → is_back k ≡ false → Gives (core_act k) word s → at (core_next k s) ≡ Some (next p (hears_as k s))
+  pub told : (k : Core) (p : P) (word : ℕ) (s : ActResult) → at k ≡ Some p → IsInOrder k → comes_late k ≡ false
+      → is_back k ≡ false → Gives (core_act k) word s → at (core_next k s) ≡ Some (next p (hears_as k s))
   -- its deadline comes as it sleeps; it enters the section of its list again, and takes itself off the list there
-  pub expires : (k : Core) (p : P) → at k ≡ Some p → IsInOrder k → sleeps_in_time k ≡ true → at (late_of k) ≡ Some (next p Expired)
-  pub reenters : (k : Core) (p : P) → at k ≡ Some p → comes_late k ≡ true → at (core_next k seen.Entered) ≡ Some (next p Reentered)
-  pub quits : (k : Core) (p : P) (left : Bool) → at k ≡ Some p → IsInOrder k → is_back k ≡ true → at (core_next k (seen.Took None left)) ≡ Some (next p (Quit (not left)))
-  -- where another has taken it, it finds that out there: two steps of the running core are one of the machine's, and three where its taker wakes it before
-  pub finds : (k : Core) (p : P) (by : ℕ) (handed : Bool) → at k ≡ Some p → comes_late k ≡ true → at (found_as by handed k) ≡ Some (next (next p Reentered) (WasTaken (sign handed)))
-  pub wakes : (k : Core) (p : P) (token : UnparkToken) → at k ≡ Some p → IsInOrder k → comes_late k ≡ true → at (core_next k (seen.Woken token)) ≡ Some (next (next (next p Reentered) (WasTaken token)) Left)
+  pub expires : (k : Core) (p : P) → at k ≡ Some p → IsInOrder k → sleeps_in_time k ≡ true
+      → at (late_of k) ≡ Some (next p Expired)
+  pub reenters : (k : Core) (p : P) → at k ≡ Some p → comes_late k ≡ true
+      → at (core_next k seen.Entered) ≡ Some (next p Reentered)
+  pub quits : (k : Core) (p : P) (left : Bool) → at k ≡ Some p → IsInOrder k → is_back k ≡ true
+      → at (core_next k (seen.Took None left)) ≡ Some (next p (Quit (not left)))
+  -- where another has taken it, it finds that out there: two steps of the running core are one of the machine's, and
+  -- three where its taker wakes it before
+  pub finds : (k : Core) (p : P) (by : ℕ) (handed : Bool) → at k ≡ Some p → comes_late k ≡ true
+      → at (found_as by handed k) ≡ Some (next (next p Reentered) (WasTaken (sign handed)))
+  pub wakes : (k : Core) (p : P) (token : UnparkToken) → at k ≡ Some p → IsInOrder k → comes_late k ≡ true
+      → at (core_next k (seen.Woken token)) ≡ Some (next (next (next p Reentered) (WasTaken token)) Left)
 
 -- each begins where its running core does
 pub record BeginsAs (kind : LockKind) : Type 0 where

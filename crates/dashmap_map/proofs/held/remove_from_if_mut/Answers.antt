@@ -7,7 +7,8 @@ use Rattle.dashmap_map.proofs.held.remove_from_if_mut.Goals as goal
 
 pub lend-lent-requires : goal.lend-lent-requires
 lend-lent-requires g c =
-    let is = slot_of-is g.K.PartialEq.eq c.args.shard.now.slots c.args.hash c.args.key.now c.in_ok-slot.slot (sym c.find.ensures.slot ∙ c.in_ok-slot.was) in
+    let is = slot_of-is g.K.PartialEq.eq c.args.shard.now.slots c.args.hash c.args.key.now c.in_ok-slot.slot
+    (sym c.find.ensures.slot ∙ c.in_ok-slot.was) in
     subst IsSome (sym is.1) refl
 
 pub returns-then-answer_writing-clause-present : goal.returns-then-answer_writing-clause-present
@@ -17,12 +18,27 @@ returns-then-answer_writing-clause-present g c =
     let k = c.lend-lent.result.0.now in
     let v = c.lend-lent.result.1.now in
     let call = c.answer_writing.ensures in
-    let leaves : LeavesAt g.F.FnOnce c.args.f k v c.answer_writing.result left = record { key = call.key; value = call.value; shows = call.shows; left = call.left; met = call.met; leaves = call.leaves } in
-    let pair = written_at g.K.PartialEq.eq old old c.args.hash c.args.key.now c.in_ok-slot.slot k v left c.lend-lent.ensures.pair in
+    let leaves : LeavesAt g.F.FnOnce c.args.f k v c.answer_writing.result left =
+    record {
+      key = call.key;
+      value = call.value;
+      shows = call.shows;
+      left = call.left;
+      met = call.met;
+      leaves = call.leaves;
+    } in
+    let pair = written_at g.K.PartialEq.eq old old c.args.hash c.args.key.now c.in_ok-slot.slot k v left
+    c.lend-lent.ensures.pair in
     found_slot_so g.K.PartialEq.eq old old c.args.hash c.args.key.now
-    (λ i k v. (answer : Bool) × (w : g.row.V.Denot) × LeavesAt g.F.FnOnce c.args.f k v answer w × (c.remove.result ≡ cond answer (Some (k, w)) None) × FreesIf answer (with_value old i w) c.remove.new.self i)
-    c.in_ok-slot.slot k v (sym c.find.ensures.slot ∙ c.in_ok-slot.was) c.lend-lent.ensures.pair
-    (true, left, subst (λ b. LeavesAt g.F.FnOnce c.args.f k v b left) c.if-answer_writing.true leaves, c.remove.ensures.pair ∙ pair, c.remove.ensures.frees)
+    (λ i k v. (answer : Bool) × (w : g.row.V.Denot) × LeavesAt g.F.FnOnce c.args.f k v answer w
+    × (c.remove.result ≡ cond answer (Some (k, w)) None) × FreesIf answer (with_value old i w) c.remove.new.self i)
+    c.in_ok-slot.slot k v (sym c.find.ensures.slot ∙ c.in_ok-slot.was) c.lend-lent.ensures.pair (
+      true,
+      left,
+      subst (λ b. LeavesAt g.F.FnOnce c.args.f k v b left) c.if-answer_writing.true leaves,
+      c.remove.ensures.pair ∙ pair,
+      c.remove.ensures.frees,
+    )
 
 pub returns-else-answer_writing-clause-present : goal.returns-else-answer_writing-clause-present
 returns-else-answer_writing-clause-present g c =
@@ -31,10 +47,20 @@ returns-else-answer_writing-clause-present g c =
     let k = c.lend-lent.result.0.now in
     let v = c.lend-lent.result.1.now in
     let call = c.answer_writing.ensures in
-    let leaves : LeavesAt g.F.FnOnce c.args.f k v c.answer_writing.result left = record { key = call.key; value = call.value; shows = call.shows; left = call.left; met = call.met; leaves = call.leaves } in
+    let leaves : LeavesAt g.F.FnOnce c.args.f k v c.answer_writing.result left =
+    record {
+      key = call.key;
+      value = call.value;
+      shows = call.shows;
+      left = call.left;
+      met = call.met;
+      leaves = call.leaves;
+    } in
     let same : with_value old c.in_ok-slot.slot left ≡ with_value old c.in_ok-slot.slot left = refl in
     found_slot_so g.K.PartialEq.eq old old c.args.hash c.args.key.now
-    (λ i k v. (answer : Bool) × (w : g.row.V.Denot) × LeavesAt g.F.FnOnce c.args.f k v answer w × (None ≡ cond answer (Some (k, w)) None) × FreesIf answer (with_value old i w) (with_value old c.in_ok-slot.slot left) i)
+    (λ i k v. (answer : Bool) × (w : g.row.V.Denot) × LeavesAt g.F.FnOnce c.args.f k v answer w
+    × (None ≡ cond answer (Some (k, w)) None) × FreesIf answer (with_value old i w)
+    (with_value old c.in_ok-slot.slot left) i)
     c.in_ok-slot.slot k v (sym c.find.ensures.slot ∙ c.in_ok-slot.was) c.lend-lent.ensures.pair
     (false, left, subst (λ b. LeavesAt g.F.FnOnce c.args.f k v b left) c.if-answer_writing.false leaves, refl, same)
 
@@ -45,8 +71,19 @@ returns-then-answer_writing-clause-asked g c =
     let k = c.lend-lent.result.0.now in
     let v = c.lend-lent.result.1.now in
     let call = c.answer_writing.ensures in
-    let leaves : LeavesAt g.F.FnOnce c.args.f k v c.answer_writing.result left = record { key = call.key; value = call.value; shows = call.shows; left = call.left; met = call.met; leaves = call.leaves } in
-    let pair = written_at g.K.PartialEq.eq old old c.args.hash c.args.key.now c.in_ok-slot.slot k v left c.lend-lent.ensures.pair in
-    let asked = asked_at g.K.PartialEq.eq old old c.args.hash c.args.key.now c.in_ok-slot.slot k v (sym c.find.ensures.slot ∙ c.in_ok-slot.was) c.lend-lent.ensures.pair in
-    subst (λ z. IfSome z (λ p. IsTrue (g.K.PartialEq.eq p.0 c.args.key.now) × (v : g.row.V.Denot) × LeavesAt g.F.FnOnce c.args.f p.0 v true p.1)) (sym (c.remove.ensures.pair ∙ pair))
+    let leaves : LeavesAt g.F.FnOnce c.args.f k v c.answer_writing.result left =
+    record {
+      key = call.key;
+      value = call.value;
+      shows = call.shows;
+      left = call.left;
+      met = call.met;
+      leaves = call.leaves;
+    } in
+    let pair = written_at g.K.PartialEq.eq old old c.args.hash c.args.key.now c.in_ok-slot.slot k v left
+    c.lend-lent.ensures.pair in
+    let asked = asked_at g.K.PartialEq.eq old old c.args.hash c.args.key.now c.in_ok-slot.slot k v
+    (sym c.find.ensures.slot ∙ c.in_ok-slot.was) c.lend-lent.ensures.pair in
+    subst (λ z. IfSome z (λ p. IsTrue (g.K.PartialEq.eq p.0 c.args.key.now) × (v : g.row.V.Denot)
+    × LeavesAt g.F.FnOnce c.args.f p.0 v true p.1)) (sym (c.remove.ensures.pair ∙ pair))
     (asked, v, subst (λ b. LeavesAt g.F.FnOnce c.args.f k v b left) c.if-answer_writing.true leaves)

@@ -8,7 +8,13 @@ use Rattle.dashmap_parallel.proofs.behind.answers_behind.Goals as goal
 
 pub returns : goal.returns
 returns g c =
-    IfOk-weaker c.answers_of.result (λ v. AllZip (AnswersOf g.F.Fn c.args.f.now) (pairs_of c.deref.result.now.slots) v.items)
-    (λ v. WhileShared g.row.Q-SharedGuard.Denot g.row.Q-Runtime.Denot g.row.Q-Party.Denot c.args.lock.now (λ table. AllZip (AnswersOf g.F.Fn c.args.f.now) (pairs_of table.slots) v.items))
-    (λ v h. (c.read-guard.result, c.read-guard.ensures, subst (λ table. AllZip (AnswersOf g.F.Fn c.args.f.now) (pairs_of table.slots) v.items) c.deref.ensures h))
+    IfOk-weaker c.answers_of.result
+    (λ v. AllZip (AnswersOf g.F.Fn c.args.f.now) (pairs_of c.deref.result.now.slots) v.items)
+    (λ v. WhileShared g.row.Q-SharedGuard.Denot g.row.Q-Runtime.Denot g.row.Q-Party.Denot c.args.lock.now
+    (λ table. AllZip (AnswersOf g.F.Fn c.args.f.now) (pairs_of table.slots) v.items))
+    (λ v h. (
+      c.read-guard.result,
+      c.read-guard.ensures,
+      subst (λ table. AllZip (AnswersOf g.F.Fn c.args.f.now) (pairs_of table.slots) v.items) c.deref.ensures h,
+    ))
     c.answers_of.ensures

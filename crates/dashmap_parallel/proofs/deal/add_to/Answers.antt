@@ -7,5 +7,6 @@ pub returns : goal.returns
 returns g c = (
   c.push.new.self,
   refl,
-  λ d. c.in_ok-push.ensures.items ∙ ap (λ (v : Vec g.row.T.Denot g.row.A.Denot). v.items ++ c.args.item ∷ []) (get_or_read c.args.lists.now.items c.args.number c.index_mut.result.now c.requires c.index_mut.ensures.value d),
+  λ d. c.in_ok-push.ensures.items ∙ ap (λ (v : Vec g.row.T.Denot g.row.A.Denot). v.items ++ c.args.item ∷ [])
+      (get_or_read c.args.lists.now.items c.args.number c.index_mut.result.now c.requires c.index_mut.ensures.value d),
 )

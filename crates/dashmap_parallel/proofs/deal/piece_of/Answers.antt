@@ -6,4 +6,5 @@ use Rattle.dashmap_parallel.proofs.deal.piece_of.Goals as goal
 pub returns-else-shard-longer-clause-below : goal.returns-else-shard-longer-clause-below
 returns-else-shard-longer-clause-below c =
     let all = div-add-mod c.args.shards c.args.pieces in
-    late-number c.args.shards c.args.pieces c.args.shard (c.args.shards / c.args.pieces) (c.args.shards % c.args.pieces) (omega (arith, all)) (omega arith) c.requires.within (omega arith)
+    late-number c.args.shards c.args.pieces c.args.shard (c.args.shards / c.args.pieces) (c.args.shards % c.args.pieces)
+    (omega (arith, all)) (omega arith) c.requires.within (omega arith)

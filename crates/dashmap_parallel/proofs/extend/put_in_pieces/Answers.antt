@@ -10,10 +10,16 @@ pub returns : goal.returns
 returns g c =
     let locks = c.shard_locks-locks.result.now in
     let lists = c.in_ok-lists.lists.items in
-    let items = map (hashed g.S.BuildHasher g.S.Hasher.Hasher g.K.Hash.hash_input c.args.map.now.hasher) c.args.pairs.items in
+    let items = map (hashed g.S.BuildHasher g.S.Hasher.Hasher g.K.Hash.hash_input c.args.map.now.hasher)
+    c.args.pairs.items in
     on_ok_weaker c.given_each.result
     (λ each.
-    unmapped (hashed g.S.BuildHasher g.S.Hasher.Hasher g.K.Hash.hash_input c.args.map.now.hasher) (PutAt g.K.PartialEq.eq g.row.Q-ExclusiveGuard.Denot g.row.Q-Runtime.Denot g.row.Q-Party.Denot c.args.map.now.locks) c.args.pairs.items
-    (subst (λ ls. All (PutAt g.K.PartialEq.eq g.row.Q-ExclusiveGuard.Denot g.row.Q-Runtime.Denot g.row.Q-Party.Denot ls) items) c.shard_locks-locks.ensures.locks
-    (dealt-all (piece_at (length c.args.map.now.locks) (length c.args.tds.now)) (PutAt g.K.PartialEq.eq g.row.Q-ExclusiveGuard.Denot g.row.Q-Runtime.Denot g.row.Q-Party.Denot locks) items lists c.in_ok-lists.ensures.1 (λ k d lt. (each k d lt).says.met))))
+    unmapped (hashed g.S.BuildHasher g.S.Hasher.Hasher g.K.Hash.hash_input c.args.map.now.hasher)
+    (PutAt g.K.PartialEq.eq g.row.Q-ExclusiveGuard.Denot g.row.Q-Runtime.Denot g.row.Q-Party.Denot
+    c.args.map.now.locks) c.args.pairs.items
+    (subst (λ ls. All (PutAt g.K.PartialEq.eq g.row.Q-ExclusiveGuard.Denot g.row.Q-Runtime.Denot g.row.Q-Party.Denot ls)
+    items) c.shard_locks-locks.ensures.locks
+    (dealt-all (piece_at (length c.args.map.now.locks) (length c.args.tds.now))
+    (PutAt g.K.PartialEq.eq g.row.Q-ExclusiveGuard.Denot g.row.Q-Runtime.Denot g.row.Q-Party.Denot locks) items
+    lists c.in_ok-lists.ensures.1 (λ k d lt. (each k d lt).says.met))))
     c.given_each.ensures

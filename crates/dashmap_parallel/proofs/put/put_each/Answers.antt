@@ -12,7 +12,8 @@ use Rattle.dashmap_parallel.proofs.put.put_each.Goals as goal
 pub loop-hash-preserved : goal.loop-hash-preserved
 loop-hash-preserved g c =
     let x : ℕ × g.row.K.Denot × g.row.V.Denot = (c.in-Some.hash, c.in-Some.key, c.in-Some.value) in
-    All-push (PutAt g.K.PartialEq.eq g.row.Q-ExclusiveGuard.Denot g.row.Q-Runtime.Denot g.row.Q-Party.Denot c.args.locks.now) c.loop-hash.yielded x c.loop-hash.invariant c.in_ok-put_one.ensures
+    All-push (PutAt g.K.PartialEq.eq g.row.Q-ExclusiveGuard.Denot g.row.Q-Runtime.Denot g.row.Q-Party.Denot
+    c.args.locks.now) c.loop-hash.yielded x c.loop-hash.invariant c.in_ok-put_one.ensures
 
 pub returns-in_err-put_one : goal.returns-in_err-put_one
 returns-in_err-put_one g c =
@@ -20,14 +21,25 @@ returns-in_err-put_one g c =
     let e = YieldsList-from_vec c.args.pairs.items i.0 (i.1 ∙ c.args.pairs.ok.0) in
     let x : ℕ × g.row.K.Denot × g.row.V.Denot = (c.in-Some.hash, c.in-Some.key, c.in-Some.value) in
     let done = c.loop-hash.yielded in
-    let t = YieldsList-turn e done c.loop-hash.hash-iterator c.loop-hash.yielded_by c.next.result c.next.new.self x c.in-Some.is c.next.ensures.steps in
+    let t = YieldsList-turn e done c.loop-hash.hash-iterator c.loop-hash.yielded_by c.next.result c.next.new.self x
+    c.in-Some.is c.next.ensures.steps in
     let so_far = YieldsList-so_far e done c.loop-hash.hash-iterator c.loop-hash.yielded_by in
     let answer = err_from_is_err_and c.from_residual.result c.from_residual.ensures.1 in
-    at-refusal c.from_residual.result _ _ answer.0 answer.1
-    (done, x, drop (length done + 1) c.args.pairs.items, stops-at c.args.pairs.items done x (sym (map-id done) ∙ so_far) t.0 t.1, c.loop-hash.invariant, c.in_err-put_one.ensures)
+    at-refusal c.from_residual.result _ _ answer.0 answer.1 (
+      done,
+      x,
+      drop (length done + 1) c.args.pairs.items,
+      stops-at c.args.pairs.items done x (sym (map-id done) ∙ so_far)
+          t.0 t.1,
+      c.loop-hash.invariant,
+      c.in_err-put_one.ensures,
+    )
 
 pub returns : goal.returns
 returns g c =
     let i = c.into_iter-hash-iterator.ensures.into_iter_gives in
-    let e = YieldsList-end (YieldsList-from_vec c.args.pairs.items i.0 (i.1 ∙ c.args.pairs.ok.0)) c.loop-hash.yielded c.loop-hash.hash-iterator c.loop-hash.yielded_by c.next.result c.next.new.self c.in-None.is c.next.ensures.steps in
-    subst (All (PutAt g.K.PartialEq.eq g.row.Q-ExclusiveGuard.Denot g.row.Q-Runtime.Denot g.row.Q-Party.Denot c.args.locks.now)) (sym (map-id c.loop-hash.yielded) ∙ e.0) c.loop-hash.invariant
+    let e = YieldsList-end (YieldsList-from_vec c.args.pairs.items i.0 (i.1 ∙ c.args.pairs.ok.0)) c.loop-hash.yielded
+    c.loop-hash.hash-iterator c.loop-hash.yielded_by c.next.result c.next.new.self c.in-None.is c.next.ensures.steps
+    in
+    subst (All (PutAt g.K.PartialEq.eq g.row.Q-ExclusiveGuard.Denot g.row.Q-Runtime.Denot g.row.Q-Party.Denot
+    c.args.locks.now)) (sym (map-id c.loop-hash.yielded) ∙ e.0) c.loop-hash.invariant

@@ -6,5 +6,7 @@ use Rattle.dashmap_parallel.proofs.put.put_one.Goals as goal
 
 pub returns : goal.returns
 returns g c =
-    let there = subst (λ (n : ℕ). option_map padded_value (slice_get c.args.locks.now n) ≡ Some c.lock_behind.result.now) c.route-shard.ensures.value c.lock_behind.ensures in
-    MatchResult-weaker c.put_behind.result c.put_behind.ensures (λ x held. (c.lock_behind.result.now, there, held)) (λ x held. (c.lock_behind.result.now, there, held))
+    let there = subst (λ (n : ℕ). option_map padded_value (slice_get c.args.locks.now n) ≡ Some
+    c.lock_behind.result.now) c.route-shard.ensures.value c.lock_behind.ensures in
+    MatchResult-weaker c.put_behind.result c.put_behind.ensures (λ x held. (c.lock_behind.result.now, there, held))
+    (λ x held. (c.lock_behind.result.now, there, held))

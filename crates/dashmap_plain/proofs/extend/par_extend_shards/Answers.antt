@@ -7,10 +7,18 @@ use Rattle.dashmap_plain.proofs.extend.par_extend_shards.Goals as goal
 
 pub returns-clause-all : goal.returns-clause-all
 returns-clause-all g c =
-    let list = YieldsList-from_vec c.args.pairs.items c.into_iter.ensures.rest (c.into_iter.ensures.len ∙ c.args.pairs.ok.0) in
-    on_ok_weaker c.extend.result (λ (pairs, drained, puts). subst (λ xs. PutsAll g.S.BuildHasher g.S.Hasher.Hasher g.K.Hash.hash_input g.K.PartialEq.eq xs c.args.shards.now c.extend.new.self) (taken_whole pairs drained list) puts) c.extend.ensures.all
+    let list = YieldsList-from_vec c.args.pairs.items c.into_iter.ensures.rest
+    (c.into_iter.ensures.len ∙ c.args.pairs.ok.0) in
+    on_ok_weaker c.extend.result
+    (λ (pairs, drained, puts). subst
+    (λ xs. PutsAll g.S.BuildHasher g.S.Hasher.Hasher g.K.Hash.hash_input g.K.PartialEq.eq xs c.args.shards.now
+    c.extend.new.self) (taken_whole pairs drained list) puts) c.extend.ensures.all
 
 pub returns-clause-refused : goal.returns-clause-refused
 returns-clause-refused g c =
-    let list = YieldsList-from_vec c.args.pairs.items c.into_iter.ensures.rest (c.into_iter.ensures.len ∙ c.args.pairs.ok.0) in
-    IfErr-weaker c.extend.result _ _ (λ back (before, rest, came, puts, absent). (before, drop (length before + 1) c.args.pairs.items, taken_until before back rest came list, puts, absent)) c.extend.ensures.refused
+    let list = YieldsList-from_vec c.args.pairs.items c.into_iter.ensures.rest
+    (c.into_iter.ensures.len ∙ c.args.pairs.ok.0) in
+    IfErr-weaker c.extend.result _ _
+    (λ back (before, rest, came, puts, absent).
+    (before, drop (length before + 1) c.args.pairs.items, taken_until before back rest came list, puts, absent))
+    c.extend.ensures.refused

@@ -14,4 +14,5 @@ invariant-loop-shard g l =
     × (length l.histories.items + length (into_iter_items l.shard-iterator) ≡ length l.fn.shards.items)
     × (vec_capacity l.histories ≡ vec_capacity l.fn.histories)
     × All (λ history. IsTrue (rises history.items)) l.histories.items
-    × All (λ history. Replies g.K.PartialEq.eq g.V.PartialEq.eq (no_pair g.row.K.Denot g.row.V.Denot) history.items) l.histories.items
+    × All (λ history. Replies g.K.PartialEq.eq g.V.PartialEq.eq (no_pair g.row.K.Denot g.row.V.Denot) history.items)
+    l.histories.items

@@ -7,7 +7,8 @@ use Rattle.dashmap_table.proofs.probe.find_among.Given as goal
 abbrev pub invariant-loop-lane : goal.invariant-loop-lane
 invariant-loop-lane g l = record {
   some : (k : ℕ) → HasLane l.left k → HasLane l.fn.lanes k;
-  missed : (k : ℕ) → HasLane l.fn.lanes k → ¬ HasLane l.left k → holds g.K.PartialEq.eq l.hash l.key (at l.slots (l.from + k)) ≡ false;
+  missed : (k : ℕ) → HasLane l.fn.lanes k → ¬ HasLane l.left k
+      → holds g.K.PartialEq.eq l.hash l.key (at l.slots (l.from + k)) ≡ false;
 }
 
 abbrev pub decreases-loop-lane : goal.decreases-loop-lane

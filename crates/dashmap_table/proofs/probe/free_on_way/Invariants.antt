@@ -5,4 +5,5 @@ use Rattle.dashmap_table.proofs.probe.free_on_way.Given as goal
 
 -- the windows that were looked through are full
 abbrev pub invariant-loop-passed : goal.invariant-loop-passed
-invariant-loop-passed l = (j m : ℕ) → j < l.passed → m < length l.tags → m / 16 ≡ on_way (windows_in l.tags) l.hash j → ¬ IsFree (slice_index l.tags m)
+invariant-loop-passed l = (j m : ℕ) → j < l.passed → m < length l.tags → m / 16 ≡ on_way (windows_in l.tags) l.hash j
+    → ¬ IsFree (slice_index l.tags m)

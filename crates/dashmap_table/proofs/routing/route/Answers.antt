@@ -4,7 +4,8 @@ use Rattle.dashmap_table.proofs.routing.route.Goals as goal
 
 pub returns-clause-value : goal.returns-clause-value
 returns-clause-value c =
-    let exponent = log2-is c.ilog2.result c.args.shards c.ilog2.ensures.bound c.ilog2.ensures.power_le c.ilog2.ensures.next_power_gt in
+    let exponent = log2-is c.ilog2.result c.args.shards c.ilog2.ensures.bound c.ilog2.ensures.power_le
+    c.ilog2.ensures.next_power_gt in
     let most = (exponent_within c.args.shards c.requires).1 in
     shifts-are c.args.hash c.ilog2.result (omega (arith, most, exponent))
     ∙ ap (λ k. (c.args.hash % 2 ^ 57) / 2 ^ (57 - k)) (sym exponent)

@@ -7,7 +7,8 @@ use Rattle.mapworld.specs.Beginning.{pairs_in}
 use Rattle.mapworld.proofs.Routes.{key_route-equal}
 use Rattle.mapworld_state.specs.Shards.{shard_pairs}
 use Rattle.mapworld_state.specs.Slots.{key_hash}
-use Rattle.mapworld.proofs.Filling.{AreFilled-none, AreFilled-put, AreHashed-none, AreHashed-set, pairs_in-put, pairs_in-none, length-slice_set}
+use Rattle.mapworld.proofs.Filling.{AreFilled-none, AreFilled-put, AreHashed-none, AreHashed-set, pairs_in-put}
+use Rattle.mapworld.proofs.Filling.{pairs_in-none, length-slice_set}
 use Rattle.mapworld.proofs.beginning.fill.Goals as goal
 
 pub loop-key-init : goal.loop-key-init

@@ -7,8 +7,12 @@ use Rattle.mapworld_progress.proofs.drains.drain.Given as goal
 
 abbrev pub invariant-passes : goal.invariant-passes
 invariant-passes g l = record {
-  by : DrainsBy (setup_of g.D.Deed g.S.BuildHasher g.S.Hasher.Hasher g.K.PartialEq.eq g.K.Hash.hash_input (state_of l.initial.core)) (state_of l.initial.core) l.made (state_of l.core);
-  falls : (most : ℕ) → ((u : ℕ) → core_left g.D.Deed g.S.BuildHasher g.S.Hasher.Hasher g.K.PartialEq.eq g.K.Hash.hash_input l.initial.core u < most) → (u : ℕ) → l.made + core_left g.D.Deed g.S.BuildHasher g.S.Hasher.Hasher g.K.PartialEq.eq g.K.Hash.hash_input l.core u < most;
+  by : DrainsBy (setup_of g.D.Deed g.S.BuildHasher g.S.Hasher.Hasher g.K.PartialEq.eq g.K.Hash.hash_input
+      (state_of l.initial.core)) (state_of l.initial.core) l.made (state_of l.core);
+  falls : (most : ℕ)
+      → ((u : ℕ) → core_left g.D.Deed g.S.BuildHasher g.S.Hasher.Hasher g.K.PartialEq.eq g.K.Hash.hash_input
+      l.initial.core u < most) → (u : ℕ) → l.made + core_left g.D.Deed g.S.BuildHasher g.S.Hasher.Hasher
+      g.K.PartialEq.eq g.K.Hash.hash_input l.core u < most;
   sound : IsSoundCore g.D.Deed g.S.BuildHasher g.S.Hasher.Hasher g.K.PartialEq.eq g.K.Hash.hash_input l.core;
   room : Room l.core;
   slots : IsSlotted g.D.Deed g.S.BuildHasher g.S.Hasher.Hasher g.K.PartialEq.eq g.K.Hash.hash_input l.core;

@@ -7,9 +7,14 @@ use Rattle.mapworld_progress.proofs.drains.pass.Given as goal
 
 abbrev pub invariant-loop-thread : goal.invariant-loop-thread
 invariant-loop-thread g l = record {
-  by : DrainsBy (setup_of g.D.Deed g.S.BuildHasher g.S.Hasher.Hasher g.K.PartialEq.eq g.K.Hash.hash_input (state_of l.initial.core)) (state_of l.initial.core) l.made (state_of l.core);
-  falls : (most : ℕ) → ((u : ℕ) → core_left g.D.Deed g.S.BuildHasher g.S.Hasher.Hasher g.K.PartialEq.eq g.K.Hash.hash_input l.initial.core u < most) → (u : ℕ) → l.made + core_left g.D.Deed g.S.BuildHasher g.S.Hasher.Hasher g.K.PartialEq.eq g.K.Hash.hash_input l.core u < most;
-  quiet : l.made ≡ 0 → (state_of l.core ≡ state_of l.initial.core) × ((t : ℕ) → t < l.thread → can_move_in (state_of l.initial.core) t ≡ false);
+  by : DrainsBy (setup_of g.D.Deed g.S.BuildHasher g.S.Hasher.Hasher g.K.PartialEq.eq g.K.Hash.hash_input
+      (state_of l.initial.core)) (state_of l.initial.core) l.made (state_of l.core);
+  falls : (most : ℕ)
+      → ((u : ℕ) → core_left g.D.Deed g.S.BuildHasher g.S.Hasher.Hasher g.K.PartialEq.eq g.K.Hash.hash_input
+      l.initial.core u < most) → (u : ℕ) → l.made + core_left g.D.Deed g.S.BuildHasher g.S.Hasher.Hasher
+      g.K.PartialEq.eq g.K.Hash.hash_input l.core u < most;
+  quiet : l.made ≡ 0 → (state_of l.core ≡ state_of l.initial.core)
+      × ((t : ℕ) → t < l.thread → can_move_in (state_of l.initial.core) t ≡ false);
   sound : IsSoundCore g.D.Deed g.S.BuildHasher g.S.Hasher.Hasher g.K.PartialEq.eq g.K.Hash.hash_input l.core;
   room : Room l.core;
   slots : IsSlotted g.D.Deed g.S.BuildHasher g.S.Hasher.Hasher g.K.PartialEq.eq g.K.Hash.hash_input l.core;

@@ -1,5 +1,7 @@
 -- On which shard a call of a thread is, by where the thread stands in a sound world.
-use Rattle.std.proofs.Common.{◌≡◌, ℕ, zero, suc, ◌+◌, ◌-◌, ◌<◌, ◌≤◌, inl, inr, Bool, true, false, cond, ◌==◌, List, [], ◌∷◌, length, take, count_by, Option, Some, None, option_and_then, slice_get, IsTrue, refl, sym, ap, ◌∙◌, subst, arith}
+use Rattle.std.proofs.Common.{◌≡◌, ℕ, zero, suc, ◌+◌, ◌-◌, ◌<◌, ◌≤◌, inl, inr, Bool, true, false, cond, ◌==◌, List, []}
+use Rattle.std.proofs.Common.{◌∷◌, length, take, count_by, Option, Some, None, option_and_then, slice_get, IsTrue, refl}
+use Rattle.std.proofs.Common.{sym, ap, ◌∙◌, subst, arith}
 use Rattle.std.proofs.lemmas.Bool.{eqb-true, false≢true}
 use Rattle.std.proofs.lemmas.List.{length-map}
 use Rattle.std.proofs.lemmas.List.Sums.{sum_by-cons}
@@ -40,7 +42,8 @@ use Rattle.mapworld_state.specs.Invariant.Causes.Causes.{IsOnNow}
 use Rattle.mapworld_state.proofs.InvariantFacts.CausesFacts.Sessions.{one-block, one-place, opened}
 
 -- of one hold each has its shard
-pub one-hold : (holds : List Hold) (i : ℕ) (h hold : Hold) → holds ≡ hold ∷ [] → slice_get holds i ≡ Some h → h.shard ≡ hold.shard
+pub one-hold : (holds : List Hold) (i : ℕ) (h hold : Hold) → holds ≡ hold ∷ [] → slice_get holds i ≡ Some h
+    → h.shard ≡ hold.shard
 one-hold holds i h hold is at = by i (ap (λ z. slice_get z i) (sym is) ∙ at)
   where
     by : (i : ℕ) → slice_get (hold ∷ []) i ≡ Some h → h.shard ≡ hold.shard
@@ -56,7 +59,8 @@ record Nth {X : Type 0} (p : X → Bool) (xs : List X) (c : ℕ) : Type 0 where
   number : count_by p (take place xs) ≡ c
 
 -- one more in front
-counts-one : {X : Type 0} (p : X → Bool) (y : X) (ys : List X) (b : Bool) → p y ≡ b → count_by p (y ∷ ys) ≡ cond b 1 0 + count_by p ys
+counts-one : {X : Type 0} (p : X → Bool) (y : X) (ys : List X) (b : Bool) → p y ≡ b
+    → count_by p (y ∷ ys) ≡ cond b 1 0 + count_by p ys
 counts-one p y ys b e = sum_by-cons (λ z. cond (p z) 1 0) y ys ∙ ap (λ z. cond z 1 0 + count_by p ys) e
 
 nth-passing : {X : Type 0} (p : X → Bool) (xs : List X) (c : ℕ) → c < count_by p xs → Nth p xs c
@@ -72,10 +76,13 @@ nth-passing p (y ∷ ys) c lt = by (λ d le. nth-passing p ys d le) (p y) refl c
       number = counts-one p y (take n.place ys) b e ∙ ap (λ z. cond b 1 0 + z) n.number;
     }
 
-    by : ((d : ℕ) → d < count_by p ys → Nth p ys d) → (b : Bool) → p y ≡ b → (c : ℕ) → c < count_by p (y ∷ ys) → Nth p (y ∷ ys) c
-    by more false e c lt = let n : 0 + c ≡ c = omega arith in subst (Nth p (y ∷ ys)) n (later false e c (more c (omega (arith, lt, counts-one p y ys false e))))
+    by : ((d : ℕ) → d < count_by p ys → Nth p ys d) → (b : Bool) → p y ≡ b → (c : ℕ) → c < count_by p (y ∷ ys)
+        → Nth p (y ∷ ys) c
+    by more false e c lt = let n : 0 + c ≡ c = omega arith in
+        subst (Nth p (y ∷ ys)) n (later false e c (more c (omega (arith, lt, counts-one p y ys false e))))
     by more true e zero lt = record { place = 0; item = y; listed = refl; passes = e; number = refl }
-    by more true e (suc c) lt = let n : 1 + c ≡ suc c = omega arith in subst (Nth p (y ∷ ys)) n (later true e c (more c (omega (arith, lt, counts-one p y ys true e))))
+    by more true e (suc c) lt = let n : 1 + c ≡ suc c = omega arith in
+        subst (Nth p (y ∷ ys)) n (later true e c (more c (omega (arith, lt, counts-one p y ys true e))))
 
 -- the number of a step that was made is below the next one's
 module _ {K V S D T A : Type 0} (x : Setup K V D T) (w : State K V S D T A) (sound : Sound x w) where
@@ -95,13 +102,15 @@ module _ {K V S D T A : Type 0} (x : Setup K V D T) (w : State K V S D T A) (sou
     st = sound.stands t p at
 
     -- it is in a call that has started
-    shown : (a : Ask K V D) → (call : IsInCall x (threads_of w) t p a) → StartedAt (started_of w) w.replies t p.next call.start
+    shown : (a : Ask K V D) → (call : IsInCall x (threads_of w) t p a) → StartedAt (started_of w) w.replies t p.next
+        call.start
     shown a call = inr (st.answered, ap (λ o. option_and_then (λ (q : Place K V D T A). q.started) o) at ∙ call.started)
 
     low : (c : ℕ) → p.next ≤ c → answered_of w.replies t ≤ c
     low c le = omega (arith, le, st.answered)
 
-    asks-on : (q : ℕ) → next_step w ≤ q → (r : Request K V D) → IsInCall x (threads_of w) t p (ask_of r) → p.shard ≡ x.route (request_key r) → IsOnShard x (started_of w) w.blocks w.replies t p.shard q
+    asks-on : (q : ℕ) → next_step w ≤ q → (r : Request K V D) → IsInCall x (threads_of w) t p (ask_of r)
+        → p.shard ≡ x.route (request_key r) → IsOnShard x (started_of w) w.blocks w.replies t p.shard q
     asks-on q le (request.Keyed k) call shard = record {
       call = p.next;
       ask = ask.Keyed k;
@@ -122,14 +131,16 @@ module _ {K V S D T A : Type 0} (x : Setup K V D T) (w : State K V S D T A) (sou
         sym shard,
         record {
           refused = λ none. unanswered t p.next q (low p.next (omega arith));
-          guarded = λ i n b there thread callee done now_free. unanswered t (p.next + n) q (low (p.next + n) (omega arith));
+          guarded = λ i n b there thread callee done now_free. unanswered t (p.next + n) q
+              (low (p.next + n) (omega arith));
         },
       );
     }
 
     -- one that waits for its shard
     pub waits-on : (r : Request K V D) → p.phase ≡ phase.Admit r → IsOnNow x w t p.shard
-    waits-on r is q le = let claim = claim-at x (threads_of w) w.blocks w.replies w.tables t p (phase.Admit r) is st in asks-on q le r claim.0 claim.1.shard
+    waits-on r is q le = let claim = claim-at x (threads_of w) w.blocks w.replies w.tables t p (phase.Admit r) is st in
+        asks-on q le r claim.0 claim.1.shard
 
     -- and a walk that does
     pub reaches-on : (f : Walk D) → p.phase ≡ phase.Reach f → IsOnNow x w t p.shard
@@ -150,10 +161,19 @@ module _ {K V S D T A : Type 0} (x : Setup K V D T) (w : State K V S D T A) (sou
                   let u = v.so_far.visited.are n here.0 here.2 in
                   let b = here.0.block in
                   let lt = step-low b.thread b.position (sound.placed.placed here.0.place b u.listed).position in
-                  record { place = here.0.place; block = b; listed = u.listed; thread = u.thread; call = u.call; visit = u.visit; reached = omega (arith, lt, le) }
+                  record {
+                    place = here.0.place;
+                    block = b;
+                    listed = u.listed;
+                    thread = u.thread;
+                    call = u.call;
+                    visit = u.visit;
+                    reached = omega (arith, lt, le);
+                  }
               | inr beyond ↦ absurd (omega (arith, beyond.0, v.number, e))
             ];
-            goes_on = λ i b there thread call visit. let lt = v.so_far.visited.all i b there thread call in absurd (omega (arith, lt, visit, v.number));
+            goes_on = λ i b there thread call visit. let lt = v.so_far.visited.all i b there thread call in
+                absurd (omega (arith, lt, visit, v.number));
             unanswered = unanswered t p.next q (low p.next (omega arith));
           };
         }
@@ -161,25 +181,35 @@ module _ {K V S D T A : Type 0} (x : Setup K V D T) (w : State K V S D T A) (sou
     -- BETWEEN TWO CALLS
 
     -- each call below the next one has its reply
-    replied : (c : ℕ) → c < p.next → (n : ℕ) × (r : Reply K V T A) × (slice_get w.replies n ≡ Some r) × (r.thread ≡ t) × (r.call ≡ c)
+    replied : (c : ℕ) → c < p.next → (n : ℕ) × (r : Reply K V T A) × (slice_get w.replies n ≡ Some r) × (r.thread ≡ t)
+        × (r.call ≡ c)
     replied c lt =
         let o = nth-passing (λ r. r.thread == t) w.replies c (omega (arith, lt, st.answered)) in
-        let own : o.item.thread ≡ t = eqb-true o.item.thread t o.passes in
-        (o.place, o.item, o.listed, own, sound.placed.in_turn o.place o.item o.listed ∙ ap (answered_of (take o.place w.replies)) own ∙ o.number)
+        let own : o.item.thread ≡ t = eqb-true o.item.thread t o.passes in (
+          o.place,
+          o.item,
+          o.listed,
+          own,
+          sound.placed.in_turn o.place o.item o.listed
+              ∙ ap (answered_of (take o.place w.replies)) own ∙ o.number,
+        )
 
-    module _ (c i : ℕ) (inside : session_of x t p.next ≡ Some c) (session : HasSession x w.blocks w.tables t p p.next c i) (g : Guard K) (guarded : p.guard ≡ Some g) where
+    module _ (c i : ℕ) (inside : session_of x t p.next ≡ Some c)
+        (session : HasSession x w.blocks w.tables t p p.next c i) (g : Guard K) (guarded : p.guard ≡ Some g) where
       abbrev o : Option (K × V)
       o = found x w.blocks i session.block
 
       held-there : is_free (reached x t c (p.next - c) o) ≡ false
-      held-there = by g (subst (λ (z : Option (Guard K)). GuardIs w.tables p z (reached x t c (p.next - c) o)) guarded session.guard)
+      held-there = by g (subst (λ (z : Option (Guard K)). GuardIs w.tables p z (reached x t c (p.next - c) o)) guarded
+          session.guard)
         where
           lent-held : (kind : Way K) (pair : K × V) → is_free (lent kind pair) ≡ false
           lent-held way.Shared pair = refl
           lent-held way.Exclusive pair = refl
           lent-held (way.Occupied k) pair = refl
 
-          by : (g : Guard K) → GuardIs w.tables p (Some g) (reached x t c (p.next - c) o) → is_free (reached x t c (p.next - c) o) ≡ false
+          by : (g : Guard K) → GuardIs w.tables p (Some g) (reached x t c (p.next - c) o)
+              → is_free (reached x t c (p.next - c) o) ≡ false
           by (guard.Pair kind) h = ap is_free h.1 ∙ lent-held kind h.0
           by (guard.Vacant key) h = ap is_free h.0
 
@@ -189,12 +219,18 @@ module _ {K V S D T A : Type 0} (x : Setup K V D T) (w : State K V S D T A) (sou
       -- all calls of the session behind its opening are on the guard
       on-guard : (n : ℕ) → 0 < n → n < p.next - c → (h : Held V D) × (ask_at x t (c + n) ≡ Some (ask.Held h))
       on-guard n some lt =
-          let d = (opened x w t c opening.0 opening.1 i session.block sound session.listed session.thread session.call).0.calls n some (omega (arith, lt, session.done)) in
-          (d.held, sym (ap (λ z. ask_at x z (session.block.call + n)) session.thread ∙ ap (λ z. ask_at x t (z + n)) session.call) ∙ d.asked)
+          let d = (opened x w t c opening.0 opening.1 i session.block sound session.listed session.thread
+          session.call).0.calls n some (omega (arith, lt, session.done)) in (
+            d.held,
+            sym (ap (λ z. ask_at x z (session.block.call + n)) session.thread
+                ∙ ap (λ z. ask_at x t (z + n)) session.call) ∙ d.asked,
+          )
 
       -- one that is free stays free
-      stays-free : (n d : ℕ) → 0 < n → n + d ≤ p.next - c → is_free (reached x t c n o) ≡ true → is_free (reached x t c (n + d) o) ≡ true
-      stays-free n zero some le free_ = let same : n + 0 ≡ n = omega arith in ap (λ m. is_free (reached x t c m o)) same ∙ free_
+      stays-free : (n d : ℕ) → 0 < n → n + d ≤ p.next - c → is_free (reached x t c n o) ≡ true
+          → is_free (reached x t c (n + d) o) ≡ true
+      stays-free n zero some le free_ = let same : n + 0 ≡ n = omega arith in ap (λ m. is_free (reached x t c m o)) same
+          ∙ free_
       stays-free n (suc d) some le free_ =
           let before_ = stays-free n d some (omega (arith, le)) free_ in
           let a = on-guard (n + d) (omega (arith, some)) (omega (arith, le)) in
@@ -213,7 +249,8 @@ module _ {K V S D T A : Type 0} (x : Setup K V D T) (w : State K V S D T A) (sou
       -- so none of the session's calls has ended its guard
       none-free : (n : ℕ) → suc n ≤ p.next - c → IsTrue (is_free (reached x t c (suc n) o)) → ⊥
       none-free n le free_ =
-          let there : is_free (reached x t c (suc n + (p.next - c - suc n)) o) ≡ true = stays-free (suc n) (p.next - c - suc n) (omega arith) (omega (arith, le)) (is-true _ free_) in
+          let there : is_free (reached x t c (suc n + (p.next - c - suc n)) o) ≡ true =
+          stays-free (suc n) (p.next - c - suc n) (omega arith) (omega (arith, le)) (is-true _ free_) in
           let same : p.next - c ≡ suc n + (p.next - c - suc n) = omega (arith, le) in
           absurd (false≢true (sym held-there ∙ ap (λ m. is_free (reached x t c m o)) same ∙ there))
         where
@@ -239,16 +276,21 @@ module _ {K V S D T A : Type 0} (x : Setup K V D T) (w : State K V S D T A) (sou
               record {
                 refused = λ none. absurd (none i session.block session.listed session.thread session.call);
                 guarded = λ j n b there thread callee lt now_free.
-                    let same : b ≡ session.block = one-block x w t c opening.0 opening.1 sound j i b session.block there session.listed thread callee session.thread session.call in
-                    let place : j ≡ i = one-place x w t c opening.0 opening.1 sound j i b session.block there session.listed thread callee session.thread session.call in
+                    let same : b ≡ session.block = one-block x w t c opening.0 opening.1 sound j i b session.block there
+                    session.listed thread callee session.thread session.call in
+                    let place : j ≡ i = one-place x w t c opening.0 opening.1 sound j i b session.block there
+                    session.listed thread callee session.thread session.call in
                     absurd (none-free n (omega (arith, lt, ap (λ z. z.done.value) same, session.done))
-                    (subst (λ (z : Option (K × V)). IsTrue (is_free (reached x t c (suc n) z))) (ap (λ m. before x w.blocks m (opening_key opening.0)) place ∙ sym (found-is x session.block (opening_key opening.0) key w.blocks i)) now_free));
+                    (subst (λ (z : Option (K × V)). IsTrue (is_free (reached x t c (suc n) z)))
+                    (ap (λ m. before x w.blocks m (opening_key opening.0)) place
+                    ∙ sym (found-is x session.block (opening_key opening.0) key w.blocks i)) now_free));
               },
             );
           }
 
     -- one that rests with a guard
-    pub rests-on : p.phase ≡ phase.Rest → (i : ℕ) (h : Hold) → slice_get p.holds i ≡ Some h → IsOnNow x w t h.shard × (h.shard ≡ p.shard)
+    pub rests-on : p.phase ≡ phase.Rest → (i : ℕ) (h : Hold) → slice_get p.holds i ≡ Some h → IsOnNow x w t h.shard
+        × (h.shard ≡ p.shard)
     rests-on is i h at-hold = by p.guard refl
       where
         claim : (p.started ≡ None) × HoldsByGuard p × IsReady x w.blocks w.tables t p p.next p.block
@@ -258,7 +300,9 @@ module _ {K V S D T A : Type 0} (x : Setup K V D T) (w : State K V S D T A) (sou
         by None none = absurd (none-there p.holds i h (claim.1 none) at-hold)
         by (Some g) guarded =
             let e = session-of-guard x w.blocks w.tables t p p.next g (session_of x t p.next) p.block guarded claim.2 in
-            let here = guard-holds g (reached x t e.0 (p.next - e.0) (found x w.blocks e.1 e.4.block)) (subst (λ (z : Option (Guard K)). GuardIs w.tables p z (reached x t e.0 (p.next - e.0) (found x w.blocks e.1 e.4.block))) guarded e.4.guard) in
+            let here = guard-holds g (reached x t e.0 (p.next - e.0) (found x w.blocks e.1 e.4.block))
+            (subst (λ (z : Option (Guard K)). GuardIs w.tables p z
+            (reached x t e.0 (p.next - e.0) (found x w.blocks e.1 e.4.block))) guarded e.4.guard) in
             let same : h.shard ≡ p.shard = one-hold p.holds i h here.1.hold here.1.has at-hold ∙ here.1.shard in
             (subst (IsOnNow x w t) (sym same) (in-session-on e.0 e.1 e.2 e.4 g guarded), same)
           where

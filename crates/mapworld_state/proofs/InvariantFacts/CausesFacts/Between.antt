@@ -1,5 +1,6 @@
 -- The world between a step and what ends with it: an admission, or what was owed to a lock.
-use Rattle.std.proofs.Common.{◌≡◌, ◌≢◌, ℕ, inl, inr, Bool, true, false, List, [], ◌∷◌, ◌++◌, Option, Some, None, slice_get, slice_set, refl, sym, ap, ◌∙◌, subst}
+use Rattle.std.proofs.Common.{◌≡◌, ◌≢◌, ℕ, inl, inr, Bool, true, false, List, [], ◌∷◌, ◌++◌, Option, Some, None}
+use Rattle.std.proofs.Common.{slice_get, slice_set, refl, sym, ap, ◌∙◌, subst}
 use Rattle.std.specs.Option.{option_map}
 use Rattle.std.proofs.lemmas.Bool.{false≢true}
 use Rattle.std.proofs.lemmas.Option.{none-some, same_Some}
@@ -27,11 +28,13 @@ use Rattle.mapworld_state.proofs.InvariantFacts.Admitting.{sound-enters, sound-l
 use Rattle.mapworld_state.proofs.InvariantFacts.Concluding.{sound-left}
 use Rattle.mapworld_state.proofs.InvariantFacts.Walking.{sound-reaches}
 use Rattle.mapworld_state.specs.Invariant.Causes.Causes.{IsSite}
-use Rattle.mapworld_state.proofs.InvariantFacts.CausesFacts.Locking.{LocksApart, apart-ends, apart-same, seen-tries, tries-gets}
+use Rattle.mapworld_state.proofs.InvariantFacts.CausesFacts.Locking.{LocksApart, apart-ends, apart-same, seen-tries}
+use Rattle.mapworld_state.proofs.InvariantFacts.CausesFacts.Locking.{tries-gets}
 use Rattle.mapworld_state.proofs.InvariantFacts.CausesFacts.Looking.{sees}
 
 -- a try without success is one that waits for its shard
-module _ {K V S D T A : Type 0} (x : Setup K V D T) (w : State K V S D T A) (sound : Sound x w) (t : ℕ) (p : Place K V D T A) (at : slice_get w.places t ≡ Some p) where
+module _ {K V S D T A : Type 0} (x : Setup K V D T) (w : State K V S D T A) (sound : Sound x w) (t : ℕ)
+    (p : Place K V D T A) (at : slice_get w.places t ≡ Some p) where
   module _ (c : Call) (tries : core_tries c.core ≡ true) where
     nowhere : Some (stand_of c) ≡ None → ⊥
     nowhere e = none-some (stand_of c) (sym e)
@@ -40,7 +43,8 @@ module _ {K V S D T A : Type 0} (x : Setup K V D T) (w : State K V S D T A) (sou
     gets-nothing h = let m = tries-gets c.core tries in subst (λ (a : Aim). MayOwe p c.lock a) m.1 h
 
     waits-not : (mode : _) → IsWanting p mode false (Some (stand_of c)) → ⊥
-    waits-not mode h = false≢true (sym (h.patient refl) ∙ sym (ap (λ z. z.trying) (same_Some (stand_of c) _ h.is)) ∙ tries)
+    waits-not mode h =
+        false≢true (sym (h.patient refl) ∙ sym (ap (λ z. z.trying) (same_Some (stand_of c) _ h.is)) ∙ tries)
 
     by : (f : Phase K V D T A) → StandsBefore p f (Some (stand_of c)) → (r : Request K V D) × (f ≡ phase.Admit r)
     by phase.Rest h = absurd (nowhere h)
@@ -65,20 +69,26 @@ module _ {K V S D T A : Type 0} (x : Setup K V D T) (w : State K V S D T A) (sou
     by (phase.Release a) h = absurd (nowhere h)
     by (phase.Answer a) h = absurd (gets-nothing h)
 
-  pub tries-admits : (c : Call) → call_at (state w.locks.rows) t ≡ Some c → core_tries c.core ≡ true → (r : Request K V D) × (p.phase ≡ phase.Admit r)
-  tries-admits c e tries = by c tries p.phase (subst (λ (o : Option Stand). StandsBefore p p.phase o) (ap (λ o. option_map stand_of o) e) (sound.holds.stands t p at))
+  pub tries-admits : (c : Call) → call_at (state w.locks.rows) t ≡ Some c → core_tries c.core ≡ true
+      → (r : Request K V D) × (p.phase ≡ phase.Admit r)
+  tries-admits c e tries =
+      by c tries p.phase
+      (subst (λ (o : Option Stand). StandsBefore p p.phase o) (ap (λ o. option_map stand_of o) e)
+      (sound.holds.stands t p at))
 
   pub sees-admits : sees (call_at (state w.locks.rows) t) ≡ true → (r : Request K V D) × (p.phase ≡ phase.Admit r)
   sees-admits seen = go (call_at (state w.locks.rows) t) refl seen
     where
-      go : (o : Option Call) → call_at (state w.locks.rows) t ≡ o → sees o ≡ true → (r : Request K V D) × (p.phase ≡ phase.Admit r)
+      go : (o : Option Call) → call_at (state w.locks.rows) t ≡ o → sees o ≡ true → (r : Request K V D)
+          × (p.phase ≡ phase.Admit r)
       go None e h = absurd (false≢true h)
       go (Some c) e h = tries-admits c e (seen-tries c.core h)
 
 -- THE WORLD BETWEEN
 
 -- the thread's place stands where it stood, on shards that it was on
-pub record Between {K V S D T A : Type 0} (x : Setup K V D T) (t : ℕ) (w v : State K V S D T A) (p q : Place K V D T A) : Type 0 where
+pub record Between {K V S D T A : Type 0} (x : Setup K V D T) (t : ℕ) (w v : State K V S D T A)
+    (p q : Place K V D T A) : Type 0 where
   pub sound : Sound x v
   pub at : slice_get w.places t ≡ Some p
   pub there : slice_get v.places t ≡ Some q
@@ -104,12 +114,15 @@ module _ {K V S D T A : Type 0} (x : Setup K V D T) (w : State K V S D T A) (t :
   }
 
   -- a call of the lock has ended, and the place may have its hold
-  module _ (v : State K V S D T A) (there : Sound x v) (p : Place K V D T A) (at : slice_get w.places t ≡ Some p) (locks : Shown) (answer : CoreAnswer) (ends : LockEnds t answer w.locks locks) where
-    out-of : (holds : List Hold) → ((i : ℕ) (h : Hold) → slice_get holds i ≡ Some h → IsSite w.locks t p.holds h.shard) → (shard : ℕ) → IsSite locks t holds shard → IsSite w.locks t p.holds shard
+  module _ (v : State K V S D T A) (there : Sound x v) (p : Place K V D T A) (at : slice_get w.places t ≡ Some p)
+      (locks : Shown) (answer : CoreAnswer) (ends : LockEnds t answer w.locks locks) where
+    out-of : (holds : List Hold) → ((i : ℕ) (h : Hold) → slice_get holds i ≡ Some h → IsSite w.locks t p.holds h.shard)
+        → (shard : ℕ) → IsSite locks t holds shard → IsSite w.locks t p.holds shard
     out-of holds own shard (inl (i, h, here, is)) = subst (IsSite w.locks t p.holds) is (own i h here)
     out-of holds own shard (inr (stand, is, same)) = absurd (none-some stand (sym ends.gone ∙ is))
 
-    pub between-placed : (q : Place K V D T A) → q.shard ≡ p.shard → q.started ≡ p.started → ((i : ℕ) (h : Hold) → slice_get q.holds i ≡ Some h → IsSite w.locks t p.holds h.shard)
+    pub between-placed : (q : Place K V D T A) → q.shard ≡ p.shard → q.started ≡ p.started
+        → ((i : ℕ) (h : Hold) → slice_get q.holds i ≡ Some h → IsSite w.locks t p.holds h.shard)
         → v ≡ record w { places = slice_set w.places t q; locks = locks } → Between x t w v p q
     between-placed q shard started own after = record {
       sound = there;
@@ -118,8 +131,10 @@ module _ {K V S D T A : Type 0} (x : Setup K V D T) (w : State K V S D T A) (t :
       shard = shard;
       started = started;
       back = λ s h. out-of q.holds own s (subst (λ (z : State K V S D T A). IsSite z.locks t q.holds s) after h);
-      others = λ u ne. ap (λ (z : State K V S D T A). slice_get z.places u) after ∙ slice_get-set_other w.places t u q (λ e. ne (sym e));
-      locks = subst (λ (z : State K V S D T A). LocksApart t w.locks z.locks) (sym after) (apart-ends t answer w.locks locks ends);
+      others = λ u ne. ap (λ (z : State K V S D T A). slice_get z.places u) after
+          ∙ slice_get-set_other w.places t u q (λ e. ne (sym e));
+      locks = subst (λ (z : State K V S D T A). LocksApart t w.locks z.locks) (sym after)
+          (apart-ends t answer w.locks locks ends);
       replies = ap (λ (z : State K V S D T A). z.replies) after;
     }
 
@@ -130,43 +145,58 @@ module _ {K V S D T A : Type 0} (x : Setup K V D T) (w : State K V S D T A) (t :
       there = ap (λ (z : State K V S D T A). slice_get z.places t) after ∙ at;
       shard = refl;
       started = refl;
-      back = λ s h. out-of p.holds (λ i k here. inl (i, k, here, refl)) s (subst (λ (z : State K V S D T A). IsSite z.locks t p.holds s) after h);
+      back = λ s h. out-of p.holds (λ i k here. inl (i, k, here, refl)) s
+          (subst (λ (z : State K V S D T A). IsSite z.locks t p.holds s) after h);
       others = λ u ne. ap (λ (z : State K V S D T A). slice_get z.places u) after;
-      locks = subst (λ (z : State K V S D T A). LocksApart t w.locks z.locks) (sym after) (apart-ends t answer w.locks locks ends);
+      locks = subst (λ (z : State K V S D T A). LocksApart t w.locks z.locks) (sym after)
+          (apart-ends t answer w.locks locks ends);
       replies = ap (λ (z : State K V S D T A). z.replies) after;
     }
 
     -- the hold that an admission gives is of the shard that it was waited for
-    admitted : (mode : _) (tries : Bool) (own : Hold) → own.shard ≡ p.shard → IsWanting p mode tries (stand_in w.locks t) → (i : ℕ) (h : Hold) → slice_get (p.holds ++ own ∷ []) i ≡ Some h → IsSite w.locks t p.holds h.shard
+    admitted : (mode : _) (tries : Bool) (own : Hold) → own.shard ≡ p.shard
+        → IsWanting p mode tries (stand_in w.locks t) → (i : ℕ) (h : Hold) → slice_get (p.holds ++ own ∷ []) i ≡ Some h
+        → IsSite w.locks t p.holds h.shard
     admitted mode tries own is wants i h here = elim (slice_get-push_cases p.holds i h own here) [
       | inl old ↦ inl (i, h, old, refl)
       | inr new ↦ inr (_, wants.is, sym is ∙ sym (ap (λ z. z.shard) new.1))
     ]
 
-  stands-there : (p : Place K V D T A) → slice_get w.places t ≡ Some p → (f : Phase K V D T A) → p.phase ≡ f → StandsBefore p f (stand_in w.locks t)
-  stands-there p at f is = subst (λ (g : Phase K V D T A). StandsBefore p g (stand_in w.locks t)) is (sound.holds.stands t p at)
+  stands-there : (p : Place K V D T A) → slice_get w.places t ≡ Some p → (f : Phase K V D T A) → p.phase ≡ f
+      → StandsBefore p f (stand_in w.locks t)
+  stands-there p at f is = subst (λ (g : Phase K V D T A). StandsBefore p g (stand_in w.locks t)) is
+      (sound.holds.stands t p at)
 
-  pub between-enters : (v : State K V S D T A) (e : Enters w t v) → Between x t w v e.place (record (e.place) { holds = e.place.holds ++ record { shard = e.place.shard; mode = mode_of e.request } ∷ []; phase = phase.Find e.request })
+  pub between-enters : (v : State K V S D T A) (e : Enters w t v)
+      → Between x t w v e.place
+      (record (e.place) {
+        holds = e.place.holds ++ record { shard = e.place.shard; mode = mode_of e.request } ∷ [];
+        phase = phase.Find e.request;
+      })
   between-enters v e =
       between-placed v (sound-enters x w t v sound e) e.place e.stands e.locks CoreAnswer.Owned e.ends _ refl refl
-      (admitted v (sound-enters x w t v sound e) e.place e.stands e.locks CoreAnswer.Owned e.ends _ _ _ refl (stands-there e.place e.stands (phase.Admit e.request) e.before)) e.after
+      (admitted v (sound-enters x w t v sound e) e.place e.stands e.locks CoreAnswer.Owned e.ends _ _ _ refl
+      (stands-there e.place e.stands (phase.Admit e.request) e.before)) e.after
 
   pub between-reaches : (v : State K V S D T A) (e : Reaches w t v) → (q : Place K V D T A) × Between x t w v e.place q
   between-reaches v e = (
     _,
     between-placed v (sound-reaches x w t v sound e) e.place e.stands e.locks CoreAnswer.Owned e.ends _ refl refl
-        (admitted v (sound-reaches x w t v sound e) e.place e.stands e.locks CoreAnswer.Owned e.ends _ _ _ refl (stands-there e.place e.stands (phase.Reach e.walk) e.before)) e.after,
+        (admitted v (sound-reaches x w t v sound e) e.place e.stands e.locks CoreAnswer.Owned e.ends _ _ _ refl
+        (stands-there e.place e.stands (phase.Reach e.walk) e.before)) e.after,
   )
 
   pub between-leaves : (v : State K V S D T A) (e : LeavesLock w t v) → Between x t w v e.place e.place
   between-leaves v e = between-left v (sound-leaves x w t v sound e) e.place e.stands e.locks e.ended e.ends e.after
 
-  pub between-concludes : (v : State K V S D T A) (h : Concludes w t v) → (p : Place K V D T A) × (q : Place K V D T A) × Between x t w v p q
+  pub between-concludes : (v : State K V S D T A) (h : Concludes w t v) → (p : Place K V D T A) × (q : Place K V D T A)
+      × Between x t w v p q
   between-concludes v (owed e) = (e.place, e.place, between-leaves v e)
   between-concludes v (locked e) = (
     e.place,
     _,
-    between-placed v (sound-left x w t v sound (inr (locked e))) e.place e.stands e.locks CoreAnswer.Refused e.ends _ refl refl (λ i h here. inl (i, h, here, refl)) e.after,
+    between-placed v (sound-left x w t v sound (inr (locked e))) e.place e.stands e.locks CoreAnswer.Refused e.ends _
+        refl refl (λ i h here. inl (i, h, here, refl)) e.after,
   )
   between-concludes v (idle e) =
       let q : Place K V D T A = record (e.place) { phase = phase.Answer e.answer } in (
@@ -175,16 +205,20 @@ module _ {K V S D T A : Type 0} (x : Setup K V D T) (w : State K V S D T A) (t :
         record {
           sound = sound-left x w t v sound (inr (idle e));
           at = e.stands;
-          there = ap (λ (z : State K V S D T A). slice_get z.places t) e.after ∙ slice_get-set_same w.places t e.place q e.stands;
+          there = ap (λ (z : State K V S D T A). slice_get z.places t) e.after ∙ slice_get-set_same w.places t e.place q
+              e.stands;
           shard = refl;
           started = refl;
           back = λ s h. subst (λ (z : State K V S D T A). IsSite z.locks t q.holds s) e.after h;
-          others = λ u ne. ap (λ (z : State K V S D T A). slice_get z.places u) e.after ∙ slice_get-set_other w.places t u q (λ z. ne (sym z));
+          others = λ u ne. ap (λ (z : State K V S D T A). slice_get z.places u) e.after
+              ∙ slice_get-set_other w.places t u q (λ z. ne (sym z));
           locks = subst (λ (z : State K V S D T A). LocksApart t w.locks z.locks) (sym e.after) (apart-same t w.locks);
           replies = ap (λ (z : State K V S D T A). z.replies) e.after;
         },
       )
 
 -- the place of the world between is what it is said to be there
-pub between-at : {K V S D T A : Type 0} (x : Setup K V D T) (t : ℕ) (w v : State K V S D T A) (p q r : Place K V D T A) → slice_get v.places t ≡ Some r → Between x t w v p q → Between x t w v p r
-between-at {K} {V} {S} {D} {T} {A} x t w v p q r at b = subst (λ (z : Place K V D T A). Between x t w v p z) (same_Some q r (sym b.there ∙ at)) b
+pub between-at : {K V S D T A : Type 0} (x : Setup K V D T) (t : ℕ) (w v : State K V S D T A) (p q r : Place K V D T A)
+    → slice_get v.places t ≡ Some r → Between x t w v p q → Between x t w v p r
+between-at {K} {V} {S} {D} {T} {A} x t w v p q r at b = subst (λ (z : Place K V D T A). Between x t w v p z)
+    (same_Some q r (sym b.there ∙ at)) b

@@ -1,5 +1,6 @@
 -- A try that is told that it is locked has a cause.
-use Rattle.std.proofs.Common.{◌≡◌, ℕ, ◌+◌, ◌≤◌, ◌⊎◌, inl, inr, Bool, true, false, List, [], ◌∷◌, ◌++◌, length, Some, slice_get, refl, sym, ap, ◌∙◌, subst, arith}
+use Rattle.std.proofs.Common.{◌≡◌, ℕ, ◌+◌, ◌≤◌, ◌⊎◌, inl, inr, Bool, true, false, List, [], ◌∷◌, ◌++◌, length, Some}
+use Rattle.std.proofs.Common.{slice_get, refl, sym, ap, ◌∙◌, subst, arith}
 use Rattle.std.specs.Option.{option_map}
 use Rattle.std.proofs.lemmas.Bool.{false≢true}
 use Rattle.std.proofs.lemmas.Option.{same_Some}
@@ -44,14 +45,16 @@ use Rattle.mapworld_state.proofs.InvariantFacts.CausesFacts.Shapes.{Shape}
 use Rattle.mapworld_state.proofs.InvariantFacts.CausesFacts.Staying.{on-kept}
 
 -- a call that was to get a lock and is refused has seen a word that isn't 0
-refused-seen : (k : Core) (m : Mode) → has_begun k ≡ true → core_aim k ≡ Gets m → end_of (core_act k) ≡ Some Refused → has_seen k ≡ true
+refused-seen : (k : Core) (m : Mode) → has_begun k ≡ true → core_aim k ≡ Gets m → end_of (core_act k) ≡ Some Refused
+    → has_seen k ≡ true
 refused-seen (Core.Mutex c) m begun aim end = absurd cc
 refused-seen (Core.Late c) m begun aim end = absurd cc
 refused-seen (Core.LateRw p) m begun aim end = absurd cc
 refused-seen (Core.Upgrade c) m begun aim end = absurd cc
 refused-seen (Core.Rw c) m begun aim end = by c.phase begun aim end
   where
-    by : (p : RwPhase) → rw_begun p ≡ true → phase_aim p ≡ Gets m → end_of (act_of p) ≡ Some Refused → has_seen_in p ≡ true
+    by : (p : RwPhase) → rw_begun p ≡ true → phase_aim p ≡ Gets m → end_of (act_of p) ≡ Some Refused
+        → has_seen_in p ≡ true
     by (RwPhase.Refuses want) h a e = refl
     by (RwPhase.Finishes AfterWake.FreedShared) h a e = absurd cc
     by (RwPhase.Finishes AfterWake.FreedExclusive) h a e = absurd cc
@@ -66,19 +69,26 @@ refused-seen (Core.Rw c) m begun aim end = by c.phase begun aim end
     by p h a e = absurd cc
 
 -- so a try that is told that its shard is locked has met another's call
-module _ {K V S D T A : Type 0} (x : Setup K V D T) (w : State K V S D T A) (sound : Sound x w) (fit : LocksFit w.locks) (causes : HasCauses x w) (t : ℕ) (v : State K V S D T A) (e : IsLocked w t v) where
+module _ {K V S D T A : Type 0} (x : Setup K V D T) (w : State K V S D T A) (sound : Sound x w) (fit : LocksFit w.locks)
+    (causes : HasCauses x w) (t : ℕ) (v : State K V S D T A) (e : IsLocked w t v) where
   wants : IsWanting e.place (mode_of e.request) (request_tries e.request) (stand_in w.locks t)
-  wants = subst (λ (g : Phase K V D T A). StandsBefore e.place g (stand_in w.locks t)) e.before (sound.holds.stands t e.place e.stands)
+  wants = subst (λ (g : Phase K V D T A). StandsBefore e.place g (stand_in w.locks t)) e.before
+      (sound.holds.stands t e.place e.stands)
 
   abbrev c : Call
   c = e.ends.steps.call
 
-  is-stand : stand_of c ≡ record { shard = e.place.shard; aim = Gets (at_desk (mode_of e.request)); trying = wants.trying }
+  is-stand : stand_of c ≡ record {
+    shard = e.place.shard;
+    aim = Gets (at_desk (mode_of e.request));
+    trying = wants.trying;
+  }
   is-stand = same_Some (stand_of c) _ (sym (ap (option_map stand_of) e.ends.steps.here) ∙ wants.is)
 
   pub met : HasMet x w t e.place
   met = causes.met t e.place c e.stands e.ends.steps.here
-      (refused-seen c.core (at_desk (mode_of e.request)) (fit.fits.rules.begun t c e.ends.steps.here).begun (ap (λ z. z.aim) is-stand) (sym e.ends.steps.answers))
+      (refused-seen c.core (at_desk (mode_of e.request)) (fit.fits.rules.begun t c e.ends.steps.here).begun
+      (ap (λ z. z.aim) is-stand) (sym e.ends.steps.answers))
 
   -- it is an opening that tries
   pub opening : (g : Begin K) × (e.request ≡ request.Begin g)
@@ -91,7 +101,8 @@ module _ {K V S D T A : Type 0} (x : Setup K V D T) (w : State K V S D T A) (sou
           by-bool true is = refl
           by-bool false is =
               let same = same_Some e.ends.stand _ (sym e.ends.stood ∙ wants.is) in
-              let owned : Refused ≡ CoreAnswer.Owned = e.ends.patient (at_desk (mode_of e.request)) (ap (λ z. z.aim) same) (ap (λ z. z.trying) same ∙ is) in
+              let owned : Refused ≡ CoreAnswer.Owned = e.ends.patient (at_desk (mode_of e.request))
+              (ap (λ z. z.aim) same) (ap (λ z. z.trying) same ∙ is) in
               absurd cc
 
       by : (r : Request K V D) → e.request ≡ r → (g : Begin K) × (e.request ≡ request.Begin g)
@@ -101,20 +112,24 @@ module _ {K V S D T A : Type 0} (x : Setup K V D T) (w : State K V S D T A) (sou
 -- THE ANSWER
 
 -- of what it was told at a step each thread's place tells still
-told-at : {K V D T A : Type 0} (f : Phase K V D T A) (a : Answer K V T A) → f ≡ phase.Answer a → IsTold f → is_locked a ≡ false
+told-at : {K V D T A : Type 0} (f : Phase K V D T A) (a : Answer K V T A) → f ≡ phase.Answer a → IsTold f
+    → is_locked a ≡ false
 told-at f a is told = subst IsTold is told
 
 last-of : {X : Type 0} (xs : List X) (y z : X) → xs ++ y ∷ [] ≡ xs ++ z ∷ [] → y ≡ z
 last-of [] y z e = cc
 last-of (x ∷ xs) y z e = last-of xs y z (let same : x ∷ (xs ++ y ∷ []) ≡ x ∷ (xs ++ z ∷ []) = e in cc)
 
-module _ {K V S D T A : Type 0} (x : Setup K V D T) (w : State K V S D T A) (s : Step) (w' : State K V S D T A) (sound : Sound x w) (fit : LocksFit w.locks) (goes : Goes x s.thread w w') (shape : Shape w w' s) (adds : Step-adds w w' s)
+module _ {K V S D T A : Type 0} (x : Setup K V D T) (w : State K V S D T A) (s : Step) (w' : State K V S D T A)
+    (sound : Sound x w) (fit : LocksFit w.locks) (goes : Goes x s.thread w w') (shape : Shape w w' s)
+    (adds : Step-adds w w' s)
     (causes : HasCauses x w) where
   abbrev t : ℕ
   t = s.thread
 
   -- a cause stays one
-  pub cause-on : (r : Reply K V T A) → r.end ≤ next_step w → HasCause x (started_of w) w.blocks w.replies r → HasCause x (started_of w') w'.blocks w'.replies r
+  pub cause-on : (r : Reply K V T A) → r.end ≤ next_step w → HasCause x (started_of w) w.blocks w.replies r
+      → HasCause x (started_of w') w'.blocks w'.replies r
   cause-on r le h = record {
     opening = h.opening;
     asked = h.asked;
@@ -123,23 +138,30 @@ module _ {K V S D T A : Type 0} (x : Setup K V D T) (w : State K V S D T A) (s :
     until = h.until;
     other = h.other;
     another = h.another;
-    on = on-kept x w s w' sound goes shape adds h.other (x.route (opening_key h.opening)) h.step (inl (let u = h.until in omega (arith, u, le))) h.on;
+    on = on-kept x w s w' sound goes shape adds h.other (x.route (opening_key h.opening)) h.step
+        (inl (let u = h.until in omega (arith, u, le))) h.on;
   }
 
-  module _ (v : State K V S D T A) (a : Answers x v s w') (p : Place K V D T A) (at : slice_get w.places t ≡ Some p) where
-    -- the answer of a place that stood before it
-    unlocked : p.phase ≡ phase.Answer a.answer → is_locked a.answer ≡ false
-    unlocked is = told-at p.phase a.answer is (causes.untold t p at)
+  module _ (v : State K V S D T A) (a : Answers x v s w') (p : Place K V D T A) (at : slice_get w.places t ≡ Some p)
+    where
+      -- the answer of a place that stood before it
+      unlocked : p.phase ≡ phase.Answer a.answer → is_locked a.answer ≡ false
+      unlocked is = told-at p.phase a.answer is (causes.untold t p at)
 
   -- the reply of a try that was told so
   locked-cause : (v : State K V S D T A) (e : IsLocked w t v) (a : Answers x v s w') (steps : v.steps ≡ w.steps)
-      → HasCause x (started_of w') w'.blocks w'.replies (record { thread = t; call = a.place.next; start = a.start; end = next_step v; answer = a.answer })
+      → HasCause x (started_of w') w'.blocks w'.replies
+      (record { thread = t; call = a.place.next; start = a.start; end = next_step v; answer = a.answer })
   locked-cause v e a steps =
       let m = met x w sound fit causes t v e in
       let g = opening x w sound fit causes t v e in
-      let claim = claim-at x (threads_of w) w.blocks w.replies w.tables t e.place (phase.Admit e.request) e.before (sound.stands t e.place e.stands) in
+      let claim = claim-at x (threads_of w) w.blocks w.replies w.tables t e.place (phase.Admit e.request) e.before
+      (sound.stands t e.place e.stands) in
       let now : Place K V D T A = record (e.place) { phase = phase.Answer answer.Locked } in
-      let here : a.place ≡ now = same_Some a.place now (sym a.stands ∙ ap (λ z. slice_get z.places t) e.after ∙ slice_get-set_same w.places t e.place now e.stands) in
+      let here : a.place ≡ now =
+      same_Some a.place now
+      (sym a.stands ∙ ap (λ z. slice_get z.places t) e.after ∙ slice_get-set_same w.places t e.place now e.stands)
+      in
       let begun : a.start ≡ m.start = same_Some a.start m.start (sym a.begun ∙ ap (λ z. z.started) here ∙ m.started) in
       let end : next_step v ≡ next_step w = ap (λ z. length z + 1) steps in
       record {
@@ -150,19 +172,28 @@ module _ {K V S D T A : Type 0} (x : Setup K V D T) (w : State K V S D T A) (s :
         until = (let le = m.until in omega (arith, le, end));
         other = m.other;
         another = m.another;
-        on = subst (λ (n : ℕ). IsOnShard x (started_of w') w'.blocks w'.replies m.other n m.step) (claim.1.shard ∙ ap (λ z. x.route (request_key z)) g.1)
+        on = subst (λ (n : ℕ). IsOnShard x (started_of w') w'.blocks w'.replies m.other n m.step)
+            (claim.1.shard ∙ ap (λ z. x.route (request_key z)) g.1)
             (on-kept x w s w' sound goes shape adds m.other e.place.shard m.step (inl m.until) m.on);
       }
 
-  pub answer-cause : (v : State K V S D T A) → (v ≡ w) ⊎ Concludes w t v → (a : Answers x v s w') → is_locked a.answer ≡ true
-      → HasCause x (started_of w') w'.blocks w'.replies (record { thread = t; call = a.place.next; start = a.start; end = next_step v; answer = a.answer })
-  answer-cause v (inl same) a locked_ = absurd (false≢true (sym (unlocked v a a.place (sym (ap (λ z. slice_get z.places t) same) ∙ a.stands) a.before) ∙ locked_))
+  pub answer-cause : (v : State K V S D T A) → (v ≡ w) ⊎ Concludes w t v → (a : Answers x v s w')
+      → is_locked a.answer ≡ true
+      → HasCause x (started_of w') w'.blocks w'.replies
+      (record { thread = t; call = a.place.next; start = a.start; end = next_step v; answer = a.answer })
+  answer-cause v (inl same) a locked_ =
+      absurd (false≢true (sym (unlocked v a a.place (sym (ap (λ z. slice_get z.places t) same) ∙ a.stands) a.before)
+      ∙ locked_))
   answer-cause v (inr (owed e)) a locked_ =
-      absurd (false≢true (sym (unlocked v a a.place (sym (ap (λ z. slice_get z.places t) e.after) ∙ a.stands) a.before) ∙ locked_))
+      absurd (false≢true (sym (unlocked v a a.place (sym (ap (λ z. slice_get z.places t) e.after) ∙ a.stands) a.before)
+      ∙ locked_))
   answer-cause v (inr (locked e)) a locked_ = locked-cause v e a (ap (λ z. z.steps) e.after)
   answer-cause v (inr (idle e)) a locked_ =
       let now : Place K V D T A = record (e.place) { phase = phase.Answer e.answer } in
-      let here : a.place ≡ now = same_Some a.place now (sym a.stands ∙ ap (λ z. slice_get z.places t) e.after ∙ slice_get-set_same w.places t e.place now e.stands) in
+      let here : a.place ≡ now =
+      same_Some a.place now
+      (sym a.stands ∙ ap (λ z. slice_get z.places t) e.after ∙ slice_get-set_same w.places t e.place now e.stands)
+      in
       let is : phase.Answer a.answer ≡ phase.Answer e.answer = sym a.before ∙ ap (λ z. z.phase) here in
       let same : a.answer ≡ e.answer = cc in
       absurd (false≢true (sym (ap is_locked (same ∙ e.told.is)) ∙ locked_))

@@ -1,5 +1,6 @@
 -- Every step keeps causes.
-use Rattle.std.proofs.Common.{◌≡◌, ◌≢◌, ℕ, ◌≤◌, ◌⊎◌, inl, inr, true, [], ◌∷◌, ◌++◌, length, Option, Some, None, slice_get, refl, sym, ap, ◌∙◌, subst, arith, length-append}
+use Rattle.std.proofs.Common.{◌≡◌, ◌≢◌, ℕ, ◌≤◌, ◌⊎◌, inl, inr, true, [], ◌∷◌, ◌++◌, length, Option, Some, None}
+use Rattle.std.proofs.Common.{slice_get, refl, sym, ap, ◌∙◌, subst, arith, length-append}
 use Rattle.std.specs.Option.{option_map}
 use Rattle.std.proofs.lemmas.Bool.{cases_eq, false≢true}
 use Rattle.std.proofs.lemmas.Option.{none-some, same_Some}
@@ -22,7 +23,8 @@ use Rattle.mapworld_state.specs.Steps.{Answers, Concludes, IsStep}
 use Rattle.mapworld_state.proofs.InvariantFacts.Adding.{Step-adds, step-adds}
 use Rattle.mapworld_state.proofs.InvariantFacts.Building.{Goes}
 use Rattle.mapworld_state.proofs.InvariantFacts.Sounds.{step-goes}
-use Rattle.mapworld_state.specs.Invariant.Causes.Causes.{HasCauses, HasMet, IsSite, IsSited, IsTold, has_seen, is_locked}
+use Rattle.mapworld_state.specs.Invariant.Causes.Causes.{HasCauses, HasMet, IsSite, IsSited, IsTold, has_seen}
+use Rattle.mapworld_state.specs.Invariant.Causes.Causes.{is_locked}
 use Rattle.mapworld_state.proofs.InvariantFacts.CausesFacts.Being.{step-low}
 use Rattle.mapworld_state.proofs.InvariantFacts.CausesFacts.Between.{between-concludes}
 use Rattle.mapworld_state.proofs.InvariantFacts.CausesFacts.Causing.{answer-cause, cause-on}
@@ -32,7 +34,9 @@ use Rattle.mapworld_state.proofs.InvariantFacts.CausesFacts.Looking.{sees}
 use Rattle.mapworld_state.proofs.InvariantFacts.CausesFacts.Shapes.{Shape, shape}
 use Rattle.mapworld_state.proofs.InvariantFacts.CausesFacts.Staying.{on-kept}
 
-module _ {K V S D T A : Type 0} (x : Setup K V D T) (w : State K V S D T A) (s : Step) (w' : State K V S D T A) (sound : Sound x w) (fit : LocksFit w.locks) (goes : Goes x s.thread w w') (shape : Shape w w' s) (adds : Step-adds w w' s)
+module _ {K V S D T A : Type 0} (x : Setup K V D T) (w : State K V S D T A) (s : Step) (w' : State K V S D T A)
+    (sound : Sound x w) (fit : LocksFit w.locks) (goes : Goes x s.thread w w') (shape : Shape w w' s)
+    (adds : Step-adds w w' s)
     (causes : HasCauses x w) (own : Own x w s w') where
   abbrev t : ℕ
   t = s.thread
@@ -40,53 +44,70 @@ module _ {K V S D T A : Type 0} (x : Setup K V D T) (w : State K V S D T A) (s :
   later : next_step w ≤ next_step w'
   later = omega (arith, ap (λ z. length z) shape.steps, length-append w.steps (s ∷ []))
 
-  sited : (u : ℕ) (p : Place K V D T A) (shard : ℕ) → slice_get w'.places u ≡ Some p → IsSite w'.locks u p.holds shard → IsSited x w' u p shard
+  sited : (u : ℕ) (p : Place K V D T A) (shard : ℕ) → slice_get w'.places u ≡ Some p → IsSite w'.locks u p.holds shard
+      → IsSited x w' u p shard
   sited u p shard at site = elim (cases_eq u t) [
     | inl same ↦
         let is : own.now ≡ p = same_Some own.now p (sym own.there ∙ ap (slice_get w'.places) (sym same) ∙ at) in
         subst (λ (n : ℕ). IsSited x w' n p shard) (sym same)
         (subst (λ (q : Place K V D T A). IsSited x w' t q shard) is
-        (own.sites shard (subst (λ (q : Place K V D T A). IsSite w'.locks t q.holds shard) (sym is) (subst (λ (n : ℕ). IsSite w'.locks n p.holds shard) same site))))
+        (own.sites shard (subst (λ (q : Place K V D T A). IsSite w'.locks t q.holds shard) (sym is)
+        (subst (λ (n : ℕ). IsSite w'.locks n p.holds shard) same site))))
     | inr ne ↦
         let was = causes.sited u p shard (sym (own.others u ne) ∙ at) (before ne site) in
-        record { on = λ q le. on-kept x w s w' sound goes shape adds u shard q (inr (inl ne)) (was.on q (omega (arith, le, later))); near = was.near }
+        record {
+          on = λ q le. on-kept x w s w' sound goes shape adds u shard q (inr (inl ne))
+              (was.on q (omega (arith, le, later)));
+          near = was.near;
+        }
   ]
     where
       before : u ≢ t → IsSite w'.locks u p.holds shard → IsSite w.locks u p.holds shard
       before ne (inl hold) = inl hold
       before ne (inr (stand, is, at)) = inr (stand, sym (own.locks.stands u ne) ∙ is, at)
 
-  met : (u : ℕ) (p : Place K V D T A) (c : Call) → slice_get w'.places u ≡ Some p → call_at (state w'.locks.rows) u ≡ Some c → has_seen c.core ≡ true → HasMet x w' u p
+  met : (u : ℕ) (p : Place K V D T A) (c : Call) → slice_get w'.places u ≡ Some p
+      → call_at (state w'.locks.rows) u ≡ Some c → has_seen c.core ≡ true → HasMet x w' u p
   met u p c at here seen = elim (cases_eq u t) [
     | inl same ↦
         let is : own.now ≡ p = same_Some own.now p (sym own.there ∙ ap (slice_get w'.places) (sym same) ∙ at) in
         subst (λ (n : ℕ). HasMet x w' n p) (sym same)
-        (subst (λ (q : Place K V D T A). HasMet x w' t q) is (own.met (ap (λ n. sees (call_at (state w'.locks.rows) n)) (sym same) ∙ ap sees here ∙ seen)))
-    | inr ne ↦ met-on x w s w' sound goes shape adds u p (before (call_at (state w.locks.rows) u) refl (sym (own.others u ne) ∙ at) (own.locks.sees u ne (ap sees here ∙ seen)))
+        (subst (λ (q : Place K V D T A). HasMet x w' t q) is
+        (own.met (ap (λ n. sees (call_at (state w'.locks.rows) n)) (sym same) ∙ ap sees here ∙ seen)))
+    | inr ne ↦ met-on x w s w' sound goes shape adds u p
+        (before (call_at (state w.locks.rows) u) refl (sym (own.others u ne) ∙ at)
+        (own.locks.sees u ne (ap sees here ∙ seen)))
   ]
     where
-      before : (o : Option Call) → call_at (state w.locks.rows) u ≡ o → slice_get w.places u ≡ Some p → sees (call_at (state w.locks.rows) u) ≡ true → HasMet x w u p
+      before : (o : Option Call) → call_at (state w.locks.rows) u ≡ o → slice_get w.places u ≡ Some p
+          → sees (call_at (state w.locks.rows) u) ≡ true → HasMet x w u p
       before None e was h = absurd (false≢true (sym (ap sees e) ∙ h))
       before (Some d) e was h = causes.met u p d was e (sym (ap sees e) ∙ h)
 
   untold : (u : ℕ) (p : Place K V D T A) → slice_get w'.places u ≡ Some p → IsTold p.phase
   untold u p at = elim (cases_eq u t) [
-    | inl same ↦ subst (λ (q : Place K V D T A). IsTold q.phase) (same_Some own.now p (sym own.there ∙ ap (slice_get w'.places) (sym same) ∙ at)) own.told
+    | inl same ↦ subst (λ (q : Place K V D T A). IsTold q.phase)
+        (same_Some own.now p (sym own.there ∙ ap (slice_get w'.places) (sym same) ∙ at)) own.told
     | inr ne ↦ causes.untold u p (sym (own.others u ne) ∙ at)
   ]
 
-  old-cause : (i : ℕ) (r : Reply K V T A) → slice_get w.replies i ≡ Some r → r.answer ≡ answer.Locked → HasCause x (started_of w') w'.blocks w'.replies r
+  old-cause : (i : ℕ) (r : Reply K V T A) → slice_get w.replies i ≡ Some r → r.answer ≡ answer.Locked
+      → HasCause x (started_of w') w'.blocks w'.replies r
   old-cause i r at is =
       let lt = step-low x w sound r.thread r.end (sound.placed.timed i r at).end in
       cause-on x w s w' sound fit goes shape adds causes r (omega (arith, lt)) (causes.locked i r at is)
 
-  locked-by : (w'.replies ≡ w.replies) ⊎ ((v : State K V S D T A) × ((v ≡ w) ⊎ Concludes w t v) × Answers x v s w') → LockedHaveCauses x (started_of w') w'.blocks w'.replies
+  locked-by : (w'.replies ≡ w.replies) ⊎ ((v : State K V S D T A) × ((v ≡ w) ⊎ Concludes w t v) × Answers x v s w')
+      → LockedHaveCauses x (started_of w') w'.blocks w'.replies
   locked-by (inl same) i r at is = old-cause i r (ap (λ z. slice_get z i) (sym same) ∙ at) is
-  locked-by (inr (v, h, a)) i r at is = elim (slice_get-push_cases w.replies i r new (ap (λ z. slice_get z i) (sym (ap (λ z. z.replies) a.after ∙ ap (λ z. z ++ new ∷ []) replies)) ∙ at)) [
-    | inl old ↦ old-cause i r old is
-    | inr last ↦ subst (λ (q : Reply K V T A). HasCause x (started_of w') w'.blocks w'.replies q) (sym last.1)
-        (answer-cause x w s w' sound fit goes shape adds causes v h a (sym (ap (λ q. is_locked q.answer) last.1) ∙ ap is_locked is))
-  ]
+  locked-by (inr (v, h, a)) i r at is =
+      elim (slice_get-push_cases w.replies i r new
+      (ap (λ z. slice_get z i) (sym (ap (λ z. z.replies) a.after ∙ ap (λ z. z ++ new ∷ []) replies)) ∙ at)) [
+        | inl old ↦ old-cause i r old is
+        | inr last ↦ subst (λ (q : Reply K V T A). HasCause x (started_of w') w'.blocks w'.replies q) (sym last.1)
+            (answer-cause x w s w' sound fit goes shape adds causes v h a
+            (sym (ap (λ q. is_locked q.answer) last.1) ∙ ap is_locked is))
+      ]
     where
       new : Reply K V T A
       new = record { thread = t; call = a.place.next; start = a.start; end = next_step v; answer = a.answer }
@@ -97,7 +118,9 @@ module _ {K V S D T A : Type 0} (x : Setup K V D T) (w : State K V S D T A) (s :
   kept : HasCauses x w'
   kept = record { sited = sited; met = met; untold = untold; locked = locked-by own.closes }
 
-pub causes-step : {K V S D T A : Type 0} (x : Setup K V D T) → Laws x → (w : State K V S D T A) (s : Step) (w' : State K V S D T A) → Sound x w → LocksFit w.locks → length w.places ≡ length w.locks.rows.calls → HasCauses x w → IsStep x w s w' → HasCauses x w'
+pub causes-step : {K V S D T A : Type 0} (x : Setup K V D T) → Laws x
+    → (w : State K V S D T A) (s : Step) (w' : State K V S D T A) → Sound x w → LocksFit w.locks
+    → length w.places ≡ length w.locks.rows.calls → HasCauses x w → IsStep x w s w' → HasCauses x w'
 causes-step x laws w s w' sound fit threads causes step =
     let goes = step-goes x laws w s w' sound step in
     let is = shape x w s w' sound step in
@@ -105,7 +128,8 @@ causes-step x laws w s w' sound fit threads causes step =
     kept x w s w' sound fit goes is adds causes (own-step x w s w' sound goes is adds causes fit threads step)
 
 -- where nobody has done anything no thread holds or waits for a shard
-pub causes-new : {K V S D T A : Type 0} (x : Setup K V D T) (w : State K V S D T A) → ((u : ℕ) (p : Place K V D T A) → slice_get w.places u ≡ Some p → (p.phase ≡ phase.Rest) × (p.holds ≡ []))
+pub causes-new : {K V S D T A : Type 0} (x : Setup K V D T) (w : State K V S D T A)
+    → ((u : ℕ) (p : Place K V D T A) → slice_get w.places u ≡ Some p → (p.phase ≡ phase.Rest) × (p.holds ≡ []))
     → ((u : ℕ) → stand_in w.locks u ≡ None) → w.replies ≡ [] → HasCauses x w
 causes-new x w rests out none = record {
   sited = λ u p shard at site. elim site [

@@ -21,7 +21,8 @@ use Rattle.mapworld_state.specs.Locks.Stands.{core_aim, core_tries, is_try, is_t
 use Rattle.mapworld_state.specs.Locks.Steps.{LockBegins, LockEnds, LockMoves, LockStarts}
 use Rattle.mapworld_state.specs.Locks.Views.{Shown}
 use Rattle.mapworld_state.specs.Invariant.Causes.Causes.{has_seen, has_seen_in}
-use Rattle.mapworld_state.proofs.InvariantFacts.CausesFacts.Looking.{others-see, own-sees, sees, set-elsewhere, set-here}
+use Rattle.mapworld_state.proofs.InvariantFacts.CausesFacts.Looking.{others-see, own-sees, sees, set-elsewhere}
+use Rattle.mapworld_state.proofs.InvariantFacts.CausesFacts.Looking.{set-here}
 
 -- what a thread's act at a lock leaves of the others
 pub record LocksApart (t : ℕ) (old new : Shown) : Type 0 where
@@ -33,22 +34,39 @@ module _ (t : ℕ) where
   apart-same locks = record { stands = λ v ne. refl; sees = λ v ne h. h }
 
   pub apart-then : (a b c : Shown) → LocksApart t a b → LocksApart t b c → LocksApart t a c
-  apart-then a b c f g = record { stands = λ v ne. g.stands v ne ∙ f.stands v ne; sees = λ v ne h. f.sees v ne (g.sees v ne h) }
+  apart-then a b c f g =
+      record { stands = λ v ne. g.stands v ne ∙ f.stands v ne; sees = λ v ne h. f.sees v ne (g.sees v ne h) }
 
-  pub apart-begins : (shard : ℕ) (call : LockCall) (old new : Shown) → LockBegins t shard call old new → LocksApart t old new
+  pub apart-begins : (shard : ℕ) (call : LockCall) (old new : Shown) → LockBegins t shard call old new
+      → LocksApart t old new
   apart-begins shard call old new h = record {
     stands = h.others;
-    sees = λ v ne seen. sym (ap (λ (u : State). sees (call_at u v)) h.became.became ∙ ap sees (set-elsewhere (state old.rows).calls t v (Some (hears (call_for (state old.rows) t shard call) ActResult.Start)) ne)) ∙ seen;
+    sees = λ v ne seen. sym
+        (ap (λ (u : State). sees (call_at u v)) h.became.became
+        ∙ ap sees (set-elsewhere (state old.rows).calls t v
+        (Some (hears (call_for (state old.rows) t shard call) ActResult.Start)) ne)) ∙ seen;
   }
 
   pub apart-moves : (fair : Bool) (old new : Shown) → LockMoves t fair old new → LocksApart t old new
-  apart-moves fair old new h = record { stands = h.others; sees = λ v ne seen. others-see (state old.rows) (state new.rows) t fair None h.steps v ne seen }
+  apart-moves fair old new h =
+      record {
+        stands = h.others;
+        sees = λ v ne seen. others-see (state old.rows) (state new.rows) t fair None h.steps v
+            ne seen;
+      }
 
   pub apart-ends : (answer : CoreAnswer) (old new : Shown) → LockEnds t answer old new → LocksApart t old new
-  apart-ends answer old new h = record { stands = h.others; sees = λ v ne seen. others-see (state old.rows) (state new.rows) t false (Some answer) h.steps v ne seen }
+  apart-ends answer old new h =
+      record {
+        stands = h.others;
+        sees = λ v ne seen. others-see (state old.rows) (state new.rows) t false (Some answer)
+            h.steps v ne seen;
+      }
 
-  pub apart-starts : (shard : ℕ) (call : LockCall) (fair : Bool) (old new : Shown) → LockStarts t shard call fair old new → LocksApart t old new
-  apart-starts shard call fair old new h = apart-then old h.mid new (apart-begins shard call old h.mid h.begins) (apart-moves fair h.mid new h.moves)
+  pub apart-starts : (shard : ℕ) (call : LockCall) (fair : Bool) (old new : Shown)
+      → LockStarts t shard call fair old new → LocksApart t old new
+  apart-starts shard call fair old new h = apart-then old h.mid new (apart-begins shard call old h.mid h.begins)
+      (apart-moves fair h.mid new h.moves)
 
   -- a call that begins has seen nothing
   start-unseen : (k : LockKind) (call : LockCall) → has_seen (core_next (core_of k call) ActResult.Start) ≡ false
@@ -75,22 +93,29 @@ module _ (t : ℕ) where
   start-unseen k LockCall.UpgradableUntil = refl
   start-unseen k LockCall.UpgradeUntil = refl
 
-  pub begins-blind : (shard : ℕ) (call : LockCall) (old new : Shown) → LockBegins t shard call old new → sees (call_at (state new.rows) t) ≡ false
+  pub begins-blind : (shard : ℕ) (call : LockCall) (old new : Shown) → LockBegins t shard call old new
+      → sees (call_at (state new.rows) t) ≡ false
   begins-blind shard call old new h =
       ap (λ (u : State). sees (call_at u t)) h.became.became
-      ∙ elim (set-here (state old.rows).calls t (Some (hears (call_for (state old.rows) t shard call) ActResult.Start))) [
+      ∙ elim (set-here (state old.rows).calls t
+      (Some (hears (call_for (state old.rows) t shard call) ActResult.Start))) [
         | inl is ↦ ap sees is ∙ start-unseen (kind_in (state old.rows).kinds shard) call
         | inr none ↦ ap sees none
       ]
 
   -- and nor has one that gives a hold up or turns it, behind its first act
-  pub starts-blind : (shard : ℕ) (call : LockCall) (fair : Bool) (old new : Shown) → is_try call ≡ false → LockStarts t shard call fair old new → sees (call_at (state new.rows) t) ≡ true → ⊥
-  starts-blind shard call fair old new no_try h seen = elim (own-sees (state h.mid.rows) (state new.rows) t fair h.moves.steps seen) [
-    | inl before ↦ absurd (false≢true (sym (begins-blind shard call old h.mid h.begins) ∙ ap sees h.moves.steps.here ∙ before))
-    | inr tries ↦
-        let stand : option_map stand_of (Some h.moves.steps.call) ≡ Some (record { shard = shard; aim = _; trying = is_try call }) = sym (ap (option_map stand_of) h.moves.steps.here) ∙ h.begins.stand in
-        absurd (false≢true (sym no_try ∙ sym (ap (λ z. z.trying) (same_Some _ _ stand)) ∙ tries.0))
-  ]
+  pub starts-blind : (shard : ℕ) (call : LockCall) (fair : Bool) (old new : Shown) → is_try call ≡ false
+      → LockStarts t shard call fair old new → sees (call_at (state new.rows) t) ≡ true → ⊥
+  starts-blind shard call fair old new no_try h seen =
+      elim (own-sees (state h.mid.rows) (state new.rows) t fair h.moves.steps seen) [
+        | inl before ↦ absurd
+            (false≢true (sym (begins-blind shard call old h.mid h.begins) ∙ ap sees h.moves.steps.here ∙ before))
+        | inr tries ↦
+            let stand : option_map stand_of (Some h.moves.steps.call) ≡ Some
+            (record { shard = shard; aim = _; trying = is_try call }) =
+            sym (ap (option_map stand_of) h.moves.steps.here) ∙ h.begins.stand in
+            absurd (false≢true (sym no_try ∙ sym (ap (λ z. z.trying) (same_Some _ _ stand)) ∙ tries.0))
+      ]
 
 -- one that has seen its lock's word tries to get the lock
 pub seen-tries : (k : Core) → has_seen k ≡ true → core_tries k ≡ true

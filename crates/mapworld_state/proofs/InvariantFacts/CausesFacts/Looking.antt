@@ -1,5 +1,6 @@
 -- A try that sees a word of its lock that isn't 0 sees it in the step that it makes.
-use Rattle.std.proofs.Common.{◌≡◌, ◌≢◌, ℕ, zero, suc, ◌+◌, ◌%◌, ◌^◌, ◌⊎◌, inl, inr, Bool, true, false, cond, not, ◌==◌, ◌∷◌, [], List, map, Option, Some, None, slice_get, slice_set, refl, sym, ap, ◌∙◌, subst}
+use Rattle.std.proofs.Common.{◌≡◌, ◌≢◌, ℕ, zero, suc, ◌+◌, ◌%◌, ◌^◌, ◌⊎◌, inl, inr, Bool, true, false, cond, not, ◌==◌}
+use Rattle.std.proofs.Common.{◌∷◌, [], List, map, Option, Some, None, slice_get, slice_set, refl, sym, ap, ◌∙◌, subst}
 use Rattle.std.specs.Option.{option_map, option_and_then}
 use Rattle.std.proofs.lemmas.Bool.{cases_eq, false≢true, eqb-false, ne_eqb}
 use Rattle.std.proofs.lemmas.Option.{slice_get-map}
@@ -23,7 +24,8 @@ use Rattle.parking_lot_machine_calls.specs.Stances.{core_act, core_next}
 use Rattle.mapworld_state.specs.Locks.Stands.{core_tries, is_trying}
 use Rattle.mapworld_state.proofs.LocksFacts.Calls.{Hears, late_is}
 use Rattle.mapworld_state.specs.Invariant.Causes.Causes.{has_seen, has_seen_in}
-use Rattle.mapworld_state.proofs.InvariantFacts.CausesFacts.Noticing.{blind, found-unseen, late-unseen, looks_in, tardy-unseen, woken-unseen, seen-tries}
+use Rattle.mapworld_state.proofs.InvariantFacts.CausesFacts.Noticing.{blind, found-unseen, late-unseen, looks_in}
+use Rattle.mapworld_state.proofs.InvariantFacts.CausesFacts.Noticing.{tardy-unseen, woken-unseen, seen-tries}
 
 abbrev pub call_of : List (Option Call) → ℕ → Option Call
 call_of calls t = option_and_then (λ c. c) (slice_get calls t)
@@ -33,19 +35,23 @@ abbrev pub sees : Option Call → Bool
 sees None = false
 sees (Some c) = has_seen c.core
 
-pub set-elsewhere : (calls : List (Option Call)) (t v : ℕ) (o : Option Call) → v ≢ t → call_of (slice_set calls t o) v ≡ call_of calls v
+pub set-elsewhere : (calls : List (Option Call)) (t v : ℕ) (o : Option Call) → v ≢ t
+    → call_of (slice_set calls t o) v ≡ call_of calls v
 set-elsewhere calls t v o ne = ap (option_and_then (λ y. y)) (get-set_other calls t v o (λ e. ne (sym e)))
 
 -- what stands at a place that is set is what was set, or nothing
-pub set-here : (calls : List (Option Call)) (t : ℕ) (o : Option Call) → (call_of (slice_set calls t o) t ≡ o) ⊎ (call_of (slice_set calls t o) t ≡ None)
+pub set-here : (calls : List (Option Call)) (t : ℕ) (o : Option Call) → (call_of (slice_set calls t o) t ≡ o)
+    ⊎ (call_of (slice_set calls t o) t ≡ None)
 set-here [] t o = inr refl
 set-here (c ∷ cs) zero o = inl refl
 set-here (c ∷ cs) (suc t) o = set-here cs t o
 
-map-of : (f : Call → Call) (calls : List (Option Call)) (v : ℕ) → call_of (map (option_map f) calls) v ≡ option_map f (call_of calls v)
+map-of : (f : Call → Call) (calls : List (Option Call)) (v : ℕ) → call_of (map (option_map f) calls) v ≡ option_map f
+    (call_of calls v)
 map-of f calls v = ap (option_and_then (λ y. y)) (slice_get-map (option_map f) calls v) ∙ at (slice_get calls v)
   where
-    at : (o : Option (Option Call)) → option_and_then (λ y. y) (option_map (option_map f) o) ≡ option_map f (option_and_then (λ y. y) o)
+    at : (o : Option (Option Call)) → option_and_then (λ y. y) (option_map (option_map f) o) ≡ option_map f
+        (option_and_then (λ y. y) o)
     at None = refl
     at (Some x) = refl
 
@@ -73,20 +79,26 @@ module _ (s : State) (t : ℕ) (c : Call) (v : ℕ) (ne : v ≢ t) where
   told o = own s.calls o (λ seen. seen)
 
   says : (o : Option Call) (said : WakeResult) → Kept (map (option_map (settled t said)) (slice_set s.calls t o))
-  says o said seen = told o (sym (ap sees (map-of (settled t said) (slice_set s.calls t o) v) ∙ settled-sees t said (call_of (slice_set s.calls t o) v)) ∙ seen)
+  says o said seen =
+      told o (sym (ap sees (map-of (settled t said) (slice_set s.calls t o) v)
+      ∙ settled-sees t said (call_of (slice_set s.calls t o) v)) ∙ seen)
 
   -- another's call goes on as one that has seen nothing that it hadn't
   other : (n : ℕ) (o : Option Call) → (sees o ≡ true → sees (call_of s.calls n) ≡ true) → Kept (slice_set s.calls n o)
   other n o h seen = elim (cases_eq v n) [
     | inl e ↦ elim (set-here s.calls n o) [
-      | inl is ↦ ap (λ m. sees (call_of s.calls m)) e ∙ h (sym (ap (λ m. sees (call_of (slice_set s.calls n o) m)) e ∙ ap sees is) ∙ seen)
-      | inr none ↦ absurd (false≢true (sym (ap (λ m. sees (call_of (slice_set s.calls n o) m)) e ∙ ap sees none) ∙ seen))
+      | inl is ↦ ap (λ m. sees (call_of s.calls m)) e
+          ∙ h (sym (ap (λ m. sees (call_of (slice_set s.calls n o) m)) e ∙ ap sees is) ∙ seen)
+      | inr none ↦ absurd
+          (false≢true (sym (ap (λ m. sees (call_of (slice_set s.calls n o) m)) e ∙ ap sees none) ∙ seen))
     ]
     | inr apart ↦ sym (ap sees (set-elsewhere s.calls n v o apart)) ∙ seen
   ]
 
-  taken : (n : ℕ) (o : Option Call) → Kept (slice_set (slice_set s.calls n (option_map (off_list t) (call_of s.calls n))) t o)
-  taken n o = own _ o (other n (option_map (off_list t) (call_of s.calls n)) (λ seen. sym (off-sees t (call_of s.calls n)) ∙ seen))
+  taken : (n : ℕ) (o : Option Call)
+      → Kept (slice_set (slice_set s.calls n (option_map (off_list t) (call_of s.calls n))) t o)
+  taken n o = own _ o
+      (other n (option_map (off_list t) (call_of s.calls n)) (λ seen. sym (off-sees t (call_of s.calls n)) ∙ seen))
 
   either : (b : Bool) (u w : State) → Kept u.calls → Kept w.calls → Kept (cond b u w).calls
   either true u w h k = h
@@ -117,7 +129,8 @@ module _ (s : State) (t : ℕ) (c : Call) (v : ℕ) (ne : v ≢ t) where
   kept (Act.Done answer) fair u e = is u _ e (told None)
 
 -- in a step another's call sees nothing that it hadn't seen
-pub others-see : (s u : State) (t : ℕ) (fair : Bool) (answer : Option CoreAnswer) → IsStepped t fair answer s u → (v : ℕ) → v ≢ t → sees (call_at u v) ≡ true → sees (call_at s v) ≡ true
+pub others-see : (s u : State) (t : ℕ) (fair : Bool) (answer : Option CoreAnswer) → IsStepped t fair answer s u
+    → (v : ℕ) → v ≢ t → sees (call_at u v) ≡ true → sees (call_at s v) ≡ true
 others-see s u t fair answer x v ne = kept s t x.call v ne (core_act x.call.core) fair u x.became
 
 -- ITS OWN
@@ -135,7 +148,8 @@ module _ (s : State) (t : ℕ) (c : Call) where
   was : (u w : State) → u ≡ w → WasTold w.calls → WasTold u.calls
   was u w e h = subst (λ (z : State). WasTold z.calls) (sym e) h
 
-  pub hears-here : (calls : List (Option Call)) (d : Call) → sees (call_of (slice_set calls t (Some d)) t) ≡ true → has_seen d.core ≡ true
+  pub hears-here : (calls : List (Option Call)) (d : Call) → sees (call_of (slice_set calls t (Some d)) t) ≡ true
+      → has_seen d.core ≡ true
   hears-here calls d seen = elim (set-here calls t (Some d)) [
     | inl is ↦ sym (ap sees is) ∙ seen
     | inr none ↦ absurd (false≢true (sym (ap sees none) ∙ seen))
@@ -144,7 +158,8 @@ module _ (s : State) (t : ℕ) (c : Call) where
   heard : (calls : List (Option Call)) (k : ActResult) → WasTold (slice_set calls t (Some (hears c k)))
   heard calls k seen = record { told = k; seen = hears-here calls (hears c k) seen }
 
-  joined : (calls : List (Option Call)) (d : Call) (k : ActResult) → d.core ≡ core_next c.core k → WasTold (slice_set calls t (Some d))
+  joined : (calls : List (Option Call)) (d : Call) (k : ActResult) → d.core ≡ core_next c.core k
+      → WasTold (slice_set calls t (Some d))
   joined calls d k same seen = record { told = k; seen = sym (ap has_seen same) ∙ hears-here calls d seen }
 
   late-told : (calls : List (Option Call)) (d : Call) → Hears c.core d.core → WasTold (slice_set calls t (Some d))
@@ -152,9 +167,11 @@ module _ (s : State) (t : ℕ) (c : Call) where
   late-told calls d (inr (by, handed, comes, core)) seen =
       absurd (false≢true (sym (ap has_seen core ∙ found-unseen by handed c.core comes) ∙ hears-here calls d seen))
 
-  said : (calls : List (Option Call)) (k : ActResult) (r : WakeResult) → WasTold (map (option_map (settled t r)) (slice_set calls t (Some (hears c k))))
+  said : (calls : List (Option Call)) (k : ActResult) (r : WakeResult)
+      → WasTold (map (option_map (settled t r)) (slice_set calls t (Some (hears c k))))
   said calls k r seen =
-      heard calls k (sym (ap sees (map-of (settled t r) (slice_set calls t (Some (hears c k))) t) ∙ settled-sees t r (call_of (slice_set calls t (Some (hears c k))) t)) ∙ seen)
+      heard calls k (sym (ap sees (map-of (settled t r) (slice_set calls t (Some (hears c k))) t)
+      ∙ settled-sees t r (call_of (slice_set calls t (Some (hears c k))) t)) ∙ seen)
 
   ends : WasTold (slice_set s.calls t None)
   ends seen = elim (set-here s.calls t None) [
@@ -181,7 +198,8 @@ module _ (s : State) (t : ℕ) (c : Call) where
   told-by : (a : Act) (fair : Bool) (u : State) → Became a t fair c s u → WasTold u.calls
   told-by Act.Load fair u e = was u _ e (heard _ _)
   told-by (Act.Exchange from to) fair u e =
-      was u _ e (or (word_at s c.lock == from) (with_word (with_call s t (hears c ActResult.Exchanged)) c.lock to) (loaded s t c) (heard s.calls ActResult.Exchanged) (heard s.calls (ActResult.Word (word_at s c.lock))))
+      was u _ e (or (word_at s c.lock == from) (with_word (with_call s t (hears c ActResult.Exchanged)) c.lock to)
+      (loaded s t c) (heard s.calls ActResult.Exchanged) (heard s.calls (ActResult.Word (word_at s c.lock))))
   told-by (Act.Add by) fair u e = was u _ e (heard _ _)
   told-by (Act.FetchAnd keep) fair u e = was u _ e (said _ _ _)
   told-by Act.Spin fair u e = was u _ e (heard _ _)
@@ -195,13 +213,23 @@ module _ (s : State) (t : ℕ) (c : Call) where
   Sees = (has_seen c.core ≡ true) ⊎ ((core_tries c.core ≡ true) × (word_at s c.lock ≢ 0))
 
   module _ (fair : Bool) (u : State) (seen : sees (call_at u t) ≡ true) where
-    loads : (want : LockMode) (k : RwCore) → c.core ≡ Core.Rw k → k.phase ≡ RwPhase.TryLoads want → u ≡ loaded s t c → Sees
-    loads want k core phase e = inr (ap core_tries core ∙ ap is_trying phase, seen-tries want 63 (word_at s c.lock) (sym is ∙ hears-here s.calls (hears c (ActResult.Word (word_at s c.lock))) (sym (ap (λ (z : State). sees (call_of z.calls t)) e) ∙ seen)))
+    loads : (want : LockMode) (k : RwCore) → c.core ≡ Core.Rw k → k.phase ≡ RwPhase.TryLoads want → u ≡ loaded s t c
+        → Sees
+    loads want k core phase e =
+        inr (
+          ap core_tries core ∙ ap is_trying phase,
+          seen-tries want 63 (word_at s c.lock)
+              (sym is ∙ hears-here s.calls (hears c (ActResult.Word (word_at s c.lock)))
+              (sym (ap (λ (z : State). sees (call_of z.calls t)) e) ∙ seen)),
+        )
       where
-        is : has_seen (core_next c.core (ActResult.Word (word_at s c.lock))) ≡ has_seen_in (tries want 63 (word_at s c.lock))
-        is = ap (λ q. has_seen (core_next q (ActResult.Word (word_at s c.lock)))) core ∙ ap (λ p. has_seen_in (next_phase p (ActResult.Word (word_at s c.lock)))) phase
+        is : has_seen (core_next c.core (ActResult.Word (word_at s c.lock))) ≡ has_seen_in
+            (tries want 63 (word_at s c.lock))
+        is = ap (λ q. has_seen (core_next q (ActResult.Word (word_at s c.lock)))) core
+            ∙ ap (λ p. has_seen_in (next_phase p (ActResult.Word (word_at s c.lock)))) phase
 
-    admits : (want : LockMode) (n left to : ℕ) (k : RwCore) → c.core ≡ Core.Rw k → k.phase ≡ RwPhase.TryAdmits want n left → u ≡ exchanged s t c n to → Sees
+    admits : (want : LockMode) (n left to : ℕ) (k : RwCore) → c.core ≡ Core.Rw k
+        → k.phase ≡ RwPhase.TryAdmits want n left → u ≡ exchanged s t c n to → Sees
     admits want n left to k core phase e = elim (cases_eq n 0) [
       | inl empty ↦ from empty
       | inr some ↦ inl (ap has_seen core ∙ ap has_seen_in phase ∙ ap not (ne_eqb n 0 some))
@@ -209,18 +237,28 @@ module _ (s : State) (t : ℕ) (c : Call) where
       where
         heard-won : u ≡ with_word (with_call s t (hears c ActResult.Exchanged)) c.lock to → Sees
         heard-won e =
-            absurd (false≢true (sym (ap (λ q. has_seen (core_next q ActResult.Exchanged)) core ∙ ap (λ p. has_seen_in (next_phase p ActResult.Exchanged)) phase)
-            ∙ hears-here s.calls (hears c ActResult.Exchanged) (sym (ap (λ (z : State). sees (call_of z.calls t)) e) ∙ seen)))
+            absurd (false≢true
+            (sym (ap (λ q. has_seen (core_next q ActResult.Exchanged)) core
+            ∙ ap (λ p. has_seen_in (next_phase p ActResult.Exchanged)) phase)
+            ∙ hears-here s.calls (hears c ActResult.Exchanged)
+            (sym (ap (λ (z : State). sees (call_of z.calls t)) e) ∙ seen)))
 
         by : n ≡ 0 → (b : Bool) → (word_at s c.lock == n) ≡ b → Sees
-        by empty true is = heard-won (e ∙ ap (λ b. cond b (with_word (with_call s t (hears c ActResult.Exchanged)) c.lock to) (loaded s t c)) is)
-        by empty false is = inr (ap core_tries core ∙ ap is_trying phase, λ none. absurd (eqb-false (word_at s c.lock) n is (none ∙ sym empty)))
+        by empty true is =
+            heard-won (e ∙ ap
+            (λ b. cond b (with_word (with_call s t (hears c ActResult.Exchanged)) c.lock to) (loaded s t c)) is)
+        by empty false is =
+            inr (
+              ap core_tries core ∙ ap is_trying phase,
+              λ none. absurd (eqb-false (word_at s c.lock) n is (none ∙ sym empty)),
+            )
 
         from : n ≡ 0 → Sees
         from empty = by empty (word_at s c.lock == n) refl
 
 -- Its own call has seen a word that isn't 0 after a step: it had seen one before, or has seen its lock's now.
-pub own-sees : (s u : State) (t : ℕ) (fair : Bool) (x : IsStepped t fair None s u) → sees (call_at u t) ≡ true → Sees s t x.call
+pub own-sees : (s u : State) (t : ℕ) (fair : Bool) (x : IsStepped t fair None s u) → sees (call_at u t) ≡ true
+    → Sees s t x.call
 own-sees s u t fair x seen = by-core x.call.core refl
   where
     told : Told x.call
@@ -234,11 +272,19 @@ own-sees s u t fair x seen = by-core x.call.core refl
         admits s t x.call fair u seen want n left ((n + share_of want) % 2 ^ 64) k core phase
         (subst (λ a. Became a t fair x.call s u) (ap core_act core ∙ ap act_of phase) x.became)
     by-phase k core p phase =
-        absurd (false≢true (sym (ap (λ q. has_seen (core_next q told.told)) core ∙ blind k.phase told.told (ap looks_in phase)) ∙ told.seen))
+        absurd (false≢true
+        (sym (ap (λ q. has_seen (core_next q told.told)) core ∙ blind k.phase told.told (ap looks_in phase))
+        ∙ told.seen))
 
     by-core : (q : Core) → x.call.core ≡ q → Sees s t x.call
-    by-core (Core.Mutex k) core = absurd (false≢true (sym (ap (λ q. has_seen (core_next q told.told)) core) ∙ told.seen))
-    by-core (Core.Late p) core = absurd (false≢true (sym (ap (λ q. has_seen (core_next q told.told)) core ∙ late-unseen p told.told) ∙ told.seen))
-    by-core (Core.LateRw p) core = absurd (false≢true (sym (ap (λ q. has_seen (core_next q told.told)) core ∙ tardy-unseen p told.told) ∙ told.seen))
-    by-core (Core.Upgrade k) core = absurd (false≢true (sym (ap (λ q. has_seen (core_next q told.told)) core) ∙ told.seen))
+    by-core (Core.Mutex k) core =
+        absurd (false≢true (sym (ap (λ q. has_seen (core_next q told.told)) core) ∙ told.seen))
+    by-core (Core.Late p) core =
+        absurd (false≢true (sym (ap (λ q. has_seen (core_next q told.told)) core ∙ late-unseen p told.told)
+        ∙ told.seen))
+    by-core (Core.LateRw p) core =
+        absurd (false≢true (sym (ap (λ q. has_seen (core_next q told.told)) core ∙ tardy-unseen p told.told)
+        ∙ told.seen))
+    by-core (Core.Upgrade k) core =
+        absurd (false≢true (sym (ap (λ q. has_seen (core_next q told.told)) core) ∙ told.seen))
     by-core (Core.Rw k) core = by-phase k core k.phase refl

@@ -1,5 +1,6 @@
 -- A try that sees a word of its lock that isn't 0 meets a call of another thread on its shard.
-use Rattle.std.proofs.Common.{◌≡◌, ◌≢◌, ℕ, ◌<◌, inl, inr, Bool, true, false, length, Option, Some, None, slice_get, refl, sym, ap, ◌∙◌, subst, arith}
+use Rattle.std.proofs.Common.{◌≡◌, ◌≢◌, ℕ, ◌<◌, inl, inr, Bool, true, false, length, Option, Some, None, slice_get}
+use Rattle.std.proofs.Common.{refl, sym, ap, ◌∙◌, subst, arith}
 use Rattle.std.specs.Option.{option_and_then, option_map, option_map_or}
 use Rattle.std.proofs.lemmas.Bool.{false≢true}
 use Rattle.std.proofs.lemmas.Option.{none-some, same_Some, slice_get_cases, slice_get_within}
@@ -22,7 +23,8 @@ use Rattle.mapworld_state.specs.Places.{Place}
 use Rattle.mapworld_state.specs.Sound.{Sound}
 use Rattle.mapworld_state.specs.State.{State, next_step, threads_of}
 use Rattle.mapworld_state.proofs.InvariantFacts.Building.{claim-at}
-use Rattle.mapworld_state.specs.Invariant.Causes.Causes.{HasCauses, HasCompany, HasMet, IsOnNow, SleepersHaveCompany, WordsHaveCalls}
+use Rattle.mapworld_state.specs.Invariant.Causes.Causes.{HasCauses, HasCompany, HasMet, IsOnNow, SleepersHaveCompany}
+use Rattle.mapworld_state.specs.Invariant.Causes.Causes.{WordsHaveCalls}
 use Rattle.mapworld_state.proofs.InvariantFacts.CausesFacts.Being.{step-low}
 use Rattle.mapworld_state.proofs.InvariantFacts.CausesFacts.Between.{tries-admits}
 use Rattle.mapworld_state.proofs.InvariantFacts.CausesFacts.Looking.{own-sees, sees}
@@ -30,9 +32,11 @@ use Rattle.mapworld_state.proofs.InvariantFacts.CausesFacts.Sleeping.{IsAround, 
 use Rattle.mapworld_state.proofs.InvariantFacts.CausesFacts.Words.{IsThere, calls, owns, there, who}
 
 -- who has to do with a lock has a call on its shard
-module _ {K V S D T A : Type 0} (x : Setup K V D T) (w : State K V S D T A) (sound : Sound x w) (fit : LocksFit w.locks) (threads : length w.places ≡ length w.locks.rows.calls) (causes : HasCauses x w) where
+module _ {K V S D T A : Type 0} (x : Setup K V D T) (w : State K V S D T A) (sound : Sound x w) (fit : LocksFit w.locks)
+    (threads : length w.places ≡ length w.locks.rows.calls) (causes : HasCauses x w) where
   place-of : (u : ℕ) → u < length w.locks.rows.calls → (p : Place K V D T A) × (slice_get w.places u ≡ Some p)
-  place-of u lt = elim (slice_get_cases w.places u).1 [ inl here ↦ (here.0, here.2) | inr beyond ↦ absurd (omega (arith, lt, threads, beyond.0)) ]
+  place-of u lt = elim (slice_get_cases w.places u).1
+      [ inl here ↦ (here.0, here.2) | inr beyond ↦ absurd (omega (arith, lt, threads, beyond.0)) ]
 
   in-call-low : (u : ℕ) (c : Call) → call_at (state w.locks.rows) u ≡ Some c → u < length w.locks.rows.calls
   in-call-low u c at = by (slice_get w.locks.rows.calls u) refl
@@ -63,13 +67,15 @@ module _ {K V S D T A : Type 0} (x : Setup K V D T) (w : State K V S D T A) (sou
   on-around shard u (is-in c at lock) = caller-on shard u c at lock
 
   pub words-have_calls : WordsHaveCalls x w
-  words-have_calls shard some = (who w.locks fit shard some, on-there shard (who w.locks fit shard some) (there w.locks fit shard some))
+  words-have_calls shard some =
+      (who w.locks fit shard some, on-there shard (who w.locks fit shard some) (there w.locks fit shard some))
 
   -- one that sleeps waits for somebody
   pub sleepers-have_company : SleepersHaveCompany x w
   sleepers-have_company t stand stood asleep_ = by (call_at (state w.locks.rows) t) refl stood asleep_
     where
-      by : (o : Option Call) → call_at (state w.locks.rows) t ≡ o → option_map stand_of o ≡ Some stand → option_map_or (λ (c : Call). sleeps (core_act c.core)) o false ≡ true → HasCompany x w t stand
+      by : (o : Option Call) → call_at (state w.locks.rows) t ≡ o → option_map stand_of o ≡ Some stand
+          → option_map_or (λ (c : Call). sleeps (core_act c.core)) o false ≡ true → HasCompany x w t stand
       by None at is e = absurd (none-some stand is)
       by (Some c) at is e =
           let same : c.lock ≡ stand.shard = ap (λ z. z.shard) (same_Some (stand_of c) stand is) in
@@ -77,11 +83,13 @@ module _ {K V S D T A : Type 0} (x : Setup K V D T) (w : State K V S D T A) (sou
             own = caller-on stand.shard t c at same;
             other = v w.locks fit t c at e;
             another = another w.locks fit t c at e;
-            on = subst (λ (n : ℕ). IsOnNow x w (v w.locks fit t c at e) n) same (on-around c.lock (v w.locks fit t c at e) (around w.locks fit t c at e));
+            on = subst (λ (n : ℕ). IsOnNow x w (v w.locks fit t c at e) n) same
+                (on-around c.lock (v w.locks fit t c at e) (around w.locks fit t c at e));
           }
 
   -- a step of a try's call at its lock
-  module _ (t : ℕ) (p : Place K V D T A) (at : slice_get w.places t ≡ Some p) (fair : Bool) (locks : Shown) (moves : LockMoves t fair w.locks locks) where
+  module _ (t : ℕ) (p : Place K V D T A) (at : slice_get w.places t ≡ Some p) (fair : Bool) (locks : Shown)
+      (moves : LockMoves t fair w.locks locks) where
     abbrev c : Call
     c = moves.steps.call
 
@@ -94,9 +102,12 @@ module _ {K V S D T A : Type 0} (x : Setup K V D T) (w : State K V S D T A) (sou
     met-now : core_tries c.core ≡ true → word_at (state w.locks.rows) c.lock ≢ 0 → HasMet x w t p
     met-now tries word =
         let o = tries-admits x w sound t p at c moves.steps.here tries in
-        let claim = claim-at x (threads_of w) w.blocks w.replies w.tables t p (phase.Admit o.0) o.1 (sound.stands t p at) in
-        let stood : IsWanting p (mode_of o.0) (request_tries o.0) (stand_in w.locks t) = subst (λ (g : Phase K V D T A). StandsBefore p g (stand_in w.locks t)) o.1 (sound.holds.stands t p at) in
-        let lock : c.lock ≡ p.shard = ap (λ z. z.shard) (same_Some (stand_of c) _ (sym (ap (option_map stand_of) moves.steps.here) ∙ stood.is)) in
+        let claim = claim-at x (threads_of w) w.blocks w.replies w.tables t p (phase.Admit o.0) o.1
+        (sound.stands t p at) in
+        let stood : IsWanting p (mode_of o.0) (request_tries o.0) (stand_in w.locks t) =
+        subst (λ (g : Phase K V D T A). StandsBefore p g (stand_in w.locks t)) o.1 (sound.holds.stands t p at) in
+        let lock : c.lock ≡ p.shard =
+        ap (λ z. z.shard) (same_Some (stand_of c) _ (sym (ap (option_map stand_of) moves.steps.here) ∙ stood.is)) in
         let u = who w.locks fit c.lock word in
         let is = there w.locks fit c.lock word in
         record {

@@ -1,5 +1,6 @@
 -- Which phases of a call come of a word that was seen.
-use Rattle.std.proofs.Common.{◌≡◌, ◌≢◌, ℕ, ◌/◌, ◌-◌, ◌⊎◌, inl, inr, ◌&&◌, ◌||◌, Bool, true, false, cond, not, nat_lt, ◌==◌, Option, Some, None, Result, Ok, Err, refl, sym, ap, ◌∙◌, subst}
+use Rattle.std.proofs.Common.{◌≡◌, ◌≢◌, ℕ, ◌/◌, ◌-◌, ◌⊎◌, inl, inr, ◌&&◌, ◌||◌, Bool, true, false, cond, not, nat_lt}
+use Rattle.std.proofs.Common.{◌==◌, Option, Some, None, Result, Ok, Err, refl, sym, ap, ◌∙◌, subst}
 use Rattle.std.specs.Option.{option_map, option_map_or, option_and_then}
 use Rattle.std.proofs.lemmas.Bool.{false≢true}
 use Rattle.std.proofs.lemmas.Option.{none-some, same_Some}
@@ -13,9 +14,13 @@ use Rattle.parking_lot_protocol.specs.declared.rw_phase.Seeking.{Seeking}
 use Rattle.parking_lot_protocol.specs.declared.rw_phase.Draining.{Draining}
 use Rattle.parking_lot_protocol.specs.declared.rw_phase.Scanning.{Scanning}
 use Rattle.parking_lot_protocol.specs.declared.rw_phase.RwPhase.{RwPhase}
-use Rattle.parking_lot_protocol.specs.Acts.{is_start, is_entered, is_made, word_seen, word_before, exchange_seen, spun_seen, took_seen, stored_seen, woken_seen}
+use Rattle.parking_lot_protocol.specs.Acts.{is_start, is_entered, is_made, word_seen, word_before, exchange_seen}
+use Rattle.parking_lot_protocol.specs.Acts.{spun_seen, took_seen, stored_seen, woken_seen}
 use Rattle.parking_lot_rules.specs.Classes.{bit}
-use Rattle.parking_lot_protocol.specs.RwTable.{admits, after, begins, scans_for, is_admitted, is_barred, is_parked, is_writer_parked, is_written, is_tried, has_readers, asks_again, bumps, drains, goes_on, next_phase, once, over, scans, seeks, tries, wakes, with_taken, won_or}
+use Rattle.parking_lot_protocol.specs.RwTable.{admits, after, begins, scans_for, is_admitted, is_barred, is_parked}
+use Rattle.parking_lot_protocol.specs.RwTable.{is_writer_parked, is_written, is_tried, has_readers, asks_again, bumps}
+use Rattle.parking_lot_protocol.specs.RwTable.{drains, goes_on, next_phase, once, over, scans, seeks, tries, wakes}
+use Rattle.parking_lot_protocol.specs.RwTable.{with_taken, won_or}
 use Rattle.parking_lot_machine_calls.specs.declared.seat.Core.{Core}
 use Rattle.parking_lot_machine_calls.specs.declared.late_rw.LateRwPhase.{LateRwPhase}
 use Rattle.parking_lot_machine_calls.specs.declared.late_rw.RwSleeper.{RwSleeper}
@@ -50,14 +55,19 @@ by-then : {X : Type 0} (f : X → Option RwPhase) (o : Option X) → ((x : X) �
 by-then f None h = nothing
 by-then f (Some x) h = h x
 
-by-won : (p : RwPhase) (lost : ℕ → RwPhase) (r : Result (Unit {0}) ℕ) → has_seen_in p ≡ false → ((w : ℕ) → has_seen_in (lost w) ≡ false) → has_seen_in (won_or p lost r) ≡ false
+by-won : (p : RwPhase) (lost : ℕ → RwPhase) (r : Result (Unit {0}) ℕ) → has_seen_in p ≡ false
+    → ((w : ℕ) → has_seen_in (lost w) ≡ false) → has_seen_in (won_or p lost r) ≡ false
 by-won p lost (Ok u) h k = h
 by-won p lost (Err w) h k = k w
 
 by-seeks : (a : Seeking) (w : ℕ) → has_seen_in (seeks a w) ≡ false
-by-seeks a w = by (is_admitted a.want w) (is_barred a.want w) (not (is_parked w || is_writer_parked w) && nat_lt 0 a.rounds) (is_parked w)
+by-seeks a w = by (is_admitted a.want w) (is_barred a.want w)
+    (not (is_parked w || is_writer_parked w) && nat_lt 0 a.rounds) (is_parked w)
   where
-    by : (b c d e : Bool) → has_seen_in (cond b (RwPhase.Admits a w) (cond c (cond d (RwPhase.Spins a) (cond e (RwPhase.Enters a.want a.woken) (RwPhase.SetParked a w))) (RwPhase.Loads a))) ≡ false
+    by : (b c d e : Bool)
+        → has_seen_in (cond b (RwPhase.Admits a w)
+        (cond c (cond d (RwPhase.Spins a) (cond e (RwPhase.Enters a.want a.woken) (RwPhase.SetParked a w)))
+        (RwPhase.Loads a))) ≡ false
     by true c d e = refl
     by false false d e = refl
     by false true true e = refl
@@ -67,7 +77,10 @@ by-seeks a w = by (is_admitted a.want w) (is_barred a.want w) (not (is_parked w 
 by-drains : (d : Draining) (w : ℕ) → has_seen_in (drains d w) ≡ false
 by-drains d w = by (has_readers w) (nat_lt 0 d.rounds) (is_writer_parked w)
   where
-    by : (b c e : Bool) → has_seen_in (cond b (cond c (RwPhase.DrainSpins d) (cond e (RwPhase.DrainEnters d) (RwPhase.DrainSetParked d w))) (RwPhase.Ends Outcome.Exclusive)) ≡ false
+    by : (b c e : Bool)
+        → has_seen_in (cond b
+        (cond c (RwPhase.DrainSpins d) (cond e (RwPhase.DrainEnters d) (RwPhase.DrainSetParked d w)))
+        (RwPhase.Ends Outcome.Exclusive)) ≡ false
     by false c e = refl
     by true true e = refl
     by true false true = refl
@@ -95,12 +108,15 @@ by-again AfterWake.AgainShared = this refl
 by-again AfterWake.AgainExclusive = this refl
 
 by-bumps : (want : LockMode) (w : ℕ) → has_seen_in (bumps want w) ≡ false
-by-bumps (LockMode.Shared recursive) w = either (is_written w) (RwPhase.Unshares AfterWake.AgainShared) (RwPhase.Ends Outcome.Shared) refl refl
-by-bumps LockMode.Exclusive w = either (is_parked w) (RwPhase.Unlocks true AfterWake.AgainExclusive) (RwPhase.Ends Outcome.Exclusive) refl refl
+by-bumps (LockMode.Shared recursive) w = either (is_written w) (RwPhase.Unshares AfterWake.AgainShared)
+    (RwPhase.Ends Outcome.Shared) refl refl
+by-bumps LockMode.Exclusive w = either (is_parked w) (RwPhase.Unlocks true AfterWake.AgainExclusive)
+    (RwPhase.Ends Outcome.Exclusive) refl refl
 
 by-scans : (s : Scanning) (token : Option ParkToken) (left : Bool) → Unseen (scans s token left)
 by-scans s None left = this refl
-by-scans s (Some token) left = by-map (goes_on left) (with_taken s token) (λ k. either (left && not k.writer) (RwPhase.Scans k) (RwPhase.Stores k left) refl refl)
+by-scans s (Some token) left = by-map (goes_on left) (with_taken s token)
+    (λ k. either (left && not k.writer) (RwPhase.Scans k) (RwPhase.Stores k left) refl refl)
 
 -- one that may see a word as it tries
 abbrev pub looks_in : RwPhase → Bool
@@ -117,20 +133,30 @@ unseen RwPhase.Downgrading s h = by-once (is_start s) RwPhase.Downgrades refl
 unseen RwPhase.BumpingShared s h = by-once (is_start s) (RwPhase.BumpLoads (LockMode.Shared false)) refl
 unseen RwPhase.BumpingExclusive s h = by-once (is_start s) (RwPhase.BumpLoads LockMode.Exclusive) refl
 unseen (RwPhase.Loads a) s h = by-map _ (word_seen s) (λ w. by-seeks a w)
-unseen (RwPhase.Admits a word) s h = by-map _ (exchange_seen s) (λ r. by-won _ _ r (by-admits a.want false) (λ w. by-seeks a w))
+unseen (RwPhase.Admits a word) s h =
+    by-map _ (exchange_seen s) (λ r. by-won _ _ r (by-admits a.want false) (λ w. by-seeks a w))
 unseen (RwPhase.Spins a) s h = by-map _ (spun_seen s) (λ b. refl)
-unseen (RwPhase.SetParked a word) s h = by-map _ (exchange_seen s) (λ r. by-won (RwPhase.Enters a.want a.woken) _ r refl (λ w. by-seeks a w))
+unseen (RwPhase.SetParked a word) s h =
+    by-map _ (exchange_seen s) (λ r. by-won (RwPhase.Enters a.want a.woken) _ r refl (λ w. by-seeks a w))
 unseen (RwPhase.Enters want woken) s h = by-once (is_entered s) (RwPhase.Checks want woken) refl
-unseen (RwPhase.Checks want woken) s h = by-map _ (word_seen s) (λ w. either (is_barred want w && is_parked w) (RwPhase.Appends want) (RwPhase.Retreats want woken) refl refl)
+unseen (RwPhase.Checks want woken) s h =
+    by-map _ (word_seen s)
+    (λ w. either (is_barred want w && is_parked w) (RwPhase.Appends want) (RwPhase.Retreats want woken) refl refl)
 unseen (RwPhase.Retreats want woken) s h = by-once (is_made s) (RwPhase.Loads (begins want woken)) refl
 unseen (RwPhase.Appends want) s h = by-once (is_made s) (RwPhase.Rests want) refl
 unseen (RwPhase.Rests want) s h = by-once (is_made s) (RwPhase.Sleeps want) refl
-unseen (RwPhase.Sleeps want) s h = by-map _ (woken_seen s) (λ token. either (token.0 == 1) (admits want true) (RwPhase.Loads (begins want true)) (by-admits want true) refl)
+unseen (RwPhase.Sleeps want) s h =
+    by-map _ (woken_seen s)
+    (λ token. either (token.0 == 1) (admits want true) (RwPhase.Loads (begins want true)) (by-admits want true) refl)
 unseen (RwPhase.DrainLoads d) s h = by-map _ (word_seen s) (λ w. by-drains d w)
 unseen (RwPhase.DrainSpins d) s h = by-map _ (spun_seen s) (λ b. refl)
-unseen (RwPhase.DrainSetParked d word) s h = by-map _ (exchange_seen s) (λ r. by-won (RwPhase.DrainEnters d) _ r refl (λ w. by-drains d w))
+unseen (RwPhase.DrainSetParked d word) s h =
+    by-map _ (exchange_seen s) (λ r. by-won (RwPhase.DrainEnters d) _ r refl (λ w. by-drains d w))
 unseen (RwPhase.DrainEnters d) s h = by-once (is_entered s) (RwPhase.DrainChecks d) refl
-unseen (RwPhase.DrainChecks d) s h = by-map _ (word_seen s) (λ w. either (has_readers w && is_writer_parked w) (RwPhase.DrainAppends d.rounds) (RwPhase.DrainRetreats d) refl refl)
+unseen (RwPhase.DrainChecks d) s h =
+    by-map _ (word_seen s)
+    (λ w. either (has_readers w && is_writer_parked w) (RwPhase.DrainAppends d.rounds) (RwPhase.DrainRetreats d) refl
+    refl)
 unseen (RwPhase.DrainRetreats d) s h = by-once (is_made s) (RwPhase.DrainLoads d) refl
 unseen (RwPhase.DrainAppends rounds) s h = by-once (is_made s) (RwPhase.DrainRests rounds) refl
 unseen (RwPhase.DrainRests rounds) s h = by-once (is_made s) (RwPhase.DrainSleeps rounds) refl
@@ -140,14 +166,21 @@ unseen (RwPhase.TryAdmits want word left) s h = absurd (false≢true (sym h))
 unseen (RwPhase.Refuses want) s h = nothing
 unseen (RwPhase.BumpLoads want) s h = by-map _ (word_seen s) (λ w. by-bumps want w)
 unseen (RwPhase.Relocks want) s h = by-map _ (word_seen s) (λ w. by-seeks (begins want false) w)
-unseen (RwPhase.Unshares rest) s h = by-map _ (word_before s) (λ w. either (w / 16 == 1 && is_writer_parked w) (RwPhase.EnterWriterWakeSection rest) (over rest) refl (by-over rest))
+unseen (RwPhase.Unshares rest) s h =
+    by-map _ (word_before s)
+    (λ w. either (w / 16 == 1 && is_writer_parked w) (RwPhase.EnterWriterWakeSection rest) (over rest) refl
+    (by-over rest))
 unseen (RwPhase.EnterWriterWakeSection rest) s h = by-once (is_entered s) (RwPhase.TakeWriter rest) refl
 unseen (RwPhase.TakeWriter rest) s h = by-map _ (took_seen s) (λ t. refl)
 unseen (RwPhase.ClearWriterParked rest taken) s h = by-map _ (word_before s) (λ w. refl)
-unseen (RwPhase.LeaveWriterWakeSection rest taken) s h = by-once (is_made s) (wakes rest (bit taken)) (by-wakes rest (bit taken))
-unseen (RwPhase.Unlocks fair rest) s h = by-map _ (exchange_seen s) (λ r. by-won (over rest) _ r (by-over rest) (λ w. refl))
+unseen (RwPhase.LeaveWriterWakeSection rest taken) s h = by-once (is_made s) (wakes rest (bit taken))
+    (by-wakes rest (bit taken))
+unseen (RwPhase.Unlocks fair rest) s h =
+    by-map _ (exchange_seen s) (λ r. by-won (over rest) _ r (by-over rest) (λ w. refl))
 unseen (RwPhase.LooksExclusive fair rest) s h = by-once (is_entered s) (RwPhase.Scans (scans_for fair rest)) refl
-unseen RwPhase.Downgrades s h = by-map _ (word_before s) (λ w. either (is_parked w) RwPhase.EnterWakeSection (RwPhase.Ends Outcome.Downgraded) refl refl)
+unseen RwPhase.Downgrades s h =
+    by-map _ (word_before s)
+    (λ w. either (is_parked w) RwPhase.EnterWakeSection (RwPhase.Ends Outcome.Downgraded) refl refl)
 unseen RwPhase.EnterWakeSection s h = by-once (is_entered s) (RwPhase.Scans (scans_for false AfterWake.Downgraded)) refl
 unseen (RwPhase.Scans a) s h = by-then _ (took_seen s) (λ t. by-scans a t.token t.left)
 unseen (RwPhase.Stores a left) s h = by-map _ (stored_seen s) (λ fair. refl)
@@ -230,7 +263,8 @@ zero-admits LockMode.Exclusive = refl
 
 -- a try sees a word: it asks for the lock by it, or is refused, and then the word isn't 0
 pub seen-tries : (want : LockMode) (left w : ℕ) → has_seen_in (tries want left w) ≡ true → w ≢ 0
-seen-tries want left w seen zero = absurd (false≢true (sym (by (is_tried want w) (ap (is_tried want) zero ∙ zero-admits want)) ∙ seen))
+seen-tries want left w seen zero =
+    absurd (false≢true (sym (by (is_tried want w) (ap (is_tried want) zero ∙ zero-admits want)) ∙ seen))
   where
     by : (b : Bool) → b ≡ true → has_seen_in (cond b (RwPhase.TryAdmits want w left) (RwPhase.Refuses want)) ≡ false
     by true e = ap (λ n. not (n == 0)) zero

@@ -1,5 +1,6 @@
 -- What a step leaves of its thread and of the others, whichever kind it is of.
-use Rattle.std.proofs.Common.{◌≡◌, ◌≢◌, ℕ, ◌+◌, ◌⊎◌, inl, inr, Bool, true, false, ◌&&◌, ◌==◌, not, if◌then◌else◌, MatchBool, List, [], length, Some, None, slice_get, refl, sym, ap, ◌∙◌, subst}
+use Rattle.std.proofs.Common.{◌≡◌, ◌≢◌, ℕ, ◌+◌, ◌⊎◌, inl, inr, Bool, true, false, ◌&&◌, ◌==◌, not, if◌then◌else◌}
+use Rattle.std.proofs.Common.{MatchBool, List, [], length, Some, None, slice_get, refl, sym, ap, ◌∙◌, subst}
 use Rattle.std.proofs.lemmas.Option.{none-some, same_Some}
 use Rattle.std.proofs.lemmas.Bool.{false≢true}
 use Rattle.parking_lot_machine_calls.specs.declared.calls.LockCall.{LockCall}
@@ -27,7 +28,8 @@ use Rattle.mapworld_state.specs.Moves.{is_last, start_guard, start_phase, start_
 use Rattle.mapworld_state.specs.Places.{Place}
 use Rattle.mapworld_state.specs.Sound.{HoldsShard, HoldsWhileBetween, KeepsOver, Sound}
 use Rattle.mapworld_state.specs.State.{State, next_step, threads_of}
-use Rattle.mapworld_state.specs.Steps.{Answers, Concludes, EntersBy, Leaves as LeavesLock, StartsVisit, Starts, MovesLock}
+use Rattle.mapworld_state.specs.Steps.{Answers, Concludes, EntersBy, Leaves as LeavesLock, StartsVisit, Starts}
+use Rattle.mapworld_state.specs.Steps.{MovesLock}
 use Rattle.mapworld_state.specs.Walks.{hands_over, walk_mode}
 use Rattle.mapworld_state.proofs.HoldsTable.{none-there}
 use Rattle.mapworld_state.proofs.InvariantFacts.Adding.{Step-adds}
@@ -35,9 +37,11 @@ use Rattle.mapworld_state.proofs.InvariantFacts.Building.{Goes, claim-at}
 use Rattle.mapworld_state.proofs.InvariantFacts.Holding.{stand-at}
 use Rattle.mapworld_state.specs.Invariant.Causes.Causes.{HasCauses, HasMet, IsSite, IsSited}
 use Rattle.mapworld_state.proofs.InvariantFacts.CausesFacts.Being.{one-hold, reaches-on, rests-on, waits-on}
-use Rattle.mapworld_state.proofs.InvariantFacts.CausesFacts.Between.{Between, between-at, between-concludes, between-leaves, between-same, sees-admits}
+use Rattle.mapworld_state.proofs.InvariantFacts.CausesFacts.Between.{Between, between-at, between-concludes}
+use Rattle.mapworld_state.proofs.InvariantFacts.CausesFacts.Between.{between-leaves, between-same, sees-admits}
 use Rattle.mapworld_state.proofs.InvariantFacts.CausesFacts.Going.{Own, kept-site, met-on, own-by, still-on}
-use Rattle.mapworld_state.proofs.InvariantFacts.CausesFacts.Locking.{LocksApart, apart-begins, apart-moves, apart-same, begins-blind}
+use Rattle.mapworld_state.proofs.InvariantFacts.CausesFacts.Locking.{LocksApart, apart-begins, apart-moves, apart-same}
+use Rattle.mapworld_state.proofs.InvariantFacts.CausesFacts.Locking.{begins-blind}
 use Rattle.mapworld_state.proofs.InvariantFacts.CausesFacts.Looking.{sees}
 use Rattle.mapworld_state.proofs.InvariantFacts.CausesFacts.Meeting.{meets}
 use Rattle.mapworld_state.proofs.InvariantFacts.CausesFacts.Shapes.{Shape}
@@ -46,10 +50,12 @@ use Rattle.mapworld_state.proofs.InvariantFacts.CausesFacts.Telling.{told-start}
 -- a start that enters no lock leaves all locks as they are
 data Entered {K V D T A : Type 0} (t shard : ℕ) (f : Phase K V D T A) (old new : Shown) : Type 0 where
   nothing : new ≡ old → Entered t shard f old new
-  waits : (r : Request K V D) (c : LockCall) → f ≡ phase.Admit r → LockBegins t shard c old new → Entered t shard f old new
+  waits : (r : Request K V D) (c : LockCall) → f ≡ phase.Admit r → LockBegins t shard c old new
+      → Entered t shard f old new
   reaches : (g : Walk D) (c : LockCall) → f ≡ phase.Reach g → LockBegins t shard c old new → Entered t shard f old new
 
-entered : {K V D T A : Type 0} (t shard : ℕ) (f : Phase K V D T A) (old new : Shown) → EntersBy t shard f old new → Entered t shard f old new
+entered : {K V D T A : Type 0} (t shard : ℕ) (f : Phase K V D T A) (old new : Shown) → EntersBy t shard f old new
+    → Entered t shard f old new
 entered t shard phase.Rest old new h = nothing h
 entered t shard (phase.Admit r) old new h = waits r _ refl h
 entered t shard (phase.Reach f) old new h = reaches f _ refl h
@@ -77,39 +83,55 @@ pub gives-no_try : (m : Mode) → is_try (gives_up m) ≡ false
 gives-no_try Shared = refl
 gives-no_try Exclusive = refl
 
-module _ {K V S D T A : Type 0} (x : Setup K V D T) (w : State K V S D T A) (s : Step) (w' : State K V S D T A) (sound : Sound x w) (goes : Goes x s.thread w w') (shape : Shape w w' s) (adds : Step-adds w w' s)
+module _ {K V S D T A : Type 0} (x : Setup K V D T) (w : State K V S D T A) (s : Step) (w' : State K V S D T A)
+    (sound : Sound x w) (goes : Goes x s.thread w w') (shape : Shape w w' s) (adds : Step-adds w w' s)
     (causes : HasCauses x w) where
   abbrev t : ℕ
   t = s.thread
 
   -- a thread before such a phase waits for no shard
-  pub blind-at : (v : State K V S D T A) → Sound x v → (p : Place K V D T A) → slice_get v.places t ≡ Some p → (f : Phase K V D T A) → p.phase ≡ f → ((r : Request K V D) → f ≡ phase.Admit r → ⊥)
+  pub blind-at : (v : State K V S D T A) → Sound x v → (p : Place K V D T A) → slice_get v.places t ≡ Some p
+      → (f : Phase K V D T A) → p.phase ≡ f → ((r : Request K V D) → f ≡ phase.Admit r → ⊥)
       → sees (call_at (state v.locks.rows) t) ≡ true → ⊥
-  blind-at v there p at f is not_waiting seen = let o = sees-admits x v there t p at seen in not_waiting o.0 (sym is ∙ o.1)
+  blind-at v there p at f is not_waiting seen = let o = sees-admits x v there t p at seen in
+      not_waiting o.0 (sym is ∙ o.1)
 
   -- STARTS
 
   no-hold : (holds : List Hold) (i : ℕ) (h : Hold) → holds ≡ [] → slice_get holds i ≡ Some h → ⊥
   no-hold holds i h none at = none-there holds i h none at
 
-  begun-holds : (a : Ask K V D) (p now : Place K V D T A) → slice_get w.places t ≡ Some p → slice_get w'.places t ≡ Some now → w'.replies ≡ w.replies → now.shard ≡ start_shard x.route a p.shard → now.holds ≡ p.holds
-      → now.phase ≡ start_phase {T = T} {A = A} a p.guard → (i : ℕ) (h : Hold) → slice_get now.holds i ≡ Some h → IsSited x w' t now h.shard
+  begun-holds : (a : Ask K V D) (p now : Place K V D T A) → slice_get w.places t ≡ Some p
+      → slice_get w'.places t ≡ Some now → w'.replies ≡ w.replies → now.shard ≡ start_shard x.route a p.shard
+      → now.holds ≡ p.holds
+      → now.phase ≡ start_phase {T = T} {A = A} a p.guard → (i : ℕ) (h : Hold) → slice_get now.holds i ≡ Some h
+      → IsSited x w' t now h.shard
   begun-holds (ask.Keyed k) p now at there same shard holds is i h here =
-      absurd (no-hold now.holds i h (claim-at x (threads_of w') w'.blocks w'.replies w'.tables t now (phase.Admit (request.Keyed k)) is (goes.sound.stands t now there)).2 here)
+      absurd (no-hold now.holds i h
+      (claim-at x (threads_of w') w'.blocks w'.replies w'.tables t now (phase.Admit (request.Keyed k)) is
+      (goes.sound.stands t now there)).2 here)
   begun-holds (ask.Begin b) p now at there same shard holds is i h here =
-      absurd (no-hold now.holds i h (claim-at x (threads_of w') w'.blocks w'.replies w'.tables t now (phase.Admit (request.Begin b)) is (goes.sound.stands t now there)).2 here)
+      absurd (no-hold now.holds i h
+      (claim-at x (threads_of w') w'.blocks w'.replies w'.tables t now (phase.Admit (request.Begin b)) is
+      (goes.sound.stands t now there)).2 here)
   begun-holds (ask.Held k) p now at there same shard holds is i h here =
-      kept-site x w s w' sound goes shape adds causes p now at same shard h.shard (inl (i, h, ap (λ z. slice_get z i) (sym holds) ∙ here, refl))
+      kept-site x w s w' sound goes shape adds causes p now at same shard h.shard
+      (inl (i, h, ap (λ z. slice_get z i) (sym holds) ∙ here, refl))
   begun-holds (ask.Walk f) p now at there same shard holds is i h here = by (stops_at (stop_of f) 0) is
     where
-      keeps-none : (b : Bool) (n : ℕ) → n ≡ 0 → KeepsOver now (walk_mode f) (if b && not (n == 0) then 1 else 0) → now.holds ≡ []
+      keeps-none : (b : Bool) (n : ℕ) → n ≡ 0 → KeepsOver now (walk_mode f) (if b && not (n == 0) then 1 else 0)
+          → now.holds ≡ []
       keeps-none true n e k = subst (λ (z : ℕ). KeepsOver now (walk_mode f) (if true && not (z == 0) then 1 else 0)) e k
       keeps-none false n e k = k
 
       by : (b : Bool) → now.phase ≡ (if b then phase.Idle f else phase.Reach f) → IsSited x w' t now h.shard
-      by true idle = absurd (no-hold now.holds i h (claim-at x (threads_of w') w'.blocks w'.replies w'.tables t now (phase.Idle f) idle (goes.sound.stands t now there)).2 here)
+      by true idle = absurd
+          (no-hold now.holds i h
+          (claim-at x (threads_of w') w'.blocks w'.replies w'.tables t now (phase.Idle f) idle
+          (goes.sound.stands t now there)).2 here)
       by false reach =
-          let c = claim-at x (threads_of w') w'.blocks w'.replies w'.tables t now (phase.Reach f) reach (goes.sound.stands t now there) in
+          let c = claim-at x (threads_of w') w'.blocks w'.replies w'.tables t now (phase.Reach f) reach
+          (goes.sound.stands t now there) in
           absurd (no-hold now.holds i h (keeps-none (hands_over f) now.shard shard c.2) here)
 
   module _ (a : Starts x w s w') where
@@ -117,7 +139,14 @@ module _ {K V S D T A : Type 0} (x : Setup K V D T) (w : State K V S D T A) (s :
     f = start_phase {T = T} {A = A} a.ask a.place.guard
 
     abbrev now : Place K V D T A
-    now = record (a.place) { asks = a.rest; started = Some (next_step w); closes = is_last a.ask; shard = start_shard x.route a.ask a.place.shard; guard = start_guard a.ask a.place.guard; phase = f }
+    now = record (a.place) {
+      asks = a.rest;
+      started = Some (next_step w);
+      closes = is_last a.ask;
+      shard = start_shard x.route a.ask a.place.shard;
+      guard = start_guard a.ask a.place.guard;
+      phase = f;
+    }
 
     there : slice_get w'.places t ≡ Some now
     there = ap (λ z. slice_get z.places t) a.after ∙ slice_get-set_same w.places t a.place now a.stands
@@ -135,56 +164,79 @@ module _ {K V S D T A : Type 0} (x : Setup K V D T) (w : State K V S D T A) (s :
     none-stands : stand_in w.locks t ≡ None
     none-stands = stand-at w.places w.locks sound.holds t a.place a.stands phase.Rest a.before
 
-    begun-stand : (c : LockCall) → LockBegins t now.shard c w.locks a.locks → (stand : Stand) → stand_in a.locks t ≡ Some stand → now.shard ≡ stand.shard
+    begun-stand : (c : LockCall) → LockBegins t now.shard c w.locks a.locks → (stand : Stand)
+        → stand_in a.locks t ≡ Some stand → now.shard ≡ stand.shard
     begun-stand c begins stand is = ap (λ z. z.shard) (same_Some _ stand (sym begins.stand ∙ is))
 
     stand-sited : (stand : Stand) → stand_in a.locks t ≡ Some stand → IsSited x w' t now stand.shard
     stand-sited stand is = elim e [
       | nothing same ↦ absurd (none-some stand (sym none-stands ∙ sym (ap (λ z. stand_in z t) same) ∙ is))
-      | waits r c at begins ↦ subst (IsSited x w' t now) (begun-stand c begins stand is) (record { on = waits-on x w' goes.sound t now there r at; near = inl refl })
-      | reaches g c at begins ↦ subst (IsSited x w' t now) (begun-stand c begins stand is) (record { on = reaches-on x w' goes.sound t now there g at; near = inl refl })
+      | waits r c at begins ↦ subst (IsSited x w' t now) (begun-stand c begins stand is)
+          (record { on = waits-on x w' goes.sound t now there r at; near = inl refl })
+      | reaches g c at begins ↦ subst (IsSited x w' t now) (begun-stand c begins stand is)
+          (record { on = reaches-on x w' goes.sound t now there g at; near = inl refl })
     ]
 
     sites : (shard : ℕ) → IsSite a.locks t now.holds shard → IsSited x w' t now shard
-    sites shard (inl (i, h, here, is)) = subst (IsSited x w' t now) is (begun-holds a.ask a.place now a.stands there (ap (λ z. z.replies) a.after) refl refl refl i h here)
+    sites shard (inl (i, h, here, is)) =
+        subst (IsSited x w' t now) is
+        (begun-holds a.ask a.place now a.stands there (ap (λ z. z.replies) a.after) refl refl refl i h here)
     sites shard (inr (stand, is, at)) = subst (IsSited x w' t now) at (stand-sited stand is)
 
     blind : sees (call_at (state a.locks.rows) t) ≡ true → ⊥
     blind seen = elim e [
-      | nothing same ↦ blind-at w sound a.place a.stands phase.Rest a.before (λ r h. cc) (sym (ap (λ (z : Shown). sees (call_at (state z.rows) t)) same) ∙ seen)
+      | nothing same ↦ blind-at w sound a.place a.stands phase.Rest a.before (λ r h. cc)
+          (sym (ap (λ (z : Shown). sees (call_at (state z.rows) t)) same) ∙ seen)
       | waits r c at begins ↦ false≢true (sym (begins-blind t now.shard c w.locks a.locks begins) ∙ seen)
       | reaches g c at begins ↦ false≢true (sym (begins-blind t now.shard c w.locks a.locks begins) ∙ seen)
     ]
 
     pub own-starts : Own x w s w'
     own-starts =
-        own-by x w s w' sound goes shape adds causes w a.place a.place (between-same x w t sound a.place a.stands) now w.tables a.locks a.blocks a.after apart sites (λ seen. absurd (blind seen)) (told-start T A a.ask a.place.guard)
+        own-by x w s w' sound goes shape adds causes w a.place a.place (between-same x w t sound a.place a.stands) now
+        w.tables a.locks a.blocks a.after apart sites (λ seen. absurd (blind seen))
+        (told-start T A a.ask a.place.guard)
 
   -- ON THE WAY
 
   pub own-moves : LocksFit w.locks → length w.places ≡ length w.locks.rows.calls → MovesLock x w s w' → Own x w s w'
   own-moves fit threads a =
-      own-by x w s w' sound goes shape adds causes w a.place a.place (between-same x w t sound a.place a.stands) a.place w.tables a.locks w.blocks a.after (apart-moves t s.fair w.locks a.locks a.moves) sites met (causes.untold t a.place a.stands)
+      own-by x w s w' sound goes shape adds causes w a.place a.place (between-same x w t sound a.place a.stands) a.place
+      w.tables a.locks w.blocks a.after (apart-moves t s.fair w.locks a.locks a.moves) sites met
+      (causes.untold t a.place a.stands)
     where
       sites : (shard : ℕ) → IsSite a.locks t a.place.holds shard → IsSited x w' t a.place shard
-      sites shard (inl hold) = kept-site x w s w' sound goes shape adds causes a.place a.place a.stands (ap (λ z. z.replies) a.after) refl shard (inl hold)
+      sites shard (inl hold) = kept-site x w s w' sound goes shape adds causes a.place a.place a.stands
+          (ap (λ z. z.replies) a.after) refl shard (inl hold)
       sites shard (inr (stand, is, at)) =
-          kept-site x w s w' sound goes shape adds causes a.place a.place a.stands (ap (λ z. z.replies) a.after) refl shard
+          kept-site x w s w' sound goes shape adds causes a.place a.place a.stands (ap (λ z. z.replies) a.after) refl
+          shard
           (inr (a.moves.stand, a.moves.stood, ap (λ z. z.shard) (same_Some _ stand (sym a.moves.stands ∙ is)) ∙ at))
 
       met : sees (call_at (state a.locks.rows) t) ≡ true → HasMet x w' t a.place
-      met seen = met-on x w s w' sound goes shape adds t a.place (meets x w sound fit threads causes t a.place a.stands s.fair a.locks a.moves seen)
+      met seen = met-on x w s w' sound goes shape adds t a.place
+          (meets x w sound fit threads causes t a.place a.stands s.fair a.locks a.moves seen)
 
   -- a walk asks for its next shard
   pub own-goes_on : (v : State K V S D T A) → (v ≡ w) ⊎ LeavesLock w t v → StartsVisit x v s w' → Own x w s w'
   own-goes_on v h a =
-      own-by x w s w' sound goes shape adds causes v e.0 a.place e.1 now v.tables a.locks v.blocks a.after (apart-begins t (a.place.shard + 1) (asks_for (walk_mode a.walk)) v.locks a.locks a.begins) sites
-      (λ seen. absurd (false≢true (sym (begins-blind t (a.place.shard + 1) (asks_for (walk_mode a.walk)) v.locks a.locks a.begins) ∙ seen))) tt
+      own-by x w s w' sound goes shape adds causes v e.0 a.place e.1 now v.tables a.locks v.blocks a.after
+      (apart-begins t (a.place.shard + 1) (asks_for (walk_mode a.walk)) v.locks a.locks a.begins) sites
+      (λ seen. absurd (false≢true
+      (sym (begins-blind t (a.place.shard + 1) (asks_for (walk_mode a.walk)) v.locks a.locks a.begins) ∙ seen))) tt
     where
       e : (p : Place K V D T A) × Between x t w v p a.place
       e = elim h [
-        | inl same ↦ (a.place, subst (λ (z : State K V S D T A). Between x t w z a.place a.place) (sym same) (between-same x w t sound a.place (sym (ap (λ z. slice_get z.places t) same) ∙ a.stands)))
-        | inr left ↦ (left.place, between-at x t w v left.place left.place a.place a.stands (between-leaves x w t sound v left))
+        | inl same ↦ (
+          a.place,
+          subst (λ (z : State K V S D T A). Between x t w z a.place a.place) (sym same)
+              (between-same x w t sound a.place (sym (ap (λ z. slice_get z.places t) same) ∙ a.stands)),
+        )
+        | inr left ↦ (
+          left.place,
+          between-at x t w v left.place left.place a.place a.stands
+              (between-leaves x w t sound v left),
+        )
       ]
 
       now : Place K V D T A
@@ -196,16 +248,19 @@ module _ {K V S D T A : Type 0} (x : Setup K V D T) (w : State K V S D T A) (s :
       replies : w'.replies ≡ w.replies
       replies = ap (λ z. z.replies) a.after ∙ e.1.replies
 
-      over : (b : Bool) → MatchBool b (HoldsShard a.place (walk_mode a.walk)) (a.place.holds ≡ []) → (i : ℕ) (h : Hold) → slice_get a.place.holds i ≡ Some h → h.shard ≡ a.place.shard
+      over : (b : Bool) → MatchBool b (HoldsShard a.place (walk_mode a.walk)) (a.place.holds ≡ []) → (i : ℕ) (h : Hold)
+          → slice_get a.place.holds i ≡ Some h → h.shard ≡ a.place.shard
       over true holds i h here = one-hold a.place.holds i h holds.hold holds.has here ∙ holds.shard
       over false none i h here = absurd (no-hold a.place.holds i h none here)
 
       claim : HoldsWhileBetween a.place a.walk
-      claim = (claim-at x (threads_of v) v.blocks v.replies v.tables t a.place (phase.Onward a.walk) a.before (e.1.sound.stands t a.place a.stands)).2
+      claim = (claim-at x (threads_of v) v.blocks v.replies v.tables t a.place (phase.Onward a.walk) a.before
+          (e.1.sound.stands t a.place a.stands)).2
 
       sites : (shard : ℕ) → IsSite a.locks t a.place.holds shard → IsSited x w' t now shard
       sites shard (inl (i, h, here, is)) = record {
-        on = λ q le. still-on x w s w' sound goes shape adds causes e.0 e.1.at replies shard (e.1.back shard (inl (i, h, here, is))) q le;
+        on = λ q le. still-on x w s w' sound goes shape adds causes e.0 e.1.at replies shard
+            (e.1.back shard (inl (i, h, here, is))) q le;
         near = inr (ap (λ n. n + 1) (sym is ∙ over (hands_over a.walk) claim i h here));
       }
       sites shard (inr (stand, is, at)) =
@@ -217,7 +272,8 @@ module _ {K V S D T A : Type 0} (x : Setup K V D T) (w : State K V S D T A) (s :
   own-answers v h a = record {
     now = now;
     there = there;
-    others = λ u ne. ap (λ z. slice_get z.places u) a.after ∙ slice_get-set_other v.places t u now (λ z. ne (sym z)) ∙ others u ne;
+    others = λ u ne. ap (λ z. slice_get z.places u) a.after ∙ slice_get-set_other v.places t u now (λ z. ne (sym z))
+        ∙ others u ne;
     locks = subst (λ (z : Shown). LocksApart t w.locks z) (sym (ap (λ z. z.locks) a.after)) apart;
     sites = sites;
     met = λ seen. absurd (blind-at w' goes.sound now there phase.Rest refl (λ r e. cc) seen);
@@ -226,19 +282,32 @@ module _ {K V S D T A : Type 0} (x : Setup K V D T) (w : State K V S D T A) (s :
   }
     where
       now : Place K V D T A
-      now = record (a.place) { next = a.place.next + 1; started = None; block = if a.place.closes then None else a.place.block; visits = []; count = 0; phase = phase.Rest }
+      now = record (a.place) {
+        next = a.place.next + 1;
+        started = None;
+        block = if a.place.closes then None else a.place.block;
+        visits = [];
+        count = 0;
+        phase = phase.Rest;
+      }
 
       there : slice_get w'.places t ≡ Some now
       there = ap (λ z. slice_get z.places t) a.after ∙ slice_get-set_same v.places t a.place now a.stands
 
       others : (u : ℕ) → u ≢ t → slice_get v.places u ≡ slice_get w.places u
-      others u ne = elim h [ inl same ↦ ap (λ z. slice_get z.places u) same | inr c ↦ (between-concludes x w t sound v c).2.others u ne ]
+      others u ne = elim h
+          [ inl same ↦ ap (λ z. slice_get z.places u) same | inr c ↦ (between-concludes x w t sound v c).2.others u ne ]
 
       apart : LocksApart t w.locks v.locks
-      apart = elim h [ inl same ↦ subst (λ (z : State K V S D T A). LocksApart t w.locks z.locks) (sym same) (apart-same t w.locks) | inr c ↦ (between-concludes x w t sound v c).2.locks ]
+      apart = elim h [
+        | inl same ↦ subst (λ (z : State K V S D T A). LocksApart t w.locks z.locks) (sym same)
+            (apart-same t w.locks)
+        | inr c ↦ (between-concludes x w t sound v c).2.locks
+      ]
 
       sites : (shard : ℕ) → IsSite w'.locks t now.holds shard → IsSited x w' t now shard
       sites shard (inl (i, hold, here, is)) =
           let on = rests-on x w' goes.sound t now there refl i hold here in
           subst (IsSited x w' t now) is (record { on = on.0; near = inl on.1 })
-      sites shard (inr (stand, is, at)) = absurd (none-some stand (sym (stand-at w'.places w'.locks goes.sound.holds t now there phase.Rest refl) ∙ is))
+      sites shard (inr (stand, is, at)) =
+          absurd (none-some stand (sym (stand-at w'.places w'.locks goes.sound.holds t now there phase.Rest refl) ∙ is))

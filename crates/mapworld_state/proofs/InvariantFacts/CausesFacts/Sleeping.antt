@@ -1,5 +1,6 @@
 -- Where a thread sleeps at a lock, another one has to do with it.
-use Rattle.std.proofs.Common.{◌≡◌, ◌≢◌, ℕ, zero, suc, inl, inr, Bool, true, false, cond, ◌==◌, List, length, Option, Some, None, slice_get, IsTrue, ◌<◌, refl, sym, ap, ◌∙◌, subst}
+use Rattle.std.proofs.Common.{◌≡◌, ◌≢◌, ℕ, zero, suc, inl, inr, Bool, true, false, cond, ◌==◌, List, length, Option}
+use Rattle.std.proofs.Common.{Some, None, slice_get, IsTrue, ◌<◌, refl, sym, ap, ◌∙◌, subst}
 use Rattle.std.specs.Option.{option_and_then}
 use Rattle.std.proofs.lemmas.Bool.{eqb-true, eq-eqb, false≢true}
 use Rattle.std.proofs.lemmas.Option.{none-some, slice_get_within}
@@ -33,7 +34,8 @@ use Rattle.mapworld_state.proofs.LocksFacts.Handing.{is_rw, goes_by, no_mutex}
 use Rattle.mapworld_state.proofs.LocksFacts.Lists.{all_at, among_all, one_of_all}
 
 -- a call at a reader-writer lock that sleeps is asleep to the rules
-phase-asleep : (at : QueuePosition) (us : List ℕ) (p : RwPhase) → sleeps (act_of p) ≡ true → laws.is_asleep (of_rw.does (rw_spot at) us p) ≡ true
+phase-asleep : (at : QueuePosition) (us : List ℕ) (p : RwPhase) → sleeps (act_of p) ≡ true
+    → laws.is_asleep (of_rw.does (rw_spot at) us p) ≡ true
 phase-asleep QueuePosition.Listed us (RwPhase.Sleeps want) e = refl
 phase-asleep (QueuePosition.Off by said) us (RwPhase.Sleeps want) e = refl
 phase-asleep QueuePosition.Listed us (RwPhase.DrainSleeps rounds) e = refl
@@ -61,7 +63,8 @@ pub data IsAround (sh : Shown) (i t : ℕ) : Type 0 where
   keeps : (m : Mode) → owner_in sh i t ≡ Some m → IsAround sh i t
   is-in : (c : Call) → call_at (state sh.rows) t ≡ Some c → c.lock ≡ i → IsAround sh i t
 
-module _ (sh : Shown) (fit : LocksFit sh) (t : ℕ) (c : Call) (here : call_at (state sh.rows) t ≡ Some c) (sleeping : sleeps (core_act c.core) ≡ true) where
+module _ (sh : Shown) (fit : LocksFit sh) (t : ℕ) (c : Call) (here : call_at (state sh.rows) t ≡ Some c)
+    (sleeping : sleeps (core_act c.core) ≡ true) where
   abbrev s : State
   s = state sh.rows
 
@@ -74,16 +77,19 @@ module _ (sh : Shown) (fit : LocksFit sh) (t : ℕ) (c : Call) (here : call_at (
   own-role : rw_role_at s i t ≡ rw_core_role c.others c.spot (taken_by s.wakes t) c.core
   own-role =
       ap (rw_role_in i (taken_by s.wakes t) (hold_at s t i)) here
-      ∙ ap (λ b. cond b (rw_core_role c.others c.spot (taken_by s.wakes t) c.core) (record { owns = owned_of (hold_at s t i); does = Idle })) (eq-eqb i i refl)
+      ∙ ap (λ b. cond b (rw_core_role c.others c.spot (taken_by s.wakes t) c.core)
+      (record { owns = owned_of (hold_at s t i); does = Idle })) (eq-eqb i i refl)
 
   -- no lock is a mutex
   no-mutex : manner_of (slice_get s.kinds i) ≡ Some AsMutex → ⊥
   no-mutex e = no_mutex (goes_by s i AsMutex fit.plain.kinds e)
 
   asleep : laws.is_asleep (rw_role_at s i t).does ≡ true
-  asleep = ap (λ r. laws.is_asleep r.does) own-role ∙ by c.core (fit.plain.cores t c here) sleeping (fit.fits.rules.kinds t c here)
+  asleep = ap (λ r. laws.is_asleep r.does) own-role ∙ by c.core (fit.plain.cores t c here) sleeping
+      (fit.fits.rules.kinds t c here)
     where
-      by : (k : Core) → is_plain k ≡ true → sleeps (core_act k) ≡ true → IsOfKind (slice_get s.kinds i) k → laws.is_asleep (rw_core_role c.others c.spot (taken_by s.wakes t) k).does ≡ true
+      by : (k : Core) → is_plain k ≡ true → sleeps (core_act k) ≡ true → IsOfKind (slice_get s.kinds i) k
+          → laws.is_asleep (rw_core_role c.others c.spot (taken_by s.wakes t) k).does ≡ true
       by (Core.Rw k) so e is = phase-asleep c.spot (taken_by s.wakes t) k.phase e
       by (Core.Mutex k) so e is = absurd (no-mutex is)
       by (Core.Late k) so e is = absurd (no-mutex is)
@@ -98,7 +104,8 @@ module _ (sh : Shown) (fit : LocksFit sh) (t : ℕ) (c : Call) (here : call_at (
       by (Some d) e = slice_get_within s.calls t d e
 
   pub up : laws.SomebodyIsUp (rw_lock_at s i)
-  up = somebody_can_move (rw_lock_at s i) sound t (rw_role_at s i t) (one_of_all (rw_role_at s i) (length s.calls) t low) (from-true asleep)
+  up = somebody_can_move (rw_lock_at s i) sound t (rw_role_at s i t)
+      (one_of_all (rw_role_at s i) (length s.calls) t low) (from-true asleep)
     where
       from-true : laws.is_asleep (rw_role_at s i t).does ≡ true → IsTrue (laws.is_asleep (rw_role_at s i t).does)
       from-true e = e
@@ -120,21 +127,28 @@ module _ (sh : Shown) (fit : LocksFit sh) (t : ℕ) (c : Call) (here : call_at (
       by true e works = absurd (false≢true (sym (asleep-rests up.1.does e) ∙ works))
 
   pub another : v ≢ t
-  another same = false≢true (sym awake ∙ ap (λ (r : Role). laws.is_asleep r.does) role ∙ ap (λ n. laws.is_asleep (rw_role_at s i n).does) same ∙ asleep)
+  another same = false≢true
+      (sym awake ∙ ap (λ (r : Role). laws.is_asleep r.does) role ∙ ap (λ n. laws.is_asleep (rw_role_at s i n).does) same
+      ∙ asleep)
 
   idle-around : rw_role_at s i v ≡ record { owns = owned_of (hold_at s v i); does = Idle } → IsAround sh i v
   idle-around is = elim up.3 [
-    | inl works ↦ absurd (false≢true (sym (ap (λ (r : Role). laws.is_at_work r.does) (role ∙ is)) ∙ is-true (laws.is_at_work up.1.does) works))
-    | inr owner ↦ by (hold_at s v i) (λ none. owner.1 (ap (λ (r : Role). r.owns) (role ∙ is) ∙ none)) (mode-is (hold_at s v i) refl)
+    | inl works ↦ absurd
+        (false≢true (sym (ap (λ (r : Role). laws.is_at_work r.does) (role ∙ is)) ∙ is-true (laws.is_at_work up.1.does)
+        works))
+    | inr owner ↦ by (hold_at s v i) (λ none. owner.1 (ap (λ (r : Role). r.owns) (role ∙ is) ∙ none))
+        (mode-is (hold_at s v i) refl)
   ]
     where
-      mode-is : (h : Hold) → hold_at s v i ≡ h → owner_in sh i v ≡ held_as (rw_mode (record { owns = owned_of h; does = Idle }))
+      mode-is : (h : Hold) → hold_at s v i ≡ h
+          → owner_in sh i v ≡ held_as (rw_mode (record { owns = owned_of h; does = Idle }))
       mode-is h e =
           ap (λ l. held_as (mode_in l v)) (is_rw s fit.plain.kinds i)
           ∙ ap (λ o. held_as (option_and_then rw_mode o)) (up.2 ∙ ap Some (role ∙ is))
           ∙ ap (λ q. held_as (rw_mode (record { owns = owned_of q; does = Idle }))) e
 
-      by : (h : Hold) → (owned_of h ≡ Shares 0 → ⊥) → owner_in sh i v ≡ held_as (rw_mode (record { owns = owned_of h; does = Idle })) → IsAround sh i v
+      by : (h : Hold) → (owned_of h ≡ Shares 0 → ⊥)
+          → owner_in sh i v ≡ held_as (rw_mode (record { owns = owned_of h; does = Idle })) → IsAround sh i v
       by (Hold.Shares zero) some is = absurd (some refl)
       by (Hold.Shares (suc n)) some is = keeps held.Shared is
       by Hold.Excludes some is = keeps held.Exclusive is
@@ -146,7 +160,9 @@ module _ (sh : Shown) (fit : LocksFit sh) (t : ℕ) (c : Call) (here : call_at (
       in-call : (d : Call) → call_at s v ≡ Some d → (b : Bool) → (d.lock == i) ≡ b → IsAround sh i v
       in-call d at true is = is-in d at (eqb-true d.lock i is)
       in-call d at false is =
-          idle-around (ap (rw_role_in i (taken_by s.wakes v) (hold_at s v i)) at ∙ ap (λ b. cond b (rw_core_role d.others d.spot (taken_by s.wakes v) d.core) (record { owns = owned_of (hold_at s v i); does = Idle })) is)
+          idle-around (ap (rw_role_in i (taken_by s.wakes v) (hold_at s v i)) at
+          ∙ ap (λ b. cond b (rw_core_role d.others d.spot (taken_by s.wakes v) d.core)
+          (record { owns = owned_of (hold_at s v i); does = Idle })) is)
 
       by : (o : Option Call) → call_at s v ≡ o → IsAround sh i v
       by None at = idle-around (ap (rw_role_in i (taken_by s.wakes v) (hold_at s v i)) at)

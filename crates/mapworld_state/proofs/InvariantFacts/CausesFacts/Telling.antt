@@ -31,7 +31,8 @@ either-told true f g h k = h
 either-told false f g h k = k
 
 module _ (A : Type 0) {D K V T : Type 0} (deeds : Deeds D K V T) where
-  either-answer : (b : Bool) (a c : Answer K V T A) → is_locked a ≡ false → is_locked c ≡ false → is_locked (cond b a c) ≡ false
+  either-answer : (b : Bool) (a c : Answer K V T A) → is_locked a ≡ false → is_locked c ≡ false
+      → is_locked (cond b a c) ≡ false
   either-answer true a c h k = h
   either-answer false a c h k = k
 
@@ -39,12 +40,14 @@ module _ (A : Type 0) {D K V T : Type 0} (deeds : Deeds D K V T) where
   told-keyed (keyed.Insert k w) p = refl
   told-keyed (keyed.Remove k) p = refl
   told-keyed (keyed.RemoveIf k d) p = either-answer (deeds.keep d p.0 p.1) answer.None (answer.Pair p.0 p.1) refl refl
-  told-keyed (keyed.RemoveIfMut k d) p = either-answer (deeds.keep d p.0 p.1) answer.None (answer.Pair p.0 (deeds.effect d p.0 p.1)) refl refl
+  told-keyed (keyed.RemoveIfMut k d) p = either-answer (deeds.keep d p.0 p.1) answer.None
+      (answer.Pair p.0 (deeds.effect d p.0 p.1)) refl refl
   told-keyed (keyed.Alter k d) p = refl
   told-keyed (keyed.View k d) p = refl
   told-keyed (keyed.ContainsKey k) p = refl
 
-  pub told-held : (h : Held V D) (kind : Way K) (p : K × V) → is_locked (held_answer {A = A} deeds h (lent kind p)) ≡ false
+  pub told-held : (h : Held V D) (kind : Way K) (p : K × V) → is_locked (held_answer {A = A} deeds h (lent kind p))
+      ≡ false
   told-held (held.Read d) way.Shared p = refl
   told-held (held.Read d) way.Exclusive p = refl
   told-held (held.Read d) (way.Occupied k) p = refl
@@ -76,12 +79,14 @@ module _ (A : Type 0) {D K V T : Type 0} (deeds : Deeds D K V T) where
   told-held held.Drop way.Exclusive p = refl
   told-held held.Drop (way.Occupied k) p = refl
 
-pub told-changed : {K V T A : Type 0} (D : Type 0) (ends : Bool) (a : Answer K V T A) → is_locked a ≡ false → IsTold (changed_phase {D = D} ends a)
+pub told-changed : {K V T A : Type 0} (D : Type 0) (ends : Bool) (a : Answer K V T A) → is_locked a ≡ false
+    → IsTold (changed_phase {D = D} ends a)
 told-changed D true a h = h
 told-changed D false a h = h
 
 -- behind a find
-pub told-found : {K V D : Type 0} (T A : Type 0) (r : Request K V D) (there room : Bool) → IsTold (found_phase {T = T} {A = A} r there room)
+pub told-found : {K V D : Type 0} (T A : Type 0) (r : Request K V D) (there room : Bool)
+    → IsTold (found_phase {T = T} {A = A} r there room)
 told-found T A (request.Keyed (keyed.Insert k v)) true room = tt
 told-found T A (request.Keyed (keyed.Insert k v)) false true = tt
 told-found T A (request.Keyed (keyed.Insert k v)) false false = tt
@@ -113,7 +118,8 @@ told-found T A (request.Begin (begin.TryEntry k)) false true = refl
 told-found T A (request.Begin (begin.TryEntry k)) false false = tt
 
 -- behind a start
-pub told-start : {K V D : Type 0} (T A : Type 0) (a : Ask K V D) (g : Option (Guard K)) → IsTold (start_phase {T = T} {A = A} a g)
+pub told-start : {K V D : Type 0} (T A : Type 0) (a : Ask K V D) (g : Option (Guard K))
+    → IsTold (start_phase {T = T} {A = A} a g)
 told-start T A (ask.Keyed k) g = tt
 told-start T A (ask.Begin b) g = tt
 told-start T A (ask.Walk f) g = either-told (stops_at (stop_of f) 0) (phase.Idle f) (phase.Reach f) tt tt
@@ -160,7 +166,8 @@ told-start T A (ask.Held (held.ReplaceEntry v)) (Some (guard.Vacant k)) = refl
 told-start T A (ask.Held held.Drop) (Some (guard.Vacant k)) = refl
 
 -- a walk is told what it has read or counted
-told-walk : {K V D T A : Type 0} (f : Walk D) (reads : List T) (n : ℕ) (a : Answer K V T A) → IsWalkTold f reads n a → is_locked a ≡ false
+told-walk : {K V D T A : Type 0} (f : Walk D) (reads : List T) (n : ℕ) (a : Answer K V T A) → IsWalkTold f reads n a
+    → is_locked a ≡ false
 told-walk (walk.Iter d stop) reads n a h = ap is_locked h.is
 told-walk (walk.IterMut d stop) reads n a h = ap is_locked h.is
 told-walk (walk.Retain d) reads n a h = ap is_locked h
@@ -171,7 +178,9 @@ told-walk walk.IsEmpty reads n a h = ap is_locked h
 told-walk walk.Capacity reads n a h = ap is_locked h
 told-walk walk.ShrinkToFit reads n a h = ap is_locked h
 
-pub told-leads : {K V D T A : Type 0} (f : Walk D) (ends done : Bool) (reads : List T) (n : ℕ) (next : Phase K V D T A) (kept : List T) → LeadsOn f ends done reads n next kept → IsTold next
+pub told-leads : {K V D T A : Type 0} (f : Walk D) (ends done : Bool) (reads : List T) (n : ℕ) (next : Phase K V D T A)
+    (kept : List T) → LeadsOn f ends done reads n next kept → IsTold next
 told-leads f true done reads n next kept h = subst IsTold (sym h.2) (told-walk f reads n h.0 h.1)
-told-leads f false true reads n next kept h = subst IsTold (sym h.0) (either-told (hands_over f) (phase.Onward f) (phase.Give f) tt tt)
+told-leads f false true reads n next kept h =
+    subst IsTold (sym h.0) (either-told (hands_over f) (phase.Onward f) (phase.Give f) tt tt)
 told-leads f false false reads n next kept h = subst IsTold (sym h.0) tt

@@ -34,7 +34,8 @@ has_seen (core.Upgrade c) = false
 
 -- a shard that the thread holds, or of whose lock it is in a call
 abbrev pub IsSite : Shown → ℕ → List Hold → ℕ → Type 0
-IsSite locks t holds shard = ((i : ℕ) × (h : Hold) × (slice_get holds i ≡ Some h) × (h.shard ≡ shard)) ⊎ ((stand : Stand) × (stand_in locks t ≡ Some stand) × (stand.shard ≡ shard))
+IsSite locks t holds shard = ((i : ℕ) × (h : Hold) × (slice_get holds i ≡ Some h) × (h.shard ≡ shard))
+    ⊎ ((stand : Stand) × (stand_in locks t ≡ Some stand) × (stand.shard ≡ shard))
 
 abbrev pub is_locked : {K V T A : Type 0} → Answer K V T A → Bool
 is_locked answer.Locked = true
@@ -72,8 +73,10 @@ module _ {K V S D T A : Type 0} (x : Setup K V D T) (w : State K V S D T A) wher
     pub on : IsOnAt other place.shard step
 
   pub record HasCauses : Type 0 where
-    pub sited : (t : ℕ) (p : Place K V D T A) (shard : ℕ) → slice_get w.places t ≡ Some p → IsSite w.locks t p.holds shard → IsSited t p shard
-    pub met : (t : ℕ) (p : Place K V D T A) (c : Call) → slice_get w.places t ≡ Some p → call_at (state w.locks.rows) t ≡ Some c → has_seen c.core ≡ true → HasMet t p
+    pub sited : (t : ℕ) (p : Place K V D T A) (shard : ℕ) → slice_get w.places t ≡ Some p
+        → IsSite w.locks t p.holds shard → IsSited t p shard
+    pub met : (t : ℕ) (p : Place K V D T A) (c : Call) → slice_get w.places t ≡ Some p
+        → call_at (state w.locks.rows) t ≡ Some c → has_seen c.core ≡ true → HasMet t p
     -- a try is told at once that it is locked, by its last step
     pub untold : (t : ℕ) (p : Place K V D T A) → slice_get w.places t ≡ Some p → IsTold p.phase
     pub locked : LockedHaveCauses x (started_of w) w.blocks w.replies
@@ -90,4 +93,5 @@ module _ {K V S D T A : Type 0} (x : Setup K V D T) (w : State K V S D T A) wher
     pub on : IsOnNow other stand.shard
 
   abbrev pub SleepersHaveCompany : Type 0
-  SleepersHaveCompany = (t : ℕ) (stand : Stand) → stand_in w.locks t ≡ Some stand → is_asleep (state w.locks.rows) t ≡ true → HasCompany t stand
+  SleepersHaveCompany = (t : ℕ) (stand : Stand) → stand_in w.locks t ≡ Some stand
+      → is_asleep (state w.locks.rows) t ≡ true → HasCompany t stand

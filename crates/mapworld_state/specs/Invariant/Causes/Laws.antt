@@ -18,7 +18,8 @@ pub record HasLocks {K V S D T A : Type 0} (w : State K V S D T A) : Type 0 wher
 
 -- a step of any kind leads from a sound world with causes to one with causes
 abbrev pub StepsKeepCauses : (K V S D T A : Type 0) → Type 0
-StepsKeepCauses K V S D T A = (x : Setup K V D T) → Laws x → (w : State K V S D T A) (s : Step) (w' : State K V S D T A) → Sound x w → HasLocks w → HasCauses x w → IsStep x w s w' → HasCauses x w'
+StepsKeepCauses K V S D T A = (x : Setup K V D T) → Laws x → (w : State K V S D T A) (s : Step) (w' : State K V S D T A)
+    → Sound x w → HasLocks w → HasCauses x w → IsStep x w s w' → HasCauses x w'
 
 -- all threads rest without holds, nobody is in a call at a lock, and nothing is answered
 pub record IsUntouched {K V S D T A : Type 0} (w : State K V S D T A) : Type 0 where
@@ -31,8 +32,10 @@ NewWorldsHaveCauses K V S D T A = (x : Setup K V D T) (w : State K V S D T A) �
 
 -- where the word of a shard's lock isn't 0, a call is on the shard
 abbrev pub TakenShardsHaveCalls : (K V S D T A : Type 0) → Type 0
-TakenShardsHaveCalls K V S D T A = (x : Setup K V D T) (w : State K V S D T A) → Sound x w → HasLocks w → HasCauses x w → WordsHaveCalls x w
+TakenShardsHaveCalls K V S D T A = (x : Setup K V D T) (w : State K V S D T A) → Sound x w → HasLocks w → HasCauses x w
+    → WordsHaveCalls x w
 
 -- who sleeps waits for somebody
 abbrev pub NobodySleepsAlone : (K V S D T A : Type 0) → Type 0
-NobodySleepsAlone K V S D T A = (x : Setup K V D T) (w : State K V S D T A) → Sound x w → HasLocks w → HasCauses x w → SleepersHaveCompany x w
+NobodySleepsAlone K V S D T A = (x : Setup K V D T) (w : State K V S D T A) → Sound x w → HasLocks w → HasCauses x w
+    → SleepersHaveCompany x w

@@ -1,4 +1,5 @@
-use Rattle.std.proofs.Common.{length, slice_get, is_some, refl, ap, sym, ◌∙◌, arith, length-append, ◌+◌, ◌-◌, None, if◌then◌else◌}
+use Rattle.std.proofs.Common.{length, slice_get, is_some, refl, ap, sym, ◌∙◌, arith, length-append, ◌+◌, ◌-◌, None}
+use Rattle.std.proofs.Common.{if◌then◌else◌}
 use Rattle.mapworld_state.specs.Places.{Place, place_of}
 use Rattle.mapworld_state.specs.Moves.{lent_way}
 use Rattle.mapworld_state.specs.Slots.{phase_key}
@@ -20,11 +21,16 @@ unreachable-requires g c =
     let r = c.index_mut-place.result.now in
     let p = place_of r in
     let here = stands_here c.args.core.now.places.items b r c.index_mut-place.ensures.value in
-    let claim = claim_at c.requires.sound c.args.step.thread p here (phase_here c.args.core.now.places.items b r c.index_mut-place.ensures.value) in
+    let claim = claim_at c.requires.sound c.args.step.thread p here
+    (phase_here c.args.core.now.places.items b r c.index_mut-place.ensures.value) in
     c.in_default.not-Some claim.1.start claim.1.started
 
 pub leave_call-answer-requires-clause-before : goal.leave_call-answer-requires-clause-before
-leave_call-answer-requires-clause-before g c = (c.requires.before.0, phase_here c.args.core.now.places.items c.requires.before.1 c.index_mut-place.result.now c.index_mut-place.ensures.value)
+leave_call-answer-requires-clause-before g c = (
+  c.requires.before.0,
+  phase_here c.args.core.now.places.items c.requires.before.1 c.index_mut-place.result.now
+      c.index_mut-place.ensures.value,
+)
 
 pub leave_call-answer-requires-clause-fits : goal.leave_call-answer-requires-clause-fits
 leave_call-answer-requires-clause-fits g c =
@@ -32,7 +38,8 @@ leave_call-answer-requires-clause-fits g c =
     let r = c.index_mut-place.result.now in
     let p = place_of r in
     let here = stands_here c.args.core.now.places.items b r c.index_mut-place.ensures.value in
-    let fits = call_fits c.requires.sound c.args.step.thread p here (phase_here c.args.core.now.places.items b r c.index_mut-place.ensures.value) refl in
+    let fits = call_fits c.requires.sound c.args.step.thread p here
+    (phase_here c.args.core.now.places.items b r c.index_mut-place.ensures.value) refl in
     omega (arith, fits, c.requires.room.calls_fit)
 
 pub end_call-requires-clause-block : goal.end_call-requires-clause-block
@@ -45,7 +52,8 @@ pub end_call-requires-clause-visits : goal.end_call-requires-clause-visits
 end_call-requires-clause-visits g c m i e =
     let r = c.index_mut-place.result.now in
     let here = stands_here c.args.core.now.places.items c.requires.before.1 r c.index_mut-place.ensures.value in
-    let own = (c.requires.sound.stands c.args.step.thread (place_of r) here).own_visits.are i (m, ap (λ vs. slice_get vs m) (sym c.deref.ensures.value) ∙ e) in
+    let own = (c.requires.sound.stands c.args.step.thread (place_of r) here).own_visits.are i
+    (m, ap (λ vs. slice_get vs m) (sym c.deref.ensures.value) ∙ e) in
     slice_get_within c.args.core.now.blocks.items i own.block own.listed
 
 pub push_reserved-requires : goal.push_reserved-requires
@@ -53,14 +61,16 @@ push_reserved-requires g c =
     let r = c.index_mut-place.result.now in
     let p = place_of r in
     let here = stands_here c.args.core.now.places.items c.requires.before.1 r c.index_mut-place.ensures.value in
-    (answer_left c.args.core.now c.args.step.thread p c.requires.room here (ap owes c.leave_call-answer.ensures.answer)).0
+    (answer_left c.args.core.now c.args.step.thread p c.requires.room here
+    (ap owes c.leave_call-answer.ensures.answer)).0
 
 pub overflow_sub-core : goal.overflow_sub-core
 overflow_sub-core g c =
     let r = c.index_mut-place.result.now in
     let p = place_of r in
     let here = stands_here c.args.core.now.places.items c.requires.before.1 r c.index_mut-place.ensures.value in
-    (answer_left c.args.core.now c.args.step.thread p c.requires.room here (ap owes c.leave_call-answer.ensures.answer)).1
+    (answer_left c.args.core.now c.args.step.thread p c.requires.room here
+    (ap owes c.leave_call-answer.ensures.answer)).1
 
 pub returns-clause-step : goal.returns-clause-step
 returns-clause-step g c =
@@ -77,7 +87,17 @@ returns-clause-step g c =
       out = c.requires.out;
       blocks = c.end_call.new.blocks.items;
       ended = rw (c.requires.room.count, c.deref.ensures.value) at c.end_call.ensures.ended;
-      after = rw (c.push_reserved.ensures.items, c.requires.room.count) (stepped-by c.args.core.now c.args.step _ _ _ c.args.core.now.tables.items _ _ _ _ c.appended-core.ensures (ap place_of c.leave_call-answer.ensures.after ∙ ap (λ vs. record (place_of r) { next = r.next + 1; started = None; block = if r.closes then None else r.block; visits = vs; count = 0; phase = phase.Rest }) c.leave_call-answer.ensures.none) refl);
+      after = rw (c.push_reserved.ensures.items, c.requires.room.count)
+          (stepped-by c.args.core.now c.args.step _ _ _ c.args.core.now.tables.items _ _ _ _ c.appended-core.ensures
+          (ap place_of c.leave_call-answer.ensures.after
+          ∙ ap (λ vs. record (place_of r) {
+            next = r.next + 1;
+            started = None;
+            block = if r.closes then None else r.block;
+            visits = vs;
+            count = 0;
+            phase = phase.Rest;
+          }) c.leave_call-answer.ensures.none) refl);
     }
 
 pub returns-clause-room : goal.returns-clause-room
@@ -101,12 +121,23 @@ returns-clause-room g c =
       count = refl;
       programs = refl;
       tables = refl;
-      held = λ i h has. c.requires.room.held c.args.step.thread i p h here (ap (λ (q : Place _ _ _ _ _). slice_get q.holds i) (sym after) ∙ has);
+      held = λ i h has. c.requires.room.held c.args.step.thread i p h here
+          (ap (λ (q : Place _ _ _ _ _). slice_get q.holds i) (sym after) ∙ has);
       locks = same_size;
       unanswered = omega (arith, left.1, ap owed after, ap owes before);
-      answers = omega (arith, simp length-append at (ap length c.push_reserved.ensures.items), ap owed after, ap owes before);
+      answers = omega (
+        arith,
+        simp length-append at (ap length c.push_reserved.ensures.items),
+        ap owed after,
+        ap owes before,
+      );
       replies = c.push_reserved.ensures.capacity;
-      listing = omega (arith, c.end_call.ensures.len, ap (may_list more) after, ap (lists (more - (p.shard + 1))) before);
+      listing = omega (
+        arith,
+        c.end_call.ensures.len,
+        ap (may_list more) after,
+        ap (lists (more - (p.shard + 1))) before,
+      );
       blocks = c.end_call.ensures.capacity;
       visits = plain-visits p p' asks plain;
       capacity = c.leave_call-answer.ensures.capacity;
@@ -115,7 +146,8 @@ returns-clause-room g c =
       pairs = c.requires.room.pairs;
       more_blocks = omega (arith, c.end_call.ensures.len);
       listed = λ i e.
-          let below = c.requires.room.listed c.args.step.thread p i here (kept_block p.closes p.block i (ap (λ (q : Place _ _ _ _ _). q.block) (sym after) ∙ e)) in
+          let below = c.requires.room.listed c.args.step.thread p i here
+          (kept_block p.closes p.block i (ap (λ (q : Place _ _ _ _ _). q.block) (sym after) ∙ e)) in
           omega (arith, below, c.end_call.ensures.len);
     })
 
@@ -123,8 +155,11 @@ pub returns-clause-slots : goal.returns-clause-slots
 returns-clause-slots g c =
     let r = c.index_mut-place.result.now in
     let after = ap place_of c.leave_call-answer.ensures.after in
-    slots-kept _ _ c.args.core.now c.requires.sound c.requires.slots c.args.step.thread r c.leave_call-answer.new.place (kept_here c.args.core.now.places.items c.requires.before.1 r c.index_mut-place.ensures.value) _
+    slots-kept _ _ c.args.core.now c.requires.sound c.requires.slots c.args.step.thread r c.leave_call-answer.new.place
+    (kept_here c.args.core.now.places.items c.requires.before.1 r c.index_mut-place.ensures.value) _
     (calls-over c.args.step.thread _ _ _ _ _ _ c.end_call.ensures.ended)
     (λ kind lends. ap is_some (ap (λ (q : Place _ _ _ _ _). lent_way q.guard) (sym after) ∙ lends))
     (λ i e. kept_block r.closes r.block i (ap (λ (q : Place _ _ _ _ _). q.block) (sym after) ∙ e))
-    (ap (λ (q : Place _ _ _ _ _). phase_key q.phase) after) (ap (λ (q : Place _ _ _ _ _). q.shard) after) (ap (λ (z : KeptPlace _ _ _ _ _). z.slot) c.leave_call-answer.ensures.after) (ap (λ (q : Place _ _ _ _ _). walking q.phase) after)
+    (ap (λ (q : Place _ _ _ _ _). phase_key q.phase) after) (ap (λ (q : Place _ _ _ _ _). q.shard) after)
+    (ap (λ (z : KeptPlace _ _ _ _ _). z.slot) c.leave_call-answer.ensures.after)
+    (ap (λ (q : Place _ _ _ _ _). walking q.phase) after)

@@ -21,7 +21,8 @@ take_first-hold-requires g c =
     let r = c.index_mut-place.result.now in
     let p = place_of r in
     let here = stands_here c.args.core.now.places.items b r c.index_mut-place.ensures.value in
-    let claim = claim_at c.requires.sound c.args.step.thread p here (phase_here c.args.core.now.places.items b r c.index_mut-place.ensures.value) in
+    let claim = claim_at c.requires.sound c.args.step.thread p here
+    (phase_here c.args.core.now.places.items b r c.index_mut-place.ensures.value) in
     (claim.1, [], claim.3)
 
 pub start-requires-clause-may : goal.start-requires-clause-may
@@ -35,7 +36,10 @@ start-requires-clause-may g c =
     let mine = first-there p.holds hold _ c.take_first-hold.ensures in
     let holds = c.requires.sound.holds in
     let room = c.requires.room in
-    rw c.gives_up-call.ensures (may-leave holds _ _ room.locks c.args.step.thread p here (slice_get_within _ c.args.step.thread p here) (out-of-call holds c.args.step.thread p here (phase.Release c.requires.before.0) before refl) 0 hold mine (room.held c.args.step.thread 0 p hold here mine))
+    rw c.gives_up-call.ensures
+    (may-leave holds _ _ room.locks c.args.step.thread p here (slice_get_within _ c.args.step.thread p here)
+    (out-of-call holds c.args.step.thread p here (phase.Release c.requires.before.0) before refl) 0 hold mine
+    (room.held c.args.step.thread 0 p hold here mine))
 
 pub start-requires-clause-gives : goal.start-requires-clause-gives
 start-requires-clause-gives g c = rw c.gives_up-call.ensures (given-gives c.take_first-hold.result.mode)
@@ -44,7 +48,8 @@ pub unreachable-requires : goal.unreachable-requires
 unreachable-requires g c =
     let b = c.requires.before.1 in
     let r = c.index_mut-place.result.now in
-    c.in_default.not-Release c.requires.before.0 (c.replace.ensures.value ∙ phase_here c.args.core.now.places.items b r c.index_mut-place.ensures.value)
+    c.in_default.not-Release c.requires.before.0
+    (c.replace.ensures.value ∙ phase_here c.args.core.now.places.items b r c.index_mut-place.ensures.value)
 
 pub count_in-requires-clause-listed : goal.count_in-requires-clause-listed
 count_in-requires-clause-listed g c i e =
@@ -53,7 +58,8 @@ count_in-requires-clause-listed g c i e =
     let p = place_of r in
     let here = stands_here c.args.core.now.places.items b r c.index_mut-place.ensures.value in
     let before = sym c.replace.ensures.value ∙ c.in-Release.is in
-    release_listed c.requires.sound c.args.step.thread p here c.in-Release.answer before i (sym c.release_counts-counts.ensures ∙ e)
+    release_listed c.requires.sound c.args.step.thread p here c.in-Release.answer before i
+    (sym c.release_counts-counts.ensures ∙ e)
 
 pub count_in-requires-clause-fits : goal.count_in-requires-clause-fits
 count_in-requires-clause-fits g c =
@@ -61,7 +67,8 @@ count_in-requires-clause-fits g c =
     let r = c.index_mut-place.result.now in
     let p = place_of r in
     let here = stands_here c.args.core.now.places.items b r c.index_mut-place.ensures.value in
-    let fits = next_fits c.requires.sound c.args.step.thread p here (phase_here c.args.core.now.places.items b r c.index_mut-place.ensures.value) in
+    let fits = next_fits c.requires.sound c.args.step.thread p here
+    (phase_here c.args.core.now.places.items b r c.index_mut-place.ensures.value) in
     omega (arith, fits, c.requires.room.calls_fit)
 
 pub returns-clause-step : goal.returns-clause-step
@@ -84,7 +91,9 @@ returns-clause-step g c =
       gives = rw c.gives_up-call.ensures at c.start.ensures;
       blocks = c.count_in.new.blocks.items;
       counted = rw c.release_counts-counts.ensures at c.count_in.ensures.counted;
-      after = rw c.enter.ensures (stepped-by c.args.core.now c.args.step _ _ _ c.args.core.now.tables.items _ _ _ _ c.appended-core.ensures refl refl);
+      after = rw c.enter.ensures
+          (stepped-by c.args.core.now c.args.step _ _ _ c.args.core.now.tables.items _ _ _ _ c.appended-core.ensures
+          refl refl);
     }
 
 pub returns-clause-room : goal.returns-clause-room
@@ -122,11 +131,14 @@ returns-clause-room g c =
       adding = omega (arith, ap adds c.enter.ensures, ap adds before);
       pairs = c.requires.room.pairs;
       more_blocks = omega (arith, c.count_in.ensures.len);
-      listed = λ i e. let below = c.requires.room.listed c.args.step.thread p i here e in omega (arith, below, c.count_in.ensures.len);
+      listed = λ i e. let below = c.requires.room.listed c.args.step.thread p i here e in
+          omega (arith, below, c.count_in.ensures.len);
     })
 
 pub returns-clause-slots : goal.returns-clause-slots
 returns-clause-slots g c =
     let r = c.index_mut-place.result.now in
-    slots-kept _ _ c.args.core.now c.requires.sound c.requires.slots c.args.step.thread r _ (kept_here c.args.core.now.places.items c.requires.before.1 r c.index_mut-place.ensures.value) _
-    (calls-counted c.args.step.thread _ _ _ _ c.count_in.ensures.counted) (λ kind lends. absurd (none-some kind lends)) (λ i e. e) (ap phase_key c.enter.ensures) refl refl (ap walking c.enter.ensures)
+    slots-kept _ _ c.args.core.now c.requires.sound c.requires.slots c.args.step.thread r _
+    (kept_here c.args.core.now.places.items c.requires.before.1 r c.index_mut-place.ensures.value) _
+    (calls-counted c.args.step.thread _ _ _ _ c.count_in.ensures.counted) (λ kind lends. absurd (none-some kind lends))
+    (λ i e. e) (ap phase_key c.enter.ensures) refl refl (ap walking c.enter.ensures)

@@ -13,7 +13,8 @@ returns-in-Some-Refused-clause-step g c =
       mid = mid;
       leaves = inr (locked lost);
       answers = subst (λ (x : Setup _ _ _ _). Answers x mid c.args.step (state_of c.answer.new.core))
-          (setup-locked g.D.Deed g.S.BuildHasher g.S.Hasher.Hasher g.K.PartialEq.eq g.K.Hash.hash_input (state_of c.args.core.now) mid c.args.step.thread lost) c.answer.ensures.step;
+          (setup-locked g.D.Deed g.S.BuildHasher g.S.Hasher.Hasher g.K.PartialEq.eq g.K.Hash.hash_input
+          (state_of c.args.core.now) mid c.args.step.thread lost) c.answer.ensures.step;
     })
 
 pub returns-in-Some : goal.returns-in-Some
@@ -25,7 +26,8 @@ returns-in-Some g c =
         mid = mid;
         enters = inr enters;
         finds = subst (λ (x : Setup _ _ _ _). Finds x mid c.args.step (state_of c.find.new.core))
-            (setup-entered g.D.Deed g.S.BuildHasher g.S.Hasher.Hasher g.K.PartialEq.eq g.K.Hash.hash_input (state_of c.args.core.now) mid c.args.step.thread enters) c.find.ensures.step;
+            (setup-entered g.D.Deed g.S.BuildHasher g.S.Hasher.Hasher g.K.PartialEq.eq g.K.Hash.hash_input
+            (state_of c.args.core.now) mid c.args.step.thread enters) c.find.ensures.step;
       });
       room = c.find.ensures.room;
       slots = c.find.ensures.slots;

@@ -46,7 +46,9 @@ returns-clause-enters g c =
     let before = sym c.replace.ensures.value ∙ c.in-Admit.is in
     let stand = stand-at _ _ c.requires.sound.holds t p here (phase.Admit request) before in
     let its = same_Some c.finish.ensures.stand _ (sym c.finish.ensures.stood ∙ stand.is) in
-    let won = owned-unless c.finish.result (c.finish.ensures.settled (at_desk (mode_of request)) (ap (λ (s : Stand). s.aim) its)) (λ refused. c.requires.owned (c.finish.ensures.over ∙ ap (λ a. Some a) refused)) in
+    let won = owned-unless c.finish.result
+    (c.finish.ensures.settled (at_desk (mode_of request)) (ap (λ (s : Stand). s.aim) its))
+    (λ refused. c.requires.owned (c.finish.ensures.over ∙ ap (λ a. Some a) refused)) in
     record {
       place = p;
       stands = here;
@@ -54,19 +56,30 @@ returns-clause-enters g c =
       before = before;
       locks = c.finish.new.self;
       ends = subst (λ (a : CoreAnswer). LockEnds t a core.locks c.finish.new.self) won c.finish.ensures;
-      after = ap (λ ps. record (state_of core) { places = ps; locks = c.finish.new.self }) (map-set place_of core.places.items t _
-          ∙ ap₂ (λ hs f. slice_set (state_of core).places t (record p { holds = hs; phase = f })) (c.push.ensures.items ∙ ap (λ m. p.holds ++ record { shard = p.shard; mode = m } ∷ []) c.mode_of.ensures) c.enter.ensures);
+      after = ap (λ ps. record (state_of core) { places = ps; locks = c.finish.new.self })
+          (map-set place_of core.places.items t _
+          ∙ ap₂ (λ hs f. slice_set (state_of core).places t (record p { holds = hs; phase = f }))
+          (c.push.ensures.items ∙ ap (λ m. p.holds ++ record { shard = p.shard; mode = m } ∷ []) c.mode_of.ensures)
+          c.enter.ensures);
     }
 
 pub returns-clause-found : goal.returns-clause-found
 returns-clause-found g c =
     let core = c.args.core.now in
     let r = c.index_mut-place.result.now in
-    let kept = kept_here core.places.items c.requires.before.1 r c.index_mut-place.ensures.value in
-    (c.in-Admit.request, record { place = _; stands = view-at place_of (slice_set core.places.items c.args.thread _) c.args.thread _ (slice_get-set_same core.places.items c.args.thread r _ kept); before = c.enter.ensures })
+    let kept = kept_here core.places.items c.requires.before.1 r c.index_mut-place.ensures.value in (
+      c.in-Admit.request,
+      record {
+        place = _;
+        stands = view-at place_of (slice_set core.places.items c.args.thread _) c.args.thread _
+            (slice_get-set_same core.places.items c.args.thread r _ kept);
+        before = c.enter.ensures;
+      },
+    )
 
 pub returns-clause-sound : goal.returns-clause-sound
-returns-clause-sound g c = sound-enters _ (state_of c.args.core.now) c.args.thread _ c.requires.sound (returns-clause-enters g c)
+returns-clause-sound g c = sound-enters _ (state_of c.args.core.now) c.args.thread _ c.requires.sound
+    (returns-clause-enters g c)
 
 pub returns-clause-room : goal.returns-clause-room
 returns-clause-room g c =
@@ -84,10 +97,14 @@ returns-clause-room g c =
     let more = length core.tables.items - (p.shard + 1) in
     let plain = ap walking c.enter.ensures in
     let due = plain-lists p (place_of after) refl plain in
-    moved core _ c.finish.new.self t r after c.requires.room (kept_here core.places.items c.requires.before.1 r c.index_mut-place.ensures.value) refl
-    (omega (arith, ap owes c.enter.ensures, ap owes before)) (omega (arith, ap (lists more) c.enter.ensures, ap (lists more) before)) (omega (arith, ap adds c.enter.ensures, ap adds before)) refl
+    moved core _ c.finish.new.self t r after c.requires.room
+    (kept_here core.places.items c.requires.before.1 r c.index_mut-place.ensures.value) refl
+    (omega (arith, ap owes c.enter.ensures, ap owes before))
+    (omega (arith, ap (lists more) c.enter.ensures, ap (lists more) before))
+    (omega (arith, ap adds c.enter.ensures, ap adds before)) refl
     (plain-visits p (place_of after) refl plain) refl (omega (arith, due))
-    (λ i h has. let same = ap (λ (z : Hold). z.shard) (only-first c.push.new.self.items hold i h one has).1 in omega (arith, same, fits, length-map core.tables.items shard_pairs))
+    (λ i h has. let same = ap (λ (z : Hold). z.shard) (only-first c.push.new.self.items hold i h one has).1 in
+    omega (arith, same, fits, length-map core.tables.items shard_pairs))
     (ends-size _ _ t c.finish.result c.finish.ensures)
 
 pub returns-clause-slots : goal.returns-clause-slots
@@ -97,5 +114,8 @@ returns-clause-slots g c =
     let p = place_of r in
     let here = stands_here core.places.items c.requires.before.1 r c.index_mut-place.ensures.value in
     let claim = claim_at c.requires.sound c.args.thread p here (sym c.replace.ensures.value ∙ c.in-Admit.is) in
-    slots-kept _ _ core c.requires.sound c.requires.slots c.args.thread r _ (kept_here core.places.items c.requires.before.1 r c.index_mut-place.ensures.value) _
-    (calls-same c.args.thread _ _ refl) (λ kind lends. absurd (none-some kind (sym (ap lent_way claim.1.guard) ∙ lends))) (λ i e. e) (ap phase_key c.enter.ensures) refl refl (ap walking c.enter.ensures)
+    slots-kept _ _ core c.requires.sound c.requires.slots c.args.thread r _
+    (kept_here core.places.items c.requires.before.1 r c.index_mut-place.ensures.value) _
+    (calls-same c.args.thread _ _ refl)
+    (λ kind lends. absurd (none-some kind (sym (ap lent_way claim.1.guard) ∙ lends))) (λ i e. e)
+    (ap phase_key c.enter.ensures) refl refl (ap walking c.enter.ensures)

@@ -6,7 +6,8 @@ use Rattle.mapworld_steps.proofs.Setups.{setup-left}
 use Rattle.mapworld_steps.proofs.queues.finish.Goals as goal
 
 pub returns-then-not-is_in_call-clause-step : goal.returns-then-not-is_in_call-clause-step
-returns-then-not-is_in_call-clause-step g c = answers (record { mid = state_of c.args.core.now; leaves = inl refl; answers = c.answer.ensures.step })
+returns-then-not-is_in_call-clause-step g c =
+    answers (record { mid = state_of c.args.core.now; leaves = inl refl; answers = c.answer.ensures.step })
 
 pub returns-then-is_some-clause-step : goal.returns-then-is_some-clause-step
 returns-then-is_some-clause-step g c =
@@ -16,5 +17,6 @@ returns-then-is_some-clause-step g c =
       mid = mid;
       leaves = inr (owed leaves);
       answers = subst (λ (x : Setup _ _ _ _). Answers x mid c.args.step (state_of c.answer-then-is_some.new.core))
-          (setup-left g.D.Deed g.S.BuildHasher g.S.Hasher.Hasher g.K.PartialEq.eq g.K.Hash.hash_input (state_of c.args.core.now) mid c.args.step.thread leaves) c.answer-then-is_some.ensures.step;
+          (setup-left g.D.Deed g.S.BuildHasher g.S.Hasher.Hasher g.K.PartialEq.eq g.K.Hash.hash_input
+          (state_of c.args.core.now) mid c.args.step.thread leaves) c.answer-then-is_some.ensures.step;
     })

@@ -17,7 +17,8 @@ returns-clause-step g c =
       stands = c.requires.stands.1;
       locks = c.step.new.self;
       moves = c.step.ensures;
-      after = ap₂ (λ ss ps. record w { steps = ss; places = ps; locks = c.step.new.self }) c.appended-core.ensures (sym (put_there w.places t p c.requires.stands.1));
+      after = ap₂ (λ ss ps. record w { steps = ss; places = ps; locks = c.step.new.self }) c.appended-core.ensures
+          (sym (put_there w.places t p c.requires.stands.1));
     }
 
 pub returns-clause-room : goal.returns-clause-room

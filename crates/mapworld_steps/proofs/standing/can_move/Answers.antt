@@ -15,7 +15,8 @@ returns-in-Some g c =
     let p = c.in-Some.place.now in
     let within : t < length list = ltb-true t (length list) (sym c.in-Some.ensures.lookup.0) in
     let here = slice_get_read list (length list) t p refl within c.in-Some.ensures.lookup.1 in
-    c.moves_at.ensures ∙ ap (λ o. moves_at (state_of c.args.core.now).locks t o) (sym (view-at place_of places t p (ap (λ ps. slice_get ps t) (sym c.deref.ensures.value) ∙ here)))
+    c.moves_at.ensures ∙ ap (λ o. moves_at (state_of c.args.core.now).locks t o)
+    (sym (view-at place_of places t p (ap (λ ps. slice_get ps t) (sym c.deref.ensures.value) ∙ here)))
 
 pub returns-in-None : goal.returns-in-None
 returns-in-None g c =
@@ -26,5 +27,6 @@ returns-in-None g c =
     let long = ap length c.deref.ensures.value in
     elim (slice_get_cases places t).1 [
       | inl here ↦ absurd (let within = slice_get_within places t here.0 here.2 in omega (arith, within, past, long))
-      | inr none ↦ ap (λ o. moves_at (state_of c.args.core.now).locks t o) (sym (slice_get-map place_of places t ∙ ap (option_map place_of) none.1))
+      | inr none ↦ ap (λ o. moves_at (state_of c.args.core.now).locks t o)
+          (sym (slice_get-map place_of places t ∙ ap (option_map place_of) none.1))
     ]

@@ -12,5 +12,7 @@ returns-clause-step g c =
     answers (record {
       mid = mid;
       leaves = inr (idle gives);
-      answers = subst (λ (x : Setup _ _ _ _). Answers x mid c.args.step (state_of c.answer.new.core)) (setup-unvisited g.D.Deed g.S.BuildHasher g.S.Hasher.Hasher g.K.PartialEq.eq g.K.Hash.hash_input (state_of c.args.core.now) mid c.args.step.thread gives) c.answer.ensures.step;
+      answers = subst (λ (x : Setup _ _ _ _). Answers x mid c.args.step (state_of c.answer.new.core))
+          (setup-unvisited g.D.Deed g.S.BuildHasher g.S.Hasher.Hasher g.K.PartialEq.eq g.K.Hash.hash_input
+          (state_of c.args.core.now) mid c.args.step.thread gives) c.answer.ensures.step;
     })

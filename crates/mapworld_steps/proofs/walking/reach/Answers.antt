@@ -13,7 +13,9 @@ returns-then-reach_shard-clause-step g c =
     visit_parts (record {
       mid = mid;
       enters = inr reaches;
-      gives = subst (λ (x : Setup _ _ _ _). PartsOnly x mid c.args.step (state_of c.part.new.core)) (setup-reached g.D.Deed g.S.BuildHasher g.S.Hasher.Hasher g.K.PartialEq.eq g.K.Hash.hash_input (state_of c.args.core.now) mid c.args.step.thread reaches) c.part.ensures.step;
+      gives = subst (λ (x : Setup _ _ _ _). PartsOnly x mid c.args.step (state_of c.part.new.core))
+          (setup-reached g.D.Deed g.S.BuildHasher g.S.Hasher.Hasher g.K.PartialEq.eq g.K.Hash.hash_input
+          (state_of c.args.core.now) mid c.args.step.thread reaches) c.part.ensures.step;
     })
 
 pub returns-else-reach_shard-clause-step : goal.returns-else-reach_shard-clause-step
@@ -23,5 +25,7 @@ returns-else-reach_shard-clause-step g c =
     visit_looks (record {
       mid = mid;
       enters = inr (inl reaches);
-      looks = subst (λ (x : Setup _ _ _ _). LooksOrIsRefused x mid c.args.step (state_of c.look.new.core)) (setup-reached g.D.Deed g.S.BuildHasher g.S.Hasher.Hasher g.K.PartialEq.eq g.K.Hash.hash_input (state_of c.args.core.now) mid c.args.step.thread reaches) c.look.ensures.step;
+      looks = subst (λ (x : Setup _ _ _ _). LooksOrIsRefused x mid c.args.step (state_of c.look.new.core))
+          (setup-reached g.D.Deed g.S.BuildHasher g.S.Hasher.Hasher g.K.PartialEq.eq g.K.Hash.hash_input
+          (state_of c.args.core.now) mid c.args.step.thread reaches) c.look.ensures.step;
     })

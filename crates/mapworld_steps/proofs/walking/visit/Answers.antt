@@ -7,7 +7,8 @@ use Rattle.mapworld_steps.proofs.Setups.{setup-left}
 use Rattle.mapworld_steps.proofs.walking.visit.Goals as goal
 
 pub returns-then-not-is_in_call-clause-step : goal.returns-then-not-is_in_call-clause-step
-returns-then-not-is_in_call-clause-step g c = visit_looks (record { mid = state_of c.args.core.now; enters = inl refl; looks = c.look.ensures.step })
+returns-then-not-is_in_call-clause-step g c =
+    visit_looks (record { mid = state_of c.args.core.now; enters = inl refl; looks = c.look.ensures.step })
 
 pub returns-then-is_some-clause-step : goal.returns-then-is_some-clause-step
 returns-then-is_some-clause-step g c =
@@ -16,5 +17,7 @@ returns-then-is_some-clause-step g c =
     visit_looks (record {
       mid = mid;
       enters = inr (inr leaves);
-      looks = subst (λ (x : Setup _ _ _ _). LooksOrIsRefused x mid c.args.step (state_of c.look-then-is_some.new.core)) (setup-left g.D.Deed g.S.BuildHasher g.S.Hasher.Hasher g.K.PartialEq.eq g.K.Hash.hash_input (state_of c.args.core.now) mid c.args.step.thread leaves) c.look-then-is_some.ensures.step;
+      looks = subst (λ (x : Setup _ _ _ _). LooksOrIsRefused x mid c.args.step (state_of c.look-then-is_some.new.core))
+          (setup-left g.D.Deed g.S.BuildHasher g.S.Hasher.Hasher g.K.PartialEq.eq g.K.Hash.hash_input
+          (state_of c.args.core.now) mid c.args.step.thread leaves) c.look-then-is_some.ensures.step;
     })

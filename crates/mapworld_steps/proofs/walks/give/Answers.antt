@@ -19,7 +19,9 @@ use Rattle.mapworld_steps.proofs.walks.give.Goals as goal
 pub unreachable-requires : goal.unreachable-requires
 unreachable-requires g c =
     let r = c.index_mut-place.result.now in
-    c.in_default.not-Give c.requires.before.0 (c.replace.ensures.value ∙ phase_here c.args.core.now.places.items c.requires.before.1 r c.index_mut-place.ensures.value)
+    c.in_default.not-Give c.requires.before.0
+    (c.replace.ensures.value ∙ phase_here c.args.core.now.places.items c.requires.before.1 r
+    c.index_mut-place.ensures.value)
 
 pub give_first-requires-clause-first : goal.give_first-requires-clause-first
 give_first-requires-clause-first g c =
@@ -44,7 +46,9 @@ give_first-requires-clause-may g c hold more is =
     let before = sym c.replace.ensures.value ∙ c.in-Give.is in
     let holds = c.requires.sound.holds in
     let mine = first-there p.holds hold more is in
-    may-leave holds _ _ c.requires.room.locks t p here (slice_get_within _ t p here) (out-of-call holds t p here (phase.Give c.in-Give.walk) before refl) 0 hold mine (c.requires.room.held t 0 p hold here mine)
+    may-leave holds _ _ c.requires.room.locks t p here (slice_get_within _ t p here)
+    (out-of-call holds t p here (phase.Give c.in-Give.walk) before refl) 0 hold mine
+    (c.requires.room.held t 0 p hold here mine)
 
 pub returns-clause-step : goal.returns-clause-step
 returns-clause-step g c =
@@ -66,7 +70,8 @@ returns-clause-step g c =
       holds = given.1;
       locks = c.give_first.new.locks;
       gives = given.2;
-      after = rw c.enter.ensures (stepped-by core c.args.step _ _ _ core.tables.items _ _ _ _ c.appended-core.ensures refl refl);
+      after = rw c.enter.ensures
+          (stepped-by core c.args.step _ _ _ core.tables.items _ _ _ _ c.appended-core.ensures refl refl);
     }
 
 pub returns-clause-room : goal.returns-clause-room
@@ -114,5 +119,10 @@ returns-clause-slots g c =
     let here = stands_here core.places.items b r c.index_mut-place.ensures.value in
     let before = sym c.replace.ensures.value ∙ c.in-Give.is in
     let claim = claim_at c.requires.sound t p here before in
-    slots-same_free _ _ core c.requires.sound c.requires.slots t r (record r { holds = c.give_first.new.holds; phase = c.enter.new.phase }) (kept_here core.places.items b r c.index_mut-place.ensures.value) core.blocks.items (calls-same t _ _ refl) claim.1.1
-    (ap phase_key c.enter.ensures) (subst (SlotIsNext g.K.PartialEq.eq core.tables.items core.blocks.items (record r { holds = c.give_first.new.holds; phase = c.enter.new.phase })) (sym c.enter.ensures) tt)
+    slots-same_free _ _ core c.requires.sound c.requires.slots t r
+    (record r { holds = c.give_first.new.holds; phase = c.enter.new.phase })
+    (kept_here core.places.items b r c.index_mut-place.ensures.value) core.blocks.items (calls-same t _ _ refl)
+    claim.1.1
+    (ap phase_key c.enter.ensures)
+    (subst (SlotIsNext g.K.PartialEq.eq core.tables.items core.blocks.items
+    (record r { holds = c.give_first.new.holds; phase = c.enter.new.phase })) (sym c.enter.ensures) tt)

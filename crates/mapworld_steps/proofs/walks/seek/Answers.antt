@@ -14,7 +14,9 @@ use Rattle.mapworld_steps.proofs.walks.seek.Goals as goal
 pub unreachable-requires : goal.unreachable-requires
 unreachable-requires g c =
     let r = c.index_mut-place.result.now in
-    c.in_default.not-Seek c.requires.before.0 (c.replace.ensures.value ∙ phase_here c.args.core.now.places.items c.requires.before.1 r c.index_mut-place.ensures.value)
+    c.in_default.not-Seek c.requires.before.0
+    (c.replace.ensures.value ∙ phase_here c.args.core.now.places.items c.requires.before.1 r
+    c.index_mut-place.ensures.value)
 
 pub returns-clause-step : goal.returns-clause-step
 returns-clause-step g c =
@@ -30,7 +32,8 @@ returns-clause-step g c =
       stands = here;
       walk = c.in-Seek.walk;
       before = before;
-      after = rw c.enter.ensures (stepped-by core c.args.step _ _ _ core.tables.items _ _ _ _ c.appended-core.ensures refl refl);
+      after = rw c.enter.ensures
+          (stepped-by core c.args.step _ _ _ core.tables.items _ _ _ _ c.appended-core.ensures refl refl);
     }
 
 pub returns-clause-room : goal.returns-clause-room
@@ -78,7 +81,10 @@ returns-clause-slots g c =
     let before = sym c.replace.ensures.value ∙ c.in-Seek.is in
     let kept = kept_here core.places.items b r c.index_mut-place.ensures.value in
     let claim = claim_at c.requires.sound t p here before in
-    let next = subst (λ z. SlotIsNext g.K.PartialEq.eq core.tables.items core.blocks.items r z) before (c.requires.slots.next t r kept) in
-    slots-same_free _ _ core c.requires.sound c.requires.slots t r (record r { phase = c.enter.new.phase }) kept core.blocks.items (calls-same t _ _ refl) claim.1.1 (ap phase_key c.enter.ensures)
-    (subst (λ z. SlotIsNext g.K.PartialEq.eq core.tables.items core.blocks.items (record r { phase = c.enter.new.phase }) z) (sym c.enter.ensures)
+    let next = subst (λ z. SlotIsNext g.K.PartialEq.eq core.tables.items core.blocks.items r z) before
+    (c.requires.slots.next t r kept) in
+    slots-same_free _ _ core c.requires.sound c.requires.slots t r (record r { phase = c.enter.new.phase }) kept
+    core.blocks.items (calls-same t _ _ refl) claim.1.1 (ap phase_key c.enter.ensures)
+    (subst (λ z. SlotIsNext g.K.PartialEq.eq core.tables.items core.blocks.items
+    (record r { phase = c.enter.new.phase }) z) (sym c.enter.ensures)
     (next-before g.K.PartialEq.eq core.tables.items core.blocks.items r c.in-Seek.walk c.enter.new.phase next))

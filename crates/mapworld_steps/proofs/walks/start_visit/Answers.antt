@@ -1,4 +1,5 @@
-use Rattle.std.proofs.Common.{◌≡◌, ◌<◌, false, ◌+◌, ◌-◌, suc, length, slice_get, refl, sym, ap, ◌∙◌, subst, arith, length-append}
+use Rattle.std.proofs.Common.{◌≡◌, ◌<◌, false, ◌+◌, ◌-◌, suc, length, slice_get, refl, sym, ap, ◌∙◌, subst, arith}
+use Rattle.std.proofs.Common.{length-append}
 use Rattle.mapworld_state.specs.Places.{place_of}
 use Rattle.mapworld_state.specs.Classes.{class_of, walks_in}
 use Rattle.mapworld_state.specs.Slots.{phase_key, SlotIsNext}
@@ -21,7 +22,9 @@ use Rattle.mapworld_steps.proofs.walks.start_visit.Goals as goal
 pub unreachable-requires : goal.unreachable-requires
 unreachable-requires g c =
     let r = c.index_mut-place.result.now in
-    c.in_default.not-Onward c.requires.before.0 (c.replace.ensures.value ∙ phase_here c.args.core.now.places.items c.requires.before.1 r c.index_mut-place.ensures.value)
+    c.in_default.not-Onward c.requires.before.0
+    (c.replace.ensures.value ∙ phase_here c.args.core.now.places.items c.requires.before.1 r
+    c.index_mut-place.ensures.value)
 
 pub overflow_add-place : goal.overflow_add-place
 overflow_add-place g c =
@@ -50,8 +53,11 @@ begin-requires g c =
     let between = walks_at c.requires.sound t p here before in
     record {
       may = rw (c.asks_for-call.ensures, c.walk_mode.ensures)
-          (may-enter c.requires.sound.holds _ _ c.requires.room.locks t p here (slice_get_within _ t p here) c.requires.out (p.shard + 1)
-          (between-apart p (walk_mode c.in-Onward.walk) (hands_over c.in-Onward.walk) claim.2) (subst (λ n. p.shard + 1 < n) (length-map core.tables.items shard_pairs) between.left) false (walk_mode c.in-Onward.walk));
+          (may-enter c.requires.sound.holds _ _ c.requires.room.locks t p here (slice_get_within _ t p here)
+          c.requires.out (p.shard + 1)
+          (between-apart p (walk_mode c.in-Onward.walk) (hands_over c.in-Onward.walk) claim.2)
+          (subst (λ n. p.shard + 1 < n) (length-map core.tables.items shard_pairs) between.left) false
+          (walk_mode c.in-Onward.walk));
     }
 
 pub returns-clause-step : goal.returns-clause-step
@@ -71,7 +77,8 @@ returns-clause-step g c =
       out = c.requires.out;
       locks = c.begin.new.self;
       begins = rw (c.asks_for-call.ensures, c.walk_mode.ensures) at c.begin.ensures;
-      after = rw c.enter.ensures (stepped-by core c.args.step _ _ _ core.tables.items _ _ _ _ c.appended-core.ensures refl refl);
+      after = rw c.enter.ensures
+          (stepped-by core c.args.step _ _ _ core.tables.items _ _ _ _ c.appended-core.ensures refl refl);
     }
 
 pub returns-clause-room : goal.returns-clause-room
@@ -100,7 +107,13 @@ returns-clause-room g c =
       unanswered = omega (arith, ap owes c.enter.ensures, ap owes before);
       answers = omega (arith, ap owes c.enter.ensures, ap owes before);
       replies = refl;
-      listing = omega (arith, ap (lists (n - (p.shard + 1 + 1))) c.enter.ensures, ap (lists (n - (p.shard + 1))) before, left, shards);
+      listing = omega (
+        arith,
+        ap (lists (n - (p.shard + 1 + 1))) c.enter.ensures,
+        ap (lists (n - (p.shard + 1))) before,
+        left,
+        shards,
+      );
       blocks = refl;
       visits = λ h. in-walk p (ap (λ z. walks_in (class_of z)) before);
       capacity = refl;
@@ -121,5 +134,10 @@ returns-clause-slots g c =
     let here = stands_here core.places.items b r c.index_mut-place.ensures.value in
     let before = sym c.replace.ensures.value ∙ c.in-Onward.is in
     let claim = claim_at c.requires.sound t p here before in
-    slots-same_free _ _ core c.requires.sound c.requires.slots t r (record r { shard = r.shard + 1; phase = c.enter.new.phase }) (kept_here core.places.items b r c.index_mut-place.ensures.value) core.blocks.items (calls-same t _ _ refl) claim.1.1
-    (ap phase_key c.enter.ensures) (subst (SlotIsNext g.K.PartialEq.eq core.tables.items core.blocks.items (record r { shard = r.shard + 1; phase = c.enter.new.phase })) (sym c.enter.ensures) tt)
+    slots-same_free _ _ core c.requires.sound c.requires.slots t r
+    (record r { shard = r.shard + 1; phase = c.enter.new.phase })
+    (kept_here core.places.items b r c.index_mut-place.ensures.value) core.blocks.items (calls-same t _ _ refl)
+    claim.1.1
+    (ap phase_key c.enter.ensures)
+    (subst (SlotIsNext g.K.PartialEq.eq core.tables.items core.blocks.items
+    (record r { shard = r.shard + 1; phase = c.enter.new.phase })) (sym c.enter.ensures) tt)

@@ -1,4 +1,5 @@
-use Rattle.std.proofs.Common.{◌≡◌, ℕ, ◌+◌, List, ◌∷◌, ◌++◌, [], take, length, Some, slice_get, slice_set, slice_index_or, refl, ap, sym, ◌∙◌, subst, arith, take_all, length-set}
+use Rattle.std.proofs.Common.{◌≡◌, ℕ, ◌+◌, List, ◌∷◌, ◌++◌, [], take, length, Some, slice_get, slice_set}
+use Rattle.std.proofs.Common.{slice_index_or, refl, ap, sym, ◌∙◌, subst, arith, take_all, length-set}
 use Rattle.std.proofs.lemmas.List.{take_more}
 use Rattle.std.proofs.lemmas.Option.{slice_get-get_or}
 use Rattle.mapworld_calls.specs.declared.block.Block.{Block}
@@ -19,14 +20,27 @@ loop-index-preserved g c =
     let more : take (n + 1) visits ≡ take n visits ++ i ∷ [] = take_more visits n 0 c.loop-index-test.true in
     let within = c.requires n i (slice_get-get_or visits n 0 c.loop-index-test.true) in
     let at : slice_get c.loop-index.blocks.items i ≡ Some b =
-    slice_get-get_or c.loop-index.blocks.items i b (omega (arith, within, c.loop-index.invariant.1)) ∙ ap (λ z. Some z) (sym c.index_mut.ensures.value) in (
-      subst (λ vs. EndsVisits c.args.blocks.now.items vs c.args.end (slice_set c.loop-index.blocks.items i ended)) (sym more)
-          (ends-more c.args.blocks.now.items (take n visits) i c.args.end c.loop-index.blocks.items b ended c.loop-index.invariant.0 at
-          (record { thread = refl; call = refl; visit = refl; start = refl; position = refl; end = refl; done = refl; visited = refl })),
+    slice_get-get_or c.loop-index.blocks.items i b (omega (arith, within, c.loop-index.invariant.1))
+    ∙ ap (λ z. Some z) (sym c.index_mut.ensures.value) in (
+      subst (λ vs. EndsVisits c.args.blocks.now.items vs c.args.end (slice_set c.loop-index.blocks.items i ended))
+          (sym more)
+          (ends-more c.args.blocks.now.items (take n visits) i c.args.end c.loop-index.blocks.items b ended
+          c.loop-index.invariant.0 at
+          (record {
+            thread = refl;
+            call = refl;
+            visit = refl;
+            start = refl;
+            position = refl;
+            end = refl;
+            done = refl;
+            visited = refl;
+          })),
       length-set c.loop-index.blocks.items i ended ∙ c.loop-index.invariant.1,
       c.loop-index.invariant.2,
     )
 
 pub returns-clause-ended : goal.returns-clause-ended
 returns-clause-ended g c =
-    subst (λ vs. EndsVisits c.args.blocks.now.items vs c.args.end c.loop-index.blocks.items) (take_all c.loop-index.index-index c.args.visits.now c.loop-index-test.false) c.loop-index.invariant.0
+    subst (λ vs. EndsVisits c.args.blocks.now.items vs c.args.end c.loop-index.blocks.items)
+    (take_all c.loop-index.index-index c.args.visits.now c.loop-index-test.false) c.loop-index.invariant.0

@@ -7,11 +7,14 @@ use Rattle.mapworld_transitions.proofs.pairs.grow.Goals as goal
 pub returns-clause-grown : goal.returns-clause-grown
 returns-clause-grown g c =
     let h = c.requires.hashed in
-    on-ok c.reserve.result (count c.reserve.new.self.slots + (c.len-more.result + 4) ≤ c.reserve.new.self.room) c.reserve.ensures.ok (λ enough.
+    on-ok c.reserve.result (count c.reserve.new.self.slots + (c.len-more.result + 4) ≤ c.reserve.new.self.room)
+    c.reserve.ensures.ok (λ enough.
     let same = c.reserve.ensures.pairs.counted in
     let many = c.len-more.ensures.count in
-    grown-same g.K.PartialEq.eq g.met.K.Eq.laws h.0 h.1 c.args.shard.now c.reserve.new.self h.2 c.reserve.ensures.sound c.reserve.ensures.pairs (omega (arith, enough, same, many)))
+    grown-same g.K.PartialEq.eq g.met.K.Eq.laws h.0 h.1 c.args.shard.now c.reserve.new.self h.2 c.reserve.ensures.sound
+    c.reserve.ensures.pairs (omega (arith, enough, same, many)))
 
 pub returns-clause-hashed : goal.returns-clause-hashed
 returns-clause-hashed g c hash hashed =
-    each-same g.K.PartialEq.eq g.met.K.Eq.laws (λ h k. h ≡ hash k) c.args.shard.now c.reserve.new.self c.reserve.ensures.sound c.reserve.ensures.pairs hashed
+    each-same g.K.PartialEq.eq g.met.K.Eq.laws (λ h k. h ≡ hash k) c.args.shard.now c.reserve.new.self
+    c.reserve.ensures.sound c.reserve.ensures.pairs hashed

@@ -1,4 +1,5 @@
-use Rattle.std.proofs.Common.{◌≡◌, ℕ, zero, suc, ◌<◌, ◌≤◌, true, length, Result, Ok, Err, OnErr, refl, sym, ap, ◌∙◌, subst, arith, ⊎_elim}
+use Rattle.std.proofs.Common.{◌≡◌, ℕ, zero, suc, ◌<◌, ◌≤◌, true, length, Result, Ok, Err, OnErr, refl, sym, ap, ◌∙◌}
+use Rattle.std.proofs.Common.{subst, arith, ⊎_elim}
 use Rattle.dashmap_table.specs.Slots.{count}
 use Rattle.dashmap_table.proofs.Sounds.{length-pairs_of}
 use Rattle.dashmap_table.proofs.Effects.{each-same}
@@ -20,8 +21,10 @@ some-pairs (suc n) x e h = omega arith
 pub returns-in-ShrinkToFit-clause-looked : goal.returns-in-ShrinkToFit-clause-looked
 returns-in-ShrinkToFit-clause-looked g c =
     let h = c.requires.hashed in
-    subst (λ f. IsLookedAt g.K.PartialEq.eq f (shard_pairs c.args.shard.now) (shard_pairs c.shrink.new.self)) (sym c.in-ShrinkToFit.is)
-    (shrunk-same g.K.PartialEq.eq g.met.K.Eq.laws h.0 h.1 c.args.shard.now c.shrink.new.self h.2 c.shrink.ensures.sound c.shrink.ensures.pairs c.shrink.ensures.room)
+    subst (λ f. IsLookedAt g.K.PartialEq.eq f (shard_pairs c.args.shard.now) (shard_pairs c.shrink.new.self))
+    (sym c.in-ShrinkToFit.is)
+    (shrunk-same g.K.PartialEq.eq g.met.K.Eq.laws h.0 h.1 c.args.shard.now c.shrink.new.self h.2 c.shrink.ensures.sound
+    c.shrink.ensures.pairs c.shrink.ensures.room)
 
 pub returns-in-ShrinkToFit-clause-refused : goal.returns-in-ShrinkToFit-clause-refused
 returns-in-ShrinkToFit-clause-refused g c =
@@ -32,10 +35,14 @@ returns-in-ShrinkToFit-clause-refused g c =
 
 pub returns-in-ShrinkToFit-clause-hashed : goal.returns-in-ShrinkToFit-clause-hashed
 returns-in-ShrinkToFit-clause-hashed g c hash hashed =
-    each-same g.K.PartialEq.eq g.met.K.Eq.laws (λ h k. h ≡ hash k) c.args.shard.now c.shrink.new.self c.shrink.ensures.sound c.shrink.ensures.pairs hashed
+    each-same g.K.PartialEq.eq g.met.K.Eq.laws (λ h k. h ≡ hash k) c.args.shard.now c.shrink.new.self
+    c.shrink.ensures.sound c.shrink.ensures.pairs hashed
 
 pub returns-in-Iter-clause-refused : goal.returns-in-Iter-clause-refused
 returns-in-Iter-clause-refused g c =
     on-err c.take_room.result c.take_room.ensures.some (λ e is some.
-    let many = length-pairs_of c.args.shard.now.slots in
-    (refl, ⊎_elim (λ of. ap walk_may_grow of.1) (λ of. ap walk_may_grow of.1) c.in-Iter.is, omega (arith, many, some, c.len.ensures.count)))
+    let many = length-pairs_of c.args.shard.now.slots in (
+      refl,
+      ⊎_elim (λ of. ap walk_may_grow of.1) (λ of. ap walk_may_grow of.1) c.in-Iter.is,
+      omega (arith, many, some, c.len.ensures.count),
+    ))

@@ -12,4 +12,6 @@ loop-call-preserved c =
     let ys = c.loop-call.calls in
     let i = c.loop-call.call-index in
     let within : i < length ys = omega arith in
-    ap (set ys i) c.settled.ensures ∙ map_over_more (option_map (settled c.args.by c.args.said)) xs ys i (get_or ys i None) c.loop-call-test.true c.loop-call.invariant (sym (get_or_from_slice_get ys i (get_or ys i None) (get_or ys i None) (slice_get-get_or ys i None within)))
+    ap (set ys i) c.settled.ensures ∙ map_over_more (option_map (settled c.args.by c.args.said)) xs ys i
+    (get_or ys i None) c.loop-call-test.true c.loop-call.invariant
+    (sym (get_or_from_slice_get ys i (get_or ys i None) (get_or ys i None) (slice_get-get_or ys i None within)))

@@ -10,5 +10,7 @@ unpark≢stop e = cc
 
 pub returns-clause-next : goal.returns-clause-next
 returns-clause-next g c s here =
-    next_taken _ _ c.args.thread (machine c.args.lot.now) (machine c.take_next.new.self) c.take_next.result c.flatten-taking.result (c.flatten-taking.ensures ∙ ap option_flatten c.ok.ensures.value) (λ token. Unpark) c.requires.inside c.take_next.ensures s here (c.requires.passed s here) (λ token e. unpark≢stop e)
+    next_taken _ _ c.args.thread (machine c.args.lot.now) (machine c.take_next.new.self) c.take_next.result
+    c.flatten-taking.result (c.flatten-taking.ensures ∙ ap option_flatten c.ok.ensures.value) (λ token. Unpark)
+    c.requires.inside c.take_next.ensures s here (c.requires.passed s here) (λ token e. unpark≢stop e)
     (λ token op f gives. (gives.met.1.0, gives.met.1.1))

@@ -11,4 +11,6 @@ pub loop-preserved : goal.loop-preserved
 loop-preserved g c =
     let i = c.loop.counter in
     let one : Machine = record (fresh c.args.threads 0) { places = replicate i (Some Running) } in
-    c.in_default.ensures.ok.2 ∙ ap registered c.loop.invariant ∙ ap (λ (ps : List (Option Place)). record (fresh c.args.threads 0) { places = ps }) (registered_threads_run one i refl)
+    c.in_default.ensures.ok.2 ∙ ap registered c.loop.invariant
+    ∙ ap (λ (ps : List (Option Place)). record (fresh c.args.threads 0) { places = ps })
+    (registered_threads_run one i refl)

@@ -11,12 +11,15 @@ use Rattle.parking_lot_machine_calls.proofs.call_views.late_rw_mode.Goals as goa
 pub returns-in-Quits : goal.returns-in-Quits
 returns-in-Quits c = λ order us.
     let k = c.in-Quits.sleeper in
-    c.late_sleeper_mode-in-Quits.ensures (subst IsLateInOrder c.in-Quits.is order) us ∙ sym (mode_stays Back (sleeper_role c.args.others of_rw.Listed us k)) ∙ ap (λ p. rw_mode (late_rw_role c.args.others (rw_spot c.args.spot) us p)) (sym c.in-Quits.is)
+    c.late_sleeper_mode-in-Quits.ensures (subst IsLateInOrder c.in-Quits.is order) us
+    ∙ sym (mode_stays Back (sleeper_role c.args.others of_rw.Listed us k))
+    ∙ ap (λ p. rw_mode (late_rw_role c.args.others (rw_spot c.args.spot) us p)) (sym c.in-Quits.is)
 
 pub returns-in-WasTaken : goal.returns-in-WasTaken
 returns-in-WasTaken c = λ order us.
     let k = c.in-WasTaken.sleeper in
     c.late_sleeper_mode-in-WasTaken.ensures (subst IsLateInOrder c.in-WasTaken.is order) us
     ∙ ap (λ m. rw_mode (sleeper_role c.args.others (of_rw.Off c.in-WasTaken.by m) us k)) c.told_as.ensures
-    ∙ sym (mode_stays Back (sleeper_role c.args.others (of_rw.Off c.in-WasTaken.by (of_mutex.mark_of c.in-WasTaken.handed)) us k))
+    ∙ sym (mode_stays Back
+    (sleeper_role c.args.others (of_rw.Off c.in-WasTaken.by (of_mutex.mark_of c.in-WasTaken.handed)) us k))
     ∙ ap (λ p. rw_mode (late_rw_role c.args.others (rw_spot c.args.spot) us p)) (sym c.in-WasTaken.is)

@@ -5,7 +5,8 @@ use Rattle.parking_lot_machine_calls.specs.CallRoles.{rw_spot}
 use Rattle.parking_lot_machine_calls.proofs.call_views.rw_mode.Goals as goal
 
 pub returns-in-Sleeps : goal.returns-in-Sleeps
-returns-in-Sleeps c = λ us. c.sleeper_mode.ensures us ∙ ap (λ p. rw_mode (of_rw.role c.args.others (rw_spot c.args.spot) us p)) (sym c.in-Sleeps.is)
+returns-in-Sleeps c = λ us. c.sleeper_mode.ensures us
+    ∙ ap (λ p. rw_mode (of_rw.role c.args.others (rw_spot c.args.spot) us p)) (sym c.in-Sleeps.is)
 
 pub returns-in-Scans : goal.returns-in-Scans
 returns-in-Scans c = λ us.

@@ -1,5 +1,6 @@
 use Rattle.parking_lot_machine_waits.proofs.Ranking.{step_pays}
-use Rattle.parking_lot_machine_waits.proofs.RankOthers.{ask_costs, call_costs, deadline_costs, late_costs, others_go_on, stopped_lets}
+use Rattle.parking_lot_machine_waits.proofs.RankOthers.{ask_costs, call_costs, deadline_costs, late_costs, others_go_on}
+use Rattle.parking_lot_machine_waits.proofs.RankOthers.{stopped_lets}
 use Rattle.parking_lot_machine_waits.proofs.laws.steps_are_paid_for.Goals as goal
 
 pub returns : goal.returns

@@ -14,8 +14,11 @@ loop-waiter-preserved g c =
     let s = state c.loop-waiter.rows in
     let u = state c.take_in.new.self in
     let taken : IsTakenIn (back_in c.args.seats.now w) c.args.lock (timed_in c.args.machine.now w) s u =
-    subst (λ (b : Bool). IsTakenIn (back_in c.args.seats.now w) c.args.lock b s u) c.timed_in.ensures (subst (λ (k : ℕ). IsTakenIn k c.args.lock c.timed_in.result s u) c.back_in.ensures c.take_in.ensures) in
+    subst (λ (b : Bool). IsTakenIn (back_in c.args.seats.now w) c.args.lock b s u) c.timed_in.ensures
+    (subst (λ (k : ℕ). IsTakenIn k c.args.lock c.timed_in.result s u) c.back_in.ensures c.take_in.ensures) in
     record {
-      moved = one_more c.args.seats.now c.args.machine.now c.args.lock (take i ws) (take (i + 1) ws) w (state c.args.rows.now) s u (take_more ws i 0 c.loop-waiter-test.true) c.loop-waiter.invariant.moved taken;
-      may = (subst (λ (vs : List ℕ). MayMove c.args.seats.now c.args.machine.now c.args.lock vs s) (drop_more ws i 0 c.loop-waiter-test.true) c.loop-waiter.invariant.may).2 u taken;
+      moved = one_more c.args.seats.now c.args.machine.now c.args.lock (take i ws) (take (i + 1) ws) w
+          (state c.args.rows.now) s u (take_more ws i 0 c.loop-waiter-test.true) c.loop-waiter.invariant.moved taken;
+      may = (subst (λ (vs : List ℕ). MayMove c.args.seats.now c.args.machine.now c.args.lock vs s)
+          (drop_more ws i 0 c.loop-waiter-test.true) c.loop-waiter.invariant.may).2 u taken;
     }

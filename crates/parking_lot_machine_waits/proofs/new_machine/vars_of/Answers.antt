@@ -10,9 +10,18 @@ loop-is_variable-preserved g c =
     let bs = c.args.variables.now in
     let b = get_or bs i false in
     record {
-      listed = c.push_reserved.ensures.items ∙ ap (λ r. c.loop-is_variable.vars.items ++ r ∷ []) c.in_ok-place.ensures.ok ∙ ap (λ xs. xs ++ var_of c.args.threads b ∷ []) c.loop-is_variable.invariant.listed
-          ∙ sym (map-append (var_of c.args.threads) (take i bs) (b ∷ [])) ∙ ap (map (var_of c.args.threads)) (sym (take_more bs i false c.loop-is_variable-test.true));
-      known = subst AreKnown (sym c.push_reserved.ensures.items) (known_more c.loop-is_variable.vars.items c.in_ok-place.place c.loop-is_variable.invariant.known c.in_ok-place.ensures.known);
-      few = omega (arith, c.loop-is_variable.invariant.few, ap length c.push_reserved.ensures.items, length_push c.loop-is_variable.vars.items c.in_ok-place.place);
+      listed = c.push_reserved.ensures.items ∙ ap (λ r. c.loop-is_variable.vars.items ++ r ∷ [])
+          c.in_ok-place.ensures.ok ∙ ap (λ xs. xs ++ var_of c.args.threads b ∷ []) c.loop-is_variable.invariant.listed
+          ∙ sym (map-append (var_of c.args.threads) (take i bs) (b ∷ []))
+          ∙ ap (map (var_of c.args.threads)) (sym (take_more bs i false c.loop-is_variable-test.true));
+      known = subst AreKnown (sym c.push_reserved.ensures.items)
+          (known_more c.loop-is_variable.vars.items c.in_ok-place.place c.loop-is_variable.invariant.known
+          c.in_ok-place.ensures.known);
+      few = omega (
+        arith,
+        c.loop-is_variable.invariant.few,
+        ap length c.push_reserved.ensures.items,
+        length_push c.loop-is_variable.vars.items c.in_ok-place.place,
+      );
       room = omega (arith, c.loop-is_variable.invariant.room, c.push_reserved.ensures.capacity);
     }

@@ -5,10 +5,16 @@ use Rattle.parking_lot_world.specs.WorldCalls.{row_kind}
 use Rattle.parking_lot_world.proofs.new_world.rows_of.Goals as goal
 
 pub loop-kind-init : goal.loop-kind-init
-loop-kind-init g c = record { listed = c.in_ok-rows.ensures.items; few = omega (arith, ap length c.in_ok-rows.ensures.items); room = omega (arith, c.in_ok-rows.ensures.capacity) }
+loop-kind-init g c =
+    record {
+      listed = c.in_ok-rows.ensures.items;
+      few = omega (arith, ap length c.in_ok-rows.ensures.items);
+      room = omega (arith, c.in_ok-rows.ensures.capacity);
+    }
 
 pub push_reserved-requires : goal.push_reserved-requires
-push_reserved-requires g c = omega (arith, c.loop-kind.invariant.few, c.loop-kind.invariant.room, c.loop-kind-test.true, c.loop-kind.rows.ok.0)
+push_reserved-requires g c =
+    omega (arith, c.loop-kind.invariant.few, c.loop-kind.invariant.room, c.loop-kind-test.true, c.loop-kind.rows.ok.0)
 
 pub loop-kind-preserved : goal.loop-kind-preserved
 loop-kind-preserved g c =
@@ -16,11 +22,19 @@ loop-kind-preserved g c =
     let ks = c.args.kinds.now in
     let k : LockKind = slice_index_or ks i LockKind.Mutex in
     record {
-      listed = c.push_reserved.ensures.items ∙ ap (λ r. c.loop-kind.rows.items ++ r ∷ []) c.row.ensures ∙ ap (λ xs. xs ++ row_kind k ∷ []) c.loop-kind.invariant.listed
-          ∙ sym (map-append row_kind (take i ks) (k ∷ [])) ∙ ap (map row_kind) (sym (take_more ks i LockKind.Mutex c.loop-kind-test.true));
-      few = omega (arith, c.loop-kind.invariant.few, ap length c.push_reserved.ensures.items, length_push c.loop-kind.rows.items c.row.result);
+      listed = c.push_reserved.ensures.items ∙ ap (λ r. c.loop-kind.rows.items ++ r ∷ []) c.row.ensures
+          ∙ ap (λ xs. xs ++ row_kind k ∷ []) c.loop-kind.invariant.listed
+          ∙ sym (map-append row_kind (take i ks) (k ∷ []))
+          ∙ ap (map row_kind) (sym (take_more ks i LockKind.Mutex c.loop-kind-test.true));
+      few = omega (
+        arith,
+        c.loop-kind.invariant.few,
+        ap length c.push_reserved.ensures.items,
+        length_push c.loop-kind.rows.items c.row.result,
+      );
       room = omega (arith, c.loop-kind.invariant.room, c.push_reserved.ensures.capacity);
     }
 
 pub returns-clause-ok : goal.returns-clause-ok
-returns-clause-ok g c = c.loop-kind.invariant.listed ∙ ap (map row_kind) (take_all c.loop-kind.kind-index c.args.kinds.now (omega (arith, c.loop-kind-test.false)))
+returns-clause-ok g c = c.loop-kind.invariant.listed
+    ∙ ap (map row_kind) (take_all c.loop-kind.kind-index c.args.kinds.now (omega (arith, c.loop-kind-test.false)))

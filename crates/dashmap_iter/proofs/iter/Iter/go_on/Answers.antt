@@ -11,8 +11,11 @@ loop-self-init g c = (0, refl)
 
 pub loop-self-preserved : goal.loop-self-preserved
 loop-self-preserved g c =
-    let through = MatchOption-at_none (IsThrough (λ h. read_guard_value h.inner) c.loop-self.self) (IsNextFull (slots_held (λ h. read_guard_value h.inner) c.loop-self.self.held) c.loop-self.self.from) c.in_default.is c.next_slot.ensures in
+    let through = MatchOption-at_none (IsThrough (λ h. read_guard_value h.inner) c.loop-self.self)
+    (IsNextFull (slots_held (λ h. read_guard_value h.inner) c.loop-self.self.held) c.loop-self.self.from)
+    c.in_default.is c.next_slot.ensures in
     (suc c.loop-self.invariant.0, (c.loop-self.self, c.loop-self.invariant.1, through, c.in_ok-enter.ensures.entered))
 
 pub returns-in_err-enter-clause-refused : goal.returns-in_err-enter-clause-refused
-returns-in_err-enter-clause-refused g c = rw c.in_err-enter.ensures.refused (on_err c.from_residual.result c.loop-self.invariant)
+returns-in_err-enter-clause-refused g c = rw c.in_err-enter.ensures.refused
+    (on_err c.from_residual.result c.loop-self.invariant)

@@ -10,7 +10,14 @@ returns-then-stays-clause-visit g c =
     let left = c.ask-stays.new.value in
     let next = c.ask-stays.result.1 in
     visits_shown (Keeps g.F.FnMut) (c.args.f, c.args.shard.now) _ c.args.slot key value c.lend-value.ensures.pair
-    (λ e ke ve. (true, left, subst (λ b. AnswersNext g.F.FnMut c.args.f e.key e.value b left next) c.if-stays.true (answers_entry g.F.FnMut c.args.f key value c.ask-stays.result.0 left next e ke ve c.ask-stays.ensures.answer), refl))
+    (λ e ke ve. (
+      true,
+      left,
+      subst (λ b. AnswersNext g.F.FnMut c.args.f e.key e.value b left next) c.if-stays.true
+          (answers_entry g.F.FnMut c.args.f key value c.ask-stays.result.0 left next e ke ve
+          c.ask-stays.ensures.answer),
+      refl,
+    ))
 
 pub returns-clause-visit : goal.returns-clause-visit
 returns-clause-visit g c =
@@ -19,4 +26,11 @@ returns-clause-visit g c =
     let left = c.ask-stays.new.value in
     let next = c.ask-stays.result.1 in
     visits_shown (Keeps g.F.FnMut) (c.args.f, c.args.shard.now) _ c.args.slot key value c.lend-value.ensures.pair
-    (λ e ke ve. (false, left, subst (λ b. AnswersNext g.F.FnMut c.args.f e.key e.value b left next) c.if-stays.false (answers_entry g.F.FnMut c.args.f key value c.ask-stays.result.0 left next e ke ve c.ask-stays.ensures.answer), c.remove-pair.ensures.frees))
+    (λ e ke ve. (
+      false,
+      left,
+      subst (λ b. AnswersNext g.F.FnMut c.args.f e.key e.value b left next) c.if-stays.false
+          (answers_entry g.F.FnMut c.args.f key value c.ask-stays.result.0 left next e ke ve
+          c.ask-stays.ensures.answer),
+      c.remove-pair.ensures.frees,
+    ))

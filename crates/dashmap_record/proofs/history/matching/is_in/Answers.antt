@@ -16,10 +16,15 @@ returns-in-Ok g c =
     let up = list_rises (λ l. l.items) c.args.lists.now c.args.number c.in-Some.list.now there.0 there.1 c.requires in
     let facts = c.binary_search_by_key.ensures in
     let by_key = facts.position (λ e. e.stamp) (answers_always _ _ _ (λ f a r q called. search rules)) in
-    let result = searched same (same-stamp g.K.PartialEq.eq g.V.PartialEq.eq) c.deref.result.now (subst (Rises stamp_of) (sym c.deref.ensures.value) up) c.args.entry.now c.binary_search_by_key.result facts.bound by_key in
-    let hit = subst (λ r. IfOk r (λ at. (d : _) → d ≡ get_or c.deref.result.now at d → list_any (same c.args.entry.now) c.deref.result.now ≡ same c.args.entry.now d)) c.in-Ok.is result.hit in
+    let result = searched same (same-stamp g.K.PartialEq.eq g.V.PartialEq.eq) c.deref.result.now
+    (subst (Rises stamp_of) (sym c.deref.ensures.value) up) c.args.entry.now c.binary_search_by_key.result
+    facts.bound by_key in
+    let hit = subst (λ r. IfOk r
+    (λ at. (d : _) → d ≡ get_or c.deref.result.now at d → list_any (same c.args.entry.now) c.deref.result.now ≡ same
+    c.args.entry.now d)) c.in-Ok.is result.hit in
     c.same_entry.ensures
-    ∙ (sym (hit c.index.result.now (c.index.ensures ∙ ap (λ es. get_or es c.in-Ok.at c.index.result.now) (sym c.deref.ensures.value)))
+    ∙ (sym (hit c.index.result.now
+    (c.index.ensures ∙ ap (λ es. get_or es c.in-Ok.at c.index.result.now) (sym c.deref.ensures.value)))
     ∙ ap (list_any (same c.args.entry.now)) (c.deref.ensures.value ∙ sym list))
 
 pub returns-in-Err : goal.returns-in-Err
@@ -30,6 +35,9 @@ returns-in-Err g c =
     let up = list_rises (λ l. l.items) c.args.lists.now c.args.number c.in-Some.list.now there.0 there.1 c.requires in
     let facts = c.binary_search_by_key.ensures in
     let by_key = facts.position (λ e. e.stamp) (answers_always _ _ _ (λ f a r q called. search rules)) in
-    let result = searched same (same-stamp g.K.PartialEq.eq g.V.PartialEq.eq) c.deref.result.now (subst (Rises stamp_of) (sym c.deref.ensures.value) up) c.args.entry.now c.binary_search_by_key.result facts.bound by_key in
-    let miss = subst (λ r. IfErr r (λ _. list_any (same c.args.entry.now) c.deref.result.now ≡ false)) c.in-Err.is result.miss in
+    let result = searched same (same-stamp g.K.PartialEq.eq g.V.PartialEq.eq) c.deref.result.now
+    (subst (Rises stamp_of) (sym c.deref.ensures.value) up) c.args.entry.now c.binary_search_by_key.result
+    facts.bound by_key in
+    let miss = subst (λ r. IfErr r (λ _. list_any (same c.args.entry.now) c.deref.result.now ≡ false)) c.in-Err.is
+    result.miss in
     sym miss ∙ ap (list_any (same c.args.entry.now)) (c.deref.ensures.value ∙ sym list)

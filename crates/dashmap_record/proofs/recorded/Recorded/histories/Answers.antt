@@ -7,5 +7,7 @@ pub returns-clause-judged : goal.returns-clause-judged
 returns-clause-judged g c =
     let eq = g.K.PartialEq.eq in
     let alike = g.V.PartialEq.eq in
-    All-weaker (λ history. Replies eq alike (no_pair g.row.K.Denot g.row.V.Denot) history.items) (λ history. HoldsForJudges eq alike history.items)
-    (λ history hold. judged eq alike g.met.K.Eq.laws g.met.V.Eq.laws history.items hold) c.take_histories.result.items c.take_histories.ensures.replies
+    All-weaker (λ history. Replies eq alike (no_pair g.row.K.Denot g.row.V.Denot) history.items)
+    (λ history. HoldsForJudges eq alike history.items)
+    (λ history hold. judged eq alike g.met.K.Eq.laws g.met.V.Eq.laws history.items hold) c.take_histories.result.items
+    c.take_histories.ensures.replies

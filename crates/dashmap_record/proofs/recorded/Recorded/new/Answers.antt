@@ -7,7 +7,8 @@ use Rattle.dashmap_record.proofs.recorded.Recorded.new.Goals as goal
 pub invariant_of-result : goal.invariant_of-result
 invariant_of-result g c =
     let amount = c.is_shard_amount.ensures.0 c.if-not-is_shard_amount.false in
-    let count = all_locked c.in-Ok.room.locks.items c.in-Ok-lock_shards.shards.items c.in-Ok.room.shards.items c.args.shards c.in-Ok.ensures.locks.0 c.in-Ok.ensures.shards c.in-Ok-lock_shards.ensures in (
+    let count = all_locked c.in-Ok.room.locks.items c.in-Ok-lock_shards.shards.items c.in-Ok.room.shards.items
+    c.args.shards c.in-Ok.ensures.locks.0 c.in-Ok.ensures.shards c.in-Ok-lock_shards.ensures in (
       subst IsShardAmount (sym count) amount,
       c.in-Ok.ensures.lists.0,
       subst (λ n. n ≤ vec_capacity c.in-Ok.room.lists) (sym count) c.in-Ok.ensures.lists.1,

@@ -5,4 +5,6 @@ use Rattle.dashmap_set.proofs.set.DashSet.clear.Goals as goal
 
 pub returns : goal.returns
 returns g c =
-    subst (λ m. EachHeld {K = g.row.K.Denot} {V = Unit {0}} g.row.Q-ExclusiveGuard.Denot g.row.Q-Runtime.Denot g.row.Q-Party.Denot {F = Unit {0}} m (λ p q. (i : ℕ) → at q.1.slots i ≡ None) (tt {0}) (tt {0})) c.self.view_is c.clear.ensures
+    subst (λ m. EachHeld {K = g.row.K.Denot} {V = Unit {0}} g.row.Q-ExclusiveGuard.Denot g.row.Q-Runtime.Denot
+    g.row.Q-Party.Denot {F = Unit {0}} m (λ p q. (i : ℕ) → at q.1.slots i ≡ None) (tt {0}) (tt {0})) c.self.view_is
+    c.clear.ensures

@@ -4,4 +4,5 @@ use Rattle.dashmap_table.proofs.Sounds.{length-pairs_of}
 use Rattle.dashmap_table.proofs.shard.Shard.into_pairs.Goals as goal
 
 pub new-requires : goal.new-requires
-new-requires g c = c.len-left.ensures.count ∙ (ap count (sym c.into_slots.ensures) ∙ sym (length-pairs_of c.into_slots.result.items))
+new-requires g c = c.len-left.ensures.count
+    ∙ (ap count (sym c.into_slots.ensures) ∙ sym (length-pairs_of c.into_slots.result.items))

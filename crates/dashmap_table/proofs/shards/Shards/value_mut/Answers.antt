@@ -8,6 +8,8 @@ returns-then-is_full g c = (
   record {
     writes_back = tt;
     value = search rules;
-    seen = seen_by_its_key g.S.BuildHasher g.S.Hasher.Hasher g.K.Hash.hash_input g.K.PartialEq.eq g.met.K.Eq.laws g.met.K.Hash.respects_eq c.self.inside.shards.items c.self.inside.hasher c.args.self.now c.self.view_is c.self.invariant c.args.shard c.args.slot;
+    seen = seen_by_its_key g.S.BuildHasher g.S.Hasher.Hasher g.K.Hash.hash_input g.K.PartialEq.eq g.met.K.Eq.laws
+        g.met.K.Hash.respects_eq c.self.inside.shards.items c.self.inside.hasher c.args.self.now c.self.view_is
+        c.self.invariant c.args.shard c.args.slot;
   },
 )

@@ -7,19 +7,29 @@ pub invariant_of-self : goal.invariant_of-self
 invariant_of-self g c =
     let absent : slot_of g.K.PartialEq.eq c.args.self.now.slots c.args.hash c.args.key ≡ None = search rules in
     let some : 0 < c.self.inside.left = omega (arith, c.if-self-lt1.false) in
-    let room : count c.args.self.now.slots < c.args.self.now.room = has-room g.K.PartialEq.eq c.self.inside.tags c.self.inside.slots.items c.self.inside.full c.self.inside.left c.self.invariant c.as_slice.result.now c.as_slice.ensures.tags c.args.self.now c.self.view_is some in
-    put-table g.K.PartialEq.eq c.self.inside.tags c.self.inside.slots.items c.self.inside.full c.self.inside.left c.self.invariant c.as_slice.result.now c.as_slice.ensures.tags c.args.self.now c.self.view_is
-    g.met.K.Eq.laws (entry_with c.args.hash c.args.key c.args.value) absent room c.in-Err.slot c.in-Err.ensures.place c.fill.ensures.low c.fill.result c.fill.ensures.empty c.fill.new.tags c.fill.ensures.tags c.fill.new.slots.items c.fill.ensures.slots
+    let room : count c.args.self.now.slots < c.args.self.now.room = has-room g.K.PartialEq.eq c.self.inside.tags
+    c.self.inside.slots.items c.self.inside.full c.self.inside.left c.self.invariant c.as_slice.result.now
+    c.as_slice.ensures.tags c.args.self.now c.self.view_is some in
+    put-table g.K.PartialEq.eq c.self.inside.tags c.self.inside.slots.items c.self.inside.full c.self.inside.left
+    c.self.invariant c.as_slice.result.now c.as_slice.ensures.tags c.args.self.now c.self.view_is
+    g.met.K.Eq.laws (entry_with c.args.hash c.args.key c.args.value) absent room c.in-Err.slot c.in-Err.ensures.place
+    c.fill.ensures.low c.fill.result c.fill.ensures.empty c.fill.new.tags c.fill.ensures.tags c.fill.new.slots.items
+    c.fill.ensures.slots
 
 pub returns-in-Err-clause-added : goal.returns-in-Err-clause-added
 returns-in-Err-clause-added g c =
     let absent : slot_of g.K.PartialEq.eq c.args.self.now.slots c.args.hash c.args.key ≡ None = search rules in
     let some : 0 < c.self.inside.left = omega (arith, c.if-self-lt1.false) in
-    let room : count c.args.self.now.slots < c.args.self.now.room = has-room g.K.PartialEq.eq c.self.inside.tags c.self.inside.slots.items c.self.inside.full c.self.inside.left c.self.invariant c.as_slice.result.now c.as_slice.ensures.tags c.args.self.now c.self.view_is some in
+    let room : count c.args.self.now.slots < c.args.self.now.room = has-room g.K.PartialEq.eq c.self.inside.tags
+    c.self.inside.slots.items c.self.inside.full c.self.inside.left c.self.invariant c.as_slice.result.now
+    c.as_slice.ensures.tags c.args.self.now c.self.view_is some in
     if-none _ _ (sym absent) (
       refl,
-      put-adds g.K.PartialEq.eq c.self.inside.tags c.self.inside.slots.items c.self.inside.full c.self.inside.left c.self.invariant c.as_slice.result.now c.as_slice.ensures.tags c.args.self.now c.self.view_is
-          g.met.K.Eq.laws (entry_with c.args.hash c.args.key c.args.value) absent room c.in-Err.slot c.in-Err.ensures.place c.fill.ensures.low c.fill.result c.fill.ensures.empty c.fill.new.tags c.fill.ensures.tags c.fill.new.slots.items c.fill.ensures.slots,
+      put-adds g.K.PartialEq.eq c.self.inside.tags c.self.inside.slots.items c.self.inside.full c.self.inside.left
+          c.self.invariant c.as_slice.result.now c.as_slice.ensures.tags c.args.self.now c.self.view_is
+          g.met.K.Eq.laws (entry_with c.args.hash c.args.key c.args.value) absent room c.in-Err.slot
+          c.in-Err.ensures.place c.fill.ensures.low c.fill.result c.fill.ensures.empty c.fill.new.tags
+          c.fill.ensures.tags c.fill.new.slots.items c.fill.ensures.slots,
     )
 
 pub returns-in-Err-clause-sound : goal.returns-in-Err-clause-sound

@@ -9,6 +9,8 @@ returns-clause-pairs g c =
     record {
       found = λ h k.
           ap (λ (t : Table g.row.K.Denot g.row.V.Denot). entry_of g.K.PartialEq.eq t.slots h k) c.table.view_is
-          ∙ (ap (λ l. entry_of g.K.PartialEq.eq l h k) c.limit.ensures.slots ∙ (c.move_all.ensures.found h k ∙ ap (λ l. entry_of g.K.PartialEq.eq l h k) was));
-      counted = ap (λ (t : Table g.row.K.Denot g.row.V.Denot). count t.slots) c.table.view_is ∙ (ap count c.limit.ensures.slots ∙ (c.move_all.ensures.counted ∙ ap count was));
+          ∙ (ap (λ l. entry_of g.K.PartialEq.eq l h k) c.limit.ensures.slots
+          ∙ (c.move_all.ensures.found h k ∙ ap (λ l. entry_of g.K.PartialEq.eq l h k) was));
+      counted = ap (λ (t : Table g.row.K.Denot g.row.V.Denot). count t.slots) c.table.view_is
+          ∙ (ap count c.limit.ensures.slots ∙ (c.move_all.ensures.counted ∙ ap count was));
     }

@@ -7,13 +7,21 @@ use Rattle.dashmap_table.proofs.tag_table.TagTable.replace.Goals as goal
 
 pub invariant_of-self : goal.invariant_of-self
 invariant_of-self g c =
-    let is = is_changed (giving_pair c.args.key c.args.value) c.self.inside.slots.items c.args.slot c.index_mut.result.now c.set_pair.new.slot (omega (arith, c.self.inside.slots.ok.0)) c.index_mut.ensures.value c.set_pair.ensures.after in
-    table-changed g.K.PartialEq.eq (giving_pair c.args.key c.args.value) (λ e. refl) c.self.inside.tags _ _ _ _ _ c.self.invariant is (pair-sound g.K.PartialEq.eq g.met.K.Eq.laws _ _ _ c.self.invariant.distinct c.self.invariant.counted _ _ c.self.view_is _ _ c.requires _ is)
+    let is = is_changed (giving_pair c.args.key c.args.value) c.self.inside.slots.items c.args.slot
+    c.index_mut.result.now c.set_pair.new.slot (omega (arith, c.self.inside.slots.ok.0)) c.index_mut.ensures.value
+    c.set_pair.ensures.after in
+    table-changed g.K.PartialEq.eq (giving_pair c.args.key c.args.value) (λ e. refl) c.self.inside.tags _ _ _ _ _
+    c.self.invariant is
+    (pair-sound g.K.PartialEq.eq g.met.K.Eq.laws _ _ _ c.self.invariant.distinct c.self.invariant.counted _ _
+    c.self.view_is _ _ c.requires _ is)
 
 pub returns-clause-after : goal.returns-clause-after
 returns-clause-after g c =
-    let is = is_changed (giving_pair c.args.key c.args.value) c.self.inside.slots.items c.args.slot c.index_mut.result.now c.set_pair.new.slot (omega (arith, c.self.inside.slots.ok.0)) c.index_mut.ensures.value c.set_pair.ensures.after in
+    let is = is_changed (giving_pair c.args.key c.args.value) c.self.inside.slots.items c.args.slot
+    c.index_mut.result.now c.set_pair.new.slot (omega (arith, c.self.inside.slots.ok.0)) c.index_mut.ensures.value
+    c.set_pair.ensures.after in
     change-after _ _ _ c.self.view_is _ _ _ is
 
 pub returns-clause-sound : goal.returns-clause-sound
-returns-clause-sound g c = IsSound-tagged g.K.PartialEq.eq _ (with_item c.self.inside.slots c.args.slot c.set_pair.new.slot) _ _ (invariant_of-self g c)
+returns-clause-sound g c = IsSound-tagged g.K.PartialEq.eq _
+    (with_item c.self.inside.slots c.args.slot c.set_pair.new.slot) _ _ (invariant_of-self g c)

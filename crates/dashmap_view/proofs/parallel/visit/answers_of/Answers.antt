@@ -15,8 +15,10 @@ loop-slot-preserved g c =
     let answer = c.answer_at-answer.ensures in
     let pair = same_Some (pair_of there.0) answer.0 (sym (ap (option_map pair_of) there.1) ∙ answer.1) in
     let says = subst (λ p. AnswersOf g.F.Fn c.args.f.now p c.answer_at-answer.result) (sym pair) answer.2 in
-    subst (Gathers (AnswersOf g.F.Fn c.args.f.now) (pairs_of slots) (pairs_of (drop (c.in-Some.slot + 1) slots))) (sym c.in_ok-push.ensures.items)
-    (gathers-one (AnswersOf g.F.Fn c.args.f.now) (pairs_of slots) _ _ (pair_of there.0) c.loop-slot.answers.items c.answer_at-answer.result
+    subst (Gathers (AnswersOf g.F.Fn c.args.f.now) (pairs_of slots) (pairs_of (drop (c.in-Some.slot + 1) slots)))
+    (sym c.in_ok-push.ensures.items)
+    (gathers-one (AnswersOf g.F.Fn c.args.f.now) (pairs_of slots) _ _ (pair_of there.0) c.loop-slot.answers.items
+    c.answer_at-answer.result
     (pairs-at slots c.loop-slot.from c.in-Some.slot there.0 next there.1) says c.loop-slot.invariant)
 
 pub returns : goal.returns

@@ -5,4 +5,5 @@ use Rattle.dashmap_view.proofs.parallel.visit.hand_each.Given as goal
 
 -- what is left to give is all that is left to be called for
 abbrev pub invariant-loop-key : goal.invariant-loop-key
-invariant-loop-key g l = All (λ p. MakesOf g.F.Fn l.f p tt) l.pairs → All (λ p. MakesOf g.F.Fn l.f p tt) (pairs_of l.fn.shard.slots)
+invariant-loop-key g l = All (λ p. MakesOf g.F.Fn l.f p tt) l.pairs
+    → All (λ p. MakesOf g.F.Fn l.f p tt) (pairs_of l.fn.shard.slots)

@@ -17,10 +17,14 @@ loop-slot-preserved g c =
     let answer = c.answer_at.ensures in
     let pair = same_Some (pair_of there.0) answer.0 (sym (ap (option_map pair_of) there.1) ∙ answer.1) in
     let says = subst (λ p. AnswersOf g.F.Fn c.args.f.now p tt) (sym pair) answer.2 in
-    (λ rest. c.loop-slot.invariant (subst (All (λ p. AnswersOf g.F.Fn c.args.f.now p tt)) (sym (pairs-at slots c.loop-slot.from c.in-Some.slot there.0 next there.1))
+    (λ rest. c.loop-slot.invariant
+    (subst (All (λ p. AnswersOf g.F.Fn c.args.f.now p tt))
+    (sym (pairs-at slots c.loop-slot.from c.in-Some.slot there.0 next there.1))
     (All-cons (λ p. AnswersOf g.F.Fn c.args.f.now p tt) (pair_of there.0) _ says rest)))
 
 pub returns : goal.returns
 returns g c =
-    c.loop-slot.invariant (subst (All (λ p. AnswersOf g.F.Fn c.args.f.now p tt)) (sym (pairs-none c.loop-slot.from c.args.shard.now.slots c.in_default.ensures))
+    c.loop-slot.invariant
+    (subst (All (λ p. AnswersOf g.F.Fn c.args.f.now p tt))
+    (sym (pairs-none c.loop-slot.from c.args.shard.now.slots c.in_default.ensures))
     (All-nil (λ p. AnswersOf g.F.Fn c.args.f.now p tt)))

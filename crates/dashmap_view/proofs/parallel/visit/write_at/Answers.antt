@@ -11,4 +11,10 @@ pub returns : goal.returns
 returns g c =
     let there = value_of _ c.requires.full in
     let shown = same_Some _ _ (sym (ap (option_map pair_of) there.1) ∙ c.lend-value.ensures.pair) in
-    record { entry = there.0; full = there.1; left = c.lend_to.new.value; leaves = subst (λ p. LeavesOf g.F.Fn c.args.f.now p c.lend_to.new.value) (sym shown) c.lend_to.ensures; after = refl }
+    record {
+      entry = there.0;
+      full = there.1;
+      left = c.lend_to.new.value;
+      leaves = subst (λ p. LeavesOf g.F.Fn c.args.f.now p c.lend_to.new.value) (sym shown) c.lend_to.ensures;
+      after = refl;
+    }

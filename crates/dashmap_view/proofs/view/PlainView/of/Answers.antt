@@ -7,5 +7,6 @@ pub returns-else-are_routed-clause-displaced : goal.returns-else-are_routed-clau
 returns-else-are_routed-clause-displaced g c = (
   c.new.ensures,
   λ all. false≢true (sym c.if-are_routed.false ∙ c.are_routed.ensures.routed.1
-      (subst (AreRouted g.S.BuildHasher g.S.Hasher.Hasher g.K.Hash.hash_input c.args.hasher) (sym c.deref.ensures.value) all)),
+      (subst (AreRouted g.S.BuildHasher g.S.Hasher.Hasher g.K.Hash.hash_input c.args.hasher) (sym c.deref.ensures.value)
+      all)),
 )

@@ -4,4 +4,6 @@ use Rattle.std.specs.Iterator.Runs.{CallKeepsClosure}
 use Rattle.lock_api.proofs.condvar.Condvar.wait_while.Given as goal
 
 abbrev pub invariant-loop : goal.invariant-loop
-invariant-loop g l = always_mut g.F.FnMut l.condition × (CallKeepsClosure g.F.FnMut l.initial.condition → l.condition ≡ l.initial.condition) × (l.guard.held.0.place ≡ l.initial.guard.held.0.place)
+invariant-loop g l = always_mut g.F.FnMut l.condition
+    × (CallKeepsClosure g.F.FnMut l.initial.condition → l.condition ≡ l.initial.condition)
+    × (l.guard.held.0.place ≡ l.initial.guard.held.0.place)

@@ -11,5 +11,6 @@ turn-requires-clause-next g c =
     let old = c.args.self.now in
     let P : Option Guard → Type 0 = λ o. IfSome o (λ held. holds Exclusive held ≡ true) in
     let Q : DeskState g.row.T.Denot → Type 0 = λ s. IsSound s.limit s.guards in
-    from_held old.limit c.args.guard old.guards c.args.place c.requires.at Upgradable (subst Q c.self.view_is c.self.invariant.sound)
+    from_held old.limit c.args.guard old.guards c.args.place c.requires.at Upgradable
+    (subst Q c.self.view_is c.self.invariant.sound)
     (subst P c.requires.at.found c.requires.exclusive)

@@ -15,8 +15,10 @@ returns g c =
     let old = c.args.self.now in
     let mid = c.lift.new.self in
     let value = c.apply-answer.new.value in
-    let r = ok_from (upgrade_refusal Taken c.args.party c.args.guard old) c.in_ok-place.place c.in_ok-place.ensures.lifted in
-    let up = c.in_ok-place.ensures.state ∙ unless-None (upgrade_refusal Taken c.args.party c.args.guard old) old (turned Exclusive c.args.guard old) r.0 in
+    let r = ok_from (upgrade_refusal Taken c.args.party c.args.guard old) c.in_ok-place.place
+    c.in_ok-place.ensures.lifted in
+    let up = c.in_ok-place.ensures.state ∙ unless-None (upgrade_refusal Taken c.args.party c.args.guard old) old
+    (turned Exclusive c.args.guard old) r.0 in
     let after =
     c.lower.ensures
     ∙ ap (λ s. turned Upgradable c.args.guard (with_value value s)) c.self.view_is

@@ -6,4 +6,5 @@ use Rattle.mapworld_state.proofs.locks.desks.admit_taken.Given as goal
 
 -- those of the wakeups before this one are admitted
 abbrev pub invariant-loop-wakeup : goal.invariant-loop-wakeup
-invariant-loop-wakeup g l = l.desk ≡ all_admitted (held_at (state l.machine) l.shard) (taken_by (take l.wakeup-index (state l.machine).wakes) l.thread) l.fn.desk
+invariant-loop-wakeup g l = l.desk ≡ all_admitted (held_at (state l.machine) l.shard)
+    (taken_by (take l.wakeup-index (state l.machine).wakes) l.thread) l.fn.desk

@@ -9,4 +9,5 @@ use Rattle.mapworld_state.proofs.locks.laws.calls_hold_within.Goals as goal
 pub returns : goal.returns
 returns c sh fit t st stands =
     let (d, here, same) = called (call_at (state sh.rows) t) st stands in
-    subst (λ (x : Stand). is_within x.aim (held_at (state sh.rows) x.shard t) ≡ true) same (call_within (state sh.rows) t d fit.fits fit.plain here)
+    subst (λ (x : Stand). is_within x.aim (held_at (state sh.rows) x.shard t) ≡ true) same
+    (call_within (state sh.rows) t d fit.fits fit.plain here)

@@ -9,6 +9,7 @@ use Rattle.mapworld_state.proofs.locks.laws.steps_touch_one_lock.Goals as goal
 
 pub returns : goal.returns
 returns c t fair old new fit x =
-    let same : stand_of x.steps.call ≡ x.stand = same_Some (stand_of x.steps.call) x.stand (sym (ap (option_map stand_of) x.steps.here) ∙ x.stood) in
+    let same : stand_of x.steps.call ≡ x.stand = same_Some (stand_of x.steps.call) x.stand
+    (sym (ap (option_map stand_of) x.steps.here) ∙ x.stood) in
     subst (λ (st : Stand). TouchesOnly st.shard (state old.rows) (state new.rows)) same
     (touches_one c.each_step_is_a_case.ensures (state old.rows) (state new.rows) t fair _ fit.fits fit.plain x.steps)

@@ -5,4 +5,5 @@ use Rattle.mapworld_state.proofs.locks.new_locks.desks_for.Given as goal
 
 -- so many desks are made, and there is room for all
 abbrev pub invariant-loop : goal.invariant-loop
-invariant-loop g l = All (IsEmptyFor l.threads) l.desks.items × (length l.desks.items ≡ l.counter) × (l.shards ≤ vec_capacity l.desks)
+invariant-loop g l = All (IsEmptyFor l.threads) l.desks.items × (length l.desks.items ≡ l.counter)
+    × (l.shards ≤ vec_capacity l.desks)

@@ -11,7 +11,8 @@ use Rattle.mapworld_state.specs.Core.{state_of, owes, lists, adds}
 use Rattle.mapworld_state.specs.World.{deeds_of}
 use Rattle.mapworld_state.proofs.LocksFacts.Sizes.{same_size}
 use Rattle.mapworld_transitions.proofs.Rooms.{shifted}
-use Rattle.mapworld_transitions.proofs.Facts.{kept-here, seen-here, kept-phase, claim_at, next_fits, deed_counts, stepped-by}
+use Rattle.mapworld_transitions.proofs.Facts.{kept-here, seen-here, kept-phase, claim_at, next_fits, deed_counts}
+use Rattle.mapworld_transitions.proofs.Facts.{stepped-by}
 use Rattle.mapworld_transitions.proofs.Leaving.{at-some, stands-in, keyed-keeps, gone-number}
 use Rattle.mapworld_transitions.proofs.Walking.{next-free, walking, plain-visits, plain-lists}
 use Rattle.mapworld_transitions.proofs.Slots.{calls-counted, call-slot, slots-alone_free}
@@ -39,7 +40,8 @@ apply_at-answer-requires g c =
     let before = kept-phase core.places.items c.requires.before.1 p c.index_mut-place.ensures.value in
     let claim = claim_at c.requires.sound c.args.step.thread (place_of p) seen before in
     let is = call-slot c.requires.slots c.args.step.thread p here claim.2.guard _ (ap phase_key before) in
-    let there = stands-in _ core c.requires.sound g.met.K.Eq.laws p.shard p.slot _ is c.index_mut-shard.result.now c.index_mut-shard.ensures.value in
+    let there = stands-in _ core c.requires.sound g.met.K.Eq.laws p.shard p.slot _ is c.index_mut-shard.result.now
+    c.index_mut-shard.ensures.value in
     record { full = there.full }
 
 pub count_in-requires-clause-listed : goal.count_in-requires-clause-listed
@@ -70,14 +72,17 @@ less_one-core-requires g c =
     let before = sym c.replace.ensures.value ∙ c.in-Apply.is in
     let claim = claim_at c.requires.sound c.args.step.thread (place_of p) seen before in
     let is = call-slot c.requires.slots c.args.step.thread p here claim.2.guard _ (ap phase_key before) in
-    let there = stands-in _ core c.requires.sound g.met.K.Eq.laws p.shard p.slot _ is c.index_mut-shard.result.now c.index_mut-shard.ensures.value in
+    let there = stands-in _ core c.requires.sound g.met.K.Eq.laws p.shard p.slot _ is c.index_mut-shard.result.now
+    c.index_mut-shard.ensures.value in
     let e = there.has.entry in
     let deeds = deeds_of g.D.Deed in
     let left = keyed_leaves deeds c.in-Apply.call (Some (entry_pair e)) in
     let leaves = at-some _ _ e there.has.there c.apply_at-answer.ensures.leaves in
     let keeps = keyed-keeps deeds g.K.PartialEq.eq g.met.K.Eq.laws c.in-Apply.call (entry_pair e) in
-    let puts = puts-left g.K.PartialEq.eq g.met.K.Eq.laws c.index_mut-shard.result.now c.apply_at-answer.new.shard p.slot _ there.distinct there.has left keeps leaves in
-    let gone = gone-number left c.apply_at-answer.result.1 (at-some _ _ e there.has.there c.apply_at-answer.ensures.gone) in
+    let puts = puts-left g.K.PartialEq.eq g.met.K.Eq.laws c.index_mut-shard.result.now c.apply_at-answer.new.shard
+    p.slot _ there.distinct there.has left keeps leaves in
+    let gone = gone-number left c.apply_at-answer.result.1
+    (at-some _ _ e there.has.there c.apply_at-answer.ensures.gone) in
     let was = ap number_of there.pair in
     let part = pairs_at (state_of core).tables p.shard (shard_pairs c.index_mut-shard.result.now) there.seen in
     omega (arith, puts.counted, gone, was, part, c.requires.room.pairs)
@@ -91,13 +96,15 @@ returns-clause-step g c =
     let before = sym c.replace.ensures.value ∙ c.in-Apply.is in
     let claim = claim_at c.requires.sound c.args.step.thread (place_of p) seen before in
     let is = call-slot c.requires.slots c.args.step.thread p here claim.2.guard _ (ap phase_key before) in
-    let there = stands-in _ core c.requires.sound g.met.K.Eq.laws p.shard p.slot _ is c.index_mut-shard.result.now c.index_mut-shard.ensures.value in
+    let there = stands-in _ core c.requires.sound g.met.K.Eq.laws p.shard p.slot _ is c.index_mut-shard.result.now
+    c.index_mut-shard.ensures.value in
     let e = there.has.entry in
     let deeds = deeds_of g.D.Deed in
     let left = keyed_leaves deeds c.in-Apply.call (Some (entry_pair e)) in
     let leaves = at-some _ _ e there.has.there c.apply_at-answer.ensures.leaves in
     let keeps = keyed-keeps deeds g.K.PartialEq.eq g.met.K.Eq.laws c.in-Apply.call (entry_pair e) in
-    let puts = puts-left g.K.PartialEq.eq g.met.K.Eq.laws c.index_mut-shard.result.now c.apply_at-answer.new.shard p.slot _ there.distinct there.has left keeps leaves in
+    let puts = puts-left g.K.PartialEq.eq g.met.K.Eq.laws c.index_mut-shard.result.now c.apply_at-answer.new.shard
+    p.slot _ there.distinct there.has left keeps leaves in
     record {
       place = place_of p;
       stands = seen;
@@ -111,8 +118,12 @@ returns-clause-step g c =
       puts = puts;
       blocks = c.count_in.new.blocks.items;
       counted = c.count_in.ensures.counted;
-      after = stepped-by core c.args.step (record p { phase = c.enter.new.phase }) _ c.appended-core.result.items _ _ core.locks c.count_in.new.blocks.items core.replies.items
-          c.appended-core.ensures (ap (λ f. record (place_of p) { phase = f }) (c.enter.ensures ∙ ap (λ a. phase.Release a) (at-some _ _ e there.has.there c.apply_at-answer.ensures.answer)))
+      after = stepped-by core c.args.step (record p { phase = c.enter.new.phase }) _ c.appended-core.result.items _ _
+          core.locks c.count_in.new.blocks.items core.replies.items
+          c.appended-core.ensures
+          (ap (λ f. record (place_of p) { phase = f })
+          (c.enter.ensures
+          ∙ ap (λ a. phase.Release a) (at-some _ _ e there.has.there c.apply_at-answer.ensures.answer)))
           (map-set shard_pairs core.tables.items p.shard c.apply_at-answer.new.shard);
     }
 
@@ -125,19 +136,26 @@ returns-clause-slots g c =
     let before = sym c.replace.ensures.value ∙ c.in-Apply.is in
     let claim = claim_at c.requires.sound c.args.step.thread (place_of p) seen before in
     let is = call-slot c.requires.slots c.args.step.thread p here claim.2.guard _ (ap phase_key before) in
-    let there = stands-in _ core c.requires.sound g.met.K.Eq.laws p.shard p.slot _ is c.index_mut-shard.result.now c.index_mut-shard.ensures.value in
+    let there = stands-in _ core c.requires.sound g.met.K.Eq.laws p.shard p.slot _ is c.index_mut-shard.result.now
+    c.index_mut-shard.ensures.value in
     let e = there.has.entry in
     let deeds = deeds_of g.D.Deed in
     let left = keyed_leaves deeds c.in-Apply.call (Some (entry_pair e)) in
     let leaves = at-some _ _ e there.has.there c.apply_at-answer.ensures.leaves in
     let keeps = keyed-keeps deeds g.K.PartialEq.eq g.met.K.Eq.laws c.in-Apply.call (entry_pair e) in
-    let puts = puts-left g.K.PartialEq.eq g.met.K.Eq.laws c.index_mut-shard.result.now c.apply_at-answer.new.shard p.slot _ there.distinct there.has left keeps leaves in
-    let hashes = hashes-left g.K.PartialEq.eq g.met.K.Eq.laws c.index_mut-shard.result.now c.apply_at-answer.new.shard p.slot _ there.distinct there.has _
-    (hashes-alike g.S.BuildHasher g.S.Hasher.Hasher g.K.Hash.hash_input core.hasher g.K.PartialEq.eq g.met.K.Hash.respects_eq) left keeps leaves (c.requires.slots.hashed p.shard c.index_mut-shard.result.now there.held) in
+    let puts = puts-left g.K.PartialEq.eq g.met.K.Eq.laws c.index_mut-shard.result.now c.apply_at-answer.new.shard
+    p.slot _ there.distinct there.has left keeps leaves in
+    let hashes = hashes-left g.K.PartialEq.eq g.met.K.Eq.laws c.index_mut-shard.result.now c.apply_at-answer.new.shard
+    p.slot _ there.distinct there.has _
+    (hashes-alike g.S.BuildHasher g.S.Hasher.Hasher g.K.Hash.hash_input core.hasher g.K.PartialEq.eq
+    g.met.K.Hash.respects_eq) left keeps leaves
+    (c.requires.slots.hashed p.shard c.index_mut-shard.result.now there.held) in
     let blocks = c.count_in.new.blocks.items in
-    let kept = slots-alone_free _ _ core c.requires.sound c.requires.slots c.args.step.thread p (record p { phase = c.enter.new.phase }) here
+    let kept = slots-alone_free _ _ core c.requires.sound c.requires.slots c.args.step.thread p
+    (record p { phase = c.enter.new.phase }) here
     blocks (calls-counted c.args.step.thread core.blocks.items blocks p.block p.next c.count_in.ensures.counted)
-    claim.2.alone c.index_mut-shard.result.now c.apply_at-answer.new.shard there.held hashes claim.2.guard (ap phase_key c.enter.ensures) (next-free _ _ _ _ _ (ap walking c.enter.ensures)) in
+    claim.2.alone c.index_mut-shard.result.now c.apply_at-answer.new.shard there.held hashes claim.2.guard
+    (ap phase_key c.enter.ensures) (next-free _ _ _ _ _ (ap walking c.enter.ensures)) in
     record { hashed = kept.hashed; found = kept.found; next = kept.next }
 
 pub returns-clause-room : goal.returns-clause-room
@@ -149,16 +167,20 @@ returns-clause-room g c =
     let before = sym c.replace.ensures.value ∙ c.in-Apply.is in
     let claim = claim_at c.requires.sound c.args.step.thread (place_of p) seen before in
     let is = call-slot c.requires.slots c.args.step.thread p here claim.2.guard _ (ap phase_key before) in
-    let there = stands-in _ core c.requires.sound g.met.K.Eq.laws p.shard p.slot _ is c.index_mut-shard.result.now c.index_mut-shard.ensures.value in
+    let there = stands-in _ core c.requires.sound g.met.K.Eq.laws p.shard p.slot _ is c.index_mut-shard.result.now
+    c.index_mut-shard.ensures.value in
     let e = there.has.entry in
     let deeds = deeds_of g.D.Deed in
     let left = keyed_leaves deeds c.in-Apply.call (Some (entry_pair e)) in
     let leaves = at-some _ _ e there.has.there c.apply_at-answer.ensures.leaves in
     let keeps = keyed-keeps deeds g.K.PartialEq.eq g.met.K.Eq.laws c.in-Apply.call (entry_pair e) in
-    let puts = puts-left g.K.PartialEq.eq g.met.K.Eq.laws c.index_mut-shard.result.now c.apply_at-answer.new.shard p.slot _ there.distinct there.has left keeps leaves in
-    let gone = gone-number left c.apply_at-answer.result.1 (at-some _ _ e there.has.there c.apply_at-answer.ensures.gone) in
+    let puts = puts-left g.K.PartialEq.eq g.met.K.Eq.laws c.index_mut-shard.result.now c.apply_at-answer.new.shard
+    p.slot _ there.distinct there.has left keeps leaves in
+    let gone = gone-number left c.apply_at-answer.result.1
+    (at-some _ _ e there.has.there c.apply_at-answer.ensures.gone) in
     let was = ap number_of there.pair in
-    let change = pairs_put core.tables.items p.shard c.index_mut-shard.result.now c.apply_at-answer.new.shard there.held in
+    let change = pairs_put core.tables.items p.shard c.index_mut-shard.result.now c.apply_at-answer.new.shard there.held
+    in
     let more = length core.tables.items - (p.shard + 1) in
     let p' = record p { phase = c.enter.new.phase } in
     let plain = ap walking c.enter.ensures in
@@ -183,5 +205,6 @@ returns-clause-room g c =
       adding = omega (arith, ap adds c.enter.ensures, ap adds before, c.less_one-core.ensures);
       pairs = omega (arith, c.requires.room.pairs, change, puts.counted, gone, was, c.less_one-core.ensures);
       more_blocks = omega (arith, c.count_in.ensures.len);
-      listed = λ i e. let below = c.requires.room.listed c.args.step.thread (place_of p) i seen e in omega (arith, below, c.count_in.ensures.len);
+      listed = λ i e. let below = c.requires.room.listed c.args.step.thread (place_of p) i seen e in
+          omega (arith, below, c.count_in.ensures.len);
     })

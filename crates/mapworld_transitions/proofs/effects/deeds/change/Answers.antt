@@ -1,4 +1,5 @@
-use Rattle.std.proofs.Common.{◌≡◌, true, if◌then◌else◌, length, None, is_some, refl, sym, ap, ap₂, ◌∙◌, subst, arith, length-append, length-set, ◌+◌, ◌-◌}
+use Rattle.std.proofs.Common.{◌≡◌, true, if◌then◌else◌, length, None, is_some, refl, sym, ap, ap₂, ◌∙◌, subst, arith}
+use Rattle.std.proofs.Common.{length-append, length-set, ◌+◌, ◌-◌}
 use Rattle.std.proofs.lemmas.Option.{slice_get_within}
 use Rattle.std.proofs.lemmas.List.{map-set}
 use Rattle.dashmap_table.specs.Slots.{pair_of as entry_pair}
@@ -14,9 +15,11 @@ use Rattle.mapworld_state.proofs.Owning.{same-kind}
 use Rattle.mapworld_transitions.specs.Slots.{LeavesAt}
 use Rattle.mapworld_state.proofs.LocksFacts.Sizes.{same_size}
 use Rattle.mapworld_transitions.proofs.Rooms.{shifted}
-use Rattle.mapworld_transitions.proofs.Facts.{kept-here, seen-here, kept-phase, claim_at, next_fits, session_counts, way_is, stepped-by}
+use Rattle.mapworld_transitions.proofs.Facts.{kept-here, seen-here, kept-phase, claim_at, next_fits, session_counts}
+use Rattle.mapworld_transitions.proofs.Facts.{way_is, stepped-by}
 use Rattle.mapworld_transitions.proofs.Keys.{guards}
-use Rattle.mapworld_transitions.proofs.Leaving.{at-some, some-at, stands-in, held-keeps, held-gone, held-stays, handed-equal, changed-free, gone-number}
+use Rattle.mapworld_transitions.proofs.Leaving.{at-some, some-at, stands-in, held-keeps, held-gone, held-stays}
+use Rattle.mapworld_transitions.proofs.Leaving.{handed-equal, changed-free, gone-number}
 use Rattle.mapworld_transitions.proofs.Walking.{plain-visits, plain-lists}
 use Rattle.mapworld_transitions.proofs.Slots.{calls-counted, guard-slot, slots-alone_lent}
 use Rattle.mapworld_transitions.proofs.Slotted.{hashes-alike, hashes-left, puts-left, key-kept}
@@ -30,7 +33,8 @@ unreachable-requires-in_default-lent_way g c =
     let seen = seen-here core.places.items c.requires.before.1 p c.index_mut-place.ensures.value in
     let before = kept-phase core.places.items c.requires.before.1 p c.index_mut-place.ensures.value in
     let claim = claim_at c.requires.sound c.args.step.thread (place_of p) seen before in
-    c.in_default-lent_way.not-Some claim.0 (c.lent_way.ensures ∙ (ap lent_way c.replace-2.ensures.value ∙ ap lent_way claim.2))
+    c.in_default-lent_way.not-Some claim.0
+    (c.lent_way.ensures ∙ (ap lent_way c.replace-2.ensures.value ∙ ap lent_way claim.2))
 
 pub index_mut-shard-requires : goal.index_mut-shard-requires
 index_mut-shard-requires g c =
@@ -40,8 +44,10 @@ index_mut-shard-requires g c =
     let seen = seen-here core.places.items c.requires.before.1 p c.index_mut-place.ensures.value in
     let before = sym c.replace.ensures.value ∙ c.in-Change.is in
     let claim = claim_at c.requires.sound c.args.step.thread (place_of p) seen before in
-    let mine = way_is p.guard c.in-Some.way (sym (ap lent_way c.replace-2.ensures.value) ∙ (sym c.lent_way.ensures ∙ c.in-Some.is)) in
-    let own = guards _ (state_of core) c.requires.sound c.args.step.thread (place_of p) (guard.Pair c.in-Some.way) mine p.next _ p.block refl claim.5 in
+    let mine = way_is p.guard c.in-Some.way
+    (sym (ap lent_way c.replace-2.ensures.value) ∙ (sym c.lent_way.ensures ∙ c.in-Some.is)) in
+    let own = guards _ (state_of core) c.requires.sound c.args.step.thread (place_of p) (guard.Pair c.in-Some.way) mine
+    p.next _ p.block refl claim.5 in
     let is = guard-slot c.requires.slots c.args.step.thread p here c.in-Some.way mine own.key own.key_is in
     omega (arith, slice_get_within core.tables.items p.shard is.table is.held, core.tables.ok.0)
 
@@ -53,10 +59,13 @@ change_at-answer-requires-clause-full g c =
     let seen = seen-here core.places.items c.requires.before.1 p c.index_mut-place.ensures.value in
     let before = sym c.replace.ensures.value ∙ c.in-Change.is in
     let claim = claim_at c.requires.sound c.args.step.thread (place_of p) seen before in
-    let mine = way_is p.guard c.in-Some.way (sym (ap lent_way c.replace-2.ensures.value) ∙ (sym c.lent_way.ensures ∙ c.in-Some.is)) in
-    let own = guards _ (state_of core) c.requires.sound c.args.step.thread (place_of p) (guard.Pair c.in-Some.way) mine p.next _ p.block refl claim.5 in
+    let mine = way_is p.guard c.in-Some.way
+    (sym (ap lent_way c.replace-2.ensures.value) ∙ (sym c.lent_way.ensures ∙ c.in-Some.is)) in
+    let own = guards _ (state_of core) c.requires.sound c.args.step.thread (place_of p) (guard.Pair c.in-Some.way) mine
+    p.next _ p.block refl claim.5 in
     let is = guard-slot c.requires.slots c.args.step.thread p here c.in-Some.way mine own.key own.key_is in
-    let there = stands-in _ core c.requires.sound g.met.K.Eq.laws p.shard p.slot _ is c.index_mut-shard.result.now c.index_mut-shard.ensures.value in
+    let there = stands-in _ core c.requires.sound g.met.K.Eq.laws p.shard p.slot _ is c.index_mut-shard.result.now
+    c.index_mut-shard.ensures.value in
     there.full
 
 pub change_at-answer-requires-clause-change : goal.change_at-answer-requires-clause-change
@@ -66,8 +75,10 @@ change_at-answer-requires-clause-change g c =
     let seen = seen-here core.places.items c.requires.before.1 p c.index_mut-place.ensures.value in
     let before = sym c.replace.ensures.value ∙ c.in-Change.is in
     let claim = claim_at c.requires.sound c.args.step.thread (place_of p) seen before in
-    let mine = way_is p.guard c.in-Some.way (sym (ap lent_way c.replace-2.ensures.value) ∙ (sym c.lent_way.ensures ∙ c.in-Some.is)) in
-    let change = subst (λ (k : Way _). is_change c.in-Change.call k ≡ true) (same-kind p.guard claim.0 c.in-Some.way claim.2 mine) claim.3 in
+    let mine = way_is p.guard c.in-Some.way
+    (sym (ap lent_way c.replace-2.ensures.value) ∙ (sym c.lent_way.ensures ∙ c.in-Some.is)) in
+    let change = subst (λ (k : Way _). is_change c.in-Change.call k ≡ true)
+    (same-kind p.guard claim.0 c.in-Some.way claim.2 mine) claim.3 in
     change
 
 pub change_at-answer-requires-clause-equal : goal.change_at-answer-requires-clause-equal
@@ -78,12 +89,16 @@ change_at-answer-requires-clause-equal g c =
     let seen = seen-here core.places.items c.requires.before.1 p c.index_mut-place.ensures.value in
     let before = sym c.replace.ensures.value ∙ c.in-Change.is in
     let claim = claim_at c.requires.sound c.args.step.thread (place_of p) seen before in
-    let mine = way_is p.guard c.in-Some.way (sym (ap lent_way c.replace-2.ensures.value) ∙ (sym c.lent_way.ensures ∙ c.in-Some.is)) in
-    let own = guards _ (state_of core) c.requires.sound c.args.step.thread (place_of p) (guard.Pair c.in-Some.way) mine p.next _ p.block refl claim.5 in
+    let mine = way_is p.guard c.in-Some.way
+    (sym (ap lent_way c.replace-2.ensures.value) ∙ (sym c.lent_way.ensures ∙ c.in-Some.is)) in
+    let own = guards _ (state_of core) c.requires.sound c.args.step.thread (place_of p) (guard.Pair c.in-Some.way) mine
+    p.next _ p.block refl claim.5 in
     let is = guard-slot c.requires.slots c.args.step.thread p here c.in-Some.way mine own.key own.key_is in
-    let there = stands-in _ core c.requires.sound g.met.K.Eq.laws p.shard p.slot _ is c.index_mut-shard.result.now c.index_mut-shard.ensures.value in
+    let there = stands-in _ core c.requires.sound g.met.K.Eq.laws p.shard p.slot _ is c.index_mut-shard.result.now
+    c.index_mut-shard.ensures.value in
     let e = there.has.entry in
-    let equal = handed-equal _ (state_of core) c.requires.sound c.args.step.thread (place_of p) c.in-Some.way own e.key there.has.equal in
+    let equal = handed-equal _ (state_of core) c.requires.sound c.args.step.thread (place_of p) c.in-Some.way own e.key
+    there.has.equal in
     λ handed same. some-at _ _ e there.has.there (equal handed same)
 
 pub count_in-requires-clause-listed : goal.count_in-requires-clause-listed
@@ -112,19 +127,27 @@ less_one-core-requires g c =
     let seen = seen-here core.places.items c.requires.before.1 p c.index_mut-place.ensures.value in
     let before = sym c.replace.ensures.value ∙ c.in-Change.is in
     let claim = claim_at c.requires.sound c.args.step.thread (place_of p) seen before in
-    let mine = way_is p.guard c.in-Some.way (sym (ap lent_way c.replace-2.ensures.value) ∙ (sym c.lent_way.ensures ∙ c.in-Some.is)) in
-    let own = guards _ (state_of core) c.requires.sound c.args.step.thread (place_of p) (guard.Pair c.in-Some.way) mine p.next _ p.block refl claim.5 in
+    let mine = way_is p.guard c.in-Some.way
+    (sym (ap lent_way c.replace-2.ensures.value) ∙ (sym c.lent_way.ensures ∙ c.in-Some.is)) in
+    let own = guards _ (state_of core) c.requires.sound c.args.step.thread (place_of p) (guard.Pair c.in-Some.way) mine
+    p.next _ p.block refl claim.5 in
     let is = guard-slot c.requires.slots c.args.step.thread p here c.in-Some.way mine own.key own.key_is in
-    let there = stands-in _ core c.requires.sound g.met.K.Eq.laws p.shard p.slot _ is c.index_mut-shard.result.now c.index_mut-shard.ensures.value in
+    let there = stands-in _ core c.requires.sound g.met.K.Eq.laws p.shard p.slot _ is c.index_mut-shard.result.now
+    c.index_mut-shard.ensures.value in
     let e = there.has.entry in
-    let equal = handed-equal _ (state_of core) c.requires.sound c.args.step.thread (place_of p) c.in-Some.way own e.key there.has.equal in
-    let change = subst (λ (k : Way _). is_change c.in-Change.call k ≡ true) (same-kind p.guard claim.0 c.in-Some.way claim.2 mine) claim.3 in
+    let equal = handed-equal _ (state_of core) c.requires.sound c.args.step.thread (place_of p) c.in-Some.way own e.key
+    there.has.equal in
+    let change = subst (λ (k : Way _). is_change c.in-Change.call k ≡ true)
+    (same-kind p.guard claim.0 c.in-Some.way claim.2 mine) claim.3 in
     let deeds = deeds_of g.D.Deed in
     let left = pair_in (held_leaves deeds c.in-Change.call (lent c.in-Some.way (entry_pair e))) in
     let leaves = at-some _ _ e there.has.there c.change_at-answer.ensures.leaves in
-    let keeps = held-keeps deeds g.K.PartialEq.eq g.met.K.Eq.laws c.in-Change.call c.in-Some.way change (entry_pair e) equal in
-    let puts = puts-left g.K.PartialEq.eq g.met.K.Eq.laws c.index_mut-shard.result.now c.change_at-answer.new.shard p.slot own.key there.distinct there.has left keeps leaves in
-    let gone = gone-number left c.takes_pair-gone.result (c.takes_pair-gone.ensures ∙ held-gone deeds c.in-Change.call c.in-Some.way change (entry_pair e)) in
+    let keeps = held-keeps deeds g.K.PartialEq.eq g.met.K.Eq.laws c.in-Change.call c.in-Some.way change (entry_pair e)
+    equal in
+    let puts = puts-left g.K.PartialEq.eq g.met.K.Eq.laws c.index_mut-shard.result.now c.change_at-answer.new.shard
+    p.slot own.key there.distinct there.has left keeps leaves in
+    let gone = gone-number left c.takes_pair-gone.result
+    (c.takes_pair-gone.ensures ∙ held-gone deeds c.in-Change.call c.in-Some.way change (entry_pair e)) in
     let was = ap number_of there.pair in
     let part = pairs_at (state_of core).tables p.shard (shard_pairs c.index_mut-shard.result.now) there.seen in
     omega (arith, puts.counted, gone, was, part, c.requires.room.pairs)
@@ -137,18 +160,25 @@ returns-clause-step g c =
     let seen = seen-here core.places.items c.requires.before.1 p c.index_mut-place.ensures.value in
     let before = sym c.replace.ensures.value ∙ c.in-Change.is in
     let claim = claim_at c.requires.sound c.args.step.thread (place_of p) seen before in
-    let mine = way_is p.guard c.in-Some.way (sym (ap lent_way c.replace-2.ensures.value) ∙ (sym c.lent_way.ensures ∙ c.in-Some.is)) in
-    let own = guards _ (state_of core) c.requires.sound c.args.step.thread (place_of p) (guard.Pair c.in-Some.way) mine p.next _ p.block refl claim.5 in
+    let mine = way_is p.guard c.in-Some.way
+    (sym (ap lent_way c.replace-2.ensures.value) ∙ (sym c.lent_way.ensures ∙ c.in-Some.is)) in
+    let own = guards _ (state_of core) c.requires.sound c.args.step.thread (place_of p) (guard.Pair c.in-Some.way) mine
+    p.next _ p.block refl claim.5 in
     let is = guard-slot c.requires.slots c.args.step.thread p here c.in-Some.way mine own.key own.key_is in
-    let there = stands-in _ core c.requires.sound g.met.K.Eq.laws p.shard p.slot _ is c.index_mut-shard.result.now c.index_mut-shard.ensures.value in
+    let there = stands-in _ core c.requires.sound g.met.K.Eq.laws p.shard p.slot _ is c.index_mut-shard.result.now
+    c.index_mut-shard.ensures.value in
     let e = there.has.entry in
-    let equal = handed-equal _ (state_of core) c.requires.sound c.args.step.thread (place_of p) c.in-Some.way own e.key there.has.equal in
-    let change = subst (λ (k : Way _). is_change c.in-Change.call k ≡ true) (same-kind p.guard claim.0 c.in-Some.way claim.2 mine) claim.3 in
+    let equal = handed-equal _ (state_of core) c.requires.sound c.args.step.thread (place_of p) c.in-Some.way own e.key
+    there.has.equal in
+    let change = subst (λ (k : Way _). is_change c.in-Change.call k ≡ true)
+    (same-kind p.guard claim.0 c.in-Some.way claim.2 mine) claim.3 in
     let deeds = deeds_of g.D.Deed in
     let left = pair_in (held_leaves deeds c.in-Change.call (lent c.in-Some.way (entry_pair e))) in
     let leaves = at-some _ _ e there.has.there c.change_at-answer.ensures.leaves in
-    let keeps = held-keeps deeds g.K.PartialEq.eq g.met.K.Eq.laws c.in-Change.call c.in-Some.way change (entry_pair e) equal in
-    let puts = puts-left g.K.PartialEq.eq g.met.K.Eq.laws c.index_mut-shard.result.now c.change_at-answer.new.shard p.slot own.key there.distinct there.has left keeps leaves in
+    let keeps = held-keeps deeds g.K.PartialEq.eq g.met.K.Eq.laws c.in-Change.call c.in-Some.way change (entry_pair e)
+    equal in
+    let puts = puts-left g.K.PartialEq.eq g.met.K.Eq.laws c.index_mut-shard.result.now c.change_at-answer.new.shard
+    p.slot own.key there.distinct there.has left keeps leaves in
     record {
       place = place_of p;
       stands = seen;
@@ -166,10 +196,14 @@ returns-clause-step g c =
       puts = puts;
       blocks = c.count_in.new.blocks.items;
       counted = c.count_in.ensures.counted;
-      after = stepped-by core c.args.step (record p { guard = c.change_at-answer.result.1; phase = c.enter.new.phase }) _ c.appended-core.result.items _ _ core.locks c.count_in.new.blocks.items core.replies.items
+      after = stepped-by core c.args.step (record p { guard = c.change_at-answer.result.1; phase = c.enter.new.phase })
+          _ c.appended-core.result.items _ _ core.locks c.count_in.new.blocks.items core.replies.items
           c.appended-core.ensures
-          (ap₂ (λ o f. record (place_of p) { guard = o; phase = f }) (c.change_at-answer.ensures.guard ∙ ap (λ k. if ends_guard c.in-Change.call then None else k) (sym mine))
-          (c.enter.ensures ∙ (c.changed_phase.ensures ∙ ap₂ changed_phase c.ends_guard-ends.ensures (at-some _ _ e there.has.there c.change_at-answer.ensures.answer))))
+          (ap₂ (λ o f. record (place_of p) { guard = o; phase = f })
+          (c.change_at-answer.ensures.guard ∙ ap (λ k. if ends_guard c.in-Change.call then None else k) (sym mine))
+          (c.enter.ensures ∙
+          (c.changed_phase.ensures ∙ ap₂ changed_phase c.ends_guard-ends.ensures
+          (at-some _ _ e there.has.there c.change_at-answer.ensures.answer))))
           (map-set shard_pairs core.tables.items p.shard c.change_at-answer.new.shard);
     }
 
@@ -181,30 +215,46 @@ returns-clause-slots g c =
     let seen = seen-here core.places.items c.requires.before.1 p c.index_mut-place.ensures.value in
     let before = sym c.replace.ensures.value ∙ c.in-Change.is in
     let claim = claim_at c.requires.sound c.args.step.thread (place_of p) seen before in
-    let mine = way_is p.guard c.in-Some.way (sym (ap lent_way c.replace-2.ensures.value) ∙ (sym c.lent_way.ensures ∙ c.in-Some.is)) in
-    let own = guards _ (state_of core) c.requires.sound c.args.step.thread (place_of p) (guard.Pair c.in-Some.way) mine p.next _ p.block refl claim.5 in
+    let mine = way_is p.guard c.in-Some.way
+    (sym (ap lent_way c.replace-2.ensures.value) ∙ (sym c.lent_way.ensures ∙ c.in-Some.is)) in
+    let own = guards _ (state_of core) c.requires.sound c.args.step.thread (place_of p) (guard.Pair c.in-Some.way) mine
+    p.next _ p.block refl claim.5 in
     let is = guard-slot c.requires.slots c.args.step.thread p here c.in-Some.way mine own.key own.key_is in
-    let there = stands-in _ core c.requires.sound g.met.K.Eq.laws p.shard p.slot _ is c.index_mut-shard.result.now c.index_mut-shard.ensures.value in
+    let there = stands-in _ core c.requires.sound g.met.K.Eq.laws p.shard p.slot _ is c.index_mut-shard.result.now
+    c.index_mut-shard.ensures.value in
     let e = there.has.entry in
-    let equal = handed-equal _ (state_of core) c.requires.sound c.args.step.thread (place_of p) c.in-Some.way own e.key there.has.equal in
-    let change = subst (λ (k : Way _). is_change c.in-Change.call k ≡ true) (same-kind p.guard claim.0 c.in-Some.way claim.2 mine) claim.3 in
+    let equal = handed-equal _ (state_of core) c.requires.sound c.args.step.thread (place_of p) c.in-Some.way own e.key
+    there.has.equal in
+    let change = subst (λ (k : Way _). is_change c.in-Change.call k ≡ true)
+    (same-kind p.guard claim.0 c.in-Some.way claim.2 mine) claim.3 in
     let deeds = deeds_of g.D.Deed in
     let left = pair_in (held_leaves deeds c.in-Change.call (lent c.in-Some.way (entry_pair e))) in
     let leaves = at-some _ _ e there.has.there c.change_at-answer.ensures.leaves in
-    let keeps = held-keeps deeds g.K.PartialEq.eq g.met.K.Eq.laws c.in-Change.call c.in-Some.way change (entry_pair e) equal in
-    let puts = puts-left g.K.PartialEq.eq g.met.K.Eq.laws c.index_mut-shard.result.now c.change_at-answer.new.shard p.slot own.key there.distinct there.has left keeps leaves in
-    let hashes = hashes-left g.K.PartialEq.eq g.met.K.Eq.laws c.index_mut-shard.result.now c.change_at-answer.new.shard p.slot own.key there.distinct there.has _
-    (hashes-alike g.S.BuildHasher g.S.Hasher.Hasher g.K.Hash.hash_input core.hasher g.K.PartialEq.eq g.met.K.Hash.respects_eq) left keeps leaves (c.requires.slots.hashed p.shard c.index_mut-shard.result.now there.held) in
+    let keeps = held-keeps deeds g.K.PartialEq.eq g.met.K.Eq.laws c.in-Change.call c.in-Some.way change (entry_pair e)
+    equal in
+    let puts = puts-left g.K.PartialEq.eq g.met.K.Eq.laws c.index_mut-shard.result.now c.change_at-answer.new.shard
+    p.slot own.key there.distinct there.has left keeps leaves in
+    let hashes = hashes-left g.K.PartialEq.eq g.met.K.Eq.laws c.index_mut-shard.result.now c.change_at-answer.new.shard
+    p.slot own.key there.distinct there.has _
+    (hashes-alike g.S.BuildHasher g.S.Hasher.Hasher g.K.Hash.hash_input core.hasher g.K.PartialEq.eq
+    g.met.K.Hash.respects_eq) left keeps leaves
+    (c.requires.slots.hashed p.shard c.index_mut-shard.result.now there.held) in
     let blocks = c.count_in.new.blocks.items in
-    let kept = slots-alone_lent _ _ core c.requires.sound c.requires.slots c.args.step.thread p (record p { guard = c.change_at-answer.result.1; phase = c.enter.new.phase }) here
+    let kept = slots-alone_lent _ _ core c.requires.sound c.requires.slots c.args.step.thread p
+    (record p { guard = c.change_at-answer.result.1; phase = c.enter.new.phase }) here
     blocks (calls-counted c.args.step.thread core.blocks.items blocks p.block p.next c.count_in.ensures.counted)
-    claim.4 c.index_mut-shard.result.now c.change_at-answer.new.shard there.held hashes (λ kind e. ap (λ o. is_some (lent_way o)) mine) (λ i e. e)
-    (changed-free c.enter.new.phase c.ends_guard-ends.result c.change_at-answer.result.0 (c.enter.ensures ∙ c.changed_phase.ensures)) refl refl
+    claim.4 c.index_mut-shard.result.now c.change_at-answer.new.shard there.held hashes
+    (λ kind e. ap (λ o. is_some (lent_way o)) mine) (λ i e. e)
+    (changed-free c.enter.new.phase c.ends_guard-ends.result c.change_at-answer.result.0
+    (c.enter.ensures ∙ c.changed_phase.ensures)) refl refl
     (λ kind lends.
-    let stays = held-stays deeds c.in-Change.call c.in-Some.way change kind (sym (ap lent_way c.change_at-answer.ensures.guard) ∙ lends) (entry_pair e) in
-    key-kept g.K.PartialEq.eq g.met.K.Eq.laws c.index_mut-shard.result.now c.change_at-answer.new.shard p.slot own.key there.distinct there.has stays.0 (keeps stays.0 stays.1)
+    let stays = held-stays deeds c.in-Change.call c.in-Some.way change kind
+    (sym (ap lent_way c.change_at-answer.ensures.guard) ∙ lends) (entry_pair e) in
+    key-kept g.K.PartialEq.eq g.met.K.Eq.laws c.index_mut-shard.result.now c.change_at-answer.new.shard p.slot own.key
+    there.distinct there.has stays.0 (keeps stays.0 stays.1)
     (subst (LeavesAt c.index_mut-shard.result.now c.change_at-answer.new.shard p.slot) stays.1 leaves))
-    (changed_weighs c.ends_guard-ends.result c.change_at-answer.result.0 c.enter.new.phase (c.enter.ensures ∙ c.changed_phase.ensures)).3 in
+    (changed_weighs c.ends_guard-ends.result c.change_at-answer.result.0 c.enter.new.phase
+    (c.enter.ensures ∙ c.changed_phase.ensures)).3 in
     record { hashed = kept.hashed; found = kept.found; next = kept.next }
 
 pub returns-clause-room : goal.returns-clause-room
@@ -215,22 +265,32 @@ returns-clause-room g c =
     let seen = seen-here core.places.items c.requires.before.1 p c.index_mut-place.ensures.value in
     let before = sym c.replace.ensures.value ∙ c.in-Change.is in
     let claim = claim_at c.requires.sound c.args.step.thread (place_of p) seen before in
-    let mine = way_is p.guard c.in-Some.way (sym (ap lent_way c.replace-2.ensures.value) ∙ (sym c.lent_way.ensures ∙ c.in-Some.is)) in
-    let own = guards _ (state_of core) c.requires.sound c.args.step.thread (place_of p) (guard.Pair c.in-Some.way) mine p.next _ p.block refl claim.5 in
+    let mine = way_is p.guard c.in-Some.way
+    (sym (ap lent_way c.replace-2.ensures.value) ∙ (sym c.lent_way.ensures ∙ c.in-Some.is)) in
+    let own = guards _ (state_of core) c.requires.sound c.args.step.thread (place_of p) (guard.Pair c.in-Some.way) mine
+    p.next _ p.block refl claim.5 in
     let is = guard-slot c.requires.slots c.args.step.thread p here c.in-Some.way mine own.key own.key_is in
-    let there = stands-in _ core c.requires.sound g.met.K.Eq.laws p.shard p.slot _ is c.index_mut-shard.result.now c.index_mut-shard.ensures.value in
+    let there = stands-in _ core c.requires.sound g.met.K.Eq.laws p.shard p.slot _ is c.index_mut-shard.result.now
+    c.index_mut-shard.ensures.value in
     let e = there.has.entry in
-    let equal = handed-equal _ (state_of core) c.requires.sound c.args.step.thread (place_of p) c.in-Some.way own e.key there.has.equal in
-    let change = subst (λ (k : Way _). is_change c.in-Change.call k ≡ true) (same-kind p.guard claim.0 c.in-Some.way claim.2 mine) claim.3 in
+    let equal = handed-equal _ (state_of core) c.requires.sound c.args.step.thread (place_of p) c.in-Some.way own e.key
+    there.has.equal in
+    let change = subst (λ (k : Way _). is_change c.in-Change.call k ≡ true)
+    (same-kind p.guard claim.0 c.in-Some.way claim.2 mine) claim.3 in
     let deeds = deeds_of g.D.Deed in
     let left = pair_in (held_leaves deeds c.in-Change.call (lent c.in-Some.way (entry_pair e))) in
     let leaves = at-some _ _ e there.has.there c.change_at-answer.ensures.leaves in
-    let keeps = held-keeps deeds g.K.PartialEq.eq g.met.K.Eq.laws c.in-Change.call c.in-Some.way change (entry_pair e) equal in
-    let puts = puts-left g.K.PartialEq.eq g.met.K.Eq.laws c.index_mut-shard.result.now c.change_at-answer.new.shard p.slot own.key there.distinct there.has left keeps leaves in
-    let gone = gone-number left c.takes_pair-gone.result (c.takes_pair-gone.ensures ∙ held-gone deeds c.in-Change.call c.in-Some.way change (entry_pair e)) in
+    let keeps = held-keeps deeds g.K.PartialEq.eq g.met.K.Eq.laws c.in-Change.call c.in-Some.way change (entry_pair e)
+    equal in
+    let puts = puts-left g.K.PartialEq.eq g.met.K.Eq.laws c.index_mut-shard.result.now c.change_at-answer.new.shard
+    p.slot own.key there.distinct there.has left keeps leaves in
+    let gone = gone-number left c.takes_pair-gone.result
+    (c.takes_pair-gone.ensures ∙ held-gone deeds c.in-Change.call c.in-Some.way change (entry_pair e)) in
     let was = ap number_of there.pair in
-    let change_ = pairs_put core.tables.items p.shard c.index_mut-shard.result.now c.change_at-answer.new.shard there.held in
-    let weights = changed_weighs c.ends_guard-ends.result c.change_at-answer.result.0 c.enter.new.phase (c.enter.ensures ∙ c.changed_phase.ensures) in
+    let change_ = pairs_put core.tables.items p.shard c.index_mut-shard.result.now c.change_at-answer.new.shard
+    there.held in
+    let weights = changed_weighs c.ends_guard-ends.result c.change_at-answer.result.0 c.enter.new.phase
+    (c.enter.ensures ∙ c.changed_phase.ensures) in
     let more = length core.tables.items - (p.shard + 1) in
     let p' = record p { guard = c.change_at-answer.result.1; phase = c.enter.new.phase } in
     let plain = weights.3 in
@@ -255,5 +315,6 @@ returns-clause-room g c =
       adding = omega (arith, weights.2, ap adds before, c.less_one-core.ensures);
       pairs = omega (arith, c.requires.room.pairs, change_, puts.counted, gone, was, c.less_one-core.ensures);
       more_blocks = omega (arith, c.count_in.ensures.len);
-      listed = λ i e. let below = c.requires.room.listed c.args.step.thread (place_of p) i seen e in omega (arith, below, c.count_in.ensures.len);
+      listed = λ i e. let below = c.requires.room.listed c.args.step.thread (place_of p) i seen e in
+          omega (arith, below, c.count_in.ensures.len);
     })

@@ -12,7 +12,8 @@ use Rattle.mapworld_state.specs.Slots.{phase_key}
 use Rattle.mapworld_state.specs.Core.{state_of, owes, lists, adds}
 use Rattle.mapworld_state.proofs.LocksFacts.Sizes.{same_size}
 use Rattle.mapworld_transitions.proofs.Rooms.{shifted}
-use Rattle.mapworld_transitions.proofs.Facts.{kept-here, seen-here, kept-phase, claim_at, next_fits, session_counts, stepped-by}
+use Rattle.mapworld_transitions.proofs.Facts.{kept-here, seen-here, kept-phase, claim_at, next_fits, session_counts}
+use Rattle.mapworld_transitions.proofs.Facts.{stepped-by}
 use Rattle.mapworld_transitions.proofs.Keys.{guards}
 use Rattle.mapworld_transitions.proofs.Leaving.{stands-in}
 use Rattle.mapworld_transitions.proofs.Walking.{walking, plain-visits, plain-lists}
@@ -27,7 +28,8 @@ index-requires g c =
     let seen = seen-here core.places.items c.requires.before.1 p c.index_mut-place.ensures.value in
     let before = kept-phase core.places.items c.requires.before.1 p c.index_mut-place.ensures.value in
     let claim = claim_at c.requires.sound c.args.step.thread (place_of p) seen before in
-    let own = guards _ (state_of core) c.requires.sound c.args.step.thread (place_of p) (guard.Pair claim.0) claim.2 p.next _ p.block refl claim.3 in
+    let own = guards _ (state_of core) c.requires.sound c.args.step.thread (place_of p) (guard.Pair claim.0) claim.2
+    p.next _ p.block refl claim.3 in
     let is = guard-slot c.requires.slots c.args.step.thread p here claim.0 claim.2 own.key own.key_is in
     omega (arith, slice_get_within core.tables.items p.shard is.table is.held, core.tables.ok.0)
 
@@ -39,9 +41,11 @@ pair_at-requires g c =
     let seen = seen-here core.places.items c.requires.before.1 p c.index_mut-place.ensures.value in
     let before = kept-phase core.places.items c.requires.before.1 p c.index_mut-place.ensures.value in
     let claim = claim_at c.requires.sound c.args.step.thread (place_of p) seen before in
-    let own = guards _ (state_of core) c.requires.sound c.args.step.thread (place_of p) (guard.Pair claim.0) claim.2 p.next _ p.block refl claim.3 in
+    let own = guards _ (state_of core) c.requires.sound c.args.step.thread (place_of p) (guard.Pair claim.0) claim.2
+    p.next _ p.block refl claim.3 in
     let is = guard-slot c.requires.slots c.args.step.thread p here claim.0 claim.2 own.key own.key_is in
-    let there = stands-in _ core c.requires.sound g.met.K.Eq.laws p.shard p.slot _ is c.index.result.now c.index.ensures in
+    let there = stands-in _ core c.requires.sound g.met.K.Eq.laws p.shard p.slot _ is c.index.result.now c.index.ensures
+    in
     record { full = there.full }
 
 pub count_in-requires-clause-listed : goal.count_in-requires-clause-listed
@@ -70,9 +74,11 @@ returns-clause-step g c =
     let seen = seen-here core.places.items c.requires.before.1 p c.index_mut-place.ensures.value in
     let before = sym c.replace.ensures.value ∙ c.in-Read.is in
     let claim = claim_at c.requires.sound c.args.step.thread (place_of p) seen before in
-    let own = guards _ (state_of core) c.requires.sound c.args.step.thread (place_of p) (guard.Pair claim.0) claim.2 p.next _ p.block refl claim.3 in
+    let own = guards _ (state_of core) c.requires.sound c.args.step.thread (place_of p) (guard.Pair claim.0) claim.2
+    p.next _ p.block refl claim.3 in
     let is = guard-slot c.requires.slots c.args.step.thread p here claim.0 claim.2 own.key own.key_is in
-    let there = stands-in _ core c.requires.sound g.met.K.Eq.laws p.shard p.slot _ is c.index.result.now c.index.ensures in
+    let there = stands-in _ core c.requires.sound g.met.K.Eq.laws p.shard p.slot _ is c.index.result.now c.index.ensures
+    in
     record {
       place = place_of p;
       stands = seen;
@@ -88,8 +94,11 @@ returns-clause-step g c =
       found = there.pair ∙ (sym (ap (option_map entry_pair) there.has.there) ∙ c.pair_at.ensures);
       blocks = c.count_in.new.blocks.items;
       counted = c.count_in.ensures.counted;
-      after = stepped-by core c.args.step (record p { phase = c.enter.new.phase }) _ c.appended-core.result.items core.tables.items _ core.locks c.count_in.new.blocks.items core.replies.items
-          c.appended-core.ensures (ap (λ f. record (place_of p) { phase = f }) (c.enter.ensures ∙ ap (λ a. phase.Answer (answer.Read a)) c.answer.ensures)) refl;
+      after = stepped-by core c.args.step (record p { phase = c.enter.new.phase }) _ c.appended-core.result.items
+          core.tables.items _ core.locks c.count_in.new.blocks.items core.replies.items
+          c.appended-core.ensures
+          (ap (λ f. record (place_of p) { phase = f })
+          (c.enter.ensures ∙ ap (λ a. phase.Answer (answer.Read a)) c.answer.ensures)) refl;
     }
 
 pub returns-clause-slots : goal.returns-clause-slots
@@ -100,8 +109,10 @@ returns-clause-slots g c =
     let seen = seen-here core.places.items c.requires.before.1 p c.index_mut-place.ensures.value in
     let before = sym c.replace.ensures.value ∙ c.in-Read.is in
     let blocks = c.count_in.new.blocks.items in
-    slots-kept _ _ core c.requires.sound c.requires.slots c.args.step.thread p (record p { phase = c.enter.new.phase }) here
-    blocks (calls-counted c.args.step.thread core.blocks.items blocks p.block p.next c.count_in.ensures.counted) (λ kind e. ap is_some e) (λ i e. e) (ap phase_key c.enter.ensures) refl refl (ap walking c.enter.ensures)
+    slots-kept _ _ core c.requires.sound c.requires.slots c.args.step.thread p (record p { phase = c.enter.new.phase })
+    here
+    blocks (calls-counted c.args.step.thread core.blocks.items blocks p.block p.next c.count_in.ensures.counted)
+    (λ kind e. ap is_some e) (λ i e. e) (ap phase_key c.enter.ensures) refl refl (ap walking c.enter.ensures)
 
 pub returns-clause-room : goal.returns-clause-room
 returns-clause-room g c =
@@ -134,5 +145,6 @@ returns-clause-room g c =
       adding = omega (arith, ap adds c.enter.ensures, ap adds before);
       pairs = c.requires.room.pairs;
       more_blocks = omega (arith, c.count_in.ensures.len);
-      listed = λ i e. let below = c.requires.room.listed c.args.step.thread (place_of p) i seen e in omega (arith, below, c.count_in.ensures.len);
+      listed = λ i e. let below = c.requires.room.listed c.args.step.thread (place_of p) i seen e in
+          omega (arith, below, c.count_in.ensures.len);
     })

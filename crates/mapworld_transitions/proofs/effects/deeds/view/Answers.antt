@@ -31,7 +31,9 @@ unreachable-requires g c =
 pub unreachable-requires-in_default-replace : goal.unreachable-requires-in_default-replace
 unreachable-requires-in_default-replace g c =
     let p = c.index_mut-place.result.now in
-    c.in_default-replace.not-View c.requires.before.0 c.requires.before.1 (c.replace.ensures.value ∙ kept-phase c.args.core.now.places.items c.requires.before.2 p c.index_mut-place.ensures.value)
+    c.in_default-replace.not-View c.requires.before.0 c.requires.before.1
+    (c.replace.ensures.value ∙ kept-phase c.args.core.now.places.items c.requires.before.2 p
+    c.index_mut-place.ensures.value)
 
 pub index-requires : goal.index-requires
 index-requires g c =
@@ -53,7 +55,8 @@ pair_at-requires g c =
     let before = kept-phase core.places.items c.requires.before.2 p c.index_mut-place.ensures.value in
     let claim = claim_at c.requires.sound c.args.step.thread (place_of p) seen before in
     let is = call-slot c.requires.slots c.args.step.thread p here claim.2.guard _ (ap phase_key before) in
-    let there = stands-in _ core c.requires.sound g.met.K.Eq.laws p.shard p.slot _ is c.index.result.now c.index.ensures in
+    let there = stands-in _ core c.requires.sound g.met.K.Eq.laws p.shard p.slot _ is c.index.result.now c.index.ensures
+    in
     record { full = there.full }
 
 pub list_block-requires : goal.list_block-requires
@@ -61,7 +64,12 @@ list_block-requires g c =
     let core = c.args.core.now in
     let p = c.index_mut-place.result.now in
     let seen = seen-here core.places.items c.requires.before.2 p c.index_mut-place.ensures.value in
-    block_left core c.args.step.thread (place_of p) c.requires.room seen (omega (arith, ap (lists (length core.tables.items - (p.shard + 1))) (kept-phase core.places.items c.requires.before.2 p c.index_mut-place.ensures.value)))
+    block_left core c.args.step.thread (place_of p) c.requires.room seen
+    (omega (
+      arith,
+      ap (lists (length core.tables.items - (p.shard + 1)))
+          (kept-phase core.places.items c.requires.before.2 p c.index_mut-place.ensures.value),
+    ))
 
 pub returns-clause-step : goal.returns-clause-step
 returns-clause-step g c =
@@ -72,7 +80,8 @@ returns-clause-step g c =
     let before = sym c.replace.ensures.value ∙ c.in-View.is in
     let claim = claim_at c.requires.sound c.args.step.thread (place_of p) seen before in
     let is = call-slot c.requires.slots c.args.step.thread p here claim.2.guard _ (ap phase_key before) in
-    let there = stands-in _ core c.requires.sound g.met.K.Eq.laws p.shard p.slot _ is c.index.result.now c.index.ensures in
+    let there = stands-in _ core c.requires.sound g.met.K.Eq.laws p.shard p.slot _ is c.index.result.now c.index.ensures
+    in
     let st : Started = record { thread = c.args.step.thread; call = p.next; start = c.in-Some.start } in
     let blocks = c.list_block.new.blocks.items in
     let index : c.len-index.result ≡ length core.blocks.items = omega (arith, c.len-index.ensures, core.blocks.ok.0) in
@@ -87,9 +96,13 @@ returns-clause-step g c =
       pair = (c.pair_at.result.0.now, c.pair_at.result.1.now);
       found = there.pair ∙ (sym (ap (option_map entry_pair) there.has.there) ∙ c.pair_at.ensures);
       blocks = blocks;
-      listed = lists_block (state_of core) c.args.step.thread (place_of p) (Some 1) st (core.count + 1) blocks c.list_block.ensures.listed refl refl c.in-Some.is (ap (λ n. n + 1) c.requires.room.count);
-      after = stepped-by core c.args.step (record p { block = Some c.len-index.result; phase = c.enter.new.phase }) _ c.appended-core.result.items core.tables.items _ core.locks blocks core.replies.items
-          c.appended-core.ensures (ap₂ (λ n f. record (place_of p) { block = Some n; phase = f }) index (c.enter.ensures ∙ ap (λ a. phase.Release (answer.Read a)) c.answer.ensures)) refl;
+      listed = lists_block (state_of core) c.args.step.thread (place_of p) (Some 1) st (core.count + 1) blocks
+          c.list_block.ensures.listed refl refl c.in-Some.is (ap (λ n. n + 1) c.requires.room.count);
+      after = stepped-by core c.args.step (record p { block = Some c.len-index.result; phase = c.enter.new.phase }) _
+          c.appended-core.result.items core.tables.items _ core.locks blocks core.replies.items
+          c.appended-core.ensures
+          (ap₂ (λ n f. record (place_of p) { block = Some n; phase = f }) index
+          (c.enter.ensures ∙ ap (λ a. phase.Release (answer.Read a)) c.answer.ensures)) refl;
     }
 
 pub returns-clause-slots : goal.returns-clause-slots
@@ -102,8 +115,11 @@ returns-clause-slots g c =
     let claim = claim_at c.requires.sound c.args.step.thread (place_of p) seen before in
     let st : Started = record { thread = c.args.step.thread; call = p.next; start = c.in-Some.start } in
     let blocks = c.list_block.new.blocks.items in
-    slots-same_free _ _ core c.requires.sound c.requires.slots c.args.step.thread p (record p { block = Some c.len-index.result; phase = c.enter.new.phase }) here
-    blocks (calls-listed c.args.step.thread core.blocks.items blocks (Some 1) st (core.count + 1) c.list_block.ensures.listed) claim.2.guard (ap phase_key c.enter.ensures) (next-free _ _ _ _ _ (ap walking c.enter.ensures))
+    slots-same_free _ _ core c.requires.sound c.requires.slots c.args.step.thread p
+    (record p { block = Some c.len-index.result; phase = c.enter.new.phase }) here
+    blocks (calls-listed c.args.step.thread core.blocks.items blocks (Some 1) st (core.count + 1)
+    c.list_block.ensures.listed) claim.2.guard (ap phase_key c.enter.ensures)
+    (next-free _ _ _ _ _ (ap walking c.enter.ensures))
 
 pub returns-clause-room : goal.returns-clause-room
 returns-clause-room g c =
@@ -114,7 +130,8 @@ returns-clause-room g c =
     let before = sym c.replace.ensures.value ∙ c.in-View.is in
     let st : Started = record { thread = c.args.step.thread; call = p.next; start = c.in-Some.start } in
     let blocks = c.list_block.new.blocks.items in
-    let added : length blocks ≡ length core.blocks.items + 1 = one_added core.blocks.items st (core.count + 1) blocks 1 c.list_block.ensures.listed in
+    let added : length blocks ≡ length core.blocks.items + 1 = one_added core.blocks.items st (core.count + 1) blocks 1
+    c.list_block.ensures.listed in
     let more = length core.tables.items - (p.shard + 1) in
     let p' = record p { block = Some c.len-index.result; phase = c.enter.new.phase } in
     let plain = ap walking c.enter.ensures in

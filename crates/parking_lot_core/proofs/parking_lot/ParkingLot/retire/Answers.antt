@@ -7,4 +7,5 @@ pub returns : goal.returns
 returns g c =
     let old = machine c.deref_mut.result.now.lot in
     let new = machine c.retire.new.self.lot in
-    subst (λ t. OnSomeLot (Does (λ m. retire_fault m t) (Makes (λ m. retired m t))) c.in-Ok.field-0) c.thread_number.ensures (old, new, c.retire.ensures.sound, c.in-Ok.ensures.lot)
+    subst (λ t. OnSomeLot (Does (λ m. retire_fault m t) (Makes (λ m. retired m t))) c.in-Ok.field-0)
+    c.thread_number.ensures (old, new, c.retire.ensures.sound, c.in-Ok.ensures.lot)

@@ -4,4 +4,5 @@ use Rattle.parking_lot_core_model.proofs.Kept.{lists_of-clear}
 use Rattle.parking_lot_core_model.proofs.lists.Lists.clear.Goals as goal
 
 pub returns-clause-kept : goal.returns-clause-kept
-returns-clause-kept g c = ap lists_of c.drop_under.ensures.entries ∙ lists_of-clear c.args.self.now.entries.items c.args.key
+returns-clause-kept g c = ap lists_of c.drop_under.ensures.entries ∙ lists_of-clear c.args.self.now.entries.items
+    c.args.key

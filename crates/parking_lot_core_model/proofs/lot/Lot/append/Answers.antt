@@ -12,6 +12,13 @@ returns g c =
     let m = machine c.args.self.now in
     let s = c.in-Some.section in
     let e : section_of m c.args.thread ≡ Some s = sym c.section_of.ensures.section ∙ c.in-Some.is in
-    let done : machine c.join.new.self ≡ joined (in_phase m phase.Joined) c.args.thread s.key c.args.park_token c.args.timed = c.join.ensures ∙ ap (λ (x : Machine). joined x c.args.thread s.key c.args.park_token c.args.timed) c.set_phase.ensures in
-    unless_done (step_fault may_join m c.args.thread) (Ok tt) m (machine c.join.new.self) _ (allowed may_join m c.args.thread s e (sym c.if-not-may_join.ensures))
-    (refl, some_and (section_of m c.args.thread) s (λ (x : Section). machine c.join.new.self ≡ joined (in_phase m phase.Joined) c.args.thread x.key c.args.park_token c.args.timed) e done)
+    let done : machine c.join.new.self ≡ joined (in_phase m phase.Joined) c.args.thread s.key c.args.park_token
+    c.args.timed = c.join.ensures
+    ∙ ap (λ (x : Machine). joined x c.args.thread s.key c.args.park_token c.args.timed) c.set_phase.ensures in
+    unless_done (step_fault may_join m c.args.thread) (Ok tt) m (machine c.join.new.self) _
+    (allowed may_join m c.args.thread s e (sym c.if-not-may_join.ensures)) (
+      refl,
+      some_and (section_of m c.args.thread) s
+          (λ (x : Section). machine c.join.new.self ≡ joined (in_phase m phase.Joined) c.args.thread x.key
+          c.args.park_token c.args.timed) e done,
+    )

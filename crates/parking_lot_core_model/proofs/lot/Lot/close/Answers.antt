@@ -1,4 +1,5 @@
-use Rattle.std.proofs.Common.{◌≡◌, ◌∙◌, ◌∷◌, ◌++◌, ◌+◌, [], sym, ap, subst, refl, ℕ, Some, None, is_some, List, Option, slice_get, slice_set, map, true, false, cond, arith}
+use Rattle.std.proofs.Common.{◌≡◌, ◌∙◌, ◌∷◌, ◌++◌, ◌+◌, [], sym, ap, subst, refl, ℕ, Some, None, is_some, List, Option}
+use Rattle.std.proofs.Common.{slice_get, slice_set, map, true, false, cond, arith}
 use Rattle.std.specs.Option.{option_map}
 use Rattle.parking_lot_core_model.specs.declared.place.Place.{Place}
 use Rattle.parking_lot_core_model.specs.declared.place.Place.TheVariants.{Running, Waiting, Held, Taken}
@@ -13,5 +14,15 @@ use Rattle.parking_lot_core_model.proofs.lot.Lot.close.Goals as goal
 pub invariant_of-self : goal.invariant_of-self
 invariant_of-self g c =
     let l = c.self.inside in
-    let p : Parts = record { number = l.number; max_threads = l.max_threads; sleeps = l.sleeps; waiting = l.waiting.entries.items; owned = l.owned.entries.items; places = l.places.items; section = l.section } in
-    subst (λ (ps : List (Option Place)). Owed (record p { places = ps; section = None }) l.waiting) (sym c.tell.ensures) (section_closed p l.waiting c.map_or-token.result c.args.woken c.self.invariant)
+    let p : Parts = record {
+      number = l.number;
+      max_threads = l.max_threads;
+      sleeps = l.sleeps;
+      waiting = l.waiting.entries.items;
+      owned = l.owned.entries.items;
+      places = l.places.items;
+      section = l.section;
+    }
+    in
+    subst (λ (ps : List (Option Place)). Owed (record p { places = ps; section = None }) l.waiting) (sym c.tell.ensures)
+    (section_closed p l.waiting c.map_or-token.result c.args.woken c.self.invariant)

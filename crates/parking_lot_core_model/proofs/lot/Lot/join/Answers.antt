@@ -1,4 +1,5 @@
-use Rattle.std.proofs.Common.{◌≡◌, ◌∙◌, ◌∷◌, ◌++◌, ◌+◌, ◌%◌, ◌^◌, [], sym, ap, subst, refl, ℕ, Some, None, is_some, List, Option, slice_get, slice_set, map, true, false, cond, arith}
+use Rattle.std.proofs.Common.{◌≡◌, ◌∙◌, ◌∷◌, ◌++◌, ◌+◌, ◌%◌, ◌^◌, [], sym, ap, subst, refl, ℕ, Some, None, is_some}
+use Rattle.std.proofs.Common.{List, Option, slice_get, slice_set, map, true, false, cond, arith}
 use Rattle.std.specs.Option.{option_map}
 use Rattle.parking_lot_core_model.specs.declared.place.Place.{Place}
 use Rattle.parking_lot_core_model.specs.declared.place.Place.TheVariants.{Running, Waiting, Held, Taken}
@@ -14,14 +15,38 @@ use Rattle.parking_lot_core_model.proofs.lot.Lot.join.Goals as goal
 pub push-requires : goal.push-requires
 push-requires g c =
     let l = c.self.inside in
-    let p : Parts = record { number = l.number; max_threads = l.max_threads; sleeps = l.sleeps; waiting = l.waiting.entries.items; owned = l.owned.entries.items; places = l.places.items; section = l.section } in
-    let at : place_at p.places c.args.thread ≡ Some Running = ap (λ v. place_at v.places c.args.thread) c.self.view_is ∙ c.requires.runs in
+    let p : Parts = record {
+      number = l.number;
+      max_threads = l.max_threads;
+      sleeps = l.sleeps;
+      waiting = l.waiting.entries.items;
+      owned = l.owned.entries.items;
+      places = l.places.items;
+      section = l.section;
+    }
+    in
+    let at : place_at p.places c.args.thread ≡ Some Running = ap (λ v. place_at v.places c.args.thread) c.self.view_is
+    ∙ c.requires.runs in
     room_left l.waiting p.places p.max_threads c.args.thread c.self.invariant.1 at
 
 pub invariant_of-self : goal.invariant_of-self
 invariant_of-self g c =
     let l = c.self.inside in
-    let p : Parts = record { number = l.number; max_threads = l.max_threads; sleeps = l.sleeps; waiting = l.waiting.entries.items; owned = l.owned.entries.items; places = l.places.items; section = l.section } in
-    let at : place_at p.places c.args.thread ≡ Some Running = ap (λ v. place_at v.places c.args.thread) c.self.view_is ∙ c.requires.runs in
-    subst (λ (ps : List (Option Place)). Owed (record p { sleeps = (p.sleeps + 1) % 2 ^ 64; waiting = c.push.new.self.entries.items; places = ps }) c.push.new.self) (sym c.put.ensures)
-    (joined_parts p l.waiting c.push.new.self c.args.thread c.args.key c.args.token c.args.timed c.self.invariant at (λ s is. c.requires.outside s (ap (λ v. v.section) (sym c.self.view_is) ∙ is)) c.push.ensures.kept c.push.ensures.total c.push.ensures.room)
+    let p : Parts = record {
+      number = l.number;
+      max_threads = l.max_threads;
+      sleeps = l.sleeps;
+      waiting = l.waiting.entries.items;
+      owned = l.owned.entries.items;
+      places = l.places.items;
+      section = l.section;
+    }
+    in
+    let at : place_at p.places c.args.thread ≡ Some Running = ap (λ v. place_at v.places c.args.thread) c.self.view_is
+    ∙ c.requires.runs in
+    subst (λ (ps : List (Option Place)). Owed
+    (record p { sleeps = (p.sleeps + 1) % 2 ^ 64; waiting = c.push.new.self.entries.items; places = ps })
+    c.push.new.self) (sym c.put.ensures)
+    (joined_parts p l.waiting c.push.new.self c.args.thread c.args.key c.args.token c.args.timed c.self.invariant at
+    (λ s is. c.requires.outside s (ap (λ v. v.section) (sym c.self.view_is) ∙ is)) c.push.ensures.kept
+    c.push.ensures.total c.push.ensures.room)

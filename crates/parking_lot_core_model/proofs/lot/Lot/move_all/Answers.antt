@@ -10,4 +10,6 @@ pub loop-nth-preserved : goal.loop-nth-preserved
 loop-nth-preserved g c =
     let m = machine c.args.self.now in
     let w = nth_of (m.queues c.args.from) c.loop-nth.nth (omega arith) in
-    c.move_first.ensures ∙ (ap (λ (x : Machine). moved_first x c.args.from c.args.to) c.loop-nth.invariant ∙ moved_more m c.args.from c.args.to c.loop-nth.nth w.0 w.1)
+    c.move_first.ensures
+    ∙ (ap (λ (x : Machine). moved_first x c.args.from c.args.to) c.loop-nth.invariant
+    ∙ moved_more m c.args.from c.args.to c.loop-nth.nth w.0 w.1)

@@ -1,4 +1,5 @@
-use Rattle.std.proofs.Common.{◌≡◌, ◌∙◌, ◌∷◌, ◌++◌, ◌+◌, [], sym, ap, subst, refl, ℕ, Some, None, is_some, List, Option, slice_get, slice_set, map, remove, true, false, cond, arith}
+use Rattle.std.proofs.Common.{◌≡◌, ◌∙◌, ◌∷◌, ◌++◌, ◌+◌, [], sym, ap, subst, refl, ℕ, Some, None, is_some, List, Option}
+use Rattle.std.proofs.Common.{slice_get, slice_set, map, remove, true, false, cond, arith}
 use Rattle.std.specs.Option.{option_map, IsSome}
 use Rattle.parking_lot_core_model.specs.declared.place.Place.{Place}
 use Rattle.parking_lot_core_model.specs.declared.place.Place.TheVariants.{Running, Waiting, Held, Taken}
@@ -14,28 +15,70 @@ use Rattle.parking_lot_core_model.proofs.lot.Lot.move_first.Goals as goal
 pub invariant_of-self : goal.invariant_of-self
 invariant_of-self g c =
     let l = c.self.inside in
-    let p : Parts = record { number = l.number; max_threads = l.max_threads; sleeps = l.sleeps; waiting = l.waiting.entries.items; owned = l.owned.entries.items; places = l.places.items; section = l.section } in
+    let p : Parts = record {
+      number = l.number;
+      max_threads = l.max_threads;
+      sleeps = l.sleeps;
+      waiting = l.waiting.entries.items;
+      owned = l.owned.entries.items;
+      places = l.places.items;
+      section = l.section;
+    }
+    in
     let h = c.in-Some.ensures in
-    subst (λ (ps : List (Option Place)). Owed (record p { waiting = c.push.new.self.entries.items; places = ps }) c.push.new.self) (sym c.relist.ensures)
-    (moved_parts p l.waiting c.take.new.self c.args.from 0 c.in-Some.waiter c.self.invariant (sym h.item) c.push.new.self c.args.to h.kept c.push.ensures.kept h.total c.push.ensures.total (c.push.ensures.room ∙ h.room))
+    subst (λ (ps : List (Option Place)). Owed (record p { waiting = c.push.new.self.entries.items; places = ps })
+    c.push.new.self) (sym c.relist.ensures)
+    (moved_parts p l.waiting c.take.new.self c.args.from 0 c.in-Some.waiter c.self.invariant (sym h.item)
+    c.push.new.self c.args.to h.kept c.push.ensures.kept h.total c.push.ensures.total
+    (c.push.ensures.room ∙ h.room))
 
 pub invariant_of-self-in_default : goal.invariant_of-self-in_default
 invariant_of-self-in_default g c =
     let l = c.self.inside in
-    let p : Parts = record { number = l.number; max_threads = l.max_threads; sleeps = l.sleeps; waiting = l.waiting.entries.items; owned = l.owned.entries.items; places = l.places.items; section = l.section } in
+    let p : Parts = record {
+      number = l.number;
+      max_threads = l.max_threads;
+      sleeps = l.sleeps;
+      waiting = l.waiting.entries.items;
+      owned = l.owned.entries.items;
+      places = l.places.items;
+      section = l.section;
+    }
+    in
     let h = c.in_default.ensures in
     nobody_taken p l.waiting c.take.new.self c.args.from 0 c.self.invariant h.item h.kept h.total h.room
 
 pub returns-in-Some : goal.returns-in-Some
 returns-in-Some g c =
     let l = c.self.inside in
-    let p : Parts = record { number = l.number; max_threads = l.max_threads; sleeps = l.sleeps; waiting = l.waiting.entries.items; owned = l.owned.entries.items; places = l.places.items; section = l.section } in
+    let p : Parts = record {
+      number = l.number;
+      max_threads = l.max_threads;
+      sleeps = l.sleeps;
+      waiting = l.waiting.entries.items;
+      owned = l.owned.entries.items;
+      places = l.places.items;
+      section = l.section;
+    }
+    in
     let h = c.in-Some.ensures in
-    first_moves (machine p) c.args.from c.args.to c.in-Some.waiter (lists_of c.take.new.self.entries.items) (lists_of c.push.new.self.entries.items) c.relist.new.places.items (sym h.item) h.kept c.push.ensures.kept c.relist.ensures ∙ ap (λ v. moved_first (machine v) c.args.from c.args.to) c.self.view_is
+    first_moves (machine p) c.args.from c.args.to c.in-Some.waiter (lists_of c.take.new.self.entries.items)
+    (lists_of c.push.new.self.entries.items) c.relist.new.places.items (sym h.item) h.kept c.push.ensures.kept
+    c.relist.ensures ∙ ap (λ v. moved_first (machine v) c.args.from c.args.to) c.self.view_is
 
 pub returns-in_default : goal.returns-in_default
 returns-in_default g c =
     let l = c.self.inside in
-    let p : Parts = record { number = l.number; max_threads = l.max_threads; sleeps = l.sleeps; waiting = l.waiting.entries.items; owned = l.owned.entries.items; places = l.places.items; section = l.section } in
+    let p : Parts = record {
+      number = l.number;
+      max_threads = l.max_threads;
+      sleeps = l.sleeps;
+      waiting = l.waiting.entries.items;
+      owned = l.owned.entries.items;
+      places = l.places.items;
+      section = l.section;
+    }
+    in
     let h = c.in_default.ensures in
-    first_stays (machine p) c.args.from c.args.to (lists_of c.take.new.self.entries.items) h.item h.kept ∙ ap (λ v. moved_first (machine v) c.args.from c.args.to) c.self.view_is
+    first_stays (machine p) c.args.from c.args.to (lists_of c.take.new.self.entries.items) h.item h.kept
+    ∙ ap (λ v. moved_first (machine v) c.args.from c.args.to) c.self.view_is

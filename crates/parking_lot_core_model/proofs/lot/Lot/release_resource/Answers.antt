@@ -1,4 +1,5 @@
-use Rattle.std.proofs.Common.{◌≡◌, ◌∙◌, ◌∷◌, ◌++◌, [], sym, ap, subst, refl, Some, None, is_some, List, Option, slice_set, ◌==◌, true, false, cond, arith}
+use Rattle.std.proofs.Common.{◌≡◌, ◌∙◌, ◌∷◌, ◌++◌, [], sym, ap, subst, refl, Some, None, is_some, List, Option}
+use Rattle.std.proofs.Common.{slice_set, ◌==◌, true, false, cond, arith}
 use Rattle.parking_lot_core_model.specs.declared.place.Place.{Place}
 use Rattle.parking_lot_core_model.specs.declared.place.Place.TheVariants.{Running, Waiting, Held, Taken}
 use Rattle.parking_lot_core_model.specs.Lists.{lists_of, updated, without_first}
@@ -10,6 +11,17 @@ use Rattle.parking_lot_core_model.proofs.lot.Lot.release_resource.Goals as goal
 pub invariant_of-self : goal.invariant_of-self
 invariant_of-self g c =
     let l = c.self.inside in
-    let p : Parts = record { number = l.number; max_threads = l.max_threads; sleeps = l.sleeps; waiting = l.waiting.entries.items; owned = l.owned.entries.items; places = l.places.items; section = l.section } in
-    let there : is_some (place_at p.places c.args.thread) ≡ true = ap (λ v. is_some (place_at v.places c.args.thread)) c.self.view_is ∙ (ap is_some (sym c.place.ensures.place) ∙ c.if-is_none.ensures) in
-    owned_changed p l.waiting c.args.thread (without_first (λ k. k == c.args.key) (lists_of p.owned c.args.thread)) c.take_number.new.self.entries.items c.self.invariant there c.take_number.ensures.kept
+    let p : Parts = record {
+      number = l.number;
+      max_threads = l.max_threads;
+      sleeps = l.sleeps;
+      waiting = l.waiting.entries.items;
+      owned = l.owned.entries.items;
+      places = l.places.items;
+      section = l.section;
+    }
+    in
+    let there : is_some (place_at p.places c.args.thread) ≡ true = ap (λ v. is_some (place_at v.places c.args.thread))
+    c.self.view_is ∙ (ap is_some (sym c.place.ensures.place) ∙ c.if-is_none.ensures) in
+    owned_changed p l.waiting c.args.thread (without_first (λ k. k == c.args.key) (lists_of p.owned c.args.thread))
+    c.take_number.new.self.entries.items c.self.invariant there c.take_number.ensures.kept

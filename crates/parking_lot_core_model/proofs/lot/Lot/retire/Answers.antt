@@ -1,4 +1,5 @@
-use Rattle.std.proofs.Common.{◌≡◌, ◌∙◌, ◌∷◌, ◌++◌, [], sym, ap, subst, refl, Some, None, is_some, List, Option, slice_set, true, false, cond, arith}
+use Rattle.std.proofs.Common.{◌≡◌, ◌∙◌, ◌∷◌, ◌++◌, [], sym, ap, subst, refl, Some, None, is_some, List, Option}
+use Rattle.std.proofs.Common.{slice_set, true, false, cond, arith}
 use Rattle.parking_lot_core_model.specs.declared.place.Place.{Place}
 use Rattle.parking_lot_core_model.specs.declared.place.Place.TheVariants.{Running, Waiting, Held, Taken}
 use Rattle.parking_lot_core_model.specs.Lists.{lists_of, updated}
@@ -10,6 +11,18 @@ use Rattle.parking_lot_core_model.proofs.lot.Lot.retire.Goals as goal
 pub invariant_of-self : goal.invariant_of-self
 invariant_of-self g c =
     let l = c.self.inside in
-    let p : Parts = record { number = l.number; max_threads = l.max_threads; sleeps = l.sleeps; waiting = l.waiting.entries.items; owned = l.owned.entries.items; places = l.places.items; section = l.section } in
-    let free : retire_fault (machine p) c.args.thread ≡ None = ap (λ v. retire_fault (machine v) c.args.thread) c.self.view_is ∙ (sym c.retire_fault.ensures ∙ c.in_default.is) in
-    subst (λ (ps : List (Option Place)). Owed (record p { owned = c.clear.new.self.entries.items; places = ps }) l.waiting) (sym c.put.ensures) (gone p l.waiting c.args.thread c.clear.new.self.entries.items c.self.invariant free c.clear.ensures.kept)
+    let p : Parts = record {
+      number = l.number;
+      max_threads = l.max_threads;
+      sleeps = l.sleeps;
+      waiting = l.waiting.entries.items;
+      owned = l.owned.entries.items;
+      places = l.places.items;
+      section = l.section;
+    }
+    in
+    let free : retire_fault (machine p) c.args.thread ≡ None = ap (λ v. retire_fault (machine v) c.args.thread)
+    c.self.view_is ∙ (sym c.retire_fault.ensures ∙ c.in_default.is) in
+    subst (λ (ps : List (Option Place)). Owed (record p { owned = c.clear.new.self.entries.items; places = ps })
+    l.waiting) (sym c.put.ensures)
+    (gone p l.waiting c.args.thread c.clear.new.self.entries.items c.self.invariant free c.clear.ensures.kept)

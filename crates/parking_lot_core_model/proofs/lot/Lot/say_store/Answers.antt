@@ -1,4 +1,5 @@
-use Rattle.std.proofs.Common.{◌≡◌, ◌∙◌, ◌∷◌, ◌++◌, ◌+◌, [], sym, ap, subst, refl, ℕ, Some, None, is_some, List, Option, slice_get, slice_set, map, remove, true, false, cond, arith}
+use Rattle.std.proofs.Common.{◌≡◌, ◌∙◌, ◌∷◌, ◌++◌, ◌+◌, [], sym, ap, subst, refl, ℕ, Some, None, is_some, List, Option}
+use Rattle.std.proofs.Common.{slice_get, slice_set, map, remove, true, false, cond, arith}
 use Rattle.std.proofs.lemmas.Bool.{false≢true}
 use Rattle.std.specs.Option.{option_map, IsSome}
 use Rattle.parking_lot_core_model.specs.declared.place.Place.{Place}
@@ -15,11 +16,34 @@ use Rattle.parking_lot_core_model.proofs.lot.Lot.say_store.Goals as goal
 pub invariant_of-self : goal.invariant_of-self
 invariant_of-self g c =
     let l = c.self.inside in
-    let p : Parts = record { number = l.number; max_threads = l.max_threads; sleeps = l.sleeps; waiting = l.waiting.entries.items; owned = l.owned.entries.items; places = l.places.items; section = l.section } in
-    section_changed p l.waiting (λ s. record s { phase = phase.Stored; token = c.args.token }) c.with_token-self-inside.result c.self.invariant (mapped_twice p.section c.come_to.result c.with_token-self-inside.result c.args.token c.come_to.ensures c.with_token-self-inside.ensures) (λ s. refl) (λ s is may. absurd (false≢true may))
+    let p : Parts = record {
+      number = l.number;
+      max_threads = l.max_threads;
+      sleeps = l.sleeps;
+      waiting = l.waiting.entries.items;
+      owned = l.owned.entries.items;
+      places = l.places.items;
+      section = l.section;
+    }
+    in
+    section_changed p l.waiting (λ s. record s { phase = phase.Stored; token = c.args.token })
+    c.with_token-self-inside.result c.self.invariant
+    (mapped_twice p.section c.come_to.result c.with_token-self-inside.result c.args.token c.come_to.ensures
+    c.with_token-self-inside.ensures) (λ s. refl) (λ s is may. absurd (false≢true may))
 
 pub returns : goal.returns
 returns g c =
     let l = c.self.inside in
-    let p : Parts = record { number = l.number; max_threads = l.max_threads; sleeps = l.sleeps; waiting = l.waiting.entries.items; owned = l.owned.entries.items; places = l.places.items; section = l.section } in
-    ap (λ o. record (machine p) { section = o }) (mapped_twice p.section c.come_to.result c.with_token-self-inside.result c.args.token c.come_to.ensures c.with_token-self-inside.ensures) ∙ ap (λ v. stored (machine v) c.args.token) c.self.view_is
+    let p : Parts = record {
+      number = l.number;
+      max_threads = l.max_threads;
+      sleeps = l.sleeps;
+      waiting = l.waiting.entries.items;
+      owned = l.owned.entries.items;
+      places = l.places.items;
+      section = l.section;
+    }
+    in
+    ap (λ o. record (machine p) { section = o })
+    (mapped_twice p.section c.come_to.result c.with_token-self-inside.result c.args.token c.come_to.ensures
+    c.with_token-self-inside.ensures) ∙ ap (λ v. stored (machine v) c.args.token) c.self.view_is

@@ -5,16 +5,25 @@ use Rattle.parking_lot_core_model.proofs.lot.Lot.seek.Goals as goal
 
 pub returns-in-Unpark : goal.returns-in-Unpark
 returns-in-Unpark g c =
-    sought_takes (goal.F-step g) c.args.filter ((machine c.args.self.now).queues c.args.key) c.args.passed c.loop-at.filter c.loop-at.at c.in_ok-waiter.waiter c.filter.new.self (sym c.in_ok-waiter.ensures) c.loop-at.invariant.1 c.in-Unpark.ensures
+    sought_takes (goal.F-step g) c.args.filter ((machine c.args.self.now).queues c.args.key) c.args.passed
+    c.loop-at.filter c.loop-at.at c.in_ok-waiter.waiter c.filter.new.self (sym c.in_ok-waiter.ensures)
+    c.loop-at.invariant.1 c.in-Unpark.ensures
 
 pub returns-in-Stop : goal.returns-in-Stop
 returns-in-Stop g c =
-    sought_stops (goal.F-step g) c.args.filter ((machine c.args.self.now).queues c.args.key) c.args.passed c.loop-at.filter c.loop-at.at c.in_ok-waiter.waiter c.filter.new.self (sym c.in_ok-waiter.ensures) c.loop-at.invariant.1 c.in-Stop.ensures
+    sought_stops (goal.F-step g) c.args.filter ((machine c.args.self.now).queues c.args.key) c.args.passed
+    c.loop-at.filter c.loop-at.at c.in_ok-waiter.waiter c.filter.new.self (sym c.in_ok-waiter.ensures)
+    c.loop-at.invariant.1 c.in-Stop.ensures
 
 pub loop-at-preserved : goal.loop-at-preserved
-loop-at-preserved g c =
-    (search of_calls, sought_passes (goal.F-step g) c.args.filter ((machine c.args.self.now).queues c.args.key) c.args.passed c.loop-at.filter c.loop-at.at c.in_ok-waiter.waiter c.filter.new.self (sym c.in_ok-waiter.ensures) c.loop-at.invariant.1 c.in-Skip.ensures)
+loop-at-preserved g c = (
+  search of_calls,
+  sought_passes (goal.F-step g) c.args.filter ((machine c.args.self.now).queues c.args.key)
+      c.args.passed c.loop-at.filter c.loop-at.at c.in_ok-waiter.waiter c.filter.new.self (sym c.in_ok-waiter.ensures)
+      c.loop-at.invariant.1 c.in-Skip.ensures,
+)
 
 pub returns : goal.returns
 returns g c =
-    sought_ends (goal.F-step g) c.args.filter ((machine c.args.self.now).queues c.args.key) c.args.passed c.loop-at.filter c.loop-at.at (omega arith) c.loop-at.invariant.1
+    sought_ends (goal.F-step g) c.args.filter ((machine c.args.self.now).queues c.args.key) c.args.passed
+    c.loop-at.filter c.loop-at.at (omega arith) c.loop-at.invariant.1

@@ -1,4 +1,5 @@
-use Rattle.std.proofs.Common.{◌≡◌, ◌∙◌, ◌∷◌, ◌++◌, ◌+◌, [], sym, ap, subst, refl, ℕ, Some, None, is_some, List, Option, slice_get, slice_set, map, remove, true, false, cond, arith}
+use Rattle.std.proofs.Common.{◌≡◌, ◌∙◌, ◌∷◌, ◌++◌, ◌+◌, [], sym, ap, subst, refl, ℕ, Some, None, is_some, List, Option}
+use Rattle.std.proofs.Common.{slice_get, slice_set, map, remove, true, false, cond, arith}
 use Rattle.std.specs.Option.{option_map, IsSome}
 use Rattle.parking_lot_core_model.specs.declared.place.Place.{Place}
 use Rattle.parking_lot_core_model.specs.declared.place.Place.TheVariants.{Running, Waiting, Held, Taken}
@@ -14,5 +15,16 @@ use Rattle.parking_lot_core_model.proofs.lot.Lot.set_phase.Goals as goal
 pub invariant_of-self : goal.invariant_of-self
 invariant_of-self g c =
     let l = c.self.inside in
-    let p : Parts = record { number = l.number; max_threads = l.max_threads; sleeps = l.sleeps; waiting = l.waiting.entries.items; owned = l.owned.entries.items; places = l.places.items; section = l.section } in
-    section_changed p l.waiting (λ s. record s { phase = c.args.phase }) c.come_to-self-inside.result c.self.invariant c.come_to-self-inside.ensures (λ s. refl) (λ s is may. c.requires s (ap (λ v. v.section) (sym c.self.view_is) ∙ is) may)
+    let p : Parts = record {
+      number = l.number;
+      max_threads = l.max_threads;
+      sleeps = l.sleeps;
+      waiting = l.waiting.entries.items;
+      owned = l.owned.entries.items;
+      places = l.places.items;
+      section = l.section;
+    }
+    in
+    section_changed p l.waiting (λ s. record s { phase = c.args.phase }) c.come_to-self-inside.result c.self.invariant
+    c.come_to-self-inside.ensures (λ s. refl)
+    (λ s is may. c.requires s (ap (λ v. v.section) (sym c.self.view_is) ∙ is) may)

@@ -5,4 +5,5 @@ use Rattle.parking_lot_core_model.proofs.lot.Lot.sift.Given as goal
 
 -- those so far were shown
 abbrev pub invariant-loop-nth : goal.invariant-loop-nth
-invariant-loop-nth g l = always_mut g.F.FnMut l.filter × Sifted (goal.F-step g) l.fn.filter (machine l.initial.self) l.key (machine l.self) l.unparked l.nth l.filter
+invariant-loop-nth g l = always_mut g.F.FnMut l.filter × Sifted (goal.F-step g) l.fn.filter (machine l.initial.self)
+    l.key (machine l.self) l.unparked l.nth l.filter

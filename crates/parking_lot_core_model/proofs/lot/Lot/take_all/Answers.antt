@@ -9,7 +9,10 @@ pub loop-nth-init : goal.loop-nth-init
 loop-nth-init g c = all_taken_none (machine c.args.self.now) c.args.key
 
 pub take_out-requires : goal.take_out-requires
-take_out-requires g c = subst (λ (o : Option Section). IsSome o) (ap (λ (m : Machine). m.section) (sym c.loop-nth.invariant)) c.requires
+take_out-requires g c = subst (λ (o : Option Section). IsSome o)
+    (ap (λ (m : Machine). m.section) (sym c.loop-nth.invariant)) c.requires
 
 pub loop-nth-preserved : goal.loop-nth-preserved
-loop-nth-preserved g c = c.take_out.ensures.taken ∙ (ap (λ (m : Machine). taken m c.args.key 0) c.loop-nth.invariant ∙ taken_front (machine c.args.self.now) c.args.key c.loop-nth.nth)
+loop-nth-preserved g c = c.take_out.ensures.taken
+    ∙ (ap (λ (m : Machine). taken m c.args.key 0) c.loop-nth.invariant ∙ taken_front (machine c.args.self.now)
+    c.args.key c.loop-nth.nth)

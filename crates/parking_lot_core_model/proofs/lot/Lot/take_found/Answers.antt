@@ -7,4 +7,10 @@ use Rattle.parking_lot_core_model.proofs.lot.Lot.take_found.Goals as goal
 
 pub returns-in-Some : goal.returns-in-Some
 returns-in-Some g c =
-    match_some c.args.found c.in-Some.nth _ _ c.in-Some.is (c.taking-taking.ensures ∙ ap (λ (x : Machine). option_map (λ w. taking_of x w) (slice_get (x.queues c.args.key) c.in-Some.nth)) c.set_phase-in-Some.ensures, c.take_out.ensures.taken ∙ ap (λ (x : Machine). taken x c.args.key c.in-Some.nth) c.set_phase-in-Some.ensures)
+    match_some c.args.found c.in-Some.nth _ _ c.in-Some.is (
+      c.taking-taking.ensures
+          ∙ ap (λ (x : Machine). option_map (λ w. taking_of x w) (slice_get (x.queues c.args.key) c.in-Some.nth))
+          c.set_phase-in-Some.ensures,
+      c.take_out.ensures.taken ∙ ap (λ (x : Machine). taken x c.args.key c.in-Some.nth)
+          c.set_phase-in-Some.ensures,
+    )

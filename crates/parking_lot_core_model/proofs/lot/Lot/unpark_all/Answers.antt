@@ -1,4 +1,5 @@
-use Rattle.std.proofs.Common.{◌≡◌, ◌∙◌, ℕ, true, List, Option, None, Some, Ok, [], length, take, drop, sym, ap, refl, subst, false}
+use Rattle.std.proofs.Common.{◌≡◌, ◌∙◌, ℕ, true, List, Option, None, Some, Ok, [], length, take, drop, sym, ap, refl}
+use Rattle.std.proofs.Common.{subst, false}
 use Rattle.std.specs.Option.{option_map_or}
 use Rattle.parking_lot_core_model.specs.declared.parking.UnparkResult.{UnparkResult}
 use Rattle.parking_lot_core_model.specs.declared.parking.UnparkToken.{UnparkToken}
@@ -20,8 +21,17 @@ returns g c =
     let q = m.queues key in
     let free : busy m ≡ None = sym c.busy.ensures.fault ∙ c.in_default.is in
     let o = opened m None key in
-    let count : c.count-count.result ≡ length q = c.count-count.ensures ∙ ap (λ (x : Machine). length (x.queues key)) c.open.ensures in
-    let held : machine c.take_all.new.self ≡ all_taken o key (take c.count-count.result q) (drop c.count-count.result q) = c.take_all.ensures ∙ ap (λ (x : Machine). all_taken x key (take c.count-count.result (x.queues key)) (drop c.count-count.result (x.queues key))) c.open.ensures in
-    let all : machine c.take_all.new.self ≡ all_taken o key q [] = held ∙ (ap (λ (n : ℕ). all_taken o key (take n q) (drop n q)) count ∙ (ap (λ (ws : List Waiter). all_taken o key ws (drop (length q) q)) (take-length q) ∙ ap (λ (ws : List Waiter). all_taken o key q ws) (drop-length q))) in
-    let done : machine c.finish.new.self ≡ unparked m key q [] c.args.unpark_token = c.finish.ensures ∙ (ap (λ (x : Machine). closed (stored x c.args.unpark_token) true) all ∙ closed_taken m key c.args.unpark_token (c.busy.ensures.quiet c.in_default.is) (free_section m free) q []) in
+    let count : c.count-count.result ≡ length q = c.count-count.ensures ∙ ap (λ (x : Machine). length (x.queues key))
+    c.open.ensures in
+    let held : machine c.take_all.new.self ≡ all_taken o key (take c.count-count.result q)
+    (drop c.count-count.result q) = c.take_all.ensures
+    ∙ ap (λ (x : Machine). all_taken x key (take c.count-count.result (x.queues key))
+    (drop c.count-count.result (x.queues key))) c.open.ensures in
+    let all : machine c.take_all.new.self ≡ all_taken o key q [] = held
+    ∙ (ap (λ (n : ℕ). all_taken o key (take n q) (drop n q)) count
+    ∙ (ap (λ (ws : List Waiter). all_taken o key ws (drop (length q) q)) (take-length q)
+    ∙ ap (λ (ws : List Waiter). all_taken o key q ws) (drop-length q))) in
+    let done : machine c.finish.new.self ≡ unparked m key q [] c.args.unpark_token = c.finish.ensures
+    ∙ (ap (λ (x : Machine). closed (stored x c.args.unpark_token) true) all ∙ closed_taken m key c.args.unpark_token
+    (c.busy.ensures.quiet c.in_default.is) (free_section m free) q []) in
     unless_done (busy m) (Ok c.count-count.result) m (machine c.finish.new.self) _ free (ap (λ n. Ok n) count, done)

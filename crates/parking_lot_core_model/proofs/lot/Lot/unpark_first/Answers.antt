@@ -1,4 +1,5 @@
-use Rattle.std.proofs.Common.{◌≡◌, ◌∙◌, ℕ, true, List, Option, None, Some, Ok, [], length, take, drop, sym, ap, refl, subst, false}
+use Rattle.std.proofs.Common.{◌≡◌, ◌∙◌, ℕ, true, List, Option, None, Some, Ok, [], length, take, drop, sym, ap, refl}
+use Rattle.std.proofs.Common.{subst, false}
 use Rattle.std.specs.Option.{option_map_or}
 use Rattle.parking_lot_core_model.specs.declared.parking.UnparkResult.{UnparkResult}
 use Rattle.parking_lot_core_model.specs.declared.parking.UnparkToken.{UnparkToken}
@@ -20,10 +21,24 @@ returns g c =
     let free : busy m ≡ None = sym c.busy.ensures.fault ∙ c.in_default.is in
     let o = opened m None key in
     let token = c.callback-token.result in
-    let held : machine c.take_first-woken.new.self ≡ all_taken o key (take 1 q) (drop 1 q) = c.take_first-woken.ensures.taken ∙ ap (λ (x : Machine). all_taken x key (take 1 (x.queues key)) (drop 1 (x.queues key))) c.open.ensures in
-    let count : c.take_first-woken.result ≡ length (take 1 q) = c.take_first-woken.ensures.count ∙ ap (λ (x : Machine). length (take 1 (x.queues key))) c.open.ensures in
-    let rest : (machine c.take_first-woken.new.self).queues key ≡ drop 1 q = ap (λ (x : Machine). x.queues key) held ∙ updated_at m.queues key (drop 1 q) in
-    let answer : c.outcome-result.result ≡ fairly c.args.fair (unpark_result (length (take 1 q)) 0 (drop 1 q)) = c.outcome-result.ensures ∙ (ap (λ (n : ℕ). fairly c.args.fair (unpark_result n 0 ((machine c.take_first-woken.new.self).queues key))) count ∙ ap (λ (ws : List Waiter). fairly c.args.fair (unpark_result (length (take 1 q)) 0 ws)) rest) in
-    let done : machine c.finish.new.self ≡ unparked m key (take 1 q) (drop 1 q) token = c.finish.ensures ∙ (ap (λ (x : Machine). closed (stored x token) true) held ∙ closed_taken m key token (c.busy.ensures.quiet c.in_default.is) (free_section m free) (take 1 q) (drop 1 q)) in
-    unless_done (busy m) (Ok c.outcome-result.result) m (machine c.finish.new.self) _ free
-    (token, subst (λ (r : UnparkResult). goal.C-post g c.args.callback r token) answer c.callback-token.ensures, ap (λ r. Ok r) answer, done)
+    let held : machine c.take_first-woken.new.self ≡ all_taken o key (take 1 q) (drop 1 q) =
+    c.take_first-woken.ensures.taken
+    ∙ ap (λ (x : Machine). all_taken x key (take 1 (x.queues key)) (drop 1 (x.queues key))) c.open.ensures in
+    let count : c.take_first-woken.result ≡ length (take 1 q) = c.take_first-woken.ensures.count
+    ∙ ap (λ (x : Machine). length (take 1 (x.queues key))) c.open.ensures in
+    let rest : (machine c.take_first-woken.new.self).queues key ≡ drop 1 q = ap (λ (x : Machine). x.queues key) held
+    ∙ updated_at m.queues key (drop 1 q) in
+    let answer : c.outcome-result.result ≡ fairly c.args.fair (unpark_result (length (take 1 q)) 0 (drop 1 q)) =
+    c.outcome-result.ensures
+    ∙ (ap (λ (n : ℕ). fairly c.args.fair (unpark_result n 0 ((machine c.take_first-woken.new.self).queues key)))
+    count ∙ ap (λ (ws : List Waiter). fairly c.args.fair (unpark_result (length (take 1 q)) 0 ws)) rest) in
+    let done : machine c.finish.new.self ≡ unparked m key (take 1 q) (drop 1 q) token = c.finish.ensures
+    ∙ (ap (λ (x : Machine). closed (stored x token) true) held
+    ∙ closed_taken m key token (c.busy.ensures.quiet c.in_default.is) (free_section m free) (take 1 q) (drop 1 q))
+    in
+    unless_done (busy m) (Ok c.outcome-result.result) m (machine c.finish.new.self) _ free (
+      token,
+      subst (λ (r : UnparkResult). goal.C-post g c.args.callback r token) answer c.callback-token.ensures,
+      ap (λ r. Ok r) answer,
+      done,
+    )

@@ -1,4 +1,5 @@
-use Rattle.std.proofs.Common.{◌≡◌, ◌∙◌, ℕ, List, Option, None, Some, Ok, [], length, take, drop, sym, ap, refl, subst, true, false}
+use Rattle.std.proofs.Common.{◌≡◌, ◌∙◌, ℕ, List, Option, None, Some, Ok, [], length, take, drop, sym, ap, refl, subst}
+use Rattle.std.proofs.Common.{true, false}
 use Rattle.std.specs.Option.{option_map_or}
 use Rattle.parking_lot_core_model.specs.declared.parking.UnparkResult.{UnparkResult}
 use Rattle.parking_lot_core_model.specs.declared.place.Waiter.{Waiter}
@@ -25,12 +26,28 @@ returns g c =
     let token = c.callback-token.result in
     let woken = woken_by op q in
     let left = drop (length woken) q in
-    let answer : c.requeue-result.result ≡ unpark_result (length woken) (length (moved_by op q)) (left_by op q) = c.requeue-result.ensures.result ∙ ap (λ (x : Machine). unpark_result (length (woken_by op (x.queues from))) (length (moved_by op (x.queues from))) (left_by op (x.queues from))) c.open.ensures in
-    let lists : machine c.requeue-result.new.self ≡ moved (all_taken o from woken left) from to (moved_by op q) (left_by op q) = c.requeue-result.ensures.lists ∙ ap (λ (x : Machine). moved (all_taken x from (woken_by op (x.queues from)) (drop (length (woken_by op (x.queues from))) (x.queues from))) from to (moved_by op (x.queues from)) (left_by op (x.queues from))) c.open.ensures in
-    let done : machine c.finish.new.self ≡ requeued m op from to token = c.finish.ensures ∙ (ap (λ (x : Machine). closed (stored x token) true) lists ∙ closed_moved m from token (c.busy.ensures.quiet c.in_default.is) (free_section m free) to woken left (moved_by op q) (left_by op q)) in
+    let answer : c.requeue-result.result ≡ unpark_result (length woken) (length (moved_by op q)) (left_by op q) =
+    c.requeue-result.ensures.result
+    ∙ ap (λ (x : Machine). unpark_result (length (woken_by op (x.queues from)))
+    (length (moved_by op (x.queues from))) (left_by op (x.queues from))) c.open.ensures in
+    let lists : machine c.requeue-result.new.self ≡ moved (all_taken o from woken left) from to (moved_by op q)
+    (left_by op q) = c.requeue-result.ensures.lists
+    ∙ ap (λ (x : Machine). moved
+    (all_taken x from (woken_by op (x.queues from)) (drop (length (woken_by op (x.queues from))) (x.queues from)))
+    from to (moved_by op (x.queues from)) (left_by op (x.queues from))) c.open.ensures in
+    let done : machine c.finish.new.self ≡ requeued m op from to token = c.finish.ensures
+    ∙ (ap (λ (x : Machine). closed (stored x token) true) lists
+    ∙ closed_moved m from token (c.busy.ensures.quiet c.in_default.is) (free_section m free) to woken left
+    (moved_by op q) (left_by op q)) in
     unless_done (busy m) (Ok c.requeue-result.result) m (machine c.finish.new.self) _ free (
       op,
       c.validate-op.ensures,
-      not_aborted (λ answer told. goal.C-post g c.args.callback op answer told) op m from to (Ok c.requeue-result.result) (machine c.finish.new.self) (sym c.is_abort.ensures ∙ c.if-is_abort.false)
-          (token, subst (λ (r : UnparkResult). goal.C-post g c.args.callback op r token) answer c.callback-token.ensures, ap (λ r. Ok r) answer, done),
+      not_aborted (λ answer told. goal.C-post g c.args.callback op answer told) op m from to
+          (Ok c.requeue-result.result) (machine c.finish.new.self) (sym c.is_abort.ensures ∙ c.if-is_abort.false) (
+            token,
+            subst (λ (r : UnparkResult). goal.C-post g c.args.callback op r token) answer
+                c.callback-token.ensures,
+            ap (λ r. Ok r) answer,
+            done,
+          ),
     )

@@ -1,4 +1,5 @@
-use Rattle.std.proofs.Common.{◌≡◌, ◌∙◌, ◌∷◌, ◌++◌, [], sym, ap, subst, refl, Some, None, is_some, List, Option, slice_set, true, false, cond, arith}
+use Rattle.std.proofs.Common.{◌≡◌, ◌∙◌, ◌∷◌, ◌++◌, [], sym, ap, subst, refl, Some, None, is_some, List, Option}
+use Rattle.std.proofs.Common.{slice_set, true, false, cond, arith}
 use Rattle.parking_lot_core_model.specs.declared.place.Place.{Place}
 use Rattle.parking_lot_core_model.specs.declared.place.Place.TheVariants.{Running, Waiting, Held, Taken}
 use Rattle.parking_lot_core_model.specs.Lists.{lists_of, updated}
@@ -10,6 +11,18 @@ use Rattle.parking_lot_core_model.proofs.lot.Lot.wake.Goals as goal
 pub invariant_of-self : goal.invariant_of-self
 invariant_of-self g c =
     let l = c.self.inside in
-    let p : Parts = record { number = l.number; max_threads = l.max_threads; sleeps = l.sleeps; waiting = l.waiting.entries.items; owned = l.owned.entries.items; places = l.places.items; section = l.section } in
-    let at : place_at p.places c.args.thread ≡ Some c.in-Some.place = ap (λ v. place_at v.places c.args.thread) c.self.view_is ∙ (sym c.place.ensures.place ∙ c.in-Some.is) in
-    subst (λ (ps : List (Option Place)). Owed (record p { places = ps }) l.waiting) (sym (c.put.ensures ∙ ap (λ q. slice_set p.places c.args.thread (Some q)) c.roused.ensures)) (placed_roused p l.waiting c.args.thread c.in-Some.place c.self.invariant at)
+    let p : Parts = record {
+      number = l.number;
+      max_threads = l.max_threads;
+      sleeps = l.sleeps;
+      waiting = l.waiting.entries.items;
+      owned = l.owned.entries.items;
+      places = l.places.items;
+      section = l.section;
+    }
+    in
+    let at : place_at p.places c.args.thread ≡ Some c.in-Some.place = ap (λ v. place_at v.places c.args.thread)
+    c.self.view_is ∙ (sym c.place.ensures.place ∙ c.in-Some.is) in
+    subst (λ (ps : List (Option Place)). Owed (record p { places = ps }) l.waiting)
+    (sym (c.put.ensures ∙ ap (λ q. slice_set p.places c.args.thread (Some q)) c.roused.ensures))
+    (placed_roused p l.waiting c.args.thread c.in-Some.place c.self.invariant at)

@@ -10,5 +10,9 @@ pub returns-in-Ok : goal.returns-in-Ok
 unfolding EndedAt
 returns-in-Ok g c = (
   Released,
-  (Exchanged ∷ [], ((c.args.from, subst (λ act. Gives act c.args.from Exchanged) (sym c.requires.first) refl), tt), c.requires.last),
+  (
+    Exchanged ∷ [],
+    ((c.args.from, subst (λ act. Gives act c.args.from Exchanged) (sym c.requires.first) refl), tt),
+    c.requires.last,
+  ),
 )

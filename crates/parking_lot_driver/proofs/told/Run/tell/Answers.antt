@@ -6,7 +6,8 @@ use Rattle.parking_lot_driver.proofs.told.Run.tell.Goals as goal
 pub invariant_of-self : goal.invariant_of-self
 invariant_of-self g c =
     let told = c.self.invariant in
-    let asked = c.act.ensures ∙ ap (λ run. g.C.DecisionCore.asks run.1) (sym c.self.view_is) ∙ ap g.C.DecisionCore.asks told.2 in (
+    let asked = c.act.ensures ∙ ap (λ run. g.C.DecisionCore.asks run.1) (sym c.self.view_is)
+    ∙ ap g.C.DecisionCore.asks told.2 in (
       c.args.seen ∷ told.0,
       (subst (λ act. (word : ℕ) × Gives act word c.args.seen) asked (c.in-Some._word, c.in-Some.ensures), told.1),
       c.next.ensures.core ∙ ap (λ core. g.C.DecisionCore.told core c.args.seen) told.2,

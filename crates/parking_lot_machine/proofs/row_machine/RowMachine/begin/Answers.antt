@@ -15,17 +15,23 @@ use Rattle.parking_lot_machine.proofs.row_machine.RowMachine.begin.Goals as goal
 
 -- the call that is made up is the one that is asked for
 same_call : (lock n m : ℕ) (k o : Core) (b d : Bool) → n ≡ m → k ≡ o → b ≡ d
-    → ◌≡◌ {A = Call} (record { lock = lock; others = n; core = k; spot = spot.Listed; timed = b }) (record { lock = lock; others = m; core = o; spot = spot.Listed; timed = d })
+    → ◌≡◌ {A = Call} (record { lock = lock; others = n; core = k; spot = spot.Listed; timed = b })
+    (record { lock = lock; others = m; core = o; spot = spot.Listed; timed = d })
 same_call lock n m k o b d e f g =
-    ap (λ (x : ℕ). record { lock = lock; others = x; core = k; spot = spot.Listed; timed = b }) e ∙ ap (λ (x : Core). record { lock = lock; others = m; core = x; spot = spot.Listed; timed = b }) f
+    ap (λ (x : ℕ). record { lock = lock; others = x; core = k; spot = spot.Listed; timed = b }) e
+    ∙ ap (λ (x : Core). record { lock = lock; others = m; core = x; spot = spot.Listed; timed = b }) f
     ∙ ap (λ (x : Bool). record { lock = lock; others = m; core = o; spot = spot.Listed; timed = x }) g
 
 -- src/row_machine.rt:121:9
 pub begin_call-requires : goal.begin_call-requires
 begin_call-requires g c =
     record {
-      may = subst (λ (x : Call). MayBegin (state c.args.self.now) c.args.thread x) (sym (same_call c.args.lock _ _ _ _ _ _ (c.beside-others.ensures ∙ ap (holds_beside c.args.call) c.hold.ensures) (c.core.ensures ∙ ap (λ k. core_of k c.args.call) c.kind_or_rw.ensures) c.is_timed.ensures))
-          (may_begins (state c.args.self.now) c.args.thread c.args.lock c.args.call (subst (λ (m : Rows). FitsTogether (state m)) c.self.view_is c.self.invariant.0).rules c.requires.may);
+      may = subst (λ (x : Call). MayBegin (state c.args.self.now) c.args.thread x)
+          (sym (same_call c.args.lock _ _ _ _ _ _
+          (c.beside-others.ensures ∙ ap (holds_beside c.args.call) c.hold.ensures)
+          (c.core.ensures ∙ ap (λ k. core_of k c.args.call) c.kind_or_rw.ensures) c.is_timed.ensures))
+          (may_begins (state c.args.self.now) c.args.thread c.args.lock c.args.call
+          (subst (λ (m : Rows). FitsTogether (state m)) c.self.view_is c.self.invariant.0).rules c.requires.may);
     }
 
 -- src/row_machine.rt:116:5
@@ -36,5 +42,12 @@ returns g c =
     let asked = call_for s c.args.thread c.args.lock c.args.call in
     let may = may_begins s c.args.thread c.args.lock c.args.call fits.rules c.requires.may in
     subst (IsBegun c.args.thread c.args.lock c.args.call s)
-    (sym (c.begin_call.ensures ∙ ap (begun s c.args.thread) (same_call c.args.lock _ _ _ _ _ _ (c.beside-others.ensures ∙ ap (holds_beside c.args.call) c.hold.ensures) (c.core.ensures ∙ ap (λ k. core_of k c.args.call) c.kind_or_rw.ensures) c.is_timed.ensures)))
-    (record { became = refl; acts = laws.begin s c.args.thread asked fits may; costs = begins_cost s c.args.thread asked c.args.call fits may refl })
+    (sym (c.begin_call.ensures
+    ∙ ap (begun s c.args.thread)
+    (same_call c.args.lock _ _ _ _ _ _ (c.beside-others.ensures ∙ ap (holds_beside c.args.call) c.hold.ensures)
+    (c.core.ensures ∙ ap (λ k. core_of k c.args.call) c.kind_or_rw.ensures) c.is_timed.ensures)))
+    (record {
+      became = refl;
+      acts = laws.begin s c.args.thread asked fits may;
+      costs = begins_cost s c.args.thread asked c.args.call fits may refl;
+    })

@@ -10,11 +10,14 @@ use Rattle.parking_lot_machine.proofs.row_machine.RowMachine.begin_call.Goals as
 -- src/acts.rt:198:5
 pub returns : goal.returns
 returns g c =
-    ap (λ (m : Rows). with_call (state m) c.args.thread c.told.result) c.self.view_is ∙ ap (with_call (state c.args.self.now) c.args.thread) c.told.ensures
+    ap (λ (m : Rows). with_call (state m) c.args.thread c.told.result) c.self.view_is
+    ∙ ap (with_call (state c.args.self.now) c.args.thread) c.told.ensures
 
 -- src/acts.rt:198:5
 pub invariant_of-self : goal.invariant_of-self
 invariant_of-self g c = (
-  subst FitsTogether (sym (returns g c)) (laws.begin (state c.args.self.now) c.args.thread c.args.call (fits c.self.view_is c.self.invariant.0) c.requires.may).fits,
+  subst FitsTogether (sym (returns g c))
+      (laws.begin (state c.args.self.now) c.args.thread c.args.call (fits c.self.view_is c.self.invariant.0)
+      c.requires.may).fits,
   room_set _ _ _ _ c.self.invariant.1,
 )

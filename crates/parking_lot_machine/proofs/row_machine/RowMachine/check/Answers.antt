@@ -18,11 +18,15 @@ use Rattle.parking_lot_machine.proofs.row_machine.RowMachine.check.Goals as goal
 -- src/acts.rt:108:9
 pub check-requires : goal.check-requires
 check-requires g c =
-    record { inside = lot_never_refuses.checks _ c.args.thread c.args.call (c.self.invariant.0.lots, held c.args.thread c.args.call c.self.view_is c.requires.here, c.requires.asked) }
+    record {
+      inside = lot_never_refuses.checks _ c.args.thread c.args.call
+          (c.self.invariant.0.lots, held c.args.thread c.args.call c.self.view_is c.requires.here, c.requires.asked);
+    }
 
 -- src/acts.rt:109:9
 pub index_mut-requires : goal.index_mut-requires
-index_mut-requires g c = omega (arith, low c.args.thread c.args.call c.self.view_is c.requires.here, c.self.inside.calls.ok.0)
+index_mut-requires g c =
+    omega (arith, low c.args.thread c.args.call c.self.view_is c.requires.here, c.self.inside.calls.ok.0)
 
 -- src/acts.rt:102:5
 pub returns : goal.returns
@@ -31,14 +35,19 @@ returns g c =
     let valid : Machine → Bool → Machine = λ lot b. in_phase lot (cond b phase.Valid phase.Invalid) in
     let done : State → Call → Machine → State = λ s next lot. with_lot (with_call s c.args.thread next) lot in
     ap (λ (m : Rows). done (state m) c.told-next.result (machine c.check.new.lot)) c.self.view_is
-    ∙ ap (done s c.told-next.result) (c.check.ensures.checked ∙ ap (λ (m : Rows). valid (machine m.lot) c.joins.result) c.self.view_is ∙ ap (valid s.lot) c.joins.ensures)
-    ∙ ap (λ (next : Call). done s next (valid s.lot (joins (stance next.core)))) (c.told-next.ensures ∙ ap (λ w. hears c.args.call (seen.Word w)) c.word.ensures)
+    ∙ ap (done s c.told-next.result)
+    (c.check.ensures.checked ∙ ap (λ (m : Rows). valid (machine m.lot) c.joins.result) c.self.view_is
+    ∙ ap (valid s.lot) c.joins.ensures)
+    ∙ ap (λ (next : Call). done s next (valid s.lot (joins (stance next.core))))
+    (c.told-next.ensures ∙ ap (λ w. hears c.args.call (seen.Word w)) c.word.ensures)
 
 -- src/acts.rt:102:5
 pub invariant_of-self : goal.invariant_of-self
 invariant_of-self g c = (
   let e = returns g c in
       subst FitsTogether (sym e)
-      (laws.check (state c.args.self.now) c.args.thread c.args.call c.requires.asked (subst Sound (ap (λ (s : State). s.lot) e) c.check.ensures.sound) (fits c.self.view_is c.self.invariant.0) c.requires.here).1.fits,
+      (laws.check (state c.args.self.now) c.args.thread c.args.call c.requires.asked
+      (subst Sound (ap (λ (s : State). s.lot) e) c.check.ensures.sound) (fits c.self.view_is c.self.invariant.0)
+      c.requires.here).1.fits,
   room_set _ _ _ _ c.self.invariant.1,
 )

@@ -16,8 +16,10 @@ returns-in-Some g c =
       call = c.in-Some.call;
       here = here;
       became = c.expire.ensures;
-      lawful = subst (Expires c.args.thread c.in-Some.call s) (sym c.expire.ensures) (laws.expires s c.args.thread c.in-Some.call so (fits c.self.view_is c.self.invariant.0) here);
+      lawful = subst (Expires c.args.thread c.in-Some.call s) (sym c.expire.ensures)
+          (laws.expires s c.args.thread c.in-Some.call so (fits c.self.view_is c.self.invariant.0) here);
     }
 
 pub expire-requires-clause-asleep : goal.expire-requires-clause-asleep
-expire-requires-clause-asleep g c = expires_so c.in-Some.call (sym (ap may_expire_in (sym c.call.ensures ∙ c.in-Some.is)) ∙ c.requires.may)
+expire-requires-clause-asleep g c =
+    expires_so c.in-Some.call (sym (ap may_expire_in (sym c.call.ensures ∙ c.in-Some.is)) ∙ c.requires.may)

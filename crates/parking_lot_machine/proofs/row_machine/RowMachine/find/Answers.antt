@@ -25,38 +25,63 @@ pub remove-requires : goal.remove-requires
 remove-requires g c =
     let t = c.args.thread in
     let ws = c.self.inside.wakes.items in
-    let x = entry_there _ c.self.invariant.0 t c.args.call (held t c.args.call c.self.view_is c.requires.here) c.args.by c.args.said c.requires.late c.requires.off in
-    omega (arith, slice_get_within ws (position_or_len (is_for t) ws) x.0 x.1, stands_for t c.first_for-at.ensures c.deref.ensures.value, c.self.inside.wakes.ok.0)
+    let x = entry_there _ c.self.invariant.0 t c.args.call (held t c.args.call c.self.view_is c.requires.here) c.args.by
+    c.args.said c.requires.late c.requires.off in
+    omega (
+      arith,
+      slice_get_within ws (position_or_len (is_for t) ws) x.0 x.1,
+      stands_for t c.first_for-at.ensures c.deref.ensures.value,
+      c.self.inside.wakes.ok.0,
+    )
 
 pub find-requires : goal.find-requires
 find-requires g c =
-    let x = taken_there _ c.self.invariant.0 c.args.thread c.args.call (held c.args.thread c.args.call c.self.view_is c.requires.here) c.args.by c.args.said c.requires.late c.requires.off (ap (λ (m : Rows). (machine m.lot).section) c.self.view_is ∙ c.requires.free) in
+    let x = taken_there _ c.self.invariant.0 c.args.thread c.args.call
+    (held c.args.thread c.args.call c.self.view_is c.requires.here) c.args.by c.args.said c.requires.late
+    c.requires.off (ap (λ (m : Rows). (machine m.lot).section) c.self.view_is ∙ c.requires.free) in
     record {
-      free = subst (λ k. return_fault (machine c.self.inside.lot) c.args.thread k ≡ None) (sym (c.key.ensures ∙ ap (key_of c.args.call) c.late_list.ensures))
-          (may_return_taken (machine c.self.inside.lot) c.args.thread (late_key c.args.call) x.0 x.1 (ap (λ (m : Rows). (machine m.lot).section) c.self.view_is ∙ c.requires.free) x.2);
+      free = subst (λ k. return_fault (machine c.self.inside.lot) c.args.thread k ≡ None)
+          (sym (c.key.ensures ∙ ap (key_of c.args.call) c.late_list.ensures))
+          (may_return_taken (machine c.self.inside.lot) c.args.thread (late_key c.args.call) x.0 x.1
+          (ap (λ (m : Rows). (machine m.lot).section) c.self.view_is ∙ c.requires.free) x.2);
       off = (x.0, x.1, x.2);
     }
 
 pub index_mut-requires : goal.index_mut-requires
-index_mut-requires g c = omega (arith, low c.args.thread c.args.call c.self.view_is c.requires.here, c.self.inside.calls.ok.0)
+index_mut-requires g c =
+    omega (arith, low c.args.thread c.args.call c.self.view_is c.requires.here, c.self.inside.calls.ok.0)
 
 pub returns : goal.returns
 returns g c =
     let s : State = state c.args.self.now in
     let t = c.args.thread in
-    let done : State → List Wakeup → Call → Machine → State = λ s ws next m. with_lot (with_call (record s { wakes = ws }) t next) m in
-    let leaves : Machine → _ → Machine = λ m k. stored (in_phase (record (lot.returned m t k) { places = slice_set m.places t (Some Running) }) Phase.Ended) (sign false) in
+    let done : State → List Wakeup → Call → Machine → State =
+    λ s ws next m. with_lot (with_call (record s { wakes = ws }) t next) m in
+    let leaves : Machine → _ → Machine =
+    λ m k. stored (in_phase (record (lot.returned m t k) { places = slice_set m.places t (Some Running) })
+    Phase.Ended) (sign false) in
     let left : List Wakeup = remove s.wakes (position_or_len (is_for t) s.wakes) in
     ap (λ (m : Rows). done (state m) c.remove.new.self.items c.found.result (machine c.find.new.lot)) c.self.view_is
-    ∙ ap (λ ws. done s ws c.found.result (machine c.find.new.lot)) (c.remove.ensures.items ∙ ap (remove c.self.inside.wakes.items) (stands_for t c.first_for-at.ensures c.deref.ensures.value) ∙ ap (λ (m : Rows). remove m.wakes (position_or_len (is_for t) m.wakes)) c.self.view_is)
-    ∙ ap (done s left c.found.result) (c.find.ensures.found ∙ ap (λ (m : Rows). leaves (machine m.lot) c.key.result) c.self.view_is ∙ ap (leaves s.lot) (c.key.ensures ∙ ap (key_of c.args.call) c.late_list.ensures))
+    ∙ ap (λ ws. done s ws c.found.result (machine c.find.new.lot))
+    (c.remove.ensures.items ∙ ap (remove c.self.inside.wakes.items)
+    (stands_for t c.first_for-at.ensures c.deref.ensures.value)
+    ∙ ap (λ (m : Rows). remove m.wakes (position_or_len (is_for t) m.wakes)) c.self.view_is)
+    ∙ ap (done s left c.found.result)
+    (c.find.ensures.found ∙ ap (λ (m : Rows). leaves (machine m.lot) c.key.result) c.self.view_is
+    ∙ ap (leaves s.lot) (c.key.ensures ∙ ap (key_of c.args.call) c.late_list.ensures))
     ∙ ap (λ next. done s left next (leaves s.lot (late_key c.args.call))) c.found.ensures
 
 pub invariant_of-self : goal.invariant_of-self
 invariant_of-self g c = (
   let e = returns g c in
       subst FitsTogether (sym e)
-      (laws.finds (state c.args.self.now) c.args.thread c.args.call c.args.by c.args.said c.requires.late c.requires.off c.requires.free (subst Sound (ap (λ (s : State). s.lot) e) c.find.ensures.sound)
+      (laws.finds (state c.args.self.now) c.args.thread c.args.call c.args.by c.args.said c.requires.late c.requires.off
+      c.requires.free (subst Sound (ap (λ (s : State). s.lot) e) c.find.ensures.sound)
       (fits c.self.view_is c.self.invariant.0) c.requires.here).1.fits,
-  omega (arith, length-set c.self.inside.calls.items c.args.thread (Some c.found.result), c.self.invariant.1, c.remove.ensures.capacity),
+  omega (
+    arith,
+    length-set c.self.inside.calls.items c.args.thread (Some c.found.result),
+    c.self.invariant.1,
+    c.remove.ensures.capacity,
+  ),
 )

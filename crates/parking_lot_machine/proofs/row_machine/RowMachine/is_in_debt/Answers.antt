@@ -11,5 +11,7 @@ returns-else-looks g c =
     let s = state c.args.self.now in
     let us = taken_by s.wakes c.args.thread in
     let call = c.in-Some.call in
-    c.is_in_debt.ensures (as_slept s c.known.ensures c.args.thread call (sym c.in-Some.ensures)) us (some_is us ∙ ap is_some (sym c.taken.ensures) ∙ sym c.is_some.ensures)
-    ∙ sym (owing s c.args.thread c.known.ensures call (sym c.in-Some.ensures) ∙ ap (λ b. b || call_in_debt us call) (sym c.if-looks.ensures))
+    c.is_in_debt.ensures (as_slept s c.known.ensures c.args.thread call (sym c.in-Some.ensures)) us
+    (some_is us ∙ ap is_some (sym c.taken.ensures) ∙ sym c.is_some.ensures)
+    ∙ sym (owing s c.args.thread c.known.ensures call (sym c.in-Some.ensures)
+    ∙ ap (λ b. b || call_in_debt us call) (sym c.if-looks.ensures))

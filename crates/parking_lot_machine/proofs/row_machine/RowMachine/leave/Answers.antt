@@ -14,11 +14,15 @@ use Rattle.parking_lot_machine.proofs.row_machine.RowMachine.leave.Goals as goal
 -- src/acts.rt:184:9
 pub leave-requires : goal.leave-requires
 leave-requires g c =
-    record { inside = lot_never_refuses.leaves _ c.args.thread c.args.call (c.self.invariant.0.lots, held c.args.thread c.args.call c.self.view_is c.requires.here, c.requires.asked) }
+    record {
+      inside = lot_never_refuses.leaves _ c.args.thread c.args.call
+          (c.self.invariant.0.lots, held c.args.thread c.args.call c.self.view_is c.requires.here, c.requires.asked);
+    }
 
 -- src/acts.rt:185:9
 pub index_mut-requires : goal.index_mut-requires
-index_mut-requires g c = omega (arith, low c.args.thread c.args.call c.self.view_is c.requires.here, c.self.inside.calls.ok.0)
+index_mut-requires g c =
+    omega (arith, low c.args.thread c.args.call c.self.view_is c.requires.here, c.self.inside.calls.ok.0)
 
 -- src/acts.rt:170:5
 pub returns : goal.returns
@@ -26,7 +30,8 @@ returns g c =
     let done : State → Call → Machine → State = λ s next lot. with_lot (with_call s c.args.thread next) lot in
     let s : State = state c.args.self.now in
     ap (λ (m : Rows). done (state m) c.told.result (machine c.leave.new.lot)) c.self.view_is
-    ∙ ap (done s c.told.result) (c.leave.ensures.closed ∙ ap (λ (m : Rows). closed (machine m.lot) false) c.self.view_is)
+    ∙ ap (done s c.told.result)
+    (c.leave.ensures.closed ∙ ap (λ (m : Rows). closed (machine m.lot) false) c.self.view_is)
     ∙ ap (λ next. done s next (closed s.lot false)) c.told.ensures
 
 -- src/acts.rt:170:5
@@ -34,7 +39,8 @@ pub invariant_of-self : goal.invariant_of-self
 invariant_of-self g c = (
   let e = returns g c in
       subst FitsTogether (sym e)
-      (laws.leave (state c.args.self.now) c.args.thread c.args.call c.requires.asked (subst Sound (ap (λ (s : State). s.lot) e) c.leave.ensures.sound)
+      (laws.leave (state c.args.self.now) c.args.thread c.args.call c.requires.asked
+      (subst Sound (ap (λ (s : State). s.lot) e) c.leave.ensures.sound)
       (fits c.self.view_is c.self.invariant.0) c.requires.here).1.fits,
   room_set _ _ _ _ c.self.invariant.1,
 )

@@ -13,11 +13,14 @@ use Rattle.parking_lot_machine.proofs.row_machine.RowMachine.load.Goals as goal
 pub returns : goal.returns
 returns g c =
     ap (λ (m : Rows). with_call (state m) c.args.thread c.told.result) c.self.view_is
-    ∙ ap (with_call (state c.args.self.now) c.args.thread) (c.told.ensures ∙ ap (λ w. hears c.args.call (seen.Word w)) c.word-word.ensures)
+    ∙ ap (with_call (state c.args.self.now) c.args.thread)
+    (c.told.ensures ∙ ap (λ w. hears c.args.call (seen.Word w)) c.word-word.ensures)
 
 -- src/acts.rt:27:5
 pub invariant_of-self : goal.invariant_of-self
 invariant_of-self g c = (
-  subst FitsTogether (sym (returns g c)) (laws.load (state c.args.self.now) c.args.thread c.args.call c.requires.asked (fits c.self.view_is c.self.invariant.0) c.requires.here).1.fits,
+  subst FitsTogether (sym (returns g c))
+      (laws.load (state c.args.self.now) c.args.thread c.args.call c.requires.asked
+      (fits c.self.view_is c.self.invariant.0) c.requires.here).1.fits,
   room_set _ _ _ _ c.self.invariant.1,
 )

@@ -18,33 +18,53 @@ use Rattle.parking_lot_machine.proofs.row_machine.RowMachine.mask.Goals as goal
 
 -- src/acts.rt:165:9
 pub store-requires : goal.store-requires
-store-requires g c = record { inside = lot_never_refuses.masks _ c.args.thread c.args.call c.args.keep (c.self.invariant.0.lots, held c.args.thread c.args.call c.self.view_is c.requires.here, c.requires.asked) }
+store-requires g c =
+    record {
+      inside = lot_never_refuses.masks _ c.args.thread c.args.call c.args.keep
+          (c.self.invariant.0.lots, held c.args.thread c.args.call c.self.view_is c.requires.here, c.requires.asked);
+    }
 
 -- src/acts.rt:75:9
 pub index_mut-requires : goal.index_mut-requires
-index_mut-requires g c = omega (arith, word_low c.args.thread c.args.call c.self.view_is c.requires.here c.self.invariant.0, c.self.inside.words.ok.0)
+index_mut-requires g c =
+    omega (
+      arith,
+      word_low c.args.thread c.args.call c.self.view_is c.requires.here c.self.invariant.0,
+      c.self.inside.words.ok.0,
+    )
 
 -- src/acts.rt:76:9
 pub index_mut-requires-2 : goal.index_mut-requires-2
-index_mut-requires-2 g c = omega (arith, low c.args.thread c.args.call c.self.view_is c.requires.here, c.self.inside.calls.ok.0)
+index_mut-requires-2 g c =
+    omega (arith, low c.args.thread c.args.call c.self.view_is c.requires.here, c.self.inside.calls.ok.0)
 
 -- src/acts.rt:66:5
 pub returns : goal.returns
 returns g c =
     let s : State = state c.args.self.now in
-    let done : State → List (Option Call) → ℕ → Machine → State = λ m calls word lot. with_word (record m { calls = calls; lot = lot }) c.args.call.lock (bit_and word c.args.keep) in
-    let all : List (Option Call) → Call → List (Option Call) = λ calls next. map (option_map (settled c.args.thread told.TryAgain)) (slice_set calls c.args.thread (Some next)) in
-    ap (λ (m : Rows). done (state m) c.settle.new.calls.items c.word-word.result (machine c.store.new.lot)) c.self.view_is
-    ∙ ap (λ calls. done s calls c.word-word.result (machine c.store.new.lot)) (c.settle.ensures ∙ ap (λ (m : Rows). all m.calls c.told.result) c.self.view_is)
-    ∙ ap (done s (all s.calls c.told.result) c.word-word.result) (c.store.ensures.stored ∙ ap (λ (m : Rows). stored (machine m.lot) (sign false)) c.self.view_is)
+    let done : State → List (Option Call) → ℕ → Machine → State =
+    λ m calls word lot. with_word (record m { calls = calls; lot = lot }) c.args.call.lock
+    (bit_and word c.args.keep) in
+    let all : List (Option Call) → Call → List (Option Call) =
+    λ calls next. map (option_map (settled c.args.thread told.TryAgain)) (slice_set calls c.args.thread (Some next))
+    in
+    ap (λ (m : Rows). done (state m) c.settle.new.calls.items c.word-word.result (machine c.store.new.lot))
+    c.self.view_is
+    ∙ ap (λ calls. done s calls c.word-word.result (machine c.store.new.lot))
+    (c.settle.ensures ∙ ap (λ (m : Rows). all m.calls c.told.result) c.self.view_is)
+    ∙ ap (done s (all s.calls c.told.result) c.word-word.result)
+    (c.store.ensures.stored ∙ ap (λ (m : Rows). stored (machine m.lot) (sign false)) c.self.view_is)
     ∙ ap (λ next. done s (all s.calls next) c.word-word.result (stored s.lot (sign false))) c.told.ensures
-    ∙ ap (λ word. done s (all s.calls (hears c.args.call (seen.Before word))) word (stored s.lot (sign false))) c.word-word.ensures
+    ∙ ap (λ word. done s (all s.calls (hears c.args.call (seen.Before word))) word (stored s.lot (sign false)))
+    c.word-word.ensures
 
 -- src/acts.rt:66:5
 pub invariant_of-self : goal.invariant_of-self
 invariant_of-self g c = (
   let e = returns g c in
       subst FitsTogether (sym e)
-      (laws.mask (state c.args.self.now) c.args.thread c.args.call c.args.keep c.requires.asked (subst Sound (ap (λ (s : State). s.lot) e) c.store.ensures.sound) (fits c.self.view_is c.self.invariant.0) c.requires.here).1.fits,
+      (laws.mask (state c.args.self.now) c.args.thread c.args.call c.args.keep c.requires.asked
+      (subst Sound (ap (λ (s : State). s.lot) e) c.store.ensures.sound) (fits c.self.view_is c.self.invariant.0)
+      c.requires.here).1.fits,
   room_settled _ _ _ _ _ _ c.settle.ensures c.self.invariant.1,
 )

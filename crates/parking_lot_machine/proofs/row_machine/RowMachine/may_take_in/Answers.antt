@@ -9,5 +9,6 @@ pub returns-then-may_rouse_in-clause-may : goal.returns-then-may_rouse_in-clause
 returns-then-may_rouse_in-clause-may g c = λ e.
     record {
       may = sym c.may_rouse_in.ensures ∙ c.if-may_rouse_in.true;
-      attended = attended_by (state c.args.self.now) (fits c.self.view_is c.self.invariant.0) c.args.lock (sym c.is_kept.ensures ∙ e);
+      attended = attended_by (state c.args.self.now) (fits c.self.view_is c.self.invariant.0) c.args.lock
+          (sym c.is_kept.ensures ∙ e);
     }

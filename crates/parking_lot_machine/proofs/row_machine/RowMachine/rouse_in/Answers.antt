@@ -17,7 +17,8 @@ returns g c =
     let asked = rouses_by s c.args.waiter c.args.lock c.requires.may in
     let may = is_free s c.args.waiter c.args.lock fit asked.0 in
     subst (IsRousedIn c.args.waiter c.args.lock c.args.timed s)
-    (sym (ap (λ (m : Rows). with_call (state m) c.args.waiter c.retrying.result) c.self.view_is ∙ ap (with_call s c.args.waiter) c.retrying.ensures))
+    (sym (ap (λ (m : Rows). with_call (state m) c.args.waiter c.retrying.result) c.self.view_is
+    ∙ ap (with_call s c.args.waiter) c.retrying.ensures))
     (rouses_in s c.args.waiter c.args.lock c.args.timed fit may.low may.alone may.kind may.owns asked.1)
 
 -- src/requeue.rt:39:5

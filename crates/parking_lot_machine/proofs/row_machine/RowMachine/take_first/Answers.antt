@@ -17,14 +17,25 @@ use Rattle.parking_lot_machine.proofs.row_machine.RowMachine.take_first.Goals as
 
 -- src/acts.rt:214:9
 pub take_first-taking-requires-clause-inside : goal.take_first-taking-requires-clause-inside
-take_first-taking-requires-clause-inside g c = lot_never_refuses.takes _ c.args.thread c.args.call (act.Section section.TakeFirst) tt (c.self.invariant.0.lots, held c.args.thread c.args.call c.self.view_is c.requires.here, c.requires.asked)
+take_first-taking-requires-clause-inside g c = lot_never_refuses.takes _ c.args.thread c.args.call
+    (act.Section section.TakeFirst) tt
+    (c.self.invariant.0.lots, held c.args.thread c.args.call c.self.view_is c.requires.here, c.requires.asked)
 
 -- src/acts.rt:214:9
 pub take_first-taking-requires-clause-passed : goal.take_first-taking-requires-clause-passed
 take_first-taking-requires-clause-passed g c o there =
     let l = leads_by c.args.call.core (act.Section section.TakeFirst) 0 (seen.Took None false) c.requires.asked tt in
-    let m : Rows = record { kinds = c.self.inside.kinds.items; words = c.self.inside.words.items; holds = c.self.inside.holds.items; calls = c.self.inside.calls.items; wakes = c.self.inside.wakes.items; lot = c.self.inside.lot } in
-    subst (λ a. ArePassed (asks a) ((machine c.self.inside.lot).queues o.key) (passed_of o.phase)) c.requires.asked (has_passed (state m) c.args.thread c.args.call l.0 l.1 c.self.invariant.0 (held c.args.thread c.args.call c.self.view_is c.requires.here) o there)
+    let m : Rows = record {
+      kinds = c.self.inside.kinds.items;
+      words = c.self.inside.words.items;
+      holds = c.self.inside.holds.items;
+      calls = c.self.inside.calls.items;
+      wakes = c.self.inside.wakes.items;
+      lot = c.self.inside.lot;
+    } in
+    subst (λ a. ArePassed (asks a) ((machine c.self.inside.lot).queues o.key) (passed_of o.phase)) c.requires.asked
+    (has_passed (state m) c.args.thread c.args.call l.0 l.1 c.self.invariant.0
+    (held c.args.thread c.args.call c.self.view_is c.requires.here) o there)
 
 -- src/acts.rt:215:9
 pub note_taking-requires-clause-low : goal.note_taking-requires-clause-low
@@ -32,10 +43,26 @@ note_taking-requires-clause-low g c x is =
     let t : ℕ = c.args.thread in
     let l = leads_by c.args.call.core (act.Section section.TakeFirst) 0 (seen.Took None false) c.requires.asked tt in
     let h = held t c.args.call c.self.view_is c.requires.here in
-    let m : Rows = record { kinds = c.self.inside.kinds.items; words = c.self.inside.words.items; holds = c.self.inside.holds.items; calls = c.self.inside.calls.items; wakes = c.self.inside.wakes.items; lot = c.self.inside.lot } in
+    let m : Rows = record {
+      kinds = c.self.inside.kinds.items;
+      words = c.self.inside.words.items;
+      holds = c.self.inside.holds.items;
+      calls = c.self.inside.calls.items;
+      wakes = c.self.inside.wakes.items;
+      lot = c.self.inside.lot;
+    } in
     let at = its (state m) t c.args.call l.0 l.1 c.self.invariant.0.lots h in
-    let front = subst (λ a. NextTaken (asks a) (machine c.self.inside.lot) (machine c.take_first-taking.new.lot) (Ok c.take_first-taking.result) (key_of c.args.call l.0)) (sym c.requires.asked) (subst (NextTaken (asks (act.Section section.TakeFirst)) (machine c.self.inside.lot) (machine c.take_first-taking.new.lot) (Ok c.take_first-taking.result)) at.key (c.take_first-taking.ensures.next at.section at.own)) in
-    omega (arith, (has_room (state m) t c.args.call l.0 l.1 (machine c.take_first-taking.new.lot) c.take_first-taking.result front c.self.invariant.0 h x is).0, c.self.inside.calls.ok.0)
+    let front = subst (λ a. NextTaken (asks a) (machine c.self.inside.lot) (machine c.take_first-taking.new.lot)
+    (Ok c.take_first-taking.result) (key_of c.args.call l.0)) (sym c.requires.asked)
+    (subst (NextTaken (asks (act.Section section.TakeFirst)) (machine c.self.inside.lot)
+    (machine c.take_first-taking.new.lot) (Ok c.take_first-taking.result)) at.key
+    (c.take_first-taking.ensures.next at.section at.own)) in
+    omega (
+      arith,
+      (has_room (state m) t c.args.call l.0 l.1 (machine c.take_first-taking.new.lot)
+          c.take_first-taking.result front c.self.invariant.0 h x is).0,
+      c.self.inside.calls.ok.0,
+    )
 
 -- src/acts.rt:215:9
 pub note_taking-requires-clause-room : goal.note_taking-requires-clause-room
@@ -43,18 +70,49 @@ note_taking-requires-clause-room g c x is =
     let t : ℕ = c.args.thread in
     let l = leads_by c.args.call.core (act.Section section.TakeFirst) 0 (seen.Took None false) c.requires.asked tt in
     let h = held t c.args.call c.self.view_is c.requires.here in
-    let m : Rows = record { kinds = c.self.inside.kinds.items; words = c.self.inside.words.items; holds = c.self.inside.holds.items; calls = c.self.inside.calls.items; wakes = c.self.inside.wakes.items; lot = c.self.inside.lot } in
+    let m : Rows = record {
+      kinds = c.self.inside.kinds.items;
+      words = c.self.inside.words.items;
+      holds = c.self.inside.holds.items;
+      calls = c.self.inside.calls.items;
+      wakes = c.self.inside.wakes.items;
+      lot = c.self.inside.lot;
+    } in
     let at = its (state m) t c.args.call l.0 l.1 c.self.invariant.0.lots h in
-    let front = subst (λ a. NextTaken (asks a) (machine c.self.inside.lot) (machine c.take_first-taking.new.lot) (Ok c.take_first-taking.result) (key_of c.args.call l.0)) (sym c.requires.asked) (subst (NextTaken (asks (act.Section section.TakeFirst)) (machine c.self.inside.lot) (machine c.take_first-taking.new.lot) (Ok c.take_first-taking.result)) at.key (c.take_first-taking.ensures.next at.section at.own)) in
-    omega (arith, (has_room (state m) t c.args.call l.0 l.1 (machine c.take_first-taking.new.lot) c.take_first-taking.result front c.self.invariant.0 h x is).1, c.self.invariant.1, c.self.inside.wakes.ok.0)
+    let front = subst (λ a. NextTaken (asks a) (machine c.self.inside.lot) (machine c.take_first-taking.new.lot)
+    (Ok c.take_first-taking.result) (key_of c.args.call l.0)) (sym c.requires.asked)
+    (subst (NextTaken (asks (act.Section section.TakeFirst)) (machine c.self.inside.lot)
+    (machine c.take_first-taking.new.lot) (Ok c.take_first-taking.result)) at.key
+    (c.take_first-taking.ensures.next at.section at.own)) in
+    omega (
+      arith,
+      (has_room (state m) t c.args.call l.0 l.1 (machine c.take_first-taking.new.lot)
+          c.take_first-taking.result front c.self.invariant.0 h x is).1,
+      c.self.invariant.1,
+      c.self.inside.wakes.ok.0,
+    )
 
 -- src/acts.rt:216:9
 pub taker-requires : goal.taker-requires
-taker-requires g c = record { small = omega (arith, word_low c.args.thread c.args.call c.self.view_is c.requires.here c.self.invariant.0, c.self.invariant.0.rules.size_words, c.self.invariant.0.rules.few_locks) }
+taker-requires g c =
+    record {
+      small = omega (
+        arith,
+        word_low c.args.thread c.args.call c.self.view_is c.requires.here c.self.invariant.0,
+        c.self.invariant.0.rules.size_words,
+        c.self.invariant.0.rules.few_locks,
+      );
+    }
 
 -- src/acts.rt:216:9
 pub index_mut-requires : goal.index_mut-requires
-index_mut-requires g c = omega (arith, low c.args.thread c.args.call c.self.view_is c.requires.here, c.self.inside.calls.ok.0, c.note_taking.ensures.slots)
+index_mut-requires g c =
+    omega (
+      arith,
+      low c.args.thread c.args.call c.self.view_is c.requires.here,
+      c.self.inside.calls.ok.0,
+      c.note_taking.ensures.slots,
+    )
 
 -- src/acts.rt:209:5
 pub returns : goal.returns
@@ -62,11 +120,23 @@ returns g c =
     let t : ℕ = c.args.thread in
     let l = leads_by c.args.call.core (act.Section section.TakeFirst) 0 (seen.Took None false) c.requires.asked tt in
     let h = held t c.args.call c.self.view_is c.requires.here in
-    let m : Rows = record { kinds = c.self.inside.kinds.items; words = c.self.inside.words.items; holds = c.self.inside.holds.items; calls = c.self.inside.calls.items; wakes = c.self.inside.wakes.items; lot = c.self.inside.lot } in
+    let m : Rows = record {
+      kinds = c.self.inside.kinds.items;
+      words = c.self.inside.words.items;
+      holds = c.self.inside.holds.items;
+      calls = c.self.inside.calls.items;
+      wakes = c.self.inside.wakes.items;
+      lot = c.self.inside.lot;
+    } in
     let at = its (state m) t c.args.call l.0 l.1 c.self.invariant.0.lots h in
-    let front = subst (λ a. NextTaken (asks a) (machine c.self.inside.lot) (machine c.take_first-taking.new.lot) (Ok c.take_first-taking.result) (key_of c.args.call l.0)) (sym c.requires.asked) (subst (NextTaken (asks (act.Section section.TakeFirst)) (machine c.self.inside.lot) (machine c.take_first-taking.new.lot) (Ok c.take_first-taking.result)) at.key (c.take_first-taking.ensures.next at.section at.own)) in
+    let front = subst (λ a. NextTaken (asks a) (machine c.self.inside.lot) (machine c.take_first-taking.new.lot)
+    (Ok c.take_first-taking.result) (key_of c.args.call l.0)) (sym c.requires.asked)
+    (subst (NextTaken (asks (act.Section section.TakeFirst)) (machine c.self.inside.lot)
+    (machine c.take_first-taking.new.lot) (Ok c.take_first-taking.result)) at.key
+    (c.take_first-taking.ensures.next at.section at.own)) in
     taken_in t c.args.call _ c.self.view_is
-    (is_taken (state m) t c.args.call l.0 l.1 (machine c.take_first-taking.new.lot) c.take_first-taking.result front c.note_taking.new.calls.items c.taker.result c.note_taking.new.wakes.items
+    (is_taken (state m) t c.args.call l.0 l.1 (machine c.take_first-taking.new.lot) c.take_first-taking.result front
+    c.note_taking.new.calls.items c.taker.result c.note_taking.new.wakes.items
     c.note_taking.ensures.calls (c.taker.ensures l.0 l.1) c.note_taking.ensures.wakes)
 
 -- src/acts.rt:209:5
@@ -75,6 +145,14 @@ invariant_of-self g c =
     let t : ℕ = c.args.thread in
     let fits_now = fits c.self.view_is c.self.invariant.0 in
     let slots = same_slots t c.self.inside.calls.items c.take_first-taking.result in (
-      takes_fit (state c.args.self.now) t c.args.call _ (returns g c) c.take_first-taking.ensures.sound fits_now c.requires.here,
-      omega (arith, length-set c.note_taking.new.calls.items t (Some c.taker.result), ap length c.note_taking.ensures.calls, slots, c.self.invariant.1, c.note_taking.ensures.capacity),
+      takes_fit (state c.args.self.now) t c.args.call _ (returns g c) c.take_first-taking.ensures.sound fits_now
+          c.requires.here,
+      omega (
+        arith,
+        length-set c.note_taking.new.calls.items t (Some c.taker.result),
+        ap length c.note_taking.ensures.calls,
+        slots,
+        c.self.invariant.1,
+        c.note_taking.ensures.capacity,
+      ),
     )

@@ -15,16 +15,21 @@ use Rattle.parking_lot_machine.proofs.row_machine.RowMachine.take_in.Goals as go
 pub returns : goal.returns
 returns g c =
     let s : State = state c.args.self.now in
-    let done : State → ℕ → Call → Machine → State = λ x w d l. with_lot (with_word (with_call x c.args.waiter d) c.args.lock w) l in
+    let done : State → ℕ → Call → Machine → State =
+    λ x w d l. with_lot (with_word (with_call x c.args.waiter d) c.args.lock w) l in
     let fit : FitsTogether s = fits c.self.view_is c.self.invariant.0 in
     let asked = rouses_by s c.args.waiter c.args.lock c.requires.may.may in
     let may = is_free s c.args.waiter c.args.lock fit asked.0 in
     subst (IsTakenIn c.args.waiter c.args.lock c.args.timed s)
-    (sym (ap (λ (m : Rows). done (state m) (c.word-word.result % 2 + 2) c.sleeping.result (machine c.join.new.lot)) c.self.view_is
+    (sym (ap (λ (m : Rows). done (state m) (c.word-word.result % 2 + 2) c.sleeping.result (machine c.join.new.lot))
+    c.self.view_is
     ∙ ap (λ w. done s (w % 2 + 2) c.sleeping.result (machine c.join.new.lot)) c.word-word.ensures
     ∙ ap (λ d. done s (word_at s c.args.lock % 2 + 2) d (machine c.join.new.lot)) c.sleeping.ensures
-    ∙ ap (done s (word_at s c.args.lock % 2 + 2) (sleeping_call c.args.lock c.args.timed)) (c.join.ensures ∙ ap (λ (m : Rows). lot_with (machine m.lot) c.args.waiter (first_key c.args.lock)) c.self.view_is)))
-    (takes_in s c.args.waiter c.args.lock c.args.timed fit may.low may.alone may.kind may.owns asked.1 c.requires.may.attended)
+    ∙ ap (done s (word_at s c.args.lock % 2 + 2) (sleeping_call c.args.lock c.args.timed))
+    (c.join.ensures ∙ ap (λ (m : Rows). lot_with (machine m.lot) c.args.waiter (first_key c.args.lock))
+    c.self.view_is)))
+    (takes_in s c.args.waiter c.args.lock c.args.timed fit may.low may.alone may.kind may.owns asked.1
+    c.requires.may.attended)
 
 -- src/requeue.rt:22:5
 pub invariant_of-self : goal.invariant_of-self

@@ -9,14 +9,20 @@ returns-then-is_some g c = inl c.wake_first.ensures
 pub returns-else-is_some : goal.returns-else-is_some
 returns-else-is_some g c =
     let s : State = state c.args.self.now in
-    inr (none_first (taken_by s.wakes c.args.thread) (ap is_some (sym c.taken.ensures) ∙ sym c.is_some.ensures ∙ c.if-is_some.false), c.wake_nobody.ensures)
+    inr (
+      none_first (taken_by s.wakes c.args.thread)
+          (ap is_some (sym c.taken.ensures) ∙ sym c.is_some.ensures ∙ c.if-is_some.false),
+      c.wake_nobody.ensures,
+    )
 
 pub wake_first-requires-clause-some : goal.wake_first-requires-clause-some
 wake_first-requires-clause-some g c =
     let s : State = state c.args.self.now in
-    some_first (taken_by s.wakes c.args.thread) (ap is_some (sym c.taken.ensures) ∙ sym c.is_some.ensures ∙ c.if-is_some.true)
+    some_first (taken_by s.wakes c.args.thread)
+    (ap is_some (sym c.taken.ensures) ∙ sym c.is_some.ensures ∙ c.if-is_some.true)
 
 pub wake_nobody-requires-clause-gone : goal.wake_nobody-requires-clause-gone
 wake_nobody-requires-clause-gone g c =
     let s : State = state c.args.self.now in
-    none_first (taken_by s.wakes c.args.thread) (ap is_some (sym c.taken.ensures) ∙ sym c.is_some.ensures ∙ c.if-is_some.false)
+    none_first (taken_by s.wakes c.args.thread)
+    (ap is_some (sym c.taken.ensures) ∙ sym c.is_some.ensures ∙ c.if-is_some.false)

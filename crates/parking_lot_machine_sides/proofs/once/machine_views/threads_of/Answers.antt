@@ -9,10 +9,22 @@ use Rattle.parking_lot_machine_sides.proofs.once.machine_views.threads_of.Goals.
 use Rattle.parking_lot_machine_sides.proofs.once.machine_views.threads_of.Goals as goal
 
 pub loop-entry-init : goal.loop-entry-init
-loop-entry-init g c = record { listed = c.in_ok-threads.ensures.items; few = omega (arith, ap length c.in_ok-threads.ensures.items); room = omega (arith, c.in_ok-threads.ensures.capacity) }
+loop-entry-init g c =
+    record {
+      listed = c.in_ok-threads.ensures.items;
+      few = omega (arith, ap length c.in_ok-threads.ensures.items);
+      room = omega (arith, c.in_ok-threads.ensures.capacity);
+    }
 
 pub push_reserved-requires : goal.push_reserved-requires
-push_reserved-requires g c = omega (arith, c.loop-entry.invariant.few, c.loop-entry.invariant.room, c.loop-entry-test.true, c.loop-entry.threads.ok.0)
+push_reserved-requires g c =
+    omega (
+      arith,
+      c.loop-entry.invariant.few,
+      c.loop-entry.invariant.room,
+      c.loop-entry-test.true,
+      c.loop-entry.threads.ok.0,
+    )
 
 pub loop-entry-preserved : goal.loop-entry-preserved
 loop-entry-preserved g c =
@@ -21,18 +33,34 @@ loop-entry-preserved g c =
     let more = take_more c.args.entries.now i (record { list = 0; thread = 0 }) c.loop-entry-test.true in
     elim c.if-entry-list.branch [
       | then-entry-list w ↦ record {
-        listed = ap (λ v. v.items) w.threads-is ∙ w.push_reserved.ensures.items ∙ ap (λ xs. xs ++ e.thread ∷ []) c.loop-entry.invariant.listed
-            ∙ sym (list_more (take i c.args.entries.now) e c.args.list (eq-eqb e.list c.args.list w.if-entry-list.true)) ∙ ap (λ es. list_of es c.args.list) (sym more);
-        few = omega (arith, c.loop-entry.invariant.few, ap (λ v. length v.items) w.threads-is, ap length w.push_reserved.ensures.items, length_push c.loop-entry.threads.items e.thread);
-        room = omega (arith, c.loop-entry.invariant.room, ap vec_capacity w.threads-is, w.push_reserved.ensures.capacity);
+        listed = ap (λ v. v.items) w.threads-is ∙ w.push_reserved.ensures.items
+            ∙ ap (λ xs. xs ++ e.thread ∷ []) c.loop-entry.invariant.listed
+            ∙ sym (list_more (take i c.args.entries.now) e c.args.list (eq-eqb e.list c.args.list w.if-entry-list.true))
+            ∙ ap (λ es. list_of es c.args.list) (sym more);
+        few = omega (
+          arith,
+          c.loop-entry.invariant.few,
+          ap (λ v. length v.items) w.threads-is,
+          ap length w.push_reserved.ensures.items,
+          length_push c.loop-entry.threads.items e.thread,
+        );
+        room = omega (
+          arith,
+          c.loop-entry.invariant.room,
+          ap vec_capacity w.threads-is,
+          w.push_reserved.ensures.capacity,
+        );
       }
       | else-entry-list w ↦ record {
         listed = ap (λ v. v.items) w.threads-is ∙ c.loop-entry.invariant.listed
-            ∙ sym (list_same (take i c.args.entries.now) e c.args.list (ne_eqb e.list c.args.list w.if-entry-list.false)) ∙ ap (λ es. list_of es c.args.list) (sym more);
+            ∙ sym (list_same (take i c.args.entries.now) e c.args.list
+            (ne_eqb e.list c.args.list w.if-entry-list.false)) ∙ ap (λ es. list_of es c.args.list) (sym more);
         few = omega (arith, c.loop-entry.invariant.few, ap (λ v. length v.items) w.threads-is);
         room = omega (arith, c.loop-entry.invariant.room, ap vec_capacity w.threads-is);
       }
     ]
 
 pub returns-clause-ok : goal.returns-clause-ok
-returns-clause-ok g c = c.loop-entry.invariant.listed ∙ ap (λ es. list_of es c.args.list) (take_all c.loop-entry.entry-index c.args.entries.now (omega (arith, c.loop-entry-test.false)))
+returns-clause-ok g c = c.loop-entry.invariant.listed
+    ∙ ap (λ es. list_of es c.args.list)
+    (take_all c.loop-entry.entry-index c.args.entries.now (omega (arith, c.loop-entry-test.false)))

@@ -9,6 +9,8 @@ pub begin-requires : goal.begin-requires
 begin-requires g c =
     let may = may_there c.args.self.now c.args.thread c.args.lock c.args.call c.requires.may in
     record {
-      may = subst (λ (j : Joint). may_begin (state j.rows) c.asking_number-number.result c.args.lock c.args.call ≡ true) (sym c.self.view_is)
-          (subst (λ (k : ℕ). may_begin (state c.args.self.now.rows) k c.args.lock c.args.call ≡ true) (sym c.asking_number-number.ensures) may);
+      may = subst (λ (j : Joint). may_begin (state j.rows) c.asking_number-number.result c.args.lock c.args.call ≡ true)
+          (sym c.self.view_is)
+          (subst (λ (k : ℕ). may_begin (state c.args.self.now.rows) k c.args.lock c.args.call ≡ true)
+          (sym c.asking_number-number.ensures) may);
     }

@@ -9,13 +9,19 @@ use Rattle.parking_lot_machine_waits.proofs.machines.Machines.follow.Goals as go
 
 pub ask_again-requires : goal.ask_again-requires
 ask_again-requires g c = record {
-  may = asks_again (state c.self.inside.rows) (state c.step.new.self) c.args.number c.args.fair answer.Refused c.args.at c.step.result c.known.ensures
-      (subst (λ (j : Joint). call_at (state j.rows) c.args.number ≡ Some c.args.at) (sym c.self.view_is) c.requires.there) c.requires.mutex refl (c.in-Some-Refused.is ∙ ap Some c.in-Some-Refused.field-0-is) c.step.ensures;
+  may = asks_again (state c.self.inside.rows) (state c.step.new.self) c.args.number c.args.fair answer.Refused c.args.at
+      c.step.result c.known.ensures
+      (subst (λ (j : Joint). call_at (state j.rows) c.args.number ≡ Some c.args.at) (sym c.self.view_is)
+      c.requires.there) c.requires.mutex refl (c.in-Some-Refused.is ∙ ap Some c.in-Some-Refused.field-0-is)
+      c.step.ensures;
   hears = hears_waking (var_in c.self.inside.vars.items c.args.variable) c.args.thread c.args.call retried
-      (subst (λ (j : Joint). call_in (var_in j.vars c.args.variable) c.args.thread ≡ Some c.args.call) (sym c.self.view_is) c.requires.here) (ap is_following c.requires.turn);
+      (subst (λ (j : Joint). call_in (var_in j.vars c.args.variable) c.args.thread ≡ Some c.args.call)
+      (sym c.self.view_is) c.requires.here) (ap is_following c.requires.turn);
 }
 
 pub ask_again-requires-in-Some-Released-clause-may : goal.ask_again-requires-in-Some-Released-clause-may
 ask_again-requires-in-Some-Released-clause-may g c =
-    asks_again (state c.self.inside.rows) (state c.step.new.self) c.args.number c.args.fair answer.Released c.args.at c.step.result c.known.ensures
-    (subst (λ (j : Joint). call_at (state j.rows) c.args.number ≡ Some c.args.at) (sym c.self.view_is) c.requires.there) c.requires.mutex refl (c.in-Some-Released.is ∙ ap Some c.in-Some-Released.field-0-is) c.step.ensures
+    asks_again (state c.self.inside.rows) (state c.step.new.self) c.args.number c.args.fair answer.Released c.args.at
+    c.step.result c.known.ensures
+    (subst (λ (j : Joint). call_at (state j.rows) c.args.number ≡ Some c.args.at) (sym c.self.view_is) c.requires.there)
+    c.requires.mutex refl (c.in-Some-Released.is ∙ ap Some c.in-Some-Released.field-0-is) c.step.ensures

@@ -11,5 +11,6 @@ invariant_of-self g c =
     let parts : PartsFit i = record { rows = c.known.ensures.locks; vars = c.known.ensures.variables } in
     let may = subst (λ (x : Joint). may_expire x c.args.thread ≡ true) (sym c.self.view_is) c.requires.may in (
       c.stays_whole.ensures.deadlines c.args.thread i j c.self.invariant.0 parts may c.deadline.ensures,
-      c.givers_stay_out.ensures.deadlines c.args.thread i j c.self.invariant.0 parts c.self.invariant.1 may c.deadline.ensures,
+      c.givers_stay_out.ensures.deadlines c.args.thread i j c.self.invariant.0 parts c.self.invariant.1 may
+          c.deadline.ensures,
     )

@@ -11,4 +11,5 @@ pub returns : goal.returns
 unfolding EndedAt
 returns g c = λ won.
     let run = c.attempt.ensures in
-    subst (λ core. EndedAt Gives g.K.Core.DecisionCore.told g.K.Core.DecisionCore.asks Start core (Done Owned)) c.begin.ensures (run.0, run.1, run.2.0 won)
+    subst (λ core. EndedAt Gives g.K.Core.DecisionCore.told g.K.Core.DecisionCore.asks Start core (Done Owned))
+    c.begin.ensures (run.0, run.1, run.2.0 won)

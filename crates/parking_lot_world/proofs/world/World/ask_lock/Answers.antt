@@ -6,11 +6,28 @@ use Rattle.parking_lot_world.proofs.world.World.ask_lock.Goals as goal
 
 pub ask-requires : goal.ask-requires
 ask-requires g c =
-    let w : Shown = record { kinds = c.self.inside.kinds.items; waits = c.self.inside.waits; onces = c.self.inside.onces; answers = c.self.inside.answers.items } in
-    record { may = ask_lock_there w c.args.thread c.args.lock c.args.call (subst (λ (x : Shown). may_ask x c.args.thread c.args.lock (Asked.OfLock c.args.call) ≡ true) (sym c.self.view_is) c.requires.allowed) }
+    let w : Shown = record {
+      kinds = c.self.inside.kinds.items;
+      waits = c.self.inside.waits;
+      onces = c.self.inside.onces;
+      answers = c.self.inside.answers.items;
+    } in
+    record {
+      may = ask_lock_there w c.args.thread c.args.lock c.args.call
+          (subst (λ (x : Shown). may_ask x c.args.thread c.args.lock (Asked.OfLock c.args.call) ≡ true)
+          (sym c.self.view_is) c.requires.allowed);
+    }
 
 pub invariant_of-self : goal.invariant_of-self
 invariant_of-self g c =
-    let w : Shown = record { kinds = c.self.inside.kinds.items; waits = c.self.inside.waits; onces = c.self.inside.onces; answers = c.self.inside.answers.items } in
-    asked_whole w (record w { waits = c.ask.new.self; answers = slice_set w.answers c.args.thread None }) c.self.invariant c.known.ensures.whole c.known.ensures.parts c.args.thread c.args.lock refl refl (Asked.OfLock c.args.call)
-    (subst (λ (x : Shown). may_ask x c.args.thread c.args.lock (Asked.OfLock c.args.call) ≡ true) (sym c.self.view_is) c.requires.allowed) (c.ask.ensures, refl)
+    let w : Shown = record {
+      kinds = c.self.inside.kinds.items;
+      waits = c.self.inside.waits;
+      onces = c.self.inside.onces;
+      answers = c.self.inside.answers.items;
+    } in
+    asked_whole w (record w { waits = c.ask.new.self; answers = slice_set w.answers c.args.thread None })
+    c.self.invariant c.known.ensures.whole c.known.ensures.parts c.args.thread c.args.lock refl refl
+    (Asked.OfLock c.args.call)
+    (subst (λ (x : Shown). may_ask x c.args.thread c.args.lock (Asked.OfLock c.args.call) ≡ true) (sym c.self.view_is)
+    c.requires.allowed) (c.ask.ensures, refl)

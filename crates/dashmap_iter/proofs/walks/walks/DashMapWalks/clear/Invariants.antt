@@ -5,4 +5,6 @@ use Rattle.dashmap_iter.proofs.walks.walks.DashMapWalks.clear.Given as goal
 
 -- the shards below one were held, one after another
 abbrev pub invariant-loop-shard : goal.invariant-loop-shard
-invariant-loop-shard g l = HeldUpTo {K = g.row.K.Denot} {V = g.row.V.Denot} g.row.Q-ExclusiveGuard.Denot g.row.Q-Runtime.Denot g.row.Q-Party.Denot {F = Unit {0}} l.fn.self (λ p q. (i : ℕ) → at q.1.slots i ≡ None) l.shard tt tt × (l.shard ≤ length l.fn.self.locks)
+invariant-loop-shard g l = HeldUpTo {K = g.row.K.Denot} {V = g.row.V.Denot} g.row.Q-ExclusiveGuard.Denot
+    g.row.Q-Runtime.Denot g.row.Q-Party.Denot {F = Unit {0}} l.fn.self (λ p q. (i : ℕ) → at q.1.slots i ≡ None) l.shard
+    tt tt × (l.shard ≤ length l.fn.self.locks)

@@ -12,4 +12,5 @@ returns g c =
     let chain = c.for_each.ensures in
     let shown = chain.2 ∙ ap iter_slice c.with_min_len.ensures.base ∙ c.par_iter.ensures ∙ c.self.view_is in
     all-shards (λ p. AnswersOf g.F.Fn c.args.f p tt) c.args.self chain.1
-    (slice-AllZip chain.0 c.args.self shown (λ t u. All (λ p. AnswersOf g.F.Fn c.args.f p tt) (pairs_of t.slots)) chain.1 chain.3)
+    (slice-AllZip chain.0 c.args.self shown (λ t u. All (λ p. AnswersOf g.F.Fn c.args.f p tt) (pairs_of t.slots))
+    chain.1 chain.3)

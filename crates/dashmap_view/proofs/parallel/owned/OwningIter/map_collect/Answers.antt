@@ -12,8 +12,12 @@ pub returns : goal.returns
 returns g c =
     let h = c.in_ok-lists.ensures in
     let chain = h.1 in
-    let shown = chain.1 ∙ ap (λ it. vec_items (min_len_base it)) c.map.ensures.base ∙ ap vec_items c.with_min_len.ensures.base ∙ c.into_par_iter.ensures ∙ c.self.view_is in
-    let each = subst (λ fn. AllZip (λ z r. IfOk r (λ v. AllZip (MakesOf g.F.Fn fn.0.now) (pairs_of z.slots) v.items)) chain.0 h.0) c.map.ensures.f chain.2 in
-    let parts = subst (λ ts. AllZip (λ t r. IfOk r (λ v. AllZip (MakesOf g.F.Fn c.args.f) (pairs_of t.slots) v.items)) ts h.0) shown each in
+    let shown = chain.1 ∙ ap (λ it. vec_items (min_len_base it)) c.map.ensures.base
+    ∙ ap vec_items c.with_min_len.ensures.base ∙ c.into_par_iter.ensures ∙ c.self.view_is in
+    let each = subst (λ fn. AllZip (λ z r. IfOk r (λ v. AllZip (MakesOf g.F.Fn fn.0.now) (pairs_of z.slots) v.items))
+    chain.0 h.0) c.map.ensures.f chain.2 in
+    let parts = subst (λ ts. AllZip (λ t r. IfOk r (λ v. AllZip (MakesOf g.F.Fn c.args.f) (pairs_of t.slots) v.items))
+    ts h.0) shown each in
     IfOk-then c.joined.result _ _ c.joined.ensures (λ v is.
-    subst (AllZip (MakesOf g.F.Fn c.args.f) (all_pairs c.args.self)) (sym is.2) (gathers-shards (MakesOf g.F.Fn c.args.f) c.args.self is.0 h.0 (sym h.2 ∙ is.1) parts))
+    subst (AllZip (MakesOf g.F.Fn c.args.f) (all_pairs c.args.self)) (sym is.2)
+    (gathers-shards (MakesOf g.F.Fn c.args.f) c.args.self is.0 h.0 (sym h.2 ∙ is.1) parts))

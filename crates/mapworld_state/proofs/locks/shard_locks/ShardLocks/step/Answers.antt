@@ -10,40 +10,65 @@ use Rattle.mapworld_state.proofs.locks.shard_locks.ShardLocks.step.Goals as goal
 pub index_mut-requires : goal.index_mut-requires
 index_mut-requires g c =
     let old : Shown = record { rows = c.self.inside.machine; desks = c.self.inside.desks.items } in
-    let going : ended (state old.rows) c.args.thread ≡ None = ap (λ (x : Shown). ended (state x.rows) c.args.thread) c.self.view_is ∙ c.requires.open in
+    let going : ended (state old.rows) c.args.thread ≡ None = ap (λ (x : Shown). ended (state x.rows) c.args.thread)
+    c.self.view_is ∙ c.requires.open in
     let there : call_at (state old.rows) c.args.thread ≡ Some c.in-Some.call = sym c.call.ensures ∙ c.in-Some.is in
-    omega (arith, low c.each_step_is_a_case.ensures c.owners_agree.ensures old c.self.invariant c.args.thread c.args.fair c.step.new.self c.step.result c.step.ensures going c.in-Some.call there, c.self.inside.desks.ok.0)
+    omega (
+      arith,
+      low c.each_step_is_a_case.ensures c.owners_agree.ensures old c.self.invariant c.args.thread
+          c.args.fair c.step.new.self c.step.result c.step.ensures going c.in-Some.call there,
+      c.self.inside.desks.ok.0,
+    )
 
 pub follow-requires : goal.follow-requires
 follow-requires g c =
     let old : Shown = record { rows = c.self.inside.machine; desks = c.self.inside.desks.items } in
-    let going : ended (state old.rows) c.args.thread ≡ None = ap (λ (x : Shown). ended (state x.rows) c.args.thread) c.self.view_is ∙ c.requires.open in
+    let going : ended (state old.rows) c.args.thread ≡ None = ap (λ (x : Shown). ended (state x.rows) c.args.thread)
+    c.self.view_is ∙ c.requires.open in
     let there : call_at (state old.rows) c.args.thread ≡ Some c.in-Some.call = sym c.call.ensures ∙ c.in-Some.is in
-    let in_range = low c.each_step_is_a_case.ensures c.owners_agree.ensures old c.self.invariant c.args.thread c.args.fair c.step.new.self c.step.result c.step.ensures going c.in-Some.call there in
-    let at : slice_get old.desks c.in-Some.call.lock ≡ Some c.index_mut.result.now = slice_get-get_or old.desks c.in-Some.call.lock c.index_mut.result.now in_range ∙ ap Some (sym c.index_mut.ensures.value) in
+    let in_range = low c.each_step_is_a_case.ensures c.owners_agree.ensures old c.self.invariant c.args.thread
+    c.args.fair c.step.new.self c.step.result c.step.ensures going c.in-Some.call there in
+    let at : slice_get old.desks c.in-Some.call.lock ≡ Some c.index_mut.result.now =
+    slice_get-get_or old.desks c.in-Some.call.lock c.index_mut.result.now in_range
+    ∙ ap Some (sym c.index_mut.ensures.value) in
     record {
-      can = follows c.each_step_is_a_case.ensures c.owners_agree.ensures old c.self.invariant c.args.thread c.args.fair c.step.new.self c.step.result c.step.ensures going c.in-Some.call there
+      can = follows c.each_step_is_a_case.ensures c.owners_agree.ensures old c.self.invariant c.args.thread c.args.fair
+          c.step.new.self c.step.result c.step.ensures going c.in-Some.call there
           c.holds-before.result c.holds-before.ensures c.index_mut.result.now at;
     }
 
 pub invariant_of-self : goal.invariant_of-self
 invariant_of-self g c =
     let old : Shown = record { rows = c.self.inside.machine; desks = c.self.inside.desks.items } in
-    let going : ended (state old.rows) c.args.thread ≡ None = ap (λ (x : Shown). ended (state x.rows) c.args.thread) c.self.view_is ∙ c.requires.open in
+    let going : ended (state old.rows) c.args.thread ≡ None = ap (λ (x : Shown). ended (state x.rows) c.args.thread)
+    c.self.view_is ∙ c.requires.open in
     let there : call_at (state old.rows) c.args.thread ≡ Some c.in-Some.call = sym c.call.ensures ∙ c.in-Some.is in
-    let in_range = low c.each_step_is_a_case.ensures c.owners_agree.ensures old c.self.invariant c.args.thread c.args.fair c.step.new.self c.step.result c.step.ensures going c.in-Some.call there in
-    let at : slice_get old.desks c.in-Some.call.lock ≡ Some c.index_mut.result.now = slice_get-get_or old.desks c.in-Some.call.lock c.index_mut.result.now in_range ∙ ap Some (sym c.index_mut.ensures.value) in
-    fit_after c.each_step_is_a_case.ensures c.owners_agree.ensures old c.self.invariant c.args.thread c.args.fair c.step.new.self c.step.result c.step.ensures going c.in-Some.call there
+    let in_range = low c.each_step_is_a_case.ensures c.owners_agree.ensures old c.self.invariant c.args.thread
+    c.args.fair c.step.new.self c.step.result c.step.ensures going c.in-Some.call there in
+    let at : slice_get old.desks c.in-Some.call.lock ≡ Some c.index_mut.result.now =
+    slice_get-get_or old.desks c.in-Some.call.lock c.index_mut.result.now in_range
+    ∙ ap Some (sym c.index_mut.ensures.value) in
+    fit_after c.each_step_is_a_case.ensures c.owners_agree.ensures old c.self.invariant c.args.thread c.args.fair
+    c.step.new.self c.step.result c.step.ensures going c.in-Some.call there
     c.holds-before.result c.holds-before.ensures c.index_mut.result.now at c.follow.new.desk c.follow.ensures
 
 pub returns : goal.returns
 returns g c =
     let old : Shown = record { rows = c.self.inside.machine; desks = c.self.inside.desks.items } in
-    let new : Shown = record { rows = c.step.new.self; desks = slice_set old.desks c.in-Some.call.lock c.follow.new.desk } in
-    let going : ended (state old.rows) c.args.thread ≡ None = ap (λ (x : Shown). ended (state x.rows) c.args.thread) c.self.view_is ∙ c.requires.open in
+    let new : Shown = record {
+      rows = c.step.new.self;
+      desks = slice_set old.desks c.in-Some.call.lock
+          c.follow.new.desk;
+    } in
+    let going : ended (state old.rows) c.args.thread ≡ None = ap (λ (x : Shown). ended (state x.rows) c.args.thread)
+    c.self.view_is ∙ c.requires.open in
     let there : call_at (state old.rows) c.args.thread ≡ Some c.in-Some.call = sym c.call.ensures ∙ c.in-Some.is in
-    let in_range = low c.each_step_is_a_case.ensures c.owners_agree.ensures old c.self.invariant c.args.thread c.args.fair c.step.new.self c.step.result c.step.ensures going c.in-Some.call there in
-    let at : slice_get old.desks c.in-Some.call.lock ≡ Some c.index_mut.result.now = slice_get-get_or old.desks c.in-Some.call.lock c.index_mut.result.now in_range ∙ ap Some (sym c.index_mut.ensures.value) in
+    let in_range = low c.each_step_is_a_case.ensures c.owners_agree.ensures old c.self.invariant c.args.thread
+    c.args.fair c.step.new.self c.step.result c.step.ensures going c.in-Some.call there in
+    let at : slice_get old.desks c.in-Some.call.lock ≡ Some c.index_mut.result.now =
+    slice_get-get_or old.desks c.in-Some.call.lock c.index_mut.result.now in_range
+    ∙ ap Some (sym c.index_mut.ensures.value) in
     subst (λ (x : Shown). LockMoves c.args.thread c.args.fair x new) c.self.view_is
-    (moves_after c.each_step_is_a_case.ensures c.owners_agree.ensures old c.self.invariant c.args.thread c.args.fair c.step.new.self c.step.result c.step.ensures going c.in-Some.call there
+    (moves_after c.each_step_is_a_case.ensures c.owners_agree.ensures old c.self.invariant c.args.thread c.args.fair
+    c.step.new.self c.step.result c.step.ensures going c.in-Some.call there
     c.holds-before.result c.holds-before.ensures c.index_mut.result.now at c.follow.new.desk c.follow.ensures)

@@ -13,8 +13,11 @@ returns g c =
     let now = c.args.self.now in
     let call = c.in_ok-call.call in
     let here = sym c.call.ensures ∙ c.in_ok-call.was in
-    let so : IsStepped c.args.thread (reply_of call) now _ = step_so now c.args.thread call (subst Fits c.self.view_is c.self.invariant.0) here (sym (ap (λ o. option_map_or (may_step now.inside) o false) here) ∙ c.requires.can) in
-    subst (λ reply. IsStepped c.args.thread reply now c.match-call.self) (sym c.reply.ensures) (elim c.match-call.branch [
+    let so : IsStepped c.args.thread (reply_of call) now _ = step_so now c.args.thread call
+    (subst Fits c.self.view_is c.self.invariant.0) here
+    (sym (ap (λ o. option_map_or (may_step now.inside) o false) here) ∙ c.requires.can) in
+    subst (λ reply. IsStepped c.args.thread reply now c.match-call.self) (sym c.reply.ensures)
+    (elim c.match-call.branch [
       | in-Wait w ↦ subst (IsStepped c.args.thread (reply_of call) now) (sym (w.self-is ∙ w.step_wait.ensures)) so
       | in-Notify w ↦ subst (IsStepped c.args.thread (reply_of call) now) (sym (w.self-is ∙ w.step_notify.ensures)) so
     ])

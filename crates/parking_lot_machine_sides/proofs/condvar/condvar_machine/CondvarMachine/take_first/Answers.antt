@@ -13,11 +13,14 @@ pub returns-clause-took : goal.returns-clause-took
 returns-clause-took g c =
     let here = sym c.call.ensures ∙ c.in_ok-call.was in
     taken_if c.args.self.now c.args.thread c.in_ok-call.call (subst Fits c.self.view_is c.self.invariant.0) here
-    (sym (ap (λ o. option_map_or (may_take c.args.self.now.queue) o false) here) ∙ c.requires.can) c.take.result c.take.new.self c.take.ensures.first c.take.ensures.became
+    (sym (ap (λ o. option_map_or (may_take c.args.self.now.queue) o false) here) ∙ c.requires.can) c.take.result
+    c.take.new.self c.take.ensures.first c.take.ensures.became
 
 pub returns-clause-some : goal.returns-clause-some
 returns-clause-some g c =
     let here = sym c.call.ensures ∙ c.in_ok-call.was in
     let call = c.in_ok-call.call in
     ap is_some c.take.ensures.first
-    ∙ has_first c.args.self.now.queue (second_of _ (is_left c.args.self.now.queue) (sym (ap (λ o. option_map_or (may_take c.args.self.now.queue) o false) here) ∙ c.requires.can))
+    ∙ has_first c.args.self.now.queue
+    (second_of _ (is_left c.args.self.now.queue)
+    (sym (ap (λ o. option_map_or (may_take c.args.self.now.queue) o false) here) ∙ c.requires.can))

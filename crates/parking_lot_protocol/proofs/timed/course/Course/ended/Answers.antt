@@ -8,7 +8,8 @@ unfolding EndedAt
 returns g c =
     let told = c.self.invariant in
     let C = g.C.CallCore in
-    subst (λ begun. EndedAt C.gives C.told C.asks C.start begun (C.asks c.args.self.now.1)) (ap (λ course. course.0) c.self.view_is) (
+    subst (λ begun. EndedAt C.gives C.told C.asks C.start begun (C.asks c.args.self.now.1))
+    (ap (λ course. course.0) c.self.view_is) (
       told.0,
       told.1,
       ap C.asks (sym told.2 ∙ ap (λ course. course.1) c.self.view_is),

@@ -5,8 +5,12 @@ use Rattle.parking_lot_protocol.proofs.timed.course.Course.tell.Goals as goal
 pub invariant_of-self : goal.invariant_of-self
 invariant_of-self g c =
     let told = c.self.invariant in
-    let asked = c.act.ensures ∙ ap (λ course. g.C.CallCore.asks course.1) (sym c.self.view_is) ∙ ap g.C.CallCore.asks told.2 in (
+    let asked = c.act.ensures ∙ ap (λ course. g.C.CallCore.asks course.1) (sym c.self.view_is)
+    ∙ ap g.C.CallCore.asks told.2 in (
       c.args.seen ∷ told.0,
-      (subst (λ act. (word : ℕ) × g.C.CallCore.gives act word c.args.seen) asked (c.in-Some._word, c.in-Some.ensures), told.1),
+      (
+        subst (λ act. (word : ℕ) × g.C.CallCore.gives act word c.args.seen) asked (c.in-Some._word, c.in-Some.ensures),
+        told.1,
+      ),
       c.tell.ensures ∙ ap (λ core. g.C.CallCore.told core c.args.seen) told.2,
     )

@@ -10,7 +10,8 @@ pub returns-in-Asks-Expired-clause-rules : goal.returns-in-Asks-Expired-clause-r
 returns-in-Asks-Expired-clause-rules c =
     let At : TimedMutexPhase → Type 0 = λ p. Follows p c.args.seen in
     let Told : TimedSeen → Type 0 = λ s. Follows (phase.Asks c.in-Asks-Expired.core) s in
-    subst At (sym c.in-Asks-Expired.is-0) (subst Told (sym c.in-Asks-Expired.is-1) (expired c.in-Asks-Expired.core.phase))
+    subst At (sym c.in-Asks-Expired.is-0)
+    (subst Told (sym c.in-Asks-Expired.is-1) (expired c.in-Asks-Expired.core.phase))
 
 pub returns-in-Masks-Masked-clause-rules : goal.returns-in-Masks-Masked-clause-rules
 returns-in-Masks-Masked-clause-rules c =

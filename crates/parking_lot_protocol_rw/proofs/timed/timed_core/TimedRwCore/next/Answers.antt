@@ -8,4 +8,5 @@ pub returns-clause-rules : goal.returns-clause-rules
 returns-clause-rules c = timed_follows _ _
 
 pub returns-clause-end : goal.returns-clause-end
-returns-clause-end c = subst (λ (last : TimedAct). EndsRightly c.after-self.result last) (sym c.act.ensures) (timed_ends c.after-self.result)
+returns-clause-end c = subst (λ (last : TimedAct). EndsRightly c.after-self.result last) (sym c.act.ensures)
+    (timed_ends c.after-self.result)
