@@ -19,6 +19,7 @@ pub mod once;
 mod raw_fair_mutex;
 mod raw_mutex;
 mod thread_id;
+mod token;
 
 pub use parking_lot_driver::{Call, DecisionCore, LockTable, Row, run_to_its_end, to_deadline};
 pub use parking_lot_protocol::{
@@ -27,3 +28,4 @@ pub use parking_lot_protocol::{
 pub use raw_fair_mutex::RawFairMutex;
 pub use raw_mutex::RawMutex;
 pub use thread_id::RawThreadId;
+pub use token::{FairMutexToken, MutexToken};

@@ -7,7 +7,8 @@ ghost use Rattle.parking_lot_protocol.specs.declared.mutex_phase.MutexPhase.TheV
 ghost use Rattle.parking_lot_protocol.specs.declared.timed.timed_act.TimedAct.TheVariants.{GivesUp};
 
 use crate::raw_mutex::RawMutex;
-use lock_api_raw::{GuardSend, MakeLock, RawMutex as _, RawMutexFair, RawMutexTimed, TableFull};
+use crate::token::FairMutexToken;
+use lock_api_raw::{MakeLock, RawMutex as _, RawMutexFair, RawMutexTimed, TableFull};
 use parking_lot_core::ThreadData;
 use parking_lot_driver::LockTable;
 use std::alloc::{Allocator, Global};
@@ -35,12 +36,14 @@ impl<'t, 'l, R: Wait, A: Allocator> RawFairMutex<'t, 'l, R, A> {
         deadline: Instant,
         clock: &C,
         party: &mut ThreadData<A>,
-    ) -> Option<GuardSend>
+    ) -> Option<FairMutexToken>
         ensures issued { IfSome result
             (λ token. token ≡ (self.now.mutex.row.table.now.first_key + 2 * self.now.mutex.row.number) % 2 ^ 64) }
         ensures call { MatchOption result (TimedEnded GivesUp) (λ _. OwnedInTime) }
     {
-        self.mutex.lock_until(deadline, clock, party)
+        self.mutex
+            .lock_until(deadline, clock, party)
+            .map(FairMutexToken::new)
     }
 
     /// As [`lock_until`](RawFairMutex::lock_until), with the moment that lies `timeout` ahead. Where no moment can say
@@ -50,12 +53,14 @@ impl<'t, 'l, R: Wait, A: Allocator> RawFairMutex<'t, 'l, R, A> {
         timeout: Duration,
         clock: &C,
         party: &mut ThreadData<A>,
-    ) -> Option<GuardSend>
+    ) -> Option<FairMutexToken>
         ensures issued { IfSome result
             (λ token. token ≡ (self.now.mutex.row.table.now.first_key + 2 * self.now.mutex.row.number) % 2 ^ 64) }
         ensures call { MatchOption result (TimedEnded GivesUp) (λ _. OwnedInTime) }
     {
-        self.mutex.lock_for(timeout, clock, party)
+        self.mutex
+            .lock_for(timeout, clock, party)
+            .map(FairMutexToken::new)
     }
 }
 
@@ -79,7 +84,7 @@ impl<'t, 'l, R, A: Allocator> lock_api_raw::RawMutex for RawFairMutex<'t, 'l, R,
 
     type Party = ThreadData<A>;
 
-    type Guard = GuardSend;
+    type Guard = FairMutexToken;
 
     ghost number = { λ fair. (fair.mutex.row.table.now.first_key + 2 * fair.mutex.row.number) % 2 ^ 64 };
 
@@ -96,20 +101,20 @@ impl<'t, 'l, R, A: Allocator> lock_api_raw::RawMutex for RawFairMutex<'t, 'l, R,
     }
 
     #[inline(always)]
-    fn lock(&self, party: &mut ThreadData<A>) -> GuardSend
+    fn lock(&self, party: &mut ThreadData<A>) -> FairMutexToken
     where
         R: Wait,
     {
-        self.mutex.lock(party)
+        FairMutexToken::new(self.mutex.lock(party))
     }
 
     #[inline(always)]
-    fn try_lock(&self) -> Option<GuardSend> {
-        self.mutex.try_lock()
+    fn try_lock(&self) -> Option<FairMutexToken> {
+        self.mutex.try_lock().map(FairMutexToken::new)
     }
 
     #[inline(always)]
-    fn unlock(&self, guard: GuardSend)
+    fn unlock(&self, guard: FairMutexToken)
     where
         R: Wait,
     {
@@ -127,18 +132,18 @@ impl<'t, 'l, R, A: Allocator> RawMutexFair for RawFairMutex<'t, 'l, R, A> {
     ghost bumped = { λ _ _. MutexEnded Bumping Owned };
 
     #[inline(always)]
-    fn unlock_fair(&self, guard: GuardSend)
+    fn unlock_fair(&self, guard: FairMutexToken)
     where
         R: Wait,
     {
-        self.mutex.unlock_fair(guard);
+        self.mutex.unlock_fair(guard.into_inner());
     }
 
-    fn bump(&self, guard: GuardSend, party: &mut ThreadData<A>) -> GuardSend
+    fn bump(&self, guard: FairMutexToken, party: &mut ThreadData<A>) -> FairMutexToken
     where
         R: Wait,
     {
-        self.mutex.bump(guard, party)
+        FairMutexToken::new(self.mutex.bump(guard.into_inner(), party))
     }
 }
 
@@ -154,7 +159,7 @@ impl<'t, 'l, R, A: Allocator> RawMutexTimed for RawFairMutex<'t, 'l, R, A> {
         timeout: Duration,
         clock: &C,
         party: &mut ThreadData<A>,
-    ) -> Option<GuardSend>
+    ) -> Option<FairMutexToken>
     where
         R: Wait,
     {
@@ -167,7 +172,7 @@ impl<'t, 'l, R, A: Allocator> RawMutexTimed for RawFairMutex<'t, 'l, R, A> {
         deadline: Instant,
         clock: &C,
         party: &mut ThreadData<A>,
-    ) -> Option<GuardSend>
+    ) -> Option<FairMutexToken>
     where
         R: Wait,
     {

@@ -7,7 +7,8 @@ ghost use Rattle.parking_lot_protocol.specs.declared.act.CoreAnswer.TheVariants.
 ghost use Rattle.parking_lot_protocol.specs.declared.mutex_phase.MutexPhase.TheVariants.{Locking, Unlocking, Bumping};
 ghost use Rattle.parking_lot_protocol.specs.declared.timed.timed_act.TimedAct.TheVariants.{GivesUp};
 
-use lock_api_raw::{GuardSend, MakeLock, RawMutex as _, RawMutexFair, RawMutexTimed, TableFull};
+use crate::token::MutexToken;
+use lock_api_raw::{MakeLock, RawMutex as _, RawMutexFair, RawMutexTimed, TableFull};
 use parking_lot_core::ThreadData;
 use parking_lot_driver::{
     Bump, Call, Lock, LockTable, Place, Row, Unlock, UnlockFairly, to_deadline,
@@ -26,9 +27,8 @@ pub struct RawMutex<'t, 'l, R, A: Allocator = Global> {
 }
 
 impl<'t, 'l, R, A: Allocator> RawMutex<'t, 'l, R, A> {
-    /// Its row. For the layer above: a condition variable moves waiters to the row's key, and announces them in its
-    /// word.
-    pub fn row(&self) -> &Row<'t, 'l, R, A>
+    /// Its row: a condition variable moves waiters to the row's key, and announces them in its word.
+    pub(crate) fn row(&self) -> &Row<'t, 'l, R, A>
         ensures { result.now ≡ self.now.row }
     {
         &self.row
@@ -44,10 +44,10 @@ impl<'t, 'l, R, A: Allocator> RawMutex<'t, 'l, R, A> {
 
     /// A token of this lock.
     #[inline(always)]
-    fn token(&self) -> GuardSend
+    fn token(&self) -> MutexToken
         ensures { result ≡ (self.now.row.table.now.first_key + 2 * self.now.row.number) % 2 ^ 64 }
     {
-        GuardSend::new(&(self.row.first_key() as u64))
+        MutexToken::new(self.row.first_key() as u64)
     }
 
     /// Locks a free mutex by one exchange.
@@ -66,7 +66,7 @@ impl<'t, 'l, R, A: Allocator> RawMutex<'t, 'l, R, A> {
     }
 
     /// A token of this lock for a hold that was taken.
-    fn token_if(&self, taken: bool) -> Option<GuardSend>
+    fn token_if(&self, taken: bool) -> Option<MutexToken>
         ensures { IfSome result
             (λ token. token ≡ (self.now.row.table.now.first_key + 2 * self.now.row.number) % 2 ^ 64) }
     {
@@ -98,7 +98,7 @@ impl<'t, 'l, R: Wait, A: Allocator> RawMutex<'t, 'l, R, A> {
         deadline: Instant,
         clock: &C,
         party: &mut ThreadData<A>,
-    ) -> Option<GuardSend>
+    ) -> Option<MutexToken>
         ensures issued { IfSome result
             (λ token. token ≡ (self.now.row.table.now.first_key + 2 * self.now.row.number) % 2 ^ 64) }
         ensures call { MatchOption result (TimedEnded GivesUp) (λ _. OwnedInTime) }
@@ -117,7 +117,7 @@ impl<'t, 'l, R: Wait, A: Allocator> RawMutex<'t, 'l, R, A> {
         timeout: Duration,
         clock: &C,
         party: &mut ThreadData<A>,
-    ) -> Option<GuardSend>
+    ) -> Option<MutexToken>
         ensures issued { IfSome result
             (λ token. token ≡ (self.now.row.table.now.first_key + 2 * self.now.row.number) % 2 ^ 64) }
         ensures call { MatchOption result (TimedEnded GivesUp) (λ _. OwnedInTime) }
@@ -176,7 +176,7 @@ impl<'t, 'l, R, A: Allocator> lock_api_raw::RawMutex for RawMutex<'t, 'l, R, A> 
 
     type Party = ThreadData<A>;
 
-    type Guard = GuardSend;
+    type Guard = MutexToken;
 
     ghost number = { λ mutex. (mutex.row.table.now.first_key + 2 * mutex.row.number) % 2 ^ 64 };
 
@@ -193,7 +193,7 @@ impl<'t, 'l, R, A: Allocator> lock_api_raw::RawMutex for RawMutex<'t, 'l, R, A> 
     }
 
     #[inline(always)]
-    fn lock(&self, party: &mut ThreadData<A>) -> GuardSend
+    fn lock(&self, party: &mut ThreadData<A>) -> MutexToken
     where
         R: Wait,
     {
@@ -205,13 +205,13 @@ impl<'t, 'l, R, A: Allocator> lock_api_raw::RawMutex for RawMutex<'t, 'l, R, A> 
     }
 
     #[inline(always)]
-    fn try_lock(&self) -> Option<GuardSend> {
+    fn try_lock(&self) -> Option<MutexToken> {
         let taken = self.row.exchange(0, 1).is_ok() || self.try_slowly();
         self.token_if(taken)
     }
 
     #[inline(always)]
-    fn unlock(&self, guard: GuardSend)
+    fn unlock(&self, guard: MutexToken)
     where
         R: Wait,
     {
@@ -232,7 +232,7 @@ impl<'t, 'l, R, A: Allocator> RawMutexFair for RawMutex<'t, 'l, R, A> {
     ghost bumped = { λ _ _. MutexEnded Bumping Owned };
 
     #[inline(always)]
-    fn unlock_fair(&self, guard: GuardSend)
+    fn unlock_fair(&self, guard: MutexToken)
     where
         R: Wait,
     {
@@ -243,7 +243,7 @@ impl<'t, 'l, R, A: Allocator> RawMutexFair for RawMutex<'t, 'l, R, A> {
     }
 
     #[inline(always)]
-    fn bump(&self, guard: GuardSend, party: &mut ThreadData<A>) -> GuardSend
+    fn bump(&self, guard: MutexToken, party: &mut ThreadData<A>) -> MutexToken
     where
         R: Wait,
     {
@@ -266,7 +266,7 @@ impl<'t, 'l, R, A: Allocator> RawMutexTimed for RawMutex<'t, 'l, R, A> {
         timeout: Duration,
         clock: &C,
         party: &mut ThreadData<A>,
-    ) -> Option<GuardSend>
+    ) -> Option<MutexToken>
     where
         R: Wait,
     {
@@ -279,7 +279,7 @@ impl<'t, 'l, R, A: Allocator> RawMutexTimed for RawMutex<'t, 'l, R, A> {
         deadline: Instant,
         clock: &C,
         party: &mut ThreadData<A>,
-    ) -> Option<GuardSend>
+    ) -> Option<MutexToken>
     where
         R: Wait,
     {

@@ -13,9 +13,11 @@ pub mod laws;
 mod raw_rwlock;
 mod raw_rwlock_timed;
 mod raw_rwlock_upgrade;
+mod token;
 
 pub use parking_lot_driver::{Call, DecisionCore, LockTable, Row, run_to_its_end, to_deadline};
 pub use parking_lot_protocol::{
     Act, ActResult, CoreAnswer, RwCore, SectionAct, WordChange, wake_sum,
 };
 pub use raw_rwlock::RawRwLock;
+pub use token::{ExclusiveToken, SharedToken, UpgradableToken};

@@ -13,9 +13,8 @@ ghost use Rattle.parking_lot_protocol.specs.declared.rw_phase.RwPhase.TheVariant
 ghost use Rattle.parking_lot_protocol.specs.declared.rw_phase.RwPhase.TheVariants.{BumpingShared, BumpingExclusive};
 ghost use Rattle.parking_lot_protocol_rw.specs.declared.upgrade_phase.UpgradePhase.TheVariants as call;
 
-use lock_api_raw::{
-    GuardSend, MakeLock, RawRwLock as _, RawRwLockDowngrade, RawRwLockFair, TableFull,
-};
+use crate::token::{ExclusiveToken, SharedToken, UpgradableToken};
+use lock_api_raw::{MakeLock, RawRwLock as _, RawRwLockDowngrade, RawRwLockFair, TableFull};
 use parking_lot_core::{ThreadData, thread_yield};
 use parking_lot_driver::{
     AskUpgradably, BumpReader, BumpWriter, Call, DecisionCore, Downgrade, LockTable, Place, Read,
@@ -109,21 +108,36 @@ impl<'t, 'l, R, const RECURSIVE: u8, A: Allocator> RawRwLock<'t, 'l, R, RECURSIV
         }
     }
 
-    /// A token of this lock.
+    /// The number that its tokens carry.
     #[inline(always)]
-    pub(crate) fn token(&self) -> GuardSend
+    pub(crate) fn number(&self) -> u64
         ensures { result ≡ (self.now.row.table.now.first_key + 2 * self.now.row.number) % 2 ^ 64 }
     {
-        GuardSend::new(&(self.row.first_key() as u64))
+        self.row.first_key() as u64
     }
 
-    /// A token of this lock for a hold that was taken.
+    /// The token of a shared hold.
     #[inline(always)]
-    pub(crate) fn token_if(&self, taken: bool) -> Option<GuardSend>
-        ensures { IfSome result
-            (λ token. token ≡ (self.now.row.table.now.first_key + 2 * self.now.row.number) % 2 ^ 64) }
+    pub(crate) fn shared_token(&self) -> SharedToken
+        ensures { result ≡ (self.now.row.table.now.first_key + 2 * self.now.row.number) % 2 ^ 64 }
     {
-        if taken { Some(self.token()) } else { None }
+        SharedToken::new(self.number())
+    }
+
+    /// The token of the exclusive hold.
+    #[inline(always)]
+    pub(crate) fn exclusive_token(&self) -> ExclusiveToken
+        ensures { result ≡ (self.now.row.table.now.first_key + 2 * self.now.row.number) % 2 ^ 64 }
+    {
+        ExclusiveToken::new(self.number())
+    }
+
+    /// The token of the upgradable hold.
+    #[inline(always)]
+    pub(crate) fn upgradable_token(&self) -> UpgradableToken
+        ensures { result ≡ (self.now.row.table.now.first_key + 2 * self.now.row.number) % 2 ^ 64 }
+    {
+        UpgradableToken::new(self.number())
     }
 
     /// Tries again where the first exchange is lost.
@@ -222,7 +236,7 @@ impl<'t, 'l, R: Wait, const RECURSIVE: u8, A: Allocator> RawRwLock<'t, 'l, R, RE
             if !self.is_overfull() {
                 return;
             }
-            self.unlock_shared(self.token());
+            self.unlock_shared(self.shared_token());
             thread_yield();
             self.own(Read::<RECURSIVE>, party);
         }
@@ -299,9 +313,9 @@ impl<'t, 'l, R, const RECURSIVE: u8, A: Allocator> lock_api_raw::RawRwLock
 
     type Party = ThreadData<A>;
 
-    type SharedGuard = GuardSend;
+    type SharedGuard = SharedToken;
 
-    type ExclusiveGuard = GuardSend;
+    type ExclusiveGuard = ExclusiveToken;
 
     ghost number = { λ lock. (lock.row.table.now.first_key + 2 * lock.row.number) % 2 ^ 64 };
 
@@ -324,26 +338,28 @@ impl<'t, 'l, R, const RECURSIVE: u8, A: Allocator> lock_api_raw::RawRwLock
     }
 
     #[inline(always)]
-    fn lock_shared(&self, party: &mut ThreadData<A>) -> GuardSend
+    fn lock_shared(&self, party: &mut ThreadData<A>) -> SharedToken
     where
         R: Wait,
     {
         if self.reads_at_once() {
-            return self.token();
+            return self.shared_token();
         }
         self.read_slowly(party);
-        self.token()
+        self.shared_token()
     }
 
     #[inline(always)]
-    fn try_lock_shared(&self) -> Option<GuardSend> {
-        let taken = self.reads_at_once()
-            || self.try_slowly(RwCore::try_lock_shared(RECURSIVE == 1));
-        self.token_if(taken)
+    fn try_lock_shared(&self) -> Option<SharedToken> {
+        if self.reads_at_once() || self.try_slowly(RwCore::try_lock_shared(RECURSIVE == 1)) {
+            Some(self.shared_token())
+        } else {
+            None
+        }
     }
 
     #[inline(always)]
-    fn unlock_shared(&self, guard: GuardSend)
+    fn unlock_shared(&self, guard: SharedToken)
     where
         R: Wait,
     {
@@ -360,26 +376,28 @@ impl<'t, 'l, R, const RECURSIVE: u8, A: Allocator> lock_api_raw::RawRwLock
     }
 
     #[inline(always)]
-    fn lock_exclusive(&self, party: &mut ThreadData<A>) -> GuardSend
+    fn lock_exclusive(&self, party: &mut ThreadData<A>) -> ExclusiveToken
     where
         R: Wait,
     {
         if self.writes_at_once() {
-            return self.token();
+            return self.exclusive_token();
         }
         self.write_slowly(party);
-        self.token()
+        self.exclusive_token()
     }
 
     #[inline(always)]
-    fn try_lock_exclusive(&self) -> Option<GuardSend> {
-        let taken = self.row.exchange(0, WRITER).is_ok()
-            || self.try_slowly(RwCore::try_lock_exclusive());
-        self.token_if(taken)
+    fn try_lock_exclusive(&self) -> Option<ExclusiveToken> {
+        if self.row.exchange(0, WRITER).is_ok() || self.try_slowly(RwCore::try_lock_exclusive()) {
+            Some(self.exclusive_token())
+        } else {
+            None
+        }
     }
 
     #[inline(always)]
-    fn unlock_exclusive(&self, guard: GuardSend)
+    fn unlock_exclusive(&self, guard: ExclusiveToken)
     where
         R: Wait,
     {
@@ -409,7 +427,7 @@ impl<'t, 'l, R, const RECURSIVE: u8, A: Allocator> RawRwLockFair
     ghost exclusive_bumped = { λ _ _. RwEnded BumpingExclusive Owned };
 
     #[inline(always)]
-    fn unlock_shared_fair(&self, guard: GuardSend)
+    fn unlock_shared_fair(&self, guard: SharedToken)
     where
         R: Wait,
     {
@@ -417,7 +435,7 @@ impl<'t, 'l, R, const RECURSIVE: u8, A: Allocator> RawRwLockFair
     }
 
     #[inline(always)]
-    fn unlock_exclusive_fair(&self, guard: GuardSend)
+    fn unlock_exclusive_fair(&self, guard: ExclusiveToken)
     where
         R: Wait,
     {
@@ -428,7 +446,7 @@ impl<'t, 'l, R, const RECURSIVE: u8, A: Allocator> RawRwLockFair
     }
 
     #[inline(always)]
-    fn bump_shared(&self, guard: GuardSend, party: &mut ThreadData<A>) -> GuardSend
+    fn bump_shared(&self, guard: SharedToken, party: &mut ThreadData<A>) -> SharedToken
     where
         R: Wait,
     {
@@ -439,7 +457,7 @@ impl<'t, 'l, R, const RECURSIVE: u8, A: Allocator> RawRwLockFair
     }
 
     #[inline(always)]
-    fn bump_exclusive(&self, guard: GuardSend, party: &mut ThreadData<A>) -> GuardSend
+    fn bump_exclusive(&self, guard: ExclusiveToken, party: &mut ThreadData<A>) -> ExclusiveToken
     where
         R: Wait,
     {
@@ -455,7 +473,7 @@ impl<'t, 'l, R, const RECURSIVE: u8, A: Allocator> RawRwLockDowngrade
     ghost downgraded = { λ _ _. (answer : CoreAnswer) × RwEnded Downgrading answer };
 
     #[inline(always)]
-    fn downgrade(&self, guard: GuardSend) -> GuardSend
+    fn downgrade(&self, guard: ExclusiveToken) -> SharedToken
     where
         R: Wait,
     {
@@ -464,8 +482,8 @@ impl<'t, 'l, R, const RECURSIVE: u8, A: Allocator> RawRwLockDowngrade
             .ends_by_sum(Downgrade, READER - WRITER, PARKED, CoreAnswer::Owned);
         if let Err(word) = kept {
             self.downgrade_slowly(word);
-            return guard;
+            return guard.shared();
         }
-        guard
+        guard.shared()
     }
 }

@@ -10,9 +10,8 @@ ghost use Rattle.parking_lot_protocol.specs.declared.timed.timed_act.TimedAct.Th
 ghost use Rattle.parking_lot_protocol_rw.specs.declared.upgrade_phase.UpgradePhase.TheVariants as call;
 
 use crate::raw_rwlock::RawRwLock;
-use lock_api_raw::{
-    GuardSend, RawRwLock as _, RawRwLockTimed, RawRwLockUpgrade as _, RawRwLockUpgradeTimed,
-};
+use crate::token::{ExclusiveToken, SharedToken, UpgradableToken};
+use lock_api_raw::{RawRwLock as _, RawRwLockTimed, RawRwLockUpgrade as _, RawRwLockUpgradeTimed};
 use parking_lot_core::{ThreadData, thread_yield};
 use parking_lot_driver::{
     AskUpgradablyInTime, Disown, ReadInTime, UpgradeInTime, WriteInTime, to_deadline,
@@ -43,7 +42,7 @@ impl<'t, 'l, R: Wait, const RECURSIVE: u8, A: Allocator> RawRwLock<'t, 'l, R, RE
             if !self.is_overfull() {
                 return true;
             }
-            self.unlock_shared(self.token());
+            self.unlock_shared(self.shared_token());
             thread_yield();
         }
         unreachable!()
@@ -87,14 +86,14 @@ impl<'t, 'l, R: Wait, const RECURSIVE: u8, A: Allocator> RawRwLock<'t, 'l, R, RE
         deadline: Instant,
         clock: &C,
         party: &mut ThreadData<A>,
-    ) -> Option<GuardSend>
+    ) -> Option<SharedToken>
         ensures issued { IfSome result
             (λ token. token ≡ (self.now.row.table.now.first_key + 2 * self.now.row.number) % 2 ^ 64) }
         ensures call { MatchOption result (TimedRwEnded (reading_in_time RECURSIVE) GivesUp)
             (λ _. RwOwned (RwEnded (Locking (Shared (RECURSIVE == 1))) Owned) (reading_in_time RECURSIVE)) }
     {
         if self.reads_at_once() || self.read_in_time(deadline, clock, party) {
-            Some(self.token())
+            Some(self.shared_token())
         } else {
             None
         }
@@ -107,7 +106,7 @@ impl<'t, 'l, R: Wait, const RECURSIVE: u8, A: Allocator> RawRwLock<'t, 'l, R, RE
         timeout: Duration,
         clock: &C,
         party: &mut ThreadData<A>,
-    ) -> Option<GuardSend>
+    ) -> Option<SharedToken>
         ensures issued { IfSome result
             (λ token. token ≡ (self.now.row.table.now.first_key + 2 * self.now.row.number) % 2 ^ 64) }
         ensures call { MatchOption result (TimedRwEnded (reading_in_time RECURSIVE) GivesUp)
@@ -127,7 +126,7 @@ impl<'t, 'l, R: Wait, const RECURSIVE: u8, A: Allocator> RawRwLock<'t, 'l, R, RE
         deadline: Instant,
         clock: &C,
         party: &mut ThreadData<A>,
-    ) -> Option<GuardSend>
+    ) -> Option<ExclusiveToken>
         ensures issued { IfSome result
             (λ token. token ≡ (self.now.row.table.now.first_key + 2 * self.now.row.number) % 2 ^ 64) }
         ensures call { MatchOption result (TimedRwEnded writing_in_time GivesUp)
@@ -138,7 +137,7 @@ impl<'t, 'l, R: Wait, const RECURSIVE: u8, A: Allocator> RawRwLock<'t, 'l, R, RE
                 .place()
                 .own_in_time(WriteInTime, deadline, clock, party)
         {
-            Some(self.token())
+            Some(self.exclusive_token())
         } else {
             None
         }
@@ -150,7 +149,7 @@ impl<'t, 'l, R: Wait, const RECURSIVE: u8, A: Allocator> RawRwLock<'t, 'l, R, RE
         timeout: Duration,
         clock: &C,
         party: &mut ThreadData<A>,
-    ) -> Option<GuardSend>
+    ) -> Option<ExclusiveToken>
         ensures issued { IfSome result
             (λ token. token ≡ (self.now.row.table.now.first_key + 2 * self.now.row.number) % 2 ^ 64) }
         ensures call { MatchOption result (TimedRwEnded writing_in_time GivesUp)
@@ -169,14 +168,14 @@ impl<'t, 'l, R: Wait, const RECURSIVE: u8, A: Allocator> RawRwLock<'t, 'l, R, RE
         deadline: Instant,
         clock: &C,
         party: &mut ThreadData<A>,
-    ) -> Option<GuardSend>
+    ) -> Option<UpgradableToken>
         ensures issued { IfSome result
             (λ token. token ≡ (self.now.row.table.now.first_key + 2 * self.now.row.number) % 2 ^ 64) }
         ensures call { MatchOption result (TimedRwEnded asking_in_time GivesUp)
             (λ _. RwOwned (UpgradeEnded call.Locking Owned) asking_in_time) }
     {
         if self.upgradable_at_once() || self.own_upgradable_in_time(deadline, clock, party) {
-            Some(self.token())
+            Some(self.upgradable_token())
         } else {
             None
         }
@@ -188,7 +187,7 @@ impl<'t, 'l, R: Wait, const RECURSIVE: u8, A: Allocator> RawRwLock<'t, 'l, R, RE
         timeout: Duration,
         clock: &C,
         party: &mut ThreadData<A>,
-    ) -> Option<GuardSend>
+    ) -> Option<UpgradableToken>
         ensures issued { IfSome result
             (λ token. token ≡ (self.now.row.table.now.first_key + 2 * self.now.row.number) % 2 ^ 64) }
         ensures call { MatchOption result (TimedRwEnded asking_in_time GivesUp)
@@ -205,24 +204,24 @@ impl<'t, 'l, R: Wait, const RECURSIVE: u8, A: Allocator> RawRwLock<'t, 'l, R, RE
     #[inline(always)]
     pub fn upgraded_until<C: Clock>(
         &self,
-        guard: GuardSend,
+        guard: UpgradableToken,
         deadline: Instant,
         clock: &C,
         party: &mut ThreadData<A>,
-    ) -> Result<GuardSend, GuardSend>
+    ) -> Result<ExclusiveToken, UpgradableToken>
         ensures token { MatchResult result (λ token. token ≡ guard) (λ token. token ≡ guard) }
         ensures call { MatchResult result (λ _. RwOwned (UpgradeEnded call.Upgrading Owned) upgrading_in_time)
             (λ _. TimedRwEnded upgrading_in_time GivesUp) }
     {
         let Err(word) = self.upgrades_at_once() else {
-            return Ok(guard);
+            return Ok(guard.exclusive());
         };
         let first = ActResult::Before(word);
         if self
             .place()
             .own_in_time_after(UpgradeInTime, first, deadline, clock, party)
         {
-            Ok(guard)
+            Ok(guard.exclusive())
         } else {
             Err(guard)
         }
@@ -231,11 +230,11 @@ impl<'t, 'l, R: Wait, const RECURSIVE: u8, A: Allocator> RawRwLock<'t, 'l, R, RE
     /// As [`upgraded_until`](RawRwLock::upgraded_until), with the moment that lies `timeout` ahead.
     pub fn upgraded_for<C: Clock>(
         &self,
-        guard: GuardSend,
+        guard: UpgradableToken,
         timeout: Duration,
         clock: &C,
         party: &mut ThreadData<A>,
-    ) -> Result<GuardSend, GuardSend>
+    ) -> Result<ExclusiveToken, UpgradableToken>
         ensures token { MatchResult result (λ token. token ≡ guard) (λ token. token ≡ guard) }
         ensures call { MatchResult result (λ _. RwOwned (UpgradeEnded call.Upgrading Owned) upgrading_in_time)
             (λ _. TimedRwEnded upgrading_in_time GivesUp) }
@@ -264,7 +263,7 @@ impl<'t, 'l, R, const RECURSIVE: u8, A: Allocator> RawRwLockTimed
         timeout: Duration,
         clock: &C,
         party: &mut ThreadData<A>,
-    ) -> Option<GuardSend>
+    ) -> Option<SharedToken>
     where
         R: Wait,
     {
@@ -277,7 +276,7 @@ impl<'t, 'l, R, const RECURSIVE: u8, A: Allocator> RawRwLockTimed
         deadline: Instant,
         clock: &C,
         party: &mut ThreadData<A>,
-    ) -> Option<GuardSend>
+    ) -> Option<SharedToken>
     where
         R: Wait,
     {
@@ -289,7 +288,7 @@ impl<'t, 'l, R, const RECURSIVE: u8, A: Allocator> RawRwLockTimed
         timeout: Duration,
         clock: &C,
         party: &mut ThreadData<A>,
-    ) -> Option<GuardSend>
+    ) -> Option<ExclusiveToken>
     where
         R: Wait,
     {
@@ -302,7 +301,7 @@ impl<'t, 'l, R, const RECURSIVE: u8, A: Allocator> RawRwLockTimed
         deadline: Instant,
         clock: &C,
         party: &mut ThreadData<A>,
-    ) -> Option<GuardSend>
+    ) -> Option<ExclusiveToken>
     where
         R: Wait,
     {
@@ -323,7 +322,7 @@ impl<'t, 'l, R, const RECURSIVE: u8, A: Allocator> RawRwLockUpgradeTimed
         timeout: Duration,
         clock: &C,
         party: &mut ThreadData<A>,
-    ) -> Option<GuardSend>
+    ) -> Option<UpgradableToken>
     where
         R: Wait,
     {
@@ -332,11 +331,11 @@ impl<'t, 'l, R, const RECURSIVE: u8, A: Allocator> RawRwLockUpgradeTimed
 
     fn try_upgrade_for<C: Clock>(
         &self,
-        guard: GuardSend,
+        guard: UpgradableToken,
         timeout: Duration,
         clock: &C,
         party: &mut ThreadData<A>,
-    ) -> Result<GuardSend, GuardSend>
+    ) -> Result<ExclusiveToken, UpgradableToken>
     where
         R: Wait,
     {
@@ -349,7 +348,7 @@ impl<'t, 'l, R, const RECURSIVE: u8, A: Allocator> RawRwLockUpgradeTimed
         deadline: Instant,
         clock: &C,
         party: &mut ThreadData<A>,
-    ) -> Option<GuardSend>
+    ) -> Option<UpgradableToken>
     where
         R: Wait,
     {
@@ -359,11 +358,11 @@ impl<'t, 'l, R, const RECURSIVE: u8, A: Allocator> RawRwLockUpgradeTimed
     #[inline(always)]
     fn try_upgrade_until<C: Clock>(
         &self,
-        guard: GuardSend,
+        guard: UpgradableToken,
         deadline: Instant,
         clock: &C,
         party: &mut ThreadData<A>,
-    ) -> Result<GuardSend, GuardSend>
+    ) -> Result<ExclusiveToken, UpgradableToken>
     where
         R: Wait,
     {

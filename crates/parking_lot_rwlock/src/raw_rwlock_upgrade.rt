@@ -12,7 +12,8 @@ ghost use Rattle.parking_lot_protocol_rw.specs.declared.upgrade_phase.UpgradePha
 ghost use Rattle.parking_lot_protocol_rw.specs.declared.upgrade_phase.UpgradePhase.TheVariants.{DowngradingToUpgradable};
 
 use crate::raw_rwlock::RawRwLock;
-use lock_api_raw::{GuardSend, RawRwLockUpgrade, RawRwLockUpgradeDowngrade, RawRwLockUpgradeFair};
+use crate::token::{ExclusiveToken, SharedToken, UpgradableToken};
+use lock_api_raw::{RawRwLockUpgrade, RawRwLockUpgradeDowngrade, RawRwLockUpgradeFair};
 use parking_lot_core::{ThreadData, thread_yield};
 use parking_lot_driver::{
     AskUpgradably, BumpUpgradable, Call, Disown, DisownFairly, DowngradeToShared,
@@ -99,19 +100,19 @@ impl<'t, 'l, R: Wait, const RECURSIVE: u8, A: Allocator> RawRwLock<'t, 'l, R, RE
 
     /// Makes the upgradable hold the exclusive one: new readers are kept out at once, and the others are waited for.
     #[inline(always)]
-    pub fn upgraded(&self, guard: GuardSend, party: &mut ThreadData<A>) -> GuardSend
+    pub fn upgraded(&self, guard: UpgradableToken, party: &mut ThreadData<A>) -> ExclusiveToken
         ensures token { result ≡ guard }
         ensures call { UpgradeEnded Upgrading Owned }
     {
         if let Err(word) = self.upgrades_at_once() {
             self.upgrade_slowly(word, party);
         }
-        guard
+        guard.exclusive()
     }
 
     /// Makes the upgradable hold a shared one.
     #[inline(always)]
-    pub fn downgraded_to_shared(&self, guard: GuardSend) -> GuardSend
+    pub fn downgraded_to_shared(&self, guard: UpgradableToken) -> SharedToken
         ensures token { result ≡ guard }
         ensures call { (answer : CoreAnswer) × UpgradeEnded DowngradingToShared answer }
     {
@@ -123,14 +124,14 @@ impl<'t, 'l, R: Wait, const RECURSIVE: u8, A: Allocator> RawRwLock<'t, 'l, R, RE
         );
         if let Err(word) = kept {
             self.convert_slowly(DowngradeToShared, word);
-            return guard;
+            return guard.shared();
         }
-        guard
+        guard.shared()
     }
 
     /// Makes the exclusive hold an upgradable one.
     #[inline(always)]
-    pub fn downgraded_to_upgradable(&self, guard: GuardSend) -> GuardSend
+    pub fn downgraded_to_upgradable(&self, guard: ExclusiveToken) -> UpgradableToken
         ensures token { result ≡ guard }
         ensures call { (answer : CoreAnswer) × UpgradeEnded DowngradingToUpgradable answer }
     {
@@ -142,9 +143,9 @@ impl<'t, 'l, R: Wait, const RECURSIVE: u8, A: Allocator> RawRwLock<'t, 'l, R, RE
         );
         if let Err(word) = kept {
             self.convert_slowly(DowngradeToUpgradable, word);
-            return guard;
+            return guard.upgradable();
         }
-        guard
+        guard.upgradable()
     }
 }
 
@@ -190,7 +191,7 @@ impl<'t, 'l, R, const RECURSIVE: u8, A: Allocator> RawRwLock<'t, 'l, R, RECURSIV
 
 impl<'t, 'l, R, const RECURSIVE: u8, A: Allocator> RawRwLockUpgrade
     for RawRwLock<'t, 'l, R, RECURSIVE, A> {
-    type UpgradableGuard = GuardSend;
+    type UpgradableGuard = UpgradableToken;
 
     ghost upgradable_by = { λ token. token };
 
@@ -203,25 +204,28 @@ impl<'t, 'l, R, const RECURSIVE: u8, A: Allocator> RawRwLockUpgrade
     ghost upgrade_tried = { λ _ tried. MatchResult tried (λ _. UpgradeEnded TryingToUpgrade Owned) (λ _. ⊤) };
 
     #[inline(always)]
-    fn lock_upgradable(&self, party: &mut ThreadData<A>) -> GuardSend
+    fn lock_upgradable(&self, party: &mut ThreadData<A>) -> UpgradableToken
     where
         R: Wait,
     {
         if self.upgradable_at_once() {
-            return self.token();
+            return self.upgradable_token();
         }
         self.own_upgradable_slowly(party);
-        self.token()
+        self.upgradable_token()
     }
 
     #[inline(always)]
-    fn try_lock_upgradable(&self) -> Option<GuardSend> {
-        let taken = self.upgradable_at_once() || self.try_slowly(UpgradeCore::try_lock());
-        self.token_if(taken)
+    fn try_lock_upgradable(&self) -> Option<UpgradableToken> {
+        if self.upgradable_at_once() || self.try_slowly(UpgradeCore::try_lock()) {
+            Some(self.upgradable_token())
+        } else {
+            None
+        }
     }
 
     #[inline(always)]
-    fn unlock_upgradable(&self, guard: GuardSend)
+    fn unlock_upgradable(&self, guard: UpgradableToken)
     where
         R: Wait,
     {
@@ -232,7 +236,7 @@ impl<'t, 'l, R, const RECURSIVE: u8, A: Allocator> RawRwLockUpgrade
     }
 
     #[inline(always)]
-    fn upgrade(&self, guard: GuardSend, party: &mut ThreadData<A>) -> GuardSend
+    fn upgrade(&self, guard: UpgradableToken, party: &mut ThreadData<A>) -> ExclusiveToken
     where
         R: Wait,
     {
@@ -240,12 +244,12 @@ impl<'t, 'l, R, const RECURSIVE: u8, A: Allocator> RawRwLockUpgrade
     }
 
     #[inline(always)]
-    fn try_upgrade(&self, guard: GuardSend) -> Result<GuardSend, GuardSend> {
+    fn try_upgrade(&self, guard: UpgradableToken) -> Result<ExclusiveToken, UpgradableToken> {
         let alone = READER + UPGRADABLE;
         if self.row().owns_at_once(TryToUpgrade, alone, WRITER)
             || self.owns_by_trying(TryToUpgrade)
         {
-            Ok(guard)
+            Ok(guard.exclusive())
         } else {
             Err(guard)
         }
@@ -259,7 +263,7 @@ impl<'t, 'l, R, const RECURSIVE: u8, A: Allocator> RawRwLockUpgradeFair
     ghost upgradable_bumped = { λ _ _. UpgradeEnded Bumping Owned };
 
     #[inline(always)]
-    fn unlock_upgradable_fair(&self, guard: GuardSend)
+    fn unlock_upgradable_fair(&self, guard: UpgradableToken)
     where
         R: Wait,
     {
@@ -270,7 +274,7 @@ impl<'t, 'l, R, const RECURSIVE: u8, A: Allocator> RawRwLockUpgradeFair
     }
 
     #[inline(always)]
-    fn bump_upgradable(&self, guard: GuardSend, party: &mut ThreadData<A>) -> GuardSend
+    fn bump_upgradable(&self, guard: UpgradableToken, party: &mut ThreadData<A>) -> UpgradableToken
     where
         R: Wait,
     {
@@ -288,7 +292,7 @@ impl<'t, 'l, R, const RECURSIVE: u8, A: Allocator> RawRwLockUpgradeDowngrade
     ghost downgraded_to_upgradable = { λ _ _. (answer : CoreAnswer) × UpgradeEnded DowngradingToUpgradable answer };
 
     #[inline(always)]
-    fn downgrade_upgradable(&self, guard: GuardSend) -> GuardSend
+    fn downgrade_upgradable(&self, guard: UpgradableToken) -> SharedToken
     where
         R: Wait,
     {
@@ -296,7 +300,7 @@ impl<'t, 'l, R, const RECURSIVE: u8, A: Allocator> RawRwLockUpgradeDowngrade
     }
 
     #[inline(always)]
-    fn downgrade_to_upgradable(&self, guard: GuardSend) -> GuardSend
+    fn downgrade_to_upgradable(&self, guard: ExclusiveToken) -> UpgradableToken
     where
         R: Wait,
     {

@@ -5,8 +5,9 @@ ghost use Rattle.parking_lot_mutex.specs.Condvar.Calls.{WaitedInTime, WaitRan};
 ghost use Rattle.parking_lot_protocol_waits.specs.declared.wait_core.WaitPhase.TheVariants.{Stranger};
 
 use crate::condvar::clock::StillClock;
+use crate::token::MutexToken;
 use crate::{LockTable, RawMutex, Row, to_deadline};
-use lock_api_raw::{GuardSend, MakeCondvar, RawCondvarTimed, TableFull, WaitFault};
+use lock_api_raw::{MakeCondvar, RawCondvarTimed, TableFull, WaitFault};
 use parking_lot_core::ThreadData;
 use parking_lot_protocol_waits::WaitAnswer;
 use std::alloc::{Allocator, Global};
@@ -184,9 +185,9 @@ impl<'t, 'l, R, A: Allocator> lock_api_raw::RawCondvar for RawCondvar<'t, 'l, R,
     fn wait(
         &self,
         mutex: &RawMutex<'t, 'l, R, A>,
-        guard: GuardSend,
+        guard: MutexToken,
         party: &mut ThreadData<A>,
-    ) -> (GuardSend, Result<(), WaitFault>)
+    ) -> (MutexToken, Result<(), WaitFault>)
     where
         R: Wait,
     {
@@ -215,11 +216,11 @@ impl<'t, 'l, R, A: Allocator> RawCondvarTimed for RawCondvar<'t, 'l, R, A> {
     fn wait_until<C: Clock>(
         &self,
         mutex: &RawMutex<'t, 'l, R, A>,
-        guard: GuardSend,
+        guard: MutexToken,
         deadline: Instant,
         clock: &C,
         party: &mut ThreadData<A>,
-    ) -> (GuardSend, Result<bool, WaitFault>)
+    ) -> (MutexToken, Result<bool, WaitFault>)
     where
         R: Wait,
     {
@@ -230,11 +231,11 @@ impl<'t, 'l, R, A: Allocator> RawCondvarTimed for RawCondvar<'t, 'l, R, A> {
     fn wait_for<C: Clock>(
         &self,
         mutex: &RawMutex<'t, 'l, R, A>,
-        guard: GuardSend,
+        guard: MutexToken,
         timeout: Duration,
         clock: &C,
         party: &mut ThreadData<A>,
-    ) -> (GuardSend, Result<bool, WaitFault>)
+    ) -> (MutexToken, Result<bool, WaitFault>)
     where
         R: Wait,
     {

@@ -9,7 +9,8 @@ ghost use Rattle.parking_lot_protocol_waits.specs.declared.wait_core.WaitPhase.T
 
 use crate::RawMutex;
 use crate::condvar::raw_condvar::{RawCondvar, stuck, unmark};
-use lock_api_raw::{GuardSend, RawMutex as _};
+use crate::token::MutexToken;
+use lock_api_raw::RawMutex as _;
 use parking_lot_core::{DEFAULT_PARK_TOKEN, ParkResult, ThreadData, park, thread_yield};
 use parking_lot_protocol::timed::Course;
 use parking_lot_protocol_waits::{WaitAct, WaitAnswer, WaitCore, WaitSeen};
@@ -20,7 +21,7 @@ use std::time::{Clock, Instant};
 
 /// Gives a mutex up, whose token the caller keeps.
 fn release<R: Wait, A: Allocator>(mutex: &RawMutex<'_, '_, R, A>) {
-    mutex.unlock(GuardSend::new(&(mutex.row().first_key() as u64)));
+    mutex.unlock(MutexToken::new(mutex.row().first_key() as u64));
 }
 
 /// Waits for a mutex again, whose token the caller has kept.
