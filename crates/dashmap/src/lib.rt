@@ -17,6 +17,7 @@ pub mod iter;
 pub mod iter_set;
 pub mod mapref;
 mod names;
+pub mod prelude;
 pub mod rayon;
 pub mod setref;
 pub mod try_result;

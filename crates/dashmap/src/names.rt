@@ -1,8 +1,10 @@
-//! The map, the set and the map's views over the locks of `parking_lot`, under their usual names.
+//! The map, the set, their guards, walks and views over the locks of `parking_lot`, under their usual names.
 //!
-//! `S` is the hasher, `R` the lot's runtime and `A` the allocator of the lot and of the map. The lifetimes are those of
-//! the lock table and of the lot.
+//! `S` is the hasher, `R` the lot's runtime and `A` the allocator of the lot and of the map. The lifetimes `'t` and `'l`
+//! are those of the lock table and of the lot; of guards and walks `'m` is the borrow of the map, and `'d` that of the
+//! thread's data.
 
+use dashmap_map::mapref::{entry, one};
 use parking_lot_rwlock::RawRwLock;
 use std::alloc::Global;
 
@@ -19,6 +21,106 @@ pub type DashMap<'t, 'l, K, V, S, R, A = Global> = dashmap_map::DashMap<
 pub type DashSet<'t, 'l, K, S, R, A = Global> = dashmap_set::DashSet<
     K,
     S,
+    RawRwLock<'t, 'l, R, 0, A>,
+    A,
+>;
+
+/// A map whose callers write each call down, so that the run can be judged afterwards.
+pub type Recorded<'t, 'l, K, V, S, R, A = Global> = dashmap_record::Recorded<
+    K,
+    V,
+    S,
+    RawRwLock<'t, 'l, R, 0, A>,
+    A,
+>;
+
+/// A shared guard of one pair: what `get` gives.
+pub type Ref<'m, 'd, 't, 'l, K, V, R, A = Global> = one::Ref<
+    'm,
+    'd,
+    K,
+    V,
+    RawRwLock<'t, 'l, R, 0, A>,
+    A,
+>;
+
+/// An exclusive guard of one pair: what `get_mut` gives, and an entry once it is filled.
+pub type RefMut<'m, 'd, 't, 'l, K, V, R, A = Global> = one::RefMut<
+    'm,
+    'd,
+    K,
+    V,
+    RawRwLock<'t, 'l, R, 0, A>,
+    A,
+>;
+
+/// The place of a key, whose shard is held until the entry is let go: what `entry` gives.
+pub type Entry<'m, 'd, 't, 'l, K, V, R, A = Global> = entry::Entry<
+    'm,
+    'd,
+    K,
+    V,
+    RawRwLock<'t, 'l, R, 0, A>,
+    A,
+>;
+
+/// A reading walk over a map: what `iter` gives.
+pub type Iter<'m, 'd, 't, 'l, K, V, R, A = Global> = dashmap_iter::Iter<
+    'm,
+    'd,
+    K,
+    V,
+    RawRwLock<'t, 'l, R, 0, A>,
+    A,
+>;
+
+/// A writing walk over a map: what `iter_mut` gives.
+pub type IterMut<'m, 'd, 't, 'l, K, V, R, A = Global> = dashmap_iter::IterMut<
+    'm,
+    'd,
+    K,
+    V,
+    RawRwLock<'t, 'l, R, 0, A>,
+    A,
+>;
+
+/// A pair that a reading walk lends.
+pub type RefMulti<'m, 'd, 't, 'l, K, V, R, A = Global> = dashmap_iter::multiple::RefMulti<
+    'm,
+    'd,
+    K,
+    V,
+    RawRwLock<'t, 'l, R, 0, A>,
+    A,
+>;
+
+/// A pair that a writing walk lends, for as long as `'w`, the borrow of the walk.
+pub type RefMutMulti<'w, 'm, 'd, 't, 'l, K, V, R, A = Global> =
+    dashmap_iter::multiple_mut::RefMutMulti<'w, 'm, 'd, K, V, RawRwLock<'t, 'l, R, 0, A>, A>;
+
+/// A shared guard of one key of a set.
+pub type SetRef<'m, 'd, 't, 'l, K, R, A = Global> = dashmap_set::setref::one::Ref<
+    'm,
+    'd,
+    K,
+    RawRwLock<'t, 'l, R, 0, A>,
+    A,
+>;
+
+/// A walk over the keys of a set.
+pub type SetIter<'m, 'd, 't, 'l, K, R, A = Global> = dashmap_set::iter_set::Iter<
+    'm,
+    'd,
+    K,
+    RawRwLock<'t, 'l, R, 0, A>,
+    A,
+>;
+
+/// A key that a walk over a set lends.
+pub type SetRefMulti<'m, 'd, 't, 'l, K, R, A = Global> = dashmap_set::setref::multiple::RefMulti<
+    'm,
+    'd,
+    K,
     RawRwLock<'t, 'l, R, 0, A>,
     A,
 >;
