@@ -160,7 +160,8 @@ module _ {K V S H D T A : Type 0} (d : deed.Ghosts D K V T) (b : builder.Ghosts 
   pub new-reachable : (w : State K V S D T A) (n : ℕ) (s : S) (pairs : List (K × V))
       (programs : List (List (Ask K V D))) → IsNew eq n s pairs programs w
       → new_refusal n (length pairs) programs ≡ None → AllStopsFit w.programs
-      → AreFilled eq (key_route b h writes w.hasher (length w.tables)) w.opening w.tables → IsReachable d b h eq writes w
+      → AreFilled eq (key_route b h writes w.hasher (length w.tables)) w.opening w.tables
+      → IsReachable d b h eq writes w
   new-reachable w n s pairs programs new allowed stops filled = record {
     first = w;
     schedule = [];

@@ -133,7 +133,8 @@ module _ {K V S D T A : Type 0} (x : Setup K V D T) (laws : Laws x) (w : State K
       let behind : State K V S D T A = record w { locks = h.locks } in
       let is : left x behind t ≡ steps_left (state h.locks.rows) t + sum_by
       (place_left (length w.places) (length w.tables)) w.places + 2 * sum_by (place_todo x w) w.places = refl in
-      omega (arith, ap (λ (v : State K V S D T A). left x v t) h.after, is, (lawful-ends t _ w.locks h.locks fit h.ends).pays)
+      let paid = lawful-ends t _ w.locks h.locks fit h.ends in
+      omega (arith, ap (λ (v : State K V S D T A). left x v t) h.after, is, paid.pays)
 
   concludes : Concludes w t mid → Keeps
   concludes (owed h) = leaves h
@@ -147,6 +148,18 @@ module _ {K V S D T A : Type 0} (x : Setup K V D T) (laws : Laws x) (w : State K
 
   size : length (state w.locks.rows).calls ≡ length w.places
   size = whole.sizes.locks.threads_are
+
+  -- the locks fit where an admission, or what was owed to a lock, has ended
+  fit-same : (mid : State K V S D T A) → mid ≡ w → LocksFit mid.locks
+  fit-same mid e = subst LocksFit (sym (ap (λ (v : State K V S D T A). v.locks) e)) whole.locks
+
+  fit-left : (mid : State K V S D T A) → Leaves w s.thread mid → LocksFit mid.locks
+  fit-left mid l = subst LocksFit (sym (locks-are mid _ l.after))
+      (fit-ends s.thread _ w.locks l.locks whole.locks l.ends)
+
+  fit-reached : (mid : State K V S D T A) → Reaches w s.thread mid → LocksFit mid.locks
+  fit-reached mid r = subst LocksFit (sym (locks-are mid _ r.after))
+      (fit-ends s.thread _ w.locks r.locks whole.locks r.ends)
 
   -- a walk between two visits has a shard left to come to
   rises : (p : Place K V D T A) (f : Walk D) → slice_get w.places s.thread ≡ Some p → p.phase ≡ phase.Onward f
@@ -169,7 +182,11 @@ module _ {K V S D T A : Type 0} (x : Setup K V D T) (laws : Laws x) (w : State K
               (ap (λ ps. slice_get ps s.thread) (sym places) ∙ h.starts.stands) h.starts.before,
           ap length tables,
         ) in
-        omega (arith, stays x laws w s.thread h.mid whole.locks e, goes_fall x laws h.mid s w' (subst LocksFit (sym (ap (λ (v : State K V S D T A). v.locks) e)) whole.locks) h.starts low)
+        omega (
+          arith,
+          stays x laws w s.thread h.mid whole.locks e,
+          goes_fall x laws h.mid s w' (fit-same h.mid e) h.starts low,
+        )
     | inr l ↦
         let places = places-are h.mid _ l.after in
         let tables = tables-are h.mid _ l.after in
@@ -180,7 +197,11 @@ module _ {K V S D T A : Type 0} (x : Setup K V D T) (laws : Laws x) (w : State K
               (ap (λ ps. slice_get ps s.thread) (sym places) ∙ h.starts.stands) h.starts.before,
           ap length tables,
         ) in
-        omega (arith, leaves x laws w s.thread h.mid whole.locks l, goes_fall x laws h.mid s w' (subst LocksFit (sym (locks-are h.mid _ l.after)) (fit-ends s.thread _ w.locks l.locks whole.locks l.ends)) h.starts low)
+        omega (
+          arith,
+          leaves x laws w s.thread h.mid whole.locks l,
+          goes_fall x laws h.mid s w' (fit-left h.mid l) h.starts low,
+        )
   ]
 
   parts : Parts x w s w' → Falls
@@ -192,8 +213,7 @@ module _ {K V S D T A : Type 0} (x : Setup K V D T) (laws : Laws x) (w : State K
         omega (
           arith,
           stays x laws w s.thread h.mid whole.locks e,
-          parts_fall x laws h.mid s w' (threads ∙ (size ∙ sym places)) (subst LocksFit (sym (ap (λ (v : State K V S D T A). v.locks) e)) whole.locks)
-              h.gives,
+          parts_fall x laws h.mid s w' (threads ∙ (size ∙ sym places)) (fit-same h.mid e) h.gives,
         )
     | inr r ↦
         let threads : length (state h.mid.locks.rows).calls ≡ length (state w.locks.rows).calls =
@@ -203,8 +223,7 @@ module _ {K V S D T A : Type 0} (x : Setup K V D T) (laws : Laws x) (w : State K
         omega (
           arith,
           reaches x laws w s.thread h.mid whole.locks r,
-          parts_fall x laws h.mid s w' (threads ∙ (size ∙ sym places)) (subst LocksFit (sym (locks-are h.mid _ r.after)) (fit-ends s.thread _ w.locks r.locks whole.locks r.ends))
-              h.gives,
+          parts_fall x laws h.mid s w' (threads ∙ (size ∙ sym places)) (fit-reached h.mid r) h.gives,
         )
   ]
 

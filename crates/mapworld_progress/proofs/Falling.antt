@@ -204,7 +204,11 @@ pub entered_costs : {K V D T A : Type 0} (t shard more : ℕ) (f : Phase K V D T
     → steps_left (state new.rows) t + phase_left (length (state old.rows).calls) more f + 1 ≤ steps_left
     (state old.rows) t + call_left (length (state old.rows).calls)
 entered_costs t shard more (phase.Admit r) old new few fit h =
-    omega (arith, (lawful-begins t shard _ old new fit h).costs, wanted_most (length (state old.rows).calls) (request_tries r) (mode_of r))
+    omega (
+      arith,
+      (lawful-begins t shard _ old new fit h).costs,
+      wanted_most (length (state old.rows).calls) (request_tries r) (mode_of r),
+    )
 entered_costs t shard more (phase.Reach f) old new few fit h = absurd (omega (arith, few))
 entered_costs t shard more phase.Rest old new few fit same =
     omega (arith, few, ap (λ (l : Shown). steps_left (state l.rows) t) same)

@@ -137,8 +137,8 @@ rw_heard k m c is (inl (told, core)) = (told, core ∙ ap (λ x. core_next x tol
 rw_heard k m c is (inr (by, handed, comes, core)) = absurd (false≢true (ap comes_late (sym is) ∙ comes))
 
 pub start_turns : (s mid u : State) (t i : ℕ) (call : LockCall) (fair : Bool) → t < length s.calls
-    → mid ≡ begun s t (call_for s t i call) → HasActed t fair None mid u → FitsTogether u → IsPlain u → call ≡ LockCall.Downgrade
-    → held_at u i t ≡ Some held.Shared
+    → mid ≡ begun s t (call_for s t i call) → HasActed t fair None mid u → FitsTogether u → IsPlain u
+    → call ≡ LockCall.Downgrade → held_at u i t ≡ Some held.Shared
 start_turns s mid u t i call fair low begins x fits plain is =
     let own : GoesOnBy x.call (call_at u t) = own_call mid u t fair x in
     let begun : hears (call_for s t i call) ActResult.Start ≡ x.call =
