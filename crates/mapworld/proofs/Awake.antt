@@ -44,7 +44,6 @@ use Rattle.mapworld.proofs.Cores.{KeepsOthers, others-begins, others-same}
 use Rattle.mapworld.proofs.Footprints.{concluding, entering, enters_alone, leaving, parting, parting_fit}
 use Rattle.mapworld.proofs.Footprints.{step_footprint, visiting}
 use Rattle.mapworld.proofs.Keeping.{IsKept}
-use Rattle.mapworld.proofs.LockSteps.{given_kind}
 use Rattle.mapworld.proofs.Reached.{own-laws, reachable-kept, reachable-step, same-setup-step}
 use Rattle.mapworld.proofs.Refusing.{Asked, asks, by_move, by_start, step-tells}
 use Rattle.mapworld.proofs.Sleeping.{status-asleep}
@@ -70,7 +69,7 @@ module _ {K V S D T A : Type 0} (x : Setup K V D T) (w : State K V S D T A) (s :
   up-gives mid calls fine from to a =
       up-by a.locks (ap (λ (v : State K V S D T A). v.locks) a.after)
       (up-then s.thread w.locks mid.locks a.locks (up-others s.thread w.locks mid.locks calls)
-      (up-starts s.thread a.hold.shard _ s.fair mid.locks a.locks (given_kind a.hold.mode) fine a.gives))
+      (up-starts s.thread a.hold.shard _ s.fair mid.locks a.locks fine a.gives))
 
   step-up : IsStep x w s w' → UpStays s.thread w.locks w'.locks
   step-up (start a) = up-by a.locks (ap (λ (v : State K V S D T A). v.locks) a.after)
@@ -88,9 +87,9 @@ module _ {K V S D T A : Type 0} (x : Setup K V D T) (w : State K V S D T A) (s :
   step-up (deed_changes a) = up-still (ap (λ (v : State K V S D T A). v.locks) a.after)
   step-up (deed_fills a) = up-still (ap (λ (v : State K V S D T A). v.locks) a.after)
   step-up (downgrade a) = up-by a.locks (ap (λ (v : State K V S D T A). v.locks) a.after)
-      (up-starts s.thread a.hold.shard _ s.fair w.locks a.locks refl fit a.turns)
+      (up-starts s.thread a.hold.shard _ s.fair w.locks a.locks fit a.turns)
   step-up (release a) = up-by a.locks (ap (λ (v : State K V S D T A). v.locks) a.after)
-      (up-starts s.thread a.hold.shard _ s.fair w.locks a.locks (given_kind a.hold.mode) fit a.gives)
+      (up-starts s.thread a.hold.shard _ s.fair w.locks a.locks fit a.gives)
   step-up (answers h) = up-same h.mid (concluding w s.thread h.mid h.leaves).calls
       (ap (λ (v : State K V S D T A). v.locks) h.answers.after)
   step-up (visit_starts h) =

@@ -15,10 +15,10 @@ use Rattle.parking_lot_machine_calls.specs.declared.seat.WakeResult.{WakeResult}
 use Rattle.parking_lot_machine_calls.specs.declared.seat.Wakeup.{Wakeup}
 use Rattle.parking_lot_machine_calls.specs.CallActs.{hears, off_list, settled}
 use Rattle.parking_lot_machine_calls.specs.Stances.{core_act}
-use Rattle.parking_lot_machine.specs.Machines.{Became, BecameInside, IsStepped, call_for}
+use Rattle.parking_lot_machine.specs.Machines.{Became, BecameInside, call_for}
 use Rattle.parking_lot_machine.specs.Rows.{State, call_at, state}
 use Rattle.parking_lot_machine.specs.TellLaws.{IsDue}
-use Rattle.mapworld_state.specs.Locks.Steps.{LockBegins, LockEnds, LockMoves, LockStarts}
+use Rattle.mapworld_state.specs.Locks.Steps.{HasActed, LockBegins, LockEnds, LockMoves, LockStarts}
 use Rattle.mapworld_state.specs.Locks.Views.{Shown}
 use Rattle.mapworld_state.proofs.LocksFacts.Calls.{late_is}
 use Rattle.mapworld_state.proofs.InvariantFacts.CausesFacts.Looking.{call_of, set-elsewhere}
@@ -120,7 +120,7 @@ module _ (s : State) (t : ℕ) (c : Call) where
   kept Act.Sleep fair u b = let l = late_is s u t c c.core refl b in none u _ l.3 (told _)
   kept (Act.Done answer) fair u e = none u _ e (told None)
 
-pub stepped-cores : (s u : State) (t : ℕ) (fair : Bool) (answer : Option CoreAnswer) → IsStepped t fair answer s u
+pub stepped-cores : (s u : State) (t : ℕ) (fair : Bool) (answer : Option CoreAnswer) → HasActed t fair answer s u
     → KeepsCores s t u
 stepped-cores s u t fair answer x = kept s t x.call (core_act x.call.core) fair u x.became
 
@@ -140,7 +140,7 @@ module _ (t : ℕ) where
       → KeepsOthers t old new
   others-begins shard call old new h = record {
     about = h.others;
-    cores = λ v ne. ap (λ (u : State). core_of (call_at u v)) h.became.became
+    cores = λ v ne. ap (λ (u : State). core_of (call_at u v)) h.became
         ∙ ap core_of (set-elsewhere (state old.rows).calls t v
         (Some (hears (call_for (state old.rows) t shard call) ActResult.Start)) ne);
   }

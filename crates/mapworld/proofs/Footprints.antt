@@ -35,7 +35,8 @@ use Rattle.mapworld.specs.Atomic.{DoesOne, IsAtomic, KeepsCalls, StaysInCall, st
 use Rattle.mapworld.specs.Atomic.{answers as replied}
 use Rattle.mapworld.proofs.Cores.{KeepsOthers, calls-behind, calls-moves, calls-same, calls-starts, others-begins}
 use Rattle.mapworld.proofs.Cores.{others-ends, others-same}
-use Rattle.mapworld.proofs.LockSteps.{TouchesLock, begins_keep, ends_fit, ends_keep, given_kind, keeps_behind}
+use Rattle.mapworld_state.proofs.LocksFacts.Lawful.{fit-ends}
+use Rattle.mapworld.proofs.LockSteps.{TouchesLock, begins_keep, ends_keep, keeps_behind}
 use Rattle.mapworld.proofs.LockSteps.{moves_touch, starts_touch, touches_behind}
 use Rattle.mapworld.proofs.Viewing.{pair_at_route}
 use Rattle.mapworld.proofs.Outcomes.{element-at}
@@ -215,7 +216,7 @@ module _ {K V S D T A : Type 0} (w : State K V S D T A) (t : ℕ) (mid : State K
   pub parting_fit : LocksFit w.locks → (mid ≡ w) ⊎ Reaches w t mid → LocksFit mid.locks
   parting_fit fit (inl same) = subst (λ (v : State K V S D T A). LocksFit v.locks) (sym same) fit
   parting_fit fit (inr a) = subst LocksFit (sym (ap (λ (v : State K V S D T A). v.locks) a.after))
-      (ends_fit t _ w.locks a.locks fit a.ends)
+      (fit-ends t _ w.locks a.locks fit a.ends)
 
   pub visiting : (mid ≡ w) ⊎ (Reaches w t mid ⊎ Leaves w t mid) → Prepares w t mid
   visiting (inl same) = nothing same
@@ -417,7 +418,7 @@ module _ {K V S D T A : Type 0} (x : Setup K V D T) (laws : Laws x) (w : State K
         on_lock mid p a.place a.stands _ (ap (λ (v : State K V S D T A). v.places) a.after)
         (ap (λ (v : State K V S D T A). v.steps) a.after) refl a.locks
         (ap (λ (v : State K V S D T A). v.tables) a.after) (ap (λ (v : State K V S D T A). v.locks) a.after)
-        (starts_touch touch s.thread a.hold.shard _ s.fair mid.locks a.locks (given_kind a.hold.mode) fine a.gives)
+        (starts_touch touch s.thread a.hold.shard _ s.fair mid.locks a.locks fine a.gives)
         (calls-starts s.thread a.hold.shard _ s.fair mid.locks a.locks a.gives)
         (ap (λ (v : State K V S D T A). v.replies) a.after)
 
@@ -497,14 +498,14 @@ module _ {K V S D T A : Type 0} (x : Setup K V D T) (laws : Laws x) (w : State K
         on_lock w whole a.place a.stands _ (ap (λ (v : State K V S D T A). v.places) a.after)
         (ap (λ (v : State K V S D T A). v.steps) a.after) refl a.locks
         (ap (λ (v : State K V S D T A). v.tables) a.after) (ap (λ (v : State K V S D T A). v.locks) a.after)
-        (starts_touch touch s.thread a.hold.shard _ s.fair w.locks a.locks refl fit a.turns)
+        (starts_touch touch s.thread a.hold.shard _ s.fair w.locks a.locks fit a.turns)
         (calls-starts s.thread a.hold.shard _ s.fair w.locks a.locks a.turns)
         (ap (λ (v : State K V S D T A). v.replies) a.after)
     step_atomic (release a) =
         on_lock w whole a.place a.stands _ (ap (λ (v : State K V S D T A). v.places) a.after)
         (ap (λ (v : State K V S D T A). v.steps) a.after) refl a.locks
         (ap (λ (v : State K V S D T A). v.tables) a.after) (ap (λ (v : State K V S D T A). v.locks) a.after)
-        (starts_touch touch s.thread a.hold.shard _ s.fair w.locks a.locks (given_kind a.hold.mode) fit a.gives)
+        (starts_touch touch s.thread a.hold.shard _ s.fair w.locks a.locks fit a.gives)
         (calls-starts s.thread a.hold.shard _ s.fair w.locks a.locks a.gives)
         (ap (λ (v : State K V S D T A). v.replies) a.after)
     step_atomic (answers h) =

@@ -35,9 +35,9 @@ use Rattle.mapworld_state.proofs.InvariantFacts.Sounds.{sound-step}
 use Rattle.mapworld_progress.specs.Sizes.{IsSized}
 use Rattle.mapworld_progress.specs.Whole.{IsWhole}
 use Rattle.mapworld.proofs.Filling.{length-slice_set}
-use Rattle.mapworld.proofs.LockFits.{Lasts, lasts-asks, lasts-ends, lasts-enters, lasts-moves, lasts-same, lasts-starts}
+use Rattle.mapworld.proofs.LockFits.{Lasts, lasts-begins, lasts-ends, lasts-enters, lasts-moves, lasts-same}
+use Rattle.mapworld.proofs.LockFits.{lasts-starts}
 use Rattle.mapworld.proofs.LockFits.{lasts-then}
-use Rattle.mapworld.proofs.LockSteps.{given_kind}
 
 -- WHAT A STEP LEAVES OF THE LOCKS, AND OF THE NUMBER OF PLACES
 
@@ -116,7 +116,7 @@ module _ (cases : StepsAreCases) (agree : Always OwnersAgree) {K V S D T A : Typ
 
   gives : (mid : State K V S D T A) (from to : Walk D → Phase K V D T A) → GivesBack x mid s w' from to → Goes mid w'
   gives mid from to h = goes-by mid w' s.thread _ h.locks (ap (λ z. z.places) h.after) (ap (λ z. z.locks) h.after)
-      (lasts-starts cases agree s.thread _ _ s.fair mid.locks h.locks (given_kind h.hold.mode) h.gives)
+      (lasts-starts cases agree s.thread _ _ s.fair mid.locks h.locks h.gives)
 
   pub step_goes : IsStep x w s w' → Goes w w'
   step_goes (start h) = goes-by w w' s.thread _ h.locks (ap (λ z. z.places) h.after) (ap (λ z. z.locks) h.after)
@@ -134,16 +134,16 @@ module _ (cases : StepsAreCases) (agree : Always OwnersAgree) {K V S D T A : Typ
   step_goes (deed_changes h) = goes-beside w w' s.thread _ (ap (λ z. z.places) h.after) (ap (λ z. z.locks) h.after)
   step_goes (deed_fills h) = goes-beside w w' s.thread _ (ap (λ z. z.places) h.after) (ap (λ z. z.locks) h.after)
   step_goes (downgrade h) = goes-by w w' s.thread _ h.locks (ap (λ z. z.places) h.after) (ap (λ z. z.locks) h.after)
-      (lasts-starts cases agree s.thread _ _ s.fair w.locks h.locks refl h.turns)
+      (lasts-starts cases agree s.thread _ _ s.fair w.locks h.locks h.turns)
   step_goes (release h) = goes-by w w' s.thread _ h.locks (ap (λ z. z.places) h.after) (ap (λ z. z.locks) h.after)
-      (lasts-starts cases agree s.thread _ _ s.fair w.locks h.locks (given_kind h.hold.mode) h.gives)
+      (lasts-starts cases agree s.thread _ _ s.fair w.locks h.locks h.gives)
   step_goes (answers h) = goes-behind w w' h.mid (goes-concludes w s.thread h.mid h.leaves)
       (goes-beside h.mid w' s.thread _ (ap (λ z. z.places) h.answers.after) (ap (λ z. z.locks) h.answers.after))
   step_goes (visit_starts h) =
       let a = h.starts in
       goes-behind w w' h.mid (goes-let_go w s.thread h.mid h.leaves)
       (goes-by h.mid w' s.thread _ a.locks (ap (λ z. z.places) a.after) (ap (λ z. z.locks) a.after)
-      (lasts-asks s.thread _ _ h.mid.locks a.locks a.begins))
+      (lasts-begins s.thread _ _ h.mid.locks a.locks a.begins))
   step_goes (visit_parts h) = goes-behind w w' h.mid (goes-parts w s.thread h.mid h.enters)
       (gives h.mid phase.Part phase.Visit h.gives)
   step_goes (visit_looks h) = goes-behind w w' h.mid (goes-let_in w s.thread h.mid h.enters) (looks h.mid h.looks)

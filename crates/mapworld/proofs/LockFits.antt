@@ -1,43 +1,28 @@
 -- The locks of shards fit together behind each act, and their sizes stay.
-use Rattle.std.proofs.Common.{◌≡◌, ℕ, Bool, true, false, slice_get, slice_set, refl, sym, ap, ◌∙◌, subst}
+use Rattle.std.proofs.Common.{◌≡◌, ℕ, Bool, slice_get, slice_set, sym, ap, ◌∙◌, subst}
 use Rattle.std.specs.Option.{option_map}
 use Rattle.std.proofs.lemmas.Option.{same_Some}
 use Rattle.parking_lot_protocol.specs.declared.act.CoreAnswer.{CoreAnswer}
 use Rattle.parking_lot_machine_calls.specs.declared.calls.LockCall.{LockCall}
 use Rattle.parking_lot_machine.specs.Rows.{state, taken_by}
 use Rattle.parking_lot_machine.specs.SoundLaws.{Always, OwnersAgree, StepsAreCases}
-use Rattle.mapworld_state.specs.declared.holds.Mode.{Mode}
-use Rattle.mapworld_state.specs.declared.holds.Mode.TheVariants.{Shared, Exclusive}
 use Rattle.mapworld_state.specs.declared.place.Phase.{Phase}
 use Rattle.mapworld_state.specs.declared.place.Phase.TheVariants as phase
-use Rattle.mapworld_state.specs.Holds.{asks_for, wants_for}
 use Rattle.mapworld_state.specs.Locks.Fits.{LocksFit}
 use Rattle.mapworld_state.specs.Locks.Moves.{desk_after}
-use Rattle.mapworld_state.specs.Locks.Stands.{is_of_shards, stand_of}
+use Rattle.mapworld_state.specs.Locks.Stands.{stand_of}
 use Rattle.mapworld_state.specs.Locks.Steps.{LockBegins, LockEnds, LockMoves, LockStarts}
 use Rattle.mapworld_state.specs.Locks.Views.{Shown, held_at}
 use Rattle.mapworld_state.specs.Steps.{EntersBy}
-use Rattle.mapworld_state.specs.Moves.{mode_of, request_tries}
-use Rattle.mapworld_state.specs.Walks.{walk_mode}
+use Rattle.mapworld_state.proofs.LocksFacts.Lawful.{fit-begins, fit-ends, lawful-moves}
 use Rattle.mapworld_state.proofs.LocksFacts.Sizes.{KeepsSize, begins-size, ends-size, moves-size, same_size}
 use Rattle.mapworld_state.proofs.LocksFacts.Sizes.{starts-size}
 use Rattle.mapworld_state.proofs.LocksFacts.Stepping.{stepped_fit}
-use Rattle.mapworld.proofs.LockSteps.{begins_fit, ends_fit}
 
 -- locks that fit together still do, and there are as many
 pub record Lasts (old new : Shown) : Type 0 where
   pub fit : LocksFit old → LocksFit new
   pub size : KeepsSize old new
-
-asked_kind : (mode : Mode) → is_of_shards (asks_for mode) ≡ true
-asked_kind Shared = refl
-asked_kind Exclusive = refl
-
-wanted_kind : (tries : Bool) (mode : Mode) → is_of_shards (wants_for tries mode) ≡ true
-wanted_kind true Shared = refl
-wanted_kind true Exclusive = refl
-wanted_kind false Shared = refl
-wanted_kind false Exclusive = refl
 
 pub lasts-same : (old new : Shown) → new ≡ old → Lasts old new
 lasts-same old new same = record { fit = subst LocksFit (sym same); size = subst (KeepsSize old) (sym same) same_size }
@@ -52,14 +37,13 @@ lasts-then old mid new a b = record {
   };
 }
 
-lasts-begins : (t shard : ℕ) (call : LockCall) (old new : Shown) → is_of_shards call ≡ true
-    → LockBegins t shard call old new → Lasts old new
-lasts-begins t shard call old new kind b = record
-    { fit = λ fit. begins_fit t shard call old new b kind fit; size = begins-size old new t shard call b }
+pub lasts-begins : (t shard : ℕ) (call : LockCall) (old new : Shown) → LockBegins t shard call old new → Lasts old new
+lasts-begins t shard call old new b = record
+    { fit = λ fit. fit-begins t shard call old new fit b; size = begins-size old new t shard call b }
 
 pub lasts-ends : (t : ℕ) (answer : CoreAnswer) (old new : Shown) → LockEnds t answer old new → Lasts old new
 lasts-ends t answer old new e = record {
-  fit = λ fit. ends_fit t answer old new fit e;
+  fit = λ fit. fit-ends t answer old new fit e;
   size = ends-size old new t
       answer e;
 }
@@ -68,8 +52,7 @@ lasts-ends t answer old new e = record {
 pub lasts-enters : {K V D T A : Type 0} (t shard : ℕ) (old new : Shown) (f : Phase K V D T A)
     → EntersBy t shard f old new → Lasts old new
 lasts-enters t shard old new phase.Rest h = lasts-same old new h
-lasts-enters t shard old new (phase.Admit r) h = lasts-begins t shard _ old new
-    (wanted_kind (request_tries r) (mode_of r)) h
+lasts-enters t shard old new (phase.Admit r) h = lasts-begins t shard _ old new h
 lasts-enters t shard old new (phase.Find r) h = lasts-same old new h
 lasts-enters t shard old new (phase.Grow c) h = lasts-same old new h
 lasts-enters t shard old new (phase.Append k v) h = lasts-same old new h
@@ -80,7 +63,7 @@ lasts-enters t shard old new (phase.Change k) h = lasts-same old new h
 lasts-enters t shard old new (phase.Fill v) h = lasts-same old new h
 lasts-enters t shard old new phase.Downgrade h = lasts-same old new h
 lasts-enters t shard old new (phase.Idle f) h = lasts-same old new h
-lasts-enters t shard old new (phase.Reach f) h = lasts-begins t shard _ old new (asked_kind (walk_mode f)) h
+lasts-enters t shard old new (phase.Reach f) h = lasts-begins t shard _ old new h
 lasts-enters t shard old new (phase.Part f) h = lasts-same old new h
 lasts-enters t shard old new (phase.Visit f) h = lasts-same old new h
 lasts-enters t shard old new (phase.Seek f) h = lasts-same old new h
@@ -90,15 +73,10 @@ lasts-enters t shard old new (phase.Onward f) h = lasts-same old new h
 lasts-enters t shard old new (phase.Release a) h = lasts-same old new h
 lasts-enters t shard old new (phase.Answer a) h = lasts-same old new h
 
--- the next visit of a walk begins a call
-pub lasts-asks : (t shard : ℕ) (mode : Mode) (old new : Shown) → LockBegins t shard (asks_for mode) old new
-    → Lasts old new
-lasts-asks t shard mode old new b = lasts-begins t shard _ old new (asked_kind mode) b
-
 module _ (cases : StepsAreCases) (agree : Always OwnersAgree) where
   moves_fit : (t : ℕ) (fair : Bool) (old new : Shown) → LocksFit old → LockMoves t fair old new → LocksFit new
   moves_fit t fair old new fit m =
-      let x = m.steps in
+      let x = lawful-moves t fair old new fit m in
       let same = ap (λ st. st.shard) (same_Some m.stand (stand_of x.call)
       (sym m.stood ∙ ap (option_map stand_of) x.here)) in
       stepped_fit cases agree old fit t fair new.rows x m.desk (ap (slice_get old.desks) (sym same) ∙ m.at_shard)
@@ -113,9 +91,9 @@ module _ (cases : StepsAreCases) (agree : Always OwnersAgree) where
         fair m;
   }
 
-  pub lasts-starts : (t shard : ℕ) (call : LockCall) (fair : Bool) (old new : Shown) → is_of_shards call ≡ true
+  pub lasts-starts : (t shard : ℕ) (call : LockCall) (fair : Bool) (old new : Shown)
       → LockStarts t shard call fair old new → Lasts old new
-  lasts-starts t shard call fair old new kind x = record {
-    fit = λ fit. moves_fit t fair x.mid new (begins_fit t shard call old x.mid x.begins kind fit) x.moves;
+  lasts-starts t shard call fair old new x = record {
+    fit = λ fit. moves_fit t fair x.mid new (fit-begins t shard call old x.mid fit x.begins) x.moves;
     size = starts-size old new t shard call fair x;
   }

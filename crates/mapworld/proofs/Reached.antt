@@ -16,7 +16,6 @@ use Rattle.mapworld_calls.specs.Setup.{Setup, Laws}
 use Rattle.mapworld_state.specs.Core.{AreLocksOf}
 use Rattle.mapworld_state.specs.declared.step.Step.{Step}
 use Rattle.mapworld_state.specs.Locks.Counts.{DesksCountAsWords}
-use Rattle.mapworld_state.specs.Locks.Fits.{LocksFit}
 use Rattle.mapworld_state.specs.Locks.Footprints.{StepsTouchOneLock}
 use Rattle.mapworld_state.specs.Route.{key_route}
 use Rattle.mapworld_state.specs.Running.{can_move_in, StaysFixed}
@@ -26,6 +25,7 @@ use Rattle.mapworld_state.specs.World.{setup_of, OnlyAddsTo}
 use Rattle.mapworld_state.proofs.InvariantFacts.Adding.{adds-more, adds-none, fixed-more, step-adds}
 use Rattle.mapworld_state.proofs.InvariantFacts.CausesFacts.Keeping.{causes-new}
 use Rattle.mapworld_state.proofs.InvariantFacts.CausesFacts.Meeting.{sleepers-have_company, words-have_calls}
+use Rattle.mapworld_state.proofs.LocksFacts.Fresh.{fit-fresh}
 use Rattle.mapworld_transitions.proofs.Keys.{setup-laws}
 use Rattle.mapworld_progress.specs.Drains.{Drains, DrainsBy}
 use Rattle.mapworld_progress.specs.Left.{left}
@@ -134,7 +134,8 @@ module _ {K V S H D T A : Type 0} (d : deed.Ghosts D K V T) (b : builder.Ghosts 
           blocks = new.blocks;
           replies = new.replies;
         }) a.amount a.guarded initial.stops start initial.filled;
-        locks = initial.fit;
+        locks = fit-fresh (length w.programs) (length w.tables) w.locks (omega (arith, a.threads))
+            (omega (arith, a.amount.2)) new.locks;
         programs = refl;
         places = count;
         sizes = subst (λ n. AreLocksOf n (length w.tables) w.locks) (sym count)
@@ -159,9 +160,9 @@ module _ {K V S H D T A : Type 0} (d : deed.Ghosts D K V T) (b : builder.Ghosts 
   pub new-reachable : (w : State K V S D T A) (n : ℕ) (s : S) (pairs : List (K × V))
       (programs : List (List (Ask K V D))) → IsNew eq n s pairs programs w
       → new_refusal n (length pairs) programs ≡ None → AllStopsFit w.programs
-      → AreFilled eq (key_route b h writes w.hasher (length w.tables)) w.opening w.tables → LocksFit w.locks
+      → AreFilled eq (key_route b h writes w.hasher (length w.tables)) w.opening w.tables
       → IsReachable d b h eq writes w
-  new-reachable w n s pairs programs new allowed stops filled fit = record {
+  new-reachable w n s pairs programs new allowed stops filled = record {
     first = w;
     schedule = [];
     initial = record {
@@ -173,7 +174,6 @@ module _ {K V S H D T A : Type 0} (d : deed.Ghosts D K V T) (b : builder.Ghosts 
       stops = stops;
       new = own-new w n s pairs programs new;
       filled = filled;
-      fit = fit;
     };
     leads = refl;
   }

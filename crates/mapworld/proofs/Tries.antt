@@ -19,20 +19,19 @@ use Rattle.parking_lot_machine_calls.specs.Beginnings.{core_of}
 use Rattle.parking_lot_machine_calls.specs.CallActs.{hears}
 use Rattle.parking_lot_machine_calls.specs.Kinds.{kind_in}
 use Rattle.parking_lot_machine_calls.specs.Stances.{Asleep, Stance, core_act, core_next, rw_stance, stance}
-use Rattle.parking_lot_machine.specs.Machines.{Became, IsStepped, call_for, end_of, is_asleep, sleeps}
+use Rattle.parking_lot_machine.specs.Machines.{Became, call_for, end_of, is_asleep, sleeps}
 use Rattle.parking_lot_machine.specs.RowActs.{exchanged, loaded, with_call, with_word}
 use Rattle.parking_lot_machine.specs.Rows.{State, call_at, state, word_at}
 use Rattle.mapworld_state.specs.declared.holds.Mode.{Mode}
 use Rattle.mapworld_state.specs.declared.holds.Mode.TheVariants.{Shared, Exclusive}
 use Rattle.mapworld_state.specs.Holds.{wants_for}
 use Rattle.mapworld_state.specs.Locks.Fits.{LocksFit}
-use Rattle.mapworld_state.specs.Locks.Stands.{is_of_shards}
-use Rattle.mapworld_state.specs.Locks.Steps.{LockBegins, LockMoves, LockStarts}
+use Rattle.mapworld_state.specs.Locks.Steps.{HasActed, LockBegins, LockMoves, LockStarts}
 use Rattle.mapworld_state.specs.Locks.Views.{Shown}
 use Rattle.mapworld_state.proofs.InvariantFacts.CausesFacts.Looking.{call_of, set-here}
+use Rattle.mapworld_state.proofs.LocksFacts.Lawful.{fit-begins}
 use Rattle.mapworld.specs.Atomic.{core_in}
 use Rattle.mapworld.proofs.Cores.{KeepsCores, KeepsOthers, Wakes, nobody, one, others-begins, stepped-cores}
-use Rattle.mapworld.proofs.LockSteps.{begins_fit}
 
 -- a try that waits for nobody, or is over
 abbrev pub is_up_in : RwPhase → Bool
@@ -133,11 +132,11 @@ module _ (t : ℕ) where
         | inr apart ↦ ap stays_up (k.others v ne apart) ∙ on
       ]
 
-  pub up-starts : (shard : ℕ) (call : LockCall) (fair : Bool) (old new : Shown) → is_of_shards call ≡ true
-      → LocksFit old → LockStarts t shard call fair old new → UpStays t old new
-  up-starts shard call fair old new kind fit h =
+  pub up-starts : (shard : ℕ) (call : LockCall) (fair : Bool) (old new : Shown) → LocksFit old
+      → LockStarts t shard call fair old new → UpStays t old new
+  up-starts shard call fair old new fit h =
       up-then old h.mid new (up-others old h.mid (others-begins t shard call old h.mid h.begins))
-      (up-moves fair h.mid new (begins_fit t shard call old h.mid h.begins kind fit) h.moves)
+      (up-moves fair h.mid new (fit-begins t shard call old h.mid fit h.begins) h.moves)
 
   -- ITS OWN
 
@@ -151,7 +150,7 @@ module _ (t : ℕ) where
   pub begins-up : (shard : ℕ) (tries : Bool) (mode : Mode) (old new : Shown) → tries ≡ true
       → LockBegins t shard (wants_for tries mode) old new → stays_up (core_in new t) ≡ true
   begins-up shard tries mode old new is h =
-      ap (λ (u : State). stays_up (option_map (λ c. c.core) (call_at u t))) h.became.became
+      ap (λ (u : State). stays_up (option_map (λ c. c.core) (call_at u t))) h.became
       ∙ elim (set-here (state old.rows).calls t (Some
       (hears (call_for (state old.rows) t shard (wants_for tries mode)) ActResult.Start))) [
         | inl here ↦ ap (λ o. stays_up (option_map (λ c. c.core) o)) here
@@ -215,7 +214,7 @@ module _ (t : ℕ) where
   moves-up fair old new h up = by-core x.call.core refl
       (sym (ap (λ o. stays_up (option_map (λ c. c.core) o)) x.here) ∙ up)
     where
-      x : IsStepped t fair None (state old.rows) (state new.rows)
+      x : HasActed t fair None (state old.rows) (state new.rows)
       x = h.steps
 
       over : {X : Type 0} (answer : CoreAnswer) (k : RwCore) → x.call.core ≡ Core.Rw k

@@ -5,7 +5,6 @@ use Rattle.std.specs.declared.hash.BuildHasher as builder
 use Rattle.std.specs.declared.hash.Hasher as hasher
 use Rattle.mapworld_calls.specs.declared.deed.Deed as deed
 use Rattle.mapworld_calls.specs.Setup.{Setup}
-use Rattle.mapworld_state.specs.Locks.Fits.{LocksFit}
 use Rattle.mapworld_state.specs.declared.step.Step.{Step}
 use Rattle.mapworld_state.specs.Core.{state_of}
 use Rattle.mapworld_state.specs.declared.world_core.Core.{Core}
@@ -25,7 +24,6 @@ pub record IsInitial {K V S D T A : Type 0} (x : Setup K V D T) (w : State K V S
   pub stops : AllStopsFit w.programs
   pub new : IsNew x.eq (length w.tables) w.hasher w.opening w.programs w
   pub filled : AreFilled x.eq x.route w.opening w.tables
-  pub fit : LocksFit w.locks
 
 -- the schedule leads from the one state to the other: its steps are made one after another, each of one kind, and of a
 -- thread that can move then

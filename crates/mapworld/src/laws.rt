@@ -14,7 +14,7 @@ ghost use Rattle.mapworld_state.specs.World.{setup_of};
 
 use mapworld_calls::Deed;
 pub use mapworld_state::locks::laws::{
-    desks_count_as_words, queues_are_waiters, steps_touch_one_lock,
+    desks_count_as_words, lock_steps_are_lawful, queues_are_waiters, steps_touch_one_lock,
 };
 use parking_lot_machine::laws;
 use std::hash::{BuildHasher, Hash};

@@ -4,6 +4,7 @@ use Rattle.std.proofs.Common.{slice_get, sum_by, refl, ap, sym, ◌∙◌, subst
 use Rattle.mapworld_calls.specs.declared.ask.Walk.{Walk}
 use Rattle.mapworld_calls.specs.declared.reply.Answer.TheVariants as answer
 use Rattle.mapworld_calls.specs.Setup.{Setup, Laws}
+use Rattle.mapworld_state.specs.Locks.Fits.{LocksFit}
 use Rattle.mapworld_state.specs.Locks.Views.{Shown}
 use Rattle.parking_lot_machine.specs.Ranks.{steps_left}
 use Rattle.parking_lot_machine.specs.Rows.{state}
@@ -24,6 +25,7 @@ use Rattle.mapworld_state.specs.Steps.{IsRefusedVisit, Leaves, LooksAround, Part
 use Rattle.mapworld_state.specs.Walks.{entered_phase, walk_mode}
 use Rattle.mapworld_progress.specs.Left.{left, phase_left, phase_todo, place_left, place_todo}
 use Rattle.mapworld_progress.specs.Whole.{IsWhole}
+use Rattle.mapworld_state.proofs.LocksFacts.Lawful.{fit-ends, lawful-ends}
 use Rattle.mapworld_progress.proofs.Coming.{TablesBy, same, StaysVisited, seen-same}
 use Rattle.mapworld_progress.proofs.Falling.{keeps_by, own-todo}
 use Rattle.mapworld_progress.proofs.Stepping.{answers_fall, appends_fall, applies_fall, at-lock, blocks-are}
@@ -35,7 +37,7 @@ use Rattle.mapworld_progress.proofs.Visiting.{refused_visit_falls, seeks_fall}
 use Rattle.mapworld_progress.proofs.Walking.{starts_fall}
 
 module _ {K V S D T A : Type 0} (x : Setup K V D T) (laws : Laws x) (w : State K V S D T A) (t : ℕ)
-    (mid : State K V S D T A) where
+    (mid : State K V S D T A) (fit : LocksFit w.locks) where
   abbrev m : ℕ
   m = length w.places
 
@@ -62,7 +64,7 @@ module _ {K V S D T A : Type 0} (x : Setup K V D T) (laws : Laws x) (w : State K
         arith,
         at-lock t h.locks mid.locks (locks-are mid _ h.after),
         ap (phase_left m (more p)) h.before,
-        h.ends.steps.pays,
+        (lawful-ends t _ w.locks h.locks fit h.ends).pays,
       ))
 
   abbrev before_shard : Walk D → Phase K V D T A
@@ -93,7 +95,7 @@ module _ {K V S D T A : Type 0} (x : Setup K V D T) (laws : Laws x) (w : State K
         ap (phase_todo x w p) h.before,
         ap (phase_todo x mid p') is ∙ alike mid,
         own-todo x laws w mid t p p' h.stands (places-are mid _ h.after) 0 tables adding seen p (phase.Reach h.walk),
-        h.ends.steps.pays,
+        (lawful-ends t _ w.locks h.locks fit h.ends).pays,
       ))
 
   reaches-by : (h : Reaches w t mid) (holds : List Hold) → h.place.holds ≡ holds → Keeps
@@ -115,7 +117,7 @@ module _ {K V S D T A : Type 0} (x : Setup K V D T) (laws : Laws x) (w : State K
         arith,
         at-lock t h.locks mid.locks (locks-are mid _ h.after),
         ap (phase_left m (more p)) h.before,
-        h.ends.steps.pays,
+        (lawful-ends t _ w.locks h.locks fit h.ends).pays,
       ))
 
   gives-none : GivesNone w t mid → Keeps
@@ -131,7 +133,8 @@ module _ {K V S D T A : Type 0} (x : Setup K V D T) (laws : Laws x) (w : State K
       let behind : State K V S D T A = record w { locks = h.locks } in
       let is : left x behind t ≡ steps_left (state h.locks.rows) t + sum_by
       (place_left (length w.places) (length w.tables)) w.places + 2 * sum_by (place_todo x w) w.places = refl in
-      omega (arith, ap (λ (v : State K V S D T A). left x v t) h.after, is, h.ends.steps.pays)
+      let paid = lawful-ends t _ w.locks h.locks fit h.ends in
+      omega (arith, ap (λ (v : State K V S D T A). left x v t) h.after, is, paid.pays)
 
   concludes : Concludes w t mid → Keeps
   concludes (owed h) = leaves h
@@ -145,6 +148,18 @@ module _ {K V S D T A : Type 0} (x : Setup K V D T) (laws : Laws x) (w : State K
 
   size : length (state w.locks.rows).calls ≡ length w.places
   size = whole.sizes.locks.threads_are
+
+  -- the locks fit where an admission, or what was owed to a lock, has ended
+  fit-same : (mid : State K V S D T A) → mid ≡ w → LocksFit mid.locks
+  fit-same mid e = subst LocksFit (sym (ap (λ (v : State K V S D T A). v.locks) e)) whole.locks
+
+  fit-left : (mid : State K V S D T A) → Leaves w s.thread mid → LocksFit mid.locks
+  fit-left mid l = subst LocksFit (sym (locks-are mid _ l.after))
+      (fit-ends s.thread _ w.locks l.locks whole.locks l.ends)
+
+  fit-reached : (mid : State K V S D T A) → Reaches w s.thread mid → LocksFit mid.locks
+  fit-reached mid r = subst LocksFit (sym (locks-are mid _ r.after))
+      (fit-ends s.thread _ w.locks r.locks whole.locks r.ends)
 
   -- a walk between two visits has a shard left to come to
   rises : (p : Place K V D T A) (f : Walk D) → slice_get w.places s.thread ≡ Some p → p.phase ≡ phase.Onward f
@@ -167,7 +182,11 @@ module _ {K V S D T A : Type 0} (x : Setup K V D T) (laws : Laws x) (w : State K
               (ap (λ ps. slice_get ps s.thread) (sym places) ∙ h.starts.stands) h.starts.before,
           ap length tables,
         ) in
-        omega (arith, stays x laws w s.thread h.mid e, goes_fall x laws h.mid s w' h.starts low)
+        omega (
+          arith,
+          stays x laws w s.thread h.mid whole.locks e,
+          goes_fall x laws h.mid s w' (fit-same h.mid e) h.starts low,
+        )
     | inr l ↦
         let places = places-are h.mid _ l.after in
         let tables = tables-are h.mid _ l.after in
@@ -178,7 +197,11 @@ module _ {K V S D T A : Type 0} (x : Setup K V D T) (laws : Laws x) (w : State K
               (ap (λ ps. slice_get ps s.thread) (sym places) ∙ h.starts.stands) h.starts.before,
           ap length tables,
         ) in
-        omega (arith, leaves x laws w s.thread h.mid l, goes_fall x laws h.mid s w' h.starts low)
+        omega (
+          arith,
+          leaves x laws w s.thread h.mid whole.locks l,
+          goes_fall x laws h.mid s w' (fit-left h.mid l) h.starts low,
+        )
   ]
 
   parts : Parts x w s w' → Falls
@@ -189,9 +212,8 @@ module _ {K V S D T A : Type 0} (x : Setup K V D T) (laws : Laws x) (w : State K
         let places : length h.mid.places ≡ length w.places = ap (λ (v : State K V S D T A). length v.places) e in
         omega (
           arith,
-          stays x laws w s.thread h.mid e,
-          parts_fall x laws h.mid s w' (threads ∙ (size ∙ sym places))
-              h.gives,
+          stays x laws w s.thread h.mid whole.locks e,
+          parts_fall x laws h.mid s w' (threads ∙ (size ∙ sym places)) (fit-same h.mid e) h.gives,
         )
     | inr r ↦
         let threads : length (state h.mid.locks.rows).calls ≡ length (state w.locks.rows).calls =
@@ -200,9 +222,8 @@ module _ {K V S D T A : Type 0} (x : Setup K V D T) (laws : Laws x) (w : State K
         ∙ length-set w.places s.thread _ in
         omega (
           arith,
-          reaches x laws w s.thread h.mid r,
-          parts_fall x laws h.mid s w' (threads ∙ (size ∙ sym places))
-              h.gives,
+          reaches x laws w s.thread h.mid whole.locks r,
+          parts_fall x laws h.mid s w' (threads ∙ (size ∙ sym places)) (fit-reached h.mid r) h.gives,
         )
   ]
 
@@ -213,21 +234,21 @@ module _ {K V S D T A : Type 0} (x : Setup K V D T) (laws : Laws x) (w : State K
 
   begins : (mid : State K V S D T A) → (mid ≡ w) ⊎ (Reaches w s.thread mid ⊎ Leaves w s.thread mid)
       → left x mid s.thread ≤ left x w s.thread
-  begins mid (inl e) = stays x laws w s.thread mid e
-  begins mid (inr (inl h)) = reaches x laws w s.thread mid h
-  begins mid (inr (inr h)) = leaves x laws w s.thread mid h
+  begins mid (inl e) = stays x laws w s.thread mid whole.locks e
+  begins mid (inr (inl h)) = reaches x laws w s.thread mid whole.locks h
+  begins mid (inr (inr h)) = leaves x laws w s.thread mid whole.locks h
 
   admits : (mid : State K V S D T A) → (mid ≡ w) ⊎ Enters w s.thread mid → left x mid s.thread ≤ left x w s.thread
-  admits mid (inl e) = stays x laws w s.thread mid e
-  admits mid (inr h) = enters x laws w s.thread mid h
+  admits mid (inl e) = stays x laws w s.thread mid whole.locks e
+  admits mid (inr h) = enters x laws w s.thread mid whole.locks h
 
   ends : (mid : State K V S D T A) → (mid ≡ w) ⊎ Concludes w s.thread mid → left x mid s.thread ≤ left x w s.thread
-  ends mid (inl e) = stays x laws w s.thread mid e
-  ends mid (inr h) = concludes x laws w s.thread mid h
+  ends mid (inl e) = stays x laws w s.thread mid whole.locks e
+  ends mid (inr h) = concludes x laws w s.thread mid whole.locks h
 
   pub steps_fall : IsStep x w s w' → Falls
-  steps_fall (start h) = starts_fall x laws w s w' size h
-  steps_fall (lock h) = moves_fall x laws w s w' h
+  steps_fall (start h) = starts_fall x laws w s w' size whole.locks h
+  steps_fall (lock h) = moves_fall x laws w s w' whole.locks h
   steps_fall (find h) = omega (arith, admits h.mid h.enters, finds_fall x laws h.mid s w' h.finds)
   steps_fall (find_grows h) = grows_fall x laws w s w' h
   steps_fall (find_refused h) = refused_fall x laws w s w' h
@@ -237,12 +258,12 @@ module _ {K V S D T A : Type 0} (x : Setup K V D T) (laws : Laws x) (w : State K
   steps_fall (deed_reads h) = reads_fall x laws w s w' h
   steps_fall (deed_changes h) = changes_fall x laws w s w' h
   steps_fall (deed_fills h) = fills_fall x laws w s w' h
-  steps_fall (downgrade h) = downgrades_fall x laws w s w' size h
-  steps_fall (release h) = releases_fall x laws w s w' size h
+  steps_fall (downgrade h) = downgrades_fall x laws w s w' size whole.locks h
+  steps_fall (release h) = releases_fall x laws w s w' size whole.locks h
   steps_fall (answers h) = omega (arith, ends h.mid h.leaves, answers_fall x laws h.mid s w' h.answers)
   steps_fall (visit_starts h) = goes h
   steps_fall (visit_parts h) = parts h
   steps_fall (visit_looks h) = omega (arith, begins h.mid h.enters, looks h.mid h.looks)
   steps_fall (visit_seeks h) = seeks_fall x laws w s w' h
   steps_fall (visit_does h) = does_fall x laws w s w' h (whole.sound.tables.distinct h.place.shard h.table h.held)
-  steps_fall (visit_gives h) = gives_fall x laws w s w' size h
+  steps_fall (visit_gives h) = gives_fall x laws w s w' size whole.locks h

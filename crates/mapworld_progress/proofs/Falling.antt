@@ -12,6 +12,7 @@ use Rattle.mapworld_calls.specs.Setup.{Setup, Laws}
 use Rattle.parking_lot_machine_calls.specs.declared.calls.LockCall.{LockCall}
 use Rattle.parking_lot_machine.specs.Ranks.{cost, steps_left}
 use Rattle.parking_lot_machine.specs.Rows.{state}
+use Rattle.mapworld_state.specs.Locks.Fits.{LocksFit}
 use Rattle.mapworld_state.specs.Locks.Steps.{LockStarts}
 use Rattle.mapworld_state.specs.Locks.Views.{Shown}
 use Rattle.mapworld_state.specs.declared.holds.Mode.{Mode}
@@ -33,6 +34,7 @@ use Rattle.mapworld_state.specs.State.{State}
 use Rattle.mapworld_state.specs.Steps.{EntersBy}
 use Rattle.mapworld_progress.specs.Left.{ask_left, call_left, left, pairs_from, phase_left, phase_todo, place_left}
 use Rattle.mapworld_progress.specs.Left.{place_todo, release_left, to_come}
+use Rattle.mapworld_state.proofs.LocksFacts.Lawful.{lawful-begins, lawful-starts}
 use Rattle.mapworld_progress.proofs.Coming.{TablesBy, StaysVisited, asks-todo, behind, phase-todo, place-todo, sum-but}
 use Rattle.mapworld_progress.proofs.Coming.{tables-size}
 
@@ -186,56 +188,65 @@ given_most n Exclusive = omega arith
 
 -- one that begins with its first act
 pub started_costs : (t shard : ℕ) (what : LockCall) (fair : Bool) (old new : Shown)
-    → LockStarts t shard what fair old new
+    → LocksFit old → LockStarts t shard what fair old new
     → steps_left (state new.rows) t + 1 ≤ steps_left (state old.rows) t + cost (length (state old.rows).calls) what
-started_costs t shard what fair old new h = omega (arith, h.begins.became.costs, h.moves.steps.pays)
+started_costs t shard what fair old new fit h =
+    omega (
+      arith,
+      (lawful-begins t shard what old h.mid fit h.begins).costs,
+      (lawful-starts t shard what fair old new fit h).pays,
+    )
 
 -- what a start begins at a shard's lock, with the phase that it leads to, where that isn't a walk's
 pub entered_costs : {K V D T A : Type 0} (t shard more : ℕ) (f : Phase K V D T A) (old new : Shown)
     → phase_left (length (state old.rows).calls) more f ≤ release_left (length (state old.rows).calls) + 3
-    → EntersBy t shard f old new
+    → LocksFit old → EntersBy t shard f old new
     → steps_left (state new.rows) t + phase_left (length (state old.rows).calls) more f + 1 ≤ steps_left
     (state old.rows) t + call_left (length (state old.rows).calls)
-entered_costs t shard more (phase.Admit r) old new few h =
-    omega (arith, h.became.costs, wanted_most (length (state old.rows).calls) (request_tries r) (mode_of r))
-entered_costs t shard more (phase.Reach f) old new few h = absurd (omega (arith, few))
-entered_costs t shard more phase.Rest old new few same =
+entered_costs t shard more (phase.Admit r) old new few fit h =
+    omega (
+      arith,
+      (lawful-begins t shard _ old new fit h).costs,
+      wanted_most (length (state old.rows).calls) (request_tries r) (mode_of r),
+    )
+entered_costs t shard more (phase.Reach f) old new few fit h = absurd (omega (arith, few))
+entered_costs t shard more phase.Rest old new few fit same =
     omega (arith, few, ap (λ (l : Shown). steps_left (state l.rows) t) same)
-entered_costs t shard more (phase.Find r) old new few same =
+entered_costs t shard more (phase.Find r) old new few fit same =
     omega (arith, few, ap (λ (l : Shown). steps_left (state l.rows) t) same)
-entered_costs t shard more (phase.Grow c) old new few same =
+entered_costs t shard more (phase.Grow c) old new few fit same =
     omega (arith, few, ap (λ (l : Shown). steps_left (state l.rows) t) same)
-entered_costs t shard more (phase.Append k v) old new few same =
+entered_costs t shard more (phase.Append k v) old new few fit same =
     omega (arith, few, ap (λ (l : Shown). steps_left (state l.rows) t) same)
-entered_costs t shard more (phase.Apply k) old new few same =
+entered_costs t shard more (phase.Apply k) old new few fit same =
     omega (arith, few, ap (λ (l : Shown). steps_left (state l.rows) t) same)
-entered_costs t shard more (phase.View k d) old new few same =
+entered_costs t shard more (phase.View k d) old new few fit same =
     omega (arith, few, ap (λ (l : Shown). steps_left (state l.rows) t) same)
-entered_costs t shard more (phase.Read d) old new few same =
+entered_costs t shard more (phase.Read d) old new few fit same =
     omega (arith, few, ap (λ (l : Shown). steps_left (state l.rows) t) same)
-entered_costs t shard more (phase.Change h) old new few same =
+entered_costs t shard more (phase.Change h) old new few fit same =
     omega (arith, few, ap (λ (l : Shown). steps_left (state l.rows) t) same)
-entered_costs t shard more (phase.Fill v) old new few same =
+entered_costs t shard more (phase.Fill v) old new few fit same =
     omega (arith, few, ap (λ (l : Shown). steps_left (state l.rows) t) same)
-entered_costs t shard more phase.Downgrade old new few same =
+entered_costs t shard more phase.Downgrade old new few fit same =
     omega (arith, few, ap (λ (l : Shown). steps_left (state l.rows) t) same)
-entered_costs t shard more (phase.Idle f) old new few same =
+entered_costs t shard more (phase.Idle f) old new few fit same =
     omega (arith, few, ap (λ (l : Shown). steps_left (state l.rows) t) same)
-entered_costs t shard more (phase.Part f) old new few same =
+entered_costs t shard more (phase.Part f) old new few fit same =
     omega (arith, few, ap (λ (l : Shown). steps_left (state l.rows) t) same)
-entered_costs t shard more (phase.Visit f) old new few same =
+entered_costs t shard more (phase.Visit f) old new few fit same =
     omega (arith, few, ap (λ (l : Shown). steps_left (state l.rows) t) same)
-entered_costs t shard more (phase.Seek f) old new few same =
+entered_costs t shard more (phase.Seek f) old new few fit same =
     omega (arith, few, ap (λ (l : Shown). steps_left (state l.rows) t) same)
-entered_costs t shard more (phase.Item f) old new few same =
+entered_costs t shard more (phase.Item f) old new few fit same =
     omega (arith, few, ap (λ (l : Shown). steps_left (state l.rows) t) same)
-entered_costs t shard more (phase.Give f) old new few same =
+entered_costs t shard more (phase.Give f) old new few fit same =
     omega (arith, few, ap (λ (l : Shown). steps_left (state l.rows) t) same)
-entered_costs t shard more (phase.Onward f) old new few same =
+entered_costs t shard more (phase.Onward f) old new few fit same =
     omega (arith, few, ap (λ (l : Shown). steps_left (state l.rows) t) same)
-entered_costs t shard more (phase.Release a) old new few same =
+entered_costs t shard more (phase.Release a) old new few fit same =
     omega (arith, few, ap (λ (l : Shown). steps_left (state l.rows) t) same)
-entered_costs t shard more (phase.Answer a) old new few same =
+entered_costs t shard more (phase.Answer a) old new few fit same =
     omega (arith, few, ap (λ (l : Shown). steps_left (state l.rows) t) same)
 
 -- THE SUMS OF A STEP

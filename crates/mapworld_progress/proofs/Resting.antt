@@ -20,12 +20,11 @@ use Rattle.parking_lot_machine_calls.specs.declared.seat.Hold.{Hold as LockHold}
 use Rattle.parking_lot_machine_calls.specs.declared.open_call.Call.{Call}
 use Rattle.parking_lot_machine_calls.specs.CallViews.{rw_mode}
 use Rattle.parking_lot_machine.specs.RowFits.{Seated}
-use Rattle.parking_lot_machine.specs.Rows.{call_at, first_key, hold_at, inside, lock_at, queue_at, rw_lock_at}
+use Rattle.parking_lot_machine.specs.Rows.{call_at, first_key, hold_at, inside, queue_at, rw_lock_at}
 use Rattle.parking_lot_machine.specs.Rows.{rw_role_at, rw_role_in, second_key, state, taken_by, word_at}
 use Rattle.parking_lot_machine_calls.specs.CallRoles.{owned_of}
 use Rattle.parking_lot_machine.specs.Rows as rows
 use Rattle.parking_lot_machine.specs.SoundLaws.{Always, SomebodyCanMove}
-use Rattle.parking_lot_machine.specs.Worlds.{mode_in}
 use Rattle.mapworld_calls.specs.Setup.{Setup, session_of}
 use Rattle.mapworld_state.specs.Locks.Seats.{guards_of, is_of, seat_of}
 use Rattle.mapworld_state.specs.Locks.Stands.{stand_in, stand_of}
@@ -179,8 +178,7 @@ module _ {K V S D T A : Type 0} (machine : Always SomebodyCanMove) (x : Setup K 
         let idle : rw_role_at s shard t ≡ record { owns = owned_of (hold_at s t shard); does = Idle } =
         ap (rw_role_in shard (taken_by s.wakes t) (hold_at s t shard)) (out t) in
         let mode : held_as (rw_mode r) ≡ None =
-        sym (ap (λ l. held_as (mode_in l t)) (is_rw s whole.locks.plain.kinds shard)
-        ∙ ap (λ o. held_as (option_and_then rw_mode o)) there) ∙ owners shard t in
+        sym (ap (λ o. held_as (option_and_then rw_mode o)) there) ∙ owners shard t in
         here ∙ (idle ∙ gone (hold_at s t shard) (sym (ap (λ q. held_as (rw_mode q)) (here ∙ idle)) ∙ mode))
 
     sound : IsSound (rw_lock_at s shard)

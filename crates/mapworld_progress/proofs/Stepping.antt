@@ -9,6 +9,7 @@ use Rattle.mapworld_calls.specs.Setup.{Setup, Laws}
 use Rattle.parking_lot_machine_calls.specs.declared.calls.LockCall.TheVariants as call
 use Rattle.parking_lot_machine.specs.Ranks.{steps_left}
 use Rattle.parking_lot_machine.specs.Rows.{state}
+use Rattle.mapworld_state.specs.Locks.Fits.{LocksFit}
 use Rattle.mapworld_state.specs.Locks.Views.{Shown}
 use Rattle.mapworld_state.specs.declared.step.Step.{Step}
 use Rattle.mapworld_state.specs.Core.{adds}
@@ -21,6 +22,7 @@ use Rattle.mapworld_state.specs.State.{State}
 use Rattle.mapworld_state.specs.Steps.{Answers, Appends, Applies, Changes, Downgrades, Fills, Finds, GrowsShard}
 use Rattle.mapworld_state.specs.Steps.{IsRefusedGrowth, MovesLock, Reads, Releases, Views}
 use Rattle.mapworld_progress.specs.Left.{left, phase_left}
+use Rattle.mapworld_state.proofs.LocksFacts.Lawful.{lawful-moves}
 use Rattle.mapworld_progress.proofs.Counting.{fresh-added, fresh-alike, fresh-put}
 use Rattle.mapworld_progress.proofs.Coming.{TablesBy, same, one, StaysVisited, adds-most, seen-counted, seen-ended}
 use Rattle.mapworld_progress.proofs.Coming.{seen-listed, seen-same}
@@ -208,8 +210,8 @@ module _ {K V S D T A : Type 0} (x : Setup K V D T) (laws : Laws x) (w : State K
       (seen-ended x.eq w.blocks h.place.block h.place.visits h.place.next _ h.blocks h.ended))
       (locks-are w' _ h.after) refl refl (omega (arith, ap (phase_left m (more h.place)) h.before))
 
-  pub moves_fall : MovesLock x w s w' → Falls
-  moves_fall h =
+  pub moves_fall : LocksFit w.locks → MovesLock x w s w' → Falls
+  moves_fall fit h =
       let still : w'.blocks ≡ w.blocks = blocks-are w' _ h.after in
       let tables = same (tables-are w' _ h.after) in
       let seen = seen-same x.eq w.blocks w'.blocks still in
@@ -217,16 +219,16 @@ module _ {K V S D T A : Type 0} (x : Setup K V D T) (laws : Laws x) (w : State K
       (omega (
         arith,
         at-lock s.thread h.locks w'.locks (locks-are w' _ h.after),
-        h.moves.steps.pays,
+        (lawful-moves s.thread s.fair w.locks h.locks fit h.moves).pays,
         own-todo x laws w w' s.thread h.place h.place h.stands (places-are w' _ h.after) 0 tables (omega arith) seen
             h.place h.place.phase,
       ))
 
   -- those that begin a call at a lock, whose threads are the places
-  module _ (size : length (state w.locks.rows).calls ≡ m) where
+  module _ (size : length (state w.locks.rows).calls ≡ m) (fit : LocksFit w.locks) where
     pub downgrades_fall : Downgrades x w s w' → Falls
     downgrades_fall h =
-        let paid = started_costs s.thread h.hold.shard call.Downgrade s.fair w.locks h.locks h.turns in
+        let paid = started_costs s.thread h.hold.shard call.Downgrade s.fair w.locks h.locks fit h.turns in
         falls_plain x laws w w' s.thread h.place _ h.stands (places-are w' _ h.after) 0 (same (tables-are w' _ h.after))
         (omega (arith, ap adds h.before))
         (seen-to x.eq w.blocks h.blocks w'.blocks (blocks-are w' _ h.after)
@@ -242,7 +244,7 @@ module _ {K V S D T A : Type 0} (x : Setup K V D T) (laws : Laws x) (w : State K
     pub releases_fall : Releases x w s w' → Falls
     releases_fall h =
         let n = length (state w.locks.rows).calls in
-        let paid = started_costs s.thread h.hold.shard (gives_up h.hold.mode) s.fair w.locks h.locks h.gives in
+        let paid = started_costs s.thread h.hold.shard (gives_up h.hold.mode) s.fair w.locks h.locks fit h.gives in
         falls_plain x laws w w' s.thread h.place _ h.stands (places-are w' _ h.after) 0 (same (tables-are w' _ h.after))
         (omega (arith, ap adds h.before))
         (seen-to x.eq w.blocks h.blocks w'.blocks (blocks-are w' _ h.after)

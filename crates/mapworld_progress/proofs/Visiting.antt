@@ -18,6 +18,7 @@ use Rattle.mapworld_state.specs.declared.place.Phase.{Phase}
 use Rattle.mapworld_state.specs.declared.place.Phase.TheVariants as phase
 use Rattle.mapworld_state.specs.Core.{adds, may_add}
 use Rattle.mapworld_state.specs.Holds.{gives_up}
+use Rattle.mapworld_state.specs.Locks.Fits.{LocksFit}
 use Rattle.mapworld_state.specs.Places.{Place}
 use Rattle.mapworld_state.specs.Shards.{ShardPairs, Puts, number_of}
 use Rattle.mapworld_state.specs.State.{State}
@@ -25,6 +26,7 @@ use Rattle.mapworld_state.specs.Steps.{DoesItem, GivesBack, IsRefusedVisit, Look
 use Rattle.mapworld_state.specs.Walks.{IsItemOf, IsLookedAt, LeadsOn, hands_over, is_visited, walk_mode}
 use Rattle.mapworld_progress.specs.Left.{fresh, fresh_of, items_at, left, pairs_from, phase_left, phase_todo}
 use Rattle.mapworld_progress.specs.Left.{release_left, to_come, visit_left, visited_by, block_at}
+use Rattle.mapworld_state.proofs.LocksFacts.Lawful.{lawful-begins}
 use Rattle.mapworld_progress.proofs.Counting.{fresh-all, fresh-alike, fresh-done, fresh-put, visited-more}
 use Rattle.mapworld_progress.proofs.Coming.{TablesBy, same, one, pairs-above, pairs-at, seen-push, seen-same, seen-set}
 use Rattle.mapworld_progress.proofs.Falling.{asked_most, falls_beside, falls_by, given_most, own-behind, own-todo}
@@ -102,8 +104,8 @@ module _ {K V S D T A : Type 0} (x : Setup K V D T) (laws : Laws x) (w : State K
   Falls = left x w' s.thread + 1 ≤ left x w s.thread
 
   -- a walk goes on to a shard that is there
-  pub goes_fall : (h : StartsVisit x w s w') → h.place.shard + 1 < length w.tables → Falls
-  goes_fall h rises =
+  pub goes_fall : LocksFit w.locks → (h : StartsVisit x w s w') → h.place.shard + 1 < length w.tables → Falls
+  goes_fall fit h rises =
       let p = h.place in
       let p' : Place K V D T A = record p { shard = p.shard + 1; phase = phase.Reach h.walk } in
       let tables : TablesBy x.eq w.tables w'.tables 0 = same (tables-are w' _ h.after) in
@@ -117,7 +119,7 @@ module _ {K V S D T A : Type 0} (x : Setup K V D T) (laws : Laws x) (w : State K
       (omega (
         arith,
         at-lock s.thread h.locks w'.locks (locks-are w' _ h.after),
-        h.begins.became.costs,
+        (lawful-begins s.thread (h.place.shard + 1) _ w.locks h.locks fit h.begins).costs,
         asked_most (length (state w.locks.rows).calls) (walk_mode h.walk),
         ap (phase_left m (more p)) h.before,
         ap (phase_todo x w p) h.before,
@@ -126,13 +128,13 @@ module _ {K V S D T A : Type 0} (x : Setup K V D T) (laws : Laws x) (w : State K
         visits,
       ))
 
-  module _ (size : length (state w.locks.rows).calls ≡ m) where
+  module _ (size : length (state w.locks.rows).calls ≡ m) (fit : LocksFit w.locks) where
     pub parts_fall : GivesBack x w s w' phase.Part phase.Visit → Falls
     parts_fall h =
         let p = h.place in
         let p' : Place K V D T A = record p { holds = h.more; phase = phase.Visit h.walk } in
         let n = length (state w.locks.rows).calls in
-        let paid = started_costs s.thread h.hold.shard (gives_up h.hold.mode) s.fair w.locks h.locks h.gives in
+        let paid = started_costs s.thread h.hold.shard (gives_up h.hold.mode) s.fair w.locks h.locks fit h.gives in
         let tables : TablesBy x.eq w.tables w'.tables 0 = same (tables-are w' _ h.after) in
         let seen = seen-same x.eq w.blocks w'.blocks (blocks-are w' _ h.after) in
         let adding : may_add p' + 0 ≤ may_add p = omega (arith, ap adds h.before) in
@@ -153,7 +155,7 @@ module _ {K V S D T A : Type 0} (x : Setup K V D T) (laws : Laws x) (w : State K
         let p = h.place in
         let p' : Place K V D T A = record p { holds = h.more; phase = phase.Onward h.walk } in
         let n = length (state w.locks.rows).calls in
-        let paid = started_costs s.thread h.hold.shard (gives_up h.hold.mode) s.fair w.locks h.locks h.gives in
+        let paid = started_costs s.thread h.hold.shard (gives_up h.hold.mode) s.fair w.locks h.locks fit h.gives in
         let tables : TablesBy x.eq w.tables w'.tables 0 = same (tables-are w' _ h.after) in
         let seen = seen-same x.eq w.blocks w'.blocks (blocks-are w' _ h.after) in
         let adding : may_add p' + 0 ≤ may_add p = omega (arith, ap adds h.before) in

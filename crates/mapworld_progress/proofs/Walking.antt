@@ -15,6 +15,7 @@ use Rattle.mapworld_state.specs.declared.step.Step.{Step}
 use Rattle.mapworld_state.specs.declared.place.Phase.{Phase}
 use Rattle.mapworld_state.specs.declared.place.Phase.TheVariants as phase
 use Rattle.mapworld_state.specs.Core.{is_walk, may_add}
+use Rattle.mapworld_state.specs.Locks.Fits.{LocksFit}
 use Rattle.mapworld_state.specs.Moves.{start_guard, start_phase, start_shard, start_counts, stops_at, is_last}
 use Rattle.mapworld_state.specs.Places.{Place}
 use Rattle.mapworld_state.specs.State.{State, next_step}
@@ -22,6 +23,7 @@ use Rattle.mapworld_state.specs.Steps.{EntersBy, Starts}
 use Rattle.mapworld_state.specs.Walks.{walk_mode}
 use Rattle.mapworld_progress.specs.Left.{ask_left, call_left, left, pairs_from, phase_left, phase_todo, release_left}
 use Rattle.mapworld_progress.specs.Left.{to_come, visit_left}
+use Rattle.mapworld_state.proofs.LocksFacts.Lawful.{lawful-begins}
 use Rattle.mapworld_progress.proofs.Coming.{TablesBy, same, StaysVisited, adds-most, seen-counted}
 use Rattle.mapworld_progress.proofs.Falling.{asked_most, entered_costs, falls, held_plain, held_takes, own-behind}
 use Rattle.mapworld_progress.proofs.Stepping.{at-lock, blocks-are, locks-are, places-are, seen-to, tables-are}
@@ -98,12 +100,13 @@ module _ {K V S D T A : Type 0} (x : Setup K V D T) (laws : Laws x) (w : State K
             → c * (pairs_from w'.tables 0 + to_come w'.places) ≤ c * all
         asks-rest c le = mul-le c (pairs_from w'.tables 0 + to_come w'.places) c all (omega arith) le
 
-    plain-start : (few : phase_left (length (state w.locks.rows).calls) more f ≤ release_left
+    plain-start : (fit : LocksFit w.locks) (few : phase_left (length (state w.locks.rows).calls) more f ≤ release_left
         (length (state w.locks.rows).calls) + 3) → ask_left m (length w.tables) a ≡ call_left m
         → phase_todo x w' p' f ≡ 0 → left x w' s.thread + 1 ≤ left x w s.thread
-    plain-start few cost none =
+    plain-start fit few cost none =
         let n = length (state w.locks.rows).calls in
-        let paid = entered_costs s.thread (start_shard x.route h.ask p.shard) more f w.locks h.locks few h.enters in
+        let paid = entered_costs s.thread (start_shard x.route h.ask p.shard) more f w.locks h.locks few fit h.enters
+        in
         let same : phase_left n more f ≡ phase_left m more f = ap (λ k. phase_left k more f) size in
         let calls : call_left n ≡ call_left m = ap call_left size in
         started (omega (
@@ -116,8 +119,8 @@ module _ {K V S D T A : Type 0} (x : Setup K V D T) (laws : Laws x) (w : State K
           none,
         ))
 
-    walk-start : (g : Walk D) → a ≡ ask.Walk g → left x w' s.thread + 1 ≤ left x w s.thread
-    walk-start g walks = elim (cases_Bool (stops_at (stop_of g) 0)) [
+    walk-start : LocksFit w.locks → (g : Walk D) → a ≡ ask.Walk g → left x w' s.thread + 1 ≤ left x w s.thread
+    walk-start fit g walks = elim (cases_Bool (stops_at (stop_of g) 0)) [
       | inl none ↦
           let idle : f ≡ phase.Idle g = leads ∙ ap (λ (b : Bool). if b then phase.Idle g else phase.Reach g) none in
           let locks : h.locks ≡ w.locks =
@@ -142,7 +145,7 @@ module _ {K V S D T A : Type 0} (x : Setup K V D T) (laws : Laws x) (w : State K
           started (omega (
             arith,
             at-lock s.thread h.locks w'.locks (locks-are w' _ h.after),
-            begins.became.costs,
+            (lawful-begins s.thread (start_shard x.route h.ask p.shard) _ w.locks h.locks fit begins).costs,
             asked_most (length (state w.locks.rows).calls) (walk_mode g),
             ap (phase_left m more) reach,
             ap (phase_todo x w' p') reach,
@@ -157,15 +160,16 @@ module _ {K V S D T A : Type 0} (x : Setup K V D T) (laws : Laws x) (w : State K
         leads : f ≡ (if stops_at (stop_of g) 0 then phase.Idle g else phase.Reach g)
         leads = ap (λ (z : Ask K V D). start_phase z p.guard) (is ∙ walks)
 
-  pub starts_fall : length (state w.locks.rows).calls ≡ m → Starts x w s w' → left x w' s.thread + 1 ≤ left x w s.thread
-  starts_fall size h = by h.ask refl
+  pub starts_fall : length (state w.locks.rows).calls ≡ m → LocksFit w.locks → Starts x w s w'
+      → left x w' s.thread + 1 ≤ left x w s.thread
+  starts_fall size fit h = by h.ask refl
     where
       n : ℕ
       n = length (state w.locks.rows).calls
 
       by : (a : Ask K V D) → h.ask ≡ a → left x w' s.thread + 1 ≤ left x w s.thread
       by (ask.Keyed k) is =
-          plain-start h size (ask.Keyed k) is
+          plain-start h size (ask.Keyed k) is fit
           (omega (
             arith,
             ap
@@ -174,7 +178,7 @@ module _ {K V S D T A : Type 0} (x : Setup K V D T) (laws : Laws x) (w : State K
           )) refl
           (ap (λ (z : Ask K V D). phase_todo x w' (p' h size (ask.Keyed k) is) (start_phase z h.place.guard)) is)
       by (ask.Begin b) is =
-          plain-start h size (ask.Begin b) is
+          plain-start h size (ask.Begin b) is fit
           (omega (
             arith,
             ap
@@ -183,7 +187,7 @@ module _ {K V S D T A : Type 0} (x : Setup K V D T) (laws : Laws x) (w : State K
           )) refl
           (ap (λ (z : Ask K V D). phase_todo x w' (p' h size (ask.Begin b) is) (start_phase z h.place.guard)) is)
       by (ask.Held c) is =
-          plain-start h size (ask.Held c) is
+          plain-start h size (ask.Held c) is fit
           (omega (
             arith,
             ap (λ (z : Ask K V D). phase_left (length (state w.locks.rows).calls) (more h size (ask.Held c) is)
@@ -193,4 +197,4 @@ module _ {K V S D T A : Type 0} (x : Setup K V D T) (laws : Laws x) (w : State K
           refl
           (ap (λ (z : Ask K V D). phase_todo x w' (p' h size (ask.Held c) is) (start_phase z h.place.guard)) is
           ∙ held_plain x w' (p' h size (ask.Held c) is) h.place.guard c)
-      by (ask.Walk g) is = walk-start h size (ask.Walk g) is g refl
+      by (ask.Walk g) is = walk-start h size (ask.Walk g) is fit g refl

@@ -13,6 +13,7 @@ pub mod Taken
 pub mod Keeping
 pub mod Together
 pub mod Ending
+pub mod Acted
 pub mod Answering
 pub mod Standing
 pub mod Beginning
@@ -20,7 +21,9 @@ pub mod Stepping
 pub mod Following
 pub mod Finishing
 pub mod Starting
+pub mod Lawful
 pub mod Making
+pub mod Fresh
 pub mod Sizes
 pub mod Touching
 pub mod Weighing

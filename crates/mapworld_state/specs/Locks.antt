@@ -8,3 +8,4 @@ pub mod Steps
 pub mod Fresh
 pub mod Footprints
 pub mod Counts
+pub mod Lawful

@@ -50,28 +50,10 @@ guarded_key x bs block = option_and_then (λ i. option_and_then (block_key x) (s
 
 -- a call that needs its shard begins the call of the shard's lock; one on a guard has its shard
 abbrev pub EntersBy : {K V D T A : Type 0} → ℕ → ℕ → Phase K V D T A → Shown → Shown → Type 0
-EntersBy t shard phase.Rest locks locks' = locks' ≡ locks
 EntersBy t shard (phase.Admit r) locks locks' = LockBegins t shard (wants_for (request_tries r) (mode_of r)) locks
     locks'
 EntersBy t shard (phase.Reach f) locks locks' = LockBegins t shard (asks_for (walk_mode f)) locks locks'
-EntersBy t shard (phase.Idle f) locks locks' = locks' ≡ locks
-EntersBy t shard (phase.Part f) locks locks' = locks' ≡ locks
-EntersBy t shard (phase.Visit f) locks locks' = locks' ≡ locks
-EntersBy t shard (phase.Seek f) locks locks' = locks' ≡ locks
-EntersBy t shard (phase.Item f) locks locks' = locks' ≡ locks
-EntersBy t shard (phase.Give f) locks locks' = locks' ≡ locks
-EntersBy t shard (phase.Onward f) locks locks' = locks' ≡ locks
-EntersBy t shard (phase.Find r) locks locks' = locks' ≡ locks
-EntersBy t shard (phase.Grow c) locks locks' = locks' ≡ locks
-EntersBy t shard (phase.Append k v) locks locks' = locks' ≡ locks
-EntersBy t shard (phase.Apply k) locks locks' = locks' ≡ locks
-EntersBy t shard (phase.View k d) locks locks' = locks' ≡ locks
-EntersBy t shard (phase.Read d) locks locks' = locks' ≡ locks
-EntersBy t shard (phase.Change h) locks locks' = locks' ≡ locks
-EntersBy t shard (phase.Fill v) locks locks' = locks' ≡ locks
-EntersBy t shard phase.Downgrade locks locks' = locks' ≡ locks
-EntersBy t shard (phase.Release a) locks locks' = locks' ≡ locks
-EntersBy t shard (phase.Answer a) locks locks' = locks' ≡ locks
+EntersBy t shard other locks locks' = locks' ≡ locks
 
 -- An admission is over: the call of the shard's lock is answered, and the place has the hold. It is part of the step
 -- that comes next.

@@ -53,9 +53,9 @@ pub mod RwKeeping
 pub mod RwCrossing
 mod Passing
 mod Starting
-mod Acting
-mod Requesting
-mod Stepping
+pub mod Acting
+pub mod Requesting
+pub mod Stepping
 mod TakeJoins
 mod TakeParts
 mod Wanting
@@ -69,7 +69,7 @@ mod Settling
 mod Telling
 mod MutexTelling
 mod Rousing
-mod Resting
+pub mod Resting
 mod Resuming
 mod TellActs
 pub mod RwTelling

@@ -7,14 +7,13 @@ use Rattle.std.specs.Option.{option_map, option_map_or, unwrap_or}
 use Rattle.std.proofs.lemmas.Bool.{cases_Bool, cases_eq, cases_lt, false≢true, and_from, eqb-true, cond-true}
 use Rattle.std.proofs.lemmas.Bool.{cond-false, lt-ltb}
 use Rattle.std.proofs.lemmas.List.{length-set}
-use Rattle.std.proofs.lemmas.Option.{none-some, same_Some, slice_get-get_or, slice_get_within}
+use Rattle.std.proofs.lemmas.Option.{none-some, same_Some, slice_get-get_or}
 use Rattle.lock_api_desk.specs.declared.mode.Mode.{Mode}
 use Rattle.lock_api_desk.specs.declared.mode.Mode.TheVariants as held
 use Rattle.parking_lot_protocol.specs.declared.act.ActResult.{ActResult}
-use Rattle.parking_lot_protocol.specs.declared.rw_phase.LockMode.TheVariants as want
 use Rattle.parking_lot_rules.specs.Owners.{Reading}
 use Rattle.parking_lot_rules.specs.Roles.{Idle}
-use Rattle.parking_lot_machine_calls.specs.Kinds.{AsRw, is_manner, kind_in, recursive_in}
+use Rattle.parking_lot_machine_calls.specs.Kinds.{AsRw, is_manner, kind_in}
 use Rattle.parking_lot_machine_calls.specs.declared.calls.LockCall.{LockCall}
 use Rattle.parking_lot_machine_calls.specs.declared.calls.LockKind.{LockKind}
 use Rattle.parking_lot_machine_calls.specs.declared.calls.LockKind.TheVariants as kind
@@ -27,7 +26,7 @@ use Rattle.parking_lot_machine_calls.specs.Calls.{is_timed, manner_for, takes}
 use Rattle.parking_lot_machine_calls.specs.CallViews.{mode_of, rw_mode}
 use Rattle.parking_lot_machine.specs.Machines.{IsBegun, call_for, may_begin}
 use Rattle.parking_lot_machine_calls.specs.CallActs.{hears}
-use Rattle.parking_lot_machine.specs.RowFits.{FitsTogether, Asks, IsPrepared}
+use Rattle.parking_lot_machine.specs.RowFits.{FitsTogether}
 use Rattle.parking_lot_machine.specs.Rows.{Rows, State, call_at, hold_at, rw_role_at, rw_role_in, state, taken_by}
 use Rattle.parking_lot_machine_calls.specs.CallRoles.{owned_of, rw_core_role}
 use Rattle.parking_lot_machine_calls.specs.Stances.{core_next}
@@ -38,10 +37,9 @@ use Rattle.mapworld_state.specs.Locks.Seats.{seat_of}
 use Rattle.mapworld_state.specs.Locks.Stands.{is_try, needs, stand_of, is_of_shards}
 use Rattle.mapworld_state.specs.Locks.Steps.{LockBegins, MayAsk}
 use Rattle.mapworld_state.specs.Locks.Views.{Shown, held_as, held_at}
-use Rattle.mapworld_state.proofs.LocksFacts.Calls.{call_of, slot}
+use Rattle.mapworld_state.proofs.LocksFacts.Calls.{call_of}
 use Rattle.parking_lot_rules.proofs.Slots.{set_elsewhere}
 use Rattle.mapworld_state.proofs.LocksFacts.Ending.{held_by_role, idle_mode}
-use Rattle.mapworld_state.proofs.LocksFacts.Handing.{not_recursive}
 use Rattle.mapworld_state.proofs.LocksFacts.Lists.{all_at}
 use Rattle.mapworld_state.proofs.LocksFacts.Standing.{set_low}
 use Rattle.mapworld_state.proofs.LocksFacts.Together.{holders_are_threads}
@@ -405,7 +403,8 @@ module _ (old : Shown) (fit : LocksFit old) (t i : ℕ) (call : LockCall) (ask :
 
     pub begins : LockBegins t i call old new
     begins = record {
-      became = x;
+      may = ask;
+      became = x.became;
       whole = record { threads = count; kinds = kinds_same };
       desks = refl;
       stand = ap (option_map stand_of) here
@@ -413,34 +412,3 @@ module _ (old : Shown) (fit : LocksFit old) (t i : ℕ) (call : LockCall) (ask :
       others = λ v ne. ap (option_map stand_of) (apart v ne);
       holds = holds;
     }
-
--- Whoever begins a call has no hold beside the one that it is about: only a reader of a recursive lock asks for a
--- further one.
-pub begun_alone : (s u : State) (t i : ℕ) (call : LockCall) → All (λ k. k ≡ kind.Rw) s.kinds
-    → All (λ h. is_single h ≡ true) s.holds → (d : Call) → call_at u t ≡ Some d → IsBegun t i call s u
-    → holds_beside call (hold_at s t i) ≡ 0
-begun_alone s u t i call rws single d at x = by call refl
-  where
-    h : Hold
-    h = hold_at s t i
-
-    low : t < length s.calls
-    low = subst (λ n. t < n) (ap (λ (w : State). length w.calls) x.became ∙ length-set s.calls t _)
-        (slice_get_within u.calls t (Some d) (slot u.calls t d at))
-
-    here : call_at u t ≡ Some (hears (call_for s t i call) ActResult.Start)
-    here = ap (λ (w : State). call_at w t) x.became ∙ set_low s.calls t _ low
-
-    asks : (c : LockCall) → call ≡ c → IsPrepared (recursive_in u.kinds i) (holds_beside c h)
-        (core_next (core_of (kind_in s.kinds i) c) ActResult.Start)
-    asks c e = subst (λ k. IsPrepared (recursive_in u.kinds i) (holds_beside k h)
-        (core_next (core_of (kind_in s.kinds i) k) ActResult.Start)) e (x.acts.fits.rules.prepared t _ here)
-
-    alone : (r : Bool) → r ≡ false → Asks (recursive_in u.kinds i) (shares_of h) (want.Shared r) → shares_of h ≡ 0
-    alone r e a = subst (λ b. Asks (recursive_in u.kinds i) (shares_of h) (want.Shared b)) e a
-
-    by : (c : LockCall) → call ≡ c → holds_beside c h ≡ 0
-    by LockCall.Read e = alone (recursive_in s.kinds i) (not_recursive s i rws) (asks LockCall.Read e).1
-    by LockCall.TryRead e = alone (recursive_in s.kinds i) (not_recursive s i rws) (asks LockCall.TryRead e).1
-    by LockCall.ReadUntil e = alone (recursive_in s.kinds i) (not_recursive s i rws) (asks LockCall.ReadUntil e).1
-    by c e = single_less h (single_hold s t i single)

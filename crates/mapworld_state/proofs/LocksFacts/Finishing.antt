@@ -29,6 +29,7 @@ use Rattle.mapworld_state.specs.Locks.Fits.{IsPlain, LocksFit, is_plain}
 use Rattle.mapworld_state.specs.Locks.Stands.{core_aim, core_tries, is_trying, stand_of}
 use Rattle.mapworld_state.specs.Locks.Steps.{LockEnds}
 use Rattle.mapworld_state.specs.Locks.Views.{Shown, held_as, held_at}
+use Rattle.mapworld_state.proofs.LocksFacts.Acted.{acted}
 use Rattle.mapworld_state.proofs.LocksFacts.Answering.{answer_leaves_holds, is_answer, stepped_fits}
 use Rattle.mapworld_state.proofs.LocksFacts.Beginning.{same_holds}
 use Rattle.mapworld_state.proofs.LocksFacts.Calls.{slot, stepped_goes}
@@ -203,7 +204,7 @@ module _ (laws : StepsAreCases) (old : Shown) (fit : LocksFit old) (t : ℕ) (ro
     stand = stand_of c;
     stood = ap (option_map stand_of) x.here;
     over = ap (option_and_then (λ (y : Call). end_of (core_act y.core))) x.here ∙ sym x.answers;
-    steps = x;
+    steps = acted x;
     whole = record {
       threads = (stepped_goes s u t false (Some answer) x).count;
       kinds = stepped_kinds s u t false (Some answer) fit.plain x;

@@ -1,12 +1,13 @@
 -- A step and its desk, as the code makes them: it looks at the call and at the hold before the step.
-use Rattle.std.proofs.Common.{◌≡◌, ℕ, ◌<◌, Bool, List, length, Option, Some, None, slice_get, slice_set, sym, ap, ◌∙◌}
+use Rattle.std.proofs.Common.{◌≡◌, ℕ, ◌<◌, Bool, true, List, length, Option, Some, None, slice_get, slice_set, sym, ap}
+use Rattle.std.proofs.Common.{◌∙◌}
 use Rattle.std.proofs.Common.{subst}
 use Rattle.std.proofs.lemmas.Option.{same_Some}
 use Rattle.lock_api_desk.specs.declared.mode.Mode.{Mode}
 use Rattle.lock_api_desk.specs.Desk.{DeskState}
 use Rattle.parking_lot_protocol.specs.declared.act.CoreAnswer.{CoreAnswer}
 use Rattle.parking_lot_machine_calls.specs.declared.open_call.Call.{Call}
-use Rattle.parking_lot_machine.specs.Machines.{IsStepped, ended}
+use Rattle.parking_lot_machine.specs.Machines.{IsStepped, can_move, ended}
 use Rattle.parking_lot_machine.specs.Rows.{Rows, State, call_at, state, taken_by}
 use Rattle.parking_lot_machine.specs.SoundLaws.{Always, OwnersAgree, StepsAreCases}
 use Rattle.mapworld_state.specs.Locks.Fits.{LocksFit}
@@ -62,5 +63,5 @@ module _ (laws : StepsAreCases) (agree : Always OwnersAgree) (old : Shown) (fit 
       pub fit_after : LocksFit (record { rows = rows; desks = desks })
       fit_after = stepped_fit laws agree old fit t fair rows x desk at_there desks set_there
 
-      pub moves_after : LockMoves t fair old (record { rows = rows; desks = desks })
-      moves_after = stepped_moves laws agree old fit t fair rows x desk at_there desks set_there
+      pub moves_after : can_move s t ≡ true → LockMoves t fair old (record { rows = rows; desks = desks })
+      moves_after can = stepped_moves laws agree old fit t fair rows x desk at_there desks set_there can

@@ -28,7 +28,7 @@ use Rattle.parking_lot_machine_calls.specs.CallRoles.{owned_of, rw_core_role}
 use Rattle.parking_lot_machine.specs.SoundLaws.{IsCaseAt, IsStepAt, StepsAreCases}
 use Rattle.parking_lot_machine_calls.specs.Stances.{Asleep, stance}
 use Rattle.parking_lot_machine.specs.Worlds.{mode_in}
-use Rattle.mapworld_state.specs.Locks.Views.{held_as, held_at}
+use Rattle.mapworld_state.specs.Locks.Views.{held_as, held_at, mode_at}
 use Rattle.mapworld_state.specs.Locks.Fits.{is_plain}
 use Rattle.mapworld_state.proofs.LocksFacts.Lists.{all_at, among_all}
 use Rattle.mapworld_state.proofs.LocksFacts.Owning.{IsHanded, mode_is_owned, mode_standing, others_stay, own_stays}
@@ -73,9 +73,13 @@ is_rw s all i = at (slice_get s.kinds i) refl
     at None e = ap (λ k. any_lock k s i) e
     at (Some k) e = ap (λ k. any_lock k s i) (e ∙ ap Some (all_at (λ k. k ≡ kind.Rw) s.kinds i k all e))
 
+-- so a thread owns it as it owns the lock of the rules
+pub mode_is : (s : State) → All (λ k. k ≡ kind.Rw) s.kinds → (i t : ℕ) → mode_at s i t ≡ mode_in (lock_at s i) t
+mode_is s all i t = sym (ap (λ l. mode_in l t) (is_rw s all i))
+
 pub held_is : (s : State) → All (λ k. k ≡ kind.Rw) s.kinds → (i t : ℕ)
     → held_at s i t ≡ held_as (owned_in (owners (rw_lock_at s i)).threads t)
-held_is s all i t = ap (λ l. held_as (mode_in l t)) (is_rw s all i) ∙ ap held_as (mode_is_owned (rw_lock_at s i) t)
+held_is s all i t = ap held_as (mode_is_owned (rw_lock_at s i) t)
 
 -- a step at a lock, of which nothing but the lock is known
 rw_case : (recursive : Bool) (t : ℕ) (l m : Lock) (a b : AnyLock) → recursive ≡ false → a ≡ Rw l → b ≡ Rw m
@@ -199,7 +203,8 @@ module _ (laws : StepsAreCases) (s u : State) (t : ℕ) (fair : Bool) (answer : 
 
   -- nothing changes at other locks
   pub elsewhere : (j v : ℕ) → j ≢ i → held_at u j v ≡ held_at s j v
-  elsewhere j v ne = ap (λ l. held_as (mode_in l v)) (at_lock.elsewhere j ne)
+  elsewhere j v ne = ap held_as (mode_is u next j v ∙ ap (λ l. mode_in l v) (at_lock.elsewhere j ne)
+      ∙ sym (mode_is s rws j v))
 
   handed : (v : ℕ) → v ≢ t → IsHanded t v (owners (rw_lock_at s i)).threads (owners (rw_lock_at u i)).threads
       → IsHandedOver t i v s u

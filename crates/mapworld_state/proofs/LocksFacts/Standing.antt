@@ -29,6 +29,7 @@ use Rattle.parking_lot_machine.specs.Rows.{State, call_at, is_by}
 use Rattle.parking_lot_machine_calls.specs.Stances.{Asleep, Stance, core_act, core_next, rw_stance, stance}
 use Rattle.parking_lot_machine.specs.TellLaws.{IsDue}
 use Rattle.mapworld_state.specs.Locks.Stands.{Stand, core_aim, core_tries, is_trying, stand_of}
+use Rattle.mapworld_state.specs.Locks.Steps.{HasActed}
 use Rattle.mapworld_state.proofs.LocksFacts.Aiming.{next_patient}
 use Rattle.mapworld_state.specs.Locks.Fits.{is_plain}
 use Rattle.mapworld_state.proofs.LocksFacts.Calls.{Hears, IsProper, call_of, late_is, map_of, next_keeps, set_nothing}
@@ -168,7 +169,7 @@ module _ (s : State) (t : ℕ) (c : Call) (low : t < length s.calls) where
   own_goes (Act.Done answer) fair u none e = absurd (none-some answer (sym none))
 
 -- A step that isn't an answer leaves its thread in its call.
-pub own_call : (s u : State) (t : ℕ) (fair : Bool) (x : IsStepped t fair None s u) → GoesOnBy x.call (call_at u t)
+pub own_call : (s u : State) (t : ℕ) (fair : Bool) (x : HasActed t fair None s u) → GoesOnBy x.call (call_at u t)
 own_call s u t fair x = own_goes s t x.call (slice_get_within s.calls t (Some x.call) (slot s.calls t x.call x.here))
     (core_act x.call.core) fair u (sym x.answers) x.became
 

@@ -21,15 +21,17 @@ use Rattle.parking_lot_machine_calls.specs.declared.seat.Core.{Core}
 use Rattle.parking_lot_machine_calls.specs.Beginnings.{core_of}
 use Rattle.parking_lot_machine_calls.specs.CallViews.{rw_mode}
 use Rattle.parking_lot_machine_calls.specs.LateCalls.{comes_late}
-use Rattle.parking_lot_machine.specs.Machines.{IsBegun, IsStepped, call_for, can_move, can_move_in, end_of, ended}
+use Rattle.parking_lot_machine.specs.Machines.{call_for, can_move, can_move_in, end_of, ended}
 use Rattle.parking_lot_machine.specs.Machines.{is_possible}
 use Rattle.parking_lot_machine_calls.specs.CallActs.{hears}
+use Rattle.parking_lot_machine.specs.RowActs.{begun}
 use Rattle.parking_lot_machine.specs.RowFits.{FitsTogether}
 use Rattle.parking_lot_machine.specs.Rows.{State, call_at, taken_by}
 use Rattle.parking_lot_machine_calls.specs.CallRoles.{rw_core_role, rw_spot}
 use Rattle.parking_lot_machine_calls.specs.Stances.{core_act, core_next}
 use Rattle.mapworld_state.specs.Locks.Fits.{IsPlain}
 use Rattle.mapworld_state.specs.Locks.Stands.{gives}
+use Rattle.mapworld_state.specs.Locks.Steps.{HasActed}
 use Rattle.mapworld_state.specs.Locks.Views.{held_as, held_at}
 use Rattle.mapworld_state.proofs.LocksFacts.Calls.{Hears, IsProper}
 use Rattle.mapworld_state.proofs.LocksFacts.Standing.{GoesOnBy, kept_proper, own_call, set_low}
@@ -40,10 +42,10 @@ or_else true e = refl
 or_else false e = e
 
 -- the call that it is in once it has begun
-pub begun_call : (s u : State) (t i : ℕ) (call : LockCall) → t < length s.calls → IsBegun t i call s u
-    → call_at u t ≡ Some (hears (call_for s t i call) ActResult.Start)
+pub begun_call : (s u : State) (t i : ℕ) (call : LockCall) → t < length s.calls
+    → u ≡ begun s t (call_for s t i call) → call_at u t ≡ Some (hears (call_for s t i call) ActResult.Start)
 begun_call s u t i call low x =
-    ap (λ (w : State). call_at w t) x.became ∙ set_low s.calls t (Some (hears (call_for s t i call) ActResult.Start))
+    ap (λ (w : State). call_at w t) x ∙ set_low s.calls t (Some (hears (call_for s t i call) ActResult.Start))
     low
 
 first_possible : (taken : ℕ → Bool) (x : LockKind) (call : LockCall) → gives call ≡ true
@@ -96,7 +98,8 @@ first_open x LockCall.WriteUntil is = absurd (false≢true is)
 first_open x LockCall.UpgradableUntil is = absurd (false≢true is)
 first_open x LockCall.UpgradeUntil is = absurd (false≢true is)
 
-module _ (s mid : State) (t i : ℕ) (call : LockCall) (low : t < length s.calls) (x : IsBegun t i call s mid) where
+module _ (s mid : State) (t i : ℕ) (call : LockCall) (low : t < length s.calls)
+    (x : mid ≡ begun s t (call_for s t i call)) where
   pub can_start : gives call ≡ true → can_move mid t ≡ true
   can_start is = ap (can_move_in mid) (begun_call s mid t i call low x)
       ∙ or_else _ (first_possible _ (kind_in s.kinds i) call is)
@@ -134,8 +137,8 @@ rw_heard k m c is (inl (told, core)) = (told, core ∙ ap (λ x. core_next x tol
 rw_heard k m c is (inr (by, handed, comes, core)) = absurd (false≢true (ap comes_late (sym is) ∙ comes))
 
 pub start_turns : (s mid u : State) (t i : ℕ) (call : LockCall) (fair : Bool) → t < length s.calls
-    → IsBegun t i call s mid → IsStepped t fair None mid u → FitsTogether u → IsPlain u → call ≡ LockCall.Downgrade
-    → held_at u i t ≡ Some held.Shared
+    → mid ≡ begun s t (call_for s t i call) → HasActed t fair None mid u → FitsTogether u → IsPlain u
+    → call ≡ LockCall.Downgrade → held_at u i t ≡ Some held.Shared
 start_turns s mid u t i call fair low begins x fits plain is =
     let own : GoesOnBy x.call (call_at u t) = own_call mid u t fair x in
     let begun : hears (call_for s t i call) ActResult.Start ≡ x.call =

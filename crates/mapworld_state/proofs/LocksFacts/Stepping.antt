@@ -20,7 +20,7 @@ use Rattle.parking_lot_machine_calls.specs.declared.calls.LockKind.TheVariants a
 use Rattle.parking_lot_machine_calls.specs.declared.open_call.Call.{Call}
 use Rattle.parking_lot_machine_calls.specs.declared.seat.Core.{Core}
 use Rattle.parking_lot_machine_calls.specs.CallViews.{rw_mode}
-use Rattle.parking_lot_machine.specs.Machines.{IsLawful, IsStepped, end_of, ended}
+use Rattle.parking_lot_machine.specs.Machines.{IsLawful, IsStepped, can_move, end_of, ended}
 use Rattle.parking_lot_machine.specs.RowFits.{FitsTogether, IsPrepared}
 use Rattle.parking_lot_machine_calls.specs.CallKinds.{IsOfKind}
 use Rattle.parking_lot_machine.specs.Rows.{Rows, State, call_at, hold_at, rw_role_at, rw_role_in, state, taken_by}
@@ -35,6 +35,7 @@ use Rattle.mapworld_state.specs.Locks.Stands.{Stand, core_aim, core_tries, stand
 use Rattle.mapworld_state.specs.Locks.Steps.{LockMoves}
 use Rattle.mapworld_state.specs.Locks.Views.{Shown, held_as, held_at}
 use Rattle.mapworld_state.proofs.LocksFacts.Admitting.{AllSeated, IsSeated, seats_all}
+use Rattle.mapworld_state.proofs.LocksFacts.Acted.{acted}
 use Rattle.mapworld_state.proofs.LocksFacts.Answering.{stepped_fits}
 use Rattle.mapworld_state.proofs.LocksFacts.Calls.{heard_keeps, IsProper, slot, stepped_goes}
 use Rattle.mapworld_state.proofs.LocksFacts.Ending.{held_by_role}
@@ -227,7 +228,7 @@ module _ (laws : StepsAreCases) (agree : Always OwnersAgree) (old : Shown) (fit 
 
   -- its call goes on
   own_goes : GoesOnBy c (call_at u t)
-  own_goes = own_call s u t fair x
+  own_goes = own_call s u t fair (acted x)
 
   abbrev d : Call
   d = own_goes.call
@@ -270,7 +271,7 @@ module _ (laws : StepsAreCases) (agree : Always OwnersAgree) (old : Shown) (fit 
     moves : Moves (held_at s i) (held_at u i) (length u.calls) t desk
     moves = record {
       seated = desk_fit.seated;
-      together = go_together u i (agree u fits);
+      together = go_together u i plain.kinds (agree u fits);
       low = λ v m e. holders_are_threads u i plain.kinds v m e;
       room = omega (arith, desk_fit.room, count);
       limit = omega (arith, desk_fit.limit, count);
@@ -355,7 +356,7 @@ module _ (laws : StepsAreCases) (agree : Always OwnersAgree) (old : Shown) (fit 
         plain = plain;
         count = ap length is ∙ length-set old.desks i after ∙ fit.count ∙ ap length (sym kinds_same);
         desks_fit = λ j y e. desk_fits j y (ap (λ ds. slice_get ds j) (sym is) ∙ e);
-        together = λ j. go_together u j (agree u fits);
+        together = λ j. go_together u j plain.kinds (agree u fits);
       }
 
       -- WHAT HAS CHANGED
@@ -408,11 +409,12 @@ module _ (laws : StepsAreCases) (agree : Always OwnersAgree) (old : Shown) (fit 
           (ap (is_within Turns) (sym own_held) ∙ ap (λ a. is_within a (held_at u d.lock t)) (sym (aim_same ∙ aim))
           ∙ call_within u t d fits plain own_goes.there) (own_kept was)
 
-      pub stepped_moves : LockMoves t fair old new
-      stepped_moves = record {
+      pub stepped_moves : can_move s t ≡ true → LockMoves t fair old new
+      stepped_moves can = record {
         stand = stand_of c;
         stood = ap (option_map stand_of) x.here;
-        steps = x;
+        can = can;
+        steps = acted x;
         whole = record { threads = count; kinds = kinds_same };
         desk = desk;
         at_shard = at;

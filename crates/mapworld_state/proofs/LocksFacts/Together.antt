@@ -11,12 +11,11 @@ use Rattle.parking_lot_rules.specs.Owners.{owners, standing}
 use Rattle.parking_lot_rules.specs.Roles.{Role}
 use Rattle.parking_lot_machine_calls.specs.declared.calls.LockKind.TheVariants as kind
 use Rattle.parking_lot_machine_calls.specs.declared.calls.OwnMode.{OwnMode}
-use Rattle.parking_lot_machine.specs.Rows.{State, lock_at, rw_lock_at, rw_role_at}
+use Rattle.parking_lot_machine.specs.Rows.{State, rw_lock_at, rw_role_at}
 use Rattle.parking_lot_machine.specs.SoundLaws.{OwnersAgree, agrees}
-use Rattle.parking_lot_machine.specs.Worlds.{mode_in}
 use Rattle.mapworld_state.specs.Locks.Seats.{GoTogether}
-use Rattle.mapworld_state.specs.Locks.Views.{held_as, held_at}
-use Rattle.mapworld_state.proofs.LocksFacts.Handing.{held_is}
+use Rattle.mapworld_state.specs.Locks.Views.{held_as, held_at, mode_at}
+use Rattle.mapworld_state.proofs.LocksFacts.Handing.{held_is, mode_is}
 use Rattle.mapworld_state.proofs.LocksFacts.Lists.{among_all}
 use Rattle.mapworld_state.proofs.LocksFacts.Owning.{mode_standing, owned_in}
 
@@ -42,11 +41,12 @@ some_owner None m e = absurd (none-some m e)
 some_owner (Some a) m e = (a, refl)
 
 -- The holds of a shard go together, where owners agree.
-pub go_together : (s : State) (i : ℕ) → OwnersAgree s → GoTogether (held_at s i)
-go_together s i agree t v m n ne e f =
-    let (a, x) = some_owner (mode_in (lock_at s i) t) m e in
-    let (b, y) = some_owner (mode_in (lock_at s i) v) n f in
-    beside a b m n (ap held_as (sym x) ∙ e) (ap held_as (sym y) ∙ f) (agree i t v a b ne x y)
+pub go_together : (s : State) (i : ℕ) → All (λ k. k ≡ kind.Rw) s.kinds → OwnersAgree s → GoTogether (held_at s i)
+go_together s i rws agree t v m n ne e f =
+    let (a, x) = some_owner (mode_at s i t) m e in
+    let (b, y) = some_owner (mode_at s i v) n f in
+    beside a b m n (ap held_as (sym x) ∙ e) (ap held_as (sym y) ∙ f)
+    (agree i t v a b ne (sym (mode_is s rws i t) ∙ x) (sym (mode_is s rws i v) ∙ y))
 
 -- whoever holds a shard is a thread of the machine
 pub holders_are_threads : (s : State) (i : ℕ) → All (λ k. k ≡ kind.Rw) s.kinds → (v : ℕ) (m : Mode)

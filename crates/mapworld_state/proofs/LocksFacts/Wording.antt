@@ -16,12 +16,11 @@ use Rattle.parking_lot_rules.specs.Classes.{Class, Pending, Readers, Strange, Up
 use Rattle.parking_lot_rules.specs.Lock.{IsSound}
 use Rattle.parking_lot_machine_calls.specs.declared.calls.OwnMode.TheVariants as own
 use Rattle.parking_lot_machine_calls.specs.CallViews.{ModesAreWeighed, rw_mode}
-use Rattle.parking_lot_machine.specs.Rows.{State, lock_at, rw_lock_at, rw_role_at, state, word_at}
-use Rattle.parking_lot_machine.specs.Worlds.{mode_in}
+use Rattle.parking_lot_machine.specs.Rows.{State, rw_lock_at, rw_role_at, state, word_at}
 use Rattle.mapworld_state.specs.Locks.Counts.{CountsAsWord, NobodyIsPending}
 use Rattle.mapworld_state.specs.Locks.Fits.{LocksFit}
 use Rattle.mapworld_state.specs.Locks.Seats.{guards_of, seat_of}
-use Rattle.mapworld_state.specs.Locks.Views.{Shown, held_at}
+use Rattle.mapworld_state.specs.Locks.Views.{Shown, held_at, mode_at}
 use Rattle.mapworld_state.proofs.LocksFacts.Counting.{sum_of_none, sum_same, sum_to, weigh, weigh_parts}
 use Rattle.mapworld_state.proofs.LocksFacts.Ending.{held_by_role}
 use Rattle.mapworld_state.proofs.LocksFacts.Handing.{is_rw}
@@ -149,15 +148,12 @@ module _ (weighs : ModesAreWeighed) (sh : Shown) (fit : LocksFit sh) (i : ℕ) (
           ∙ sym (guards_counted held.Exclusive)
 
   -- a thread is pending as its role is
-  mode_of_role : (t : ℕ) → t < n → mode_in (lock_at s i) t ≡ rw_mode (rw_role_at s i t)
-  mode_of_role t low = ap (λ l. mode_in l t) (is_rw s fit.plain.kinds i)
-      ∙ ap (option_and_then rw_mode) (one_of_all (rw_role_at s i) n t low)
+  mode_of_role : (t : ℕ) → t < n → mode_at s i t ≡ rw_mode (rw_role_at s i t)
+  mode_of_role t low = ap (option_and_then rw_mode) (one_of_all (rw_role_at s i) n t low)
 
-  no_threads : (t : ℕ) → n ≤ t → mode_in (lock_at s i) t ≢ Some own.Pending
+  no_threads : (t : ℕ) → n ≤ t → mode_at s i t ≢ Some own.Pending
   no_threads t past e =
-      none-some own.Pending
-      (sym (ap (λ l. mode_in l t) (is_rw s fit.plain.kinds i)
-      ∙ ap (option_and_then rw_mode) (beyond_all (rw_role_at s i) n t past)) ∙ e)
+      none-some own.Pending (sym (ap (option_and_then rw_mode) (beyond_all (rw_role_at s i) n t past)) ∙ e)
 
   nobody : pending ≡ 0 → NobodyIsPending s i
   nobody none t e = elim (cases_lt t n) [

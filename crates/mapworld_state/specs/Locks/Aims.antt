@@ -19,30 +19,16 @@ pub data Aim : Type 0 where
   GivesUp : (mode : Mode) → Aim
   Turns : Aim
 
--- the aim of a call; a mutex's is none of a shard's lock, and an upgradable call's neither
+-- the aim of a call of a shard's lock, of which a downgrade turns the hold; other calls have one only for the sake of
+-- a whole table
 abbrev pub aim_of : LockCall → Aim
-aim_of call.Lock = Gets held.Exclusive
-aim_of call.TryLock = Gets held.Exclusive
-aim_of call.LockUntil = Gets held.Exclusive
-aim_of call.Unlock = GivesUp held.Exclusive
 aim_of call.Read = Gets held.Shared
 aim_of call.TryRead = Gets held.Shared
 aim_of call.UnlockRead = GivesUp held.Shared
 aim_of call.Write = Gets held.Exclusive
 aim_of call.TryWrite = Gets held.Exclusive
 aim_of call.UnlockWrite = GivesUp held.Exclusive
-aim_of call.Downgrade = Turns
-aim_of call.UpgradableRead = Turns
-aim_of call.TryUpgradableRead = Turns
-aim_of call.UnlockUpgradable = Turns
-aim_of call.Upgrade = Turns
-aim_of call.TryUpgrade = Turns
-aim_of call.DowngradeToUpgradable = Turns
-aim_of call.DowngradeUpgradable = Turns
-aim_of call.ReadUntil = Gets held.Shared
-aim_of call.WriteUntil = Gets held.Exclusive
-aim_of call.UpgradableUntil = Turns
-aim_of call.UpgradeUntil = Turns
+aim_of other = Turns
 
 abbrev pub aim_for : LockMode → Aim
 aim_for (want.Shared recursive) = Gets held.Shared

@@ -5,17 +5,16 @@ use Rattle.lock_api_desk.specs.Desk.{DeskState}
 use Rattle.lock_api_desk.specs.Guards.{holds}
 use Rattle.parking_lot_protocol.specs.RwTable.{is_written}
 use Rattle.parking_lot_machine_calls.specs.declared.calls.OwnMode.TheVariants as own
-use Rattle.parking_lot_machine.specs.Rows.{State, lock_at, state, word_at}
+use Rattle.parking_lot_machine.specs.Rows.{State, state, word_at}
 use Rattle.parking_lot_machine.specs.SoundLaws.{ListsAreWaiters}
-use Rattle.parking_lot_machine.specs.Worlds.{mode_in}
 use Rattle.mapworld_state.specs.Locks.Aims.{is_within}
 use Rattle.mapworld_state.specs.Locks.Fits.{LocksFit}
 use Rattle.mapworld_state.specs.Locks.Stands.{Stand, stand_in}
-use Rattle.mapworld_state.specs.Locks.Views.{Shown, owner_in}
+use Rattle.mapworld_state.specs.Locks.Views.{Shown, mode_at, owner_in}
 
 -- nobody waits as the next writer for the readers to leave
 abbrev pub NobodyIsPending : State → ℕ → Type 0
-NobodyIsPending s i = (t : ℕ) → mode_in (lock_at s i) t ≢ Some own.Pending
+NobodyIsPending s i = (t : ℕ) → mode_at s i t ≢ Some own.Pending
 
 -- As many shared guards as the word counts readers, and an exclusive one exactly where the writer bit is set and nobody
 -- is pending.

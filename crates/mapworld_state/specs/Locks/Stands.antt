@@ -1,7 +1,8 @@
 -- What a thread that is in a call is about.
-use Rattle.std.specs.Prelude.{ℕ, Bool, true, false, Option}
+use Rattle.std.specs.Prelude.{ℕ, Bool, true, false, Option, Some, None}
 use Rattle.std.specs.Option.{option_map}
 use Rattle.lock_api_desk.specs.declared.mode.Mode.{Mode}
+use Rattle.lock_api_desk.specs.declared.mode.Mode.TheVariants as held
 use Rattle.parking_lot_protocol.specs.declared.rw_phase.RwPhase.{RwPhase}
 use Rattle.parking_lot_protocol.specs.declared.rw_phase.RwPhase.TheVariants as r
 use Rattle.parking_lot_machine_calls.specs.declared.calls.LockCall.{LockCall}
@@ -9,10 +10,9 @@ use Rattle.parking_lot_machine_calls.specs.declared.calls.LockCall.TheVariants a
 use Rattle.parking_lot_machine_calls.specs.declared.seat.Core.{Core}
 use Rattle.parking_lot_machine_calls.specs.declared.seat.Core.TheVariants as core
 use Rattle.parking_lot_machine_calls.specs.declared.open_call.Call.{Call}
-use Rattle.parking_lot_machine_calls.specs.Calls.{given_up}
 use Rattle.parking_lot_machine.specs.Rows.{call_at, state}
 use Rattle.mapworld_state.specs.Locks.Aims.{Aim, Turns, phase_aim}
-use Rattle.mapworld_state.specs.Locks.Views.{Shown, held_as}
+use Rattle.mapworld_state.specs.Locks.Views.{Shown}
 
 -- of which shard the thread's call is, what for, and whether it may still be refused
 pub record Stand : Type 0 where
@@ -32,17 +32,11 @@ is_trying other = false
 -- aim only for the sake of a whole table
 abbrev pub core_aim : Core → Aim
 core_aim (core.Rw c) = phase_aim c.phase
-core_aim (core.Mutex c) = Turns
-core_aim (core.Late p) = Turns
-core_aim (core.LateRw p) = Turns
-core_aim (core.Upgrade c) = Turns
+core_aim other = Turns
 
 abbrev pub core_tries : Core → Bool
 core_tries (core.Rw c) = is_trying c.phase
-core_tries (core.Mutex c) = false
-core_tries (core.Late p) = false
-core_tries (core.LateRw p) = false
-core_tries (core.Upgrade c) = false
+core_tries other = false
 
 abbrev pub stand_of : Call → Stand
 stand_of c = record { shard = c.lock; aim = core_aim c.core; trying = core_tries c.core }
@@ -70,7 +64,10 @@ is_try other = false
 
 -- How its thread has to hold the lock before the call: not at all, where it asks for it.
 abbrev pub needs : LockCall → Option Mode
-needs call = held_as (given_up call)
+needs ask.UnlockRead = Some held.Shared
+needs ask.UnlockWrite = Some held.Exclusive
+needs ask.Downgrade = Some held.Exclusive
+needs other = None
 
 -- the call gives the hold up or turns it: its first act is begun at once, and can always be made
 abbrev pub gives : LockCall → Bool

@@ -1,5 +1,6 @@
 -- What each act of a thread leaves of shards' locks.
-use Rattle.std.specs.Prelude.{◌≡◌, ◌≢◌, ◌⊎◌, ℕ, ◌<◌, Bool, true, false, length, Some, None, slice_get, slice_set}
+use Rattle.std.specs.Prelude.{◌≡◌, ◌≢◌, ◌⊎◌, ℕ, ◌<◌, Bool, true, false, length, Option, Some, None}
+use Rattle.std.specs.Prelude.{slice_get, slice_set}
 use Rattle.lock_api_desk.specs.declared.mode.Mode.{Mode}
 use Rattle.lock_api_desk.specs.declared.mode.Mode.TheVariants as held
 use Rattle.lock_api_desk.specs.Desk.{DeskState}
@@ -7,8 +8,11 @@ use Rattle.parking_lot_protocol.specs.declared.act.CoreAnswer.{CoreAnswer}
 use Rattle.parking_lot_protocol.specs.declared.act.CoreAnswer.TheVariants.{Owned, Refused}
 use Rattle.parking_lot_machine_calls.specs.declared.calls.LockCall.{LockCall}
 use Rattle.parking_lot_machine_calls.specs.declared.calls.LockCall.TheVariants.{Downgrade}
-use Rattle.parking_lot_machine.specs.Machines.{IsBegun, IsStepped, ended}
-use Rattle.parking_lot_machine.specs.Rows.{state, taken_by}
+use Rattle.parking_lot_machine_calls.specs.declared.open_call.Call.{Call}
+use Rattle.parking_lot_machine_calls.specs.Stances.{core_act}
+use Rattle.parking_lot_machine.specs.Machines.{Became, call_for, can_move, end_of, ended}
+use Rattle.parking_lot_machine.specs.RowActs.{begun}
+use Rattle.parking_lot_machine.specs.Rows.{State, call_at, state, taken_by}
 use Rattle.mapworld_state.specs.Locks.Aims.{Gets, GivesUp, Turns, aim_of}
 use Rattle.mapworld_state.specs.Locks.Moves.{desk_after}
 use Rattle.mapworld_state.specs.Locks.Seats.{GoTogether}
@@ -28,20 +32,29 @@ pub record MayAsk (t shard : ℕ) (call : LockCall) (sh : Shown) : Type 0 where
   pub free : stand_in sh t ≡ None
   pub holds : owner_in sh shard t ≡ needs call
 
--- It has begun the call, and nobody's hold has changed.
+-- A thread in a call has made the act that the call asks for, and nothing else of the machine has changed.
+pub record HasActed (t : ℕ) (fair : Bool) (answer : Option CoreAnswer) (s u : State) : Type 0 where
+  pub call : Call
+  pub here : call_at s t ≡ Some call
+  pub answers : answer ≡ end_of (core_act call.core)
+  pub became : Became (core_act call.core) t fair call s u
+
+-- It has begun the call, which it might, and nobody's hold has changed.
 pub record LockBegins (t shard : ℕ) (call : LockCall) (old new : Shown) : Type 0 where
-  pub became : IsBegun t shard call (state old.rows) (state new.rows)
+  pub may : MayAsk t shard call old
+  pub became : state new.rows ≡ begun (state old.rows) t (call_for (state old.rows) t shard call)
   pub whole : StaysWhole old new
   pub desks : new.desks ≡ old.desks
   pub stand : stand_in new t ≡ Some (record { shard = shard; aim = aim_of call; trying = is_try call })
   pub others : (v : ℕ) → v ≢ t → stand_in new v ≡ stand_in old v
   pub holds : (v i : ℕ) → owner_in new i v ≡ owner_in old i v
 
--- It has made one step that isn't an answer.
+-- It has made one step that isn't an answer, which it could make.
 pub record LockMoves (t : ℕ) (fair : Bool) (old new : Shown) : Type 0 where
   pub stand : Stand
   pub stood : stand_in old t ≡ Some stand
-  pub steps : IsStepped t fair None (state old.rows) (state new.rows)
+  pub can : can_move (state old.rows) t ≡ true
+  pub steps : HasActed t fair None (state old.rows) (state new.rows)
   pub whole : StaysWhole old new
   -- the desk of its shard follows the owners there
   pub desk : DeskState (Unit {0})
@@ -75,7 +88,7 @@ pub record LockEnds (t : ℕ) (answer : CoreAnswer) (old new : Shown) : Type 0 w
   pub stand : Stand
   pub stood : stand_in old t ≡ Some stand
   pub over : ended (state old.rows) t ≡ Some answer
-  pub steps : IsStepped t false (Some answer) (state old.rows) (state new.rows)
+  pub steps : HasActed t false (Some answer) (state old.rows) (state new.rows)
   pub whole : StaysWhole old new
   pub desks : new.desks ≡ old.desks
   pub gone : stand_in new t ≡ None

@@ -2,6 +2,7 @@
 ghost use Rattle.std.specs.Prelude.{◌≡◌, length};
 ghost use Rattle.lock_api_desk.specs.Desk.{admitted};
 ghost use Rattle.parking_lot_machine.specs.Rows.{state, taken_by};
+ghost use Rattle.mapworld_state.specs.Locks.Fits.{IsPlain};
 ghost use Rattle.mapworld_state.specs.Locks.Moves.{CanFollow, CanSeat, MayAdmit, MayAdmitAs, MayMove, admitted_as};
 ghost use Rattle.mapworld_state.specs.Locks.Moves.{all_admitted, desk_after, own_moved};
 ghost use Rattle.mapworld_state.specs.Locks.Views.{held_as, held_at};
@@ -31,6 +32,7 @@ pub(crate) fn holds<A: Allocator>(
     thread: usize,
     shard: usize,
 ) -> Option<Mode>
+    requires plain { IsPlain (state machine.now) }
     ensures { result ≡ held_at (state machine.now) shard thread }
 {
     held_as(machine.owner(thread, shard))
@@ -92,6 +94,7 @@ fn admit_taken<A: Allocator>(
     thread: usize,
     shard: usize,
 )
+    requires plain { IsPlain (state machine.now) }
     requires can { CanSeat (held_at (state machine.now) shard) (length (state machine.now).calls) desk.old }
     ensures { desk.new ≡ all_admitted (held_at (state machine.now) shard) (taken_by (state machine.now).wakes thread)
         desk.old }
@@ -113,6 +116,7 @@ pub(crate) fn follow<A: Allocator>(
     shard: usize,
     before: Option<Mode>,
 )
+    requires plain { IsPlain (state machine.now) }
     requires can { CanFollow before (held_at (state machine.now) shard) (length (state machine.now).calls) thread
         desk.old }
     ensures { desk.new ≡ desk_after (λ _. before) (held_at (state machine.now) shard) thread

@@ -1,8 +1,15 @@
 //! Laws of shards' locks.
 ghost use Rattle.mapworld_state.specs.Locks.Counts.{CallsHoldWithin, DesksCountAsWords, QueuesAreWaiters};
 ghost use Rattle.mapworld_state.specs.Locks.Footprints.{StepsTouchOneLock};
+ghost use Rattle.mapworld_state.specs.Locks.Lawful.{LockStepsAreLawful};
 
 use parking_lot_machine::laws;
+
+/// A call that begins, moves or ends at locks that fit does so by the rules of locks, as its core says, and is paid for
+/// by the steps that were left.
+pub fn lock_steps_are_lawful()
+    ensures { LockStepsAreLawful }
+{}
 
 /// A step changes the word of its thread's lock, or one of that lock's two queues, or neither, and no word and no queue
 /// of another lock.

@@ -191,12 +191,8 @@ fn needed(call: LockCall) -> Option<Mode>
     ensures { result ≡ needs call }
 {
     match call {
-        LockCall::Unlock | LockCall::UnlockWrite => Some(Mode::Exclusive),
-        LockCall::Downgrade | LockCall::DowngradeToUpgradable => Some(Mode::Exclusive),
         LockCall::UnlockRead => Some(Mode::Shared),
-        LockCall::UnlockUpgradable | LockCall::Upgrade => Some(Mode::Upgradable),
-        LockCall::TryUpgrade | LockCall::UpgradeUntil => Some(Mode::Upgradable),
-        LockCall::DowngradeUpgradable => Some(Mode::Upgradable),
+        LockCall::UnlockWrite | LockCall::Downgrade => Some(Mode::Exclusive),
         _ => None,
     }
 }

@@ -100,7 +100,6 @@ returns-clause-reachable g c =
     (sym (ap (λ v. v.items) c.of-opening.ensures))
     (AreFilled-seen g.S.BuildHasher g.S.Hasher.Hasher g.K.Hash.hash_input c.args.hasher g.K.PartialEq.eq
     c.args.pairs.items c.fill.new.tables.items c.in_ok-count.ensures.filled))
-    c.known.ensures
 
 pub returns-clause-room : goal.returns-clause-room
 returns-clause-room g c =

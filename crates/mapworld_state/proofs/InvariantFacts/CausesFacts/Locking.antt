@@ -42,7 +42,7 @@ module _ (t : ℕ) where
   apart-begins shard call old new h = record {
     stands = h.others;
     sees = λ v ne seen. sym
-        (ap (λ (u : State). sees (call_at u v)) h.became.became
+        (ap (λ (u : State). sees (call_at u v)) h.became
         ∙ ap sees (set-elsewhere (state old.rows).calls t v
         (Some (hears (call_for (state old.rows) t shard call) ActResult.Start)) ne)) ∙ seen;
   }
@@ -96,7 +96,7 @@ module _ (t : ℕ) where
   pub begins-blind : (shard : ℕ) (call : LockCall) (old new : Shown) → LockBegins t shard call old new
       → sees (call_at (state new.rows) t) ≡ false
   begins-blind shard call old new h =
-      ap (λ (u : State). sees (call_at u t)) h.became.became
+      ap (λ (u : State). sees (call_at u t)) h.became
       ∙ elim (set-here (state old.rows).calls t
       (Some (hears (call_for (state old.rows) t shard call) ActResult.Start))) [
         | inl is ↦ ap sees is ∙ start-unseen (kind_in (state old.rows).kinds shard) call

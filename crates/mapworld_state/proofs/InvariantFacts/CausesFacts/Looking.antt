@@ -16,12 +16,13 @@ use Rattle.parking_lot_protocol.specs.RwTable.{act_of, next_phase, share_of, tri
 use Rattle.parking_lot_machine_calls.specs.declared.open_call.Call.{Call}
 use Rattle.parking_lot_machine_calls.specs.declared.seat.Core.{Core}
 use Rattle.parking_lot_machine_calls.specs.declared.seat.WakeResult.{WakeResult}
-use Rattle.parking_lot_machine.specs.Machines.{Became, BecameInside, IsStepped}
+use Rattle.parking_lot_machine.specs.Machines.{Became, BecameInside}
 use Rattle.parking_lot_machine.specs.RowActs.{loaded, exchanged, with_call, with_word}
 use Rattle.parking_lot_machine_calls.specs.CallActs.{hears, off_list, settled}
 use Rattle.parking_lot_machine.specs.Rows.{State, call_at, word_at}
 use Rattle.parking_lot_machine_calls.specs.Stances.{core_act, core_next}
 use Rattle.mapworld_state.specs.Locks.Stands.{core_tries, is_trying}
+use Rattle.mapworld_state.specs.Locks.Steps.{HasActed}
 use Rattle.mapworld_state.proofs.LocksFacts.Calls.{Hears, late_is}
 use Rattle.mapworld_state.specs.Invariant.Causes.Causes.{has_seen, has_seen_in}
 use Rattle.mapworld_state.proofs.InvariantFacts.CausesFacts.Noticing.{blind, found-unseen, late-unseen, looks_in}
@@ -129,7 +130,7 @@ module _ (s : State) (t : ℕ) (c : Call) (v : ℕ) (ne : v ≢ t) where
   kept (Act.Done answer) fair u e = is u _ e (told None)
 
 -- in a step another's call sees nothing that it hadn't seen
-pub others-see : (s u : State) (t : ℕ) (fair : Bool) (answer : Option CoreAnswer) → IsStepped t fair answer s u
+pub others-see : (s u : State) (t : ℕ) (fair : Bool) (answer : Option CoreAnswer) → HasActed t fair answer s u
     → (v : ℕ) → v ≢ t → sees (call_at u v) ≡ true → sees (call_at s v) ≡ true
 others-see s u t fair answer x v ne = kept s t x.call v ne (core_act x.call.core) fair u x.became
 
@@ -257,7 +258,7 @@ module _ (s : State) (t : ℕ) (c : Call) where
         from empty = by empty (word_at s c.lock == n) refl
 
 -- Its own call has seen a word that isn't 0 after a step: it had seen one before, or has seen its lock's now.
-pub own-sees : (s u : State) (t : ℕ) (fair : Bool) (x : IsStepped t fair None s u) → sees (call_at u t) ≡ true
+pub own-sees : (s u : State) (t : ℕ) (fair : Bool) (x : HasActed t fair None s u) → sees (call_at u t) ≡ true
     → Sees s t x.call
 own-sees s u t fair x seen = by-core x.call.core refl
   where

@@ -27,7 +27,6 @@ use Rattle.parking_lot_machine.specs.Rows.{State, call_at, hold_at, rw_lock_at, 
 use Rattle.parking_lot_machine_calls.specs.CallRoles.{owned_of, rw_core_role, rw_spot}
 use Rattle.parking_lot_machine_calls.specs.CallKinds.{IsOfKind}
 use Rattle.parking_lot_machine_calls.specs.Stances.{core_act}
-use Rattle.parking_lot_machine.specs.Worlds.{mode_in}
 use Rattle.mapworld_state.specs.Locks.Fits.{LocksFit, is_plain}
 use Rattle.mapworld_state.specs.Locks.Views.{Shown, held_as, owner_in}
 use Rattle.mapworld_state.proofs.LocksFacts.Handing.{is_rw, goes_by, no_mutex}
@@ -143,8 +142,7 @@ module _ (sh : Shown) (fit : LocksFit sh) (t : ℕ) (c : Call) (here : call_at (
       mode-is : (h : Hold) → hold_at s v i ≡ h
           → owner_in sh i v ≡ held_as (rw_mode (record { owns = owned_of h; does = Idle }))
       mode-is h e =
-          ap (λ l. held_as (mode_in l v)) (is_rw s fit.plain.kinds i)
-          ∙ ap (λ o. held_as (option_and_then rw_mode o)) (up.2 ∙ ap Some (role ∙ is))
+          ap (λ o. held_as (option_and_then rw_mode o)) (up.2 ∙ ap Some (role ∙ is))
           ∙ ap (λ q. held_as (rw_mode (record { owns = owned_of q; does = Idle }))) e
 
       by : (h : Hold) → (owned_of h ≡ Shares 0 → ⊥)

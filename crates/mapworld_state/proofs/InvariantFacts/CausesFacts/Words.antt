@@ -27,7 +27,6 @@ use Rattle.parking_lot_machine.specs.Rows.{State, call_at, hold_at, rw_lock_at, 
 use Rattle.parking_lot_machine.specs.Rows.{word_at}
 use Rattle.parking_lot_machine_calls.specs.CallRoles.{owned_of, rw_core_role, rw_spot}
 use Rattle.parking_lot_machine_calls.specs.CallViews.{rw_mode}
-use Rattle.parking_lot_machine.specs.Worlds.{mode_in}
 use Rattle.parking_lot_machine.proofs.RwMoving.{number-word}
 use Rattle.mapworld_state.specs.Locks.Fits.{LocksFit}
 use Rattle.mapworld_state.specs.Locks.Stands.{core_tries, is_trying}
@@ -151,8 +150,7 @@ module _ (sh : Shown) (fit : LocksFit sh) (i : ℕ) (word : word_at (state sh.ro
   idle out is =
       let m = idle-owns one.class (hold_at s who i) (subst (λ (r : Role). 0 < weight one.class r) (here ∙ is) one.some)
       in
-      owns m.0 (ap (λ l. held_as (mode_in l who)) (is_rw s fit.plain.kinds i)
-      ∙ ap (λ o. held_as (option_and_then rw_mode o)) (one.listed ∙ ap Some (here ∙ is)) ∙ m.1) out
+      owns m.0 (ap (λ o. held_as (option_and_then rw_mode o)) (one.listed ∙ ap Some (here ∙ is)) ∙ m.1) out
 
   in-call : (c : Call) → call_at s who ≡ Some c → (b : Bool) → (c.lock == i) ≡ b → IsThere sh i who
   in-call c at false is =

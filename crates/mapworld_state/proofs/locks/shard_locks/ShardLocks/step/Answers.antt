@@ -1,11 +1,15 @@
-use Rattle.std.proofs.Common.{◌≡◌, Some, None, slice_get, slice_set, sym, ap, ◌∙◌, subst, arith}
+use Rattle.std.proofs.Common.{◌≡◌, true, Some, None, slice_get, slice_set, sym, ap, ◌∙◌, subst, arith}
 use Rattle.std.proofs.lemmas.Option.{slice_get-get_or}
-use Rattle.parking_lot_machine.specs.Machines.{ended}
+use Rattle.parking_lot_machine.specs.Machines.{can_move, ended}
 use Rattle.parking_lot_machine.specs.Rows.{call_at, state}
 use Rattle.mapworld_state.specs.Locks.Steps.{LockMoves}
 use Rattle.mapworld_state.specs.Locks.Views.{Shown}
 use Rattle.mapworld_state.proofs.LocksFacts.Following.{fit_after, follows, low, moves_after}
+use Rattle.mapworld_state.proofs.LocksFacts.Keeping.{stepped_plain}
 use Rattle.mapworld_state.proofs.locks.shard_locks.ShardLocks.step.Goals as goal
+
+pub holds-before-requires : goal.holds-before-requires
+holds-before-requires g c = record { plain = c.self.invariant.plain }
 
 pub index_mut-requires : goal.index_mut-requires
 index_mut-requires g c =
@@ -32,6 +36,8 @@ follow-requires g c =
     slice_get-get_or old.desks c.in-Some.call.lock c.index_mut.result.now in_range
     ∙ ap Some (sym c.index_mut.ensures.value) in
     record {
+      plain = stepped_plain (state old.rows) (state c.step.new.self) c.args.thread c.args.fair c.step.result
+          c.self.invariant.plain c.step.ensures;
       can = follows c.each_step_is_a_case.ensures c.owners_agree.ensures old c.self.invariant c.args.thread c.args.fair
           c.step.new.self c.step.result c.step.ensures going c.in-Some.call there
           c.holds-before.result c.holds-before.ensures c.index_mut.result.now at;
@@ -68,7 +74,9 @@ returns g c =
     let at : slice_get old.desks c.in-Some.call.lock ≡ Some c.index_mut.result.now =
     slice_get-get_or old.desks c.in-Some.call.lock c.index_mut.result.now in_range
     ∙ ap Some (sym c.index_mut.ensures.value) in
+    let can : can_move (state old.rows) c.args.thread ≡ true = ap (λ (x : Shown). can_move (state x.rows) c.args.thread)
+    c.self.view_is ∙ c.requires.can in
     subst (λ (x : Shown). LockMoves c.args.thread c.args.fair x new) c.self.view_is
     (moves_after c.each_step_is_a_case.ensures c.owners_agree.ensures old c.self.invariant c.args.thread c.args.fair
     c.step.new.self c.step.result c.step.ensures going c.in-Some.call there
-    c.holds-before.result c.holds-before.ensures c.index_mut.result.now at c.follow.new.desk c.follow.ensures)
+    c.holds-before.result c.holds-before.ensures c.index_mut.result.now at c.follow.new.desk c.follow.ensures can)
