@@ -351,7 +351,7 @@ module _ {K V : Type 0} (eq : K → K → Bool) (laws : IsEquivalence eq) where
             distinct = distinct-pairs new sound.distinct hashes-added;
             counted = omega (arith, was, before, after, one);
             spare = omega (arith, more, before, after, left);
-            no_more = λ there. absurd (subst IsSome absent there);
+            no_more = λ there. absurd (false≢true (subst IsSome absent there));
           }
         where
           if-map : (b : Bool) (x y : Option (Entry K V)) → option_map entry_pair (cond b x y) ≡ cond b
