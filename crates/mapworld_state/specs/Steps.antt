@@ -432,10 +432,9 @@ module _ {K V S D T A : Type 0} (x : Setup K V D T) (w : State K V S D T A) (s :
     pub held : slice_get w.tables place.shard ≡ Some table
     pub behind : ShardPairs K V
     pub looked : IsLookedAt x.eq walk table behind
-    pub room : ℕ
-    pub enough : length table.items ≤ room
+    pub enough : length table.items ≤ table.room
     pub count : ℕ
-    pub counted : count ≡ saturated (place.count + looked_count walk table.items room)
+    pub counted : count ≡ saturated (place.count + looked_count walk table.items table.room)
     pub block : Block K
     pub listed : IsListedVisit w s.thread place (looked_keys walk table.items) block
     pub next : Phase K V D T A

@@ -3,7 +3,7 @@
 use Rattle.std.proofs.Common.{◌≡◌, ℕ, zero, suc, ◌+◌, ◌≤◌, Bool, true, false, cond, ◌==◌, if◌then◌else◌, List, [], ◌∷◌}
 use Rattle.std.proofs.Common.{length, Option, Some, None, IfSome, Result, Ok, Err, OnOk, is_some, slice_get, slice_set}
 use Rattle.std.proofs.Common.{slice_index_or, remove, find, refl, sym, ap, ◌∙◌, subst, inl, inr, IsTrue, arith, eq-eqb}
-use Rattle.std.proofs.Common.{length-set}
+use Rattle.std.proofs.Common.{length-set, IsSome, ◌*◌}
 use Rattle.std.specs.Cmp.{IsEquivalence}
 use Rattle.std.specs.Hash.{HashWrites}
 use Rattle.std.specs.declared.hash.BuildHasher as builder
@@ -202,6 +202,7 @@ module _ {K V : Type 0} (eq : K → K → Bool) (laws : IsEquivalence eq) where
               (AreDistinct-put eq laws ps r (entry_pair k.entry) z same distinct here);
           counted = omega (arith, many, was);
           spare = omega (arith, many, free, room);
+          no_more = λ _. omega (arith, room);
         }
 
     puts-freed : LeavesAt old new i None → Puts eq (shard_pairs old) (shard_pairs new) key None
@@ -225,6 +226,7 @@ module _ {K V : Type 0} (eq : K → K → Bool) (laws : IsEquivalence eq) where
           distinct = subst (AreDistinct eq) (sym put) (AreDistinct-remove eq laws ps r distinct);
           counted = omega (arith, many, fewer, was);
           spare = omega (arith, free, before, after, left);
+          no_more = λ _. is.no_more;
         }
 
     -- what a call leaves in a key's slot is what the key has
@@ -349,6 +351,7 @@ module _ {K V : Type 0} (eq : K → K → Bool) (laws : IsEquivalence eq) where
             distinct = distinct-pairs new sound.distinct hashes-added;
             counted = omega (arith, was, before, after, one);
             spare = omega (arith, more, before, after, left);
+            no_more = λ there. absurd (false≢true (subst IsSome absent there));
           }
         where
           if-map : (b : Bool) (x y : Option (Entry K V)) → option_map entry_pair (cond b x y) ≡ cond b
@@ -372,10 +375,10 @@ module _ {K V : Type 0} (eq : K → K → Bool) (laws : IsEquivalence eq) where
           room = omega (arith, enough, before);
         }
 
-    -- the same pairs, with no more room
+    -- the same pairs, with no more room than they need
     pub shrunk-same : (old new : Table K V) → HasHashes hash old → IsSound eq new → SamePairs eq old new
-        → new.room ≤ old.room → Shrunk eq (shard_pairs old) (shard_pairs new)
-    shrunk-same old new hashed sound same room =
+        → new.room ≤ old.room → new.room ≤ 4 * count new.slots → Shrunk eq (shard_pairs old) (shard_pairs new)
+    shrunk-same old new hashed sound same room tight =
         let now = each-same eq laws (λ h k. h ≡ hash k) old new sound same hashed in
         let before = length-pairs_of old.slots in
         let after = length-pairs_of new.slots in
@@ -386,6 +389,7 @@ module _ {K V : Type 0} (eq : K → K → Bool) (laws : IsEquivalence eq) where
           distinct = distinct-pairs new sound.distinct now;
           counted = omega (arith, before, after, counted);
           room = room;
+          tight = omega (arith, tight, after);
         }
 
 -- equal keys write the same into a hasher, so they have one hash

@@ -169,7 +169,7 @@ pub fn make_ready<K: Eq + Hash + Drop, V: Drop, D, T, A: Allocator + Clone>(
     count: usize,
 ) -> Result<(), NoMemory>
     requires hashed { (hash : K → ℕ) × HashesAlike K.eq hash × HasHashes hash shard.old }
-    ensures looked { IsLookedAt K.eq walk.now (shard_pairs shard.old) (shard_pairs shard.new) }
+    ensures looked { OnOk result (IsLookedAt K.eq walk.now (shard_pairs shard.old) (shard_pairs shard.new)) }
     ensures alone { walk_mode walk.now ≡ Mode.Shared → shard.new ≡ shard.old }
     ensures same { gives_items walk.now ≡ true → shard.new ≡ shard.old }
     ensures kept { reads.new.items ≡ reads.old.items }

@@ -277,7 +277,7 @@ module _ {K V S D T A : Type 0} (x : Setup K V D T) (laws : Laws x) (w : State K
 
   count' : IsCount x f vs' a.count
   count' = subst (λ (n : ℕ). IsCount x f vs' n) (sym a.counted)
-      (count-looked x vs (visit_at i d) p.count f a.table.items a.room a.enough (ap length (keys ∙ a.listed.visited)) v.so_far.count)
+      (count-looked x vs (visit_at i d) p.count f a.table.items a.table.room a.enough (ap length (keys ∙ a.listed.visited)) v.so_far.count)
 
   named' : map (λ (z : Visit K). z.place) vs' ≡ p.visits ++ i ∷ []
   named' = map-push (λ (z : Visit K). z.place) vs (visit_at i d) ∙ ap (λ ns. ns ++ i ∷ []) v.so_far.named

@@ -202,8 +202,7 @@ returns-clause-step g c =
       table = shard_pairs old;
       held = view-at shard_pairs core.tables.items p.shard old held;
       behind = shard_pairs new;
-      looked = c.make_ready.ensures.looked;
-      room = old.room;
+      looked = c.in-Ok.ensures.looked;
       enough = c.looked_count.ensures.enough;
       count = c.saturating_add-count.result;
       counted = c.saturating_add-count.ensures ∙ ap (λ n. saturated (p.count + n)) c.looked_count.ensures.count;
@@ -280,7 +279,7 @@ returns-clause-room g c =
     c.list_visit.new.blocks.items listed in
     let many = pairs_kept (state_of core).tables p.shard (shard_pairs old) (shard_pairs new)
     (view-at shard_pairs core.tables.items p.shard old held)
-    (looked-many g.K.PartialEq.eq f (shard_pairs old) (shard_pairs new) c.make_ready.ensures.looked) in
+    (looked-many g.K.PartialEq.eq f (shard_pairs old) (shard_pairs new) c.in-Ok.ensures.looked) in
     let seen = map-set shard_pairs core.tables.items p.shard new in
     shifted _ _ t r p' c.requires.room (record {
       here = kept;

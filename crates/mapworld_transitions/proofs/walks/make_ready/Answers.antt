@@ -1,4 +1,4 @@
-use Rattle.std.proofs.Common.{◌≡◌, ℕ, zero, suc, ◌<◌, ◌≤◌, true, length, Result, Ok, Err, OnErr, refl, sym, ap, ◌∙◌}
+use Rattle.std.proofs.Common.{◌≡◌, ℕ, zero, suc, ◌<◌, Result, Ok, Err, OnErr, refl, sym, ap, ◌∙◌}
 use Rattle.std.proofs.Common.{subst, arith, ⊎_elim}
 use Rattle.dashmap_table.specs.Slots.{count}
 use Rattle.dashmap_table.proofs.Sounds.{length-pairs_of}
@@ -6,7 +6,7 @@ use Rattle.dashmap_table.proofs.Effects.{each-same}
 use Rattle.mapworld_calls.specs.Programs.{walk_may_grow}
 use Rattle.mapworld_state.specs.Shards.{shard_pairs}
 use Rattle.mapworld_state.specs.Walks.{IsLookedAt}
-use Rattle.mapworld_transitions.proofs.Slotted.{shrunk-same}
+use Rattle.mapworld_transitions.proofs.Slotted.{shrunk-same, on-ok}
 use Rattle.mapworld_transitions.proofs.walks.make_ready.Goals as goal
 
 -- what is refused says what it is refused for
@@ -21,10 +21,11 @@ some-pairs (suc n) x e h = omega arith
 pub returns-in-ShrinkToFit-clause-looked : goal.returns-in-ShrinkToFit-clause-looked
 returns-in-ShrinkToFit-clause-looked g c =
     let h = c.requires.hashed in
+    on-ok c.shrink.result _ c.shrink.ensures.tight (λ tight.
     subst (λ f. IsLookedAt g.K.PartialEq.eq f (shard_pairs c.args.shard.now) (shard_pairs c.shrink.new.self))
     (sym c.in-ShrinkToFit.is)
     (shrunk-same g.K.PartialEq.eq g.met.K.Eq.laws h.0 h.1 c.args.shard.now c.shrink.new.self h.2 c.shrink.ensures.sound
-    c.shrink.ensures.pairs c.shrink.ensures.room)
+    c.shrink.ensures.pairs c.shrink.ensures.room tight))
 
 pub returns-in-ShrinkToFit-clause-refused : goal.returns-in-ShrinkToFit-clause-refused
 returns-in-ShrinkToFit-clause-refused g c =
