@@ -25,6 +25,7 @@ use Rattle.mapworld_calls.specs.Setup.{Setup, session_of}
 use Rattle.mapworld_state.specs.Locks.Aims.{Aim}
 use Rattle.mapworld_state.specs.Locks.Stands.{Stand, stand_in, stand_of}
 use Rattle.mapworld_state.specs.Locks.Views.{held_as, owner_in}
+use Rattle.mapworld_state.proofs.LocksFacts.Handing.{mode_is}
 use Rattle.mapworld_state.proofs.LocksFacts.Together.{holders_are_threads}
 use Rattle.mapworld_state.specs.declared.holds.Mode.{Mode}
 use Rattle.mapworld_state.specs.declared.holds.Hold.{Hold}
@@ -248,7 +249,8 @@ module _ {K V S D T A : Type 0} (x : Setup K V D T) (w : State K V S D T A) (who
         let u = kept.0 in
         let mode = held-apart (slice_get s.kinds shard) (hold_at s u shard) kept.1
         (sym (apart_owner s u whole.locks.fits shard (apart shard (call_at s u) kept.3)) ∙ kept.2) in
-        let owns : owner_in w.locks shard u ≡ Some mode.0 = ap held_as kept.2 ∙ mode.1 in
+        let owns : owner_in w.locks shard u ≡ Some mode.0 =
+        ap held_as (mode_is s whole.locks.plain.kinds shard u ∙ kept.2) ∙ mode.1 in
         let here = place-there w.places u
         (omega (
           arith,
