@@ -67,7 +67,7 @@ use std::marker::Model;
 /// ```
 #[derive(Drop)]
 pub struct MapWorld<K: Eq + Hash, V, S: BuildHasher, D: Deed<K, V>, A: Allocator = Global> {
-    core: Core<K, V, S, D, D::Answer, A>,
+    pub(crate) core: Core<K, V, S, D, D::Answer, A>,
 }
 
 impl<K: Eq + Hash, V, S: BuildHasher, D: Deed<K, V>, A: Allocator> Model

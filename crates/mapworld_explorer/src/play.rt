@@ -1,15 +1,16 @@
 //! How a case is played: in each way that it may be, line by line.
 
 use crate::seen::write_seen;
-use crate::traced::{Traced, World};
-use mapworld::{MapWorld, SpreadState, Step, WorldNewFault};
-use mapworld_text::{Asked, Case, Line, Order, View};
+use crate::traced::Traced;
+use crate::worlds::{calls_of, world_of};
+use mapworld::{Step, WorldNewFault};
+use mapworld_text::{Case, Line, Order, View};
 use std::alloc::{AllocError, Global};
 use std::fmt;
 
 /// How a case comes to its end.
 #[derive(Clone, Copy, PartialEq, Eq)]
-enum Ending {
+pub(crate) enum Ending {
     Round,
     Drain,
 }
@@ -17,8 +18,8 @@ enum Ending {
 /// How a case is played: its ending, and the threads whose steps are fair, as bits.
 #[derive(Clone, Copy)]
 pub struct Way {
-    ending: Ending,
-    fair: u64,
+    pub(crate) ending: Ending,
+    pub(crate) fair: u64,
 }
 
 impl fmt::Display for Way {
@@ -50,35 +51,6 @@ fn is_text(found: &str, want: &[&str]) -> bool {
         count = count.saturating_add(1);
     }
     count == want.len()
-}
-
-/// The programs once more, since a world takes them.
-fn programs_of(alloc: Global, case: &Case<'_>) -> Result<Vec<Vec<Asked>>, AllocError> {
-    let mut programs = Vec::with_capacity(alloc, case.programs.len())?;
-    for program in &case.programs {
-        let mut calls = Vec::with_capacity(alloc, program.len())?;
-        for ask in program {
-            calls.push(ask.clone()?)?;
-        }
-        programs.push(calls)?;
-    }
-    Ok(programs)
-}
-
-/// The world of a case, or why it isn't made.
-fn world_of(alloc: Global, case: &Case<'_>) -> Result<Result<World, WorldNewFault>, AllocError> {
-    let pairs = case.pairs.clone()?;
-    let programs = programs_of(alloc, case)?;
-    Ok(MapWorld::new(alloc, case.shards, SpreadState, pairs, programs))
-}
-
-/// How many calls the programs have.
-fn calls_of(case: &Case<'_>) -> usize {
-    let mut calls: usize = 0;
-    for program in &case.programs {
-        calls = calls.saturating_add(program.len());
-    }
-    calls
 }
 
 /// Runs one step of each of these threads, and writes how that is answered.
@@ -167,13 +139,14 @@ fn holds(
         Order::Expect(View::Words(_)) if ending == Ending::Drain => Ok(true),
         Order::Expect(view) => is_seen(traced, case, view, line, found),
         Order::Through(thread) => traced.step_through(thread),
+        Order::Claim(_) => Ok(true),
         Order::Round => traced.step_round(),
         Order::Seed { seed, steps } => traced.step_at_random(seed, steps),
     }
 }
 
 /// Plays the lines of a case on its world.
-fn failure_on(
+pub(crate) fn failure_on(
     traced: &mut Traced,
     case: &Case<'_>,
     way: Way,
@@ -224,7 +197,7 @@ fn failure_by(alloc: Global, case: &Case<'_>, way: Way) -> Result<Option<Failure
 }
 
 /// The bits of these threads, of which the choice has as many bits.
-fn bits_of(threads: &[usize], choice: u64) -> u64 {
+pub(crate) fn bits_of(threads: &[usize], choice: u64) -> u64 {
     let mut bits = 0;
     let mut left = choice;
     for thread in threads {

@@ -1,10 +1,8 @@
 //! A world that is stepped, and the words that its shards have had.
 
-use mapworld::{MapWorld, RunFault, SpreadState, Step};
-use mapworld_text::Change;
+use crate::worlds::World;
+use mapworld::{RunFault, Step};
 use std::alloc::{AllocError, Global};
-
-pub type World = MapWorld<u64, u64, SpreadState, Change>;
 
 /// A world that is stepped.
 #[derive(Drop)]

@@ -1,6 +1,7 @@
 //! What is seen of a world, as it is written in a text.
 
-use crate::traced::{Traced, World};
+use crate::traced::Traced;
+use crate::worlds::World;
 use mapworld::{Answer, Status};
 use mapworld_text::{Case, Shown, View};
 use std::alloc::AllocError;

@@ -1,0 +1,93 @@
+//! All that the cases of a file can come to.
+
+use crate::command::Options;
+use crate::files::{is_meant, limit_name, schedule_text, searched, write_title};
+use crate::json::json_of;
+use mapworld_explorer::{Outcome, Search};
+use mapworld_text::{Case, read};
+use std::rt::Files;
+use std::{fs, io};
+
+/// Tells one outcome.
+fn tell_outcome<R: Print + AllocGlobal>(
+    rt: &R,
+    case: &Case<'_>,
+    search: &Search<'_, '_>,
+    number: usize,
+    outcome: &Outcome,
+) -> io::Result<()> {
+    let mut text = String::new(rt.alloc());
+    outcome.write(case, &mut text)?;
+    let schedule = schedule_text(rt.alloc(), case, &search.schedule(outcome.state)?)?;
+    println!(rt; "outcome {number}: {}", text.as_str())?;
+    println!(rt; "  {} ends, the nearest by {} steps:", outcome.ends, outcome.steps)?;
+    println!(rt; "  {}", schedule.as_str())
+}
+
+/// Tells what was found of a case.
+fn tell<R: Print + AllocGlobal>(
+    rt: &R,
+    title: &str,
+    case: &Case<'_>,
+    search: &Search<'_, '_>,
+) -> io::Result<()> {
+    let outcomes = search.outcomes.len();
+    println!(rt; "{title}: {} states, {} ends, {outcomes} outcomes", search.states(), search.ends)?;
+    if let Some(limit) = search.limit {
+        println!(rt; "  not all schedules: the limit {} was met", limit_name(limit))?;
+    }
+    for (index, outcome) in search.outcomes.iter().enumerate() {
+        tell_outcome(rt, case, search, index.saturating_add(1), outcome)?;
+    }
+    Ok(())
+}
+
+/// Explores a case; says whether that came to its end.
+fn explore_case<R: Print + Eprint + AllocGlobal>(
+    rt: &R,
+    options: &Options<'_, '_>,
+    file: &str,
+    case: &Case<'_>,
+) -> io::Result<bool> {
+    let mut title = String::new(rt.alloc());
+    write_title(file, case, &mut title)?;
+    let search = match searched(rt, options, case)? {
+        Ok(search) => search,
+        Err(fault) => {
+            println!(rt; "{}: {fault}", title.as_str())?;
+            return Ok(false);
+        }
+    };
+    if options.is_json() {
+        let text = json_of(rt.alloc(), file, case, &search)?;
+        println!(rt; "{}", text.as_str())?;
+    } else {
+        tell(rt, title.as_str(), case, &search)?;
+    }
+    Ok(search.limit.is_none())
+}
+
+/// Explores the cases of a file that are meant.
+pub fn explore<R: Files + Print + Eprint + AllocGlobal>(
+    rt: &R,
+    options: &Options<'_, '_>,
+) -> io::Result<bool> {
+    let mut is_whole = true;
+    for file in options.files() {
+        let text = fs::read_to_string(rt, *file)?;
+        match read(rt.alloc(), text.as_str()) {
+            Ok(cases) => {
+                for case in &cases {
+                    if is_meant(options, case) {
+                        is_whole = is_whole & explore_case(rt, options, file, case)?;
+                    }
+                }
+            }
+            Err(fault) => {
+                println!(rt; "{file}: {fault}")?;
+                is_whole = false;
+            }
+        }
+    }
+    Ok(is_whole)
+}

@@ -1,0 +1,160 @@
+//! One schedule to an outcome, in words and as a picture.
+
+use crate::command::Options;
+use crate::files::{meant, searched};
+use crate::picture::page;
+use mapworld_explorer::{Course, Outcome, Search, course_of, is_so};
+use mapworld_text::{Case, Expected, read, terms};
+use std::alloc::Global;
+use std::rt::Files;
+use std::{fs, io};
+
+/// How an outcome's schedule is told.
+#[derive(Clone, Copy, PartialEq, Eq)]
+enum Form {
+    Words,
+    Picture,
+}
+
+/// The outcome of a number or of words, if there is one.
+fn outcome_by(
+    alloc: Global,
+    case: &Case<'_>,
+    search: &Search<'_, '_>,
+    words: &[&str],
+) -> Result<Option<usize>, Expected> {
+    if let [word] = *words
+        && let Ok(number) = word.parse::<usize>()
+    {
+        return Ok(number.checked_sub(1));
+    }
+    let terms = terms(alloc, case, words)?;
+    Ok(search
+        .outcomes
+        .iter()
+        .position(|outcome| is_so(outcome, &terms)))
+}
+
+/// Tells a course in words.
+fn tell_course<R: Print>(rt: &R, course: &Course) -> io::Result<()> {
+    for told in &course.told {
+        println!(rt; "step {}: {}", told.step, told.text.as_str())?;
+    }
+    Ok(())
+}
+
+/// Tells one schedule to an outcome.
+fn tell<R: Print + AllocGlobal>(
+    rt: &R,
+    form: Form,
+    case: &Case<'_>,
+    search: &Search<'_, '_>,
+    outcome: &Outcome,
+    number: usize,
+) -> io::Result<bool> {
+    let schedule = search.schedule(outcome.state)?;
+    let course = match course_of(rt.alloc(), case, &schedule) {
+        Ok(course) => course,
+        Err(fault) => {
+            println!(rt; "{fault}")?;
+            return Ok(false);
+        }
+    };
+    let mut text = String::new(rt.alloc());
+    outcome.write(case, &mut text)?;
+    if form == Form::Picture {
+        let title = (case.name, number, search.outcomes.len());
+        let page = page(rt.alloc(), case, title, text.as_str(), &course)?;
+        print!(rt; "{}", page.as_str())?;
+    } else {
+        println!(rt; "outcome {number} of {}: {}", search.outcomes.len(), text.as_str())?;
+        tell_course(rt, &course)?;
+    }
+    Ok(true)
+}
+
+/// Finds the outcome that is meant, and tells one schedule to it.
+fn tell_case<R: Print + Eprint + AllocGlobal>(
+    rt: &R,
+    options: &Options<'_, '_>,
+    form: Form,
+    file: &str,
+    case: &Case<'_>,
+) -> io::Result<bool> {
+    let search = match searched(rt, options, case)? {
+        Ok(search) => search,
+        Err(fault) => {
+            eprintln!(rt; "{file}: {fault}")?;
+            return Ok(false);
+        }
+    };
+    let index = match outcome_by(rt.alloc(), case, &search, options.outcome()) {
+        Ok(index) => index,
+        Err(expected) => {
+            eprintln!(rt; "expected the number of an outcome, or {}", expected.words())?;
+            return Ok(false);
+        }
+    };
+    let outcome = match index {
+        Some(index) => search.outcomes.get(index),
+        None => None,
+    };
+    match (outcome, index) {
+        (Some(outcome), Some(index)) => {
+            tell(rt, form, case, &search, outcome, index.saturating_add(1))
+        }
+        _ => {
+            let outcomes = search.outcomes.len();
+            eprintln!(rt; "{file}: none of the {outcomes} outcomes is that one")?;
+            Ok(false)
+        }
+    }
+}
+
+/// Tells one schedule to an outcome of a file's case.
+fn tell_file<R: Files + Print + Eprint + AllocGlobal>(
+    rt: &R,
+    options: &Options<'_, '_>,
+    form: Form,
+    file: &str,
+) -> io::Result<bool> {
+    let text = fs::read_to_string(rt, file)?;
+    let cases = match read(rt.alloc(), text.as_str()) {
+        Ok(cases) => cases,
+        Err(fault) => {
+            eprintln!(rt; "{file}: {fault}")?;
+            return Ok(false);
+        }
+    };
+    match meant(options, &cases) {
+        Some(case) => tell_case(rt, options, form, file, case),
+        None => {
+            eprintln!(rt; "{file}: no such case")?;
+            Ok(false)
+        }
+    }
+}
+
+/// Tells one schedule to an outcome in words.
+pub fn why<R: Files + Print + Eprint + AllocGlobal>(
+    rt: &R,
+    options: &Options<'_, '_>,
+) -> io::Result<bool> {
+    let mut is_told = true;
+    for file in options.files() {
+        is_told = is_told & tell_file(rt, options, Form::Words, file)?;
+    }
+    Ok(is_told)
+}
+
+/// Draws one schedule to an outcome.
+pub fn picture<R: Files + Print + Eprint + AllocGlobal>(
+    rt: &R,
+    options: &Options<'_, '_>,
+) -> io::Result<bool> {
+    let mut is_told = true;
+    for file in options.files() {
+        is_told = is_told & tell_file(rt, options, Form::Picture, file)?;
+    }
+    Ok(is_told)
+}
