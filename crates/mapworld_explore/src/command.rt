@@ -77,7 +77,7 @@ fn outcome(alloc: Global) -> Arg<'static> {
         .required(true)
         .action(ArgAction::Append)
         .num_args(1..)
-        .help("its number, or words of it, as a.0=none contents 1=10")
+        .help("its number, or words of it, as a.0=none contents 1=10; or run, for the case's own schedule")
 }
 
 fn number(alloc: Global, name: &'static str, help: &'static str) -> Arg<'static> {

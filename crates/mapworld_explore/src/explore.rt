@@ -19,8 +19,9 @@ fn tell_outcome<R: Print + AllocGlobal>(
     let mut text = String::new(rt.alloc());
     outcome.write(case, &mut text)?;
     let schedule = schedule_text(rt.alloc(), case, &search.schedule(outcome.state)?)?;
+    let ends = search.ends;
     println!(rt; "outcome {number}: {}", text.as_str())?;
-    println!(rt; "  {} ends, the nearest by {} steps:", outcome.ends, outcome.steps)?;
+    println!(rt; "  at {} of {ends} ends, the nearest by {} steps:", outcome.ends, outcome.steps)?;
     println!(rt; "  {}", schedule.as_str())
 }
 

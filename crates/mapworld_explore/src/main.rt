@@ -5,6 +5,7 @@
 #![tactic(auto)]
 
 mod check;
+mod column;
 mod command;
 mod explore;
 mod files;

@@ -1,7 +1,8 @@
 //! A schedule as a page of HTML with a picture in it: a lane a thread, time to the right.
 
+use crate::column::write_columns;
 use crate::shapes::{
-    Anchor, Written, width_of, write_box, write_dot, write_fitted, write_line, write_plain,
+    Anchor, DEFINITIONS, Written, width_of, write_box, write_dot, write_fitted, write_line, write_plain,
     write_text,
 };
 use mapworld_explorer::{Bar, Course, Held, Sleep, Waking};
@@ -30,13 +31,9 @@ svg .tiny{font-family:monospace;font-size:10px}svg .answer{font-size:12px;font-s
 .lane{stroke:#ccc}.grid{stroke:#eee}.axis{stroke:#333}.drop{stroke:#333;stroke-dasharray:2 3}
 .wake{stroke:#111;stroke-width:1.5;marker-end:url(#head)}.tick{stroke:#888}
 ol{font-size:14px;line-height:1.5;padding-left:2.5em}
+.narrow{display:none}@media screen and (max-width:600px){.wide{display:none}.narrow{display:block}body{margin:16px}}
 @media print{svg{width:100%;height:auto}.wide{overflow:visible}}
 ";
-
-const DEFINITIONS: &str = "<defs><pattern id=\"hatch\" width=\"6\" height=\"6\" patternUnits=\"userSpaceOnUse\" \
-patternTransform=\"rotate(45)\"><rect width=\"6\" height=\"6\" fill=\"white\"/><line x1=\"0\" y1=\"0\" x2=\"0\" y2=\"6\" \
-stroke=\"#777\" stroke-width=\"2\"/></pattern><marker id=\"head\" viewBox=\"0 0 8 8\" refX=\"7\" refY=\"4\" \
-markerWidth=\"7\" markerHeight=\"7\" orient=\"auto\"><path d=\"M0 0L8 4L0 8z\"/></marker></defs>\n";
 
 /// Where what is drawn stands.
 #[derive(Clone, Copy)]
@@ -312,27 +309,28 @@ fn write_told(course: &Course, out: &mut String) -> Written {
     out.push_str("</ol>\n")
 }
 
-/// A page that shows a schedule to an outcome, which is told by its case's name, its number and how many there are.
+/// A page that shows a schedule of a case, with that heading.
 pub fn page(
     alloc: Global,
     case: &Case<'_>,
-    of: (&str, usize, usize),
-    outcome: &str,
+    heading: &str,
     course: &Course,
 ) -> Result<String, AllocError> {
     let mut out = String::new(alloc);
     out.push_str("<!DOCTYPE html>\n<html lang=\"en\"><head><meta charset=\"utf-8\">")?;
     out.push_str("<meta name=\"viewport\" content=\"width=device-width\"><title>")?;
-    write_plain(of.0, &mut out)?;
+    write_plain(case.name, &mut out)?;
     write!(out, "</title><style>{STYLE}</style></head><body>\n<h1>")?;
-    write_plain(of.0, &mut out)?;
-    write!(out, ": outcome {} of {}</h1>\n<p>", of.1, of.2)?;
-    write_plain(outcome, &mut out)?;
+    write_plain(case.name, &mut out)?;
+    out.push_str("</h1>\n<p>")?;
+    write_plain(heading, &mut out)?;
     out.push_str("</p>\n<div class=\"wide\">\n")?;
     write_picture(alloc, case, course, &mut out)?;
+    out.push_str("</div>\n<div class=\"narrow\">\n")?;
+    write_columns(case, course, &mut out)?;
     out.push_str("</div>\n<p>A bar is a call; a dot is where it counts as done, on the one plain map; ")?;
-    out.push_str("hatched, the thread sleeps; an arrow is a wake. Below, who holds which shard, alone or ")?;
-    out.push_str("shared (dashed), and the word of its lock.</p>\n")?;
+    out.push_str("hatched, the thread sleeps; an arrow is a wake. Bands show who holds a shard, alone or ")?;
+    out.push_str("shared (dashed); below them stands the word of its lock.</p>\n")?;
     write_told(course, &mut out)?;
     out.push_str("</body></html>\n")?;
     Ok(out)

@@ -68,7 +68,7 @@ fn tell_contents<R: Print + AllocGlobal>(rt: &R, world: &World) -> io::Result<()
 fn run_case<R: Print + AllocGlobal>(rt: &R, file: &str, case: &Case<'_>) -> io::Result<bool> {
     let mut title = String::new(rt.alloc());
     write_title(file, case, &mut title)?;
-    let Played { world, failure } = match play(rt.alloc(), case) {
+    let Played { world, failure, .. } = match play(rt.alloc(), case) {
         Ok(played) => played,
         Err(fault) => {
             println!(rt; "{}: {fault}", title.as_str())?;

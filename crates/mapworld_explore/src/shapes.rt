@@ -8,6 +8,12 @@ pub type Written = Result<(), AllocError>;
 /// How wide a letter is, in tenths of a pixel.
 const LETTER: u64 = 72;
 
+/// The signs for a sleep and for a wake.
+pub const DEFINITIONS: &str = "<defs><pattern id=\"hatch\" width=\"6\" height=\"6\" patternUnits=\"userSpaceOnUse\" \
+patternTransform=\"rotate(45)\"><rect width=\"6\" height=\"6\" fill=\"white\"/><line x1=\"0\" y1=\"0\" x2=\"0\" y2=\"6\" \
+stroke=\"#777\" stroke-width=\"2\"/></pattern><marker id=\"head\" viewBox=\"0 0 8 8\" refX=\"7\" refY=\"4\" \
+markerWidth=\"7\" markerHeight=\"7\" orient=\"auto\"><path d=\"M0 0L8 4L0 8z\"/></marker></defs>\n";
+
 /// Where a text begins or ends.
 #[derive(Clone, Copy)]
 pub enum Anchor {

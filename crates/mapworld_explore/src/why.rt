@@ -3,7 +3,10 @@
 use crate::command::Options;
 use crate::files::{meant, searched};
 use crate::picture::page;
-use mapworld_explorer::{Course, Outcome, Search, course_of, is_so};
+use mapworld::Step;
+use mapworld_explorer::{
+    Course, ExploreFault, Outcome, Search, course_of, is_so, play, with_late_starts,
+};
 use mapworld_text::{Case, Expected, read, terms};
 use std::alloc::Global;
 use std::rt::Files;
@@ -43,8 +46,60 @@ fn tell_course<R: Print>(rt: &R, course: &Course) -> io::Result<()> {
     Ok(())
 }
 
+/// Tells a schedule, which is headed so.
+fn tell_schedule<R: Print + Eprint + AllocGlobal>(
+    rt: &R,
+    form: Form,
+    case: &Case<'_>,
+    heading: &str,
+    schedule: &[Step],
+) -> io::Result<bool> {
+    let course = match course_of(rt.alloc(), case, schedule) {
+        Ok(course) => course,
+        Err(fault) => {
+            eprintln!(rt; "{fault}")?;
+            return Ok(false);
+        }
+    };
+    if form == Form::Picture {
+        let page = page(rt.alloc(), case, heading, &course)?;
+        print!(rt; "{}", page.as_str())?;
+    } else {
+        println!(rt; "{heading}")?;
+        tell_course(rt, &course)?;
+    }
+    Ok(true)
+}
+
+/// The steps of a shortest schedule to an outcome.
+fn schedule_to(
+    alloc: Global,
+    case: &Case<'_>,
+    search: &Search<'_, '_>,
+    outcome: &Outcome,
+) -> Result<Vec<Step>, ExploreFault> {
+    let schedule = search.schedule(outcome.state)?;
+    with_late_starts(alloc, case, &schedule)
+}
+
+/// Tells a case's own schedule.
+fn tell_own<R: Print + Eprint + AllocGlobal>(
+    rt: &R,
+    form: Form,
+    file: &str,
+    case: &Case<'_>,
+) -> io::Result<bool> {
+    match play(rt.alloc(), case) {
+        Ok(played) => tell_schedule(rt, form, case, "by its own schedule", &played.schedule),
+        Err(fault) => {
+            eprintln!(rt; "{file}: {fault}")?;
+            Ok(false)
+        }
+    }
+}
+
 /// Tells one schedule to an outcome.
-fn tell<R: Print + AllocGlobal>(
+fn tell<R: Print + Eprint + AllocGlobal>(
     rt: &R,
     form: Form,
     case: &Case<'_>,
@@ -52,25 +107,17 @@ fn tell<R: Print + AllocGlobal>(
     outcome: &Outcome,
     number: usize,
 ) -> io::Result<bool> {
-    let schedule = search.schedule(outcome.state)?;
-    let course = match course_of(rt.alloc(), case, &schedule) {
-        Ok(course) => course,
+    let schedule = match schedule_to(rt.alloc(), case, search, outcome) {
+        Ok(schedule) => schedule,
         Err(fault) => {
-            println!(rt; "{fault}")?;
+            eprintln!(rt; "{fault}")?;
             return Ok(false);
         }
     };
-    let mut text = String::new(rt.alloc());
-    outcome.write(case, &mut text)?;
-    if form == Form::Picture {
-        let title = (case.name, number, search.outcomes.len());
-        let page = page(rt.alloc(), case, title, text.as_str(), &course)?;
-        print!(rt; "{}", page.as_str())?;
-    } else {
-        println!(rt; "outcome {number} of {}: {}", search.outcomes.len(), text.as_str())?;
-        tell_course(rt, &course)?;
-    }
-    Ok(true)
+    let mut heading = String::new(rt.alloc());
+    write!(heading, "outcome {number} of {}: ", search.outcomes.len())?;
+    outcome.write(case, &mut heading)?;
+    tell_schedule(rt, form, case, heading.as_str(), &schedule)
 }
 
 /// Finds the outcome that is meant, and tells one schedule to it.
@@ -81,6 +128,9 @@ fn tell_case<R: Print + Eprint + AllocGlobal>(
     file: &str,
     case: &Case<'_>,
 ) -> io::Result<bool> {
+    if let ["run"] = *options.outcome() {
+        return tell_own(rt, form, file, case);
+    }
     let search = match searched(rt, options, case)? {
         Ok(search) => search,
         Err(fault) => {

@@ -1,6 +1,7 @@
 //! One schedule, step by step, with all that is seen on the way.
 
 use crate::outcome::contents_of;
+use crate::standing::kind_of;
 use crate::told::Before;
 use crate::worlds::{ExploreFault, World, world_behind};
 use lock_api_desk::Mode;
@@ -226,6 +227,47 @@ impl Course {
         }
         Ok(())
     }
+}
+
+/// Whether the thread's next step is the start of a call, which nobody else sees.
+fn starts(world: &World, thread: usize) -> bool {
+    match world.place(thread) {
+        Some(stand) => kind_of(stand) == 0,
+        None => false,
+    }
+}
+
+/// The same schedule with each call started right before the next step of its thread, which comes to the same: so that
+/// a call begins where its thread goes on.
+pub fn with_late_starts(
+    alloc: Global,
+    case: &Case<'_>,
+    schedule: &[Step],
+) -> Result<Vec<Step>, ExploreFault> {
+    let mut world = world_behind(alloc, case, &[])?;
+    let mut late = Vec::with_capacity(alloc, schedule.len())?;
+    let mut held: Vec<bool> = Vec::new(alloc);
+    for _ in 0..world.threads() {
+        held.push(false)?;
+    }
+    for step in schedule {
+        if let Some(is_held) = held.get_mut(step.thread) {
+            if starts(&world, step.thread) {
+                *is_held = true;
+            } else {
+                if *is_held {
+                    late.push(Step {
+                        thread: step.thread,
+                        fair: false,
+                    })?;
+                    *is_held = false;
+                }
+                late.push(*step)?;
+            }
+        }
+        world.run(&[*step])?;
+    }
+    Ok(late)
 }
 
 /// The course of a case by a schedule.

@@ -19,7 +19,7 @@ mod traced;
 mod worlds;
 
 pub use checked::{Broken, broken_claim, is_claim, is_so};
-pub use course::{Bar, Course, Held, Point, Sleep, Told, Waking, course_of};
+pub use course::{Bar, Course, Held, Point, Sleep, Told, Waking, course_of, with_late_starts};
 pub use outcome::Outcome;
 pub use play::{Failure, failure_of};
 pub use played::{Played, play};

@@ -3,13 +3,17 @@
 use crate::play::{Ending, Failure, Way, bits_of, failure_on};
 use crate::traced::Traced;
 use crate::worlds::{ExploreFault, World, world_behind};
+use mapworld::Step;
 use mapworld_text::{Case, Order};
 use std::alloc::Global;
 
-/// A world behind the schedule of its case, and the first line of that which can't be carried out or isn't so.
+/// A world behind the schedule of its case.
 #[derive(Drop)]
 pub struct Played {
     pub world: World,
+    /// Its steps, where none was left to the world's own drain.
+    pub schedule: Vec<Step>,
+    /// The first line that can't be carried out or isn't so.
     pub failure: Option<Failure>,
 }
 
@@ -32,6 +36,10 @@ pub fn play(alloc: Global, case: &Case<'_>) -> Result<Played, ExploreFault> {
         let _ = traced.step_round()?;
     }
     let failure = failure_on(&mut traced, case, way)?;
-    let Traced { world, .. } = traced;
-    Ok(Played { world, failure })
+    let Traced { world, made, .. } = traced;
+    Ok(Played {
+        world,
+        schedule: made,
+        failure,
+    })
 }

@@ -95,11 +95,27 @@ impl Before {
         out.push_str(case.name_of(self.thread))?;
         out.push_str(" ")?;
         match self.act {
+            None if self.gives_up(world) => self.write_given_up(world, out)?,
             Some(Act::Done(_)) | None => self.write_work(case, out)?,
-            Some(act) => self.write_act(act, world, out)?,
+            Some(act) => {
+                self.write_act(act, world, out)?;
+                self.write_hold(world, out)?;
+            }
         }
-        self.write_hold(world, out)?;
         self.write_decided(world, case, out)
+    }
+
+    /// Whether the shard was given up by the step.
+    fn gives_up(&self, world: &World) -> bool {
+        self.hold.is_some() && world.hold(self.thread, self.shard).is_none()
+    }
+
+    /// A step that gives the shard up at once.
+    fn write_given_up(&self, world: &World, out: &mut String) -> Written {
+        let shard = self.shard;
+        let before = self.word;
+        let word = world.word(shard);
+        write!(out, "gives shard {shard} up: its word {before} becomes {word}")
     }
 
     /// A step at a lock.
@@ -108,7 +124,7 @@ impl Before {
         let before = self.word;
         let word = world.word(shard);
         match act {
-            Act::Load => write!(out, "loads the word of shard {shard}: {word}"),
+            Act::Load => write!(out, "looks at the word of shard {shard}: {word}"),
             Act::Exchange(from, to) if before == from => {
                 write!(out, "exchanges the word of shard {shard}: {from} becomes {to}")
             }
@@ -163,9 +179,8 @@ impl Before {
             14 => write!(out, "looks into shard {shard}"),
             15 => out.push_str("finds the next pair"),
             16 => out.push_str("does with a pair what the walk does"),
-            17 => write!(out, "gives shard {shard} up"),
+            17 | 19 => write!(out, "is to give shard {shard} up"),
             18 => out.push_str("asks for the next shard"),
-            19 => write!(out, "gives shard {shard} up"),
             _ => write!(out, "ends `{call}`"),
         }
     }
@@ -188,7 +203,7 @@ impl Before {
         match (self.hold, world.hold(self.thread, shard)) {
             (None, Some(Mode::Exclusive)) => write!(out, ", and has shard {shard} alone"),
             (None, Some(_)) => write!(out, ", and shares shard {shard}"),
-            (Some(_), None) => write!(out, ", and shard {shard} is given up"),
+            (Some(_), None) => write!(out, ", and gives shard {shard} up"),
             _ => Ok(()),
         }
     }

@@ -15,6 +15,8 @@ pub struct Traced {
     shards: usize,
     /// Each new word of a shard since the first step, in their order.
     pub words: Vec<(usize, u64)>,
+    /// The steps that were made one by one.
+    pub made: Vec<Step>,
 }
 
 impl Traced {
@@ -25,6 +27,7 @@ impl Traced {
             fair,
             shards,
             words: Vec::new(alloc),
+            made: Vec::new(alloc),
         }
     }
 
@@ -58,7 +61,11 @@ impl Traced {
     /// Makes a step of a thread, fair if it is to be or the thread's steps are. Answers why it isn't done, if it isn't.
     pub fn step(&mut self, thread: usize, fair: bool) -> Result<Option<RunFault>, AllocError> {
         let fair = fair || self.is_fair(thread);
-        let fault = self.world.run(&[Step { thread, fair }]).err();
+        let step = Step { thread, fair };
+        let fault = self.world.run(&[step]).err();
+        if fault.is_none() {
+            self.made.push(step)?;
+        }
         self.note()?;
         Ok(fault)
     }

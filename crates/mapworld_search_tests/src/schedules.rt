@@ -1,6 +1,6 @@
 //! All schedules of two threads with calls of each pair of kinds, each state of them drained.
 //!
-//! Programs are written as in a file of `mapworld_cases`; each thread of a text stands for one that is tried.
+//! Programs are written as in a file of `mapworld_explore`; each thread of a text stands for one that is tried.
 
 use crate::explorer::{Explorer, Found, Two};
 use crate::look::shard_of;
