@@ -137,7 +137,10 @@ fn keeps_claims<R: Print + Eprint + AllocGlobal>(
             Ok(false)
         }
         Err(expected) => {
-            println!(rt; "{file}:{number}: in `{name}`: expected {}", expected.words())?;
+            println!(rt;
+                "{file}:{number}: in `{name}`: expected {}",
+                expected.words()
+            )?;
             Ok(false)
         }
     }

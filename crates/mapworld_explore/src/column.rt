@@ -1,7 +1,7 @@
 //! The same picture for narrow pages: time downwards, a column a thread.
 
 use crate::shapes::{
-    Anchor, DEFINITIONS, Written, write_box, write_dot, write_fitted, write_line, write_text,
+    Anchor, Written, write_box, write_dot, write_fitted, write_head, write_line, write_text,
 };
 use mapworld_explorer::{Bar, Course, Held, Sleep, Waking};
 use mapworld_text::Case;
@@ -66,12 +66,24 @@ fn write_bar(columns: Columns, case: &Case<'_>, bar: &Bar, out: &mut String) -> 
     let y = columns.y(bar.start.saturating_sub(1));
     let end = columns.y(bar.end);
     let width = columns.bar();
-    write_box((x, y), (width, end.saturating_sub(y)), bar.thread, "bar", out)?;
+    write_box(
+        (x, y),
+        (width, end.saturating_sub(y)),
+        bar.thread,
+        "bar",
+        out,
+    )?;
     let call = case.call_of(bar.thread, bar.call);
     let room = width.saturating_sub(6);
     let x = x.saturating_add(3);
     write_fitted((x, y.saturating_add(12)), room, "small", call, out)?;
-    write_fitted((x, end.saturating_sub(4)), room, "answer", bar.answer.as_str(), out)
+    write_fitted(
+        (x, end.saturating_sub(4)),
+        room,
+        "answer",
+        bar.answer.as_str(),
+        out,
+    )
 }
 
 /// A sleep.
@@ -138,7 +150,13 @@ fn write_contents(columns: Columns, course: &Course, out: &mut String) -> Writte
         let y = columns.y(*step);
         write_line((x, y), (x.saturating_add(CONTENTS), y), "axis", out)?;
         let room = CONTENTS.saturating_sub(4);
-        write_fitted((x.saturating_add(2), y.saturating_add(13)), room, "mono", pairs.as_str(), out)?;
+        write_fitted(
+            (x.saturating_add(2), y.saturating_add(13)),
+            room,
+            "mono",
+            pairs.as_str(),
+            out,
+        )?;
     }
     Ok(())
 }
@@ -148,11 +166,7 @@ pub fn write_columns(case: &Case<'_>, course: &Course, out: &mut String) -> Resu
     let columns = Columns::of(course, case.programs.len());
     let width = columns.x(columns.threads).saturating_add(CONTENTS);
     let height = columns.y(columns.steps).saturating_add(12);
-    write!(
-        out,
-        "<svg xmlns=\"http://www.w3.org/2000/svg\" role=\"img\" viewBox=\"0 0 {width} {height}\" width=\"{width}\" height=\"{height}\">\n"
-    )?;
-    out.push_str(DEFINITIONS)?;
+    write_head(width, height, out)?;
     write_grid(columns, case, out)?;
     for bar in &course.bars {
         write_bar(columns, case, bar, out)?;

@@ -77,7 +77,9 @@ fn outcome(alloc: Global) -> Arg<'static> {
         .required(true)
         .action(ArgAction::Append)
         .num_args(1..)
-        .help("its number, or words of it, as a.0=none contents 1=10; or run, for the case's own schedule")
+        .help(
+            "its number, or words of it, as a.0=none contents 1=10; or run, for the case's own schedule",
+        )
 }
 
 fn number(alloc: Global, name: &'static str, help: &'static str) -> Arg<'static> {
@@ -124,10 +126,14 @@ fn running(alloc: Global) -> Result<Command<'static>, AllocError> {
 }
 
 fn exploring(alloc: Global) -> Result<Command<'static>, AllocError> {
-    searching(alloc, "explore", "List all that the cases of a file can come to, by every schedule")?
-        .arg(file(alloc))?
-        .arg(case(alloc))?
-        .arg(flag(alloc, "json", "for other programs"))
+    searching(
+        alloc,
+        "explore",
+        "List all that the cases of a file can come to, by every schedule",
+    )?
+    .arg(file(alloc))?
+    .arg(case(alloc))?
+    .arg(flag(alloc, "json", "for other programs"))
 }
 
 fn telling(
@@ -142,8 +148,12 @@ fn telling(
 }
 
 fn checking(alloc: Global) -> Result<Command<'static>, AllocError> {
-    searching(alloc, "check", "Play the cases of files, and test what they claim of all schedules")?
-        .arg(files(alloc))
+    searching(
+        alloc,
+        "check",
+        "Play the cases of files, and test what they claim of all schedules",
+    )?
+    .arg(files(alloc))
 }
 
 /// The whole of it.
@@ -153,7 +163,11 @@ pub fn command(alloc: Global) -> Result<Command<'static>, AllocError> {
         .subcommand_required(true)
         .subcommand(running(alloc)?)?
         .subcommand(exploring(alloc)?)?
-        .subcommand(telling(alloc, "why", "Tell a shortest schedule to an outcome, step by step")?)?
+        .subcommand(telling(
+            alloc,
+            "why",
+            "Tell a shortest schedule to an outcome, step by step",
+        )?)?
         .subcommand(telling(alloc, "picture", "Draw that schedule, as a page of HTML")?)?
         .subcommand(checking(alloc)?)
 }

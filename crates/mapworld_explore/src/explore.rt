@@ -21,7 +21,10 @@ fn tell_outcome<R: Print + AllocGlobal>(
     let schedule = schedule_text(rt.alloc(), case, &search.schedule(outcome.state)?)?;
     let ends = search.ends;
     println!(rt; "outcome {number}: {}", text.as_str())?;
-    println!(rt; "  at {} of {ends} ends, the nearest by {} steps:", outcome.ends, outcome.steps)?;
+    println!(rt;
+        "  at {} of {ends} ends, the nearest by {} steps:",
+        outcome.ends, outcome.steps
+    )?;
     println!(rt; "  {}", schedule.as_str())
 }
 
@@ -33,9 +36,16 @@ fn tell<R: Print + AllocGlobal>(
     search: &Search<'_, '_>,
 ) -> io::Result<()> {
     let outcomes = search.outcomes.len();
-    println!(rt; "{title}: {} states, {} ends, {outcomes} outcomes", search.states(), search.ends)?;
+    println!(rt;
+        "{title}: {} states, {} ends, {outcomes} outcomes",
+        search.states(),
+        search.ends
+    )?;
     if let Some(limit) = search.limit {
-        println!(rt; "  not all schedules: the limit {} was met", limit_name(limit))?;
+        println!(rt;
+            "  not all schedules: the limit {} was met",
+            limit_name(limit)
+        )?;
     }
     for (index, outcome) in search.outcomes.iter().enumerate() {
         tell_outcome(rt, case, search, index.saturating_add(1), outcome)?;

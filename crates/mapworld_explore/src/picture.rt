@@ -2,7 +2,7 @@
 
 use crate::column::write_columns;
 use crate::shapes::{
-    Anchor, DEFINITIONS, Written, width_of, write_box, write_dot, write_fitted, write_line, write_plain,
+    Anchor, Written, width_of, write_box, write_dot, write_fitted, write_line, write_plain,
     write_text,
 };
 use mapworld_explorer::{Bar, Course, Held, Sleep, Waking};
@@ -26,7 +26,7 @@ const STYLE: &str = "body{font-family:system-ui,sans-serif;margin:24px;color:#11
 h1{font-size:20px;margin:0 0 4px}p{margin:4px 0 12px}.wide{overflow-x:auto}
 svg text{font-size:12px;fill:#111}svg .small{font-size:11px}svg .faint{font-size:11px;fill:#666}
 svg .name{font-size:13px;font-weight:bold}svg .mono{font-family:monospace;font-size:12px}
-svg .tiny{font-family:monospace;font-size:10px}svg .answer{font-size:12px;font-style:italic}
+svg .tiny{font-family:monospace;font-size:10px}svg .answer{font-size:12px;font-style:italic;paint-order:stroke;stroke:white;stroke-width:3px}
 .bar{fill-opacity:.14}.band{fill-opacity:.28}.shared{fill-opacity:.1;stroke-dasharray:4 2}
 .lane{stroke:#ccc}.grid{stroke:#eee}.axis{stroke:#333}.drop{stroke:#333;stroke-dasharray:2 3}
 .wake{stroke:#111;stroke-width:1.5;marker-end:url(#head)}.tick{stroke:#888}
@@ -76,7 +76,13 @@ impl Plan {
 
 /// The numbers of the steps.
 fn write_axis(plan: Plan, height: u64, out: &mut String) -> Written {
-    write_text((LEFT.saturating_sub(12), 24), Anchor::End, "faint", "step", out)?;
+    write_text(
+        (LEFT.saturating_sub(12), 24),
+        Anchor::End,
+        "faint",
+        "step",
+        out,
+    )?;
     for step in 0..=plan.steps {
         if step.checked_rem(5) == Some(0) {
             let x = plan.x(step);
@@ -195,7 +201,13 @@ fn write_points(plan: Plan, course: &Course, out: &mut String) -> Written {
         below = if x < free && below == 0 { 14 } else { 0 };
         let y = line.saturating_add(16).saturating_add(below);
         write_line((x, line), (x, y.saturating_sub(8)), "tick", out)?;
-        write_text((x.saturating_add(3), y), Anchor::Start, "mono", pairs.as_str(), out)?;
+        write_text(
+            (x.saturating_add(3), y),
+            Anchor::Start,
+            "mono",
+            pairs.as_str(),
+            out,
+        )?;
         free = x.saturating_add(width_of(pairs.as_str())).saturating_add(8);
     }
     Ok(())
@@ -227,11 +239,22 @@ fn write_hold(plan: Plan, case: &Case<'_>, held: &Held, y: u64, out: &mut String
 
 /// The word of a shard's lock.
 fn write_words(plan: Plan, course: &Course, shard: usize, y: u64, out: &mut String) -> Written {
-    write_text((LEFT.saturating_sub(12), y), Anchor::End, "faint", "word", out)?;
+    write_text(
+        (LEFT.saturating_sub(12), y),
+        Anchor::End,
+        "faint",
+        "word",
+        out,
+    )?;
     for (of, step, word) in &course.words {
         if *of == shard {
             let x = plan.x(step.saturating_sub(1));
-            write_line((x, y.saturating_sub(10)), (x, y.saturating_add(3)), "tick", out)?;
+            write_line(
+                (x, y.saturating_sub(10)),
+                (x, y.saturating_add(3)),
+                "tick",
+                out,
+            )?;
             write!(
                 out,
                 "<text x=\"{}\" y=\"{y}\" class=\"tiny\">{word}</text>\n",
@@ -277,11 +300,7 @@ fn write_picture(alloc: Global, case: &Case<'_>, course: &Course, out: &mut Stri
     let mut shards = String::new(alloc);
     let height = write_shards(plan, case, course, &mut shards)?;
     let width = plan.width();
-    write!(
-        out,
-        "<svg xmlns=\"http://www.w3.org/2000/svg\" role=\"img\" viewBox=\"0 0 {width} {height}\" width=\"{width}\" height=\"{height}\">\n"
-    )?;
-    out.push_str(DEFINITIONS)?;
+    write_head(width, height, out)?;
     write_axis(plan, height.saturating_sub(8), out)?;
     write_lanes(plan, case, out)?;
     for bar in &course.bars {
@@ -328,8 +347,12 @@ pub fn page(
     write_picture(alloc, case, course, &mut out)?;
     out.push_str("</div>\n<div class=\"narrow\">\n")?;
     write_columns(case, course, &mut out)?;
-    out.push_str("</div>\n<p>A bar is a call; a dot is where it counts as done, on the one plain map; ")?;
-    out.push_str("hatched, the thread sleeps; an arrow is a wake. Bands show who holds a shard, alone or ")?;
+    out.push_str(
+        "</div>\n<p>A bar is a call; a dot is where it counts as done, on the one plain map; ",
+    )?;
+    out.push_str(
+        "hatched, the thread sleeps; an arrow is a wake. Bands show who holds a shard, alone or ",
+    )?;
     out.push_str("shared (dashed); below them stands the word of its lock.</p>\n")?;
     write_told(course, &mut out)?;
     out.push_str("</body></html>\n")?;

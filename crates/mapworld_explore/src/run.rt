@@ -90,10 +90,7 @@ fn run_case<R: Print + AllocGlobal>(rt: &R, file: &str, case: &Case<'_>) -> io::
 }
 
 /// Runs the cases of a file.
-pub fn run<R: Files + Print + AllocGlobal>(
-    rt: &R,
-    options: &Options<'_, '_>,
-) -> io::Result<bool> {
+pub fn run<R: Files + Print + AllocGlobal>(rt: &R, options: &Options<'_, '_>) -> io::Result<bool> {
     let mut is_so = true;
     for file in options.files() {
         let text = fs::read_to_string(rt, *file)?;

@@ -8,11 +8,22 @@ pub type Written = Result<(), AllocError>;
 /// How wide a letter is, in tenths of a pixel.
 const LETTER: u64 = 72;
 
-/// The signs for a sleep and for a wake.
-pub const DEFINITIONS: &str = "<defs><pattern id=\"hatch\" width=\"6\" height=\"6\" patternUnits=\"userSpaceOnUse\" \
-patternTransform=\"rotate(45)\"><rect width=\"6\" height=\"6\" fill=\"white\"/><line x1=\"0\" y1=\"0\" x2=\"0\" y2=\"6\" \
-stroke=\"#777\" stroke-width=\"2\"/></pattern><marker id=\"head\" viewBox=\"0 0 8 8\" refX=\"7\" refY=\"4\" \
-markerWidth=\"7\" markerHeight=\"7\" orient=\"auto\"><path d=\"M0 0L8 4L0 8z\"/></marker></defs>\n";
+/// The signs for a sleep and for a wake, for all pictures of a page.
+pub const DEFINITIONS: &str =
+    "<svg width=\"0\" height=\"0\" style=\"position:absolute\"><defs><pattern id=\"hatch\" width=\"6\" height=\"6\" \
+patternUnits=\"userSpaceOnUse\" patternTransform=\"rotate(45)\"><rect width=\"6\" height=\"6\" fill=\"white\"/>\
+<line x1=\"0\" y1=\"0\" x2=\"0\" y2=\"6\" stroke=\"#777\" stroke-width=\"2\"/></pattern>\
+<marker id=\"head\" viewBox=\"0 0 8 8\" refX=\"7\" refY=\"4\" markerWidth=\"7\" markerHeight=\"7\" orient=\"auto\">\
+<path d=\"M0 0L8 4L0 8z\"/></marker></defs></svg>\n";
+
+/// The head of a picture of that size.
+pub fn write_head(width: u64, height: u64, out: &mut String) -> Written {
+    out.push_str("<svg xmlns=\"http://www.w3.org/2000/svg\" role=\"img\"")?;
+    write!(
+        out,
+        " viewBox=\"0 0 {width} {height}\" width=\"{width}\" height=\"{height}\">\n"
+    )
+}
 
 /// Where a text begins or ends.
 #[derive(Clone, Copy)]
@@ -25,10 +36,7 @@ pub enum Anchor {
 /// How wide a text is.
 pub fn width_of(text: &str) -> u64 {
     let letters = text.chars().fold(0_u64, |sum, _| sum.saturating_add(1));
-    letters
-        .saturating_mul(LETTER)
-        .checked_div(10)
-        .unwrap_or(0)
+    letters.saturating_mul(LETTER).checked_div(10).unwrap_or(0)
 }
 
 /// A colour for a thread.
@@ -80,10 +88,19 @@ pub fn write_text(
 }
 
 /// A text that is no wider than that.
-pub fn write_fitted(at: (u64, u64), room: u64, class: &str, text: &str, out: &mut String) -> Written {
+pub fn write_fitted(
+    at: (u64, u64),
+    room: u64,
+    class: &str,
+    text: &str,
+    out: &mut String,
+) -> Written {
     write!(out, "<text x=\"{}\" y=\"{}\" class=\"{class}\"", at.0, at.1)?;
     if width_of(text) > room {
-        write!(out, " textLength=\"{room}\" lengthAdjust=\"spacingAndGlyphs\"")?;
+        write!(
+            out,
+            " textLength=\"{room}\" lengthAdjust=\"spacingAndGlyphs\""
+        )?;
     }
     out.push_str(">")?;
     write_plain(text, out)?;
@@ -110,9 +127,10 @@ pub fn write_box(
     let colour = colour_of(thread);
     write!(
         out,
-        "<rect x=\"{}\" y=\"{}\" width=\"{}\" height=\"{}\" rx=\"3\" class=\"{class}\" fill=\"{colour}\" stroke=\"{colour}\"/>\n",
+        "<rect x=\"{}\" y=\"{}\" width=\"{}\" height=\"{}\" rx=\"3\" class=\"{class}\"",
         at.0, at.1, size.0, size.1
-    )
+    )?;
+    write!(out, " fill=\"{colour}\" stroke=\"{colour}\"/>\n")
 }
 
 /// A dot of a thread's colour.

@@ -32,10 +32,12 @@ fn outcome_by(
         return Ok(number.checked_sub(1));
     }
     let terms = terms(alloc, case, words)?;
-    Ok(search
-        .outcomes
-        .iter()
-        .position(|outcome| is_so(outcome, &terms)))
+    Ok(
+        search
+            .outcomes
+            .iter()
+            .position(|outcome| is_so(outcome, &terms)),
+    )
 }
 
 /// Tells a course in words.
@@ -141,7 +143,10 @@ fn tell_case<R: Print + Eprint + AllocGlobal>(
     let index = match outcome_by(rt.alloc(), case, &search, options.outcome()) {
         Ok(index) => index,
         Err(expected) => {
-            eprintln!(rt; "expected the number of an outcome, or {}", expected.words())?;
+            eprintln!(rt;
+                "expected the number of an outcome, or {}",
+                expected.words()
+            )?;
             return Ok(false);
         }
     };

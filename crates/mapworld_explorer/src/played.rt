@@ -19,9 +19,7 @@ pub struct Played {
 
 /// Whether a case tells a schedule.
 fn has_schedule(case: &Case<'_>) -> bool {
-    case.lines
-        .iter()
-        .any(|line| !matches!(line.order, Order::Expect(_) | Order::Claim(_)))
+    case.lines.iter().any(|line| !matches!(line.order, Order::Expect(_) | Order::Claim(_)))
 }
 
 /// Plays a case once, by its own lines; without any, by steps of its threads in turn.

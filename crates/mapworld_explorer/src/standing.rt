@@ -56,11 +56,17 @@ pub fn is_alone(world: &World, thread: usize) -> bool {
         Some(Act::Spin) => true,
         Some(Act::Done(_)) => !matches!(stand.phase, Phase::Reach(_)),
         Some(_) => false,
-        None => !matches!(stand.phase, Phase::Release(_) | Phase::Downgrade | Phase::Give(_)),
+        None => !matches!(
+            stand.phase,
+            Phase::Release(_) | Phase::Downgrade | Phase::Give(_)
+        ),
     }
 }
 
 /// Whether the thread's next step stores in the section of a release, so that a fair one may come to something else.
 pub fn may_be_fair(world: &World, thread: usize) -> bool {
-    matches!(act_of(world, thread), Some(Act::Section(SectionAct::Store { .. })))
+    matches!(
+        act_of(world, thread),
+        Some(Act::Section(SectionAct::Store { .. }))
+    )
 }

@@ -3,8 +3,8 @@
 use crate::standing::{act_of, kind_of};
 use crate::worlds::World;
 use lock_api_desk::Mode;
-use mapworld_text::{Asked, Case};
 use mapworld_calls::{Ask, Begin, Keyed};
+use mapworld_text::{Asked, Case};
 use parking_lot_machine::{Act, SectionAct};
 use std::alloc::AllocError;
 
@@ -115,7 +115,10 @@ impl Before {
         let shard = self.shard;
         let before = self.word;
         let word = world.word(shard);
-        write!(out, "gives shard {shard} up: its word {before} becomes {word}")
+        write!(
+            out,
+            "gives shard {shard} up: its word {before} becomes {word}"
+        )
     }
 
     /// A step at a lock.
@@ -126,13 +129,22 @@ impl Before {
         match act {
             Act::Load => write!(out, "looks at the word of shard {shard}: {word}"),
             Act::Exchange(from, to) if before == from => {
-                write!(out, "exchanges the word of shard {shard}: {from} becomes {to}")
+                write!(
+                    out,
+                    "exchanges the word of shard {shard}: {from} becomes {to}"
+                )
             }
             Act::Exchange(from, _) => {
-                write!(out, "fails to exchange the word of shard {shard}: it is {word}, not {from}")
+                write!(
+                    out,
+                    "fails to exchange the word of shard {shard}: it is {word}, not {from}"
+                )
             }
             Act::Add(_) | Act::FetchAnd(_) => {
-                write!(out, "changes the word of shard {shard}: {before} becomes {word}")
+                write!(
+                    out,
+                    "changes the word of shard {shard}: {before} becomes {word}"
+                )
             }
             Act::Spin => out.push_str("spins"),
             Act::Enter(_) => write!(out, "enters the section of shard {shard}'s queues"),
@@ -151,11 +163,17 @@ impl Before {
                 write!(out, "looks at the word of shard {shard} once more: {word}")
             }
             SectionAct::TakeFirst | SectionAct::TakeNext(_) => {
-                write!(out, "looks for a thread in the queue of shard {shard} to wake")
+                write!(
+                    out,
+                    "looks for a thread in the queue of shard {shard} to wake"
+                )
             }
             SectionAct::Append(_) => write!(out, "joins the queue of shard {shard}"),
             SectionAct::Store { .. } => {
-                write!(out, "stores the word of shard {shard}: {before} becomes {word}")
+                write!(
+                    out,
+                    "stores the word of shard {shard}: {before} becomes {word}"
+                )
             }
             SectionAct::Leave => write!(out, "leaves the section of shard {shard}'s queues"),
             SectionAct::Wake => out.push_str("wakes a thread"),

@@ -8,6 +8,8 @@ mod known;
 #[cfg(test)]
 mod look;
 #[cfg(test)]
+mod outcomes;
+#[cfg(test)]
 mod progress;
 #[cfg(test)]
 mod rules;
