@@ -2,8 +2,8 @@
 
 use crate::column::write_columns;
 use crate::shapes::{
-    Anchor, Written, width_of, write_box, write_dot, write_fitted, write_line, write_plain,
-    write_text,
+    Anchor, DEFINITIONS, Written, width_of, write_box, write_dot, write_fitted, write_head,
+    write_line, write_plain, write_text,
 };
 use mapworld_explorer::{Bar, Course, Held, Sleep, Waking};
 use mapworld_text::Case;
@@ -26,7 +26,8 @@ const STYLE: &str = "body{font-family:system-ui,sans-serif;margin:24px;color:#11
 h1{font-size:20px;margin:0 0 4px}p{margin:4px 0 12px}.wide{overflow-x:auto}
 svg text{font-size:12px;fill:#111}svg .small{font-size:11px}svg .faint{font-size:11px;fill:#666}
 svg .name{font-size:13px;font-weight:bold}svg .mono{font-family:monospace;font-size:12px}
-svg .tiny{font-family:monospace;font-size:10px}svg .answer{font-size:12px;font-style:italic;paint-order:stroke;stroke:white;stroke-width:3px}
+svg .tiny{font-family:monospace;font-size:10px}
+svg .answer{font-size:12px;font-style:italic;paint-order:stroke;stroke:white;stroke-width:3px}
 .bar{fill-opacity:.14}.band{fill-opacity:.28}.shared{fill-opacity:.1;stroke-dasharray:4 2}
 .lane{stroke:#ccc}.grid{stroke:#eee}.axis{stroke:#333}.drop{stroke:#333;stroke-dasharray:2 3}
 .wake{stroke:#111;stroke-width:1.5;marker-end:url(#head)}.tick{stroke:#888}
@@ -343,7 +344,9 @@ pub fn page(
     write_plain(case.name, &mut out)?;
     out.push_str("</h1>\n<p>")?;
     write_plain(heading, &mut out)?;
-    out.push_str("</p>\n<div class=\"wide\">\n")?;
+    out.push_str("</p>\n")?;
+    out.push_str(DEFINITIONS)?;
+    out.push_str("<div class=\"wide\">\n")?;
     write_picture(alloc, case, course, &mut out)?;
     out.push_str("</div>\n<div class=\"narrow\">\n")?;
     write_columns(case, course, &mut out)?;
