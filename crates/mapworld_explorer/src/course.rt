@@ -97,21 +97,27 @@ impl Course {
     fn note_sleep(&mut self, world: &World, thread: usize, by: usize) -> Result<(), ExploreFault> {
         let step = self.steps;
         let is_asleep = world.status(thread) == Status::Asleep;
-        let open = self
-            .sleeps
-            .iter_mut()
-            .find(|sleep| sleep.thread == thread && sleep.end == u64::MAX);
-        match open {
-            Some(sleep) if !is_asleep => {
-                sleep.end = step;
-                self.wakings.push(Waking { by, thread, step })?;
+        let mut is_open = false;
+        let mut is_woken = false;
+        for sleep in &mut self.sleeps {
+            if sleep.thread == thread && sleep.end == u64::MAX {
+                if is_asleep {
+                    is_open = true;
+                } else {
+                    sleep.end = step;
+                    is_woken = true;
+                }
             }
-            None if is_asleep => self.sleeps.push(Sleep {
+        }
+        if is_woken {
+            self.wakings.push(Waking { by, thread, step })?;
+        }
+        if is_asleep && !is_open {
+            self.sleeps.push(Sleep {
                 thread,
                 start: step,
                 end: u64::MAX,
-            })?,
-            _ => {}
+            })?;
         }
         Ok(())
     }
@@ -251,19 +257,20 @@ pub fn with_late_starts(
         held.push(false)?;
     }
     for step in schedule {
-        if let Some(is_held) = held.get_mut(step.thread) {
-            if starts(&world, step.thread) {
-                *is_held = true;
-            } else {
-                if *is_held {
-                    late.push(Step {
-                        thread: step.thread,
-                        fair: false,
-                    })?;
-                    *is_held = false;
-                }
-                late.push(*step)?;
-            }
+        let thread = step.thread;
+        let is_held = held.get(thread).copied().unwrap_or(false);
+        let is_start = starts(&world, thread);
+        if is_held && !is_start {
+            late.push(Step {
+                thread,
+                fair: false,
+            })?;
+        }
+        if !is_start {
+            late.push(*step)?;
+        }
+        if let Some(mark) = held.get_mut(thread) {
+            *mark = is_start;
         }
         world.run(&[*step])?;
     }
