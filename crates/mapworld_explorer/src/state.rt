@@ -26,7 +26,7 @@ fn guard_kind(stand: &Stand) -> u8 {
 fn write_stand(alloc: Global, stand: &Stand, out: &mut String) -> Written {
     write!(
         out,
-        "\n{} {} {} {} {} {} {} {} {}",
+        "\n{} {} {} {} {} {} {} {} {} {} {}",
         stand.next,
         kind_of(stand),
         guard_kind(stand),
@@ -34,6 +34,8 @@ fn write_stand(alloc: Global, stand: &Stand, out: &mut String) -> Written {
         stand.slot,
         stand.count,
         stand.visits.len(),
+        stand.holds.len(),
+        u8::from(stand.closes),
         u8::from(stand.started.is_some()),
         u8::from(stand.block.is_some())
     )?;
@@ -41,7 +43,10 @@ fn write_stand(alloc: Global, stand: &Stand, out: &mut String) -> Written {
         write!(out, " {key}={value}")?;
     }
     match &stand.phase {
-        Phase::Release(answer) | Phase::Answer(answer) => write_answer(alloc, answer, out),
+        Phase::Release(answer) | Phase::Answer(answer) => {
+            out.push_str("!")?;
+            write_answer(alloc, answer, out)
+        }
         _ => Ok(()),
     }
 }
