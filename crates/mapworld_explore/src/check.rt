@@ -1,12 +1,12 @@
 //! Whether cases are as their files say.
 
 use crate::command::Options;
-use crate::files::{limit_name, schedule_text, searched};
+use crate::files::{limit_name, schedule_text, searched, text_of};
 use mapworld_explorer::{Broken, Failure, Search, broken_claim, failure_of, is_claim};
 use mapworld_text::{Case, Line, read};
 use std::alloc::{AllocError, Global};
+use std::io;
 use std::rt::Files;
-use std::{fs, io};
 
 /// How many cases passed, and how many failed.
 #[derive(Clone, Copy)]
@@ -169,7 +169,9 @@ fn check_file<R: Files + Print + Eprint + AllocGlobal>(
     options: &Options<'_, '_>,
     file: &str,
 ) -> io::Result<Tally> {
-    let text = fs::read_to_string(rt, file)?;
+    let Some(text) = text_of(rt, file)? else {
+        return Ok(counted(false));
+    };
     let mut tally = Tally {
         passed: 0,
         failed: 0,

@@ -1,12 +1,12 @@
 //! All that the cases of a file can come to.
 
 use crate::command::Options;
-use crate::files::{is_meant, limit_name, schedule_text, searched, write_title};
+use crate::files::{is_meant, limit_name, schedule_text, searched, text_of, write_title};
 use crate::json::json_of;
 use mapworld_explorer::{Outcome, Search};
 use mapworld_text::{Case, read};
+use std::io;
 use std::rt::Files;
-use std::{fs, io};
 
 /// Tells one outcome.
 fn tell_outcome<R: Print + AllocGlobal>(
@@ -78,27 +78,40 @@ fn explore_case<R: Print + Eprint + AllocGlobal>(
     Ok(search.limit.is_none())
 }
 
-/// Explores the cases of a file that are meant.
+/// Explores the cases of a file that are meant; says whether that came to its end.
+fn explore_file<R: Files + Print + Eprint + AllocGlobal>(
+    rt: &R,
+    options: &Options<'_, '_>,
+    file: &str,
+) -> io::Result<bool> {
+    let Some(text) = text_of(rt, file)? else {
+        return Ok(false);
+    };
+    let mut is_whole = true;
+    match read(rt.alloc(), text.as_str()) {
+        Ok(cases) => {
+            for case in &cases {
+                if is_meant(options, case) {
+                    is_whole = is_whole & explore_case(rt, options, file, case)?;
+                }
+            }
+        }
+        Err(fault) => {
+            eprintln!(rt; "{file}: {fault}")?;
+            is_whole = false;
+        }
+    }
+    Ok(is_whole)
+}
+
+/// Explores the cases of all files that are named.
 pub fn explore<R: Files + Print + Eprint + AllocGlobal>(
     rt: &R,
     options: &Options<'_, '_>,
 ) -> io::Result<bool> {
     let mut is_whole = true;
     for file in options.files() {
-        let text = fs::read_to_string(rt, *file)?;
-        match read(rt.alloc(), text.as_str()) {
-            Ok(cases) => {
-                for case in &cases {
-                    if is_meant(options, case) {
-                        is_whole = is_whole & explore_case(rt, options, file, case)?;
-                    }
-                }
-            }
-            Err(fault) => {
-                println!(rt; "{file}: {fault}")?;
-                is_whole = false;
-            }
-        }
+        is_whole = is_whole & explore_file(rt, options, file)?;
     }
     Ok(is_whole)
 }

@@ -5,10 +5,22 @@ use mapworld::Step;
 use mapworld_explorer::{ExploreFault, Limit, Search};
 use mapworld_text::Case;
 use std::alloc::{AllocError, Global};
-use std::io;
+use std::rt::Files;
+use std::{fs, io};
 
 /// How many states are visited between two looks at how far a search is.
 const VISITS: usize = 20_000;
+
+/// The text of a file. Where it can't be read that is told.
+pub fn text_of<R: Files + Eprint + AllocGlobal>(rt: &R, file: &str) -> io::Result<Option<String>> {
+    match fs::read_to_string(rt, file) {
+        Ok(text) => Ok(Some(text)),
+        Err(error) => {
+            eprintln!(rt; "{file}: {error}")?;
+            Ok(None)
+        }
+    }
+}
 
 /// Whether a case is one that is meant.
 pub fn is_meant(options: &Options<'_, '_>, case: &Case<'_>) -> bool {

@@ -2,11 +2,11 @@
 
 use crate::check::tell_failure;
 use crate::command::Options;
-use crate::files::write_title;
+use crate::files::{text_of, write_title};
 use mapworld_explorer::{Played, World, play};
 use mapworld_text::{Case, Shown, read};
+use std::io;
 use std::rt::Files;
-use std::{fs, io};
 
 /// Tells what each call was answered.
 fn tell_replies<R: Print>(rt: &R, case: &Case<'_>, world: &World) -> io::Result<()> {
@@ -89,22 +89,34 @@ fn run_case<R: Print + AllocGlobal>(rt: &R, file: &str, case: &Case<'_>) -> io::
     }
 }
 
-/// Runs the cases of a file.
-pub fn run<R: Files + Print + AllocGlobal>(rt: &R, options: &Options<'_, '_>) -> io::Result<bool> {
+/// Runs the cases of a file; says whether their own lines are so.
+fn run_file<R: Files + Print + Eprint + AllocGlobal>(rt: &R, file: &str) -> io::Result<bool> {
+    let Some(text) = text_of(rt, file)? else {
+        return Ok(false);
+    };
     let mut is_so = true;
-    for file in options.files() {
-        let text = fs::read_to_string(rt, *file)?;
-        match read(rt.alloc(), text.as_str()) {
-            Ok(cases) => {
-                for case in &cases {
-                    is_so = is_so & run_case(rt, file, case)?;
-                }
-            }
-            Err(fault) => {
-                println!(rt; "{file}: {fault}")?;
-                is_so = false;
+    match read(rt.alloc(), text.as_str()) {
+        Ok(cases) => {
+            for case in &cases {
+                is_so = is_so & run_case(rt, file, case)?;
             }
         }
+        Err(fault) => {
+            eprintln!(rt; "{file}: {fault}")?;
+            is_so = false;
+        }
+    }
+    Ok(is_so)
+}
+
+/// Runs the cases of all files that are named.
+pub fn run<R: Files + Print + Eprint + AllocGlobal>(
+    rt: &R,
+    options: &Options<'_, '_>,
+) -> io::Result<bool> {
+    let mut is_so = true;
+    for file in options.files() {
+        is_so = is_so & run_file(rt, file)?;
     }
     Ok(is_so)
 }

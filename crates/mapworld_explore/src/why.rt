@@ -1,7 +1,7 @@
 //! One schedule to an outcome, in words and as a picture.
 
 use crate::command::Options;
-use crate::files::{meant, searched};
+use crate::files::{meant, searched, text_of};
 use crate::picture::page;
 use mapworld::Step;
 use mapworld_explorer::{
@@ -9,8 +9,8 @@ use mapworld_explorer::{
 };
 use mapworld_text::{Case, Expected, read, terms};
 use std::alloc::Global;
+use std::io;
 use std::rt::Files;
-use std::{fs, io};
 
 /// How an outcome's schedule is told.
 #[derive(Clone, Copy, PartialEq, Eq)]
@@ -173,7 +173,9 @@ fn tell_file<R: Files + Print + Eprint + AllocGlobal>(
     form: Form,
     file: &str,
 ) -> io::Result<bool> {
-    let text = fs::read_to_string(rt, file)?;
+    let Some(text) = text_of(rt, file)? else {
+        return Ok(false);
+    };
     let cases = match read(rt.alloc(), text.as_str()) {
         Ok(cases) => cases,
         Err(fault) => {
