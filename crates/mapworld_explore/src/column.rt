@@ -18,7 +18,7 @@ const CONTENTS: u64 = 76;
 /// Where the first step is, and how high each is.
 const TOP: u64 = 24;
 
-const STEP: u64 = 17;
+const STEP_HEIGHT: u64 = 17;
 
 /// Where what is drawn stands.
 #[derive(Clone, Copy)]
@@ -45,7 +45,7 @@ impl Columns {
     }
 
     fn y(&self, step: u64) -> u64 {
-        TOP.saturating_add(STEP.saturating_mul(step.min(self.steps)))
+        TOP.saturating_add(STEP_HEIGHT.saturating_mul(step.min(self.steps)))
     }
 
     /// How wide a bar is: beside it stand the holds.

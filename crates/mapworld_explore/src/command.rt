@@ -157,7 +157,7 @@ fn checking(alloc: Global) -> Result<Command<'static>, AllocError> {
 }
 
 /// The whole of it.
-pub fn command(alloc: Global) -> Result<Command<'static>, AllocError> {
+pub fn command_line(alloc: Global) -> Result<Command<'static>, AllocError> {
     Command::new(alloc, "mapworld_explore")
         .about("Every schedule of small programs of map calls")
         .subcommand_required(true)

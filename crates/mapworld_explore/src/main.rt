@@ -15,7 +15,7 @@ mod run;
 mod shapes;
 mod why;
 
-use crate::command::{Options, command};
+use crate::command::{Options, command_line};
 use std::alloc::AllocError;
 use std::process::ExitCode;
 use std::{env, io};
@@ -35,7 +35,7 @@ fn obey(rt: &HostRuntime, name: &str, options: &Options<'_, '_>) -> io::Result<b
 fn start(rt: &HostRuntime) -> io::Result<ExitCode> {
     let alloc = rt.alloc();
     let words: Vec<String> = env::args(rt)?.collect(alloc)?;
-    let Ok(command) = command(alloc) else {
+    let Ok(command) = command_line(alloc) else {
         return Err(io::Error::from(AllocError));
     };
     let matches = match command.try_get_matches_from(words.as_slice()) {

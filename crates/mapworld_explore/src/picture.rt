@@ -17,10 +17,10 @@ const ROOM: u64 = 1040;
 /// Where the first lane begins, and how high each is.
 const TOP: u64 = 44;
 
-const LANE: u64 = 62;
+const LANE_HEIGHT: u64 = 62;
 
 /// How high a bar is.
-const BAR: u64 = 26;
+const BAR_HEIGHT: u64 = 26;
 
 const STYLE: &str = "body{font-family:system-ui,sans-serif;margin:24px;color:#111}
 h1{font-size:20px;margin:0 0 4px}p{margin:4px 0 12px}.wide{overflow-x:auto}
@@ -65,7 +65,7 @@ impl Plan {
 
     /// The top of a thread's bars.
     fn lane(&self, thread: usize) -> u64 {
-        TOP.saturating_add(LANE.saturating_mul(thread as u64))
+        TOP.saturating_add(LANE_HEIGHT.saturating_mul(thread as u64))
             .saturating_add(16)
     }
 
@@ -120,7 +120,7 @@ fn write_bar(plan: Plan, case: &Case<'_>, bar: &Bar, out: &mut String) -> Writte
     let end = plan.x(bar.end);
     let y = plan.lane(bar.thread);
     let width = end.saturating_sub(x);
-    write_box((x, y), (width, BAR), bar.thread, "bar", out)?;
+    write_box((x, y), (width, BAR_HEIGHT), bar.thread, "bar", out)?;
     let call = case.call_of(bar.thread, bar.call);
     write_fitted(
         (x.saturating_add(4), y.saturating_sub(4)),
@@ -145,7 +145,7 @@ fn write_sleep(plan: Plan, sleep: &Sleep, out: &mut String) -> Written {
     let y = plan.lane(sleep.thread);
     write!(
         out,
-        "<rect x=\"{x}\" y=\"{y}\" width=\"{width}\" height=\"{BAR}\" fill=\"url(#hatch)\" stroke=\"#555\"/>\n"
+        "<rect x=\"{x}\" y=\"{y}\" width=\"{width}\" height=\"{BAR_HEIGHT}\" fill=\"url(#hatch)\" stroke=\"#555\"/>\n"
     )?;
     let middle = x.saturating_add(width.checked_div(2).unwrap_or(0));
     if width > 52 {
@@ -172,9 +172,9 @@ fn write_waking(plan: Plan, waking: &Waking, out: &mut String) -> Written {
     let from = plan.lane(waking.by);
     let to = plan.lane(waking.thread);
     if from < to {
-        write_line((x, from.saturating_add(BAR)), (x, to), "wake", out)
+        write_line((x, from.saturating_add(BAR_HEIGHT)), (x, to), "wake", out)
     } else {
-        write_line((x, from), (x, to.saturating_add(BAR)), "wake", out)
+        write_line((x, from), (x, to.saturating_add(BAR_HEIGHT)), "wake", out)
     }
 }
 

@@ -3,7 +3,7 @@
 use crate::check::tell_failure;
 use crate::command::Options;
 use crate::files::{text_of, write_title};
-use mapworld_explorer::{Played, World, play};
+use mapworld_explorer::{Played, World, play_once};
 use mapworld_text::{Case, Shown, read};
 use std::io;
 use std::rt::Files;
@@ -68,7 +68,7 @@ fn tell_contents<R: Print + AllocGlobal>(rt: &R, world: &World) -> io::Result<()
 fn run_case<R: Print + AllocGlobal>(rt: &R, file: &str, case: &Case<'_>) -> io::Result<bool> {
     let mut title = String::new(rt.alloc());
     write_title(file, case, &mut title)?;
-    let Played { world, failure, .. } = match play(rt.alloc(), case) {
+    let Played { world, failure, .. } = match play_once(rt.alloc(), case) {
         Ok(played) => played,
         Err(fault) => {
             println!(rt; "{}: {fault}", title.as_str())?;

@@ -5,7 +5,7 @@ use crate::files::{meant, searched, text_of};
 use crate::picture::page;
 use mapworld::Step;
 use mapworld_explorer::{
-    Course, ExploreFault, Outcome, Search, course_of, is_so, play, with_late_starts,
+    Course, ExploreFault, Outcome, Search, course_of, is_so, play_once, with_late_starts,
 };
 use mapworld_text::{Case, Expected, read, terms};
 use std::alloc::Global;
@@ -91,7 +91,7 @@ fn tell_own<R: Print + Eprint + AllocGlobal>(
     file: &str,
     case: &Case<'_>,
 ) -> io::Result<bool> {
-    match play(rt.alloc(), case) {
+    match play_once(rt.alloc(), case) {
         Ok(played) => tell_schedule(rt, form, case, "by its own schedule", &played.schedule),
         Err(fault) => {
             eprintln!(rt; "{file}: {fault}")?;

@@ -22,6 +22,6 @@ pub use checked::{Broken, broken_claim, is_claim, is_so};
 pub use course::{Bar, Course, Held, Point, Sleep, Told, Waking, course_of, with_late_starts};
 pub use outcome::Outcome;
 pub use play::{Failure, failure_of};
-pub use played::{Played, play};
+pub use played::{Played, play_once};
 pub use search::{Limit, Limits, Search};
 pub use worlds::{ExploreFault, World, calls_of, world_behind};

@@ -57,7 +57,7 @@ pub fn write_answer(alloc: Global, answer: &Answered, out: &mut String) -> Writt
 }
 
 /// What a call is answered, as a text.
-fn answering(
+fn answering_of(
     alloc: Global,
     reply: &Reply<u64, u64, (u64, u64), Global>,
 ) -> Result<Answering, AllocError> {
@@ -102,7 +102,7 @@ impl Outcome {
         for thread in 0..world.threads() {
             for reply in world.replies() {
                 if reply.thread == thread {
-                    answers.push(answering(alloc, reply)?)?;
+                    answers.push(answering_of(alloc, reply)?)?;
                 }
             }
         }

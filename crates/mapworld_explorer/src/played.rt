@@ -23,7 +23,7 @@ fn has_schedule(case: &Case<'_>) -> bool {
 }
 
 /// Plays a case once, by its own lines; without any, by steps of its threads in turn.
-pub fn play(alloc: Global, case: &Case<'_>) -> Result<Played, ExploreFault> {
+pub fn play_once(alloc: Global, case: &Case<'_>) -> Result<Played, ExploreFault> {
     let world = world_behind(alloc, case, &[])?;
     let way = Way {
         ending: Ending::Round,

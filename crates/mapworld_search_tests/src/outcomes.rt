@@ -8,7 +8,7 @@ use std::process::Abort;
 use std::test::Fail;
 
 /// More than any of the searches needs.
-const LIMITS: Limits = Limits {
+const FAR: Limits = Limits {
     states: 200_000,
     steps: 1_000,
 };
@@ -73,8 +73,8 @@ thread c
 
 /// All outcomes of a case.
 fn outcomes_of(alloc: Global, case: &Case<'_>, reduces: bool) -> Result<Vec<Outcome>, Fail> {
-    let mut search = Search::new(alloc, case, LIMITS, reduces)?;
-    let _ = search.go_on(LIMITS.states)?;
+    let mut search = Search::new(alloc, case, FAR, reduces)?;
+    let _ = search.go_on(FAR.states)?;
     let Search { outcomes, .. } = search;
     Ok(outcomes)
 }
