@@ -52,6 +52,14 @@ fn key_of_begin(call: &Begin<u64>) -> u64 {
     }
 }
 
+/// Whether a thread's call is a walk.
+fn is_walk(case: &Case<'_>, thread: usize, call: usize) -> bool {
+    match case.programs.get(thread) {
+        Some(program) => matches!(program.get(call), Some(Ask::Walk(_))),
+        None => false,
+    }
+}
+
 /// The key of a thread's call, where it has one.
 fn key_at(case: &Case<'_>, thread: usize, call: usize) -> Option<u64> {
     match case.programs.get(thread)?.get(call) {
@@ -193,7 +201,7 @@ impl Before {
             6 | 7 => out.push_str("reads the pair"),
             9 => out.push_str("adds the pair at its entry"),
             10 => out.push_str("turns its guard into a shared one"),
-            12 => write!(out, "has shard {shard}"),
+            12 => write!(out, "looks into shard {shard}, which it has"),
             14 => write!(out, "looks into shard {shard}"),
             15 => out.push_str("finds the next pair"),
             16 => out.push_str("does with a pair what the walk does"),
@@ -230,7 +238,15 @@ impl Before {
     fn write_decided(&self, world: &World, case: &Case<'_>, out: &mut String) -> Written {
         if let Some(block) = world.blocks().get(self.blocks) {
             let call = case.call_of(block.thread, block.call);
-            write!(out, ". From here on its `{call}` counts as done")?;
+            if is_walk(case, block.thread, block.call) {
+                let shard = self.shard;
+                write!(
+                    out,
+                    ". From here on `{call}` counts as done in shard {shard}"
+                )?;
+            } else {
+                write!(out, ". From here on its `{call}` counts as done")?;
+            }
         }
         match world.replies().get(self.replies) {
             Some(reply) => write!(out, ": {}", mapworld_text::Shown(&reply.answer)),
