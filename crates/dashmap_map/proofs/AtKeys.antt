@@ -6,13 +6,16 @@ use Rattle.dashmap_table.specs.Table.{Table, SamePairs}
 use Rattle.dashmap_guard.specs.declared.mapref.entry.Entry.{Entry}
 use Rattle.dashmap_guard.specs.declared.mapref.entry.Entry.TheVariants.{Occupied, Vacant}
 use Rattle.dashmap_guard.specs.Entries.{by_entry}
-use Rattle.dashmap_map.specs.Effects.{IsEntryOf, Enters}
+use Rattle.dashmap_map.specs.Effects.{Finds, IsEntryOf, Enters}
 
--- what is known where there is something, by what follows from it
-pub at_each : {X A : Type 0} {P R : X → Type 0} (o : Option X) → ((x : X) → P x → R x) → MatchOption o A P
-    → MatchOption o A R
-at_each None f m = m
-at_each (Some x) f m = f x m
+module _ {K V W H Lock Runtime Party Apart : Type 0} (eq : K → K → Bool) (part : W → Table K V)
+    (guard : Guard W H Lock Runtime Party Apart) (hash : ℕ) (key : K) where
+  pub finds : (result : Option (Guard W H Lock Runtime Party Apart × ℕ))
+      → MatchOption result (slot_of eq (part guard.inner).slots hash key ≡ None)
+      (λ r. (r.0 ≡ guard) × (slot_of eq (part guard.inner).slots hash key ≡ Some r.1))
+      → Finds eq (λ r. (part r.0.inner, r.1)) (part guard.inner) hash key result
+  finds None none = none
+  finds (Some r) is = (ap (λ w. part w.inner) is.0, is.1)
 
 module _ {K V A W H D Lock Runtime Party Apart : Type 0} (eq : K → K → Bool) (part : W → Table K V)
     (guard : Guard W H Lock Runtime Party Apart) (hash : ℕ) (key : K) where
