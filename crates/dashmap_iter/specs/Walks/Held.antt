@@ -6,6 +6,7 @@ use Rattle.core.specs.declared.rw.RwLockWriteGuard.{RwLockWriteGuard}
 use Rattle.lock_api_guards.specs.declared.guard.Guard.{Guard}
 use Rattle.lock_api_rw.specs.Holds.{Issued}
 use Rattle.dashmap_table.specs.Table.{Table}
+use Rattle.dashmap_map.specs.Evidence.{UnderLock}
 use Rattle.dashmap_map.specs.Locked.{Locked, lock_at}
 use Rattle.dashmap_iter.specs.Walks.Visits.{Walked}
 
@@ -23,3 +24,15 @@ module _ {K V Q : Type 0} (Token Runtime Party : Type 0) where
   -- each shard of a map was held in turn, from the first on, and P took f to g over them
   abbrev pub EachHeld : {F S : Type 0} → Locked Q S → (F × Table K V → F × Table K V → Type 0) → F → F → Type 0
   EachHeld m P f g = HeldUpTo m P (length m.locks) f g
+
+module _ {K V Q Party F S : Type 0} (held : Q → Party → Party → Table K V → Table K V → Type 0) (m : Locked Q S)
+    (P : F × Table K V → F × Table K V → Type 0) where
+  -- of an exclusive hold of each of the first n shards there is evidence, of one wait after another, and P took what is
+  -- beside the party on over what each of them found and left
+  abbrev pub LockedUpTo : ℕ → Party × F → Party × F → Type 0
+  LockedUpTo n p q =
+      Walked (λ p i q. UnderLock held (lock_at m i) p.0 q.0 (λ old new. P (p.1, old) (q.1, new))) n p q
+
+  -- so of all shards, each of which was held once
+  abbrev pub EachLocked : Party × F → Party × F → Type 0
+  EachLocked p q = LockedUpTo (length m.locks) p q

@@ -3,16 +3,17 @@ ghost use Rattle.std.specs.Prelude.{◌≡◌, ◌<◌, ℕ, None, Some, length,
 ghost use Rattle.std.specs.Option.{option_map};
 ghost use Rattle.crossbeam_utils.specs.Padded.{padded_value};
 ghost use Rattle.dashmap_table.specs.Slots.{at};
+ghost use Rattle.dashmap_map.specs.Evidence.{UnderLock};
 ghost use Rattle.dashmap_map.specs.Locked.{Locked};
 ghost use Rattle.dashmap_iter.specs.Walks.Visits.{Walked, AtFull, Keeps, Alters};
-ghost use Rattle.dashmap_iter.specs.Walks.Held.{WhileHeld, EachHeld};
+ghost use Rattle.dashmap_iter.specs.Walks.Held.{WhileHeld, EachHeld, EachLocked};
 
 use crate::walks::each::{alter_each_in, clear_in, retain_in};
 use crossbeam_utils::CachePadded;
 use dashmap_map::DashMap;
 use dashmap_table::Shard;
 use lock_api_raw::RawRwLock;
-use lock_api_rw::{RwLock, RwLockWriteGuard};
+use lock_api_rw::{Evidence, RwLock, RwLockWriteGuard, write_traced};
 use std::alloc::Allocator;
 use std::hash::{BuildHasher, Hash};
 use std::sync::Wait;
@@ -27,7 +28,7 @@ use std::sync::Wait;
 /// map.alter_all(|_, age| age.wrapping_add(1), &mut me);
 /// map.clear(&mut me);
 /// ```
-pub trait Walks<K: Eq + Hash, V, S, Q: RawRwLock>
+pub trait Walks<K: Eq + Hash, V, S, Q: Evidence<Shard<K, V, A>>, A: Allocator>
 where
     Q::Runtime: Wait,
 {
@@ -41,8 +42,10 @@ where
         K: Drop,
         V: Drop,
         requires { F.IsAlwaysCallable f }
-        ensures { (last : F) × EachHeld Q.ExclusiveGuard Q.Runtime Q.Party (seen self.now)
-            (λ p q. Walked (AtFull (Keeps F.FnMut)) (length p.1.slots) p q) f last };
+        ensures each { (last : F) × EachHeld Q.ExclusiveGuard Q.Runtime Q.Party (seen self.now)
+            (λ p q. Walked (AtFull (Keeps F.FnMut)) (length p.1.slots) p q) f last }
+        ensures evidence { (last : F) × EachLocked Q.held (seen self.now)
+            (λ p q. Walked (AtFull (Keeps F.FnMut)) (length p.1.slots) p q) (td.old, f) (td.new, last) };
 
     /// Stores what the closure makes of each value. The next shard is held before the last one is given back.
     fn alter_all<F: FnMut(&K, V) -> V + Drop>(&self, f: F, td: &mut Q::Party)
@@ -55,8 +58,10 @@ where
     where
         K: Drop,
         V: Drop,
-        ensures { EachHeld {K = K} {V = V} Q.ExclusiveGuard Q.Runtime Q.Party {F = Unit {0}} (seen self.now)
-            (λ p q. (i : ℕ) → at q.1.slots i ≡ None) tt tt };
+        ensures each { EachHeld {K = K} {V = V} Q.ExclusiveGuard Q.Runtime Q.Party {F = Unit {0}} (seen self.now)
+            (λ p q. (i : ℕ) → at q.1.slots i ≡ None) tt tt }
+        ensures evidence { EachLocked Q.held (seen self.now) (λ p q. (i : ℕ) → at q.1.slots i ≡ None)
+            (td.old, tt {0}) (td.new, tt {0}) };
 
     /// As `retain`.
     fn _retain<F: FnMut(&K, &mut V) -> bool + Drop>(&self, f: F, td: &mut Q::Party)
@@ -64,8 +69,10 @@ where
         K: Drop,
         V: Drop,
         requires { F.IsAlwaysCallable f }
-        ensures { (last : F) × EachHeld Q.ExclusiveGuard Q.Runtime Q.Party (seen self.now)
-            (λ p q. Walked (AtFull (Keeps F.FnMut)) (length p.1.slots) p q) f last };
+        ensures each { (last : F) × EachHeld Q.ExclusiveGuard Q.Runtime Q.Party (seen self.now)
+            (λ p q. Walked (AtFull (Keeps F.FnMut)) (length p.1.slots) p q) f last }
+        ensures evidence { (last : F) × EachLocked Q.held (seen self.now)
+            (λ p q. Walked (AtFull (Keeps F.FnMut)) (length p.1.slots) p q) (td.old, f) (td.new, last) };
 
     /// As `alter_all`.
     fn _alter_all<F: FnMut(&K, V) -> V + Drop>(&self, f: F, td: &mut Q::Party)
@@ -78,8 +85,10 @@ where
     where
         K: Drop,
         V: Drop,
-        ensures { EachHeld {K = K} {V = V} Q.ExclusiveGuard Q.Runtime Q.Party {F = Unit {0}} (seen self.now)
-            (λ p q. (i : ℕ) → at q.1.slots i ≡ None) tt tt };
+        ensures each { EachHeld {K = K} {V = V} Q.ExclusiveGuard Q.Runtime Q.Party {F = Unit {0}} (seen self.now)
+            (λ p q. (i : ℕ) → at q.1.slots i ≡ None) tt tt }
+        ensures evidence { EachLocked Q.held (seen self.now) (λ p q. (i : ℕ) → at q.1.slots i ≡ None)
+            (td.old, tt {0}) (td.new, tt {0}) };
 }
 
 /// The lock of a shard. For the layer above.
@@ -97,7 +106,7 @@ pub fn lock_behind<K: Eq + Hash, V, Q, A: Allocator>(
 fn retain_behind<
     K: Eq + Hash + Drop,
     V: Drop,
-    Q: RawRwLock,
+    Q: Evidence<Shard<K, V, A>>,
     A: Allocator,
     F: FnMut(&K, &mut V) -> bool + Drop,
 >(lock: &RwLock<Q, Shard<K, V, A>>, f: F, td: &mut Q::Party) -> F
@@ -106,24 +115,30 @@ where
     requires { F.IsAlwaysCallable f }
     ensures held { WhileHeld Q.ExclusiveGuard Q.Runtime Q.Party lock.now
         (λ old new. Walked (AtFull (Keeps F.FnMut)) (length old.slots) (f, old) (result, new)) }
+    ensures evidence { UnderLock Q.held (Some lock.now) td.old td.new
+        (λ old new. Walked (AtFull (Keeps F.FnMut)) (length old.slots) (f, old) (result, new)) }
     ensures again { F.IsAlwaysCallable result }
 {
-    let mut guard = lock.write(td);
-    retain_in(&mut *guard, f)
+    let mut shard = write_traced(lock, td);
+    let f = retain_in(&mut *shard, f);
+    shard.give_back();
+    f
 }
 
 /// `clear` for one shard, which is held meanwhile.
-fn clear_behind<K: Eq + Hash + Drop, V: Drop, Q: RawRwLock, A: Allocator>(
+fn clear_behind<K: Eq + Hash + Drop, V: Drop, Q: Evidence<Shard<K, V, A>>, A: Allocator>(
     lock: &RwLock<Q, Shard<K, V, A>>,
     td: &mut Q::Party,
 )
 where
     Q::Runtime: Wait,
-    ensures { WhileHeld {K = K} {V = V} Q.ExclusiveGuard Q.Runtime Q.Party lock.now
+    ensures held { WhileHeld {K = K} {V = V} Q.ExclusiveGuard Q.Runtime Q.Party lock.now
         (λ old new. (i : ℕ) → at new.slots i ≡ None) }
+    ensures evidence { UnderLock Q.held (Some lock.now) td.old td.new (λ old new. (i : ℕ) → at new.slots i ≡ None) }
 {
-    let mut guard = lock.write(td);
-    clear_in(&mut *guard);
+    let mut shard = write_traced(lock, td);
+    clear_in(&mut *shard);
+    shard.give_back();
 }
 
 /// Holds the next shard, and then gives the last one back.
@@ -141,8 +156,13 @@ where
     next
 }
 
-impl<K: Eq + Hash, V, S: BuildHasher, Q: RawRwLock, A: Allocator> Walks<K, V, S, Q>
-    for DashMap<K, V, S, Q, A>
+impl<K: Eq + Hash, V, S: BuildHasher, Q: Evidence<Shard<K, V, A>>, A: Allocator> Walks<
+    K,
+    V,
+    S,
+    Q,
+    A,
+> for DashMap<K, V, S, Q, A>
 where
     Q::Runtime: Wait,
 {

@@ -1,6 +1,6 @@
 use Rattle.std.proofs.Common.{◌≡◌, length, ap, arith}
 use Rattle.dashmap_iter.specs.Walks.Visits.{Walked, AtFull, Keeps}
-use Rattle.dashmap_iter.proofs.WalksFacts.Holding.{found_at, held_next, held_same}
+use Rattle.dashmap_iter.proofs.WalksFacts.Holding.{found_at, held_next, held_same, locked_next, locked_same}
 use Rattle.dashmap_iter.proofs.walks.walks.DashMapWalks.retain.Goals as goal
 
 pub loop-shard-preserved : goal.loop-shard-preserved
@@ -13,16 +13,31 @@ loop-shard-preserved g c =
           c.args.self.now (λ p q. Walked (AtFull (Keeps g.F.FnMut)) (length p.1.slots) p q) c.loop-shard.shard c.args.f
           c.loop-shard.f c.retain_behind-f.result c.lock_behind.result.now c.loop-shard.invariant.1 found
           c.retain_behind-f.ensures.held,
+      locked_next g.Q.Evidence.held c.args.self.now
+          (λ p q. Walked (AtFull (Keeps g.F.FnMut)) (length p.1.slots) p q) c.loop-shard.shard (c.args.td.now, c.args.f)
+          (c.loop-shard.td, c.loop-shard.f) (c.retain_behind-f.new.td, c.retain_behind-f.result)
+          c.lock_behind.result.now c.loop-shard.invariant.2 found c.retain_behind-f.ensures.evidence,
       omega (arith, c.loop-shard-test.true, amount),
     )
 
-pub returns : goal.returns
-returns g c =
+pub returns-clause-each : goal.returns-clause-each
+returns-clause-each g c =
     let amount = ap length c.shard_locks-locks.ensures.locks in
     let all : c.loop-shard.shard ≡ length c.args.self.now.locks =
-    omega (arith, c.loop-shard-test.false, amount, c.loop-shard.invariant.2) in (
+    omega (arith, c.loop-shard-test.false, amount, c.loop-shard.invariant.3) in (
       c.loop-shard.f,
       held_same g.row.Q-ExclusiveGuard.Denot g.row.Q-Runtime.Denot g.row.Q-Party.Denot c.args.self.now
           (λ p q. Walked (AtFull (Keeps g.F.FnMut)) (length p.1.slots) p q) c.loop-shard.shard
           (length c.args.self.now.locks) c.args.f c.loop-shard.f all c.loop-shard.invariant.1,
+    )
+
+pub returns-clause-evidence : goal.returns-clause-evidence
+returns-clause-evidence g c =
+    let amount = ap length c.shard_locks-locks.ensures.locks in
+    let all : c.loop-shard.shard ≡ length c.args.self.now.locks =
+    omega (arith, c.loop-shard-test.false, amount, c.loop-shard.invariant.3) in (
+      c.loop-shard.f,
+      locked_same g.Q.Evidence.held c.args.self.now (λ p q. Walked (AtFull (Keeps g.F.FnMut)) (length p.1.slots) p q)
+          c.loop-shard.shard (length c.args.self.now.locks) (c.args.td.now, c.args.f) (c.loop-shard.td, c.loop-shard.f)
+          all c.loop-shard.invariant.2,
     )
