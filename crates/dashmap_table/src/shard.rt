@@ -248,7 +248,7 @@ impl<K: Eq + Hash, V, A: Allocator> Shard<K, V, A> {
 
     /// Makes room for so many more pairs than there are. As many insertions of new keys then take no memory and move no
     /// pair, unless the room is given up by `shrink` before. Where there is such room already nothing changes; else
-    /// pairs may move.
+    /// pairs may move, and there is room for at most four times the pairs that there are to be.
     pub fn reserve(&mut self, additional: usize) -> Result<(), NoMemory>
     where
         K: Drop,
