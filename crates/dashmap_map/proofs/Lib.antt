@@ -1,3 +1,5 @@
 mod Amounts
 mod Putting
 mod Slices
+mod AtKeys
+mod Turns

@@ -2,3 +2,5 @@ pub mod Locked
 pub mod Faults
 pub mod Making
 pub mod Calls
+pub mod Evidence
+pub mod Effects

@@ -57,6 +57,24 @@ pub fn has_key<K: Eq + Hash, V, A: Allocator>(shard: &Shard<K, V, A>, hash: u64,
     shard.find(hash, key).is_some()
 }
 
+/// What the closure answers of the pair of a key, if it is there.
+pub fn view_in<K: Eq + Hash, V, A: Allocator, U, F: FnOnce(&K, &V) -> U + Drop>(
+    shard: &Shard<K, V, A>,
+    hash: u64,
+    key: &K,
+    f: F,
+) -> Option<U>
+    requires { F.IsAlwaysCallable f }
+    ensures absent { IfNone (slot_of K.eq shard.now.slots hash key.now) (result ≡ None) }
+    ensures present { IfSome (entry_of K.eq shard.now.slots hash key.now)
+        (λ e. (u : U) × AnswersAt F.FnOnce f e.key e.value u × (result ≡ Some u)) }
+    ensures asked { IfSome result (λ u. (k : K) × (v : V) × IsTrue (K.eq k key.now) × AnswersAt F.FnOnce f k v u) }
+{
+    let slot = shard.find(hash, key)?;
+    let (stored, value) = shard.pair(slot)?;
+    Some(answer_of(stored, value, f))
+}
+
 /// Takes the pair of a key out, if it is there.
 pub fn remove_from<K: Eq + Hash, V, A: Allocator>(
     shard: &mut Shard<K, V, A>,

@@ -1,24 +1,35 @@
 //! Calls on one key.
 ghost use Rattle.std.specs.Prelude.{◌≡◌, Some, true, IsTrue, IfSome, IfOk, IfErr};
+ghost use Rattle.std.specs.Option.{is_some};
 ghost use Rattle.std.specs.Sync.RwLock.{read_guard_value, write_guard_value};
 ghost use Rattle.dashmap_guard.specs.Guarded.{key_in};
 ghost use Rattle.dashmap_guard.specs.Entries.{by_entry};
 ghost use Rattle.dashmap_table.specs.Shards.{key_hash};
+ghost use Rattle.dashmap_table.specs.Slots.{slot_of};
 ghost use Rattle.dashmap_map.specs.Calls.{AnswersAt, LeavesAt};
+ghost use Rattle.dashmap_map.specs.Effects.{Inserts, Removes, RemovesIf, RemovesIfMut, AltersAt, Views, Finds, Enters};
+ghost use Rattle.dashmap_map.specs.Evidence.{UnderKey, OnSightOfKey};
 ghost use Rattle.dashmap_map.specs.Locked.{lock_of};
 
 use crate::held::{
-    alter_in, has_key, insert_into, remove_from, remove_from_if, remove_from_if_mut,
+    alter_in, has_key, insert_into, remove_from, remove_from_if, remove_from_if_mut, view_in,
 };
 use crate::map::DashMap;
 use crate::mapref::entry::Entry;
 use crate::mapref::one::{Ref, RefMut};
-use lock_api_raw::RawRwLock;
+use dashmap_table::Shard;
+use lock_api_rw::{Evidence, read_shown, write_found, write_traced};
 use std::alloc::Allocator;
 use std::hash::{BuildHasher, Hash};
 use std::sync::Wait;
 
-impl<K: Eq + Hash, V, S: BuildHasher, Q: RawRwLock, A: Allocator> DashMap<K, V, S, Q, A>
+impl<K: Eq + Hash, V, S: BuildHasher, Q: Evidence<Shard<K, V, A>>, A: Allocator> DashMap<
+    K,
+    V,
+    S,
+    Q,
+    A,
+>
 where
     Q::Runtime: Wait,
 {
@@ -28,9 +39,12 @@ where
             (λ r. IfSome (key_in (read_guard_value r.0.inner) r.1) (λ k. IsTrue (K.eq k key.now))) }
         ensures lock { IfSome result
             (λ r. lock_of S.BuildHasher S.Hasher.Hasher K.hash_input self.now key.now ≡ Some r.0.held.0.place.now) }
+        ensures evidence { (left : Q.Party)
+            × OnSightOfKey S.BuildHasher S.Hasher.Hasher K.hash_input Q.showed self.now key.now td.old left
+            (λ hash shard. Finds K.eq (λ r. (read_guard_value r.0.inner, r.1)) shard hash key.now result) }
     {
         let (hash, lock) = self.place_of(key);
-        Ref::find(lock.read(td), hash, key)
+        Ref::find(read_shown(lock, td), hash, key)
     }
 
     /// An exclusive guard of the pair of a key, if it is there.
@@ -43,15 +57,21 @@ where
             (λ r. IfSome (key_in (write_guard_value r.0.inner) r.1) (λ k. IsTrue (K.eq k key.now))) }
         ensures lock { IfSome result
             (λ r. lock_of S.BuildHasher S.Hasher.Hasher K.hash_input self.now key.now ≡ Some r.0.held.0.place.now) }
+        ensures evidence { (left : Q.Party)
+            × OnSightOfKey S.BuildHasher S.Hasher.Hasher K.hash_input Q.found self.now key.now td.old left
+            (λ hash shard. Finds K.eq (λ r. (write_guard_value r.0.inner, r.1)) shard hash key.now result) }
     {
         let (hash, lock) = self.place_of(key);
-        RefMut::find(lock.write(td), hash, key)
+        RefMut::find(write_found(lock, td), hash, key)
     }
 
     /// Whether `get` would give a guard.
-    pub fn contains_key(&self, key: &K, td: &mut Q::Party) -> bool {
+    pub fn contains_key(&self, key: &K, td: &mut Q::Party) -> bool
+        ensures { OnSightOfKey S.BuildHasher S.Hasher.Hasher K.hash_input Q.showed self.now key.now td.old td.new
+            (λ hash shard. result ≡ is_some (slot_of K.eq shard.slots hash key.now)) }
+    {
         let (hash, lock) = self.place_of(key);
-        has_key(&*lock.read(td), hash, key)
+        has_key(&*read_shown(lock, td), hash, key)
     }
 
     /// What the closure answers of the pair of a key, under a shared hold of its shard.
@@ -62,19 +82,26 @@ where
         td: &mut Q::Party,
     ) -> Option<U>
         requires { F.IsAlwaysCallable f }
-        ensures { IfSome result (λ u. (k : K) × (v : V) × IsTrue (K.eq k key.now) × AnswersAt F.FnOnce f k v u) }
+        ensures asked { IfSome result (λ u. (k : K) × (v : V) × IsTrue (K.eq k key.now) × AnswersAt F.FnOnce f k v u) }
+        ensures evidence { OnSightOfKey S.BuildHasher S.Hasher.Hasher K.hash_input Q.showed self.now key.now td.old
+            td.new
+            (λ hash shard. Views K.eq F.FnOnce f shard hash key.now result) }
     {
-        let guard = self.get(key, td)?;
-        let (stored, value) = guard.pair();
-        Some(f(stored, value))
+        let (hash, lock) = self.place_of(key);
+        view_in(&*read_shown(lock, td), hash, key, f)
     }
 
     /// Takes the pair of a key out, if it is there.
     pub fn remove(&self, key: &K, td: &mut Q::Party) -> Option<(K, V)>
-        ensures { IfSome result (λ p. IsTrue (K.eq p.0 key.now)) }
+        ensures asked { IfSome result (λ p. IsTrue (K.eq p.0 key.now)) }
+        ensures evidence { UnderKey S.BuildHasher S.Hasher.Hasher K.hash_input Q.held self.now key.now td.old td.new
+            (λ hash old new. Removes K.eq old new hash key.now result) }
     {
         let (hash, lock) = self.place_of(key);
-        remove_from(&mut *lock.write(td), hash, key)
+        let mut shard = write_traced(lock, td);
+        let pair = remove_from(&mut *shard, hash, key);
+        shard.give_back();
+        pair
     }
 
     /// Takes the pair of a key out if the closure answers true of it. Else the pair stays as it is.
@@ -85,10 +112,15 @@ where
         td: &mut Q::Party,
     ) -> Option<(K, V)>
         requires { F.IsAlwaysCallable f }
-        ensures { IfSome result (λ p. IsTrue (K.eq p.0 key.now) × AnswersAt F.FnOnce f p.0 p.1 true) }
+        ensures asked { IfSome result (λ p. IsTrue (K.eq p.0 key.now) × AnswersAt F.FnOnce f p.0 p.1 true) }
+        ensures evidence { UnderKey S.BuildHasher S.Hasher.Hasher K.hash_input Q.held self.now key.now td.old td.new
+            (λ hash old new. RemovesIf K.eq F.FnOnce f old new hash key.now result) }
     {
         let (hash, lock) = self.place_of(key);
-        remove_from_if(&mut *lock.write(td), hash, key, f)
+        let mut shard = write_traced(lock, td);
+        let pair = remove_from_if(&mut *shard, hash, key, f);
+        shard.give_back();
+        pair
     }
 
     /// As `remove_if`. What the closure wrote stays either way.
@@ -99,38 +131,53 @@ where
         td: &mut Q::Party,
     ) -> Option<(K, V)>
         requires { F.IsAlwaysCallable f }
-        ensures { IfSome result (λ p. IsTrue (K.eq p.0 key.now) × (v : V) × LeavesAt F.FnOnce f p.0 v true p.1) }
+        ensures asked { IfSome result
+            (λ p. IsTrue (K.eq p.0 key.now) × (v : V) × LeavesAt F.FnOnce f p.0 v true p.1) }
+        ensures evidence { UnderKey S.BuildHasher S.Hasher.Hasher K.hash_input Q.held self.now key.now td.old td.new
+            (λ hash old new. RemovesIfMut K.eq F.FnOnce f old new hash key.now result) }
     {
         let (hash, lock) = self.place_of(key);
-        remove_from_if_mut(&mut *lock.write(td), hash, key, f)
+        let mut shard = write_traced(lock, td);
+        let pair = remove_from_if_mut(&mut *shard, hash, key, f);
+        shard.give_back();
+        pair
     }
 
     /// Stores what the closure makes of the value of a key. Where the key isn't there the closure isn't called.
     pub fn alter<F: FnOnce(&K, V) -> V + Drop>(&self, key: &K, f: F, td: &mut Q::Party)
         requires { F.IsAlwaysCallable f }
+        ensures { UnderKey S.BuildHasher S.Hasher.Hasher K.hash_input Q.held self.now key.now td.old td.new
+            (λ hash old new. AltersAt K.eq F.FnOnce f old new hash key.now) }
     {
         let (hash, lock) = self.place_of(key);
-        alter_in(&mut *lock.write(td), hash, key, f);
+        let mut shard = write_traced(lock, td);
+        alter_in(&mut *shard, hash, key, f);
+        shard.give_back();
     }
 }
 
-impl<K: Eq + Hash + Drop, V: Drop, S: BuildHasher, Q: RawRwLock, A: Allocator + Clone> DashMap<
-    K,
-    V,
-    S,
-    Q,
-    A,
->
+impl<
+    K: Eq + Hash + Drop,
+    V: Drop,
+    S: BuildHasher,
+    Q: Evidence<Shard<K, V, A>>,
+    A: Allocator + Clone,
+> DashMap<K, V, S, Q, A>
 where
     Q::Runtime: Wait,
 {
     /// Puts a pair in, and answers the value that its key had. A present key keeps the stored key and is never refused.
     /// A new key is refused only where its shard would have to grow and can't, and then the pair comes back.
     pub fn insert(&self, key: K, value: V, td: &mut Q::Party) -> Result<Option<V>, (K, V)>
-        ensures { IfErr result (λ back. back ≡ (key, value)) }
+        ensures refused { IfErr result (λ back. back ≡ (key, value)) }
+        ensures evidence { UnderKey S.BuildHasher S.Hasher.Hasher K.hash_input Q.held self.now key td.old td.new
+            (λ hash old new. Inserts K.eq old new hash key value result) }
     {
         let (hash, lock) = self.place_of(&key);
-        insert_into(&mut *lock.write(td), hash, key, value)
+        let mut shard = write_traced(lock, td);
+        let had = insert_into(&mut *shard, hash, key, value);
+        shard.give_back();
+        had
     }
 
     /// The place of a key, whose shard is held exclusively. An absent key's room is made here; where it can't be had,
@@ -146,8 +193,11 @@ where
             (λ v. (v.2 ≡ key) × (v.1 ≡ key_hash S.BuildHasher S.Hasher.Hasher K.hash_input self.now.hasher key)
             × (lock_of S.BuildHasher S.Hasher.Hasher K.hash_input self.now key ≡ Some v.0.held.0.place.now))) }
         ensures refused { IfErr result (λ back. back ≡ key) }
+        ensures evidence { (left : Q.Party)
+            × OnSightOfKey S.BuildHasher S.Hasher.Hasher K.hash_input Q.found self.now key td.old left
+            (λ hash shard. Enters K.eq (λ w. write_guard_value w) shard hash key result) }
     {
         let (hash, lock) = self.place_of(&key);
-        Entry::find(lock.write(td), hash, key)
+        Entry::find(write_found(lock, td), hash, key)
     }
 }

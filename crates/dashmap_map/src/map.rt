@@ -2,7 +2,7 @@
 ghost use Rattle.std.specs.Prelude.{◌≡◌, ◌<◌, length, Some, IsTrue};
 ghost use Rattle.dashmap_table.specs.Route.{IsShardAmount, route_of};
 ghost use Rattle.dashmap_table.specs.Shards.{key_hash};
-ghost use Rattle.dashmap_map.specs.Locked.{lock_of, shard_of};
+ghost use Rattle.dashmap_map.specs.Locked.{lock_at, lock_of, shard_of};
 
 use crossbeam_utils::CachePadded;
 use dashmap_table::{Shard, route};
@@ -125,6 +125,15 @@ impl<K: Eq + Hash, V, S: BuildHasher, Q, A: Allocator> DashMap<K, V, S, Q, A> {
             self.now other ≡ result }
     {
         self.determine_shard(self.hash_usize(key))
+    }
+
+    /// A shard behind its lock.
+    #[inline(always)]
+    pub(crate) fn shard_lock(&self, shard: usize) -> &RwLock<Q, Shard<K, V, A>>
+        requires { shard < length self.now.locks }
+        ensures { lock_at self.now shard ≡ Some result.now }
+    {
+        &*self.shards[shard]
     }
 
     /// The hash of a key, and its shard behind its lock.

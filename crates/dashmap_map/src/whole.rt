@@ -1,36 +1,54 @@
 //! Calls on the map as a whole. Each holds one shard at a time, shard 0 first.
+ghost use Rattle.std.specs.Prelude.{◌≡◌, ℕ, ◌==◌};
+ghost use Rattle.dashmap_table.specs.Slots.{count};
+ghost use Rattle.dashmap_map.specs.Evidence.{SumsTo};
 
 use crate::map::DashMap;
+use dashmap_table::Shard;
 use lock_api_raw::{NoMemory, RawRwLock};
+use lock_api_rw::{Evidence, read_shown};
 use std::alloc::Allocator;
 use std::hash::{BuildHasher, Hash};
 use std::sync::Wait;
 
-impl<K: Eq + Hash, V, S: BuildHasher, Q: RawRwLock, A: Allocator> DashMap<K, V, S, Q, A>
+impl<K: Eq + Hash, V, S: BuildHasher, Q: Evidence<Shard<K, V, A>>, A: Allocator> DashMap<
+    K,
+    V,
+    S,
+    Q,
+    A,
+>
 where
     Q::Runtime: Wait,
 {
     /// How many pairs there are: the sum over the shards, of which one is held at a time. It stops at `usize::MAX`.
-    pub fn len(&self, td: &mut Q::Party) -> usize {
+    pub fn len(&self, td: &mut Q::Party) -> usize
+        ensures { SumsTo Q.showed self.now (λ shard. count shard.slots) td.old td.new result }
+    {
         let mut sum: usize = 0;
-        for lock in &self.shards {
-            let count = lock.read(td).len();
+        for shard in 0..self.shards.len() {
+            let count = read_shown(self.shard_lock(shard), td).len();
             sum = sum.saturating_add(count);
         }
         sum
     }
 
     /// Whether `len` is 0.
-    pub fn is_empty(&self, td: &mut Q::Party) -> bool {
+    pub fn is_empty(&self, td: &mut Q::Party) -> bool
+        ensures { (sum : ℕ) × SumsTo Q.showed self.now (λ shard. count shard.slots) td.old td.new sum
+            × (result ≡ (sum == 0)) }
+    {
         self.len(td) == 0
     }
 
     /// For how many pairs there is room: the sum over the shards, of which one is held at a time. It stops at
     /// `usize::MAX`.
-    pub fn capacity(&self, td: &mut Q::Party) -> usize {
+    pub fn capacity(&self, td: &mut Q::Party) -> usize
+        ensures { SumsTo Q.showed self.now (λ shard. shard.room) td.old td.new result }
+    {
         let mut sum: usize = 0;
-        for lock in &self.shards {
-            let room = lock.read(td).capacity();
+        for shard in 0..self.shards.len() {
+            let room = read_shown(self.shard_lock(shard), td).capacity();
             sum = sum.saturating_add(room);
         }
         sum

@@ -63,19 +63,20 @@ module _ {F X D U : Type 0} (g : Shared F (Bor (List X) × (MutBor D × Unit {0}
         (IfOk-at_ok (λ v. MadeInPieces g f there v.items) h.3 two)))
     made-joined (Err e) first second xs here there cut h one two = tt
 
-module _ {K V Q T : Type 0} (Token Runtime Party : Type 0) (P : Table K V → List T → Type 0) where
+module _ {K V Q T Party : Type 0} (showed : Q → Party → Party → Table K V → Type 0)
+    (P : Table K V → List T → Type 0) where
   pub gathered-none : (locks : List (CachePadded Q)) (all : List T) → locks ≡ [] → all ≡ []
-      → GatheredFrom Token Runtime Party P locks all
+      → GatheredFrom showed P locks all
   gathered-none locks all none empty =
-      subst (λ (ls : List (CachePadded Q)). GatheredFrom {Q = Q} Token Runtime Party P ls all) (sym none)
-      (subst (λ l. GatheredFrom {Q = Q} Token Runtime Party P [] l) (sym empty) ([], tt, refl))
+      subst (λ (ls : List (CachePadded Q)). GatheredFrom {Q = Q} showed P ls all) (sym none)
+      (subst (λ l. GatheredFrom {Q = Q} showed P [] l) (sym empty) ([], tt, refl))
 
-  pub gathered-both : (xs ys : List (CachePadded Q)) (all more : List T) → GatheredFrom Token Runtime Party P xs all
-      → GatheredFrom Token Runtime Party P ys more
-      → GatheredFrom Token Runtime Party P (xs ++ ys) (all ++ more)
+  pub gathered-both : (xs ys : List (CachePadded Q)) (all more : List T) → GatheredFrom showed P xs all
+      → GatheredFrom showed P ys more
+      → GatheredFrom showed P (xs ++ ys) (all ++ more)
   gathered-both xs ys all more h k = (
     h.0 ++ k.0,
-    AllZip-both (λ lock part. WhileShared Token Runtime Party (padded_value lock) (λ table. P table part)) xs ys h.0 k.0
+    AllZip-both (λ lock part. WhileShared showed (padded_value lock) (λ table. P table part)) xs ys h.0 k.0
         h.1 k.1,
     put-both all more h.0 k.0 h.2 k.2,
   )
@@ -83,18 +84,18 @@ module _ {K V Q T : Type 0} (Token Runtime Party : Type 0) (P : Table K V → Li
   -- one lock more
   pub gathered-more : (locks : List (CachePadded Q)) (i : ℕ) (lock : CachePadded Q) (all part : List T)
       → i < length locks → lock ≡ get_or locks i lock
-      → GatheredFrom Token Runtime Party P (take i locks) all → WhileShared Token Runtime Party (padded_value lock)
+      → GatheredFrom showed P (take i locks) all → WhileShared showed (padded_value lock)
       (λ table. P table part)
-      → GatheredFrom Token Runtime Party P (take (i + 1) locks) (all ++ part)
+      → GatheredFrom showed P (take (i + 1) locks) (all ++ part)
   gathered-more locks i lock all part lt is h one =
-      subst (λ l. GatheredFrom Token Runtime Party P l (all ++ part))
+      subst (λ l. GatheredFrom showed P l (all ++ part))
       (ap (λ z. take i locks ++ z ∷ []) is ∙ sym (take_more locks i lock lt))
       (gathered-both (take i locks) (lock ∷ []) all part h (part ∷ [], (one, tt), sym (append-nil part)))
 
   -- what was gathered from each piece
   pub gathered-pieces : {B : Type 0} (cuts : List (List (CachePadded Q))) (lists : List (Vec T B))
-      → AllZip (λ cut list. GatheredFrom Token Runtime Party P cut list.items) cuts lists
-      → GatheredFrom Token Runtime Party P (flat_map (λ l. l) cuts) (flat_map (λ v. v.items) lists)
+      → AllZip (λ cut list. GatheredFrom showed P cut list.items) cuts lists
+      → GatheredFrom showed P (flat_map (λ l. l) cuts) (flat_map (λ v. v.items) lists)
   gathered-pieces [] [] h = gathered-none [] [] refl refl
   gathered-pieces [] (list ∷ lists) h = absurd h
   gathered-pieces (cut ∷ cuts) [] h = absurd h

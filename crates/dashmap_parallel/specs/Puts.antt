@@ -49,13 +49,13 @@ pub record FindsNoRoom {K V : Type 0} (eq : K → K → Bool) (old new : Table K
 abbrev pub piece_at : {K V : Type 0} → ℕ → ℕ → ℕ × K × V → ℕ
 piece_at shards pieces x = piece_number shards pieces (route_of x.0 shards)
 
-module _ {K V Q : Type 0} (eq : K → K → Bool) (Token Runtime Party : Type 0) where
-  -- there was an exclusive hold of that lock of some shards to which a hash leads, and P holds of the shard before and
-  -- after
+module _ {K V Q Party : Type 0} (eq : K → K → Bool) (held : Q → Party → Party → Table K V → Table K V → Type 0) where
+  -- of an exclusive hold of that lock of some shards to which a hash leads there is evidence, and P holds between what
+  -- it found and what it left
   abbrev pub AtLockOf : List (CachePadded Q) → ℕ → (Table K V → Table K V → Type 0) → Type 0
   AtLockOf locks hash P = (lock : Q)
       × (option_map padded_value (slice_get locks (route_of hash (length locks))) ≡ Some lock)
-      × WhileHeld Token Runtime Party lock P
+      × WhileHeld held lock P
 
   -- in which a pair was put in under its hash
   abbrev pub PutAt : List (CachePadded Q) → ℕ × K × V → Type 0
@@ -74,8 +74,9 @@ module _ {K V Q : Type 0} (eq : K → K → Bool) (Token Runtime Party : Type 0)
 abbrev pub hashed : {K V S H : Type 0} → builder.Ghosts S H → hasher.Ghosts H → (K → HashWrites) → S → K × V → ℕ × K × V
 hashed b h input s p = (key_hash b h input s p.0, p.0, p.1)
 
-module _ {K V Q S H : Type 0} (b : builder.Ghosts S H) (h : hasher.Ghosts H) (input : K → HashWrites) where
+module _ {K V Q S H Party : Type 0} (b : builder.Ghosts S H) (h : hasher.Ghosts H) (input : K → HashWrites) where
   -- a pair was put in under an exclusive hold of the lock of its key's shard
-  abbrev pub WasPut : (K → K → Bool) → (Token Runtime Party : Type 0) → Locked Q S → K × V → Type 0
-  WasPut eq Token Runtime Party m p = (lock : Q) × (lock_of b h input m p.0 ≡ Some lock)
-      × WhileHeld Token Runtime Party lock (λ old new. PutsIn eq old new (key_hash b h input m.hasher p.0) p.0 p.1)
+  abbrev pub WasPut : (K → K → Bool) → (Q → Party → Party → Table K V → Table K V → Type 0) → Locked Q S → K × V
+      → Type 0
+  WasPut eq held m p = (lock : Q) × (lock_of b h input m p.0 ≡ Some lock)
+      × WhileHeld held lock (λ old new. PutsIn eq old new (key_hash b h input m.hasher p.0) p.0 p.1)

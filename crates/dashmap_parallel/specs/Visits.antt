@@ -3,13 +3,9 @@ use Rattle.std.specs.Prelude.{◌≡◌, ℕ, ◌+◌, ◌-◌, List, length, ta
 use Rattle.std.specs.List.{AllZip, flat_map}
 use Rattle.std.specs.Borrow.{Bor, MutBor}
 use Rattle.std.specs.Fn.{FnReturns}
-use Rattle.std.specs.Sync.RwLock.{read_guard_value}
-use Rattle.core.specs.declared.rw.RwLockReadGuard.{RwLockReadGuard}
 use denote.Param.Members.{Shared}
 use Rattle.crossbeam_utils.specs.declared.cache_padded.CachePadded.{CachePadded}
 use Rattle.crossbeam_utils.specs.Padded.{padded_value}
-use Rattle.lock_api_guards.specs.declared.guard.Guard.{Guard}
-use Rattle.lock_api_rw.specs.Holds.{Issued}
 use Rattle.dashmap_table.specs.Table.{Table}
 use Rattle.dashmap_view.specs.Parallel.Pieces.{first_shard}
 
@@ -42,13 +38,12 @@ module _ {F X D U : Type 0} (g : Shared F (Bor (List X) × (MutBor D × Unit {0}
     abbrev pub MadeInPieces : List X → List U → Type 0
     MadeInPieces xs all = (cuts : List (List X)) × AllZip MadeOf cuts all × (xs ≡ flat_map (λ l. l) cuts)
 
-module _ {K V Q : Type 0} (Token Runtime Party : Type 0) where
-  -- there was a shared hold of a lock, and P holds of the shard that it lent
+module _ {K V Q Party : Type 0} (showed : Q → Party → Party → Table K V → Type 0) where
+  -- of a shared hold of a lock there is evidence, which some wait gave, and P holds of the shard that it showed
   abbrev pub WhileShared : Q → (Table K V → Type 0) → Type 0
-  WhileShared lock P = (guard : Guard (RwLockReadGuard (Table K V)) (Issued (Bor Q) Token) Q Runtime Party (Bor Q))
-      × (guard.held.0.place.now ≡ lock) × P (read_guard_value guard.inner)
+  WhileShared lock P = (from : Party) × (to : Party) × (table : Table K V) × showed lock from to table × P table
 
-  -- so it was of each of some locks, and P holds of what was lent and of a part of a list: the parts in the order of
+  -- so it is of each of some locks, and P holds of what was shown and of a part of a list: the parts in the order of
   -- the locks are the list
   abbrev pub GatheredFrom : {T : Type 0} → (Table K V → List T → Type 0) → List (CachePadded Q) → List T → Type 0
   GatheredFrom {T} P locks all = (parts : List (List T))

@@ -8,25 +8,26 @@ ghost use Rattle.dashmap_parallel.specs.Visits.{WhileShared};
 
 use dashmap_table::{NoMemory, Shard};
 use dashmap_view::parallel::visit::{answers_of, visit_each, write_each};
-use lock_api_raw::RawRwLock;
-use lock_api_rw::RwLock;
+use lock_api_rw::{Evidence, RwLock, read_shown, write_traced};
 use std::alloc::Allocator;
 use std::hash::Hash;
 use std::sync::Wait;
 
 /// Calls a closure once for each pair of a shard, under a shared hold.
-pub(crate) fn visit_behind<K: Eq + Hash, V, Q: RawRwLock, A: Allocator, F: Fn(&K, &V)>(
-    lock: &RwLock<Q, Shard<K, V, A>>,
-    td: &mut Q::Party,
-    f: &F,
-)
+pub(crate) fn visit_behind<
+    K: Eq + Hash,
+    V,
+    Q: Evidence<Shard<K, V, A>>,
+    A: Allocator,
+    F: Fn(&K, &V),
+>(lock: &RwLock<Q, Shard<K, V, A>>, td: &mut Q::Party, f: &F)
 where
     Q::Runtime: Wait,
     requires { F.IsAlwaysCallable f.now }
-    ensures { WhileShared Q.SharedGuard Q.Runtime Q.Party lock.now
+    ensures { WhileShared Q.showed lock.now
         (λ table. All (λ p. AnswersOf F.Fn f.now p tt) (pairs_of table.slots)) }
 {
-    let guard = lock.read(td);
+    let guard = read_shown(lock, td);
     visit_each(&*guard, f);
 }
 
@@ -34,7 +35,7 @@ where
 pub(crate) fn answers_behind<
     K: Eq + Hash,
     V,
-    Q: RawRwLock,
+    Q: Evidence<Shard<K, V, A>>,
     A: Allocator,
     B: Allocator,
     T: Drop,
@@ -49,24 +50,27 @@ where
     Q::Runtime: Wait,
     requires { F.IsAlwaysCallable f.now }
     ensures { IfOk result
-        (λ v. WhileShared Q.SharedGuard Q.Runtime Q.Party lock.now
+        (λ v. WhileShared Q.showed lock.now
         (λ table. AllZip (AnswersOf F.Fn f.now) (pairs_of table.slots) v.items)) }
 {
-    let guard = lock.read(td);
+    let guard = read_shown(lock, td);
     answers_of(&*guard, f, alloc)
 }
 
 /// Lends a closure the value of each pair of a shard for writing, under an exclusive hold.
-pub(crate) fn write_behind<K: Eq + Hash, V, Q: RawRwLock, A: Allocator, F: Fn(&K, &mut V)>(
-    lock: &RwLock<Q, Shard<K, V, A>>,
-    td: &mut Q::Party,
-    f: &F,
-)
+pub(crate) fn write_behind<
+    K: Eq + Hash,
+    V,
+    Q: Evidence<Shard<K, V, A>>,
+    A: Allocator,
+    F: Fn(&K, &mut V),
+>(lock: &RwLock<Q, Shard<K, V, A>>, td: &mut Q::Party, f: &F)
 where
     Q::Runtime: Wait,
     requires { F.IsAlwaysCallable f.now }
-    ensures { WhileHeld Q.ExclusiveGuard Q.Runtime Q.Party lock.now (WritesEach F.Fn f.now) }
+    ensures { WhileHeld Q.held lock.now (WritesEach F.Fn f.now) }
 {
-    let mut guard = lock.write(td);
-    write_each(&mut *guard, f);
+    let mut shard = write_traced(lock, td);
+    write_each(&mut *shard, f);
+    shard.give_back();
 }

@@ -10,8 +10,8 @@ use crate::deal::dealt;
 use crate::fault::ParExtendFault;
 use crate::put::put_each;
 use dashmap_map::DashMap;
-use dashmap_table::NoMemory;
-use lock_api_raw::RawRwLock;
+use dashmap_table::{NoMemory, Shard};
+use lock_api_rw::Evidence;
 use std::alloc::Allocator;
 use std::hash::{BuildHasher, Hash};
 use std::sync::Wait;
@@ -69,7 +69,7 @@ fn put_in_pieces<
     K: Eq + Hash + Drop + Send + Sync,
     V: Drop + Send + Sync,
     S: BuildHasher,
-    Q: RawRwLock + Sync,
+    Q: Evidence<Shard<K, V, A>> + Sync,
     A: Allocator + Clone + Send + Sync,
 >(
     rt: &R,
@@ -82,14 +82,14 @@ where
     Q::Party: Send,
     requires { 0 < length tds.old }
     ensures { OnOk result
-        (All (WasPut S.BuildHasher S.Hasher.Hasher K.hash_input K.eq Q.ExclusiveGuard Q.Runtime Q.Party map.now)
+        (All (WasPut S.BuildHasher S.Hasher.Hasher K.hash_input K.eq Q.held map.now)
         pairs.items) }
 {
     let lists = dealt(map, pairs, tds.len())?;
     let locks = map.shard_locks();
     let part = |list: Vec<(u64, K, V), A>, td: &mut Q::Party| -> Result<(), NoMemory>
         requires { IsShardAmount (length locks.now) }
-        ensures { OnOk result (All (PutAt K.eq Q.ExclusiveGuard Q.Runtime Q.Party locks.entry.now) list.items) }
+        ensures { OnOk result (All (PutAt K.eq Q.held locks.entry.now) list.items) }
     { put_each(locks, td, list) };
     given_each(rt, lists, tds, &part)
 }
@@ -109,7 +109,7 @@ pub fn par_extend_shared<
     K: Eq + Hash + Drop + Send + Sync,
     V: Drop + Send + Sync,
     S: BuildHasher,
-    Q: RawRwLock + Sync,
+    Q: Evidence<Shard<K, V, A>> + Sync,
     A: Allocator + Clone + Send + Sync,
 >(
     map: &DashMap<K, V, S, Q, A>,
@@ -123,7 +123,7 @@ where
     ensures threads { MatchResult result (λ _. 0 < length tds.old)
         (λ fault. (fault ≡ ParExtendFault.NoThreadData) ↔ (length tds.old ≡ 0)) }
     ensures put { OnOk result
-        (All (WasPut S.BuildHasher S.Hasher.Hasher K.hash_input K.eq Q.ExclusiveGuard Q.Runtime Q.Party map.now)
+        (All (WasPut S.BuildHasher S.Hasher.Hasher K.hash_input K.eq Q.held map.now)
         pairs.items) }
 {
     if tds.is_empty() {

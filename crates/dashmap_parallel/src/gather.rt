@@ -12,8 +12,7 @@ use crate::behind::answers_behind;
 use crossbeam_utils::CachePadded;
 use dashmap_table::{NoMemory, Shard};
 use dashmap_view::parallel::first_of;
-use lock_api_raw::RawRwLock;
-use lock_api_rw::RwLock;
+use lock_api_rw::{Evidence, RwLock};
 use std::alloc::Allocator;
 use std::hash::Hash;
 use std::sync::Wait;
@@ -24,7 +23,7 @@ use std::thread::Threads;
 pub(crate) fn answers_in_piece<
     K: Eq + Hash,
     V,
-    Q: RawRwLock,
+    Q: Evidence<Shard<K, V, A>>,
     A: Allocator,
     B: Allocator + Clone,
     T: Drop,
@@ -39,7 +38,7 @@ where
     Q::Runtime: Wait,
     requires { F.IsAlwaysCallable f.now }
     ensures { IfOk result
-        (λ v. GatheredFrom Q.SharedGuard Q.Runtime Q.Party
+        (λ v. GatheredFrom Q.showed
         (λ table. AllZip (AnswersOf F.Fn f.now) (pairs_of table.slots)) locks.now v.items) }
 {
     let mut all = Vec::new(alloc.clone()?);

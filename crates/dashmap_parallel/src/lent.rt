@@ -13,7 +13,7 @@ use crossbeam_utils::CachePadded;
 use dashmap_table::{NoMemory, Shard};
 use dashmap_view::parallel::join::joined;
 use lock_api_raw::RawRwLock;
-use lock_api_rw::RwLock;
+use lock_api_rw::{Evidence, RwLock};
 use std::alloc::{Allocator, Global};
 use std::hash::Hash;
 use std::marker::Model;
@@ -60,7 +60,7 @@ impl<
     'd,
     K: Eq + Hash + Send + Sync,
     V: Send + Sync,
-    Q: RawRwLock + Sync,
+    Q: Evidence<Shard<K, V, A>> + Sync,
     A: Allocator + Send + Sync,
 > SharedIter<'m, 'd, K, V, Q, A>
 where
@@ -70,7 +70,7 @@ where
     /// Calls the closure once for each pair. It takes no memory.
     pub fn for_each<R: Threads + Sync, F: Fn(&K, &V) + Sync>(self, rt: &R, f: F)
         requires { F.IsAlwaysCallable f }
-        ensures { All (λ lock. WhileShared Q.SharedGuard Q.Runtime Q.Party (padded_value lock)
+        ensures { All (λ lock. WhileShared Q.showed (padded_value lock)
             (λ table. All (λ p. AnswersOf F.Fn f p tt) (pairs_of table.slots))) self.entry }
     {
         let SharedIter { locks, parties } = self;
@@ -81,7 +81,7 @@ where
             parties,
             &|lock: &CachePadded<RwLock<Q, Shard<K, V, A>>>, td: &mut Q::Party|
                 requires { F.IsAlwaysCallable f.now }
-                ensures { WhileShared Q.SharedGuard Q.Runtime Q.Party (padded_value lock.now)
+                ensures { WhileShared Q.showed (padded_value lock.now)
                     (λ table. All (λ p. AnswersOf F.Fn f.entry.now p tt) (pairs_of table.slots)) }
             { visit_behind(&**lock, td, f) },
         );
@@ -98,7 +98,7 @@ where
     >(self, rt: &R, alloc: B, f: F) -> Result<Vec<T, B>, NoMemory>
         requires { F.IsAlwaysCallable f }
         ensures { IfOk result
-            (λ v. GatheredFrom Q.SharedGuard Q.Runtime Q.Party
+            (λ v. GatheredFrom Q.showed
             (λ table. AllZip (AnswersOf F.Fn f) (pairs_of table.slots)) self.entry v.items) }
     {
         let SharedIter { locks, parties } = self;
@@ -110,7 +110,7 @@ where
         >
             requires { F.IsAlwaysCallable f.now }
             ensures { IfOk result
-                (λ v. GatheredFrom Q.SharedGuard Q.Runtime Q.Party
+                (λ v. GatheredFrom Q.showed
                 (λ table. AllZip (AnswersOf F.Fn f.entry.now) (pairs_of table.slots)) locks.now v.items) }
         { answers_in_piece(locks, td, f, alloc) };
         let lists = made_in_pieces(rt, locks, parties, alloc.clone()?, &part)?;

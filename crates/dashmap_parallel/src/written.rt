@@ -9,7 +9,7 @@ use crate::pieces::in_pieces;
 use crossbeam_utils::CachePadded;
 use dashmap_table::Shard;
 use lock_api_raw::RawRwLock;
-use lock_api_rw::RwLock;
+use lock_api_rw::{Evidence, RwLock};
 use std::alloc::{Allocator, Global};
 use std::hash::Hash;
 use std::marker::Model;
@@ -55,7 +55,7 @@ impl<
     'd,
     K: Eq + Hash + Send + Sync,
     V: Send + Sync,
-    Q: RawRwLock + Sync,
+    Q: Evidence<Shard<K, V, A>> + Sync,
     A: Allocator + Send + Sync,
 > SharedIterMut<'m, 'd, K, V, Q, A>
 where
@@ -65,7 +65,7 @@ where
     /// Lends the closure the value of each pair for writing, each once. It takes no memory.
     pub fn for_each<R: Threads + Sync, F: Fn(&K, &mut V) + Sync>(self, rt: &R, f: F)
         requires { F.IsAlwaysCallable f }
-        ensures { All (λ lock. WhileHeld Q.ExclusiveGuard Q.Runtime Q.Party (padded_value lock) (WritesEach F.Fn f))
+        ensures { All (λ lock. WhileHeld Q.held (padded_value lock) (WritesEach F.Fn f))
             self.entry }
     {
         let SharedIterMut { locks, parties } = self;
@@ -76,7 +76,7 @@ where
             parties,
             &|lock: &CachePadded<RwLock<Q, Shard<K, V, A>>>, td: &mut Q::Party|
                 requires { F.IsAlwaysCallable f.now }
-                ensures { WhileHeld Q.ExclusiveGuard Q.Runtime Q.Party (padded_value lock.now)
+                ensures { WhileHeld Q.held (padded_value lock.now)
                     (WritesEach F.Fn f.entry.now) }
             { write_behind(&**lock, td, f) },
         );

@@ -1,14 +1,19 @@
 //! Calls on one key.
-ghost use Rattle.std.specs.Prelude.{◌≡◌, Some, true, IsTrue, IfSome, IfErr};
+ghost use Rattle.std.specs.Prelude.{◌≡◌, Option, Result, Some, true, IsTrue, IfSome, IfErr};
 ghost use Rattle.std.specs.Fn.{FnOnceReturnsAt};
+ghost use Rattle.std.specs.Option.{is_some};
 ghost use Rattle.std.specs.Sync.RwLock.{read_guard_value};
 ghost use Rattle.dashmap_guard.specs.Guarded.{key_in};
+ghost use Rattle.dashmap_table.specs.Slots.{slot_of};
+ghost use Rattle.dashmap_map.specs.Effects.{Inserts, Removes, Finds};
+ghost use Rattle.dashmap_map.specs.Evidence.{UnderKey, OnSightOfKey};
 ghost use Rattle.dashmap_map.specs.Locked.{lock_of};
 ghost use Rattle.dashmap_set.specs.Calls.{is_new, key_of};
 
 use crate::set::DashSet;
 use crate::setref::one::Ref;
-use lock_api_raw::RawRwLock;
+use dashmap_table::Shard;
+use lock_api_rw::Evidence;
 use std::alloc::Allocator;
 use std::hash::{BuildHasher, Hash};
 use std::sync::Wait;
@@ -31,13 +36,16 @@ fn key_of<K>(pair: Option<(K, ())>) -> Option<K>
     Some(key)
 }
 
-impl<K: Eq + Hash, S: BuildHasher, Q: RawRwLock, A: Allocator> DashSet<K, S, Q, A>
+impl<K: Eq + Hash, S: BuildHasher, Q: Evidence<Shard<K, (), A>>, A: Allocator> DashSet<K, S, Q, A>
 where
     Q::Runtime: Wait,
 {
     /// Takes the stored key out, if it is there.
     pub fn remove(&self, key: &K, td: &mut Q::Party) -> Option<K>
-        ensures { IfSome result (λ k. IsTrue (K.eq k key.now)) }
+        ensures asked { IfSome result (λ k. IsTrue (K.eq k key.now)) }
+        ensures evidence { (pair : Option (K × Unit {0})) × (result ≡ key_of pair)
+            × UnderKey S.BuildHasher S.Hasher.Hasher K.hash_input Q.held self.now key.now td.old td.new
+            (λ hash old new. Removes K.eq old new hash key.now pair) }
     {
         key_of(self.inner.remove(key, td))
     }
@@ -70,6 +78,9 @@ where
             (λ r. IfSome (key_in (read_guard_value r.0.inner) r.1) (λ k. IsTrue (K.eq k key.now))) }
         ensures lock { IfSome result
             (λ r. lock_of S.BuildHasher S.Hasher.Hasher K.hash_input self.now key.now ≡ Some r.0.held.0.place.now) }
+        ensures evidence { (left : Q.Party)
+            × OnSightOfKey S.BuildHasher S.Hasher.Hasher K.hash_input Q.showed self.now key.now td.old left
+            (λ hash shard. Finds K.eq (λ r. (read_guard_value r.0.inner, r.1)) shard hash key.now result) }
     {
         match self.inner.get(key, td) {
             Some(pair) => Some(Ref::of_pair(pair)),
@@ -78,12 +89,20 @@ where
     }
 
     /// Whether the key is there.
-    pub fn contains(&self, key: &K, td: &mut Q::Party) -> bool {
+    pub fn contains(&self, key: &K, td: &mut Q::Party) -> bool
+        ensures { OnSightOfKey S.BuildHasher S.Hasher.Hasher K.hash_input Q.showed self.now key.now td.old td.new
+            (λ hash shard. result ≡ is_some (slot_of K.eq shard.slots hash key.now)) }
+    {
         self.inner.contains_key(key, td)
     }
 }
 
-impl<K: Eq + Hash + Drop, S: BuildHasher, Q: RawRwLock, A: Allocator + Clone> DashSet<K, S, Q, A>
+impl<
+    K: Eq + Hash + Drop,
+    S: BuildHasher,
+    Q: Evidence<Shard<K, (), A>>,
+    A: Allocator + Clone,
+> DashSet<K, S, Q, A>
 where
     Q::Runtime: Wait,
 {
@@ -91,7 +110,10 @@ where
     /// in is let go; it is never refused. A new key is refused only where its shard would have to grow and can't, and
     /// then it comes back.
     pub fn insert(&self, key: K, td: &mut Q::Party) -> Result<bool, K>
-        ensures { IfErr result (λ back. back ≡ key) }
+        ensures refused { IfErr result (λ back. back ≡ key) }
+        ensures evidence { (told : Result (Option (Unit {0})) (K × Unit {0})) × (result ≡ is_new told)
+            × UnderKey S.BuildHasher S.Hasher.Hasher K.hash_input Q.held self.now key td.old td.new
+            (λ hash old new. Inserts K.eq old new hash key (tt {0}) told) }
     {
         told(self.inner.insert(key, (), td))
     }

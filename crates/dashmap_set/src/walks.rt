@@ -1,7 +1,8 @@
 //! Walks over all shards of a set, each of which is held exclusively in its turn.
-ghost use Rattle.std.specs.Prelude.{◌≡◌, ℕ, false, None, IsSome, length};
+ghost use Rattle.std.specs.Prelude.{◌≡◌, ℕ, false, None, Some, IsSome, length};
 ghost use Rattle.dashmap_table.specs.Slots.{at};
-ghost use Rattle.dashmap_iter.specs.Walks.Held.{EachHeld, WhileHeld};
+ghost use Rattle.dashmap_map.specs.Evidence.{UnderLock};
+ghost use Rattle.dashmap_iter.specs.Walks.Held.{EachLocked};
 ghost use Rattle.dashmap_iter.specs.Walks.Visits.{AtFull, Walked};
 ghost use Rattle.dashmap_set.specs.Walks.{AnswersKey, KeepsKey};
 
@@ -11,7 +12,7 @@ use dashmap_iter::LendingWalks;
 use dashmap_iter::walks::{Walks, lock_behind};
 use dashmap_table::Shard;
 use lock_api_raw::RawRwLock;
-use lock_api_rw::RwLock;
+use lock_api_rw::{Evidence, RwLock, write_traced};
 use std::alloc::Allocator;
 use std::hash::{BuildHasher, Hash};
 use std::sync::Wait;
@@ -69,20 +70,23 @@ fn retain_in<K: Eq + Hash + Drop, A: Allocator, F: FnMut(&K) -> bool + Drop>(
 }
 
 /// `retain` for one shard, which is held meanwhile.
-fn retain_behind<K: Eq + Hash + Drop, Q: RawRwLock, A: Allocator, F: FnMut(&K) -> bool + Drop>(
-    lock: &RwLock<Q, Shard<K, (), A>>,
-    f: F,
-    td: &mut Q::Party,
-) -> F
+fn retain_behind<
+    K: Eq + Hash + Drop,
+    Q: Evidence<Shard<K, (), A>>,
+    A: Allocator,
+    F: FnMut(&K) -> bool + Drop,
+>(lock: &RwLock<Q, Shard<K, (), A>>, f: F, td: &mut Q::Party) -> F
 where
     Q::Runtime: Wait,
     requires { F.IsAlwaysCallable f }
-    ensures held { WhileHeld Q.ExclusiveGuard Q.Runtime Q.Party lock.now
+    ensures evidence { UnderLock Q.held (Some lock.now) td.old td.new
         (λ old new. Walked (AtFull (KeepsKey F.FnMut)) (length old.slots) (f, old) (result, new)) }
     ensures again { F.IsAlwaysCallable result }
 {
-    let mut guard = lock.write(td);
-    retain_in(&mut *guard, f)
+    let mut shard = write_traced(lock, td);
+    let f = retain_in(&mut *shard, f);
+    shard.give_back();
+    f
 }
 
 impl<K: Eq + Hash, S: BuildHasher, Q: RawRwLock, A: Allocator> DashSet<K, S, Q, A>
@@ -103,7 +107,12 @@ where
     }
 }
 
-impl<K: Eq + Hash + Drop, S: BuildHasher, Q: RawRwLock, A: Allocator> DashSet<K, S, Q, A>
+impl<K: Eq + Hash + Drop, S: BuildHasher, Q: Evidence<Shard<K, (), A>>, A: Allocator> DashSet<
+    K,
+    S,
+    Q,
+    A,
+>
 where
     Q::Runtime: Wait,
 {
@@ -118,8 +127,8 @@ where
     /// ```
     pub fn retain<F: FnMut(&K) -> bool + Drop>(&self, f: F, td: &mut Q::Party)
         requires { F.IsAlwaysCallable f }
-        ensures { (last : F) × EachHeld Q.ExclusiveGuard Q.Runtime Q.Party self.now
-            (λ p q. Walked (AtFull (KeepsKey F.FnMut)) (length p.1.slots) p q) f last }
+        ensures { (last : F) × EachLocked Q.held self.now
+            (λ p q. Walked (AtFull (KeepsKey F.FnMut)) (length p.1.slots) p q) (td.old, f) (td.new, last) }
     {
         let locks = self.inner.shard_locks();
         let mut f = f;
@@ -130,8 +139,8 @@ where
 
     /// Takes every key out; the room stays. One shard is held at a time, shard 0 first.
     pub fn clear(&self, td: &mut Q::Party)
-        ensures { EachHeld {K = K} {V = Unit {0}} Q.ExclusiveGuard Q.Runtime Q.Party {F = Unit {0}} self.now
-            (λ p q. (i : ℕ) → at q.1.slots i ≡ None) tt tt }
+        ensures { EachLocked Q.held self.now (λ p q. (i : ℕ) → at q.1.slots i ≡ None) (td.old, tt {0})
+            (td.new, tt {0}) }
     {
         Walks::clear(&self.inner, td);
     }

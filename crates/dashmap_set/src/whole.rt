@@ -1,28 +1,40 @@
 //! Calls on the set as a whole. Each holds one shard at a time, shard 0 first.
+ghost use Rattle.std.specs.Prelude.{◌≡◌, ℕ, ◌==◌};
+ghost use Rattle.dashmap_table.specs.Slots.{count};
+ghost use Rattle.dashmap_map.specs.Evidence.{SumsTo};
 
 use crate::set::DashSet;
+use dashmap_table::Shard;
 use lock_api_raw::{NoMemory, RawRwLock};
+use lock_api_rw::Evidence;
 use std::alloc::Allocator;
 use std::hash::{BuildHasher, Hash};
 use std::sync::Wait;
 
-impl<K: Eq + Hash, S: BuildHasher, Q: RawRwLock, A: Allocator> DashSet<K, S, Q, A>
+impl<K: Eq + Hash, S: BuildHasher, Q: Evidence<Shard<K, (), A>>, A: Allocator> DashSet<K, S, Q, A>
 where
     Q::Runtime: Wait,
 {
     /// How many keys there are: the sum over the shards, of which one is held at a time. It stops at `usize::MAX`.
-    pub fn len(&self, td: &mut Q::Party) -> usize {
+    pub fn len(&self, td: &mut Q::Party) -> usize
+        ensures { SumsTo Q.showed self.now (λ shard. count shard.slots) td.old td.new result }
+    {
         self.inner.len(td)
     }
 
     /// Whether `len` is 0.
-    pub fn is_empty(&self, td: &mut Q::Party) -> bool {
+    pub fn is_empty(&self, td: &mut Q::Party) -> bool
+        ensures { (sum : ℕ) × SumsTo Q.showed self.now (λ shard. count shard.slots) td.old td.new sum
+            × (result ≡ (sum == 0)) }
+    {
         self.inner.is_empty(td)
     }
 
     /// For how many keys there is room: the sum over the shards, of which one is held at a time. It stops at
     /// `usize::MAX`.
-    pub fn capacity(&self, td: &mut Q::Party) -> usize {
+    pub fn capacity(&self, td: &mut Q::Party) -> usize
+        ensures { SumsTo Q.showed self.now (λ shard. shard.room) td.old td.new result }
+    {
         self.inner.capacity(td)
     }
 }

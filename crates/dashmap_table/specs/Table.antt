@@ -1,6 +1,6 @@
 -- A table as contracts see it, and what its calls do to it.
 use Rattle.std.specs.Prelude.{◌≡◌, ◌≢◌, ℕ, ◌+◌, ◌^◌, ◌<◌, ◌≤◌, Bool, false, List, length, Option, Some, None}
-use Rattle.std.specs.Prelude.{MatchOption, slice_set}
+use Rattle.std.specs.Prelude.{MatchOption, slice_set, max, ◌/◌}
 use Rattle.dashmap_table.specs.declared.entry.Entry.{Entry}
 use Rattle.dashmap_table.specs.Slots.{at, count, holds, slot_of, entry_of, AreDistinct, entry_with, giving_value}
 use Rattle.dashmap_table.specs.Slots.{giving_pair, changed}
@@ -10,6 +10,10 @@ pub record Table (K V : Type 0) : Type 0 where
   pub slots : List (Option (Entry K V))
   -- for how many pairs there is room
   pub room : ℕ
+
+-- for how many pairs a table of n pairs grows that is to have room for so many more: for half as many again at least
+abbrev pub grown_to : ℕ → ℕ → ℕ
+grown_to n more = n + max more (n / 2 + 1)
 
 module _ {K V : Type 0} where
   -- the table with another value in a full slot

@@ -1,11 +1,12 @@
 //! One shard of the map: a finite map from hash and key to a pair.
 ghost use Rattle.std.specs.Prelude.{◌≡◌, ℕ, ◌+◌, ◌*◌, ◌<◌, ◌≤◌, ◌↔◌, ◌==◌, [], length, None, Some, IsTrue, IsSome};
+ghost use Rattle.std.specs.Prelude.{max};
 ghost use Rattle.std.specs.Prelude.{IfSome, IfNone, MatchOption, IfOk, IfErr, OnOk, OnErr};
 ghost use Rattle.std.specs.Option.{option_map, option_copied_mut, is_some};
 ghost use Rattle.std.specs.Borrow.{sem};
 ghost use Rattle.dashmap_table.specs.Tags.Lanes.{HasLane};
 ghost use Rattle.dashmap_table.specs.Slots.{at, count, slot_of, entry_with, pair_of, pairs_of, IsNextFull};
-ghost use Rattle.dashmap_table.specs.Table.{IsSound, Adds, Frees, SamePairs, with_value, with_pair};
+ghost use Rattle.dashmap_table.specs.Table.{IsSound, Adds, Frees, SamePairs, with_value, with_pair, grown_to};
 
 use crate::entry::Entry;
 use crate::pairs::ShardPairs;
@@ -113,6 +114,7 @@ impl<K: Eq + Hash, V, A: Allocator> Shard<K, V, A> {
         requires absent { slot_of K.eq self.old.slots hash key ≡ None }
         requires room { count self.old.slots < self.old.room }
         ensures added { Adds K.eq self.old self.new (entry_with hash key value) result }
+        ensures room { self.new.room ≤ self.old.room + 1 }
         ensures sound { IsSound K.eq self.new }
     {
         self.table.add(Entry { hash, key, value })
@@ -246,7 +248,7 @@ impl<K: Eq + Hash, V, A: Allocator> Shard<K, V, A> {
 
     /// Makes room for so many more pairs than there are. As many insertions of new keys then take no memory and move no
     /// pair, unless the room is given up by `shrink` before. Where there is such room already nothing changes; else
-    /// pairs may move.
+    /// pairs may move, and there is room for at most four times the pairs that there are to be.
     pub fn reserve(&mut self, additional: usize) -> Result<(), NoMemory>
     where
         K: Drop,
@@ -255,6 +257,7 @@ impl<K: Eq + Hash, V, A: Allocator> Shard<K, V, A> {
         ensures ok { OnOk result (count self.new.slots + additional ≤ self.new.room) }
         ensures pairs { SamePairs K.eq self.old self.new }
         ensures room { self.old.room ≤ self.new.room }
+        ensures most { self.new.room ≤ max self.old.room (4 * grown_to (count self.old.slots) additional) }
         ensures enough { count self.old.slots + additional ≤ self.old.room → (result ≡ Ok tt) × (self.new ≡ self.old) }
         ensures refused { OnErr result (self.new ≡ self.old) }
         ensures sound { IsSound K.eq self.new }

@@ -1,11 +1,11 @@
 //! A table of tags: a byte for each slot, which are looked through sixteen at a time, and the slots beside them.
 ghost use Rattle.std.specs.Prelude.{◌≡◌, ℕ, ◌+◌, ◌*◌, ◌%◌, ◌^◌, ◌<◌, ◌≤◌, ◌↔◌, [], None, Some, IsTrue, IsSome, IfSome};
 ghost use Rattle.std.specs.Prelude.{IfNone, MatchOption, IfOk, IfErr, OnOk, OnErr, length, replicate, slice_index};
-ghost use Rattle.std.specs.Prelude.{slice_set, ◌==◌};
+ghost use Rattle.std.specs.Prelude.{slice_set, ◌==◌, max};
 ghost use Rattle.std.specs.Option.{option_map, option_copied_mut, is_some};
 ghost use Rattle.std.specs.Borrow.{sem};
 ghost use Rattle.dashmap_table.specs.Slots.{at, count, slot_of, entry_of, entry_with, pair_of, AreDistinct, IsNextFull};
-ghost use Rattle.dashmap_table.specs.Table.{IsSound, Adds, Frees, SamePairs, with_value, with_pair};
+ghost use Rattle.dashmap_table.specs.Table.{IsSound, Adds, Frees, SamePairs, with_value, with_pair, grown_to};
 ghost use Rattle.dashmap_table.specs.Tags.Lanes.{HasLane};
 ghost use Rattle.dashmap_table.specs.Tags.Way.{tag_of};
 ghost use Rattle.dashmap_table.specs.Tagged.{no_entry, room_of};
@@ -270,6 +270,7 @@ impl<K: Eq + Hash, V, A: Allocator> TagTable<K, V, A> {
         requires absent { slot_of K.eq self.old.slots entry.hash entry.key ≡ None }
         requires room { count self.old.slots < self.old.room }
         ensures added { Adds K.eq self.old self.new entry result }
+        ensures room { self.new.room ≤ self.old.room + 1 }
         ensures sound { IsSound K.eq self.new }
     {
         let slot = free_slot(self.tags.as_slice(), entry.hash);
@@ -373,6 +374,7 @@ impl<K: Eq + Hash, V, A: Allocator> TagTable<K, V, A> {
         ensures ok { OnOk result (count self.new.slots + additional ≤ self.new.room) }
         ensures pairs { SamePairs K.eq self.old self.new }
         ensures room { self.old.room ≤ self.new.room }
+        ensures most { self.new.room ≤ max self.old.room (4 * grown_to (count self.old.slots) additional) }
         ensures refused { OnErr result (self.new ≡ self.old) }
         ensures sound { IsSound K.eq self.new }
     {
@@ -395,6 +397,7 @@ impl<K: Eq + Hash, V, A: Allocator> TagTable<K, V, A> {
         ensures ok { OnOk result (count self.new.slots + additional ≤ self.new.room) }
         ensures pairs { SamePairs K.eq self.old self.new }
         ensures room { self.old.room ≤ self.new.room }
+        ensures most { self.new.room ≤ max self.old.room (4 * grown_to (count self.old.slots) additional) }
         ensures enough { count self.old.slots + additional ≤ self.old.room → (result ≡ Ok tt) × (self.new ≡ self.old) }
         ensures refused { OnErr result (self.new ≡ self.old) }
         ensures sound { IsSound K.eq self.new }

@@ -10,8 +10,9 @@ pub mod rwlock_arc_checks;
 pub mod rwlock_checks;
 pub mod upgrades;
 
+pub use lock_api_guards::{First, Inside};
 pub use lock_api_mutex_checks::{
     Look, Seen, Wrong, arc_guard_checks, expect, expect_all, guard_checks, is_alone, is_free,
     is_read, moment, mutex_checks, raw_checks, reentrant_checks, short,
 };
-pub use lock_api_spin::{First, Inside, PackedLock, PackedMutex, Parties};
+pub use lock_api_spin::{PackedLock, PackedMutex, Parties};

@@ -13,6 +13,7 @@ mod held;
 mod lend;
 mod lock;
 mod mapped;
+mod parts;
 mod show;
 mod with_upgraded;
 
@@ -25,3 +26,4 @@ pub use held::{
 pub use lend::{Lender, LenderMut};
 pub use lock::{HasValue, HasValueMut, lent, lent_mut};
 pub use mapped::Mapped;
+pub use parts::{First, Inside, Second};

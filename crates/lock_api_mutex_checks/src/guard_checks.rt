@@ -4,9 +4,8 @@ ghost use Rattle.std.specs.Option.{is_some};
 
 use crate::seen::{Look, Seen, is_free};
 use lock_api::{Guard, Mapped};
-use lock_api_guards::{Access, FairHold, Hold, Lender, LenderMut};
+use lock_api_guards::{Access, FairHold, First, Hold, Inside, Lender, LenderMut};
 use lock_api_raw::Then;
-use lock_api_spin::{First, Inside};
 use std::alloc::Allocator;
 use std::fmt::{Debug, Display};
 use std::sync::Wait;

@@ -6,14 +6,17 @@
 
 mod arc_forms;
 mod arc_hold;
+mod evidence;
 mod mode;
 mod raw_hold;
 mod rwlock;
 mod show;
 mod timed;
+mod traced;
 mod turns;
 
 pub use arc_forms::{ArcRwLockReadGuard, ArcRwLockUpgradableReadGuard, ArcRwLockWriteGuard};
+pub use evidence::{Ended, Evidence, Found, FoundAtOnce, Refused};
 pub use lock_api_guards::{
     Access, ArcGuard, ArcHold, DowngradeHold, DowngradeToUpgradable, FairHold, Guard, HasValue,
     HasValueMut, Held, Hold, Lender, LenderMut, Mapped, MutexHold, ReentrantHold, RestoreHold,
@@ -24,4 +27,8 @@ pub use raw_hold::{HasRaw, LockValue, Place, RawHold};
 pub use rwlock::{
     MappedRwLockReadGuard, MappedRwLockWriteGuard, RwLock, RwLockReadGuard,
     RwLockUpgradableReadGuard, RwLockWriteGuard,
+};
+pub use traced::{
+    Traced, TracedWriteGuard, read_shown, try_read_shown, try_write_found, write_found,
+    write_traced,
 };

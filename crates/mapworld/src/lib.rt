@@ -4,6 +4,7 @@
 mod beginning;
 mod contents;
 mod counts;
+mod explore;
 pub mod laws;
 mod limits;
 mod making;

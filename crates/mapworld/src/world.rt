@@ -67,7 +67,7 @@ use std::marker::Model;
 /// ```
 #[derive(Drop)]
 pub struct MapWorld<K: Eq + Hash, V, S: BuildHasher, D: Deed<K, V>, A: Allocator = Global> {
-    core: Core<K, V, S, D, D::Answer, A>,
+    pub(crate) core: Core<K, V, S, D, D::Answer, A>,
 }
 
 impl<K: Eq + Hash, V, S: BuildHasher, D: Deed<K, V>, A: Allocator> Model
@@ -269,7 +269,9 @@ where
     /// - `NoGuardNumbers`: the programs take 2^32 guards or more: one for each call on one key and each opening, and as
     ///   many as there are shards for each walk;
     /// - `NoMemory`: memory ran out. All that the world's threads, blocks and replies will ever need is taken here, but
-    ///   for what walks read.
+    ///   for what walks read: a reply for each call, and a block for each guard that the programs take, as
+    ///   `guard_numbers` counts them. Many walks over many shards take much, a walk with the stop 0 too: 2^20 walks over
+    ///   2,048 shards ask for room for 2^31 blocks of 56 bytes, some 120 GB.
     ///
     /// What was passed in is let go with the error.
     pub fn new(

@@ -1,15 +1,12 @@
 //! Every schedule of two programs, by the states to which they lead; each of them is drained.
 
-use crate::known::{Key, Known};
-use crate::look::Look;
-use crate::progress::{Progress, Seen};
-use crate::rules::{broken_by_threads, can_move, refuses};
+use crate::rules::{broken_by_threads, refuses};
 use crate::worlds::{World, broken, shown_now, world_of};
 use mapworld::Step;
-use mapworld_oracle::plain::key_of;
+use mapworld_explorer::{Ahead, ahead_of, may_be_fair};
 use mapworld_oracle::replay::Made;
 use mapworld_text::Asked;
-use parking_lot_protocol::{Act, SectionAct};
+use std::collections::HashSet;
 use std::process::Abort;
 use std::test::Fail;
 
@@ -24,14 +21,6 @@ const KEYS: u64 = 8;
 pub struct Two<'a> {
     pub pairs: &'a [(u64, u64)],
     pub programs: &'a [Vec<Asked>],
-}
-
-/// A world behind a schedule: how far its threads are, and what it shows.
-#[derive(Drop)]
-struct State {
-    schedule: Vec<Step>,
-    threads: [Progress; 2],
-    look: Look,
 }
 
 /// What is found on the way through all schedules.
@@ -59,7 +48,8 @@ impl Found {
 pub struct Explorer<'r, 'p, R> {
     rt: &'r R,
     two: Two<'p>,
-    known: Known,
+    /// What is ahead of each state that was come to.
+    known: HashSet<String>,
     found: Found,
 }
 
@@ -67,7 +57,7 @@ impl<'r, 'p, R: AllocGlobal + Abort> Explorer<'r, 'p, R> {
     /// Makes every schedule of the two programs, to its end.
     pub fn explore(rt: &'r R, two: Two<'p>) -> Result<Found, Fail> {
         let found = Found::NOTHING;
-        let known = Known::new(rt.alloc())?;
+        let known = HashSet::new(rt.alloc());
         let mut explorer = Explorer {
             rt,
             two,
@@ -80,24 +70,24 @@ impl<'r, 'p, R: AllocGlobal + Abort> Explorer<'r, 'p, R> {
 
     /// Goes from the states that so many steps lead to on to those of one step more, until there are none.
     fn make_all(&mut self) -> Result<(), Fail> {
-        let mut states = self.first()?;
+        let mut schedules = self.first()?;
         for _ in 0..MOST_STEPS {
-            if states.is_empty() {
+            if schedules.is_empty() {
                 return Ok(());
             }
-            states = self.next_states(&states)?;
+            schedules = self.longer(&schedules)?;
         }
         let programs = self.two.programs;
         panic!(self.rt; "{programs:?} go on behind {MOST_STEPS} steps")
     }
 
-    /// The state before the first step.
-    fn first(&mut self) -> Result<Vec<State>, Fail> {
-        let mut states = Vec::new(self.rt.alloc());
+    /// The schedule without a step.
+    fn first(&mut self) -> Result<Vec<Vec<Step>>, Fail> {
+        let mut schedules = Vec::new(self.rt.alloc());
         let schedule = Vec::new(self.rt.alloc());
         let world = self.world_behind(&schedule)?;
-        self.look_at(world, schedule, [Progress::FIRST; 2], &mut states)?;
-        Ok(states)
+        self.look_at(world, schedule, &mut schedules)?;
+        Ok(schedules)
     }
 
     /// A world behind a schedule.
@@ -107,44 +97,37 @@ impl<'r, 'p, R: AllocGlobal + Abort> Explorer<'r, 'p, R> {
         Ok(world)
     }
 
-    /// The states that one step leads to from these.
-    fn next_states(&mut self, states: &[State]) -> Result<Vec<State>, Fail> {
-        let mut next = Vec::new(self.rt.alloc());
-        for state in states {
+    /// The schedules of one step more that lead to new states.
+    fn longer(&mut self, schedules: &[Vec<Step>]) -> Result<Vec<Vec<Step>>, Fail> {
+        let mut longer = Vec::new(self.rt.alloc());
+        for schedule in schedules {
             for thread in 0..2 {
-                self.make_each(state, thread, &mut next)?;
+                self.make_each(schedule, thread, &mut longer)?;
             }
         }
-        Ok(next)
+        Ok(longer)
     }
 
-    /// Looks at a world behind a schedule, and adds its state, if it is new; and drains it.
+    /// Looks at a world behind a schedule, which is kept if the state is new; and drains it.
     fn look_at(
         &mut self,
         world: World,
         schedule: Vec<Step>,
-        threads: [Progress; 2],
-        next: &mut Vec<State>,
+        longer: &mut Vec<Vec<Step>>,
     ) -> Result<(), Fail> {
-        let look = Look::of(self.rt.alloc(), &world)?;
-        let key = Key {
-            threads,
-            look: look.clone()?,
-        };
-        if !self.known.add(key)? {
+        let ahead = ahead_of(self.rt.alloc(), &world)?;
+        if self.known.contains(ahead.as_str()) {
             return Ok(());
         }
+        let text = String::from_str(self.rt.alloc(), ahead.as_str())?;
+        let _ = self.known.insert(text)?;
         self.found.states = self.found.states.saturating_add(1);
         if world.replies().len() == self.calls() {
             self.found.ends = self.found.ends.saturating_add(1);
         }
-        self.must_hold(broken_by_threads(&world, &look, threads), &schedule);
-        self.drain(world, &look, &schedule)?;
-        next.push(State {
-            schedule,
-            threads,
-            look,
-        })?;
+        self.must_hold(broken_by_threads(&world), &schedule);
+        self.drain(world, &ahead, &schedule)?;
+        longer.push(schedule)?;
         Ok(())
     }
 
@@ -154,9 +137,9 @@ impl<'r, 'p, R: AllocGlobal + Abort> Explorer<'r, 'p, R> {
     }
 
     /// Drains a world behind a schedule, and looks at what it showed before and shows then.
-    fn drain(&mut self, world: World, look: &Look, schedule: &[Step]) -> Result<(), Fail> {
+    fn drain(&mut self, world: World, ahead: &Ahead, schedule: &[Step]) -> Result<(), Fail> {
         let mut world = world;
-        if !refuses(self.rt.alloc(), &mut world, look)? {
+        if !refuses(self.rt.alloc(), &mut world, ahead)? {
             self.must_hold(
                 Some("a step that can't be made is refused, and changes nothing"),
                 schedule,
@@ -187,79 +170,43 @@ impl<'r, 'p, R: AllocGlobal + Abort> Explorer<'r, 'p, R> {
         Ok(())
     }
 
-    /// The call that a thread is in, or the next one.
-    fn call(&self, state: &State, thread: usize) -> Option<&'p Asked> {
-        let progress = state.threads[thread & 1];
-        self.two.programs.get(thread)?.get(progress.call)
-    }
-
-    /// The key of the thread's call, or of the opening before it.
-    fn key(&self, state: &State, thread: usize) -> Option<u64> {
-        let progress = state.threads[thread & 1];
-        let calls = self.two.programs.get(thread)?;
-        let so_far = calls.get(..progress.call.saturating_add(1))?;
-        so_far.iter().rev().find_map(key_of)
-    }
-
-    /// Makes the thread's step from a state, where it stores unfairly and fairly, and adds the states that it leads to.
+    /// Makes the thread's step behind a schedule, and a fair one too where it stores in the section of a release.
     fn make_each(
         &mut self,
-        state: &State,
+        schedule: &[Step],
         thread: usize,
-        next: &mut Vec<State>,
+        longer: &mut Vec<Vec<Step>>,
     ) -> Result<(), Fail> {
+        let world = self.world_behind(schedule)?;
+        if !world.can_move(thread) {
+            return Ok(());
+        }
+        let stores = may_be_fair(&world, thread);
         let plain = Step {
             thread,
             fair: false,
         };
-        let Some(call) = self.call(state, thread) else {
-            return Ok(());
-        };
-        if !can_move(thread, state.threads) {
-            return Ok(());
-        }
-        let act = state.threads[thread & 1].act(call);
-        self.make(state, plain, call, next)?;
-        if matches!(act, Some(Act::Section(SectionAct::Store { .. }))) {
-            self.make(state, Step { thread, fair: true }, call, next)?;
+        self.make(world, schedule, plain, longer)?;
+        if stores {
+            let world = self.world_behind(schedule)?;
+            self.make(world, schedule, Step { thread, fair: true }, longer)?;
         }
         Ok(())
     }
 
-    /// Makes a step of a thread that is in that call, and adds the state that it leads to.
+    /// Makes a step behind a schedule.
     fn make(
         &mut self,
-        state: &State,
+        world: World,
+        schedule: &[Step],
         step: Step,
-        call: &Asked,
-        next: &mut Vec<State>,
+        longer: &mut Vec<Vec<Step>>,
     ) -> Result<(), Fail> {
-        let mut world = self.world_behind(&state.schedule)?;
-        let key = self.key(state, step.thread);
-        let present = key.is_some_and(|key| world.pair(&key).is_some());
-        let shard = state.threads[step.thread & 1].shard as u64;
-        let pairs = (0..KEYS).filter(|key| *key & 1 == shard && world.pair(key).is_some());
-        let pairs = pairs.count() as u64;
+        let mut world = world;
         world.run(&[step])?;
-        let look = Look::of(self.rt.alloc(), &world)?;
-        let seen = Seen {
-            before: &state.look,
-            behind: &look,
-            present,
-            pairs,
-            fair: step.fair,
-            others: self.call(state, (step.thread & 1) ^ 1),
-        };
-        let Some(threads) = followed(state.threads, step.thread, call, &seen) else {
-            self.must_hold(
-                Some("each step is one of the protocol, and changes the words as its act does"),
-                &state.schedule,
-            );
-            return Ok(());
-        };
-        let mut schedule = state.schedule.clone()?;
-        schedule.push(step)?;
-        self.look_at(world, schedule, threads, next)
+        let mut whole = Vec::from_slice(self.rt.alloc(), schedule)?;
+        whole.push(step)?;
+        self.look_at(world, whole, longer)
     }
 
     /// Ends the test where a rule is broken behind a schedule.
@@ -268,31 +215,5 @@ impl<'r, 'p, R: AllocGlobal + Abort> Explorer<'r, 'p, R> {
             let programs = self.two.programs;
             panic!(self.rt; "{rule}: {programs:?} by {schedule:?}")
         }
-    }
-}
-
-/// How far the two threads are behind a step of one of them, which is in that call. `None` where the step isn't one of
-/// the protocol, or the words aren't what it makes of them.
-fn followed(
-    threads: [Progress; 2],
-    thread: usize,
-    call: &Asked,
-    seen: &Seen<'_>,
-) -> Option<[Progress; 2]> {
-    let own = threads[thread & 1];
-    let other = threads[(thread & 1) ^ 1];
-    let act = own.act(call);
-    if !seen.has_words_of(act, own.act_shard()) {
-        return None;
-    }
-    let moved = own.after(call, seen)?;
-    let beside = match act {
-        Some(Act::Section(SectionAct::Wake)) => other.woken(own.hands)?,
-        _ => other,
-    };
-    if thread == 0 {
-        Some([moved, beside])
-    } else {
-        Some([beside, moved])
     }
 }

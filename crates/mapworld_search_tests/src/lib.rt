@@ -4,11 +4,7 @@
 #[cfg(test)]
 mod explorer;
 #[cfg(test)]
-mod known;
-#[cfg(test)]
-mod look;
-#[cfg(test)]
-mod progress;
+mod outcomes;
 #[cfg(test)]
 mod rules;
 #[cfg(test)]

@@ -1,10 +1,9 @@
 //! All schedules of two threads with calls of each pair of kinds, each state of them drained.
 //!
-//! Programs are written as in a file of `mapworld_cases`; each thread of a text stands for one that is tried.
+//! Programs are written as in a file of `mapworld_explore`; each thread of a text stands for one that is tried.
 
 use crate::explorer::{Explorer, Found, Two};
-use crate::look::shard_of;
-use crate::worlds::{copy_of, programs_of, world_of};
+use crate::worlds::{copy_of, programs_of, shard_of, world_of};
 use std::process::Abort;
 use std::test::Fail;
 
@@ -391,141 +390,141 @@ fn the_tests_know_the_shards(rt: HostRuntime) -> Result<(), Fail> {
 
 #[test]
 fn programs_of_two_calls(rt: HostRuntime) -> Result<(), Fail> {
-    explore(&rt, ONE, TWO_LOOKS, TWO_OTHERS, 4_900)?;
-    explore(&rt, ONE, REPLACES, PUTS_BACK, 3_700)
+    explore(&rt, ONE, TWO_LOOKS, TWO_OTHERS, 4_200)?;
+    explore(&rt, ONE, REPLACES, PUTS_BACK, 1_800)
 }
 
 #[test]
 fn programs_of_two_calls_on_two_shards(rt: HostRuntime) -> Result<(), Fail> {
-    explore(&rt, BOTH, INSERT_AND_VIEW, PUTS_BACK_BESIDE, 500)?;
-    explore(&rt, BOTH, FIRST_THEN_SECOND, SECOND_THEN_FIRST, 2_600)
+    explore(&rt, BOTH, INSERT_AND_VIEW, PUTS_BACK_BESIDE, 270)?;
+    explore(&rt, BOTH, FIRST_THEN_SECOND, SECOND_THEN_FIRST, 1_000)
 }
 
 #[test]
 fn calls_on_keys_beside_each_other(rt: HostRuntime) -> Result<(), Fail> {
-    explore(&rt, ONE, KEYED, KEYED, 3_800)
+    explore(&rt, ONE, KEYED, KEYED, 3_700)
 }
 
 #[test]
 fn guards_beside_calls_on_keys(rt: HostRuntime) -> Result<(), Fail> {
-    explore(&rt, ONE, GUARDED, KEYED, 9_300)
+    explore(&rt, ONE, GUARDED, KEYED, 9_100)
 }
 
 #[test]
 fn shared_guards_beside_guards(rt: HostRuntime) -> Result<(), Fail> {
-    explore(&rt, ONE, SHARED, GUARDED, 2_800)
+    explore(&rt, ONE, SHARED, GUARDED, 2_700)
 }
 
 #[test]
 fn exclusive_guards_beside_guards(rt: HostRuntime) -> Result<(), Fail> {
-    explore(&rt, ONE, EXCLUSIVE, GUARDED, 4_000)
+    explore(&rt, ONE, EXCLUSIVE, GUARDED, 3_900)
 }
 
 #[test]
 fn guards_that_become_shared_beside_guards(rt: HostRuntime) -> Result<(), Fail> {
-    explore(&rt, ONE, DOWNGRADED, GUARDED, 5_700)
+    explore(&rt, ONE, DOWNGRADED, GUARDED, 5_600)
 }
 
 #[test]
 fn entries_beside_guards(rt: HostRuntime) -> Result<(), Fail> {
-    explore(&rt, ONE, ENTRIES, GUARDED, 8_200)
+    explore(&rt, ONE, ENTRIES, GUARDED, 8_100)
 }
 
 #[test]
 fn tries_beside_calls_on_keys_and_tries(rt: HostRuntime) -> Result<(), Fail> {
-    explore(&rt, ONE, TRIES, KEYED, 2_500)?;
-    explore(&rt, ONE, TRIES, TRIES, 1_000)
+    explore(&rt, ONE, TRIES, KEYED, 2_400)?;
+    explore(&rt, ONE, TRIES, TRIES, 700)
 }
 
 #[test]
 fn tries_beside_guards(rt: HostRuntime) -> Result<(), Fail> {
-    explore(&rt, ONE, TRIES, GUARDED, 5_000)
+    explore(&rt, ONE, TRIES, GUARDED, 4_800)
 }
 
 #[test]
 fn walks_beside_a_reading_call(rt: HostRuntime) -> Result<(), Fail> {
-    explore(&rt, ONE, VIEW, WALKS, 4_100)
+    explore(&rt, ONE, VIEW, WALKS, 3_100)
 }
 
 #[test]
 fn walks_beside_an_insertion(rt: HostRuntime) -> Result<(), Fail> {
-    explore(&rt, ONE, INSERT, WALKS, 6_400)
+    explore(&rt, ONE, INSERT, WALKS, 4_700)
 }
 
 #[test]
 fn walks_beside_a_removal(rt: HostRuntime) -> Result<(), Fail> {
-    explore(&rt, ONE, REMOVE, WALKS, 6_300)
+    explore(&rt, ONE, REMOVE, WALKS, 4_600)
 }
 
 #[test]
 fn walks_beside_a_shared_guard(rt: HostRuntime) -> Result<(), Fail> {
-    explore(&rt, ONE, SHARED, WALKS, 4_800)
+    explore(&rt, ONE, SHARED, WALKS, 3_300)
 }
 
 #[test]
 fn walks_beside_an_exclusive_guard(rt: HostRuntime) -> Result<(), Fail> {
-    explore(&rt, ONE, EXCLUSIVE, WALKS, 8_800)
+    explore(&rt, ONE, EXCLUSIVE, WALKS, 6_100)
 }
 
 #[test]
 fn walks_beside_a_guard_that_becomes_shared(rt: HostRuntime) -> Result<(), Fail> {
-    explore(&rt, ONE, DOWNGRADED, WALKS, 13_400)
+    explore(&rt, ONE, DOWNGRADED, WALKS, 8_400)
 }
 
 #[test]
 fn walks_beside_entries(rt: HostRuntime) -> Result<(), Fail> {
-    explore(&rt, ONE, VACANT, WALKS, 8_900)
+    explore(&rt, ONE, VACANT, WALKS, 6_100)
 }
 
 #[test]
 fn walks_beside_tries(rt: HostRuntime) -> Result<(), Fail> {
-    explore(&rt, ONE, TRIES, WALKS, 13_700)
+    explore(&rt, ONE, TRIES, WALKS, 8_400)
 }
 
 #[test]
 fn a_reading_walk_beside_walks(rt: HostRuntime) -> Result<(), Fail> {
-    explore(&rt, ONE, READS, WALKS, 14_600)
+    explore(&rt, ONE, READS, WALKS, 8_500)
 }
 
 #[test]
 fn a_walk_that_hands_over_beside_walks(rt: HostRuntime) -> Result<(), Fail> {
-    explore(&rt, ONE, READS_AND_ADDS, BESIDE_A_HANDOVER, 11_000)
+    explore(&rt, ONE, READS_AND_ADDS, BESIDE_A_HANDOVER, 6_000)
 }
 
 #[test]
 fn walks_of_one_shard_at_a_time_beside_walks(rt: HostRuntime) -> Result<(), Fail> {
-    explore(&rt, ONE, KEEPS, BESIDE_A_RETAIN, 13_200)
+    explore(&rt, ONE, KEEPS, BESIDE_A_RETAIN, 6_100)
 }
 
 #[test]
 fn walks_that_count_beside_walks(rt: HostRuntime) -> Result<(), Fail> {
-    explore(&rt, ONE, COUNTS, BESIDE_A_COUNT, 8_100)
+    explore(&rt, ONE, COUNTS, BESIDE_A_COUNT, 4_400)
 }
 
 #[test]
 fn calls_on_two_shards(rt: HostRuntime) -> Result<(), Fail> {
-    explore(&rt, BOTH, KEYED, ON_SHARD_0, 2_200)?;
-    explore(&rt, BOTH, GUARDED, ON_SHARD_0, 5_600)?;
-    explore(&rt, BOTH, TRIES, ON_SHARD_0, 2_400)
+    explore(&rt, BOTH, KEYED, ON_SHARD_0, 1_800)?;
+    explore(&rt, BOTH, GUARDED, ON_SHARD_0, 2_800)?;
+    explore(&rt, BOTH, TRIES, ON_SHARD_0, 1_200)
 }
 
 #[test]
 fn walks_over_two_shards_beside_a_removal(rt: HostRuntime) -> Result<(), Fail> {
-    explore(&rt, BOTH, REMOVE_2, WALKS, 7_200)
+    explore(&rt, BOTH, REMOVE_2, WALKS, 6_700)
 }
 
 #[test]
 fn walks_over_two_shards_beside_guards(rt: HostRuntime) -> Result<(), Fail> {
-    explore(&rt, BOTH, GUARDS_ON_SHARD_0, WALKS, 9_300)
+    explore(&rt, BOTH, GUARDS_ON_SHARD_0, WALKS, 8_300)
 }
 
 #[test]
 fn walks_over_two_shards_that_stop(rt: HostRuntime) -> Result<(), Fail> {
-    explore(&rt, BOTH, STOPS, CHANGES, 3_000)
+    explore(&rt, BOTH, STOPS, CHANGES, 2_600)
 }
 
 #[test]
 fn two_walks_over_two_shards(rt: HostRuntime) -> Result<(), Fail> {
-    explore(&rt, BOTH, READS_AND_ADDS, READS_AND_KEEPS, 5_800)?;
-    explore(&rt, BOTH, ADDS, COUNTS, 2_400)
+    explore(&rt, BOTH, READS_AND_ADDS, READS_AND_KEEPS, 3_600)?;
+    explore(&rt, BOTH, ADDS, COUNTS, 1_000)
 }

@@ -10,6 +10,11 @@ use std::test::Fail;
 
 pub type World = MapWorld<u64, u64, SpreadState, Change>;
 
+/// The shard that a key is on, of two.
+pub fn shard_of(key: u64) -> usize {
+    (key & 1) as usize
+}
+
 /// The programs of a text.
 pub fn programs_of(alloc: Global, text: &str) -> Result<Vec<Vec<Asked>>, Fail> {
     match read(alloc, text)?.pop() {

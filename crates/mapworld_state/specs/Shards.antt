@@ -1,6 +1,6 @@
 -- The pairs of a shard, as contracts see them: a finite map by key, and for how many pairs there is room.
 use Rattle.std.specs.Prelude.{◌≡◌, ℕ, ◌+◌, ◌*◌, ◌≤◌, Bool, nat_lt, if◌then◌else◌, List, length, Option, Some, None}
-use Rattle.std.specs.Prelude.{IsSome}
+use Rattle.std.specs.Prelude.{IsSome, max}
 use Rattle.dashmap_table.specs.Slots as slots
 use Rattle.dashmap_table.specs.Table.{Table}
 use Rattle.mapworld_calls.specs.Pairs.{pair_of, AreDistinct}
@@ -18,7 +18,7 @@ shard_pairs t = record { items = slots.pairs_of t.slots; room = t.room }
 abbrev pub has_room : {K V : Type 0} → ShardPairs K V → Bool
 has_room s = nat_lt (length s.items) s.room
 
--- for how many pairs a shard of n pairs has room behind a growth, at the least
+-- for how many pairs a shard of n pairs has room behind a growth, at the least; four times as many are the most
 abbrev pub grown_room : ℕ → ℕ
 grown_room n = 2 * n + 4
 
@@ -47,6 +47,7 @@ pub record Grown {K V : Type 0} (eq : K → K → Bool) (old new : ShardPairs K 
   pub distinct : AreDistinct eq new.items
   pub counted : length new.items ≡ length old.items
   pub room : grown_room (length old.items) ≤ new.room
+  pub most : new.room ≤ max old.room (4 * grown_room (length old.items))
 
 -- the one shard is the other with no more room than it needs: every key has what it had, and there is none for a
 -- shard without pairs

@@ -220,6 +220,7 @@ module _ {K V S D T A : Type 0} (x : Setup K V D T) (w : State K V S D T A) (s :
     pub held : slice_get w.tables place.shard ≡ Some table
     pub changed : ShardPairs K V
     pub puts : Puts x.eq table changed key (Some (key, value))
+    pub room : changed.room ≤ table.room + 1
     pub blocks : List (Block K)
     pub counted : CountsCall w.blocks place.block place.next blocks
     pub after : w' ≡ record (stepped w s (record place { phase = phase.Release answer.None }))
@@ -317,6 +318,7 @@ module _ {K V S D T A : Type 0} (x : Setup K V D T) (w : State K V S D T A) (s :
     pub guarded : place.guard ≡ Some (guard.Vacant key)
     pub changed : ShardPairs K V
     pub puts : Puts x.eq table changed key (Some (key, value))
+    pub room : changed.room ≤ table.room + 1
     pub blocks : List (Block K)
     pub counted : CountsCall w.blocks place.block place.next blocks
     pub after : w' ≡ record (stepped w s

@@ -1,5 +1,5 @@
 //! Tests of the world of maps and of what stands below it: what no contract of theirs says, and no file of
-//! `mapworld_cases` can.
+//! `mapworld_explore` can.
 #![tactic(auto)]
 
 #[cfg(test)]

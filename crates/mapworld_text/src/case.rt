@@ -1,6 +1,7 @@
 //! A case: a world, what is done with it, and what must be seen of it.
 
 use crate::change::Change;
+use crate::claims::Claim;
 use crate::fault::Expected;
 use mapworld_calls::Ask;
 use std::alloc::Global;
@@ -77,6 +78,8 @@ pub enum Order {
     Run,
     /// That is seen.
     Expect(View),
+    /// What all schedules of the programs come to.
+    Claim(Claim),
 }
 
 /// A line of a case below its programs.
@@ -102,6 +105,8 @@ pub struct Case<'a> {
     /// The names of the threads, in the order of their programs.
     pub names: Vec<&'a str>,
     pub programs: Vec<Vec<Asked>>,
+    /// The calls of the programs, as they are written.
+    pub calls: Vec<Vec<&'a str>>,
     /// The threads whose steps are fair.
     pub fair: Vec<usize>,
     /// The threads whose steps are fair or not, by each choice.
@@ -119,6 +124,7 @@ impl<'a> Case<'a> {
             pairs: Vec::new(alloc),
             names: Vec::new(alloc),
             programs: Vec::new(alloc),
+            calls: Vec::new(alloc),
             fair: Vec::new(alloc),
             either: Vec::new(alloc),
             lines: Vec::new(alloc),
@@ -136,5 +142,13 @@ impl<'a> Case<'a> {
     /// The name of a thread, where it has one.
     pub fn name_of(&self, thread: usize) -> &'a str {
         self.names.get(thread).copied().unwrap_or("?")
+    }
+
+    /// A thread's call as it is written, where there is one.
+    pub fn call_of(&self, thread: usize, call: usize) -> &'a str {
+        match self.calls.get(thread) {
+            Some(calls) => calls.get(call).copied().unwrap_or("?"),
+            None => "?",
+        }
     }
 }

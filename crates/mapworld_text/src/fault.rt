@@ -26,6 +26,10 @@ pub enum Expected {
     Thread,
     /// What is seen of a world.
     View,
+    /// What is claimed of all schedules.
+    Claim,
+    /// A number of a call of the thread that the claim is about.
+    CallNumber,
     /// Memory.
     Memory,
 }
@@ -36,7 +40,7 @@ impl Expected {
         match self {
             Expected::Depth => "0, 2 or 4 spaces before the first word",
             Expected::Line => {
-                "`case`, `shards`, `pairs`, `thread`, `copies`, `again`, `fair`, `either`, `step`, `through`, `until`, `round`, `drain`, `end`, `seed`, `run` or `expect`"
+                "`case`, `shards`, `pairs`, `thread`, `copies`, `again`, `fair`, `either`, `step`, `through`, `until`, `round`, `drain`, `end`, `seed`, `run`, `expect`, `outcomes`, `never`, `always` or `sometimes`"
             }
             Expected::Call => "a call on the map",
             Expected::GuardCall => "a call on a guard",
@@ -48,6 +52,8 @@ impl Expected {
             Expected::Program => "a thread above its calls",
             Expected::Thread => "the name or the number of a thread",
             Expected::View => "what is seen of a world",
+            Expected::Claim => "what a call is answered, as a=none or a.0=none, or `contents 1=10`",
+            Expected::CallNumber => "the number of one of the thread's calls, as a.0=none",
             Expected::Memory => "more memory",
         }
     }

@@ -7,6 +7,7 @@
 mod asks;
 mod case;
 mod change;
+mod claims;
 mod fault;
 mod orders;
 mod reader;
@@ -14,6 +15,7 @@ mod shown;
 
 pub use case::{Asked, Case, Line, Order, View};
 pub use change::Change;
+pub use claims::{Claim, Part, Term, terms};
 pub use fault::{Expected, TextFault};
 pub use reader::read;
 pub use shown::{Answered, Shown};

@@ -2,6 +2,7 @@
 
 use crate::asks::{count, number};
 use crate::case::{Case, Order, View};
+use crate::claims::Claim;
 use crate::fault::Expected;
 
 /// What a line says, and how many of its words say it. Behind them stands what is to be seen.
@@ -99,6 +100,10 @@ pub fn order(case: &Case<'_>, words: &[&str]) -> Read {
         ["seed", seed, steps] => seeded(number(seed)?, number(steps)?),
         ["until", thread, ref rest @ ..] => until(case, case.thread(thread)?, rest),
         ["expect", ref rest @ ..] => expect(case, rest),
+        ["outcomes", outcomes] => Ok((Order::Claim(Claim::Outcomes(count(outcomes)?)), 2)),
+        ["never", ..] => Ok((Order::Claim(Claim::Never), 1)),
+        ["always", ..] => Ok((Order::Claim(Claim::Always), 1)),
+        ["sometimes", ..] => Ok((Order::Claim(Claim::Sometimes), 1)),
         _ => Err(Expected::Line),
     }
 }

@@ -2,6 +2,7 @@
 
 use crate::asks::{call, count, guard_call, number};
 use crate::case::{Asked, Case, Line, Order};
+use crate::claims::{Claim, terms};
 use crate::fault::{Expected, TextFault};
 use crate::orders::order;
 use std::alloc::{AllocError, Global};
@@ -58,15 +59,28 @@ impl<'a> Reader<'a> {
     fn add_thread(&mut self, name: &'a str) -> Result<(), Expected> {
         self.case.names.push(name)?;
         self.case.programs.push(Vec::new(self.alloc))?;
+        self.case.calls.push(Vec::new(self.alloc))?;
         Ok(())
     }
 
-    fn add_call(&mut self, asked: Asked) -> Result<(), Expected> {
+    fn add_call(&mut self, asked: Asked, text: &'a str) -> Result<(), Expected> {
         match self.case.programs.last_mut() {
             Some(program) => program.push(asked)?,
             None => return Err(Expected::Program),
         }
+        match self.case.calls.last_mut() {
+            Some(calls) => calls.push(text)?,
+            None => return Err(Expected::Program),
+        }
         Ok(())
+    }
+
+    /// The calls of the last program, as they are written.
+    fn last_calls(&self) -> Result<Vec<&'a str>, AllocError> {
+        match self.case.calls.last() {
+            Some(calls) => calls.clone(),
+            None => Ok(Vec::new(self.alloc)),
+        }
     }
 
     /// Makes the last program that of so many threads.
@@ -78,6 +92,8 @@ impl<'a> Reader<'a> {
         };
         for _ in 1..threads {
             self.case.programs.push(copy_of(&program, alloc)?)?;
+            let calls = self.last_calls()?;
+            self.case.calls.push(calls)?;
         }
         Ok(())
     }
@@ -92,6 +108,19 @@ impl<'a> Reader<'a> {
         for _ in 0..times {
             for ask in &calls {
                 program.push(ask.clone()?)?;
+            }
+        }
+        self.repeat_texts(times)
+    }
+
+    /// The same with the calls as they are written.
+    fn repeat_texts(&mut self, times: usize) -> Result<(), Expected> {
+        let texts = self.last_calls()?;
+        if let Some(calls) = self.case.calls.last_mut() {
+            for _ in 0..times {
+                for text in &texts {
+                    calls.push(*text)?;
+                }
             }
         }
         Ok(())
@@ -134,6 +163,9 @@ impl<'a> Reader<'a> {
             _ => Vec::new(self.alloc),
         };
         let want = self.words_behind(words, said.saturating_add(threads.len()))?;
+        if let Order::Claim(Claim::Never | Claim::Always | Claim::Sometimes) = order {
+            let _ = terms(self.alloc, &self.case, &want)?;
+        }
         let number = self.number;
         self.case.lines.push(Line {
             number,
@@ -166,11 +198,11 @@ impl<'a> Reader<'a> {
             0 => self.directive(&words),
             2 => {
                 let asked = call(&words)?;
-                self.add_call(asked)
+                self.add_call(asked, text.trim())
             }
             4 => {
                 let asked = guard_call(&words)?;
-                self.add_call(asked)
+                self.add_call(asked, text.trim())
             }
             _ => Err(Expected::Depth),
         }

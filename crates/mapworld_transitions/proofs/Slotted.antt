@@ -3,7 +3,7 @@
 use Rattle.std.proofs.Common.{◌≡◌, ℕ, zero, suc, ◌+◌, ◌≤◌, Bool, true, false, cond, ◌==◌, if◌then◌else◌, List, [], ◌∷◌}
 use Rattle.std.proofs.Common.{length, Option, Some, None, IfSome, Result, Ok, Err, OnOk, is_some, slice_get, slice_set}
 use Rattle.std.proofs.Common.{slice_index_or, remove, find, refl, sym, ap, ◌∙◌, subst, inl, inr, IsTrue, arith, eq-eqb}
-use Rattle.std.proofs.Common.{length-set, IsSome, ◌*◌}
+use Rattle.std.proofs.Common.{length-set, IsSome, ◌*◌, max}
 use Rattle.std.specs.Cmp.{IsEquivalence}
 use Rattle.std.specs.Hash.{HashWrites}
 use Rattle.std.specs.declared.hash.BuildHasher as builder
@@ -17,7 +17,7 @@ use Rattle.dashmap_table.specs.declared.entry.Entry.{Entry}
 use Rattle.dashmap_table.specs.Route.{hash_of}
 use Rattle.dashmap_table.specs.Slots.{at, count, holds, slot_of, entry_of, pair_of as entry_pair, pairs_of, entry_with}
 use Rattle.dashmap_table.specs.Slots.{giving_value, giving_pair, changed, AreDistinct as AreApart}
-use Rattle.dashmap_table.specs.Table.{Table, IsSound, Adds, SamePairs, with_value, with_pair}
+use Rattle.dashmap_table.specs.Table.{Table, IsSound, Adds, SamePairs, with_value, with_pair, grown_to}
 use Rattle.dashmap_table.proofs.Cases.{option_cases}
 use Rattle.dashmap_table.proofs.Places.{at-set_same}
 use Rattle.dashmap_table.proofs.Changing.{at-changed, at-changed_other}
@@ -361,8 +361,10 @@ module _ {K V : Type 0} (eq : K → K → Bool) (laws : IsEquivalence eq) where
 
     -- the same pairs, with more room
     pub grown-same : (old new : Table K V) → HasHashes hash old → IsSound eq new → SamePairs eq old new
-        → count old.slots + (count old.slots + 4) ≤ new.room → Grown eq (shard_pairs old) (shard_pairs new)
-    grown-same old new hashed sound same enough =
+        → count old.slots + (count old.slots + 4) ≤ new.room
+        → new.room ≤ max old.room (4 * grown_to (count old.slots) (count old.slots + 4))
+        → Grown eq (shard_pairs old) (shard_pairs new)
+    grown-same old new hashed sound same enough most =
         let now = each-same eq laws (λ h k. h ≡ hash k) old new sound same hashed in
         let before = length-pairs_of old.slots in
         let after = length-pairs_of new.slots in
@@ -373,6 +375,7 @@ module _ {K V : Type 0} (eq : K → K → Bool) (laws : IsEquivalence eq) where
           distinct = distinct-pairs new sound.distinct now;
           counted = omega (arith, before, after, counted);
           room = omega (arith, enough, before);
+          most = omega (arith, most, before);
         }
 
     -- the same pairs, with no more room than they need

@@ -1,6 +1,6 @@
 //! What steps do with a shard's pairs.
 ghost use Rattle.std.specs.Prelude.{◌≡◌, ℕ, true, not, if◌then◌else◌, is_some, IsTrue, IsSome, IfSome, OnOk, OnErr};
-ghost use Rattle.std.specs.Prelude.{Some, None};
+ghost use Rattle.std.specs.Prelude.{Some, None, ◌+◌, ◌≤◌};
 ghost use Rattle.std.specs.Option.{option_map};
 ghost use Rattle.dashmap_table.specs.Slots.{at, pair_of as entry_pair};
 ghost use Rattle.dashmap_table.specs.Table.{Frees, with_value};
@@ -64,6 +64,7 @@ pub fn add_pair<K: Eq + Hash + Drop, V: Drop, S: BuildHasher, A: Allocator>(
     requires absent { pair_of K.eq (shard_pairs shard.old).items key ≡ None }
     requires room { has_room (shard_pairs shard.old) ≡ true }
     ensures puts { Puts K.eq (shard_pairs shard.old) (shard_pairs shard.new) key (Some (key, value)) }
+    ensures room { shard.new.room ≤ shard.old.room + 1 }
     ensures there { HasKeyAt K.eq shard.new result key }
     ensures hashed { HasHashes (key_hash S.BuildHasher S.Hasher.Hasher K.hash_input hasher.now) shard.new }
 {

@@ -22,7 +22,10 @@
 
 mod names;
 
-pub use lock_api::WaitTimeoutResult;
+pub use lock_api::{
+    First, Guard, Inside, Mapped, NoMemory, Projection, ReadersFull, Second, TableFull, Then,
+    TotalProjection, WaitFault, WaitTimeoutResult,
+};
 pub use names::{
     Condvar, FairMutex, FairMutexGuard, MappedFairMutexGuard, MappedMutexGuard,
     MappedRecursiveRwLockReadGuard, MappedRecursiveRwLockWriteGuard, MappedReentrantMutexGuard,
@@ -31,6 +34,7 @@ pub use names::{
     RecursiveRwLockWriteGuard, ReentrantMutex, ReentrantMutexGuard, RwLock, RwLockReadGuard,
     RwLockUpgradableReadGuard, RwLockWriteGuard,
 };
+pub use parking_lot_core::{LotFault, ParkingLot, SizeFault, ThreadData};
 pub use parking_lot_mutex::condvar::RawCondvar;
 pub use parking_lot_mutex::once::{Once, OnceCore, OnceFault, OnceState, Poisoned};
 pub use parking_lot_mutex::{

@@ -2,8 +2,8 @@
 ghost use Rattle.std.specs.Prelude.{◌≤◌, IfOk};
 
 use crate::fault::Fault;
-use lock_api::{Mutex, RwLock, RwLockReadGuard, RwLockWriteGuard, TableFull};
-use lock_api_spin::{First, PackedLock, PackedMutex};
+use lock_api::{First, Mutex, RwLock, RwLockReadGuard, RwLockWriteGuard, TableFull};
+use lock_api_spin::{PackedLock, PackedMutex};
 use std::alloc::Global;
 use std::sync;
 use std::sync::Wait;

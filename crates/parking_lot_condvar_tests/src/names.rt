@@ -4,9 +4,8 @@
 use lock_api::{Guard, Mapped};
 use lock_api_guards::{Hold, Lender, LenderMut};
 use lock_api_raw::{GetThreadId as _, MakeLock as _};
-use lock_api_spin::First;
 use parking_lot::{
-    Condvar, FairMutex, FairMutexGuard, LockTable, MappedFairMutexGuard, MappedMutexGuard,
+    Condvar, FairMutex, FairMutexGuard, First, LockTable, MappedFairMutexGuard, MappedMutexGuard,
     MappedRecursiveRwLockReadGuard, MappedRecursiveRwLockWriteGuard, MappedReentrantMutexGuard,
     MappedRwLockReadGuard, MappedRwLockWriteGuard, Mutex, MutexGuard, Once, OnceFault, OnceState,
     Poisoned, RawFairMutex, RawMutex, RawRwLock, RawRwLockRecursive, RawThreadId, RecursiveRwLock,

@@ -1,18 +1,19 @@
 //! Walks over all shards of a map, each of which is held exclusively in its turn.
 ghost use Rattle.std.specs.Prelude.{◌≡◌, ◌<◌, ℕ, None, Some, length, slice_get};
 ghost use Rattle.std.specs.Option.{option_map};
+ghost use Rattle.std.specs.Sync.RwLock.{write_guard_value};
 ghost use Rattle.crossbeam_utils.specs.Padded.{padded_value};
 ghost use Rattle.dashmap_table.specs.Slots.{at};
+ghost use Rattle.dashmap_map.specs.Evidence.{UnderLock};
 ghost use Rattle.dashmap_map.specs.Locked.{Locked};
 ghost use Rattle.dashmap_iter.specs.Walks.Visits.{Walked, AtFull, Keeps, Alters};
-ghost use Rattle.dashmap_iter.specs.Walks.Held.{WhileHeld, EachHeld};
+ghost use Rattle.dashmap_iter.specs.Walks.Held.{EachLocked};
 
 use crate::walks::each::{alter_each_in, clear_in, retain_in};
 use crossbeam_utils::CachePadded;
 use dashmap_map::DashMap;
 use dashmap_table::Shard;
-use lock_api_raw::RawRwLock;
-use lock_api_rw::{RwLock, RwLockWriteGuard};
+use lock_api_rw::{Evidence, RwLock, TracedWriteGuard, write_traced};
 use std::alloc::Allocator;
 use std::hash::{BuildHasher, Hash};
 use std::sync::Wait;
@@ -27,7 +28,7 @@ use std::sync::Wait;
 /// map.alter_all(|_, age| age.wrapping_add(1), &mut me);
 /// map.clear(&mut me);
 /// ```
-pub trait Walks<K: Eq + Hash, V, S, Q: RawRwLock>
+pub trait Walks<K: Eq + Hash, V, S, Q: Evidence<Shard<K, V, A>>, A: Allocator>
 where
     Q::Runtime: Wait,
 {
@@ -41,22 +42,22 @@ where
         K: Drop,
         V: Drop,
         requires { F.IsAlwaysCallable f }
-        ensures { (last : F) × EachHeld Q.ExclusiveGuard Q.Runtime Q.Party (seen self.now)
-            (λ p q. Walked (AtFull (Keeps F.FnMut)) (length p.1.slots) p q) f last };
+        ensures { (last : F) × EachLocked Q.held (seen self.now)
+            (λ p q. Walked (AtFull (Keeps F.FnMut)) (length p.1.slots) p q) (td.old, f) (td.new, last) };
 
     /// Stores what the closure makes of each value. The next shard is held before the last one is given back.
     fn alter_all<F: FnMut(&K, V) -> V + Drop>(&self, f: F, td: &mut Q::Party)
         requires { F.IsAlwaysCallable f }
-        ensures { (last : F) × EachHeld Q.ExclusiveGuard Q.Runtime Q.Party (seen self.now)
-            (λ p q. Walked (AtFull (Alters F.FnMut)) (length p.1.slots) p q) f last };
+        ensures { (last : F) × EachLocked Q.held (seen self.now)
+            (λ p q. Walked (AtFull (Alters F.FnMut)) (length p.1.slots) p q) (td.old, f) (td.new, last) };
 
     /// Takes every pair out; the room stays. One shard is held at a time.
     fn clear(&self, td: &mut Q::Party)
     where
         K: Drop,
         V: Drop,
-        ensures { EachHeld {K = K} {V = V} Q.ExclusiveGuard Q.Runtime Q.Party {F = Unit {0}} (seen self.now)
-            (λ p q. (i : ℕ) → at q.1.slots i ≡ None) tt tt };
+        ensures { EachLocked Q.held (seen self.now) (λ p q. (i : ℕ) → at q.1.slots i ≡ None)
+            (td.old, tt {0}) (td.new, tt {0}) };
 
     /// As `retain`.
     fn _retain<F: FnMut(&K, &mut V) -> bool + Drop>(&self, f: F, td: &mut Q::Party)
@@ -64,22 +65,22 @@ where
         K: Drop,
         V: Drop,
         requires { F.IsAlwaysCallable f }
-        ensures { (last : F) × EachHeld Q.ExclusiveGuard Q.Runtime Q.Party (seen self.now)
-            (λ p q. Walked (AtFull (Keeps F.FnMut)) (length p.1.slots) p q) f last };
+        ensures { (last : F) × EachLocked Q.held (seen self.now)
+            (λ p q. Walked (AtFull (Keeps F.FnMut)) (length p.1.slots) p q) (td.old, f) (td.new, last) };
 
     /// As `alter_all`.
     fn _alter_all<F: FnMut(&K, V) -> V + Drop>(&self, f: F, td: &mut Q::Party)
         requires { F.IsAlwaysCallable f }
-        ensures { (last : F) × EachHeld Q.ExclusiveGuard Q.Runtime Q.Party (seen self.now)
-            (λ p q. Walked (AtFull (Alters F.FnMut)) (length p.1.slots) p q) f last };
+        ensures { (last : F) × EachLocked Q.held (seen self.now)
+            (λ p q. Walked (AtFull (Alters F.FnMut)) (length p.1.slots) p q) (td.old, f) (td.new, last) };
 
     /// As `clear`.
     fn _clear(&self, td: &mut Q::Party)
     where
         K: Drop,
         V: Drop,
-        ensures { EachHeld {K = K} {V = V} Q.ExclusiveGuard Q.Runtime Q.Party {F = Unit {0}} (seen self.now)
-            (λ p q. (i : ℕ) → at q.1.slots i ≡ None) tt tt };
+        ensures { EachLocked Q.held (seen self.now) (λ p q. (i : ℕ) → at q.1.slots i ≡ None)
+            (td.old, tt {0}) (td.new, tt {0}) };
 }
 
 /// The lock of a shard. For the layer above.
@@ -97,52 +98,63 @@ pub fn lock_behind<K: Eq + Hash, V, Q, A: Allocator>(
 fn retain_behind<
     K: Eq + Hash + Drop,
     V: Drop,
-    Q: RawRwLock,
+    Q: Evidence<Shard<K, V, A>>,
     A: Allocator,
     F: FnMut(&K, &mut V) -> bool + Drop,
 >(lock: &RwLock<Q, Shard<K, V, A>>, f: F, td: &mut Q::Party) -> F
 where
     Q::Runtime: Wait,
     requires { F.IsAlwaysCallable f }
-    ensures held { WhileHeld Q.ExclusiveGuard Q.Runtime Q.Party lock.now
+    ensures evidence { UnderLock Q.held (Some lock.now) td.old td.new
         (λ old new. Walked (AtFull (Keeps F.FnMut)) (length old.slots) (f, old) (result, new)) }
     ensures again { F.IsAlwaysCallable result }
 {
-    let mut guard = lock.write(td);
-    retain_in(&mut *guard, f)
+    let mut shard = write_traced(lock, td);
+    let f = retain_in(&mut *shard, f);
+    shard.give_back();
+    f
 }
 
 /// `clear` for one shard, which is held meanwhile.
-fn clear_behind<K: Eq + Hash + Drop, V: Drop, Q: RawRwLock, A: Allocator>(
+fn clear_behind<K: Eq + Hash + Drop, V: Drop, Q: Evidence<Shard<K, V, A>>, A: Allocator>(
     lock: &RwLock<Q, Shard<K, V, A>>,
     td: &mut Q::Party,
 )
 where
     Q::Runtime: Wait,
-    ensures { WhileHeld {K = K} {V = V} Q.ExclusiveGuard Q.Runtime Q.Party lock.now
-        (λ old new. (i : ℕ) → at new.slots i ≡ None) }
+    ensures { UnderLock Q.held (Some lock.now) td.old td.new (λ old new. (i : ℕ) → at new.slots i ≡ None) }
 {
-    let mut guard = lock.write(td);
-    clear_in(&mut *guard);
+    let mut shard = write_traced(lock, td);
+    clear_in(&mut *shard);
+    shard.give_back();
 }
 
 /// Holds the next shard, and then gives the last one back.
-fn hold_next<'m, K: Eq + Hash, V, Q: RawRwLock, A: Allocator>(
+fn hold_next<'m, K: Eq + Hash, V, Q: Evidence<Shard<K, V, A>>, A: Allocator>(
     lock: &'m RwLock<Q, Shard<K, V, A>>,
-    last: RwLockWriteGuard<'m, Q, Shard<K, V, A>>,
+    last: TracedWriteGuard<'m, Q, Shard<K, V, A>>,
     td: &mut Q::Party,
-) -> RwLockWriteGuard<'m, Q, Shard<K, V, A>>
+) -> TracedWriteGuard<'m, Q, Shard<K, V, A>>
 where
     Q::Runtime: Wait,
-    ensures { result.held.0.place.now ≡ lock.now }
+    ensures lock { result.held.0.place.now ≡ lock.now }
+    ensures before { result.before.value ≡ write_guard_value result.inner }
+    ensures wait { (result.from.value ≡ td.old) × (result.to.value ≡ td.new) }
+    ensures told { Q.held last.entry.held.0.place.now last.entry.from.value last.entry.to.value last.entry.before.value
+        (write_guard_value last.entry.inner) }
 {
-    let next = lock.write(td);
-    drop(last);
+    let next = write_traced(lock, td);
+    last.give_back();
     next
 }
 
-impl<K: Eq + Hash, V, S: BuildHasher, Q: RawRwLock, A: Allocator> Walks<K, V, S, Q>
-    for DashMap<K, V, S, Q, A>
+impl<K: Eq + Hash, V, S: BuildHasher, Q: Evidence<Shard<K, V, A>>, A: Allocator> Walks<
+    K,
+    V,
+    S,
+    Q,
+    A,
+> for DashMap<K, V, S, Q, A>
 where
     Q::Runtime: Wait,
 {
@@ -162,12 +174,13 @@ where
 
     fn alter_all<F: FnMut(&K, V) -> V + Drop>(&self, f: F, td: &mut Q::Party) {
         let locks = self.shard_locks();
-        let mut held = lock_behind(locks, 0).write(td);
+        let mut held = write_traced(lock_behind(locks, 0), td);
         let mut f = alter_each_in(&mut *held, f);
         for shard in 1..locks.len() {
             held = hold_next(lock_behind(locks, shard), held, td);
             f = alter_each_in(&mut *held, f);
         }
+        held.give_back();
     }
 
     fn clear(&self, td: &mut Q::Party)

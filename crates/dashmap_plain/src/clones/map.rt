@@ -11,7 +11,7 @@ use dashmap_map::DashMap;
 use dashmap_table::{MapFault, Shard};
 use dashmap_view::{clone_hasher, clone_shard};
 use lock_api_raw::{MakeLock, NoMemory, RawRwLock};
-use lock_api_rw::RwLock;
+use lock_api_rw::{Evidence, RwLock, read_shown};
 use std::alloc::Allocator;
 use std::hash::{BuildHasher, Hash};
 use std::sync::Wait;
@@ -45,18 +45,19 @@ pub trait CloneMap<K: Eq + Hash, V, S: BuildHasher, Q: RawRwLock, A: Allocator>:
 }
 
 /// A clone of the shard behind a lock, which is held meanwhile.
-fn clone_behind<K: Eq + Hash + Clone + Drop, V: Clone + Drop, Q: RawRwLock, A: Allocator + Clone>(
-    lock: &RwLock<Q, Shard<K, V, A>>,
-    alloc: A,
-    td: &mut Q::Party,
-) -> Result<Shard<K, V, A>, NoMemory>
+fn clone_behind<
+    K: Eq + Hash + Clone + Drop,
+    V: Clone + Drop,
+    Q: Evidence<Shard<K, V, A>>,
+    A: Allocator + Clone,
+>(lock: &RwLock<Q, Shard<K, V, A>>, alloc: A, td: &mut Q::Party) -> Result<Shard<K, V, A>, NoMemory>
 where
     Q::Runtime: Wait,
     requires keys { (key copy : K) → K.is_clone key copy → copy ≡ key }
     requires values { (value copy : V) → V.is_clone value copy → copy ≡ value }
-    ensures { IfOk result (IsCloneBehind Q.SharedGuard Q.Runtime Q.Party K.eq lock.now) }
+    ensures { IfOk result (IsCloneBehind Q.showed K.eq lock.now) }
 {
-    let guard = lock.read(td);
+    let guard = read_shown(lock, td);
     clone_shard(&*guard, alloc)
 }
 
@@ -68,14 +69,14 @@ pub fn clone_locked<
     K: Eq + Hash + Clone + Drop,
     V: Clone + Drop,
     S: BuildHasher,
-    Q: RawRwLock,
+    Q: Evidence<Shard<K, V, A>>,
     A: Allocator + Clone,
 >(map: &DashMap<K, V, S, Q, A>, td: &mut Q::Party) -> Result<Vec<Shard<K, V, A>, A>, NoMemory>
 where
     Q::Runtime: Wait,
     requires keys { (key copy : K) → K.is_clone key copy → copy ≡ key }
     requires values { (value copy : V) → V.is_clone value copy → copy ≡ value }
-    ensures { IfOk result (λ v. AreClonesBehind Q.SharedGuard Q.Runtime Q.Party K.eq map.now v.items) }
+    ensures { IfOk result (λ v. AreClonesBehind Q.showed K.eq map.now v.items) }
 {
     let locks = map.shard_locks();
     let alloc = map.allocator();
@@ -91,7 +92,7 @@ fn clone_parts<
     K: Eq + Hash + Clone + Drop,
     V: Clone + Drop,
     S: BuildHasher + Clone + Drop,
-    Q: RawRwLock,
+    Q: Evidence<Shard<K, V, A>>,
     A: Allocator + Clone,
 >(map: &DashMap<K, V, S, Q, A>, td: &mut Q::Party) -> Result<(Vec<Shard<K, V, A>, A>, S), NoMemory>
 where
@@ -99,7 +100,7 @@ where
     requires keys { (key copy : K) → K.is_clone key copy → copy ≡ key }
     requires values { (value copy : V) → V.is_clone value copy → copy ≡ value }
     requires hasher { (hasher copy : S) → S.is_clone hasher copy → copy ≡ hasher }
-    ensures shards { IfOk result (λ r. AreClonesBehind Q.SharedGuard Q.Runtime Q.Party K.eq map.now r.0.items) }
+    ensures shards { IfOk result (λ r. AreClonesBehind Q.showed K.eq map.now r.0.items) }
     ensures hasher { IfOk result (λ r. r.1 ≡ map.now.hasher) }
 {
     let shards = clone_locked(map, td)?;
@@ -138,7 +139,7 @@ pub fn clone_unlocked<
     K: Eq + Hash + Clone + Drop,
     V: Clone + Drop,
     S: BuildHasher + Clone + Drop,
-    Q: RawRwLock + MakeLock<T> + Drop,
+    Q: Evidence<Shard<K, V, A>> + MakeLock<T> + Drop,
     A: Allocator + Clone,
     T: Copy,
 >(
@@ -151,7 +152,7 @@ where
     requires keys { (key copy : K) → K.is_clone key copy → copy ≡ key }
     requires values { (value copy : V) → V.is_clone value copy → copy ≡ value }
     requires hasher { (hasher copy : S) → S.is_clone hasher copy → copy ≡ hasher }
-    ensures shards { IfOk result (λ u. AreClonesBehind Q.SharedGuard Q.Runtime Q.Party K.eq map.now u.plain.tables) }
+    ensures shards { IfOk result (λ u. AreClonesBehind Q.showed K.eq map.now u.plain.tables) }
     ensures hasher { IfOk result (λ u. u.plain.hasher ≡ map.now.hasher) }
     ensures locks { IfOk result (λ u. length u.locks ≡ length map.now.locks) }
     ensures refused { IfErr result (λ fault. (fault ≡ MapFault.TableFull) ⊎ (fault ≡ MapFault.NoMemory)) }

@@ -7,7 +7,9 @@ ghost use Rattle.dashmap_parallel.specs.Visits.{WhileShared, GatheredFrom};
 ghost use Rattle.dashmap_set.specs.Parallel.{AnswersOfKey};
 
 use dashmap_parallel::SharedIter;
+use dashmap_table::Shard;
 use lock_api_raw::{NoMemory, RawRwLock};
+use lock_api_rw::Evidence;
 use std::alloc::{Allocator, Global};
 use std::hash::Hash;
 use std::marker::Model;
@@ -50,13 +52,13 @@ fn lend_to<K, F: Fn(&K)>(key: &K, f: &F)
     f(key);
 }
 
-impl<'m, 'd, K: Eq + Hash + Send + Sync, Q: RawRwLock + Sync, A: Allocator + Send + Sync> Iter<
+impl<
     'm,
     'd,
-    K,
-    Q,
-    A,
->
+    K: Eq + Hash + Send + Sync,
+    Q: Evidence<Shard<K, (), A>> + Sync,
+    A: Allocator + Send + Sync,
+> Iter<'m, 'd, K, Q, A>
 where
     Q::Runtime: Wait,
     Q::Party: Send,
@@ -64,7 +66,7 @@ where
     /// Calls the closure once for each key. It takes no memory.
     pub fn for_each<R: Threads + Sync, F: Fn(&K) + Sync>(self, rt: &R, f: F)
         requires { F.IsAlwaysCallable f }
-        ensures { All (λ lock. WhileShared {K = K} {V = Unit {0}} Q.SharedGuard Q.Runtime Q.Party (padded_value lock)
+        ensures { All (λ lock. WhileShared {K = K} {V = Unit {0}} Q.showed (padded_value lock)
             (λ table. All (λ p. AnswersOfKey F.Fn f p.0 tt) (pairs_of table.slots))) self.entry }
     {
         let Iter { pairs } = self;
@@ -89,7 +91,7 @@ where
     >(self, rt: &R, alloc: B, f: F) -> Result<Vec<T, B>, NoMemory>
         requires { F.IsAlwaysCallable f }
         ensures { IfOk result
-            (λ v. GatheredFrom {K = K} {V = Unit {0}} Q.SharedGuard Q.Runtime Q.Party
+            (λ v. GatheredFrom {K = K} {V = Unit {0}} Q.showed
             (λ table. AllZip (λ p. AnswersOfKey F.Fn f p.0) (pairs_of table.slots)) self.entry v.items) }
     {
         let Iter { pairs } = self;

@@ -5,7 +5,9 @@ ghost use Rattle.dashmap_parallel.specs.Puts.{WasPut};
 
 use crate::set::DashSet;
 use dashmap_parallel::{ParExtendFault, par_extend_shared};
-use lock_api_raw::{NoMemory, RawRwLock};
+use dashmap_table::Shard;
+use lock_api_raw::NoMemory;
+use lock_api_rw::Evidence;
 use std::alloc::Allocator;
 use std::hash::{BuildHasher, Hash};
 use std::sync::Wait;
@@ -25,7 +27,7 @@ fn with_units<K: Drop, A: Allocator + Clone>(
     Ok(pairs)
 }
 
-impl<K: Eq + Hash, S: BuildHasher, Q: RawRwLock, A: Allocator> DashSet<K, S, Q, A>
+impl<K: Eq + Hash, S: BuildHasher, Q: Evidence<Shard<K, (), A>>, A: Allocator> DashSet<K, S, Q, A>
 where
     Q::Runtime: Wait,
     Q::Party: Send,
@@ -54,8 +56,8 @@ where
         ensures threads { MatchResult result (λ _. 0 < length tds.old)
             (λ fault. (fault ≡ ParExtendFault.NoThreadData) ↔ (length tds.old ≡ 0)) }
         ensures put { OnOk result
-            (All (λ k. WasPut {V = Unit {0}} S.BuildHasher S.Hasher.Hasher K.hash_input K.eq Q.ExclusiveGuard Q.Runtime
-            Q.Party self.now (k, tt)) keys.items) }
+            (All (λ k. WasPut {V = Unit {0}} S.BuildHasher S.Hasher.Hasher K.hash_input K.eq Q.held self.now (k, tt))
+            keys.items) }
     {
         if tds.is_empty() {
             return Err(ParExtendFault::NoThreadData);

@@ -1,8 +1,10 @@
 //! Mapped guards of locks that are named.
 
 use crate::steps::all_right;
-use lock_api::{MappedMutexGuard, Mutex, MutexGuard, RwLock, RwLockReadGuard, RwLockWriteGuard};
-use lock_api_spin::{First, Inside, PackedLock, PackedMutex};
+use lock_api::{
+    First, Inside, MappedMutexGuard, Mutex, MutexGuard, RwLock, RwLockReadGuard, RwLockWriteGuard,
+};
+use lock_api_spin::{PackedLock, PackedMutex};
 use std::test::Fail;
 
 #[test]

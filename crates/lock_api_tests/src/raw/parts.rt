@@ -1,8 +1,8 @@
 //! Projections to the first of two fields and to the inside of an option.
 
 use crate::steps::all_right;
+use lock_api::{First, Inside};
 use lock_api_raw::{Projection, Then, TotalProjection};
-use lock_api_spin::{First, Inside};
 
 #[test]
 fn a_field_is_read_and_written(rt: HostRuntime) {

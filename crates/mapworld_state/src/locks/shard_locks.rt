@@ -109,6 +109,13 @@ impl<A: Allocator> ShardLocks<A> {
             && self.owner(thread, shard) == needed(call)
     }
 
+    /// The locks themselves: their words, queues and owners, and where each thread's call at them stands.
+    pub fn machine(&self) -> &RowMachine<A>
+        ensures { result.now ≡ self.now.rows }
+    {
+        &self.machine
+    }
+
     /// How many threads there are.
     pub fn threads(&self) -> usize
         ensures { result ≡ length self.now.rows.calls }

@@ -15,11 +15,11 @@ returns g c =
     on_ok_weaker c.given_each.result
     (λ each.
     unmapped (hashed g.S.BuildHasher g.S.Hasher.Hasher g.K.Hash.hash_input c.args.map.now.hasher)
-    (PutAt g.K.PartialEq.eq g.row.Q-ExclusiveGuard.Denot g.row.Q-Runtime.Denot g.row.Q-Party.Denot
+    (PutAt g.K.PartialEq.eq g.Q.Evidence.held
     c.args.map.now.locks) c.args.pairs.items
-    (subst (λ ls. All (PutAt g.K.PartialEq.eq g.row.Q-ExclusiveGuard.Denot g.row.Q-Runtime.Denot g.row.Q-Party.Denot ls)
+    (subst (λ ls. All (PutAt g.K.PartialEq.eq g.Q.Evidence.held ls)
     items) c.shard_locks-locks.ensures.locks
     (dealt-all (piece_at (length c.args.map.now.locks) (length c.args.tds.now))
-    (PutAt g.K.PartialEq.eq g.row.Q-ExclusiveGuard.Denot g.row.Q-Runtime.Denot g.row.Q-Party.Denot locks) items
+    (PutAt g.K.PartialEq.eq g.Q.Evidence.held locks) items
     lists c.in_ok-lists.ensures.1 (λ k d lt. (each k d lt).says.met))))
     c.given_each.ensures

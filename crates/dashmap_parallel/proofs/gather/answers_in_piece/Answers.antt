@@ -9,7 +9,7 @@ use Rattle.dashmap_parallel.proofs.gather.answers_in_piece.Goals as goal
 
 pub loop-lock-init : goal.loop-lock-init
 loop-lock-init g c =
-    gathered-none g.row.Q-SharedGuard.Denot g.row.Q-Runtime.Denot g.row.Q-Party.Denot
+    gathered-none g.Q.Evidence.showed
     (λ table. AllZip (AnswersOf g.F.Fn c.args.f.now) (pairs_of table.slots)) (take 0 c.args.locks.now) _ refl
     c.new-all.ensures.items
 
@@ -17,19 +17,19 @@ pub loop-lock-preserved : goal.loop-lock-preserved
 loop-lock-preserved g c =
     let locks = c.args.locks.now in
     let part = c.in_ok-part.part in
-    let held = subst (λ lock. WhileShared g.row.Q-SharedGuard.Denot g.row.Q-Runtime.Denot g.row.Q-Party.Denot lock
+    let held = subst (λ lock. WhileShared g.Q.Evidence.showed lock
     (λ table. AllZip (AnswersOf g.F.Fn c.args.f.now) (pairs_of table.slots) part.items)) c.deref.ensures
     c.in_ok-part.ensures in
-    subst (λ l. GatheredFrom g.row.Q-SharedGuard.Denot g.row.Q-Runtime.Denot g.row.Q-Party.Denot
+    subst (λ l. GatheredFrom g.Q.Evidence.showed
     (λ table. AllZip (AnswersOf g.F.Fn c.args.f.now) (pairs_of table.slots))
     (take (c.loop-lock.lock-index + 1) locks) l) (sym c.in_ok-append.ensures.items)
-    (gathered-more g.row.Q-SharedGuard.Denot g.row.Q-Runtime.Denot g.row.Q-Party.Denot
+    (gathered-more g.Q.Evidence.showed
     (λ table. AllZip (AnswersOf g.F.Fn c.args.f.now) (pairs_of table.slots)) locks c.loop-lock.lock-index
     c.lock-item.result c.loop-lock.all.items part.items (omega arith) c.lock-item.is
     c.loop-lock.invariant held)
 
 pub returns : goal.returns
 returns g c =
-    subst (λ ls. GatheredFrom g.row.Q-SharedGuard.Denot g.row.Q-Runtime.Denot g.row.Q-Party.Denot
+    subst (λ ls. GatheredFrom g.Q.Evidence.showed
     (λ table. AllZip (AnswersOf g.F.Fn c.args.f.now) (pairs_of table.slots)) ls c.loop-lock.all.items)
     (take_all c.loop-lock.lock-index c.args.locks.now (omega arith)) c.loop-lock.invariant

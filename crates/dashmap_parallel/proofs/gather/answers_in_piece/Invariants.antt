@@ -7,5 +7,5 @@ use Rattle.dashmap_parallel.proofs.gather.answers_in_piece.Given as goal
 
 -- what was gathered so far is of the locks so far
 abbrev pub invariant-loop-lock : goal.invariant-loop-lock
-invariant-loop-lock g l = GatheredFrom g.row.Q-SharedGuard.Denot g.row.Q-Runtime.Denot g.row.Q-Party.Denot
+invariant-loop-lock g l = GatheredFrom g.Q.Evidence.showed
     (λ table. AllZip (AnswersOf g.F.Fn l.f) (pairs_of table.slots)) (take l.lock-index l.locks) l.all.items

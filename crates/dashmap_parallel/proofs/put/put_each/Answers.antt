@@ -12,7 +12,7 @@ use Rattle.dashmap_parallel.proofs.put.put_each.Goals as goal
 pub loop-hash-preserved : goal.loop-hash-preserved
 loop-hash-preserved g c =
     let x : ℕ × g.row.K.Denot × g.row.V.Denot = (c.in-Some.hash, c.in-Some.key, c.in-Some.value) in
-    All-push (PutAt g.K.PartialEq.eq g.row.Q-ExclusiveGuard.Denot g.row.Q-Runtime.Denot g.row.Q-Party.Denot
+    All-push (PutAt g.K.PartialEq.eq g.Q.Evidence.held
     c.args.locks.now) c.loop-hash.yielded x c.loop-hash.invariant c.in_ok-put_one.ensures
 
 pub returns-in_err-put_one : goal.returns-in_err-put_one
@@ -41,5 +41,5 @@ returns g c =
     let e = YieldsList-end (YieldsList-from_vec c.args.pairs.items i.0 (i.1 ∙ c.args.pairs.ok.0)) c.loop-hash.yielded
     c.loop-hash.hash-iterator c.loop-hash.yielded_by c.next.result c.next.new.self c.in-None.is c.next.ensures.steps
     in
-    subst (All (PutAt g.K.PartialEq.eq g.row.Q-ExclusiveGuard.Denot g.row.Q-Runtime.Denot g.row.Q-Party.Denot
+    subst (All (PutAt g.K.PartialEq.eq g.Q.Evidence.held
     c.args.locks.now)) (sym (map-id c.loop-hash.yielded) ∙ e.0) c.loop-hash.invariant

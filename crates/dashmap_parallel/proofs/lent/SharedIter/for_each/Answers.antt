@@ -8,9 +8,9 @@ use Rattle.dashmap_parallel.proofs.lent.SharedIter.for_each.Goals as goal
 
 pub returns : goal.returns
 returns g c =
-    subst (All (λ lock. WhileShared g.row.Q-SharedGuard.Denot g.row.Q-Runtime.Denot g.row.Q-Party.Denot
+    subst (All (λ lock. WhileShared g.Q.Evidence.showed
     (padded_value lock) (λ table. All (λ p. AnswersOf g.F.Fn c.args.f p tt) (pairs_of table.slots)))) c.self.view_is
     (λ k d lt.
     let visit = c.in_pieces.ensures k d lt in
-    subst (λ lock. WhileShared g.row.Q-SharedGuard.Denot g.row.Q-Runtime.Denot g.row.Q-Party.Denot (padded_value lock)
+    subst (λ lock. WhileShared g.Q.Evidence.showed (padded_value lock)
     (λ table. All (λ p. AnswersOf g.F.Fn c.args.f p tt) (pairs_of table.slots))) visit.shows visit.says.met)

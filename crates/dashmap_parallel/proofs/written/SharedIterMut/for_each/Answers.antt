@@ -7,9 +7,9 @@ use Rattle.dashmap_parallel.proofs.written.SharedIterMut.for_each.Goals as goal
 
 pub returns : goal.returns
 returns g c =
-    subst (All (λ lock. WhileHeld g.row.Q-ExclusiveGuard.Denot g.row.Q-Runtime.Denot g.row.Q-Party.Denot
+    subst (All (λ lock. WhileHeld g.Q.Evidence.held
     (padded_value lock) (WritesEach g.F.Fn c.args.f))) c.self.view_is
     (λ k d lt.
     let visit = c.in_pieces.ensures k d lt in
-    subst (λ lock. WhileHeld g.row.Q-ExclusiveGuard.Denot g.row.Q-Runtime.Denot g.row.Q-Party.Denot (padded_value lock)
+    subst (λ lock. WhileHeld g.Q.Evidence.held (padded_value lock)
     (WritesEach g.F.Fn c.args.f)) visit.shows visit.says.met)

@@ -11,7 +11,7 @@ use Rattle.dashmap_plain.proofs.clones.map.clone_unlocked.Goals as goal
 pub map_of-requires : goal.map_of-requires
 map_of-requires g c =
     let as_many = zipped_long
-    (λ lock clone. IsCloneBehind g.row.Q-SharedGuard.Denot g.row.Q-Runtime.Denot g.row.Q-Party.Denot
+    (λ lock clone. IsCloneBehind g.Q.Evidence.showed
     g.K.PartialEq.eq (padded_value lock) clone) c.args.map.now.locks c.in-Ok.shards.items c.in-Ok.ensures.shards in
     subst IsShardAmount (sym as_many) c.shard_locks-amount.ensures.amount
 
@@ -20,9 +20,9 @@ returns-in-Ok-clause-shards g c =
     IfOk-weaker c.map_of.result
     (λ (u : Opened g.row.K.Denot g.row.V.Denot g.row.S.Denot g.row.Q.Denot). u.plain
     ≡ record { tables = c.in-Ok.shards.items; hasher = c.in-Ok.hasher })
-    (λ u. AreClonesBehind g.row.Q-SharedGuard.Denot g.row.Q-Runtime.Denot g.row.Q-Party.Denot g.K.PartialEq.eq
+    (λ u. AreClonesBehind g.Q.Evidence.showed g.K.PartialEq.eq
     c.args.map.now u.plain.tables)
-    (λ u plain. subst (λ t. AreClonesBehind g.row.Q-SharedGuard.Denot g.row.Q-Runtime.Denot g.row.Q-Party.Denot
+    (λ u plain. subst (λ t. AreClonesBehind g.Q.Evidence.showed
     g.K.PartialEq.eq c.args.map.now t)
     (sym (ap (λ (t : Tables g.row.K.Denot g.row.V.Denot g.row.S.Denot). t.tables) plain)) c.in-Ok.ensures.shards)
     c.map_of.ensures.plain
@@ -39,7 +39,7 @@ returns-in-Ok-clause-hasher g c =
 pub returns-in-Ok-clause-locks : goal.returns-in-Ok-clause-locks
 returns-in-Ok-clause-locks g c =
     let as_many = zipped_long
-    (λ lock clone. IsCloneBehind g.row.Q-SharedGuard.Denot g.row.Q-Runtime.Denot g.row.Q-Party.Denot
+    (λ lock clone. IsCloneBehind g.Q.Evidence.showed
     g.K.PartialEq.eq (padded_value lock) clone) c.args.map.now.locks c.in-Ok.shards.items c.in-Ok.ensures.shards in
     IfOk-weaker c.map_of.result
     (λ (u : Opened g.row.K.Denot g.row.V.Denot g.row.S.Denot g.row.Q.Denot). length u.locks ≡ length

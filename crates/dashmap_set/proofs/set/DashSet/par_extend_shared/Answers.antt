@@ -12,11 +12,11 @@ returns-clause-put g c =
     (λ put.
     unmapped (λ k. (k, tt {0}))
     (WasPut {V = Unit {0}} g.S.BuildHasher g.S.Hasher.Hasher g.K.Hash.hash_input g.K.PartialEq.eq
-    g.row.Q-ExclusiveGuard.Denot g.row.Q-Runtime.Denot g.row.Q-Party.Denot c.args.self.now) keys
+    g.Q.Evidence.held c.args.self.now) keys
     (subst (λ m. All (WasPut {V = Unit {0}} g.S.BuildHasher g.S.Hasher.Hasher g.K.Hash.hash_input g.K.PartialEq.eq
-    g.row.Q-ExclusiveGuard.Denot g.row.Q-Runtime.Denot g.row.Q-Party.Denot m) (map (λ k. (k, tt {0})) keys))
+    g.Q.Evidence.held m) (map (λ k. (k, tt {0})) keys))
     c.self.view_is
     (subst (All (WasPut {V = Unit {0}} g.S.BuildHasher g.S.Hasher.Hasher g.K.Hash.hash_input g.K.PartialEq.eq
-    g.row.Q-ExclusiveGuard.Denot g.row.Q-Runtime.Denot g.row.Q-Party.Denot c.self.inside.inner))
+    g.Q.Evidence.held c.self.inside.inner))
     c.in_ok-pairs.ensures put)))
     c.par_extend_shared.ensures.put

@@ -2,7 +2,7 @@ use Rattle.std.proofs.Common.{◌≡◌, length, ap, ◌∙◌, arith}
 use Rattle.dashmap_map.specs.Locked.{Locked}
 use Rattle.dashmap_iter.specs.Walks.Visits.{Walked, AtFull}
 use Rattle.dashmap_set.specs.Walks.{KeepsKey}
-use Rattle.dashmap_iter.proofs.WalksFacts.Holding.{found_at, held_next, held_same}
+use Rattle.dashmap_iter.proofs.WalksFacts.Holding.{found_at, locked_next, locked_same}
 use Rattle.dashmap_set.proofs.set.DashSet.retain.Goals as goal
 
 pub loop-shard-preserved : goal.loop-shard-preserved
@@ -13,11 +13,11 @@ loop-shard-preserved g c =
     let found = found_at c.args.self.now c.shard_locks-locks.result.now c.loop-shard.shard c.lock_behind.result.now
     locks c.lock_behind.ensures in (
       c.retain_behind-f.ensures.again,
-      held_next g.row.Q-ExclusiveGuard.Denot g.row.Q-Runtime.Denot g.row.Q-Party.Denot
-          c.args.self.now (λ p q. Walked (AtFull (KeepsKey g.F.FnMut)) (length p.1.slots) p q)
-          c.loop-shard.shard c.args.f
-          c.loop-shard.f c.retain_behind-f.result c.lock_behind.result.now c.loop-shard.invariant.1 found
-          c.retain_behind-f.ensures.held,
+      locked_next g.Q.Evidence.held c.args.self.now
+          (λ p q. Walked (AtFull (KeepsKey g.F.FnMut)) (length p.1.slots) p q) c.loop-shard.shard
+          (c.args.td.now, c.args.f) (c.loop-shard.td, c.loop-shard.f)
+          (c.retain_behind-f.new.td, c.retain_behind-f.result) c.lock_behind.result.now c.loop-shard.invariant.1 found
+          c.retain_behind-f.ensures.evidence,
       omega (arith, c.loop-shard-test.true, amount),
     )
 
@@ -29,7 +29,8 @@ returns g c =
     let all : c.loop-shard.shard ≡ length c.args.self.now.locks =
     omega (arith, c.loop-shard-test.false, amount, c.loop-shard.invariant.2) in (
       c.loop-shard.f,
-      held_same g.row.Q-ExclusiveGuard.Denot g.row.Q-Runtime.Denot g.row.Q-Party.Denot c.args.self.now
+      locked_same g.Q.Evidence.held c.args.self.now
           (λ p q. Walked (AtFull (KeepsKey g.F.FnMut)) (length p.1.slots) p q) c.loop-shard.shard
-          (length c.args.self.now.locks) c.args.f c.loop-shard.f all c.loop-shard.invariant.1,
+          (length c.args.self.now.locks) (c.args.td.now, c.args.f) (c.loop-shard.td, c.loop-shard.f) all
+          c.loop-shard.invariant.1,
     )

@@ -92,6 +92,7 @@ returns-clause-step g c =
       held = view-at shard_pairs core.tables.items p.shard c.index_mut-shard.result.now table.0;
       changed = shard_pairs c.add_pair-slot.new.shard;
       puts = c.add_pair-slot.ensures.puts;
+      room = c.add_pair-slot.ensures.room;
       blocks = c.count_in.new.blocks.items;
       counted = c.count_in.ensures.counted;
       after = stepped-by core c.args.step (record p { phase = c.replace.new.dest }) _ c.appended-core.result.items _ _

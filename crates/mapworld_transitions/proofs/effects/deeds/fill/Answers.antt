@@ -135,6 +135,7 @@ returns-clause-step g c =
       guarded = mine;
       changed = shard_pairs c.add_pair-place.new.shard;
       puts = c.add_pair-place.ensures.puts;
+      room = c.add_pair-place.ensures.room;
       blocks = c.count_in.new.blocks.items;
       counted = c.count_in.ensures.counted;
       after = stepped-by core c.args.step

@@ -1,10 +1,10 @@
 use Rattle.std.proofs.Common.{◌≤◌, length}
 use Rattle.dashmap_iter.specs.Walks.Visits.{Walked, AtFull, Keeps}
-use Rattle.dashmap_iter.specs.Walks.Held.{HeldUpTo}
+use Rattle.dashmap_iter.specs.Walks.Held.{LockedUpTo}
 use Rattle.dashmap_iter.proofs.walks.walks.DashMapWalks.retain.Given as goal
 
 -- the shards below one were held, one after another
 abbrev pub invariant-loop-shard : goal.invariant-loop-shard
-invariant-loop-shard g l = goal.F-IsAlwaysCallable g l.f × HeldUpTo g.row.Q-ExclusiveGuard.Denot g.row.Q-Runtime.Denot
-    g.row.Q-Party.Denot l.fn.self (λ p q. Walked (AtFull (Keeps g.F.FnMut)) (length p.1.slots) p q) l.shard l.fn.f l.f
-    × (l.shard ≤ length l.fn.self.locks)
+invariant-loop-shard g l = goal.F-IsAlwaysCallable g l.f
+    × LockedUpTo g.Q.Evidence.held l.fn.self (λ p q. Walked (AtFull (Keeps g.F.FnMut)) (length p.1.slots) p q) l.shard
+    (l.fn.td, l.fn.f) (l.td, l.f) × (l.shard ≤ length l.fn.self.locks)

@@ -7,6 +7,6 @@ use Rattle.dashmap_parallel.proofs.lent.fn.SharedIter.for_each.in_pieces.Goals a
 
 pub returns : goal.returns
 returns g c =
-    subst (λ lock. WhileShared g.row.Q-SharedGuard.Denot g.row.Q-Runtime.Denot g.row.Q-Party.Denot lock
+    subst (λ lock. WhileShared g.Q.Evidence.showed lock
     (λ table. All (λ p. AnswersOf g.F.Fn c.captures.f.now p tt) (pairs_of table.slots))) c.deref.ensures
     c.visit_behind.ensures

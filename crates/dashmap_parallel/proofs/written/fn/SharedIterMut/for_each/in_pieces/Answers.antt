@@ -5,5 +5,5 @@ use Rattle.dashmap_parallel.proofs.written.fn.SharedIterMut.for_each.in_pieces.G
 
 pub returns : goal.returns
 returns g c =
-    subst (λ lock. WhileHeld g.row.Q-ExclusiveGuard.Denot g.row.Q-Runtime.Denot g.row.Q-Party.Denot lock
+    subst (λ lock. WhileHeld g.Q.Evidence.held lock
     (WritesEach g.F.Fn c.captures.f.now)) c.deref.ensures c.write_behind.ensures

@@ -1,0 +1,73 @@
+//! What was found of a case, for other programs.
+
+use crate::files::schedule_text;
+use mapworld_explorer::{Outcome, Search};
+use mapworld_text::Case;
+use serde_json::{Value, json};
+use std::alloc::{AllocError, Global};
+
+/// What each call is answered.
+fn answers_of(alloc: Global, case: &Case<'_>, outcome: &Outcome) -> Result<Value, AllocError> {
+    let mut answers: Vec<Value> = Vec::new(alloc);
+    for answer in &outcome.answers {
+        let thread = case.name_of(answer.thread);
+        let call = answer.call;
+        let asked = case.call_of(answer.thread, call);
+        let text = answer.text.as_str();
+        answers.push(
+            json!(in alloc; {"thread": thread, "call": call, "asked": asked, "answer": text})?,
+        )?;
+    }
+    Ok(Value::from(answers))
+}
+
+/// An outcome.
+fn outcome_of(
+    alloc: Global,
+    case: &Case<'_>,
+    search: &Search<'_, '_>,
+    outcome: &Outcome,
+) -> Result<Value, AllocError> {
+    let answers = answers_of(alloc, case, outcome)?;
+    let contents = outcome.contents.as_str();
+    let ends = outcome.ends;
+    let steps = outcome.steps;
+    let schedule = schedule_text(alloc, case, &search.schedule(outcome.state)?)?;
+    let schedule = schedule.as_str();
+    json!(in alloc; {
+        "answers": answers, "contents": contents, "ends": ends, "steps": steps, "schedule": schedule
+    })
+}
+
+/// The longest sleep of each thread, in steps.
+fn waits_of(alloc: Global, search: &Search<'_, '_>) -> Result<Value, AllocError> {
+    let mut waits: Vec<Value> = Vec::new(alloc);
+    for steps in &search.longest_waits()? {
+        waits.push(Value::from(*steps))?;
+    }
+    Ok(Value::from(waits))
+}
+
+/// What was found of a case, as a line of JSON.
+pub fn json_of(
+    alloc: Global,
+    file: &str,
+    case: &Case<'_>,
+    search: &Search<'_, '_>,
+) -> Result<String, AllocError> {
+    let mut outcomes: Vec<Value> = Vec::new(alloc);
+    for outcome in &search.outcomes {
+        outcomes.push(outcome_of(alloc, case, search, outcome)?)?;
+    }
+    let outcomes = Value::from(outcomes);
+    let name = case.name;
+    let states = search.states();
+    let ends = search.ends;
+    let is_whole = search.limit.is_none();
+    let waits = waits_of(alloc, search)?;
+    let found = json!(in alloc; {
+        "file": file, "case": name, "states": states, "ends": ends, "whole": is_whole, "sleeps": waits,
+        "outcomes": outcomes
+    })?;
+    found.to_string(alloc)
+}

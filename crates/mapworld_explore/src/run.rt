@@ -1,0 +1,125 @@
+//! Cases of a file by their own schedules.
+
+use crate::check::tell_failure;
+use crate::command::Options;
+use crate::files::{text_of, write_title};
+use mapworld_explorer::{Played, World, play_once};
+use mapworld_text::{Case, Shown, read};
+use std::io;
+use std::rt::Files;
+
+/// Tells what each call was answered.
+fn tell_replies<R: Print>(rt: &R, case: &Case<'_>, world: &World) -> io::Result<()> {
+    for reply in world.replies() {
+        let name = case.name_of(reply.thread);
+        let call = case.call_of(reply.thread, reply.call);
+        println!(rt; "  {name}: {call}: {}", Shown(&reply.answer))?;
+    }
+    Ok(())
+}
+
+/// Tells in which order the map took what was asked.
+fn tell_blocks<R: Print>(rt: &R, case: &Case<'_>, world: &World) -> io::Result<()> {
+    println!(rt; "  taken in this order:")?;
+    for block in world.blocks() {
+        let name = case.name_of(block.thread);
+        let call = case.call_of(block.thread, block.call);
+        println!(rt; "    step {}: {name}: {call}", block.position)?;
+    }
+    Ok(())
+}
+
+/// Tells the words of locks that aren't free, and who waits there.
+fn tell_locks<R: Print>(rt: &R, case: &Case<'_>, world: &World) -> io::Result<()> {
+    for shard in 0..world.shards() {
+        let word = world.word(shard);
+        if word != 0 {
+            println!(rt; "  the word of shard {shard} is {word}")?;
+        }
+        for queue in 0..2_usize {
+            if let Ok(threads) = world.queue(shard.saturating_mul(2).saturating_add(queue)) {
+                for thread in &threads {
+                    println!(rt; "  {} waits for shard {shard}", case.name_of(*thread))?;
+                }
+            }
+        }
+    }
+    Ok(())
+}
+
+/// Tells the pairs of the map.
+fn tell_contents<R: Print + AllocGlobal>(rt: &R, world: &World) -> io::Result<()> {
+    let mut pairs: Vec<(u64, u64)> = Vec::new(rt.alloc());
+    for (key, value) in world.pairs() {
+        pairs.push((*key, *value))?;
+    }
+    pairs.sort_unstable();
+    if pairs.is_empty() {
+        return println!(rt; "  contents none");
+    }
+    print!(rt; "  contents")?;
+    for (key, value) in &pairs {
+        print!(rt; " {key}={value}")?;
+    }
+    println!(rt; "")
+}
+
+/// Runs a case; says whether its own lines are so.
+fn run_case<R: Print + AllocGlobal>(rt: &R, file: &str, case: &Case<'_>) -> io::Result<bool> {
+    let mut title = String::new(rt.alloc());
+    write_title(file, case, &mut title)?;
+    let Played { world, failure, .. } = match play_once(rt.alloc(), case) {
+        Ok(played) => played,
+        Err(fault) => {
+            println!(rt; "{}: {fault}", title.as_str())?;
+            return Ok(false);
+        }
+    };
+    println!(rt; "{}: {} steps", title.as_str(), world.steps())?;
+    tell_replies(rt, case, &world)?;
+    tell_blocks(rt, case, &world)?;
+    tell_locks(rt, case, &world)?;
+    tell_contents(rt, &world)?;
+    match failure {
+        Some(failure) => {
+            tell_failure(rt, file, case, &failure)?;
+            Ok(false)
+        }
+        None => Ok(true),
+    }
+}
+
+/// Runs the cases of a file; says whether their own lines are so.
+fn run_file<R: Files + Print + Eprint + AllocGlobal>(rt: &R, file: &str) -> io::Result<bool> {
+    let Some(text) = text_of(rt, file)? else {
+        return Ok(false);
+    };
+    let mut is_so = true;
+    match read(rt.alloc(), text.as_str()) {
+        Ok(cases) => {
+            for case in &cases {
+                is_so = is_so & run_case(rt, file, case)?;
+            }
+        }
+        Err(fault) => {
+            eprintln!(rt; "{file}: {fault}")?;
+            is_so = false;
+        }
+    }
+    Ok(is_so)
+}
+
+/// Runs the cases of all files that are named.
+pub fn run<R: Files + Print + Eprint + AllocGlobal>(
+    rt: &R,
+    options: &Options<'_, '_>,
+) -> io::Result<bool> {
+    let Some(files) = options.files() else {
+        return Ok(false);
+    };
+    let mut is_so = true;
+    for file in files {
+        is_so = is_so & run_file(rt, file)?;
+    }
+    Ok(is_so)
+}

@@ -1,0 +1,294 @@
+//! One schedule, step by step, with all that is seen on the way.
+
+use crate::outcome::contents_of;
+use crate::standing::kind_of;
+use crate::told::Before;
+use crate::worlds::{ExploreFault, World, world_behind};
+use lock_api_desk::Mode;
+use mapworld::{Status, Step};
+use mapworld_text::{Case, Shown};
+use std::alloc::Global;
+
+/// A call, from its start to its answer.
+#[derive(Drop)]
+pub struct Bar {
+    pub thread: usize,
+    pub call: usize,
+    pub start: u64,
+    pub end: u64,
+    pub answer: String,
+}
+
+/// The step from which on a block of a call counts as done.
+#[derive(Clone, Copy)]
+pub struct Point {
+    pub thread: usize,
+    pub step: u64,
+}
+
+/// A thread slept from the one step to the other.
+#[derive(Clone, Copy)]
+pub struct Sleep {
+    pub thread: usize,
+    pub start: u64,
+    pub end: u64,
+}
+
+/// A thread was woken by another.
+#[derive(Clone, Copy)]
+pub struct Waking {
+    pub by: usize,
+    pub thread: usize,
+    pub step: u64,
+}
+
+/// A thread held a shard from the one step to the other.
+#[derive(Clone, Copy)]
+pub struct Held {
+    pub thread: usize,
+    pub shard: usize,
+    pub is_alone: bool,
+    pub start: u64,
+    pub end: u64,
+}
+
+/// A step in words.
+#[derive(Drop)]
+pub struct Told {
+    pub step: u64,
+    pub thread: usize,
+    pub text: String,
+}
+
+/// One schedule with all that is seen on the way.
+#[derive(Drop)]
+pub struct Course {
+    alloc: Global,
+    pub steps: u64,
+    pub bars: Vec<Bar>,
+    pub points: Vec<Point>,
+    pub sleeps: Vec<Sleep>,
+    pub wakings: Vec<Waking>,
+    pub holds: Vec<Held>,
+    /// A shard, a step, and the word that its lock has from there on.
+    pub words: Vec<(usize, u64, u64)>,
+    /// A step, and the pairs from there on.
+    pub contents: Vec<(u64, String)>,
+    pub told: Vec<Told>,
+}
+
+impl Course {
+    fn new(alloc: Global) -> Course {
+        Course {
+            alloc,
+            steps: 0,
+            bars: Vec::new(alloc),
+            points: Vec::new(alloc),
+            sleeps: Vec::new(alloc),
+            wakings: Vec::new(alloc),
+            holds: Vec::new(alloc),
+            words: Vec::new(alloc),
+            contents: Vec::new(alloc),
+            told: Vec::new(alloc),
+        }
+    }
+
+    /// Notes where a thread's sleep begins and ends, behind a step of that thread or another.
+    fn note_sleep(&mut self, world: &World, thread: usize, by: usize) -> Result<(), ExploreFault> {
+        let step = self.steps;
+        let is_asleep = world.status(thread) == Status::Asleep;
+        let mut is_open = false;
+        let mut is_woken = false;
+        for sleep in &mut self.sleeps {
+            if sleep.thread == thread && sleep.end == u64::MAX {
+                if is_asleep {
+                    is_open = true;
+                } else {
+                    sleep.end = step;
+                    is_woken = true;
+                }
+            }
+        }
+        if is_woken {
+            self.wakings.push(Waking { by, thread, step })?;
+        }
+        if is_asleep && !is_open {
+            self.sleeps.push(Sleep {
+                thread,
+                start: step,
+                end: u64::MAX,
+            })?;
+        }
+        Ok(())
+    }
+
+    /// Notes where a thread's hold of a shard begins and ends.
+    fn note_hold(
+        &mut self,
+        world: &World,
+        thread: usize,
+        shard: usize,
+    ) -> Result<(), ExploreFault> {
+        let step = self.steps;
+        let mode = world.hold(thread, shard);
+        let is_alone = mode == Some(Mode::Exclusive);
+        let mut goes_on = false;
+        for held in &mut self.holds {
+            if held.thread == thread && held.shard == shard && held.end == u64::MAX {
+                if mode.is_some() && held.is_alone == is_alone {
+                    goes_on = true;
+                } else {
+                    held.end = step;
+                }
+            }
+        }
+        if mode.is_some() && !goes_on {
+            self.holds.push(Held {
+                thread,
+                shard,
+                is_alone,
+                start: step,
+                end: u64::MAX,
+            })?;
+        }
+        Ok(())
+    }
+
+    /// Notes the word of a shard, if it is another.
+    fn note_word(&mut self, world: &World, shard: usize) -> Result<(), ExploreFault> {
+        let word = world.word(shard);
+        let last = self.words.iter().rev().find(|noted| noted.0 == shard);
+        let is_new = match last {
+            Some(noted) => noted.2 != word,
+            None => true,
+        };
+        if is_new {
+            let step = self.steps;
+            self.words.push((shard, step, word))?;
+        }
+        Ok(())
+    }
+
+    /// Notes the pairs, if they are others.
+    fn note_contents(&mut self, world: &World) -> Result<(), ExploreFault> {
+        let text = contents_of(self.alloc, world)?;
+        let is_new = match self.contents.last() {
+            Some(noted) => noted.1.as_str() != text.as_str(),
+            None => true,
+        };
+        if is_new {
+            let step = self.steps;
+            self.contents.push((step, text))?;
+        }
+        Ok(())
+    }
+
+    /// Notes what is seen behind a step of a thread.
+    fn note(&mut self, world: &World, by: usize) -> Result<(), ExploreFault> {
+        self.steps = world.steps();
+        for thread in 0..world.threads() {
+            self.note_sleep(world, thread, by)?;
+            for shard in 0..world.shards() {
+                self.note_hold(world, thread, shard)?;
+            }
+        }
+        for shard in 0..world.shards() {
+            self.note_word(world, shard)?;
+        }
+        self.note_contents(world)
+    }
+
+    /// Makes a step, and notes what it was.
+    fn make(&mut self, world: &mut World, case: &Case<'_>, step: Step) -> Result<(), ExploreFault> {
+        let before = Before::of(world, case, step.thread);
+        world.run(&[step])?;
+        let mut text = String::new(self.alloc);
+        before.write(world, case, &mut text)?;
+        self.told.push(Told {
+            step: world.steps(),
+            thread: step.thread,
+            text,
+        })?;
+        self.note(world, step.thread)
+    }
+
+    /// Notes the calls and from where on they count as done.
+    fn end(&mut self, world: &World) -> Result<(), ExploreFault> {
+        for block in world.blocks() {
+            self.points.push(Point {
+                thread: block.thread,
+                step: block.position,
+            })?;
+        }
+        for reply in world.replies() {
+            let mut answer = String::new(self.alloc);
+            write!(answer, "{}", Shown(&reply.answer))?;
+            self.bars.push(Bar {
+                thread: reply.thread,
+                call: reply.call,
+                start: reply.start,
+                end: reply.end,
+                answer,
+            })?;
+        }
+        Ok(())
+    }
+}
+
+/// Whether the thread's next step is the start of a call, which nobody else sees.
+fn starts(world: &World, thread: usize) -> bool {
+    match world.place(thread) {
+        Some(stand) => kind_of(stand) == 0,
+        None => false,
+    }
+}
+
+/// The same schedule with each call started right before the next step of its thread, which comes to the same: so that
+/// a call begins where its thread goes on.
+pub fn with_late_starts(
+    alloc: Global,
+    case: &Case<'_>,
+    schedule: &[Step],
+) -> Result<Vec<Step>, ExploreFault> {
+    let mut world = world_behind(alloc, case, &[])?;
+    let mut late = Vec::with_capacity(alloc, schedule.len())?;
+    let mut held: Vec<bool> = Vec::new(alloc);
+    for _ in 0..world.threads() {
+        held.push(false)?;
+    }
+    for step in schedule {
+        let thread = step.thread;
+        let is_held = held.get(thread).copied().unwrap_or(false);
+        let is_start = starts(&world, thread);
+        if is_held && !is_start {
+            late.push(Step {
+                thread,
+                fair: false,
+            })?;
+        }
+        if !is_start {
+            late.push(*step)?;
+        }
+        if let Some(mark) = held.get_mut(thread) {
+            *mark = is_start;
+        }
+        world.run(&[*step])?;
+    }
+    Ok(late)
+}
+
+/// The course of a case by a schedule.
+pub fn course_of(
+    alloc: Global,
+    case: &Case<'_>,
+    schedule: &[Step],
+) -> Result<Course, ExploreFault> {
+    let mut world = world_behind(alloc, case, &[])?;
+    let mut course = Course::new(alloc);
+    course.note(&world, 0)?;
+    for step in schedule {
+        course.make(&mut world, case, *step)?;
+    }
+    course.end(&world)?;
+    Ok(course)
+}

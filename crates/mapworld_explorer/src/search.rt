@@ -1,0 +1,242 @@
+//! The search: every schedule of a case, by the states to which they lead.
+
+use crate::outcome::Outcome;
+use crate::standing::{is_alone, may_be_fair};
+use crate::state::{Ahead, ahead_of};
+use crate::waits::Waits;
+use crate::worlds::{ExploreFault, World, world_behind};
+use mapworld::Step;
+use mapworld_text::Case;
+use std::alloc::{AllocError, Global};
+use std::collections::HashMap;
+
+/// How far a search goes.
+#[derive(Clone, Copy)]
+pub struct Limits {
+    /// So many states.
+    pub states: usize,
+    /// So many steps of a schedule.
+    pub steps: usize,
+}
+
+/// A limit that a search has met: what lies behind it isn't looked at.
+#[derive(Clone, Copy, PartialEq, Eq)]
+pub enum Limit {
+    States,
+    Steps,
+}
+
+/// A state that was come to: from which one, by which step, and by how many steps in all.
+#[derive(Clone, Copy)]
+struct Reached {
+    before: usize,
+    step: Step,
+    steps: usize,
+}
+
+/// One that goes through all schedules of a case, from the states that are reached by fewer steps to those that are
+/// reached by more.
+#[derive(Drop)]
+pub struct Search<'c, 'a> {
+    alloc: Global,
+    case: &'c Case<'a>,
+    limits: Limits,
+    /// Whether a step that nobody else sees is made at once, before all others.
+    reduces: bool,
+    /// The states by what is ahead of them, as a text.
+    known: HashMap<String, usize>,
+    states: Vec<Reached>,
+    waits: Waits,
+    /// The first state that wasn't visited yet.
+    next: usize,
+    /// How many of the states are ends.
+    pub ends: usize,
+    pub outcomes: Vec<Outcome>,
+    /// The limit that was met, if one was.
+    pub limit: Option<Limit>,
+}
+
+impl<'c, 'a> Search<'c, 'a> {
+    /// One at the beginning of a case.
+    pub fn new(
+        alloc: Global,
+        case: &'c Case<'a>,
+        limits: Limits,
+        reduces: bool,
+    ) -> Result<Search<'c, 'a>, ExploreFault> {
+        let mut search = Search {
+            alloc,
+            case,
+            limits,
+            reduces,
+            known: HashMap::new(alloc),
+            states: Vec::new(alloc),
+            waits: Waits::new(alloc, case.programs.len()),
+            next: 0,
+            ends: 0,
+            outcomes: Vec::new(alloc),
+            limit: None,
+        };
+        let world = world_behind(alloc, case, &[])?;
+        let first = Reached {
+            before: 0,
+            step: Step {
+                thread: 0,
+                fair: false,
+            },
+            steps: 0,
+        };
+        let _ = search.reach(&world, first)?;
+        Ok(search)
+    }
+
+    /// How many states were found so far.
+    pub fn states(&self) -> usize {
+        self.states.len()
+    }
+
+    /// How many of them were visited.
+    pub fn visited(&self) -> usize {
+        self.next
+    }
+
+    /// Visits so many states; says whether some are left.
+    pub fn go_on(&mut self, visits: usize) -> Result<bool, ExploreFault> {
+        for _ in 0..visits {
+            let index = self.next;
+            let Some(reached) = self.states.get(index).copied() else {
+                return Ok(false);
+            };
+            self.visit(index, reached)?;
+            self.next = index.saturating_add(1);
+        }
+        Ok(self.next < self.states.len())
+    }
+
+    /// The schedule by which a state was reached.
+    pub fn schedule(&self, state: usize) -> Result<Vec<Step>, AllocError> {
+        let mut schedule = Vec::new(self.alloc);
+        let steps = match self.states.get(state) {
+            Some(reached) => reached.steps,
+            None => 0,
+        };
+        let mut index = state;
+        for _ in 0..steps {
+            if let Some(reached) = self.states.get(index) {
+                schedule.push(reached.step)?;
+                index = reached.before;
+            }
+        }
+        schedule.reverse();
+        Ok(schedule)
+    }
+
+    /// The longest sleep of each thread, in steps, over all schedules gone through; 0 of one that never sleeps. Where
+    /// steps that nobody else sees are made at once, others that they are made before don't count.
+    pub fn longest_waits(&self) -> Result<Vec<usize>, AllocError> {
+        self.waits.longest(self.alloc, self.states.len())
+    }
+
+    /// Notes a state, if it is new; answers its number, unless the limit was met.
+    fn reach(&mut self, world: &World, reached: Reached) -> Result<Option<usize>, ExploreFault> {
+        let Ahead { text } = ahead_of(self.alloc, world)?;
+        if let Some(known) = self.known.get(text.as_str()) {
+            return Ok(Some(*known));
+        }
+        let index = self.states.len();
+        if index >= self.limits.states {
+            self.limit = Some(Limit::States);
+            return Ok(None);
+        }
+        let _ = self.known.insert(text, index)?;
+        self.states.push(reached)?;
+        self.waits.note_state(world)?;
+        Ok(Some(index))
+    }
+
+    /// Makes each step that can be made from a state.
+    fn visit(&mut self, index: usize, reached: Reached) -> Result<(), ExploreFault> {
+        let schedule = self.schedule(index)?;
+        let world = world_behind(self.alloc, self.case, &schedule)?;
+        let steps = self.steps_from(&world)?;
+        if steps.is_empty() {
+            return self.end(&world, index, reached.steps);
+        }
+        if reached.steps >= self.limits.steps {
+            self.limit = Some(Limit::Steps);
+            return Ok(());
+        }
+        let mut at_hand = Some(world);
+        for step in &steps {
+            let next = Reached {
+                before: index,
+                step: *step,
+                steps: reached.steps.saturating_add(1),
+            };
+            let world = match at_hand.take() {
+                Some(world) => world,
+                None => world_behind(self.alloc, self.case, &schedule)?,
+            };
+            self.make(world, next)?;
+        }
+        Ok(())
+    }
+
+    /// Makes a step.
+    fn make(&mut self, world: World, next: Reached) -> Result<(), ExploreFault> {
+        let mut world = world;
+        world.run(&[next.step])?;
+        if let Some(index) = self.reach(&world, next)? {
+            self.waits.note_way(next.before, index)?;
+        }
+        Ok(())
+    }
+
+    /// The first thread whose next step nobody else sees.
+    fn alone(&self, world: &World) -> Option<usize> {
+        if self.reduces {
+            (0..world.threads()).find(|thread| world.can_move(*thread) && is_alone(world, *thread))
+        } else {
+            None
+        }
+    }
+
+    /// The steps that are to be made from a state: of each thread that can move, plain and fair where that may come to
+    /// something else.
+    fn steps_from(&self, world: &World) -> Result<Vec<Step>, AllocError> {
+        let mut steps = Vec::new(self.alloc);
+        if let Some(thread) = self.alone(world) {
+            steps.push(Step {
+                thread,
+                fair: false,
+            })?;
+            return Ok(steps);
+        }
+        for thread in 0..world.threads() {
+            if world.can_move(thread) {
+                steps.push(Step {
+                    thread,
+                    fair: false,
+                })?;
+                if may_be_fair(world, thread) {
+                    steps.push(Step { thread, fair: true })?;
+                }
+            }
+        }
+        Ok(steps)
+    }
+
+    /// Notes what an end comes to.
+    fn end(&mut self, world: &World, state: usize, steps: usize) -> Result<(), ExploreFault> {
+        self.ends = self.ends.saturating_add(1);
+        let outcome = Outcome::of(self.alloc, world, state, steps)?;
+        for known in &mut self.outcomes {
+            if known.is(&outcome) {
+                known.ends = known.ends.saturating_add(1);
+                return Ok(());
+            }
+        }
+        self.outcomes.push(outcome)?;
+        Ok(())
+    }
+}

@@ -1,0 +1,177 @@
+//! What is seen of a world, as it is written in a text.
+
+use crate::traced::Traced;
+use crate::worlds::World;
+use mapworld::{Answer, Status};
+use mapworld_text::{Case, Shown, View};
+use std::alloc::AllocError;
+
+/// What is written.
+type Written = Result<(), AllocError>;
+
+/// A word for yes and no.
+fn yes_or_no(is_so: bool) -> &'static str {
+    if is_so { "yes" } else { "no" }
+}
+
+fn write_reply(world: &World, thread: usize, call: usize, out: &mut String) -> Written {
+    let found = world
+        .replies()
+        .iter()
+        .find(|reply| reply.thread == thread && reply.call == call);
+    match found {
+        Some(reply) => write!(out, "{}", Shown(&reply.answer)),
+        None => out.push_str("unanswered"),
+    }
+}
+
+fn write_block(world: &World, of: (usize, usize, usize), out: &mut String) -> Written {
+    let found = world.blocks().iter().find(|block| block.thread == of.0
+        && block.call == of.1
+        && block.visit == of.2);
+    match found {
+        Some(block) => {
+            write!(out, "start {} position {}", block.start, block.position)?;
+            match block.end {
+                Some(end) => write!(out, " end {end}"),
+                None => Ok(()),
+            }
+        }
+        None => out.push_str("none"),
+    }
+}
+
+/// How many blocks of a thread's call there are.
+fn blocks_of(world: &World, thread: usize, call: usize) -> usize {
+    world
+        .blocks()
+        .iter()
+        .filter(|block| block.thread == thread && block.call == call)
+        .count()
+}
+
+/// How many pairs a walk was answered.
+fn write_items(world: &World, thread: usize, call: usize, out: &mut String) -> Written {
+    for reply in world.replies() {
+        if reply.thread == thread
+            && reply.call == call
+            && let Answer::Reads(reads) = &reply.answer
+        {
+            return write!(out, "{}", reads.len());
+        }
+    }
+    out.push_str("none")
+}
+
+/// How many pairs have that value.
+fn having(world: &World, value: u64) -> usize {
+    let mut count: usize = 0;
+    for (_, other) in world.pairs() {
+        if *other == value {
+            count = count.saturating_add(1);
+        }
+    }
+    count
+}
+
+fn write_pair(world: &World, key: u64, out: &mut String) -> Written {
+    match world.pair(&key) {
+        Some(pair) if *pair.0 == key => write!(out, "{}", pair.1),
+        Some(_) => out.push_str("the pair of another key"),
+        None => out.push_str("none"),
+    }
+}
+
+/// The pairs, each of which is to be found by its key, and to come once by a walk.
+fn write_pairs(traced: &Traced, out: &mut String) -> Written {
+    let mut pairs: Vec<(u64, u64)> = Vec::new(traced.alloc);
+    for (key, value) in traced.world.pairs() {
+        pairs.push((*key, *value))?;
+    }
+    let Ok(contents) = traced.world.contents() else {
+        return Err(AllocError);
+    };
+    if contents.len() != pairs.len() {
+        return write!(
+            out,
+            "{} pairs, and {} by a walk",
+            contents.len(),
+            pairs.len()
+        );
+    }
+    pairs.sort_unstable();
+    for (key, value) in &pairs {
+        write!(out, " {key}=")?;
+        write_pair(&traced.world, *key, out)?;
+        if traced.world.pair(key) != Some((key, value)) {
+            out.push_str(" elsewhere")?;
+        }
+    }
+    if pairs.is_empty() {
+        out.push_str("none")
+    } else {
+        Ok(())
+    }
+}
+
+fn write_words(traced: &Traced, shard: usize, out: &mut String) -> Written {
+    for (of, word) in &traced.words {
+        if *of == shard {
+            write!(out, " {word}")?;
+        }
+    }
+    Ok(())
+}
+
+fn write_queue(world: &World, case: &Case<'_>, key: usize, out: &mut String) -> Written {
+    let Ok(threads) = world.queue(key) else {
+        return Err(AllocError);
+    };
+    if threads.is_empty() {
+        return out.push_str("nobody");
+    }
+    for thread in &threads {
+        write!(out, " {}", case.name_of(*thread))?;
+    }
+    Ok(())
+}
+
+fn status_of(world: &World, thread: usize) -> &'static str {
+    match world.status(thread) {
+        Status::Running => "running",
+        Status::Asleep => "asleep",
+        Status::Finished => "finished",
+    }
+}
+
+fn write_started(world: &World, thread: usize, out: &mut String) -> Written {
+    match world.started(thread) {
+        Some(step) => write!(out, "{step}"),
+        None => out.push_str("no"),
+    }
+}
+
+/// Writes what is seen.
+pub fn write_seen(traced: &Traced, case: &Case<'_>, view: View, out: &mut String) -> Written {
+    let world = &traced.world;
+    match view {
+        View::World => out.push_str("made"),
+        View::Reply(thread, call) => write_reply(world, thread, call, out),
+        View::Replies => write!(out, "{}", world.replies().len()),
+        View::Blocks(thread, call) => write!(out, "{}", blocks_of(world, thread, call)),
+        View::Block(thread, call, visit) => write_block(world, (thread, call, visit), out),
+        View::Items(thread, call) => write_items(world, thread, call, out),
+        View::Having(value) => write!(out, "{}", having(world, value)),
+        View::Pair(key) => write_pair(world, key, out),
+        View::Pairs => write_pairs(traced, out),
+        View::Shard(key) => write!(out, "{}", world.shard_of(&key)),
+        View::Word(shard) => write!(out, "{}", world.word(shard)),
+        View::Words(shard) => write_words(traced, shard, out),
+        View::Queue(key) => write_queue(world, case, key, out),
+        View::Status(thread) => out.push_str(status_of(world, thread)),
+        View::Moves(thread) => out.push_str(yes_or_no(world.can_move(thread))),
+        View::Started(thread) => write_started(world, thread, out),
+        View::Steps => write!(out, "{}", world.steps()),
+        View::Bound => write!(out, "{}", world.bound()),
+    }
+}
