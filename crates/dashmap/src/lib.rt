@@ -15,11 +15,13 @@
 
 pub mod iter;
 pub mod iter_set;
+mod locks;
 pub mod mapref;
 mod names;
 pub mod prelude;
 pub mod rayon;
 pub mod setref;
+mod t;
 pub mod try_result;
 
 pub use dashmap_guard::{SharedValue, map_in_place_2, ptr_size_bits};
@@ -27,7 +29,7 @@ pub use dashmap_iter::LendingWalks;
 pub use dashmap_iter::shard_guards::{Looks, ShardReadGuard, ShardWriteGuard};
 pub use dashmap_iter::walks::Walks;
 pub use dashmap_map::mapref::entry::{Entry, OccupiedEntry, VacantEntry};
-pub use dashmap_map::{Map, NewFault, TryReserveError};
+pub use dashmap_map::{NewFault, TryReserveError, UntilFault};
 pub use dashmap_parallel::{NoThreadData, ParExtendFault, ParallelMap, par_extend_shared};
 pub use dashmap_plain::clones::{CloneMap, CloneView};
 pub use dashmap_plain::{
@@ -42,8 +44,10 @@ pub use dashmap_table::{
 };
 pub use dashmap_view::parallel::ParallelView;
 pub use dashmap_view::{Displaced, PlainView, ViewIter, ViewKeys, ViewValues};
+pub use locks::table_for;
 pub use names::{
     DashMap, DashSet, ReadOnlyView, RwLock, RwLockReadGuard, RwLockWriteGuard, ShardsView,
 };
 pub use parking_lot_core::{ParkingLot, ThreadData};
 pub use parking_lot_rwlock::{LockTable, RawRwLock};
+pub use t::Map;

@@ -5,12 +5,15 @@ use crate::keys::{Leaping, Onward, Round};
 use crate::parallel::{TIMES, sum_often};
 use crate::threads::{Mix, Team, run};
 use crate::walks::{count_all, keep_all, read_all, write_all};
-use crate::work::{Map, Shared, churn, enter_all, look_up_all, map_over, put_all, take_all};
+use crate::work::{
+    Fold, Map, Measured, Shared, Sip, churn, enter_all, look_up_all, map_over, put_all, take_all,
+};
 use dashmap_calls::workload::clock::report;
 use lock_api_raw::RawRwLock;
 use parking_lot_core::ParkingLot;
 use parking_lot_rwlock::LockTable;
 use std::alloc::Global;
+use std::hash::BuildHasher;
 use std::sync::Wait;
 use std::thread::Threads;
 use std::time::{Clock, Instant};
@@ -38,24 +41,24 @@ enum Deed {
 }
 
 impl Deed {
-    /// How its line is called.
+    /// How its line begins.
     fn name(self) -> &'static str {
         match self {
-            Deed::Insert => "st.insert.dash_fold",
-            Deed::Hit => "st.get_hit.dash_fold",
-            Deed::Miss => "st.get_miss.dash_fold",
-            Deed::EntryHit => "st.entry_hit.dash_fold",
-            Deed::EntryNew => "st.entry_new.dash_fold",
-            Deed::Remove => "st.remove.dash_fold",
-            Deed::SmallFill => "st.small_fill.dash_fold",
-            Deed::SmallHit => "st.small_hit.dash_fold",
-            Deed::SmallMiss => "st.small_miss.dash_fold",
-            Deed::SmallChurn => "st.small_churn.dash_fold",
-            Deed::WalksFill => "st.walks_fill.dash_fold",
-            Deed::Iter => "st.iter.dash_fold",
-            Deed::IterMut => "st.iter_mut.dash_fold",
-            Deed::Retain => "st.retain.dash_fold",
-            Deed::Len => "st.len.dash_fold",
+            Deed::Insert => "st.insert",
+            Deed::Hit => "st.get_hit",
+            Deed::Miss => "st.get_miss",
+            Deed::EntryHit => "st.entry_hit",
+            Deed::EntryNew => "st.entry_new",
+            Deed::Remove => "st.remove",
+            Deed::SmallFill => "st.small_fill",
+            Deed::SmallHit => "st.small_hit",
+            Deed::SmallMiss => "st.small_miss",
+            Deed::SmallChurn => "st.small_churn",
+            Deed::WalksFill => "st.walks_fill",
+            Deed::Iter => "st.iter",
+            Deed::IterMut => "st.iter_mut",
+            Deed::Retain => "st.retain",
+            Deed::Len => "st.len",
         }
     }
 
@@ -71,9 +74,9 @@ impl Deed {
     }
 
     /// Makes so many of its calls on a map of so many keys, and answers the sum of what they saw.
-    fn run<const KEYS: u64, Q: RawRwLock>(
+    fn run<const KEYS: u64, S: BuildHasher, Q: RawRwLock>(
         self,
-        map: &Map<Q>,
+        map: &Map<S, Q>,
         me: &mut Q::Party,
         calls: u64,
     ) -> Result<u64, Fault>
@@ -81,17 +84,17 @@ impl Deed {
         Q::Runtime: Wait,
     {
         match self {
-            Deed::Insert | Deed::SmallFill | Deed::WalksFill => put_all::<Onward<0>, Q>(
+            Deed::Insert | Deed::SmallFill | Deed::WalksFill => put_all::<Onward<0>, S, Q>(
                 map, me, calls,
             ),
-            Deed::Hit => Ok(look_up_all::<Leaping<KEYS>, Q>(map, me, calls)),
-            Deed::Miss => Ok(look_up_all::<Onward<KEYS>, Q>(map, me, calls)),
-            Deed::EntryHit => enter_all::<Leaping<KEYS>, Q>(map, me, calls),
-            Deed::EntryNew => enter_all::<Onward<0>, Q>(map, me, calls),
-            Deed::Remove => Ok(take_all::<Leaping<KEYS>, Q>(map, me, calls)),
-            Deed::SmallHit => Ok(look_up_all::<Round<0, 1_000>, Q>(map, me, calls)),
-            Deed::SmallMiss => Ok(look_up_all::<Round<5_000, 1_000>, Q>(map, me, calls)),
-            Deed::SmallChurn => churn::<Round<2_000, 1_000>, Q>(map, me, calls / 2),
+            Deed::Hit => Ok(look_up_all::<Leaping<KEYS>, S, Q>(map, me, calls)),
+            Deed::Miss => Ok(look_up_all::<Onward<KEYS>, S, Q>(map, me, calls)),
+            Deed::EntryHit => enter_all::<Leaping<KEYS>, S, Q>(map, me, calls),
+            Deed::EntryNew => enter_all::<Onward<0>, S, Q>(map, me, calls),
+            Deed::Remove => Ok(take_all::<Leaping<KEYS>, S, Q>(map, me, calls)),
+            Deed::SmallHit => Ok(look_up_all::<Round<0, 1_000>, S, Q>(map, me, calls)),
+            Deed::SmallMiss => Ok(look_up_all::<Round<5_000, 1_000>, S, Q>(map, me, calls)),
+            Deed::SmallChurn => churn::<Round<2_000, 1_000>, S, Q>(map, me, calls / 2),
             Deed::Iter => read_all(map, me, calls),
             Deed::IterMut => Ok(write_all(map, me, calls)),
             Deed::Retain => Ok(keep_all(map, me)),
@@ -126,27 +129,31 @@ const DEEDS: [&[Deed]; 4] = [
 ];
 
 /// Makes the calls on a new map, and prints a line for each.
-fn print_lines<R: Wait + Copy + Drop>(
+fn print_lines<S: Measured, R: Wait + Copy + Drop>(
     rt: &HostRuntime,
     handle: R,
     deeds: &[Deed],
 ) -> Result<(), Fault> {
     let lot = ParkingLot::new(handle, rt.alloc(), 1, 7)?;
     let table = LockTable::new(rt.alloc(), &lot, 16)?;
-    let map: Shared<'_, '_, R> = map_over(rt.alloc(), &table)?;
+    let map: Shared<'_, '_, R, S> = map_over(rt.alloc(), &table)?;
     let mut me = lot.thread_data()?;
     for deed in deeds {
         let start = Instant::now(rt)?;
-        let sum = deed.run::<1_000_000, _>(&map, &mut me, u64::from(deed.calls()))?;
-        report(rt, deed.name(), start, deed.calls(), sum)?;
+        let sum = deed.run::<1_000_000, _, _>(&map, &mut me, u64::from(deed.calls()))?;
+        let name = format!(in rt.alloc(); "{}.{}", deed.name(), S::name())?;
+        report(rt, name.as_str(), start, deed.calls(), sum)?;
     }
     Ok(())
 }
 
-/// Prints a line for each call of one thread.
+/// Prints a line for each call of one thread, by each hasher.
 pub fn print_calls<R: Wait + Copy + Drop>(rt: &HostRuntime, handle: R) -> Result<(), Fault> {
     for deeds in DEEDS {
-        print_lines(rt, handle, deeds)?;
+        print_lines::<Fold, _>(rt, handle, deeds)?;
+    }
+    for deeds in DEEDS {
+        print_lines::<Sip, _>(rt, handle, deeds)?;
     }
     Ok(())
 }
@@ -185,25 +192,25 @@ pub fn print_parallel<R: Wait + Threads + Clock + Sync + Copy + Drop>(
 pub fn fill<R: Wait + Copy + Drop>(alloc: Global, handle: R) -> Result<usize, Fault> {
     let lot = ParkingLot::new(handle, alloc, 1, 7)?;
     let table = LockTable::new(alloc, &lot, 16)?;
-    let map: Shared<'_, '_, R> = map_over(alloc, &table)?;
+    let map: Shared<'_, '_, R, Fold> = map_over(alloc, &table)?;
     let mut me = lot.thread_data()?;
-    put_all::<Onward<0>, _>(&map, &mut me, u64::from(MANY))?;
+    put_all::<Onward<0>, _, _>(&map, &mut me, u64::from(MANY))?;
     Ok(map.len(&mut me))
 }
 
 /// Makes a thousand of each call, and prints what they saw.
-fn print_sums<R: Wait + Copy + Drop>(
+fn print_sums<S: Measured, R: Wait + Copy + Drop>(
     rt: &HostRuntime,
     handle: R,
     deeds: &[Deed],
 ) -> Result<(), Fault> {
     let lot = ParkingLot::new(handle, rt.alloc(), 1, 7)?;
     let table = LockTable::new(rt.alloc(), &lot, 16)?;
-    let map: Shared<'_, '_, R> = map_over(rt.alloc(), &table)?;
+    let map: Shared<'_, '_, R, S> = map_over(rt.alloc(), &table)?;
     let mut me = lot.thread_data()?;
     for deed in deeds {
-        let sum = deed.run::<1_000, _>(&map, &mut me, 1_000)?;
-        println!(rt; "{} saw {sum}", deed.name())?;
+        let sum = deed.run::<1_000, _, _>(&map, &mut me, 1_000)?;
+        println!(rt; "{}.{} saw {sum}", deed.name(), S::name())?;
     }
     Ok(())
 }
@@ -215,7 +222,10 @@ pub fn small_run<R: Wait + Threads + Clock + Sync + Copy + Drop>(
     handle: R,
 ) -> Result<(), Fault> {
     for deeds in DEEDS {
-        print_sums(rt, handle, deeds)?;
+        print_sums::<Fold, _>(rt, handle, deeds)?;
+    }
+    for deeds in DEEDS {
+        print_sums::<Sip, _>(rt, handle, deeds)?;
     }
     for team in Team::ALL {
         let told = sum_often(handle, rt.alloc(), team.count() as usize, 1_000)?;

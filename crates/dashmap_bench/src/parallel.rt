@@ -2,7 +2,7 @@
 
 use crate::fault::Fault;
 use crate::keys::Onward;
-use crate::work::{Map, Shared, map_over, put_all};
+use crate::work::{Fold, Map, Shared, map_over, put_all};
 use dashmap_parallel::ParallelMap;
 use lock_api_raw::RawRwLock;
 use parking_lot_core::{ParkingLot, ThreadData};
@@ -28,7 +28,7 @@ pub struct Sums {
 fn sum_all<R: Threads + Sync, Q: RawRwLock + Sync>(
     rt: &R,
     alloc: Global,
-    map: &Map<Q>,
+    map: &Map<Fold, Q>,
     tds: &mut [Q::Party],
 ) -> Result<u64, Fault>
 where
@@ -68,9 +68,9 @@ pub fn sum_often<R: Wait + Threads + Clock + Sync + Copy + Drop>(
 ) -> Result<Sums, Fault> {
     let lot = ParkingLot::new(rt, alloc, 5, 7)?;
     let table = LockTable::new(alloc, &lot, 16)?;
-    let map: Shared<'_, '_, R> = map_over(alloc, &table)?;
+    let map: Shared<'_, '_, R, Fold> = map_over(alloc, &table)?;
     let mut me = lot.thread_data()?;
-    put_all::<Onward<0>, _>(&map, &mut me, count)?;
+    put_all::<Onward<0>, _, _>(&map, &mut me, count)?;
     let mut tds = team(alloc, &lot, threads)?;
     let start = Instant::now(&rt)?;
     let mut saw = 0u64;

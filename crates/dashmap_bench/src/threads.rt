@@ -1,7 +1,7 @@
 //! Calls of several threads at once.
 
 use crate::fault::Fault;
-use crate::work::{Map, Shared, map_over};
+use crate::work::{Fold, Map, Shared, map_over};
 use dashmap_calls::workload::spread;
 use lock_api_raw::RawRwLock;
 use parking_lot_core::{ParkingLot, ThreadData};
@@ -88,7 +88,7 @@ pub struct Told {
 /// The keys of the numbers below so many, or those of them that lie in the shard of the first.
 fn keys_of<Q>(
     alloc: Global,
-    map: &Map<Q>,
+    map: &Map<Fold, Q>,
     is_crowded: bool,
     numbers: u64,
 ) -> Result<Vec<u64>, Fault> {
@@ -104,7 +104,7 @@ fn keys_of<Q>(
 }
 
 /// Puts the first half of the keys in, each with the value 1.
-fn put_half<Q: RawRwLock>(map: &Map<Q>, me: &mut Q::Party, keys: &[u64]) -> Result<(), Fault>
+fn put_half<Q: RawRwLock>(map: &Map<Fold, Q>, me: &mut Q::Party, keys: &[u64]) -> Result<(), Fault>
 where
     Q::Runtime: Wait,
 {
@@ -127,7 +127,7 @@ fn stepped(number: u64) -> u64 {
 /// Makes so many calls of one thread, and answers the sum of the values that it saw.
 #[inline(never)]
 fn calls<Q: RawRwLock>(
-    map: &Map<Q>,
+    map: &Map<Fold, Q>,
     mut me: Q::Party,
     keys: &[u64],
     looks: u64,
@@ -164,7 +164,7 @@ fn both(sums: (Result<u64, Fault>, Result<u64, Fault>)) -> Result<u64, Fault> {
 /// Two threads, each with its seed.
 fn two<R: Wait + Threads + Sync>(
     rt: &R,
-    map: &Shared<'_, '_, R>,
+    map: &Shared<'_, '_, R, Fold>,
     parties: (ThreadData, ThreadData),
     keys: &[u64],
     looks: u64,
@@ -182,7 +182,7 @@ fn two<R: Wait + Threads + Sync>(
 /// The calls of all the threads of a team.
 fn together<R: Wait + Threads + Sync>(
     rt: &R,
-    map: &Shared<'_, '_, R>,
+    map: &Shared<'_, '_, R, Fold>,
     lot: &ParkingLot<R>,
     team: Team,
     keys: &[u64],
@@ -216,7 +216,7 @@ pub fn run<R: Wait + Threads + Clock + Sync + Copy + Drop>(
 ) -> Result<Told, Fault> {
     let lot = ParkingLot::new(rt, alloc, 5, 7)?;
     let table = LockTable::new(alloc, &lot, 16)?;
-    let map: Shared<'_, '_, R> = map_over(alloc, &table)?;
+    let map: Shared<'_, '_, R, Fold> = map_over(alloc, &table)?;
     let mut me = lot.thread_data()?;
     let keys = keys_of(alloc, &map, mix.is_crowded, numbers)?;
     put_half(&map, &mut me, keys.as_slice())?;

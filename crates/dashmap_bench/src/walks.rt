@@ -5,11 +5,16 @@ use crate::work::Map;
 use dashmap_iter::LendingWalks;
 use dashmap_iter::walks::Walks;
 use lock_api_raw::RawRwLock;
+use std::hash::BuildHasher;
 use std::sync::Wait;
 
 /// The sum of key and value, bit by bit, of so many pairs at most, which a walk lends.
 #[inline(never)]
-pub fn read_all<Q: RawRwLock>(map: &Map<Q>, me: &mut Q::Party, count: u64) -> Result<u64, Fault>
+pub fn read_all<S: BuildHasher, Q: RawRwLock>(
+    map: &Map<S, Q>,
+    me: &mut Q::Party,
+    count: u64,
+) -> Result<u64, Fault>
 where
     Q::Runtime: Wait,
 {
@@ -30,7 +35,11 @@ where
 
 /// Counts each value up, which a walk lends to be written, and answers how many there were, of so many at most.
 #[inline(never)]
-pub fn write_all<Q: RawRwLock>(map: &Map<Q>, me: &mut Q::Party, count: u64) -> u64
+pub fn write_all<S: BuildHasher, Q: RawRwLock>(
+    map: &Map<S, Q>,
+    me: &mut Q::Party,
+    count: u64,
+) -> u64
 where
     Q::Runtime: Wait,
 {
@@ -46,7 +55,7 @@ where
 
 /// Counts each value up and keeps all pairs; answers how many there are.
 #[inline(never)]
-pub fn keep_all<Q: RawRwLock>(map: &Map<Q>, me: &mut Q::Party) -> u64
+pub fn keep_all<S: BuildHasher, Q: RawRwLock>(map: &Map<S, Q>, me: &mut Q::Party) -> u64
 where
     Q::Runtime: Wait,
 {
@@ -62,7 +71,11 @@ where
 
 /// Asks so many times how many pairs there are, and answers the sum.
 #[inline(never)]
-pub fn count_all<Q: RawRwLock>(map: &Map<Q>, me: &mut Q::Party, times: u64) -> u64
+pub fn count_all<S: BuildHasher, Q: RawRwLock>(
+    map: &Map<S, Q>,
+    me: &mut Q::Party,
+    times: u64,
+) -> u64
 where
     Q::Runtime: Wait,
 {

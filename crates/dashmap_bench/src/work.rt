@@ -8,30 +8,62 @@ use dashmap_table::MapFault;
 use lock_api_raw::{MakeLock, RawRwLock};
 use parking_lot_rwlock::RawRwLock as RawRwLockOfRows;
 use std::alloc::Global;
-use std::hash::{BuildHasherDefault, FoldHasher};
+use std::hash::{BuildHasher, BuildHasherDefault, DefaultHasher, FoldHasher};
 use std::sync::Wait;
 
 /// A hasher that takes one multiplication.
 pub type Fold = BuildHasherDefault<FoldHasher>;
 
+/// The default hasher, whose key is the same in each run.
+pub type Sip = BuildHasherDefault<DefaultHasher>;
+
+/// A hasher that maps are measured with. Two of them make two types of map in one program, as programs of users have.
+pub trait Measured: BuildHasher + Drop {
+    /// How it is called at the end of a line.
+    fn name() -> &'static str;
+
+    /// One of it.
+    fn made() -> Self;
+}
+
+impl Measured for Fold {
+    fn name() -> &'static str {
+        "dash_fold"
+    }
+
+    fn made() -> Fold {
+        BuildHasherDefault::new()
+    }
+}
+
+impl Measured for Sip {
+    fn name() -> &'static str {
+        "dash_sip"
+    }
+
+    fn made() -> Sip {
+        BuildHasherDefault::new()
+    }
+}
+
 /// A map of numbers.
-pub type Map<Q> = DashMap<u64, u64, Fold, Q, Global>;
+pub type Map<S, Q> = DashMap<u64, u64, S, Q, Global>;
 
 /// The same over rows of a table.
-pub type Shared<'t, 'l, R> = Map<RawRwLockOfRows<'t, 'l, R, 0>>;
+pub type Shared<'t, 'l, R, S> = Map<S, RawRwLockOfRows<'t, 'l, R, 0>>;
 
 /// A map of 16 shards, which is the default for 4 processors.
-pub fn map_over<T: Copy, Q: RawRwLock + MakeLock<T> + Drop>(
+pub fn map_over<T: Copy, S: Measured, Q: RawRwLock + MakeLock<T> + Drop>(
     alloc: Global,
     table: T,
-) -> Result<Map<Q>, MapFault> {
-    DashMap::with_hasher(alloc, BuildHasherDefault::new(), 4, table)
+) -> Result<Map<S, Q>, MapFault> {
+    DashMap::with_hasher(alloc, S::made(), 4, table)
 }
 
 /// Puts so many pairs in, each with its turn as the value.
 #[inline(never)]
-pub fn put_all<W: Way, Q: RawRwLock>(
-    map: &Map<Q>,
+pub fn put_all<W: Way, S: BuildHasher, Q: RawRwLock>(
+    map: &Map<S, Q>,
     me: &mut Q::Party,
     count: u64,
 ) -> Result<u64, Fault>
@@ -48,7 +80,11 @@ where
 
 /// The sum of the values of so many keys; an absent key counts 0.
 #[inline(never)]
-pub fn look_up_all<W: Way, Q: RawRwLock>(map: &Map<Q>, me: &mut Q::Party, count: u64) -> u64
+pub fn look_up_all<W: Way, S: BuildHasher, Q: RawRwLock>(
+    map: &Map<S, Q>,
+    me: &mut Q::Party,
+    count: u64,
+) -> u64
 where
     Q::Runtime: Wait,
 {
@@ -63,8 +99,8 @@ where
 
 /// The sum of the values that so many keys have once an absent one has 1.
 #[inline(never)]
-pub fn enter_all<W: Way, Q: RawRwLock>(
-    map: &Map<Q>,
+pub fn enter_all<W: Way, S: BuildHasher, Q: RawRwLock>(
+    map: &Map<S, Q>,
     me: &mut Q::Party,
     count: u64,
 ) -> Result<u64, Fault>
@@ -83,7 +119,11 @@ where
 
 /// How many of so many keys were there to be taken out.
 #[inline(never)]
-pub fn take_all<W: Way, Q: RawRwLock>(map: &Map<Q>, me: &mut Q::Party, count: u64) -> u64
+pub fn take_all<W: Way, S: BuildHasher, Q: RawRwLock>(
+    map: &Map<S, Q>,
+    me: &mut Q::Party,
+    count: u64,
+) -> u64
 where
     Q::Runtime: Wait,
 {
@@ -98,8 +138,8 @@ where
 
 /// Puts each of so many pairs in and takes it out before the next, and answers how many were there to be taken out.
 #[inline(never)]
-pub fn churn<W: Way, Q: RawRwLock>(
-    map: &Map<Q>,
+pub fn churn<W: Way, S: BuildHasher, Q: RawRwLock>(
+    map: &Map<S, Q>,
     me: &mut Q::Party,
     count: u64,
 ) -> Result<u64, Fault>

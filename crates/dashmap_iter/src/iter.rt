@@ -114,6 +114,7 @@ where
     }
 
     /// The next full slot of the shard that is held.
+    #[inline(always)]
     fn next_slot(&self) -> Option<usize>
         ensures { MatchOption result (IsThrough (λ g. read_guard_value g.inner) self.now)
             (IsNextFull (slots_held (λ g. read_guard_value g.inner) self.now.held) self.now.from) }
@@ -125,6 +126,7 @@ where
     }
 
     /// Lends the pair of a full slot.
+    #[inline(always)]
     fn share(&mut self, slot: usize) -> Result<RefMulti<'m, 'd, K, V, Q, A>, NoMemory>
         requires { IsNextFull (slots_held (λ g. read_guard_value g.inner) self.old.held) self.old.from slot }
         ensures lent { IfOk result
@@ -200,6 +202,7 @@ where
     }
 
     /// Goes on to the next pair, over shards in which none is left, and answers its slot.
+    #[inline(always)]
     fn go_on(&mut self) -> Result<Option<usize>, NoMemory>
         ensures there { IfOk result
             (λ found. (passed : ℕ) × Passes K.eq (λ g. read_guard_value g.inner) (λ g. g.held.0.place.now) passed
@@ -232,6 +235,7 @@ where
 
     ghost remaining = { λ w. at_most (left (λ g. read_guard_value g.inner) w) };
 
+    #[inline(always)]
     fn next(&mut self) -> Option<Result<RefMulti<'m, 'd, K, V, Q, A>, NoMemory>> {
         if self.failed {
             return None;

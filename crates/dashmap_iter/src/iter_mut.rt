@@ -151,6 +151,7 @@ where
     }
 
     /// The next full slot of the shard that is held.
+    #[inline(always)]
     fn next_slot(&self) -> Option<usize>
         ensures { MatchOption result (IsThrough (λ g. W.part g.inner) self.now)
             (IsNextFull (slots_held (λ g. W.part g.inner) self.now.held) self.now.from) }
@@ -204,6 +205,7 @@ where
     }
 
     /// Goes on to the next pair, over shards in which none is left, and answers its slot.
+    #[inline(always)]
     fn go_on(&mut self) -> Option<usize>
         ensures { (passed : ℕ) × Passes K.eq (λ g. W.part g.inner) (λ g. H.lock_of g.held.0) passed self.old self.new
             × MatchOption result (IsThrough (λ g. W.part g.inner) self.new × (length self.new.locks ≤ self.new.next))
@@ -219,6 +221,7 @@ where
     }
 
     /// Goes on to the next pair, and stands behind it.
+    #[inline(always)]
     fn step(&mut self) -> Option<usize>
         ensures lends { IfSome result
             (λ slot. LendsToWrite (λ g. W.part g.inner) K.eq (λ g. H.lock_of g.held.0) self.old slot self.new) }
@@ -278,7 +281,18 @@ where
         lend_held(&mut self.held, slot)
     }
 
-    /// The next pair for writing, lent until the next call.
+    /// The next pair for writing, lent until the next call; `None` behind the last pair. It takes no memory.
+    ///
+    /// Blocks at each shard while another holds it. The next shard is held before the last one is given back, so two
+    /// threads that each walk and hold a guard besides can wait for one another.
+    ///
+    /// ```text
+    /// for _ in rt.forever() {
+    ///     let Some(mut pair) = walk.next_mut() else { break };
+    ///     *pair = pair.wrapping_add(1);
+    /// }
+    /// ```
+    #[inline(always)]
     pub fn next_mut(&mut self) -> Option<MultiGuardMut<'_, K, V, A, W, H, L>>
         ensures* rests { sem 𝓛
             (RestsIfNone (the_row K.row V.row A.row W.row H.row L.row H.Lock.row H.Runtime.row H.Party.row H.Apart.row

@@ -1,5 +1,5 @@
 -- What a call saw and left while it held the lock of a shard. The evidence is a member of which nothing else is known.
-use Rattle.std.specs.Prelude.{◌≡◌, ℕ, zero, suc, ◌+◌, ◌-◌, ◌^◌, min, length, Option, Some}
+use Rattle.std.specs.Prelude.{◌≡◌, ℕ, zero, suc, ◌+◌, ◌-◌, ◌^◌, min, length, Option, Some, ⊤}
 use Rattle.std.specs.Hash.{HashWrites}
 use Rattle.std.specs.declared.hash.BuildHasher as builder
 use Rattle.std.specs.declared.hash.Hasher as hasher
@@ -41,6 +41,14 @@ module _ {K V Q S Party X : Type 0} (m : map.Locked Q S) where
   InTurn seen P (suc n) p q = (r : Party × X) × InTurn seen P n p r
       × OnSight seen (lock_at m n) r.0 q.0 (λ shard. P r.1 shard q.1)
 
+module _ {K V Q S Party : Type 0} (held : Q → Party → Party → Table K V → Table K V → Type 0) (m : map.Locked Q S)
+    (P : Table K V → Table K V → Type 0) where
+  -- an exclusive hold of each of the first n shards was had and ended, in their order, by one wait after another, and P
+  -- holds between what each found and left
+  abbrev pub HeldUpTo : ℕ → Party → Party → Type 0
+  HeldUpTo n from to = InTurn m (λ lock a b old. (new : Table K V) × held lock a b old new × P old new) (λ _ _ _. ⊤) n
+      (from, tt {0}) (to, tt {0})
+
 module _ {K V Q S Party : Type 0} (seen : Q → Party → Party → Table K V → Type 0) (m : map.Locked Q S)
     (amount : Table K V → ℕ) where
   -- the amounts that the first n shards showed, each held once by one wait after another, come to that sum; it stops at
@@ -70,6 +78,10 @@ module _ {K V Q S H : Type 0} (b : builder.Ghosts S H) (h : hasher.Ghosts H) (in
   -- a hold of the lock of the key's shard was had at once, and P holds at the key's hash of what it found
   abbrev pub OnTryOfKey : (Q → Table K V → Type 0) → map.Locked Q S → K → (ℕ → Table K V → Type 0) → Type 0
   OnTryOfKey seen m key P = OnTry seen (lock_of b h input m key) (P (key_hash b h input m.hasher key))
+
+-- a wait for a hold of that lock, which took the party from one to the other, was given up
+abbrev pub OnGivingUp : {Q Party : Type 0} → (Q → Party → Party → Type 0) → Option Q → Party → Party → Type 0
+OnGivingUp {Q} gave_up at from to = (lock : Q) × (at ≡ Some lock) × gave_up lock from to
 
 -- what holds of a try that was refused, of one that found no pair, and of one that found one
 abbrev pub by_try : {R : Type 0} → Type 0 → Type 0 → (R → Type 0) → TryResult R → Type 0

@@ -1,6 +1,6 @@
 //! The refusals of the running map that plain shards don't have.
 ghost use Rattle.std.specs.Prelude.{◌≡◌};
-ghost use Rattle.dashmap_map.specs.Faults.{new_fault_code};
+ghost use Rattle.dashmap_map.specs.Faults.{new_fault_code, until_code, until_pair};
 
 use dashmap_table::MapFault;
 use std::error::Error;
@@ -57,3 +57,49 @@ impl fmt::Display for NewFault {
 }
 
 impl Error for NewFault {}
+
+/// Why a call that waits up to a moment stored nothing. It holds what was handed in.
+#[derive(Clone, Copy, Debug, PartialEq, Eq)]
+pub enum UntilFault<P> {
+    /// The wait for the shard was given up: code 35.
+    Locked(P),
+    /// The shard would have to grow for a new key and can't: code 99.
+    NoMemory(P),
+}
+
+impl<P> UntilFault<P> {
+    /// The number of the refusal.
+    pub fn code(&self) -> u16
+        ensures { result ≡ until_code self.now }
+    {
+        match self {
+            UntilFault::Locked(_) => 35,
+            UntilFault::NoMemory(_) => 99,
+        }
+    }
+
+    /// What was handed in.
+    pub fn into_inner(self) -> P
+        ensures { result ≡ until_pair self }
+    {
+        match self {
+            UntilFault::Locked(back) | UntilFault::NoMemory(back) => back,
+        }
+    }
+}
+
+impl<P> fmt::Display for UntilFault<P> {
+    ghost use Rattle.std.specs.Prelude.{Some};
+    ghost use Rattle.dashmap_map.specs.Faults.{until_name};
+
+    ghost output = { λ fault. Some (until_name fault) };
+
+    fn fmt<W: fmt::Write>(&self, f: &mut fmt::Formatter<W>) -> fmt::Result {
+        f.write_str(match self {
+            UntilFault::Locked(_) => "Locked",
+            UntilFault::NoMemory(_) => "NoMemory",
+        })
+    }
+}
+
+impl<P: fmt::Debug + Drop> Error for UntilFault<P> {}

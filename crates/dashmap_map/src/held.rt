@@ -34,6 +34,7 @@ fn answer_writing<K, V, U, F: FnOnce(&K, &mut V) -> U>(key: &K, value: &mut V, f
 ///
 /// A present key keeps its stored key. Where the shard would have to grow for a new key and can't, the pair comes back
 /// and nothing has changed.
+#[inline(always)]
 pub fn insert_into<K: Eq + Hash + Drop, V: Drop, A: Allocator + Clone>(
     shard: &mut Shard<K, V, A>,
     hash: u64,
@@ -51,6 +52,7 @@ pub fn insert_into<K: Eq + Hash + Drop, V: Drop, A: Allocator + Clone>(
 }
 
 /// Whether a key is there.
+#[inline(always)]
 pub fn has_key<K: Eq + Hash, V, A: Allocator>(shard: &Shard<K, V, A>, hash: u64, key: &K) -> bool
     ensures { result ≡ is_some (slot_of K.eq shard.now.slots hash key.now) }
 {
@@ -76,6 +78,7 @@ pub fn view_in<K: Eq + Hash, V, A: Allocator, U, F: FnOnce(&K, &V) -> U + Drop>(
 }
 
 /// Takes the pair of a key out, if it is there.
+#[inline(always)]
 pub fn remove_from<K: Eq + Hash, V, A: Allocator>(
     shard: &mut Shard<K, V, A>,
     hash: u64,

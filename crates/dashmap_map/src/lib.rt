@@ -20,12 +20,13 @@ mod make;
 mod map;
 pub mod mapref;
 mod ops;
+pub mod owner;
+pub mod parts;
 mod room;
 mod show;
-mod t;
+mod timed;
 mod tries;
 mod whole;
 
-pub use fault::{NewFault, TryReserveError};
+pub use fault::{NewFault, TryReserveError, UntilFault};
 pub use map::DashMap;
-pub use t::Map;

@@ -1,12 +1,14 @@
 //! Calls on the map as a whole. Each holds one shard at a time, shard 0 first.
-ghost use Rattle.std.specs.Prelude.{◌≡◌, ℕ, ◌==◌};
+ghost use Rattle.std.specs.Prelude.{◌≡◌, ℕ, ◌==◌, Some};
 ghost use Rattle.dashmap_table.specs.Slots.{count};
-ghost use Rattle.dashmap_map.specs.Evidence.{SumsTo};
+ghost use Rattle.dashmap_map.specs.Effects.{Shrinks};
+ghost use Rattle.dashmap_map.specs.Evidence.{SumsTo, UnderLock};
+ghost use Rattle.dashmap_map.specs.Owner.{ShrinksAll};
 
 use crate::map::DashMap;
 use dashmap_table::Shard;
-use lock_api_raw::{NoMemory, RawRwLock};
-use lock_api_rw::{Evidence, read_shown};
+use lock_api_raw::NoMemory;
+use lock_api_rw::{Evidence, RwLock, read_shown, write_traced};
 use std::alloc::Allocator;
 use std::hash::{BuildHasher, Hash};
 use std::sync::Wait;
@@ -22,6 +24,13 @@ where
     Q::Runtime: Wait,
 {
     /// How many pairs there are: the sum over the shards, of which one is held at a time. It stops at `usize::MAX`.
+    ///
+    /// Blocks while a shard is held exclusively, at each in its turn. Others change shards before and behind it, so
+    /// beside them the sum may be one that the map never had.
+    ///
+    /// ```text
+    /// let pairs = map.len(&mut me);
+    /// ```
     pub fn len(&self, td: &mut Q::Party) -> usize
         ensures { SumsTo Q.showed self.now (λ shard. count shard.slots) td.old td.new result }
     {
@@ -33,7 +42,11 @@ where
         sum
     }
 
-    /// Whether `len` is 0.
+    /// Whether `len` is 0. Blocks as `len` does.
+    ///
+    /// ```text
+    /// if map.is_empty(&mut me) { .. }
+    /// ```
     pub fn is_empty(&self, td: &mut Q::Party) -> bool
         ensures { (sum : ℕ) × SumsTo Q.showed self.now (λ shard. count shard.slots) td.old td.new sum
             × (result ≡ (sum == 0)) }
@@ -43,6 +56,12 @@ where
 
     /// For how many pairs there is room: the sum over the shards, of which one is held at a time. It stops at
     /// `usize::MAX`.
+    ///
+    /// Blocks as `len` does. A new key can want memory all the same, where its own shard is full.
+    ///
+    /// ```text
+    /// let room = map.capacity(&mut me);
+    /// ```
     pub fn capacity(&self, td: &mut Q::Party) -> usize
         ensures { SumsTo Q.showed self.now (λ shard. shard.room) td.old td.new result }
     {
@@ -55,21 +74,46 @@ where
     }
 }
 
-impl<K: Eq + Hash + Drop, V: Drop, S: BuildHasher, Q: RawRwLock, A: Allocator + Clone> DashMap<
-    K,
-    V,
-    S,
-    Q,
-    A,
->
+/// `shrink_to_fit` for one shard, which is held meanwhile.
+#[inline(always)]
+fn shrink_behind<K: Eq + Hash + Drop, V: Drop, Q: Evidence<Shard<K, V, A>>, A: Allocator + Clone>(
+    lock: &RwLock<Q, Shard<K, V, A>>,
+    td: &mut Q::Party,
+) -> Result<(), NoMemory>
+where
+    Q::Runtime: Wait,
+    ensures { UnderLock Q.held (Some lock.now) td.old td.new (λ old new. Shrinks K.eq result old new) }
+{
+    let mut shard = write_traced(lock, td);
+    let answer = shard.shrink();
+    shard.give_back();
+    answer
+}
+
+impl<
+    K: Eq + Hash + Drop,
+    V: Drop,
+    S: BuildHasher,
+    Q: Evidence<Shard<K, V, A>>,
+    A: Allocator + Clone,
+> DashMap<K, V, S, Q, A>
 where
     Q::Runtime: Wait,
 {
     /// Gives up room that the pairs don't need, one shard after another. A shard without pairs takes no memory and
-    /// keeps no room. A refusal leaves its shard as it was, and the shards before it shrunk.
-    pub fn shrink_to_fit(&self, td: &mut Q::Party) -> Result<(), NoMemory> {
-        for lock in &self.shards {
-            lock.write(td).shrink()?;
+    /// keeps no room.
+    ///
+    /// Blocks while a shard is held, at each in its turn. Memory: a smaller table is made before the larger one is
+    /// given back. A refusal leaves its shard as it was, and the shards before it shrunk.
+    ///
+    /// ```text
+    /// map.shrink_to_fit(&mut me)?;
+    /// ```
+    pub fn shrink_to_fit(&self, td: &mut Q::Party) -> Result<(), NoMemory>
+        ensures { ShrinksAll K.eq Q.held self.now td.old td.new result }
+    {
+        for shard in 0..self.shards.len() {
+            shrink_behind(self.shard_lock(shard), td)?;
         }
         Ok(())
     }

@@ -25,6 +25,8 @@ mod tables;
 #[cfg(test)]
 mod threads;
 #[cfg(test)]
+mod timed;
+#[cfg(test)]
 mod tries;
 #[cfg(test)]
 mod underscored;

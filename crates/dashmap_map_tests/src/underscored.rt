@@ -1,9 +1,9 @@
 //! The map's calls and walks by their underscored names.
 
 use crate::tables::map_of;
+use dashmap::Map;
 use dashmap_calls::Numbers;
 use dashmap_iter::walks::Walks;
-use dashmap_map::Map;
 use dashmap_table::SpreadState;
 use lock_api_raw::RawRwLock;
 use std::alloc::Allocator;

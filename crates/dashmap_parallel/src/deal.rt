@@ -6,6 +6,7 @@ ghost use Rattle.dashmap_view.specs.Parallel.Pieces.{first_shard};
 ghost use Rattle.dashmap_parallel.specs.Puts.{piece_number, piece_at, hashed, AreDealt};
 
 use dashmap_map::DashMap;
+use dashmap_map::parts::{allocator, shard_locks};
 use dashmap_table::NoMemory;
 use std::alloc::Allocator;
 use std::hash::{BuildHasher, Hash};
@@ -68,8 +69,8 @@ pub(crate) fn dealt<K: Eq + Hash + Drop, V: Drop, S: BuildHasher, Q, A: Allocato
         (λ v. (length v.items ≡ pieces) × AreDealt (piece_at (length map.now.locks) pieces)
         (list_map (hashed S.BuildHasher S.Hasher.Hasher K.hash_input map.now.hasher) pairs.items) v.items) }
 {
-    let shards = map.shard_locks().len();
-    let mut lists = empty_lists(map.allocator(), pieces)?;
+    let shards = shard_locks(map).len();
+    let mut lists = empty_lists(allocator(map), pieces)?;
     for (key, value) in pairs {
         let hash = map.hash_usize(&key);
         let piece = piece_of(shards, pieces, map.determine_shard(hash));

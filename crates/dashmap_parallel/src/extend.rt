@@ -10,6 +10,7 @@ use crate::deal::dealt;
 use crate::fault::ParExtendFault;
 use crate::put::put_each;
 use dashmap_map::DashMap;
+use dashmap_map::parts::shard_locks;
 use dashmap_table::{NoMemory, Shard};
 use lock_api_rw::Evidence;
 use std::alloc::Allocator;
@@ -86,7 +87,7 @@ where
         pairs.items) }
 {
     let lists = dealt(map, pairs, tds.len())?;
-    let locks = map.shard_locks();
+    let locks = shard_locks(map);
     let part = |list: Vec<(u64, K, V), A>, td: &mut Q::Party| -> Result<(), NoMemory>
         requires { IsShardAmount (length locks.now) }
         ensures { OnOk result (All (PutAt K.eq Q.held locks.entry.now) list.items) }

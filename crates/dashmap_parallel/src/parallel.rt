@@ -6,6 +6,7 @@ use crate::fault::NoThreadData;
 use crate::lent::SharedIter;
 use crate::written::SharedIterMut;
 use dashmap_map::DashMap;
+use dashmap_map::parts::shard_locks;
 use lock_api_raw::RawRwLock;
 use std::alloc::Allocator;
 use std::hash::{BuildHasher, Hash};
@@ -49,7 +50,7 @@ impl<K: Eq + Hash, V, S: BuildHasher, Q: RawRwLock, A: Allocator> ParallelMap<K,
         if tds.is_empty() {
             return Err(NoThreadData);
         }
-        Ok(SharedIter::new(self.shard_locks(), tds))
+        Ok(SharedIter::new(shard_locks(self), tds))
     }
 
     fn par_iter_mut_shared<'m, 'd>(
@@ -59,6 +60,6 @@ impl<K: Eq + Hash, V, S: BuildHasher, Q: RawRwLock, A: Allocator> ParallelMap<K,
         if tds.is_empty() {
             return Err(NoThreadData);
         }
-        Ok(SharedIterMut::new(self.shard_locks(), tds))
+        Ok(SharedIterMut::new(shard_locks(self), tds))
     }
 }

@@ -8,6 +8,7 @@ use crate::exchange::exchange_all;
 use crate::read_only::ReadOnlyView;
 use crossbeam_utils::CachePadded;
 use dashmap_map::DashMap;
+use dashmap_map::parts::{from_parts, into_parts};
 use dashmap_table::Shard;
 use dashmap_view::{Displaced, OwningIter, PlainView};
 use lock_api_rw::RwLock;
@@ -55,7 +56,7 @@ impl<K: Eq + Hash, V, S: BuildHasher, Q, A: Allocator> Unlocked<K, V, S, Q, A> {
         ensures amount { length result.plain.tables ≡ length map.locks }
         ensures hasher { result.plain.hasher ≡ map.hasher }
     {
-        let (mut locks, mut shards, hasher) = map.into_parts();
+        let (mut locks, mut shards, hasher) = into_parts(map);
         exchange_all(&mut locks, &mut shards);
         Unlocked::of_parts(shards, locks, hasher)
     }
@@ -67,11 +68,11 @@ impl<K: Eq + Hash, V, S: BuildHasher, Q, A: Allocator> Unlocked<K, V, S, Q, A> {
     {
         let (mut shards, mut locks, hasher) = self.into_parts();
         exchange_all(&mut locks, &mut shards);
-        DashMap::from_parts(locks, shards, hasher)
+        from_parts(locks, shards, hasher)
     }
 
     /// As many other shards in place of these, which are let go.
-    pub fn with_shards(self, shards: Vec<Shard<K, V, A>, A>) -> Unlocked<K, V, S, Q, A>
+    pub(crate) fn with_shards(self, shards: Vec<Shard<K, V, A>, A>) -> Unlocked<K, V, S, Q, A>
     where
         K: Drop,
         V: Drop,

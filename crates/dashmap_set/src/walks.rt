@@ -10,6 +10,7 @@ use crate::iter_set::Iter;
 use crate::set::DashSet;
 use dashmap_iter::LendingWalks;
 use dashmap_iter::walks::{Walks, lock_behind};
+use dashmap_map::parts::shard_locks;
 use dashmap_table::Shard;
 use lock_api_raw::RawRwLock;
 use lock_api_rw::{Evidence, RwLock, write_traced};
@@ -95,6 +96,9 @@ where
 {
     /// A walk that lends the keys, one by one. It holds nothing before its first item.
     ///
+    /// Blocks at each shard while another holds it exclusively. It keeps the borrow of `td`. Memory: an item shares its
+    /// shard's hold, which takes some; refused, it is an error, and the walk ends.
+    ///
     /// ```text
     /// for item in set.iter(&mut me) {
     ///     let key = item?;                // an error where there was no memory
@@ -130,14 +134,21 @@ where
         ensures { (last : F) × EachLocked Q.held self.now
             (λ p q. Walked (AtFull (KeepsKey F.FnMut)) (length p.1.slots) p q) (td.old, f) (td.new, last) }
     {
-        let locks = self.inner.shard_locks();
+        let locks = shard_locks(&self.inner);
         let mut f = f;
         for shard in 0..locks.len() {
             f = retain_behind(lock_behind(locks, shard), f, td);
         }
     }
 
-    /// Takes every key out; the room stays. One shard is held at a time, shard 0 first.
+    /// Takes every key out; the room stays. One shard is held at a time, shard 0 first, and others may put keys in
+    /// behind it.
+    ///
+    /// Blocks while another holds a shard, at each in its turn.
+    ///
+    /// ```text
+    /// set.clear(&mut me);
+    /// ```
     pub fn clear(&self, td: &mut Q::Party)
         ensures { EachLocked Q.held self.now (λ p q. (i : ℕ) → at q.1.slots i ≡ None) (td.old, tt {0})
             (td.new, tt {0}) }

@@ -2,6 +2,7 @@
 
 use crate::maps::{Map, map_of};
 use dashmap_iter::shard_guards::Looks;
+use dashmap_map::parts::shard_locks;
 use std::sync::Wait;
 use std::test::Fail;
 
@@ -38,7 +39,7 @@ fn is_kept_from_writers<R: Wait + Drop>(map: &Map<R>) -> bool {
     let mut right = !guard.is_empty() && map._try_yield_write_shard(number).is_none();
     right &= map._try_yield_read_shard(number).is_some() && map.try_get_mut(&7).is_locked();
     let other = number ^ 1;
-    right & (other < map.shard_locks().len() && map._try_yield_write_shard(other).is_some())
+    right & (other < shard_locks(map).len() && map._try_yield_write_shard(other).is_some())
 }
 
 #[test]

@@ -1,6 +1,7 @@
 //! Maps that become views, and views that become maps again.
 
 use crate::maps::{Map, has_all, map_of, view_of};
+use dashmap_map::parts::shard_locks;
 use dashmap_plain::Plain;
 use dashmap_table::SpreadState;
 use std::hash::BuildHasher;
@@ -64,7 +65,7 @@ fn a_view_and_the_map_after_it_have_the_room_that_the_map_had(rt: HostRuntime) -
 /// Puts a key into a shard of a map under a hash, whatever its route is.
 fn put<R: Wait + Drop>(map: &Map<R>, shard: usize, hash: u64, key: u64) -> bool {
     let mut me = 1;
-    match map.shard_locks().get(shard) {
+    match shard_locks(map).get(shard) {
         Some(lock) => lock
             .write(&mut me)
             .insert(hash, key, key.wrapping_mul(2))

@@ -1,6 +1,7 @@
 //! The Arc forms of a mutex.
 ghost use Rattle.std.specs.Prelude.{◌≡◌, IfSome, IfOk, OnErr};
 ghost use Rattle.std.specs.Arc.{arc_value};
+ghost use Rattle.lock_api_rw.specs.Holds.{Tried};
 
 use crate::mutex::Mutex;
 use lock_api_guards::ArcGuard;
@@ -26,6 +27,7 @@ where
         party: &mut R::Party,
     ) -> Result<ArcMutexGuard<R, T, A>, NoMemory>
         ensures lock { IfOk result (λ guard. arc_value guard.hold.place ≡ arc_value this.now) }
+        ensures call { IfOk result (λ guard. R.locked guard.hold.token) }
         ensures refused { OnErr result (party.new ≡ party.old) }
     {
         Ok(ArcGuard::over(RawHold::wait_by_clone(this, party)?))
@@ -35,7 +37,9 @@ where
     pub fn try_lock_arc<A: Allocator>(
         this: &Arc<Mutex<R, T>, A>,
     ) -> Result<Option<ArcMutexGuard<R, T, A>>, NoMemory>
-        ensures { IfOk result (λ some. IfSome some (λ guard. arc_value guard.hold.place ≡ arc_value this.now)) }
+        ensures lock { IfOk result (λ some. IfSome some (λ guard. arc_value guard.hold.place ≡ arc_value this.now)) }
+        ensures call { IfOk result
+            (λ some. Tried (R.tried (arc_value this.now)) some (λ guard. guard.hold.token)) }
     {
         Ok(ArcGuard::if_held(RawHold::at_once_by_clone(this)?))
     }
@@ -51,6 +55,7 @@ where
         R: RawMutexTimed,
         R::Duration: Drop,
         ensures lock { IfOk result (λ some. IfSome some (λ guard. arc_value guard.hold.place ≡ arc_value this.now)) }
+        ensures call { IfOk result (λ some. Tried R.locked_in_time some (λ guard. guard.hold.token)) }
         ensures refused { OnErr result (party.new ≡ party.old) }
     {
         let found = RawHold::wait_by_clone_for(this, timeout, clock, party)?;
@@ -68,6 +73,7 @@ where
         R: RawMutexTimed,
         R::Instant: Drop,
         ensures lock { IfOk result (λ some. IfSome some (λ guard. arc_value guard.hold.place ≡ arc_value this.now)) }
+        ensures call { IfOk result (λ some. Tried R.locked_in_time some (λ guard. guard.hold.token)) }
         ensures refused { OnErr result (party.new ≡ party.old) }
     {
         let found = RawHold::wait_by_clone_until(this, deadline, clock, party)?;

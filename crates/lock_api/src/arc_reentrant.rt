@@ -2,7 +2,7 @@
 ghost use Rattle.std.specs.Prelude.{◌≡◌, IfSome, IfOk, OnErr};
 ghost use Rattle.std.specs.Arc.{arc_value};
 ghost use Rattle.std.specs.Fn.{FnOnceReturnsAt};
-ghost use Rattle.lock_api.specs.Leaves.{EndedFairly, BumpedAlone};
+ghost use Rattle.lock_api.specs.Leaves.{BumpedAlone, EndedBy, Entered, EnteredIf};
 
 use crate::arc_fault::ReentrantArcFault;
 use crate::reentrant::ReentrantMutex;
@@ -59,6 +59,7 @@ where
         party: &mut R::Party,
     ) -> Result<ArcReentrantMutexGuard<R, G, T, A>, ReentrantArcFault>
         ensures lock { IfOk result (λ guard. guard.hold.lock ≡ arc_value this.now) }
+        ensures call { IfOk result (λ _. Entered party.old R.locked) }
         ensures refused { OnErr result (party.new ≡ party.old) }
     {
         let lock = Arc::try_clone(this)?;
@@ -73,7 +74,8 @@ where
         this: &Arc<ReentrantMutex<R, G, T>, A>,
         party: &R::Party,
     ) -> Result<Option<ArcReentrantMutexGuard<R, G, T, A>>, ReentrantArcFault>
-        ensures { IfOk result (λ some. IfSome some (λ guard. guard.hold.lock ≡ arc_value this.now)) }
+        ensures lock { IfOk result (λ some. IfSome some (λ guard. guard.hold.lock ≡ arc_value this.now)) }
+        ensures call { IfOk result (EnteredIf party.now (R.tried (arc_value this.now).raw)) }
     {
         let lock = Arc::try_clone(this)?;
         match lock.raw.try_lock(party)? {
@@ -95,6 +97,7 @@ where
         R: RawMutexTimed,
         R::Duration: Drop,
         ensures lock { IfOk result (λ some. IfSome some (λ guard. guard.hold.lock ≡ arc_value this.now)) }
+        ensures call { IfOk result (EnteredIf party.old R.locked_in_time) }
         ensures refused { OnErr result (party.new ≡ party.old) }
     {
         let lock = Arc::try_clone(this)?;
@@ -117,6 +120,7 @@ where
         R: RawMutexTimed,
         R::Instant: Drop,
         ensures lock { IfOk result (λ some. IfSome some (λ guard. guard.hold.lock ≡ arc_value this.now)) }
+        ensures call { IfOk result (EnteredIf party.old R.locked_in_time) }
         ensures refused { OnErr result (party.new ≡ party.old) }
     {
         let lock = Arc::try_clone(this)?;
@@ -145,6 +149,10 @@ where
     ghost lock_of = { λ hold. hold.lock };
 
     ghost apart_of = { λ lock. arc_value lock };
+
+    ghost waited = { λ _. (asked : R.Party) × Entered asked R.locked };
+
+    ghost released = { λ _ _. EndedBy R.unlocked };
 
     fn lock(&self) -> &ReentrantMutex<R, G, T> {
         &*self.lock
@@ -194,7 +202,7 @@ impl<
 where
     R::Runtime: Wait,
 {
-    ghost left_fairly = { λ _ _. EndedFairly R.spent_fairly };
+    ghost left_fairly = { λ _ _. EndedBy R.spent_fairly };
 
     ghost bumped = { λ _ _. BumpedAlone R.bumped };
 

@@ -1,6 +1,7 @@
 //! The mutex.
-ghost use Rattle.std.specs.Prelude.{◌≡◌, None, Some, IfSome, IfOk, MatchOption};
+ghost use Rattle.std.specs.Prelude.{◌≡◌, None, Some, IfNone, IfSome, IfOk, MatchOption};
 ghost use Rattle.lock_api_raw.specs.Limits.{kept_limit};
+ghost use Rattle.lock_api_rw.specs.Holds.{IsValueTaken, TriedWithValue};
 
 use lock_api_guards::{Guard, HasValue, HasValueMut, Mapped, lent, lent_mut};
 use lock_api_raw::{MakeLock, RawMutex, RawMutexTimed, TableFull};
@@ -46,7 +47,11 @@ pub type MappedMutexGuard<'l, R, T, P> = Mapped<
 >;
 
 impl<R: RawMutex, T> Mutex<R, T> {
-    /// Makes an unlocked mutex. A refusal drops the value.
+    /// Makes an unlocked mutex. `TableFull` where the table has no row left: it takes one. A refusal drops the value.
+    ///
+    /// ```text
+    /// let total = Mutex::new(&table, 0)?;
+    /// ```
     pub fn new<S>(source: S, value: T) -> Result<Mutex<R, T>, TableFull>
     where
         R: MakeLock<S>,
@@ -77,7 +82,7 @@ impl<R: RawMutex, T> Mutex<R, T> {
         }
     }
 
-    /// The value.
+    /// The value. That the mutex is owned shows that nobody holds it. Its row stays used.
     pub fn into_inner(self) -> T
     where
         R: Drop,
@@ -94,7 +99,11 @@ impl<R: RawMutex, T> Mutex<R, T> {
         (raw, value.into_inner())
     }
 
-    /// Lends the value. The exclusive borrow shows that nobody holds the mutex.
+    /// Lends the value, without a lock. The exclusive borrow shows that nobody holds the mutex.
+    ///
+    /// ```text
+    /// *total.get_mut() = 0;
+    /// ```
     pub fn get_mut(&mut self) -> &mut T {
         self.value.get_mut()
     }
@@ -112,9 +121,19 @@ where
     R::Runtime: Wait,
 {
     /// Waits for the raw mutex, then for the std lock, and gives the guard.
+    ///
+    /// Blocks while another has the mutex. The guard doesn't keep the borrow of `party`, so a second lock may be taken
+    /// beside it; a thread that locks a mutex which it has waits for itself for ever.
+    ///
+    /// ```text
+    /// let mut sum = total.lock(&mut me);
+    /// *sum = sum.wrapping_add(1);
+    /// drop(sum); // or at the end of its block
+    /// ```
     #[inline(always)]
     pub fn lock(&self, party: &mut R::Party) -> MutexGuard<'_, R, T>
-        ensures { result.held.0.place.now ≡ self.now }
+        ensures lock { result.held.0.place.now ≡ self.now }
+        ensures call { R.locked result.held.0.token }
     {
         let token = self.raw.lock(party);
         let hold = RawHold::new(self, token);
@@ -140,16 +159,37 @@ where
         self.value.lock(self.raw.runtime())
     }
 
+    /// The std lock of the value, if that can be had at once.
+    #[inline(always)]
+    fn value_at_once(&self) -> Option<sync::MutexGuard<'_, T>>
+        ensures { IfNone result (IsValueTaken self.now) }
+    {
+        match self.value.try_lock() {
+            Some(inner) => Some(inner),
+            None => None,
+        }
+    }
+
     /// A guard at once, or None. It takes the std lock by its own try first and waits for nobody.
+    ///
+    /// ```text
+    /// if let Some(sum) = total.try_lock() { .. }
+    /// ```
     #[inline(always)]
     pub fn try_lock(&self) -> Option<MutexGuard<'_, R, T>>
-        ensures { IfSome result (λ guard. guard.held.0.place.now ≡ self.now) }
+        ensures lock { IfSome result (λ guard. guard.held.0.place.now ≡ self.now) }
+        ensures call { TriedWithValue self.now (R.tried self.now) result (λ guard. guard.held.0.token) }
     {
-        let inner = self.value.try_lock()?;
+        let inner = self.value_at_once()?;
         Some(Guard::over(RawHold::at_once(self)?, inner))
     }
 
-    /// As `lock`, but None if the wait for the raw mutex is given up after the length of time.
+    /// As `lock`, but None if the wait for the raw mutex is given up after the length of time. A free mutex is had
+    /// whatever the time; a deadline is looked at where the call sleeps.
+    ///
+    /// ```text
+    /// let Some(sum) = total.try_lock_for(Duration::from_millis(5), &rt, &mut me) else { return false };
+    /// ```
     pub fn try_lock_for<C: Clock>(
         &self,
         timeout: R::Duration,
@@ -166,7 +206,11 @@ where
         Some(Guard::under(hold))
     }
 
-    /// As `lock`, but None if the wait for the raw mutex is given up at the moment.
+    /// As `try_lock_for`, but until a moment.
+    ///
+    /// ```text
+    /// let sum = total.try_lock_until(deadline, &rt, &mut me);
+    /// ```
     pub fn try_lock_until<C: Clock>(
         &self,
         deadline: R::Instant,

@@ -1,7 +1,8 @@
 //! A raw mutex that its owner may take again.
-ghost use Rattle.std.specs.Prelude.{◌≡◌, ◌-◌, ◌^◌, IfSome, IfOk, OnErr};
+ghost use Rattle.std.specs.Prelude.{◌≡◌, ◌-◌, ◌^◌, ◌<◌, IfSome, IfOk, OnErr, Some, true};
 ghost use Rattle.lock_api_raw.specs.Limits.{kept_limit};
-ghost use Rattle.lock_api.specs.Leaves.{Left, LeftAlone, EndedFairly, BumpedAlone};
+ghost use Rattle.lock_api.specs.Leaves.{BumpedAlone, EndedBy, Entered, EnteredIf, IsNested};
+ghost use Rattle.lock_api.specs.Leaves.{IsOwner, Left, WasNested, WasPutIn, WasTakenOut};
 
 use counted_slot::{Claim, Counted, FREE, Fits, TAKEN};
 use lock_api_raw::{
@@ -134,9 +135,11 @@ where
         &self.raw
     }
 
-    /// Adds one to the count, if the limit allows it.
-    fn nest(&self) -> Result<GuardNoSend, ReadersFull>
-        ensures { IfOk result (λ token. token ≡ self.now.number) }
+    /// Adds one to the count of the owner's holds, if the limit allows it.
+    fn nest(&self, _owner: &R::Party) -> Result<GuardNoSend, ReadersFull>
+        requires { IsOwner _owner.now }
+        ensures token { IfOk result (λ token. token ≡ self.now.number) }
+        ensures nested { IfOk result (λ _. WasNested _owner.now) }
     {
         let depth = self.depth.load(Ordering::SeqCst);
         if depth < self.limit {
@@ -148,7 +151,9 @@ where
     }
 
     /// Whether the party holds it. Nobody else changes that answer.
-    pub fn is_owned_by_current_thread(&self, party: &R::Party) -> bool {
+    pub fn is_owned_by_current_thread(&self, party: &R::Party) -> bool
+        ensures { result ≡ true → IsOwner party.now }
+    {
         self.owner.load(Ordering::SeqCst) == self.get_thread_id.nonzero_thread_id(party).get()
     }
 
@@ -184,7 +189,8 @@ where
     #[inline(always)]
     fn begin(&self, token: R::Guard, party: &R::Party) -> GuardNoSend
         requires { R.issued_by token ≡ R.number self.now.raw }
-        ensures { result ≡ self.now.number }
+        ensures token { result ≡ self.now.number }
+        ensures begun { WasPutIn token }
     {
         if let Some(kept) = self.claim().put(Some(Kept { token }), FREE) {
             let Kept { token } = kept;
@@ -196,14 +202,23 @@ where
         GuardNoSend::new(&self.number)
     }
 
+    /// The count, if it is more than 1.
+    #[inline(always)]
+    fn depth_of_many(&self) -> Option<u64>
+        ensures more { IfSome result (λ depth. 1 < depth) }
+        ensures nested { IfSome result (λ _. IsNested) }
+    {
+        let depth = self.depth.load(Ordering::SeqCst);
+        if depth > 1 { Some(depth) } else { None }
+    }
+
     /// Takes one from the count, and with the last the raw token.
     #[inline(always)]
     fn leave(&self) -> Option<R::Guard>
         ensures issued { IfSome result (λ token. R.issued_by token ≡ R.number self.now.raw) }
         ensures left { Left result }
     {
-        let depth = self.depth.load(Ordering::SeqCst);
-        if depth > 1 {
+        if let Some(depth) = self.depth_of_many() {
             self.depth.store(depth - 1, Ordering::SeqCst);
             return None;
         }
@@ -213,9 +228,9 @@ where
     /// The raw token, with the count at 0, if the hold is the only one. Where it isn't, nothing changes.
     fn leave_alone(&self) -> Option<R::Guard>
         ensures issued { IfSome result (λ token. R.issued_by token ≡ R.number self.now.raw) }
-        ensures left { LeftAlone result }
+        ensures left { Left result }
     {
-        if self.depth.load(Ordering::SeqCst) > 1 {
+        if self.depth_of_many().is_some() {
             return None;
         }
         self.leave_last()
@@ -223,7 +238,8 @@ where
 
     /// The raw token, with the count at 0.
     fn leave_last(&self) -> Option<R::Guard>
-        ensures { IfSome result (λ token. R.issued_by token ≡ R.number self.now.raw) }
+        ensures issued { IfSome result (λ token. R.issued_by token ≡ R.number self.now.raw) }
+        ensures taken { WasTakenOut result }
     {
         self.owner.store(0, Ordering::SeqCst);
         self.depth.store(0, Ordering::SeqCst);
@@ -241,10 +257,11 @@ where
     #[inline(always)]
     pub fn lock(&self, party: &mut R::Party) -> Result<GuardNoSend, ReadersFull>
         ensures lock { IfOk result (λ token. token ≡ self.now.number) }
+        ensures call { IfOk result (λ _. Entered party.old R.locked) }
         ensures refused { OnErr result (party.new ≡ party.old) }
     {
         if self.is_owned_by_current_thread(party) {
-            return self.nest();
+            return self.nest(party);
         }
         let token = self.raw.lock(party);
         Ok(self.begin(token, party))
@@ -252,10 +269,11 @@ where
 
     /// As `lock`, but `Ok(None)` where another party holds it.
     pub fn try_lock(&self, party: &R::Party) -> Result<Option<GuardNoSend>, ReadersFull>
-        ensures { IfOk result (λ some. IfSome some (λ token. token ≡ self.now.number)) }
+        ensures lock { IfOk result (λ some. IfSome some (λ token. token ≡ self.now.number)) }
+        ensures call { IfOk result (EnteredIf party.now (R.tried self.now.raw)) }
     {
         if self.is_owned_by_current_thread(party) {
-            return Ok(Some(self.nest()?));
+            return Ok(Some(self.nest(party)?));
         }
         match self.raw.try_lock() {
             Some(token) => Ok(Some(self.begin(token, party))),
@@ -267,6 +285,7 @@ where
     #[inline(always)]
     pub fn unlock(&self, guard: GuardNoSend)
         requires { guard ≡ self.now.number }
+        ensures { EndedBy R.unlocked }
     {
         guard.spend();
         if let Some(token) = self.leave() {
@@ -279,7 +298,7 @@ where
     where
         R: RawMutexFair,
         requires { guard ≡ self.now.number }
-        ensures { EndedFairly R.spent_fairly }
+        ensures { EndedBy R.spent_fairly }
     {
         guard.spend();
         if let Some(token) = self.leave() {
@@ -316,10 +335,11 @@ where
         R: RawMutexTimed,
         R::Duration: Drop,
         ensures lock { IfOk result (λ some. IfSome some (λ token. token ≡ self.now.number)) }
+        ensures call { IfOk result (EnteredIf party.old R.locked_in_time) }
         ensures refused { OnErr result (party.new ≡ party.old) }
     {
         if self.is_owned_by_current_thread(party) {
-            return Ok(Some(self.nest()?));
+            return Ok(Some(self.nest(party)?));
         }
         match self.raw.try_lock_for(timeout, clock, party) {
             Some(token) => Ok(Some(self.begin(token, party))),
@@ -338,10 +358,11 @@ where
         R: RawMutexTimed,
         R::Instant: Drop,
         ensures lock { IfOk result (λ some. IfSome some (λ token. token ≡ self.now.number)) }
+        ensures call { IfOk result (EnteredIf party.old R.locked_in_time) }
         ensures refused { OnErr result (party.new ≡ party.old) }
     {
         if self.is_owned_by_current_thread(party) {
-            return Ok(Some(self.nest()?));
+            return Ok(Some(self.nest(party)?));
         }
         match self.raw.try_lock_until(deadline, clock, party) {
             Some(token) => Ok(Some(self.begin(token, party))),

@@ -1,7 +1,8 @@
 //! The reentrant mutex, and the hold that its guards keep.
-ghost use Rattle.std.specs.Prelude.{◌≡◌, ◌-◌, ◌^◌, IfSome, IfOk, OnErr};
+ghost use Rattle.std.specs.Prelude.{◌≡◌, ◌-◌, ◌^◌, ◌⊎◌, IfNone, IfSome, IfOk, MatchOption, OnErr, None, Some};
 ghost use Rattle.lock_api_raw.specs.Limits.{kept_limit};
-ghost use Rattle.lock_api.specs.Leaves.{EndedFairly, BumpedAlone};
+ghost use Rattle.lock_api_rw.specs.Holds.{IsValueTaken};
+ghost use Rattle.lock_api.specs.Leaves.{BumpedAlone, EndedBy, Entered, EnteredIf};
 
 use crate::raw_reentrant::RawReentrantMutex;
 use lock_api_guards::{Access, FairHold, Guard, Hold, Mapped, ReentrantHold};
@@ -82,8 +83,12 @@ impl<R: RawMutex + Drop, G: GetThreadId<Party = R::Party> + Drop, T> ReentrantMu
 where
     R::Runtime: Wait,
 {
-    /// Makes an unlocked one, which keeps `readers` as its limit of nested holds, where 0 counts as 1. A refusal drops
-    /// the value.
+    /// Makes an unlocked one, which keeps `readers` as its limit of nested holds, where 0 counts as 1. `TableFull`
+    /// where the table has no row left: it takes one. A refusal drops the value.
+    ///
+    /// ```text
+    /// let canvas = ReentrantMutex::new(&table, 8, AtomicU64::new(0))?; // at most 8 holds at a time
+    /// ```
     pub fn new<S>(source: S, readers: u64, value: T) -> Result<ReentrantMutex<R, G, T>, TableFull>
     where
         R: MakeLock<S>,
@@ -149,17 +154,30 @@ where
     }
 
     /// Whether the party holds it.
+    ///
+    /// ```text
+    /// if !canvas.is_owned_by_current_thread(&me) { .. }
+    /// ```
     pub fn is_owned_by_current_thread(&self, party: &R::Party) -> bool {
         self.raw.is_owned_by_current_thread(party)
     }
 
-    /// Waits for the raw mutex, unless the party is the owner already. A full count refuses, with nothing changed.
+    /// Waits for the raw mutex, unless the party is the owner already. `ReadersFull` at a full count, with nothing
+    /// changed.
+    ///
+    /// Blocks while another has it, and never for a hold of its own. Its guard only reads: what changes is an atomic.
+    ///
+    /// ```text
+    /// let outer = canvas.lock(&mut me)?;
+    /// let inner = canvas.lock(&mut me)?; // the same owner
+    /// ```
     #[inline(always)]
     pub fn lock(
         &self,
         party: &mut R::Party,
     ) -> Result<ReentrantMutexGuard<'_, R, G, T>, ReadersFull>
         ensures lock { IfOk result (λ guard. guard.held.0.lock ≡ self.now) }
+        ensures call { IfOk result (λ _. Entered party.old R.locked) }
         ensures refused { OnErr result (party.new ≡ party.old) }
     {
         let token = self.raw.lock(party)?;
@@ -182,15 +200,31 @@ where
         }
     }
 
+    /// The std lock of the value, if that can be had at once.
+    fn value_at_once(&self) -> Option<sync::RwLockReadGuard<'_, T>>
+        ensures { IfNone result (IsValueTaken self.now) }
+    {
+        match self.value.try_read() {
+            Some(inner) => Some(inner),
+            None => None,
+        }
+    }
+
     /// A guard at once, or `Ok(None)` where another party holds it. It takes the std lock by its own try first and
-    /// waits for nobody. A full count refuses, with nothing changed.
+    /// waits for nobody. `ReadersFull` at a full count, with nothing changed.
+    ///
+    /// ```text
+    /// if let Some(canvas) = canvas.try_lock(&me)? { .. }
+    /// ```
     pub fn try_lock(
         &self,
         party: &R::Party,
     ) -> Result<Option<ReentrantMutexGuard<'_, R, G, T>>, ReadersFull>
-        ensures { IfOk result (λ some. IfSome some (λ guard. guard.held.0.lock ≡ self.now)) }
+        ensures lock { IfOk result (λ some. IfSome some (λ guard. guard.held.0.lock ≡ self.now)) }
+        ensures call { IfOk result (λ some. MatchOption some (IsValueTaken self.now ⊎ R.tried self.now.raw None)
+            (λ _. Entered party.now (λ token. R.tried self.now.raw (Some token)))) }
     {
-        let Some(inner) = self.value.try_read() else {
+        let Some(inner) = self.value_at_once() else {
             return Ok(None);
         };
         match self.raw.try_lock(party)? {
@@ -210,6 +244,7 @@ where
         R: RawMutexTimed,
         R::Duration: Drop,
         ensures lock { IfOk result (λ some. IfSome some (λ guard. guard.held.0.lock ≡ self.now)) }
+        ensures call { IfOk result (EnteredIf party.old R.locked_in_time) }
         ensures refused { OnErr result (party.new ≡ party.old) }
     {
         match self.raw.try_lock_for(timeout, clock, party)? {
@@ -229,6 +264,7 @@ where
         R: RawMutexTimed,
         R::Instant: Drop,
         ensures lock { IfOk result (λ some. IfSome some (λ guard. guard.held.0.lock ≡ self.now)) }
+        ensures call { IfOk result (EnteredIf party.old R.locked_in_time) }
         ensures refused { OnErr result (party.new ≡ party.old) }
     {
         match self.raw.try_lock_until(deadline, clock, party)? {
@@ -239,7 +275,8 @@ where
 
     /// Waits for a hold. At a full count it yields and tries again until there is room.
     pub(crate) fn hold_again(&self, party: &mut R::Party) -> GuardNoSend
-        ensures { result ≡ self.now.number }
+        ensures token { result ≡ self.now.number }
+        ensures call { (asked : R.Party) × Entered asked R.locked }
     {
         for _ in self.raw.raw().runtime().forever() {
             match self.raw.lock(party) {
@@ -267,6 +304,10 @@ where
     ghost lock_of = { λ hold. hold.lock };
 
     ghost apart_of = { λ lock. lock.now };
+
+    ghost waited = { λ _. (asked : R.Party) × Entered asked R.locked };
+
+    ghost released = { λ _ _. EndedBy R.unlocked };
 
     fn lock(&self) -> &ReentrantMutex<R, G, T> {
         self.lock
@@ -311,7 +352,7 @@ impl<'l, R: RawMutexFair + Drop, G: GetThreadId<Party = R::Party> + Drop, T> Fai
 where
     R::Runtime: Wait,
 {
-    ghost left_fairly = { λ _ _. EndedFairly R.spent_fairly };
+    ghost left_fairly = { λ _ _. EndedBy R.spent_fairly };
 
     ghost bumped = { λ _ _. BumpedAlone R.bumped };
 

@@ -61,7 +61,8 @@ where
 
     /// Releases the lock and gives the Arc that the guard held.
     pub fn into_arc(s: ArcGuard<H>) -> H::Apart
-        ensures { H.apart_of result ≡ H.lock_of s.hold }
+        ensures lock { H.apart_of result ≡ H.lock_of s.hold }
+        ensures call { H.released s.hold result }
     {
         let ArcGuard { hold } = s;
         hold.release()
@@ -76,6 +77,7 @@ where
         ensures answer { F.post f result }
         ensures released { WasReleased H.apart_of (H.lock_of s.old.hold) }
         ensures lock { H.lock_of s.new.hold ≡ H.lock_of s.old.hold }
+        ensures again { H.waited s.new.hold }
     {
         mem::replace_with(
             s,

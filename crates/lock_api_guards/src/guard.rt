@@ -101,6 +101,7 @@ where
         ensures answer { F.post f result }
         ensures released { WasReleased H.apart_of (H.lock_of s.old.held.0) }
         ensures lock { H.lock_of s.new.held.0 ≡ H.lock_of s.old.held.0 }
+        ensures again { H.waited s.new.held.0 }
     {
         mem::replace_with(
             s,

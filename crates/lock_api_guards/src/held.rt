@@ -28,6 +28,12 @@ pub trait Hold {
     /// The lock that what is left of a hold belongs to.
     ghost apart_of: { Self.Apart → Self.Lock };
 
+    /// That a wait gave the hold. Where the hold is of any type, a wait alone gives it.
+    ghost waited: { Self → Type 0 } = { λ _. ⊤ };
+
+    /// That a plain release of the hold left this. Where the hold is of any type, such a release alone gives it.
+    ghost released: { Self → Self.Apart → Type 0 } = { λ _ _. ⊤ };
+
     /// Lends the lock.
     fn lock(&self) -> &Self::Lock
         ensures { result.now ≡ lock_of self.now };
@@ -36,13 +42,15 @@ pub trait Hold {
     fn release(self) -> Self::Apart
     where
         Self::Runtime: Wait,
-        ensures { apart_of result ≡ lock_of self };
+        ensures lock { apart_of result ≡ lock_of self }
+        ensures call { released self result };
 
     /// Waits for a hold of the same mode on the same lock.
     fn again(apart: Self::Apart, party: &mut Self::Party) -> Self
     where
         Self::Runtime: Wait,
-        ensures { lock_of result ≡ apart_of apart };
+        ensures lock { lock_of result ≡ apart_of apart }
+        ensures call { waited result };
 }
 
 /// A hold whose release can be fair. For the layer above.

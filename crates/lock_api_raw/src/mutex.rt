@@ -36,6 +36,9 @@ pub trait RawMutex {
     /// That a blocking call gave the token. Of a raw mutex of any type such a call alone gives it.
     ghost locked: { Self.Guard → Type 0 } = { λ _. ⊤ };
 
+    /// That a try answered so. Of a raw mutex of any type a try alone gives it.
+    ghost tried: { Self → Option Self.Guard → Type 0 } = { λ _ _. ⊤ };
+
     /// That a plain release spent the token. Of a raw mutex of any type a plain release alone gives it.
     ghost unlocked: { Self.Guard → Type 0 } = { λ _. ⊤ };
 
@@ -55,7 +58,8 @@ pub trait RawMutex {
 
     /// A token if the lock can be had at once. It waits for nobody.
     fn try_lock(&self) -> Option<Self::Guard>
-        ensures { IfSome result (λ token. issued_by token ≡ number self.now) };
+        ensures issued { IfSome result (λ token. issued_by token ≡ number self.now) }
+        ensures call { tried self.now result };
 
     /// Gives the lock up. It may wait for the short sections in which sleeping threads are woken.
     fn unlock(&self, guard: Self::Guard)

@@ -45,6 +45,12 @@ pub trait RawRwLock {
     /// That a blocking call gave the exclusive token. Of a raw lock of any type such a call alone gives it.
     ghost exclusive_locked: { Self.ExclusiveGuard → Type 0 } = { λ _. ⊤ };
 
+    /// That a try for a shared hold answered so. Of a raw lock of any type such a try alone gives it.
+    ghost shared_tried: { Self → Option Self.SharedGuard → Type 0 } = { λ _ _. ⊤ };
+
+    /// That a try for an exclusive hold answered so. Of a raw lock of any type such a try alone gives it.
+    ghost exclusive_tried: { Self → Option Self.ExclusiveGuard → Type 0 } = { λ _ _. ⊤ };
+
     /// That a plain release spent the shared token. Of a raw lock of any type such a release alone gives it.
     ghost shared_unlocked: { Self.SharedGuard → Type 0 } = { λ _. ⊤ };
 
@@ -70,7 +76,8 @@ pub trait RawRwLock {
 
     /// A shared hold at once, or None, at a full count too. It waits for nobody.
     fn try_lock_shared(&self) -> Option<Self::SharedGuard>
-        ensures { IfSome result (λ token. shared_by token ≡ number self.now) };
+        ensures issued { IfSome result (λ token. shared_by token ≡ number self.now) }
+        ensures call { shared_tried self.now result };
 
     /// Gives a shared hold up. It may wait for the short sections in which sleeping threads are woken.
     fn unlock_shared(&self, guard: Self::SharedGuard)
@@ -88,7 +95,8 @@ pub trait RawRwLock {
 
     /// An exclusive hold at once, or None. It waits for nobody.
     fn try_lock_exclusive(&self) -> Option<Self::ExclusiveGuard>
-        ensures { IfSome result (λ token. exclusive_by token ≡ number self.now) };
+        ensures issued { IfSome result (λ token. exclusive_by token ≡ number self.now) }
+        ensures call { exclusive_tried self.now result };
 
     /// Gives the exclusive hold up. It may wait for the short sections in which sleeping threads are woken.
     fn unlock_exclusive(&self, guard: Self::ExclusiveGuard)
@@ -248,6 +256,9 @@ pub trait RawRwLockUpgrade: RawRwLock {
     /// That a blocking call gave the upgradable token. Of a raw lock of any type such a call alone gives it.
     ghost upgradable_locked: { Self.UpgradableGuard → Type 0 } = { λ _. ⊤ };
 
+    /// That a try for an upgradable hold answered so. Of a raw lock of any type such a try alone gives it.
+    ghost upgradable_tried: { Self → Option Self.UpgradableGuard → Type 0 } = { λ _ _. ⊤ };
+
     /// That a plain release spent the upgradable token. Of a raw lock of any type such a release alone gives it.
     ghost upgradable_unlocked: { Self.UpgradableGuard → Type 0 } = { λ _. ⊤ };
 
@@ -267,7 +278,8 @@ pub trait RawRwLockUpgrade: RawRwLock {
 
     /// An upgradable hold at once, or None. It waits for nobody.
     fn try_lock_upgradable(&self) -> Option<Self::UpgradableGuard>
-        ensures { IfSome result (λ token. upgradable_by token ≡ Self.number self.now) };
+        ensures issued { IfSome result (λ token. upgradable_by token ≡ Self.number self.now) }
+        ensures call { upgradable_tried self.now result };
 
     /// Gives the upgradable hold up.
     fn unlock_upgradable(&self, guard: Self::UpgradableGuard)

@@ -1,6 +1,7 @@
 //! The Arc forms of the reader-writer lock.
 ghost use Rattle.std.specs.Prelude.{◌≡◌, IfOk, IfSome, OnErr};
 ghost use Rattle.std.specs.Arc.{arc_value};
+ghost use Rattle.lock_api_rw.specs.Holds.{Tried};
 
 use crate::mode::{Exclusive, Shared, Upgradable};
 use crate::raw_hold::RawHold;
@@ -32,6 +33,7 @@ where
         party: &mut R::Party,
     ) -> Result<ArcRwLockReadGuard<R, T, A>, NoMemory>
         ensures lock { IfOk result (λ guard. arc_value guard.hold.place ≡ arc_value this.now) }
+        ensures call { IfOk result (λ guard. R.shared_locked guard.hold.token) }
         ensures refused { OnErr result (party.new ≡ party.old) }
     {
         Ok(ArcGuard::over(RawHold::wait_by_clone(this, party)?))
@@ -41,7 +43,9 @@ where
     pub fn try_read_arc<A: Allocator>(
         this: &Arc<RwLock<R, T>, A>,
     ) -> Result<Option<ArcRwLockReadGuard<R, T, A>>, NoMemory>
-        ensures { IfOk result (λ found. IfSome found (λ guard. arc_value guard.hold.place ≡ arc_value this.now)) }
+        ensures lock { IfOk result (λ found. IfSome found (λ guard. arc_value guard.hold.place ≡ arc_value this.now)) }
+        ensures call { IfOk result
+            (λ found. Tried (R.shared_tried (arc_value this.now)) found (λ guard. guard.hold.token)) }
     {
         Ok(ArcGuard::if_held(RawHold::at_once_by_clone(this)?))
     }
@@ -52,6 +56,7 @@ where
         party: &mut R::Party,
     ) -> Result<ArcRwLockWriteGuard<R, T, A>, NoMemory>
         ensures lock { IfOk result (λ guard. arc_value guard.hold.place ≡ arc_value this.now) }
+        ensures call { IfOk result (λ guard. R.exclusive_locked guard.hold.token) }
         ensures refused { OnErr result (party.new ≡ party.old) }
     {
         Ok(ArcGuard::over(RawHold::wait_by_clone(this, party)?))
@@ -61,7 +66,9 @@ where
     pub fn try_write_arc<A: Allocator>(
         this: &Arc<RwLock<R, T>, A>,
     ) -> Result<Option<ArcRwLockWriteGuard<R, T, A>>, NoMemory>
-        ensures { IfOk result (λ found. IfSome found (λ guard. arc_value guard.hold.place ≡ arc_value this.now)) }
+        ensures lock { IfOk result (λ found. IfSome found (λ guard. arc_value guard.hold.place ≡ arc_value this.now)) }
+        ensures call { IfOk result
+            (λ found. Tried (R.exclusive_tried (arc_value this.now)) found (λ guard. guard.hold.token)) }
     {
         Ok(ArcGuard::if_held(RawHold::at_once_by_clone(this)?))
     }
@@ -82,6 +89,7 @@ where
     where
         R::Duration: Drop,
         ensures lock { IfOk result (λ found. IfSome found (λ guard. arc_value guard.hold.place ≡ arc_value this.now)) }
+        ensures call { IfOk result (λ found. Tried R.shared_locked_in_time found (λ guard. guard.hold.token)) }
         ensures refused { OnErr result (party.new ≡ party.old) }
     {
         let found = RawHold::wait_by_clone_for(this, timeout, clock, party)?;
@@ -98,6 +106,7 @@ where
     where
         R::Instant: Drop,
         ensures lock { IfOk result (λ found. IfSome found (λ guard. arc_value guard.hold.place ≡ arc_value this.now)) }
+        ensures call { IfOk result (λ found. Tried R.shared_locked_in_time found (λ guard. guard.hold.token)) }
         ensures refused { OnErr result (party.new ≡ party.old) }
     {
         let found = RawHold::wait_by_clone_until(this, deadline, clock, party)?;
@@ -115,6 +124,7 @@ where
     where
         R::Duration: Drop,
         ensures lock { IfOk result (λ found. IfSome found (λ guard. arc_value guard.hold.place ≡ arc_value this.now)) }
+        ensures call { IfOk result (λ found. Tried R.exclusive_locked_in_time found (λ guard. guard.hold.token)) }
         ensures refused { OnErr result (party.new ≡ party.old) }
     {
         let found = RawHold::wait_by_clone_for(this, timeout, clock, party)?;
@@ -131,6 +141,7 @@ where
     where
         R::Instant: Drop,
         ensures lock { IfOk result (λ found. IfSome found (λ guard. arc_value guard.hold.place ≡ arc_value this.now)) }
+        ensures call { IfOk result (λ found. Tried R.exclusive_locked_in_time found (λ guard. guard.hold.token)) }
         ensures refused { OnErr result (party.new ≡ party.old) }
     {
         let found = RawHold::wait_by_clone_until(this, deadline, clock, party)?;
@@ -148,6 +159,7 @@ where
         party: &mut R::Party,
     ) -> Result<ArcRwLockUpgradableReadGuard<R, T, A>, NoMemory>
         ensures lock { IfOk result (λ guard. arc_value guard.hold.place ≡ arc_value this.now) }
+        ensures call { IfOk result (λ guard. R.upgradable_locked guard.hold.token) }
         ensures refused { OnErr result (party.new ≡ party.old) }
     {
         Ok(ArcGuard::over(RawHold::wait_by_clone(this, party)?))
@@ -157,7 +169,9 @@ where
     pub fn try_upgradable_read_arc<A: Allocator>(
         this: &Arc<RwLock<R, T>, A>,
     ) -> Result<Option<ArcRwLockUpgradableReadGuard<R, T, A>>, NoMemory>
-        ensures { IfOk result (λ found. IfSome found (λ guard. arc_value guard.hold.place ≡ arc_value this.now)) }
+        ensures lock { IfOk result (λ found. IfSome found (λ guard. arc_value guard.hold.place ≡ arc_value this.now)) }
+        ensures call { IfOk result
+            (λ found. Tried (R.upgradable_tried (arc_value this.now)) found (λ guard. guard.hold.token)) }
     {
         Ok(ArcGuard::if_held(RawHold::at_once_by_clone(this)?))
     }
@@ -178,6 +192,7 @@ where
     where
         R::Duration: Drop,
         ensures lock { IfOk result (λ found. IfSome found (λ guard. arc_value guard.hold.place ≡ arc_value this.now)) }
+        ensures call { IfOk result (λ found. Tried R.upgradable_locked_in_time found (λ guard. guard.hold.token)) }
         ensures refused { OnErr result (party.new ≡ party.old) }
     {
         let found = RawHold::wait_by_clone_for(this, timeout, clock, party)?;
@@ -194,6 +209,7 @@ where
     where
         R::Instant: Drop,
         ensures lock { IfOk result (λ found. IfSome found (λ guard. arc_value guard.hold.place ≡ arc_value this.now)) }
+        ensures call { IfOk result (λ found. Tried R.upgradable_locked_in_time found (λ guard. guard.hold.token)) }
         ensures refused { OnErr result (party.new ≡ party.old) }
     {
         let found = RawHold::wait_by_clone_until(this, deadline, clock, party)?;

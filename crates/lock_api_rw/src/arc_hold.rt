@@ -1,6 +1,7 @@
 //! Holds that own an Arc of their lock. Each is taken by the clone, which is made first.
 ghost use Rattle.std.specs.Prelude.{◌≡◌, IfOk, IfSome, OnErr};
 ghost use Rattle.std.specs.Arc.{arc_value};
+ghost use Rattle.lock_api_rw.specs.Holds.{Tried};
 
 use crate::mode::{Mode, TimedMode};
 use crate::raw_hold::{HasRaw, RawHold};
@@ -18,6 +19,7 @@ impl<L: HasRaw + Drop, A: Allocator, M: Mode<L::Raw>> RawHold<Arc<L, A>, M> {
     where
         M::Runtime: Wait,
         ensures lock { IfOk result (λ hold. arc_value hold.place ≡ arc_value this.now) }
+        ensures call { IfOk result (λ hold. M.locked hold.token) }
         ensures refused { OnErr result (party.new ≡ party.old) }
     {
         Ok(RawHold::wait(Arc::try_clone(this)?, party))
@@ -25,7 +27,9 @@ impl<L: HasRaw + Drop, A: Allocator, M: Mode<L::Raw>> RawHold<Arc<L, A>, M> {
 
     /// Clones the Arc, and then tries. A refused clone takes no lock.
     pub fn at_once_by_clone(this: &Arc<L, A>) -> Result<Option<RawHold<Arc<L, A>, M>>, NoMemory>
-        ensures { IfOk result (λ found. IfSome found (λ hold. arc_value hold.place ≡ arc_value this.now)) }
+        ensures lock { IfOk result (λ found. IfSome found (λ hold. arc_value hold.place ≡ arc_value this.now)) }
+        ensures call { IfOk result
+            (λ found. Tried (M.tried (L.raw_of (arc_value this.now))) found (λ hold. hold.token)) }
     {
         Ok(RawHold::at_once(Arc::try_clone(this)?))
     }
@@ -45,6 +49,7 @@ where
     where
         M::Duration: Drop,
         ensures lock { IfOk result (λ found. IfSome found (λ hold. arc_value hold.place ≡ arc_value this.now)) }
+        ensures call { IfOk result (λ found. Tried M.locked_in_time found (λ hold. hold.token)) }
         ensures refused { OnErr result (party.new ≡ party.old) }
     {
         Ok(RawHold::wait_for(Arc::try_clone(this)?, timeout, clock, party))
@@ -60,6 +65,7 @@ where
     where
         M::Instant: Drop,
         ensures lock { IfOk result (λ found. IfSome found (λ hold. arc_value hold.place ≡ arc_value this.now)) }
+        ensures call { IfOk result (λ found. Tried M.locked_in_time found (λ hold. hold.token)) }
         ensures refused { OnErr result (party.new ≡ party.old) }
     {
         Ok(RawHold::wait_until(Arc::try_clone(this)?, deadline, clock, party))

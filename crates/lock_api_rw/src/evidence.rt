@@ -45,6 +45,15 @@ pub struct Ended<R, P, T> {
     pub(crate) after: Snapshot<T>,
 }
 
+/// That a wait for a hold of the mode `M` was given up. It is there for proofs alone.
+#[derive(Drop)]
+pub struct GaveUp<M, R, P, T> {
+    pub(crate) lock: Snapshot<RwLock<R, T>>,
+    pub(crate) from: Snapshot<P>,
+    pub(crate) to: Snapshot<P>,
+    pub(crate) mode: PhantomData<M>,
+}
+
 /// A raw lock that gives evidence of the holds of a lock round a `T`. Each raw lock of readers and writers is one.
 ///
 /// Where it is a parameter's bound, nothing is known of its members but what its calls ensure, and their receipts come
@@ -71,6 +80,12 @@ pub trait Evidence<T>: RawRwLock {
 
     /// That a try for a shared hold of the lock was refused.
     ghost refused_shared: { Self → Type 0 } = { λ _. ⊤ };
+
+    /// That a wait for an exclusive hold of the lock, which took the party from one to the other, was given up.
+    ghost gave_up_exclusive: { Self → Self.Party → Self.Party → Type 0 } = { λ _ _ _. ⊤ };
+
+    /// That a wait for a shared hold of the lock, which took the party from one to the other, was given up.
+    ghost gave_up_shared: { Self → Self.Party → Self.Party → Type 0 } = { λ _ _ _. ⊤ };
 
     /// Tells of an exclusive hold that has ended.
     fn tell_held(ended: Ended<Self, Self::Party, T>)
@@ -99,6 +114,14 @@ pub trait Evidence<T>: RawRwLock {
     /// Tells that a try for a shared hold was refused.
     fn tell_refused_shared(refused: Refused<Shared, Self, T>)
         ensures { refused_shared refused.lock.value };
+
+    /// Tells that a wait for an exclusive hold was given up.
+    fn tell_gave_up_exclusive(late: GaveUp<Exclusive, Self, Self::Party, T>)
+        ensures { gave_up_exclusive late.lock.value late.from.value late.to.value };
+
+    /// Tells that a wait for a shared hold was given up.
+    fn tell_gave_up_shared(late: GaveUp<Shared, Self, Self::Party, T>)
+        ensures { gave_up_shared late.lock.value late.from.value late.to.value };
 }
 
 impl<R: RawRwLock, T> Evidence<T> for R {
@@ -149,5 +172,19 @@ impl<R: RawRwLock, T> Evidence<T> for R {
         ensures { ⊤ }
     {
         drop(refused);
+    }
+
+    #[inline(always)]
+    fn tell_gave_up_exclusive(late: GaveUp<Exclusive, R, R::Party, T>)
+        ensures { ⊤ }
+    {
+        drop(late);
+    }
+
+    #[inline(always)]
+    fn tell_gave_up_shared(late: GaveUp<Shared, R, R::Party, T>)
+        ensures { ⊤ }
+    {
+        drop(late);
     }
 }

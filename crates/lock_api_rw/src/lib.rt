@@ -13,10 +13,11 @@ mod rwlock;
 mod show;
 mod timed;
 mod traced;
+mod traced_timed;
 mod turns;
 
 pub use arc_forms::{ArcRwLockReadGuard, ArcRwLockUpgradableReadGuard, ArcRwLockWriteGuard};
-pub use evidence::{Ended, Evidence, Found, FoundAtOnce, Refused};
+pub use evidence::{Ended, Evidence, Found, FoundAtOnce, GaveUp, Refused};
 pub use lock_api_guards::{
     Access, ArcGuard, ArcHold, DowngradeHold, DowngradeToUpgradable, FairHold, Guard, HasValue,
     HasValueMut, Held, Hold, Lender, LenderMut, Mapped, MutexHold, ReentrantHold, RestoreHold,
@@ -32,3 +33,4 @@ pub use traced::{
     Traced, TracedWriteGuard, read_shown, try_read_shown, try_write_found, write_found,
     write_traced,
 };
+pub use traced_timed::{read_until_shown, write_until_found, write_until_traced};

@@ -25,21 +25,33 @@ pub trait Mode<R> {
     /// The number of the raw lock that issued a token.
     ghost issued_by: { Self.Token → ℕ };
 
+    /// That a blocking call gave the token. Where the mode is of any type, such a call alone gives it.
+    ghost locked: { Self.Token → Type 0 } = { λ _. ⊤ };
+
+    /// That a try answered so. Where the mode is of any type, a try alone gives it.
+    ghost tried: { R → Option Self.Token → Type 0 } = { λ _ _. ⊤ };
+
+    /// That a plain release spent the token. Where the mode is of any type, such a release alone gives it.
+    ghost unlocked: { Self.Token → Type 0 } = { λ _. ⊤ };
+
     /// Waits for a hold.
     fn lock(raw: &R, party: &mut Self::Party) -> Self::Token
     where
         Self::Runtime: Wait,
-        ensures { issued_by result ≡ number raw.now };
+        ensures issued { issued_by result ≡ number raw.now }
+        ensures call { locked result };
 
     /// A hold at once, or None.
     fn try_lock(raw: &R) -> Option<Self::Token>
-        ensures { IfSome result (λ token. issued_by token ≡ number raw.now) };
+        ensures issued { IfSome result (λ token. issued_by token ≡ number raw.now) }
+        ensures call { tried raw.now result };
 
     /// Gives a hold up.
     fn unlock(raw: &R, token: Self::Token)
     where
         Self::Runtime: Wait,
-        requires { issued_by token ≡ number raw.now };
+        requires { issued_by token ≡ number raw.now }
+        ensures { unlocked token };
 }
 
 /// A mode whose release can be fair. For the layer above.
@@ -132,6 +144,12 @@ impl<R: RawRwLock> Mode<R> for Shared {
 
     ghost issued_by = { λ token. R.shared_by token };
 
+    ghost locked = { λ token. R.shared_locked token };
+
+    ghost tried = { λ raw answer. R.shared_tried raw answer };
+
+    ghost unlocked = { λ token. R.shared_unlocked token };
+
     #[inline(always)]
     fn lock(raw: &R, party: &mut R::Party) -> R::SharedGuard
     where
@@ -216,6 +234,12 @@ impl<R: RawRwLock> Mode<R> for Exclusive {
     ghost number = { λ raw. R.number raw };
 
     ghost issued_by = { λ token. R.exclusive_by token };
+
+    ghost locked = { λ token. R.exclusive_locked token };
+
+    ghost tried = { λ raw answer. R.exclusive_tried raw answer };
+
+    ghost unlocked = { λ token. R.exclusive_unlocked token };
 
     #[inline(always)]
     fn lock(raw: &R, party: &mut R::Party) -> R::ExclusiveGuard
@@ -302,6 +326,12 @@ impl<R: RawRwLockUpgrade> Mode<R> for Upgradable {
 
     ghost issued_by = { λ token. R.upgradable_by token };
 
+    ghost locked = { λ token. R.upgradable_locked token };
+
+    ghost tried = { λ raw answer. R.upgradable_tried raw answer };
+
+    ghost unlocked = { λ token. R.upgradable_unlocked token };
+
     #[inline(always)]
     fn lock(raw: &R, party: &mut R::Party) -> R::UpgradableGuard
     where
@@ -386,6 +416,12 @@ impl<R: RawMutex> Mode<R> for Locked {
     ghost number = { λ raw. R.number raw };
 
     ghost issued_by = { λ token. R.issued_by token };
+
+    ghost locked = { λ token. R.locked token };
+
+    ghost tried = { λ raw answer. R.tried raw answer };
+
+    ghost unlocked = { λ token. R.unlocked token };
 
     #[inline(always)]
     fn lock(raw: &R, party: &mut R::Party) -> R::Guard

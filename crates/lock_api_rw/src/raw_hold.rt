@@ -1,5 +1,6 @@
 //! A hold of any mode, of a lock that is borrowed or owned.
 ghost use Rattle.std.specs.Prelude.{◌≡◌, None, Some, IfSome, MatchOption};
+ghost use Rattle.lock_api_rw.specs.Holds.{Tried};
 
 use crate::mode::{FairMode, Locked, Mode, TimedMode, Writes};
 use lock_api_guards::{Access, ArcHold, FairHold, Hold, MutexHold, WriteHold};
@@ -131,7 +132,8 @@ impl<L: Place, M: Mode<<L::Lock as HasRaw>::Raw>> RawHold<L, M> {
     pub fn wait(place: L, party: &mut M::Party) -> RawHold<L, M>
     where
         M::Runtime: Wait,
-        ensures { result.place ≡ place }
+        ensures place { result.place ≡ place }
+        ensures call { M.locked result.token }
     {
         let token = M::lock(place.lock().raw(), party);
         RawHold::new(place, token)
@@ -142,7 +144,8 @@ impl<L: Place, M: Mode<<L::Lock as HasRaw>::Raw>> RawHold<L, M> {
     pub fn at_once(place: L) -> Option<RawHold<L, M>>
     where
         L: Drop,
-        ensures { IfSome result (λ hold. hold.place ≡ place) }
+        ensures place { IfSome result (λ hold. hold.place ≡ place) }
+        ensures call { Tried (M.tried (L.Lock.raw_of (L.lock_of place))) result (λ hold. hold.token) }
     {
         let token = M::try_lock(place.lock().raw())?;
         Some(RawHold::new(place, token))
@@ -198,6 +201,10 @@ impl<L: Place + Drop, M: Mode<<L::Lock as HasRaw>::Raw>> Hold for RawHold<L, M> 
     ghost lock_of = { λ hold. L.lock_of hold.place };
 
     ghost apart_of = { λ place. L.lock_of place };
+
+    ghost waited = { λ hold. M.locked hold.token };
+
+    ghost released = { λ hold _. M.unlocked hold.token };
 
     #[inline(always)]
     fn lock(&self) -> &L::Lock {

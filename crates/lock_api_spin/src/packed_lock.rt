@@ -1,6 +1,7 @@
 //! A raw reader-writer lock of one atomic word.
-ghost use Rattle.std.specs.Prelude.{◌≡◌, ◌-◌, ◌^◌, IfSome, MatchResult, ⊤, min, max, true};
-ghost use Rattle.lock_api_spin.specs.Turns.{Made};
+ghost use Rattle.std.specs.Prelude.{◌≡◌, ◌-◌, ◌^◌, IfSome, MatchOption, MatchResult, ⊤, min, max, true};
+ghost use Rattle.std.specs.Prelude.{false};
+ghost use Rattle.lock_api_spin.specs.Turns.{Made, Missed};
 ghost use Rattle.lock_api_spin.specs.declared.turn.Turn.TheVariants.{TakeShared, TakeExclusive, TakeUpgradable};
 ghost use Rattle.lock_api_spin.specs.declared.turn.Turn.TheVariants.{GiveShared, GiveExclusive, GiveUpgradable};
 ghost use Rattle.lock_api_spin.specs.declared.turn.Turn.TheVariants.{Upgrade, Downgrade, DowngradeToUpgradable};
@@ -37,7 +38,8 @@ pub struct PackedLock<R: Drop> {
 impl<R: Drop> PackedLock<R> {
     /// Makes the change by an exchange, or answers false where it isn't admitted.
     fn turn(&self, turn: Turn) -> bool
-        ensures { result ≡ true → Made turn }
+        ensures made { result ≡ true → Made turn }
+        ensures missed { result ≡ false → Missed turn }
     {
         let mut word = self.word.load(Ordering::SeqCst);
         for _ in 0..EXCHANGES {
@@ -98,7 +100,7 @@ impl<R: Drop> PackedLock<R> {
     /// A token of this lock for a hold that was taken.
     fn token_if(&self, taken: bool) -> Option<GuardSend>
         ensures issued { IfSome result (λ token. token ≡ self.now.number) }
-        ensures taken { IfSome result (λ _. taken ≡ true) }
+        ensures taken { MatchOption result (taken ≡ false) (λ _. taken ≡ true) }
     {
         if taken { Some(self.token()) } else { None }
     }
@@ -158,6 +160,10 @@ impl<R: Drop> RawRwLock for PackedLock<R> {
     ghost shared_locked = { λ _. Made TakeShared };
 
     ghost exclusive_locked = { λ _. Made TakeExclusive };
+
+    ghost shared_tried = { λ _ answer. MatchOption answer (Missed TakeShared) (λ _. Made TakeShared) };
+
+    ghost exclusive_tried = { λ _ answer. MatchOption answer (Missed TakeExclusive) (λ _. Made TakeExclusive) };
 
     ghost shared_unlocked = { λ _. Made GiveShared };
 
@@ -327,11 +333,13 @@ impl<R: Drop> RawRwLockUpgrade for PackedLock<R> {
 
     ghost upgradable_locked = { λ _. Made TakeUpgradable };
 
+    ghost upgradable_tried = { λ _ answer. MatchOption answer (Missed TakeUpgradable) (λ _. Made TakeUpgradable) };
+
     ghost upgradable_unlocked = { λ _. Made GiveUpgradable };
 
     ghost upgraded = { λ _ _. Made Upgrade };
 
-    ghost upgrade_tried = { λ _ tried. MatchResult tried (λ _. Made Upgrade) (λ _. ⊤) };
+    ghost upgrade_tried = { λ _ tried. MatchResult tried (λ _. Made Upgrade) (λ _. Missed Upgrade) };
 
     fn lock_upgradable(&self, _party: &mut u32) -> GuardSend
     where

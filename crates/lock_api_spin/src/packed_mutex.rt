@@ -1,6 +1,6 @@
 //! A raw mutex of one atomic word.
-ghost use Rattle.std.specs.Prelude.{IfSome};
-ghost use Rattle.lock_api_spin.specs.Turns.{Made};
+ghost use Rattle.std.specs.Prelude.{IfSome, MatchOption};
+ghost use Rattle.lock_api_spin.specs.Turns.{Made, Missed};
 ghost use Rattle.lock_api_spin.specs.declared.turn.Turn.TheVariants.{TakeExclusive, GiveExclusive};
 
 use crate::packed_lock::PackedLock;
@@ -44,6 +44,8 @@ impl<R: Drop> RawMutex for PackedMutex<R> {
     ghost runtime_of = { λ mutex. mutex.lock.rt };
 
     ghost locked = { λ _. Made TakeExclusive };
+
+    ghost tried = { λ _ answer. MatchOption answer (Missed TakeExclusive) (λ _. Made TakeExclusive) };
 
     ghost unlocked = { λ _. Made GiveExclusive };
 

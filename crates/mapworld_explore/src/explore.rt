@@ -28,7 +28,7 @@ fn tell_outcome<R: Print + Eprint + AllocGlobal>(
     println!(rt; "outcome {number}: {}", text.as_str())?;
     println!(rt;
         "  at {} of {ends} ends, the nearest by {} steps:",
-        outcome.ends, outcome.steps
+        outcome.ends, led.steps
     )?;
     println!(rt; "  {}", steps.as_str())
 }
@@ -90,8 +90,10 @@ fn explore_case<R: Print + Eprint + AllocGlobal>(
         }
     };
     if options.is_json() {
-        let text = json_of(rt.alloc(), file, case, &search)?;
-        println!(rt; "{}", text.as_str())?;
+        match json_of(rt.alloc(), file, case, &search) {
+            Ok(text) => println!(rt; "{}", text.as_str())?,
+            Err(fault) => eprintln!(rt; "{fault}")?,
+        }
     } else {
         tell(rt, title.as_str(), case, &search)?;
     }

@@ -1,7 +1,7 @@
 //! What was found of a case, for other programs.
 
 use crate::files::schedule_text;
-use mapworld_explorer::{Outcome, Search};
+use mapworld_explorer::{ExploreFault, Outcome, Search, outcome_behind};
 use mapworld_text::Case;
 use serde_json::{Value, json};
 use std::alloc::{AllocError, Global};
@@ -21,22 +21,24 @@ fn answers_of(alloc: Global, case: &Case<'_>, outcome: &Outcome) -> Result<Value
     Ok(Value::from(answers))
 }
 
-/// An outcome.
+/// An outcome: read off a world that is led anew by the schedule which is told with it.
 fn outcome_of(
     alloc: Global,
     case: &Case<'_>,
     search: &Search<'_, '_>,
     outcome: &Outcome,
-) -> Result<Value, AllocError> {
-    let answers = answers_of(alloc, case, outcome)?;
-    let contents = outcome.contents.as_str();
+) -> Result<Value, ExploreFault> {
+    let schedule = search.schedule(outcome.state)?;
+    let led = outcome_behind(alloc, case, &schedule)?;
+    let answers = answers_of(alloc, case, &led)?;
+    let contents = led.contents.as_str();
     let ends = outcome.ends;
-    let steps = outcome.steps;
-    let schedule = schedule_text(alloc, case, &search.schedule(outcome.state)?)?;
+    let steps = led.steps;
+    let schedule = schedule_text(alloc, case, &schedule)?;
     let schedule = schedule.as_str();
-    json!(in alloc; {
+    Ok(json!(in alloc; {
         "answers": answers, "contents": contents, "ends": ends, "steps": steps, "schedule": schedule
-    })
+    })?)
 }
 
 /// The longest sleep of each thread, in steps.
@@ -54,7 +56,7 @@ pub fn json_of(
     file: &str,
     case: &Case<'_>,
     search: &Search<'_, '_>,
-) -> Result<String, AllocError> {
+) -> Result<String, ExploreFault> {
     let mut outcomes: Vec<Value> = Vec::new(alloc);
     for outcome in &search.outcomes {
         outcomes.push(outcome_of(alloc, case, search, outcome)?)?;
@@ -69,5 +71,5 @@ pub fn json_of(
         "file": file, "case": name, "states": states, "ends": ends, "whole": is_whole, "sleeps": waits,
         "outcomes": outcomes
     })?;
-    found.to_string(alloc)
+    Ok(found.to_string(alloc)?)
 }

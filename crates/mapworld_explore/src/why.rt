@@ -5,7 +5,8 @@ use crate::files::{meant, searched, text_of};
 use crate::picture::page;
 use mapworld::Step;
 use mapworld_explorer::{
-    Course, ExploreFault, Outcome, Search, course_of, is_so, play_once, with_late_starts,
+    Course, ExploreFault, Outcome, Search, course_of, is_so, outcome_behind, play_once,
+    with_late_starts,
 };
 use mapworld_text::{Case, Expected, read, terms};
 use std::alloc::Global;
@@ -100,7 +101,7 @@ fn tell_own<R: Print + Eprint + AllocGlobal>(
     }
 }
 
-/// Tells one schedule to an outcome.
+/// Tells one schedule to an outcome, which is read off the world that this very schedule leads to.
 fn tell<R: Print + Eprint + AllocGlobal>(
     rt: &R,
     form: Form,
@@ -116,9 +117,16 @@ fn tell<R: Print + Eprint + AllocGlobal>(
             return Ok(false);
         }
     };
+    let led = match outcome_behind(rt.alloc(), case, &schedule) {
+        Ok(led) => led,
+        Err(fault) => {
+            eprintln!(rt; "{fault}")?;
+            return Ok(false);
+        }
+    };
     let mut heading = String::new(rt.alloc());
     write!(heading, "outcome {number} of {}: ", search.outcomes.len())?;
-    outcome.write(case, &mut heading)?;
+    led.write(case, &mut heading)?;
     tell_schedule(rt, form, case, heading.as_str(), &schedule)
 }
 

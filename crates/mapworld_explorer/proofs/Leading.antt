@@ -1,5 +1,5 @@
 -- Worlds that are led by schedules.
-use Rattle.std.proofs.Common.{ℕ, Bool, List, Result, Ok, Err, IfOk, sym, subst}
+use Rattle.std.proofs.Common.{ℕ, Bool, List, Result, Ok, Err, IfOk}
 use Rattle.std.specs.Hash.{HashWrites}
 use Rattle.std.specs.declared.hash.BuildHasher as builder
 use Rattle.std.specs.declared.hash.Hasher as hasher
@@ -12,28 +12,18 @@ use Rattle.mapworld_state.specs.World.{setup_of}
 use Rattle.mapworld.specs.Making.{IsNew}
 use Rattle.mapworld_explorer.specs.Led.{IsLedBy}
 
--- a new world has the hasher that it has
-pub own-hasher : {K V S D T A : Type 0} (eq : K → K → Bool) (shards : ℕ) (h : S) (pairs : List (K × V))
-    (programs : List (List (Ask K V D))) (w : State K V S D T A) → IsNew eq shards h pairs programs w
-    → IsNew eq shards w.hasher pairs programs w
-own-hasher eq shards h pairs programs w new = subst (λ s. IsNew eq shards s pairs programs w) (sym new.hasher_is) new
-
--- a new world that was led on was led there
-pub led : {K V S H D T A : Type 0} (d : deed.Ghosts D K V T) (b : builder.Ghosts S H) (h : hasher.Ghosts H)
-    (eq : K → K → Bool) (writes : K → HashWrites) (shards : ℕ) (s : S) (pairs : List (K × V))
-    (programs : List (List (Ask K V D))) (steps : List Step) (first w : State K V S D T A)
-    → IsNew eq shards s pairs programs first → Ran (setup_of d b h eq writes first) 0 first steps w
-    → IsLedBy d b h eq writes shards pairs programs steps w
-led d b h eq writes shards s pairs programs steps first w new ran =
-    (first, own-hasher eq shards s pairs programs first new, ran)
-
--- so it is of a run that may be refused
+-- a new world that was led on by a run that may be refused was led there, where it wasn't
 pub led-on : {K V S H D T A E : Type 0} (d : deed.Ghosts D K V T) (b : builder.Ghosts S H) (h : hasher.Ghosts H)
     (eq : K → K → Bool) (writes : K → HashWrites) (shards : ℕ) (s : S) (pairs : List (K × V))
     (programs : List (List (Ask K V D))) (steps : List Step) (first : State K V S D T A)
     (r : Result (State K V S D T A) E) → IsNew eq shards s pairs programs first
     → IfOk r (Ran (setup_of d b h eq writes first) 0 first steps)
-    → IfOk r (IsLedBy d b h eq writes shards pairs programs steps)
-led-on d b h eq writes shards s pairs programs steps first (Ok w) new ran =
-    led d b h eq writes shards s pairs programs steps first w new ran
+    → IfOk r (IsLedBy d b h eq writes shards s pairs programs steps)
+led-on d b h eq writes shards s pairs programs steps first (Ok w) new ran = (first, new, ran)
 led-on d b h eq writes shards s pairs programs steps first (Err e) new ran = tt
+
+-- an outcome of a world that was led there is one of a world that was
+pub of-led : {W O E : Type 0} (Led Ended : W → Type 0) (Told : W → O → Type 0) (w : W) (r : Result O E) → Led w
+    → IfOk r (λ o. Ended w × Told w o) → IfOk r (λ o. (v : W) × Led v × Ended v × Told v o)
+of-led Led Ended Told w (Ok o) led told = (w, led, told.0, told.1)
+of-led Led Ended Told w (Err e) led told = tt

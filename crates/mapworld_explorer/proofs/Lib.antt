@@ -1,1 +1,4 @@
+mod Courses
 mod Leading
+mod Searching
+mod Telling

@@ -11,11 +11,11 @@ use Rattle.mapworld_state.specs.State.{State}
 use Rattle.mapworld_state.specs.World.{setup_of}
 use Rattle.mapworld.specs.Making.{IsNew}
 
--- a new world of so many shards, with these pairs and these programs, was led to w by the schedule: its steps were made
--- one after another, and none was refused
+-- a new world of so many shards, with this hasher, these pairs and these programs, was led to w by the schedule: its
+-- steps were made one after another, and none was refused
 abbrev pub IsLedBy : {K V S H D T A : Type 0} → deed.Ghosts D K V T → builder.Ghosts S H → hasher.Ghosts H
-    → (K → K → Bool) → (K → HashWrites) → ℕ → List (K × V) → List (List (Ask K V D)) → List Step
+    → (K → K → Bool) → (K → HashWrites) → ℕ → S → List (K × V) → List (List (Ask K V D)) → List Step
     → State K V S D T A → Type 0
-IsLedBy {K} {V} {S} {H} {D} {T} {A} d b h eq writes shards pairs programs schedule w = (first : State K V S D T A)
-    × IsNew eq shards first.hasher pairs programs first
+IsLedBy {K} {V} {S} {H} {D} {T} {A} d b h eq writes shards s pairs programs schedule w =
+    (first : State K V S D T A) × IsNew eq shards s pairs programs first
     × Ran (setup_of d b h eq writes first) 0 first schedule w

@@ -1,1 +1,5 @@
+pub mod Aheads
 pub mod Led
+pub mod Outcomes
+pub mod Searches
+pub mod Standing

@@ -1,6 +1,7 @@
 //! One schedule, step by step, with all that is seen on the way.
+ghost use Rattle.std.specs.Prelude.{◌≡◌, map, IfOk};
 
-use crate::outcome::contents_of;
+use crate::reading::contents_of;
 use crate::standing::kind_of;
 use crate::told::Before;
 use crate::worlds::{ExploreFault, World, world_behind};
@@ -198,18 +199,20 @@ impl Course {
         self.note_contents(world)
     }
 
-    /// Makes a step, and notes what it was.
-    fn make(&mut self, world: &mut World, case: &Case<'_>, step: Step) -> Result<(), ExploreFault> {
+    /// Makes a step, notes what is seen behind it, and tells what it was.
+    fn make(&mut self, world: &mut World, case: &Case<'_>, step: Step) -> Result<Told, ExploreFault>
+        ensures { IfOk result (λ told. told.thread ≡ step.thread) }
+    {
         let before = Before::of(world, case, step.thread);
         world.run(&[step])?;
         let mut text = String::new(self.alloc);
         before.write(world, case, &mut text)?;
-        self.told.push(Told {
+        self.note(world, step.thread)?;
+        Ok(Told {
             step: world.steps(),
             thread: step.thread,
             text,
-        })?;
-        self.note(world, step.thread)
+        })
     }
 
     /// Notes the calls and from where on they count as done.
@@ -277,18 +280,19 @@ pub fn with_late_starts(
     Ok(late)
 }
 
-/// The course of a case by a schedule.
-pub fn course_of(
-    alloc: Global,
-    case: &Case<'_>,
-    schedule: &[Step],
-) -> Result<Course, ExploreFault> {
+/// The course of a case by a schedule: each of its steps is told, in their order.
+pub fn course_of(alloc: Global, case: &Case<'_>, schedule: &[Step]) -> Result<Course, ExploreFault>
+    ensures { IfOk result
+        (λ course. map (λ told. told.thread) course.told.items ≡ map (λ step. step.thread) schedule.now) }
+{
     let mut world = world_behind(alloc, case, &[])?;
     let mut course = Course::new(alloc);
     course.note(&world, 0)?;
+    let mut told = Vec::with_capacity(alloc, schedule.len())?;
     for step in schedule {
-        course.make(&mut world, case, *step)?;
+        told.push(course.make(&mut world, case, *step)?)?;
     }
     course.end(&world)?;
+    course.told = told;
     Ok(course)
 }

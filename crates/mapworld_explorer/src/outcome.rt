@@ -1,9 +1,7 @@
-//! What a schedule comes to: what each call is answered, and the contents at the end.
+//! What schedules come to, as texts.
 
-use crate::worlds::{ExploreFault, World, world_behind};
-use mapworld::{Answer, Reply, Step};
-use mapworld_text::{Answered, Case, Shown};
-use std::alloc::{AllocError, Global};
+use mapworld_text::Case;
+use std::alloc::AllocError;
 
 /// What is written.
 type Written = Result<(), AllocError>;
@@ -31,109 +29,52 @@ pub struct Outcome {
     pub steps: usize,
 }
 
-/// What a walk has read. The order within a shard is open, so pairs stand by their keys.
-fn write_reads(alloc: Global, reads: &[(u64, u64)], out: &mut String) -> Written {
-    out.push_str("reads")?;
-    if reads.is_empty() {
-        return out.push_str(" nothing");
-    }
-    let mut pairs = Vec::with_capacity(alloc, reads.len())?;
-    for pair in reads {
-        pairs.push(*pair)?;
-    }
-    pairs.sort_unstable();
-    for (key, value) in &pairs {
-        write!(out, " {key}={value}")?;
-    }
-    Ok(())
-}
-
-/// Writes what a call is answered.
-pub fn write_answer(alloc: Global, answer: &Answered, out: &mut String) -> Written {
-    match answer {
-        Answer::Reads(reads) => write_reads(alloc, reads, out),
-        _ => write!(out, "{}", Shown(answer)),
-    }
-}
-
-/// What a call is answered, as a text.
-fn answering_of(
-    alloc: Global,
-    reply: &Reply<u64, u64, (u64, u64), Global>,
-) -> Result<Answering, AllocError> {
-    let mut text = String::new(alloc);
-    write_answer(alloc, &reply.answer, &mut text)?;
-    Ok(Answering {
-        thread: reply.thread,
-        call: reply.call,
-        text,
-    })
-}
-
-/// The pairs of a world, by their keys.
-pub fn contents_of(alloc: Global, world: &World) -> Result<String, AllocError> {
-    let mut pairs: Vec<(u64, u64)> = Vec::new(alloc);
-    for (key, value) in world.pairs() {
-        pairs.push((*key, *value))?;
-    }
-    pairs.sort_unstable();
-    let mut text = String::new(alloc);
-    if pairs.is_empty() {
-        text.push_str("none")?;
-    }
-    for (key, value) in &pairs {
-        if !text.is_empty() {
-            text.push_str(" ")?;
-        }
-        write!(text, "{key}={value}")?;
-    }
-    Ok(text)
-}
-
 impl Outcome {
-    /// Of a world at its end.
-    pub fn of(
-        alloc: Global,
-        world: &World,
-        state: usize,
-        steps: usize,
-    ) -> Result<Outcome, AllocError> {
-        let mut answers = Vec::with_capacity(alloc, world.replies().len())?;
-        for thread in 0..world.threads() {
-            for reply in world.replies() {
-                if reply.thread == thread {
-                    answers.push(answering_of(alloc, reply)?)?;
-                }
-            }
-        }
-        Ok(Outcome {
-            answers,
-            contents: contents_of(alloc, world)?,
-            ends: 1,
-            state,
-            steps,
-        })
-    }
+    ghost use Rattle.std.specs.Prelude.{◌≡◌};
+    ghost use Rattle.std.specs.List.{list_all};
+    ghost use Rattle.std.specs.Option.{option_map};
+    ghost use Rattle.mapworld_explorer.specs.Outcomes.{answer_in, has_told, is_same};
 
     /// Whether the other is the same one.
-    pub fn is(&self, other: &Outcome) -> bool {
+    pub fn is(&self, other: &Outcome) -> bool
+        ensures { result ≡ is_same self.now other.now }
+    {
         self.answers.len() == other.answers.len()
             && self.contents.as_str() == other.contents.as_str()
-            && self.answers.iter().all(|answer| other.has(answer))
+            && other.has_all(&self.answers)
     }
 
-    fn has(&self, wanted: &Answering) -> bool {
-        self.answer(wanted.thread, wanted.call) == Some(wanted.text.as_str())
+    fn has_all(&self, wanted: &[Answering]) -> bool
+        ensures { result ≡ list_all (has_told self.now) wanted.now }
+    {
+        let mut all = true;
+        for answer in wanted {
+            all = all & self.has(answer);
+        }
+        all
+    }
+
+    fn has(&self, wanted: &Answering) -> bool
+        ensures { result ≡ has_told self.now wanted.now }
+    {
+        match self.answer(wanted.thread, wanted.call) {
+            Some(text) => text == wanted.text.as_str(),
+            None => false,
+        }
     }
 
     /// What a call is answered.
-    pub fn answer(&self, thread: usize, call: usize) -> Option<&str> {
-        for answer in &self.answers {
-            if answer.thread == thread && answer.call == call {
-                return Some(answer.text.as_str());
-            }
+    pub fn answer(&self, thread: usize, call: usize) -> Option<&str>
+        ensures { option_map (λ text. text.now) result ≡ answer_in self.now thread call }
+    {
+        let found = self
+            .answers
+            .iter()
+            .find(|answer| answer.thread == thread && answer.call == call);
+        match found {
+            Some(answer) => Some(answer.text.as_str()),
+            None => None,
         }
-        None
     }
 
     /// Writes it as a claim of a text has it.
@@ -152,14 +93,4 @@ impl Outcome {
         }
         write!(out, "contents {}", self.contents.as_str())
     }
-}
-
-/// What a schedule of a case comes to: the answers and the contents of the world that it leads there.
-pub fn outcome_behind(
-    alloc: Global,
-    case: &Case<'_>,
-    schedule: &[Step],
-) -> Result<Outcome, ExploreFault> {
-    let world = world_behind(alloc, case, schedule)?;
-    Ok(Outcome::of(alloc, &world, 0, schedule.len())?)
 }

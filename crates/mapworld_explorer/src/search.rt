@@ -1,7 +1,7 @@
 //! The search: every schedule of a case, by the states to which they lead.
 
 use crate::outcome::Outcome;
-use crate::standing::{is_alone, may_be_fair};
+use crate::standing::{has_ended, is_alone, may_be_fair};
 use crate::state::{Ahead, ahead_of};
 use crate::waits::Waits;
 use crate::worlds::{ExploreFault, World, world_behind};
@@ -57,6 +57,10 @@ pub struct Search<'c, 'a> {
 }
 
 impl<'c, 'a> Search<'c, 'a> {
+    ghost use Rattle.std.specs.Prelude.{◌≡◌, nat_lt, slice_get, IfOk};
+    ghost use Rattle.mapworld_explorer.specs.Searches.{found, steps_to, visited, way_to};
+    ghost use Rattle.mapworld_explorer.specs.Standing.{HasEnded};
+
     /// One at the beginning of a case.
     pub fn new(
         alloc: Global,
@@ -91,17 +95,23 @@ impl<'c, 'a> Search<'c, 'a> {
     }
 
     /// How many states were found so far.
-    pub fn states(&self) -> usize {
+    pub fn states(&self) -> usize
+        ensures { result ≡ found self.now }
+    {
         self.states.len()
     }
 
     /// How many of them were visited.
-    pub fn visited(&self) -> usize {
+    pub fn visited(&self) -> usize
+        ensures { result ≡ visited self.now }
+    {
         self.next
     }
 
     /// Visits so many states; says whether some are left.
-    pub fn go_on(&mut self, visits: usize) -> Result<bool, ExploreFault> {
+    pub fn go_on(&mut self, visits: usize) -> Result<bool, ExploreFault>
+        ensures { IfOk result (λ more. more ≡ nat_lt (visited self.new) (found self.new)) }
+    {
         for _ in 0..visits {
             let index = self.next;
             let Some(reached) = self.states.get(index).copied() else {
@@ -113,16 +123,32 @@ impl<'c, 'a> Search<'c, 'a> {
         Ok(self.next < self.states.len())
     }
 
-    /// The schedule by which a state was reached.
-    pub fn schedule(&self, state: usize) -> Result<Vec<Step>, AllocError> {
-        let mut schedule = Vec::new(self.alloc);
-        let steps = match self.states.get(state) {
+    /// How a state was come to, if it was found.
+    fn reached(&self, state: usize) -> Option<Reached>
+        ensures { result ≡ slice_get self.now.states.items state }
+    {
+        self.states.get(state).copied()
+    }
+
+    /// By how many steps a state was come to.
+    fn steps_to(&self, state: usize) -> usize
+        ensures { result ≡ steps_to (slice_get self.now.states.items state) }
+    {
+        match self.reached(state) {
             Some(reached) => reached.steps,
             None => 0,
-        };
+        }
+    }
+
+    /// The schedule by which a state was reached; none of a state that wasn't found.
+    pub fn schedule(&self, state: usize) -> Result<Vec<Step>, AllocError>
+        ensures { IfOk result (λ schedule. schedule.items ≡ way_to self.now state) }
+    {
+        let mut schedule = Vec::new(self.alloc);
+        let steps = self.steps_to(state);
         let mut index = state;
-        for _ in 0..steps {
-            if let Some(reached) = self.states.get(index) {
+        for _step in 0..steps {
+            if let Some(reached) = self.reached(index) {
                 schedule.push(reached.step)?;
                 index = reached.before;
             }
@@ -158,10 +184,10 @@ impl<'c, 'a> Search<'c, 'a> {
     fn visit(&mut self, index: usize, reached: Reached) -> Result<(), ExploreFault> {
         let schedule = self.schedule(index)?;
         let world = world_behind(self.alloc, self.case, &schedule)?;
-        let steps = self.steps_from(&world)?;
-        if steps.is_empty() {
+        if has_ended(&world) {
             return self.end(&world, index, reached.steps);
         }
+        let steps = self.steps_from(&world)?;
         if reached.steps >= self.limits.steps {
             self.limit = Some(Limit::Steps);
             return Ok(());
@@ -227,7 +253,9 @@ impl<'c, 'a> Search<'c, 'a> {
     }
 
     /// Notes what an end comes to.
-    fn end(&mut self, world: &World, state: usize, steps: usize) -> Result<(), ExploreFault> {
+    fn end(&mut self, world: &World, state: usize, steps: usize) -> Result<(), ExploreFault>
+        requires { HasEnded world.now }
+    {
         self.ends = self.ends.saturating_add(1);
         let outcome = Outcome::of(self.alloc, world, state, steps)?;
         for known in &mut self.outcomes {

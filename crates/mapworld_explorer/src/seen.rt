@@ -152,7 +152,12 @@ fn write_started(world: &World, thread: usize, out: &mut String) -> Written {
 }
 
 /// Writes what is seen.
-pub fn write_seen(traced: &Traced, case: &Case<'_>, view: View, out: &mut String) -> Written {
+pub(crate) fn write_seen(
+    traced: &Traced,
+    case: &Case<'_>,
+    view: View,
+    out: &mut String,
+) -> Written {
     let world = &traced.world;
     match view {
         View::World => out.push_str("made"),

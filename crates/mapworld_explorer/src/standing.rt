@@ -1,4 +1,7 @@
 //! Where threads stand: what their next step is, whether others see it, and whether it may be fair.
+ghost use Rattle.std.specs.Prelude.{◌≡◌, ◌<◌, true, false, length};
+ghost use Rattle.mapworld_state.specs.Running.{can_move_in};
+ghost use Rattle.mapworld_explorer.specs.Standing.{act_in, stores, HasEnded};
 
 use crate::worlds::World;
 use mapworld_state::{Phase, Place};
@@ -7,10 +10,12 @@ use parking_lot_machine::{Act, SectionAct};
 use std::alloc::Global;
 
 /// Where a thread stands.
-pub type Stand = Place<u64, u64, Change, (u64, u64), Global>;
+pub(crate) type Stand = Place<u64, u64, Change, (u64, u64), Global>;
 
 /// The act at a shard's lock that the thread's next step makes, while it is in a call there.
-pub fn act_of(world: &World, thread: usize) -> Option<Act> {
+pub(crate) fn act_of(world: &World, thread: usize) -> Option<Act>
+    ensures { result ≡ act_in world.now thread }
+{
     match world.locks().machine().call(thread) {
         Some(call) => Some(call.core.act()),
         None => None,
@@ -18,7 +23,7 @@ pub fn act_of(world: &World, thread: usize) -> Option<Act> {
 }
 
 /// A number for the kind of a thread's next step.
-pub fn kind_of(stand: &Stand) -> u8 {
+pub(crate) fn kind_of(stand: &Stand) -> u8 {
     match &stand.phase {
         Phase::Rest => 0,
         Phase::Admit(_) => 1,
@@ -48,7 +53,7 @@ pub fn kind_of(stand: &Stand) -> u8 {
 /// their steps changes nothing but step numbers. It is one within the thread's own place, or a look into a shard that
 /// it holds, or a change there while it holds the shard alone. A release, a downgrade and the walk to the next shard
 /// are none, since they begin with an act at a lock's word.
-pub fn is_alone(world: &World, thread: usize) -> bool {
+pub(crate) fn is_alone(world: &World, thread: usize) -> bool {
     let Some(stand) = world.place(thread) else {
         return false;
     };
@@ -64,9 +69,25 @@ pub fn is_alone(world: &World, thread: usize) -> bool {
 }
 
 /// Whether the thread's next step stores in the section of a release, so that a fair one may come to something else.
-pub fn may_be_fair(world: &World, thread: usize) -> bool {
+pub fn may_be_fair(world: &World, thread: usize) -> bool
+    ensures { result ≡ stores (act_in world.now thread) }
+{
     matches!(
         act_of(world, thread),
         Some(Act::Section(SectionAct::Store { .. }))
     )
+}
+
+/// Whether no thread of a world can move.
+pub(crate) fn has_ended(world: &World) -> bool
+    ensures ended { result ≡ true → HasEnded world.now }
+    ensures goes_on { result ≡ false
+        → (thread : _) × (thread < length world.now.programs) × (can_move_in world.now thread ≡ true) }
+{
+    for thread in 0..world.threads() {
+        if world.can_move(thread) {
+            return false;
+        }
+    }
+    true
 }

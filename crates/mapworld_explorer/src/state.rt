@@ -1,6 +1,6 @@
 //! What states of a world are told apart by: all that the further steps depend on, and what is answered.
 
-use crate::outcome::write_answer;
+use crate::reading::write_answer;
 use crate::standing::{Stand, kind_of};
 use crate::worlds::World;
 use mapworld_state::{Guard, Phase, Way};
@@ -167,8 +167,13 @@ pub struct Ahead {
 }
 
 impl Ahead {
+    ghost use Rattle.std.specs.Prelude.{◌≡◌};
+    ghost use Rattle.mapworld_explorer.specs.Aheads.{text_of};
+
     /// It as a text.
-    pub fn as_str(&self) -> &str {
+    pub fn as_str(&self) -> &str
+        ensures { result.now ≡ text_of self.now }
+    {
         self.text.as_str()
     }
 }

@@ -13,7 +13,7 @@ type Written = Result<(), AllocError>;
 
 /// What is known of a thread before its step.
 #[derive(Clone, Copy)]
-pub struct Before {
+pub(crate) struct Before {
     thread: usize,
     /// The number of the call that it is in, or that is next.
     call: usize,
@@ -70,7 +70,7 @@ fn key_at(case: &Case<'_>, thread: usize, call: usize) -> Option<u64> {
 
 impl Before {
     /// Of a thread, before its step.
-    pub fn of(world: &World, case: &Case<'_>, thread: usize) -> Before {
+    pub(crate) fn of(world: &World, case: &Case<'_>, thread: usize) -> Before {
         let act = act_of(world, thread);
         let (call, kind, own) = match world.place(thread) {
             Some(stand) => (stand.next, kind_of(stand), stand.shard),
@@ -99,7 +99,7 @@ impl Before {
     }
 
     /// Writes what the step was, which has led to this world.
-    pub fn write(&self, world: &World, case: &Case<'_>, out: &mut String) -> Written {
+    pub(crate) fn write(&self, world: &World, case: &Case<'_>, out: &mut String) -> Written {
         out.push_str(case.name_of(self.thread))?;
         out.push_str(" ")?;
         match self.act {

@@ -6,21 +6,21 @@ use std::alloc::{AllocError, Global};
 
 /// A world that is stepped.
 #[derive(Drop)]
-pub struct Traced {
-    pub world: World,
-    pub alloc: Global,
+pub(crate) struct Traced {
+    pub(crate) world: World,
+    pub(crate) alloc: Global,
     /// The threads whose steps are fair, as bits.
     fair: u64,
     /// How many shards there are.
     shards: usize,
     /// Each new word of a shard since the first step, in their order.
-    pub words: Vec<(usize, u64)>,
+    pub(crate) words: Vec<(usize, u64)>,
     /// The steps that were made one by one.
-    pub made: Vec<Step>,
+    pub(crate) made: Vec<Step>,
 }
 
 impl Traced {
-    pub fn new(alloc: Global, world: World, shards: usize, fair: u64) -> Traced {
+    pub(crate) fn new(alloc: Global, world: World, shards: usize, fair: u64) -> Traced {
         Traced {
             world,
             alloc,
@@ -59,7 +59,11 @@ impl Traced {
     }
 
     /// Makes a step of a thread, fair if it is to be or the thread's steps are. Answers why it isn't done, if it isn't.
-    pub fn step(&mut self, thread: usize, fair: bool) -> Result<Option<RunFault>, AllocError> {
+    pub(crate) fn step(
+        &mut self,
+        thread: usize,
+        fair: bool,
+    ) -> Result<Option<RunFault>, AllocError> {
         let fair = fair || self.is_fair(thread);
         let step = Step { thread, fair };
         let fault = self.world.run(&[step]).err();
@@ -71,7 +75,7 @@ impl Traced {
     }
 
     /// Makes as many steps of a thread; says whether all of them were done.
-    pub fn step_times(
+    pub(crate) fn step_times(
         &mut self,
         thread: usize,
         times: usize,
@@ -86,7 +90,7 @@ impl Traced {
     }
 
     /// Steps a thread while it can move, and says whether each of these steps was done.
-    pub fn step_through(&mut self, thread: usize) -> Result<bool, AllocError> {
+    pub(crate) fn step_through(&mut self, thread: usize) -> Result<bool, AllocError> {
         for _ in 0..self.world.bound() {
             if !self.world.can_move(thread) {
                 break;
@@ -115,7 +119,7 @@ impl Traced {
 
     /// Steps the threads in turn, each once if it can move, until none can; and says whether each of these steps was
     /// done.
-    pub fn step_round(&mut self) -> Result<bool, AllocError> {
+    pub(crate) fn step_round(&mut self) -> Result<bool, AllocError> {
         for _ in 0..self.world.bound() {
             match self.step_each()? {
                 Some(0) => break,
@@ -127,7 +131,7 @@ impl Traced {
     }
 
     /// Whether a drain takes no more steps than the bound, and a second one makes none.
-    pub fn drains(&mut self) -> Result<bool, AllocError> {
+    pub(crate) fn drains(&mut self) -> Result<bool, AllocError> {
         let bound = self.world.bound();
         let steps = self.world.steps();
         let made = self.world.drain();
@@ -138,7 +142,7 @@ impl Traced {
 
     /// Makes so many steps, of threads that are picked by numbers from a seed; one that can't move makes none. Says
     /// whether each was done.
-    pub fn step_at_random(&mut self, seed: u64, steps: u64) -> Result<bool, AllocError> {
+    pub(crate) fn step_at_random(&mut self, seed: u64, steps: u64) -> Result<bool, AllocError> {
         let mut state = seed;
         for _ in 0..steps {
             state = state
@@ -161,7 +165,7 @@ impl Traced {
     }
 
     /// Whether so many calls are answered, every word is 0 and nobody waits.
-    pub fn is_at_rest(&self, calls: usize) -> bool {
+    pub(crate) fn is_at_rest(&self, calls: usize) -> bool {
         self.world.replies().len() == calls
             && self.nobody_waits()
             && (0..self.shards).all(|shard| self.world.word(shard) == 0)

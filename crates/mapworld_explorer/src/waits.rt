@@ -21,7 +21,7 @@ fn greater(one: usize, other: usize) -> usize {
 
 impl Waits {
     /// Of so many threads, before the first state.
-    pub fn new(alloc: Global, threads: usize) -> Waits {
+    pub(crate) fn new(alloc: Global, threads: usize) -> Waits {
         Waits {
             threads,
             asleep: Vec::new(alloc),
@@ -30,7 +30,7 @@ impl Waits {
     }
 
     /// Notes who sleeps in the next state.
-    pub fn note_state(&mut self, world: &World) -> Result<(), AllocError> {
+    pub(crate) fn note_state(&mut self, world: &World) -> Result<(), AllocError> {
         for thread in 0..self.threads {
             self.asleep.push(world.status(thread) == Status::Asleep)?;
         }
@@ -38,7 +38,7 @@ impl Waits {
     }
 
     /// Notes that a step leads from the one state to the other.
-    pub fn note_way(&mut self, from: usize, to: usize) -> Result<(), AllocError> {
+    pub(crate) fn note_way(&mut self, from: usize, to: usize) -> Result<(), AllocError> {
         self.ways.push((from, to))?;
         Ok(())
     }
@@ -97,7 +97,7 @@ impl Waits {
 
     /// The longest sleep of each thread, in steps, where there are so many states. No schedule comes to a state a
     /// second time, so there are at most as many rounds as states.
-    pub fn longest(&self, alloc: Global, states: usize) -> Result<Vec<usize>, AllocError> {
+    pub(crate) fn longest(&self, alloc: Global, states: usize) -> Result<Vec<usize>, AllocError> {
         let mut waited = Vec::with_capacity(alloc, self.asleep.len())?;
         for _ in &self.asleep {
             waited.push(0)?;

@@ -25,6 +25,8 @@ pub enum ExploreFault {
     NotMade(WorldNewFault),
     /// A step that could be made before is refused.
     Refused(RunFault),
+    /// A thread can still move behind a schedule that is to lead to an end.
+    Unfinished,
     /// Room was refused.
     NoMemory,
 }
@@ -34,6 +36,7 @@ impl fmt::Display for ExploreFault {
         match self {
             ExploreFault::NotMade(fault) => write!(f, "the world isn't made: {}", fault.name()),
             ExploreFault::Refused(fault) => write!(f, "a step is refused: {}", fault.name()),
+            ExploreFault::Unfinished => f.write_str("a thread can still move"),
             ExploreFault::NoMemory => f.write_str("out of memory"),
         }
     }
@@ -110,7 +113,7 @@ pub fn world_led_by<
     schedule: &[Step],
 ) -> Result<MapWorld<K, V, S, D, A>, ExploreFault>
     ensures { let asked = map (λ program. program.items) programs.items in
-        IfOk result (IsLedBy D.Deed S.BuildHasher S.Hasher.Hasher K.eq K.hash_input shards pairs.items asked
+        IfOk result (IsLedBy D.Deed S.BuildHasher S.Hasher.Hasher K.eq K.hash_input shards hasher pairs.items asked
         schedule.now) }
 {
     match MapWorld::new(alloc, shards, hasher, pairs, programs) {
@@ -149,7 +152,7 @@ pub fn world_behind(
 ) -> Result<World, ExploreFault>
     ensures { let asked = map (λ program. program.items) case.now.programs.items in
         IfOk result (IsLedBy ⟦<Change as Deed<u64, u64>>⟧ ⟦<SpreadState as BuildHasher>⟧ ⟦<SpreadHasher as Hasher>⟧
-        ⟦<u64 as PartialEq>⟧.eq ⟦<u64 as Hash>⟧.hash_input case.now.shards case.now.pairs.items asked
+        ⟦<u64 as PartialEq>⟧.eq ⟦<u64 as Hash>⟧.hash_input case.now.shards (record {}) case.now.pairs.items asked
         schedule.now) }
 {
     let pairs = Vec::from_slice(alloc, &case.pairs)?;

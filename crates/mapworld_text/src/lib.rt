@@ -18,4 +18,4 @@ pub use change::Change;
 pub use claims::{Claim, Part, Term, terms};
 pub use fault::{Expected, TextFault};
 pub use reader::read;
-pub use shown::{Answered, Shown};
+pub use shown::{Answered, Pairs, Shown};

@@ -18,9 +18,15 @@ use Rattle.parking_lot_core_model.specs.Operations.{is_abort}
 use Rattle.parking_lot_core_model.specs.Places.{place_at, is_waiting}
 use Rattle.parking_lot_core_model.specs.Sound.{Sound}
 
--- on some sound lot this is what a call did that answered so
+-- That the lock of a lot was held, from when the first was found until the second was left. Nothing opens it but the
+-- proof of the function that gives the lock back.
+unfoldable pub WasHeld : Machine → Machine → Type 0
+WasHeld old new = Unit {0}
+
+-- On some sound lot this is what a call did that answered so, and all that was done while its lock was held: so the lists
+-- of other keys are as they were.
 abbrev pub OnSomeLot : {T : Type 0} → (Machine → Result T LotFault → Machine → Type 0) → T → Type 0
-OnSomeLot does answer = (old : Machine) × (new : Machine) × Sound old × does old (Ok answer) new
+OnSomeLot does answer = (old : Machine) × (new : Machine) × Sound old × does old (Ok answer) new × WasHeld old new
 
 -- why nobody can register where there are to be so many threads at most
 abbrev pub admit_fault : ℕ → Machine → Option LotFault

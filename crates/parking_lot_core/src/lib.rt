@@ -12,6 +12,7 @@ mod spin;
 mod state;
 mod thread_data;
 mod thread_parker;
+mod under_lock;
 mod word_lock;
 
 pub use parking_calls::{park, unpark_all, unpark_filter, unpark_one, unpark_requeue};

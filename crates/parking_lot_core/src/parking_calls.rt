@@ -5,20 +5,18 @@ ghost use Rattle.parking_lot_core_model.specs.declared.parking.ParkResult.TheVar
 ghost use Rattle.parking_lot_core_model.specs.declared.parking.UnparkToken.{UnparkToken};
 ghost use Rattle.parking_lot_core_model.specs.Operations.{Parks, Resumes, UnparksOne, UnparksAll, UnparksAndRequeues};
 ghost use Rattle.parking_lot_core_model.specs.Operations.{UnparksByFilter};
-ghost use Rattle.parking_lot_core_model.specs.Machine.{machine, busy, enter_fault, resume_fault, Does};
-ghost use Rattle.parking_lot_core.specs.Shared.{OnSomeLot, Counts, Tells, waits_in};
-ghost use Rattle.std.specs.Sync.Mutex.{mutex_guard_value};
+ghost use Rattle.parking_lot_core_model.specs.Machine.{busy, enter_fault, resume_fault, Does};
+ghost use Rattle.parking_lot_core.specs.Shared.{OnSomeLot, Counts, Tells};
 
 use crate::parking_lot::ParkingLot;
-use crate::state::State;
 use crate::thread_data::ThreadData;
-use crate::thread_parker::{Timed, time_left};
+use crate::under_lock::{enter, give_back, sleep};
 use parking_lot_core_model::{
     FilterOp, ParkResult, ParkToken, RequeueOp, UnparkResult, UnparkToken,
 };
 use std::alloc::Allocator;
 use std::convert::Infallible;
-use std::sync::{Arc, Condvar, CondvarTimeouts, MutexGuard, Wait};
+use std::sync::{Arc, Condvar, Wait};
 use std::time::{Clock, Instant};
 
 /// Parks the thread under a key. The validation is asked while the key's list is locked; where it answers false,
@@ -71,8 +69,10 @@ where
         return ParkResult::Invalid;
     }
     before_sleep();
-    let mut state = sleep(lot, thread_data, timeout);
-    match state.resume(thread_data.thread, timed_out) {
+    let (mut state, found) = sleep(lot, thread_data, timeout);
+    let resumed = state.resume(thread_data.thread, timed_out);
+    give_back(state, found);
+    match resumed {
         Ok(ended) => ended,
         Err(_) => match stuck(&lot.rt) {},
     }
@@ -92,38 +92,13 @@ fn begin<R: Wait, A: Allocator, V: FnOnce() -> bool + Drop>(
     ensures joined { OnSomeLot (Does (λ m. enter_fault m thread) (Parks (V.post validate) thread key park_token timed))
         (if result then None else Some Invalid) }
 {
-    let mut state = lot.state.lock(&lot.rt);
-    match state.park(thread, key, validate, park_token, timed) {
+    let (mut state, found) = enter(lot);
+    let parked = state.park(thread, key, validate, park_token, timed);
+    give_back(state, found);
+    match parked {
         Ok(ended) => ended.is_none(),
         Err(_) => match stuck(&lot.rt) {},
     }
-}
-
-/// Sleeps until another has taken the thread, or its moment is past, and comes back with the lock.
-fn sleep<'l, R: Wait, A: Allocator, C: Clock>(
-    lot: &'l ParkingLot<R, A>,
-    thread_data: &ThreadData<A>,
-    timeout: Option<(Instant, &C)>,
-) -> MutexGuard<'l, State<A>>
-    ensures { waits_in (machine (mutex_guard_value result).lot) thread_data.now.thread ≡ true → IsSome timeout.entry }
-{
-    let mut state = lot.state.lock(&lot.rt);
-    for _turn in lot.rt.forever() {
-        if !state.waits(thread_data.thread) {
-            return state;
-        }
-        let Some((moment, clock)) = timeout else {
-            state = thread_data.seat.wait(&lot.rt, state);
-            continue;
-        };
-        let Some(left) = time_left(moment, clock) else {
-            let _ = state.lot.deadline(thread_data.thread);
-            return state;
-        };
-        let both = Timed { rt: &lot.rt, clock };
-        state = thread_data.seat.wait_timeout(&both, state, left).0;
-    }
-    unreachable!()
 }
 
 /// Takes the first waiter of a key and wakes it. The callback gets what is answered and gives the token, also where
@@ -139,11 +114,11 @@ pub fn unpark_one<R: Wait, A: Allocator, C: FnOnce(UnparkResult) -> UnparkToken 
     ensures moved { result.requeued_threads ≡ 0 }
     ensures done { (fair : Bool) × OnSomeLot (Does busy (UnparksOne fair (C.post callback) key)) result }
 {
-    let mut state = lot.state.lock(&lot.rt);
+    let (mut state, found) = enter(lot);
     let first = state.first(key);
     let done = state.unpark_one(key, callback);
     let seat = first.and_then(|thread| state.taken_seat(thread));
-    drop(state);
+    give_back(state, found);
     ring(seat);
     match done {
         Ok(answer) => answer,
@@ -159,7 +134,10 @@ pub fn unpark_all<R: Wait, A: Allocator>(
 ) -> usize
     ensures { OnSomeLot (Does busy (UnparksAll unpark_token key)) result }
 {
-    match lot.state.lock(&lot.rt).unpark_all(key, unpark_token) {
+    let (mut state, found) = enter(lot);
+    let done = state.unpark_all(key, unpark_token);
+    give_back(state, found);
+    match done {
         Ok(count) => count,
         Err(_) => match stuck(&lot.rt) {},
     }
@@ -184,11 +162,11 @@ where
     ensures done { OnSomeLot (Does busy (UnparksAndRequeues (V.post validate) (C.post callback) key_from key_to))
         result }
 {
-    let mut state = lot.state.lock(&lot.rt);
+    let (mut state, found) = enter(lot);
     let first = state.first(key_from);
     let done = state.unpark_requeue(key_from, key_to, validate, callback);
     let seat = first.and_then(|thread| state.taken_seat(thread));
-    drop(state);
+    give_back(state, found);
     ring(seat);
     match done {
         Ok(answer) => answer,
@@ -214,7 +192,10 @@ where
     ensures done { (fair : Bool) × OnSomeLot (Does busy (UnparksByFilter fair F.step filter (C.post callback) key))
         result }
 {
-    match lot.state.lock(&lot.rt).unpark_filter(key, filter, callback) {
+    let (mut state, found) = enter(lot);
+    let done = state.unpark_filter(key, filter, callback);
+    give_back(state, found);
+    match done {
         Ok(answer) => answer,
         Err(_) => match stuck(&lot.rt) {},
     }

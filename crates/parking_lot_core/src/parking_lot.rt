@@ -8,6 +8,7 @@ ghost use Rattle.parking_lot_core_model.specs.declared.fault.LotFault.TheVariant
 use crate::parking_calls::stuck;
 use crate::state::State;
 use crate::thread_data::ThreadData;
+use crate::under_lock::{enter, give_back};
 use parking_lot_core_model::{Lot, LotFault, SizeFault};
 use std::alloc::{Allocator, Global};
 use std::sync::atomic::{AtomicUsize, Ordering};
@@ -116,11 +117,10 @@ impl<R: Wait, A: Allocator + Clone> ParkingLot<R, A> {
         ensures { OnSomeLot (Does (λ m. retire_fault m thread_data.thread) (Makes (λ m. retired m thread_data.thread)))
             result }
     {
-        match self
-            .state
-            .lock(&self.rt)
-            .retire(thread_data.thread_number())
-        {
+        let (mut state, found) = enter(self);
+        let retired = state.retire(thread_data.thread_number());
+        give_back(state, found);
+        match retired {
             Ok(()) => {}
             Err(_) => match stuck(&self.rt) {},
         }

@@ -1,6 +1,7 @@
 -- Which core a call was that has ended.
 use Rattle.std.specs.Prelude.{◌⊎◌, ◌==◌, ℕ}
 use Rattle.parking_lot_driver.specs.Runs.{Ended}
+use Rattle.parking_lot_driver.specs.Tries.{Admitted, Refused}
 use Rattle.parking_lot_protocol.specs.declared.act.Act.{Act}
 use Rattle.parking_lot_protocol.specs.declared.act.ActResult.{ActResult}
 use Rattle.parking_lot_protocol.specs.declared.act.CoreAnswer.{CoreAnswer}
@@ -12,7 +13,7 @@ use Rattle.parking_lot_protocol.specs.MutexTable as mutex
 use Rattle.parking_lot_protocol.specs.declared.act.Act.TheVariants.{Done}
 use Rattle.parking_lot_protocol.specs.declared.act.ActResult.TheVariants.{Start}
 use Rattle.parking_lot_protocol.specs.declared.act.CoreAnswer.TheVariants.{Owned}
-use Rattle.parking_lot_protocol.specs.declared.mutex_phase.MutexPhase.TheVariants.{Locking}
+use Rattle.parking_lot_protocol.specs.declared.mutex_phase.MutexPhase.TheVariants.{Locking, Trying}
 use Rattle.parking_lot_protocol.specs.RwTable as rw
 use Rattle.parking_lot_protocol.specs.declared.rw_phase.LockMode.TheVariants as want
 use Rattle.parking_lot_protocol.specs.declared.rw_phase.RwPhase.TheVariants as reader
@@ -39,6 +40,13 @@ mutex_asks core = mutex.act_of core.phase
 abbrev pub MutexEnded : MutexPhase → CoreAnswer → Type 0
 MutexEnded phase answer = Ended mutex_told mutex_asks (record { phase = phase }) answer
 
+-- a try of a mutex was admitted, or refused
+abbrev pub MutexAdmitted : Type 0
+MutexAdmitted = Admitted mutex_told mutex_asks (record { phase = Trying })
+
+abbrev pub MutexRefused : ℕ → Type 0
+MutexRefused limit = Refused limit mutex_told mutex_asks (record { phase = Trying })
+
 -- a call of a mutex that may give up came to this act
 abbrev pub TimedEnded : TimedAct → Type 0
 TimedEnded last = EndedAt timed.Gives timed.timed_told timed.timed_asks (Plain Start)
@@ -59,6 +67,20 @@ rw_asks core = rw.act_of core.phase
 -- a call of a reader-writer lock that began in this phase ended so
 abbrev pub RwEnded : RwPhase → CoreAnswer → Type 0
 RwEnded phase answer = Ended rw_told rw_asks (record { phase = phase }) answer
+
+-- a try of a reader-writer lock that began in this phase was admitted, or refused where so many readers may be
+abbrev pub RwAdmitted : RwPhase → Type 0
+RwAdmitted phase = Admitted rw_told rw_asks (record { phase = phase })
+
+abbrev pub RwRefused : ℕ → RwPhase → Type 0
+RwRefused limit phase = Refused limit rw_told rw_asks (record { phase = phase })
+
+-- a try for upgradable holds that began in this phase was admitted, or refused
+abbrev pub UpgradeAdmitted : UpgradePhase → Type 0
+UpgradeAdmitted phase = Admitted upgrade_told upgrade_asks (record { phase = phase })
+
+abbrev pub UpgradeRefused : ℕ → UpgradePhase → Type 0
+UpgradeRefused limit phase = Refused limit upgrade_told upgrade_asks (record { phase = phase })
 
 -- a call of upgradable holds that began in this phase ended so
 abbrev pub UpgradeEnded : UpgradePhase → CoreAnswer → Type 0

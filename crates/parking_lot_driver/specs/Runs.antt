@@ -1,7 +1,7 @@
 -- A run of a decision core: the course of a call whose acts are those of a call that waits.
-use Rattle.std.specs.Prelude.{ℕ, ◌/◌, ◌&&◌, nat_lt, Bool, false, List}
+use Rattle.std.specs.Prelude.{ℕ, ◌/◌, ◌&&◌, nat_lt, Bool, true, false, List}
 use Rattle.parking_lot_protocol.specs.declared.act.Act.{Act}
-use Rattle.parking_lot_protocol.specs.declared.act.Act.TheVariants.{Exchange, Done}
+use Rattle.parking_lot_protocol.specs.declared.act.Act.TheVariants.{Load, Exchange, Add, FetchAnd, Done}
 use Rattle.parking_lot_protocol.specs.declared.act.CoreAnswer.{CoreAnswer}
 use Rattle.parking_lot_protocol.specs.declared.act.ActResult.{ActResult}
 use Rattle.parking_lot_protocol.specs.declared.act.ActResult.TheVariants.{Start}
@@ -28,3 +28,11 @@ Ended next asks begun answer = courses.EndedAt Gives next asks Start begun (Done
 abbrev pub passes : ℕ → Act → Bool
 passes limit (Exchange from to) = nat_lt (from / 16) (to / 16) && nat_lt limit (to / 16)
 passes limit act = false
+
+-- an act on the word
+abbrev pub is_on_the_word : Act → Bool
+is_on_the_word Load = true
+is_on_the_word (Exchange from to) = true
+is_on_the_word (Add by) = true
+is_on_the_word (FetchAnd keep) = true
+is_on_the_word act = false

@@ -36,6 +36,18 @@ pub struct UnlockFairly;
 #[derive(Clone, Copy)]
 pub struct Bump;
 
+/// Tries to lock a mutex.
+#[derive(Clone, Copy)]
+pub struct TryLock;
+
+/// Tries to read.
+#[derive(Clone, Copy)]
+pub struct TryRead<const RECURSIVE: u8>;
+
+/// Tries to write.
+#[derive(Clone, Copy)]
+pub struct TryWrite;
+
 /// Reads.
 #[derive(Clone, Copy)]
 pub struct Read<const RECURSIVE: u8>;
@@ -105,6 +117,36 @@ impl Call for Bump {
 
     fn begin() -> MutexCore {
         MutexCore::bump()
+    }
+}
+
+impl Call for TryLock {
+    type Core = MutexCore;
+
+    ghost begun = { record { phase = mutex.Trying } };
+
+    fn begin() -> MutexCore {
+        MutexCore::try_lock()
+    }
+}
+
+impl<const RECURSIVE: u8> Call for TryRead<RECURSIVE> {
+    type Core = RwCore;
+
+    ghost begun = { record { phase = rw.Trying (want.Shared (RECURSIVE == 1)) } };
+
+    fn begin() -> RwCore {
+        RwCore::try_lock_shared(RECURSIVE == 1)
+    }
+}
+
+impl Call for TryWrite {
+    type Core = RwCore;
+
+    ghost begun = { record { phase = rw.Trying want.Exclusive } };
+
+    fn begin() -> RwCore {
+        RwCore::try_lock_exclusive()
     }
 }
 

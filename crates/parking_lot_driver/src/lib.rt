@@ -27,13 +27,14 @@ mod timed_run;
 mod timed_rw_run;
 mod timed_sleep;
 mod told;
+mod tries;
 mod under_way;
 mod upgrade_call;
 mod whole_call;
 
 pub use call::{
     Bump, BumpReader, BumpWriter, Call, Downgrade, Lock, Read, StopReading, StopWriting,
-    StopWritingFairly, Unlock, UnlockFairly, Write,
+    StopWritingFairly, TryLock, TryRead, TryWrite, Unlock, UnlockFairly, Write,
 };
 pub use deadline::to_deadline;
 pub use decision::DecisionCore;
@@ -45,6 +46,6 @@ pub use table::{LockTable, Row};
 pub use timed_call::{AskUpgradablyInTime, ReadInTime, TimedCall, UpgradeInTime, WriteInTime};
 pub use upgrade_call::{
     AskUpgradably, BumpUpgradable, Disown, DisownFairly, DowngradeToShared, DowngradeToUpgradable,
-    TryToUpgrade, Upgrade,
+    TryToOwnUpgradably, TryToUpgrade, Upgrade,
 };
 pub use whole_call::run_to_its_end;

@@ -1,6 +1,6 @@
 //! The row that a call runs on.
-ghost use Rattle.std.specs.Prelude.{◌≡◌, ◌+◌, ◌*◌, ◌%◌, ◌^◌, ◌==◌, ℕ, IfSome, if◌then◌else◌};
-ghost use Rattle.parking_lot_driver.specs.Runs.{passes};
+ghost use Rattle.std.specs.Prelude.{◌≡◌, ◌+◌, ◌*◌, ◌%◌, ◌^◌, ◌==◌, ℕ, IfNone, IfSome, false, if◌then◌else◌};
+ghost use Rattle.parking_lot_driver.specs.Runs.{is_on_the_word, passes};
 ghost use Rattle.parking_lot_protocol.specs.Acts.{Gives};
 ghost use Rattle.parking_lot_protocol.specs.declared.act.Act.TheVariants.{Exchange};
 
@@ -44,7 +44,8 @@ impl<R, A: Allocator> Place<'_, '_, '_, R, A> {
 
     /// Makes an act on the word, and tells what it gave. `None` where the act isn't one on the word.
     pub(crate) fn at_the_word(&self, act: Act) -> Option<ActResult>
-        ensures { IfSome result (λ seen. (word : ℕ) × Gives act word seen) }
+        ensures gives { IfSome result (λ seen. (word : ℕ) × Gives act word seen) }
+        ensures elsewhere { IfNone result (is_on_the_word act ≡ false) }
     {
         match act {
             Act::Load => Some(ActResult::Word(self.row.load())),

@@ -21,6 +21,10 @@ pub struct DisownFairly;
 #[derive(Clone, Copy)]
 pub struct BumpUpgradable;
 
+/// Tries to have the upgradable hold.
+#[derive(Clone, Copy)]
+pub struct TryToOwnUpgradably;
+
 /// Writes in place of having the upgradable hold.
 #[derive(Clone, Copy)]
 pub struct Upgrade;
@@ -84,6 +88,16 @@ impl Call for Upgrade {
 
     fn begin() -> UpgradeCore {
         UpgradeCore::upgrade()
+    }
+}
+
+impl Call for TryToOwnUpgradably {
+    type Core = UpgradeCore;
+
+    ghost begun = { record { phase = at.Trying } };
+
+    fn begin() -> UpgradeCore {
+        UpgradeCore::try_lock()
     }
 }
 

@@ -1,6 +1,6 @@
 //! The raw mutex whose every release is fair.
-ghost use Rattle.std.specs.Prelude.{◌≡◌, ◌+◌, ◌*◌, ◌%◌, ◌^◌, IfSome, MatchOption, true};
-ghost use Rattle.parking_lot_driver.specs.Ends.{MutexEnded, OwnedInTime, TimedEnded};
+ghost use Rattle.std.specs.Prelude.{◌≡◌, ◌+◌, ◌-◌, ◌*◌, ◌%◌, ◌^◌, IfSome, MatchOption, true};
+ghost use Rattle.parking_lot_driver.specs.Ends.{MutexAdmitted, MutexEnded, MutexRefused, OwnedInTime, TimedEnded};
 ghost use Rattle.parking_lot_protocol.specs.declared.act.CoreAnswer.{CoreAnswer};
 ghost use Rattle.parking_lot_protocol.specs.declared.act.CoreAnswer.TheVariants.{Owned};
 ghost use Rattle.parking_lot_protocol.specs.declared.mutex_phase.MutexPhase.TheVariants.{Locking, Unlocking, Bumping};
@@ -93,6 +93,8 @@ impl<'t, 'l, R, A: Allocator> lock_api_raw::RawMutex for RawFairMutex<'t, 'l, R,
     ghost runtime_of = { λ fair. fair.mutex.row.table.now.lot.now.rt };
 
     ghost locked = { λ _. MutexEnded Locking Owned };
+
+    ghost tried = { λ _ answer. MatchOption answer (MutexRefused (2 ^ 64 - 1)) (λ _. MutexAdmitted) };
 
     ghost unlocked = { λ _. (answer : CoreAnswer) × MutexEnded (Unlocking true) answer };
 

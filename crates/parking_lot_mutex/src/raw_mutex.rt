@@ -1,6 +1,6 @@
 //! The raw mutex.
-ghost use Rattle.std.specs.Prelude.{◌≡◌, ◌+◌, ◌*◌, ◌%◌, ◌^◌, IfOk, IfSome, MatchOption, true, false};
-ghost use Rattle.parking_lot_driver.specs.Ends.{MutexEnded, OwnedInTime, TimedEnded};
+ghost use Rattle.std.specs.Prelude.{◌≡◌, ◌≢◌, ◌+◌, ◌-◌, ◌*◌, ◌%◌, ◌^◌, IfOk, IfSome, MatchOption, true, false};
+ghost use Rattle.parking_lot_driver.specs.Ends.{MutexAdmitted, MutexEnded, MutexRefused, OwnedInTime, TimedEnded};
 ghost use Rattle.parking_lot_driver.specs.Runs.{Ended};
 ghost use Rattle.parking_lot_protocol.specs.declared.act.CoreAnswer.{CoreAnswer};
 ghost use Rattle.parking_lot_protocol.specs.declared.act.CoreAnswer.TheVariants.{Owned};
@@ -11,9 +11,9 @@ use crate::token::MutexToken;
 use lock_api_raw::{MakeLock, RawMutex as _, RawMutexFair, RawMutexTimed, TableFull};
 use parking_lot_core::ThreadData;
 use parking_lot_driver::{
-    Bump, Call, Lock, LockTable, Place, Row, Unlock, UnlockFairly, to_deadline,
+    Bump, Call, Lock, LockTable, Place, Row, TryLock, Unlock, UnlockFairly, to_deadline,
 };
-use parking_lot_protocol::{ActResult, CoreAnswer, MutexCore};
+use parking_lot_protocol::{ActResult, CoreAnswer};
 use std::alloc::{Allocator, Global};
 use std::sync::Wait;
 use std::time::{Clock, Duration, Instant};
@@ -35,7 +35,9 @@ impl<'t, 'l, R, A: Allocator> RawMutex<'t, 'l, R, A> {
     }
 
     /// What its calls run on. It has no readers to limit.
-    fn place(&self) -> Place<'_, 't, 'l, R, A> {
+    fn place(&self) -> Place<'_, 't, 'l, R, A>
+        ensures { result.limit ≡ 2 ^ 64 - 1 }
+    {
         Place {
             row: &self.row,
             limit: u64::MAX,
@@ -58,19 +60,15 @@ impl<'t, 'l, R, A: Allocator> RawMutex<'t, 'l, R, A> {
         self.row.owns_at_once(Lock, 0, 1)
     }
 
-    /// Tries again where the first exchange is lost.
+    /// Tries again where the first exchange was lost to this word.
     #[cold]
     #[inline(never)]
-    fn try_slowly(&self) -> bool {
-        self.place().attempt(MutexCore::try_lock())
-    }
-
-    /// A token of this lock for a hold that was taken.
-    fn token_if(&self, taken: bool) -> Option<MutexToken>
-        ensures { IfSome result
-            (λ token. token ≡ (self.now.row.table.now.first_key + 2 * self.now.row.number) % 2 ^ 64) }
+    fn try_slowly(&self, word: u64) -> bool
+        requires { word ≢ 0 }
+        ensures admitted { result ≡ true → MutexAdmitted }
+        ensures refused { result ≡ false → MutexRefused (2 ^ 64 - 1) }
     {
-        if taken { Some(self.token()) } else { None }
+        self.place().try_again(TryLock, 0, 1, word)
     }
 }
 
@@ -186,6 +184,8 @@ impl<'t, 'l, R, A: Allocator> lock_api_raw::RawMutex for RawMutex<'t, 'l, R, A> 
 
     ghost locked = { λ _. MutexEnded Locking Owned };
 
+    ghost tried = { λ _ answer. MatchOption answer (MutexRefused (2 ^ 64 - 1)) (λ _. MutexAdmitted) };
+
     ghost unlocked = { λ _. (answer : CoreAnswer) × MutexEnded (Unlocking false) answer };
 
     fn runtime(&self) -> &R {
@@ -206,8 +206,12 @@ impl<'t, 'l, R, A: Allocator> lock_api_raw::RawMutex for RawMutex<'t, 'l, R, A> 
 
     #[inline(always)]
     fn try_lock(&self) -> Option<MutexToken> {
-        let taken = self.row.exchange(0, 1).is_ok() || self.try_slowly();
-        self.token_if(taken)
+        if let Err(word) = self.row.tries_at_once(TryLock, 0, 1) {
+            if !self.try_slowly(word) {
+                return None;
+            }
+        }
+        Some(self.token())
     }
 
     #[inline(always)]

@@ -1,14 +1,18 @@
 //! The raw reader-writer lock.
-ghost use Rattle.std.specs.Prelude.{◌≡◌, ◌+◌, ◌-◌, ◌*◌, ◌/◌, ◌%◌, ◌^◌, ◌&&◌, ◌||◌, ◌==◌, nat_lt, not, ◌≤◌, IfOk};
-ghost use Rattle.std.specs.Prelude.{IfSome, min, max, true, false};
+ghost use Rattle.std.specs.Prelude.{◌≡◌, ◌≢◌, ◌+◌, ◌-◌, ◌*◌, ◌/◌, ◌%◌, ◌^◌, ◌&&◌, ◌||◌, ◌==◌, nat_lt, not, ◌≤◌};
+ghost use Rattle.std.specs.Prelude.{IfOk, IfSome, MatchOption, min, max, true, false};
 ghost use Rattle.lock_api_raw.specs.Limits.{kept_limit};
-ghost use Rattle.parking_lot_driver.specs.Ends.{RwEnded, UpgradeEnded};
+ghost use Rattle.parking_lot_driver.specs.Ends.{RwAdmitted, RwEnded, RwRefused, UpgradeAdmitted, UpgradeEnded};
+ghost use Rattle.parking_lot_driver.specs.Ends.{UpgradeRefused};
 ghost use Rattle.parking_lot_driver.specs.Runs.{Ended};
+ghost use Rattle.parking_lot_driver.specs.Tries.{Admitted, Refused};
 ghost use Rattle.parking_lot_protocol.specs.RwTable.{is_upgradable, is_written};
+ghost use Rattle.parking_lot_protocol.specs.declared.act.Act.TheVariants.{Load, Exchange, Done};
+ghost use Rattle.parking_lot_protocol.specs.declared.act.ActResult.TheVariants.{Start, Word, Exchanged};
 ghost use Rattle.parking_lot_protocol.specs.declared.act.CoreAnswer.{CoreAnswer};
 ghost use Rattle.parking_lot_protocol.specs.declared.act.CoreAnswer.TheVariants.{Owned};
 ghost use Rattle.parking_lot_protocol.specs.declared.rw_phase.LockMode.TheVariants.{Shared, Exclusive};
-ghost use Rattle.parking_lot_protocol.specs.declared.rw_phase.RwPhase.TheVariants.{Locking, UnlockingShared};
+ghost use Rattle.parking_lot_protocol.specs.declared.rw_phase.RwPhase.TheVariants.{Locking, Trying, UnlockingShared};
 ghost use Rattle.parking_lot_protocol.specs.declared.rw_phase.RwPhase.TheVariants.{UnlockingExclusive, Downgrading};
 ghost use Rattle.parking_lot_protocol.specs.declared.rw_phase.RwPhase.TheVariants.{BumpingShared, BumpingExclusive};
 ghost use Rattle.parking_lot_protocol_rw.specs.declared.upgrade_phase.UpgradePhase.TheVariants as call;
@@ -17,11 +21,11 @@ use crate::token::{ExclusiveToken, SharedToken, UpgradableToken};
 use lock_api_raw::{MakeLock, RawRwLock as _, RawRwLockDowngrade, RawRwLockFair, TableFull};
 use parking_lot_core::{ThreadData, thread_yield};
 use parking_lot_driver::{
-    AskUpgradably, BumpReader, BumpWriter, Call, DecisionCore, Downgrade, LockTable, Place, Read,
-    Row, StopReading, StopWriting, StopWritingFairly, Write,
+    AskUpgradably, BumpReader, BumpWriter, Call, Downgrade, LockTable, Place, Read, Row,
+    StopReading, StopWriting, StopWritingFairly, TryRead, TryToOwnUpgradably, TryWrite, Write,
 };
 use parking_lot_protocol::word::{MAX_READERS, PARKED, READER, UPGRADABLE, WRITER, WRITER_PARKED};
-use parking_lot_protocol::{ActResult, CoreAnswer, RwCore, word};
+use parking_lot_protocol::{ActResult, CoreAnswer, word};
 use std::alloc::{Allocator, Global};
 use std::marker::Model;
 use std::sync::Wait;
@@ -101,7 +105,9 @@ impl<'t, 'l, R, const RECURSIVE: u8, A: Allocator> RawRwLock<'t, 'l, R, RECURSIV
     }
 
     /// What its calls run on.
-    pub(crate) fn place(&self) -> Place<'_, 't, 'l, R, A> {
+    pub(crate) fn place(&self) -> Place<'_, 't, 'l, R, A>
+        ensures { result.limit ≡ self.now.full / 16 }
+    {
         Place {
             row: &self.row,
             limit: word::readers(self.full.word()),
@@ -140,20 +146,44 @@ impl<'t, 'l, R, const RECURSIVE: u8, A: Allocator> RawRwLock<'t, 'l, R, RECURSIV
         UpgradableToken::new(self.number())
     }
 
-    /// Tries again where the first exchange is lost.
+    /// Makes a try that has seen this word alone.
     #[cold]
     #[inline(never)]
-    pub(crate) fn try_slowly<C: DecisionCore>(&self, core: C) -> bool {
-        self.place().attempt(core)
+    pub(crate) fn try_slowly<K: Call>(&self, call: K, word: u64) -> bool
+        requires { K.Core.asks (K.Core.told K.begun Start) ≡ Load }
+        ensures admitted { result ≡ true → Admitted K.Core.told K.Core.asks K.begun }
+        ensures refused { result ≡ false → Refused (self.now.full / 16) K.Core.told K.Core.asks K.begun }
+    {
+        self.place().try_on(call, word)
     }
 
-    /// The same of a call whose end is told.
+    /// Makes a try by one exchange of the word that it has seen, and goes on where that is lost.
+    #[inline(always)]
+    pub(crate) fn try_by_exchange<K: Call>(&self, call: K, word: u64, to: u64) -> bool
+        requires first { K.Core.asks (K.Core.told K.begun Start) ≡ Load }
+        requires then { K.Core.asks (K.Core.told (K.Core.told K.begun Start) (Word word)) ≡ Exchange word to }
+        requires last { K.Core.asks (K.Core.told (K.Core.told (K.Core.told K.begun Start) (Word word)) Exchanged) ≡ Done
+            Owned }
+        ensures admitted { result ≡ true → Admitted K.Core.told K.Core.asks K.begun }
+        ensures refused { result ≡ false → Refused (self.now.full / 16) K.Core.told K.Core.asks K.begun }
+    {
+        match self.row.tries_at_once(call, word, to) {
+            Ok(()) => true,
+            Err(now) => self.try_after_a_loss(call, word, to, now),
+        }
+    }
+
+    /// Goes on with a try that has lost its first exchange to the word that is there now.
     #[cold]
     #[inline(never)]
-    pub(crate) fn owns_by_trying<K: Call>(&self, _call: K) -> bool
-        ensures { result ≡ true → Ended K.Core.told K.Core.asks K.begun Owned }
+    fn try_after_a_loss<K: Call>(&self, call: K, word: u64, to: u64, now: u64) -> bool
+        requires first { K.Core.asks (K.Core.told K.begun Start) ≡ Load }
+        requires then { K.Core.asks (K.Core.told (K.Core.told K.begun Start) (Word word)) ≡ Exchange word to }
+        requires lost { now ≢ word }
+        ensures admitted { result ≡ true → Admitted K.Core.told K.Core.asks K.begun }
+        ensures refused { result ≡ false → Refused (self.now.full / 16) K.Core.told K.Core.asks K.begun }
     {
-        self.place().attempt(K::begin())
+        self.place().try_again(call, word, to, now)
     }
 
     /// Reads at once, where one exchange does it.
@@ -167,6 +197,38 @@ impl<'t, 'l, R, const RECURSIVE: u8, A: Allocator> RawRwLock<'t, 'l, R, RECURSIV
         }
         self.row
             .owns_at_once(Read::<RECURSIVE>, word, word.wrapping_add(READER))
+    }
+
+    /// Tries to read, by one exchange where the word is open.
+    #[inline(always)]
+    fn tries_to_read(&self) -> bool
+        ensures admitted { result ≡ true → RwAdmitted (Trying (Shared (RECURSIVE == 1))) }
+        ensures refused { result ≡ false → RwRefused (self.now.full / 16) (Trying (Shared (RECURSIVE == 1))) }
+    {
+        let word = self.row.load();
+        if is_open(word, self.full.word()) {
+            self.try_by_exchange(TryRead::<RECURSIVE>, word, word.wrapping_add(READER))
+        } else {
+            self.try_slowly(TryRead::<RECURSIVE>, word)
+        }
+    }
+
+    /// Tries to have the upgradable hold, by one exchange where the word is open to it.
+    #[inline(always)]
+    pub(crate) fn tries_to_own_upgradably(&self) -> bool
+        ensures admitted { result ≡ true → UpgradeAdmitted call.Trying }
+        ensures refused { result ≡ false → UpgradeRefused (self.now.full / 16) call.Trying }
+    {
+        let word = self.row.load();
+        if is_open_to_upgradable(word, self.full.word()) {
+            self.try_by_exchange(
+                TryToOwnUpgradably,
+                word,
+                word.wrapping_add(READER + UPGRADABLE),
+            )
+        } else {
+            self.try_slowly(TryToOwnUpgradably, word)
+        }
     }
 
     /// Writes at once, where one exchange does it.
@@ -329,6 +391,13 @@ impl<'t, 'l, R, const RECURSIVE: u8, A: Allocator> lock_api_raw::RawRwLock
 
     ghost exclusive_locked = { λ _. RwEnded (Locking Exclusive) Owned };
 
+    ghost shared_tried = { λ lock answer. MatchOption answer
+        (RwRefused (lock.full / 16) (Trying (Shared (RECURSIVE == 1))))
+        (λ _. RwAdmitted (Trying (Shared (RECURSIVE == 1)))) };
+
+    ghost exclusive_tried = { λ lock answer. MatchOption answer (RwRefused (lock.full / 16) (Trying Exclusive))
+        (λ _. RwAdmitted (Trying Exclusive)) };
+
     ghost shared_unlocked = { λ _. (answer : CoreAnswer) × RwEnded UnlockingShared answer };
 
     ghost exclusive_unlocked = { λ _. (answer : CoreAnswer) × RwEnded (UnlockingExclusive false) answer };
@@ -351,7 +420,7 @@ impl<'t, 'l, R, const RECURSIVE: u8, A: Allocator> lock_api_raw::RawRwLock
 
     #[inline(always)]
     fn try_lock_shared(&self) -> Option<SharedToken> {
-        if self.reads_at_once() || self.try_slowly(RwCore::try_lock_shared(RECURSIVE == 1)) {
+        if self.tries_to_read() {
             Some(self.shared_token())
         } else {
             None
@@ -389,7 +458,7 @@ impl<'t, 'l, R, const RECURSIVE: u8, A: Allocator> lock_api_raw::RawRwLock
 
     #[inline(always)]
     fn try_lock_exclusive(&self) -> Option<ExclusiveToken> {
-        if self.row.exchange(0, WRITER).is_ok() || self.try_slowly(RwCore::try_lock_exclusive()) {
+        if self.try_by_exchange(TryWrite, 0, WRITER) {
             Some(self.exclusive_token())
         } else {
             None

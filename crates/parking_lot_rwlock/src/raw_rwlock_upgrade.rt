@@ -1,11 +1,13 @@
 //! Upgradable holds of the raw reader-writer lock.
-ghost use Rattle.std.specs.Prelude.{◌≡◌, ◌+◌, ◌*◌, ◌%◌, ◌^◌, IfOk, IfSome, MatchResult, ⊤, true};
-ghost use Rattle.parking_lot_driver.specs.Ends.{UpgradeEnded};
+ghost use Rattle.std.specs.Prelude.{◌≡◌, ◌+◌, ◌*◌, ◌/◌, ◌%◌, ◌^◌, ℕ, IfOk, IfSome, MatchOption};
+ghost use Rattle.std.specs.Prelude.{MatchResult, true};
+ghost use Rattle.parking_lot_driver.specs.Ends.{UpgradeAdmitted, UpgradeEnded, UpgradeRefused};
 ghost use Rattle.parking_lot_driver.specs.Runs.{Ended};
 ghost use Rattle.parking_lot_protocol.specs.declared.act.CoreAnswer.{CoreAnswer};
 ghost use Rattle.parking_lot_protocol.specs.declared.act.CoreAnswer.TheVariants.{Owned, Released};
 ghost use Rattle.parking_lot_protocol_rw.specs.declared.upgrade_phase.Release.TheVariants as release;
-ghost use Rattle.parking_lot_protocol_rw.specs.declared.upgrade_phase.UpgradePhase.TheVariants.{Locking, Unlocking};
+ghost use Rattle.parking_lot_protocol_rw.specs.declared.upgrade_phase.UpgradePhase.TheVariants.{Locking, Trying};
+ghost use Rattle.parking_lot_protocol_rw.specs.declared.upgrade_phase.UpgradePhase.TheVariants.{Unlocking};
 ghost use Rattle.parking_lot_protocol_rw.specs.declared.upgrade_phase.UpgradePhase.TheVariants.{Bumping, Upgrading};
 ghost use Rattle.parking_lot_protocol_rw.specs.declared.upgrade_phase.UpgradePhase.TheVariants.{TryingToUpgrade};
 ghost use Rattle.parking_lot_protocol_rw.specs.declared.upgrade_phase.UpgradePhase.TheVariants.{DowngradingToShared};
@@ -21,7 +23,6 @@ use parking_lot_driver::{
 };
 use parking_lot_protocol::word::{PARKED, READER, UPGRADABLE, WRITER, is_parked};
 use parking_lot_protocol::{ActResult, CoreAnswer};
-use parking_lot_protocol_rw::UpgradeCore;
 use std::alloc::Allocator;
 use std::sync::Wait;
 
@@ -197,11 +198,15 @@ impl<'t, 'l, R, const RECURSIVE: u8, A: Allocator> RawRwLockUpgrade
 
     ghost upgradable_locked = { λ _. UpgradeEnded Locking Owned };
 
+    ghost upgradable_tried = { λ lock answer. MatchOption answer (UpgradeRefused (lock.full / 16) Trying)
+        (λ _. UpgradeAdmitted Trying) };
+
     ghost upgradable_unlocked = { λ _. (answer : CoreAnswer) × UpgradeEnded (Unlocking release.Plain) answer };
 
     ghost upgraded = { λ _ _. UpgradeEnded Upgrading Owned };
 
-    ghost upgrade_tried = { λ _ tried. MatchResult tried (λ _. UpgradeEnded TryingToUpgrade Owned) (λ _. ⊤) };
+    ghost upgrade_tried = { λ _ tried. MatchResult tried (λ _. UpgradeAdmitted TryingToUpgrade)
+        (λ _. (limit : ℕ) × UpgradeRefused limit TryingToUpgrade) };
 
     #[inline(always)]
     fn lock_upgradable(&self, party: &mut ThreadData<A>) -> UpgradableToken
@@ -217,7 +222,7 @@ impl<'t, 'l, R, const RECURSIVE: u8, A: Allocator> RawRwLockUpgrade
 
     #[inline(always)]
     fn try_lock_upgradable(&self) -> Option<UpgradableToken> {
-        if self.upgradable_at_once() || self.try_slowly(UpgradeCore::try_lock()) {
+        if self.tries_to_own_upgradably() {
             Some(self.upgradable_token())
         } else {
             None
@@ -245,10 +250,7 @@ impl<'t, 'l, R, const RECURSIVE: u8, A: Allocator> RawRwLockUpgrade
 
     #[inline(always)]
     fn try_upgrade(&self, guard: UpgradableToken) -> Result<ExclusiveToken, UpgradableToken> {
-        let alone = READER + UPGRADABLE;
-        if self.row().owns_at_once(TryToUpgrade, alone, WRITER)
-            || self.owns_by_trying(TryToUpgrade)
-        {
+        if self.try_by_exchange(TryToUpgrade, READER + UPGRADABLE, WRITER) {
             Ok(guard.exclusive())
         } else {
             Err(guard)

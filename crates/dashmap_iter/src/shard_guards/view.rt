@@ -5,6 +5,7 @@ ghost use Rattle.dashmap_map.specs.Locked.{lock_at};
 
 use crate::shard_guards::guard::{ShardReadGuard, hold_to_read};
 use dashmap_map::DashMap;
+use dashmap_map::parts::shard_locks;
 use dashmap_table::Shard;
 use lock_api_raw::RawRwLock;
 use lock_api_rw::RwLock;
@@ -47,10 +48,16 @@ impl<'m, K: Eq + Hash, V, S: BuildHasher, Q, A: Allocator> ShardsView<'m, K, V, 
         ensures count { result ≡ length self.now.locks }
         ensures amount { IsShardAmount result }
     {
-        self.map.shard_locks().len()
+        shard_locks(self.map).len()
     }
 
-    /// Waits for a shared hold of a shard; None from `count` on.
+    /// A shared hold of a shard, which lends the shard to be read alone; `None` from `count` on.
+    ///
+    /// Blocks while another holds the shard exclusively, or waits to. The guard keeps the borrow of `td`.
+    ///
+    /// ```text
+    /// if let Some(shard) = map.shards().read(0, &mut me) { let pairs = shard.len(); }
+    /// ```
     pub fn read<'d>(
         &self,
         shard: usize,
@@ -74,6 +81,6 @@ impl<'m, K: Eq + Hash, V, S: BuildHasher, Q, A: Allocator> ShardsView<'m, K, V, 
         requires { shard < length self.now.locks }
         ensures { lock_at self.now shard ≡ Some result.now }
     {
-        &*self.map.shard_locks()[shard]
+        &*shard_locks(self.map)[shard]
     }
 }

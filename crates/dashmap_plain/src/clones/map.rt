@@ -8,6 +8,7 @@ ghost use Rattle.dashmap_plain.specs.Clones.Clones.{IsCloneBehind, AreClonesBehi
 use crate::Unlocked;
 use crate::clones::rows::fault_without_memory;
 use dashmap_map::DashMap;
+use dashmap_map::parts::{allocator, shard_locks};
 use dashmap_table::{MapFault, Shard};
 use dashmap_view::{clone_hasher, clone_shard};
 use lock_api_raw::{MakeLock, NoMemory, RawRwLock};
@@ -78,8 +79,8 @@ where
     requires values { (value copy : V) → V.is_clone value copy → copy ≡ value }
     ensures { IfOk result (λ v. AreClonesBehind Q.showed K.eq map.now v.items) }
 {
-    let locks = map.shard_locks();
-    let alloc = map.allocator();
+    let locks = shard_locks(map);
+    let alloc = allocator(map);
     let mut clones = Vec::with_capacity(alloc.clone()?, locks.len())?;
     for lock in locks {
         clones.push(clone_behind(&**lock, alloc.clone()?, td)?)?;
@@ -157,7 +158,7 @@ where
     ensures locks { IfOk result (λ u. length u.locks ≡ length map.now.locks) }
     ensures refused { IfErr result (λ fault. (fault ≡ MapFault.TableFull) ⊎ (fault ≡ MapFault.NoMemory)) }
 {
-    let amount = map.shard_locks().len();
+    let amount = shard_locks(map).len();
     match clone_parts(map, td) {
         Ok((shards, hasher)) => map_of(shards, hasher, table),
         Err(_) => Err(fault_without_memory::<Q, T>(table, amount)),

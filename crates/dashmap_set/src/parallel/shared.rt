@@ -4,6 +4,7 @@ ghost use Rattle.dashmap_parallel.specs.declared.fault.ParExtendFault.{ParExtend
 ghost use Rattle.dashmap_parallel.specs.Puts.{WasPut};
 
 use crate::set::DashSet;
+use dashmap_map::parts::allocator;
 use dashmap_parallel::{ParExtendFault, par_extend_shared};
 use dashmap_table::Shard;
 use lock_api_raw::NoMemory;
@@ -62,7 +63,7 @@ where
         if tds.is_empty() {
             return Err(ParExtendFault::NoThreadData);
         }
-        let pairs = with_units(keys, self.inner.allocator())?;
+        let pairs = with_units(keys, allocator(&self.inner))?;
         par_extend_shared(&self.inner, rt, pairs, tds)
     }
 }

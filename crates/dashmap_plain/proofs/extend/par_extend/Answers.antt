@@ -9,6 +9,6 @@ returns-clause-refused g c =
     let list = YieldsList-from_vec c.args.pairs.items c.into_iter.ensures.rest
     (c.into_iter.ensures.len ∙ c.args.pairs.ok.0) in
     IfErr-weaker c.extend.result _ _
-    (λ back (before, rest, came).
+    (λ back (before, rest, came, puts, no_room).
     (before, drop (length before + 1) c.args.pairs.items, taken_until before back rest came list))
     c.extend.ensures.refused

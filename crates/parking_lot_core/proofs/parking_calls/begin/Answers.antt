@@ -1,5 +1,5 @@
 use Rattle.std.proofs.Common.{◌≡◌, ◌∙◌, ap, sym, subst, Bool, true, false, ℕ, Option, None, Some, is_some, not, Result}
-use Rattle.std.proofs.Common.{Ok, Err, if◌then◌else◌}
+use Rattle.std.proofs.Common.{Ok, Err, if◌then◌else◌, rules}
 use Rattle.std.specs.Result.{result_ok, is_ok}
 use Rattle.std.specs.Option.{option_and_then}
 use Rattle.std.proofs.lemmas.Bool.{false≢true}
@@ -9,6 +9,7 @@ use Rattle.parking_lot_core_model.specs.declared.parking.ParkResult.TheVariants.
 use Rattle.parking_lot_core_model.specs.declared.parking.ParkToken.{ParkToken}
 use Rattle.parking_lot_core_model.specs.Operations.{Parks}
 use Rattle.parking_lot_core_model.specs.Machine.{Machine, machine, Unless, Does, enter_fault}
+use Rattle.parking_lot_core.specs.Shared.{WasHeld}
 use Rattle.parking_lot_core.proofs.parking_calls.begin.Goals as goal
 
 abbrev told_of : Result (Option ParkResult) LotFault → Option ParkResult
@@ -29,14 +30,16 @@ module _ (validates : Bool → Type 0) (thread key : ℕ) (token : ParkToken) (t
 pub returns-clause-joined : goal.returns-clause-joined
 returns-clause-joined g c =
     let old = machine c.deref_mut.result.now.lot in
-    let new = machine c.park.new.self.lot in
+    let new = machine c.park-parked.new.self.lot in
     let lot = c.in-Ok.ensures.lot in
+    let held : WasHeld old new = search rules in
     let validates : Bool → Type 0 = λ valid. goal.V-post g c.args.validate valid in
     let same = told validates c.args.thread c.args.key c.args.park_token c.args.timed old new c.in-Ok.ended
     (enter_fault old c.args.thread) c.is_none.result c.is_none.ensures lot in (
       old,
       new,
-      c.park.ensures.sound,
+      c.park-parked.ensures.sound,
       subst (λ o. Does (λ m. enter_fault m c.args.thread)
           (Parks validates c.args.thread c.args.key c.args.park_token c.args.timed) old (Ok o) new) same lot,
+      held,
     )

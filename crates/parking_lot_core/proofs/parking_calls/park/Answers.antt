@@ -1,5 +1,5 @@
 use Rattle.std.proofs.Common.{◌≡◌, ◌≢◌, ◌∙◌, ap, sym, subst, is_some, Bool, true, false, ℕ, Option, None, Some, Result}
-use Rattle.std.proofs.Common.{Ok}
+use Rattle.std.proofs.Common.{Ok, rules}
 use Rattle.std.specs.Result.{is_ok, result_ok}
 use Rattle.std.specs.Option.{option_map_or}
 use Rattle.std.proofs.lemmas.Bool.{false≢true}
@@ -11,7 +11,7 @@ use Rattle.parking_lot_core_model.specs.declared.parking.ParkResult.TheVariants.
 use Rattle.parking_lot_core_model.specs.Operations.{Parks, Resumes, ResumesFrom}
 use Rattle.parking_lot_core_model.specs.Places.{place_at}
 use Rattle.parking_lot_core_model.specs.Machine.{Machine, machine, Unless, Does, enter_fault, resume_fault}
-use Rattle.parking_lot_core.specs.Shared.{OnSomeLot}
+use Rattle.parking_lot_core.specs.Shared.{OnSomeLot, WasHeld}
 use Rattle.parking_lot_core.proofs.parking_calls.park.Goals as goal
 
 abbrev is_invalid : ParkResult → Bool
@@ -36,7 +36,7 @@ module _ (tells : ℕ → Bool → Type 0) (thread : ℕ) (old new : Machine) (e
 pub returns-clause-joined : goal.returns-clause-joined
 returns-clause-joined g c =
     let old = machine c.deref_mut.result.now.lot in
-    let new = machine c.resume.new.self.lot in
+    let new = machine c.resume-resumed.new.self.lot in
     let thread = c.thread_data.inside.thread in
     let tells : ℕ → Bool → Type 0 = λ key last. goal.T-post g c.args.timed_out key last tt in
     let validates : Bool → Type 0 = λ valid. goal.V-post g c.args.validate valid in
@@ -61,7 +61,8 @@ returns-clause-joined g c =
 pub returns-clause-ended : goal.returns-clause-ended
 returns-clause-ended g c =
     let old = machine c.deref_mut.result.now.lot in
-    let new = machine c.resume.new.self.lot in
+    let new = machine c.resume-resumed.new.self.lot in
     let tells : ℕ → Bool → Type 0 = λ key last. goal.T-post g c.args.timed_out key last tt in
+    let held : WasHeld old new = search rules in
     λ _. subst (λ t. OnSomeLot (Does (λ m. resume_fault m t) (Resumes tells t)) c.in-Ok.ended)
-    (ap (λ t. t.thread) c.thread_data.view_is) (old, new, c.resume.ensures.sound, c.in-Ok.ensures.lot)
+    (ap (λ t. t.thread) c.thread_data.view_is) (old, new, c.resume-resumed.ensures.sound, c.in-Ok.ensures.lot, held)

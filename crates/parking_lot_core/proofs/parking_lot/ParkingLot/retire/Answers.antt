@@ -1,11 +1,12 @@
-use Rattle.std.proofs.Common.{subst}
+use Rattle.std.proofs.Common.{rules, subst}
 use Rattle.parking_lot_core_model.specs.Machine.{machine, retire_fault, retired, Does, Makes}
-use Rattle.parking_lot_core.specs.Shared.{OnSomeLot}
+use Rattle.parking_lot_core.specs.Shared.{OnSomeLot, WasHeld}
 use Rattle.parking_lot_core.proofs.parking_lot.ParkingLot.retire.Goals as goal
 
 pub returns : goal.returns
 returns g c =
     let old = machine c.deref_mut.result.now.lot in
-    let new = machine c.retire.new.self.lot in
+    let new = machine c.retire-retired.new.self.lot in
+    let held : WasHeld old new = search rules in
     subst (λ t. OnSomeLot (Does (λ m. retire_fault m t) (Makes (λ m. retired m t))) c.in-Ok.field-0)
-    c.thread_number.ensures (old, new, c.retire.ensures.sound, c.in-Ok.ensures.lot)
+    c.thread_number.ensures (old, new, c.retire-retired.ensures.sound, c.in-Ok.ensures.lot, held)

@@ -1,0 +1,6 @@
+use Rattle.lock_api.specs.Leaves.{WasNested}
+use Rattle.lock_api.proofs.raw_reentrant.RawReentrantMutex.nest.Goals as goal
+
+pub returns-then-depth-self-clause-nested : goal.returns-then-depth-self-clause-nested
+unfolding WasNested
+returns-then-depth-self-clause-nested g c = tt

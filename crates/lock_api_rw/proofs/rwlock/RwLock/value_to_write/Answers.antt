@@ -1,0 +1,7 @@
+use Rattle.lock_api_rw.specs.Holds.{IsValueTaken}
+use Rattle.lock_api_rw.proofs.rwlock.RwLock.value_to_write.Goals as goal
+
+-- the std lock was asked
+pub returns-in-None : goal.returns-in-None
+unfolding IsValueTaken
+returns-in-None g c = tt
