@@ -5,7 +5,7 @@ ghost use Rattle.dashmap_map.specs.Locked.{Locked};
 use crate::iter::Iter;
 use crate::iter_mut::{IterMut, WritingWalk};
 use crate::shards::MapShards;
-use dashmap_map::DashMap;
+use dashmap_map::{DashMap, MapParts};
 use lock_api_raw::RawRwLock;
 use std::alloc::Allocator;
 use std::hash::{BuildHasher, Hash};

@@ -1,5 +1,7 @@
 mod Amounts
 mod Putting
+mod Lists
+mod Rooms
 mod Slices
 mod AtKeys
 mod Turns

@@ -1,5 +1,5 @@
 -- What a call on one key answers of a shard that it holds, and what it leaves there.
-use Rattle.std.specs.Prelude.{◌≡◌, ℕ, ◌≤◌, Bool, true, Option, None, Some, Result, IfNone, IfSome, IfOk, OnOk, IfErr}
+use Rattle.std.specs.Prelude.{◌≡◌, ℕ, ◌≤◌, Bool, true, Option, None, Some, Result, IfNone, IfSome, IfOk, OnOk, IfErr, ◌*◌}
 use Rattle.std.specs.Prelude.{MatchOption, MatchResult, if◌then◌else◌}
 use Rattle.std.specs.Borrow.{Bor, MutBor}
 use Rattle.std.specs.Fn.{Once}
@@ -54,6 +54,14 @@ module _ {K V : Type 0} (eq : K → K → Bool) where
   Views {F} {U} g f shard hash key result =
       IfNone (slot_of eq shard.slots hash key) (result ≡ None)
       × IfSome (entry_of eq shard.slots hash key) (λ e. (u : U) × AnswersAt g f e.key e.value u × (result ≡ Some u))
+
+  -- each pair is found as it was, and room that they don't need is given up
+  abbrev pub Shrunk : Table K V → Table K V → Type 0
+  Shrunk old new = SamePairs eq old new × (new.room ≤ old.room) × (new.room ≤ 4 * count new.slots)
+
+  -- so where it wasn't refused; else nothing changes
+  abbrev pub Shrinks : {X E : Type 0} → Result X E → Table K V → Table K V → Type 0
+  Shrinks result old new = MatchResult result (λ _. Shrunk old new) (λ _. new ≡ old)
 
   -- the key has no pair, or a guard of its slot is answered, through which the very shard is seen
   abbrev pub Finds : {R : Type 0} → (R → Table K V × ℕ) → Table K V → ℕ → K → Option R → Type 0

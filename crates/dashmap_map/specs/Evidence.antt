@@ -1,5 +1,5 @@
 -- What a call saw and left while it held the lock of a shard. The evidence is a member of which nothing else is known.
-use Rattle.std.specs.Prelude.{◌≡◌, ℕ, zero, suc, ◌+◌, ◌-◌, ◌^◌, min, length, Option, Some}
+use Rattle.std.specs.Prelude.{◌≡◌, ℕ, zero, suc, ◌+◌, ◌-◌, ◌^◌, min, length, Option, Some, ⊤}
 use Rattle.std.specs.Hash.{HashWrites}
 use Rattle.std.specs.declared.hash.BuildHasher as builder
 use Rattle.std.specs.declared.hash.Hasher as hasher
@@ -40,6 +40,14 @@ module _ {K V Q S Party X : Type 0} (m : map.Locked Q S) where
   InTurn seen P zero p q = p ≡ q
   InTurn seen P (suc n) p q = (r : Party × X) × InTurn seen P n p r
       × OnSight seen (lock_at m n) r.0 q.0 (λ shard. P r.1 shard q.1)
+
+module _ {K V Q S Party : Type 0} (held : Q → Party → Party → Table K V → Table K V → Type 0) (m : map.Locked Q S)
+    (P : Table K V → Table K V → Type 0) where
+  -- an exclusive hold of each of the first n shards was had and ended, in their order, by one wait after another, and P
+  -- holds between what each found and left
+  abbrev pub HeldUpTo : ℕ → Party → Party → Type 0
+  HeldUpTo n from to = InTurn m (λ lock a b old. (new : Table K V) × held lock a b old new × P old new) (λ _ _ _. ⊤) n
+      (from, tt {0}) (to, tt {0})
 
 module _ {K V Q S Party : Type 0} (seen : Q → Party → Party → Table K V → Type 0) (m : map.Locked Q S)
     (amount : Table K V → ℕ) where

@@ -17,6 +17,7 @@ use crate::held::{
 use crate::map::DashMap;
 use crate::mapref::entry::Entry;
 use crate::mapref::one::{Ref, RefMut};
+use dashmap_guard::mapref::entry::lookup;
 use dashmap_table::Shard;
 use lock_api_rw::{Evidence, read_shown, write_found, write_traced};
 use std::alloc::Allocator;
@@ -198,6 +199,6 @@ where
             (λ hash shard. Enters K.eq (λ w. write_guard_value w) shard hash key result) }
     {
         let (hash, lock) = self.place_of(&key);
-        Entry::find(write_found(lock, td), hash, key)
+        lookup::find(write_found(lock, td), hash, key)
     }
 }

@@ -20,6 +20,8 @@ mod make;
 mod map;
 pub mod mapref;
 mod ops;
+pub mod owner;
+mod parts;
 mod room;
 mod show;
 mod t;
@@ -28,4 +30,5 @@ mod whole;
 
 pub use fault::{NewFault, TryReserveError};
 pub use map::DashMap;
+pub use parts::MapParts;
 pub use t::Map;

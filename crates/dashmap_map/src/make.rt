@@ -1,14 +1,17 @@
 //! How a map is made.
 ghost use Rattle.std.specs.Prelude.{◌≡◌, ℕ, ◌^◌, ◌<◌, ◌↔◌, ◌⊎◌, List, length, Err, IfOk, IfErr, OnOk};
 ghost use Rattle.std.specs.Iterator.{IsFinite, Drains};
+ghost use Rattle.std.specs.List.{All};
 ghost use Rattle.std.specs.Int.{IsNextPowerOfTwo};
 ghost use Rattle.dashmap_table.specs.Route.{IsShardAmount, HasNoShare, share_of, wanted_shards};
-ghost use Rattle.dashmap_map.specs.Making.{has_shards, HasNoDefaultShare};
+ghost use Rattle.dashmap_map.specs.Making.{has_shards, have_room, HasNoDefaultShare};
+ghost use Rattle.dashmap_map.specs.Owner.{IsFresh, EachBehind, HasRoom, IsPut};
 
 use crate::fault::NewFault;
 use crate::map::DashMap;
+use crate::owner::OwnerEvidence;
 use crate::room::Made;
-use dashmap_table::{MapFault, capacity_share, default_shards, is_shard_amount};
+use dashmap_table::{MapFault, Shard, capacity_share, default_shards, is_shard_amount};
 use lock_api_raw::{MakeLock, RawRwLock};
 use std::alloc::Allocator;
 use std::hash::{BuildHasher, Hash, RandomState};
@@ -31,14 +34,44 @@ fn share_for(capacity: usize, shard_amount: usize) -> Result<usize, MapFault>
     }
 }
 
+/// The map over the shards that were made, with this hasher.
+fn with_given_hasher<
+    K: Eq + Hash + Drop,
+    V: Drop,
+    S: BuildHasher + Drop,
+    Q: OwnerEvidence<Shard<K, V, A>> + Drop,
+    A: Allocator,
+>(made: Made<K, V, Q, A>, hasher: S) -> Result<DashMap<K, V, S, Q, A>, MapFault>
+    requires { (shards : ℕ) × IsShardAmount shards × has_shards shards made }
+    ensures made { (shards : ℕ) → has_shards shards made → IfOk result (λ m. length m.locks ≡ shards) }
+    ensures hasher { IfOk result (λ m. m.hasher ≡ hasher) }
+    ensures room { (share : ℕ) → have_room Q.put share made
+        → IfOk result (λ m. EachBehind Q.put (IsFresh share) m.locks) }
+    ensures refused { IfErr result (λ fault. fault ≡ MapFault.NoMemory) }
+{
+    match made {
+        Made::Whole(shards, spare) => Ok(DashMap {
+            shards,
+            spare,
+            hasher,
+        }),
+        Made::Short(_lock) => Err(MapFault::NoMemory),
+    }
+}
+
 /// The map over the shards that were made, with a hasher that their locks' runtime makes.
-fn with_own_hasher<K: Eq + Hash + Drop, V: Drop, Q: RawRwLock + Drop, A: Allocator + Clone>(
-    made: Made<K, V, Q, A>,
-) -> Result<DashMap<K, V, RandomState, Q, A>, NewFault>
+fn with_own_hasher<
+    K: Eq + Hash + Drop,
+    V: Drop,
+    Q: RawRwLock + OwnerEvidence<Shard<K, V, A>> + Drop,
+    A: Allocator + Clone,
+>(made: Made<K, V, Q, A>) -> Result<DashMap<K, V, RandomState, Q, A>, NewFault>
 where
     Q::Runtime: RandomSource,
     requires { (shards : ℕ) × IsShardAmount shards × has_shards shards made }
     ensures made { (shards : ℕ) → has_shards shards made → IfOk result (λ m. length m.locks ≡ shards) }
+    ensures room { (share : ℕ) → have_room Q.put share made
+        → IfOk result (λ m. EachBehind Q.put (IsFresh share) m.locks) }
     ensures refused { IfErr result (λ fault. (fault ≡ NewFault.NoRandom) ⊎ (fault ≡ NewFault.Map MapFault.NoMemory)) }
 {
     let Some(hasher) = made.hasher() else {
@@ -58,7 +91,7 @@ impl<
     K: Eq + Hash + Drop,
     V: Drop,
     S: BuildHasher + Drop,
-    Q: RawRwLock + Drop,
+    Q: RawRwLock + OwnerEvidence<Shard<K, V, A>> + Drop,
     A: Allocator + Clone,
 > DashMap<K, V, S, Q, A> {
     /// An empty map with that many shards and room for the capacity's share in each. A capacity of 0 takes no room.
@@ -74,18 +107,14 @@ impl<
     where
         Q: MakeLock<T>,
         ensures made { IfOk result (λ m. (length m.locks ≡ shard_amount) × (m.hasher ≡ hasher)) }
+        ensures room { IfOk result (HasRoom Q.put capacity) }
         ensures bad_shards { (result ≡ Err MapFault.BadShards) ↔ ¬ IsShardAmount shard_amount }
         ensures overflow { (result ≡ Err MapFault.CapacityOverflow) ↔
             (IsShardAmount shard_amount × HasNoShare capacity shard_amount) }
     {
         let share = share_for(capacity, shard_amount)?;
         match Made::of(alloc, shard_amount, share, table) {
-            Ok(Made::Whole(shards, spare)) => Ok(DashMap {
-                shards,
-                spare,
-                hasher,
-            }),
-            Ok(Made::Short(_)) => Err(MapFault::NoMemory),
+            Ok(made) => with_given_hasher(made, hasher),
             Err(_) => Err(MapFault::TableFull),
         }
     }
@@ -100,6 +129,7 @@ impl<
     where
         Q: MakeLock<T>,
         ensures made { IfOk result (λ m. (length m.locks ≡ shard_amount) × (m.hasher ≡ hasher)) }
+        ensures room { IfOk result (HasRoom Q.put 0) }
         ensures bad_shards { (result ≡ Err MapFault.BadShards) ↔ ¬ IsShardAmount shard_amount }
         ensures fits { ¬ (result ≡ Err MapFault.CapacityOverflow) }
     {
@@ -118,6 +148,7 @@ impl<
         Q: MakeLock<T>,
         ensures made { IfOk result (λ m. IsNextPowerOfTwo (wanted_shards parallelism) (length m.locks)
             × (m.hasher ≡ hasher)) }
+        ensures room { IfOk result (HasRoom Q.put capacity) }
         ensures bad_shards { (result ≡ Err MapFault.BadShards) ↔ (2 ^ 16 < wanted_shards parallelism) }
         ensures overflow { (result ≡ Err MapFault.CapacityOverflow) ↔ HasNoDefaultShare capacity parallelism }
     {
@@ -138,6 +169,7 @@ impl<
         Q: MakeLock<T>,
         ensures made { IfOk result (λ m. IsNextPowerOfTwo (wanted_shards parallelism) (length m.locks)
             × (m.hasher ≡ hasher)) }
+        ensures room { IfOk result (HasRoom Q.put 0) }
         ensures bad_shards { (result ≡ Err MapFault.BadShards) ↔ (2 ^ 16 < wanted_shards parallelism) }
         ensures fits { ¬ (result ≡ Err MapFault.CapacityOverflow) }
     {
@@ -161,7 +193,8 @@ impl<
         requires ends { IsFinite (I.remaining iter) }
         ensures made { IfOk result (λ m. IsNextPowerOfTwo (wanted_shards parallelism) (length m.locks)
             × (m.hasher ≡ hasher)) }
-        ensures all { OnOk result ((pairs : List (K × V)) × Drains I.next_gives iter pairs) }
+        ensures all { IfOk result (λ m. (pairs : List (K × V)) × Drains I.next_gives iter pairs
+            × All (IsPut Q.taken Q.put S.BuildHasher S.Hasher.Hasher K.hash_input m K.eq) pairs) }
         ensures bad_shards { (result ≡ Err MapFault.BadShards) ↔ (2 ^ 16 < wanted_shards parallelism) }
         ensures fits { ¬ (result ≡ Err MapFault.CapacityOverflow) }
     {
@@ -183,6 +216,7 @@ impl<
         Q: MakeLock<T>,
         ensures made { IfOk result (λ m. IsNextPowerOfTwo (wanted_shards parallelism) (length m.locks)
             × (m.hasher ≡ hasher)) }
+        ensures room { IfOk result (HasRoom Q.put 0) }
         ensures bad_shards { (result ≡ Err MapFault.BadShards) ↔ (2 ^ 16 < wanted_shards parallelism) }
         ensures fits { ¬ (result ≡ Err MapFault.CapacityOverflow) }
     {
@@ -190,13 +224,12 @@ impl<
     }
 }
 
-impl<K: Eq + Hash + Drop, V: Drop, Q: RawRwLock + Drop, A: Allocator + Clone> DashMap<
-    K,
-    V,
-    RandomState,
-    Q,
-    A,
->
+impl<
+    K: Eq + Hash + Drop,
+    V: Drop,
+    Q: RawRwLock + OwnerEvidence<Shard<K, V, A>> + Drop,
+    A: Allocator + Clone,
+> DashMap<K, V, RandomState, Q, A>
 where
     Q::Runtime: RandomSource,
 {
@@ -213,6 +246,7 @@ where
     where
         Q: MakeLock<T>,
         ensures made { IfOk result (λ m. length m.locks ≡ shard_amount) }
+        ensures room { IfOk result (HasRoom Q.put capacity) }
         ensures bad_shards { (result ≡ Err (NewFault.Map MapFault.BadShards)) ↔ ¬ IsShardAmount shard_amount }
         ensures overflow { (result ≡ Err (NewFault.Map MapFault.CapacityOverflow)) ↔
             (IsShardAmount shard_amount × HasNoShare capacity shard_amount) }
@@ -233,6 +267,7 @@ where
     where
         Q: MakeLock<T>,
         ensures made { IfOk result (λ m. length m.locks ≡ shard_amount) }
+        ensures room { IfOk result (HasRoom Q.put 0) }
         ensures bad_shards { (result ≡ Err (NewFault.Map MapFault.BadShards)) ↔ ¬ IsShardAmount shard_amount }
         ensures fits { ¬ (result ≡ Err (NewFault.Map MapFault.CapacityOverflow)) }
     {
@@ -249,6 +284,7 @@ where
     where
         Q: MakeLock<T>,
         ensures made { IfOk result (λ m. IsNextPowerOfTwo (wanted_shards parallelism) (length m.locks)) }
+        ensures room { IfOk result (HasRoom Q.put capacity) }
         ensures bad_shards { (result ≡ Err (NewFault.Map MapFault.BadShards)) ↔ (2 ^ 16 < wanted_shards parallelism) }
         ensures overflow { (result ≡ Err (NewFault.Map MapFault.CapacityOverflow)) ↔ HasNoDefaultShare capacity
             parallelism }
@@ -268,6 +304,7 @@ where
     where
         Q: MakeLock<T>,
         ensures made { IfOk result (λ m. IsNextPowerOfTwo (wanted_shards parallelism) (length m.locks)) }
+        ensures room { IfOk result (HasRoom Q.put 0) }
         ensures bad_shards { (result ≡ Err (NewFault.Map MapFault.BadShards)) ↔ (2 ^ 16 < wanted_shards parallelism) }
         ensures fits { ¬ (result ≡ Err (NewFault.Map MapFault.CapacityOverflow)) }
     {

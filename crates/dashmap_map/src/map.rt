@@ -48,59 +48,6 @@ impl<K: Eq + Hash, V, S: BuildHasher, Q, A: Allocator> DashMap<K, V, S, Q, A> {
         &self.hasher
     }
 
-    /// Lends the allocator that the map keeps. For the layer above.
-    pub fn allocator(&self) -> &A {
-        self.shards.allocator()
-    }
-
-    /// Lends the shards in their order, each behind its lock. For the layer above.
-    pub fn shard_locks(&self) -> &[CachePadded<RwLock<Q, Shard<K, V, A>>>]
-        ensures locks { result.now ≡ self.now.locks }
-        ensures amount { IsShardAmount (length self.now.locks) }
-    {
-        &self.shards
-    }
-
-    /// Takes the map apart: its shards behind their locks, as many without pairs, and the hasher. For the layer above.
-    pub fn into_parts(
-        self,
-    ) -> (
-        Vec<CachePadded<RwLock<Q, Shard<K, V, A>>>, A>,
-        Vec<Shard<K, V, A>, A>,
-        S,
-    )
-        ensures locks { result.0.items ≡ self.locks }
-        ensures spare { length result.1.items ≡ length self.locks }
-        ensures hasher { result.2 ≡ self.hasher }
-        ensures amount { IsShardAmount (length self.locks) }
-    {
-        let DashMap {
-            shards,
-            spare,
-            hasher,
-        } = self;
-        (shards, spare, hasher)
-    }
-
-    /// Puts a map together of shards behind their locks, as many without pairs, and a hasher. Each pair has to be in
-    /// the shard of its route, or its key doesn't find it. For the layer above.
-    pub fn from_parts(
-        locks: Vec<CachePadded<RwLock<Q, Shard<K, V, A>>>, A>,
-        spare: Vec<Shard<K, V, A>, A>,
-        hasher: S,
-    ) -> DashMap<K, V, S, Q, A>
-        requires amount { IsShardAmount (length locks.items) }
-        requires spare { length spare.items ≡ length locks.items }
-        ensures locks { result.locks ≡ locks.items }
-        ensures hasher { result.hasher ≡ hasher }
-    {
-        DashMap {
-            shards: locks,
-            spare,
-            hasher,
-        }
-    }
-
     /// The hasher's hash of anything that can be hashed.
     pub fn hash_usize<T: Eq + Hash>(&self, item: &T) -> usize
         ensures { result ≡ key_hash S.BuildHasher S.Hasher.Hasher T.hash_input self.now.hasher item.now }

@@ -1,8 +1,10 @@
 //! What a map is made of, before it is made.
 ghost use Rattle.std.specs.Prelude.{◌≡◌, ℕ, ◌+◌, ◌<◌, ◌≤◌, [], length, IfOk, vec_len, vec_capacity};
-ghost use Rattle.dashmap_table.specs.Slots.{count};
-ghost use Rattle.dashmap_map.specs.Making.{has_shards};
+ghost use Rattle.std.specs.List.{All};
+ghost use Rattle.dashmap_map.specs.Making.{has_shards, have_room};
+ghost use Rattle.dashmap_map.specs.Owner.{IsFresh, EachBehind};
 
+use crate::owner::{OwnerEvidence, put_behind};
 use crossbeam_utils::CachePadded;
 use dashmap_table::Shard;
 use lock_api_raw::{MAX_READERS, MakeLock, NoMemory, RawRwLock, TableFull};
@@ -16,9 +18,7 @@ pub(crate) fn empty_shard<K: Eq + Hash + Drop, V: Drop, A: Allocator + Clone>(
     alloc: A,
     share: usize,
 ) -> Result<Shard<K, V, A>, NoMemory>
-    ensures empty { IfOk result (λ shard. count shard.slots ≡ 0) }
-    ensures room { IfOk result (λ shard. share ≤ shard.room) }
-    ensures none { IfOk result (λ shard. share ≡ 0 → shard.room ≡ 0) }
+    ensures { IfOk result (IsFresh share) }
 {
     let mut shard = Shard::new(alloc);
     shard.reserve(share)?;
@@ -31,7 +31,8 @@ pub(crate) fn empty_shards<K: Eq + Hash + Drop, V: Drop, A: Allocator + Clone>(
     amount: usize,
     share: usize,
 ) -> Result<Vec<Shard<K, V, A>, A>, NoMemory>
-    ensures { IfOk result (λ v. length v.items ≡ amount) }
+    ensures amount { IfOk result (λ v. length v.items ≡ amount) }
+    ensures fresh { IfOk result (λ v. All (IsFresh share) v.items) }
 {
     let mut shards = Vec::with_capacity(alloc.clone()?, amount)?;
     for _ in 0..amount {
@@ -44,7 +45,7 @@ pub(crate) fn empty_shards<K: Eq + Hash + Drop, V: Drop, A: Allocator + Clone>(
 pub(crate) fn lock_shards<
     K: Eq + Hash + Drop,
     V: Drop,
-    Q: RawRwLock + MakeLock<T> + Drop,
+    Q: RawRwLock + MakeLock<T> + OwnerEvidence<Shard<K, V, A>> + Drop,
     A: Allocator,
     T: Copy,
 >(
@@ -53,11 +54,13 @@ pub(crate) fn lock_shards<
     table: T,
 ) -> Result<Vec<CachePadded<RwLock<Q, Shard<K, V, A>>>, A>, TableFull>
     requires { vec_len locks + vec_len shards ≤ vec_capacity locks }
-    ensures { IfOk result (λ v. length v.items ≡ length locks.items + length shards.items) }
+    ensures amount { IfOk result (λ v. length v.items ≡ length locks.items + length shards.items) }
+    ensures fresh { (share : ℕ) → All (IsFresh share) shards.items → EachBehind Q.put (IsFresh share) locks.items
+        → IfOk result (λ v. EachBehind Q.put (IsFresh share) v.items) }
 {
     while let Some(shard) = shards.pop() {
         let raw = Q::new(table, MAX_READERS)?;
-        locks.push_reserved(CachePadded::new(RwLock::from_raw(raw, shard)));
+        locks.push_reserved(CachePadded::new(put_behind(raw, shard)));
     }
     Ok(locks)
 }
@@ -100,13 +103,19 @@ fn room_for<K: Eq + Hash + Drop, V: Drop, Q: RawRwLock + Drop, A: Allocator + Cl
     ensures empty { IfOk result (λ r. r.1.items ≡ []) }
     ensures room { IfOk result (λ r. amount ≤ vec_capacity r.1) }
     ensures spare { IfOk result (λ r. length r.2.items ≡ amount) }
+    ensures fresh { IfOk result (λ r. All (IsFresh share) r.0.items) }
 {
     let locks = Vec::with_capacity(alloc.clone()?, amount)?;
     let spare = empty_shards(alloc.clone()?, amount, 0)?;
     Ok((empty_shards(alloc, amount, share)?, locks, spare))
 }
 
-impl<K: Eq + Hash + Drop, V: Drop, Q: RawRwLock + Drop, A: Allocator + Clone> Made<K, V, Q, A> {
+impl<
+    K: Eq + Hash + Drop,
+    V: Drop,
+    Q: RawRwLock + OwnerEvidence<Shard<K, V, A>> + Drop,
+    A: Allocator + Clone,
+> Made<K, V, Q, A> {
     /// Takes a row for each shard, whether or not there is memory for them: a table without rows is told before want of
     /// memory.
     pub(crate) fn of<T: Copy>(
@@ -117,7 +126,8 @@ impl<K: Eq + Hash + Drop, V: Drop, Q: RawRwLock + Drop, A: Allocator + Clone> Ma
     ) -> Result<Made<K, V, Q, A>, TableFull>
     where
         Q: MakeLock<T>,
-        ensures { IfOk result (has_shards amount) }
+        ensures shards { IfOk result (has_shards amount) }
+        ensures room { IfOk result (have_room Q.put share) }
     {
         match room_for(alloc, amount, share) {
             Ok((shards, locks, spare)) => Ok(Made::Whole(

@@ -52,7 +52,7 @@ where
 {
     fn fmt<F: fmt::Write>(&self, f: &mut fmt::Formatter<F>) -> fmt::Result {
         let mut out = f.debug_set();
-        for lock in self.shard_locks() {
+        for lock in &self.shards {
             match lock.try_read() {
                 Some(guard) => show_pairs(&mut out, &*guard),
                 None => {

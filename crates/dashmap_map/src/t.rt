@@ -12,6 +12,7 @@ ghost use Rattle.dashmap_map.specs.Effects.{Inserts, Removes, RemovesIf, Removes
 ghost use Rattle.dashmap_map.specs.Effects.{IsEntryOf};
 ghost use Rattle.dashmap_map.specs.Evidence.{UnderLock, OnSight, OnTry, OnRefusal, SumsTo, by_try};
 ghost use Rattle.dashmap_map.specs.Locked.{Locked};
+ghost use Rattle.dashmap_map.specs.Owner.{ShrinksAll};
 
 use crate::map::DashMap;
 use crate::mapref::entry::Entry;
@@ -176,7 +177,8 @@ pub trait Map<K: Eq + Hash + Drop, V: Drop, S> {
     /// As `shrink_to_fit`.
     fn _shrink_to_fit(&self, td: &mut <Self::Lock as RawRwLock>::Party) -> Result<(), NoMemory>
     where
-        <Self::Lock as RawRwLock>::Runtime: Wait;
+        <Self::Lock as RawRwLock>::Runtime: Wait,
+        ensures { ShrinksAll K.eq Self.Lock.held (seen self.now) td.old td.new result };
 
     /// As `len`.
     fn _len(&self, td: &mut <Self::Lock as RawRwLock>::Party) -> usize

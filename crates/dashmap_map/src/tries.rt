@@ -14,6 +14,7 @@ use crate::map::DashMap;
 use crate::mapref::entry::Entry;
 use crate::mapref::one::{Ref, RefMut};
 use dashmap_guard::TryResult;
+use dashmap_guard::mapref::entry::lookup;
 use dashmap_table::Shard;
 use lock_api_rw::{Evidence, try_read_shown, try_write_found};
 use std::alloc::Allocator;
@@ -110,7 +111,7 @@ where
         let Some(guard) = try_write_found(lock) else {
             return Ok(None);
         };
-        match Entry::find(guard, hash, key) {
+        match lookup::find(guard, hash, key) {
             Ok(entry) => Ok(Some(entry)),
             Err(key) => Err(key),
         }

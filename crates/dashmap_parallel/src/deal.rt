@@ -5,7 +5,7 @@ ghost use Rattle.std.specs.declared.vec.Vec.{Vec};
 ghost use Rattle.dashmap_view.specs.Parallel.Pieces.{first_shard};
 ghost use Rattle.dashmap_parallel.specs.Puts.{piece_number, piece_at, hashed, AreDealt};
 
-use dashmap_map::DashMap;
+use dashmap_map::{DashMap, MapParts};
 use dashmap_table::NoMemory;
 use std::alloc::Allocator;
 use std::hash::{BuildHasher, Hash};

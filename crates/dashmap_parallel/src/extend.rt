@@ -9,7 +9,7 @@ ghost use Rattle.dashmap_parallel.specs.Puts.{WentWell, PutAt, WasPut};
 use crate::deal::dealt;
 use crate::fault::ParExtendFault;
 use crate::put::put_each;
-use dashmap_map::DashMap;
+use dashmap_map::{DashMap, MapParts};
 use dashmap_table::{NoMemory, Shard};
 use lock_api_rw::Evidence;
 use std::alloc::Allocator;

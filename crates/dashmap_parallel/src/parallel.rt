@@ -5,7 +5,7 @@ ghost use Rattle.dashmap_map.specs.Locked.{Locked};
 use crate::fault::NoThreadData;
 use crate::lent::SharedIter;
 use crate::written::SharedIterMut;
-use dashmap_map::DashMap;
+use dashmap_map::{DashMap, MapParts};
 use lock_api_raw::RawRwLock;
 use std::alloc::Allocator;
 use std::hash::{BuildHasher, Hash};

@@ -10,6 +10,7 @@ use crate::iter_set::Iter;
 use crate::set::DashSet;
 use dashmap_iter::LendingWalks;
 use dashmap_iter::walks::{Walks, lock_behind};
+use dashmap_map::MapParts;
 use dashmap_table::Shard;
 use lock_api_raw::RawRwLock;
 use lock_api_rw::{Evidence, RwLock, write_traced};

@@ -2,6 +2,7 @@
 
 use crate::maps::{Map, map_of};
 use dashmap_iter::shard_guards::Looks;
+use dashmap_map::MapParts;
 use std::sync::Wait;
 use std::test::Fail;
 

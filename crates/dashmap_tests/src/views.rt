@@ -1,6 +1,7 @@
 //! Maps that become views, and views that become maps again.
 
 use crate::maps::{Map, has_all, map_of, view_of};
+use dashmap_map::MapParts;
 use dashmap_plain::Plain;
 use dashmap_table::SpreadState;
 use std::hash::BuildHasher;

@@ -1,11 +1,13 @@
 //! The place of one key in a shard that is held exclusively.
-ghost use Rattle.std.specs.Prelude.{◌≡◌, ◌≤◌, None, Some, Ok, Err, IfOk, IfErr, MatchResult};
+ghost use Rattle.std.specs.Prelude.{◌≡◌, Some, Ok, Err, MatchResult};
 ghost use Rattle.std.specs.Borrow.{Lends, sem};
 ghost use Rattle.std.specs.Fn.{FnOnceReturnsAtMut};
-ghost use Rattle.dashmap_table.specs.Slots.{at, count, slot_of, entry_with};
-ghost use Rattle.dashmap_table.specs.Table.{Adds, Frees, SamePairs, with_value, with_pair};
+ghost use Rattle.dashmap_table.specs.Slots.{entry_with};
+ghost use Rattle.dashmap_table.specs.Table.{Adds, Frees, with_value, with_pair};
 ghost use Rattle.dashmap_guard.specs.Guarded.{pair_in, key_in, value_in};
 ghost use Rattle.dashmap_guard.specs.contracts.mapref.entry.OccupiedEntry as occupied;
+
+pub mod lookup;
 
 use crate::mapref::one::RefMut;
 use dashmap_table::Shard;
@@ -310,8 +312,8 @@ where
         mem::replace(self.of.value_mut(), value)
     }
 
-    /// Takes the pair out, and answers it with the guard of the shard. For the layer above.
-    pub fn take(self) -> (Guard<W, H>, (K, V))
+    /// Takes the pair out, and answers it with the guard of the shard.
+    fn take(self) -> (Guard<W, H>, (K, V))
     where
         K: Drop,
         ensures pair { pair_in (W.part self.0.0.inner) self.0.1 ≡ Some result.1 }
@@ -346,9 +348,8 @@ where
         value
     }
 
-    /// Stores the key that was handed in and the value, and answers the old pair with the guard of the shard. For the
-    /// layer above.
-    pub fn put(self, value: V) -> (Guard<W, H>, (K, V))
+    /// Stores the key that was handed in and the value, and answers the old pair with the guard of the shard.
+    fn put(self, value: V) -> (Guard<W, H>, (K, V))
     where
         K: Drop,
         V: Drop,
@@ -442,39 +443,6 @@ where
 {
     ghost use Rattle.dashmap_guard.specs.Entries.{by_entry};
     ghost use Rattle.dashmap_guard.specs.declared.mapref.entry.Entry.TheVariants.{Occupied, Vacant};
-
-    /// The place of a key in a shard that is held exclusively. For the layer above.
-    ///
-    /// An absent key's room is made here. Where the shard would have to grow for it and can't, the key comes back, the
-    /// shard is let go and nothing has changed.
-    pub fn find(guard: Guard<W, H>, hash: u64, key: K) -> Result<Entry<K, V, A, W, H, D>, K>
-    where
-        A: Clone,
-        ensures found { IfOk result (by_entry
-            (λ o. (o.1 ≡ key) × (o.0.0 ≡ guard) × (slot_of K.eq (W.part guard.inner).slots hash key ≡ Some o.0.1))
-            (λ v. (v.1 ≡ hash) × (v.2 ≡ key) × (v.0.held ≡ guard.held)
-            × (slot_of K.eq (W.part guard.inner).slots hash key ≡ None) × SamePairs K.eq (W.part guard.inner)
-            (W.part v.0.inner))) }
-        ensures refused { IfErr result (λ back. (back ≡ key) × (slot_of K.eq (W.part guard.inner).slots hash key ≡ None)
-            × ((W.part guard.inner).room ≤ count (W.part guard.inner).slots)) }
-    {
-        let mut guard = guard;
-        match guard.look().find(hash, &key) {
-            Some(slot) => Ok(Entry::Occupied(OccupiedEntry {
-                of: RefMut::of_slot(guard, slot),
-                key,
-            })),
-            None => match guard.inner.lend().reserve(1) {
-                Ok(()) => Ok(Entry::Vacant(VacantEntry {
-                    guard,
-                    hash,
-                    key,
-                    party: PhantomData,
-                })),
-                Err(_) => Err(key),
-            },
-        }
-    }
 
     /// The pair of an occupied entry, or the given value added.
     pub fn or_insert(self, value: V) -> RefMut<K, V, A, W, H, D>

@@ -132,8 +132,8 @@ where
         }
     }
 
-    /// The guard of the shard, and the slot. For the layer above.
-    pub fn into_parts(self) -> (Guard<W, H>, usize)
+    /// The guard of the shard, and the slot.
+    pub(crate) fn into_parts(self) -> (Guard<W, H>, usize)
         ensures { result ≡ self }
     {
         let PairGuard {

@@ -4,7 +4,7 @@ ghost use Rattle.dashmap_table.specs.Route.{IsShardAmount};
 ghost use Rattle.dashmap_map.specs.Locked.{lock_at};
 
 use crate::shard_guards::guard::{ShardReadGuard, hold_to_read};
-use dashmap_map::DashMap;
+use dashmap_map::{DashMap, MapParts};
 use dashmap_table::Shard;
 use lock_api_raw::RawRwLock;
 use lock_api_rw::RwLock;

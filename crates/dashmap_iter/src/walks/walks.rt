@@ -11,7 +11,7 @@ ghost use Rattle.dashmap_iter.specs.Walks.Held.{EachLocked};
 
 use crate::walks::each::{alter_each_in, clear_in, retain_in};
 use crossbeam_utils::CachePadded;
-use dashmap_map::DashMap;
+use dashmap_map::{DashMap, MapParts};
 use dashmap_table::Shard;
 use lock_api_rw::{Evidence, RwLock, TracedWriteGuard, write_traced};
 use std::alloc::Allocator;

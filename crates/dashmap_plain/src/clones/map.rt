@@ -7,7 +7,7 @@ ghost use Rattle.dashmap_plain.specs.Clones.Clones.{IsCloneBehind, AreClonesBehi
 
 use crate::Unlocked;
 use crate::clones::rows::fault_without_memory;
-use dashmap_map::DashMap;
+use dashmap_map::{DashMap, MapParts};
 use dashmap_table::{MapFault, Shard};
 use dashmap_view::{clone_hasher, clone_shard};
 use lock_api_raw::{MakeLock, NoMemory, RawRwLock};

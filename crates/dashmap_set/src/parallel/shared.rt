@@ -4,6 +4,7 @@ ghost use Rattle.dashmap_parallel.specs.declared.fault.ParExtendFault.{ParExtend
 ghost use Rattle.dashmap_parallel.specs.Puts.{WasPut};
 
 use crate::set::DashSet;
+use dashmap_map::MapParts;
 use dashmap_parallel::{ParExtendFault, par_extend_shared};
 use dashmap_table::Shard;
 use lock_api_raw::NoMemory;

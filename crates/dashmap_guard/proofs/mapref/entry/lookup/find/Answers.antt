@@ -2,7 +2,7 @@ use Rattle.std.proofs.Common.{◌≡◌, ◌<◌, None, IsSome, refl, sym, subst
 use Rattle.dashmap_table.specs.Slots.{at, count, slot_of}
 use Rattle.dashmap_table.proofs.Finding.{slot_of-is}
 use Rattle.dashmap_guard.proofs.Absent.{absent-same}
-use Rattle.dashmap_guard.proofs.mapref.entry.Entry.find.Goals as goal
+use Rattle.dashmap_guard.proofs.mapref.entry.lookup.find.Goals as goal
 
 pub of_slot-requires : goal.of_slot-requires
 of_slot-requires g c =
