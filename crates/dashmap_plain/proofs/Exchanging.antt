@@ -48,3 +48,17 @@ module _ {K V Q : Type 0} (taken put : Q → Table K V → Type 0) where
   exchanged_last (suc n) (l ∷ ls) (y ∷ ys) (x ∷ xs) lock o w all many at was left before =
       let rest = exchanged_last n ls ys xs lock o w (omega (arith, all)) (omega (arith, many)) at was left before.2 in
       ((before.0, rest.0), (before.1, rest.1))
+
+-- what is read at a place and put there again changes nothing
+pub set_same : {X : Type 0} (xs : List X) (i : ℕ) (x : X) → x ≡ slice_index_or xs i x → slice_set xs i x ≡ xs
+set_same [] i x is = refl
+set_same (y ∷ ys) zero x is = ap (λ z. z ∷ ys) is
+set_same (y ∷ ys) (suc i) x is = ap (λ zs. y ∷ zs) (set_same ys i x is)
+
+-- there are as many tables as locks
+pub each_long : {K V Q : Type 0} (seen : Q → Table K V → Type 0) (locks : List (CachePadded Q)) (tables : List (Table K V))
+    → EachOf seen locks tables → length tables ≡ length locks
+each_long seen [] [] each = refl
+each_long seen [] (t ∷ ts) each = absurd each
+each_long seen (l ∷ ls) [] each = absurd each
+each_long seen (l ∷ ls) (t ∷ ts) each = let rest = each_long seen ls ts each.1 in omega (arith, rest)

@@ -1,5 +1,5 @@
 //! Shards that change places with those behind locks.
-ghost use Rattle.std.specs.Prelude.{◌≡◌, ◌≤◌, length, vec_capacity};
+ghost use Rattle.std.specs.Prelude.{◌≡◌, ◌≤◌, length, vec_len, vec_capacity};
 ghost use Rattle.dashmap_map.specs.Owner.{EachOf};
 ghost use Rattle.dashmap_plain.specs.Exchanged.{Exchanged};
 
@@ -59,6 +59,7 @@ fn exchange_first<K: Eq + Hash, V, Q: OwnerEvidence<Shard<K, V, A>>, A: Allocato
     ensures locks { locks.new.items ≡ locks.old.items }
     ensures exchanged { Exchanged Q.taken Q.put (length plain.old.items) locks.old.items plain.old.items
         plain.new.items }
+    ensures len { vec_len plain.new ≡ vec_len plain.old }
     ensures room { vec_capacity plain.new ≡ vec_capacity plain.old }
     ensures spare { result ≡ spare }
 {
@@ -76,13 +77,14 @@ pub(crate) fn exchange_all<K: Eq + Hash, V, Q: OwnerEvidence<Shard<K, V, A>>, A:
 )
     requires { length plain.old.items ≡ length locks.old.items }
     ensures locks { locks.new.items ≡ locks.old.items }
+    ensures amount { length plain.new.items ≡ length plain.old.items }
     ensures taken { EachOf Q.taken locks.old.items plain.new.items }
     ensures put { EachOf Q.put locks.old.items plain.old.items }
 {
     let Some(last) = plain.pop() else {
         return;
     };
-    let spare = exchange_first(locks, plain, last);
     let number = plain.len();
+    let spare = exchange_first(locks, plain, last);
     plain.push_reserved(put_and_take(&mut locks[number], spare));
 }
