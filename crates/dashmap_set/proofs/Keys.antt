@@ -10,3 +10,9 @@ module _ {K : Type 0} (P : K → Type 0) (Q : K × Unit {0} → Type 0) (by : (p
   -- what holds of each such pair's key holds of the key, if there is one
   pub told_key : (pair : Option (K × Unit {0})) (out : Option K) → out ≡ key_of pair → IfSome pair Q → IfSome out P
   told_key pair out is given = subst (λ o. IfSome o P) (sym is) (told_of pair given)
+
+-- what holds of a thing holds by what is known of it
+pub told_some : {X : Type 0} (P Q : X → Type 0) → ((x : X) → P x → Q x) → (there : Option X) → IfSome there P
+    → IfSome there Q
+told_some P Q by None given = tt
+told_some P Q by (Some x) given = by x given

@@ -1,19 +1,33 @@
 //! Calls of the set's one owner, who needs no lock.
-ghost use Rattle.std.specs.Prelude.{◌≡◌, ⊤, List, Some, IfErr, OnOk};
+ghost use Rattle.std.specs.Prelude.{◌≡◌, List, map, Option, Result, Some, IfErr, OnOk};
 ghost use Rattle.std.specs.Iterator.{IsFinite, Drains, YieldsThen};
+ghost use Rattle.dashmap_map.specs.Effects.{Inserts};
+ghost use Rattle.dashmap_map.specs.Owner.{AloneAtKey, EachOf};
+ghost use Rattle.dashmap_set.specs.Calls.{is_new};
+ghost use Rattle.dashmap_view.specs.Views.{all_pairs};
 
 use crate::iter_set::OwningIter;
 use crate::keyed::told;
 use crate::set::DashSet;
+use dashmap_map::owner::OwnerEvidence;
 use dashmap_plain::Plain;
+use dashmap_table::Shard;
 use std::alloc::Allocator;
 use std::hash::{BuildHasher, Hash};
 
-impl<K: Eq + Hash + Drop, S: BuildHasher, Q, A: Allocator + Clone> DashSet<K, S, Q, A> {
+impl<
+    K: Eq + Hash + Drop,
+    S: BuildHasher,
+    Q: OwnerEvidence<Shard<K, (), A>>,
+    A: Allocator + Clone,
+> DashSet<K, S, Q, A> {
     /// As `insert`, without a lock.
     pub fn insert_mut(&mut self, key: K) -> Result<bool, K>
         ensures refused { IfErr result (λ back. back ≡ key) }
         ensures locks { self.new ≡ self.old }
+        ensures evidence { (had : Result (Option (Unit {0})) (K × Unit {0})) × (result ≡ is_new had)
+            × AloneAtKey Q.taken Q.put S.BuildHasher S.Hasher.Hasher K.hash_input self.old key
+            (λ hash old new. Inserts K.eq old new hash key (tt {0}) had) }
     {
         told(self.inner.insert_mut(key, ()))
     }
@@ -36,13 +50,20 @@ impl<K: Eq + Hash + Drop, S: BuildHasher, Q, A: Allocator + Clone> DashSet<K, S,
     }
 }
 
-impl<K: Eq + Hash + Drop, S: BuildHasher + Drop, Q: Drop, A: Allocator> IntoIterator
-    for DashSet<K, S, Q, A> {
+impl<
+    K: Eq + Hash + Drop,
+    S: BuildHasher + Drop,
+    Q: OwnerEvidence<Shard<K, (), A>> + Drop,
+    A: Allocator,
+> IntoIterator for DashSet<K, S, Q, A> {
+    ghost use Rattle.dashmap_table.specs.Table.{Table};
+
     type Item = K;
 
     type IntoIter = OwningIter<K, A>;
 
-    ghost into_iter_gives = { λ _ _. ⊤ };
+    ghost into_iter_gives = { λ set it. (tables : List (Table K (Unit {0}))) × EachOf Q.taken set.locks tables
+        × (it ≡ map (λ p. p.0) (all_pairs tables)) };
 
     /// The keys, one after another, shards in order.
     fn into_iter(self) -> OwningIter<K, A> {

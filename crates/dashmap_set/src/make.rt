@@ -6,16 +6,22 @@ ghost use Rattle.dashmap_table.specs.Route.{wanted_shards};
 ghost use Rattle.dashmap_table.specs.declared.fault.MapFault.{MapFault};
 ghost use Rattle.dashmap_map.specs.declared.fault.NewFault.{NewFault};
 ghost use Rattle.dashmap_map.specs.Making.{HasNoDefaultShare};
+ghost use Rattle.dashmap_map.specs.Owner.{HasRoom};
 
 use crate::set::DashSet;
+use dashmap_map::owner::OwnerEvidence;
 use dashmap_map::{DashMap, NewFault};
-use dashmap_table::MapFault;
+use dashmap_table::{MapFault, Shard};
 use lock_api_raw::{MakeLock, RawRwLock};
 use std::alloc::Allocator;
 use std::hash::{BuildHasher, Hash, RandomState};
 use std::random::RandomSource;
 
-impl<K: Eq + Hash + Drop, Q: RawRwLock + Drop, A: Allocator + Clone> DashSet<K, RandomState, Q, A>
+impl<
+    K: Eq + Hash + Drop,
+    Q: RawRwLock + OwnerEvidence<Shard<K, (), A>> + Drop,
+    A: Allocator + Clone,
+> DashSet<K, RandomState, Q, A>
 where
     Q::Runtime: RandomSource,
 {
@@ -31,6 +37,7 @@ where
     where
         Q: MakeLock<T>,
         ensures made { IfOk result (λ s. IsNextPowerOfTwo (wanted_shards parallelism) (length s.locks)) }
+        ensures room { IfOk result (HasRoom Q.put 0) }
         ensures bad_shards { (result ≡ Err (NewFault.Map MapFault.BadShards)) ↔ (2 ^ 16 < wanted_shards parallelism) }
         ensures fits { ¬ (result ≡ Err (NewFault.Map MapFault.CapacityOverflow)) }
     {
@@ -52,6 +59,7 @@ where
     where
         Q: MakeLock<T>,
         ensures made { IfOk result (λ s. IsNextPowerOfTwo (wanted_shards parallelism) (length s.locks)) }
+        ensures room { IfOk result (HasRoom Q.put capacity) }
         ensures bad_shards { (result ≡ Err (NewFault.Map MapFault.BadShards)) ↔ (2 ^ 16 < wanted_shards parallelism) }
         ensures overflow { (result ≡ Err (NewFault.Map MapFault.CapacityOverflow)) ↔ HasNoDefaultShare capacity
             parallelism }
@@ -63,12 +71,12 @@ where
     }
 }
 
-impl<K: Eq + Hash + Drop, S: BuildHasher + Drop, Q: RawRwLock + Drop, A: Allocator + Clone> DashSet<
-    K,
-    S,
-    Q,
-    A,
-> {
+impl<
+    K: Eq + Hash + Drop,
+    S: BuildHasher + Drop,
+    Q: RawRwLock + OwnerEvidence<Shard<K, (), A>> + Drop,
+    A: Allocator + Clone,
+> DashSet<K, S, Q, A> {
     /// An empty set with the default shard amount for so many threads, whose capacity is 0.
     ///
     /// Refused as `BadShards`, `TableFull` or `NoMemory`, in this order.
@@ -82,6 +90,7 @@ impl<K: Eq + Hash + Drop, S: BuildHasher + Drop, Q: RawRwLock + Drop, A: Allocat
         Q: MakeLock<T>,
         ensures made { IfOk result (λ s. IsNextPowerOfTwo (wanted_shards parallelism) (length s.locks)
             × (s.hasher ≡ hasher)) }
+        ensures room { IfOk result (HasRoom Q.put 0) }
         ensures bad_shards { (result ≡ Err MapFault.BadShards) ↔ (2 ^ 16 < wanted_shards parallelism) }
         ensures fits { ¬ (result ≡ Err MapFault.CapacityOverflow) }
     {
@@ -105,6 +114,7 @@ impl<K: Eq + Hash + Drop, S: BuildHasher + Drop, Q: RawRwLock + Drop, A: Allocat
         Q: MakeLock<T>,
         ensures made { IfOk result (λ s. IsNextPowerOfTwo (wanted_shards parallelism) (length s.locks)
             × (s.hasher ≡ hasher)) }
+        ensures room { IfOk result (HasRoom Q.put capacity) }
         ensures bad_shards { (result ≡ Err MapFault.BadShards) ↔ (2 ^ 16 < wanted_shards parallelism) }
         ensures overflow { (result ≡ Err MapFault.CapacityOverflow) ↔ HasNoDefaultShare capacity parallelism }
     {
@@ -125,6 +135,7 @@ impl<K: Eq + Hash + Drop, S: BuildHasher + Drop, Q: RawRwLock + Drop, A: Allocat
         Q: MakeLock<T>,
         ensures made { IfOk result (λ s. IsNextPowerOfTwo (wanted_shards parallelism) (length s.locks)
             × (s.hasher ≡ hasher)) }
+        ensures room { IfOk result (HasRoom Q.put 0) }
         ensures bad_shards { (result ≡ Err MapFault.BadShards) ↔ (2 ^ 16 < wanted_shards parallelism) }
         ensures fits { ¬ (result ≡ Err MapFault.CapacityOverflow) }
     {
