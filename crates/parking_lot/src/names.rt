@@ -27,6 +27,13 @@ pub type MappedMutexGuard<'m, 't, 'l, T, P, R, A = Global> = lock_api::MappedMut
     P,
 >;
 
+/// A guard of a [`Mutex`] that owns a share of it.
+pub type ArcMutexGuard<'t, 'l, T, R, A = Global> = lock_api::ArcMutexGuard<
+    RawMutex<'t, 'l, R, A>,
+    T,
+    A,
+>;
+
 /// A mutex that is handed over at each release to the first that waits, and a value.
 pub type FairMutex<'t, 'l, T, R, A = Global> = lock_api::Mutex<RawFairMutex<'t, 'l, R, A>, T>;
 
@@ -43,6 +50,13 @@ pub type MappedFairMutexGuard<'m, 't, 'l, T, P, R, A = Global> = lock_api::Mappe
     RawFairMutex<'t, 'l, R, A>,
     T,
     P,
+>;
+
+/// A guard of a [`FairMutex`] that owns a share of it.
+pub type ArcFairMutexGuard<'t, 'l, T, R, A = Global> = lock_api::ArcMutexGuard<
+    RawFairMutex<'t, 'l, R, A>,
+    T,
+    A,
 >;
 
 /// A reader-writer lock and a value.
@@ -81,6 +95,24 @@ pub type MappedRwLockWriteGuard<'m, 't, 'l, T, P, R, A = Global> = lock_api::Map
     T,
     P,
 >;
+
+/// A reader's guard of an [`RwLock`] that owns a share of it.
+pub type ArcRwLockReadGuard<'t, 'l, T, R, A = Global> = lock_api::ArcRwLockReadGuard<
+    RawRwLock<'t, 'l, R, 0, A>,
+    T,
+    A,
+>;
+
+/// A writer's guard of an [`RwLock`] that owns a share of it.
+pub type ArcRwLockWriteGuard<'t, 'l, T, R, A = Global> = lock_api::ArcRwLockWriteGuard<
+    RawRwLock<'t, 'l, R, 0, A>,
+    T,
+    A,
+>;
+
+/// An upgradable guard of an [`RwLock`] that owns a share of it.
+pub type ArcRwLockUpgradableReadGuard<'t, 'l, T, R, A = Global> =
+    lock_api::ArcRwLockUpgradableReadGuard<RawRwLock<'t, 'l, R, 0, A>, T, A>;
 
 /// The raw lock of a [`RecursiveRwLock`].
 pub type RawRwLockRecursive<'t, 'l, R, A = Global> = RawRwLock<'t, 'l, R, 1, A>;
@@ -135,6 +167,14 @@ pub type ReentrantMutexGuard<'m, 't, 'l, T, R, A = Global> = lock_api::Reentrant
 /// A [`ReentrantMutexGuard`] that a projection of the type `P` narrows to a part of the value.
 pub type MappedReentrantMutexGuard<'m, 't, 'l, T, P, R, A = Global> =
     lock_api::MappedReentrantMutexGuard<'m, RawMutex<'t, 'l, R, A>, RawThreadId<A>, T, P>;
+
+/// A guard of one nested hold that owns a share of its [`ReentrantMutex`].
+pub type ArcReentrantMutexGuard<'t, 'l, T, R, A = Global> = lock_api::ArcReentrantMutexGuard<
+    RawMutex<'t, 'l, R, A>,
+    RawThreadId<A>,
+    T,
+    A,
+>;
 
 /// A condition variable, for guards of a [`Mutex`].
 pub type Condvar<'t, 'l, R, A = Global> = lock_api::Condvar<RawCondvar<'t, 'l, R, A>>;
