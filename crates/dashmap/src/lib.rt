@@ -15,6 +15,7 @@
 
 pub mod iter;
 pub mod iter_set;
+mod locks;
 pub mod mapref;
 mod names;
 pub mod prelude;
@@ -42,6 +43,7 @@ pub use dashmap_table::{
 };
 pub use dashmap_view::parallel::ParallelView;
 pub use dashmap_view::{Displaced, PlainView, ViewIter, ViewKeys, ViewValues};
+pub use locks::table_for;
 pub use names::{
     DashMap, DashSet, ReadOnlyView, RwLock, RwLockReadGuard, RwLockWriteGuard, ShardsView,
 };

@@ -4,9 +4,24 @@
 //! are those of the lock table and of the lot; of guards and walks `'m` is the borrow of the map, and `'d` that of the
 //! thread's data.
 
+use dashmap_guard::mapref as over;
+use dashmap_iter::shard_guards;
 use dashmap_map::mapref::{entry, one};
+use dashmap_table::Shard;
+use lock_api_rw::{Exclusive, RawHold, Shared};
+use parking_lot_core::ThreadData;
 use parking_lot_rwlock::RawRwLock;
 use std::alloc::Global;
+use std::sync;
+
+/// A shard of a map and its lock.
+type Locked<'t, 'l, K, V, R, A> = RwLock<'t, 'l, Shard<K, V, A>, R, A>;
+
+/// A shared hold of a shard.
+type Reads<'m, 't, 'l, K, V, R, A> = RawHold<&'m Locked<'t, 'l, K, V, R, A>, Shared>;
+
+/// An exclusive hold of a shard.
+type Writes<'m, 't, 'l, K, V, R, A> = RawHold<&'m Locked<'t, 'l, K, V, R, A>, Exclusive>;
 
 /// A map that threads share by reference.
 pub type DashMap<'t, 'l, K, V, S, R, A = Global> = dashmap_map::DashMap<
@@ -62,6 +77,48 @@ pub type Entry<'m, 'd, 't, 'l, K, V, R, A = Global> = entry::Entry<
     V,
     RawRwLock<'t, 'l, R, 0, A>,
     A,
+>;
+
+/// An entry of a key that has a pair.
+pub type OccupiedEntry<'m, 'd, 't, 'l, K, V, R, A = Global> = over::entry::OccupiedEntry<
+    K,
+    V,
+    A,
+    sync::RwLockWriteGuard<'m, Shard<K, V, A>>,
+    Writes<'m, 't, 'l, K, V, R, A>,
+    &'d mut ThreadData<A>,
+>;
+
+/// An entry of a key that has no pair, with room for one.
+pub type VacantEntry<'m, 'd, 't, 'l, K, V, R, A = Global> = over::entry::VacantEntry<
+    K,
+    V,
+    A,
+    sync::RwLockWriteGuard<'m, Shard<K, V, A>>,
+    Writes<'m, 't, 'l, K, V, R, A>,
+    &'d mut ThreadData<A>,
+>;
+
+/// A [`Ref`] that a projection of the type `P` narrows to a part of the value.
+pub type MappedRef<'m, 'd, 't, 'l, K, V, P, R, A = Global> = over::one::MappedRef<
+    K,
+    V,
+    A,
+    sync::RwLockReadGuard<'m, Shard<K, V, A>>,
+    Reads<'m, 't, 'l, K, V, R, A>,
+    &'d mut ThreadData<A>,
+    P,
+>;
+
+/// A [`RefMut`] that a projection of the type `P` narrows to a part of the value.
+pub type MappedRefMut<'m, 'd, 't, 'l, K, V, P, R, A = Global> = over::one::MappedRefMut<
+    K,
+    V,
+    A,
+    sync::RwLockWriteGuard<'m, Shard<K, V, A>>,
+    Writes<'m, 't, 'l, K, V, R, A>,
+    &'d mut ThreadData<A>,
+    P,
 >;
 
 /// A reading walk over a map: what `iter` gives.
@@ -135,11 +192,31 @@ pub type ReadOnlyView<'t, 'l, K, V, S, R, A = Global> = dashmap_plain::ReadOnlyV
 >;
 
 /// The shards of a map, to be counted and read.
-pub type ShardsView<'m, 't, 'l, K, V, S, R, A = Global> = dashmap_iter::shard_guards::ShardsView<
+pub type ShardsView<'m, 't, 'l, K, V, S, R, A = Global> = shard_guards::ShardsView<
     'm,
     K,
     V,
     S,
+    RawRwLock<'t, 'l, R, 0, A>,
+    A,
+>;
+
+/// A guard that lends a whole shard to be read, beside other readers.
+pub type ShardReadGuard<'m, 'd, 't, 'l, K, V, R, A = Global> = shard_guards::ShardReadGuard<
+    'm,
+    'd,
+    K,
+    V,
+    RawRwLock<'t, 'l, R, 0, A>,
+    A,
+>;
+
+/// A guard that lends a whole shard to be read, with nobody beside it.
+pub type ShardWriteGuard<'m, 'd, 't, 'l, K, V, R, A = Global> = shard_guards::ShardWriteGuard<
+    'm,
+    'd,
+    K,
+    V,
     RawRwLock<'t, 'l, R, 0, A>,
     A,
 >;

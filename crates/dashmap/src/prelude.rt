@@ -4,15 +4,16 @@
 //! `LendingWalks`), what an owner can do with nobody beside it (`Plain`, `ExtendShards`), clones, parallel forms, and a
 //! look into the shards (`Looks`).
 
+pub use crate::locks::table_for;
 pub use crate::names::{
-    DashMap, DashSet, Entry, Iter, IterMut, ReadOnlyView, Recorded, Ref, RefMulti, RefMut,
-    RefMutMulti, SetIter, SetRef, SetRefMulti, ShardsView,
+    DashMap, DashSet, Entry, Iter, IterMut, MappedRef, MappedRefMut, OccupiedEntry, ReadOnlyView,
+    Recorded, Ref, RefMulti, RefMut, RefMutMulti, SetIter, SetRef, SetRefMulti, ShardReadGuard,
+    ShardWriteGuard, ShardsView, VacantEntry,
 };
 pub use dashmap_guard::{SharedValue, TryResult};
 pub use dashmap_iter::LendingWalks;
 pub use dashmap_iter::shard_guards::Looks;
 pub use dashmap_iter::walks::Walks;
-pub use dashmap_map::mapref::entry::{OccupiedEntry, VacantEntry};
 pub use dashmap_map::{Map, NewFault, TryReserveError};
 pub use dashmap_parallel::{NoThreadData, ParExtendFault, ParallelMap};
 pub use dashmap_plain::clones::{CloneMap, CloneView};

@@ -10,6 +10,8 @@ mod clones;
 #[cfg(test)]
 mod cuts;
 #[cfg(test)]
+mod facade;
+#[cfg(test)]
 mod forms;
 #[cfg(test)]
 mod maps;

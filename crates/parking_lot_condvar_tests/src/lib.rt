@@ -20,6 +20,8 @@ mod once_plays;
 #[cfg(test)]
 mod once_stage;
 #[cfg(test)]
+mod paths;
+#[cfg(test)]
 mod plays;
 #[cfg(test)]
 mod stage;
