@@ -73,7 +73,13 @@ fn reserve_each<K: Eq + Hash + Drop, V: Drop, Q, A: Allocator + Clone>(
 }
 
 impl<K: Eq + Hash + Drop, V: Drop, S: BuildHasher, Q, A: Allocator + Clone> DashMap<K, V, S, Q, A> {
-    /// As `insert`, without a lock.
+    /// As `insert`, by the map's owner, without a lock: nothing waits.
+    ///
+    /// Memory: as `insert`, and the pair comes back where it is refused.
+    ///
+    /// ```text
+    /// let old = map.insert_mut("seven", 7)?;
+    /// ```
     pub fn insert_mut(&mut self, key: K, value: V) -> Result<Option<V>, (K, V)>
         ensures refused { IfErr result (λ back. back ≡ (key, value)) }
         ensures locks { self.new ≡ self.old }
@@ -83,8 +89,14 @@ impl<K: Eq + Hash + Drop, V: Drop, S: BuildHasher, Q, A: Allocator + Clone> Dash
         insert_alone(&mut self.shards[shard], hash, key, value)
     }
 
-    /// Puts pairs in, one after another, as `insert_mut` does. The first one that is refused comes back: the pairs
-    /// before it stay, and the rest of the iterator is let go.
+    /// Puts pairs in, one after another, as `insert_mut` does. Nothing waits.
+    ///
+    /// Memory: the first pair that is refused comes back: the pairs before it stay, and the rest of the iterator is let
+    /// go.
+    ///
+    /// ```text
+    /// map.extend(pairs.into_iter())?;
+    /// ```
     pub fn extend<I: Iterator<Item = (K, V)> + Drop>(&mut self, iter: I) -> Result<(), (K, V)>
         requires can { I.can_next iter }
         requires ends { IsFinite (I.remaining iter) }
@@ -100,8 +112,14 @@ impl<K: Eq + Hash + Drop, V: Drop, S: BuildHasher, Q, A: Allocator + Clone> Dash
         Ok(())
     }
 
-    /// Makes room for so many more pairs in each shard. Where a shard can't have it all pairs stay, and the shards
-    /// before it keep their room.
+    /// Makes room for so many more pairs in each shard: not in all together, since nobody knows their hashes. Nothing
+    /// waits.
+    ///
+    /// Memory: where a shard can't have it all pairs stay, and the shards before it keep their room.
+    ///
+    /// ```text
+    /// map.try_reserve(100)?;
+    /// ```
     pub fn try_reserve(&mut self, additional: usize) -> Result<(), TryReserveError>
         ensures { self.new ≡ self.old }
     {

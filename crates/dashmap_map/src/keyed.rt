@@ -33,7 +33,17 @@ impl<K: Eq + Hash, V, S: BuildHasher, Q: Evidence<Shard<K, V, A>>, A: Allocator>
 where
     Q::Runtime: Wait,
 {
-    /// A shared guard of the pair of a key, if it is there.
+    /// A shared guard of the pair of a key, if it is there. Others may read pairs of its shard meanwhile.
+    ///
+    /// Blocks while another holds the shard exclusively, or waits to. The guard keeps the borrow of `td`, so a second
+    /// call with it beside the guard doesn't compile; with data of its own it waits for ever where it wants the same
+    /// shard exclusively.
+    ///
+    /// ```text
+    /// if let Some(count) = map.get(&"seven", &mut me) {
+    ///     sum = sum.wrapping_add(*count);   // the value; `count.key()` lends the key
+    /// }                                     // the shard is free again
+    /// ```
     pub fn get<'m, 'd>(&'m self, key: &K, td: &'d mut Q::Party) -> Option<Ref<'m, 'd, K, V, Q, A>>
         ensures asked { IfSome result
             (λ r. IfSome (key_in (read_guard_value r.0.inner) r.1) (λ k. IsTrue (K.eq k key.now))) }
@@ -47,7 +57,15 @@ where
         Ref::find(read_shown(lock, td), hash, key)
     }
 
-    /// An exclusive guard of the pair of a key, if it is there.
+    /// An exclusive guard of the pair of a key, if it is there. Nobody else has a pair of its shard meanwhile.
+    ///
+    /// Blocks while the shard is held. The guard keeps the borrow of `td`, as that of `get`.
+    ///
+    /// ```text
+    /// if let Some(mut count) = map.get_mut(&"seven", &mut me) {
+    ///     *count = count.wrapping_add(1);
+    /// }
+    /// ```
     pub fn get_mut<'m, 'd>(
         &'m self,
         key: &K,
@@ -65,7 +83,13 @@ where
         RefMut::find(write_found(lock, td), hash, key)
     }
 
-    /// Whether `get` would give a guard.
+    /// Whether `get` would give a guard. By the time it answers others may have put the key in or taken it out.
+    ///
+    /// Blocks while another holds the shard exclusively, or waits to.
+    ///
+    /// ```text
+    /// if !map.contains_key(&"seven", &mut me) { .. }
+    /// ```
     pub fn contains_key(&self, key: &K, td: &mut Q::Party) -> bool
         ensures { OnSightOfKey S.BuildHasher S.Hasher.Hasher K.hash_input Q.showed self.now key.now td.old td.new
             (λ hash shard. result ≡ is_some (slot_of K.eq shard.slots hash key.now)) }
@@ -74,7 +98,15 @@ where
         has_key(&*read_shown(lock, td), hash, key)
     }
 
-    /// What the closure answers of the pair of a key, under a shared hold of its shard.
+    /// What the closure answers of the pair of a key, under a shared hold of its shard. It isn't called where the key
+    /// is absent.
+    ///
+    /// Blocks while another holds the shard exclusively, or waits to. A closure that asks the same map with data of its
+    /// own can wait for itself.
+    ///
+    /// ```text
+    /// let length = map.view(&7, |_, name| name.len(), &mut me);
+    /// ```
     pub fn view<U, F: FnOnce(&K, &V) -> U + Drop>(
         &self,
         key: &K,
@@ -91,7 +123,13 @@ where
         view_in(&*read_shown(lock, td), hash, key, f)
     }
 
-    /// Takes the pair of a key out, if it is there.
+    /// Takes the pair of a key out, if it is there, and answers it. The room stays: `shrink_to_fit` gives it up.
+    ///
+    /// Blocks while the shard is held.
+    ///
+    /// ```text
+    /// if let Some((key, value)) = map.remove(&"seven", &mut me) { .. }
+    /// ```
     pub fn remove(&self, key: &K, td: &mut Q::Party) -> Option<(K, V)>
         ensures asked { IfSome result (λ p. IsTrue (K.eq p.0 key.now)) }
         ensures evidence { UnderKey S.BuildHasher S.Hasher.Hasher K.hash_input Q.held self.now key.now td.old td.new
@@ -105,6 +143,13 @@ where
     }
 
     /// Takes the pair of a key out if the closure answers true of it. Else the pair stays as it is.
+    ///
+    /// Blocks while the shard is held. The closure runs under that hold: no other call comes between its answer and the
+    /// removal.
+    ///
+    /// ```text
+    /// let stale = map.remove_if(&7, |_, age| *age > 20, &mut me);
+    /// ```
     pub fn remove_if<F: FnOnce(&K, &V) -> bool + Drop>(
         &self,
         key: &K,
@@ -124,6 +169,12 @@ where
     }
 
     /// As `remove_if`. What the closure wrote stays either way.
+    ///
+    /// Blocks while the shard is held.
+    ///
+    /// ```text
+    /// map.remove_if_mut(&7, |_, left| { *left = left.saturating_sub(1); *left == 0 }, &mut me);
+    /// ```
     pub fn remove_if_mut<F: FnOnce(&K, &mut V) -> bool + Drop>(
         &self,
         key: &K,
@@ -144,6 +195,12 @@ where
     }
 
     /// Stores what the closure makes of the value of a key. Where the key isn't there the closure isn't called.
+    ///
+    /// Blocks while the shard is held. The closure takes the value out of the shard for its time.
+    ///
+    /// ```text
+    /// map.alter(&"seven", |_, count| count.wrapping_add(1), &mut me);
+    /// ```
     pub fn alter<F: FnOnce(&K, V) -> V + Drop>(&self, key: &K, f: F, td: &mut Q::Party)
         requires { F.IsAlwaysCallable f }
         ensures { UnderKey S.BuildHasher S.Hasher.Hasher K.hash_input Q.held self.now key.now td.old td.new
@@ -167,7 +224,16 @@ where
     Q::Runtime: Wait,
 {
     /// Puts a pair in, and answers the value that its key had. A present key keeps the stored key and is never refused.
-    /// A new key is refused only where its shard would have to grow and can't, and then the pair comes back.
+    ///
+    /// Blocks while the shard is held. Memory: a new key may have its shard grow; where that is refused nothing
+    /// changes, and the pair comes back as the error.
+    ///
+    /// ```text
+    /// match map.insert("seven", 7, &mut me) {
+    ///     Ok(old) => { .. }             // None where the key was new
+    ///     Err((key, value)) => { .. }   // no memory
+    /// }
+    /// ```
     pub fn insert(&self, key: K, value: V, td: &mut Q::Party) -> Result<Option<V>, (K, V)>
         ensures refused { IfErr result (λ back. back ≡ (key, value)) }
         ensures evidence { UnderKey S.BuildHasher S.Hasher.Hasher K.hash_input Q.held self.now key td.old td.new
@@ -180,8 +246,16 @@ where
         had
     }
 
-    /// The place of a key, whose shard is held exclusively. An absent key's room is made here; where it can't be had,
-    /// the key comes back.
+    /// The place of a key, whose shard is held exclusively until the entry, or the guard that it becomes, is dropped.
+    ///
+    /// Blocks while the shard is held, and keeps the borrow of `td`, as `get` does. Memory: an absent key's room is
+    /// made here, so what is put in through the entry isn't refused; where it can't be had, the key comes back as the
+    /// error.
+    ///
+    /// ```text
+    /// let mut count = map.entry("seven", &mut me)?.or_insert(0);
+    /// *count = count.wrapping_add(1);
+    /// ```
     pub fn entry<'m, 'd>(
         &'m self,
         key: K,

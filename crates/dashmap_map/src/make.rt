@@ -63,7 +63,13 @@ impl<
 > DashMap<K, V, S, Q, A> {
     /// An empty map with that many shards and room for the capacity's share in each. A capacity of 0 takes no room.
     ///
-    /// Refused as `BadShards`, `CapacityOverflow`, `TableFull` or `NoMemory`, in this order.
+    /// Refused as `BadShards` (no power of two from 2 to 65,536), `CapacityOverflow`, `TableFull` or `NoMemory`, in
+    /// this order. It takes a row of the table for each shard, which don't come back, also where it is refused for
+    /// memory.
+    ///
+    /// ```text
+    /// let map = DashMap::with_capacity_and_hasher_and_shard_amount(alloc, 1000, hasher, 8, &table)?; // 8 rows
+    /// ```
     pub fn with_capacity_and_hasher_and_shard_amount<T: Copy>(
         alloc: A,
         capacity: usize,
@@ -91,6 +97,12 @@ impl<
     }
 
     /// An empty map with that many shards, whose capacity is 0.
+    ///
+    /// Refused as `BadShards`, `TableFull` or `NoMemory`, in this order. It takes a row of the table for each shard.
+    ///
+    /// ```text
+    /// let map = DashMap::with_hasher_and_shard_amount(alloc, hasher, 8, &table)?; // 8 rows
+    /// ```
     pub fn with_hasher_and_shard_amount<T: Copy>(
         alloc: A,
         hasher: S,
@@ -107,6 +119,12 @@ impl<
     }
 
     /// An empty map with the default shard amount for so many threads, and room for the capacity's share in each shard.
+    ///
+    /// The default is four shards a thread, rounded up to a power of two; each takes a row. Refusals: as above.
+    ///
+    /// ```text
+    /// let map = DashMap::with_capacity_and_hasher(alloc, 1000, hasher, 3, &table)?; // 16 rows
+    /// ```
     pub fn with_capacity_and_hasher<T: Copy>(
         alloc: A,
         capacity: usize,
@@ -128,6 +146,12 @@ impl<
     }
 
     /// An empty map with the default shard amount for so many threads, whose capacity is 0.
+    ///
+    /// Refused as `BadShards` (above 16,384 threads), `TableFull` or `NoMemory`, in this order.
+    ///
+    /// ```text
+    /// let map = DashMap::with_hasher(alloc, hasher, 3, &table)?; // 16 rows
+    /// ```
     pub fn with_hasher<T: Copy>(
         alloc: A,
         hasher: S,
@@ -147,7 +171,11 @@ impl<
     /// A map with the default shard amount for so many threads, into which the pairs of the iterator are put one after
     /// another: of equal keys the first stays, with the value of the last.
     ///
-    /// Refused as `BadShards`, `TableFull` or `NoMemory`, in this order.
+    /// Refused as `BadShards`, `TableFull` or `NoMemory`, in this order. Refused for memory, it lets the pairs go.
+    ///
+    /// ```text
+    /// let map = DashMap::from_iter(alloc, pairs.into_iter(), hasher, 3, &table)?;
+    /// ```
     pub fn from_iter<I: Iterator<Item = (K, V)> + Drop, T: Copy>(
         alloc: A,
         iter: I,
@@ -201,9 +229,13 @@ where
     Q::Runtime: RandomSource,
 {
     /// An empty map with that many shards, room for the capacity's share in each, and a hasher that the locks' runtime
-    /// makes.
+    /// makes: its hashes differ from run to run.
     ///
     /// Refused as `with_capacity_and_hasher_and_shard_amount`, and as `NoRandom` right before `NoMemory`.
+    ///
+    /// ```text
+    /// let map = DashMap::with_capacity_and_shard_amount(alloc, 1000, 8, &table)?; // 8 rows
+    /// ```
     pub fn with_capacity_and_shard_amount<T: Copy>(
         alloc: A,
         capacity: usize,
@@ -224,7 +256,13 @@ where
         }
     }
 
-    /// An empty map with that many shards, whose capacity is 0.
+    /// An empty map with that many shards, whose capacity is 0, and a hasher that the locks' runtime makes.
+    ///
+    /// Refused as `BadShards`, `TableFull`, `NoRandom` or `NoMemory`, in this order.
+    ///
+    /// ```text
+    /// let map = DashMap::with_shard_amount(alloc, 8, &table)?; // 8 rows
+    /// ```
     pub fn with_shard_amount<T: Copy>(
         alloc: A,
         shard_amount: usize,
@@ -239,7 +277,12 @@ where
         DashMap::with_capacity_and_shard_amount(alloc, 0, shard_amount, table)
     }
 
-    /// An empty map with the default shard amount for so many threads, and room for the capacity's share in each shard.
+    /// An empty map with the default shard amount for so many threads, room for the capacity's share in each shard, and
+    /// a hasher that the locks' runtime makes. Refusals: as `with_capacity_and_shard_amount`.
+    ///
+    /// ```text
+    /// let map = DashMap::with_capacity(alloc, 1000, 3, &table)?; // 16 rows
+    /// ```
     pub fn with_capacity<T: Copy>(
         alloc: A,
         capacity: usize,
@@ -259,7 +302,12 @@ where
         DashMap::with_capacity_and_shard_amount(alloc, capacity, amount, table)
     }
 
-    /// An empty map with the default shard amount for so many threads, whose capacity is 0.
+    /// An empty map with the default shard amount for so many threads, whose capacity is 0, and a hasher that the
+    /// locks' runtime makes. Refusals: as `with_shard_amount`.
+    ///
+    /// ```text
+    /// let map = DashMap::new(alloc, 3, &table)?; // 16 rows
+    /// ```
     pub fn new<T: Copy>(
         alloc: A,
         parallelism: usize,

@@ -101,7 +101,11 @@ impl<K: Eq + Hash, V, S: BuildHasher, Q, A: Allocator> DashMap<K, V, S, Q, A> {
         }
     }
 
-    /// The hasher's hash of anything that can be hashed.
+    /// The hasher's hash of anything that can be hashed. `determine_shard` takes it.
+    ///
+    /// ```text
+    /// let shard = map.determine_shard(map.hash_usize(&key)); // as `map.determine_map(&key)`
+    /// ```
     pub fn hash_usize<T: Eq + Hash>(&self, item: &T) -> usize
         ensures { result ≡ key_hash S.BuildHasher S.Hasher.Hasher T.hash_input self.now.hasher item.now }
     {
@@ -117,7 +121,12 @@ impl<K: Eq + Hash, V, S: BuildHasher, Q, A: Allocator> DashMap<K, V, S, Q, A> {
         route(hash as u64, self.shards.len())
     }
 
-    /// The number of the shard that a key belongs to. Equal keys belong to one shard.
+    /// The number of the shard that a key belongs to. Equal keys belong to one shard, so their calls wait for one
+    /// another.
+    ///
+    /// ```text
+    /// let apart = map.determine_map(&1) != map.determine_map(&2); // then guards of both never meet
+    /// ```
     pub fn determine_map(&self, key: &K) -> usize
         ensures value { result ≡ shard_of S.BuildHasher S.Hasher.Hasher K.hash_input self.now key.now }
         ensures below { result < length self.now.locks }

@@ -30,7 +30,15 @@ impl<K: Eq + Hash, V, S: BuildHasher, Q: Evidence<Shard<K, V, A>>, A: Allocator>
 where
     Q::Runtime: Wait,
 {
-    /// A shared guard of the pair of a key; `Locked` where its shard can't be had at once.
+    /// A shared guard of the pair of a key; `Absent` where there is none, `Locked` where its shard can't be had at
+    /// once.
+    ///
+    /// Blocks nobody, and is lent nothing, so it may be asked beside a guard of one's own: of the same shard it answers
+    /// `Locked` where that guard is exclusive. It may answer `Locked` beside a waiting writer too.
+    ///
+    /// ```text
+    /// if let TryResult::Present(count) = map.try_get(&"seven") { .. }
+    /// ```
     pub fn try_get<'m>(&'m self, key: &K) -> TryResult<Ref<'m, 'm, K, V, Q, A>>
         ensures asked { IfSome (found result)
             (λ r. IfSome (key_in (read_guard_value r.0.inner) r.1) (λ k. IsTrue (K.eq k key.now))) }
@@ -54,7 +62,17 @@ where
         }
     }
 
-    /// An exclusive guard of the pair of a key; `Locked` where its shard can't be had at once.
+    /// An exclusive guard of the pair of a key; `Absent` where there is none, `Locked` where its shard can't be had at
+    /// once.
+    ///
+    /// Blocks nobody. Beside any guard of the same shard it answers `Locked`.
+    ///
+    /// ```text
+    /// match map.try_get_mut(&"seven") {
+    ///     TryResult::Present(mut count) => *count = 0,
+    ///     TryResult::Absent | TryResult::Locked => {}
+    /// }
+    /// ```
     pub fn try_get_mut<'m>(&'m self, key: &K) -> TryResult<RefMut<'m, 'm, K, V, Q, A>>
         ensures asked { IfSome (found result)
             (λ r. IfSome (key_in (write_guard_value r.0.inner) r.1) (λ k. IsTrue (K.eq k key.now))) }
@@ -89,7 +107,13 @@ impl<
 where
     Q::Runtime: Wait,
 {
-    /// As `entry`; None where the shard can't be had at once, and then the key is let go.
+    /// As `entry`; `Ok(None)` where the shard can't be had at once, and then the key is let go.
+    ///
+    /// Blocks nobody. Memory: as `entry`, where the shard was had.
+    ///
+    /// ```text
+    /// if let Some(entry) = map.try_entry("seven")? { entry.or_insert(0); }
+    /// ```
     pub fn try_entry<'m>(&'m self, key: K) -> Result<Option<Entry<'m, 'm, K, V, Q, A>>, K>
         ensures found { IfOk result (λ place. IfSome place (by_entry
             (λ o. (o.1 ≡ key)

@@ -22,6 +22,13 @@ where
     Q::Runtime: Wait,
 {
     /// How many pairs there are: the sum over the shards, of which one is held at a time. It stops at `usize::MAX`.
+    ///
+    /// Blocks while a shard is held exclusively, at each in its turn. Others change shards before and behind it, so
+    /// beside them the sum may be one that the map never had.
+    ///
+    /// ```text
+    /// let pairs = map.len(&mut me);
+    /// ```
     pub fn len(&self, td: &mut Q::Party) -> usize
         ensures { SumsTo Q.showed self.now (λ shard. count shard.slots) td.old td.new result }
     {
@@ -33,7 +40,11 @@ where
         sum
     }
 
-    /// Whether `len` is 0.
+    /// Whether `len` is 0. Blocks as `len` does.
+    ///
+    /// ```text
+    /// if map.is_empty(&mut me) { .. }
+    /// ```
     pub fn is_empty(&self, td: &mut Q::Party) -> bool
         ensures { (sum : ℕ) × SumsTo Q.showed self.now (λ shard. count shard.slots) td.old td.new sum
             × (result ≡ (sum == 0)) }
@@ -43,6 +54,12 @@ where
 
     /// For how many pairs there is room: the sum over the shards, of which one is held at a time. It stops at
     /// `usize::MAX`.
+    ///
+    /// Blocks as `len` does. A new key can want memory all the same, where its own shard is full.
+    ///
+    /// ```text
+    /// let room = map.capacity(&mut me);
+    /// ```
     pub fn capacity(&self, td: &mut Q::Party) -> usize
         ensures { SumsTo Q.showed self.now (λ shard. shard.room) td.old td.new result }
     {
@@ -66,7 +83,14 @@ where
     Q::Runtime: Wait,
 {
     /// Gives up room that the pairs don't need, one shard after another. A shard without pairs takes no memory and
-    /// keeps no room. A refusal leaves its shard as it was, and the shards before it shrunk.
+    /// keeps no room.
+    ///
+    /// Blocks while a shard is held, at each in its turn. Memory: a smaller table is made before the larger one is
+    /// given back. A refusal leaves its shard as it was, and the shards before it shrunk.
+    ///
+    /// ```text
+    /// map.shrink_to_fit(&mut me)?;
+    /// ```
     pub fn shrink_to_fit(&self, td: &mut Q::Party) -> Result<(), NoMemory> {
         for lock in &self.shards {
             lock.write(td).shrink()?;
