@@ -10,7 +10,11 @@ use std::alloc::Allocator;
 use std::hash::{BuildHasher, Hash};
 
 impl<K: Eq + Hash + Drop, S: BuildHasher, Q, A: Allocator + Clone> DashSet<K, S, Q, A> {
-    /// As `insert`, without a lock.
+    /// As `insert`, by the set's owner, without a lock: nothing waits.
+    ///
+    /// ```text
+    /// let is_new = set.insert_mut("seven")?;
+    /// ```
     pub fn insert_mut(&mut self, key: K) -> Result<bool, K>
         ensures refused { IfErr result (λ back. back ≡ key) }
         ensures locks { self.new ≡ self.old }
@@ -20,6 +24,10 @@ impl<K: Eq + Hash + Drop, S: BuildHasher, Q, A: Allocator + Clone> DashSet<K, S,
 
     /// Puts keys in, one after another, as `insert_mut` does. The first one that is refused comes back: the keys before
     /// it stay, and the rest of the iterator is let go.
+    ///
+    /// ```text
+    /// set.extend(names.into_iter())?;
+    /// ```
     pub fn extend<I: Iterator<Item = K> + Drop>(&mut self, iter: I) -> Result<(), K>
         requires can { I.can_next iter }
         requires ends { IsFinite (I.remaining iter) }

@@ -16,10 +16,14 @@ impl<K: Eq + Hash + Drop, S: BuildHasher + Drop, Q: RawRwLock + Drop, A: Allocat
     Q,
     A,
 > {
-    /// A set with clones of all keys, and as many shards. Keys and the hasher have to be equal to their clones. The
-    /// shards are taken in their order, and one is held at a time.
+    /// A set with clones of all keys, and as many shards. Keys and the hasher have to be equal to their clones.
     ///
+    /// Blocks while another holds a shard exclusively: the shards are taken in their order, and one is held at a time.
     /// Refused as `TableFull` or `NoMemory`, in this order; then the rows that were taken stay used.
+    ///
+    /// ```text
+    /// let copy = set.clone(&table, &mut me)?;
+    /// ```
     pub fn clone<T: Copy>(
         &self,
         table: T,

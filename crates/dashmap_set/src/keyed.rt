@@ -40,7 +40,13 @@ impl<K: Eq + Hash, S: BuildHasher, Q: Evidence<Shard<K, (), A>>, A: Allocator> D
 where
     Q::Runtime: Wait,
 {
-    /// Takes the stored key out, if it is there.
+    /// Takes the stored key out, if it is there. The room stays.
+    ///
+    /// Blocks while another holds the shard.
+    ///
+    /// ```text
+    /// if let Some(name) = set.remove(&"seven", &mut me) { .. }
+    /// ```
     pub fn remove(&self, key: &K, td: &mut Q::Party) -> Option<K>
         ensures asked { IfSome result (λ k. IsTrue (K.eq k key.now)) }
         ensures evidence { (pair : Option (K × Unit {0})) × (result ≡ key_of pair)
@@ -51,6 +57,12 @@ where
     }
 
     /// Takes the stored key out if the closure answers true of it. Else it stays.
+    ///
+    /// Blocks while another holds the shard; the closure runs under the hold.
+    ///
+    /// ```text
+    /// let gone = set.remove_if(&"seven", |name| name.len() > 4, &mut me);
+    /// ```
     pub fn remove_if<F: FnOnce(&K) -> bool + Drop>(
         &self,
         key: &K,
@@ -72,7 +84,14 @@ where
         )
     }
 
-    /// A shared guard of a key, if it is there.
+    /// A shared guard of a key, if it is there. Others may read keys of its shard meanwhile.
+    ///
+    /// Blocks while another holds the shard exclusively, or waits to. The guard keeps the borrow of `td`, so a second
+    /// call with it beside the guard doesn't compile.
+    ///
+    /// ```text
+    /// if let Some(name) = set.get(&"seven", &mut me) { let bytes = name.len(); }
+    /// ```
     pub fn get<'m, 'd>(&'m self, key: &K, td: &'d mut Q::Party) -> Option<Ref<'m, 'd, K, Q, A>>
         ensures asked { IfSome result
             (λ r. IfSome (key_in (read_guard_value r.0.inner) r.1) (λ k. IsTrue (K.eq k key.now))) }
@@ -88,7 +107,13 @@ where
         }
     }
 
-    /// Whether the key is there.
+    /// Whether the key is there. By the time it answers others may have put it in or taken it out.
+    ///
+    /// Blocks while another holds the shard exclusively, or waits to.
+    ///
+    /// ```text
+    /// if set.contains(&"seven", &mut me) { .. }
+    /// ```
     pub fn contains(&self, key: &K, td: &mut Q::Party) -> bool
         ensures { OnSightOfKey S.BuildHasher S.Hasher.Hasher K.hash_input Q.showed self.now key.now td.old td.new
             (λ hash shard. result ≡ is_some (slot_of K.eq shard.slots hash key.now)) }
@@ -107,8 +132,14 @@ where
     Q::Runtime: Wait,
 {
     /// Puts a key in, and answers whether it is new. Of a present key the stored one stays, and the one that was handed
-    /// in is let go; it is never refused. A new key is refused only where its shard would have to grow and can't, and
-    /// then it comes back.
+    /// in is let go; it is never refused.
+    ///
+    /// Blocks while another holds the shard. Memory: a new key may have its shard grow; where that is refused nothing
+    /// changes, and the key comes back as the error.
+    ///
+    /// ```text
+    /// let is_new = set.insert("seven", &mut me)?;
+    /// ```
     pub fn insert(&self, key: K, td: &mut Q::Party) -> Result<bool, K>
         ensures refused { IfErr result (λ back. back ≡ key) }
         ensures evidence { (told : Result (Option (Unit {0})) (K × Unit {0})) × (result ≡ is_new told)

@@ -22,7 +22,12 @@ where
     /// An empty set with the default shard amount for so many threads, whose capacity is 0. The locks' runtime makes
     /// the hasher.
     ///
-    /// Refused as `BadShards`, `TableFull`, `NoRandom` or `NoMemory`, in this order.
+    /// Refused as `BadShards`, `TableFull`, `NoRandom` or `NoMemory`, in this order. It takes a row of the table for
+    /// each shard.
+    ///
+    /// ```text
+    /// let set = DashSet::new(alloc, 3, &table)?; // 16 rows
+    /// ```
     pub fn new<T: Copy>(
         alloc: A,
         parallelism: usize,
@@ -43,6 +48,10 @@ where
     /// As `new`, with room for the capacity's share in each shard.
     ///
     /// Refused as `new`, and as `CapacityOverflow` right after `BadShards`.
+    ///
+    /// ```text
+    /// let set = DashSet::with_capacity(alloc, 1000, 3, &table)?;
+    /// ```
     pub fn with_capacity<T: Copy>(
         alloc: A,
         capacity: usize,
@@ -71,7 +80,11 @@ impl<K: Eq + Hash + Drop, S: BuildHasher + Drop, Q: RawRwLock + Drop, A: Allocat
 > {
     /// An empty set with the default shard amount for so many threads, whose capacity is 0.
     ///
-    /// Refused as `BadShards`, `TableFull` or `NoMemory`, in this order.
+    /// Refused as `BadShards`, `TableFull` or `NoMemory`, in this order. It takes a row of the table for each shard.
+    ///
+    /// ```text
+    /// let set = DashSet::with_hasher(alloc, hasher, 3, &table)?; // 16 rows
+    /// ```
     pub fn with_hasher<T: Copy>(
         alloc: A,
         hasher: S,
@@ -94,6 +107,10 @@ impl<K: Eq + Hash + Drop, S: BuildHasher + Drop, Q: RawRwLock + Drop, A: Allocat
     /// As `with_hasher`, with room for the capacity's share in each shard.
     ///
     /// Refused as `with_hasher`, and as `CapacityOverflow` right after `BadShards`.
+    ///
+    /// ```text
+    /// let set = DashSet::with_capacity_and_hasher(alloc, 1000, hasher, 3, &table)?;
+    /// ```
     pub fn with_capacity_and_hasher<T: Copy>(
         alloc: A,
         capacity: usize,
@@ -135,6 +152,10 @@ impl<K: Eq + Hash + Drop, S: BuildHasher + Drop, Q: RawRwLock + Drop, A: Allocat
     /// another: of equal keys the first stays.
     ///
     /// Refused as `BadShards`, `TableFull` or `NoMemory`, in this order.
+    ///
+    /// ```text
+    /// let set = DashSet::from_iter(alloc, names.into_iter(), hasher, 3, &table)?;
+    /// ```
     pub fn from_iter<I: Iterator<Item = K> + Drop, T: Copy>(
         alloc: A,
         iter: I,

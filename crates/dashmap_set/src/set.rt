@@ -35,6 +35,10 @@ impl<K: Eq + Hash, S: BuildHasher, Q, A: Allocator> Model for DashSet<K, S, Q, A
 
 impl<K: Eq + Hash, S: BuildHasher, Q, A: Allocator> DashSet<K, S, Q, A> {
     /// The shards, to be counted and read.
+    ///
+    /// ```text
+    /// if let Some(shard) = set.shards().read(0, &mut me) { let keys = shard.len(); }
+    /// ```
     pub fn shards(&self) -> ShardsView<'_, K, (), S, Q, A>
         ensures { result ≡ self.now }
     {
@@ -48,7 +52,8 @@ impl<K: Eq + Hash, S: BuildHasher, Q, A: Allocator> DashSet<K, S, Q, A> {
         self.inner.hash_usize(item)
     }
 
-    /// The number of the shard that a key belongs to. Equal keys belong to one shard.
+    /// The number of the shard that a key belongs to. Equal keys belong to one shard, so their calls wait for one
+    /// another.
     pub fn determine_map(&self, key: &K) -> usize
         ensures value { result ≡ shard_of S.BuildHasher S.Hasher.Hasher K.hash_input self.now key.now }
         ensures below { result < length self.now.locks }

@@ -95,6 +95,9 @@ where
 {
     /// A walk that lends the keys, one by one. It holds nothing before its first item.
     ///
+    /// Blocks at each shard while another holds it exclusively. It keeps the borrow of `td`. Memory: an item shares its
+    /// shard's hold, which takes some; refused, it is an error, and the walk ends.
+    ///
     /// ```text
     /// for item in set.iter(&mut me) {
     ///     let key = item?;                // an error where there was no memory
@@ -137,7 +140,14 @@ where
         }
     }
 
-    /// Takes every key out; the room stays. One shard is held at a time, shard 0 first.
+    /// Takes every key out; the room stays. One shard is held at a time, shard 0 first, and others may put keys in
+    /// behind it.
+    ///
+    /// Blocks while another holds a shard, at each in its turn.
+    ///
+    /// ```text
+    /// set.clear(&mut me);
+    /// ```
     pub fn clear(&self, td: &mut Q::Party)
         ensures { EachLocked Q.held self.now (λ p q. (i : ℕ) → at q.1.slots i ≡ None) (td.old, tt {0})
             (td.new, tt {0}) }

@@ -16,13 +16,19 @@ where
     Q::Runtime: Wait,
 {
     /// How many keys there are: the sum over the shards, of which one is held at a time. It stops at `usize::MAX`.
+    ///
+    /// Blocks as the map's `len` does. Beside others' calls the sum may be one that the set never had.
+    ///
+    /// ```text
+    /// let keys = set.len(&mut me);
+    /// ```
     pub fn len(&self, td: &mut Q::Party) -> usize
         ensures { SumsTo Q.showed self.now (λ shard. count shard.slots) td.old td.new result }
     {
         self.inner.len(td)
     }
 
-    /// Whether `len` is 0.
+    /// Whether `len` is 0. Blocks as `len` does.
     pub fn is_empty(&self, td: &mut Q::Party) -> bool
         ensures { (sum : ℕ) × SumsTo Q.showed self.now (λ shard. count shard.slots) td.old td.new sum
             × (result ≡ (sum == 0)) }
@@ -32,6 +38,8 @@ where
 
     /// For how many keys there is room: the sum over the shards, of which one is held at a time. It stops at
     /// `usize::MAX`.
+    ///
+    /// Blocks as `len` does.
     pub fn capacity(&self, td: &mut Q::Party) -> usize
         ensures { SumsTo Q.showed self.now (λ shard. shard.room) td.old td.new result }
     {
@@ -44,7 +52,14 @@ where
     Q::Runtime: Wait,
 {
     /// Gives up room that the keys don't need, one shard after another. A shard without keys takes no memory and keeps
-    /// no room. A refusal leaves its shard as it was, and the shards before it shrunk.
+    /// no room.
+    ///
+    /// Blocks while another holds a shard, at each in its turn. Memory: a smaller table is made before the larger one
+    /// is given back. A refusal leaves its shard as it was, and the shards before it shrunk.
+    ///
+    /// ```text
+    /// set.shrink_to_fit(&mut me)?;
+    /// ```
     pub fn shrink_to_fit(&self, td: &mut Q::Party) -> Result<(), NoMemory> {
         self.inner.shrink_to_fit(td)
     }

@@ -36,7 +36,11 @@ impl<K: Eq + Hash, S: BuildHasher, Q: RawRwLock, A: Allocator> DashSet<K, S, Q, 
 
 impl<K: Eq + Hash + Drop, S: BuildHasher + Drop, Q: Drop, A: Allocator> DashSet<K, S, Q, A> {
     /// All keys by value: the keys of one shard are one piece of work, and shards go side by side. The locks go; their
-    /// rows stay used.
+    /// rows stay used. Nothing waits for a lock.
+    ///
+    /// ```text
+    /// set.into_par_iter().for_each(&rt, |name| ..);
+    /// ```
     pub fn into_par_iter(self) -> OwningIter<K, A>
         ensures { length result ≡ length self.locks }
     {
@@ -48,6 +52,10 @@ impl<K: Eq + Hash + Drop, S: BuildHasher + Drop, Q: Drop, A: Allocator> DashSet<
 impl<K: Eq + Hash + Drop, S: BuildHasher, Q, A: Allocator + Clone> DashSet<K, S, Q, A> {
     /// Puts keys in, as `extend` does, in the order in which they are handed in. The first one that is refused comes
     /// back: the keys before it stay, and those behind it are let go.
+    ///
+    /// ```text
+    /// set.par_extend(names)?; // a `Vec`
+    /// ```
     pub fn par_extend(&mut self, keys: Vec<K, A>) -> Result<(), K>
         ensures refused { IfErr result
             (λ back. (before : List K) × (rest : List K) × (keys.items ≡ before ++ back ∷ rest)) }
@@ -66,6 +74,10 @@ impl<K: Eq + Hash + Drop, S: BuildHasher + Drop, Q: RawRwLock + Drop, A: Allocat
     /// As `from_iter`, of keys in the order in which they are handed in.
     ///
     /// Refused as `BadShards`, `TableFull` or `NoMemory`, in this order.
+    ///
+    /// ```text
+    /// let set = DashSet::from_par_iter(alloc, names, hasher, 3, &table)?;
+    /// ```
     pub fn from_par_iter<T: Copy>(
         alloc: A,
         keys: Vec<K, A>,
