@@ -46,7 +46,7 @@ impl<R> TryResult<R> {
         }
     }
 
-    /// Whether the shard could not be had.
+    /// Whether the shard could not be had: another has it, or one of the thread's own guards.
     pub fn is_locked(&self) -> bool
         ensures { result ≡ is_locked self.now }
     {
@@ -68,6 +68,10 @@ impl<R> TryResult<R> {
     }
 
     /// What is there, if it is.
+    ///
+    /// ```text
+    /// let count = map.try_get(&7).try_unwrap().map(|count| *count);
+    /// ```
     pub fn try_unwrap(self) -> Option<R>
         ensures { result ≡ found self }
     {

@@ -103,7 +103,11 @@ impl<
 where
     H::Runtime: Wait,
 {
-    /// Narrows the guard to the part that the projection gives, without letting go.
+    /// Narrows the guard to the part that the projection gives, without letting go: the shard stays held as before.
+    ///
+    /// ```text
+    /// let first = guard.map(First);   // of a value (1, "one"): 1
+    /// ```
     pub fn map<P: TotalProjection<V> + Drop>(
         self,
         projection: P,
@@ -117,6 +121,13 @@ where
     }
 
     /// As `map` where the part is there, and else the same guard back, still locked.
+    ///
+    /// ```text
+    /// match guard.try_map(Inside) {
+    ///     Ok(inside) => { .. }    // of a value Some(7): 7
+    ///     Err(guard) => { .. }    // of None
+    /// }
+    /// ```
     pub fn try_map<P: Projection<V> + Drop>(
         self,
         projection: P,
@@ -172,7 +183,11 @@ where
         (self.key(), self.value())
     }
 
-    /// Narrows further. Mapping twice is mapping by the composition.
+    /// Narrows further. Mapping twice is mapping by the composition (`Then`).
+    ///
+    /// ```text
+    /// let inside = guard.map(First).try_map(Inside);
+    /// ```
     pub fn map<Q: TotalProjection<P::Out> + Drop>(
         self,
         projection: Q,
@@ -241,7 +256,7 @@ where
         (key, P::part_mut(value, &self.by))
     }
 
-    /// The part for writing.
+    /// The part for writing. `*guard = part` writes it too, and the rest of the value stays.
     pub fn value_mut(&mut self) -> &mut P::Out
         ensures* writes_back { sem 𝓛 (Lends (the_row K.row V.row A.row W.row H.row D.row writes.the_row P.row H.Lock.row H.Runtime.row
             H.Party.row H.Apart.row P.Out.row K.PartialEq (record { hash_input = K.hash_input }) A.Allocator W.Lender

@@ -145,7 +145,11 @@ where
         (guard, slot)
     }
 
-    /// The stored key and the value.
+    /// The stored key and the value, lent as long as the guard is borrowed.
+    ///
+    /// ```text
+    /// if let Some(guard) = map.get(&7, &mut me) { let (key, value) = guard.pair(); }
+    /// ```
     pub fn pair(&self) -> (&K, &V)
         ensures { pair_in (W.part self.now.0.inner) self.now.1 ≡ Some (result.0.now, result.1.now) }
     {
@@ -155,7 +159,7 @@ where
         }
     }
 
-    /// The stored key.
+    /// The stored key: equal to the one that was asked for, and not always the same.
     pub fn key(&self) -> &K
         ensures { key_in (W.part self.now.0.inner) self.now.1 ≡ Some result.now }
     {
@@ -163,7 +167,7 @@ where
         key
     }
 
-    /// The value.
+    /// The value. `*guard` is the same.
     pub fn value(&self) -> &V
         ensures { value_in (W.part self.now.0.inner) self.now.1 ≡ Some result.now }
     {
@@ -183,7 +187,11 @@ impl<K: Eq + Hash, V, A: Allocator, W: Lender<Part = Shard<K, V, A>> + Drop, H: 
 where
     H::Runtime: Wait,
 {
-    /// A guard that only reads. The shard stays held exclusively until it is dropped.
+    /// A guard that only reads. The shard stays held exclusively until it is dropped, so nobody reads beside it.
+    ///
+    /// ```text
+    /// if let Some(guard) = map.get_mut(&7, &mut me) { let reader = guard.downgrade(); }
+    /// ```
     pub fn downgrade(self) -> Ref<K, V, A, W, H, D>
         ensures { result ≡ self }
     {
@@ -204,6 +212,11 @@ where
     H::Runtime: Wait,
 {
     /// The value for writing, beside the stored key. What is left there is what the guard lends from then on.
+    ///
+    /// ```text
+    /// let (key, value) = guard.pair_mut();
+    /// *value = value.wrapping_add(*key);
+    /// ```
     pub fn pair_mut(&mut self) -> (&K, &mut V)
         ensures* writes_back { sem 𝓛 (Lends (the_row K.row V.row A.row W.row H.row D.row writes.the_row H.Lock.row H.Runtime.row
             H.Party.row H.Apart.row K.PartialEq (record { hash_input = K.hash_input }) A.Allocator W.Lender H.Hold)
@@ -218,7 +231,11 @@ where
         self.guard.lend().lend(self.slot)
     }
 
-    /// The value for writing.
+    /// The value for writing. `*guard = value` writes it too.
+    ///
+    /// ```text
+    /// let old = mem::replace(guard.value_mut(), 9);
+    /// ```
     pub fn value_mut(&mut self) -> &mut V
         ensures* writes_back { sem 𝓛 (Lends (the_row K.row V.row A.row W.row H.row D.row writes.the_row H.Lock.row H.Runtime.row
             H.Party.row H.Apart.row K.PartialEq (record { hash_input = K.hash_input }) A.Allocator W.Lender H.Hold)
