@@ -278,7 +278,17 @@ where
         lend_held(&mut self.held, slot)
     }
 
-    /// The next pair for writing, lent until the next call.
+    /// The next pair for writing, lent until the next call; `None` behind the last pair. It takes no memory.
+    ///
+    /// Blocks at each shard while another holds it. The next shard is held before the last one is given back, so two
+    /// threads that each walk and hold a guard besides can wait for one another.
+    ///
+    /// ```text
+    /// for _ in rt.forever() {
+    ///     let Some(mut pair) = walk.next_mut() else { break };
+    ///     *pair = pair.wrapping_add(1);
+    /// }
+    /// ```
     pub fn next_mut(&mut self) -> Option<MultiGuardMut<'_, K, V, A, W, H, L>>
         ensures* rests { sem 𝓛
             (RestsIfNone (the_row K.row V.row A.row W.row H.row L.row H.Lock.row H.Runtime.row H.Party.row H.Apart.row

@@ -31,11 +31,24 @@ where
     /// The locks and the hasher of a map.
     ghost seen: { Self → Locked Q S };
 
-    /// A walk that reads. It holds nothing before its first item.
+    /// A walk that reads. It holds nothing before its first item, and then one shard, or two for a moment.
+    ///
+    /// Blocks at each shard while another holds it exclusively, or waits to. It keeps the borrow of `td`: a call beside
+    /// it doesn't compile. Memory: an item shares its shard's hold, which takes some; refused, it is an error, and the
+    /// walk ends.
+    ///
+    /// ```text
+    /// for item in map.iter(&mut me) { sum = sum.wrapping_add(*item?); }
+    /// ```
     fn iter<'m, 'd>(&'m self, td: &'d mut Q::Party) -> Iter<'m, 'd, K, V, Q, A>
         ensures { result ≡ record { locks = (seen self.now).locks; next = 0; held = None; from = 0; failed = false } };
 
-    /// A walk that writes. It holds nothing before its first item.
+    /// A walk that writes. It holds nothing before its first item. It takes no memory, and keeps the borrow of `td`.
+    ///
+    /// ```text
+    /// let mut walk = map.iter_mut(&mut me);
+    /// if let Some(mut pair) = walk.next_mut() { *pair = 9; }
+    /// ```
     fn iter_mut<'m, 'd>(&'m self, td: &'d mut Q::Party) -> IterMut<'m, 'd, K, V, Q, A>
         ensures { result ≡ record { locks = (seen self.now).locks; next = 0; held = None; from = 0; failed = false } };
 

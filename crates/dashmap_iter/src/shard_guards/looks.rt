@@ -22,7 +22,14 @@ pub trait Looks<K: Eq + Hash, V, S: BuildHasher, Q: RawRwLock, A: Allocator> {
     /// The locks and the hasher of a map.
     ghost seen: { Self → Locked Q S };
 
-    /// The shards, to be counted and read.
+    /// The shards, to be counted and read. It holds nothing.
+    ///
+    /// ```text
+    /// let shards = map.shards();
+    /// for number in 0..shards.count() {
+    ///     if let Some(shard) = shards.read(number, &mut me) { pairs = pairs.wrapping_add(shard.len()); }
+    /// }
+    /// ```
     fn shards(&self) -> ShardsView<'_, K, V, S, Q, A>
         ensures { result ≡ seen self.now };
 

@@ -50,7 +50,13 @@ impl<'m, K: Eq + Hash, V, S: BuildHasher, Q, A: Allocator> ShardsView<'m, K, V, 
         self.map.shard_locks().len()
     }
 
-    /// Waits for a shared hold of a shard; None from `count` on.
+    /// A shared hold of a shard, which lends the shard to be read alone; `None` from `count` on.
+    ///
+    /// Blocks while another holds the shard exclusively, or waits to. The guard keeps the borrow of `td`.
+    ///
+    /// ```text
+    /// if let Some(shard) = map.shards().read(0, &mut me) { let pairs = shard.len(); }
+    /// ```
     pub fn read<'d>(
         &self,
         shard: usize,

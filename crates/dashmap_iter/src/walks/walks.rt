@@ -36,7 +36,14 @@ where
     ghost seen: { Self → Locked Q S };
 
     /// Asks the closure of each pair, whose value it may write, and takes those out of which it answers false. One
-    /// shard is held at a time.
+    /// shard is held at a time, shard 0 first, so calls on other shards go on.
+    ///
+    /// Blocks while another holds a shard, at each in its turn. The closure runs under the hold: a call on the same map
+    /// with data of its own can wait for ever.
+    ///
+    /// ```text
+    /// map.retain(|_, age| *age <= 20, &mut me);
+    /// ```
     fn retain<F: FnMut(&K, &mut V) -> bool + Drop>(&self, f: F, td: &mut Q::Party)
     where
         K: Drop,
@@ -46,12 +53,24 @@ where
             (λ p q. Walked (AtFull (Keeps F.FnMut)) (length p.1.slots) p q) (td.old, f) (td.new, last) };
 
     /// Stores what the closure makes of each value. The next shard is held before the last one is given back.
+    ///
+    /// Blocks while another holds a shard, at each in its turn.
+    ///
+    /// ```text
+    /// map.alter_all(|_, age| age.wrapping_add(1), &mut me);
+    /// ```
     fn alter_all<F: FnMut(&K, V) -> V + Drop>(&self, f: F, td: &mut Q::Party)
         requires { F.IsAlwaysCallable f }
         ensures { (last : F) × EachLocked Q.held (seen self.now)
             (λ p q. Walked (AtFull (Alters F.FnMut)) (length p.1.slots) p q) (td.old, f) (td.new, last) };
 
-    /// Takes every pair out; the room stays. One shard is held at a time.
+    /// Takes every pair out; the room stays. One shard is held at a time, and others may put pairs in behind it.
+    ///
+    /// Blocks while another holds a shard, at each in its turn.
+    ///
+    /// ```text
+    /// map.clear(&mut me);
+    /// ```
     fn clear(&self, td: &mut Q::Party)
     where
         K: Drop,
