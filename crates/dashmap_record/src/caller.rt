@@ -56,7 +56,11 @@ impl<K, V, A: Allocator> Caller<K, V, A> {
         self.log.last()
     }
 
-    /// Its log, oldest entry first. It takes no memory.
+    /// Its log, oldest entry first, for `gather`. It takes no memory.
+    ///
+    /// ```text
+    /// logs.push(caller.log())?; // in the order of the callers' numbers
+    /// ```
     pub fn log(self) -> Vec<Entered<K, V>, A>
         ensures log { result.items ≡ self.log.entries }
         ensures own { IsOwn self.number result.items }

@@ -67,10 +67,14 @@ impl<
     Q: RawRwLock + Drop,
     A: Allocator + Clone,
 > Recorded<K, V, S, Q, A> {
-    /// An empty map with so many shards, and the callers 0, 1, .. up to so many.
+    /// An empty map with so many shards, and the callers 0, 1, .. up to so many: give each thread one.
     ///
     /// Refused as `BadShards`, `TableFull` or `NoMemory`, in this order. Rows that were taken for a map that is then
     /// refused stay used.
+    ///
+    /// ```text
+    /// let (map, mut callers) = Recorded::new(alloc, 4, hasher, 2, &table)?; // 4 rows, 2 callers
+    /// ```
     pub fn new<T: Copy>(
         alloc: A,
         shards: usize,
@@ -109,7 +113,12 @@ impl<
         }
     }
 
-    /// The shards' histories, in order of shard. It takes no memory.
+    /// The shards' histories, in order of shard, for `gather`. It takes no memory, and no lock: nobody shares the map
+    /// then.
+    ///
+    /// ```text
+    /// let calls = gather(alloc, map.histories(), logs, &hasher)?;
+    /// ```
     pub fn histories(self) -> Vec<List<K, V, A>, A>
         ensures count { length result.items ≡ self.shards }
         ensures rise { All (λ history. IsTrue (rises history.items)) result.items }
@@ -166,6 +175,13 @@ where
     }
 
     /// Puts a pair in, and answers the value that its key had. A present key keeps the stored key.
+    ///
+    /// Blocks while another holds the shard, as every call here: all holds are exclusive. Refused as `StampsSpent` or
+    /// `NoMemory` (of the pair, the history or the log), with nothing changed.
+    ///
+    /// ```text
+    /// let old = map.insert(7, 1, &mut caller, &mut me)?;
+    /// ```
     pub fn insert(
         &self,
         key: K,
@@ -183,7 +199,11 @@ where
         Ok(value_told(reply))
     }
 
-    /// Takes the pair of a key out, if it is there.
+    /// Takes the pair of a key out, if it is there. Blocks, and is refused, as `insert`.
+    ///
+    /// ```text
+    /// let pair = map.remove(&7, &mut caller, &mut me)?;
+    /// ```
     pub fn remove(
         &self,
         key: &K,
@@ -201,7 +221,11 @@ where
         Ok(pair_told(reply))
     }
 
-    /// A copy of the value of a key, if it is there.
+    /// A copy of the value of a key, if it is there. Blocks, and is refused, as `insert`.
+    ///
+    /// ```text
+    /// let seen = map.get_copied(&7, &mut caller, &mut me)?.unwrap_or(0);
+    /// ```
     pub fn get_copied(
         &self,
         key: &K,
@@ -218,7 +242,12 @@ where
         Ok(value_told(reply))
     }
 
-    /// Stores `value` at a key that is there with a value equal to `seen`, and answers whether it did.
+    /// Stores `value` at a key that is there with a value equal to `seen`, and answers whether it did. Blocks, and is
+    /// refused, as `insert`.
+    ///
+    /// ```text
+    /// let stored = map.replace_if(&7, seen, seen.wrapping_add(1), &mut caller, &mut me)?; // false: another came between
+    /// ```
     pub fn replace_if(
         &self,
         key: &K,
