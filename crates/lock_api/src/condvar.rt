@@ -155,7 +155,11 @@ impl<C: RawCondvar> Condvar<C>
 where
     <C::RawMutex as RawMutex>::Runtime: Wait,
 {
-    /// One on which nobody waits.
+    /// One on which nobody waits. `TableFull` where the table has no row left: it takes one.
+    ///
+    /// ```text
+    /// let changed = Condvar::new(&table)?;
+    /// ```
     pub fn new<S>(source: S) -> Result<Condvar<C>, TableFull>
     where
         C: MakeCondvar<S>,
@@ -173,10 +177,16 @@ where
         Condvar::new(source)
     }
 
-    /// Gives the value's std lock back, waits until it is notified, and takes both locks again.
+    /// Gives the value's std lock and the mutex back, waits until it is notified, and takes both again. It may come
+    /// back unasked: test the condition again, or use `wait_while`.
     ///
     /// `WrongMutex` is answered where other threads wait with another mutex, and then `WrongLot` where the mutex is of
-    /// another lot.
+    /// another lot; then it hasn't waited, and the guard is held as before.
+    ///
+    /// ```text
+    /// let mut queue = tasks.lock(&mut me);
+    /// changed.wait(&mut queue, &mut me)?;
+    /// ```
     pub fn wait<'l, T>(
         &self,
         guard: &mut MutexGuard<'l, C::RawMutex, T>,
@@ -191,7 +201,13 @@ where
     }
 
     /// Asks the condition of the value, and waits as long as it answers true. Where it returns Ok, the condition's last
-    /// answer was false and the value is as that call left it. The condition is called under the lock.
+    /// answer was false and the value is as that call left it. The condition is called under the lock. Refused as
+    /// `wait`.
+    ///
+    /// ```text
+    /// changed.wait_while(&mut queue, &mut me, |queue| queue.is_empty())?;
+    /// let task = queue.pop_front();
+    /// ```
     pub fn wait_while<'l, T, F: FnMut(&mut T) -> bool>(
         &self,
         guard: &mut MutexGuard<'l, C::RawMutex, T>,
@@ -214,14 +230,24 @@ where
         unreachable!()
     }
 
-    /// Takes the first waiter, and answers whether one was taken.
+    /// Takes the first waiter, and answers whether one was taken. It blocks nobody; a waiter goes on once it has the
+    /// mutex again. Nobody remembers a notification: change the value under the mutex first.
+    ///
+    /// ```text
+    /// tasks.lock(&mut me).push_back(task)?;
+    /// changed.notify_one();
+    /// ```
     pub fn notify_one(&self) -> bool
         ensures { C.notified_one self.now.raw result }
     {
         self.raw.notify_one()
     }
 
-    /// Takes all waiters, and answers how many there were.
+    /// Takes all waiters, and answers how many there were. They go on one after another, as each gets the mutex.
+    ///
+    /// ```text
+    /// let taken = changed.notify_all();
+    /// ```
     pub fn notify_all(&self) -> usize
         ensures { C.notified_all self.now.raw result }
     {
@@ -252,6 +278,10 @@ where
     }
 
     /// As `wait_until`, with the moment that lies `timeout` ahead. Where that can't be said there is no limit.
+    ///
+    /// ```text
+    /// let ran_out = changed.wait_for(&mut queue, Duration::from_secs(1), &rt, &mut me)?.timed_out();
+    /// ```
     pub fn wait_for<'l, T, K: Clock>(
         &self,
         guard: &mut MutexGuard<'l, C::RawMutex, T>,

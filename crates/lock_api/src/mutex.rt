@@ -46,7 +46,11 @@ pub type MappedMutexGuard<'l, R, T, P> = Mapped<
 >;
 
 impl<R: RawMutex, T> Mutex<R, T> {
-    /// Makes an unlocked mutex. A refusal drops the value.
+    /// Makes an unlocked mutex. `TableFull` where the table has no row left: it takes one. A refusal drops the value.
+    ///
+    /// ```text
+    /// let total = Mutex::new(&table, 0)?;
+    /// ```
     pub fn new<S>(source: S, value: T) -> Result<Mutex<R, T>, TableFull>
     where
         R: MakeLock<S>,
@@ -77,7 +81,7 @@ impl<R: RawMutex, T> Mutex<R, T> {
         }
     }
 
-    /// The value.
+    /// The value. That the mutex is owned shows that nobody holds it. Its row stays used.
     pub fn into_inner(self) -> T
     where
         R: Drop,
@@ -94,7 +98,11 @@ impl<R: RawMutex, T> Mutex<R, T> {
         (raw, value.into_inner())
     }
 
-    /// Lends the value. The exclusive borrow shows that nobody holds the mutex.
+    /// Lends the value, without a lock. The exclusive borrow shows that nobody holds the mutex.
+    ///
+    /// ```text
+    /// *total.get_mut() = 0;
+    /// ```
     pub fn get_mut(&mut self) -> &mut T {
         self.value.get_mut()
     }
@@ -112,6 +120,15 @@ where
     R::Runtime: Wait,
 {
     /// Waits for the raw mutex, then for the std lock, and gives the guard.
+    ///
+    /// Blocks while another has the mutex. The guard doesn't keep the borrow of `party`, so a second lock may be taken
+    /// beside it; a thread that locks a mutex which it has waits for itself for ever.
+    ///
+    /// ```text
+    /// let mut sum = total.lock(&mut me);
+    /// *sum = sum.wrapping_add(1);
+    /// drop(sum); // or at the end of its block
+    /// ```
     #[inline(always)]
     pub fn lock(&self, party: &mut R::Party) -> MutexGuard<'_, R, T>
         ensures { result.held.0.place.now ≡ self.now }
@@ -141,6 +158,10 @@ where
     }
 
     /// A guard at once, or None. It takes the std lock by its own try first and waits for nobody.
+    ///
+    /// ```text
+    /// if let Some(sum) = total.try_lock() { .. }
+    /// ```
     #[inline(always)]
     pub fn try_lock(&self) -> Option<MutexGuard<'_, R, T>>
         ensures { IfSome result (λ guard. guard.held.0.place.now ≡ self.now) }
@@ -149,7 +170,12 @@ where
         Some(Guard::over(RawHold::at_once(self)?, inner))
     }
 
-    /// As `lock`, but None if the wait for the raw mutex is given up after the length of time.
+    /// As `lock`, but None if the wait for the raw mutex is given up after the length of time. A free mutex is had
+    /// whatever the time; a deadline is looked at where the call sleeps.
+    ///
+    /// ```text
+    /// let Some(sum) = total.try_lock_for(Duration::from_millis(5), &rt, &mut me) else { return false };
+    /// ```
     pub fn try_lock_for<C: Clock>(
         &self,
         timeout: R::Duration,
@@ -166,7 +192,11 @@ where
         Some(Guard::under(hold))
     }
 
-    /// As `lock`, but None if the wait for the raw mutex is given up at the moment.
+    /// As `try_lock_for`, but until a moment.
+    ///
+    /// ```text
+    /// let sum = total.try_lock_until(deadline, &rt, &mut me);
+    /// ```
     pub fn try_lock_until<C: Clock>(
         &self,
         deadline: R::Instant,

@@ -82,8 +82,12 @@ impl<R: RawMutex + Drop, G: GetThreadId<Party = R::Party> + Drop, T> ReentrantMu
 where
     R::Runtime: Wait,
 {
-    /// Makes an unlocked one, which keeps `readers` as its limit of nested holds, where 0 counts as 1. A refusal drops
-    /// the value.
+    /// Makes an unlocked one, which keeps `readers` as its limit of nested holds, where 0 counts as 1. `TableFull`
+    /// where the table has no row left: it takes one. A refusal drops the value.
+    ///
+    /// ```text
+    /// let canvas = ReentrantMutex::new(&table, 8, Cell::new(0))?; // at most 8 holds at a time
+    /// ```
     pub fn new<S>(source: S, readers: u64, value: T) -> Result<ReentrantMutex<R, G, T>, TableFull>
     where
         R: MakeLock<S>,
@@ -149,11 +153,24 @@ where
     }
 
     /// Whether the party holds it.
+    ///
+    /// ```text
+    /// if !canvas.is_owned_by_current_thread(&me) { .. }
+    /// ```
     pub fn is_owned_by_current_thread(&self, party: &R::Party) -> bool {
         self.raw.is_owned_by_current_thread(party)
     }
 
-    /// Waits for the raw mutex, unless the party is the owner already. A full count refuses, with nothing changed.
+    /// Waits for the raw mutex, unless the party is the owner already. `ReadersFull` at a full count, with nothing
+    /// changed.
+    ///
+    /// Blocks while another has it, and never for a hold of its own. Its guard only reads: what changes is an atomic or
+    /// a cell.
+    ///
+    /// ```text
+    /// let outer = canvas.lock(&mut me)?;
+    /// let inner = canvas.lock(&mut me)?; // the same owner
+    /// ```
     #[inline(always)]
     pub fn lock(
         &self,
@@ -183,7 +200,11 @@ where
     }
 
     /// A guard at once, or `Ok(None)` where another party holds it. It takes the std lock by its own try first and
-    /// waits for nobody. A full count refuses, with nothing changed.
+    /// waits for nobody. `ReadersFull` at a full count, with nothing changed.
+    ///
+    /// ```text
+    /// if let Some(canvas) = canvas.try_lock(&me)? { .. }
+    /// ```
     pub fn try_lock(
         &self,
         party: &R::Party,
