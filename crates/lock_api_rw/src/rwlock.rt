@@ -94,7 +94,7 @@ impl<R, T> RwLock<R, T> {
         (raw, value.into_inner())
     }
 
-    /// Lends the value. That the lock is borrowed alone shows that nobody holds it.
+    /// Lends the value, without a lock. That the lock is borrowed alone shows that nobody holds it.
     pub fn get_mut(&mut self) -> &mut T {
         self.value.get_mut()
     }
@@ -211,7 +211,12 @@ where
 }
 
 impl<R: RawRwLock, T: Drop> RwLock<R, T> {
-    /// Makes an unlocked lock over a new raw lock with that limit of readers. A refusal lets the value go.
+    /// Makes an unlocked lock over a new raw lock with that limit of readers. `TableFull` where the table has no row
+    /// left: it takes one. A refusal lets the value go.
+    ///
+    /// ```text
+    /// let rates = RwLock::new(&table, 8, 100)?; // at most 8 readers at a time
+    /// ```
     pub fn new<S>(source: S, readers: u64, value: T) -> Result<RwLock<R, T>, TableFull>
     where
         R: MakeLock<S>,
@@ -252,6 +257,14 @@ where
     R::Runtime: Wait,
 {
     /// Waits for a shared hold of the raw lock, and then for the std lock.
+    ///
+    /// Blocks while another writes or waits to, and at the limit of readers. The guard doesn't keep the borrow of
+    /// `party`; a thread that reads a lock which it reads already can wait for ever, as soon as a writer waits between:
+    /// `RecursiveRwLock` is for that.
+    ///
+    /// ```text
+    /// let rate = *rates.read(&mut me);
+    /// ```
     #[inline(always)]
     pub fn read(&self, party: &mut R::Party) -> RwLockReadGuard<'_, R, T>
         ensures { result.held.0.place.now ≡ self.now }
@@ -265,6 +278,10 @@ where
     }
 
     /// A shared guard at once, or None. It waits for nobody.
+    ///
+    /// ```text
+    /// if let Some(rate) = rates.try_read() { .. }
+    /// ```
     #[inline(always)]
     pub fn try_read(&self) -> Option<RwLockReadGuard<'_, R, T>>
         ensures { IfSome result (λ guard. guard.held.0.place.now ≡ self.now) }
@@ -274,6 +291,13 @@ where
     }
 
     /// Waits until no other hold of the raw lock is left, and then for the std lock.
+    ///
+    /// Blocks while another holds the lock in any mode. A thread that writes a lock which it holds waits for itself for
+    /// ever.
+    ///
+    /// ```text
+    /// *rates.write(&mut me) = 120;
+    /// ```
     #[inline(always)]
     pub fn write(&self, party: &mut R::Party) -> RwLockWriteGuard<'_, R, T>
         ensures { result.held.0.place.now ≡ self.now }
@@ -287,6 +311,10 @@ where
     }
 
     /// An exclusive guard at once, or None. It waits for nobody.
+    ///
+    /// ```text
+    /// if let Some(mut rate) = rates.try_write() { *rate = 120; }
+    /// ```
     #[inline(always)]
     pub fn try_write(&self) -> Option<RwLockWriteGuard<'_, R, T>>
         ensures { IfSome result (λ guard. guard.held.0.place.now ≡ self.now) }
@@ -300,7 +328,15 @@ impl<R: RawRwLockUpgrade, T> RwLock<R, T>
 where
     R::Runtime: Wait,
 {
-    /// Waits for an upgradable hold of the raw lock, and then for the std lock.
+    /// Waits for an upgradable hold of the raw lock, and then for the std lock. There is one such hold at a time;
+    /// readers may come beside it.
+    ///
+    /// Blocks while another writes or has an upgradable hold.
+    ///
+    /// ```text
+    /// let rate = rates.upgradable_read(&mut me);
+    /// if *rate == 0 { *RwLockUpgradableReadGuard::upgrade(rate, &mut me) = 100; }
+    /// ```
     #[inline(always)]
     pub fn upgradable_read(&self, party: &mut R::Party) -> RwLockUpgradableReadGuard<'_, R, T>
         ensures { result.held.0.place.now ≡ self.now }

@@ -13,6 +13,10 @@ where
     R::Runtime: Wait,
 {
     /// As `read`, but None if the raw lock's wait is given up after the length of time, by the clock that is handed in.
+    ///
+    /// ```text
+    /// let rate = rates.try_read_for(Duration::from_millis(5), &rt, &mut me);
+    /// ```
     pub fn try_read_for<C: Clock>(
         &self,
         timeout: R::Duration,
@@ -44,6 +48,10 @@ where
 
     /// As `write`, but None if the raw lock's wait is given up after the length of time, by the clock that is handed
     /// in.
+    ///
+    /// ```text
+    /// let rate = rates.try_write_for(Duration::from_millis(5), &rt, &mut me);
+    /// ```
     pub fn try_write_for<C: Clock>(
         &self,
         timeout: R::Duration,
