@@ -246,7 +246,7 @@ where
     /// refused, as `insert`.
     ///
     /// ```text
-    /// let stored = map.replace_if(&7, seen, seen.wrapping_add(1), &mut caller, &mut me)?; // false: another came between
+    /// let stored = map.replace_if(&7, seen, seen.wrapping_add(1), &mut caller, &mut me)?; // false: another came
     /// ```
     pub fn replace_if(
         &self,

@@ -177,11 +177,11 @@ where
         Condvar::new(source)
     }
 
-    /// Gives the value's std lock and the mutex back, waits until it is notified, and takes both again. It may come
-    /// back unasked: test the condition again, or use `wait_while`.
+    /// Gives the value's std lock and the mutex back, waits until it is notified, and takes both again. Others may have
+    /// changed the value since it was notified: test it again, or use `wait_while`.
     ///
     /// `WrongMutex` is answered where other threads wait with another mutex, and then `WrongLot` where the mutex is of
-    /// another lot; then it hasn't waited, and the guard is held as before.
+    /// another lot; then it hasn't waited, and the guard is held.
     ///
     /// ```text
     /// let mut queue = tasks.lock(&mut me);

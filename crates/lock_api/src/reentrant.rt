@@ -86,7 +86,7 @@ where
     /// where the table has no row left: it takes one. A refusal drops the value.
     ///
     /// ```text
-    /// let canvas = ReentrantMutex::new(&table, 8, Cell::new(0))?; // at most 8 holds at a time
+    /// let canvas = ReentrantMutex::new(&table, 8, AtomicU64::new(0))?; // at most 8 holds at a time
     /// ```
     pub fn new<S>(source: S, readers: u64, value: T) -> Result<ReentrantMutex<R, G, T>, TableFull>
     where
@@ -164,8 +164,7 @@ where
     /// Waits for the raw mutex, unless the party is the owner already. `ReadersFull` at a full count, with nothing
     /// changed.
     ///
-    /// Blocks while another has it, and never for a hold of its own. Its guard only reads: what changes is an atomic or
-    /// a cell.
+    /// Blocks while another has it, and never for a hold of its own. Its guard only reads: what changes is an atomic.
     ///
     /// ```text
     /// let outer = canvas.lock(&mut me)?;
