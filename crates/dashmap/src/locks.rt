@@ -8,8 +8,8 @@ use std::alloc::Allocator;
 
 /// Makes a table with a row for each lock of so many maps and sets, which have that many shards each.
 ///
-/// `BadSize` where these are no rows, or more than 2^20. It takes memory once, for all words. The table borrows the lot,
-/// so no one call makes both.
+/// `BadSize` where these are no rows, or more than 2^20. It takes memory once, for all words. A table borrows its lot, so
+/// no one call makes both.
 ///
 /// ```text
 /// let lot = ParkingLot::new(rt, alloc, 3, 1)?;     // three threads
