@@ -20,7 +20,7 @@ use Rattle.mapworld_calls.specs.declared.block.Block.{Block}
 use Rattle.mapworld_calls.specs.declared.reply.Reply.{Reply}
 use Rattle.mapworld_calls.specs.declared.ask.Ask.TheVariants as ask
 use Rattle.mapworld_calls.specs.declared.ask.Walk.{Walk}
-use Rattle.mapworld_calls.specs.Programs.{one_guard, numbers_of, opening_before, stop_of}
+use Rattle.mapworld_calls.specs.Programs.{one_guard, opening_before, stop_of}
 use Rattle.mapworld_calls.specs.Pairs.{pair_of, opening_pair}
 use Rattle.mapworld_calls.specs.Setup.{Setup, Laws}
 use Rattle.mapworld_calls.specs.Placed.{WellPlaced}
@@ -43,8 +43,8 @@ use Rattle.mapworld_state.specs.State.{State, started_of}
 use Rattle.mapworld_state.specs.World.{deeds_of, setup_of}
 use Rattle.mapworld_state.specs.Sound.{FitsCounter, IsInSession, Stands, TablesAgree, Sound}
 use Rattle.mapworld_state.specs.Held.{HoldsMatch, StandsBefore}
-use Rattle.mapworld_state.specs.Core.{state_of, owes, lists, adds, is_walk, may_list, may_walk, phase_lists, AreLocksOf}
-use Rattle.mapworld_state.specs.Core.{Room}
+use Rattle.mapworld_state.specs.Core.{state_of, owes, lists, adds, blocks_of, may_visit, may_list, may_walk}
+use Rattle.mapworld_state.specs.Core.{phase_lists, AreLocksOf, Room}
 use Rattle.mapworld_state.specs.Classes.{class_of, walks_in}
 use Rattle.dashmap_table.specs.Table.{Table}
 use Rattle.mapworld.specs.Beginning.{at_start, AreAtStart, AreFilled, AreHashed, HaveLists, pairs_in}
@@ -250,23 +250,23 @@ module _ {K V D T A : Type 0} (programs : List (List (Ask K V D))) (places : Lis
       ∙ ap (λ ps. sum_by length ps) start.programs_are)
 
   start_list : (shards : ℕ) → sum_by (may_list shards) places ≡ sum_by
-      (λ program. sum_by (numbers_of shards) program) programs
+      (λ program. sum_by (blocks_of shards) program) programs
   start_list shards =
-      sum_by-alike (may_list shards) (λ (p : Place K V D T A). sum_by (numbers_of shards) p.asks) places (λ t p at.
+      sum_by-alike (may_list shards) (λ (p : Place K V D T A). sum_by (blocks_of shards) p.asks) places (λ t p at.
       let rests : lists (shards - (p.shard + 1)) p.phase ≡ 0 = ap
       (λ (q : Place K V D T A). lists (shards - (q.shard + 1)) q.phase) (start.each t p at) in
       omega (arith, rests))
-      ∙ (sym (sum_by-map (λ program. sum_by (numbers_of shards) program) (λ (p : Place K V D T A). p.asks) places)
-      ∙ ap (λ ps. sum_by (λ program. sum_by (numbers_of shards) program) ps) start.programs_are)
+      ∙ (sym (sum_by-map (λ program. sum_by (blocks_of shards) program) (λ (p : Place K V D T A). p.asks) places)
+      ∙ ap (λ ps. sum_by (λ program. sum_by (blocks_of shards) program) ps) start.programs_are)
 
   start_count : length places ≡ length programs
   start_count = sym (length-map places (λ p. p.asks)) ∙ ap (λ ps. length ps) start.programs_are
 
-  -- a thread that hasn't begun may walk where its program has a walk
+  -- a thread that hasn't begun may come to a shard where its program has a walk that does
   new-walks : (t : ℕ) (p : KeptPlace K V D T A) → slice_get places t ≡ Some (place_of p)
-      → may_walk (place_of p) ≡ list_any is_walk p.asks.items
-  new-walks t p at = ap (λ (q : Place K V D T A). list_any is_walk p.asks.items || walks_in (class_of q.phase))
-      (start.each t (place_of p) at) ∙ or-none (list_any is_walk p.asks.items)
+      → may_walk (place_of p) ≡ list_any may_visit p.asks.items
+  new-walks t p at = ap (λ (q : Place K V D T A). list_any may_visit p.asks.items || walks_in (class_of q.phase))
+      (start.each t (place_of p) at) ∙ or-none (list_any may_visit p.asks.items)
 
 -- what a new world's lists have room for
 pub record HasNewRoom {K V S D T A : Type 0} (c : Core K V S D T A) : Type 0 where
@@ -274,9 +274,9 @@ pub record HasNewRoom {K V S D T A : Type 0} (c : Core K V S D T A) : Type 0 whe
   pub unanswered : c.unanswered ≡ sum_by length (state_of c).programs
   pub calls_fit : sum_by length (state_of c).programs ≤ 2 ^ 20
   pub replies : sum_by length (state_of c).programs ≤ vec_capacity c.replies
-  pub blocks : sum_by (λ program. sum_by (numbers_of (length c.tables.items)) program) (state_of c).programs ≤
+  pub blocks : sum_by (λ program. sum_by (blocks_of (length c.tables.items)) program) (state_of c).programs ≤
       vec_capacity c.blocks
-  pub blocks_fit : sum_by (λ program. sum_by (numbers_of (length c.tables.items)) program) (state_of c).programs < 2
+  pub blocks_fit : sum_by (λ program. sum_by (blocks_of (length c.tables.items)) program) (state_of c).programs < 2
       ^ 32
   pub lists : HaveLists (length c.tables.items) c.places.items
   pub locks : AreLocksOf (length (state_of c).programs) (length c.tables.items) (state_of c).locks
@@ -309,7 +309,7 @@ new-room {K} {V} {S} {D} {T} {A} c fresh start room =
       blocks = omega (arith, no_blocks, list_sum, room.blocks);
       blocks_fit = omega (arith, no_blocks, list_sum, room.blocks_fit);
       visits = λ t p at walks.
-          let rests : may_walk (place_of p) ≡ list_any is_walk p.asks.items = new-walks programs places start t p
+          let rests : may_walk (place_of p) ≡ list_any may_visit p.asks.items = new-walks programs places start t p
           (view-at place_of c.places.items t p at) in
           (room.lists t p at).visits (sym rests ∙ walks);
       lists = λ t p at.

@@ -8,7 +8,7 @@ use Rattle.mapworld_calls.specs.declared.ask.Ask.{Ask}
 use Rattle.mapworld_calls.specs.Pairs.{pair_of, opening_pair, AreDistinct}
 use Rattle.mapworld_state.specs.declared.place.Phase.TheVariants as phase
 use Rattle.mapworld_state.specs.declared.place.Place.{Place as KeptPlace}
-use Rattle.mapworld_state.specs.Core.{ask_lists, is_walk}
+use Rattle.mapworld_state.specs.Core.{ask_lists, may_visit}
 use Rattle.mapworld_state.specs.Places.{Place}
 use Rattle.mapworld_state.specs.Slots.{HasHashes}
 
@@ -56,10 +56,10 @@ AreEmpty {K} {V} tables = (i : ℕ) (table : Table K V) → slice_get tables i �
 abbrev pub AreHashed : {K V : Type 0} → (K → ℕ) → List (Table K V) → Type 0
 AreHashed {K} {V} hash tables = (i : ℕ) (table : Table K V) → slice_get tables i ≡ Some table → HasHashes hash table
 
--- a thread whose program has walks has a list of visits with room for all shards, and an empty list for each answer of
--- what a walk reads
+-- a thread whose program has walks that come to shards has a list of visits with room for all shards, and any thread an
+-- empty list for each answer of what a walk reads
 pub record HasLists {K V D T A : Type 0} (shards : ℕ) (p : KeptPlace K V D T A) : Type 0 where
-  pub visits : list_any is_walk p.asks.items ≡ true → shards ≤ vec_capacity p.visits
+  pub visits : list_any may_visit p.asks.items ≡ true → shards ≤ vec_capacity p.visits
   pub lists : sum_by ask_lists p.asks.items ≤ length p.lists.items
 
 abbrev pub HaveLists : {K V D T A : Type 0} → ℕ → List (KeptPlace K V D T A) → Type 0

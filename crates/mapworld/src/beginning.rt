@@ -1,7 +1,7 @@
 //! How a new world's threads and tables begin.
 ghost use Rattle.std.specs.Prelude.{◌≡◌, ◌^◌, ◌≤◌, true, [], length, map, sum_by, vec_capacity, IfOk};
 ghost use Rattle.std.specs.List.{list_any};
-ghost use Rattle.mapworld_state.specs.Core.{ask_lists, is_walk};
+ghost use Rattle.mapworld_state.specs.Core.{ask_lists, may_visit};
 ghost use Rattle.mapworld_state.specs.Route.{IsWorldAmount, key_route};
 ghost use Rattle.mapworld_state.specs.Places.{place_of};
 ghost use Rattle.mapworld_state.specs.Shards.{shard_pairs};
@@ -15,25 +15,26 @@ use mapworld_calls::{Ask, Walk};
 use mapworld_state::{Phase, Place};
 use mapworld_steps::shard_of;
 use mapworld_transitions::put::put_pair;
+use mapworld_transitions::walks::{stop_of, stops_at};
 use std::alloc::Allocator;
 use std::collections::VecDeque;
 use std::hash::{BuildHasher, Hash};
 
-/// Whether a call is a walk.
-fn is_walk<K, V, D>(ask: &Ask<K, V, D>) -> bool
-    ensures { result ≡ is_walk ask.now }
+/// Whether a call is a walk that comes to a shard.
+fn may_visit<K, V, D>(ask: &Ask<K, V, D>) -> bool
+    ensures { result ≡ may_visit ask.now }
 {
     match ask {
-        Ask::Walk(_) => true,
+        Ask::Walk(walk) => !stops_at(stop_of(walk), 0),
         _ => false,
     }
 }
 
-/// Whether a program has a walk.
-fn has_walk<K, V, D>(program: &[Ask<K, V, D>]) -> bool
-    ensures { result ≡ list_any is_walk program.now }
+/// Whether a program has such a walk.
+fn has_visits<K, V, D>(program: &[Ask<K, V, D>]) -> bool
+    ensures { result ≡ list_any may_visit program.now }
 {
-    program.iter().any(|ask| is_walk(ask))
+    program.iter().any(|ask| may_visit(ask))
 }
 
 /// How many lists a call may be answered with: one where it is a walk that reads.
@@ -72,7 +73,7 @@ fn empty_lists<T: Drop, A: Allocator + Clone + Drop>(
     Ok(lists)
 }
 
-/// A list without visits, with room for one of each shard where the thread may walk.
+/// A list without visits, with room for one of each shard where the thread may come to them.
 fn visits_of<A: Allocator>(alloc: A, walks: bool, shards: usize) -> Result<Vec<usize, A>, NoMemory>
     ensures none { IfOk result (λ visits. visits.items ≡ []) }
     ensures room { IfOk result (λ visits. walks ≡ true → shards ≤ vec_capacity visits) }
@@ -93,7 +94,7 @@ fn at_start<K: Drop, V: Drop, D: Drop, T: Drop, A: Allocator + Clone + Drop>(
     ensures start { IfOk result (λ place. place_of place ≡ at_start program.items) }
     ensures lists { IfOk result (HasLists shards) }
 {
-    let visits = visits_of(alloc.clone()?, has_walk(&program), shards)?;
+    let visits = visits_of(alloc.clone()?, has_visits(&program), shards)?;
     let lists = empty_lists(alloc.clone()?, program_lists(&program))?;
     Ok(Place {
         asks: VecDeque::from(program),

@@ -10,7 +10,7 @@ use mapworld_steps::is_world_amount;
 use std::alloc::Allocator;
 
 /// How many calls all programs have, if they aren't too many.
-pub(crate) fn calls_of<K, V, D, A: Allocator>(programs: &[Vec<Ask<K, V, D>, A>]) -> Option<usize>
+fn calls_of<K, V, D, A: Allocator>(programs: &[Vec<Ask<K, V, D>, A>]) -> Option<usize>
     ensures { MatchOption result
         (2 ^ 20 < sum_by (λ program. length program.items) programs.now)
         (λ calls. (calls ≡ sum_by (λ program. length program.items) programs.now) × (calls ≤ 2 ^ 20)) }
@@ -26,10 +26,7 @@ pub(crate) fn calls_of<K, V, D, A: Allocator>(programs: &[Vec<Ask<K, V, D>, A>])
 }
 
 /// How many guard numbers all programs take on so many shards, if they aren't too many.
-pub(crate) fn numbers_in<K, V, D, A: Allocator>(
-    programs: &[Vec<Ask<K, V, D>, A>],
-    shards: u64,
-) -> Option<u64>
+fn numbers_in<K, V, D, A: Allocator>(programs: &[Vec<Ask<K, V, D>, A>], shards: u64) -> Option<u64>
     ensures { MatchOption result
         (2 ^ 32 ≤ sum_by (λ program. sum_by (numbers_of shards) program.items) programs.now)
         (λ numbers. (numbers ≡ sum_by (λ program. sum_by (numbers_of shards) program.items) programs.now)

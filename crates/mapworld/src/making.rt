@@ -1,6 +1,5 @@
 //! How a world is made.
 ghost use Rattle.std.specs.Prelude.{◌≡◌, ◌<◌, ◌≤◌, ◌^◌, length, map, sum_by, IfOk};
-ghost use Rattle.mapworld_calls.specs.Programs.{numbers_of};
 ghost use Rattle.mapworld.specs.Making.{new_refusal, IsNew};
 ghost use Rattle.mapworld.specs.Reachable.{CoreIsReachable};
 ghost use Rattle.mapworld.specs.Guarded.{GuardsAreOwners};
@@ -8,17 +7,17 @@ ghost use Rattle.mapworld.specs.History.{history_of, HistoryAgrees, HistoryHasCa
 ghost use Rattle.mapworld_state.specs.Locks.Fresh.{AreFresh};
 ghost use Rattle.mapworld_progress.specs.Drains.{IsInTime};
 ghost use Rattle.mapworld_state.specs.Invariant.Causes.World.{CoreHasCauses};
-ghost use Rattle.mapworld_state.specs.Core.{state_of, IsSoundCore, IsSlotted, Room};
+ghost use Rattle.mapworld_state.specs.Core.{blocks_of, state_of, IsSoundCore, IsSlotted, Room};
 
 use crate::beginning::{empty_shards, fill, places_of};
 use crate::laws::desks_count_as_words;
-use crate::limits;
 use crate::stops::programs_fit;
 use dashmap_table::NoMemory;
 use mapworld_calls::past::Past;
 use mapworld_calls::{Ask, Deed};
 use mapworld_state::Core;
 use mapworld_state::locks::ShardLocks;
+use mapworld_transitions::walks::{stop_of, stops_at};
 use parking_lot_machine::laws::steps_are_few;
 use std::alloc::Allocator;
 use std::hash::{BuildHasher, Hash};
@@ -32,15 +31,41 @@ fn calls_in<K, V, D, A: Allocator>(programs: &[Vec<Ask<K, V, D>, A>]) -> usize
     programs.iter().map(|program| program.len()).sum()
 }
 
-/// How many blocks all programs list on so many shards.
-fn blocks_in<K, V, D, A: Allocator>(programs: &[Vec<Ask<K, V, D>, A>], shards: u64) -> usize
-    requires { sum_by (λ program. sum_by (numbers_of shards) program.items) programs.now < 2 ^ 32 }
-    ensures { result ≡ sum_by (λ program. sum_by (numbers_of shards) program.items) programs.now }
+/// How many blocks a call may list on so many shards.
+fn blocks_of<K, V, D>(ask: &Ask<K, V, D>, shards: usize) -> usize
+    ensures { result ≡ blocks_of shards ask.now }
 {
-    match limits::numbers_in(programs, shards) {
-        Some(numbers) => numbers as usize,
-        None => unreachable!(),
+    match ask {
+        Ask::Keyed(_) | Ask::Begin(_) => 1,
+        Ask::Held(_) => 0,
+        Ask::Walk(walk) => {
+            if stops_at(stop_of(walk), 0) {
+                0
+            } else {
+                shards
+            }
+        }
     }
+}
+
+/// How many blocks a program may list on so many shards.
+fn program_blocks<K, V, D>(program: &[Ask<K, V, D>], shards: usize) -> usize
+    requires { sum_by (blocks_of shards) program.now < 2 ^ 32 }
+    ensures { result ≡ sum_by (blocks_of shards) program.now }
+{
+    program.iter().map(|ask| blocks_of(ask, shards)).sum()
+}
+
+/// How many blocks all programs may list on so many shards.
+fn blocks_in<K, V, D, A: Allocator>(programs: &[Vec<Ask<K, V, D>, A>], shards: usize) -> usize
+    requires { sum_by (λ program. sum_by (blocks_of shards) program.items) programs.now < 2 ^ 32 }
+    ensures { result ≡ sum_by (λ program. sum_by (blocks_of shards) program.items) programs.now }
+{
+    let mut blocks = 0;
+    for program in programs {
+        blocks += program_blocks(program, shards);
+    }
+    blocks
 }
 
 /// The locks of so many shards, for so many threads, none of which has asked for anything.
@@ -94,10 +119,10 @@ pub(crate) fn core_of<
     let kept = Snapshot::of(&programs);
     programs_fit(&programs);
     let calls = calls_in(&programs);
-    let numbers = blocks_in(&programs, shards as u64);
+    let listed = blocks_in(&programs, shards);
     let locks = locks_of(alloc.clone()?, programs.len(), shards)?;
     let places = places_of(alloc.clone()?, shards, programs)?;
-    let blocks = Vec::with_capacity(alloc.clone()?, numbers)?;
+    let blocks = Vec::with_capacity(alloc.clone()?, listed)?;
     let replies = Vec::with_capacity(alloc.clone()?, calls)?;
     let mut tables = empty_shards(alloc, shards)?;
     let count = fill(&mut tables, &hasher, pairs)?;

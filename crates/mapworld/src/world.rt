@@ -269,9 +269,10 @@ where
     /// - `NoGuardNumbers`: the programs take 2^32 guards or more: one for each call on one key and each opening, and as
     ///   many as there are shards for each walk;
     /// - `NoMemory`: memory ran out. All that the world's threads, blocks and replies will ever need is taken here, but
-    ///   for what walks read: a reply for each call, and a block for each guard that the programs take, as
-    ///   `guard_numbers` counts them. Many walks over many shards take much, a walk with the stop 0 too: 2^20 walks over
-    ///   2,048 shards ask for room for 2^31 blocks of 56 bytes, some 120 GB.
+    ///   for what walks read: a reply for each call, a block for each guard that the programs take, as
+    ///   `guard_numbers` counts them, and in each thread with walks a number for each shard. Many walks over many
+    ///   shards take much: 2^20 walks over 2,048 shards ask for room for 2^31 blocks of 56 bytes, some 120 GB. A walk
+    ///   with the stop 0 visits no shard: it takes neither blocks nor numbers.
     ///
     /// What was passed in is let go with the error.
     pub fn new(

@@ -1,4 +1,7 @@
 //! What a thread's program asks.
+ghost use Rattle.std.specs.Prelude.{◌≡◌};
+ghost use Rattle.std.specs.Option.{option_copied};
+ghost use Rattle.mapworld_calls.specs.Programs.{key_of, keyed_key, opening_key};
 
 /// One call of a program. Each counts as one.
 #[derive(Clone, Debug, Drop, PartialEq, Eq)]
@@ -11,6 +14,25 @@ pub enum Ask<K, V, D> {
     Held(Held<V, D>),
     /// A call over all shards.
     Walk(Walk<D>),
+}
+
+impl<K, V, D> Ask<K, V, D> {
+    /// The key that the call names: a call on one key and an opening have one, a call on the guard and a walk `None`.
+    /// It is lent, takes no memory and cannot fail.
+    ///
+    /// ```text
+    /// Ask::Keyed(Keyed::Insert(7, 1)).key()     // Some(&7)
+    /// Ask::Walk(Walk::Len).key()                // None
+    /// ```
+    pub fn key(&self) -> Option<&K>
+        ensures { option_copied result ≡ key_of self.now }
+    {
+        match self {
+            Ask::Keyed(call) => Some(call.key()),
+            Ask::Begin(begin) => Some(begin.key()),
+            Ask::Held(_) | Ask::Walk(_) => None,
+        }
+    }
 }
 
 /// A call on one key.
@@ -37,6 +59,27 @@ pub enum Keyed<K, V, D> {
     ContainsKey(K),
 }
 
+impl<K, V, D> Keyed<K, V, D> {
+    /// The key, lent.
+    ///
+    /// ```text
+    /// Keyed::Remove(7).key()     // &7
+    /// ```
+    pub fn key(&self) -> &K
+        ensures { result.now ≡ keyed_key self.now }
+    {
+        match self {
+            Keyed::Insert(key, _) => key,
+            Keyed::Remove(key) => key,
+            Keyed::RemoveIf(key, _) => key,
+            Keyed::RemoveIfMut(key, _) => key,
+            Keyed::Alter(key, _) => key,
+            Keyed::View(key, _) => key,
+            Keyed::ContainsKey(key) => key,
+        }
+    }
+}
+
 /// An opening. The guard that it gives is held until the program's next `Held::Drop`.
 #[derive(Clone, Debug, Drop, PartialEq, Eq)]
 pub enum Begin<K> {
@@ -55,6 +98,26 @@ pub enum Begin<K> {
     TryGetMut(K),
     /// As `Entry`, but it waits for nobody: where its shard can't be had it answers `Locked`, and there is no guard.
     TryEntry(K),
+}
+
+impl<K> Begin<K> {
+    /// The key, lent.
+    ///
+    /// ```text
+    /// Begin::Get(7).key()     // &7
+    /// ```
+    pub fn key(&self) -> &K
+        ensures { result.now ≡ opening_key self.now }
+    {
+        match self {
+            Begin::Get(key) => key,
+            Begin::GetMut(key) => key,
+            Begin::Entry(key) => key,
+            Begin::TryGet(key) => key,
+            Begin::TryGetMut(key) => key,
+            Begin::TryEntry(key) => key,
+        }
+    }
 }
 
 /// A call on the guard. Where no guard is held it answers `NoGuard`, and on a guard of a kind that it isn't for

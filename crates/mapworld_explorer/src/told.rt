@@ -3,7 +3,7 @@
 use crate::standing::{act_of, kind_of};
 use crate::worlds::World;
 use lock_api_desk::Mode;
-use mapworld_calls::{Ask, Begin, Keyed};
+use mapworld_calls::Ask;
 use mapworld_text::{Asked, Case};
 use parking_lot_machine::{Act, SectionAct};
 use std::alloc::AllocError;
@@ -28,50 +28,19 @@ pub(crate) struct Before {
     present: Option<bool>,
 }
 
-/// The key of a call that has one.
-fn key_of(asked: &Asked) -> Option<u64> {
-    match asked {
-        Ask::Keyed(keyed) => Some(key_of_keyed(keyed)),
-        Ask::Begin(begin) => Some(key_of_begin(begin)),
-        _ => None,
-    }
-}
-
-fn key_of_keyed<D>(call: &Keyed<u64, u64, D>) -> u64 {
-    match call {
-        Keyed::Insert(key, _) | Keyed::Remove(key) | Keyed::RemoveIf(key, _) => *key,
-        Keyed::RemoveIfMut(key, _) | Keyed::Alter(key, _) | Keyed::View(key, _) => *key,
-        Keyed::ContainsKey(key) => *key,
-    }
-}
-
-fn key_of_begin(call: &Begin<u64>) -> u64 {
-    match call {
-        Begin::Get(key) | Begin::GetMut(key) | Begin::Entry(key) => *key,
-        Begin::TryGet(key) | Begin::TryGetMut(key) | Begin::TryEntry(key) => *key,
-    }
-}
-
-/// Whether a thread's call is a walk.
-fn is_walk(case: &Case<'_>, thread: usize, call: usize) -> bool {
-    match case.programs.get(thread) {
-        Some(program) => matches!(program.get(call), Some(Ask::Walk(_))),
-        None => false,
-    }
+/// A thread's call.
+fn asked_at<'c>(case: &'c Case<'_>, thread: usize, call: usize) -> Option<&'c Asked> {
+    case.programs.get(thread)?.get(call)
 }
 
 /// The key of a thread's call, where it has one.
 fn key_at(case: &Case<'_>, thread: usize, call: usize) -> Option<u64> {
-    match case.programs.get(thread)?.get(call) {
-        Some(asked) => key_of(asked),
-        None => None,
-    }
+    asked_at(case, thread, call)?.key().copied()
 }
 
 impl Before {
     /// Of a thread, before its step.
     pub(crate) fn of(world: &World, case: &Case<'_>, thread: usize) -> Before {
-        let act = act_of(world, thread);
         let (call, kind, own) = match world.place(thread) {
             Some(stand) => (stand.next, kind_of(stand), stand.shard),
             None => (0, 0, 0),
@@ -80,15 +49,12 @@ impl Before {
             Some(call) => call.lock,
             None => own,
         };
-        let present = match key_at(case, thread, call) {
-            Some(key) => Some(world.pair(&key).is_some()),
-            None => None,
-        };
+        let present = key_at(case, thread, call).map(|key| world.pair(&key).is_some());
         Before {
             thread,
             call,
             kind,
-            act,
+            act: act_of(world, thread),
             shard,
             word: world.word(shard),
             hold: world.hold(thread, shard),
@@ -238,7 +204,7 @@ impl Before {
     fn write_decided(&self, world: &World, case: &Case<'_>, out: &mut String) -> Written {
         if let Some(block) = world.blocks().get(self.blocks) {
             let call = case.call_of(block.thread, block.call);
-            if is_walk(case, block.thread, block.call) {
+            if matches!(asked_at(case, block.thread, block.call), Some(Ask::Walk(_))) {
                 let shard = self.shard;
                 write!(
                     out,

@@ -1,6 +1,6 @@
 //! Where the blocks of a finished world stand, which replies have none, and what stood beside a try that is locked.
 
-use crate::plain::{is_drop, is_opening, is_try, is_walk, key_of, may_grow, stop_of};
+use crate::plain::{is_drop, is_opening, is_try, is_walk, may_grow, stop_of};
 use crate::replay::{Broken, Made, Seen};
 use crate::said::{Replied, Said};
 use mapworld_calls::{Ask, Block};
@@ -20,7 +20,7 @@ fn has_its_blocks<D>(
             _ => blocks > 0,
         };
     }
-    if key_of(call).is_none() {
+    if call.key().is_none() {
         return blocks == 0;
     }
     match reply.answer {
@@ -33,7 +33,7 @@ fn has_its_blocks<D>(
 /// Whether a call on a guard is answered `NoGuard` where its session has no block.
 fn is_guarded<D>(made: &Made<'_, D>, seen: Seen<'_>, reply: &Replied<'_>) -> bool {
     let opening = (0..reply.call).rev().find(|call| match made.call(reply.thread, *call) {
-        Some(before) => key_of(before).is_some() || is_walk(before) || is_drop(before),
+        Some(before) => before.key().is_some() || is_walk(before) || is_drop(before),
         None => false,
     });
     let has_block = match opening {
@@ -60,7 +60,7 @@ pub fn broken_by_replies<D>(made: &Made<'_, D>, seen: Seen<'_>) -> Broken {
         if !has_its_blocks(made, seen, reply, call) {
             return Some("a call has the blocks that its answer needs");
         }
-        let is_held = key_of(call).is_none() && !is_walk(call);
+        let is_held = call.key().is_none() && !is_walk(call);
         if is_held && !is_guarded(made, seen, reply) {
             return Some("without a guard's block it is NoGuard");
         }
@@ -152,8 +152,8 @@ fn walk_on(seen: Seen<'_>, reply: &Replied<'_>, shard: usize) -> On {
 /// When a call is on a shard.
 fn call_on<D>(made: &Made<'_, D>, seen: Seen<'_>, reply: &Replied<'_>, shard: usize) -> On {
     let call = made.call(reply.thread, reply.call)?;
-    match key_of(call) {
-        Some(key) if seen.route(key) == shard => keyed_on(made, seen, reply, call),
+    match call.key() {
+        Some(key) if seen.route(*key) == shard => keyed_on(made, seen, reply, call),
         None if is_walk(call) => walk_on(seen, reply, shard),
         _ => None,
     }
@@ -166,10 +166,10 @@ fn has_cause<D>(
     locked: &Replied<'_>,
     call: &Ask<u64, u64, D>,
 ) -> bool {
-    let Some(key) = key_of(call) else {
+    let Some(key) = call.key() else {
         return false;
     };
-    let shard = seen.route(key);
+    let shard = seen.route(*key);
     seen.replies.iter().any(|reply| reply.thread != locked.thread
         && match call_on(made, seen, reply, shard) {
             Some((from, until)) => from < locked.end && locked.start < until,

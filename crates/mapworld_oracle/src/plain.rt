@@ -73,30 +73,6 @@ pub enum Kind {
     Vacant,
 }
 
-/// The key of a call that has one.
-pub fn key_of<D>(call: &Ask<u64, u64, D>) -> Option<u64> {
-    match call {
-        Ask::Keyed(keyed) => Some(key_of_keyed(keyed)),
-        Ask::Begin(begin) => Some(key_of_begin(begin)),
-        _ => None,
-    }
-}
-
-fn key_of_keyed<D>(call: &Keyed<u64, u64, D>) -> u64 {
-    match call {
-        Keyed::Insert(key, _) | Keyed::Remove(key) | Keyed::RemoveIf(key, _) => *key,
-        Keyed::RemoveIfMut(key, _) | Keyed::Alter(key, _) | Keyed::View(key, _) => *key,
-        Keyed::ContainsKey(key) => *key,
-    }
-}
-
-fn key_of_begin(call: &Begin<u64>) -> u64 {
-    match call {
-        Begin::Get(key) | Begin::GetMut(key) | Begin::Entry(key) => *key,
-        Begin::TryGet(key) | Begin::TryGetMut(key) | Begin::TryEntry(key) => *key,
-    }
-}
-
 /// Whether a call opens a guard.
 pub fn is_opening<D>(call: &Ask<u64, u64, D>) -> bool {
     matches!(call, Ask::Begin(_))

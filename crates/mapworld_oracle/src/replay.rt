@@ -1,8 +1,7 @@
 //! The replay: a plain map takes the blocks of a world in their order. Replies and contents must be what it says.
 
 use crate::plain::{
-    Kind, Left, Plain, Told, gives_reads, held, is_drop, key_of, keyed, opened, stop_of, visited,
-    walked,
+    Kind, Left, Plain, Told, gives_reads, held, is_drop, keyed, opened, stop_of, visited, walked,
 };
 use crate::said::{Replied, Said};
 use mapworld_calls::{Ask, Begin, Block, Deed, Held, Keyed, Walk};
@@ -146,8 +145,8 @@ impl<'a, D: Deed<u64, u64, Answer = (u64, u64)> + Copy> Replay<'a, D> {
         match call {
             Ask::Walk(walk) => self.take_visit(i, block, call, walk),
             _ if block.visit != 0 => Ok(Some("only walks have visits")),
-            Ask::Begin(begin) => self.take_session(i, block, call, begin),
-            Ask::Keyed(asked) => self.take_keyed(i, block, call, asked),
+            Ask::Begin(begin) => self.take_session(i, block, begin),
+            Ask::Keyed(asked) => self.take_keyed(i, block, asked),
             Ask::Held(_) => Ok(Some("a call on a guard has no block of its own")),
         }
     }
@@ -165,8 +164,8 @@ impl<'a, D: Deed<u64, u64, Answer = (u64, u64)> + Copy> Replay<'a, D> {
 
     fn shard_of(&self, block: &Block<u64>) -> Option<usize> {
         let call = self.made.call(block.thread, block.call)?;
-        match key_of(call) {
-            Some(key) => Some(self.seen.route(key)),
+        match call.key() {
+            Some(key) => Some(self.seen.route(*key)),
             None => Some(block.visit),
         }
     }
@@ -219,13 +218,12 @@ impl<'a, D: Deed<u64, u64, Answer = (u64, u64)> + Copy> Replay<'a, D> {
         &mut self,
         i: usize,
         block: &Block<u64>,
-        call: &Ask<u64, u64, D>,
         asked: &Keyed<u64, u64, D>,
     ) -> Result<Broken, AllocError> {
-        let (Some(reply), Some(key)) = (self.seen.reply(block.thread, block.call), key_of(call))
-        else {
+        let Some(reply) = self.seen.reply(block.thread, block.call) else {
             return Ok(Some("a block is of a call that is answered"));
         };
+        let key = *asked.key();
         let told = keyed(asked, self.plain.value(key));
         let shard = self.seen.route(key);
         self.tell(i, shard, reply, told)
@@ -235,13 +233,12 @@ impl<'a, D: Deed<u64, u64, Answer = (u64, u64)> + Copy> Replay<'a, D> {
         &mut self,
         i: usize,
         block: &Block<u64>,
-        call: &Ask<u64, u64, D>,
         begin: &Begin<u64>,
     ) -> Result<Broken, AllocError> {
-        let (Some(reply), Some(key)) = (self.seen.reply(block.thread, block.call), key_of(call))
-        else {
+        let Some(reply) = self.seen.reply(block.thread, block.call) else {
             return Ok(Some("a block is of an opening that is answered"));
         };
+        let key = *begin.key();
         let (want, kind) = opened(begin, self.plain.value(key).is_some());
         if self.is_told(reply) && reply.answer != want {
             return Ok(Some("an opening's reply is that of the replay"));

@@ -1,7 +1,7 @@
 -- What the code keeps of a world, and how much room it has.
 use Rattle.std.specs.List.{list_any}
-use Rattle.std.specs.Prelude.{◌≡◌, ℕ, Bool, true, false, ◌||◌, ◌+◌, ◌-◌, ◌<◌, ◌≤◌, ◌^◌, if◌then◌else◌, List, length}
-use Rattle.std.specs.Prelude.{map, Option, Some, None, ◌==◌, slice_get, sum_by, vec_capacity}
+use Rattle.std.specs.Prelude.{◌≡◌, ℕ, Bool, true, false, ◌||◌, not, ◌+◌, ◌-◌, ◌<◌, ◌≤◌, ◌^◌, if◌then◌else◌, List}
+use Rattle.std.specs.Prelude.{length, map, Option, Some, None, ◌==◌, slice_get, sum_by, vec_capacity}
 use Rattle.std.specs.Hash.{HashWrites}
 use Rattle.std.specs.declared.hash.BuildHasher as builder
 use Rattle.std.specs.declared.hash.Hasher as hasher
@@ -9,7 +9,7 @@ use Rattle.mapworld_calls.specs.declared.deed.Deed as deed
 use Rattle.mapworld_calls.specs.declared.ask.Ask.{Ask}
 use Rattle.mapworld_calls.specs.declared.ask.Ask.TheVariants as ask
 use Rattle.mapworld_calls.specs.declared.ask.Walk.{Walk}
-use Rattle.mapworld_calls.specs.Programs.{numbers_of}
+use Rattle.mapworld_calls.specs.Programs.{stop_of}
 use Rattle.mapworld_calls.specs.Setup.{Setup}
 use Rattle.parking_lot_machine.specs.Rows.{state}
 use Rattle.mapworld_state.specs.Locks.Views.{Shown}
@@ -20,6 +20,7 @@ use Rattle.mapworld_state.specs.declared.place.Place.{Place as KeptPlace}
 use Rattle.mapworld_state.specs.Places.{Place, place_of}
 use Rattle.mapworld_state.specs.declared.world_core.Core.{Core}
 use Rattle.mapworld_state.specs.Classes.{class_of, walks_in, answers_owed, blocks_left, pairs_left}
+use Rattle.mapworld_state.specs.Moves.{stops_at}
 use Rattle.mapworld_state.specs.Walks.{gives_reads}
 use Rattle.mapworld_state.specs.Route.{IsWorldAmount}
 use Rattle.mapworld_state.specs.Shards.{shard_pairs}
@@ -59,24 +60,36 @@ lists more (phase.Fill v) = 0
 lists more phase.Downgrade = 0
 lists more f = blocks_left more (class_of f)
 
+-- and a call that hasn't started: one for each guard that it takes, and a walk that is to give no items takes none
+abbrev pub blocks_of : {K V D : Type 0} → ℕ → Ask K V D → ℕ
+blocks_of shards (ask.Keyed k) = 1
+blocks_of shards (ask.Begin b) = 1
+blocks_of shards (ask.Held h) = 0
+blocks_of shards (ask.Walk f) = if stops_at (stop_of f) 0 then 0 else shards
+
 -- how many answers a thread owes, how many blocks it may list in a world of so many shards, and how many pairs it may
 -- add
 abbrev pub owed : {K V D T A : Type 0} → Place K V D T A → ℕ
 owed p = length p.asks + owes p.phase
 
 abbrev pub may_list : {K V D T A : Type 0} → ℕ → Place K V D T A → ℕ
-may_list shards p = sum_by (numbers_of shards) p.asks + lists (shards - (p.shard + 1)) p.phase
+may_list shards p = sum_by (blocks_of shards) p.asks + lists (shards - (p.shard + 1)) p.phase
 
 abbrev pub may_add : {K V D T A : Type 0} → Place K V D T A → ℕ
 may_add p = length p.asks + adds p.phase
 
--- whether a call is a walk, and whether a thread may still come to a shard in one
+-- whether a call is a walk, whether it is one that comes to a shard, and whether a thread may still come to one in a
+-- walk
 abbrev pub is_walk : {K V D : Type 0} → Ask K V D → Bool
 is_walk (ask.Walk f) = true
 is_walk a = false
 
+abbrev pub may_visit : {K V D : Type 0} → Ask K V D → Bool
+may_visit (ask.Walk f) = not (stops_at (stop_of f) 0)
+may_visit a = false
+
 abbrev pub may_walk : {K V D T A : Type 0} → Place K V D T A → Bool
-may_walk p = list_any is_walk p.asks || walks_in (class_of p.phase)
+may_walk p = list_any may_visit p.asks || walks_in (class_of p.phase)
 
 -- how many lists of what they have read a thread's walks may still be answered with
 abbrev pub walk_lists : {D : Type 0} → Walk D → ℕ

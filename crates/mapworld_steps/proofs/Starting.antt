@@ -30,7 +30,7 @@ use Rattle.mapworld_state.specs.Moves.{start_shard}
 use Rattle.mapworld_state.specs.Sound.{Sound, IsInSession, is_resting}
 use Rattle.mapworld_state.specs.Slots.{phase_key, SlotIsNext, HasSlots}
 use Rattle.mapworld_state.specs.Classes.{class_of, walks_in}
-use Rattle.mapworld_state.specs.Core.{state_of, is_walk}
+use Rattle.mapworld_state.specs.Core.{state_of, may_visit}
 use Rattle.mapworld_state.proofs.Views.{view-at}
 use Rattle.mapworld_transitions.proofs.Facts.{claim_at}
 use Rattle.mapworld_transitions.proofs.Slots.{KeepsCalls, slots-same_free, slots-kept}
@@ -225,11 +225,11 @@ module _ {K V S D T A : Type 0} (x : Setup K V D T) (hash : K → ℕ) (c : Core
 
 -- a walk that starts was asked
 pub start-walks : {K V D T A : Type 0} (asks rest : List (Ask K V D)) (a : Ask K V D) (ph : Phase K V D T A) (b : Bool)
-    → asks ≡ a ∷ rest → (walks_in (class_of ph) ≡ true → is_walk a ≡ true)
-    → (list_any is_walk rest || walks_in (class_of ph)) ≡ true → (list_any is_walk asks || b) ≡ true
+    → asks ≡ a ∷ rest → (walks_in (class_of ph) ≡ true → may_visit a ≡ true)
+    → (list_any may_visit rest || walks_in (class_of ph)) ≡ true → (list_any may_visit asks || b) ≡ true
 start-walks asks rest a ph b is walks h =
-    or-left (list_any is_walk asks) b
-    (ap (list_any is_walk) is ∙ by (is_walk a) (list_any is_walk rest) (walks_in (class_of ph)) walks h)
+    or-left (list_any may_visit asks) b
+    (ap (list_any may_visit) is ∙ by (may_visit a) (list_any may_visit rest) (walks_in (class_of ph)) walks h)
   where
     by : (w r i : Bool) → (i ≡ true → w ≡ true) → (r || i) ≡ true → (w || r) ≡ true
     by true r i walks h = refl

@@ -1,6 +1,7 @@
 //! What no clause says: that the definitions of the programs and of the hash are the ones meant, the printed text, and
 //! that blocks are compared by what they show.
 
+use super::worlds::{World, programs_of, step_times, world_of};
 use dashmap_table::{SpreadState, spread_hash};
 use mapworld_calls::past::Past;
 use mapworld_calls::{
@@ -109,5 +110,21 @@ fn a_block_shows_six_fields(rt: HostRuntime) -> Result<(), Fail> {
     let want = "Block { thread: 0, call: 1, visit: 0, start: 2, position: 3, end: None }";
     assert!(rt; shown.as_str() == want);
     assert!(rt; block(0) == block(1));
+    Ok(())
+}
+
+#[test]
+fn a_world_shows_its_threads_words_and_pairs(rt: HostRuntime) -> Result<(), Fail> {
+    let programs = programs_of(
+        rt.alloc(),
+        "thread a\n  insert 1 10\nthread b\n  get 3\n    drop\n",
+    )?;
+    let made = world_of(rt.alloc(), 2, SpreadState, &[(3, 7)], &programs);
+    let mut world: World = made.ok_or("no world")?;
+    // Start, load and exchange: the shard is thread 0's.
+    assert!(rt; step_times(&mut world, 0, 3));
+    let shown = format!(in rt.alloc(); "{world:?}")?;
+    let want = "MapWorld { steps: 3, threads: [Running, Running], words: [0, 8], pairs: {3: 7} }";
+    assert!(rt; shown.as_str() == want, "{shown}");
     Ok(())
 }

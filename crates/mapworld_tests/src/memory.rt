@@ -7,7 +7,7 @@ use super::worlds::{
 };
 use dashmap_table::SpreadState;
 use linked_list_allocator::LocalHeap;
-use mapworld::{Answer, Ask, Keyed, Status};
+use mapworld::{Answer, Ask, Keyed, Status, Walk};
 use mapworld_oracle::replay::{Broken, Made};
 use mapworld_text::{Asked, Change};
 use std::alloc::{AllocError, Global};
@@ -154,6 +154,22 @@ fn a_shard_grows_to_thousands_of_pairs(rt: HostRuntime) -> Result<(), Fail> {
     let count = world.contents()?.len();
     assert!(rt; is_done && are_finished(&world) && are_added && count == 3000);
     assert!(rt; world.pair(&5998) == Some((&5998, &2999)));
+    Ok(())
+}
+
+#[test]
+fn walks_with_the_stop_0_take_no_room_for_visits(rt: HostRuntime) -> Result<(), Fail> {
+    let mut program: Vec<Asked> = Vec::new(rt.alloc());
+    for _ in 0..1000 {
+        program.push(Ask::Walk(Walk::Iter(Change::NONE, Some(0))))?;
+    }
+    let mut programs = Vec::new(rt.alloc());
+    programs.push(program)?;
+    // A block for each visit of 64 shards would take seven times as much.
+    let heap = LocalHeap::new(rt.alloc(), 500_000)?;
+    let mut world = world_of(&heap, 64, SpreadState, &[], &programs).ok_or("no world")?;
+    let is_done = step_through(&mut world, 0);
+    assert!(rt; is_done && are_finished(&world) && world.blocks().is_empty());
     Ok(())
 }
 

@@ -15,7 +15,7 @@ use Rattle.mapworld_state.specs.Classes.{class_of, walks_in}
 use Rattle.mapworld_state.specs.Moves.{stops_at}
 use Rattle.mapworld_state.specs.Walks.{hands_over, walk_ends, behind_visit, LeadsOn}
 use Rattle.mapworld_state.specs.Slots.{phase_key, IsNextSlot, SlotIsNext}
-use Rattle.mapworld_state.specs.Core.{owes, adds, lists, is_walk, may_walk}
+use Rattle.mapworld_state.specs.Core.{owes, adds, lists, may_visit, may_walk}
 
 -- what a phase of a walk weighs behind a look
 pub record Led {K V D T A : Type 0} (ph : Phase K V D T A) : Type 0 where
@@ -58,7 +58,7 @@ module _ {K V D T A : Type 0} where
 
   -- a walk that is in a visit may still come to a shard
   pub in-walk : (p : Place K V D T A) → walks_in (class_of p.phase) ≡ true → may_walk p ≡ true
-  in-walk p h = by (list_any is_walk p.asks) (walks_in (class_of p.phase)) h
+  in-walk p h = by (list_any may_visit p.asks) (walks_in (class_of p.phase)) h
     where
       by : (b c : Bool) → c ≡ true → (b || c) ≡ true
       by true c e = refl

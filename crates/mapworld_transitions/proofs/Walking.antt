@@ -8,7 +8,7 @@ use Rattle.mapworld_state.specs.declared.place.Phase.TheVariants as phase
 use Rattle.mapworld_state.specs.declared.place.Place.{Place as KeptPlace}
 use Rattle.mapworld_state.specs.Places.{Place}
 use Rattle.mapworld_state.specs.Classes.{class_of, walks_in}
-use Rattle.mapworld_state.specs.Core.{is_walk, may_walk, ask_lists, phase_lists, lists_due}
+use Rattle.mapworld_state.specs.Core.{may_visit, may_walk, ask_lists, phase_lists, lists_due}
 use Rattle.mapworld_state.specs.Slots.{SlotIsNext}
 
 abbrev pub walking : {K V D T A : Type 0} → Phase K V D T A → Bool
@@ -63,8 +63,8 @@ module _ {K V D T A : Type 0} where
   pub plain-visits : (p q : Place K V D T A) → q.asks ≡ p.asks → walking q.phase ≡ false → may_walk q ≡ true
       → may_walk p ≡ true
   plain-visits p q asks none h =
-      or-left (list_any is_walk p.asks) (walks_in (class_of p.phase))
-      (ap (list_any is_walk) (sym asks) ∙ or-right (list_any is_walk q.asks) (walks_in (class_of q.phase))
+      or-left (list_any may_visit p.asks) (walks_in (class_of p.phase))
+      (ap (list_any may_visit) (sym asks) ∙ or-right (list_any may_visit q.asks) (walks_in (class_of q.phase))
       (no-walks q.phase none) h)
 
   pub plain-lists : (p q : Place K V D T A) → q.asks ≡ p.asks → walking q.phase ≡ false → lists_due q ≤ lists_due p

@@ -1,6 +1,6 @@
 -- What each kind of step takes of the room that is left.
-use Rattle.std.proofs.Common.{◌≡◌, ℕ, ◌+◌, ◌-◌, if◌then◌else◌, subst, ◌<◌, ◌≤◌, Bool, true, false, List, length, map}
-use Rattle.std.proofs.Common.{Option, Some, None, slice_get, slice_set, flat_map, refl, sym, ap, ◌∙◌, arith}
+use Rattle.std.proofs.Common.{◌≡◌, ℕ, ◌+◌, ◌-◌, if◌then◌else◌, subst, ◌<◌, ◌≤◌, Bool, true, false, not, List, length}
+use Rattle.std.proofs.Common.{map, Option, Some, None, slice_get, slice_set, flat_map, refl, sym, ap, ◌∙◌, arith}
 use Rattle.std.proofs.Common.{length-append}
 use Rattle.std.proofs.lemmas.Option.{same_Some}
 use Rattle.std.proofs.lemmas.Bool.{false≢true}
@@ -14,7 +14,7 @@ use Rattle.mapworld_calls.specs.declared.ask.Begin.TheVariants as begin
 use Rattle.mapworld_calls.specs.declared.ask.Held.TheVariants as held
 use Rattle.mapworld_calls.specs.declared.ask.Walk.{Walk}
 use Rattle.mapworld_calls.specs.declared.block.Block.{Block}
-use Rattle.mapworld_calls.specs.Programs.{numbers_of, stop_of}
+use Rattle.mapworld_calls.specs.Programs.{stop_of}
 use Rattle.mapworld_calls.specs.declared.reply.Answer.{Answer}
 use Rattle.mapworld_calls.proofs.Lists.{sum_by-set, sum_by-at}
 use Rattle.mapworld_transitions.specs.declared.blocks.Started.{Started}
@@ -35,7 +35,7 @@ use Rattle.mapworld_state.specs.State.{State, next_step}
 use Rattle.mapworld_state.specs.Moves.{stops_at, start_phase, start_shard, changed_phase, request_of, found_phase}
 use Rattle.mapworld_state.specs.Moves.{found_done, block_behind, ListsBlock}
 use Rattle.mapworld_state.specs.Classes.{class_of, walks_in}
-use Rattle.mapworld_state.specs.Core.{owes, lists, adds, is_walk, ask_lists, phase_lists}
+use Rattle.mapworld_state.specs.Core.{owes, lists, adds, blocks_of, may_visit, ask_lists, phase_lists}
 use Rattle.mapworld_state.specs.Slots.{SlotIsNext}
 use Rattle.mapworld_transitions.specs.Listing.{AddsBlock, AddsVisit}
 use Rattle.mapworld_transitions.proofs.Walking.{walking, next-free, no-walks, no-lists}
@@ -44,15 +44,15 @@ module _ {K V D T A : Type 0} where
   -- how the phase behind a start weighs, in a world of so many shards, where so many are left behind its own
   pub record Weighs (shards more : ℕ) (a : Ask K V D) (ph : Phase K V D T A) : Type 0 where
     pub owing : owes ph ≡ 1
-    pub listing : lists more ph ≤ numbers_of shards a
+    pub listing : lists more ph ≤ blocks_of shards a
     pub adding : adds ph ≤ 1
-    pub visits : walks_in (class_of ph) ≡ true → is_walk a ≡ true
+    pub visits : walks_in (class_of ph) ≡ true → may_visit a ≡ true
     pub lists_are : phase_lists ph ≤ ask_lists a
     pub next : (eq : K → K → Bool) (tables : List (Table K V)) (bs : List (Block K)) (p : KeptPlace K V D T A)
         → SlotIsNext eq tables bs p ph
 
   plain-start : {shards more : ℕ} {a : Ask K V D} {ph : Phase K V D T A} → walking ph ≡ false → owes ph ≡ 1
-      → lists more ph ≤ numbers_of shards a → adds ph ≤ 1 → Weighs shards more a ph
+      → lists more ph ≤ blocks_of shards a → adds ph ≤ 1 → Weighs shards more a ph
   plain-start {shards} {more} {a} {ph} plain owing listing adding = record {
     owing = owing;
     listing = listing;
@@ -62,23 +62,23 @@ module _ {K V D T A : Type 0} where
     next = λ eq tables bs p. next-free eq tables bs p ph plain;
   }
 
-  walk-start : (shards : ℕ) → 0 < shards → (f : Walk D) (idle : Bool) → Weighs shards (shards - (0 + 1)) (ask.Walk f)
-      (if idle then phase.Idle f else phase.Reach f)
-  walk-start shards some f true =
+  walk-start : (shards : ℕ) → 0 < shards → (f : Walk D) (idle : Bool) → stops_at (stop_of f) 0 ≡ idle
+      → Weighs shards (shards - (0 + 1)) (ask.Walk f) (if idle then phase.Idle f else phase.Reach f)
+  walk-start shards some f true e =
       record {
         owing = refl;
         listing = omega arith;
         adding = omega arith;
-        visits = λ h. refl;
+        visits = λ h. absurd (false≢true h);
         lists_are = omega arith;
         next = λ eq tables bs p. tt;
       }
-  walk-start shards some f false =
+  walk-start shards some f false e =
       record {
         owing = refl;
-        listing = omega (arith, some);
+        listing = omega (arith, some, ap (λ b. if b then 0 else shards) e);
         adding = omega arith;
-        visits = λ h. refl;
+        visits = λ h. ap not e;
         lists_are = omega arith;
         next = λ eq tables bs p. tt;
       }
@@ -172,7 +172,7 @@ module _ {K V D T A : Type 0} where
       rw e (plain-start refl refl (omega arith) (omega arith))
   started_weighs shards some route shard (ask.Walk f) g ph e =
       subst (λ (z : Phase K V D T A). Weighs shards (shards - (0 + 1)) (ask.Walk f) z) (sym e)
-      (walk-start shards some f (stops_at (stop_of f) 0))
+      (walk-start shards some f (stops_at (stop_of f) 0) refl)
 
   -- the phase behind a change of a guard's pair
   pub changed_weighs : (ends : Bool) (r : Answer K V T A) (ph : Phase K V D T A) → ph ≡ changed_phase ends r

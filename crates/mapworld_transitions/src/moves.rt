@@ -3,7 +3,7 @@ ghost use Rattle.std.specs.Prelude.{◌≡◌, is_some, true, false, if◌then�
 ghost use Rattle.mapworld_calls.specs.declared.ask.Ask.TheVariants as ask;
 ghost use Rattle.mapworld_state.specs.declared.place.Request.TheVariants as request;
 ghost use Rattle.mapworld_state.specs.declared.place.Guard.TheVariants as own;
-ghost use Rattle.mapworld_calls.specs.Programs.{keyed_key, opening_key, is_drop};
+ghost use Rattle.mapworld_calls.specs.Programs.{is_drop};
 ghost use Rattle.mapworld_state.specs.Route.{IsWorldAmount, key_route};
 ghost use Rattle.mapworld_state.specs.Moves.{request_key, request_tries, mode_of, is_last, lent_way, vacant_key};
 ghost use Rattle.mapworld_state.specs.Moves.{shared_phase, exclusive_phase, occupied_phase, occupied_guard};
@@ -22,42 +22,13 @@ use std::alloc::Allocator;
 use std::hash::{BuildHasher, Hash};
 use std::mem;
 
-/// The key of a call on one key.
-fn keyed_key<K, V, D>(call: &Keyed<K, V, D>) -> &K
-    ensures { result.now ≡ keyed_key call.now }
-{
-    match call {
-        Keyed::Insert(key, _) => key,
-        Keyed::Remove(key) => key,
-        Keyed::RemoveIf(key, _) => key,
-        Keyed::RemoveIfMut(key, _) => key,
-        Keyed::Alter(key, _) => key,
-        Keyed::View(key, _) => key,
-        Keyed::ContainsKey(key) => key,
-    }
-}
-
-/// The key of an opening.
-fn opening_key<K>(begin: &Begin<K>) -> &K
-    ensures { result.now ≡ opening_key begin.now }
-{
-    match begin {
-        Begin::Get(key) => key,
-        Begin::GetMut(key) => key,
-        Begin::Entry(key) => key,
-        Begin::TryGet(key) => key,
-        Begin::TryGetMut(key) => key,
-        Begin::TryEntry(key) => key,
-    }
-}
-
 /// The key that a call is on its way to.
 pub fn request_key<K, V, D>(request: &Request<K, V, D>) -> &K
     ensures { result.now ≡ request_key request.now }
 {
     match request {
-        Request::Keyed(call) => keyed_key(call),
-        Request::Begin(begin) => opening_key(begin),
+        Request::Keyed(call) => call.key(),
+        Request::Begin(begin) => begin.key(),
     }
 }
 
@@ -265,8 +236,8 @@ pub fn start_shard<K: Eq + Hash, V, D, S: BuildHasher>(
         shard }
 {
     match ask {
-        Ask::Keyed(call) => shard_of(hasher, shards, keyed_key(call)),
-        Ask::Begin(begin) => shard_of(hasher, shards, opening_key(begin)),
+        Ask::Keyed(call) => shard_of(hasher, shards, call.key()),
+        Ask::Begin(begin) => shard_of(hasher, shards, begin.key()),
         Ask::Held(_) => shard,
         Ask::Walk(_) => 0,
     }

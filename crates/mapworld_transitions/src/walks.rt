@@ -30,7 +30,7 @@ use std::hash::Hash;
 use std::mem;
 
 /// How many items a walk gives before it is dropped, if it is dropped early.
-pub(crate) fn stop_of<D>(walk: &Walk<D>) -> Option<u64>
+pub fn stop_of<D>(walk: &Walk<D>) -> Option<u64>
     ensures { result ≡ stop_of walk.now }
 {
     match walk {
@@ -40,7 +40,7 @@ pub(crate) fn stop_of<D>(walk: &Walk<D>) -> Option<u64>
 }
 
 /// Whether a walk that is to give so many items has none left to give behind that number of them.
-pub(crate) fn stops_at(stop: Option<u64>, count: usize) -> bool
+pub fn stops_at(stop: Option<u64>, count: usize) -> bool
     ensures { result ≡ stops_at stop count }
 {
     match stop {

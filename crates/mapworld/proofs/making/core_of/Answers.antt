@@ -1,9 +1,9 @@
 use Rattle.std.proofs.Common.{◌≡◌, length, map, sum_by, false, refl, ap, sym, ◌∙◌, subst, arith}
 use Rattle.std.specs.List.{list_all}
 use Rattle.std.proofs.lemmas.List.{length-map}
-use Rattle.mapworld_calls.specs.Programs.{one_guard, numbers_of}
+use Rattle.mapworld_calls.specs.Programs.{one_guard}
 use Rattle.mapworld_state.specs.Locks.Fresh.{AreFresh}
-use Rattle.mapworld_state.specs.Core.{AreLocksOf}
+use Rattle.mapworld_state.specs.Core.{blocks_of, AreLocksOf}
 use Rattle.mapworld_state.specs.Places.{place_of}
 use Rattle.mapworld_state.specs.Shards.{shard_pairs}
 use Rattle.mapworld_state.specs.Route.{IsWorldAmount, key_route}
@@ -13,7 +13,7 @@ use Rattle.mapworld.specs.Beginning.{AreAtStart, AreFilled, HaveLists}
 use Rattle.mapworld.specs.Stops.{AllStopsFit}
 use Rattle.mapworld.proofs.Filling.{AreFilled-seen}
 use Rattle.mapworld.proofs.Guarding.{guards_are_owners}
-use Rattle.mapworld.proofs.Refusals.{accepted, sum_by-map}
+use Rattle.mapworld.proofs.Refusals.{accepted, blocks-fit, sum_by-map}
 use Rattle.mapworld.proofs.Beginnings.{are_idle, are_locks, new-sound, new-contents, new-room, new-slotted}
 use Rattle.mapworld.proofs.Outcomes.{world-agrees}
 use Rattle.mapworld.proofs.Reached.{new-reachable}
@@ -30,6 +30,15 @@ fill-requires-clause-fits g c =
     let a = accepted c.args.shards (length c.args.pairs.items) (map (λ program. program.items) c.args.programs.items)
     c.requires in
     omega (arith, a.pairs_fit)
+
+pub blocks_in-listed-requires : goal.blocks_in-listed-requires
+blocks_in-listed-requires g c =
+    let fit = blocks-fit _ _ _ (accepted c.args.shards (length c.args.pairs.items)
+    (map (λ program. program.items) c.args.programs.items) c.requires) in
+    let listed = sum_by-map (λ program. sum_by (blocks_of c.args.shards) program) (λ program. program.items)
+    c.args.programs.items ∙ ap (λ ps. sum_by (λ program. sum_by (blocks_of c.args.shards) program.items) ps)
+    (sym c.deref-3.ensures.value) in
+    omega (arith, fit, listed)
 
 pub returns-clause-sound : goal.returns-clause-sound
 returns-clause-sound g c =
@@ -117,13 +126,13 @@ returns-clause-room g c =
     (λ ps. length ps) kept in
     let as_many = length-map c.args.programs.items (λ program. program.items) in
     let own = c.args.programs.ok.0 in
-    let blocks : sum_by (λ program. sum_by (numbers_of (length c.fill.new.tables.items)) program) programs ≡ sum_by
-    (λ program. sum_by (numbers_of c.args.shards) program) (map (λ program. program.items) c.args.programs.items)
+    let blocks : sum_by (λ program. sum_by (blocks_of (length c.fill.new.tables.items)) program) programs ≡ sum_by
+    (λ program. sum_by (blocks_of c.args.shards) program) (map (λ program. program.items) c.args.programs.items)
     =
-    ap (λ n. sum_by (λ program. sum_by (numbers_of n) program) programs) shards
-    ∙ ap (λ ps. sum_by (λ program. sum_by (numbers_of c.args.shards) program) ps) kept in
-    let numbers = sum_by-map (λ program. sum_by (numbers_of c.args.shards) program) (λ program. program.items)
-    c.args.programs.items ∙ ap (λ ps. sum_by (λ program. sum_by (numbers_of c.args.shards) program.items) ps)
+    ap (λ n. sum_by (λ program. sum_by (blocks_of n) program) programs) shards
+    ∙ ap (λ ps. sum_by (λ program. sum_by (blocks_of c.args.shards) program) ps) kept in
+    let listed = sum_by-map (λ program. sum_by (blocks_of c.args.shards) program) (λ program. program.items)
+    c.args.programs.items ∙ ap (λ ps. sum_by (λ program. sum_by (blocks_of c.args.shards) program.items) ps)
     (sym c.deref-3.ensures.value) in
     new-room _
     (record {
@@ -139,8 +148,8 @@ returns-clause-room g c =
       unanswered = omega (arith, calls, counted, count);
       calls_fit = omega (arith, calls, a.calls);
       replies = omega (arith, calls, counted, count, c.in_ok-replies.ensures.exact);
-      blocks = omega (arith, blocks, numbers, c.blocks_in-numbers.ensures, c.in_ok-blocks.ensures.exact);
-      blocks_fit = omega (arith, blocks, a.numbers);
+      blocks = omega (arith, blocks, listed, c.blocks_in-listed.ensures, c.in_ok-blocks.ensures.exact);
+      blocks_fit = omega (arith, blocks, blocks-fit _ _ _ a);
       lists = subst (λ n. HaveLists n c.in_ok-places.places.items) (sym shards) c.in_ok-places.ensures.lists;
       locks = let same : c.len.result ≡ length programs = omega (arith, threads, as_many, own, c.len.ensures) in
           subst (λ n. AreLocksOf (length programs) n c.in_ok-locks.locks) (sym shards)

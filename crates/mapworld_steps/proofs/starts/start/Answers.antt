@@ -1,6 +1,6 @@
 use Rattle.std.proofs.Common.{◌+◌, length, Some, refl, sym, ap, ◌∙◌, arith, length-append, ◌≡◌, ◌<◌, ◌-◌, true, false}
 use Rattle.std.proofs.Common.{List, sum_by, subst}
-use Rattle.mapworld_state.specs.Core.{owes, lists, adds, ask_lists, phase_lists}
+use Rattle.mapworld_state.specs.Core.{owes, lists, adds, blocks_of, ask_lists, phase_lists}
 use Rattle.std.proofs.lemmas.List.{length-map}
 use Rattle.std.proofs.lemmas.Option.{slice_get_within}
 use Rattle.mapworld_state.specs.declared.place.Phase.TheVariants as phase
@@ -15,7 +15,6 @@ use Rattle.mapworld_state.specs.Moves.{mode_of, request_tries, start_guard, star
 use Rattle.mapworld_state.specs.Route.{key_route}
 use Rattle.mapworld_state.specs.Walks.{walk_mode}
 use Rattle.mapworld_state.proofs.HoldsTable.{none-there}
-use Rattle.mapworld_calls.specs.Programs.{numbers_of}
 use Rattle.std.proofs.lemmas.List.Sums.{sum_by-cons}
 use Rattle.mapworld_transitions.proofs.Slots.{calls-same, calls-counted}
 use Rattle.mapworld_state.proofs.Owning.{starts-own}
@@ -92,7 +91,7 @@ returns-clause-room g c =
     p.shard c.in-Some.ask c.replace.result c.enter.new.phase
     (c.enter.ensures ∙ ap (λ z. z.0) c.start_call-phase.ensures)) in
     let whole = c.in-Some.ensures.items in
-    let listed = ap (λ (xs : List _). sum_by (numbers_of n) xs) whole ∙ sum_by-cons (numbers_of n) c.in-Some.ask
+    let listed = ap (λ (xs : List _). sum_by (blocks_of n) xs) whole ∙ sum_by-cons (blocks_of n) c.in-Some.ask
     c.pop_front.new.self.items in
     let due = ap (λ (xs : List _). sum_by ask_lists xs) whole
     ∙ sum_by-cons ask_lists c.in-Some.ask c.pop_front.new.self.items in

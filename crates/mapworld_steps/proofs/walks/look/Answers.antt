@@ -6,7 +6,7 @@ use Rattle.std.proofs.lemmas.List.{map-set, length-map}
 use Rattle.std.proofs.lemmas.Option.{slice_get_read}
 use Rattle.dashmap_table.specs.Slots.{count, pairs_of}
 use Rattle.dashmap_table.specs.Table.{Table}
-use Rattle.mapworld_calls.specs.Programs.{saturated, stop_of, numbers_of}
+use Rattle.mapworld_calls.specs.Programs.{saturated, stop_of}
 use Rattle.mapworld_calls.proofs.Lists.{slice_get-set_same}
 use Rattle.mapworld_calls.specs.declared.reply.Answer.TheVariants as answer
 use Rattle.mapworld_state.specs.declared.place.Phase.TheVariants as phase
@@ -16,7 +16,7 @@ use Rattle.mapworld_state.specs.Moves.{stops_at}
 use Rattle.mapworld_state.specs.Shards.{ShardPairs, shard_pairs}
 use Rattle.mapworld_state.specs.Slots.{phase_key, IsAt, FitsReads, IsNextSlot, SlotIsNext}
 use Rattle.mapworld_state.specs.Walks.{walk_mode, gives_items, all_visited, looked_keys}
-use Rattle.mapworld_state.specs.Core.{state_of, owes, lists, adds, ask_lists, phase_lists}
+use Rattle.mapworld_state.specs.Core.{state_of, owes, lists, adds, blocks_of, ask_lists, phase_lists}
 use Rattle.mapworld_state.proofs.Views.{view-at}
 use Rattle.mapworld_state.proofs.LocksFacts.Sizes.{same_size}
 use Rattle.mapworld_transitions.specs.declared.blocks.Started.{Started}
@@ -299,7 +299,7 @@ returns-clause-room g c =
         listing,
         shard,
         ap (lists more) before,
-        ap (λ z. sum_by (numbers_of (length core.tables.items)) z) asks,
+        ap (λ z. sum_by (blocks_of (length core.tables.items)) z) asks,
         added,
       );
       blocks = c.list_visit.ensures.capacity;

@@ -10,11 +10,11 @@ use Rattle.mapworld_state.specs.Places.{place_of}
 use Rattle.mapworld_state.specs.Shards.{shard_pairs, number_of}
 use Rattle.mapworld_state.specs.Slots.{HasKeyAt}
 use Rattle.mapworld_state.specs.World.{deeds_of}
-use Rattle.mapworld_calls.specs.Programs.{stop_of, numbers_of}
+use Rattle.mapworld_calls.specs.Programs.{stop_of}
 use Rattle.mapworld_state.specs.Classes.{class_of, walks_in}
 use Rattle.mapworld_state.specs.Moves.{stops_at}
 use Rattle.mapworld_state.specs.Walks.{walk_mode, all_visited}
-use Rattle.mapworld_state.specs.Core.{state_of, owes, lists, adds, ask_lists, phase_lists}
+use Rattle.mapworld_state.specs.Core.{state_of, owes, lists, adds, blocks_of, ask_lists, phase_lists}
 use Rattle.mapworld_state.proofs.Views.{view-at}
 use Rattle.mapworld_state.proofs.LocksFacts.Sizes.{same_size}
 use Rattle.mapworld_transitions.proofs.Rooms.{shifted}
@@ -299,7 +299,7 @@ returns-clause-room g c =
         listing,
         shard,
         ap (lists more) before,
-        ap (λ z. sum_by (numbers_of (length core.tables.items)) z) asks,
+        ap (λ z. sum_by (blocks_of (length core.tables.items)) z) asks,
         blocks,
       );
       blocks = refl;
