@@ -42,26 +42,27 @@ shard_further amount next slots rest f more few =
 slot_further : (a slots from i f : ℕ) → from ≤ i → i < slots → a + (slots - (i + 1)) + f < a + (slots - from) + f
 slot_further a slots from i f above below = omega (arith, above, below)
 
-module _ {K V Q G : Type 0} (eq : K → K → Bool) (table : G → Table K V) (lock : G → Q) where
-  enters_left : (v w : Walk Q G) → Enters eq table lock v w → left table w ≤ left table v
+module _ {K V Q G : Type 0} (eq : K → K → Bool) (table : G → Table K V) (lock : G → Q)
+    (seen : Q → Table K V → Type 0) where
+  enters_left : (v w : Walk Q G) → Enters eq table lock seen v w → left table w ≤ left table v
   enters_left v w e =
       subst (λ (x : Walk Q G). left table x ≤ left table v) (sym e.after)
       (shard_further (length v.locks) v.next (length (table e.guard).slots) (length (slots_held table v.held) - v.from)
       (cond v.failed 0 1)
       (mapped_within padded_value v.locks v.next (lock e.guard) e.taken) e.sound.numbered)
 
-  pub passes_left : (n : ℕ) (v w : Walk Q G) → Passes eq table lock n v w → left table w ≤ left table v
+  pub passes_left : (n : ℕ) (v w : Walk Q G) → Passes eq table lock seen n v w → left table w ≤ left table v
   passes_left zero v w same = subst (λ (x : Walk Q G). left table x ≤ left table v) same (omega arith)
   passes_left (suc n) v w p =
       let before = passes_left n v p.0 p.1 in
       let here = enters_left p.0 w p.3 in
       omega (arith, before, here)
 
-  pub passes_failed : (n : ℕ) (v w : Walk Q G) → Passes eq table lock n v w → w.failed ≡ v.failed
+  pub passes_failed : (n : ℕ) (v w : Walk Q G) → Passes eq table lock seen n v w → w.failed ≡ v.failed
   passes_failed zero v w same = ap (λ (x : Walk Q G). x.failed) (sym same)
   passes_failed (suc n) v w p = ap (λ (x : Walk Q G). x.failed) p.3.after ∙ passes_failed n v p.0 p.1
 
-  pub item_left : (v : Walk Q G) (item : G × ℕ) (w : Walk Q G) → LendsPair eq table lock v item w
+  pub item_left : (v : Walk Q G) (item : G × ℕ) (w : Walk Q G) → LendsPair eq table lock seen v item w
       → left table w < left table v
   item_left v item w e =
       let below = full_within (table item.0).slots item.1 e.slot.full in
@@ -72,7 +73,7 @@ module _ {K V Q G : Type 0} (eq : K → K → Bool) (table : G → Table K V) (l
       let before = passes_left e.passed v e.stop e.passes in
       subst (λ (x : Walk Q G). left table x < left table v) (sym e.after) (omega (arith, nearer, before))
 
-  pub fail_left : (v w : Walk Q G) → Fails eq table lock v w → left table w < left table v
+  pub fail_left : (v w : Walk Q G) → Fails eq table lock seen v w → left table w < left table v
   fail_left v w e =
       let before = passes_left e.passed v e.stop e.passes in
       let ready : ◌≡◌ {A = ℕ} (cond e.stop.failed 0 1) 1 =
@@ -81,9 +82,9 @@ module _ {K V Q G : Type 0} (eq : K → K → Bool) (table : G → Table K V) (l
 
   -- what was answered of the slot that was found is what a call of `next` gives
   pub shared : {E : Type 0} (v u : Walk Q G) (slot passed : ℕ) (r : Result (G × ℕ) E) (w : Walk Q G) → v.failed ≡ false
-      → Passes eq table lock passed v u → IsNextFull (slots_held table u.held) u.from slot
+      → Passes eq table lock seen passed v u → IsNextFull (slots_held table u.held) u.from slot
       → IfOk r (λ item. (u.held ≡ Some item.0) × (item.1 ≡ slot) × (w ≡ record u { from = slot + 1 }))
-      → OnErr r (w ≡ record u { failed = true }) → Gives eq table lock v (Some r) w
+      → OnErr r (w ≡ record u { failed = true }) → Gives eq table lock seen v (Some r) w
   shared v u slot passed (Ok item) w ready passes next lent none =
       let here : IsNextFull (table item.0).slots u.from slot =
       subst (λ (o : Option G). IsNextFull (slots_held table o) u.from slot) lent.0 next in
@@ -101,7 +102,7 @@ module _ {K V Q G : Type 0} (eq : K → K → Bool) (table : G → Table K V) (l
       record { ready = ready; passed = passed; stop = u; passes = passes; after = failed }
 
   -- what a call of `next` gives leaves fewer items
-  pub progress : {E : Type 0} (v : Walk Q G) (r : Option (Result (G × ℕ) E)) (w : Walk Q G) → Gives eq table lock v r w
+  pub progress : {E : Type 0} (v : Walk Q G) (r : Option (Result (G × ℕ) E)) (w : Walk Q G) → Gives eq table lock seen v r w
       → MakesProgress (λ _. ⊤) (λ x. at_most (left table x)) v r w
   progress v None w gives = record { on = λ _. tt; keeps = tt; rests = λ _. tt }
   progress v (Some (Ok item)) w gives =

@@ -37,11 +37,12 @@ pub if_full_at : {E X : Type 0} (slot : Option E) (made : IsSome slot → X) (ot
 if_full_at None made other full = absurd (false≢true full)
 if_full_at (Some entry) made other full = ap made (Bool-set _ _ full refl)
 
-module _ {K V Q G : Type 0} (eq : K → K → Bool) (table : G → Table K V) (lock : G → Q) where
+module _ {K V Q G : Type 0} (eq : K → K → Bool) (table : G → Table K V) (lock : G → Q)
+    (seen : Q → Table K V → Type 0) where
   -- the walk that went on to u lends the slot that was found there
-  pub lends_found : (v u : Walk Q G) (slot passed : ℕ) → u.failed ≡ false → Passes eq table lock passed v u
+  pub lends_found : (v u : Walk Q G) (slot passed : ℕ) → u.failed ≡ false → Passes eq table lock seen passed v u
       → IsNextFull (slots_held table u.held) u.from slot
-      → LendsToWrite table eq lock v slot (record u { from = slot + 1 })
+      → LendsToWrite table eq lock seen v slot (record u { from = slot + 1 })
   lends_found v u slot passed ready passes next = elim (option_cases u.held) [
     | inl none ↦ absurd
         (omega (
@@ -52,7 +53,7 @@ module _ {K V Q G : Type 0} (eq : K → K → Bool) (table : G → Table K V) (l
     | inr some ↦ (
       some.0,
       record {
-        ready = sym (passes_failed eq table lock passed v u passes) ∙ ready;
+        ready = sym (passes_failed eq table lock seen passed v u passes) ∙ ready;
         passed = passed;
         stop = u;
         passes = passes;

@@ -34,11 +34,17 @@ module _ {K V Q G : Type 0} (table : G → Table K V) where
   abbrev pub left : Walk Q G → ℕ
   left w = (length w.locks - w.next) * 2 ^ 63 + (length (slots_held table w.held) - w.from) + cond w.failed 0 1
 
-module _ {K V Q G : Type 0} (eq : K → K → Bool) (table : G → Table K V) (lock : G → Q) where
+-- a hold of that lock was had by some wait, and showed the table
+abbrev pub by_some_wait : {Q Party T : Type 0} → (Q → Party → Party → T → Type 0) → Q → T → Type 0
+by_some_wait {Q} {Party} {T} showed lock table = (from : Party) × (to : Party) × showed lock from to table
+
+module _ {K V Q G : Type 0} (eq : K → K → Bool) (table : G → Table K V) (lock : G → Q) (seen : Q → Table K V → Type 0) where
   -- the next shard is held, and no longer the last one
   pub record Enters (v w : Walk Q G) : Type 0 where
     pub guard : G
     pub taken : option_map padded_value (slice_get v.locks v.next) ≡ Some (lock guard)
+    -- a hold of that lock showed this table
+    pub shown : seen (lock guard) (table guard)
     -- so that no two slots of it have equal keys under one hash
     pub sound : IsSound eq (table guard)
     pub after : w ≡ record { locks = v.locks; next = v.next + 1; held = Some guard; from = 0; failed = v.failed }

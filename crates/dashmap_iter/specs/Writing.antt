@@ -16,8 +16,9 @@ module _ {K V G : Type 0} (table : G → Table K V) where
   pair_held held slot = option_map pair_of (at (slots_held table held) slot)
 
   -- the walk went on from v to w, and the pair that it then lends is in this slot
-  abbrev pub LendsToWrite : {Q : Type 0} → (K → K → Bool) → (G → Q) → Walk Q G → ℕ → Walk Q G → Type 0
-  LendsToWrite eq lock v slot w = (guard : G) × LendsPair eq table lock v (guard, slot) w
+  abbrev pub LendsToWrite : {Q : Type 0} → (K → K → Bool) → (G → Q) → (Q → Table K V → Type 0) → Walk Q G → ℕ → Walk Q G
+      → Type 0
+  LendsToWrite eq lock seen v slot w = (guard : G) × LendsPair eq table lock seen v (guard, slot) w
 
   -- a guard, once a value was written into a full slot of its shard
   abbrev pub guard_written : (G → Table K V → G) → ℕ → V → G → G

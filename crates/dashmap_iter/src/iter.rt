@@ -8,14 +8,14 @@ ghost use Rattle.std.specs.Option.{option_map};
 ghost use Rattle.crossbeam_utils.specs.Padded.{padded_value};
 ghost use Rattle.dashmap_table.specs.Slots.{IsNextFull};
 ghost use Rattle.dashmap_table.specs.Table.{IsSound};
-ghost use Rattle.dashmap_iter.specs.Lending.{slots_held, IsThrough, Enters, Passes, Gives, left};
+ghost use Rattle.dashmap_iter.specs.Lending.{by_some_wait, slots_held, IsThrough, Enters, Passes, Gives, left};
 
 use crate::multiple::RefMulti;
 use crate::shared::SharedGuard;
 use crossbeam_utils::CachePadded;
 use dashmap_table::Shard;
 use lock_api_raw::{NoMemory, RawRwLock};
-use lock_api_rw::{RawHold, RwLock, Shared};
+use lock_api_rw::{Evidence, RawHold, RwLock, Shared, read_shown};
 use std::alloc::{Allocator, Global};
 use std::hash::Hash;
 use std::marker::Model;
@@ -151,7 +151,14 @@ where
     }
 }
 
-impl<'m, 'd, K: Eq + Hash, V, Q: RawRwLock, A: Allocator + Clone> Iter<'m, 'd, K, V, Q, A>
+impl<'m, 'd, K: Eq + Hash, V, Q: Evidence<Shard<K, V, A>>, A: Allocator + Clone> Iter<
+    'm,
+    'd,
+    K,
+    V,
+    Q,
+    A,
+>
 where
     Q::Runtime: Wait,
 {
@@ -160,12 +167,13 @@ where
         requires { self.old.next < length self.old.locks }
         ensures taken { IfOk result
             (λ g. option_map padded_value (slice_get self.old.locks self.old.next) ≡ Some g.held.0.place.now) }
+        ensures shown { IfOk result (λ g. by_some_wait Q.showed g.held.0.place.now (read_guard_value g.inner)) }
         ensures sound { IfOk result (λ g. IsSound K.eq (read_guard_value g.inner)) }
         ensures stays { self.new ≡ self.old }
     {
         let alloc = self.alloc.clone()?;
         let locks = self.locks;
-        let guard = locks[self.next].read(&mut *self.party);
+        let guard = read_shown(&locks[self.next], &mut *self.party);
         let _pairs = guard.inner.len();
         SharedGuard::new(alloc, guard)
     }
@@ -193,7 +201,7 @@ where
     fn enter(&mut self) -> Result<(), NoMemory>
         requires { self.old.next < length self.old.locks }
         ensures entered { OnOk result
-            (Enters K.eq (λ g. read_guard_value g.inner) (λ g. g.held.0.place.now) self.old self.new) }
+            (Enters K.eq (λ g. read_guard_value g.inner) (λ g. g.held.0.place.now) (by_some_wait Q.showed) self.old self.new) }
         ensures refused { OnErr result (self.new ≡ self.old) }
     {
         let shared = self.hold_next()?;
@@ -205,13 +213,13 @@ where
     #[inline(always)]
     fn go_on(&mut self) -> Result<Option<usize>, NoMemory>
         ensures there { IfOk result
-            (λ found. (passed : ℕ) × Passes K.eq (λ g. read_guard_value g.inner) (λ g. g.held.0.place.now) passed
+            (λ found. (passed : ℕ) × Passes K.eq (λ g. read_guard_value g.inner) (λ g. g.held.0.place.now) (by_some_wait Q.showed) passed
             self.old self.new
             × MatchOption found
             (IsThrough (λ g. read_guard_value g.inner) self.new × (length self.new.locks ≤ self.new.next))
             (IsNextFull (slots_held (λ g. read_guard_value g.inner) self.new.held) self.new.from)) }
         ensures refused { OnErr result
-            ((passed : ℕ) × Passes K.eq (λ g. read_guard_value g.inner) (λ g. g.held.0.place.now) passed self.old
+            ((passed : ℕ) × Passes K.eq (λ g. read_guard_value g.inner) (λ g. g.held.0.place.now) (by_some_wait Q.showed) passed self.old
             self.new) }
     {
         while self.next < self.locks.len() {
@@ -224,14 +232,14 @@ where
     }
 }
 
-impl<'m, 'd, K: Eq + Hash, V, Q: RawRwLock, A: Allocator + Clone> Iterator
+impl<'m, 'd, K: Eq + Hash, V, Q: Evidence<Shard<K, V, A>>, A: Allocator + Clone> Iterator
     for Iter<'m, 'd, K, V, Q, A>
 where
     Q::Runtime: Wait,
 {
     type Item = Result<RefMulti<'m, 'd, K, V, Q, A>, NoMemory>;
 
-    ghost next_gives = { Gives K.eq (λ g. read_guard_value g.inner) (λ g. g.held.0.place.now) };
+    ghost next_gives = { Gives K.eq (λ g. read_guard_value g.inner) (λ g. g.held.0.place.now) (by_some_wait Q.showed) };
 
     ghost remaining = { λ w. at_most (left (λ g. read_guard_value g.inner) w) };
 

@@ -167,6 +167,7 @@ where
         requires { self.old.next < length self.old.locks }
         ensures taken { option_map padded_value (slice_get self.old.locks self.old.next) ≡ Some
             (H.lock_of result.held.0) }
+        ensures seen { L.seen (H.lock_of result.held.0) (W.part result.inner) }
         ensures sound { IsSound K.eq (W.part result.inner) }
         ensures numbered { self.new.next + 1 < 2 ^ 64 }
         ensures stays { self.new ≡ self.old }
@@ -198,7 +199,7 @@ where
     /// Holds the next shard, and then gives the last one back.
     fn enter(&mut self)
         requires { self.old.next < length self.old.locks }
-        ensures { Enters K.eq (λ g. W.part g.inner) (λ g. H.lock_of g.held.0) self.old self.new }
+        ensures { Enters K.eq (λ g. W.part g.inner) (λ g. H.lock_of g.held.0) L.seen self.old self.new }
     {
         let guard = self.hold_next();
         self.keep(guard);
@@ -207,7 +208,7 @@ where
     /// Goes on to the next pair, over shards in which none is left, and answers its slot.
     #[inline(always)]
     fn go_on(&mut self) -> Option<usize>
-        ensures { (passed : ℕ) × Passes K.eq (λ g. W.part g.inner) (λ g. H.lock_of g.held.0) passed self.old self.new
+        ensures { (passed : ℕ) × Passes K.eq (λ g. W.part g.inner) (λ g. H.lock_of g.held.0) L.seen passed self.old self.new
             × MatchOption result (IsThrough (λ g. W.part g.inner) self.new × (length self.new.locks ≤ self.new.next))
             (IsNextFull (slots_held (λ g. W.part g.inner) self.new.held) self.new.from) }
     {
@@ -224,12 +225,12 @@ where
     #[inline(always)]
     fn step(&mut self) -> Option<usize>
         ensures lends { IfSome result
-            (λ slot. LendsToWrite (λ g. W.part g.inner) K.eq (λ g. H.lock_of g.held.0) self.old slot self.new) }
+            (λ slot. LendsToWrite (λ g. W.part g.inner) K.eq (λ g. H.lock_of g.held.0) L.seen self.old slot self.new) }
         ensures nearer { IfSome result
             (λ slot. left (λ g. W.part g.inner) self.new < left (λ g. W.part g.inner) self.old) }
         ensures full { IfSome result (λ slot. IsSome (at (slots_held (λ g. W.part g.inner) self.new.held) slot)) }
         ensures ends { IfNone result
-            (EndsAt K.eq (λ g. W.part g.inner) (λ g. H.lock_of g.held.0) false self.old self.new) }
+            (EndsAt K.eq (λ g. W.part g.inner) (λ g. H.lock_of g.held.0) L.seen false self.old self.new) }
     {
         match self.go_on() {
             Some(slot) => {
@@ -298,10 +299,10 @@ where
             (RestsIfNone (the_row K.row V.row A.row W.row H.row L.row H.Lock.row H.Runtime.row H.Party.row H.Apart.row
             K.PartialEq (record { hash_input = K.hash_input }) A.Allocator W.Lender H.Hold L.GivesShards) self.entry
             (λ item. item.walk.ghost_name) result
-            (λ last. EndsAt K.eq (λ g. W.part g.inner) (λ g. H.lock_of g.held.0) false self.old last)) }
+            (λ last. EndsAt K.eq (λ g. W.part g.inner) (λ g. H.lock_of g.held.0) L.seen false self.old last)) }
         ensures same_walk { IfSome result (λ item. item.walk.ghost_name ≡ self.entry.ghost_name) }
         ensures lends { IfSome result
-            (λ item. LendsToWrite (λ g. W.part g.inner) K.eq (λ g. H.lock_of g.held.0) self.old item.slot
+            (λ item. LendsToWrite (λ g. W.part g.inner) K.eq (λ g. H.lock_of g.held.0) L.seen self.old item.slot
             item.walk.now) }
         ensures nearer { IfSome result
             (λ item. left (λ g. W.part g.inner) item.walk.now < left (λ g. W.part g.inner) self.old) }

@@ -7,7 +7,8 @@ use crate::iter_mut::{IterMut, WritingWalk};
 use crate::shards::MapShards;
 use dashmap_map::DashMap;
 use dashmap_map::parts::{allocator, shard_locks};
-use lock_api_raw::RawRwLock;
+use dashmap_table::Shard;
+use lock_api_rw::Evidence;
 use std::alloc::Allocator;
 use std::hash::{BuildHasher, Hash};
 use std::sync::Wait;
@@ -25,7 +26,7 @@ use std::sync::Wait;
 ///     *pair = pair.wrapping_add(1);
 /// }
 /// ```
-pub trait LendingWalks<K: Eq + Hash, V, S, Q: RawRwLock, A: Allocator>
+pub trait LendingWalks<K: Eq + Hash, V, S, Q: Evidence<Shard<K, V, A>>, A: Allocator>
 where
     Q::Runtime: Wait,
 {
@@ -62,8 +63,13 @@ where
         ensures { result ≡ record { locks = (seen self.now).locks; next = 0; held = None; from = 0; failed = false } };
 }
 
-impl<K: Eq + Hash, V, S: BuildHasher, Q: RawRwLock, A: Allocator> LendingWalks<K, V, S, Q, A>
-    for DashMap<K, V, S, Q, A>
+impl<K: Eq + Hash, V, S: BuildHasher, Q: Evidence<Shard<K, V, A>>, A: Allocator> LendingWalks<
+    K,
+    V,
+    S,
+    Q,
+    A,
+> for DashMap<K, V, S, Q, A>
 where
     Q::Runtime: Wait,
 {

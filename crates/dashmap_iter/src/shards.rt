@@ -6,9 +6,9 @@ ghost use Rattle.crossbeam_utils.specs.Padded.{padded_value};
 
 use crossbeam_utils::CachePadded;
 use dashmap_table::Shard;
-use lock_api_guards::{Guard, Hold};
+use lock_api_guards::{Guard, Hold, Lender};
 use lock_api_raw::RawRwLock;
-use lock_api_rw::{Exclusive, RawHold, RwLock};
+use lock_api_rw::{Evidence, Exclusive, RawHold, RwLock, write_found};
 use std::alloc::Allocator;
 use std::hash::Hash;
 use std::marker::Model;
@@ -16,12 +16,15 @@ use std::sync;
 use std::sync::Wait;
 
 /// What gives exclusive guards of shards by their numbers: the shards of a map.
-pub trait GivesShards<W: Drop, H: Hold>
+pub trait GivesShards<W: Lender + Drop, H: Hold>
 where
     H::Runtime: Wait,
 {
     /// The locks of the shards, in their order.
     ghost locks: { Self → List (CachePadded H.Lock) };
+
+    /// That a hold of that lock was had, and found a shard so.
+    ghost seen: { H.Lock → W.Part → Type 0 };
 
     /// How many shards there are.
     fn amount(&self) -> usize
@@ -31,6 +34,7 @@ where
     fn hold(&mut self, shard: usize) -> Guard<W, H>
         requires { shard < length (locks self.old) }
         ensures lock { option_map padded_value (slice_get (locks self.old) shard) ≡ Some (H.lock_of result.held.0) }
+        ensures seen { seen (H.lock_of result.held.0) (W.part result.inner) }
         ensures stays { self.new ≡ self.old }
         ensures numbered { shard + 1 < 2 ^ 64 };
 }
@@ -68,14 +72,18 @@ impl<'m, 'd, K: Eq + Hash, V, Q: RawRwLock, A: Allocator> MapShards<'m, 'd, K, V
     }
 }
 
-impl<'m, 'd, K: Eq + Hash, V, Q: RawRwLock, A: Allocator> GivesShards<
+impl<'m, 'd, K: Eq + Hash, V, Q: Evidence<Shard<K, V, A>>, A: Allocator> GivesShards<
     sync::RwLockWriteGuard<'m, Shard<K, V, A>>,
     RawHold<&'m RwLock<Q, Shard<K, V, A>>, Exclusive>,
 > for MapShards<'m, 'd, K, V, Q, A>
 where
     Q::Runtime: Wait,
 {
+    ghost use Rattle.dashmap_iter.specs.Lending.{by_some_wait};
+
     ghost locks = { λ s. s };
+
+    ghost seen = { by_some_wait Q.found };
 
     fn amount(&self) -> usize {
         self.locks.len()
@@ -89,6 +97,6 @@ where
         RawHold<&'m RwLock<Q, Shard<K, V, A>>, Exclusive>,
     > {
         let locks = self.locks;
-        locks[shard].write(&mut *self.party)
+        write_found(&locks[shard], &mut *self.party)
     }
 }

@@ -1,3 +1,4 @@
+mod Exchanging
 mod Regained
 pub mod Taken
 pub mod ClonesFacts

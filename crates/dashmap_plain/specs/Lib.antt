@@ -1,4 +1,5 @@
 pub mod Opened
+pub mod Exchanged
 pub mod Extended
 pub mod Written
 pub mod Clones

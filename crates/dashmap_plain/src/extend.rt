@@ -1,5 +1,7 @@
 //! Extension by a list, and a map that is made of one.
 ghost use Rattle.std.specs.Prelude.{◌≡◌, ◌^◌, ◌<◌, ◌↔◌, ◌∷◌, ◌++◌, List, None, Err, length, IfOk, IfErr, OnOk};
+ghost use Rattle.std.specs.List.{All};
+ghost use Rattle.dashmap_map.specs.Owner.{IsPut, HadNoRoom};
 ghost use Rattle.std.specs.Int.{IsNextPowerOfTwo};
 ghost use Rattle.dashmap_table.specs.Route.{wanted_shards};
 ghost use Rattle.dashmap_table.specs.Shards.{pair_at};
@@ -7,7 +9,8 @@ ghost use Rattle.dashmap_plain.specs.Extended.{PutsAll};
 
 use crate::shards::ExtendShards;
 use dashmap_map::DashMap;
-use dashmap_table::{MapFault, Shards};
+use dashmap_map::owner::OwnerEvidence;
+use dashmap_table::{MapFault, Shard, Shards};
 use lock_api_raw::{MakeLock, RawRwLock};
 use std::alloc::Allocator;
 use std::hash::{BuildHasher, Hash};
@@ -24,13 +27,17 @@ pub fn par_extend<
     K: Eq + Hash + Drop,
     V: Drop,
     S: BuildHasher,
-    Q,
+    Q: OwnerEvidence<Shard<K, V, A>>,
     A: Allocator + Clone,
     B: Allocator,
 >(map: &mut DashMap<K, V, S, Q, A>, pairs: Vec<(K, V), B>) -> Result<(), (K, V)>
     ensures locks { map.new ≡ map.old }
+    ensures all { OnOk result
+        (All (IsPut Q.taken Q.put S.BuildHasher S.Hasher.Hasher K.hash_input map.old K.eq) pairs.items) }
     ensures refused { IfErr result
-        (λ back. (before : List (K × V)) × (rest : List (K × V)) × (pairs.items ≡ before ++ back ∷ rest)) }
+        (λ back. (before : List (K × V)) × (rest : List (K × V)) × (pairs.items ≡ before ++ back ∷ rest)
+        × All (IsPut Q.taken Q.put S.BuildHasher S.Hasher.Hasher K.hash_input map.old K.eq) before
+        × HadNoRoom Q.taken Q.put S.BuildHasher S.Hasher.Hasher K.hash_input map.old K.eq back) }
 {
     map.extend(pairs.into_iter())
 }
@@ -44,7 +51,7 @@ pub fn from_par_iter<
     K: Eq + Hash + Drop,
     V: Drop,
     S: BuildHasher + Drop,
-    Q: RawRwLock + MakeLock<T> + Drop,
+    Q: RawRwLock + MakeLock<T> + OwnerEvidence<Shard<K, V, A>> + Drop,
     A: Allocator + Clone,
     B: Allocator,
     T: Copy,
@@ -57,6 +64,8 @@ pub fn from_par_iter<
 ) -> Result<DashMap<K, V, S, Q, A>, MapFault>
     ensures made { IfOk result
         (λ m. IsNextPowerOfTwo (wanted_shards parallelism) (length m.locks) × (m.hasher ≡ hasher)) }
+    ensures all { IfOk result
+        (λ m. All (IsPut Q.taken Q.put S.BuildHasher S.Hasher.Hasher K.hash_input m K.eq) pairs.items) }
     ensures bad_shards { (result ≡ Err MapFault.BadShards) ↔ (2 ^ 16 < wanted_shards parallelism) }
     ensures fits { ¬ (result ≡ Err MapFault.CapacityOverflow) }
 {

@@ -1,10 +1,12 @@
 //! The values of a map, lent for writing to its one owner.
-ghost use Rattle.std.specs.Prelude.{◌≡◌, length};
+ghost use Rattle.std.specs.Prelude.{◌≡◌};
 ghost use Rattle.dashmap_plain.specs.Written.{WroteAll};
 
 use crate::unlocked::Unlocked;
 use core::mem;
 use dashmap_map::DashMap;
+use dashmap_map::owner::OwnerEvidence;
+use dashmap_table::Shard;
 use std::alloc::{Allocator, Global};
 use std::hash::{BuildHasher, Hash};
 use std::thread::Threads;
@@ -16,7 +18,14 @@ pub struct IterMut<'m, K: Eq + Hash, V, S: BuildHasher, Q, A: Allocator = Global
     map: &'m mut DashMap<K, V, S, Q, A>,
 }
 
-impl<'m, K: Eq + Hash, V, S: BuildHasher, Q, A: Allocator> IterMut<'m, K, V, S, Q, A> {
+impl<'m, K: Eq + Hash, V, S: BuildHasher, Q: OwnerEvidence<Shard<K, V, A>>, A: Allocator> IterMut<
+    'm,
+    K,
+    V,
+    S,
+    Q,
+    A,
+> {
     /// The pairs of this map.
     pub(crate) fn new(map: &'m mut DashMap<K, V, S, Q, A>) -> IterMut<'m, K, V, S, Q, A>
         ensures same { result.map.ghost_name ≡ map.entry.ghost_name }
@@ -34,7 +43,7 @@ impl<'m, K: Eq + Hash, V, S: BuildHasher, Q, A: Allocator> IterMut<'m, K, V, S, 
         A: Send,
         requires { F.IsAlwaysCallable f }
         ensures map { self.exit.0.now ≡ self.entry.map.now }
-        ensures written { WroteAll F.Fn f (length self.entry.map.now.locks) }
+        ensures written { WroteAll Q.taken Q.put F.Fn f self.entry.map.now.locks }
     {
         let IterMut { map } = self;
         write_map(map, rt, f);
@@ -46,14 +55,14 @@ fn write_map<
     K: Eq + Hash + Send,
     V: Send,
     S: BuildHasher,
-    Q,
+    Q: OwnerEvidence<Shard<K, V, A>>,
     A: Allocator + Send,
     R: Threads + Sync,
     F: Fn(&K, &mut V) + Sync,
 >(map: &mut DashMap<K, V, S, Q, A>, rt: &R, f: F)
     requires { F.IsAlwaysCallable f }
     ensures map { map.new ≡ map.old }
-    ensures written { WroteAll F.Fn f (length map.old.locks) }
+    ensures written { WroteAll Q.taken Q.put F.Fn f map.old.locks }
 {
     mem::replace_with(
         map,
@@ -61,7 +70,7 @@ fn write_map<
         |map, f|
             requires { F.IsAlwaysCallable f }
             ensures map { result.0 ≡ map }
-            ensures written { WroteAll F.Fn f (length map.locks) }
+            ensures written { WroteAll Q.taken Q.put F.Fn f map.locks }
         {
             let mut open = Unlocked::of(map);
             open.par_write(rt, f);

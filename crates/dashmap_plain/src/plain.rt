@@ -1,11 +1,15 @@
 //! What the owner of a map may make of it.
-ghost use Rattle.std.specs.Prelude.{◌≡◌, length, IfOk, IfErr};
+ghost use Rattle.std.specs.Prelude.{◌≡◌, List, length, IfOk, IfErr};
 ghost use Rattle.dashmap_map.specs.Locked.{Locked};
+ghost use Rattle.dashmap_map.specs.Owner.{EachOf};
+ghost use Rattle.dashmap_table.specs.Table.{Table};
+ghost use Rattle.dashmap_view.specs.Views.{AreRouted, all_pairs};
 
 use crate::iter_mut::IterMut;
 use crate::read_only::ReadOnlyView;
 use crate::unlocked::Unlocked;
 use dashmap_map::DashMap;
+use dashmap_map::owner::OwnerEvidence;
 use dashmap_table::Shard;
 use dashmap_view::{Displaced, OwningIter};
 use std::alloc::Allocator;
@@ -13,23 +17,32 @@ use std::hash::{BuildHasher, Hash};
 
 /// What becomes of a map that nobody else can reach. No call takes memory, and none waits.
 ///
-/// What lies behind a lock no contract says, so these promise the locks and the hasher; of plain shards that are had
-/// once [`Unlocked`] says all.
+/// What lies behind a lock no contract says. So these say it of plain shards of which there is evidence that they were
+/// taken out from behind the map's locks, each of its own.
 ///
 /// ```text
 /// let view = map.into_read_only().map_err(|_| "a pair in a wrong shard")?;
 /// for (key, value) in other.into_iter() { .. }           // each pair once, shards in order
 /// ```
-pub trait Plain<K: Eq + Hash, V, S: BuildHasher, Q, A: Allocator>: Sized {
+pub trait Plain<
+    K: Eq + Hash,
+    V,
+    S: BuildHasher,
+    Q: OwnerEvidence<Shard<K, V, A>>,
+    A: Allocator,
+>: Sized {
     /// The locks and the hasher of a map.
     ghost seen: { Self → Locked Q S };
 
     /// The plain shards, in their order. The locks go; their rows stay used.
     fn into_shards(self) -> Vec<Shard<K, V, A>, A>
-        ensures { length result.items ≡ length (seen self).locks };
+        ensures amount { length result.items ≡ length (seen self).locks }
+        ensures taken { EachOf Q.taken (seen self).locks result.items };
 
     /// The pairs, one after another, shards in order.
-    fn into_iter(self) -> OwningIter<K, V, A>;
+    fn into_iter(self) -> OwningIter<K, V, A>
+        ensures { (tables : List (Table K V)) × EachOf Q.taken (seen self).locks tables
+            × (result ≡ all_pairs tables) };
 
     /// A view, for any number of readers.
     ///
@@ -37,7 +50,10 @@ pub trait Plain<K: Eq + Hash, V, S: BuildHasher, Q, A: Allocator>: Sized {
     /// map comes back; no call of these crates causes it.
     fn into_read_only(self) -> Result<ReadOnlyView<K, V, S, Q, A>, Displaced<Self>>
         ensures view { IfOk result (λ v. (v.locks ≡ (seen self).locks) × (v.plain.hasher ≡ (seen self).hasher)) }
-        ensures displaced { IfErr result (λ back. seen back ≡ seen self) };
+        ensures taken { IfOk result (λ v. EachOf Q.taken (seen self).locks v.plain.tables) }
+        ensures displaced { IfErr result (λ back. (seen back ≡ seen self) × (tables : List (Table K V))
+            × EachOf Q.taken (seen self).locks tables × EachOf Q.put (seen self).locks tables
+            × ¬ AreRouted S.BuildHasher S.Hasher.Hasher K.hash_input (seen self).hasher tables) };
 
     /// All pairs, their values lent for writing.
     fn par_iter_mut(&mut self) -> IterMut<'_, K, V, S, Q, A>
@@ -47,16 +63,17 @@ pub trait Plain<K: Eq + Hash, V, S: BuildHasher, Q, A: Allocator>: Sized {
     /// All pairs by value: the pairs of one shard are one piece of work, and shards go side by side. The locks go;
     /// their rows stay used.
     fn into_par_iter(self) -> dashmap_view::parallel::OwningIter<K, V, A>
-        ensures { length result ≡ length (seen self).locks };
+        ensures amount { length result ≡ length (seen self).locks }
+        ensures taken { EachOf Q.taken (seen self).locks result };
 }
 
-impl<K: Eq + Hash + Drop, V: Drop, S: BuildHasher + Drop, Q: Drop, A: Allocator> Plain<
-    K,
-    V,
-    S,
-    Q,
-    A,
-> for DashMap<K, V, S, Q, A> {
+impl<
+    K: Eq + Hash + Drop,
+    V: Drop,
+    S: BuildHasher + Drop,
+    Q: OwnerEvidence<Shard<K, V, A>> + Drop,
+    A: Allocator,
+> Plain<K, V, S, Q, A> for DashMap<K, V, S, Q, A> {
     ghost seen = { λ map. map };
 
     fn into_shards(self) -> Vec<Shard<K, V, A>, A> {

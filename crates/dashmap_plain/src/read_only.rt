@@ -1,12 +1,14 @@
 //! A map that nobody writes.
 ghost use Rattle.std.specs.Prelude.{◌≡◌, ◌↔◌, IsTrue, length, is_some, map};
 ghost use Rattle.std.specs.Option.{option_map, option_copied};
+ghost use Rattle.dashmap_map.specs.Owner.{EachOf};
 ghost use Rattle.dashmap_table.specs.Shards.{AreSharded, pair_at};
 ghost use Rattle.dashmap_view.specs.Views.{all_pairs, pair_count, room_in, at_most_max};
 
 use crate::unlocked::Unlocked;
 use crossbeam_utils::CachePadded;
 use dashmap_map::DashMap;
+use dashmap_map::owner::OwnerEvidence;
 use dashmap_table::Shard;
 use dashmap_view::{PlainView, ViewIter, ViewKeys, ViewValues};
 use lock_api_rw::RwLock;
@@ -66,8 +68,11 @@ impl<K: Eq + Hash, V, S: BuildHasher, Q, A: Allocator> ReadOnlyView<K, V, S, Q, 
 
     /// The map again, each shard behind its lock.
     pub fn into_inner(self) -> DashMap<K, V, S, Q, A>
+    where
+        Q: OwnerEvidence<Shard<K, V, A>>,
         ensures locks { result.locks ≡ self.locks }
         ensures hasher { result.hasher ≡ self.plain.hasher }
+        ensures put { EachOf Q.put self.locks self.plain.tables }
     {
         self.into_unlocked().into_map()
     }

@@ -1,5 +1,6 @@
 //! A map that is taken apart.
 ghost use Rattle.std.specs.Prelude.{◌≡◌, length, IfOk, IfErr};
+ghost use Rattle.dashmap_map.specs.Owner.{EachOf};
 ghost use Rattle.dashmap_table.specs.Route.{IsShardAmount};
 ghost use Rattle.dashmap_table.specs.Shards.{AreSharded};
 ghost use Rattle.dashmap_view.specs.Views.{AreRouted, all_pairs};
@@ -8,6 +9,7 @@ use crate::exchange::exchange_all;
 use crate::read_only::ReadOnlyView;
 use crossbeam_utils::CachePadded;
 use dashmap_map::DashMap;
+use dashmap_map::owner::OwnerEvidence;
 use dashmap_map::parts::{from_parts, into_parts};
 use dashmap_table::Shard;
 use dashmap_view::{Displaced, OwningIter, PlainView};
@@ -49,12 +51,19 @@ type Parts<K, V, S, Q, A> = (
     S,
 );
 
-impl<K: Eq + Hash, V, S: BuildHasher, Q, A: Allocator> Unlocked<K, V, S, Q, A> {
+impl<K: Eq + Hash, V, S: BuildHasher, Q: OwnerEvidence<Shard<K, V, A>>, A: Allocator> Unlocked<
+    K,
+    V,
+    S,
+    Q,
+    A,
+> {
     /// Takes a map apart. That it is owned shows that nobody holds a shard.
     pub fn of(map: DashMap<K, V, S, Q, A>) -> Unlocked<K, V, S, Q, A>
         ensures locks { result.locks ≡ map.locks }
         ensures amount { length result.plain.tables ≡ length map.locks }
         ensures hasher { result.plain.hasher ≡ map.hasher }
+        ensures taken { EachOf Q.taken map.locks result.plain.tables }
     {
         let (mut locks, mut shards, hasher) = into_parts(map);
         exchange_all(&mut locks, &mut shards);
@@ -65,14 +74,17 @@ impl<K: Eq + Hash, V, S: BuildHasher, Q, A: Allocator> Unlocked<K, V, S, Q, A> {
     pub fn into_map(self) -> DashMap<K, V, S, Q, A>
         ensures locks { result.locks ≡ self.locks }
         ensures hasher { result.hasher ≡ self.plain.hasher }
+        ensures put { EachOf Q.put self.locks self.plain.tables }
     {
         let (mut shards, mut locks, hasher) = self.into_parts();
         exchange_all(&mut locks, &mut shards);
         from_parts(locks, shards, hasher)
     }
+}
 
+impl<K: Eq + Hash, V, S: BuildHasher, Q, A: Allocator> Unlocked<K, V, S, Q, A> {
     /// As many other shards in place of these, which are let go.
-    pub(crate) fn with_shards(self, shards: Vec<Shard<K, V, A>, A>) -> Unlocked<K, V, S, Q, A>
+    pub fn with_shards(self, shards: Vec<Shard<K, V, A>, A>) -> Unlocked<K, V, S, Q, A>
     where
         K: Drop,
         V: Drop,

@@ -2,12 +2,14 @@
 ghost use Rattle.std.specs.Prelude.{◌≡◌, map};
 ghost use Rattle.std.specs.Iterator.{YieldsFirst, at_most, item_count};
 ghost use Rattle.std.specs.Sync.RwLock.{read_guard_value};
-ghost use Rattle.dashmap_iter.specs.Lending.{Gives, left};
+ghost use Rattle.dashmap_iter.specs.Lending.{by_some_wait, Gives, left};
 
 use crate::setref::multiple::RefMulti;
 use dashmap_iter::Iter as Walk;
+use dashmap_table::Shard;
 use dashmap_view::OwningIter as Pairs;
 use lock_api_raw::{NoMemory, RawRwLock};
+use lock_api_rw::Evidence;
 use std::alloc::{Allocator, Global};
 use std::hash::Hash;
 use std::iter::FusedIterator;
@@ -55,13 +57,14 @@ where
     }
 }
 
-impl<'m, 'd, K: Eq + Hash, Q: RawRwLock, A: Allocator + Clone> Iterator for Iter<'m, 'd, K, Q, A>
+impl<'m, 'd, K: Eq + Hash, Q: Evidence<Shard<K, (), A>>, A: Allocator + Clone> Iterator
+    for Iter<'m, 'd, K, Q, A>
 where
     Q::Runtime: Wait,
 {
     type Item = Result<RefMulti<'m, 'd, K, Q, A>, NoMemory>;
 
-    ghost next_gives = { Gives K.eq (λ g. read_guard_value g.inner) (λ g. g.held.0.place.now) };
+    ghost next_gives = { Gives K.eq (λ g. read_guard_value g.inner) (λ g. g.held.0.place.now) (by_some_wait Q.showed) };
 
     ghost remaining = { λ w. at_most (left (λ g. read_guard_value g.inner) w) };
 

@@ -8,7 +8,7 @@ ghost use Rattle.dashmap_table.specs.Slots.{slot_of};
 ghost use Rattle.dashmap_map.specs.Effects.{Inserts, Removes, Finds};
 ghost use Rattle.dashmap_map.specs.Evidence.{UnderKey, OnSightOfKey};
 ghost use Rattle.dashmap_map.specs.Locked.{lock_of};
-ghost use Rattle.dashmap_set.specs.Calls.{is_new, key_of};
+ghost use Rattle.dashmap_set.specs.Calls.{is_new, key_of, RemovesKeyIf};
 
 use crate::set::DashSet;
 use crate::setref::one::Ref;
@@ -70,7 +70,10 @@ where
         td: &mut Q::Party,
     ) -> Option<K>
         requires { F.IsAlwaysCallable f }
-        ensures { IfSome result (λ k. IsTrue (K.eq k key.now) × FnOnceReturnsAt F.FnOnce f k true) }
+        ensures asked { IfSome result (λ k. IsTrue (K.eq k key.now) × FnOnceReturnsAt F.FnOnce f k true) }
+        ensures evidence { (pair : Option (K × Unit {0})) × (result ≡ key_of pair)
+            × UnderKey S.BuildHasher S.Hasher.Hasher K.hash_input Q.held self.now key.now td.old td.new
+            (λ hash old new. RemovesKeyIf K.eq F.FnOnce f old new hash key.now pair) }
     {
         key_of(
             self.inner.remove_if(

@@ -1,21 +1,29 @@
 //! How a set is made.
-ghost use Rattle.std.specs.Prelude.{◌≡◌, ◌^◌, ◌<◌, ◌↔◌, List, length, Err, IfOk, OnOk};
+ghost use Rattle.std.specs.Prelude.{◌≡◌, ◌^◌, ◌<◌, ◌↔◌, List, length, Err, IfOk};
 ghost use Rattle.std.specs.Iterator.{IsFinite, Drains};
+ghost use Rattle.std.specs.List.{All};
 ghost use Rattle.std.specs.Int.{IsNextPowerOfTwo};
 ghost use Rattle.dashmap_table.specs.Route.{wanted_shards};
 ghost use Rattle.dashmap_table.specs.declared.fault.MapFault.{MapFault};
 ghost use Rattle.dashmap_map.specs.declared.fault.NewFault.{NewFault};
 ghost use Rattle.dashmap_map.specs.Making.{HasNoDefaultShare};
+ghost use Rattle.dashmap_map.specs.Owner.{HasRoom};
+ghost use Rattle.dashmap_set.specs.Owner.{KeyIsPut};
 
 use crate::set::DashSet;
+use dashmap_map::owner::OwnerEvidence;
 use dashmap_map::{DashMap, NewFault};
-use dashmap_table::MapFault;
+use dashmap_table::{MapFault, Shard};
 use lock_api_raw::{MakeLock, RawRwLock};
 use std::alloc::Allocator;
 use std::hash::{BuildHasher, Hash, RandomState};
 use std::random::RandomSource;
 
-impl<K: Eq + Hash + Drop, Q: RawRwLock + Drop, A: Allocator + Clone> DashSet<K, RandomState, Q, A>
+impl<
+    K: Eq + Hash + Drop,
+    Q: RawRwLock + OwnerEvidence<Shard<K, (), A>> + Drop,
+    A: Allocator + Clone,
+> DashSet<K, RandomState, Q, A>
 where
     Q::Runtime: RandomSource,
 {
@@ -36,6 +44,7 @@ where
     where
         Q: MakeLock<T>,
         ensures made { IfOk result (λ s. IsNextPowerOfTwo (wanted_shards parallelism) (length s.locks)) }
+        ensures room { IfOk result (HasRoom Q.put 0) }
         ensures bad_shards { (result ≡ Err (NewFault.Map MapFault.BadShards)) ↔ (2 ^ 16 < wanted_shards parallelism) }
         ensures fits { ¬ (result ≡ Err (NewFault.Map MapFault.CapacityOverflow)) }
     {
@@ -61,6 +70,7 @@ where
     where
         Q: MakeLock<T>,
         ensures made { IfOk result (λ s. IsNextPowerOfTwo (wanted_shards parallelism) (length s.locks)) }
+        ensures room { IfOk result (HasRoom Q.put capacity) }
         ensures bad_shards { (result ≡ Err (NewFault.Map MapFault.BadShards)) ↔ (2 ^ 16 < wanted_shards parallelism) }
         ensures overflow { (result ≡ Err (NewFault.Map MapFault.CapacityOverflow)) ↔ HasNoDefaultShare capacity
             parallelism }
@@ -72,12 +82,12 @@ where
     }
 }
 
-impl<K: Eq + Hash + Drop, S: BuildHasher + Drop, Q: RawRwLock + Drop, A: Allocator + Clone> DashSet<
-    K,
-    S,
-    Q,
-    A,
-> {
+impl<
+    K: Eq + Hash + Drop,
+    S: BuildHasher + Drop,
+    Q: RawRwLock + OwnerEvidence<Shard<K, (), A>> + Drop,
+    A: Allocator + Clone,
+> DashSet<K, S, Q, A> {
     /// An empty set with the default shard amount for so many threads, whose capacity is 0.
     ///
     /// Refused as `BadShards`, `TableFull` or `NoMemory`, in this order. It takes a row of the table for each shard.
@@ -95,6 +105,7 @@ impl<K: Eq + Hash + Drop, S: BuildHasher + Drop, Q: RawRwLock + Drop, A: Allocat
         Q: MakeLock<T>,
         ensures made { IfOk result (λ s. IsNextPowerOfTwo (wanted_shards parallelism) (length s.locks)
             × (s.hasher ≡ hasher)) }
+        ensures room { IfOk result (HasRoom Q.put 0) }
         ensures bad_shards { (result ≡ Err MapFault.BadShards) ↔ (2 ^ 16 < wanted_shards parallelism) }
         ensures fits { ¬ (result ≡ Err MapFault.CapacityOverflow) }
     {
@@ -122,6 +133,7 @@ impl<K: Eq + Hash + Drop, S: BuildHasher + Drop, Q: RawRwLock + Drop, A: Allocat
         Q: MakeLock<T>,
         ensures made { IfOk result (λ s. IsNextPowerOfTwo (wanted_shards parallelism) (length s.locks)
             × (s.hasher ≡ hasher)) }
+        ensures room { IfOk result (HasRoom Q.put capacity) }
         ensures bad_shards { (result ≡ Err MapFault.BadShards) ↔ (2 ^ 16 < wanted_shards parallelism) }
         ensures overflow { (result ≡ Err MapFault.CapacityOverflow) ↔ HasNoDefaultShare capacity parallelism }
     {
@@ -142,6 +154,7 @@ impl<K: Eq + Hash + Drop, S: BuildHasher + Drop, Q: RawRwLock + Drop, A: Allocat
         Q: MakeLock<T>,
         ensures made { IfOk result (λ s. IsNextPowerOfTwo (wanted_shards parallelism) (length s.locks)
             × (s.hasher ≡ hasher)) }
+        ensures room { IfOk result (HasRoom Q.put 0) }
         ensures bad_shards { (result ≡ Err MapFault.BadShards) ↔ (2 ^ 16 < wanted_shards parallelism) }
         ensures fits { ¬ (result ≡ Err MapFault.CapacityOverflow) }
     {
@@ -169,7 +182,8 @@ impl<K: Eq + Hash + Drop, S: BuildHasher + Drop, Q: RawRwLock + Drop, A: Allocat
         requires ends { IsFinite (I.remaining iter) }
         ensures made { IfOk result (λ s. IsNextPowerOfTwo (wanted_shards parallelism) (length s.locks)
             × (s.hasher ≡ hasher)) }
-        ensures all { OnOk result ((keys : List K) × Drains I.next_gives iter keys) }
+        ensures all { IfOk result (λ s. (keys : List K) × Drains I.next_gives iter keys
+            × All (KeyIsPut Q.taken Q.put S.BuildHasher S.Hasher.Hasher K.hash_input K.eq s) keys) }
         ensures bad_shards { (result ≡ Err MapFault.BadShards) ↔ (2 ^ 16 < wanted_shards parallelism) }
         ensures fits { ¬ (result ≡ Err MapFault.CapacityOverflow) }
     {

@@ -2,10 +2,11 @@
 ghost use Rattle.std.specs.Prelude.{◌≡◌, ℕ, ◌==◌};
 ghost use Rattle.dashmap_table.specs.Slots.{count};
 ghost use Rattle.dashmap_map.specs.Evidence.{SumsTo};
+ghost use Rattle.dashmap_map.specs.Owner.{ShrinksAll};
 
 use crate::set::DashSet;
 use dashmap_table::Shard;
-use lock_api_raw::{NoMemory, RawRwLock};
+use lock_api_raw::NoMemory;
 use lock_api_rw::Evidence;
 use std::alloc::Allocator;
 use std::hash::{BuildHasher, Hash};
@@ -47,7 +48,12 @@ where
     }
 }
 
-impl<K: Eq + Hash + Drop, S: BuildHasher, Q: RawRwLock, A: Allocator + Clone> DashSet<K, S, Q, A>
+impl<
+    K: Eq + Hash + Drop,
+    S: BuildHasher,
+    Q: Evidence<Shard<K, (), A>>,
+    A: Allocator + Clone,
+> DashSet<K, S, Q, A>
 where
     Q::Runtime: Wait,
 {
@@ -60,7 +66,9 @@ where
     /// ```text
     /// set.shrink_to_fit(&mut me)?;
     /// ```
-    pub fn shrink_to_fit(&self, td: &mut Q::Party) -> Result<(), NoMemory> {
+    pub fn shrink_to_fit(&self, td: &mut Q::Party) -> Result<(), NoMemory>
+        ensures { ShrinksAll K.eq Q.held self.now td.old td.new result }
+    {
         self.inner.shrink_to_fit(td)
     }
 }

@@ -3,11 +3,12 @@ ghost use Rattle.std.specs.Prelude.{◌≡◌, ◌⊎◌, length, IfOk, IfErr};
 ghost use Rattle.dashmap_map.specs.Locked.{Locked};
 ghost use Rattle.dashmap_table.specs.Route.{IsShardAmount};
 ghost use Rattle.dashmap_table.specs.declared.fault.MapFault.{MapFault};
-ghost use Rattle.dashmap_plain.specs.Clones.Clones.{IsCloneBehind, AreClonesBehind};
+ghost use Rattle.dashmap_plain.specs.Clones.Clones.{IsCloneBehind, AreClonesBehind, IsCloneOfMap};
 
 use crate::Unlocked;
 use crate::clones::rows::fault_without_memory;
 use dashmap_map::DashMap;
+use dashmap_map::owner::OwnerEvidence;
 use dashmap_map::parts::{allocator, shard_locks};
 use dashmap_table::{MapFault, Shard};
 use dashmap_view::{clone_hasher, clone_shard};
@@ -22,7 +23,13 @@ use std::sync::Wait;
 /// ```text
 /// let copy = map.clone(&table, &mut me)?;
 /// ```
-pub trait CloneMap<K: Eq + Hash, V, S: BuildHasher, Q: RawRwLock, A: Allocator>: Sized {
+pub trait CloneMap<
+    K: Eq + Hash,
+    V,
+    S: BuildHasher,
+    Q: Evidence<Shard<K, V, A>> + OwnerEvidence<Shard<K, V, A>>,
+    A: Allocator,
+>: Sized {
     /// The locks and the hasher of a map.
     ghost seen: { Self → Locked Q S };
 
@@ -42,6 +49,7 @@ pub trait CloneMap<K: Eq + Hash, V, S: BuildHasher, Q: RawRwLock, A: Allocator>:
         requires hasher { (hasher copy : S) → S.is_clone hasher copy → copy ≡ hasher }
         ensures made { IfOk result
             (λ m. (length (seen m).locks ≡ length (seen self.now).locks) × ((seen m).hasher ≡ (seen self.now).hasher)) }
+        ensures put { IfOk result (λ m. IsCloneOfMap Q.showed Q.put K.eq (seen self.now) (seen m)) }
         ensures refused { IfErr result (λ fault. (fault ≡ MapFault.TableFull) ⊎ (fault ≡ MapFault.NoMemory)) };
 }
 
@@ -114,7 +122,7 @@ pub(crate) fn map_of<
     K: Eq + Hash + Drop,
     V: Drop,
     S: BuildHasher + Drop,
-    Q: RawRwLock + MakeLock<T> + Drop,
+    Q: RawRwLock + MakeLock<T> + OwnerEvidence<Shard<K, V, A>> + Drop,
     A: Allocator + Clone,
     T: Copy,
 >(shards: Vec<Shard<K, V, A>, A>, hasher: S, table: T) -> Result<Unlocked<K, V, S, Q, A>, MapFault>
@@ -140,7 +148,7 @@ pub fn clone_unlocked<
     K: Eq + Hash + Clone + Drop,
     V: Clone + Drop,
     S: BuildHasher + Clone + Drop,
-    Q: Evidence<Shard<K, V, A>> + MakeLock<T> + Drop,
+    Q: Evidence<Shard<K, V, A>> + OwnerEvidence<Shard<K, V, A>> + MakeLock<T> + Drop,
     A: Allocator + Clone,
     T: Copy,
 >(
@@ -169,7 +177,7 @@ impl<
     K: Eq + Hash + Drop,
     V: Drop,
     S: BuildHasher + Drop,
-    Q: RawRwLock + Drop,
+    Q: Evidence<Shard<K, V, A>> + OwnerEvidence<Shard<K, V, A>> + Drop,
     A: Allocator + Clone,
 > CloneMap<K, V, S, Q, A> for DashMap<K, V, S, Q, A> {
     ghost seen = { λ map. map };

@@ -8,7 +8,8 @@ ghost use Rattle.dashmap_view.specs.Clones.{IsCloneOf};
 use crate::ReadOnlyView;
 use crate::clones::map::map_of;
 use crate::clones::rows::fault_without_memory;
-use dashmap_table::MapFault;
+use dashmap_map::owner::OwnerEvidence;
+use dashmap_table::{MapFault, Shard};
 use lock_api_raw::{MakeLock, RawRwLock};
 use std::alloc::Allocator;
 use std::hash::{BuildHasher, Hash};
@@ -46,7 +47,7 @@ impl<
     K: Eq + Hash + Drop,
     V: Drop,
     S: BuildHasher + Drop,
-    Q: RawRwLock + Drop,
+    Q: RawRwLock + OwnerEvidence<Shard<K, V, A>> + Drop,
     A: Allocator + Clone,
 > CloneView<K, V, S, Q> for ReadOnlyView<K, V, S, Q, A> {
     ghost opened = { λ view. view };

@@ -1,15 +1,20 @@
 //! The parallel forms of a set: those that are begun on a shared set, and those of its one owner.
-ghost use Rattle.std.specs.Prelude.{◌≡◌, ◌^◌, ◌<◌, ◌↔◌, ◌++◌, ◌∷◌, List, length, Err, IfOk, IfErr, MatchResult};
+ghost use Rattle.std.specs.Prelude.{◌≡◌, ◌^◌, ◌<◌, ◌↔◌, ◌++◌, ◌∷◌, List, length, Err, IfOk, IfErr, OnOk};
+ghost use Rattle.std.specs.Prelude.{MatchResult};
+ghost use Rattle.std.specs.List.{All};
 ghost use Rattle.std.specs.Int.{IsNextPowerOfTwo};
 ghost use Rattle.dashmap_table.specs.Route.{wanted_shards};
 ghost use Rattle.dashmap_table.specs.declared.fault.MapFault.{MapFault};
+ghost use Rattle.dashmap_map.specs.Owner.{EachOf};
+ghost use Rattle.dashmap_set.specs.Owner.{KeyIsPut, KeyHadNoRoom};
 
 use super::lent::Iter;
 use super::owned::OwningIter;
 use crate::set::DashSet;
+use dashmap_map::owner::OwnerEvidence;
 use dashmap_parallel::{NoThreadData, ParallelMap};
 use dashmap_plain::Plain;
-use dashmap_table::MapFault;
+use dashmap_table::{MapFault, Shard};
 use lock_api_raw::{MakeLock, RawRwLock};
 use std::alloc::Allocator;
 use std::hash::{BuildHasher, Hash};
@@ -34,7 +39,12 @@ impl<K: Eq + Hash, S: BuildHasher, Q: RawRwLock, A: Allocator> DashSet<K, S, Q, 
     }
 }
 
-impl<K: Eq + Hash + Drop, S: BuildHasher + Drop, Q: Drop, A: Allocator> DashSet<K, S, Q, A> {
+impl<
+    K: Eq + Hash + Drop,
+    S: BuildHasher + Drop,
+    Q: OwnerEvidence<Shard<K, (), A>> + Drop,
+    A: Allocator,
+> DashSet<K, S, Q, A> {
     /// All keys by value: the keys of one shard are one piece of work, and shards go side by side. The locks go; their
     /// rows stay used. Nothing waits for a lock.
     ///
@@ -42,14 +52,20 @@ impl<K: Eq + Hash + Drop, S: BuildHasher + Drop, Q: Drop, A: Allocator> DashSet<
     /// set.into_par_iter().for_each(&rt, |name| ..);
     /// ```
     pub fn into_par_iter(self) -> OwningIter<K, A>
-        ensures { length result ≡ length self.locks }
+        ensures amount { length result ≡ length self.locks }
+        ensures taken { EachOf Q.taken self.locks result }
     {
         let DashSet { inner } = self;
         OwningIter::of_pairs(Plain::into_par_iter(inner))
     }
 }
 
-impl<K: Eq + Hash + Drop, S: BuildHasher, Q, A: Allocator + Clone> DashSet<K, S, Q, A> {
+impl<
+    K: Eq + Hash + Drop,
+    S: BuildHasher,
+    Q: OwnerEvidence<Shard<K, (), A>>,
+    A: Allocator + Clone,
+> DashSet<K, S, Q, A> {
     /// Puts keys in, as `extend` does, in the order in which they are handed in. The first one that is refused comes
     /// back: the keys before it stay, and those behind it are let go.
     ///
@@ -57,20 +73,24 @@ impl<K: Eq + Hash + Drop, S: BuildHasher, Q, A: Allocator + Clone> DashSet<K, S,
     /// set.par_extend(names)?; // a `Vec`
     /// ```
     pub fn par_extend(&mut self, keys: Vec<K, A>) -> Result<(), K>
+        ensures all { OnOk result
+            (All (KeyIsPut Q.taken Q.put S.BuildHasher S.Hasher.Hasher K.hash_input K.eq self.old) keys.items) }
         ensures refused { IfErr result
-            (λ back. (before : List K) × (rest : List K) × (keys.items ≡ before ++ back ∷ rest)) }
+            (λ back. (before : List K) × (rest : List K) × (keys.items ≡ before ++ back ∷ rest)
+            × All (KeyIsPut Q.taken Q.put S.BuildHasher S.Hasher.Hasher K.hash_input K.eq self.old) before
+            × KeyHadNoRoom Q.taken Q.put S.BuildHasher S.Hasher.Hasher K.hash_input K.eq self.old back) }
         ensures locks { self.new ≡ self.old }
     {
         self.extend(keys.into_iter())
     }
 }
 
-impl<K: Eq + Hash + Drop, S: BuildHasher + Drop, Q: RawRwLock + Drop, A: Allocator + Clone> DashSet<
-    K,
-    S,
-    Q,
-    A,
-> {
+impl<
+    K: Eq + Hash + Drop,
+    S: BuildHasher + Drop,
+    Q: RawRwLock + OwnerEvidence<Shard<K, (), A>> + Drop,
+    A: Allocator + Clone,
+> DashSet<K, S, Q, A> {
     /// As `from_iter`, of keys in the order in which they are handed in.
     ///
     /// Refused as `BadShards`, `TableFull` or `NoMemory`, in this order.
@@ -89,6 +109,8 @@ impl<K: Eq + Hash + Drop, S: BuildHasher + Drop, Q: RawRwLock + Drop, A: Allocat
         Q: MakeLock<T>,
         ensures made { IfOk result (λ s. IsNextPowerOfTwo (wanted_shards parallelism) (length s.locks)
             × (s.hasher ≡ hasher)) }
+        ensures all { IfOk result
+            (λ s. All (KeyIsPut Q.taken Q.put S.BuildHasher S.Hasher.Hasher K.hash_input K.eq s) keys.items) }
         ensures bad_shards { (result ≡ Err MapFault.BadShards) ↔ (2 ^ 16 < wanted_shards parallelism) }
         ensures fits { ¬ (result ≡ Err MapFault.CapacityOverflow) }
     {

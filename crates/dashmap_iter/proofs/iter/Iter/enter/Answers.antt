@@ -7,6 +7,7 @@ returns-clause-entered g c =
     record {
       guard = guard;
       taken = c.in_ok-shared.ensures.taken;
+      shown = c.in_ok-shared.ensures.shown;
       sound = c.in_ok-shared.ensures.sound;
       after = c.keep.ensures
           ∙ ap (λ w. record { locks = w.locks; next = w.next + 1; held = Some guard; from = 0; failed = w.failed })

@@ -7,6 +7,7 @@ returns g c =
     record {
       guard = guard;
       taken = c.hold_next-guard.ensures.taken;
+      shown = c.hold_next-guard.ensures.seen;
       sound = c.hold_next-guard.ensures.sound;
       after = c.keep.ensures
           ∙ ap (λ w. record { locks = w.locks; next = w.next + 1; held = Some guard; from = 0; failed = w.failed })
