@@ -1,21 +1,50 @@
 //! What a try found, and small things.
 
 use dashmap_guard::{SharedValue, TryResult, map_in_place_2, ptr_size_bits};
+use std::alloc::Global;
 use std::test::Fail;
+
+/// What three questions answer: whether it is present, absent, locked.
+fn asked(found: &TryResult<u64>) -> (bool, bool, bool) {
+    (found.is_present(), found.is_absent(), found.is_locked())
+}
+
+/// Whether a try that found something, nothing or a held shard says so, is printed so and gives this.
+fn tells(
+    alloc: Global,
+    found: TryResult<u64>,
+    wanted: (bool, bool, bool),
+    text: &str,
+    value: Option<u64>,
+) -> Result<bool, Fail> {
+    let told = format!(in alloc; "{found:?}")?;
+    let right = asked(&found) == wanted && told.as_str() == text;
+    Ok(right && found.try_unwrap() == value)
+}
 
 #[test]
 fn a_try_tells_what_it_found(rt: HostRuntime) -> Result<(), Fail> {
-    let present: TryResult<u64> = TryResult::Present(5);
-    let absent: TryResult<u64> = TryResult::Absent;
-    let locked: TryResult<u64> = TryResult::Locked;
-    assert!(rt; present.is_present() & !present.is_absent() & !present.is_locked());
-    assert!(rt; absent.is_absent() & !absent.is_present() & !absent.is_locked());
-    assert!(rt; locked.is_locked() & !locked.is_present() & !locked.is_absent());
-    let told = format!(in rt.alloc(); "{present:?} {absent:?} {locked:?}")?;
-    assert!(rt; told.as_str() == "Present(5) Absent Locked");
-    assert!(rt; present.try_unwrap() == Some(5));
-    assert!(rt; absent.try_unwrap().is_none());
-    assert!(rt; locked.try_unwrap().is_none());
+    let alloc = rt.alloc();
+    let present = TryResult::Present(5);
+    assert!(rt; tells(alloc, present, (true, false, false), "Present(5)", Some(5))?);
+    assert!(rt;
+        tells(
+            alloc,
+            TryResult::Absent,
+            (false, true, false),
+            "Absent",
+            None
+        )?
+    );
+    assert!(rt;
+        tells(
+            alloc,
+            TryResult::Locked,
+            (false, false, true),
+            "Locked",
+            None
+        )?
+    );
     assert!(rt; TryResult::Present(7u64).unwrap() == 7);
     Ok(())
 }

@@ -24,6 +24,8 @@ mod parts;
 #[cfg(test)]
 mod pieces;
 #[cfg(test)]
+mod plain;
+#[cfg(test)]
 mod set_forms;
 #[cfg(test)]
 mod set_making;
