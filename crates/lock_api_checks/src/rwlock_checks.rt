@@ -11,7 +11,7 @@ use lock_api_mutex_checks::guard_checks::{
     reads_step_by_step, shows, unlocks_for_a_while, writes,
 };
 use lock_api_mutex_checks::raw_checks::TURNS;
-use lock_api_mutex_checks::{Look, Seen, Wrong, expect, expect_all, is_free, is_read};
+use lock_api_mutex_checks::{Look, Seen, Wrong, expect, expect_all, first_wrong, is_free, is_read};
 use lock_api_raw::{MakeLock, RawRwLock, RawRwLockDowngrade, RawRwLockFair};
 use std::alloc::Allocator;
 use std::sync::Wait;
@@ -384,7 +384,7 @@ where
     expect(lock.into_inner() == 2_000, "two threads add up to 2,000")
 }
 
-/// Each check here, one after the other: the first that finds something wrong says so.
+/// Each check here, one after the other. Where some find something wrong, the first says so.
 pub fn all<
     R: RawRwLockFair + RawRwLockDowngrade + MakeLock<S> + Drop + Sync,
     T: Threads + Sync,
@@ -396,15 +396,17 @@ where
     R::Party: Send,
     R::Runtime: Wait,
 {
-    admits_readers_or_a_writer::<R, S>(source, one)?;
-    counts_its_readers::<R, S>(source, one)?;
-    keeps_its_value::<R, S>(source, one)?;
-    unlocks_a_writer::<R, S>(source, one)?;
-    unlocks_a_reader::<R, S>(source, one)?;
-    downgrades::<R, S>(source, one)?;
-    narrows_a_writer::<R, S>(source, one)?;
-    narrows_a_reader::<R, S>(source, one)?;
-    prints::<R, A, S>(alloc, source, one)?;
-    prints_parts::<R, A, S>(alloc, source, one)?;
-    excludes::<R, T, S>(rt, source, one, other)
+    first_wrong(&[
+        admits_readers_or_a_writer::<R, S>(source, one),
+        counts_its_readers::<R, S>(source, one),
+        keeps_its_value::<R, S>(source, one),
+        unlocks_a_writer::<R, S>(source, one),
+        unlocks_a_reader::<R, S>(source, one),
+        downgrades::<R, S>(source, one),
+        narrows_a_writer::<R, S>(source, one),
+        narrows_a_reader::<R, S>(source, one),
+        prints::<R, A, S>(alloc, source, one),
+        prints_parts::<R, A, S>(alloc, source, one),
+        excludes::<R, T, S>(rt, source, one, other),
+    ])
 }

@@ -9,6 +9,7 @@ use std::process::Abort;
 /// A call that is told what it sees, and asks for what is to be done then.
 pub trait Call: Copy {
     type Seen;
+
     type Asked;
 
     /// Whether it asks for that, told this.
@@ -17,6 +18,7 @@ pub trait Call: Copy {
 
 impl Call for MutexCore {
     type Seen = ActResult;
+
     type Asked = Act;
 
     fn asks(&mut self, seen: &ActResult, asked: &Act) -> bool {
@@ -26,6 +28,7 @@ impl Call for MutexCore {
 
 impl Call for RwCore {
     type Seen = ActResult;
+
     type Asked = Act;
 
     fn asks(&mut self, seen: &ActResult, asked: &Act) -> bool {
@@ -35,6 +38,7 @@ impl Call for RwCore {
 
 impl Call for UpgradeCore {
     type Seen = ActResult;
+
     type Asked = Act;
 
     fn asks(&mut self, seen: &ActResult, asked: &Act) -> bool {
@@ -44,6 +48,7 @@ impl Call for UpgradeCore {
 
 impl Call for TimedRwCore {
     type Seen = TimedSeen;
+
     type Asked = TimedAct;
 
     fn asks(&mut self, seen: &TimedSeen, asked: &TimedAct) -> bool {

@@ -1,56 +1,19 @@
 //! The checks of the mutex, on the raw mutex of the tests.
 
-use lock_api_checks::{mutex_checks, raw_checks};
+use lock_api_checks::{first_wrong, mutex_checks, raw_checks};
 use lock_api_spin::PackedMutex;
 use std::test::Fail;
 
 type Raw = PackedMutex<HostRuntime>;
 
 #[test]
-fn a_mutex_admits_one(rt: HostRuntime) -> Result<(), Fail> {
-    mutex_checks::admits_one::<Raw, _>(rt, &mut 1)?;
-    Ok(())
-}
-
-#[test]
-fn a_mutex_keeps_its_value(rt: HostRuntime) -> Result<(), Fail> {
-    mutex_checks::keeps_its_value::<Raw, _>(rt, &mut 1)?;
-    Ok(())
-}
-
-#[test]
-fn a_timed_lock_gives_up(rt: HostRuntime) -> Result<(), Fail> {
-    mutex_checks::gives_up_in_time::<Raw, HostRuntime, _>(rt, &rt, &mut 1)?;
-    Ok(())
-}
-
-#[test]
-fn a_guard_unlocks_for_a_while(rt: HostRuntime) -> Result<(), Fail> {
-    mutex_checks::unlocks_for_a_while::<Raw, _>(rt, &mut 1)?;
-    Ok(())
-}
-
-#[test]
-fn a_guard_is_narrowed(rt: HostRuntime) -> Result<(), Fail> {
-    mutex_checks::narrows::<Raw, _>(rt, &mut 1)?;
-    Ok(())
-}
-
-#[test]
-fn mutexes_and_guards_print(rt: HostRuntime) -> Result<(), Fail> {
-    mutex_checks::prints::<Raw, _, _>(rt.alloc(), rt, &mut 1)?;
-    Ok(())
-}
-
-#[test]
-fn a_guard_owns_an_arc(rt: HostRuntime) -> Result<(), Fail> {
-    mutex_checks::owns_an_arc::<Raw, _, _>(rt.alloc(), rt, &mut 1)?;
-    Ok(())
-}
-
-#[test]
-fn two_threads_take_turns(rt: HostRuntime) -> Result<(), Fail> {
-    raw_checks::a_mutex_excludes::<Raw, _, _>(&rt, rt, &mut 1, &mut 2)?;
-    mutex_checks::excludes::<Raw, HostRuntime, _>(&rt, rt, &mut 1, &mut 2)?;
+fn a_mutex_does_as_it_must(rt: HostRuntime) -> Result<(), Fail> {
+    let mut one = 1;
+    let mut other = 2;
+    first_wrong(&[
+        mutex_checks::all::<Raw, _, _, _>(&rt, rt.alloc(), rt, &mut one, &mut other),
+        mutex_checks::gives_up_in_time::<Raw, HostRuntime, _>(rt, &rt, &mut one),
+        raw_checks::a_mutex_excludes::<Raw, _, _>(&rt, rt, &mut one, &mut other),
+    ])?;
     Ok(())
 }
