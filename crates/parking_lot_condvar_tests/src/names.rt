@@ -3,7 +3,7 @@
 
 use lock_api::{Guard, Mapped};
 use lock_api_guards::{Hold, Lender, LenderMut};
-use lock_api_raw::{GetThreadId as _, MakeLock as _};
+use lock_api_raw::{GetThreadId as _, MakeLock as _, RawRwLockUpgrade};
 use parking_lot::{
     Condvar, FairMutex, FairMutexGuard, First, LockTable, MappedFairMutexGuard, MappedMutexGuard,
     MappedRecursiveRwLockReadGuard, MappedRecursiveRwLockWriteGuard, MappedReentrantMutexGuard,
@@ -14,6 +14,7 @@ use parking_lot::{
     RwLockWriteGuard, WaitTimeoutResult,
 };
 use parking_lot_core::{ParkingLot, ThreadData};
+use std::process::Abort;
 use std::sync::Wait;
 use std::test::Fail;
 use std::time::{Clock, Duration};
@@ -63,32 +64,29 @@ where
 }
 
 /// The guard, narrowed to the first number.
-fn narrowed<'m, 't, 'l, R: Wait>(
+pub fn narrowed<'m, 't, 'l, R: Wait>(
     guard: MutexGuard<'m, 't, 'l, Two, R>,
 ) -> MappedMutexGuard<'m, 't, 'l, Two, First, R> {
-    Guard::map(written(guard), First)
-}
-
-/// A mutex is taken and given back.
-fn is_mutex_taken<R: Wait>(mutex: Mutex<'_, '_, Two, R>, me: &mut ThreadData) -> bool {
-    let changed = changes_first(
-        narrowed(mutex.lock(me)),
-        &|| { mutex.is_locked() & mutex.try_lock().is_none() },
-    );
-    changed & !mutex.is_locked() & (mutex.into_inner() == (5, 6))
+    Guard::map(guard, First)
 }
 
 /// The same of a fair one.
-fn fairly_narrowed<'m, 't, 'l, R: Wait>(
+pub fn fairly_narrowed<'m, 't, 'l, R: Wait>(
     guard: FairMutexGuard<'m, 't, 'l, Two, R>,
 ) -> MappedFairMutexGuard<'m, 't, 'l, Two, First, R> {
-    Guard::map(written(guard), First)
+    Guard::map(guard, First)
 }
 
-/// A fair mutex is taken and given back.
-fn is_fair_mutex_taken<R: Wait>(mutex: FairMutex<'_, '_, Two, R>, me: &mut ThreadData) -> bool {
+/// A mutex of any kind is taken and given back.
+fn is_mutex_taken<M: lock_api_raw::RawMutex + Drop>(
+    mutex: lock_api::Mutex<M, Two>,
+    me: &mut M::Party,
+) -> bool
+where
+    M::Runtime: Wait,
+{
     let changed = changes_first(
-        fairly_narrowed(mutex.lock(me)),
+        Guard::map(written(mutex.lock(me)), First),
         &|| { mutex.is_locked() & mutex.try_lock().is_none() },
     );
     changed & !mutex.is_locked() & (mutex.into_inner() == (5, 6))
@@ -115,79 +113,108 @@ fn is_taken_twice<R: Wait>(mutex: &ReentrantMutex<'_, '_, Two, R>, me: &mut Thre
 }
 
 /// The guard that reads, narrowed to the first number.
-fn narrowed_reader<'m, 't, 'l, R: Wait>(
+pub fn narrowed_reader<'m, 't, 'l, R: Wait>(
     guard: RwLockReadGuard<'m, 't, 'l, Two, R>,
 ) -> MappedRwLockReadGuard<'m, 't, 'l, Two, First, R> {
     Guard::map(guard, First)
 }
 
 /// The guard that writes, narrowed to the first number.
-fn narrowed_writer<'m, 't, 'l, R: Wait>(
+pub fn narrowed_writer<'m, 't, 'l, R: Wait>(
     guard: RwLockWriteGuard<'m, 't, 'l, Two, R>,
 ) -> MappedRwLockWriteGuard<'m, 't, 'l, Two, First, R> {
     Guard::map(guard, First)
 }
 
-/// An upgradable guard.
-fn upgradable<'m, 't, 'l, R: Wait>(
-    lock: &'m RwLock<'t, 'l, Two, R>,
-    me: &mut ThreadData,
-) -> RwLockUpgradableReadGuard<'m, 't, 'l, Two, R> {
-    lock.upgradable_read(me)
-}
-
-/// A reader-writer lock is written, then read and reviewed, and given back. Its word lies in the row.
-fn is_read_and_written<R: Wait>(
-    lock: RwLock<'_, '_, Two, R>,
-    table: &LockTable<'_, R>,
-    row: usize,
-    me: &mut ThreadData,
-) -> bool {
-    let write = narrowed_writer(lock.write(me));
-    let changed = changes_first(write, &|| table.word(row) == Some(8));
-    let review = upgradable(&lock, me);
-    let read = narrowed_reader(lock.read(me));
-    let are_read = read_together(&review, read, (5, 2), &|| table.word(row) == Some(36));
-    drop(review);
-    changed & are_read & !lock.is_locked() & (lock.into_inner() == (5, 2))
-}
-
 /// The guard of a recursive lock that reads, narrowed to the first number.
-fn recursive_narrowed_reader<'m, 't, 'l, R: Wait>(
+pub fn recursive_narrowed_reader<'m, 't, 'l, R: Wait>(
     guard: RecursiveRwLockReadGuard<'m, 't, 'l, Two, R>,
 ) -> MappedRecursiveRwLockReadGuard<'m, 't, 'l, Two, First, R> {
     Guard::map(guard, First)
 }
 
 /// The guard of a recursive lock that writes, narrowed to the first number.
-fn recursive_narrowed_writer<'m, 't, 'l, R: Wait>(
+pub fn recursive_narrowed_writer<'m, 't, 'l, R: Wait>(
     guard: RecursiveRwLockWriteGuard<'m, 't, 'l, Two, R>,
 ) -> MappedRecursiveRwLockWriteGuard<'m, 't, 'l, Two, First, R> {
     Guard::map(guard, First)
 }
 
-/// An upgradable guard of a recursive lock.
-fn recursive_upgradable<'m, 't, 'l, R: Wait>(
+/// An upgradable guard of either lock.
+pub fn upgradable<'m, 't, 'l, R: Wait>(
+    lock: &'m RwLock<'t, 'l, Two, R>,
+    me: &mut ThreadData,
+) -> RwLockUpgradableReadGuard<'m, 't, 'l, Two, R> {
+    lock.upgradable_read(me)
+}
+
+pub fn recursive_upgradable<'m, 't, 'l, R: Wait>(
     lock: &'m RecursiveRwLock<'t, 'l, Two, R>,
     me: &mut ThreadData,
 ) -> RecursiveRwLockUpgradableReadGuard<'m, 't, 'l, Two, R> {
     lock.upgradable_read(me)
 }
 
-/// A recursive lock is written, then read and reviewed, and given back. Its word lies in the row.
-fn is_recursive_read_and_written<R: Wait>(
-    lock: RecursiveRwLock<'_, '_, Two, R>,
+/// A reader-writer lock of either kind is written, then read and reviewed, and given back. Its word lies in the row.
+fn is_read_and_written<L: RawRwLockUpgrade + Drop, R>(
+    lock: lock_api::RwLock<L, Two>,
     table: &LockTable<'_, R>,
     row: usize,
-    me: &mut ThreadData,
-) -> bool {
-    let write = recursive_narrowed_writer(lock.write(me));
+    me: &mut L::Party,
+) -> bool
+where
+    L::Runtime: Wait,
+{
+    let write = Guard::map(lock.write(me), First);
     let changed = changes_first(write, &|| table.word(row) == Some(8));
-    let review = recursive_upgradable(&lock, me);
-    let read = recursive_narrowed_reader(lock.read(me));
+    let review = lock.upgradable_read(me);
+    let read = Guard::map(lock.read(me), First);
     let are_read = read_together(&review, read, (5, 2), &|| table.word(row) == Some(36));
     drop(review);
     changed & are_read & !lock.is_locked() & (lock.into_inner() == (5, 2))
+}
+
+/// A mutex and a fair one on the next rows are taken and given back.
+fn are_mutexes_taken<R: Wait + Drop>(
+    rows: &LockTable<'_, R>,
+    me: &mut ThreadData,
+) -> Result<(bool, bool), Fail> {
+    let plain: Mutex<'_, '_, Two, R> = Mutex::new(rows, (1, 2))?;
+    let is_plain = is_mutex_taken(plain, me);
+    let fair: FairMutex<'_, '_, Two, R> = FairMutex::new(rows, (1, 2))?;
+    Ok((is_plain, is_mutex_taken(fair, me)))
+}
+
+/// The same of locks on rows 2 and 3.
+fn is_lock_taken<R: Wait + Drop>(
+    rows: &LockTable<'_, R>,
+    me: &mut ThreadData,
+) -> Result<bool, Fail> {
+    let lock: RwLock<'_, '_, Two, R> = RwLock::new(rows, 4, (1, 2))?;
+    Ok(is_read_and_written(lock, rows, 2, me))
+}
+
+fn is_recursive_lock_taken<R: Wait + Drop>(
+    rows: &LockTable<'_, R>,
+    me: &mut ThreadData,
+) -> Result<bool, Fail> {
+    let lock: RecursiveRwLock<'_, '_, Two, R> = RecursiveRwLock::new(rows, 4, (1, 2))?;
+    Ok(is_read_and_written(lock, rows, 3, me))
+}
+
+/// The same of a reentrant mutex, which keeps its value.
+fn is_reentrant_taken<R: Wait + Drop>(
+    rows: &LockTable<'_, R>,
+    me: &mut ThreadData,
+) -> Result<bool, Fail> {
+    let nested: ReentrantMutex<'_, '_, Two, R> = ReentrantMutex::new(rows, 2, (1, 2))?;
+    let is_taken = is_taken_twice(&nested, me);
+    Ok(is_taken & (nested.into_inner() == (1, 2)))
+}
+
+/// Looks whether it is so.
+fn expect(rt: &impl Abort, so: bool, what: &str) {
+    assert!(rt; so, "{what}");
 }
 
 #[test]
@@ -195,30 +222,22 @@ fn locks_are_taken_and_given_back(rt: HostRuntime) -> Result<(), Fail> {
     let lot = ParkingLot::new(rt, rt.alloc(), 1, 7)?;
     let mut me = lot.thread_data()?;
     let table = LockTable::new(rt.alloc(), &lot, 5)?;
-    let rows = &table;
-    assert!(rt;
-        is_mutex_taken(Mutex::new(rows, (1, 2))?, &mut me),
-        "the mutex"
+    let (is_plain, is_fair) = are_mutexes_taken(&table, &mut me)?;
+    expect(&rt, is_plain, "the mutex");
+    expect(&rt, is_fair, "the fair mutex");
+    expect(&rt, is_lock_taken(&table, &mut me)?, "the lock");
+    expect(
+        &rt,
+        is_recursive_lock_taken(&table, &mut me)?,
+        "the recursive lock",
     );
-    assert!(rt;
-        is_fair_mutex_taken(FairMutex::new(rows, (1, 2))?, &mut me),
-        "the fair mutex"
-    );
-    let lock = RwLock::new(rows, 4, (1, 2))?;
-    assert!(rt; is_read_and_written(lock, rows, 2, &mut me), "the lock");
-    let lock = RecursiveRwLock::new(rows, 4, (1, 2))?;
-    assert!(rt;
-        is_recursive_read_and_written(lock, rows, 3, &mut me),
-        "the recursive lock"
-    );
-    let nested = ReentrantMutex::new(rows, 2, (1, 2))?;
-    assert!(rt; is_taken_twice(&nested, &mut me), "the reentrant mutex");
-    assert!(rt;
-        nested.into_inner() == (1, 2),
-        "the reentrant mutex in the end"
+    expect(
+        &rt,
+        is_reentrant_taken(&table, &mut me)?,
+        "the reentrant mutex",
     );
     for row in 0..5 {
-        assert!(rt; table.word(row) == Some(0), "row {row}");
+        expect(&rt, table.word(row) == Some(0), "the words in the end");
     }
     Ok(())
 }
@@ -270,34 +289,76 @@ fn fails<R: Wait>(
     (ended, once.wait(me))
 }
 
+/// Raw mutexes on the next rows are taken and given back.
+fn are_raw_mutexes_taken<R: Wait + Drop>(
+    rows: &LockTable<'_, R>,
+    me: &mut ThreadData,
+) -> Result<bool, Fail> {
+    let plain: RawMutex<'_, '_, R> = RawMutex::new(rows, 1)?;
+    let fair: RawFairMutex<'_, '_, R> = RawFairMutex::new(rows, 1)?;
+    Ok(is_taken(&plain, me) & is_taken(&fair, me))
+}
+
+/// The same of raw reader-writer locks.
+fn are_raw_locks_taken<R: Wait + Drop>(
+    rows: &LockTable<'_, R>,
+    me: &mut ThreadData,
+) -> Result<bool, Fail> {
+    let lock: RawRwLock<'_, '_, R, 0> = RawRwLock::new(rows, 1)?;
+    let recursive: RawRwLockRecursive<'_, '_, R> = RawRwLockRecursive::new(rows, 1)?;
+    Ok(is_taken_by_each(&lock, me) & is_taken_by_each(&recursive, me))
+}
+
+/// A wait of which nobody is told runs out.
+fn runs_out<R: Wait + Clock + Drop>(
+    rt: &R,
+    rows: &LockTable<'_, R>,
+    me: &mut ThreadData,
+) -> Result<bool, Fail> {
+    let condvar: Condvar<'_, '_, R> = Condvar::new(rows)?;
+    let mutex: Mutex<'_, '_, u64, R> = Mutex::new(rows, 0)?;
+    let ran_out = match waits(rt, &condvar, &mutex, me) {
+        Some(result) => result.timed_out(),
+        None => false,
+    };
+    Ok(ran_out & !condvar.notify_one() & !mutex.is_locked())
+}
+
+/// A once that failed is poisoned, until a forced call ends well.
+fn is_poisoned_and_mended<R: Wait + Drop>(
+    rows: &LockTable<'_, R>,
+    me: &mut ThreadData,
+) -> Result<bool, Fail> {
+    let once: Once<'_, '_, R> = Once::new(rows)?;
+    let (ended, waited) = fails(&once, me);
+    let has_failed = matches!(ended, Err(OnceFault::Failed(5))) & (waited == Err(Poisoned));
+    let is_poisoned = once.state() == OnceState::Poisoned;
+    let is_run = once.call_once_force(me, |_before| Ok::<(), u8>(())).is_ok();
+    Ok(has_failed & is_poisoned & is_run & (once.state() == OnceState::Done))
+}
+
 #[test]
 fn raw_locks_are_taken_and_what_stands_beside_them(rt: HostRuntime) -> Result<(), Fail> {
     let lot = ParkingLot::new(rt, rt.alloc(), 1, 7)?;
     let mut me = lot.thread_data()?;
     let table = LockTable::new(rt.alloc(), &lot, 7)?;
-    let rows = &table;
     let ids: RawThreadId = RawThreadId::new();
-    assert!(rt; ids.nonzero_thread_id(&me).get() == 1);
-    let plain: RawMutex<HostRuntime> = RawMutex::new(rows, 1)?;
-    let fair: RawFairMutex<HostRuntime> = RawFairMutex::new(rows, 1)?;
-    assert!(rt; is_taken(&plain, &mut me) & is_taken(&fair, &mut me));
-    let lock: RawRwLock<HostRuntime, 0> = RawRwLock::new(rows, 1)?;
-    let recursive: RawRwLockRecursive<HostRuntime> = RawRwLockRecursive::new(rows, 1)?;
-    assert!(rt; is_taken_by_each(&lock, &mut me) & is_taken_by_each(&recursive, &mut me));
-    let condvar: Condvar<HostRuntime> = Condvar::new(rows)?;
-    let mutex: Mutex<u64, HostRuntime> = Mutex::new(rows, 0)?;
-    let ran_out = match waits(&rt, &condvar, &mutex, &mut me) {
-        Some(result) => result.timed_out(),
-        None => false,
-    };
-    assert!(rt; ran_out & !condvar.notify_one() & !mutex.is_locked());
-    let once: Once<HostRuntime> = Once::new(rows)?;
-    let (ended, waited) = fails(&once, &mut me);
-    let has_failed = matches!(ended, Err(OnceFault::Failed(5))) & (waited == Err(Poisoned));
-    let is_poisoned = once.state() == OnceState::Poisoned;
-    let is_run = once
-        .call_once_force(&mut me, |_before| Ok::<(), u8>(()))
-        .is_ok();
-    assert!(rt; has_failed & is_poisoned & is_run & (once.state() == OnceState::Done));
+    expect(
+        &rt,
+        ids.nonzero_thread_id(&me).get() == 1,
+        "the thread's number",
+    );
+    expect(
+        &rt,
+        are_raw_mutexes_taken(&table, &mut me)?,
+        "the raw mutexes",
+    );
+    expect(&rt, are_raw_locks_taken(&table, &mut me)?, "the raw locks");
+    expect(
+        &rt,
+        runs_out(&rt, &table, &mut me)?,
+        "the condition variable",
+    );
+    expect(&rt, is_poisoned_and_mended(&table, &mut me)?, "the once");
     Ok(())
 }

@@ -43,43 +43,85 @@ fn admitted<R: Wait>(lot: &ParkingLot<R, &LocalHeap>) -> (usize, Option<LotFault
     (4, None)
 }
 
+/// Whether a registration was refused in a heap of that size, and its number was given out once there was memory.
+/// Answers none where all went well, or nothing did.
+fn refused_in<R: AllocGlobal>(rt: &R, size: usize) -> Result<Option<bool>, Fail> {
+    let heap = LocalHeap::new(rt.alloc(), size)?;
+    match Box::new(&heap, [0u64; 40]) {
+        Ok(spare) => {
+            let lot = Lot::new(&heap, 5, 7)?;
+            Ok(registers_again(lot, spare))
+        }
+        Err(_) => Ok(None),
+    }
+}
+
+/// The same of a lot, with what is given back to its heap before the second registration.
+fn registers_again<'h>(
+    mut lot: Lot<&'h LocalHeap>,
+    spare: Box<[u64; 40], &'h LocalHeap>,
+) -> Option<bool> {
+    let (count, fault) = registered(&mut lot);
+    if count == 4 {
+        return None;
+    }
+    let is_free = lot.status(count).is_none();
+    drop(spare);
+    Some((fault == Some(LotFault::NoMemory)) & is_free & (lot.register() == Ok(count)))
+}
+
 #[test]
 fn a_refused_registration_leaves_the_number_free(rt: HostRuntime) -> Result<(), Fail> {
     let mut refused = false;
     for size in 0..60 {
-        let heap = LocalHeap::new(rt.alloc(), size * 16)?;
-        let Ok(spare) = Box::new(&heap, [0u64; 40]) else {
-            continue;
-        };
-        let mut lot = Lot::new(&heap, 5, 7)?;
-        let (count, fault) = registered(&mut lot);
-        if count < 4 {
+        if let Some(right) = refused_in(&rt, size * 16)? {
             refused = true;
-            let is_free = lot.status(count).is_none();
-            drop(spare);
-            let again = lot.register();
-            assert!(rt; (fault == Some(LotFault::NoMemory)) & is_free & (again == Ok(count)));
+            assert!(rt; right);
         }
     }
     assert!(rt; refused);
     Ok(())
 }
 
+/// As `refused_in`, of a participant.
+fn not_admitted_in<R: Wait + AllocGlobal + Copy + Drop>(
+    rt: &R,
+    size: usize,
+) -> Result<Option<bool>, Fail> {
+    let heap = LocalHeap::new(rt.alloc(), size)?;
+    match Box::new(&heap, [0u64; 80]) {
+        Ok(spare) => {
+            let lot = ParkingLot::new(*rt, &heap, 5, 7)?;
+            Ok(admits_again(&lot, spare))
+        }
+        Err(_) => Ok(None),
+    }
+}
+
+/// As `registers_again`, of a participant.
+fn admits_again<'h, R: Wait>(
+    lot: &ParkingLot<R, &'h LocalHeap>,
+    spare: Box<[u64; 80], &'h LocalHeap>,
+) -> Option<bool> {
+    let (count, fault) = admitted(lot);
+    if count == 4 {
+        return None;
+    }
+    drop(spare);
+    let again = match lot.thread_data() {
+        Ok(made) => made.thread_number() == count,
+        Err(_) => false,
+    };
+    Some((fault == Some(LotFault::NoMemory)) & again)
+}
+
 #[test]
 fn a_refused_participant_leaves_the_number_free(rt: HostRuntime) -> Result<(), Fail> {
     let mut refused = false;
     for size in 0..100 {
-        let heap = LocalHeap::new(rt.alloc(), size * 16)?;
-        let Ok(spare) = Box::new(&heap, [0u64; 80]) else {
-            continue;
-        };
-        let lot = ParkingLot::new(rt, &heap, 5, 7)?;
-        let (count, fault) = admitted(&lot);
-        if count < 4 {
+        if let Some(right) = not_admitted_in(&rt, size * 16)? {
             refused = true;
-            drop(spare);
-            let again = lot.thread_data()?.thread_number();
-            assert!(rt; (fault == Some(LotFault::NoMemory)) & (again == count));
+            assert!(rt; right);
         }
     }
     assert!(rt; refused);
