@@ -3,13 +3,15 @@ ghost use Rattle.std.specs.Prelude.{◌≡◌, Some, Ok, Err, MatchResult};
 ghost use Rattle.std.specs.Borrow.{Lends, sem};
 ghost use Rattle.std.specs.Fn.{FnOnceReturnsAtMut};
 ghost use Rattle.dashmap_table.specs.Slots.{entry_with};
-ghost use Rattle.dashmap_table.specs.Table.{Adds, Frees, with_value, with_pair};
+ghost use Rattle.dashmap_table.specs.Table.{Table, Adds, Frees, with_value, with_pair};
 ghost use Rattle.dashmap_guard.specs.Guarded.{pair_in, key_in, value_in};
 ghost use Rattle.dashmap_guard.specs.contracts.mapref.entry.OccupiedEntry as occupied;
 
 pub mod lookup;
 
+use crate::leaving::{LeavingEvidence, leave};
 use crate::mapref::one::RefMut;
+use crate::util::change;
 use dashmap_table::Shard;
 use lock_api_guards::{Guard, Hold, Lender, LenderMut};
 use std::alloc::Allocator;
@@ -18,17 +20,7 @@ use std::marker::{Model, PhantomData};
 use std::mem;
 use std::sync::Wait;
 
-/// Lets a closure change a value.
-fn change<T, F: FnOnce(&mut T)>(value: &mut T, f: F)
-    requires { F.IsAlwaysCallable f }
-    ensures { FnOnceReturnsAtMut F.FnOnce f value.old tt value.new }
-{
-    f(value)
-}
-
-/// An absent key, whose shard is held exclusively and has room for it.
-///
-/// Its drop releases the shard; the room stays.
+/// An absent key, whose shard is held exclusively and has room for it. Its drop releases the shard; the room stays.
 pub struct VacantEntry<
     K: Eq + Hash,
     V,
@@ -99,9 +91,12 @@ where
         &self.key
     }
 
-    /// Gives the key back and releases the shard.
+    /// Gives the key back and releases the shard, which stays as it is.
     pub fn into_key(self) -> K
-        ensures { result ≡ self.2 }
+    where
+        H: LeavingEvidence<Shard<K, V, A>>,
+        ensures key { result ≡ self.2 }
+        ensures left { H.left self.0.held.0 (W.part self.0.inner) }
     {
         let VacantEntry {
             guard,
@@ -109,7 +104,7 @@ where
             key,
             party: _,
         } = self;
-        drop(guard);
+        leave(guard);
         key
     }
 }
@@ -176,9 +171,7 @@ where
     }
 }
 
-/// A present key, whose shard is held exclusively, with the key that was handed in.
-///
-/// Its drop releases the shard.
+/// A present key, whose shard is held exclusively, with the key that was handed in. Its drop releases the shard.
 pub struct OccupiedEntry<
     K: Eq + Hash,
     V,
@@ -260,10 +253,14 @@ where
 
     /// Gives the key back that was handed in, and releases the shard. The pair stays.
     pub fn into_key(self) -> K
-        ensures { result ≡ self.1 }
+    where
+        H: LeavingEvidence<Shard<K, V, A>>,
+        ensures key { result ≡ self.1 }
+        ensures left { H.left self.0.0.held.0 (W.part self.0.0.inner) }
     {
         let OccupiedEntry { of, key } = self;
-        drop(of);
+        let (guard, _slot) = of.into_parts();
+        leave(guard);
         key
     }
 }
@@ -332,9 +329,12 @@ where
     pub fn remove_entry(self) -> (K, V)
     where
         K: Drop,
-        ensures { pair_in (W.part self.0.0.inner) self.0.1 ≡ Some result }
+        H: LeavingEvidence<Shard<K, V, A>>,
+        ensures pair { pair_in (W.part self.0.0.inner) self.0.1 ≡ Some result }
+        ensures left { (new : Table K V) × H.left self.0.0.held.0 new × Frees (W.part self.0.0.inner) new self.0.1 }
     {
-        let (_guard, pair) = self.take();
+        let (guard, pair) = self.take();
+        leave(guard);
         pair
     }
 
@@ -342,10 +342,11 @@ where
     pub fn remove(self) -> V
     where
         K: Drop,
-        ensures { value_in (W.part self.0.0.inner) self.0.1 ≡ Some result }
+        H: LeavingEvidence<Shard<K, V, A>>,
+        ensures value { value_in (W.part self.0.0.inner) self.0.1 ≡ Some result }
+        ensures left { (new : Table K V) × H.left self.0.0.held.0 new × Frees (W.part self.0.0.inner) new self.0.1 }
     {
-        let (_key, value) = self.remove_entry();
-        value
+        self.remove_entry().1
     }
 
     /// Stores the key that was handed in and the value, and answers the old pair with the guard of the shard.
@@ -370,9 +371,12 @@ where
     where
         K: Drop,
         V: Drop,
-        ensures { pair_in (W.part self.0.0.inner) self.0.1 ≡ Some result }
+        H: LeavingEvidence<Shard<K, V, A>>,
+        ensures pair { pair_in (W.part self.0.0.inner) self.0.1 ≡ Some result }
+        ensures left { H.left self.0.0.held.0 (with_pair (W.part self.0.0.inner) self.0.1 self.1 value) }
     {
-        let (_guard, pair) = self.put(value);
+        let (guard, pair) = self.put(value);
+        leave(guard);
         pair
     }
 }
@@ -419,9 +423,13 @@ where
         }
     }
 
-    /// The key that was handed in. The hold ends.
+    /// The key that was handed in. The hold ends, and its shard stays as it is.
     pub fn into_key(self) -> K
-        ensures { by_entry (λ o. result ≡ o.1) (λ v. result ≡ v.2) self }
+    where
+        H: LeavingEvidence<Shard<K, V, A>>,
+        ensures { by_entry
+            (λ o. (result ≡ o.1) × H.left o.0.0.held.0 (W.part o.0.0.inner))
+            (λ v. (result ≡ v.2) × H.left v.0.held.0 (W.part v.0.inner)) self }
     {
         match self {
             Entry::Occupied(entry) => entry.into_key(),
@@ -517,19 +525,24 @@ where
         self,
         f: F,
     ) -> Result<RefMut<K, V, A, W, H, D>, E>
+    where
+        H: LeavingEvidence<Shard<K, V, A>>,
         requires { F.IsAlwaysCallable f }
         ensures { by_entry
             (λ o. result ≡ Ok o.0)
             (λ v. MatchResult result
             (λ r. (value : V) × F.post f (Ok value) × Adds K.eq (W.part v.0.inner) (W.part r.0.inner)
             (entry_with v.1 v.2 value) r.1 × (r.0.held ≡ v.0.held))
-            (λ e. F.post f (Err e))) self }
+            (λ e. F.post f (Err e) × H.left v.0.held.0 (W.part v.0.inner))) self }
     {
         match self {
             Entry::Occupied(entry) => Ok(entry.into_ref()),
             Entry::Vacant(entry) => match f() {
                 Ok(value) => Ok(entry.insert(value)),
-                Err(error) => Err(error),
+                Err(error) => {
+                    let _key = entry.into_key();
+                    Err(error)
+                }
             },
         }
     }
