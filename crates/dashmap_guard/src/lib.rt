@@ -9,6 +9,7 @@
 //! the thread lent to the call, so that it can't ask again with the same while the guard lives.
 #![tactic(auto)]
 
+pub mod leaving;
 pub mod mapref;
 mod try_result;
 mod util;

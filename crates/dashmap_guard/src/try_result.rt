@@ -27,6 +27,10 @@ pub enum TryResult<R> {
 
 impl<R> TryResult<R> {
     /// Whether the key is there.
+    ///
+    /// ```text
+    /// if map.try_get(&7).is_present() { .. }   // the guard is gone again
+    /// ```
     pub fn is_present(&self) -> bool
         ensures { result ≡ is_present self.now }
     {
@@ -37,6 +41,10 @@ impl<R> TryResult<R> {
     }
 
     /// Whether the shard was had, and the key isn't there.
+    ///
+    /// ```text
+    /// if map.try_get(&7).is_absent() { .. }
+    /// ```
     pub fn is_absent(&self) -> bool
         ensures { result ≡ is_absent self.now }
     {
@@ -47,6 +55,10 @@ impl<R> TryResult<R> {
     }
 
     /// Whether the shard could not be had: another has it, or one of the thread's own guards.
+    ///
+    /// ```text
+    /// if map.try_get(&7).is_locked() { later.push(7); }
+    /// ```
     pub fn is_locked(&self) -> bool
         ensures { result ≡ is_locked self.now }
     {
@@ -57,6 +69,11 @@ impl<R> TryResult<R> {
     }
 
     /// What is there. It has to be there; [`try_unwrap`](TryResult::try_unwrap) asks for nothing.
+    ///
+    /// ```text
+    /// let found = map.try_get(&7);
+    /// if found.is_present() { sum = sum.wrapping_add(*found.unwrap()); }
+    /// ```
     pub fn unwrap(self) -> R
         requires { is_present self ≡ true }
         ensures { self ≡ Present result }

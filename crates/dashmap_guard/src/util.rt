@@ -1,6 +1,7 @@
 //! Small things that users of the map know.
 ghost use Rattle.std.specs.Prelude.{◌≡◌};
 ghost use Rattle.std.specs.Borrow.{Lends, sem};
+ghost use Rattle.std.specs.Fn.{FnOnceReturnsAtMut};
 ghost use Rattle.dashmap_guard.specs.contracts.util.SharedValue.{the_row};
 
 use core::mem;
@@ -66,4 +67,12 @@ pub fn map_in_place_2<T, U, F: FnOnce(U, T) -> T>(pair: (U, &mut T), f: F)
             ensures { F.post f first value result.0 }
         { (f(first, value), ()) },
     )
+}
+
+/// Lets a closure change a value.
+pub(crate) fn change<T, F: FnOnce(&mut T)>(value: &mut T, f: F)
+    requires { F.IsAlwaysCallable f }
+    ensures { FnOnceReturnsAtMut F.FnOnce f value.old tt value.new }
+{
+    f(value)
 }

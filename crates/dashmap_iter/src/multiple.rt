@@ -109,6 +109,10 @@ where
     }
 
     /// The stored key and the value.
+    ///
+    /// ```text
+    /// while let Some(Ok(item)) = walk.next() { let (key, value) = item.pair(); }
+    /// ```
     pub fn pair(&self) -> (&K, &V)
         ensures { pair_in (W.part self.now.0.inner) self.now.1 ≡ Some (result.0.now, result.1.now) }
     {
@@ -119,6 +123,10 @@ where
     }
 
     /// The stored key.
+    ///
+    /// ```text
+    /// if *item.key() == 7 { break; }
+    /// ```
     pub fn key(&self) -> &K
         ensures { key_in (W.part self.now.0.inner) self.now.1 ≡ Some result.now }
     {
@@ -127,6 +135,10 @@ where
     }
 
     /// The value.
+    ///
+    /// ```text
+    /// sum = sum.wrapping_add(*item.value());   // `*item` is the same
+    /// ```
     pub fn value(&self) -> &V
         ensures { value_in (W.part self.now.0.inner) self.now.1 ≡ Some result.now }
     {

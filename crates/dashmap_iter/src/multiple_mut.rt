@@ -87,6 +87,10 @@ where
     H::Runtime: Wait,
 {
     /// The stored key and the value.
+    ///
+    /// ```text
+    /// let (key, value) = item.pair();
+    /// ```
     pub fn pair(&self) -> (&K, &V)
         ensures { pair_held (λ g. W.part g.inner) self.now.walk.now.held self.now.slot ≡ Some
             (result.0.now, result.1.now) }
@@ -95,6 +99,10 @@ where
     }
 
     /// The stored key.
+    ///
+    /// ```text
+    /// if *item.key() == 7 { break; }
+    /// ```
     pub fn key(&self) -> &K
         ensures { option_map (λ p. p.0) (pair_held (λ g. W.part g.inner) self.now.walk.now.held self.now.slot) ≡ Some
             result.now }
@@ -104,6 +112,10 @@ where
     }
 
     /// The value.
+    ///
+    /// ```text
+    /// sum = sum.wrapping_add(*item.value());
+    /// ```
     pub fn value(&self) -> &V
         ensures { option_map (λ p. p.1) (pair_held (λ g. W.part g.inner) self.now.walk.now.held self.now.slot) ≡ Some
             result.now }
@@ -128,6 +140,11 @@ where
 
     /// The value for writing, beside the stored key. What is left there is what the item lends from then on, and no
     /// other pair changes.
+    ///
+    /// ```text
+    /// let (key, value) = item.pair_mut();
+    /// *value = value.wrapping_add(*key);
+    /// ```
     pub fn pair_mut(&mut self) -> (&K, &mut V)
         ensures* writes_back { sem 𝓛 (Lends (the_row (record { mir = named 1; lft = [] }) K.row V.row A.row W.row H.row L.row H.Lock.row
             H.Runtime.row H.Party.row H.Apart.row K.PartialEq (record { hash_input = K.hash_input }) A.Allocator
@@ -145,6 +162,10 @@ where
     }
 
     /// The value for writing.
+    ///
+    /// ```text
+    /// while let Some(mut item) = walk.next_mut() { *item.value_mut() = 0; }
+    /// ```
     pub fn value_mut(&mut self) -> &mut V
         ensures* writes_back { sem 𝓛 (Lends (the_row (record { mir = named 1; lft = [] }) K.row V.row A.row W.row H.row L.row H.Lock.row
             H.Runtime.row H.Party.row H.Apart.row K.PartialEq (record { hash_input = K.hash_input }) A.Allocator

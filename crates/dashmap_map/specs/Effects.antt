@@ -1,5 +1,5 @@
 -- What a call on one key answers of a shard that it holds, and what it leaves there.
-use Rattle.std.specs.Prelude.{◌≡◌, ℕ, ◌≤◌, Bool, true, Option, None, Some, Result, IfNone, IfSome, IfOk, OnOk, IfErr, ◌*◌}
+use Rattle.std.specs.Prelude.{◌≡◌, ℕ, ◌≤◌, Bool, Option, None, Some, Result, IfNone, IfSome, IfOk, OnOk, IfErr, ◌*◌}
 use Rattle.std.specs.Prelude.{MatchOption, MatchResult, if◌then◌else◌}
 use Rattle.std.specs.Borrow.{Bor, MutBor}
 use Rattle.std.specs.Fn.{Once}

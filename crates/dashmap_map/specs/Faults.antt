@@ -1,5 +1,5 @@
 -- What the refusals of the running map are called and numbered.
-use Rattle.std.specs.Prelude.{ℕ, List, codes, Result, Ok, Err, Option}
+use Rattle.std.specs.Prelude.{ℕ, List, codes, Result, Ok, Err}
 use Rattle.dashmap_table.specs.Faults.{map_fault_code, map_fault_name}
 use Rattle.dashmap_map.specs.declared.fault.NewFault.{NewFault}
 use Rattle.dashmap_map.specs.declared.fault.NewFault.TheVariants.{Map, NoRandom}

@@ -21,6 +21,10 @@ pub enum NewFault {
 
 impl NewFault {
     /// The number of the refusal.
+    ///
+    /// ```text
+    /// if let Err(fault) = made { return Err(fault.code()); }
+    /// ```
     pub fn code(&self) -> u16
         ensures { result ≡ new_fault_code self.now }
     {
@@ -69,6 +73,10 @@ pub enum UntilFault<P> {
 
 impl<P> UntilFault<P> {
     /// The number of the refusal.
+    ///
+    /// ```text
+    /// if let Err(fault) = map.insert_until(7, 70, soon, &clock, &mut me) { print(rt, fault.code())?; } // 35, or 99
+    /// ```
     pub fn code(&self) -> u16
         ensures { result ≡ until_code self.now }
     {
@@ -79,6 +87,10 @@ impl<P> UntilFault<P> {
     }
 
     /// What was handed in.
+    ///
+    /// ```text
+    /// let (key, value) = fault.into_inner();   // to be put in later
+    /// ```
     pub fn into_inner(self) -> P
         ensures { result ≡ until_pair self }
     {

@@ -42,6 +42,10 @@ impl<K: Eq + Hash, V, S: BuildHasher, Q, A: Allocator> Model for DashMap<K, V, S
 
 impl<K: Eq + Hash, V, S: BuildHasher, Q, A: Allocator> DashMap<K, V, S, Q, A> {
     /// Lends the hasher.
+    ///
+    /// ```text
+    /// let hash = map.hasher().hash_one(&7u64);
+    /// ```
     pub fn hasher(&self) -> &S
         ensures { result.now ≡ self.now.hasher }
     {
@@ -60,6 +64,10 @@ impl<K: Eq + Hash, V, S: BuildHasher, Q, A: Allocator> DashMap<K, V, S, Q, A> {
     }
 
     /// The number of the shard that a hash belongs to.
+    ///
+    /// ```text
+    /// let same = map.determine_shard(map.hash_usize(&7)) == map.determine_map(&7);   // true
+    /// ```
     pub fn determine_shard(&self, hash: usize) -> usize
         ensures value { result ≡ route_of hash (length self.now.locks) }
         ensures below { result < length self.now.locks }

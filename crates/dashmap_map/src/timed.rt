@@ -34,6 +34,17 @@ where
 {
     /// As `get`, but `Locked` where the wait for the key's shard is given up at the moment, by the clock that is handed
     /// in. It takes no memory.
+    ///
+    /// Blocks until the moment at most, but for the lot's short sections. A moment that has passed is looked at only
+    /// where the shard can't be had at once.
+    ///
+    /// ```text
+    /// match map.get_until(&7, soon, &clock, &mut me) {
+    ///     Ok(Some(guard)) => sum.wrapping_add(*guard),
+    ///     Ok(None) => sum,
+    ///     Err(Locked) => 0,                  // given up; nothing is held
+    /// }
+    /// ```
     pub fn get_until<'m, 'd, C: Clock>(
         &'m self,
         key: &K,
@@ -66,6 +77,12 @@ where
 
     /// As `get_mut`, but `Locked` where the wait for the key's shard is given up at the moment, by the clock that is
     /// handed in. It takes no memory.
+    ///
+    /// Blocks as `get_until` does.
+    ///
+    /// ```text
+    /// if let Ok(Some(mut count)) = map.get_mut_until(&7, soon, &clock, &mut me) { *count = 0; }
+    /// ```
     pub fn get_mut_until<'m, 'd, C: Clock>(
         &'m self,
         key: &K,
@@ -98,6 +115,12 @@ where
 
     /// As `remove`, but `Locked` where the wait for the key's shard is given up at the moment, by the clock that is
     /// handed in. It takes no memory.
+    ///
+    /// Blocks as `get_until` does.
+    ///
+    /// ```text
+    /// if let Ok(Some((key, value))) = map.remove_until(&7, soon, &clock, &mut me) { .. }
+    /// ```
     pub fn remove_until<C: Clock>(
         &self,
         key: &K,
@@ -140,6 +163,15 @@ where
 {
     /// As `insert`, but `Locked` with the pair where the wait for the key's shard is given up at the moment, by the
     /// clock that is handed in, and `NoMemory` with the pair where a new key finds no room.
+    ///
+    /// Blocks as `get_until` does. Memory: as `insert`.
+    ///
+    /// ```text
+    /// match map.insert_until(7, 70, soon, &clock, &mut me) {
+    ///     Ok(old) => { .. }                              // None where the key was new
+    ///     Err(fault) => later.push(fault.into_inner()),  // the pair comes back
+    /// }
+    /// ```
     pub fn insert_until<C: Clock>(
         &self,
         key: K,

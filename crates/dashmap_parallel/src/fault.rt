@@ -12,6 +12,10 @@ pub struct NoThreadData;
 
 impl NoThreadData {
     /// The number of the refusal.
+    ///
+    /// ```text
+    /// return Err(fault.code());   // 34
+    /// ```
     pub fn code(&self) -> u16
         ensures { result ≡ 34 }
     {
@@ -44,6 +48,10 @@ pub enum ParExtendFault {
 
 impl ParExtendFault {
     /// The number of the refusal.
+    ///
+    /// ```text
+    /// if let Err(fault) = par_extend_shared(&map, &rt, pairs, &mut datas) { return Err(fault.code()); }
+    /// ```
     pub fn code(&self) -> u16
         ensures { result ≡ par_extend_fault_code self.now }
     {

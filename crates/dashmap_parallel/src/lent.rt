@@ -68,6 +68,12 @@ where
     Q::Party: Send,
 {
     /// Calls the closure once for each pair. It takes no memory.
+    ///
+    /// Each thread blocks while another holds the shard that it comes to exclusively, or waits to.
+    ///
+    /// ```text
+    /// map.par_iter(&mut datas)?.for_each(&rt, |_, count| { sum.add(*count); });
+    /// ```
     pub fn for_each<R: Threads + Sync, F: Fn(&K, &V) + Sync>(self, rt: &R, f: F)
         requires { F.IsAlwaysCallable f }
         ensures { All (λ lock. WhileShared Q.showed (padded_value lock)
@@ -90,6 +96,10 @@ where
     /// What the closure answers of each pair, in the order of the shards and of their slots.
     ///
     /// Refused as `NoMemory`, where a list of answers finds no room.
+    ///
+    /// ```text
+    /// let counts = map.par_iter(&mut datas)?.map_collect(&rt, Global, |_, count| *count)?;
+    /// ```
     pub fn map_collect<
         R: Threads + Sync,
         T: Send + Drop,

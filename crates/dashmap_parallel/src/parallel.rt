@@ -23,6 +23,12 @@ pub trait ParallelMap<K: Eq + Hash, V, S, Q: RawRwLock, A: Allocator> {
     ghost seen: { Self → Locked Q S };
 
     /// All pairs, lent, by as many threads as data is handed in; none is refused.
+    ///
+    /// Nothing is held before its `for_each` or `map_collect` is called.
+    ///
+    /// ```text
+    /// let all = map.par_iter(&mut datas)?;      // NoThreadData, if there is none
+    /// ```
     fn par_iter<'m, 'd>(
         &'m self,
         tds: &'d mut [Q::Party],
@@ -31,6 +37,12 @@ pub trait ParallelMap<K: Eq + Hash, V, S, Q: RawRwLock, A: Allocator> {
             (λ _. length tds.old ≡ 0) };
 
     /// All pairs, their values lent for writing, by as many threads as data is handed in; none is refused.
+    ///
+    /// Nothing is held before its `for_each` is called.
+    ///
+    /// ```text
+    /// map.par_iter_mut_shared(&mut datas)?.for_each(&rt, |_, count| { *count = 0; });
+    /// ```
     fn par_iter_mut_shared<'m, 'd>(
         &'m self,
         tds: &'d mut [Q::Party],

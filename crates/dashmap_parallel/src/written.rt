@@ -63,6 +63,12 @@ where
     Q::Party: Send,
 {
     /// Lends the closure the value of each pair for writing, each once. It takes no memory.
+    ///
+    /// Each thread blocks while the shard that it comes to is held.
+    ///
+    /// ```text
+    /// map.par_iter_mut_shared(&mut datas)?.for_each(&rt, |key, value| { *value = *key; });
+    /// ```
     pub fn for_each<R: Threads + Sync, F: Fn(&K, &mut V) + Sync>(self, rt: &R, f: F)
         requires { F.IsAlwaysCallable f }
         ensures { All (λ lock. WhileHeld Q.held (padded_value lock) (WritesEach F.Fn f))

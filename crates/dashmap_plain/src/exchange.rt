@@ -78,8 +78,7 @@ pub(crate) fn exchange_all<K: Eq + Hash, V, Q: OwnerEvidence<Shard<K, V, A>>, A:
     requires { length plain.old.items ≡ length locks.old.items }
     ensures locks { locks.new.items ≡ locks.old.items }
     ensures amount { length plain.new.items ≡ length plain.old.items }
-    ensures taken { EachOf Q.taken locks.old.items plain.new.items }
-    ensures put { EachOf Q.put locks.old.items plain.old.items }
+    ensures exchanged { EachOf Q.taken locks.old.items plain.new.items × EachOf Q.put locks.old.items plain.old.items }
 {
     let Some(last) = plain.pop() else {
         return;

@@ -36,6 +36,10 @@ impl<'m, K: Eq + Hash, V, S: BuildHasher, Q: OwnerEvidence<Shard<K, V, A>>, A: A
 
     /// Lends the closure the value of each pair for writing, each once. The pairs of one shard are one piece of work,
     /// and shards go side by side. It takes no memory.
+    ///
+    /// ```text
+    /// map.par_iter_mut().for_each(&rt, |_, count| { *count = 0; });
+    /// ```
     pub fn for_each<R: Threads + Sync, F: Fn(&K, &mut V) + Sync>(self, rt: &R, f: F)
     where
         K: Send,

@@ -35,11 +35,21 @@ pub trait Plain<
     ghost seen: { Self → Locked Q S };
 
     /// The plain shards, in their order. The locks go; their rows stay used.
+    ///
+    /// It doesn't wait, since nobody else has the map, and takes no memory; so do the other calls here.
+    ///
+    /// ```text
+    /// for shard in map.into_shards() { sum = sum.wrapping_add(shard.len()); }
+    /// ```
     fn into_shards(self) -> Vec<Shard<K, V, A>, A>
         ensures amount { length result.items ≡ length (seen self).locks }
         ensures taken { EachOf Q.taken (seen self).locks result.items };
 
     /// The pairs, one after another, shards in order.
+    ///
+    /// ```text
+    /// for (key, value) in map.into_iter() { .. }
+    /// ```
     fn into_iter(self) -> OwningIter<K, V, A>
         ensures { (tables : List (Table K V)) × EachOf Q.taken (seen self).locks tables
             × (result ≡ all_pairs tables) };
@@ -48,6 +58,11 @@ pub trait Plain<
     ///
     /// It tests once that each pair is under its key's hash and in the shard of its key's route. Where one isn't, the
     /// map comes back; no call of these crates causes it.
+    ///
+    /// ```text
+    /// let view = map.into_read_only().map_err(|_| "displaced")?;
+    /// let seven = view.get(&7);                 // no lock, no thread's data
+    /// ```
     fn into_read_only(self) -> Result<ReadOnlyView<K, V, S, Q, A>, Displaced<Self>>
         ensures view { IfOk result (λ v. (v.locks ≡ (seen self).locks) × (v.plain.hasher ≡ (seen self).hasher)) }
         ensures taken { IfOk result (λ v. EachOf Q.taken (seen self).locks v.plain.tables) }
@@ -56,12 +71,20 @@ pub trait Plain<
             × ¬ AreRouted S.BuildHasher S.Hasher.Hasher K.hash_input (seen self).hasher tables) };
 
     /// All pairs, their values lent for writing.
+    ///
+    /// ```text
+    /// map.par_iter_mut().for_each(&rt, |key, value| { *value = value.wrapping_add(*key); });
+    /// ```
     fn par_iter_mut(&mut self) -> IterMut<'_, K, V, S, Q, A>
         ensures same { result.map.ghost_name ≡ self.entry.ghost_name }
         ensures value { result.map.now ≡ seen self.old };
 
     /// All pairs by value: the pairs of one shard are one piece of work, and shards go side by side. The locks go;
     /// their rows stay used.
+    ///
+    /// ```text
+    /// map.into_par_iter().for_each(&rt, |key, value| { sum.add(value); });
+    /// ```
     fn into_par_iter(self) -> dashmap_view::parallel::OwningIter<K, V, A>
         ensures amount { length result ≡ length (seen self).locks }
         ensures taken { EachOf Q.taken (seen self).locks result };

@@ -67,6 +67,12 @@ impl<K: Eq + Hash, V, S: BuildHasher, Q, A: Allocator> ReadOnlyView<K, V, S, Q, 
     }
 
     /// The map again, each shard behind its lock.
+    ///
+    /// It takes no memory and no row: the locks are those that the map had before.
+    ///
+    /// ```text
+    /// let map = view.into_inner();              // shared again
+    /// ```
     pub fn into_inner(self) -> DashMap<K, V, S, Q, A>
     where
         Q: OwnerEvidence<Shard<K, V, A>>,
@@ -85,6 +91,10 @@ impl<K: Eq + Hash, V, S: BuildHasher, Q, A: Allocator> ReadOnlyView<K, V, S, Q, 
     }
 
     /// Lends the shards.
+    ///
+    /// ```text
+    /// let pairs = view.shards()[0].len();
+    /// ```
     pub fn shards(&self) -> &[Shard<K, V, A>]
         ensures shards { result.now ≡ self.now.plain.tables }
         ensures sharded { AreSharded S.BuildHasher S.Hasher.Hasher K.hash_input K.eq self.now.plain }
@@ -93,6 +103,10 @@ impl<K: Eq + Hash, V, S: BuildHasher, Q, A: Allocator> ReadOnlyView<K, V, S, Q, 
     }
 
     /// Lends the hasher.
+    ///
+    /// ```text
+    /// let hash = view.hasher().hash_one(&7u64);
+    /// ```
     pub fn hasher(&self) -> &S
         ensures { result.now ≡ self.now.plain.hasher }
     {
@@ -100,6 +114,10 @@ impl<K: Eq + Hash, V, S: BuildHasher, Q, A: Allocator> ReadOnlyView<K, V, S, Q, 
     }
 
     /// How many pairs there are. It stops at `usize::MAX`.
+    ///
+    /// ```text
+    /// assert!(view.len() == 3);
+    /// ```
     pub fn len(&self) -> usize
         ensures { result ≡ at_most_max (pair_count self.now.plain.tables) }
     {
@@ -107,6 +125,10 @@ impl<K: Eq + Hash, V, S: BuildHasher, Q, A: Allocator> ReadOnlyView<K, V, S, Q, 
     }
 
     /// Whether there are none.
+    ///
+    /// ```text
+    /// if view.is_empty() { return Ok(()); }
+    /// ```
     pub fn is_empty(&self) -> bool
         ensures { IsTrue result ↔ (pair_count self.now.plain.tables ≡ 0) }
     {
@@ -114,6 +136,10 @@ impl<K: Eq + Hash, V, S: BuildHasher, Q, A: Allocator> ReadOnlyView<K, V, S, Q, 
     }
 
     /// For how many pairs there is room. It stops at `usize::MAX`.
+    ///
+    /// ```text
+    /// let room = view.capacity().wrapping_sub(view.len());
+    /// ```
     pub fn capacity(&self) -> usize
         ensures { result ≡ at_most_max (room_in self.now.plain.tables) }
     {
@@ -121,6 +147,10 @@ impl<K: Eq + Hash, V, S: BuildHasher, Q, A: Allocator> ReadOnlyView<K, V, S, Q, 
     }
 
     /// Lends the stored pair of a key.
+    ///
+    /// ```text
+    /// if let Some((key, value)) = view.get_key_value(&"seven") { .. }   // the stored key
+    /// ```
     pub fn get_key_value(&self, key: &K) -> Option<(&K, &V)>
         ensures { option_map (λ p. (p.0.now, p.1.now)) result ≡ pair_at S.BuildHasher S.Hasher.Hasher K.hash_input K.eq
             self.now.plain key.now }
@@ -129,6 +159,10 @@ impl<K: Eq + Hash, V, S: BuildHasher, Q, A: Allocator> ReadOnlyView<K, V, S, Q, 
     }
 
     /// Lends the value of a key.
+    ///
+    /// ```text
+    /// let seven = view.get(&"seven").copied();
+    /// ```
     pub fn get(&self, key: &K) -> Option<&V>
         ensures { option_copied result ≡ option_map (λ p. p.1)
             (pair_at S.BuildHasher S.Hasher.Hasher K.hash_input K.eq self.now.plain key.now) }
@@ -137,6 +171,10 @@ impl<K: Eq + Hash, V, S: BuildHasher, Q, A: Allocator> ReadOnlyView<K, V, S, Q, 
     }
 
     /// Whether a key is there.
+    ///
+    /// ```text
+    /// if view.contains_key(&"seven") { .. }
+    /// ```
     pub fn contains_key(&self, key: &K) -> bool
         ensures { result ≡ is_some (pair_at S.BuildHasher S.Hasher.Hasher K.hash_input K.eq self.now.plain key.now) }
     {
@@ -144,6 +182,10 @@ impl<K: Eq + Hash, V, S: BuildHasher, Q, A: Allocator> ReadOnlyView<K, V, S, Q, 
     }
 
     /// All pairs, lent, shards and their slots in order.
+    ///
+    /// ```text
+    /// for (key, value) in view.iter() { sum = sum.wrapping_add(*value); }
+    /// ```
     pub fn iter(&self) -> ViewIter<'_, K, V, A>
         ensures { result ≡ all_pairs self.now.plain.tables }
     {
@@ -151,6 +193,10 @@ impl<K: Eq + Hash, V, S: BuildHasher, Q, A: Allocator> ReadOnlyView<K, V, S, Q, 
     }
 
     /// All keys, in the order of `iter`.
+    ///
+    /// ```text
+    /// for key in view.keys() { print(rt, key)?; }
+    /// ```
     pub fn keys(&self) -> ViewKeys<'_, K, V, A>
         ensures { result ≡ map (λ p. p.0) (all_pairs self.now.plain.tables) }
     {
@@ -158,6 +204,10 @@ impl<K: Eq + Hash, V, S: BuildHasher, Q, A: Allocator> ReadOnlyView<K, V, S, Q, 
     }
 
     /// All values, in the order of `iter`.
+    ///
+    /// ```text
+    /// for value in view.values() { sum = sum.wrapping_add(*value); }
+    /// ```
     pub fn values(&self) -> ViewValues<'_, K, V, A>
         ensures { result ≡ map (λ p. p.1) (all_pairs self.now.plain.tables) }
     {

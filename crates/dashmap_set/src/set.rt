@@ -46,6 +46,10 @@ impl<K: Eq + Hash, S: BuildHasher, Q, A: Allocator> DashSet<K, S, Q, A> {
     }
 
     /// The hasher's hash of anything that can be hashed.
+    ///
+    /// ```text
+    /// let hash = set.hash_usize(&"ann");
+    /// ```
     pub fn hash_usize<T: Eq + Hash>(&self, item: &T) -> usize
         ensures { result ≡ key_hash S.BuildHasher S.Hasher.Hasher T.hash_input self.now.hasher item.now }
     {
@@ -54,6 +58,10 @@ impl<K: Eq + Hash, S: BuildHasher, Q, A: Allocator> DashSet<K, S, Q, A> {
 
     /// The number of the shard that a key belongs to. Equal keys belong to one shard, so their calls wait for one
     /// another.
+    ///
+    /// ```text
+    /// let together = set.determine_map(&"ann") == set.determine_map(&"ben");
+    /// ```
     pub fn determine_map(&self, key: &K) -> usize
         ensures value { result ≡ shard_of S.BuildHasher S.Hasher.Hasher K.hash_input self.now key.now }
         ensures below { result < length self.now.locks }
@@ -64,6 +72,10 @@ impl<K: Eq + Hash, S: BuildHasher, Q, A: Allocator> DashSet<K, S, Q, A> {
     }
 
     /// The number of the shard that a hash belongs to.
+    ///
+    /// ```text
+    /// let number = set.determine_shard(set.hash_usize(&"ann"));
+    /// ```
     pub fn determine_shard(&self, hash: usize) -> usize
         ensures value { result ≡ route_of hash (length self.now.locks) }
         ensures below { result < length self.now.locks }

@@ -30,6 +30,10 @@ where
     }
 
     /// Whether `len` is 0. Blocks as `len` does.
+    ///
+    /// ```text
+    /// if set.is_empty(&mut me) { return Ok(()); }
+    /// ```
     pub fn is_empty(&self, td: &mut Q::Party) -> bool
         ensures { (sum : ℕ) × SumsTo Q.showed self.now (λ shard. count shard.slots) td.old td.new sum
             × (result ≡ (sum == 0)) }
@@ -41,6 +45,10 @@ where
     /// `usize::MAX`.
     ///
     /// Blocks as `len` does.
+    ///
+    /// ```text
+    /// let room = set.capacity(&mut me);
+    /// ```
     pub fn capacity(&self, td: &mut Q::Party) -> usize
         ensures { SumsTo Q.showed self.now (λ shard. shard.room) td.old td.new result }
     {

@@ -128,6 +128,13 @@ where
     ///     Err(guard) => { .. }    // of None
     /// }
     /// ```
+    ///
+    /// ```text
+    /// match mapped.try_map(Inside) {
+    ///     Ok(inside) => { .. }             // the option's inside
+    ///     Err(mapped) => { .. }            // it was None, and the shard is held on
+    /// }
+    /// ```
     pub fn try_map<P: Projection<V> + Drop>(
         self,
         projection: P,
@@ -158,6 +165,11 @@ where
     H::Runtime: Wait,
 {
     /// The stored key.
+    ///
+    /// ```text
+    /// let name = guard.map(First);        // of a map from numbers to (name, age)
+    /// let seven = *name.key();
+    /// ```
     pub fn key(&self) -> &K
         ensures { key_in (W.part self.now.0.0.inner) self.now.0.1 ≡ Some result.now }
     {
@@ -165,6 +177,10 @@ where
     }
 
     /// The part that the projection gives.
+    ///
+    /// ```text
+    /// let length = guard.map(First).value().len();
+    /// ```
     pub fn value(&self) -> &P::Out
         ensures { part_in (P.focus self.now.1) (W.part self.now.0.0.inner) self.now.0.1 ≡ Some result.now }
     {
@@ -176,6 +192,10 @@ where
     }
 
     /// The stored key and the part.
+    ///
+    /// ```text
+    /// let (number, name) = mapped.pair();
+    /// ```
     pub fn pair(&self) -> (&K, &P::Out)
         ensures key { key_in (W.part self.now.0.0.inner) self.now.0.1 ≡ Some result.0.now }
         ensures part { part_in (P.focus self.now.1) (W.part self.now.0.0.inner) self.now.0.1 ≡ Some result.1.now }
@@ -235,6 +255,11 @@ where
     H::Runtime: Wait,
 {
     /// The part for writing, beside the stored key. What is written is written into the whole value.
+    ///
+    /// ```text
+    /// let (number, age) = mapped.pair_mut();
+    /// *age = age.wrapping_add(*number);
+    /// ```
     pub fn pair_mut(&mut self) -> (&K, &mut P::Out)
         ensures* writes_back { sem 𝓛 (Lends (the_row K.row V.row A.row W.row H.row D.row writes.the_row P.row H.Lock.row H.Runtime.row
             H.Party.row H.Apart.row P.Out.row K.PartialEq (record { hash_input = K.hash_input }) A.Allocator W.Lender
@@ -257,6 +282,10 @@ where
     }
 
     /// The part for writing. `*guard = part` writes it too, and the rest of the value stays.
+    ///
+    /// ```text
+    /// let old = mem::replace(mapped.value_mut(), 9);
+    /// ```
     pub fn value_mut(&mut self) -> &mut P::Out
         ensures* writes_back { sem 𝓛 (Lends (the_row K.row V.row A.row W.row H.row D.row writes.the_row P.row H.Lock.row H.Runtime.row
             H.Party.row H.Apart.row P.Out.row K.PartialEq (record { hash_input = K.hash_input }) A.Allocator W.Lender

@@ -164,6 +164,10 @@ where
     }
 
     /// The stored key: equal to the one that was asked for, and not always the same.
+    ///
+    /// ```text
+    /// if let Some(guard) = map.get(&7, &mut me) { let stored = guard.key(); }
+    /// ```
     pub fn key(&self) -> &K
         ensures { key_in (W.part self.now.0.inner) self.now.1 ≡ Some result.now }
     {
@@ -172,6 +176,10 @@ where
     }
 
     /// The value. `*guard` is the same.
+    ///
+    /// ```text
+    /// let sum = guard.value().wrapping_add(*guard);   // twice the value
+    /// ```
     pub fn value(&self) -> &V
         ensures { value_in (W.part self.now.0.inner) self.now.1 ≡ Some result.now }
     {

@@ -1,10 +1,11 @@
 //! Guards of a whole shard.
 ghost use Rattle.std.specs.Prelude.{◌≡◌};
+ghost use Rattle.std.specs.Sync.RwLock.{read_guard_value, write_guard_value};
 
 use dashmap_table::Shard;
 use lock_api_guards::{Guard, Hold, Lender};
 use lock_api_raw::RawRwLock;
-use lock_api_rw::{Exclusive, RawHold, RwLock, Shared};
+use lock_api_rw::{Evidence, Exclusive, RawHold, RwLock, Shared, read_shown, write_found};
 use std::alloc::{Allocator, Global};
 use std::hash::Hash;
 use std::marker::{Model, PhantomData};
@@ -88,25 +89,27 @@ where
 }
 
 /// Waits for a shared hold of the shard behind a lock.
-pub(crate) fn hold_to_read<'m, 'd, K: Eq + Hash, V, Q: RawRwLock, A: Allocator>(
+pub(crate) fn hold_to_read<'m, 'd, K: Eq + Hash, V, Q: Evidence<Shard<K, V, A>>, A: Allocator>(
     lock: &'m RwLock<Q, Shard<K, V, A>>,
     td: &'d mut Q::Party,
 ) -> ShardReadGuard<'m, 'd, K, V, Q, A>
 where
     Q::Runtime: Wait,
-    ensures { result.held.0.place.now ≡ lock.now }
+    ensures lock { result.held.0.place.now ≡ lock.now }
+    ensures showed { (left : Q.Party) × Q.showed lock.now td.old left (read_guard_value result.inner) }
 {
-    ShardGuard::new(lock.read(td))
+    ShardGuard::new(read_shown(lock, td))
 }
 
 /// Waits for an exclusive hold of the shard behind a lock.
-pub(crate) fn hold_to_write<'m, 'd, K: Eq + Hash, V, Q: RawRwLock, A: Allocator>(
+pub(crate) fn hold_to_write<'m, 'd, K: Eq + Hash, V, Q: Evidence<Shard<K, V, A>>, A: Allocator>(
     lock: &'m RwLock<Q, Shard<K, V, A>>,
     td: &'d mut Q::Party,
 ) -> ShardWriteGuard<'m, 'd, K, V, Q, A>
 where
     Q::Runtime: Wait,
-    ensures { result.held.0.place.now ≡ lock.now }
+    ensures lock { result.held.0.place.now ≡ lock.now }
+    ensures found { (left : Q.Party) × Q.found lock.now td.old left (write_guard_value result.inner) }
 {
-    ShardGuard::new(lock.write(td))
+    ShardGuard::new(write_found(lock, td))
 }

@@ -1,5 +1,7 @@
 //! The calls of a map that hold a shard by its number.
-ghost use Rattle.std.specs.Prelude.{◌≡◌, ◌<◌, length, Some, IfSome};
+ghost use Rattle.std.specs.Prelude.{◌≡◌, ◌<◌, length, Some, IfSome, MatchOption};
+ghost use Rattle.std.specs.Sync.RwLock.{read_guard_value, write_guard_value};
+ghost use Rattle.dashmap_map.specs.Evidence.{OnSight, OnTry, OnRefusal};
 ghost use Rattle.dashmap_map.specs.Locked.{Locked, lock_at};
 
 use crate::shard_guards::guard::{
@@ -7,7 +9,8 @@ use crate::shard_guards::guard::{
 };
 use crate::shard_guards::view::ShardsView;
 use dashmap_map::DashMap;
-use lock_api_raw::RawRwLock;
+use dashmap_table::Shard;
+use lock_api_rw::{Evidence, try_read_shown, try_write_found};
 use std::alloc::Allocator;
 use std::hash::{BuildHasher, Hash};
 use std::sync::Wait;
@@ -18,7 +21,7 @@ use std::sync::Wait;
 /// let amount = map.shards().count();
 /// let last = map._yield_read_shard(amount - 1, &mut me);
 /// ```
-pub trait Looks<K: Eq + Hash, V, S: BuildHasher, Q: RawRwLock, A: Allocator> {
+pub trait Looks<K: Eq + Hash, V, S: BuildHasher, Q: Evidence<Shard<K, V, A>>, A: Allocator> {
     /// The locks and the hasher of a map.
     ghost seen: { Self → Locked Q S };
 
@@ -34,6 +37,12 @@ pub trait Looks<K: Eq + Hash, V, S: BuildHasher, Q: RawRwLock, A: Allocator> {
         ensures { result ≡ seen self.now };
 
     /// Waits for a shared hold of a shard that there is.
+    ///
+    /// Blocks while another holds it exclusively, or waits to. The guard keeps the borrow of `td`.
+    ///
+    /// ```text
+    /// let pairs = map._yield_read_shard(0, &mut me).len();
+    /// ```
     fn _yield_read_shard<'m, 'd>(
         &'m self,
         shard: usize,
@@ -42,9 +51,17 @@ pub trait Looks<K: Eq + Hash, V, S: BuildHasher, Q: RawRwLock, A: Allocator> {
     where
         Q::Runtime: Wait,
         requires { shard < length (seen self.now).locks }
-        ensures { lock_at (seen self.now) shard ≡ Some result.held.0.place.now };
+        ensures lock { lock_at (seen self.now) shard ≡ Some result.held.0.place.now }
+        ensures evidence { (left : Q.Party) × OnSight Q.showed (lock_at (seen self.now) shard) td.old left
+            (λ table. table ≡ read_guard_value result.inner) };
 
     /// Waits for an exclusive hold of a shard that there is.
+    ///
+    /// Blocks while it is held. The guard keeps the borrow of `td`.
+    ///
+    /// ```text
+    /// map._yield_write_shard(0, &mut me).shrink_to_fit();
+    /// ```
     fn _yield_write_shard<'m, 'd>(
         &'m self,
         shard: usize,
@@ -53,9 +70,15 @@ pub trait Looks<K: Eq + Hash, V, S: BuildHasher, Q: RawRwLock, A: Allocator> {
     where
         Q::Runtime: Wait,
         requires { shard < length (seen self.now).locks }
-        ensures { lock_at (seen self.now) shard ≡ Some result.held.0.place.now };
+        ensures lock { lock_at (seen self.now) shard ≡ Some result.held.0.place.now }
+        ensures evidence { (left : Q.Party) × OnSight Q.found (lock_at (seen self.now) shard) td.old left
+            (λ table. table ≡ write_guard_value result.inner) };
 
     /// A shared hold of a shard that there is, or None where it can't be had at once.
+    ///
+    /// ```text
+    /// if let Some(shard) = map._try_yield_read_shard(0) { sum = sum.wrapping_add(shard.len()); }
+    /// ```
     fn _try_yield_read_shard<'m>(
         &'m self,
         shard: usize,
@@ -63,9 +86,15 @@ pub trait Looks<K: Eq + Hash, V, S: BuildHasher, Q: RawRwLock, A: Allocator> {
     where
         Q::Runtime: Wait,
         requires { shard < length (seen self.now).locks }
-        ensures { IfSome result (λ g. lock_at (seen self.now) shard ≡ Some g.held.0.place.now) };
+        ensures lock { IfSome result (λ g. lock_at (seen self.now) shard ≡ Some g.held.0.place.now) }
+        ensures evidence { MatchOption result (OnRefusal Q.refused_shared (lock_at (seen self.now) shard))
+            (λ g. OnTry Q.showed_at_once (lock_at (seen self.now) shard) (λ table. table ≡ read_guard_value g.inner)) };
 
     /// An exclusive hold of a shard that there is, or None where it can't be had at once.
+    ///
+    /// ```text
+    /// let is_free = map._try_yield_write_shard(0).is_some();
+    /// ```
     fn _try_yield_write_shard<'m>(
         &'m self,
         shard: usize,
@@ -73,11 +102,18 @@ pub trait Looks<K: Eq + Hash, V, S: BuildHasher, Q: RawRwLock, A: Allocator> {
     where
         Q::Runtime: Wait,
         requires { shard < length (seen self.now).locks }
-        ensures { IfSome result (λ g. lock_at (seen self.now) shard ≡ Some g.held.0.place.now) };
+        ensures lock { IfSome result (λ g. lock_at (seen self.now) shard ≡ Some g.held.0.place.now) }
+        ensures evidence { MatchOption result (OnRefusal Q.refused_exclusive (lock_at (seen self.now) shard))
+            (λ g. OnTry Q.found_at_once (lock_at (seen self.now) shard) (λ table. table ≡ write_guard_value g.inner)) };
 }
 
-impl<K: Eq + Hash, V, S: BuildHasher, Q: RawRwLock, A: Allocator> Looks<K, V, S, Q, A>
-    for DashMap<K, V, S, Q, A> {
+impl<K: Eq + Hash, V, S: BuildHasher, Q: Evidence<Shard<K, V, A>>, A: Allocator> Looks<
+    K,
+    V,
+    S,
+    Q,
+    A,
+> for DashMap<K, V, S, Q, A> {
     ghost seen = { λ map. map };
 
     fn shards(&self) -> ShardsView<'_, K, V, S, Q, A> {
@@ -113,7 +149,7 @@ impl<K: Eq + Hash, V, S: BuildHasher, Q: RawRwLock, A: Allocator> Looks<K, V, S,
     where
         Q::Runtime: Wait,
     {
-        Some(ShardGuard::new(self.shards().lock(shard).try_read()?))
+        Some(ShardGuard::new(try_read_shown(self.shards().lock(shard))?))
     }
 
     fn _try_yield_write_shard<'m>(
@@ -123,6 +159,6 @@ impl<K: Eq + Hash, V, S: BuildHasher, Q: RawRwLock, A: Allocator> Looks<K, V, S,
     where
         Q::Runtime: Wait,
     {
-        Some(ShardGuard::new(self.shards().lock(shard).try_write()?))
+        Some(ShardGuard::new(try_write_found(self.shards().lock(shard))?))
     }
 }

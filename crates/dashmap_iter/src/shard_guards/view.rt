@@ -1,14 +1,15 @@
 //! A look at the shards of a map.
-ghost use Rattle.std.specs.Prelude.{◌≡◌, ◌<◌, ◌≤◌, length, Some, MatchOption};
+ghost use Rattle.std.specs.Prelude.{◌≡◌, ◌<◌, ◌≤◌, length, Some, IfSome, MatchOption};
+ghost use Rattle.std.specs.Sync.RwLock.{read_guard_value};
 ghost use Rattle.dashmap_table.specs.Route.{IsShardAmount};
+ghost use Rattle.dashmap_map.specs.Evidence.{OnSight};
 ghost use Rattle.dashmap_map.specs.Locked.{lock_at};
 
 use crate::shard_guards::guard::{ShardReadGuard, hold_to_read};
 use dashmap_map::DashMap;
 use dashmap_map::parts::shard_locks;
 use dashmap_table::Shard;
-use lock_api_raw::RawRwLock;
-use lock_api_rw::RwLock;
+use lock_api_rw::{Evidence, RwLock};
 use std::alloc::{Allocator, Global};
 use std::hash::{BuildHasher, Hash};
 use std::marker::Model;
@@ -37,6 +38,10 @@ impl<'m, K: Eq + Hash, V, S: BuildHasher, Q, A: Allocator> Model for ShardsView<
 
 impl<'m, K: Eq + Hash, V, S: BuildHasher, Q, A: Allocator> ShardsView<'m, K, V, S, Q, A> {
     /// The shards of a map.
+    ///
+    /// ```text
+    /// let shards = ShardsView::of(&map);   // the same as `map.shards()`
+    /// ```
     pub fn of(map: &'m DashMap<K, V, S, Q, A>) -> ShardsView<'m, K, V, S, Q, A>
         ensures { result ≡ map.now }
     {
@@ -44,6 +49,10 @@ impl<'m, K: Eq + Hash, V, S: BuildHasher, Q, A: Allocator> ShardsView<'m, K, V, 
     }
 
     /// How many shards there are.
+    ///
+    /// ```text
+    /// for number in 0..map.shards().count() { .. }
+    /// ```
     pub fn count(&self) -> usize
         ensures count { result ≡ length self.now.locks }
         ensures amount { IsShardAmount result }
@@ -64,10 +73,12 @@ impl<'m, K: Eq + Hash, V, S: BuildHasher, Q, A: Allocator> ShardsView<'m, K, V, 
         td: &'d mut Q::Party,
     ) -> Option<ShardReadGuard<'m, 'd, K, V, Q, A>>
     where
-        Q: RawRwLock,
+        Q: Evidence<Shard<K, V, A>>,
         Q::Runtime: Wait,
-        ensures { MatchOption result (length self.now.locks ≤ shard)
+        ensures lock { MatchOption result (length self.now.locks ≤ shard)
             (λ g. lock_at self.now shard ≡ Some g.held.0.place.now) }
+        ensures evidence { IfSome result (λ g. (left : Q.Party)
+            × OnSight Q.showed (lock_at self.now shard) td.old left (λ table. table ≡ read_guard_value g.inner)) }
     {
         if shard < self.count() {
             Some(hold_to_read(self.lock(shard), td))

@@ -37,6 +37,13 @@ pub trait CloneMap<
     /// time: pairs that others put in or take out meanwhile may be there or not.
     ///
     /// Refused as `TableFull` or `NoMemory`, in this order; then the rows that were taken stay used.
+    ///
+    /// Blocks while another holds a shard exclusively, or waits to. Memory: a list of locks, and each shard with its
+    /// pairs.
+    ///
+    /// ```text
+    /// let copy = map.clone(&table, &mut me)?;   // rows of the same table for its locks
+    /// ```
     fn clone<T: Copy>(&self, table: T, td: &mut Q::Party) -> Result<Self, MapFault>
     where
         K: Clone,

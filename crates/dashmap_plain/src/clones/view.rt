@@ -27,6 +27,10 @@ pub trait CloneView<K: Eq + Hash, V, S, Q>: Sized {
     /// this one.
     ///
     /// Refused as `TableFull` or `NoMemory`, in this order; then the rows that were taken stay used.
+    ///
+    /// ```text
+    /// let copy = view.clone(&table)?;
+    /// ```
     fn clone<T: Copy>(&self, table: T) -> Result<Self, MapFault>
     where
         K: Clone,

@@ -64,6 +64,10 @@ where
     Q::Party: Send,
 {
     /// Calls the closure once for each key. It takes no memory.
+    ///
+    /// ```text
+    /// set.par_iter(&mut datas)?.for_each(&rt, |key| { seen.add(*key); });
+    /// ```
     pub fn for_each<R: Threads + Sync, F: Fn(&K) + Sync>(self, rt: &R, f: F)
         requires { F.IsAlwaysCallable f }
         ensures { All (λ lock. WhileShared {K = K} {V = Unit {0}} Q.showed (padded_value lock)
@@ -83,6 +87,10 @@ where
     /// What the closure answers of each key, in the order of the shards and of their slots.
     ///
     /// Refused as `NoMemory`, where a list of answers finds no room.
+    ///
+    /// ```text
+    /// let lengths = set.par_iter(&mut datas)?.map_collect(&rt, Global, |name| name.len())?;
+    /// ```
     pub fn map_collect<
         R: Threads + Sync,
         T: Send + Drop,

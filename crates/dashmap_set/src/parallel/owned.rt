@@ -40,6 +40,10 @@ impl<K: Eq + Hash, A: Allocator> OwningIter<K, A> {
 
 impl<K: Eq + Hash + Send + Drop, A: Allocator + Clone + Send> OwningIter<K, A> {
     /// Gives the closure each key once. It takes no memory.
+    ///
+    /// ```text
+    /// set.into_par_iter().for_each(&rt, |key| { sum.add(key); });
+    /// ```
     pub fn for_each<R: Threads + Sync, F: Fn(K) + Sync>(self, rt: &R, f: F)
         requires { F.IsAlwaysCallable f }
         ensures { All (λ p. MakesOfKey F.Fn f p.0 tt) (all_pairs self) }
@@ -61,6 +65,10 @@ impl<K: Eq + Hash + Send + Drop, A: Allocator + Clone + Send> OwningIter<K, A> {
     /// would make.
     ///
     /// Refused as `NoMemory`, where the list or a part of it finds no room; then all keys are let go.
+    ///
+    /// ```text
+    /// let keys = set.into_par_iter().map_collect(&rt, Global, |key| key)?;
+    /// ```
     pub fn map_collect<
         R: Threads + Sync,
         T: Send + Drop,

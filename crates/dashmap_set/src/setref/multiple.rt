@@ -96,6 +96,10 @@ where
     }
 
     /// The stored key.
+    ///
+    /// ```text
+    /// while let Some(Ok(item)) = walk.next() { print(rt, item.key())?; }
+    /// ```
     pub fn key(&self) -> &K
         ensures { key_in (W.part self.now.0.inner) self.now.1 ≡ Some result.now }
     {

@@ -88,6 +88,10 @@ where
     }
 
     /// The stored key.
+    ///
+    /// ```text
+    /// if let Some(found) = set.get(&"ann", &mut me) { print(rt, found.key())?; }
+    /// ```
     pub fn key(&self) -> &K
         ensures { key_in (W.part self.now.0.inner) self.now.1 ≡ Some result.now }
     {

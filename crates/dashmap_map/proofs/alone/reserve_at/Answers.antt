@@ -1,4 +1,4 @@
-use Rattle.std.proofs.Common.{rules, ◌≡◌, ap, slice_index_or, OnOk, subst}
+use Rattle.std.proofs.Common.{◌≡◌, ap, slice_index_or, OnOk, subst}
 use Rattle.std.proofs.lemmas.List.{get_or_default}
 use Rattle.crossbeam_utils.specs.Padded.{padded_value}
 use Rattle.dashmap_map.specs.Owner.{Alone, Reserves}

@@ -1,4 +1,4 @@
-use Rattle.std.proofs.Common.{rules, List, [], sym, subst}
+use Rattle.std.proofs.Common.{rules, [], sym, subst}
 use Rattle.std.specs.List.{All}
 use Rattle.std.proofs.lemmas.List.Elements.{All-head}
 use Rattle.crossbeam_utils.specs.Padded.{padded_value}

@@ -1,5 +1,5 @@
-use Rattle.std.proofs.Common.{rules, ◌≡◌, ◌<◌, ◌+◌, suc, length, sym, ap, ◌∙◌, subst, arith, slice_index_or, slice_set}
-use Rattle.crossbeam_utils.specs.Padded.{padded_value, padded_with_value}
+use Rattle.std.proofs.Common.{rules, ◌≡◌, ◌<◌, ◌+◌, suc, length, ap, ◌∙◌, subst, arith, slice_index_or, slice_set}
+use Rattle.crossbeam_utils.specs.Padded.{padded_with_value}
 use Rattle.dashmap_plain.specs.Exchanged.{Exchanged}
 use Rattle.dashmap_plain.proofs.Exchanging.{exchanged_next, set_same}
 use Rattle.dashmap_plain.proofs.exchange.exchange_first.Goals as goal

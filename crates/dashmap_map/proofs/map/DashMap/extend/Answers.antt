@@ -1,5 +1,4 @@
-use Rattle.std.proofs.Common.{◌≡◌, Some, sym, subst, ◌∙◌}
-use Rattle.std.specs.List.{All}
+use Rattle.std.proofs.Common.{Some, sym, subst, ◌∙◌}
 use Rattle.dashmap_map.specs.Owner.{IsPut, HadNoRoom}
 use Rattle.dashmap_map.proofs.Lists.{all_push}
 use Rattle.dashmap_map.proofs.map.DashMap.extend.Goals as goal

@@ -2,7 +2,6 @@ use Rattle.std.proofs.Common.{◌≡◌, Bool, true, None, Some, IsTrue, IfNone,
 use Rattle.std.specs.Prelude.{if◌then◌else◌}
 use Rattle.std.specs.Fn.{FnOnceReturnsAt}
 use Rattle.dashmap_map.specs.Locked.{Locked, lock_of}
-use Rattle.dashmap_table.specs.declared.entry.Entry.{Entry}
 use Rattle.dashmap_table.specs.Shards.{key_hash}
 use Rattle.dashmap_table.specs.Slots.{pair_of, slot_of, entry_of}
 use Rattle.dashmap_table.specs.Table.{TakesOut}
