@@ -97,15 +97,24 @@ where
     }
 }
 
+/// The first difference of an empty map over a lock of one word, and of one over the locks of running threads.
+fn spun_difference<R: Wait + Copy + Drop>(rt: R, alloc: Global) -> Result<Option<u64>, Fail> {
+    let mut plain = Shards::new(alloc, 8, SpreadState)?;
+    Ok(first_difference(&map_of(rt, alloc, 8)?, &mut plain, &mut 1))
+}
+
+fn parked_difference<R: Wait + Copy + Drop>(rt: R, alloc: Global) -> Result<Option<u64>, Fail> {
+    let lot = ParkingLot::new(rt, alloc, 1, 7)?;
+    let table = LockTable::new(alloc, &lot, 8)?;
+    let mut plain = Shards::new(alloc, 8, SpreadState)?;
+    let mut me = lot.thread_data()?;
+    Ok(first_difference(&parked(alloc, &table, 8)?, &mut plain, &mut me))
+}
+
 #[test]
 fn a_map_answers_as_plain_shards_do(rt: HostRuntime) -> Result<(), Fail> {
-    let mut plain = Shards::new(rt.alloc(), 8, SpreadState)?;
-    let spun = first_difference(&map_of(rt, rt.alloc(), 8)?, &mut plain, &mut 1);
-    let lot = ParkingLot::new(rt, rt.alloc(), 1, 7)?;
-    let table = LockTable::new(rt.alloc(), &lot, 8)?;
-    let mut plain = Shards::new(rt.alloc(), 8, SpreadState)?;
-    let mut me = lot.thread_data()?;
-    let parked = first_difference(&parked(rt.alloc(), &table, 8)?, &mut plain, &mut me);
+    let spun = spun_difference(rt, rt.alloc())?;
+    let parked = parked_difference(rt, rt.alloc())?;
     assert!(rt; spun.is_none() && parked.is_none(), "{spun:?} {parked:?}");
     Ok(())
 }

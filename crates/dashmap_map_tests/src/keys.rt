@@ -84,26 +84,49 @@ fn replaced<R: Wait + Drop>(map: &Letters<R>, letter: u8, value: u64) -> Option<
     }
 }
 
+/// The letter and the value of a pair that is taken out.
+fn taken<R: Wait + Drop>(map: &Letters<R>, letter: u8) -> Option<(u8, u64)> {
+    let (stored, value) = map.remove(&Letter::of(letter), &mut 1)?;
+    Some((stored.shown, value))
+}
+
+/// On an empty map: whether a letter is put in, and then what is written over it, replaced and taken out.
+fn kept<R: Wait + Drop>(
+    map: &Letters<R>,
+) -> (
+    bool,
+    Option<(u64, u8)>,
+    Option<(u8, u64)>,
+    Option<(u8, u64)>,
+) {
+    let is_new = map.insert(Letter::of(b'k'), 1, &mut 1) == Ok(None);
+    let old = written(map, b'K', 2);
+    let pair = replaced(map, b'K', 3);
+    (is_new, old, pair, taken(map, b'k'))
+}
+
 #[test]
 fn a_stored_key_stays_until_it_is_replaced(rt: HostRuntime) -> Result<(), Fail> {
-    let map: Letters<HostRuntime> = map_of(rt, rt.alloc(), 4)?;
-    let is_new = map.insert(Letter::of(b'k'), 1, &mut 1) == Ok(None);
-    assert!(rt; is_new && written(&map, b'K', 2) == Some((1, b'k')));
-    assert!(rt; replaced(&map, b'K', 3) == Some((b'k', 2)));
-    let (stored, value) = map
-        .remove(&Letter::of(b'k'), &mut 1)
-        .ok_or("nothing is there")?;
-    assert!(rt; stored.shown == b'K' && value == 3);
+    let map = map_of(rt, rt.alloc(), 4)?;
+    let (is_new, old, pair, last) = kept(&map);
+    assert!(rt; is_new && old == Some((1, b'k')), "{old:?}");
+    assert!(rt; pair == Some((b'k', 2)), "{pair:?}");
+    assert!(rt; last == Some((b'K', 3)), "{last:?}");
     Ok(())
+}
+
+/// Whether an empty map takes the one unit, and gives it back.
+fn has_one_unit<R: Wait + Drop>(map: &Spun<(), u64, R>) -> bool {
+    let mut right = map.insert((), 1, &mut 1) == Ok(None);
+    right &= map.insert((), 2, &mut 1) == Ok(Some(1));
+    right &= map.len(&mut 1) == 1 && map.determine_map(&()) < 2;
+    right && map.remove(&(), &mut 1) == Some(((), 2))
 }
 
 #[test]
 fn there_is_one_unit(rt: HostRuntime) -> Result<(), Fail> {
-    let map: Spun<(), u64, HostRuntime> = map_of(rt, rt.alloc(), 2)?;
-    let mut right = map.insert((), 1, &mut 1) == Ok(None);
-    right &= map.insert((), 2, &mut 1) == Ok(Some(1));
-    right &= map.len(&mut 1) == 1 && map.determine_map(&()) < 2;
-    assert!(rt; right && map.remove(&(), &mut 1) == Some(((), 2)));
+    let map = map_of(rt, rt.alloc(), 2)?;
+    assert!(rt; has_one_unit(&map));
     Ok(())
 }
 

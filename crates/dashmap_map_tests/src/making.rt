@@ -47,18 +47,18 @@ fn a_shard_amount_is_a_power_of_two(rt: HostRuntime) {
     }
 }
 
-#[test]
-fn room_is_made_and_given_up(rt: HostRuntime) -> Result<(), Fail> {
-    let mut map: Spun<u64, u64, HostRuntime> = DashMap::with_hasher_and_shard_amount(
-        rt.alloc(),
-        SpreadState,
-        4,
-        rt,
-    )?;
+/// Whether room is made in an empty map by its owner, refused, and given up.
+fn makes_room<R: Wait + Drop>(map: &mut Spun<u64, u64, R>) -> bool {
     let mut right = map.capacity(&mut 1) == 0 && map.try_reserve(usize::MAX).is_err();
     right &= map.len(&mut 1) == 0 && map.try_reserve(10).is_ok() && map.capacity(&mut 1) >= 10;
     right &= map.insert_mut(1, 2) == Ok(None) && map.remove(&1, &mut 1) == Some((1, 2));
-    assert!(rt; right && map.shrink_to_fit(&mut 1).is_ok() && map.capacity(&mut 1) == 0);
+    right && map.shrink_to_fit(&mut 1).is_ok() && map.capacity(&mut 1) == 0
+}
+
+#[test]
+fn room_is_made_and_given_up(rt: HostRuntime) -> Result<(), Fail> {
+    let mut map = DashMap::with_hasher_and_shard_amount(rt.alloc(), SpreadState, 4, rt)?;
+    assert!(rt; makes_room(&mut map));
     Ok(())
 }
 
@@ -126,19 +126,18 @@ fn a_map_makes_its_own_hasher(rt: HostRuntime) -> Result<(), Fail> {
     )
 }
 
+/// Sees that a map with a hasher takes two pairs, and answers whether it lends that hasher.
+fn has_hasher<R: Wait + Drop>(made: Result<Spun<u64, u64, R>, MapFault>) -> Result<bool, Fail> {
+    let map = made?;
+    run(&map, TAKES_TWO, &mut 1)?;
+    Ok(*map.hasher() == SpreadState)
+}
+
 #[test]
 fn a_map_takes_a_hasher(rt: HostRuntime) -> Result<(), Fail> {
-    let map: Spun<u64, u64, HostRuntime> = DashMap::with_hasher(rt.alloc(), SpreadState, 4, rt)?;
-    assert!(rt; *map.hasher() == SpreadState);
-    run(&map, TAKES_TWO, &mut 1)?;
-    let map: Spun<u64, u64, HostRuntime> = DashMap::with_capacity_and_hasher(
-        rt.alloc(),
-        2,
-        SpreadState,
-        4,
-        rt,
-    )?;
-    run(&map, TAKES_TWO, &mut 1)?;
+    assert!(rt; has_hasher(DashMap::with_hasher(rt.alloc(), SpreadState, 4, rt))?);
+    let made = DashMap::with_capacity_and_hasher(rt.alloc(), 2, SpreadState, 4, rt);
+    assert!(rt; has_hasher(made)?);
     let hasher = RandomState::new(&rt)?;
     let made = DashMap::with_hasher_and_shard_amount(rt.alloc(), hasher, 32, rt);
     has_shards(made.map_err(NewFault::Map), 32, 0)

@@ -29,15 +29,33 @@ fn text_beside_writer<R: Wait + Drop>(
     }
 }
 
+/// Whether a map is printed so.
+fn is_shown<R: Wait + Drop>(
+    map: &Spun<u64, u64, R>,
+    alloc: Global,
+    wanted: &str,
+) -> Result<bool, AllocError> {
+    Ok(text_of(map, alloc)?.as_str() == wanted)
+}
+
+/// Whether a map is printed so while a guard of key 1 writes.
+fn is_shown_beside_writer<R: Wait + Drop>(
+    map: &Spun<u64, u64, R>,
+    alloc: Global,
+    wanted: &str,
+) -> Result<bool, Fail> {
+    let text = text_beside_writer(map, alloc)?.ok_or("gone")?;
+    Ok(text.as_str() == wanted)
+}
+
 #[test]
 fn a_map_is_shown(rt: HostRuntime) -> Result<(), Fail> {
-    let map: Spun<u64, u64, HostRuntime> = map_of(rt, rt.alloc(), 2)?;
-    assert!(rt; text_of(&map, rt.alloc())?.as_str() == "{}");
+    let map = map_of(rt, rt.alloc(), 2)?;
+    assert!(rt; is_shown(&map, rt.alloc(), "{}")?);
     let mut right = map.insert(1, 2, &mut 1) == Ok(None);
-    right &= text_of(&map, rt.alloc())?.as_str() == "{1: 2}";
+    right &= is_shown(&map, rt.alloc(), "{1: 2}")?;
     right &= map.insert(0, 5, &mut 1) == Ok(None);
-    let text = text_beside_writer(&map, rt.alloc())?.ok_or("gone")?;
-    assert!(rt; right && text.as_str() == "{0: 5, <locked>}");
+    assert!(rt; right && is_shown_beside_writer(&map, rt.alloc(), "{0: 5, <locked>}")?);
     Ok(())
 }
 
@@ -74,57 +92,82 @@ fn text_of_item<R: Wait + Drop>(
     }
 }
 
+/// Whether a reader and its value are printed so.
+fn is_reader_shown<R: Wait + Drop>(map: &Spun<u64, u64, R>, alloc: Global) -> Result<bool, Fail> {
+    let (reader, value) = text_of_reader(map, alloc)?.ok_or("gone")?;
+    Ok(reader.as_str() == "Ref { k: 1, v: 2 }" && value.as_str() == "2")
+}
+
+/// Whether a writer is.
+fn is_writer_shown<R: Wait + Drop>(map: &Spun<u64, u64, R>, alloc: Global) -> Result<bool, Fail> {
+    let writer = text_of_writer(map, alloc)?.ok_or("gone")?;
+    Ok(writer.as_str() == "RefMut { k: 1, v: 2 }")
+}
+
+/// Whether an item is.
+fn is_item_shown<R: Wait + Drop>(map: &Spun<u64, u64, R>, alloc: Global) -> Result<bool, Fail> {
+    let item = text_of_item(map, alloc)?.ok_or("no item")?;
+    Ok(item.as_str() == "RefMutMulti { k: 1, v: 2 }")
+}
+
 #[test]
 fn guards_and_items_are_shown(rt: HostRuntime) -> Result<(), Fail> {
-    let map: Spun<u64, u64, HostRuntime> = map_of(rt, rt.alloc(), 2)?;
-    let mut right = map.insert(1, 2, &mut 1) == Ok(None);
-    let (reader, value) = text_of_reader(&map, rt.alloc())?.ok_or("gone")?;
-    right &= reader.as_str() == "Ref { k: 1, v: 2 }" && value.as_str() == "2";
-    let writer = text_of_writer(&map, rt.alloc())?.ok_or("gone")?;
-    right &= writer.as_str() == "RefMut { k: 1, v: 2 }";
-    let text = text_of_item(&map, rt.alloc())?.ok_or("no item")?;
-    assert!(rt; right && text.as_str() == "RefMutMulti { k: 1, v: 2 }");
+    let map = map_of(rt, rt.alloc(), 2)?;
+    assert!(rt; map.insert(1, 2, &mut 1) == Ok(None) && is_reader_shown(&map, rt.alloc())?);
+    assert!(rt; is_writer_shown(&map, rt.alloc())?);
+    assert!(rt; is_item_shown(&map, rt.alloc())?);
     Ok(())
+}
+
+/// Whether the owner's extension leaves four keys, each with its last value.
+fn is_extended<R: Wait + Drop>(map: &mut Spun<u64, u64, R>) -> bool {
+    let mut right = map.extend((0..10u64).map(|i| (i % 4, i))).is_ok();
+    right &= make(map, Call::Len, &mut 1) == Answer::Number(4);
+    right && make(map, Call::Key(Keyed::View(1)), &mut 1) == Answer::Number(9)
+}
+
+/// How many of ten pairs a map for so many threads has that is made of them.
+fn made_of_ten<R: Wait + Copy + Drop>(
+    rt: R,
+    alloc: Global,
+    threads: usize,
+) -> Result<Answer, MapFault> {
+    let pairs = (0..10u64).map(|i| (i, i));
+    let map: Spun<u64, u64, R> = DashMap::from_iter(alloc, pairs, SpreadState, threads, rt)?;
+    Ok(make(&map, Call::Len, &mut 1))
 }
 
 #[test]
 fn many_pairs_are_put_in(rt: HostRuntime) -> Result<(), Fail> {
-    let mut map: Spun<u64, u64, HostRuntime> = map_of(rt, rt.alloc(), 4)?;
-    let mut right = map.extend((0..10u64).map(|i| (i % 4, i))).is_ok();
-    right &= make(&map, Call::Len, &mut 1) == Answer::Number(4);
-    right &= make(&map, Call::Key(Keyed::View(1)), &mut 1) == Answer::Number(9);
-    let made: Result<Spun<u64, u64, HostRuntime>, MapFault> = DashMap::from_iter(
-        rt.alloc(),
-        (0..10u64).map(|i| (i, i)),
-        SpreadState,
-        1,
-        rt,
-    );
-    right &= make(&made?, Call::Len, &mut 1) == Answer::Number(10);
-    let made: Result<Spun<u64, u64, HostRuntime>, MapFault> = DashMap::from_iter(
-        rt.alloc(),
-        (0..10u64).map(|i| (i, i)),
-        SpreadState,
-        16_385,
-        rt,
-    );
-    assert!(rt; right && made.err() == Some(MapFault::BadShards));
+    let mut map = map_of(rt, rt.alloc(), 4)?;
+    assert!(rt; is_extended(&mut map));
+    assert!(rt; made_of_ten(rt, rt.alloc(), 1) == Ok(Answer::Number(10)));
+    assert!(rt; made_of_ten(rt, rt.alloc(), 16_385) == Err(MapFault::BadShards));
     Ok(())
+}
+
+/// A map in a heap.
+type Small<'h, R> = DashMap<u64, u64, SpreadState, PackedLock<R>, &'h LocalHeap>;
+
+/// Whether the pair that finds no room comes back, is away, and those before it are there.
+fn gives_a_pair_back<R: Wait + Drop>(map: &mut Small<'_, R>) -> Result<bool, &'static str> {
+    let Err((key, value)) = map.extend((0..1000u64).map(|i| (i, i))) else {
+        return Err("there was room for all");
+    };
+    let right = make(map, Call::Len, &mut 1) == Answer::Number(key);
+    let missed = make(map, Call::Key(Keyed::ContainsKey(key)), &mut 1);
+    Ok(right && key == value && missed == Answer::Flag(false))
 }
 
 #[test]
 fn a_refused_pair_comes_back(rt: HostRuntime) -> Result<(), Fail> {
     let heap = LocalHeap::new(rt.alloc(), 2048)?;
-    let made: Result<
-        DashMap<u64, u64, SpreadState, PackedLock<HostRuntime>, &LocalHeap>,
-        MapFault,
-    > = DashMap::with_hasher_and_shard_amount(&heap, SpreadState, 2, rt);
-    let mut map = made?;
-    let Err((key, value)) = map.extend((0..1000u64).map(|i| (i, i))) else {
-        return Err(Fail::from("there was room for all"));
-    };
-    let right = make(&map, Call::Len, &mut 1) == Answer::Number(key);
-    let missed = make(&map, Call::Key(Keyed::ContainsKey(key)), &mut 1);
-    assert!(rt; right && key == value && missed == Answer::Flag(false));
+    let mut map: Small<'_, HostRuntime> = DashMap::with_hasher_and_shard_amount(
+        &heap,
+        SpreadState,
+        2,
+        rt,
+    )?;
+    assert!(rt; gives_a_pair_back(&mut map)?);
     Ok(())
 }

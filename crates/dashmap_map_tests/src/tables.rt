@@ -40,6 +40,19 @@ pub fn parked<'t, 'l, R: Wait>(
     DashMap::with_hasher_and_shard_amount(alloc, SpreadState, shards, table)
 }
 
+/// Makes the calls of a table on an empty map over the locks of running threads.
+fn run_parked<R: Wait + Copy + Drop>(
+    rt: R,
+    alloc: Global,
+    shards: usize,
+    rows: &[Row],
+) -> Result<(), Fail> {
+    let lot = ParkingLot::new(rt, alloc, 1, 7)?;
+    let table = LockTable::new(alloc, &lot, shards)?;
+    let mut me = lot.thread_data()?;
+    run(&parked(alloc, &table, shards)?, rows, &mut me)
+}
+
 /// Makes the calls of a table on an empty map over each kind of lock. Where an answer is another, it fails with the
 /// row.
 pub fn check<R: Wait + Copy + Drop>(
@@ -49,8 +62,5 @@ pub fn check<R: Wait + Copy + Drop>(
     rows: &[Row],
 ) -> Result<(), Fail> {
     run(&map_of(rt, alloc, shards)?, rows, &mut 1)?;
-    let lot = ParkingLot::new(rt, alloc, 1, 7)?;
-    let table = LockTable::new(alloc, &lot, shards)?;
-    let mut me = lot.thread_data()?;
-    run(&parked(alloc, &table, shards)?, rows, &mut me)
+    run_parked(rt, alloc, shards, rows)
 }

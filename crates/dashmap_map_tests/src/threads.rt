@@ -125,8 +125,52 @@ fn four_do<R: Wait + Threads + Sync>(
     first & second
 }
 
-/// Has four threads share a map of 64 zeros. It answers what the numbers add up to, if each call was answered as it is
-/// to be.
+/// What four threads have.
+type Four = (
+    (ThreadData<Global>, ThreadData<Global>),
+    (ThreadData<Global>, ThreadData<Global>),
+);
+
+/// What four threads have of a parking lot.
+fn four_of<R: Wait>(lot: &ParkingLot<R>) -> Result<Four, Fail> {
+    let one = (lot.thread_data()?, lot.thread_data()?);
+    Ok((one, (lot.thread_data()?, lot.thread_data()?)))
+}
+
+/// Has four threads do their jobs, each with what it has.
+fn all_do<R: Wait + Threads + Sync>(
+    rt: &R,
+    map: &Parked<'_, '_, R>,
+    jobs: [Job; 4],
+    parties: Four,
+) -> bool {
+    let ((one, two), (three, four)) = parties;
+    four_do(
+        rt,
+        map,
+        ((jobs[0], one), (jobs[1], two)),
+        ((jobs[2], three), (jobs[3], four)),
+    )
+}
+
+/// What the numbers of an empty map add up to, which four threads share once it has 64 zeros, if each call was answered
+/// as it is to be.
+fn counted<R: Wait + Threads + Sync>(
+    rt: &R,
+    map: &Parked<'_, '_, R>,
+    jobs: [Job; 4],
+    parties: Four,
+    me: &mut ThreadData<Global>,
+) -> Option<u64> {
+    let mut right = call_many(map, Many::Zero(0, KEYS), me) == KEYS;
+    right &= all_do(rt, map, jobs, parties);
+    right &= make(map, Call::Len, me) == Answer::Number(KEYS);
+    let sum = sum_of(map, me);
+    right &= make(map, Call::IsEmpty, me) == Answer::Flag(true);
+    if right { sum } else { None }
+}
+
+/// The same of a new map.
 fn shared<R: Wait + Threads + Sync + Copy>(
     rt: R,
     alloc: Global,
@@ -134,22 +178,10 @@ fn shared<R: Wait + Threads + Sync + Copy>(
 ) -> Result<Option<u64>, Fail> {
     let lot = ParkingLot::new(rt, alloc, 5, 7)?;
     let mut me = lot.thread_data()?;
-    let (one, two) = (lot.thread_data()?, lot.thread_data()?);
-    let (three, four) = (lot.thread_data()?, lot.thread_data()?);
+    let parties = four_of(&lot)?;
     let table = LockTable::new(alloc, &lot, 8)?;
-    let made: Result<Parked<'_, '_, R>, MapFault> = parked(alloc, &table, 8);
-    let map = made?;
-    let mut right = call_many(&map, Many::Zero(0, KEYS), &mut me) == KEYS;
-    right &= four_do(
-        &rt,
-        &map,
-        ((jobs[0], one), (jobs[1], two)),
-        ((jobs[2], three), (jobs[3], four)),
-    );
-    right &= make(&map, Call::Len, &mut me) == Answer::Number(KEYS);
-    let sum = sum_of(&map, &mut me);
-    right &= make(&map, Call::IsEmpty, &mut me) == Answer::Flag(true);
-    Ok(if right { sum } else { None })
+    let map = parked(alloc, &table, 8)?;
+    Ok(counted(&rt, &map, jobs, parties, &mut me))
 }
 
 /// Jobs of four threads, and the sum that they make of 64 zeros.
@@ -228,6 +260,37 @@ fn inserts<R: Wait + Clock>(
     is_held & is_new
 }
 
+/// What the two threads tell.
+fn together<R: Wait + Threads + Clock + Sync>(
+    rt: &R,
+    map: &Parked<'_, '_, R>,
+    one: ThreadData<Global>,
+    two: ThreadData<Global>,
+) -> (bool, bool) {
+    let held = AtomicBool::new(false);
+    let answered = AtomicBool::new(false);
+    thread::join(
+        rt,
+        || holds(rt, map, one, &held, &answered),
+        || inserts(rt, map, two, &held, &answered),
+    )
+}
+
+/// Whether two threads hold both shards of an empty map at once.
+fn are_held<R: Wait + Threads + Clock + Sync>(
+    rt: &R,
+    map: &Parked<'_, '_, R>,
+    one: ThreadData<Global>,
+    two: ThreadData<Global>,
+    me: &mut ThreadData<Global>,
+) -> bool {
+    let mut right = map.insert(0, 0, me) == Ok(None);
+    right &= map.determine_map(&0) == 0 && map.determine_map(&1) == 1;
+    right &= together(rt, map, one, two) == (true, true);
+    right &= map.remove(&0, me) == Some((0, 9));
+    right && map.contains_key(&1, me)
+}
+
 #[test]
 fn two_shards_are_held_at_once(rt: HostRuntime) -> Result<(), Fail> {
     let lot = ParkingLot::new(rt, rt.alloc(), 3, 7)?;
@@ -235,17 +298,7 @@ fn two_shards_are_held_at_once(rt: HostRuntime) -> Result<(), Fail> {
     let map = parked(rt.alloc(), &table, 2)?;
     let mut me = lot.thread_data()?;
     let (one, two) = (lot.thread_data()?, lot.thread_data()?);
-    let mut right = map.insert(0, 0, &mut me) == Ok(None);
-    right &= map.determine_map(&0) == 0 && map.determine_map(&1) == 1;
-    let held = AtomicBool::new(false);
-    let answered = AtomicBool::new(false);
-    let ended = thread::join(
-        &rt,
-        || holds(&rt, &map, one, &held, &answered),
-        || inserts(&rt, &map, two, &held, &answered),
-    );
-    right &= map.remove(&0, &mut me) == Some((0, 9));
-    assert!(rt; right && ended == (true, true) && map.contains_key(&1, &mut me));
+    assert!(rt; are_held(&rt, &map, one, two, &mut me));
     Ok(())
 }
 
@@ -256,18 +309,25 @@ type Small<'t, 'l, 'h, R> = Numbers<
     &'h LocalHeap,
 >;
 
+/// What a map of four shards in a heap is refused as.
+fn fault_in<R: Wait>(heap: &LocalHeap, table: &LockTable<'_, R>) -> Option<MapFault> {
+    let made: Result<Small<'_, '_, '_, R>, MapFault> = DashMap::with_hasher_and_shard_amount(
+        heap,
+        SpreadState,
+        4,
+        table,
+    );
+    made.err()
+}
+
 #[test]
 fn a_full_table_is_told_before_want_of_memory(rt: HostRuntime) -> Result<(), Fail> {
     let lot = ParkingLot::new(rt, rt.alloc(), 1, 7)?;
     let table = LockTable::new(rt.alloc(), &lot, 3)?;
-    let made = parked(rt.alloc(), &table, 4);
-    assert!(rt; made.err() == Some(MapFault::TableFull));
+    assert!(rt; parked(rt.alloc(), &table, 4).err() == Some(MapFault::TableFull));
     let table = LockTable::new(rt.alloc(), &lot, 6)?;
     let heap = LocalHeap::new(rt.alloc(), 0)?;
-    for fault in [MapFault::NoMemory, MapFault::TableFull] {
-        let made: Result<Small<'_, '_, '_, HostRuntime>, MapFault> =
-            DashMap::with_hasher_and_shard_amount(&heap, SpreadState, 4, &table);
-        assert!(rt; made.err() == Some(fault));
-    }
+    assert!(rt; fault_in(&heap, &table) == Some(MapFault::NoMemory));
+    assert!(rt; fault_in(&heap, &table) == Some(MapFault::TableFull));
     Ok(())
 }

@@ -5,14 +5,14 @@ use crate::tables::{Parked, map_of, parked};
 use dashmap_calls::Numbers;
 use dashmap_guard::TryResult;
 use dashmap_map::{DashMap, UntilFault};
-use dashmap_table::{MapFault, Shard, SpreadState};
+use dashmap_table::{Shard, SpreadState};
 use linked_list_allocator::LocalHeap;
 use lock_api_raw::RawRwLockTimed;
 use lock_api_rw::Evidence;
 use lock_api_spin::PackedLock;
 use parking_lot_core::ParkingLot;
 use parking_lot_rwlock::LockTable;
-use std::alloc::Allocator;
+use std::alloc::{Allocator, Global};
 use std::rt::Clock;
 use std::sync::Wait;
 use std::test::Fail;
@@ -166,6 +166,52 @@ const AFTERWARDS: &[(Timed, Told)] = &[
     (Timed::Get(3), Told::Absent),
 ];
 
+/// Whether the table of calls beside a writer is answered while a second party writes key 1.
+fn is_answered_beside_a_writer<
+    Q: RawRwLockTimed<Instant = Instant> + Evidence<Shard<u64, u64, A>>,
+    A: Allocator + Clone,
+    C: Clock,
+>(
+    map: &Numbers<SpreadState, Q, A>,
+    moment: Instant,
+    clock: &C,
+    me: &mut Q::Party,
+    you: &mut Q::Party,
+) -> bool
+where
+    Q::Runtime: Wait,
+{
+    match map.get_mut(&1, you) {
+        Some(_guard) => {
+            answered(map, BESIDE_A_WRITER, moment, clock, me) == BESIDE_A_WRITER.len()
+        }
+        None => false,
+    }
+}
+
+/// Whether that of calls beside a reader is while it reads.
+fn is_answered_beside_a_reader<
+    Q: RawRwLockTimed<Instant = Instant> + Evidence<Shard<u64, u64, A>>,
+    A: Allocator + Clone,
+    C: Clock,
+>(
+    map: &Numbers<SpreadState, Q, A>,
+    moment: Instant,
+    clock: &C,
+    me: &mut Q::Party,
+    you: &mut Q::Party,
+) -> bool
+where
+    Q::Runtime: Wait,
+{
+    match map.get(&1, you) {
+        Some(_guard) => {
+            answered(map, BESIDE_A_READER, moment, clock, me) == BESIDE_A_READER.len()
+        }
+        None => false,
+    }
+}
+
 /// Whether each table is answered, the first on an empty map of two shards, the others beside guards of a second party.
 fn is_answered<
     Q: RawRwLockTimed<Instant = Instant> + Evidence<Shard<u64, u64, A>>,
@@ -182,24 +228,23 @@ where
     Q::Runtime: Wait,
 {
     let alone = answered(map, ALONE, moment, clock, me) == ALONE.len();
-    let writing = match map.get_mut(&1, you) {
-        Some(guard) => {
-            let rows = answered(map, BESIDE_A_WRITER, moment, clock, me);
-            drop(guard);
-            rows == BESIDE_A_WRITER.len()
-        }
-        None => false,
-    };
-    let reading = match map.get(&1, you) {
-        Some(guard) => {
-            let rows = answered(map, BESIDE_A_READER, moment, clock, me);
-            drop(guard);
-            rows == BESIDE_A_READER.len()
-        }
-        None => false,
-    };
+    let writing = is_answered_beside_a_writer(map, moment, clock, me, you);
+    let reading = is_answered_beside_a_reader(map, moment, clock, me, you);
     let after = answered(map, AFTERWARDS, moment, clock, me) == AFTERWARDS.len();
     alone & writing & reading & after
+}
+
+/// The same over rows of a table.
+fn is_answered_over_rows<R: Wait + Clock + Copy + Drop>(
+    rt: R,
+    alloc: Global,
+    moment: Instant,
+) -> Result<bool, Fail> {
+    let lot = ParkingLot::new(rt, alloc, 2, 7)?;
+    let table = LockTable::new(alloc, &lot, 2)?;
+    let (mut me, mut you) = (lot.thread_data()?, lot.thread_data()?);
+    let map = parked(alloc, &table, 2)?;
+    Ok(is_answered(&map, moment, &rt, &mut me, &mut you))
 }
 
 #[test]
@@ -207,11 +252,7 @@ fn a_call_gives_up_at_its_moment_beside_a_guard_of_its_shard(rt: HostRuntime) ->
     let moment = Instant::now(&rt)?;
     let spun = map_of(rt, rt.alloc(), 2)?;
     assert!(rt; is_answered(&spun, moment, &rt, &mut 1, &mut 2));
-    let lot = ParkingLot::new(rt, rt.alloc(), 2, 7)?;
-    let table = LockTable::new(rt.alloc(), &lot, 2)?;
-    let (mut me, mut you) = (lot.thread_data()?, lot.thread_data()?);
-    let map = parked(rt.alloc(), &table, 2)?;
-    assert!(rt; is_answered(&map, moment, &rt, &mut me, &mut you));
+    assert!(rt; is_answered_over_rows(rt, rt.alloc(), moment)?);
     Ok(())
 }
 
@@ -233,20 +274,24 @@ fn filled<R: Wait + Drop + Copy, C: Clock>(
     Some(12)
 }
 
+/// The same of a map in a heap, if there is one.
+fn filled_in<R: Wait + Clock + Drop + Copy>(
+    rt: &R,
+    heap: &LocalHeap,
+    moment: Instant,
+) -> Option<Option<u64>> {
+    let map: Numbers<SpreadState, PackedLock<R>, &LocalHeap> =
+        DashMap::with_hasher_and_shard_amount(heap, SpreadState, 2, *rt).ok()?;
+    Some(filled(&map, moment, rt))
+}
+
 #[test]
 fn each_growth_that_is_refused_gives_the_pair_back(rt: HostRuntime) -> Result<(), Fail> {
     let (mut refused, mut whole) = (false, false);
     let moment = Instant::now(&rt)?;
     for size in 0..60 {
         let heap = LocalHeap::new(rt.alloc(), size * 64)?;
-        let made: Result<_, MapFault> = DashMap::with_hasher_and_shard_amount(
-            &heap,
-            SpreadState,
-            2,
-            rt,
-        );
-        if let Ok(map) = made {
-            let count = filled(&map, moment, &rt);
+        if let Some(count) = filled_in(&rt, &heap, moment) {
             assert!(rt; count.is_some(), "of {size}");
             refused |= count != Some(12);
             whole |= count == Some(12);

@@ -30,7 +30,26 @@ where
     right & map._shrink_to_fit(me).is_ok() & (map._capacity(me) == 0) & (map._shard_count() == 4)
 }
 
-/// Uses the calls that give guards and entries on a map without pairs. It has the pair 7 and 1 afterwards.
+/// Whether the entries of a map without pairs are had; it has the pair 7 and 1 afterwards.
+fn uses_entries<S: BuildHasher, Q: RawRwLock, A: Allocator + Clone>(
+    map: &Numbers<S, Q, A>,
+    me: &mut Q::Party,
+) -> bool
+where
+    Q::Runtime: Wait,
+{
+    let is_added = match map._entry(7, me) {
+        Ok(entry) => *entry.or_insert(1) == 1,
+        Err(_) => false,
+    };
+    is_added
+        & match map._try_entry(7) {
+            Ok(Some(entry)) => entry.into_key() == 7,
+            Ok(None) | Err(_) => false,
+        }
+}
+
+/// Whether guards of a map with key 7 alone are had.
 fn uses_guards<S: BuildHasher, Q: RawRwLock, A: Allocator + Clone>(
     map: &Numbers<S, Q, A>,
     me: &mut Q::Party,
@@ -38,15 +57,7 @@ fn uses_guards<S: BuildHasher, Q: RawRwLock, A: Allocator + Clone>(
 where
     Q::Runtime: Wait,
 {
-    let mut right = match map._entry(7, me) {
-        Ok(entry) => *entry.or_insert(1) == 1,
-        Err(_) => false,
-    };
-    right &= match map._try_entry(7) {
-        Ok(Some(entry)) => entry.into_key() == 7,
-        Ok(None) | Err(_) => false,
-    };
-    right &= map._get(&8, me).is_none();
+    let mut right = map._get(&8, me).is_none();
     right &= map._get_mut(&7, me).is_some();
     right &= map._try_get(&7).is_present();
     right & map._try_get_mut(&8).is_absent()
@@ -55,20 +66,31 @@ where
 #[test]
 fn the_trait_calls_the_map(rt: HostRuntime) -> Result<(), Fail> {
     let map = map_of(rt, rt.alloc(), 4)?;
-    let right = uses_guards(&map, &mut 1) & uses_values(&map, &mut 1);
-    assert!(rt; right & (map._hasher()? == SpreadState));
+    let right = uses_entries(&map, &mut 1) & uses_guards(&map, &mut 1);
+    assert!(rt; right & uses_values(&map, &mut 1) & (map._hasher()? == SpreadState));
     Ok(())
+}
+
+/// Whether the walks do the same on a map of a hundred keys, each with itself.
+fn uses_walks<S: BuildHasher, Q: RawRwLock, A: Allocator + Clone>(
+    map: &Numbers<S, Q, A>,
+    me: &mut Q::Party,
+) -> bool
+where
+    Q::Runtime: Wait,
+{
+    map._retain(|key, _| *key % 2 == 1, me);
+    map._alter_all(|key, value| value.wrapping_add(*key), me);
+    let mut right = map.len(me) == 50 && !map.contains_key(&10, me);
+    right &= map.view(&11, |_, value| *value, me) == Some(22);
+    map._clear(me);
+    right && map.is_empty(me)
 }
 
 #[test]
 fn walks_by_their_underscored_names_do_the_same(rt: HostRuntime) -> Result<(), Fail> {
     let mut map = map_of(rt, rt.alloc(), 8)?;
-    let mut right = map.extend((0..100u64).map(|key| (key, key))).is_ok();
-    map._retain(|key, _| *key % 2 == 1, &mut 1);
-    map._alter_all(|key, value| value.wrapping_add(*key), &mut 1);
-    right &= map.len(&mut 1) == 50 && !map.contains_key(&10, &mut 1);
-    right &= map.view(&11, |_, value| *value, &mut 1) == Some(22);
-    map._clear(&mut 1);
-    assert!(rt; right && map.is_empty(&mut 1));
+    let right = map.extend((0..100u64).map(|key| (key, key))).is_ok();
+    assert!(rt; right && uses_walks(&map, &mut 1));
     Ok(())
 }
