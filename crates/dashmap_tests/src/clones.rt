@@ -7,6 +7,7 @@ use dashmap_plain::clones::{CloneMap, CloneView};
 use dashmap_table::{MapFault, SpreadState};
 use linked_list_allocator::LocalHeap;
 use lock_api_spin::PackedLock;
+use std::sync::Wait;
 use std::test::Fail;
 
 /// A map in a heap.
@@ -50,34 +51,46 @@ fn a_view_has_a_clone(rt: HostRuntime) -> Result<(), Fail> {
     Ok(())
 }
 
+/// Whether a map with key 7 alone is cloned, if its clone has that pair, or is refused for want of memory.
+fn is_cloned<R: Wait + Copy + Drop>(rt: R, map: &Small<'_, R>) -> Option<bool> {
+    match CloneMap::clone(map, rt, &mut 1) {
+        Ok(clone) if clone.view(&7, |_, value| *value, &mut 1) == Some(14) => Some(true),
+        Err(MapFault::NoMemory) => Some(false),
+        _ => None,
+    }
+}
+
+/// The same of a map in that heap, which has its pair afterwards; `None` where there is no such map.
+fn is_cloned_in<R: Wait + Copy + Drop>(rt: R, heap: &LocalHeap) -> Option<Option<bool>> {
+    let made: Result<Small<'_, R>, MapFault> = DashMap::with_hasher_and_shard_amount(
+        heap,
+        SpreadState,
+        2,
+        rt,
+    );
+    let mut map = made.ok()?;
+    if map.insert_mut(7, 14).is_err() {
+        return None;
+    }
+    let is_cloned = is_cloned(rt, &map);
+    Some(if map.len(&mut 1) == 1 {
+        is_cloned
+    } else {
+        None
+    })
+}
+
 #[test]
 fn a_clone_is_refused_for_want_of_memory_and_the_map_stays(rt: HostRuntime) -> Result<(), Fail> {
-    let mut right = true;
     let (mut refused, mut whole) = (false, false);
     for size in 0..100 {
         let heap = LocalHeap::new(rt.alloc(), size * 64)?;
-        let made: Result<Small<'_, HostRuntime>, MapFault> = DashMap::with_hasher_and_shard_amount(
-            &heap,
-            SpreadState,
-            2,
-            rt,
-        );
-        if let Ok(mut map) = made
-            && map.insert_mut(7, 14).is_ok()
-        {
-            match CloneMap::clone(&map, rt, &mut 1) {
-                Ok(clone) => {
-                    whole = true;
-                    right &= clone.view(&7, |_, value| *value, &mut 1) == Some(14);
-                }
-                Err(fault) => {
-                    refused = true;
-                    right &= fault == MapFault::NoMemory;
-                }
-            }
-            right &= map.len(&mut 1) == 1;
+        if let Some(cloned) = is_cloned_in(rt, &heap) {
+            assert!(rt; cloned.is_some(), "of {size}");
+            refused |= cloned == Some(false);
+            whole |= cloned == Some(true);
         }
     }
-    assert!(rt; right && refused && whole);
+    assert!(rt; refused && whole);
     Ok(())
 }

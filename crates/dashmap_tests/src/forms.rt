@@ -36,7 +36,72 @@ fn fills<R: Wait>(map: &Shared<'_, '_, R>, me: &mut ThreadData<Global>) -> bool 
     right
 }
 
-/// On so many shards, with so many threads' data: whether each form does what calls one by one do.
+/// How often the form that lends visits a pair, and the sum of what it visits.
+fn visits<R: Wait + Threads + Sync>(
+    rt: &R,
+    map: &Shared<'_, '_, R>,
+    tds: &mut [ThreadData<Global>],
+) -> Result<(u64, u64), Fail> {
+    let (visits, sum) = (AtomicU64::new(0), AtomicU64::new(0));
+    map.par_iter(tds)?.for_each(rt, |key: &u64, value: &u64| {
+        visits.fetch_add(1, Ordering::SeqCst);
+        sum.fetch_add(key.wrapping_add(*value), Ordering::SeqCst);
+    });
+    Ok((visits.load(Ordering::SeqCst), sum.load(Ordering::SeqCst)))
+}
+
+/// Adds the key to each value.
+fn write<R: Wait + Threads + Sync>(
+    rt: &R,
+    map: &Shared<'_, '_, R>,
+    tds: &mut [ThreadData<Global>],
+) -> Result<(), Fail> {
+    map.par_iter_mut_shared(tds)?
+        .for_each(rt, |key: &u64, value: &mut u64| {
+            *value = value.wrapping_add(*key);
+        });
+    Ok(())
+}
+
+/// The pairs, in the order of the form that collects.
+fn pairs<R: Wait + Threads + Sync>(
+    rt: &R,
+    alloc: Global,
+    map: &Shared<'_, '_, R>,
+    tds: &mut [ThreadData<Global>],
+) -> Result<Vec<(u64, u64)>, Fail> {
+    let pairs = map
+        .par_iter(tds)?
+        .map_collect(rt, alloc, |key: &u64, value: &u64| (*key, *value))?;
+    Ok(pairs)
+}
+
+/// Whether there are a hundred pairs, each written once, in the order of their shards.
+fn are_written<R: Wait>(map: &Shared<'_, '_, R>, pairs: &[(u64, u64)]) -> bool {
+    let mut right = pairs.len() == 100;
+    let mut last = 0;
+    for (key, value) in pairs {
+        let shard = map.determine_map(key);
+        right &= *value == key.wrapping_mul(3) && last <= shard;
+        last = shard;
+    }
+    right
+}
+
+/// On a full map, with so many threads' data: whether each form does what calls one by one do.
+fn all_agree<R: Wait + Threads + Sync>(
+    rt: &R,
+    alloc: Global,
+    map: &Shared<'_, '_, R>,
+    tds: &mut [ThreadData<Global>],
+) -> Result<bool, Fail> {
+    let right = visits(rt, map, tds)? == (100, 14_850);
+    write(rt, map, tds)?;
+    let pairs = pairs(rt, alloc, map, tds)?;
+    Ok(right && are_written(map, &pairs))
+}
+
+/// The same on so many shards.
 fn agrees<R: Wait + Threads + Copy + Send + Sync + Drop>(
     rt: R,
     alloc: Global,
@@ -54,29 +119,8 @@ fn agrees<R: Wait + Threads + Copy + Send + Sync + Drop>(
     let map = made?;
     let mut me = lot.thread_data()?;
     let mut tds = datas(&lot, alloc, threads)?;
-    let mut right = fills(&map, &mut me);
-    let (visits, sum) = (AtomicU64::new(0), AtomicU64::new(0));
-    map.par_iter(&mut tds)?
-        .for_each(&rt, |key: &u64, value: &u64| {
-            visits.fetch_add(1, Ordering::SeqCst);
-            sum.fetch_add(key.wrapping_add(*value), Ordering::SeqCst);
-        });
-    right &= visits.load(Ordering::SeqCst) == 100 && sum.load(Ordering::SeqCst) == 14_850;
-    map.par_iter_mut_shared(&mut tds)?
-        .for_each(&rt, |key: &u64, value: &mut u64| {
-            *value = value.wrapping_add(*key);
-        });
-    let values = map
-        .par_iter(&mut tds)?
-        .map_collect(&rt, alloc, |key: &u64, value: &u64| { (*key, *value) })?;
-    right &= values.len() == 100;
-    let mut last = 0;
-    for (key, value) in &values {
-        let shard = map.determine_map(key);
-        right &= *value == key.wrapping_mul(3) && last <= shard;
-        last = shard;
-    }
-    Ok(right)
+    let right = fills(&map, &mut me);
+    Ok(right && all_agree(&rt, alloc, &map, &mut tds)?)
 }
 
 #[test]

@@ -1,9 +1,10 @@
 //! Shards and pairs of a map that is given up.
 
-use crate::maps::map_of;
+use crate::maps::{Map, map_of};
 use dashmap_plain::Plain;
-use dashmap_table::{SpreadState, is_shard_amount, route};
+use dashmap_table::{Shard, SpreadState, is_shard_amount, route};
 use std::hash::BuildHasher;
+use std::sync::Wait;
 use std::test::Fail;
 
 /// The shard of a hash, of four.
@@ -15,10 +16,8 @@ fn shard_of(hash: u64) -> usize {
     }
 }
 
-#[test]
-fn the_shards_of_a_map_have_its_pairs_in_their_order(rt: HostRuntime) -> Result<(), Fail> {
-    let map = map_of(rt, 100)?;
-    let shards = map.into_shards();
+/// Whether shards have the keys below a hundred, each on that of its hash.
+fn have_a_hundred(shards: &[Shard<u64, u64>]) -> bool {
     let mut right = shards.len() == 4;
     for key in 0..100u64 {
         let hash = SpreadState.hash_one(&key);
@@ -27,25 +26,34 @@ fn the_shards_of_a_map_have_its_pairs_in_their_order(rt: HostRuntime) -> Result<
             None => false,
         };
     }
-    assert!(rt; right);
-    Ok(())
+    right
 }
 
 #[test]
-fn the_pairs_of_a_map_come_once_each_shards_in_order(rt: HostRuntime) -> Result<(), Fail> {
-    let map = map_of(rt, 100)?;
-    let mut sum = 0u64;
-    let mut pairs = 0u64;
+fn the_shards_of_a_map_have_its_pairs_in_their_order(rt: HostRuntime) -> Result<(), Fail> {
+    assert!(rt; have_a_hundred(&map_of(rt, 100)?.into_shards()));
+    Ok(())
+}
+
+/// How many pairs a map gives, and the sum of their keys, if they come shard by shard and from more than one shard.
+fn given<R: Wait + Drop>(map: Map<R>) -> Option<(u64, u64)> {
+    let (mut pairs, mut sum) = (0u64, 0u64);
     let mut last = 0;
-    let mut right = true;
     for (key, value) in map.into_iter() {
         let shard = shard_of(SpreadState.hash_one(&key));
-        right &= last <= shard && value == key.wrapping_mul(2);
+        if shard < last || value != key.wrapping_mul(2) {
+            return None;
+        }
         last = shard;
         pairs = pairs.wrapping_add(1);
         sum = sum.wrapping_add(key);
     }
-    assert!(rt; right && pairs == 100 && sum == 4950 && last > 0);
+    (last > 0).then_some((pairs, sum))
+}
+
+#[test]
+fn the_pairs_of_a_map_come_once_each_shards_in_order(rt: HostRuntime) -> Result<(), Fail> {
+    assert!(rt; given(map_of(rt, 100)?) == Some((100, 4950)));
     Ok(())
 }
 

@@ -31,30 +31,44 @@ fn kept_item<R: Wait + Drop>(
     Ok(if is_over { Some((*item, text)) } else { None })
 }
 
+/// Whether an empty set takes a key, which an item of a walk has, and is printed with it, also beside that item.
+fn keeps_an_item<R: Wait + Drop>(set: &mut Spun<u64, R>, alloc: Global) -> Result<bool, Fail> {
+    let mut right = set.insert_mut(5) == Ok(true);
+    right &= text_of(set, alloc)?.as_str() == "{5: ()}";
+    let (key, text) = kept_item(set, alloc)?.ok_or("no item")?;
+    Ok(right && key == 5 && text.as_str() == "{5: ()}")
+}
+
 #[test]
 fn an_item_keeps_the_hold_of_its_shard(rt: HostRuntime) -> Result<(), Fail> {
-    let mut set: Spun<u64, HostRuntime> = set_of(rt, rt.alloc())?;
-    let mut right = set.insert_mut(5) == Ok(true);
-    right &= text_of(&set, rt.alloc())?.as_str() == "{5: ()}";
-    let (key, text) = kept_item(&set, rt.alloc())?.ok_or("no item")?;
-    assert!(rt; right && key == 5 && text.as_str() == "{5: ()}");
+    let mut set = set_of(rt, rt.alloc())?;
+    assert!(rt; keeps_an_item(&mut set, rt.alloc())?);
     assert!(rt; make(&set, Call::Remove(5), &mut 1) == Answer::Number(5));
     Ok(())
 }
 
-#[test]
-fn keys_are_put_in_one_after_another_and_come_once_each(rt: HostRuntime) -> Result<(), Fail> {
-    let mut set: Spun<u64, HostRuntime> = set_of(rt, rt.alloc())?;
-    let mut right = set.extend(vec![in rt.alloc(); 1u64, 2, 1]?.into_iter()) == Ok(());
-    right &= make(&set, Call::Len, &mut 1) == Answer::Number(2);
-    right &= set.insert_mut(2) == Ok(false) && set.insert_mut(3) == Ok(true);
-    let mut sum = 0u64;
-    let mut keys = 0u64;
+/// Whether an empty set takes a list of two keys, one of them twice, and a third key of its owner.
+fn takes_three<R: Wait + Drop>(set: &mut Spun<u64, R>, keys: Vec<u64>) -> bool {
+    let mut right = set.extend(keys.into_iter()) == Ok(());
+    right &= make(set, Call::Len, &mut 1) == Answer::Number(2);
+    right && set.insert_mut(2) == Ok(false) && set.insert_mut(3) == Ok(true)
+}
+
+/// How many keys a set gives, and their sum.
+fn given<R: Wait + Drop>(set: Spun<u64, R>) -> (u64, u64) {
+    let (mut keys, mut sum) = (0u64, 0u64);
     for key in set {
         sum = sum.wrapping_add(key);
         keys = keys.wrapping_add(1);
     }
-    assert!(rt; right && keys == 3 && sum == 6);
+    (keys, sum)
+}
+
+#[test]
+fn keys_are_put_in_one_after_another_and_come_once_each(rt: HostRuntime) -> Result<(), Fail> {
+    let mut set = set_of(rt, rt.alloc())?;
+    let right = takes_three(&mut set, vec![in rt.alloc(); 1u64, 2, 1]?);
+    assert!(rt; right && given(set) == (3, 6));
     Ok(())
 }
 
@@ -80,14 +94,19 @@ fn keys_in_shards<R: Wait + Drop>(set: &Spun<u64, R>) -> usize {
     keys
 }
 
-#[test]
-fn a_clone_of_a_set_goes_its_own_way(rt: HostRuntime) -> Result<(), Fail> {
-    let set: Spun<u64, HostRuntime> = set_of(rt, rt.alloc())?;
-    let mut right = make(&set, Call::InsertBelow(3), &mut 1) == Answer::Number(3);
+/// Whether an empty set takes three keys, and keeps them as one is taken out of its clone.
+fn keeps_its_own<R: Wait + Copy + Drop>(rt: R, set: &Spun<u64, R>) -> Result<bool, Fail> {
+    let mut right = make(set, Call::InsertBelow(3), &mut 1) == Answer::Number(3);
     let clone = set.clone(rt, &mut 1)?;
     right &= make(&clone, Call::Remove(1), &mut 1) == Answer::Number(1);
     right &= make(&clone, Call::Iter, &mut 1) == Answer::Met(2, 2);
-    assert!(rt; right && make(&set, Call::Iter, &mut 1) == Answer::Met(3, 3));
+    Ok(right && make(set, Call::Iter, &mut 1) == Answer::Met(3, 3))
+}
+
+#[test]
+fn a_clone_of_a_set_goes_its_own_way(rt: HostRuntime) -> Result<(), Fail> {
+    let set = set_of(rt, rt.alloc())?;
+    assert!(rt; keeps_its_own(rt, &set)?);
     assert!(rt; keys_in_shards(&set) == 3);
     Ok(())
 }

@@ -253,9 +253,8 @@ type Parked<'t, 'l, R> = Numbers<
     Global,
 >;
 
-/// Makes the calls of a table on an empty set over each kind of lock.
-fn check<R: Wait + Copy + Drop>(rt: R, alloc: Global, rows: &[Row]) -> Result<(), Fail> {
-    run(&set_of(rt, alloc)?, rows, &mut 1)?;
+/// Makes the calls of a table on an empty set over the locks of running threads.
+fn run_parked<R: Wait + Copy + Drop>(rt: R, alloc: Global, rows: &[Row]) -> Result<(), Fail> {
     let lot = ParkingLot::new(rt, alloc, 1, 7)?;
     let table = LockTable::new(alloc, &lot, 8)?;
     let mut me = lot.thread_data()?;
@@ -266,6 +265,12 @@ fn check<R: Wait + Copy + Drop>(rt: R, alloc: Global, rows: &[Row]) -> Result<()
         &table,
     );
     run(&made?, rows, &mut me)
+}
+
+/// Makes the calls of a table on an empty set over each kind of lock.
+fn check<R: Wait + Copy + Drop>(rt: R, alloc: Global, rows: &[Row]) -> Result<(), Fail> {
+    run(&set_of(rt, alloc)?, rows, &mut 1)?;
+    run_parked(rt, alloc, rows)
 }
 
 const ONCE: &[Row] = &[

@@ -1,6 +1,6 @@
 //! Maps that become views, and views that become maps again.
 
-use crate::maps::{Map, has_all, map_of, view_of};
+use crate::maps::{Map, View, has_all, map_of, view_of};
 use dashmap_map::parts::shard_locks;
 use dashmap_plain::Plain;
 use dashmap_table::SpreadState;
@@ -8,19 +8,29 @@ use std::hash::BuildHasher;
 use std::sync::Wait;
 use std::test::Fail;
 
-#[test]
-fn a_hundred_keys_become_a_view_and_a_map_again(rt: HostRuntime) -> Result<(), Fail> {
-    let view = view_of(rt, 100)?;
+/// Whether a view has the keys below a hundred, each with its double.
+fn has_a_hundred<R: Wait + Drop>(view: &View<R>) -> bool {
     let mut right = view.len() == 100 && !view.is_empty() && view.capacity() >= 100;
     for key in 0..100u64 {
         right &= view.get(&key) == Some(&key.wrapping_mul(2)) && view.contains_key(&key);
     }
-    right &= view.get(&100).is_none() && view.get_key_value(&7) == Some((&7, &14));
+    right && view.get(&100).is_none() && view.get_key_value(&7) == Some((&7, &14))
+}
+
+/// How many pairs a walk over a view lends, if each value is the double of its key.
+fn met<R: Wait + Drop>(view: &View<R>) -> Option<u64> {
     let mut met = 0u64;
     for (key, value) in view.iter() {
-        right &= *value == key.wrapping_mul(2);
+        if *value != key.wrapping_mul(2) {
+            return None;
+        }
         met = met.wrapping_add(1);
     }
+    Some(met)
+}
+
+/// The sums of the keys and of the values of a view.
+fn sums<R: Wait + Drop>(view: &View<R>) -> (u64, u64) {
     let mut sums = (0u64, 0u64);
     for key in view.keys() {
         sums.0 = sums.0.wrapping_add(*key);
@@ -28,37 +38,48 @@ fn a_hundred_keys_become_a_view_and_a_map_again(rt: HostRuntime) -> Result<(), F
     for value in view.values() {
         sums.1 = sums.1.wrapping_add(*value);
     }
-    right &= met == 100 && sums == (4950, 9900) && view.shards().len() == 4;
+    sums
+}
+
+#[test]
+fn a_hundred_keys_become_a_view_and_a_map_again(rt: HostRuntime) -> Result<(), Fail> {
+    let view = view_of(rt, 100)?;
+    let mut right = has_a_hundred(&view) && met(&view) == Some(100);
+    right &= sums(&view) == (4950, 9900) && view.shards().len() == 4;
     let map = view.into_inner();
     assert!(rt; right && has_all(&map, 100));
     Ok(())
 }
 
+/// The view that a map becomes.
+fn viewed<R: Wait + Drop>(map: Map<R>) -> Result<View<R>, Fail> {
+    match map.into_read_only() {
+        Ok(view) => Ok(view),
+        Err(_) => Err("no view".into()),
+    }
+}
+
 #[test]
 fn a_map_that_was_a_view_takes_pairs_and_becomes_one_again(rt: HostRuntime) -> Result<(), Fail> {
-    let view = view_of(rt, 10)?;
-    let mut map = view.into_inner();
-    let mut right = map.insert_mut(10, 20) == Ok(None);
-    right &= has_all(&map, 11);
-    let Ok(view) = map.into_read_only() else {
-        return Err("no view".into());
-    };
+    let mut map = view_of(rt, 10)?.into_inner();
+    let right = map.insert_mut(10, 20) == Ok(None) && has_all(&map, 11);
+    let view = viewed(map)?;
     assert!(rt; right && view.len() == 11 && view.get(&10) == Some(&20));
     Ok(())
+}
+
+/// Whether a map has four pairs, and so much room.
+fn has_four<R: Wait + Drop>(map: &Map<R>, room: usize) -> bool {
+    map.capacity(&mut 1) == room && map.len(&mut 1) == 4 && !map.is_empty(&mut 1)
 }
 
 #[test]
 fn a_view_and_the_map_after_it_have_the_room_that_the_map_had(rt: HostRuntime) -> Result<(), Fail> {
     let map = map_of(rt, 4)?;
-    let mut me = 1;
-    let room = map.capacity(&mut me);
-    let Ok(view) = map.into_read_only() else {
-        return Err("no view".into());
-    };
-    let mut right = view.capacity() == room && view.len() == 4 && !view.is_empty();
-    let map = view.into_inner();
-    right &= map.capacity(&mut me) == room && map.len(&mut me) == 4;
-    assert!(rt; right && !map.is_empty(&mut me));
+    let room = map.capacity(&mut 1);
+    let view = viewed(map)?;
+    let right = view.capacity() == room && view.len() == 4 && !view.is_empty();
+    assert!(rt; right && has_four(&view.into_inner(), room));
     Ok(())
 }
 
