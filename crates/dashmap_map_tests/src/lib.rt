@@ -15,11 +15,17 @@ mod keys;
 #[cfg(test)]
 mod making;
 #[cfg(test)]
+mod names;
+#[cfg(test)]
 mod operators;
 #[cfg(test)]
 mod refused;
 #[cfg(test)]
+mod shards;
+#[cfg(test)]
 mod shown;
+#[cfg(test)]
+mod small;
 #[cfg(test)]
 mod tables;
 #[cfg(test)]

@@ -22,6 +22,8 @@ pub enum Call {
     /// Gives up room, and answers whether that was done.
     Shrink,
     Len,
+    /// Whether there is no pair.
+    IsEmpty,
     /// Whether there is room for so many pairs in all.
     HasRoom(usize),
     /// Whether there is room for so many pairs in all at most.
@@ -145,6 +147,7 @@ pub fn make<A: Allocator + Clone>(shard: &mut Numbers<A>, call: Call) -> Answer 
         Call::Reserve(more) => Answer::Flag(shard.reserve(more).is_ok()),
         Call::Shrink => Answer::Flag(shard.shrink().is_ok()),
         Call::Len => Answer::Number(shard.len() as u64),
+        Call::IsEmpty => Answer::Flag(shard.is_empty()),
         Call::HasRoom(pairs) => Answer::Flag(shard.capacity() >= pairs),
         Call::HasRoomAtMost(pairs) => Answer::Flag(shard.capacity() <= pairs),
         _ => Answer::Number(make_on_each(shard, call)),

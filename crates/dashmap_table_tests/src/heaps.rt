@@ -6,6 +6,7 @@ use dashmap_table::{MapFault, Shard, Shards};
 use linked_list_allocator::LocalHeap;
 use std::alloc::Global;
 use std::hash::{BuildHasherDefault, FoldHasher};
+use std::process::Abort;
 use std::test::Fail;
 
 type Fold = BuildHasherDefault<FoldHasher>;
@@ -61,22 +62,6 @@ fn taken_of_ten(heap: &LocalHeap) -> Option<u64> {
     }
 }
 
-#[test]
-fn a_refused_insertion_hands_the_pair_back_and_a_present_key_needs_no_memory(
-    rt: HostRuntime,
-) -> Result<(), Fail> {
-    let (mut refused, mut whole) = (false, false);
-    for size in 0..40 {
-        let heap = LocalHeap::new(rt.alloc(), size * 64)?;
-        let taken = taken_of_ten(&heap);
-        assert!(rt; taken.is_some(), "of {size}");
-        refused |= taken < Some(10);
-        whole |= taken == Some(10);
-    }
-    assert!(rt; refused && whole);
-    Ok(())
-}
-
 /// On a heap: whether room for twenty more pairs is had, if a refusal changes nothing.
 fn is_reserved(heap: &LocalHeap) -> Option<bool> {
     let (mut shard, count) = packed(heap, 2);
@@ -84,20 +69,6 @@ fn is_reserved(heap: &LocalHeap) -> Option<bool> {
     let is_had = shard.reserve(20).is_ok();
     let right = (is_had || shard.capacity() == capacity) && has_all(&mut shard, count);
     if right { Some(is_had) } else { None }
-}
-
-#[test]
-fn refused_room_changes_nothing(rt: HostRuntime) -> Result<(), Fail> {
-    let (mut refused, mut done) = (false, false);
-    for size in 4..40 {
-        let heap = LocalHeap::new(rt.alloc(), size * 64)?;
-        let had = is_reserved(&heap);
-        assert!(rt; had.is_some(), "of {size}");
-        refused |= had == Some(false);
-        done |= had == Some(true);
-    }
-    assert!(rt; refused && done);
-    Ok(())
 }
 
 /// The largest block that a heap still has, taken.
@@ -124,20 +95,6 @@ fn is_shrunk(heap: &LocalHeap, is_full: bool) -> Option<bool> {
     if right { Some(is_done) } else { None }
 }
 
-#[test]
-fn a_refused_shrink_changes_nothing(rt: HostRuntime) -> Result<(), Fail> {
-    let (mut refused, mut done) = (false, false);
-    for size in 2..40 {
-        let heap = LocalHeap::new(rt.alloc(), size * 64)?;
-        let shrunk = is_shrunk(&heap, size % 2 == 0);
-        assert!(rt; shrunk.is_some(), "of {size}");
-        refused |= shrunk == Some(false);
-        done |= shrunk == Some(true);
-    }
-    assert!(rt; refused && done);
-    Ok(())
-}
-
 /// On a heap: whether twelve pairs fill it, and whether a shard without spare room shrinks to its pairs.
 fn is_full_and_shrinks(heap: &LocalHeap) -> (bool, bool) {
     let (mut shard, count) = packed(heap, 12);
@@ -145,18 +102,78 @@ fn is_full_and_shrinks(heap: &LocalHeap) -> (bool, bool) {
     (count < 12, is_shrunk && has_all(&mut shard, count))
 }
 
+/// What is done on heaps, and refused on some.
+#[derive(Clone, Copy)]
+enum Asked {
+    /// Ten keys are put in.
+    Insertions,
+    /// Room for twenty more pairs is made.
+    Room,
+    /// A shard with much room shrinks; every other heap is filled before.
+    Shrinking,
+    /// Twelve keys are put in, and then the shard shrinks, which is never refused where they fill the heap.
+    Packing,
+}
+
+/// On a heap of a size: whether what is asked for is done, if it is right.
+fn outcome(heap: &LocalHeap, asked: Asked, size: usize) -> Option<bool> {
+    match asked {
+        Asked::Insertions => Some(taken_of_ten(heap)? == 10),
+        Asked::Room => is_reserved(heap),
+        Asked::Shrinking => is_shrunk(heap, size % 2 == 0),
+        Asked::Packing => match is_full_and_shrinks(heap) {
+            (true, false) => None,
+            (is_full, _) => Some(!is_full),
+        },
+    }
+}
+
+/// Sees that it is right on each heap from so many times 64 bytes up to below so many, and is both refused and done.
+fn try_heaps(
+    rt: &(impl AllocGlobal + Abort),
+    asked: Asked,
+    from: usize,
+    to: usize,
+) -> Result<(), Fail> {
+    let (mut refused, mut done) = (false, false);
+    for size in from..to {
+        let heap = LocalHeap::new(rt.alloc(), size.wrapping_mul(64))?;
+        let is_done = outcome(&heap, asked, size);
+        assert!(rt; is_done.is_some(), "of {size}");
+        refused |= is_done == Some(false);
+        done |= is_done == Some(true);
+    }
+    assert!(rt; refused && done);
+    Ok(())
+}
+
+#[test]
+fn a_refused_insertion_hands_the_pair_back_and_a_present_key_needs_no_memory(
+    rt: HostRuntime,
+) -> Result<(), Fail> {
+    try_heaps(&rt, Asked::Insertions, 0, 40)
+}
+
+#[test]
+fn refused_room_changes_nothing(rt: HostRuntime) -> Result<(), Fail> {
+    try_heaps(&rt, Asked::Room, 4, 40)
+}
+
+#[test]
+fn a_refused_shrink_changes_nothing(rt: HostRuntime) -> Result<(), Fail> {
+    try_heaps(&rt, Asked::Shrinking, 2, 40)
+}
+
+/// Whether a shard without pairs shrinks.
+fn shrinks(shard: &mut Small<'_>) -> bool {
+    shard.shrink().is_ok() && shard.capacity() == 0
+}
+
 #[test]
 fn a_shard_without_spare_room_shrinks_without_memory(rt: HostRuntime) -> Result<(), Fail> {
-    let mut full = false;
-    for size in 2..40 {
-        let heap = LocalHeap::new(rt.alloc(), size * 64)?;
-        let (is_full, shrinks) = is_full_and_shrinks(&heap);
-        full |= is_full;
-        assert!(rt; shrinks || !is_full, "of {size}");
-    }
+    try_heaps(&rt, Asked::Packing, 2, 40)?;
     let heap = LocalHeap::new(rt.alloc(), 0)?;
-    let mut shard: Small<'_> = Shard::new(&heap);
-    assert!(rt; full && shard.shrink().is_ok() && shard.capacity() == 0);
+    assert!(rt; shrinks(&mut Shard::new(&heap)));
     Ok(())
 }
 
@@ -196,6 +213,13 @@ fn refused_of_twelve(map: &mut SmallShards<'_>) -> Option<u64> {
     Some(refused)
 }
 
+/// On a heap: whether room is had again on plain shards, and how many keys are refused, if there are such shards.
+fn on_plain_shards(heap: &LocalHeap) -> Option<(Option<bool>, Option<u64>)> {
+    let mut map = Shards::new(heap, 2, Fold::new()).ok()?;
+    let again = room_is_had_again(&mut map);
+    Some((again, refused_of_twelve(&mut map)))
+}
+
 #[test]
 fn plain_shards_hand_the_pair_back_and_refuse_no_room_that_is_there(
     rt: HostRuntime,
@@ -203,14 +227,11 @@ fn plain_shards_hand_the_pair_back_and_refuse_no_room_that_is_there(
     let (mut reserved, mut refused) = (false, false);
     for size in 4..80 {
         let heap = LocalHeap::new(rt.alloc(), size * 32)?;
-        let Ok(mut map) = Shards::new(&heap, 2, Fold::new()) else {
-            continue;
-        };
-        let again = room_is_had_again(&mut map);
-        reserved |= again == Some(true);
-        let back = refused_of_twelve(&mut map);
-        refused |= back > Some(0);
-        assert!(rt; again != Some(false) && back.is_some(), "of {size}");
+        if let Some((again, back)) = on_plain_shards(&heap) {
+            reserved |= again == Some(true);
+            refused |= back > Some(0);
+            assert!(rt; again != Some(false) && back.is_some(), "of {size}");
+        }
     }
     assert!(rt; reserved && refused);
     Ok(())

@@ -1,7 +1,7 @@
 //! Odd keys: one that stands alone, ones that are compared by one field of two, ones that share a hash, and the least
 //! and the greatest.
 
-use dashmap_table::{MapFault, Shards};
+use dashmap_table::Shards;
 use std::hash::{BuildHasher, BuildHasherDefault, FoldHasher, Hasher};
 use std::test::Fail;
 
@@ -45,42 +45,63 @@ impl BuildHasher for OneHash {
     }
 }
 
-#[test]
-fn there_is_one_unit(rt: HostRuntime) -> Result<(), Fail> {
-    let mut map: Shards<(), u64, Fold> = Shards::new(rt.alloc(), 4, Fold::new())?;
+/// Whether shards without pairs take the one unit, and give it back.
+fn have_one_unit(map: &mut Shards<(), u64, Fold>) -> bool {
     let mut right = map.find(&()).is_none();
     right &= map.insert((), 1) == Ok(None);
     right &= map.insert((), 2) == Ok(Some(1));
     right &= map.remove(&()) == Some(((), 2));
-    assert!(rt; right && map.remove(&()) == None);
-    Ok(())
+    right && map.remove(&()) == None
 }
 
 #[test]
-fn keys_are_compared_by_one_field(rt: HostRuntime) -> Result<(), Fail> {
-    let mut map: Shards<Labelled, u64, Fold> = Shards::new(rt.alloc(), 8, Fold::new())?;
+fn there_is_one_unit(rt: HostRuntime) -> Result<(), Fail> {
+    let mut map = Shards::new(rt.alloc(), 4, Fold::new())?;
+    assert!(rt; have_one_unit(&mut map));
+    Ok(())
+}
+
+/// What the insertion of a number with a label answers.
+fn put(map: &mut Shards<Labelled, u64, Fold>, number: u64, label: u8, value: u64) -> Option<u64> {
+    match map.insert(Labelled { number, label }, value) {
+        Ok(old) => old,
+        Err(_) => Some(u64::MAX),
+    }
+}
+
+/// The number, the label and the value of a pair that is taken out.
+fn taken(map: &mut Shards<Labelled, u64, Fold>, sought: &Labelled) -> Option<(u64, u8, u64)> {
+    let (stored, value) = map.remove(sought)?;
+    Some((stored.number, stored.label, value))
+}
+
+/// Whether shards without pairs take numbers whatever their labels are.
+fn have_numbers(map: &mut Shards<Labelled, u64, Fold>) -> bool {
     let mut right = true;
     for number in 0..20 {
-        right &= map.insert(Labelled { number, label: 1 }, number) == Ok(None);
+        right &= put(map, number, 1, number) == None;
     }
     for number in 0..20 {
-        let old = map.insert(Labelled { number, label: 2 }, 50);
-        right &= old == Ok(Some(number));
+        right &= put(map, number, 2, 50) == Some(number);
     }
     let sought = Labelled {
         number: 7,
         label: 3,
     };
-    let (stored, value) = map.remove(&sought).ok_or("not found")?;
-    right &= (stored.number == 7) & (stored.label == 1) & (value == 50);
-    assert!(rt; right && map.find(&sought).is_none());
-    Ok(())
+    right &= taken(map, &sought) == Some((7, 1, 50));
+    right && map.find(&sought).is_none()
 }
 
 #[test]
-fn keys_of_one_hash_share_a_shard(rt: HostRuntime) -> Result<(), Fail> {
-    let mut map: Shards<u64, u64, OneHash> = Shards::new(rt.alloc(), 4, OneHash)?;
-    let mut right = true;
+fn keys_are_compared_by_one_field(rt: HostRuntime) -> Result<(), Fail> {
+    let mut map = Shards::new(rt.alloc(), 8, Fold::new())?;
+    assert!(rt; have_numbers(&mut map));
+    Ok(())
+}
+
+/// Whether all keys of one hash are in one shard.
+fn share_a_shard(map: &mut Shards<u64, u64, OneHash>) -> bool {
+    let mut right = map.count() > 0;
     for key in 0..50 {
         right &= map.insert(key, key) == Ok(None);
     }
@@ -90,19 +111,29 @@ fn keys_of_one_hash_share_a_shard(rt: HostRuntime) -> Result<(), Fail> {
     for key in 25..50 {
         right &= matches!(map.find(&key), Some((shard, _)) if shard == 0);
     }
-    assert!(rt; right && map.shard(0).len() == 25 && map.find(&0).is_none());
-    Ok(())
+    right && map.count() > 0 && map.shard(0).len() == 25 && map.find(&0).is_none()
 }
 
 #[test]
-fn the_least_and_the_greatest_key(rt: HostRuntime) -> Result<(), Fail> {
-    let made: Result<Shards<u64, u64, Fold>, MapFault> = Shards::new(rt.alloc(), 2, Fold::new());
-    let mut map = made?;
+fn keys_of_one_hash_share_a_shard(rt: HostRuntime) -> Result<(), Fail> {
+    let mut map = Shards::new(rt.alloc(), 4, OneHash)?;
+    assert!(rt; share_a_shard(&mut map));
+    Ok(())
+}
+
+/// Whether shards without pairs take both ends, and give them back.
+fn have_both_ends(map: &mut Shards<u64, u64, Fold>) -> bool {
     let mut right = map.insert(0, 1) == Ok(None);
     right &= map.insert(u64::MAX, u64::MAX) == Ok(None);
     right &= map.insert(u64::MAX, 3) == Ok(Some(u64::MAX));
     right &= map.remove(&0) == Some((0, 1));
     right &= map.find(&0).is_none() & map.find(&1).is_none();
-    assert!(rt; right && map.remove(&u64::MAX) == Some((u64::MAX, 3)));
+    right && map.remove(&u64::MAX) == Some((u64::MAX, 3))
+}
+
+#[test]
+fn the_least_and_the_greatest_key(rt: HostRuntime) -> Result<(), Fail> {
+    let mut map = Shards::new(rt.alloc(), 2, Fold::new())?;
+    assert!(rt; have_both_ends(&mut map));
     Ok(())
 }

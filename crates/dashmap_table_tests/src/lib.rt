@@ -1,20 +1,15 @@
-//! Tests of what stands below the locks: shards and their tables of tags, views, parallel forms of both, and small
-//! things of guards; and of recorded histories. They try what no contract says. A call on a shard of numbers is data,
-//! and so is what it answers: a case is a row of a table.
+//! Tests of what stands below the locks, shards and their tables of tags, and of recorded histories. They try what no
+//! contract says. A call on a shard of numbers is data, and so is what it answers: a case is a row of a table.
 #![tactic(auto)]
 
 #[cfg(test)]
 mod calls;
-#[cfg(test)]
-mod found;
 #[cfg(test)]
 mod heaps;
 #[cfg(test)]
 mod kernel;
 #[cfg(test)]
 mod keys;
-#[cfg(test)]
-mod pieces;
 #[cfg(test)]
 mod record;
 #[cfg(test)]
@@ -24,12 +19,6 @@ mod shard;
 #[cfg(test)]
 mod shards;
 #[cfg(test)]
-mod small;
-#[cfg(test)]
 mod twins;
-#[cfg(test)]
-mod views;
-#[cfg(test)]
-mod walks;
 #[cfg(test)]
 mod words;

@@ -59,20 +59,30 @@ fn done_by_twin(
 }
 
 /// How many of so many calls had another answer than the twin's.
-fn differences(alloc: Global, calls: u64, keys: u64, is_poor: bool) -> Result<u64, Fail> {
-    let mut shard = Shard::new(alloc);
-    let mut twin = HashMap::new(alloc);
+fn differences_from_a_map(
+    shard: &mut Shard<u64, u64>,
+    twin: &mut HashMap<u64, u64>,
+    calls: u64,
+    keys: u64,
+    is_poor: bool,
+) -> Result<u64, Fail> {
     let mut chance = Chance { state: 7 };
     let mut count = 0u64;
     for value in 0..calls {
         let call = chance.next();
         let key = chance.next() % keys.max(1);
-        let answer = done(&mut shard, call, hash_of(key, is_poor), key, value);
-        if answer != done_by_twin(&mut twin, call, key, value)? || shard.len() != twin.len() {
+        let answer = done(shard, call, hash_of(key, is_poor), key, value);
+        if answer != done_by_twin(twin, call, key, value)? || shard.len() != twin.len() {
             count = count.wrapping_add(1);
         }
     }
     Ok(count)
+}
+
+/// The same of an empty shard and an empty twin.
+fn differences(alloc: Global, calls: u64, keys: u64, is_poor: bool) -> Result<u64, Fail> {
+    let mut twin = HashMap::new(alloc);
+    differences_from_a_map(&mut Shard::new(alloc), &mut twin, calls, keys, is_poor)
 }
 
 #[test]
@@ -116,33 +126,55 @@ impl PlainList {
         Some(pair.1)
     }
 
+    fn value(&self, key: u64) -> Option<u64> {
+        let pair = (*self.places.get(self.position(key)?)?)?;
+        Some(pair.1)
+    }
+
     fn count(&self) -> usize {
         self.places.iter().filter(|place| place.is_some()).count()
     }
 }
 
+/// What a call did in a plain list.
+fn done_by_list(
+    list: &mut PlainList,
+    call: u64,
+    key: u64,
+    value: u64,
+) -> Result<Option<u64>, Fail> {
+    match call % 4 {
+        0 => Ok(list.take(key)),
+        1 => Ok(list.value(key)),
+        _ => list.put(key, value),
+    }
+}
+
+/// How many of so many calls had another answer than those of a list.
+fn differences_from_a_list(
+    shard: &mut Shard<u64, u64>,
+    list: &mut PlainList,
+    calls: u64,
+) -> Result<u64, Fail> {
+    let mut chance = Chance { state: 11 };
+    let mut count = 0u64;
+    for value in 0..calls {
+        let call = chance.next();
+        let key = chance.next() % 40;
+        let answer = done(shard, call, hash_of(key, key % 2 == 0), key, value);
+        if answer != done_by_list(list, call, key, value)? || shard.len() != list.count() {
+            count = count.wrapping_add(1);
+        }
+    }
+    Ok(count)
+}
+
 #[test]
 fn a_table_answers_as_a_plain_list_does(rt: HostRuntime) -> Result<(), Fail> {
-    let mut shard = Shard::new(rt.alloc());
     let mut list = PlainList {
         places: Vec::new(rt.alloc()),
     };
-    let mut chance = Chance { state: 11 };
-    let mut right = true;
-    for value in 0..3_000 {
-        let call = chance.next();
-        let key = chance.next() % 40;
-        let answer = done(&mut shard, call, hash_of(key, key % 2 == 0), key, value);
-        let expected = match call % 4 {
-            0 => list.take(key),
-            1 => match list.position(key) {
-                Some(place) => list.places.get(place).copied().flatten().map(|pair| pair.1),
-                None => None,
-            },
-            _ => list.put(key, value)?,
-        };
-        right &= (answer == expected) & (shard.len() == list.count());
-    }
-    assert!(rt; right);
+    let count = differences_from_a_list(&mut Shard::new(rt.alloc()), &mut list, 3_000)?;
+    assert!(rt; count == 0);
     Ok(())
 }

@@ -16,13 +16,13 @@ mod forms;
 #[cfg(test)]
 mod maps;
 #[cfg(test)]
-mod names;
-#[cfg(test)]
 mod noted;
 #[cfg(test)]
 mod parts;
 #[cfg(test)]
 mod pieces;
+#[cfg(test)]
+mod plain;
 #[cfg(test)]
 mod set_forms;
 #[cfg(test)]
@@ -31,7 +31,5 @@ mod set_making;
 mod set_walks;
 #[cfg(test)]
 mod sets;
-#[cfg(test)]
-mod shards;
 #[cfg(test)]
 mod views;

@@ -1,10 +1,11 @@
 //! One caller after another.
 
 use crate::record::calls::{Fold, Numbers, make};
-use dashmap_record::{Call, CallReply, Caller, RecordFault, Recorded, gather};
+use dashmap_record::{Call, CallReply, Caller, Entered, RecordFault, Recorded, gather};
 use dashmap_table::MapFault;
 use lock_api_spin::PackedLock;
 use std::alloc::Global;
+use std::sync::Wait;
 use std::test::Fail;
 
 /// A map of numbers over locks of one word each.
@@ -22,17 +23,17 @@ fn made_of<R: Copy + Drop>(
     Recorded::new(alloc, 2, Fold::new(), callers, rt)
 }
 
+/// What a map of so many shards is refused as.
+fn fault_of<R: Copy + Drop>(rt: R, alloc: Global, shards: usize) -> Option<MapFault> {
+    let made: Result<Made<R, Global>, MapFault> = Recorded::new(alloc, shards, Fold::new(), 2, rt);
+    made.err()
+}
+
 #[test]
 fn an_odd_amount_of_shards_is_refused(rt: HostRuntime) {
     for shards in [0, 1, 3, 131_072] {
-        let made: Result<Made<HostRuntime, Global>, MapFault> = Recorded::new(
-            rt.alloc(),
-            shards,
-            Fold::new(),
-            2,
-            rt,
-        );
-        assert!(rt; made.err() == Some(MapFault::BadShards), "{shards} shards");
+        let fault = fault_of(rt, rt.alloc(), shards);
+        assert!(rt; fault == Some(MapFault::BadShards), "{shards} shards");
     }
 }
 
@@ -48,23 +49,69 @@ const CALLS: [(Call<u64, u64>, CallReply<u64, u64>); 8] = [
     (Call::GetCopied(1), CallReply::None),
 ];
 
+/// The first of a caller's calls that is replied otherwise.
+fn replied_otherwise<R: Wait + Drop>(
+    map: &Map<R, Global>,
+    me: &mut Caller<u64, u64>,
+) -> Option<Call<u64, u64>> {
+    for (call, reply) in CALLS {
+        if make(map, call, me, &mut 1) != Ok(reply) {
+            return Some(call);
+        }
+    }
+    None
+}
+
+/// What is gathered of a map and of its one caller.
+fn all_of<R: Drop>(
+    alloc: Global,
+    map: Map<R, Global>,
+    me: Caller<u64, u64>,
+) -> Result<Vec<Entered<u64, u64>>, Fail> {
+    let mut logs = Vec::new(alloc);
+    logs.push(me.log())?;
+    Ok(gather(alloc, map.histories(), logs, &Fold::new())?)
+}
+
+/// The first of the calls that wasn't written down in its place.
+fn written_otherwise(all: &[Entered<u64, u64>]) -> Option<Call<u64, u64>> {
+    for (entry, (call, reply)) in all.iter().zip(CALLS.iter()) {
+        if entry.call != *call || entry.reply != *reply || entry.caller != 0 {
+            return Some(*call);
+        }
+    }
+    None
+}
+
 #[test]
 fn each_call_is_written_down(rt: HostRuntime) -> Result<(), Fail> {
     let (map, mut callers) = made_of(rt, rt.alloc(), 1)?;
     let mut me = callers.pop().ok_or("no caller")?;
-    for (call, reply) in CALLS {
-        assert!(rt; make(&map, call, &mut me, &mut 1) == Ok(reply), "{call:?}");
-    }
+    let wrong = replied_otherwise(&map, &mut me);
+    assert!(rt; wrong == None, "{wrong:?}");
     assert!(rt; me.number() == 0 && me.last() == 8);
-    let mut logs = Vec::new(rt.alloc());
-    logs.push(me.log())?;
-    let all = gather(rt.alloc(), map.histories(), logs, &Fold::new())?;
-    assert!(rt; all.len() == 8);
-    for (entry, (call, reply)) in all.iter().zip(CALLS.iter()) {
-        let is_so = entry.call == *call && entry.reply == *reply && entry.caller == 0;
-        assert!(rt; is_so, "{call:?}");
-    }
+    let all = all_of(rt.alloc(), map, me)?;
+    let wrong = written_otherwise(&all);
+    assert!(rt; all.len() == 8 && wrong == None, "{} {wrong:?}", all.len());
     Ok(())
+}
+
+/// Whether a look finds nothing, and the caller's last stamp is this then.
+fn looks<R: Wait + Drop>(map: &Map<R, Global>, me: &mut Caller<u64, u64>, last: u64) -> bool {
+    make(map, Call::GetCopied(1), me, &mut 1) == Ok(CallReply::None) && me.last() == last
+}
+
+/// Whether the stamps of two callers on one shard rise above one another.
+fn stamps_rise<R: Wait + Drop>(
+    map: &Map<R, Global>,
+    first: &mut Caller<u64, u64>,
+    second: &mut Caller<u64, u64>,
+) -> bool {
+    let mut right = first.number() == 0 && second.number() == 1;
+    for last in 1..4 {
+        right &= looks(map, first, last);
+    }
+    right && looks(map, second, 4) && looks(map, first, 5)
 }
 
 #[test]
@@ -72,14 +119,7 @@ fn stamps_rise_above_both_lasts(rt: HostRuntime) -> Result<(), Fail> {
     let (map, mut callers) = made_of(rt, rt.alloc(), 2)?;
     let mut second = callers.pop().ok_or("no caller")?;
     let mut first = callers.pop().ok_or("no caller")?;
-    let look = Call::GetCopied(1);
-    let mut right = true;
-    for _turn in 0..3 {
-        right &= make(&map, look, &mut first, &mut 1) == Ok(CallReply::None);
-    }
-    right &= make(&map, look, &mut second, &mut 1) == Ok(CallReply::None) && second.last() == 4;
-    right &= make(&map, look, &mut first, &mut 1) == Ok(CallReply::None) && first.last() == 5;
-    assert!(rt; right && first.number() == 0 && second.number() == 1);
+    assert!(rt; stamps_rise(&map, &mut first, &mut second));
     Ok(())
 }
 
@@ -91,41 +131,57 @@ const SPENT: [Call<u64, u64>; 4] = [
     Call::ReplaceIf(1, 5, 6),
 ];
 
-#[test]
-fn a_caller_without_stamps_adds_nothing(rt: HostRuntime) -> Result<(), Fail> {
-    let (map, _) = made_of(rt, rt.alloc(), 0)?;
-    let mut me = Caller::after(rt.alloc(), 0, u64::MAX - 1);
-    let last = make(&map, Call::Insert(1, 5), &mut me, &mut 1);
-    assert!(rt; last == Ok(CallReply::None));
-    let mut other = Caller::after(rt.alloc(), 1, 0);
+/// The first call that isn't refused to a caller without stamps, or then to another on that shard.
+fn had_without_stamps<R: Wait + Drop>(
+    map: &Map<R, Global>,
+    me: &mut Caller<u64, u64>,
+    other: &mut Caller<u64, u64>,
+) -> Option<(Call<u64, u64>, &'static str)> {
     for call in SPENT {
-        let refused = make(&map, call, &mut me, &mut 1);
-        assert!(rt; refused == Err(RecordFault::StampsSpent), "{call:?}");
-        let refused = make(&map, call, &mut other, &mut 1);
-        assert!(rt;
-            refused == Err(RecordFault::StampsSpent),
-            "{call:?} on a shard"
-        );
+        if make(map, call, me, &mut 1) != Err(RecordFault::StampsSpent) {
+            return Some((call, "of the caller"));
+        }
+        if make(map, call, other, &mut 1) != Err(RecordFault::StampsSpent) {
+            return Some((call, "on a shard"));
+        }
     }
-    assert!(rt; me.last() == u64::MAX && me.log().len() == 1 && other.log().is_empty());
+    None
+}
+
+/// How many entries the histories of a map have.
+fn entries_in<R: Drop>(map: Map<R, Global>) -> usize {
     let mut entries = 0usize;
     for history in map.histories() {
         entries = entries.wrapping_add(history.len());
     }
-    assert!(rt; entries == 1);
+    entries
+}
+
+#[test]
+fn a_caller_without_stamps_adds_nothing(rt: HostRuntime) -> Result<(), Fail> {
+    let (map, _) = made_of(rt, rt.alloc(), 0)?;
+    let mut me = Caller::after(rt.alloc(), 0, u64::MAX - 1);
+    let mut other = Caller::after(rt.alloc(), 1, 0);
+    let last = make(&map, Call::Insert(1, 5), &mut me, &mut 1);
+    let had = had_without_stamps(&map, &mut me, &mut other);
+    assert!(rt; last == Ok(CallReply::None));
+    assert!(rt; had == None, "{had:?}");
+    assert!(rt; me.last() == u64::MAX);
+    let (mine, others) = (me.log().len(), other.log().len());
+    assert!(rt; mine == 1 && others == 0 && entries_in(map) == 1);
     Ok(())
+}
+
+/// Whether a refusal has this number and this name.
+fn is_named(alloc: Global, fault: RecordFault, code: u16, name: &str) -> Result<bool, Fail> {
+    let shown = format!(in alloc; "{fault} {fault:?}")?;
+    let wanted = format!(in alloc; "{name} {name}")?;
+    Ok(fault.code() == code && shown == wanted)
 }
 
 #[test]
 fn refusals_have_numbers_and_names(rt: HostRuntime) -> Result<(), Fail> {
-    let faults = [
-        (RecordFault::StampsSpent, 41, "StampsSpent"),
-        (RecordFault::NoMemory, 99, "NoMemory"),
-    ];
-    for (fault, code, name) in faults {
-        let shown = format!(in rt.alloc(); "{fault} {fault:?}")?;
-        let wanted = format!(in rt.alloc(); "{name} {name}")?;
-        assert!(rt; (fault.code() == code) & (shown == wanted), "{name}");
-    }
+    assert!(rt; is_named(rt.alloc(), RecordFault::StampsSpent, 41, "StampsSpent")?);
+    assert!(rt; is_named(rt.alloc(), RecordFault::NoMemory, 99, "NoMemory")?);
     Ok(())
 }

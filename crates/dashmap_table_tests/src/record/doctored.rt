@@ -89,36 +89,68 @@ fn nothing_at_all_is_an_empty_list(rt: HostRuntime) {
     assert!(rt; all.is_ok_and(|all| all.is_empty()));
 }
 
+/// Why they aren't gathered.
+fn fault_of<A: Allocator + Copy + Drop>(
+    alloc: A,
+    histories: [&[Entry]; 2],
+    logs: [&[Entry]; 2],
+) -> Option<GatherFault> {
+    gathered(alloc, histories, logs).err()
+}
+
+/// What entries are named as that are level, that no log has, that nobody made, and that no history has.
+fn faults_of_strangers<A: Allocator + Copy + Drop>(alloc: A) -> [Option<GatherFault>; 4] {
+    let (a, b, c) = (first(), second(), other());
+    let stranger = Entered { caller: 7, ..c };
+    [
+        fault_of(alloc, [&[a, a], &[c]], [&[a, b], &[c]]),
+        fault_of(alloc, [&[a, b], &[c]], [&[a], &[c]]),
+        fault_of(alloc, [&[a, b], &[stranger]], [&[a, b], &[c]]),
+        fault_of(alloc, [&[a], &[c]], [&[a, b], &[c]]),
+    ]
+}
+
+/// What history and log of caller 0 are named as whose second entry was changed in both.
+fn fault_of_both<A: Allocator + Copy + Drop>(alloc: A, changed: Entry) -> Option<GatherFault> {
+    let (a, c) = (first(), other());
+    fault_of(alloc, [&[a, changed], &[c]], [&[a, changed], &[c]])
+}
+
+/// What entries are named as whose shard, hash or reply was changed, and, behind the first, one in another history.
+fn faults_of_changes<A: Allocator + Copy + Drop>(alloc: A) -> [Option<GatherFault>; 4] {
+    let (a, b, c) = (first(), second(), other());
+    let (hash, reply) = (b.hash ^ 1, CallReply::Value(11));
+    let elsewhere = Entered { shard: 1, ..b };
+    [
+        fault_of_both(alloc, elsewhere),
+        fault_of(alloc, [&[a], &[c, elsewhere]], [&[a, elsewhere], &[c]]),
+        fault_of_both(alloc, Entered { hash, ..b }),
+        fault_of_both(alloc, Entered { reply, ..b }),
+    ]
+}
+
+/// What each of the strangers is to be named as.
+const STRANGERS: [Option<GatherFault>; 4] = [
+    Some(GatherFault::StampOrder),
+    Some(GatherFault::NotInLog),
+    Some(GatherFault::NotInLog),
+    Some(GatherFault::NotInHistory),
+];
+
+/// What each of the changes is to be named as.
+const CHANGES: [Option<GatherFault>; 4] = [
+    Some(GatherFault::NotInHistory),
+    Some(GatherFault::WrongShard),
+    Some(GatherFault::WrongHash),
+    Some(GatherFault::WrongReply),
+];
+
 #[test]
 fn each_way_of_doctoring_has_its_name(rt: HostRuntime) {
-    let (a, b, c) = (first(), second(), other());
-    let alloc = rt.alloc();
-    let stamps = gathered(alloc, [&[a, a], &[c]], [&[a, b], &[c]]);
-    assert!(rt; matches!(stamps, Err(GatherFault::StampOrder)));
-    let unlogged = gathered(alloc, [&[a, b], &[c]], [&[a], &[c]]);
-    assert!(rt; matches!(unlogged, Err(GatherFault::NotInLog)));
-    let stranger = Entered { caller: 7, ..c };
-    let strange = gathered(alloc, [&[a, b], &[stranger]], [&[a, b], &[c]]);
-    assert!(rt; matches!(strange, Err(GatherFault::NotInLog)));
-    let lost = gathered(alloc, [&[a], &[c]], [&[a, b], &[c]]);
-    assert!(rt; matches!(lost, Err(GatherFault::NotInHistory)));
-    let elsewhere = Entered { shard: 1, ..b };
-    let renumbered = gathered(alloc, [&[a, elsewhere], &[c]], [&[a, elsewhere], &[c]]);
-    assert!(rt; matches!(renumbered, Err(GatherFault::NotInHistory)));
-    let moved = gathered(alloc, [&[a], &[c, elsewhere]], [&[a, elsewhere], &[c]]);
-    assert!(rt; matches!(moved, Err(GatherFault::WrongShard)));
-    let unhashed = Entered {
-        hash: b.hash ^ 1,
-        ..b
-    };
-    let rehashed = gathered(alloc, [&[a, unhashed], &[c]], [&[a, unhashed], &[c]]);
-    assert!(rt; matches!(rehashed, Err(GatherFault::WrongHash)));
-    let invented = Entered {
-        reply: CallReply::Value(11),
-        ..b
-    };
-    let replied = gathered(alloc, [&[a, invented], &[c]], [&[a, invented], &[c]]);
-    assert!(rt; matches!(replied, Err(GatherFault::WrongReply)));
+    let strangers = faults_of_strangers(rt.alloc());
+    assert!(rt; strangers == STRANGERS, "{strangers:?}");
+    let changes = faults_of_changes(rt.alloc());
+    assert!(rt; changes == CHANGES, "{changes:?}");
 }
 
 #[test]
@@ -134,21 +166,28 @@ fn a_replacement_needs_the_value_that_was_seen(rt: HostRuntime) {
     assert!(rt; all.is_ok_and(|all| all.len() == 5));
 }
 
-#[test]
-fn three_histories_are_a_wrong_amount_where_there_is_an_entry(rt: HostRuntime) -> Result<(), Fail> {
-    let alloc = rt.alloc();
-    let mut histories = lists(alloc, [&[first()], &[]])?;
+/// Notes of two shards and two callers, and a history of a third shard without entries.
+fn of_three<A: Allocator + Copy>(
+    alloc: A,
+    entries: &[Entry],
+) -> Result<(Lists<A>, Lists<A>), AllocError> {
+    let mut histories = lists(alloc, [entries, &[]])?;
     histories.push(Vec::new(alloc))?;
-    let some = gather(
-        alloc,
-        histories,
-        lists(alloc, [&[first()], &[]])?,
-        &Fold::new(),
-    );
-    assert!(rt; matches!(some, Err(GatherFault::WrongShard)));
-    let mut empty = lists(alloc, [&[], &[]])?;
-    empty.push(Vec::new(alloc))?;
-    let none = gather(alloc, empty, lists(alloc, [&[], &[]])?, &Fold::new());
-    assert!(rt; none.is_ok_and(|all| all.is_empty()));
-    Ok(())
+    Ok((histories, lists(alloc, [entries, &[]])?))
+}
+
+/// What is gathered of them: how many entries, or why nothing is.
+fn count_of_three<A: Allocator + Copy + Drop>(
+    alloc: A,
+    entries: &[Entry],
+) -> Result<usize, GatherFault> {
+    let (histories, logs) = of_three(alloc, entries)?;
+    let all = gather(alloc, histories, logs, &Fold::new())?;
+    Ok(all.len())
+}
+
+#[test]
+fn three_histories_are_a_wrong_amount_where_there_is_an_entry(rt: HostRuntime) {
+    assert!(rt; count_of_three(rt.alloc(), &[first()]) == Err(GatherFault::WrongShard));
+    assert!(rt; count_of_three(rt.alloc(), &[]) == Ok(0));
 }

@@ -179,37 +179,77 @@ fn doctored<F: Fn(&mut Entry)>(
     Ok(gather(alloc, histories, logs, &Fold::new()).err())
 }
 
-#[test]
-fn what_is_doctored_is_named(rt: HostRuntime) -> Result<(), Fail> {
-    let alloc = rt.alloc();
-    let notes = recorded(rt, rt.alloc(), 500)?;
-    let found = *notes
-        .1
-        .get(3)
-        .and_then(|log| log.get(250))
-        .ok_or("no entry")?;
-    let level = doctored(alloc, &notes, &found, |entry| entry.stamp = 0)?;
-    assert!(rt; level == Some(GatherFault::StampOrder));
-    let strange = doctored(alloc, &notes, &found, |entry| entry.caller = CALLERS)?;
-    assert!(rt; strange == Some(GatherFault::NotInLog));
-    let moved = doctored(alloc, &notes, &found, |entry| entry.shard = entry.shard ^ 1)?;
-    assert!(rt; moved == Some(GatherFault::NotInHistory));
-    let hashed = doctored(alloc, &notes, &found, |entry| entry.hash = entry.hash ^ 1)?;
-    assert!(rt; hashed == Some(GatherFault::WrongHash));
-    let replied = doctored(
-        alloc,
-        &notes,
-        &found,
-        |entry| entry.reply = CallReply::Pair(1, 1),
-    )?;
-    assert!(rt; replied == Some(GatherFault::WrongReply));
+/// What they are named as where an entry's stamp, caller, shard, hash or reply is changed in both copies.
+fn faults_of_changes(
+    alloc: Global,
+    notes: &(Lists, Lists),
+    found: &Entry,
+) -> Result<[Option<GatherFault>; 5], AllocError> {
+    Ok([
+        doctored(alloc, notes, found, |entry| entry.stamp = 0)?,
+        doctored(alloc, notes, found, |entry| entry.caller = CALLERS)?,
+        doctored(alloc, notes, found, |entry| entry.shard = entry.shard ^ 1)?,
+        doctored(alloc, notes, found, |entry| entry.hash = entry.hash ^ 1)?,
+        doctored(
+            alloc,
+            notes,
+            found,
+            |entry| entry.reply = CallReply::Pair(1, 1),
+        )?,
+    ])
+}
+
+/// What each of the changes is to be named as.
+const CHANGES: [Option<GatherFault>; 5] = [
+    Some(GatherFault::StampOrder),
+    Some(GatherFault::NotInLog),
+    Some(GatherFault::NotInHistory),
+    Some(GatherFault::WrongHash),
+    Some(GatherFault::WrongReply),
+];
+
+/// Why histories in another order aren't gathered.
+fn fault_of_swapped(
+    alloc: Global,
+    notes: &(Lists, Lists),
+) -> Result<Option<GatherFault>, AllocError> {
     let (mut histories, logs) = (copied(alloc, &notes.0)?, copied(alloc, &notes.1)?);
     histories.reverse();
-    let swapped = gather(rt.alloc(), histories, logs, &Fold::new()).err();
-    assert!(rt; swapped == Some(GatherFault::NotInHistory));
+    Ok(gather(alloc, histories, logs, &Fold::new()).err())
+}
+
+/// Whether a log's last entry was dropped.
+fn is_dropped(logs: &mut Lists) -> bool {
+    match logs.get_mut(3) {
+        Some(log) => log.pop().is_some(),
+        None => false,
+    }
+}
+
+/// Why histories aren't gathered where a log's last entry was dropped, if it was.
+fn fault_of_dropped(
+    alloc: Global,
+    notes: &(Lists, Lists),
+) -> Result<Option<GatherFault>, AllocError> {
     let (histories, mut logs) = (copied(alloc, &notes.0)?, copied(alloc, &notes.1)?);
-    let lost = logs.get_mut(3).and_then(|log| log.pop());
-    let dropped = gather(rt.alloc(), histories, logs, &Fold::new()).err();
-    assert!(rt; lost.is_some() & (dropped == Some(GatherFault::NotInLog)));
+    if !is_dropped(&mut logs) {
+        return Ok(None);
+    }
+    Ok(gather(alloc, histories, logs, &Fold::new()).err())
+}
+
+/// An entry of a log.
+fn entry_of(logs: &Lists) -> Option<Entry> {
+    Some(*logs.get(3)?.get(250)?)
+}
+
+#[test]
+fn what_is_doctored_is_named(rt: HostRuntime) -> Result<(), Fail> {
+    let notes = recorded(rt, rt.alloc(), 500)?;
+    let found = entry_of(&notes.1).ok_or("no entry")?;
+    let changes = faults_of_changes(rt.alloc(), &notes, &found)?;
+    assert!(rt; changes == CHANGES, "{changes:?}");
+    assert!(rt; fault_of_swapped(rt.alloc(), &notes)? == Some(GatherFault::NotInHistory));
+    assert!(rt; fault_of_dropped(rt.alloc(), &notes)? == Some(GatherFault::NotInLog));
     Ok(())
 }

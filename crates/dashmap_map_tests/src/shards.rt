@@ -1,37 +1,52 @@
 //! Shards that are held as a whole.
 
-use crate::maps::{Map, map_of};
+use crate::tables::{Spun, map_of};
 use dashmap_iter::shard_guards::Looks;
 use dashmap_map::parts::shard_locks;
+use std::alloc::Global;
+use std::hash::Hash;
 use std::sync::Wait;
 use std::test::Fail;
 
 /// How many pairs the shards of a map have, each read in its turn.
-fn pairs_in_shards<R: Wait + Drop>(map: &Map<R>) -> usize {
-    let mut me = 1;
+pub fn pairs_in_shards<K: Eq + Hash + Drop, R: Wait + Drop>(map: &Spun<K, u64, R>) -> usize {
     let mut pairs = 0usize;
     let shards = map.shards();
     for number in 0..shards.count() {
-        if let Some(shard) = shards.read(number, &mut me) {
+        if let Some(shard) = shards.read(number, &mut 1) {
             pairs = pairs.wrapping_add(shard.len());
         }
     }
     pairs
 }
 
+/// The keys below a hundred, each with its double, on four shards.
+fn hundred<R: Drop + Copy>(rt: R, alloc: Global) -> Result<Spun<u64, u64, R>, Fail> {
+    let mut map = map_of(rt, alloc, 4)?;
+    for key in 0..100u64 {
+        if map.insert_mut(key, key.wrapping_mul(2)).is_err() {
+            return Err("no memory for a map".into());
+        }
+    }
+    Ok(map)
+}
+
+/// Whether a look counts four shards of a hundred pairs, and reads no other.
+fn are_counted<R: Wait + Drop>(map: &Spun<u64, u64, R>) -> bool {
+    let mut right = map.shards().count() == 4 && pairs_in_shards(map) == 100;
+    right &= map.shards().read(4, &mut 1).is_none();
+    right && map.shards().read(usize::MAX, &mut 1).is_none()
+}
+
 #[test]
 fn a_look_counts_the_shards_and_reads_each(rt: HostRuntime) -> Result<(), Fail> {
-    let map = map_of(rt, 100)?;
-    let mut me = 1;
-    let mut right = map.shards().count() == 4 && pairs_in_shards(&map) == 100;
-    right &= map.shards().read(4, &mut me).is_none();
-    right &= map.shards().read(usize::MAX, &mut me).is_none();
-    assert!(rt; right);
+    let map = hundred(rt, rt.alloc())?;
+    assert!(rt; are_counted(&map));
     Ok(())
 }
 
 /// Whether the shard of key 7 has it, by a guard that was had at once, and whether nobody writes it beside that guard.
-fn is_kept_from_writers<R: Wait + Drop>(map: &Map<R>) -> bool {
+fn is_kept_from_writers<R: Wait + Drop>(map: &Spun<u64, u64, R>) -> bool {
     let number = map.determine_map(&7);
     let Some(guard) = map._try_yield_read_shard(number) else {
         return false;
@@ -44,13 +59,13 @@ fn is_kept_from_writers<R: Wait + Drop>(map: &Map<R>) -> bool {
 
 #[test]
 fn a_shared_hold_of_a_shard_keeps_writers_of_that_shard_out(rt: HostRuntime) -> Result<(), Fail> {
-    let map = map_of(rt, 100)?;
+    let map = hundred(rt, rt.alloc())?;
     assert!(rt; is_kept_from_writers(&map));
     Ok(())
 }
 
 /// Whether an exclusive hold of the shard of key 7 keeps readers out until it is dropped.
-fn is_kept_from_readers<R: Wait + Drop>(map: &Map<R>) -> bool {
+fn is_kept_from_readers<R: Wait + Drop>(map: &Spun<u64, u64, R>) -> bool {
     let mut me = 1;
     let number = map.determine_map(&7);
     let guard = map._yield_write_shard(number, &mut me);
@@ -63,7 +78,7 @@ fn is_kept_from_readers<R: Wait + Drop>(map: &Map<R>) -> bool {
 
 #[test]
 fn an_exclusive_hold_of_a_shard_keeps_readers_out(rt: HostRuntime) -> Result<(), Fail> {
-    let map = map_of(rt, 100)?;
+    let map = hundred(rt, rt.alloc())?;
     assert!(rt; is_kept_from_readers(&map));
     Ok(())
 }

@@ -1,65 +1,53 @@
 //! Keys and values that are texts.
 
+use crate::shards::pairs_in_shards;
+use crate::tables::{Spun, map_of};
 use dashmap_iter::LendingWalks;
 use dashmap_iter::shard_guards::Looks;
 use dashmap_iter::walks::Walks;
-use dashmap_map::DashMap;
-use dashmap_table::{MapFault, SpreadState};
-use lock_api_spin::PackedLock;
-use std::alloc::Global;
-use std::hash::Hash;
 use std::sync::Wait;
 use std::test::Fail;
-
-/// A map whose locks are words that are tried again and again.
-type Spun<K, V, R> = DashMap<K, V, SpreadState, PackedLock<R>>;
 
 /// Numbers by names.
 type Named<R> = Spun<&'static str, u64, R>;
 
-/// An empty map of four shards.
-fn four<K: Eq + Hash + Drop, V: Drop, R: Drop + Copy>(
-    rt: R,
-    alloc: Global,
-) -> Result<Spun<K, V, R>, MapFault> {
-    DashMap::with_hasher_and_shard_amount(alloc, SpreadState, 4, rt)
-}
-
-#[test]
-fn a_closure_looks_at_a_text(rt: HostRuntime) -> Result<(), Fail> {
-    let map: Spun<u64, &'static str, HostRuntime> = four(rt, rt.alloc())?;
+/// Whether closures tell apart what an empty map takes.
+fn tells_foods_apart<R: Wait + Drop>(map: &Spun<u64, &'static str, R>) -> bool {
     let mut right = map.insert(9, "Potato", &mut 1) == Ok(None);
     right &= map.insert(12, "Chicken", &mut 1) == Ok(None);
     right &= map.view(&9, |_, food| *food == "Potato", &mut 1) == Some(true);
     right &= map.view(&12, |_, food| *food == "Potato", &mut 1) == Some(false);
-    assert!(rt; right && map.view(&30, |_, _| false, &mut 1).is_none());
+    right && map.view(&30, |_, _| false, &mut 1).is_none()
+}
+
+#[test]
+fn a_closure_looks_at_a_text(rt: HostRuntime) -> Result<(), Fail> {
+    let map = map_of(rt, rt.alloc(), 4)?;
+    assert!(rt; tells_foods_apart(&map));
     Ok(())
+}
+
+/// Whether an empty map takes three names.
+fn takes_names<R: Wait + Drop>(map: &Named<R>) -> bool {
+    let mut right = map.insert("Albin", 15, &mut 1) == Ok(None);
+    right &= map.insert("Jones", 22, &mut 1) == Ok(None);
+    right && map.insert("Charlie", 27, &mut 1) == Ok(None)
+}
+
+/// Whether walks take out the youngest of them, and make the others a year older.
+fn are_a_year_older<R: Wait + Drop>(map: &Named<R>) -> bool {
+    map.retain(|_, age| *age > 20, &mut 1);
+    let mut right = map.len(&mut 1) == 2 && !map.contains_key(&"Albin", &mut 1);
+    map.alter_all(|_, age| age.wrapping_add(1), &mut 1);
+    right &= map.remove(&"Jones", &mut 1) == Some(("Jones", 23));
+    right && map.remove(&"Charlie", &mut 1) == Some(("Charlie", 28))
 }
 
 #[test]
 fn walks_change_what_names_have(rt: HostRuntime) -> Result<(), Fail> {
-    let map: Named<HostRuntime> = four(rt, rt.alloc())?;
-    let mut right = map.insert("Albin", 15, &mut 1) == Ok(None);
-    right &= map.insert("Jones", 22, &mut 1) == Ok(None);
-    right &= map.insert("Charlie", 27, &mut 1) == Ok(None);
-    map.retain(|_, age| *age > 20, &mut 1);
-    right &= map.len(&mut 1) == 2 && !map.contains_key(&"Albin", &mut 1);
-    map.alter_all(|_, age| age.wrapping_add(1), &mut 1);
-    right &= map.remove(&"Jones", &mut 1) == Some(("Jones", 23));
-    assert!(rt; right && map.remove(&"Charlie", &mut 1) == Some(("Charlie", 28)));
+    let map = map_of(rt, rt.alloc(), 4)?;
+    assert!(rt; takes_names(&map) && are_a_year_older(&map));
     Ok(())
-}
-
-/// How many pairs the shards of a map have, each read in its turn.
-fn pairs_in_shards<R: Wait + Drop>(map: &Named<R>) -> usize {
-    let mut count = 0usize;
-    let shards = map.shards();
-    for shard in 0..shards.count() {
-        if let Some(guard) = shards.read(shard, &mut 1) {
-            count = count.wrapping_add(guard.len());
-        }
-    }
-    count
 }
 
 /// How many items a reading walk lends.
@@ -90,13 +78,18 @@ fn counted_up<R: Wait + Drop>(map: &Named<R>) -> Option<(&'static str, u64)> {
     last
 }
 
+/// Whether an empty map takes a name, which each way of counting finds alone.
+fn is_counted<R: Wait + Drop>(map: &Named<R>) -> bool {
+    let mut right = map.insert("Johnny", 21, &mut 1) == Ok(None);
+    right &= map.len(&mut 1) == 1 && pairs_in_shards(map) == 1 && items(map) == 1;
+    right &= map.shards().read(4, &mut 1).is_none();
+    right &= counted_up(map) == Some(("Johnny", 21));
+    right && map.remove(&"Johnny", &mut 1) == Some(("Johnny", 22))
+}
+
 #[test]
 fn a_pair_is_counted_in_each_way(rt: HostRuntime) -> Result<(), Fail> {
-    let map: Named<HostRuntime> = four(rt, rt.alloc())?;
-    let mut right = map.insert("Johnny", 21, &mut 1) == Ok(None);
-    right &= map.len(&mut 1) == 1 && pairs_in_shards(&map) == 1 && items(&map) == 1;
-    right &= map.shards().read(4, &mut 1).is_none();
-    right &= counted_up(&map) == Some(("Johnny", 21));
-    assert!(rt; right && map.remove(&"Johnny", &mut 1) == Some(("Johnny", 22)));
+    let map = map_of(rt, rt.alloc(), 4)?;
+    assert!(rt; is_counted(&map));
     Ok(())
 }
