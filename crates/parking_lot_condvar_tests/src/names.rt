@@ -14,6 +14,7 @@ use parking_lot::{
     RwLockWriteGuard, WaitTimeoutResult,
 };
 use parking_lot_core::{ParkingLot, ThreadData};
+use std::process::Abort;
 use std::sync::Wait;
 use std::test::Fail;
 use std::time::{Clock, Duration};
@@ -190,36 +191,83 @@ fn is_recursive_read_and_written<R: Wait>(
     changed & are_read & !lock.is_locked() & (lock.into_inner() == (5, 2))
 }
 
+/// The next row's mutex is taken and given back.
+fn is_new_mutex_taken<R: Wait>(rows: &LockTable<'_, R>, me: &mut ThreadData) -> Result<bool, Fail> {
+    Ok(is_mutex_taken(Mutex::new(rows, (1, 2))?, me))
+}
+
+/// The same of a fair one.
+fn is_new_fair_mutex_taken<R: Wait>(
+    rows: &LockTable<'_, R>,
+    me: &mut ThreadData,
+) -> Result<bool, Fail> {
+    Ok(is_fair_mutex_taken(FairMutex::new(rows, (1, 2))?, me))
+}
+
+/// The same of a reader-writer lock, on row 2.
+fn is_new_lock_taken<R: Wait>(rows: &LockTable<'_, R>, me: &mut ThreadData) -> Result<bool, Fail> {
+    let lock = RwLock::new(rows, 4, (1, 2))?;
+    Ok(is_read_and_written(lock, rows, 2, me))
+}
+
+/// The same of a recursive one, on row 3.
+fn is_new_recursive_lock_taken<R: Wait>(
+    rows: &LockTable<'_, R>,
+    me: &mut ThreadData,
+) -> Result<bool, Fail> {
+    let lock = RecursiveRwLock::new(rows, 4, (1, 2))?;
+    Ok(is_recursive_read_and_written(lock, rows, 3, me))
+}
+
+/// The same of a reentrant mutex, and whether it has its value in the end.
+fn is_new_reentrant_mutex_taken<R: Wait>(
+    rows: &LockTable<'_, R>,
+    me: &mut ThreadData,
+) -> Result<(bool, bool), Fail> {
+    let nested = ReentrantMutex::new(rows, 2, (1, 2))?;
+    let is_taken = is_taken_twice(&nested, me);
+    Ok((is_taken, nested.into_inner() == (1, 2)))
+}
+
+/// Looks whether it is so.
+fn expect(rt: &impl Abort, is_so: bool, what: &str) {
+    assert!(rt; is_so, "{what}");
+}
+
+/// Looks whether the words of five rows are 0.
+fn expect_free<R: Wait>(rt: &impl Abort, rows: &LockTable<'_, R>) {
+    for row in 0..5 {
+        assert!(rt; rows.word(row) == Some(0), "row {row}");
+    }
+}
+
+/// Takes a lock of each kind on the rows, and gives it back.
+fn take_each<R: Wait>(
+    rt: &impl Abort,
+    rows: &LockTable<'_, R>,
+    me: &mut ThreadData,
+) -> Result<(), Fail> {
+    expect(rt, is_new_mutex_taken(rows, me)?, "the mutex");
+    expect(rt, is_new_fair_mutex_taken(rows, me)?, "the fair mutex");
+    expect(rt, is_new_lock_taken(rows, me)?, "the lock");
+    expect(
+        rt,
+        is_new_recursive_lock_taken(rows, me)?,
+        "the recursive lock",
+    );
+    let (is_taken, is_kept) = is_new_reentrant_mutex_taken(rows, me)?;
+    expect(rt, is_taken, "the reentrant mutex");
+    expect(rt, is_kept, "the reentrant mutex in the end");
+    Ok(())
+}
+
 #[test]
 fn locks_are_taken_and_given_back(rt: HostRuntime) -> Result<(), Fail> {
     let lot = ParkingLot::new(rt, rt.alloc(), 1, 7)?;
     let mut me = lot.thread_data()?;
     let table = LockTable::new(rt.alloc(), &lot, 5)?;
-    let rows = &table;
-    assert!(rt;
-        is_mutex_taken(Mutex::new(rows, (1, 2))?, &mut me),
-        "the mutex"
-    );
-    assert!(rt;
-        is_fair_mutex_taken(FairMutex::new(rows, (1, 2))?, &mut me),
-        "the fair mutex"
-    );
-    let lock = RwLock::new(rows, 4, (1, 2))?;
-    assert!(rt; is_read_and_written(lock, rows, 2, &mut me), "the lock");
-    let lock = RecursiveRwLock::new(rows, 4, (1, 2))?;
-    assert!(rt;
-        is_recursive_read_and_written(lock, rows, 3, &mut me),
-        "the recursive lock"
-    );
-    let nested = ReentrantMutex::new(rows, 2, (1, 2))?;
-    assert!(rt; is_taken_twice(&nested, &mut me), "the reentrant mutex");
-    assert!(rt;
-        nested.into_inner() == (1, 2),
-        "the reentrant mutex in the end"
-    );
-    for row in 0..5 {
-        assert!(rt; table.word(row) == Some(0), "row {row}");
-    }
+    take_each(&rt, &table, &mut me)?;
+    expect_free(&rt, &table);
     Ok(())
 }
 
@@ -270,34 +318,64 @@ fn fails<R: Wait>(
     (ended, once.wait(me))
 }
 
+/// Raw mutexes on the next rows are taken and given back.
+fn are_raw_mutexes_taken<R: Wait>(
+    rows: &LockTable<'_, R>,
+    me: &mut ThreadData,
+) -> Result<bool, Fail> {
+    let plain: RawMutex<'_, '_, R> = RawMutex::new(rows, 1)?;
+    let fair: RawFairMutex<'_, '_, R> = RawFairMutex::new(rows, 1)?;
+    Ok(is_taken(&plain, me) & is_taken(&fair, me))
+}
+
+/// The same of raw reader-writer locks.
+fn are_raw_locks_taken<R: Wait>(
+    rows: &LockTable<'_, R>,
+    me: &mut ThreadData,
+) -> Result<bool, Fail> {
+    let lock: RawRwLock<'_, '_, R, 0> = RawRwLock::new(rows, 1)?;
+    let recursive: RawRwLockRecursive<'_, '_, R> = RawRwLockRecursive::new(rows, 1)?;
+    Ok(is_taken_by_each(&lock, me) & is_taken_by_each(&recursive, me))
+}
+
+/// A wait of which nobody is told runs out.
+fn runs_out<R: Wait + Clock>(
+    rt: &R,
+    rows: &LockTable<'_, R>,
+    me: &mut ThreadData,
+) -> Result<bool, Fail> {
+    let condvar: Condvar<'_, '_, R> = Condvar::new(rows)?;
+    let mutex: Mutex<'_, '_, u64, R> = Mutex::new(rows, 0)?;
+    let ran_out = match waits(rt, &condvar, &mutex, me) {
+        Some(result) => result.timed_out(),
+        None => false,
+    };
+    Ok(ran_out & !condvar.notify_one() & !mutex.is_locked())
+}
+
+/// A once that failed is poisoned, until a forced call ends well.
+fn is_poisoned_and_mended<R: Wait>(
+    rows: &LockTable<'_, R>,
+    me: &mut ThreadData,
+) -> Result<bool, Fail> {
+    let once: Once<'_, '_, R> = Once::new(rows)?;
+    let (ended, waited) = fails(&once, me);
+    let has_failed = matches!(ended, Err(OnceFault::Failed(5))) & (waited == Err(Poisoned));
+    let is_poisoned = once.state() == OnceState::Poisoned;
+    let is_run = once.call_once_force(me, |_before| Ok::<(), u8>(())).is_ok();
+    Ok(has_failed & is_poisoned & is_run & (once.state() == OnceState::Done))
+}
+
 #[test]
 fn raw_locks_are_taken_and_what_stands_beside_them(rt: HostRuntime) -> Result<(), Fail> {
     let lot = ParkingLot::new(rt, rt.alloc(), 1, 7)?;
     let mut me = lot.thread_data()?;
     let table = LockTable::new(rt.alloc(), &lot, 7)?;
-    let rows = &table;
     let ids: RawThreadId = RawThreadId::new();
     assert!(rt; ids.nonzero_thread_id(&me).get() == 1);
-    let plain: RawMutex<HostRuntime> = RawMutex::new(rows, 1)?;
-    let fair: RawFairMutex<HostRuntime> = RawFairMutex::new(rows, 1)?;
-    assert!(rt; is_taken(&plain, &mut me) & is_taken(&fair, &mut me));
-    let lock: RawRwLock<HostRuntime, 0> = RawRwLock::new(rows, 1)?;
-    let recursive: RawRwLockRecursive<HostRuntime> = RawRwLockRecursive::new(rows, 1)?;
-    assert!(rt; is_taken_by_each(&lock, &mut me) & is_taken_by_each(&recursive, &mut me));
-    let condvar: Condvar<HostRuntime> = Condvar::new(rows)?;
-    let mutex: Mutex<u64, HostRuntime> = Mutex::new(rows, 0)?;
-    let ran_out = match waits(&rt, &condvar, &mutex, &mut me) {
-        Some(result) => result.timed_out(),
-        None => false,
-    };
-    assert!(rt; ran_out & !condvar.notify_one() & !mutex.is_locked());
-    let once: Once<HostRuntime> = Once::new(rows)?;
-    let (ended, waited) = fails(&once, &mut me);
-    let has_failed = matches!(ended, Err(OnceFault::Failed(5))) & (waited == Err(Poisoned));
-    let is_poisoned = once.state() == OnceState::Poisoned;
-    let is_run = once
-        .call_once_force(&mut me, |_before| Ok::<(), u8>(()))
-        .is_ok();
-    assert!(rt; has_failed & is_poisoned & is_run & (once.state() == OnceState::Done));
+    assert!(rt; are_raw_mutexes_taken(&table, &mut me)?);
+    assert!(rt; are_raw_locks_taken(&table, &mut me)?);
+    assert!(rt; runs_out(&rt, &table, &mut me)?);
+    assert!(rt; is_poisoned_and_mended(&table, &mut me)?);
     Ok(())
 }

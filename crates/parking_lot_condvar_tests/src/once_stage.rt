@@ -1,5 +1,6 @@
 //! Calls of a once as data: what a thread asks for stands beside what it is to be answered.
 
+use crate::stage::judge;
 use crate::words::has_come;
 use parking_lot_core::{ParkingLot, ThreadData};
 use parking_lot_driver::LockTable;
@@ -15,7 +16,7 @@ use std::thread::Threads;
 use std::time::Clock;
 
 /// What a closure looks for while it runs.
-#[derive(Clone, Copy, PartialEq, Eq)]
+#[derive(Clone, Copy)]
 pub enum Meanwhile {
     Nothing,
     /// It waits until the word is this one.
@@ -27,14 +28,14 @@ pub enum Meanwhile {
 }
 
 /// How a closure ends.
-#[derive(Clone, Copy, PartialEq, Eq)]
+#[derive(Clone, Copy)]
 pub enum End {
     Well,
     Fails,
 }
 
 /// Whether the closure of a call ran, behind which state, and found what it looked for.
-#[derive(Clone, Copy, PartialEq, Eq)]
+#[derive(Clone, Copy, PartialEq)]
 pub enum Ran {
     No,
     Right(OnceState),
@@ -42,7 +43,7 @@ pub enum Ran {
 }
 
 /// How a call ended.
-#[derive(Clone, Copy, PartialEq, Eq)]
+#[derive(Clone, Copy, PartialEq)]
 pub enum Ended {
     Well,
     /// With the error of its closure.
@@ -69,7 +70,7 @@ pub enum Step {
 }
 
 /// What a step is answered.
-#[derive(Clone, Copy, PartialEq, Eq)]
+#[derive(Clone, Copy, PartialEq)]
 pub enum Answer {
     Called(Ran, Ended),
     Done,
@@ -228,7 +229,7 @@ fn follow<R: Wait + Clock>(
 }
 
 /// How the once is made.
-#[derive(Clone, Copy, PartialEq, Eq)]
+#[derive(Clone, Copy)]
 pub enum Made {
     New,
     ByDefault,
@@ -270,7 +271,7 @@ fn played<'s, 't, 'l, R: Wait + Threads + Clock + Sync>(
 }
 
 /// Has two threads follow their lines at a new once, the second as a participant of a lot of that number.
-pub fn play<R: Wait + Threads + Clock + Abort + Sync + Copy + Drop>(
+fn play_one<R: Wait + Threads + Clock + Abort + Sync + Copy + Drop>(
     rt: R,
     alloc: Global,
     name: &str,
@@ -291,10 +292,21 @@ pub fn play<R: Wait + Threads + Clock + Abort + Sync + Copy + Drop>(
     } else {
         played(&rt, &own, &others, &once, &table, lines)
     };
-    for (thread, line) in ended.iter().enumerate() {
-        if let Some(line) = line {
-            assert!(rt; false, "{name}: thread {thread}, line {line}");
-        }
+    judge(&rt, name, &ended);
+    Ok(())
+}
+
+/// A play: its name, how the once is made, the number of the second thread's lot, and what each thread does.
+pub type Play = (&'static str, Made, u64, [&'static [Line]; 2]);
+
+/// Has each play take place.
+pub fn play<R: Wait + Threads + Clock + Abort + Sync + Copy + Drop>(
+    rt: R,
+    alloc: Global,
+    plays: &[Play],
+) -> Result<(), Fail> {
+    for (name, made, number, lines) in plays {
+        play_one(rt, alloc, *name, *made, *number, *lines)?;
     }
     Ok(())
 }

@@ -94,7 +94,7 @@ pub enum Step {
 }
 
 /// What a step is answered.
-#[derive(Clone, Copy, PartialEq, Eq)]
+#[derive(Clone, Copy, PartialEq)]
 pub enum Answer {
     Done,
     Woken,
@@ -352,9 +352,18 @@ fn follow_together<R: Wait + Threads + Clock + Sync>(
     [one, two, three]
 }
 
+/// Looks whether each line was answered as it must be.
+pub fn judge(rt: &impl Abort, name: &str, ended: &[Option<usize>]) {
+    for (thread, line) in ended.iter().enumerate() {
+        if let Some(line) = line {
+            assert!(rt; false, "{name}: thread {thread}, line {line}");
+        }
+    }
+}
+
 /// Has three threads follow their lines at a new condition variable, the third as a participant of a lot of that
 /// number. All words must be 0 in the end.
-pub fn play<R: Wait + Threads + Clock + Abort + Sync + Copy + Drop>(
+fn play_one<R: Wait + Threads + Clock + Abort + Sync + Copy + Drop>(
     rt: R,
     alloc: Global,
     name: &str,
@@ -382,13 +391,24 @@ pub fn play<R: Wait + Threads + Clock + Abort + Sync + Copy + Drop>(
     } else {
         follow_together(&rt, &lots.one, &lots.other, &scene, lines)
     };
-    for (thread, line) in ended.iter().enumerate() {
-        if let Some(line) = line {
-            assert!(rt; false, "{name}: thread {thread}, line {line}");
-        }
-    }
+    judge(&rt, name, &ended);
     let are_free = (tables.one.word(0) == Some(0)) & (tables.one.word(1) == Some(0));
     let are_others = (tables.one.word(2) == Some(0)) & (tables.other.word(0) == Some(0));
     assert!(rt; are_free & are_others, "{name}: the words in the end");
+    Ok(())
+}
+
+/// A play: its name, the number of the third thread's lot, and what each thread does.
+pub type Play = (&'static str, u64, [&'static [Line]; 3]);
+
+/// Has each play take place.
+pub fn play<R: Wait + Threads + Clock + Abort + Sync + Copy + Drop>(
+    rt: R,
+    alloc: Global,
+    plays: &[Play],
+) -> Result<(), Fail> {
+    for (name, number, lines) in plays {
+        play_one(rt, alloc, *name, *number, *lines)?;
+    }
     Ok(())
 }

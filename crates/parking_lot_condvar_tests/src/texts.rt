@@ -8,6 +8,7 @@ use parking_lot_mutex::condvar::RawCondvar;
 use parking_lot_mutex::once::{Once, OnceFault, Poisoned};
 use std::alloc::Global;
 use std::fmt::Debug;
+use std::sync::Wait;
 use std::test::Fail;
 
 /// Whether this is how a thing is shown.
@@ -18,23 +19,41 @@ fn is_shown<D: Debug>(alloc: Global, shown: &D, text: &str) -> bool {
     }
 }
 
+/// Whether a new once on a table, and one that is completed, are shown so.
+fn are_onces_shown<R: Wait>(alloc: Global, table: &LockTable<'_, R>) -> Result<bool, TableFull> {
+    let once = Once::new(table)?;
+    let over = Once::new_completed(table)?;
+    let is_new = is_shown(alloc, &once, "Once { state: New }");
+    Ok(is_new & is_shown(alloc, &over, "Once { state: Done }"))
+}
+
 #[test]
-fn texts_and_codes(rt: HostRuntime) -> Result<(), Fail> {
+fn onces_are_shown(rt: HostRuntime) -> Result<(), Fail> {
     let lot = ParkingLot::new(rt, rt.alloc(), 4, 7)?;
     let table = LockTable::new(rt.alloc(), &lot, 2)?;
-    let once = Once::new(&table)?;
-    let over = Once::new_completed(&table)?;
-    let is_new = is_shown(rt.alloc(), &once, "Once { state: New }");
-    let is_done = is_shown(rt.alloc(), &over, "Once { state: Done }");
-    assert!(rt; is_new & is_done);
-    let failed: OnceFault<u8> = OnceFault::Failed(5);
-    let poisoned: OnceFault<u8> = OnceFault::Poisoned;
-    let shown = format!(in rt.alloc(); "{failed} {poisoned} {Poisoned}")?;
-    let debug = format!(in rt.alloc(); "{failed:?} {poisoned:?} {Poisoned:?}")?;
-    assert!(rt; shown.as_str() == "5 Poisoned Poisoned");
-    assert!(rt; debug.as_str() == "Failed(5) Poisoned Poisoned");
-    assert!(rt; (failed.code() == None) & (poisoned.code() == Some(24)) & (Poisoned.code() == 24));
+    assert!(rt; are_onces_shown(rt.alloc(), &table)?);
     Ok(())
+}
+
+const FAILED: OnceFault<u8> = OnceFault::Failed(5);
+
+const POISONED: OnceFault<u8> = OnceFault::Poisoned;
+
+#[test]
+fn texts_and_codes(rt: HostRuntime) -> Result<(), Fail> {
+    let shown = format!(in rt.alloc(); "{FAILED} {POISONED} {Poisoned}")?;
+    assert!(rt; shown.as_str() == "5 Poisoned Poisoned");
+    let debug = format!(in rt.alloc(); "{FAILED:?} {POISONED:?} {Poisoned:?}")?;
+    assert!(rt; debug.as_str() == "Failed(5) Poisoned Poisoned");
+    assert!(rt; (FAILED.code() == None) & (POISONED.code() == Some(24)) & (Poisoned.code() == 24));
+    Ok(())
+}
+
+/// Whether a table has no row any more.
+fn is_full<R: Wait>(table: &LockTable<'_, R>) -> bool {
+    let is_full = RawCondvar::new(table).is_err();
+    let is_full_once = Once::new(table).err() == Some(TableFull);
+    is_full & is_full_once & (Once::default(table).err() == Some(TableFull))
 }
 
 #[test]
@@ -42,10 +61,7 @@ fn a_full_table_has_no_row(rt: HostRuntime) -> Result<(), Fail> {
     let lot = ParkingLot::new(rt, rt.alloc(), 1, 7)?;
     let table = LockTable::new(rt.alloc(), &lot, 1)?;
     let condvar: Condvar<RawCondvar<HostRuntime>> = Condvar::default(&table)?;
-    let is_full = RawCondvar::new(&table).is_err();
-    let is_full_once = Once::new(&table).err() == Some(TableFull);
-    let is_full_default = Once::default(&table).err() == Some(TableFull);
-    assert!(rt; is_full & is_full_once & is_full_default);
+    assert!(rt; is_full(&table));
     assert!(rt; is_shown(rt.alloc(), &condvar, "Condvar { .. }"));
     Ok(())
 }
