@@ -43,43 +43,89 @@ fn admitted<R: Wait>(lot: &ParkingLot<R, &LocalHeap>) -> (usize, Option<LotFault
     (4, None)
 }
 
+/// Why a registration was refused, whether its number was free then, and what the next one was given or refused as.
+type Refused = (Option<LotFault>, bool, Result<usize, LotFault>);
+
+/// A registration that is refused in a heap of that size, if one is, and its number.
+fn refused_in<R: AllocGlobal>(rt: &R, size: usize) -> Result<Option<(Refused, usize)>, Fail> {
+    let heap = LocalHeap::new(rt.alloc(), size)?;
+    match Box::new(&heap, [0u64; 40]) {
+        Ok(spare) => {
+            let lot = Lot::new(&heap, 5, 7)?;
+            Ok(registers_again(lot, spare))
+        }
+        Err(_) => Ok(None),
+    }
+}
+
+/// The same of a lot, with what is given back to its heap before the next registration.
+fn registers_again<'h>(
+    mut lot: Lot<&'h LocalHeap>,
+    spare: Box<[u64; 40], &'h LocalHeap>,
+) -> Option<(Refused, usize)> {
+    let (count, fault) = registered(&mut lot);
+    if count == 4 {
+        return None;
+    }
+    let is_free = lot.status(count).is_none();
+    drop(spare);
+    Some(((fault, is_free, lot.register()), count))
+}
+
 #[test]
 fn a_refused_registration_leaves_the_number_free(rt: HostRuntime) -> Result<(), Fail> {
     let mut refused = false;
     for size in 0..60 {
-        let heap = LocalHeap::new(rt.alloc(), size * 16)?;
-        let Ok(spare) = Box::new(&heap, [0u64; 40]) else {
-            continue;
-        };
-        let mut lot = Lot::new(&heap, 5, 7)?;
-        let (count, fault) = registered(&mut lot);
-        if count < 4 {
+        if let Some((seen, count)) = refused_in(&rt, size * 16)? {
             refused = true;
-            let is_free = lot.status(count).is_none();
-            drop(spare);
-            let again = lot.register();
-            assert!(rt; (fault == Some(LotFault::NoMemory)) & is_free & (again == Ok(count)));
+            let wanted = (Some(LotFault::NoMemory), true, Ok(count));
+            assert!(rt; seen == wanted, "of {size}: {seen:?}");
         }
     }
     assert!(rt; refused);
     Ok(())
 }
 
+/// As `refused_in`, of a participant.
+fn not_admitted_in<R: Wait + AllocGlobal + Copy + Drop>(
+    rt: &R,
+    size: usize,
+) -> Result<Option<(Refused, usize)>, Fail> {
+    let heap = LocalHeap::new(rt.alloc(), size)?;
+    match Box::new(&heap, [0u64; 80]) {
+        Ok(spare) => {
+            let lot = ParkingLot::new(*rt, &heap, 5, 7)?;
+            Ok(admits_again(&lot, spare))
+        }
+        Err(_) => Ok(None),
+    }
+}
+
+/// As `registers_again`, of a participant.
+fn admits_again<'h, R: Wait>(
+    lot: &ParkingLot<R, &'h LocalHeap>,
+    spare: Box<[u64; 80], &'h LocalHeap>,
+) -> Option<(Refused, usize)> {
+    let (count, fault) = admitted(lot);
+    if count == 4 {
+        return None;
+    }
+    drop(spare);
+    let again = match lot.thread_data() {
+        Ok(made) => Ok(made.thread_number()),
+        Err(fault) => Err(fault),
+    };
+    Some(((fault, true, again), count))
+}
+
 #[test]
 fn a_refused_participant_leaves_the_number_free(rt: HostRuntime) -> Result<(), Fail> {
     let mut refused = false;
     for size in 0..100 {
-        let heap = LocalHeap::new(rt.alloc(), size * 16)?;
-        let Ok(spare) = Box::new(&heap, [0u64; 80]) else {
-            continue;
-        };
-        let lot = ParkingLot::new(rt, &heap, 5, 7)?;
-        let (count, fault) = admitted(&lot);
-        if count < 4 {
+        if let Some((seen, count)) = not_admitted_in(&rt, size * 16)? {
             refused = true;
-            drop(spare);
-            let again = lot.thread_data()?.thread_number();
-            assert!(rt; (fault == Some(LotFault::NoMemory)) & (again == count));
+            let wanted = (Some(LotFault::NoMemory), true, Ok(count));
+            assert!(rt; seen == wanted, "of {size}: {seen:?}");
         }
     }
     assert!(rt; refused);

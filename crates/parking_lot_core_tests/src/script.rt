@@ -61,7 +61,7 @@ pub enum Call {
 }
 
 /// What a call answers.
-#[derive(Clone, Copy, PartialEq, Eq)]
+#[derive(Clone, Copy, PartialEq)]
 pub enum Answer {
     Done,
     Refused(LotFault),
@@ -86,16 +86,6 @@ pub const WRONG: Answer = Answer::Refused(LotFault::WrongStatus);
 
 /// Refused, since another has entered a section.
 pub const BUSY: Answer = Answer::Refused(LotFault::Busy);
-
-/// What an unpark answers that took so many, moved so many, and left some or none.
-pub const fn outcome(unparked: usize, requeued: usize, more: bool) -> UnparkResult {
-    UnparkResult {
-        unparked_threads: unparked,
-        requeued_threads: requeued,
-        have_more_threads: more,
-        be_fair: false,
-    }
-}
 
 fn done(answered: Result<(), LotFault>) -> Answer {
     match answered {
@@ -324,8 +314,18 @@ pub fn follow(
 /// Makes each call, and looks whether it answers as it must.
 fn make(rt: &impl Abort, lot: &mut Lot, before: &[Line], script: &[Line]) {
     let mut marks = Marks(u64::MAX, u64::MAX);
-    for (at, (call, must)) in before.iter().chain(script.iter()).enumerate() {
-        let is_answered = make_call(lot, &mut marks, *call) == *must;
-        assert!(rt; is_answered, "line {at}");
+    for (at, line) in before.iter().chain(script.iter()).enumerate() {
+        expect(rt, is_answered(lot, &mut marks, line), at);
     }
+}
+
+/// Makes a call, and says whether it answers as it must.
+fn is_answered(lot: &mut Lot, marks: &mut Marks, line: &Line) -> bool {
+    let (call, must) = line;
+    make_call(lot, marks, *call) == *must
+}
+
+/// Looks whether a line is right.
+fn expect(rt: &impl Abort, right: bool, line: usize) {
+    assert!(rt; right, "line {line}");
 }

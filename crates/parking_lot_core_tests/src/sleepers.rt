@@ -1,14 +1,15 @@
 //! Threads that sleep and are woken. Each waits for a flag or a thread for a bounded number of turns.
 use parking_lot_core::{
     DEFAULT_PARK_TOKEN, FilterOp, ParkResult, ParkToken, ParkingLot, RequeueOp, ThreadData,
-    ThreadParker, ThreadParkerT, UnparkHandleT, UnparkToken, WordLock, park, thread_yield,
-    unpark_all, unpark_filter, unpark_one, unpark_requeue,
+    ThreadParker, ThreadParkerT, UnparkHandleT, UnparkResult, UnparkToken, WordLock, park,
+    thread_yield, unpark_all, unpark_filter, unpark_one, unpark_requeue,
 };
 use std::alloc::AllocError;
 use std::sync::Wait;
 use std::sync::atomic::{AtomicUsize, Ordering};
 use std::test::Fail;
 use std::thread;
+use std::thread::Threads;
 use std::time::{Clock, Instant};
 
 const TURNS: u32 = 10_000_000;
@@ -26,15 +27,75 @@ fn has_come(flag: &AtomicUsize, value: usize) -> bool {
     false
 }
 
+/// Unparks the first of a key, with a token.
+pub fn unpark<R: Wait>(lot: &ParkingLot<R>, key: usize, token: usize) -> UnparkResult {
+    unpark_one(lot, key, |_| UnparkToken(token))
+}
+
+/// Requeues from one key to another, and unparks with a token.
+pub fn requeue<R: Wait>(
+    lot: &ParkingLot<R>,
+    from: usize,
+    to: usize,
+    op: RequeueOp,
+    token: usize,
+) -> UnparkResult {
+    unpark_requeue(lot, from, to, || op, |_, _| UnparkToken(token))
+}
+
+/// Does so with waiter 0 of key 3, with waiter 1, and with the others, and unparks with a token.
+fn filter<R: Wait>(lot: &ParkingLot<R>, ops: [FilterOp; 3], token: usize) -> UnparkResult {
+    let [first, second, others] = ops;
+    let wanted = |waiter: ParkToken| match waiter {
+        ParkToken(0) => first,
+        ParkToken(1) => second,
+        _ => others,
+    };
+    unpark_filter(lot, 3, wanted, |_| UnparkToken(token))
+}
+
 /// Unparks a waiter of key 3, as soon as there is one.
 fn unparked<R: Wait>(lot: &ParkingLot<R>, token: usize) -> bool {
     for _turn in 0..TURNS {
-        if unpark_one(lot, 3, |_| UnparkToken(token)).unparked_threads == 1 {
+        if unpark(lot, 3, token).unparked_threads == 1 {
             return true;
         }
         thread_yield();
     }
     false
+}
+
+/// A flag, and a number.
+type Mark<'f> = (&'f AtomicUsize, usize);
+
+/// Parks under a key with a token, as long as a flag has its number, and gives another one its number right before it
+/// sleeps.
+fn parks<R: Wait + Clock>(
+    lot: &ParkingLot<R>,
+    me: &mut ThreadData,
+    key: usize,
+    going: Mark<'_>,
+    says: Option<Mark<'_>>,
+    token: ParkToken,
+) -> Option<ParkResult> {
+    if !lot.same_lot(me) {
+        return None;
+    }
+    let (flag, number) = going;
+    Some(park(
+        lot,
+        me,
+        key,
+        || flag.load(Ordering::SeqCst) == number,
+        || {
+            if let Some((told, said)) = says {
+                told.store(said, Ordering::SeqCst);
+            }
+        },
+        |_, _| {},
+        token,
+        None::<(Instant, &R)>,
+    ))
 }
 
 /// Parks under key 3, as long as it isn't over.
@@ -43,20 +104,17 @@ fn parked<R: Wait + Clock>(
     me: &mut ThreadData,
     over: &AtomicUsize,
 ) -> Option<ParkResult> {
-    let going = 0usize;
-    if !lot.same_lot(me) {
-        return None;
-    }
-    Some(park(
-        lot,
-        me,
-        3,
-        || over.load(Ordering::SeqCst) == going,
-        || {},
-        |_, _| {},
-        DEFAULT_PARK_TOKEN,
-        None::<(Instant, &R)>,
-    ))
+    parks(lot, me, 3, (over, 0), None, DEFAULT_PARK_TOKEN)
+}
+
+#[test]
+fn one_thread_unparks_another(rt: HostRuntime) -> Result<(), Fail> {
+    let lot = ParkingLot::new(rt, rt.alloc(), 2, 7)?;
+    let mut me = lot.thread_data()?;
+    let over = AtomicUsize::new(0);
+    let (ended, woke) = thread::join(&rt, || parked(&lot, &mut me, &over), || unparked(&lot, 42));
+    assert!(rt; (ended == Some(ParkResult::Unparked(UnparkToken(42)))) & woke);
+    Ok(())
 }
 
 /// Parks again and again, and answers whether each park got the token of its round.
@@ -157,20 +215,21 @@ fn sleeps<R: Wait + Clock>(
     if !has_come(joined, number) || number >= 3 {
         return None;
     }
-    let ended = park(
-        lot,
-        &mut me,
-        3,
-        || true,
-        || joined.store(number + 1, Ordering::SeqCst),
-        |_, _| {},
-        ParkToken(number),
-        None::<(Instant, &R)>,
-    );
-    match ended {
-        ParkResult::Unparked(token) => Some(token),
+    let going = (joined, number);
+    let says = Some((joined, number + 1));
+    match parks(lot, &mut me, 3, going, says, ParkToken(number)) {
+        Some(ParkResult::Unparked(token)) => Some(token),
         _ => None,
     }
+}
+
+/// Has three threads sleep beside each other.
+fn three_sleep<R: Wait + Clock + Threads + Sync + AllocGlobal>(
+    rt: &R,
+    lot: &ParkingLot<R>,
+    joined: &AtomicUsize,
+) -> Result<Vec<Option<UnparkToken>>, AllocError> {
+    thread::map_indices(rt, rt.alloc(), 3, &|number| sleeps(lot, joined, number))
 }
 
 /// Whether the three sleepers were told these tokens.
@@ -183,30 +242,27 @@ fn are_told(tokens: Result<Vec<Option<UnparkToken>>, AllocError>, told: [usize; 
     }
 }
 
+/// Once all three have joined, unparks the second, and then the others.
+fn wake_second<R: Wait>(
+    lot: &ParkingLot<R>,
+    joined: &AtomicUsize,
+) -> Option<(UnparkResult, UnparkResult)> {
+    if !has_come(joined, 3) {
+        return None;
+    }
+    let one = filter(lot, [FilterOp::Skip, FilterOp::Unpark, FilterOp::Stop], 7);
+    Some((one, filter(lot, [FilterOp::Unpark; 3], 8)))
+}
+
 #[test]
 fn a_filter_takes_whom_it_wants(rt: HostRuntime) -> Result<(), Fail> {
     let lot = ParkingLot::new(rt, rt.alloc(), 3, 7)?;
     let joined = AtomicUsize::new(0);
-    let sleepers = || thread::map_indices(
+    let (tokens, woke) = thread::join(
         &rt,
-        rt.alloc(),
-        3,
-        &|number| sleeps(&lot, &joined, number),
+        || three_sleep(&rt, &lot, &joined),
+        || wake_second(&lot, &joined),
     );
-    let second = |token: ParkToken| match token {
-        ParkToken(0) => FilterOp::Skip,
-        ParkToken(1) => FilterOp::Unpark,
-        _ => FilterOp::Stop,
-    };
-    let waker = || {
-        if !has_come(&joined, 3) {
-            return None;
-        }
-        let one = unpark_filter(&lot, 3, second, |_| UnparkToken(7));
-        let rest = unpark_filter(&lot, 3, |_| FilterOp::Unpark, |_| UnparkToken(8));
-        Some((one, rest))
-    };
-    let (tokens, woke) = thread::join(&rt, sleepers, waker);
     let (one, rest) = woke.ok_or("not all joined")?;
     let is_one = (one.unparked_threads == 1) & one.have_more_threads;
     let are_two = (rest.unparked_threads == 2) & !rest.have_more_threads;
@@ -214,45 +270,52 @@ fn a_filter_takes_whom_it_wants(rt: HostRuntime) -> Result<(), Fail> {
     Ok(())
 }
 
+/// Once all three have joined, unparks the first, moves the others to key 4, and unparks all of each key.
+fn move_two<R: Wait>(
+    lot: &ParkingLot<R>,
+    joined: &AtomicUsize,
+) -> Option<(UnparkResult, usize, usize)> {
+    if !has_come(joined, 3) {
+        return None;
+    }
+    let moved = requeue(lot, 3, 4, RequeueOp::UnparkOneRequeueRest, 7);
+    let left = unpark_all(lot, 3, UnparkToken(6));
+    Some((moved, left, unpark_all(lot, 4, UnparkToken(8))))
+}
+
 #[test]
 fn requeued_threads_wake_under_the_other_key(rt: HostRuntime) -> Result<(), Fail> {
     let lot = ParkingLot::new(rt, rt.alloc(), 3, 7)?;
     let joined = AtomicUsize::new(0);
-    let sleepers = || thread::map_indices(
+    let (tokens, woke) = thread::join(
         &rt,
-        rt.alloc(),
-        3,
-        &|number| sleeps(&lot, &joined, number),
+        || three_sleep(&rt, &lot, &joined),
+        || move_two(&lot, &joined),
     );
-    let waker = || {
-        if !has_come(&joined, 3) {
-            return None;
-        }
-        let op = || RequeueOp::UnparkOneRequeueRest;
-        let moved = unpark_requeue(&lot, 3, 4, op, |_, _| UnparkToken(7));
-        let left = unpark_all(&lot, 3, UnparkToken(6));
-        Some((moved, left, unpark_all(&lot, 4, UnparkToken(8))))
-    };
-    let (tokens, woke) = thread::join(&rt, sleepers, waker);
     let (moved, left, rest) = woke.ok_or("not all joined")?;
     let are_moved = (moved.unparked_threads == 1) & (moved.requeued_threads == 2);
     assert!(rt; are_moved & (left == 0) & (rest == 2) & are_told(tokens, [7, 8, 8]));
     Ok(())
 }
 
+/// Whether this unpark or filter is fair where it must be, and a requeue behind it never is. Nobody is woken.
+fn is_as_fair<R: Wait>(lot: &ParkingLot<R>, turn: u32) -> bool {
+    let result = if turn % 3 == 0 {
+        filter(lot, [FilterOp::Stop; 3], 0)
+    } else {
+        unpark(lot, 3, 0)
+    };
+    let is_fair = result.be_fair == (turn % 64 == 0);
+    let other = requeue(lot, 3, 4, RequeueOp::UnparkOne, 0);
+    is_fair & !other.be_fair & (unpark_all(lot, 3, UnparkToken(0)) == 0)
+}
+
 #[test]
 fn each_64th_unpark_or_filter_is_fair(rt: HostRuntime) -> Result<(), Fail> {
     let lot = ParkingLot::new(rt, rt.alloc(), 2, 7)?;
     for turn in 1..257u32 {
-        let result = if turn % 3 == 0 {
-            unpark_filter(&lot, 3, |_| FilterOp::Stop, |_| UnparkToken(0))
-        } else {
-            unpark_one(&lot, 3, |_| UnparkToken(0))
-        };
-        let is_fair = result.be_fair == (turn % 64 == 0);
-        let other = unpark_requeue(&lot, 3, 4, || RequeueOp::UnparkOne, |_, _| UnparkToken(0));
-        let woken = unpark_all(&lot, 3, UnparkToken(0));
-        assert!(rt; is_fair & !other.be_fair & (woken == 0), "turn {turn}");
+        let is_so = is_as_fair(&lot, turn);
+        assert!(rt; is_so, "turn {turn}");
     }
     Ok(())
 }
@@ -295,45 +358,35 @@ fn take_turns<R: Wait + Clock>(
     lot: &ParkingLot<R>,
     turn: &AtomicUsize,
     mine: usize,
+    other: usize,
     rounds: u32,
 ) -> bool {
     let Ok(mut me) = lot.thread_data() else {
         return false;
     };
-    let other = if mine == 0 { 1 } else { 0 };
     for _round in 0..rounds {
-        if !await_turn(lot, &mut me, turn, mine) {
+        if !await_turn(lot, &mut me, turn, mine, other) {
             return false;
         }
         turn.store(other, Ordering::SeqCst);
-        unpark_one(lot, other, |_| UnparkToken(0));
+        unpark(lot, other, 0);
     }
     true
 }
 
-/// Parks until it is the side's turn, and answers whether it came.
+/// Parks until it is the side's turn and not the other's, and answers whether it came.
 fn await_turn<R: Wait + Clock>(
     lot: &ParkingLot<R>,
     me: &mut ThreadData,
     turn: &AtomicUsize,
     mine: usize,
+    other: usize,
 ) -> bool {
     for _look in 0..TURNS {
         if turn.load(Ordering::SeqCst) == mine {
             return true;
         }
-        if lot.same_lot(me) {
-            park(
-                lot,
-                me,
-                mine,
-                || turn.load(Ordering::SeqCst) != mine,
-                || {},
-                |_, _| {},
-                DEFAULT_PARK_TOKEN,
-                None::<(Instant, &R)>,
-            );
-        }
+        parks(lot, me, mine, (turn, other), None, DEFAULT_PARK_TOKEN);
     }
     false
 }
@@ -344,8 +397,8 @@ fn two_threads_hand_a_turn_to_and_fro(rt: HostRuntime) -> Result<(), Fail> {
     let turn = AtomicUsize::new(0);
     let (left, right) = thread::join(
         &rt,
-        || take_turns(&lot, &turn, 0, 100),
-        || take_turns(&lot, &turn, 1, 100),
+        || take_turns(&lot, &turn, 0, 1, 100),
+        || take_turns(&lot, &turn, 1, 0, 100),
     );
     assert!(rt; left & right & (turn.load(Ordering::SeqCst) == 0));
     Ok(())

@@ -1,16 +1,14 @@
 //! The lot for threads, as one or two threads use it.
 
+use crate::sleepers::{requeue, unpark};
 use parking_lot_core::{
     DEFAULT_PARK_TOKEN, DEFAULT_UNPARK_TOKEN, LotFault, ParkResult, ParkingLot, RequeueOp,
     SizeFault, SpinWait, ThreadData, UnparkResult, UnparkToken, WordLock, deadlock, park,
-    unpark_all, unpark_one, unpark_requeue,
+    unpark_all,
 };
 use std::sync::Wait;
 use std::test::Fail;
-use std::thread;
 use std::time::{Clock, Instant};
-
-const NO_TIMEOUT: Option<(Instant, &HostRuntime)> = None;
 
 #[test]
 fn sizes_of_lots_for_threads_are_limited(rt: HostRuntime) {
@@ -67,7 +65,7 @@ fn parked<R: Wait + Clock>(
         || {
             slept = true;
             if how.unparks {
-                unpark_one(lot, 3, |_| UnparkToken(42));
+                unpark(lot, 3, 42);
             }
         },
         |key, last| told = Some((key, last)),
@@ -120,7 +118,7 @@ fn one_parks_alone(rt: HostRuntime) -> Result<(), Fail> {
 fn each_64th_unpark_is_fair(rt: HostRuntime) -> Result<(), Fail> {
     let lot = ParkingLot::new(rt, rt.alloc(), 2, 7)?;
     for turn in 1..129u32 {
-        let fair = unpark_one(&lot, 3, |_| DEFAULT_UNPARK_TOKEN).be_fair;
+        let fair = unpark(&lot, 3, 0).be_fair;
         assert!(rt; fair == (turn % 64 == 0), "turn {turn}");
     }
     Ok(())
@@ -129,7 +127,7 @@ fn each_64th_unpark_is_fair(rt: HostRuntime) -> Result<(), Fail> {
 #[test]
 fn an_aborted_requeue_of_threads_does_nothing(rt: HostRuntime) -> Result<(), Fail> {
     let lot = ParkingLot::new(rt, rt.alloc(), 2, 7)?;
-    let result = unpark_requeue(&lot, 1, 2, || RequeueOp::Abort, |_, _| DEFAULT_UNPARK_TOKEN);
+    let result = requeue(&lot, 1, 2, RequeueOp::Abort, 0);
     let woken = unpark_all(&lot, 1, DEFAULT_UNPARK_TOKEN);
     assert!(rt; (result == UnparkResult::default()) & (woken == 0));
     let first = lot.claim_keys(4);
@@ -172,33 +170,4 @@ fn a_word_lock_is_locked_again(rt: HostRuntime) {
         lock.unlock(pass);
     }
     assert!(rt; SpinWait::default().spin());
-}
-
-#[test]
-fn one_thread_unparks_another(rt: HostRuntime) -> Result<(), Fail> {
-    let lot = ParkingLot::new(rt, rt.alloc(), 2, 7)?;
-    let mut me = lot.thread_data()?;
-    assert!(rt; lot.same_lot(&me));
-    let sleeper = || park(
-        &lot,
-        &mut me,
-        3,
-        || true,
-        || {},
-        |_, _| {},
-        DEFAULT_PARK_TOKEN,
-        NO_TIMEOUT,
-    );
-    let waker = || {
-        for _turn in 0..1_000_000u32 {
-            if unpark_one(&lot, 3, |_| UnparkToken(42)).unparked_threads == 1 {
-                return true;
-            }
-            thread::yield_now();
-        }
-        false
-    };
-    let (ended, woke) = thread::join(&rt, sleeper, waker);
-    assert!(rt; (ended == ParkResult::Unparked(UnparkToken(42))) & woke);
-    Ok(())
 }
