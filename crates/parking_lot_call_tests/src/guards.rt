@@ -3,7 +3,7 @@
 use lock_api::{ArcMutexGuard, Guard, Mutex, NoMemory, RwLock, RwLockWriteGuard};
 use lock_api_guards::{Hold, LenderMut};
 use lock_api_raw::{RawMutex, RawMutexTimed, RawRwLock};
-use parking_lot_core::ParkingLot;
+use parking_lot_core::{ParkingLot, ThreadData};
 use parking_lot_rwlock::LockTable;
 use std::alloc::Global;
 use std::ops::AddAssign;
@@ -103,30 +103,48 @@ where
     (before, guard.0)
 }
 
+/// Whether a lock on the next row is written, by a guard that is handed on too, and gives back what was written last.
+fn is_handed_on<R: Wait>(table: &LockTable<'_, R>, me: &mut ThreadData) -> Result<[bool; 3], Fail> {
+    let lock: RwLock<parking_lot_rwlock::RawRwLock<'_, '_, R, 0>, u64> = RwLock::new(table, 5, 0)?;
+    let is_written = overwrites(&lock, me, 1) & overwrites(&lock, me, 2);
+    let mut writer = writer_of(&lock, me, 3);
+    add(&mut writer, 1);
+    let mut entry = Entry::new(writer);
+    let is_set = (entry.set(5) == 5) & lock.is_locked_exclusive();
+    let is_closed = entry.close() & !lock.is_locked() & (lock.into_inner() == 5);
+    Ok([is_written, is_set, is_closed])
+}
+
+/// Whether a mutex on the next row is kept in an entry, and given back with what was written.
+fn is_kept<R: Wait>(table: &LockTable<'_, R>, me: &mut ThreadData) -> Result<[bool; 2], Fail> {
+    let counter: Mutex<parking_lot_mutex::RawMutex<'_, '_, R>, u64> = Mutex::new(table, 1)?;
+    let mut tally = Entry::new(counter.lock(me));
+    let is_set = (tally.set(6) == 6) & counter.is_locked();
+    let is_closed = tally.close() & !counter.is_locked() & (counter.into_inner() == 6);
+    Ok([is_set, is_closed])
+}
+
+/// What is counted by a mutex on the next row, twice.
+fn ticking<R: Wait>(
+    table: &LockTable<'_, R>,
+    me: &mut ThreadData,
+) -> Result<[(u64, u64); 2], Fail> {
+    let ticker: Mutex<parking_lot_mutex::RawMutex<'_, '_, R>, Ticks> = Mutex::new(table, Ticks(0))?;
+    let first = tick_and_look(&ticker, me);
+    Ok([first, tick_and_look(&ticker, me)])
+}
+
 #[test]
 fn guards_are_kept_and_handed_on(rt: HostRuntime) -> Result<(), Fail> {
     let lot = ParkingLot::new(rt, rt.alloc(), 1, 7)?;
     let mut me = lot.thread_data()?;
     let table = LockTable::new(rt.alloc(), &lot, 3)?;
-    let lock: RwLock<parking_lot_rwlock::RawRwLock<HostRuntime, 0>, u64> = RwLock::new(
-        &table, 5, 0,
-    )?;
-    assert!(rt; overwrites(&lock, &mut me, 1) & overwrites(&lock, &mut me, 2));
-    let mut writer = writer_of(&lock, &mut me, 3);
-    add(&mut writer, 1);
-    let mut entry = Entry::new(writer);
-    assert!(rt; (entry.set(5) == 5) & lock.is_locked_exclusive());
-    assert!(rt; entry.close() & !lock.is_locked() & (lock.into_inner() == 5));
-    let counter: Mutex<parking_lot_mutex::RawMutex<HostRuntime>, u64> = Mutex::new(&table, 1)?;
-    let mut tally = Entry::new(counter.lock(&mut me));
-    assert!(rt; (tally.set(6) == 6) & counter.is_locked());
-    assert!(rt; tally.close() & !counter.is_locked() & (counter.into_inner() == 6));
-    let ticker: Mutex<parking_lot_mutex::RawMutex<HostRuntime>, Ticks> = Mutex::new(
-        &table,
-        Ticks(0),
-    )?;
-    assert!(rt; tick_and_look(&ticker, &mut me) == (1, 2));
-    assert!(rt; tick_and_look(&ticker, &mut me) == (3, 4));
+    let handed = is_handed_on(&table, &mut me)?;
+    assert!(rt; handed == [true; 3], "{handed:?}");
+    let kept = is_kept(&table, &mut me)?;
+    assert!(rt; kept == [true; 2], "{kept:?}");
+    let ticks = ticking(&table, &mut me)?;
+    assert!(rt; ticks == [(1, 2), (3, 4)], "{ticks:?}");
     Ok(())
 }
 
@@ -163,25 +181,59 @@ where
     ]
 }
 
+/// A mutex in an arc, and the table that its word lies in.
+type Shared<'t, 'l, R> = Arc<Mutex<parking_lot_mutex::RawMutex<'t, 'l, R>, u64>, Global>;
+
+/// Whether calls give up beside a guard of the first thread, which has the word as it was.
+fn gives_up<R: Wait + Clock>(
+    rt: &R,
+    mutex: &Shared<'_, '_, R>,
+    table: &LockTable<'_, R>,
+    past: Instant,
+    one: &mut ThreadData,
+    other: &mut ThreadData,
+) -> bool {
+    let guard = mutex.lock(one);
+    let beside = have_it(rt, mutex, past, other, Duration::from_millis(1));
+    let is_left = table.word(0) == Some(1);
+    drop(guard);
+    (beside == [false; 2]) & is_left
+}
+
+/// Whether a guard finds 9, writes 1 and is closed.
+fn is_nine<R: Wait>(
+    mutex: &Shared<'_, '_, R>,
+    table: &LockTable<'_, R>,
+    me: &mut ThreadData,
+) -> bool {
+    let mut tally = Entry::new(mutex.lock(me));
+    let sum = *tally.guard;
+    (sum == 9) & (tally.set(1) == 1) & tally.close() & (table.word(0) == Some(0))
+}
+
+/// Looks at a mutex of 5 in an arc, on the first row: beside a guard, in time, and at what it has in the end.
+fn look_in_time<R: Wait + Clock>(
+    rt: &R,
+    alloc: Global,
+    table: &LockTable<'_, R>,
+    one: &mut ThreadData,
+    other: &mut ThreadData,
+) -> Result<[bool; 4], Fail> {
+    let mutex = Arc::new(alloc, Mutex::new(table, 5)?)?;
+    let past = Instant::now(rt)?;
+    let gives_up = gives_up(rt, &mutex, table, past, one, other);
+    let soon = have_it(rt, &mutex, past, other, Duration::from_millis(1)) == [true; 2];
+    let at_last = have_it(rt, &mutex, past, other, Duration::MAX) == [true; 2];
+    Ok([gives_up, soon, at_last, is_nine(&mutex, table, one)])
+}
+
 #[test]
 fn a_mutex_in_an_arc_is_had_in_time_or_given_up(rt: HostRuntime) -> Result<(), Fail> {
     let lot = ParkingLot::new(rt, rt.alloc(), 2, 7)?;
     let mut one = lot.thread_data()?;
     let mut other = lot.thread_data()?;
     let table = LockTable::new(rt.alloc(), &lot, 1)?;
-    let mutex: Mutex<parking_lot_mutex::RawMutex<HostRuntime>, u64> = Mutex::new(&table, 5)?;
-    let mutex = Arc::new(rt.alloc(), mutex)?;
-    let past = Instant::now(&rt)?;
-    let short = Duration::from_millis(1);
-    let guard = mutex.lock(&mut one);
-    let beside = have_it(&rt, &mutex, past, &mut other, short);
-    let is_left = table.word(0) == Some(1);
-    drop(guard);
-    assert!(rt; (beside == [false; 2]) & is_left);
-    assert!(rt; have_it(&rt, &mutex, past, &mut other, short) == [true; 2]);
-    assert!(rt; have_it(&rt, &mutex, past, &mut other, Duration::MAX) == [true; 2]);
-    let mut tally = Entry::new(mutex.lock(&mut one));
-    let sum = *tally.guard;
-    assert!(rt; (sum == 9) & (tally.set(1) == 1) & tally.close() & (table.word(0) == Some(0)));
+    let seen = look_in_time(&rt, rt.alloc(), &table, &mut one, &mut other)?;
+    assert!(rt; seen == [true; 4], "{seen:?}");
     Ok(())
 }

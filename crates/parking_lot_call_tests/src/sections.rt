@@ -1,6 +1,6 @@
 //! Waking sections of an exclusive release, by the tokens in the list: whom they take, and what they store.
 
-use crate::script::follow_rw;
+use crate::script::follow;
 use parking_lot_core::{FilterOp, ParkToken};
 use parking_lot_protocol::{Act, ActResult, RwCore, SectionAct, WordChange, wake_sum};
 use std::process::Abort;
@@ -11,7 +11,7 @@ fn section(rt: &impl Abort, waiters: &[usize], sum: u64, plain: u64, fair: u64) 
         (ActResult::Start, Act::Exchange(8, 0)),
         (ActResult::Word(9), Act::Enter(0)),
     ];
-    let mut core = follow_rw(rt, RwCore::unlock_exclusive(), &begun);
+    let mut core = follow(rt, RwCore::unlock_exclusive(), &begun);
     let mut act = core.next(ActResult::Entered);
     let mut so_far = 0u64;
     let mut waiting = waiters.len();
