@@ -6,6 +6,8 @@
 #[cfg(test)]
 mod checks;
 #[cfg(test)]
+mod deadlines;
+#[cfg(test)]
 mod guards;
 #[cfg(test)]
 mod mutex_calls;

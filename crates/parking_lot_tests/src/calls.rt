@@ -1,7 +1,7 @@
 //! What a thread asks for at a running lock, and what it is answered.
 
 /// Which hold is asked for.
-#[derive(Clone, Copy, PartialEq)]
+#[derive(Clone, Copy)]
 pub enum Mode {
     Shared,
     Upgradable,

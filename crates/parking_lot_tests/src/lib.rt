@@ -7,8 +7,6 @@ mod calls;
 #[cfg(test)]
 mod crowds;
 #[cfg(test)]
-mod deadlines;
-#[cfg(test)]
 mod held;
 #[cfg(test)]
 mod mutex_plays;

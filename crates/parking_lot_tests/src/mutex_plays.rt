@@ -1,8 +1,13 @@
 //! Plays at the running mutexes.
 
 use crate::calls::{Answer, Aside, Deed, How, Line, Mode, Step};
-use crate::stage::{Kind, Setting, alone, on, pair, play};
+use crate::stage::{Kind, Play, play};
 use std::test::Fail;
+
+/// The mutexes of both kinds.
+const PLAIN: Kind = Kind::Plain;
+
+const FAIR: Kind = Kind::Fair;
 
 /// Asks, and has it.
 const LOCK: Line = (Step::Ask(Mode::Exclusive, How::Waits), Answer::Had);
@@ -69,11 +74,15 @@ const IN_TIME: &[Line] = &[
     (Step::Probe(Mode::Exclusive, How::Always), Answer::HadAt(1)),
 ];
 
+const BY_ONE: &[Play] = &[
+    ("alone", PLAIN, &[ALONE]),
+    ("plain in time", PLAIN, &[IN_TIME]),
+    ("fair in time", FAIR, &[IN_TIME]),
+];
+
 #[test]
 fn one_thread_has_a_mutex_or_gives_up(rt: HostRuntime) -> Result<(), Fail> {
-    alone(rt, rt.alloc(), "alone", on(Kind::Plain), ALONE)?;
-    alone(rt, rt.alloc(), "plain in time", on(Kind::Plain), IN_TIME)?;
-    alone(rt, rt.alloc(), "fair in time", on(Kind::Fair), IN_TIME)
+    play(rt, rt.alloc(), (0, 7), BY_ONE)
 }
 
 /// The second thread, which sleeps behind the first, finds what that has said, and answers.
@@ -89,58 +98,33 @@ const BUMPS: &[Line] = &[LOCK, PARKED, SAY_1, BUMP, SAID_2, END];
 /// The same, whoever has the mutex first.
 const UNLOCKS_FOR_ANYBODY: &[Line] = &[LOCK, PARKED, SAY_1, END, LOCK, END];
 
+const HANDED_OVER: &[Play] = &[
+    ("fair, unlocked", FAIR, &[UNLOCKS, SECOND]),
+    ("fair, handed over", FAIR, &[HANDS_OVER, SECOND]),
+    ("fair, bumped", FAIR, &[BUMPS, SECOND]),
+    ("plain, handed over", PLAIN, &[HANDS_OVER, SECOND]),
+    ("plain, bumped", PLAIN, &[BUMPS, SECOND]),
+];
+
 #[test]
 fn a_mutex_is_handed_over(rt: HostRuntime) -> Result<(), Fail> {
-    let fair = on(Kind::Fair);
-    pair(rt, rt.alloc(), "fair, unlocked", fair, UNLOCKS, SECOND)?;
-    pair(
-        rt,
-        rt.alloc(),
-        "fair, handed over",
-        fair,
-        HANDS_OVER,
-        SECOND,
-    )?;
-    pair(rt, rt.alloc(), "fair, bumped", fair, BUMPS, SECOND)?;
-    let plain = on(Kind::Plain);
-    pair(
-        rt,
-        rt.alloc(),
-        "plain, handed over",
-        plain,
-        HANDS_OVER,
-        SECOND,
-    )?;
-    pair(rt, rt.alloc(), "plain, bumped", plain, BUMPS, SECOND)
+    play(rt, rt.alloc(), (0, 7), HANDED_OVER)
 }
 
-/// The lot's 64th unpark asks for a fair release.
-const FAIR_BY_THE_LOT: Setting = Setting {
-    kind: Kind::Plain,
-    unparks: 63,
-    lot: 7,
-};
+const SLEEPING: &[Play] = &[("a sleeper", PLAIN, &[UNLOCKS_FOR_ANYBODY, SECOND])];
 
 /// The second thread can't sleep, since it takes part in another lot.
-const OF_ANOTHER_LOT: Setting = Setting {
-    kind: Kind::Plain,
-    unparks: 0,
-    lot: 8,
-};
+const OF_ANOTHER_LOT: &[Play] = &[("of another lot", PLAIN, &[UNLOCKS_FOR_ANYBODY, SECOND])];
+
+/// The lot's 64th unpark asks for a fair release.
+const FAIR_BY_THE_LOT: &[Play] = &[("fair by the lot", PLAIN, &[UNLOCKS, SECOND])];
 
 #[test]
 fn a_sleeper_is_woken(rt: HostRuntime) -> Result<(), Fail> {
-    let lines = [UNLOCKS_FOR_ANYBODY, SECOND, &[], &[]];
-    play(rt, rt.alloc(), "a sleeper", on(Kind::Plain), lines)?;
-    play(rt, rt.alloc(), "of another lot", OF_ANOTHER_LOT, lines)?;
-    pair(
-        rt,
-        rt.alloc(),
-        "fair by the lot",
-        FAIR_BY_THE_LOT,
-        UNLOCKS,
-        SECOND,
-    )
+    let alloc = rt.alloc();
+    play(rt, alloc, (0, 7), SLEEPING)?;
+    play(rt, alloc, (0, 8), OF_ANOTHER_LOT)?;
+    play(rt, alloc, (63, 7), FAIR_BY_THE_LOT)
 }
 
 /// The number that a guard adds to, and what it is then.
@@ -159,24 +143,21 @@ const HANDS_OVER_TO_ONE: &[Line] = &[LOCK, PUT_1, PARKED, END_FAIRLY, REFUSED, S
 /// It lets the other go first.
 const GOES_SECOND: &[Line] = &[LOCK, PUT_1, PARKED, SAY_1, BUMP, GET_11, END];
 
+/// What is read in the end.
+const LEFT: &[Line] = &[LOCK, GET_11, END];
+
+const GIVING_WAY: &[Play] = &[
+    (
+        "a fair end",
+        PLAIN,
+        &[HANDS_OVER_TO_ONE, ADDS_BEHIND, &[], LEFT],
+    ),
+    ("a bump", PLAIN, &[GOES_SECOND, ADDS_BEHIND, &[], LEFT]),
+];
+
 #[test]
 fn a_guard_gives_way(rt: HostRuntime) -> Result<(), Fail> {
-    let left: &[Line] = &[LOCK, GET_11, END];
-    let plain = on(Kind::Plain);
-    play(
-        rt,
-        rt.alloc(),
-        "a fair end",
-        plain,
-        [HANDS_OVER_TO_ONE, ADDS_BEHIND, &[], left],
-    )?;
-    play(
-        rt,
-        rt.alloc(),
-        "a bump",
-        plain,
-        [GOES_SECOND, ADDS_BEHIND, &[], left],
-    )
+    play(rt, rt.alloc(), (0, 7), GIVING_WAY)
 }
 
 /// A guard of a fair mutex writes and reads.
@@ -188,9 +169,11 @@ const WRITES: &[Line] = &[
     (Step::Aside(Aside::Locked), Answer::No),
 ];
 
+const WRITING: &[Play] = &[("writes", FAIR, &[WRITES])];
+
 #[test]
 fn a_guard_of_a_fair_mutex_lends_what_was_written(rt: HostRuntime) -> Result<(), Fail> {
-    alone(rt, rt.alloc(), "writes", on(Kind::Fair), WRITES)
+    play(rt, rt.alloc(), (0, 7), WRITING)
 }
 
 /// Of a reentrant mutex of two holds the owner has a second one, in time too, and no third one, and another party none.
@@ -241,17 +224,16 @@ const NESTS_BEFORE: &[Line] = &[
 /// It takes the mutex once the other thread has it, and finds what that has said.
 const LOCKS_BEHIND: &[Line] = &[LOCKED, LOCK, SAID_1, END];
 
+const NESTING: &[Play] = &[
+    ("nested", Kind::Reentrant, &[NESTED]),
+    (
+        "behind the last",
+        Kind::Reentrant,
+        &[NESTS_BEFORE, LOCKS_BEHIND],
+    ),
+];
+
 #[test]
 fn holds_of_a_reentrant_mutex_nest(rt: HostRuntime) -> Result<(), Fail> {
-    let alloc = rt.alloc();
-    let reentrant = on(Kind::Reentrant);
-    alone(rt, alloc, "nested", reentrant, NESTED)?;
-    pair(
-        rt,
-        alloc,
-        "behind the last",
-        reentrant,
-        NESTS_BEFORE,
-        LOCKS_BEHIND,
-    )
+    play(rt, rt.alloc(), (0, 7), NESTING)
 }

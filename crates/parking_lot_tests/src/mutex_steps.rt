@@ -1,10 +1,12 @@
 //! Steps of a thread at a mutex.
 
-use crate::calls::{Answer, How, Line, Mode, NOTHING, Round, Step, Tally, Verdict, WRONG, sum};
+use crate::calls::{Answer, How, Line, Mode, Round, Step, Tally, Verdict, WRONG};
 use crate::held::{add_under, write_by, write_under};
 use crate::scene::Scene;
+use crate::stage::Stage;
 use lock_api::{Mutex, MutexGuard};
-use lock_api_raw::{RawMutexFair, RawMutexTimed};
+use lock_api_raw::{RawMutex, RawMutexFair, RawMutexTimed};
+use parking_lot_core::ThreadData;
 use std::sync::Wait;
 use std::time::{Clock, Duration, Instant};
 
@@ -73,67 +75,41 @@ where
     }
 }
 
-/// Follows the lines until one is answered otherwise.
-pub fn follow<M, R: Clock>(
-    mutex: &Mutex<M, u64>,
-    scene: &Scene<'_, '_, R>,
-    lines: &[Line],
-    me: &mut M::Party,
-    other: &mut M::Party,
-) -> Verdict
+impl<M, R: Wait + Clock> Stage<R> for Mutex<M, u64>
 where
-    M: RawMutexFair + RawMutexTimed<Duration = Duration, Instant = Instant>,
-    M::Runtime: Wait,
-{
-    let mut hand = None;
-    for (at, (step, expected)) in lines.iter().enumerate() {
-        let (held, answer) = make(mutex, scene, hand, *step, me, other);
-        hand = held;
-        if answer != *expected {
-            return Some(at);
-        }
-    }
-    None
-}
-
-/// Makes one round.
-fn turn<M, R: Clock>(
-    mutex: &Mutex<M, u64>,
-    scene: &Scene<'_, '_, R>,
-    round: Round,
-    party: &mut M::Party,
-) -> Tally
-where
+    M: RawMutex<Party = ThreadData> + RawMutexFair,
     M: RawMutexTimed<Duration = Duration, Instant = Instant>,
     M::Runtime: Wait,
 {
-    match round {
-        Round::Adds(how) => add_under(ask(mutex, scene, how, party), scene, how, None),
-        Round::AddsAt(how, word) => {
-            add_under(ask(mutex, scene, how, party), scene, how, Some(word))
+    fn follow(
+        &self,
+        scene: &Scene<'_, '_, R>,
+        lines: &[Line],
+        me: &mut ThreadData,
+        other: &mut ThreadData,
+    ) -> Verdict {
+        let mut hand = None;
+        for (at, (step, expected)) in lines.iter().enumerate() {
+            let (held, answer) = make(self, scene, hand, *step, me, other);
+            hand = held;
+            if answer != *expected {
+                return Some(at);
+            }
         }
-        Round::Writes(how) => write_under(ask(mutex, scene, how, party), scene),
-        _ => WRONG,
+        None
     }
-}
 
-/// Makes each of the rounds in turn, so many times.
-pub fn take_turns<M, R: Clock>(
-    mutex: &Mutex<M, u64>,
-    scene: &Scene<'_, '_, R>,
-    rounds: &[Round],
-    times: u32,
-    party: &mut M::Party,
-) -> Tally
-where
-    M: RawMutexTimed<Duration = Duration, Instant = Instant>,
-    M::Runtime: Wait,
-{
-    let mut all = NOTHING;
-    for _time in 0..times {
-        for round in rounds {
-            all = sum(all, turn(mutex, scene, *round, party));
+    fn turn(&self, scene: &Scene<'_, '_, R>, round: Round, me: &mut ThreadData) -> Tally {
+        match round {
+            Round::Adds(how) => add_under(ask(self, scene, how, me), scene, how, None),
+            Round::AddsAt(how, word) => add_under(
+                ask(self, scene, how, me),
+                scene,
+                how,
+                Some(word),
+            ),
+            Round::Writes(how) => write_under(ask(self, scene, how, me), scene),
+            _ => WRONG,
         }
     }
-    all
 }

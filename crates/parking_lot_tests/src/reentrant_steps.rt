@@ -1,10 +1,12 @@
 //! Steps of a thread at a reentrant mutex.
 
-use crate::calls::{Answer, How, Line, Mode, NOTHING, ONE, Step, Tally, Verdict, WRONG, sum};
+use crate::calls::{Answer, How, Line, Mode, NOTHING, ONE, Round, Step, Tally, Verdict, WRONG};
 use crate::held::read_by;
 use crate::scene::Scene;
+use crate::stage::Stage;
 use lock_api::{ReadersFull, ReentrantMutex, ReentrantMutexGuard};
-use lock_api_raw::{GetThreadId, RawMutexFair, RawMutexTimed};
+use lock_api_raw::{GetThreadId, RawMutex, RawMutexFair, RawMutexTimed};
+use parking_lot_core::ThreadData;
 use std::sync::Wait;
 use std::time::{Clock, Duration, Instant};
 
@@ -65,12 +67,14 @@ where
     M::Runtime: Wait,
 {
     match (hand, step) {
-        (None, Step::Ask(Mode::Exclusive, how)) => match ask(mutex, scene, how, me) {
-            Ok(Some(guard)) => (Some(guard), Answer::Had),
-            Ok(None) => (None, Answer::Refused),
-            Err(ReadersFull) => (None, Answer::Full),
-        },
-        (Some(guard), Step::Do(deed)) => read_by(guard, deed, me),
+        (None, Step::Ask(Mode::Exclusive, how) | Step::AskToo(Mode::Exclusive, how)) => {
+            match ask(mutex, scene, how, me) {
+                Ok(Some(guard)) => (Some(guard), Answer::Had),
+                Ok(None) => (None, Answer::Refused),
+                Err(ReadersFull) => (None, Answer::Full),
+            }
+        }
+        (Some(guard), Step::Do(deed) | Step::DoToo(deed)) => read_by(guard, deed, me),
         (hand, _) => (hand, Answer::Unknown),
     }
 }
@@ -99,50 +103,36 @@ where
     }
 }
 
-/// Follows the lines until one is answered otherwise.
-pub fn follow<M, G, R: Clock>(
-    mutex: &ReentrantMutex<M, G, u64>,
+/// What both hands hold.
+type Hands<'m, M, G> = (
+    Option<ReentrantMutexGuard<'m, M, G, u64>>,
+    Option<ReentrantMutexGuard<'m, M, G, u64>>,
+);
+
+/// Makes one step, with what the hands hold.
+fn make<'m, M, G, R: Clock>(
+    mutex: &'m ReentrantMutex<M, G, u64>,
     scene: &Scene<'_, '_, R>,
-    lines: &[Line],
+    hands: Hands<'m, M, G>,
+    step: Step,
     me: &mut M::Party,
     other: &mut M::Party,
-) -> Verdict
+) -> (Hands<'m, M, G>, Answer)
 where
     M: RawMutexFair + RawMutexTimed<Duration = Duration, Instant = Instant> + Drop,
     G: GetThreadId<Party = M::Party> + Drop,
     M::Runtime: Wait,
 {
-    let mut first = None;
-    let mut second = None;
-    for (at, (step, expected)) in lines.iter().enumerate() {
-        let answer = match *step {
-            Step::Ask(mode, how) => {
-                let (held, answer) = make_by(mutex, scene, first, Step::Ask(mode, how), me);
-                first = held;
-                answer
-            }
-            Step::Do(deed) => {
-                let (held, answer) = make_by(mutex, scene, first, Step::Do(deed), me);
-                first = held;
-                answer
-            }
-            Step::AskToo(mode, how) => {
-                let (held, answer) = make_by(mutex, scene, second, Step::Ask(mode, how), me);
-                second = held;
-                answer
-            }
-            Step::DoToo(deed) => {
-                let (held, answer) = make_by(mutex, scene, second, Step::Do(deed), me);
-                second = held;
-                answer
-            }
-            step => look(mutex, scene, step, me, other),
-        };
-        if answer != *expected {
-            return Some(at);
-        }
+    let (first, second) = hands;
+    if matches!(step, Step::Ask(..) | Step::Do(_)) {
+        let (held, answer) = make_by(mutex, scene, first, step, me);
+        ((held, second), answer)
+    } else if matches!(step, Step::AskToo(..) | Step::DoToo(_)) {
+        let (held, answer) = make_by(mutex, scene, second, step, me);
+        ((first, held), answer)
+    } else {
+        ((first, second), look(mutex, scene, step, me, other))
     }
-    None
 }
 
 /// Adds 1 in two steps, the second of them under a hold that is nested in the first one's.
@@ -170,21 +160,35 @@ where
     }
 }
 
-/// Makes each of the rounds in turn, so many times.
-pub fn take_turns<M, G, R: Clock>(
-    mutex: &ReentrantMutex<M, G, u64>,
-    scene: &Scene<'_, '_, R>,
-    times: u32,
-    party: &mut M::Party,
-) -> Tally
+impl<M, G, R: Wait + Clock> Stage<R> for ReentrantMutex<M, G, u64>
 where
-    M: RawMutexTimed<Duration = Duration, Instant = Instant> + Drop,
-    G: GetThreadId<Party = M::Party> + Drop,
+    M: RawMutex<Party = ThreadData> + RawMutexFair + Drop,
+    M: RawMutexTimed<Duration = Duration, Instant = Instant>,
+    G: GetThreadId<Party = ThreadData> + Drop,
     M::Runtime: Wait,
 {
-    let mut all = NOTHING;
-    for _time in 0..times {
-        all = sum(all, add_nested(mutex, scene, party));
+    fn follow(
+        &self,
+        scene: &Scene<'_, '_, R>,
+        lines: &[Line],
+        me: &mut ThreadData,
+        other: &mut ThreadData,
+    ) -> Verdict {
+        let mut hands = (None, None);
+        for (at, (step, expected)) in lines.iter().enumerate() {
+            let (held, answer) = make(self, scene, hands, *step, me, other);
+            hands = held;
+            if answer != *expected {
+                return Some(at);
+            }
+        }
+        None
     }
-    all
+
+    fn turn(&self, scene: &Scene<'_, '_, R>, round: Round, me: &mut ThreadData) -> Tally {
+        match round {
+            Round::Nests => add_nested(self, scene, me),
+            _ => WRONG,
+        }
+    }
 }

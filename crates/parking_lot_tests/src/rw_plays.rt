@@ -1,13 +1,17 @@
 //! Plays at the running reader-writer locks.
 
 use crate::calls::{Answer, Aside, Deed, How, Line, Mode, Step, Turn};
-use crate::stage::{Kind, Setting, alone, on, pair, play};
+use crate::stage::{Kind, Lines, Play, play};
 use std::test::Fail;
 
-/// A lock of so many readers.
-const fn of(readers: u64) -> Setting {
-    on(Kind::ReadWrite(readers))
-}
+/// Locks of one reader, of five and of nine, and a recursive one.
+const RW_1: Kind = Kind::ReadWrite(1);
+
+const RW_5: Kind = Kind::ReadWrite(5);
+
+const RW_9: Kind = Kind::ReadWrite(9);
+
+const RECURSIVE: Kind = Kind::Recursive(5);
 
 /// What the first hand asks for, and has.
 const READ: Line = (Step::Ask(Mode::Shared, How::Waits), Answer::Had);
@@ -283,19 +287,21 @@ const READS_OR_WRITES: &[Line] = &[
     UNLOCKED,
 ];
 
+const BY_ONE: &[Play] = &[
+    ("two readers", Kind::ReadWrite(2), &[TWO_READERS]),
+    ("a writer", Kind::ReadWrite(0), &[A_WRITER]),
+    ("an upgradable owner", RW_5, &[AN_UPGRADABLE_OWNER]),
+    ("a refused upgrade", RW_5, &[A_REFUSED_UPGRADE]),
+    ("an upgrade in time", RW_5, &[AN_UPGRADE_IN_TIME]),
+    ("the one reader", RW_1, &[THE_ONE_READER]),
+    ("in time", RW_5, &[IN_TIME]),
+    ("reads or writes", RW_5, &[READS_OR_WRITES]),
+    ("in time, recursive", RECURSIVE, &[IN_TIME]),
+];
+
 #[test]
 fn one_thread_has_a_lock_or_gives_up(rt: HostRuntime) -> Result<(), Fail> {
-    let alloc = rt.alloc();
-    alone(rt, alloc, "two readers", of(2), TWO_READERS)?;
-    alone(rt, alloc, "a writer", of(0), A_WRITER)?;
-    alone(rt, alloc, "an upgradable owner", of(5), AN_UPGRADABLE_OWNER)?;
-    alone(rt, alloc, "a refused upgrade", of(5), A_REFUSED_UPGRADE)?;
-    alone(rt, alloc, "an upgrade in time", of(5), AN_UPGRADE_IN_TIME)?;
-    alone(rt, alloc, "the one reader", of(1), THE_ONE_READER)?;
-    alone(rt, alloc, "in time", of(5), IN_TIME)?;
-    alone(rt, alloc, "reads or writes", of(5), READS_OR_WRITES)?;
-    let recursive = on(Kind::Recursive(5));
-    alone(rt, alloc, "in time, recursive", recursive, IN_TIME)
+    play(rt, rt.alloc(), (0, 7), BY_ONE)
 }
 
 /// It writes once another thread reads.
@@ -315,13 +321,18 @@ const READS_BEHIND: &[Line] = &[
     END,
 ];
 
+/// Two readers come behind one that writes.
+const READERS: Lines<'static> = &[WRITES_BEFORE, READS_BEHIND, READS_BEHIND];
+
+const WAITING: &[Play] = &[
+    ("a writer", RW_5, &[READS_BEFORE, WRITES_BEHIND]),
+    ("readers of one", RW_1, READERS),
+    ("readers of five", RW_5, READERS),
+];
+
 #[test]
 fn readers_and_writers_wait(rt: HostRuntime) -> Result<(), Fail> {
-    let alloc = rt.alloc();
-    pair(rt, alloc, "a writer", of(5), READS_BEFORE, WRITES_BEHIND)?;
-    let readers: [&[Line]; 4] = [WRITES_BEFORE, READS_BEHIND, READS_BEHIND, &[]];
-    play(rt, alloc, "readers of one", of(1), readers)?;
-    play(rt, alloc, "readers of five", of(5), readers)
+    play(rt, rt.alloc(), (0, 7), WAITING)
 }
 
 /// It reads 0 until a writer sleeps, and no other reader is let in.
@@ -373,49 +384,40 @@ const STOPS_READING: &[Line] = &[
 
 const GIVES_WAY_AS_READER: &[Line] = &[READ, comes!(26), get!(0), say!(1), BUMP, get!(10), END];
 
+/// What is read in the end.
+const LEFT_6: &[Line] = &[READ, get!(6), END];
+
+const LEFT_10: &[Line] = &[READ, get!(10), END];
+
+const LEFT_11: &[Line] = &[READ, get!(11), END];
+
+const SLEEPING: &[Play] = &[
+    ("reads 0", RW_9, &[READS_0, WRITES_6, &[], LEFT_6]),
+    (
+        "stops writing",
+        RW_9,
+        &[STOPS_WRITING, ADDS_BEHIND_A_WRITER, &[], LEFT_11],
+    ),
+    (
+        "gives way as writer",
+        RW_9,
+        &[GIVES_WAY_AS_WRITER, ADDS_BEHIND_A_WRITER, &[], LEFT_11],
+    ),
+    (
+        "stops reading",
+        RW_9,
+        &[STOPS_READING, ADDS_BEHIND_A_READER, &[], LEFT_10],
+    ),
+    (
+        "gives way as reader",
+        RW_9,
+        &[GIVES_WAY_AS_READER, ADDS_BEHIND_A_READER, &[], LEFT_10],
+    ),
+];
+
 #[test]
 fn a_writer_that_sleeps_comes_first(rt: HostRuntime) -> Result<(), Fail> {
-    let alloc = rt.alloc();
-    let left_6: &[Line] = &[READ, get!(6), END];
-    let left_10: &[Line] = &[READ, get!(10), END];
-    let left_11: &[Line] = &[READ, get!(11), END];
-    let writer = ADDS_BEHIND_A_WRITER;
-    let reader = ADDS_BEHIND_A_READER;
-    play(
-        rt,
-        alloc,
-        "reads 0",
-        of(9),
-        [READS_0, WRITES_6, &[], left_6],
-    )?;
-    play(
-        rt,
-        alloc,
-        "stops writing",
-        of(9),
-        [STOPS_WRITING, writer, &[], left_11],
-    )?;
-    play(
-        rt,
-        alloc,
-        "gives way as writer",
-        of(9),
-        [GIVES_WAY_AS_WRITER, writer, &[], left_11],
-    )?;
-    play(
-        rt,
-        alloc,
-        "stops reading",
-        of(9),
-        [STOPS_READING, reader, &[], left_10],
-    )?;
-    play(
-        rt,
-        alloc,
-        "gives way as reader",
-        of(9),
-        [GIVES_WAY_AS_READER, reader, &[], left_10],
-    )
+    play(rt, rt.alloc(), (0, 7), SLEEPING)
 }
 
 /// It reads until a writer sleeps, and asks again as a reader and as an upgradable owner: past the writer, or in vain.
@@ -440,27 +442,15 @@ const READS_ON: &[Line] = &[
     END,
 ];
 
+const READING_AGAIN: &[Play] = &[
+    ("reads again", RECURSIVE, &[READS_AGAIN, WRITES_BEHIND]),
+    ("reads on", RECURSIVE, &[READS_ON, WRITES_BEHIND]),
+    ("asks in vain", RW_5, &[ASKS_IN_VAIN, WRITES_BEHIND]),
+];
+
 #[test]
 fn one_that_reads_may_read_again_on_a_recursive_lock(rt: HostRuntime) -> Result<(), Fail> {
-    let alloc = rt.alloc();
-    let recursive = on(Kind::Recursive(5));
-    pair(
-        rt,
-        alloc,
-        "reads again",
-        recursive,
-        READS_AGAIN,
-        WRITES_BEHIND,
-    )?;
-    pair(rt, alloc, "reads on", recursive, READS_ON, WRITES_BEHIND)?;
-    pair(
-        rt,
-        alloc,
-        "asks in vain",
-        of(5),
-        ASKS_IN_VAIN,
-        WRITES_BEHIND,
-    )
+    play(rt, rt.alloc(), (0, 7), READING_AGAIN)
 }
 
 /// It reads alone while another asks to write for a while and gives up, and goes on until one more has looked.
@@ -475,8 +465,9 @@ const A_WRITER_GIVES_UP: &[Line] = &[
 /// Behind the writer that sleeps it asks to read, and comes in beside the reader.
 const COMES_IN: &[Line] = &[comes!(26), READ, word!(32), say!(1), END];
 
+const KEPT_OUT: &[Play] = &[("a writer gives up", RW_5, &[A_WRITER_GIVES_UP, COMES_IN])];
+
 #[test]
 fn those_that_a_writer_kept_out_come_in_once_it_gives_up(rt: HostRuntime) -> Result<(), Fail> {
-    let lines: [&[Line]; 4] = [A_WRITER_GIVES_UP, COMES_IN, &[], &[]];
-    play(rt, rt.alloc(), "a writer gives up", of(5), lines)
+    play(rt, rt.alloc(), (0, 7), KEPT_OUT)
 }

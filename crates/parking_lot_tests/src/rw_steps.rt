@@ -1,13 +1,17 @@
 //! Steps of a thread at a reader-writer lock.
 
 use crate::calls::{
-    Answer, Deed, How, Line, Mode, NOTHING, ONE, Round, Step, Tally, Turn, Verdict, WRONG, sum,
+    Answer, Deed, How, Line, Mode, NOTHING, ONE, Round, Step, Tally, Turn, Verdict, WRONG,
 };
 use crate::held::{add_under, find_under, read_by, read_under, write_by, write_under};
 use crate::scene::Scene;
+use crate::stage::Stage;
 use lock_api::{Guard, RwLock, RwLockReadGuard, RwLockUpgradableReadGuard, RwLockWriteGuard};
 use lock_api_guards::{Access, Hold, TimedUpgradeHold};
-use lock_api_raw::{RawRwLockUpgradeDowngrade, RawRwLockUpgradeFair, RawRwLockUpgradeTimed};
+use lock_api_raw::{
+    RawRwLock, RawRwLockUpgradeDowngrade, RawRwLockUpgradeFair, RawRwLockUpgradeTimed,
+};
+use parking_lot_core::ThreadData;
 use std::sync::Wait;
 use std::time::{Clock, Duration, Instant};
 
@@ -20,6 +24,43 @@ where
     Reads(RwLockReadGuard<'m, L, u64>),
     Upgrades(RwLockUpgradableReadGuard<'m, L, u64>),
     Writes(RwLockWriteGuard<'m, L, u64>),
+}
+
+/// A guard that was had, as one of any mode.
+fn kept_reader<L: RawRwLockUpgradeFair>(
+    had: Option<RwLockReadGuard<'_, L, u64>>,
+) -> Option<Held<'_, L>>
+where
+    L::Runtime: Wait,
+{
+    match had {
+        Some(guard) => Some(Held::Reads(guard)),
+        None => None,
+    }
+}
+
+fn kept_upgrader<L: RawRwLockUpgradeFair>(
+    had: Option<RwLockUpgradableReadGuard<'_, L, u64>>,
+) -> Option<Held<'_, L>>
+where
+    L::Runtime: Wait,
+{
+    match had {
+        Some(guard) => Some(Held::Upgrades(guard)),
+        None => None,
+    }
+}
+
+fn kept_writer<L: RawRwLockUpgradeFair>(
+    had: Option<RwLockWriteGuard<'_, L, u64>>,
+) -> Option<Held<'_, L>>
+where
+    L::Runtime: Wait,
+{
+    match had {
+        Some(guard) => Some(Held::Writes(guard)),
+        None => None,
+    }
 }
 
 /// What is asked for to read.
@@ -120,18 +161,9 @@ where
     L::Runtime: Wait,
 {
     match mode {
-        Mode::Shared => match reader(lock, scene, how, party) {
-            Some(guard) => Some(Held::Reads(guard)),
-            None => None,
-        },
-        Mode::Upgradable => match upgrader(lock, scene, how, party) {
-            Some(guard) => Some(Held::Upgrades(guard)),
-            None => None,
-        },
-        Mode::Exclusive => match writer(lock, scene, how, party) {
-            Some(guard) => Some(Held::Writes(guard)),
-            None => None,
-        },
+        Mode::Shared => kept_reader(reader(lock, scene, how, party)),
+        Mode::Upgradable => kept_upgrader(upgrader(lock, scene, how, party)),
+        Mode::Exclusive => kept_writer(writer(lock, scene, how, party)),
     }
 }
 
@@ -187,24 +219,15 @@ where
     match held {
         Held::Reads(guard) => {
             let (left, answer) = read_by(guard, deed, party);
-            match left {
-                Some(guard) => (Some(Held::Reads(guard)), answer),
-                None => (None, answer),
-            }
+            (kept_reader(left), answer)
         }
         Held::Upgrades(guard) => {
             let (left, answer) = read_by(guard, deed, party);
-            match left {
-                Some(guard) => (Some(Held::Upgrades(guard)), answer),
-                None => (None, answer),
-            }
+            (kept_upgrader(left), answer)
         }
         Held::Writes(guard) => {
             let (left, answer) = write_by(guard, deed, party);
-            match left {
-                Some(guard) => (Some(Held::Writes(guard)), answer),
-                None => (None, answer),
-            }
+            (kept_writer(left), answer)
         }
     }
 }
@@ -289,52 +312,75 @@ where
     }
 }
 
-/// Follows the lines until one is answered otherwise.
-pub fn follow<L, R: Clock>(
-    lock: &RwLock<L, u64>,
+/// Makes a step with a hand.
+fn make_by<'m, L, R: Clock>(
+    lock: &'m RwLock<L, u64>,
     scene: &Scene<'_, '_, R>,
-    lines: &[Line],
-    me: &mut L::Party,
-    other: &mut L::Party,
-) -> Verdict
+    hand: Option<Held<'m, L>>,
+    step: Step,
+    party: &mut L::Party,
+) -> (Option<Held<'m, L>>, Answer)
 where
     L: RawRwLockUpgradeFair + RawRwLockUpgradeDowngrade,
     L: RawRwLockUpgradeTimed<Duration = Duration, Instant = Instant>,
     L::Runtime: Wait,
 {
-    let mut first = None;
-    let mut second = None;
-    for (at, (step, expected)) in lines.iter().enumerate() {
-        let answer = match *step {
-            Step::Ask(mode, how) => {
-                let (held, answer) = ask_with(lock, scene, first, mode, how, me);
-                first = held;
-                answer
-            }
-            Step::Do(deed) => {
-                let (held, answer) = do_with(scene, first, deed, me);
-                first = held;
-                answer
-            }
-            Step::AskToo(mode, how) => {
-                let (held, answer) = ask_with(lock, scene, second, mode, how, me);
-                second = held;
-                answer
-            }
-            Step::DoToo(deed) => {
-                let (held, answer) = do_with(scene, second, deed, me);
-                second = held;
-                answer
-            }
-            Step::Probe(mode, how) => probe(lock, scene, mode, how, other),
-            Step::Nest(mode, how) => probe(lock, scene, mode, how, me),
-            Step::Aside(what) => { scene.look(what, lock.is_locked(), lock.is_locked_exclusive()) }
-        };
-        if answer != *expected {
-            return Some(at);
+    match step {
+        Step::Ask(mode, how) | Step::AskToo(mode, how) => {
+            ask_with(lock, scene, hand, mode, how, party)
         }
+        Step::Do(deed) | Step::DoToo(deed) => do_with(scene, hand, deed, party),
+        _ => (hand, Answer::Unknown),
     }
-    None
+}
+
+/// Makes a step for which no hand is needed.
+fn look<L, R: Clock>(
+    lock: &RwLock<L, u64>,
+    scene: &Scene<'_, '_, R>,
+    step: Step,
+    me: &mut L::Party,
+    other: &mut L::Party,
+) -> Answer
+where
+    L: RawRwLockUpgradeFair + RawRwLockUpgradeTimed<Duration = Duration, Instant = Instant>,
+    L::Runtime: Wait,
+{
+    match step {
+        Step::Probe(mode, how) => probe(lock, scene, mode, how, other),
+        Step::Nest(mode, how) => probe(lock, scene, mode, how, me),
+        Step::Aside(what) => scene.look(what, lock.is_locked(), lock.is_locked_exclusive()),
+        _ => Answer::Unknown,
+    }
+}
+
+/// What both hands hold.
+type Hands<'m, L> = (Option<Held<'m, L>>, Option<Held<'m, L>>);
+
+/// Makes one step, with what the hands hold.
+fn make<'m, L, R: Clock>(
+    lock: &'m RwLock<L, u64>,
+    scene: &Scene<'_, '_, R>,
+    hands: Hands<'m, L>,
+    step: Step,
+    me: &mut L::Party,
+    other: &mut L::Party,
+) -> (Hands<'m, L>, Answer)
+where
+    L: RawRwLockUpgradeFair + RawRwLockUpgradeDowngrade,
+    L: RawRwLockUpgradeTimed<Duration = Duration, Instant = Instant>,
+    L::Runtime: Wait,
+{
+    let (first, second) = hands;
+    if matches!(step, Step::Ask(..) | Step::Do(_)) {
+        let (held, answer) = make_by(lock, scene, first, step, me);
+        ((held, second), answer)
+    } else if matches!(step, Step::AskToo(..) | Step::DoToo(_)) {
+        let (held, answer) = make_by(lock, scene, second, step, me);
+        ((first, held), answer)
+    } else {
+        ((first, second), look(lock, scene, step, me, other))
+    }
 }
 
 /// Adds 1, and reads that as it becomes a reader.
@@ -381,53 +427,45 @@ where
     }
 }
 
-/// Makes one round.
-fn turn<L, R: Clock>(
-    lock: &RwLock<L, u64>,
-    scene: &Scene<'_, '_, R>,
-    round: Round,
-    party: &mut L::Party,
-) -> Tally
+impl<L, R: Wait + Clock> Stage<R> for RwLock<L, u64>
 where
-    L: RawRwLockUpgradeFair + RawRwLockUpgradeDowngrade,
+    L: RawRwLock<Party = ThreadData> + RawRwLockUpgradeFair + RawRwLockUpgradeDowngrade,
     L: RawRwLockUpgradeTimed<Duration = Duration, Instant = Instant>,
     L::Runtime: Wait,
 {
-    match round {
-        Round::Adds(how) => add_under(writer(lock, scene, how, party), scene, how, None),
-        Round::AddsAt(how, word) => {
-            add_under(writer(lock, scene, how, party), scene, how, Some(word))
+    fn follow(
+        &self,
+        scene: &Scene<'_, '_, R>,
+        lines: &[Line],
+        me: &mut ThreadData,
+        other: &mut ThreadData,
+    ) -> Verdict {
+        let mut hands = (None, None);
+        for (at, (step, expected)) in lines.iter().enumerate() {
+            let (held, answer) = make(self, scene, hands, *step, me, other);
+            hands = held;
+            if answer != *expected {
+                return Some(at);
+            }
         }
-        Round::AddsAndReads => add_and_read(lock, scene, party),
-        Round::Reads(how) => read_under(reader(lock, scene, how, party), scene),
-        Round::Writes(how) => write_under(writer(lock, scene, how, party), scene),
-        Round::Rereads(how) => find_under(reader(lock, scene, how, party), scene),
-        Round::Upgrades(ask, how) => match upgrader(lock, scene, ask, party) {
-            Some(guard) => add_upgraded(guard, scene, how, party),
-            None => NOTHING,
-        },
-        Round::Nests => WRONG,
+        None
     }
-}
 
-/// Makes each of the rounds in turn, so many times.
-pub fn take_turns<L, R: Clock>(
-    lock: &RwLock<L, u64>,
-    scene: &Scene<'_, '_, R>,
-    rounds: &[Round],
-    times: u32,
-    party: &mut L::Party,
-) -> Tally
-where
-    L: RawRwLockUpgradeFair + RawRwLockUpgradeDowngrade,
-    L: RawRwLockUpgradeTimed<Duration = Duration, Instant = Instant>,
-    L::Runtime: Wait,
-{
-    let mut all = NOTHING;
-    for _time in 0..times {
-        for round in rounds {
-            all = sum(all, turn(lock, scene, *round, party));
+    fn turn(&self, scene: &Scene<'_, '_, R>, round: Round, me: &mut ThreadData) -> Tally {
+        match round {
+            Round::Adds(how) => add_under(writer(self, scene, how, me), scene, how, None),
+            Round::AddsAt(how, word) => {
+                add_under(writer(self, scene, how, me), scene, how, Some(word))
+            }
+            Round::AddsAndReads => add_and_read(self, scene, me),
+            Round::Reads(how) => read_under(reader(self, scene, how, me), scene),
+            Round::Writes(how) => write_under(writer(self, scene, how, me), scene),
+            Round::Rereads(how) => find_under(reader(self, scene, how, me), scene),
+            Round::Upgrades(ask, how) => match upgrader(self, scene, ask, me) {
+                Some(guard) => add_upgraded(guard, scene, how, me),
+                None => NOTHING,
+            },
+            Round::Nests => WRONG,
         }
     }
-    all
 }

@@ -3,7 +3,6 @@
 
 use crate::calls::{Line, NOTHING, Round, Tally, Verdict, WRONG, sum};
 use crate::scene::Scene;
-use crate::{mutex_steps, reentrant_steps, rw_steps};
 use lock_api::{Mutex, ReentrantMutex, RwLock};
 use lock_api_raw::{
     GetThreadId, RawMutex as AnyRawMutex, RawMutexFair, RawMutexTimed, RawRwLock as AnyRawRwLock,
@@ -32,31 +31,24 @@ pub enum Kind {
     Reentrant,
 }
 
-/// What a play is given.
-#[derive(Clone, Copy)]
-pub struct Setting {
-    pub kind: Kind,
-    /// How often nobody is unparked before, which leads the lot to the release that is fair.
-    pub unparks: u32,
-    /// The number of the second thread's lot. The lock stands on lot 7.
-    pub lot: u64,
-}
+/// How often nobody is unparked before a play, which leads the lot to the release that is fair, and the number of the
+/// second thread's lot. The lock stands on lot 7.
+pub type Setting = (u32, u64);
 
-/// A lock of that kind, with threads of its own lot.
-pub const fn on(kind: Kind) -> Setting {
-    Setting {
-        kind,
-        unparks: 0,
-        lot: 7,
+/// A play: what each of up to three threads does, and what is done once they have ended.
+pub type Lines<'s> = &'s [&'s [Line]];
+
+/// What one of them does.
+fn part<'s>(lines: Lines<'s>, thread: usize) -> &'s [Line] {
+    match lines.get(thread) {
+        Some(own) => *own,
+        None => &[],
     }
 }
 
-/// A play: what each thread does, and what is done once they have ended.
-pub type Lines<'s> = [&'s [Line]; 4];
-
 /// A lock that threads play at, whichever it is.
-trait Stage<R: Wait + Clock> {
-    /// Follows the lines.
+pub trait Stage<R: Wait + Clock> {
+    /// Follows the lines until one is answered otherwise.
     fn follow(
         &self,
         scene: &Scene<'_, '_, R>,
@@ -65,96 +57,8 @@ trait Stage<R: Wait + Clock> {
         other: &mut ThreadData,
     ) -> Verdict;
 
-    /// Makes the rounds.
-    fn take_turns(
-        &self,
-        scene: &Scene<'_, '_, R>,
-        rounds: &[Round],
-        times: u32,
-        me: &mut ThreadData,
-    ) -> Tally;
-}
-
-impl<M, R: Wait + Clock> Stage<R> for Mutex<M, u64>
-where
-    M: AnyRawMutex<Party = ThreadData> + RawMutexFair,
-    M: RawMutexTimed<Duration = Duration, Instant = Instant>,
-    M::Runtime: Wait,
-{
-    fn follow(
-        &self,
-        scene: &Scene<'_, '_, R>,
-        lines: &[Line],
-        me: &mut ThreadData,
-        other: &mut ThreadData,
-    ) -> Verdict {
-        mutex_steps::follow(self, scene, lines, me, other)
-    }
-
-    fn take_turns(
-        &self,
-        scene: &Scene<'_, '_, R>,
-        rounds: &[Round],
-        times: u32,
-        me: &mut ThreadData,
-    ) -> Tally {
-        mutex_steps::take_turns(self, scene, rounds, times, me)
-    }
-}
-
-impl<L, R: Wait + Clock> Stage<R> for RwLock<L, u64>
-where
-    L: AnyRawRwLock<Party = ThreadData> + RawRwLockUpgradeFair + RawRwLockUpgradeDowngrade,
-    L: RawRwLockUpgradeTimed<Duration = Duration, Instant = Instant>,
-    L::Runtime: Wait,
-{
-    fn follow(
-        &self,
-        scene: &Scene<'_, '_, R>,
-        lines: &[Line],
-        me: &mut ThreadData,
-        other: &mut ThreadData,
-    ) -> Verdict {
-        rw_steps::follow(self, scene, lines, me, other)
-    }
-
-    fn take_turns(
-        &self,
-        scene: &Scene<'_, '_, R>,
-        rounds: &[Round],
-        times: u32,
-        me: &mut ThreadData,
-    ) -> Tally {
-        rw_steps::take_turns(self, scene, rounds, times, me)
-    }
-}
-
-impl<M, G, R: Wait + Clock> Stage<R> for ReentrantMutex<M, G, u64>
-where
-    M: AnyRawMutex<Party = ThreadData> + RawMutexFair + Drop,
-    M: RawMutexTimed<Duration = Duration, Instant = Instant>,
-    G: GetThreadId<Party = ThreadData> + Drop,
-    M::Runtime: Wait,
-{
-    fn follow(
-        &self,
-        scene: &Scene<'_, '_, R>,
-        lines: &[Line],
-        me: &mut ThreadData,
-        other: &mut ThreadData,
-    ) -> Verdict {
-        reentrant_steps::follow(self, scene, lines, me, other)
-    }
-
-    fn take_turns(
-        &self,
-        scene: &Scene<'_, '_, R>,
-        _rounds: &[Round],
-        times: u32,
-        me: &mut ThreadData,
-    ) -> Tally {
-        reentrant_steps::take_turns(self, scene, times, me)
-    }
+    /// Makes one round.
+    fn turn(&self, scene: &Scene<'_, '_, R>, round: Round, me: &mut ThreadData) -> Tally;
 }
 
 /// Follows the lines as a participant of the lot.
@@ -199,16 +103,32 @@ fn play_together<R: Wait + Threads + Clock + Sync, L: Stage<R> + Sync>(
     scene: &Scene<'_, '_, R>,
     lines: Lines,
 ) -> [Verdict; 4] {
-    let [first, second, third, last] = lines;
     let (one, (two, three)) = thread::join(
         scene.rt,
-        || act(own, lock, scene, first),
-        || pair_together(others, lock, scene, second, third),
+        || act(own, lock, scene, part(lines, 0)),
+        || pair_together(others, lock, scene, part(lines, 1), part(lines, 2)),
     );
-    [one, two, three, act(own, lock, scene, last)]
+    [one, two, three, act(own, lock, scene, part(lines, 3))]
 }
 
-/// Makes the rounds as a participant of the lot.
+/// Makes each of the rounds in turn, so many times.
+fn take_turns<R: Wait + Clock, L: Stage<R>>(
+    lock: &L,
+    scene: &Scene<'_, '_, R>,
+    rounds: &[Round],
+    times: u32,
+    me: &mut ThreadData,
+) -> Tally {
+    let mut all = NOTHING;
+    for _time in 0..times {
+        for round in rounds {
+            all = sum(all, lock.turn(scene, *round, me));
+        }
+    }
+    all
+}
+
+/// Makes them as a participant of the lot.
 fn turns<R: Wait + Clock, L: Stage<R>>(
     lot: &ParkingLot<R>,
     lock: &L,
@@ -217,7 +137,7 @@ fn turns<R: Wait + Clock, L: Stage<R>>(
     times: u32,
 ) -> Tally {
     match lot.thread_data() {
-        Ok(mut me) => lock.take_turns(scene, rounds, times, &mut me),
+        Ok(mut me) => take_turns(lock, scene, rounds, times, &mut me),
         Err(_full) => WRONG,
     }
 }
@@ -370,6 +290,56 @@ where
     happen(rt, table, lots, mutex, past, plan)
 }
 
+/// Has it happen at a new mutex, a plain one or a fair one.
+fn at_new_mutex<'s, 'l, R: Wait + Threads + Clock + Sync>(
+    rt: &'s R,
+    table: &'s LockTable<'l, R>,
+    lots: (&ParkingLot<R>, &ParkingLot<R>),
+    past: Instant,
+    plan: Plan,
+) -> Result<Outcome, Fail> {
+    let mutex: Mutex<RawMutex<'_, '_, R>, u64> = Mutex::new(table, 0)?;
+    Ok(at_mutex(rt, table, lots, &mutex, past, plan))
+}
+
+fn at_new_fair_mutex<'s, 'l, R: Wait + Threads + Clock + Sync>(
+    rt: &'s R,
+    table: &'s LockTable<'l, R>,
+    lots: (&ParkingLot<R>, &ParkingLot<R>),
+    past: Instant,
+    plan: Plan,
+) -> Result<Outcome, Fail> {
+    let mutex: Mutex<RawFairMutex<'_, '_, R>, u64> = Mutex::new(table, 0)?;
+    Ok(at_mutex(rt, table, lots, &mutex, past, plan))
+}
+
+/// Has it happen at a new reader-writer lock of so many readers.
+fn at_new_rwlock<'s, 'l, R: Wait + Threads + Clock + Sync, const RECURSIVE: u8>(
+    rt: &'s R,
+    table: &'s LockTable<'l, R>,
+    lots: (&ParkingLot<R>, &ParkingLot<R>),
+    limit: u64,
+    past: Instant,
+    plan: Plan,
+) -> Result<Outcome, Fail> {
+    let lock: RwLock<RawRwLock<'_, '_, R, RECURSIVE>, u64> = RwLock::new(table, limit, 0)?;
+    Ok(at_rwlock(rt, table, lots, &lock, past, plan))
+}
+
+/// Has it happen at a new reentrant mutex.
+fn at_new_reentrant<'s, 'l, R: Wait + Threads + Clock + Sync>(
+    rt: &'s R,
+    table: &'s LockTable<'l, R>,
+    lots: (&ParkingLot<R>, &ParkingLot<R>),
+    past: Instant,
+    plan: Plan,
+) -> Result<Outcome, Fail> {
+    let mutex: ReentrantMutex<RawMutex<'_, '_, R>, RawThreadId, u64> = ReentrantMutex::new(
+        table, 2, 5,
+    )?;
+    Ok(at_reentrant(rt, table, lots, &mutex, past, plan))
+}
+
 /// Has it happen at a new lock of that kind.
 fn at_new<'s, 'l, R: Wait + Threads + Clock + Sync>(
     rt: &'s R,
@@ -380,28 +350,11 @@ fn at_new<'s, 'l, R: Wait + Threads + Clock + Sync>(
     plan: Plan,
 ) -> Result<Outcome, Fail> {
     match kind {
-        Kind::Plain => {
-            let mutex: Mutex<RawMutex<'_, '_, R>, u64> = Mutex::new(table, 0)?;
-            Ok(at_mutex(rt, table, lots, &mutex, past, plan))
-        },
-        Kind::Fair => {
-            let mutex: Mutex<RawFairMutex<'_, '_, R>, u64> = Mutex::new(table, 0)?;
-            Ok(at_mutex(rt, table, lots, &mutex, past, plan))
-        },
-        Kind::ReadWrite(limit) => {
-            let lock: RwLock<RawRwLock<'_, '_, R, 0>, u64> = RwLock::new(table, limit, 0)?;
-            Ok(at_rwlock(rt, table, lots, &lock, past, plan))
-        },
-        Kind::Recursive(limit) => {
-            let lock: RwLock<RawRwLock<'_, '_, R, 1>, u64> = RwLock::new(table, limit, 0)?;
-            Ok(at_rwlock(rt, table, lots, &lock, past, plan))
-        },
-        Kind::Reentrant => {
-            let mutex: ReentrantMutex<RawMutex<'_, '_, R>, RawThreadId, u64> = ReentrantMutex::new(
-                table, 2, 5,
-            )?;
-            Ok(at_reentrant(rt, table, lots, &mutex, past, plan))
-        },
+        Kind::Plain => at_new_mutex(rt, table, lots, past, plan),
+        Kind::Fair => at_new_fair_mutex(rt, table, lots, past, plan),
+        Kind::ReadWrite(limit) => at_new_rwlock::<R, 0>(rt, table, lots, limit, past, plan),
+        Kind::Recursive(limit) => at_new_rwlock::<R, 1>(rt, table, lots, limit, past, plan),
+        Kind::Reentrant => at_new_reentrant(rt, table, lots, past, plan),
     }
 }
 
@@ -410,81 +363,73 @@ fn staged<R: Wait + Threads + Clock + Abort + Sync + Copy + Drop>(
     rt: R,
     alloc: Global,
     name: &str,
+    kind: Kind,
     setting: Setting,
     plan: Plan,
 ) -> Result<Outcome, Fail> {
+    let (unparks, lot) = setting;
     let own = ParkingLot::new(rt, alloc, 8, 7)?;
-    let others = ParkingLot::new(rt, alloc, 8, setting.lot)?;
-    unpark_nobody(&own, setting.unparks);
+    let others = ParkingLot::new(rt, alloc, 8, lot)?;
+    unpark_nobody(&own, unparks);
     let table = LockTable::new(alloc, &own, 1)?;
     let past = Instant::now(&rt)?;
-    let outcome = if setting.lot == 7 {
-        at_new(&rt, &table, (&own, &own), setting.kind, past, plan)?
+    let outcome = if lot == 7 {
+        at_new(&rt, &table, (&own, &own), kind, past, plan)?
     } else {
-        at_new(&rt, &table, (&own, &others), setting.kind, past, plan)?
+        at_new(&rt, &table, (&own, &others), kind, past, plan)?
     };
     assert!(rt; table.word(0) == Some(0), "{name}: the word in the end");
     Ok(outcome)
 }
 
-/// Has four threads make the rounds so many times at a new lock of that kind. It answers what they have added, which
-/// must be the count.
-pub fn crowd<R: Wait + Threads + Clock + Abort + Sync + Copy + Drop>(
-    rt: R,
-    alloc: Global,
-    name: &str,
-    kind: Kind,
-    rounds: &[Round],
-    times: u32,
-) -> Result<u64, Fail> {
-    let plan = Plan {
-        lines: [&[], &[], &[], &[]],
-        rounds,
-        times,
-    };
-    let outcome = staged(rt, alloc, name, on(kind), plan)?;
+/// Rounds that four threads make so many times at a new lock of that kind, and how often 1 is added then, at least and
+/// at most.
+pub type Crowd = (&'static str, Kind, &'static [Round], u32, (u64, u64));
+
+/// Looks whether what a crowd read is right, and what it added is the count and lies between these.
+fn judge_crowd(rt: &impl Abort, name: &str, outcome: &Outcome, least: u64, most: u64) {
+    let added = outcome.tally.added;
     assert!(rt; outcome.tally.right, "{name}: what was read");
-    assert!(rt; outcome.said == outcome.tally.added, "{name}: the count");
-    Ok(outcome.tally.added)
+    assert!(rt; outcome.said == added, "{name}: the count");
+    assert!(rt; least <= added && added <= most, "{name}: {added} added");
 }
 
-/// Plays at a new lock, whose word must be 0 in the end.
-pub fn play<R: Wait + Threads + Clock + Abort + Sync + Copy + Drop>(
+/// Has each crowd make its rounds. What was added must be the count.
+pub fn crowd_together<R: Wait + Threads + Clock + Abort + Sync + Copy + Drop>(
     rt: R,
     alloc: Global,
-    name: &str,
-    setting: Setting,
-    lines: Lines,
+    crowds: &[Crowd],
 ) -> Result<(), Fail> {
-    let plan = Plan {
-        lines,
-        rounds: &[],
-        times: 0,
-    };
-    let outcome = staged(rt, alloc, name, setting, plan)?;
-    judge(&rt, name, &outcome.verdicts);
+    for (name, kind, rounds, times, (least, most)) in crowds {
+        let plan = Plan {
+            lines: &[],
+            rounds: *rounds,
+            times: *times,
+        };
+        let outcome = staged(rt, alloc, *name, *kind, (0, 7), plan)?;
+        judge_crowd(&rt, *name, &outcome, *least, *most);
+    }
     Ok(())
 }
 
-/// Has one thread follow the lines at a new lock.
-pub fn alone<R: Wait + Threads + Clock + Abort + Sync + Copy + Drop>(
-    rt: R,
-    alloc: Global,
-    name: &str,
-    setting: Setting,
-    lines: &[Line],
-) -> Result<(), Fail> {
-    play(rt, alloc, name, setting, [lines, &[], &[], &[]])
-}
+/// A play at a new lock.
+pub type Play = (&'static str, Kind, Lines<'static>);
 
-/// Has two threads follow their lines at a new lock.
-pub fn pair<R: Wait + Threads + Clock + Abort + Sync + Copy + Drop>(
+/// Has each play take place. The word of its lock must be 0 in the end.
+pub fn play<R: Wait + Threads + Clock + Abort + Sync + Copy + Drop>(
     rt: R,
     alloc: Global,
-    name: &str,
     setting: Setting,
-    first: &[Line],
-    second: &[Line],
+    plays: &[Play],
 ) -> Result<(), Fail> {
-    play(rt, alloc, name, setting, [first, second, &[], &[]])
+    for (name, kind, lines) in plays {
+        let plan = Plan {
+            lines: *lines,
+            rounds: &[],
+            times: 0,
+        };
+        let outcome = staged(rt, alloc, *name, *kind, setting, plan)?;
+        judge(&rt, *name, &outcome.verdicts);
+    }
+    Ok(())
 }
