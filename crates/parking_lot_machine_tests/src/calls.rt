@@ -32,14 +32,23 @@ fn is_to_wake(call: &Call) -> bool {
     act == Act::Section(SectionAct::Wake)
 }
 
+/// Whether a line holds of a call.
+fn holds(call: &Call, line: &Line) -> bool {
+    let (_seen, owns, looks, in_debt, asleep) = line;
+    let is_owned = (call.owns() == *owns) & (call.looks() == *looks);
+    is_owned & (call.is_in_debt(is_to_wake(call)) == *in_debt) & (call.is_asleep() == *asleep)
+}
+
+/// Looks whether a line holds of a call that was told this.
+fn expect(rt: &impl Abort, holds: bool, seen: ActResult, line: usize) {
+    assert!(rt; holds, "line {line}, told {seen:?}");
+}
+
 fn follow(rt: &impl Abort, call: Call, lines: &[Line]) -> Call {
     let mut call = call;
-    for (seen, owns, looks, in_debt, asleep) in lines {
-        call = call.told(*seen);
-        let is_owned = (call.owns() == *owns) & (call.looks() == *looks);
-        let is_about = (call.is_in_debt(is_to_wake(&call)) == *in_debt)
-            & (call.is_asleep() == *asleep);
-        assert!(rt; is_owned & is_about, "told {seen:?}");
+    for (at, line) in lines.iter().enumerate() {
+        call = call.told(line.0);
+        expect(rt, holds(&call, line), line.0, at);
     }
     call
 }
@@ -57,11 +66,14 @@ fn owns_off_list(rt: &impl Abort, call: Call, told: WakeResult, owns: Option<Own
     );
 }
 
-fn taken(token: usize, left: bool) -> ActResult {
-    ActResult::Took {
-        token: Some(ParkToken(token)),
-        left,
-    }
+/// One was taken with this token, and others are left or not.
+macro_rules! taken {
+    ($token:expr, $left:expr) => {
+        ActResult::Took {
+            token: Some(ParkToken($token)),
+            left: $left,
+        }
+    };
 }
 
 const EXCLUSIVE: Option<OwnMode> = Some(OwnMode::Exclusive);
@@ -70,79 +82,79 @@ const PENDING: Option<OwnMode> = Some(OwnMode::Pending);
 
 const SHARED: Option<OwnMode> = Some(OwnMode::Shared);
 
+const TO_SLEEP_AS_LOCKER: &[Line] = &[
+    (ActResult::Start, None, false, false, false),
+    (ActResult::Word(1), None, false, false, false),
+    (ActResult::Spun(false), None, false, false, false),
+    (ActResult::Exchanged, None, false, false, false),
+    (ActResult::Entered, None, false, true, false),
+    (ActResult::Word(3), None, false, true, false),
+    (ActResult::Made, None, false, true, false),
+    (ActResult::Made, None, false, false, true),
+];
+
+const IS_HANDED_THE_MUTEX: &[Line] = &[(
+    ActResult::Woken(HAND_OVER),
+    EXCLUSIVE,
+    false,
+    false,
+    false,
+)];
+
+const TRIES_AGAIN: &[Line] = &[
+    (ActResult::Woken(TRY_AGAIN), None, false, true, false),
+    (ActResult::Word(0), None, false, true, false),
+    (ActResult::Exchanged, EXCLUSIVE, false, false, false),
+];
+
 #[test]
 fn a_locker_sleeps_and_is_woken(rt: HostRuntime) {
     let asleep = follow(
         &rt,
         call_of(Core::Mutex(MutexCore::lock())),
-        &[
-            (ActResult::Start, None, false, false, false),
-            (ActResult::Word(1), None, false, false, false),
-            (ActResult::Spun(false), None, false, false, false),
-            (ActResult::Exchanged, None, false, false, false),
-            (ActResult::Entered, None, false, true, false),
-            (ActResult::Word(3), None, false, true, false),
-            (ActResult::Made, None, false, true, false),
-            (ActResult::Made, None, false, false, true),
-        ],
+        TO_SLEEP_AS_LOCKER,
     );
     owns_off_list(&rt, asleep, WakeResult::Nothing, None);
     owns_off_list(&rt, asleep, WakeResult::TryAgain, None);
     owns_off_list(&rt, asleep, WakeResult::HandedOver, EXCLUSIVE);
-    follow(
-        &rt,
-        asleep,
-        &[(ActResult::Woken(HAND_OVER), EXCLUSIVE, false, false, false)],
-    );
-    follow(
-        &rt,
-        asleep,
-        &[
-            (ActResult::Woken(TRY_AGAIN), None, false, true, false),
-            (ActResult::Word(0), None, false, true, false),
-            (ActResult::Exchanged, EXCLUSIVE, false, false, false),
-        ],
-    );
+    follow(&rt, asleep, IS_HANDED_THE_MUTEX);
+    follow(&rt, asleep, TRIES_AGAIN);
 }
+
+const UNLOCKS: &[Line] = &[
+    (ActResult::Start, EXCLUSIVE, false, false, false),
+    (ActResult::Word(3), EXCLUSIVE, true, false, false),
+    (ActResult::Entered, EXCLUSIVE, false, true, false),
+    (taken!(0, true), EXCLUSIVE, false, true, false),
+    (ActResult::Stored { fair: true }, None, false, true, false),
+    (ActResult::Made, None, false, true, false),
+    (ActResult::Made, None, false, false, false),
+];
 
 #[test]
 fn an_unlock_is_in_debt_until_it_has_woken_the_first(rt: HostRuntime) {
-    follow(
-        &rt,
-        call_of(Core::Mutex(MutexCore::unlock())),
-        &[
-            (ActResult::Start, EXCLUSIVE, false, false, false),
-            (ActResult::Word(3), EXCLUSIVE, true, false, false),
-            (ActResult::Entered, EXCLUSIVE, false, true, false),
-            (taken(0, true), EXCLUSIVE, false, true, false),
-            (ActResult::Stored { fair: true }, None, false, true, false),
-            (ActResult::Made, None, false, true, false),
-            (ActResult::Made, None, false, false, false),
-        ],
-    );
+    follow(&rt, call_of(Core::Mutex(MutexCore::unlock())), UNLOCKS);
 }
+
+const IS_PENDING: &[Line] = &[
+    (ActResult::Start, None, false, false, false),
+    (ActResult::Word(16), None, false, false, false),
+    (ActResult::Exchanged, PENDING, false, false, false),
+    (ActResult::Word(24), PENDING, false, false, false),
+    (ActResult::Spun(false), PENDING, false, false, false),
+    (ActResult::Word(24), PENDING, false, false, false),
+    (ActResult::Exchanged, PENDING, false, false, false),
+    (ActResult::Entered, PENDING, false, true, false),
+    (ActResult::Word(26), PENDING, false, true, false),
+    (ActResult::Made, PENDING, false, true, false),
+    (ActResult::Made, PENDING, false, false, true),
+    (ActResult::Woken(TRY_AGAIN), PENDING, false, true, false),
+    (ActResult::Word(8), EXCLUSIVE, false, false, false),
+];
 
 #[test]
 fn a_writer_is_pending_while_readers_are_left(rt: HostRuntime) {
-    follow(
-        &rt,
-        call_of(Core::Rw(RwCore::lock_exclusive())),
-        &[
-            (ActResult::Start, None, false, false, false),
-            (ActResult::Word(16), None, false, false, false),
-            (ActResult::Exchanged, PENDING, false, false, false),
-            (ActResult::Word(24), PENDING, false, false, false),
-            (ActResult::Spun(false), PENDING, false, false, false),
-            (ActResult::Word(24), PENDING, false, false, false),
-            (ActResult::Exchanged, PENDING, false, false, false),
-            (ActResult::Entered, PENDING, false, true, false),
-            (ActResult::Word(26), PENDING, false, true, false),
-            (ActResult::Made, PENDING, false, true, false),
-            (ActResult::Made, PENDING, false, false, true),
-            (ActResult::Woken(TRY_AGAIN), PENDING, false, true, false),
-            (ActResult::Word(8), EXCLUSIVE, false, false, false),
-        ],
-    );
+    follow(&rt, call_of(Core::Rw(RwCore::lock_exclusive())), IS_PENDING);
 }
 
 /// What one is told until it sleeps, at a lock that a writer owns.
@@ -175,55 +187,53 @@ fn a_sleeper_that_was_handed_the_lock_owns_it(rt: HostRuntime) {
     }
 }
 
+const GIVES_TO_TWO: &[Line] = &[
+    (ActResult::Start, EXCLUSIVE, false, false, false),
+    (ActResult::Word(9), EXCLUSIVE, true, false, false),
+    (ActResult::Entered, EXCLUSIVE, false, true, false),
+    (taken!(16, true), EXCLUSIVE, false, true, false),
+    (taken!(16, false), EXCLUSIVE, false, true, false),
+    (ActResult::Stored { fair: false }, None, false, true, false),
+    (ActResult::Made, None, false, true, false),
+    (ActResult::Made, None, false, true, false),
+    (ActResult::Made, None, false, false, false),
+];
+
 #[test]
 fn a_writer_gives_the_lock_to_two(rt: HostRuntime) {
     follow(
         &rt,
         call_of(Core::Rw(RwCore::unlock_exclusive())),
-        &[
-            (ActResult::Start, EXCLUSIVE, false, false, false),
-            (ActResult::Word(9), EXCLUSIVE, true, false, false),
-            (ActResult::Entered, EXCLUSIVE, false, true, false),
-            (taken(16, true), EXCLUSIVE, false, true, false),
-            (taken(16, false), EXCLUSIVE, false, true, false),
-            (ActResult::Stored { fair: false }, None, false, true, false),
-            (ActResult::Made, None, false, true, false),
-            (ActResult::Made, None, false, true, false),
-            (ActResult::Made, None, false, false, false),
-        ],
+        GIVES_TO_TWO,
     );
 }
+
+const DOWNGRADES: &[Line] = &[
+    (ActResult::Start, EXCLUSIVE, false, false, false),
+    (ActResult::Before(9), SHARED, false, true, false),
+    (ActResult::Entered, SHARED, false, true, false),
+    (taken!(16, false), SHARED, false, true, false),
+    (ActResult::Stored { fair: true }, SHARED, false, true, false),
+    (ActResult::Made, SHARED, false, true, false),
+    (ActResult::Made, SHARED, false, false, false),
+];
 
 #[test]
 fn a_downgrade_leaves_a_reader_that_owes_a_look(rt: HostRuntime) {
-    follow(
-        &rt,
-        call_of(Core::Rw(RwCore::downgrade())),
-        &[
-            (ActResult::Start, EXCLUSIVE, false, false, false),
-            (ActResult::Before(9), SHARED, false, true, false),
-            (ActResult::Entered, SHARED, false, true, false),
-            (taken(16, false), SHARED, false, true, false),
-            (ActResult::Stored { fair: true }, SHARED, false, true, false),
-            (ActResult::Made, SHARED, false, true, false),
-            (ActResult::Made, SHARED, false, false, false),
-        ],
-    );
+    follow(&rt, call_of(Core::Rw(RwCore::downgrade())), DOWNGRADES);
 }
+
+const LEAVES_LAST: &[Line] = &[
+    (ActResult::Start, SHARED, false, false, false),
+    (ActResult::Before(26), None, false, true, false),
+    (ActResult::Entered, None, false, true, false),
+    (taken!(8, false), None, false, true, false),
+    (ActResult::Before(10), None, false, true, false),
+    (ActResult::Made, None, false, true, false),
+    (ActResult::Made, None, false, false, false),
+];
 
 #[test]
 fn the_last_reader_owes_the_pending_writer_a_wake(rt: HostRuntime) {
-    follow(
-        &rt,
-        call_of(Core::Rw(RwCore::unlock_shared())),
-        &[
-            (ActResult::Start, SHARED, false, false, false),
-            (ActResult::Before(26), None, false, true, false),
-            (ActResult::Entered, None, false, true, false),
-            (taken(8, false), None, false, true, false),
-            (ActResult::Before(10), None, false, true, false),
-            (ActResult::Made, None, false, true, false),
-            (ActResult::Made, None, false, false, false),
-        ],
-    );
+    follow(&rt, call_of(Core::Rw(RwCore::unlock_shared())), LEAVES_LAST);
 }

@@ -1,6 +1,7 @@
 //! Waits and notifications at a condition variable, and deadlines of waits, step by step, with the words and lists
 //! between.
 
+use crate::expect;
 use parking_lot_core_model::UnparkToken;
 use parking_lot_machine_sides::condvar::{CondvarCall, CondvarMachine, CondvarReply, Outside};
 use std::process::Abort;
@@ -117,8 +118,7 @@ fn holds(machine: &mut CondvarMachine, line: Line) -> bool {
 fn follow(rt: &(impl AllocGlobal + Abort), threads: usize, script: &[Line]) -> Result<(), Fail> {
     let mut machine = CondvarMachine::new(&rt.alloc(), threads)?;
     for (at, line) in script.iter().enumerate() {
-        let is_so = holds(&mut machine, *line);
-        assert!(rt; is_so, "line {at}");
+        expect(rt, holds(&mut machine, *line), at);
     }
     Ok(())
 }
@@ -142,144 +142,152 @@ const WOKEN: Option<CondvarReply> = Some(CondvarReply::Woken);
 
 const TIMED_OUT: Option<CondvarReply> = Some(CondvarReply::TimedOut);
 
+const ONE_IS_MOVED: &[Line] = &[
+    Line::Sleeps(0, CondvarCall::Wait(4)),
+    Line::Word(5),
+    Line::Queue(&[0]),
+    Line::Deaf(0, HANDED),
+    Line::Asks(1, CondvarCall::NotifyOne, None),
+    Line::Inside(Some(1)),
+    Line::CanTake(1, false),
+    Line::Hears(1, Outside::Marked(true), None),
+    Line::Takes(1, Some(0)),
+    Line::Takes(1, None),
+    Line::Deaf(1, moved!(1, 0)),
+    Line::Hears(1, moved!(0, 1), Some(CondvarReply::Flag(true))),
+    Line::Word(0),
+    Line::Queue(&[]),
+    Line::Inside(None),
+    Line::Hears(0, HANDED, WOKEN),
+    Line::Free(0),
+];
+
 #[test]
 fn one_is_moved(rt: HostRuntime) -> Result<(), Fail> {
-    let script = [
-        Line::Sleeps(0, CondvarCall::Wait(4)),
-        Line::Word(5),
-        Line::Queue(&[0]),
-        Line::Deaf(0, HANDED),
-        Line::Asks(1, CondvarCall::NotifyOne, None),
-        Line::Inside(Some(1)),
-        Line::CanTake(1, false),
-        Line::Hears(1, Outside::Marked(true), None),
-        Line::Takes(1, Some(0)),
-        Line::Takes(1, None),
-        Line::Deaf(1, moved!(1, 0)),
-        Line::Hears(1, moved!(0, 1), Some(CondvarReply::Flag(true))),
-        Line::Word(0),
-        Line::Queue(&[]),
-        Line::Inside(None),
-        Line::Hears(0, HANDED, WOKEN),
-        Line::Free(0),
-    ];
-    follow(&rt, 2, &script)
+    follow(&rt, 2, ONE_IS_MOVED)
 }
+
+const FIRST_IS_WOKEN: &[Line] = &[
+    Line::Sleeps(2, CondvarCall::Wait(0)),
+    Line::Sleeps(0, CondvarCall::Wait(0)),
+    Line::Sleeps(1, CondvarCall::WaitUntil(0)),
+    Line::Word(1),
+    Line::Queue(&[2, 0, 1]),
+    Line::Asks(3, CondvarCall::NotifyAll, None),
+    Line::Hears(3, Outside::Marked(false), None),
+    Line::Takes(3, Some(2)),
+    Line::Takes(3, Some(0)),
+    Line::Deaf(3, moved!(1, 2)),
+    Line::Takes(3, Some(1)),
+    Line::Hears(3, moved!(1, 2), None),
+    Line::Hears(3, Outside::Made, None),
+    Line::Word(0),
+    Line::Inside(None),
+    Line::Hears(3, Outside::Made, Some(CondvarReply::Count(3))),
+    Line::Hears(2, PLAIN, None),
+    Line::Hears(2, Outside::Made, WOKEN),
+    Line::Hears(1, HANDED, WOKEN),
+];
 
 #[test]
 fn the_first_is_woken_and_the_rest_moved(rt: HostRuntime) -> Result<(), Fail> {
-    let script = [
-        Line::Sleeps(2, CondvarCall::Wait(0)),
-        Line::Sleeps(0, CondvarCall::Wait(0)),
-        Line::Sleeps(1, CondvarCall::WaitUntil(0)),
-        Line::Word(1),
-        Line::Queue(&[2, 0, 1]),
-        Line::Asks(3, CondvarCall::NotifyAll, None),
-        Line::Hears(3, Outside::Marked(false), None),
-        Line::Takes(3, Some(2)),
-        Line::Takes(3, Some(0)),
-        Line::Deaf(3, moved!(1, 2)),
-        Line::Takes(3, Some(1)),
-        Line::Hears(3, moved!(1, 2), None),
-        Line::Hears(3, Outside::Made, None),
-        Line::Word(0),
-        Line::Inside(None),
-        Line::Hears(3, Outside::Made, Some(CondvarReply::Count(3))),
-        Line::Hears(2, PLAIN, None),
-        Line::Hears(2, Outside::Made, WOKEN),
-        Line::Hears(1, HANDED, WOKEN),
-    ];
-    follow(&rt, 4, &script)
+    follow(&rt, 4, FIRST_IS_WOKEN)
 }
+
+const NOBODY_IS_NOTIFIED: &[Line] = &[
+    Line::Asks(0, CondvarCall::NotifyOne, Some(CondvarReply::Flag(false))),
+    Line::Asks(0, CondvarCall::NotifyAll, Some(CondvarReply::Count(0))),
+    Line::MayBegin(1, CondvarCall::NotifyOne, false),
+    Line::MayBegin(0, CondvarCall::Wait(u64::MAX), false),
+];
 
 #[test]
 fn nobody_is_notified(rt: HostRuntime) -> Result<(), Fail> {
-    let script = [
-        Line::Asks(0, CondvarCall::NotifyOne, Some(CondvarReply::Flag(false))),
-        Line::Asks(0, CondvarCall::NotifyAll, Some(CondvarReply::Count(0))),
-        Line::MayBegin(1, CondvarCall::NotifyOne, false),
-        Line::MayBegin(0, CondvarCall::Wait(u64::MAX), false),
-    ];
-    follow(&rt, 1, &script)
+    follow(&rt, 1, NOBODY_IS_NOTIFIED)
 }
+
+const ANOTHER_MUTEX_IS_REFUSED: &[Line] = &[
+    Line::Sleeps(0, CondvarCall::Wait(4)),
+    Line::Asks(1, CondvarCall::Wait(7), Some(CondvarReply::WrongMutex)),
+    Line::Word(5),
+    Line::Queue(&[0]),
+    Line::Inside(None),
+    Line::Sleeps(1, CondvarCall::Wait(4)),
+    Line::Queue(&[0, 1]),
+];
 
 #[test]
 fn another_mutex_is_refused(rt: HostRuntime) -> Result<(), Fail> {
-    let script = [
-        Line::Sleeps(0, CondvarCall::Wait(4)),
-        Line::Asks(1, CondvarCall::Wait(7), Some(CondvarReply::WrongMutex)),
-        Line::Word(5),
-        Line::Queue(&[0]),
-        Line::Inside(None),
-        Line::Sleeps(1, CondvarCall::Wait(4)),
-        Line::Queue(&[0, 1]),
-    ];
-    follow(&rt, 2, &script)
+    follow(&rt, 2, ANOTHER_MUTEX_IS_REFUSED)
 }
+
+const SECTION_IS_ENTERED_BY_ONE: &[Line] = &[
+    Line::Begins(0, CondvarCall::Wait(4)),
+    Line::Begins(1, CondvarCall::Wait(4)),
+    Line::CanStep(0, true),
+    Line::CanStep(1, true),
+    Line::Steps(0),
+    Line::Inside(Some(0)),
+    Line::CanStep(1, false),
+    Line::Goes(0, None),
+    Line::CanStep(1, true),
+];
 
 #[test]
 fn a_section_is_entered_by_one(rt: HostRuntime) -> Result<(), Fail> {
-    let script = [
-        Line::Begins(0, CondvarCall::Wait(4)),
-        Line::Begins(1, CondvarCall::Wait(4)),
-        Line::CanStep(0, true),
-        Line::CanStep(1, true),
-        Line::Steps(0),
-        Line::Inside(Some(0)),
-        Line::CanStep(1, false),
-        Line::Goes(0, None),
-        Line::CanStep(1, true),
-    ];
-    follow(&rt, 2, &script)
+    follow(&rt, 2, SECTION_IS_ENTERED_BY_ONE)
 }
+
+const ONE_GIVES_UP: &[Line] = &[
+    Line::Sleeps(0, CondvarCall::Wait(4)),
+    Line::Sleeps(1, CondvarCall::WaitUntil(4)),
+    Line::Deaf(0, Outside::Expired),
+    Line::Hears(1, Outside::Expired, None),
+    Line::Queue(&[0]),
+    Line::Word(5),
+    Line::Hears(1, Outside::Made, TIMED_OUT),
+];
 
 #[test]
 fn one_gives_up(rt: HostRuntime) -> Result<(), Fail> {
-    let script = [
-        Line::Sleeps(0, CondvarCall::Wait(4)),
-        Line::Sleeps(1, CondvarCall::WaitUntil(4)),
-        Line::Deaf(0, Outside::Expired),
-        Line::Hears(1, Outside::Expired, None),
-        Line::Queue(&[0]),
-        Line::Word(5),
-        Line::Hears(1, Outside::Made, TIMED_OUT),
-    ];
-    follow(&rt, 3, &script)
+    follow(&rt, 3, ONE_GIVES_UP)
 }
+
+const LAST_GIVES_UP: &[Line] = &[
+    Line::Sleeps(0, CondvarCall::WaitUntil(4)),
+    Line::Hears(0, Outside::Expired, None),
+    Line::Queue(&[]),
+    Line::Word(0),
+    Line::Hears(0, Outside::Made, TIMED_OUT),
+];
 
 #[test]
 fn the_last_to_give_up_forgets_the_mutex(rt: HostRuntime) -> Result<(), Fail> {
-    let script = [
-        Line::Sleeps(0, CondvarCall::WaitUntil(4)),
-        Line::Hears(0, Outside::Expired, None),
-        Line::Queue(&[]),
-        Line::Word(0),
-        Line::Hears(0, Outside::Made, TIMED_OUT),
-    ];
-    follow(&rt, 1, &script)
+    follow(&rt, 1, LAST_GIVES_UP)
 }
+
+const MOVED_BEFORE_ITS_MOMENT: &[Line] = &[
+    Line::Sleeps(0, CondvarCall::WaitUntil(4)),
+    Line::Sleeps(1, CondvarCall::WaitUntil(4)),
+    Line::Asks(2, CondvarCall::NotifyAll, None),
+    Line::Hears(2, Outside::Marked(true), None),
+    Line::Takes(2, Some(0)),
+    Line::Takes(2, Some(1)),
+    Line::Hears(2, moved!(0, 2), Some(CondvarReply::Count(2))),
+    Line::Hears(0, Outside::Expired, None),
+    Line::Hears(0, Outside::Made, None),
+    Line::Hears(0, Outside::Quit { last: true }, None),
+    Line::Hears(0, Outside::Made, None),
+    Line::Hears(0, Outside::Made, None),
+    Line::Hears(0, Outside::Made, WOKEN),
+    Line::Hears(1, Outside::Expired, None),
+    Line::Hears(1, Outside::Made, None),
+    Line::Hears(1, Outside::WasTaken(UnparkToken(1)), None),
+    Line::Hears(1, Outside::Made, WOKEN),
+];
 
 /// One that was moved to the mutex's list has not timed out, whether it takes itself off that list or was taken before.
 #[test]
 fn a_moved_one_reports_no_time_out(rt: HostRuntime) -> Result<(), Fail> {
-    let script = [
-        Line::Sleeps(0, CondvarCall::WaitUntil(4)),
-        Line::Sleeps(1, CondvarCall::WaitUntil(4)),
-        Line::Asks(2, CondvarCall::NotifyAll, None),
-        Line::Hears(2, Outside::Marked(true), None),
-        Line::Takes(2, Some(0)),
-        Line::Takes(2, Some(1)),
-        Line::Hears(2, moved!(0, 2), Some(CondvarReply::Count(2))),
-        Line::Hears(0, Outside::Expired, None),
-        Line::Hears(0, Outside::Made, None),
-        Line::Hears(0, Outside::Quit { last: true }, None),
-        Line::Hears(0, Outside::Made, None),
-        Line::Hears(0, Outside::Made, None),
-        Line::Hears(0, Outside::Made, WOKEN),
-        Line::Hears(1, Outside::Expired, None),
-        Line::Hears(1, Outside::Made, None),
-        Line::Hears(1, Outside::WasTaken(UnparkToken(1)), None),
-        Line::Hears(1, Outside::Made, WOKEN),
-    ];
-    follow(&rt, 3, &script)
+    follow(&rt, 3, MOVED_BEFORE_ITS_MOMENT)
 }

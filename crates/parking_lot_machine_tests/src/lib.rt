@@ -23,3 +23,9 @@ mod shard_locks;
 mod sizes;
 #[cfg(test)]
 mod waits;
+
+/// Looks whether a line of a script holds.
+#[cfg(test)]
+fn expect(rt: &impl std::process::Abort, holds: bool, line: usize) {
+    assert!(rt; holds, "line {line}");
+}

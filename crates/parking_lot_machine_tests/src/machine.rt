@@ -1,5 +1,6 @@
 //! The machine of locks itself, step by step, with what is seen of its threads.
 
+use crate::expect;
 use parking_lot_machine::{CoreAnswer, LockCall, LockKind, OwnMode, RowMachine};
 use std::process::Abort;
 use std::test::Fail;
@@ -107,8 +108,7 @@ fn follow(
     let kinds = vec![in rt.alloc(); kind]?;
     let mut machine = RowMachine::new(&rt.alloc(), threads, kinds)?;
     for (at, line) in script.iter().enumerate() {
-        let is_so = holds(&mut machine, *line);
-        assert!(rt; is_so, "line {at}");
+        expect(rt, holds(&mut machine, *line), at);
     }
     Ok(())
 }
@@ -119,131 +119,136 @@ const RELEASED: Option<CoreAnswer> = Some(CoreAnswer::Released);
 
 const EXCLUSIVE: Option<OwnMode> = Some(OwnMode::Exclusive);
 
+const WITH_THE_LAST_ACT: &[Line] = &[
+    Line::Starts(0, LockCall::Lock, None),
+    Line::Owns(0, None),
+    Line::Goes(0, 1, OWNED),
+    Line::Owns(0, EXCLUSIVE),
+    Line::Starts(0, LockCall::Unlock, RELEASED),
+    Line::Owns(0, None),
+    Line::Begins(0, LockCall::Lock),
+    Line::Steps(0, None),
+    Line::Ended(0, None),
+    Line::Steps(0, None),
+    Line::Ended(0, OWNED),
+    Line::Owns(0, EXCLUSIVE),
+    Line::Steps(0, OWNED),
+    Line::Ended(0, None),
+    Line::Owns(0, EXCLUSIVE),
+];
+
 #[test]
 fn the_answer_comes_with_the_last_act(rt: HostRuntime) -> Result<(), Fail> {
-    let script = [
-        Line::Starts(0, LockCall::Lock, None),
-        Line::Owns(0, None),
-        Line::Goes(0, 1, OWNED),
-        Line::Owns(0, EXCLUSIVE),
-        Line::Starts(0, LockCall::Unlock, RELEASED),
-        Line::Owns(0, None),
-        Line::Begins(0, LockCall::Lock),
-        Line::Steps(0, None),
-        Line::Ended(0, None),
-        Line::Steps(0, None),
-        Line::Ended(0, OWNED),
-        Line::Owns(0, EXCLUSIVE),
-        Line::Steps(0, OWNED),
-        Line::Ended(0, None),
-        Line::Owns(0, EXCLUSIVE),
-    ];
-    follow(&rt, 1, LockKind::Mutex, &script)
+    follow(&rt, 1, LockKind::Mutex, WITH_THE_LAST_ACT)
 }
+
+const TAKEN_AND_WOKEN: &[Line] = &[
+    Line::Starts(0, LockCall::Lock, None),
+    Line::Goes(0, 1, OWNED),
+    Line::Starts(1, LockCall::Lock, None),
+    Line::Sleeps(1, false),
+    Line::Stops(1),
+    Line::Sleeps(1, true),
+    Line::Starts(0, LockCall::Unlock, None),
+    Line::Goes(0, 1, None),
+    Line::Has(0, None, None),
+    Line::Goes(0, 1, None),
+    Line::Has(0, Some(1), None),
+    Line::Goes(0, 2, None),
+    Line::Sleeps(1, true),
+    Line::Goes(0, 1, RELEASED),
+    Line::Has(0, None, None),
+    Line::Sleeps(1, false),
+    Line::Stops(1),
+    Line::Owns(1, EXCLUSIVE),
+];
 
 #[test]
 fn a_sleeper_is_taken_and_then_woken(rt: HostRuntime) -> Result<(), Fail> {
-    let script = [
-        Line::Starts(0, LockCall::Lock, None),
-        Line::Goes(0, 1, OWNED),
-        Line::Starts(1, LockCall::Lock, None),
-        Line::Sleeps(1, false),
-        Line::Stops(1),
-        Line::Sleeps(1, true),
-        Line::Starts(0, LockCall::Unlock, None),
-        Line::Goes(0, 1, None),
-        Line::Has(0, None, None),
-        Line::Goes(0, 1, None),
-        Line::Has(0, Some(1), None),
-        Line::Goes(0, 2, None),
-        Line::Sleeps(1, true),
-        Line::Goes(0, 1, RELEASED),
-        Line::Has(0, None, None),
-        Line::Sleeps(1, false),
-        Line::Stops(1),
-        Line::Owns(1, EXCLUSIVE),
-    ];
-    follow(&rt, 2, LockKind::Mutex, &script)
+    follow(&rt, 2, LockKind::Mutex, TAKEN_AND_WOKEN)
 }
+
+const IN_ORDER: &[Line] = &[
+    Line::Starts(0, LockCall::Write, None),
+    Line::Stops(0),
+    Line::Owns(0, EXCLUSIVE),
+    Line::Starts(2, LockCall::Read, None),
+    Line::Stops(2),
+    Line::Starts(1, LockCall::Read, None),
+    Line::Stops(1),
+    Line::Starts(0, LockCall::UnlockWrite, None),
+    Line::Goes(0, 1, None),
+    Line::Goes(0, 1, None),
+    Line::Has(0, Some(2), None),
+    Line::Goes(0, 1, None),
+    Line::Has(0, Some(2), Some(1)),
+    Line::Has(1, None, None),
+    Line::Goes(0, 3, None),
+    Line::Has(0, Some(1), None),
+    Line::Sleeps(2, false),
+    Line::Sleeps(1, true),
+    Line::Goes(0, 1, RELEASED),
+    Line::Has(0, None, None),
+    Line::Stops(1),
+    Line::Stops(2),
+    Line::Owns(1, Some(OwnMode::Shared)),
+    Line::Owns(2, Some(OwnMode::Shared)),
+];
 
 #[test]
 fn whoever_is_taken_is_told_in_the_order_of_the_list(rt: HostRuntime) -> Result<(), Fail> {
-    let script = [
-        Line::Starts(0, LockCall::Write, None),
-        Line::Stops(0),
-        Line::Owns(0, EXCLUSIVE),
-        Line::Starts(2, LockCall::Read, None),
-        Line::Stops(2),
-        Line::Starts(1, LockCall::Read, None),
-        Line::Stops(1),
-        Line::Starts(0, LockCall::UnlockWrite, None),
-        Line::Goes(0, 1, None),
-        Line::Goes(0, 1, None),
-        Line::Has(0, Some(2), None),
-        Line::Goes(0, 1, None),
-        Line::Has(0, Some(2), Some(1)),
-        Line::Has(1, None, None),
-        Line::Goes(0, 3, None),
-        Line::Has(0, Some(1), None),
-        Line::Sleeps(2, false),
-        Line::Sleeps(1, true),
-        Line::Goes(0, 1, RELEASED),
-        Line::Has(0, None, None),
-        Line::Stops(1),
-        Line::Stops(2),
-        Line::Owns(1, Some(OwnMode::Shared)),
-        Line::Owns(2, Some(OwnMode::Shared)),
-    ];
-    follow(&rt, 3, LockKind::Rw, &script)
+    follow(&rt, 3, LockKind::Rw, IN_ORDER)
 }
+
+const HANDED_THE_MUTEX: &[Line] = &[
+    Line::Starts(0, LockCall::Lock, None),
+    Line::Goes(0, 1, OWNED),
+    Line::Starts(1, LockCall::LockUntil, None),
+    Line::Stops(1),
+    Line::Sleeps(1, true),
+    Line::Starts(0, LockCall::Unlock, None),
+    Line::GoesFairly(0, 4),
+    Line::Has(0, Some(1), None),
+    Line::Owns(1, EXCLUSIVE),
+    Line::Expires(1),
+    Line::Goes(1, 1, None),
+    Line::Has(0, None, None),
+    Line::Sleeps(1, false),
+    Line::Goes(1, 1, OWNED),
+    Line::Goes(0, 1, RELEASED),
+    Line::Owns(1, EXCLUSIVE),
+    Line::Owns(0, None),
+];
 
 #[test]
 fn one_that_was_handed_the_mutex_comes_back_by_itself(rt: HostRuntime) -> Result<(), Fail> {
-    let script = [
-        Line::Starts(0, LockCall::Lock, None),
-        Line::Goes(0, 1, OWNED),
-        Line::Starts(1, LockCall::LockUntil, None),
-        Line::Stops(1),
-        Line::Sleeps(1, true),
-        Line::Starts(0, LockCall::Unlock, None),
-        Line::GoesFairly(0, 4),
-        Line::Has(0, Some(1), None),
-        Line::Owns(1, EXCLUSIVE),
-        Line::Expires(1),
-        Line::Goes(1, 1, None),
-        Line::Has(0, None, None),
-        Line::Sleeps(1, false),
-        Line::Goes(1, 1, OWNED),
-        Line::Goes(0, 1, RELEASED),
-        Line::Owns(1, EXCLUSIVE),
-        Line::Owns(0, None),
-    ];
-    follow(&rt, 2, LockKind::Mutex, &script)
+    follow(&rt, 2, LockKind::Mutex, HANDED_THE_MUTEX)
 }
+
+const ONE_OF_TWO_READERS: &[Line] = &[
+    Line::Starts(0, LockCall::Write, None),
+    Line::Stops(0),
+    Line::Starts(2, LockCall::ReadUntil, None),
+    Line::Stops(2),
+    Line::Starts(1, LockCall::Read, None),
+    Line::Stops(1),
+    Line::Starts(0, LockCall::UnlockWrite, None),
+    Line::Goes(0, 5, None),
+    Line::Has(0, Some(2), Some(1)),
+    Line::Expires(2),
+    Line::Goes(2, 1, None),
+    Line::Has(0, Some(1), None),
+    Line::Stops(2),
+    Line::Owns(2, Some(OwnMode::Shared)),
+    Line::Sleeps(1, true),
+    Line::Goes(0, 1, None),
+    Line::Has(0, None, None),
+    Line::Goes(0, 1, RELEASED),
+    Line::Stops(1),
+    Line::Owns(1, Some(OwnMode::Shared)),
+];
 
 #[test]
 fn one_of_two_readers_that_were_taken_comes_back_by_itself(rt: HostRuntime) -> Result<(), Fail> {
-    let script = [
-        Line::Starts(0, LockCall::Write, None),
-        Line::Stops(0),
-        Line::Starts(2, LockCall::ReadUntil, None),
-        Line::Stops(2),
-        Line::Starts(1, LockCall::Read, None),
-        Line::Stops(1),
-        Line::Starts(0, LockCall::UnlockWrite, None),
-        Line::Goes(0, 5, None),
-        Line::Has(0, Some(2), Some(1)),
-        Line::Expires(2),
-        Line::Goes(2, 1, None),
-        Line::Has(0, Some(1), None),
-        Line::Stops(2),
-        Line::Owns(2, Some(OwnMode::Shared)),
-        Line::Sleeps(1, true),
-        Line::Goes(0, 1, None),
-        Line::Has(0, None, None),
-        Line::Goes(0, 1, RELEASED),
-        Line::Stops(1),
-        Line::Owns(1, Some(OwnMode::Shared)),
-    ];
-    follow(&rt, 3, LockKind::Rw, &script)
+    follow(&rt, 3, LockKind::Rw, ONE_OF_TWO_READERS)
 }

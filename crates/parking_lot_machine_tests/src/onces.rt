@@ -1,5 +1,6 @@
 //! Calls at a once after one another, and one that waits for another, with the words between.
 
+use crate::expect;
 use parking_lot_machine_sides::once::{OnceCall, OnceMachine, OnceReply, OnceState};
 use std::process::Abort;
 use std::test::Fail;
@@ -56,8 +57,7 @@ fn holds(machine: &mut OnceMachine, line: Line) -> bool {
 fn follow(rt: &(impl AllocGlobal + Abort), threads: usize, script: &[Line]) -> Result<(), Fail> {
     let mut machine = OnceMachine::new(&rt.alloc(), threads, 1)?;
     for (at, line) in script.iter().enumerate() {
-        let is_so = holds(&mut machine, *line);
-        assert!(rt; is_so, "line {at}");
+        expect(rt, holds(&mut machine, *line), at);
     }
     Ok(())
 }
@@ -66,44 +66,52 @@ const COMPLETED: Option<OnceReply> = Some(OnceReply::Completed);
 
 const POISONED: Option<OnceReply> = Some(OnceReply::Poisoned);
 
+const ONE_AFTER_ANOTHER: &[Line] = &[
+    Line::Word(0),
+    Line::Asks(0, OnceCall::CallOnce(false), Some(OnceReply::Failed)),
+    Line::Word(2),
+    Line::Asks(0, OnceCall::CallOnce(true), POISONED),
+    Line::Asks(0, OnceCall::OnceWait, POISONED),
+    Line::Word(2),
+    Line::Asks(
+        0,
+        OnceCall::CallOnceForce(true),
+        Some(OnceReply::Ran(OnceState::Poisoned)),
+    ),
+    Line::Word(1),
+    Line::Asks(0, OnceCall::OnceWait, COMPLETED),
+    Line::Asks(0, OnceCall::OnceWaitForce, COMPLETED),
+    Line::Asks(0, OnceCall::CallOnce(true), COMPLETED),
+    Line::Word(1),
+];
+
 #[test]
 fn one_after_another(rt: HostRuntime) -> Result<(), Fail> {
-    let forced = Some(OnceReply::Ran(OnceState::Poisoned));
-    let script = [
-        Line::Word(0),
-        Line::Asks(0, OnceCall::CallOnce(false), Some(OnceReply::Failed)),
-        Line::Word(2),
-        Line::Asks(0, OnceCall::CallOnce(true), POISONED),
-        Line::Asks(0, OnceCall::OnceWait, POISONED),
-        Line::Word(2),
-        Line::Asks(0, OnceCall::CallOnceForce(true), forced),
-        Line::Word(1),
-        Line::Asks(0, OnceCall::OnceWait, COMPLETED),
-        Line::Asks(0, OnceCall::OnceWaitForce, COMPLETED),
-        Line::Asks(0, OnceCall::CallOnce(true), COMPLETED),
-        Line::Word(1),
-    ];
-    follow(&rt, 1, &script)
+    follow(&rt, 1, ONE_AFTER_ANOTHER)
 }
+
+const ONE_WAITS_FOR_ANOTHER: &[Line] = &[
+    Line::Asks(0, OnceCall::OnceWait, None),
+    Line::Sleeps(0, true),
+    Line::Word(8),
+    Line::Queue(&[0]),
+    Line::InDebt(0, false),
+    Line::InDebt(1, false),
+    Line::Asks(
+        1,
+        OnceCall::CallOnce(true),
+        Some(OnceReply::Ran(OnceState::New)),
+    ),
+    Line::Word(1),
+    Line::Queue(&[]),
+    Line::Sleeps(0, false),
+    Line::InDebt(0, true),
+    Line::InDebt(1, false),
+    Line::Goes(0, COMPLETED),
+    Line::InDebt(0, false),
+];
 
 #[test]
 fn one_waits_for_another(rt: HostRuntime) -> Result<(), Fail> {
-    let ran = Some(OnceReply::Ran(OnceState::New));
-    let script = [
-        Line::Asks(0, OnceCall::OnceWait, None),
-        Line::Sleeps(0, true),
-        Line::Word(8),
-        Line::Queue(&[0]),
-        Line::InDebt(0, false),
-        Line::InDebt(1, false),
-        Line::Asks(1, OnceCall::CallOnce(true), ran),
-        Line::Word(1),
-        Line::Queue(&[]),
-        Line::Sleeps(0, false),
-        Line::InDebt(0, true),
-        Line::InDebt(1, false),
-        Line::Goes(0, COMPLETED),
-        Line::InDebt(0, false),
-    ];
-    follow(&rt, 2, &script)
+    follow(&rt, 2, ONE_WAITS_FOR_ANOTHER)
 }

@@ -1,5 +1,6 @@
 //! Waiters of a condition variable that another thread moves to a mutex: what is seen of it then, and how they go on.
 
+use crate::expect;
 use parking_lot_machine::{CoreAnswer, LockCall, LockKind, OwnMode, RowMachine};
 use std::process::Abort;
 use std::test::Fail;
@@ -100,82 +101,84 @@ fn follow(rt: &(impl AllocGlobal + Abort), script: &[Line]) -> Result<(), Fail> 
     let kinds = vec![in rt.alloc(); LockKind::Mutex]?;
     let mut machine = RowMachine::new(&rt.alloc(), 3, kinds)?;
     for (at, line) in script.iter().enumerate() {
-        let is_so = holds(&mut machine, *line)?;
-        assert!(rt; is_so, "line {at}");
+        expect(rt, holds(&mut machine, *line)?, at);
     }
     Ok(())
 }
 
+const IN_ORDER: &[Line] = &[
+    Line::Calls(0, LockCall::Lock),
+    Line::Owns(0, true),
+    Line::Word(1),
+    Line::TakenIn(1, false),
+    Line::Queue(Some(1), None),
+    Line::Word(3),
+    Line::Sleeps(1, true),
+    Line::TakenIn(2, false),
+    Line::Queue(Some(1), Some(2)),
+    Line::Word(3),
+    Line::Barred(0),
+    Line::Barred(1),
+    Line::Calls(0, LockCall::Unlock),
+    Line::Word(2),
+    Line::Queue(Some(2), None),
+    Line::Sleeps(1, false),
+    Line::InDebt(1, true),
+    Line::Goes(1),
+    Line::Owns(1, true),
+    Line::Word(3),
+];
+
 #[test]
 fn waiters_of_a_locked_mutex_stand_in_its_list_in_order(rt: HostRuntime) -> Result<(), Fail> {
-    let script = [
-        Line::Calls(0, LockCall::Lock),
-        Line::Owns(0, true),
-        Line::Word(1),
-        Line::TakenIn(1, false),
-        Line::Queue(Some(1), None),
-        Line::Word(3),
-        Line::Sleeps(1, true),
-        Line::TakenIn(2, false),
-        Line::Queue(Some(1), Some(2)),
-        Line::Word(3),
-        Line::Barred(0),
-        Line::Barred(1),
-        Line::Calls(0, LockCall::Unlock),
-        Line::Word(2),
-        Line::Queue(Some(2), None),
-        Line::Sleeps(1, false),
-        Line::InDebt(1, true),
-        Line::Goes(1),
-        Line::Owns(1, true),
-        Line::Word(3),
-    ];
-    follow(&rt, &script)
+    follow(&rt, IN_ORDER)
 }
+
+const BEHIND_THE_WOKEN: &[Line] = &[
+    Line::NotTakenIn(1),
+    Line::RousedIn(1),
+    Line::Sleeps(1, false),
+    Line::InDebt(1, true),
+    Line::Word(0),
+    Line::TakenIn(2, false),
+    Line::Word(2),
+    Line::Queue(Some(2), None),
+    Line::InDebt(1, true),
+    Line::Calls(0, LockCall::Lock),
+    Line::Owns(0, true),
+    Line::Word(3),
+    Line::Goes(1),
+    Line::Sleeps(1, true),
+    Line::Queue(Some(2), Some(1)),
+    Line::Calls(0, LockCall::Unlock),
+    Line::Word(2),
+    Line::Queue(Some(1), None),
+    Line::Goes(2),
+    Line::Owns(2, true),
+    Line::Word(3),
+];
 
 #[test]
 fn the_rest_stands_behind_the_one_that_is_woken(rt: HostRuntime) -> Result<(), Fail> {
-    let script = [
-        Line::NotTakenIn(1),
-        Line::RousedIn(1),
-        Line::Sleeps(1, false),
-        Line::InDebt(1, true),
-        Line::Word(0),
-        Line::TakenIn(2, false),
-        Line::Word(2),
-        Line::Queue(Some(2), None),
-        Line::InDebt(1, true),
-        Line::Calls(0, LockCall::Lock),
-        Line::Owns(0, true),
-        Line::Word(3),
-        Line::Goes(1),
-        Line::Sleeps(1, true),
-        Line::Queue(Some(2), Some(1)),
-        Line::Calls(0, LockCall::Unlock),
-        Line::Word(2),
-        Line::Queue(Some(1), None),
-        Line::Goes(2),
-        Line::Owns(2, true),
-        Line::Word(3),
-    ];
-    follow(&rt, &script)
+    follow(&rt, BEHIND_THE_WOKEN)
 }
+
+const MOMENT_PASSES: &[Line] = &[
+    Line::Calls(0, LockCall::Lock),
+    Line::TakenIn(1, true),
+    Line::Word(3),
+    Line::Expires(1),
+    Line::Goes(1),
+    Line::Queue(None, None),
+    Line::Word(1),
+    Line::Owns(1, false),
+    Line::Calls(0, LockCall::Unlock),
+    Line::Word(0),
+    Line::Calls(1, LockCall::Lock),
+    Line::Owns(1, true),
+];
 
 #[test]
 fn the_moment_of_one_that_was_moved_may_pass(rt: HostRuntime) -> Result<(), Fail> {
-    let script = [
-        Line::Calls(0, LockCall::Lock),
-        Line::TakenIn(1, true),
-        Line::Word(3),
-        Line::Expires(1),
-        Line::Goes(1),
-        Line::Queue(None, None),
-        Line::Word(1),
-        Line::Owns(1, false),
-        Line::Calls(0, LockCall::Unlock),
-        Line::Word(0),
-        Line::Calls(1, LockCall::Lock),
-        Line::Owns(1, true),
-    ];
-    follow(&rt, &script)
+    follow(&rt, MOMENT_PASSES)
 }

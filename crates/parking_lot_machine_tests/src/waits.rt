@@ -2,6 +2,7 @@
 
 mod schedules;
 
+use crate::expect;
 use parking_lot_core_model::SizeFault;
 use parking_lot_machine_waits::{
     CondvarCall, CondvarReply, Ended, LockCall, LockKind, OwnMode, WaitMachine,
@@ -136,8 +137,7 @@ fn holds(machine: &mut WaitMachine, line: Line) -> bool {
 fn follow(rt: &(impl AllocGlobal + Abort), threads: usize, script: &[Line]) -> Result<(), Fail> {
     let mut machine = machine(rt.alloc(), threads)?;
     for (at, line) in script.iter().enumerate() {
-        let is_so = holds(&mut machine, *line);
-        assert!(rt; is_so, "line {at}");
+        expect(rt, holds(&mut machine, *line), at);
     }
     Ok(())
 }
@@ -159,111 +159,116 @@ macro_rules! told {
     };
 }
 
+const TO_A_LOCKED_MUTEX: &[Line] = &[
+    Line::Waits(0, CondvarCall::Wait(0)),
+    Line::Waits(1, CondvarCall::Wait(0)),
+    Line::Word(VARIABLE, 1),
+    Line::Waiters(&[0, 1]),
+    Line::Asks(2, MUTEX, LockCall::Lock, OWNED),
+    Line::Calls(2, CondvarCall::NotifyOne, told!(Flag(true))),
+    Line::Stand(&[0]),
+    Line::Word(MUTEX, 3),
+    Line::Word(VARIABLE, 1),
+    Line::Calls(2, CondvarCall::NotifyAll, told!(Count(1))),
+    Line::Stand(&[0, 1]),
+    Line::Word(VARIABLE, 0),
+    Line::Asks(2, MUTEX, LockCall::Unlock, RELEASED),
+    Line::Word(MUTEX, 2),
+    Line::Stand(&[1]),
+    Line::Goes(0, WOKEN),
+    Line::Owns(0, MUTEX),
+    Line::MayAsk(0, MUTEX, LockCall::Lock, false),
+    Line::Asks(0, MUTEX, LockCall::Unlock, RELEASED),
+    Line::Goes(1, WOKEN),
+    Line::Asks(1, MUTEX, LockCall::Unlock, RELEASED),
+    Line::Word(MUTEX, 0),
+    Line::Word(VARIABLE, 0),
+];
+
 #[test]
 fn waiters_are_moved_to_a_locked_mutex(rt: HostRuntime) -> Result<(), Fail> {
-    let script = [
-        Line::Waits(0, CondvarCall::Wait(0)),
-        Line::Waits(1, CondvarCall::Wait(0)),
-        Line::Word(VARIABLE, 1),
-        Line::Waiters(&[0, 1]),
-        Line::Asks(2, MUTEX, LockCall::Lock, OWNED),
-        Line::Calls(2, CondvarCall::NotifyOne, told!(Flag(true))),
-        Line::Stand(&[0]),
-        Line::Word(MUTEX, 3),
-        Line::Word(VARIABLE, 1),
-        Line::Calls(2, CondvarCall::NotifyAll, told!(Count(1))),
-        Line::Stand(&[0, 1]),
-        Line::Word(VARIABLE, 0),
-        Line::Asks(2, MUTEX, LockCall::Unlock, RELEASED),
-        Line::Word(MUTEX, 2),
-        Line::Stand(&[1]),
-        Line::Goes(0, WOKEN),
-        Line::Owns(0, MUTEX),
-        Line::MayAsk(0, MUTEX, LockCall::Lock, false),
-        Line::Asks(0, MUTEX, LockCall::Unlock, RELEASED),
-        Line::Goes(1, WOKEN),
-        Line::Asks(1, MUTEX, LockCall::Unlock, RELEASED),
-        Line::Word(MUTEX, 0),
-        Line::Word(VARIABLE, 0),
-    ];
-    follow(&rt, 3, &script)
+    follow(&rt, 3, TO_A_LOCKED_MUTEX)
 }
+
+const AT_A_FREE_MUTEX: &[Line] = &[
+    Line::Waits(0, CondvarCall::Wait(0)),
+    Line::Waits(1, CondvarCall::Wait(0)),
+    Line::Waits(2, CondvarCall::Wait(0)),
+    Line::Calls(3, CondvarCall::NotifyAll, told!(Count(3))),
+    Line::Stand(&[1, 2]),
+    Line::Word(MUTEX, 2),
+    Line::Goes(0, WOKEN),
+    Line::MayGo(1, false),
+    Line::Asks(0, MUTEX, LockCall::Unlock, RELEASED),
+    Line::Goes(1, WOKEN),
+    Line::MayGo(2, false),
+    Line::Calls(3, CondvarCall::NotifyOne, told!(Flag(false))),
+];
 
 #[test]
 fn the_first_is_woken_where_the_mutex_is_free(rt: HostRuntime) -> Result<(), Fail> {
-    let script = [
-        Line::Waits(0, CondvarCall::Wait(0)),
-        Line::Waits(1, CondvarCall::Wait(0)),
-        Line::Waits(2, CondvarCall::Wait(0)),
-        Line::Calls(3, CondvarCall::NotifyAll, told!(Count(3))),
-        Line::Stand(&[1, 2]),
-        Line::Word(MUTEX, 2),
-        Line::Goes(0, WOKEN),
-        Line::MayGo(1, false),
-        Line::Asks(0, MUTEX, LockCall::Unlock, RELEASED),
-        Line::Goes(1, WOKEN),
-        Line::MayGo(2, false),
-        Line::Calls(3, CondvarCall::NotifyOne, told!(Flag(false))),
-    ];
-    follow(&rt, 4, &script)
+    follow(&rt, 4, AT_A_FREE_MUTEX)
 }
+
+const WITH_ANOTHER_MUTEX: &[Line] = &[
+    Line::Waits(0, CondvarCall::Wait(0)),
+    Line::Asks(1, OTHER, LockCall::Lock, OWNED),
+    Line::Calls(1, CondvarCall::Wait(2), WRONG_MUTEX),
+    Line::Owns(1, OTHER),
+    Line::Waiters(&[0]),
+    Line::Word(VARIABLE, 1),
+];
 
 #[test]
 fn a_wait_with_another_mutex_keeps_it(rt: HostRuntime) -> Result<(), Fail> {
-    let script = [
-        Line::Waits(0, CondvarCall::Wait(0)),
-        Line::Asks(1, OTHER, LockCall::Lock, OWNED),
-        Line::Calls(1, CondvarCall::Wait(2), WRONG_MUTEX),
-        Line::Owns(1, OTHER),
-        Line::Waiters(&[0]),
-        Line::Word(VARIABLE, 1),
-    ];
-    follow(&rt, 2, &script)
+    follow(&rt, 2, WITH_ANOTHER_MUTEX)
 }
+
+const DO_NOT_FIT: &[Line] = &[
+    Line::MayCall(0, VARIABLE, CondvarCall::Wait(0), false),
+    Line::MayCall(0, MUTEX, CondvarCall::NotifyOne, false),
+    Line::MayCall(0, 7, CondvarCall::NotifyOne, false),
+    Line::MayCall(2, VARIABLE, CondvarCall::NotifyOne, false),
+    Line::MayAsk(0, VARIABLE, LockCall::Lock, false),
+    Line::MayExpire(0, false),
+    Line::Asks(0, MUTEX, LockCall::Lock, OWNED),
+    Line::MayCall(0, VARIABLE, CondvarCall::Wait(0), true),
+    Line::MayCall(0, VARIABLE, CondvarCall::Wait(2), false),
+    Line::MayCall(0, VARIABLE, CondvarCall::Wait(1), false),
+    Line::MayCall(0, VARIABLE, CondvarCall::Wait(9), false),
+    Line::MayCall(1, VARIABLE, CondvarCall::Wait(0), false),
+];
 
 #[test]
 fn calls_are_refused_that_do_not_fit(rt: HostRuntime) -> Result<(), Fail> {
-    let script = [
-        Line::MayCall(0, VARIABLE, CondvarCall::Wait(0), false),
-        Line::MayCall(0, MUTEX, CondvarCall::NotifyOne, false),
-        Line::MayCall(0, 7, CondvarCall::NotifyOne, false),
-        Line::MayCall(2, VARIABLE, CondvarCall::NotifyOne, false),
-        Line::MayAsk(0, VARIABLE, LockCall::Lock, false),
-        Line::MayExpire(0, false),
-        Line::Asks(0, MUTEX, LockCall::Lock, OWNED),
-        Line::MayCall(0, VARIABLE, CondvarCall::Wait(0), true),
-        Line::MayCall(0, VARIABLE, CondvarCall::Wait(2), false),
-        Line::MayCall(0, VARIABLE, CondvarCall::Wait(1), false),
-        Line::MayCall(0, VARIABLE, CondvarCall::Wait(9), false),
-        Line::MayCall(1, VARIABLE, CondvarCall::Wait(0), false),
-    ];
-    follow(&rt, 2, &script)
+    follow(&rt, 2, DO_NOT_FIT)
 }
+
+const GIVES_UP: &[Line] = &[
+    Line::Waits(0, CondvarCall::WaitUntil(0)),
+    Line::MayExpire(0, true),
+    Line::Waits(1, CondvarCall::Wait(0)),
+    Line::MayExpire(1, false),
+    Line::Expires(0),
+    Line::Goes(0, TIMED_OUT),
+    Line::Owns(0, MUTEX),
+    Line::Calls(0, CondvarCall::WaitUntil(0), None),
+    Line::Asks(2, MUTEX, LockCall::Lock, OWNED),
+    Line::Calls(2, CondvarCall::NotifyAll, told!(Count(2))),
+    Line::Stand(&[1, 0]),
+    Line::Expires(0),
+    Line::Goes(0, None),
+    Line::Stand(&[1, 0]),
+    Line::MayExpire(0, false),
+    Line::Asks(2, MUTEX, LockCall::Unlock, RELEASED),
+    Line::Goes(1, WOKEN),
+    Line::Asks(1, MUTEX, LockCall::Unlock, RELEASED),
+    Line::Goes(0, WOKEN),
+    Line::Word(MUTEX, 1),
+];
 
 /// A deadline in the variable's list, and one of a waiter that was moved.
 #[test]
 fn one_gives_up_and_one_that_was_moved_does_not(rt: HostRuntime) -> Result<(), Fail> {
-    let script = [
-        Line::Waits(0, CondvarCall::WaitUntil(0)),
-        Line::MayExpire(0, true),
-        Line::Waits(1, CondvarCall::Wait(0)),
-        Line::MayExpire(1, false),
-        Line::Expires(0),
-        Line::Goes(0, TIMED_OUT),
-        Line::Owns(0, MUTEX),
-        Line::Calls(0, CondvarCall::WaitUntil(0), None),
-        Line::Asks(2, MUTEX, LockCall::Lock, OWNED),
-        Line::Calls(2, CondvarCall::NotifyAll, told!(Count(2))),
-        Line::Stand(&[1, 0]),
-        Line::Expires(0),
-        Line::Goes(0, None),
-        Line::Stand(&[1, 0]),
-        Line::MayExpire(0, false),
-        Line::Asks(2, MUTEX, LockCall::Unlock, RELEASED),
-        Line::Goes(1, WOKEN),
-        Line::Asks(1, MUTEX, LockCall::Unlock, RELEASED),
-        Line::Goes(0, WOKEN),
-        Line::Word(MUTEX, 1),
-    ];
-    follow(&rt, 3, &script)
+    follow(&rt, 3, GIVES_UP)
 }
