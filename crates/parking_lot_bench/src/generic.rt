@@ -39,20 +39,44 @@ impl Kind {
     }
 }
 
+/// Each kind with a lock.
+const WITH_A_LOCK: [Kind; 8] = [
+    Kind::Read,
+    Kind::Write,
+    Kind::MappedRead,
+    Kind::MappedWrite,
+    Kind::Mutex,
+    Kind::StdRead,
+    Kind::StdWrite,
+    Kind::StdMutex,
+];
+
+/// How many pairs of each of these kinds found the value that they must find, of so many that are made of each.
+fn found_of_each<R: Wait + Copy + Drop>(rt: R, rounds: u64) -> Result<[u64; 8], TableFull> {
+    let mut found = [0; 8];
+    for (of_kind, kind) in found.iter_mut().zip(WITH_A_LOCK) {
+        *of_kind = pairs(rt, kind, rounds)?;
+    }
+    Ok(found)
+}
+
 /// Makes so many pairs of each kind, and tells how many of each found the value that they must find.
 pub fn small_run<R: Wait + Copy + Drop>(
     rt: R,
     alloc: Global,
     rounds: u64,
 ) -> Result<String, Fault> {
-    let reads = pairs(rt, Kind::Read, rounds)?;
-    let writes = pairs(rt, Kind::Write, rounds)?;
-    let mapped_reads = pairs(rt, Kind::MappedRead, rounds)?;
-    let mapped_writes = pairs(rt, Kind::MappedWrite, rounds)?;
-    let locks = pairs(rt, Kind::Mutex, rounds)?;
-    let std_reads = pairs(rt, Kind::StdRead, rounds)?;
-    let std_writes = pairs(rt, Kind::StdWrite, rounds)?;
-    let std_locks = pairs(rt, Kind::StdMutex, rounds)?;
+    let found = found_of_each(rt, rounds)?;
+    let [
+        reads,
+        writes,
+        mapped_reads,
+        mapped_writes,
+        locks,
+        std_reads,
+        std_writes,
+        std_locks,
+    ] = found;
     Ok(format!(in alloc;
         "reads {reads} {mapped_reads} writes {writes} {mapped_writes} locks {locks}, of std {std_reads} {std_writes} {std_locks}"
     )?)

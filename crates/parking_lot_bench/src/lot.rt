@@ -2,6 +2,7 @@
 
 use crate::fault::Fault;
 use crate::times::nanos_each;
+use crate::turns::two_of;
 use parking_lot_core::{
     DEFAULT_PARK_TOKEN, DEFAULT_UNPARK_TOKEN, ParkingLot, ThreadData, park, unpark_one,
 };
@@ -48,15 +49,25 @@ fn by_parking<R: Wait + Threads + Clock + Sync + Copy + Drop>(
     rounds: u32,
 ) -> Result<usize, Fault> {
     let lot = ParkingLot::new(rt, alloc, 2, 7)?;
-    let mut left = lot.thread_data()?;
-    let mut right = lot.thread_data()?;
+    let (mut left, mut right) = two_of(&lot)?;
+    Ok(by_parking_on(&rt, &lot, &mut left, &mut right, rounds))
+}
+
+/// On a lot, of which the two take part.
+fn by_parking_on<R: Wait + Threads + Clock + Sync>(
+    rt: &R,
+    lot: &ParkingLot<R>,
+    left: &mut ThreadData,
+    right: &mut ThreadData,
+    rounds: u32,
+) -> usize {
     let turn = AtomicUsize::new(LEFT);
     thread::join(
-        &rt,
-        || park_in_turns(&lot, &mut left, &turn, LEFT, RIGHT, rounds),
-        || park_in_turns(&lot, &mut right, &turn, RIGHT, LEFT, rounds),
+        rt,
+        || park_in_turns(lot, left, &turn, LEFT, RIGHT, rounds),
+        || park_in_turns(lot, right, &turn, RIGHT, LEFT, rounds),
     );
-    Ok(turn.load(Ordering::SeqCst))
+    turn.load(Ordering::SeqCst)
 }
 
 /// Awaits its turn so many times, and gives it to the other side.

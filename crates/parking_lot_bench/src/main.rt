@@ -72,14 +72,55 @@ fn told_small<R: Wait + Threads + Clock + Sync + Copy + Drop>(
     rt: R,
     alloc: Global,
 ) -> Result<String, Fault> {
-    let generic = generic::small_run(rt, alloc, u64::from(SMALL))?;
     let (parked, waited) = lot::both_ways(rt, alloc, SMALL)?;
     let fair = lot::fair_turns(rt, alloc, SMALL)?;
     let words = pairs::all_pairs(rt, alloc, SMALL)?;
     let (mutex, lock) = turns::both_ways(rt, alloc, SMALL)?;
+    let generic = generic::small_run(rt, alloc, u64::from(SMALL))?;
     Ok(format!(in alloc;
         "{generic}\nturns {parked} by parking, {waited} by condvars, {fair} fair\nleft {words}, turns {mutex} by the mutex, {lock} by the lock"
     )?)
+}
+
+/// What turns tell that are handed over by parking and by condition variables.
+fn told_of_turns_by_the_lot<R: Wait + Threads + Clock + Sync + Copy + Drop>(
+    rt: R,
+    alloc: Global,
+    rounds: u32,
+) -> Result<String, Fault> {
+    let (parking, condvars) = lot::turns_of(rt, alloc, rounds)?;
+    Ok(format!(in alloc; "parking {parking} ns a turn, condvars {condvars} ns")?)
+}
+
+/// What turns of locks tell.
+fn told_of_turns<R: Wait + Threads + Clock + Sync + Copy + Drop>(
+    rt: R,
+    alloc: Global,
+    rounds: u32,
+) -> Result<String, Fault> {
+    let (mutex, lock) = turns::times_of(rt, alloc, rounds)?;
+    Ok(format!(in alloc; "mutex {mutex} ns a turn, lock {lock} ns")?)
+}
+
+/// A number that a run came to, with what stands before it and behind it.
+fn told_number(
+    alloc: Global,
+    before: &str,
+    number: Result<u64, Fault>,
+    behind: &str,
+) -> Result<String, Fault> {
+    let number = number?;
+    Ok(format!(in alloc; "{before}{number}{behind}")?)
+}
+
+/// How many pairs found the value that they must find.
+fn found<R: Wait + Copy + Drop>(rt: R, kind: Kind, rounds: u64) -> Result<u64, Fault> {
+    Ok(generic::pairs(rt, kind, rounds)?)
+}
+
+/// How often an unpark of nobody was to be fair.
+fn fair<R: Wait + Drop>(rt: R, alloc: Global, rounds: u32) -> Result<u64, Fault> {
+    Ok(u64::from(lot::fair_turns(rt, alloc, rounds)?))
 }
 
 /// What the run tells.
@@ -90,26 +131,13 @@ fn told<R: Wait + Threads + Clock + Sync + Copy + Drop>(
 ) -> Result<String, Fault> {
     match call {
         Call::Small => told_small(rt, alloc),
-        Call::Generic(kind, rounds) => {
-            let found = generic::pairs(rt, kind, rounds)?;
-            Ok(format!(in alloc; "{found} found")?)
-        }
-        Call::LotPair(rounds) => {
-            let (parking, condvars) = lot::turns_of(rt, alloc, rounds)?;
-            Ok(format!(in alloc; "parking {parking} ns a turn, condvars {condvars} ns")?)
-        }
-        Call::LotEmpty(rounds) => {
-            let fair = lot::fair_turns(rt, alloc, rounds)?;
-            Ok(format!(in alloc; "{fair} fair")?)
-        }
+        Call::Generic(kind, rounds) => told_number(alloc, "", found(rt, kind, rounds), " found"),
+        Call::LotPair(rounds) => told_of_turns_by_the_lot(rt, alloc, rounds),
+        Call::LotEmpty(rounds) => told_number(alloc, "", fair(rt, alloc, rounds), " fair"),
         Call::Locks(pair, count) => {
-            let word = pairs::pairs_of(rt, alloc, pair, count)?;
-            Ok(format!(in alloc; "word {word}")?)
+            told_number(alloc, "word ", pairs::pairs_of(rt, alloc, pair, count), "")
         }
-        Call::Turns(rounds) => {
-            let (mutex, lock) = turns::times_of(rt, alloc, rounds)?;
-            Ok(format!(in alloc; "mutex {mutex} ns a turn, lock {lock} ns")?)
-        }
+        Call::Turns(rounds) => told_of_turns(rt, alloc, rounds),
     }
 }
 

@@ -46,6 +46,13 @@ pub fn both_ways<R: Wait + Threads + Sync + Copy + Drop>(
     Ok((by_mutex(rt, alloc, rounds)?, by_lock(rt, alloc, rounds)?))
 }
 
+/// What the two threads lend.
+pub fn two_of<R: Wait>(lot: &ParkingLot<R>) -> Result<(ThreadData, ThreadData), Fault> {
+    let left = lot.thread_data()?;
+    let right = lot.thread_data()?;
+    Ok((left, right))
+}
+
 /// By fair releases of a mutex.
 fn by_mutex<R: Wait + Threads + Sync + Copy + Drop>(
     rt: R,
@@ -53,15 +60,25 @@ fn by_mutex<R: Wait + Threads + Sync + Copy + Drop>(
     rounds: u32,
 ) -> Result<u64, Fault> {
     let lot = ParkingLot::new(rt, alloc, 2, 7)?;
-    let mut left = lot.thread_data()?;
-    let mut right = lot.thread_data()?;
+    let (mut left, mut right) = two_of(&lot)?;
     let table = LockTable::new(alloc, &lot, 1)?;
-    let mutex = RawMutex::new(&table, 1)?;
+    by_mutex_of(&rt, &table, &mut left, &mut right, rounds)
+}
+
+/// On a row of the table.
+fn by_mutex_of<R: Wait + Threads + Sync>(
+    rt: &R,
+    table: &LockTable<'_, R>,
+    left: &mut ThreadData,
+    right: &mut ThreadData,
+    rounds: u32,
+) -> Result<u64, Fault> {
+    let mutex = RawMutex::new(table, 1)?;
     let turns = AtomicU64::new(0);
     thread::join(
-        &rt,
-        || locks(&table, &mutex, &mut left, &turns, rounds),
-        || locks(&table, &mutex, &mut right, &turns, rounds),
+        rt,
+        || locks(table, &mutex, left, &turns, rounds),
+        || locks(table, &mutex, right, &turns, rounds),
     );
     Ok(turns.load(Ordering::SeqCst))
 }
@@ -90,15 +107,25 @@ fn by_lock<R: Wait + Threads + Sync + Copy + Drop>(
     rounds: u32,
 ) -> Result<u64, Fault> {
     let lot = ParkingLot::new(rt, alloc, 2, 7)?;
-    let mut left = lot.thread_data()?;
-    let mut right = lot.thread_data()?;
+    let (mut left, mut right) = two_of(&lot)?;
     let table = LockTable::new(alloc, &lot, 1)?;
-    let lock = RawRwLock::new(&table, 1)?;
+    by_lock_of(&rt, &table, &mut left, &mut right, rounds)
+}
+
+/// On a row of the table.
+fn by_lock_of<R: Wait + Threads + Sync>(
+    rt: &R,
+    table: &LockTable<'_, R>,
+    left: &mut ThreadData,
+    right: &mut ThreadData,
+    rounds: u32,
+) -> Result<u64, Fault> {
+    let lock = RawRwLock::new(table, 1)?;
     let turns = AtomicU64::new(0);
     thread::join(
-        &rt,
-        || writes(&table, &lock, &mut left, &turns, rounds),
-        || writes(&table, &lock, &mut right, &turns, rounds),
+        rt,
+        || writes(table, &lock, left, &turns, rounds),
+        || writes(table, &lock, right, &turns, rounds),
     );
     Ok(turns.load(Ordering::SeqCst))
 }
