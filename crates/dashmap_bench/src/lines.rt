@@ -128,6 +128,23 @@ const DEEDS: [&[Deed]; 4] = [
     ],
 ];
 
+/// Makes the calls of one kind, and prints their line.
+fn print_line<S: Measured, Q: RawRwLock>(
+    rt: &HostRuntime,
+    map: &Map<S, Q>,
+    me: &mut Q::Party,
+    deed: Deed,
+) -> Result<(), Fault>
+where
+    Q::Runtime: Wait,
+{
+    let start = Instant::now(rt)?;
+    let sum = deed.run::<1_000_000, _, _>(map, me, u64::from(deed.calls()))?;
+    let name = format!(in rt.alloc(); "{}.{}", deed.name(), S::name())?;
+    report(rt, name.as_str(), start, deed.calls(), sum)?;
+    Ok(())
+}
+
 /// Makes the calls on a new map, and prints a line for each.
 fn print_lines<S: Measured, R: Wait + Copy + Drop>(
     rt: &HostRuntime,
@@ -139,10 +156,7 @@ fn print_lines<S: Measured, R: Wait + Copy + Drop>(
     let map: Shared<'_, '_, R, S> = map_over(rt.alloc(), &table)?;
     let mut me = lot.thread_data()?;
     for deed in deeds {
-        let start = Instant::now(rt)?;
-        let sum = deed.run::<1_000_000, _, _>(&map, &mut me, u64::from(deed.calls()))?;
-        let name = format!(in rt.alloc(); "{}.{}", deed.name(), S::name())?;
-        report(rt, name.as_str(), start, deed.calls(), sum)?;
+        print_line(rt, &map, &mut me, *deed)?;
     }
     Ok(())
 }
@@ -198,7 +212,22 @@ pub fn fill<R: Wait + Copy + Drop>(alloc: Global, handle: R) -> Result<usize, Fa
     Ok(map.len(&mut me))
 }
 
-/// Makes a thousand of each call, and prints what they saw.
+/// Makes a thousand of one call, and prints what they saw.
+fn print_sum<S: Measured, Q: RawRwLock>(
+    rt: &HostRuntime,
+    map: &Map<S, Q>,
+    me: &mut Q::Party,
+    deed: Deed,
+) -> Result<(), Fault>
+where
+    Q::Runtime: Wait,
+{
+    let sum = deed.run::<1_000, _, _>(map, me, 1_000)?;
+    println!(rt; "{}.{} saw {sum}", deed.name(), S::name())?;
+    Ok(())
+}
+
+/// Makes a thousand of each call on a new map, and prints what they saw.
 fn print_sums<S: Measured, R: Wait + Copy + Drop>(
     rt: &HostRuntime,
     handle: R,
@@ -209,8 +238,7 @@ fn print_sums<S: Measured, R: Wait + Copy + Drop>(
     let map: Shared<'_, '_, R, S> = map_over(rt.alloc(), &table)?;
     let mut me = lot.thread_data()?;
     for deed in deeds {
-        let sum = deed.run::<1_000, _, _>(&map, &mut me, 1_000)?;
-        println!(rt; "{}.{} saw {sum}", deed.name(), S::name())?;
+        print_sum(rt, &map, &mut me, *deed)?;
     }
     Ok(())
 }

@@ -59,6 +59,24 @@ fn team<R: Wait>(
     Ok(tds)
 }
 
+/// Has a map's pairs summed some times, by as many threads as data is handed in.
+fn sums_of<R: Wait + Threads + Clock + Sync>(
+    rt: &R,
+    alloc: Global,
+    map: &Shared<'_, '_, R, Fold>,
+    tds: &mut [ThreadData],
+) -> Result<Sums, Fault> {
+    let start = Instant::now(rt)?;
+    let mut saw = 0u64;
+    for _ in 0..TIMES {
+        saw = saw.wrapping_add(sum_all(rt, alloc, map, tds)?);
+    }
+    Ok(Sums {
+        nanos: start.elapsed(rt)?.as_secs_f64() * 1e9,
+        saw,
+    })
+}
+
 /// Fills a map with so many pairs, and has so many threads take the sum some times.
 pub fn sum_often<R: Wait + Threads + Clock + Sync + Copy + Drop>(
     rt: R,
@@ -72,13 +90,5 @@ pub fn sum_often<R: Wait + Threads + Clock + Sync + Copy + Drop>(
     let mut me = lot.thread_data()?;
     put_all::<Onward<0>, _, _>(&map, &mut me, count)?;
     let mut tds = team(alloc, &lot, threads)?;
-    let start = Instant::now(&rt)?;
-    let mut saw = 0u64;
-    for _ in 0..TIMES {
-        saw = saw.wrapping_add(sum_all(&rt, alloc, &map, &mut tds)?);
-    }
-    Ok(Sums {
-        nanos: start.elapsed(&rt)?.as_secs_f64() * 1e9,
-        saw,
-    })
+    sums_of(&rt, alloc, &map, &mut tds)
 }

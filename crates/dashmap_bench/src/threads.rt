@@ -205,7 +205,29 @@ fn together<R: Wait + Threads + Sync>(
     }
 }
 
-/// Fills a new map with half of the keys of so many numbers, and has a team make so many calls in all.
+/// Fills a map with half of the keys of so many numbers, and has a team make so many calls in all.
+fn measured<R: Wait + Threads + Clock + Sync>(
+    rt: &R,
+    map: &Shared<'_, '_, R, Fold>,
+    lot: &ParkingLot<R>,
+    team: Team,
+    mix: Mix,
+    keys: &[u64],
+    count: u32,
+    me: &mut ThreadData,
+) -> Result<Told, Fault> {
+    put_half(map, me, keys)?;
+    let each = count / team.count().max(1);
+    let start = Instant::now(rt)?;
+    let saw = together(rt, map, lot, team, keys, mix.looks, each)?;
+    Ok(Told {
+        took: start.elapsed(rt)?,
+        saw,
+        left: map.len(me),
+    })
+}
+
+/// The same of a new map.
 pub fn run<R: Wait + Threads + Clock + Sync + Copy + Drop>(
     rt: R,
     alloc: Global,
@@ -219,13 +241,5 @@ pub fn run<R: Wait + Threads + Clock + Sync + Copy + Drop>(
     let map: Shared<'_, '_, R, Fold> = map_over(alloc, &table)?;
     let mut me = lot.thread_data()?;
     let keys = keys_of(alloc, &map, mix.is_crowded, numbers)?;
-    put_half(&map, &mut me, keys.as_slice())?;
-    let each = count / team.count().max(1);
-    let start = Instant::now(&rt)?;
-    let saw = together(&rt, &map, &lot, team, keys.as_slice(), mix.looks, each)?;
-    Ok(Told {
-        took: start.elapsed(&rt)?,
-        saw,
-        left: map.len(&mut me),
-    })
+    measured(&rt, &map, &lot, team, mix, &keys, count, &mut me)
 }
