@@ -40,21 +40,33 @@ pub fn shown_now<S: BuildHasher, A: Allocator>(
     world: &World<S, A>,
     schedule: Vec<usize>,
 ) -> Result<Option<Halfway>, AllocError> {
+    match replies_now(alloc, world)? {
+        Some(replies) => Ok(Some(Halfway {
+            schedule,
+            pairs: contents(alloc, world)?,
+            replies,
+            blocks: world.blocks().len(),
+        })),
+        None => Ok(None),
+    }
+}
+
+/// How many replies there are; none where a block doesn't show the end of its call exactly where that is answered.
+fn replies_now<S: BuildHasher, A: Allocator>(
+    alloc: Global,
+    world: &World<S, A>,
+) -> Result<Option<usize>, AllocError> {
     let replies = replies_of(alloc, world.replies())?;
     let seen = Seen {
         blocks: world.blocks(),
         replies: &replies,
         routes: &[],
     };
-    if !shows_ends(seen) {
-        return Ok(None);
-    }
-    Ok(Some(Halfway {
-        schedule,
-        pairs: contents(alloc, world)?,
-        replies: replies.len(),
-        blocks: world.blocks().len(),
-    }))
+    Ok(if shows_ends(seen) {
+        Some(replies.len())
+    } else {
+        None
+    })
 }
 
 /// Whether every call is answered, every word is 0 and nobody waits.
@@ -91,7 +103,18 @@ pub fn broken<S: BuildHasher, A: Allocator + Clone + Drop>(
         replies: &replies,
         routes: &routes,
     };
-    let at_end = broken_at_end(made, seen, &pairs, world.steps(), &halfway.schedule)?;
+    broken_by_what_is_seen(made, seen, &pairs, world.steps(), halfway)
+}
+
+/// The same by what is seen at its end, behind so many steps.
+fn broken_by_what_is_seen(
+    made: Made<'_, Change>,
+    seen: Seen<'_>,
+    pairs: &[(u64, u64)],
+    steps: u64,
+    halfway: &Halfway,
+) -> Result<Broken, AllocError> {
+    let at_end = broken_at_end(made, seen, pairs, steps, &halfway.schedule)?;
     if at_end.is_some() {
         return Ok(at_end);
     }

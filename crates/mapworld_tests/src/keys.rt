@@ -2,7 +2,8 @@
 
 use super::worlds::{programs_of, step_round, told};
 use mapworld::{Answer, Ask, Begin, Deed, Held, Keyed, MapWorld, SpreadState};
-use std::alloc::Global;
+use mapworld_text::Change;
+use std::alloc::{AllocError, Global};
 use std::hash::{BuildHasher, Hasher};
 use std::test::Fail;
 
@@ -79,25 +80,45 @@ impl BuildHasher for OneHash {
     }
 }
 
-#[test]
-fn equal_keys_are_one_key(rt: HostRuntime) -> Result<(), Fail> {
-    let program = vec![in rt.alloc();
+/// A world of letters, and a program of one.
+type Letters = MapWorld<Letter, u64, SpreadState, ReadKey>;
+
+type Program = Vec<Ask<Letter, u64, ReadKey>>;
+
+/// A world of two shards that begins with these pairs and has that program.
+fn letters(alloc: Global, pairs: Vec<(Letter, u64)>, program: Program) -> Result<Letters, Fail> {
+    let programs = vec![in alloc; program]?;
+    Ok(MapWorld::new(alloc, 2, SpreadState, pairs, programs)?)
+}
+
+/// Whether the call of that number was answered so.
+fn is_answered(world: &Letters, call: usize, answer: Answer<Letter, u64, u8, Global>) -> bool {
+    match world.replies().get(call) {
+        Some(reply) => reply.answer == answer,
+        None => false,
+    }
+}
+
+/// A letter is inserted, read by a guard and removed, by keys that are written otherwise.
+fn equal_keys(alloc: Global) -> Result<Program, AllocError> {
+    Ok(vec![in alloc;
         Ask::Keyed(Keyed::Insert(letter_of(b'K'), 2)),
         Ask::Begin(Begin::Get(letter_of(b'k'))),
         Ask::Held(Held::Read(ReadKey)),
         Ask::Held(Held::Drop),
         Ask::Keyed(Keyed::Remove(letter_of(b'k'))),
-    ]?;
+    ]?)
+}
+
+#[test]
+fn equal_keys_are_one_key(rt: HostRuntime) -> Result<(), Fail> {
     let pairs = vec![in rt.alloc(); (letter_of(b'k'), 0), (letter_of(b'K'), 1)]?;
-    let programs = vec![in rt.alloc(); program]?;
-    let mut world = MapWorld::new(rt.alloc(), 2, SpreadState, pairs, programs)?;
-    let is_done = step_round(&mut world);
-    let answers = world.replies();
-    assert!(rt; is_done && answers.len() == 5);
+    let mut world = letters(rt.alloc(), pairs, equal_keys(rt.alloc())?)?;
+    assert!(rt; step_round(&mut world) && world.replies().len() == 5);
     // Of equal keys the last value and the first key were there at the start, and the insert left the stored key.
-    assert!(rt; answers[0].answer == Answer::Value(1));
-    assert!(rt; answers[2].answer == Answer::Read(b'k'));
-    assert!(rt; answers[4].answer == Answer::Pair(letter_of(b'k'), 2));
+    assert!(rt; is_answered(&world, 0, Answer::Value(1)));
+    assert!(rt; is_answered(&world, 2, Answer::Read(b'k')));
+    assert!(rt; is_answered(&world, 4, Answer::Pair(letter_of(b'k'), 2)));
     Ok(())
 }
 
@@ -111,9 +132,17 @@ fn shows_letter(answer: &Answer<Letter, u64, u8, Global>, shown: u8) -> bool {
     }
 }
 
-#[test]
-fn an_entry_keeps_the_key_that_it_was_handed(rt: HostRuntime) -> Result<(), Fail> {
-    let program = vec![in rt.alloc();
+/// Whether the answer of the call of that number does.
+fn call_shows(world: &Letters, call: usize, shown: u8) -> bool {
+    match world.replies().get(call) {
+        Some(reply) => shows_letter(&reply.answer, shown),
+        None => false,
+    }
+}
+
+/// Entries are inserted into, read, replaced and given back, by a key that is written otherwise than the stored one.
+fn entries(alloc: Global) -> Result<Program, AllocError> {
+    Ok(vec![in alloc;
         Ask::Begin(Begin::Entry(letter_of(b'K'))),
         Ask::Held(Held::Insert(2)),
         Ask::Held(Held::Read(ReadKey)),
@@ -123,35 +152,47 @@ fn an_entry_keeps_the_key_that_it_was_handed(rt: HostRuntime) -> Result<(), Fail
         Ask::Held(Held::ReplaceEntry(3)),
         Ask::Held(Held::Drop),
         Ask::Keyed(Keyed::Remove(letter_of(b'k'))),
-    ]?;
+    ]?)
+}
+
+#[test]
+fn an_entry_keeps_the_key_that_it_was_handed(rt: HostRuntime) -> Result<(), Fail> {
     let pairs = vec![in rt.alloc(); (letter_of(b'k'), 0)]?;
-    let programs = vec![in rt.alloc(); program]?;
-    let mut world = MapWorld::new(rt.alloc(), 2, SpreadState, pairs, programs)?;
-    let is_done = step_round(&mut world);
-    let answers = world.replies();
-    assert!(rt; is_done && answers.len() == 9);
+    let mut world = letters(rt.alloc(), pairs, entries(rt.alloc())?)?;
+    assert!(rt; step_round(&mut world) && world.replies().len() == 9);
     // The stored key stays at an insertion, and the handed-in one is given back or put in its place.
-    assert!(rt; shows_letter(&answers[2].answer, b'k') && shows_letter(&answers[3].answer, b'K'));
-    assert!(rt; shows_letter(&answers[6].answer, b'k') && shows_letter(&answers[8].answer, b'K'));
-    assert!(rt; answers[6].answer == Answer::Pair(letter_of(b'k'), 2));
-    assert!(rt; answers[8].answer == Answer::Pair(letter_of(b'k'), 3));
+    assert!(rt; call_shows(&world, 2, b'k') && call_shows(&world, 3, b'K'));
+    assert!(rt; call_shows(&world, 6, b'k') && call_shows(&world, 8, b'K'));
+    assert!(rt; is_answered(&world, 6, Answer::Pair(letter_of(b'k'), 2)));
+    assert!(rt; is_answered(&world, 8, Answer::Pair(letter_of(b'k'), 3)));
     Ok(())
+}
+
+/// A world of numbers that all have one hash.
+type OneHashed = MapWorld<u64, u64, OneHash, Change>;
+
+/// A world of four shards with such a hash, which begins with two pairs.
+fn of_one_hash(alloc: Global, text: &str) -> Result<OneHashed, Fail> {
+    let programs = programs_of(alloc, text)?;
+    let pairs = vec![in alloc; (1, 5), (3, 30)]?;
+    Ok(MapWorld::new(alloc, 4, OneHash, pairs, programs)?)
+}
+
+/// Whether key 2 has come and key 1 has gone.
+fn has_two_and_three(world: &OneHashed) -> bool {
+    world.pair(&1).is_none()
+        && world.pair(&2) == Some((&2, &20))
+        && world.pair(&3) == Some((&3, &30))
 }
 
 #[test]
 fn keys_of_one_hash_stay_apart(rt: HostRuntime) -> Result<(), Fail> {
     let text = "thread a\n  insert 1 10\n  insert 2 20\n  remove 1\n  get 2\n    read\n    drop\n";
-    let programs = programs_of(rt.alloc(), text)?;
-    let pairs = vec![in rt.alloc(); (1, 5), (3, 30)]?;
-    let mut world = MapWorld::new(rt.alloc(), 4, OneHash, pairs, programs)?;
+    let mut world = of_one_hash(rt.alloc(), text)?;
     let is_done = step_round(&mut world);
     let text = told(rt.alloc(), &world)?;
     let want = "value 5, none, pair 1=10, held, read 2=20, done, blocks 4; ";
     assert!(rt; is_done && text.as_str() == want, "{text}");
-    assert!(rt;
-        world.pair(&1).is_none()
-            && world.pair(&2) == Some((&2, &20))
-            && world.pair(&3) == Some((&3, &30))
-    );
+    assert!(rt; has_two_and_three(&world));
     Ok(())
 }

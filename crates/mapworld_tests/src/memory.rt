@@ -3,7 +3,7 @@
 
 use super::judged::{at_first, broken, is_at_rest};
 use super::worlds::{
-    World, are_finished, programs_of, step_round, step_through, step_times, told, world_of,
+    World, are_finished, made_of, programs_of, step_round, step_through, step_times, told, world_of,
 };
 use dashmap_table::SpreadState;
 use linked_list_allocator::LocalHeap;
@@ -65,49 +65,101 @@ struct Refused {
     done: &'static str,
 }
 
+/// What is seen of a world that was run: whether all steps were done, what its calls were answered, what key 1 has, and
+/// how many steps there were.
+#[derive(Drop)]
+struct Seen {
+    is_run: bool,
+    text: String,
+    value: Option<u64>,
+    steps: u64,
+}
+
+/// What is seen of a world now.
+fn seen_of(alloc: Global, world: &Small<'_>, is_run: bool) -> Result<Seen, AllocError> {
+    Ok(Seen {
+        is_run,
+        text: told(alloc, world)?,
+        value: value_of(world, 1),
+        steps: world.steps(),
+    })
+}
+
+/// What is seen of a world on a heap of that size that is run to its end, if it is made.
+fn run_in(alloc: Global, size: usize, programs: &[Vec<Asked>]) -> Result<Option<Seen>, Fail> {
+    let heap = LocalHeap::new(alloc, size)?;
+    match world_of(&heap, 2, SpreadState, &[], programs) {
+        Some(mut world) => {
+            let is_run = runs_to_the_end(&mut world);
+            Ok(Some(seen_of(alloc, &world, is_run)?))
+        }
+        None => Ok(None),
+    }
+}
+
 /// Runs worlds on heaps of each small size. Each that is made goes one of both ways, and each way is gone.
 fn try_sizes(rt: &(impl AllocGlobal + Abort), row: Refused) -> Result<(), Fail> {
     let programs = programs_of(rt.alloc(), row.programs)?;
     let mut has_refused = false;
     let mut has_done = false;
     for size in 0..300 {
-        let heap = LocalHeap::new(rt.alloc(), size * 16)?;
-        let Some(mut world) = world_of(&heap, 2, SpreadState, &[], &programs) else {
-            continue;
-        };
-        let is_run = runs_to_the_end(&mut world);
-        let text = told(rt.alloc(), &world)?;
-        let value = value_of(&world, 1);
-        let is_refused = text.as_str() == row.refused && value.is_none();
-        let is_done = text.as_str() == row.done && value == Some(10);
-        assert!(rt; is_run && (is_refused || is_done), "of size {size}: {text}");
-        has_refused |= is_refused;
-        has_done |= is_done;
+        if let Some(seen) = run_in(rt.alloc(), size * 16, &programs)? {
+            let is_refused = seen.text.as_str() == row.refused && seen.value.is_none();
+            let is_done = seen.text.as_str() == row.done && seen.value == Some(10);
+            assert!(rt;
+                seen.is_run && (is_refused || is_done),
+                "of size {size}: {}",
+                seen.text
+            );
+            has_refused |= is_refused;
+            has_done |= is_done;
+        }
     }
     assert!(rt; has_refused && has_done);
     Ok(())
 }
 
+/// Calls whose growth is refused or isn't, beside a reader.
+const BESIDE_A_READER: [Refused; 2] = [
+    Refused {
+        programs: "thread a\n  insert 1 10\nthread b\n  get 1\n    drop\n",
+        refused: "no-memory, blocks 0; none, no-guard, blocks 1; ",
+        done: "none, blocks 1; held, done, blocks 1; ",
+    },
+    Refused {
+        programs: "thread a\n  entry 1\n    insert 10\n    drop\nthread b\n  get 1\n    drop\n",
+        refused: "no-memory, no-guard, no-guard, blocks 0; none, no-guard, blocks 1; ",
+        done: "vacant, held, done, blocks 1; held, done, blocks 1; ",
+    },
+];
+
 #[test]
 fn a_refused_growth_changes_nothing_and_leaves_neither_hold_nor_guard(
     rt: HostRuntime,
 ) -> Result<(), Fail> {
-    try_sizes(
-        &rt,
-        Refused {
-            programs: "thread a\n  insert 1 10\nthread b\n  get 1\n    drop\n",
-            refused: "no-memory, blocks 0; none, no-guard, blocks 1; ",
-            done: "none, blocks 1; held, done, blocks 1; ",
-        },
-    )?;
-    try_sizes(
-        &rt,
-        Refused {
-            programs: "thread a\n  entry 1\n    insert 10\n    drop\nthread b\n  get 1\n    drop\n",
-            refused: "no-memory, no-guard, no-guard, blocks 0; none, no-guard, blocks 1; ",
-            done: "vacant, held, done, blocks 1; held, done, blocks 1; ",
-        },
-    )
+    for row in BESIDE_A_READER {
+        try_sizes(&rt, row)?;
+    }
+    Ok(())
+}
+
+/// What is seen of a world on a heap of that size that begins with a pair of key 1, and is run once the heap is taken,
+/// if it is made.
+fn run_without_room(
+    alloc: Global,
+    size: usize,
+    programs: &[Vec<Asked>],
+) -> Result<Option<Seen>, Fail> {
+    let heap = LocalHeap::new(alloc, size)?;
+    match world_of(&heap, 2, SpreadState, &[(1, 5)], programs) {
+        Some(mut world) => {
+            let pieces = hoard(alloc, &heap)?;
+            let is_run = step_round(&mut world);
+            drop(pieces);
+            Ok(Some(seen_of(alloc, &world, is_run)?))
+        }
+        None => Ok(None),
+    }
 }
 
 #[test]
@@ -115,61 +167,80 @@ fn an_insert_on_a_present_key_needs_no_memory(rt: HostRuntime) -> Result<(), Fai
     let programs = programs_of(rt.alloc(), "thread a\n  insert 1 6\n")?;
     let mut has_done = false;
     for size in 0..300 {
-        let heap = LocalHeap::new(rt.alloc(), size * 16)?;
-        let Some(mut world) = world_of(&heap, 2, SpreadState, &[(1, 5)], &programs) else {
-            continue;
-        };
-        let pieces = hoard(rt.alloc(), &heap)?;
-        let is_done = step_round(&mut world);
-        drop(pieces);
-        let text = told(rt.alloc(), &world)?;
-        let is_told = text.as_str() == "value 5, blocks 1; " && value_of(&world, 1) == Some(6);
-        // Start, load, exchange, look for readers, find, deed, release, answer: no step is a growth.
-        assert!(rt;
-            is_done && is_told && world.steps() == 8,
-            "of size {size}: {text}"
-        );
-        has_done = true;
+        if let Some(seen) = run_without_room(rt.alloc(), size * 16, &programs)? {
+            let is_told = seen.text.as_str() == "value 5, blocks 1; " && seen.value == Some(6);
+            // Start, load, exchange, look for readers, find, deed, release, answer: no step is a growth.
+            assert!(rt;
+                seen.is_run && is_told && seen.steps == 8,
+                "of size {size}: {}",
+                seen.text
+            );
+            has_done = true;
+        }
     }
     assert!(rt; has_done);
     Ok(())
 }
 
-#[test]
-fn a_shard_grows_to_thousands_of_pairs(rt: HostRuntime) -> Result<(), Fail> {
-    let mut program: Vec<Asked> = Vec::new(rt.alloc());
-    for number in 0..3000_u64 {
-        // Even keys are all on one shard.
+/// One thread's program, as the programs of a world.
+fn one(alloc: Global, program: Vec<Asked>) -> Result<Vec<Vec<Asked>>, AllocError> {
+    let mut programs = Vec::new(alloc);
+    programs.push(program)?;
+    Ok(programs)
+}
+
+/// A program that inserts so many even keys, which are all on one shard.
+fn inserts(alloc: Global, count: u64) -> Result<Vec<Asked>, AllocError> {
+    let mut program: Vec<Asked> = Vec::new(alloc);
+    for number in 0..count {
         program.push(Ask::Keyed(Keyed::Insert(number << 1, number)))?;
     }
-    let mut programs = Vec::new(rt.alloc());
-    programs.push(program)?;
-    let made = world_of(rt.alloc(), 2, SpreadState, &[], &programs);
-    let mut world: World = made.ok_or("no world")?;
-    let is_done = step_through(&mut world, 0);
+    Ok(program)
+}
+
+/// Whether a world of one thread adds so many pairs.
+fn adds(world: &mut World, pairs: usize) -> Result<bool, Fail> {
+    let is_done = step_through(world, 0);
     let are_added = world
         .replies()
         .iter()
         .all(|reply| matches!(reply.answer, Answer::None));
     let count = world.contents()?.len();
-    assert!(rt; is_done && are_finished(&world) && are_added && count == 3000);
+    Ok(is_done && are_finished(world) && are_added && count == pairs)
+}
+
+#[test]
+fn a_shard_grows_to_thousands_of_pairs(rt: HostRuntime) -> Result<(), Fail> {
+    let programs = one(rt.alloc(), inserts(rt.alloc(), 3000)?)?;
+    let mut world = made_of(rt.alloc(), 2, &[], &programs)?;
+    assert!(rt; adds(&mut world, 3000)?);
     assert!(rt; world.pair(&5998) == Some((&5998, &2999)));
     Ok(())
 }
 
-#[test]
-fn walks_with_the_stop_0_take_no_room_for_visits(rt: HostRuntime) -> Result<(), Fail> {
-    let mut program: Vec<Asked> = Vec::new(rt.alloc());
-    for _ in 0..1000 {
+/// A program of so many walks that stop at once.
+fn walks(alloc: Global, count: u64) -> Result<Vec<Asked>, AllocError> {
+    let mut program: Vec<Asked> = Vec::new(alloc);
+    for _ in 0..count {
         program.push(Ask::Walk(Walk::Iter(Change::NONE, Some(0))))?;
     }
-    let mut programs = Vec::new(rt.alloc());
-    programs.push(program)?;
+    Ok(program)
+}
+
+/// Whether a world of one thread runs to its end, and has no block then.
+fn runs_without_blocks(world: &mut Small<'_>) -> bool {
+    step_through(world, 0) && are_finished(world) && world.blocks().is_empty()
+}
+
+#[test]
+fn walks_with_the_stop_0_take_no_room_for_visits(rt: HostRuntime) -> Result<(), Fail> {
+    let programs = one(rt.alloc(), walks(rt.alloc(), 1000)?)?;
     // A block for each visit of 64 shards would take seven times as much.
     let heap = LocalHeap::new(rt.alloc(), 500_000)?;
-    let mut world = world_of(&heap, 64, SpreadState, &[], &programs).ok_or("no world")?;
-    let is_done = step_through(&mut world, 0);
-    assert!(rt; is_done && are_finished(&world) && world.blocks().is_empty());
+    match world_of(&heap, 64, SpreadState, &[], &programs) {
+        Some(mut world) => assert!(rt; runs_without_blocks(&mut world)),
+        None => return Err("no world".into()),
+    }
     Ok(())
 }
 
@@ -246,20 +317,31 @@ type Outcome = (bool, Broken);
 /// Makes a world and runs it without memory at that time.
 fn outcome_without(made: Made<'_, Change>, when: When) -> Result<Outcome, Fail> {
     let heap = LocalHeap::new(made.alloc, SIZE)?;
-    let made_world = world_of(&heap, made.shards, SpreadState, made.pairs, made.programs);
-    let Some(mut world) = made_world else {
-        return Ok((false, Some("a world is made")));
-    };
-    if !run_without(made.alloc, &heap, &mut world, when)? {
+    match world_of(&heap, made.shards, SpreadState, made.pairs, made.programs) {
+        Some(mut world) => outcome_of(made, &heap, &mut world, when),
+        None => Ok((false, Some("a world is made"))),
+    }
+}
+
+/// Runs a world without memory at that time.
+fn outcome_of(
+    made: Made<'_, Change>,
+    heap: &LocalHeap,
+    world: &mut Small<'_>,
+    when: When,
+) -> Result<Outcome, Fail> {
+    if !run_without(made.alloc, heap, world, when)? {
         return Ok((false, Some("a step of a thread that can move is made")));
     }
-    let replies = world.replies().iter();
-    let refused = replies
-        .filter(|reply| matches!(reply.answer, Answer::NoMemory))
-        .count();
     let first = at_first(made.alloc, made.pairs)?;
-    let broken = broken(made, &world, KEYS, &first)?;
-    Ok((refused > 0, broken))
+    let broken = broken(made, world, KEYS, &first)?;
+    Ok((is_refused(world), broken))
+}
+
+/// Whether a call was refused for want of memory.
+fn is_refused(world: &Small<'_>) -> bool {
+    let mut replies = world.replies().iter();
+    replies.any(|reply| matches!(reply.answer, Answer::NoMemory))
 }
 
 /// Whether calls of programs are refused for want of memory.
@@ -393,21 +475,37 @@ fn before_growth<'h>(heap: &'h LocalHeap, programs: &[Vec<Asked>]) -> Option<Sma
     }
 }
 
+/// How many steps a drain without memory makes there, what the calls are answered, and whether nothing was put in and
+/// all is at rest.
+fn drained_without(alloc: Global, programs: &[Vec<Asked>]) -> Result<(u64, String, bool), Fail> {
+    let heap = LocalHeap::new(alloc, SIZE)?;
+    let Some(mut world) = before_growth(&heap, programs) else {
+        return Err("no world".into());
+    };
+    let pieces = hoard(alloc, &heap)?;
+    let steps = world.drain();
+    drop(pieces);
+    let is_at_rest = world.pair(&1).is_none() && is_at_rest(&world, 3, 2);
+    Ok((steps, told(alloc, &world)?, is_at_rest))
+}
+
+/// Whether all steps are made there where memory is left, and what the calls are answered.
+fn run_on(alloc: Global, programs: &[Vec<Asked>]) -> Result<(bool, String), Fail> {
+    let heap = LocalHeap::new(alloc, SIZE)?;
+    let Some(mut world) = before_growth(&heap, programs) else {
+        return Err("no world".into());
+    };
+    let is_done = step_round(&mut world);
+    Ok((is_done, told(alloc, &world)?))
+}
+
 #[test]
 fn a_drain_goes_on_behind_a_refused_growth(rt: HostRuntime) -> Result<(), Fail> {
     let programs = programs_of(rt.alloc(), GROWTHS[0])?;
-    let heap = LocalHeap::new(rt.alloc(), SIZE)?;
-    let mut world = before_growth(&heap, &programs).ok_or("no world")?;
-    let pieces = hoard(rt.alloc(), &heap)?;
-    let steps = world.drain();
-    drop(pieces);
-    let text = told(rt.alloc(), &world)?;
+    let (steps, text, is_at_rest) = drained_without(rt.alloc(), &programs)?;
     assert!(rt; steps > 0 && text.as_str() == "no-memory, blocks 0; none, no-guard, blocks 1; ");
-    assert!(rt; world.pair(&1).is_none() && is_at_rest(&world, 3, 2));
-    let heap = LocalHeap::new(rt.alloc(), SIZE)?;
-    let mut world = before_growth(&heap, &programs).ok_or("no world")?;
-    let is_done = step_round(&mut world);
-    let text = told(rt.alloc(), &world)?;
+    assert!(rt; is_at_rest);
+    let (is_done, text) = run_on(rt.alloc(), &programs)?;
     assert!(rt; is_done && text.as_str() == "none, blocks 1; held, done, blocks 1; ");
     Ok(())
 }
@@ -415,13 +513,21 @@ fn a_drain_goes_on_behind_a_refused_growth(rt: HostRuntime) -> Result<(), Fail> 
 /// Whether a walk that changes a pair on each shard is refused at its second visit, where that step has no memory.
 fn is_refused_at_second(alloc: Global, programs: &[Vec<Asked>], number: u64) -> Result<bool, Fail> {
     let heap = LocalHeap::new(alloc, SIZE)?;
-    let made = world_of(&heap, 2, SpreadState, &[(1, 0), (2, 0)], programs);
-    let mut world = made.ok_or("no world")?;
-    let is_run = run_without(alloc, &heap, &mut world, When::Step(number))?;
-    let text = told(alloc, &world)?;
-    let has_first = value_of(&world, 1) == Some(0) && value_of(&world, 2) == Some(1);
+    match world_of(&heap, 2, SpreadState, &[(1, 0), (2, 0)], programs) {
+        Some(mut world) => {
+            let is_run = run_without(alloc, &heap, &mut world, When::Step(number))?;
+            Ok(is_run && has_first_alone(alloc, &world)?)
+        }
+        None => Err("no world".into()),
+    }
+}
+
+/// Whether the first visit alone was made, and all is at rest.
+fn has_first_alone(alloc: Global, world: &Small<'_>) -> Result<bool, AllocError> {
+    let text = told(alloc, world)?;
+    let has_first = value_of(world, 1) == Some(0) && value_of(world, 2) == Some(1);
     let is_told = text.as_str() == "no-memory, blocks 1; ";
-    Ok(is_run && is_told && has_first && is_at_rest(&world, 1, 2))
+    Ok(is_told && has_first && is_at_rest(world, 1, 2))
 }
 
 #[test]

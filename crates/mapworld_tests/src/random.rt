@@ -132,17 +132,27 @@ fn broken_on<S: BuildHasher + Drop>(
     run: Run,
     tally: &mut Tally,
 ) -> Result<Broken, AllocError> {
-    let Some(mut world) = world_of(made.alloc, made.shards, hasher, made.pairs, made.programs)
-    else {
-        return Ok(Some("a world is made"));
-    };
+    match world_of(made.alloc, made.shards, hasher, made.pairs, made.programs) {
+        Some(mut world) => broken_of(made, &mut world, random, run, tally),
+        None => Ok(Some("a world is made")),
+    }
+}
+
+/// Runs a world to a random moment and drains it, and gives the rule that is broken, if one is.
+fn broken_of<S: BuildHasher>(
+    made: Made<'_, Change>,
+    world: &mut World<S>,
+    random: &mut Random,
+    run: Run,
+    tally: &mut Tally,
+) -> Result<Broken, AllocError> {
     let mut schedule = Vec::new(made.alloc);
-    let by_steps = run_some(&mut world, random, run, &mut schedule)?;
+    let by_steps = run_some(world, random, run, &mut schedule)?;
     if by_steps.is_some() {
         return Ok(by_steps);
     }
-    match shown_now(made.alloc, &world, schedule)? {
-        Some(moment) => drained(made, &mut world, &moment, tally),
+    match shown_now(made.alloc, world, schedule)? {
+        Some(moment) => drained(made, world, &moment, tally),
         None => Ok(Some("a block shows its end exactly where its call is answered")),
     }
 }

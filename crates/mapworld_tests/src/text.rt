@@ -2,8 +2,11 @@
 
 use linked_list_allocator::LocalHeap;
 use mapworld_report::{ReportFault, report};
+use std::alloc::Global;
 use std::io;
+use std::sync::Wait;
 use std::test::Fail;
+use std::thread::Threads;
 
 /// A writer that takes nothing.
 #[derive(Drop)]
@@ -40,24 +43,37 @@ fn a_writer_that_fails_ends_the_report(rt: HostRuntime) {
     );
 }
 
+/// Whether a report whose world lies in a heap was told whole, or was refused and told nothing.
+fn is_told_in<R: Threads + Wait + Sync + Copy>(
+    rt: R,
+    heap: &LocalHeap,
+    alloc: Global,
+) -> Result<bool, &'static str> {
+    let mut out = Vec::new(alloc);
+    match report(rt, heap, alloc, &mut out) {
+        Ok(()) if out.as_slice() == TEXT.as_bytes() => Ok(true),
+        Ok(()) => Err("another text"),
+        Err(ReportFault::Fault { code, name }) => {
+            if code == 99 && name == "NoMemory" && out.is_empty() {
+                Ok(false)
+            } else {
+                Err("another fault than want of memory, or a text beside it")
+            }
+        }
+        Err(ReportFault::Write) => Err("the writer failed"),
+    }
+}
+
 #[test]
 fn a_report_without_memory_writes_nothing(rt: HostRuntime) -> Result<(), Fail> {
     let mut has_told = false;
     let mut has_refused = false;
     for size in 0..600 {
         let heap = LocalHeap::new(rt.alloc(), size * 16)?;
-        let mut out = Vec::new(rt.alloc());
-        match report(rt, &heap, rt.alloc(), &mut out) {
-            Ok(()) => {
-                has_told = true;
-                assert!(rt; out.as_slice() == TEXT.as_bytes());
-            }
-            Err(ReportFault::Fault { code, name }) => {
-                assert!(rt; code == 99 && name == "NoMemory" && out.is_empty());
-                has_refused = true;
-            }
-            Err(ReportFault::Write) => assert!(rt; false),
-        }
+        let is_told = is_told_in(rt, &heap, rt.alloc());
+        assert!(rt; is_told.is_ok(), "of size {size}: {is_told:?}");
+        has_told |= is_told == Ok(true);
+        has_refused |= is_told == Ok(false);
     }
     assert!(rt; has_told && has_refused);
     Ok(())

@@ -59,6 +59,30 @@ pub fn world_of<S: BuildHasher + Drop, A: Allocator + Copy + Drop>(
     MapWorld::new(alloc, shards, hasher, pairs, asked).ok()
 }
 
+/// A world of so many shards that begins with these pairs, and has a thread for each of the programs of a text.
+pub fn world_from(
+    alloc: Global,
+    shards: usize,
+    pairs: &[(u64, u64)],
+    text: &str,
+) -> Result<World, Fail> {
+    let programs = programs_of(alloc, text)?;
+    made_of(alloc, shards, pairs, &programs)
+}
+
+/// The same of programs that are made.
+pub fn made_of(
+    alloc: Global,
+    shards: usize,
+    pairs: &[(u64, u64)],
+    programs: &[Vec<Asked>],
+) -> Result<World, Fail> {
+    match world_of(alloc, shards, SpreadState, pairs, programs) {
+        Some(world) => Ok(world),
+        None => Err("no world".into()),
+    }
+}
+
 /// Makes as many steps of the thread, and says whether all of them were done.
 pub fn step_times<
     K: Eq + Hash + Drop,
