@@ -5,7 +5,8 @@ use crate::worlds::{World, broken, shown_now, world_of};
 use mapworld::Step;
 use mapworld_explorer::{Ahead, ahead_of, may_be_fair};
 use mapworld_oracle::replay::Made;
-use mapworld_text::Asked;
+use mapworld_text::{Asked, Change};
+use std::alloc::{AllocError, Global};
 use std::collections::HashSet;
 use std::process::Abort;
 use std::test::Fail;
@@ -53,6 +54,15 @@ pub struct Explorer<'r, 'p, R> {
     found: Found,
 }
 
+/// The threads of the steps of a schedule.
+fn threads_of(alloc: Global, schedule: &[Step]) -> Result<Vec<usize>, AllocError> {
+    let mut threads = Vec::new(alloc);
+    for step in schedule {
+        threads.push(step.thread)?;
+    }
+    Ok(threads)
+}
+
 impl<'r, 'p, R: AllocGlobal + Abort> Explorer<'r, 'p, R> {
     /// Makes every schedule of the two programs, to its end.
     pub fn explore(rt: &'r R, two: Two<'p>) -> Result<Found, Fail> {
@@ -85,8 +95,8 @@ impl<'r, 'p, R: AllocGlobal + Abort> Explorer<'r, 'p, R> {
     fn first(&mut self) -> Result<Vec<Vec<Step>>, Fail> {
         let mut schedules = Vec::new(self.rt.alloc());
         let schedule = Vec::new(self.rt.alloc());
-        let world = self.world_behind(&schedule)?;
-        self.look_at(world, schedule, &mut schedules)?;
+        let mut world = self.world_behind(&schedule)?;
+        self.look_at(&mut world, schedule, &mut schedules)?;
         Ok(schedules)
     }
 
@@ -111,24 +121,36 @@ impl<'r, 'p, R: AllocGlobal + Abort> Explorer<'r, 'p, R> {
     /// Looks at a world behind a schedule, which is kept if the state is new; and drains it.
     fn look_at(
         &mut self,
-        world: World,
+        world: &mut World,
         schedule: Vec<Step>,
         longer: &mut Vec<Vec<Step>>,
     ) -> Result<(), Fail> {
-        let ahead = ahead_of(self.rt.alloc(), &world)?;
+        let ahead = ahead_of(self.rt.alloc(), world)?;
+        if self.is_new(&ahead)? {
+            self.count(world);
+            self.must_hold(broken_by_threads(world), &schedule);
+            self.drain(world, &ahead, &schedule)?;
+            longer.push(schedule)?;
+        }
+        Ok(())
+    }
+
+    /// Whether nobody has come to this state before.
+    fn is_new(&mut self, ahead: &Ahead) -> Result<bool, Fail> {
         if self.known.contains(ahead.as_str()) {
-            return Ok(());
+            return Ok(false);
         }
         let text = String::from_str(self.rt.alloc(), ahead.as_str())?;
         let _ = self.known.insert(text)?;
+        Ok(true)
+    }
+
+    /// Counts a state, which is an end where all calls are answered.
+    fn count(&mut self, world: &World) {
         self.found.states = self.found.states.saturating_add(1);
         if world.replies().len() == self.calls() {
             self.found.ends = self.found.ends.saturating_add(1);
         }
-        self.must_hold(broken_by_threads(&world), &schedule);
-        self.drain(world, &ahead, &schedule)?;
-        longer.push(schedule)?;
-        Ok(())
     }
 
     fn calls(&self) -> usize {
@@ -137,37 +159,43 @@ impl<'r, 'p, R: AllocGlobal + Abort> Explorer<'r, 'p, R> {
     }
 
     /// Drains a world behind a schedule, and looks at what it showed before and shows then.
-    fn drain(&mut self, world: World, ahead: &Ahead, schedule: &[Step]) -> Result<(), Fail> {
-        let mut world = world;
-        if !refuses(self.rt.alloc(), &mut world, ahead)? {
-            self.must_hold(
-                Some("a step that can't be made is refused, and changes nothing"),
-                schedule,
-            );
-        }
-        let mut threads = Vec::new(self.rt.alloc());
-        for step in schedule {
-            threads.push(step.thread)?;
-        }
-        let (halfway, is_shown) = shown_now(self.rt.alloc(), &world, threads)?;
+    fn drain(&mut self, world: &mut World, ahead: &Ahead, schedule: &[Step]) -> Result<(), Fail> {
+        let is_kept = refuses(self.rt.alloc(), world, ahead)?;
+        self.must_be(
+            is_kept,
+            "a step that can't be made is refused, and changes nothing",
+            schedule,
+        );
+        let threads = threads_of(self.rt.alloc(), schedule)?;
+        let (halfway, is_shown) = shown_now(self.rt.alloc(), world, threads)?;
+        let is_bounded = self.is_drained(world);
+        self.must_be(
+            is_shown && is_bounded,
+            "a drain is within its bound, and leaves nothing to do",
+            schedule,
+        );
+        let broken = broken(self.made(), world, KEYS, &halfway)?;
+        self.must_hold(broken, schedule);
+        Ok(())
+    }
+
+    /// Drains a world, and answers whether that was within its bound and left nothing to do.
+    fn is_drained(&mut self, world: &mut World) -> bool {
         let bound = world.bound();
         let steps = world.drain();
         let share = steps.saturating_mul(1000).checked_div(bound).unwrap_or(0);
         self.found.share = self.found.share.max(share);
-        if !is_shown || steps > bound || world.drain() != 0 {
-            self.must_hold(
-                Some("a drain is within its bound, and leaves nothing to do"),
-                schedule,
-            );
-        }
-        let made = Made {
+        steps <= bound && world.drain() == 0
+    }
+
+    /// What its worlds are made with.
+    fn made(&self) -> Made<'p, Change> {
+        Made {
             alloc: self.rt.alloc(),
             shards: 2,
             pairs: self.two.pairs,
             programs: self.two.programs,
-        };
-        self.must_hold(broken(made, &world, KEYS, &halfway)?, schedule);
-        Ok(())
+        }
     }
 
     /// Makes the thread's step behind a schedule, and a fair one too where it stores in the section of a release.
@@ -177,7 +205,7 @@ impl<'r, 'p, R: AllocGlobal + Abort> Explorer<'r, 'p, R> {
         thread: usize,
         longer: &mut Vec<Vec<Step>>,
     ) -> Result<(), Fail> {
-        let world = self.world_behind(schedule)?;
+        let mut world = self.world_behind(schedule)?;
         if !world.can_move(thread) {
             return Ok(());
         }
@@ -186,27 +214,43 @@ impl<'r, 'p, R: AllocGlobal + Abort> Explorer<'r, 'p, R> {
             thread,
             fair: false,
         };
-        self.make(world, schedule, plain, longer)?;
+        self.make(&mut world, schedule, plain, longer)?;
         if stores {
-            let world = self.world_behind(schedule)?;
-            self.make(world, schedule, Step { thread, fair: true }, longer)?;
+            self.make_fairly(schedule, thread, longer)?;
         }
         Ok(())
+    }
+
+    /// Makes a fair step of the thread behind a schedule.
+    fn make_fairly(
+        &mut self,
+        schedule: &[Step],
+        thread: usize,
+        longer: &mut Vec<Vec<Step>>,
+    ) -> Result<(), Fail> {
+        let mut world = self.world_behind(schedule)?;
+        self.make(&mut world, schedule, Step { thread, fair: true }, longer)
     }
 
     /// Makes a step behind a schedule.
     fn make(
         &mut self,
-        world: World,
+        world: &mut World,
         schedule: &[Step],
         step: Step,
         longer: &mut Vec<Vec<Step>>,
     ) -> Result<(), Fail> {
-        let mut world = world;
         world.run(&[step])?;
         let mut whole = Vec::from_slice(self.rt.alloc(), schedule)?;
         whole.push(step)?;
         self.look_at(world, whole, longer)
+    }
+
+    /// Ends the test where a rule doesn't hold behind a schedule.
+    fn must_be(&self, holds: bool, rule: &'static str, schedule: &[Step]) {
+        if !holds {
+            self.must_hold(Some(rule), schedule);
+        }
     }
 
     /// Ends the test where a rule is broken behind a schedule.

@@ -4,6 +4,7 @@
 
 use crate::explorer::{Explorer, Found, Two};
 use crate::worlds::{copy_of, programs_of, shard_of, world_of};
+use mapworld_text::Asked;
 use std::process::Abort;
 use std::test::Fail;
 
@@ -340,8 +341,39 @@ fn sum(found: Found, more: Found) -> Found {
     }
 }
 
-/// Makes all schedules of each of the first programs with each of the others, and prints how many states there are.
-/// Were there fewer than that number, different ones might have been taken for one.
+/// Makes all schedules of two programs.
+fn explore_both<R: AllocGlobal + Abort>(
+    rt: &R,
+    pairs: &[(u64, u64)],
+    first: &[Asked],
+    other: &[Asked],
+) -> Result<Found, Fail> {
+    let programs = vec![in rt.alloc(); copy_of(rt.alloc(), first)?, copy_of(rt.alloc(), other)?]?;
+    let two = Two {
+        pairs,
+        programs: &programs,
+    };
+    Explorer::explore(rt, two)
+}
+
+/// Makes all schedules of each of the first programs with each of the others.
+fn explore_each<R: AllocGlobal + Abort>(
+    rt: &R,
+    pairs: &[(u64, u64)],
+    firsts: &[Vec<Asked>],
+    others: &[Vec<Asked>],
+) -> Result<Found, Fail> {
+    let mut found = Found::NOTHING;
+    for first in firsts {
+        for other in others {
+            found = sum(found, explore_both(rt, pairs, first, other)?);
+        }
+    }
+    Ok(found)
+}
+
+/// The same of texts; and prints how many states there are. Were there fewer than that number, different ones might
+/// have been taken for one.
 fn explore(
     rt: &(impl AllocGlobal + Abort + Print),
     pairs: &[(u64, u64)],
@@ -349,25 +381,13 @@ fn explore(
     others: &str,
     least: u64,
 ) -> Result<(), Fail> {
-    let alloc = rt.alloc();
-    let firsts = programs_of(alloc, firsts)?;
-    let others = programs_of(alloc, others)?;
-    let mut found = Found::NOTHING;
-    for first in &firsts {
-        for other in &others {
-            let programs = vec![in alloc; copy_of(alloc, first)?, copy_of(alloc, other)?]?;
-            let two = Two {
-                pairs,
-                programs: &programs,
-            };
-            found = sum(found, Explorer::explore(rt, two)?);
-        }
-    }
+    let firsts = programs_of(rt.alloc(), firsts)?;
+    let others = programs_of(rt.alloc(), others)?;
     let Found {
         states,
         ends,
         share,
-    } = found;
+    } = explore_each(rt, pairs, &firsts, &others)?;
     assert!(rt; states >= least && ends > 0, "{states} states, {ends} ends");
     println!(rt; "{states} states, {ends} ends, at most {share} thousandths of a bound")?;
     Ok(())

@@ -32,20 +32,23 @@ pub fn copy_of(alloc: Global, program: &[Asked]) -> Result<Vec<Asked>, AllocErro
     Ok(copy)
 }
 
+/// The same programs once more.
+fn copies_of(alloc: Global, programs: &[Vec<Asked>]) -> Result<Vec<Vec<Asked>>, AllocError> {
+    let mut copies = Vec::with_capacity(alloc, programs.len())?;
+    for program in programs {
+        copies.push(copy_of(alloc, program)?)?;
+    }
+    Ok(copies)
+}
+
 /// A world of two shards that begins with these pairs, and has a thread for each of the programs.
 pub fn world_of(
     alloc: Global,
     pairs: &[(u64, u64)],
     programs: &[Vec<Asked>],
 ) -> Result<World, Fail> {
-    let mut first = Vec::with_capacity(alloc, pairs.len())?;
-    for pair in pairs {
-        first.push(*pair)?;
-    }
-    let mut asked = Vec::with_capacity(alloc, programs.len())?;
-    for program in programs {
-        asked.push(copy_of(alloc, program)?)?;
-    }
+    let first = Vec::from_slice(alloc, pairs)?;
+    let asked = copies_of(alloc, programs)?;
     Ok(MapWorld::new(alloc, 2, SpreadState, first, asked)?)
 }
 
@@ -65,20 +68,26 @@ pub fn shown_now(
     world: &World,
     schedule: Vec<usize>,
 ) -> Result<(Halfway, bool), AllocError> {
+    let (replies, is_shown) = replies_now(alloc, world)?;
+    let pairs = contents(alloc, world)?;
+    let halfway = Halfway {
+        schedule,
+        pairs,
+        replies,
+        blocks: world.blocks().len(),
+    };
+    Ok((halfway, is_shown))
+}
+
+/// How many replies there are, and whether each block shows the end of its call exactly where that is answered.
+fn replies_now(alloc: Global, world: &World) -> Result<(usize, bool), AllocError> {
     let replies = replies_of(alloc, world.replies())?;
     let seen = Seen {
         blocks: world.blocks(),
         replies: &replies,
         routes: &[],
     };
-    let is_shown = shows_ends(seen);
-    let halfway = Halfway {
-        schedule,
-        pairs: contents(alloc, world)?,
-        replies: replies.len(),
-        blocks: world.blocks().len(),
-    };
-    Ok((halfway, is_shown))
+    Ok((replies.len(), shows_ends(seen)))
 }
 
 /// Whether every call is answered, every word is 0 and nobody waits.
@@ -101,10 +110,7 @@ pub fn broken(
     if !is_at_rest(world, made.calls()) {
         return Ok(Some("at its end all is answered and nobody waits"));
     }
-    let mut routes = Vec::new(made.alloc);
-    for key in 0..keys {
-        routes.push(world.shard_of(&key))?;
-    }
+    let routes = routes_of(made.alloc, world, keys)?;
     let replies = replies_of(made.alloc, world.replies())?;
     let pairs = contents(made.alloc, world)?;
     let seen = Seen {
@@ -112,7 +118,27 @@ pub fn broken(
         replies: &replies,
         routes: &routes,
     };
-    let at_end = broken_at_end(made, seen, &pairs, world.steps(), &halfway.schedule)?;
+    broken_by_what_is_seen(made, seen, &pairs, world.steps(), halfway)
+}
+
+/// The shard of each key below that number.
+fn routes_of(alloc: Global, world: &World, keys: u64) -> Result<Vec<usize>, AllocError> {
+    let mut routes = Vec::new(alloc);
+    for key in 0..keys {
+        routes.push(world.shard_of(&key))?;
+    }
+    Ok(routes)
+}
+
+/// The rule that is broken by what is seen of a world at its end, behind so many steps.
+fn broken_by_what_is_seen(
+    made: Made<'_, Change>,
+    seen: Seen<'_>,
+    pairs: &[(u64, u64)],
+    steps: u64,
+    halfway: &Halfway,
+) -> Result<Broken, AllocError> {
+    let at_end = broken_at_end(made, seen, pairs, steps, &halfway.schedule)?;
     if at_end.is_some() {
         return Ok(at_end);
     }
