@@ -40,13 +40,8 @@ pub enum Place {
     Take(u64),
 }
 
-/// The value that a guard lends.
-fn told<Q: RawRwLock, A: Allocator>(guard: RefMut<'_, '_, u64, u64, Q, A>) -> Answer
-where
-    Q::Runtime: Wait,
-{
-    Answer::Number(*guard)
-}
+/// The place of a key of a map of numbers.
+type At<'m, 'd, Q, A> = Entry<'m, 'd, u64, u64, Q, A>;
 
 /// Enters the place of a key.
 pub fn enter<S: BuildHasher, Q: RawRwLock, A: Allocator + Clone>(
@@ -58,97 +53,118 @@ pub fn enter<S: BuildHasher, Q: RawRwLock, A: Allocator + Clone>(
 where
     Q::Runtime: Wait,
 {
-    match place {
-        Place::Insert(_) | Place::InsertEntry(_) | Place::IntoKey => {
-            enter_any(map, key, place, me)
-        }
-        Place::VacantInsert(_) | Place::VacantInsertEntry(_) => {
-            enter_vacant(map, key, place, me)
-        }
-        Place::Get | Place::Replace(_) | Place::ReplaceEntry(_) | Place::Take(_) => {
-            enter_occupied(map, key, place, me)
-        }
-        _ => enter_or_add(map, key, place, me),
+    match map.entry(key, me) {
+        Ok(entry) => enter_at(entry, key, place),
+        Err(key) => Answer::Refused(key),
     }
 }
 
-/// Enters a place by a call that adds a pair where none is.
-fn enter_or_add<S: BuildHasher, Q: RawRwLock, A: Allocator + Clone>(
-    map: &Numbers<S, Q, A>,
-    key: u64,
-    place: Place,
-    me: &mut Q::Party,
+/// Does at a place what is asked for.
+fn enter_at<Q: RawRwLock, A: Allocator>(entry: At<'_, '_, Q, A>, key: u64, place: Place) -> Answer
+where
+    Q::Runtime: Wait,
+{
+    match place {
+        Place::Insert(value) => told(entry.insert(value)),
+        Place::InsertEntry(value) => insert_and_stay(entry, key, value),
+        Place::IntoKey => Answer::Number(entry.into_key()),
+        Place::VacantInsert(_) | Place::VacantInsertEntry(_) => enter_vacant(entry, key, place),
+        Place::Get | Place::Replace(_) | Place::ReplaceEntry(_) | Place::Take(_) => {
+            enter_occupied(entry, place)
+        }
+        _ => add_at(entry, place),
+    }
+}
+
+/// The value that a guard lends.
+fn told<Q: RawRwLock, A: Allocator>(guard: RefMut<'_, '_, u64, u64, Q, A>) -> Answer
+where
+    Q::Runtime: Wait,
+{
+    Answer::Number(*guard)
+}
+
+/// The pair that a guard lends.
+fn told_pair<Q: RawRwLock, A: Allocator>(guard: RefMut<'_, '_, u64, u64, Q, A>) -> Answer
+where
+    Q::Runtime: Wait,
+{
+    Answer::Pair(*guard.key(), *guard.value())
+}
+
+/// Adds to the value that a guard lends.
+fn count_up<Q: RawRwLock, A: Allocator>(
+    mut guard: RefMut<'_, '_, u64, u64, Q, A>,
+    by: u64,
 ) -> Answer
 where
     Q::Runtime: Wait,
 {
-    let entry = match map.entry(key, me) {
-        Ok(entry) => entry,
-        Err(key) => return Answer::Refused(key),
-    };
+    *guard = guard.wrapping_add(by);
+    Answer::Number(*guard)
+}
+
+/// Puts a pair in where none is.
+fn add_at<Q: RawRwLock, A: Allocator>(entry: At<'_, '_, Q, A>, place: Place) -> Answer
+where
+    Q::Runtime: Wait,
+{
     match place {
         Place::OrInsert(value) => told(entry.or_insert(value)),
-        Place::OrInsertWith(value) => {
-            let guard = entry.or_insert_with(|| value);
-            Answer::Pair(*guard.key(), *guard.value())
-        }
-        Place::AddTo(by) => {
-            let mut guard = entry.or_insert(0);
-            *guard = guard.wrapping_add(by);
-            Answer::Number(*guard)
-        }
-        Place::AndModify(by, value) => {
-            let entry = entry.and_modify(|old| *old = old.wrapping_add(by));
-            told(entry.or_insert(value))
-        }
-        Place::OrTryInsertWith(error) => {
-            match entry.or_try_insert_with(|| Err::<u64, u64>(error)) {
-                Ok(guard) => told(guard),
-                Err(error) => Answer::Refused(error),
-            }
-        }
+        Place::OrInsertWith(value) => told_pair(entry.or_insert_with(|| value)),
+        Place::AddTo(by) => count_up(entry.or_insert(0), by),
+        Place::AndModify(by, value) => add_or_insert(entry, by, value),
+        Place::OrTryInsertWith(error) => try_to_add(entry, error),
         _ => told(entry.or_default()),
     }
 }
 
-/// Enters a place by a call that puts a pair in or gives the key.
-fn enter_any<S: BuildHasher, Q: RawRwLock, A: Allocator + Clone>(
-    map: &Numbers<S, Q, A>,
+/// Adds to a value that is there, and else puts the second in.
+fn add_or_insert<Q: RawRwLock, A: Allocator>(entry: At<'_, '_, Q, A>, by: u64, value: u64) -> Answer
+where
+    Q::Runtime: Wait,
+{
+    let entry = entry.and_modify(|old| *old = old.wrapping_add(by));
+    told(entry.or_insert(value))
+}
+
+/// Fails with an error where nothing is.
+fn try_to_add<Q: RawRwLock, A: Allocator>(entry: At<'_, '_, Q, A>, error: u64) -> Answer
+where
+    Q::Runtime: Wait,
+{
+    match entry.or_try_insert_with(|| Err::<u64, u64>(error)) {
+        Ok(guard) => told(guard),
+        Err(error) => Answer::Refused(error),
+    }
+}
+
+/// Puts a value in and stays at the pair.
+fn insert_and_stay<Q: RawRwLock, A: Allocator>(
+    entry: At<'_, '_, Q, A>,
     key: u64,
-    place: Place,
-    me: &mut Q::Party,
+    value: u64,
 ) -> Answer
 where
     Q::Runtime: Wait,
 {
-    let entry = match map.entry(key, me) {
-        Ok(entry) => entry,
-        Err(key) => return Answer::Refused(key),
-    };
-    match place {
-        Place::Insert(value) => told(entry.insert(value)),
-        Place::InsertEntry(value) => match entry.insert_entry(value) {
-            Ok(entry) => Answer::Number(*entry.get()),
-            Err(_) => Answer::Refused(key),
-        },
-        _ => Answer::Number(entry.into_key()),
+    match entry.insert_entry(value) {
+        Ok(entry) => Answer::Number(*entry.get()),
+        Err(_) => Answer::Refused(key),
     }
 }
 
 /// Enters a place where nothing is.
-fn enter_vacant<S: BuildHasher, Q: RawRwLock, A: Allocator + Clone>(
-    map: &Numbers<S, Q, A>,
+fn enter_vacant<Q: RawRwLock, A: Allocator>(
+    entry: At<'_, '_, Q, A>,
     key: u64,
     place: Place,
-    me: &mut Q::Party,
 ) -> Answer
 where
     Q::Runtime: Wait,
 {
-    let vacant = match map.entry(key, me) {
-        Ok(Entry::Vacant(vacant)) => vacant,
-        Ok(Entry::Occupied(_)) => return Answer::Flag(false),
-        Err(key) => return Answer::Refused(key),
+    let Entry::Vacant(vacant) = entry else {
+        return Answer::Flag(false);
     };
     match place {
         Place::VacantInsertEntry(value) => match vacant.insert_entry(value) {
@@ -161,19 +177,12 @@ where
 }
 
 /// Enters a place where a pair is.
-fn enter_occupied<S: BuildHasher, Q: RawRwLock, A: Allocator + Clone>(
-    map: &Numbers<S, Q, A>,
-    key: u64,
-    place: Place,
-    me: &mut Q::Party,
-) -> Answer
+fn enter_occupied<Q: RawRwLock, A: Allocator>(entry: At<'_, '_, Q, A>, place: Place) -> Answer
 where
     Q::Runtime: Wait,
 {
-    let mut occupied = match map.entry(key, me) {
-        Ok(Entry::Occupied(occupied)) => occupied,
-        Ok(Entry::Vacant(_)) => return Answer::Absent,
-        Err(key) => return Answer::Refused(key),
+    let Entry::Occupied(mut occupied) = entry else {
+        return Answer::Absent;
     };
     match place {
         Place::Replace(value) => Answer::Number(occupied.insert(value)),

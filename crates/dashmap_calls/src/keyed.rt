@@ -1,6 +1,7 @@
 //! Calls on one key.
 
 use crate::calls::{Answer, Numbers};
+use dashmap_map::mapref::one::RefMut;
 use lock_api_raw::RawRwLock;
 use std::alloc::Allocator;
 use std::hash::BuildHasher;
@@ -114,11 +115,20 @@ where
     Q::Runtime: Wait,
 {
     match map.get_mut(&key, me) {
-        Some(mut guard) => {
-            let old = *guard;
-            *guard = value;
-            Answer::Number(old)
-        }
+        Some(guard) => exchange(guard, value),
         None => Answer::Absent,
     }
+}
+
+/// Writes a value by a guard, and answers the one that was there.
+pub(crate) fn exchange<Q: RawRwLock, A: Allocator>(
+    mut guard: RefMut<'_, '_, u64, u64, Q, A>,
+    value: u64,
+) -> Answer
+where
+    Q::Runtime: Wait,
+{
+    let old = *guard;
+    *guard = value;
+    Answer::Number(old)
 }

@@ -1,8 +1,10 @@
 //! Calls that don't wait, beside what holds a shard meanwhile.
 
 use crate::calls::{Answer, Numbers};
+use crate::keyed::exchange;
 use dashmap_guard::TryResult;
 use dashmap_iter::LendingWalks;
+use dashmap_map::mapref::one::RefMut;
 use lock_api_raw::RawRwLock;
 use std::alloc::Allocator;
 use std::hash::BuildHasher;
@@ -46,25 +48,55 @@ where
     Q::Runtime: Wait,
 {
     match call {
-        Try::Get(key) => match map.try_get(&key) {
-            TryResult::Present(guard) => Answer::Number(*guard),
-            TryResult::Absent => Answer::Absent,
-            TryResult::Locked => Answer::Locked,
-        },
-        Try::GetMut(key, value) => match map.try_get_mut(&key) {
-            TryResult::Present(mut guard) => {
-                let old = *guard;
-                *guard = value;
-                Answer::Number(old)
-            }
-            TryResult::Absent => Answer::Absent,
-            TryResult::Locked => Answer::Locked,
-        },
-        Try::Entry(key) => match map.try_entry(key) {
-            Ok(Some(entry)) => Answer::Number(entry.into_key()),
-            Ok(None) => Answer::Locked,
-            Err(key) => Answer::Refused(key),
-        },
+        Try::Get(key) => try_to_read(map, key),
+        Try::GetMut(key, value) => try_to_write(map, key, value),
+        Try::Entry(key) => try_to_enter(map, key),
+    }
+}
+
+/// The value that a shared guard lends, if it is had at once.
+fn try_to_read<S: BuildHasher, Q: RawRwLock, A: Allocator>(
+    map: &Numbers<S, Q, A>,
+    key: u64,
+) -> Answer
+where
+    Q::Runtime: Wait,
+{
+    match map.try_get(&key) {
+        TryResult::Present(guard) => Answer::Number(*guard),
+        TryResult::Absent => Answer::Absent,
+        TryResult::Locked => Answer::Locked,
+    }
+}
+
+/// Writes a value by an exclusive guard, if it is had at once.
+fn try_to_write<S: BuildHasher, Q: RawRwLock, A: Allocator>(
+    map: &Numbers<S, Q, A>,
+    key: u64,
+    value: u64,
+) -> Answer
+where
+    Q::Runtime: Wait,
+{
+    match map.try_get_mut(&key) {
+        TryResult::Present(guard) => exchange(guard, value),
+        TryResult::Absent => Answer::Absent,
+        TryResult::Locked => Answer::Locked,
+    }
+}
+
+/// The key of a place, if it is had at once.
+fn try_to_enter<S: BuildHasher, Q: RawRwLock, A: Allocator + Clone>(
+    map: &Numbers<S, Q, A>,
+    key: u64,
+) -> Answer
+where
+    Q::Runtime: Wait,
+{
+    match map.try_entry(key) {
+        Ok(Some(entry)) => Answer::Number(entry.into_key()),
+        Ok(None) => Answer::Locked,
+        Err(key) => Answer::Refused(key),
     }
 }
 
@@ -79,32 +111,84 @@ where
     Q::Runtime: Wait,
 {
     match hold {
-        Hold::Reader(key) => match map.get(&key, me) {
-            Some(_guard) => call_at_once(map, call),
-            None => Answer::Absent,
-        },
-        Hold::Writer(key) => match map.get_mut(&key, me) {
-            Some(_guard) => call_at_once(map, call),
-            None => Answer::Absent,
-        },
-        Hold::Place(key) => match map.entry(key, me) {
-            Ok(_entry) => call_at_once(map, call),
-            Err(key) => Answer::Refused(key),
-        },
-        Hold::Added(key) => match map.entry(key, me) {
-            Ok(entry) => {
-                let _guard = entry.or_insert(0);
-                call_at_once(map, call)
-            }
-            Err(key) => Answer::Refused(key),
-        },
+        Hold::Reader(key) => call_beside_reader(map, key, call, me),
+        Hold::Writer(key) => call_beside_writer(map, key, call, me),
+        Hold::Place(key) => call_beside_place(map, key, call, me),
+        Hold::Added(key) => call_beside_added(map, key, call, me),
         Hold::LetDown(key, value) => call_beside_one_let_down(map, key, value, call, me),
         Hold::Item(value) => call_beside_item(map, value, call, me),
         Hold::Walk(steps) => call_beside_writing_walk(map, steps, call, me),
     }
 }
 
-/// Makes the call beside a guard that wrote a value and was let down. The guard has to lend what it wrote.
+/// Makes the call beside a guard that reads.
+fn call_beside_reader<S: BuildHasher, Q: RawRwLock, A: Allocator + Clone>(
+    map: &Numbers<S, Q, A>,
+    key: u64,
+    call: Try,
+    me: &mut Q::Party,
+) -> Answer
+where
+    Q::Runtime: Wait,
+{
+    match map.get(&key, me) {
+        Some(_guard) => call_at_once(map, call),
+        None => Answer::Absent,
+    }
+}
+
+/// Makes the call beside a guard that writes.
+fn call_beside_writer<S: BuildHasher, Q: RawRwLock, A: Allocator + Clone>(
+    map: &Numbers<S, Q, A>,
+    key: u64,
+    call: Try,
+    me: &mut Q::Party,
+) -> Answer
+where
+    Q::Runtime: Wait,
+{
+    match map.get_mut(&key, me) {
+        Some(_guard) => call_at_once(map, call),
+        None => Answer::Absent,
+    }
+}
+
+/// Makes the call beside a place.
+fn call_beside_place<S: BuildHasher, Q: RawRwLock, A: Allocator + Clone>(
+    map: &Numbers<S, Q, A>,
+    key: u64,
+    call: Try,
+    me: &mut Q::Party,
+) -> Answer
+where
+    Q::Runtime: Wait,
+{
+    match map.entry(key, me) {
+        Ok(_entry) => call_at_once(map, call),
+        Err(key) => Answer::Refused(key),
+    }
+}
+
+/// Makes the call beside the guard of a pair that was put in.
+fn call_beside_added<S: BuildHasher, Q: RawRwLock, A: Allocator + Clone>(
+    map: &Numbers<S, Q, A>,
+    key: u64,
+    call: Try,
+    me: &mut Q::Party,
+) -> Answer
+where
+    Q::Runtime: Wait,
+{
+    match map.entry(key, me) {
+        Ok(entry) => {
+            let _guard = entry.or_insert(0);
+            call_at_once(map, call)
+        }
+        Err(key) => Answer::Refused(key),
+    }
+}
+
+/// Makes the call beside a guard that wrote a value and was let down.
 fn call_beside_one_let_down<S: BuildHasher, Q: RawRwLock, A: Allocator + Clone>(
     map: &Numbers<S, Q, A>,
     key: u64,
@@ -115,9 +199,22 @@ fn call_beside_one_let_down<S: BuildHasher, Q: RawRwLock, A: Allocator + Clone>(
 where
     Q::Runtime: Wait,
 {
-    let Some(mut guard) = map.get_mut(&key, me) else {
-        return Answer::Absent;
-    };
+    match map.get_mut(&key, me) {
+        Some(guard) => let_down_and_call(map, guard, value, call),
+        None => Answer::Absent,
+    }
+}
+
+/// Writes a value by a guard, lets it down and makes the call. The guard has to lend what it wrote.
+fn let_down_and_call<S: BuildHasher, Q: RawRwLock, A: Allocator + Clone>(
+    map: &Numbers<S, Q, A>,
+    mut guard: RefMut<'_, '_, u64, u64, Q, A>,
+    value: u64,
+    call: Try,
+) -> Answer
+where
+    Q::Runtime: Wait,
+{
     *guard = value.wrapping_sub(1);
     let lent = guard.value_mut();
     *lent = lent.wrapping_add(1);
