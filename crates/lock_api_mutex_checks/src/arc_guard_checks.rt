@@ -1,7 +1,7 @@
 //! Checks of guards that own an Arc of their lock, whatever lock it is. An error is the number of the step that went
 //! wrong.
 
-use crate::guard_checks::step;
+use crate::guard_checks::steps;
 use crate::seen::{Look, Seen, is_free};
 use lock_api::ArcGuard;
 use lock_api_guards::{FairHold, HasValue, HasValueMut, Hold, WriteHold};
@@ -61,9 +61,12 @@ where
     let let_go_fairly = ArcGuard::unlocked_fair(guard, party, || is_free(lock));
     let again_fairly = lock.look();
     ArcGuard::bump(guard, party);
-    step(1, let_go)?;
-    step(2, again == held)?;
-    step(3, let_go_fairly)?;
-    step(4, again_fairly == held)?;
-    step(5, lock.look() == held)
+    let bumped = lock.look();
+    steps(&[
+        let_go,
+        again == held,
+        let_go_fairly,
+        again_fairly == held,
+        bumped == held,
+    ])
 }

@@ -17,6 +17,16 @@ pub(crate) fn step(number: u8, holds: bool) -> Result<(), u8>
     if holds { Ok(()) } else { Err(number) }
 }
 
+/// Goes on where each step is right, and else says at which it was not. They are numbered from 1.
+pub(crate) fn steps(right: &[bool]) -> Result<(), u8> {
+    let mut number = 0u8;
+    for holds in right {
+        number = number.saturating_add(1);
+        step(number, *holds)?;
+    }
+    Ok(())
+}
+
 /// The value of the locks whose guards are narrowed.
 pub type Pair = (Option<u64>, u64);
 
@@ -239,12 +249,14 @@ where
     let again_fairly = lock.look();
     Guard::bump(guard, party);
     let bumped = lock.look();
-    step(1, let_go)?;
-    step(2, again == held)?;
-    step(3, let_go_fairly)?;
-    step(4, again_fairly == held)?;
-    step(5, bumped == held)?;
-    step(6, lends(guard, 5))
+    steps(&[
+        let_go,
+        again == held,
+        let_go_fairly,
+        again_fairly == held,
+        bumped == held,
+        lends(guard, 5),
+    ])
 }
 
 /// Whether Debug prints this text.

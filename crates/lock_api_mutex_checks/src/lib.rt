@@ -16,4 +16,4 @@ mod wrong;
 
 pub use moments::{moment, short};
 pub use seen::{Look, Seen, is_alone, is_free, is_read};
-pub use wrong::{Wrong, expect, expect_all};
+pub use wrong::{Wrong, expect, expect_all, first_wrong};

@@ -12,7 +12,7 @@ use crate::guard_checks::{
 use crate::moments::{moment, short};
 use crate::raw_checks::TURNS;
 use crate::seen::{Look, Seen, is_alone, is_free};
-use crate::wrong::{Wrong, expect, expect_all};
+use crate::wrong::{Wrong, expect, expect_all, first_wrong};
 use lock_api::{ArcGuard, Guard, Mutex};
 use lock_api_guards::{
     Access, ArcHold, FairHold, HasValue, HasValueMut, Lender, MutexHold, WriteHold,
@@ -286,7 +286,7 @@ where
     expect(mutex.into_inner() == 2_000, "two threads add up to 2,000")
 }
 
-/// Each check here that asks for no clock, one after the other: the first that finds something wrong says so.
+/// Each check here that asks for no clock, one after the other. Where some find something wrong, the first says so.
 pub fn all<R: RawMutexFair + MakeLock<S> + Drop + Sync, T: Threads + Sync, A: Allocator + Copy, S>(
     rt: &T,
     alloc: A,
@@ -299,11 +299,13 @@ where
     R::Party: Send,
     R::Runtime: Wait,
 {
-    admits_one::<R, S>(source, one)?;
-    keeps_its_value::<R, S>(source, one)?;
-    unlocks_for_a_while::<R, S>(source, one)?;
-    narrows::<R, S>(source, one)?;
-    prints::<R, A, S>(alloc, source, one)?;
-    owns_an_arc::<R, A, S>(alloc, source, one)?;
-    excludes::<R, T, S>(rt, source, one, other)
+    first_wrong(&[
+        admits_one::<R, S>(source, one),
+        keeps_its_value::<R, S>(source, one),
+        unlocks_for_a_while::<R, S>(source, one),
+        narrows::<R, S>(source, one),
+        prints::<R, A, S>(alloc, source, one),
+        owns_an_arc::<R, A, S>(alloc, source, one),
+        excludes::<R, T, S>(rt, source, one, other),
+    ])
 }

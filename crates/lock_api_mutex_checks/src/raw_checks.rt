@@ -2,7 +2,7 @@
 //!
 //! Nothing but the raw lock keeps the two apart here. A guard would take a std lock too.
 
-use crate::wrong::{Wrong, expect};
+use crate::wrong::{Wrong, expect, expect_all};
 use lock_api_raw::{MakeLock, RawMutex, RawRwLock};
 use std::sync::Wait;
 use std::sync::atomic::{AtomicU64, Ordering};
@@ -98,6 +98,8 @@ where
         || counts_and_reads(&raw, &count, other),
     );
     let total = count.load(Ordering::SeqCst);
-    expect(total == 2_000, "two threads count to 2,000")?;
-    expect(stayed && stayed_too, "nobody writes beside a reader")
+    expect_all(&[
+        (total == 2_000, "two threads count to 2,000"),
+        (stayed & stayed_too, "nobody writes beside a reader"),
+    ])
 }

@@ -10,7 +10,7 @@ use crate::guard_checks::{
 };
 use crate::moments::{moment, short};
 use crate::seen::{Look, Seen, is_alone, is_free};
-use crate::wrong::{Wrong, expect_all};
+use crate::wrong::{Wrong, expect_all, first_wrong};
 use lock_api::{ArcGuard, Guard, ReentrantArcFault, ReentrantMutex};
 use lock_api_guards::{Access, ArcHold, FairHold, HasValue, Hold, Lender, ReentrantHold};
 use lock_api_raw::{GetThreadId, MakeLock, RawMutex, RawMutexFair, RawMutexTimed, ReadersFull};
@@ -367,7 +367,7 @@ where
     ])
 }
 
-/// Each check here that asks for no clock, one after the other: the first that finds something wrong says so.
+/// Each check here that asks for no clock, one after the other. Where some find something wrong, the first says so.
 pub fn all<
     R: RawMutexFair + MakeLock<S> + Drop,
     G: GetThreadId<Party = R::Party> + Drop,
@@ -378,9 +378,11 @@ where
     S: Copy,
     R::Runtime: Wait,
 {
-    nests::<R, G, A, S>(alloc, source, one, other)?;
-    nests_by_borrow::<R, G, S>(source, one, other)?;
-    lends_by_borrow::<R, G, A, S>(alloc, source, one)?;
-    unlocks_for_a_while::<R, G, A, S>(alloc, source, one)?;
-    prints::<R, G, A, S>(alloc, source, one)
+    first_wrong(&[
+        nests::<R, G, A, S>(alloc, source, one, other),
+        nests_by_borrow::<R, G, S>(source, one, other),
+        lends_by_borrow::<R, G, A, S>(alloc, source, one),
+        unlocks_for_a_while::<R, G, A, S>(alloc, source, one),
+        prints::<R, G, A, S>(alloc, source, one),
+    ])
 }

@@ -7,7 +7,7 @@ use std::alloc::AllocError;
 use std::fmt;
 
 /// What a check found otherwise than it must be, in words, or why it could not be made.
-#[derive(Debug, Drop)]
+#[derive(Clone, Copy, Debug)]
 pub struct Wrong {
     /// What it is about.
     pub what: &'static str,
@@ -30,6 +30,17 @@ pub fn expect(holds: bool, what: &'static str) -> Result<(), Wrong>
 pub fn expect_all(steps: &[(bool, &'static str)]) -> Result<(), Wrong> {
     for (right, what) in steps {
         expect(*right, *what)?;
+    }
+    Ok(())
+}
+
+/// Goes on where none of the checks has found something wrong, and else says what the first has found. All of them are
+/// made before.
+pub fn first_wrong(found: &[Result<(), Wrong>]) -> Result<(), Wrong> {
+    for check in found {
+        if check.is_err() {
+            return *check;
+        }
     }
     Ok(())
 }
