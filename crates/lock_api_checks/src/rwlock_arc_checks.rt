@@ -11,7 +11,9 @@ use lock_api_mutex_checks::arc_guard_checks::{
     is_refused, lends_to_closures, unlocks_an_arc_for_a_while, writes_by_closures,
 };
 use lock_api_mutex_checks::guard_checks::shows_both;
-use lock_api_mutex_checks::{Look, Seen, Wrong, expect_all, is_alone, is_free, is_read};
+use lock_api_mutex_checks::{
+    Look, Seen, Wrong, expect_all, first_wrong, is_alone, is_free, is_read,
+};
 use lock_api_raw::{MakeLock, NoMemory, RawRwLock, RawRwLockDowngrade, RawRwLockFair};
 use std::alloc::Allocator;
 use std::sync::{Arc, Wait};
@@ -202,7 +204,7 @@ where
     wrote & is_read(lock) & lends_to_closures(&reader, 7)
 }
 
-/// Each check here, one after the other: the first that finds something wrong says so.
+/// Each check here, one after the other. Where some find something wrong, the first says so.
 pub fn all<R: RawRwLockFair + RawRwLockDowngrade + MakeLock<S> + Drop, A: Allocator + Copy, S>(
     alloc: A,
     source: S,
@@ -212,7 +214,9 @@ where
     S: Copy,
     R::Runtime: Wait,
 {
-    owns_an_arc::<R, A, S>(alloc, source, party)?;
-    unlocks_for_a_while::<R, A, S>(alloc, source, party)?;
-    downgrades::<R, A, S>(alloc, source)
+    first_wrong(&[
+        owns_an_arc::<R, A, S>(alloc, source, party),
+        unlocks_for_a_while::<R, A, S>(alloc, source, party),
+        downgrades::<R, A, S>(alloc, source),
+    ])
 }

@@ -11,7 +11,7 @@ use lock_api_mutex_checks::guard_checks::{
     reads_step_by_step, shows, unlocks_for_a_while, writes,
 };
 use lock_api_mutex_checks::raw_checks::TURNS;
-use lock_api_mutex_checks::{Look, Seen, Wrong, expect, expect_all, is_free, is_read};
+use lock_api_mutex_checks::{Look, Seen, Wrong, expect, expect_all, first_wrong, is_free, is_read};
 use lock_api_raw::{MakeLock, RawRwLock, RawRwLockDowngrade, RawRwLockFair};
 use std::alloc::Allocator;
 use std::sync::Wait;
@@ -89,6 +89,26 @@ where
     Ok(())
 }
 
+/// How a lock shows itself that admits readers or a writer.
+const READERS_OR_A_WRITER: &[(Holder, Seen, &str)] = &[
+    (Holder::Nobody, Seen::Free, "a new lock is free"),
+    (Holder::Reader, Seen::Read, "beside a reader"),
+    (Holder::Nobody, Seen::Free, "a dropped read guard releases"),
+    (Holder::Writer, Seen::Alone, "beside a writer"),
+    (Holder::Nobody, Seen::Free, "a dropped write guard releases"),
+    (
+        Holder::TryingReader,
+        Seen::Read,
+        "beside a reader that tried",
+    ),
+    (
+        Holder::TryingWriter,
+        Seen::Alone,
+        "beside a writer that tried",
+    ),
+    (Holder::Nobody, Seen::Free, "a guard of a try releases"),
+];
+
 /// Beside a reader there are readers and no writer, and beside a writer nobody.
 pub fn admits_readers_or_a_writer<R: RawRwLock + MakeLock<S> + Drop, S>(
     source: S,
@@ -98,29 +118,19 @@ where
     R::Runtime: Wait,
 {
     let lock = RwLock::<R, u64>::new(source, 4, 5)?;
-    shows_each(
-        &lock,
-        party,
-        &[
-            (Holder::Nobody, Seen::Free, "a new lock is free"),
-            (Holder::Reader, Seen::Read, "beside a reader"),
-            (Holder::Nobody, Seen::Free, "a dropped read guard releases"),
-            (Holder::Writer, Seen::Alone, "beside a writer"),
-            (Holder::Nobody, Seen::Free, "a dropped write guard releases"),
-            (
-                Holder::TryingReader,
-                Seen::Read,
-                "beside a reader that tried",
-            ),
-            (
-                Holder::TryingWriter,
-                Seen::Alone,
-                "beside a writer that tried",
-            ),
-            (Holder::Nobody, Seen::Free, "a guard of a try releases"),
-        ],
-    )
+    shows_each(&lock, party, READERS_OR_A_WRITER)
 }
+
+/// How one of two readers does.
+const TWO_READERS: &[(Holder, Seen, &str)] = &[
+    (Holder::TwoReaders, Seen::Full, "no third reader of two"),
+    (
+        Holder::Reader,
+        Seen::Read,
+        "one reader leaves room for another",
+    ),
+    (Holder::Nobody, Seen::Free, "the last reader's end releases"),
+];
 
 /// A lock of two readers refuses the third, until one has gone.
 pub fn counts_its_readers<R: RawRwLock + MakeLock<S> + Drop, S>(
@@ -131,19 +141,7 @@ where
     R::Runtime: Wait,
 {
     let lock = RwLock::<R, u64>::new(source, 2, 5)?;
-    shows_each(
-        &lock,
-        party,
-        &[
-            (Holder::TwoReaders, Seen::Full, "no third reader of two"),
-            (
-                Holder::Reader,
-                Seen::Read,
-                "one reader leaves room for another",
-            ),
-            (Holder::Nobody, Seen::Free, "the last reader's end releases"),
-        ],
-    )
+    shows_each(&lock, party, TWO_READERS)
 }
 
 /// What was written is what is read next, and what is taken out.
@@ -384,7 +382,7 @@ where
     expect(lock.into_inner() == 2_000, "two threads add up to 2,000")
 }
 
-/// Each check here, one after the other: the first that finds something wrong says so.
+/// Each check here, one after the other. Where some find something wrong, the first says so.
 pub fn all<
     R: RawRwLockFair + RawRwLockDowngrade + MakeLock<S> + Drop + Sync,
     T: Threads + Sync,
@@ -396,15 +394,17 @@ where
     R::Party: Send,
     R::Runtime: Wait,
 {
-    admits_readers_or_a_writer::<R, S>(source, one)?;
-    counts_its_readers::<R, S>(source, one)?;
-    keeps_its_value::<R, S>(source, one)?;
-    unlocks_a_writer::<R, S>(source, one)?;
-    unlocks_a_reader::<R, S>(source, one)?;
-    downgrades::<R, S>(source, one)?;
-    narrows_a_writer::<R, S>(source, one)?;
-    narrows_a_reader::<R, S>(source, one)?;
-    prints::<R, A, S>(alloc, source, one)?;
-    prints_parts::<R, A, S>(alloc, source, one)?;
-    excludes::<R, T, S>(rt, source, one, other)
+    first_wrong(&[
+        admits_readers_or_a_writer::<R, S>(source, one),
+        counts_its_readers::<R, S>(source, one),
+        keeps_its_value::<R, S>(source, one),
+        unlocks_a_writer::<R, S>(source, one),
+        unlocks_a_reader::<R, S>(source, one),
+        downgrades::<R, S>(source, one),
+        narrows_a_writer::<R, S>(source, one),
+        narrows_a_reader::<R, S>(source, one),
+        prints::<R, A, S>(alloc, source, one),
+        prints_parts::<R, A, S>(alloc, source, one),
+        excludes::<R, T, S>(rt, source, one, other),
+    ])
 }

@@ -132,6 +132,25 @@ where
     Ok(())
 }
 
+/// How a lock answers that admits one upgradable guard.
+const ONE_UPGRADABLE: &[(Holder, Seen, bool, &str)] = &[
+    (Holder::Reader, Seen::Read, true, "beside a reader"),
+    (
+        Holder::Upgradable,
+        Seen::Read,
+        false,
+        "beside an upgradable guard",
+    ),
+    (
+        Holder::Nobody,
+        Seen::Free,
+        true,
+        "a dropped upgradable guard releases",
+    ),
+    (Holder::Writer, Seen::Alone, false, "beside a writer"),
+    (Holder::Nobody, Seen::Free, true, "each of them released"),
+];
+
 /// Beside an upgradable guard there are readers, and neither a writer nor another upgradable guard.
 pub fn admits_one<R: RawRwLockUpgrade + MakeLock<S> + Drop, S>(
     source: S,
@@ -141,30 +160,33 @@ where
     R::Runtime: Wait,
 {
     let lock = RwLock::<R, u64>::new(source, 4, 5)?;
-    shows_each(
-        &lock,
-        party,
-        &[
-            (Holder::Reader, Seen::Read, true, "beside a reader"),
-            (
-                Holder::Upgradable,
-                Seen::Read,
-                false,
-                "beside an upgradable guard",
-            ),
-            (
-                Holder::Nobody,
-                Seen::Free,
-                true,
-                "a dropped upgradable guard releases",
-            ),
-            (Holder::Writer, Seen::Alone, false, "beside a writer"),
-            (Holder::Nobody, Seen::Free, true, "each of them released"),
-        ],
-    )?;
+    shows_each(&lock, party, ONE_UPGRADABLE)?;
     let read = lends(&lock.upgradable_read(party), 5);
     expect(read, "an upgradable guard reads")
 }
+
+/// How one of two readers answers, an upgradable guard among them.
+const AMONG_READERS: &[(Holder, Seen, bool, &str)] = &[
+    (
+        Holder::UpgradableAndReader,
+        Seen::Full,
+        false,
+        "no third hold of two",
+    ),
+    (
+        Holder::Reader,
+        Seen::Read,
+        true,
+        "one reader leaves room for an upgradable guard",
+    ),
+    (
+        Holder::TwoReaders,
+        Seen::Full,
+        false,
+        "two readers of two leave none",
+    ),
+    (Holder::Nobody, Seen::Free, true, "the last end releases"),
+];
 
 /// An upgradable guard counts among the readers.
 pub fn counts_among_readers<R: RawRwLockUpgrade + MakeLock<S> + Drop, S>(
@@ -175,31 +197,7 @@ where
     R::Runtime: Wait,
 {
     let lock = RwLock::<R, u64>::new(source, 2, 5)?;
-    shows_each(
-        &lock,
-        party,
-        &[
-            (
-                Holder::UpgradableAndReader,
-                Seen::Full,
-                false,
-                "no third hold of two",
-            ),
-            (
-                Holder::Reader,
-                Seen::Read,
-                true,
-                "one reader leaves room for an upgradable guard",
-            ),
-            (
-                Holder::TwoReaders,
-                Seen::Full,
-                false,
-                "two readers of two leave none",
-            ),
-            (Holder::Nobody, Seen::Free, true, "the last end releases"),
-        ],
-    )
+    shows_each(&lock, party, AMONG_READERS)
 }
 
 /// An upgrade waits for readers to go, and a try of one gives the same guard back, still held.
