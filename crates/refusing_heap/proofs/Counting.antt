@@ -8,7 +8,8 @@ use base.Fml.{Lft, Share, ftrue, fsep, flft}
 use prog.Memory.{Memory}
 use prog.Routine.{Routine}
 use types.Logic.{Logic, sem}
-use types.Kit.{‵, raw, ◌⊛◌, some, later, ◌$◌, ◌∵◌, !, qed, move, keep, use1, split, join, pick, fjoin, feq_l, check, show, await, updating, now as at_once, done}
+use types.Kit.{‵, raw, ◌⊛◌, some, later, ◌$◌, ◌∵◌, !, qed, move, keep, use1, split, join, pick, fjoin, feq_l, check}
+use types.Kit.{show, await, updating, now as at_once, done}
 use contract.Monad.{Fun, fact}
 use denote.RattleType.{RattleType}
 use denote.Ref.{Bor, ShrRef, shr_vals}
@@ -36,14 +37,16 @@ module _ {M : Type 1} {𝓤 : Ura M} (𝓛 : Logic 𝓤) (mem : Memory → SProp
 
     pub takes : ent 𝓤 (sep 𝓤 (sem 𝓛 ((CountRef κ).own_val c (shr_vals c))) (A.lft κ q)) (Counts.pre call)
     takes =
-        qed 𝓛 (‵ ((CountRef κ).own_val c (shr_vals c)) ∷ ‵ (flft κ q) ∷ []) ∵ nothing ! $ move ! (1 ∷ 0 ∷ []) $ fjoin ! $
-        nothing ! $ move ! (2 ∷ 0 ∷ []) $ join ! $ join ! $ nothing ! $ move ! (1 ∷ []) $ done !
+        qed 𝓛 (‵ ((CountRef κ).own_val c (shr_vals c)) ∷ ‵ (flft κ q) ∷ []) ∵
+        nothing ! $ move ! (1 ∷ 0 ∷ []) $ fjoin ! $ nothing ! $ move ! (2 ∷ 0 ∷ []) $ join ! $ join ! $ nothing ! $ move ! (1 ∷ []) $ done !
 
     -- some answer, and the token
     pub gives : (v : Val) → ent 𝓤 (Counts.post call v) (H.⇛ (ex 𝓤 (λ (y : Bool). guard 𝓤 (v ≡ vbool y) (A.lft κ q))))
     gives v =
         qed 𝓛 (raw (Counts.post call v) ∷ []) ∵ updating ! $
-        use1 𝓛 (later (some (λ (y : Bool). ((‵ (flft κ q) ⊛ ‵ ftrue) ⊛ ‵ (bool.own_val y (v ∷ []))) ⊛
-        some (λ (ws : Unit {0} × Unit {0}). ‵ (fsep ftrue ftrue) ⊛ raw (fact 𝓤 ((growth : ℕ) × (y ≡ is_refused c.now.refusal growth))))))) (id⊢ 𝓤 _) $
+        use1 𝓛 (later (some (λ (y : Bool). ((‵ (flft κ q) ⊛ ‵ ftrue) ⊛ ‵ (bool.own_val y (v ∷ [])))
+        ⊛ some (λ (ws : Unit {0} × Unit {0}). ‵ (fsep ftrue ftrue)
+        ⊛ raw (fact 𝓤 ((growth : ℕ) × (y ≡ is_refused c.now.refusal growth))))))) (id⊢ 𝓤 _) $
         await ! tt $ pick ! (λ y. split ! $ split ! $ split ! $ move ! (2 ∷ []) $ feq_l ! (λ e.
-        at_once ! $ show ! (λ (z : Bool). guard 𝓤 (v ≡ vbool z) (A.lft κ q)) y $ check ! (ap only e) $ keep ! (0 ∷ []) $ done !))
+        at_once ! $ show ! (λ (z : Bool). guard 𝓤 (v ≡ vbool z) (A.lft κ q)) y $ check ! (ap only e) $
+        keep ! (0 ∷ []) $ done !))

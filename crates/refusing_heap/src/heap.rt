@@ -6,9 +6,9 @@ use std::alloc::{AllocError, Allocator};
 
 /// An allocator that passes each call on to the one that it stands on, but for the growths that it refuses.
 ///
-/// A growth is an allocation, or a reallocation by `grow`. A refused one answers `AllocError`, leaves a block that was to
-/// grow as it was, and doesn't reach the allocator below. A block that shrinks or is given back is passed on always.
-/// Blocks are those of the allocator below, and it is the one that a collection frees them by.
+/// A growth is an allocation, or a reallocation by `grow`. A refused one answers `AllocError`, leaves a block that was
+/// to grow as it was, and doesn't reach the allocator below. A block that shrinks or is given back is passed on always.
+/// Blocks are those of the allocator below.
 ///
 /// Collections take `&heap`, which is `Copy`, and count together. Threads may share it where they may share the
 /// allocator below. It never waits, and needs no memory of its own.

@@ -5,5 +5,6 @@ use denote.Param.Send.{Frees}
 use Rattle.core.specs.declared.alloc.Allocator.{Ghosts}
 use Rattle.refusing_heap.specs.contracts.heap.RefusingHeapAllocator.TheImpl.{ghosts}
 
-pub frees : (A : RattleType) (g : Ghosts A.Denot) (d drops : Dict) → Frees g g.dealloc_token → Frees (ghosts A g d drops) (ghosts A g d drops).dealloc_token
+pub frees : (A : RattleType) (g : Ghosts A.Denot) (d drops : Dict) → Frees g g.dealloc_token
+    → Frees (ghosts A g d drops) (ghosts A g d drops).dealloc_token
 frees A g d drops anywhere = record { frees = λ heap. anywhere.frees heap.inner }

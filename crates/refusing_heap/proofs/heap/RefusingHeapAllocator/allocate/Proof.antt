@@ -7,7 +7,8 @@ use mir.MapTy.{inst_fn}
 use base.Logic.{never, ent, ex, guard, fst∗, id⊢}
 use base.Fml.{Fml, ftrue, fsep, flft}
 use contract.Running.{tables}
-use types.Kit.{Item, ‵, raw, ◌⊛◌, some, later, given, at_ret, ◌$◌, ◌∵◌, !, qed, move, keep, use0, use1, use2, split, join, pick, learn, suffices, await, done}
+use types.Kit.{Item, ‵, raw, ◌⊛◌, some, later, given, at_ret, ◌$◌, ◌∵◌, !, qed, move, keep, use0, use1, use2, split}
+use types.Kit.{join, pick, learn, suffices, await, done}
 use types.Logic.{sem}
 use types.Part.{agg}
 use types.Run.{stop, fld, addr, lit, no_more, and_then, first, branches, skips, exec, returns, returns_within, enter}
@@ -42,7 +43,8 @@ allocate_spec 𝓤 𝓛 𝓜 𝓡 wired A laws g d drops met _ =
     let here : Fn = inst_fn args code.function in
     let end = f.ended A g d drops in
     let self : Slot 2 = RefOf (0 ∷ []) tt (plain (λ _. heap.the_row (param 0 A))) (λ _. tt) in
-    let stayed : Stays end.signature.params end.kept = (stay_dropped _ yes, (stay_dropped _ yes, (stay_dropped _ yes, tt))) in
+    let stayed : Stays end.signature.params end.kept =
+    (stay_dropped _ yes, (stay_dropped _ yes, (stay_dropped _ yes, tt))) in
     let c = f.clauses A g d drops 𝓛 𝓜.mem 𝓡.returns in
     let W = walk_of 𝓛 end stayed c in
     let 𝓣 = tables 𝓤 𝓛.H 𝓜 𝓡 𝓡.env in
@@ -50,7 +52,8 @@ allocate_spec 𝓤 𝓛 𝓜 𝓡 wired A laws g d drops met _ =
     proved 𝓛 end stayed c 𝓜 𝓡
     (Goes-dropped 𝓛 2 self yes (λ κs x w. refl), (goes usize (λ κs x w. refl), (goes usize (λ κs x w. refl), tt)))
     (f.Key.name args) here (code.unfolded 𝓤 𝓛.H 𝓜 𝓡 wired (A, tt) d drops)
-    (λ κs. (shr_vals, (uint_vals w64, (uint_vals w64, tt)))) (λ κs. ((λ r vs s. s.0), (uint_Tells w64, (uint_Tells w64, tt)))) (λ κs qs bounds a τ are.
+    (λ κs. (shr_vals, (uint_vals w64, (uint_vals w64, tt))))
+    (λ κs. ((λ r vs s. s.0), (uint_Tells w64, (uint_Tells w64, tt)))) (λ κs qs bounds a τ are.
     let κ = κs.0 in let q = qs.0 in let r = a.0 in
     let vs : Valss (usize ∷ usize ∷ []) = (uint_vals w64 a.1.0, (uint_vals w64 a.1.1.0, tt)) in
     let more : Item 𝓤 = ‵ (flft κs.1.0 qs.1.0) ⊛ ‵ ftrue in
@@ -63,21 +66,42 @@ allocate_spec 𝓤 𝓛 𝓜 𝓡 wired A laws g d drops met _ =
     let z : C.Ghost = ((κs, qs, bounds, (i, a.1), (shr_vals i, vs)), τ) in
     let req = (c κs a).requires τ in
     let F : Answer.Denot → Fml = block_if_ok (token Z i.now) τ in
-    qed 𝓛 (((‵ (flft κ q) ⊛ more) ⊛ ‵ (owns (types_at end.signature.params κs) a y.0.4)) ∷ raw req ∷ []) ∵ enters_heap Z ! κ q r more rest req $
-    enter ! _ _ _ _ _ $ alloc_all ! (λ l. pass_all ! refl ((tt, tt), ((tt, record { fits = are.1.0.1 }), ((tt, record { fits = are.1.1.0.1 }), tt))) $
-    sets ! (addr ! (through ! refl (fld ! refl (stop !)))) refl (tt, tt) $ use2 𝓛 (raw (N.pre (call 𝓛 𝓜.mem 𝓡.returns κ q n))) (takes 𝓛 𝓜.mem 𝓡.returns κ q n) $
-    calls_at ! (framed 𝓤 𝓛.H 𝓜 𝓣) N (counted.met 𝓤 𝓛 𝓜 𝓡 (code.calls-refusing_heap::growths::Growths::refuse_next 𝓡.env wired)) (call 𝓛 𝓜.mem 𝓡.returns κ q n) (and_then ! (get ! refl) (no_more !)) (λ u.
-    use1 𝓛 (later (some (λ (no : Bool). given (u ≡ vbool no) (‵ (flft κ q))))) (gives 𝓛 𝓜.mem 𝓡.returns κ q n u) $ await ! tt $ pick ! (λ no. learn ! (λ is_no. lands_as ! is_no refl (tt, tt) $
+    let nowhere = fst∗ 𝓤 (never 𝓤) (sem 𝓛 (token Z i.now τ null_ptr)) in
+    let alive : Item 𝓤 = ‵ (flft κ q) ⊛ more in
+    let Three : Type 0 = Unit {0} × (Unit {0} × (Unit {0} × Unit {0})) in
+    qed 𝓛 (((‵ (flft κ q) ⊛ more) ⊛ ‵ (owns (types_at end.signature.params κs) a y.0.4)) ∷ raw req ∷ []) ∵
+    enters_heap Z ! κ q r more rest req $
+    -- [the `&` to the count; the token of the `&`; the `&` to the inner allocator;
+    -- the other tokens; the other arguments; the `requires`]
+    enter ! _ _ _ _ _ $
+    alloc_all ! (λ l. pass_all ! refl
+    ((tt, tt), ((tt, record { fits = are.1.0.1 }), ((tt, record { fits = are.1.1.0.1 }), tt))) $
+    sets ! (addr ! (through ! refl (fld ! refl (stop !)))) refl (tt, tt) $
+    use2 𝓛 (raw (N.pre (call 𝓛 𝓜.mem 𝓡.returns κ q n))) (takes 𝓛 𝓜.mem 𝓡.returns κ q n) $
+    calls_at ! (framed 𝓤 𝓛.H 𝓜 𝓣) N
+    (counted.met 𝓤 𝓛 𝓜 𝓡 (code.calls-refusing_heap::growths::Growths::refuse_next 𝓡.env wired))
+    (call 𝓛 𝓜.mem 𝓡.returns κ q n) (and_then ! (get ! refl) (no_more !)) (λ u.
+    use1 𝓛 (later (some (λ (no : Bool). given (u ≡ vbool no) (‵ (flft κ q))))) (gives 𝓛 𝓜.mem 𝓡.returns κ q n u) $
+    await ! tt $ pick ! (λ no. learn ! (λ is_no. lands_as ! is_no refl (tt, tt) $
     first ! $ branches ! (get ! refl)
-    (λ _. sets ! (agg ! (no_more !)) refl (tt, tt) $ sets ! (agg ! (and_then ! (lit ! tt) (and_then ! (get ! refl) (no_more !)))) refl (Answer-typed false 0 0) $
+    (λ _. sets ! (agg ! (no_more !)) refl (tt, tt) $
+    sets ! (agg ! (and_then ! (lit ! tt) (and_then ! (get ! refl) (no_more !)))) refl (Answer-typed false 0 0) $
     returns_within ! (W.post y) refl (look_at ! 0 refl) $ free_all ! refl $ keep ! (0 ∷ 2 ∷ []) $
-    suffices ! _ (leaves 𝓛 end stayed c y (answer_val false 0 0) (Err (record {})) (tt, (tt, (tt, tt))) (tt, (tt, (tt, tt)))) $ join ! $
-    use0 𝓛 (‵ (spent 3)) (spent_i 𝓛 3) $ use0 𝓛 (‵ (Answer.own_val (Err (record {})) (answer_val false 0 0 ∷ []))) (result_own 𝓛 false 0 0) $ use0 𝓛 (‵ ftrue) (id⊢ 𝓤 _) $ move ! (3 ∷ 2 ∷ 1 ∷ 0 ∷ []) $ done !)
+    suffices ! _ (leaves 𝓛 end stayed c y (answer_val false 0 0) (Err (record {})) (tt, (tt, (tt, tt)))
+    (tt, (tt, (tt, tt)))) $ join ! $
+    use0 𝓛 (‵ (spent 3)) (spent_i 𝓛 3) $
+    use0 𝓛 (‵ (Answer.own_val (Err (record {})) (answer_val false 0 0 ∷ []))) (result_own 𝓛 false 0 0) $
+    use0 𝓛 (‵ ftrue) (id⊢ 𝓤 _) $ move ! (3 ∷ 2 ∷ 1 ∷ 0 ∷ []) $ done !)
     (λ _. skips ! $ exec ! 𝓣.C 𝓣.Λ (env here.locals l) (after 3 here.body) (at_ret _ (W.post y)) $
-    sets ! (addr ! (through ! refl (fld ! refl (stop !)))) refl (tt, tt) $ gathers Z ! κ q r more rest req $ use1 𝓛 (raw (C.pre z)) (id⊢ 𝓤 _) $
-    calls_at ! (framed 𝓤 𝓛.H 𝓜 𝓣) C (met.allocate drops) z (and_then ! (get ! refl) (and_then ! (get ! refl) (and_then ! (get ! refl) (no_more !)))) (λ v.
-    use1 𝓛 (Told 𝓛 F (fst∗ 𝓤 (never 𝓤) (sem 𝓛 (token Z i.now τ null_ptr))) (‵ (flft κ q) ⊛ more) (Unit {0} × (Unit {0} × (Unit {0} × Unit {0}))) (λ _. spent 3) v)
-    (told 𝓛 F (fst∗ 𝓤 (never 𝓤) (sem 𝓛 (token Z i.now τ null_ptr))) (‵ (flft κ q) ⊛ more) (Unit {0} × (Unit {0} × (Unit {0} × Unit {0}))) (λ _. spent 3) v) $
-    await ! tt $ split ! $ pick ! (λ b. learn ! (λ is_b. lands_as ! is_b refl (Answer-typed b.0 b.1.0 b.1.1) $ returns ! (look_at ! 0 refl) $ free_all ! refl $
-    suffices ! _ (leaves 𝓛 end stayed c y (answer_val b.0 b.1.0 b.1.1) (result_of b.0 b.1.0 b.1.1) (tt, (tt, (tt, tt))) (tt, (tt, (tt, tt)))) $
-    use0 𝓛 (‵ (spent 3)) (spent_i 𝓛 3) $ use0 𝓛 (‵ (Answer.own_val (result_of b.0 b.1.0 b.1.1) (answer_val b.0 b.1.0 b.1.1 ∷ []))) (result_own 𝓛 b.0 b.1.0 b.1.1) $ move ! (3 ∷ 1 ∷ 0 ∷ 2 ∷ []) $ done !)))))))))
+    sets ! (addr ! (through ! refl (fld ! refl (stop !)))) refl (tt, tt) $ gathers Z ! κ q r more rest req $
+    use1 𝓛 (raw (C.pre z)) (id⊢ 𝓤 _) $
+    calls_at ! (framed 𝓤 𝓛.H 𝓜 𝓣) C (met.allocate drops) z
+    (and_then ! (get ! refl) (and_then ! (get ! refl) (and_then ! (get ! refl) (no_more !)))) (λ v.
+    use1 𝓛 (Told 𝓛 F nowhere alive Three (λ _. spent 3) v) (told 𝓛 F nowhere alive Three (λ _. spent 3) v) $
+    await ! tt $ split ! $ pick ! (λ b. learn ! (λ is_b. lands_as ! is_b refl (Answer-typed b.0 b.1.0 b.1.1) $
+    returns ! (look_at ! 0 refl) $ free_all ! refl $
+    suffices ! _ (leaves 𝓛 end stayed c y (answer_val b.0 b.1.0 b.1.1) (result_of b.0 b.1.0 b.1.1)
+    (tt, (tt, (tt, tt))) (tt, (tt, (tt, tt)))) $
+    use0 𝓛 (‵ (spent 3)) (spent_i 𝓛 3) $
+    use0 𝓛 (‵ (Answer.own_val (result_of b.0 b.1.0 b.1.1) (answer_val b.0 b.1.0 b.1.1 ∷ [])))
+    (result_own 𝓛 b.0 b.1.0 b.1.1) $ move ! (3 ∷ 1 ∷ 0 ∷ 2 ∷ []) $ done !)))))))))
