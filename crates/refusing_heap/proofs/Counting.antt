@@ -1,5 +1,5 @@
 -- A call of `refuse_next`: what it takes, and what comes back of it. Assumes `Logic`.
-use Rattle.std.proofs.Common.{◌≡◌, ℕ, Bool, List, [], ◌∷◌, ap}
+use Rattle.std.proofs.Common.{◌≡◌, ℕ, Bool, [], ◌∷◌, ap}
 use seplogic.Ra.Ura.{Ura}
 use mir.Syntax.{named}
 use mir.Val.{Val, vbool}
@@ -38,7 +38,8 @@ module _ {M : Type 1} {𝓤 : Ura M} (𝓛 : Logic 𝓤) (mem : Memory → SProp
     pub takes : ent 𝓤 (sep 𝓤 (sem 𝓛 ((CountRef κ).own_val c (shr_vals c))) (A.lft κ q)) (Counts.pre call)
     takes =
         qed 𝓛 (‵ ((CountRef κ).own_val c (shr_vals c)) ∷ ‵ (flft κ q) ∷ []) ∵
-        nothing ! $ move ! (1 ∷ 0 ∷ []) $ fjoin ! $ nothing ! $ move ! (2 ∷ 0 ∷ []) $ join ! $ join ! $ nothing ! $ move ! (1 ∷ []) $ done !
+        nothing ! $ move ! (1 ∷ 0 ∷ []) $ fjoin ! $
+        nothing ! $ move ! (2 ∷ 0 ∷ []) $ join ! $ join ! $ nothing ! $ move ! (1 ∷ []) $ done !
 
     -- some answer, and the token
     pub gives : (v : Val) → ent 𝓤 (Counts.post call v) (H.⇛ (ex 𝓤 (λ (y : Bool). guard 𝓤 (v ≡ vbool y) (A.lft κ q))))

@@ -40,7 +40,7 @@ impl Refusal {
 }
 
 /// The count of the growths of a heap, by whatever thread.
-#[derive(Drop)]
+#[derive(Debug, Drop)]
 pub struct Growths {
     refusal: Refusal,
     asked: AtomicU64,

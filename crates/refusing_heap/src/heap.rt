@@ -12,7 +12,12 @@ use std::alloc::{AllocError, Allocator};
 ///
 /// Collections take `&heap`, which is `Copy`, and count together. Threads may share it where they may share the
 /// allocator below. It never waits, and needs no memory of its own.
-#[derive(Drop)]
+///
+/// ```text
+/// let heap = RefusingHeap::new(rt.alloc(), Refusal::Once(3));
+/// let mut items: Vec<u64, &RefusingHeap<Global>> = Vec::new(&heap); // its third growth is refused
+/// ```
+#[derive(Debug, Drop)]
 pub struct RefusingHeap<A: Allocator> {
     inner: A,
     growths: Growths,

@@ -32,10 +32,18 @@ fn ask<A: Allocator, E, C: FnMut(&RefusingHeap<A>) -> Result<(), E>>(
 /// Runs a check with the first growth refused, then with the second, and so on, until a run of which none was refused.
 /// It answers how many runs had a growth refused.
 ///
-/// Each run has a heap of its own over the allocator. Where the refusal to begin with is of growth 1, each growth is
-/// refused in turn; [`Refusal::Onwards`] refuses those behind it too. The check asks of the heap what it will, looks
-/// whether all stands as it should, refused or not, and answers `Err` where something doesn't, which ends the runs.
-/// It should do the same in each run. There are so many turns at most, the one with nothing refused among them.
+/// Each run has a heap of its own over the allocator. Where the refusal to begin with is `Once(1)`, each growth is
+/// refused in turn, and alone; `Onwards(1)` refuses those behind it too. To spare growths that come before what is
+/// tested, begin with a later number. The check asks of the heap what it will, looks whether all stands as it should,
+/// refused or not, and answers `Err` where something doesn't, which ends the runs: [`EachGrowthFault::Wrong`]. It should
+/// do the same in each run. So many turns are made at most, the one with nothing refused among them; where they don't
+/// suffice it is [`EachGrowthFault::Endless`].
+///
+/// It needs no memory of its own, and waits only where the check does.
+///
+/// ```text
+/// let refused = each_growth(rt.alloc(), Refusal::Once(1), 60, |heap| insert_all(rt, heap))?;
+/// ```
 pub fn each_growth<A: Allocator + Copy, E, C: FnMut(&RefusingHeap<A>) -> Result<(), E> + Drop>(
     alloc: A,
     first: Refusal,

@@ -1,11 +1,11 @@
 -- The growth is counted, and then refused, or the inner allocator answers. Assumes `Logic`.
-use Rattle.std.proofs.Common.{◌≡◌, ℕ, Bool, true, false, List, [], ◌∷◌, Ok, Err, refl, w64}
+use Rattle.std.proofs.Common.{◌≡◌, Bool, false, [], ◌∷◌, Err, refl, w64}
 use Rattle.std.proofs.raw_atomic.Walks.{proved, leaves}
 use mir.Syntax.{Args, Fn, a_type, dnil, dcons}
-use mir.Val.{Val, vbool}
+use mir.Val.{vbool}
 use mir.MapTy.{inst_fn}
-use base.Logic.{never, ent, ex, guard, fst∗, id⊢}
-use base.Fml.{Fml, ftrue, fsep, flft}
+use base.Logic.{never, fst∗, id⊢}
+use base.Fml.{Fml, ftrue, flft}
 use contract.Running.{tables}
 use types.Kit.{Item, ‵, raw, ◌⊛◌, some, later, given, at_ret, ◌$◌, ◌∵◌, !, qed, move, keep, use0, use1, use2, split}
 use types.Kit.{join, pick, learn, suffices, await, done}

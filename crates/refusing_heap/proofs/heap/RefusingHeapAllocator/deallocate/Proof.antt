@@ -1,5 +1,5 @@
 -- The block goes back to the inner allocator. Assumes `Logic`.
-use Rattle.std.proofs.Common.{ℕ, List, [], ◌∷◌, refl, ap, w64}
+use Rattle.std.proofs.Common.{List, [], ◌∷◌, refl, ap, w64}
 use Rattle.std.proofs.raw_atomic.Walks.{proved, leaves}
 use mir.Syntax.{Args, a_type, dnil, dcons}
 use mir.Val.{Val, vunit}
@@ -7,7 +7,7 @@ use mir.MapTy.{inst_fn}
 use base.Logic.{id⊢}
 use base.Fml.{ftrue, flft}
 use contract.Running.{tables}
-use types.Kit.{Item, ‵, raw, ◌⊛◌, some, later, ◌$◌, ◌∵◌, !, qed, move, drop, use0, use1, split, join, pick, feq_i}
+use types.Kit.{Item, ‵, raw, ◌⊛◌, some, later, ◌$◌, ◌∵◌, !, qed, move, drop, use0, use1, split, pick, feq_i}
 use types.Kit.{feq_l, suffices, await, done}
 use types.Run.{stop, fld, addr, no_more, and_then, of_opd, unit_lit, returns, enter}
 use types.ByLocal.{alloc_all, pass_all, free_all, look_at, get, through, sets, lands_as}

@@ -1,5 +1,5 @@
 -- The growth is counted, and then refused with the block as it was, or the inner allocator answers. Assumes `Logic`.
-use Rattle.std.proofs.Common.{◌≡◌, ℕ, Bool, false, List, [], ◌∷◌, Err, refl, w64}
+use Rattle.std.proofs.Common.{◌≡◌, Bool, false, [], ◌∷◌, Err, refl, w64}
 use Rattle.std.proofs.raw_atomic.Walks.{proved, leaves}
 use mir.Syntax.{Args, Fn, a_type, dnil, dcons}
 use mir.Val.{vbool}

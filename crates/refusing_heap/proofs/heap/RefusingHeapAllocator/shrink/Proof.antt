@@ -1,7 +1,7 @@
 -- The inner allocator answers. Assumes `Logic`.
-use Rattle.std.proofs.Common.{List, [], ◌∷◌, refl, w64}
+use Rattle.std.proofs.Common.{[], ◌∷◌, refl, w64}
 use Rattle.std.proofs.raw_atomic.Walks.{proved, leaves}
-use mir.Syntax.{Args, Fn, a_type, dnil, dcons}
+use mir.Syntax.{Args, a_type, dnil, dcons}
 use mir.MapTy.{inst_fn}
 use base.Logic.{never, fst∗, id⊢}
 use base.Fml.{Fml, ffalse, ftrue, fsep, flft}
