@@ -30,7 +30,7 @@ use Rattle.mapworld_state.specs.World.{setup_of}
 use Rattle.mapworld_state.proofs.InvariantFacts.Adding.{step-adds}
 use Rattle.mapworld_state.proofs.InvariantFacts.Building.{claim-at}
 use Rattle.mapworld_state.proofs.InvariantFacts.CausesFacts.Being.{step-low}
-use Rattle.mapworld_progress.proofs.Draining.{setup-fixed}
+use Rattle.mapworld.proofs.ProgressFacts.Draining.{setup-fixed}
 use Rattle.mapworld.specs.Reachable.{IsReachable, LeadsTo}
 use Rattle.mapworld.specs.ReachableLaws.{WasAbsent}
 use Rattle.mapworld.specs.ReachableLaws as laws

@@ -4,7 +4,7 @@ use Rattle.mapworld_calls.specs.Setup.{Setup, Laws}
 use Rattle.mapworld_state.specs.Locks.Footprints.{StepsTouchOneLock}
 use Rattle.mapworld_state.specs.declared.step.Step.{Step}
 use Rattle.mapworld_state.specs.State.{State}
-use Rattle.mapworld_progress.specs.Drains.{Drains, DrainsBy}
+use Rattle.mapworld.specs.Progress.Drains.{Drains, DrainsBy}
 use Rattle.mapworld_state.specs.Invariant.Causes.Causes.{HasCauses}
 use Rattle.mapworld_state.proofs.InvariantFacts.CausesFacts.Keeping.{causes-step}
 use Rattle.mapworld.specs.Drained.{Drained, DrainedBy}

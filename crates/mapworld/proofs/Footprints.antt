@@ -30,7 +30,7 @@ use Rattle.mapworld_state.specs.Footprint.{one_lock, HasFootprint}
 use Rattle.mapworld_state.specs.Sound.{Sound}
 use Rattle.mapworld_state.specs.Shards.{ShardPairs, Puts}
 use Rattle.mapworld_state.specs.Walks.{IsLookedAt}
-use Rattle.mapworld_progress.proofs.Visiting.{ItemPuts, item-puts}
+use Rattle.mapworld.proofs.ProgressFacts.Visiting.{ItemPuts, item-puts}
 use Rattle.mapworld.specs.Atomic.{DoesOne, IsAtomic, KeepsCalls, StaysInCall, starts, looks, deed, at_lock}
 use Rattle.mapworld.specs.Atomic.{answers as replied}
 use Rattle.mapworld.proofs.Cores.{KeepsOthers, calls-behind, calls-moves, calls-same, calls-starts, others-begins}

@@ -32,8 +32,8 @@ use Rattle.mapworld_state.specs.Steps.{visit_seeks, visit_does, visit_gives}
 use Rattle.mapworld_state.proofs.InvariantFacts.Adding.{step-adds}
 use Rattle.mapworld_state.proofs.InvariantFacts.CausesFacts.Keeping.{causes-step}
 use Rattle.mapworld_state.proofs.InvariantFacts.Sounds.{sound-step}
-use Rattle.mapworld_progress.specs.Sizes.{IsSized}
-use Rattle.mapworld_progress.specs.Whole.{IsWhole}
+use Rattle.mapworld.specs.Progress.Sizes.{IsSized}
+use Rattle.mapworld.specs.Progress.Whole.{IsWhole}
 use Rattle.mapworld.proofs.Filling.{length-slice_set}
 use Rattle.mapworld.proofs.LockFits.{Lasts, lasts-begins, lasts-ends, lasts-enters, lasts-moves, lasts-same}
 use Rattle.mapworld.proofs.LockFits.{lasts-starts}

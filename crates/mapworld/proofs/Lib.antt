@@ -28,3 +28,4 @@ pub mod Counted
 pub mod Guarding
 pub mod Histories
 pub mod Overs
+pub mod ProgressFacts

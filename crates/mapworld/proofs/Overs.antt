@@ -18,7 +18,7 @@ use Rattle.mapworld_state.specs.Classes.{looking, visiting, pausing, class_of, m
 use Rattle.mapworld_state.specs.Running.{can_move_in, goes_on, moves_at, status_at, status_of}
 use Rattle.mapworld_state.specs.Sound.{Sound}
 use Rattle.mapworld_state.specs.State.{State}
-use Rattle.mapworld_progress.specs.Rest.{IsAtRest}
+use Rattle.mapworld.specs.Progress.Rest.{IsAtRest}
 use Rattle.mapworld.specs.Over.{HasReply, IsOver}
 use Rattle.mapworld.proofs.Counted.{nth}
 use Rattle.mapworld.proofs.Sleeping.{status-finished-any}

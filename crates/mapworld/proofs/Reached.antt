@@ -27,13 +27,13 @@ use Rattle.mapworld_state.proofs.InvariantFacts.CausesFacts.Keeping.{causes-new}
 use Rattle.mapworld_state.proofs.InvariantFacts.CausesFacts.Meeting.{sleepers-have_company, words-have_calls}
 use Rattle.mapworld_state.proofs.LocksFacts.Fresh.{fit-fresh}
 use Rattle.mapworld_transitions.proofs.Keys.{setup-laws}
-use Rattle.mapworld_progress.specs.Drains.{Drains, DrainsBy}
-use Rattle.mapworld_progress.specs.Left.{left}
-use Rattle.mapworld_progress.proofs.Bounding.{steps_are_few}
-use Rattle.mapworld_progress.proofs.Draining.{setup-fixed}
-use Rattle.mapworld_progress.proofs.Ending.{steps_fall}
-use Rattle.mapworld_progress.proofs.Moving.{somebody_moves}
-use Rattle.mapworld_progress.proofs.Resting.{ends_at_rest}
+use Rattle.mapworld.specs.Progress.Drains.{Drains, DrainsBy}
+use Rattle.mapworld.specs.Progress.Left.{left}
+use Rattle.mapworld.proofs.ProgressFacts.Bounding.{steps_are_few}
+use Rattle.mapworld.proofs.ProgressFacts.Draining.{setup-fixed}
+use Rattle.mapworld.proofs.ProgressFacts.Ending.{steps_fall}
+use Rattle.mapworld.proofs.ProgressFacts.Moving.{somebody_moves}
+use Rattle.mapworld.proofs.ProgressFacts.Resting.{ends_at_rest}
 use Rattle.mapworld.specs.Beginning.{AreFilled}
 use Rattle.mapworld.specs.Making.{IsNew, new_refusal}
 use Rattle.mapworld.specs.Stops.{AllStopsFit}

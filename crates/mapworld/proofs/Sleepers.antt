@@ -17,7 +17,7 @@ use Rattle.mapworld_state.specs.Locks.Counts.{QueuesAreWaiters}
 use Rattle.mapworld_state.specs.Locks.Fits.{LocksFit}
 use Rattle.mapworld_state.specs.Locks.Stands.{core_aim}
 use Rattle.mapworld_state.specs.Locks.Views.{Shown}
-use Rattle.mapworld_progress.proofs.Sleepers.{sleeper as sleeps-on}
+use Rattle.mapworld.proofs.ProgressFacts.Sleepers.{sleeper as sleeps-on}
 use Rattle.mapworld.specs.Asleep.{IsWaiting}
 
 -- the call in which a thread sleeps

@@ -12,3 +12,4 @@ pub mod Atomic
 pub mod History
 pub mod Guarded
 pub mod Over
+pub mod Progress

@@ -27,7 +27,7 @@ use Rattle.mapworld_state.specs.Shards.{ShardPairs}
 use Rattle.mapworld_state.specs.State.{State, pairs_of}
 use Rattle.mapworld_state.specs.Steps.{GrowsShard, IsRefusedGrowth, IsStep}
 use Rattle.mapworld_state.specs.World.{setup_of}
-use Rattle.mapworld_progress.specs.Rest.{IsAtRest}
+use Rattle.mapworld.specs.Progress.Rest.{IsAtRest}
 use Rattle.mapworld.specs.Atomic.{IsAtomic}
 use Rattle.mapworld.specs.Guarded.{GuardsAreOwners}
 use Rattle.mapworld.specs.History.{history_of, HistoryAddsTo, HistoryAgrees, HistoryHasCauses, HistoryIsPlaced}

@@ -8,6 +8,7 @@ mod explore;
 pub mod laws;
 mod limits;
 mod making;
+pub mod progress;
 mod show;
 mod stops;
 mod world;

@@ -5,7 +5,7 @@ ghost use Rattle.mapworld.specs.Reachable.{CoreIsReachable};
 ghost use Rattle.mapworld.specs.Guarded.{GuardsAreOwners};
 ghost use Rattle.mapworld.specs.History.{history_of, HistoryAgrees, HistoryHasCauses, HistoryIsPlaced};
 ghost use Rattle.mapworld_state.specs.Locks.Fresh.{AreFresh};
-ghost use Rattle.mapworld_progress.specs.Drains.{IsInTime};
+ghost use Rattle.mapworld.specs.Progress.Drains.{IsInTime};
 ghost use Rattle.mapworld_state.specs.Invariant.Causes.World.{CoreHasCauses};
 ghost use Rattle.mapworld_state.specs.Core.{blocks_of, state_of, IsSoundCore, IsSlotted, Room};
 

@@ -77,7 +77,7 @@ impl<K: Eq + Hash, V, S: BuildHasher, D: Deed<K, V>, A: Allocator> Model
     ghost Value = { State K V S D D.Answer A };
 
     ghost use Rattle.mapworld_state.specs.Core.{state_of, IsSoundCore, IsSlotted, Room};
-    ghost use Rattle.mapworld_progress.specs.Drains.{IsInTime};
+    ghost use Rattle.mapworld.specs.Progress.Drains.{IsInTime};
     ghost use Rattle.mapworld_state.specs.Invariant.Causes.World.{CoreHasCauses};
     ghost use Rattle.mapworld.specs.Reachable.{CoreIsReachable};
 
@@ -443,7 +443,7 @@ where
         each_step_is_a_case();
         owners_agree();
         desks_count_as_words();
-        let steps = mapworld_progress::drain(&mut self.core);
+        let steps = crate::progress::drain(&mut self.core);
         self.core.locks.known();
         steps
     }

@@ -8,7 +8,7 @@ use Rattle.mapworld_state.specs.Places.{place_of}
 use Rattle.mapworld_state.specs.Shards.{shard_pairs}
 use Rattle.mapworld_state.specs.Route.{IsWorldAmount, key_route}
 use Rattle.mapworld_state.proofs.InvariantFacts.CausesFacts.Keeping.{causes-new}
-use Rattle.mapworld_progress.proofs.Timing.{time-first}
+use Rattle.mapworld.proofs.ProgressFacts.Timing.{time-first}
 use Rattle.mapworld.specs.Beginning.{AreAtStart, AreFilled, HaveLists}
 use Rattle.mapworld.specs.Stops.{AllStopsFit}
 use Rattle.mapworld.proofs.Filling.{AreFilled-seen}

@@ -3,7 +3,7 @@ use Rattle.mapworld_state.specs.World.{setup_of}
 use Rattle.mapworld_transitions.proofs.Keys.{setup-laws}
 use Rattle.std.proofs.Common.{refl, sym, subst}
 use Rattle.mapworld_state.specs.Invariant.Causes.Causes.{HasCauses}
-use Rattle.mapworld_progress.proofs.Draining.{adds-by, fixed-by, setup-fixed}
+use Rattle.mapworld.proofs.ProgressFacts.Draining.{adds-by, fixed-by, setup-fixed}
 use Rattle.mapworld.proofs.Drains.{caused-by, drained-by}
 use Rattle.mapworld.proofs.Guarding.{guards_are_owners}
 use Rattle.mapworld.proofs.Histories.{fixed-history}

@@ -9,9 +9,9 @@ use Rattle.mapworld_state.proofs.InvariantFacts.Sounds.{sound-step}
 use Rattle.mapworld_state.proofs.InvariantFacts.Adding.{step-adds}
 use Rattle.mapworld_state.specs.Invariant.Causes.Causes.{HasCauses}
 use Rattle.mapworld_state.proofs.InvariantFacts.CausesFacts.Keeping.{causes-step}
-use Rattle.mapworld_progress.specs.Drains.{HasTime}
-use Rattle.mapworld_progress.proofs.Draining.{setup-fixed, sized}
-use Rattle.mapworld_progress.proofs.Timing.{time-after}
+use Rattle.mapworld.specs.Progress.Drains.{HasTime}
+use Rattle.mapworld.proofs.ProgressFacts.Draining.{setup-fixed, sized}
+use Rattle.mapworld.proofs.ProgressFacts.Timing.{time-after}
 use Rattle.mapworld.specs.Reachable.{IsReachable}
 use Rattle.mapworld.proofs.Reached.{reachable-step}
 use Rattle.mapworld.proofs.world.MapWorld.make_step.Goals as goal

@@ -8,7 +8,7 @@ use Rattle.mapworld_state.specs.World.{setup_of}
 use Rattle.mapworld_state.specs.Faults.Faults.{run_fault_done}
 use Rattle.mapworld_state.proofs.InvariantFacts.Adding.{step-adds, adds-more, fixed-more}
 use Rattle.mapworld.proofs.Runs.{Ran-more}
-use Rattle.mapworld_progress.proofs.Draining.{setup-fixed}
+use Rattle.mapworld.proofs.ProgressFacts.Draining.{setup-fixed}
 use Rattle.mapworld_transitions.proofs.Keys.{setup-laws}
 use Rattle.mapworld.proofs.Footprints.{step_footprint}
 use Rattle.mapworld.proofs.Faulting.{refusal-done}

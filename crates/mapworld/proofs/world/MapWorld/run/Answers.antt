@@ -2,7 +2,7 @@ use Rattle.std.proofs.Common.{sym}
 use Rattle.mapworld_state.specs.Core.{state_of}
 use Rattle.mapworld_state.specs.World.{setup_of}
 use Rattle.mapworld_state.proofs.InvariantFacts.CausesFacts.Meeting.{sleepers-have_company, words-have_calls}
-use Rattle.mapworld_progress.proofs.Draining.{sized}
+use Rattle.mapworld.proofs.ProgressFacts.Draining.{sized}
 use Rattle.mapworld.proofs.Guarding.{guards_are_owners}
 use Rattle.mapworld.proofs.Histories.{fixed-history}
 use Rattle.mapworld.proofs.Outcomes.{world-agrees, hold_by_phase}

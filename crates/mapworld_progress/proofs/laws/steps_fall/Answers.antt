@@ -1,5 +1,0 @@
-use Rattle.mapworld_progress.proofs.Ending.{steps_fall}
-use Rattle.mapworld_progress.proofs.laws.steps_fall.Goals as goal
-
-pub returns : goal.returns
-returns g c = λ x laws w s w' whole step. steps_fall x laws w s w' whole step
