@@ -12,10 +12,9 @@ use Rattle.parking_lot_machine.specs.Machines.{is_asleep}
 use Rattle.parking_lot_machine.specs.Rows.{State, call_at, state, queue_at, first_key, second_key}
 use Rattle.parking_lot_machine.specs.SoundLaws.{waits_as, waits_in}
 use Rattle.parking_lot_machine_calls.specs.Stances.{Asleep, stance}
-use Rattle.mapworld_state.specs.Locks.Aims.{Gets}
+use Rattle.mapworld_state.specs.Locks.Aims.{Gets, aim_of}
 use Rattle.mapworld_state.specs.Locks.Counts.{QueuesAreWaiters}
 use Rattle.mapworld_state.specs.Locks.Fits.{LocksFit}
-use Rattle.mapworld_state.specs.Locks.Stands.{core_aim}
 use Rattle.mapworld_state.specs.Locks.Views.{Shown}
 use Rattle.mapworld.proofs.ProgressFacts.Sleepers.{sleeper as sleeps-on}
 use Rattle.mapworld.specs.Asleep.{IsWaiting}
@@ -25,7 +24,7 @@ pub record Sleeper (locks : Shown) (t : ℕ) : Type 0 where
   pub call : Call
   pub there : call_at (state locks.rows) t ≡ Some call
   pub mode : Mode
-  pub aim_is : core_aim call.core ≡ Gets mode
+  pub aim_is : aim_of call.asked ≡ Gets mode
   pub waits : IsWaiting locks t call.lock
 
 module _ (lists : QueuesAreWaiters) (locks : Shown) (fit : LocksFit locks) (t : ℕ) where

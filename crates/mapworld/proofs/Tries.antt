@@ -19,7 +19,8 @@ use Rattle.parking_lot_machine_calls.specs.Beginnings.{core_of}
 use Rattle.parking_lot_machine_calls.specs.CallActs.{hears}
 use Rattle.parking_lot_machine_calls.specs.Kinds.{kind_in}
 use Rattle.parking_lot_machine_calls.specs.Stances.{Asleep, Stance, core_act, core_next, rw_stance, stance}
-use Rattle.parking_lot_machine.specs.Machines.{Became, call_for, end_of, is_asleep, sleeps}
+use Rattle.parking_lot_machine.specs.Machines.{Became, call_for, end_of, is_asleep, is_asleep_in, sleeps}
+use Rattle.parking_lot_machine.proofs.InTime.{awake_in_time}
 use Rattle.parking_lot_machine.specs.RowActs.{exchanged, loaded, with_call, with_word}
 use Rattle.parking_lot_machine.specs.Rows.{State, call_at, state, word_at}
 use Rattle.mapworld_state.specs.declared.holds.Mode.{Mode}
@@ -93,8 +94,8 @@ pub up-awake : (s : State) (t : ℕ) → stays_up (option_map (λ c. c.core) (ca
 up-awake s t up = by (call_at s t) refl up
   where
     by : (o : Option Call) → call_at s t ≡ o → stays_up (option_map (λ c. c.core) o) ≡ true → is_asleep s t ≡ false
-    by None e up = ap (λ o. option_map_or (λ (c : Call). sleeps (core_act c.core)) o false) e
-    by (Some c) e up = ap (λ o. option_map_or (λ (c : Call). sleeps (core_act c.core)) o false) e ∙ act-up c.core up
+    by None e up = ap is_asleep_in e
+    by (Some c) e up = ap is_asleep_in e ∙ awake_in_time c.core (act-up c.core up)
 
 -- OTHERS
 

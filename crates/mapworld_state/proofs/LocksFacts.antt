@@ -1,6 +1,7 @@
-pub mod Aiming
 pub mod Owning
 pub mod Within
+pub mod Giving
+pub mod Staging
 pub mod Calls
 pub mod Taking
 pub mod Lists
@@ -21,6 +22,7 @@ pub mod Stepping
 pub mod Following
 pub mod Finishing
 pub mod Starting
+pub mod Expiring
 pub mod Lawful
 pub mod Making
 pub mod Fresh

@@ -26,12 +26,10 @@ abbrev pub IsOwing : {K V D T A : Type 0} → Place K V D T A → Option Stand �
 IsOwing p None = Unit {0}
 IsOwing p (Some stand) = MayOwe p stand.shard stand.aim
 
--- A thread waits for its shard: a try may still be refused, and whatever waits can't be.
+-- A thread asks for its shard, as a try or not, and with no deadline.
 pub record IsWanting {K V D T A : Type 0} (p : Place K V D T A) (mode : Mode) (tries : Bool)
     (stand : Option Stand) : Type 0 where
-  pub trying : Bool
-  pub is : stand ≡ Some (record { shard = p.shard; aim = Gets (at_desk mode); trying = trying })
-  pub patient : tries ≡ false → trying ≡ false
+  pub is : stand ≡ Some (record { shard = p.shard; aim = Gets (at_desk mode); trying = tries; timed = false })
 
 -- the call that a thread is in at a lock, by its phase: the admission that it waits for; what its release or its
 -- downgrade owes; and else none

@@ -92,7 +92,7 @@ impl Standing {
             phase: Phase::of(call.core),
             others: call.others,
             spot: call.spot,
-            timed: call.timed,
+            timed: call.asked.is_timed(),
         }
     }
 }

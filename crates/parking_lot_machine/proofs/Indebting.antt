@@ -1,6 +1,6 @@
 -- Where threads wait at a lock that keeps nobody out, somebody there is in debt.
 use Rattle.std.proofs.Math.Bool.{or-true}
-use Rattle.std.proofs.Common.{◌≡◌, ◌≢◌, ℕ, zero, suc, ◌+◌, ◌<◌, ◌||◌, ◌⊎◌, inl, inr, Bool, true, false, length, Option}
+use Rattle.std.proofs.Common.{◌≡◌, ◌≢◌, ℕ, zero, suc, ◌+◌, ◌<◌, ◌&&◌, ◌||◌, ◌⊎◌, inl, inr, Bool, true, false, not, length, Option}
 use Rattle.std.proofs.Common.{Some, None, slice_get, refl, sym, ap, ◌∙◌, subst, arith}
 use Rattle.std.specs.Prelude.{is_some}
 use Rattle.std.specs.Option.{option_and_then, option_map_or}
@@ -22,7 +22,10 @@ use Rattle.parking_lot_machine_calls.specs.Kinds.{Manner, AsRw, AsMutex, manner_
 use Rattle.parking_lot_machine_calls.specs.declared.calls.OwnMode.{OwnMode}
 use Rattle.parking_lot_machine_calls.specs.declared.open_call.Call.{Call}
 use Rattle.parking_lot_machine_calls.specs.CallViews.{Weighs, call_looks, mutex_mode, mutex_mode_if, owning_of, rw_mode}
-use Rattle.parking_lot_machine.specs.Machines.{can_move_in, goes_late, is_taken, sleeps}
+use Rattle.parking_lot_machine.specs.Machines.{can_move_in, goes_late, is_asleep_in, is_possible, is_taken, sleeps}
+use Rattle.parking_lot_machine.proofs.InTime.{late_asleep}
+use Rattle.parking_lot_rules.specs.Classes.{bit}
+use Rattle.parking_lot_machine_calls.specs.LateCalls.{comes_late, is_back, is_pending}
 use Rattle.parking_lot_machine.specs.RowFits.{FitsTogether}
 use Rattle.parking_lot_machine.specs.Rows.{State, lock_as, call_at, first_key, hold_at, lock_at, mutex_at, queue_at}
 use Rattle.parking_lot_machine.specs.Rows.{rw_lock_at, second_key, taken_by}
@@ -32,7 +35,7 @@ use Rattle.parking_lot_machine_calls.specs.Stances.{core_act}
 use Rattle.parking_lot_machine.specs.Worlds.{in_debt_at, mode_in}
 use Rattle.parking_lot_machine.proofs.Agreeing.{role_weighs}
 use Rattle.parking_lot_rules.proofs.Everybody.{get-all, within-all}
-use Rattle.parking_lot_machine.proofs.Serving.{by_call, or_else, possible_alone}
+use Rattle.parking_lot_machine.proofs.Serving.{backs_on, by_call, comes_on, or_else, possible_alone}
 use Rattle.parking_lot_machine.proofs.Viewing.{apart_role}
 use Rattle.parking_lot_machine.proofs.KindTable.{Kind, of_mutexes, of_rws, role_at, roles_at}
 use Rattle.parking_lot_machine_calls.specs.declared.seat.Hold.{Hold}
@@ -142,12 +145,19 @@ module _ (m : mutex.Mutex) (sound : mutex.IsSound m)
 
 module _ (s : State) (h : FitsTogether s) where
   pub awake_can_move : AwakeCanMove s
-  awake_can_move t c here awake free =
-      let up : sleeps (core_act c.core) ≡ false =
-      sym (ap (λ o. option_map_or (λ (d : Call). sleeps (core_act d.core)) o false) here) ∙ awake in
-      ap (can_move_in s) here
-      ∙ or_else (goes_late s c c.core)
-      (possible_alone (is_taken s c) (core_act c.core) up (λ k e. ap is_some (free k e)))
+  awake_can_move t c here awake free back = ap (can_move_in s) here ∙ by (sleeps (core_act c.core)) refl
+    where
+      others : Bool
+      others = is_possible (is_taken s c) (core_act c.core)
+
+      by : (b : Bool) → sleeps (core_act c.core) ≡ b → can_move_in s (Some c) ≡ true
+      by false up = or_else (goes_late s c c.core)
+          (possible_alone (is_taken s c) (core_act c.core) up (λ k e. ap is_some (free k e)))
+      by true asleep = elim (late_asleep c.core asleep (sym (ap is_asleep_in here) ∙ awake)) [
+        | inl e ↦ backs_on (is_back c.core) (comes_late c.core && not (is_taken s c (bit (is_pending c.core)))) others e
+        | inr e ↦ comes_on (is_back c.core) (comes_late c.core) (not (is_taken s c (bit (is_pending c.core)))) others e
+            (ap (λ o. not (is_some o)) (back e))
+      ]
 
   module _ (i : ℕ) where
     -- of a lock where one thread's role is in debt, that thread is in a call there

@@ -11,6 +11,7 @@ mod Ruling
 mod NthTaken
 mod Agreeing
 mod Losing
+pub mod InTime
 pub mod Serving
 mod Spinning
 mod Bounding
@@ -104,3 +105,4 @@ mod TakersOut
 mod LotNobody
 mod LateFinds
 mod LateTaken
+pub mod CallLawsFacts

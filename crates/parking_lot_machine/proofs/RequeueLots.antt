@@ -13,7 +13,8 @@ use Rattle.parking_lot_protocol.specs.declared.mutex_phase.MutexPhase.{MutexPhas
 use Rattle.parking_lot_machine_calls.specs.declared.seat.Core.{Core}
 use Rattle.parking_lot_machine_calls.specs.declared.seat.QueuePosition.{QueuePosition}
 use Rattle.parking_lot_machine_calls.specs.declared.open_call.Call.{Call}
-use Rattle.parking_lot_machine.specs.Requeues.{MayJoin, lot_with, retrying_call, roused_in, sleeping_call, taken_in}
+use Rattle.parking_lot_machine.specs.Requeues.{MayJoin, lock_ask, lot_with, retrying_call, roused_in, sleeping_call}
+use Rattle.parking_lot_machine.specs.Requeues.{taken_in}
 use Rattle.parking_lot_machine.specs.RowActs.{appended, entered, left, with_call, with_lot, with_word}
 use Rattle.parking_lot_machine_calls.specs.CallActs.{hears, joins, key_of}
 use Rattle.parking_lot_machine.specs.RowFits.{LotFits, Seated, WakesSome}
@@ -50,7 +51,7 @@ module _ (s : State) (v lock : ℕ) (timed : Bool) (h : LotFits s) (low : v < le
     others = 0;
     core = Core.Mutex (record { phase = p });
     spot = QueuePosition.Listed;
-    timed = timed;
+    asked = lock_ask timed;
   }
 
   -- the word says that it is to sleep

@@ -20,7 +20,7 @@ use Rattle.parking_lot_machine_calls.specs.declared.seat.Core.{Core}
 use Rattle.parking_lot_machine_calls.specs.declared.seat.QueuePosition.{QueuePosition}
 use Rattle.parking_lot_machine_calls.specs.declared.open_call.Call.{Call}
 use Rattle.parking_lot_machine_calls.specs.Kinds.{AsMutex, manner_of}
-use Rattle.parking_lot_machine.specs.Requeues.{MayCome}
+use Rattle.parking_lot_machine.specs.Requeues.{MayCome, lock_ask}
 use Rattle.parking_lot_machine.specs.Rounds.{IsUnderWay}
 use Rattle.parking_lot_machine.specs.RowFits.{FitsTogether, RulesFit, WakesFit, is_away, mutex_knows}
 use Rattle.parking_lot_machine.specs.Rows.{State, call_at, hold_at, inside, lock_at, lock_as, mutex_at, taken_by}
@@ -85,7 +85,7 @@ module _ (s : State) (v lock : ℕ) (h : FitsTogether s) (low : v < length s.cal
       others = 0;
       core = Core.Mutex (record { phase = p });
       spot = QueuePosition.Listed;
-      timed = timed;
+      asked = lock_ask timed;
     }
 
     abbrev u : State

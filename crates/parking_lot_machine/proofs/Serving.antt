@@ -1,9 +1,8 @@
 -- Where threads wait, somebody is in debt; and where a thread is in a call, somebody can move.
 use Rattle.std.proofs.Common.{◌≡◌, ◌≢◌, ℕ, zero, suc, ◌<◌, ◌≤◌, ◌||◌, ◌&&◌, arith, ◌⊎◌, inl, inr, cond, Bool, true}
-use Rattle.std.proofs.Common.{false, not, List, length, Option, Some, None, slice_get, refl, sym, ap, ◌∙◌, subst, ◌+◌}
-use Rattle.std.proofs.Common.{◌%◌, ◌^◌}
+use Rattle.std.proofs.Common.{false, not, List, length, Option, Some, None, slice_get, refl, sym, ap, ◌∙◌, subst}
 use Rattle.std.specs.Prelude.{IsTrue, is_some}
-use Rattle.std.specs.Option.{option_and_then, option_map_or}
+use Rattle.std.specs.Option.{option_and_then}
 use Rattle.std.proofs.lemmas.Bool.{both_ways, cases_eq}
 use Rattle.parking_lot_core_model.specs.declared.place.Section.{Section}
 use Rattle.parking_lot_core_model.specs.Places.{place_at}
@@ -42,8 +41,10 @@ use Rattle.parking_lot_machine_calls.specs.declared.seat.LatePhase.{LatePhase}
 use Rattle.parking_lot_machine_calls.specs.declared.seat.Core.{Core}
 use Rattle.parking_lot_machine_calls.specs.declared.open_call.Call.{Call}
 use Rattle.parking_lot_machine_calls.specs.CallViews.{mutex_mode, rw_mode}
-use Rattle.parking_lot_machine.specs.Machines.{can_move, can_move_in, goes_late, is_asleep, is_possible, is_taken}
-use Rattle.parking_lot_machine.specs.Machines.{sleeps}
+use Rattle.parking_lot_machine.specs.Machines.{can_move, can_move_in, goes_late, is_asleep, is_asleep_in, is_possible}
+use Rattle.parking_lot_machine.specs.Machines.{is_taken, sleeps}
+use Rattle.parking_lot_machine.proofs.InTime.{frees_same, mutex_in_time, owes_same, rw_in_time, seeks_same}
+use Rattle.parking_lot_machine.proofs.InTime.{upgrade_in_time}
 use Rattle.parking_lot_machine.specs.RowFits.{FitsTogether, Stands, Seated}
 use Rattle.parking_lot_machine_calls.specs.CallKinds.{IsOfKind, IsOfManner}
 use Rattle.parking_lot_machine.specs.Rows.{State, lock_as, mutex_at, rw_lock_at, call_at, everybody, hold_at, lock_at}
@@ -61,6 +62,7 @@ use Rattle.parking_lot_machine.proofs.KindTable.{role_now}
 use Rattle.parking_lot_machine.proofs.Meeting.{in_range, mutex_sound, rw_sound}
 use Rattle.parking_lot_machine_calls.specs.declared.late_rw.LateRwPhase.{LateRwPhase}
 use Rattle.parking_lot_machine_calls.specs.LateCalls.{comes_late, is_back, is_pending, late_is_back, late_rw_is_back}
+use Rattle.parking_lot_machine_calls.specs.LateCalls.{sleeps_in_time}
 use Rattle.parking_lot_machine_calls.proofs.Lying.{lies_out}
 use Rattle.parking_lot_rules.specs.Classes.{bit}
 
@@ -71,13 +73,13 @@ or_else true e = refl
 or_else false e = e
 
 -- one whose moment has passed
-comes_on : (a b c e : Bool) → b ≡ true → c ≡ true → ((a || (b && c)) || e) ≡ true
+pub comes_on : (a b c e : Bool) → b ≡ true → c ≡ true → ((a || (b && c)) || e) ≡ true
 comes_on true b c e x y = refl
 comes_on false true true e x y = refl
 comes_on false true false e x y = absurd cc
 comes_on false false c e x y = absurd cc
 
-backs_on : (a b e : Bool) → a ≡ true → ((a || b) || e) ≡ true
+pub backs_on : (a b e : Bool) → a ≡ true → ((a || b) || e) ≡ true
 backs_on true b e x = refl
 backs_on false b e x = absurd cc
 
@@ -219,29 +221,6 @@ upgrade_asleep d = refl
 release_asleep : (d : Phase) → rw_laws.is_asleep (for_release d) ≡ rw_laws.is_asleep d
 release_asleep (Queued2 from stay) = refl
 release_asleep d = refl
-
-awake_either : (b : Bool) (x y : Act) → sleeps x ≡ false → sleeps y ≡ false → sleeps (cond b x y) ≡ false
-awake_either true x y h k = h
-awake_either false x y h k = k
-
-seeks_same : (q : RwPhase) → sleeps (upgrade_table.seeks_act q) ≡ true → sleeps (of_rw.act_of q) ≡ true
-seeks_same (RwPhase.Admits a word) e =
-    absurd (both_ways _
-    (awake_either (of_rw.has_room word) (Act.Exchange word ((word + 20) % 2 ^ 64)) Act.Load refl refl) e)
-seeks_same (RwPhase.Appends want) e = absurd cc
-seeks_same q e = e
-
-frees_same : (r : Release) (q : RwPhase) → sleeps (upgrade_table.frees_act r q) ≡ true → sleeps (of_rw.act_of q) ≡ true
-frees_same r (RwPhase.Stores a left) e = absurd cc
-frees_same r (RwPhase.Finishes rest) e =
-    absurd (both_ways _ (awake_either (upgrade_table.is_again r) Act.Load (Act.Done answer.Released) refl refl) e)
-frees_same r q e = e
-
-owes_same : (kept : Kept) (end : CoreAnswer) (q : RwPhase) → sleeps (upgrade_table.owes_act kept end q) ≡ true
-    → sleeps (of_rw.act_of q) ≡ true
-owes_same kept end (RwPhase.Scans a) e = absurd cc
-owes_same kept end (RwPhase.Finishes rest) e = absurd cc
-owes_same kept end q e = e
 
 upgrade_sleeps : (n : ℕ) (at : QueuePosition) (us : List ℕ) (p : UpgradePhase) → sleeps (upgrade_table.act_of p) ≡ true
     → rw_laws.is_asleep (of_upgrade.does (rw_spot at) us p) ≡ true
@@ -530,10 +509,13 @@ module _ (s : State) (h : FitsTogether s) where
     somebody : Moves ⊎ ((is_asleep s t ≡ true) × SomebodyKeeps s c.lock)
     somebody = go (sleeps (core_act c.core)) refl
       where
-        slept : sleeps (core_act c.core) ≡ true → Moves ⊎ SomebodyKeeps s c.lock → Moves
+        slept : (k : Core) → c.core ≡ k → sleeps_in_time k ≡ true → Moves ⊎ SomebodyKeeps s c.lock → Moves
             ⊎ ((is_asleep s t ≡ true) × SomebodyKeeps s c.lock)
-        slept e (inl x) = inl x
-        slept e (inr x) = inr (ap (λ o. option_map_or (λ (d : Call). sleeps (core_act d.core)) o false) here ∙ e, x)
+        slept k e so (inl x) = inl x
+        slept k e so (inr x) = inr (ap is_asleep_in here ∙ ap sleeps_in_time e ∙ so, x)
+
+        asks : (k : Core) → c.core ≡ k → sleeps (core_act c.core) ≡ true → sleeps (core_act k) ≡ true
+        asks k e asleep = ap (λ x. sleeps (core_act x)) (sym e) ∙ asleep
 
         slept_up : manner_of (slice_get s.kinds c.lock) ≡ Some AsRw → Moves
             ⊎ (rw_laws.is_asleep (rw_role_at s c.lock t).does ≡ true) → Moves ⊎ SomebodyKeeps s c.lock
@@ -541,17 +523,19 @@ module _ (s : State) (h : FitsTogether s) where
         slept_up of (inr x) = rw_up of x
 
         by_core : (k : Core) → c.core ≡ k → IsOfKind (slice_get s.kinds c.lock) k → sleeps (core_act c.core) ≡ true
-            → Moves ⊎ SomebodyKeeps s c.lock
-        by_core (Core.Rw k) e of asleep = slept_up of (rw_sleeper c.lock t c of here refl asleep)
-        by_core (Core.Upgrade k) e of asleep = slept_up of (rw_sleeper c.lock t c of here refl asleep)
-        by_core (Core.LateRw k) e of asleep = slept_up of (rw_sleeper c.lock t c of here refl asleep)
-        by_core (Core.Mutex k) e of asleep = mutex_up of (plain_sleeper c.lock t c k here refl e asleep)
-        by_core (Core.Late p) e of asleep =
-            inl (late_moves t c p here e (ap (λ x. sleeps (core_act x)) (sym e) ∙ asleep))
+            → Moves ⊎ ((is_asleep s t ≡ true) × SomebodyKeeps s c.lock)
+        by_core (Core.Rw k) e of asleep = slept _ e (rw_in_time k.phase (asks _ e asleep))
+            (slept_up of (rw_sleeper c.lock t c of here refl asleep))
+        by_core (Core.Upgrade k) e of asleep = slept _ e (upgrade_in_time k.phase (asks _ e asleep))
+            (slept_up of (rw_sleeper c.lock t c of here refl asleep))
+        by_core (Core.LateRw p) e of asleep = inl (tardy_moves t c p here e (asks _ e asleep))
+        by_core (Core.Mutex k) e of asleep = slept _ e (mutex_in_time k.phase (asks _ e asleep))
+            (mutex_up of (plain_sleeper c.lock t c k here refl e asleep))
+        by_core (Core.Late p) e of asleep = inl (late_moves t c p here e (asks _ e asleep))
 
         go : (b : Bool) → sleeps (core_act c.core) ≡ b → Moves ⊎ ((is_asleep s t ≡ true) × SomebodyKeeps s c.lock)
         go false e = inl (awake_moves t c here e)
-        go true e = slept e (by_core c.core refl (h.rules.kinds t c here) e)
+        go true e = by_core c.core refl (h.rules.kinds t c here) e
 
 pub somebody_can_move : (s : State) → FitsTogether s → SomebodyCanMove s
 somebody_can_move s h t c here = somebody s h t c here

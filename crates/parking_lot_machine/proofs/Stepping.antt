@@ -16,6 +16,7 @@ use Rattle.parking_lot_machine_calls.specs.Stances.{Takes, sign, late_act, late_
 use Rattle.parking_lot_machine.specs.RowActs.{added, appended, answered, checked, entered, exchanged, left, loaded}
 use Rattle.parking_lot_machine.specs.RowActs.{masked, spun, told_all, took, took_nobody, woke, woke_nobody}
 use Rattle.parking_lot_machine_calls.specs.CallActs.{key_of}
+use Rattle.parking_lot_machine_calls.specs.Calls.{is_timed}
 use Rattle.parking_lot_machine.specs.RowFits.{FitsTogether}
 use Rattle.parking_lot_machine.specs.ActLaws.{Acts, Ends, Keeps}
 use Rattle.parking_lot_machine.specs.Machines.{may_expire_in, is_possible, is_taken, can_move_in, can_move, end_of}
@@ -252,7 +253,7 @@ can_late s t c can here asked =
 
 -- one whose moment may pass sleeps
 pub expires_so : (c : Call) → may_expire_in (Some c) ≡ true → sleeps_in_time c.core ≡ true
-expires_so c e = (both_true c.timed (sleeps_in_time c.core) e).1
+expires_so c e = (both_true (is_timed c.asked) (sleeps_in_time c.core) e).1
 
 -- one that may enter a section finds none open
 pub can_enter : (s : State) (t : ℕ) (c : Call) (key : ℕ) → can_move s t ≡ true → call_at s t ≡ Some c

@@ -22,3 +22,4 @@ pub mod LateLaws
 pub mod UpgradeLaws
 pub mod UpgradeRanks
 pub mod Requeues
+pub mod CallLaws

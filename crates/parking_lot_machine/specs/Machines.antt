@@ -1,7 +1,7 @@
 -- What a machine of locks does, call by call.
 use Rattle.std.specs.Prelude.{◌≡◌, ℕ, ◌*◌, ◌&&◌, ◌||◌, ◌⊎◌, Bool, true, false, not, nat_lt, if◌then◌else◌, List, []}
 use Rattle.std.specs.Prelude.{◌∷◌, ◌++◌, length, replicate, Option, Some, None, is_some, is_none, slice_get, slice_set}
-use Rattle.std.specs.Option.{option_and_then, option_map, option_map_or, option_or}
+use Rattle.std.specs.Option.{option_and_then, option_map, option_or}
 use Rattle.parking_lot_core_model.specs.Runs.{fresh}
 use Rattle.parking_lot_core_model.specs.declared.place.Place.TheVariants.{Running}
 use Rattle.parking_lot_protocol.specs.declared.act.Act.{Act}
@@ -65,13 +65,18 @@ can_move_in s (Some c) = goes_late s c c.core || is_possible (is_taken s c) (cor
 abbrev pub can_move : State → ℕ → Bool
 can_move s t = can_move_in s (call_at s t)
 
--- it sleeps, until another thread wakes it
+-- it asks to sleep, until another thread wakes it
 abbrev pub sleeps : Act → Bool
 sleeps act.Sleep = true
 sleeps other = false
 
+-- a thread sleeps, and its deadline hasn't come: behind that it comes back by itself
+abbrev pub is_asleep_in : Option Call → Bool
+is_asleep_in None = false
+is_asleep_in (Some c) = sleeps_in_time c.core
+
 abbrev pub is_asleep : State → ℕ → Bool
-is_asleep s t = option_map_or (λ c. sleeps (core_act c.core)) (call_at s t) false
+is_asleep s t = is_asleep_in (call_at s t)
 
 -- whether a thread may begin a call: it is in none, the lock is of a kind that takes it, and what it owns there allows
 -- it
@@ -89,7 +94,7 @@ call_for s t lock call =
       others = holds_beside call (hold_at s t lock);
       core = core_of (kind_in s.kinds lock) call;
       spot = spot.Listed;
-      timed = is_timed call;
+      asked = call;
     }
 
 -- a machine where nobody has done anything
@@ -176,7 +181,7 @@ pub record IsBegun (t lock : ℕ) (call : LockCall) (s u : State) : Type 0 where
 -- whether a thread's moment may pass: it is in a call that has one, and sleeps there, in its list or taken off it
 abbrev pub may_expire_in : Option Call → Bool
 may_expire_in None = false
-may_expire_in (Some c) = c.timed && sleeps_in_time c.core
+may_expire_in (Some c) = is_timed c.asked && is_asleep_in (Some c)
 
 abbrev pub may_expire : State → ℕ → Bool
 may_expire s t = may_expire_in (call_at s t)

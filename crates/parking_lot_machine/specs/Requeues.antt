@@ -1,6 +1,6 @@
 -- What it is to move waiters of a condition variable into the list of a mutex: by the rules, and in a machine of locks.
 use Rattle.std.specs.Prelude.{◌≡◌, ◌≢◌, ℕ, ◌+◌, ◌*◌, ◌%◌, ◌<◌, ◌≤◌, ◌==◌, ◌&&◌, ◌||◌, not, Bool, true, false, List, []}
-use Rattle.std.specs.Prelude.{◌∷◌, ◌++◌, length, map, Option, None, is_some, slice_get, slice_set, Some}
+use Rattle.std.specs.Prelude.{◌∷◌, ◌++◌, if◌then◌else◌, length, map, Option, None, is_some, slice_get, slice_set, Some}
 use Rattle.std.specs.List.{list_any}
 use Rattle.parking_lot_core_model.specs.declared.place.Phase.TheVariants as phase
 use Rattle.parking_lot_core_model.specs.Machine.{Machine, any_phase, closed, enter_fault, in_phase, joined, opened}
@@ -13,6 +13,7 @@ use Rattle.parking_lot_rules.specs.Roles.{Asleep}
 use Rattle.parking_lot_rules.specs.MutexOwners as owners
 use Rattle.parking_lot_rules.specs.Mutex.{Alone, Called, Come, Depart, Finish, Follow, Go, Idle, Inside, MarkParked}
 use Rattle.parking_lot_rules.specs.Mutex.{Mutex, Pull, Queued, Requeue, Runs, Seeks, Step, Wake, away, doing, total}
+use Rattle.parking_lot_machine_calls.specs.declared.calls.LockCall.{LockCall}
 use Rattle.parking_lot_machine_calls.specs.declared.calls.LockCall.TheVariants as call
 use Rattle.parking_lot_machine_calls.specs.declared.open_call.Call.{Call}
 use Rattle.parking_lot_machine_calls.specs.declared.seat.Core.{Core}
@@ -81,6 +82,10 @@ AllRequeuesAreRuns = (n : Mutex) (by : ℕ) (o : Bool) → RequeuesAreRuns n by 
 
 -- IN A MACHINE
 
+-- what it asks for there, by whether its moment may pass
+abbrev pub lock_ask : Bool → LockCall
+lock_ask timed = if timed then call.LockUntil else call.Lock
+
 -- the call of one that sleeps in the list of a mutex, and of one that was woken from there to try again
 abbrev pub sleeping_call : ℕ → Bool → Call
 sleeping_call lock timed =
@@ -89,7 +94,7 @@ sleeping_call lock timed =
       others = 0;
       core = core.Mutex (record { phase = m.Sleeps });
       spot = spot.Listed;
-      timed = timed;
+      asked = lock_ask timed;
     }
 
 abbrev pub retrying_call : ℕ → Bool → Call
@@ -99,7 +104,7 @@ retrying_call lock timed =
       others = 0;
       core = core.Mutex (record { phase = m.Loads (begins true) });
       spot = spot.Listed;
-      timed = timed;
+      asked = lock_ask timed;
     }
 
 -- the lot once a thread has joined a list, in a section of its own

@@ -17,10 +17,11 @@ use Rattle.parking_lot_machine_calls.specs.declared.seat.QueuePosition.{QueuePos
 use Rattle.parking_lot_machine_calls.specs.declared.seat.QueuePosition.TheVariants as spot
 use Rattle.parking_lot_machine_calls.specs.Kinds.{AsRw, manner_of, recursive_in}
 use Rattle.parking_lot_machine.specs.Ranks.{own_steps, steps_left}
-use Rattle.parking_lot_machine.specs.Machines.{can_move, is_asleep, IsBegun, IsStepped}
+use Rattle.parking_lot_machine.specs.Machines.{can_move, is_asleep, IsBegun, IsExpired, IsStepped}
 use Rattle.parking_lot_machine.specs.RowFits.{FitsTogether}
 use Rattle.parking_lot_machine.specs.Rows.{State, call_at, first_key, lock_at, open_at, queue_at, second_key}
 use Rattle.parking_lot_machine_calls.specs.CallActs.{key_of}
+use Rattle.parking_lot_machine_calls.specs.LateCalls.{comes_late, late_key}
 use Rattle.parking_lot_machine_calls.specs.Stances.{Doing, Joined, Stance, Out, In, Asleep, core_act, stance}
 use Rattle.parking_lot_machine.specs.Worlds.{is_indebted, mode_in}
 
@@ -58,11 +59,12 @@ pub record DebtsAreKept (s : State) : Type 0 where
   pub second : (i : ℕ) → manner_of (slice_get s.kinds i) ≡ Some AsRw → 0 < length (queue_at s (second_key i))
       → NoReaders s i → SomebodyIsInDebt s i
 
--- A thread in a call can move, but where it sleeps, and where it is before a section and another is in one of the same
--- bucket.
+-- A thread in a call can move, but where it sleeps, and where it is before a section, as one that comes back behind its
+-- deadline is too, and another is in one of the same bucket.
 abbrev pub AwakeCanMove : State → Type 0
 AwakeCanMove s = (t : ℕ) (c : Call) → call_at s t ≡ Some c → is_asleep s t ≡ false
-    → ((k : ℕ) → core_act c.core ≡ act.Enter k → open_at s (key_of c k) ≡ None) → can_move s t ≡ true
+    → ((k : ℕ) → core_act c.core ≡ act.Enter k → open_at s (key_of c k) ≡ None)
+    → (comes_late c.core ≡ true → open_at s (late_key c) ≡ None) → can_move s t ≡ true
 
 -- the thread is in no call at lock i
 abbrev pub IsApart : ℕ → Option Call → Type 0
@@ -136,12 +138,23 @@ pub record IsStepAt (t j : ℕ) (s u : State) : Type 0 where
   pub case : IsCaseAt (recursive_in s.kinds j) t (lock_at s j) (lock_at u j)
   pub elsewhere : (i : ℕ) → i ≢ j → lock_at u i ≡ lock_at s i
 
--- So is each step of the machine, and each beginning of a call.
+-- who owns a lock, and who waits in its lists, is the same
+abbrev pub HasSameOwners : AnyLock → AnyLock → Type 0
+HasSameOwners (Rw l) (Rw m) = rw.owners m ≡ rw.owners l
+HasSameOwners (Mx l) (Mx m) = mutex.owners m ≡ mutex.owners l
+HasSameOwners (Rw l) (Mx m) = ⊥
+HasSameOwners (Mx l) (Rw m) = ⊥
+
+-- So is each step of the machine, each beginning of a call, and each deadline that comes. The last moves nobody: owners
+-- and lists of all locks stay.
 pub record StepsAreCases : Type 0 where
   pub step : (s u : State) (t : ℕ) (fair : Bool) (answer : Option CoreAnswer) → FitsTogether s
       → (x : IsStepped t fair answer s u) → IsStepAt t x.call.lock s u
   pub begin : (s u : State) (t lock : ℕ) (call : LockCall) → FitsTogether s → IsBegun t lock call s u
       → IsStepAt t lock s u
+  pub deadline : (s u : State) (t : ℕ) → FitsTogether s → (x : IsExpired t s u) → IsStepAt t x.call.lock s u
+  pub deadline_moves_nobody : (s u : State) (t : ℕ) → FitsTogether s → IsExpired t s u → (i : ℕ)
+      → HasSameOwners (lock_at s i) (lock_at u i)
 
 -- That is so of every machine that fits together.
 abbrev pub Always : (State → Type 0) → Type 0

@@ -1,6 +1,7 @@
 //! Laws of the machine.
 ghost use Rattle.parking_lot_machine.specs.ActLaws.{ActsAreSteps};
 
+pub use crate::call_laws::calls_lead;
 pub use crate::late_laws::late_acts_are_steps;
 pub use crate::lot_laws::{
     acts_keep_places, new_machines_hold_together, nexts_are_taken, the_lot_never_refuses,

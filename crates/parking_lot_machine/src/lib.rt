@@ -3,6 +3,7 @@
 
 mod acts;
 mod advance;
+mod call_laws;
 mod late_acts;
 mod late_laws;
 pub mod laws;

@@ -63,15 +63,13 @@ impl<A: Allocator> RowMachine<A> {
         }
     }
 
-    /// Whether a thread sleeps in its call.
+    /// Whether a thread sleeps in its call, until another wakes it. One whose deadline has come doesn't: it comes back
+    /// by itself.
     pub fn is_asleep(&self, thread: usize) -> bool
         ensures { result ≡ is_asleep (state self.now) thread }
     {
         match self.call(thread) {
-            Some(call) => match call.core.act() {
-                Act::Sleep => true,
-                _ => false,
-            },
+            Some(call) => call.core.sleeps_in_time(),
             None => false,
         }
     }

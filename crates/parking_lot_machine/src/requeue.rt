@@ -3,8 +3,8 @@ ghost use Rattle.std.specs.Prelude.{◌≡◌, ◌%◌, ◌==◌, ◌||◌, true
 ghost use Rattle.std.specs.List.{list_any};
 ghost use Rattle.parking_lot_core_model.specs.Machine.{machine};
 ghost use Rattle.parking_lot_machine.specs.Requeues.{AllRequeuesAreRuns, IsRousedIn, IsTakenIn, MayJoin, MayTakeIn};
-ghost use Rattle.parking_lot_machine.specs.Requeues.{MovesAreCases, MovesAreRuns, core_retries, lot_with, may_rouse_in};
-ghost use Rattle.parking_lot_machine.specs.Requeues.{may_take_in, phase_retries, retries_at, retrying_call};
+ghost use Rattle.parking_lot_machine.specs.Requeues.{MovesAreCases, MovesAreRuns, core_retries, lock_ask, lot_with};
+ghost use Rattle.parking_lot_machine.specs.Requeues.{may_rouse_in, may_take_in, phase_retries, retries_at, retrying_call};
 ghost use Rattle.parking_lot_machine.specs.Requeues.{sleeping_call};
 ghost use Rattle.parking_lot_machine.specs.Rows.{state, word_at};
 
@@ -114,6 +114,17 @@ fn join<A: Allocator>(lot: &mut Lot<A>, thread: usize, key: usize)
     lot_calls::leave(lot, thread);
 }
 
+/// What one asks for that is to have the mutex, by whether its moment may pass.
+fn lock_ask(timed: bool) -> LockCall
+    ensures { result ≡ lock_ask timed }
+{
+    if timed {
+        LockCall::LockUntil
+    } else {
+        LockCall::Lock
+    }
+}
+
 /// The call of one that sleeps in the list of a mutex.
 fn sleeping(lock: usize, timed: bool) -> Call
     ensures { result ≡ sleeping_call lock timed }
@@ -123,7 +134,7 @@ fn sleeping(lock: usize, timed: bool) -> Call
         others: 0,
         core: Core::Mutex(sleeping_mutex()),
         spot: QueuePosition::Listed,
-        timed,
+        asked: lock_ask(timed),
     }
 }
 

@@ -148,7 +148,7 @@ impl<A: Allocator> RowMachine<A> {
         ensures { result ≡ may_expire (state self.now) thread }
     {
         match self.call(thread) {
-            Some(call) => call.timed && call.core.sleeps_in_time(),
+            Some(call) => call.asked.is_timed() && call.core.sleeps_in_time(),
             None => false,
         }
     }
@@ -213,7 +213,7 @@ impl<A: Allocator> RowMachine<A> {
                 others,
                 core: call.core(self.kind_or_rw(lock)),
                 spot: QueuePosition::Listed,
-                timed: call.is_timed(),
+                asked: call,
             },
         );
     }

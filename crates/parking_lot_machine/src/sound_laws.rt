@@ -27,9 +27,10 @@ pub fn debts_are_kept()
     ensures { Always DebtsAreKept }
 {}
 
-/// Each step of a machine, and each beginning of a call, is a case of a lock without a word, with named owners and two
-/// lists: it enters a list or leaves it, is admitted, hands the lock over, converts its hold, leaves, gives up, takes
-/// another off a list, or changes neither owners nor lists. It leaves every other lock as it was.
+/// Each step of a machine, each beginning of a call, and each deadline that comes is a case of a lock without a word,
+/// with named owners and two lists: it enters a list or leaves it, is admitted, hands the lock over, converts its hold,
+/// leaves, gives up, takes another off a list, or changes neither owners nor lists. It leaves every other lock as it
+/// was. A deadline moves nobody: who owns a lock owns it still, and who waits in a list waits there still.
 pub fn each_step_is_a_case()
     ensures { StepsAreCases }
 {}

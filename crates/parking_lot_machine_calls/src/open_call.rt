@@ -5,6 +5,7 @@ ghost use Rattle.parking_lot_machine_calls.specs.declared.seat.QueuePosition.The
 ghost use Rattle.parking_lot_machine_calls.specs.LateCalls.{found_as, is_handed};
 ghost use Rattle.parking_lot_machine_calls.specs.CallActs.{hears, key_of, off_list, settled};
 
+use crate::calls::LockCall;
 use crate::seat::{Core, QueuePosition, WakeResult};
 use parking_lot_core_model::UnparkToken;
 use parking_lot_protocol::ActResult;
@@ -20,8 +21,8 @@ pub struct Call {
     pub core: Core,
     /// Where it stands, while it sleeps.
     pub spot: QueuePosition,
-    /// Whether its moment may pass as it sleeps.
-    pub timed: bool,
+    /// What it was begun as, whatever has become of it since.
+    pub asked: LockCall,
 }
 
 impl Call {

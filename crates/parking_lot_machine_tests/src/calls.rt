@@ -2,8 +2,8 @@
 
 use parking_lot_core_model::ParkToken;
 use parking_lot_machine::{
-    Act, ActResult, Call, Core, HAND_OVER, MutexCore, OwnMode, QueuePosition, RwCore, SectionAct,
-    TRY_AGAIN, WakeResult,
+    Act, ActResult, Call, Core, HAND_OVER, LockCall, MutexCore, OwnMode, QueuePosition, RwCore,
+    SectionAct, TRY_AGAIN, WakeResult,
 };
 use std::process::Abort;
 
@@ -14,7 +14,7 @@ fn call_of(core: Core) -> Call {
         others: 0,
         core,
         spot: QueuePosition::Listed,
-        timed: false,
+        asked: LockCall::Read,
     }
 }
 

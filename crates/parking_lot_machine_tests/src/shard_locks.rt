@@ -1,5 +1,6 @@
 //! Schedules at the lock of one shard.
 
+mod deadlines;
 mod trace;
 
 use lock_api_desk::Mode;

@@ -15,14 +15,13 @@ use Rattle.parking_lot_machine_sides.specs.Condvar.Machines.{State as Var, varia
 use Rattle.parking_lot_machine_sides.specs.Condvar.Steps.{Runs}
 use Rattle.parking_lot_machine_calls.specs.declared.calls.LockCall.{LockCall}
 use Rattle.parking_lot_machine_calls.specs.declared.open_call.Call.{Call}
-use Rattle.parking_lot_machine.specs.LateLaws.{expire_step}
 use Rattle.parking_lot_machine.specs.Machines as rows
 use Rattle.parking_lot_machine.specs.Requeues.{AreTakenIn, MovesAreCases}
 use Rattle.parking_lot_machine.specs.RowFits.{FitsTogether}
 use Rattle.parking_lot_machine.specs.Rows.{State, lock_at, state}
 use Rattle.parking_lot_machine.specs.Rows as row
 use Rattle.parking_lot_machine.specs.SoundLaws.{IsStepAt}
-use Rattle.parking_lot_machine.proofs.Cases.{made, steps_are_cases_of_locks}
+use Rattle.parking_lot_machine.proofs.Cases.{steps_are_cases_of_locks}
 use Rattle.parking_lot_machine_waits.specs.declared.ended.Ended.{Ended}
 use Rattle.parking_lot_machine_waits.specs.declared.turn.Turn.{Turn}
 use Rattle.parking_lot_machine_waits.specs.declared.turn.Turn.TheVariants as turn
@@ -182,7 +181,7 @@ module _ (t : ℕ) (i j : Joint) (fits : FitsTogether (state i.rows)) where
 
   expired : (b : Bool) → rows.IsExpired (number i t b) s u → AtLocks t i j
   expired b x = single t i j b x.call.lock
-      (made s u fits (number i t b) x.call.lock (expire_step x.call.core x.call.spot) x.lawful.goes)
+      (steps_are_cases_of_locks.deadline s u (number i t b) fits x)
       (ap (λ (y : State). y.kinds) x.became)
 
   comes_back : (b may : Bool) → ComesBackIf may (number i t b) i j → AtLocks t i j

@@ -29,7 +29,8 @@ use Rattle.parking_lot_machine_sides.proofs.CondvarFacts.Slots.{slot, within}
 use Rattle.parking_lot_machine_calls.specs.declared.open_call.Call.{Call}
 use Rattle.parking_lot_machine_calls.specs.declared.seat.Core.{Core as RowCore}
 use Rattle.parking_lot_machine_calls.specs.declared.seat.Core.TheVariants as row_core
-use Rattle.parking_lot_machine.specs.Machines.{can_move, can_move_in, is_asleep, sleeps}
+use Rattle.parking_lot_machine.specs.Machines.{can_move, can_move_in, is_asleep, is_asleep_in, sleeps}
+use Rattle.parking_lot_machine.proofs.InTime.{awake_in_time}
 use Rattle.parking_lot_machine.specs.Rows.{State, call_at as row_call_at, inside, state}
 use Rattle.parking_lot_machine.specs.SoundLaws.{Always, AwakeCanMove, SomebodyCanMove as RowSomebodyCanMove}
 use Rattle.parking_lot_machine_calls.specs.Stances.{core_act}
@@ -421,14 +422,13 @@ module _ (j : Joint) (h : IsWhole j) (fits : PartsFit j) where
 
     module _ (none : s.lot.section ≡ None) where
       up : (k : ℕ) (d : Call) → row_call_at s k ≡ Some d → is_asleep s k ≡ false → row_goes j k ≡ true
-      up k d here is = row_free k (awake s fits.rows k d here is (λ key e. none))
+      up k d here is = row_free k (awake s fits.rows k d here is (λ key e. none) (λ comes. none))
 
       givers_go : (t : ℕ) → GiversGo t
       givers_go t v q c here is =
           let x = (subst (Stands j t c) is (h.stands v t c here)).front in
           up (front_number j t) x.call x.here
-          (ap (λ (o : Option Call). option_map_or (λ (d : Call). sleeps (core_act d.core)) o false) x.here
-          ∙ giver_awake x.call.core x.is)
+          (ap is_asleep_in x.here ∙ awake_in_time x.call.core (giver_awake x.call.core x.is))
 
       anothers : (u : ℕ) → can_move s u ≡ true → Somebody
       anothers u can = go (row_call_at s u) refl can

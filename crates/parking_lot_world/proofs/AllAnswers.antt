@@ -1,5 +1,5 @@
 -- Answers fit the calls of locks, of condition variables and of onces.
-use Rattle.parking_lot_world.specs.CallLaws.AnswerLaws.{CallsLead}
+use Rattle.parking_lot_machine.specs.CallLaws.AnswerLaws.{CallsLead}
 use Rattle.parking_lot_machine_sides.specs.Once.OnceMachineLasting as once_laws
 use Rattle.parking_lot_machine_waits.specs.JointLaws.{RepliesFit}
 use Rattle.parking_lot_world.specs.WorldAnswers.{AnswersFit}

@@ -6,10 +6,10 @@ use Rattle.std.specs.Option.{option_and_then, option_map, unwrap_or}
 use Rattle.std.proofs.lemmas.Bool.{eqb-true, lt-ltb}
 use Rattle.std.proofs.lemmas.List.{length-set}
 use Rattle.std.proofs.lemmas.Option.{none-some, same_Some}
-use Rattle.parking_lot_world.specs.CallLaws.AnswerLaws.{CallsLead, IsAnswered, IsOpen}
-use Rattle.parking_lot_world.specs.CallLaws.Answers.{MayStand, may_end}
-use Rattle.parking_lot_world.specs.CallLaws.Stages.{Stage, quits, stage, stage_of}
-use Rattle.parking_lot_world.proofs.CallLawsFacts.Standing.{begins_so, ends_so, stands_late, stands_on}
+use Rattle.parking_lot_machine.specs.CallLaws.AnswerLaws.{CallsLead, IsAnswered, IsOpen}
+use Rattle.parking_lot_machine.specs.CallLaws.Answers.{MayStand, may_end}
+use Rattle.parking_lot_machine.specs.CallLaws.Stages.{Stage, quits, stage, stage_of}
+use Rattle.parking_lot_machine.proofs.CallLawsFacts.Standing.{begins_so, ends_so, stands_late, stands_on}
 use Rattle.parking_lot_machine_sides.specs.Once.Onces.{Onces}
 use Rattle.parking_lot_machine_sides.specs.Once.Onces as onces
 use Rattle.parking_lot_machine_sides.specs.declared.once.open_call.OpenCall.{OpenCall}
@@ -263,9 +263,11 @@ module _ (law : CallsLead) (t i : ℕ) (c : RowCall) where
         same answers
 
     -- its deadline
-    timed_now : (o : Option Call) (d : Call) → o ≡ Some d → rows.may_expire_in o ≡ true → d.timed ≡ true
+    timed_now : (o : Option Call) (d : Call) → o ≡ Some d → rows.may_expire_in o ≡ true
+        → is_timed d.asked ≡ true
     timed_now None d e may = absurd (none-some d e)
-    timed_now (Some y) d e may = ap (λ (z : Call). z.timed) (sym (same_Some y d e)) ∙ (both_true y.timed _ may).0
+    timed_now (Some y) d e may = ap (λ (z : Call). is_timed z.asked) (sym (same_Some y d e))
+        ∙ (both_true (is_timed y.asked) _ may).0
 
     late_itself : (m : InLock w late) (at : Option ℕ) → (seat_at w.waits t).at ≡ at
         → joint.may_expire_at at w.waits t ≡ true → IsLateAt at t w.waits x.waits → answer_at x t ≡ answer_at w t
@@ -289,7 +291,7 @@ module _ (law : CallsLead) (t i : ℕ) (c : RowCall) where
                 (ap (λ (ss : List Seat). cond m.second (length ss + t) t) seats ∙ sym (its_number m)) ∙ now.here;
             there = now.there ∙ ap (λ (d : Call). d.lock) same ∙ m.open_call.there;
             beside = now.beside ∙ ap (λ (d : Call). d.others) same ∙ m.open_call.beside;
-            deadline = now.deadline ∙ ap (λ (d : Call). d.timed) same ∙ m.open_call.deadline;
+            deadline = now.deadline ∙ ap (λ (d : Call). is_timed d.asked) same ∙ m.open_call.deadline;
             stands = now.stands ∙ ap (λ (d : Call). quits (stage d)) same ∙ ap quits m.open_call.stands;
           };
           stands = subst (λ b. MayStand m.others (stage_of c) b (quits m.at)) (sym (ap (λ b. b && true) timed))

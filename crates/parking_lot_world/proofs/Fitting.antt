@@ -1,7 +1,7 @@
 -- Answers fit their calls where their ends do.
 use Rattle.std.proofs.Common.{◌≡◌, ◌&&◌, ◌||◌, Bool, true, false, cond, refl}
-use Rattle.parking_lot_world.specs.CallLaws.Answers.{may_end}
-use Rattle.parking_lot_world.specs.CallLaws.Stages.{Asks, Frees, Tries, Turns, stage_of}
+use Rattle.parking_lot_machine.specs.CallLaws.Answers.{may_end}
+use Rattle.parking_lot_machine.specs.CallLaws.Stages.{Asks, Frees, Tries, Turns, stage_of}
 use Rattle.parking_lot_protocol.specs.declared.act.CoreAnswer.{CoreAnswer}
 use Rattle.parking_lot_protocol.specs.declared.act.CoreAnswer.TheVariants.{Owned, Refused, Released}
 use Rattle.parking_lot_machine_calls.specs.Calls.{is_timed}

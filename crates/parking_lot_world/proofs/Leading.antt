@@ -5,8 +5,8 @@ use Rattle.std.specs.List.{list_all}
 use Rattle.std.specs.Option.{option_and_then, option_map}
 use Rattle.std.proofs.lemmas.Bool.{lt-ltb, ltb-true}
 use Rattle.std.proofs.lemmas.Option.{none-some, slice_get-map}
-use Rattle.parking_lot_world.specs.CallLaws.AnswerLaws.{CallsLead, GoesOn, IsOpen, Onward}
-use Rattle.parking_lot_world.specs.CallLaws.Stages.{Leads, Stage, stage}
+use Rattle.parking_lot_machine.specs.CallLaws.AnswerLaws.{CallsLead, GoesOn, IsOpen, Onward}
+use Rattle.parking_lot_machine.specs.CallLaws.Stages.{Leads, Stage, stage}
 use Rattle.parking_lot_rules.proofs.Slots.{set_elsewhere}
 use Rattle.parking_lot_machine_sides.specs.declared.condvar.calls.CondvarCall.{CondvarCall}
 use Rattle.parking_lot_machine_sides.specs.declared.condvar.calls.CondvarReply.{CondvarReply}

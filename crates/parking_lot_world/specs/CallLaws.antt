@@ -1,4 +1,1 @@
-pub mod Stages
-pub mod AnswerLaws
-pub mod Answers
 pub mod SameCores

@@ -10,6 +10,7 @@ use Rattle.parking_lot_machine_sides.specs.declared.condvar.calls.CondvarReply.{
 use Rattle.parking_lot_machine_sides.specs.declared.condvar.calls.CondvarReply.TheVariants as told
 use Rattle.parking_lot_machine_waits.specs.declared.ended.Ended.{Ended}
 use Rattle.parking_lot_machine_waits.specs.declared.ended.Ended.TheVariants as ended
+use Rattle.parking_lot_machine_calls.specs.Calls.{is_timed}
 use Rattle.parking_lot_machine_calls.specs.declared.calls.LockCall.TheVariants as row
 use Rattle.parking_lot_machine_calls.specs.declared.calls.LockKind.{LockKind as RowKind}
 use Rattle.parking_lot_machine_calls.specs.declared.calls.LockKind.TheVariants as rows
@@ -97,7 +98,7 @@ of_timed from_core.Released = answer.TimedOut
 -- what a thread is answered whose call at a lock ends so
 abbrev pub said : Option Call → CoreAnswer → LockAnswer
 said None a = of_core a
-said (Some c) a = if c.timed then of_timed a else of_core a
+said (Some c) a = if is_timed c.asked then of_timed a else of_core a
 
 abbrev pub of_condvar : CondvarReply → LockAnswer
 of_condvar told.Woken = answer.Owned

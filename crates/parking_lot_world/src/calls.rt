@@ -218,7 +218,7 @@ impl LockAnswer {
         ensures { result ≡ said call answer }
     {
         match call {
-            Some(call) if call.timed => LockAnswer::of_timed(answer),
+            Some(call) if call.asked.is_timed() => LockAnswer::of_timed(answer),
             _ => LockAnswer::of_core(answer),
         }
     }

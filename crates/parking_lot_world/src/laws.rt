@@ -2,7 +2,7 @@
 ghost use Rattle.parking_lot_world.specs.WorldAnswers.{AnswersFit};
 ghost use Rattle.parking_lot_world.specs.WorldLaws.{StepsAreCases, StepsArePaid};
 
-use crate::call_laws::laws::calls_lead;
+use parking_lot_machine::laws::calls_lead;
 use parking_lot_machine_sides::once::laws as of_onces;
 use parking_lot_machine_waits::laws as of_waits;
 

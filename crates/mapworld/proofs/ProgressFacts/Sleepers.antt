@@ -7,24 +7,26 @@ use Rattle.std.specs.Option.{option_map_or}
 use Rattle.std.proofs.lemmas.List.Elements.{All-head, All-tail}
 use Rattle.std.proofs.lemmas.Option.{none-some, same_Some}
 use Rattle.lock_api_desk.specs.declared.mode.Mode.{Mode}
-use Rattle.lock_api_desk.specs.declared.mode.Mode.TheVariants as held
 use Rattle.parking_lot_core_model.specs.declared.parking.ParkToken.{ParkToken}
-use Rattle.parking_lot_protocol.specs.declared.rw_phase.AfterWake.{AfterWake}
-use Rattle.parking_lot_protocol.specs.declared.rw_phase.LockMode.{LockMode}
 use Rattle.parking_lot_protocol.specs.declared.rw_phase.RwPhase.{RwPhase}
-use Rattle.parking_lot_protocol.specs.RwTable.{act_of}
-use Rattle.parking_lot_machine_calls.specs.Kinds.{AsMutex, manner_of}
+use Rattle.parking_lot_machine_calls.specs.Kinds.{AsMutex, manner_of, recursive_in}
 use Rattle.parking_lot_machine_calls.specs.declared.calls.LockKind.{LockKind}
 use Rattle.parking_lot_machine_calls.specs.declared.open_call.Call.{Call}
 use Rattle.parking_lot_machine_calls.specs.declared.seat.Core.{Core}
-use Rattle.parking_lot_machine.specs.Machines.{is_asleep, sleeps}
+use Rattle.parking_lot_machine.specs.Machines.{is_asleep, is_asleep_in}
 use Rattle.parking_lot_machine_calls.specs.CallKinds.{IsOfKind}
 use Rattle.parking_lot_machine.specs.Rows.{State, call_at, state}
-use Rattle.parking_lot_machine_calls.specs.Stances.{Stance, Asleep, core_act, rw_stance, stance}
+use Rattle.parking_lot_machine_calls.specs.Stances.{Stance, Asleep, rw_asleep, rw_stance, stance}
 use Rattle.mapworld_state.proofs.LocksFacts.Handing.{goes_by, no_mutex}
-use Rattle.mapworld_state.specs.Locks.Aims.{Aim, Gets, aim_for, phase_aim}
+use Rattle.mapworld_state.specs.Locks.Aims.{Aim, Gets, aim_of}
 use Rattle.mapworld_state.specs.Locks.Fits.{LocksFit, is_plain}
-use Rattle.mapworld_state.specs.Locks.Stands.{core_aim}
+use Rattle.mapworld_state.proofs.LocksFacts.Staging.{asking_gets, sleeper_asks}
+use Rattle.mapworld_state.proofs.LocksFacts.Giving.{yields_awake}
+use Rattle.parking_lot_machine.specs.CallLaws.Stages.{core_stage}
+use Rattle.parking_lot_machine.specs.RowFits.{IsPrepared}
+use Rattle.std.proofs.lemmas.Bool.{false≢true}
+use Rattle.parking_lot_machine_calls.specs.Calls.{is_timed}
+use Rattle.parking_lot_machine_calls.specs.LateCalls.{sleeps_in_time}
 use Rattle.mapworld_state.specs.Locks.Views.{Shown}
 
 -- what is so of all elements is so of each
@@ -42,75 +44,28 @@ pub record SleepsOn (at : Stance) (aim : Aim) : Type 0 where
   pub mode : Mode
   pub aim_is : aim ≡ Gets mode
 
-asks : (want : LockMode) → (mode : Mode) × (aim_for want ≡ Gets mode)
-asks (LockMode.Shared recursive) = (held.Shared, refl)
-asks LockMode.Exclusive = (held.Exclusive, refl)
+-- who sleeps does so on one of the two keys
+record Rests (at : Stance) : Type 0 where
+  key : ℕ
+  low : (key ≡ 0) ⊎ (key ≡ 1)
+  token : ParkToken
+  stance_is : at ≡ Asleep key token
 
-awake : (rest : AfterWake) → sleeps (act_of (RwPhase.Finishes rest)) ≡ true → ⊥
-awake AfterWake.FreedShared h = cc
-awake AfterWake.FreedExclusive h = cc
-awake AfterWake.Downgraded h = cc
-awake AfterWake.AgainShared h = cc
-awake AfterWake.AgainExclusive h = cc
+rw_rests : (p : RwPhase) → rw_asleep p ≡ true → Rests (rw_stance p)
+rw_rests (RwPhase.Sleeps want) h = record { key = 0; low = inl refl; token = _; stance_is = refl }
+rw_rests (RwPhase.DrainSleeps rounds) h = record { key = 1; low = inr refl; token = _; stance_is = refl }
+rw_rests p h = absurd cc
 
-sleeps_on : (p : RwPhase) → sleeps (act_of p) ≡ true → SleepsOn (rw_stance p) (phase_aim p)
-sleeps_on (RwPhase.Locking want) h = cc
-sleeps_on (RwPhase.Trying want) h = cc
-sleeps_on RwPhase.UnlockingShared h = cc
-sleeps_on (RwPhase.UnlockingExclusive fair) h = cc
-sleeps_on RwPhase.Downgrading h = cc
-sleeps_on RwPhase.BumpingShared h = cc
-sleeps_on RwPhase.BumpingExclusive h = cc
-sleeps_on (RwPhase.Loads a) h = cc
-sleeps_on (RwPhase.Admits a word) h = cc
-sleeps_on (RwPhase.Spins a) h = cc
-sleeps_on (RwPhase.SetParked a word) h = cc
-sleeps_on (RwPhase.Enters want woken) h = cc
-sleeps_on (RwPhase.Checks want woken) h = cc
-sleeps_on (RwPhase.Retreats want woken) h = cc
-sleeps_on (RwPhase.Appends want) h = cc
-sleeps_on (RwPhase.Rests want) h = cc
-sleeps_on (RwPhase.Sleeps want) h =
-    record { key = 0; low = inl refl; token = _; stance_is = refl; mode = (asks want).0; aim_is = (asks want).1 }
-sleeps_on (RwPhase.DrainLoads d) h = cc
-sleeps_on (RwPhase.DrainSpins d) h = cc
-sleeps_on (RwPhase.DrainSetParked d word) h = cc
-sleeps_on (RwPhase.DrainEnters d) h = cc
-sleeps_on (RwPhase.DrainChecks d) h = cc
-sleeps_on (RwPhase.DrainRetreats d) h = cc
-sleeps_on (RwPhase.DrainAppends rounds) h = cc
-sleeps_on (RwPhase.DrainRests rounds) h = cc
-sleeps_on (RwPhase.DrainSleeps rounds) h =
-    record { key = 1; low = inr refl; token = _; stance_is = refl; mode = held.Exclusive; aim_is = refl }
-sleeps_on (RwPhase.TryLoads want) h = cc
-sleeps_on (RwPhase.TryAdmits want word left) h = cc
-sleeps_on (RwPhase.Refuses want) h = cc
-sleeps_on (RwPhase.BumpLoads want) h = cc
-sleeps_on (RwPhase.Relocks want) h = cc
-sleeps_on (RwPhase.Unshares rest) h = cc
-sleeps_on (RwPhase.EnterWriterWakeSection rest) h = cc
-sleeps_on (RwPhase.TakeWriter rest) h = cc
-sleeps_on (RwPhase.ClearWriterParked rest taken) h = cc
-sleeps_on (RwPhase.LeaveWriterWakeSection rest taken) h = cc
-sleeps_on (RwPhase.Unlocks fair rest) h = cc
-sleeps_on (RwPhase.LooksExclusive fair rest) h = cc
-sleeps_on RwPhase.Downgrades h = cc
-sleeps_on RwPhase.EnterWakeSection h = cc
-sleeps_on (RwPhase.Scans s) h = cc
-sleeps_on (RwPhase.Stores s left) h = cc
-sleeps_on (RwPhase.Leaves rest count handed) h = cc
-sleeps_on (RwPhase.Wakes rest count) h = cc
-sleeps_on (RwPhase.Finishes rest) h = absurd (awake rest h)
-sleeps_on (RwPhase.Ends outcome) h = cc
-sleeps_on RwPhase.Invalid h = cc
-
-core_sleeps : (k : Core) (o : Option LockKind) → is_plain k ≡ true → manner_of o ≢ Some AsMutex → IsOfKind o k
-    → sleeps (core_act k) ≡ true → SleepsOn (stance k) (core_aim k)
-core_sleeps (Core.Rw c) o so rw of_kind h = sleeps_on c.phase h
-core_sleeps (Core.Mutex c) o so rw of_kind h = absurd (rw of_kind)
-core_sleeps (Core.Late c) o so rw of_kind h = absurd (rw of_kind)
-core_sleeps (Core.LateRw p) o so rw of_kind h = absurd cc
-core_sleeps (Core.Upgrade c) o so rw of_kind h = absurd cc
+core_rests : (timed recursive : Bool) (n : ℕ) (k : Core) (o : Option LockKind) → is_plain timed k ≡ true
+    → manner_of o ≢ Some AsMutex → IsOfKind o k → IsPrepared recursive n k → sleeps_in_time k ≡ true
+    → Rests (stance k)
+core_rests timed recursive n (Core.Rw c) o so rw of_kind ready h = rw_rests c.phase h
+core_rests timed recursive n (Core.Mutex c) o so rw of_kind ready h = absurd (rw of_kind)
+core_rests timed recursive n (Core.Late c) o so rw of_kind ready h = absurd (rw of_kind)
+core_rests timed recursive n (Core.LateRw p) o so rw of_kind ready h = absurd cc
+core_rests true recursive n (Core.Upgrade c) o so rw of_kind ready h =
+    absurd (false≢true (sym (yields_awake c.phase so ready.1) ∙ h))
+core_rests false recursive n (Core.Upgrade c) o so rw of_kind ready h = absurd cc
 
 module _ (locks : Shown) (fit : LocksFit locks) (t : ℕ) where
   abbrev s : State
@@ -120,15 +75,30 @@ module _ (locks : Shown) (fit : LocksFit locks) (t : ℕ) where
   all_rw i e = no_mutex (goes_by s i AsMutex fit.plain.kinds e)
 
   -- the call in which a thread sleeps
-  sleeper-by : (o : Option Call) → call_at s t ≡ o → option_map_or (λ c. sleeps (core_act c.core)) o false ≡ true
-      → (c : Call) × (call_at s t ≡ Some c) × SleepsOn (stance c.core) (core_aim c.core)
+  sleeper-by : (o : Option Call) → call_at s t ≡ o → is_asleep_in o ≡ true → (c : Call) × (call_at s t ≡ Some c)
+      × SleepsOn (stance c.core) (aim_of c.asked)
   sleeper-by None there h = cc
-  sleeper-by (Some c) there h = (
-    c,
-    there,
-    core_sleeps c.core (slice_get s.kinds c.lock) (fit.plain.cores t c there) (all_rw c.lock)
-        (fit.fits.rules.kinds t c there) h,
-  )
+  sleeper-by (Some c) there h =
+      let ready = fit.fits.rules.prepared t c there in
+      let on = core_rests (is_timed c.asked) (recursive_in s.kinds c.lock) c.others c.core (slice_get s.kinds c.lock)
+      (fit.plain.cores t c there) (all_rw c.lock) (fit.fits.rules.kinds t c there) ready h in
+      let gets = asking_gets c.asked (fit.plain.asked t c there) (core_stage 0 c.core) (is_timed c.asked)
+      (fit.plain.stands t c there)
+      (sleeper_asks (is_timed c.asked) (recursive_in s.kinds c.lock) 0 c.core on.key on.token
+      (fit.plain.cores t c there)
+      (subst (λ n. IsPrepared (recursive_in s.kinds c.lock) n c.core) (fit.plain.alone t c there) ready)
+      on.stance_is) in (
+        c,
+        there,
+        record {
+          key = on.key;
+          low = on.low;
+          token = on.token;
+          stance_is = on.stance_is;
+          mode = gets.0;
+          aim_is = gets.1;
+        },
+      )
 
-  pub sleeper : is_asleep s t ≡ true → (c : Call) × (call_at s t ≡ Some c) × SleepsOn (stance c.core) (core_aim c.core)
+  pub sleeper : is_asleep s t ≡ true → (c : Call) × (call_at s t ≡ Some c) × SleepsOn (stance c.core) (aim_of c.asked)
   sleeper h = sleeper-by (call_at s t) refl h

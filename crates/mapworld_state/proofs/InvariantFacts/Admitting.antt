@@ -50,6 +50,7 @@ use Rattle.mapworld_state.proofs.InvariantFacts.Building.{Goes, in_call-moved, t
 use Rattle.mapworld_state.proofs.InvariantFacts.Building.{sound-by, claim-at, taken-at, within-at, none-at, none-moved}
 use Rattle.mapworld_state.proofs.InvariantFacts.Building.{no-visits, session-next, session-is, asked-from}
 use Rattle.mapworld_state.proofs.InvariantFacts.Building.{ready-outside, block_after-none}
+use Rattle.mapworld_state.specs.Moves.{request_tries}
 
 -- a thread's blocks, where the phase that it goes to may own one
 pub owns-on : {K V D T A : Type 0} (bs : List (Block K)) (t : ℕ) (p p' : Place K V D T A) → OwnsBlocks bs t p
@@ -131,7 +132,12 @@ module _ {K V S D T A : Type 0} (x : Setup K V D T) (w : State K V S D T A) (t :
       let none = none-at x (threads_of w) w.blocks w.replies w.tables t p f e.before st refl in
       let one : p.holds ++ a ∷ [] ≡ a ∷ [] = ap (λ hs. hs ++ a ∷ []) c.2 in
       let wants = stand-at w.places w.locks sound.holds t p e.stands f e.before in
-      let stand : e.ends.stand ≡ record { shard = p.shard; aim = Gets (at_desk mode); trying = wants.trying } =
+      let stand : e.ends.stand ≡ record {
+        shard = p.shard;
+        aim = Gets (at_desk mode);
+        trying = request_tries e.request;
+        timed = false;
+      } =
       same_Some e.ends.stand _ (sym e.ends.stood ∙ wants.is) in
       let here : e.ends.stand.shard ≡ p.shard = ap (λ (z : Stand). z.shard) stand in
       let mine : owner_in e.locks p.shard t ≡ Some (at_desk mode) =
@@ -207,7 +213,8 @@ module _ {K V D T A : Type 0} (x : Setup K V D T) (threads : List ℕ) (bs : Lis
   waits-apart (phase.Idle f) c stand h m aim i b hb = absurd (none-some stand (sym h))
   waits-apart (phase.Reach f) c stand h m aim i b hb = λ same. kept-apart (walk_mode f) (kept_over f p.shard) c.2 i b hb
       (same ∙ ap (λ (z : Stand). z.shard)
-      (same_Some stand (record { shard = p.shard; aim = Gets (at_desk (walk_mode f)); trying = h.trying }) h.is))
+      (same_Some stand
+      (record { shard = p.shard; aim = Gets (at_desk (walk_mode f)); trying = false; timed = false }) h.is))
   waits-apart (phase.Part f) c stand h m aim i b hb = absurd (none-some stand (sym h))
   waits-apart (phase.Visit f) c stand h m aim i b hb = absurd (owes-gets stand m aim h)
   waits-apart (phase.Seek f) c stand h m aim i b hb = absurd (none-some stand (sym h))

@@ -1,3 +1,4 @@
+pub mod Trying
 pub mod Noticing
 pub mod Looking
 pub mod Words

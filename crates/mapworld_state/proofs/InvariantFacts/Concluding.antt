@@ -32,6 +32,7 @@ use Rattle.mapworld_state.proofs.InvariantFacts.Building.{none-at, no-visits, re
 use Rattle.mapworld_state.proofs.InvariantFacts.Admitting.{owns-on, sound-silent, sound-leaves, none-yet, walk-apart}
 use Rattle.mapworld_state.proofs.InvariantFacts.Admitting.{unopened-ready}
 use Rattle.mapworld_calls.proofs.Walking.{none-visited}
+use Rattle.std.proofs.Common.{false}
 
 -- a walk that was to give no item is answered by what it has read without a visit
 unvisited-answer : {K V D T A : Type 0} (x : Setup K V D T) (bs : List (Block K)) (f : Walk D) (a : Answer K V T A)
@@ -69,13 +70,14 @@ module _ {K V S D T A : Type 0} (x : Setup K V D T) (w : State K V S D T A) (t :
       let stand : e.ends.stand ≡ record {
         shard = p.shard;
         aim = Gets (at_desk (mode_of e.request));
-        trying = wants.trying;
+        trying = request_tries e.request;
+        timed = false;
       } = same_Some e.ends.stand _ (sym e.ends.stood ∙ wants.is) in
       let aim = ap (λ (z : Stand). z.aim) stand in
       let tries : request_tries e.request ≡ true = ⊎_elim (λ yes_. yes_)
       (λ no_. absurd (owned≢refused
       (sym (e.ends.patient (at_desk (mode_of e.request)) aim
-      (ap (λ (z : Stand). z.trying) stand ∙ wants.patient no_)))))
+      (ap (λ (z : Stand). z.trying) stand ∙ no_) (ap (λ (z : Stand). z.timed) stand)))))
       (cases_Bool (request_tries e.request)) in
       let told = refused-try p e.stands e.request e.before c.0.asked tries p' c.1.guard (block_after-none p' c.1.block)
       in

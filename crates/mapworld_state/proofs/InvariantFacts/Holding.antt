@@ -14,7 +14,7 @@ use Rattle.parking_lot_machine_calls.specs.declared.calls.LockCall.{LockCall}
 use Rattle.parking_lot_machine_calls.specs.declared.calls.LockCall.TheVariants.{Downgrade}
 use Rattle.mapworld_state.specs.Locks.Aims.{Aim, Gets, GivesUp, Turns, aim_of}
 use Rattle.mapworld_state.specs.Locks.Views.{Shown, owner_in}
-use Rattle.mapworld_state.specs.Locks.Stands.{Stand, stand_in, is_try}
+use Rattle.mapworld_state.specs.Locks.Stands.{Stand, stand_for, stand_in}
 use Rattle.mapworld_state.specs.Locks.Steps.{LockBegins, LockMoves, LockStarts, LockEnds}
 use Rattle.mapworld_state.specs.declared.holds.Mode.{Mode}
 use Rattle.mapworld_state.specs.declared.holds.Mode.TheVariants.{Shared, Exclusive}
@@ -53,18 +53,9 @@ module _ {K V D T A : Type 0} (p : Place K V D T A) (mode : Mode) (tries : Bool)
   wanting : IsWanting p mode tries (Some stand) → ((m : DeskMode) × (stand.shard ≡ p.shard) × (stand.aim ≡ Gets m))
       ⊎ MayOwe p stand.shard stand.aim
   wanting h =
-      let same = same_Some stand (record { shard = p.shard; aim = Gets (at_desk mode); trying = h.trying }) h.is in
+      let same = same_Some stand (record { shard = p.shard; aim = Gets (at_desk mode); trying = tries; timed = false })
+      h.is in
       inl (at_desk mode, ap (λ (z : Stand). z.shard) same, ap (λ (z : Stand). z.aim) same)
-
-  moved-wanting : (trying : Bool) → (stand.trying ≡ false → trying ≡ false) → IsWanting p mode tries (Some stand)
-      → IsWanting p mode tries (Some (record stand { trying = trying }))
-  moved-wanting trying patient h =
-      let same = same_Some stand (record { shard = p.shard; aim = Gets (at_desk mode); trying = h.trying }) h.is in
-      record {
-        trying = trying;
-        is = ap (λ (z : Stand). Some (record z { trying = trying })) same;
-        patient = λ e. patient (ap (λ (z : Stand). z.trying) same ∙ h.patient e);
-      }
 
 -- a thread that is in a lock's call waits for its admission, or owes something to the lock
 pub in-call : {K V D T A : Type 0} (p : Place K V D T A) (f : Phase K V D T A) (stand : Stand) → StandsBefore p f (Some stand)
@@ -90,32 +81,6 @@ in-call p (phase.Give f) stand h = absurd (none-some stand (sym h))
 in-call p (phase.Onward f) stand h = inr h
 in-call p (phase.Release a) stand h = absurd (none-some stand (sym h))
 in-call p (phase.Answer a) stand h = inr h
-
--- a step of its call that isn't an answer leaves it where it stands: one that can't be refused stays so
-moved-stand : {K V D T A : Type 0} (p : Place K V D T A) (f : Phase K V D T A) (stand : Stand) (trying : Bool)
-    → (stand.trying ≡ false → trying ≡ false) → StandsBefore p f (Some stand)
-    → StandsBefore p f (Some (record stand { trying = trying }))
-moved-stand p phase.Rest stand trying patient h = absurd (none-some stand (sym h))
-moved-stand p (phase.Admit r) stand trying patient h = moved-wanting p (mode_of r) (request_tries r) stand trying patient h
-moved-stand p (phase.Find r) stand trying patient h = absurd (none-some stand (sym h))
-moved-stand p (phase.Grow c) stand trying patient h = absurd (none-some stand (sym h))
-moved-stand p (phase.Append k v) stand trying patient h = absurd (none-some stand (sym h))
-moved-stand p (phase.Apply k) stand trying patient h = absurd (none-some stand (sym h))
-moved-stand p (phase.View k d) stand trying patient h = absurd (none-some stand (sym h))
-moved-stand p (phase.Read d) stand trying patient h = absurd (none-some stand (sym h))
-moved-stand p (phase.Change c) stand trying patient h = absurd (none-some stand (sym h))
-moved-stand p (phase.Fill v) stand trying patient h = absurd (none-some stand (sym h))
-moved-stand p phase.Downgrade stand trying patient h = absurd (none-some stand (sym h))
-moved-stand p (phase.Idle f) stand trying patient h = absurd (none-some stand (sym h))
-moved-stand p (phase.Reach f) stand trying patient h = moved-wanting p (walk_mode f) false stand trying patient h
-moved-stand p (phase.Part f) stand trying patient h = absurd (none-some stand (sym h))
-moved-stand p (phase.Visit f) stand trying patient h = h
-moved-stand p (phase.Seek f) stand trying patient h = absurd (none-some stand (sym h))
-moved-stand p (phase.Item f) stand trying patient h = absurd (none-some stand (sym h))
-moved-stand p (phase.Give f) stand trying patient h = absurd (none-some stand (sym h))
-moved-stand p (phase.Onward f) stand trying patient h = h
-moved-stand p (phase.Release a) stand trying patient h = absurd (none-some stand (sym h))
-moved-stand p (phase.Answer a) stand trying patient h = h
 
 -- what may be owed, where something may be
 owes-at : {K V D T A : Type 0} (p : Place K V D T A) (f : Phase K V D T A) (o : Option Stand)
@@ -293,7 +258,7 @@ module _ {K V D T A : Type 0} (places : List (Place K V D T A)) (locks : Shown) 
     -- it begins a call, and has the holds that it had
     pub holds-begun : p'.holds ≡ p.holds → stand_in locks t ≡ None → (locks' : Shown) (shard : ℕ) (call : LockCall)
         → LockBegins t shard call locks locks'
-        → StandsBefore p' p'.phase (Some (record { shard = shard; aim = aim_of call; trying = is_try call }))
+        → StandsBefore p' p'.phase (Some (stand_for shard call))
         → HoldsMatch (slice_set places t p') locks'
     holds-begun same out locks' shard call a stands =
         holds-by locks' (still-owned t locks locks' a.others a.holds)
@@ -312,25 +277,20 @@ module _ {K V D T A : Type 0} (places : List (Place K V D T A)) (locks : Shown) 
 
     -- the call that it begins asks for its shard
     begun-wanting : (mode : Mode) (tries : Bool)
-        → IsWanting p' mode tries
-        (Some (record {
-          shard = p'.shard;
-          aim = aim_of (wants_for tries mode);
-          trying = is_try (wants_for tries mode);
-        }))
-    begun-wanting Shared true = record { trying = true; is = refl; patient = λ e. absurd (false≢true (sym e)) }
-    begun-wanting Exclusive true = record { trying = true; is = refl; patient = λ e. absurd (false≢true (sym e)) }
-    begun-wanting Shared false = record { trying = false; is = refl; patient = λ e. refl }
-    begun-wanting Exclusive false = record { trying = false; is = refl; patient = λ e. refl }
+        → IsWanting p' mode tries (Some (stand_for p'.shard (wants_for tries mode)))
+    begun-wanting Shared true = record { is = refl }
+    begun-wanting Exclusive true = record { is = refl }
+    begun-wanting Shared false = record { is = refl }
+    begun-wanting Exclusive false = record { is = refl }
 
     begun-at : p'.holds ≡ p.holds → stand_in locks t ≡ None → (locks' : Shown) (f : Phase K V D T A) → p'.phase ≡ f
         → (call : LockCall) → LockBegins t p'.shard call locks locks'
-        → StandsBefore p' f (Some (record { shard = p'.shard; aim = aim_of call; trying = is_try call }))
+        → StandsBefore p' f (Some (stand_for p'.shard call))
         → HoldsMatch (slice_set places t p') locks'
     begun-at same out locks' f is call a stands =
         holds-begun same out locks' p'.shard call a
         (subst (λ (g : Phase K V D T A). StandsBefore p' g
-        (Some (record { shard = p'.shard; aim = aim_of call; trying = is_try call }))) (sym is) stands)
+        (Some (stand_for p'.shard call))) (sym is) stands)
 
     -- the call of its shard's lock is begun where it is to wait there, and else none
     pub holds-entered : p'.holds ≡ p.holds → stand_in locks t ≡ None → (locks' : Shown) (f : Phase K V D T A)
@@ -436,12 +396,11 @@ module _ {K V D T A : Type 0} (places : List (Place K V D T A)) (locks : Shown) 
     -- a lock's call that gives its first hold up or shares it has begun, and has made its first act
     module _ (a : Hold) (more : List Hold) (held : p.holds ≡ a ∷ more) (out : stand_in locks t ≡ None) (call : LockCall)
         (fair : Bool) (locks' : Shown) (s : LockStarts t a.shard call fair locks locks') where
-      stand-is : s.moves.stand ≡ record { shard = a.shard; aim = aim_of call; trying = is_try call }
-      stand-is = same_Some s.moves.stand (record { shard = a.shard; aim = aim_of call; trying = is_try call })
-          (sym s.moves.stood ∙ s.begins.stand)
+      stand-is : s.moves.stand ≡ stand_for a.shard call
+      stand-is = same_Some s.moves.stand (stand_for a.shard call) (sym s.moves.stood ∙ s.begins.stand)
 
-      stand-now : stand_in locks' t ≡ Some (record { shard = a.shard; aim = aim_of call; trying = s.moves.trying })
-      stand-now = s.moves.stands ∙ ap (λ (z : Stand). Some (record z { trying = s.moves.trying })) stand-is
+      stand-now : stand_in locks' t ≡ Some (stand_for a.shard call)
+      stand-now = s.moves.stands ∙ ap Some stand-is
 
       -- the shards of its other holds are other ones, where nothing changes
       behind : (i : ℕ) (b : Hold) → slice_get more i ≡ Some b → slice_get p.holds (suc i) ≡ Some b
@@ -464,7 +423,7 @@ module _ {K V D T A : Type 0} (places : List (Place K V D T A)) (locks : Shown) 
 
       known-now : (i : ℕ) (m : DeskMode) → owner_in locks' i t ≡ Some m → IsAmong i m more ⊎ IsAt locks' t i
       known-now i m o = ⊎_elim
-          (λ here. inr (record { shard = a.shard; aim = aim_of call; trying = s.moves.trying }, stand-now, sym here))
+          (λ here. inr (stand_for a.shard call, stand-now, sym here))
           (λ (ne : i ≢ a.shard). elim (h.known t i p m at (sym (apart-same i ne) ∙ o)) [
             | inl among ↦ inl (among-behind i m ne among)
             | inr is ↦ absurd (none-some is.0 (sym out ∙ is.1))
@@ -522,15 +481,14 @@ module _ {K V D T A : Type 0} (places : List (Place K V D T A)) (locks : Shown) 
     holds-stepped fair locks' a waits =
         holds-by t p p at locks' (moved-others t fair locks locks' a)
         (own-same t p p at refl locks' owned known
-        (subst (λ (o : Option Stand). StandsBefore p p.phase o) (sym a.stands)
-        (moved-stand p p.phase a.stand a.trying a.patient stood)))
+        (subst (λ (o : Option Stand). StandsBefore p p.phase o) (sym a.stands) stood))
       where
         stood : StandsBefore p p.phase (Some a.stand)
         stood = subst (λ (o : Option Stand). StandsBefore p p.phase o) a.stood (h.stands t p at)
 
         known : (i : ℕ) (m : DeskMode) → owner_in locks' i t ≡ Some m → IsAmong i m p.holds ⊎ IsAt locks' t i
         known i m o = ⊎_elim
-            (λ here. inr (record (a.stand) { trying = a.trying }, a.stands, sym here))
+            (λ here. inr (a.stand, a.stands, sym here))
             (λ (ne : i ≢ a.stand.shard). elim (h.known t i p m at (sym (a.elsewhere i ne) ∙ o)) [
               | inl among ↦ inl among
               | inr is ↦ absurd (ne (sym is.2 ∙ ap (λ (z : Stand). z.shard) (same_Some is.0 a.stand (sym is.1 ∙ a.stood))))

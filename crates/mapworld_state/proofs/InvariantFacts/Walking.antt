@@ -151,7 +151,12 @@ module _ {K V S D T A : Type 0} (x : Setup K V D T) (w : State K V S D T A) (t :
         let p = e.place in
         let mode : Mode = walk_mode e.walk in
         let wants = stand-at w.places w.locks sound.holds t p e.stands reaching e.before in
-        let stand : e.ends.stand ≡ record { shard = p.shard; aim = Gets (at_desk mode); trying = wants.trying } =
+        let stand : e.ends.stand ≡ record {
+          shard = p.shard;
+          aim = Gets (at_desk mode);
+          trying = false;
+          timed = false;
+        } =
         same_Some e.ends.stand _ (sym e.ends.stood ∙ wants.is) in
         let here : e.ends.stand.shard ≡ p.shard = ap (λ (z : Stand). z.shard) stand in
         let mine : owner_in e.locks p.shard t ≡ Some (at_desk mode) =

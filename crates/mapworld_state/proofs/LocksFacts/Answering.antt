@@ -16,7 +16,6 @@ use Rattle.mapworld_state.specs.Locks.Views.{held_at}
 use Rattle.mapworld_state.proofs.LocksFacts.Ending.{answered_holds}
 use Rattle.mapworld_state.proofs.LocksFacts.Handing.{others}
 use Rattle.mapworld_state.proofs.LocksFacts.Keeping.{stepped_plain}
-use Rattle.mapworld_state.proofs.LocksFacts.Within.{is_done}
 
 pub stepped_fits : (s u : State) (t : ℕ) (fair : Bool) (answer : Option CoreAnswer) → IsStepped t fair answer s u
     → FitsTogether u
@@ -25,7 +24,7 @@ stepped_fits s u t fair (Some end) x = x.lawful.fits
 
 -- which act a step with an answer is
 pub is_answer : (s u : State) (t : ℕ) (fair : Bool) (c : Call) (end : CoreAnswer) (a : Act) → Some end ≡ end_of a
-    → Became a t fair c s u → (u ≡ answered s t c) × (is_done a ≡ true)
+    → Became a t fair c s u → u ≡ answered s t c
 is_answer s u t fair c end Act.Load e b = absurd (none-some end (sym e))
 is_answer s u t fair c end (Act.Exchange from to) e b = absurd (none-some end (sym e))
 is_answer s u t fair c end (Act.Add by) e b = absurd (none-some end (sym e))
@@ -34,18 +33,18 @@ is_answer s u t fair c end Act.Spin e b = absurd (none-some end (sym e))
 is_answer s u t fair c end (Act.Enter key) e b = absurd (none-some end (sym e))
 is_answer s u t fair c end (Act.Section next) e b = absurd (none-some end (sym e))
 is_answer s u t fair c end Act.Sleep e b = absurd (none-some end (sym e))
-is_answer s u t fair c end (Act.Done answer) e b = (b, refl)
+is_answer s u t fair c end (Act.Done answer) e b = b
 
 pub answer_leaves_holds : (laws : StepsAreCases) (s u : State) (t : ℕ) (fair : Bool) (end : CoreAnswer) → FitsTogether s
     → IsPlain s → (x : IsStepped t fair (Some end) s u) → (v : ℕ) → held_at u x.call.lock v ≡ held_at s x.call.lock v
 answer_leaves_holds laws s u t fair end h plain x v =
-    let (is, done) = is_answer s u t fair x.call end (core_act x.call.core) x.answers x.became in
+    let is = is_answer s u t fair x.call end (core_act x.call.core) x.answers x.became in
     let own : held_at u x.call.lock t ≡ held_at s x.call.lock t = ap (λ w. held_at w x.call.lock t) is
-    ∙ answered_holds s t x.call h plain.kinds (plain.cores t x.call x.here) x.here done in
+    ∙ answered_holds s t x.call end h plain x.here x.answers in
     elim (cases_eq v t) [
       | inl e ↦ ap (held_at u x.call.lock) e ∙ own ∙ ap (held_at s x.call.lock) (sym e)
       | inr ne ↦ elim (others laws s u t fair (Some end) h plain.kinds
-          (stepped_plain s u t fair (Some end) plain x).kinds plain.alone plain.cores x v ne) [
+          (stepped_plain s u t fair (Some end) h plain x).kinds plain.alone plain.cores x v ne) [
             | inl same ↦ same
             | inr given ↦ absurd (given.before (sym own ∙ given.after))
           ]

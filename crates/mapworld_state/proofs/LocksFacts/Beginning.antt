@@ -31,7 +31,9 @@ use Rattle.parking_lot_machine.specs.Rows.{Rows, State, call_at, hold_at, rw_rol
 use Rattle.parking_lot_machine_calls.specs.CallRoles.{owned_of, rw_core_role}
 use Rattle.parking_lot_machine_calls.specs.Stances.{core_next}
 use Rattle.parking_lot_machine_calls.specs.CallViews.{hold_mode}
-use Rattle.mapworld_state.specs.Locks.Aims.{aim_of}
+use Rattle.parking_lot_machine.specs.CallLaws.Answers.{MayStand}
+use Rattle.parking_lot_machine.specs.CallLaws.Stages.{core_stage, stage_of}
+use Rattle.parking_lot_machine.proofs.CallLawsFacts.Heard.{begins_there}
 use Rattle.mapworld_state.specs.Locks.Fits.{IsPlain, LocksFit, is_single, is_plain}
 use Rattle.mapworld_state.specs.Locks.Seats.{seat_of}
 use Rattle.mapworld_state.specs.Locks.Stands.{is_try, needs, stand_of, is_of_shards}
@@ -152,8 +154,14 @@ allowed h LockCall.Upgrade k e = absurd (false≢true k)
 allowed h LockCall.TryUpgrade k e = absurd (false≢true k)
 allowed h LockCall.DowngradeToUpgradable k e = absurd (false≢true k)
 allowed h LockCall.DowngradeUpgradable k e = absurd (false≢true k)
-allowed h LockCall.ReadUntil k e = absurd (false≢true k)
-allowed h LockCall.WriteUntil k e = absurd (false≢true k)
+allowed (Hold.Shares zero) LockCall.ReadUntil k e = refl
+allowed (Hold.Shares (suc n)) LockCall.ReadUntil k e = absurd (differ _ _ (λ n. omega (arith, n)) e)
+allowed Hold.Upgrades LockCall.ReadUntil k e = absurd (differ _ _ (λ n. omega (arith, n)) e)
+allowed Hold.Excludes LockCall.ReadUntil k e = absurd (differ _ _ (λ n. omega (arith, n)) e)
+allowed (Hold.Shares zero) LockCall.WriteUntil k e = refl
+allowed (Hold.Shares (suc n)) LockCall.WriteUntil k e = absurd (differ _ _ (λ n. omega (arith, n)) e)
+allowed Hold.Upgrades LockCall.WriteUntil k e = absurd (differ _ _ (λ n. omega (arith, n)) e)
+allowed Hold.Excludes LockCall.WriteUntil k e = absurd (differ _ _ (λ n. omega (arith, n)) e)
 allowed h LockCall.UpgradableUntil k e = absurd (false≢true k)
 allowed h LockCall.UpgradeUntil k e = absurd (false≢true k)
 
@@ -204,62 +212,39 @@ begun_mode x h LockCall.Upgrade us k e = absurd (false≢true k)
 begun_mode x h LockCall.TryUpgrade us k e = absurd (false≢true k)
 begun_mode x h LockCall.DowngradeToUpgradable us k e = absurd (false≢true k)
 begun_mode x h LockCall.DowngradeUpgradable us k e = absurd (false≢true k)
-begun_mode x h LockCall.ReadUntil us k e = absurd (false≢true k)
-begun_mode x h LockCall.WriteUntil us k e = absurd (false≢true k)
+begun_mode x (Hold.Shares zero) LockCall.ReadUntil us k e = refl
+begun_mode x (Hold.Shares (suc n)) LockCall.ReadUntil us k e = absurd (false≢true e)
+begun_mode x Hold.Upgrades LockCall.ReadUntil us k e = absurd (false≢true e)
+begun_mode x Hold.Excludes LockCall.ReadUntil us k e = absurd (false≢true e)
+begun_mode x (Hold.Shares zero) LockCall.WriteUntil us k e = refl
+begun_mode x (Hold.Shares (suc n)) LockCall.WriteUntil us k e = absurd (false≢true e)
+begun_mode x Hold.Upgrades LockCall.WriteUntil us k e = absurd (false≢true e)
+begun_mode x Hold.Excludes LockCall.WriteUntil us k e = absurd (false≢true e)
 begun_mode x h LockCall.UpgradableUntil us k e = absurd (false≢true k)
 begun_mode x h LockCall.UpgradeUntil us k e = absurd (false≢true k)
-
--- and is about what it is for
-begun_stand : (x : LockKind) (i n : ℕ) (call : LockCall) → is_of_shards call ≡ true
-    → stand_of (record {
-      lock = i;
-      others = n;
-      core = core_next (core_of x call) ActResult.Start;
-      spot = QueuePosition.Listed;
-      timed = is_timed call;
-    })
-    ≡ record { shard = i; aim = aim_of call; trying = is_try call }
-begun_stand x i n LockCall.Lock k = absurd (false≢true k)
-begun_stand x i n LockCall.TryLock k = absurd (false≢true k)
-begun_stand x i n LockCall.LockUntil k = absurd (false≢true k)
-begun_stand x i n LockCall.Unlock k = absurd (false≢true k)
-begun_stand x i n LockCall.Read k = refl
-begun_stand x i n LockCall.TryRead k = refl
-begun_stand x i n LockCall.UnlockRead k = refl
-begun_stand x i n LockCall.Write k = refl
-begun_stand x i n LockCall.TryWrite k = refl
-begun_stand x i n LockCall.UnlockWrite k = refl
-begun_stand x i n LockCall.Downgrade k = refl
-begun_stand x i n LockCall.UpgradableRead k = absurd (false≢true k)
-begun_stand x i n LockCall.TryUpgradableRead k = absurd (false≢true k)
-begun_stand x i n LockCall.UnlockUpgradable k = absurd (false≢true k)
-begun_stand x i n LockCall.Upgrade k = absurd (false≢true k)
-begun_stand x i n LockCall.TryUpgrade k = absurd (false≢true k)
-begun_stand x i n LockCall.DowngradeToUpgradable k = absurd (false≢true k)
-begun_stand x i n LockCall.DowngradeUpgradable k = absurd (false≢true k)
-begun_stand x i n LockCall.ReadUntil k = absurd (false≢true k)
-begun_stand x i n LockCall.WriteUntil k = absurd (false≢true k)
-begun_stand x i n LockCall.UpgradableUntil k = absurd (false≢true k)
-begun_stand x i n LockCall.UpgradeUntil k = absurd (false≢true k)
 
 -- it goes by the rules of reader-writer locks, with a core of readers and writers
 as_rw : (call : LockCall) → is_of_shards call ≡ true → manner_for call ≡ AsRw
 as_rw LockCall.Read k = refl
 as_rw LockCall.TryRead k = refl
+as_rw LockCall.ReadUntil k = refl
 as_rw LockCall.UnlockRead k = refl
 as_rw LockCall.Write k = refl
 as_rw LockCall.TryWrite k = refl
+as_rw LockCall.WriteUntil k = refl
 as_rw LockCall.UnlockWrite k = refl
 as_rw LockCall.Downgrade k = refl
 as_rw call k = absurd (false≢true k)
 
 begun_plain : (x : LockKind) (call : LockCall) → is_of_shards call ≡ true
-    → is_plain (core_next (core_of x call) ActResult.Start) ≡ true
+    → is_plain (is_timed call) (core_next (core_of x call) ActResult.Start) ≡ true
 begun_plain x LockCall.Read k = refl
 begun_plain x LockCall.TryRead k = refl
+begun_plain x LockCall.ReadUntil k = refl
 begun_plain x LockCall.UnlockRead k = refl
 begun_plain x LockCall.Write k = refl
 begun_plain x LockCall.TryWrite k = refl
+begun_plain x LockCall.WriteUntil k = refl
 begun_plain x LockCall.UnlockWrite k = refl
 begun_plain x LockCall.Downgrade k = refl
 begun_plain x call k = absurd (false≢true k)
@@ -392,9 +377,20 @@ module _ (old : Shown) (fit : LocksFit old) (t i : ℕ) (call : LockCall) (ask :
         | inr ne ↦ fit.plain.alone v d (sym (apart v ne) ∙ at)
       ];
       cores = λ v d at. elim (cases_eq v t) [
-        | inl e ↦ ap (λ (y : Call). is_plain y.core) (same_Some d c (sym at ∙ ap (call_at u) e ∙ here))
+        | inl e ↦ ap (λ (y : Call). is_plain (is_timed y.asked) y.core) (same_Some d c (sym at ∙ ap (call_at u) e ∙ here))
             ∙ begun_plain (kind_in s.kinds i) call ask.of_kind
         | inr ne ↦ fit.plain.cores v d (sym (apart v ne) ∙ at)
+      ];
+      asked = λ v d at. elim (cases_eq v t) [
+        | inl e ↦ ap (λ (y : Call). is_of_shards y.asked) (same_Some d c (sym at ∙ ap (call_at u) e ∙ here))
+            ∙ ask.of_kind
+        | inr ne ↦ fit.plain.asked v d (sym (apart v ne) ∙ at)
+      ];
+      stands = λ v d at. elim (cases_eq v t) [
+        | inl e ↦ subst (λ (y : Call). MayStand 0 (stage_of y.asked) (is_timed y.asked) (core_stage 0 y.core))
+            (sym (same_Some d c (sym at ∙ ap (call_at u) e ∙ here)))
+            (inl (begins_there 0 (kind_in s.kinds i) call))
+        | inr ne ↦ fit.plain.stands v d (sym (apart v ne) ∙ at)
       ];
     }
 
@@ -407,8 +403,7 @@ module _ (old : Shown) (fit : LocksFit old) (t i : ℕ) (call : LockCall) (ask :
       became = x.became;
       whole = record { threads = count; kinds = kinds_same };
       desks = refl;
-      stand = ap (option_map stand_of) here
-          ∙ ap Some (begun_stand (kind_in s.kinds i) i (holds_beside call h) call ask.of_kind);
+      stand = ap (option_map stand_of) here;
       others = λ v ne. ap (option_map stand_of) (apart v ne);
       holds = holds;
     }

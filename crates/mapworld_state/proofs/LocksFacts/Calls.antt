@@ -10,7 +10,6 @@ use Rattle.parking_lot_protocol.specs.declared.act.SectionAct.{SectionAct}
 use Rattle.parking_lot_core_model.specs.Machine.{Machine}
 use Rattle.parking_lot_protocol.specs.declared.act.ActResult.{ActResult}
 use Rattle.parking_lot_protocol.specs.declared.act.CoreAnswer.{CoreAnswer}
-use Rattle.parking_lot_protocol.specs.declared.rw_phase.RwPhase.{RwPhase}
 use Rattle.parking_lot_rules.proofs.Indexed.{get-set_same}
 use Rattle.parking_lot_rules.proofs.Slots.{set_elsewhere, set_here}
 use Rattle.parking_lot_machine_calls.specs.declared.open_call.Call.{Call}
@@ -27,9 +26,16 @@ use Rattle.parking_lot_machine.specs.RowActs.{with_call, with_lot}
 use Rattle.parking_lot_machine_calls.specs.CallActs.{hears, off_list, settled}
 use Rattle.parking_lot_machine.specs.Rows.{State, call_at}
 use Rattle.parking_lot_machine_calls.specs.Stances.{core_act, core_next}
-use Rattle.mapworld_state.specs.Locks.Fits.{is_plain}
-use Rattle.mapworld_state.specs.Locks.Stands.{core_aim}
-use Rattle.mapworld_state.proofs.LocksFacts.Aiming.{next_aim}
+use Rattle.parking_lot_protocol.specs.declared.rw_phase.RwPhase.{RwPhase}
+use Rattle.parking_lot_protocol.specs.declared.rw_core.RwCore.{RwCore}
+use Rattle.parking_lot_protocol.specs.RwTable.{is_parked}
+use Rattle.parking_lot_protocol_rw.specs.UpgradeTable as upgrade_table
+use Rattle.parking_lot_protocol_rw.specs.UpgradeTable.{core_at}
+use Rattle.parking_lot_protocol_rw.specs.declared.upgrade_phase.Hold.{Hold as Kept}
+use Rattle.parking_lot_protocol_rw.specs.declared.upgrade_phase.UpgradePhase.{UpgradePhase}
+use Rattle.parking_lot_machine_calls.specs.Stances.{late_rw_next, quits_as, resumed_as, rw_asleep, simple_pending}
+use Rattle.parking_lot_machine_calls.specs.declared.late_rw.RwSleeper.{RwSleeper}
+use Rattle.mapworld_state.specs.Locks.Fits.{is_plain, late_plainly, yields_plainly}
 
 abbrev pub call_of : List (Option Call) → ℕ → Option Call
 call_of calls t = option_and_then (λ c. c) (slice_get calls t)
@@ -44,17 +50,18 @@ Hears k m = ((told : ActResult) × (m ≡ core_next k told))
 abbrev pub LateGoes : State → ℕ → Call → State → Type 0
 LateGoes s t c u =
     (d : Call) × (l : Machine) × (ws : List Wakeup) × (u ≡ record (with_lot (with_call s t d) l) { wakes = ws })
-    × (d.lock ≡ c.lock) × (d.others ≡ c.others) × Hears c.core d.core
+    × (d.lock ≡ c.lock) × (d.others ≡ c.others) × (d.asked ≡ c.asked) × Hears c.core d.core
 
 module _ (s u : State) (t : ℕ) (c : Call) where
   late_back : (at : QueuePosition) → comes_late c.core ≡ true → u ≡ came_back at s t c → LateGoes s t c u
   late_back QueuePosition.Listed comes e =
-      (hears c ActResult.Entered, _, s.wakes, e, refl, refl, inl (ActResult.Entered, refl))
+      (hears c ActResult.Entered, _, s.wakes, e, refl, refl, refl, inl (ActResult.Entered, refl))
   late_back (QueuePosition.Off by said) comes e = (
     record c { core = found_as by (is_handed said) c.core; spot = QueuePosition.Listed },
     _,
     _,
     e,
+    refl,
     refl,
     refl,
     inr (by, is_handed said, comes, refl),
@@ -68,6 +75,7 @@ module _ (s u : State) (t : ℕ) (c : Call) where
     e,
     refl,
     refl,
+    refl,
     inl (ActResult.Took None (others_left s t c), refl),
   )
 
@@ -78,87 +86,127 @@ module _ (s u : State) (t : ℕ) (c : Call) where
   late_is (Core.LateRw (LateRwPhase.Quits k)) same e = late_out e
   late_is k same e = absurd e
 
--- the core isn't led astray
-abbrev pub IsProper : Core → Type 0
-IsProper (Core.Rw c) = c.phase ≢ RwPhase.Invalid
-IsProper (Core.Mutex c) = Unit {0}
-IsProper (Core.Late c) = Unit {0}
-IsProper (Core.LateRw p) = Unit {0}
-IsProper (Core.Upgrade c) = Unit {0}
-
--- a call goes on as another: at the same lock, with the same holds beside
+-- a call goes on as another: at the same lock, with the same holds beside, and with what it was asked
 pub record Follows (c d : Call) : Type 0 where
   pub lock : d.lock ≡ c.lock
   pub others : d.others ≡ c.others
-  pub plain : is_plain c.core ≡ true → is_plain d.core ≡ true
+  pub asked : d.asked ≡ c.asked
+  pub plain : (timed : Bool) → is_plain timed c.core ≡ true → is_plain timed d.core ≡ true
 
-pub follows_itself : (c d : Call) → d.lock ≡ c.lock → d.others ≡ c.others → d.core ≡ c.core → Follows c d
-follows_itself c d lock others core = record { lock = lock; others = others; plain = λ so. ap is_plain core ∙ so }
+pub follows_itself : (c d : Call) → d.lock ≡ c.lock → d.others ≡ c.others → d.asked ≡ c.asked → d.core ≡ c.core
+    → Follows c d
+follows_itself c d lock others asked core =
+    record { lock = lock; others = others; asked = asked; plain = λ timed so. ap (is_plain timed) core ∙ so }
 
 follows_then : (c d e : Call) → Follows c d → Follows d e → Follows c e
 follows_then c d e f g = record {
   lock = g.lock ∙ f.lock;
   others = g.others ∙ f.others;
-  plain = λ so. g.plain (f.plain so);
+  asked = g.asked ∙ f.asked;
+  plain = λ timed so. g.plain timed (f.plain timed so);
 }
 
-next_plain : (k : Core) (told : ActResult) → is_plain k ≡ true → is_plain (core_next k told) ≡ true
-next_plain (Core.Rw c) told so = refl
-next_plain (Core.Mutex c) told so = refl
-next_plain (Core.Late LatePhase.Expires) (ActResult.Woken token) so = refl
-next_plain (Core.Late LatePhase.Expires) ActResult.Entered so = refl
-next_plain (Core.Late LatePhase.Quits) (ActResult.Took token left) so = refl
-next_plain (Core.Late LatePhase.Masks) (ActResult.Before word) so = refl
-next_plain (Core.Late LatePhase.Leaves) ActResult.Made so = refl
-next_plain (Core.Late (LatePhase.WasTaken by handed)) ActResult.Made so = refl
-next_plain (Core.Late p) told so = refl
-next_plain (Core.LateRw p) told so = absurd cc
-next_plain (Core.Upgrade c) told so = absurd cc
+-- off its list a pending writer leaves as one that had no hold before
+pends_plainly : (p : RwPhase) (left : Bool) → late_plainly (quits_as (simple_pending p) left) ≡ true
+pends_plainly (RwPhase.DrainSleeps rounds) left = refl
+pends_plainly p true = refl
+pends_plainly p false = refl
 
-late_keeps : (p : LatePhase) (told : ActResult) → core_aim (core_next (Core.Late p) told) ≡ core_aim (Core.Late p)
-late_keeps LatePhase.Expires (ActResult.Woken token) = refl
-late_keeps LatePhase.Expires ActResult.Entered = refl
-late_keeps LatePhase.Quits (ActResult.Took token left) = refl
-late_keeps LatePhase.Masks (ActResult.Before word) = refl
-late_keeps LatePhase.Leaves ActResult.Made = refl
-late_keeps (LatePhase.WasTaken by handed) ActResult.Made = refl
-late_keeps p told = refl
+resumes_plainly : (b : Bool) (c : RwCore) (handed : Bool) → is_plain true (resumed_as b (RwSleeper.Simple c) handed)
+    ≡ true
+resumes_plainly true c handed = refl
+resumes_plainly false c handed = refl
 
-pub next_keeps : (k : Core) (told : ActResult) → is_plain k ≡ true → IsProper (core_next k told)
-    → core_aim (core_next k told) ≡ core_aim k
-next_keeps (Core.Rw c) told so p = next_aim c.phase told p
-next_keeps (Core.Mutex c) told so p = refl
-next_keeps (Core.Late p) told so proper = late_keeps p told
-next_keeps (Core.LateRw p) told so proper = absurd cc
-next_keeps (Core.Upgrade c) told so p = refl
+late_next_plain : (p : LateRwPhase) (told : ActResult) → late_plainly p ≡ true → is_plain true (late_rw_next p told)
+    ≡ true
+late_next_plain (LateRwPhase.Expires (RwSleeper.Simple c)) (ActResult.Woken token) so = refl
+late_next_plain (LateRwPhase.Expires (RwSleeper.Simple c)) ActResult.Entered so = refl
+late_next_plain (LateRwPhase.Quits (RwSleeper.Simple c)) (ActResult.Took token left) so = pends_plainly c.phase left
+late_next_plain LateRwPhase.Masks (ActResult.Before word) so = refl
+late_next_plain LateRwPhase.Leaves ActResult.Made so = refl
+late_next_plain (LateRwPhase.LeavesPending false) ActResult.Made so = refl
+late_next_plain (LateRwPhase.LeavesPending true) told so = absurd cc
+late_next_plain (LateRwPhase.WasTaken (RwSleeper.Simple c) by handed) ActResult.Made so =
+    resumes_plainly (rw_asleep c.phase) c handed
+late_next_plain (LateRwPhase.Expires (RwSleeper.Upgradable c)) told so = absurd cc
+late_next_plain (LateRwPhase.Quits (RwSleeper.Upgradable c)) told so = absurd cc
+late_next_plain (LateRwPhase.WasTaken (RwSleeper.Upgradable c) by handed) told so = absurd cc
+late_next_plain p told so = refl
 
-pub follows_told : (c d : Call) (told : ActResult) → d.lock ≡ c.lock → d.others ≡ c.others
+owes_plainly : (b : Bool) → yields_plainly
+    (cond b (UpgradePhase.Owes Kept.Nothing CoreAnswer.Released (core_at RwPhase.EnterWakeSection))
+    (UpgradePhase.Ends Kept.Nothing CoreAnswer.Released)) ≡ true
+owes_plainly true = refl
+owes_plainly false = refl
+
+yields_on : (p : UpgradePhase) (told : ActResult) → yields_plainly p ≡ true
+    → yields_plainly (upgrade_table.next_phase p told) ≡ true
+yields_on (UpgradePhase.YieldLoads false) (ActResult.Word word) so = refl
+yields_on (UpgradePhase.YieldLoads false) told so = refl
+yields_on (UpgradePhase.Yields false word) ActResult.Exchanged so = owes_plainly (is_parked word)
+yields_on (UpgradePhase.Yields false word) (ActResult.Word now) so = refl
+yields_on (UpgradePhase.Yields false word) told so = refl
+yields_on (UpgradePhase.Owes Kept.Nothing answer core) told so = refl
+yields_on (UpgradePhase.Ends Kept.Nothing answer) told so = ends told
+  where
+    ends : (s : ActResult) → yields_plainly (upgrade_table.own_next (UpgradePhase.Ends Kept.Nothing answer) s) ≡ true
+    ends ActResult.Start = refl
+    ends (ActResult.Word word) = refl
+    ends ActResult.Exchanged = refl
+    ends (ActResult.Before word) = refl
+    ends s = refl
+yields_on UpgradePhase.Invalid told so = astray told
+  where
+    astray : (s : ActResult) → yields_plainly (upgrade_table.own_next UpgradePhase.Invalid s) ≡ true
+    astray ActResult.Start = refl
+    astray (ActResult.Word word) = refl
+    astray ActResult.Exchanged = refl
+    astray (ActResult.Before word) = refl
+    astray s = refl
+yields_on p told so = absurd cc
+
+next_plain : (timed : Bool) (k : Core) (told : ActResult) → is_plain timed k ≡ true
+    → is_plain timed (core_next k told) ≡ true
+next_plain timed (Core.Rw c) told so = refl
+next_plain timed (Core.Mutex c) told so = refl
+next_plain timed (Core.Late LatePhase.Expires) (ActResult.Woken token) so = refl
+next_plain timed (Core.Late LatePhase.Expires) ActResult.Entered so = refl
+next_plain timed (Core.Late LatePhase.Quits) (ActResult.Took token left) so = refl
+next_plain timed (Core.Late LatePhase.Masks) (ActResult.Before word) so = refl
+next_plain timed (Core.Late LatePhase.Leaves) ActResult.Made so = refl
+next_plain timed (Core.Late (LatePhase.WasTaken by handed)) ActResult.Made so = refl
+next_plain timed (Core.Late p) told so = refl
+next_plain true (Core.LateRw p) told so = late_next_plain p told so
+next_plain true (Core.Upgrade c) told so = yields_on c.phase told so
+next_plain false k told so = absurd cc
+
+pub follows_told : (c d : Call) (told : ActResult) → d.lock ≡ c.lock → d.others ≡ c.others → d.asked ≡ c.asked
     → d.core ≡ core_next c.core told → Follows c d
-follows_told c d told lock others core = record {
+follows_told c d told lock others asked core = record {
   lock = lock;
   others = others;
-  plain = λ so. ap is_plain core ∙ next_plain c.core told so;
+  asked = asked;
+  plain = λ timed so. ap (is_plain timed) core ∙ next_plain timed c.core told so;
 }
 
--- one that has found that it was taken is of its kind, and about the same
-found_plain : (by : ℕ) (handed : Bool) (k : Core) → is_plain (found_as by handed k) ≡ is_plain k
-found_plain by handed (Core.LateRw (LateRwPhase.Expires k)) = refl
-found_plain by handed (Core.LateRw p) = refl
-found_plain by handed k = refl
+-- one that has found that it was taken is of its kind
+found_plain : (timed : Bool) (by : ℕ) (handed : Bool) (k : Core) → is_plain timed (found_as by handed k) ≡ is_plain
+    timed k
+found_plain timed by handed (Core.LateRw (LateRwPhase.Expires k)) = refl
+found_plain timed by handed (Core.LateRw p) = refl
+found_plain timed by handed k = refl
 
-found_aim : (by : ℕ) (handed : Bool) (k : Core) → core_aim (found_as by handed k) ≡ core_aim k
-found_aim by handed (Core.LateRw (LateRwPhase.Expires k)) = refl
-found_aim by handed (Core.LateRw p) = refl
-found_aim by handed k = refl
-
-pub follows_heard : (c d : Call) → d.lock ≡ c.lock → d.others ≡ c.others → Hears c.core d.core → Follows c d
-follows_heard c d lock others (inl (told, core)) = follows_told c d told lock others core
-follows_heard c d lock others (inr (by, handed, comes, core)) =
-    record { lock = lock; others = others; plain = λ so. ap is_plain core ∙ found_plain by handed c.core ∙ so }
-
-pub heard_keeps : (k m : Core) → Hears k m → is_plain k ≡ true → IsProper m → core_aim m ≡ core_aim k
-heard_keeps k m (inl (told, core)) so proper = ap core_aim core ∙ next_keeps k told so (subst IsProper core proper)
-heard_keeps k m (inr (by, handed, comes, core)) so proper = ap core_aim core ∙ found_aim by handed k
+pub follows_heard : (c d : Call) → d.lock ≡ c.lock → d.others ≡ c.others → d.asked ≡ c.asked → Hears c.core d.core
+    → Follows c d
+follows_heard c d lock others asked (inl (told, core)) = follows_told c d told lock others asked core
+follows_heard c d lock others asked (inr (by, handed, comes, core)) =
+    record {
+      lock = lock;
+      others = others;
+      asked = asked;
+      plain = λ timed so.
+          ap (is_plain timed) core ∙ found_plain timed by handed c.core ∙ so;
+    }
 
 -- WHERE A CALL COMES FROM
 
@@ -188,7 +236,7 @@ slot calls t c h = at (slice_get calls t) refl
     at (Some x) e = e ∙ ap Some (sym (ap (option_and_then (λ y. y)) e) ∙ h)
 
 stays_itself : (o : Option Call) (d : Call) → o ≡ Some d → Comes o d
-stays_itself o d e = record { call = d; was = e; follows = follows_itself d d refl refl refl }
+stays_itself o d e = record { call = d; was = e; follows = follows_itself d d refl refl refl refl }
 
 pub set_goes : (calls : List (Option Call)) (t : ℕ) (c d : Call) → call_of calls t ≡ Some c → Follows c d
     → GoesOn calls (slice_set calls t (Some d))
@@ -264,7 +312,7 @@ off_goes : (calls : List (Option Call)) (t w : ℕ)
 off_goes calls t w = at (call_of calls w) refl
   where
     at : (o : Option Call) → call_of calls w ≡ o → GoesOn calls (slice_set calls w (option_map (off_list t) o))
-    at (Some c) e = set_goes calls w c (off_list t c) e (follows_itself c (off_list t c) refl refl refl)
+    at (Some c) e = set_goes calls w c (off_list t c) e (follows_itself c (off_list t c) refl refl refl refl)
     at None e = record {
       comes = λ v d there. elim (cases_eq v w) [
         | inl eq ↦ absurd
@@ -287,11 +335,11 @@ off_goes calls t w = at (call_of calls w) refl
 -- everybody is told what a thread says to those that it has taken
 settled_goes : (calls : List (Option Call)) (t : ℕ) (said : WakeResult)
     → GoesOn calls (map (option_map (settled t said)) calls)
-settled_goes calls t said = map_goes (settled t said) calls (λ c. follows_itself c (settled t said c) refl refl refl)
+settled_goes calls t said = map_goes (settled t said) calls (λ c. follows_itself c (settled t said c) refl refl refl refl)
 
 module _ (s : State) (t : ℕ) (c : Call) (here : call_at s t ≡ Some c) where
   told : (k : ActResult) → GoesOn s.calls (slice_set s.calls t (Some (hears c k)))
-  told k = set_goes s.calls t c (hears c k) here (follows_told c (hears c k) k refl refl refl)
+  told k = set_goes s.calls t c (hears c k) here (follows_told c (hears c k) k refl refl refl refl)
 
   is : (u v : State) → u ≡ v → GoesOn s.calls v.calls → GoesOn s.calls u.calls
   is u v e h = subst (λ (x : State). GoesOn s.calls x.calls) (sym e) h
@@ -310,7 +358,8 @@ module _ (s : State) (t : ℕ) (c : Call) (here : call_at s t ≡ Some c) where
   joined : (d : Call) → d ≡ record (hears c ActResult.Made) { spot = QueuePosition.Listed }
       → GoesOn s.calls (slice_set s.calls t (Some d))
   joined d e = set_goes s.calls t c d here
-      (follows_told c d ActResult.Made (ap (λ x. x.lock) e) (ap (λ x. x.others) e) (ap (λ x. x.core) e))
+      (follows_told c d ActResult.Made (ap (λ x. x.lock) e) (ap (λ x. x.others) e) (ap (λ x. x.asked) e)
+      (ap (λ x. x.core) e))
 
   -- after another's call went on, its own does
   told_then : (w : ℕ) (o : Option Call) (k : ActResult) → GoesOn s.calls (slice_set s.calls w o)
@@ -321,7 +370,7 @@ module _ (s : State) (t : ℕ) (c : Call) (here : call_at s t ≡ Some c) where
         call = c;
         was = ap (call_of s.calls) e ∙ here;
         follows = (let same : hears c k ≡ d = at_own v d e at in follows_told c d k (sym (ap (λ x. x.lock) same))
-            (sym (ap (λ x. x.others) same)) (sym (ap (λ x. x.core) same)));
+            (sym (ap (λ x. x.others) same)) (sym (ap (λ x. x.asked) same)) (sym (ap (λ x. x.core) same)));
       }
       | inr ne ↦ g.comes v d (sym (set_elsewhere (slice_set s.calls w o) t v (Some (hears c k)) ne) ∙ at)
     ];
@@ -360,7 +409,7 @@ module _ (s : State) (t : ℕ) (c : Call) (here : call_at s t ≡ Some c) where
   goes_inside SectionAct.Wake fair u (inr (gone, is_it)) = is u _ is_it (told _)
   goes_inside SectionAct.Wake fair u (inl (e, d, token, due, is_it)) =
       is u _ is_it (told_then e.thread _ _
-      (set_goes s.calls e.thread d _ due.there (follows_told d _ (ActResult.Woken token) refl refl refl)))
+      (set_goes s.calls e.thread d _ due.there (follows_told d _ (ActResult.Woken token) refl refl refl refl)))
 
   goes : (a : Act) (fair : Bool) (u : State) → Became a t fair c s u → GoesOn s.calls u.calls
   goes Act.Load fair u e = is u _ e (told _)
@@ -371,7 +420,7 @@ module _ (s : State) (t : ℕ) (c : Call) (here : call_at s t ≡ Some c) where
   goes (Act.Enter key) fair u e = is u _ e (told _)
   goes (Act.Section next) fair u b = goes_inside next fair u b
   goes Act.Sleep fair u b = let l = late_is s u t c c.core refl b in
-      is u _ l.3 (set_goes s.calls t c l.0 here (follows_heard c l.0 l.4 l.5 l.6))
+      is u _ l.3 (set_goes s.calls t c l.0 here (follows_heard c l.0 l.4 l.5 l.6 l.7))
   goes (Act.Done answer) fair u e = is u _ e (ends_goes s.calls t c here)
 
 pub stepped_goes : (s u : State) (t : ℕ) (fair : Bool) (answer : Option CoreAnswer) → IsStepped t fair answer s u

@@ -29,7 +29,22 @@ use Rattle.parking_lot_machine.specs.SoundLaws.{IsCaseAt, IsStepAt, StepsAreCase
 use Rattle.parking_lot_machine_calls.specs.Stances.{Asleep, stance}
 use Rattle.parking_lot_machine.specs.Worlds.{mode_in}
 use Rattle.mapworld_state.specs.Locks.Views.{held_as, held_at, mode_at}
-use Rattle.mapworld_state.specs.Locks.Fits.{is_plain}
+use Rattle.mapworld_state.specs.Locks.Fits.{is_plain, late_plainly, yields_plainly}
+use Rattle.mapworld_state.proofs.LocksFacts.Giving.{owing_up, stay_owner, stay_stand}
+use Rattle.parking_lot_machine_calls.specs.Calls.{is_timed}
+use Rattle.parking_lot_machine.specs.RowFits.{IsPrepared}
+use Rattle.parking_lot_protocol.specs.RwRules as of_rw
+use Rattle.parking_lot_protocol_rw.specs.UpgradeRules.{IsReady}
+use Rattle.parking_lot_protocol_rw.specs.declared.upgrade_phase.Hold.{Hold as Kept}
+use Rattle.parking_lot_protocol_rw.specs.declared.upgrade_phase.UpgradePhase.{UpgradePhase}
+use Rattle.parking_lot_machine_calls.specs.declared.late_rw.LateRwPhase.{LateRwPhase}
+use Rattle.parking_lot_machine_calls.specs.declared.late_rw.RwSleeper.{RwSleeper}
+use Rattle.parking_lot_machine_calls.specs.declared.seat.QueuePosition.{QueuePosition}
+use Rattle.parking_lot_machine_calls.specs.declared.seat.WakeResult.{WakeResult}
+use Rattle.parking_lot_rules.specs.Roles.{Back, Handed, Late, Normal}
+use Rattle.parking_lot_machine_calls.specs.Stances.{lying}
+use Rattle.parking_lot_machine_calls.specs.CallRoles.{rw_spot}
+use Rattle.parking_lot_machine_calls.specs.Kinds.{recursive_in}
 use Rattle.mapworld_state.proofs.LocksFacts.Lists.{all_at, among_all}
 use Rattle.mapworld_state.proofs.LocksFacts.Owning.{IsHanded, mode_is_owned, mode_standing, others_stay, own_stays}
 use Rattle.mapworld_state.proofs.LocksFacts.Owning.{owned_in}
@@ -133,39 +148,86 @@ record IsChosenCall (s : State) (i v : ℕ) : Type 0 where
   nothing : mode_standing (standing (rw_role_at s i v)) ≡ mode_of (Reading call.others)
   again : (w : State) → call_at w v ≡ Some call → chosen_stand (rw_role_at w i v) ≡ true
 
-module _ (s : State) (cores : (v : ℕ) (c : Call) → call_at s v ≡ Some c → is_plain c.core ≡ true) (i v : ℕ) where
-  by_core : (us : List ℕ) (h : Hold) (c : Call) → call_at s v ≡ Some c → c.lock ≡ i → (k : Core) → c.core ≡ k
+module _ (s : State) (fits : FitsTogether s)
+    (cores : (v : ℕ) (c : Call) → call_at s v ≡ Some c → is_plain (is_timed c.asked) c.core ≡ true) (i v : ℕ) where
+  -- it sleeps in its list no longer, and hasn't been told why
+  awaits : (us : List ℕ) (c : Call) → call_at s v ≡ Some c → c.lock ≡ i → (key : ℕ) (token : ParkToken) (by : ℕ)
+      → c.spot ≡ QueuePosition.Off by WakeResult.Nothing → stance c.core ≡ Asleep key token
+      → rw_role_at s i v ≡ rw_core_role c.others c.spot us c.core
+      → mode_standing (standing (rw_core_role c.others c.spot us c.core)) ≡ mode_of (Reading c.others)
+      → ((vs : List ℕ) → chosen_stand (rw_core_role c.others c.spot vs c.core) ≡ true) → IsChosenCall s i v
+  awaits us c there lock key token by off asleep role nothing chosen = record {
+    call = c;
+    untold = record { there = there; by = by; off = off; key = key; token = token; asleep = asleep };
+    lock = lock;
+    nothing = ap (λ r. mode_standing (standing r)) role ∙ nothing;
+    again = λ w same.
+        ap (λ o. chosen_stand (rw_role_in i (taken_by w.wakes v) (hold_at w v i) o)) same
+        ∙ ap chosen_stand
+        (cond-true (c.lock == i) (rw_core_role c.others c.spot (taken_by w.wakes v) c.core)
+        (record { owns = owned_of (hold_at w v i); does = Idle }) (eq-eqb c.lock i lock))
+        ∙ chosen (taken_by w.wakes v);
+  }
+
+  -- so does one whose deadline has come
+  by_late : (us : List ℕ) (c : Call) → call_at s v ≡ Some c → c.lock ≡ i → (p : LateRwPhase) → c.core ≡ Core.LateRw p
+      → late_plainly p ≡ true → rw_role_at s i v ≡ rw_core_role c.others c.spot us (Core.LateRw p)
+      → chosen_stand (rw_core_role c.others c.spot us (Core.LateRw p)) ≡ true → IsChosenCall s i v
+  by_late us c there lock (LateRwPhase.Expires (RwSleeper.Simple k)) core so role is =
+      let x = chosen_sleeps c.others c.spot us k.phase
+      (ap is_chosen (sym (stay_stand Late (of_rw.does (rw_spot c.spot) us k.phase))) ∙ is) in
+      awaits us c there lock x.key x.token x.by x.off (ap stance core ∙ ap lying x.asleep)
+      (role ∙ sym (ap (rw_core_role c.others c.spot us) core))
+      (ap (λ q. mode_standing (standing (rw_core_role c.others c.spot us q))) core
+      ∙ ap mode_of (stay_owner Late (of_rw.owns c.others k.phase) (of_rw.does (rw_spot c.spot) us k.phase) ∙ x.owner))
+      (λ vs. ap (λ q. chosen_stand (rw_core_role c.others c.spot vs q)) core
+      ∙ ap is_chosen (stay_stand Late (of_rw.does (rw_spot c.spot) vs k.phase)) ∙ x.chosen vs)
+  by_late us c there lock (LateRwPhase.Quits (RwSleeper.Simple k)) core so role is =
+      let x = chosen_sleeps c.others QueuePosition.Listed us k.phase
+      (ap is_chosen (sym (stay_stand Back (of_rw.does of_rw.Listed us k.phase))) ∙ is) in
+      absurd (listed x.by x.off)
+    where
+      listed : (by : ℕ) → QueuePosition.Listed ≡ QueuePosition.Off by WakeResult.Nothing → ⊥
+      listed by e = cc
+  by_late us c there lock (LateRwPhase.WasTaken (RwSleeper.Simple k) by true) core so role is =
+      let x = chosen_sleeps c.others (QueuePosition.Off by WakeResult.HandedOver) us k.phase
+      (ap is_chosen (sym (stay_stand Back (of_rw.does (of_rw.Off by Handed) us k.phase))) ∙ is) in
+      absurd (told x.by x.off)
+    where
+      told : (v : ℕ) → QueuePosition.Off by WakeResult.HandedOver ≡ QueuePosition.Off v WakeResult.Nothing → ⊥
+      told v e = cc
+  by_late us c there lock (LateRwPhase.WasTaken (RwSleeper.Simple k) by false) core so role is =
+      let x = chosen_sleeps c.others (QueuePosition.Off by WakeResult.TryAgain) us k.phase
+      (ap is_chosen (sym (stay_stand Back (of_rw.does (of_rw.Off by Normal) us k.phase))) ∙ is) in
+      absurd (told x.by x.off)
+    where
+      told : (v : ℕ) → QueuePosition.Off by WakeResult.TryAgain ≡ QueuePosition.Off v WakeResult.Nothing → ⊥
+      told v e = cc
+  by_late us c there lock p core so role is = absurd cc
+
+  -- one that gives up as a pending writer doesn't sleep
+  by_yield : (us : List ℕ) (c : Call) (p : UpgradePhase) → yields_plainly p ≡ true → IsReady p
+      → chosen_stand (rw_core_role c.others c.spot us (Core.Upgrade (record { phase = p }))) ≡ true → IsChosenCall s i v
+  by_yield us c (UpgradePhase.Owes Kept.Nothing answer core) so ready is =
+      let x = chosen_sleeps c.others c.spot us core.phase is in
+      absurd (owing_up core.phase x.key x.token ready x.asleep)
+  by_yield us c p so ready is = absurd cc
+
+  by_core : (us : List ℕ) (c : Call) → call_at s v ≡ Some c → c.lock ≡ i → (timed : Bool) (k : Core) → c.core ≡ k
+      → is_plain timed k ≡ true → IsPrepared (recursive_in s.kinds c.lock) c.others k
       → rw_role_at s i v ≡ rw_core_role c.others c.spot us k
       → chosen_stand (rw_core_role c.others c.spot us k) ≡ true → IsChosenCall s i v
-  by_core us h c there lock (Core.Mutex k) core role is = absurd (false≢true is)
-  by_core us h c there lock (Core.Late k) core role is = absurd (false≢true is)
-  by_core us h c there lock (Core.LateRw k) core role is =
-      absurd (false≢true (sym (ap is_plain core) ∙ cores v c there))
-  by_core us h c there lock (Core.Upgrade k) core role is =
-      absurd (false≢true (sym (ap is_plain core) ∙ cores v c there))
-  by_core us h c there lock (Core.Rw k) core role is =
+  by_core us c there lock timed (Core.Mutex k) core so ready role is = absurd (false≢true is)
+  by_core us c there lock timed (Core.Late k) core so ready role is = absurd (false≢true is)
+  by_core us c there lock true (Core.LateRw p) core so ready role is = by_late us c there lock p core so role is
+  by_core us c there lock true (Core.Upgrade k) core so ready role is = by_yield us c k.phase so ready.1 is
+  by_core us c there lock timed (Core.Rw k) core so ready role is =
       let x = chosen_sleeps c.others c.spot us k.phase is in
-      record {
-        call = c;
-        untold = record {
-          there = there;
-          by = x.by;
-          off = x.off;
-          key = x.key;
-          token = x.token;
-          asleep = ap stance core
-              ∙ x.asleep;
-        };
-        lock = lock;
-        nothing = ap (λ r. mode_standing (standing r)) role ∙ ap mode_of x.owner;
-        again = λ w same.
-            ap (λ o. chosen_stand (rw_role_in i (taken_by w.wakes v) (hold_at w v i) o)) same
-            ∙ ap chosen_stand
-            (cond-true (c.lock == i) (rw_core_role c.others c.spot (taken_by w.wakes v) c.core)
-            (record { owns = owned_of (hold_at w v i); does = Idle }) (eq-eqb c.lock i lock))
-            ∙ ap (λ q. chosen_stand (rw_core_role c.others c.spot (taken_by w.wakes v) q)) core
-            ∙ x.chosen (taken_by w.wakes v);
-      }
+      awaits us c there lock x.key x.token x.by x.off (ap stance core ∙ x.asleep)
+      (role ∙ sym (ap (rw_core_role c.others c.spot us) core))
+      (ap (λ q. mode_standing (standing (rw_core_role c.others c.spot us q))) core ∙ ap mode_of x.owner)
+      (λ vs. ap (λ q. chosen_stand (rw_core_role c.others c.spot vs q)) core ∙ x.chosen vs)
+  by_core us c there lock false k core so ready role is = absurd cc
 
   by_call : (us : List ℕ) (h : Hold) (o : Option Call) → call_at s v ≡ o → rw_role_at s i v ≡ rw_role_in i us h o
       → chosen_stand (rw_role_in i us h o) ≡ true → IsChosenCall s i v
@@ -176,7 +238,8 @@ module _ (s : State) (cores : (v : ℕ) (c : Call) → call_at s v ≡ Some c �
     | inl here ↦
         let reads : rw_role_in i us h (Some c) ≡ rw_core_role c.others c.spot us c.core =
         cond-true (c.lock == i) _ _ here in
-        by_core us h c there (eqb-true c.lock i here) c.core refl (role ∙ reads) (sym (ap chosen_stand reads) ∙ is)
+        by_core us c there (eqb-true c.lock i here) (is_timed c.asked) c.core refl (cores v c there)
+        (fits.rules.prepared v c there) (role ∙ reads) (sym (ap chosen_stand reads) ∙ is)
     | inr other ↦ absurd
         (false≢true (sym (ap chosen_stand
         (cond-false (c.lock == i) (rw_core_role c.others c.spot us c.core) (record { owns = owned_of h; does = Idle })
@@ -189,7 +252,7 @@ module _ (s : State) (cores : (v : ℕ) (c : Call) → call_at s v ≡ Some c �
 module _ (laws : StepsAreCases) (s u : State) (t : ℕ) (fair : Bool) (answer : Option CoreAnswer) (h : FitsTogether s)
     (rws : All (λ k. k ≡ kind.Rw) s.kinds) (next : All (λ k. k ≡ kind.Rw) u.kinds)
     (alone : (v : ℕ) (c : Call) → call_at s v ≡ Some c → c.others ≡ 0)
-    (cores : (v : ℕ) (c : Call) → call_at s v ≡ Some c → is_plain c.core ≡ true)
+    (cores : (v : ℕ) (c : Call) → call_at s v ≡ Some c → is_plain (is_timed c.asked) c.core ≡ true)
     (x : IsStepped t fair answer s u) where
   abbrev i : ℕ
   i = x.call.lock
@@ -210,7 +273,7 @@ module _ (laws : StepsAreCases) (s u : State) (t : ℕ) (fair : Bool) (answer : 
       → IsHandedOver t i v s u
   handed v ne y =
       let role = role_of s i v y.before y.was in
-      let z = chosen_call s cores i v (ap is_chosen (sym (ap (λ st. st.stand) role) ∙ y.chosen)) in
+      let z = chosen_call s h cores i v (ap is_chosen (sym (ap (λ st. st.stand) role) ∙ y.chosen)) in
       record {
         nothing = held_is s rws i v
             ∙ ap held_as (ap (option_and_then mode_standing) y.was ∙ ap mode_standing role ∙ z.nothing

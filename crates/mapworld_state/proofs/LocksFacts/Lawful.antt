@@ -6,7 +6,6 @@ use Rattle.lock_api_desk.specs.Desk.{DeskState}
 use Rattle.parking_lot_protocol.specs.declared.act.Act.{Act}
 use Rattle.parking_lot_protocol.specs.declared.act.CoreAnswer.{CoreAnswer}
 use Rattle.parking_lot_protocol.specs.declared.act.SectionAct.{SectionAct}
-use Rattle.parking_lot_machine_calls.specs.CallKinds.{IsOfKind}
 use Rattle.parking_lot_machine_calls.specs.Stances.{core_act}
 use Rattle.parking_lot_machine_calls.specs.declared.calls.LockCall.{LockCall}
 use Rattle.parking_lot_machine_calls.specs.declared.open_call.Call.{Call}
@@ -21,13 +20,24 @@ use Rattle.parking_lot_machine.proofs.Acting.{laws}
 use Rattle.parking_lot_machine.proofs.Requesting.{may_begins}
 use Rattle.parking_lot_machine.proofs.Stepping as steps
 use Rattle.parking_lot_machine.proofs.WakesPaying.{begins_cost}
-use Rattle.mapworld_state.specs.Locks.Fits.{IsPlain, LocksFit, is_plain}
+use Rattle.mapworld_state.specs.Locks.Fits.{LocksFit}
+use Rattle.parking_lot_machine.specs.LateActs.{came_back}
+use Rattle.parking_lot_machine.specs.LateLaws.{Expires}
+use Rattle.parking_lot_machine.proofs.LateActs.{laws as late_laws}
+use Rattle.parking_lot_machine.proofs.LateCalls.{found_sound, quit_sound}
+use Rattle.parking_lot_machine.proofs.Stepping.{expires_so}
+use Rattle.parking_lot_machine_calls.specs.LateCalls.{comes_late, is_back}
+use Rattle.parking_lot_machine_calls.specs.declared.late_rw.LateRwPhase.{LateRwPhase}
+use Rattle.parking_lot_machine_calls.specs.declared.seat.LatePhase.{LatePhase}
+use Rattle.parking_lot_machine_calls.specs.declared.seat.QueuePosition.{QueuePosition}
 use Rattle.mapworld_state.specs.Locks.Steps.{LockBegins, LockEnds, LockMoves, LockStarts}
 use Rattle.mapworld_state.specs.Locks.Views.{Shown}
 use Rattle.mapworld_state.proofs.LocksFacts.Answering.{stepped_fits}
 use Rattle.mapworld_state.proofs.LocksFacts.Beginning.{begun_fits, may, same_holds}
 use Rattle.mapworld_state.proofs.LocksFacts.Keeping.{stepped_plain}
-use Rattle.mapworld_state.proofs.LocksFacts.Stepping.{not_mutex}
+use Rattle.parking_lot_machine.specs.Machines.{IsExpired, may_expire, may_expire_in}
+use Rattle.mapworld_state.specs.Locks.Steps.{LockExpires}
+use Rattle.std.proofs.Common.{ap, ◌∙◌}
 
 -- A BEGINNING
 
@@ -47,15 +57,29 @@ lawful-begins t shard call old new fit b =
 
 -- A STEP
 
-module _ (s u : State) (t : ℕ) (fair : Bool) (fits : FitsTogether s) (plain : IsPlain s) (c : Call)
+module _ (s u : State) (t : ℕ) (fair : Bool) (fits : FitsTogether s) (c : Call)
     (here : call_at s t ≡ Some c) where
-  -- nobody's moment passes
-  never_late : (k : Core) → is_plain k ≡ true → IsOfKind (slice_get s.kinds c.lock) k → BecameLate k t c s u → ⊥
-  never_late (Core.Rw x) so of_kind h = absurd h
-  never_late (Core.Mutex x) so of_kind h = absurd h
-  never_late (Core.Late x) so of_kind h = absurd (not_mutex s c.lock plain.kinds of_kind)
-  never_late (Core.LateRw p) so of_kind h = absurd cc
-  never_late (Core.Upgrade x) so of_kind h = absurd h
+  -- One whose deadline has come comes back where nobody is in a section, and takes itself out there, or finds that it
+  -- was taken.
+  back_in : comes_late c.core ≡ true → s.lot.section ≡ None → (at : QueuePosition) → c.spot ≡ at
+      → u ≡ came_back at s t c → IsStepped t fair None s u
+  back_in comes free QueuePosition.Listed is e = steps.come_back s u t c fair fits here comes is free e
+  back_in comes free (QueuePosition.Off by said) is e =
+      steps.find s u t c fair fits here by said comes is free (found_sound s fits t c here by said comes is free) e
+
+  late : can_move s t ≡ true → core_act c.core ≡ Act.Sleep → (k : Core) → c.core ≡ k → BecameLate k t c s u
+      → IsStepped t fair None s u
+  late can asked (Core.Late LatePhase.Expires) core e =
+      let so = steps.comes_so s c (ap is_back core) (steps.can_late s t c can here asked) in
+      back_in so.0 so.1 c.spot refl e
+  late can asked (Core.Late LatePhase.Quits) core e =
+      steps.quit s u t c fair fits here (ap is_back core) (quit_sound s fits t c here (ap is_back core) _) e
+  late can asked (Core.LateRw (LateRwPhase.Expires k)) core e =
+      let so = steps.comes_so s c (ap is_back core) (steps.can_late s t c can here asked) in
+      back_in so.0 so.1 c.spot refl e
+  late can asked (Core.LateRw (LateRwPhase.Quits k)) core e =
+      steps.quit s u t c fair fits here (ap is_back core) (quit_sound s fits t c here (ap is_back core) _) e
+  late can asked k core e = absurd e
 
   inside : (k : SectionAct) → core_act c.core ≡ Act.Section k → BecameInside k t fair c s u → IsStepped t fair None s u
   inside SectionAct.Check asked h = steps.check s u t c fair fits here asked h
@@ -77,7 +101,7 @@ module _ (s u : State) (t : ℕ) (fair : Bool) (fits : FitsTogether s) (plain : 
   by_act can (Act.Enter key) asked h = steps.enter s u t c fair fits here key asked
       (steps.can_enter s t c key can here asked) h
   by_act can (Act.Section next) asked h = inside next asked h
-  by_act can Act.Sleep asked h = absurd (never_late c.core (plain.cores t c here) (fits.rules.kinds t c here) h)
+  by_act can Act.Sleep asked h = late can asked c.core refl h
   by_act can (Act.Done answer) asked h = steps.answer s u t c fair fits here answer asked h
 
   -- and so is one that answers
@@ -91,15 +115,27 @@ pub lawful-moves : (t : ℕ) (fair : Bool) (old new : Shown) → LocksFit old �
 lawful-moves t fair old new fit m =
     let x = m.steps in
     subst (λ o. IsStepped t fair o (state old.rows) (state new.rows)) (sym x.answers)
-    (by_act (state old.rows) (state new.rows) t fair fit.fits fit.plain x.call x.here m.can (core_act x.call.core) refl
+    (by_act (state old.rows) (state new.rows) t fair fit.fits x.call x.here m.can (core_act x.call.core) refl
     x.became)
+
+pub lawful-expires : (t : ℕ) (old new : Shown) → LocksFit old → LockExpires t old new
+    → IsExpired t (state old.rows) (state new.rows)
+lawful-expires t old new fit e =
+    let s = state old.rows in
+    let asleep = expires_so e.call (sym (ap may_expire_in e.here) ∙ e.may) in
+    record {
+      call = e.call;
+      here = e.here;
+      became = e.became;
+      lawful = subst (Expires t e.call s) (sym e.became) (late_laws.expires s t e.call asleep fit.fits e.here);
+    }
 
 pub lawful-ends : (t : ℕ) (answer : CoreAnswer) (old new : Shown) → LocksFit old → LockEnds t answer old new
     → IsStepped t false (Some answer) (state old.rows) (state new.rows)
 lawful-ends t answer old new fit e =
     let x = e.steps in
     subst (λ o. IsStepped t false o (state old.rows) (state new.rows)) (sym x.answers)
-    (by_end (state old.rows) (state new.rows) t false fit.fits fit.plain x.call x.here answer (core_act x.call.core)
+    (by_end (state old.rows) (state new.rows) t false fit.fits x.call x.here answer (core_act x.call.core)
     refl x.answers x.became)
 
 -- THE LOCKS FIT STILL
@@ -115,7 +151,7 @@ fit-ends t answer old new fit e =
     let x = lawful-ends t answer old new fit e in
     subst (λ (ds : List (DeskState (Unit {0}))). LocksFit (record { rows = new.rows; desks = ds })) (sym e.desks)
     (same_holds old fit new.rows (stepped_fits (state old.rows) (state new.rows) t false (Some answer) x)
-    (stepped_plain (state old.rows) (state new.rows) t false (Some answer) fit.plain x) e.whole.kinds e.whole.threads
+    (stepped_plain (state old.rows) (state new.rows) t false (Some answer) fit.fits fit.plain x) e.whole.kinds e.whole.threads
     e.holds)
 
 -- the first act of a call that is begun with it

@@ -77,6 +77,8 @@ module _ (threads shards : ℕ) (rows : Rows) (desks : List (DeskState (Unit {0}
         (All-replicate (λ h. is_single h ≡ true) _ (Hold.Shares 0) refl);
     alone = λ t c at. absurd (none-some c (sym (free t) ∙ at));
     cores = λ t c at. absurd (none-some c (sym (free t) ∙ at));
+    asked = λ t c at. absurd (none-some c (sym (free t) ∙ at));
+    stands = λ t c at. absurd (none-some c (sym (free t) ∙ at));
   }
 
   unheld : (i t : ℕ) → held_at u i t ≡ None

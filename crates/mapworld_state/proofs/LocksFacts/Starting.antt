@@ -33,9 +33,10 @@ use Rattle.mapworld_state.specs.Locks.Fits.{IsPlain}
 use Rattle.mapworld_state.specs.Locks.Stands.{gives}
 use Rattle.mapworld_state.specs.Locks.Steps.{HasActed}
 use Rattle.mapworld_state.specs.Locks.Views.{held_as, held_at}
-use Rattle.mapworld_state.proofs.LocksFacts.Calls.{Hears, IsProper}
-use Rattle.mapworld_state.proofs.LocksFacts.Standing.{GoesOnBy, kept_proper, own_call, set_low}
-use Rattle.mapworld_state.proofs.LocksFacts.Stepping.{call_holds}
+use Rattle.mapworld_state.proofs.LocksFacts.Calls.{Hears}
+use Rattle.mapworld_state.proofs.LocksFacts.Standing.{GoesOnBy, own_call, set_low}
+use Rattle.mapworld_state.proofs.LocksFacts.Ending.{call_holds}
+use Rattle.parking_lot_machine.specs.RowFits.{IsPrepared}
 
 or_else : (a : Bool) {b : Bool} → b ≡ true → (a || b) ≡ true
 or_else true e = refl
@@ -124,12 +125,14 @@ turned_mode at us (Some word) p e ne = ap (λ q. held_as (rw_mode (of_rw.role 0 
     by true = refl
     by false = refl
 
-core_turned : (at : _) (us : List ℕ) (k : Core) (told : ActResult)
-    → k ≡ core_next (Core.Rw (record { phase = RwPhase.Downgrades })) told → IsProper k
+core_turned : (recursive : Bool) (at : _) (us : List ℕ) (k : Core) (told : ActResult)
+    → k ≡ core_next (Core.Rw (record { phase = RwPhase.Downgrades })) told → IsPrepared recursive 0 k
     → held_as (rw_mode (rw_core_role 0 at us k)) ≡ Some held.Shared
-core_turned at us k told e proper =
+core_turned recursive at us k told e ready =
     ap (λ x. held_as (rw_mode (rw_core_role 0 at us x))) e
-    ∙ turned_mode (rw_spot at) us (word_before told) _ refl (subst IsProper e proper)
+    ∙ turned_mode (rw_spot at) us (word_before told) _ refl
+    (λ led. absurd (subst (λ p. IsPrepared recursive 0 (Core.Rw (record { phase = p }))) led
+    (subst (IsPrepared recursive 0) e ready)).1)
 
 -- one that reads or writes was told something
 rw_heard : (k m : Core) (c : RwCore) → k ≡ Core.Rw c → Hears k m → (told : ActResult) × (m ≡ core_next (Core.Rw c) told)
@@ -150,6 +153,6 @@ start_turns s mid u t i call fair low begins x fits plain is =
     let core : own.call.core ≡ core_next (Core.Rw (record { phase = RwPhase.Downgrades })) heard.0 = heard.1 in
     ap (λ n. held_at u n t) (sym lock)
     ∙ call_holds u t own.call plain own.there
-    ∙ core_turned own.call.spot (taken_by u.wakes t) own.call.core heard.0 core
-    (kept_proper (recursive_in u.kinds own.call.lock) own.call.others own.call.core
+    ∙ core_turned (recursive_in u.kinds own.call.lock) own.call.spot (taken_by u.wakes t) own.call.core heard.0 core
+    (subst (λ n. IsPrepared (recursive_in u.kinds own.call.lock) n own.call.core) (plain.alone t own.call own.there)
     (fits.rules.prepared t own.call own.there))

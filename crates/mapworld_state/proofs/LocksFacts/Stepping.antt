@@ -27,64 +27,36 @@ use Rattle.parking_lot_machine.specs.Rows.{Rows, State, call_at, hold_at, rw_rol
 use Rattle.parking_lot_machine_calls.specs.CallRoles.{owned_of, rw_core_role, rw_spot}
 use Rattle.parking_lot_machine.specs.SoundLaws.{Always, OwnersAgree, StepsAreCases}
 use Rattle.parking_lot_machine_calls.specs.Stances.{core_act, rw_stance, stance}
-use Rattle.mapworld_state.specs.Locks.Aims.{Aim, Gets, GivesUp, Turns, is_within, phase_aim}
-use Rattle.mapworld_state.specs.Locks.Fits.{DeskFits, IsPlain, LocksFit, is_plain}
+use Rattle.mapworld_state.specs.Locks.Aims.{Aim, Gets, GivesUp, Turns, aim_of, is_within}
+use Rattle.mapworld_state.specs.Locks.Fits.{DeskFits, IsPlain, LocksFit}
 use Rattle.mapworld_state.specs.Locks.Moves.{CanFollow, all_admitted, desk_after, has_left, own_moved}
 use Rattle.mapworld_state.specs.Locks.Seats.{seat_of}
-use Rattle.mapworld_state.specs.Locks.Stands.{Stand, core_aim, core_tries, stand_of}
+use Rattle.mapworld_state.specs.Locks.Stands.{Stand, stand_for, stand_of}
 use Rattle.mapworld_state.specs.Locks.Steps.{LockMoves}
 use Rattle.mapworld_state.specs.Locks.Views.{Shown, held_as, held_at}
 use Rattle.mapworld_state.proofs.LocksFacts.Admitting.{AllSeated, IsSeated, seats_all}
 use Rattle.mapworld_state.proofs.LocksFacts.Acted.{acted}
 use Rattle.mapworld_state.proofs.LocksFacts.Answering.{stepped_fits}
-use Rattle.mapworld_state.proofs.LocksFacts.Calls.{heard_keeps, IsProper, slot, stepped_goes}
-use Rattle.mapworld_state.proofs.LocksFacts.Ending.{held_by_role}
+use Rattle.mapworld_state.proofs.LocksFacts.Calls.{stepped_goes}
+use Rattle.mapworld_state.proofs.LocksFacts.Ending.{core_within, not_mutex}
 use Rattle.mapworld_state.proofs.LocksFacts.Handing.{IsHandedOver, elsewhere, others, own, goes_by, no_mutex}
 use Rattle.mapworld_state.proofs.LocksFacts.Handing.{within_kinds}
 use Rattle.mapworld_state.proofs.LocksFacts.Keeping.{stepped_kinds, stepped_plain}
 use Rattle.mapworld_state.proofs.LocksFacts.Moving.{Moved, Moves, moved}
-use Rattle.mapworld_state.proofs.LocksFacts.Standing.{heard_patient, GoesOnBy, kept_proper, others_stand, own_call}
-use Rattle.mapworld_state.proofs.LocksFacts.Standing.{sleeps}
+use Rattle.mapworld_state.proofs.LocksFacts.Standing.{GoesOnBy, others_stand, own_call}
 use Rattle.mapworld_state.proofs.LocksFacts.Together.{go_together, holders_are_threads}
-use Rattle.mapworld_state.proofs.LocksFacts.Within.{within}
+use Rattle.mapworld_state.proofs.LocksFacts.Staging.{asked_within, asking_only, sleeper_asks}
+use Rattle.parking_lot_machine.specs.CallLaws.Stages.{core_stage}
+use Rattle.parking_lot_machine_calls.specs.Calls.{is_timed}
 
 -- HOLDS WITHIN CALLS
 
--- the role of a thread at the lock of its call
-pub call_role : (s : State) (t : ℕ) (c : Call) → call_at s t ≡ Some c → rw_role_at s c.lock t ≡ rw_core_role c.others
-    c.spot (taken_by s.wakes t) c.core
-call_role s t c here = ap (rw_role_in c.lock (taken_by s.wakes t) (hold_at s t c.lock)) here
-    ∙ cond-true (c.lock == c.lock) (rw_core_role c.others c.spot (taken_by s.wakes t) c.core)
-    (record { owns = owned_of (hold_at s t c.lock); does = Idle }) (eq-eqb c.lock c.lock refl)
-
--- how it holds that lock
-pub call_holds : (s : State) (t : ℕ) (c : Call) → IsPlain s → call_at s t ≡ Some c
-    → held_at s c.lock t ≡ held_as (rw_mode (rw_core_role 0 c.spot (taken_by s.wakes t) c.core))
-call_holds s t c plain here =
-    held_by_role s c.lock t plain.kinds (slice_get_within s.calls t (Some c) (slot s.calls t c here))
-    ∙ ap (λ r. held_as (rw_mode r)) (call_role s t c here)
-    ∙ ap (λ n. held_as (rw_mode (rw_core_role n c.spot (taken_by s.wakes t) c.core))) (plain.alone t c here)
-
-pub not_mutex : (s : State) (i : ℕ) → All (λ k. k ≡ kind.Rw) s.kinds → manner_of (slice_get s.kinds i) ≢ Some AsMutex
-not_mutex s i rws e = no_mutex (goes_by s i AsMutex rws e)
-
 -- it holds nothing beyond what it is about
 pub call_within : (s : State) (t : ℕ) (c : Call) → FitsTogether s → IsPlain s → call_at s t ≡ Some c
-    → is_within (core_aim c.core) (held_at s c.lock t) ≡ true
-call_within s t c h plain here = ap (is_within (core_aim c.core)) (call_holds s t c plain here)
-    ∙ by c.core (plain.cores t c here) (h.rules.kinds t c here)
-    (subst (λ n. IsPrepared (recursive_in s.kinds c.lock) n c.core) (plain.alone t c here) (h.rules.prepared t c here))
-  where
-    by : (k : Core) → is_plain k ≡ true → IsOfKind (slice_get s.kinds c.lock) k
-        → IsPrepared (recursive_in s.kinds c.lock) 0 k
-        → is_within (core_aim k) (held_as (rw_mode (rw_core_role 0 c.spot (taken_by s.wakes t) k))) ≡ true
-    by (Core.Rw x) so of_kind ready = within (rw_spot c.spot) (taken_by s.wakes t) x.phase ready.0
-        (λ e. absurd (subst (λ p. IsPrepared (recursive_in s.kinds c.lock) 0 (Core.Rw (record { phase = p }))) e
-        ready).1)
-    by (Core.Mutex x) so of_kind ready = absurd (not_mutex s c.lock plain.kinds of_kind)
-    by (Core.Late x) so of_kind ready = absurd (not_mutex s c.lock plain.kinds of_kind)
-    by (Core.LateRw p) so of_kind ready = absurd cc
-    by (Core.Upgrade x) so of_kind ready = absurd cc
+    → is_within (aim_of c.asked) (held_at s c.lock t) ≡ true
+call_within s t c h plain here =
+    asked_within c.asked (plain.asked t c here) (is_timed c.asked) (core_stage 0 c.core) (held_at s c.lock t)
+    (plain.stands t c here) (core_within s t c h plain here)
 
 never_upgradable : (aim : Aim) → is_within aim (Some held.Upgradable) ≡ false
 never_upgradable (Gets held.Shared) = refl
@@ -98,7 +70,7 @@ never_upgradable Turns = refl
 pub call_plain : (s : State) (t : ℕ) (c : Call) → FitsTogether s → IsPlain s → call_at s t ≡ Some c
     → held_at s c.lock t ≢ Some held.Upgradable
 call_plain s t c h plain here e =
-    false≢true (sym (never_upgradable (core_aim c.core)) ∙ ap (is_within (core_aim c.core)) (sym e)
+    false≢true (sym (never_upgradable (aim_of c.asked)) ∙ ap (is_within (aim_of c.asked)) (sym e)
     ∙ call_within s t c h plain here)
 
 -- one that turns its hold and has turned it holds it still
@@ -107,73 +79,6 @@ turns_on None is ne = absurd (false≢true is)
 turns_on (Some held.Shared) is ne = refl
 turns_on (Some held.Exclusive) is ne = absurd (ne refl)
 turns_on (Some held.Upgradable) is ne = absurd (false≢true is)
-
--- a sleeper comes to hold only what it asks for
-asleep_gets : (p : RwPhase) (m : Mode) → sleeps (rw_stance p) ≡ true → is_within (phase_aim p) (Some m) ≡ true
-    → phase_aim p ≡ Gets m
-asleep_gets (RwPhase.Locking want) m is fits = absurd (false≢true is)
-asleep_gets (RwPhase.Trying want) m is fits = absurd (false≢true is)
-asleep_gets RwPhase.UnlockingShared m is fits = absurd (false≢true is)
-asleep_gets (RwPhase.UnlockingExclusive fair) m is fits = absurd (false≢true is)
-asleep_gets RwPhase.Downgrading m is fits = absurd (false≢true is)
-asleep_gets RwPhase.BumpingShared m is fits = absurd (false≢true is)
-asleep_gets RwPhase.BumpingExclusive m is fits = absurd (false≢true is)
-asleep_gets (RwPhase.Loads a) m is fits = absurd (false≢true is)
-asleep_gets (RwPhase.Admits a word) m is fits = absurd (false≢true is)
-asleep_gets (RwPhase.Spins a) m is fits = absurd (false≢true is)
-asleep_gets (RwPhase.SetParked a word) m is fits = absurd (false≢true is)
-asleep_gets (RwPhase.Enters want woken) m is fits = absurd (false≢true is)
-asleep_gets (RwPhase.Checks want woken) m is fits = absurd (false≢true is)
-asleep_gets (RwPhase.Retreats want woken) m is fits = absurd (false≢true is)
-asleep_gets (RwPhase.Appends want) m is fits = absurd (false≢true is)
-asleep_gets (RwPhase.Rests want) m is fits = absurd (false≢true is)
-asleep_gets (RwPhase.Sleeps (LockMode.Shared recursive)) held.Shared is fits = refl
-asleep_gets (RwPhase.Sleeps (LockMode.Shared recursive)) held.Exclusive is fits = absurd (false≢true fits)
-asleep_gets (RwPhase.Sleeps (LockMode.Shared recursive)) held.Upgradable is fits = absurd (false≢true fits)
-asleep_gets (RwPhase.Sleeps LockMode.Exclusive) held.Shared is fits = absurd (false≢true fits)
-asleep_gets (RwPhase.Sleeps LockMode.Exclusive) held.Exclusive is fits = refl
-asleep_gets (RwPhase.Sleeps LockMode.Exclusive) held.Upgradable is fits = absurd (false≢true fits)
-asleep_gets (RwPhase.DrainLoads d) m is fits = absurd (false≢true is)
-asleep_gets (RwPhase.DrainSpins d) m is fits = absurd (false≢true is)
-asleep_gets (RwPhase.DrainSetParked d word) m is fits = absurd (false≢true is)
-asleep_gets (RwPhase.DrainEnters d) m is fits = absurd (false≢true is)
-asleep_gets (RwPhase.DrainChecks d) m is fits = absurd (false≢true is)
-asleep_gets (RwPhase.DrainRetreats d) m is fits = absurd (false≢true is)
-asleep_gets (RwPhase.DrainAppends rounds) m is fits = absurd (false≢true is)
-asleep_gets (RwPhase.DrainRests rounds) m is fits = absurd (false≢true is)
-asleep_gets (RwPhase.DrainSleeps rounds) held.Shared is fits = absurd (false≢true fits)
-asleep_gets (RwPhase.DrainSleeps rounds) held.Exclusive is fits = refl
-asleep_gets (RwPhase.DrainSleeps rounds) held.Upgradable is fits = absurd (false≢true fits)
-asleep_gets (RwPhase.TryLoads want) m is fits = absurd (false≢true is)
-asleep_gets (RwPhase.TryAdmits want word left) m is fits = absurd (false≢true is)
-asleep_gets (RwPhase.Refuses want) m is fits = absurd (false≢true is)
-asleep_gets (RwPhase.BumpLoads want) m is fits = absurd (false≢true is)
-asleep_gets (RwPhase.Relocks want) m is fits = absurd (false≢true is)
-asleep_gets (RwPhase.Unshares rest) m is fits = absurd (false≢true is)
-asleep_gets (RwPhase.EnterWriterWakeSection rest) m is fits = absurd (false≢true is)
-asleep_gets (RwPhase.TakeWriter rest) m is fits = absurd (false≢true is)
-asleep_gets (RwPhase.ClearWriterParked rest taken) m is fits = absurd (false≢true is)
-asleep_gets (RwPhase.LeaveWriterWakeSection rest taken) m is fits = absurd (false≢true is)
-asleep_gets (RwPhase.Unlocks fair rest) m is fits = absurd (false≢true is)
-asleep_gets (RwPhase.LooksExclusive fair rest) m is fits = absurd (false≢true is)
-asleep_gets RwPhase.Downgrades m is fits = absurd (false≢true is)
-asleep_gets RwPhase.EnterWakeSection m is fits = absurd (false≢true is)
-asleep_gets (RwPhase.Scans s) m is fits = absurd (false≢true is)
-asleep_gets (RwPhase.Stores s left) m is fits = absurd (false≢true is)
-asleep_gets (RwPhase.Leaves rest count handed) m is fits = absurd (false≢true is)
-asleep_gets (RwPhase.Wakes rest count) m is fits = absurd (false≢true is)
-asleep_gets (RwPhase.Finishes rest) m is fits = absurd (false≢true is)
-asleep_gets (RwPhase.Ends outcome) m is fits = absurd (false≢true is)
-asleep_gets RwPhase.Invalid m is fits = absurd (false≢true is)
-
-core_gets : (k : Core) (kinds : Option _) (m : Mode) → is_plain k ≡ true → IsOfKind kinds k
-    → manner_of kinds ≢ Some AsMutex → sleeps (stance k) ≡ true → is_within (core_aim k) (Some m) ≡ true
-    → core_aim k ≡ Gets m
-core_gets (Core.Rw c) kinds m so of_kind ne is fits = asleep_gets c.phase m is fits
-core_gets (Core.Mutex c) kinds m so of_kind ne is fits = absurd (ne of_kind)
-core_gets (Core.Late c) kinds m so of_kind ne is fits = absurd (ne of_kind)
-core_gets (Core.LateRw p) kinds m so of_kind ne is fits = absurd cc
-core_gets (Core.Upgrade c) kinds m so of_kind ne is fits = absurd cc
 
 -- where it held and holds no longer
 left_so : (a b : Option Mode) → a ≢ None → b ≡ None → has_left a b ≡ true
@@ -218,10 +123,10 @@ module _ (laws : StepsAreCases) (agree : Always OwnersAgree) (old : Shown) (fit 
   fits = stepped_fits s u t fair None x
 
   plain : IsPlain u
-  plain = stepped_plain s u t fair None fit.plain x
+  plain = stepped_plain s u t fair None fit.fits fit.plain x
 
   kinds_same : u.kinds ≡ s.kinds
-  kinds_same = stepped_kinds s u t fair None fit.plain x
+  kinds_same = stepped_kinds s u t fair None fit.fits fit.plain x
 
   count : length u.calls ≡ length s.calls
   count = (stepped_goes s u t fair None x).count
@@ -232,12 +137,6 @@ module _ (laws : StepsAreCases) (agree : Always OwnersAgree) (old : Shown) (fit 
 
   abbrev d : Call
   d = own_goes.call
-
-  proper : IsProper d.core
-  proper = kept_proper (recursive_in u.kinds d.lock) d.others d.core (fits.rules.prepared t d own_goes.there)
-
-  aim_same : core_aim d.core ≡ core_aim c.core
-  aim_same = heard_keeps c.core d.core own_goes.heard (fit.plain.cores t c x.here) proper
 
   pub in_range : i < length old.desks
   in_range = omega (arith, of c.core (fit.fits.rules.kinds t c x.here), fit.count)
@@ -371,22 +270,26 @@ module _ (laws : StepsAreCases) (agree : Always OwnersAgree) (old : Shown) (fit 
       ]
 
       stands_same : (v : ℕ) → v ≢ t → option_map stand_of (call_at u v) ≡ option_map stand_of (call_at s v)
-      stands_same = others_stand s u t fair None fit.fits fit.plain.cores fits x
+      stands_same = others_stand s u t fair None x
 
       -- one that is handed the lock has asked for it
       handed_gets : (v : ℕ) (m : Mode) → v ≢ t → (given : IsHandedOver t i v s u) → held_at u i v ≡ Some m
-          → core_aim given.call.core ≡ Gets m
+          → aim_of given.call.asked ≡ Gets m
       handed_gets v m ne given e =
           let (y, there, same) = called (call_at u v) (stand_of given.call)
           (stands_same v ne ∙ ap (option_map stand_of) given.there) in
           let lock : y.lock ≡ i = ap (λ (z : Stand). z.shard) same ∙ given.lock in
-          let fits_in : is_within (core_aim given.call.core) (Some m) ≡ true =
+          let fits_in : is_within (aim_of given.call.asked) (Some m) ≡ true =
           ap (λ a. is_within a (Some m)) (sym (ap (λ (z : Stand). z.aim) same))
-          ∙ ap (is_within (core_aim y.core)) (sym (ap (λ n. held_at u n v) lock ∙ e))
+          ∙ ap (is_within (aim_of y.asked)) (sym (ap (λ n. held_at u n v) lock ∙ e))
           ∙ call_within u v y fits plain there in
-          core_gets given.call.core (slice_get s.kinds given.call.lock) m (fit.plain.cores v given.call given.there)
-          (fit.fits.rules.kinds v given.call given.there) (not_mutex s given.call.lock fit.plain.kinds)
-          (ap sleeps given.asleep) fits_in
+          asking_only given.call.asked (fit.plain.asked v given.call given.there) (core_stage 0 given.call.core)
+          (is_timed given.call.asked) (fit.plain.stands v given.call given.there)
+          (sleeper_asks (is_timed given.call.asked) (recursive_in s.kinds given.call.lock) 0 given.call.core given.key
+          given.token (fit.plain.cores v given.call given.there)
+          (subst (λ n. IsPrepared (recursive_in s.kinds given.call.lock) n given.call.core)
+          (fit.plain.alone v given.call given.there) (fit.fits.rules.prepared v given.call given.there)) given.asleep)
+          m fits_in
 
       gained : (v j : ℕ) (m : Mode) → v ≢ t → held_at u j v ≡ Some m
           → (held_at s j v ≡ Some m)
@@ -404,9 +307,10 @@ module _ (laws : StepsAreCases) (agree : Always OwnersAgree) (old : Shown) (fit 
         | inr apart ↦ inl (sym (elsewhere_same j v apart) ∙ e)
       ]
 
-      turned : core_aim c.core ≡ Turns → held_at s i t ≡ Some held.Shared → held_at u i t ≡ Some held.Shared
+      turned : aim_of c.asked ≡ Turns → held_at s i t ≡ Some held.Shared → held_at u i t ≡ Some held.Shared
       turned aim was = turns_on (held_at u i t)
-          (ap (is_within Turns) (sym own_held) ∙ ap (λ a. is_within a (held_at u d.lock t)) (sym (aim_same ∙ aim))
+          (ap (is_within Turns) (sym own_held)
+          ∙ ap (λ a. is_within a (held_at u d.lock t)) (sym (ap aim_of own_goes.asked ∙ aim))
           ∙ call_within u t d fits plain own_goes.there) (own_kept was)
 
       pub stepped_moves : can_move s t ≡ true → LockMoves t fair old new
@@ -419,11 +323,8 @@ module _ (laws : StepsAreCases) (agree : Always OwnersAgree) (old : Shown) (fit 
         desk = desk;
         at_shard = at;
         desks = is;
-        trying = core_tries d.core;
-        stands = ap (option_map stand_of) own_goes.there
-            ∙ ap (λ n. Some (record { shard = n; aim = core_aim d.core; trying = core_tries d.core })) own_goes.lock
-            ∙ ap (λ a. Some (record { shard = i; aim = a; trying = core_tries d.core })) aim_same;
-        patient = λ calm. heard_patient c.core d.core own_goes.heard (fit.plain.cores t c x.here) calm;
+        stands = ap (option_map stand_of) own_goes.there ∙ ap (λ n. Some (stand_for n d.asked)) own_goes.lock
+            ∙ ap (λ a. Some (stand_for i a)) own_goes.asked;
         others = stands_same;
         kept = kept;
         gained = gained;

@@ -135,7 +135,7 @@ touches_one laws s u t fair answer h plain x = by (goes s t x.call (core_act x.c
 
     locks : (j : ℕ) → j ≢ x.call.lock → rw_lock_at u j ≡ rw_lock_at s j
     locks j ne = locks_are (rw_lock_at u j) (rw_lock_at s j) _ _
-        (is_rw u (stepped_plain s u t fair answer plain x).kinds j) (is_rw s plain.kinds j)
+        (is_rw u (stepped_plain s u t fair answer h plain x).kinds j) (is_rw s plain.kinds j)
         ((laws.step s u t fair answer h x).elsewhere j ne)
 
     apart : ((j : ℕ) → j ≢ x.call.lock → word_at u j ≡ word_at s j) → (j : ℕ) → j ≢ x.call.lock → StaysAt s u j

@@ -24,11 +24,26 @@ use Rattle.parking_lot_machine_calls.specs.CallKinds.{IsOfKind}
 use Rattle.parking_lot_machine.specs.Rows.{State, call_at, hold_at, rw_role_at, rw_role_in, taken_by}
 use Rattle.parking_lot_machine_calls.specs.CallRoles.{owned_of, rw_core_role, rw_spot}
 use Rattle.parking_lot_machine_calls.specs.CallViews.{hold_mode}
-use Rattle.mapworld_state.specs.Locks.Fits.{IsPlain, is_single, is_plain}
+use Rattle.mapworld_state.specs.Locks.Fits.{IsPlain, is_single, is_plain, late_plainly, yields_plainly}
+use Rattle.mapworld_state.proofs.LocksFacts.Giving.{stay_weight}
+use Rattle.parking_lot_machine_calls.specs.Calls.{is_timed}
+use Rattle.parking_lot_machine_calls.specs.LateRoles.{late_rw_role}
+use Rattle.parking_lot_machine_calls.specs.Kinds.{recursive_in}
+use Rattle.parking_lot_machine.specs.RowFits.{IsPrepared}
+use Rattle.parking_lot_protocol_rw.specs.UpgradeRoles as of_upgrade
+use Rattle.parking_lot_protocol_rw.specs.UpgradeRules.{IsOwing, IsReady}
+use Rattle.parking_lot_protocol_rw.specs.declared.upgrade_phase.Hold.{Hold as Kept}
+use Rattle.parking_lot_protocol_rw.specs.declared.upgrade_phase.UpgradePhase.{UpgradePhase}
+use Rattle.parking_lot_machine_calls.specs.declared.late_rw.LateRwPhase.{LateRwPhase}
+use Rattle.parking_lot_machine_calls.specs.declared.late_rw.RwSleeper.{RwSleeper}
+use Rattle.parking_lot_rules.specs.Roles.{Back, Late, Shares}
 use Rattle.mapworld_state.specs.Locks.Views.{held_as, held_at}
 use Rattle.mapworld_state.proofs.LocksFacts.Beginning.{differ, single_hold}
 use Rattle.mapworld_state.proofs.LocksFacts.Ending.{held_by_role, idle_mode}
-use Rattle.mapworld_state.proofs.LocksFacts.Stepping.{call_plain, not_mutex}
+use Rattle.mapworld_state.proofs.LocksFacts.Ending.{not_mutex}
+use Rattle.mapworld_state.proofs.LocksFacts.Stepping.{call_plain}
+use Rattle.std.proofs.Common.{Bool}
+use Rattle.parking_lot_protocol.specs.MutexRules.{mark_of}
 
 none : {n : ℕ} → n ≡ 0 → n ≤ 1
 none e = omega (arith, e)
@@ -111,6 +126,45 @@ phase_reads at us (RwPhase.Ends Outcome.FreedShared) = none refl
 phase_reads at us (RwPhase.Ends Outcome.FreedExclusive) = none refl
 phase_reads at us RwPhase.Invalid = none refl
 
+-- nor does one whose deadline has come
+late_reads : (at : of_rw.QueuePosition) (us : List ℕ) (p : LateRwPhase) → late_plainly p ≡ true
+    → weight Readers (late_rw_role 0 at us p) ≤ 1
+unfolding weight
+late_reads at us (LateRwPhase.Expires (RwSleeper.Simple k)) so =
+    subst (λ n. n ≤ 1) (sym (stay_weight Late (of_rw.role 0 at us k.phase))) (phase_reads at us k.phase)
+late_reads at us (LateRwPhase.Quits (RwSleeper.Simple k)) so =
+    subst (λ n. n ≤ 1) (sym (stay_weight Back (of_rw.role 0 of_rw.Listed us k.phase)))
+    (phase_reads of_rw.Listed us k.phase)
+late_reads at us (LateRwPhase.WasTaken (RwSleeper.Simple k) by handed) so =
+    subst (λ n. n ≤ 1) (sym (stay_weight Back (of_rw.role 0 (of_rw.Off by (mark_of handed)) us k.phase)))
+    (phase_reads (of_rw.Off by (mark_of handed)) us k.phase)
+late_reads at us LateRwPhase.Masks so = none refl
+late_reads at us LateRwPhase.Leaves so = none refl
+late_reads at us LateRwPhase.GivesUp so = none refl
+late_reads at us (LateRwPhase.LeavesPending from) so = none refl
+late_reads at us p so = absurd cc
+
+owes_reads : (at : of_rw.QueuePosition) (us : List ℕ) (p : RwPhase) → IsOwing p
+    → weight Readers (record { owns = Shares 0; does = of_rw.does at us p }) ≤ 1
+unfolding weight
+owes_reads at us RwPhase.EnterWakeSection ready = none refl
+owes_reads at us (RwPhase.Scans s) ready = none refl
+owes_reads at us (RwPhase.Stores s left) ready = none refl
+owes_reads at us (RwPhase.Leaves rest count handed) ready = none refl
+owes_reads at us (RwPhase.Wakes rest count) ready = none refl
+owes_reads at us (RwPhase.Finishes rest) ready = none refl
+owes_reads at us p ready = absurd ready
+
+yields_reads : (at : of_rw.QueuePosition) (us : List ℕ) (p : UpgradePhase) → yields_plainly p ≡ true → IsReady p
+    → weight Readers (of_upgrade.role 0 at us p) ≤ 1
+unfolding weight
+yields_reads at us (UpgradePhase.YieldLoads from) so ready = none refl
+yields_reads at us (UpgradePhase.Yields from word) so ready = none refl
+yields_reads at us (UpgradePhase.Owes Kept.Nothing answer core) so ready = owes_reads at us core.phase ready
+yields_reads at us (UpgradePhase.Ends Kept.Nothing answer) so ready = none refl
+yields_reads at us UpgradePhase.Invalid so ready = none refl
+yields_reads at us p so ready = absurd cc
+
 idle_reads : (h : Hold) → is_single h ≡ true → weight Readers (record { owns = owned_of h; does = Idle }) ≤ 1
 unfolding weight
 idle_reads (Hold.Shares zero) is = none refl
@@ -138,13 +192,15 @@ module _ (s : State) (h : FitsTogether s) (plain : IsPlain s) (i t : ℕ) where
   idle_in c other = cond-false (c.lock == i) (rw_core_role c.others c.spot us c.core)
       (record { owns = owned_of hold; does = Idle }) other
 
-  core_reads : (c : Call) → call_at s t ≡ Some c → (k : Core) → is_plain k ≡ true
-      → IsOfKind (slice_get s.kinds c.lock) k → weight Readers (rw_core_role 0 c.spot us k) ≤ 1
-  core_reads c here (Core.Rw x) so of_kind = phase_reads (rw_spot c.spot) us x.phase
-  core_reads c here (Core.Mutex x) so of_kind = absurd (not_mutex s c.lock plain.kinds of_kind)
-  core_reads c here (Core.Late x) so of_kind = absurd (not_mutex s c.lock plain.kinds of_kind)
-  core_reads c here (Core.LateRw x) so of_kind = absurd cc
-  core_reads c here (Core.Upgrade x) so of_kind = absurd cc
+  core_reads : (c : Call) → call_at s t ≡ Some c → (timed : Bool) (k : Core) → is_plain timed k ≡ true
+      → IsOfKind (slice_get s.kinds c.lock) k → IsPrepared (recursive_in s.kinds c.lock) c.others k
+      → weight Readers (rw_core_role 0 c.spot us k) ≤ 1
+  core_reads c here timed (Core.Rw x) so of_kind ready = phase_reads (rw_spot c.spot) us x.phase
+  core_reads c here timed (Core.Mutex x) so of_kind ready = absurd (not_mutex s c.lock plain.kinds of_kind)
+  core_reads c here timed (Core.Late x) so of_kind ready = absurd (not_mutex s c.lock plain.kinds of_kind)
+  core_reads c here true (Core.LateRw p) so of_kind ready = late_reads (rw_spot c.spot) us p so
+  core_reads c here true (Core.Upgrade x) so of_kind ready = yields_reads (rw_spot c.spot) us x.phase so ready.1
+  core_reads c here false k so of_kind ready = absurd cc
 
   reads_by : (o : Option Call) → call_at s t ≡ o → weight Readers (rw_role_in i us hold o) ≤ 1
   reads_by None e = idle_reads hold (single_hold s t i plain.single)
@@ -155,7 +211,7 @@ module _ (s : State) (h : FitsTogether s) (plain : IsPlain s) (i t : ℕ) where
         (sym (cond-true (c.lock == i) (rw_core_role c.others c.spot us c.core)
         (record { owns = owned_of hold; does = Idle }) same))
         (subst (λ n. weight Readers (rw_core_role n c.spot us c.core) ≤ 1) (sym (plain.alone t c e))
-        (core_reads c e c.core (plain.cores t c e) (h.rules.kinds t c e)))
+        (core_reads c e (is_timed c.asked) c.core (plain.cores t c e) (h.rules.kinds t c e) (h.rules.prepared t c e)))
   ]
 
   pub reads_once : weight Readers (rw_role_at s i t) ≤ 1

@@ -1,103 +1,123 @@
--- Within a call nobody holds more than the call is about.
-use Rattle.std.proofs.Common.{◌≡◌, ◌≢◌, ℕ, zero, suc, ◌+◌, Bool, true, false, List, Some, None, refl, sym, ap, ◌∙◌}
+-- How a thread holds a lock, by where its call stands.
+use Rattle.std.proofs.Common.{◌≡◌, ◌≢◌, ℕ, Bool, true, false, List, Option, Some, None, refl, sym, ap, ◌∙◌, subst}
 use Rattle.std.proofs.lemmas.Bool.{false≢true}
 use Rattle.parking_lot_core_model.specs.declared.parking.ParkToken.{ParkToken}
-use Rattle.parking_lot_protocol.specs.declared.act.Act.{Act}
 use Rattle.parking_lot_protocol.specs.declared.rw_phase.LockMode.{LockMode}
 use Rattle.parking_lot_protocol.specs.declared.rw_phase.AfterWake.{AfterWake}
 use Rattle.parking_lot_protocol.specs.declared.rw_phase.Outcome.{Outcome}
 use Rattle.parking_lot_protocol.specs.declared.rw_phase.RwPhase.{RwPhase}
 use Rattle.parking_lot_protocol.specs.RwRules as of_rw
 use Rattle.parking_lot_protocol.specs.declared.rw_phase.Scanning.{Scanning}
-use Rattle.parking_lot_protocol.specs.RwTable.{act_of}
 use Rattle.parking_lot_rules.specs.Roles as rules
 use Rattle.parking_lot_rules.specs.Owners.{Reading, Stand, Chosen, owner_of, stand_of}
-use Rattle.parking_lot_rules.specs.Roles.{Mark, Open, Normal, Handed, Mode}
+use Rattle.parking_lot_rules.specs.Roles.{Open, Normal, Handed}
 use Rattle.parking_lot_machine_calls.specs.declared.calls.LockKind.TheVariants as kind
 use Rattle.parking_lot_machine_calls.specs.declared.seat.QueuePosition.{QueuePosition}
 use Rattle.parking_lot_machine_calls.specs.declared.seat.WakeResult.{WakeResult}
 use Rattle.parking_lot_machine_calls.specs.CallViews.{mode_of, rw_mode}
-use Rattle.parking_lot_machine_calls.specs.CallActs.{rw_hold_after}
-use Rattle.parking_lot_machine.specs.RowFits.{rw_keeps}
 use Rattle.parking_lot_machine_calls.specs.CallRoles.{rw_spot}
 use Rattle.parking_lot_machine_calls.specs.Stances.{Asleep, rw_stance}
-use Rattle.parking_lot_machine_calls.specs.CallViews.{hold_mode, shared_mode}
-use Rattle.mapworld_state.specs.Locks.Aims.{aim_after, aim_for, is_within, phase_aim}
+use Rattle.parking_lot_machine_calls.specs.CallViews.{hold_mode}
+use Rattle.parking_lot_machine_calls.specs.declared.calls.OwnMode.TheVariants as own
+use Rattle.parking_lot_machine.specs.CallLaws.Stages as stage
+use Rattle.parking_lot_machine.specs.CallLaws.Stages.{Asks, Frees, Over, Quits, Stage, Tries, mode_for, rest_stage}
+use Rattle.parking_lot_machine.specs.CallLaws.Stages.{rw_stage}
+use Rattle.lock_api_desk.specs.declared.mode.Mode.{Mode}
+use Rattle.lock_api_desk.specs.declared.mode.Mode.TheVariants as held
+use Rattle.mapworld_state.specs.Locks.Aims.{Gets, GivesUp, Turns, is_within}
 use Rattle.mapworld_state.specs.Locks.Views.{held_as}
 
-none_for : (want : LockMode) → is_within (aim_for want) None ≡ true
-none_for (LockMode.Shared recursive) = refl
-none_for LockMode.Exclusive = refl
+-- Within a call nobody holds more than it is about; and where it is over, what it says then. Of holds as upgradable
+-- nothing is said: no call of a shard's lock is about one.
+abbrev pub WithinAt : Stage → Option Mode → Type 0
+WithinAt (Asks own.Shared from) o = is_within (Gets held.Shared) o ≡ true
+WithinAt (Asks own.Exclusive from) o = is_within (Gets held.Exclusive) o ≡ true
+WithinAt (Tries own.Shared from) o = is_within (Gets held.Shared) o ≡ true
+WithinAt (Tries own.Exclusive from) o = is_within (Gets held.Exclusive) o ≡ true
+WithinAt (Quits own.Shared from) o = is_within (Gets held.Shared) o ≡ true
+WithinAt (Quits own.Exclusive from) o = is_within (Gets held.Exclusive) o ≡ true
+WithinAt (Frees false) o = is_within (GivesUp held.Shared) o ≡ true
+WithinAt (Frees true) o = is_within (GivesUp held.Exclusive) o ≡ true
+WithinAt (stage.Turns own.Shared) o = is_within Turns o ≡ true
+WithinAt (Over answer hold) o = o ≡ held_as (hold_mode (Some kind.Rw) hold)
+WithinAt other o = Unit {0}
 
-sleeps : (at : of_rw.QueuePosition) (us : List ℕ) (want : LockMode)
-    → is_within (aim_for want) (held_as (rw_mode (of_rw.role 0 at us (RwPhase.Sleeps want)))) ≡ true
-sleeps of_rw.Listed us want = none_for want
-sleeps (of_rw.Off by Open) us want = none_for want
-sleeps (of_rw.Off by Normal) us want = none_for want
+-- of one that stands there at that phase
+abbrev HeldAt : of_rw.QueuePosition → List ℕ → RwPhase → Type 0
+HeldAt at us p = WithinAt (rw_stage 0 p) (held_as (rw_mode (of_rw.role 0 at us p)))
+
+asks_none : (want : LockMode) → WithinAt (Asks (mode_for want) false) None
+asks_none (LockMode.Shared recursive) = refl
+asks_none LockMode.Exclusive = refl
+
+tries_none : (want : LockMode) → WithinAt (Tries (mode_for want) false) None
+tries_none (LockMode.Shared recursive) = refl
+tries_none LockMode.Exclusive = refl
+
+sleeps : (at : of_rw.QueuePosition) (us : List ℕ) (want : LockMode) → HeldAt at us (RwPhase.Sleeps want)
+sleeps of_rw.Listed us want = asks_none want
+sleeps (of_rw.Off by Open) us want = asks_none want
+sleeps (of_rw.Off by Normal) us want = asks_none want
 sleeps (of_rw.Off by Handed) us (LockMode.Shared recursive) = refl
 sleeps (of_rw.Off by Handed) us LockMode.Exclusive = refl
 
-drain_sleeps : (at : of_rw.QueuePosition) (us : List ℕ) (rounds : ℕ)
-    → is_within (phase_aim (RwPhase.DrainSleeps rounds))
-    (held_as (rw_mode (of_rw.role 0 at us (RwPhase.DrainSleeps rounds)))) ≡ true
+drain_sleeps : (at : of_rw.QueuePosition) (us : List ℕ) (rounds : ℕ) → HeldAt at us (RwPhase.DrainSleeps rounds)
 drain_sleeps of_rw.Listed us rounds = refl
 drain_sleeps (of_rw.Off by mark) us rounds = refl
 
 scans : (at : of_rw.QueuePosition) (us : List ℕ) (s : Scanning) (rest : AfterWake) → s.rest ≡ rest
-    → of_rw.gives_shared s.rest ≡ false
-    → is_within (aim_after s.rest) (held_as (rw_mode (of_rw.role 0 at us (RwPhase.Scans s)))) ≡ true
+    → of_rw.gives_shared s.rest ≡ false → HeldAt at us (RwPhase.Scans s)
 scans at us s AfterWake.FreedShared e ready = absurd (false≢true (sym ready ∙ ap of_rw.gives_shared e))
 scans at us s AfterWake.FreedExclusive e ready =
-    ap (λ r. is_within (aim_after r)
+    subst (λ r. WithinAt (rest_stage r)
     (held_as (mode_of (owner_of (of_rw.owned_at_last 0 r)
-    (rules.Scans1 (of_rw.cause_of r) s.shared s.upgradable s.writer us))))) e
+    (rules.Scans1 (of_rw.cause_of r) s.shared s.upgradable s.writer us))))) (sym e) refl
 scans at us s AfterWake.Downgraded e ready =
-    ap (λ r. is_within (aim_after r)
+    subst (λ r. WithinAt (rest_stage r)
     (held_as (mode_of (owner_of (of_rw.owned_at_last 0 r)
-    (rules.Scans1 (of_rw.cause_of r) s.shared s.upgradable s.writer us))))) e
+    (rules.Scans1 (of_rw.cause_of r) s.shared s.upgradable s.writer us))))) (sym e) refl
 scans at us s AfterWake.AgainShared e ready = absurd (false≢true (sym ready ∙ ap of_rw.gives_shared e))
 scans at us s AfterWake.AgainExclusive e ready =
-    ap (λ r. is_within (aim_after r)
+    subst (λ r. WithinAt (rest_stage r)
     (held_as (mode_of (owner_of (of_rw.owned_at_last 0 r)
-    (rules.Scans1 (of_rw.cause_of r) s.shared s.upgradable s.writer us))))) e
+    (rules.Scans1 (of_rw.cause_of r) s.shared s.upgradable s.writer us))))) (sym e) refl
 
 stores : (at : of_rw.QueuePosition) (us : List ℕ) (s : Scanning) (left : Bool) (rest : AfterWake) → s.rest ≡ rest
-    → of_rw.gives_shared s.rest ≡ false
-    → is_within (aim_after s.rest) (held_as (rw_mode (of_rw.role 0 at us (RwPhase.Stores s left)))) ≡ true
+    → of_rw.gives_shared s.rest ≡ false → HeldAt at us (RwPhase.Stores s left)
 stores at us s left AfterWake.FreedShared e ready = absurd (false≢true (sym ready ∙ ap of_rw.gives_shared e))
 stores at us s left AfterWake.FreedExclusive e ready =
-    ap (λ r. is_within (aim_after r)
+    subst (λ r. WithinAt (rest_stage r)
     (held_as (mode_of (owner_of (of_rw.owned_at_last 0 r)
-    (rules.Scans1 (of_rw.cause_of r) s.shared s.upgradable s.writer us))))) e
+    (rules.Scans1 (of_rw.cause_of r) s.shared s.upgradable s.writer us))))) (sym e) refl
 stores at us s left AfterWake.Downgraded e ready =
-    ap (λ r. is_within (aim_after r)
+    subst (λ r. WithinAt (rest_stage r)
     (held_as (mode_of (owner_of (of_rw.owned_at_last 0 r)
-    (rules.Scans1 (of_rw.cause_of r) s.shared s.upgradable s.writer us))))) e
+    (rules.Scans1 (of_rw.cause_of r) s.shared s.upgradable s.writer us))))) (sym e) refl
 stores at us s left AfterWake.AgainShared e ready = absurd (false≢true (sym ready ∙ ap of_rw.gives_shared e))
 stores at us s left AfterWake.AgainExclusive e ready =
-    ap (λ r. is_within (aim_after r)
+    subst (λ r. WithinAt (rest_stage r)
     (held_as (mode_of (owner_of (of_rw.owned_at_last 0 r)
-    (rules.Scans1 (of_rw.cause_of r) s.shared s.upgradable s.writer us))))) e
+    (rules.Scans1 (of_rw.cause_of r) s.shared s.upgradable s.writer us))))) (sym e) refl
 
 -- with no shared hold beside
 pub within : (at : of_rw.QueuePosition) (us : List ℕ) (p : RwPhase) → of_rw.IsReady p → p ≢ RwPhase.Invalid
-    → is_within (phase_aim p) (held_as (rw_mode (of_rw.role 0 at us p))) ≡ true
-within at us (RwPhase.Locking want) ready ne = none_for want
-within at us (RwPhase.Trying want) ready ne = none_for want
+    → HeldAt at us p
+within at us (RwPhase.Locking want) ready ne = asks_none want
+within at us (RwPhase.Trying want) ready ne = tries_none want
 within at us RwPhase.UnlockingShared ready ne = refl
 within at us (RwPhase.UnlockingExclusive fair) ready ne = refl
 within at us RwPhase.Downgrading ready ne = refl
 within at us RwPhase.BumpingShared ready ne = refl
 within at us RwPhase.BumpingExclusive ready ne = refl
-within at us (RwPhase.Loads a) ready ne = none_for a.want
-within at us (RwPhase.Admits a word) ready ne = none_for a.want
-within at us (RwPhase.Spins a) ready ne = none_for a.want
-within at us (RwPhase.SetParked a word) ready ne = none_for a.want
-within at us (RwPhase.Enters want woken) ready ne = none_for want
-within at us (RwPhase.Checks want woken) ready ne = none_for want
-within at us (RwPhase.Retreats want woken) ready ne = none_for want
-within at us (RwPhase.Appends want) ready ne = none_for want
-within at us (RwPhase.Rests want) ready ne = none_for want
+within at us (RwPhase.Loads a) ready ne = asks_none a.want
+within at us (RwPhase.Admits a word) ready ne = asks_none a.want
+within at us (RwPhase.Spins a) ready ne = asks_none a.want
+within at us (RwPhase.SetParked a word) ready ne = asks_none a.want
+within at us (RwPhase.Enters want woken) ready ne = asks_none want
+within at us (RwPhase.Checks want woken) ready ne = asks_none want
+within at us (RwPhase.Retreats want woken) ready ne = asks_none want
+within at us (RwPhase.Appends want) ready ne = asks_none want
+within at us (RwPhase.Rests want) ready ne = asks_none want
 within at us (RwPhase.Sleeps want) ready ne = sleeps at us want
 within at us (RwPhase.DrainLoads d) ready ne = refl
 within at us (RwPhase.DrainSpins d) ready ne = refl
@@ -108,12 +128,12 @@ within at us (RwPhase.DrainRetreats d) ready ne = refl
 within at us (RwPhase.DrainAppends rounds) ready ne = refl
 within at us (RwPhase.DrainRests rounds) ready ne = refl
 within at us (RwPhase.DrainSleeps rounds) ready ne = drain_sleeps at us rounds
-within at us (RwPhase.TryLoads want) ready ne = none_for want
-within at us (RwPhase.TryAdmits want word left) ready ne = none_for want
-within at us (RwPhase.Refuses want) ready ne = none_for want
+within at us (RwPhase.TryLoads want) ready ne = tries_none want
+within at us (RwPhase.TryAdmits want word left) ready ne = tries_none want
+within at us (RwPhase.Refuses want) ready ne = refl
 within at us (RwPhase.BumpLoads (LockMode.Shared recursive)) ready ne = refl
 within at us (RwPhase.BumpLoads LockMode.Exclusive) ready ne = refl
-within at us (RwPhase.Relocks want) ready ne = none_for want
+within at us (RwPhase.Relocks want) ready ne = asks_none want
 within at us (RwPhase.Unshares AfterWake.FreedShared) ready ne = refl
 within at us (RwPhase.Unshares AfterWake.FreedExclusive) ready ne = absurd (false≢true ready)
 within at us (RwPhase.Unshares AfterWake.Downgraded) ready ne = absurd (false≢true ready)
@@ -174,75 +194,6 @@ within at us (RwPhase.Ends Outcome.Downgraded) ready ne = refl
 within at us (RwPhase.Ends Outcome.FreedShared) ready ne = refl
 within at us (RwPhase.Ends Outcome.FreedExclusive) ready ne = refl
 within at us RwPhase.Invalid ready ne = absurd (ne refl)
-
--- the call is over
-abbrev pub is_done : Act → Bool
-is_done (Act.Done answer) = true
-is_done other = false
-
-shares : (n : ℕ) → shared_mode n ≡ mode_of (Reading n)
-shares zero = refl
-shares (suc n) = refl
-
--- What one owns whose call is answered is what it owned in the call.
-pub done_hold : (recursive : Bool) (n : ℕ) (at : of_rw.QueuePosition) (us : List ℕ) (p : RwPhase)
-    → rw_keeps recursive n p → is_done (act_of p) ≡ true → hold_mode (Some kind.Rw) (rw_hold_after n p) ≡ rw_mode
-    (of_rw.role n at us p)
-done_hold recursive n at us (RwPhase.Locking want) keeps done = absurd keeps
-done_hold recursive n at us (RwPhase.Trying want) keeps done = absurd keeps
-done_hold recursive n at us RwPhase.UnlockingShared keeps done = absurd keeps
-done_hold recursive n at us (RwPhase.UnlockingExclusive fair) keeps done = absurd keeps
-done_hold recursive n at us RwPhase.Downgrading keeps done = absurd keeps
-done_hold recursive n at us RwPhase.BumpingShared keeps done = absurd keeps
-done_hold recursive n at us RwPhase.BumpingExclusive keeps done = absurd keeps
-done_hold recursive n at us (RwPhase.Loads a) keeps done = absurd (false≢true done)
-done_hold recursive n at us (RwPhase.Admits a word) keeps done = absurd (false≢true done)
-done_hold recursive n at us (RwPhase.Spins a) keeps done = absurd (false≢true done)
-done_hold recursive n at us (RwPhase.SetParked a word) keeps done = absurd (false≢true done)
-done_hold recursive n at us (RwPhase.Enters want woken) keeps done = absurd (false≢true done)
-done_hold recursive n at us (RwPhase.Checks want woken) keeps done = absurd (false≢true done)
-done_hold recursive n at us (RwPhase.Retreats want woken) keeps done = absurd (false≢true done)
-done_hold recursive n at us (RwPhase.Appends want) keeps done = absurd (false≢true done)
-done_hold recursive n at us (RwPhase.Rests want) keeps done = absurd (false≢true done)
-done_hold recursive n at us (RwPhase.Sleeps want) keeps done = absurd (false≢true done)
-done_hold recursive n at us (RwPhase.DrainLoads d) keeps done = absurd (false≢true done)
-done_hold recursive n at us (RwPhase.DrainSpins d) keeps done = absurd (false≢true done)
-done_hold recursive n at us (RwPhase.DrainSetParked d word) keeps done = absurd (false≢true done)
-done_hold recursive n at us (RwPhase.DrainEnters d) keeps done = absurd (false≢true done)
-done_hold recursive n at us (RwPhase.DrainChecks d) keeps done = absurd (false≢true done)
-done_hold recursive n at us (RwPhase.DrainRetreats d) keeps done = absurd (false≢true done)
-done_hold recursive n at us (RwPhase.DrainAppends rounds) keeps done = absurd (false≢true done)
-done_hold recursive n at us (RwPhase.DrainRests rounds) keeps done = absurd (false≢true done)
-done_hold recursive n at us (RwPhase.DrainSleeps rounds) keeps done = absurd (false≢true done)
-done_hold recursive n at us (RwPhase.TryLoads want) keeps done = absurd (false≢true done)
-done_hold recursive n at us (RwPhase.TryAdmits want word left) keeps done = absurd (false≢true done)
-done_hold recursive n at us (RwPhase.Refuses want) keeps done = shares n
-done_hold recursive n at us (RwPhase.BumpLoads want) keeps done = absurd (false≢true done)
-done_hold recursive n at us (RwPhase.Relocks want) keeps done = absurd (false≢true done)
-done_hold recursive n at us (RwPhase.Unshares rest) keeps done = absurd (false≢true done)
-done_hold recursive n at us (RwPhase.EnterWriterWakeSection rest) keeps done = absurd (false≢true done)
-done_hold recursive n at us (RwPhase.TakeWriter rest) keeps done = absurd (false≢true done)
-done_hold recursive n at us (RwPhase.ClearWriterParked rest taken) keeps done = absurd (false≢true done)
-done_hold recursive n at us (RwPhase.LeaveWriterWakeSection rest taken) keeps done = absurd (false≢true done)
-done_hold recursive n at us (RwPhase.Unlocks fair rest) keeps done = absurd (false≢true done)
-done_hold recursive n at us (RwPhase.LooksExclusive fair rest) keeps done = absurd (false≢true done)
-done_hold recursive n at us RwPhase.Downgrades keeps done = absurd (false≢true done)
-done_hold recursive n at us RwPhase.EnterWakeSection keeps done = absurd (false≢true done)
-done_hold recursive n at us (RwPhase.Scans s) keeps done = absurd (false≢true done)
-done_hold recursive n at us (RwPhase.Stores s left) keeps done = absurd (false≢true done)
-done_hold recursive n at us (RwPhase.Leaves rest count handed) keeps done = absurd (false≢true done)
-done_hold recursive n at us (RwPhase.Wakes rest count) keeps done = absurd (false≢true done)
-done_hold recursive n at us (RwPhase.Finishes AfterWake.FreedShared) keeps done = shares n
-done_hold recursive n at us (RwPhase.Finishes AfterWake.FreedExclusive) keeps done = refl
-done_hold recursive n at us (RwPhase.Finishes AfterWake.Downgraded) keeps done = refl
-done_hold recursive n at us (RwPhase.Finishes AfterWake.AgainShared) keeps done = absurd (false≢true done)
-done_hold recursive n at us (RwPhase.Finishes AfterWake.AgainExclusive) keeps done = absurd (false≢true done)
-done_hold recursive n at us (RwPhase.Ends Outcome.Shared) keeps done = shares (n + 1)
-done_hold recursive n at us (RwPhase.Ends Outcome.Exclusive) keeps done = refl
-done_hold recursive n at us (RwPhase.Ends Outcome.Downgraded) keeps done = refl
-done_hold recursive n at us (RwPhase.Ends Outcome.FreedShared) keeps done = shares n
-done_hold recursive n at us (RwPhase.Ends Outcome.FreedExclusive) keeps done = refl
-done_hold recursive n at us RwPhase.Invalid keeps done = absurd keeps
 
 abbrev pub is_chosen : Stand → Bool
 is_chosen (Chosen mode) = true

@@ -1,7 +1,14 @@
 -- What holds of shards' locks at every moment.
-use Rattle.std.specs.Prelude.{◌≡◌, ℕ, zero, suc, ◌≤◌, Bool, true, false, length, Some, slice_get}
+use Rattle.std.specs.Prelude.{◌≡◌, ◌&&◌, ℕ, zero, suc, ◌≤◌, Bool, true, false, not, length, Some, slice_get}
 use Rattle.std.specs.List.{All}
 use Rattle.lock_api_desk.specs.Desk.{DeskState}
+use Rattle.parking_lot_protocol_rw.specs.declared.upgrade_phase.Hold.TheVariants as up
+use Rattle.parking_lot_protocol_rw.specs.declared.upgrade_phase.UpgradePhase.{UpgradePhase}
+use Rattle.parking_lot_protocol_rw.specs.declared.upgrade_phase.UpgradePhase.TheVariants as u
+use Rattle.parking_lot_machine_calls.specs.declared.late_rw.LateRwPhase.{LateRwPhase}
+use Rattle.parking_lot_machine_calls.specs.declared.late_rw.LateRwPhase.TheVariants as late_rw
+use Rattle.parking_lot_machine_calls.specs.declared.late_rw.RwSleeper.{RwSleeper}
+use Rattle.parking_lot_machine_calls.specs.declared.late_rw.RwSleeper.TheVariants as sleeper
 use Rattle.parking_lot_machine_calls.specs.declared.calls.LockKind.TheVariants as kind
 use Rattle.parking_lot_machine_calls.specs.declared.seat.Hold.{Hold}
 use Rattle.parking_lot_machine_calls.specs.declared.seat.Hold.TheVariants as hold
@@ -10,6 +17,10 @@ use Rattle.parking_lot_machine_calls.specs.declared.seat.Core.TheVariants as cor
 use Rattle.parking_lot_machine_calls.specs.declared.open_call.Call.{Call}
 use Rattle.parking_lot_machine.specs.RowFits.{FitsTogether}
 use Rattle.parking_lot_machine.specs.Rows.{State, call_at, state}
+use Rattle.parking_lot_machine.specs.CallLaws.Answers.{MayStand}
+use Rattle.parking_lot_machine.specs.CallLaws.Stages.{core_stage, stage_of}
+use Rattle.parking_lot_machine_calls.specs.Calls.{is_timed}
+use Rattle.mapworld_state.specs.Locks.Stands.{is_of_shards}
 use Rattle.mapworld_state.specs.Locks.Seats.{AreSeated, GoTogether}
 use Rattle.mapworld_state.specs.Locks.Views.{Shown, held_at, owner_in}
 
@@ -21,20 +32,46 @@ is_single (hold.Shares (suc (suc n))) = false
 is_single hold.Excludes = true
 is_single hold.Upgrades = false
 
--- the core is one of readers and writers
-abbrev pub is_plain : Core → Bool
-is_plain (core.Rw c) = true
-is_plain (core.Mutex c) = true
-is_plain (core.Late p) = true
-is_plain (core.LateRw p) = false
-is_plain (core.Upgrade c) = false
+-- Behind the deadline of a call that reads or writes its core gives up: it takes itself out of its list, or finds that
+-- another has taken it; as a pending writer it gives its bit back, as one of the calls with upgradable holds does, and
+-- owes a look to those whom it has kept out.
+abbrev pub is_simple : RwSleeper → Bool
+is_simple (sleeper.Simple c) = true
+is_simple (sleeper.Upgradable c) = false
+
+abbrev pub late_plainly : LateRwPhase → Bool
+late_plainly (late_rw.Expires k) = is_simple k
+late_plainly (late_rw.Quits k) = is_simple k
+late_plainly (late_rw.WasTaken k by handed) = is_simple k
+late_plainly (late_rw.LeavesPending from) = not from
+late_plainly p = true
+
+abbrev pub yields_plainly : UpgradePhase → Bool
+yields_plainly (u.YieldLoads from) = not from
+yields_plainly (u.Yields from word) = not from
+yields_plainly (u.Owes up.Nothing answer core) = true
+yields_plainly (u.Ends up.Nothing answer) = true
+yields_plainly u.Invalid = true
+yields_plainly p = false
+
+-- the core is one of readers and writers, with a deadline or without one
+abbrev pub is_plain : Bool → Core → Bool
+is_plain timed (core.Rw c) = true
+is_plain timed (core.Mutex c) = true
+is_plain timed (core.Late p) = true
+is_plain timed (core.LateRw p) = timed && late_plainly p
+is_plain timed (core.Upgrade c) = timed && yields_plainly c.phase
 
 -- of the machine alone: all locks are reader-writer locks
 pub record IsPlain (s : State) : Type 0 where
   pub kinds : All (λ k. k ≡ kind.Rw) s.kinds
   pub single : All (λ h. is_single h ≡ true) s.holds
   pub alone : (t : ℕ) (c : Call) → call_at s t ≡ Some c → c.others ≡ 0
-  pub cores : (t : ℕ) (c : Call) → call_at s t ≡ Some c → is_plain c.core ≡ true
+  pub cores : (t : ℕ) (c : Call) → call_at s t ≡ Some c → is_plain (is_timed c.asked) c.core ≡ true
+  -- a call is one of shards' locks, and stands where one that was asked so may stand
+  pub asked : (t : ℕ) (c : Call) → call_at s t ≡ Some c → is_of_shards c.asked ≡ true
+  pub stands : (t : ℕ) (c : Call) → call_at s t ≡ Some c
+      → MayStand 0 (stage_of c.asked) (is_timed c.asked) (core_stage 0 c.core)
 
 -- The desk beside a shard's word: its guards are the lock's owners but pending ones, each under the number of its
 -- thread, and those that were handed the lock are among them. There is room for a guard of each thread.

@@ -10,13 +10,14 @@ use Rattle.parking_lot_machine_calls.specs.declared.calls.LockCall.{LockCall}
 use Rattle.parking_lot_machine_calls.specs.declared.calls.LockCall.TheVariants.{Downgrade}
 use Rattle.parking_lot_machine_calls.specs.declared.open_call.Call.{Call}
 use Rattle.parking_lot_machine_calls.specs.Stances.{core_act}
-use Rattle.parking_lot_machine.specs.Machines.{Became, call_for, can_move, end_of, ended}
+use Rattle.parking_lot_machine.specs.Machines.{Became, call_for, can_move, end_of, ended, may_expire}
+use Rattle.parking_lot_machine.specs.LateActs.{expired}
 use Rattle.parking_lot_machine.specs.RowActs.{begun}
-use Rattle.parking_lot_machine.specs.Rows.{State, call_at, state, taken_by}
-use Rattle.mapworld_state.specs.Locks.Aims.{Gets, GivesUp, Turns, aim_of}
+use Rattle.parking_lot_machine.specs.Rows.{State, call_at, queue_at, state, taken_by, word_at}
+use Rattle.mapworld_state.specs.Locks.Aims.{Gets, GivesUp, Turns}
 use Rattle.mapworld_state.specs.Locks.Moves.{desk_after}
 use Rattle.mapworld_state.specs.Locks.Seats.{GoTogether}
-use Rattle.mapworld_state.specs.Locks.Stands.{Stand, is_of_shards, is_try, needs, stand_in}
+use Rattle.mapworld_state.specs.Locks.Stands.{Stand, is_of_shards, needs, stand_for, stand_in}
 use Rattle.mapworld_state.specs.Locks.Views.{Shown, owner_in}
 
 -- threads stay, and locks stay what they are
@@ -45,7 +46,7 @@ pub record LockBegins (t shard : ℕ) (call : LockCall) (old new : Shown) : Type
   pub became : state new.rows ≡ begun (state old.rows) t (call_for (state old.rows) t shard call)
   pub whole : StaysWhole old new
   pub desks : new.desks ≡ old.desks
-  pub stand : stand_in new t ≡ Some (record { shard = shard; aim = aim_of call; trying = is_try call })
+  pub stand : stand_in new t ≡ Some (stand_for shard call)
   pub others : (v : ℕ) → v ≢ t → stand_in new v ≡ stand_in old v
   pub holds : (v i : ℕ) → owner_in new i v ≡ owner_in old i v
 
@@ -61,10 +62,8 @@ pub record LockMoves (t : ℕ) (fair : Bool) (old new : Shown) : Type 0 where
   pub at_shard : slice_get old.desks stand.shard ≡ Some desk
   pub desks : new.desks ≡ slice_set old.desks stand.shard
       (desk_after (owner_in old stand.shard) (owner_in new stand.shard) t (taken_by new.rows.wakes t) desk)
-  -- it is about what it was, and one that can't be refused stays so
-  pub trying : Bool
-  pub stands : stand_in new t ≡ Some (record stand { trying = trying })
-  pub patient : stand.trying ≡ false → trying ≡ false
+  -- everybody is about what he was
+  pub stands : stand_in new t ≡ Some stand
   pub others : (v : ℕ) → v ≢ t → stand_in new v ≡ stand_in old v
   -- what others hold stays theirs; they gain only what they are about
   pub kept : (v i : ℕ) (m : Mode) → v ≢ t → owner_in old i v ≡ Some m → owner_in new i v ≡ Some m
@@ -83,6 +82,23 @@ pub record LockStarts (t shard : ℕ) (call : LockCall) (fair : Bool) (old new :
   pub moves : LockMoves t fair mid new
   pub turned : call ≡ Downgrade → owner_in new shard t ≡ Some held.Shared
 
+-- Its deadline has come, as it slept in a call that has one. From then on it can move: it comes back by itself. Its own
+-- place in its call is another, and nothing else: no word, no queue, no desk, and nobody's hold or aim.
+pub record LockExpires (t : ℕ) (old new : Shown) : Type 0 where
+  pub stand : Stand
+  pub stood : stand_in old t ≡ Some stand
+  pub timed : stand.timed ≡ true
+  pub may : may_expire (state old.rows) t ≡ true
+  pub call : Call
+  pub here : call_at (state old.rows) t ≡ Some call
+  pub became : state new.rows ≡ expired (state old.rows) t call
+  pub whole : StaysWhole old new
+  pub desks : new.desks ≡ old.desks
+  pub words : (i : ℕ) → word_at (state new.rows) i ≡ word_at (state old.rows) i
+  pub queues : (key : ℕ) → queue_at (state new.rows) key ≡ queue_at (state old.rows) key
+  pub stands : (v : ℕ) → stand_in new v ≡ stand_in old v
+  pub holds : (v i : ℕ) → owner_in new i v ≡ owner_in old i v
+
 -- Only the answer was left, and is given.
 pub record LockEnds (t : ℕ) (answer : CoreAnswer) (old new : Shown) : Type 0 where
   pub stand : Stand
@@ -94,11 +110,14 @@ pub record LockEnds (t : ℕ) (answer : CoreAnswer) (old new : Shown) : Type 0 w
   pub gone : stand_in new t ≡ None
   pub others : (v : ℕ) → v ≢ t → stand_in new v ≡ stand_in old v
   pub holds : (v i : ℕ) → owner_in new i v ≡ owner_in old i v
-  -- it holds what it was about, unless it was refused: only a try is
+  -- it holds what it was about, unless it was refused: only a try is, and what has a deadline
   pub owned : (m : Mode) → stand.aim ≡ Gets m → answer ≡ Owned → owner_in new stand.shard t ≡ Some m
-  pub patient : (m : Mode) → stand.aim ≡ Gets m → stand.trying ≡ false → answer ≡ Owned
-  pub settled : (m : Mode) → stand.aim ≡ Gets m → (answer ≡ Owned) ⊎ (answer ≡ Refused)
+  pub patient : (m : Mode) → stand.aim ≡ Gets m → stand.trying ≡ false → stand.timed ≡ false
+      → answer ≡ Owned
+  pub settled : (m : Mode) → stand.aim ≡ Gets m → stand.timed ≡ false → (answer ≡ Owned) ⊎ (answer ≡ Refused)
   pub refused : (m : Mode) → stand.aim ≡ Gets m → answer ≡ Refused → owner_in new stand.shard t ≡ None
+  -- one with a deadline gives up in either way, with nothing owned
+  pub gave_up : (m : Mode) → stand.aim ≡ Gets m → answer ≢ Owned → owner_in new stand.shard t ≡ None
   pub freed : (m : Mode) → stand.aim ≡ GivesUp m → owner_in new stand.shard t ≡ None
   pub turned : stand.aim ≡ Turns → owner_in new stand.shard t ≡ Some held.Shared
   pub together : (i : ℕ) → GoTogether (owner_in new i)

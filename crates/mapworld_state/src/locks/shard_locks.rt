@@ -2,11 +2,12 @@
 ghost use Rattle.std.specs.Option.{option_copied};
 ghost use Rattle.std.specs.Prelude.{◌≡◌, ◌↔◌, length, None, Some, true, is_some, slice_get, IfOk, IfErr, IsTrue};
 ghost use Rattle.parking_lot_core_model.specs.declared.fault.SizeFault.TheVariants.{NoMemory};
-ghost use Rattle.parking_lot_machine.specs.Machines.{can_move, ended, is_asleep};
+ghost use Rattle.parking_lot_machine.specs.Machines.{can_move, ended, is_asleep, may_expire};
 ghost use Rattle.parking_lot_machine.specs.Rows.{queue_at, state, word_at};
 ghost use Rattle.mapworld_state.specs.Locks.Fits.{LocksFit};
 ghost use Rattle.mapworld_state.specs.Locks.Stands.{gives, is_of_shards, needs, stand_in};
-ghost use Rattle.mapworld_state.specs.Locks.Steps.{LockBegins, LockEnds, LockMoves, LockStarts, MayAsk};
+ghost use Rattle.mapworld_state.specs.Locks.Steps.{LockBegins, LockEnds, LockExpires, LockMoves, LockStarts};
+ghost use Rattle.mapworld_state.specs.Locks.Steps.{MayAsk};
 ghost use Rattle.mapworld_state.specs.Locks.Views.{owner_in};
 
 use crate::locks::desks::{ShardDesk, follow, holds};
@@ -20,7 +21,8 @@ use std::marker::Model;
 ///
 /// A thread [begins](ShardLocks::begin) a call at a shard, or [starts](ShardLocks::start) to give its hold up, makes
 /// one atomic [step](ShardLocks::step) after another, in any order among the threads, and
-/// [finishes](ShardLocks::finish) where only the answer is left. The desk of a shard has a guard for each thread that
+/// [finishes](ShardLocks::finish) where only the answer is left. As it sleeps in a call that has a deadline, that may
+/// [come](ShardLocks::deadline). The desk of a shard has a guard for each thread that
 /// holds the shard, in the same step in which it comes to hold it.
 #[derive(Drop)]
 pub struct ShardLocks<A: Allocator = Global> {
@@ -91,6 +93,25 @@ impl<A: Allocator> ShardLocks<A> {
         answer
     }
 
+    /// Whether a thread's deadline may come: it sleeps in a call that has one, in a list or taken off it and not woken
+    /// yet, and its deadline hasn't come before.
+    pub fn may_expire(&self, thread: usize) -> bool
+        ensures { result ≡ may_expire (state self.now.rows) thread }
+    {
+        self.machine.may_expire(thread)
+    }
+
+    /// A thread's deadline comes as it sleeps. No word, queue, guard or hold changes. From then on the thread can move:
+    /// it takes itself off its list and is refused, and as a pending writer it gives its bit back and wakes those whom
+    /// it has kept out. Where another has taken it off before, it goes on as it was told.
+    pub fn deadline(&mut self, thread: usize)
+        requires may { may_expire (state self.old.rows) thread ≡ true }
+        ensures { LockExpires thread self.old self.new }
+    {
+        laws::each_step_is_a_case();
+        self.machine.deadline(thread);
+    }
+
     /// That locks and desks fit together, for who says what a run of them did. It does nothing.
     pub fn known(&self)
         ensures { LocksFit self.now }
@@ -152,7 +173,8 @@ impl<A: Allocator> ShardLocks<A> {
         self.machine.can_move(thread)
     }
 
-    /// Whether a thread sleeps in its call.
+    /// Whether a thread sleeps in its call, until another wakes it. One whose deadline has come doesn't: it comes back
+    /// by itself.
     pub fn is_asleep(&self, thread: usize) -> bool
         ensures { result ≡ is_asleep (state self.now.rows) thread }
     {
@@ -186,9 +208,9 @@ fn is_of_shards(call: LockCall) -> bool
     ensures { result ≡ is_of_shards call }
 {
     match call {
-        LockCall::Read | LockCall::TryRead | LockCall::UnlockRead => true,
-        LockCall::Write | LockCall::TryWrite | LockCall::UnlockWrite => true,
-        LockCall::Downgrade => true,
+        LockCall::Read | LockCall::TryRead | LockCall::ReadUntil => true,
+        LockCall::Write | LockCall::TryWrite | LockCall::WriteUntil => true,
+        LockCall::UnlockRead | LockCall::UnlockWrite | LockCall::Downgrade => true,
         _ => false,
     }
 }

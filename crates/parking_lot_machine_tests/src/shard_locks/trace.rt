@@ -20,6 +20,10 @@ pub enum Turn {
     Goes(usize, Option<CoreAnswer>),
     /// The same, and where it may it hands the lock over.
     GoesFairly(usize, Option<CoreAnswer>),
+    /// A thread makes so many steps, and none of them is its answer.
+    Steps(usize, u32),
+    /// The deadline of a thread comes, or it can't.
+    Expires(usize, bool),
     /// Nothing is done, and a thread holds the shard so, asleep or not.
     Holds(usize, Option<Mode>, bool),
 }
@@ -117,13 +121,34 @@ impl Trace {
         Ok(None)
     }
 
-    /// Takes a turn. Answers whether it went as it says.
-    fn takes(&mut self, turn: Turn) -> Result<bool, Fail> {
+    /// Makes so many steps. Answers whether it could.
+    fn makes(&mut self, thread: usize, steps: u32) -> Result<bool, Fail> {
+        let mut may = true;
+        for _ in 0..steps {
+            may = may & self.steps(thread, false);
+            self.look()?;
+        }
+        Ok(may)
+    }
+
+    /// Lets the deadline of a thread come. Answers whether it could.
+    fn expires(&mut self, thread: usize) -> bool {
+        let may = self.locks.may_expire(thread);
+        if may {
+            self.locks.deadline(thread);
+        }
+        may
+    }
+
+    /// Takes a turn. Answers whether it went as it says. `fair`: each step hands the lock over where it may.
+    fn takes(&mut self, turn: Turn, fair: bool) -> Result<bool, Fail> {
         let is_so = match turn {
             Turn::Asks(thread, call) => self.asks(thread, call),
             Turn::Gives(thread, call) => self.gives(thread, call),
-            Turn::Goes(thread, answer) => self.goes(thread, false)? == answer,
+            Turn::Goes(thread, answer) => self.goes(thread, fair)? == answer,
             Turn::GoesFairly(thread, answer) => self.goes(thread, true)? == answer,
+            Turn::Steps(thread, steps) => self.makes(thread, steps)?,
+            Turn::Expires(thread, may) => self.expires(thread) == may,
             Turn::Holds(thread, mode, asleep) => {
                 (self.locks.owner(thread, 0) == mode) & (self.locks.is_asleep(thread) == asleep)
             }
@@ -145,8 +170,19 @@ impl Trace {
 
     /// Takes all turns, and then has seen these words.
     pub fn follows(&mut self, rt: &impl Abort, turns: &[Turn], words: &[u64]) -> Result<(), Fail> {
+        self.follows_as(rt, turns, words, false)
+    }
+
+    /// The same; where `fair`, each step hands the lock over where it may.
+    pub fn follows_as(
+        &mut self,
+        rt: &impl Abort,
+        turns: &[Turn],
+        words: &[u64],
+        fair: bool,
+    ) -> Result<(), Fail> {
         for (at, turn) in turns.iter().enumerate() {
-            let is_so = self.takes(*turn)?;
+            let is_so = self.takes(*turn, fair)?;
             assert!(rt; is_so, "turn {at}");
         }
         assert!(rt; self.agrees, "desk and owners agree");

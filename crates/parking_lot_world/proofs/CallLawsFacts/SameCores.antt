@@ -37,7 +37,7 @@ use Rattle.parking_lot_machine_calls.specs.declared.seat.Core.{Core}
 use Rattle.parking_lot_machine_calls.specs.declared.seat.Core.TheVariants as core
 use Rattle.parking_lot_machine_calls.specs.declared.seat.LatePhase.{LatePhase}
 use Rattle.parking_lot_machine_calls.specs.declared.seat.LatePhase.TheVariants as late
-use Rattle.parking_lot_world.proofs.CallLawsFacts.Quitting.{frees_awake, owes_awake}
+use Rattle.parking_lot_machine.proofs.CallLawsFacts.Quitting.{frees_awake, owes_awake}
 use Rattle.parking_lot_world.specs.CallLaws.SameCores.{CoresAreTheSame, act_as, hears_as, late_as, late_hears}
 use Rattle.parking_lot_world.specs.CallLaws.SameCores.{late_rw_as, late_rw_hears, mutex_as, rw_as, sleeper_as}
 

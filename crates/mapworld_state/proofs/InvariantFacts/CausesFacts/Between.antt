@@ -10,7 +10,7 @@ use Rattle.parking_lot_machine.specs.Rows.{call_at, state}
 use Rattle.mapworld_calls.specs.Setup.{Setup}
 use Rattle.mapworld_calls.proofs.Lists.{slice_get-push_cases, slice_get-set_same, slice_get-set_other}
 use Rattle.mapworld_state.specs.Locks.Aims.{Aim}
-use Rattle.mapworld_state.specs.Locks.Stands.{Stand, core_tries, stand_in, stand_of}
+use Rattle.mapworld_state.specs.Locks.Stands.{Stand, is_of_shards, is_try, stand_in, stand_of}
 use Rattle.mapworld_state.specs.Locks.Steps.{LockEnds}
 use Rattle.mapworld_state.specs.Locks.Views.{Shown}
 use Rattle.mapworld_state.specs.declared.holds.Hold.{Hold}
@@ -28,23 +28,25 @@ use Rattle.mapworld_state.proofs.InvariantFacts.Admitting.{sound-enters, sound-l
 use Rattle.mapworld_state.proofs.InvariantFacts.Concluding.{sound-left}
 use Rattle.mapworld_state.proofs.InvariantFacts.Walking.{sound-reaches}
 use Rattle.mapworld_state.specs.Invariant.Causes.Causes.{IsSite}
-use Rattle.mapworld_state.proofs.InvariantFacts.CausesFacts.Locking.{LocksApart, apart-ends, apart-same, seen-tries}
-use Rattle.mapworld_state.proofs.InvariantFacts.CausesFacts.Locking.{tries-gets}
-use Rattle.mapworld_state.proofs.InvariantFacts.CausesFacts.Looking.{sees}
+use Rattle.mapworld_state.proofs.InvariantFacts.CausesFacts.Locking.{LocksApart, apart-ends, apart-same}
+use Rattle.mapworld_state.proofs.InvariantFacts.CausesFacts.Trying.{core_tries, tries_by, tries_get}
+use Rattle.parking_lot_machine_calls.specs.Calls.{is_timed}
+use Rattle.mapworld_state.specs.Locks.Fits.{LocksFit}
+use Rattle.std.proofs.Common.{◌||◌}
 
 -- a try without success is one that waits for its shard
-module _ {K V S D T A : Type 0} (x : Setup K V D T) (w : State K V S D T A) (sound : Sound x w) (t : ℕ)
-    (p : Place K V D T A) (at : slice_get w.places t ≡ Some p) where
-  module _ (c : Call) (tries : core_tries c.core ≡ true) where
+module _ {K V S D T A : Type 0} (x : Setup K V D T) (w : State K V S D T A) (sound : Sound x w)
+    (fit : LocksFit w.locks) (t : ℕ) (p : Place K V D T A) (at : slice_get w.places t ≡ Some p) where
+  module _ (c : Call) (ours : is_of_shards c.asked ≡ true) (tries : (is_try c.asked || is_timed c.asked) ≡ true) where
     nowhere : Some (stand_of c) ≡ None → ⊥
     nowhere e = none-some (stand_of c) (sym e)
 
     gets-nothing : IsOwing p (Some (stand_of c)) → ⊥
-    gets-nothing h = let m = tries-gets c.core tries in subst (λ (a : Aim). MayOwe p c.lock a) m.1 h
+    gets-nothing h = let m = tries_get c.asked ours tries in subst (λ (a : Aim). MayOwe p c.lock a) m.1 h
 
     waits-not : (mode : _) → IsWanting p mode false (Some (stand_of c)) → ⊥
     waits-not mode h =
-        false≢true (sym (h.patient refl) ∙ sym (ap (λ z. z.trying) (same_Some (stand_of c) _ h.is)) ∙ tries)
+        false≢true (sym (ap (λ (z : Stand). z.trying || z.timed) (same_Some (stand_of c) _ h.is)) ∙ tries)
 
     by : (f : Phase K V D T A) → StandsBefore p f (Some (stand_of c)) → (r : Request K V D) × (f ≡ phase.Admit r)
     by phase.Rest h = absurd (nowhere h)
@@ -72,17 +74,10 @@ module _ {K V S D T A : Type 0} (x : Setup K V D T) (w : State K V S D T A) (sou
   pub tries-admits : (c : Call) → call_at (state w.locks.rows) t ≡ Some c → core_tries c.core ≡ true
       → (r : Request K V D) × (p.phase ≡ phase.Admit r)
   tries-admits c e tries =
-      by c tries p.phase
+      by c (fit.plain.asked t c e)
+      (tries_by c.asked (fit.plain.asked t c e) c.core (fit.plain.stands t c e) tries) p.phase
       (subst (λ (o : Option Stand). StandsBefore p p.phase o) (ap (λ o. option_map stand_of o) e)
       (sound.holds.stands t p at))
-
-  pub sees-admits : sees (call_at (state w.locks.rows) t) ≡ true → (r : Request K V D) × (p.phase ≡ phase.Admit r)
-  sees-admits seen = go (call_at (state w.locks.rows) t) refl seen
-    where
-      go : (o : Option Call) → call_at (state w.locks.rows) t ≡ o → sees o ≡ true → (r : Request K V D)
-          × (p.phase ≡ phase.Admit r)
-      go None e h = absurd (false≢true h)
-      go (Some c) e h = tries-admits c e (seen-tries c.core h)
 
 -- THE WORLD BETWEEN
 

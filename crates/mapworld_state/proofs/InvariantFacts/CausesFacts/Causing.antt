@@ -24,9 +24,10 @@ use Rattle.mapworld_calls.specs.Programs.{opening_key}
 use Rattle.mapworld_calls.specs.Setup.{Setup, ask_at}
 use Rattle.mapworld_calls.specs.Shards.{HasCause, IsOnShard}
 use Rattle.mapworld_calls.proofs.Lists.{slice_get-set_same}
-use Rattle.mapworld_state.specs.Locks.Aims.{Gets, phase_aim}
+use Rattle.mapworld_state.specs.Locks.Aims.{Gets}
+use Rattle.mapworld_state.specs.Locks.Fits.{is_plain}
 use Rattle.mapworld_state.specs.Locks.Fits.{LocksFit}
-use Rattle.mapworld_state.specs.Locks.Stands.{core_aim, stand_in, stand_of}
+use Rattle.mapworld_state.specs.Locks.Stands.{stand_in, stand_of}
 use Rattle.mapworld_state.specs.declared.place.Phase.{Phase}
 use Rattle.mapworld_state.specs.declared.place.Phase.TheVariants as phase
 use Rattle.mapworld_state.specs.declared.place.Request.{Request}
@@ -43,30 +44,39 @@ use Rattle.mapworld_state.proofs.InvariantFacts.Building.{Goes, claim-at}
 use Rattle.mapworld_state.specs.Invariant.Causes.Causes.{HasCauses, HasMet, IsTold, has_seen, has_seen_in, is_locked}
 use Rattle.mapworld_state.proofs.InvariantFacts.CausesFacts.Shapes.{Shape}
 use Rattle.mapworld_state.proofs.InvariantFacts.CausesFacts.Staying.{on-kept}
+use Rattle.std.proofs.Common.{◌≢◌, Option, None}
+use Rattle.parking_lot_machine_calls.specs.Kinds.{AsMutex, manner_of}
+use Rattle.parking_lot_machine_calls.specs.CallKinds.{IsOfKind}
+use Rattle.parking_lot_machine_calls.specs.declared.calls.LockKind.{LockKind}
+use Rattle.mapworld_state.proofs.LocksFacts.Ending.{not_mutex}
+use Rattle.parking_lot_machine.specs.Rows.{state}
+use Rattle.parking_lot_machine.specs.RowFits.{IsPrepared, rw_keeps}
+use Rattle.parking_lot_machine_calls.specs.Kinds.{recursive_in}
 
 -- a call that was to get a lock and is refused has seen a word that isn't 0
-refused-seen : (k : Core) (m : Mode) → has_begun k ≡ true → core_aim k ≡ Gets m → end_of (core_act k) ≡ Some Refused
-    → has_seen k ≡ true
-refused-seen (Core.Mutex c) m begun aim end = absurd cc
-refused-seen (Core.Late c) m begun aim end = absurd cc
-refused-seen (Core.LateRw p) m begun aim end = absurd cc
-refused-seen (Core.Upgrade c) m begun aim end = absurd cc
-refused-seen (Core.Rw c) m begun aim end = by c.phase begun aim end
+refused-seen : (o : Option LockKind) (recursive : Bool) (n : ℕ) (k : Core) → is_plain false k ≡ true
+    → manner_of o ≢ Some AsMutex → IsOfKind o k → IsPrepared recursive n k → has_begun k ≡ true
+    → end_of (core_act k) ≡ Some Refused → has_seen k ≡ true
+refused-seen o recursive n (Core.Mutex c) so rw of_kind ready begun end = absurd (rw of_kind)
+refused-seen o recursive n (Core.Late c) so rw of_kind ready begun end = absurd (rw of_kind)
+refused-seen o recursive n (Core.LateRw p) so rw of_kind ready begun end = absurd cc
+refused-seen o recursive n (Core.Upgrade c) so rw of_kind ready begun end = absurd cc
+refused-seen o recursive n (Core.Rw c) so rw of_kind ready begun end = by c.phase ready.1 begun end
   where
-    by : (p : RwPhase) → rw_begun p ≡ true → phase_aim p ≡ Gets m → end_of (act_of p) ≡ Some Refused
-        → has_seen_in p ≡ true
-    by (RwPhase.Refuses want) h a e = refl
-    by (RwPhase.Finishes AfterWake.FreedShared) h a e = absurd cc
-    by (RwPhase.Finishes AfterWake.FreedExclusive) h a e = absurd cc
-    by (RwPhase.Finishes AfterWake.Downgraded) h a e = absurd cc
-    by (RwPhase.Finishes AfterWake.AgainShared) h a e = absurd cc
-    by (RwPhase.Finishes AfterWake.AgainExclusive) h a e = absurd cc
-    by (RwPhase.Ends Outcome.Shared) h a e = absurd cc
-    by (RwPhase.Ends Outcome.Exclusive) h a e = absurd cc
-    by (RwPhase.Ends Outcome.Downgraded) h a e = absurd cc
-    by (RwPhase.Ends Outcome.FreedShared) h a e = absurd cc
-    by (RwPhase.Ends Outcome.FreedExclusive) h a e = absurd cc
-    by p h a e = absurd cc
+    by : (p : RwPhase) → rw_keeps recursive n p → rw_begun p ≡ true → end_of (act_of p) ≡ Some Refused → has_seen_in p ≡ true
+    by (RwPhase.Refuses want) keeps h e = refl
+    by (RwPhase.Finishes AfterWake.FreedShared) keeps h e = absurd cc
+    by (RwPhase.Finishes AfterWake.FreedExclusive) keeps h e = absurd cc
+    by (RwPhase.Finishes AfterWake.Downgraded) keeps h e = absurd cc
+    by (RwPhase.Finishes AfterWake.AgainShared) keeps h e = absurd cc
+    by (RwPhase.Finishes AfterWake.AgainExclusive) keeps h e = absurd cc
+    by (RwPhase.Ends Outcome.Shared) keeps h e = absurd cc
+    by (RwPhase.Ends Outcome.Exclusive) keeps h e = absurd cc
+    by (RwPhase.Ends Outcome.Downgraded) keeps h e = absurd cc
+    by (RwPhase.Ends Outcome.FreedShared) keeps h e = absurd cc
+    by (RwPhase.Ends Outcome.FreedExclusive) keeps h e = absurd cc
+    by RwPhase.Invalid keeps h e = absurd keeps
+    by p keeps h e = absurd cc
 
 -- so a try that is told that its shard is locked has met another's call
 module _ {K V S D T A : Type 0} (x : Setup K V D T) (w : State K V S D T A) (sound : Sound x w) (fit : LocksFit w.locks)
@@ -81,33 +91,38 @@ module _ {K V S D T A : Type 0} (x : Setup K V D T) (w : State K V S D T A) (sou
   is-stand : stand_of c ≡ record {
     shard = e.place.shard;
     aim = Gets (at_desk (mode_of e.request));
-    trying = wants.trying;
+    trying = request_tries e.request;
+    timed = false;
   }
   is-stand = same_Some (stand_of c) _ (sym (ap (option_map stand_of) e.ends.steps.here) ∙ wants.is)
 
   pub met : HasMet x w t e.place
   met = causes.met t e.place c e.stands e.ends.steps.here
-      (refused-seen c.core (at_desk (mode_of e.request)) (fit.fits.rules.begun t c e.ends.steps.here).begun
-      (ap (λ z. z.aim) is-stand) (sym e.ends.steps.answers))
+      (refused-seen (slice_get (state w.locks.rows).kinds c.lock) (recursive_in (state w.locks.rows).kinds c.lock)
+      c.others c.core
+      (subst (λ b. is_plain b c.core ≡ true) (ap (λ z. z.timed) is-stand) (fit.plain.cores t c e.ends.steps.here))
+      (not_mutex (state w.locks.rows) c.lock fit.plain.kinds) (fit.fits.rules.kinds t c e.ends.steps.here)
+      (fit.fits.rules.prepared t c e.ends.steps.here)
+      (fit.fits.rules.begun t c e.ends.steps.here).begun (sym e.ends.steps.answers))
 
   -- it is an opening that tries
   pub opening : (g : Begin K) × (e.request ≡ request.Begin g)
   opening = by e.request refl
     where
-      tries : wants.trying ≡ true
-      tries = by-bool wants.trying refl
+      tries : request_tries e.request ≡ true
+      tries = by-bool (request_tries e.request) refl
         where
-          by-bool : (b : Bool) → wants.trying ≡ b → b ≡ true
+          by-bool : (b : Bool) → request_tries e.request ≡ b → b ≡ true
           by-bool true is = refl
           by-bool false is =
               let same = same_Some e.ends.stand _ (sym e.ends.stood ∙ wants.is) in
               let owned : Refused ≡ CoreAnswer.Owned = e.ends.patient (at_desk (mode_of e.request))
-              (ap (λ z. z.aim) same) (ap (λ z. z.trying) same ∙ is) in
+              (ap (λ z. z.aim) same) (ap (λ z. z.trying) same ∙ is) (ap (λ z. z.timed) same) in
               absurd cc
 
       by : (r : Request K V D) → e.request ≡ r → (g : Begin K) × (e.request ≡ request.Begin g)
       by (request.Begin g) is = (g, is)
-      by (request.Keyed k) is = absurd (false≢true (sym (wants.patient (ap request_tries is)) ∙ tries))
+      by (request.Keyed k) is = absurd (false≢true (sym (ap request_tries is) ∙ tries))
 
 -- THE ANSWER
 

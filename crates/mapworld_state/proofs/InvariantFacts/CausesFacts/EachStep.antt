@@ -32,11 +32,16 @@ use Rattle.mapworld_state.proofs.InvariantFacts.CausesFacts.Looking.{sees}
 use Rattle.mapworld_state.proofs.InvariantFacts.CausesFacts.Between.{Between, between-at, between-enters}
 use Rattle.mapworld_state.proofs.InvariantFacts.CausesFacts.Between.{between-leaves, between-reaches, between-same}
 use Rattle.mapworld_state.proofs.InvariantFacts.CausesFacts.Going.{Own, own-gives, own-quiet}
-use Rattle.mapworld_state.proofs.InvariantFacts.CausesFacts.OwnSteps.{blind-at, gives-no_try, own-answers, own-goes_on}
+use Rattle.mapworld_state.proofs.InvariantFacts.CausesFacts.OwnSteps.{blind-at, blind-out, gives-no_try, own-answers}
+use Rattle.mapworld_state.proofs.InvariantFacts.CausesFacts.OwnSteps.{own-goes_on}
 use Rattle.mapworld_state.proofs.InvariantFacts.CausesFacts.OwnSteps.{own-moves, own-starts}
 use Rattle.mapworld_state.proofs.InvariantFacts.CausesFacts.Shapes.{Shape}
 use Rattle.mapworld_state.proofs.InvariantFacts.CausesFacts.Telling.{told-changed, told-found, told-held, told-keyed}
 use Rattle.mapworld_state.proofs.InvariantFacts.CausesFacts.Telling.{told-leads}
+use Rattle.std.proofs.Common.{Option}
+use Rattle.std.proofs.Common.{None}
+use Rattle.mapworld_state.specs.Locks.Stands.{Stand, stand_in}
+use Rattle.mapworld_state.specs.Held.{StandsBefore}
 
 -- the holds behind the first are holds
 behind : (holds : List Hold) (hold : Hold) (more : List Hold) → holds ≡ hold ∷ more → (i : ℕ) (h : Hold)
@@ -59,16 +64,19 @@ module _ {K V S D T A : Type 0} (x : Setup K V D T) (w : State K V S D T A) (s :
   abbrev Blind : State K V S D T A → Type 0
   Blind v = sees (call_at (state v.locks.rows) t) ≡ true → ⊥
 
-  -- one that isn't before an admission waits for no shard
+  -- one that is in no call sees no word
   blind : (v : State K V S D T A) → Sound x v → (p : Place K V D T A) → slice_get v.places t ≡ Some p
-      → (f : Phase K V D T A) → p.phase ≡ f → ((r : Request K V D) → f ≡ phase.Admit r → ⊥) → Blind v
-  blind v there p at f is not_waiting = blind-at x w s w' sound goes shape adds causes v there p at f is not_waiting
+      → (f : Phase K V D T A) → p.phase ≡ f → ((o : Option Stand) → StandsBefore p f o → o ≡ None) → Blind v
+  blind v there p at f is out = blind-at x w s w' sound goes shape adds causes v there p at f is out
+
+  out-blind : (v : State K V S D T A) → stand_in v.locks t ≡ None → Blind v
+  out-blind v out = blind-out x w s w' sound goes shape adds causes v.locks out
 
   own-finds : (v : State K V S D T A) (p q : Place K V D T A) → Between x t w v p q → Finds x v s w' → Own x w s w'
   own-finds v p q b a =
       own-quiet x w s w' sound goes shape adds causes v p a.place (between-at x t w v p q a.place a.stands b) _ v.tables
       v.locks a.blocks a.after refl refl refl
-      (told-found T A a.request _ _) (blind v b.sound a.place a.stands (phase.Find a.request) a.before (λ r h. cc))
+      (told-found T A a.request _ _) (blind v b.sound a.place a.stands (phase.Find a.request) a.before (λ o h. h))
 
   own-gives_back : (from to : Walk D → Phase K V D T A) → ((f : Walk D) → IsTold (to f))
       → (v : State K V S D T A) (p q : Place K V D T A) → Between x t w v p q → GivesBack x v s w' from to
@@ -85,12 +93,11 @@ module _ {K V S D T A : Type 0} (x : Setup K V D T) (w : State K V S D T A) (s :
     | inl a ↦
         own-quiet x w s w' sound goes shape adds causes v p a.place (between-at x t w v p q a.place a.stands b) _
         (slice_set v.tables a.place.shard a.behind) v.locks (v.blocks ++ a.block ∷ []) a.after refl refl refl
-        (told-leads a.walk _ _ _ _ a.next a.reads a.leads)
-        (blind v b.sound a.place a.stands (phase.Visit a.walk) a.before (λ r h. cc))
+        (told-leads a.walk _ _ _ _ a.next a.reads a.leads) (out-blind v a.out)
     | inr a ↦
         own-quiet x w s w' sound goes shape adds causes v p a.place (between-at x t w v p q a.place a.stands b) _
         v.tables v.locks v.blocks a.after refl refl refl
-        refl (blind v b.sound a.place a.stands (phase.Visit a.walk) a.before (λ r h. cc))
+        refl (out-blind v a.out)
   ]
 
   same : (p : Place K V D T A) → slice_get w.places t ≡ Some p → Between x t w w p p
@@ -143,27 +150,27 @@ module _ {K V S D T A : Type 0} (x : Setup K V D T) (w : State K V S D T A) (s :
   own-step fit threads (find_grows a) =
       quiet a.place a.stands _ (slice_set w.tables a.place.shard a.grown) a.blocks a.after refl refl
       (told-found T A (request_of a.call) false true)
-      (blind w sound a.place a.stands (phase.Grow a.call) a.before (λ r h. cc))
+      (blind w sound a.place a.stands (phase.Grow a.call) a.before (λ o h. h))
   own-step fit threads (find_refused a) = quiet a.place a.stands _ w.tables w.blocks a.after refl refl refl
-      (blind w sound a.place a.stands (phase.Grow a.call) a.before (λ r h. cc))
+      (blind w sound a.place a.stands (phase.Grow a.call) a.before (λ o h. h))
   own-step fit threads (deed_appends a) =
       quiet a.place a.stands _ (slice_set w.tables a.place.shard a.changed) a.blocks a.after refl refl refl
-      (blind w sound a.place a.stands (phase.Append a.key a.value) a.before (λ r h. cc))
+      (blind w sound a.place a.stands (phase.Append a.key a.value) a.before (λ o h. h))
   own-step fit threads (deed_applies a) =
       quiet a.place a.stands _ (slice_set w.tables a.place.shard a.changed) a.blocks a.after refl refl
       (told-keyed A x.deeds a.call a.pair)
-      (blind w sound a.place a.stands (phase.Apply a.call) a.before (λ r h. cc))
+      (blind w sound a.place a.stands (phase.Apply a.call) a.before (λ o h. h))
   own-step fit threads (deed_views a) = quiet a.place a.stands _ w.tables a.blocks a.after refl refl refl
-      (blind w sound a.place a.stands (phase.View a.key a.deed) a.before (λ r h. cc))
+      (blind w sound a.place a.stands (phase.View a.key a.deed) a.before (λ o h. h))
   own-step fit threads (deed_reads a) = quiet a.place a.stands _ w.tables a.blocks a.after refl refl refl
-      (blind w sound a.place a.stands (phase.Read a.deed) a.before (λ r h. cc))
+      (blind w sound a.place a.stands (phase.Read a.deed) a.before (λ o h. h))
   own-step fit threads (deed_changes a) =
       quiet a.place a.stands _ (slice_set w.tables a.place.shard a.changed) a.blocks a.after refl refl
       (told-changed D (ends_guard a.call) _ (told-held A x.deeds a.call a.kind a.pair))
-      (blind w sound a.place a.stands (phase.Change a.call) a.before (λ r h. cc))
+      (blind w sound a.place a.stands (phase.Change a.call) a.before (λ o h. h))
   own-step fit threads (deed_fills a) =
       quiet a.place a.stands _ (slice_set w.tables a.place.shard a.changed) a.blocks a.after refl refl refl
-      (blind w sound a.place a.stands (phase.Fill a.value) a.before (λ r h. cc))
+      (blind w sound a.place a.stands (phase.Fill a.value) a.before (λ o h. h))
   own-step fit threads (downgrade a) =
       own-gives x w s w' sound goes shape adds causes w a.place a.place (same a.place a.stands) _ w.tables a.locks
       a.blocks a.after a.hold a.more a.holds call.Downgrade refl a.turns refl
@@ -177,10 +184,10 @@ module _ {K V S D T A : Type 0} (x : Setup K V D T) (w : State K V S D T A) (s :
   own-step fit threads (visit_parts a) = parts-by a.mid a.enters a.gives
   own-step fit threads (visit_looks a) = looks-by a.mid a.enters a.looks
   own-step fit threads (visit_seeks a) = quiet a.place a.stands _ w.tables w.blocks a.after refl refl tt
-      (blind w sound a.place a.stands (phase.Seek a.walk) a.before (λ r h. cc))
+      (blind w sound a.place a.stands (phase.Seek a.walk) a.before (λ o h. h))
   own-step fit threads (visit_does a) =
       quiet a.place a.stands _ (slice_set w.tables a.place.shard a.changed) (slice_set w.blocks a.index a.grown) a.after
       refl refl (told-leads a.walk _ _ _ _ a.next a.reads a.leads)
-      (blind w sound a.place a.stands (phase.Item a.walk) a.before (λ r h. cc))
+      (blind w sound a.place a.stands (phase.Item a.walk) a.before (λ o h. h))
   own-step fit threads (visit_gives a) = own-gives_back phase.Give phase.Onward (λ f. tt) w a.place a.place
       (same a.place a.stands) a

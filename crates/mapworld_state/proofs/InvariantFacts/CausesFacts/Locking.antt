@@ -16,13 +16,15 @@ use Rattle.parking_lot_machine.specs.Machines.{call_for}
 use Rattle.parking_lot_machine_calls.specs.CallActs.{hears}
 use Rattle.parking_lot_machine.specs.Rows.{State, call_at, state}
 use Rattle.parking_lot_machine_calls.specs.Stances.{core_next}
-use Rattle.mapworld_state.specs.Locks.Aims.{Gets, aim_for, phase_aim}
-use Rattle.mapworld_state.specs.Locks.Stands.{core_aim, core_tries, is_try, is_trying, stand_in, stand_of}
+use Rattle.mapworld_state.specs.Locks.Stands.{is_try, stand_in, stand_of}
+use Rattle.mapworld_state.proofs.InvariantFacts.CausesFacts.Trying.{core_tries, is_trying}
 use Rattle.mapworld_state.specs.Locks.Steps.{LockBegins, LockEnds, LockMoves, LockStarts}
 use Rattle.mapworld_state.specs.Locks.Views.{Shown}
 use Rattle.mapworld_state.specs.Invariant.Causes.Causes.{has_seen, has_seen_in}
 use Rattle.mapworld_state.proofs.InvariantFacts.CausesFacts.Looking.{others-see, own-sees, sees, set-elsewhere}
 use Rattle.mapworld_state.proofs.InvariantFacts.CausesFacts.Looking.{set-here}
+use Rattle.parking_lot_machine_calls.specs.declared.open_call.Call.{Call}
+use Rattle.std.proofs.lemmas.Option.{none-some}
 
 -- what a thread's act at a lock leaves of the others
 pub record LocksApart (t : ℕ) (old new : Shown) : Type 0 where
@@ -103,6 +105,24 @@ module _ (t : ℕ) where
         | inr none ↦ ap sees none
       ]
 
+  -- nor is one a try that begins otherwise
+  start-calm : (k : LockKind) (call : LockCall) → is_try call ≡ false
+      → core_tries (core_next (core_of k call) ActResult.Start) ≡ false
+  start-calm k LockCall.TryRead no_try = absurd (false≢true (sym no_try))
+  start-calm k LockCall.TryWrite no_try = absurd (false≢true (sym no_try))
+  start-calm k call no_try = refl
+
+  begins-calm : (shard : ℕ) (call : LockCall) (old new : Shown) → is_try call ≡ false → LockBegins t shard call old new
+      → (c : Call) → call_at (state new.rows) t ≡ Some c → core_tries c.core ≡ false
+  begins-calm shard call old new no_try h c at =
+      elim (set-here (state old.rows).calls t
+      (Some (hears (call_for (state old.rows) t shard call) ActResult.Start))) [
+        | inl is ↦ ap (λ (z : Call). core_tries z.core)
+            (same_Some c _ (sym at ∙ ap (λ (u : State). call_at u t) h.became ∙ is))
+            ∙ start-calm (kind_in (state old.rows).kinds shard) call no_try
+        | inr none ↦ absurd (none-some c (sym (ap (λ (u : State). call_at u t) h.became ∙ none) ∙ at))
+      ]
+
   -- and nor has one that gives a hold up or turns it, behind its first act
   pub starts-blind : (shard : ℕ) (call : LockCall) (fair : Bool) (old new : Shown) → is_try call ≡ false
       → LockStarts t shard call fair old new → sees (call_at (state new.rows) t) ≡ true → ⊥
@@ -110,40 +130,7 @@ module _ (t : ℕ) where
       elim (own-sees (state h.mid.rows) (state new.rows) t fair h.moves.steps seen) [
         | inl before ↦ absurd
             (false≢true (sym (begins-blind shard call old h.mid h.begins) ∙ ap sees h.moves.steps.here ∙ before))
-        | inr tries ↦
-            let stand : option_map stand_of (Some h.moves.steps.call) ≡ Some
-            (record { shard = shard; aim = _; trying = is_try call }) =
-            sym (ap (option_map stand_of) h.moves.steps.here) ∙ h.begins.stand in
-            absurd (false≢true (sym no_try ∙ sym (ap (λ z. z.trying) (same_Some _ _ stand)) ∙ tries.0))
+        | inr tries ↦ absurd
+            (false≢true (sym (begins-calm shard call old h.mid no_try h.begins h.moves.steps.call h.moves.steps.here)
+            ∙ tries.0))
       ]
-
--- one that has seen its lock's word tries to get the lock
-pub seen-tries : (k : Core) → has_seen k ≡ true → core_tries k ≡ true
-seen-tries (Core.Mutex c) h = absurd (false≢true h)
-seen-tries (Core.Late c) h = absurd (false≢true h)
-seen-tries (Core.LateRw p) h = absurd (false≢true h)
-seen-tries (Core.Upgrade c) h = absurd (false≢true h)
-seen-tries (Core.Rw c) h = by c.phase h
-  where
-    by : (p : RwPhase) → has_seen_in p ≡ true → is_trying p ≡ true
-    by (RwPhase.TryAdmits want word left) h = refl
-    by (RwPhase.Refuses want) h = refl
-    by p h = absurd cc
-
-pub tries-gets : (k : Core) → core_tries k ≡ true → (m : _) × (core_aim k ≡ Gets m)
-tries-gets (Core.Mutex c) h = absurd (false≢true h)
-tries-gets (Core.Late c) h = absurd (false≢true h)
-tries-gets (Core.LateRw p) h = absurd (false≢true h)
-tries-gets (Core.Upgrade c) h = absurd (false≢true h)
-tries-gets (Core.Rw c) h = by c.phase h
-  where
-    aim : (want : LockMode) → (m : _) × (aim_for want ≡ Gets m)
-    aim (LockMode.Shared r) = (_, refl)
-    aim LockMode.Exclusive = (_, refl)
-
-    by : (p : RwPhase) → is_trying p ≡ true → (m : _) × (phase_aim p ≡ Gets m)
-    by (RwPhase.Trying want) h = aim want
-    by (RwPhase.TryLoads want) h = aim want
-    by (RwPhase.TryAdmits want word left) h = aim want
-    by (RwPhase.Refuses want) h = aim want
-    by p h = absurd cc

@@ -21,7 +21,7 @@ use Rattle.parking_lot_machine.specs.RowActs.{loaded, exchanged, with_call, with
 use Rattle.parking_lot_machine_calls.specs.CallActs.{hears, off_list, settled}
 use Rattle.parking_lot_machine.specs.Rows.{State, call_at, word_at}
 use Rattle.parking_lot_machine_calls.specs.Stances.{core_act, core_next}
-use Rattle.mapworld_state.specs.Locks.Stands.{core_tries, is_trying}
+use Rattle.mapworld_state.proofs.InvariantFacts.CausesFacts.Trying.{core_tries, is_trying}
 use Rattle.mapworld_state.specs.Locks.Steps.{HasActed}
 use Rattle.mapworld_state.proofs.LocksFacts.Calls.{Hears, late_is}
 use Rattle.mapworld_state.specs.Invariant.Causes.Causes.{has_seen, has_seen_in}
@@ -206,7 +206,7 @@ module _ (s : State) (t : ℕ) (c : Call) where
   told-by Act.Spin fair u e = was u _ e (heard _ _)
   told-by (Act.Enter key) fair u e = was u _ e (heard _ _)
   told-by (Act.Section next) fair u b = told-inside next fair u b
-  told-by Act.Sleep fair u b = let l = late_is s u t c c.core refl b in was u _ l.3 (late-told s.calls l.0 l.6)
+  told-by Act.Sleep fair u b = let l = late_is s u t c c.core refl b in was u _ l.3 (late-told s.calls l.0 l.7)
   told-by (Act.Done answer) fair u e = was u _ e ends
 
   -- it saw that before, or tries and the word isn't 0 now

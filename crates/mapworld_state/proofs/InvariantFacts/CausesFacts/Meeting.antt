@@ -6,12 +6,13 @@ use Rattle.std.proofs.lemmas.Bool.{false≢true}
 use Rattle.std.proofs.lemmas.Option.{none-some, same_Some, slice_get_cases, slice_get_within}
 use Rattle.lock_api_desk.specs.declared.mode.Mode.{Mode as DeskMode}
 use Rattle.parking_lot_machine_calls.specs.declared.open_call.Call.{Call}
-use Rattle.parking_lot_machine.specs.Machines.{sleeps}
+use Rattle.parking_lot_machine.specs.Machines.{is_asleep_in, sleeps}
 use Rattle.parking_lot_machine.specs.Rows.{call_at, state, word_at}
 use Rattle.parking_lot_machine_calls.specs.Stances.{core_act}
 use Rattle.mapworld_calls.specs.Setup.{Setup}
 use Rattle.mapworld_state.specs.Locks.Fits.{LocksFit}
-use Rattle.mapworld_state.specs.Locks.Stands.{core_tries, stand_in, stand_of}
+use Rattle.mapworld_state.specs.Locks.Stands.{stand_in, stand_of}
+use Rattle.mapworld_state.proofs.InvariantFacts.CausesFacts.Trying.{core_tries}
 use Rattle.mapworld_state.specs.Locks.Steps.{LockMoves}
 use Rattle.mapworld_state.specs.Locks.Views.{Shown, owner_in}
 use Rattle.mapworld_state.proofs.LocksFacts.Together.{holders_are_threads}
@@ -75,7 +76,7 @@ module _ {K V S D T A : Type 0} (x : Setup K V D T) (w : State K V S D T A) (sou
   sleepers-have_company t stand stood asleep_ = by (call_at (state w.locks.rows) t) refl stood asleep_
     where
       by : (o : Option Call) → call_at (state w.locks.rows) t ≡ o → option_map stand_of o ≡ Some stand
-          → option_map_or (λ (c : Call). sleeps (core_act c.core)) o false ≡ true → HasCompany x w t stand
+          → is_asleep_in o ≡ true → HasCompany x w t stand
       by None at is e = absurd (none-some stand is)
       by (Some c) at is e =
           let same : c.lock ≡ stand.shard = ap (λ z. z.shard) (same_Some (stand_of c) stand is) in
@@ -101,7 +102,7 @@ module _ {K V S D T A : Type 0} (x : Setup K V D T) (w : State K V S D T A) (sou
 
     met-now : core_tries c.core ≡ true → word_at (state w.locks.rows) c.lock ≢ 0 → HasMet x w t p
     met-now tries word =
-        let o = tries-admits x w sound t p at c moves.steps.here tries in
+        let o = tries-admits x w sound fit t p at c moves.steps.here tries in
         let claim = claim-at x (threads_of w) w.blocks w.replies w.tables t p (phase.Admit o.0) o.1
         (sound.stands t p at) in
         let stood : IsWanting p (mode_of o.0) (request_tries o.0) (stand_in w.locks t) =

@@ -38,7 +38,7 @@ use Rattle.mapworld_state.proofs.InvariantFacts.Holding.{stand-at}
 use Rattle.mapworld_state.specs.Invariant.Causes.Causes.{HasCauses, HasMet, IsSite, IsSited}
 use Rattle.mapworld_state.proofs.InvariantFacts.CausesFacts.Being.{one-hold, reaches-on, rests-on, waits-on}
 use Rattle.mapworld_state.proofs.InvariantFacts.CausesFacts.Between.{Between, between-at, between-concludes}
-use Rattle.mapworld_state.proofs.InvariantFacts.CausesFacts.Between.{between-leaves, between-same, sees-admits}
+use Rattle.mapworld_state.proofs.InvariantFacts.CausesFacts.Between.{between-leaves, between-same}
 use Rattle.mapworld_state.proofs.InvariantFacts.CausesFacts.Going.{Own, kept-site, met-on, own-by, still-on}
 use Rattle.mapworld_state.proofs.InvariantFacts.CausesFacts.Locking.{LocksApart, apart-begins, apart-moves, apart-same}
 use Rattle.mapworld_state.proofs.InvariantFacts.CausesFacts.Locking.{begins-blind}
@@ -46,6 +46,11 @@ use Rattle.mapworld_state.proofs.InvariantFacts.CausesFacts.Looking.{sees}
 use Rattle.mapworld_state.proofs.InvariantFacts.CausesFacts.Meeting.{meets}
 use Rattle.mapworld_state.proofs.InvariantFacts.CausesFacts.Shapes.{Shape}
 use Rattle.mapworld_state.proofs.InvariantFacts.CausesFacts.Telling.{told-start}
+use Rattle.std.proofs.Common.{Option}
+use Rattle.std.specs.Option.{option_map}
+use Rattle.mapworld_state.specs.Locks.Stands.{stand_of}
+use Rattle.parking_lot_machine_calls.specs.declared.open_call.Call.{Call}
+use Rattle.mapworld_state.specs.Held.{StandsBefore}
 
 -- a start that enters no lock leaves all locks as they are
 data Entered {K V D T A : Type 0} (t shard : ℕ) (f : Phase K V D T A) (old new : Shown) : Type 0 where
@@ -89,12 +94,21 @@ module _ {K V S D T A : Type 0} (x : Setup K V D T) (w : State K V S D T A) (s :
   abbrev t : ℕ
   t = s.thread
 
-  -- a thread before such a phase waits for no shard
+  -- a thread that is in no call sees nothing
+  pub blind-out : (locks : Shown) → stand_in locks t ≡ None → sees (call_at (state locks.rows) t) ≡ true → ⊥
+  blind-out locks out = by (call_at (state locks.rows) t) out
+    where
+      by : (o : Option Call) → option_map stand_of o ≡ None → sees o ≡ true → ⊥
+      by None e seen = false≢true seen
+      by (Some c) e seen = none-some (stand_of c) (sym e)
+
+  -- so has one before a phase in which it is in none
   pub blind-at : (v : State K V S D T A) → Sound x v → (p : Place K V D T A) → slice_get v.places t ≡ Some p
-      → (f : Phase K V D T A) → p.phase ≡ f → ((r : Request K V D) → f ≡ phase.Admit r → ⊥)
+      → (f : Phase K V D T A) → p.phase ≡ f → ((o : Option Stand) → StandsBefore p f o → o ≡ None)
       → sees (call_at (state v.locks.rows) t) ≡ true → ⊥
-  blind-at v there p at f is not_waiting seen = let o = sees-admits x v there t p at seen in
-      not_waiting o.0 (sym is ∙ o.1)
+  blind-at v there p at f is out = blind-out v.locks
+      (out (stand_in v.locks t) (subst (λ (g : Phase K V D T A). StandsBefore p g (stand_in v.locks t)) is
+      (there.holds.stands t p at)))
 
   -- STARTS
 
@@ -185,7 +199,7 @@ module _ {K V S D T A : Type 0} (x : Setup K V D T) (w : State K V S D T A) (s :
 
     blind : sees (call_at (state a.locks.rows) t) ≡ true → ⊥
     blind seen = elim e [
-      | nothing same ↦ blind-at w sound a.place a.stands phase.Rest a.before (λ r h. cc)
+      | nothing same ↦ blind-at w sound a.place a.stands phase.Rest a.before (λ o h. h)
           (sym (ap (λ (z : Shown). sees (call_at (state z.rows) t)) same) ∙ seen)
       | waits r c at begins ↦ false≢true (sym (begins-blind t now.shard c w.locks a.locks begins) ∙ seen)
       | reaches g c at begins ↦ false≢true (sym (begins-blind t now.shard c w.locks a.locks begins) ∙ seen)
@@ -276,7 +290,7 @@ module _ {K V S D T A : Type 0} (x : Setup K V D T) (w : State K V S D T A) (s :
         ∙ others u ne;
     locks = subst (λ (z : Shown). LocksApart t w.locks z) (sym (ap (λ z. z.locks) a.after)) apart;
     sites = sites;
-    met = λ seen. absurd (blind-at w' goes.sound now there phase.Rest refl (λ r e. cc) seen);
+    met = λ seen. absurd (blind-at w' goes.sound now there phase.Rest refl (λ o h. h) seen);
     told = tt;
     closes = inr (v, h, a);
   }

@@ -6,10 +6,8 @@ use Rattle.std.proofs.lemmas.Bool.{eqb-true, eq-eqb, false≢true}
 use Rattle.std.proofs.lemmas.Option.{none-some, slice_get_within}
 use Rattle.lock_api_desk.specs.declared.mode.Mode.{Mode}
 use Rattle.lock_api_desk.specs.declared.mode.Mode.TheVariants as held
-use Rattle.parking_lot_protocol.specs.declared.rw_phase.AfterWake.{AfterWake}
 use Rattle.parking_lot_protocol.specs.declared.rw_phase.RwPhase.{RwPhase}
 use Rattle.parking_lot_protocol.specs.RwRules as of_rw
-use Rattle.parking_lot_protocol.specs.RwTable.{act_of}
 use Rattle.parking_lot_rules.specs.Any.{AnySound}
 use Rattle.parking_lot_rules.specs.Laws as laws
 use Rattle.parking_lot_rules.specs.Lock.{IsSound}
@@ -22,28 +20,28 @@ use Rattle.parking_lot_machine_calls.specs.declared.seat.Core.{Core}
 use Rattle.parking_lot_machine_calls.specs.declared.seat.Hold.{Hold}
 use Rattle.parking_lot_machine_calls.specs.declared.seat.QueuePosition.{QueuePosition}
 use Rattle.parking_lot_machine_calls.specs.CallViews.{rw_mode}
-use Rattle.parking_lot_machine.specs.Machines.{sleeps}
 use Rattle.parking_lot_machine.specs.Rows.{State, call_at, hold_at, rw_lock_at, rw_role_at, rw_role_in, state, taken_by}
 use Rattle.parking_lot_machine_calls.specs.CallRoles.{owned_of, rw_core_role, rw_spot}
 use Rattle.parking_lot_machine_calls.specs.CallKinds.{IsOfKind}
 use Rattle.parking_lot_machine_calls.specs.Stances.{core_act}
 use Rattle.mapworld_state.specs.Locks.Fits.{LocksFit, is_plain}
+use Rattle.mapworld_state.proofs.LocksFacts.Giving.{yields_awake}
+use Rattle.parking_lot_machine_calls.specs.Calls.{is_timed}
+use Rattle.parking_lot_machine_calls.specs.Kinds.{recursive_in}
+use Rattle.parking_lot_machine.specs.RowFits.{IsPrepared}
 use Rattle.mapworld_state.specs.Locks.Views.{Shown, held_as, owner_in}
 use Rattle.mapworld_state.proofs.LocksFacts.Handing.{is_rw, goes_by, no_mutex}
 use Rattle.mapworld_state.proofs.LocksFacts.Lists.{all_at, among_all, one_of_all}
+use Rattle.parking_lot_machine_calls.specs.Stances.{rw_asleep}
+use Rattle.parking_lot_machine_calls.specs.LateCalls.{sleeps_in_time}
 
 -- a call at a reader-writer lock that sleeps is asleep to the rules
-phase-asleep : (at : QueuePosition) (us : List ℕ) (p : RwPhase) → sleeps (act_of p) ≡ true
+phase-asleep : (at : QueuePosition) (us : List ℕ) (p : RwPhase) → rw_asleep p ≡ true
     → laws.is_asleep (of_rw.does (rw_spot at) us p) ≡ true
 phase-asleep QueuePosition.Listed us (RwPhase.Sleeps want) e = refl
 phase-asleep (QueuePosition.Off by said) us (RwPhase.Sleeps want) e = refl
 phase-asleep QueuePosition.Listed us (RwPhase.DrainSleeps rounds) e = refl
 phase-asleep (QueuePosition.Off by said) us (RwPhase.DrainSleeps rounds) e = refl
-phase-asleep at us (RwPhase.Finishes AfterWake.FreedShared) e = absurd cc
-phase-asleep at us (RwPhase.Finishes AfterWake.FreedExclusive) e = absurd cc
-phase-asleep at us (RwPhase.Finishes AfterWake.Downgraded) e = absurd cc
-phase-asleep at us (RwPhase.Finishes AfterWake.AgainShared) e = absurd cc
-phase-asleep at us (RwPhase.Finishes AfterWake.AgainExclusive) e = absurd cc
 phase-asleep at us p e = absurd cc
 
 asleep-rests : (p : rules.Phase) → laws.is_asleep p ≡ true → laws.is_at_work p ≡ false
@@ -63,7 +61,7 @@ pub data IsAround (sh : Shown) (i t : ℕ) : Type 0 where
   is-in : (c : Call) → call_at (state sh.rows) t ≡ Some c → c.lock ≡ i → IsAround sh i t
 
 module _ (sh : Shown) (fit : LocksFit sh) (t : ℕ) (c : Call) (here : call_at (state sh.rows) t ≡ Some c)
-    (sleeping : sleeps (core_act c.core) ≡ true) where
+    (sleeping : sleeps_in_time c.core ≡ true) where
   abbrev s : State
   s = state sh.rows
 
@@ -84,16 +82,18 @@ module _ (sh : Shown) (fit : LocksFit sh) (t : ℕ) (c : Call) (here : call_at (
   no-mutex e = no_mutex (goes_by s i AsMutex fit.plain.kinds e)
 
   asleep : laws.is_asleep (rw_role_at s i t).does ≡ true
-  asleep = ap (λ r. laws.is_asleep r.does) own-role ∙ by c.core (fit.plain.cores t c here) sleeping
-      (fit.fits.rules.kinds t c here)
+  asleep = ap (λ r. laws.is_asleep r.does) own-role ∙ by (is_timed c.asked) c.core (fit.plain.cores t c here) sleeping
+      (fit.fits.rules.kinds t c here) (fit.fits.rules.prepared t c here)
     where
-      by : (k : Core) → is_plain k ≡ true → sleeps (core_act k) ≡ true → IsOfKind (slice_get s.kinds i) k
+      by : (timed : Bool) (k : Core) → is_plain timed k ≡ true → sleeps_in_time k ≡ true
+          → IsOfKind (slice_get s.kinds i) k → IsPrepared (recursive_in s.kinds i) c.others k
           → laws.is_asleep (rw_core_role c.others c.spot (taken_by s.wakes t) k).does ≡ true
-      by (Core.Rw k) so e is = phase-asleep c.spot (taken_by s.wakes t) k.phase e
-      by (Core.Mutex k) so e is = absurd (no-mutex is)
-      by (Core.Late k) so e is = absurd (no-mutex is)
-      by (Core.LateRw k) so e is = absurd cc
-      by (Core.Upgrade k) so e is = absurd cc
+      by timed (Core.Rw k) so e is ready = phase-asleep c.spot (taken_by s.wakes t) k.phase e
+      by timed (Core.Mutex k) so e is ready = absurd (no-mutex is)
+      by timed (Core.Late k) so e is ready = absurd (no-mutex is)
+      by timed (Core.LateRw k) so e is ready = absurd cc
+      by true (Core.Upgrade k) so e is ready = absurd (false≢true (sym (yields_awake k.phase so ready.1) ∙ e))
+      by false (Core.Upgrade k) so e is ready = absurd cc
 
   low : t < length s.calls
   low = by (slice_get s.calls t) refl

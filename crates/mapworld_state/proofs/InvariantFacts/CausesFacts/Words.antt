@@ -29,7 +29,7 @@ use Rattle.parking_lot_machine_calls.specs.CallRoles.{owned_of, rw_core_role, rw
 use Rattle.parking_lot_machine_calls.specs.CallViews.{rw_mode}
 use Rattle.parking_lot_machine.proofs.RwMoving.{number-word}
 use Rattle.mapworld_state.specs.Locks.Fits.{LocksFit}
-use Rattle.mapworld_state.specs.Locks.Stands.{core_tries, is_trying}
+use Rattle.mapworld_state.proofs.InvariantFacts.CausesFacts.Trying.{core_tries, is_trying}
 use Rattle.mapworld_state.specs.Locks.Views.{Shown, held_as, owner_in}
 use Rattle.mapworld_state.proofs.LocksFacts.Handing.{is_rw}
 use Rattle.mapworld_state.proofs.LocksFacts.Lists.{among_all}

@@ -47,7 +47,7 @@ returns-clause-enters g c =
     let stand = stand-at _ _ c.requires.sound.holds t p here (phase.Admit request) before in
     let its = same_Some c.finish.ensures.stand _ (sym c.finish.ensures.stood ∙ stand.is) in
     let won = owned-unless c.finish.result
-    (c.finish.ensures.settled (at_desk (mode_of request)) (ap (λ (s : Stand). s.aim) its))
+    (c.finish.ensures.settled (at_desk (mode_of request)) (ap (λ (s : Stand). s.aim) its) (ap (λ (s : Stand). s.timed) its))
     (λ refused. c.requires.owned (c.finish.ensures.over ∙ ap (λ a. Some a) refused)) in
     record {
       place = p;

@@ -60,7 +60,7 @@ returns-clause-reaches g c =
     let wants = stand-at _ _ c.requires.sound.holds t p here (phase.Reach f) before in
     let its = same_Some c.finish.ensures.stand _ (sym c.finish.ensures.stood ∙ wants.is) in
     let won = c.finish.ensures.patient (at_desk (walk_mode f)) (ap (λ (s : Stand). s.aim) its)
-    (ap (λ (s : Stand). s.trying) its ∙ wants.patient refl) in
+    (ap (λ (s : Stand). s.trying) its) (ap (λ (s : Stand). s.timed) its) in
     record {
       place = p;
       stands = here;

@@ -37,7 +37,7 @@ follow-requires g c =
     ∙ ap Some (sym c.index_mut.ensures.value) in
     record {
       plain = stepped_plain (state old.rows) (state c.step.new.self) c.args.thread c.args.fair c.step.result
-          c.self.invariant.plain c.step.ensures;
+          c.self.invariant.fits c.self.invariant.plain c.step.ensures;
       can = follows c.each_step_is_a_case.ensures c.owners_agree.ensures old c.self.invariant c.args.thread c.args.fair
           c.step.new.self c.step.result c.step.ensures going c.in-Some.call there
           c.holds-before.result c.holds-before.ensures c.index_mut.result.now at;

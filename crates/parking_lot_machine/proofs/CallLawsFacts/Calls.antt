@@ -28,8 +28,8 @@ use Rattle.parking_lot_machine.specs.RowActs.{answered, with_call, with_lot}
 use Rattle.parking_lot_machine.specs.RowFits.{FitsTogether}
 use Rattle.parking_lot_machine.specs.Rows.{State, call_at, is_by, word_at}
 use Rattle.parking_lot_machine.specs.TellLaws.{IsDue}
-use Rattle.parking_lot_world.proofs.CallLawsFacts.Heard.{Hears}
-use Rattle.parking_lot_world.proofs.CallLawsFacts.Sleeping.{sleeps_act}
+use Rattle.parking_lot_machine.proofs.CallLawsFacts.Heard.{Hears}
+use Rattle.parking_lot_machine.proofs.CallLawsFacts.Sleeping.{sleeps_act}
 use Rattle.parking_lot_rules.proofs.Slots.{at_slot as call_of, set_elsewhere, set_here}
 
 -- It goes on at its lock, with the same holds beside: as it was, or by what it has heard.
@@ -38,7 +38,7 @@ pub record GoesOn (c : Call) (o : Option Call) : Type 0 where
   pub here : o ≡ Some call
   pub lock : call.lock ≡ c.lock
   pub others : call.others ≡ c.others
-  pub timed : call.timed ≡ c.timed
+  pub asked : call.asked ≡ c.asked
   pub heard : (call.core ≡ c.core) ⊎ Hears c.core call.core
 
 abbrev pub Onward : Option Call → Option Call → Type 0
@@ -47,7 +47,7 @@ Onward (Some c) o = GoesOn c o
 
 stays : (o : Option Call) → Onward o o
 stays None = refl
-stays (Some c) = record { call = c; here = refl; lock = refl; others = refl; timed = refl; heard = inl refl }
+stays (Some c) = record { call = c; here = refl; lock = refl; others = refl; asked = refl; heard = inl refl }
 
 abbrev pub AllGo : List (Option Call) → List (Option Call) → Type 0
 AllGo cs ds = (k : ℕ) → Onward (call_of cs k) (call_of ds k)
@@ -90,7 +90,7 @@ all_told t said cs ds all k = subst (λ (p : Option Call). Onward (call_of cs k)
       here = ap (option_map (settled t said)) x.here;
       lock = x.lock;
       others = x.others;
-      timed = x.timed;
+      asked = x.asked;
       heard = x.heard;
     }
 
@@ -105,7 +105,7 @@ one_off t v cs k = at cs v k
       here = refl;
       lock = refl;
       others = refl;
-      timed = refl;
+      asked = refl;
       heard = inl refl;
     }
 
@@ -126,7 +126,7 @@ record LateGoes (s : State) (t : ℕ) (c : Call) (u : State) : Type 0 where
   became : u ≡ record (with_lot (with_call s t call) lot) { wakes = wakes }
   lock : call.lock ≡ c.lock
   others : call.others ≡ c.others
-  timed : call.timed ≡ c.timed
+  asked : call.asked ≡ c.asked
   heard : Hears c.core call.core
 
 module _ (s u : State) (t : ℕ) (c : Call) where
@@ -139,7 +139,7 @@ module _ (s u : State) (t : ℕ) (c : Call) where
         became = e;
         lock = refl;
         others = refl;
-        timed = refl;
+        asked = refl;
         heard = Hears.Back comes refl;
       }
   late_back (QueuePosition.Off by said) comes e = record {
@@ -149,7 +149,7 @@ module _ (s u : State) (t : ℕ) (c : Call) where
     became = e;
     lock = refl;
     others = refl;
-    timed = refl;
+    asked = refl;
     heard = Hears.Found by (is_handed said) comes refl;
   }
 
@@ -163,7 +163,7 @@ module _ (s u : State) (t : ℕ) (c : Call) where
         became = e;
         lock = refl;
         others = refl;
-        timed = refl;
+        asked = refl;
         heard = Hears.Out (others_left s t c) (ap is_back same) refl;
       }
   late_is (Core.LateRw (LateRwPhase.Expires k)) same e = late_back c.spot (ap comes_late same) e
@@ -175,7 +175,7 @@ module _ (s u : State) (t : ℕ) (c : Call) where
         became = e;
         lock = refl;
         others = refl;
-        timed = refl;
+        asked = refl;
         heard = Hears.Out (others_left s t c) (ap is_back same) refl;
       }
   late_is k same e = absurd e
@@ -195,7 +195,7 @@ module _ (s : State) (h : FitsTogether s) (t : ℕ) (c : Call) (here : call_at s
   gave act asks word k g = Hears.Told word k (subst (λ (a : Act). Gives a word k) (sym asks) g) refl
 
   own : (k : ActResult) → Hears c.core (core_next c.core k) → GoesOn c (Some (hears c k))
-  own k heard = record { call = hears c k; here = refl; lock = refl; others = refl; timed = refl; heard = inr heard }
+  own k heard = record { call = hears c k; here = refl; lock = refl; others = refl; asked = refl; heard = inr heard }
 
   told : (k : ActResult) → Hears c.core (core_next c.core k) → AllGo s.calls (slice_set s.calls t (Some (hears c k)))
   told k heard = one_goes s.calls s.calls t c _ here (λ v. stays (call_of s.calls v)) (own k heard)
@@ -212,7 +212,7 @@ module _ (s : State) (h : FitsTogether s) (t : ℕ) (c : Call) (here : call_at s
   joined : Hears c.core (core_next c.core ActResult.Made)
       → AllGo s.calls (slice_set s.calls t (Some (record (hears c ActResult.Made) { spot = QueuePosition.Listed })))
   joined heard = one_goes s.calls s.calls t c _ here (λ v. stays (call_of s.calls v))
-      (record { call = _; here = refl; lock = refl; others = refl; timed = refl; heard = inr heard })
+      (record { call = _; here = refl; lock = refl; others = refl; asked = refl; heard = inr heard })
 
   -- whoever is woken sleeps
   wakes : (e : Wakeup) (d : Call) (token : UnparkToken) (k : ActResult) → IsDue s t e d token
@@ -236,7 +236,7 @@ module _ (s : State) (h : FitsTogether s) (t : ℕ) (c : Call) (here : call_at s
         here = refl;
         lock = refl;
         others = refl;
-        timed = refl;
+        asked = refl;
         heard = inr (Hears.Told 0 (ActResult.Woken token)
             (subst (λ (a : Act). Gives a 0 (ActResult.Woken token)) (sym asleep) tt) refl);
       }
@@ -285,7 +285,7 @@ module _ (s : State) (h : FitsTogether s) (t : ℕ) (c : Call) (here : call_at s
         here = refl;
         lock = l.lock;
         others = l.others;
-        timed = l.timed;
+        asked = l.asked;
         heard = inr l.heard;
       }))
   goes (Act.Done answer) asks fair u none e = absurd (none-some answer (sym none))

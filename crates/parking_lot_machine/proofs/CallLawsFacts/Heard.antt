@@ -17,10 +17,10 @@ use Rattle.parking_lot_machine_calls.specs.declared.seat.Core.{Core}
 use Rattle.parking_lot_machine_calls.specs.declared.seat.Core.TheVariants as core
 use Rattle.parking_lot_machine_calls.specs.declared.seat.LatePhase.TheVariants as late
 use Rattle.parking_lot_machine.specs.RowFits.{IsPrepared, rw_keeps}
-use Rattle.parking_lot_world.specs.CallLaws.Stages.{Leads, core_stage, quits, stage_of}
-use Rattle.parking_lot_world.proofs.CallLawsFacts.Phases.{mutex_leads, rw_leads}
-use Rattle.parking_lot_world.proofs.CallLawsFacts.Quitting.{late_leads, late_out, late_rw_leads, late_rw_out}
-use Rattle.parking_lot_world.proofs.CallLawsFacts.Upgrading.{upgrade_leads}
+use Rattle.parking_lot_machine.specs.CallLaws.Stages.{Leads, core_stage, quits, stage_of}
+use Rattle.parking_lot_machine.proofs.CallLawsFacts.Phases.{mutex_leads, rw_leads}
+use Rattle.parking_lot_machine.proofs.CallLawsFacts.Quitting.{late_leads, late_out, late_rw_leads, late_rw_out}
+use Rattle.parking_lot_machine.proofs.CallLawsFacts.Upgrading.{upgrade_leads}
 
 -- What its act gave; or its deadline has come, and it is back in the section of its list, has found that it was taken,
 -- or has taken itself out.

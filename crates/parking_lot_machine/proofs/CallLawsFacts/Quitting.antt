@@ -26,10 +26,10 @@ use Rattle.parking_lot_machine_calls.specs.declared.seat.LatePhase.{LatePhase}
 use Rattle.parking_lot_machine_calls.specs.declared.seat.LatePhase.TheVariants as late
 use Rattle.parking_lot_machine_calls.specs.declared.calls.OwnMode.TheVariants.{Exclusive}
 use Rattle.parking_lot_machine.specs.RowFits.{IsPrepared, late_rw_prepared, sleeper_prepared}
-use Rattle.parking_lot_world.specs.CallLaws.Stages.{Quits, Leads, core_stage, drains_stage, late_rw_stage, late_stage}
-use Rattle.parking_lot_world.specs.CallLaws.Stages.{mode_for, mutex_stage, quits, rw_stage, sleeper_stage}
-use Rattle.parking_lot_world.specs.CallLaws.Stages.{upgrade_stage}
-use Rattle.parking_lot_world.proofs.CallLawsFacts.Phases.{leads_cond}
+use Rattle.parking_lot_machine.specs.CallLaws.Stages.{Quits, Leads, core_stage, drains_stage, late_rw_stage, late_stage}
+use Rattle.parking_lot_machine.specs.CallLaws.Stages.{mode_for, mutex_stage, quits, rw_stage, sleeper_stage}
+use Rattle.parking_lot_machine.specs.CallLaws.Stages.{upgrade_stage}
+use Rattle.parking_lot_machine.proofs.CallLawsFacts.Phases.{leads_cond}
 
 -- AT A MUTEX
 

@@ -23,8 +23,8 @@ use Rattle.parking_lot_protocol.specs.declared.rw_phase.RwPhase.TheVariants as r
 use Rattle.parking_lot_protocol.specs.declared.rw_phase.Scanning.{Scanning}
 use Rattle.parking_lot_protocol.specs.declared.rw_phase.Seeking.{Seeking}
 use Rattle.parking_lot_rules.specs.Classes.{bit}
-use Rattle.parking_lot_world.specs.CallLaws.Stages.{Stage, Asks, Tries, Frees, Leads, giving, last_stage, mode_for}
-use Rattle.parking_lot_world.specs.CallLaws.Stages.{mutex_stage, rest_stage, rw_stage}
+use Rattle.parking_lot_machine.specs.CallLaws.Stages.{Stage, Asks, Tries, Frees, Leads, giving, last_stage, mode_for}
+use Rattle.parking_lot_machine.specs.CallLaws.Stages.{mutex_stage, rest_stage, rw_stage}
 use Rattle.parking_lot_machine_calls.specs.declared.calls.OwnMode.TheVariants.{Exclusive}
 
 -- EITHER OF TWO

@@ -32,8 +32,8 @@ use Rattle.parking_lot_machine_calls.specs.declared.seat.LatePhase.{LatePhase}
 use Rattle.parking_lot_machine_calls.specs.declared.seat.LatePhase.TheVariants as late
 use Rattle.parking_lot_machine.specs.Machines.{end_of}
 use Rattle.parking_lot_machine.specs.RowFits.{IsPrepared, late_rw_prepared, rw_keeps}
-use Rattle.parking_lot_world.specs.CallLaws.Stages.{Asks, Over, core_stage, drains_stage, frees_stage, late_rw_stage}
-use Rattle.parking_lot_world.specs.CallLaws.Stages.{late_stage, mutex_stage, rw_stage, upgrade_stage}
+use Rattle.parking_lot_machine.specs.CallLaws.Stages.{Asks, Over, core_stage, drains_stage, frees_stage, late_rw_stage}
+use Rattle.parking_lot_machine.specs.CallLaws.Stages.{late_stage, mutex_stage, rw_stage, upgrade_stage}
 
 -- one that is refused has no other hold
 refused_with : (n : ℕ) (a : CoreAnswer) → n ≡ 0 → Some a ≡ Some Refused → Over Refused (Hold.Shares n) ≡ Over a

@@ -4,8 +4,8 @@ use Rattle.parking_lot_protocol.specs.declared.act.CoreAnswer.{CoreAnswer}
 use Rattle.parking_lot_protocol.specs.declared.act.CoreAnswer.TheVariants.{Owned, Released}
 use Rattle.parking_lot_machine_calls.specs.declared.seat.Hold.{Hold}
 use Rattle.parking_lot_machine_calls.specs.declared.seat.Hold.TheVariants as hold
-use Rattle.parking_lot_world.specs.CallLaws.Stages.{Asks, Frees, Over, Stage, Tries, Turns, freed, gained, kept, quits}
-use Rattle.parking_lot_world.specs.CallLaws.Stages.{turned}
+use Rattle.parking_lot_machine.specs.CallLaws.Stages.{Asks, Frees, Over, Stage, Tries, Turns, freed, gained, kept, quits}
+use Rattle.parking_lot_machine.specs.CallLaws.Stages.{turned}
 
 -- where calls begin
 abbrev pub is_beginning : Stage → Bool

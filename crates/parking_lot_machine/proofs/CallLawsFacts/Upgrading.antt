@@ -20,9 +20,9 @@ use Rattle.parking_lot_machine_calls.specs.CallActs.{kept_hold}
 use Rattle.parking_lot_machine_calls.specs.CallKinds.{IsOfWorld}
 use Rattle.parking_lot_machine_calls.specs.declared.calls.OwnMode.TheVariants.{Upgradable, Exclusive}
 use Rattle.parking_lot_machine_calls.specs.declared.seat.Hold.{Hold}
-use Rattle.parking_lot_world.specs.CallLaws.Stages.{Stage, Asks, Tries, Quits, Frees, Over, Leads, drains_stage}
-use Rattle.parking_lot_world.specs.CallLaws.Stages.{frees_stage, upgrade_stage}
-use Rattle.parking_lot_world.proofs.CallLawsFacts.Phases.{leads_cond}
+use Rattle.parking_lot_machine.specs.CallLaws.Stages.{Stage, Asks, Tries, Quits, Frees, Over, Leads, drains_stage}
+use Rattle.parking_lot_machine.specs.CallLaws.Stages.{frees_stage, upgrade_stage}
+use Rattle.parking_lot_machine.proofs.CallLawsFacts.Phases.{leads_cond}
 
 abbrev pub upgrade_on : (n : ℕ) → UpgradePhase → Stage → Type 0
 upgrade_on n p a = Leads n a (upgrade_stage n p)

@@ -4,9 +4,9 @@ use Rattle.parking_lot_protocol.specs.declared.act.CoreAnswer.{CoreAnswer}
 use Rattle.parking_lot_protocol.specs.declared.act.CoreAnswer.TheVariants.{Owned, Refused, Released}
 use Rattle.parking_lot_machine_calls.specs.declared.calls.LockCall.{LockCall}
 use Rattle.parking_lot_machine_calls.specs.declared.calls.LockCall.TheVariants as call
-use Rattle.parking_lot_world.specs.CallLaws.Answers.{EndsAt, MayStand, is_beginning, may_end}
-use Rattle.parking_lot_world.specs.CallLaws.Stages.{Asks, Frees, Leads, Over, Quits, Reaches, Stage, Tries, Turns}
-use Rattle.parking_lot_world.specs.CallLaws.Stages.{quits, stage_of}
+use Rattle.parking_lot_machine.specs.CallLaws.Answers.{EndsAt, MayStand, is_beginning, may_end}
+use Rattle.parking_lot_machine.specs.CallLaws.Stages.{Asks, Frees, Leads, Over, Quits, Reaches, Stage, Tries, Turns}
+use Rattle.parking_lot_machine.specs.CallLaws.Stages.{quits, stage_of}
 
 from_there : (n : ℕ) (start to : Stage) (late : Bool) → is_beginning start ≡ true → Reaches n start to
     → MayStand n start late to

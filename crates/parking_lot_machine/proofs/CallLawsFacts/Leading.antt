@@ -26,14 +26,14 @@ use Rattle.parking_lot_machine.specs.Machines.{IsBegun, IsExpired, IsStepped, ma
 use Rattle.parking_lot_machine.specs.RowActs.{answered}
 use Rattle.parking_lot_machine.specs.RowFits.{FitsTogether, IsPrepared}
 use Rattle.parking_lot_machine.specs.Rows.{State, call_at, hold_at}
-use Rattle.parking_lot_world.specs.CallLaws.AnswerLaws as laws
-use Rattle.parking_lot_world.specs.CallLaws.AnswerLaws.{CallsLead, IsAnswered, IsOpen}
-use Rattle.parking_lot_world.specs.CallLaws.Stages.{Leads, core_stage, quits, stage, stage_of}
-use Rattle.parking_lot_world.proofs.CallLawsFacts.Calls as calls
-use Rattle.parking_lot_world.proofs.CallLawsFacts.Calls.{answer_is, ended_goes, stepped_goes}
+use Rattle.parking_lot_machine.specs.CallLaws.AnswerLaws as laws
+use Rattle.parking_lot_machine.specs.CallLaws.AnswerLaws.{CallsLead, IsAnswered, IsOpen}
+use Rattle.parking_lot_machine.specs.CallLaws.Stages.{Leads, core_stage, quits, stage, stage_of}
+use Rattle.parking_lot_machine.proofs.CallLawsFacts.Calls as calls
+use Rattle.parking_lot_machine.proofs.CallLawsFacts.Calls.{answer_is, ended_goes, stepped_goes}
 use Rattle.parking_lot_rules.proofs.Slots.{set_elsewhere, set_here, set_there, slot_low}
-use Rattle.parking_lot_world.proofs.CallLawsFacts.Ending.{core_done}
-use Rattle.parking_lot_world.proofs.CallLawsFacts.Heard.{Hears, begins_there, heard_leads, late_quits}
+use Rattle.parking_lot_machine.proofs.CallLawsFacts.Ending.{core_done}
+use Rattle.parking_lot_machine.proofs.CallLawsFacts.Heard.{Hears, begins_there, heard_leads, late_quits}
 
 -- A STEP
 
@@ -56,9 +56,10 @@ module _ (s u : State) (fits : FitsTogether s) (then : FitsTogether u) (k : ℕ)
       here = go.here;
       there = go.lock;
       beside = go.others;
-      deadline = go.timed;
+      deadline = ap is_timed go.asked;
       stands = refl;
     };
+    asked = go.asked;
     leads = leads_on (recursive_in s.kinds c.lock) (recursive_in u.kinds go.call.lock) c go.call go.others
         (fits.rules.prepared k c was) (then.rules.prepared k go.call go.here) go.heard;
   }
@@ -164,14 +165,14 @@ begins s u t lock call may x = record {
 sleeping : (o : Option Call) (c : Call) → o ≡ Some c → may_expire_in o ≡ true → sleeps_in_time c.core ≡ true
 sleeping None c e may = absurd (none-some c e)
 sleeping (Some d) c e may = subst (λ (x : Call). sleeps_in_time x.core ≡ true) (same_Some d c e)
-    (second d.timed (sleeps_in_time d.core) may)
+    (second (is_timed d.asked) (sleeps_in_time d.core) may)
   where
     second : (a b : Bool) → a && b ≡ true → b ≡ true
     second true b e = e
     second false b e = absurd (false≢true e)
 
 deadlines : (s u : State) (t : ℕ) → may_expire s t ≡ true → (x : IsExpired t s u)
-    → IsOpen (call_at u t) x.call.lock x.call.others x.call.timed (quits (stage x.call))
+    → IsOpen (call_at u t) x.call.lock x.call.others (is_timed x.call.asked) (quits (stage x.call))
 deadlines s u t may x = record {
   call = record x.call { core = late_of x.call.core };
   here = ap (λ (w : State). call_at w t) x.became ∙ set_here s.calls t x.call _ x.here;

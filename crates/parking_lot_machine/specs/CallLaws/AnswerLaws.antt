@@ -11,7 +11,7 @@ use Rattle.parking_lot_machine.specs.Machines.{IsBegun, IsExpired, IsStepped, ma
 use Rattle.parking_lot_machine.specs.RowFits.{FitsTogether}
 use Rattle.parking_lot_machine.specs.Rows.{State, call_at, hold_at, lock_at}
 use Rattle.parking_lot_machine.specs.Worlds.{mode_in}
-use Rattle.parking_lot_world.specs.CallLaws.Stages.{Leads, Over, Stage, quits, stage, stage_of}
+use Rattle.parking_lot_machine.specs.CallLaws.Stages.{Leads, Over, Stage, quits, stage, stage_of}
 
 -- a call is open at that lock, beside so many shared holds, has a deadline or hasn't, and stands there
 pub record IsOpen (o : Option Call) (lock others : ℕ) (timed : Bool) (at : Stage) : Type 0 where
@@ -19,13 +19,14 @@ pub record IsOpen (o : Option Call) (lock others : ℕ) (timed : Bool) (at : Sta
   pub here : o ≡ Some call
   pub there : call.lock ≡ lock
   pub beside : call.others ≡ others
-  pub deadline : call.timed ≡ timed
+  pub deadline : is_timed call.asked ≡ timed
   pub stands : stage call ≡ at
 
--- an open call is kept, at its lock and beside the same holds, and leads on
+-- an open call is kept, at its lock, beside the same holds and with what it was asked, and leads on
 pub record GoesOn (c : Call) (o : Option Call) : Type 0 where
   pub to : Stage
-  pub kept : IsOpen o c.lock c.others c.timed to
+  pub kept : IsOpen o c.lock c.others (is_timed c.asked) to
+  pub asked : kept.call.asked ≡ c.asked
   pub leads : Leads c.others (stage c) to
 
 abbrev pub Onward : Option Call → Option Call → Type 0
@@ -57,5 +58,5 @@ pub record CallsLead : Type 0 where
       → (k : ℕ) → k ≢ t → call_at u k ≡ call_at s k
   -- a call whose deadline comes quits, and nobody else's changes
   pub deadlines : (s u : State) (t : ℕ) → may_expire s t ≡ true → (x : IsExpired t s u)
-      → IsOpen (call_at u t) x.call.lock x.call.others x.call.timed (quits (stage x.call))
+      → IsOpen (call_at u t) x.call.lock x.call.others (is_timed x.call.asked) (quits (stage x.call))
   pub deadlines_alone : (s u : State) (t : ℕ) → IsExpired t s u → (k : ℕ) → k ≢ t → call_at u k ≡ call_at s k
