@@ -86,6 +86,7 @@ module _ (law : CallsLead) (k : ℕ) where
       record {
         to = stage c;
         kept = record { call = c; here = refl; there = refl; beside = refl; deadline = refl; stands = refl };
+        asked = refl;
         leads = inl refl;
       }
 
