@@ -1,5 +1,5 @@
 -- How the right to a lock moves between a word and a claim: by what a step does to bit 0. Assumes `Logic`.
-use Rattle.std.proofs.Common.{◌≡◌, ◌≢◌, ℕ, ◌+◌, ◌-◌, ◌%◌, ◌≤◌, eqb, Bool, [], ◌∷◌, sym, refl, subst, arith, eq-eqb, ne_eqb}
+use Rattle.std.proofs.Common.{◌≡◌, ◌≢◌, ℕ, ◌+◌, ◌%◌, eqb, Bool, [], ◌∷◌, sym, refl, subst, arith, eq-eqb, ne_eqb}
 use mathlib.Core.Logic.{dite}
 use native.Mathlib.Decide.{ℕ_discrete}
 use seplogic.Ra.Ura.{Ura}
@@ -7,7 +7,7 @@ use base.Logic.{SProp, ent, sep, ex, emp, all_e, upd, upd_i, via}
 use base.Fml.{Lft, Share, Fml, ftrue, fsep, fbor, flft}
 use prog.Atomic.{either}
 use types.Logic.{Logic, sem}
-use types.Kit.{‵, raw, ◌⊛◌, ◌$◌, ◌∵◌, !, qed, by, move, keep, drop, split, fsplit, fjoin, fpick, fpack, show, frame, each, assume, suffices, use0, use1, use2, done}
+use types.Kit.{‵, ◌⊛◌, ◌$◌, ◌∵◌, !, qed, by, move, keep, drop, split, fsplit, fjoin, fpick, fpack, show, frame, each, assume, suffices, use0, use1, use2, done}
 use types.Na.{out, out_once}
 use denote.RawPtr.{block_ptr}
 use Rattle.core.specs.Sync.RawAtomic.{asks, always, word}

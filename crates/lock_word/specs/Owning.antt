@@ -1,7 +1,7 @@
 -- What a lock word has, what a `&` to it shares, and what a claim has. Each lock has a name, and of each name there is
 -- one right, which lies with a word of that name or with one claim.
 use Rattle.std.specs.Prelude.{◌≡◌, ℕ, ◌+◌, ◌-◌, ◌%◌, ◌≤◌}
-use base.Fml.{Lft, Fml, ftrue, ffalse, fsep, fex, fall, fbor}
+use base.Fml.{Lft, Fml, ffalse, fsep, fex, fall, fbor}
 use types.Na.{out}
 use denote.RawPtr.{Ptr, block_ptr, null_ptr}
 use denote.Sharing.{said, beside, some, ends, always}

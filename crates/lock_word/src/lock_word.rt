@@ -57,7 +57,8 @@ impl LockWord {
     /// goes where it clears it.
     pub fn exchange(&self, claim: &mut Claim, from: u64, to: u64) -> u64
         requires { (claim.old.name ≡ self.now) × MayExchange claim.old.owned from to }
-        ensures { (claim.new.name ≡ self.now) × (result ≡ from → claim.new.owned ≡ then_owned claim.old.owned from to) × (result ≢ from → claim.new.owned ≡ claim.old.owned) }
+        ensures { (claim.new.name ≡ self.now) × (result ≡ from → claim.new.owned ≡ then_owned claim.old.owned from to)
+            × (result ≢ from → claim.new.owned ≡ claim.old.owned) }
     {
         unsafe { exchange::<Brand>(&raw const self.word, from, to) }
     }

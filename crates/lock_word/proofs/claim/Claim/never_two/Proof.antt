@@ -1,10 +1,9 @@
 -- `never_two` is handed the right to one lock twice, which nobody can be.
-use Rattle.atomic_table.proofs.Names.{◌≡◌, ℕ, [], ◌∷◌, refl, Val, SProp, emp, ftrue, sep, wand, ent}
-use Rattle.atomic_table.proofs.Names.{‵, raw, ◌⊛◌, given, later, ◌$◌, ◌∵◌, !, qed, by, move, keep, drop, split, fsplit, fjoin, learn, use0, use2, await, rewrite, enter, alloc_all, pass_all}
-use Rattle.atomic_table.proofs.Names.{tables, yes, owns, types_at, plain, alive, Stays, stay_dropped, walk_of, Goes-dropped, WpFn, via}
+use Rattle.atomic_table.proofs.Names.{◌≡◌, ℕ, [], ◌∷◌, refl, Val, SProp, ftrue}
+use Rattle.atomic_table.proofs.Names.{‵, raw, ◌⊛◌, given, later, ◌$◌, ◌∵◌, !, qed, by, move, keep, drop, split, fsplit, learn, use2, await, rewrite, enter, alloc_all, pass_all}
+use Rattle.atomic_table.proofs.Names.{tables, yes, owns, types_at, plain, alive, Stays, stay_dropped, walk_of, Goes-dropped, via}
 use Rattle.atomic_table.proofs.Walks.{proved}
 use types.Owned.{basic}
-use types.Kit.{updating, suffices}
 use base.Logic.{never, never_e}
 use Rattle.lock_word.specs.Owning.{claimed}
 use Rattle.lock_word.proofs.Rights.{never_both}

@@ -1,5 +1,5 @@
 -- `beside` makes a word of the name that it is shown, with no right.
-use Rattle.atomic_table.proofs.Names.{◌≡◌, ℕ, ◌^◌, ◌<◌, ◌%◌, [], ◌∷◌, refl, lit<, w64, named, Val, vint, vptr, vstruct, vcons, vnil, SProp, emp, Fml, ftrue, fsep, sem}
+use Rattle.atomic_table.proofs.Names.{◌≡◌, ℕ, ◌^◌, ◌<◌, ◌%◌, [], ◌∷◌, refl, lit<, w64, named, Val, vint, vptr, vstruct, vcons, vnil, SProp, emp, Fml, ftrue, fsep}
 use Rattle.atomic_table.proofs.Names.{‵, raw, ◌⊛◌, ◌$◌, ◌∵◌, !, qed, by, keep, split, fjoin, fpack, use0, lit, no_more, and_then, returns, enter, alloc_all, pass_all, free_all, look_at, sets, agg}
 use Rattle.atomic_table.proofs.Names.{tables, yes, owns, types_at, plain, nothing, alive, Stays, stay_dropped, walk_of, Goes-dropped, fact, fact_i, RefOf, shr_vals, shr_Tells, makes_shadow}
 use Rattle.std.proofs.Common.{arith}

@@ -1,6 +1,6 @@
 -- `exchange` is one step, in which the right goes with bit 0.
-use Rattle.atomic_table.proofs.Names.{◌≡◌, ℕ, ◌+◌, ◌^◌, List, [], ◌∷◌, sym, refl, ◌∙◌, ap, w64, named, Val, vint, vptr, SProp, wand, emp, apply∗, Lft, Share, Fml, ftrue, fsep, flft}
-use Rattle.atomic_table.proofs.Names.{‵, raw, ◌⊛◌, some, given, later, mean, at_ret, ◌$◌, ◌∵◌, !, qed, by, move, keep, drop, split, split3, join, fsplit, fsplit3, fjoin, fjoin3, fpick, pick, learn, use0, use1, use2, use3, await, rewrite, feq_i, flt_i}
+use Rattle.atomic_table.proofs.Names.{◌≡◌, ℕ, ◌+◌, ◌^◌, List, [], ◌∷◌, refl, w64, named, Val, vint, vptr, SProp, wand, emp, apply∗, Lft, Share, Fml, ftrue, fsep, flft}
+use Rattle.atomic_table.proofs.Names.{‵, raw, ◌⊛◌, some, given, later, mean, at_ret, ◌$◌, ◌∵◌, !, qed, by, move, keep, drop, split, split3, join, fsplit, fsplit3, fjoin, fjoin3, fpick, pick, learn, use0, use2, use3, await, rewrite, feq_i, flt_i}
 use Rattle.atomic_table.proofs.Names.{stop, fld, addr, of_opd, no_more, and_then, first, blocks, exec, Calls-last, returns, enter, alloc_all, pass_all, free_all, look_at, get, through, sets, lands_last, env}
 use Rattle.atomic_table.proofs.Names.{tables, yes, owns, types_at, plain, block_ptr, nothing, Stays, stay_dropped, stay_ref, walk_of, Goes-dropped, Goes-ref, fact, fact_i, via, RefOf, u64, mut_vals, mut_Tells, shr_vals, shr_Tells, uint_vals, uint_Tells, opens, closes, unhide, Lends-one}
 use Rattle.atomic_table.proofs.Walks.{proved, leaves}

@@ -1,14 +1,12 @@
 -- `new` makes a name, whose one right lies with the word.
-use Rattle.atomic_table.proofs.Names.{◌≡◌, ℕ, ◌^◌, ◌<◌, ◌%◌, [], ◌∷◌, refl, lit<, w64, Val, vint, vstruct, vcons, vnil, SProp, Fml, ftrue, fsep, sem}
-use Rattle.atomic_table.proofs.Names.{‵, raw, ◌⊛◌, ◌$◌, ◌∵◌, !, qed, by, keep, drop, move, split, fjoin, fpack, use0, use1, lit, no_more, and_then, returns, enter, alloc_all, pass_all, free_all, look_at, sets, agg}
-use Rattle.atomic_table.proofs.Names.{tables, RattleType, owns, types_at, nothing, alive, Stays, walk_of, makes_shadow}
+use Rattle.atomic_table.proofs.Names.{◌≡◌, ℕ, ◌^◌, ◌<◌, ◌%◌, [], ◌∷◌, refl, lit<, w64, Val, vint, vstruct, vcons, vnil, SProp, Fml, ftrue, fsep}
+use Rattle.atomic_table.proofs.Names.{‵, raw, ◌⊛◌, ◌$◌, ◌∵◌, !, qed, by, keep, split, fjoin, fpack, use0, use1, lit, no_more, and_then, returns, enter, alloc_all, pass_all, free_all, look_at, sets, agg}
+use Rattle.atomic_table.proofs.Names.{tables, owns, types_at, nothing, alive, Stays, walk_of, makes_shadow}
 use Rattle.atomic_table.proofs.Walks.{proved, leaves}
 use types.Tokens.{name_new}
-use types.Na.{out}
 use base.Stored.{gnum}
 use Rattle.lock_word.specs.Owning.{kept}
 use Rattle.lock_word.proofs.Rights.{laid}
-use Rattle.lock_word.specs.contracts.lock_word.LockWord as lock
 use Rattle.lock_word.specs.contracts.lock_word.LockWord.TheInside as inside
 use Rattle.lock_word.specs.contracts.lock_word.LockWord.new.{ended, clauses}
 use Rattle.lock_word.specs.contracts.lock_word.LockWord.new.Key.{name as #self}

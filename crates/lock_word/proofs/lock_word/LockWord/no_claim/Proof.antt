@@ -1,5 +1,5 @@
 -- `no_claim` makes a claim that has no right.
-use Rattle.atomic_table.proofs.Names.{◌≡◌, ℕ, [], ◌∷◌, refl, named, Val, vptr, SProp, emp, Fml, ftrue, fsep}
+use Rattle.atomic_table.proofs.Names.{◌≡◌, ℕ, [], ◌∷◌, refl, named, Val, vptr, SProp, emp}
 use Rattle.atomic_table.proofs.Names.{‵, raw, ◌⊛◌, ◌$◌, ◌∵◌, !, qed, by, keep, split, fjoin, use0, no_more, and_then, returns, enter, alloc_all, pass_all, free_all, look_at, get, sets, agg}
 use Rattle.atomic_table.proofs.Names.{tables, yes, owns, types_at, plain, nothing, alive, Stays, stay_dropped, walk_of, Goes-dropped, fact, fact_i, RefOf, shr_vals, shr_Tells}
 use Rattle.std.proofs.Common.{arith}
