@@ -1,0 +1,88 @@
+//! What no clause says: which words the steps find and write, that a lock can be had, and that it excludes.
+ghost use Rattle.std.specs.Prelude.{◌≡◌};
+
+use crate::{HandoffWord, Owner};
+use std::sync::Wait;
+use std::sync::atomic::{AtomicU64, Ordering};
+use std::test::Fail;
+use std::thread;
+
+/// Waits for the lock, also for one that is handed over.
+fn own<R: Wait>(rt: &R, lock: &HandoffWord) -> Owner
+    ensures { result ≡ lock.now.word }
+{
+    for _ in rt.forever() {
+        if let Ok(owner) = lock.word().acquire(0, 1) {
+            return owner;
+        }
+        if let Some(owner) = lock.pick_up() {
+            return owner;
+        }
+        thread::yield_now();
+    }
+    unreachable!()
+}
+
+/// Gives it up, or hands it over with bit 0 set throughout.
+fn give_up<R: Wait>(rt: &R, lock: &HandoffWord, owner: Owner, by_hand: bool)
+    requires { owner ≡ lock.now.word }
+{
+    let mut kept = owner;
+    for _ in rt.forever() {
+        if by_hand {
+            match lock.leave(kept) {
+                Ok(()) => return,
+                Err(owner) => kept = owner,
+            }
+        } else {
+            match lock.word().release(kept, 1, 0) {
+                Ok(()) => return,
+                Err((owner, _word)) => kept = owner,
+            }
+        }
+    }
+    unreachable!()
+}
+
+/// Owns the lock so many times, every third time handing it over, and answers how often somebody else was inside.
+fn rounds<R: Wait>(rt: &R, lock: &HandoffWord, inside: &AtomicU64, count: u64) -> u64 {
+    let mut seen = 0u64;
+    for round in 0..count {
+        let owner = own(rt, lock);
+        if inside.fetch_add(1, Ordering::SeqCst) != 0 {
+            seen = seen.wrapping_add(1);
+        }
+        inside.fetch_sub(1, Ordering::SeqCst);
+        give_up(rt, lock, owner, round % 3 == 0);
+    }
+    seen
+}
+
+#[test]
+fn words_are_as_they_were_written(rt: HostRuntime) -> Result<(), Fail> {
+    let lock = HandoffWord::new();
+    let word = lock.word();
+    let mut holds = word.load() == 0 && word.change(0, 2) == Ok(()) && word.change(0, 2) == Err(2);
+    holds = holds && word.change(2, 0) == Ok(());
+    let owner = own(&rt, &lock);
+    holds = holds && word.load() == 1 && word.change(1, 3) == Ok(()) && word.change(3, 1) == Ok(());
+    give_up(&rt, &lock, owner, true);
+    holds = holds && word.load() == 1;
+    let owner = own(&rt, &lock);
+    give_up(&rt, &lock, owner, false);
+    assert!(rt; holds && word.load() == 0);
+    Ok(())
+}
+
+#[test]
+fn two_threads_exclude_each_other(rt: HostRuntime) -> Result<(), Fail> {
+    let lock = HandoffWord::new();
+    let inside = AtomicU64::new(0);
+    let (left, right) = thread::join(
+        &rt,
+        || rounds(&rt, &lock, &inside, 3_000),
+        || rounds(&rt, &lock, &inside, 3_000),
+    );
+    assert!(rt; left == 0 && right == 0);
+    Ok(())
+}
