@@ -27,6 +27,12 @@ use std::hash::{BuildHasher, Hash};
 use std::sync::Wait;
 
 /// The map's calls under underscored names. [`DashMap`] is its one implementation.
+///
+/// ```text
+/// let shards = map._shard_count();                        // as `shards().count()`
+/// let old = map._insert(7, 70, &mut me).ok().flatten();   // each as the method without an underscore
+/// let count = map._get(&7, &mut me).map(|seven| *seven);
+/// ```
 pub trait Map<K: Eq + Hash + Drop, V: Drop, S> {
     /// The raw lock of a shard, which the guards name.
     type Lock: Evidence<Shard<K, V, Self::Alloc>>;

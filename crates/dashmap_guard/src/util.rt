@@ -16,6 +16,10 @@ pub struct SharedValue<T> {
 
 impl<T> SharedValue<T> {
     /// Holds a value.
+    ///
+    /// ```text
+    /// let shared = SharedValue::new(7u64);
+    /// ```
     pub fn new(value: T) -> SharedValue<T>
         ensures { result.value ≡ value }
     {
@@ -23,6 +27,10 @@ impl<T> SharedValue<T> {
     }
 
     /// Lends it.
+    ///
+    /// ```text
+    /// let seven = *shared.get();
+    /// ```
     pub fn get(&self) -> &T
         ensures { result.now ≡ self.now.value }
     {
@@ -30,6 +38,10 @@ impl<T> SharedValue<T> {
     }
 
     /// Lends it for writing.
+    ///
+    /// ```text
+    /// *shared.get_mut() = 8;
+    /// ```
     pub fn get_mut(&mut self) -> &mut T
         ensures* writes_back { sem 𝓛 (Lends (the_row T.row) T.row self.entry result (λ value. record { value = value })) }
         ensures value { result.now ≡ self.old.value }
@@ -38,6 +50,10 @@ impl<T> SharedValue<T> {
     }
 
     /// Gives it back.
+    ///
+    /// ```text
+    /// let seven = shared.into_inner();
+    /// ```
     pub fn into_inner(self) -> T
         ensures { result ≡ self.value }
     {
@@ -54,6 +70,11 @@ pub const fn ptr_size_bits() -> usize
 }
 
 /// Takes the value out, hands it to the closure behind the first of the pair, and stores what the closure answers.
+///
+/// ```text
+/// let mut count = 3u64;
+/// map_in_place_2((2u64, &mut count), |factor, old| old.wrapping_mul(factor));   // 6
+/// ```
 pub fn map_in_place_2<T, U, F: FnOnce(U, T) -> T>(pair: (U, &mut T), f: F)
     requires { F.pre f pair.0 pair.1.now }
     ensures { F.post f pair.entry.0 pair.entry.1.now pair.exit.1.0.now }

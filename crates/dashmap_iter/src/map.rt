@@ -55,10 +55,19 @@ where
         ensures { result ≡ record { locks = (seen self.now).locks; next = 0; held = None; from = 0; failed = false } };
 
     /// As `iter`.
+    ///
+    /// ```text
+    /// for pair in map._iter(&mut me) { let _count = pair.map(|pair| *pair); }
+    /// ```
     fn _iter<'m, 'd>(&'m self, td: &'d mut Q::Party) -> Iter<'m, 'd, K, V, Q, A>
         ensures { result ≡ record { locks = (seen self.now).locks; next = 0; held = None; from = 0; failed = false } };
 
     /// As `iter_mut`.
+    ///
+    /// ```text
+    /// let mut walk = map._iter_mut(&mut me);
+    /// if let Some(mut first) = walk.next_mut() { *first = 0; }
+    /// ```
     fn _iter_mut<'m, 'd>(&'m self, td: &'d mut Q::Party) -> IterMut<'m, 'd, K, V, Q, A>
         ensures { result ≡ record { locks = (seen self.now).locks; next = 0; held = None; from = 0; failed = false } };
 }

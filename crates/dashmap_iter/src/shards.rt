@@ -16,6 +16,10 @@ use std::sync;
 use std::sync::Wait;
 
 /// What gives exclusive guards of shards by their numbers: the shards of a map.
+///
+/// ```text
+/// for number in 0..shards.amount() { let guard = shards.hold(number); }
+/// ```
 pub trait GivesShards<W: Lender + Drop, H: Hold>
 where
     H::Runtime: Wait,

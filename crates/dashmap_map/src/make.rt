@@ -234,6 +234,10 @@ impl<
     }
 
     /// The same as `with_hasher`.
+    ///
+    /// ```text
+    /// let map: DashMap<'_, '_, u64, u64, RandomState, HostRuntime> = DashMap::default(alloc, hasher, 4, &table)?;
+    /// ```
     pub fn default<T: Copy>(
         alloc: A,
         hasher: S,

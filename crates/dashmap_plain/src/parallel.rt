@@ -13,6 +13,11 @@ use std::thread::Threads;
 
 impl<K: Eq + Hash, V, S: BuildHasher, Q, A: Allocator> Unlocked<K, V, S, Q, A> {
     /// Lends a closure that threads share the value of each pair for writing, each once. It takes no memory.
+    ///
+    /// ```text
+    /// let mut unlocked = Unlocked::of(map);
+    /// unlocked.par_write(&rt, |_, count| *count = count.wrapping_add(1));
+    /// ```
     pub fn par_write<R: Threads + Sync, F: Fn(&K, &mut V) + Sync>(&mut self, rt: &R, f: F)
     where
         K: Send,
@@ -35,6 +40,10 @@ impl<K: Eq + Hash + Drop, V: Drop, S: BuildHasher + Drop, Q: Drop, A: Allocator>
     A,
 > {
     /// All pairs by value. The locks go; their rows stay used.
+    ///
+    /// ```text
+    /// Unlocked::of(map).into_par_iter().for_each(&rt, |_key, _count| ());
+    /// ```
     pub fn into_par_iter(self) -> OwningIter<K, V, A>
         ensures { result ≡ self.plain.tables }
     {
@@ -44,6 +53,10 @@ impl<K: Eq + Hash + Drop, V: Drop, S: BuildHasher + Drop, Q: Drop, A: Allocator>
 
 impl<K: Eq + Hash, V, S: BuildHasher, Q, A: Allocator> ReadOnlyView<K, V, S, Q, A> {
     /// All pairs, lent.
+    ///
+    /// ```text
+    /// let counts = view.par_iter().map_collect(&rt, alloc, |_, count| *count)?;
+    /// ```
     pub fn par_iter(&self) -> Iter<'_, K, V, A>
         ensures { result ≡ self.now.plain.tables }
     {
@@ -59,6 +72,10 @@ impl<K: Eq + Hash + Drop, V: Drop, S: BuildHasher + Drop, Q: Drop, A: Allocator>
     A,
 > {
     /// All pairs by value. The locks go; their rows stay used.
+    ///
+    /// ```text
+    /// let counts = view.into_par_iter().map_collect(&rt, alloc, |_, count| count)?;
+    /// ```
     pub fn into_par_iter(self) -> OwningIter<K, V, A>
         ensures { result ≡ self.plain.tables }
     {

@@ -58,6 +58,10 @@ impl<K: Eq + Hash, V, S: BuildHasher, Q, A: Allocator> ReadOnlyView<K, V, S, Q, 
     }
 
     /// The map taken apart, as it was before the view was made.
+    ///
+    /// ```text
+    /// let unlocked = view.into_unlocked();
+    /// ```
     pub fn into_unlocked(self) -> Unlocked<K, V, S, Q, A>
         ensures { result ≡ self }
     {
@@ -84,6 +88,10 @@ impl<K: Eq + Hash, V, S: BuildHasher, Q, A: Allocator> ReadOnlyView<K, V, S, Q, 
     }
 
     /// Lends the view of the plain shards.
+    ///
+    /// ```text
+    /// let pairs = view.plain().len();
+    /// ```
     pub fn plain(&self) -> &PlainView<K, V, S, A>
         ensures { result.now ≡ self.now.plain }
     {

@@ -18,6 +18,10 @@ pub trait ExtendShards<K: Eq + Hash, V, S: BuildHasher> {
 
     /// Puts pairs in, one after another, as `insert` does. The first one that is refused comes back: the pairs before
     /// it stay, and the rest of the iterator is let go.
+    ///
+    /// ```text
+    /// shards.extend([(7u64, 70u64), (8, 80)].into_iter()).map_err(|_| Wrong)?;
+    /// ```
     fn extend<I: Iterator<Item = (K, V)> + Drop>(&mut self, iter: I) -> Result<(), (K, V)>
         requires can { I.can_next iter }
         requires ends { IsFinite (I.remaining iter) }

@@ -22,6 +22,11 @@ use std::marker::Model;
 ///
 /// A contract sees the shards, the hasher and the raw locks (`Opened`). A map can be put together of it again; that its
 /// pairs are in the shards of their routes is whose changes the shards to know.
+///
+/// ```text
+/// let unlocked = Unlocked::of(map);   // nobody else can reach the map
+/// let map = unlocked.into_map();
+/// ```
 #[derive(Drop)]
 pub struct Unlocked<K: Eq + Hash, V, S: BuildHasher, Q, A: Allocator = Global> {
     pub(crate) shards: Vec<Shard<K, V, A>, A>,
@@ -59,6 +64,10 @@ impl<K: Eq + Hash, V, S: BuildHasher, Q: OwnerEvidence<Shard<K, V, A>>, A: Alloc
     A,
 > {
     /// Takes a map apart. That it is owned shows that nobody holds a shard.
+    ///
+    /// ```text
+    /// let unlocked = Unlocked::of(map);
+    /// ```
     pub fn of(map: DashMap<K, V, S, Q, A>) -> Unlocked<K, V, S, Q, A>
         ensures locks { result.locks ≡ map.locks }
         ensures amount { length result.plain.tables ≡ length map.locks }
@@ -71,6 +80,10 @@ impl<K: Eq + Hash, V, S: BuildHasher, Q: OwnerEvidence<Shard<K, V, A>>, A: Alloc
     }
 
     /// The map again, each shard behind its lock.
+    ///
+    /// ```text
+    /// let map = Unlocked::of(map).into_map();
+    /// ```
     pub fn into_map(self) -> DashMap<K, V, S, Q, A>
         ensures locks { result.locks ≡ self.locks }
         ensures hasher { result.hasher ≡ self.plain.hasher }
@@ -84,6 +97,10 @@ impl<K: Eq + Hash, V, S: BuildHasher, Q: OwnerEvidence<Shard<K, V, A>>, A: Alloc
 
 impl<K: Eq + Hash, V, S: BuildHasher, Q, A: Allocator> Unlocked<K, V, S, Q, A> {
     /// As many other shards in place of these, which are let go.
+    ///
+    /// ```text
+    /// let unlocked = unlocked.with_shards(clones);   // as many
+    /// ```
     pub fn with_shards(self, shards: Vec<Shard<K, V, A>, A>) -> Unlocked<K, V, S, Q, A>
     where
         K: Drop,
@@ -100,6 +117,10 @@ impl<K: Eq + Hash, V, S: BuildHasher, Q, A: Allocator> Unlocked<K, V, S, Q, A> {
     ///
     /// It tests each pair once. Where one lies in a shard that isn't its key's, or under another hash than its key's,
     /// there is no view, and all comes back.
+    ///
+    /// ```text
+    /// let view = Unlocked::of(map).into_read_only().map_err(|_| Wrong)?;
+    /// ```
     pub fn into_read_only(
         self,
     ) -> Result<ReadOnlyView<K, V, S, Q, A>, Displaced<Unlocked<K, V, S, Q, A>>>
@@ -118,6 +139,10 @@ impl<K: Eq + Hash, V, S: BuildHasher, Q, A: Allocator> Unlocked<K, V, S, Q, A> {
     }
 
     /// A view of shards whose pairs are known to be in the shards of their routes. It tests nothing.
+    ///
+    /// ```text
+    /// let view = unlocked.into_view();
+    /// ```
     pub fn into_view(self) -> ReadOnlyView<K, V, S, Q, A>
         requires { AreSharded S.BuildHasher S.Hasher.Hasher K.hash_input K.eq self.plain }
         ensures { result ≡ self }
@@ -170,6 +195,10 @@ impl<K: Eq + Hash + Drop, V: Drop, S: BuildHasher + Drop, Q: Drop, A: Allocator>
     A,
 > {
     /// The shards, in their order. The locks go; their rows stay used.
+    ///
+    /// ```text
+    /// let shards = Unlocked::of(map).into_shards();
+    /// ```
     pub fn into_shards(self) -> Vec<Shard<K, V, A>, A>
         ensures { result.items ≡ self.plain.tables }
     {
@@ -178,6 +207,10 @@ impl<K: Eq + Hash + Drop, V: Drop, S: BuildHasher + Drop, Q: Drop, A: Allocator>
     }
 
     /// The pairs, one after another, shards in order. The locks go; their rows stay used.
+    ///
+    /// ```text
+    /// for (key, count) in Unlocked::of(map).into_pairs() { sum = sum.wrapping_add(key).wrapping_add(count); }
+    /// ```
     pub fn into_pairs(self) -> OwningIter<K, V, A>
         ensures { result ≡ all_pairs self.plain.tables }
     {

@@ -31,6 +31,12 @@ impl<K, V, A: Allocator> Caller<K, V, A> {
     /// A caller with an empty log, whose stamps will be above `last`. It takes no memory.
     ///
     /// It is for a caller that goes on after its log was taken: a new caller's last stamp is 0.
+    ///
+    /// ```text
+    /// let (number, last) = (caller.number(), caller.last());
+    /// let log = caller.log();
+    /// let mut caller: Caller<u64, u64> = Caller::after(alloc, number, last);   // its stamps go on
+    /// ```
     pub fn after(alloc: A, number: usize, last: u64) -> Caller<K, V, A>
         ensures number { result.number ≡ number }
         ensures log { result.log.entries ≡ [] }
@@ -43,6 +49,10 @@ impl<K, V, A: Allocator> Caller<K, V, A> {
     }
 
     /// Its number.
+    ///
+    /// ```text
+    /// let number = caller.number();
+    /// ```
     pub fn number(&self) -> usize
         ensures { result ≡ self.now.number }
     {
@@ -50,6 +60,10 @@ impl<K, V, A: Allocator> Caller<K, V, A> {
     }
 
     /// Its last stamp.
+    ///
+    /// ```text
+    /// let stamp = caller.last();
+    /// ```
     pub fn last(&self) -> u64
         ensures { result ≡ self.now.log.last }
     {

@@ -18,6 +18,10 @@ pub enum RecordFault {
 
 impl RecordFault {
     /// The number of the refusal.
+    ///
+    /// ```text
+    /// let number = RecordFault::StampsSpent.code();   // 41
+    /// ```
     pub fn code(&self) -> u16
         ensures { result ≡ record_fault_code self.now }
     {

@@ -269,6 +269,13 @@ where
 
     /// What a closure answers of a shard's history so far, if there is such a shard. It is held meanwhile: no other
     /// call on its keys is made. Calls on the other shards don't wait for it.
+    ///
+    /// Blocks while the shard is held. A closure that asks the same map with other data of the thread can wait for
+    /// itself.
+    ///
+    /// ```text
+    /// let calls = map.look(0, |history| history.len(), &mut me);
+    /// ```
     pub fn look<U, F: FnOnce(&[Entered<K, V>]) -> U + Drop>(
         &self,
         number: usize,

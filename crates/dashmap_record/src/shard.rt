@@ -104,6 +104,10 @@ impl<K: Copy + Eq + Hash, V: Copy + Eq, A: Allocator + Clone> RecordingShard<K, 
     }
 
     /// Lends the history, oldest entry first.
+    ///
+    /// ```text
+    /// let last = map.look(0, |history| history.last().map(|entry| entry.stamp), &mut me).flatten();
+    /// ```
     pub fn history(&self) -> &[Entered<K, V>]
         ensures history { result.now ≡ self.now.history.entries }
         ensures rise { IsTrue (rises result.now) }

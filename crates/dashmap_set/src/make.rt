@@ -144,6 +144,10 @@ impl<
     }
 
     /// The same as `with_hasher`.
+    ///
+    /// ```text
+    /// let set: DashSet<'_, '_, u64, RandomState, HostRuntime> = DashSet::default(alloc, hasher, 4, &table)?;
+    /// ```
     pub fn default<T: Copy>(
         alloc: A,
         hasher: S,

@@ -22,6 +22,10 @@ pub enum MapFault {
 
 impl MapFault {
     /// The number of the refusal.
+    ///
+    /// ```text
+    /// let number = MapFault::BadShards.code();   // 31
+    /// ```
     pub fn code(&self) -> u16
         ensures { result ≡ map_fault_code self.now }
     {

@@ -4,6 +4,10 @@ ghost use Rattle.std.specs.Int.{IsNextPowerOfTwo};
 ghost use Rattle.dashmap_table.specs.Route.{IsShardAmount, route_of, share_of, HasNoShare, wanted_shards};
 
 /// Whether a map may have so many shards: a power of two from 2 to 65,536.
+///
+/// ```text
+/// let good = is_shard_amount(8);   // true
+/// ```
 pub fn is_shard_amount(shards: usize) -> bool
     ensures { IsTrue result ↔ IsShardAmount shards }
 {
@@ -17,6 +21,10 @@ pub fn is_shard_amount(shards: usize) -> bool
 /// may keep them beside each pair and tell most keys of a shard apart by them.
 ///
 /// With 4 shards the hashes 0, 2^55, 2^56 and 2^57 - 1 are on the shards 0, 1, 2 and 3, and 2^57 is on shard 0 again.
+///
+/// ```text
+/// let shard = route(1 << 55, 4);   // 1
+/// ```
 pub fn route(hash: u64, shards: usize) -> usize
     requires { IsShardAmount shards }
     ensures value { result ≡ route_of hash shards }
@@ -29,6 +37,10 @@ pub fn route(hash: u64, shards: usize) -> usize
 ///
 /// `None` where there is no such share: `capacity` can't be rounded up to a multiple of `shards`, or the share is above
 /// 2^48. A capacity of 0 gives 0, and 5 shared out over 4 shards gives 2.
+///
+/// ```text
+/// let share = capacity_share(5, 4);   // Some(2)
+/// ```
 pub fn capacity_share(capacity: usize, shards: usize) -> Option<usize>
     requires { IsShardAmount shards }
     ensures { MatchOption result (HasNoShare capacity shards)
@@ -43,6 +55,10 @@ pub fn capacity_share(capacity: usize, shards: usize) -> Option<usize>
 /// threads count as one.
 ///
 /// `None` where that is above 65,536, so from 16,385 threads on.
+///
+/// ```text
+/// let shards = default_shards(3);   // Some(16)
+/// ```
 pub fn default_shards(parallelism: usize) -> Option<usize>
     ensures { MatchOption result (2 ^ 16 < wanted_shards parallelism)
         (λ shards. IsNextPowerOfTwo (wanted_shards parallelism) shards × IsShardAmount shards) }

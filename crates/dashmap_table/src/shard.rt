@@ -51,6 +51,10 @@ impl<K: Eq + Hash, V, A: Allocator> Shard<K, V, A> {
     ghost use Rattle.dashmap_table.specs.ShardLending.{lends_slot, lends_slot_if};
 
     /// A shard without pairs, with room for none. It takes no memory.
+    ///
+    /// ```text
+    /// let shard: Shard<&str, u64> = Shard::new(alloc);
+    /// ```
     pub fn new(alloc: A) -> Shard<K, V, A>
         ensures slots { result.slots ≡ [] }
         ensures room { result.room ≡ 0 }
@@ -64,6 +68,10 @@ impl<K: Eq + Hash, V, A: Allocator> Shard<K, V, A> {
     ///
     /// The slot is good for the calls that take one until the shard is changed by an insertion of a new key, `reserve`
     /// or `shrink`. A removal moves no other pair.
+    ///
+    /// ```text
+    /// let slot = shard.find(7, &"seven");   // the hash, and the key
+    /// ```
     #[inline(always)]
     pub fn find(&self, hash: u64, key: &K) -> Option<usize>
         ensures slot { result ≡ slot_of K.eq self.now.slots hash key.now }
@@ -82,6 +90,10 @@ impl<K: Eq + Hash, V, A: Allocator> Shard<K, V, A> {
     /// changed.
     ///
     /// Equal keys have to come with equal hashes, or the shard keeps both.
+    ///
+    /// ```text
+    /// if let Ok((slot, old)) = shard.insert(7, "seven", 1) { last = slot; }
+    /// ```
     #[inline(always)]
     pub fn insert(&mut self, hash: u64, key: K, value: V) -> Result<(usize, Option<V>), (K, V)>
     where
@@ -106,6 +118,11 @@ impl<K: Eq + Hash, V, A: Allocator> Shard<K, V, A> {
     /// Puts a pair in whose key isn't there, and answers its slot. There has to be room, so it can't be refused and
     /// asks for no memory. Where `find` and `reserve` went before, an insertion looks through the shard no more than it
     /// has to.
+    ///
+    /// ```text
+    /// shard.reserve(1)?;
+    /// if shard.find(7, &"seven").is_none() { shard.add(7, "seven", 1); }
+    /// ```
     #[inline(always)]
     pub fn add(&mut self, hash: u64, key: K, value: V) -> usize
     where
@@ -121,6 +138,10 @@ impl<K: Eq + Hash, V, A: Allocator> Shard<K, V, A> {
     }
 
     /// Takes the pair out of a slot and frees the slot; `None` where it is free. No other pair moves.
+    ///
+    /// ```text
+    /// if let Some(slot) = shard.find(7, &"seven") { let pair = shard.remove(slot); }
+    /// ```
     #[inline(always)]
     pub fn remove(&mut self, slot: usize) -> Option<(K, V)>
         ensures pair { result ≡ option_map pair_of (at self.old.slots slot) }
@@ -132,6 +153,10 @@ impl<K: Eq + Hash, V, A: Allocator> Shard<K, V, A> {
 
     /// Puts another key and value into a full slot and gives the old pair; `None` where the slot is free, and then what
     /// was handed in is let go. The new key has to be equal to the stored one.
+    ///
+    /// ```text
+    /// if let Some(slot) = shard.find(7, &"seven") { let old = shard.replace(slot, "seven", 2); }
+    /// ```
     pub fn replace(&mut self, slot: usize, key: K, value: V) -> Option<(K, V)>
     where
         K: Drop,
@@ -145,6 +170,10 @@ impl<K: Eq + Hash, V, A: Allocator> Shard<K, V, A> {
     }
 
     /// Lends the pair of a full slot.
+    ///
+    /// ```text
+    /// if let Some((key, count)) = shard.pair(0) { sum = sum.wrapping_add(*count); }
+    /// ```
     #[inline(always)]
     pub fn pair(&self, slot: usize) -> Option<(&K, &V)>
         ensures { option_map (λ p. (p.0.now, p.1.now)) result ≡ option_map pair_of (at self.now.slots slot) }
@@ -159,6 +188,10 @@ impl<K: Eq + Hash, V, A: Allocator> Shard<K, V, A> {
     ///
     /// [`lend`]: Shard::lend
     /// [`value_mut`]: Shard::value_mut
+    ///
+    /// ```text
+    /// if let Some((_, count)) = shard.pair_mut(0) { *count = 2; }
+    /// ```
     pub fn pair_mut(&mut self, slot: usize) -> Option<(&K, &mut V)>
         ensures { option_map (λ p. (p.0.now, p.1.now)) result ≡ option_map pair_of (at self.old.slots slot) }
     {
@@ -171,6 +204,10 @@ impl<K: Eq + Hash, V, A: Allocator> Shard<K, V, A> {
 
     /// `pair_mut` for a slot that is known to be full. It is for the layer above, which keeps the slot of a pair while
     /// it holds the shard: afterwards the slot has the value that was written, and nothing else has changed.
+    ///
+    /// ```text
+    /// if let Some(slot) = shard.find(7, &"seven") { *shard.lend(slot).1 = 2; }
+    /// ```
     #[inline(always)]
     pub fn lend(&mut self, slot: usize) -> (&K, &mut V)
         requires { IsSome (at self.old.slots slot) }
@@ -199,6 +236,10 @@ impl<K: Eq + Hash, V, A: Allocator> Shard<K, V, A> {
 
     /// Lends the value of a full slot for writing. Afterwards the slot has the value that was written, and nothing else
     /// has changed.
+    ///
+    /// ```text
+    /// if let Some(count) = shard.value_mut(0) { *count = 2; }
+    /// ```
     #[inline(always)]
     pub fn value_mut(&mut self, slot: usize) -> Option<&mut V>
         ensures* writes_back { sem 𝓛 (lends_slot_if K.row V.row A.row K.Hash A.Allocator self.entry slot result) }
@@ -208,6 +249,10 @@ impl<K: Eq + Hash, V, A: Allocator> Shard<K, V, A> {
     }
 
     /// The hash that is kept with the pair of a full slot.
+    ///
+    /// ```text
+    /// let hash = shard.hash_of(0);
+    /// ```
     #[inline(always)]
     pub fn hash_of(&self, slot: usize) -> Option<u64>
         ensures { result ≡ option_map (λ e. e.hash) (at self.now.slots slot) }
@@ -219,6 +264,10 @@ impl<K: Eq + Hash, V, A: Allocator> Shard<K, V, A> {
     ///
     /// A walk begins at 0 and goes on behind the slot that it was given: so it meets each pair once, also where it
     /// removes pairs as it goes.
+    ///
+    /// ```text
+    /// let first = shard.next_from(0);   // and behind it `next_from(first + 1)`
+    /// ```
     pub fn next_from(&self, slot: usize) -> Option<usize>
         ensures { MatchOption result ((i : ℕ) → slot ≤ i → at self.now.slots i ≡ None)
             (IsNextFull self.now.slots slot) }
@@ -227,6 +276,10 @@ impl<K: Eq + Hash, V, A: Allocator> Shard<K, V, A> {
     }
 
     /// How many slots there are, full and free.
+    ///
+    /// ```text
+    /// let slots = shard.slots();
+    /// ```
     #[inline(always)]
     pub fn slots(&self) -> usize
         ensures { result ≡ length self.now.slots }
@@ -238,6 +291,10 @@ impl<K: Eq + Hash, V, A: Allocator> Shard<K, V, A> {
     ///
     /// Where a walk removes nothing it may go from sixteen slots to the next sixteen, instead of asking for each by
     /// `next_from`.
+    ///
+    /// ```text
+    /// if !shard.full_from(0).is_none() { println!(rt; "a pair in the first sixteen slots")?; }
+    /// ```
     #[inline(always)]
     pub fn full_from(&self, slot: usize) -> Lanes
         requires { slot ≤ length self.now.slots }
@@ -249,6 +306,10 @@ impl<K: Eq + Hash, V, A: Allocator> Shard<K, V, A> {
     /// Makes room for so many more pairs than there are. As many insertions of new keys then take no memory and move no
     /// pair, unless the room is given up by `shrink` before. Where there is such room already nothing changes; else
     /// pairs may move, and there is room for at most four times the pairs that there are to be.
+    ///
+    /// ```text
+    /// shard.reserve(100)?;
+    /// ```
     pub fn reserve(&mut self, additional: usize) -> Result<(), NoMemory>
     where
         K: Drop,
@@ -268,6 +329,10 @@ impl<K: Eq + Hash, V, A: Allocator> Shard<K, V, A> {
     /// Gives up room that the pairs don't need: at most four times as much as there are pairs is left. Pairs may move.
     /// It asks for memory for the smaller shard first, but for none where there is no pair, nor where the pairs take up
     /// all the room.
+    ///
+    /// ```text
+    /// shard.shrink()?;
+    /// ```
     pub fn shrink(&mut self) -> Result<(), NoMemory>
     where
         K: Drop,
@@ -285,6 +350,10 @@ impl<K: Eq + Hash, V, A: Allocator> Shard<K, V, A> {
     }
 
     /// How many pairs there are.
+    ///
+    /// ```text
+    /// let pairs = shard.len();
+    /// ```
     #[inline(always)]
     pub fn len(&self) -> usize
         ensures count { result ≡ count self.now.slots }
@@ -294,6 +363,10 @@ impl<K: Eq + Hash, V, A: Allocator> Shard<K, V, A> {
     }
 
     /// Whether there are none.
+    ///
+    /// ```text
+    /// let none = shard.is_empty();
+    /// ```
     pub fn is_empty(&self) -> bool
         ensures { result ≡ (count self.now.slots == 0) }
     {
@@ -301,6 +374,10 @@ impl<K: Eq + Hash, V, A: Allocator> Shard<K, V, A> {
     }
 
     /// For how many pairs there is room.
+    ///
+    /// ```text
+    /// let room = shard.capacity();
+    /// ```
     pub fn capacity(&self) -> usize
         ensures room { result ≡ self.now.room }
         ensures fits { count self.now.slots ≤ result }
@@ -309,6 +386,10 @@ impl<K: Eq + Hash, V, A: Allocator> Shard<K, V, A> {
     }
 
     /// Gives the pairs one after another, in the order of their slots, which is open.
+    ///
+    /// ```text
+    /// for (key, count) in shard.into_pairs() { sum = sum.wrapping_add(count); }
+    /// ```
     pub fn into_pairs(self) -> ShardPairs<K, V, A>
         ensures { result ≡ pairs_of self.slots }
     {

@@ -64,6 +64,10 @@ impl<K: Eq + Hash, V, S: BuildHasher, A: Allocator> Shards<K, V, S, A> {
     ghost use Rattle.dashmap_table.specs.ShardsLending.{lends_at, lends_at_if};
 
     /// So many shards without pairs and without room. What was handed in is let go where they aren't made.
+    ///
+    /// ```text
+    /// let shards: Shards<u64, u64, SpreadState> = Shards::new(alloc, 4, SpreadState)?;
+    /// ```
     pub fn new(alloc: A, shards: usize, hasher: S) -> Result<Shards<K, V, S, A>, MapFault>
     where
         K: Drop,
@@ -84,6 +88,10 @@ impl<K: Eq + Hash, V, S: BuildHasher, A: Allocator> Shards<K, V, S, A> {
     }
 
     /// How many shards there are.
+    ///
+    /// ```text
+    /// let four = shards.count();
+    /// ```
     pub fn count(&self) -> usize
         ensures count { result ≡ length self.now.tables }
         ensures amount { IsShardAmount result }
@@ -92,6 +100,10 @@ impl<K: Eq + Hash, V, S: BuildHasher, A: Allocator> Shards<K, V, S, A> {
     }
 
     /// Lends the hasher.
+    ///
+    /// ```text
+    /// let hash = shards.hasher().hash_one(&7u64);
+    /// ```
     pub fn hasher(&self) -> &S
         ensures { result.now ≡ self.now.hasher }
     {
@@ -99,6 +111,10 @@ impl<K: Eq + Hash, V, S: BuildHasher, A: Allocator> Shards<K, V, S, A> {
     }
 
     /// The hasher's hash of a key.
+    ///
+    /// ```text
+    /// let shard = route(shards.hash(&7), shards.count());
+    /// ```
     pub fn hash(&self, key: &K) -> u64
         ensures { result ≡ key_hash S.BuildHasher S.Hasher.Hasher K.hash_input self.now.hasher key.now }
     {
@@ -107,6 +123,10 @@ impl<K: Eq + Hash, V, S: BuildHasher, A: Allocator> Shards<K, V, S, A> {
 
     /// Lends a shard. Each pair is in the shard of its key's route, under its key's hash, so no two shards have equal
     /// keys.
+    ///
+    /// ```text
+    /// let pairs = shards.shard(0).len();
+    /// ```
     pub fn shard(&self, shard: usize) -> &Shard<K, V, A>
         requires { shard < length self.now.tables }
         ensures shard { result.now ≡ table_at self.now.tables shard }
@@ -125,6 +145,10 @@ impl<K: Eq + Hash, V, S: BuildHasher, A: Allocator> Shards<K, V, S, A> {
     }
 
     /// The shard and the slot of a key.
+    ///
+    /// ```text
+    /// if let Some((shard, slot)) = shards.find(&7) { println!(rt; "{:?}", shards.shard(shard).pair(slot))?; }
+    /// ```
     pub fn find(&self, key: &K) -> Option<(usize, usize)>
         ensures place { result ≡ place_of S.BuildHasher S.Hasher.Hasher K.hash_input K.eq self.now key.now }
     {
@@ -138,6 +162,10 @@ impl<K: Eq + Hash, V, S: BuildHasher, A: Allocator> Shards<K, V, S, A> {
 
     /// Makes room for one more pair in a shard: the next insertion of a key of that shard isn't refused. Where there is
     /// such room already nothing changes.
+    ///
+    /// ```text
+    /// shards.reserve(route(shards.hash(&7), shards.count()))?;
+    /// ```
     pub fn reserve(&mut self, shard: usize) -> Result<(), NoMemory>
     where
         K: Drop,
@@ -161,6 +189,10 @@ impl<K: Eq + Hash, V, S: BuildHasher, A: Allocator> Shards<K, V, S, A> {
     /// Puts a pair in and answers the value that its key had. A present key keeps the stored key, gets the value and is
     /// never refused; a new key is refused only where its shard has no room and can't grow, and then the pair comes
     /// back.
+    ///
+    /// ```text
+    /// let old = shards.insert(7, 70).map_err(|_| Wrong)?;
+    /// ```
     pub fn insert(&mut self, key: K, value: V) -> Result<Option<V>, (K, V)>
     where
         K: Drop,
@@ -191,6 +223,10 @@ impl<K: Eq + Hash, V, S: BuildHasher, A: Allocator> Shards<K, V, S, A> {
     }
 
     /// Takes the pair of a key out.
+    ///
+    /// ```text
+    /// let pair = shards.remove(&7);
+    /// ```
     pub fn remove(&mut self, key: &K) -> Option<(K, V)>
         ensures pair { result ≡ pair_at S.BuildHasher S.Hasher.Hasher K.hash_input K.eq self.old key.now }
         ensures after { (q : K) → pair_at S.BuildHasher S.Hasher.Hasher K.hash_input K.eq self.new q
@@ -220,6 +256,12 @@ impl<K: Eq + Hash, V, S: BuildHasher, A: Allocator> Shards<K, V, S, A> {
     /// Lends the value of a full slot of a shard for writing; `None` where the slot is free or there is no such shard.
     /// Afterwards the slot has the value that was written, and nothing else has changed: the pair's key finds the
     /// value, and every other key finds what it found.
+    ///
+    /// ```text
+    /// if let Some((shard, slot)) = shards.find(&7) {
+    ///     if let Some(count) = shards.value_mut(shard, slot) { *count = 71; }
+    /// }
+    /// ```
     pub fn value_mut(&mut self, shard: usize, slot: usize) -> Option<&mut V>
         ensures* writes_back { sem 𝓛 (lends_at_if K.row V.row S.row A.row S.Hasher.row K.Hash S.BuildHasher S.Hasher.Hasher A.Allocator
             self.entry shard slot result) }

@@ -51,6 +51,10 @@ impl BuildHasher for SpreadState {
 
 /// The hash of a `u64` key under `SpreadState`. It is for the layer above, which has to say which keys share a shard:
 /// keys 0, 1 and 2 hash to 0, 2^56 and 2^57, and key 256 hashes to 0 again.
+///
+/// ```text
+/// let hash = spread_hash(7);
+/// ```
 pub fn spread_hash(key: u64) -> u64
     ensures { result ≡ (key % 256) * 2 ^ 56 }
 {

@@ -11,7 +11,11 @@ pub use dashmap::mapref::one::{
     MappedRef as PartRef, MappedRefMut as PartRefMut, Ref as PairRef, RefMut as PairRefMut,
 };
 use dashmap::prelude::*;
-pub use dashmap::prelude::{Entry as Place, OccupiedEntry as Taken, VacantEntry as Free};
+pub use dashmap::prelude::{
+    CloneMap, CloneView, Entry as Place, ExtendShards, Map, OccupiedEntry as Taken, ParallelMap,
+    ParallelView, Plain, Projection, ThreadData, TotalProjection, UntilFault, VacantEntry as Free,
+    gather,
+};
 pub use dashmap::rayon::map::{
     Iter as ParIter, IterMut as ParIterMut, OwningIter as OwningParIter, SharedIter, SharedIterMut,
 };

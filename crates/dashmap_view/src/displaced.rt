@@ -23,6 +23,10 @@ impl<M> Model for Displaced<M> {
 
 impl<M> Displaced<M> {
     /// The refusal of `map`.
+    ///
+    /// ```text
+    /// Err(Displaced::new((shards, hasher)))
+    /// ```
     pub fn new(map: M) -> Displaced<M>
         ensures { result ≡ map }
     {
@@ -30,6 +34,10 @@ impl<M> Displaced<M> {
     }
 
     /// The number of the refusal.
+    ///
+    /// ```text
+    /// if let Err(displaced) = PlainView::of(plain, hasher) { println!(rt; "{}", displaced.code())?; }   // 33
+    /// ```
     pub fn code(&self) -> u16
         ensures { result ≡ displaced_code }
     {
@@ -37,6 +45,13 @@ impl<M> Displaced<M> {
     }
 
     /// What was handed in.
+    ///
+    /// ```text
+    /// let (plain, hasher) = match PlainView::of(plain, hasher) {
+    ///     Ok(view) => view.into_parts(),
+    ///     Err(displaced) => displaced.into_map(),   // what was handed in
+    /// };
+    /// ```
     pub fn into_map(self) -> M
         ensures { result ≡ self }
     {

@@ -33,6 +33,10 @@ impl<K: Eq + Hash, V, A: Allocator> Model for OwningIter<K, V, A> {
 
 impl<K: Eq + Hash, V, A: Allocator> OwningIter<K, V, A> {
     /// The pairs of these shards.
+    ///
+    /// ```text
+    /// let pairs = OwningIter::new(shards);
+    /// ```
     pub fn new(shards: Vec<Shard<K, V, A>, A>) -> OwningIter<K, V, A>
         ensures { result ≡ all_pairs shards.items }
     {

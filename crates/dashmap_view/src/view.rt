@@ -52,6 +52,10 @@ impl<K: Eq + Hash, V, S: BuildHasher, A: Allocator> PlainView<K, V, S, A> {
     ///
     /// It tests each pair once. Where one lies in a shard that isn't its key's, or under another hash than its key's,
     /// there is no view, and the shards come back.
+    ///
+    /// ```text
+    /// let view = PlainView::of(plain, hasher).map_err(|_| Wrong)?;   // with a wrong pair all comes back
+    /// ```
     pub fn of(
         shards: Vec<Shard<K, V, A>, A>,
         hasher: S,
@@ -69,6 +73,11 @@ impl<K: Eq + Hash, V, S: BuildHasher, A: Allocator> PlainView<K, V, S, A> {
     }
 
     /// A view of shards and a hasher that are known to belong together, as those of another view do. It tests nothing.
+    ///
+    /// ```text
+    /// let (plain, hasher) = view.into_parts();
+    /// let view = PlainView::from_parts(plain, hasher);
+    /// ```
     pub fn from_parts(plain: Vec<Shard<K, V, A>, A>, hasher: S) -> PlainView<K, V, S, A>
         requires { AreSharded S.BuildHasher S.Hasher.Hasher K.hash_input K.eq
             (record { tables = plain.items; hasher = hasher }) }
@@ -82,6 +91,10 @@ impl<K: Eq + Hash, V, S: BuildHasher, A: Allocator> PlainView<K, V, S, A> {
 
     /// A view of clones of all pairs, with as many shards. Keys, values and the hasher have to be equal to their
     /// clones.
+    ///
+    /// ```text
+    /// let copy = view.clone()?;
+    /// ```
     pub fn clone(&self) -> Result<PlainView<K, V, S, A>, NoMemory>
     where
         K: Clone + Drop,
@@ -103,6 +116,10 @@ impl<K: Eq + Hash, V, S: BuildHasher, A: Allocator> PlainView<K, V, S, A> {
     }
 
     /// The shards and the hasher.
+    ///
+    /// ```text
+    /// let (plain, hasher) = view.into_parts();
+    /// ```
     pub fn into_parts(self) -> (Vec<Shard<K, V, A>, A>, S)
         ensures shards { result.0.items ≡ self.tables }
         ensures hasher { result.1 ≡ self.hasher }
@@ -113,6 +130,10 @@ impl<K: Eq + Hash, V, S: BuildHasher, A: Allocator> PlainView<K, V, S, A> {
     }
 
     /// Lends the shards.
+    ///
+    /// ```text
+    /// let pairs = view.shards()[0].len();
+    /// ```
     pub fn shards(&self) -> &[Shard<K, V, A>]
         ensures shards { result.now ≡ self.now.tables }
         ensures sharded { AreSharded S.BuildHasher S.Hasher.Hasher K.hash_input K.eq self.now }
@@ -121,6 +142,10 @@ impl<K: Eq + Hash, V, S: BuildHasher, A: Allocator> PlainView<K, V, S, A> {
     }
 
     /// Lends the hasher.
+    ///
+    /// ```text
+    /// let hash = view.hasher().hash_one(&7u64);
+    /// ```
     pub fn hasher(&self) -> &S
         ensures { result.now ≡ self.now.hasher }
     {
@@ -128,6 +153,10 @@ impl<K: Eq + Hash, V, S: BuildHasher, A: Allocator> PlainView<K, V, S, A> {
     }
 
     /// How many pairs there are. It stops at `usize::MAX`.
+    ///
+    /// ```text
+    /// let pairs = view.len();
+    /// ```
     pub fn len(&self) -> usize
         ensures { result ≡ at_most_max (pair_count self.now.tables) }
     {
@@ -135,6 +164,10 @@ impl<K: Eq + Hash, V, S: BuildHasher, A: Allocator> PlainView<K, V, S, A> {
     }
 
     /// Whether there are none.
+    ///
+    /// ```text
+    /// if view.is_empty() { return Ok(()); }
+    /// ```
     pub fn is_empty(&self) -> bool
         ensures { IsTrue result ↔ (pair_count self.now.tables ≡ 0) }
     {
@@ -142,6 +175,10 @@ impl<K: Eq + Hash, V, S: BuildHasher, A: Allocator> PlainView<K, V, S, A> {
     }
 
     /// For how many pairs there is room. It stops at `usize::MAX`.
+    ///
+    /// ```text
+    /// let spare = view.capacity().wrapping_sub(view.len());
+    /// ```
     pub fn capacity(&self) -> usize
         ensures { result ≡ at_most_max (room_in self.now.tables) }
     {
@@ -149,6 +186,10 @@ impl<K: Eq + Hash, V, S: BuildHasher, A: Allocator> PlainView<K, V, S, A> {
     }
 
     /// Lends the stored pair of a key.
+    ///
+    /// ```text
+    /// if let Some((key, count)) = view.get_key_value(&7) { println!(rt; "{key} {count}")?; }   // the stored key
+    /// ```
     pub fn get_key_value(&self, key: &K) -> Option<(&K, &V)>
         ensures { option_map (λ p. (p.0.now, p.1.now)) result ≡ pair_at S.BuildHasher S.Hasher.Hasher K.hash_input K.eq
             self.now key.now }
@@ -159,6 +200,10 @@ impl<K: Eq + Hash, V, S: BuildHasher, A: Allocator> PlainView<K, V, S, A> {
     }
 
     /// Lends the value of a key.
+    ///
+    /// ```text
+    /// let seven = view.get(&7).copied();
+    /// ```
     pub fn get(&self, key: &K) -> Option<&V>
         ensures { option_copied result ≡ option_map (λ p. p.1)
             (pair_at S.BuildHasher S.Hasher.Hasher K.hash_input K.eq self.now key.now) }
@@ -168,6 +213,10 @@ impl<K: Eq + Hash, V, S: BuildHasher, A: Allocator> PlainView<K, V, S, A> {
     }
 
     /// Whether a key is there.
+    ///
+    /// ```text
+    /// let known = view.contains_key(&7);
+    /// ```
     pub fn contains_key(&self, key: &K) -> bool
         ensures { result ≡ is_some (pair_at S.BuildHasher S.Hasher.Hasher K.hash_input K.eq self.now key.now) }
     {
@@ -175,6 +224,10 @@ impl<K: Eq + Hash, V, S: BuildHasher, A: Allocator> PlainView<K, V, S, A> {
     }
 
     /// All pairs, lent, shards and their slots in order.
+    ///
+    /// ```text
+    /// for (key, count) in view.iter() { sum = sum.wrapping_add(*key).wrapping_add(*count); }
+    /// ```
     pub fn iter(&self) -> ViewIter<'_, K, V, A>
         ensures { result ≡ all_pairs self.now.tables }
     {
@@ -182,6 +235,10 @@ impl<K: Eq + Hash, V, S: BuildHasher, A: Allocator> PlainView<K, V, S, A> {
     }
 
     /// All keys, in the order of `iter`.
+    ///
+    /// ```text
+    /// for key in view.keys() { sum = sum.wrapping_add(*key); }
+    /// ```
     pub fn keys(&self) -> ViewKeys<'_, K, V, A>
         ensures { result ≡ map (λ p. p.0) (all_pairs self.now.tables) }
     {
@@ -189,6 +246,10 @@ impl<K: Eq + Hash, V, S: BuildHasher, A: Allocator> PlainView<K, V, S, A> {
     }
 
     /// All values, in the order of `iter`.
+    ///
+    /// ```text
+    /// for count in view.values() { sum = sum.wrapping_add(*count); }
+    /// ```
     pub fn values(&self) -> ViewValues<'_, K, V, A>
         ensures { result ≡ map (λ p. p.1) (all_pairs self.now.tables) }
     {

@@ -18,6 +18,10 @@ pub enum ReentrantArcFault {
 
 impl ReentrantArcFault {
     /// The number of the refusal.
+    ///
+    /// ```text
+    /// let number = lock_api::ReentrantArcFault::ReadersFull.code();   // 6
+    /// ```
     pub fn code(&self) -> u16
         ensures { result ≡ arc_fault_code self.now }
     {

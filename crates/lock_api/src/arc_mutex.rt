@@ -21,7 +21,13 @@ impl<R: RawMutex + Drop, T: Drop> Mutex<R, T>
 where
     R::Runtime: Wait,
 {
-    /// Clones the Arc, and then locks. A refused clone takes no lock.
+    /// Clones the Arc, and then locks. A refused clone takes no lock. Blocks as `lock`. `NoMemory` where the clone is
+    /// refused.
+    ///
+    /// ```text
+    /// let mut sale = Mutex::lock_arc(&seat, &mut me)?;
+    /// sale.with_mut(|sold| *sold = sold.wrapping_add(1));
+    /// ```
     pub fn lock_arc<A: Allocator>(
         this: &Arc<Mutex<R, T>, A>,
         party: &mut R::Party,
@@ -33,7 +39,11 @@ where
         Ok(ArcGuard::over(RawHold::wait_by_clone(this, party)?))
     }
 
-    /// Clones the Arc, and then tries. A refused clone takes no lock.
+    /// Clones the Arc, and then tries. A refused clone takes no lock. `Ok(None)` where the mutex is locked.
+    ///
+    /// ```text
+    /// if let Some(sale) = Mutex::try_lock_arc(&seat)? { println!(rt; "{} sold", sale.with(|sold| *sold))?; }
+    /// ```
     pub fn try_lock_arc<A: Allocator>(
         this: &Arc<Mutex<R, T>, A>,
     ) -> Result<Option<ArcMutexGuard<R, T, A>>, NoMemory>
@@ -45,6 +55,10 @@ where
     }
 
     /// Clones the Arc, and then waits as `try_lock_for` does. A refused clone takes no lock.
+    ///
+    /// ```text
+    /// let sale = Mutex::try_lock_arc_for(&seat, Duration::from_millis(5), &rt, &mut me)?;
+    /// ```
     pub fn try_lock_arc_for<A: Allocator, C: Clock>(
         this: &Arc<Mutex<R, T>, A>,
         timeout: R::Duration,
@@ -63,6 +77,10 @@ where
     }
 
     /// Clones the Arc, and then waits as `try_lock_until` does. A refused clone takes no lock.
+    ///
+    /// ```text
+    /// let sale = Mutex::try_lock_arc_until(&seat, deadline, &rt, &mut me)?;
+    /// ```
     pub fn try_lock_arc_until<A: Allocator, C: Clock>(
         this: &Arc<Mutex<R, T>, A>,
         deadline: R::Instant,

@@ -54,6 +54,15 @@ where
     R::Runtime: Wait,
 {
     /// Clones the Arc, and then locks. A refused clone takes no lock, and a full count changes nothing.
+    ///
+    /// Blocks while another party has it. `ReentrantArcFault::NoMemory` where the clone is refused, and `ReadersFull`
+    /// at a full count.
+    ///
+    /// ```text
+    /// let hold = ReentrantMutex::lock_arc(&canvas, &mut me)?;
+    /// let again = ReentrantMutex::lock_arc(&canvas, &mut me)?;   // the same owner
+    /// hold.with(|lines| lines.fetch_add(1, Ordering::SeqCst));
+    /// ```
     pub fn lock_arc<A: Allocator>(
         this: &Arc<ReentrantMutex<R, G, T>, A>,
         party: &mut R::Party,
@@ -69,7 +78,12 @@ where
         })
     }
 
-    /// Clones the Arc, and then tries. A refused clone takes no lock, and a full count changes nothing.
+    /// Clones the Arc, and then tries. A refused clone takes no lock, and a full count changes nothing. `Ok(None)`
+    /// where another party holds the mutex.
+    ///
+    /// ```text
+    /// let hold = ReentrantMutex::try_lock_arc(&canvas, &me)?;
+    /// ```
     pub fn try_lock_arc<A: Allocator>(
         this: &Arc<ReentrantMutex<R, G, T>, A>,
         party: &R::Party,
@@ -87,6 +101,10 @@ where
     }
 
     /// Clones the Arc, and then waits as `try_lock_for` does.
+    ///
+    /// ```text
+    /// let hold = ReentrantMutex::try_lock_arc_for(&canvas, Duration::from_millis(5), &rt, &mut me)?;
+    /// ```
     pub fn try_lock_arc_for<A: Allocator, C: Clock>(
         this: &Arc<ReentrantMutex<R, G, T>, A>,
         timeout: R::Duration,
@@ -110,6 +128,10 @@ where
     }
 
     /// Clones the Arc, and then waits as `try_lock_until` does.
+    ///
+    /// ```text
+    /// let hold = ReentrantMutex::try_lock_arc_until(&canvas, deadline, &rt, &mut me)?;
+    /// ```
     pub fn try_lock_arc_until<A: Allocator, C: Clock>(
         this: &Arc<ReentrantMutex<R, G, T>, A>,
         deadline: R::Instant,

@@ -170,6 +170,10 @@ where
     }
 
     /// The same as `new`.
+    ///
+    /// ```text
+    /// let changed: Condvar<'_, '_, HostRuntime> = Condvar::default(&table)?;
+    /// ```
     pub fn default<S>(source: S) -> Result<Condvar<C>, TableFull>
     where
         C: MakeCondvar<S>,
@@ -261,6 +265,10 @@ where
     <C::RawMutex as RawMutex>::Runtime: Wait,
 {
     /// As `wait`, until the moment at the latest, and tells whether the time ran out.
+    ///
+    /// ```text
+    /// let ran_out = changed.wait_until(&mut queue, deadline, &rt, &mut me)?.timed_out();
+    /// ```
     pub fn wait_until<'l, T, K: Clock>(
         &self,
         guard: &mut MutexGuard<'l, C::RawMutex, T>,
@@ -300,6 +308,11 @@ where
 
     /// As `wait_while`, until the moment at the latest. It timed out exactly if the condition's last answer, asked
     /// after the time ran out, was true.
+    ///
+    /// ```text
+    /// let late = changed.wait_while_until(&mut queue, deadline, &rt, &mut me, |queue| queue.is_empty())?;
+    /// if !late.timed_out() { let task = queue.pop_front(); }
+    /// ```
     pub fn wait_while_until<'l, T, K: Clock, F: FnMut(&mut T) -> bool>(
         &self,
         guard: &mut MutexGuard<'l, C::RawMutex, T>,
@@ -331,6 +344,11 @@ where
     }
 
     /// As `wait_while_until`, with the moment that lies `timeout` ahead. Where that can't be said there is no limit.
+    ///
+    /// ```text
+    /// let soon = Duration::from_secs(1);
+    /// let late = changed.wait_while_for(&mut queue, soon, &rt, &mut me, |queue| queue.is_empty())?.timed_out();
+    /// ```
     pub fn wait_while_for<'l, T, K: Clock, F: FnMut(&mut T) -> bool>(
         &self,
         guard: &mut MutexGuard<'l, C::RawMutex, T>,

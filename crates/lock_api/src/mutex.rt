@@ -63,6 +63,10 @@ impl<R: RawMutex, T> Mutex<R, T> {
     }
 
     /// As `new`, with the value's default.
+    ///
+    /// ```text
+    /// let total: Mutex<'_, '_, u64, HostRuntime> = Mutex::default(&table)?;   // of 0
+    /// ```
     pub fn default<S>(source: S) -> Result<Mutex<R, T>, TableFull>
     where
         R: MakeLock<S>,
@@ -73,6 +77,11 @@ impl<R: RawMutex, T> Mutex<R, T> {
     }
 
     /// Puts a value behind a raw mutex that exists and isn't held.
+    ///
+    /// ```text
+    /// let raw: RawMutex<'_, '_, HostRuntime> = RawMutex::new(&table, 1)?;
+    /// let total = Mutex::from_raw(raw, 0_u64);
+    /// ```
     pub fn from_raw(raw: R, value: T) -> Mutex<R, T>
         ensures { result ≡ raw }
     {
@@ -83,6 +92,10 @@ impl<R: RawMutex, T> Mutex<R, T> {
     }
 
     /// The value. That the mutex is owned shows that nobody holds it. Its row stays used.
+    ///
+    /// ```text
+    /// let sum = total.into_inner();
+    /// ```
     pub fn into_inner(self) -> T
     where
         R: Drop,
@@ -92,6 +105,10 @@ impl<R: RawMutex, T> Mutex<R, T> {
     }
 
     /// The raw mutex and the value.
+    ///
+    /// ```text
+    /// let (raw, sum) = total.into_inner_with_raw();
+    /// ```
     pub fn into_inner_with_raw(self) -> (R, T)
         ensures { result.0 ≡ self }
     {
@@ -109,6 +126,10 @@ impl<R: RawMutex, T> Mutex<R, T> {
     }
 
     /// Whether a hold was out at the moment of one look at the raw mutex.
+    ///
+    /// ```text
+    /// let used = total.is_locked();
+    /// ```
     pub fn is_locked(&self) -> bool
         ensures { R.looked self.now result }
     {

@@ -33,6 +33,12 @@ impl<R: RawMutex> Fits for Kept<R> {
 /// holds end in whatever order they like, and the last of them releases the raw mutex. Nothing here takes memory.
 ///
 /// Its drop gives a raw token back that is still here, so the type itself asks for a runtime that may wait.
+///
+/// ```text
+/// let outer = canvas.lock(&mut me)?;
+/// if let Ok(inner) = canvas.lock(&mut me) { canvas.unlock(inner); }   // the same owner
+/// canvas.unlock(outer);                                               // the raw mutex is free
+/// ```
 pub struct RawReentrantMutex<R: RawMutex + Drop, G: GetThreadId<Party = R::Party> + Drop>
 where
     R::Runtime: Wait,
@@ -80,6 +86,11 @@ where
     R::Runtime: Wait,
 {
     /// Makes an unlocked one. It keeps `readers` as its limit of nested holds, where 0 counts as 1.
+    ///
+    /// ```text
+    /// let raw: lock_api::RawReentrantMutex<RawMutex<'_, '_, HostRuntime>, RawThreadId> =
+    ///     lock_api::RawReentrantMutex::new(&table, 8)?;
+    /// ```
     pub fn new<S>(source: S, readers: u64) -> Result<RawReentrantMutex<R, G>, TableFull>
     where
         R: MakeLock<S>,
@@ -151,6 +162,10 @@ where
     }
 
     /// Whether the party holds it. Nobody else changes that answer.
+    ///
+    /// ```text
+    /// let mine = canvas.is_owned_by_current_thread(&me);
+    /// ```
     pub fn is_owned_by_current_thread(&self, party: &R::Party) -> bool
         ensures { result ≡ true → IsOwner party.now }
     {
@@ -158,6 +173,10 @@ where
     }
 
     /// Whether a hold was out at the moment of one look at the raw mutex.
+    ///
+    /// ```text
+    /// let used = canvas.is_locked();
+    /// ```
     pub fn is_locked(&self) -> bool
         ensures { R.looked self.now.raw result }
     {
@@ -254,6 +273,13 @@ where
 
     /// Adds one to the count if the party is the owner, and else waits for the raw mutex. Where the count is full it
     /// refuses, with nothing changed.
+    ///
+    /// Blocks while another party has it.
+    ///
+    /// ```text
+    /// let token = canvas.lock(&mut me)?;
+    /// canvas.unlock(token);
+    /// ```
     #[inline(always)]
     pub fn lock(&self, party: &mut R::Party) -> Result<GuardNoSend, ReadersFull>
         ensures lock { IfOk result (λ token. token ≡ self.now.number) }
@@ -268,6 +294,10 @@ where
     }
 
     /// As `lock`, but `Ok(None)` where another party holds it.
+    ///
+    /// ```text
+    /// if let Some(token) = canvas.try_lock(&me)? { canvas.unlock(token); }
+    /// ```
     pub fn try_lock(&self, party: &R::Party) -> Result<Option<GuardNoSend>, ReadersFull>
         ensures lock { IfOk result (λ some. IfSome some (λ token. token ≡ self.now.number)) }
         ensures call { IfOk result (EnteredIf party.now (R.tried self.now.raw)) }
@@ -282,6 +312,11 @@ where
     }
 
     /// Takes one from the count, and releases the raw mutex with the last.
+    ///
+    /// ```text
+    /// let token = canvas.lock(&mut me)?;
+    /// canvas.unlock(token);
+    /// ```
     #[inline(always)]
     pub fn unlock(&self, guard: GuardNoSend)
         requires { guard ≡ self.now.number }
@@ -294,6 +329,11 @@ where
     }
 
     /// As `unlock`, but the last release is fair.
+    ///
+    /// ```text
+    /// let token = canvas.lock(&mut me)?;
+    /// canvas.unlock_fair(token);   // with the last hold, whoever waits longest has the mutex
+    /// ```
     pub fn unlock_fair(&self, guard: GuardNoSend)
     where
         R: RawMutexFair,
@@ -307,6 +347,12 @@ where
     }
 
     /// If the count is 1 and somebody waits, a fair release and then a blocking acquisition, and else nothing.
+    ///
+    /// ```text
+    /// let token = canvas.lock(&mut me)?;
+    /// let token = canvas.bump(token, &mut me);
+    /// canvas.unlock(token);
+    /// ```
     pub fn bump(&self, guard: GuardNoSend, party: &mut R::Party) -> GuardNoSend
     where
         R: RawMutexFair,
@@ -325,6 +371,11 @@ where
     }
 
     /// As `lock`, but `Ok(None)` if the wait for the raw mutex is given up after the length of time.
+    ///
+    /// ```text
+    /// let soon = Duration::from_millis(5);
+    /// if let Some(token) = canvas.try_lock_for(soon, &rt, &mut me)? { canvas.unlock(token); }
+    /// ```
     pub fn try_lock_for<C: Clock>(
         &self,
         timeout: R::Duration,
@@ -348,6 +399,10 @@ where
     }
 
     /// As `lock`, but `Ok(None)` if the wait for the raw mutex is given up at the moment.
+    ///
+    /// ```text
+    /// if let Some(token) = canvas.try_lock_until(deadline, &rt, &mut me)? { canvas.unlock(token); }
+    /// ```
     pub fn try_lock_until<C: Clock>(
         &self,
         deadline: R::Instant,

@@ -19,6 +19,13 @@ use std::{fmt, sync, thread};
 /// A mutex that its owner may take again, and a value that its guards read.
 ///
 /// The value lies in a std lock that each guard shares. Only the Arc forms may be refused for memory.
+///
+/// ```text
+/// let outer = canvas.lock(&mut me)?;
+/// outer.fetch_add(1, Ordering::SeqCst);   // its guards read, so what changes is an atomic
+/// let inner = canvas.lock(&mut me)?;      // the same owner
+/// drop(outer);                            // in whatever order
+/// ```
 #[derive(Drop)]
 pub struct ReentrantMutex<R: RawMutex + Drop, G: GetThreadId<Party = R::Party> + Drop, T>
 where
@@ -103,6 +110,10 @@ where
     }
 
     /// As `new`, with the value's default.
+    ///
+    /// ```text
+    /// let lines: ReentrantMutex<'_, '_, u64, HostRuntime> = ReentrantMutex::default(&table, 8)?;
+    /// ```
     pub fn default<S>(source: S, readers: u64) -> Result<ReentrantMutex<R, G, T>, TableFull>
     where
         R: MakeLock<S>,
@@ -113,6 +124,11 @@ where
     }
 
     /// Puts a value behind a raw mutex that exists and isn't held.
+    ///
+    /// ```text
+    /// let raw: RawMutex<'_, '_, HostRuntime> = RawMutex::new(&table, 1)?;
+    /// let canvas = ReentrantMutex::from_raw(raw, 8, RawThreadId::new(), AtomicU64::new(0));
+    /// ```
     pub fn from_raw(raw: R, readers: u64, get_thread_id: G, value: T) -> ReentrantMutex<R, G, T>
         ensures limit { result.limit ≡ kept_limit (2 ^ 64 - 1) readers }
         ensures raw { result.raw ≡ raw }
@@ -125,6 +141,10 @@ where
     }
 
     /// The value.
+    ///
+    /// ```text
+    /// let lines = canvas.into_inner().into_inner();   // the mutex's, and the atomic's
+    /// ```
     pub fn into_inner(self) -> T {
         let ReentrantMutex { raw, value } = self;
         drop(raw);
@@ -132,6 +152,10 @@ where
     }
 
     /// The raw mutex, what tells the parties apart, and the value.
+    ///
+    /// ```text
+    /// let (raw, get_thread_id, lines) = canvas.into_inner_with_raw();
+    /// ```
     pub fn into_inner_with_raw(self) -> (R, G, T)
         ensures raw { result.0 ≡ self.raw }
         ensures helper { result.1 ≡ self.get_thread_id }
@@ -142,11 +166,19 @@ where
     }
 
     /// Lends the value. The exclusive borrow shows that nobody holds the mutex.
+    ///
+    /// ```text
+    /// canvas.get_mut().store(0, Ordering::SeqCst);
+    /// ```
     pub fn get_mut(&mut self) -> &mut T {
         self.value.get_mut()
     }
 
     /// Whether a hold was out at the moment of one look at the raw mutex.
+    ///
+    /// ```text
+    /// let used = canvas.is_locked();
+    /// ```
     pub fn is_locked(&self) -> bool
         ensures { R.looked self.now.raw result }
     {
@@ -234,6 +266,10 @@ where
     }
 
     /// As `lock`, but `Ok(None)` if the wait for the raw mutex is given up after the length of time.
+    ///
+    /// ```text
+    /// let hold = canvas.try_lock_for(Duration::from_millis(5), &rt, &mut me)?;
+    /// ```
     pub fn try_lock_for<C: Clock>(
         &self,
         timeout: R::Duration,
@@ -254,6 +290,10 @@ where
     }
 
     /// As `lock`, but `Ok(None)` if the wait for the raw mutex is given up at the moment.
+    ///
+    /// ```text
+    /// let hold = canvas.try_lock_until(deadline, &rt, &mut me)?;
+    /// ```
     pub fn try_lock_until<C: Clock>(
         &self,
         deadline: R::Instant,

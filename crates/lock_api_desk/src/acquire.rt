@@ -15,6 +15,10 @@ use std::alloc::Allocator;
 
 impl<R: RawState, T, A: Allocator> Desk<R, T, A> {
     /// Gives the party an exclusive guard, as of a mutex. `WouldWait` beside any held guard.
+    ///
+    /// ```text
+    /// desk.lock(1, 10)?;   // party 1 holds guard 10
+    /// ```
     pub fn lock(&mut self, party: u64, guard: u64) -> Result<(), DeskFault>
         ensures acquires { Acquires WouldWait Exclusive party guard self.old self.new result }
         ensures room { KeepsRoom self.old self.new }
@@ -23,6 +27,11 @@ impl<R: RawState, T, A: Allocator> Desk<R, T, A> {
     }
 
     /// As `lock`, but `Taken`.
+    ///
+    /// ```text
+    /// desk.lock(1, 10)?;
+    /// let taken = desk.try_lock(2, 11);   // Err(Taken)
+    /// ```
     pub fn try_lock(&mut self, party: u64, guard: u64) -> Result<(), DeskFault>
         ensures acquires { Acquires Taken Exclusive party guard self.old self.new result }
         ensures room { KeepsRoom self.old self.new }
@@ -31,6 +40,11 @@ impl<R: RawState, T, A: Allocator> Desk<R, T, A> {
     }
 
     /// Gives the party a shared guard. `WouldWait` beside an exclusive one.
+    ///
+    /// ```text
+    /// desk.read(1, 10)?;
+    /// desk.read(2, 11)?;   // beside it
+    /// ```
     pub fn read(&mut self, party: u64, guard: u64) -> Result<(), DeskFault>
         ensures acquires { Acquires WouldWait Shared party guard self.old self.new result }
         ensures room { KeepsRoom self.old self.new }
@@ -39,6 +53,11 @@ impl<R: RawState, T, A: Allocator> Desk<R, T, A> {
     }
 
     /// As `read`, but `Taken`.
+    ///
+    /// ```text
+    /// desk.write(1, 10)?;
+    /// let taken = desk.try_read(2, 11);   // Err(Taken)
+    /// ```
     pub fn try_read(&mut self, party: u64, guard: u64) -> Result<(), DeskFault>
         ensures acquires { Acquires Taken Shared party guard self.old self.new result }
         ensures room { KeepsRoom self.old self.new }
@@ -47,6 +66,11 @@ impl<R: RawState, T, A: Allocator> Desk<R, T, A> {
     }
 
     /// Gives the party an exclusive guard. `WouldWait` beside any held guard.
+    ///
+    /// ```text
+    /// desk.write(1, 10)?;
+    /// let waits = desk.write(2, 11);   // Err(WouldWait)
+    /// ```
     pub fn write(&mut self, party: u64, guard: u64) -> Result<(), DeskFault>
         ensures acquires { Acquires WouldWait Exclusive party guard self.old self.new result }
         ensures room { KeepsRoom self.old self.new }
@@ -55,6 +79,11 @@ impl<R: RawState, T, A: Allocator> Desk<R, T, A> {
     }
 
     /// As `write`, but `Taken`.
+    ///
+    /// ```text
+    /// desk.read(1, 10)?;
+    /// let taken = desk.try_write(2, 11);   // Err(Taken)
+    /// ```
     pub fn try_write(&mut self, party: u64, guard: u64) -> Result<(), DeskFault>
         ensures acquires { Acquires Taken Exclusive party guard self.old self.new result }
         ensures room { KeepsRoom self.old self.new }
@@ -63,6 +92,12 @@ impl<R: RawState, T, A: Allocator> Desk<R, T, A> {
     }
 
     /// Gives the party an upgradable guard. `WouldWait` beside an exclusive or an upgradable one.
+    ///
+    /// ```text
+    /// desk.upgradable_read(1, 10)?;
+    /// desk.read(2, 11)?;                         // beside it
+    /// let waits = desk.upgradable_read(3, 12);   // Err(WouldWait)
+    /// ```
     pub fn upgradable_read(&mut self, party: u64, guard: u64) -> Result<(), DeskFault>
         ensures acquires { Acquires WouldWait Upgradable party guard self.old self.new result }
         ensures room { KeepsRoom self.old self.new }
@@ -71,6 +106,11 @@ impl<R: RawState, T, A: Allocator> Desk<R, T, A> {
     }
 
     /// As `upgradable_read`, but `Taken`.
+    ///
+    /// ```text
+    /// desk.upgradable_read(1, 10)?;
+    /// let taken = desk.try_upgradable_read(2, 11);   // Err(Taken)
+    /// ```
     pub fn try_upgradable_read(&mut self, party: u64, guard: u64) -> Result<(), DeskFault>
         ensures acquires { Acquires Taken Upgradable party guard self.old self.new result }
         ensures room { KeepsRoom self.old self.new }

@@ -15,6 +15,11 @@ use std::alloc::Allocator;
 
 impl<R: RawState, T, A: Allocator> Desk<R, T, A> {
     /// Gives the guard up, whatever its mode. A guard that is set aside is `WrongMode`.
+    ///
+    /// ```text
+    /// desk.write(1, 10)?;
+    /// desk.unlock(1, 10)?;   // the number may be used again
+    /// ```
     pub fn unlock(&mut self, party: u64, guard: u64) -> Result<(), DeskFault>
         ensures answer { result ≡ ok_unless (guard_refusal is_held party guard self.old) tt }
         ensures state { self.new
@@ -26,6 +31,11 @@ impl<R: RawState, T, A: Allocator> Desk<R, T, A> {
     }
 
     /// As `unlock`. On a desk nobody waits, so there is no difference.
+    ///
+    /// ```text
+    /// desk.write(1, 10)?;
+    /// desk.unlock_fair(1, 10)?;
+    /// ```
     pub fn unlock_fair(&mut self, party: u64, guard: u64) -> Result<(), DeskFault>
         ensures answer { result ≡ ok_unless (guard_refusal is_held party guard self.old) tt }
         ensures state { self.new
@@ -35,6 +45,11 @@ impl<R: RawState, T, A: Allocator> Desk<R, T, A> {
     }
 
     /// Changes nothing, since nobody waits on a desk.
+    ///
+    /// ```text
+    /// desk.write(1, 10)?;
+    /// desk.bump(1, 10)?;   // as it was
+    /// ```
     pub fn bump(&mut self, party: u64, guard: u64) -> Result<(), DeskFault>
         ensures answer { result ≡ ok_unless (guard_refusal is_held party guard self.old) tt }
         ensures state { self.new ≡ self.old }
@@ -44,6 +59,12 @@ impl<R: RawState, T, A: Allocator> Desk<R, T, A> {
     }
 
     /// Exclusive becomes shared.
+    ///
+    /// ```text
+    /// desk.write(1, 10)?;
+    /// desk.downgrade(1, 10)?;
+    /// desk.read(2, 11)?;   // beside it
+    /// ```
     pub fn downgrade(&mut self, party: u64, guard: u64) -> Result<(), DeskFault>
         ensures answer { result ≡ ok_unless (guard_refusal (holds Exclusive) party guard self.old) tt }
         ensures state { self.new
@@ -53,6 +74,11 @@ impl<R: RawState, T, A: Allocator> Desk<R, T, A> {
     }
 
     /// Exclusive becomes upgradable.
+    ///
+    /// ```text
+    /// desk.write(1, 10)?;
+    /// desk.downgrade_to_upgradable(1, 10)?;
+    /// ```
     pub fn downgrade_to_upgradable(&mut self, party: u64, guard: u64) -> Result<(), DeskFault>
         ensures answer { result ≡ ok_unless (guard_refusal (holds Exclusive) party guard self.old) tt }
         ensures state { self.new
@@ -63,6 +89,12 @@ impl<R: RawState, T, A: Allocator> Desk<R, T, A> {
     }
 
     /// Upgradable becomes shared.
+    ///
+    /// ```text
+    /// desk.upgradable_read(1, 10)?;
+    /// desk.downgrade_upgradable(1, 10)?;
+    /// desk.upgradable_read(2, 11)?;   // there is one at a time
+    /// ```
     pub fn downgrade_upgradable(&mut self, party: u64, guard: u64) -> Result<(), DeskFault>
         ensures answer { result ≡ ok_unless (guard_refusal (holds Upgradable) party guard self.old) tt }
         ensures state { self.new
@@ -72,6 +104,11 @@ impl<R: RawState, T, A: Allocator> Desk<R, T, A> {
     }
 
     /// Upgradable becomes exclusive. `WouldWait` beside any other held guard.
+    ///
+    /// ```text
+    /// desk.upgradable_read(1, 10)?;
+    /// desk.upgrade(1, 10)?;   // alone
+    /// ```
     pub fn upgrade(&mut self, party: u64, guard: u64) -> Result<(), DeskFault>
         ensures answer { result ≡ ok_unless (upgrade_refusal WouldWait party guard self.old) tt }
         ensures state { self.new
@@ -82,6 +119,12 @@ impl<R: RawState, T, A: Allocator> Desk<R, T, A> {
     }
 
     /// As `upgrade`, but `Taken`.
+    ///
+    /// ```text
+    /// desk.upgradable_read(1, 10)?;
+    /// desk.read(2, 11)?;
+    /// let taken = desk.try_upgrade(1, 10);   // Err(Taken)
+    /// ```
     pub fn try_upgrade(&mut self, party: u64, guard: u64) -> Result<(), DeskFault>
         ensures answer { result ≡ ok_unless (upgrade_refusal Taken party guard self.old) tt }
         ensures state { self.new
@@ -93,6 +136,12 @@ impl<R: RawState, T, A: Allocator> Desk<R, T, A> {
 
     /// The first half of an unlocked section: gives the hold up and keeps the number, the mode and the party. The
     /// number stays in use, and no call but `take_up` suits the guard.
+    ///
+    /// ```text
+    /// desk.write(1, 10)?;
+    /// desk.set_aside(1, 10)?;
+    /// desk.read(2, 11)?;   // in between
+    /// ```
     pub fn set_aside(&mut self, party: u64, guard: u64) -> Result<(), DeskFault>
         ensures answer { result ≡ ok_unless (guard_refusal is_held party guard self.old) tt }
         ensures state { self.new
@@ -105,6 +154,12 @@ impl<R: RawState, T, A: Allocator> Desk<R, T, A> {
 
     /// The second half of an unlocked section: holds the guard again in the mode that it kept. `WouldWait` where a
     /// held guard excludes that mode. It takes no memory.
+    ///
+    /// ```text
+    /// desk.write(1, 10)?;
+    /// desk.set_aside(1, 10)?;
+    /// desk.take_up(1, 10)?;   // exclusive again
+    /// ```
     pub fn take_up(&mut self, party: u64, guard: u64) -> Result<(), DeskFault>
         ensures answer { result ≡ ok_unless (take_up_refusal party guard self.old) tt }
         ensures state { self.new

@@ -57,6 +57,10 @@ impl<R: RawState, T, A: Allocator> Model for Desk<R, T, A> {
 impl<R: RawState, T, A: Allocator> Desk<R, T, A> {
     /// A desk with no guard, over a raw state of which nothing is out. It takes no memory yet, and keeps the allocator
     /// for its list of guards.
+    ///
+    /// ```text
+    /// let desk = Desk::new(rt.alloc(), TokenTable::new(8), 5_u64);   // at most 8 readers
+    /// ```
     pub fn new(alloc: A, raw: R, value: T) -> Desk<R, T, A>
         requires { R.out raw ≡ nothing_out }
         ensures { result ≡ record { limit = R.limit_of raw; room = 0; guards = []; value = value } }
@@ -71,6 +75,10 @@ impl<R: RawState, T, A: Allocator> Desk<R, T, A> {
 
     /// Makes room for so many guards beyond those that are held or set aside, so that so many acquisitions take no
     /// memory. `NoMemory` where a growth was needed and refused.
+    ///
+    /// ```text
+    /// desk.reserve(2)?;   // the next two acquisitions aren't refused for memory
+    /// ```
     pub fn reserve(&mut self, guards: usize) -> Result<(), DeskFault>
         ensures state { self.new ≡ with_room self.new.room self.old }
         ensures ok { OnOk result (length self.old.guards + guards ≤ self.new.room) }
@@ -89,6 +97,11 @@ impl<R: RawState, T, A: Allocator> Desk<R, T, A> {
     }
 
     /// The mode and the party of a held guard. None for any other number, and for a guard that is set aside.
+    ///
+    /// ```text
+    /// desk.read(1, 10)?;
+    /// let mode = desk.held(10);   // Some((Mode::Shared, 1))
+    /// ```
     pub fn held(&self, guard: u64) -> Option<(Mode, u64)>
         ensures found { result ≡ option_map (λ held. (held.mode, held.party)) (held_of guard self.now.guards) }
         ensures sound { IsSound self.now.limit self.now.guards }
@@ -100,6 +113,10 @@ impl<R: RawState, T, A: Allocator> Desk<R, T, A> {
     }
 
     /// Lends the value. It is always allowed.
+    ///
+    /// ```text
+    /// let five = *desk.value();
+    /// ```
     pub fn value(&self) -> &T
         ensures value { result.now ≡ self.now.value }
         ensures sound { IsSound self.now.limit self.now.guards }

@@ -29,6 +29,10 @@ pub enum DeskFault {
 
 impl DeskFault {
     /// The number of the refusal.
+    ///
+    /// ```text
+    /// let number = DeskFault::Taken.code();   // 2
+    /// ```
     pub fn code(&self) -> u16
         ensures { result ≡ fault_code self.now }
     {
@@ -89,6 +93,11 @@ pub struct DeskRunFault {
 
 impl DeskRunFault {
     /// The number of the refusal.
+    ///
+    /// ```text
+    /// let calls = vec![in rt.alloc(); DeskCall::Unlock(1, 10)]?;
+    /// let number = match desk.run(calls) { Ok(()) => 0, Err(fault) => fault.code() };
+    /// ```
     pub fn code(&self) -> u16
         ensures { result ≡ fault_code self.now.fault }
     {

@@ -51,6 +51,10 @@ impl Model for PackedWord {
 
 impl PackedWord {
     /// The word is 0. The limit is the lesser of `readers`, where 0 counts as 1, and 2^60 - 1. It takes no memory.
+    ///
+    /// ```text
+    /// let word = PackedWord::new(8).word();   // 0
+    /// ```
     pub fn new(readers: u64) -> PackedWord
         ensures { result ≡ record { limit = min (max readers 1) (2 ^ 60 - 1); out = nothing_out } }
     {
@@ -61,6 +65,12 @@ impl PackedWord {
     }
 
     /// The word as it stands.
+    ///
+    /// ```text
+    /// let mut state = PackedWord::new(8);
+    /// let _reader = state.try_shared();
+    /// let word = state.word();   // 16
+    /// ```
     pub fn word(&self) -> u64
         ensures { result ≡ word_of self.now.out }
     {
@@ -70,6 +80,11 @@ impl PackedWord {
 
     /// The word with one more reader: where bit 8 is clear and the count is below the limit, and a word can count so
     /// many.
+    ///
+    /// ```text
+    /// let more = PackedWord::with_shared(16, 2);   // Some(32)
+    /// let full = PackedWord::with_shared(32, 2);   // None
+    /// ```
     pub fn with_shared(word: u64, limit: u64) -> Option<u64>
         ensures { result ≡ word_with_shared limit word }
     {
@@ -81,6 +96,10 @@ impl PackedWord {
     }
 
     /// The word with the exclusive hold: where the word is 0.
+    ///
+    /// ```text
+    /// let alone = PackedWord::with_exclusive(0);   // Some(8)
+    /// ```
     pub fn with_exclusive(word: u64) -> Option<u64>
         ensures { result ≡ word_with_exclusive word }
     {
@@ -89,6 +108,10 @@ impl PackedWord {
 
     /// The word with the upgradable hold and its reader: where bits 8 and 4 are clear and the count is below the limit,
     /// and a word can count so many.
+    ///
+    /// ```text
+    /// let upgradable = PackedWord::with_upgradable(16, 4);   // Some(36)
+    /// ```
     pub fn with_upgradable(word: u64, limit: u64) -> Option<u64>
         ensures { result ≡ word_with_upgradable limit word }
     {
@@ -100,6 +123,11 @@ impl PackedWord {
     }
 
     /// The word with the exclusive hold in place of the upgradable one: where that is all there is.
+    ///
+    /// ```text
+    /// let alone = PackedWord::with_upgrade(20);    // Some(8)
+    /// let beside = PackedWord::with_upgrade(36);   // None: a reader more
+    /// ```
     pub fn with_upgrade(word: u64) -> Option<u64>
         ensures { result ≡ word_with_upgrade word }
     {
@@ -111,6 +139,10 @@ impl PackedWord {
     }
 
     /// The word without one shared reader.
+    ///
+    /// ```text
+    /// let free = PackedWord::without_shared(16);   // 0
+    /// ```
     pub fn without_shared(word: u64) -> u64
         requires { HasShared word }
         ensures { result ≡ word - 16 }
@@ -119,6 +151,10 @@ impl PackedWord {
     }
 
     /// The word without the exclusive hold.
+    ///
+    /// ```text
+    /// let free = PackedWord::without_exclusive(8);   // 0
+    /// ```
     pub fn without_exclusive(word: u64) -> u64
         requires { HasExclusive word }
         ensures { result ≡ word - 8 }
@@ -127,6 +163,10 @@ impl PackedWord {
     }
 
     /// The word without the upgradable hold and its reader.
+    ///
+    /// ```text
+    /// let reader = PackedWord::without_upgradable(36);   // 16
+    /// ```
     pub fn without_upgradable(word: u64) -> u64
         requires { HasUpgradable word }
         ensures { result ≡ word - 20 }
@@ -135,6 +175,10 @@ impl PackedWord {
     }
 
     /// The word with a shared reader in place of the exclusive hold.
+    ///
+    /// ```text
+    /// let reader = PackedWord::to_shared(8);   // 16
+    /// ```
     pub fn to_shared(word: u64) -> u64
         requires { HasExclusive word }
         ensures { result ≡ word + 8 }
@@ -143,6 +187,10 @@ impl PackedWord {
     }
 
     /// The word with the upgradable hold in place of the exclusive one.
+    ///
+    /// ```text
+    /// let upgradable = PackedWord::to_upgradable(8);   // 20
+    /// ```
     pub fn to_upgradable(word: u64) -> u64
         requires { HasExclusive word }
         ensures { result ≡ word + 12 }
@@ -151,6 +199,10 @@ impl PackedWord {
     }
 
     /// The word with a shared reader in place of the upgradable hold.
+    ///
+    /// ```text
+    /// let reader = PackedWord::upgradable_to_shared(20);   // 16
+    /// ```
     pub fn upgradable_to_shared(word: u64) -> u64
         requires { HasUpgradable word }
         ensures { result ≡ word - 4 }

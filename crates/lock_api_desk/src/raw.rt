@@ -8,6 +8,12 @@ ghost use Rattle.lock_api_desk.specs.Out.{Out, admits, one_more, one_less, reade
 /// An admission issues a token, and a release or a conversion spends it: each asks that a hold of its mode is out. A
 /// raw state refuses by None or by handing the token back, and a refusal changes nothing. Nothing here takes memory.
 /// A token may be dropped, since a desk that is let go lets its guards go with their raw state.
+///
+/// ```text
+/// let reader = state.try_shared();   // Some(token)
+/// let full = state.readers_full();   // false, of 8
+/// if let Some(token) = reader { state.release_shared(token); }
+/// ```
 pub trait RawState {
     /// The token of a shared hold.
     type Shared: Drop;

@@ -16,6 +16,11 @@ use std::alloc::Allocator;
 impl<R: RawState, T: Drop, A: Allocator + Drop> Desk<R, T, A> {
     /// Makes the calls in order and stops at the first that is refused, whose place it tells, counted from 0. The
     /// earlier calls stand, and what reads and writes answer is dropped.
+    ///
+    /// ```text
+    /// let calls = vec![in rt.alloc(); DeskCall::Write(1, 10), DeskCall::WriteValue(1, 10, 7), DeskCall::Read(2, 11)]?;
+    /// let fault = desk.run(calls);   // Err: the call 2 would wait, and the value is 7
+    /// ```
     pub fn run(&mut self, calls: Vec<DeskCall<T>, A>) -> Result<(), DeskRunFault>
         ensures done { OnOk result (Runs calls.items self.old self.new) }
         ensures stopped { IfErr result (IsStopped calls.items self.old self.new) }

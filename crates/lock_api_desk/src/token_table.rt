@@ -34,6 +34,10 @@ impl Model for TokenTable {
 
 impl TokenTable {
     /// Nothing is out. The limit is `readers`, and 1 where that is 0. It takes no memory.
+    ///
+    /// ```text
+    /// let state = TokenTable::new(8);   // at most 8 readers
+    /// ```
     pub fn new(readers: u64) -> TokenTable
         ensures { result ≡ record { limit = max readers 1; out = nothing_out } }
     {

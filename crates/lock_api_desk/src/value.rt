@@ -17,6 +17,11 @@ use std::mem;
 
 impl<R: RawState, T, A: Allocator> Desk<R, T, A> {
     /// Lends the value through a held guard of any mode. `WrongMode` for one that is set aside alone.
+    ///
+    /// ```text
+    /// desk.read(1, 10)?;
+    /// let five = *desk.read_value(1, 10)?;
+    /// ```
     pub fn read_value(&self, party: u64, guard: u64) -> Result<&T, DeskFault>
         ensures { MatchOption (guard_refusal is_held party guard self.now)
             (IsOkAnd result (λ value. value.now ≡ self.now.value))
@@ -27,6 +32,11 @@ impl<R: RawState, T, A: Allocator> Desk<R, T, A> {
     }
 
     /// Stores the value through an exclusive guard and answers the old one. A refused call lets the given value go.
+    ///
+    /// ```text
+    /// desk.write(1, 10)?;
+    /// let five = desk.write_value(1, 10, 7)?;   // 7 from now on
+    /// ```
     pub fn write_value(&mut self, party: u64, guard: u64, value: T) -> Result<T, DeskFault>
     where
         T: Drop,
@@ -40,6 +50,11 @@ impl<R: RawState, T, A: Allocator> Desk<R, T, A> {
 
     /// Makes the upgradable guard exclusive, calls the closure on the value, and makes the guard upgradable again.
     /// `WouldWait` beside any other held guard. Where it is refused the closure isn't called.
+    ///
+    /// ```text
+    /// desk.upgradable_read(1, 10)?;
+    /// let old = desk.with_upgraded(1, 10, |value| std::mem::replace(value, 7))?;   // 5
+    /// ```
     pub fn with_upgraded<U, F: FnOnce(&mut T) -> U + Drop>(
         &mut self,
         party: u64,
@@ -60,6 +75,12 @@ impl<R: RawState, T, A: Allocator> Desk<R, T, A> {
     }
 
     /// As `with_upgraded`, but `Taken`.
+    ///
+    /// ```text
+    /// desk.upgradable_read(1, 10)?;
+    /// desk.read(2, 11)?;
+    /// let taken = desk.try_with_upgraded(1, 10, |value| *value = 7);   // Err(Taken)
+    /// ```
     pub fn try_with_upgraded<U, F: FnOnce(&mut T) -> U + Drop>(
         &mut self,
         party: u64,

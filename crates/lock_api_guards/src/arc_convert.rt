@@ -21,6 +21,11 @@ where
     <H::Down as Hold>::Runtime: Wait,
 {
     /// Turns the hold into a shared one.
+    ///
+    /// ```text
+    /// let writer = RwLock::write_arc(&rates, &mut me)?;
+    /// let reader = ArcGuard::downgrade(writer);   // others may read, and nobody has written in between
+    /// ```
     pub fn downgrade(s: ArcGuard<H>) -> ArcGuard<H::Down>
         ensures lock { H.Down.lock_of result.hold ≡ H.lock_of s.hold }
         ensures call { H.downgraded s.hold result.hold }
@@ -35,6 +40,10 @@ where
     <H::Low as Hold>::Runtime: Wait,
 {
     /// Turns the hold into an upgradable one.
+    ///
+    /// ```text
+    /// let reader = ArcGuard::downgrade_to_upgradable(RwLock::write_arc(&rates, &mut me)?);
+    /// ```
     pub fn downgrade_to_upgradable(s: ArcGuard<H>) -> ArcGuard<H::Low>
         ensures lock { H.Low.lock_of result.hold ≡ H.lock_of s.hold }
         ensures call { H.lowered s.hold result.hold }
@@ -49,6 +58,12 @@ where
     <H::Alone as Hold>::Runtime: Wait,
 {
     /// Waits until the other readers are gone and gives the exclusive guard. Nobody else is exclusive in between.
+    ///
+    /// Blocks while others read. A thread that reads the same lock by another guard waits for itself for ever.
+    ///
+    /// ```text
+    /// if rate.with(|rate| *rate == 0) { ArcGuard::upgrade(rate, &mut me).with_mut(|rate| *rate = 100); }
+    /// ```
     pub fn upgrade(s: ArcGuard<H>, party: &mut H::Party) -> ArcGuard<H::Alone>
         ensures lock { H.Alone.lock_of result.hold ≡ H.lock_of s.hold }
         ensures call { H.upgraded s.hold result.hold }
@@ -57,6 +72,10 @@ where
     }
 
     /// The exclusive guard if no other reader is left, and else the same guard, still held.
+    ///
+    /// ```text
+    /// if let Ok(mut rate) = ArcGuard::try_upgrade(rate) { rate.with_mut(|rate| *rate = 100); }
+    /// ```
     pub fn try_upgrade(s: ArcGuard<H>) -> Result<ArcGuard<H::Alone>, ArcGuard<H>>
         ensures lock { MatchResult result (λ guard. H.Alone.lock_of guard.hold ≡ H.lock_of s.hold)
             (λ guard. guard ≡ s) }
@@ -76,6 +95,13 @@ where
     <H::Alone as Hold>::Runtime: Wait,
 {
     /// As `upgrade`. If the wait is given up after the length of time the same guard comes back, upgradable again.
+    ///
+    /// Blocks while others read, as long as the time lasts. A lock that can be had at once is had whatever the time.
+    ///
+    /// ```text
+    /// let soon = Duration::from_millis(5);
+    /// if let Ok(mut rate) = ArcGuard::try_upgrade_for(rate, soon, &rt, &mut me) { rate.with_mut(|rate| *rate = 100); }
+    /// ```
     pub fn try_upgrade_for<C: Clock>(
         s: ArcGuard<H>,
         timeout: H::Duration,
@@ -94,6 +120,10 @@ where
     }
 
     /// As `upgrade`. If the wait is given up at the moment the same guard comes back, upgradable again.
+    ///
+    /// ```text
+    /// if let Ok(mut rate) = ArcGuard::try_upgrade_until(rate, deadline, &rt, &mut me) { rate.with_mut(|r| *r = 100); }
+    /// ```
     pub fn try_upgrade_until<C: Clock>(
         s: ArcGuard<H>,
         deadline: H::Instant,
@@ -122,6 +152,12 @@ where
     /// Upgrades, lends the value to the closure for writing, and makes the guard upgradable again.
     ///
     /// It answers what the closure answered.
+    ///
+    /// Blocks while others read. A thread that reads the same lock by another guard waits for itself for ever.
+    ///
+    /// ```text
+    /// ArcGuard::with_upgraded(&mut rate, &mut me, |rate| *rate = 100);   // and then `rate` is upgradable again
+    /// ```
     pub fn with_upgraded<U, F: FnOnce(&mut ValueOf<H>) -> U>(
         s: &mut ArcGuard<H>,
         party: &mut H::Party,
@@ -147,6 +183,10 @@ where
     }
 
     /// As `with_upgraded` if no other reader is left, and else None, and the closure isn't called.
+    ///
+    /// ```text
+    /// let done = ArcGuard::try_with_upgraded(&mut rate, |rate| *rate = 100).is_some();   // not beside a reader
+    /// ```
     pub fn try_with_upgraded<U, F: FnOnce(&mut ValueOf<H>) -> U>(
         s: &mut ArcGuard<H>,
         f: F,
@@ -182,6 +222,11 @@ where
 {
     /// As `with_upgraded`. If the wait is given up after the length of time it answers None, the closure isn't called
     /// and the guard is upgradable.
+    ///
+    /// ```text
+    /// let soon = Duration::from_millis(5);
+    /// let done = ArcGuard::try_with_upgraded_for(&mut rate, soon, &rt, &mut me, |rate| *rate = 100).is_some();
+    /// ```
     pub fn try_with_upgraded_for<C: Clock, U, F: FnOnce(&mut ValueOf<H>) -> U>(
         s: &mut ArcGuard<H>,
         timeout: H::Duration,
@@ -215,6 +260,10 @@ where
 
     /// As `with_upgraded`. If the wait is given up at the moment it answers None, the closure isn't called and the
     /// guard is upgradable.
+    ///
+    /// ```text
+    /// let done = ArcGuard::try_with_upgraded_until(&mut rate, deadline, &rt, &mut me, |rate| *rate = 100).is_some();
+    /// ```
     pub fn try_with_upgraded_until<C: Clock, U, F: FnOnce(&mut ValueOf<H>) -> U>(
         s: &mut ArcGuard<H>,
         deadline: H::Instant,

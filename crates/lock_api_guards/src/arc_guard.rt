@@ -12,6 +12,14 @@ use std::sync::Wait;
 ///
 /// It keeps the raw token and takes the std lock only inside `with` and `with_mut`, since a guard can't borrow from
 /// what it owns. Its drop releases the raw lock by its token, and then lets the Arc go.
+///
+/// What ends the hold waits at most for the short sections of the raw lock in which sleeping threads are woken.
+///
+/// ```text
+/// let mut sale = Mutex::lock_arc(&seat, &mut me)?;
+/// sale.with_mut(|sold| *sold = sold.wrapping_add(1));
+/// let seat = ArcGuard::into_arc(sale);   // unlocked
+/// ```
 pub struct ArcGuard<H: Hold>
 where
     H::Runtime: Wait,
@@ -35,6 +43,10 @@ where
     H::Runtime: Wait,
 {
     /// Keeps a hold. For the layer above.
+    ///
+    /// ```text
+    /// Ok(ArcGuard::over(RawHold::wait_by_clone(this, party)?))
+    /// ```
     pub fn over(hold: H) -> ArcGuard<H>
         ensures { result.hold ≡ hold }
     {
@@ -42,6 +54,10 @@ where
     }
 
     /// Keeps a hold, if there is one. For the layer above.
+    ///
+    /// ```text
+    /// Ok(ArcGuard::if_held(RawHold::at_once_by_clone(this)?))
+    /// ```
     pub fn if_held(hold: Option<H>) -> Option<ArcGuard<H>>
         ensures { MatchOption result (hold ≡ None) (λ guard. hold ≡ Some guard.hold) }
     {
@@ -52,6 +68,10 @@ where
     }
 
     /// The raw hold. For the layer above.
+    ///
+    /// ```text
+    /// ArcGuard::over(ArcGuard::into_hold(guard).downgrade())
+    /// ```
     pub fn into_hold(s: ArcGuard<H>) -> H
         ensures { result ≡ s.hold }
     {
@@ -60,6 +80,11 @@ where
     }
 
     /// Releases the lock and gives the Arc that the guard held.
+    ///
+    /// ```text
+    /// let seat = ArcGuard::into_arc(sale);
+    /// let free = !seat.is_locked();
+    /// ```
     pub fn into_arc(s: ArcGuard<H>) -> H::Apart
         ensures lock { H.apart_of result ≡ H.lock_of s.hold }
         ensures call { H.released s.hold result }
@@ -72,6 +97,13 @@ where
     ///
     /// It answers what the closure answered, and the guard is held again afterwards. Others may have written in
     /// between.
+    ///
+    /// Blocks until it has the lock again. The party is lent to it meanwhile, so the closure can wait for nothing by
+    /// it.
+    ///
+    /// ```text
+    /// let free = ArcGuard::unlocked(&mut sale, &mut me, || !seat.is_locked());
+    /// ```
     pub fn unlocked<F: FnOnce() -> U, U>(s: &mut ArcGuard<H>, party: &mut H::Party, f: F) -> U
         requires { F.IsAlwaysCallable f }
         ensures answer { F.post f result }
@@ -99,6 +131,10 @@ where
     H::Runtime: Wait,
 {
     /// As `into_arc`, but the release is fair.
+    ///
+    /// ```text
+    /// let seat = ArcGuard::into_arc_fair(sale);   // whoever waits longest has it next
+    /// ```
     pub fn into_arc_fair(s: ArcGuard<H>) -> H::Apart
         ensures lock { H.apart_of result ≡ H.lock_of s.hold }
         ensures fair { H.left_fairly s.hold result }
@@ -108,6 +144,10 @@ where
     }
 
     /// Ends the guard by a fair release.
+    ///
+    /// ```text
+    /// ArcGuard::unlock_fair(sale);
+    /// ```
     pub fn unlock_fair(s: ArcGuard<H>)
         ensures { WasReleasedBy H.left_fairly s.hold }
     {
@@ -115,6 +155,10 @@ where
     }
 
     /// As `unlocked`, but the release is fair.
+    ///
+    /// ```text
+    /// ArcGuard::unlocked_fair(&mut sale, &mut me, || ());   // whoever waits longest had it in between
+    /// ```
     pub fn unlocked_fair<F: FnOnce() -> U, U>(s: &mut ArcGuard<H>, party: &mut H::Party, f: F) -> U
         requires { F.IsAlwaysCallable f }
         ensures answer { F.post f result }
@@ -136,6 +180,12 @@ where
     }
 
     /// If somebody waits, gives way by a fair release and waits for the same mode again, and else nothing.
+    ///
+    /// Blocks, where it gave way, until it has the lock again. Others may have written in between.
+    ///
+    /// ```text
+    /// ArcGuard::bump(&mut sale, &mut me);
+    /// ```
     pub fn bump(s: &mut ArcGuard<H>, party: &mut H::Party)
         ensures bump { H.bumped s.old.hold s.new.hold }
         ensures lock { H.lock_of s.new.hold ≡ H.lock_of s.old.hold }
@@ -152,6 +202,11 @@ where
     H::Runtime: Wait,
 {
     /// Lends the Arc of the reader-writer lock that the guard belongs to.
+    ///
+    /// ```text
+    /// let reader = RwLock::read_arc(&rates, &mut me)?;
+    /// let is_read = ArcGuard::rwlock(&reader).is_locked();
+    /// ```
     pub fn rwlock(s: &ArcGuard<H>) -> &H::Apart
         ensures { H.apart_of result.now ≡ H.lock_of s.now.hold }
     {
@@ -164,6 +219,10 @@ where
     H::Runtime: Wait,
 {
     /// Lends the Arc of the mutex that the guard belongs to.
+    ///
+    /// ```text
+    /// let is_locked = ArcGuard::mutex(&sale).is_locked();
+    /// ```
     pub fn mutex(s: &ArcGuard<H>) -> &H::Apart
         ensures { H.apart_of result.now ≡ H.lock_of s.now.hold }
     {
@@ -176,6 +235,11 @@ where
     H::Runtime: Wait,
 {
     /// Lends the Arc of the reentrant mutex that the guard belongs to.
+    ///
+    /// ```text
+    /// let hold = ReentrantMutex::lock_arc(&canvas, &mut me)?;
+    /// let is_locked = ArcGuard::remutex(&hold).is_locked();
+    /// ```
     pub fn remutex(s: &ArcGuard<H>) -> &H::Apart
         ensures { H.apart_of result.now ≡ H.lock_of s.now.hold }
     {
@@ -190,6 +254,12 @@ where
     H::Runtime: Wait,
 {
     /// Takes the std lock of the value for the closure's time, lends the value to it and answers what it answers.
+    ///
+    /// Waits at most for another's try, since whoever holds the raw lock has the value.
+    ///
+    /// ```text
+    /// let sold = sale.with(|sold| *sold);
+    /// ```
     pub fn with<F: FnOnce(&<H::Lock as HasValue>::Value) -> U, U>(&self, f: F) -> U
         requires { F.IsAlwaysCallable f }
         ensures { (value : H.Lock.Value) × FnOnceReturnsAt F.FnOnce f value result }
@@ -205,6 +275,10 @@ where
     H::Runtime: Wait,
 {
     /// As `with`, for writing.
+    ///
+    /// ```text
+    /// sale.with_mut(|sold| *sold = sold.wrapping_add(1));
+    /// ```
     pub fn with_mut<F: FnOnce(&mut <H::Lock as HasValue>::Value) -> U, U>(&mut self, f: F) -> U
         requires { F.IsAlwaysCallable f }
         ensures answer { (old : H.Lock.Value) × (new : H.Lock.Value) × FnOnceReturnsAtMut F.FnOnce f old result new }

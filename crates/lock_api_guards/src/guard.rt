@@ -14,6 +14,16 @@ use std::sync::Wait;
 ///
 /// Its drop gives the std lock back, and then releases the raw lock by its token. The calls are written
 /// `Guard::map(guard, ..)`, since a guard dereferences to its value.
+///
+/// What ends the hold waits at most for the short sections of the raw lock in which sleeping threads are woken. Nothing
+/// here takes memory. A guard keeps no borrow of the party, so a thread that asks for a lock beside it has to see
+/// itself that it isn't the same one.
+///
+/// ```text
+/// let mut sum = total.lock(&mut me);
+/// *sum = sum.wrapping_add(1);   // a guard dereferences to the value
+/// Guard::unlock_fair(sum);      // or the end of its block
+/// ```
 pub struct Guard<W: Drop, H: Hold>
 where
     H::Runtime: Wait,
@@ -39,6 +49,11 @@ where
     H::Runtime: Wait,
 {
     /// Puts a hold and its std guard together. For the layer above.
+    ///
+    /// ```text
+    /// let inner = self.value.try_lock()?;
+    /// Some(Guard::over(RawHold::at_once(self)?, inner))
+    /// ```
     #[inline(always)]
     pub fn over(hold: H, inner: W) -> Guard<W, H>
         ensures value { result.inner ≡ inner }
@@ -49,6 +64,10 @@ where
     }
 
     /// Gives the value back and keeps the raw hold. For the layer above.
+    ///
+    /// ```text
+    /// let (place, token) = Guard::into_hold(guard).into_parts();
+    /// ```
     #[inline(always)]
     pub fn into_hold(s: Guard<W, H>) -> H
         ensures { result ≡ s.held.0 }
@@ -58,6 +77,11 @@ where
     }
 
     /// The std guard, and the raw hold under which the value is lent. For the layer above.
+    ///
+    /// ```text
+    /// let (inner, held) = Guard::into_parts(guard);
+    /// Guard::under(held.downgrade().give_back(inner).into_hold())
+    /// ```
     #[inline(always)]
     pub fn into_parts(s: Guard<W, H>) -> (W, Held<H, W>)
         ensures { result ≡ (s.inner, s.held) }
@@ -67,6 +91,10 @@ where
     }
 
     /// The lock that the guard belongs to. For the layer above.
+    ///
+    /// ```text
+    /// let lock = Guard::source(&guard);
+    /// ```
     pub fn source(s: &Guard<W, H>) -> &H::Lock
         ensures { result.now ≡ H.lock_of s.now.held.0 }
     {
@@ -79,6 +107,10 @@ where
     H::Runtime: Wait,
 {
     /// Takes the std lock under a hold, and puts the two together. For the layer above.
+    ///
+    /// ```text
+    /// Guard::under(RawHold::wait(self, party))
+    /// ```
     #[inline(always)]
     pub fn under(hold: H) -> Guard<H::Inner, H>
         ensures { result.held.0 ≡ hold }
@@ -96,6 +128,14 @@ where
     ///
     /// It answers what the closure answered, and the guard is held again afterwards. Others may have written in
     /// between.
+    ///
+    /// Blocks until it has the lock again. The party is lent to it meanwhile, so the closure can wait for nothing by
+    /// it.
+    ///
+    /// ```text
+    /// let mut sum = total.lock(&mut me);
+    /// let free = Guard::unlocked(&mut sum, &mut me, || !total.is_locked());
+    /// ```
     pub fn unlocked<F: FnOnce() -> U, U>(s: &mut Guard<W, H>, party: &mut H::Party, f: F) -> U
         requires { F.IsAlwaysCallable f }
         ensures answer { F.post f result }
@@ -122,6 +162,11 @@ where
     H::Runtime: Wait,
 {
     /// Lends the reader-writer lock that the guard belongs to.
+    ///
+    /// ```text
+    /// let rate = rates.read(&mut me);
+    /// let is_read = Guard::rwlock(&rate).is_locked();
+    /// ```
     pub fn rwlock(s: &Guard<W, H>) -> &H::Lock
         ensures { result.now ≡ H.lock_of s.now.held.0 }
     {
@@ -134,6 +179,11 @@ where
     H::Runtime: Wait,
 {
     /// Lends the mutex that the guard belongs to.
+    ///
+    /// ```text
+    /// let sum = total.lock(&mut me);
+    /// let is_locked = Guard::mutex(&sum).is_locked();
+    /// ```
     pub fn mutex(s: &Guard<W, H>) -> &H::Lock
         ensures { result.now ≡ H.lock_of s.now.held.0 }
     {
@@ -146,6 +196,11 @@ where
     H::Runtime: Wait,
 {
     /// Lends the reentrant mutex that the guard belongs to.
+    ///
+    /// ```text
+    /// let lines = canvas.lock(&mut me)?;
+    /// let is_locked = Guard::remutex(&lines).is_locked();
+    /// ```
     pub fn remutex(s: &Guard<W, H>) -> &H::Lock
         ensures { result.now ≡ H.lock_of s.now.held.0 }
     {
@@ -158,6 +213,10 @@ where
     H::Runtime: Wait,
 {
     /// Ends the guard by a fair release.
+    ///
+    /// ```text
+    /// Guard::unlock_fair(total.lock(&mut me));   // whoever waits longest has it next
+    /// ```
     pub fn unlock_fair(s: Guard<W, H>)
         ensures { WasReleasedBy H.left_fairly s.held.0 }
     {
@@ -170,6 +229,11 @@ where
     H::Runtime: Wait,
 {
     /// As `unlocked`, but the release is fair.
+    ///
+    /// ```text
+    /// let mut sum = total.lock(&mut me);
+    /// Guard::unlocked_fair(&mut sum, &mut me, || ());   // whoever waits longest had it in between
+    /// ```
     pub fn unlocked_fair<F: FnOnce() -> U, U>(s: &mut Guard<W, H>, party: &mut H::Party, f: F) -> U
         requires { F.IsAlwaysCallable f }
         ensures answer { F.post f result }
@@ -190,6 +254,13 @@ where
     }
 
     /// If somebody waits, gives way by a fair release and waits for the same mode again, and else nothing.
+    ///
+    /// Blocks, where it gave way, until it has the lock again. Others may have written in between.
+    ///
+    /// ```text
+    /// let mut sum = total.lock(&mut me);
+    /// Guard::bump(&mut sum, &mut me);
+    /// ```
     pub fn bump(s: &mut Guard<W, H>, party: &mut H::Party)
         ensures bump { H.bumped s.old.held.0 s.new.held.0 }
         ensures lock { H.lock_of s.new.held.0 ≡ H.lock_of s.old.held.0 }

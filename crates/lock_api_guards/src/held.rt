@@ -9,6 +9,12 @@ use std::sync::Wait;
 /// A hold of a raw lock: the lock, and the token that it issued. For the layer above.
 ///
 /// A hold is linear: it ends by a release, which spends its token.
+///
+/// ```text
+/// let lock = hold.lock();             // to look at
+/// let apart = hold.release();         // a reference or an Arc, by which the lock can be had again
+/// let hold = H::again(apart, party);  // blocks until it has the lock
+/// ```
 pub trait Hold {
     /// The lock that the hold is of, with its value.
     type Lock;
@@ -54,6 +60,11 @@ pub trait Hold {
 }
 
 /// A hold whose release can be fair. For the layer above.
+///
+/// ```text
+/// let hold = hold.bump(party);        // another was let in, if somebody waited
+/// let apart = hold.release_fair();
+/// ```
 pub trait FairHold: Hold {
     /// That a fair release of the hold left this. Where the hold is of any type, a fair release alone gives it.
     ghost left_fairly: { Self → Self.Apart → Type 0 } = { λ _ _. ⊤ };
@@ -77,6 +88,10 @@ pub trait FairHold: Hold {
 }
 
 /// A hold under which a std guard of the value can be kept. For the layer above.
+///
+/// ```text
+/// Guard::over(hold, hold.access())    // the raw hold, and the std guard under it
+/// ```
 pub trait Access: Hold {
     /// The std guard.
     type Inner: Drop;
@@ -88,6 +103,10 @@ pub trait Access: Hold {
 }
 
 /// A hold that can become a shared one. For the layer above.
+///
+/// ```text
+/// let reader = writer.downgrade();    // `L::Down`
+/// ```
 pub trait DowngradeHold: Hold {
     /// The shared hold.
     type Down: Hold<Lock = Self::Lock>;
@@ -104,6 +123,10 @@ pub trait DowngradeHold: Hold {
 }
 
 /// A hold that can become an upgradable one. For the layer above.
+///
+/// ```text
+/// let upgradable = writer.lower();
+/// ```
 pub trait DowngradeToUpgradable: Hold {
     /// The upgradable hold.
     type Low: Hold<Lock = Self::Lock>;
@@ -120,6 +143,13 @@ pub trait DowngradeToUpgradable: Hold {
 }
 
 /// A hold that can become an exclusive one. For the layer above.
+///
+/// ```text
+/// match upgradable.try_upgrade() {
+///     Ok(alone) => alone,
+///     Err(upgradable) => upgradable.upgrade(party),   // blocks while others read
+/// }
+/// ```
 pub trait UpgradeHold: Hold {
     /// The exclusive hold.
     type Alone: Hold<Lock = Self::Lock>;
@@ -144,6 +174,11 @@ pub trait UpgradeHold: Hold {
 }
 
 /// A hold that can become an exclusive one and be had back. For the layer above.
+///
+/// ```text
+/// let alone = upgradable.upgrade(party);
+/// let upgradable = H::restore(alone);
+/// ```
 pub trait RestoreHold: UpgradeHold {
     /// That the exclusive hold was turned into this one. Where the hold is of any type, `restore` alone gives it.
     ghost restored: { Self.Alone → Self → Type 0 } = { λ _ _. ⊤ };
@@ -157,6 +192,11 @@ pub trait RestoreHold: UpgradeHold {
 }
 
 /// A hold that can become an exclusive one by a wait that can give up. For the layer above.
+///
+/// ```text
+/// let tried = upgradable.try_upgrade_for(timeout, clock, party);    // Err with the same hold where it gave up
+/// let tried = upgradable.try_upgrade_until(deadline, clock, party);
+/// ```
 pub trait TimedUpgradeHold: UpgradeHold {
     /// A length of time.
     type Duration;
@@ -194,6 +234,10 @@ pub trait TimedUpgradeHold: UpgradeHold {
 }
 
 /// A hold that owns an Arc of its lock. For the layer above.
+///
+/// ```text
+/// let lock = hold.arc();
+/// ```
 pub trait ArcHold: Hold {
     /// Lends the Arc.
     fn arc(&self) -> &Self::Apart
@@ -215,6 +259,12 @@ pub trait ReentrantHold: Hold {}
 /// A raw hold that knows whether the value is lent under it, by a std guard of type `W`. For the layer above.
 ///
 /// The raw hold is had back only while the value isn't lent, so a guard has to give the value back before it releases.
+///
+/// ```text
+/// let held = Held::lending(hold, &inner);              // the value is lent by `inner`
+/// let lock = held.hold().lock();
+/// let hold = held.downgrade().give_back(inner).into_hold();   // only once it is given back
+/// ```
 pub struct Held<H, W> {
     hold: H,
     lent: Snapshot<bool>,

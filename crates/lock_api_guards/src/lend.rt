@@ -9,6 +9,10 @@ use std::sync;
 /// What lends a value to be read, as a guard does. For the layer above.
 ///
 /// A lender shows one part, and shows the same one until it is changed.
+///
+/// ```text
+/// let value = guard.look();
+/// ```
 pub trait Lender {
     /// The value that is lent.
     type Part;
@@ -22,6 +26,10 @@ pub trait Lender {
 }
 
 /// What lends a value to be written, too. For the layer above.
+///
+/// ```text
+/// let value = guard.lend();   // what is left there is what `look` shows next
+/// ```
 pub trait LenderMut: Lender {
     /// The lender with another value.
     ghost with_part: { Self → Self.Part → Self };

@@ -4,6 +4,10 @@ ghost use Rattle.std.specs.Fn.{FnOnceReturnsAt, FnOnceReturnsAtMut};
 use std::sync::Wait;
 
 /// A lock whose value is reached by a std lock, taken for a closure's time. For the layer above.
+///
+/// ```text
+/// let length = lock.with_value(|text| text.len());
+/// ```
 pub trait HasValue {
     /// The value.
     type Value;
@@ -20,6 +24,10 @@ pub trait HasValue {
 }
 
 /// A lock whose value can be written so. For the layer above.
+///
+/// ```text
+/// lock.with_value_mut(|count| *count = 0);
+/// ```
 pub trait HasValueMut: HasValue {
     /// As `with_value`, for writing.
     fn with_value_mut<F: FnOnce(&mut Self::Value) -> U, U>(&self, f: F) -> U
@@ -30,6 +38,10 @@ pub trait HasValueMut: HasValue {
 }
 
 /// Lends a value to a closure. For the layer above.
+///
+/// ```text
+/// lent(f, &*self.inner())
+/// ```
 pub fn lent<T, F: FnOnce(&T) -> U, U>(f: F, value: &T) -> U
     requires { F.IsAlwaysCallable f }
     ensures { FnOnceReturnsAt F.FnOnce f value.now result }
@@ -38,6 +50,10 @@ pub fn lent<T, F: FnOnce(&T) -> U, U>(f: F, value: &T) -> U
 }
 
 /// Lends a value to a closure for writing. For the layer above.
+///
+/// ```text
+/// lent_mut(f, &mut *self.inner())
+/// ```
 pub fn lent_mut<T, F: FnOnce(&mut T) -> U, U>(f: F, value: &mut T) -> U
     requires { F.IsAlwaysCallable f }
     ensures { FnOnceReturnsAtMut F.FnOnce f value.old result value.new }

@@ -18,6 +18,11 @@ use std::sync::Wait;
 ///
 /// The part is found anew by the projection at each access, and is there as long as the guard lives. What is written to
 /// it is written into the whole value. Its drop ends the guard.
+///
+/// ```text
+/// let mut score = Guard::map(player.lock(&mut me), First);   // of a pair
+/// *score = 7;                                                // the mutex is still locked
+/// ```
 pub struct Mapped<W: Lender + Drop, H: Hold, P: Projection<W::Part> + Drop>
 where
     H::Runtime: Wait,
@@ -93,6 +98,11 @@ where
     H::Runtime: Wait,
 {
     /// Narrows the guard to the part that the projection gives, without letting go.
+    ///
+    /// ```text
+    /// let mut score = Guard::map(player.lock(&mut me), First);
+    /// *score = 7;
+    /// ```
     pub fn map<P: TotalProjection<W::Part> + Drop>(s: Guard<W, H>, projection: P) -> Mapped<W, H, P>
         ensures { result ≡ (s, projection) }
     {
@@ -103,6 +113,13 @@ where
     }
 
     /// As `map` where the part is there, and else the same guard back, still locked.
+    ///
+    /// ```text
+    /// match Guard::try_map(player.lock(&mut me), Then::new(Second, Inside)) {
+    ///     Ok(mut badge) => *badge = 3,
+    ///     Err(whole) => drop(whole),   // there was no badge
+    /// }
+    /// ```
     pub fn try_map<P: Projection<W::Part> + Drop>(
         s: Guard<W, H>,
         projection: P,
@@ -120,6 +137,13 @@ where
     }
 
     /// As `try_map`. Where the part is missing the same guard comes back with the error that was handed in.
+    ///
+    /// ```text
+    /// match Guard::try_map_or_err(player.lock(&mut me), Then::new(Second, Inside), "no badge") {
+    ///     Ok(badge) => println!(rt; "{}", *badge)?,
+    ///     Err((_player, error)) => println!(rt; "{error}")?,
+    /// }
+    /// ```
     pub fn try_map_or_err<P: Projection<W::Part> + Drop, E: Drop>(
         s: Guard<W, H>,
         projection: P,
@@ -139,6 +163,11 @@ where
     H::Runtime: Wait,
 {
     /// Narrows further. Mapping twice is mapping by the composition.
+    ///
+    /// ```text
+    /// let range = Guard::map(sheet.lock(&mut me), First);   // of ((low, high), name)
+    /// *Mapped::map(range, Second) = 9;                      // the high end
+    /// ```
     pub fn map<Q: TotalProjection<P::Out> + Drop>(
         s: Mapped<W, H, P>,
         projection: Q,
@@ -153,6 +182,11 @@ where
     }
 
     /// As `map` where the part is there, and else the same guard back, still locked.
+    ///
+    /// ```text
+    /// let badge = Guard::map(player.lock(&mut me), Second);
+    /// if let Ok(mut number) = Mapped::try_map(badge, Inside) { *number = 3; }
+    /// ```
     pub fn try_map<Q: Projection<P::Out> + Drop>(
         s: Mapped<W, H, P>,
         projection: Q,
@@ -173,6 +207,11 @@ where
     }
 
     /// As `try_map`. Where the part is missing the same guard comes back with the error that was handed in.
+    ///
+    /// ```text
+    /// let badge = Guard::map(player.lock(&mut me), Second);
+    /// let number = Mapped::try_map_or_err(badge, Inside, "no badge");
+    /// ```
     pub fn try_map_or_err<Q: Projection<P::Out> + Drop, E: Drop>(
         s: Mapped<W, H, P>,
         projection: Q,
@@ -194,6 +233,12 @@ where
     H::Runtime: Wait,
 {
     /// Ends the guard by a fair release.
+    ///
+    /// ```text
+    /// let mut score = Guard::map(player.lock(&mut me), First);
+    /// *score = 7;
+    /// Mapped::unlock_fair(score);   // whoever waits longest has the whole next
+    /// ```
     pub fn unlock_fair(s: Mapped<W, H, P>)
         ensures { WasReleasedBy H.left_fairly s.0.held.0 }
     {

@@ -23,6 +23,13 @@ where
     /// Upgrades, lends the value to the closure for writing, and makes the guard upgradable again.
     ///
     /// It answers what the closure answered.
+    ///
+    /// Blocks while others read. A thread that reads the same lock by another guard waits for itself for ever.
+    ///
+    /// ```text
+    /// let mut rate = rates.upgradable_read(&mut me);
+    /// Guard::with_upgraded(&mut rate, &mut me, |rate| *rate = 100);   // and then `rate` reads on
+    /// ```
     pub fn with_upgraded<U, F: FnOnce(&mut PartOf<H>) -> U>(
         s: &mut Guard<W, H>,
         party: &mut H::Party,
@@ -47,6 +54,11 @@ where
     }
 
     /// As `with_upgraded` if no other reader is left, and else None, and the closure isn't called.
+    ///
+    /// ```text
+    /// let mut rate = rates.upgradable_read(&mut me);
+    /// let old = Guard::try_with_upgraded(&mut rate, |rate| std::mem::replace(rate, 100));   // None beside a reader
+    /// ```
     pub fn try_with_upgraded<U, F: FnOnce(&mut PartOf<H>) -> U>(
         s: &mut Guard<W, H>,
         f: F,
@@ -79,6 +91,11 @@ where
 {
     /// As `with_upgraded`. If the wait is given up after the length of time it answers None, the closure isn't called
     /// and the guard is upgradable.
+    ///
+    /// ```text
+    /// let soon = Duration::from_millis(5);
+    /// let done = Guard::try_with_upgraded_for(&mut rate, soon, &rt, &mut me, |rate| *rate = 100).is_some();
+    /// ```
     pub fn try_with_upgraded_for<C: Clock, U, F: FnOnce(&mut PartOf<H>) -> U>(
         s: &mut Guard<W, H>,
         timeout: H::Duration,
@@ -109,6 +126,10 @@ where
 
     /// As `with_upgraded`. If the wait is given up at the moment it answers None, the closure isn't called and the
     /// guard is upgradable.
+    ///
+    /// ```text
+    /// let done = Guard::try_with_upgraded_until(&mut rate, deadline, &rt, &mut me, |rate| *rate = 100).is_some();
+    /// ```
     pub fn try_with_upgraded_until<C: Clock, U, F: FnOnce(&mut PartOf<H>) -> U>(
         s: &mut Guard<W, H>,
         deadline: H::Instant,

@@ -9,6 +9,12 @@ use std::rt::Clock;
 use std::sync::Wait;
 
 /// A condition variable of one kind of mutex.
+///
+/// ```text
+/// let token = raw.lock(&mut me);
+/// let (token, answer) = changed.wait(&raw, token, &mut me);
+/// raw.unlock(token);   // also where the wait was refused
+/// ```
 pub trait RawCondvar {
     /// The mutex that it works with.
     type RawMutex: RawMutex;
@@ -31,6 +37,13 @@ pub trait RawCondvar {
     ///
     /// `WrongMutex` is answered where other threads wait with another mutex, and then `WrongLot` where the mutex is of
     /// another lot. Either comes before anything is done, and with the token that was handed in.
+    ///
+    /// Blocks until it is notified, and then until it has the mutex again. It may come back without a notification.
+    ///
+    /// ```text
+    /// let (token, answer) = changed.wait(&raw, token, &mut me);
+    /// raw.unlock(token);
+    /// ```
     fn wait(
         &self,
         mutex: &Self::RawMutex,
@@ -46,12 +59,22 @@ pub trait RawCondvar {
 
     /// Takes the first waiter if there is one and the variable still shows the mutex that it looked at, and answers
     /// whether one was taken.
+    ///
+    /// ```text
+    /// let one = changed.notify_one();
+    /// raw.unlock(token);
+    /// ```
     fn notify_one(&self) -> bool
     where
         <Self::RawMutex as RawMutex>::Runtime: Wait,
         ensures { notified_one self.now result };
 
     /// Takes all waiters and answers how many there were.
+    ///
+    /// ```text
+    /// let taken = changed.notify_all();
+    /// raw.unlock(token);
+    /// ```
     fn notify_all(&self) -> usize
     where
         <Self::RawMutex as RawMutex>::Runtime: Wait,
@@ -69,6 +92,11 @@ where
 
     /// As `wait`, until the moment at the latest. The answer is true exactly if the time ran out while the caller stood
     /// in this variable's own queue.
+    ///
+    /// ```text
+    /// let (token, ran_out) = changed.wait_until(&raw, token, deadline, &rt, &mut me);
+    /// raw.unlock(token);
+    /// ```
     fn wait_until<C: Clock>(
         &self,
         mutex: &Self::RawMutex,
@@ -85,6 +113,11 @@ where
         ensures answer { waited_in_time self.now guard result.0 result.1 };
 
     /// As `wait_until`, with the moment that lies `timeout` ahead. Where that can't be said there is no limit.
+    ///
+    /// ```text
+    /// let (token, ran_out) = changed.wait_for(&raw, token, Duration::from_secs(1), &rt, &mut me);
+    /// raw.unlock(token);
+    /// ```
     fn wait_for<C: Clock>(
         &self,
         mutex: &Self::RawMutex,
@@ -101,6 +134,13 @@ where
         ensures answer { waited_in_time self.now guard result.0 result.1 };
 
     /// The moment that lies `timeout` after the clock's now. None where it can't be said, or the clock can't be read.
+    ///
+    /// ```text
+    /// match C::checked_duration_to_instant(clock, timeout) {
+    ///     Some(deadline) => self.wait_until(raw, token, deadline, clock, party),
+    ///     None => self.wait_without_limit(raw, token, party),
+    /// }
+    /// ```
     fn checked_duration_to_instant<C: Clock>(
         clock: &C,
         timeout: <Self::RawMutex as RawMutexTimed>::Duration,

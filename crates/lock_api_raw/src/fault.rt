@@ -12,6 +12,10 @@ pub struct TableFull;
 
 impl TableFull {
     /// The number of the refusal.
+    ///
+    /// ```text
+    /// let number = TableFull.code();   // 21
+    /// ```
     pub fn code(&self) -> u16
         ensures { result ≡ 21 }
     {
@@ -37,6 +41,10 @@ pub struct ReadersFull;
 
 impl ReadersFull {
     /// The number of the refusal.
+    ///
+    /// ```text
+    /// let number = ReadersFull.code();   // 6
+    /// ```
     pub fn code(&self) -> u16
         ensures { result ≡ 6 }
     {
@@ -62,6 +70,10 @@ pub struct NoMemory;
 
 impl NoMemory {
     /// The number of the refusal.
+    ///
+    /// ```text
+    /// let number = NoMemory.code();   // 99
+    /// ```
     pub fn code(&self) -> u16
         ensures { result ≡ 99 }
     {
@@ -112,6 +124,10 @@ pub enum WaitFault {
 
 impl WaitFault {
     /// The number of the refusal.
+    ///
+    /// ```text
+    /// let number = WaitFault::WrongMutex.code();   // 23
+    /// ```
     pub fn code(&self) -> u16
         ensures { result ≡ wait_fault_code self.now }
     {

@@ -21,6 +21,10 @@ pub trait MakeLock<S> {
 
     /// Makes an unlocked lock whose limit of holds is `readers`, where 0 counts as 1, or the greatest that it can keep
     /// if that is less. `TableFull` is the only refusal, and it takes no memory.
+    ///
+    /// ```text
+    /// let raw: RawMutex<'_, '_, HostRuntime> = RawMutex::new(&table, 1)?;
+    /// ```
     fn new(source: S, readers: u64) -> Result<Self, TableFull>
         ensures { IfOk result (λ lock. limit lock ≡ kept_limit own_limit readers) };
 }
@@ -28,5 +32,9 @@ pub trait MakeLock<S> {
 /// A raw condition variable that can be made from a source.
 pub trait MakeCondvar<S> {
     /// Makes a condition variable on which nobody waits. `TableFull` is the only refusal, and it takes no memory.
+    ///
+    /// ```text
+    /// let changed: Condvar<'_, '_, HostRuntime> = Condvar::new(&table)?;   // over a raw one
+    /// ```
     fn new(source: S) -> Result<Self, TableFull>;
 }

@@ -46,10 +46,21 @@ pub trait RawMutex {
     ghost looked: { Self → Bool → Type 0 } = { λ _ _. ⊤ };
 
     /// The runtime, by which the layer above takes the lock that holds the value.
+    ///
+    /// ```text
+    /// self.value.lock(self.raw.runtime())
+    /// ```
     fn runtime(&self) -> &Self::Runtime
         ensures { result.now ≡ runtime_of self.now };
 
     /// Waits until the lock is admitted. That it returns isn't promised.
+    ///
+    /// Blocks while another has the lock. A thread that asks for a lock which it has waits for itself for ever.
+    ///
+    /// ```text
+    /// let token = raw.lock(&mut me);
+    /// raw.unlock(token);
+    /// ```
     fn lock(&self, party: &mut Self::Party) -> Self::Guard
     where
         Self::Runtime: Wait,
@@ -57,11 +68,20 @@ pub trait RawMutex {
         ensures call { locked result };
 
     /// A token if the lock can be had at once. It waits for nobody.
+    ///
+    /// ```text
+    /// if let Some(token) = raw.try_lock() { raw.unlock(token); }
+    /// ```
     fn try_lock(&self) -> Option<Self::Guard>
         ensures issued { IfSome result (λ token. issued_by token ≡ number self.now) }
         ensures call { tried self.now result };
 
     /// Gives the lock up. It may wait for the short sections in which sleeping threads are woken.
+    ///
+    /// ```text
+    /// let token = raw.lock(&mut me);
+    /// raw.unlock(token);   // the token is spent
+    /// ```
     fn unlock(&self, guard: Self::Guard)
     where
         Self::Runtime: Wait,
@@ -69,6 +89,10 @@ pub trait RawMutex {
         ensures { unlocked guard };
 
     /// Whether a hold was out at the moment of one look.
+    ///
+    /// ```text
+    /// let used = raw.is_locked();
+    /// ```
     fn is_locked(&self) -> bool
         ensures { looked self.now result };
 }
@@ -82,6 +106,11 @@ pub trait RawMutexFair: RawMutex {
     ghost bumped: { Self.Guard → Self.Guard → Type 0 } = { λ _ _. ⊤ };
 
     /// Gives the lock up, and if somebody waits makes the first waiter its owner without letting go in between.
+    ///
+    /// ```text
+    /// let token = raw.lock(&mut me);
+    /// raw.unlock_fair(token);   // whoever waits longest has it next
+    /// ```
     fn unlock_fair(&self, guard: Self::Guard)
     where
         Self::Runtime: Wait,
@@ -90,6 +119,14 @@ pub trait RawMutexFair: RawMutex {
 
     /// Lets somebody who waits go first: if there is one, a fair release and then a blocking acquisition, and else
     /// nothing. The answer is the token that is then out.
+    ///
+    /// Blocks, where it gave way, until it has the lock again.
+    ///
+    /// ```text
+    /// let token = raw.lock(&mut me);
+    /// let token = raw.bump(token, &mut me);
+    /// raw.unlock(token);
+    /// ```
     fn bump(&self, guard: Self::Guard, party: &mut Self::Party) -> Self::Guard
     where
         Self::Runtime: Wait,
@@ -111,6 +148,11 @@ pub trait RawMutexTimed: RawMutex {
 
     /// As `lock`, but None if the wait is given up after the length of time, by the clock that is handed in. A length
     /// that leads past what a moment can say is no limit.
+    ///
+    /// ```text
+    /// let soon = Duration::from_millis(5);
+    /// if let Some(token) = raw.try_lock_for(soon, &rt, &mut me) { raw.unlock(token); }
+    /// ```
     fn try_lock_for<C: Clock>(
         &self,
         timeout: Self::Duration,
@@ -123,6 +165,10 @@ pub trait RawMutexTimed: RawMutex {
         ensures call { locked_in_time result };
 
     /// As `lock`, but None if the wait is given up at the moment, by the clock that is handed in.
+    ///
+    /// ```text
+    /// if let Some(token) = raw.try_lock_until(deadline, &rt, &mut me) { raw.unlock(token); }
+    /// ```
     fn try_lock_until<C: Clock>(
         &self,
         deadline: Self::Instant,

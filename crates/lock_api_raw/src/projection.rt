@@ -36,15 +36,28 @@ pub trait Projection<T> {
     ghost with_focus: { Self → T → Self.Out → T };
 
     /// The part, or None where the value has no such part.
+    ///
+    /// ```text
+    /// let first = First.get(&(1_u64, 2_u64)).copied();   // Some(1)
+    /// ```
     fn get<'a>(&'a self, whole: &'a T) -> Option<&'a Self::Out>
         ensures { option_copied result ≡ focus self.now whole.now };
 
     /// The part for writing, where the value has one.
+    ///
+    /// ```text
+    /// let mut pair = (1_u64, 2_u64);
+    /// if let Some(first) = First::get_mut(&mut pair, &First) { *first = 9; }   // (9, 2)
+    /// ```
     fn get_mut<'a>(whole: &'a mut T, by: &'a Self) -> Option<&'a mut Self::Out>
         ensures* writes_back { sem 𝓛 (LendsIf T.row Self.Out.row whole.entry result (with_focus by.now whole.old) whole.old) }
         ensures value { option_copied_mut result ≡ focus by.now whole.old };
 
     /// The part for writing, of a value that has one.
+    ///
+    /// ```text
+    /// P::part_mut(self.guard.lend(), &self.by)
+    /// ```
     fn part_mut<'a>(whole: &'a mut T, by: &'a Self) -> &'a mut Self::Out
         requires { IsSome (focus by.now whole.old) }
         ensures* writes_back { sem 𝓛 (Lends T.row Self.Out.row whole.entry result (with_focus by.now whole.old)) }
@@ -52,6 +65,11 @@ pub trait Projection<T> {
 
     /// Stores the part and answers the old one. Where there is no such part it answers None, lets the given one go and
     /// changes nothing.
+    ///
+    /// ```text
+    /// let mut pair = (1_u64, 2_u64);
+    /// let old = First.set(&mut pair, 9);   // Some(1)
+    /// ```
     fn set(&self, whole: &mut T, part: Self::Out) -> Option<Self::Out>
         ensures old { result ≡ focus self.now whole.old }
         ensures stored { IsSome (focus self.now whole.old) → whole.new ≡ with_focus self.now whole.old part }
@@ -73,6 +91,10 @@ pub trait TotalProjection<T>: Projection<T> {
     ghost always: { (by : Self) → IsTotalWay (Self.focus by) (Self.with_focus by) };
 
     /// The part, which is always there.
+    ///
+    /// ```text
+    /// let first = *First.part(&(1_u64, 2_u64));   // 1
+    /// ```
     final fn part<'a>(&'a self, whole: &'a T) -> &'a Self::Out
         ensures { Self.focus self.now whole.now ≡ Some result.now }
     {
@@ -98,6 +120,10 @@ pub struct Then<P, Q> {
 
 impl<P, Q> Then<P, Q> {
     /// Keeps both. It takes no memory.
+    ///
+    /// ```text
+    /// let inside = Then::new(First, Inside);
+    /// ```
     pub fn new(first: P, second: Q) -> Then<P, Q>
         ensures first { result.first ≡ first }
         ensures second { result.second ≡ second }

@@ -16,9 +16,18 @@ pub trait GetThreadId {
     ghost party_number: { Self.Party → ℕ };
 
     /// Makes the helper. It takes no memory.
+    ///
+    /// ```text
+    /// let get_thread_id: RawThreadId = RawThreadId::new();
+    /// ```
     fn new() -> Self;
 
     /// The number of the party, plus one.
+    ///
+    /// ```text
+    /// let get_thread_id: RawThreadId = RawThreadId::new();
+    /// let number = get_thread_id.nonzero_thread_id(&me).get();
+    /// ```
     fn nonzero_thread_id(&self, party: &Self::Party) -> NonZeroUsize
         ensures { non_zero_usize_get result ≡ party_number party.now + 1 };
 }

@@ -64,10 +64,21 @@ pub trait RawRwLock {
     ghost looked_exclusive: { Self → Bool → Type 0 } = { λ _ _. ⊤ };
 
     /// The runtime, by which the layer above takes the lock that holds the value.
+    ///
+    /// ```text
+    /// self.value.read(self.raw.runtime())
+    /// ```
     fn runtime(&self) -> &Self::Runtime
         ensures { result.now ≡ runtime_of self.now };
 
     /// Waits for a shared hold. At a full count of readers it yields and tries again until there is room.
+    ///
+    /// Blocks while another is exclusive, and may while one waits to be.
+    ///
+    /// ```text
+    /// let token = raw.lock_shared(&mut me);
+    /// raw.unlock_shared(token);
+    /// ```
     fn lock_shared(&self, party: &mut Self::Party) -> Self::SharedGuard
     where
         Self::Runtime: Wait,
@@ -75,11 +86,20 @@ pub trait RawRwLock {
         ensures call { shared_locked result };
 
     /// A shared hold at once, or None, at a full count too. It waits for nobody.
+    ///
+    /// ```text
+    /// if let Some(token) = raw.try_lock_shared() { raw.unlock_shared(token); }
+    /// ```
     fn try_lock_shared(&self) -> Option<Self::SharedGuard>
         ensures issued { IfSome result (λ token. shared_by token ≡ number self.now) }
         ensures call { shared_tried self.now result };
 
     /// Gives a shared hold up. It may wait for the short sections in which sleeping threads are woken.
+    ///
+    /// ```text
+    /// let token = raw.lock_shared(&mut me);
+    /// raw.unlock_shared(token);   // the token is spent
+    /// ```
     fn unlock_shared(&self, guard: Self::SharedGuard)
     where
         Self::Runtime: Wait,
@@ -87,6 +107,14 @@ pub trait RawRwLock {
         ensures { shared_unlocked guard };
 
     /// Waits until no other hold is left.
+    ///
+    /// Blocks while another holds the lock in any mode. A thread that asks for a lock which it has waits for itself for
+    /// ever.
+    ///
+    /// ```text
+    /// let token = raw.lock_exclusive(&mut me);
+    /// raw.unlock_exclusive(token);
+    /// ```
     fn lock_exclusive(&self, party: &mut Self::Party) -> Self::ExclusiveGuard
     where
         Self::Runtime: Wait,
@@ -94,11 +122,20 @@ pub trait RawRwLock {
         ensures call { exclusive_locked result };
 
     /// An exclusive hold at once, or None. It waits for nobody.
+    ///
+    /// ```text
+    /// if let Some(token) = raw.try_lock_exclusive() { raw.unlock_exclusive(token); }
+    /// ```
     fn try_lock_exclusive(&self) -> Option<Self::ExclusiveGuard>
         ensures issued { IfSome result (λ token. exclusive_by token ≡ number self.now) }
         ensures call { exclusive_tried self.now result };
 
     /// Gives the exclusive hold up. It may wait for the short sections in which sleeping threads are woken.
+    ///
+    /// ```text
+    /// let token = raw.lock_exclusive(&mut me);
+    /// raw.unlock_exclusive(token);   // the token is spent
+    /// ```
     fn unlock_exclusive(&self, guard: Self::ExclusiveGuard)
     where
         Self::Runtime: Wait,
@@ -106,10 +143,18 @@ pub trait RawRwLock {
         ensures { exclusive_unlocked guard };
 
     /// Whether any hold was out at the moment of one look.
+    ///
+    /// ```text
+    /// let used = raw.is_locked();
+    /// ```
     fn is_locked(&self) -> bool
         ensures { looked self.now result };
 
     /// Whether an exclusive hold was out at the moment of one look.
+    ///
+    /// ```text
+    /// let written = raw.is_locked_exclusive();
+    /// ```
     fn is_locked_exclusive(&self) -> bool
         ensures { looked_exclusive self.now result };
 }
@@ -129,6 +174,11 @@ pub trait RawRwLockFair: RawRwLock {
     ghost exclusive_bumped: { Self.ExclusiveGuard → Self.ExclusiveGuard → Type 0 } = { λ _ _. ⊤ };
 
     /// Gives a shared hold up. The last shared release hands over exactly as a plain one does.
+    ///
+    /// ```text
+    /// let token = raw.lock_shared(&mut me);
+    /// raw.unlock_shared_fair(token);
+    /// ```
     fn unlock_shared_fair(&self, guard: Self::SharedGuard)
     where
         Self::Runtime: Wait,
@@ -136,6 +186,11 @@ pub trait RawRwLockFair: RawRwLock {
         ensures { shared_spent_fairly guard };
 
     /// Gives the exclusive hold up, and hands the lock to those who wait without letting go in between.
+    ///
+    /// ```text
+    /// let token = raw.lock_exclusive(&mut me);
+    /// raw.unlock_exclusive_fair(token);   // whoever waits longest has it next
+    /// ```
     fn unlock_exclusive_fair(&self, guard: Self::ExclusiveGuard)
     where
         Self::Runtime: Wait,
@@ -143,6 +198,12 @@ pub trait RawRwLockFair: RawRwLock {
         ensures { exclusive_spent_fairly guard };
 
     /// If a writer waits, a fair shared release and then a blocking shared acquisition, and else nothing.
+    ///
+    /// ```text
+    /// let token = raw.lock_shared(&mut me);
+    /// let token = raw.bump_shared(token, &mut me);
+    /// raw.unlock_shared(token);
+    /// ```
     fn bump_shared(&self, guard: Self::SharedGuard, party: &mut Self::Party) -> Self::SharedGuard
     where
         Self::Runtime: Wait,
@@ -151,6 +212,12 @@ pub trait RawRwLockFair: RawRwLock {
         ensures bump { shared_bumped guard result };
 
     /// If somebody waits, a fair exclusive release and then a blocking exclusive acquisition, and else nothing.
+    ///
+    /// ```text
+    /// let token = raw.lock_exclusive(&mut me);
+    /// let token = raw.bump_exclusive(token, &mut me);
+    /// raw.unlock_exclusive(token);
+    /// ```
     fn bump_exclusive(
         &self,
         guard: Self::ExclusiveGuard,
@@ -170,6 +237,12 @@ pub trait RawRwLockDowngrade: RawRwLock {
     ghost downgraded: { Self.ExclusiveGuard → Self.SharedGuard → Type 0 } = { λ _ _. ⊤ };
 
     /// Turns the exclusive hold into a shared one without letting go, and wakes those who may now enter.
+    ///
+    /// ```text
+    /// let writer = raw.lock_exclusive(&mut me);
+    /// let reader = raw.downgrade(writer);
+    /// raw.unlock_shared(reader);
+    /// ```
     fn downgrade(&self, guard: Self::ExclusiveGuard) -> Self::SharedGuard
     where
         Self::Runtime: Wait,
@@ -196,6 +269,11 @@ pub trait RawRwLockTimed: RawRwLock {
 
     /// As `lock_shared`, but None if the wait is given up after the length of time, by the clock that is handed in. A
     /// length that leads past what a moment can say is no limit.
+    ///
+    /// ```text
+    /// let soon = Duration::from_millis(5);
+    /// if let Some(token) = raw.try_lock_shared_for(soon, &rt, &mut me) { raw.unlock_shared(token); }
+    /// ```
     fn try_lock_shared_for<C: Clock>(
         &self,
         timeout: Self::Duration,
@@ -208,6 +286,10 @@ pub trait RawRwLockTimed: RawRwLock {
         ensures call { shared_locked_in_time result };
 
     /// As `lock_shared`, but None if the wait is given up at the moment, by the clock that is handed in.
+    ///
+    /// ```text
+    /// if let Some(token) = raw.try_lock_shared_until(deadline, &rt, &mut me) { raw.unlock_shared(token); }
+    /// ```
     fn try_lock_shared_until<C: Clock>(
         &self,
         deadline: Self::Instant,
@@ -220,6 +302,11 @@ pub trait RawRwLockTimed: RawRwLock {
         ensures call { shared_locked_in_time result };
 
     /// As `lock_exclusive`, but None if the wait is given up after the length of time.
+    ///
+    /// ```text
+    /// let soon = Duration::from_millis(5);
+    /// if let Some(token) = raw.try_lock_exclusive_for(soon, &rt, &mut me) { raw.unlock_exclusive(token); }
+    /// ```
     fn try_lock_exclusive_for<C: Clock>(
         &self,
         timeout: Self::Duration,
@@ -232,6 +319,10 @@ pub trait RawRwLockTimed: RawRwLock {
         ensures call { exclusive_locked_in_time result };
 
     /// As `lock_exclusive`, but None if the wait is given up at the moment.
+    ///
+    /// ```text
+    /// if let Some(token) = raw.try_lock_exclusive_until(deadline, &rt, &mut me) { raw.unlock_exclusive(token); }
+    /// ```
     fn try_lock_exclusive_until<C: Clock>(
         &self,
         deadline: Self::Instant,
@@ -270,6 +361,13 @@ pub trait RawRwLockUpgrade: RawRwLock {
     ghost upgrade_tried: { Self.UpgradableGuard → Result Self.ExclusiveGuard Self.UpgradableGuard → Type 0 } = { λ _ _. ⊤ };
 
     /// Waits for an upgradable hold. At a full count of readers it yields and tries again until there is room.
+    ///
+    /// Blocks while another is exclusive or upgradable.
+    ///
+    /// ```text
+    /// let token = raw.lock_upgradable(&mut me);
+    /// raw.unlock_upgradable(token);
+    /// ```
     fn lock_upgradable(&self, party: &mut Self::Party) -> Self::UpgradableGuard
     where
         Self::Runtime: Wait,
@@ -277,11 +375,20 @@ pub trait RawRwLockUpgrade: RawRwLock {
         ensures call { upgradable_locked result };
 
     /// An upgradable hold at once, or None. It waits for nobody.
+    ///
+    /// ```text
+    /// if let Some(token) = raw.try_lock_upgradable() { raw.unlock_upgradable(token); }
+    /// ```
     fn try_lock_upgradable(&self) -> Option<Self::UpgradableGuard>
         ensures issued { IfSome result (λ token. upgradable_by token ≡ Self.number self.now) }
         ensures call { upgradable_tried self.now result };
 
     /// Gives the upgradable hold up.
+    ///
+    /// ```text
+    /// let token = raw.lock_upgradable(&mut me);
+    /// raw.unlock_upgradable(token);   // the token is spent
+    /// ```
     fn unlock_upgradable(&self, guard: Self::UpgradableGuard)
     where
         Self::Runtime: Wait,
@@ -289,6 +396,14 @@ pub trait RawRwLockUpgrade: RawRwLock {
         ensures { upgradable_unlocked guard };
 
     /// Keeps new readers out at once, and waits until the other readers are gone. Nobody else is exclusive in between.
+    ///
+    /// Blocks while others read. A thread that reads the same lock by another hold waits for itself for ever.
+    ///
+    /// ```text
+    /// let reader = raw.lock_upgradable(&mut me);
+    /// let writer = raw.upgrade(reader, &mut me);
+    /// raw.unlock_exclusive(writer);
+    /// ```
     fn upgrade(&self, guard: Self::UpgradableGuard, party: &mut Self::Party) -> Self::ExclusiveGuard
     where
         Self::Runtime: Wait,
@@ -298,6 +413,13 @@ pub trait RawRwLockUpgrade: RawRwLock {
 
     /// The exclusive token if no other reader is left, and else the token that was handed in, with nothing changed. It
     /// waits for nobody.
+    ///
+    /// ```text
+    /// match raw.try_upgrade(raw.lock_upgradable(&mut me)) {
+    ///     Ok(writer) => raw.unlock_exclusive(writer),
+    ///     Err(reader) => raw.unlock_upgradable(reader),
+    /// }
+    /// ```
     fn try_upgrade(
         &self,
         guard: Self::UpgradableGuard,
@@ -317,6 +439,11 @@ pub trait RawRwLockUpgradeFair: RawRwLockUpgrade + RawRwLockFair {
     ghost upgradable_bumped: { Self.UpgradableGuard → Self.UpgradableGuard → Type 0 } = { λ _ _. ⊤ };
 
     /// Gives the upgradable hold up, and hands over to those who wait.
+    ///
+    /// ```text
+    /// let token = raw.lock_upgradable(&mut me);
+    /// raw.unlock_upgradable_fair(token);
+    /// ```
     fn unlock_upgradable_fair(&self, guard: Self::UpgradableGuard)
     where
         Self::Runtime: Wait,
@@ -324,6 +451,12 @@ pub trait RawRwLockUpgradeFair: RawRwLockUpgrade + RawRwLockFair {
         ensures { upgradable_spent_fairly guard };
 
     /// If somebody waits, a fair upgradable release and then a blocking upgradable acquisition, and else nothing.
+    ///
+    /// ```text
+    /// let token = raw.lock_upgradable(&mut me);
+    /// let token = raw.bump_upgradable(token, &mut me);
+    /// raw.unlock_upgradable(token);
+    /// ```
     fn bump_upgradable(
         &self,
         guard: Self::UpgradableGuard,
@@ -347,6 +480,12 @@ pub trait RawRwLockUpgradeDowngrade: RawRwLockUpgrade + RawRwLockDowngrade {
     ghost downgraded_to_upgradable: { Self.ExclusiveGuard → Self.UpgradableGuard → Type 0 } = { λ _ _. ⊤ };
 
     /// Turns the upgradable hold into a shared one without letting go.
+    ///
+    /// ```text
+    /// let upgradable = raw.lock_upgradable(&mut me);
+    /// let reader = raw.downgrade_upgradable(upgradable);
+    /// raw.unlock_shared(reader);
+    /// ```
     fn downgrade_upgradable(&self, guard: Self::UpgradableGuard) -> Self::SharedGuard
     where
         Self::Runtime: Wait,
@@ -355,6 +494,12 @@ pub trait RawRwLockUpgradeDowngrade: RawRwLockUpgrade + RawRwLockDowngrade {
         ensures call { upgradable_downgraded guard result };
 
     /// Turns the exclusive hold into an upgradable one without letting go.
+    ///
+    /// ```text
+    /// let writer = raw.lock_exclusive(&mut me);
+    /// let upgradable = raw.downgrade_to_upgradable(writer);
+    /// raw.unlock_upgradable(upgradable);
+    /// ```
     fn downgrade_to_upgradable(&self, guard: Self::ExclusiveGuard) -> Self::UpgradableGuard
     where
         Self::Runtime: Wait,
@@ -374,6 +519,11 @@ pub trait RawRwLockUpgradeTimed: RawRwLockUpgrade + RawRwLockTimed {
     ghost upgraded_in_time: { Self.UpgradableGuard → Result Self.ExclusiveGuard Self.UpgradableGuard → Type 0 } = { λ _ _. ⊤ };
 
     /// As `lock_upgradable`, but None if the wait is given up after the length of time.
+    ///
+    /// ```text
+    /// let soon = Duration::from_millis(5);
+    /// if let Some(token) = raw.try_lock_upgradable_for(soon, &rt, &mut me) { raw.unlock_upgradable(token); }
+    /// ```
     fn try_lock_upgradable_for<C: Clock>(
         &self,
         timeout: Self::Duration,
@@ -387,6 +537,14 @@ pub trait RawRwLockUpgradeTimed: RawRwLockUpgrade + RawRwLockTimed {
 
     /// As `upgrade`, but if the wait is given up the token that was handed in comes back and the lock is upgradable
     /// again, with nobody exclusive in between.
+    ///
+    /// ```text
+    /// let reader = raw.lock_upgradable(&mut me);
+    /// match raw.try_upgrade_for(reader, Duration::from_millis(5), &rt, &mut me) {
+    ///     Ok(writer) => raw.unlock_exclusive(writer),
+    ///     Err(reader) => raw.unlock_upgradable(reader),
+    /// }
+    /// ```
     fn try_upgrade_for<C: Clock>(
         &self,
         guard: Self::UpgradableGuard,
@@ -402,6 +560,10 @@ pub trait RawRwLockUpgradeTimed: RawRwLockUpgrade + RawRwLockTimed {
         ensures call { upgraded_in_time guard result };
 
     /// As `lock_upgradable`, but None if the wait is given up at the moment.
+    ///
+    /// ```text
+    /// if let Some(token) = raw.try_lock_upgradable_until(deadline, &rt, &mut me) { raw.unlock_upgradable(token); }
+    /// ```
     fn try_lock_upgradable_until<C: Clock>(
         &self,
         deadline: Self::Instant,
@@ -414,6 +576,10 @@ pub trait RawRwLockUpgradeTimed: RawRwLockUpgrade + RawRwLockTimed {
         ensures call { upgradable_locked_in_time result };
 
     /// As `try_upgrade_for`, but the wait is given up at the moment.
+    ///
+    /// ```text
+    /// let tried = raw.try_upgrade_until(reader, deadline, &rt, &mut me);   // Ok(writer), or Err(reader)
+    /// ```
     fn try_upgrade_until<C: Clock>(
         &self,
         guard: Self::UpgradableGuard,

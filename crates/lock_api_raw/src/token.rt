@@ -34,6 +34,10 @@ impl Model for GuardSend {
 
 impl GuardSend {
     /// A token of the lock with this number. It takes no memory.
+    ///
+    /// ```text
+    /// Some(GuardSend::new(&self.number))
+    /// ```
     pub fn new(lock: &u64) -> GuardSend
         ensures { result ≡ lock.now }
     {
@@ -43,6 +47,10 @@ impl GuardSend {
     }
 
     /// Ends the token. It is for the release of the lock that issued it.
+    ///
+    /// ```text
+    /// guard.spend();
+    /// ```
     pub fn spend(self) {
         let GuardSend { lock: _ } = self;
     }
@@ -66,6 +74,10 @@ impl Model for GuardNoSend {
 
 impl GuardNoSend {
     /// A token of the lock with this number. It takes no memory.
+    ///
+    /// ```text
+    /// Ok(GuardNoSend::new(&self.number))
+    /// ```
     pub fn new(lock: &u64) -> GuardNoSend
         ensures { result ≡ lock.now }
     {
@@ -75,6 +87,10 @@ impl GuardNoSend {
     }
 
     /// Ends the token. It is for the release of the lock that issued it.
+    ///
+    /// ```text
+    /// guard.spend();
+    /// ```
     pub fn spend(self) {
         let GuardNoSend { token } = self;
         token.spend();

@@ -27,7 +27,12 @@ impl<R: RawRwLock + Drop, T: Drop> RwLock<R, T>
 where
     R::Runtime: Wait,
 {
-    /// Clones the Arc, and then waits for a shared hold. A refused clone takes no lock.
+    /// Clones the Arc, and then waits for a shared hold. A refused clone takes no lock. Blocks as `read`. `NoMemory`
+    /// where the clone is refused.
+    ///
+    /// ```text
+    /// let rate = RwLock::read_arc(&rates, &mut me)?.with(|rate| *rate);
+    /// ```
     pub fn read_arc<A: Allocator>(
         this: &Arc<RwLock<R, T>, A>,
         party: &mut R::Party,
@@ -40,6 +45,10 @@ where
     }
 
     /// Clones the Arc, and then tries: None where the hold can't be had. A refused clone takes no lock.
+    ///
+    /// ```text
+    /// if let Some(rate) = RwLock::try_read_arc(&rates)? { println!(rt; "{}", rate.with(|rate| *rate))?; }
+    /// ```
     pub fn try_read_arc<A: Allocator>(
         this: &Arc<RwLock<R, T>, A>,
     ) -> Result<Option<ArcRwLockReadGuard<R, T, A>>, NoMemory>
@@ -50,7 +59,12 @@ where
         Ok(ArcGuard::if_held(RawHold::at_once_by_clone(this)?))
     }
 
-    /// Clones the Arc, and then waits for an exclusive hold. A refused clone takes no lock.
+    /// Clones the Arc, and then waits for an exclusive hold. A refused clone takes no lock. Blocks as `write`.
+    /// `NoMemory` where the clone is refused.
+    ///
+    /// ```text
+    /// RwLock::write_arc(&rates, &mut me)?.with_mut(|rate| *rate = 120);
+    /// ```
     pub fn write_arc<A: Allocator>(
         this: &Arc<RwLock<R, T>, A>,
         party: &mut R::Party,
@@ -63,6 +77,10 @@ where
     }
 
     /// Clones the Arc, and then tries: None where the hold can't be had. A refused clone takes no lock.
+    ///
+    /// ```text
+    /// if let Some(mut rate) = RwLock::try_write_arc(&rates)? { rate.with_mut(|rate| *rate = 120); }
+    /// ```
     pub fn try_write_arc<A: Allocator>(
         this: &Arc<RwLock<R, T>, A>,
     ) -> Result<Option<ArcRwLockWriteGuard<R, T, A>>, NoMemory>
@@ -80,6 +98,10 @@ where
 {
     /// Clones the Arc, and then waits: None if the wait is given up after the length of time. A refused clone takes no
     /// lock.
+    ///
+    /// ```text
+    /// let rate = RwLock::try_read_arc_for(&rates, Duration::from_millis(5), &rt, &mut me)?;
+    /// ```
     pub fn try_read_arc_for<C: Clock, A: Allocator>(
         this: &Arc<RwLock<R, T>, A>,
         timeout: R::Duration,
@@ -97,6 +119,10 @@ where
     }
 
     /// Clones the Arc, and then waits: None if the wait is given up at the moment. A refused clone takes no lock.
+    ///
+    /// ```text
+    /// let rate = RwLock::try_read_arc_until(&rates, deadline, &rt, &mut me)?;
+    /// ```
     pub fn try_read_arc_until<C: Clock, A: Allocator>(
         this: &Arc<RwLock<R, T>, A>,
         deadline: R::Instant,
@@ -115,6 +141,10 @@ where
 
     /// Clones the Arc, and then waits: None if the wait is given up after the length of time. A refused clone takes no
     /// lock.
+    ///
+    /// ```text
+    /// let rate = RwLock::try_write_arc_for(&rates, Duration::from_millis(5), &rt, &mut me)?;
+    /// ```
     pub fn try_write_arc_for<C: Clock, A: Allocator>(
         this: &Arc<RwLock<R, T>, A>,
         timeout: R::Duration,
@@ -132,6 +162,10 @@ where
     }
 
     /// Clones the Arc, and then waits: None if the wait is given up at the moment. A refused clone takes no lock.
+    ///
+    /// ```text
+    /// let rate = RwLock::try_write_arc_until(&rates, deadline, &rt, &mut me)?;
+    /// ```
     pub fn try_write_arc_until<C: Clock, A: Allocator>(
         this: &Arc<RwLock<R, T>, A>,
         deadline: R::Instant,
@@ -153,7 +187,12 @@ impl<R: RawRwLockUpgrade + Drop, T: Drop> RwLock<R, T>
 where
     R::Runtime: Wait,
 {
-    /// Clones the Arc, and then waits for an upgradable hold. A refused clone takes no lock.
+    /// Clones the Arc, and then waits for an upgradable hold. A refused clone takes no lock. Blocks as
+    /// `upgradable_read`. `NoMemory` where the clone is refused.
+    ///
+    /// ```text
+    /// let mut rate = RwLock::upgradable_read_arc(&rates, &mut me)?;
+    /// ```
     pub fn upgradable_read_arc<A: Allocator>(
         this: &Arc<RwLock<R, T>, A>,
         party: &mut R::Party,
@@ -166,6 +205,10 @@ where
     }
 
     /// Clones the Arc, and then tries: None where the hold can't be had. A refused clone takes no lock.
+    ///
+    /// ```text
+    /// let rate = RwLock::try_upgradable_read_arc(&rates)?;
+    /// ```
     pub fn try_upgradable_read_arc<A: Allocator>(
         this: &Arc<RwLock<R, T>, A>,
     ) -> Result<Option<ArcRwLockUpgradableReadGuard<R, T, A>>, NoMemory>
@@ -183,6 +226,10 @@ where
 {
     /// Clones the Arc, and then waits: None if the wait is given up after the length of time. A refused clone takes no
     /// lock.
+    ///
+    /// ```text
+    /// let rate = RwLock::try_upgradable_read_arc_for(&rates, Duration::from_millis(5), &rt, &mut me)?;
+    /// ```
     pub fn try_upgradable_read_arc_for<C: Clock, A: Allocator>(
         this: &Arc<RwLock<R, T>, A>,
         timeout: R::Duration,
@@ -200,6 +247,10 @@ where
     }
 
     /// Clones the Arc, and then waits: None if the wait is given up at the moment. A refused clone takes no lock.
+    ///
+    /// ```text
+    /// let rate = RwLock::try_upgradable_read_arc_until(&rates, deadline, &rt, &mut me)?;
+    /// ```
     pub fn try_upgradable_read_arc_until<C: Clock, A: Allocator>(
         this: &Arc<RwLock<R, T>, A>,
         deadline: R::Instant,

@@ -58,6 +58,10 @@ pub struct GaveUp<M, R, P, T> {
 ///
 /// Where it is a parameter's bound, nothing is known of its members but what its calls ensure, and their receipts come
 /// from holds alone.
+///
+/// ```text
+/// R::tell_found(Found { lock, from, to, value, mode: PhantomData });   // snapshots, made under the hold
+/// ```
 pub trait Evidence<T>: RawRwLock {
     /// That an exclusive hold of the lock was had by the wait that took the party from one to the other, and that it
     /// found the first value and left the second.

@@ -9,6 +9,11 @@ use std::rt::Clock;
 use std::sync::Wait;
 
 /// A mode in which a raw lock can be held: how a token of it is had, and how it is spent. For the layer above.
+///
+/// ```text
+/// let token = M::lock(raw, party);   // blocks, and `M::try_lock(raw)` doesn't
+/// M::unlock(raw, token);
+/// ```
 pub trait Mode<R> {
     /// The token of a hold.
     type Token;
@@ -55,6 +60,11 @@ pub trait Mode<R> {
 }
 
 /// A mode whose release can be fair. For the layer above.
+///
+/// ```text
+/// let token = M::bump(raw, token, party);
+/// M::unlock_fair(raw, token);
+/// ```
 pub trait FairMode<R>: Mode<R> {
     /// That a fair release spent the token. Where the mode is of any type, a fair release alone gives it.
     ghost spent_fairly: { Self.Token → Type 0 } = { λ _. ⊤ };
@@ -79,6 +89,10 @@ pub trait FairMode<R>: Mode<R> {
 }
 
 /// A mode whose wait can give up. For the layer above.
+///
+/// ```text
+/// let token = M::lock_for(raw, timeout, clock, party)?;   // or `lock_until`, with the moment
+/// ```
 pub trait TimedMode<R>: Mode<R> {
     /// A length of time.
     type Duration;

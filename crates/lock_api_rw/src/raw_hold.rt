@@ -74,6 +74,13 @@ pub trait LockValue<'l, M: Mode<Self::Raw>>: HasRaw {
 /// A lock, and a token of the mode `M` that it issued. For the layer above.
 ///
 /// It is linear, as its token is.
+///
+/// ```text
+/// let hold: RawHold<&Mutex<R, T>, Locked> = RawHold::wait(mutex, party);   // `at_once`, `wait_for`, `wait_until`
+/// let lock = hold.place().raw();
+/// let (mutex, token) = hold.into_parts();
+/// let hold = RawHold::new(mutex, token);   // asks that the token is one of that mutex
+/// ```
 pub struct RawHold<L: Place, M: Mode<<L::Lock as HasRaw>::Raw>> {
     place: L,
     token: M::Token,

@@ -69,6 +69,10 @@ pub type MappedRwLockWriteGuard<'l, R, T, P> = Mapped<
 
 impl<R, T> RwLock<R, T> {
     /// Puts a value behind a raw lock that exists. Nothing is to be out of it.
+    ///
+    /// ```text
+    /// let rates = RwLock::from_raw(PackedLock::new(rt, 8)?, 100);
+    /// ```
     pub fn from_raw(raw: R, value: T) -> RwLock<R, T>
         ensures { result ≡ raw }
     {
@@ -79,6 +83,10 @@ impl<R, T> RwLock<R, T> {
     }
 
     /// The value. That the lock is owned shows that nobody holds it.
+    ///
+    /// ```text
+    /// let rate = rates.into_inner();
+    /// ```
     pub fn into_inner(self) -> T
     where
         R: Drop,
@@ -88,6 +96,10 @@ impl<R, T> RwLock<R, T> {
     }
 
     /// The raw lock and the value.
+    ///
+    /// ```text
+    /// let (raw, rate) = rates.into_inner_with_raw();
+    /// ```
     pub fn into_inner_with_raw(self) -> (R, T)
         ensures { result.0 ≡ self }
     {
@@ -96,6 +108,10 @@ impl<R, T> RwLock<R, T> {
     }
 
     /// Lends the value, without a lock. That the lock is borrowed alone shows that nobody holds it.
+    ///
+    /// ```text
+    /// *rates.get_mut() = 100;
+    /// ```
     pub fn get_mut(&mut self) -> &mut T {
         self.value.get_mut()
     }
@@ -249,6 +265,10 @@ impl<R: RawRwLock, T: Drop> RwLock<R, T> {
     }
 
     /// `new` with the value's default.
+    ///
+    /// ```text
+    /// let rates: RwLock<'_, '_, u64, HostRuntime> = RwLock::default(&table, 8)?;   // of 0
+    /// ```
     pub fn default<S>(source: S, readers: u64) -> Result<RwLock<R, T>, TableFull>
     where
         R: MakeLock<S>,
@@ -261,6 +281,10 @@ impl<R: RawRwLock, T: Drop> RwLock<R, T> {
 
 impl<R: RawRwLock, T> RwLock<R, T> {
     /// Whether any hold was out at the moment of one look.
+    ///
+    /// ```text
+    /// let used = rates.is_locked();
+    /// ```
     pub fn is_locked(&self) -> bool
         ensures { R.looked self.now result }
     {
@@ -268,6 +292,10 @@ impl<R: RawRwLock, T> RwLock<R, T> {
     }
 
     /// Whether an exclusive hold was out at the moment of one look.
+    ///
+    /// ```text
+    /// let written = rates.is_locked_exclusive();
+    /// ```
     pub fn is_locked_exclusive(&self) -> bool
         ensures { R.looked_exclusive self.now result }
     {
@@ -373,6 +401,10 @@ where
     }
 
     /// An upgradable guard at once, or None. It waits for nobody.
+    ///
+    /// ```text
+    /// if let Some(rate) = rates.try_upgradable_read() { println!(rt; "{}", *rate)?; }
+    /// ```
     #[inline(always)]
     pub fn try_upgradable_read(&self) -> Option<RwLockUpgradableReadGuard<'_, R, T>>
         ensures lock { IfSome result (λ guard. guard.held.0.place.now ≡ self.now) }

@@ -32,6 +32,10 @@ where
     }
 
     /// As `read`, but None if the raw lock's wait is given up at the moment, by the clock that is handed in.
+    ///
+    /// ```text
+    /// let rate = rates.try_read_until(deadline, &rt, &mut me).map(|rate| *rate);
+    /// ```
     pub fn try_read_until<C: Clock>(
         &self,
         deadline: R::Instant,
@@ -67,6 +71,10 @@ where
     }
 
     /// As `write`, but None if the raw lock's wait is given up at the moment, by the clock that is handed in.
+    ///
+    /// ```text
+    /// if let Some(mut rate) = rates.try_write_until(deadline, &rt, &mut me) { *rate = 120; }
+    /// ```
     pub fn try_write_until<C: Clock>(
         &self,
         deadline: R::Instant,
@@ -88,6 +96,10 @@ where
 {
     /// As `upgradable_read`, but None if the raw lock's wait is given up after the length of time, by the clock that is
     /// handed in.
+    ///
+    /// ```text
+    /// let rate = rates.try_upgradable_read_for(Duration::from_millis(5), &rt, &mut me);
+    /// ```
     pub fn try_upgradable_read_for<C: Clock>(
         &self,
         timeout: R::Duration,
@@ -103,6 +115,10 @@ where
     }
 
     /// As `upgradable_read`, but None if the raw lock's wait is given up at the moment, by the clock that is handed in.
+    ///
+    /// ```text
+    /// let rate = rates.try_upgradable_read_until(deadline, &rt, &mut me);
+    /// ```
     pub fn try_upgradable_read_until<C: Clock>(
         &self,
         deadline: R::Instant,

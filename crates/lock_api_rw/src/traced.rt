@@ -19,6 +19,12 @@ use std::sync::Wait;
 /// above.
 ///
 /// It ends by `give_back`, which tells what it found and what it left. Its drop tells nothing.
+///
+/// ```text
+/// let mut shard = write_traced(lock, party);
+/// let old = shard.insert(hash, key, value);
+/// shard.give_back();   // and now there is evidence of what was found and left
+/// ```
 pub struct Traced<W: Lender + Drop, H: Hold>
 where
     H::Runtime: Wait,

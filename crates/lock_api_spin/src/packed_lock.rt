@@ -27,6 +27,13 @@ const EXCHANGES: u32 = 64;
 ///
 /// A call that has to wait yields and tries again, so the lock is fair to nobody, and while an upgrade waits new
 /// readers are admitted. It takes no memory.
+///
+/// ```text
+/// let raw = PackedLock::new(rt, 8)?;   // at most 8 readers
+/// let reader = raw.lock_shared(&mut party);
+/// let writes = raw.try_lock_exclusive().map(|token| raw.unlock_exclusive(token));   // None
+/// raw.unlock_shared(reader);
+/// ```
 #[derive(Drop)]
 pub struct PackedLock<R: Drop> {
     word: AtomicU64,

@@ -13,6 +13,12 @@ use std::sync::Wait;
 use std::time::{Duration, Instant};
 
 /// A raw mutex for tests: a [`PackedLock`] that is taken exclusively alone.
+///
+/// ```text
+/// let raw = PackedMutex::new(rt, 1)?;
+/// let token = raw.lock(&mut party);   // `party` is the number of whoever asks
+/// raw.unlock(token);
+/// ```
 #[derive(Drop)]
 pub struct PackedMutex<R: Drop> {
     lock: PackedLock<R>,

@@ -5,6 +5,10 @@ use lock_api_raw::GetThreadId;
 use std::num::NonZeroUsize;
 
 /// Tells the parties of the locks here apart: each is a number, and threads lend different ones.
+///
+/// ```text
+/// let number = Parties::new().nonzero_thread_id(&party).get();   // one more than the party
+/// ```
 #[derive(Drop)]
 pub struct Parties;
 

@@ -9,6 +9,10 @@ use parking_lot_core_model::LotFault;
 use std::alloc::Allocator;
 
 /// Records one more occurrence of a resource, or changes nothing where memory is refused.
+///
+/// ```text
+/// deadlock::acquire_resource(&mut me, 3)?;
+/// ```
 pub fn acquire_resource<A: Allocator>(
     thread_data: &mut ThreadData<A>,
     key: usize,
@@ -23,6 +27,10 @@ pub fn acquire_resource<A: Allocator>(
 }
 
 /// Forgets one occurrence of a resource, if there is one.
+///
+/// ```text
+/// deadlock::release_resource(&mut me, 3);
+/// ```
 pub fn release_resource<A: Allocator>(thread_data: &mut ThreadData<A>, key: usize)
     ensures { thread_data.new ≡ record thread_data.old
         { resources = without_first (λ k. k == key) thread_data.old.resources } }
@@ -34,6 +42,10 @@ pub fn release_resource<A: Allocator>(thread_data: &mut ThreadData<A>, key: usiz
 }
 
 /// The recorded resources, each as often as it is recorded.
+///
+/// ```text
+/// let mine = deadlock::resources(&me)?;   // the keys
+/// ```
 pub fn resources<A: Allocator + Clone>(
     thread_data: &ThreadData<A>,
 ) -> Result<Vec<usize, A>, LotFault>

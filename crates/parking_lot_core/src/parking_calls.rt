@@ -26,6 +26,14 @@ use std::time::{Clock, Instant};
 ///
 /// `validate` and `timed_out` must not call the lot. `before_sleep` may call the four unparks. Callers show that the
 /// participant is one of this lot.
+///
+/// Blocks until it is unparked, or the moment is past. It takes no memory.
+///
+/// ```text
+/// let closed = || is_open.load(Ordering::SeqCst) == 0;   // asked under the lock of the key's list
+/// let timeout: Option<(Instant, &HostRuntime)> = None;   // or the moment, and the clock
+/// let ended = park(&lot, &mut me, key, closed, || {}, |_, _| {}, DEFAULT_PARK_TOKEN, timeout);
+/// ```
 pub fn park<R: Wait, A: Allocator, V, B, T, C: Clock>(
     lot: &ParkingLot<R, A>,
     thread_data: &mut ThreadData<A>,
@@ -103,6 +111,12 @@ fn begin<R: Wait, A: Allocator, V: FnOnce() -> bool + Drop>(
 
 /// Takes the first waiter of a key and wakes it. The callback gets what is answered and gives the token, also where
 /// nobody waits. It must not call the lot.
+///
+/// Waits at most for the lot's short sections.
+///
+/// ```text
+/// let answer = unpark_one(&lot, key, |_| UnparkToken(42));   // whoever was woken is told 42
+/// ```
 pub fn unpark_one<R: Wait, A: Allocator, C: FnOnce(UnparkResult) -> UnparkToken + Drop>(
     lot: &ParkingLot<R, A>,
     key: usize,
@@ -127,6 +141,12 @@ pub fn unpark_one<R: Wait, A: Allocator, C: FnOnce(UnparkResult) -> UnparkToken 
 }
 
 /// Takes all waiters of a key, wakes them with the token and answers how many they were.
+///
+/// Waits at most for the lot's short sections.
+///
+/// ```text
+/// let woken = unpark_all(&lot, key, DEFAULT_UNPARK_TOKEN);
+/// ```
 pub fn unpark_all<R: Wait, A: Allocator>(
     lot: &ParkingLot<R, A>,
     key: usize,
@@ -146,6 +166,13 @@ pub fn unpark_all<R: Wait, A: Allocator>(
 /// Does with the waiters of `key_from` what the validation answers: one may be woken, with the callback's token, and
 /// others may be moved to the end of `key_to`'s list. `Abort` changes nothing, and there the callback isn't called.
 /// Neither may call the lot.
+///
+/// Waits at most for the lot's short sections.
+///
+/// ```text
+/// let one = || RequeueOp::UnparkOneRequeueRest;
+/// let answer = unpark_requeue(&lot, key, key.wrapping_add(1), one, |_, _| DEFAULT_UNPARK_TOKEN);
+/// ```
 pub fn unpark_requeue<R: Wait, A: Allocator, V, C>(
     lot: &ParkingLot<R, A>,
     key_from: usize,
@@ -176,6 +203,13 @@ where
 
 /// Shows the tokens of a key's waiters to a filter, in order, until it stops, and takes those that it wants. They are
 /// woken with the callback's token. Neither may call the lot.
+///
+/// Waits at most for the lot's short sections.
+///
+/// ```text
+/// let readers = |token: ParkToken| if token.0 == 1 { FilterOp::Unpark } else { FilterOp::Stop };
+/// let answer = unpark_filter(&lot, key, readers, |_| DEFAULT_UNPARK_TOKEN);
+/// ```
 pub fn unpark_filter<R: Wait, A: Allocator, F, C>(
     lot: &ParkingLot<R, A>,
     key: usize,

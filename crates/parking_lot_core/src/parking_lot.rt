@@ -37,6 +37,12 @@ pub struct ParkingLot<R, A: Allocator = Global> {
 impl<R: Drop, A: Allocator + Clone> ParkingLot<R, A> {
     /// Makes a lot for at most `max_threads` threads at a time, from 1 to 65,536, that bears `number`. Different lots
     /// are to get different numbers.
+    ///
+    /// `BadSize` for another amount of threads, and `NoMemory`.
+    ///
+    /// ```text
+    /// let lot = ParkingLot::new(rt, rt.alloc(), 16, 7)?;   // at most 16 threads at a time
+    /// ```
     pub fn new(
         rt: R,
         alloc: A,
@@ -62,6 +68,10 @@ impl<R: Drop, A: Allocator + Clone> ParkingLot<R, A> {
 
 impl<R, A: Allocator> ParkingLot<R, A> {
     /// The number that it was made with.
+    ///
+    /// ```text
+    /// let seven = lot.number();
+    /// ```
     pub fn number(&self) -> u64
         ensures { result ≡ self.now.number }
     {
@@ -69,6 +79,10 @@ impl<R, A: Allocator> ParkingLot<R, A> {
     }
 
     /// The most threads that it can have at one time.
+    ///
+    /// ```text
+    /// let most = lot.max_threads();
+    /// ```
     pub fn max_threads(&self) -> usize
         ensures { result ≡ self.now.max_threads }
     {
@@ -76,6 +90,10 @@ impl<R, A: Allocator> ParkingLot<R, A> {
     }
 
     /// The runtime, for the layers above.
+    ///
+    /// ```text
+    /// let rt = lot.runtime();
+    /// ```
     pub fn runtime(&self) -> &R
         ensures { result.now ≡ self.now.rt }
     {
@@ -83,6 +101,10 @@ impl<R, A: Allocator> ParkingLot<R, A> {
     }
 
     /// Whether the participant is one of this lot.
+    ///
+    /// ```text
+    /// let known = lot.same_lot(&me);
+    /// ```
     pub fn same_lot(&self, thread_data: &ThreadData<A>) -> bool
         ensures { IsTrue result ↔
             ((thread_data.now.lot ≡ self.now.number) × (thread_data.now.thread < self.now.max_threads)) }
@@ -91,6 +113,10 @@ impl<R, A: Allocator> ParkingLot<R, A> {
     }
 
     /// Hands out a range of `count` keys that no earlier claim had, and answers its first. The first claim starts at 0.
+    ///
+    /// ```text
+    /// let first = lot.claim_keys(2);   // and `first + 1` is this caller's too
+    /// ```
     pub fn claim_keys(&self, count: usize) -> usize {
         self.keys.fetch_add(count, Ordering::SeqCst)
     }
@@ -99,6 +125,12 @@ impl<R, A: Allocator> ParkingLot<R, A> {
 impl<R: Wait, A: Allocator + Clone> ParkingLot<R, A> {
     /// Registers a participant under the least number that is free, and makes all the room that its waits need. A
     /// refusal leaves the number free and every list as it was.
+    ///
+    /// Waits at most for the lot's short sections. A refusal is `TooManyThreads` or `NoMemory`.
+    ///
+    /// ```text
+    /// let mut me = lot.thread_data()?;   // once for each thread
+    /// ```
     pub fn thread_data(&self) -> Result<ThreadData<A>, LotFault>
         ensures made { IfOk result
             (λ thread_data. (thread_data.lot ≡ self.now.number) × (thread_data.thread < self.now.max_threads)
@@ -112,6 +144,12 @@ impl<R: Wait, A: Allocator + Clone> ParkingLot<R, A> {
     }
 
     /// Gives a participant's number back, and forgets what is recorded for that number in the lot.
+    ///
+    /// Callers show that it is one of this lot, which `same_lot` tests. Waits at most for the lot's short sections.
+    ///
+    /// ```text
+    /// if lot.same_lot(&me) { lot.retire(me); }
+    /// ```
     pub fn retire(&self, thread_data: ThreadData<A>)
         requires { (thread_data.lot ≡ self.now.number) × (thread_data.thread < self.now.max_threads) }
         ensures { OnSomeLot (Does (λ m. retire_fault m thread_data.thread) (Makes (λ m. retired m thread_data.thread)))

@@ -36,6 +36,11 @@ impl Model for SpinWait {
 
 impl SpinWait {
     /// No rounds yet.
+    ///
+    /// ```text
+    /// let mut spin = SpinWait::new();
+    /// let waited = spin.spin();   // true
+    /// ```
     pub fn new() -> SpinWait
         ensures { result ≡ 0 }
     {
@@ -43,6 +48,12 @@ impl SpinWait {
     }
 
     /// Begins anew.
+    ///
+    /// ```text
+    /// let mut spin = SpinWait::new();
+    /// spin.spin_no_yield();
+    /// spin.reset();   // as new
+    /// ```
     pub fn reset(&mut self)
         ensures { self.new ≡ 0 }
     {
@@ -51,6 +62,11 @@ impl SpinWait {
 
     /// Waits for a round, and answers whether it did: not where ten rounds have passed. The first three rounds keep the
     /// processor, the others let another thread run.
+    ///
+    /// ```text
+    /// let mut spin = SpinWait::new();
+    /// if !spin.spin() { println!(rt; "time to sleep")?; }
+    /// ```
     pub fn spin(&mut self) -> bool
         ensures answer { result ≡ nat_lt self.old 10 }
         ensures rounds { self.new ≡ min (self.old + 1) 10 }
@@ -68,6 +84,11 @@ impl SpinWait {
     }
 
     /// Waits for a round and keeps the processor, also where ten rounds have passed.
+    ///
+    /// ```text
+    /// let mut spin = SpinWait::new();
+    /// spin.spin_no_yield();
+    /// ```
     pub fn spin_no_yield(&mut self)
         ensures { self.new ≡ min (self.old + 1) 10 }
     {
@@ -97,6 +118,13 @@ fn relax(rounds: u32) {
 }
 
 /// Lets another thread run. Nothing is promised of when this one goes on.
+///
+/// ```text
+/// for _ in rt.forever() {
+///     if flag.load(Ordering::SeqCst) == 1 { break; }
+///     thread_yield();
+/// }
+/// ```
 pub fn thread_yield() {
     std::thread::yield_now();
 }

@@ -27,6 +27,10 @@ impl<A: Allocator> Model for ThreadData<A> {
 
 impl<A: Allocator> ThreadData<A> {
     /// The number of the lot that made it.
+    ///
+    /// ```text
+    /// let lot = me.lot_number();
+    /// ```
     pub fn lot_number(&self) -> u64
         ensures { result ≡ self.now.lot }
     {
@@ -34,6 +38,10 @@ impl<A: Allocator> ThreadData<A> {
     }
 
     /// Its number in that lot, from 0.
+    ///
+    /// ```text
+    /// let number = me.thread_number();   // from 0
+    /// ```
     pub fn thread_number(&self) -> usize
         ensures { result ≡ self.now.thread }
     {

@@ -5,32 +5,68 @@ use std::time::{Clock, Duration, Instant};
 
 /// A seat on which one thread sleeps until another unparks it. The seat's thread says first that it is about to sleep;
 /// from then on it can be unparked, so that no unpark is lost.
+///
+/// ```text
+/// let seat = ThreadParker::new();
+/// seat.prepare_park(&rt);
+/// seat.unpark_lock(&rt).unpark();   // by another thread, which was told of the seat
+/// seat.park(&rt);                   // comes back at once, as it was unparked
+/// ```
 pub trait ThreadParkerT<'s> {
     /// What wakes the thread.
     type UnparkHandle: UnparkHandleT;
 
     /// A seat that is unparked.
+    ///
+    /// ```text
+    /// let seat = ThreadParker::new();
+    /// ```
     fn new() -> Self;
 
     /// Says that the seat's thread is about to sleep. That thread calls it, before others can know of it.
+    ///
+    /// ```text
+    /// seat.prepare_park(&rt);
+    /// ```
     fn prepare_park<R: Wait>(&self, rt: &R);
 
     /// After a `park_until` that gave up: whether nobody has unparked the seat since.
+    ///
+    /// ```text
+    /// let slept_through = !seat.park_until(&rt, deadline, &rt) && seat.timed_out(&rt);
+    /// ```
     fn timed_out<R: Wait>(&self, rt: &R) -> bool;
 
     /// Sleeps until the seat is unparked.
+    ///
+    /// ```text
+    /// seat.park(&rt);
+    /// ```
     fn park<R: Wait>(&self, rt: &R);
 
     /// The same, but answers false if the moment is past first. A clock that can't be read counts as past it.
+    ///
+    /// ```text
+    /// let unparked = seat.park_until(&rt, deadline, &rt);
+    /// ```
     fn park_until<R: Wait, C: Clock>(&self, rt: &R, timeout: Instant, clock: &C) -> bool;
 
     /// Marks the seat as unparked, and gives the handle that wakes its thread.
+    ///
+    /// ```text
+    /// seat.unpark_lock(&rt).unpark();
+    /// ```
     fn unpark_lock<R: Wait>(&'s self, rt: &R) -> Self::UnparkHandle;
 }
 
 /// Wakes the thread of one seat.
 pub trait UnparkHandleT {
     /// Wakes the thread. The handle is spent.
+    ///
+    /// ```text
+    /// let handle = seat.unpark_lock(&rt);
+    /// handle.unpark();
+    /// ```
     fn unpark(self);
 }
 

@@ -20,6 +20,10 @@ pub struct WordLockPass<'l> {
 
 impl WordLock {
     /// Unlocked.
+    ///
+    /// ```text
+    /// let lock = WordLock::new();
+    /// ```
     pub fn new() -> WordLock {
         WordLock {
             taken: Mutex::new(()),
@@ -27,6 +31,14 @@ impl WordLock {
     }
 
     /// Waits until it is unlocked, and locks it.
+    ///
+    /// Blocks while another has it. A thread that has it and asks again waits for itself for ever.
+    ///
+    /// ```text
+    /// let lock = WordLock::new();
+    /// let pass = lock.lock(&rt);
+    /// lock.unlock(pass);
+    /// ```
     pub fn lock<R: Wait>(&self, rt: &R) -> WordLockPass<'_> {
         WordLockPass {
             guard: self.taken.lock(rt),
@@ -34,6 +46,12 @@ impl WordLock {
     }
 
     /// Unlocks what the pass has locked. It waits for nobody.
+    ///
+    /// ```text
+    /// let lock = WordLock::new();
+    /// let pass = lock.lock(&rt);
+    /// lock.unlock(pass);   // the pass is spent
+    /// ```
     pub fn unlock(&self, pass: WordLockPass<'_>) {
         let WordLockPass { guard } = pass;
         drop(guard);

@@ -90,6 +90,10 @@ impl<'t, 'l, R: Wait, A: Allocator> RawMutex<'t, 'l, R, A> {
     ///
     /// The moment is looked at where the thread sleeps. So a mutex that can be had at once is had, also where the
     /// moment is past.
+    ///
+    /// ```text
+    /// if let Some(token) = raw.lock_until(deadline, &rt, &mut me) { raw.unlock(token); }
+    /// ```
     #[inline(always)]
     pub fn lock_until<C: Clock>(
         &self,
@@ -110,6 +114,10 @@ impl<'t, 'l, R: Wait, A: Allocator> RawMutex<'t, 'l, R, A> {
 
     /// As [`lock_until`](RawMutex::lock_until), with the moment that lies `timeout` ahead. Where no moment can say
     /// that, it waits as long as it takes.
+    ///
+    /// ```text
+    /// if let Some(token) = raw.lock_for(Duration::from_millis(5), &rt, &mut me) { raw.unlock(token); }
+    /// ```
     pub fn lock_for<C: Clock>(
         &self,
         timeout: Duration,

@@ -80,6 +80,10 @@ impl<'t, 'l, R: Wait, const RECURSIVE: u8, A: Allocator> RawRwLock<'t, 'l, R, RE
     ///
     /// The moment is looked at where the thread sleeps. So a lock that can be had at once is had, also where the moment
     /// is past.
+    ///
+    /// ```text
+    /// if let Some(token) = raw.read_until(deadline, &rt, &mut me) { raw.unlock_shared(token); }
+    /// ```
     #[inline(always)]
     pub fn read_until<C: Clock>(
         &self,
@@ -101,6 +105,10 @@ impl<'t, 'l, R: Wait, const RECURSIVE: u8, A: Allocator> RawRwLock<'t, 'l, R, RE
 
     /// As [`read_until`](RawRwLock::read_until), with the moment that lies `timeout` ahead. Where no moment can say
     /// that, it waits as long as it takes.
+    ///
+    /// ```text
+    /// if let Some(token) = raw.read_for(Duration::from_millis(5), &rt, &mut me) { raw.unlock_shared(token); }
+    /// ```
     pub fn read_for<C: Clock>(
         &self,
         timeout: Duration,
@@ -120,6 +128,10 @@ impl<'t, 'l, R: Wait, const RECURSIVE: u8, A: Allocator> RawRwLock<'t, 'l, R, RE
 
     /// As [`read_until`](RawRwLock::read_until), of the exclusive hold. One that waits for readers to leave gives up
     /// there too: the lock is as if it had never asked, and those that it kept out are looked after.
+    ///
+    /// ```text
+    /// if let Some(token) = raw.write_until(deadline, &rt, &mut me) { raw.unlock_exclusive(token); }
+    /// ```
     #[inline(always)]
     pub fn write_until<C: Clock>(
         &self,
@@ -144,6 +156,10 @@ impl<'t, 'l, R: Wait, const RECURSIVE: u8, A: Allocator> RawRwLock<'t, 'l, R, RE
     }
 
     /// As [`write_until`](RawRwLock::write_until), with the moment that lies `timeout` ahead.
+    ///
+    /// ```text
+    /// if let Some(token) = raw.write_for(Duration::from_millis(5), &rt, &mut me) { raw.unlock_exclusive(token); }
+    /// ```
     pub fn write_for<C: Clock>(
         &self,
         timeout: Duration,
@@ -162,6 +178,10 @@ impl<'t, 'l, R: Wait, const RECURSIVE: u8, A: Allocator> RawRwLock<'t, 'l, R, RE
     }
 
     /// As [`read_until`](RawRwLock::read_until), of the upgradable hold.
+    ///
+    /// ```text
+    /// if let Some(token) = raw.upgradable_until(deadline, &rt, &mut me) { raw.unlock_upgradable(token); }
+    /// ```
     #[inline(always)]
     pub fn upgradable_until<C: Clock>(
         &self,
@@ -182,6 +202,11 @@ impl<'t, 'l, R: Wait, const RECURSIVE: u8, A: Allocator> RawRwLock<'t, 'l, R, RE
     }
 
     /// As [`upgradable_until`](RawRwLock::upgradable_until), with the moment that lies `timeout` ahead.
+    ///
+    /// ```text
+    /// let soon = Duration::from_millis(5);
+    /// if let Some(token) = raw.upgradable_for(soon, &rt, &mut me) { raw.unlock_upgradable(token); }
+    /// ```
     pub fn upgradable_for<C: Clock>(
         &self,
         timeout: Duration,
@@ -201,6 +226,14 @@ impl<'t, 'l, R: Wait, const RECURSIVE: u8, A: Allocator> RawRwLock<'t, 'l, R, RE
 
     /// Makes the upgradable hold the exclusive one, or gives up at the moment: then it is the upgradable one again,
     /// with nobody exclusive in between, and the token comes back.
+    ///
+    /// ```text
+    /// let upgradable = raw.lock_upgradable(&mut me);
+    /// match raw.upgraded_until(upgradable, deadline, &rt, &mut me) {
+    ///     Ok(writer) => raw.unlock_exclusive(writer),
+    ///     Err(reader) => raw.unlock_upgradable(reader),
+    /// }
+    /// ```
     #[inline(always)]
     pub fn upgraded_until<C: Clock>(
         &self,
@@ -228,6 +261,14 @@ impl<'t, 'l, R: Wait, const RECURSIVE: u8, A: Allocator> RawRwLock<'t, 'l, R, RE
     }
 
     /// As [`upgraded_until`](RawRwLock::upgraded_until), with the moment that lies `timeout` ahead.
+    ///
+    /// ```text
+    /// let upgradable = raw.lock_upgradable(&mut me);
+    /// match raw.upgraded_for(upgradable, Duration::from_millis(5), &rt, &mut me) {
+    ///     Ok(writer) => raw.unlock_exclusive(writer),
+    ///     Err(reader) => raw.unlock_upgradable(reader),
+    /// }
+    /// ```
     pub fn upgraded_for<C: Clock>(
         &self,
         guard: UpgradableToken,

@@ -100,6 +100,12 @@ impl<'t, 'l, R: Wait, const RECURSIVE: u8, A: Allocator> RawRwLock<'t, 'l, R, RE
     }
 
     /// Makes the upgradable hold the exclusive one: new readers are kept out at once, and the others are waited for.
+    ///
+    /// ```text
+    /// let upgradable = raw.lock_upgradable(&mut me);
+    /// let writer = raw.upgraded(upgradable, &mut me);
+    /// raw.unlock_exclusive(writer);
+    /// ```
     #[inline(always)]
     pub fn upgraded(&self, guard: UpgradableToken, party: &mut ThreadData<A>) -> ExclusiveToken
         ensures token { result ≡ guard }
@@ -112,6 +118,12 @@ impl<'t, 'l, R: Wait, const RECURSIVE: u8, A: Allocator> RawRwLock<'t, 'l, R, RE
     }
 
     /// Makes the upgradable hold a shared one.
+    ///
+    /// ```text
+    /// let upgradable = raw.lock_upgradable(&mut me);
+    /// let reader = raw.downgraded_to_shared(upgradable);
+    /// raw.unlock_shared(reader);
+    /// ```
     #[inline(always)]
     pub fn downgraded_to_shared(&self, guard: UpgradableToken) -> SharedToken
         ensures token { result ≡ guard }
@@ -131,6 +143,12 @@ impl<'t, 'l, R: Wait, const RECURSIVE: u8, A: Allocator> RawRwLock<'t, 'l, R, RE
     }
 
     /// Makes the exclusive hold an upgradable one.
+    ///
+    /// ```text
+    /// let writer = raw.lock_exclusive(&mut me);
+    /// let upgradable = raw.downgraded_to_upgradable(writer);
+    /// raw.unlock_upgradable(upgradable);
+    /// ```
     #[inline(always)]
     pub fn downgraded_to_upgradable(&self, guard: ExclusiveToken) -> UpgradableToken
         ensures token { result ≡ guard }

@@ -222,6 +222,12 @@ where
     }
 
     /// As `map` where the part is there, and else the same guard back, still locked.
+    ///
+    /// ```text
+    /// if let Some(pair) = map.get_mut(&7, &mut me) {
+    ///     if let Ok(mut inside) = pair.map(First).try_map(Inside) { *inside = 3; }
+    /// }
+    /// ```
     pub fn try_map<Q: Projection<P::Out> + Drop>(
         self,
         projection: Q,

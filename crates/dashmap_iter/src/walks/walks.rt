@@ -80,6 +80,10 @@ where
             (td.old, tt {0}) (td.new, tt {0}) };
 
     /// As `retain`.
+    ///
+    /// ```text
+    /// map._retain(|_, count| *count > 0, &mut me);
+    /// ```
     fn _retain<F: FnMut(&K, &mut V) -> bool + Drop>(&self, f: F, td: &mut Q::Party)
     where
         K: Drop,
@@ -89,12 +93,20 @@ where
             (λ p q. Walked (AtFull (Keeps F.FnMut)) (length p.1.slots) p q) (td.old, f) (td.new, last) };
 
     /// As `alter_all`.
+    ///
+    /// ```text
+    /// map._alter_all(|_, count| count.wrapping_add(1), &mut me);
+    /// ```
     fn _alter_all<F: FnMut(&K, V) -> V + Drop>(&self, f: F, td: &mut Q::Party)
         requires { F.IsAlwaysCallable f }
         ensures { (last : F) × EachLocked Q.held (seen self.now)
             (λ p q. Walked (AtFull (Alters F.FnMut)) (length p.1.slots) p q) (td.old, f) (td.new, last) };
 
     /// As `clear`.
+    ///
+    /// ```text
+    /// map._clear(&mut me);
+    /// ```
     fn _clear(&self, td: &mut Q::Party)
     where
         K: Drop,

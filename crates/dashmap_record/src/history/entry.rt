@@ -17,6 +17,10 @@ pub enum Call<K, V> {
 
 impl<K, V> Call<K, V> {
     /// The key that the call is about.
+    ///
+    /// ```text
+    /// let seven = *Call::Remove::<u64, u64>(7).key();
+    /// ```
     pub fn key(&self) -> &K
         ensures { result.now ≡ key_of self.now }
     {
@@ -63,6 +67,10 @@ pub struct Entered<K, V> {
 /// number above it.
 ///
 /// The last stamps 4 and 7 give 8, and 0 and 0 give 1.
+///
+/// ```text
+/// let stamp = next_stamp(4, 7);   // Some(8)
+/// ```
 pub fn next_stamp(caller_last: u64, shard_last: u64) -> Option<u64>
     ensures { MatchOption result (2 ^ 64 ≤ max caller_last shard_last + 1)
         (λ stamp. stamp ≡ max caller_last shard_last + 1) }

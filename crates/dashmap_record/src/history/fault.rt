@@ -29,6 +29,10 @@ pub enum GatherFault {
 
 impl GatherFault {
     /// The number of the fault.
+    ///
+    /// ```text
+    /// let number = GatherFault::WrongReply.code();   // 47
+    /// ```
     pub fn code(&self) -> u16
         ensures { result ≡ gather_fault_code self.now }
     {

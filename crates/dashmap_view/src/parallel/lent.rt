@@ -34,6 +34,10 @@ impl<'v, K: Eq + Hash, V, A: Allocator> Model for Iter<'v, K, V, A> {
 
 impl<'v, K: Eq + Hash, V, A: Allocator> Iter<'v, K, V, A> {
     /// The pairs of these shards.
+    ///
+    /// ```text
+    /// let pairs = Iter::new(&shards);
+    /// ```
     pub fn new(shards: &'v [Shard<K, V, A>]) -> Iter<'v, K, V, A>
         ensures { result ≡ shards.now }
     {
@@ -43,6 +47,10 @@ impl<'v, K: Eq + Hash, V, A: Allocator> Iter<'v, K, V, A> {
 
 impl<'v, K: Eq + Hash + Sync, V: Sync, A: Allocator + Sync> Iter<'v, K, V, A> {
     /// Calls the closure once for each pair. It takes no memory.
+    ///
+    /// ```text
+    /// view.par_iter().for_each(&rt, |_, count| { total.fetch_add(*count, Ordering::SeqCst); });
+    /// ```
     pub fn for_each<R: Threads + Sync, F: Fn(&K, &V) + Sync>(self, rt: &R, f: F)
         requires { F.IsAlwaysCallable f }
         ensures { All (λ p. AnswersOf F.Fn f p tt) (all_pairs self.entry) }
@@ -61,6 +69,10 @@ impl<'v, K: Eq + Hash + Sync, V: Sync, A: Allocator + Sync> Iter<'v, K, V, A> {
     /// would make.
     ///
     /// Refused as `NoMemory`, where the list or a part of it finds no room.
+    ///
+    /// ```text
+    /// let counts = view.par_iter().map_collect(&rt, alloc, |_, count| *count)?;
+    /// ```
     pub fn map_collect<
         R: Threads + Sync,
         T: Send + Drop,

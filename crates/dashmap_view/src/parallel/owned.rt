@@ -34,6 +34,10 @@ impl<K: Eq + Hash, V, A: Allocator> Model for OwningIter<K, V, A> {
 
 impl<K: Eq + Hash, V, A: Allocator> OwningIter<K, V, A> {
     /// The pairs of these shards.
+    ///
+    /// ```text
+    /// let pairs = OwningIter::new(shards);
+    /// ```
     pub fn new(shards: Vec<Shard<K, V, A>, A>) -> OwningIter<K, V, A>
         ensures { result ≡ shards.items }
     {
@@ -43,6 +47,10 @@ impl<K: Eq + Hash, V, A: Allocator> OwningIter<K, V, A> {
 
 impl<K: Eq + Hash + Send + Drop, V: Send + Drop, A: Allocator + Clone + Send> OwningIter<K, V, A> {
     /// Gives the closure each pair once. It takes no memory.
+    ///
+    /// ```text
+    /// view.into_par_iter().for_each(&rt, |_, count| { total.fetch_add(count, Ordering::SeqCst); });
+    /// ```
     pub fn for_each<R: Threads + Sync, F: Fn(K, V) + Sync>(self, rt: &R, f: F)
         requires { F.IsAlwaysCallable f }
         ensures { All (λ p. MakesOf F.Fn f p tt) (all_pairs self) }
@@ -62,6 +70,10 @@ impl<K: Eq + Hash + Send + Drop, V: Send + Drop, A: Allocator + Clone + Send> Ow
     /// would make.
     ///
     /// Refused as `NoMemory`, where the list or a part of it finds no room; then all pairs are let go.
+    ///
+    /// ```text
+    /// let counts = view.into_par_iter().map_collect(&rt, alloc, |_, count| count)?;
+    /// ```
     pub fn map_collect<
         R: Threads + Sync,
         T: Send + Drop,

@@ -18,10 +18,18 @@ pub trait ParallelView<K: Eq + Hash, V, A: Allocator>: Sized {
     ghost tables_of: { Self → List (Table K V) };
 
     /// All pairs, lent: shards go side by side.
+    ///
+    /// ```text
+    /// let counts = view.par_iter().map_collect(&rt, alloc, |_, count| *count)?;
+    /// ```
     fn par_iter(&self) -> Iter<'_, K, V, A>
         ensures { result ≡ tables_of self.now };
 
     /// All pairs by value: shards go side by side.
+    ///
+    /// ```text
+    /// view.into_par_iter().for_each(&rt, |_, _| ());
+    /// ```
     fn into_par_iter(self) -> OwningIter<K, V, A>
         ensures { result ≡ tables_of self };
 }

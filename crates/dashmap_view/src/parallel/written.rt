@@ -14,6 +14,10 @@ use std::thread::Threads;
 /// memory.
 ///
 /// Afterwards each value is what a call of the closure left of it, and all else is as it was.
+///
+/// ```text
+/// par_write(&rt, &mut plain, |_, count| *count = count.wrapping_add(1));
+/// ```
 pub fn par_write<
     K: Eq + Hash + Send,
     V: Send,

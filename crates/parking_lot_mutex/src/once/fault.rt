@@ -12,6 +12,10 @@ pub struct Poisoned;
 
 impl Poisoned {
     /// The number of the refusal.
+    ///
+    /// ```text
+    /// let number = Poisoned.code();   // 24
+    /// ```
     pub fn code(&self) -> u16
         ensures { result ≡ 24 }
     {
@@ -43,6 +47,10 @@ pub enum OnceFault<E> {
 
 impl<E> OnceFault<E> {
     /// The number of the refusal, `None` of a closure's own error.
+    ///
+    /// ```text
+    /// let number = OnceFault::Failed(5_u8).code();   // None: the closure's own error
+    /// ```
     pub fn code(&self) -> Option<u16>
         ensures { result ≡ fault_code self.now }
     {

@@ -42,6 +42,10 @@ pub struct Once<'t, 'l, R, A: Allocator = Global> {
 
 impl<'t, 'l, R, A: Allocator> Once<'t, 'l, R, A> {
     /// One for which no closure has run. [`TableFull`] where the table has no row left.
+    ///
+    /// ```text
+    /// let once = Once::new(&table)?;
+    /// ```
     pub fn new(table: &'t LockTable<'l, R, A>) -> Result<Once<'t, 'l, R, A>, TableFull>
         ensures { IfOk result (λ once. once.row.table.now ≡ table.now) }
     {
@@ -51,6 +55,10 @@ impl<'t, 'l, R, A: Allocator> Once<'t, 'l, R, A> {
     }
 
     /// One that is done from the beginning. [`TableFull`] where the table has no row left.
+    ///
+    /// ```text
+    /// let once = Once::new_completed(&table)?;
+    /// ```
     pub fn new_completed(table: &'t LockTable<'l, R, A>) -> Result<Once<'t, 'l, R, A>, TableFull>
         ensures { IfOk result (λ once. once.row.table.now ≡ table.now) }
     {
@@ -60,6 +68,10 @@ impl<'t, 'l, R, A: Allocator> Once<'t, 'l, R, A> {
     }
 
     /// The same as [`new`](Once::new).
+    ///
+    /// ```text
+    /// let once = Once::default(&table)?;
+    /// ```
     pub fn default(table: &'t LockTable<'l, R, A>) -> Result<Once<'t, 'l, R, A>, TableFull>
         ensures { IfOk result (λ once. once.row.table.now ≡ table.now) }
     {
@@ -67,11 +79,19 @@ impl<'t, 'l, R, A: Allocator> Once<'t, 'l, R, A> {
     }
 
     /// The state, at one look.
+    ///
+    /// ```text
+    /// let begun = once.state() != OnceState::New;
+    /// ```
     pub fn state(&self) -> OnceState {
         state_of(self.row.load())
     }
 
     /// Whether a closure has ended well, at one look.
+    ///
+    /// ```text
+    /// let done = once.is_completed();
+    /// ```
     pub fn is_completed(&self) -> bool {
         self.state().is_completed()
     }
@@ -121,6 +141,17 @@ impl<R: Wait, A: Allocator> Once<'_, '_, R, A> {
     ///
     /// [`OnceFault::Poisoned`] where the last closure has failed; [`OnceFault::Failed`] where this one does, with its
     /// error.
+    ///
+    /// Blocks while another's closure runs. A closure that calls the same once waits for itself for ever, where it has
+    /// other data of the thread; with the data that the outer call was lent it doesn't compile.
+    ///
+    /// ```text
+    /// let ended = once.call_once(&mut me, || -> Result<(), NotFound> {
+    ///     number.store(search(5000)?, Ordering::SeqCst);   // its error poisons
+    ///     Ok(())
+    /// });
+    /// if ended.is_ok() { println!(rt; "{}", number.load(Ordering::SeqCst))?; }
+    /// ```
     pub fn call_once<E, F: FnOnce() -> Result<(), E> + Drop>(
         &self,
         party: &mut ThreadData<A>,
@@ -145,6 +176,12 @@ impl<R: Wait, A: Allocator> Once<'_, '_, R, A> {
 
     /// The same as [`call_once`](Once::call_once), but it runs the closure also where the last one has failed. The
     /// closure is handed the state before, and its error is handed on.
+    ///
+    /// Blocks as `call_once`.
+    ///
+    /// ```text
+    /// once.call_once_force(&mut me, |before| if before.is_poisoned() { Ok(()) } else { Err(NotFound) })?;
+    /// ```
     pub fn call_once_force<E, F: FnOnce(OnceState) -> Result<(), E> + Drop>(
         &self,
         party: &mut ThreadData<A>,
@@ -164,6 +201,12 @@ impl<R: Wait, A: Allocator> Once<'_, '_, R, A> {
     }
 
     /// Waits until a closure has ended well. [`Poisoned`] where the last one has failed.
+    ///
+    /// Blocks until then, for ever where nobody runs a closure.
+    ///
+    /// ```text
+    /// if once.wait(&mut me).is_ok() { println!(rt; "made")?; }
+    /// ```
     pub fn wait(&self, party: &mut ThreadData<A>) -> Result<(), Poisoned>
         ensures { WaitEnds result }
     {
@@ -178,6 +221,12 @@ impl<R: Wait, A: Allocator> Once<'_, '_, R, A> {
     }
 
     /// Waits until a closure has ended well, also where the last one has failed.
+    ///
+    /// Blocks until then, for ever where no closure ends well.
+    ///
+    /// ```text
+    /// once.wait_force(&mut me);
+    /// ```
     pub fn wait_force(&self, party: &mut ThreadData<A>)
         ensures { Answered (Asking waiting_on) answer.Completed }
     {
