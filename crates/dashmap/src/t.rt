@@ -31,7 +31,7 @@ use std::sync::Wait;
 /// ```text
 /// let shards = map._shard_count();                        // as `shards().count()`
 /// let old = map._insert(7, 70, &mut me).ok().flatten();   // each as the method without an underscore
-/// let count = map._get(&7, &mut me).map(|seven| *seven);
+/// if let Some(seven) = map._get(&7, &mut me) { sum = *seven; }
 /// ```
 pub trait Map<K: Eq + Hash + Drop, V: Drop, S> {
     /// The raw lock of a shard, which the guards name.

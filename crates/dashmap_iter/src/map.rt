@@ -57,7 +57,8 @@ where
     /// As `iter`.
     ///
     /// ```text
-    /// for pair in map._iter(&mut me) { let _count = pair.map(|pair| *pair); }
+    /// let mut walk = map._iter(&mut me);
+    /// while let Some(Ok(pair)) = walk.next() { sum = sum.wrapping_add(*pair); }
     /// ```
     fn _iter<'m, 'd>(&'m self, td: &'d mut Q::Party) -> Iter<'m, 'd, K, V, Q, A>
         ensures { result ≡ record { locks = (seen self.now).locks; next = 0; held = None; from = 0; failed = false } };

@@ -34,7 +34,7 @@ where
     /// As `read`, but None if the raw lock's wait is given up at the moment, by the clock that is handed in.
     ///
     /// ```text
-    /// let rate = rates.try_read_until(deadline, &rt, &mut me).map(|rate| *rate);
+    /// if let Some(rate) = rates.try_read_until(deadline, &rt, &mut me) { sum = *rate; }
     /// ```
     pub fn try_read_until<C: Clock>(
         &self,
