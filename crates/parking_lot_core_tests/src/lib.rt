@@ -9,6 +9,8 @@ mod lists;
 #[cfg(test)]
 mod parking;
 #[cfg(test)]
+mod refusing;
+#[cfg(test)]
 mod script;
 #[cfg(test)]
 mod sections;
