@@ -6,6 +6,7 @@ mod desk;
 mod forms;
 mod lots;
 mod made;
+mod map_worlds;
 mod maps;
 mod owners;
 mod records;
@@ -66,6 +67,8 @@ fn print_all<
     let mut all = print_locks(rt)?;
     all &= print_maps(rt)?;
     all &= print_forms(rt)?;
+    all &= print_lines(rt, "MapWorld::", map_worlds::WHOLE)?;
+    all &= print_lines(rt, "a world's ", map_worlds::LINES)?;
     Ok(all)
 }
 
