@@ -18,7 +18,11 @@ mod clock;
 mod deadline;
 mod decision;
 mod looking;
+mod owned_place;
+mod owned_run;
+mod owned_section;
 mod place;
+mod resting;
 mod run;
 mod section;
 mod table;
@@ -38,6 +42,7 @@ pub use call::{
 };
 pub use deadline::to_deadline;
 pub use decision::DecisionCore;
+pub use owned_place::OwnedPlace;
 pub use parking_lot_protocol::{
     Act, ActResult, CoreAnswer, MutexCore, RwCore, SectionAct, WordChange, wake_sum,
 };

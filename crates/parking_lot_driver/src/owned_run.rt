@@ -1,0 +1,130 @@
+//! Whole calls of a mutex, with the right in hand where the core owns it.
+ghost use Rattle.std.specs.Prelude.{◌≡◌, ℕ};
+ghost use Rattle.parking_lot_driver.specs.Owning.{in_hand, owned_at_end, IsOwnedAtEnd};
+ghost use Rattle.parking_lot_driver.specs.Ends.{mutex_asks, mutex_told};
+ghost use Rattle.parking_lot_driver.specs.Runs.{Ended};
+ghost use Rattle.parking_lot_protocol.specs.MutexTable.{act_of, next_phase};
+ghost use Rattle.parking_lot_protocol.specs.declared.act.Act.TheVariants.{Enter};
+ghost use Rattle.parking_lot_protocol.specs.declared.act.ActResult.TheVariants.{Start};
+
+use crate::call::Call;
+use crate::owned_place::OwnedPlace;
+use crate::resting::Resting;
+use crate::told::Run;
+use lock_word::Claim;
+use parking_lot_core::{SpinWait, ThreadData};
+use parking_lot_protocol::{Act, ActResult, CoreAnswer, MutexCore, SectionAct};
+use std::alloc::Allocator;
+use std::sync::Wait;
+
+impl<R: Wait, A: Allocator> OwnedPlace<'_, R, A> {
+    /// What is in hand after a section: the right, if the call is over and owns the mutex. Then it was left for it.
+    fn takes_up<K: Call<Core = MutexCore>>(&self, rest: Resting<K>) -> (Run<K, MutexCore>, Claim)
+        ensures name { result.1.name ≡ self.now.lock.now.word }
+        ensures has { result.1.owned ≡ in_hand result.0.1.phase }
+    {
+        let run = rest.run;
+        let claim = match run.act() {
+            Act::Done(CoreAnswer::Owned) => self.pick_up().into_claim(),
+            _ => self.word().no_claim(),
+        };
+        (run, claim)
+    }
+
+    /// Goes through a section in which another is woken. The right is left there for whoever is to own the mutex next.
+    fn lets_others<K: Call<Core = MutexCore>>(
+        &self,
+        run: Run<K, MutexCore>,
+        claim: Claim,
+    ) -> (Run<K, MutexCore>, Claim)
+        requires name { claim.name ≡ self.now.lock.now.word }
+        requires had { claim.owned ≡ 1 }
+        requires rests { IsOwnedAtEnd run.1.phase }
+        ensures name { result.1.name ≡ self.now.lock.now.word }
+        ensures has { result.1.owned ≡ in_hand result.0.1.phase }
+    {
+        self.leave(claim.into_owner());
+        let mut rest = Resting { run };
+        self.wake(&mut rest);
+        self.takes_up(rest)
+    }
+
+    /// Goes through a section in which it may sleep.
+    fn sleeps<K: Call<Core = MutexCore>>(
+        &self,
+        run: Run<K, MutexCore>,
+        claim: Claim,
+        party: &mut ThreadData<A>,
+    ) -> (Run<K, MutexCore>, Claim)
+        requires had { claim.owned ≡ 0 }
+        requires rests { IsOwnedAtEnd run.1.phase }
+        ensures name { result.1.name ≡ self.now.lock.now.word }
+        ensures has { result.1.owned ≡ in_hand result.0.1.phase }
+    {
+        claim.end();
+        let mut rest = Resting { run };
+        self.sleep(&mut rest, party);
+        self.takes_up(rest)
+    }
+
+    /// Goes through the section that the call enters.
+    fn enter<K: Call<Core = MutexCore>>(
+        &self,
+        begun: Run<K, MutexCore>,
+        claim: Claim,
+        _key: u8,
+        party: &mut ThreadData<A>,
+    ) -> (Run<K, MutexCore>, Claim)
+        requires act { act_of begun.1.phase ≡ Enter _key }
+        requires name { claim.name ≡ self.now.lock.now.word }
+        requires had { claim.owned ≡ in_hand begun.1.phase }
+        ensures name { result.1.name ≡ self.now.lock.now.word }
+        ensures has { result.1.owned ≡ in_hand result.0.1.phase }
+    {
+        let mut run = begun;
+        match run.learn(ActResult::Entered, 0) {
+            Act::Section(SectionAct::Check) => self.sleeps(run, claim, party),
+            _ => self.lets_others(run, claim),
+        }
+    }
+
+    /// Runs a call to its end, and answers how that was, with the right where the mutex is owned then. It may sleep.
+    ///
+    /// A participant of another lot can't sleep: it yields and looks again.
+    #[inline(never)]
+    pub fn ask<K: Call<Core = MutexCore>>(
+        &self,
+        call: K,
+        had: Claim,
+        party: &mut ThreadData<A>,
+    ) -> (CoreAnswer, Claim)
+        requires name { had.name ≡ self.now.lock.now.word }
+        requires had { had.owned ≡ in_hand (next_phase K.begun.phase Start) }
+        ensures end { Ended mutex_told mutex_asks K.begun result.0 }
+        ensures name { result.1.name ≡ self.now.lock.now.word }
+        ensures has { result.1.owned ≡ owned_at_end result.0 }
+    {
+        let mut run = Run::begin(call);
+        let mut claim = had;
+        let mut spin = SpinWait::new();
+        for _act in self.lot.runtime().forever() {
+            match run.act() {
+                Act::Done(answer) => {
+                    run.ended(answer);
+                    return (answer, claim);
+                }
+                Act::Spin => {
+                    run.learn(ActResult::Spun(spin.spin()), 0);
+                }
+                Act::Enter(key) => {
+                    spin.reset();
+                    let (after, has) = self.enter(run, claim, key, party);
+                    run = after;
+                    claim = has;
+                }
+                act => self.make(act, &mut run, &mut claim),
+            }
+        }
+        unreachable!()
+    }
+}
