@@ -3,7 +3,7 @@ use Rattle.std.specs.Prelude.{◌≡◌, ℕ}
 use Rattle.lock_word.specs.Owning.{then_owned}
 use Rattle.parking_lot_protocol.specs.declared.act.Act.{Act}
 use Rattle.parking_lot_protocol.specs.declared.act.Act.TheVariants as act
-use Rattle.parking_lot_protocol.specs.declared.act.ActResult.TheVariants.{Exchanged}
+use Rattle.parking_lot_protocol.specs.declared.act.ActResult.TheVariants.{Exchanged, Made}
 use Rattle.parking_lot_protocol.specs.declared.act.CoreAnswer.{CoreAnswer}
 use Rattle.parking_lot_protocol.specs.declared.act.CoreAnswer.TheVariants.{Owned, Refused, Released}
 use Rattle.parking_lot_protocol.specs.declared.mutex_phase.MutexPhase.{MutexPhase}
@@ -57,7 +57,8 @@ owned_by a = 0
 abbrev pub IsOwnedAtEnd : MutexPhase → Type 0
 IsOwnedAtEnd p = in_hand p ≡ owned_by (act_of p)
 
--- where an act is an exchange, what is in hand once that is won: the right goes with bit 0
-abbrev pub GoesWithBit0 : Act → MutexPhase → Type 0
-GoesWithBit0 (act.Exchange from to) p = in_hand (next_phase p Exchanged) ≡ then_owned (in_hand p) from to
-GoesWithBit0 a p = Unit {0}
+-- What an act does to what is in hand: an exchange takes the right with bit 0, and in a section nothing is in hand.
+abbrev pub KeepsHand : Act → MutexPhase → Type 0
+KeepsHand (act.Exchange from to) p = in_hand (next_phase p Exchanged) ≡ then_owned (in_hand p) from to
+KeepsHand (act.Section inside) p = (in_hand p ≡ 0) × (in_hand (next_phase p Made) ≡ 0)
+KeepsHand a p = Unit {0}

@@ -18,6 +18,7 @@ mod clock;
 mod deadline;
 mod decision;
 mod looking;
+mod owned_at_once;
 mod owned_place;
 mod owned_run;
 mod owned_section;

@@ -31,7 +31,7 @@ impl<R, A: Allocator> OwnedPlace<'_, R, A> {
         self.lock.word()
     }
 
-    /// Makes an act that isn't a section's, and tells the call what that gave. The right goes with bit 0.
+    /// Makes an act outside a section, and tells the call what that gave. The right goes with bit 0.
     pub(crate) fn make<K: Call<Core = MutexCore>>(
         &self,
         act: Act,
@@ -56,6 +56,10 @@ impl<R, A: Allocator> OwnedPlace<'_, R, A> {
                 } else {
                     run.learn(ActResult::Word(word), word);
                 }
+            }
+            // what is left of a section, and the wakes after it, have been made by the lot
+            Act::Section(_) => {
+                run.tell(ActResult::Made);
             }
             _ => {}
         }

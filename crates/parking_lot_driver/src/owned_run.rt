@@ -11,6 +11,7 @@ use crate::call::Call;
 use crate::owned_place::OwnedPlace;
 use crate::resting::Resting;
 use crate::told::Run;
+use crate::under_way::UnderWay;
 use lock_word::Claim;
 use parking_lot_core::{SpinWait, ThreadData};
 use parking_lot_protocol::{Act, ActResult, CoreAnswer, MutexCore, SectionAct};
@@ -86,6 +87,60 @@ impl<R: Wait, A: Allocator> OwnedPlace<'_, R, A> {
             Act::Section(SectionAct::Check) => self.sleeps(run, claim, party),
             _ => self.lets_others(run, claim),
         }
+    }
+
+    /// Goes through the section that the call enters, and doesn't sleep: a call that would is to look again.
+    fn passes<K: Call<Core = MutexCore>>(
+        &self,
+        begun: Run<K, MutexCore>,
+        claim: Claim,
+        _key: u8,
+    ) -> (Run<K, MutexCore>, Claim)
+        requires act { act_of begun.1.phase ≡ Enter _key }
+        requires name { claim.name ≡ self.now.lock.now.word }
+        requires had { claim.owned ≡ in_hand begun.1.phase }
+        ensures name { result.1.name ≡ self.now.lock.now.word }
+        ensures has { result.1.owned ≡ in_hand result.0.1.phase }
+    {
+        let mut run = begun;
+        match run.learn(ActResult::Entered, 0) {
+            Act::Section(SectionAct::Check) => {
+                claim.end();
+                let mut rest = Resting { run };
+                rest.tell(ActResult::Word(0));
+                self.takes_up(rest)
+            }
+            _ => self.lets_others(run, claim),
+        }
+    }
+
+    /// Runs a call that gives the mutex up to its end, and answers how that was, with the right where the mutex is
+    /// owned then.
+    #[inline(never)]
+    pub fn give_up<K: Call<Core = MutexCore>>(&self, call: K, had: Claim) -> (CoreAnswer, Claim)
+        requires name { had.name ≡ self.now.lock.now.word }
+        requires had { had.owned ≡ in_hand (next_phase K.begun.phase Start) }
+        ensures end { Ended mutex_told mutex_asks K.begun result.0 }
+        ensures name { result.1.name ≡ self.now.lock.now.word }
+        ensures has { result.1.owned ≡ owned_at_end result.0 }
+    {
+        let mut run = Run::begin(call);
+        let mut claim = had;
+        for _act in self.lot.runtime().forever() {
+            match run.act() {
+                Act::Done(answer) => {
+                    run.ended(answer);
+                    return (answer, claim);
+                }
+                Act::Enter(key) => {
+                    let (after, has) = self.passes(run, claim, key);
+                    run = after;
+                    claim = has;
+                }
+                act => self.make(act, &mut run, &mut claim),
+            }
+        }
+        unreachable!()
     }
 
     /// Runs a call to its end, and answers how that was, with the right where the mutex is owned then. It may sleep.
