@@ -6,13 +6,14 @@ ghost use Rattle.parking_lot_driver.specs.Runs.{Ended};
 ghost use Rattle.parking_lot_protocol.specs.MutexTable.{act_of, next_phase};
 ghost use Rattle.parking_lot_protocol.specs.declared.act.Act.TheVariants.{Enter};
 ghost use Rattle.parking_lot_protocol.specs.declared.act.ActResult.TheVariants.{Start};
+ghost use Rattle.parking_lot_protocol.specs.declared.act.CoreAnswer.{CoreAnswer};
 
 use crate::call::Call;
 use crate::owned_place::OwnedPlace;
 use crate::resting::Resting;
 use crate::told::Run;
 use crate::under_way::UnderWay;
-use lock_word::Claim;
+use lock_word::{Claim, Owner};
 use parking_lot_core::{SpinWait, ThreadData};
 use parking_lot_protocol::{Act, ActResult, CoreAnswer, MutexCore, SectionAct};
 use std::alloc::Allocator;
@@ -114,10 +115,8 @@ impl<R: Wait, A: Allocator> OwnedPlace<'_, R, A> {
         }
     }
 
-    /// Runs a call that gives the mutex up to its end, and answers how that was, with the right where the mutex is
-    /// owned then.
-    #[inline(never)]
-    pub fn give_up<K: Call<Core = MutexCore>>(&self, call: K, had: Claim) -> (CoreAnswer, Claim)
+    /// Runs a call that doesn't sleep to its end, and answers how that was, with the right where the mutex is owned then.
+    fn runs_awake<K: Call<Core = MutexCore>>(&self, call: K, had: Claim) -> (CoreAnswer, Claim)
         requires name { had.name ≡ self.now.lock.now.word }
         requires had { had.owned ≡ in_hand (next_phase K.begun.phase Start) }
         ensures end { Ended mutex_told mutex_asks K.begun result.0 }
@@ -141,6 +140,19 @@ impl<R: Wait, A: Allocator> OwnedPlace<'_, R, A> {
             }
         }
         unreachable!()
+    }
+
+    /// Runs a call that gives the mutex up to its end.
+    #[inline(never)]
+    pub fn give_up<K: Call<Core = MutexCore>>(&self, call: K, owner: Owner)
+        requires name { owner ≡ self.now.lock.now.word }
+        requires begins { in_hand (next_phase K.begun.phase Start) ≡ 1 }
+        ensures { (answer : CoreAnswer) × Ended mutex_told mutex_asks K.begun answer }
+    {
+        match self.runs_awake(call, owner.into_claim()) {
+            (CoreAnswer::Owned, claim) => self.leave(claim.into_owner()),
+            (_, claim) => claim.end(),
+        }
     }
 
     /// Runs a call to its end, and answers how that was, with the right where the mutex is owned then. It may sleep.

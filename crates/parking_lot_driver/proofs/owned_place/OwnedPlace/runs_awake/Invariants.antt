@@ -1,6 +1,6 @@
 use Rattle.std.proofs.Common.{◌≡◌}
 use Rattle.parking_lot_driver.specs.Owning.{in_hand}
-use Rattle.parking_lot_driver.proofs.owned_place.OwnedPlace.give_up.Given as goal
+use Rattle.parking_lot_driver.proofs.owned_place.OwnedPlace.runs_awake.Given as goal
 
 -- the right is in hand exactly where the core has it
 abbrev pub invariant-loop-act : goal.invariant-loop-act
