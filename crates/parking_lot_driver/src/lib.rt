@@ -22,6 +22,7 @@ mod owned_at_once;
 mod owned_place;
 mod owned_run;
 mod owned_section;
+mod owned_timed;
 mod place;
 mod resting;
 mod run;

@@ -21,7 +21,7 @@ const PARKED: u64 = 2;
 
 /// A call for a mutex that has begun, and may give up.
 #[derive(Copy)]
-struct TimedLock {
+pub(crate) struct TimedLock {
     course: Course<TimedMutexCore>,
 }
 
@@ -48,21 +48,21 @@ impl Clone for TimedLock {
 
 impl TimedLock {
     /// Begins the call.
-    fn begin() -> TimedLock {
+    pub fn begin() -> TimedLock {
         TimedLock {
             course: Course::begin(TimedMutexCore::lock_until()),
         }
     }
 
     /// The act that it has asked for.
-    fn asked(&self) -> TimedAct
+    pub fn asked(&self) -> TimedAct
         ensures { result ≡ timed_asks self.now.1 }
     {
         self.course.act()
     }
 
     /// That it has come to what it asks for now.
-    fn ended(&self)
+    pub fn ended(&self)
         ensures { TimedEnded (timed_asks self.now.1) }
     {
         self.course.ended();

@@ -20,12 +20,12 @@ pub(crate) trait InTime: Copy {
 }
 
 /// Tells a call what an act of a call that waits gave.
-fn tell<T: InTime>(call: &mut T, seen: ActResult) -> TimedAct {
+pub(crate) fn tell<T: InTime>(call: &mut T, seen: ActResult) -> TimedAct {
     call.told(TimedSeen::Plain(seen))
 }
 
 /// Whether a call joins the list where its check sees this word.
-fn joins<T: InTime>(mut call: T, word: u64) -> bool {
+pub(crate) fn joins<T: InTime>(mut call: T, word: u64) -> bool {
     let act = tell(&mut call, ActResult::Word(word));
     matches!(act, TimedAct::Makes(Act::Section(SectionAct::Append(_))))
 }
@@ -41,13 +41,13 @@ fn quits<T: InTime>(call: &mut T, last: bool) -> TimedAct {
 }
 
 /// Whether a call whose check saw this word masks the parked bit once it has taken itself off the list.
-fn masks<T: InTime>(mut call: T, word: u64, last: bool) -> bool {
+pub(crate) fn masks<T: InTime>(mut call: T, word: u64, last: bool) -> bool {
     tell(&mut call, ActResult::Word(word));
     quits(&mut call, last) == TimedAct::Masks
 }
 
 /// Tells a call how its stay in the section, or its sleep, ended.
-fn after_sleep<T: InTime>(call: &mut T, ended: ParkResult, last: bool) {
+pub(crate) fn after_sleep<T: InTime>(call: &mut T, ended: ParkResult, last: bool) {
     match ended {
         ParkResult::Unparked(token) => {
             tell(call, ActResult::Made);
