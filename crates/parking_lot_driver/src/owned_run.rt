@@ -115,7 +115,8 @@ impl<R: Wait, A: Allocator> OwnedPlace<'_, R, A> {
         }
     }
 
-    /// Runs a call that doesn't sleep to its end, and answers how that was, with the right where the mutex is owned then.
+    /// Runs a call that doesn't sleep to its end, and answers how that was, with the right where the mutex is owned
+    /// then.
     fn runs_awake<K: Call<Core = MutexCore>>(&self, call: K, had: Claim) -> (CoreAnswer, Claim)
         requires name { had.name ≡ self.now.lock.now.word }
         requires had { had.owned ≡ in_hand (next_phase K.begun.phase Start) }

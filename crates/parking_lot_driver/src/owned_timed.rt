@@ -23,8 +23,8 @@ const PARKED: u64 = 2;
 impl<R: Wait, A: Allocator> OwnedPlace<'_, R, A> {
     /// Runs a call that may give up to its end, and answers the owner, if it owns the mutex then.
     ///
-    /// A right that it wins by an exchange it leaves in the second word, as a hand-over does, and picks it up there once
-    /// its core has come to its end.
+    /// A right that it wins by an exchange it leaves in the second word, as a hand-over does, and picks it up there
+    /// once its core has come to its end.
     #[inline(never)]
     pub fn ask_in_time<C: Clock>(
         &self,
@@ -64,8 +64,8 @@ impl<R: Wait, A: Allocator> OwnedPlace<'_, R, A> {
         unreachable!()
     }
 
-    /// Makes an act at the word of a call that owns nothing, and tells what it gave. A right that it wins is left in the
-    /// second word.
+    /// Makes an act at the word of a call that owns nothing, and tells what it gave. A right that it wins is left in
+    /// the second word.
     fn seen_at(&self, act: Act) -> ActResult {
         match act {
             Act::Load => ActResult::Word(self.word().load()),
