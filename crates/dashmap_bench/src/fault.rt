@@ -2,7 +2,6 @@
 
 use dashmap_record::RecordFault;
 use dashmap_table::{MapFault, NoMemory};
-use mapworld::WorldNewFault;
 use parking_lot_core::{LotFault, SizeFault};
 use std::alloc::{AllocError, AllocFailed};
 use std::io;
@@ -55,12 +54,6 @@ impl From<RecordFault> for Fault {
 
 impl From<NoMemory> for Fault {
     fn from(_refused: NoMemory) -> Fault {
-        Fault
-    }
-}
-
-impl From<WorldNewFault> for Fault {
-    fn from(_refused: WorldNewFault) -> Fault {
         Fault
     }
 }

@@ -1,5 +1,5 @@
 //! What the calls of the running map cost, counted from outside by a tool that counts instructions, and how long they
-//! take; and what a step of its model takes.
+//! take.
 //!
 //! Without arguments it makes one small run of each kind, and prints their checksums.
 //!
@@ -16,8 +16,6 @@
 //! by the keys.
 //! - `record CALLS` makes so many calls of a recorded map, gathers them, and prints how many nanoseconds each of them
 //!   took.
-//! - `world THREADS CALLS` makes a world of so many threads with so many calls in all, and prints how many nanoseconds
-//!   each step took; with the word `one` behind them all threads call one key.
 #![tactic(auto)]
 
 mod fault;
@@ -30,7 +28,6 @@ mod table;
 mod threads;
 mod walks;
 mod work;
-mod worlds;
 
 use dashmap_calls::workload::Call;
 use fault::Fault;
@@ -40,7 +37,6 @@ use std::process::ExitCode;
 use std::sync::Wait;
 use std::thread::Threads;
 use std::time::Clock;
-use worlds::{Called, Sizes};
 
 /// What is asked for.
 enum Asked {
@@ -52,7 +48,6 @@ enum Asked {
     Table,
     Sums(Call, u64, usize),
     Record(u64),
-    World(Sizes),
 }
 
 /// What the words behind `table` ask for.
@@ -64,19 +59,6 @@ fn table_of(call: Option<String>, keys: Option<String>, shards: Option<String>) 
             Some(Asked::Sums(call, keys?.parse().ok()?, shards?.parse().ok()?))
         }
     }
-}
-
-/// What the words behind `world` ask for.
-fn sizes_of(threads: Option<String>, calls: Option<String>, keys: Option<String>) -> Option<Sizes> {
-    let keys = match keys {
-        Some(word) => Called::named(word.as_str())?,
-        None => Called::Apart,
-    };
-    Some(Sizes {
-        threads: threads?.parse().ok()?,
-        calls: calls?.parse().ok()?,
-        keys,
-    })
 }
 
 /// The run that the arguments ask for, or the small one.
@@ -92,7 +74,6 @@ fn words_of(rt: &HostRuntime) -> Option<Asked> {
         "mem" => Some(Asked::Memory),
         "table" => table_of(words.next(), words.next(), words.next()),
         "record" => Some(Asked::Record(words.next()?.parse().ok()?)),
-        "world" => Some(Asked::World(sizes_of(words.next(), words.next(), words.next())?)),
         _ => None,
     }
 }
@@ -105,8 +86,6 @@ fn tell_small<R: Wait + Threads + Clock + Sync + Copy + Drop>(
     small_run(rt, handle)?;
     table::print_sums(rt, Call::All, 1_000, 2)?;
     let line = record::small(handle, rt.alloc())?;
-    println!(rt; "{line}")?;
-    let line = worlds::small(rt.alloc())?;
     println!(rt; "{line}")?;
     Ok(())
 }
@@ -134,18 +113,13 @@ fn tell<R: Wait + Threads + Clock + Sync + Copy + Drop>(
             println!(rt; "{line}")?;
             Ok(())
         }
-        Asked::World(sizes) => {
-            let line = worlds::timed(&handle, rt.alloc(), sizes)?;
-            println!(rt; "{line}")?;
-            Ok(())
-        }
     }
 }
 
 fn main(rt: HostRuntime) -> ExitCode {
     let Some(asked) = words_of(&rt) else {
         let _ = eprintln!(rt;
-            "st, mt, par, mem, table, table CALL KEYS SHARDS, record CALLS, world THREADS CALLS [one], or nothing"
+            "st, mt, par, mem, table, table CALL KEYS SHARDS, record CALLS, or nothing"
         );
         return ExitCode::FAILURE;
     };
