@@ -21,4 +21,5 @@ pub claim_is : (vs : List Val) → Is Bare (tt, tt) vs → vs ≡ claim_val ∷ 
 claim_is vs is = is.1.0 ∙ ap (λ (ws : List Val). vstruct (of_list (ws ++ [])) ∷ []) is.1.1.0.1.0
 
 pub claim_made : {M : Type 1} {𝓤 : Ura M} (𝓛 : Logic 𝓤) → ent 𝓤 (emp 𝓤) (sem 𝓛 (Bare.own_val (tt, tt) (claim_val ∷ [])))
-claim_made 𝓛 = makes_shadow 𝓛 (Bare.own_val (tt, tt) (claim_val ∷ [])) (λ vss. (tt, ((λ uss. (tt, tt)), tt))) ((vstruct vnil ∷ [], tt), (refl, ((tt, (refl, tt)), tt)))
+claim_made 𝓛 = makes_shadow 𝓛 (Bare.own_val (tt, tt) (claim_val ∷ []))
+    (λ vss. (tt, ((λ uss. (tt, tt)), tt))) ((vstruct vnil ∷ [], tt), (refl, ((tt, (refl, tt)), tt)))

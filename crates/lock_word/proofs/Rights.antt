@@ -7,7 +7,8 @@ use base.Logic.{SProp, ent, sep, ex, emp, all_e, upd, upd_i, via}
 use base.Fml.{Lft, Share, Fml, ftrue, fsep, fbor, flft}
 use prog.Atomic.{either}
 use types.Logic.{Logic, sem}
-use types.Kit.{‵, ◌⊛◌, ◌$◌, ◌∵◌, !, qed, by, move, keep, drop, split, fsplit, fjoin, fpick, fpack, show, frame, each, assume, suffices, use0, use1, use2, done}
+use types.Kit.{‵, ◌⊛◌, ◌$◌, ◌∵◌, !, qed, by, move, keep, drop, split, fsplit, fjoin, fpick, fpack, show, frame, each}
+use types.Kit.{assume, suffices, use0, use1, use2, done}
 use types.Na.{out, out_once}
 use denote.RawPtr.{block_ptr}
 use Rattle.core.specs.Sync.RawAtomic.{asks, always, word}
@@ -37,7 +38,8 @@ module _ {M : Type 1} {𝓤 : Ura M} (𝓛 : Logic 𝓤) (name : ℕ) where
 
   -- two claims of 1 are absurd
   pub never_both : (X : SProp 𝓤) → ent 𝓤 (sep 𝓤 ⟦ claimed name 1 ⟧ ⟦ claimed name 1 ⟧) (upd 𝓤 X)
-  never_both X = qed 𝓛 (‵ (claimed name 1) ∷ ‵ (claimed name 1) ∷ []) ∵ use1 𝓛 (‵ (out name)) (taken (1 ≡ 1) refl) $ move ! (1 ∷ []) $
+  never_both X = qed 𝓛 (‵ (claimed name 1) ∷ ‵ (claimed name 1) ∷ []) ∵
+      use1 𝓛 (‵ (out name)) (taken (1 ≡ 1) refl) $ move ! (1 ∷ []) $
       use1 𝓛 (‵ (out name)) (taken (1 ≡ 1) refl) $ by ! (out_once 𝓛 name X)
 
   module _ (owned from to : ℕ) (may : MayExchange owned from to) where
@@ -52,31 +54,40 @@ module _ {M : Type 1} {𝓤 : Ura M} (𝓛 : Logic 𝓤) (name : ℕ) where
 
     -- bit 0 is as it was: the right stays where it is
     stays : from % 2 ≡ to % 2 → ent 𝓤 Before After
-    stays same = let same_left : left ≡ owned = omega arith in qed 𝓛 (‵ (kept name from) ∷ ‵ (claimed name owned) ∷ []) ∵
+    stays same = let same_left : left ≡ owned = omega arith in
+        qed 𝓛 (‵ (kept name from) ∷ ‵ (claimed name owned) ∷ []) ∵
         use1 𝓛 (‵ (kept name to)) (turned (from % 2 ≡ 0) (to % 2 ≡ 0) (λ clear. omega arith)) $ move ! (1 ∷ []) $
-        use1 𝓛 (‵ (claimed name left)) (turned (owned ≡ 1) (left ≡ 1) (λ one. omega arith)) $ move ! (1 ∷ 0 ∷ []) $ done !
+        use1 𝓛 (‵ (claimed name left)) (turned (owned ≡ 1) (left ≡ 1) (λ one. omega arith)) $ move ! (1 ∷ 0 ∷ []) $
+        done !
 
     comes : from % 2 ≡ 0 → to % 2 ≡ 1 → ent 𝓤 Before After
     comes clear set = let most = may.2 in qed 𝓛 (‵ (kept name from) ∷ ‵ (claimed name owned) ∷ []) ∵
         use1 𝓛 (‵ (out name)) (taken (from % 2 ≡ 0) clear) $ use1 𝓛 (‵ (claimed name left)) (laid (left ≡ 1)) $
-        use0 𝓛 (‵ (kept name to)) (nothing_laid (to % 2 ≡ 0) (λ holds. absurd (omega arith))) $ keep ! (0 ∷ 1 ∷ []) $ done !
+        use0 𝓛 (‵ (kept name to)) (nothing_laid (to % 2 ≡ 0) (λ holds. absurd (omega arith))) $
+        keep ! (0 ∷ 1 ∷ []) $ done !
 
     goes : from % 2 ≡ 1 → to % 2 ≡ 0 → ent 𝓤 Before After
-    goes set clear = let one : owned ≡ 1 = (let least = may.1 in let most = may.0 in omega arith) in qed 𝓛 (‵ (kept name from) ∷ ‵ (claimed name owned) ∷ []) ∵ drop ! $
+    goes set clear = let one : owned ≡ 1 = (let least = may.1 in let most = may.0 in omega arith) in
+        qed 𝓛 (‵ (kept name from) ∷ ‵ (claimed name owned) ∷ []) ∵ drop ! $
         use1 𝓛 (‵ (out name)) (taken (owned ≡ 1) one) $ use1 𝓛 (‵ (kept name to)) (laid (to % 2 ≡ 0)) $
-        use0 𝓛 (‵ (claimed name left)) (nothing_laid (left ≡ 1) (λ holds. absurd (omega arith))) $ move ! (1 ∷ 0 ∷ []) $ done !
+        use0 𝓛 (‵ (claimed name left)) (nothing_laid (left ≡ 1) (λ holds. absurd (omega arith))) $
+        move ! (1 ∷ 0 ∷ []) $ done !
 
     trades : ent 𝓤 Before After
-    trades = dite (ℕ_discrete (from % 2) (to % 2)) stays (λ differ. dite (ℕ_discrete (from % 2) 0) (λ clear. comes clear (omega arith)) (λ set. goes (omega arith) (omega arith)))
+    trades = dite (ℕ_discrete (from % 2) (to % 2)) stays (λ differ. dite (ℕ_discrete (from % 2) 0)
+        (λ clear. comes clear (omega arith)) (λ set. goes (omega arith) (omega arith)))
 
     -- what the claim is where the step found n
     abbrev pub owned_then : ℕ → ℕ
     owned_then n = either (eqb n from) left owned
 
-    pub steps : (n : ℕ) → ent 𝓤 (sep 𝓤 ⟦ kept name n ⟧ ⟦ claimed name owned ⟧) (sep 𝓤 ⟦ kept name (either (eqb n from) to n) ⟧ ⟦ claimed name (owned_then n) ⟧)
-    steps n = let Goes : Bool → Type 1 = λ y. ent 𝓤 (sep 𝓤 ⟦ kept name n ⟧ ⟦ claimed name owned ⟧) (sep 𝓤 ⟦ kept name (either y to n) ⟧ ⟦ claimed name (either y left owned) ⟧) in
+    pub steps : (n : ℕ) → ent 𝓤 (sep 𝓤 ⟦ kept name n ⟧ ⟦ claimed name owned ⟧) (sep 𝓤 ⟦ kept name (either
+        (eqb n from) to n) ⟧ ⟦ claimed name (owned_then n) ⟧)
+    steps n = let Goes : Bool → Type 1 = λ y. ent 𝓤 (sep 𝓤 ⟦ kept name n ⟧ ⟦ claimed name owned ⟧)
+        (sep 𝓤 ⟦ kept name (either y to n) ⟧ ⟦ claimed name (either y left owned) ⟧) in
         dite (ℕ_discrete n from)
-        (λ hit. subst Goes (sym (eq-eqb n from hit)) (subst (λ (k : ℕ). ent 𝓤 (sep 𝓤 ⟦ kept name k ⟧ ⟦ claimed name owned ⟧) After) (sym hit) trades))
+        (λ hit. subst Goes (sym (eq-eqb n from hit)) (subst (λ (k : ℕ).
+        ent 𝓤 (sep 𝓤 ⟦ kept name k ⟧ ⟦ claimed name owned ⟧) After) (sym hit) trades))
         (λ miss. subst Goes (sym (ne_eqb n from miss)) (qed 𝓛 (‵ (kept name n) ∷ ‵ (claimed name owned) ∷ []) ∵ done !))
 
     pub won : (n : ℕ) → n ≡ from → owned_then n ≡ left
@@ -93,16 +104,26 @@ module _ {M : Type 1} {𝓤 : Ura M} (𝓛 : Logic 𝓤) (name : ℕ) where
     abbrev e : ℕ
     e = o + 0
 
-    under : (f : ℕ → ℕ) (after : ℕ → Fml) (K : Fml) → ((n : ℕ) → ent 𝓤 (sep 𝓤 ⟦ kept name n ⟧ ⟦ K ⟧) (sep 𝓤 ⟦ kept name (f n) ⟧ ⟦ after n ⟧))
-        → ent 𝓤 (sep 𝓤 (A.inv (fbor κ Inv)) (sep 𝓤 (A.lft κ q) ⟦ K ⟧)) (asks 𝓛 (block_ptr b e) f always (λ n. fsep (flft κ q) (after n)))
-    under f after K law = let There : ℕ → SProp 𝓤 = Lies 𝓛 κ q Inv b e f always after in borrowed 𝓛 κ q Inv b e f always after ⟦ K ⟧ (
-        qed 𝓛 (‵ Inv ∷ ‵ K ∷ []) ∵ suffices ! _ (upd_i 𝓤 (ex 𝓤 There)) $ fpick ! (λ n. fsplit ! $ show ! There n $ frame ! $
-        each ! (λ (_ : Unit {0}). Again 𝓛 κ q Inv b e f always after n) (λ _. assume ! (‵ (word b e (f n))) $ suffices ! _ (upd_i 𝓤 (sep 𝓤 ⟦ Inv ⟧ ⟦ after n ⟧)) $ move ! (1 ∷ 2 ∷ []) $
-        use2 𝓛 (‵ (kept name (f n)) ⊛ ‵ (after n)) (law n) $ split ! $ move ! (2 ∷ 0 ∷ []) $ fjoin ! $ fpack ! ℕ (λ m. fsep (word b e m) (kept name m)) (f n) $ done !)))
+    under : (f : ℕ → ℕ) (after : ℕ → Fml) (K : Fml) → ((n : ℕ)
+        → ent 𝓤 (sep 𝓤 ⟦ kept name n ⟧ ⟦ K ⟧) (sep 𝓤 ⟦ kept name (f n) ⟧ ⟦ after n ⟧))
+        → ent 𝓤 (sep 𝓤 (A.inv (fbor κ Inv)) (sep 𝓤 (A.lft κ q) ⟦ K ⟧)) (asks 𝓛 (block_ptr b e) f always
+        (λ n. fsep (flft κ q) (after n)))
+    under f after K law = let There : ℕ → SProp 𝓤 = Lies 𝓛 κ q Inv b e f always after in
+        borrowed 𝓛 κ q Inv b e f always after ⟦ K ⟧ (
+        qed 𝓛 (‵ Inv ∷ ‵ K ∷ []) ∵ suffices ! _ (upd_i 𝓤 (ex 𝓤 There)) $ fpick ! (λ n. fsplit ! $ show ! There n $
+        frame ! $
+        each ! (λ (_ : Unit {0}). Again 𝓛 κ q Inv b e f always after n) (λ _. assume ! (‵ (word b e (f n))) $
+        suffices ! _ (upd_i 𝓤 (sep 𝓤 ⟦ Inv ⟧ ⟦ after n ⟧)) $ move ! (1 ∷ 2 ∷ []) $
+        use2 𝓛 (‵ (kept name (f n)) ⊛ ‵ (after n)) (law n) $ split ! $ move ! (2 ∷ 0 ∷ []) $ fjoin ! $
+        fpack ! ℕ (λ m. fsep (word b e m) (kept name m)) (f n) $ done !)))
 
-    pub looks : ent 𝓤 (sep 𝓤 (A.inv (fbor κ Inv)) (sep 𝓤 (A.lft κ q) ⟦ ftrue ⟧)) (asks 𝓛 (block_ptr b e) (λ n. n) always (λ n. fsep (flft κ q) ftrue))
+    pub looks : ent 𝓤 (sep 𝓤 (A.inv (fbor κ Inv)) (sep 𝓤 (A.lft κ q) ⟦ ftrue ⟧)) (asks 𝓛 (block_ptr b e)
+        (λ n. n) always (λ n. fsep (flft κ q) ftrue))
     looks = under (λ n. n) (λ _. ftrue) ftrue (λ n. base.Logic.id⊢ 𝓤 _)
 
     pub exchanges : (owned from to : ℕ) (may : MayExchange owned from to)
-        → ent 𝓤 (sep 𝓤 (A.inv (fbor κ Inv)) (sep 𝓤 (A.lft κ q) ⟦ claimed name owned ⟧)) (asks 𝓛 (block_ptr b e) (λ n. either (eqb n from) to n) always (λ n. fsep (flft κ q) (claimed name (owned_then owned from to may n))))
-    exchanges owned from to may = under (λ n. either (eqb n from) to n) (λ n. claimed name (owned_then owned from to may n)) (claimed name owned) (steps owned from to may)
+        → ent 𝓤 (sep 𝓤 (A.inv (fbor κ Inv)) (sep 𝓤 (A.lft κ q) ⟦ claimed name owned ⟧)) (asks 𝓛 (block_ptr b e)
+        (λ n. either (eqb n from) to n) always (λ n. fsep (flft κ q) (claimed name
+        (owned_then owned from to may n))))
+    exchanges owned from to may = under (λ n. either (eqb n from) to n)
+        (λ n. claimed name (owned_then owned from to may n)) (claimed name owned) (steps owned from to may)

@@ -21,8 +21,6 @@ mod claim;
 mod handoff;
 mod lock_word;
 mod owner;
-#[cfg(test)]
-mod tests;
 
 pub use claim::Claim;
 pub use handoff::HandoffWord;

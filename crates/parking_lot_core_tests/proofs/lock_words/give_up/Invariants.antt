@@ -1,5 +1,5 @@
 use Rattle.std.proofs.Common.{◌≡◌}
-use Rattle.lock_word.proofs.tests.give_up.Given as goal
+use Rattle.parking_lot_core_tests.proofs.lock_words.give_up.Given as goal
 
 abbrev pub invariant-loop : goal.invariant-loop
 invariant-loop g l =

@@ -1,7 +1,8 @@
-//! What no clause says: which words the steps find and write, that a lock can be had, and that it excludes.
+//! Lock words, for what no clause of them says: which words the steps find and write, that a lock can be had, and that
+//! it excludes.
 ghost use Rattle.std.specs.Prelude.{◌≡◌};
 
-use crate::{HandoffWord, Owner};
+use lock_word::{HandoffWord, Owner};
 use std::sync::Wait;
 use std::sync::atomic::{AtomicU64, Ordering};
 use std::test::Fail;
