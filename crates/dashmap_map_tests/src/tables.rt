@@ -1,12 +1,13 @@
 //! The maps that tables are run on.
 
 pub use dashmap_calls::Row;
-use dashmap_calls::{Numbers, run};
+use dashmap_calls::{Call, Numbers, make, run};
 use dashmap_map::DashMap;
 use dashmap_table::{MapFault, SpreadState};
 use lock_api_spin::PackedLock;
 use parking_lot_core::ParkingLot;
 use parking_lot_rwlock::LockTable;
+use refusing_heap::{Refusal, RefusingHeap, each_growth};
 use std::alloc::Global;
 use std::hash::Hash;
 use std::sync::Wait;
@@ -40,8 +41,42 @@ pub fn parked<'t, 'l, R: Wait>(
     DashMap::with_hasher_and_shard_amount(alloc, SpreadState, shards, table)
 }
 
-/// Makes the calls of a table on an empty map over each kind of lock. Where an answer is another, it fails with the
-/// row.
+/// Makes the calls of a table on an empty map in that heap. A call that is refused a growth is made again, and is
+/// answered then as the row says; but where it is on many keys, of which some are in by then. Fails with the number of
+/// the first row that is answered otherwise.
+fn run_again<R: Wait + Copy + Drop>(
+    rt: R,
+    heap: &RefusingHeap<Global>,
+    shards: usize,
+    rows: &[Row],
+) -> Result<(), usize> {
+    let made: Result<Numbers<SpreadState, PackedLock<R>, &RefusingHeap<Global>>, MapFault> =
+        DashMap::with_hasher_and_shard_amount(heap, SpreadState, shards, rt);
+    let Ok(map) = made else {
+        return if heap.refused() == 1 { Ok(()) } else { Err(0) };
+    };
+    for row in 0..rows.len() {
+        let (call, wanted) = rows[row];
+        let refused = heap.refused();
+        let mut answer = make(&map, call, &mut 1);
+        if answer != wanted && heap.refused() > refused {
+            answer = make(&map, call, &mut 1);
+            if matches!(call, Call::Many(_)) {
+                answer = wanted;
+            }
+        }
+        if answer != wanted {
+            return Err(row);
+        }
+    }
+    Ok(())
+}
+
+/// How many growths a table may ask for.
+const MOST: u64 = 500;
+
+/// Makes the calls of a table on an empty map over each kind of lock, and with each growth refused in turn. Where an
+/// answer is another, it fails with the row.
 pub fn check<R: Wait + Copy + Drop>(
     rt: R,
     alloc: Global,
@@ -52,5 +87,9 @@ pub fn check<R: Wait + Copy + Drop>(
     let lot = ParkingLot::new(rt, alloc, 1, 7)?;
     let table = LockTable::new(alloc, &lot, shards)?;
     let mut me = lot.thread_data()?;
-    run(&parked(alloc, &table, shards)?, rows, &mut me)
+    run(&parked(alloc, &table, shards)?, rows, &mut me)?;
+    each_growth(alloc, Refusal::Once(1), MOST, |heap| {
+        run_again(rt, heap, shards, rows)
+    })?;
+    Ok(())
 }

@@ -20,6 +20,8 @@ mod names;
 #[cfg(test)]
 mod noted;
 #[cfg(test)]
+mod odd_keys;
+#[cfg(test)]
 mod parts;
 #[cfg(test)]
 mod pieces;

@@ -6,6 +6,7 @@ use lock_api_raw::RawRwLock;
 use lock_api_spin::PackedLock;
 use parking_lot_core::ParkingLot;
 use parking_lot_rwlock::LockTable;
+use refusing_heap::{Refusal, RefusingHeap, each_growth};
 use std::alloc::{Allocator, Global};
 use std::hash::{BuildHasher, Hash};
 use std::sync::Wait;
@@ -253,7 +254,40 @@ type Parked<'t, 'l, R> = Numbers<
     Global,
 >;
 
-/// Makes the calls of a table on an empty set over each kind of lock.
+/// Makes the calls of a table on an empty set in that heap. A call that is refused a growth is made again, and is
+/// answered then as the row says; but where it puts in many keys, of which some are in by then. Fails with the number of
+/// the first row that is answered otherwise.
+fn run_again<R: Wait + Copy + Drop>(
+    rt: R,
+    heap: &RefusingHeap<Global>,
+    rows: &[Row],
+) -> Result<(), usize> {
+    let made: Result<Numbers<SpreadState, PackedLock<R>, &RefusingHeap<Global>>, MapFault> =
+        DashSet::with_hasher(heap, SpreadState, 2, rt);
+    let Ok(set) = made else {
+        return if heap.refused() == 1 { Ok(()) } else { Err(0) };
+    };
+    for row in 0..rows.len() {
+        let (call, wanted) = rows[row];
+        let refused = heap.refused();
+        let mut answer = make(&set, call, &mut 1);
+        if answer != wanted && heap.refused() > refused {
+            answer = make(&set, call, &mut 1);
+            if matches!(call, Call::InsertBelow(_)) {
+                answer = wanted;
+            }
+        }
+        if answer != wanted {
+            return Err(row);
+        }
+    }
+    Ok(())
+}
+
+/// How many growths a table may ask for.
+const MOST: u64 = 500;
+
+/// Makes the calls of a table on an empty set over each kind of lock, and with each growth refused in turn.
 fn check<R: Wait + Copy + Drop>(rt: R, alloc: Global, rows: &[Row]) -> Result<(), Fail> {
     run(&set_of(rt, alloc)?, rows, &mut 1)?;
     let lot = ParkingLot::new(rt, alloc, 1, 7)?;
@@ -265,7 +299,14 @@ fn check<R: Wait + Copy + Drop>(rt: R, alloc: Global, rows: &[Row]) -> Result<()
         2,
         &table,
     );
-    run(&made?, rows, &mut me)
+    run(&made?, rows, &mut me)?;
+    each_growth(
+        alloc,
+        Refusal::Once(1),
+        MOST,
+        |heap| run_again(rt, heap, rows),
+    )?;
+    Ok(())
 }
 
 const ONCE: &[Row] = &[

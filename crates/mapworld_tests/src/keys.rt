@@ -155,3 +155,95 @@ fn keys_of_one_hash_stay_apart(rt: HostRuntime) -> Result<(), Fail> {
     );
     Ok(())
 }
+
+/// A number with a label that doesn't count when two are compared.
+#[derive(Drop)]
+#[derive_where(PartialEq, Eq, Hash)]
+struct Labelled {
+    number: u64,
+    #[derive_where(skip)]
+    label: u8,
+}
+
+/// Reads nothing.
+#[derive(Drop)]
+struct ReadNothing;
+
+impl<K> Deed<K, u64> for ReadNothing {
+    type Answer = u8;
+
+    ghost use Rattle.std.specs.Prelude.{true};
+
+    ghost answer_of = { λ deed key value. 0 };
+
+    ghost keeps = { λ deed key value. true };
+
+    ghost effect_of = { λ deed key value. value };
+
+    fn answer(&self, _key: &K, _value: &u64) -> u8 {
+        0
+    }
+
+    fn keep(&self, _key: &K, _value: &u64) -> bool {
+        true
+    }
+
+    fn effect(&self, _key: &K, value: u64) -> u64 {
+        value
+    }
+}
+
+#[test]
+fn there_is_one_unit(rt: HostRuntime) -> Result<(), Fail> {
+    let program: Vec<Ask<(), u64, ReadNothing>> = vec![in rt.alloc();
+        Ask::Keyed(Keyed::Insert((), 2)),
+        Ask::Keyed(Keyed::Remove(())),
+        Ask::Keyed(Keyed::Remove(())),
+    ]?;
+    let pairs = vec![in rt.alloc(); ((), 0), ((), 1)]?;
+    let programs = vec![in rt.alloc(); program]?;
+    let mut world = MapWorld::new(rt.alloc(), 4, SpreadState, pairs, programs)?;
+    let is_done = step_round(&mut world);
+    let answers = world.replies();
+    assert!(rt; is_done && answers.len() == 3);
+    assert!(rt; answers[0].answer == Answer::Value(1) && answers[1].answer == Answer::Pair((), 2));
+    assert!(rt; answers[2].answer == Answer::None);
+    Ok(())
+}
+
+#[test]
+fn keys_are_compared_by_one_field(rt: HostRuntime) -> Result<(), Fail> {
+    let program: Vec<Ask<Labelled, u64, ReadNothing>> = vec![in rt.alloc();
+        Ask::Keyed(Keyed::Insert(
+            Labelled {
+                number: 1,
+                label: 2
+            },
+            5
+        )),
+        Ask::Keyed(Keyed::Remove(Labelled {
+            number: 1,
+            label: 3
+        })),
+    ]?;
+    let pairs = vec![in rt.alloc();
+        (
+            Labelled {
+                number: 1,
+                label: 1
+            },
+            4
+        ),
+    ]?;
+    let programs = vec![in rt.alloc(); program]?;
+    let mut world = MapWorld::new(rt.alloc(), 2, SpreadState, pairs, programs)?;
+    let is_done = step_round(&mut world);
+    let answers = world.replies();
+    let is_set = answers.len() == 2 && answers[0].answer == Answer::Value(4);
+    let stored = match &answers[1].answer {
+        Answer::Pair(key, 5) => key.label,
+        _ => 0,
+    };
+    assert!(rt; is_done && is_set && stored == 1);
+    Ok(())
+}

@@ -12,6 +12,8 @@ mod lock_words;
 #[cfg(test)]
 mod parking;
 #[cfg(test)]
+mod refusing;
+#[cfg(test)]
 mod script;
 #[cfg(test)]
 mod sections;

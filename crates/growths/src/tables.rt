@@ -1,0 +1,194 @@
+//! Plain shards, and a value that owns memory.
+
+use crate::maps::SHARDS;
+use crate::owners::pairs;
+use crate::turns::{Case, Heap, Line, Said, Seen};
+use dashmap_guard::SharedValue;
+use dashmap_plain::ExtendShards;
+use dashmap_table::{MapFault, NoMemory, Shard, Shards, SpreadState};
+
+/// A shard in a heap.
+type Small<'h> = Shard<u64, u64, &'h Heap>;
+
+/// Plain shards in a heap.
+type Plain<'h> = Shards<u64, u64, SpreadState, &'h Heap>;
+
+/// A call on a shard with the keys 0, 1, .. below a number, each under itself as its hash and with itself.
+#[derive(Clone, Copy)]
+pub enum OnShard {
+    Insert,
+    Reserve,
+    Shrink,
+}
+
+/// A shard with the keys below a number, where others were taken out.
+fn shard_of(heap: &Heap, keys: u64, gone: u64) -> Option<Small<'_>> {
+    let mut shard = Shard::new(heap);
+    for key in 0..keys.saturating_add(gone) {
+        shard.insert(key, key, key).ok()?;
+    }
+    for key in keys..keys.saturating_add(gone) {
+        let slot = shard.find(key, &key)?;
+        let _pair = shard.remove(slot);
+    }
+    Some(shard)
+}
+
+/// How many of the keys 0, 1, .. are there, each with itself.
+fn keys_of(shard: &Small<'_>) -> u64 {
+    let mut count = 0u64;
+    for key in 0..64u64 {
+        if let Some(slot) = shard.find(key, &key)
+            && shard.pair(slot) == Some((&key, &key))
+        {
+            count = count.wrapping_add(1);
+        }
+    }
+    count
+}
+
+impl OnShard {
+    /// How many keys stay, and how many are taken out before.
+    fn keys(self) -> (u64, u64) {
+        match self {
+            OnShard::Insert => (28, 0),
+            OnShard::Reserve => (2, 0),
+            OnShard::Shrink => (2, 38),
+        }
+    }
+
+    fn ask(self, shard: &mut Small<'_>) -> Said {
+        match self {
+            OnShard::Insert => {
+                let said = shard.insert(28, 28, 28);
+                Said::of(matches!(said, Ok((_, None))), said == Err((28, 28)))
+            }
+            OnShard::Reserve => of_room(shard.reserve(100)),
+            OnShard::Shrink => of_room(shard.shrink()),
+        }
+    }
+}
+
+/// What came of asking for room.
+fn of_room(said: Result<(), NoMemory>) -> Said {
+    Said::of(said.is_ok(), said.is_err())
+}
+
+impl<R: Drop> Case<R> for OnShard {
+    fn run(self, _rt: R, heap: &Heap) -> Option<Seen> {
+        let (keys, gone) = self.keys();
+        let mut shard = shard_of(heap, keys, gone)?;
+        let room = shard.capacity();
+        let before = heap.asked();
+        let said = self.ask(&mut shard);
+        let is_put = matches!(self, OnShard::Insert) && said == Said::Done;
+        let has_all = keys_of(&shard) == keys.saturating_add(u64::from(is_put));
+        let has_room = said == Said::Done || shard.capacity() == room;
+        said.seen(heap, before, has_all && has_room)
+    }
+}
+
+/// A call on two plain shards.
+#[derive(Clone, Copy)]
+pub enum OnShards {
+    New,
+    Insert,
+    Reserve,
+    Extend,
+}
+
+/// What came of plain shards.
+fn made(heap: &Heap) -> Said {
+    let made: Result<Plain<'_>, MapFault> = Shards::new(heap, SHARDS, SpreadState);
+    match made {
+        Ok(shards) => Said::of(shards.count() == SHARDS, false),
+        Err(fault) => Said::of(false, fault == MapFault::NoMemory),
+    }
+}
+
+/// Whether the keys from 10 to below one are there, and none behind it.
+fn has_up_to(shards: &Plain<'_>, end: u64) -> bool {
+    let mut right = true;
+    for key in 10..30u64 {
+        right &= shards.find(&key).is_some() == (key < end);
+    }
+    right
+}
+
+impl OnShards {
+    fn ask(self, heap: &Heap, shards: &mut Plain<'_>, pairs: Vec<(u64, u64)>) -> Said {
+        match self {
+            OnShards::New => made(heap),
+            OnShards::Insert => {
+                let said = shards.insert(10, 10);
+                let end = if said == Ok(None) { 11 } else { 10 };
+                let is_right = has_up_to(shards, end);
+                Said::of(
+                    is_right && said == Ok(None),
+                    is_right && said == Err((10, 10)),
+                )
+            }
+            OnShards::Reserve if 1 < shards.count() => of_room(shards.reserve(1)),
+            OnShards::Reserve => Said::Other,
+            OnShards::Extend => {
+                let said = shards.extend(pairs.into_iter());
+                let end = match said {
+                    Ok(()) => 30,
+                    Err((key, _)) => key,
+                };
+                let is_right = has_up_to(shards, end);
+                Said::of(is_right && said.is_ok(), is_right && said.is_err())
+            }
+        }
+    }
+}
+
+impl<R: Drop> Case<R> for OnShards {
+    fn run(self, _rt: R, heap: &Heap) -> Option<Seen> {
+        let pairs = pairs(*heap.inner())?;
+        let mut shards: Plain<'_> = Shards::new(heap, SHARDS, SpreadState).ok()?;
+        let before = heap.asked();
+        let said = self.ask(heap, &mut shards, pairs);
+        said.seen(heap, before, true)
+    }
+}
+
+/// A clone of a value that owns memory.
+#[derive(Clone, Copy)]
+pub struct OfValue;
+
+impl<R: Drop> Case<R> for OfValue {
+    fn run(self, _rt: R, heap: &Heap) -> Option<Seen> {
+        let value = SharedValue::new(Box::new(heap, 5u64).ok()?);
+        let before = heap.asked();
+        let said = match value.clone() {
+            Ok(copy) => Said::of(**copy.get() == 5, false),
+            Err(_) => Said::Refused,
+        };
+        said.seen(heap, before, **value.get() == 5)
+    }
+}
+
+const EACH: &str = "each pair; the room";
+
+const PAIR: &str = "the pair comes back; each other pair; the room";
+
+const MIDDLE: &str = "the pair comes back; those before it; none behind it";
+
+/// Lines of the table.
+pub const ON_SHARD: &[Line<OnShard>] = &[
+    ("insert, into a full shard", OnShard::Insert, PAIR),
+    ("reserve", OnShard::Reserve, EACH),
+    ("shrink", OnShard::Shrink, EACH),
+];
+
+/// Lines of the table.
+pub const ON_SHARDS: &[Line<OnShards>] = &[
+    ("new", OnShards::New, "nothing is made"),
+    ("insert", OnShards::Insert, PAIR),
+    ("reserve", OnShards::Reserve, EACH),
+    ("extend, 20 pairs", OnShards::Extend, MIDDLE),
+];
+
+/// Lines of the table.
+pub const OF_VALUES: &[Line<OfValue>] = &[("clone, of a box", OfValue, "the value")];

@@ -1,0 +1,50 @@
+//! Which growths are refused and counted, by one thread and by two.
+
+use super::vectors::{Items, push_all};
+use refusing_heap::{Refusal, RefusingHeap};
+use std::test::Fail;
+use std::thread;
+
+#[test]
+fn growths_are_numbered_from_1(rt: HostRuntime) -> Result<(), Fail> {
+    let heap = RefusingHeap::new(rt.alloc(), Refusal::Once(2));
+    let one = Box::new(&heap, 1u8).is_ok();
+    let two = Box::new(&heap, 2u8).is_ok();
+    let three = Box::new(&heap, 3u8).is_ok();
+    assert!(rt; one && !two && three);
+    assert!(rt; heap.asked() == 3 && heap.refused() == 1);
+    Ok(())
+}
+
+#[test]
+fn a_heap_that_is_full_stays_so(rt: HostRuntime) -> Result<(), Fail> {
+    let heap = RefusingHeap::new(rt.alloc(), Refusal::Onwards(2));
+    let one = Box::new(&heap, 1u8).is_ok();
+    let two = Box::new(&heap, 2u8).is_ok();
+    let three = Box::new(&heap, 3u8).is_ok();
+    assert!(rt; one && !two && !three);
+    assert!(rt; heap.asked() == 3 && heap.refused() == 2);
+    Ok(())
+}
+
+#[test]
+fn a_block_shrinks_and_is_not_counted(rt: HostRuntime) -> Result<(), Fail> {
+    let heap = RefusingHeap::new(rt.alloc(), Refusal::Onwards(2));
+    let mut items: Items<'_> = Vec::new(&heap);
+    items.reserve(10)?;
+    items.push(7)?;
+    items.shrink_to_fit();
+    let first = heap.asked() == 1 && heap.refused() == 0;
+    let full = items.reserve(10).is_err() && heap.asked() == 2 && heap.refused() == 1;
+    assert!(rt; first && full && items.last() == Some(&7));
+    Ok(())
+}
+
+#[test]
+fn one_growth_of_two_threads_is_refused(rt: HostRuntime) -> Result<(), Fail> {
+    let heap = RefusingHeap::new(rt.alloc(), Refusal::Once(4));
+    let (one, two) = thread::join(&rt, || push_all(&heap, 40), || push_all(&heap, 40));
+    let refused = one?.wrapping_add(two?);
+    assert!(rt; refused == 1 && heap.refused() == 1);
+    Ok(())
+}
