@@ -20,6 +20,7 @@ pub mod mapref;
 mod names;
 pub mod prelude;
 pub mod rayon;
+pub mod set;
 pub mod setref;
 mod t;
 pub mod try_result;

@@ -33,7 +33,7 @@ pub type DashMap<'t, 'l, K, V, S, R, A = Global> = dashmap_map::DashMap<
 >;
 
 /// A set of keys that threads share by reference: a map to `()`.
-pub type DashSet<'t, 'l, K, S, R, A = Global> = dashmap_set::DashSet<
+pub type DashSet<'t, 'l, K, S, R, A = Global> = crate::set::DashSet<
     K,
     S,
     RawRwLock<'t, 'l, R, 0, A>,
@@ -156,7 +156,7 @@ pub type RefMutMulti<'w, 'm, 'd, 't, 'l, K, V, R, A = Global> =
     dashmap_iter::multiple_mut::RefMutMulti<'w, 'm, 'd, K, V, RawRwLock<'t, 'l, R, 0, A>, A>;
 
 /// A shared guard of one key of a set.
-pub type SetRef<'m, 'd, 't, 'l, K, R, A = Global> = dashmap_set::setref::one::Ref<
+pub type SetRef<'m, 'd, 't, 'l, K, R, A = Global> = crate::setref::one::Ref<
     'm,
     'd,
     K,
@@ -165,7 +165,7 @@ pub type SetRef<'m, 'd, 't, 'l, K, R, A = Global> = dashmap_set::setref::one::Re
 >;
 
 /// A walk over the keys of a set.
-pub type SetIter<'m, 'd, 't, 'l, K, R, A = Global> = dashmap_set::iter_set::Iter<
+pub type SetIter<'m, 'd, 't, 'l, K, R, A = Global> = crate::iter_set::Iter<
     'm,
     'd,
     K,
@@ -174,7 +174,7 @@ pub type SetIter<'m, 'd, 't, 'l, K, R, A = Global> = dashmap_set::iter_set::Iter
 >;
 
 /// A key that a walk over a set lends.
-pub type SetRefMulti<'m, 'd, 't, 'l, K, R, A = Global> = dashmap_set::setref::multiple::RefMulti<
+pub type SetRefMulti<'m, 'd, 't, 'l, K, R, A = Global> = crate::setref::multiple::RefMulti<
     'm,
     'd,
     K,

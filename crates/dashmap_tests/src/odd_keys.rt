@@ -4,7 +4,7 @@
 use dashmap_map::DashMap;
 use dashmap_plain::Plain;
 use dashmap_record::{Caller, Recorded};
-use dashmap_set::DashSet;
+use dashmap::set::DashSet;
 use dashmap_table::{MapFault, Shards, SpreadState};
 use lock_api_spin::PackedLock;
 use std::alloc::Global;

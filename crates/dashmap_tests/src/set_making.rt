@@ -2,7 +2,7 @@
 
 use crate::sets::{Answer, Call, Numbers, Row, Spun, make, run, set_of};
 use dashmap_map::NewFault;
-use dashmap_set::DashSet;
+use dashmap::set::DashSet;
 use dashmap_table::{MapFault, SpreadState};
 use linked_list_allocator::LocalHeap;
 use lock_api_spin::PackedLock;

@@ -1,7 +1,7 @@
 //! An item of a set's walk, calls of its owner, its clones, its shards, its text, and threads that share it.
 
 use crate::sets::{Answer, Call, Spun, make, set_of};
-use dashmap_set::DashSet;
+use dashmap::set::DashSet;
 use dashmap_table::SpreadState;
 use std::alloc::{AllocError, Global};
 use std::string::String;

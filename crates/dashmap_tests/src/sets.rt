@@ -1,6 +1,6 @@
 //! Calls on a set as data, and tables of them.
 
-use dashmap_set::DashSet;
+use dashmap::set::DashSet;
 use dashmap_table::{MapFault, SpreadState};
 use lock_api_raw::RawRwLock;
 use lock_api_spin::PackedLock;

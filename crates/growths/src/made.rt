@@ -6,7 +6,7 @@ use crate::turns::{Case, Heap, Line, Said, Seen};
 use dashmap_calls::Numbers;
 use dashmap_map::{DashMap, NewFault};
 use dashmap_plain::from_par_iter;
-use dashmap_set::DashSet;
+use dashmap::set::DashSet;
 use dashmap_table::{MapFault, SpreadState};
 use parking_lot_core::ParkingLot;
 use parking_lot_rwlock::LockTable;

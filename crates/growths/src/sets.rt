@@ -4,7 +4,7 @@ use crate::maps::{Row, are_free};
 use crate::owners::keys;
 use crate::turns::{Case, Heap, Line, Said, Seen};
 use dashmap_parallel::ParExtendFault;
-use dashmap_set::DashSet;
+use dashmap::set::DashSet;
 use dashmap_table::{MapFault, NoMemory, SpreadState};
 use parking_lot_core::{ParkingLot, ThreadData};
 use parking_lot_rwlock::LockTable;

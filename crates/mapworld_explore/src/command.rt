@@ -1,5 +1,6 @@
 //! The command line.
 
+use crate::load::Keys;
 use clap::{Arg, ArgAction, ArgMatches, Command};
 use mapworld_explorer::Limits;
 use std::alloc::{AllocError, Global};
@@ -45,6 +46,25 @@ impl<'m, 'a> Options<'m, 'a> {
 
     pub fn is_json(&self) -> bool {
         self.matches.get_flag("json")
+    }
+
+    /// How many threads a world has that is timed.
+    pub fn threads(&self) -> usize {
+        self.matches.get_one::<usize>("threads").unwrap_or(5)
+    }
+
+    /// How many calls they make in all.
+    pub fn calls(&self) -> usize {
+        self.matches.get_one::<usize>("calls").unwrap_or(200)
+    }
+
+    /// Which keys they call.
+    pub fn keys(&self) -> Keys {
+        if self.matches.get_flag("one") {
+            Keys::One
+        } else {
+            Keys::Apart
+        }
     }
 }
 
@@ -150,6 +170,18 @@ fn checking<'a>(alloc: Global) -> Result<Command<'a>, AllocError> {
     .arg(files(alloc))
 }
 
+fn timing<'a>(alloc: Global) -> Result<Command<'a>, AllocError> {
+    Command::new(alloc, "time")
+        .about("Run a world with many calls, and tell what a step of it took")
+        .arg(number(alloc, "threads", "so many threads; 5 if not told"))?
+        .arg(number(alloc, "calls", "so many calls in all; 200 if not told"))?
+        .arg(flag(
+            alloc,
+            "one",
+            "all threads call one key, and not each its own",
+        ))
+}
+
 /// The whole of it.
 pub fn command_line<'a>(alloc: Global) -> Result<Command<'a>, AllocError> {
     Command::new(alloc, "mapworld_explore")
@@ -163,5 +195,6 @@ pub fn command_line<'a>(alloc: Global) -> Result<Command<'a>, AllocError> {
             "Tell a shortest schedule to an outcome, step by step",
         )?)?
         .subcommand(telling(alloc, "picture", "Draw that schedule, as a page of HTML")?)?
-        .subcommand(checking(alloc)?)
+        .subcommand(checking(alloc)?)?
+        .subcommand(timing(alloc)?)
 }

@@ -10,9 +10,11 @@ mod command;
 mod explore;
 mod files;
 mod json;
+mod load;
 mod picture;
 mod run;
 mod shapes;
+mod time;
 mod why;
 
 use crate::command::{Options, command_line};
@@ -27,6 +29,7 @@ fn obey(rt: &HostRuntime, name: &str, options: &Options<'_, '_>) -> io::Result<b
         "explore" => explore::explore(rt, options),
         "why" => why::why(rt, options),
         "picture" => why::picture(rt, options),
+        "time" => time::time(rt, options),
         _ => check::check(rt, options),
     }
 }

@@ -1,4 +1,5 @@
-//! Tests of the worlds of maps that two threads can come to: every schedule, and a drain from each state of it.
+//! Tests of the worlds of maps that two threads can come to: every schedule, and a drain from each state of it; and every
+//! schedule of two calls at one shard's lock.
 #![tactic(auto)]
 
 #[cfg(test)]
@@ -9,5 +10,7 @@ mod outcomes;
 mod rules;
 #[cfg(test)]
 mod schedules;
+#[cfg(test)]
+mod shard_locks;
 #[cfg(test)]
 mod worlds;

@@ -1,8 +1,6 @@
 //! Schedules at the lock of one shard.
 
-mod course;
 mod deadlines;
-mod schedules;
 mod trace;
 
 use lock_api_desk::Mode;
@@ -19,11 +17,6 @@ const RELEASED: Option<CoreAnswer> = Some(CoreAnswer::Released);
 const SHARED: Option<Mode> = Some(Mode::Shared);
 
 const EXCLUSIVE: Option<Mode> = Some(Mode::Exclusive);
-
-/// Calls that ask for the shared hold, and for the exclusive one.
-const READS: [LockCall; 3] = [LockCall::Read, LockCall::TryRead, LockCall::ReadUntil];
-
-const WRITES: [LockCall; 3] = [LockCall::Write, LockCall::TryWrite, LockCall::WriteUntil];
 
 /// Thread 0 reads, 16. Thread 1 wants to write: it is pending, 24, and waits for the reader in the second list, 26.
 /// Thread 2 wants to write and waits in the first list, 27. Thread 0 leaves, 11, and takes thread 1 off its list, 9;

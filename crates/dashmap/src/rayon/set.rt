@@ -1,3 +1,9 @@
-//! Keys of sets, side by side.
+//! Parallel forms of a set: the keys of one shard are one piece of work, or those of some shards.
 
-pub use dashmap_set::parallel::{Iter, OwningIter};
+mod forms;
+mod lent;
+mod owned;
+mod shared;
+
+pub use lent::Iter;
+pub use owned::OwningIter;

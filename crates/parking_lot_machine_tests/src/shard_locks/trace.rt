@@ -49,7 +49,7 @@ fn is_seated(locks: &ShardLocks, thread: usize) -> bool {
 }
 
 /// Whether every thread has the guard of an owner.
-pub fn all_seated(locks: &ShardLocks) -> bool {
+fn all_seated(locks: &ShardLocks) -> bool {
     let mut is_so = true;
     for thread in 0..locks.threads() {
         is_so = is_so & is_seated(locks, thread);

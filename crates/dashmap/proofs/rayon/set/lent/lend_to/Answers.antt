@@ -1,0 +1,5 @@
+use Rattle.std.proofs.Common.{refl}
+use Rattle.dashmap.proofs.rayon.set.lent.lend_to.Goals as goal
+
+pub returns : goal.returns
+returns g c = record { key = c.args.key; shows = refl; says = record { met = c.f.ensures } }

@@ -1,5 +1,0 @@
-use Rattle.std.proofs.Common.{refl}
-use Rattle.dashmap_set.proofs.parallel.lent.lend_to.Goals as goal
-
-pub returns : goal.returns
-returns g c = record { key = c.args.key; shows = refl; says = record { met = c.f.ensures } }

@@ -1,4 +1,0 @@
-//! Guards of keys.
-
-pub mod multiple;
-pub mod one;
