@@ -3,10 +3,10 @@
 use crate::maps::Row;
 use crate::owners::{keys, pairs};
 use crate::turns::{Case, Heap, Line, Said, Seen};
+use dashmap::set::DashSet;
 use dashmap_calls::Numbers;
 use dashmap_map::{DashMap, NewFault};
 use dashmap_plain::from_par_iter;
-use dashmap::set::DashSet;
 use dashmap_table::{MapFault, SpreadState};
 use parking_lot_core::ParkingLot;
 use parking_lot_rwlock::LockTable;

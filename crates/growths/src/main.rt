@@ -2,7 +2,9 @@
 //! in turn. What is printed is a table of the calls, how many growths of each were refused, and what stood behind it.
 #![tactic(auto)]
 
+mod arcs;
 mod desk;
+mod entries;
 mod forms;
 mod lots;
 mod made;
@@ -24,8 +26,11 @@ use std::thread::Threads;
 use turns::print_lines;
 
 /// Prints the calls of locks.
-fn print_locks<R: AllocGlobal + Print + Wait + Copy + Drop>(rt: R) -> io::Result<bool> {
-    let mut all = print_lines(rt, "Desk::", desk::LINES)?;
+fn print_locks<R: AllocGlobal + Print + Wait + Clock + Copy + Drop>(rt: R) -> io::Result<bool> {
+    let mut all = print_lines(rt, "Mutex::", arcs::OF_MUTEX)?;
+    all &= print_lines(rt, "ReentrantMutex::", arcs::OF_REENTRANT)?;
+    all &= print_lines(rt, "RwLock::", arcs::OF_LOCK)?;
+    all &= print_lines(rt, "Desk::", desk::LINES)?;
     all &= print_lines(rt, "Lot::", lots::LINES)?;
     all &= print_lines(rt, "", lots::SHARED)?;
     all &= print_lines(rt, "World::", worlds::LINES)?;
@@ -41,6 +46,7 @@ fn print_maps<R: AllocGlobal + Print + Wait + Clock + RandomSource + Copy + Drop
     all &= print_lines(rt, "SharedValue::", tables::OF_VALUES)?;
     all &= print_lines(rt, "DashMap::", made::LINES)?;
     all &= print_lines(rt, "DashMap::", maps::LINES)?;
+    all &= print_lines(rt, "DashMap::", entries::LINES)?;
     all &= print_lines(rt, "DashMap::", owners::LINES)?;
     all &= print_lines(rt, "DashSet::", made::OF_SETS)?;
     all &= print_lines(rt, "Recorded::", records::LINES)?;

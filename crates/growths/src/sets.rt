@@ -3,8 +3,8 @@
 use crate::maps::{Row, are_free};
 use crate::owners::keys;
 use crate::turns::{Case, Heap, Line, Said, Seen};
-use dashmap_parallel::ParExtendFault;
 use dashmap::set::DashSet;
+use dashmap_parallel::ParExtendFault;
 use dashmap_table::{MapFault, NoMemory, SpreadState};
 use parking_lot_core::{ParkingLot, ThreadData};
 use parking_lot_rwlock::LockTable;

@@ -4,7 +4,9 @@ use crate::record::calls::{Fold, Numbers, make};
 use dashmap_record::{Call, CallReply, Caller, RecordFault, Recorded, gather};
 use dashmap_table::MapFault;
 use lock_api_spin::PackedLock;
+use refusing_heap::{Refusal, RefusingHeap, each_growth};
 use std::alloc::Global;
+use std::sync::Wait;
 use std::test::Fail;
 
 /// A map of numbers over locks of one word each.
@@ -64,6 +66,50 @@ fn each_call_is_written_down(rt: HostRuntime) -> Result<(), Fail> {
         let is_so = entry.call == *call && entry.reply == *reply && entry.caller == 0;
         assert!(rt; is_so, "{call:?}");
     }
+    Ok(())
+}
+
+/// Makes the calls in that heap. One that is refused a growth writes nothing down and is made again, and replies then as
+/// its row says. Fails with the number of the first call that replies otherwise.
+fn run_again<R: Wait + Copy + Drop>(rt: R, heap: &RefusingHeap<Global>) -> Result<(), usize> {
+    let made: Result<Made<R, &RefusingHeap<Global>>, MapFault> = Recorded::new(
+        heap,
+        2,
+        Fold::new(),
+        1,
+        rt,
+    );
+    let Ok((map, mut callers)) = made else {
+        return if heap.refused() == 1 { Ok(()) } else { Err(0) };
+    };
+    let mut me = callers.pop().ok_or(0usize)?;
+    for (at, (call, reply)) in CALLS.iter().enumerate() {
+        let refused = heap.refused();
+        let mut said = make(&map, *call, &mut me, &mut 1);
+        if heap.refused() > refused {
+            let is_left = said == Err(RecordFault::NoMemory) && me.last() == at as u64;
+            said = make(&map, *call, &mut me, &mut 1);
+            if !is_left {
+                return Err(at);
+            }
+        }
+        if said != Ok(*reply) {
+            return Err(at);
+        }
+    }
+    let is_written = me.last() == CALLS.len() as u64 && me.log().len() == CALLS.len();
+    if is_written { Ok(()) } else { Err(CALLS.len()) }
+}
+
+#[test]
+fn a_call_that_was_refused_a_growth_is_made_again(rt: HostRuntime) -> Result<(), Fail> {
+    let growths = each_growth(
+        rt.alloc(),
+        Refusal::Once(1),
+        100,
+        |heap| run_again(rt, heap),
+    )?;
+    assert!(rt; growths > 8, "{growths} growths");
     Ok(())
 }
 
