@@ -1,1 +1,1 @@
-pub mod SetFacts
+mod Keys

@@ -1,7 +1,7 @@
 use Rattle.std.proofs.Common.{subst}
 use Rattle.dashmap_map.specs.Effects.{Inserts}
 use Rattle.dashmap_map.specs.Owner.{AloneAtKey}
-use Rattle.dashmap.proofs.SetFacts.Keys.{put_well, put_refused}
+use Rattle.dashmap.proofs.Keys.{put_well, put_refused}
 use Rattle.dashmap.proofs.set.DashSet.put_alone.Goals as goal
 
 pub returns-clause-put : goal.returns-clause-put

@@ -5,7 +5,7 @@ use Rattle.dashmap_map.specs.Locked.{Locked, lock_of}
 use Rattle.dashmap_table.specs.Shards.{key_hash}
 use Rattle.dashmap_table.specs.Slots.{pair_of, slot_of, entry_of}
 use Rattle.dashmap_table.specs.Table.{TakesOut}
-use Rattle.dashmap.proofs.SetFacts.Keys.{told_key, told_some}
+use Rattle.dashmap.proofs.Keys.{told_key, told_some}
 use Rattle.dashmap.proofs.set.DashSet.remove_if.Goals as goal
 
 pub returns-clause-asked : goal.returns-clause-asked
