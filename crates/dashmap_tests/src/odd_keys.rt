@@ -1,10 +1,10 @@
 //! Odd keys: the unit, keys that are equal without their case, keys that are compared by one field of two, keys of one
 //! hash, and the least and the greatest. One check is made of each kind on each thing that holds keys.
 
+use dashmap::set::DashSet;
 use dashmap_map::DashMap;
 use dashmap_plain::Plain;
 use dashmap_record::{Caller, Recorded};
-use dashmap::set::DashSet;
 use dashmap_table::{MapFault, Shards, SpreadState};
 use lock_api_spin::PackedLock;
 use std::alloc::Global;

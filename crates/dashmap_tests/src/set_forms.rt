@@ -1,7 +1,7 @@
 //! Each parallel form on sets of four, eight and sixteen shards, beside the plain one.
 
-use dashmap_parallel::{NoThreadData, ParExtendFault};
 use dashmap::set::DashSet;
+use dashmap_parallel::{NoThreadData, ParExtendFault};
 use dashmap_table::{MapFault, SpreadState};
 use lock_api_spin::PackedLock;
 use std::alloc::Global;

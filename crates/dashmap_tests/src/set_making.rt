@@ -1,8 +1,8 @@
 //! How sets are made, growths that are refused, calls of a set's owner, and texts as keys.
 
 use crate::sets::{Answer, Call, Numbers, Row, Spun, make, run, set_of};
-use dashmap_map::NewFault;
 use dashmap::set::DashSet;
+use dashmap_map::NewFault;
 use dashmap_table::{MapFault, SpreadState};
 use linked_list_allocator::LocalHeap;
 use lock_api_spin::PackedLock;
