@@ -67,10 +67,12 @@ pub fn wanted<T: Copy>(done: T, refused: &[T], growth: u64) -> T {
 }
 
 impl OnMap {
-    /// Makes the call on a map, and compares what stands.
+    /// Makes the call on a map, and compares what stands: first that no shard is held, since who asks for one that is
+    /// waits.
     fn ask<R: Wait>(
         self,
         heap: &Heap,
+        table: &LockTable<'_, R>,
         map: &Small<'_, '_, '_, R>,
         me: &mut ThreadData,
     ) -> (u64, bool) {
@@ -82,8 +84,8 @@ impl OnMap {
         let before = heap.asked();
         let answer = make(map, call, me);
         let growth = refused_growth(heap, before);
-        let is_kept = growth == 0 || pairs_of(map, me) == pairs;
-        (before, is_kept && answer == wanted(done, refused, growth))
+        let is_so = are_free(table) && answer == wanted(done, refused, growth);
+        (before, is_so && (growth == 0 || pairs_of(map, me) == pairs))
     }
 }
 
@@ -94,8 +96,8 @@ impl<R: Wait + Copy + Drop> Case<R> for OnMap {
         let table = LockTable::new(alloc, &lot, SHARDS).ok()?;
         let mut me = lot.thread_data().ok()?;
         let map = map_of(heap, &table)?;
-        let (before, stood) = self.ask(heap, &map, &mut me);
-        Seen::of(before, heap.asked(), stood && are_free(&table))
+        let (before, stood) = self.ask(heap, &table, &map, &mut me);
+        Seen::of(before, heap.asked(), stood)
     }
 }
 
