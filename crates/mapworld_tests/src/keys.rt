@@ -239,11 +239,14 @@ fn keys_are_compared_by_one_field(rt: HostRuntime) -> Result<(), Fail> {
     let mut world = MapWorld::new(rt.alloc(), 2, SpreadState, pairs, programs)?;
     let is_done = step_round(&mut world);
     let answers = world.replies();
-    let is_set = answers.len() == 2 && answers[0].answer == Answer::Value(4);
-    let stored = match &answers[1].answer {
-        Answer::Pair(key, 5) => key.label,
-        _ => 0,
-    };
+    let mut stored = 0;
+    let mut is_set = false;
+    if answers.len() == 2 {
+        is_set = answers[0].answer == Answer::Value(4);
+        if let Answer::Pair(key, 5) = &answers[1].answer {
+            stored = key.label;
+        }
+    }
     assert!(rt; is_done && is_set && stored == 1);
     Ok(())
 }
