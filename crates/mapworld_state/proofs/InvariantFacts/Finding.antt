@@ -53,6 +53,8 @@ use Rattle.mapworld_state.proofs.InvariantFacts.Building.{none-at, none-moved, n
 use Rattle.mapworld_state.proofs.InvariantFacts.Building.{ready-outside}
 use Rattle.mapworld_state.proofs.InvariantFacts.Admitting.{leaves-same, kept-alone, owns-on, keyed-apart, begin-apart}
 use Rattle.mapworld_state.proofs.InvariantFacts.Listing.{new-key, new-finds, new-before, sound-listed, contents-listed}
+use Rattle.mapworld_state.specs.Sound.{Inserts}
+use Rattle.std.proofs.Common.{inr}
 
 pub last-new : {K V D T : Type 0} (x : Setup K V D T) (bs : List (Block K)) (d : Block K) → IsLastOnShard x (bs ++ d ∷ []) (length bs) d
 last-new x bs d j e lt here = absurd (let within : j < length (bs ++ d ∷ []) = slice_get_within (bs ++ d ∷ []) j e here in omega (arith, length-append bs (d ∷ [])))
@@ -155,6 +157,10 @@ opened-quiet (begin.TryGet k) None = refl
 opened-quiet (begin.TryGet k) (Some pair) = refl
 opened-quiet (begin.TryGetMut k) None = refl
 opened-quiet (begin.TryGetMut k) (Some pair) = refl
+opened-quiet (begin.GetUntil k) None = refl
+opened-quiet (begin.GetUntil k) (Some pair) = refl
+opened-quiet (begin.GetMutUntil k) None = refl
+opened-quiet (begin.GetMutUntil k) (Some pair) = refl
 opened-quiet (begin.TryEntry k) None = refl
 opened-quiet (begin.TryEntry k) (Some pair) = refl
 
@@ -165,6 +171,8 @@ opened-some (begin.Entry k) pair = refl
 opened-some (begin.TryGet k) pair = refl
 opened-some (begin.TryGetMut k) pair = refl
 opened-some (begin.TryEntry k) pair = refl
+opened-some (begin.GetUntil k) pair = refl
+opened-some (begin.GetMutUntil k) pair = refl
 
 pub ready-inside : {K V D T A : Type 0} (x : Setup K V D T) (bs : List (Block K)) (tables : List (ShardPairs K V)) (t : ℕ) (p : Place K V D T A) (n c i : ℕ) (block : Option ℕ)
     → session_of x t n ≡ Some c → Some i ≡ block → HasSession x bs tables t p n c i → IsReady x bs tables t p n block
@@ -392,29 +400,44 @@ module _ {K V S D T A : Type 0} (x : Setup K V D T) (laws : Laws x) (w : State K
         (record { table = table; held = held; so = (roomy, is) })
         (λ d same. tables-same x w.blocks (w.blocks ++ d ∷ []) w.tables sound.tables same)
 
-    found-by : (r : Request K V D) → p.phase ≡ phase.Find r → (o : Option (K × V)) → pair_of x.eq table.items (request_key r) ≡ o → (room : Bool) → has_room table ≡ room
-        → (blocks : List (Block K)) → ListsBlock w s.thread p (found_done r (is_some o) room) blocks → Found p r (is_some o) room blocks
-    found-by (request.Keyed (keyed.Insert k v)) before (Some pair) is room roomy blocks listed = found-deed (keyed.Insert k v) before refl pair is blocks listed
-    found-by (request.Keyed (keyed.Insert k v)) before None is true roomy blocks listed =
-        let r : Request K V D = request.Keyed (keyed.Insert k v) in
+    -- a call whose pair is to be added, where the shard has room for it
+    found-append : (k : K) (v : V) (call : Keyed K V D) → Inserts call k v → keyed_key call ≡ k → keyed_mode call ≡ Exclusive
+        → p.phase ≡ phase.Find (request.Keyed call) → pair_of x.eq table.items k ≡ None → has_room table ≡ true
+        → (blocks : List (Block K)) → ListsBlock w s.thread p (Some 0) blocks
+        → Goes x s.thread w (record (stepped w s (record p { block = Some (length w.blocks); guard = None; phase = phase.Append k v })) { blocks = blocks })
+    found-append k v call inserts key alone before is roomy blocks listed =
+        let r : Request K V D = request.Keyed call in
         let st = sound.stands s.thread p at in
         let c = claim-at x (threads_of w) w.blocks w.replies w.tables s.thread p (phase.Find r) before st in
+        let way : IsOnItsWay x p k = subst (λ (j : K). IsOnItsWay x p j) key c.1 in
+        let holds : HoldsShard p Exclusive = subst (λ (m : Mode). HoldsShard p m) alone c.2 in
+        let its : key_of {V = V} {D = D} (ask.Keyed call) ≡ Some k = ap (λ j. Some j) key in
         let p' : Place K V D T A = record p { block = Some (length w.blocks); guard = None; phase = phase.Append k v } in
         let not_yet : may_own p.phase ≡ false = ap may_own before in
         let l = listed.1 in
         let none' : HasNoWalk p' = still (phase.Find r) before refl p' refl refl refl in
         subst (λ (z : List (Block K)). Goes x s.thread w (record (stepped w s p') { blocks = z })) (sym listed.2)
-        (sound-listed x laws w s sound p at _ c.0 k refl Exclusive c.2 c.1.shard not_yet 0 listed.0 l p' refl refl refl refl none' refl (λ o z. z)
-        (done-none x w s (started_of (stepped w s p')) (w.blocks ++ listed.0 ∷ []) (length w.blocks) p listed.0 (keyed.Insert k v) 0 (omega arith) l) w.tables refl (λ u q m ne hq h. refl) (
-          IsInCall-push x (threads_of w) s.thread s.thread p' _ (in_call-moved x p p' (threads_of w) s.thread _ refl refl refl c.0),
-          before-deed x laws w s sound p at _ c.0 k refl c.1.shard not_yet table held listed.0 c.2 l p' None is refl refl refl refl refl,
+        (sound-listed x laws w s sound p at _ c.0 k its Exclusive holds way.shard not_yet 0 listed.0 l p' refl refl refl refl none' refl (λ o z. z)
+        (done-none x w s (started_of (stepped w s p')) (w.blocks ++ listed.0 ∷ []) (length w.blocks) p listed.0 call 0 (omega arith) l) w.tables refl (λ u q m ne hq h. refl) (
+          record {
+            insertion = call;
+            inserts = inserts;
+            in_call = IsInCall-push x (threads_of w) s.thread s.thread p' _ (in_call-moved x p p' (threads_of w) s.thread _ refl refl refl c.0);
+          },
+          before-deed x laws w s sound p at _ c.0 k its way.shard not_yet table held listed.0 holds l p' None is refl refl refl refl refl,
           record { table = table; held = held; so = roomy },
         )
         none'
         (taken-at x (threads_of w) w.blocks w.replies w.tables s.thread p (phase.Find r) before st)
         (within-at x (threads_of w) w.blocks w.replies w.tables s.thread p (phase.Find r) before st)
         (tables-same x w.blocks (w.blocks ++ listed.0 ∷ []) w.tables sound.tables
-        (contents-listed x laws w s sound p at _ c.0 k refl Exclusive c.2 c.1.shard not_yet 0 listed.0 l (quiet-none x laws w s sound p at _ c.0 k refl c.1.shard not_yet table held listed.0 l))))
+        (contents-listed x laws w s sound p at _ c.0 k its Exclusive holds way.shard not_yet 0 listed.0 l (quiet-none x laws w s sound p at _ c.0 k its way.shard not_yet table held listed.0 l))))
+
+    found-by : (r : Request K V D) → p.phase ≡ phase.Find r → (o : Option (K × V)) → pair_of x.eq table.items (request_key r) ≡ o → (room : Bool) → has_room table ≡ room
+        → (blocks : List (Block K)) → ListsBlock w s.thread p (found_done r (is_some o) room) blocks → Found p r (is_some o) room blocks
+    found-by (request.Keyed (keyed.Insert k v)) before (Some pair) is room roomy blocks listed = found-deed (keyed.Insert k v) before refl pair is blocks listed
+    found-by (request.Keyed (keyed.Insert k v)) before None is true roomy blocks listed =
+        found-append k v (keyed.Insert k v) (inl refl) refl refl before is roomy blocks listed
     found-by (request.Keyed (keyed.Insert k v)) before None is false full blocks listed = found-full (growth.Insert k v) before refl refl is full blocks listed
     found-by (request.Keyed (keyed.Remove k)) before (Some pair) is room roomy blocks listed = found-deed (keyed.Remove k) before refl pair is blocks listed
     found-by (request.Keyed (keyed.Remove k)) before None is room roomy blocks listed =
@@ -464,6 +487,16 @@ module _ {K V S D T A : Type 0} (x : Setup K V D T) (laws : Laws x) (w : State K
         found-whole (keyed.ContainsKey k) before (Some pair) is refl (answer.Flag true) refl blocks listed
     found-by (request.Keyed (keyed.ContainsKey k)) before None is room roomy blocks listed =
         found-whole (keyed.ContainsKey k) before None is refl (answer.Flag false) refl blocks listed
+    found-by (request.Keyed (keyed.InsertUntil k v)) before (Some pair) is room roomy blocks listed =
+        found-deed (keyed.InsertUntil k v) before refl pair is blocks listed
+    found-by (request.Keyed (keyed.InsertUntil k v)) before None is true roomy blocks listed =
+        found-append k v (keyed.InsertUntil k v) (inr refl) refl refl before is roomy blocks listed
+    found-by (request.Keyed (keyed.InsertUntil k v)) before None is false full blocks listed =
+        found-full (growth.InsertUntil k v) before refl refl is full blocks listed
+    found-by (request.Keyed (keyed.RemoveUntil k)) before (Some pair) is room roomy blocks listed =
+        found-deed (keyed.RemoveUntil k) before refl pair is blocks listed
+    found-by (request.Keyed (keyed.RemoveUntil k)) before None is room roomy blocks listed =
+        found-whole (keyed.RemoveUntil k) before None is refl answer.None refl blocks listed
     found-by (request.Begin b) before (Some pair) is room roomy blocks listed =
         let r : Request K V D = request.Begin b in
         let k = request_key r in
@@ -504,6 +537,9 @@ module _ {K V S D T A : Type 0} (x : Setup K V D T) (laws : Laws x) (w : State K
     found-by (request.Begin (begin.GetMut k)) before None is room roomy blocks listed = found-nothing (begin.GetMut k) before is refl refl blocks listed
     found-by (request.Begin (begin.TryGet k)) before None is room roomy blocks listed = found-nothing (begin.TryGet k) before is refl refl blocks listed
     found-by (request.Begin (begin.TryGetMut k)) before None is room roomy blocks listed = found-nothing (begin.TryGetMut k) before is refl refl blocks listed
+    found-by (request.Begin (begin.GetUntil k)) before None is room roomy blocks listed = found-nothing (begin.GetUntil k) before is refl refl blocks listed
+    found-by (request.Begin (begin.GetMutUntil k)) before None is room roomy blocks listed =
+        found-nothing (begin.GetMutUntil k) before is refl refl blocks listed
     found-by (request.Begin (begin.Entry k)) before None is false full blocks listed = found-full (growth.Entry k) before refl refl is full blocks listed
     found-by (request.Begin (begin.Entry k)) before None is true roomy blocks listed = found-vacant (begin.Entry k) k before refl refl refl refl is roomy blocks listed
     found-by (request.Begin (begin.TryEntry k)) before None is false full blocks listed = found-full (growth.TryEntry k) before refl refl is full blocks listed
@@ -551,6 +587,44 @@ module _ {K V S D T A : Type 0} (x : Setup K V D T) (laws : Laws x) (w : State K
       (record { table = a.grown; held = slice_get-set_same w.tables p.shard a.table a.grown a.held; so = (roomy-grown a, a.grows.found k ∙ absent) })
       (λ d same. tables-grown x laws w.blocks (w.blocks ++ d ∷ []) w.tables sound.tables p.shard a.table a.grown a.held a.grows same)
 
+  grown-append : {w' : State K V S D T A} (a : GrowsShard x w s w') (g : Growth K V) (k : K) (v : V) (call : Keyed K V D) → a.place.phase ≡ phase.Grow g
+      → ((threads : List ℕ) (bs : List (Block K)) (tables : List (ShardPairs K V)) (p : Place K V D T A)
+      → Claim x threads bs tables s.thread p (phase.Grow g) → IsInCall x threads s.thread p (ask.Keyed call)
+      × IsOnItsWay x p k × HoldsShard p Exclusive)
+      → Inserts call k v → key_of {V = V} {D = D} (ask.Keyed call) ≡ Some k
+      → pair_of x.eq a.table.items k ≡ None → ListsBlock w s.thread a.place (Some 0) a.blocks
+      → Goes x s.thread w (record (stepped w s (record (a.place) { block = Some (length w.blocks); guard = None; phase = phase.Append k v })) {
+        tables = slice_set w.tables a.place.shard a.grown;
+        blocks = a.blocks;
+      })
+  grown-append a g k v call before is inserts key absent listed =
+      let p = a.place in
+      let f : Phase K V D T A = phase.Grow g in
+      let st = sound.stands s.thread p a.stands in
+      let c = is (threads_of w) w.blocks w.tables p (claim-at x (threads_of w) w.blocks w.replies w.tables s.thread p f before st) in
+      let p' : Place K V D T A = record p { block = Some (length w.blocks); guard = None; phase = phase.Append k v } in
+      let not_yet : may_own p.phase ≡ false = ap may_own before in
+      let l = listed.1 in
+      let d = listed.0 in
+      let none' : HasNoWalk p' = still p a.stands a.table a.held f before refl p' refl refl refl in
+      subst (λ (z : List (Block K)). Goes x s.thread w (record (stepped w s p') { tables = slice_set w.tables p.shard a.grown; blocks = z })) (sym listed.2)
+      (sound-listed x laws w s sound p a.stands _ c.0 k key Exclusive c.2 c.1.shard not_yet 0 d l p' refl refl refl refl none' refl (λ o z. z)
+      (done-none x w s (started_of (stepped w s p')) (w.blocks ++ d ∷ []) (length w.blocks) p d call 0 (omega arith) l) (slice_set w.tables p.shard a.grown) (length-set w.tables p.shard a.grown)
+      (kept-alone x w s p a.stands sound a.grown c.2) (
+        record {
+          insertion = call;
+          inserts = inserts;
+          in_call = IsInCall-push x (threads_of w) s.thread s.thread p' _ (in_call-moved x p p' (threads_of w) s.thread _ refl refl refl c.0);
+        },
+        before-deed x laws w s sound p a.stands _ c.0 k key c.1.shard not_yet a.table a.held d c.2 l p' None absent refl refl refl refl refl,
+        record { table = a.grown; held = slice_get-set_same w.tables p.shard a.table a.grown a.held; so = roomy-grown a },
+      )
+      none'
+      (taken-at x (threads_of w) w.blocks w.replies w.tables s.thread p f before st)
+      (within-at x (threads_of w) w.blocks w.replies w.tables s.thread p f before st)
+      (tables-grown x laws w.blocks (w.blocks ++ d ∷ []) w.tables sound.tables p.shard a.table a.grown a.held a.grows
+      (contents-listed x laws w s sound p a.stands _ c.0 k key Exclusive c.2 c.1.shard not_yet 0 d l (quiet-none x laws w s sound p a.stands _ c.0 k key c.1.shard not_yet a.table a.held d l))))
+
   grown : (w' : State K V S D T A) (a : GrowsShard x w s w') (c : Growth K V) → a.place.phase ≡ phase.Grow c → pair_of x.eq a.table.items (growth_key c) ≡ None
       → ListsBlock w s.thread a.place (found_done {D = D} (request_of c) false true) a.blocks
       → Goes x s.thread w (record (stepped w s (record (a.place) { block = Some (length w.blocks); guard = found_guard {D = D} (request_of c) false true; phase = found_phase (request_of c) false true })) {
@@ -558,28 +632,9 @@ module _ {K V S D T A : Type 0} (x : Setup K V D T) (laws : Laws x) (w : State K
         blocks = a.blocks;
       })
   grown w' a (growth.Insert k v) before absent listed =
-      let p = a.place in
-      let f : Phase K V D T A = phase.Grow (growth.Insert k v) in
-      let st = sound.stands s.thread p a.stands in
-      let c = claim-at x (threads_of w) w.blocks w.replies w.tables s.thread p f before st in
-      let p' : Place K V D T A = record p { block = Some (length w.blocks); guard = None; phase = phase.Append k v } in
-      let not_yet : may_own p.phase ≡ false = ap may_own before in
-      let l = listed.1 in
-      let d = listed.0 in
-      let none' : HasNoWalk p' = still p a.stands a.table a.held f before refl p' refl refl refl in
-      subst (λ (z : List (Block K)). Goes x s.thread w (record (stepped w s p') { tables = slice_set w.tables p.shard a.grown; blocks = z })) (sym listed.2)
-      (sound-listed x laws w s sound p a.stands _ c.0 k refl Exclusive c.2 c.1.shard not_yet 0 d l p' refl refl refl refl none' refl (λ o z. z)
-      (done-none x w s (started_of (stepped w s p')) (w.blocks ++ d ∷ []) (length w.blocks) p d (keyed.Insert k v) 0 (omega arith) l) (slice_set w.tables p.shard a.grown) (length-set w.tables p.shard a.grown)
-      (kept-alone x w s p a.stands sound a.grown c.2) (
-        IsInCall-push x (threads_of w) s.thread s.thread p' _ (in_call-moved x p p' (threads_of w) s.thread _ refl refl refl c.0),
-        before-deed x laws w s sound p a.stands _ c.0 k refl c.1.shard not_yet a.table a.held d c.2 l p' None absent refl refl refl refl refl,
-        record { table = a.grown; held = slice_get-set_same w.tables p.shard a.table a.grown a.held; so = roomy-grown a },
-      )
-      none'
-      (taken-at x (threads_of w) w.blocks w.replies w.tables s.thread p f before st)
-      (within-at x (threads_of w) w.blocks w.replies w.tables s.thread p f before st)
-      (tables-grown x laws w.blocks (w.blocks ++ d ∷ []) w.tables sound.tables p.shard a.table a.grown a.held a.grows
-      (contents-listed x laws w s sound p a.stands _ c.0 k refl Exclusive c.2 c.1.shard not_yet 0 d l (quiet-none x laws w s sound p a.stands _ c.0 k refl c.1.shard not_yet a.table a.held d l))))
+      grown-append a (growth.Insert k v) k v (keyed.Insert k v) before (λ threads bs tables p c. (c.0, c.1, c.2)) (inl refl) refl absent listed
+  grown w' a (growth.InsertUntil k v) before absent listed =
+      grown-append a (growth.InsertUntil k v) k v (keyed.InsertUntil k v) before (λ threads bs tables p c. (c.0, c.1, c.2)) (inr refl) refl absent listed
   grown w' a (growth.Entry k) before absent listed = grown-entry a (growth.Entry k) (begin.Entry k) k before (λ threads bs tables p c. (c.0, c.1, c.2)) refl refl refl absent listed
   grown w' a (growth.TryEntry k) before absent listed = grown-entry a (growth.TryEntry k) (begin.TryEntry k) k before (λ threads bs tables p c. (c.0, c.1, c.2)) refl refl refl absent listed
 

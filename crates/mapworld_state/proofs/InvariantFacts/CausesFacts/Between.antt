@@ -33,6 +33,8 @@ use Rattle.mapworld_state.proofs.InvariantFacts.CausesFacts.Trying.{core_tries, 
 use Rattle.parking_lot_machine_calls.specs.Calls.{is_timed}
 use Rattle.mapworld_state.specs.Locks.Fits.{LocksFit}
 use Rattle.std.proofs.Common.{◌||◌}
+use Rattle.mapworld_state.specs.declared.holds.Manner.{Manner}
+use Rattle.mapworld_state.specs.declared.holds.Manner.TheVariants.{Waits}
 
 -- a try without success is one that waits for its shard
 module _ {K V S D T A : Type 0} (x : Setup K V D T) (w : State K V S D T A) (sound : Sound x w)
@@ -44,7 +46,7 @@ module _ {K V S D T A : Type 0} (x : Setup K V D T) (w : State K V S D T A) (sou
     gets-nothing : IsOwing p (Some (stand_of c)) → ⊥
     gets-nothing h = let m = tries_get c.asked ours tries in subst (λ (a : Aim). MayOwe p c.lock a) m.1 h
 
-    waits-not : (mode : _) → IsWanting p mode false (Some (stand_of c)) → ⊥
+    waits-not : (mode : _) → IsWanting p mode Waits (Some (stand_of c)) → ⊥
     waits-not mode h =
         false≢true (sym (ap (λ (z : Stand). z.trying || z.timed) (same_Some (stand_of c) _ h.is)) ∙ tries)
 
@@ -149,10 +151,10 @@ module _ {K V S D T A : Type 0} (x : Setup K V D T) (w : State K V S D T A) (t :
     }
 
     -- the hold that an admission gives is of the shard that it was waited for
-    admitted : (mode : _) (tries : Bool) (own : Hold) → own.shard ≡ p.shard
-        → IsWanting p mode tries (stand_in w.locks t) → (i : ℕ) (h : Hold) → slice_get (p.holds ++ own ∷ []) i ≡ Some h
+    admitted : (mode : _) (manner : Manner) (own : Hold) → own.shard ≡ p.shard
+        → IsWanting p mode manner (stand_in w.locks t) → (i : ℕ) (h : Hold) → slice_get (p.holds ++ own ∷ []) i ≡ Some h
         → IsSite w.locks t p.holds h.shard
-    admitted mode tries own is wants i h here = elim (slice_get-push_cases p.holds i h own here) [
+    admitted mode manner own is wants i h here = elim (slice_get-push_cases p.holds i h own here) [
       | inl old ↦ inl (i, h, old, refl)
       | inr new ↦ inr (_, wants.is, sym is ∙ sym (ap (λ z. z.shard) new.1))
     ]
@@ -190,7 +192,7 @@ module _ {K V S D T A : Type 0} (x : Setup K V D T) (w : State K V S D T A) (t :
   between-concludes v (locked e) = (
     e.place,
     _,
-    between-placed v (sound-left x w t v sound (inr (locked e))) e.place e.stands e.locks CoreAnswer.Refused e.ends _
+    between-placed v (sound-left x w t v sound (inr (locked e))) e.place e.stands e.locks e.ended e.ends _
         refl refl (λ i h here. inl (i, h, here, refl)) e.after,
   )
   between-concludes v (idle e) =

@@ -33,6 +33,11 @@ use Rattle.mapworld_state.proofs.InvariantFacts.CausesFacts.Going.{Own, met-on}
 use Rattle.mapworld_state.proofs.InvariantFacts.CausesFacts.Looking.{sees}
 use Rattle.mapworld_state.proofs.InvariantFacts.CausesFacts.Shapes.{Shape, shape}
 use Rattle.mapworld_state.proofs.InvariantFacts.CausesFacts.Staying.{on-kept}
+use Rattle.mapworld_calls.specs.declared.ask.Begin.{Begin}
+use Rattle.mapworld_calls.specs.declared.ask.Ask.TheVariants as ask
+use Rattle.mapworld_calls.specs.Setup.{ask_at}
+use Rattle.mapworld_calls.specs.Programs.{is_try}
+use Rattle.std.proofs.Common.{IsTrue}
 
 module _ {K V S D T A : Type 0} (x : Setup K V D T) (w : State K V S D T A) (s : Step) (w' : State K V S D T A)
     (sound : Sound x w) (fit : LocksFit w.locks) (goes : Goes x s.thread w w') (shape : Shape w w' s)
@@ -92,21 +97,23 @@ module _ {K V S D T A : Type 0} (x : Setup K V D T) (w : State K V S D T A) (s :
   ]
 
   old-cause : (i : ℕ) (r : Reply K V T A) → slice_get w.replies i ≡ Some r → r.answer ≡ answer.Locked
+      → (b : Begin K) → ask_at x r.thread r.call ≡ Some (ask.Begin b) → IsTrue (is_try b)
       → HasCause x (started_of w') w'.blocks w'.replies r
-  old-cause i r at is =
+  old-cause i r at is b asked tries =
       let lt = step-low x w sound r.thread r.end (sound.placed.timed i r at).end in
-      cause-on x w s w' sound fit goes shape adds causes r (omega (arith, lt)) (causes.locked i r at is)
+      cause-on x w s w' sound fit goes shape adds causes r (omega (arith, lt)) (causes.locked i r at is b asked tries)
 
   locked-by : (w'.replies ≡ w.replies) ⊎ ((v : State K V S D T A) × ((v ≡ w) ⊎ Concludes w t v) × Answers x v s w')
       → LockedHaveCauses x (started_of w') w'.blocks w'.replies
-  locked-by (inl same) i r at is = old-cause i r (ap (λ z. slice_get z i) (sym same) ∙ at) is
-  locked-by (inr (v, h, a)) i r at is =
+  locked-by (inl same) i r at is b asked tries = old-cause i r (ap (λ z. slice_get z i) (sym same) ∙ at) is b asked tries
+  locked-by (inr (v, h, a)) i r at is b asked tries =
       elim (slice_get-push_cases w.replies i r new
       (ap (λ z. slice_get z i) (sym (ap (λ z. z.replies) a.after ∙ ap (λ z. z ++ new ∷ []) replies)) ∙ at)) [
-        | inl old ↦ old-cause i r old is
+        | inl old ↦ old-cause i r old is b asked tries
         | inr last ↦ subst (λ (q : Reply K V T A). HasCause x (started_of w') w'.blocks w'.replies q) (sym last.1)
             (answer-cause x w s w' sound fit goes shape adds causes v h a
-            (sym (ap (λ q. is_locked q.answer) last.1) ∙ ap is_locked is))
+            (sym (ap (λ q. is_locked q.answer) last.1) ∙ ap is_locked is) b
+            (ap (λ q. ask_at x q.thread q.call) (sym last.1) ∙ asked) tries)
       ]
     where
       new : Reply K V T A
@@ -138,5 +145,5 @@ causes-new x w rests out none = record {
   ];
   met = λ u p c at here seen. absurd (none-some (stand_of c) (sym (out u) ∙ ap (option_map stand_of) here));
   untold = λ u p at. subst IsTold (sym (rests u p at).0) tt;
-  locked = λ i r at is. absurd (none-there w.replies i r none at);
+  locked = λ i r at is b asked tries. absurd (none-there w.replies i r none at);
 }

@@ -1,5 +1,5 @@
 -- What a step of a lock's call leaves of other threads, and what a try of the thread has seen.
-use Rattle.std.proofs.Common.{◌≡◌, ◌≢◌, ℕ, inl, inr, Bool, true, false, Some, None, refl, sym, ap, ◌∙◌}
+use Rattle.std.proofs.Common.{◌≡◌, ◌≢◌, ℕ, inl, inr, ◌&&◌, Bool, true, false, Some, None, refl, sym, ap, ◌∙◌}
 use Rattle.std.specs.Option.{option_map}
 use Rattle.std.proofs.lemmas.Bool.{false≢true}
 use Rattle.std.proofs.lemmas.Option.{same_Some}
@@ -12,13 +12,15 @@ use Rattle.parking_lot_machine_calls.specs.declared.calls.LockCall.{LockCall}
 use Rattle.parking_lot_machine_calls.specs.declared.calls.LockKind.{LockKind}
 use Rattle.parking_lot_machine_calls.specs.declared.seat.Core.{Core}
 use Rattle.parking_lot_machine_calls.specs.Beginnings.{core_of}
-use Rattle.parking_lot_machine.specs.Machines.{call_for}
+use Rattle.parking_lot_machine.specs.Machines.{call_for, may_expire_in}
+use Rattle.parking_lot_machine_calls.specs.Calls.{is_timed}
+use Rattle.parking_lot_machine_calls.specs.LateCalls.{late_of, sleeps_in_time}
 use Rattle.parking_lot_machine_calls.specs.CallActs.{hears}
 use Rattle.parking_lot_machine.specs.Rows.{State, call_at, state}
 use Rattle.parking_lot_machine_calls.specs.Stances.{core_next}
 use Rattle.mapworld_state.specs.Locks.Stands.{is_try, stand_in, stand_of}
 use Rattle.mapworld_state.proofs.InvariantFacts.CausesFacts.Trying.{core_tries, is_trying}
-use Rattle.mapworld_state.specs.Locks.Steps.{LockBegins, LockEnds, LockMoves, LockStarts}
+use Rattle.mapworld_state.specs.Locks.Steps.{LockBegins, LockEnds, LockExpires, LockMoves, LockStarts}
 use Rattle.mapworld_state.specs.Locks.Views.{Shown}
 use Rattle.mapworld_state.specs.Invariant.Causes.Causes.{has_seen, has_seen_in}
 use Rattle.mapworld_state.proofs.InvariantFacts.CausesFacts.Looking.{others-see, own-sees, sees, set-elsewhere}
@@ -69,6 +71,36 @@ module _ (t : ℕ) where
       → LockStarts t shard call fair old new → LocksApart t old new
   apart-starts shard call fair old new h = apart-then old h.mid new (apart-begins shard call old h.mid h.begins)
       (apart-moves fair h.mid new h.moves)
+
+  pub apart-expires : (old new : Shown) → LockExpires t old new → LocksApart t old new
+  apart-expires old new h = record {
+    stands = λ v ne. h.stands v;
+    sees = λ v ne seen. sym
+        (ap (λ (u : State). sees (call_at u v)) h.became
+        ∙ ap sees (set-elsewhere (state old.rows).calls t v (Some (record (h.call) { core = late_of h.call.core })) ne))
+        ∙ seen;
+  }
+
+  -- one whose deadline has come has seen nothing
+  late-unseen : (k : Core) → sleeps_in_time k ≡ true → has_seen (late_of k) ≡ false
+  late-unseen (Core.Rw c) asleep = refl
+  late-unseen (Core.Mutex c) asleep = refl
+  late-unseen (Core.Late p) asleep = refl
+  late-unseen (Core.LateRw p) asleep = refl
+  late-unseen (Core.Upgrade c) asleep = refl
+
+  pub expires-blind : (old new : Shown) → LockExpires t old new → sees (call_at (state new.rows) t) ≡ true → ⊥
+  expires-blind old new h seen =
+      elim (set-here (state old.rows).calls t (Some (record (h.call) { core = late_of h.call.core }))) [
+        | inl is ↦ false≢true (sym (late-unseen h.call.core
+            (both-true (is_timed h.call.asked) (sleeps_in_time h.call.core) (sym (ap may_expire_in h.here) ∙ h.may)))
+            ∙ sym (ap (λ (u : State). sees (call_at u t)) h.became ∙ ap sees is) ∙ seen)
+        | inr none ↦ false≢true (sym (ap (λ (u : State). sees (call_at u t)) h.became ∙ ap sees none) ∙ seen)
+      ]
+    where
+      both-true : (a b : Bool) → (a && b) ≡ true → b ≡ true
+      both-true true b e = e
+      both-true false b e = absurd (false≢true e)
 
   -- a call that begins has seen nothing
   start-unseen : (k : LockKind) (call : LockCall) → has_seen (core_next (core_of k call) ActResult.Start) ≡ false

@@ -17,7 +17,7 @@ use Rattle.mapworld_state.specs.Locks.Steps.{LockMoves}
 use Rattle.mapworld_state.specs.Locks.Views.{Shown, owner_in}
 use Rattle.mapworld_state.proofs.LocksFacts.Together.{holders_are_threads}
 use Rattle.mapworld_state.specs.Held.{IsWanting, StandsBefore}
-use Rattle.mapworld_state.specs.Moves.{mode_of, request_tries}
+use Rattle.mapworld_state.specs.Moves.{mode_of, request_manner}
 use Rattle.mapworld_state.specs.declared.place.Phase.{Phase}
 use Rattle.mapworld_state.specs.declared.place.Phase.TheVariants as phase
 use Rattle.mapworld_state.specs.Places.{Place}
@@ -105,7 +105,7 @@ module _ {K V S D T A : Type 0} (x : Setup K V D T) (w : State K V S D T A) (sou
         let o = tries-admits x w sound fit t p at c moves.steps.here tries in
         let claim = claim-at x (threads_of w) w.blocks w.replies w.tables t p (phase.Admit o.0) o.1
         (sound.stands t p at) in
-        let stood : IsWanting p (mode_of o.0) (request_tries o.0) (stand_in w.locks t) =
+        let stood : IsWanting p (mode_of o.0) (request_manner o.0) (stand_in w.locks t) =
         subst (λ (g : Phase K V D T A). StandsBefore p g (stand_in w.locks t)) o.1 (sound.holds.stands t p at) in
         let lock : c.lock ≡ p.shard =
         ap (λ z. z.shard) (same_Some (stand_of c) _ (sym (ap (option_map stand_of) moves.steps.here) ∙ stood.is)) in

@@ -29,7 +29,7 @@ use Rattle.mapworld_state.specs.Places.{Place}
 use Rattle.mapworld_state.specs.Sound.{HoldsShard, HoldsWhileBetween, KeepsOver, Sound}
 use Rattle.mapworld_state.specs.State.{State, next_step, threads_of}
 use Rattle.mapworld_state.specs.Steps.{Answers, Concludes, EntersBy, Leaves as LeavesLock, StartsVisit, Starts}
-use Rattle.mapworld_state.specs.Steps.{MovesLock}
+use Rattle.mapworld_state.specs.Steps.{Expires, MovesLock}
 use Rattle.mapworld_state.specs.Walks.{hands_over, walk_mode}
 use Rattle.mapworld_state.proofs.HoldsTable.{none-there}
 use Rattle.mapworld_state.proofs.InvariantFacts.Adding.{Step-adds}
@@ -41,7 +41,7 @@ use Rattle.mapworld_state.proofs.InvariantFacts.CausesFacts.Between.{Between, be
 use Rattle.mapworld_state.proofs.InvariantFacts.CausesFacts.Between.{between-leaves, between-same}
 use Rattle.mapworld_state.proofs.InvariantFacts.CausesFacts.Going.{Own, kept-site, met-on, own-by, still-on}
 use Rattle.mapworld_state.proofs.InvariantFacts.CausesFacts.Locking.{LocksApart, apart-begins, apart-moves, apart-same}
-use Rattle.mapworld_state.proofs.InvariantFacts.CausesFacts.Locking.{begins-blind}
+use Rattle.mapworld_state.proofs.InvariantFacts.CausesFacts.Locking.{apart-expires, begins-blind, expires-blind}
 use Rattle.mapworld_state.proofs.InvariantFacts.CausesFacts.Looking.{sees}
 use Rattle.mapworld_state.proofs.InvariantFacts.CausesFacts.Meeting.{meets}
 use Rattle.mapworld_state.proofs.InvariantFacts.CausesFacts.Shapes.{Shape}
@@ -230,6 +230,21 @@ module _ {K V S D T A : Type 0} (x : Setup K V D T) (w : State K V S D T A) (s :
       met : sees (call_at (state a.locks.rows) t) ≡ true → HasMet x w' t a.place
       met seen = met-on x w s w' sound goes shape adds t a.place
           (meets x w sound fit threads causes t a.place a.stands s.fair a.locks a.moves seen)
+
+  -- its deadline comes
+  pub own-expires : Expires x w s w' → Own x w s w'
+  own-expires a =
+      own-by x w s w' sound goes shape adds causes w a.place a.place (between-same x w t sound a.place a.stands) a.place
+      w.tables a.locks w.blocks a.after (apart-expires t w.locks a.locks a.expires) sites
+      (λ seen. absurd (expires-blind t w.locks a.locks a.expires seen))
+      (causes.untold t a.place a.stands)
+    where
+      sites : (shard : ℕ) → IsSite a.locks t a.place.holds shard → IsSited x w' t a.place shard
+      sites shard (inl hold) = kept-site x w s w' sound goes shape adds causes a.place a.place a.stands
+          (ap (λ z. z.replies) a.after) refl shard (inl hold)
+      sites shard (inr (stand, is, at)) =
+          kept-site x w s w' sound goes shape adds causes a.place a.place a.stands (ap (λ z. z.replies) a.after) refl
+          shard (inr (stand, sym (a.expires.stands t) ∙ is, at))
 
   -- a walk asks for its next shard
   pub own-goes_on : (v : State K V S D T A) → (v ≡ w) ⊎ LeavesLock w t v → StartsVisit x v s w' → Own x w s w'
