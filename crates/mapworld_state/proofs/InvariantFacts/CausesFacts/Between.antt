@@ -35,6 +35,8 @@ use Rattle.mapworld_state.specs.Locks.Fits.{LocksFit}
 use Rattle.std.proofs.Common.{◌||◌}
 use Rattle.mapworld_state.specs.declared.holds.Manner.{Manner}
 use Rattle.mapworld_state.specs.declared.holds.Manner.TheVariants.{Waits}
+use Rattle.mapworld_state.proofs.LocksFacts.Lawful.{fit-ends}
+use Rattle.std.proofs.Common.{Bool}
 
 -- a try without success is one that waits for its shard
 module _ {K V S D T A : Type 0} (x : Setup K V D T) (w : State K V S D T A) (sound : Sound x w)
@@ -81,6 +83,18 @@ module _ {K V S D T A : Type 0} (x : Setup K V D T) (w : State K V S D T A) (sou
       (subst (λ (o : Option Stand). StandsBefore p p.phase o) (ap (λ o. option_map stand_of o) e)
       (sound.holds.stands t p at))
 
+  -- so is one that has a deadline
+  pub timed-admits : (c : Call) → call_at (state w.locks.rows) t ≡ Some c → is_timed c.asked ≡ true
+      → (r : Request K V D) × (p.phase ≡ phase.Admit r)
+  timed-admits c e timed =
+      by c (fit.plain.asked t c e) (either-timed (is_try c.asked) (is_timed c.asked) timed) p.phase
+      (subst (λ (o : Option Stand). StandsBefore p p.phase o) (ap (λ o. option_map stand_of o) e)
+      (sound.holds.stands t p at))
+    where
+      either-timed : (a b : Bool) → b ≡ true → (a || b) ≡ true
+      either-timed true b h = refl
+      either-timed false b h = h
+
 -- THE WORLD BETWEEN
 
 -- the thread's place stands where it stood, on shards that it was on
@@ -94,6 +108,7 @@ pub record Between {K V S D T A : Type 0} (x : Setup K V D T) (t : ℕ) (w v : S
   pub back : (shard : ℕ) → IsSite v.locks t q.holds shard → IsSite w.locks t p.holds shard
   pub others : (u : ℕ) → u ≢ t → slice_get v.places u ≡ slice_get w.places u
   pub locks : LocksApart t w.locks v.locks
+  pub fits : LocksFit w.locks → LocksFit v.locks
   pub replies : v.replies ≡ w.replies
 
 module _ {K V S D T A : Type 0} (x : Setup K V D T) (w : State K V S D T A) (t : ℕ) (sound : Sound x w) where
@@ -107,6 +122,7 @@ module _ {K V S D T A : Type 0} (x : Setup K V D T) (w : State K V S D T A) (t :
     back = λ shard h. h;
     others = λ u ne. refl;
     locks = apart-same t w.locks;
+    fits = λ fit. fit;
     replies = refl;
   }
 
@@ -132,6 +148,8 @@ module _ {K V S D T A : Type 0} (x : Setup K V D T) (w : State K V S D T A) (t :
           ∙ slice_get-set_other w.places t u q (λ e. ne (sym e));
       locks = subst (λ (z : State K V S D T A). LocksApart t w.locks z.locks) (sym after)
           (apart-ends t answer w.locks locks ends);
+      fits = λ fit. subst (λ (z : State K V S D T A). LocksFit z.locks) (sym after)
+          (fit-ends t answer w.locks locks fit ends);
       replies = ap (λ (z : State K V S D T A). z.replies) after;
     }
 
@@ -147,6 +165,8 @@ module _ {K V S D T A : Type 0} (x : Setup K V D T) (w : State K V S D T A) (t :
       others = λ u ne. ap (λ (z : State K V S D T A). slice_get z.places u) after;
       locks = subst (λ (z : State K V S D T A). LocksApart t w.locks z.locks) (sym after)
           (apart-ends t answer w.locks locks ends);
+      fits = λ fit. subst (λ (z : State K V S D T A). LocksFit z.locks) (sym after)
+          (fit-ends t answer w.locks locks fit ends);
       replies = ap (λ (z : State K V S D T A). z.replies) after;
     }
 
@@ -210,6 +230,7 @@ module _ {K V S D T A : Type 0} (x : Setup K V D T) (w : State K V S D T A) (t :
           others = λ u ne. ap (λ (z : State K V S D T A). slice_get z.places u) e.after
               ∙ slice_get-set_other w.places t u q (λ z. ne (sym z));
           locks = subst (λ (z : State K V S D T A). LocksApart t w.locks z.locks) (sym e.after) (apart-same t w.locks);
+          fits = λ fit. subst (λ (z : State K V S D T A). LocksFit z.locks) (sym e.after) fit;
           replies = ap (λ (z : State K V S D T A). z.replies) e.after;
         },
       )

@@ -33,7 +33,7 @@ use Rattle.mapworld_state.proofs.InvariantFacts.CausesFacts.Looking.{sees}
 use Rattle.mapworld_state.proofs.InvariantFacts.CausesFacts.Between.{Between, between-at, between-enters}
 use Rattle.mapworld_state.proofs.InvariantFacts.CausesFacts.Between.{between-leaves, between-reaches, between-same}
 use Rattle.mapworld_state.proofs.InvariantFacts.CausesFacts.Going.{Own, own-gives, own-quiet}
-use Rattle.mapworld_state.proofs.InvariantFacts.CausesFacts.OwnSteps.{blind-at, blind-out, gives-no_try, own-answers}
+use Rattle.mapworld_state.proofs.InvariantFacts.CausesFacts.OwnSteps.{gives-no_deadline, gives-no_try, out-at, own-answers}
 use Rattle.mapworld_state.proofs.InvariantFacts.CausesFacts.OwnSteps.{own-goes_on}
 use Rattle.mapworld_state.proofs.InvariantFacts.CausesFacts.OwnSteps.{own-moves, own-starts}
 use Rattle.mapworld_state.proofs.InvariantFacts.CausesFacts.Shapes.{Shape}
@@ -64,15 +64,15 @@ module _ {K V S D T A : Type 0} (x : Setup K V D T) (w : State K V S D T A) (s :
   t = s.thread
 
   abbrev Blind : State K V S D T A → Type 0
-  Blind v = sees (call_at (state v.locks.rows) t) ≡ true → ⊥
+  Blind v = stand_in v.locks t ≡ None
 
-  -- one that is in no call sees no word
+  -- it is in no call
   blind : (v : State K V S D T A) → Sound x v → (p : Place K V D T A) → slice_get v.places t ≡ Some p
       → (f : Phase K V D T A) → p.phase ≡ f → ((o : Option Stand) → StandsBefore p f o → o ≡ None) → Blind v
-  blind v there p at f is out = blind-at x w s w' sound goes shape adds causes v there p at f is out
+  blind v there p at f is out = out-at x w s w' sound goes shape adds causes v there p at f is out
 
   out-blind : (v : State K V S D T A) → stand_in v.locks t ≡ None → Blind v
-  out-blind v out = blind-out x w s w' sound goes shape adds causes v.locks out
+  out-blind v out = out
 
   own-finds : (v : State K V S D T A) (p q : Place K V D T A) → Between x t w v p q → Finds x v s w' → Own x w s w'
   own-finds v p q b a =
@@ -86,8 +86,8 @@ module _ {K V S D T A : Type 0} (x : Setup K V D T) (w : State K V S D T A) (s :
   own-gives_back from to told v p q b a =
       own-gives x w s w' sound goes shape adds causes v p a.place (between-at x t w v p q a.place a.stands b) _ v.tables
       a.locks v.blocks a.after a.hold a.more a.holds
-      (gives_up a.hold.mode) (gives-no_try a.hold.mode) a.gives refl (behind a.place.holds a.hold a.more a.holds)
-      (told a.walk)
+      (gives_up a.hold.mode) (gives-no_try a.hold.mode) (gives-no_deadline a.hold.mode) a.gives refl
+      (behind a.place.holds a.hold a.more a.holds) (told a.walk)
 
   own-looks : (v : State K V S D T A) (p q : Place K V D T A) → Between x t w v p q → LooksAround x v s w'
       ⊎ IsRefusedVisit x v s w' → Own x w s w'
@@ -175,11 +175,12 @@ module _ {K V S D T A : Type 0} (x : Setup K V D T) (w : State K V S D T A) (s :
       (blind w sound a.place a.stands (phase.Fill a.value) a.before (λ o h. h))
   itself-step fit threads (downgrade a) =
       own-gives x w s w' sound goes shape adds causes w a.place a.place (same a.place a.stands) _ w.tables a.locks
-      a.blocks a.after a.hold a.more a.holds call.Downgrade refl a.turns refl
+      a.blocks a.after a.hold a.more a.holds call.Downgrade refl refl a.turns refl
       (turned a.place.holds a.hold a.more a.holds) refl
   itself-step fit threads (release a) =
       own-gives x w s w' sound goes shape adds causes w a.place a.place (same a.place a.stands) _ w.tables a.locks
-      a.blocks a.after a.hold a.more a.holds (gives_up a.hold.mode) (gives-no_try a.hold.mode) a.gives refl
+      a.blocks a.after a.hold a.more a.holds (gives_up a.hold.mode) (gives-no_try a.hold.mode)
+      (gives-no_deadline a.hold.mode) a.gives refl
       (behind a.place.holds a.hold a.more a.holds) (subst IsTold a.before (causes.untold t a.place a.stands))
   itself-step fit threads (answers a) = own-answers x w s w' sound goes shape adds causes a.mid a.leaves a.answers
   itself-step fit threads (visit_starts a) = own-goes_on x w s w' sound goes shape adds causes a.mid a.leaves a.starts
@@ -196,4 +197,4 @@ module _ {K V S D T A : Type 0} (x : Setup K V D T) (w : State K V S D T A) (s :
 
   pub own-step : LocksFit w.locks → length w.places ≡ length w.locks.rows.calls → IsStep x w s w' → Own x w s w'
   own-step fit threads (by_itself its a) = itself-step fit threads a
-  own-step fit threads (by_deadline its a) = own-expires x w s w' sound goes shape adds causes a
+  own-step fit threads (by_deadline its a) = own-expires x w s w' sound goes shape adds causes fit its a
