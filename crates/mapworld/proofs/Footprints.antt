@@ -1,5 +1,6 @@
 -- Every step does one thing, and keeps to its footprint.
-use Rattle.std.proofs.Common.{◌≡◌, ◌≢◌, ◌⊎◌, ℕ, inl, inr, ◌+◌, Bool, true, false, List, [], ◌∷◌, ◌++◌, length, Option, Some, None}
+use Rattle.std.proofs.Common.{◌≡◌, ◌≢◌, ◌⊎◌, ℕ, inl, inr, ◌+◌, Bool, true, false, List, [], ◌∷◌, ◌++◌, length, Option}
+use Rattle.std.proofs.Common.{Some, None}
 use Rattle.std.proofs.Common.{slice_get, slice_set, refl, ap, sym, ◌∙◌, subst}
 use Rattle.std.specs.List.{flat_map}
 use Rattle.std.specs.Option.{option_and_then}
@@ -479,11 +480,13 @@ module _ {K V S D T A : Type 0} (x : Setup K V D T) (laws : Laws x) (w : State K
         (others_keep (by_itself mine (deed_applies a)) a.place.shard a.table a.changed a.held
         (ap (λ (v : State K V S D T A). v.tables) a.after) _ _ a.puts)
         (ap (λ (v : State K V S D T A). v.locks) a.after) (ap (λ (v : State K V S D T A). v.replies) a.after)
-    own_atomic mine (deed_views a) = beside w whole a.place a.stands _ (ap (λ (v : State K V S D T A). v.places) a.after)
+    own_atomic mine (deed_views a) = beside w whole a.place a.stands _
+        (ap (λ (v : State K V S D T A). v.places) a.after)
         (ap (λ (v : State K V S D T A). v.steps) a.after) refl
         (same_pairs x.eq w w' (ap (λ (v : State K V S D T A). v.tables) a.after))
         (ap (λ (v : State K V S D T A). v.locks) a.after) (ap (λ (v : State K V S D T A). v.replies) a.after)
-    own_atomic mine (deed_reads a) = beside w whole a.place a.stands _ (ap (λ (v : State K V S D T A). v.places) a.after)
+    own_atomic mine (deed_reads a) = beside w whole a.place a.stands _
+        (ap (λ (v : State K V S D T A). v.places) a.after)
         (ap (λ (v : State K V S D T A). v.steps) a.after) refl
         (same_pairs x.eq w w' (ap (λ (v : State K V S D T A). v.tables) a.after))
         (ap (λ (v : State K V S D T A). v.locks) a.after) (ap (λ (v : State K V S D T A). v.replies) a.after)
@@ -528,7 +531,8 @@ module _ {K V S D T A : Type 0} (x : Setup K V D T) (laws : Laws x) (w : State K
     own_atomic mine (visit_starts h) = starts_print h.mid (leaving w s.thread h.mid h.leaves) h.starts
     own_atomic mine (visit_parts h) = gives_print h.mid (parting w s.thread h.mid h.enters)
         (parting_fit w s.thread h.mid fit h.enters) phase.Part phase.Visit h.gives
-    own_atomic mine (visit_looks h) = looks_print (by_itself mine (visit_looks h)) h.mid (visiting w s.thread h.mid h.enters) h.looks
+    own_atomic mine (visit_looks h) = looks_print (by_itself mine (visit_looks h)) h.mid
+        (visiting w s.thread h.mid h.enters) h.looks
     own_atomic mine (visit_seeks a) = beside w whole a.place a.stands _
         (ap (λ (v : State K V S D T A). v.places) a.after) (ap (λ (v : State K V S D T A). v.steps) a.after) refl
         (same_pairs x.eq w w' (ap (λ (v : State K V S D T A). v.tables) a.after))

@@ -95,7 +95,7 @@ module _ {K V S H D T : Type 0} (A : Type 0) (d : deed.Ghosts D K V T) (b : buil
   FinishedWorldsAreAtRest = (w : State K V S D T A) → IsReachable d b h eq writes w → IsOver w → IsAtRest w
 
   -- A schedule of one thread without deadlines, whichever of its steps are fair, has fewer steps than the bound. So a
-  -- thread that is stepped alone comes to where it can't move. Of deadlines the bound says nothing: each is a step more.
+  -- thread that is stepped alone comes to where it can't move. Of deadlines the bound says nothing.
   abbrev pub LoneThreadsStop : Type 0
   LoneThreadsStop = (w : State K V S D T A) (t : ℕ) (steps : List Step) (w' : State K V S D T A)
       → IsReachable d b h eq writes w → All (λ s. (s.thread ≡ t) × (s.deadline ≡ false)) steps
@@ -107,8 +107,8 @@ module _ {K V S H D T : Type 0} (A : Type 0) (d : deed.Ghosts D K V T) (b : buil
       → ask_at (setup_of d b h eq writes w) t (answered_of w.replies t) ≡ Some (ask.Begin g) → is_try g ≡ true
       → status_of w t ≢ status.Asleep
 
-  -- a step of any kind does one thing: it starts a call, looks, changes one pair, acts at one lock or answers, or is its
-  -- thread's deadline, and wakes no more than one thread
+  -- a step of any kind does one thing: it starts a call, looks, changes one pair, acts at one lock or answers, or is
+  -- its thread's deadline, and wakes no more than one thread
   abbrev pub ReachableStepsAreAtomic : Type 0
   ReachableStepsAreAtomic = (w : State K V S D T A) (s : Step) (w' : State K V S D T A)
       → IsReachable d b h eq writes w → IsStep (setup_of d b h eq writes w) w s w' → IsAtomic eq w s w'

@@ -113,8 +113,8 @@ pub(crate) fn core_of<
     ensures reachable { IfOk result (CoreIsReachable D.Deed S.BuildHasher S.Hasher.Hasher K.eq K.hash_input) }
     ensures tries { IfOk result
         (λ core. HistoryHasCauses D.Deed S.BuildHasher S.Hasher.Hasher K.eq K.hash_input (history_of (state_of core))) }
-    ensures late { IfOk result
-        (λ core. HistoryHasDeadlines D.Deed S.BuildHasher S.Hasher.Hasher K.eq K.hash_input (history_of (state_of core))) }
+    ensures late { IfOk result (λ core. HistoryHasDeadlines D.Deed S.BuildHasher S.Hasher.Hasher K.eq K.hash_input
+        (history_of (state_of core))) }
 {
     steps_are_few();
     desks_count_as_words();

@@ -62,7 +62,7 @@ use std::marker::Model;
 ///
 /// ```text
 /// let mut world = MapWorld::new(alloc, 2, SpreadState, pairs, programs)?;
-/// world.run(&[Step { thread: 0, fair: false, deadline: false }, Step { thread: 1, fair: false, deadline: false }])?;
+/// world.run(&[Step { thread: 0, fair: false, deadline: false }])?;
 /// for reply in world.replies() { .. }
 /// ```
 #[derive(Drop)]
@@ -373,9 +373,9 @@ where
     /// deadline came while it was under way. A word that isn't 0 and a thread that sleeps have a cause too: a call on
     /// that shard now, and of another thread.
     ///
-    /// A step with `deadline` is its thread's deadline: one that sleeps in a call with a deadline comes back, by steps of
-    /// its own, and gives up, unless it was handed the shard before. Such a step may come as soon as the thread sleeps,
-    /// and it never has to.
+    /// A step with `deadline` is its thread's deadline: one that sleeps in a call with a deadline comes back, by steps
+    /// of its own, and gives up, unless another thread takes it out of its queue before it does so itself. Such a step
+    /// may come as soon as the thread sleeps, and it never has to.
     ///
     /// # Errors
     ///
@@ -384,8 +384,8 @@ where
     /// in this order:
     ///
     /// - `NoSuchThread`: the world doesn't have the thread;
-    /// - `CannotMove`: the thread is asleep or finished, or before a queue's section that another thread has entered; or,
-    ///   where the step is a deadline, it isn't asleep, or its call has none;
+    /// - `CannotMove`: the thread is asleep or finished, or before a queue's section that another thread has entered;
+    ///   or, where the step is a deadline, it isn't asleep, or its call has none;
     /// - `StepsShort`: no step numbers are left for the step and all that must come after it.
     ///
     /// It takes memory only where a shard grows or shrinks, and for what a walk reads. Where that is refused it is no
@@ -409,7 +409,8 @@ where
         ensures guards { GuardsAreOwners self.new.locks }
         ensures by_phase { HoldByPhase self.new.places }
         ensures causes { HistoryHasCauses D.Deed S.BuildHasher S.Hasher.Hasher K.eq K.hash_input (history_of self.new) }
-        ensures late { HistoryHasDeadlines D.Deed S.BuildHasher S.Hasher.Hasher K.eq K.hash_input (history_of self.new) }
+        ensures late { let past = history_of self.new in
+            HistoryHasDeadlines D.Deed S.BuildHasher S.Hasher.Hasher K.eq K.hash_input past }
         ensures reachable { IsReachable D.Deed S.BuildHasher S.Hasher.Hasher K.eq K.hash_input self.new }
         ensures used { TakenShardsAreUsed D.Deed S.BuildHasher S.Hasher.Hasher K.eq K.hash_input self.new }
         ensures waits { NobodyWaitsAlone D.Deed S.BuildHasher S.Hasher.Hasher K.eq K.hash_input self.new }
@@ -447,7 +448,8 @@ where
         ensures guards { GuardsAreOwners self.new.locks }
         ensures by_phase { HoldByPhase self.new.places }
         ensures causes { HistoryHasCauses D.Deed S.BuildHasher S.Hasher.Hasher K.eq K.hash_input (history_of self.new) }
-        ensures late { HistoryHasDeadlines D.Deed S.BuildHasher S.Hasher.Hasher K.eq K.hash_input (history_of self.new) }
+        ensures late { let past = history_of self.new in
+            HistoryHasDeadlines D.Deed S.BuildHasher S.Hasher.Hasher K.eq K.hash_input past }
         ensures reachable { IsReachable D.Deed S.BuildHasher S.Hasher.Hasher K.eq K.hash_input self.new }
     {
         steps_touch_one_lock();

@@ -17,6 +17,8 @@ fn keyed_again(call: &Keyed<u64, u64, Change>) -> Keyed<u64, u64, Change>
         Keyed::Alter(key, deed) => Keyed::Alter(*key, *deed),
         Keyed::View(key, deed) => Keyed::View(*key, *deed),
         Keyed::ContainsKey(key) => Keyed::ContainsKey(*key),
+        Keyed::InsertUntil(key, value) => Keyed::InsertUntil(*key, *value),
+        Keyed::RemoveUntil(key) => Keyed::RemoveUntil(*key),
     }
 }
 
@@ -31,6 +33,8 @@ fn begin_again(call: &Begin<u64>) -> Begin<u64>
         Begin::TryGet(key) => Begin::TryGet(*key),
         Begin::TryGetMut(key) => Begin::TryGetMut(*key),
         Begin::TryEntry(key) => Begin::TryEntry(*key),
+        Begin::GetUntil(key) => Begin::GetUntil(*key),
+        Begin::GetMutUntil(key) => Begin::GetMutUntil(*key),
     }
 }
 

@@ -1,5 +1,5 @@
 -- Which threads hold shards, and what the shards' locks know of it.
-use Rattle.std.specs.Prelude.{◌≡◌, ◌≢◌, ℕ, ◌⊎◌, Bool, false, if◌then◌else◌, List, [], ◌∷◌, length, Option, Some, None}
+use Rattle.std.specs.Prelude.{◌≡◌, ◌≢◌, ℕ, ◌⊎◌, if◌then◌else◌, List, [], ◌∷◌, length, Option, Some, None}
 use Rattle.std.specs.Prelude.{slice_get}
 use Rattle.lock_api_desk.specs.declared.mode.Mode.{Mode as DeskMode}
 use Rattle.mapworld_state.specs.Locks.Aims.{Aim, Gets, GivesUp, Turns}

@@ -1,7 +1,6 @@
 -- Which steps are refused, and what a run of steps leads to.
-use Rattle.std.specs.Prelude.{◌≡◌, ℕ, ◌+◌, ◌-◌, ◌*◌, ◌^◌, Bool, true, false, ◌||◌, is_none, if◌then◌else◌, nat_lt}
+use Rattle.std.specs.Prelude.{◌≡◌, ℕ, ◌+◌, ◌-◌, ◌*◌, ◌^◌, Bool, false, ◌||◌, is_none, if◌then◌else◌, nat_lt}
 use Rattle.std.specs.Prelude.{nat_le, List, [], ◌∷◌, length, Option, Some, None, Result, Ok, Err, slice_get, sum_by}
-use Rattle.std.specs.Prelude.{◌==◌}
 use Rattle.mapworld_calls.specs.Setup.{Setup}
 use Rattle.parking_lot_machine.specs.Rows.{state, call_at}
 use Rattle.parking_lot_machine.specs.Machines.{can_move, is_asleep, may_expire}

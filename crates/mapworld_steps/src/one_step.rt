@@ -57,8 +57,8 @@ fn go_on<K: Eq + Hash + Drop, V: Drop, S: BuildHasher, D: Deed<K, V> + Drop, A: 
     }
 }
 
-/// The step that the thread stands before, if it can move, or its deadline, if it sleeps in a call that has one: whether
-/// it was made. Otherwise the world stays as it is.
+/// The step that the thread stands before, if it can move, or its deadline, if it sleeps in a call that has one:
+/// whether it was made. Otherwise the world stays as it is.
 ///
 /// Whether a thread is kept out of its shard is asked of the shard's lock, so no step looks at the places of other
 /// threads.

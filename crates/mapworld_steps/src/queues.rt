@@ -97,8 +97,8 @@ fn enter_shard<K: Eq + Hash + Drop, V: Drop, S: BuildHasher, D: Deed<K, V> + Dro
     core.locks.finish(thread);
 }
 
-/// Ends a try that could not have its shard, or a call with a deadline that gave up: it is to be answered so. It is part
-/// of the step of the answer.
+/// Ends a try that could not have its shard, or a call with a deadline that gave up: it is to be answered so. It is
+/// part of the step of the answer.
 fn refuse_call<K: Eq + Hash + Drop, V: Drop, S: BuildHasher, D: Deed<K, V> + Drop, A: Allocator>(
     core: &mut Core<K, V, S, D, D::Answer, A>,
     thread: usize,

@@ -265,7 +265,8 @@ module _ {K : Type 0} (bs : List (Block K)) (st : Started) (at : ℕ) (bs' : Lis
   found_lists more (request.Begin (begin.TryGet k)) false room ph e h = omega (arith, ap (lists more) e, one_added 1 h)
   found_lists more (request.Begin (begin.TryGetMut k)) false room ph e h =
       omega (arith, ap (lists more) e, one_added 1 h)
-  found_lists more (request.Begin (begin.GetUntil k)) false room ph e h = omega (arith, ap (lists more) e, one_added 1 h)
+  found_lists more (request.Begin (begin.GetUntil k)) false room ph e h =
+      omega (arith, ap (lists more) e, one_added 1 h)
   found_lists more (request.Begin (begin.GetMutUntil k)) false room ph e h =
       omega (arith, ap (lists more) e, one_added 1 h)
   found_lists more (request.Begin (begin.TryEntry k)) false true ph e h =

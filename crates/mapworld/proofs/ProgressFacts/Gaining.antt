@@ -93,14 +93,14 @@ module _ {K V S D T A : Type 0} (x : Setup K V D T) (laws : Laws x) where
   own-gains w s w' (find_refused h) = omega (arith, none-more w w' (tables-are w' _ h.after))
   own-gains w s w' (deed_appends h) = puts-more w w' h.place.shard h.table h.changed h.key _ h.held
       (tables-are w' _ h.after) h.puts
-  own-gains w s w' (deed_applies h) = puts-more w w' h.place.shard h.table h.changed _ _ h.held (tables-are w' _ h.after)
-      h.puts
+  own-gains w s w' (deed_applies h) = puts-more w w' h.place.shard h.table h.changed _ _ h.held
+      (tables-are w' _ h.after) h.puts
   own-gains w s w' (deed_views h) = omega (arith, none-more w w' (tables-are w' _ h.after))
   own-gains w s w' (deed_reads h) = omega (arith, none-more w w' (tables-are w' _ h.after))
   own-gains w s w' (deed_changes h) = puts-more w w' h.place.shard h.table h.changed h.key _ h.held
       (tables-are w' _ h.after) h.puts
-  own-gains w s w' (deed_fills h) = puts-more w w' h.place.shard h.table h.changed h.key _ h.held (tables-are w' _ h.after)
-      h.puts
+  own-gains w s w' (deed_fills h) = puts-more w w' h.place.shard h.table h.changed h.key _ h.held
+      (tables-are w' _ h.after) h.puts
   own-gains w s w' (downgrade h) = omega (arith, none-more w w' (tables-are w' _ h.after))
   own-gains w s w' (release h) = omega (arith, none-more w w' (tables-are w' _ h.after))
   own-gains w s w' (answers h) =

@@ -28,7 +28,8 @@ fn step_once<
     requires thread { thread < length core.old.places.items }
     ensures made { let setup = setup_of D.Deed S.BuildHasher S.Hasher.Hasher K.eq K.hash_input (state_of core.old) in
         MatchBool result
-        (Makes setup (state_of core.old) (record { thread = thread; fair = false; deadline = false }) (state_of core.new))
+        (Makes setup (state_of core.old) (record { thread = thread; fair = false; deadline = false })
+        (state_of core.new))
         ((state_of core.new ≡ state_of core.old) × (can_move_in (state_of core.old) thread ≡ false)) }
     ensures sound { IsSoundCore D.Deed S.BuildHasher S.Hasher.Hasher K.eq K.hash_input core.new }
     ensures room { Room core.new }

@@ -1,5 +1,6 @@
 -- The smallest world in which an insertion finds its key and is refused for memory all the same.
-use Rattle.std.proofs.Common.{◌≡◌, ℕ, zero, suc, true, List, [], ◌∷◌, Some, None, slice_get, take, refl, ap, sym, ◌∙◌, inl}
+use Rattle.std.proofs.Common.{◌≡◌, ℕ, zero, suc, true, List, [], ◌∷◌, Some, None, slice_get, take, refl, ap, sym, ◌∙◌}
+use Rattle.std.proofs.Common.{inl}
 use Rattle.std.proofs.Common.{subst, inr, arith}
 use Rattle.std.proofs.lemmas.Option.{same_Some, none-some}
 use Rattle.mapworld_calls.specs.declared.reply.Reply.{Reply}

@@ -35,7 +35,7 @@ use Rattle.mapworld_state.proofs.InvariantFacts.Building.{map-push, reply-below}
 use Rattle.mapworld_state.proofs.InvariantFacts.Alike.{alike-comes}
 use Rattle.mapworld_state.proofs.InvariantFacts.Admitting.{sound-entered}
 use Rattle.mapworld_state.proofs.InvariantFacts.Concluding.{sound-left}
-use Rattle.mapworld_state.proofs.InvariantFacts.Walking.{sound-reaches, sound-let_in, sound-let_go}
+use Rattle.mapworld_state.proofs.InvariantFacts.Walking.{sound-let_in, sound-let_go}
 use Rattle.mapworld_state.proofs.InvariantFacts.Ending.{ended-call}
 
 abbrev pub BlocksStay : {K : Type 0} → List (Block K) → List (Block K) → Type 0

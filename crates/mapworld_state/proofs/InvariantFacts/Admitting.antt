@@ -117,7 +117,8 @@ sound-silent x w t p p' at sound locks' started stands match = record {
   holds = match;
   placed = placed-silent x (threads_of w) t (started_of w) (started_of (record w { places = slice_set w.places t p' }))
       w.blocks w.replies
-      (started-stays x w (record { thread = t; fair = false; deadline = false }) p p' at (λ n z. started ∙ z)) sound.placed;
+      (started-stays x w (record { thread = t; fair = false; deadline = false }) p p' at (λ n z. started ∙ z))
+      sound.placed;
   replies = sound.replies;
 }
 

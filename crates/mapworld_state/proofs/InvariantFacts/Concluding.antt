@@ -1,8 +1,7 @@
 -- What ends with the step of an answer: what was owed to a lock, a try that could not have its shard, or a walk that
 -- was to give no item.
-use Rattle.std.proofs.Common.{◌≡◌, ℕ, ◌+◌, ◌⊎◌, inl, inr, ⊎_elim, true, List, [], Some, None, slice_get, refl, ap, sym}
+use Rattle.std.proofs.Common.{◌≡◌, ℕ, ◌+◌, ◌⊎◌, inl, inr, true, List, [], Some, None, slice_get, refl, ap, sym}
 use Rattle.std.proofs.Common.{◌∙◌, subst, arith}
-use Rattle.std.proofs.lemmas.Bool.{cases_Bool, false≢true}
 use Rattle.std.proofs.lemmas.Option.{same_Some, none-some}
 use Rattle.mapworld_calls.specs.declared.ask.Ask.TheVariants as ask
 use Rattle.mapworld_calls.specs.declared.ask.Walk.{Walk}
@@ -13,7 +12,6 @@ use Rattle.mapworld_calls.specs.declared.reply.Answer.TheVariants as answer
 use Rattle.mapworld_calls.specs.Programs.{stop_of}
 use Rattle.mapworld_calls.specs.Setup.{Setup, ask_at}
 use Rattle.mapworld_calls.specs.Agrees.{HasNoBlock, HasRead, IsWalkAnswer, IsAnsweredBy}
-use Rattle.parking_lot_protocol.specs.declared.act.CoreAnswer.TheVariants.{Owned, Refused}
 use Rattle.mapworld_state.specs.Locks.Aims.{Gets}
 use Rattle.mapworld_state.specs.Locks.Stands.{Stand}
 use Rattle.mapworld_state.specs.declared.place.Request.{Request}
@@ -32,7 +30,6 @@ use Rattle.mapworld_state.proofs.InvariantFacts.Building.{none-at, no-visits, re
 use Rattle.mapworld_state.proofs.InvariantFacts.Admitting.{owns-on, sound-silent, sound-leaves, none-yet, walk-apart}
 use Rattle.mapworld_state.proofs.InvariantFacts.Admitting.{unopened-ready}
 use Rattle.mapworld_calls.proofs.Walking.{none-visited}
-use Rattle.std.proofs.Common.{false}
 use Rattle.mapworld_calls.specs.declared.ask.Keyed.{Keyed}
 use Rattle.mapworld_calls.specs.declared.ask.Keyed.TheVariants as keyed
 use Rattle.mapworld_calls.specs.declared.ask.Begin.{Begin}

@@ -38,7 +38,8 @@ left-blocks w t mid h = elim h [ inl same ↦ ap (λ z. z.blocks) same | inr e �
     concluded (idle e) = ap (λ z. z.blocks) e.after
 
 own-goes : {K V S D T A : Type 0} (x : Setup K V D T) → Laws x
-    → (w : State K V S D T A) (s : Step) (w' : State K V S D T A) → Sound x w → IsOwnStep x w s w' → Goes x s.thread w w'
+    → (w : State K V S D T A) (s : Step) (w' : State K V S D T A) → Sound x w → IsOwnStep x w s w'
+    → Goes x s.thread w w'
 own-goes x laws w s w' sound (start h) = sound-starts x laws w s w' sound h
 own-goes x laws w s w' sound (lock h) = sound-moves x w s w' sound h
 own-goes x laws w s w' sound (find h) =

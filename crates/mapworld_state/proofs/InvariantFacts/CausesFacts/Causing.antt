@@ -14,7 +14,6 @@ use Rattle.parking_lot_machine_calls.specs.declared.open_call.Call.{Call}
 use Rattle.parking_lot_machine_calls.specs.declared.seat.Core.{Core}
 use Rattle.parking_lot_machine.specs.Machines.{end_of}
 use Rattle.parking_lot_machine_calls.specs.Stances.{core_act, has_begun, rw_begun}
-use Rattle.lock_api_desk.specs.declared.mode.Mode.{Mode}
 use Rattle.mapworld_state.specs.Holds.{at_desk, tries_so, has_deadline_so}
 use Rattle.mapworld_calls.specs.declared.ask.Begin.{Begin}
 use Rattle.mapworld_calls.specs.declared.reply.Reply.{Reply}
@@ -49,7 +48,7 @@ use Rattle.mapworld_state.proofs.InvariantFacts.Building.{Goes, claim-at}
 use Rattle.mapworld_state.specs.Invariant.Causes.Causes.{HasCauses, HasMet, IsTold, has_seen, has_seen_in, is_locked}
 use Rattle.mapworld_state.proofs.InvariantFacts.CausesFacts.Shapes.{Shape}
 use Rattle.mapworld_state.proofs.InvariantFacts.CausesFacts.Staying.{on-kept}
-use Rattle.std.proofs.Common.{◌≢◌, Option, None}
+use Rattle.std.proofs.Common.{◌≢◌, Option}
 use Rattle.parking_lot_machine_calls.specs.Kinds.{AsMutex, manner_of}
 use Rattle.parking_lot_machine_calls.specs.CallKinds.{IsOfKind}
 use Rattle.parking_lot_machine_calls.specs.declared.calls.LockKind.{LockKind}

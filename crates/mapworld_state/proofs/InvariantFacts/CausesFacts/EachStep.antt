@@ -3,7 +3,6 @@ use Rattle.std.proofs.Common.{◌≡◌, ℕ, zero, suc, ◌⊎◌, inl, inr, tr
 use Rattle.std.proofs.Common.{slice_get, slice_set, refl, sym, ap, ◌∙◌, subst}
 use Rattle.std.proofs.lemmas.Option.{same_Some}
 use Rattle.parking_lot_machine_calls.specs.declared.calls.LockCall.TheVariants as call
-use Rattle.parking_lot_machine.specs.Rows.{call_at, state}
 use Rattle.mapworld_calls.specs.declared.ask.Walk.{Walk}
 use Rattle.mapworld_calls.specs.Setup.{Setup}
 use Rattle.mapworld_state.specs.Locks.Fits.{LocksFit}
@@ -11,7 +10,6 @@ use Rattle.mapworld_state.specs.declared.holds.Hold.{Hold}
 use Rattle.mapworld_state.specs.declared.holds.Mode.TheVariants.{Shared}
 use Rattle.mapworld_state.specs.declared.place.Phase.{Phase}
 use Rattle.mapworld_state.specs.declared.place.Phase.TheVariants as phase
-use Rattle.mapworld_state.specs.declared.place.Request.{Request}
 use Rattle.mapworld_state.specs.declared.step.Step.{Step}
 use Rattle.mapworld_state.specs.Holds.{gives_up}
 use Rattle.mapworld_calls.specs.declared.block.Block.{Block}
@@ -29,11 +27,11 @@ use Rattle.mapworld_state.specs.Steps.{visit_does, visit_gives}
 use Rattle.mapworld_state.proofs.InvariantFacts.Adding.{Step-adds}
 use Rattle.mapworld_state.proofs.InvariantFacts.Building.{Goes}
 use Rattle.mapworld_state.specs.Invariant.Causes.Causes.{HasCauses, IsTold}
-use Rattle.mapworld_state.proofs.InvariantFacts.CausesFacts.Looking.{sees}
 use Rattle.mapworld_state.proofs.InvariantFacts.CausesFacts.Between.{Between, between-at, between-enters}
 use Rattle.mapworld_state.proofs.InvariantFacts.CausesFacts.Between.{between-leaves, between-reaches, between-same}
 use Rattle.mapworld_state.proofs.InvariantFacts.CausesFacts.Going.{Own, own-gives, own-quiet}
-use Rattle.mapworld_state.proofs.InvariantFacts.CausesFacts.OwnSteps.{gives-no_deadline, gives-no_try, out-at, own-answers}
+use Rattle.mapworld_state.proofs.InvariantFacts.CausesFacts.OwnSteps.{gives-no_deadline, gives-no_try, out-at}
+use Rattle.mapworld_state.proofs.InvariantFacts.CausesFacts.OwnSteps.{own-answers}
 use Rattle.mapworld_state.proofs.InvariantFacts.CausesFacts.OwnSteps.{own-goes_on}
 use Rattle.mapworld_state.proofs.InvariantFacts.CausesFacts.OwnSteps.{own-moves, own-starts}
 use Rattle.mapworld_state.proofs.InvariantFacts.CausesFacts.Shapes.{Shape}

@@ -28,7 +28,7 @@ use Rattle.mapworld_state.proofs.InvariantFacts.CausesFacts.Locking.{starts-blin
 use Rattle.mapworld_state.proofs.InvariantFacts.CausesFacts.Looking.{sees}
 use Rattle.mapworld_state.proofs.InvariantFacts.CausesFacts.Shapes.{Shape, StaysOpen, shard_of}
 use Rattle.mapworld_state.proofs.InvariantFacts.CausesFacts.Staying.{on-kept}
-use Rattle.std.proofs.Common.{◌-◌, map, None, Option, Bool}
+use Rattle.std.proofs.Common.{◌-◌, map, None, Option}
 use Rattle.std.specs.Option.{option_map}
 use Rattle.std.proofs.lemmas.Bool.{false≢true}
 use Rattle.std.proofs.lemmas.Option.{none-some}
@@ -206,7 +206,8 @@ module _ {K V S D T A : Type 0} (x : Setup K V D T) (w : State K V S D T A) (s :
         stand-is : (c : Call) → call_at (state locks.rows) s.thread ≡ Some c → stand_for hold.shard call ≡ stand_of c
         stand-is c at =
             let begun = same_Some starts.moves.stand _ (sym starts.moves.stood ∙ starts.begins.stand) in
-            sym begun ∙ same_Some starts.moves.stand (stand_of c) (sym starts.moves.stands ∙ ap (option_map stand_of) at)
+            sym begun ∙ same_Some starts.moves.stand (stand_of c)
+            (sym starts.moves.stands ∙ ap (option_map stand_of) at)
 
         stand-here : (stand : Stand) → stand_in locks s.thread ≡ Some stand → hold.shard ≡ stand.shard
         stand-here stand is =

@@ -114,7 +114,8 @@ module _ {K V S D T A : Type 0} (x : Setup K V D T) (w : State K V S D T A) (s :
 
   locked-by : (w'.replies ≡ w.replies) ⊎ ((v : State K V S D T A) × ((v ≡ w) ⊎ Concludes w t v) × Answers x v s w')
       → LockedHaveCauses x (started_of w') w'.blocks w'.replies
-  locked-by (inl same) i r at is b asked tries = old-cause i r (ap (λ z. slice_get z i) (sym same) ∙ at) is b asked tries
+  locked-by (inl same) i r at is b asked tries = old-cause i r (ap (λ z. slice_get z i) (sym same) ∙ at) is b asked
+      tries
   locked-by (inr (v, h, a)) i r at is b asked tries =
       elim (slice_get-push_cases w.replies i r new
       (ap (λ z. slice_get z i) (sym (ap (λ z. z.replies) a.after ∙ ap (λ z. z ++ new ∷ []) replies)) ∙ at)) [
@@ -159,7 +160,8 @@ module _ {K V S D T A : Type 0} (x : Setup K V D T) (w : State K V S D T A) (s :
 
   missed-by : (w'.replies ≡ w.replies) ⊎ ((v : State K V S D T A) × ((v ≡ w) ⊎ Concludes w t v) × Answers x v s w')
       → LockedHaveDeadlines x (deadlines_of w') w'.replies
-  missed-by (inl same) i r at is k asked timed = old-missed i r (ap (λ z. slice_get z i) (sym same) ∙ at) is k asked timed
+  missed-by (inl same) i r at is k asked timed = old-missed i r (ap (λ z. slice_get z i) (sym same) ∙ at) is k asked
+      timed
   missed-by (inr (v, h, a)) i r at is k asked timed =
       elim (slice_get-push_cases w.replies i r new
       (ap (λ z. slice_get z i) (sym (ap (λ z. z.replies) a.after ∙ ap (λ z. z ++ new ∷ []) replies)) ∙ at)) [

@@ -1,12 +1,9 @@
 -- What a step of a lock's call leaves of other threads, and what a try of the thread has seen.
 use Rattle.std.proofs.Common.{◌≡◌, ◌≢◌, ℕ, inl, inr, ◌&&◌, Bool, true, false, Some, None, refl, sym, ap, ◌∙◌}
-use Rattle.std.specs.Option.{option_map}
 use Rattle.std.proofs.lemmas.Bool.{false≢true}
 use Rattle.std.proofs.lemmas.Option.{same_Some}
 use Rattle.parking_lot_protocol.specs.declared.act.ActResult.{ActResult}
 use Rattle.parking_lot_protocol.specs.declared.act.CoreAnswer.{CoreAnswer}
-use Rattle.parking_lot_protocol.specs.declared.rw_phase.LockMode.{LockMode}
-use Rattle.parking_lot_protocol.specs.declared.rw_phase.RwPhase.{RwPhase}
 use Rattle.parking_lot_machine_calls.specs.Kinds.{kind_in}
 use Rattle.parking_lot_machine_calls.specs.declared.calls.LockCall.{LockCall}
 use Rattle.parking_lot_machine_calls.specs.declared.calls.LockKind.{LockKind}
@@ -18,11 +15,11 @@ use Rattle.parking_lot_machine_calls.specs.LateCalls.{late_of, sleeps_in_time}
 use Rattle.parking_lot_machine_calls.specs.CallActs.{hears}
 use Rattle.parking_lot_machine.specs.Rows.{State, call_at, state}
 use Rattle.parking_lot_machine_calls.specs.Stances.{core_next}
-use Rattle.mapworld_state.specs.Locks.Stands.{is_try, stand_in, stand_of}
-use Rattle.mapworld_state.proofs.InvariantFacts.CausesFacts.Trying.{core_tries, is_trying}
+use Rattle.mapworld_state.specs.Locks.Stands.{is_try, stand_in}
+use Rattle.mapworld_state.proofs.InvariantFacts.CausesFacts.Trying.{core_tries}
 use Rattle.mapworld_state.specs.Locks.Steps.{LockBegins, LockEnds, LockExpires, LockMoves, LockStarts}
 use Rattle.mapworld_state.specs.Locks.Views.{Shown}
-use Rattle.mapworld_state.specs.Invariant.Causes.Causes.{has_seen, has_seen_in}
+use Rattle.mapworld_state.specs.Invariant.Causes.Causes.{has_seen}
 use Rattle.mapworld_state.proofs.InvariantFacts.CausesFacts.Looking.{others-see, own-sees, sees, set-elsewhere}
 use Rattle.mapworld_state.proofs.InvariantFacts.CausesFacts.Looking.{set-here}
 use Rattle.parking_lot_machine_calls.specs.declared.open_call.Call.{Call}
@@ -142,7 +139,8 @@ module _ (t : ℕ) where
         ∙ seen;
     fails = λ fit v ne f. sym
         (ap (λ (u : State). fails (call_at u v)) h.became
-        ∙ ap fails (set-elsewhere (state old.rows).calls t v (Some (record (h.call) { core = late_of h.call.core })) ne))
+        ∙ ap fails (set-elsewhere (state old.rows).calls t v
+        (Some (record (h.call) { core = late_of h.call.core })) ne))
         ∙ f;
   }
 

@@ -1,14 +1,13 @@
 -- A try that sees a word of its lock that isn't 0 meets a call of another thread on its shard.
-use Rattle.std.proofs.Common.{◌≡◌, ◌≢◌, ℕ, ◌<◌, inl, inr, Bool, true, false, length, Option, Some, None, slice_get}
+use Rattle.std.proofs.Common.{◌≡◌, ◌≢◌, ℕ, ◌<◌, inl, inr, Bool, true, length, Option, Some, None, slice_get}
 use Rattle.std.proofs.Common.{refl, sym, ap, ◌∙◌, subst, arith}
-use Rattle.std.specs.Option.{option_and_then, option_map, option_map_or}
+use Rattle.std.specs.Option.{option_and_then, option_map}
 use Rattle.std.proofs.lemmas.Bool.{false≢true}
 use Rattle.std.proofs.lemmas.Option.{none-some, same_Some, slice_get_cases, slice_get_within}
 use Rattle.lock_api_desk.specs.declared.mode.Mode.{Mode as DeskMode}
 use Rattle.parking_lot_machine_calls.specs.declared.open_call.Call.{Call}
-use Rattle.parking_lot_machine.specs.Machines.{is_asleep_in, sleeps}
+use Rattle.parking_lot_machine.specs.Machines.{is_asleep_in}
 use Rattle.parking_lot_machine.specs.Rows.{call_at, state, word_at}
-use Rattle.parking_lot_machine_calls.specs.Stances.{core_act}
 use Rattle.mapworld_calls.specs.Setup.{Setup}
 use Rattle.mapworld_state.specs.Locks.Fits.{LocksFit}
 use Rattle.mapworld_state.specs.Locks.Stands.{stand_in, stand_of}

@@ -21,7 +21,8 @@ use Rattle.mapworld_state.specs.State.{State, next_step, started_of, threads_of}
 use Rattle.mapworld_state.specs.Moves.{found_done, request_of, stepped, ListsBlock, CountsCall}
 use Rattle.mapworld_state.specs.Steps.{IsStep, by_itself, by_deadline}
 use Rattle.mapworld_state.specs.Steps.{Answers, Concludes, owed, locked, idle, Enters, Reaches, Leaves as LeavesLock}
-use Rattle.mapworld_state.specs.Steps.{Finds, GivesBack, StartsVisit, LooksAround, IsRefusedVisit, IsOwnStep, start, lock}
+use Rattle.mapworld_state.specs.Steps.{Finds, GivesBack, StartsVisit, LooksAround, IsRefusedVisit, IsOwnStep, start}
+use Rattle.mapworld_state.specs.Steps.{lock}
 use Rattle.mapworld_state.specs.Steps.{find, find_grows, find_refused, deed_appends, deed_applies, deed_views}
 use Rattle.mapworld_state.specs.Steps.{deed_reads, deed_changes, deed_fills, downgrade, release, answers, visit_starts}
 use Rattle.mapworld_state.specs.Steps.{visit_parts, visit_looks, visit_seeks, visit_does, visit_gives}
@@ -287,7 +288,8 @@ module _ {K V S D T A : Type 0} (x : Setup K V D T) (w : State K V S D T A) (s :
   own-shape (lock h) = still h.place h.stands _ h.locks (λ n e. e) h.after
   own-shape (find h) = shape-after w h.mid w' s (silent-enters w s.thread h.mid h.enters)
       (shape-finds x h.mid s w' (sound-entered x w s.thread h.mid sound h.enters) h.finds)
-  own-shape (find_grows h) = shape-open w s h.place h.stands _ (slice_set w.tables h.place.shard h.grown) w.locks h.blocks
+  own-shape (find_grows h) = shape-open w s h.place h.stands _ (slice_set w.tables h.place.shard h.grown) w.locks
+      h.blocks
       (λ n e. e)
       (comes-listed w s h.place h.stands (found_done {D = D} (request_of h.call) false true) h.blocks h.listed) x w'
       h.after
@@ -298,12 +300,14 @@ module _ {K V S D T A : Type 0} (x : Setup K V D T) (w : State K V S D T A) (s :
       h.place.block h.counted (λ n e. e) h.after
   own-shape (deed_views h) = shape-open w s h.place h.stands _ w.tables w.locks h.blocks (λ n e. e)
       (comes-listed w s h.place h.stands (Some 1) h.blocks h.listed) x w' h.after
-  own-shape (deed_reads h) = counted h.place h.stands _ w.tables w.locks h.blocks h.place.block h.counted (λ n e. e) h.after
+  own-shape (deed_reads h) = counted h.place h.stands _ w.tables w.locks h.blocks h.place.block h.counted (λ n e. e)
+      h.after
   own-shape (deed_changes h) = counted h.place h.stands _ (slice_set w.tables h.place.shard h.changed) w.locks h.blocks
       h.place.block h.counted (λ n e. e) h.after
   own-shape (deed_fills h) = counted h.place h.stands _ (slice_set w.tables h.place.shard h.changed) w.locks h.blocks
       h.place.block h.counted (λ n e. e) h.after
-  own-shape (downgrade h) = counted h.place h.stands _ w.tables h.locks h.blocks h.place.block h.counted (λ n e. e) h.after
+  own-shape (downgrade h) = counted h.place h.stands _ w.tables h.locks h.blocks h.place.block h.counted (λ n e. e)
+      h.after
   own-shape (release h) = counted h.place h.stands _ w.tables h.locks h.blocks _ h.counted (λ n e. e) h.after
   own-shape (answers h) = shape-after w h.mid w' s (silent-concludes w s.thread h.mid h.leaves)
       (shape-answers x h.mid s w' (sound-left x w s.thread h.mid sound h.leaves) h.answers)

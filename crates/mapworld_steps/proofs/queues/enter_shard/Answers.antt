@@ -1,4 +1,4 @@
-use Rattle.std.proofs.Common.{Some, ◌+◌, ◌-◌, [], ◌∷◌, ◌++◌, length, slice_set, refl, sym, ap, ap₂, ◌∙◌, subst, arith}
+use Rattle.std.proofs.Common.{◌+◌, ◌-◌, [], ◌∷◌, ◌++◌, length, slice_set, refl, sym, ap, ap₂, ◌∙◌, subst, arith}
 use Rattle.std.proofs.lemmas.Option.{none-some, same_Some}
 use Rattle.std.proofs.lemmas.List.{map-set, length-map}
 use Rattle.mapworld_calls.proofs.Lists.{slice_get-set_same}
@@ -6,9 +6,8 @@ use Rattle.parking_lot_protocol.specs.declared.act.CoreAnswer.{CoreAnswer}
 use Rattle.mapworld_state.specs.Locks.Steps.{LockEnds}
 use Rattle.mapworld_state.proofs.LocksFacts.Sizes.{ends-size}
 use Rattle.mapworld_state.specs.declared.holds.Hold.{Hold}
-use Rattle.mapworld_state.specs.declared.place.Phase.TheVariants as phase
 use Rattle.mapworld_state.specs.Places.{place_of}
-use Rattle.mapworld_state.specs.Moves.{mode_of, lent_way}
+use Rattle.mapworld_state.specs.Moves.{lent_way}
 use Rattle.mapworld_state.specs.Slots.{phase_key}
 use Rattle.mapworld_state.specs.Shards.{shard_pairs}
 use Rattle.mapworld_state.specs.Core.{state_of, owes, lists, adds}

@@ -1,4 +1,4 @@
-use Rattle.std.proofs.Common.{◌+◌, length, Some, refl, sym, ap, ◌∙◌, arith, length-append, ◌≡◌, ◌<◌, ◌-◌, true, false}
+use Rattle.std.proofs.Common.{◌+◌, length, Some, refl, sym, ap, ◌∙◌, arith, length-append, ◌≡◌, ◌<◌, ◌-◌, true}
 use Rattle.std.proofs.Common.{List, sum_by, subst}
 use Rattle.mapworld_state.specs.Core.{owes, lists, adds, blocks_of, ask_lists, phase_lists}
 use Rattle.std.proofs.lemmas.List.{length-map}

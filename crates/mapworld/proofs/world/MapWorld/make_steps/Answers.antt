@@ -26,7 +26,8 @@ returns-in_err-make_step-clause-refused g c =
     rw (p.1, p.2) (
       step,
       ap (λ n. slice_get c.args.steps.now n) (done ∙ c.loop-step.invariant.done)
-          ∙ slice_get-get_or c.args.steps.now i (record { thread = 0; fair = false; deadline = false }) c.loop-step-test.true,
+          ∙ slice_get-get_or c.args.steps.now i (record { thread = 0; fair = false; deadline = false })
+          c.loop-step-test.true,
       ap (λ w. refusal w (run_fault_done f) step) m.0 ∙ (ap (λ n. refusal mid n step) done ∙ m.1),
     )
 
@@ -69,7 +70,8 @@ loop-step-preserved g c =
     let taken : length (take i steps) ≡ i = length-take-le i steps (omega arith) in
     let count : 0 + length (take i steps) ≡ c.loop-step.done = omega (arith, taken, c.loop-step.invariant.done) in
     record {
-      ran = subst (λ ss. Ran x 0 first ss new) (sym (take_more steps i (record { thread = 0; fair = false; deadline = false }) lt))
+      ran = subst (λ ss. Ran x 0 first ss new)
+          (sym (take_more steps i (record { thread = 0; fair = false; deadline = false }) lt))
           (Ran-more x 0 first (take i steps) mid step new c.loop-step.invariant.ran
           (ap (λ n. refusal mid n step) count ∙ m.0) made footprint);
       done = ap (λ n. n + 1) c.loop-step.invariant.done;
