@@ -110,7 +110,7 @@ impl Course {
                 }
             }
         }
-        if is_woken {
+        if is_woken && by != thread {
             self.wakings.push(Waking { by, thread, step })?;
         }
         if is_asleep && !is_open {
