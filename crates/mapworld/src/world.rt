@@ -148,9 +148,9 @@ impl<K: Eq + Hash, V, S: BuildHasher, D: Deed<K, V>, A: Allocator> MapWorld<K, V
 
     /// Where a thread stands: `Finished` where all its calls are answered, `Asleep` where it waits in a queue of its
     /// shard, or was taken from it and isn't woken yet, and otherwise `Running`. A thread that is asleep is `Running`
-    /// again once another thread has woken it. One that is `Running` may still be before a queue's section that another
-    /// thread has entered; whether it can go on says [`can_move`](MapWorld::can_move). It takes no memory and cannot
-    /// fail.
+    /// again once another thread has woken it, or its deadline has come. One that is `Running` may still be before a
+    /// queue's section that another thread has entered; whether it can go on says [`can_move`](MapWorld::can_move). It
+    /// takes no memory and cannot fail.
     ///
     /// Threads are numbered from 0, one for each program. A thread that the world doesn't have is `Finished`.
     pub fn status(&self, thread: usize) -> Status
@@ -175,12 +175,12 @@ impl<K: Eq + Hash, V, S: BuildHasher, D: Deed<K, V>, A: Allocator> MapWorld<K, V
         }
     }
 
-    /// Whether a step of the thread would be done: it is `Running`, and isn't before a queue's section that another
+    /// Whether a step of the thread's own would be done: it is `Running`, and isn't before a queue's section that another
     /// thread has entered. All queues of the shards' locks are in one bucket, and only one thread at a time is in the
     /// section of a bucket. A thread that the world doesn't have can't move.
     ///
-    /// It doesn't say that step numbers are left for it, which [`run`](MapWorld::run) tests too. It takes no memory and
-    /// cannot fail.
+    /// It says nothing of the thread's deadline, and doesn't say that step numbers are left, which
+    /// [`run`](MapWorld::run) tests too. It takes no memory and cannot fail.
     pub fn can_move(&self, thread: usize) -> bool
         ensures { result ≡ can_move_in self.now thread }
     {
@@ -230,7 +230,8 @@ where
 
     /// The threads that wait in a queue now, in the order in which they joined it. The lock of shard `i` has two
     /// queues, of the keys `2 * i` and `2 * i + 1`: in the first wait those that ask for the shard, in the second a
-    /// writer that waits for the last readers to leave. Beyond the last key nobody waits.
+    /// writer that waits for the last readers to leave. One whose deadline has come stands there until it has taken
+    /// itself out, or was. Beyond the last key nobody waits.
     ///
     /// The list is on an allocator like the world's own, and has room for a number of each waiter. Where memory is
     /// short it answers [`NoMemory`].

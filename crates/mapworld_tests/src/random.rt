@@ -244,7 +244,7 @@ fn print(rt: &impl Print, tally: Tally) -> Result<(), Fail> {
         locked,
     } = tally;
     println!(rt;
-        "{worlds} worlds, {steps} steps, {drained} by drains, at most {share} thousandths of a bound; {locked} tries locked"
+        "{worlds} worlds, {steps} steps, {drained} by drains, at most {share} thousandths of a bound; {locked} calls locked"
     )?;
     Ok(())
 }
