@@ -104,8 +104,8 @@ pub fn finished_worlds_are_at_rest<K: Eq + Hash, V, S: BuildHasher, D: Deed<K, V
     laws::somebody_can_move();
 }
 
-/// From every reachable state a thread that is stepped alone, with any choice of fair steps and without deadlines, can no
-/// longer move after fewer steps than the bound.
+/// From every reachable state a thread that is stepped alone, with any choice of fair steps and without deadlines, can
+/// no longer move after fewer steps than the bound.
 pub fn lone_threads_stop<K: Eq + Hash, V, S: BuildHasher, D: Deed<K, V>, A>()
     ensures { LoneThreadsStop A D.Deed S.BuildHasher S.Hasher.Hasher K.eq K.hash_input }
 {
