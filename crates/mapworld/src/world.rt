@@ -175,9 +175,9 @@ impl<K: Eq + Hash, V, S: BuildHasher, D: Deed<K, V>, A: Allocator> MapWorld<K, V
         }
     }
 
-    /// Whether a step of the thread's own would be done: it is `Running`, and isn't before a queue's section that another
-    /// thread has entered. All queues of the shards' locks are in one bucket, and only one thread at a time is in the
-    /// section of a bucket. A thread that the world doesn't have can't move.
+    /// Whether a step of the thread's own would be done: it is `Running`, and isn't before a queue's section that
+    /// another thread has entered. All queues of the shards' locks are in one bucket, and only one thread at a time is
+    /// in the section of a bucket. A thread that the world doesn't have can't move.
     ///
     /// It says nothing of the thread's deadline, and doesn't say that step numbers are left, which
     /// [`run`](MapWorld::run) tests too. It takes no memory and cannot fail.
