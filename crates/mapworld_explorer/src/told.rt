@@ -75,7 +75,10 @@ impl Before {
         out.push_str(" ")?;
         if self.deadline {
             let shard = self.shard;
-            return write!(out, "has waited long enough for shard {shard}: its deadline has come");
+            return write!(
+                out,
+                "has waited long enough for shard {shard}: its deadline has come"
+            );
         }
         match self.act {
             None if self.gives_up(world) => self.write_given_up(world, out)?,

@@ -36,13 +36,22 @@ fn only_a_sleeper_has_a_deadline(rt: HostRuntime) -> Result<(), Fail> {
     assert!(rt; (0..3).all(|thread| refuses(&mut world, thread)));
     // Start, load, exchange, find, answer: thread 0 holds the shard, and the others come to sleep.
     assert!(rt; step_times(&mut world, 0, 5));
-    assert!(rt; step_times(&mut world, 2, 1) && refuses(&mut world, 2), "it is awake");
+    assert!(rt;
+        step_times(&mut world, 2, 1) && refuses(&mut world, 2),
+        "it is awake"
+    );
     assert!(rt; step_through(&mut world, 1) && step_through(&mut world, 2));
-    assert!(rt; world.status(1) == Status::Asleep && refuses(&mut world, 1), "a plain call");
+    assert!(rt;
+        world.status(1) == Status::Asleep && refuses(&mut world, 1),
+        "a plain call"
+    );
     assert!(rt; world.status(2) == Status::Asleep && !world.can_move(2));
     assert!(rt; world.run(&[late(2)]).is_ok() && world.can_move(2));
     assert!(rt; refuses(&mut world, 2), "its deadline has come");
-    assert!(rt; step_through(&mut world, 2) && refuses(&mut world, 2), "it has finished");
+    assert!(rt;
+        step_through(&mut world, 2) && refuses(&mut world, 2),
+        "it has finished"
+    );
     assert!(rt; world.run(&[late(3)]) == Err(RunFault::NoSuchThread(0)));
     Ok(())
 }
@@ -55,6 +64,9 @@ fn a_drain_makes_no_deadline(rt: HostRuntime) -> Result<(), Fail> {
     let mut world: World = made.ok_or("no world")?;
     assert!(rt; step_times(&mut world, 0, 5) && step_through(&mut world, 1));
     assert!(rt; world.status(1) == Status::Asleep);
-    assert!(rt; world.drain() > 0 && world.pair(&1).is_none(), "it was handed the shard in time");
+    assert!(rt;
+        world.drain() > 0 && world.pair(&1).is_none(),
+        "it was handed the shard in time"
+    );
     Ok(())
 }
