@@ -1,5 +1,6 @@
 -- Every step does one thing, and keeps to its footprint.
-use Rattle.std.proofs.Common.{◌≡◌, ◌≢◌, ◌⊎◌, ℕ, inl, inr, ◌+◌, Bool, List, [], ◌∷◌, ◌++◌, length, Option, Some, None}
+use Rattle.std.proofs.Common.{◌≡◌, ◌≢◌, ◌⊎◌, ℕ, inl, inr, ◌+◌, Bool, true, false, List, [], ◌∷◌, ◌++◌, length, Option}
+use Rattle.std.proofs.Common.{Some, None}
 use Rattle.std.proofs.Common.{slice_get, slice_set, refl, ap, sym, ◌∙◌, subst}
 use Rattle.std.specs.List.{flat_map}
 use Rattle.std.specs.Option.{option_and_then}
@@ -20,6 +21,7 @@ use Rattle.mapworld_state.specs.declared.place.Phase.TheVariants as phase
 use Rattle.mapworld_state.specs.declared.step.Step.{Step}
 use Rattle.mapworld_state.specs.Places.{Place}
 use Rattle.mapworld_state.specs.State.{State, next_step, pairs_of, started_of, threads_of}
+use Rattle.mapworld_state.specs.Steps.{Expires, IsOwnStep, by_itself, by_deadline}
 use Rattle.mapworld_state.specs.Steps.{IsStep, Concludes, Enters, EntersBy, GivesBack, IsRefusedVisit, Leaves}
 use Rattle.mapworld_state.specs.Steps.{LooksAround, Reaches, Starts, StartsVisit, owed, locked, idle, start, lock, find}
 use Rattle.mapworld_state.specs.Steps.{find_grows, find_refused, deed_appends, deed_applies, deed_views, deed_reads}
@@ -32,11 +34,11 @@ use Rattle.mapworld_state.specs.Shards.{ShardPairs, Puts}
 use Rattle.mapworld_state.specs.Walks.{IsLookedAt}
 use Rattle.mapworld.proofs.ProgressFacts.Visiting.{ItemPuts, item-puts}
 use Rattle.mapworld.specs.Atomic.{DoesOne, IsAtomic, KeepsCalls, StaysInCall, starts, looks, deed, at_lock}
-use Rattle.mapworld.specs.Atomic.{answers as replied}
+use Rattle.mapworld.specs.Atomic.{answers as replied, comes}
 use Rattle.mapworld.proofs.Cores.{KeepsOthers, calls-behind, calls-moves, calls-same, calls-starts, others-begins}
-use Rattle.mapworld.proofs.Cores.{others-ends, others-same}
+use Rattle.mapworld.proofs.Cores.{others-ends, others-expires, others-same}
 use Rattle.mapworld_state.proofs.LocksFacts.Lawful.{fit-ends}
-use Rattle.mapworld.proofs.LockSteps.{TouchesLock, begins_keep, ends_keep, keeps_behind}
+use Rattle.mapworld.proofs.LockSteps.{TouchesLock, begins_keep, ends_keep, expires_keep, keeps_behind}
 use Rattle.mapworld.proofs.LockSteps.{moves_touch, starts_touch, touches_behind}
 use Rattle.mapworld.proofs.Viewing.{pair_at_route}
 use Rattle.mapworld.proofs.Outcomes.{element-at}
@@ -138,6 +140,8 @@ footprint_of eq w s w' places (deed stays key others locks) = record
     { places = places; touches = one_pair key others locks; replies = inl (stays.replies) }
 footprint_of eq w s w' places (at_lock stays shard pairs others here) = record
     { places = places; touches = one_lock shard pairs others here; replies = inl (stays.replies) }
+footprint_of eq w s w' places (comes due stays pairs locks) = record
+    { places = places; touches = neither pairs locks; replies = inl (stays.replies) }
 footprint_of eq w s w' places (replied r pairs locks) = record
     { places = places; touches = neither pairs locks; replies = inr (r.reply, r.thread, r.replies) }
 
@@ -441,74 +445,76 @@ module _ {K V S D T A : Type 0} (x : Setup K V D T) (laws : Laws x) (w : State K
               (enters_keep s.thread _ w.locks a.locks _ a.enters));
         }
 
-    pub step_atomic : IsStep x w s w' → IsAtomic x.eq w s w'
-    step_atomic (start a) = begins_print a
-    step_atomic (lock a) =
+    own_atomic : s.deadline ≡ false → IsOwnStep x w s w' → IsAtomic x.eq w s w'
+    own_atomic mine (start a) = begins_print a
+    own_atomic mine (lock a) =
         on_lock w whole a.place a.stands a.place (ap (λ (v : State K V S D T A). v.places) a.after)
         (ap (λ (v : State K V S D T A). v.steps) a.after) refl a.locks
         (ap (λ (v : State K V S D T A). v.tables) a.after) (ap (λ (v : State K V S D T A). v.locks) a.after)
         (moves_touch touch s.thread s.fair w.locks a.locks fit a.moves)
         (calls-moves s.thread s.fair w.locks a.locks a.moves) (ap (λ (v : State K V S D T A). v.replies) a.after)
-    step_atomic (find h) =
+    own_atomic mine (find h) =
         let a = h.finds in
         let p = entering w s.thread h.mid h.enters in
         beside h.mid p a.place a.stands _ (ap (λ (v : State K V S D T A). v.places) a.after)
         (ap (λ (v : State K V S D T A). v.steps) a.after) refl
         (same_pairs x.eq w w' ((ap (λ (v : State K V S D T A). v.tables) a.after) ∙ p.tables))
         (ap (λ (v : State K V S D T A). v.locks) a.after) (ap (λ (v : State K V S D T A). v.replies) a.after)
-    step_atomic (find_grows a) =
+    own_atomic mine (find_grows a) =
         beside w whole a.place a.stands _ (ap (λ (v : State K V S D T A). v.places) a.after)
         (ap (λ (v : State K V S D T A). v.steps) a.after) refl
-        (λ q. shard_keeps (find_grows a) a.place.shard a.table a.grown a.held
+        (λ q. shard_keeps (by_itself mine (find_grows a)) a.place.shard a.table a.grown a.held
         (ap (λ (v : State K V S D T A). v.tables) a.after) q (a.grows.found q))
         (ap (λ (v : State K V S D T A). v.locks) a.after) (ap (λ (v : State K V S D T A). v.replies) a.after)
-    step_atomic (find_refused a) = beside w whole a.place a.stands _
+    own_atomic mine (find_refused a) = beside w whole a.place a.stands _
         (ap (λ (v : State K V S D T A). v.places) a.after) (ap (λ (v : State K V S D T A). v.steps) a.after) refl
         (same_pairs x.eq w w' (ap (λ (v : State K V S D T A). v.tables) a.after))
         (ap (λ (v : State K V S D T A). v.locks) a.after) (ap (λ (v : State K V S D T A). v.replies) a.after)
-    step_atomic (deed_appends a) = on_pair w whole a.place a.stands _
+    own_atomic mine (deed_appends a) = on_pair w whole a.place a.stands _
         (ap (λ (v : State K V S D T A). v.places) a.after) (ap (λ (v : State K V S D T A). v.steps) a.after) refl
-        (others_keep (deed_appends a) a.place.shard a.table a.changed a.held
+        (others_keep (by_itself mine (deed_appends a)) a.place.shard a.table a.changed a.held
         (ap (λ (v : State K V S D T A). v.tables) a.after) a.key _ a.puts)
         (ap (λ (v : State K V S D T A). v.locks) a.after) (ap (λ (v : State K V S D T A). v.replies) a.after)
-    step_atomic (deed_applies a) = on_pair w whole a.place a.stands _
+    own_atomic mine (deed_applies a) = on_pair w whole a.place a.stands _
         (ap (λ (v : State K V S D T A). v.places) a.after) (ap (λ (v : State K V S D T A). v.steps) a.after) refl
-        (others_keep (deed_applies a) a.place.shard a.table a.changed a.held
+        (others_keep (by_itself mine (deed_applies a)) a.place.shard a.table a.changed a.held
         (ap (λ (v : State K V S D T A). v.tables) a.after) _ _ a.puts)
         (ap (λ (v : State K V S D T A). v.locks) a.after) (ap (λ (v : State K V S D T A). v.replies) a.after)
-    step_atomic (deed_views a) = beside w whole a.place a.stands _ (ap (λ (v : State K V S D T A). v.places) a.after)
+    own_atomic mine (deed_views a) = beside w whole a.place a.stands _
+        (ap (λ (v : State K V S D T A). v.places) a.after)
         (ap (λ (v : State K V S D T A). v.steps) a.after) refl
         (same_pairs x.eq w w' (ap (λ (v : State K V S D T A). v.tables) a.after))
         (ap (λ (v : State K V S D T A). v.locks) a.after) (ap (λ (v : State K V S D T A). v.replies) a.after)
-    step_atomic (deed_reads a) = beside w whole a.place a.stands _ (ap (λ (v : State K V S D T A). v.places) a.after)
+    own_atomic mine (deed_reads a) = beside w whole a.place a.stands _
+        (ap (λ (v : State K V S D T A). v.places) a.after)
         (ap (λ (v : State K V S D T A). v.steps) a.after) refl
         (same_pairs x.eq w w' (ap (λ (v : State K V S D T A). v.tables) a.after))
         (ap (λ (v : State K V S D T A). v.locks) a.after) (ap (λ (v : State K V S D T A). v.replies) a.after)
-    step_atomic (deed_changes a) = on_pair w whole a.place a.stands _
+    own_atomic mine (deed_changes a) = on_pair w whole a.place a.stands _
         (ap (λ (v : State K V S D T A). v.places) a.after) (ap (λ (v : State K V S D T A). v.steps) a.after) refl
-        (others_keep (deed_changes a) a.place.shard a.table a.changed a.held
+        (others_keep (by_itself mine (deed_changes a)) a.place.shard a.table a.changed a.held
         (ap (λ (v : State K V S D T A). v.tables) a.after) a.key _ a.puts)
         (ap (λ (v : State K V S D T A). v.locks) a.after) (ap (λ (v : State K V S D T A). v.replies) a.after)
-    step_atomic (deed_fills a) = on_pair w whole a.place a.stands _
+    own_atomic mine (deed_fills a) = on_pair w whole a.place a.stands _
         (ap (λ (v : State K V S D T A). v.places) a.after) (ap (λ (v : State K V S D T A). v.steps) a.after) refl
-        (others_keep (deed_fills a) a.place.shard a.table a.changed a.held
+        (others_keep (by_itself mine (deed_fills a)) a.place.shard a.table a.changed a.held
         (ap (λ (v : State K V S D T A). v.tables) a.after) a.key _ a.puts)
         (ap (λ (v : State K V S D T A). v.locks) a.after) (ap (λ (v : State K V S D T A). v.replies) a.after)
-    step_atomic (downgrade a) =
+    own_atomic mine (downgrade a) =
         on_lock w whole a.place a.stands _ (ap (λ (v : State K V S D T A). v.places) a.after)
         (ap (λ (v : State K V S D T A). v.steps) a.after) refl a.locks
         (ap (λ (v : State K V S D T A). v.tables) a.after) (ap (λ (v : State K V S D T A). v.locks) a.after)
         (starts_touch touch s.thread a.hold.shard _ s.fair w.locks a.locks fit a.turns)
         (calls-starts s.thread a.hold.shard _ s.fair w.locks a.locks a.turns)
         (ap (λ (v : State K V S D T A). v.replies) a.after)
-    step_atomic (release a) =
+    own_atomic mine (release a) =
         on_lock w whole a.place a.stands _ (ap (λ (v : State K V S D T A). v.places) a.after)
         (ap (λ (v : State K V S D T A). v.steps) a.after) refl a.locks
         (ap (λ (v : State K V S D T A). v.tables) a.after) (ap (λ (v : State K V S D T A). v.locks) a.after)
         (starts_touch touch s.thread a.hold.shard _ s.fair w.locks a.locks fit a.gives)
         (calls-starts s.thread a.hold.shard _ s.fair w.locks a.locks a.gives)
         (ap (λ (v : State K V S D T A). v.replies) a.after)
-    step_atomic (answers h) =
+    own_atomic mine (answers h) =
         let a = h.answers in
         let r : Reply K V T A = record {
           thread = s.thread;
@@ -522,22 +528,46 @@ module _ {K V S D T A : Type 0} (x : Setup K V D T) (laws : Laws x) (w : State K
         (ap (λ (v : State K V S D T A). v.places) a.after) (ap (λ (v : State K V S D T A). v.steps) a.after) r
         refl a.begun refl refl (ap (λ (v : State K V S D T A). v.tables) a.after)
         (ap (λ (v : State K V S D T A). v.locks) a.after) (ap (λ (v : State K V S D T A). v.replies) a.after)
-    step_atomic (visit_starts h) = starts_print h.mid (leaving w s.thread h.mid h.leaves) h.starts
-    step_atomic (visit_parts h) = gives_print h.mid (parting w s.thread h.mid h.enters)
+    own_atomic mine (visit_starts h) = starts_print h.mid (leaving w s.thread h.mid h.leaves) h.starts
+    own_atomic mine (visit_parts h) = gives_print h.mid (parting w s.thread h.mid h.enters)
         (parting_fit w s.thread h.mid fit h.enters) phase.Part phase.Visit h.gives
-    step_atomic (visit_looks h) = looks_print (visit_looks h) h.mid (visiting w s.thread h.mid h.enters) h.looks
-    step_atomic (visit_seeks a) = beside w whole a.place a.stands _
+    own_atomic mine (visit_looks h) = looks_print (by_itself mine (visit_looks h)) h.mid
+        (visiting w s.thread h.mid h.enters) h.looks
+    own_atomic mine (visit_seeks a) = beside w whole a.place a.stands _
         (ap (λ (v : State K V S D T A). v.places) a.after) (ap (λ (v : State K V S D T A). v.steps) a.after) refl
         (same_pairs x.eq w w' (ap (λ (v : State K V S D T A). v.tables) a.after))
         (ap (λ (v : State K V S D T A). v.locks) a.after) (ap (λ (v : State K V S D T A). v.replies) a.after)
-    step_atomic (visit_does a) =
+    own_atomic mine (visit_does a) =
         on_pair w whole a.place a.stands _ (ap (λ (v : State K V S D T A). v.places) a.after)
         (ap (λ (v : State K V S D T A). v.steps) a.after) refl
-        (item_keeps (visit_does a) a.place.shard a.walk a.table a.changed a.pair a.held
+        (item_keeps (by_itself mine (visit_does a)) a.place.shard a.walk a.table a.changed a.pair a.held
         (ap (λ (v : State K V S D T A). v.tables) a.after)
         (item-puts x.deeds x.eq a.walk a.table a.changed a.pair a.item))
         (ap (λ (v : State K V S D T A). v.locks) a.after) (ap (λ (v : State K V S D T A). v.replies) a.after)
-    step_atomic (visit_gives a) = gives_print w whole fit phase.Give phase.Onward a
+    own_atomic mine (visit_gives a) = gives_print w whole fit phase.Give phase.Onward a
+
+    -- a deadline comes: of the locks only the thread's own place is another
+    expires_print : s.deadline ≡ true → Expires x w s w' → IsAtomic x.eq w s w'
+    expires_print due a =
+        let places = (ap (λ (v : State K V S D T A). v.places) a.after) in
+        let steps = (ap (λ (v : State K V S D T A). v.steps) a.after) in
+        record {
+          places = stay w whole a.place a.stands a.place places steps;
+          calls = behind w whole a.place a.stands a.place places steps a.locks
+              (ap (λ (v : State K V S D T A). v.locks) a.after)
+              (calls-same s.thread w.locks a.locks (others-expires s.thread w.locks a.locks a.expires));
+          steps = steps;
+          does = comes due
+              (goes_on w whole a.place a.stands a.place places steps refl
+              (ap (λ (v : State K V S D T A). v.replies) a.after))
+              (same_pairs x.eq w w' (ap (λ (v : State K V S D T A). v.tables) a.after))
+              (subst (λ l. KeepsLocks w.locks l) (sym (ap (λ (v : State K V S D T A). v.locks) a.after))
+              (expires_keep s.thread w.locks a.locks a.expires));
+        }
+
+    pub step_atomic : IsStep x w s w' → IsAtomic x.eq w s w'
+    step_atomic (by_itself mine step) = own_atomic mine step
+    step_atomic (by_deadline due a) = expires_print due a
 
     pub step_footprint : IsStep x w s w' → HasFootprint x.eq w s w'
     step_footprint step = let a = step_atomic step in footprint_of x.eq w s w' a.places a.does

@@ -1,5 +1,5 @@
 -- What one step does, whatever its kind: one thing, of its own thread.
-use Rattle.std.specs.Prelude.{◌≡◌, ◌≢◌, ℕ, Bool, [], ◌∷◌, ◌++◌, Option, Some, None, slice_get}
+use Rattle.std.specs.Prelude.{◌≡◌, ◌≢◌, ℕ, Bool, true, [], ◌∷◌, ◌++◌, Option, Some, None, slice_get}
 use Rattle.std.specs.Option.{option_map}
 use Rattle.parking_lot_machine_calls.specs.declared.seat.Core.{Core}
 use Rattle.parking_lot_machine.specs.Rows.{call_at, state}
@@ -37,8 +37,8 @@ module _ {K V S D T A : Type 0} (eq : K → K → Bool) (w : State K V S D T A) 
     pub replies : w'.replies ≡ w.replies ++ reply ∷ []
 
   -- It starts a call; or looks, for which a shard may grow or shrink, and every key keeps its pair; or does a deed on
-  -- one pair; or changes of one lock the word or one queue; or answers. No two of these are one step, and what isn't
-  -- named stays.
+  -- one pair; or changes of one lock the word or one queue; or answers; or it is its thread's deadline. No two of these
+  -- are one step, and what isn't named stays.
   pub data DoesOne : Type 0 where
     starts : started_of w s.thread ≡ None → started_of w' s.thread ≡ Some (next_step w) → w'.replies ≡ w.replies
         → KeepsPairs eq w w' → KeepsLocks w.locks w'.locks → DoesOne
@@ -47,6 +47,7 @@ module _ {K V S D T A : Type 0} (eq : K → K → Bool) (w : State K V S D T A) 
     at_lock : StaysInCall → (shard : ℕ) → KeepsPairs eq w w' → ((i : ℕ) → i ≢ shard → KeepsLock w.locks w'.locks i)
         → ChangesLock w.locks w'.locks shard → DoesOne
     answers : IsReplied → KeepsPairs eq w w' → KeepsLocks w.locks w'.locks → DoesOne
+    comes : s.deadline ≡ true → StaysInCall → KeepsPairs eq w w' → KeepsLocks w.locks w'.locks → DoesOne
 
   -- and no other thread's place is another
   pub record IsAtomic : Type 0 where

@@ -17,7 +17,7 @@ use Rattle.mapworld_state.specs.declared.world_core.Core.{Core}
 use Rattle.mapworld_state.specs.Core.{AreLocksOf, Room, state_of}
 use Rattle.mapworld_state.specs.Places.{place_of}
 use Rattle.mapworld_state.specs.Route.{key_route}
-use Rattle.mapworld_state.specs.Running.{StaysFixed, can_move_in, has_next}
+use Rattle.mapworld_state.specs.Running.{StaysFixed, can_move_in, has_next, may_step}
 use Rattle.mapworld_state.specs.Shards.{shard_pairs}
 use Rattle.mapworld_state.specs.Sound.{Sound}
 use Rattle.mapworld_state.specs.State.{State, threads_of}
@@ -29,6 +29,7 @@ use Rattle.mapworld_state.proofs.InvariantFacts.Sounds.{sound-step}
 use Rattle.mapworld.specs.Progress.Drains.{Drains, DrainsBy, Makes}
 use Rattle.mapworld.specs.Progress.Left.{left}
 use Rattle.mapworld.specs.Progress.Sizes.{IsSized}
+use Rattle.mapworld.proofs.OwnSteps.{own-may}
 use Rattle.mapworld.proofs.ProgressFacts.Ending.{steps_fall}
 
 module _ {K V S D T A : Type 0} (x : Setup K V D T) where
@@ -155,7 +156,7 @@ module _ {K V S H D T A : Type 0} (d : deed.Ghosts D K V T) (b : builder.Ghosts 
         arith,
         ap (λ (y : Setup K V D T). left y w' s.thread) same,
         steps_fall (own w) (own-laws w laws respects) w
-            s w' makes.whole makes.kind,
+            s w' makes.whole makes.own makes.kind,
       )
 
   -- a run of the one, and then one of the other, which has the same setup
@@ -173,9 +174,13 @@ module _ {K V S H D T A : Type 0} (d : deed.Ghosts D K V T) (b : builder.Ghosts 
         (sound-step (own w) (own-laws w laws respects) w s w' sound step)
     sound-behind false same = subst (λ v. Sound (own v) v) (sym same) sound
 
-    pub made-behind : LocksFit w.locks → IsSized w → (moved : Bool) → moved ≡ can_move_in w s.thread
+    pub made-behind : LocksFit w.locks → IsSized w → s.deadline ≡ false → (moved : Bool) → moved ≡ may_step w s
         → MatchBool moved (IsStep (own w) w s w') (w' ≡ w)
         → MatchBool moved (Makes (own w) w s w') ((w' ≡ w) × (can_move_in w s.thread ≡ false))
-    made-behind fit sizes true is step =
-        record { moves = sym is; kind = step; whole = record { sound = sound; locks = fit; sizes = sizes } }
-    made-behind fit sizes false is same = (same, sym is)
+    made-behind fit sizes mine true is step = record {
+      moves = sym (own-may w s mine) ∙ sym is;
+      own = mine;
+      kind = step;
+      whole = record { sound = sound; locks = fit; sizes = sizes };
+    }
+    made-behind fit sizes mine false is same = (same, sym (own-may w s mine) ∙ sym is)
