@@ -1,5 +1,5 @@
 -- What a call on one key answers of a shard that it holds, and what it leaves there.
-use Rattle.std.specs.Prelude.{◌≡◌, ℕ, ◌≤◌, Bool, Option, None, Some, Result, IfNone, IfSome, IfOk, OnOk, IfErr, ◌*◌}
+use Rattle.std.specs.Prelude.{◌≡◌, ℕ, ◌<◌, ◌≤◌, Bool, Option, None, Some, Result, IfNone, IfSome, IfOk, OnOk, IfErr, ◌*◌}
 use Rattle.std.specs.Prelude.{MatchOption, MatchResult, if◌then◌else◌}
 use Rattle.std.specs.Borrow.{Bor, MutBor}
 use Rattle.std.specs.Fn.{Once}
@@ -9,6 +9,10 @@ use Rattle.dashmap_table.specs.Table.{Table, SamePairs, TakesOut, PutsIn, with_v
 use Rattle.dashmap_guard.specs.declared.mapref.entry.Entry.{Entry}
 use Rattle.dashmap_guard.specs.Entries.{by_entry}
 use Rattle.dashmap_map.specs.Calls.{AnswersAt, LeavesAt, MakesAt, FreesIf}
+
+-- there are pairs and room beyond theirs, and nothing is another
+abbrev pub KeepsSpareRoom : {K V : Type 0} → Table K V → Table K V → Type 0
+KeepsSpareRoom old new = (new ≡ old) × (0 < count old.slots) × (count old.slots < old.room)
 
 module _ {K V : Type 0} (eq : K → K → Bool) where
   -- the pair is put in, and what its key had is answered; or there is no room for a new key, and the pair comes back
@@ -59,9 +63,9 @@ module _ {K V : Type 0} (eq : K → K → Bool) where
   abbrev pub Shrunk : Table K V → Table K V → Type 0
   Shrunk old new = SamePairs eq old new × (new.room ≤ old.room) × (new.room ≤ 4 * count new.slots)
 
-  -- so where it wasn't refused; else nothing changes
+  -- so where it wasn't refused; that it is only where there is room to give up, and nothing changes then
   abbrev pub Shrinks : {X E : Type 0} → Result X E → Table K V → Table K V → Type 0
-  Shrinks result old new = MatchResult result (λ _. Shrunk old new) (λ _. new ≡ old)
+  Shrinks result old new = MatchResult result (λ _. Shrunk old new) (λ _. KeepsSpareRoom old new)
 
   -- the key has no pair, or a guard of its slot is answered, through which the very shard is seen
   abbrev pub Finds : {R : Type 0} → (R → Table K V × ℕ) → Table K V → ℕ → K → Option R → Type 0

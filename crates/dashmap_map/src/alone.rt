@@ -1,7 +1,7 @@
 //! Calls of the map's one owner, who needs no lock.
 //!
 //! A shard is taken out of its lock and put back behind the same raw lock.
-ghost use Rattle.std.specs.Prelude.{◌≡◌, ◌<◌, List, length, Some, IfErr, OnOk, slice_index_or};
+ghost use Rattle.std.specs.Prelude.{◌≡◌, ◌<◌, List, length, Some, IfErr, OnErr, OnOk, slice_index_or};
 ghost use Rattle.std.specs.Iterator.{IsFinite, Drains, YieldsThen};
 ghost use Rattle.std.specs.List.{All};
 ghost use Rattle.crossbeam_utils.specs.declared.cache_padded.CachePadded.{CachePadded};
@@ -9,7 +9,8 @@ ghost use Rattle.crossbeam_utils.specs.Padded.{padded_value};
 ghost use Rattle.dashmap_table.specs.Shards.{key_hash};
 ghost use Rattle.dashmap_map.specs.Effects.{Inserts};
 ghost use Rattle.dashmap_map.specs.Locked.{shard_of};
-ghost use Rattle.dashmap_map.specs.Owner.{Alone, EachAlone, AloneAtKey, IsPut, HadNoRoom, Reserves};
+ghost use Rattle.dashmap_map.specs.Owner.{Alone, AloneUpTo, AsksForRoom, EachAlone, AloneAtKey, IsPut, HadNoRoom};
+ghost use Rattle.dashmap_map.specs.Owner.{LacksRoom, Reserves};
 
 use crate::fault::TryReserveError;
 use crate::held::insert_into;
@@ -65,7 +66,7 @@ fn reserved<K: Eq + Hash + Drop, V: Drop, Q: OwnerEvidence<Shard<K, V, A>>, A: A
     additional: usize,
 ) -> (RwLock<Q, Shard<K, V, A>>, Result<(), TryReserveError>)
     ensures lock { result.0 ≡ lock }
-    ensures evidence { OnOk result.1 (Alone Q.taken Q.put (Reserves K.eq additional) lock) }
+    ensures evidence { Alone Q.taken Q.put (AsksForRoom K.eq additional result.1) lock }
 {
     let (raw, mut shard) = take_out(lock);
     let Ok(()) = shard.reserve(additional) else {
@@ -82,14 +83,14 @@ fn reserve_alone<
     A: Allocator + Clone,
 >(lock: &mut RwLock<Q, Shard<K, V, A>>, additional: usize) -> Result<(), TryReserveError>
     ensures lock { lock.new ≡ lock.old }
-    ensures evidence { OnOk result (Alone Q.taken Q.put (Reserves K.eq additional) lock.old) }
+    ensures evidence { Alone Q.taken Q.put (AsksForRoom K.eq additional result) lock.old }
 {
     mem::replace_with(
         lock,
         additional,
         |lock, additional|
             ensures lock { result.0 ≡ lock }
-            ensures evidence { OnOk result.1 (Alone Q.taken Q.put (Reserves K.eq additional) lock) }
+            ensures evidence { Alone Q.taken Q.put (AsksForRoom K.eq additional result.1) lock }
         { reserved(lock, additional) },
     )
 }
@@ -102,8 +103,8 @@ fn reserve_at<K: Eq + Hash + Drop, V: Drop, Q: OwnerEvidence<Shard<K, V, A>>, A:
 ) -> Result<(), TryReserveError>
     requires { shard < length locks.old }
     ensures locks { locks.new ≡ locks.old }
-    ensures evidence { (other : CachePadded Q) → OnOk result (Alone Q.taken Q.put (Reserves K.eq additional)
-        (padded_value (slice_index_or locks.old shard other))) }
+    ensures evidence { (other : CachePadded Q) → Alone Q.taken Q.put (AsksForRoom K.eq additional result)
+        (padded_value (slice_index_or locks.old shard other)) }
 {
     reserve_alone(&mut locks[shard], additional)
 }
@@ -119,7 +120,9 @@ fn reserve_each<
     additional: usize,
 ) -> Result<(), TryReserveError>
     ensures locks { locks.new ≡ locks.old }
-    ensures evidence { OnOk result (EachAlone Q.taken Q.put (Reserves K.eq additional) locks.old) }
+    ensures made { OnOk result (EachAlone Q.taken Q.put (Reserves K.eq additional) locks.old) }
+    ensures refused { OnErr result (AloneUpTo Q.taken Q.put (Reserves K.eq additional) (LacksRoom additional)
+        locks.old) }
 {
     for shard in 0..locks.len() {
         reserve_at(locks, shard, additional)?;
@@ -214,6 +217,8 @@ impl<
     pub fn try_reserve(&mut self, additional: usize) -> Result<(), TryReserveError>
         ensures locks { self.new ≡ self.old }
         ensures evidence { OnOk result (EachAlone Q.taken Q.put (Reserves K.eq additional) self.old.locks) }
+        ensures refused { OnErr result (AloneUpTo Q.taken Q.put (Reserves K.eq additional) (LacksRoom additional)
+            self.old.locks) }
     {
         reserve_each(&mut self.shards, additional)
     }

@@ -89,9 +89,9 @@ impl<P> UntilFault<P> {
     /// What was handed in.
     ///
     /// ```text
-    /// let (key, value) = fault.into_inner();   // to be put in later
+    /// let (key, value) = fault.into_pair();   // to be put in later
     /// ```
-    pub fn into_inner(self) -> P
+    pub fn into_pair(self) -> P
         ensures { result ≡ until_pair self }
     {
         match self {

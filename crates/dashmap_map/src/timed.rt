@@ -169,7 +169,7 @@ where
     /// ```text
     /// match map.insert_until(7, 70, soon, &clock, &mut me) {
     ///     Ok(old) => { .. }                              // None where the key was new
-    ///     Err(fault) => later.push(fault.into_inner()),  // the pair comes back
+    ///     Err(fault) => later.push(fault.into_pair()),  // the pair comes back
     /// }
     /// ```
     pub fn insert_until<C: Clock>(

@@ -101,7 +101,7 @@ where
         Timed::Insert(key, value) => match map.insert_until(key, value, moment, clock, me) {
             Ok(None) => Told::Absent,
             Ok(Some(had)) => Told::Value(had),
-            Err(fault) => Told::Refused(fault.code(), fault.into_inner()),
+            Err(fault) => Told::Refused(fault.code(), fault.into_pair()),
         },
     }
 }
@@ -262,6 +262,6 @@ fn refusals_have_numbers_and_names(rt: HostRuntime) -> Result<(), Fail> {
     assert!(rt; (late.code() == 35) & (full.code() == 99));
     let text = format!(in rt.alloc(); "{late} {late:?} {full} {full:?}")?;
     assert!(rt; text.as_str() == "Locked Locked(3) NoMemory NoMemory(4)");
-    assert!(rt; (late.into_inner() == 3) & (full.into_inner() == 4));
+    assert!(rt; (late.into_pair() == 3) & (full.into_pair() == 4));
     Ok(())
 }

@@ -101,7 +101,7 @@ impl<K: Eq + Hash, V, S: BuildHasher, Q, A: Allocator> Unlocked<K, V, S, Q, A> {
     /// ```text
     /// let unlocked = unlocked.with_shards(clones);   // as many
     /// ```
-    pub fn with_shards(self, shards: Vec<Shard<K, V, A>, A>) -> Unlocked<K, V, S, Q, A>
+    pub(crate) fn with_shards(self, shards: Vec<Shard<K, V, A>, A>) -> Unlocked<K, V, S, Q, A>
     where
         K: Drop,
         V: Drop,

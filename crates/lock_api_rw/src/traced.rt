@@ -3,6 +3,7 @@ ghost use Rattle.std.specs.Prelude.{◌≡◌, IfNone, IfSome, MatchOption};
 ghost use Rattle.std.specs.Borrow.{Lends, sem};
 ghost use Rattle.std.specs.Sync.RwLock.{read_guard_value, write_guard_value};
 ghost use Rattle.lock_api_rw.specs.contracts.traced.Traced.{the_row};
+ghost use Rattle.lock_api_rw.specs.Holds.{TriedWithValue};
 
 use crate::evidence::{Ended, Evidence, Found, FoundAtOnce, Refused};
 use crate::mode::Exclusive;
@@ -130,6 +131,7 @@ pub fn write_traced<'l, R: Evidence<T>, T>(
 where
     R::Runtime: Wait,
     ensures lock { result.held.0.place.now ≡ lock.now }
+    ensures call { R.exclusive_locked result.held.0.token }
     ensures before { result.before.value ≡ write_guard_value result.inner }
     ensures wait { (result.from.value ≡ party.old) × (result.to.value ≡ party.new) }
 {
@@ -155,6 +157,7 @@ pub fn write_found<'l, R: Evidence<T>, T>(
 where
     R::Runtime: Wait,
     ensures lock { result.held.0.place.now ≡ lock.now }
+    ensures call { R.exclusive_locked result.held.0.token }
     ensures found { R.found lock.now party.old party.new (write_guard_value result.inner) }
 {
     let from = Snapshot::of(&*party);
@@ -178,6 +181,7 @@ pub fn read_shown<'l, R: Evidence<T>, T>(
 where
     R::Runtime: Wait,
     ensures lock { result.held.0.place.now ≡ lock.now }
+    ensures call { R.shared_locked result.held.0.token }
     ensures showed { R.showed lock.now party.old party.new (read_guard_value result.inner) }
 {
     let from = Snapshot::of(&*party);
@@ -198,6 +202,7 @@ pub fn try_write_found<R: Evidence<T>, T>(lock: &RwLock<R, T>) -> Option<RwLockW
 where
     R::Runtime: Wait,
     ensures lock { IfSome result (λ guard. guard.held.0.place.now ≡ lock.now) }
+    ensures call { TriedWithValue lock.now (R.exclusive_tried lock.now) result (λ guard. guard.held.0.token) }
     ensures told { MatchOption result (R.refused_exclusive lock.now)
         (λ guard. R.found_at_once lock.now (write_guard_value guard.inner)) }
 {
@@ -226,6 +231,7 @@ pub fn try_read_shown<R: Evidence<T>, T>(lock: &RwLock<R, T>) -> Option<RwLockRe
 where
     R::Runtime: Wait,
     ensures lock { IfSome result (λ guard. guard.held.0.place.now ≡ lock.now) }
+    ensures call { TriedWithValue lock.now (R.shared_tried lock.now) result (λ guard. guard.held.0.token) }
     ensures told { MatchOption result (R.refused_shared lock.now)
         (λ guard. R.showed_at_once lock.now (read_guard_value guard.inner)) }
 {
