@@ -23,7 +23,7 @@ use Rattle.mapworld_state.specs.declared.step.Step.{Step}
 use Rattle.mapworld_state.specs.Locks.Footprints.{StepsTouchOneLock}
 use Rattle.mapworld_state.specs.Moves.{ask_of, growth_key, request_of}
 use Rattle.mapworld_state.specs.Places.{Place}
-use Rattle.mapworld_state.specs.Running.{can_move_in}
+use Rattle.mapworld_state.specs.Running.{may_step}
 use Rattle.mapworld_state.specs.State.{State, next_step, pairs_of, threads_of}
 use Rattle.mapworld_state.specs.Steps.{Answers, Concludes, IsRefusedGrowth, IsStep, Replies, owed, locked, idle}
 use Rattle.mapworld_state.specs.World.{setup_of}
@@ -42,6 +42,7 @@ use Rattle.mapworld.proofs.Refusing.{Tells, Why, before, grown, is_refusal, keyl
 
 key_grown : {K V : Type 0} (D : Type 0) (c : Growth K V) → key_of (ask_of {D = D} (request_of c)) ≡ Some (growth_key c)
 key_grown D (growth.Insert k v) = refl
+key_grown D (growth.InsertUntil k v) = refl
 key_grown D (growth.Entry k) = refl
 key_grown D (growth.TryEntry k) = refl
 
@@ -65,7 +66,7 @@ module _ {K V S H D T A : Type 0} (d : deed.Ghosts D K V T) (b : builder.Ghosts 
         → Absent w key r.start r.end
 
   module _ (w : State K V S D T A) (s : Step) (w' : State K V S D T A) (r : IsReachable d b h eq writes w)
-      (moves : can_move_in w s.thread ≡ true) (step : IsStep (own w) w s w') where
+      (moves : may_step w s ≡ true) (step : IsStep (own w) w s w') where
     kept : IsKept (own w) w
     kept = reachable-kept d b h eq writes lawful respects cases agree w r
 

@@ -12,6 +12,7 @@ use Rattle.parking_lot_machine.specs.SoundLaws.{Always, OwnersAgree, StepsAreCas
 use Rattle.mapworld_calls.specs.declared.ask.Ask.{Ask}
 use Rattle.mapworld_calls.specs.declared.ask.Ask.TheVariants as ask
 use Rattle.mapworld_calls.specs.declared.ask.Begin.{Begin}
+use Rattle.mapworld_calls.specs.declared.ask.Begin.TheVariants as begin
 use Rattle.mapworld_calls.specs.declared.ask.Walk.{Walk}
 use Rattle.mapworld_calls.specs.declared.deed.Deed as deed
 use Rattle.mapworld_calls.specs.Placed.{answered_of}
@@ -26,10 +27,12 @@ use Rattle.mapworld_state.specs.Locks.Counts.{QueuesAreWaiters}
 use Rattle.mapworld_state.specs.Locks.Fits.{LocksFit}
 use Rattle.mapworld_state.specs.Locks.Footprints.{StepsTouchOneLock}
 use Rattle.mapworld_state.specs.Locks.Views.{Shown}
-use Rattle.mapworld_state.specs.Moves.{ask_of, mode_of, request_tries, start_shard}
+use Rattle.mapworld_state.specs.Holds.{tries_so}
+use Rattle.mapworld_state.specs.Moves.{ask_of, mode_of, opening_manner, request_manner, start_shard}
 use Rattle.mapworld_state.specs.Places.{Place}
 use Rattle.mapworld_state.specs.Running.{status_of}
 use Rattle.mapworld_state.specs.State.{State, threads_of}
+use Rattle.mapworld_state.specs.Steps.{IsOwnStep, by_itself, by_deadline}
 use Rattle.mapworld_state.specs.Steps.{EntersBy, GivesBack, IsStep, start, lock, find, find_grows, find_refused}
 use Rattle.mapworld_state.specs.Steps.{deed_appends, deed_applies, deed_views, deed_reads, deed_changes, deed_fills}
 use Rattle.mapworld_state.specs.Steps.{downgrade, release, answers, visit_starts, visit_parts, visit_looks, visit_seeks}
@@ -40,15 +43,15 @@ use Rattle.mapworld.specs.Asleep.{IsAsking, IsAsleep}
 use Rattle.mapworld.specs.Atomic.{core_in}
 use Rattle.mapworld.specs.Reachable.{IsReachable, LeadsTo}
 use Rattle.mapworld.specs.ReachableLaws as laws
-use Rattle.mapworld.proofs.Cores.{KeepsOthers, others-begins, others-same}
+use Rattle.mapworld.proofs.Cores.{KeepsOthers, others-begins, others-expires, others-same}
 use Rattle.mapworld.proofs.Footprints.{concluding, entering, enters_alone, leaving, parting, parting_fit}
 use Rattle.mapworld.proofs.Footprints.{step_footprint, visiting}
 use Rattle.mapworld.proofs.Keeping.{IsKept}
 use Rattle.mapworld.proofs.Reached.{own-laws, reachable-kept, reachable-step, same-setup-step}
-use Rattle.mapworld.proofs.Refusing.{Asked, asks, by_move, by_start, step-tells}
+use Rattle.mapworld.proofs.Refusing.{Asked, asks, by_expiry, by_move, by_start, step-tells}
 use Rattle.mapworld.proofs.Sleeping.{status-asleep}
 use Rattle.mapworld.proofs.Tries.{UpStays, begins-up, moves-up, stays_up, up-awake, up-moves, up-others, up-starts}
-use Rattle.mapworld.proofs.Tries.{up-then}
+use Rattle.mapworld.proofs.Tries.{expires-up, up-then}
 
 -- WHAT A STEP DOES TO OTHERS' TRIES
 
@@ -71,42 +74,47 @@ module _ {K V S D T A : Type 0} (x : Setup K V D T) (w : State K V S D T A) (s :
       (up-then s.thread w.locks mid.locks a.locks (up-others s.thread w.locks mid.locks calls)
       (up-starts s.thread a.hold.shard _ s.fair mid.locks a.locks fine a.gives))
 
-  step-up : IsStep x w s w' → UpStays s.thread w.locks w'.locks
-  step-up (start a) = up-by a.locks (ap (λ (v : State K V S D T A). v.locks) a.after)
+  own-up : IsOwnStep x w s w' → UpStays s.thread w.locks w'.locks
+  own-up (start a) = up-by a.locks (ap (λ (v : State K V S D T A). v.locks) a.after)
       (up-others s.thread w.locks a.locks (enters_alone s.thread _ w.locks a.locks _ a.enters))
-  step-up (lock a) = up-by a.locks (ap (λ (v : State K V S D T A). v.locks) a.after)
+  own-up (lock a) = up-by a.locks (ap (λ (v : State K V S D T A). v.locks) a.after)
       (up-moves s.thread s.fair w.locks a.locks fit a.moves)
-  step-up (find h) = up-same h.mid (entering w s.thread h.mid h.enters).calls
+  own-up (find h) = up-same h.mid (entering w s.thread h.mid h.enters).calls
       (ap (λ (v : State K V S D T A). v.locks) h.finds.after)
-  step-up (find_grows a) = up-still (ap (λ (v : State K V S D T A). v.locks) a.after)
-  step-up (find_refused a) = up-still (ap (λ (v : State K V S D T A). v.locks) a.after)
-  step-up (deed_appends a) = up-still (ap (λ (v : State K V S D T A). v.locks) a.after)
-  step-up (deed_applies a) = up-still (ap (λ (v : State K V S D T A). v.locks) a.after)
-  step-up (deed_views a) = up-still (ap (λ (v : State K V S D T A). v.locks) a.after)
-  step-up (deed_reads a) = up-still (ap (λ (v : State K V S D T A). v.locks) a.after)
-  step-up (deed_changes a) = up-still (ap (λ (v : State K V S D T A). v.locks) a.after)
-  step-up (deed_fills a) = up-still (ap (λ (v : State K V S D T A). v.locks) a.after)
-  step-up (downgrade a) = up-by a.locks (ap (λ (v : State K V S D T A). v.locks) a.after)
+  own-up (find_grows a) = up-still (ap (λ (v : State K V S D T A). v.locks) a.after)
+  own-up (find_refused a) = up-still (ap (λ (v : State K V S D T A). v.locks) a.after)
+  own-up (deed_appends a) = up-still (ap (λ (v : State K V S D T A). v.locks) a.after)
+  own-up (deed_applies a) = up-still (ap (λ (v : State K V S D T A). v.locks) a.after)
+  own-up (deed_views a) = up-still (ap (λ (v : State K V S D T A). v.locks) a.after)
+  own-up (deed_reads a) = up-still (ap (λ (v : State K V S D T A). v.locks) a.after)
+  own-up (deed_changes a) = up-still (ap (λ (v : State K V S D T A). v.locks) a.after)
+  own-up (deed_fills a) = up-still (ap (λ (v : State K V S D T A). v.locks) a.after)
+  own-up (downgrade a) = up-by a.locks (ap (λ (v : State K V S D T A). v.locks) a.after)
       (up-starts s.thread a.hold.shard _ s.fair w.locks a.locks fit a.turns)
-  step-up (release a) = up-by a.locks (ap (λ (v : State K V S D T A). v.locks) a.after)
+  own-up (release a) = up-by a.locks (ap (λ (v : State K V S D T A). v.locks) a.after)
       (up-starts s.thread a.hold.shard _ s.fair w.locks a.locks fit a.gives)
-  step-up (answers h) = up-same h.mid (concluding w s.thread h.mid h.leaves).calls
+  own-up (answers h) = up-same h.mid (concluding w s.thread h.mid h.leaves).calls
       (ap (λ (v : State K V S D T A). v.locks) h.answers.after)
-  step-up (visit_starts h) =
+  own-up (visit_starts h) =
       let a = h.starts in
       up-by a.locks (ap (λ (v : State K V S D T A). v.locks) a.after)
       (up-then s.thread w.locks h.mid.locks a.locks
       (up-others s.thread w.locks h.mid.locks (leaving w s.thread h.mid h.leaves).calls)
       (up-others s.thread h.mid.locks a.locks (others-begins s.thread _ _ h.mid.locks a.locks a.begins)))
-  step-up (visit_parts h) = up-gives h.mid (parting w s.thread h.mid h.enters).calls
+  own-up (visit_parts h) = up-gives h.mid (parting w s.thread h.mid h.enters).calls
       (parting_fit w s.thread h.mid fit h.enters) phase.Part phase.Visit h.gives
-  step-up (visit_looks h) = elim h.looks [
+  own-up (visit_looks h) = elim h.looks [
     | inl a ↦ up-same h.mid (visiting w s.thread h.mid h.enters).calls (ap (λ (v : State K V S D T A). v.locks) a.after)
     | inr a ↦ up-same h.mid (visiting w s.thread h.mid h.enters).calls (ap (λ (v : State K V S D T A). v.locks) a.after)
   ]
-  step-up (visit_seeks a) = up-still (ap (λ (v : State K V S D T A). v.locks) a.after)
-  step-up (visit_does a) = up-still (ap (λ (v : State K V S D T A). v.locks) a.after)
-  step-up (visit_gives a) = up-gives w (others-same s.thread w.locks w.locks refl) fit phase.Give phase.Onward a
+  own-up (visit_seeks a) = up-still (ap (λ (v : State K V S D T A). v.locks) a.after)
+  own-up (visit_does a) = up-still (ap (λ (v : State K V S D T A). v.locks) a.after)
+  own-up (visit_gives a) = up-gives w (others-same s.thread w.locks w.locks refl) fit phase.Give phase.Onward a
+
+  step-up : IsStep x w s w' → UpStays s.thread w.locks w'.locks
+  step-up (by_itself mine step) = own-up step
+  step-up (by_deadline due a) = up-by a.locks (ap (λ (v : State K V S D T A). v.locks) a.after)
+      (up-others s.thread w.locks a.locks (others-expires s.thread w.locks a.locks a.expires))
 
 -- ALONG SCHEDULES
 
@@ -122,8 +130,20 @@ abbrev tries-of : {K V D : Type 0} → Ask K V D → Bool
 tries-of (ask.Begin c) = is_try c
 tries-of other = false
 
-tried : {K V D : Type 0} (r : Request K V D) (g : Begin K) → ask_of r ≡ ask.Begin g → request_tries r ≡ is_try g
-tried (request.Begin c) g is = ap tries-of is
+-- an opening tries where it is a try
+opening-tries : {K : Type 0} (c : Begin K) → tries_so (opening_manner c) ≡ is_try c
+opening-tries (begin.Get k) = refl
+opening-tries (begin.GetMut k) = refl
+opening-tries (begin.Entry k) = refl
+opening-tries (begin.TryGet k) = refl
+opening-tries (begin.TryGetMut k) = refl
+opening-tries (begin.TryEntry k) = refl
+opening-tries (begin.GetUntil k) = refl
+opening-tries (begin.GetMutUntil k) = refl
+
+tried : {K V D : Type 0} (r : Request K V D) (g : Begin K) → ask_of r ≡ ask.Begin g
+    → tries_so (request_manner r) ≡ is_try g
+tried (request.Begin c) g is = opening-tries c ∙ ap tries-of is
 tried (request.Keyed k) g is = absurd (false≢true (ap is_begin is))
 
 module _ {K V S H D T A : Type 0} (d : deed.Ghosts D K V T) (b : builder.Ghosts S H) (h : hasher.Ghosts H)
@@ -135,7 +155,7 @@ module _ {K V S H D T A : Type 0} (d : deed.Ghosts D K V T) (b : builder.Ghosts 
 
   abbrev TriesAreUp : State K V S D T A → Type 0
   TriesAreUp w = (t : ℕ) (p : Place K V D T A) (r : Request K V D) → slice_get w.places t ≡ Some p
-      → p.phase ≡ phase.Admit r → request_tries r ≡ true → stays_up (core_in w.locks t) ≡ true
+      → p.phase ≡ phase.Admit r → tries_so (request_manner r) ≡ true → stays_up (core_in w.locks t) ≡ true
 
   module _ (w : State K V S D T A) (s : Step) (w' : State K V S D T A) (reached : IsReachable d b h eq writes w)
       (step : IsStep (own w) w s w') (up : TriesAreUp w) where
@@ -143,17 +163,21 @@ module _ {K V S H D T A : Type 0} (d : deed.Ghosts D K V T) (b : builder.Ghosts 
     kept = reachable-kept d b h eq writes lawful respects cases agree w reached
 
     mine : (p : Place K V D T A) (r : Request K V D) → Asked (own w) w s w' p → p.phase ≡ phase.Admit r
-        → request_tries r ≡ true → stays_up (core_in w'.locks s.thread) ≡ true
+        → tries_so (request_manner r) ≡ true → stays_up (core_in w'.locks s.thread) ≡ true
     mine p r (by_start a is) at tries =
         let enters : EntersBy {T = T} {A = A} s.thread (start_shard (own w).route a.ask a.place.shard)
         (phase.Admit r) w.locks a.locks =
         subst (λ (f : Phase K V D T A). EntersBy s.thread (start_shard (own w).route a.ask a.place.shard) f w.locks
         a.locks) (sym is ∙ at) a.enters in
         ap (λ (v : State K V S D T A). stays_up (core_in v.locks s.thread)) a.after
-        ∙ begins-up s.thread _ (request_tries r) (mode_of r) w.locks a.locks tries enters
+        ∙ begins-up s.thread _ (request_manner r) (mode_of r) w.locks a.locks tries enters
     mine p r (by_move a is) at tries =
         ap (λ (v : State K V S D T A). stays_up (core_in v.locks s.thread)) a.after
         ∙ moves-up s.thread s.fair w.locks a.locks a.moves
+        (up s.thread a.place r a.stands (ap (λ (q : Place K V D T A). q.phase) is ∙ at) tries)
+    mine p r (by_expiry a is) at tries =
+        ap (λ (v : State K V S D T A). stays_up (core_in v.locks s.thread)) a.after
+        ∙ expires-up s.thread w.locks a.locks a.expires
         (up s.thread a.place r a.stands (ap (λ (q : Place K V D T A). q.phase) is ∙ at) tries)
 
     tries-on : TriesAreUp w'

@@ -14,11 +14,12 @@ use Rattle.parking_lot_machine_calls.specs.declared.seat.Core.{Core}
 use Rattle.parking_lot_machine_calls.specs.declared.seat.WakeResult.{WakeResult}
 use Rattle.parking_lot_machine_calls.specs.declared.seat.Wakeup.{Wakeup}
 use Rattle.parking_lot_machine_calls.specs.CallActs.{hears, off_list, settled}
+use Rattle.parking_lot_machine_calls.specs.LateCalls.{late_of}
 use Rattle.parking_lot_machine_calls.specs.Stances.{core_act}
 use Rattle.parking_lot_machine.specs.Machines.{Became, BecameInside, call_for}
 use Rattle.parking_lot_machine.specs.Rows.{State, call_at, state}
 use Rattle.parking_lot_machine.specs.TellLaws.{IsDue}
-use Rattle.mapworld_state.specs.Locks.Steps.{HasActed, LockBegins, LockEnds, LockMoves, LockStarts}
+use Rattle.mapworld_state.specs.Locks.Steps.{HasActed, LockBegins, LockEnds, LockExpires, LockMoves, LockStarts}
 use Rattle.mapworld_state.specs.Locks.Views.{Shown}
 use Rattle.mapworld_state.proofs.LocksFacts.Calls.{late_is}
 use Rattle.mapworld_state.proofs.InvariantFacts.CausesFacts.Looking.{call_of, set-elsewhere}
@@ -154,6 +155,14 @@ module _ (t : ℕ) where
         cores = λ v ne. ap (λ (u : State). core_of (call_at u v)) became
             ∙ ap core_of (set-elsewhere (state old.rows).calls t v None ne);
       }
+
+  pub others-expires : (old new : Shown) → LockExpires t old new → KeepsOthers t old new
+  others-expires old new h = record {
+    about = λ v ne. h.stands v;
+    cores = λ v ne. ap (λ (u : State). core_of (call_at u v)) h.became
+        ∙ ap core_of (set-elsewhere (state old.rows).calls t v
+        (Some (record (h.call) { core = late_of h.call.core })) ne);
+  }
 
   pub calls-same : (old new : Shown) → KeepsOthers t old new → KeepsCalls t old new
   calls-same old new h = record { about = h.about; woken = t; others = λ v ne apart. h.cores v ne }

@@ -16,6 +16,7 @@ module _ {K V S D T A : Type 0} (x : Setup K V D T) (laws : Laws x) (touch : Ste
   drained w (s ∷ ss) w' (mid, makes, rest) = (
     mid,
     makes.moves,
+    makes.own,
     makes.kind,
     step_atomic x laws w s mid makes.whole.sound touch makes.whole.locks makes.kind,
     drained mid ss w' rest,

@@ -6,7 +6,7 @@ use Rattle.mapworld_state.specs.declared.faults.fault.RunFault.TheVariants as fa
 use Rattle.mapworld_state.specs.declared.step.Step.{Step}
 use Rattle.mapworld_state.specs.Faults.Faults.{run_fault_done}
 use Rattle.mapworld_state.specs.State.{State}
-use Rattle.mapworld_state.specs.Running.{can_move_in, has_numbers, refusal}
+use Rattle.mapworld_state.specs.Running.{has_numbers, may_step, refusal}
 
 done_of : (a b c : Bool) (n : ℕ) (f : RunFault)
     → (if a then (if b then (if c then None else Some (fault.StepsShort n)) else Some (fault.CannotMove n)) else Some
@@ -19,4 +19,4 @@ done_of false b c n f h = ap run_fault_done (sym (same_Some (fault.NoSuchThread 
 pub refusal-done : {K V S D T A : Type 0} (w : State K V S D T A) (n : ℕ) (s : Step) (f : RunFault)
     → refusal w n s ≡ Some f → run_fault_done f ≡ n
 refusal-done w n s f h =
-    done_of (nat_lt s.thread (length w.programs)) (can_move_in w s.thread) (has_numbers w) n f h
+    done_of (nat_lt s.thread (length w.programs)) (may_step w s) (has_numbers w) n f h

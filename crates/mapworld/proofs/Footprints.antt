@@ -1,5 +1,6 @@
 -- Every step does one thing, and keeps to its footprint.
-use Rattle.std.proofs.Common.{◌≡◌, ◌≢◌, ◌⊎◌, ℕ, inl, inr, ◌+◌, Bool, List, [], ◌∷◌, ◌++◌, length, Option, Some, None}
+use Rattle.std.proofs.Common.{◌≡◌, ◌≢◌, ◌⊎◌, ℕ, inl, inr, ◌+◌, Bool, true, false, List, [], ◌∷◌, ◌++◌, length, Option}
+use Rattle.std.proofs.Common.{Some, None}
 use Rattle.std.proofs.Common.{slice_get, slice_set, refl, ap, sym, ◌∙◌, subst}
 use Rattle.std.specs.List.{flat_map}
 use Rattle.std.specs.Option.{option_and_then}
@@ -20,6 +21,7 @@ use Rattle.mapworld_state.specs.declared.place.Phase.TheVariants as phase
 use Rattle.mapworld_state.specs.declared.step.Step.{Step}
 use Rattle.mapworld_state.specs.Places.{Place}
 use Rattle.mapworld_state.specs.State.{State, next_step, pairs_of, started_of, threads_of}
+use Rattle.mapworld_state.specs.Steps.{Expires, IsOwnStep, by_itself, by_deadline}
 use Rattle.mapworld_state.specs.Steps.{IsStep, Concludes, Enters, EntersBy, GivesBack, IsRefusedVisit, Leaves}
 use Rattle.mapworld_state.specs.Steps.{LooksAround, Reaches, Starts, StartsVisit, owed, locked, idle, start, lock, find}
 use Rattle.mapworld_state.specs.Steps.{find_grows, find_refused, deed_appends, deed_applies, deed_views, deed_reads}
@@ -31,12 +33,12 @@ use Rattle.mapworld_state.specs.Sound.{Sound}
 use Rattle.mapworld_state.specs.Shards.{ShardPairs, Puts}
 use Rattle.mapworld_state.specs.Walks.{IsLookedAt}
 use Rattle.mapworld.proofs.ProgressFacts.Visiting.{ItemPuts, item-puts}
-use Rattle.mapworld.specs.Atomic.{DoesOne, IsAtomic, KeepsCalls, StaysInCall, starts, looks, deed, at_lock}
-use Rattle.mapworld.specs.Atomic.{answers as replied}
+use Rattle.mapworld.specs.Atomic.{Comes, DoesOne, IsAtomic, KeepsCalls, StaysInCall, starts, looks, deed, at_lock}
+use Rattle.mapworld.specs.Atomic.{answers as replied, core_in}
 use Rattle.mapworld.proofs.Cores.{KeepsOthers, calls-behind, calls-moves, calls-same, calls-starts, others-begins}
-use Rattle.mapworld.proofs.Cores.{others-ends, others-same}
+use Rattle.mapworld.proofs.Cores.{others-ends, others-expires, others-same}
 use Rattle.mapworld_state.proofs.LocksFacts.Lawful.{fit-ends}
-use Rattle.mapworld.proofs.LockSteps.{TouchesLock, begins_keep, ends_keep, keeps_behind}
+use Rattle.mapworld.proofs.LockSteps.{TouchesLock, begins_keep, ends_keep, expires_keep, keeps_behind}
 use Rattle.mapworld.proofs.LockSteps.{moves_touch, starts_touch, touches_behind}
 use Rattle.mapworld.proofs.Viewing.{pair_at_route}
 use Rattle.mapworld.proofs.Outcomes.{element-at}
@@ -126,20 +128,35 @@ enters_alone t shard locks locks' (phase.Onward f) h = others-same t locks locks
 enters_alone t shard locks locks' (phase.Release a) h = others-same t locks locks' h
 enters_alone t shard locks locks' (phase.Answer a) h = others-same t locks locks' h
 
--- a step that does one thing keeps to its footprint
-footprint_of : {K V S D T A : Type 0} (eq : K → K → Bool) (w : State K V S D T A) (s : Step) (w' : State K V S D T A)
-    → ((t : ℕ) → t ≢ s.thread → slice_get w'.places t ≡ slice_get w.places t) → DoesOne eq w s w'
-    → HasFootprint eq w s w'
-footprint_of eq w s w' places (starts none now replies pairs locks) = record
-    { places = places; touches = neither pairs locks; replies = inl replies }
-footprint_of eq w s w' places (looks stays pairs locks) = record
-    { places = places; touches = neither pairs locks; replies = inl (stays.replies) }
-footprint_of eq w s w' places (deed stays key others locks) = record
-    { places = places; touches = one_pair key others locks; replies = inl (stays.replies) }
-footprint_of eq w s w' places (at_lock stays shard pairs others here) = record
-    { places = places; touches = one_lock shard pairs others here; replies = inl (stays.replies) }
-footprint_of eq w s w' places (replied r pairs locks) = record
-    { places = places; touches = neither pairs locks; replies = inr (r.reply, r.thread, r.replies) }
+-- what a step does that is no deadline
+record DoesOneAlone {K V S D T A : Type 0} (eq : K → K → Bool) (w : State K V S D T A) (s : Step)
+    (w' : State K V S D T A) : Type 0 where
+  places : (t : ℕ) → t ≢ s.thread → slice_get w'.places t ≡ slice_get w.places t
+  calls : KeepsCalls s.thread w.locks w'.locks
+  steps : w'.steps ≡ w.steps ++ s ∷ []
+  does : DoesOne eq w s w'
+
+module _ {K V S D T A : Type 0} (eq : K → K → Bool) (w : State K V S D T A) (s : Step) (w' : State K V S D T A)
+    (places : (t : ℕ) → t ≢ s.thread → slice_get w'.places t ≡ slice_get w.places t) where
+  -- a step that does one thing keeps to its footprint
+  footprint_of_one : DoesOne eq w s w' → HasFootprint eq w s w'
+  footprint_of_one (starts none now replies pairs locks) = record
+      { places = places; touches = neither pairs locks; replies = inl replies }
+  footprint_of_one (looks stays pairs locks) = record
+      { places = places; touches = neither pairs locks; replies = inl (stays.replies) }
+  footprint_of_one (deed stays key others locks) = record
+      { places = places; touches = one_pair key others locks; replies = inl (stays.replies) }
+  footprint_of_one (at_lock stays shard pairs others here) = record
+      { places = places; touches = one_lock shard pairs others here; replies = inl (stays.replies) }
+  footprint_of_one (replied r pairs locks) = record
+      { places = places; touches = neither pairs locks; replies = inr (r.reply, r.thread, r.replies) }
+
+  -- and so does a deadline
+  footprint_of : ((s.deadline ≡ false) × DoesOne eq w s w') ⊎ ((s.deadline ≡ true) × Comes eq w s w')
+      → HasFootprint eq w s w'
+  footprint_of (inl own) = footprint_of_one own.1
+  footprint_of (inr late) = record
+      { places = places; touches = neither late.1.pairs late.1.locks; replies = inl (late.1.stays.replies) }
 
 -- a step's part before the look, or before the answer
 pub record Prepares {K V S D T A : Type 0} (w : State K V S D T A) (t : ℕ) (mid : State K V S D T A) : Type 0 where
@@ -316,7 +333,7 @@ module _ {K V S D T A : Type 0} (x : Setup K V D T) (laws : Laws x) (w : State K
 
     quiet : p'.started ≡ q.started → KeepsPairs x.eq w w' → (locks : Shown) → w'.locks ≡ locks
         → KeepsLocks mid.locks locks → KeepsCalls s.thread mid.locks locks → w'.replies ≡ mid.replies
-        → IsAtomic x.eq w s w'
+        → DoesOneAlone x.eq w s w'
     quiet still pairs locks same keep calls replies = record {
       places = stay;
       calls = behind locks same calls;
@@ -327,14 +344,14 @@ module _ {K V S D T A : Type 0} (x : Setup K V D T) (laws : Laws x) (w : State K
 
     -- of one that leaves the locks alone
     beside : p'.started ≡ q.started → KeepsPairs x.eq w w' → w'.locks ≡ mid.locks → w'.replies ≡ mid.replies
-        → IsAtomic x.eq w s w'
+        → DoesOneAlone x.eq w s w'
     beside still pairs same replies =
         quiet still pairs mid.locks same (same_locks mid.locks mid.locks refl)
         (calls-same s.thread mid.locks mid.locks (others-same s.thread mid.locks mid.locks refl)) replies
 
     -- of one that changes one pair
     on_pair : p'.started ≡ q.started → (key : K) × OthersKeepPairs x.eq w w' key → w'.locks ≡ mid.locks
-        → w'.replies ≡ mid.replies → IsAtomic x.eq w s w'
+        → w'.replies ≡ mid.replies → DoesOneAlone x.eq w s w'
     on_pair still pair same replies = record {
       places = stay;
       calls = alone same;
@@ -346,7 +363,7 @@ module _ {K V S D T A : Type 0} (x : Setup K V D T) (laws : Laws x) (w : State K
     -- of one at a lock
     on_lock : p'.started ≡ q.started → (locks : Shown) → w'.tables ≡ mid.tables → w'.locks ≡ locks
         → TouchesLock mid.locks locks → KeepsCalls s.thread mid.locks locks → w'.replies ≡ mid.replies
-        → IsAtomic x.eq w s w'
+        → DoesOneAlone x.eq w s w'
     on_lock still locks tables same touched calls replies =
         let t = touches_behind w.locks mid.locks w'.locks p.locks
         (subst (λ l. TouchesLock mid.locks l) (sym same) touched) in
@@ -361,7 +378,7 @@ module _ {K V S D T A : Type 0} (x : Setup K V D T) (laws : Laws x) (w : State K
     -- of an answer
     reply : (r : Reply K V T A) → r.thread ≡ s.thread → q.started ≡ Some r.start → r.end ≡ next_step mid
         → p'.started ≡ None → w'.tables ≡ mid.tables → w'.locks ≡ mid.locks → w'.replies ≡ mid.replies ++ r ∷ []
-        → IsAtomic x.eq w s w'
+        → DoesOneAlone x.eq w s w'
     reply r own began end over tables same replies = record {
       places = stay;
       calls = alone same;
@@ -382,7 +399,7 @@ module _ {K V S D T A : Type 0} (x : Setup K V D T) (laws : Laws x) (w : State K
     }
 
   looks_print : (step : IsStep x w s w') (mid : State K V S D T A) → Prepares w s.thread mid → LooksAround x mid s w'
-      ⊎ IsRefusedVisit x mid s w' → IsAtomic x.eq w s w'
+      ⊎ IsRefusedVisit x mid s w' → DoesOneAlone x.eq w s w'
   looks_print step mid p (inl a) =
       beside mid p a.place a.stands _ (ap (λ (v : State K V S D T A). v.places) a.after)
       (ap (λ (v : State K V S D T A). v.steps) a.after) refl
@@ -398,7 +415,7 @@ module _ {K V S D T A : Type 0} (x : Setup K V D T) (laws : Laws x) (w : State K
       (same_pairs x.eq w w' ((ap (λ (v : State K V S D T A). v.tables) a.after) ∙ p.tables))
       (ap (λ (v : State K V S D T A). v.locks) a.after) (ap (λ (v : State K V S D T A). v.replies) a.after)
 
-  starts_print : (mid : State K V S D T A) → Prepares w s.thread mid → StartsVisit x mid s w' → IsAtomic x.eq w s w'
+  starts_print : (mid : State K V S D T A) → Prepares w s.thread mid → StartsVisit x mid s w' → DoesOneAlone x.eq w s w'
   starts_print mid p a =
       quiet mid p a.place a.stands _ (ap (λ (v : State K V S D T A). v.places) a.after)
       (ap (λ (v : State K V S D T A). v.steps) a.after) refl
@@ -413,7 +430,7 @@ module _ {K V S D T A : Type 0} (x : Setup K V D T) (laws : Laws x) (w : State K
 
     -- of one at a lock, which begins there
     gives_print : (mid : State K V S D T A) → Prepares w s.thread mid → LocksFit mid.locks
-        → (from to : Walk D → Phase K V D T A) → GivesBack x mid s w' from to → IsAtomic x.eq w s w'
+        → (from to : Walk D → Phase K V D T A) → GivesBack x mid s w' from to → DoesOneAlone x.eq w s w'
     gives_print mid p fine from to a =
         on_lock mid p a.place a.stands _ (ap (λ (v : State K V S D T A). v.places) a.after)
         (ap (λ (v : State K V S D T A). v.steps) a.after) refl a.locks
@@ -422,7 +439,7 @@ module _ {K V S D T A : Type 0} (x : Setup K V D T) (laws : Laws x) (w : State K
         (calls-starts s.thread a.hold.shard _ s.fair mid.locks a.locks a.gives)
         (ap (λ (v : State K V S D T A). v.replies) a.after)
 
-    begins_print : Starts x w s w' → IsAtomic x.eq w s w'
+    begins_print : Starts x w s w' → DoesOneAlone x.eq w s w'
     begins_print a =
         let places = (ap (λ (v : State K V S D T A). v.places) a.after) in
         let steps = (ap (λ (v : State K V S D T A). v.steps) a.after) in
@@ -441,74 +458,76 @@ module _ {K V S D T A : Type 0} (x : Setup K V D T) (laws : Laws x) (w : State K
               (enters_keep s.thread _ w.locks a.locks _ a.enters));
         }
 
-    pub step_atomic : IsStep x w s w' → IsAtomic x.eq w s w'
-    step_atomic (start a) = begins_print a
-    step_atomic (lock a) =
+    own_atomic : s.deadline ≡ false → IsOwnStep x w s w' → DoesOneAlone x.eq w s w'
+    own_atomic mine (start a) = begins_print a
+    own_atomic mine (lock a) =
         on_lock w whole a.place a.stands a.place (ap (λ (v : State K V S D T A). v.places) a.after)
         (ap (λ (v : State K V S D T A). v.steps) a.after) refl a.locks
         (ap (λ (v : State K V S D T A). v.tables) a.after) (ap (λ (v : State K V S D T A). v.locks) a.after)
         (moves_touch touch s.thread s.fair w.locks a.locks fit a.moves)
         (calls-moves s.thread s.fair w.locks a.locks a.moves) (ap (λ (v : State K V S D T A). v.replies) a.after)
-    step_atomic (find h) =
+    own_atomic mine (find h) =
         let a = h.finds in
         let p = entering w s.thread h.mid h.enters in
         beside h.mid p a.place a.stands _ (ap (λ (v : State K V S D T A). v.places) a.after)
         (ap (λ (v : State K V S D T A). v.steps) a.after) refl
         (same_pairs x.eq w w' ((ap (λ (v : State K V S D T A). v.tables) a.after) ∙ p.tables))
         (ap (λ (v : State K V S D T A). v.locks) a.after) (ap (λ (v : State K V S D T A). v.replies) a.after)
-    step_atomic (find_grows a) =
+    own_atomic mine (find_grows a) =
         beside w whole a.place a.stands _ (ap (λ (v : State K V S D T A). v.places) a.after)
         (ap (λ (v : State K V S D T A). v.steps) a.after) refl
-        (λ q. shard_keeps (find_grows a) a.place.shard a.table a.grown a.held
+        (λ q. shard_keeps (by_itself mine (find_grows a)) a.place.shard a.table a.grown a.held
         (ap (λ (v : State K V S D T A). v.tables) a.after) q (a.grows.found q))
         (ap (λ (v : State K V S D T A). v.locks) a.after) (ap (λ (v : State K V S D T A). v.replies) a.after)
-    step_atomic (find_refused a) = beside w whole a.place a.stands _
+    own_atomic mine (find_refused a) = beside w whole a.place a.stands _
         (ap (λ (v : State K V S D T A). v.places) a.after) (ap (λ (v : State K V S D T A). v.steps) a.after) refl
         (same_pairs x.eq w w' (ap (λ (v : State K V S D T A). v.tables) a.after))
         (ap (λ (v : State K V S D T A). v.locks) a.after) (ap (λ (v : State K V S D T A). v.replies) a.after)
-    step_atomic (deed_appends a) = on_pair w whole a.place a.stands _
+    own_atomic mine (deed_appends a) = on_pair w whole a.place a.stands _
         (ap (λ (v : State K V S D T A). v.places) a.after) (ap (λ (v : State K V S D T A). v.steps) a.after) refl
-        (others_keep (deed_appends a) a.place.shard a.table a.changed a.held
+        (others_keep (by_itself mine (deed_appends a)) a.place.shard a.table a.changed a.held
         (ap (λ (v : State K V S D T A). v.tables) a.after) a.key _ a.puts)
         (ap (λ (v : State K V S D T A). v.locks) a.after) (ap (λ (v : State K V S D T A). v.replies) a.after)
-    step_atomic (deed_applies a) = on_pair w whole a.place a.stands _
+    own_atomic mine (deed_applies a) = on_pair w whole a.place a.stands _
         (ap (λ (v : State K V S D T A). v.places) a.after) (ap (λ (v : State K V S D T A). v.steps) a.after) refl
-        (others_keep (deed_applies a) a.place.shard a.table a.changed a.held
+        (others_keep (by_itself mine (deed_applies a)) a.place.shard a.table a.changed a.held
         (ap (λ (v : State K V S D T A). v.tables) a.after) _ _ a.puts)
         (ap (λ (v : State K V S D T A). v.locks) a.after) (ap (λ (v : State K V S D T A). v.replies) a.after)
-    step_atomic (deed_views a) = beside w whole a.place a.stands _ (ap (λ (v : State K V S D T A). v.places) a.after)
+    own_atomic mine (deed_views a) = beside w whole a.place a.stands _
+        (ap (λ (v : State K V S D T A). v.places) a.after)
         (ap (λ (v : State K V S D T A). v.steps) a.after) refl
         (same_pairs x.eq w w' (ap (λ (v : State K V S D T A). v.tables) a.after))
         (ap (λ (v : State K V S D T A). v.locks) a.after) (ap (λ (v : State K V S D T A). v.replies) a.after)
-    step_atomic (deed_reads a) = beside w whole a.place a.stands _ (ap (λ (v : State K V S D T A). v.places) a.after)
+    own_atomic mine (deed_reads a) = beside w whole a.place a.stands _
+        (ap (λ (v : State K V S D T A). v.places) a.after)
         (ap (λ (v : State K V S D T A). v.steps) a.after) refl
         (same_pairs x.eq w w' (ap (λ (v : State K V S D T A). v.tables) a.after))
         (ap (λ (v : State K V S D T A). v.locks) a.after) (ap (λ (v : State K V S D T A). v.replies) a.after)
-    step_atomic (deed_changes a) = on_pair w whole a.place a.stands _
+    own_atomic mine (deed_changes a) = on_pair w whole a.place a.stands _
         (ap (λ (v : State K V S D T A). v.places) a.after) (ap (λ (v : State K V S D T A). v.steps) a.after) refl
-        (others_keep (deed_changes a) a.place.shard a.table a.changed a.held
+        (others_keep (by_itself mine (deed_changes a)) a.place.shard a.table a.changed a.held
         (ap (λ (v : State K V S D T A). v.tables) a.after) a.key _ a.puts)
         (ap (λ (v : State K V S D T A). v.locks) a.after) (ap (λ (v : State K V S D T A). v.replies) a.after)
-    step_atomic (deed_fills a) = on_pair w whole a.place a.stands _
+    own_atomic mine (deed_fills a) = on_pair w whole a.place a.stands _
         (ap (λ (v : State K V S D T A). v.places) a.after) (ap (λ (v : State K V S D T A). v.steps) a.after) refl
-        (others_keep (deed_fills a) a.place.shard a.table a.changed a.held
+        (others_keep (by_itself mine (deed_fills a)) a.place.shard a.table a.changed a.held
         (ap (λ (v : State K V S D T A). v.tables) a.after) a.key _ a.puts)
         (ap (λ (v : State K V S D T A). v.locks) a.after) (ap (λ (v : State K V S D T A). v.replies) a.after)
-    step_atomic (downgrade a) =
+    own_atomic mine (downgrade a) =
         on_lock w whole a.place a.stands _ (ap (λ (v : State K V S D T A). v.places) a.after)
         (ap (λ (v : State K V S D T A). v.steps) a.after) refl a.locks
         (ap (λ (v : State K V S D T A). v.tables) a.after) (ap (λ (v : State K V S D T A). v.locks) a.after)
         (starts_touch touch s.thread a.hold.shard _ s.fair w.locks a.locks fit a.turns)
         (calls-starts s.thread a.hold.shard _ s.fair w.locks a.locks a.turns)
         (ap (λ (v : State K V S D T A). v.replies) a.after)
-    step_atomic (release a) =
+    own_atomic mine (release a) =
         on_lock w whole a.place a.stands _ (ap (λ (v : State K V S D T A). v.places) a.after)
         (ap (λ (v : State K V S D T A). v.steps) a.after) refl a.locks
         (ap (λ (v : State K V S D T A). v.tables) a.after) (ap (λ (v : State K V S D T A). v.locks) a.after)
         (starts_touch touch s.thread a.hold.shard _ s.fair w.locks a.locks fit a.gives)
         (calls-starts s.thread a.hold.shard _ s.fair w.locks a.locks a.gives)
         (ap (λ (v : State K V S D T A). v.replies) a.after)
-    step_atomic (answers h) =
+    own_atomic mine (answers h) =
         let a = h.answers in
         let r : Reply K V T A = record {
           thread = s.thread;
@@ -522,22 +541,53 @@ module _ {K V S D T A : Type 0} (x : Setup K V D T) (laws : Laws x) (w : State K
         (ap (λ (v : State K V S D T A). v.places) a.after) (ap (λ (v : State K V S D T A). v.steps) a.after) r
         refl a.begun refl refl (ap (λ (v : State K V S D T A). v.tables) a.after)
         (ap (λ (v : State K V S D T A). v.locks) a.after) (ap (λ (v : State K V S D T A). v.replies) a.after)
-    step_atomic (visit_starts h) = starts_print h.mid (leaving w s.thread h.mid h.leaves) h.starts
-    step_atomic (visit_parts h) = gives_print h.mid (parting w s.thread h.mid h.enters)
+    own_atomic mine (visit_starts h) = starts_print h.mid (leaving w s.thread h.mid h.leaves) h.starts
+    own_atomic mine (visit_parts h) = gives_print h.mid (parting w s.thread h.mid h.enters)
         (parting_fit w s.thread h.mid fit h.enters) phase.Part phase.Visit h.gives
-    step_atomic (visit_looks h) = looks_print (visit_looks h) h.mid (visiting w s.thread h.mid h.enters) h.looks
-    step_atomic (visit_seeks a) = beside w whole a.place a.stands _
+    own_atomic mine (visit_looks h) = looks_print (by_itself mine (visit_looks h)) h.mid
+        (visiting w s.thread h.mid h.enters) h.looks
+    own_atomic mine (visit_seeks a) = beside w whole a.place a.stands _
         (ap (λ (v : State K V S D T A). v.places) a.after) (ap (λ (v : State K V S D T A). v.steps) a.after) refl
         (same_pairs x.eq w w' (ap (λ (v : State K V S D T A). v.tables) a.after))
         (ap (λ (v : State K V S D T A). v.locks) a.after) (ap (λ (v : State K V S D T A). v.replies) a.after)
-    step_atomic (visit_does a) =
+    own_atomic mine (visit_does a) =
         on_pair w whole a.place a.stands _ (ap (λ (v : State K V S D T A). v.places) a.after)
         (ap (λ (v : State K V S D T A). v.steps) a.after) refl
-        (item_keeps (visit_does a) a.place.shard a.walk a.table a.changed a.pair a.held
+        (item_keeps (by_itself mine (visit_does a)) a.place.shard a.walk a.table a.changed a.pair a.held
         (ap (λ (v : State K V S D T A). v.tables) a.after)
         (item-puts x.deeds x.eq a.walk a.table a.changed a.pair a.item))
         (ap (λ (v : State K V S D T A). v.locks) a.after) (ap (λ (v : State K V S D T A). v.replies) a.after)
-    step_atomic (visit_gives a) = gives_print w whole fit phase.Give phase.Onward a
+    own_atomic mine (visit_gives a) = gives_print w whole fit phase.Give phase.Onward a
+
+    -- a deadline comes: of the locks only the thread's own place is another
+    expires_print : s.deadline ≡ true → Expires x w s w' → IsAtomic x.eq w s w'
+    expires_print due a =
+        let places = (ap (λ (v : State K V S D T A). v.places) a.after) in
+        let steps = (ap (λ (v : State K V S D T A). v.steps) a.after) in
+        let locks = ap (λ (v : State K V S D T A). v.locks) a.after in
+        let others = others-expires s.thread w.locks a.locks a.expires in
+        record {
+          places = stay w whole a.place a.stands a.place places steps;
+          calls = behind w whole a.place a.stands a.place places steps a.locks locks
+              (calls-same s.thread w.locks a.locks others);
+          steps = steps;
+          does = inr (
+            due,
+            record {
+              stays = goes_on w whole a.place a.stands a.place places steps refl
+                  (ap (λ (v : State K V S D T A). v.replies) a.after);
+              pairs = same_pairs x.eq w w' (ap (λ (v : State K V S D T A). v.tables) a.after);
+              locks = subst (λ l. KeepsLocks w.locks l) (sym locks) (expires_keep s.thread w.locks a.locks a.expires);
+              alone = λ t other. ap (λ l. core_in l t) locks ∙ others.cores t other;
+            },
+          );
+        }
+
+    pub step_atomic : IsStep x w s w' → IsAtomic x.eq w s w'
+    step_atomic (by_itself mine step) =
+        let a = own_atomic mine step in
+        record { places = a.places; calls = a.calls; steps = a.steps; does = inl (mine, a.does) }
+    step_atomic (by_deadline due a) = expires_print due a
 
     pub step_footprint : IsStep x w s w' → HasFootprint x.eq w s w'
     step_footprint step = let a = step_atomic step in footprint_of x.eq w s w' a.places a.does

@@ -24,6 +24,7 @@ use Rattle.mapworld_state.specs.Locks.Views.{Shown}
 use Rattle.mapworld_state.specs.Places.{Place}
 use Rattle.mapworld_state.specs.Sound.{Sound, is_resting, taken}
 use Rattle.mapworld_state.specs.State.{State}
+use Rattle.mapworld_state.specs.Steps.{IsOwnStep, by_itself, by_deadline}
 use Rattle.mapworld_state.specs.Steps.{IsStep, Concludes, Enters, GivesBack, IsRefusedVisit, Leaves, LooksAround}
 use Rattle.mapworld_state.specs.Steps.{Reaches, owed as owed_lock, locked, idle, start, lock, find, find_grows}
 use Rattle.mapworld_state.specs.Steps.{find_refused, deed_appends, deed_applies, deed_views, deed_reads, deed_changes}
@@ -36,8 +37,7 @@ use Rattle.mapworld.specs.Progress.Sizes.{IsSized}
 use Rattle.mapworld.specs.Progress.Whole.{IsWhole}
 use Rattle.mapworld.proofs.Filling.{length-slice_set}
 use Rattle.mapworld.proofs.LockFits.{Lasts, lasts-begins, lasts-ends, lasts-enters, lasts-moves, lasts-same}
-use Rattle.mapworld.proofs.LockFits.{lasts-starts}
-use Rattle.mapworld.proofs.LockFits.{lasts-then}
+use Rattle.mapworld.proofs.LockFits.{lasts-expires, lasts-starts, lasts-then}
 
 -- WHAT A STEP LEAVES OF THE LOCKS, AND OF THE NUMBER OF PLACES
 
@@ -118,38 +118,43 @@ module _ (cases : StepsAreCases) (agree : Always OwnersAgree) {K V S D T A : Typ
   gives mid from to h = goes-by mid w' s.thread _ h.locks (ap (λ z. z.places) h.after) (ap (λ z. z.locks) h.after)
       (lasts-starts cases agree s.thread _ _ s.fair mid.locks h.locks h.gives)
 
-  pub step_goes : IsStep x w s w' → Goes w w'
-  step_goes (start h) = goes-by w w' s.thread _ h.locks (ap (λ z. z.places) h.after) (ap (λ z. z.locks) h.after)
+  own_goes : IsOwnStep x w s w' → Goes w w'
+  own_goes (start h) = goes-by w w' s.thread _ h.locks (ap (λ z. z.places) h.after) (ap (λ z. z.locks) h.after)
       (lasts-enters s.thread _ w.locks h.locks _ h.enters)
-  step_goes (lock h) = goes-by w w' s.thread _ h.locks (ap (λ z. z.places) h.after) (ap (λ z. z.locks) h.after)
+  own_goes (lock h) = goes-by w w' s.thread _ h.locks (ap (λ z. z.places) h.after) (ap (λ z. z.locks) h.after)
       (lasts-moves cases agree s.thread s.fair w.locks h.locks h.moves)
-  step_goes (find h) = goes-behind w w' h.mid (goes-enters w s.thread h.mid h.enters)
+  own_goes (find h) = goes-behind w w' h.mid (goes-enters w s.thread h.mid h.enters)
       (goes-beside h.mid w' s.thread _ (ap (λ z. z.places) h.finds.after) (ap (λ z. z.locks) h.finds.after))
-  step_goes (find_grows h) = goes-beside w w' s.thread _ (ap (λ z. z.places) h.after) (ap (λ z. z.locks) h.after)
-  step_goes (find_refused h) = goes-beside w w' s.thread _ (ap (λ z. z.places) h.after) (ap (λ z. z.locks) h.after)
-  step_goes (deed_appends h) = goes-beside w w' s.thread _ (ap (λ z. z.places) h.after) (ap (λ z. z.locks) h.after)
-  step_goes (deed_applies h) = goes-beside w w' s.thread _ (ap (λ z. z.places) h.after) (ap (λ z. z.locks) h.after)
-  step_goes (deed_views h) = goes-beside w w' s.thread _ (ap (λ z. z.places) h.after) (ap (λ z. z.locks) h.after)
-  step_goes (deed_reads h) = goes-beside w w' s.thread _ (ap (λ z. z.places) h.after) (ap (λ z. z.locks) h.after)
-  step_goes (deed_changes h) = goes-beside w w' s.thread _ (ap (λ z. z.places) h.after) (ap (λ z. z.locks) h.after)
-  step_goes (deed_fills h) = goes-beside w w' s.thread _ (ap (λ z. z.places) h.after) (ap (λ z. z.locks) h.after)
-  step_goes (downgrade h) = goes-by w w' s.thread _ h.locks (ap (λ z. z.places) h.after) (ap (λ z. z.locks) h.after)
+  own_goes (find_grows h) = goes-beside w w' s.thread _ (ap (λ z. z.places) h.after) (ap (λ z. z.locks) h.after)
+  own_goes (find_refused h) = goes-beside w w' s.thread _ (ap (λ z. z.places) h.after) (ap (λ z. z.locks) h.after)
+  own_goes (deed_appends h) = goes-beside w w' s.thread _ (ap (λ z. z.places) h.after) (ap (λ z. z.locks) h.after)
+  own_goes (deed_applies h) = goes-beside w w' s.thread _ (ap (λ z. z.places) h.after) (ap (λ z. z.locks) h.after)
+  own_goes (deed_views h) = goes-beside w w' s.thread _ (ap (λ z. z.places) h.after) (ap (λ z. z.locks) h.after)
+  own_goes (deed_reads h) = goes-beside w w' s.thread _ (ap (λ z. z.places) h.after) (ap (λ z. z.locks) h.after)
+  own_goes (deed_changes h) = goes-beside w w' s.thread _ (ap (λ z. z.places) h.after) (ap (λ z. z.locks) h.after)
+  own_goes (deed_fills h) = goes-beside w w' s.thread _ (ap (λ z. z.places) h.after) (ap (λ z. z.locks) h.after)
+  own_goes (downgrade h) = goes-by w w' s.thread _ h.locks (ap (λ z. z.places) h.after) (ap (λ z. z.locks) h.after)
       (lasts-starts cases agree s.thread _ _ s.fair w.locks h.locks h.turns)
-  step_goes (release h) = goes-by w w' s.thread _ h.locks (ap (λ z. z.places) h.after) (ap (λ z. z.locks) h.after)
+  own_goes (release h) = goes-by w w' s.thread _ h.locks (ap (λ z. z.places) h.after) (ap (λ z. z.locks) h.after)
       (lasts-starts cases agree s.thread _ _ s.fair w.locks h.locks h.gives)
-  step_goes (answers h) = goes-behind w w' h.mid (goes-concludes w s.thread h.mid h.leaves)
+  own_goes (answers h) = goes-behind w w' h.mid (goes-concludes w s.thread h.mid h.leaves)
       (goes-beside h.mid w' s.thread _ (ap (λ z. z.places) h.answers.after) (ap (λ z. z.locks) h.answers.after))
-  step_goes (visit_starts h) =
+  own_goes (visit_starts h) =
       let a = h.starts in
       goes-behind w w' h.mid (goes-let_go w s.thread h.mid h.leaves)
       (goes-by h.mid w' s.thread _ a.locks (ap (λ z. z.places) a.after) (ap (λ z. z.locks) a.after)
       (lasts-begins s.thread _ _ h.mid.locks a.locks a.begins))
-  step_goes (visit_parts h) = goes-behind w w' h.mid (goes-parts w s.thread h.mid h.enters)
+  own_goes (visit_parts h) = goes-behind w w' h.mid (goes-parts w s.thread h.mid h.enters)
       (gives h.mid phase.Part phase.Visit h.gives)
-  step_goes (visit_looks h) = goes-behind w w' h.mid (goes-let_in w s.thread h.mid h.enters) (looks h.mid h.looks)
-  step_goes (visit_seeks h) = goes-beside w w' s.thread _ (ap (λ z. z.places) h.after) (ap (λ z. z.locks) h.after)
-  step_goes (visit_does h) = goes-beside w w' s.thread _ (ap (λ z. z.places) h.after) (ap (λ z. z.locks) h.after)
-  step_goes (visit_gives h) = gives w phase.Give phase.Onward h
+  own_goes (visit_looks h) = goes-behind w w' h.mid (goes-let_in w s.thread h.mid h.enters) (looks h.mid h.looks)
+  own_goes (visit_seeks h) = goes-beside w w' s.thread _ (ap (λ z. z.places) h.after) (ap (λ z. z.locks) h.after)
+  own_goes (visit_does h) = goes-beside w w' s.thread _ (ap (λ z. z.places) h.after) (ap (λ z. z.locks) h.after)
+  own_goes (visit_gives h) = gives w phase.Give phase.Onward h
+
+  pub step_goes : IsStep x w s w' → Goes w w'
+  step_goes (by_itself mine h) = own_goes h
+  step_goes (by_deadline due h) = goes-by w w' s.thread _ h.locks (ap (λ z. z.places) h.after)
+      (ap (λ z. z.locks) h.after) (lasts-expires cases agree s.thread w.locks h.locks h.expires)
 
 -- WHAT IS KEPT
 

@@ -18,6 +18,7 @@ pub mod Bounds
 pub mod Drains
 pub mod LockFits
 pub mod Keeping
+pub mod OwnSteps
 pub mod Reached
 pub mod Refusing
 pub mod Absences

@@ -1,5 +1,6 @@
 -- The locks of shards fit together behind each act, and their sizes stay.
-use Rattle.std.proofs.Common.{◌≡◌, ℕ, Bool, slice_get, slice_set, sym, ap, ◌∙◌, subst}
+use Rattle.std.proofs.Common.{◌≡◌, ℕ, Bool, List, length, slice_get, slice_set, sym, ap, ◌∙◌, subst}
+use Rattle.lock_api_desk.specs.Desk.{DeskState}
 use Rattle.std.specs.Option.{option_map}
 use Rattle.std.proofs.lemmas.Option.{same_Some}
 use Rattle.parking_lot_protocol.specs.declared.act.CoreAnswer.{CoreAnswer}
@@ -11,10 +12,11 @@ use Rattle.mapworld_state.specs.declared.place.Phase.TheVariants as phase
 use Rattle.mapworld_state.specs.Locks.Fits.{LocksFit}
 use Rattle.mapworld_state.specs.Locks.Moves.{desk_after}
 use Rattle.mapworld_state.specs.Locks.Stands.{stand_of}
-use Rattle.mapworld_state.specs.Locks.Steps.{LockBegins, LockEnds, LockMoves, LockStarts}
+use Rattle.mapworld_state.specs.Locks.Steps.{LockBegins, LockEnds, LockExpires, LockMoves, LockStarts}
 use Rattle.mapworld_state.specs.Locks.Views.{Shown, held_at}
 use Rattle.mapworld_state.specs.Steps.{EntersBy}
-use Rattle.mapworld_state.proofs.LocksFacts.Lawful.{fit-begins, fit-ends, lawful-moves}
+use Rattle.mapworld_state.proofs.LocksFacts.Expiring.{expired_fit}
+use Rattle.mapworld_state.proofs.LocksFacts.Lawful.{fit-begins, fit-ends, lawful-expires, lawful-moves}
 use Rattle.mapworld_state.proofs.LocksFacts.Sizes.{KeepsSize, begins-size, ends-size, moves-size, same_size}
 use Rattle.mapworld_state.proofs.LocksFacts.Sizes.{starts-size}
 use Rattle.mapworld_state.proofs.LocksFacts.Stepping.{stepped_fit}
@@ -96,4 +98,16 @@ module _ (cases : StepsAreCases) (agree : Always OwnersAgree) where
   lasts-starts t shard call fair old new x = record {
     fit = λ fit. moves_fit t fair x.mid new (fit-begins t shard call old x.mid fit x.begins) x.moves;
     size = starts-size old new t shard call fair x;
+  }
+
+  -- a deadline comes
+  pub lasts-expires : (t : ℕ) (old new : Shown) → LockExpires t old new → Lasts old new
+  lasts-expires t old new e = record {
+    fit = λ fit. subst (λ (ds : List (DeskState (Unit {0}))). LocksFit (record { rows = new.rows; desks = ds }))
+        (sym e.desks) (expired_fit cases old fit t new.rows (lawful-expires t old new fit e) e.may);
+    size = record {
+      threads_are = e.whole.threads;
+      shards_are = ap length e.whole.kinds;
+      desks_are = ap length e.desks;
+    };
   }

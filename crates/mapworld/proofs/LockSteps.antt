@@ -13,7 +13,7 @@ use Rattle.parking_lot_machine.specs.Rows.{State, first_key, queue_at, second_ke
 use Rattle.parking_lot_machine_calls.specs.Stances.{core_act}
 use Rattle.mapworld_state.specs.Locks.Fits.{LocksFit}
 use Rattle.mapworld_state.specs.Locks.Footprints.{StepsTouchOneLock, TouchesOnly}
-use Rattle.mapworld_state.specs.Locks.Steps.{LockBegins, LockEnds, LockMoves, LockStarts}
+use Rattle.mapworld_state.specs.Locks.Steps.{LockBegins, LockEnds, LockExpires, LockMoves, LockStarts}
 use Rattle.mapworld_state.specs.Locks.Views.{Shown}
 use Rattle.mapworld_calls.proofs.Lists.{slice_get-set_other}
 use Rattle.mapworld_state.proofs.LocksFacts.Lawful.{fit-begins}
@@ -54,6 +54,16 @@ ends_keep t answer old new e i =
       second = ap (λ (u : State). queue_at u (second_key i)) became;
       desk = ap (λ (ds : List (DeskState _)). slice_get ds i) e.desks;
     }
+
+-- A DEADLINE COMES
+
+pub expires_keep : (t : ℕ) (old new : Shown) → LockExpires t old new → KeepsLocks old new
+expires_keep t old new e i = record {
+  word = e.words i;
+  first = e.queues (first_key i);
+  second = e.queues (second_key i);
+  desk = ap (λ (ds : List (DeskState _)). slice_get ds i) e.desks;
+}
 
 -- A CALL MOVES
 

@@ -1,5 +1,6 @@
 -- What holds of every reachable world.
-use Rattle.std.proofs.Common.{◌≡◌, ℕ, ◌≤◌, Bool, true, IsTrue, List, [], ◌∷◌, ◌++◌, length, None, refl, sym, ap, ◌∙◌}
+use Rattle.std.proofs.Common.{◌≡◌, ℕ, ◌≤◌, Bool, true, false, IsTrue, List, [], ◌∷◌, ◌++◌, length, None, refl, sym, ap}
+use Rattle.std.proofs.Common.{◌∙◌}
 use Rattle.std.proofs.Common.{subst, arith}
 use Rattle.std.specs.Cmp.{IsEquivalence}
 use Rattle.std.specs.Hash.{HashWrites}
@@ -18,11 +19,11 @@ use Rattle.mapworld_state.specs.declared.step.Step.{Step}
 use Rattle.mapworld_state.specs.Locks.Counts.{DesksCountAsWords}
 use Rattle.mapworld_state.specs.Locks.Footprints.{StepsTouchOneLock}
 use Rattle.mapworld_state.specs.Route.{key_route}
-use Rattle.mapworld_state.specs.Running.{can_move_in, StaysFixed}
+use Rattle.mapworld_state.specs.Running.{may_step, StaysFixed}
 use Rattle.mapworld_state.specs.State.{State}
 use Rattle.mapworld_state.specs.Steps.{IsStep}
-use Rattle.mapworld_state.specs.World.{setup_of, OnlyAddsTo}
-use Rattle.mapworld_state.proofs.InvariantFacts.Adding.{adds-more, adds-none, fixed-more, step-adds}
+use Rattle.mapworld_state.specs.World.{setup_of}
+use Rattle.mapworld_state.proofs.InvariantFacts.Adding.{fixed-more, step-adds}
 use Rattle.mapworld_state.proofs.InvariantFacts.CausesFacts.Keeping.{causes-new}
 use Rattle.mapworld_state.proofs.InvariantFacts.CausesFacts.Meeting.{sleepers-have_company, words-have_calls}
 use Rattle.mapworld_state.proofs.LocksFacts.Fresh.{fit-fresh}
@@ -43,10 +44,11 @@ use Rattle.mapworld.proofs.Beginnings.{are_idle, are_locks, new-sound}
 use Rattle.mapworld.proofs.Footprints.{step_atomic}
 use Rattle.mapworld.proofs.Growths.{of_new_key}
 use Rattle.mapworld.proofs.Guarding.{guards_are_owners}
-use Rattle.mapworld.proofs.Histories.{fixed-history}
+use Rattle.mapworld.proofs.Histories.{AddsTo, fixed-history, history-more, history-none}
 use Rattle.mapworld.proofs.Keeping.{IsKept, kept-sized, kept-step, kept-whole}
 use Rattle.mapworld.proofs.Outcomes.{hold_by_phase, world-agrees}
 use Rattle.mapworld.proofs.Overs.{stopped}
+use Rattle.mapworld.proofs.OwnSteps.{own-may}
 use Rattle.mapworld.proofs.Refusals.{accepted}
 
 -- ALONG A SCHEDULE
@@ -57,13 +59,18 @@ module _ {K V S D T A : Type 0} (x : Setup K V D T) where
   leads-on u [] v ts w same more = subst (λ z. LeadsTo x z ts w) same more
   leads-on u (s ∷ ss) v ts w (mid, moves, step, rest) more = (mid, moves, step, leads-on mid ss v ts w rest more)
 
-  pub leads-step : (w : State K V S D T A) (s : Step) (w' : State K V S D T A) → can_move_in w s.thread ≡ true
+  pub leads-step : (w : State K V S D T A) (s : Step) (w' : State K V S D T A) → may_step w s ≡ true
       → IsStep x w s w' → LeadsTo x w (s ∷ []) w'
   leads-step w s w' moves step = (w', moves, step, refl)
 
   drains-lead : (w : State K V S D T A) (ss : List Step) (w' : State K V S D T A) → Drains x w ss w' → LeadsTo x w ss w'
   drains-lead w [] w' same = same
-  drains-lead w (s ∷ ss) w' (mid, makes, rest) = (mid, makes.moves, makes.kind, drains-lead mid ss w' rest)
+  drains-lead w (s ∷ ss) w' (mid, makes, rest) = (
+    mid,
+    own-may w s makes.own ∙ makes.moves,
+    makes.kind,
+    drains-lead mid ss w' rest,
+  )
 
   module _ (cases : StepsAreCases) (agree : Always OwnersAgree) (lawful : Laws x) where
     pub kept-along : (w : State K V S D T A) (ss : List Step) (w' : State K V S D T A) → IsKept x w
@@ -81,32 +88,31 @@ module _ {K V S D T A : Type 0} (x : Setup K V D T) where
         fixed-more w mid w' (step-adds x w s mid kept.sound step).fixed
         (fixed-along mid ss w' (kept-step cases agree x lawful w s mid kept step) rest)
 
-    adds-from : (v w : State K V S D T A) (ss : List Step) (w' : State K V S D T A) → IsKept x w → OnlyAddsTo v w
-        → LeadsTo x w ss w' → OnlyAddsTo v w'
-    adds-from v w [] w' kept so same = subst (λ z. OnlyAddsTo v z) (sym same) so
+    adds-from : (v w : State K V S D T A) (ss : List Step) (w' : State K V S D T A) → IsKept x w → AddsTo v w
+        → LeadsTo x w ss w' → AddsTo v w'
+    adds-from v w [] w' kept so same = subst (λ z. AddsTo v z) (sym same) so
     adds-from v w (s ∷ ss) w' kept so (mid, moves, step, rest) =
         adds-from v mid ss w' (kept-step cases agree x lawful w s mid kept step)
-        (adds-more v w mid s so (step-adds x w s mid kept.sound step)) rest
+        (history-more v w mid s so (step-adds x w s mid kept.sound step)) rest
 
     adds-along : (w : State K V S D T A) (ss : List Step) (w' : State K V S D T A) → IsKept x w → LeadsTo x w ss w'
-        → OnlyAddsTo w w'
-    adds-along w ss w' kept leads = adds-from w w ss w' kept (adds-none w) leads
+        → AddsTo w w'
+    adds-along w ss w' kept leads = adds-from w w ss w' kept (history-none w) leads
 
-    -- the steps of one thread are paid for by those that are left
+    -- the steps of one thread, none of them a deadline, are paid for by those that are left
     lone-along : (t : ℕ) (w : State K V S D T A) (ss : List Step) (w' : State K V S D T A) → IsKept x w
-        → All (λ s. s.thread ≡ t) ss → LeadsTo x w ss w' → length ss ≤ left x w t
+        → All (λ s. (s.thread ≡ t) × (s.deadline ≡ false)) ss → LeadsTo x w ss w' → length ss ≤ left x w t
     lone-along t w [] w' kept own same = omega arith
     lone-along t w (s ∷ ss) w' kept own (mid, moves, step, rest) =
-        let one = All-head (λ (z : Step). z.thread ≡ t) s ss own in
+        let one = All-head (λ (z : Step). (z.thread ≡ t) × (z.deadline ≡ false)) s ss own in
         let more = lone-along t mid ss w' (kept-step cases agree x lawful w s mid kept step)
-        (All-tail (λ (z : Step). z.thread ≡ t) s ss own) rest in
+        (All-tail (λ (z : Step). (z.thread ≡ t) × (z.deadline ≡ false)) s ss own) rest in
         omega (
           arith,
           more,
-          steps_fall x lawful w s mid (kept-whole x w kept) step,
-          ap (left x mid) one,
-          ap
-              (left x w) one,
+          steps_fall x lawful w s mid (kept-whole x w kept) one.1 step,
+          ap (left x mid) one.0,
+          ap (left x w) one.0,
         )
 
 -- REACHABLE WORLDS
@@ -202,7 +208,7 @@ module _ {K V S H D T A : Type 0} (d : deed.Ghosts D K V T) (b : builder.Ghosts 
     }
 
     pub reachable-step : (w : State K V S D T A) (s : Step) (w' : State K V S D T A) → IsReachable d b h eq writes w
-        → can_move_in w s.thread ≡ true → IsStep (own w) w s w' → IsReachable d b h eq writes w'
+        → may_step w s ≡ true → IsStep (own w) w s w' → IsReachable d b h eq writes w'
     reachable-step w s w' r moves step = reachable-on w (s ∷ []) w' r (leads-step (own w) w s w' moves step)
 
     pub reachable-drained : (w : State K V S D T A) (n : ℕ) (w' : State K V S D T A) → IsReachable d b h eq writes w
@@ -234,6 +240,7 @@ module _ {K V S H D T A : Type 0} (d : deed.Ghosts D K V T) (b : builder.Ghosts 
           agrees = world-agrees d b h eq writes w lawful respects k.sound;
           placed = k.sound.placed;
           causes = k.causes.locked;
+          late = k.causes.missed;
           used = words-have_calls (own w) w k.sound k.locks (sym k.sizes.threads_are) k.causes;
           waits = sleepers-have_company (own w) w k.sound k.locks (sym k.sizes.threads_are) k.causes;
           guards = guards_are_owners count w.locks k.locks;

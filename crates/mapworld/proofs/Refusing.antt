@@ -28,6 +28,7 @@ use Rattle.mapworld_state.specs.Places.{Place}
 use Rattle.mapworld_state.specs.Shards.{has_room}
 use Rattle.mapworld_state.specs.Sound.{Claim, Sound}
 use Rattle.mapworld_state.specs.State.{State, threads_of}
+use Rattle.mapworld_state.specs.Steps.{Expires, IsOwnStep, by_itself, by_deadline}
 use Rattle.mapworld_state.specs.Steps.{Enters, IsRefusedGrowth, IsRefusedVisit, IsStep, Leaves, LooksAround, MovesLock}
 use Rattle.mapworld_state.specs.Steps.{Reaches, Replies, Starts, start, lock, find, find_grows, find_refused}
 use Rattle.mapworld_state.specs.Steps.{deed_appends, deed_applies, deed_views, deed_reads, deed_changes, deed_fills}
@@ -70,7 +71,9 @@ module _ (A : Type 0) {D K V T : Type 0} (deeds : Deeds D K V T) where
 
   keyed-told : (k : Keyed K V D) (p : K × V) → is_refusal (keyed_answer deeds {A = A} k (Some p)) ≡ false
   keyed-told (keyed.Insert k w) p = refl
+  keyed-told (keyed.InsertUntil k w) p = refl
   keyed-told (keyed.Remove k) p = refl
+  keyed-told (keyed.RemoveUntil k) p = refl
   keyed-told (keyed.RemoveIf k d) p = either (deeds.keep d p.0 p.1) answer.None (answer.Pair p.0 p.1) refl refl
   keyed-told (keyed.RemoveIfMut k d) p = either (deeds.keep d p.0 p.1) answer.None
       (answer.Pair p.0 (deeds.effect d p.0 p.1)) refl refl
@@ -83,8 +86,13 @@ found-plain : {K V D : Type 0} (T A : Type 0) (r : Request K V D) (there room : 
 found-plain T A (request.Keyed (keyed.Insert k v)) true room = record { told = refl; in_ = refl }
 found-plain T A (request.Keyed (keyed.Insert k v)) false true = record { told = refl; in_ = refl }
 found-plain T A (request.Keyed (keyed.Insert k v)) false false = record { told = refl; in_ = refl }
+found-plain T A (request.Keyed (keyed.InsertUntil k v)) true room = record { told = refl; in_ = refl }
+found-plain T A (request.Keyed (keyed.InsertUntil k v)) false true = record { told = refl; in_ = refl }
+found-plain T A (request.Keyed (keyed.InsertUntil k v)) false false = record { told = refl; in_ = refl }
 found-plain T A (request.Keyed (keyed.Remove k)) true room = record { told = refl; in_ = refl }
 found-plain T A (request.Keyed (keyed.Remove k)) false room = record { told = refl; in_ = refl }
+found-plain T A (request.Keyed (keyed.RemoveUntil k)) true room = record { told = refl; in_ = refl }
+found-plain T A (request.Keyed (keyed.RemoveUntil k)) false room = record { told = refl; in_ = refl }
 found-plain T A (request.Keyed (keyed.RemoveIf k d)) true room = record { told = refl; in_ = refl }
 found-plain T A (request.Keyed (keyed.RemoveIf k d)) false room = record { told = refl; in_ = refl }
 found-plain T A (request.Keyed (keyed.RemoveIfMut k d)) true room = record { told = refl; in_ = refl }
@@ -97,7 +105,9 @@ found-plain T A (request.Keyed (keyed.ContainsKey k)) true room = record { told 
 found-plain T A (request.Keyed (keyed.ContainsKey k)) false room = record { told = refl; in_ = refl }
 found-plain T A (request.Begin b) true room = record { told = refl; in_ = refl }
 found-plain T A (request.Begin (begin.Get k)) false room = record { told = refl; in_ = refl }
+found-plain T A (request.Begin (begin.GetUntil k)) false room = record { told = refl; in_ = refl }
 found-plain T A (request.Begin (begin.GetMut k)) false room = record { told = refl; in_ = refl }
+found-plain T A (request.Begin (begin.GetMutUntil k)) false room = record { told = refl; in_ = refl }
 found-plain T A (request.Begin (begin.TryGet k)) false room = record { told = refl; in_ = refl }
 found-plain T A (request.Begin (begin.TryGetMut k)) false room = record { told = refl; in_ = refl }
 found-plain T A (request.Begin (begin.Entry k)) false true = record { told = refl; in_ = refl }
@@ -132,10 +142,11 @@ module _ {K V S D T A : Type 0} (x : Setup K V D T) (w : State K V S D T A) (s :
     grown : (g : IsRefusedGrowth x w s w') → now.next ≡ g.place.next → now.started ≡ g.place.started → Why now
     keyless : (a : Ask K V D) → ask_at x s.thread now.next ≡ Some a → key_of a ≡ None → Why now
 
-  -- it has started, or goes on in its admission
+  -- it has started, or goes on in its admission, or its deadline has come there
   pub data Asked (now : Place K V D T A) : Type 0 where
     by_start : (h : Starts x w s w') → now.phase ≡ start_phase h.ask h.place.guard → Asked now
     by_move : (h : MovesLock x w s w') → h.place ≡ now → Asked now
+    by_expiry : (h : Expires x w s w') → h.place ≡ now → Asked now
 
   -- so a step does it to its thread, and it replies or it doesn't
   pub record Tells : Type 0 where
@@ -224,56 +235,62 @@ module _ {K V S D T A : Type 0} (x : Setup K V D T) (w : State K V S D T A) (s :
 
     grown-plain : (c : Growth K V) → IsPlain (found_phase {D = D} {T = T} {A = A} (request_of c) false true)
     grown-plain (growth.Insert k v) = record { told = refl; in_ = refl }
+    grown-plain (growth.InsertUntil k v) = record { told = refl; in_ = refl }
     grown-plain (growth.Entry k) = record { told = refl; in_ = refl }
     grown-plain (growth.TryEntry k) = record { told = refl; in_ = refl }
 
-    pub step-tells : IsStep x w s w' → Tells
-    step-tells (start h) = tells w h.place _ h.stands (ap (λ z. z.places) h.after)
+    own-tells : IsOwnStep x w s w' → Tells
+    own-tells (start h) = tells w h.place _ h.stands (ap (λ z. z.places) h.after)
         (inl (ap (λ z. z.replies) h.after)) (λ on. started h h.ask refl _ refl refl on) (λ on. by_start h refl)
-    step-tells (lock h) = tells w h.place _ h.stands (ap (λ z. z.places) h.after) (inl (ap (λ z. z.replies) h.after))
+    own-tells (lock h) = tells w h.place _ h.stands (ap (λ z. z.places) h.after) (inl (ap (λ z. z.replies) h.after))
         (λ on. before h.place h.stands on refl refl) (λ on. by_move h refl)
-    step-tells (find h) =
+    own-tells (find h) =
         let a = h.finds in
         tells-no h.mid a.place _ a.stands (ap (λ z. z.places) a.after) (entered-replies h.mid h.enters)
         (ap (λ z. z.replies) a.after) (found-plain T A a.request _ (has_room a.table))
-    step-tells (find_grows h) = tells-no w h.place _ h.stands (ap (λ z. z.places) h.after) refl
+    own-tells (find_grows h) = tells-no w h.place _ h.stands (ap (λ z. z.places) h.after) refl
         (ap (λ z. z.replies) h.after) (grown-plain h.call)
-    step-tells (find_refused h) = tells-out w h.place _ h.stands (ap (λ z. z.places) h.after)
+    own-tells (find_refused h) = tells-out w h.place _ h.stands (ap (λ z. z.places) h.after)
         (inl (ap (λ z. z.replies) h.after)) (λ on. grown h refl refl) refl
-    step-tells (deed_appends h) = tells-no w h.place _ h.stands (ap (λ z. z.places) h.after) refl
+    own-tells (deed_appends h) = tells-no w h.place _ h.stands (ap (λ z. z.places) h.after) refl
         (ap (λ z. z.replies) h.after) (record { told = refl; in_ = refl })
-    step-tells (deed_applies h) = tells-no w h.place _ h.stands (ap (λ z. z.places) h.after) refl
+    own-tells (deed_applies h) = tells-no w h.place _ h.stands (ap (λ z. z.places) h.after) refl
         (ap (λ z. z.replies) h.after) (record { told = keyed-told A x.deeds h.call h.pair; in_ = refl })
-    step-tells (deed_views h) = tells-no w h.place _ h.stands (ap (λ z. z.places) h.after) refl
+    own-tells (deed_views h) = tells-no w h.place _ h.stands (ap (λ z. z.places) h.after) refl
         (ap (λ z. z.replies) h.after) (record { told = refl; in_ = refl })
-    step-tells (deed_reads h) = tells-no w h.place _ h.stands (ap (λ z. z.places) h.after) refl
+    own-tells (deed_reads h) = tells-no w h.place _ h.stands (ap (λ z. z.places) h.after) refl
         (ap (λ z. z.replies) h.after) (record { told = refl; in_ = refl })
-    step-tells (deed_changes h) =
+    own-tells (deed_changes h) =
         tells-out w h.place _ h.stands (ap (λ z. z.places) h.after) (inl (ap (λ z. z.replies) h.after))
         (λ on. keyless (ask.Held h.call) (claims w sound h.place h.stands (phase.Change h.call) h.before).1.asked
         refl) (changed-asks D (ends_guard h.call) _)
-    step-tells (deed_fills h) = tells-no w h.place _ h.stands (ap (λ z. z.places) h.after) refl
+    own-tells (deed_fills h) = tells-no w h.place _ h.stands (ap (λ z. z.places) h.after) refl
         (ap (λ z. z.replies) h.after) (record { told = refl; in_ = refl })
-    step-tells (downgrade h) = tells-no w h.place _ h.stands (ap (λ z. z.places) h.after) refl
+    own-tells (downgrade h) = tells-no w h.place _ h.stands (ap (λ z. z.places) h.after) refl
         (ap (λ z. z.replies) h.after) (record { told = refl; in_ = refl })
-    step-tells (release h) =
+    own-tells (release h) =
         tells-out w h.place _ h.stands (ap (λ z. z.places) h.after) (inl (ap (λ z. z.replies) h.after))
         (λ on. before h.place h.stands (ap refuses h.before ∙ on) refl refl) refl
-    step-tells (answers h) =
+    own-tells (answers h) =
         let a = h.answers in
         tells-out h.mid a.place _ a.stands (ap (λ z. z.places) a.after) (inr h) (λ on. never false refl on) refl
-    step-tells (visit_starts h) = let a = h.starts in tells-no h.mid a.place _ a.stands (ap (λ z. z.places) a.after)
+    own-tells (visit_starts h) = let a = h.starts in tells-no h.mid a.place _ a.stands (ap (λ z. z.places) a.after)
         (left-replies h.mid h.leaves) (ap (λ z. z.replies) a.after) (record { told = refl; in_ = refl })
-    step-tells (visit_parts h) = let a = h.gives in tells-no h.mid a.place _ a.stands (ap (λ z. z.places) a.after)
+    own-tells (visit_parts h) = let a = h.gives in tells-no h.mid a.place _ a.stands (ap (λ z. z.places) a.after)
         (parted-replies h.mid h.enters) (ap (λ z. z.replies) a.after) (record { told = refl; in_ = refl })
-    step-tells (visit_looks h) = looks h.mid (let_in-replies h.mid h.enters)
+    own-tells (visit_looks h) = looks h.mid (let_in-replies h.mid h.enters)
         (sound-let_in x w s.thread h.mid sound h.enters) h.looks
-    step-tells (visit_seeks h) = tells-no w h.place _ h.stands (ap (λ z. z.places) h.after) refl
+    own-tells (visit_seeks h) = tells-no w h.place _ h.stands (ap (λ z. z.places) h.after) refl
         (ap (λ z. z.replies) h.after) (record { told = refl; in_ = refl })
-    step-tells (visit_does h) =
+    own-tells (visit_does h) =
         tells-out w h.place _ h.stands (ap (λ z. z.places) h.after) (inl (ap (λ z. z.replies) h.after))
         (λ on. keyless (ask.Walk h.walk) (claims w sound h.place h.stands (phase.Item h.walk) h.before).0.asked
         refl)
         (leads-asks h.walk _ _ _ _ h.next h.reads h.leads)
-    step-tells (visit_gives h) = tells-no w h.place _ h.stands (ap (λ z. z.places) h.after) refl
+    own-tells (visit_gives h) = tells-no w h.place _ h.stands (ap (λ z. z.places) h.after) refl
         (ap (λ z. z.replies) h.after) (record { told = refl; in_ = refl })
+
+    pub step-tells : IsStep x w s w' → Tells
+    step-tells (by_itself mine step) = own-tells step
+    step-tells (by_deadline due h) = tells w h.place _ h.stands (ap (λ z. z.places) h.after)
+        (inl (ap (λ z. z.replies) h.after)) (λ on. before h.place h.stands on refl refl) (λ on. by_expiry h refl)

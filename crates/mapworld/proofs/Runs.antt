@@ -8,7 +8,7 @@ use Rattle.mapworld_state.specs.Steps.{IsStep}
 use Rattle.mapworld_state.specs.Footprint.{HasFootprint}
 use Rattle.mapworld_state.specs.declared.faults.fault.RunFault.{RunFault}
 use Rattle.mapworld_state.specs.declared.faults.fault.RunFault.TheVariants.{CannotMove, NoSuchThread, StepsShort}
-use Rattle.mapworld_state.specs.Running.{can_move_in, has_numbers, refusal, Ran}
+use Rattle.mapworld_state.specs.Running.{has_numbers, may_step, refusal, Ran}
 use Rattle.mapworld.specs.Reachable.{LeadsTo}
 use Rattle.std.proofs.lemmas.Option.{none-some}
 
@@ -31,10 +31,10 @@ module _ {K V S D T A : Type 0} (x : Setup K V D T) where
             (ap (λ k. refusal w' k s) (sym here) ∙ free_) step footprint,
       )
 
--- a step that isn't refused is of a thread that can move
+-- a step that isn't refused may be made
 free-moves : {K V S D T A : Type 0} (w : State K V S D T A) (n : ℕ) (s : Step) → refusal w n s ≡ None
-    → can_move_in w s.thread ≡ true
-free-moves w n s e = by (nat_lt s.thread (length w.programs)) (can_move_in w s.thread) (has_numbers w) (StepsShort n)
+    → may_step w s ≡ true
+free-moves w n s e = by (nat_lt s.thread (length w.programs)) (may_step w s) (has_numbers w) (StepsShort n)
     (CannotMove n) (NoSuchThread n) e
   where
     by : (a b c : Bool) (f g h : RunFault) → (if a then (if b then (if c then None else Some f) else Some g) else

@@ -1,7 +1,8 @@
 -- The call of a try never sleeps at its shard's lock.
-use Rattle.std.proofs.Common.{◌≡◌, ◌≢◌, ℕ, ◌-◌, inl, inr, Bool, true, false, cond, nat_lt, ◌==◌, Option, Some, None}
+use Rattle.std.proofs.Common.{◌≡◌, ◌≢◌, ℕ, ◌-◌, inl, inr, Bool, true, false, cond, nat_lt, ◌==◌, ◌&&◌, Option, Some}
+use Rattle.std.proofs.Common.{None}
 use Rattle.std.proofs.Common.{slice_set, refl, sym, ap, ◌∙◌, subst}
-use Rattle.std.specs.Option.{option_map, option_map_or}
+use Rattle.std.specs.Option.{option_map}
 use Rattle.std.proofs.lemmas.Bool.{cases_eq, false≢true}
 use Rattle.std.proofs.lemmas.Option.{none-some}
 use Rattle.parking_lot_protocol.specs.declared.act.Act.{Act}
@@ -16,18 +17,21 @@ use Rattle.parking_lot_machine_calls.specs.declared.calls.LockKind.{LockKind}
 use Rattle.parking_lot_machine_calls.specs.declared.open_call.Call.{Call}
 use Rattle.parking_lot_machine_calls.specs.declared.seat.Core.{Core}
 use Rattle.parking_lot_machine_calls.specs.Beginnings.{core_of}
+use Rattle.parking_lot_machine_calls.specs.Calls.{is_timed}
+use Rattle.parking_lot_machine_calls.specs.LateCalls.{sleeps_in_time}
 use Rattle.parking_lot_machine_calls.specs.CallActs.{hears}
 use Rattle.parking_lot_machine_calls.specs.Kinds.{kind_in}
 use Rattle.parking_lot_machine_calls.specs.Stances.{Asleep, Stance, core_act, core_next, rw_stance, stance}
-use Rattle.parking_lot_machine.specs.Machines.{Became, call_for, end_of, is_asleep, is_asleep_in, sleeps}
+use Rattle.parking_lot_machine.specs.Machines.{Became, call_for, end_of, is_asleep, is_asleep_in, may_expire_in, sleeps}
 use Rattle.parking_lot_machine.proofs.InTime.{awake_in_time}
 use Rattle.parking_lot_machine.specs.RowActs.{exchanged, loaded, with_call, with_word}
 use Rattle.parking_lot_machine.specs.Rows.{State, call_at, state, word_at}
+use Rattle.mapworld_state.specs.declared.holds.Manner.{Manner}
 use Rattle.mapworld_state.specs.declared.holds.Mode.{Mode}
 use Rattle.mapworld_state.specs.declared.holds.Mode.TheVariants.{Shared, Exclusive}
-use Rattle.mapworld_state.specs.Holds.{wants_for}
+use Rattle.mapworld_state.specs.Holds.{tries_so, wants_for}
 use Rattle.mapworld_state.specs.Locks.Fits.{LocksFit}
-use Rattle.mapworld_state.specs.Locks.Steps.{HasActed, LockBegins, LockMoves, LockStarts}
+use Rattle.mapworld_state.specs.Locks.Steps.{HasActed, LockBegins, LockExpires, LockMoves, LockStarts}
 use Rattle.mapworld_state.specs.Locks.Views.{Shown}
 use Rattle.mapworld_state.proofs.InvariantFacts.CausesFacts.Looking.{call_of, set-here}
 use Rattle.mapworld_state.proofs.LocksFacts.Lawful.{fit-begins}
@@ -141,21 +145,34 @@ module _ (t : ℕ) where
 
   -- ITS OWN
 
-  -- a try begins so
-  begun-up : (tries : Bool) → tries ≡ true → (k : LockKind) (mode : Mode)
-      → is_up (core_next (core_of k (wants_for tries mode)) ActResult.Start) ≡ true
-  begun-up true is k Shared = refl
-  begun-up true is k Exclusive = refl
-  begun-up false is k mode = absurd (false≢true is)
+  -- a deadline comes only in a call that sleeps
+  pub expires-up : (old new : Shown) → LockExpires t old new → stays_up (core_in old t) ≡ true
+      → stays_up (core_in new t) ≡ true
+  expires-up old new h up =
+      let on : is_up h.call.core ≡ true = sym (ap (λ o. stays_up (option_map (λ c. c.core) o)) h.here) ∙ up in
+      absurd (false≢true (sym (awake_in_time h.call.core (act-up h.call.core on))
+      ∙ both-true (is_timed h.call.asked) (sleeps_in_time h.call.core) (sym (ap may_expire_in h.here) ∙ h.may)))
+    where
+      both-true : (a b : Bool) → a && b ≡ true → b ≡ true
+      both-true true b e = e
+      both-true false b e = absurd (false≢true e)
 
-  pub begins-up : (shard : ℕ) (tries : Bool) (mode : Mode) (old new : Shown) → tries ≡ true
-      → LockBegins t shard (wants_for tries mode) old new → stays_up (core_in new t) ≡ true
-  begins-up shard tries mode old new is h =
+  -- a try begins so
+  begun-up : (manner : Manner) → tries_so manner ≡ true → (k : LockKind) (mode : Mode)
+      → is_up (core_next (core_of k (wants_for manner mode)) ActResult.Start) ≡ true
+  begun-up Manner.Tries is k Shared = refl
+  begun-up Manner.Tries is k Exclusive = refl
+  begun-up Manner.Waits is k mode = absurd (false≢true is)
+  begun-up Manner.UntilDeadline is k mode = absurd (false≢true is)
+
+  pub begins-up : (shard : ℕ) (manner : Manner) (mode : Mode) (old new : Shown) → tries_so manner ≡ true
+      → LockBegins t shard (wants_for manner mode) old new → stays_up (core_in new t) ≡ true
+  begins-up shard manner mode old new is h =
       ap (λ (u : State). stays_up (option_map (λ c. c.core) (call_at u t))) h.became
       ∙ elim (set-here (state old.rows).calls t (Some
-      (hears (call_for (state old.rows) t shard (wants_for tries mode)) ActResult.Start))) [
+      (hears (call_for (state old.rows) t shard (wants_for manner mode)) ActResult.Start))) [
         | inl here ↦ ap (λ o. stays_up (option_map (λ c. c.core) o)) here
-            ∙ begun-up tries is (kind_in (state old.rows).kinds shard) mode
+            ∙ begun-up manner is (kind_in (state old.rows).kinds shard) mode
         | inr none ↦ ap (λ o. stays_up (option_map (λ c. c.core) o)) none
       ]
 

@@ -26,7 +26,7 @@ IsWaiting locks t shard =
 abbrev pub IsAsking : {K V D T A : Type 0} → Phase K V D T A → Type 0
 IsAsking {K} {V} {D} f = ((r : Request K V D) × (f ≡ phase.Admit r)) ⊎ ((g : Walk D) × (f ≡ phase.Reach g))
 
--- the thread is before an admission, and sleeps in the call of its shard's lock
+-- the thread is before an admission, and sleeps in the call of its shard's lock, in which no deadline of it has come
 pub record IsAsleep {K V S D T A : Type 0} (w : State K V S D T A) (t : ℕ) : Type 0 where
   pub place : Place K V D T A
   pub stands : slice_get w.places t ≡ Some place

@@ -1,5 +1,5 @@
 -- What one step does, whatever its kind: one thing, of its own thread.
-use Rattle.std.specs.Prelude.{◌≡◌, ◌≢◌, ℕ, Bool, [], ◌∷◌, ◌++◌, Option, Some, None, slice_get}
+use Rattle.std.specs.Prelude.{◌≡◌, ◌≢◌, ◌⊎◌, ℕ, Bool, true, false, [], ◌∷◌, ◌++◌, Option, Some, None, slice_get}
 use Rattle.std.specs.Option.{option_map}
 use Rattle.parking_lot_machine_calls.specs.declared.seat.Core.{Core}
 use Rattle.parking_lot_machine.specs.Rows.{call_at, state}
@@ -48,9 +48,17 @@ module _ {K V S D T A : Type 0} (eq : K → K → Bool) (w : State K V S D T A) 
         → ChangesLock w.locks w'.locks shard → DoesOne
     answers : IsReplied → KeepsPairs eq w w' → KeepsLocks w.locks w'.locks → DoesOne
 
-  -- and no other thread's place is another
+  -- its deadline comes: no call of another thread goes on, and no pair, no word and no queue is another
+  pub record Comes : Type 0 where
+    pub stays : StaysInCall
+    pub pairs : KeepsPairs eq w w'
+    pub locks : KeepsLocks w.locks w'.locks
+    pub alone : (t : ℕ) → t ≢ s.thread → core_in w'.locks t ≡ core_in w.locks t
+
+  -- a step of the thread's own does one thing, and one that is its deadline lets that come; and no other thread's place
+  -- is another
   pub record IsAtomic : Type 0 where
     pub places : (t : ℕ) → t ≢ s.thread → slice_get w'.places t ≡ slice_get w.places t
     pub calls : KeepsCalls s.thread w.locks w'.locks
     pub steps : w'.steps ≡ w.steps ++ s ∷ []
-    pub does : DoesOne
+    pub does : ((s.deadline ≡ false) × DoesOne) ⊎ ((s.deadline ≡ true) × Comes)

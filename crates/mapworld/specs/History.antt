@@ -1,6 +1,6 @@
 -- A world's history, as a caller sees it, and what is promised of every history: that it is linearizable, that it only
--- grows, and that refused tries have a cause.
-use Rattle.std.specs.Prelude.{◌≡◌, ℕ, Bool, List, length, Option}
+-- grows, that refused tries have a cause, and that calls give up only behind their deadlines.
+use Rattle.std.specs.Prelude.{◌≡◌, ℕ, Bool, List, ◌++◌, length, Option}
 use Rattle.std.specs.Hash.{HashWrites}
 use Rattle.std.specs.declared.hash.BuildHasher as builder
 use Rattle.std.specs.declared.hash.Hasher as hasher
@@ -9,11 +9,12 @@ use Rattle.mapworld_calls.specs.declared.block.Block.{Block}
 use Rattle.mapworld_calls.specs.declared.deed.Deed as deed
 use Rattle.mapworld_calls.specs.declared.reply.Reply.{Reply}
 use Rattle.mapworld_calls.specs.Agrees.{Agrees}
+use Rattle.mapworld_calls.specs.Deadlines.{LockedHaveDeadlines}
 use Rattle.mapworld_calls.specs.Placed.{OnlyAdds, WellPlaced}
 use Rattle.mapworld_calls.specs.Setup.{Setup}
 use Rattle.mapworld_calls.specs.Shards.{LockedHaveCauses}
 use Rattle.mapworld_state.specs.Route.{key_route}
-use Rattle.mapworld_state.specs.State.{State, pairs_of, started_of, threads_of}
+use Rattle.mapworld_state.specs.State.{State, deadlines_of, pairs_of, started_of, threads_of}
 use Rattle.mapworld_state.specs.World.{deeds_of}
 
 pub record History (K V S D T A : Type 0) : Type 0 where
@@ -24,6 +25,8 @@ pub record History (K V S D T A : Type 0) : Type 0 where
   pub programs : List (List (Ask K V D))
   -- the thread of each step so far
   pub steps : List ℕ
+  -- of each step so far the thread whose deadline it was, if it was one
+  pub deadlines : List (Option ℕ)
   -- at which step the call of a thread has started, while it isn't answered
   pub started : ℕ → Option ℕ
   -- the operations of the sequential map, in the order of their linearization points, and the answers, in the order in
@@ -41,6 +44,7 @@ history_of w = record {
   opening = w.opening;
   programs = w.programs;
   steps = threads_of w;
+  deadlines = deadlines_of w;
   started = started_of w;
   blocks = w.blocks;
   replies = w.replies;
@@ -72,9 +76,14 @@ module _ {K V S H D T A : Type 0} (d : deed.Ghosts D K V T) (b : builder.Ghosts 
   abbrev pub HistoryHasCauses : Type 0
   HistoryHasCauses = LockedHaveCauses setup_in past.started past.blocks past.replies
 
--- steps, blocks and replies of the one history are still those of the other, which may have more of them
+  -- while each call with a deadline that was answered `Locked` was under way, its thread's deadline came
+  abbrev pub HistoryHasDeadlines : Type 0
+  HistoryHasDeadlines = LockedHaveDeadlines setup_in past.deadlines past.replies
+
+-- steps, deadlines, blocks and replies of the one history are still those of the other, which may have more of them
 abbrev pub HistoryAddsTo : {K V S D T A : Type 0} → History K V S D T A → History K V S D T A → Type 0
 HistoryAddsTo past now = OnlyAdds past.steps now.steps past.blocks now.blocks past.replies now.replies
+    × ((more : List (Option ℕ)) × (now.deadlines ≡ past.deadlines ++ more))
 
 -- both are of a world that was made so
 pub record HistoryStaysFixed {K V S D T A : Type 0} (past now : History K V S D T A) : Type 0 where

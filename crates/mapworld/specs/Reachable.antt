@@ -8,7 +8,7 @@ use Rattle.mapworld_calls.specs.Setup.{Setup}
 use Rattle.mapworld_state.specs.declared.step.Step.{Step}
 use Rattle.mapworld_state.specs.Core.{state_of}
 use Rattle.mapworld_state.specs.declared.world_core.Core.{Core}
-use Rattle.mapworld_state.specs.Running.{can_move_in}
+use Rattle.mapworld_state.specs.Running.{may_step}
 use Rattle.mapworld_state.specs.State.{State}
 use Rattle.mapworld_state.specs.Steps.{IsStep}
 use Rattle.mapworld_state.specs.World.{setup_of}
@@ -26,10 +26,10 @@ pub record IsInitial {K V S D T A : Type 0} (x : Setup K V D T) (w : State K V S
   pub filled : AreFilled x.eq x.route w.opening w.tables
 
 -- the schedule leads from the one state to the other: its steps are made one after another, each of one kind, and of a
--- thread that can move then
+-- thread that can move then, or whose deadline may come
 abbrev pub LeadsTo : {K V S D T A : Type 0} → Setup K V D T → State K V S D T A → List Step → State K V S D T A → Type 0
 LeadsTo x w [] w' = w' ≡ w
-LeadsTo {K} {V} {S} {D} {T} {A} x w (s ∷ steps) w' = (mid : State K V S D T A) × (can_move_in w s.thread ≡ true)
+LeadsTo {K} {V} {S} {D} {T} {A} x w (s ∷ steps) w' = (mid : State K V S D T A) × (may_step w s ≡ true)
     × IsStep x w s mid × LeadsTo x mid steps w'
 
 -- a schedule leads there from a new world

@@ -31,7 +31,7 @@ use Rattle.mapworld.specs.Progress.Rest.{IsAtRest}
 use Rattle.mapworld.specs.Atomic.{IsAtomic}
 use Rattle.mapworld.specs.Guarded.{GuardsAreOwners}
 use Rattle.mapworld.specs.History.{history_of, HistoryAddsTo, HistoryAgrees, HistoryHasCauses, HistoryIsPlaced}
-use Rattle.mapworld.specs.History.{HistoryStaysFixed}
+use Rattle.mapworld.specs.History.{HistoryHasDeadlines, HistoryStaysFixed}
 use Rattle.mapworld.specs.Over.{IsOver}
 use Rattle.mapworld.specs.Reachable.{IsReachable, LeadsTo}
 
@@ -56,6 +56,7 @@ module _ {K V S H D T : Type 0} (A : Type 0) (d : deed.Ghosts D K V T) (b : buil
     pub agrees : HistoryAgrees d b h eq writes (history_of w)
     pub placed : HistoryIsPlaced d b h eq writes (history_of w)
     pub causes : HistoryHasCauses d b h eq writes (history_of w)
+    pub late : HistoryHasDeadlines d b h eq writes (history_of w)
     pub used : TakenShardsAreUsed d b h eq writes w
     pub waits : NobodyWaitsAlone d b h eq writes w
     pub guards : GuardsAreOwners w.locks
@@ -93,11 +94,11 @@ module _ {K V S H D T : Type 0} (A : Type 0) (d : deed.Ghosts D K V T) (b : buil
   abbrev pub FinishedWorldsAreAtRest : Type 0
   FinishedWorldsAreAtRest = (w : State K V S D T A) → IsReachable d b h eq writes w → IsOver w → IsAtRest w
 
-  -- A schedule of one thread, whichever of its steps are fair, has fewer steps than the bound. So a thread that is
-  -- stepped alone comes to where it can't move.
+  -- A schedule of one thread without deadlines, whichever of its steps are fair, has fewer steps than the bound. So a
+  -- thread that is stepped alone comes to where it can't move. Of deadlines the bound says nothing.
   abbrev pub LoneThreadsStop : Type 0
   LoneThreadsStop = (w : State K V S D T A) (t : ℕ) (steps : List Step) (w' : State K V S D T A)
-      → IsReachable d b h eq writes w → All (λ s. s.thread ≡ t) steps
+      → IsReachable d b h eq writes w → All (λ s. (s.thread ≡ t) × (s.deadline ≡ false)) steps
       → LeadsTo (setup_of d b h eq writes w) w steps w' → length steps < bound_of w
 
   -- a thread whose call is a try, or whose next call is one, is never asleep
@@ -106,8 +107,8 @@ module _ {K V S H D T : Type 0} (A : Type 0) (d : deed.Ghosts D K V T) (b : buil
       → ask_at (setup_of d b h eq writes w) t (answered_of w.replies t) ≡ Some (ask.Begin g) → is_try g ≡ true
       → status_of w t ≢ status.Asleep
 
-  -- a step of any kind does one thing: it starts a call, looks, changes one pair, acts at one lock or answers, and
-  -- wakes no more than one thread
+  -- a step of any kind does one thing: it starts a call, looks, changes one pair, acts at one lock or answers, or is
+  -- its thread's deadline, and wakes no more than one thread
   abbrev pub ReachableStepsAreAtomic : Type 0
   ReachableStepsAreAtomic = (w : State K V S D T A) (s : Step) (w' : State K V S D T A)
       → IsReachable d b h eq writes w → IsStep (setup_of d b h eq writes w) w s w' → IsAtomic eq w s w'

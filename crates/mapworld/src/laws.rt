@@ -104,8 +104,8 @@ pub fn finished_worlds_are_at_rest<K: Eq + Hash, V, S: BuildHasher, D: Deed<K, V
     laws::somebody_can_move();
 }
 
-/// From every reachable state a thread that is stepped alone, with any choice of fair steps, can no longer move after
-/// fewer steps than the bound.
+/// From every reachable state a thread that is stepped alone, with any choice of fair steps and without deadlines, can
+/// no longer move after fewer steps than the bound.
 pub fn lone_threads_stop<K: Eq + Hash, V, S: BuildHasher, D: Deed<K, V>, A>()
     ensures { LoneThreadsStop A D.Deed S.BuildHasher S.Hasher.Hasher K.eq K.hash_input }
 {
@@ -115,8 +115,8 @@ pub fn lone_threads_stop<K: Eq + Hash, V, S: BuildHasher, D: Deed<K, V>, A>()
 }
 
 /// A step from a reachable state does one thing: it starts a call, or looks, or changes one key's pair, or changes of
-/// one shard's lock the word or one of its queues, or answers its thread's call. No other thread's place is another,
-/// and of the calls of others at locks at most one goes on, which it wakes.
+/// one shard's lock the word or one of its queues, or answers its thread's call, or is its thread's deadline. No other
+/// thread's place is another, and of the calls of others at locks at most one goes on, which it wakes.
 pub fn reachable_steps_are_atomic<K: Eq + Hash, V, S: BuildHasher, D: Deed<K, V>, A>()
     ensures { ReachableStepsAreAtomic A D.Deed S.BuildHasher S.Hasher.Hasher K.eq K.hash_input }
 {

@@ -3,7 +3,8 @@ ghost use Rattle.std.specs.Prelude.{◌≡◌, ◌<◌, ◌≤◌, ◌^◌, leng
 ghost use Rattle.mapworld.specs.Making.{new_refusal, IsNew};
 ghost use Rattle.mapworld.specs.Reachable.{CoreIsReachable};
 ghost use Rattle.mapworld.specs.Guarded.{GuardsAreOwners};
-ghost use Rattle.mapworld.specs.History.{history_of, HistoryAgrees, HistoryHasCauses, HistoryIsPlaced};
+ghost use Rattle.mapworld.specs.History.{history_of, HistoryAgrees, HistoryHasCauses, HistoryHasDeadlines};
+ghost use Rattle.mapworld.specs.History.{HistoryIsPlaced};
 ghost use Rattle.mapworld_state.specs.Locks.Fresh.{AreFresh};
 ghost use Rattle.mapworld.specs.Progress.Drains.{IsInTime};
 ghost use Rattle.mapworld_state.specs.Invariant.Causes.World.{CoreHasCauses};
@@ -112,6 +113,8 @@ pub(crate) fn core_of<
     ensures reachable { IfOk result (CoreIsReachable D.Deed S.BuildHasher S.Hasher.Hasher K.eq K.hash_input) }
     ensures tries { IfOk result
         (λ core. HistoryHasCauses D.Deed S.BuildHasher S.Hasher.Hasher K.eq K.hash_input (history_of (state_of core))) }
+    ensures late { IfOk result (λ core. HistoryHasDeadlines D.Deed S.BuildHasher S.Hasher.Hasher K.eq K.hash_input
+        (history_of (state_of core))) }
 {
     steps_are_few();
     desks_count_as_words();

@@ -2,7 +2,7 @@
 ghost use Rattle.std.specs.Prelude.{◌≡◌, ◌<◌, ◌↔◌, IfOk, IfErr, MatchResult, length, map, take};
 ghost use Rattle.std.specs.Option.{option_map};
 ghost use Rattle.mapworld_calls.specs.Pairs.{pair_of};
-ghost use Rattle.mapworld_state.specs.State.{pairs_of, started_of, threads_of};
+ghost use Rattle.mapworld_state.specs.State.{pairs_of, started_of};
 ghost use Rattle.mapworld_state.specs.Route.{key_route};
 ghost use Rattle.mapworld_state.specs.Running.{status_of, can_move_in, bound_of, refusal, Ran, steps_done, StopsAt};
 ghost use Rattle.mapworld_state.specs.Running.{StaysFixed};
@@ -19,10 +19,9 @@ ghost use Rattle.mapworld_state.specs.Held.{HoldByPhase};
 ghost use Rattle.mapworld.specs.Drained.{DrainedBy};
 ghost use Rattle.mapworld.specs.Guarded.{GuardsAreOwners};
 ghost use Rattle.mapworld.specs.History.{history_of, HistoryAddsTo, HistoryAgrees, HistoryHasCauses, HistoryIsPlaced};
-ghost use Rattle.mapworld.specs.History.{HistoryStaysFixed};
+ghost use Rattle.mapworld.specs.History.{HistoryHasDeadlines, HistoryStaysFixed};
 ghost use Rattle.mapworld.specs.Over.{IsOver};
 ghost use Rattle.mapworld.specs.Reachable.{IsReachable};
-ghost use Rattle.mapworld_calls.specs.Placed.{OnlyAdds};
 ghost use Rattle.mapworld_state.specs.Invariant.Causes.World.{TakenShardsAreUsed, NobodyWaitsAlone};
 
 use crate::laws::{desks_count_as_words, queues_are_waiters, steps_touch_one_lock};
@@ -62,7 +61,7 @@ use std::marker::Model;
 ///
 /// ```text
 /// let mut world = MapWorld::new(alloc, 2, SpreadState, pairs, programs)?;
-/// world.run(&[Step { thread: 0, fair: false }, Step { thread: 1, fair: false }])?;
+/// world.run(&[Step { thread: 0, fair: false, deadline: false }])?;
 /// for reply in world.replies() { .. }
 /// ```
 #[derive(Drop)]
@@ -148,9 +147,9 @@ impl<K: Eq + Hash, V, S: BuildHasher, D: Deed<K, V>, A: Allocator> MapWorld<K, V
 
     /// Where a thread stands: `Finished` where all its calls are answered, `Asleep` where it waits in a queue of its
     /// shard, or was taken from it and isn't woken yet, and otherwise `Running`. A thread that is asleep is `Running`
-    /// again once another thread has woken it. One that is `Running` may still be before a queue's section that another
-    /// thread has entered; whether it can go on says [`can_move`](MapWorld::can_move). It takes no memory and cannot
-    /// fail.
+    /// again once another thread has woken it, or its deadline has come. One that is `Running` may still be before a
+    /// queue's section that another thread has entered; whether it can go on says [`can_move`](MapWorld::can_move). It
+    /// takes no memory and cannot fail.
     ///
     /// Threads are numbered from 0, one for each program. A thread that the world doesn't have is `Finished`.
     pub fn status(&self, thread: usize) -> Status
@@ -175,12 +174,12 @@ impl<K: Eq + Hash, V, S: BuildHasher, D: Deed<K, V>, A: Allocator> MapWorld<K, V
         }
     }
 
-    /// Whether a step of the thread would be done: it is `Running`, and isn't before a queue's section that another
-    /// thread has entered. All queues of the shards' locks are in one bucket, and only one thread at a time is in the
-    /// section of a bucket. A thread that the world doesn't have can't move.
+    /// Whether a step of the thread's own would be done: it is `Running`, and isn't before a queue's section that
+    /// another thread has entered. All queues of the shards' locks are in one bucket, and only one thread at a time is
+    /// in the section of a bucket. A thread that the world doesn't have can't move.
     ///
-    /// It doesn't say that step numbers are left for it, which [`run`](MapWorld::run) tests too. It takes no memory and
-    /// cannot fail.
+    /// It says nothing of the thread's deadline, and doesn't say that step numbers are left, which
+    /// [`run`](MapWorld::run) tests too. It takes no memory and cannot fail.
     pub fn can_move(&self, thread: usize) -> bool
         ensures { result ≡ can_move_in self.now thread }
     {
@@ -230,7 +229,8 @@ where
 
     /// The threads that wait in a queue now, in the order in which they joined it. The lock of shard `i` has two
     /// queues, of the keys `2 * i` and `2 * i + 1`: in the first wait those that ask for the shard, in the second a
-    /// writer that waits for the last readers to leave. Beyond the last key nobody waits.
+    /// writer that waits for the last readers to leave. One whose deadline has come stands there until it has taken
+    /// itself out, or was. Beyond the last key nobody waits.
     ///
     /// The list is on an allocator like the world's own, and has room for a number of each waiter. Where memory is
     /// short it answers [`NoMemory`].
@@ -293,6 +293,8 @@ where
         ensures guards { IfOk result (λ world. GuardsAreOwners world.locks) }
         ensures causes { IfOk result
             (λ world. HistoryHasCauses D.Deed S.BuildHasher S.Hasher.Hasher K.eq K.hash_input (history_of world)) }
+        ensures late { IfOk result
+            (λ world. HistoryHasDeadlines D.Deed S.BuildHasher S.Hasher.Hasher K.eq K.hash_input (history_of world)) }
         ensures reachable { IfOk result (IsReachable D.Deed S.BuildHasher S.Hasher.Hasher K.eq K.hash_input) }
     {
         if let Some(fault) = limits::refusal(shards, pairs.len(), &programs) {
@@ -330,7 +332,7 @@ where
             return Err(RunFault::NoSuchThread(done));
         }
         if !counts::fits(&self.core) {
-            return if steps::can_move(&self.core, step.thread) {
+            return if steps::may_step(&self.core, step) {
                 Err(RunFault::StepsShort(done))
             } else {
                 Err(RunFault::CannotMove(done))
@@ -348,8 +350,7 @@ where
         ensures ran { let setup = setup_of D.Deed S.BuildHasher S.Hasher.Hasher K.eq K.hash_input self.old in
             Ran setup 0 self.old (take (steps_done result (length steps.now)) steps.now) self.new }
         ensures refused { IfErr result (StopsAt self.new steps.now) }
-        ensures adds { OnlyAdds (threads_of self.old) (threads_of self.new)
-            self.old.blocks self.new.blocks self.old.replies self.new.replies }
+        ensures adds { HistoryAddsTo (history_of self.old) (history_of self.new) }
         ensures fixed { StaysFixed self.old self.new }
     {
         steps_touch_one_lock();
@@ -367,8 +368,14 @@ where
     /// in their order; each block stands at a step of its own thread between the start of its call and the answer; what
     /// was listed and answered before is still there. Each shard's guards are the owners of its lock, as its word
     /// counts them, and none of them excludes another. A try that was answered `Locked` had a cause: at some step of it
-    /// a call of another thread was on its shard. A word that isn't 0 and a thread that sleeps have one too: a call on
+    /// a call of another thread was on its shard. A call with a deadline is answered `Locked` only where its thread's
+    /// deadline came while it was under way. A word that isn't 0 and a thread that sleeps have a cause too: a call on
     /// that shard now, and of another thread.
+    ///
+    /// A step with `deadline` is its thread's deadline: one that sleeps in a call with a deadline comes back, by steps
+    /// of its own, and gives up, unless another thread takes it out of its queue before it does so itself. Such a step
+    /// may come as soon as the thread sleeps, and it never has to. A deadline is of one sleep: who is woken, asks again
+    /// and sleeps again needs another.
     ///
     /// # Errors
     ///
@@ -378,6 +385,7 @@ where
     ///
     /// - `NoSuchThread`: the world doesn't have the thread;
     /// - `CannotMove`: the thread is asleep or finished, or before a queue's section that another thread has entered;
+    ///   or, where the step is a deadline, it isn't asleep, or its call has none;
     /// - `StepsShort`: no step numbers are left for the step and all that must come after it.
     ///
     /// It takes memory only where a shard grows or shrinks, and for what a walk reads. Where that is refused it is no
@@ -401,6 +409,8 @@ where
         ensures guards { GuardsAreOwners self.new.locks }
         ensures by_phase { HoldByPhase self.new.places }
         ensures causes { HistoryHasCauses D.Deed S.BuildHasher S.Hasher.Hasher K.eq K.hash_input (history_of self.new) }
+        ensures late { let past = history_of self.new in
+            HistoryHasDeadlines D.Deed S.BuildHasher S.Hasher.Hasher K.eq K.hash_input past }
         ensures reachable { IsReachable D.Deed S.BuildHasher S.Hasher.Hasher K.eq K.hash_input self.new }
         ensures used { TakenShardsAreUsed D.Deed S.BuildHasher S.Hasher.Hasher K.eq K.hash_input self.new }
         ensures waits { NobodyWaitsAlone D.Deed S.BuildHasher S.Hasher.Hasher K.eq K.hash_input self.new }
@@ -412,9 +422,10 @@ where
     }
 
     /// Runs the world until every call is answered and every section left, and answers how many steps that took:
-    /// threads that can move are stepped, in an order of its own, until nobody can move. There are fewer than the
-    /// [`bound`](MapWorld::bound) at the call. Behind it each call of each program has its reply, every thread is
-    /// finished, every word is 0 and every queue is empty; so no shard is held and no guard is left
+    /// threads that can move are stepped, in an order of its own, until nobody can move. It makes no deadline: a call
+    /// whose deadline hasn't come waits as a plain one does, and one whose deadline has goes on to give up. There are
+    /// fewer steps than the [`bound`](MapWorld::bound) at the call. Behind it each call of each program has its reply,
+    /// every thread is finished, every word is 0 and every queue is empty; so no shard is held and no guard is left
     /// ([`finished_worlds_are_at_rest`](crate::laws::finished_worlds_are_at_rest)).
     ///
     /// It is never refused, and goes on from whatever state a [`run`](MapWorld::run) has left, calls half done
@@ -437,6 +448,8 @@ where
         ensures guards { GuardsAreOwners self.new.locks }
         ensures by_phase { HoldByPhase self.new.places }
         ensures causes { HistoryHasCauses D.Deed S.BuildHasher S.Hasher.Hasher K.eq K.hash_input (history_of self.new) }
+        ensures late { let past = history_of self.new in
+            HistoryHasDeadlines D.Deed S.BuildHasher S.Hasher.Hasher K.eq K.hash_input past }
         ensures reachable { IsReachable D.Deed S.BuildHasher S.Hasher.Hasher K.eq K.hash_input self.new }
     {
         steps_touch_one_lock();

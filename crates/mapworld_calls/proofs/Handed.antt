@@ -39,6 +39,10 @@ module _ {K V D T : Type 0} (deeds : Deeds D K V T) (key : K) where
   first-handed (ask.Begin (begin.TryGet k)) is (Some p) = tt
   first-handed (ask.Begin (begin.TryGetMut k)) is None = tt
   first-handed (ask.Begin (begin.TryGetMut k)) is (Some p) = tt
+  first-handed (ask.Begin (begin.GetUntil k)) is None = tt
+  first-handed (ask.Begin (begin.GetUntil k)) is (Some p) = tt
+  first-handed (ask.Begin (begin.GetMutUntil k)) is None = tt
+  first-handed (ask.Begin (begin.GetMutUntil k)) is (Some p) = tt
   first-handed (ask.Begin (begin.TryEntry k)) is None = same_Some k key is
   first-handed (ask.Begin (begin.TryEntry k)) is (Some p) = same_Some k key is
   first-handed (ask.Held h) is o = absurd (none-some key is)

@@ -148,11 +148,7 @@ module _ {K V D T : Type 0} (w : Setup K V D T) (bs bs' : List (Block K)) (t c :
   pub answered-by : {A : Type 0} (x : Ask K V D) (a : Answer K V T A) → ask_at w t c ≡ Some x → Keeps A w bs bs' t c
       → ((b : ℕ) → session_of w t c ≡ Some b → b ≤ c) → IsAnsweredBy w bs t c x a → IsAnsweredBy w bs' t c x a
   answered-by (ask.Keyed k) a asked keeps below h =
-      elim h [
-        | inl told ↦ inl (keeps.told c 0 a told)
-        | inr none ↦ inr
-            (none.0, none.1, keeps.none c (omega arith) none.2)
-      ]
+      elim h [ inl told ↦ inl (keeps.told c 0 a told) | inr none ↦ inr (none.0, keeps.none c (omega arith) none.1) ]
   answered-by (ask.Begin b) a asked keeps below h =
       elim h [ inl told ↦ inl (keeps.told c 0 a told) | inr none ↦ inr (none.0, keeps.none c (omega arith) none.1) ]
   answered-by (ask.Held g) a asked keeps below h = answered-in_session (session_of w t c) a keeps below h

@@ -6,13 +6,15 @@ use Rattle.mapworld_calls.specs.declared.block.Block.{Block}
 use Rattle.mapworld_calls.specs.Pairs.{pair_of, AreDistinct}
 use Rattle.mapworld_calls.specs.declared.ask.Ask.{Ask}
 use Rattle.mapworld_calls.specs.declared.ask.Ask.TheVariants as ask
+use Rattle.mapworld_calls.specs.declared.ask.Keyed.{Keyed}
 use Rattle.mapworld_calls.specs.declared.ask.Begin.{Begin}
 use Rattle.mapworld_calls.specs.declared.ask.Walk.{Walk}
 use Rattle.mapworld_calls.specs.declared.ask.Walk.TheVariants as walk
 use Rattle.mapworld_calls.specs.declared.reply.Answer.{Answer}
 use Rattle.mapworld_calls.specs.declared.reply.Answer.TheVariants as answer
 use Rattle.mapworld_calls.specs.declared.reply.Reply.{Reply}
-use Rattle.mapworld_calls.specs.Programs.{saturated, stop_of, may_grow, opening_may_grow, walk_may_grow, is_try}
+use Rattle.mapworld_calls.specs.Programs.{saturated, stop_of, may_grow, opening_may_grow, walk_may_grow}
+use Rattle.mapworld_calls.specs.Programs.{keyed_has_deadline, opening_may_be_locked}
 use Rattle.mapworld_calls.specs.Calls.{visit_reads}
 use Rattle.mapworld_calls.specs.Setup.{Setup, ask_at, session_of}
 use Rattle.mapworld_calls.specs.Replay.{done_keys, told_by, contents, before}
@@ -127,17 +129,22 @@ pub record IsRefusedWalk {K V D T : Type 0} (w : Setup K V D T) (bs : List (Bloc
     pub left_over : length visits < w.shards
     pub goes_on : IsBelow (stop_of f) (number_of w visits)
 
--- an opening is refused for memory, or as a try that couldn't have its shard
+-- a keyed call is refused for memory, or since its deadline came before it had its shard
+abbrev pub IsRefusedKeyed : {K V D T A : Type 0} → Keyed K V D → Answer K V T A → Type 0
+IsRefusedKeyed k a =
+    ((a ≡ answer.NoMemory) × IsTrue (may_grow k)) ⊎ ((a ≡ answer.Locked) × IsTrue (keyed_has_deadline k))
+
+-- an opening is refused for memory, or as a try that couldn't have its shard, or since its deadline came before it had
+-- it
 abbrev pub IsRefusedOpening : {K V T A : Type 0} → Begin K → Answer K V T A → Type 0
 IsRefusedOpening b a =
-    ((a ≡ answer.NoMemory) × IsTrue (opening_may_grow b)) ⊎ ((a ≡ answer.Locked) × IsTrue (is_try b))
+    ((a ≡ answer.NoMemory) × IsTrue (opening_may_grow b)) ⊎ ((a ≡ answer.Locked) × IsTrue (opening_may_be_locked b))
 
 -- an answer is told by the call's block, or by all the visits of a walk; a refused call has no block, nor has a call on
 -- a guard that was never had
 abbrev pub IsAnsweredBy : {K V D T A : Type 0} → Setup K V D T → List (Block K) → ℕ → ℕ → Ask K V D → Answer K V T A
     → Type 0
-IsAnsweredBy w bs t c (ask.Keyed k) a =
-    IsToldBy w bs t c 0 a ⊎ ((a ≡ answer.NoMemory) × IsTrue (may_grow k) × HasNoBlock bs t c)
+IsAnsweredBy w bs t c (ask.Keyed k) a = IsToldBy w bs t c 0 a ⊎ (IsRefusedKeyed k a × HasNoBlock bs t c)
 IsAnsweredBy w bs t c (ask.Begin b) a = IsToldBy w bs t c 0 a ⊎ (IsRefusedOpening b a × HasNoBlock bs t c)
 IsAnsweredBy w bs t c (ask.Held h) a = IsAnsweredInSession w bs t c (session_of w t c) a
 IsAnsweredBy w bs t c (ask.Walk f) a = IsWalked w bs t c f a ⊎ ((a ≡ answer.NoMemory) × IsRefusedWalk w bs t c f)

@@ -56,6 +56,10 @@ module _ {D K V T : Type 0} (deeds : Deeds D K V T) where
   keyed_answer (keyed.View k d) (Some p) = answer.Read (deeds.answer d p.0 p.1)
   keyed_answer (keyed.ContainsKey k) None = answer.Flag false
   keyed_answer (keyed.ContainsKey k) (Some p) = answer.Flag true
+  keyed_answer (keyed.InsertUntil k w) None = answer.None
+  keyed_answer (keyed.InsertUntil k w) (Some p) = answer.Value p.1
+  keyed_answer (keyed.RemoveUntil k) None = answer.None
+  keyed_answer (keyed.RemoveUntil k) (Some p) = answer.Pair p.0 p.1
 
   abbrev pub keyed_leaves : Keyed K V D → Option (K × V) → Option (K × V)
   keyed_leaves (keyed.Insert k w) None = Some (k, w)
@@ -69,6 +73,9 @@ module _ {D K V T : Type 0} (deeds : Deeds D K V T) where
   keyed_leaves (keyed.Alter k d) (Some p) = Some (effect_on d p)
   keyed_leaves (keyed.View k d) o = o
   keyed_leaves (keyed.ContainsKey k) o = o
+  keyed_leaves (keyed.InsertUntil k w) None = Some (k, w)
+  keyed_leaves (keyed.InsertUntil k w) (Some p) = Some (p.0, w)
+  keyed_leaves (keyed.RemoveUntil k) o = None
 
   -- a walk at a key that it visits, by the pair that it finds: the item that it gives, what is read of it, and what it
   -- leaves
@@ -104,6 +111,8 @@ opened (begin.Get k) (Some p) = shared p
 opened (begin.TryGet k) (Some p) = shared p
 opened (begin.GetMut k) (Some p) = exclusive p
 opened (begin.TryGetMut k) (Some p) = exclusive p
+opened (begin.GetUntil k) (Some p) = shared p
+opened (begin.GetMutUntil k) (Some p) = exclusive p
 opened (begin.Entry k) (Some p) = occupied k p
 opened (begin.TryEntry k) (Some p) = occupied k p
 opened (begin.Entry k) None = vacant k

@@ -11,4 +11,5 @@ pub mod Sessions
 pub mod Frame
 pub mod Growth
 pub mod Shards
+pub mod Deadlines
 pub mod HistoryLaws

@@ -1,5 +1,6 @@
 -- Programs: which calls stand in a session, and what each needs.
-use Rattle.std.specs.Prelude.{◌≡◌, ℕ, zero, suc, ◌-◌, ◌<◌, ◌^◌, min, Bool, true, false, ◌&&◌, not, if◌then◌else◌, List}
+use Rattle.std.specs.Prelude.{◌≡◌, ℕ, zero, suc, ◌-◌, ◌<◌, ◌^◌, min, Bool, true, false, ◌&&◌, ◌||◌, not}
+use Rattle.std.specs.Prelude.{if◌then◌else◌, List}
 use Rattle.std.specs.Prelude.{[], ◌∷◌, Option, Some, None, slice_get}
 use Rattle.mapworld_calls.specs.declared.ask.Ask.{Ask}
 use Rattle.mapworld_calls.specs.declared.ask.Ask.TheVariants as ask
@@ -88,6 +89,8 @@ keyed_key (keyed.RemoveIfMut k d) = k
 keyed_key (keyed.Alter k d) = k
 keyed_key (keyed.View k d) = k
 keyed_key (keyed.ContainsKey k) = k
+keyed_key (keyed.InsertUntil k v) = k
+keyed_key (keyed.RemoveUntil k) = k
 
 abbrev pub opening_key : {K : Type 0} → Begin K → K
 opening_key (begin.Get k) = k
@@ -96,6 +99,8 @@ opening_key (begin.Entry k) = k
 opening_key (begin.TryGet k) = k
 opening_key (begin.TryGetMut k) = k
 opening_key (begin.TryEntry k) = k
+opening_key (begin.GetUntil k) = k
+opening_key (begin.GetMutUntil k) = k
 
 abbrev pub key_of : {K V D : Type 0} → Ask K V D → Option K
 key_of (ask.Keyed k) = Some (keyed_key k)
@@ -109,9 +114,11 @@ stop_of (walk.Iter d stop) = stop
 stop_of (walk.IterMut d stop) = stop
 stop_of f = None
 
--- the calls that may be refused for memory, and the openings that wait for nobody
+-- the calls that may be refused for memory; the openings that wait for nobody; and the calls that wait until their
+-- deadline
 abbrev pub may_grow : {K V D : Type 0} → Keyed K V D → Bool
 may_grow (keyed.Insert k v) = true
+may_grow (keyed.InsertUntil k v) = true
 may_grow k = false
 
 abbrev pub opening_may_grow : {K : Type 0} → Begin K → Bool
@@ -130,3 +137,29 @@ is_try (begin.TryGet k) = true
 is_try (begin.TryGetMut k) = true
 is_try (begin.TryEntry k) = true
 is_try b = false
+
+abbrev pub keyed_has_deadline : {K V D : Type 0} → Keyed K V D → Bool
+keyed_has_deadline (keyed.InsertUntil k v) = true
+keyed_has_deadline (keyed.RemoveUntil k) = true
+keyed_has_deadline k = false
+
+abbrev pub opening_has_deadline : {K : Type 0} → Begin K → Bool
+opening_has_deadline (begin.GetUntil k) = true
+opening_has_deadline (begin.GetMutUntil k) = true
+opening_has_deadline b = false
+
+abbrev pub has_deadline : {K V D : Type 0} → Ask K V D → Bool
+has_deadline (ask.Keyed k) = keyed_has_deadline k
+has_deadline (ask.Begin b) = opening_has_deadline b
+has_deadline (ask.Held h) = false
+has_deadline (ask.Walk f) = false
+
+-- the calls that may be answered `Locked`
+abbrev pub opening_may_be_locked : {K : Type 0} → Begin K → Bool
+opening_may_be_locked b = is_try b || opening_has_deadline b
+
+abbrev pub may_be_locked : {K V D : Type 0} → Ask K V D → Bool
+may_be_locked (ask.Keyed k) = keyed_has_deadline k
+may_be_locked (ask.Begin b) = opening_may_be_locked b
+may_be_locked (ask.Held h) = false
+may_be_locked (ask.Walk f) = false

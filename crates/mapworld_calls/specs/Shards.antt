@@ -6,7 +6,7 @@ use Rattle.mapworld_calls.specs.declared.ask.Ask.TheVariants as ask
 use Rattle.mapworld_calls.specs.declared.ask.Begin.{Begin}
 use Rattle.mapworld_calls.specs.declared.reply.Answer.TheVariants as answer
 use Rattle.mapworld_calls.specs.declared.reply.Reply.{Reply}
-use Rattle.mapworld_calls.specs.Programs.{keyed_key, opening_key}
+use Rattle.mapworld_calls.specs.Programs.{keyed_key, opening_key, is_try}
 use Rattle.mapworld_calls.specs.Calls.{is_free}
 use Rattle.mapworld_calls.specs.Setup.{Setup, ask_at}
 use Rattle.mapworld_calls.specs.Replay.{reached, before}
@@ -89,8 +89,10 @@ pub record HasCause {K V D T A : Type 0} (w : Setup K V D T) (started : ℕ → 
   pub another : other ≢ r.thread
   pub on : IsOnShard w started bs replies other (w.route (opening_key opening)) step
 
+-- each try that was answered `Locked` has one; of a call with a deadline it says nothing
 abbrev pub LockedHaveCauses : {K V D T A : Type 0} → Setup K V D T → (ℕ → Option ℕ) → List (Block K)
     → List (Reply K V T A) → Type 0
 LockedHaveCauses {K} {V} {D} {T} {A} w started bs replies =
     (i : ℕ) (r : Reply K V T A) → slice_get replies i ≡ Some r → r.answer ≡ answer.Locked
+    → (b : Begin K) → ask_at w r.thread r.call ≡ Some (ask.Begin b) → IsTrue (is_try b)
     → HasCause w started bs replies r

@@ -57,6 +57,12 @@ pub enum Keyed<K, V, D> {
     View(K, D),
     /// Answers `Flag`: whether the key is present. It shares its shard with other calls that do so.
     ContainsKey(K),
+    /// As `Insert`, but with a deadline: where that comes while it waits for its shard it gives up, unless another
+    /// thread has taken it out of its queue first. Then it answers `Locked`, and nothing changes.
+    InsertUntil(K, V),
+    /// As `Remove`, but with a deadline: where that comes while it waits for its shard it gives up, unless another
+    /// thread has taken it out of its queue first. Then it answers `Locked`, and nothing changes.
+    RemoveUntil(K),
 }
 
 impl<K, V, D> Keyed<K, V, D> {
@@ -76,6 +82,8 @@ impl<K, V, D> Keyed<K, V, D> {
             Keyed::Alter(key, _) => key,
             Keyed::View(key, _) => key,
             Keyed::ContainsKey(key) => key,
+            Keyed::InsertUntil(key, _) => key,
+            Keyed::RemoveUntil(key) => key,
         }
     }
 }
@@ -98,6 +106,12 @@ pub enum Begin<K> {
     TryGetMut(K),
     /// As `Entry`, but it waits for nobody: where its shard can't be had it answers `Locked`, and there is no guard.
     TryEntry(K),
+    /// As `Get`, but with a deadline: where that comes while it waits for its shard it gives up, unless another thread
+    /// has taken it out of its queue first. Then it answers `Locked`, and there is no guard.
+    GetUntil(K),
+    /// As `GetMut`, but with a deadline: where that comes while it waits for its shard it gives up, unless another
+    /// thread has taken it out of its queue first. Then it answers `Locked`, and there is no guard.
+    GetMutUntil(K),
 }
 
 impl<K> Begin<K> {
@@ -116,6 +130,8 @@ impl<K> Begin<K> {
             Begin::TryGet(key) => key,
             Begin::TryGetMut(key) => key,
             Begin::TryEntry(key) => key,
+            Begin::GetUntil(key) => key,
+            Begin::GetMutUntil(key) => key,
         }
     }
 }

@@ -32,7 +32,7 @@ pub enum Answer<K, V, T, A: Allocator> {
     Count(usize),
     /// What a walk's deed read, in the order of its visits.
     Reads(Vec<T, A>),
-    /// A try could not have its shard.
+    /// A try could not have its shard, or the deadline of a call came before it had it.
     Locked,
     /// A growth was refused: code 99. The call changed no pair; of a walk the visits before stand.
     NoMemory,

@@ -68,7 +68,7 @@ pub fn limit_name(limit: Limit) -> &'static str {
     }
 }
 
-/// Writes so many steps of a thread in a row, as the lines of a case have them.
+/// Writes so many steps of a thread in a row, or its deadline, as the lines of a case have them.
 fn write_steps(
     case: &Case<'_>,
     step: Step,
@@ -77,6 +77,9 @@ fn write_steps(
 ) -> Result<(), AllocError> {
     if !out.is_empty() {
         out.push_str(", ")?;
+    }
+    if step.deadline {
+        return write!(out, "deadline {}", case.name_of(step.thread));
     }
     write!(out, "step {} {times}", case.name_of(step.thread))?;
     if step.fair {

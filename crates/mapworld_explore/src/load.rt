@@ -126,6 +126,7 @@ fn step_each<A: Allocator + Clone + Drop>(world: &mut World<A>) {
         let _ = world.run(&[Step {
             thread,
             fair: false,
+            deadline: false,
         }]);
     }
 }

@@ -110,7 +110,7 @@ impl Course {
                 }
             }
         }
-        if is_woken {
+        if is_woken && by != thread {
             self.wakings.push(Waking { by, thread, step })?;
         }
         if is_asleep && !is_open {
@@ -203,7 +203,7 @@ impl Course {
     fn make(&mut self, world: &mut World, case: &Case<'_>, step: Step) -> Result<Told, ExploreFault>
         ensures { IfOk result (λ told. told.thread ≡ step.thread) }
     {
-        let before = Before::of(world, case, step.thread);
+        let before = Before::of(world, case, step);
         world.run(&[step])?;
         let mut text = String::new(self.alloc);
         before.write(world, case, &mut text)?;
@@ -267,6 +267,7 @@ pub fn with_late_starts(
             late.push(Step {
                 thread,
                 fair: false,
+                deadline: false,
             })?;
         }
         if !is_start {

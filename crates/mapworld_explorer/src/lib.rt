@@ -5,7 +5,6 @@
 //! [`failure_of`], and what they claim of all schedules is looked at by [`broken_claim`].
 #![tactic(auto)]
 
-mod again;
 mod checked;
 mod course;
 mod outcome;

@@ -60,6 +60,7 @@ fn write_run(traced: &mut Traced, threads: &[usize], out: &mut String) -> Result
         steps.push(Step {
             thread: *thread,
             fair: false,
+            deadline: false,
         })?;
     }
     let before = traced.world.steps();
@@ -139,6 +140,7 @@ fn holds(
         Order::Expect(View::Words(_)) if ending == Ending::Drain => Ok(true),
         Order::Expect(view) => is_seen(traced, case, view, line, found),
         Order::Through(thread) => traced.step_through(thread),
+        Order::Deadline(thread) => traced.deadline(thread),
         Order::Claim(_) => Ok(true),
         Order::Round => traced.step_round(),
         Order::Seed { seed, steps } => traced.step_at_random(seed, steps),

@@ -56,6 +56,15 @@ pub struct Search<'c, 'a> {
     pub limit: Option<Limit>,
 }
 
+/// A step of a thread's own that isn't fair.
+fn plain(thread: usize) -> Step {
+    Step {
+        thread,
+        fair: false,
+        deadline: false,
+    }
+}
+
 impl<'c, 'a> Search<'c, 'a> {
     ghost use Rattle.std.specs.Prelude.{◌≡◌, nat_lt, slice_get, IfOk};
     ghost use Rattle.mapworld_explorer.specs.Searches.{found, steps_to, visited, way_to};
@@ -84,10 +93,7 @@ impl<'c, 'a> Search<'c, 'a> {
         let world = world_behind(alloc, case, &[])?;
         let first = Reached {
             before: 0,
-            step: Step {
-                thread: 0,
-                fair: false,
-            },
+            step: plain(0),
             steps: 0,
         };
         let _ = search.reach(&world, first)?;
@@ -228,25 +234,29 @@ impl<'c, 'a> Search<'c, 'a> {
     }
 
     /// The steps that are to be made from a state: of each thread that can move, plain and fair where that may come to
-    /// something else.
+    /// something else; and the deadline of each thread that sleeps in a call with one.
     fn steps_from(&self, world: &World) -> Result<Vec<Step>, AllocError> {
         let mut steps = Vec::new(self.alloc);
         if let Some(thread) = self.alone(world) {
-            steps.push(Step {
-                thread,
-                fair: false,
-            })?;
+            steps.push(plain(thread))?;
             return Ok(steps);
         }
         for thread in 0..world.threads() {
             if world.can_move(thread) {
+                steps.push(plain(thread))?;
+                if may_be_fair(world, thread) {
+                    steps.push(Step {
+                        thread,
+                        fair: true,
+                        deadline: false,
+                    })?;
+                }
+            } else if world.locks().may_expire(thread) {
                 steps.push(Step {
                     thread,
                     fair: false,
+                    deadline: true,
                 })?;
-                if may_be_fair(world, thread) {
-                    steps.push(Step { thread, fair: true })?;
-                }
             }
         }
         Ok(steps)

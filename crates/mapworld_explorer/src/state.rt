@@ -5,7 +5,8 @@ use crate::standing::{Stand, kind_of};
 use crate::worlds::World;
 use mapworld_state::{Guard, Phase, Way};
 use parking_lot_core_model::Place;
-use parking_lot_machine::{Core, Hold};
+use parking_lot_machine::{Core, Hold, LateRwPhase, RwSleeper};
+use parking_lot_protocol_rw::UpgradePhase;
 use std::alloc::{AllocError, Global};
 use std::fmt;
 
@@ -52,13 +53,57 @@ fn write_stand(alloc: Global, stand: &Stand, out: &mut String) -> Written {
     }
 }
 
+/// What a thread sleeps or slept for whose deadline has come.
+fn write_sleeper(sleeper: RwSleeper, out: &mut String) -> Written {
+    match sleeper {
+        RwSleeper::Simple(core) => write!(out, " {:?}", core.phase()),
+        RwSleeper::Upgradable(_) => Ok(()),
+    }
+}
+
+/// Where a thread's call at a lock stands whose deadline has come.
+fn write_late(late: LateRwPhase, out: &mut String) -> Written {
+    match late {
+        LateRwPhase::Expires(sleeper) => {
+            out.push_str(" expires")?;
+            write_sleeper(sleeper, out)
+        }
+        LateRwPhase::Quits(sleeper) => {
+            out.push_str(" quits")?;
+            write_sleeper(sleeper, out)
+        }
+        LateRwPhase::Masks => out.push_str(" masks"),
+        LateRwPhase::Leaves => out.push_str(" leaves"),
+        LateRwPhase::GivesUp => out.push_str(" gives-up"),
+        LateRwPhase::LeavesPending(upgrades) => write!(out, " leaves-pending {upgrades}"),
+        LateRwPhase::WasTaken(sleeper, by, is_handed) => {
+            write!(out, " taken {by} {is_handed}")?;
+            write_sleeper(sleeper, out)
+        }
+    }
+}
+
+/// Where a writer stands that gives its bit back, since its deadline has come.
+fn write_yielding(phase: UpgradePhase, out: &mut String) -> Written {
+    match phase {
+        UpgradePhase::YieldLoads(upgrades) => write!(out, " yield-loads {upgrades}"),
+        UpgradePhase::Yields(upgrades, word) => write!(out, " yields {upgrades} {word}"),
+        UpgradePhase::Owes(_, _, core) => write!(out, " owes {:?}", core.phase()),
+        UpgradePhase::Ends(..) => out.push_str(" ends"),
+        _ => Ok(()),
+    }
+}
+
 /// Where a thread's call at a lock stands, and how it holds the locks.
 fn write_call(world: &World, thread: usize, out: &mut String) -> Written {
     let machine = world.locks().machine();
     if let Some(call) = machine.call(thread) {
         write!(out, "; {} {} {:?}", call.lock, call.others, call.spot)?;
-        if let Core::Rw(core) = call.core {
-            write!(out, " {:?}", core.phase())?;
+        match call.core {
+            Core::Rw(core) => write!(out, " {:?}", core.phase())?,
+            Core::LateRw(late) => write_late(late, out)?,
+            Core::Upgrade(core) => write_yielding(core.phase(), out)?,
+            Core::Mutex(_) | Core::Late(_) => {}
         }
     }
     for shard in 0..world.shards() {

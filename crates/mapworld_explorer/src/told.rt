@@ -3,6 +3,7 @@
 use crate::standing::{act_of, kind_of};
 use crate::worlds::World;
 use lock_api_desk::Mode;
+use mapworld::Step;
 use mapworld_calls::Ask;
 use mapworld_text::{Asked, Case};
 use parking_lot_machine::{Act, SectionAct};
@@ -15,6 +16,8 @@ type Written = Result<(), AllocError>;
 #[derive(Clone, Copy)]
 pub(crate) struct Before {
     thread: usize,
+    /// Whether the step is the thread's deadline.
+    deadline: bool,
     /// The number of the call that it is in, or that is next.
     call: usize,
     kind: u8,
@@ -40,7 +43,8 @@ fn key_at(case: &Case<'_>, thread: usize, call: usize) -> Option<u64> {
 
 impl Before {
     /// Of a thread, before its step.
-    pub(crate) fn of(world: &World, case: &Case<'_>, thread: usize) -> Before {
+    pub(crate) fn of(world: &World, case: &Case<'_>, step: Step) -> Before {
+        let thread = step.thread;
         let (call, kind, own) = match world.place(thread) {
             Some(stand) => (stand.next, kind_of(stand), stand.shard),
             None => (0, 0, 0),
@@ -52,6 +56,7 @@ impl Before {
         let present = key_at(case, thread, call).map(|key| world.pair(&key).is_some());
         Before {
             thread,
+            deadline: step.deadline,
             call,
             kind,
             act: act_of(world, thread),
@@ -68,6 +73,13 @@ impl Before {
     pub(crate) fn write(&self, world: &World, case: &Case<'_>, out: &mut String) -> Written {
         out.push_str(case.name_of(self.thread))?;
         out.push_str(" ")?;
+        if self.deadline {
+            let shard = self.shard;
+            return write!(
+                out,
+                "has waited long enough for shard {shard}: its deadline has come"
+            );
+        }
         match self.act {
             None if self.gives_up(world) => self.write_given_up(world, out)?,
             Some(Act::Done(_)) | None => self.write_work(case, out)?,
@@ -123,7 +135,12 @@ impl Before {
             Act::Spin => out.push_str("spins"),
             Act::Enter(_) => write!(out, "enters the section of shard {shard}'s queues"),
             Act::Section(act) => self.write_section(act, word, out),
-            Act::Sleep => write!(out, "is awake, and goes on at shard {shard}"),
+            Act::Sleep => {
+                write!(
+                    out,
+                    "is past its deadline, and goes on to leave the queues of shard {shard}"
+                )
+            }
             Act::Done(_) => Ok(()),
         }
     }

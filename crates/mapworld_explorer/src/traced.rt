@@ -65,13 +65,31 @@ impl Traced {
         fair: bool,
     ) -> Result<Option<RunFault>, AllocError> {
         let fair = fair || self.is_fair(thread);
-        let step = Step { thread, fair };
+        self.make(Step {
+            thread,
+            fair,
+            deadline: false,
+        })
+    }
+
+    /// Makes a step, and answers why it isn't done, if it isn't.
+    fn make(&mut self, step: Step) -> Result<Option<RunFault>, AllocError> {
         let fault = self.world.run(&[step]).err();
         if fault.is_none() {
             self.made.push(step)?;
         }
         self.note()?;
         Ok(fault)
+    }
+
+    /// A thread's deadline comes; says whether it could.
+    pub(crate) fn deadline(&mut self, thread: usize) -> Result<bool, AllocError> {
+        let fault = self.make(Step {
+            thread,
+            fair: false,
+            deadline: true,
+        })?;
+        Ok(fault.is_none())
     }
 
     /// Makes as many steps of a thread; says whether all of them were done.

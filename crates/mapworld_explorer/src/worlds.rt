@@ -6,10 +6,9 @@ ghost use Rattle.mapworld_state.specs.Running.{Ran};
 ghost use Rattle.mapworld_state.specs.World.{setup_of};
 ghost use Rattle.mapworld_explorer.specs.Led.{IsLedBy};
 
-use crate::again::programs_again;
 use mapworld::{MapWorld, NoMemory, RunFault, SpreadHasher, SpreadState, Step, WorldNewFault};
 use mapworld_calls::{Ask, Deed};
-use mapworld_text::{Asked, Case, Change};
+use mapworld_text::{Asked, Case, Change, programs_again};
 use std::alloc::{AllocError, AllocFailed, Allocator, Global};
 use std::error::Error;
 use std::fmt;

@@ -10,6 +10,8 @@ use std::alloc::AllocError;
 pub struct Halfway {
     /// The threads of the steps so far.
     pub schedule: Vec<usize>,
+    /// The deadlines so far: whose, and at which step.
+    pub deadlines: Vec<(usize, u64)>,
     /// The contents.
     pub pairs: Vec<(u64, u64)>,
     /// How many replies there are.

@@ -1,6 +1,7 @@
-//! Where the blocks of a finished world stand, which replies have none, and what stood beside a try that is locked.
+//! Where the blocks of a finished world stand, which replies have none, what stood beside a try that is locked, and
+//! which deadline came for a call that gave up.
 
-use crate::plain::{is_drop, is_opening, is_try, is_walk, may_grow, stop_of};
+use crate::plain::{has_deadline, is_drop, is_opening, is_try, is_walk, may_grow, stop_of};
 use crate::replay::{Broken, Made, Seen};
 use crate::said::{Replied, Said};
 use mapworld_calls::{Ask, Block};
@@ -24,7 +25,7 @@ fn has_its_blocks<D>(
         return blocks == 0;
     }
     match reply.answer {
-        Said::Locked => is_try(call) && blocks == 0,
+        Said::Locked => (is_try(call) || has_deadline(call)) && blocks == 0,
         Said::NoMemory => may_grow(call) && blocks == 0,
         _ => blocks == 1,
     }
@@ -46,6 +47,29 @@ fn is_guarded<D>(made: &Made<'_, D>, seen: Seen<'_>, reply: &Replied<'_>) -> boo
     has_block || reply.answer == Said::NoGuard
 }
 
+/// Whether the deadline of a call's thread came while the call was under way.
+fn is_late(seen: Seen<'_>, reply: &Replied<'_>) -> bool {
+    seen.deadlines.iter().any(|(thread, step)| *thread == reply.thread
+        && reply.start < *step
+        && *step < reply.end)
+}
+
+/// The rule of calls that are answered `Locked` that is broken, if one is.
+fn broken_by_locked<D>(
+    made: &Made<'_, D>,
+    seen: Seen<'_>,
+    reply: &Replied<'_>,
+    call: &Ask<u64, u64, D>,
+) -> Broken {
+    if reply.answer != Said::Locked {
+        None
+    } else if has_deadline(call) {
+        (!is_late(seen, reply)).then_some("a call with a deadline is locked only behind it")
+    } else {
+        (!has_cause(made, seen, reply, call)).then_some("a locked try has a cause")
+    }
+}
+
 /// The rule of replies that is broken, if one is.
 pub fn broken_by_replies<D>(made: &Made<'_, D>, seen: Seen<'_>) -> Broken {
     let mut last = 0;
@@ -64,8 +88,9 @@ pub fn broken_by_replies<D>(made: &Made<'_, D>, seen: Seen<'_>) -> Broken {
         if is_held && !is_guarded(made, seen, reply) {
             return Some("without a guard's block it is NoGuard");
         }
-        if reply.answer == Said::Locked && !has_cause(made, seen, reply, call) {
-            return Some("a locked try has a cause");
+        let by_locked = broken_by_locked(made, seen, reply, call);
+        if by_locked.is_some() {
+            return by_locked;
         }
     }
     (seen.replies.len() != made.calls()).then_some("each call is answered")

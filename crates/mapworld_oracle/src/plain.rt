@@ -86,6 +86,15 @@ pub fn is_try<D>(call: &Ask<u64, u64, D>) -> bool {
     )
 }
 
+/// Whether a call has a deadline.
+pub fn has_deadline<D>(call: &Ask<u64, u64, D>) -> bool {
+    matches!(
+        call,
+        Ask::Keyed(Keyed::InsertUntil(..) | Keyed::RemoveUntil(_))
+            | Ask::Begin(Begin::GetUntil(_) | Begin::GetMutUntil(_))
+    )
+}
+
 /// Whether a call goes over all shards.
 pub fn is_walk<D>(call: &Ask<u64, u64, D>) -> bool {
     matches!(call, Ask::Walk(_))
@@ -100,7 +109,8 @@ pub fn is_drop<D>(call: &Ask<u64, u64, D>) -> bool {
 pub fn may_grow<D>(call: &Ask<u64, u64, D>) -> bool {
     matches!(
         call,
-        Ask::Keyed(Keyed::Insert(..)) | Ask::Begin(Begin::Entry(_) | Begin::TryEntry(_))
+        Ask::Keyed(Keyed::Insert(..) | Keyed::InsertUntil(..))
+            | Ask::Begin(Begin::Entry(_) | Begin::TryEntry(_))
     )
 }
 
@@ -131,7 +141,9 @@ pub fn keyed<D: Deed<u64, u64, Answer = (u64, u64)>>(
 /// What a call on an absent key is answered.
 fn on_absent<D>(call: &Keyed<u64, u64, D>) -> Told {
     match call {
-        Keyed::Insert(key, new) => leaving(Said::None, *key, Some(*new)),
+        Keyed::Insert(key, new) | Keyed::InsertUntil(key, new) => {
+            leaving(Said::None, *key, Some(*new))
+        }
         Keyed::Alter(..) => quiet(Said::Done),
         Keyed::ContainsKey(_) => quiet(Said::Flag(false)),
         _ => quiet(Said::None),
@@ -141,8 +153,12 @@ fn on_absent<D>(call: &Keyed<u64, u64, D>) -> Told {
 /// What a call on a present key is answered.
 fn on_present<D: Deed<u64, u64, Answer = (u64, u64)>>(call: &Keyed<u64, u64, D>, old: u64) -> Told {
     match call {
-        Keyed::Insert(key, new) => leaving(Said::Value(old), *key, Some(*new)),
-        Keyed::Remove(key) => leaving(Said::Pair(*key, old), *key, None),
+        Keyed::Insert(key, new) | Keyed::InsertUntil(key, new) => {
+            leaving(Said::Value(old), *key, Some(*new))
+        }
+        Keyed::Remove(key) | Keyed::RemoveUntil(key) => {
+            leaving(Said::Pair(*key, old), *key, None)
+        }
         Keyed::RemoveIf(key, deed) => {
             if deed.keep(key, &old) {
                 quiet(Said::None)
@@ -169,7 +185,9 @@ pub fn opened(call: &Begin<u64>, is_there: bool) -> (Said<'static>, Option<Kind>
     match call {
         Begin::Entry(_) | Begin::TryEntry(_) if is_there => (Said::Held, Some(Kind::Occupied)),
         Begin::Entry(_) | Begin::TryEntry(_) => (Said::Vacant, Some(Kind::Vacant)),
-        Begin::Get(_) | Begin::TryGet(_) if is_there => (Said::Held, Some(Kind::Shared)),
+        Begin::Get(_) | Begin::TryGet(_) | Begin::GetUntil(_) if is_there => {
+            (Said::Held, Some(Kind::Shared))
+        }
         _ if is_there => (Said::Held, Some(Kind::Exclusive)),
         _ => (Said::None, None),
     }

@@ -38,6 +38,8 @@ pub struct Seen<'a> {
     pub replies: &'a [Replied<'a>],
     /// The shard of each key.
     pub routes: &'a [usize],
+    /// The deadlines that came: whose, and at which step.
+    pub deadlines: &'a [(usize, u64)],
 }
 
 impl<'a> Seen<'a> {

@@ -158,6 +158,7 @@ fn run_once<A: Allocator + Clone + Drop>(
     world.run(&[Step {
         thread,
         fair: false,
+        deadline: false,
     }])
 }
 

@@ -146,10 +146,14 @@ impl<'r, 'p, R: AllocGlobal + Abort> Explorer<'r, 'p, R> {
             );
         }
         let mut threads = Vec::new(self.rt.alloc());
-        for step in schedule {
+        let mut deadlines = Vec::new(self.rt.alloc());
+        for (i, step) in schedule.iter().enumerate() {
             threads.push(step.thread)?;
+            if step.deadline {
+                deadlines.push((step.thread, (i as u64).saturating_add(1)))?;
+            }
         }
-        let (halfway, is_shown) = shown_now(self.rt.alloc(), &world, threads)?;
+        let (halfway, is_shown) = shown_now(self.rt.alloc(), &world, threads, deadlines)?;
         let bound = world.bound();
         let steps = world.drain();
         let share = steps.saturating_mul(1000).checked_div(bound).unwrap_or(0);
@@ -170,7 +174,8 @@ impl<'r, 'p, R: AllocGlobal + Abort> Explorer<'r, 'p, R> {
         Ok(())
     }
 
-    /// Makes the thread's step behind a schedule, and a fair one too where it stores in the section of a release.
+    /// Makes the thread's step behind a schedule, and a fair one too where it stores in the section of a release; or
+    /// its deadline, where that may come.
     fn make_each(
         &mut self,
         schedule: &[Step],
@@ -178,6 +183,14 @@ impl<'r, 'p, R: AllocGlobal + Abort> Explorer<'r, 'p, R> {
         longer: &mut Vec<Vec<Step>>,
     ) -> Result<(), Fail> {
         let world = self.world_behind(schedule)?;
+        if world.locks().may_expire(thread) {
+            let late = Step {
+                thread,
+                fair: false,
+                deadline: true,
+            };
+            return self.make(world, schedule, late, longer);
+        }
         if !world.can_move(thread) {
             return Ok(());
         }
@@ -185,11 +198,17 @@ impl<'r, 'p, R: AllocGlobal + Abort> Explorer<'r, 'p, R> {
         let plain = Step {
             thread,
             fair: false,
+            deadline: false,
         };
         self.make(world, schedule, plain, longer)?;
         if stores {
             let world = self.world_behind(schedule)?;
-            self.make(world, schedule, Step { thread, fair: true }, longer)?;
+            let fair = Step {
+                fair: true,
+                thread,
+                deadline: false,
+            };
+            self.make(world, schedule, fair, longer)?;
         }
         Ok(())
     }

@@ -62,6 +62,13 @@ thread b
   len
 thread c
   iter-mut stop 1 add 1
+case a deadline beside a guard
+pairs 1=5
+thread a
+  get 1
+    drop
+thread b
+  insert-until 1 6
 case three at a key
 thread a
   insert 1 10

@@ -42,7 +42,8 @@ pub fn broken_by_threads(world: &World) -> Option<&'static str> {
     }
 }
 
-/// Whether a step of each thread that can't move is refused, and changes nothing.
+/// Whether a step of each thread that can't move is refused, and so is each deadline that can't come; and they change
+/// nothing.
 pub fn refuses(alloc: Global, world: &mut World, ahead: &Ahead) -> Result<bool, Fail> {
     let mut is_kept = true;
     for thread in 0..2 {
@@ -50,8 +51,18 @@ pub fn refuses(alloc: Global, world: &mut World, ahead: &Ahead) -> Result<bool, 
             let step = Step {
                 thread,
                 fair: false,
+                deadline: false,
             };
             is_kept &= world.run(&[step]) == Err(RunFault::CannotMove(0));
+            is_kept &= ahead_of(alloc, world)? == *ahead;
+        }
+        if !world.locks().may_expire(thread) {
+            let late = Step {
+                thread,
+                fair: false,
+                deadline: true,
+            };
+            is_kept &= world.run(&[late]) == Err(RunFault::CannotMove(0));
             is_kept &= ahead_of(alloc, world)? == *ahead;
         }
     }

@@ -53,6 +53,21 @@ thread entry
     drop
 ";
 
+/// Calls with a deadline on shard 1.
+const TIMED: &str = "
+thread inserts
+  insert-until 3 7
+thread removes
+  remove-until 1
+thread shared
+  get-until 1
+    drop
+thread exclusive
+  get-mut-until 1
+    add 1
+    drop
+";
+
 /// Walks of all kinds.
 const WALKS: &str = "
 thread reads
@@ -439,6 +454,23 @@ fn tries_beside_calls_on_keys_and_tries(rt: HostRuntime) -> Result<(), Fail> {
 #[test]
 fn tries_beside_guards(rt: HostRuntime) -> Result<(), Fail> {
     explore(&rt, ONE, TRIES, GUARDED, 4_800)
+}
+
+#[test]
+fn calls_with_deadlines_beside_each_other(rt: HostRuntime) -> Result<(), Fail> {
+    explore(&rt, ONE, TIMED, TIMED, 11_000)
+}
+
+#[test]
+fn calls_with_deadlines_beside_calls_without(rt: HostRuntime) -> Result<(), Fail> {
+    explore(&rt, ONE, TIMED, KEYED, 6_500)?;
+    explore(&rt, ONE, TIMED, TRIES, 4_400)?;
+    explore(&rt, ONE, TIMED, READS, 2_200)
+}
+
+#[test]
+fn calls_with_deadlines_beside_guards(rt: HostRuntime) -> Result<(), Fail> {
+    explore(&rt, ONE, TIMED, GUARDED, 15_800)
 }
 
 #[test]

@@ -58,22 +58,25 @@ fn contents(alloc: Global, world: &World) -> Result<Vec<(u64, u64)>, AllocError>
     Ok(pairs)
 }
 
-/// What the world shows now, behind steps of these threads; and whether each block shows the end of its call exactly
-/// where that is answered.
+/// What the world shows now, behind steps of these threads and these deadlines; and whether each block shows the end of
+/// its call exactly where that is answered.
 pub fn shown_now(
     alloc: Global,
     world: &World,
     schedule: Vec<usize>,
+    deadlines: Vec<(usize, u64)>,
 ) -> Result<(Halfway, bool), AllocError> {
     let replies = replies_of(alloc, world.replies())?;
     let seen = Seen {
         blocks: world.blocks(),
         replies: &replies,
         routes: &[],
+        deadlines: &[],
     };
     let is_shown = shows_ends(seen);
     let halfway = Halfway {
         schedule,
+        deadlines,
         pairs: contents(alloc, world)?,
         replies: replies.len(),
         blocks: world.blocks().len(),
@@ -111,6 +114,7 @@ pub fn broken(
         blocks: world.blocks(),
         replies: &replies,
         routes: &routes,
+        deadlines: &halfway.deadlines,
     };
     let at_end = broken_at_end(made, seen, &pairs, world.steps(), &halfway.schedule)?;
     if at_end.is_some() {

@@ -7,6 +7,7 @@ pub mod Building
 pub mod Admitting
 pub mod Listing
 pub mod Finding
+pub mod NewBlocks
 pub mod Growing
 pub mod Acting
 pub mod Reading

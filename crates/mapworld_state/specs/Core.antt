@@ -1,7 +1,7 @@
 -- What the code keeps of a world, and how much room it has.
 use Rattle.std.specs.List.{list_any}
 use Rattle.std.specs.Prelude.{◌≡◌, ℕ, Bool, true, false, ◌||◌, not, ◌+◌, ◌-◌, ◌<◌, ◌≤◌, ◌^◌, if◌then◌else◌, List}
-use Rattle.std.specs.Prelude.{length, map, Option, Some, None, ◌==◌, slice_get, sum_by, vec_capacity}
+use Rattle.std.specs.Prelude.{length, map, Some, slice_get, sum_by, vec_capacity}
 use Rattle.std.specs.Hash.{HashWrites}
 use Rattle.std.specs.declared.hash.BuildHasher as builder
 use Rattle.std.specs.declared.hash.Hasher as hasher

@@ -1,5 +1,5 @@
 -- Which threads hold shards, and what the shards' locks know of it.
-use Rattle.std.specs.Prelude.{◌≡◌, ◌≢◌, ℕ, ◌⊎◌, Bool, false, if◌then◌else◌, List, [], ◌∷◌, length, Option, Some, None}
+use Rattle.std.specs.Prelude.{◌≡◌, ◌≢◌, ℕ, ◌⊎◌, if◌then◌else◌, List, [], ◌∷◌, length, Option, Some, None}
 use Rattle.std.specs.Prelude.{slice_get}
 use Rattle.lock_api_desk.specs.declared.mode.Mode.{Mode as DeskMode}
 use Rattle.mapworld_state.specs.Locks.Aims.{Aim, Gets, GivesUp, Turns}
@@ -7,13 +7,15 @@ use Rattle.mapworld_state.specs.Locks.Views.{Shown, owner_in}
 use Rattle.mapworld_state.specs.Locks.Stands.{Stand, stand_in}
 use Rattle.mapworld_state.specs.declared.holds.Mode.{Mode}
 use Rattle.mapworld_state.specs.declared.holds.Mode.TheVariants.{Shared}
+use Rattle.mapworld_state.specs.declared.holds.Manner.{Manner}
+use Rattle.mapworld_state.specs.declared.holds.Manner.TheVariants.{Waits}
 use Rattle.mapworld_state.specs.declared.holds.Hold.{Hold}
 use Rattle.mapworld_state.specs.declared.place.Phase.{Phase}
 use Rattle.mapworld_state.specs.declared.place.Phase.TheVariants as phase
 use Rattle.mapworld_state.specs.Places.{Place}
 use Rattle.mapworld_state.specs.Classes.{class_of, holds_in}
-use Rattle.mapworld_state.specs.Holds.{at_desk, IsAmong}
-use Rattle.mapworld_state.specs.Moves.{mode_of, request_tries}
+use Rattle.mapworld_state.specs.Holds.{at_desk, tries_so, has_deadline_so, IsAmong}
+use Rattle.mapworld_state.specs.Moves.{mode_of, request_manner}
 use Rattle.mapworld_state.specs.Walks.{walk_mode, hands_over, kept_over}
 
 -- what is still done for a thread at a lock before its answer: it has given its hold up, or shares it now
@@ -26,16 +28,21 @@ abbrev pub IsOwing : {K V D T A : Type 0} → Place K V D T A → Option Stand �
 IsOwing p None = Unit {0}
 IsOwing p (Some stand) = MayOwe p stand.shard stand.aim
 
--- A thread asks for its shard, as a try or not, and with no deadline.
-pub record IsWanting {K V D T A : Type 0} (p : Place K V D T A) (mode : Mode) (tries : Bool)
+-- A thread asks for its shard, and waits so.
+pub record IsWanting {K V D T A : Type 0} (p : Place K V D T A) (mode : Mode) (manner : Manner)
     (stand : Option Stand) : Type 0 where
-  pub is : stand ≡ Some (record { shard = p.shard; aim = Gets (at_desk mode); trying = tries; timed = false })
+  pub is : stand ≡ Some (record {
+    shard = p.shard;
+    aim = Gets (at_desk mode);
+    trying = tries_so manner;
+    timed = has_deadline_so manner;
+  })
 
 -- the call that a thread is in at a lock, by its phase: the admission that it waits for; what its release or its
 -- downgrade owes; and else none
 abbrev pub StandsBefore : {K V D T A : Type 0} → Place K V D T A → Phase K V D T A → Option Stand → Type 0
 StandsBefore p phase.Rest stand = stand ≡ None
-StandsBefore p (phase.Admit r) stand = IsWanting p (mode_of r) (request_tries r) stand
+StandsBefore p (phase.Admit r) stand = IsWanting p (mode_of r) (request_manner r) stand
 StandsBefore p (phase.Find r) stand = stand ≡ None
 StandsBefore p (phase.Grow c) stand = stand ≡ None
 StandsBefore p (phase.Append k v) stand = stand ≡ None
@@ -46,7 +53,7 @@ StandsBefore p (phase.Change h) stand = stand ≡ None
 StandsBefore p (phase.Fill v) stand = stand ≡ None
 StandsBefore p phase.Downgrade stand = stand ≡ None
 StandsBefore p (phase.Idle f) stand = stand ≡ None
-StandsBefore p (phase.Reach f) stand = IsWanting p (walk_mode f) false stand
+StandsBefore p (phase.Reach f) stand = IsWanting p (walk_mode f) Waits stand
 StandsBefore p (phase.Part f) stand = stand ≡ None
 StandsBefore p (phase.Visit f) stand = IsOwing p stand
 StandsBefore p (phase.Seek f) stand = stand ≡ None

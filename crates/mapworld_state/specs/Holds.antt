@@ -1,11 +1,13 @@
 -- Holds of shards, as their locks see them.
-use Rattle.std.specs.Prelude.{◌≡◌, ℕ, Bool, if◌then◌else◌, List, Some, slice_get}
+use Rattle.std.specs.Prelude.{◌≡◌, ℕ, Bool, true, false, List, Some, slice_get}
 use Rattle.lock_api_desk.specs.declared.mode.Mode.{Mode as DeskMode}
 use Rattle.lock_api_desk.specs.declared.mode.Mode.TheVariants as desk
 use Rattle.parking_lot_machine_calls.specs.declared.calls.LockCall.{LockCall}
 use Rattle.parking_lot_machine_calls.specs.declared.calls.LockCall.TheVariants as call
 use Rattle.mapworld_state.specs.declared.holds.Mode.{Mode}
 use Rattle.mapworld_state.specs.declared.holds.Mode.TheVariants.{Shared, Exclusive}
+use Rattle.mapworld_state.specs.declared.holds.Manner.{Manner}
+use Rattle.mapworld_state.specs.declared.holds.Manner.TheVariants.{Waits, Tries, UntilDeadline}
 use Rattle.mapworld_state.specs.declared.holds.Hold.{Hold}
 
 -- a mode at a desk
@@ -23,8 +25,26 @@ abbrev pub tries_for : Mode → LockCall
 tries_for Shared = call.TryRead
 tries_for Exclusive = call.TryWrite
 
-abbrev pub wants_for : (tries : Bool) → Mode → LockCall
-wants_for tries mode = if tries then tries_for mode else asks_for mode
+-- and the one that waits until its deadline
+abbrev pub waits_for : Mode → LockCall
+waits_for Shared = call.ReadUntil
+waits_for Exclusive = call.WriteUntil
+
+abbrev pub wants_for : Manner → Mode → LockCall
+wants_for Waits mode = asks_for mode
+wants_for Tries mode = tries_for mode
+wants_for UntilDeadline mode = waits_for mode
+
+-- whether a call that waits so is a try, and whether it has a deadline
+abbrev pub tries_so : Manner → Bool
+tries_so Waits = false
+tries_so Tries = true
+tries_so UntilDeadline = false
+
+abbrev pub has_deadline_so : Manner → Bool
+has_deadline_so Waits = false
+has_deadline_so Tries = false
+has_deadline_so UntilDeadline = true
 
 abbrev pub gives_up : Mode → LockCall
 gives_up Shared = call.UnlockRead

@@ -12,10 +12,13 @@ use Rattle.mapworld_calls.specs.declared.ask.Held.TheVariants as held
 use Rattle.mapworld_calls.specs.declared.block.Block.{Block}
 use Rattle.mapworld_calls.specs.declared.reply.Answer.{Answer}
 use Rattle.mapworld_calls.specs.declared.reply.Answer.TheVariants as answer
-use Rattle.mapworld_calls.specs.Programs.{is_drop, is_try, keyed_key, opening_key, stop_of}
+use Rattle.mapworld_calls.specs.Programs.{is_drop, is_try, keyed_has_deadline, keyed_key, opening_has_deadline}
+use Rattle.mapworld_calls.specs.Programs.{opening_key, stop_of}
 use Rattle.mapworld_calls.specs.Calls.{At, shared, exclusive, occupied}
 use Rattle.mapworld_state.specs.declared.holds.Mode.{Mode}
 use Rattle.mapworld_state.specs.declared.holds.Mode.TheVariants.{Shared, Exclusive}
+use Rattle.mapworld_state.specs.declared.holds.Manner.{Manner}
+use Rattle.mapworld_state.specs.declared.holds.Manner.TheVariants.{Waits, Tries, UntilDeadline}
 use Rattle.mapworld_state.specs.declared.step.Step.{Step}
 use Rattle.mapworld_state.specs.declared.place.Request.{Request}
 use Rattle.mapworld_state.specs.declared.place.Request.TheVariants as request
@@ -58,6 +61,8 @@ opening_way (begin.Entry k) = way.Occupied k
 opening_way (begin.TryGet k) = way.Shared
 opening_way (begin.TryGetMut k) = way.Exclusive
 opening_way (begin.TryEntry k) = way.Occupied k
+opening_way (begin.GetUntil k) = way.Shared
+opening_way (begin.GetMutUntil k) = way.Exclusive
 
 abbrev pub opening_mode : {K : Type 0} → Begin K → Mode
 opening_mode b = way_mode (opening_way b)
@@ -66,10 +71,19 @@ abbrev pub mode_of : {K V D : Type 0} → Request K V D → Mode
 mode_of (request.Keyed k) = keyed_mode k
 mode_of (request.Begin b) = opening_mode b
 
--- whether it waits for nobody
-abbrev pub request_tries : {K V D : Type 0} → Request K V D → Bool
-request_tries (request.Keyed k) = false
-request_tries (request.Begin b) = is_try b
+-- how long it waits for its shard: not at all as a try, and up to its deadline if it has one
+abbrev pub manner : (tries timed : Bool) → Manner
+manner tries timed = if tries then Tries else (if timed then UntilDeadline else Waits)
+
+abbrev pub keyed_manner : {K V D : Type 0} → Keyed K V D → Manner
+keyed_manner k = manner false (keyed_has_deadline k)
+
+abbrev pub opening_manner : {K : Type 0} → Begin K → Manner
+opening_manner b = manner (is_try b) (opening_has_deadline b)
+
+abbrev pub request_manner : {K V D : Type 0} → Request K V D → Manner
+request_manner (request.Keyed k) = keyed_manner k
+request_manner (request.Begin b) = opening_manner b
 
 -- whether a call is the last one of its block, if it has one
 abbrev pub is_last : {K V D : Type 0} → Ask K V D → Bool
@@ -215,11 +229,13 @@ changed_phase ends a = if ends then phase.Release a else phase.Answer a
 -- a call on an absent key for whose pair room is made
 abbrev pub request_of : {K V D : Type 0} → Growth K V → Request K V D
 request_of (growth.Insert k v) = request.Keyed (keyed.Insert k v)
+request_of (growth.InsertUntil k v) = request.Keyed (keyed.InsertUntil k v)
 request_of (growth.Entry k) = request.Begin (begin.Entry k)
 request_of (growth.TryEntry k) = request.Begin (begin.TryEntry k)
 
 abbrev pub growth_key : {K V : Type 0} → Growth K V → K
 growth_key (growth.Insert k v) = k
+growth_key (growth.InsertUntil k v) = k
 growth_key (growth.Entry k) = k
 growth_key (growth.TryEntry k) = k
 
@@ -240,11 +256,18 @@ found_phase (request.Keyed (keyed.View k d)) true room = phase.View k d
 found_phase (request.Keyed (keyed.View k d)) false room = phase.Release answer.None
 found_phase (request.Keyed (keyed.ContainsKey k)) true room = phase.Release (answer.Flag true)
 found_phase (request.Keyed (keyed.ContainsKey k)) false room = phase.Release (answer.Flag false)
+found_phase (request.Keyed (keyed.InsertUntil k v)) true room = phase.Apply (keyed.InsertUntil k v)
+found_phase (request.Keyed (keyed.InsertUntil k v)) false true = phase.Append k v
+found_phase (request.Keyed (keyed.InsertUntil k v)) false false = phase.Grow (growth.InsertUntil k v)
+found_phase (request.Keyed (keyed.RemoveUntil k)) true room = phase.Apply (keyed.RemoveUntil k)
+found_phase (request.Keyed (keyed.RemoveUntil k)) false room = phase.Release answer.None
 found_phase (request.Begin b) true room = phase.Answer answer.Held
 found_phase (request.Begin (begin.Get k)) false room = phase.Release answer.None
 found_phase (request.Begin (begin.GetMut k)) false room = phase.Release answer.None
 found_phase (request.Begin (begin.TryGet k)) false room = phase.Release answer.None
 found_phase (request.Begin (begin.TryGetMut k)) false room = phase.Release answer.None
+found_phase (request.Begin (begin.GetUntil k)) false room = phase.Release answer.None
+found_phase (request.Begin (begin.GetMutUntil k)) false room = phase.Release answer.None
 found_phase (request.Begin (begin.Entry k)) false true = phase.Answer answer.Vacant
 found_phase (request.Begin (begin.Entry k)) false false = phase.Grow (growth.Entry k)
 found_phase (request.Begin (begin.TryEntry k)) false true = phase.Answer answer.Vacant
@@ -267,11 +290,18 @@ found_done (request.Keyed (keyed.Alter k d)) false room = Some 1
 found_done (request.Keyed (keyed.View k d)) true room = None
 found_done (request.Keyed (keyed.View k d)) false room = Some 1
 found_done (request.Keyed (keyed.ContainsKey k)) there room = Some 1
+found_done (request.Keyed (keyed.InsertUntil k v)) true room = Some 0
+found_done (request.Keyed (keyed.InsertUntil k v)) false true = Some 0
+found_done (request.Keyed (keyed.InsertUntil k v)) false false = None
+found_done (request.Keyed (keyed.RemoveUntil k)) true room = Some 0
+found_done (request.Keyed (keyed.RemoveUntil k)) false room = Some 1
 found_done (request.Begin b) true room = Some 1
 found_done (request.Begin (begin.Get k)) false room = Some 1
 found_done (request.Begin (begin.GetMut k)) false room = Some 1
 found_done (request.Begin (begin.TryGet k)) false room = Some 1
 found_done (request.Begin (begin.TryGetMut k)) false room = Some 1
+found_done (request.Begin (begin.GetUntil k)) false room = Some 1
+found_done (request.Begin (begin.GetMutUntil k)) false room = Some 1
 found_done (request.Begin (begin.Entry k)) false true = Some 1
 found_done (request.Begin (begin.Entry k)) false false = None
 found_done (request.Begin (begin.TryEntry k)) false true = Some 1
@@ -285,6 +315,8 @@ found_guard (request.Begin (begin.Get k)) false room = None
 found_guard (request.Begin (begin.GetMut k)) false room = None
 found_guard (request.Begin (begin.TryGet k)) false room = None
 found_guard (request.Begin (begin.TryGetMut k)) false room = None
+found_guard (request.Begin (begin.GetUntil k)) false room = None
+found_guard (request.Begin (begin.GetMutUntil k)) false room = None
 found_guard (request.Begin (begin.Entry k)) false true = Some (guard.Vacant k)
 found_guard (request.Begin (begin.Entry k)) false false = None
 found_guard (request.Begin (begin.TryEntry k)) false true = Some (guard.Vacant k)

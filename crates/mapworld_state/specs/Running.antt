@@ -1,10 +1,9 @@
 -- Which steps are refused, and what a run of steps leads to.
-use Rattle.std.specs.Prelude.{◌≡◌, ℕ, ◌+◌, ◌-◌, ◌*◌, ◌^◌, Bool, true, false, ◌||◌, is_none, if◌then◌else◌, nat_lt}
+use Rattle.std.specs.Prelude.{◌≡◌, ℕ, ◌+◌, ◌-◌, ◌*◌, ◌^◌, Bool, false, ◌||◌, is_none, if◌then◌else◌, nat_lt}
 use Rattle.std.specs.Prelude.{nat_le, List, [], ◌∷◌, length, Option, Some, None, Result, Ok, Err, slice_get, sum_by}
-use Rattle.std.specs.Prelude.{◌==◌}
 use Rattle.mapworld_calls.specs.Setup.{Setup}
 use Rattle.parking_lot_machine.specs.Rows.{state, call_at}
-use Rattle.parking_lot_machine.specs.Machines.{can_move, is_asleep}
+use Rattle.parking_lot_machine.specs.Machines.{can_move, is_asleep, may_expire}
 use Rattle.mapworld_state.specs.Locks.Views.{Shown}
 use Rattle.mapworld_state.specs.declared.faults.fault.RunFault.{RunFault}
 use Rattle.mapworld_state.specs.declared.faults.fault.RunFault.TheVariants as fault
@@ -52,10 +51,15 @@ abbrev pub moves_at : {K V D T A : Type 0} → Shown → ℕ → Option (Place K
 moves_at locks t None = false
 moves_at locks t (Some p) = moves_before locks t (length p.asks) p.phase
 
--- whether a step of a thread would be done: its calls aren't all answered, it isn't asleep, and it isn't before a
+-- whether a step of a thread's own would be done: its calls aren't all answered, it isn't asleep, and it isn't before a
 -- queue's section that another thread has entered
 abbrev pub can_move_in : {K V S D T A : Type 0} → State K V S D T A → ℕ → Bool
 can_move_in w t = moves_at w.locks t (slice_get w.places t)
+
+-- whether a step would be done: its thread can make one, or, where it is the thread's deadline, the thread sleeps in a
+-- call that has one, and it hasn't come
+abbrev pub may_step : {K V S D T A : Type 0} → State K V S D T A → Step → Bool
+may_step w s = if s.deadline then may_expire (state w.locks.rows) s.thread else can_move_in w s.thread
 
 -- whether a number is left for one more step
 abbrev pub has_next : {K V S D T A : Type 0} → State K V S D T A → Bool
@@ -69,7 +73,7 @@ has_numbers w = nat_le (length w.steps + 1 + bound_of w + 2 * (unanswered_of w +
 abbrev pub refusal : {K V S D T A : Type 0} → State K V S D T A → ℕ → Step → Option RunFault
 refusal w n s =
     if nat_lt s.thread (length w.programs)
-    then (if can_move_in w s.thread
+    then (if may_step w s
     then (if has_numbers w then None else Some (fault.StepsShort n))
     else Some (fault.CannotMove n))
     else Some (fault.NoSuchThread n)

@@ -3,6 +3,7 @@ use Rattle.std.specs.Prelude.{◌≡◌, ℕ, zero, suc, ◌+◌, ◌-◌, ◌^�
 use Rattle.std.specs.Prelude.{MatchBool, List, [], ◌∷◌, length, map, drop, sum, Option, Some, None, slice_get}
 use Rattle.mapworld_calls.specs.declared.ask.Ask.{Ask}
 use Rattle.mapworld_calls.specs.declared.ask.Ask.TheVariants as ask
+use Rattle.mapworld_calls.specs.declared.ask.Keyed.{Keyed}
 use Rattle.mapworld_calls.specs.declared.ask.Keyed.TheVariants as keyed
 use Rattle.mapworld_calls.specs.declared.ask.Held.TheVariants as held
 use Rattle.mapworld_calls.specs.declared.block.Block.{Block}
@@ -188,6 +189,16 @@ HoldsBoth p mode = (last : Hold) × (own : Hold) × (p.holds ≡ last ∷ own �
 abbrev pub HoldsWhileBetween : {K V D T A : Type 0} → Place K V D T A → Walk D → Type 0
 HoldsWhileBetween p f = MatchBool (hands_over f) (HoldsShard p (walk_mode f)) (p.holds ≡ [])
 
+-- in a call that adds that pair where its key is absent
+abbrev pub Inserts : {K V D : Type 0} → Keyed K V D → K → V → Type 0
+Inserts call k v = (call ≡ keyed.Insert k v) ⊎ (call ≡ keyed.InsertUntil k v)
+
+pub record IsInserting {K V D T A : Type 0} (x : Setup K V D T) (threads : List ℕ) (t : ℕ) (p : Place K V D T A) (k : K)
+    (v : V) : Type 0 where
+  pub insertion : Keyed K V D
+  pub inserts : Inserts insertion k v
+  pub in_call : IsInCall x threads t p (ask.Keyed insertion)
+
 -- what holds of a thread's place, by its next step
 abbrev pub Claim : {K V D T A : Type 0} → Setup K V D T → List ℕ → List (Block K) → List (ShardPairs K V) → ℕ
     → Place K V D T A → Phase K V D T A → Type 0
@@ -200,7 +211,7 @@ Claim {K} {V} {D} x threads bs tables t p (phase.Grow c) =
     IsInCall x threads t p (ask_of (request_of {D = D} c)) × IsOnItsWay x p (growth_key c) × HoldsShard p Exclusive
     × HasPairs tables p.shard (λ table. (pair_of x.eq table.items (growth_key c) ≡ None) × (has_room table ≡ false))
 Claim x threads bs tables t p (phase.Append k v) =
-    IsInCall x threads t p (ask.Keyed (keyed.Insert k v)) × IsBeforeDeed x bs t p k None
+    IsInserting x threads t p k v × IsBeforeDeed x bs t p k None
     × HasPairs tables p.shard (λ table. has_room table ≡ true)
 Claim {K} {V} x threads bs tables t p (phase.Apply k) =
     (pair : K × V) × IsInCall x threads t p (ask.Keyed k) × IsBeforeDeed x bs t p (keyed_key k) (Some pair)

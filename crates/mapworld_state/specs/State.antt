@@ -1,5 +1,5 @@
 -- A world as contracts see it.
-use Rattle.std.specs.Prelude.{ℕ, ◌+◌, List, length, map, flat_map, Option, slice_get}
+use Rattle.std.specs.Prelude.{ℕ, ◌+◌, if◌then◌else◌, List, length, map, flat_map, Option, Some, None, slice_get}
 use Rattle.std.specs.Option.{option_and_then}
 use Rattle.mapworld_calls.specs.declared.ask.Ask.{Ask}
 use Rattle.mapworld_calls.specs.declared.block.Block.{Block}
@@ -28,6 +28,13 @@ pub record State (K V S D T A : Type 0) : Type 0 where
 -- the thread of each step so far
 abbrev pub threads_of : {K V S D T A : Type 0} → State K V S D T A → List ℕ
 threads_of w = map (λ s. s.thread) w.steps
+
+-- whose deadline each step so far was, if it was one
+abbrev pub deadline_of : Step → Option ℕ
+deadline_of s = if s.deadline then Some s.thread else None
+
+abbrev pub deadlines_of : {K V S D T A : Type 0} → State K V S D T A → List (Option ℕ)
+deadlines_of w = map deadline_of w.steps
 
 -- the number of the next step: they are counted from 1
 abbrev pub next_step : {K V S D T A : Type 0} → State K V S D T A → ℕ

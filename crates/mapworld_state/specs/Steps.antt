@@ -32,14 +32,14 @@ use Rattle.parking_lot_protocol.specs.declared.act.CoreAnswer.TheVariants as end
 use Rattle.parking_lot_machine_calls.specs.declared.calls.LockCall.TheVariants as call
 use Rattle.mapworld_state.specs.Locks.Views.{Shown}
 use Rattle.mapworld_state.specs.Locks.Stands.{stand_in}
-use Rattle.mapworld_state.specs.Locks.Steps.{LockBegins, LockMoves, LockStarts, LockEnds}
+use Rattle.mapworld_state.specs.Locks.Steps.{LockBegins, LockMoves, LockStarts, LockEnds, LockExpires}
 use Rattle.mapworld_state.specs.Classes.{class_of, owes_in}
 use Rattle.mapworld_state.specs.Holds.{asks_for, wants_for, gives_up}
 use Rattle.mapworld_state.specs.Walks.{walk_mode, entered_phase, is_visited, all_visited, looked_keys, looked_count}
 use Rattle.mapworld_state.specs.Walks.{IsLookedAt, IsItemOf, walk_ends, LeadsOn}
 use Rattle.mapworld_state.specs.Shards.{ShardPairs, has_room, Puts, Grown}
 use Rattle.mapworld_state.specs.State.{State, next_step}
-use Rattle.mapworld_state.specs.Moves.{request_key, request_tries, mode_of, is_last, lent, start_phase, start_guard}
+use Rattle.mapworld_state.specs.Moves.{request_key, request_manner, mode_of, is_last, lent, start_phase, start_guard}
 use Rattle.mapworld_state.specs.Moves.{start_shard, start_counts, ends_guard, changed_phase, request_of, growth_key}
 use Rattle.mapworld_state.specs.Moves.{found_phase, found_done, found_guard, block_behind, stepped, ListsBlock}
 use Rattle.mapworld_state.specs.Moves.{IsListedVisit, VisitsKey, CountsCall, EndsCall}
@@ -50,7 +50,7 @@ guarded_key x bs block = option_and_then (λ i. option_and_then (block_key x) (s
 
 -- a call that needs its shard begins the call of the shard's lock; one on a guard has its shard
 abbrev pub EntersBy : {K V D T A : Type 0} → ℕ → ℕ → Phase K V D T A → Shown → Shown → Type 0
-EntersBy t shard (phase.Admit r) locks locks' = LockBegins t shard (wants_for (request_tries r) (mode_of r)) locks
+EntersBy t shard (phase.Admit r) locks locks' = LockBegins t shard (wants_for (request_manner r) (mode_of r)) locks
     locks'
 EntersBy t shard (phase.Reach f) locks locks' = LockBegins t shard (asks_for (walk_mode f)) locks locks'
 EntersBy t shard other locks locks' = locks' ≡ locks
@@ -91,14 +91,17 @@ pub record Reaches {K V S D T A : Type 0} (w : State K V S D T A) (t : ℕ) (w' 
     locks = locks;
   }
 
--- A try could not have its shard: the call of the shard's lock is answered so. It is part of the step of the answer.
+-- A try could not have its shard, or a call with a deadline gave up: the call of the shard's lock is answered so, with
+-- nothing owned. It is part of the step of the answer.
 pub record IsLocked {K V S D T A : Type 0} (w : State K V S D T A) (t : ℕ) (w' : State K V S D T A) : Type 0 where
   pub place : Place K V D T A
   pub stands : slice_get w.places t ≡ Some place
   pub request : Request K V D
   pub before : place.phase ≡ phase.Admit request
   pub locks : Shown
-  pub ends : LockEnds t end.Refused w.locks locks
+  pub ended : CoreAnswer
+  pub unowned : ended ≢ end.Owned
+  pub ends : LockEnds t ended w.locks locks
   pub after : w' ≡ record w {
     places = slice_set w.places t (record place { phase = phase.Answer answer.Locked });
     locks = locks;
@@ -155,6 +158,15 @@ module _ {K V S D T A : Type 0} (x : Setup K V D T) (w : State K V S D T A) (s :
     pub stands : slice_get w.places s.thread ≡ Some place
     pub locks : Shown
     pub moves : LockMoves s.thread s.fair w.locks locks
+    pub after : w' ≡ record (stepped w s place) { locks = locks }
+
+  -- the deadline of a thread comes, as it sleeps in a call that has one: from then on it can move; its own place in
+  -- the lock's call is another, and nothing else
+  pub record Expires : Type 0 where
+    pub place : Place K V D T A
+    pub stands : slice_get w.places s.thread ≡ Some place
+    pub locks : Shown
+    pub expires : LockExpires s.thread w.locks locks
     pub after : w' ≡ record (stepped w s place) { locks = locks }
 
   -- a find looks for the key in the shard that is held now; it is the position of the block that it lists
@@ -515,8 +527,8 @@ pub record Looks {K V S D T A : Type 0} (x : Setup K V D T) (w : State K V S D T
   pub enters : (mid ≡ w) ⊎ Enters w s.thread mid
   pub finds : Finds x mid s w'
 
--- what ends with the step of an answer: what was owed to a lock, a try that could not have its shard, or a walk that
--- was to give no item
+-- what ends with the step of an answer: what was owed to a lock, a try or a call with a deadline that could not have
+-- its shard, or a walk that was to give no item
 pub data Concludes {K V S D T A : Type 0} (w : State K V S D T A) (t : ℕ) (w' : State K V S D T A) : Type 0 where
   owed : Leaves w t w' → Concludes w t w'
   locked : IsLocked w t w' → Concludes w t w'
@@ -550,26 +562,32 @@ pub record GoesOn {K V S D T A : Type 0} (x : Setup K V D T) (w : State K V S D 
   pub leaves : (mid ≡ w) ⊎ Leaves w s.thread mid
   pub starts : StartsVisit x mid s w'
 
--- one step of a world, of one kind
+-- one step that a thread makes itself, of one kind
+pub data IsOwnStep {K V S D T A : Type 0} (x : Setup K V D T) (w : State K V S D T A) (s : Step)
+    (w' : State K V S D T A) : Type 0 where
+  start : Starts x w s w' → IsOwnStep x w s w'
+  lock : MovesLock x w s w' → IsOwnStep x w s w'
+  find : Looks x w s w' → IsOwnStep x w s w'
+  find_grows : GrowsShard x w s w' → IsOwnStep x w s w'
+  find_refused : IsRefusedGrowth x w s w' → IsOwnStep x w s w'
+  deed_appends : Appends x w s w' → IsOwnStep x w s w'
+  deed_applies : Applies x w s w' → IsOwnStep x w s w'
+  deed_views : Views x w s w' → IsOwnStep x w s w'
+  deed_reads : Reads x w s w' → IsOwnStep x w s w'
+  deed_changes : Changes x w s w' → IsOwnStep x w s w'
+  deed_fills : Fills x w s w' → IsOwnStep x w s w'
+  downgrade : Downgrades x w s w' → IsOwnStep x w s w'
+  release : Releases x w s w' → IsOwnStep x w s w'
+  answers : Replies x w s w' → IsOwnStep x w s w'
+  visit_starts : GoesOn x w s w' → IsOwnStep x w s w'
+  visit_parts : Parts x w s w' → IsOwnStep x w s w'
+  visit_looks : Visits x w s w' → IsOwnStep x w s w'
+  visit_seeks : Seeks x w s w' → IsOwnStep x w s w'
+  visit_does : DoesItem x w s w' → IsOwnStep x w s w'
+  visit_gives : GivesBack x w s w' phase.Give phase.Onward → IsOwnStep x w s w'
+
+-- one step of a world: one that its thread makes itself, or its thread's deadline
 pub data IsStep {K V S D T A : Type 0} (x : Setup K V D T) (w : State K V S D T A) (s : Step)
     (w' : State K V S D T A) : Type 0 where
-  start : Starts x w s w' → IsStep x w s w'
-  lock : MovesLock x w s w' → IsStep x w s w'
-  find : Looks x w s w' → IsStep x w s w'
-  find_grows : GrowsShard x w s w' → IsStep x w s w'
-  find_refused : IsRefusedGrowth x w s w' → IsStep x w s w'
-  deed_appends : Appends x w s w' → IsStep x w s w'
-  deed_applies : Applies x w s w' → IsStep x w s w'
-  deed_views : Views x w s w' → IsStep x w s w'
-  deed_reads : Reads x w s w' → IsStep x w s w'
-  deed_changes : Changes x w s w' → IsStep x w s w'
-  deed_fills : Fills x w s w' → IsStep x w s w'
-  downgrade : Downgrades x w s w' → IsStep x w s w'
-  release : Releases x w s w' → IsStep x w s w'
-  answers : Replies x w s w' → IsStep x w s w'
-  visit_starts : GoesOn x w s w' → IsStep x w s w'
-  visit_parts : Parts x w s w' → IsStep x w s w'
-  visit_looks : Visits x w s w' → IsStep x w s w'
-  visit_seeks : Seeks x w s w' → IsStep x w s w'
-  visit_does : DoesItem x w s w' → IsStep x w s w'
-  visit_gives : GivesBack x w s w' phase.Give phase.Onward → IsStep x w s w'
+  by_itself : s.deadline ≡ false → IsOwnStep x w s w' → IsStep x w s w'
+  by_deadline : s.deadline ≡ true → Expires x w s w' → IsStep x w s w'

@@ -1,6 +1,6 @@
 -- How a walk goes from shard to shard.
-use Rattle.std.specs.Prelude.{◌≡◌, ℕ, ◌+◌, ◌-◌, ◌≤◌, ◌==◌, Bool, true, false, not, ◌&&◌, ◌||◌, if◌then◌else◌, List, []}
-use Rattle.std.specs.Prelude.{◌∷◌, length, map, Option, Some, None}
+use Rattle.std.specs.Prelude.{◌≡◌, ℕ, ◌+◌, ◌==◌, Bool, true, false, not, ◌&&◌, ◌||◌, if◌then◌else◌, List, []}
+use Rattle.std.specs.Prelude.{◌∷◌, length, map, Some}
 use Rattle.std.specs.List.{list_any, list_all}
 use Rattle.mapworld_calls.specs.declared.ask.Walk.{Walk}
 use Rattle.mapworld_calls.specs.declared.ask.Walk.TheVariants as walk
@@ -9,7 +9,7 @@ use Rattle.mapworld_calls.specs.declared.reply.Answer.TheVariants as answer
 use Rattle.mapworld_calls.specs.Agrees.{HasRead}
 use Rattle.mapworld_calls.specs.Deeds.{Deeds}
 use Rattle.mapworld_calls.specs.Calls.{visit_leaves}
-use Rattle.mapworld_calls.specs.Programs.{saturated, stop_of}
+use Rattle.mapworld_calls.specs.Programs.{stop_of}
 use Rattle.mapworld_state.specs.declared.holds.Mode.{Mode}
 use Rattle.mapworld_state.specs.declared.holds.Mode.TheVariants.{Shared, Exclusive}
 use Rattle.mapworld_state.specs.declared.holds.Hold.{Hold}

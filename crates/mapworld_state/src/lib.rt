@@ -11,7 +11,7 @@ mod place;
 mod step;
 mod world_core;
 
-pub use holds::{Hold, Mode};
+pub use holds::{Hold, Manner, Mode};
 pub use place::{Growth, Guard, Phase, Place, Request, Way};
 pub use step::{Status, Step};
 pub use world_core::Core;

@@ -37,6 +37,7 @@ pub enum Guard<K> {
 #[derive(Drop)]
 pub enum Growth<K, V> {
     Insert(K, V),
+    InsertUntil(K, V),
     Entry(K),
     TryEntry(K),
 }

@@ -7,6 +7,9 @@ pub struct Step {
     pub thread: usize,
     /// Whether a release hands its shard over to a waiter, where it stores the lock's word in this step.
     pub fair: bool,
+    /// Whether this is the thread's deadline, and no step that it makes itself: it may come only while the thread sleeps
+    /// in a call that has one. `fair` then changes nothing.
+    pub deadline: bool,
 }
 
 /// Where a thread stands.
@@ -14,7 +17,8 @@ pub struct Step {
 pub enum Status {
     /// It can go on, or is before a queue's section that another thread has entered.
     Running,
-    /// It waits in a queue of its shard, or was taken from it and isn't woken yet.
+    /// It waits in a queue of its shard, or was taken from it and isn't woken yet; and its deadline, if it has one,
+    /// hasn't come.
     Asleep,
     /// All its calls are answered.
     Finished,

@@ -1,11 +1,9 @@
 -- What a thread may ask of a shard's lock: for the lock where it has no hold, and to give it up where it has one.
-use Rattle.std.proofs.Common.{◌≡◌, ◌≢◌, ◌⊎◌, ⊎_elim, ℕ, ◌<◌, inl, inr, Bool, true, false, List, [], Option, Some, None}
+use Rattle.std.proofs.Common.{◌≡◌, ◌≢◌, ℕ, ◌<◌, inl, inr, Bool, true, false, List, [], Option, Some, None}
 use Rattle.std.proofs.Common.{slice_get, refl, sym, ap, ◌∙◌, subst}
 use Rattle.std.proofs.lemmas.Option.{none-some}
 use Rattle.std.proofs.lemmas.Bool.{false≢true}
 use Rattle.dashmap_table.proofs.Cases.{option_cases}
-use Rattle.parking_lot_protocol.specs.declared.act.CoreAnswer.{CoreAnswer}
-use Rattle.parking_lot_protocol.specs.declared.act.CoreAnswer.TheVariants.{Owned, Refused}
 use Rattle.parking_lot_machine_calls.specs.declared.calls.LockCall.TheVariants as call
 use Rattle.mapworld_state.specs.Locks.Views.{Shown, owner_in}
 use Rattle.mapworld_state.specs.Locks.Stands.{Stand, stand_in, is_of_shards, needs, gives}
@@ -19,19 +17,25 @@ use Rattle.mapworld_state.specs.Places.{Place}
 use Rattle.mapworld_state.specs.Holds.{at_desk, asks_for, wants_for, gives_up}
 use Rattle.mapworld_state.specs.Held.{HoldsMatch, StandsBefore}
 use Rattle.mapworld_state.specs.Core.{AreLocksOf}
-use Rattle.mapworld_state.specs.Moves.{mode_of, request_tries}
+use Rattle.mapworld_state.specs.Moves.{mode_of, request_manner}
 use Rattle.mapworld_state.specs.Walks.{walk_mode}
 use Rattle.mapworld_state.specs.Steps.{EntersBy}
 use Rattle.mapworld_state.proofs.HoldsTable.{none-there}
 use Rattle.mapworld_state.proofs.LocksFacts.Sizes.{KeepsSize, same_size, begins-size}
+use Rattle.mapworld_state.specs.declared.holds.Manner.{Manner}
+use Rattle.mapworld_state.specs.declared.holds.Manner.TheVariants.{Waits, Tries, UntilDeadline}
+use Rattle.mapworld_state.specs.Locks.Steps.{LockExpires}
+use Rattle.std.proofs.Common.{length}
 
 -- what is asked of a lock, and what it needs
-asked-needs : (tries : Bool) (mode : Mode) → (is_of_shards (wants_for tries mode) ≡ true)
-    × (needs (wants_for tries mode) ≡ None)
-asked-needs false Shared = (refl, refl)
-asked-needs false Exclusive = (refl, refl)
-asked-needs true Shared = (refl, refl)
-asked-needs true Exclusive = (refl, refl)
+asked-needs : (manner : Manner) (mode : Mode) → (is_of_shards (wants_for manner mode) ≡ true)
+    × (needs (wants_for manner mode) ≡ None)
+asked-needs Waits Shared = (refl, refl)
+asked-needs Waits Exclusive = (refl, refl)
+asked-needs Tries Shared = (refl, refl)
+asked-needs Tries Exclusive = (refl, refl)
+asked-needs UntilDeadline Shared = (refl, refl)
+asked-needs UntilDeadline Exclusive = (refl, refl)
 
 given-needs : (mode : Mode) → (is_of_shards (gives_up mode) ≡ true) × (needs (gives_up mode) ≡ Some (at_desk mode))
 given-needs Shared = (refl, refl)
@@ -57,13 +61,13 @@ module _ {K V D T A : Type 0} {places : List (Place K V D T A)} {locks : Shown} 
   ]
 
   pub may-enter : (shard : ℕ) → ((i : ℕ) (h : Hold) → slice_get p.holds i ≡ Some h → h.shard ≢ shard) → shard < shards
-      → (tries : Bool) (mode : Mode) → MayAsk t shard (wants_for tries mode) locks
-  may-enter shard apart fits tries mode = record {
+      → (manner : Manner) (mode : Mode) → MayAsk t shard (wants_for manner mode) locks
+  may-enter shard apart fits manner mode = record {
     thread = subst (λ n. t < n) (sym sizes.threads_are) within;
     there = subst (λ n. shard < n) (sym sizes.shards_are) fits;
-    of_kind = (asked-needs tries mode).0;
+    of_kind = (asked-needs manner mode).0;
     free = out;
-    holds = owns-nothing shard apart ∙ sym (asked-needs tries mode).1;
+    holds = owns-nothing shard apart ∙ sym (asked-needs manner mode).1;
   }
 
   -- it has no hold of any shard where it has none
@@ -149,7 +153,7 @@ pub enters-size : {K V D T A : Type 0} (locks locks' : Shown) (t shard : ℕ) (f
     → EntersBy t shard f locks locks' → KeepsSize locks locks'
 enters-size locks locks' t shard phase.Rest h = rw h same_size
 enters-size locks locks' t shard (phase.Admit r) h = begins-size locks locks' t shard
-    (wants_for (request_tries r) (mode_of r)) h
+    (wants_for (request_manner r) (mode_of r)) h
 enters-size locks locks' t shard (phase.Reach f) h = begins-size locks locks' t shard (asks_for (walk_mode f)) h
 enters-size locks locks' t shard (phase.Idle f) h = rw h same_size
 enters-size locks locks' t shard (phase.Part f) h = rw h same_size
@@ -170,6 +174,7 @@ enters-size locks locks' t shard phase.Downgrade h = rw h same_size
 enters-size locks locks' t shard (phase.Release a) h = rw h same_size
 enters-size locks locks' t shard (phase.Answer a) h = rw h same_size
 
--- an admission that wasn't refused is owned
-pub owned-unless : (a : CoreAnswer) → (a ≡ Owned) ⊎ (a ≡ Refused) → (a ≡ Refused → ⊥) → a ≡ Owned
-owned-unless a h other = ⊎_elim (λ won. won) (λ lost. absurd (other lost)) h
+-- and so have those behind a deadline
+pub expires-size : (locks locks' : Shown) (t : ℕ) → LockExpires t locks locks' → KeepsSize locks locks'
+expires-size locks locks' t h =
+    record { threads_are = h.whole.threads; shards_are = ap length h.whole.kinds; desks_are = ap length h.desks }

@@ -61,6 +61,11 @@ module _ {K V D : Type 0} (T A : Type 0) where
   keyed-looks (keyed.View k d) false room key e = absurd (none-some key e)
   keyed-looks (keyed.ContainsKey k) true room key e = absurd (none-some key e)
   keyed-looks (keyed.ContainsKey k) false room key e = absurd (none-some key e)
+  keyed-looks (keyed.InsertUntil k v) true room key e = (refl, same_Some k key e)
+  keyed-looks (keyed.InsertUntil k v) false true key e = absurd (none-some key e)
+  keyed-looks (keyed.InsertUntil k v) false false key e = absurd (none-some key e)
+  keyed-looks (keyed.RemoveUntil k) true room key e = (refl, same_Some k key e)
+  keyed-looks (keyed.RemoveUntil k) false room key e = absurd (none-some key e)
 
 -- an opening of an absent key looks for none, and lends none
 module _ {K : Type 0} (V D T A : Type 0) where
@@ -72,6 +77,8 @@ module _ {K : Type 0} (V D T A : Type 0) where
   begin-free (begin.Entry k) false = refl
   begin-free (begin.TryGet k) room = refl
   begin-free (begin.TryGetMut k) room = refl
+  begin-free (begin.GetUntil k) room = refl
+  begin-free (begin.GetMutUntil k) room = refl
   begin-free (begin.TryEntry k) true = refl
   begin-free (begin.TryEntry k) false = refl
 
@@ -83,6 +90,8 @@ module _ {K : Type 0} (V D T A : Type 0) where
   begin-lends (begin.Entry k) false = refl
   begin-lends (begin.TryGet k) room = refl
   begin-lends (begin.TryGetMut k) room = refl
+  begin-lends (begin.GetUntil k) room = refl
+  begin-lends (begin.GetMutUntil k) room = refl
   begin-lends (begin.TryEntry k) true = refl
   begin-lends (begin.TryEntry k) false = refl
 
@@ -122,5 +131,6 @@ module _ {K V D T A : Type 0} (x : Setup K V D T) (bs bs' : List (Block K)) (n :
 pub grown-block : {K V : Type 0} (D : Type 0) (call : Growth K V) (n : ℕ) (block : Option ℕ)
     → Some n ≡ block_behind (found_done {D = D} (request_of call) false true) n block
 grown-block D (growth.Insert k v) n block = refl
+grown-block D (growth.InsertUntil k v) n block = refl
 grown-block D (growth.Entry k) n block = refl
 grown-block D (growth.TryEntry k) n block = refl

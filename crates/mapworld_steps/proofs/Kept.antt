@@ -12,6 +12,13 @@ use Rattle.mapworld_state.specs.Places.{Place, place_of}
 use Rattle.mapworld_state.specs.Core.{IsBefore}
 use Rattle.mapworld_state.proofs.Views.{view-at, view-from}
 use Rattle.mapworld_transitions.proofs.Facts.{read_at}
+use Rattle.std.proofs.Common.{inl, inr, arith}
+use Rattle.std.proofs.lemmas.Option.{slice_get_cases}
+
+-- there is a place for each thread
+pub kept-there : {X : Type 0} (places : List X) (t : ℕ) → t < length places → (p : X) × (slice_get places t ≡ Some p)
+kept-there places t within = elim (slice_get_cases places t).1
+    [ inl in_ ↦ (in_.0, in_.2) | inr out ↦ absurd (omega (arith, within, out.0)) ]
 
 -- a thread that stands before a phase
 module _ {K V D T A : Type 0} (places : List (KeptPlace K V D T A)) {t : ℕ} {ph : Phase K V D T A}

@@ -3,7 +3,7 @@ use Rattle.std.proofs.Common.{◌≡◌, ◌≢◌, ℕ, zero, suc, ◌+◌, ◌
 use Rattle.std.proofs.Common.{length, ◌^◌, ◌++◌, drop, ne_eqb, inl, inr, is_none, MatchBool, Option, Some, None}
 use Rattle.std.proofs.Common.{slice_get, refl, sym, ap, ◌∙◌, subst, arith}
 use Rattle.std.proofs.lemmas.Bool.{cases_Bool, false≢true}
-use Rattle.std.proofs.lemmas.Option.{none-some, same_Some}
+use Rattle.std.proofs.lemmas.Option.{none-some}
 use Rattle.dashmap_table.specs.Slots.{at, count, IsNextFull}
 use Rattle.dashmap_table.specs.Table.{Table}
 use Rattle.mapworld_calls.specs.declared.ask.Walk.{Walk}

@@ -12,4 +12,4 @@ mod walks;
 
 pub use mapworld_transitions::{is_world_amount, shard_of};
 pub use one_step::advance;
-pub use standing::{can_move, status};
+pub use standing::{can_move, may_step, status};

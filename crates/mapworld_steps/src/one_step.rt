@@ -1,12 +1,12 @@
 //! One step of a world, of the kind that its thread stands before.
 ghost use Rattle.std.specs.Prelude.{◌≡◌, ◌<◌, true, MatchBool, length};
-ghost use Rattle.mapworld_state.specs.Steps.{IsStep};
-ghost use Rattle.mapworld_state.specs.Running.{has_next, can_move_in};
+ghost use Rattle.mapworld_state.specs.Steps.{IsOwnStep, IsStep};
+ghost use Rattle.mapworld_state.specs.Running.{has_next, can_move_in, may_step};
 ghost use Rattle.mapworld_state.specs.Core.{state_of, Room, IsBefore, IsSoundCore, IsSlotted, MakesStep};
 
 use crate::ends::{downgrade, release};
 use crate::looks::{find, grow};
-use crate::queues::{admit, finish};
+use crate::queues::{admit, expire, finish};
 use crate::standing::can_move;
 use crate::starts::start;
 use crate::walking::{idle, onward, reach, visit};
@@ -28,7 +28,7 @@ fn go_on<K: Eq + Hash + Drop, V: Drop, S: BuildHasher, D: Deed<K, V> + Drop, A: 
     requires numbers { has_next (state_of core.old) ≡ true }
     requires thread { step.thread < length core.old.places.items }
     requires moves { can_move_in (state_of core.old) step.thread ≡ true }
-    ensures step { MakesStep IsStep D.Deed S.BuildHasher S.Hasher.Hasher K.eq K.hash_input core.old step core.new }
+    ensures step { MakesStep IsOwnStep D.Deed S.BuildHasher S.Hasher.Hasher K.eq K.hash_input core.old step core.new }
     ensures room { Room core.new }
     ensures slots { IsSlotted D.Deed S.BuildHasher S.Hasher.Hasher K.eq K.hash_input core.new }
 {
@@ -57,7 +57,8 @@ fn go_on<K: Eq + Hash + Drop, V: Drop, S: BuildHasher, D: Deed<K, V> + Drop, A: 
     }
 }
 
-/// The step that the thread stands before, if it can move: whether it was made. Otherwise the world stays as it is.
+/// The step that the thread stands before, if it can move, or its deadline, if it sleeps in a call that has one:
+/// whether it was made. Otherwise the world stays as it is.
 ///
 /// Whether a thread is kept out of its shard is asked of the shard's lock, so no step looks at the places of other
 /// threads.
@@ -73,13 +74,20 @@ pub fn advance<
     requires slots { IsSlotted D.Deed S.BuildHasher S.Hasher.Hasher K.eq K.hash_input core.old }
     requires numbers { has_next (state_of core.old) ≡ true }
     requires thread { step.thread < length core.old.places.items }
-    ensures moves { result ≡ can_move_in (state_of core.old) step.thread }
+    ensures moves { result ≡ may_step (state_of core.old) step }
     ensures made { MatchBool result
         (MakesStep IsStep D.Deed S.BuildHasher S.Hasher.Hasher K.eq K.hash_input core.old step core.new)
         (state_of core.new ≡ state_of core.old) }
     ensures room { Room core.new }
     ensures slots { IsSlotted D.Deed S.BuildHasher S.Hasher.Hasher K.eq K.hash_input core.new }
 {
+    if step.deadline {
+        if !core.locks.may_expire(step.thread) {
+            return false;
+        }
+        expire(core, step);
+        return true;
+    }
     if !can_move(core, step.thread) {
         return false;
     }

@@ -1,14 +1,14 @@
 //! The steps at a shard's lock, and what ends them.
-ghost use Rattle.std.specs.Prelude.{◌≡◌, ◌≢◌, true, Some, None, is_some, slice_get};
-ghost use Rattle.parking_lot_machine.specs.Machines.{can_move, ended};
+ghost use Rattle.std.specs.Prelude.{◌≡◌, ◌≢◌, ◌<◌, true, Some, None, is_some, length, slice_get};
+ghost use Rattle.parking_lot_machine.specs.Machines.{can_move, ended, may_expire};
 ghost use Rattle.parking_lot_machine.specs.Rows.{state};
-ghost use Rattle.parking_lot_protocol.specs.declared.act.CoreAnswer.TheVariants.{Refused};
+ghost use Rattle.parking_lot_protocol.specs.declared.act.CoreAnswer.TheVariants.{Owned};
 ghost use Rattle.mapworld_state.specs.Locks.Stands.{stand_in};
 ghost use Rattle.mapworld_state.specs.declared.place.Phase.TheVariants as phase;
 ghost use Rattle.mapworld_state.specs.Running.{has_next, goes_on};
 ghost use Rattle.mapworld_state.specs.Core.{state_of, Room, IsBefore, IsSoundCore, IsSlotted, MakesStep};
 ghost use Rattle.mapworld_state.specs.Classes.{class_of, owes_in};
-ghost use Rattle.mapworld_state.specs.Steps.{Enters, IsLocked, Leaves, MovesLock, IsStep};
+ghost use Rattle.mapworld_state.specs.Steps.{Enters, Expires, IsLocked, Leaves, MovesLock, IsOwnStep};
 
 use crate::ends::answer;
 use crate::looks::find;
@@ -44,6 +44,29 @@ pub(crate) fn move_lock<
     core.steps = core.steps.appended(&step);
 }
 
+/// The deadline of a thread comes, as it sleeps in a call of a shard's lock that has one.
+pub(crate) fn expire<
+    K: Eq + Hash + Drop,
+    V: Drop,
+    S: BuildHasher,
+    D: Deed<K, V> + Drop,
+    A: Allocator,
+>(core: &mut Core<K, V, S, D, D::Answer, A>, step: Step)
+    requires sound { IsSoundCore D.Deed S.BuildHasher S.Hasher.Hasher K.eq K.hash_input core.old }
+    requires room { Room core.old }
+    requires slots { IsSlotted D.Deed S.BuildHasher S.Hasher.Hasher K.eq K.hash_input core.old }
+    requires numbers { has_next (state_of core.old) ≡ true }
+    requires thread { step.thread < length core.old.places.items }
+    requires may { may_expire (state core.old.locks.rows) step.thread ≡ true }
+    ensures step { MakesStep Expires D.Deed S.BuildHasher S.Hasher.Hasher K.eq K.hash_input core.old step core.new }
+    ensures room { Room core.new }
+    ensures slots { IsSlotted D.Deed S.BuildHasher S.Hasher.Hasher K.eq K.hash_input core.new }
+{
+    core.locks.deadline(step.thread);
+    core.count += 1;
+    core.steps = core.steps.appended(&step);
+}
+
 /// Ends an admission: the lock's call is answered, and the place has the hold. It is part of the step of the look.
 fn enter_shard<K: Eq + Hash + Drop, V: Drop, S: BuildHasher, D: Deed<K, V> + Drop, A: Allocator>(
     core: &mut Core<K, V, S, D, D::Answer, A>,
@@ -53,8 +76,7 @@ fn enter_shard<K: Eq + Hash + Drop, V: Drop, S: BuildHasher, D: Deed<K, V> + Dro
     requires room { Room core.old }
     requires slots { IsSlotted D.Deed S.BuildHasher S.Hasher.Hasher K.eq K.hash_input core.old }
     requires before { (request : _) × IsBefore (state_of core.old).places thread (phase.Admit request) }
-    requires over { is_some (ended (state core.old.locks.rows) thread) ≡ true }
-    requires owned { ended (state core.old.locks.rows) thread ≢ Some Refused }
+    requires owned { ended (state core.old.locks.rows) thread ≡ Some Owned }
     ensures enters { Enters (state_of core.old) thread (state_of core.new) }
     ensures found { (request : _) × IsBefore (state_of core.new).places thread (phase.Find request) }
     ensures sound { IsSoundCore D.Deed S.BuildHasher S.Hasher.Hasher K.eq K.hash_input core.new }
@@ -75,8 +97,9 @@ fn enter_shard<K: Eq + Hash + Drop, V: Drop, S: BuildHasher, D: Deed<K, V> + Dro
     core.locks.finish(thread);
 }
 
-/// Ends a try that could not have its shard: its call is to be answered so. It is part of the step of the answer.
-fn refuse_try<K: Eq + Hash + Drop, V: Drop, S: BuildHasher, D: Deed<K, V> + Drop, A: Allocator>(
+/// Ends a try that could not have its shard, or a call with a deadline that gave up: it is to be answered so. It is
+/// part of the step of the answer.
+fn refuse_call<K: Eq + Hash + Drop, V: Drop, S: BuildHasher, D: Deed<K, V> + Drop, A: Allocator>(
     core: &mut Core<K, V, S, D, D::Answer, A>,
     thread: usize,
 )
@@ -84,7 +107,8 @@ fn refuse_try<K: Eq + Hash + Drop, V: Drop, S: BuildHasher, D: Deed<K, V> + Drop
     requires room { Room core.old }
     requires slots { IsSlotted D.Deed S.BuildHasher S.Hasher.Hasher K.eq K.hash_input core.old }
     requires before { (request : _) × IsBefore (state_of core.old).places thread (phase.Admit request) }
-    requires refused { ended (state core.old.locks.rows) thread ≡ Some Refused }
+    requires over { is_some (ended (state core.old.locks.rows) thread) ≡ true }
+    requires unowned { ended (state core.old.locks.rows) thread ≢ Some Owned }
     ensures locked { IsLocked (state_of core.old) thread (state_of core.new) }
     ensures told { (answer : _) × IsBefore (state_of core.new).places thread (phase.Answer answer) }
     ensures out { stand_in (state_of core.new).locks thread ≡ None }
@@ -98,7 +122,7 @@ fn refuse_try<K: Eq + Hash + Drop, V: Drop, S: BuildHasher, D: Deed<K, V> + Drop
     core.locks.finish(thread);
 }
 
-/// A step of a thread that waits for its shard: one of the lock's call, or where that is over the look, or of a try
+/// A step of a thread that waits for its shard: one of the lock's call, or where that is over the look, or of a call
 /// that could not have its shard the answer.
 pub(crate) fn admit<
     K: Eq + Hash + Drop,
@@ -113,19 +137,19 @@ pub(crate) fn admit<
     requires numbers { has_next (state_of core.old) ≡ true }
     requires before { (request : _) × IsBefore (state_of core.old).places step.thread (phase.Admit request) }
     requires moves { can_move (state core.old.locks.rows) step.thread ≡ true }
-    ensures step { MakesStep IsStep D.Deed S.BuildHasher S.Hasher.Hasher K.eq K.hash_input core.old step core.new }
+    ensures step { MakesStep IsOwnStep D.Deed S.BuildHasher S.Hasher.Hasher K.eq K.hash_input core.old step core.new }
     ensures room { Room core.new }
     ensures slots { IsSlotted D.Deed S.BuildHasher S.Hasher.Hasher K.eq K.hash_input core.new }
 {
     match core.locks.ended(step.thread) {
         None => move_lock(core, step),
-        Some(CoreAnswer::Refused) => {
-            refuse_try(core, step.thread);
-            answer(core, step);
-        }
-        Some(_) => {
+        Some(CoreAnswer::Owned) => {
             enter_shard(core, step.thread);
             find(core, step);
+        }
+        Some(_) => {
+            refuse_call(core, step.thread);
+            answer(core, step);
         }
     }
 }
@@ -167,7 +191,7 @@ pub(crate) fn finish<
     requires numbers { has_next (state_of core.old) ≡ true }
     requires before { (answer : _) × IsBefore (state_of core.old).places step.thread (phase.Answer answer) }
     requires moves { goes_on (state_of core.old).locks step.thread ≡ true }
-    ensures step { MakesStep IsStep D.Deed S.BuildHasher S.Hasher.Hasher K.eq K.hash_input core.old step core.new }
+    ensures step { MakesStep IsOwnStep D.Deed S.BuildHasher S.Hasher.Hasher K.eq K.hash_input core.old step core.new }
     ensures room { Room core.new }
     ensures slots { IsSlotted D.Deed S.BuildHasher S.Hasher.Hasher K.eq K.hash_input core.new }
 {

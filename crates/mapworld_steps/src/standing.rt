@@ -1,10 +1,10 @@
 //! Where a thread stands.
 ghost use Rattle.std.specs.Prelude.{◌≡◌, length};
-ghost use Rattle.mapworld_state.specs.Running.{status_before, status_of, moves_before, can_move_in};
+ghost use Rattle.mapworld_state.specs.Running.{status_before, status_of, moves_before, can_move_in, may_step};
 ghost use Rattle.mapworld_state.specs.Core.{state_of};
 
 use mapworld_state::locks::ShardLocks;
-use mapworld_state::{Core, Phase, Place, Status};
+use mapworld_state::{Core, Phase, Place, Status, Step};
 use std::alloc::Allocator;
 use std::hash::Hash;
 
@@ -83,5 +83,20 @@ pub fn can_move<K: Eq + Hash, V, S, D, T, A: Allocator>(
     match core.places.get(thread) {
         Some(place) => moves_at(&core.locks, thread, place),
         None => false,
+    }
+}
+
+/// Whether a step would be done: its thread can make one, or, where it is the thread's deadline, the thread sleeps in a
+/// call that has one.
+pub fn may_step<K: Eq + Hash, V, S, D, T, A: Allocator>(
+    core: &Core<K, V, S, D, T, A>,
+    step: Step,
+) -> bool
+    ensures { result ≡ may_step (state_of core.now) step }
+{
+    if step.deadline {
+        core.locks.may_expire(step.thread)
+    } else {
+        can_move(core, step.thread)
     }
 }

@@ -3,7 +3,7 @@ ghost use Rattle.std.specs.Prelude.{◌≡◌, ◌<◌, true, length, slice_get}
 ghost use Rattle.mapworld_state.specs.Locks.Steps.{MayAsk};
 ghost use Rattle.mapworld_state.specs.declared.place.Phase.TheVariants as phase;
 ghost use Rattle.mapworld_state.specs.Holds.{asks_for, wants_for};
-ghost use Rattle.mapworld_state.specs.Moves.{mode_of, request_tries};
+ghost use Rattle.mapworld_state.specs.Moves.{mode_of, request_manner};
 ghost use Rattle.mapworld_state.specs.Walks.{walk_mode};
 ghost use Rattle.mapworld_state.specs.Running.{has_next};
 ghost use Rattle.mapworld_state.specs.Core.{state_of, Room, IsBefore, IsSoundCore, IsSlotted, MakesStep};
@@ -15,7 +15,7 @@ use mapworld_state::{Core, Phase, Step};
 use mapworld_transitions::blocks::count_in;
 use mapworld_transitions::holds::{asks_for, wants_for};
 use mapworld_transitions::moves::{
-    enter, is_last, mode_of, request_tries, start_call, start_counts, start_shard,
+    enter, is_last, mode_of, request_manner, start_call, start_counts, start_shard,
 };
 use mapworld_transitions::walks::walk_mode;
 use std::alloc::Allocator;
@@ -30,14 +30,14 @@ fn ask_for_shard<K, V, D, T, A: Allocator>(
     next: &Phase<K, V, D, T, A>,
 )
     requires admit { (request : _) → next.now ≡ phase.Admit request
-        → MayAsk thread shard (wants_for (request_tries request) (mode_of request)) locks.old }
+        → MayAsk thread shard (wants_for (request_manner request) (mode_of request)) locks.old }
     requires reach { (walk : _) → next.now ≡ phase.Reach walk → MayAsk thread shard (asks_for (walk_mode walk))
         locks.old }
     ensures { EntersBy thread shard next.now locks.old locks.new }
 {
     match next {
         Phase::Admit(request) => {
-            let call = wants_for(request_tries(request), mode_of(request));
+            let call = wants_for(request_manner(request), mode_of(request));
             locks.begin(thread, shard, call);
         }
         Phase::Reach(walk) => locks.begin(thread, shard, asks_for(walk_mode(walk))),

@@ -6,7 +6,7 @@ ghost use Rattle.mapworld_state.specs.Locks.Stands.{stand_in};
 ghost use Rattle.mapworld_state.specs.declared.place.Phase.TheVariants as phase;
 ghost use Rattle.mapworld_state.specs.Running.{has_next, goes_on};
 ghost use Rattle.mapworld_state.specs.Core.{state_of, Room, IsBefore, IsSoundCore, IsSlotted, MakesStep};
-ghost use Rattle.mapworld_state.specs.Steps.{Reaches, GivesNone, IsStep};
+ghost use Rattle.mapworld_state.specs.Steps.{Reaches, GivesNone, IsOwnStep};
 
 use crate::ends::answer;
 use crate::queues::{leave_lock, move_lock};
@@ -72,7 +72,7 @@ pub(crate) fn reach<
     requires numbers { has_next (state_of core.old) ≡ true }
     requires before { (walk : _) × IsBefore (state_of core.old).places step.thread (phase.Reach walk) }
     requires moves { can_move (state core.old.locks.rows) step.thread ≡ true }
-    ensures step { MakesStep IsStep D.Deed S.BuildHasher S.Hasher.Hasher K.eq K.hash_input core.old step core.new }
+    ensures step { MakesStep IsOwnStep D.Deed S.BuildHasher S.Hasher.Hasher K.eq K.hash_input core.old step core.new }
     ensures room { Room core.new }
     ensures slots { IsSlotted D.Deed S.BuildHasher S.Hasher.Hasher K.eq K.hash_input core.new }
 {
@@ -99,7 +99,7 @@ pub(crate) fn visit<
     requires numbers { has_next (state_of core.old) ≡ true }
     requires before { (walk : _) × IsBefore (state_of core.old).places step.thread (phase.Visit walk) }
     requires moves { goes_on (state_of core.old).locks step.thread ≡ true }
-    ensures step { MakesStep IsStep D.Deed S.BuildHasher S.Hasher.Hasher K.eq K.hash_input core.old step core.new }
+    ensures step { MakesStep IsOwnStep D.Deed S.BuildHasher S.Hasher.Hasher K.eq K.hash_input core.old step core.new }
     ensures room { Room core.new }
     ensures slots { IsSlotted D.Deed S.BuildHasher S.Hasher.Hasher K.eq K.hash_input core.new }
 {
@@ -128,7 +128,7 @@ pub(crate) fn onward<
     requires numbers { has_next (state_of core.old) ≡ true }
     requires before { (walk : _) × IsBefore (state_of core.old).places step.thread (phase.Onward walk) }
     requires moves { goes_on (state_of core.old).locks step.thread ≡ true }
-    ensures step { MakesStep IsStep D.Deed S.BuildHasher S.Hasher.Hasher K.eq K.hash_input core.old step core.new }
+    ensures step { MakesStep IsOwnStep D.Deed S.BuildHasher S.Hasher.Hasher K.eq K.hash_input core.old step core.new }
     ensures room { Room core.new }
     ensures slots { IsSlotted D.Deed S.BuildHasher S.Hasher.Hasher K.eq K.hash_input core.new }
 {
@@ -181,7 +181,7 @@ pub(crate) fn idle<
     requires slots { IsSlotted D.Deed S.BuildHasher S.Hasher.Hasher K.eq K.hash_input core.old }
     requires numbers { has_next (state_of core.old) ≡ true }
     requires before { (walk : _) × IsBefore (state_of core.old).places step.thread (phase.Idle walk) }
-    ensures step { MakesStep IsStep D.Deed S.BuildHasher S.Hasher.Hasher K.eq K.hash_input core.old step core.new }
+    ensures step { MakesStep IsOwnStep D.Deed S.BuildHasher S.Hasher.Hasher K.eq K.hash_input core.old step core.new }
     ensures room { Room core.new }
     ensures slots { IsSlotted D.Deed S.BuildHasher S.Hasher.Hasher K.eq K.hash_input core.new }
 {

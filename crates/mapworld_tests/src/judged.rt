@@ -33,24 +33,27 @@ fn contents<S: BuildHasher, A: Allocator>(
     Ok(pairs)
 }
 
-/// What the world shows now, behind steps of these threads; none where a block doesn't show the end of its call exactly
-/// where that is answered.
+/// What the world shows now, behind steps of these threads and these deadlines; none where a block doesn't show the end
+/// of its call exactly where that is answered.
 pub fn shown_now<S: BuildHasher, A: Allocator>(
     alloc: Global,
     world: &World<S, A>,
     schedule: Vec<usize>,
+    deadlines: Vec<(usize, u64)>,
 ) -> Result<Option<Halfway>, AllocError> {
     let replies = replies_of(alloc, world.replies())?;
     let seen = Seen {
         blocks: world.blocks(),
         replies: &replies,
         routes: &[],
+        deadlines: &[],
     };
     if !shows_ends(seen) {
         return Ok(None);
     }
     Ok(Some(Halfway {
         schedule,
+        deadlines,
         pairs: contents(alloc, world)?,
         replies: replies.len(),
         blocks: world.blocks().len(),
@@ -90,6 +93,7 @@ pub fn broken<S: BuildHasher, A: Allocator + Clone + Drop>(
         blocks: world.blocks(),
         replies: &replies,
         routes: &routes,
+        deadlines: &halfway.deadlines,
     };
     let at_end = broken_at_end(made, seen, &pairs, world.steps(), &halfway.schedule)?;
     if at_end.is_some() {
@@ -107,6 +111,7 @@ pub fn at_first(alloc: Global, pairs: &[(u64, u64)]) -> Result<Halfway, AllocErr
     }
     Ok(Halfway {
         schedule: Vec::new(alloc),
+        deadlines: Vec::new(alloc),
         pairs: first,
         replies: 0,
         blocks: 0,

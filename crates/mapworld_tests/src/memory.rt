@@ -307,8 +307,9 @@ fn try_each(rt: &(impl AllocGlobal + Abort), row: Shortage) -> Result<(), Fail> 
 }
 
 /// Calls that may grow a shard, beside a reader.
-const GROWTHS: [&str; 3] = [
+const GROWTHS: [&str; 4] = [
     "thread a\n  insert 1 7\nthread b\n  get 1\n    drop\n",
+    "thread a\n  insert-until 1 7\nthread b\n  get 1\n    drop\n",
     "thread a\n  entry 1\n    insert 7\n    drop\nthread b\n  get 1\n    drop\n",
     "thread a\n  try-entry 1\n    insert 7\n    drop\nthread b\n  get 1\n    drop\n",
 ];

@@ -8,7 +8,7 @@ use std::alloc::{AllocError, Global};
 pub const KEYS: u64 = 8;
 
 /// How many kinds of calls open a program's next part.
-pub const KINDS: u64 = 22;
+pub const KINDS: u64 = 26;
 
 /// Numbers that follow no simple rule, and are the same at each run.
 #[derive(Drop)]
@@ -72,6 +72,10 @@ fn on_key(random: &mut Random, kind: u64, key: u64) -> Option<Asked> {
         10 => Ask::Begin(Begin::TryGet(key)),
         11 => Ask::Begin(Begin::TryGetMut(key)),
         12 => Ask::Begin(Begin::TryEntry(key)),
+        22 => Ask::Keyed(Keyed::InsertUntil(key, value)),
+        23 => Ask::Keyed(Keyed::RemoveUntil(key)),
+        24 => Ask::Begin(Begin::GetUntil(key)),
+        25 => Ask::Begin(Begin::GetMutUntil(key)),
         _ => return None,
     };
     Some(ask)
@@ -141,7 +145,7 @@ fn add_part(
         Some(ask) => calls.push(ask)?,
         None => calls.push(Ask::Walk(walk(random, kind)))?,
     }
-    if (7..13).contains(&kind) {
+    if (7..13).contains(&kind) || kind >= 24 {
         for _ in 0..most {
             calls.push(Ask::Held(on_guard(random)))?;
         }

@@ -77,12 +77,12 @@ struct Run {
     looks: bool,
 }
 
-/// Makes random steps, and notes whose they are. Answers the rule that is broken, if one is.
+/// Makes random steps, and notes them. Answers the rule that is broken, if one is.
 fn run_some<S: BuildHasher>(
     world: &mut World<S>,
     random: &mut Random,
     run: Run,
-    schedule: &mut Vec<usize>,
+    made: &mut Vec<Step>,
 ) -> Result<Broken, AllocError> {
     let threads = world.threads() as u64;
     for _ in 0..run.limit {
@@ -90,12 +90,18 @@ fn run_some<S: BuildHasher>(
             break;
         }
         let thread = random.below(threads) as usize;
-        if world.can_move(thread) {
+        let deadline = world.locks().may_expire(thread) && random.below(4) == 0;
+        if deadline || world.can_move(thread) {
             let fair = random.below(4) == 0;
-            if world.run(&[Step { thread, fair }]).is_err() {
-                return Ok(Some("a step of a thread that can move is made"));
+            let step = Step {
+                thread,
+                fair,
+                deadline,
+            };
+            if world.run(&[step]).is_err() {
+                return Ok(Some("a step of a thread that can move, or a deadline, is made"));
             }
-            schedule.push(thread)?;
+            made.push(step)?;
             if run.looks && !pairs_are_placed(world, run.shards) {
                 return Ok(Some("each key has one pair at most, on its shard"));
             }
@@ -136,12 +142,20 @@ fn broken_on<S: BuildHasher + Drop>(
     else {
         return Ok(Some("a world is made"));
     };
-    let mut schedule = Vec::new(made.alloc);
-    let by_steps = run_some(&mut world, random, run, &mut schedule)?;
+    let mut steps = Vec::new(made.alloc);
+    let by_steps = run_some(&mut world, random, run, &mut steps)?;
     if by_steps.is_some() {
         return Ok(by_steps);
     }
-    match shown_now(made.alloc, &world, schedule)? {
+    let mut schedule = Vec::new(made.alloc);
+    let mut deadlines = Vec::new(made.alloc);
+    for (i, step) in steps.iter().enumerate() {
+        schedule.push(step.thread)?;
+        if step.deadline {
+            deadlines.push((step.thread, (i as u64).saturating_add(1)))?;
+        }
+    }
+    match shown_now(made.alloc, &world, schedule, deadlines)? {
         Some(moment) => drained(made, &mut world, &moment, tally),
         None => Ok(Some("a block shows its end exactly where its call is answered")),
     }
@@ -230,7 +244,7 @@ fn print(rt: &impl Print, tally: Tally) -> Result<(), Fail> {
         locked,
     } = tally;
     println!(rt;
-        "{worlds} worlds, {steps} steps, {drained} by drains, at most {share} thousandths of a bound; {locked} tries locked"
+        "{worlds} worlds, {steps} steps, {drained} by drains, at most {share} thousandths of a bound; {locked} calls locked"
     )?;
     Ok(())
 }

@@ -73,6 +73,7 @@ pub fn step_times<
             .run(&[Step {
                 thread,
                 fair: false,
+                deadline: false,
             }])
             .is_ok();
     }

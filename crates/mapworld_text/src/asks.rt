@@ -49,6 +49,11 @@ pub fn call(words: &[&str]) -> Result<Asked, Expected> {
             let value = number(value)?;
             Ok(Ask::Keyed(Keyed::Insert(key, value)))
         }
+        ["insert-until", key, value] => {
+            let key = number(key)?;
+            let value = number(value)?;
+            Ok(Ask::Keyed(Keyed::InsertUntil(key, value)))
+        }
         [name, key, ref rest @ ..] => changing(name, number(key)?, deed(rest)?),
         _ => Err(Expected::Call),
     }
@@ -58,6 +63,7 @@ pub fn call(words: &[&str]) -> Result<Asked, Expected> {
 fn on_key(name: &str, key: u64) -> Result<Asked, Expected> {
     match name {
         "remove" => Ok(Ask::Keyed(Keyed::Remove(key))),
+        "remove-until" => Ok(Ask::Keyed(Keyed::RemoveUntil(key))),
         "view" => Ok(Ask::Keyed(Keyed::View(key, Change::NONE))),
         "contains" => Ok(Ask::Keyed(Keyed::ContainsKey(key))),
         "get" => Ok(Ask::Begin(Begin::Get(key))),
@@ -66,6 +72,8 @@ fn on_key(name: &str, key: u64) -> Result<Asked, Expected> {
         "try-get" => Ok(Ask::Begin(Begin::TryGet(key))),
         "try-get-mut" => Ok(Ask::Begin(Begin::TryGetMut(key))),
         "try-entry" => Ok(Ask::Begin(Begin::TryEntry(key))),
+        "get-until" => Ok(Ask::Begin(Begin::GetUntil(key))),
+        "get-mut-until" => Ok(Ask::Begin(Begin::GetMutUntil(key))),
         _ => Err(Expected::Call),
     }
 }

@@ -59,6 +59,8 @@ pub enum Order {
         times: usize,
         fair: bool,
     },
+    /// The deadline of a thread.
+    Deadline(usize),
     /// The thread's steps while it can move.
     Through(usize),
     /// The thread's steps until that is seen, 50 at the most.

@@ -40,7 +40,7 @@ impl Expected {
         match self {
             Expected::Depth => "0, 2 or 4 spaces before the first word",
             Expected::Line => {
-                "`case`, `shards`, `pairs`, `thread`, `copies`, `again`, `fair`, `either`, `step`, `through`, `until`, `round`, `drain`, `end`, `seed`, `run`, `expect`, `outcomes`, `never`, `always` or `sometimes`"
+                "`case`, `shards`, `pairs`, `thread`, `copies`, `again`, `fair`, `either`, `step`, `deadline`, `through`, `until`, `round`, `drain`, `end`, `seed`, `run`, `expect`, `outcomes`, `never`, `always` or `sometimes`"
             }
             Expected::Call => "a call on the map",
             Expected::GuardCall => "a call on a guard",

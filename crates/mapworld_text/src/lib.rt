@@ -4,6 +4,7 @@
 //! What may stand in a text is told in `README.md`.
 #![tactic(auto)]
 
+mod again;
 mod asks;
 mod case;
 mod change;
@@ -13,6 +14,7 @@ mod orders;
 mod reader;
 mod shown;
 
+pub use again::programs_again;
 pub use case::{Asked, Case, Line, Order, View};
 pub use change::Change;
 pub use claims::{Claim, Part, Term, terms};

@@ -96,6 +96,7 @@ pub fn order(case: &Case<'_>, words: &[&str]) -> Read {
         ["end"] => Ok((Order::End, 1)),
         ["run", _, ..] => Ok((Order::Run, 1)),
         ["step", thread, ref rest @ ..] => step(case.thread(thread)?, rest),
+        ["deadline", thread] => Ok((Order::Deadline(case.thread(thread)?), 2)),
         ["through", thread] => Ok((Order::Through(case.thread(thread)?), 2)),
         ["seed", seed, steps] => seeded(number(seed)?, number(steps)?),
         ["until", thread, ref rest @ ..] => until(case, case.thread(thread)?, rest),

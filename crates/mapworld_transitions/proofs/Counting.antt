@@ -1,5 +1,5 @@
 -- What a look adds to a walk's number.
-use Rattle.std.proofs.Common.{◌≡◌, ℕ, Bool, true, false, List, length, refl}
+use Rattle.std.proofs.Common.{◌≡◌, ℕ, true, false, List, length, refl}
 use Rattle.mapworld_calls.specs.declared.ask.Walk.{Walk}
 use Rattle.mapworld_calls.specs.declared.ask.Walk.TheVariants as walk
 use Rattle.mapworld_state.specs.Walks.{gives_items, looked_count}

@@ -1,8 +1,8 @@
 -- Where a look or a deed leads a walk.
 use Rattle.std.proofs.Common.{◌≡◌, ℕ, ◌+◌, ◌≤◌, Bool, true, false, ◌||◌, ◌&&◌, ◌==◌, if◌then◌else◌, List, None, refl}
-use Rattle.std.proofs.Common.{sym, ap, ◌∙◌, subst, inl, inr, arith}
+use Rattle.std.proofs.Common.{sym, subst, arith}
 use Rattle.std.specs.List.{list_any}
-use Rattle.std.proofs.lemmas.Bool.{cases_Bool, false≢true}
+use Rattle.std.proofs.lemmas.Bool.{false≢true}
 use Rattle.dashmap_table.specs.Table.{Table}
 use Rattle.mapworld_calls.specs.declared.ask.Walk.{Walk}
 use Rattle.mapworld_calls.specs.declared.block.Block.{Block}
@@ -13,7 +13,7 @@ use Rattle.mapworld_state.specs.declared.place.Place.{Place as KeptPlace}
 use Rattle.mapworld_state.specs.Places.{Place}
 use Rattle.mapworld_state.specs.Classes.{class_of, walks_in}
 use Rattle.mapworld_state.specs.Moves.{stops_at}
-use Rattle.mapworld_state.specs.Walks.{hands_over, walk_ends, behind_visit, LeadsOn}
+use Rattle.mapworld_state.specs.Walks.{hands_over, walk_ends, LeadsOn}
 use Rattle.mapworld_state.specs.Slots.{phase_key, IsNextSlot, SlotIsNext}
 use Rattle.mapworld_state.specs.Core.{owes, adds, lists, may_visit, may_walk}
 

@@ -82,6 +82,8 @@ module _ {D K V T : Type 0} (deeds : Deeds D K V T) where
   keyed-key (keyed.Alter k d) p z e = ap (λ (q : K × V). q.0) (sym (same_Some (p.0, deeds.effect d p.0 p.1) z e))
   keyed-key (keyed.View k d) p z e = ap (λ (q : K × V). q.0) (sym (same_Some p z e))
   keyed-key (keyed.ContainsKey k) p z e = ap (λ (q : K × V). q.0) (sym (same_Some p z e))
+  keyed-key (keyed.InsertUntil k w) p z e = ap (λ (q : K × V). q.0) (sym (same_Some (p.0, w) z e))
+  keyed-key (keyed.RemoveUntil k) p z e = absurd (none-some z e)
 
   pub keyed-keeps : (eq : K → K → Bool) → IsEquivalence eq → (call : Keyed K V D) (p z : K × V)
       → keyed_leaves deeds call (Some p) ≡ Some z → eq p.0 z.0 ≡ true

@@ -1,6 +1,6 @@
 -- A step of one thread leaves room, if what its place may still take falls by as much as is taken.
 use Rattle.std.proofs.Common.{◌≡◌, ◌≢◌, ◌⊎◌, inl, inr, ℕ, ◌+◌, ◌-◌, ◌<◌, ◌≤◌, ◌^◌, true, List, Vec, length, map, Some}
-use Rattle.std.proofs.Common.{slice_get, slice_set, sum_by, vec_len, vec_capacity, refl, sym, ap, ◌∙◌, subst, arith}
+use Rattle.std.proofs.Common.{slice_get, slice_set, sum_by, vec_len, vec_capacity, sym, ap, ◌∙◌, subst, arith}
 use Rattle.std.proofs.Common.{length-set, leb-true, ⊎_elim}
 use Rattle.std.proofs.lemmas.Bool.{lt-ltb, ltb-true}
 use Rattle.std.proofs.lemmas.List.{map-set}

@@ -1,10 +1,9 @@
 -- The pairs of a visit, one slot after another: which are done, how many are left, and what they read has room.
-use Rattle.std.proofs.Common.{◌≡◌, ◌≢◌, ℕ, zero, suc, ◌+◌, ◌-◌, ◌<◌, ◌≤◌, ◌^◌, min, Bool, true, false, cond, not, ◌&&◌}
+use Rattle.std.proofs.Common.{◌≡◌, ◌≢◌, ℕ, zero, suc, ◌+◌, ◌-◌, ◌<◌, ◌≤◌, ◌^◌, Bool, true, false, cond, not, ◌&&◌}
 use Rattle.std.proofs.Common.{◌||◌, if◌then◌else◌, List, [], ◌∷◌, ◌++◌, length, map, drop, Option, Some, None, IfSome}
 use Rattle.std.proofs.Common.{MatchOption, is_some, is_none, slice_get, Vec, vec_len, vec_capacity, nat_lt, refl, sym}
-use Rattle.std.proofs.Common.{ap, ◌∙◌, subst, inl, inr, arith, ltb-true, ltb-false, IsSome, drop-set-lt}
+use Rattle.std.proofs.Common.{ap, ◌∙◌, inl, inr, arith, ltb-true, ltb-false, IsSome, drop-set-lt}
 use Rattle.std.specs.Cmp.{IsEquivalence}
-use Rattle.std.specs.List.{list_any, list_all}
 use Rattle.std.specs.Option.{option_map}
 use Rattle.std.proofs.lemmas.Bool.{cases_Bool, cases_eq, false≢true, false_from_ne_true}
 use Rattle.std.proofs.lemmas.Option.{none-some, same_Some, slice_get-map}
@@ -14,7 +13,6 @@ use Rattle.std.proofs.lemmas.List.{get_or-set_other}
 use Rattle.dashmap_table.specs.declared.entry.Entry.{Entry}
 use Rattle.dashmap_table.specs.Slots.{at, count, pair_of as entry_pair, pairs_of, giving_pair, IsNextFull}
 use Rattle.dashmap_table.specs.Table.{Table}
-use Rattle.dashmap_table.proofs.Cases.{option_cases}
 use Rattle.dashmap_table.proofs.Places.{at-set_same}
 use Rattle.dashmap_table.proofs.Changing.{at-changed, at-changed_other}
 use Rattle.mapworld_calls.specs.declared.ask.Walk.{Walk}
@@ -25,7 +23,7 @@ use Rattle.mapworld_calls.specs.Calls.{visit_leaves, visit_reads}
 use Rattle.mapworld_calls.specs.Programs.{saturated, stop_of}
 use Rattle.mapworld_state.specs.Moves.{stops_at}
 use Rattle.mapworld_state.specs.Shards.{shard_pairs, Puts}
-use Rattle.mapworld_state.specs.Slots.{HasKeyAt, to_give, FitsReads}
+use Rattle.mapworld_state.specs.Slots.{to_give, FitsReads}
 use Rattle.mapworld_state.specs.Walks.{gives_items, gives_reads, is_visited, all_visited, looked_keys, walk_mode}
 use Rattle.mapworld_state.specs.Walks.{IsItemOf}
 use Rattle.mapworld_state.specs.declared.holds.Mode.TheVariants.{Shared}

@@ -198,11 +198,18 @@ module _ {K V D T A : Type 0} where
   found_weighs (request.Keyed (keyed.View k d)) false room ph e = rw e (refl, omega arith, refl)
   found_weighs (request.Keyed (keyed.ContainsKey k)) true room ph e = rw e (refl, omega arith, refl)
   found_weighs (request.Keyed (keyed.ContainsKey k)) false room ph e = rw e (refl, omega arith, refl)
+  found_weighs (request.Keyed (keyed.InsertUntil k v)) true room ph e = rw e (refl, omega arith, refl)
+  found_weighs (request.Keyed (keyed.InsertUntil k v)) false true ph e = rw e (refl, omega arith, refl)
+  found_weighs (request.Keyed (keyed.InsertUntil k v)) false false ph e = rw e (refl, omega arith, refl)
+  found_weighs (request.Keyed (keyed.RemoveUntil k)) true room ph e = rw e (refl, omega arith, refl)
+  found_weighs (request.Keyed (keyed.RemoveUntil k)) false room ph e = rw e (refl, omega arith, refl)
   found_weighs (request.Begin b) true room ph e = rw e (refl, omega arith, refl)
   found_weighs (request.Begin (begin.Get k)) false room ph e = rw e (refl, omega arith, refl)
   found_weighs (request.Begin (begin.GetMut k)) false room ph e = rw e (refl, omega arith, refl)
   found_weighs (request.Begin (begin.TryGet k)) false room ph e = rw e (refl, omega arith, refl)
   found_weighs (request.Begin (begin.TryGetMut k)) false room ph e = rw e (refl, omega arith, refl)
+  found_weighs (request.Begin (begin.GetUntil k)) false room ph e = rw e (refl, omega arith, refl)
+  found_weighs (request.Begin (begin.GetMutUntil k)) false room ph e = rw e (refl, omega arith, refl)
   found_weighs (request.Begin (begin.TryEntry k)) false true ph e = rw e (refl, omega arith, refl)
   found_weighs (request.Begin (begin.TryEntry k)) false false ph e = rw e (refl, omega arith, refl)
   found_weighs (request.Begin (begin.Entry k)) false true ph e = rw e (refl, omega arith, refl)
@@ -242,11 +249,25 @@ module _ {K : Type 0} (bs : List (Block K)) (st : Started) (at : ℕ) (bs' : Lis
       omega (arith, ap (lists more) e, one_added 1 h)
   found_lists more (request.Keyed (keyed.ContainsKey k)) false room ph e h =
       omega (arith, ap (lists more) e, one_added 1 h)
+  found_lists more (request.Keyed (keyed.InsertUntil k v)) true room ph e h =
+      omega (arith, ap (lists more) e, one_added 0 h)
+  found_lists more (request.Keyed (keyed.InsertUntil k v)) false true ph e h =
+      omega (arith, ap (lists more) e, one_added 0 h)
+  found_lists more (request.Keyed (keyed.InsertUntil k v)) false false ph e h =
+      omega (arith, ap (lists more) e, ap length h)
+  found_lists more (request.Keyed (keyed.RemoveUntil k)) true room ph e h =
+      omega (arith, ap (lists more) e, one_added 0 h)
+  found_lists more (request.Keyed (keyed.RemoveUntil k)) false room ph e h =
+      omega (arith, ap (lists more) e, one_added 1 h)
   found_lists more (request.Begin b) true room ph e h = omega (arith, ap (lists more) e, one_added 1 h)
   found_lists more (request.Begin (begin.Get k)) false room ph e h = omega (arith, ap (lists more) e, one_added 1 h)
   found_lists more (request.Begin (begin.GetMut k)) false room ph e h = omega (arith, ap (lists more) e, one_added 1 h)
   found_lists more (request.Begin (begin.TryGet k)) false room ph e h = omega (arith, ap (lists more) e, one_added 1 h)
   found_lists more (request.Begin (begin.TryGetMut k)) false room ph e h =
+      omega (arith, ap (lists more) e, one_added 1 h)
+  found_lists more (request.Begin (begin.GetUntil k)) false room ph e h =
+      omega (arith, ap (lists more) e, one_added 1 h)
+  found_lists more (request.Begin (begin.GetMutUntil k)) false room ph e h =
       omega (arith, ap (lists more) e, one_added 1 h)
   found_lists more (request.Begin (begin.TryEntry k)) false true ph e h =
       omega (arith, ap (lists more) e, one_added 1 h)
@@ -259,6 +280,7 @@ module _ {K : Type 0} (bs : List (Block K)) (st : Started) (at : ℕ) (bs' : Lis
       → AddsBlock bs (found_done {D = D} (request_of g) false true) st at bs' → (length bs' ≡ length bs + 1)
       × (lists more ph ≡ 0)
   grown_lists more (growth.Insert k v) ph e h = (one_added 0 h, ap (lists more) e)
+  grown_lists more (growth.InsertUntil k v) ph e h = (one_added 0 h, ap (lists more) e)
   grown_lists more (growth.Entry k) ph e h = (one_added 1 h, ap (lists more) e)
   grown_lists more (growth.TryEntry k) ph e h = (one_added 1 h, ap (lists more) e)
 

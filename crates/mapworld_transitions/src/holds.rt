@@ -1,8 +1,8 @@
 //! What steps ask of a shard's lock.
 ghost use Rattle.std.specs.Prelude.{◌≡◌};
-ghost use Rattle.mapworld_state.specs.Holds.{asks_for, tries_for, wants_for, gives_up};
+ghost use Rattle.mapworld_state.specs.Holds.{asks_for, tries_for, waits_for, wants_for, gives_up};
 
-use mapworld_state::Mode;
+use mapworld_state::{Manner, Mode};
 use parking_lot_machine::LockCall;
 
 /// The call that asks for the lock so.
@@ -25,14 +25,24 @@ fn tries_for(mode: Mode) -> LockCall
     }
 }
 
-/// The call that wants the lock so, and waits for it unless it is a try.
-pub fn wants_for(tries: bool, mode: Mode) -> LockCall
-    ensures { result ≡ wants_for tries mode }
+/// The call that asks for the lock so and waits until its deadline.
+fn waits_for(mode: Mode) -> LockCall
+    ensures { result ≡ waits_for mode }
 {
-    if tries {
-        tries_for(mode)
-    } else {
-        asks_for(mode)
+    match mode {
+        Mode::Shared => LockCall::ReadUntil,
+        Mode::Exclusive => LockCall::WriteUntil,
+    }
+}
+
+/// The call that wants the lock so, and waits for it so long.
+pub fn wants_for(manner: Manner, mode: Mode) -> LockCall
+    ensures { result ≡ wants_for manner mode }
+{
+    match manner {
+        Manner::Waits => asks_for(mode),
+        Manner::Tries => tries_for(mode),
+        Manner::UntilDeadline => waits_for(mode),
     }
 }
 

@@ -5,7 +5,7 @@ ghost use Rattle.mapworld_state.specs.declared.place.Request.TheVariants as requ
 ghost use Rattle.mapworld_state.specs.declared.place.Guard.TheVariants as own;
 ghost use Rattle.mapworld_calls.specs.Programs.{is_drop};
 ghost use Rattle.mapworld_state.specs.Route.{IsWorldAmount, key_route};
-ghost use Rattle.mapworld_state.specs.Moves.{request_key, request_tries, mode_of, is_last, lent_way, vacant_key};
+ghost use Rattle.mapworld_state.specs.Moves.{request_key, request_manner, mode_of, is_last, lent_way, vacant_key};
 ghost use Rattle.mapworld_state.specs.Moves.{shared_phase, exclusive_phase, occupied_phase, occupied_guard};
 ghost use Rattle.mapworld_state.specs.Moves.{vacant_phase, vacant_guard};
 ghost use Rattle.mapworld_state.specs.Moves.{held_phase, held_guard, start_phase, start_guard, start_shard, is_told};
@@ -17,7 +17,7 @@ ghost use Rattle.mapworld_state.specs.Moves.{block_behind};
 use crate::route::shard_of;
 use crate::walks::{stop_of, stops_at};
 use mapworld_calls::{Answer, Ask, Begin, Held, Keyed, Walk};
-use mapworld_state::{Growth, Guard, Mode, Phase, Request, Way};
+use mapworld_state::{Growth, Guard, Manner, Mode, Phase, Request, Way};
 use std::alloc::Allocator;
 use std::hash::{BuildHasher, Hash};
 use std::mem;
@@ -37,7 +37,7 @@ fn opening_mode<K>(begin: &Begin<K>) -> Mode
     ensures { result ≡ opening_mode begin.now }
 {
     match begin {
-        Begin::Get(_) | Begin::TryGet(_) => Mode::Shared,
+        Begin::Get(_) | Begin::TryGet(_) | Begin::GetUntil(_) => Mode::Shared,
         _ => Mode::Exclusive,
     }
 }
@@ -54,14 +54,18 @@ pub fn mode_of<K, V, D>(request: &Request<K, V, D>) -> Mode
     }
 }
 
-/// Whether a call on one key waits for nobody.
-pub fn request_tries<K, V, D>(request: &Request<K, V, D>) -> bool
-    ensures { result ≡ request_tries request.now }
+/// How long a call on one key waits for its shard.
+pub fn request_manner<K, V, D>(request: &Request<K, V, D>) -> Manner
+    ensures { result ≡ request_manner request.now }
 {
-    matches!(
-        request,
-        Request::Begin(Begin::TryGet(_) | Begin::TryGetMut(_) | Begin::TryEntry(_))
-    )
+    match request {
+        Request::Begin(Begin::TryGet(_) | Begin::TryGetMut(_) | Begin::TryEntry(_)) => {
+            Manner::Tries
+        }
+        Request::Begin(Begin::GetUntil(_) | Begin::GetMutUntil(_)) => Manner::UntilDeadline,
+        Request::Keyed(Keyed::InsertUntil(_, _) | Keyed::RemoveUntil(_)) => Manner::UntilDeadline,
+        _ => Manner::Waits,
+    }
 }
 
 /// Whether a call on the guard is its last.
@@ -297,6 +301,7 @@ pub fn request_of<K, V, D>(call: Growth<K, V>) -> Request<K, V, D>
 {
     match call {
         Growth::Insert(key, value) => Request::Keyed(Keyed::Insert(key, value)),
+        Growth::InsertUntil(key, value) => Request::Keyed(Keyed::InsertUntil(key, value)),
         Growth::Entry(key) => Request::Begin(Begin::Entry(key)),
         Growth::TryEntry(key) => Request::Begin(Begin::TryEntry(key)),
     }
@@ -323,8 +328,11 @@ fn absent_phase<K: Drop, V: Drop, D: Drop, T, A: Allocator>(
     ensures { result ≡ found_phase (request.Keyed call) false room }
 {
     match call {
-        Keyed::Insert(key, value) if room => Phase::Append(key, value),
+        Keyed::Insert(key, value) | Keyed::InsertUntil(key, value) if room => {
+            Phase::Append(key, value)
+        }
         Keyed::Insert(key, value) => Phase::Grow(Growth::Insert(key, value)),
+        Keyed::InsertUntil(key, value) => Phase::Grow(Growth::InsertUntil(key, value)),
         Keyed::Alter(_, _) => Phase::Release(Answer::Done),
         Keyed::ContainsKey(_) => Phase::Release(Answer::Flag(false)),
         _ => Phase::Release(Answer::None),
@@ -336,8 +344,8 @@ fn opening_way<K: Drop>(begin: Begin<K>) -> Way<K>
     ensures { result ≡ opening_way begin }
 {
     match begin {
-        Begin::Get(_) | Begin::TryGet(_) => Way::Shared,
-        Begin::GetMut(_) | Begin::TryGetMut(_) => Way::Exclusive,
+        Begin::Get(_) | Begin::TryGet(_) | Begin::GetUntil(_) => Way::Shared,
+        Begin::GetMut(_) | Begin::TryGetMut(_) | Begin::GetMutUntil(_) => Way::Exclusive,
         Begin::Entry(key) | Begin::TryEntry(key) => Way::Occupied(key),
     }
 }
@@ -390,7 +398,9 @@ pub fn found_done<K, V, D>(request: &Request<K, V, D>, present: bool, room: bool
     match (request, present) {
         (Request::Keyed(Keyed::ContainsKey(_)), _) => Some(1),
         (Request::Keyed(Keyed::View(_, _)), true) => None,
-        (Request::Keyed(Keyed::Insert(_, _)), false) => { if room { Some(0) } else { None } }
+        (Request::Keyed(Keyed::Insert(_, _) | Keyed::InsertUntil(_, _)), false) => {
+            if room { Some(0) } else { None }
+        }
         (Request::Keyed(_), true) => Some(0),
         (Request::Begin(Begin::Entry(_) | Begin::TryEntry(_)), false) => {
             if room { Some(1) } else { None }

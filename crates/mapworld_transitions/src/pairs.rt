@@ -156,6 +156,11 @@ pub fn apply_at<K: Eq + Hash + Drop, V: Drop, D: Deed<K, V> + Drop, A: Allocator
             let (key, value) = take_pair(shard, slot);
             (Answer::Pair(key, value), true)
         }
+        Keyed::InsertUntil(_, value) => (Answer::Value(swap_value(shard, slot, value)), false),
+        Keyed::RemoveUntil(_) => {
+            let (key, value) = take_pair(shard, slot);
+            (Answer::Pair(key, value), true)
+        }
         Keyed::RemoveIf(_, deed) => {
             if keeps(shard, slot, &deed) {
                 return (Answer::None, false);

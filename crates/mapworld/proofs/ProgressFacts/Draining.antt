@@ -9,7 +9,6 @@ use Rattle.std.proofs.lemmas.Bool.{lt-ltb}
 use Rattle.std.proofs.lemmas.List.{length-map}
 use Rattle.mapworld_calls.specs.declared.ask.Ask.{Ask}
 use Rattle.mapworld_calls.specs.declared.deed.Deed as deed
-use Rattle.mapworld_calls.specs.Placed.{OnlyAdds}
 use Rattle.mapworld_calls.specs.Setup.{Setup, Laws}
 use Rattle.mapworld_state.specs.Locks.Fits.{LocksFit}
 use Rattle.mapworld_state.specs.declared.step.Step.{Step}
@@ -17,18 +16,20 @@ use Rattle.mapworld_state.specs.declared.world_core.Core.{Core}
 use Rattle.mapworld_state.specs.Core.{AreLocksOf, Room, state_of}
 use Rattle.mapworld_state.specs.Places.{place_of}
 use Rattle.mapworld_state.specs.Route.{key_route}
-use Rattle.mapworld_state.specs.Running.{StaysFixed, can_move_in, has_next}
+use Rattle.mapworld_state.specs.Running.{StaysFixed, can_move_in, has_next, may_step}
 use Rattle.mapworld_state.specs.Shards.{shard_pairs}
 use Rattle.mapworld_state.specs.Sound.{Sound}
-use Rattle.mapworld_state.specs.State.{State, threads_of}
+use Rattle.mapworld_state.specs.State.{State}
 use Rattle.mapworld_state.specs.Steps.{IsStep}
 use Rattle.mapworld_state.specs.World.{deeds_of, setup_of}
 use Rattle.mapworld_transitions.proofs.Keys.{setup-laws}
-use Rattle.mapworld_state.proofs.InvariantFacts.Adding.{adds-more, adds-none, fixed-more, step-adds}
+use Rattle.mapworld_state.proofs.InvariantFacts.Adding.{fixed-more, step-adds}
+use Rattle.mapworld.proofs.Histories.{AddsTo, history-more, history-none}
 use Rattle.mapworld_state.proofs.InvariantFacts.Sounds.{sound-step}
 use Rattle.mapworld.specs.Progress.Drains.{Drains, DrainsBy, Makes}
 use Rattle.mapworld.specs.Progress.Left.{left}
 use Rattle.mapworld.specs.Progress.Sizes.{IsSized}
+use Rattle.mapworld.proofs.OwnSteps.{own-may}
 use Rattle.mapworld.proofs.ProgressFacts.Ending.{steps_fall}
 
 module _ {K V S D T A : Type 0} (x : Setup K V D T) where
@@ -79,18 +80,15 @@ module _ {K V S D T A : Type 0} (x : Setup K V D T) where
   length-by w n w' by = omega (arith, (stays w by.steps w' by.made).1, by.count)
 
 module _ {K V S D T A : Type 0} (x : Setup K V D T) where
-  abbrev pub AddsTo : State K V S D T A → State K V S D T A → Type 0
-  AddsTo v w = OnlyAdds (threads_of v) (threads_of w) v.blocks w.blocks v.replies w.replies
-
   adds-from : (v w : State K V S D T A) (ss : List Step) (w' : State K V S D T A) → AddsTo v w → Drains x w ss w'
       → AddsTo v w'
   adds-from v w [] w' so same = subst (AddsTo v) (sym same) so
   adds-from v w (s ∷ ss) w' so (mid, makes, rest) =
-      adds-from v mid ss w' (adds-more v w mid s so (step-adds x w s mid makes.whole.sound makes.kind)) rest
+      adds-from v mid ss w' (history-more v w mid s so (step-adds x w s mid makes.whole.sound makes.kind)) rest
 
   -- a run takes nothing away
   pub adds-by : (w : State K V S D T A) (n : ℕ) (w' : State K V S D T A) → DrainsBy x w n w' → AddsTo w w'
-  adds-by w n w' by = adds-from w w by.steps w' (adds-none w) by.made
+  adds-by w n w' by = adds-from w w by.steps w' (history-none w) by.made
 
 pub next-number : {K V S D T A : Type 0} (w : State K V S D T A) → length w.steps + 1 < 2 ^ 63 → has_next w ≡ true
 next-number w low = lt-ltb (length w.steps + 1) (2 ^ 63) low
@@ -155,7 +153,7 @@ module _ {K V S H D T A : Type 0} (d : deed.Ghosts D K V T) (b : builder.Ghosts 
         arith,
         ap (λ (y : Setup K V D T). left y w' s.thread) same,
         steps_fall (own w) (own-laws w laws respects) w
-            s w' makes.whole makes.kind,
+            s w' makes.whole makes.own makes.kind,
       )
 
   -- a run of the one, and then one of the other, which has the same setup
@@ -173,9 +171,13 @@ module _ {K V S H D T A : Type 0} (d : deed.Ghosts D K V T) (b : builder.Ghosts 
         (sound-step (own w) (own-laws w laws respects) w s w' sound step)
     sound-behind false same = subst (λ v. Sound (own v) v) (sym same) sound
 
-    pub made-behind : LocksFit w.locks → IsSized w → (moved : Bool) → moved ≡ can_move_in w s.thread
+    pub made-behind : LocksFit w.locks → IsSized w → s.deadline ≡ false → (moved : Bool) → moved ≡ may_step w s
         → MatchBool moved (IsStep (own w) w s w') (w' ≡ w)
         → MatchBool moved (Makes (own w) w s w') ((w' ≡ w) × (can_move_in w s.thread ≡ false))
-    made-behind fit sizes true is step =
-        record { moves = sym is; kind = step; whole = record { sound = sound; locks = fit; sizes = sizes } }
-    made-behind fit sizes false is same = (same, sym is)
+    made-behind fit sizes mine true is step = record {
+      moves = sym (own-may w s mine) ∙ sym is;
+      own = mine;
+      kind = step;
+      whole = record { sound = sound; locks = fit; sizes = sizes };
+    }
+    made-behind fit sizes mine false is same = (same, sym (own-may w s mine) ∙ sym is)

@@ -1,6 +1,7 @@
 -- What ends with no step of its own takes no more, and so each kind of step is paid for.
-use Rattle.std.proofs.Common.{◌≡◌, ℕ, ◌+◌, ◌-◌, ◌*◌, ◌≤◌, ◌<◌, ◌⊎◌, inl, inr, List, [], ◌∷◌, ◌++◌, length, Some}
+use Rattle.std.proofs.Common.{◌≡◌, ℕ, ◌+◌, ◌-◌, ◌*◌, ◌≤◌, ◌<◌, ◌⊎◌, inl, inr, false, List, [], ◌∷◌, ◌++◌, length, Some}
 use Rattle.std.proofs.Common.{slice_get, sum_by, refl, ap, sym, ◌∙◌, subst, arith, length-set}
+use Rattle.std.proofs.lemmas.Bool.{false≢true}
 use Rattle.mapworld_calls.specs.declared.ask.Walk.{Walk}
 use Rattle.mapworld_calls.specs.declared.reply.Answer.TheVariants as answer
 use Rattle.mapworld_calls.specs.Setup.{Setup, Laws}
@@ -21,7 +22,8 @@ use Rattle.mapworld_state.specs.Steps.{IsStep, start, lock, find, find_grows, fi
 use Rattle.mapworld_state.specs.Steps.{deed_views, deed_reads, deed_changes, deed_fills, downgrade, release, answers}
 use Rattle.mapworld_state.specs.Steps.{visit_starts, visit_parts, visit_looks, visit_seeks, visit_does, visit_gives}
 use Rattle.mapworld_state.specs.Steps.{Concludes, owed, locked, idle, Enters, GivesNone, GoesOn, IsLocked}
-use Rattle.mapworld_state.specs.Steps.{IsRefusedVisit, Leaves, LooksAround, Parts, Reaches}
+use Rattle.mapworld_state.specs.Steps.{IsOwnStep, IsRefusedVisit, Leaves, LooksAround, Parts, Reaches, by_itself}
+use Rattle.mapworld_state.specs.Steps.{by_deadline}
 use Rattle.mapworld_state.specs.Walks.{entered_phase, walk_mode}
 use Rattle.mapworld.specs.Progress.Left.{left, phase_left, phase_todo, place_left, place_todo}
 use Rattle.mapworld.specs.Progress.Whole.{IsWhole}
@@ -246,24 +248,28 @@ module _ {K V S D T A : Type 0} (x : Setup K V D T) (laws : Laws x) (w : State K
   ends mid (inl e) = stays x laws w s.thread mid whole.locks e
   ends mid (inr h) = concludes x laws w s.thread mid whole.locks h
 
-  pub steps_fall : IsStep x w s w' → Falls
-  steps_fall (start h) = starts_fall x laws w s w' size whole.locks h
-  steps_fall (lock h) = moves_fall x laws w s w' whole.locks h
-  steps_fall (find h) = omega (arith, admits h.mid h.enters, finds_fall x laws h.mid s w' h.finds)
-  steps_fall (find_grows h) = grows_fall x laws w s w' h
-  steps_fall (find_refused h) = refused_fall x laws w s w' h
-  steps_fall (deed_appends h) = appends_fall x laws w s w' h
-  steps_fall (deed_applies h) = applies_fall x laws w s w' h
-  steps_fall (deed_views h) = views_fall x laws w s w' h
-  steps_fall (deed_reads h) = reads_fall x laws w s w' h
-  steps_fall (deed_changes h) = changes_fall x laws w s w' h
-  steps_fall (deed_fills h) = fills_fall x laws w s w' h
-  steps_fall (downgrade h) = downgrades_fall x laws w s w' size whole.locks h
-  steps_fall (release h) = releases_fall x laws w s w' size whole.locks h
-  steps_fall (answers h) = omega (arith, ends h.mid h.leaves, answers_fall x laws h.mid s w' h.answers)
-  steps_fall (visit_starts h) = goes h
-  steps_fall (visit_parts h) = parts h
-  steps_fall (visit_looks h) = omega (arith, begins h.mid h.enters, looks h.mid h.looks)
-  steps_fall (visit_seeks h) = seeks_fall x laws w s w' h
-  steps_fall (visit_does h) = does_fall x laws w s w' h (whole.sound.tables.distinct h.place.shard h.table h.held)
-  steps_fall (visit_gives h) = gives_fall x laws w s w' size whole.locks h
+  own_fall : IsOwnStep x w s w' → Falls
+  own_fall (start h) = starts_fall x laws w s w' size whole.locks h
+  own_fall (lock h) = moves_fall x laws w s w' whole.locks h
+  own_fall (find h) = omega (arith, admits h.mid h.enters, finds_fall x laws h.mid s w' h.finds)
+  own_fall (find_grows h) = grows_fall x laws w s w' h
+  own_fall (find_refused h) = refused_fall x laws w s w' h
+  own_fall (deed_appends h) = appends_fall x laws w s w' h
+  own_fall (deed_applies h) = applies_fall x laws w s w' h
+  own_fall (deed_views h) = views_fall x laws w s w' h
+  own_fall (deed_reads h) = reads_fall x laws w s w' h
+  own_fall (deed_changes h) = changes_fall x laws w s w' h
+  own_fall (deed_fills h) = fills_fall x laws w s w' h
+  own_fall (downgrade h) = downgrades_fall x laws w s w' size whole.locks h
+  own_fall (release h) = releases_fall x laws w s w' size whole.locks h
+  own_fall (answers h) = omega (arith, ends h.mid h.leaves, answers_fall x laws h.mid s w' h.answers)
+  own_fall (visit_starts h) = goes h
+  own_fall (visit_parts h) = parts h
+  own_fall (visit_looks h) = omega (arith, begins h.mid h.enters, looks h.mid h.looks)
+  own_fall (visit_seeks h) = seeks_fall x laws w s w' h
+  own_fall (visit_does h) = does_fall x laws w s w' h (whole.sound.tables.distinct h.place.shard h.table h.held)
+  own_fall (visit_gives h) = gives_fall x laws w s w' size whole.locks h
+
+  pub steps_fall : s.deadline ≡ false → IsStep x w s w' → Falls
+  steps_fall mine (by_itself off step) = own_fall step
+  steps_fall mine (by_deadline due step) = absurd (false≢true (sym mine ∙ due))

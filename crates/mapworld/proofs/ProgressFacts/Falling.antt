@@ -15,6 +15,8 @@ use Rattle.parking_lot_machine.specs.Rows.{state}
 use Rattle.mapworld_state.specs.Locks.Fits.{LocksFit}
 use Rattle.mapworld_state.specs.Locks.Steps.{LockStarts}
 use Rattle.mapworld_state.specs.Locks.Views.{Shown}
+use Rattle.mapworld_state.specs.declared.holds.Manner.{Manner}
+use Rattle.mapworld_state.specs.declared.holds.Manner.TheVariants.{Waits, Tries, UntilDeadline}
 use Rattle.mapworld_state.specs.declared.holds.Mode.{Mode}
 use Rattle.mapworld_state.specs.declared.holds.Mode.TheVariants.{Shared, Exclusive}
 use Rattle.mapworld_state.specs.declared.place.Growth.{Growth}
@@ -28,7 +30,7 @@ use Rattle.mapworld_state.specs.declared.place.Phase.{Phase}
 use Rattle.mapworld_state.specs.declared.place.Phase.TheVariants as phase
 use Rattle.mapworld_state.specs.Core.{is_walk, may_add}
 use Rattle.mapworld_state.specs.Holds.{asks_for, gives_up, wants_for}
-use Rattle.mapworld_state.specs.Moves.{changed_phase, found_phase, held_phase, mode_of, request_of, request_tries}
+use Rattle.mapworld_state.specs.Moves.{changed_phase, found_phase, held_phase, mode_of, request_manner, request_of}
 use Rattle.mapworld_state.specs.Places.{Place}
 use Rattle.mapworld_state.specs.State.{State}
 use Rattle.mapworld_state.specs.Steps.{EntersBy}
@@ -73,8 +75,13 @@ pub found_takes : {K V D : Type 0} (T A : Type 0) (n more : ℕ) (r : Request K 
 found_takes T A n more (request.Keyed (keyed.Insert k v)) true room = omega arith
 found_takes T A n more (request.Keyed (keyed.Insert k v)) false true = omega arith
 found_takes T A n more (request.Keyed (keyed.Insert k v)) false false = omega arith
+found_takes T A n more (request.Keyed (keyed.InsertUntil k v)) true room = omega arith
+found_takes T A n more (request.Keyed (keyed.InsertUntil k v)) false true = omega arith
+found_takes T A n more (request.Keyed (keyed.InsertUntil k v)) false false = omega arith
 found_takes T A n more (request.Keyed (keyed.Remove k)) true room = omega arith
 found_takes T A n more (request.Keyed (keyed.Remove k)) false room = omega arith
+found_takes T A n more (request.Keyed (keyed.RemoveUntil k)) true room = omega arith
+found_takes T A n more (request.Keyed (keyed.RemoveUntil k)) false room = omega arith
 found_takes T A n more (request.Keyed (keyed.RemoveIf k d)) true room = omega arith
 found_takes T A n more (request.Keyed (keyed.RemoveIf k d)) false room = omega arith
 found_takes T A n more (request.Keyed (keyed.RemoveIfMut k d)) true room = omega arith
@@ -87,7 +94,9 @@ found_takes T A n more (request.Keyed (keyed.ContainsKey k)) true room = omega a
 found_takes T A n more (request.Keyed (keyed.ContainsKey k)) false room = omega arith
 found_takes T A n more (request.Begin b) true room = omega arith
 found_takes T A n more (request.Begin (begin.Get k)) false room = omega arith
+found_takes T A n more (request.Begin (begin.GetUntil k)) false room = omega arith
 found_takes T A n more (request.Begin (begin.GetMut k)) false room = omega arith
+found_takes T A n more (request.Begin (begin.GetMutUntil k)) false room = omega arith
 found_takes T A n more (request.Begin (begin.Entry k)) false true = omega arith
 found_takes T A n more (request.Begin (begin.Entry k)) false false = omega arith
 found_takes T A n more (request.Begin (begin.TryGet k)) false room = omega arith
@@ -99,6 +108,7 @@ found_takes T A n more (request.Begin (begin.TryEntry k)) false false = omega ar
 pub grown_takes : {K V : Type 0} (D T A : Type 0) (n more : ℕ) (c : Growth K V)
     → phase_left n more (found_phase {D = D} {T = T} {A = A} (request_of c) false true) ≤ release_left n + 1
 grown_takes D T A n more (growth.Insert k v) = omega arith
+grown_takes D T A n more (growth.InsertUntil k v) = omega arith
 grown_takes D T A n more (growth.Entry k) = omega arith
 grown_takes D T A n more (growth.TryEntry k) = omega arith
 
@@ -140,8 +150,13 @@ module _ {K V S D T A : Type 0} (x : Setup K V D T) (w : State K V S D T A) (p :
   found_plain (request.Keyed (keyed.Insert k v)) true room = refl
   found_plain (request.Keyed (keyed.Insert k v)) false true = refl
   found_plain (request.Keyed (keyed.Insert k v)) false false = refl
+  found_plain (request.Keyed (keyed.InsertUntil k v)) true room = refl
+  found_plain (request.Keyed (keyed.InsertUntil k v)) false true = refl
+  found_plain (request.Keyed (keyed.InsertUntil k v)) false false = refl
   found_plain (request.Keyed (keyed.Remove k)) true room = refl
   found_plain (request.Keyed (keyed.Remove k)) false room = refl
+  found_plain (request.Keyed (keyed.RemoveUntil k)) true room = refl
+  found_plain (request.Keyed (keyed.RemoveUntil k)) false room = refl
   found_plain (request.Keyed (keyed.RemoveIf k d)) true room = refl
   found_plain (request.Keyed (keyed.RemoveIf k d)) false room = refl
   found_plain (request.Keyed (keyed.RemoveIfMut k d)) true room = refl
@@ -154,7 +169,9 @@ module _ {K V S D T A : Type 0} (x : Setup K V D T) (w : State K V S D T A) (p :
   found_plain (request.Keyed (keyed.ContainsKey k)) false room = refl
   found_plain (request.Begin b) true room = refl
   found_plain (request.Begin (begin.Get k)) false room = refl
+  found_plain (request.Begin (begin.GetUntil k)) false room = refl
   found_plain (request.Begin (begin.GetMut k)) false room = refl
+  found_plain (request.Begin (begin.GetMutUntil k)) false room = refl
   found_plain (request.Begin (begin.Entry k)) false true = refl
   found_plain (request.Begin (begin.Entry k)) false false = refl
   found_plain (request.Begin (begin.TryGet k)) false room = refl
@@ -164,6 +181,7 @@ module _ {K V S D T A : Type 0} (x : Setup K V D T) (w : State K V S D T A) (p :
 
   pub grown_plain : (c : Growth K V) → phase_todo x w p (found_phase (request_of c) false true) ≡ 0
   grown_plain (growth.Insert k v) = refl
+  grown_plain (growth.InsertUntil k v) = refl
   grown_plain (growth.Entry k) = refl
   grown_plain (growth.TryEntry k) = refl
 
@@ -177,10 +195,12 @@ pub asked_most : (n : ℕ) (m : Mode) → cost n (asks_for m) ≤ 108
 asked_most n Shared = omega arith
 asked_most n Exclusive = omega arith
 
-pub wanted_most : (n : ℕ) (tries : Bool) (m : Mode) → cost n (wants_for tries m) ≤ 108
-wanted_most n false m = asked_most n m
-wanted_most n true Shared = omega arith
-wanted_most n true Exclusive = omega arith
+pub wanted_most : (n : ℕ) (manner : Manner) (m : Mode) → cost n (wants_for manner m) ≤ 108
+wanted_most n Waits m = asked_most n m
+wanted_most n Tries Shared = omega arith
+wanted_most n Tries Exclusive = omega arith
+wanted_most n UntilDeadline Shared = omega arith
+wanted_most n UntilDeadline Exclusive = omega arith
 
 pub given_most : (n : ℕ) (m : Mode) → cost n (gives_up m) + 1 ≤ release_left n
 given_most n Shared = omega arith
@@ -207,7 +227,7 @@ entered_costs t shard more (phase.Admit r) old new few fit h =
     omega (
       arith,
       (lawful-begins t shard _ old new fit h).costs,
-      wanted_most (length (state old.rows).calls) (request_tries r) (mode_of r),
+      wanted_most (length (state old.rows).calls) (request_manner r) (mode_of r),
     )
 entered_costs t shard more (phase.Reach f) old new few fit h = absurd (omega (arith, few))
 entered_costs t shard more phase.Rest old new few fit same =

@@ -12,7 +12,7 @@ use Rattle.mapworld_state.specs.Steps.{IsStep, start, lock, find, find_grows, fi
 use Rattle.mapworld_state.specs.Steps.{deed_views, deed_reads, deed_changes, deed_fills, downgrade, release, answers}
 use Rattle.mapworld_state.specs.Steps.{visit_starts, visit_parts, visit_looks, visit_seeks, visit_does, visit_gives}
 use Rattle.mapworld_state.specs.Steps.{Concludes, owed, locked, idle, Enters, IsRefusedVisit, Leaves, LooksAround}
-use Rattle.mapworld_state.specs.Steps.{Reaches}
+use Rattle.mapworld_state.specs.Steps.{IsOwnStep, Reaches, by_itself, by_deadline}
 use Rattle.mapworld.specs.Progress.Left.{pairs_from}
 use Rattle.mapworld.proofs.ProgressFacts.Coming.{pairs-set}
 use Rattle.mapworld.proofs.ProgressFacts.Stepping.{number-most, tables-are}
@@ -83,37 +83,41 @@ module _ {K V S D T A : Type 0} (x : Setup K V D T) (laws : Laws x) where
   item-more w w' shard f table changed pair at e (inr puts) = puts-more w w' shard table changed pair.0
       (visit_leaves x.deeds f (Some pair)) at e puts
 
-  gains : (w : State K V S D T A) (s : Step) (w' : State K V S D T A) → IsStep x w s w' → Gains w w' 1
-  gains w s w' (start h) = omega (arith, none-more w w' (tables-are w' _ h.after))
-  gains w s w' (lock h) = omega (arith, none-more w w' (tables-are w' _ h.after))
-  gains w s w' (find h) =
+  own-gains : (w : State K V S D T A) (s : Step) (w' : State K V S D T A) → IsOwnStep x w s w' → Gains w w' 1
+  own-gains w s w' (start h) = omega (arith, none-more w w' (tables-are w' _ h.after))
+  own-gains w s w' (lock h) = omega (arith, none-more w w' (tables-are w' _ h.after))
+  own-gains w s w' (find h) =
       omega (arith, enters-more w h.mid s.thread h.enters, none-more h.mid w' (tables-are w' _ h.finds.after))
-  gains w s w' (find_grows h) = set-more w w' h.place.shard 1 h.table h.grown h.held (tables-are w' _ h.after)
+  own-gains w s w' (find_grows h) = set-more w w' h.place.shard 1 h.table h.grown h.held (tables-are w' _ h.after)
       (omega (arith, h.grows.counted))
-  gains w s w' (find_refused h) = omega (arith, none-more w w' (tables-are w' _ h.after))
-  gains w s w' (deed_appends h) = puts-more w w' h.place.shard h.table h.changed h.key _ h.held
+  own-gains w s w' (find_refused h) = omega (arith, none-more w w' (tables-are w' _ h.after))
+  own-gains w s w' (deed_appends h) = puts-more w w' h.place.shard h.table h.changed h.key _ h.held
       (tables-are w' _ h.after) h.puts
-  gains w s w' (deed_applies h) = puts-more w w' h.place.shard h.table h.changed _ _ h.held (tables-are w' _ h.after)
-      h.puts
-  gains w s w' (deed_views h) = omega (arith, none-more w w' (tables-are w' _ h.after))
-  gains w s w' (deed_reads h) = omega (arith, none-more w w' (tables-are w' _ h.after))
-  gains w s w' (deed_changes h) = puts-more w w' h.place.shard h.table h.changed h.key _ h.held
+  own-gains w s w' (deed_applies h) = puts-more w w' h.place.shard h.table h.changed _ _ h.held
       (tables-are w' _ h.after) h.puts
-  gains w s w' (deed_fills h) = puts-more w w' h.place.shard h.table h.changed h.key _ h.held (tables-are w' _ h.after)
-      h.puts
-  gains w s w' (downgrade h) = omega (arith, none-more w w' (tables-are w' _ h.after))
-  gains w s w' (release h) = omega (arith, none-more w w' (tables-are w' _ h.after))
-  gains w s w' (answers h) =
+  own-gains w s w' (deed_views h) = omega (arith, none-more w w' (tables-are w' _ h.after))
+  own-gains w s w' (deed_reads h) = omega (arith, none-more w w' (tables-are w' _ h.after))
+  own-gains w s w' (deed_changes h) = puts-more w w' h.place.shard h.table h.changed h.key _ h.held
+      (tables-are w' _ h.after) h.puts
+  own-gains w s w' (deed_fills h) = puts-more w w' h.place.shard h.table h.changed h.key _ h.held
+      (tables-are w' _ h.after) h.puts
+  own-gains w s w' (downgrade h) = omega (arith, none-more w w' (tables-are w' _ h.after))
+  own-gains w s w' (release h) = omega (arith, none-more w w' (tables-are w' _ h.after))
+  own-gains w s w' (answers h) =
       omega (arith, ends-more w h.mid s.thread h.leaves, none-more h.mid w' (tables-are w' _ h.answers.after))
-  gains w s w' (visit_starts h) =
+  own-gains w s w' (visit_starts h) =
       omega (arith, leaves-more w h.mid s.thread h.leaves, none-more h.mid w' (tables-are w' _ h.starts.after))
-  gains w s w' (visit_parts h) =
+  own-gains w s w' (visit_parts h) =
       omega (arith, reaches-more w h.mid s.thread h.enters, none-more h.mid w' (tables-are w' _ h.gives.after))
-  gains w s w' (visit_looks h) = omega (arith, begins-more w h.mid s.thread h.enters, looks-more h.mid s w' h.looks)
-  gains w s w' (visit_seeks h) = omega (arith, none-more w w' (tables-are w' _ h.after))
-  gains w s w' (visit_does h) = item-more w w' h.place.shard h.walk h.table h.changed h.pair h.held
+  own-gains w s w' (visit_looks h) = omega (arith, begins-more w h.mid s.thread h.enters, looks-more h.mid s w' h.looks)
+  own-gains w s w' (visit_seeks h) = omega (arith, none-more w w' (tables-are w' _ h.after))
+  own-gains w s w' (visit_does h) = item-more w w' h.place.shard h.walk h.table h.changed h.pair h.held
       (tables-are w' _ h.after) (item-puts x.deeds x.eq h.walk h.table h.changed h.pair h.item)
-  gains w s w' (visit_gives h) = omega (arith, none-more w w' (tables-are w' _ h.after))
+  own-gains w s w' (visit_gives h) = omega (arith, none-more w w' (tables-are w' _ h.after))
+
+  gains : (w : State K V S D T A) (s : Step) (w' : State K V S D T A) → IsStep x w s w' → Gains w w' 1
+  gains w s w' (by_itself mine step) = own-gains w s w' step
+  gains w s w' (by_deadline due h) = omega (arith, none-more w w' (tables-are w' _ h.after))
 
   pub pairs-gain : (w : State K V S D T A) (s : Step) (w' : State K V S D T A) → IsStep x w s w'
       → length (pairs_of w') ≤ length (pairs_of w) + 1

@@ -1,5 +1,5 @@
 -- While a call is unanswered, some thread can move.
-use Rattle.std.proofs.Common.{◌≡◌, ℕ, zero, suc, ◌+◌, ◌<◌, ◌≤◌, ◌==◌, ◌⊎◌, inl, inr, ◌||◌, Bool, true, false, not, List}
+use Rattle.std.proofs.Common.{◌≡◌, ℕ, zero, suc, ◌+◌, ◌<◌, ◌≤◌, ◌==◌, ◌⊎◌, inl, inr, ◌||◌, Bool, true, not, List}
 use Rattle.std.proofs.Common.{[], ◌∷◌, Option, None, Some, is_none, length, slice_get, sum_by, refl, sym, ap, ◌∙◌}
 use Rattle.std.proofs.Common.{subst, arith}
 use Rattle.std.specs.Option.{option_map}
@@ -46,6 +46,7 @@ use Rattle.mapworld.specs.Progress.Whole.{IsWhole}
 use Rattle.mapworld.proofs.ProgressFacts.Sessions.{none-at-end}
 use Rattle.mapworld.proofs.ProgressFacts.Sleepers.{sleeper}
 use Rattle.mapworld.proofs.ProgressFacts.Turning.{moves-as, moves-there, place-there}
+use Rattle.mapworld_state.specs.declared.holds.Manner.{Manner}
 
 -- a sum that isn't 0 has a part that isn't
 abbrev HasPart : {X : Type 0} → (X → ℕ) → List X → Type 0
@@ -148,13 +149,13 @@ module _ {K V S D T A : Type 0} (x : Setup K V D T) (w : State K V S D T A) (who
         omega (arith, between.left, whole.sound.shards)
 
     -- it is in a call there, or in none
-    wants-at : (mode : Mode) (tries : Bool) (c : Call) → call_at s t ≡ Some c
-        → IsWanting p mode tries (stand_in w.locks t) → c.lock ≡ p.shard
-    wants-at mode tries c is h =
+    wants-at : (mode : Mode) (manner : Manner) (c : Call) → call_at s t ≡ Some c
+        → IsWanting p mode manner (stand_in w.locks t) → c.lock ≡ p.shard
+    wants-at mode manner c is h =
         ap (λ (z : Stand). z.shard) (same_Some (stand_of c) _ (sym (ap (option_map stand_of) is) ∙ h.is))
 
     pub reaches-at : (f : Walk D) → p.phase ≡ phase.Reach f → (c : Call) → call_at s t ≡ Some c → c.lock ≡ p.shard
-    reaches-at f before c is = wants-at (walk_mode f) false c is
+    reaches-at f before c is = wants-at (walk_mode f) Manner.Waits c is
         (stand-at w.places w.locks whole.sound.holds t p at (phase.Reach f) before)
 
     stands-apart : (shard : ℕ) → IsApart shard (call_at s t) → IsAt w.locks t shard → ⊥

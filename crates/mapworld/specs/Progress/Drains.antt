@@ -1,5 +1,5 @@
 -- Runs in which whoever is stepped can move.
-use Rattle.std.specs.Prelude.{◌≡◌, ℕ, ◌+◌, ◌<◌, ◌^◌, Bool, true, List, [], ◌∷◌, length}
+use Rattle.std.specs.Prelude.{◌≡◌, ℕ, ◌+◌, ◌<◌, ◌^◌, Bool, true, false, List, [], ◌∷◌, length}
 use Rattle.std.specs.Hash.{HashWrites}
 use Rattle.std.specs.declared.hash.BuildHasher as builder
 use Rattle.std.specs.declared.hash.Hasher as hasher
@@ -19,10 +19,11 @@ use Rattle.mapworld.specs.Progress.Whole.{IsWhole}
 abbrev pub HasTime : {K V S D T A : Type 0} → Setup K V D T → State K V S D T A → Type 0
 HasTime x w = (t : ℕ) → length w.steps + left x w t + 1 < 2 ^ 63
 
--- a step of one kind, of a thread that can move
+-- a step of one kind, of a thread that can move, and no deadline
 pub record Makes {K V S D T A : Type 0} (x : Setup K V D T) (w : State K V S D T A) (s : Step)
     (w' : State K V S D T A) : Type 0 where
   pub moves : can_move_in w s.thread ≡ true
+  pub own : s.deadline ≡ false
   pub kind : IsStep x w s w'
   pub whole : IsWhole x w
 

@@ -15,10 +15,10 @@ use Rattle.mapworld.specs.Progress.Rest.{IsAtRest}
 use Rattle.mapworld.specs.Progress.Sizes.{IsSized}
 use Rattle.mapworld.specs.Progress.Whole.{IsWhole}
 
--- a step lowers the steps that are left, where its thread is stepped on
+-- a step that isn't a deadline lowers the steps that are left, where its thread is stepped on
 abbrev pub StepsFall : (K V S D T A : Type 0) → Type 0
 StepsFall K V S D T A = (x : Setup K V D T) → Laws x → (w : State K V S D T A) (s : Step) (w' : State K V S D T A)
-    → IsWhole x w → IsStep x w s w' → left x w' s.thread + 1 ≤ left x w s.thread
+    → IsWhole x w → s.deadline ≡ false → IsStep x w s w' → left x w' s.thread + 1 ≤ left x w s.thread
 
 -- Whichever thread is stepped, the steps that are left are no more than its threads and unanswered calls take at most,
 -- and fewer than the bound by more than one.

@@ -13,7 +13,7 @@ use parking_lot_machine::laws;
 use std::alloc::Allocator;
 use std::hash::{BuildHasher, Hash};
 
-/// The next step of a thread, never fair, if it can move: whether it was made.
+/// The next step of a thread, never fair and no deadline, if it can move: whether it was made.
 fn step_once<
     K: Eq + Hash + Drop,
     V: Drop,
@@ -28,7 +28,8 @@ fn step_once<
     requires thread { thread < length core.old.places.items }
     ensures made { let setup = setup_of D.Deed S.BuildHasher S.Hasher.Hasher K.eq K.hash_input (state_of core.old) in
         MatchBool result
-        (Makes setup (state_of core.old) (record { thread = thread; fair = false }) (state_of core.new))
+        (Makes setup (state_of core.old) (record { thread = thread; fair = false; deadline = false })
+        (state_of core.new))
         ((state_of core.new ≡ state_of core.old) × (can_move_in (state_of core.old) thread ≡ false)) }
     ensures sound { IsSoundCore D.Deed S.BuildHasher S.Hasher.Hasher K.eq K.hash_input core.new }
     ensures room { Room core.new }
@@ -38,6 +39,7 @@ fn step_once<
     let step = Step {
         thread,
         fair: false,
+        deadline: false,
     };
     advance(core, step)
 }
@@ -100,7 +102,7 @@ fn pass<K: Eq + Hash + Drop, V: Drop, S: BuildHasher, D: Deed<K, V> + Drop, A: A
 
 /// Runs a world to its end: each thread is stepped on as far as it can go, and then the next, until nobody can move.
 /// Answers how many steps that took, which is less than the world's bound. Then every call is answered and nobody holds
-/// anything or waits.
+/// anything or waits. None of these steps is a deadline.
 ///
 /// It takes no memory but what the calls take.
 pub fn drain<

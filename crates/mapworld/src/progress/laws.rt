@@ -2,7 +2,7 @@
 ghost use Rattle.mapworld.specs.Progress.Laws.{EndsAtRest, OthersGoOn, SomebodyMoves, StepsAreFew, StepsFall};
 ghost use Rattle.mapworld.specs.Progress.Laws.{WalksRise};
 
-/// Each step lowers the steps that are left, where its thread is stepped on.
+/// Each step that isn't a deadline lowers the steps that are left, where its thread is stepped on.
 pub fn steps_fall<K, V, S, D, T, A>()
     ensures { StepsFall K V S D T A }
 {}

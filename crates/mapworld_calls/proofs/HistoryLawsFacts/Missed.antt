@@ -1,5 +1,6 @@
 -- The smallest world in which an insertion finds its key and is refused for memory all the same.
 use Rattle.std.proofs.Common.{◌≡◌, ℕ, zero, suc, true, List, [], ◌∷◌, Some, None, slice_get, take, refl, ap, sym, ◌∙◌}
+use Rattle.std.proofs.Common.{inl}
 use Rattle.std.proofs.Common.{subst, inr, arith}
 use Rattle.std.proofs.lemmas.Option.{same_Some, none-some}
 use Rattle.mapworld_calls.specs.declared.reply.Reply.{Reply}
@@ -44,7 +45,7 @@ module _ {K V D T : Type 0} (A : Type 0) (deeds : Deeds D K V T) (k : K) (v u : 
   refused = record {
     ask = ask.Keyed (keyed.Insert k u);
     asked = refl;
-    answered = inr (refl, refl, λ i b at thread call. none-some b at);
+    answered = inr (inl (refl, refl), λ i b at thread call. none-some b at);
   }
 
   agrees : Agrees world blocks ((k, v) ∷ []) (reply ∷ [])

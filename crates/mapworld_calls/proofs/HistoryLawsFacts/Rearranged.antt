@@ -188,7 +188,7 @@ module _ {K V D T : Type 0} (w : Setup K V D T) (laws : Laws w) (bs bs' : List (
   answer-moved : {A : Type 0} (t c : ℕ) (x : Ask K V D) (a : Answer K V T A) → ask_at w t c ≡ Some x
       → IsAnsweredBy w bs t c x a → IsAnsweredBy w bs' t c x a
   answer-moved t c (ask.Keyed k) a asked h =
-      elim h [ inl told ↦ inl (told-moved t c 0 a told) | inr none ↦ inr (none.0, none.1, none-moved t c none.2) ]
+      elim h [ inl told ↦ inl (told-moved t c 0 a told) | inr none ↦ inr (none.0, none-moved t c none.1) ]
   answer-moved t c (ask.Begin b) a asked h =
       elim h [ inl told ↦ inl (told-moved t c 0 a told) | inr none ↦ inr (none.0, none-moved t c none.1) ]
   answer-moved t c (ask.Held g) a asked h = session-moved t c (session_of w t c) a h

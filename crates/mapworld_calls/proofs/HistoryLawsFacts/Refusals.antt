@@ -51,6 +51,10 @@ module _ {D K V T : Type 0} (A : Type 0) (deeds : Deeds D K V T) where
   keyed-told (keyed.View k d) (Some p) = refl
   keyed-told (keyed.ContainsKey k) None = refl
   keyed-told (keyed.ContainsKey k) (Some p) = refl
+  keyed-told (keyed.InsertUntil k v) None = refl
+  keyed-told (keyed.InsertUntil k v) (Some p) = refl
+  keyed-told (keyed.RemoveUntil k) None = refl
+  keyed-told (keyed.RemoveUntil k) (Some p) = refl
 
   opening-told : (b : Begin K) (o : Option (K × V)) → refuses (opening_answer {T = T} {A = A} b o) ≡ false
   opening-told b (Some p) = refl
@@ -127,8 +131,11 @@ module _ {K V D T A : Type 0} (w : Setup K V D T) (bs : List (Block K)) where
 
   memory-told : (t c : ℕ) (x : Ask K V D) (a : Answer K V T A) → a ≡ answer.NoMemory → IsAnsweredBy w bs t c x a
       → IsRefusedForMemory w bs t c x
-  memory-told t c (ask.Keyed k) a is h = ⊎_elim (λ told. absurd (never a (block-told t c 0 a told) (ap refuses is)))
-      (λ none. (none.1, none.2)) h
+  memory-told t c (ask.Keyed k) a is h =
+      ⊎_elim
+      (λ told. absurd (never a (block-told t c 0 a told) (ap refuses is)))
+      (λ none. ⊎_elim (λ memory. (memory.1, none.1)) (λ locked. absurd (let other = locked.0 in cc)) none.0)
+      h
   memory-told t c (ask.Begin b) a is h =
       ⊎_elim
       (λ told. absurd (never a (block-told t c 0 a told) (ap refuses is)))
@@ -142,14 +149,19 @@ module _ {K V D T A : Type 0} (w : Setup K V D T) (bs : List (Block K)) where
   locked-told : (t c : ℕ) (x : Ask K V D) (a : Answer K V T A) → ask_at w t c ≡ Some x → a ≡ answer.Locked
       → IsAnsweredBy w bs t c x a → IsRefusedAsLocked w bs t c
   locked-told t c (ask.Keyed k) a asked is h =
-      ⊎_elim (λ told. absurd (never a (block-told t c 0 a told) (ap refuses is)))
-      (λ none. absurd (let other = none.0 in cc)) h
+      ⊎_elim
+      (λ told. absurd (never a (block-told t c 0 a told) (ap refuses is)))
+      (λ none. ⊎_elim
+      (λ memory. absurd (let other = memory.0 in cc))
+      (λ locked. record { ask = ask.Keyed k; asked = asked; may = locked.1; none = none.1 })
+      none.0)
+      h
   locked-told t c (ask.Begin b) a asked is h =
       ⊎_elim
       (λ told. absurd (never a (block-told t c 0 a told) (ap refuses is)))
       (λ none. ⊎_elim
       (λ memory. absurd (let other = memory.0 in cc))
-      (λ locked. record { opening = b; asked = asked; tries = locked.1; none = none.1 })
+      (λ locked. record { ask = ask.Begin b; asked = asked; may = locked.1; none = none.1 })
       none.0)
       h
   locked-told t c (ask.Held g) a asked is h = absurd (never a (session-told t c (session_of w t c) a h) (ap refuses is))

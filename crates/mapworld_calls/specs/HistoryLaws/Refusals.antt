@@ -1,13 +1,12 @@
 -- What a refused call leaves: no block, so it changed no pair.
 use Rattle.std.specs.Prelude.{◌≡◌, ℕ, ◌⊎◌, List, Some, None, slice_get, IsTrue}
 use Rattle.mapworld_calls.specs.declared.reply.Reply.{Reply}
-use Rattle.mapworld_calls.specs.Programs.{may_grow, opening_may_grow, is_try}
+use Rattle.mapworld_calls.specs.Programs.{may_grow, opening_may_grow, may_be_locked}
 use Rattle.mapworld_calls.specs.declared.block.Block.{Block}
 use Rattle.mapworld_calls.specs.Deeds.{Deeds}
 use Rattle.mapworld_calls.specs.declared.ask.Keyed.TheVariants as keyed
 use Rattle.mapworld_calls.specs.declared.ask.Ask.{Ask}
 use Rattle.mapworld_calls.specs.declared.ask.Ask.TheVariants as ask
-use Rattle.mapworld_calls.specs.declared.ask.Begin.{Begin}
 use Rattle.mapworld_calls.specs.declared.ask.Held.{Held}
 use Rattle.mapworld_calls.specs.declared.reply.Answer.TheVariants as answer
 use Rattle.mapworld_calls.specs.Setup.{Setup, Laws, ask_at, session_of}
@@ -30,11 +29,11 @@ RefusedForMemoryHasNoBlock K V D T A =
     → (i : ℕ) (r : Reply K V T A) → slice_get replies i ≡ Some r → r.answer ≡ answer.NoMemory
     → (a : Ask K V D) → ask_at w r.thread r.call ≡ Some a → IsRefusedForMemory w bs r.thread r.call a
 
--- a call that was answered `Locked` is a try, and has no block
+-- a call that was answered `Locked` is a try or has a deadline, and has no block
 pub record IsRefusedAsLocked {K V D T : Type 0} (w : Setup K V D T) (bs : List (Block K)) (t c : ℕ) : Type 0 where
-  pub opening : Begin K
-  pub asked : ask_at w t c ≡ Some (ask.Begin opening)
-  pub tries : IsTrue (is_try opening)
+  pub ask : Ask K V D
+  pub asked : ask_at w t c ≡ Some ask
+  pub may : IsTrue (may_be_locked ask)
   pub none : HasNoBlock bs t c
 
 abbrev pub LockedHasNoBlock : Type 0 → Type 0 → Type 0 → Type 0 → Type 0 → Type 0

@@ -51,7 +51,7 @@ pub fn refused_for_memory_has_no_block<K, V, D: Deed<K, V>, A: Allocator>()
     ensures { RefusedForMemoryHasNoBlock K V D D.Answer A }
 {}
 
-/// A call that was answered `Locked` is a try, and has no block.
+/// A call that was answered `Locked` is a try or has a deadline, and has no block, so it changed no pair.
 pub fn locked_has_no_block<K, V, D: Deed<K, V>, A: Allocator>()
     ensures { LockedHasNoBlock K V D D.Answer A }
 {}

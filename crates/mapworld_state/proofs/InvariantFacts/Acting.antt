@@ -44,6 +44,9 @@ use Rattle.mapworld_state.proofs.InvariantFacts.Building.{tables-changed, claim-
 use Rattle.mapworld_state.proofs.InvariantFacts.Building.{told-one, ready-outside}
 use Rattle.mapworld_state.proofs.InvariantFacts.Admitting.{kept-alone, keyed-apart}
 use Rattle.mapworld_state.proofs.InvariantFacts.Growing.{own-grown}
+use Rattle.mapworld_calls.specs.declared.reply.Answer.{Answer}
+use Rattle.mapworld_state.specs.Sound.{Inserts}
+use Rattle.std.proofs.Common.{inl, inr}
 
 -- the block that a step counts in is that of the claim
 pub counted-block : {K : Type 0} (bs : List (Block K)) (o : Option ℕ) (i n : ℕ) (bs' : List (Block K)) → o ≡ Some i
@@ -251,8 +254,11 @@ module _ {K V S D T A : Type 0} (x : Setup K V D T) (laws : Laws x) (w : State K
 
 module _ {K V S D T A : Type 0} (x : Setup K V D T) (laws : Laws x) (w : State K V S D T A) (s : Step)
     (w' : State K V S D T A) (sound : Sound x w) where
-  pub sound-appends : Appends x w s w' → Goes x s.thread w w'
-  sound-appends a =
+  -- by either of the calls that add a pair
+  appended-by : (a : Appends x w s w') (k : Keyed K V D) → keyed_leaves x.deeds k None ≡ Some (a.key, a.value)
+      → keyed_answer x.deeds {A = A} k None ≡ answer.None → IsInCall x (threads_of w) s.thread a.place (ask.Keyed k)
+      → Goes x s.thread w w'
+  appended-by a k leaves answers call =
       let p = a.place in
       let st = sound.stands s.thread p a.stands in
       let cl = claim-at x (threads_of w) w.blocks w.replies w.tables s.thread p (phase.Append a.key a.value) a.before st
@@ -261,15 +267,30 @@ module _ {K V S D T A : Type 0} (x : Setup K V D T) (laws : Laws x) (w : State K
       st in
       let d = cl.1 in
       let n = counted-block w.blocks p.block d.index p.next a.blocks d.mine a.counted in
-      let k : Keyed K V D = keyed.Insert a.key a.value in
       subst (Goes x s.thread w)
-      (sym (a.after ∙ ap
+      (sym (a.after ∙ (ap
       (λ (z : List (Block K)). record (stepped w s (record p { phase = phase.Release answer.None }))
-      { tables = slice_set w.tables p.shard a.changed; blocks = z }) n.4))
-      (sound-deed x laws w s sound p a.stands k cl.0 a.key None d a.table a.held n.0 n.1 n.2 n.3
+      { tables = slice_set w.tables p.shard a.changed; blocks = z }) n.4
+      ∙ ap (λ (z : Answer K V T A). record (stepped w s (record p { phase = phase.Release z }))
+      { tables = slice_set w.tables p.shard a.changed; blocks = slice_set w.blocks d.index n.1 }) (sym answers))))
+      (sound-deed x laws w s sound p a.stands k call a.key None d a.table a.held n.0 n.1 n.2 n.3
       (phase.Append a.key a.value) a.before refl none
       (stand-at w.places w.locks sound.holds s.thread p a.stands (phase.Append a.key a.value) a.before) a.changed
-      (agrees x laws w s sound p a.stands k cl.0 a.key None d a.table a.held n.0 n.1 n.2 n.3 a.changed a.puts))
+      (agrees x laws w s sound p a.stands k call a.key None d a.table a.held n.0 n.1 n.2 n.3 a.changed
+      (subst (λ (z : Option (K × V)). Puts x.eq a.table a.changed a.key z) (sym leaves) a.puts)))
+
+  pub sound-appends : Appends x w s w' → Goes x s.thread w w'
+  sound-appends a =
+      let cl = claim-at x (threads_of w) w.blocks w.replies w.tables s.thread a.place (phase.Append a.key a.value)
+      a.before (sound.stands s.thread a.place a.stands) in
+      by cl.0.insertion cl.0.inserts cl.0.in_call
+    where
+      by : (k : Keyed K V D) → Inserts k a.key a.value → IsInCall x (threads_of w) s.thread a.place (ask.Keyed k)
+          → Goes x s.thread w w'
+      by k (inl is) call = appended-by a (keyed.Insert a.key a.value) refl refl
+          (subst (λ (z : Keyed K V D). IsInCall x (threads_of w) s.thread a.place (ask.Keyed z)) is call)
+      by k (inr is) call = appended-by a (keyed.InsertUntil a.key a.value) refl refl
+          (subst (λ (z : Keyed K V D). IsInCall x (threads_of w) s.thread a.place (ask.Keyed z)) is call)
 
   pub sound-applies : Applies x w s w' → Goes x s.thread w w'
   sound-applies a =

@@ -22,8 +22,9 @@ use Rattle.mapworld_state.specs.Places.{Place}
 use Rattle.mapworld_state.specs.State.{State, threads_of, started_of, next_step}
 use Rattle.mapworld_state.specs.Moves.{start_phase, start_counts, request_of, found_done, stepped, ListsBlock}
 use Rattle.mapworld_state.specs.Moves.{CountsCall, EndsCall}
+use Rattle.mapworld_state.specs.Steps.{IsStep, by_itself, by_deadline}
 use Rattle.mapworld_state.specs.Steps.{Finds, Answers, Concludes, owed, locked, idle, Reaches, Leaves as LeavesLock}
-use Rattle.mapworld_state.specs.Steps.{GivesBack, StartsVisit, LooksAround, IsRefusedVisit, DoesItem, IsStep, start}
+use Rattle.mapworld_state.specs.Steps.{GivesBack, StartsVisit, LooksAround, IsRefusedVisit, DoesItem, IsOwnStep, start}
 use Rattle.mapworld_state.specs.Steps.{lock, find, find_grows, find_refused, deed_appends, deed_applies, deed_views}
 use Rattle.mapworld_state.specs.Steps.{deed_reads, deed_changes, deed_fills, downgrade, release, answers, visit_starts}
 use Rattle.mapworld_state.specs.Steps.{visit_parts, visit_looks, visit_seeks, visit_does, visit_gives}
@@ -34,7 +35,7 @@ use Rattle.mapworld_state.proofs.InvariantFacts.Building.{map-push, reply-below}
 use Rattle.mapworld_state.proofs.InvariantFacts.Alike.{alike-comes}
 use Rattle.mapworld_state.proofs.InvariantFacts.Admitting.{sound-entered}
 use Rattle.mapworld_state.proofs.InvariantFacts.Concluding.{sound-left}
-use Rattle.mapworld_state.proofs.InvariantFacts.Walking.{sound-reaches, sound-let_in, sound-let_go}
+use Rattle.mapworld_state.proofs.InvariantFacts.Walking.{sound-let_in, sound-let_go}
 use Rattle.mapworld_state.proofs.InvariantFacts.Ending.{ended-call}
 
 abbrev pub BlocksStay : {K : Type 0} → List (Block K) → List (Block K) → Type 0
@@ -297,61 +298,61 @@ module _ {K V S D T A : Type 0} (x : Setup K V D T) (w : State K V S D T A) (s :
 
 module _ {K V S D T A : Type 0} (x : Setup K V D T) (w : State K V S D T A) (s : Step) (w' : State K V S D T A)
     (sound : Sound x w) where
-  pub step-adds : IsStep x w s w' → Step-adds w w' s
-  step-adds (start h) = fixed-by w s w' _ w.tables h.locks h.blocks w.replies refl h.after
+  own-adds : IsOwnStep x w s w' → Step-adds w w' s
+  own-adds (start h) = fixed-by w s w' _ w.tables h.locks h.blocks w.replies refl h.after
       (counted-stays x w sound s.thread h.place h.stands
       (start_counts (start_phase {T = T} {A = A} h.ask h.place.guard) h.place.block) h.blocks
       (λ i e. starts-own (start_phase {T = T} {A = A} h.ask h.place.guard) h.place.block i e) h.counted) (nothing w)
-  step-adds (lock h) = fixed-by w s w' _ w.tables h.locks w.blocks w.replies refl h.after
+  own-adds (lock h) = fixed-by w s w' _ w.tables h.locks w.blocks w.replies refl h.after
       (blocks-same w.blocks w.blocks refl) (nothing w)
-  step-adds (find h) =
+  own-adds (find h) =
       let g = found-adds x h.mid s w' (sound-entered x w s.thread h.mid sound h.enters) h.finds in
       elim h.enters [
         | inl same ↦ silent-adds w h.mid w' s w.places w.locks same g
         | inr e ↦ silent-adds w h.mid w' s _
             e.locks e.after g
       ]
-  step-adds (find_grows h) = fixed-by w s w' _ (slice_set w.tables h.place.shard h.grown) w.locks h.blocks w.replies
+  own-adds (find_grows h) = fixed-by w s w' _ (slice_set w.tables h.place.shard h.grown) w.locks h.blocks w.replies
       (length-set w.tables h.place.shard h.grown) h.after
       (listed-stays x w sound s.thread h.place h.stands (found_done {D = D} (request_of h.call) false true) h.blocks
       h.listed) (nothing w)
-  step-adds (find_refused h) = fixed-by w s w' _ w.tables w.locks w.blocks w.replies refl h.after
+  own-adds (find_refused h) = fixed-by w s w' _ w.tables w.locks w.blocks w.replies refl h.after
       (blocks-same w.blocks w.blocks refl) (nothing w)
-  step-adds (deed_appends h) = fixed-by w s w' _ (slice_set w.tables h.place.shard h.changed) w.locks h.blocks w.replies
+  own-adds (deed_appends h) = fixed-by w s w' _ (slice_set w.tables h.place.shard h.changed) w.locks h.blocks w.replies
       (length-set w.tables h.place.shard h.changed) h.after
       (counted-stays x w sound s.thread h.place h.stands h.place.block h.blocks (λ i e. e) h.counted) (nothing w)
-  step-adds (deed_applies h) = fixed-by w s w' _ (slice_set w.tables h.place.shard h.changed) w.locks h.blocks w.replies
+  own-adds (deed_applies h) = fixed-by w s w' _ (slice_set w.tables h.place.shard h.changed) w.locks h.blocks w.replies
       (length-set w.tables h.place.shard h.changed) h.after
       (counted-stays x w sound s.thread h.place h.stands h.place.block h.blocks (λ i e. e) h.counted) (nothing w)
-  step-adds (deed_views h) = fixed-by w s w' _ w.tables w.locks h.blocks w.replies refl h.after
+  own-adds (deed_views h) = fixed-by w s w' _ w.tables w.locks h.blocks w.replies refl h.after
       (listed-stays x w sound s.thread h.place h.stands (Some 1) h.blocks h.listed) (nothing w)
-  step-adds (deed_reads h) = fixed-by w s w' _ w.tables w.locks h.blocks w.replies refl h.after
+  own-adds (deed_reads h) = fixed-by w s w' _ w.tables w.locks h.blocks w.replies refl h.after
       (counted-stays x w sound s.thread h.place h.stands h.place.block h.blocks (λ i e. e) h.counted) (nothing w)
-  step-adds (deed_changes h) = fixed-by w s w' _ (slice_set w.tables h.place.shard h.changed) w.locks h.blocks w.replies
+  own-adds (deed_changes h) = fixed-by w s w' _ (slice_set w.tables h.place.shard h.changed) w.locks h.blocks w.replies
       (length-set w.tables h.place.shard h.changed) h.after
       (counted-stays x w sound s.thread h.place h.stands h.place.block h.blocks (λ i e. e) h.counted) (nothing w)
-  step-adds (deed_fills h) = fixed-by w s w' _ (slice_set w.tables h.place.shard h.changed) w.locks h.blocks w.replies
+  own-adds (deed_fills h) = fixed-by w s w' _ (slice_set w.tables h.place.shard h.changed) w.locks h.blocks w.replies
       (length-set w.tables h.place.shard h.changed) h.after
       (counted-stays x w sound s.thread h.place h.stands h.place.block h.blocks (λ i e. e) h.counted) (nothing w)
-  step-adds (downgrade h) = fixed-by w s w' _ w.tables h.locks h.blocks w.replies refl h.after
+  own-adds (downgrade h) = fixed-by w s w' _ w.tables h.locks h.blocks w.replies refl h.after
       (counted-stays x w sound s.thread h.place h.stands h.place.block h.blocks (λ i e. e) h.counted) (nothing w)
-  step-adds (release h) = fixed-by w s w' _ w.tables h.locks h.blocks w.replies refl h.after
+  own-adds (release h) = fixed-by w s w' _ w.tables h.locks h.blocks w.replies refl h.after
       (counted-stays x w sound s.thread h.place h.stands (if is_some h.place.guard then h.place.block else None)
       h.blocks (λ i e. if-own (is_some h.place.guard) h.place.block i e) h.counted) (nothing w)
-  step-adds (answers h) =
+  own-adds (answers h) =
       let g = answered-adds x h.mid s w' (sound-left x w s.thread h.mid sound h.leaves) h.answers in
       elim h.leaves [
         | inl same ↦ silent-adds w h.mid w' s w.places w.locks same g
         | inr e ↦ concluded-adds w h.mid w' s
             e g
       ]
-  step-adds (visit_starts h) = left-adds w h.mid w' s h.leaves
+  own-adds (visit_starts h) = left-adds w h.mid w' s h.leaves
       (begun-adds x h.mid s w' (sound-let_go x w s.thread h.mid sound h.leaves) h.starts)
-  step-adds (visit_parts h) =
+  own-adds (visit_parts h) =
       let let_in = ⊎_elim (λ same. inl same) (λ e. inr (inl e)) h.enters in
       let-in_adds w h.mid w' s let_in
       (parted-adds x h.mid s w' (sound-let_in x w s.thread h.mid sound let_in) _ _ h.gives)
-  step-adds (visit_looks h) =
+  own-adds (visit_looks h) =
       let there = sound-let_in x w s.thread h.mid sound h.enters in
       let-in_adds w h.mid w' s h.enters
       (elim h.looks [
@@ -359,10 +360,15 @@ module _ {K V S D T A : Type 0} (x : Setup K V D T) (w : State K V S D T A) (s :
         | inr no_ ↦ refused-adds x h.mid s w' there
             no_
       ])
-  step-adds (visit_seeks h) = fixed-by w s w' _ w.tables w.locks w.blocks w.replies refl h.after
+  own-adds (visit_seeks h) = fixed-by w s w' _ w.tables w.locks w.blocks w.replies refl h.after
       (blocks-same w.blocks w.blocks refl) (nothing w)
-  step-adds (visit_does h) = item-adds x w s w' sound h
-  step-adds (visit_gives h) = parted-adds x w s w' sound _ _ h
+  own-adds (visit_does h) = item-adds x w s w' sound h
+  own-adds (visit_gives h) = parted-adds x w s w' sound _ _ h
+
+  pub step-adds : IsStep x w s w' → Step-adds w w' s
+  step-adds (by_itself its h) = own-adds h
+  step-adds (by_deadline its h) = fixed-by w s w' _ w.tables h.locks w.blocks w.replies refl h.after
+      (blocks-same w.blocks w.blocks refl) (nothing w)
 
 -- what is added over a run
 pub adds-none : {K V S D T A : Type 0} (w : State K V S D T A) → OnlyAdds (threads_of w) (threads_of w) w.blocks

@@ -50,7 +50,11 @@ use Rattle.mapworld_state.proofs.InvariantFacts.Building.{Goes, in_call-moved, t
 use Rattle.mapworld_state.proofs.InvariantFacts.Building.{sound-by, claim-at, taken-at, within-at, none-at, none-moved}
 use Rattle.mapworld_state.proofs.InvariantFacts.Building.{no-visits, session-next, session-is, asked-from}
 use Rattle.mapworld_state.proofs.InvariantFacts.Building.{ready-outside, block_after-none}
-use Rattle.mapworld_state.specs.Moves.{request_tries}
+use Rattle.mapworld_state.specs.Moves.{request_manner}
+use Rattle.mapworld_state.specs.Holds.{tries_so, has_deadline_so}
+use Rattle.mapworld_state.specs.Steps.{Expires}
+use Rattle.mapworld_calls.specs.Programs.{may_grow}
+use Rattle.mapworld_state.proofs.InvariantFacts.Holding.{holds-expired}
 
 -- a thread's blocks, where the phase that it goes to may own one
 pub owns-on : {K V D T A : Type 0} (bs : List (Block K)) (t : ℕ) (p p' : Place K V D T A) → OwnsBlocks bs t p
@@ -113,7 +117,8 @@ sound-silent x w t p p' at sound locks' started stands match = record {
   holds = match;
   placed = placed-silent x (threads_of w) t (started_of w) (started_of (record w { places = slice_set w.places t p' }))
       w.blocks w.replies
-      (started-stays x w (record { thread = t; fair = false }) p p' at (λ n z. started ∙ z)) sound.placed;
+      (started-stays x w (record { thread = t; fair = false; deadline = false }) p p' at (λ n z. started ∙ z))
+      sound.placed;
   replies = sound.replies;
 }
 
@@ -135,8 +140,8 @@ module _ {K V S D T A : Type 0} (x : Setup K V D T) (w : State K V S D T A) (t :
       let stand : e.ends.stand ≡ record {
         shard = p.shard;
         aim = Gets (at_desk mode);
-        trying = request_tries e.request;
-        timed = false;
+        trying = tries_so (request_manner e.request);
+        timed = has_deadline_so (request_manner e.request);
       } =
       same_Some e.ends.stand _ (sym e.ends.stood ∙ wants.is) in
       let here : e.ends.stand.shard ≡ p.shard = ap (λ (z : Stand). z.shard) stand in
@@ -244,6 +249,23 @@ sound-moves {K} {V} {S} {D} {T} {A} x w s w' sound a =
     (started-stays x w s p p a.stands (λ n h. h)) sound.placed)
     sound.replies)
 
+-- and so does its deadline
+pub sound-expires : {K V S D T A : Type 0} (x : Setup K V D T) (w : State K V S D T A) (s : Step)
+    (w' : State K V S D T A) → Sound x w → Expires x w s w' → Goes x s.thread w w'
+sound-expires {K} {V} {S} {D} {T} {A} x w s w' sound a =
+    let p = a.place in
+    let st = sound.stands s.thread p a.stands in
+    subst (Goes x s.thread w) (sym a.after)
+    (sound-by x w s p p a.stands sound w.blocks w.tables a.locks w.replies Anyhow
+    (leaves-same x w s p p a.stands sound a.locks)
+    (stands-on x (threads_of w) s.thread w.blocks w.blocks w.replies w.replies w.tables w.tables s.thread p Anyhow
+    (keeps-same A x w.blocks s.thread Anyhow) refl (λ m h. refl) (λ b alone here. tt) st)
+    (tables-same x w.blocks w.blocks w.tables sound.tables (λ q. refl))
+    (holds-expired w.places w.locks sound.holds s.thread p a.stands a.locks a.expires)
+    (placed-same x (threads_of w) s.thread (started_of w) (started_of (stepped w s p)) w.blocks w.replies
+    (started-stays x w s p p a.stands (λ n h. h)) sound.placed)
+    sound.replies)
+
 module _ {K V S D T A : Type 0} (x : Setup K V D T) (w : State K V S D T A) (t : ℕ) (sound : Sound x w) where
   -- no block of the thread is of the call that it is in
   pub none-yet : (p : Place K V D T A) → slice_get w.places t ≡ Some p → may_own p.phase ≡ false
@@ -311,21 +333,31 @@ module _ {K V S D T A : Type 0} (x : Setup K V D T) (laws : Laws x) (w : State K
             c.1.guard (block_after-none p' c.1.block),
       )
 
+  unkeyed : (p : Place K V D T A) → slice_get w.places s.thread ≡ Some p
+      → (tables' : List (ShardPairs K V)) (g : Growth K V) → p.phase ≡ phase.Grow g → (k : Keyed K V D)
+      → ask_of (request_of {D = D} g) ≡ ask.Keyed k → may_grow k ≡ true
+      → IsReleasing x w.blocks tables' s.thread (record p { phase = phase.Release answer.NoMemory })
+      (ask_of (request_of {D = D} g)) answer.NoMemory None
+  unkeyed p at tables' g before k is grows =
+      let p' : Place K V D T A = record p { phase = phase.Release answer.NoMemory } in
+      let st = sound.stands s.thread p at in
+      let c = claim-at x (threads_of w) w.blocks w.replies w.tables s.thread p (phase.Grow g) before st in
+      let outside = keyed-apart x w s.thread sound p st k (c.0.asked ∙ ap (λ z. Some z) is) in
+      rw is (
+        inr (inl (refl, grows), none-yet x w s.thread sound p at (ap may_own before)),
+        ready-outside x w.blocks tables' s.thread p' (p.next + 1) (block_after p') outside.1 c.1.guard
+            (block_after-none p' c.1.block),
+      )
+
   -- what a refused growth leaves its release to do: a keyed call is answered, and an opening gives no guard
   refused-releasing : (p : Place K V D T A) → slice_get w.places s.thread ≡ Some p
       → (tables' : List (ShardPairs K V)) (g : Growth K V) → p.phase ≡ phase.Grow g
       → IsReleasing x w.blocks tables' s.thread (record p { phase = phase.Release answer.NoMemory })
       (ask_of (request_of {D = D} g)) answer.NoMemory None
-  refused-releasing p at tables' (growth.Insert k v) before =
-      let p' : Place K V D T A = record p { phase = phase.Release answer.NoMemory } in
-      let st = sound.stands s.thread p at in
-      let c = claim-at x (threads_of w) w.blocks w.replies w.tables s.thread p (phase.Grow (growth.Insert k v)) before
-      st in
-      let outside = keyed-apart x w s.thread sound p st (keyed.Insert k v) c.0.asked in (
-        inr (refl, refl, none-yet x w s.thread sound p at (ap may_own before)),
-        ready-outside x w.blocks tables' s.thread p' (p.next + 1) (block_after p') outside.1 c.1.guard
-            (block_after-none p' c.1.block),
-      )
+  refused-releasing p at tables' (growth.Insert k v) before = unkeyed p at tables' (growth.Insert k v) before
+      (keyed.Insert k v) refl refl
+  refused-releasing p at tables' (growth.InsertUntil k v) before = unkeyed p at tables' (growth.InsertUntil k v) before
+      (keyed.InsertUntil k v) refl refl
   refused-releasing p at tables' (growth.Entry k) before = unopened p at tables' (growth.Entry k) before (begin.Entry k)
       refl refl
   refused-releasing p at tables' (growth.TryEntry k) before = unopened p at tables' (growth.TryEntry k) before

@@ -115,7 +115,7 @@ module _ {K V S D T A : Type 0} (x : Setup K V D T) (laws : Laws x) (w : State K
           let block : told.block ≡ b = one-block i told.place b told.block (keyed_key k) key hb told.listed
           (told.thread ∙ sym thread) (told.call ∙ sym call) in
           let pos : 0 < b.done.value = subst (λ (z : Block K). 0 < z.done.value) block told.done in omega arith)
-          (λ refused. absurd (refused.2 i b hb thread call)) h
+          (λ refused. absurd (refused.1 i b hb thread call)) h
       by (ask.Begin g) same h = absurd cc
       by (ask.Held g) same h = absurd cc
       by (ask.Walk f) same h = absurd cc

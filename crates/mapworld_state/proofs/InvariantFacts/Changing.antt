@@ -37,7 +37,7 @@ use Rattle.mapworld_state.proofs.InvariantFacts.Holding.{holds-same, owes-none, 
 use Rattle.mapworld_state.proofs.InvariantFacts.Building.{Goes, in_call-moved, holds-moved, session-next}
 use Rattle.mapworld_state.proofs.InvariantFacts.Building.{tables-changed, claim-at, taken-at, within-at, none-at}
 use Rattle.mapworld_state.proofs.InvariantFacts.Admitting.{kept-alone}
-use Rattle.mapworld_state.proofs.InvariantFacts.Finding.{ready-inside}
+use Rattle.mapworld_state.proofs.InvariantFacts.NewBlocks.{ready-inside}
 use Rattle.mapworld_state.proofs.InvariantFacts.Reading.{in-session}
 use Rattle.mapworld_state.proofs.InvariantFacts.Acting.{counted-block}
 use Rattle.mapworld_state.proofs.InvariantFacts.Growing as growing

@@ -1,8 +1,7 @@
 -- What ends with the step of an answer: what was owed to a lock, a try that could not have its shard, or a walk that
 -- was to give no item.
-use Rattle.std.proofs.Common.{◌≡◌, ℕ, ◌+◌, ◌⊎◌, inl, inr, ⊎_elim, true, List, [], Some, None, slice_get, refl, ap, sym}
+use Rattle.std.proofs.Common.{◌≡◌, ℕ, ◌+◌, ◌⊎◌, inl, inr, true, List, [], Some, None, slice_get, refl, ap, sym}
 use Rattle.std.proofs.Common.{◌∙◌, subst, arith}
-use Rattle.std.proofs.lemmas.Bool.{cases_Bool, false≢true}
 use Rattle.std.proofs.lemmas.Option.{same_Some, none-some}
 use Rattle.mapworld_calls.specs.declared.ask.Ask.TheVariants as ask
 use Rattle.mapworld_calls.specs.declared.ask.Walk.{Walk}
@@ -13,7 +12,6 @@ use Rattle.mapworld_calls.specs.declared.reply.Answer.TheVariants as answer
 use Rattle.mapworld_calls.specs.Programs.{stop_of}
 use Rattle.mapworld_calls.specs.Setup.{Setup, ask_at}
 use Rattle.mapworld_calls.specs.Agrees.{HasNoBlock, HasRead, IsWalkAnswer, IsAnsweredBy}
-use Rattle.parking_lot_protocol.specs.declared.act.CoreAnswer.TheVariants.{Owned, Refused}
 use Rattle.mapworld_state.specs.Locks.Aims.{Gets}
 use Rattle.mapworld_state.specs.Locks.Stands.{Stand}
 use Rattle.mapworld_state.specs.declared.place.Request.{Request}
@@ -22,7 +20,7 @@ use Rattle.mapworld_state.specs.declared.place.Phase.TheVariants as phase
 use Rattle.mapworld_state.specs.Places.{Place}
 use Rattle.mapworld_state.specs.State.{State, threads_of}
 use Rattle.mapworld_state.specs.Holds.{at_desk}
-use Rattle.mapworld_state.specs.Moves.{ask_of, request_tries, mode_of}
+use Rattle.mapworld_state.specs.Moves.{ask_of, keyed_manner, opening_manner, request_manner, mode_of}
 use Rattle.mapworld_state.specs.Steps.{IsLocked, GivesNone, Concludes, owed, locked, idle}
 use Rattle.mapworld_state.specs.Sound.{may_own, block_after, IsReady, Sound}
 use Rattle.mapworld_state.proofs.HoldsTable.{none-there}
@@ -32,7 +30,15 @@ use Rattle.mapworld_state.proofs.InvariantFacts.Building.{none-at, no-visits, re
 use Rattle.mapworld_state.proofs.InvariantFacts.Admitting.{owns-on, sound-silent, sound-leaves, none-yet, walk-apart}
 use Rattle.mapworld_state.proofs.InvariantFacts.Admitting.{unopened-ready}
 use Rattle.mapworld_calls.proofs.Walking.{none-visited}
-use Rattle.std.proofs.Common.{false}
+use Rattle.mapworld_calls.specs.declared.ask.Keyed.{Keyed}
+use Rattle.mapworld_calls.specs.declared.ask.Keyed.TheVariants as keyed
+use Rattle.mapworld_calls.specs.declared.ask.Begin.{Begin}
+use Rattle.mapworld_calls.specs.declared.ask.Begin.TheVariants as begin
+use Rattle.std.proofs.Common.{◌≢◌}
+use Rattle.mapworld_state.specs.Holds.{tries_so, has_deadline_so}
+use Rattle.mapworld_state.specs.declared.holds.Manner.TheVariants.{Waits}
+use Rattle.mapworld_calls.specs.Programs.{keyed_has_deadline, opening_may_be_locked}
+use Rattle.mapworld_state.proofs.InvariantFacts.Admitting.{keyed-apart}
 
 -- a walk that was to give no item is answered by what it has read without a visit
 unvisited-answer : {K V D T A : Type 0} (x : Setup K V D T) (bs : List (Block K)) (f : Walk D) (a : Answer K V T A)
@@ -41,20 +47,35 @@ unvisited-answer x bs (walk.Iter d s) a is read = read
 unvisited-answer x bs (walk.IterMut d s) a is read = read
 unvisited-answer x bs f a is read = absurd (none-some 0 is)
 
-owned≢refused : Owned ≡ Refused → ⊥
-owned≢refused e = absurd cc
+-- a call that doesn't just wait may be answered that it is locked
+keyed-locked : {K V D : Type 0} (k : Keyed K V D) → keyed_manner k ≢ Waits → keyed_has_deadline k ≡ true
+keyed-locked (keyed.InsertUntil k v) hurried = refl
+keyed-locked (keyed.RemoveUntil k) hurried = refl
+keyed-locked k hurried = absurd (hurried refl)
+
+opening-locked : {K : Type 0} (b : Begin K) → opening_manner b ≢ Waits → opening_may_be_locked b ≡ true
+opening-locked (begin.TryGet k) hurried = refl
+opening-locked (begin.TryGetMut k) hurried = refl
+opening-locked (begin.TryEntry k) hurried = refl
+opening-locked (begin.GetUntil k) hurried = refl
+opening-locked (begin.GetMutUntil k) hurried = refl
+opening-locked b hurried = absurd (hurried refl)
 
 module _ {K V S D T A : Type 0} (x : Setup K V D T) (w : State K V S D T A) (t : ℕ) (mid : State K V S D T A)
     (sound : Sound x w) where
-  -- what a try that was refused its shard is answered, and where it leads
-  refused-try : (p : Place K V D T A) → slice_get w.places t ≡ Some p → (r : Request K V D) → p.phase ≡ phase.Admit r
-      → ask_at x t p.next ≡ Some (ask_of r) → request_tries r ≡ true → (p' : Place K V D T A) → p'.guard ≡ None
+  -- what a call that doesn't just wait and couldn't have its shard is answered, and where it leads
+  refused-call : (p : Place K V D T A) → slice_get w.places t ≡ Some p → (r : Request K V D) → p.phase ≡ phase.Admit r
+      → ask_at x t p.next ≡ Some (ask_of r) → request_manner r ≢ Waits → (p' : Place K V D T A) → p'.guard ≡ None
       → block_after p' ≡ None
       → IsAnsweredBy {A = A} x w.blocks t p.next (ask_of r) answer.Locked
       × IsReady x w.blocks w.tables t p' (p.next + 1) (block_after p')
-  refused-try p at (request.Keyed k) before asked tries p' guard block = absurd (false≢true tries)
-  refused-try p at (request.Begin b) before asked tries p' guard block = (
-    inr (inr (refl, tries), none-yet x w t sound p at (ap may_own before)),
+  refused-call p at (request.Keyed k) before asked hurried p' guard block =
+      let outside = keyed-apart x w t sound p (sound.stands t p at) k asked in (
+        inr (inr (refl, keyed-locked k hurried), none-yet x w t sound p at (ap may_own before)),
+        ready-outside x w.blocks w.tables t p' (p.next + 1) (block_after p') outside.1 guard block,
+      )
+  refused-call p at (request.Begin b) before asked hurried p' guard block = (
+    inr (inr (refl, opening-locked b hurried), none-yet x w t sound p at (ap may_own before)),
     unopened-ready x w t sound p at (ap may_own before) b asked w.tables p' guard block,
   )
 
@@ -70,17 +91,16 @@ module _ {K V S D T A : Type 0} (x : Setup K V D T) (w : State K V S D T A) (t :
       let stand : e.ends.stand ≡ record {
         shard = p.shard;
         aim = Gets (at_desk (mode_of e.request));
-        trying = request_tries e.request;
-        timed = false;
+        trying = tries_so (request_manner e.request);
+        timed = has_deadline_so (request_manner e.request);
       } = same_Some e.ends.stand _ (sym e.ends.stood ∙ wants.is) in
       let aim = ap (λ (z : Stand). z.aim) stand in
-      let tries : request_tries e.request ≡ true = ⊎_elim (λ yes_. yes_)
-      (λ no_. absurd (owned≢refused
-      (sym (e.ends.patient (at_desk (mode_of e.request)) aim
-      (ap (λ (z : Stand). z.trying) stand ∙ no_) (ap (λ (z : Stand). z.timed) stand)))))
-      (cases_Bool (request_tries e.request)) in
-      let told = refused-try p e.stands e.request e.before c.0.asked tries p' c.1.guard (block_after-none p' c.1.block)
-      in
+      let hurried : request_manner e.request ≢ Waits = λ waits. e.unowned
+      (e.ends.patient (at_desk (mode_of e.request)) aim
+      (ap (λ (z : Stand). z.trying) stand ∙ ap tries_so waits)
+      (ap (λ (z : Stand). z.timed) stand ∙ ap has_deadline_so waits)) in
+      let told = refused-call p e.stands e.request e.before c.0.asked hurried p' c.1.guard
+      (block_after-none p' c.1.block) in
       subst (Sound x) (sym e.after) (sound-silent x w t p p' e.stands sound e.locks refl
       (record {
         program = st.program;
@@ -100,8 +120,8 @@ module _ {K V S D T A : Type 0} (x : Setup K V D T) (w : State K V S D T A) (t :
         );
         walks = none.reads;
       })
-      (holds-refused w.places w.locks sound.holds t p p' e.stands refl e.locks e.ends (at_desk (mode_of e.request)) aim
-      tt))
+      (holds-refused w.places w.locks sound.holds t p p' e.stands refl e.ended e.unowned e.locks e.ends
+      (at_desk (mode_of e.request)) aim tt))
 
   sound-idle : GivesNone w t mid → Sound x mid
   sound-idle e =

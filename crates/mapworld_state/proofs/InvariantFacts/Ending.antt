@@ -251,7 +251,7 @@ module _ {K V D T : Type 0} (A : Type 0) (x : Setup K V D T) (laws : Laws x) (t 
   pub answered-alike : (u c : ℕ) (a : Ask K V D) (r : Answer K V T A) → IsAnsweredBy x bs u c a r
       → IsAnsweredBy x bs' u c a r
   answered-alike u c (ask.Keyed k) r g =
-      elim g [ inl told ↦ inl (told-alike u c 0 r told) | inr none ↦ inr (none.0, none.1, none-alike u c none.2) ]
+      elim g [ inl told ↦ inl (told-alike u c 0 r told) | inr none ↦ inr (none.0, none-alike u c none.1) ]
   answered-alike u c (ask.Begin b) r g =
       elim g [ inl told ↦ inl (told-alike u c 0 r told) | inr none ↦ inr (none.0, none-alike u c none.1) ]
   answered-alike u c (ask.Held d) r g = in_session-alike u c (session_of x u c) r g

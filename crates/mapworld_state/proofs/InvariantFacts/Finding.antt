@@ -1,12 +1,11 @@
 -- A find lists the call's block at its position, or finds that the shard has to grow first.
-use Rattle.std.proofs.Common.{◌≡◌, ◌≢◌, ℕ, ◌+◌, ◌-◌, ◌<◌, ◌≤◌, inl, Bool, true, false, if◌then◌else◌, List, [], ◌∷◌}
-use Rattle.std.proofs.Common.{◌++◌, length, drop, Option, Some, None, IsSome, is_some, slice_get, slice_set, refl, ap}
-use Rattle.std.proofs.Common.{sym, ◌∙◌, subst, arith, length-append}
+use Rattle.std.proofs.Common.{◌≡◌, ◌≢◌, ℕ, ◌+◌, ◌≤◌, inl, Bool, true, false, if◌then◌else◌, List, [], ◌∷◌}
+use Rattle.std.proofs.Common.{◌++◌, length, drop, Option, Some, None, is_some, slice_get, slice_set, refl, ap}
+use Rattle.std.proofs.Common.{sym, ◌∙◌, subst, arith}
 use Rattle.mapworld_state.specs.Shards.{ShardPairs, has_room}
 use Rattle.std.proofs.Math.ListN.{length-set}
-use Rattle.std.proofs.lemmas.Option.{same_Some, none-some, slice_get_within}
+use Rattle.std.proofs.lemmas.Option.{same_Some, none-some}
 use Rattle.std.proofs.lemmas.Bool.{false≢true, lt-ltb}
-use Rattle.mapworld_calls.specs.declared.ask.Ask.{Ask}
 use Rattle.mapworld_calls.specs.declared.ask.Ask.TheVariants as ask
 use Rattle.mapworld_calls.specs.declared.ask.Keyed.{Keyed}
 use Rattle.mapworld_calls.specs.declared.ask.Keyed.TheVariants as keyed
@@ -15,15 +14,14 @@ use Rattle.mapworld_calls.specs.declared.ask.Begin.TheVariants as begin
 use Rattle.mapworld_calls.specs.declared.block.Block.{Block}
 use Rattle.mapworld_calls.specs.declared.reply.Answer.{Answer}
 use Rattle.mapworld_calls.specs.declared.reply.Answer.TheVariants as answer
-use Rattle.mapworld_calls.specs.Calls.{At, free, vacant, pair_in, told, after, keyed_answer, keyed_leaves}
+use Rattle.mapworld_calls.specs.Calls.{free, vacant, pair_in, keyed_answer, keyed_leaves}
 use Rattle.mapworld_calls.specs.Calls.{opening_answer, opened}
 use Rattle.mapworld_calls.specs.Programs.{keyed_key, key_of}
-use Rattle.mapworld_calls.specs.Setup.{Setup, Laws, session_of}
+use Rattle.mapworld_calls.specs.Setup.{Setup, Laws}
 use Rattle.mapworld_calls.specs.Pairs.{pair_of}
-use Rattle.mapworld_calls.specs.Replay.{reached, contents, before, found, IsLastOnShard}
+use Rattle.mapworld_calls.specs.Replay.{contents, before}
 use Rattle.mapworld_calls.specs.Agrees.{IsToldBy}
-use Rattle.mapworld_calls.specs.Placed.{IsDoneWithin}
-use Rattle.mapworld_calls.proofs.Lists.{slice_get-push_at, slice_get-set_same}
+use Rattle.mapworld_calls.proofs.Lists.{slice_get-set_same}
 use Rattle.mapworld_state.specs.declared.holds.Mode.{Mode}
 use Rattle.mapworld_state.specs.declared.holds.Mode.TheVariants.{Shared, Exclusive}
 use Rattle.mapworld_state.specs.declared.step.Step.{Step}
@@ -37,139 +35,27 @@ use Rattle.mapworld_state.specs.declared.place.Phase.{Phase}
 use Rattle.mapworld_state.specs.declared.place.Phase.TheVariants as phase
 use Rattle.mapworld_state.specs.Places.{Place}
 use Rattle.mapworld_state.specs.State.{State, threads_of, started_of}
-use Rattle.mapworld_state.specs.Moves.{request_key, keyed_mode, opening_way, opening_mode, mode_of, lent, stepped}
+use Rattle.mapworld_state.specs.Moves.{request_key, keyed_mode, opening_way, opening_mode, mode_of, stepped}
 use Rattle.mapworld_state.specs.Moves.{request_of, growth_key, found_phase, found_done, found_guard, block_behind}
-use Rattle.mapworld_state.specs.Moves.{IsListed, ListsBlock}
+use Rattle.mapworld_state.specs.Moves.{ListsBlock}
 use Rattle.mapworld_state.specs.Steps.{Finds, GrowsShard, Views}
-use Rattle.mapworld_state.specs.Sound.{is_resting, may_own, block_after, GuardIs, HoldsShard, IsInCall, IsOnItsWay}
-use Rattle.mapworld_state.specs.Sound.{IsBeforeDeed, HasReached, HasSession, IsInSession, IsReady, HasPairs, Claim}
+use Rattle.mapworld_state.specs.Sound.{is_resting, may_own, block_after, HoldsShard, IsInCall, IsOnItsWay}
+use Rattle.mapworld_state.specs.Sound.{HasPairs, Claim}
 use Rattle.mapworld_state.specs.Sound.{HasNoWalk, TablesAgree, Sound}
 use Rattle.mapworld_state.proofs.InvariantFacts.Others.{IsInCall-push}
 use Rattle.mapworld_state.proofs.InvariantFacts.Timing.{placed-same}
 use Rattle.mapworld_state.proofs.InvariantFacts.Holding.{holds-same, owes-none, stand-at}
 use Rattle.mapworld_state.proofs.InvariantFacts.Building.{Goes, in_call-moved, holds-moved, tables-same, tables-grown}
 use Rattle.mapworld_state.proofs.InvariantFacts.Building.{started-stays, sound-by, claim-at, taken-at, within-at}
-use Rattle.mapworld_state.proofs.InvariantFacts.Building.{none-at, none-moved, no-visits, reached-one, told-one}
+use Rattle.mapworld_state.proofs.InvariantFacts.Building.{none-at, none-moved, no-visits}
 use Rattle.mapworld_state.proofs.InvariantFacts.Building.{ready-outside}
 use Rattle.mapworld_state.proofs.InvariantFacts.Admitting.{leaves-same, kept-alone, owns-on, keyed-apart, begin-apart}
-use Rattle.mapworld_state.proofs.InvariantFacts.Listing.{new-key, new-finds, new-before, sound-listed, contents-listed}
-
-pub last-new : {K V D T : Type 0} (x : Setup K V D T) (bs : List (Block K)) (d : Block K) → IsLastOnShard x (bs ++ d ∷ []) (length bs) d
-last-new x bs d j e lt here = absurd (let within : j < length (bs ++ d ∷ []) = slice_get_within (bs ++ d ∷ []) j e here in omega (arith, length-append bs (d ∷ [])))
-
--- a keyed call whose block is listed has done it at the most, and an opening has opened
-module _ {K V S D T A : Type 0} (x : Setup K V D T) (w : State K V S D T A) (s : Step) (started : ℕ → Option ℕ) (bs : List (Block K)) (i : ℕ) (p : Place K V D T A) (d : Block K) where
-  done-none : (k : Keyed K V D) (n : ℕ) → n ≤ 1 → IsListed w s.thread p n d → IsDoneWithin x started bs w.replies i d (ask.Keyed k)
-  done-none k n le l = (
-    record { once = rw l.done le; whole = λ h. absurd (let g : IsSome {T = ℕ} None = subst (λ (o : Option ℕ). IsSome o) l.end h in absurd cc) },
-    l.visit,
-    l.visited,
-  )
-
-  opened-done : (b : Begin K) → IsListed w s.thread p 1 d → IsDoneWithin x started bs w.replies i d (ask.Begin b)
-  opened-done b l = (
-    record { opened = rw l.done (omega arith); calls = λ n pos lt. absurd (let lt' : n < 1 = subst (λ (k : ℕ). n < k) l.done lt in omega arith) },
-    l.visit,
-    l.visited,
-  )
-
-module _ {K V S D T A : Type 0} (x : Setup K V D T) (laws : Laws x) (w : State K V S D T A) (s : Step) (sound : Sound x w)
-    (p : Place K V D T A) (at : slice_get w.places s.thread ≡ Some p) (a : Ask K V D) (call : IsInCall x (threads_of w) s.thread p a)
-    (key : K) (key_is : key_of a ≡ Some key) (shard : p.shard ≡ x.route key) (not_yet : may_own p.phase ≡ false)
-    (table : ShardPairs K V) (held : slice_get w.tables p.shard ≡ Some table) (d : Block K) where
-  has-now : contents x w.blocks key ≡ pair_of x.eq table.items key
-  has-now = sym (sound.tables.contents_are key table (ap (λ n. slice_get w.tables n) (sym shard) ∙ held))
-
-  -- the block of an exclusive call is listed before its deed
-  before-deed : (holds : HoldsShard p Exclusive) (listed : IsListed w s.thread p 0 d) (p' : Place K V D T A) (o : Option (K × V)) → pair_of x.eq table.items key ≡ o
-      → p'.next ≡ p.next → p'.shard ≡ p.shard → p'.guard ≡ None → p'.holds ≡ p.holds → p'.block ≡ Some (length w.blocks)
-      → IsBeforeDeed x (w.blocks ++ d ∷ []) s.thread p' key o
-  before-deed holds listed p' o is next same slot hold mine = record {
-    index = length w.blocks;
-    block = d;
-    mine = mine;
-    listed = slice_get-push_at w.blocks d;
-    thread = listed.thread;
-    call = listed.call ∙ sym next;
-    key_is = new-key x laws w s sound p at a call key key_is Exclusive holds shard not_yet 0 d listed;
-    done = listed.done;
-    last = last-new x w.blocks d;
-    found_is = new-finds x laws w s sound p at a call key key_is Exclusive holds shard not_yet 0 d listed ∙ has-now ∙ is;
-    guard = slot;
-    shard = same ∙ shard;
-    alone = holds-moved x p p' Exclusive hold same holds;
-  }
-
-  quiet-none : (listed : IsListed w s.thread p 0 d) (o : Option (K × V)) → contents x w.blocks key ≡ o → pair_in (reached x d.thread d.call d.done.value o) ≡ o
-  quiet-none listed o h = rw listed.done refl
-
-  -- the block of a call that is done at its position tells its answer
-  told-new : (m : Mode) (holds : HoldsShard p m) (listed : IsListed w s.thread p 1 d) (o : Option (K × V)) → pair_of x.eq table.items key ≡ o
-      → IsToldBy {A = A} x (w.blocks ++ d ∷ []) s.thread p.next 0 (told x.deeds a (free o))
-  told-new m holds listed o is = record {
-    place = length w.blocks;
-    block = d;
-    listed = slice_get-push_at w.blocks d;
-    thread = listed.thread;
-    call = listed.call;
-    done = rw listed.done (omega arith);
-    told = told-one x s.thread p.next a d key (new-key x laws w s sound p at a call key key_is m holds shard not_yet 1 d listed) listed.thread listed.call (before x (w.blocks ++ d ∷ []) (length w.blocks)) call.asked
-        ∙ ap (λ z. Some (told x.deeds a (free z))) (new-before x laws w s sound p at a call key key_is m holds shard not_yet 1 d listed ∙ has-now ∙ is);
-  }
-
-  reached-new : (listed : IsListed w s.thread p 1 d) (o : Option (K × V)) → reached x d.thread d.call d.done.value o ≡ after x.deeds a (free o)
-  reached-new listed o = rw (listed.thread, listed.call, listed.done) (reached-one x s.thread p.next a o call.asked)
-
-  -- the session that an opening begins
-  session-new : (m : Mode) (holds : HoldsShard p m) (listed : IsListed w s.thread p 1 d) (tables' : List (ShardPairs K V)) (p' : Place K V D T A) (o : Option (K × V)) → pair_of x.eq table.items key ≡ o
-      → p'.shard ≡ p.shard → GuardIs tables' p' p'.guard (after x.deeds a (free o)) → HasReached x tables' p' d (after x.deeds a (free o))
-      → HasSession x (w.blocks ++ d ∷ []) tables' s.thread p' (p.next + 1) p.next (length w.blocks)
-  session-new m holds listed tables' p' o is same lends there =
-      let one : p.next + 1 - p.next ≡ 1 = omega arith in
-      let finds = new-finds x laws w s sound p at a call key key_is m holds shard not_yet 1 d listed ∙ has-now ∙ is in
-      let now : reached x s.thread p.next (p.next + 1 - p.next) (found x (w.blocks ++ d ∷ []) (length w.blocks) d) ≡ after x.deeds a (free o) = rw (one, finds) (reached-one x s.thread p.next a o call.asked) in
-      record {
-        block = d;
-        listed = slice_get-push_at w.blocks d;
-        thread = listed.thread;
-        call = listed.call;
-        below = omega arith;
-        done = listed.done ∙ sym one;
-        guard = subst (λ (z : At K V). GuardIs tables' p' p'.guard z) (sym now) lends;
-        there = subst (λ (z : At K V). HasReached x tables' p' d z) (sym now) there;
-        settled = record {
-          here = λ k its. same ∙ shard ∙ ap x.route (same_Some key k (sym (new-key x laws w s sound p at a call key key_is m holds shard not_yet 1 d listed) ∙ its));
-          last = λ alone. last-new x w.blocks d;
-        };
-      }
-
--- an opening leaves its key's pair, and gives a guard of its kind where there is one
-opened-quiet : {K V : Type 0} (b : Begin K) (o : Option (K × V)) → pair_in (opened b o) ≡ o
-opened-quiet (begin.Get k) None = refl
-opened-quiet (begin.Get k) (Some pair) = refl
-opened-quiet (begin.GetMut k) None = refl
-opened-quiet (begin.GetMut k) (Some pair) = refl
-opened-quiet (begin.Entry k) None = refl
-opened-quiet (begin.Entry k) (Some pair) = refl
-opened-quiet (begin.TryGet k) None = refl
-opened-quiet (begin.TryGet k) (Some pair) = refl
-opened-quiet (begin.TryGetMut k) None = refl
-opened-quiet (begin.TryGetMut k) (Some pair) = refl
-opened-quiet (begin.TryEntry k) None = refl
-opened-quiet (begin.TryEntry k) (Some pair) = refl
-
-opened-some : {K V : Type 0} (b : Begin K) (pair : K × V) → opened b (Some pair) ≡ lent (opening_way b) pair
-opened-some (begin.Get k) pair = refl
-opened-some (begin.GetMut k) pair = refl
-opened-some (begin.Entry k) pair = refl
-opened-some (begin.TryGet k) pair = refl
-opened-some (begin.TryGetMut k) pair = refl
-opened-some (begin.TryEntry k) pair = refl
-
-pub ready-inside : {K V D T A : Type 0} (x : Setup K V D T) (bs : List (Block K)) (tables : List (ShardPairs K V)) (t : ℕ) (p : Place K V D T A) (n c i : ℕ) (block : Option ℕ)
-    → session_of x t n ≡ Some c → Some i ≡ block → HasSession x bs tables t p n c i → IsReady x bs tables t p n block
-ready-inside x bs tables t p n c i block inside mine h =
-    subst (λ (o : Option ℕ). IsInSession x bs tables t p n o block) (sym inside) (subst (λ (o : Option ℕ). IsInSession x bs tables t p n (Some c) o) mine h)
+use Rattle.mapworld_state.proofs.InvariantFacts.Listing.{new-key, sound-listed, contents-listed}
+use Rattle.mapworld_state.specs.Sound.{Inserts}
+use Rattle.std.proofs.Common.{inr}
+use Rattle.mapworld_state.proofs.InvariantFacts.NewBlocks.{before-deed, done-none, opened-done, opened-quiet}
+use Rattle.mapworld_state.proofs.InvariantFacts.NewBlocks.{opened-some, quiet-none, reached-new, ready-inside, session-new}
+use Rattle.mapworld_state.proofs.InvariantFacts.NewBlocks.{has-now, told-new}
 
 module _ {K V S D T A : Type 0} (x : Setup K V D T) (laws : Laws x) (w : State K V S D T A) (s : Step) (sound : Sound x w) where
   -- the world behind a find
@@ -392,29 +278,44 @@ module _ {K V S D T A : Type 0} (x : Setup K V D T) (laws : Laws x) (w : State K
         (record { table = table; held = held; so = (roomy, is) })
         (λ d same. tables-same x w.blocks (w.blocks ++ d ∷ []) w.tables sound.tables same)
 
-    found-by : (r : Request K V D) → p.phase ≡ phase.Find r → (o : Option (K × V)) → pair_of x.eq table.items (request_key r) ≡ o → (room : Bool) → has_room table ≡ room
-        → (blocks : List (Block K)) → ListsBlock w s.thread p (found_done r (is_some o) room) blocks → Found p r (is_some o) room blocks
-    found-by (request.Keyed (keyed.Insert k v)) before (Some pair) is room roomy blocks listed = found-deed (keyed.Insert k v) before refl pair is blocks listed
-    found-by (request.Keyed (keyed.Insert k v)) before None is true roomy blocks listed =
-        let r : Request K V D = request.Keyed (keyed.Insert k v) in
+    -- a call whose pair is to be added, where the shard has room for it
+    found-append : (k : K) (v : V) (call : Keyed K V D) → Inserts call k v → keyed_key call ≡ k → keyed_mode call ≡ Exclusive
+        → p.phase ≡ phase.Find (request.Keyed call) → pair_of x.eq table.items k ≡ None → has_room table ≡ true
+        → (blocks : List (Block K)) → ListsBlock w s.thread p (Some 0) blocks
+        → Goes x s.thread w (record (stepped w s (record p { block = Some (length w.blocks); guard = None; phase = phase.Append k v })) { blocks = blocks })
+    found-append k v call inserts key alone before is roomy blocks listed =
+        let r : Request K V D = request.Keyed call in
         let st = sound.stands s.thread p at in
         let c = claim-at x (threads_of w) w.blocks w.replies w.tables s.thread p (phase.Find r) before st in
+        let way : IsOnItsWay x p k = subst (λ (j : K). IsOnItsWay x p j) key c.1 in
+        let holds : HoldsShard p Exclusive = subst (λ (m : Mode). HoldsShard p m) alone c.2 in
+        let its : key_of {V = V} {D = D} (ask.Keyed call) ≡ Some k = ap (λ j. Some j) key in
         let p' : Place K V D T A = record p { block = Some (length w.blocks); guard = None; phase = phase.Append k v } in
         let not_yet : may_own p.phase ≡ false = ap may_own before in
         let l = listed.1 in
         let none' : HasNoWalk p' = still (phase.Find r) before refl p' refl refl refl in
         subst (λ (z : List (Block K)). Goes x s.thread w (record (stepped w s p') { blocks = z })) (sym listed.2)
-        (sound-listed x laws w s sound p at _ c.0 k refl Exclusive c.2 c.1.shard not_yet 0 listed.0 l p' refl refl refl refl none' refl (λ o z. z)
-        (done-none x w s (started_of (stepped w s p')) (w.blocks ++ listed.0 ∷ []) (length w.blocks) p listed.0 (keyed.Insert k v) 0 (omega arith) l) w.tables refl (λ u q m ne hq h. refl) (
-          IsInCall-push x (threads_of w) s.thread s.thread p' _ (in_call-moved x p p' (threads_of w) s.thread _ refl refl refl c.0),
-          before-deed x laws w s sound p at _ c.0 k refl c.1.shard not_yet table held listed.0 c.2 l p' None is refl refl refl refl refl,
+        (sound-listed x laws w s sound p at _ c.0 k its Exclusive holds way.shard not_yet 0 listed.0 l p' refl refl refl refl none' refl (λ o z. z)
+        (done-none x w s (started_of (stepped w s p')) (w.blocks ++ listed.0 ∷ []) (length w.blocks) p listed.0 call 0 (omega arith) l) w.tables refl (λ u q m ne hq h. refl) (
+          record {
+            insertion = call;
+            inserts = inserts;
+            in_call = IsInCall-push x (threads_of w) s.thread s.thread p' _ (in_call-moved x p p' (threads_of w) s.thread _ refl refl refl c.0);
+          },
+          before-deed x laws w s sound p at _ c.0 k its way.shard not_yet table held listed.0 holds l p' None is refl refl refl refl refl,
           record { table = table; held = held; so = roomy },
         )
         none'
         (taken-at x (threads_of w) w.blocks w.replies w.tables s.thread p (phase.Find r) before st)
         (within-at x (threads_of w) w.blocks w.replies w.tables s.thread p (phase.Find r) before st)
         (tables-same x w.blocks (w.blocks ++ listed.0 ∷ []) w.tables sound.tables
-        (contents-listed x laws w s sound p at _ c.0 k refl Exclusive c.2 c.1.shard not_yet 0 listed.0 l (quiet-none x laws w s sound p at _ c.0 k refl c.1.shard not_yet table held listed.0 l))))
+        (contents-listed x laws w s sound p at _ c.0 k its Exclusive holds way.shard not_yet 0 listed.0 l (quiet-none x laws w s sound p at _ c.0 k its way.shard not_yet table held listed.0 l))))
+
+    found-by : (r : Request K V D) → p.phase ≡ phase.Find r → (o : Option (K × V)) → pair_of x.eq table.items (request_key r) ≡ o → (room : Bool) → has_room table ≡ room
+        → (blocks : List (Block K)) → ListsBlock w s.thread p (found_done r (is_some o) room) blocks → Found p r (is_some o) room blocks
+    found-by (request.Keyed (keyed.Insert k v)) before (Some pair) is room roomy blocks listed = found-deed (keyed.Insert k v) before refl pair is blocks listed
+    found-by (request.Keyed (keyed.Insert k v)) before None is true roomy blocks listed =
+        found-append k v (keyed.Insert k v) (inl refl) refl refl before is roomy blocks listed
     found-by (request.Keyed (keyed.Insert k v)) before None is false full blocks listed = found-full (growth.Insert k v) before refl refl is full blocks listed
     found-by (request.Keyed (keyed.Remove k)) before (Some pair) is room roomy blocks listed = found-deed (keyed.Remove k) before refl pair is blocks listed
     found-by (request.Keyed (keyed.Remove k)) before None is room roomy blocks listed =
@@ -464,6 +365,16 @@ module _ {K V S D T A : Type 0} (x : Setup K V D T) (laws : Laws x) (w : State K
         found-whole (keyed.ContainsKey k) before (Some pair) is refl (answer.Flag true) refl blocks listed
     found-by (request.Keyed (keyed.ContainsKey k)) before None is room roomy blocks listed =
         found-whole (keyed.ContainsKey k) before None is refl (answer.Flag false) refl blocks listed
+    found-by (request.Keyed (keyed.InsertUntil k v)) before (Some pair) is room roomy blocks listed =
+        found-deed (keyed.InsertUntil k v) before refl pair is blocks listed
+    found-by (request.Keyed (keyed.InsertUntil k v)) before None is true roomy blocks listed =
+        found-append k v (keyed.InsertUntil k v) (inr refl) refl refl before is roomy blocks listed
+    found-by (request.Keyed (keyed.InsertUntil k v)) before None is false full blocks listed =
+        found-full (growth.InsertUntil k v) before refl refl is full blocks listed
+    found-by (request.Keyed (keyed.RemoveUntil k)) before (Some pair) is room roomy blocks listed =
+        found-deed (keyed.RemoveUntil k) before refl pair is blocks listed
+    found-by (request.Keyed (keyed.RemoveUntil k)) before None is room roomy blocks listed =
+        found-whole (keyed.RemoveUntil k) before None is refl answer.None refl blocks listed
     found-by (request.Begin b) before (Some pair) is room roomy blocks listed =
         let r : Request K V D = request.Begin b in
         let k = request_key r in
@@ -504,6 +415,9 @@ module _ {K V S D T A : Type 0} (x : Setup K V D T) (laws : Laws x) (w : State K
     found-by (request.Begin (begin.GetMut k)) before None is room roomy blocks listed = found-nothing (begin.GetMut k) before is refl refl blocks listed
     found-by (request.Begin (begin.TryGet k)) before None is room roomy blocks listed = found-nothing (begin.TryGet k) before is refl refl blocks listed
     found-by (request.Begin (begin.TryGetMut k)) before None is room roomy blocks listed = found-nothing (begin.TryGetMut k) before is refl refl blocks listed
+    found-by (request.Begin (begin.GetUntil k)) before None is room roomy blocks listed = found-nothing (begin.GetUntil k) before is refl refl blocks listed
+    found-by (request.Begin (begin.GetMutUntil k)) before None is room roomy blocks listed =
+        found-nothing (begin.GetMutUntil k) before is refl refl blocks listed
     found-by (request.Begin (begin.Entry k)) before None is false full blocks listed = found-full (growth.Entry k) before refl refl is full blocks listed
     found-by (request.Begin (begin.Entry k)) before None is true roomy blocks listed = found-vacant (begin.Entry k) k before refl refl refl refl is roomy blocks listed
     found-by (request.Begin (begin.TryEntry k)) before None is false full blocks listed = found-full (growth.TryEntry k) before refl refl is full blocks listed
@@ -551,6 +465,44 @@ module _ {K V S D T A : Type 0} (x : Setup K V D T) (laws : Laws x) (w : State K
       (record { table = a.grown; held = slice_get-set_same w.tables p.shard a.table a.grown a.held; so = (roomy-grown a, a.grows.found k ∙ absent) })
       (λ d same. tables-grown x laws w.blocks (w.blocks ++ d ∷ []) w.tables sound.tables p.shard a.table a.grown a.held a.grows same)
 
+  grown-append : {w' : State K V S D T A} (a : GrowsShard x w s w') (g : Growth K V) (k : K) (v : V) (call : Keyed K V D) → a.place.phase ≡ phase.Grow g
+      → ((threads : List ℕ) (bs : List (Block K)) (tables : List (ShardPairs K V)) (p : Place K V D T A)
+      → Claim x threads bs tables s.thread p (phase.Grow g) → IsInCall x threads s.thread p (ask.Keyed call)
+      × IsOnItsWay x p k × HoldsShard p Exclusive)
+      → Inserts call k v → key_of {V = V} {D = D} (ask.Keyed call) ≡ Some k
+      → pair_of x.eq a.table.items k ≡ None → ListsBlock w s.thread a.place (Some 0) a.blocks
+      → Goes x s.thread w (record (stepped w s (record (a.place) { block = Some (length w.blocks); guard = None; phase = phase.Append k v })) {
+        tables = slice_set w.tables a.place.shard a.grown;
+        blocks = a.blocks;
+      })
+  grown-append a g k v call before is inserts key absent listed =
+      let p = a.place in
+      let f : Phase K V D T A = phase.Grow g in
+      let st = sound.stands s.thread p a.stands in
+      let c = is (threads_of w) w.blocks w.tables p (claim-at x (threads_of w) w.blocks w.replies w.tables s.thread p f before st) in
+      let p' : Place K V D T A = record p { block = Some (length w.blocks); guard = None; phase = phase.Append k v } in
+      let not_yet : may_own p.phase ≡ false = ap may_own before in
+      let l = listed.1 in
+      let d = listed.0 in
+      let none' : HasNoWalk p' = still p a.stands a.table a.held f before refl p' refl refl refl in
+      subst (λ (z : List (Block K)). Goes x s.thread w (record (stepped w s p') { tables = slice_set w.tables p.shard a.grown; blocks = z })) (sym listed.2)
+      (sound-listed x laws w s sound p a.stands _ c.0 k key Exclusive c.2 c.1.shard not_yet 0 d l p' refl refl refl refl none' refl (λ o z. z)
+      (done-none x w s (started_of (stepped w s p')) (w.blocks ++ d ∷ []) (length w.blocks) p d call 0 (omega arith) l) (slice_set w.tables p.shard a.grown) (length-set w.tables p.shard a.grown)
+      (kept-alone x w s p a.stands sound a.grown c.2) (
+        record {
+          insertion = call;
+          inserts = inserts;
+          in_call = IsInCall-push x (threads_of w) s.thread s.thread p' _ (in_call-moved x p p' (threads_of w) s.thread _ refl refl refl c.0);
+        },
+        before-deed x laws w s sound p a.stands _ c.0 k key c.1.shard not_yet a.table a.held d c.2 l p' None absent refl refl refl refl refl,
+        record { table = a.grown; held = slice_get-set_same w.tables p.shard a.table a.grown a.held; so = roomy-grown a },
+      )
+      none'
+      (taken-at x (threads_of w) w.blocks w.replies w.tables s.thread p f before st)
+      (within-at x (threads_of w) w.blocks w.replies w.tables s.thread p f before st)
+      (tables-grown x laws w.blocks (w.blocks ++ d ∷ []) w.tables sound.tables p.shard a.table a.grown a.held a.grows
+      (contents-listed x laws w s sound p a.stands _ c.0 k key Exclusive c.2 c.1.shard not_yet 0 d l (quiet-none x laws w s sound p a.stands _ c.0 k key c.1.shard not_yet a.table a.held d l))))
+
   grown : (w' : State K V S D T A) (a : GrowsShard x w s w') (c : Growth K V) → a.place.phase ≡ phase.Grow c → pair_of x.eq a.table.items (growth_key c) ≡ None
       → ListsBlock w s.thread a.place (found_done {D = D} (request_of c) false true) a.blocks
       → Goes x s.thread w (record (stepped w s (record (a.place) { block = Some (length w.blocks); guard = found_guard {D = D} (request_of c) false true; phase = found_phase (request_of c) false true })) {
@@ -558,28 +510,9 @@ module _ {K V S D T A : Type 0} (x : Setup K V D T) (laws : Laws x) (w : State K
         blocks = a.blocks;
       })
   grown w' a (growth.Insert k v) before absent listed =
-      let p = a.place in
-      let f : Phase K V D T A = phase.Grow (growth.Insert k v) in
-      let st = sound.stands s.thread p a.stands in
-      let c = claim-at x (threads_of w) w.blocks w.replies w.tables s.thread p f before st in
-      let p' : Place K V D T A = record p { block = Some (length w.blocks); guard = None; phase = phase.Append k v } in
-      let not_yet : may_own p.phase ≡ false = ap may_own before in
-      let l = listed.1 in
-      let d = listed.0 in
-      let none' : HasNoWalk p' = still p a.stands a.table a.held f before refl p' refl refl refl in
-      subst (λ (z : List (Block K)). Goes x s.thread w (record (stepped w s p') { tables = slice_set w.tables p.shard a.grown; blocks = z })) (sym listed.2)
-      (sound-listed x laws w s sound p a.stands _ c.0 k refl Exclusive c.2 c.1.shard not_yet 0 d l p' refl refl refl refl none' refl (λ o z. z)
-      (done-none x w s (started_of (stepped w s p')) (w.blocks ++ d ∷ []) (length w.blocks) p d (keyed.Insert k v) 0 (omega arith) l) (slice_set w.tables p.shard a.grown) (length-set w.tables p.shard a.grown)
-      (kept-alone x w s p a.stands sound a.grown c.2) (
-        IsInCall-push x (threads_of w) s.thread s.thread p' _ (in_call-moved x p p' (threads_of w) s.thread _ refl refl refl c.0),
-        before-deed x laws w s sound p a.stands _ c.0 k refl c.1.shard not_yet a.table a.held d c.2 l p' None absent refl refl refl refl refl,
-        record { table = a.grown; held = slice_get-set_same w.tables p.shard a.table a.grown a.held; so = roomy-grown a },
-      )
-      none'
-      (taken-at x (threads_of w) w.blocks w.replies w.tables s.thread p f before st)
-      (within-at x (threads_of w) w.blocks w.replies w.tables s.thread p f before st)
-      (tables-grown x laws w.blocks (w.blocks ++ d ∷ []) w.tables sound.tables p.shard a.table a.grown a.held a.grows
-      (contents-listed x laws w s sound p a.stands _ c.0 k refl Exclusive c.2 c.1.shard not_yet 0 d l (quiet-none x laws w s sound p a.stands _ c.0 k refl c.1.shard not_yet a.table a.held d l))))
+      grown-append a (growth.Insert k v) k v (keyed.Insert k v) before (λ threads bs tables p c. (c.0, c.1, c.2)) (inl refl) refl absent listed
+  grown w' a (growth.InsertUntil k v) before absent listed =
+      grown-append a (growth.InsertUntil k v) k v (keyed.InsertUntil k v) before (λ threads bs tables p c. (c.0, c.1, c.2)) (inr refl) refl absent listed
   grown w' a (growth.Entry k) before absent listed = grown-entry a (growth.Entry k) (begin.Entry k) k before (λ threads bs tables p c. (c.0, c.1, c.2)) refl refl refl absent listed
   grown w' a (growth.TryEntry k) before absent listed = grown-entry a (growth.TryEntry k) (begin.TryEntry k) k before (λ threads bs tables p c. (c.0, c.1, c.2)) refl refl refl absent listed
 

@@ -9,23 +9,25 @@ use Rattle.lock_api_desk.specs.declared.mode.Mode.{Mode as DeskMode}
 use Rattle.lock_api_desk.specs.declared.mode.Mode.TheVariants as desk
 use Rattle.lock_api_desk.specs.Guards.{excludes}
 use Rattle.parking_lot_protocol.specs.declared.act.CoreAnswer.{CoreAnswer}
-use Rattle.parking_lot_protocol.specs.declared.act.CoreAnswer.TheVariants.{Refused}
+use Rattle.parking_lot_protocol.specs.declared.act.CoreAnswer.TheVariants.{Owned}
 use Rattle.parking_lot_machine_calls.specs.declared.calls.LockCall.{LockCall}
 use Rattle.parking_lot_machine_calls.specs.declared.calls.LockCall.TheVariants.{Downgrade}
 use Rattle.mapworld_state.specs.Locks.Aims.{Aim, Gets, GivesUp, Turns, aim_of}
 use Rattle.mapworld_state.specs.Locks.Views.{Shown, owner_in}
 use Rattle.mapworld_state.specs.Locks.Stands.{Stand, stand_for, stand_in}
-use Rattle.mapworld_state.specs.Locks.Steps.{LockBegins, LockMoves, LockStarts, LockEnds}
+use Rattle.mapworld_state.specs.Locks.Steps.{LockBegins, LockMoves, LockStarts, LockEnds, LockExpires}
 use Rattle.mapworld_state.specs.declared.holds.Mode.{Mode}
 use Rattle.mapworld_state.specs.declared.holds.Mode.TheVariants.{Shared, Exclusive}
+use Rattle.mapworld_state.specs.declared.holds.Manner.{Manner}
+use Rattle.mapworld_state.specs.declared.holds.Manner.TheVariants.{Waits, Tries, UntilDeadline}
 use Rattle.mapworld_state.specs.declared.holds.Hold.{Hold}
 use Rattle.mapworld_state.specs.declared.place.Phase.{Phase}
 use Rattle.mapworld_state.specs.declared.place.Phase.TheVariants as phase
 use Rattle.mapworld_state.specs.Places.{Place}
 use Rattle.mapworld_state.specs.Classes.{class_of, owes_in}
-use Rattle.mapworld_state.specs.Moves.{mode_of, request_tries}
+use Rattle.mapworld_state.specs.Moves.{mode_of, request_manner}
 use Rattle.mapworld_state.specs.Walks.{walk_mode}
-use Rattle.mapworld_state.specs.Holds.{at_desk, asks_for, wants_for, gives_up, IsAmong}
+use Rattle.mapworld_state.specs.Holds.{at_desk, asks_for, wants_for, gives_up, tries_so, has_deadline_so, IsAmong}
 use Rattle.mapworld_state.specs.Held.{MayOwe, IsOwing, IsWanting, StandsBefore, IsAt, HoldsMatch}
 use Rattle.mapworld_state.specs.Steps.{EntersBy}
 use Rattle.parking_lot_machine.proofs.MutexMoving.{set_same}
@@ -49,19 +51,23 @@ both-share Exclusive Exclusive e = absurd cc
 pub owes-none : {K V D T A : Type 0} (p : Place K V D T A) (o : Option Stand) → o ≡ None → IsOwing p o
 owes-none p o none = subst (λ (z : Option Stand). IsOwing p z) (sym none) tt
 
-module _ {K V D T A : Type 0} (p : Place K V D T A) (mode : Mode) (tries : Bool) (stand : Stand) where
-  wanting : IsWanting p mode tries (Some stand) → ((m : DeskMode) × (stand.shard ≡ p.shard) × (stand.aim ≡ Gets m))
+module _ {K V D T A : Type 0} (p : Place K V D T A) (mode : Mode) (manner : Manner) (stand : Stand) where
+  wanting : IsWanting p mode manner (Some stand) → ((m : DeskMode) × (stand.shard ≡ p.shard) × (stand.aim ≡ Gets m))
       ⊎ MayOwe p stand.shard stand.aim
   wanting h =
-      let same = same_Some stand (record { shard = p.shard; aim = Gets (at_desk mode); trying = tries; timed = false })
-      h.is in
+      let same = same_Some stand (record {
+        shard = p.shard;
+        aim = Gets (at_desk mode);
+        trying = tries_so manner;
+        timed = has_deadline_so manner;
+      }) h.is in
       inl (at_desk mode, ap (λ (z : Stand). z.shard) same, ap (λ (z : Stand). z.aim) same)
 
 -- a thread that is in a lock's call waits for its admission, or owes something to the lock
 pub in-call : {K V D T A : Type 0} (p : Place K V D T A) (f : Phase K V D T A) (stand : Stand) → StandsBefore p f (Some stand)
     → ((m : DeskMode) × (stand.shard ≡ p.shard) × (stand.aim ≡ Gets m)) ⊎ MayOwe p stand.shard stand.aim
 in-call p phase.Rest stand h = absurd (none-some stand (sym h))
-in-call p (phase.Admit r) stand h = wanting p (mode_of r) (request_tries r) stand h
+in-call p (phase.Admit r) stand h = wanting p (mode_of r) (request_manner r) stand h
 in-call p (phase.Find r) stand h = absurd (none-some stand (sym h))
 in-call p (phase.Grow c) stand h = absurd (none-some stand (sym h))
 in-call p (phase.Append k v) stand h = absurd (none-some stand (sym h))
@@ -72,7 +78,7 @@ in-call p (phase.Change c) stand h = absurd (none-some stand (sym h))
 in-call p (phase.Fill v) stand h = absurd (none-some stand (sym h))
 in-call p phase.Downgrade stand h = absurd (none-some stand (sym h))
 in-call p (phase.Idle f) stand h = absurd (none-some stand (sym h))
-in-call p (phase.Reach f) stand h = wanting p (walk_mode f) false stand h
+in-call p (phase.Reach f) stand h = wanting p (walk_mode f) Waits stand h
 in-call p (phase.Part f) stand h = absurd (none-some stand (sym h))
 in-call p (phase.Visit f) stand h = inr h
 in-call p (phase.Seek f) stand h = absurd (none-some stand (sym h))
@@ -276,12 +282,14 @@ module _ {K V D T A : Type 0} (places : List (Place K V D T A)) (locks : Shown) 
         (subst (λ (o : Option Stand). StandsBefore p' f o) (sym out) stands)))
 
     -- the call that it begins asks for its shard
-    begun-wanting : (mode : Mode) (tries : Bool)
-        → IsWanting p' mode tries (Some (stand_for p'.shard (wants_for tries mode)))
-    begun-wanting Shared true = record { is = refl }
-    begun-wanting Exclusive true = record { is = refl }
-    begun-wanting Shared false = record { is = refl }
-    begun-wanting Exclusive false = record { is = refl }
+    begun-wanting : (mode : Mode) (manner : Manner)
+        → IsWanting p' mode manner (Some (stand_for p'.shard (wants_for manner mode)))
+    begun-wanting Shared Waits = record { is = refl }
+    begun-wanting Exclusive Waits = record { is = refl }
+    begun-wanting Shared Tries = record { is = refl }
+    begun-wanting Exclusive Tries = record { is = refl }
+    begun-wanting Shared UntilDeadline = record { is = refl }
+    begun-wanting Exclusive UntilDeadline = record { is = refl }
 
     begun-at : p'.holds ≡ p.holds → stand_in locks t ≡ None → (locks' : Shown) (f : Phase K V D T A) → p'.phase ≡ f
         → (call : LockCall) → LockBegins t p'.shard call locks locks'
@@ -297,7 +305,7 @@ module _ {K V D T A : Type 0} (places : List (Place K V D T A)) (locks : Shown) 
         → p'.phase ≡ f → EntersBy t p'.shard f locks locks' → HoldsMatch (slice_set places t p') locks'
     holds-entered same out locks' phase.Rest is a = unlocked same out locks' phase.Rest is refl a
     holds-entered same out locks' (phase.Admit r) is a = begun-at same out locks' (phase.Admit r) is
-        (wants_for (request_tries r) (mode_of r)) a (begun-wanting (mode_of r) (request_tries r))
+        (wants_for (request_manner r) (mode_of r)) a (begun-wanting (mode_of r) (request_manner r))
     holds-entered same out locks' (phase.Find r) is a = unlocked same out locks' (phase.Find r) is refl a
     holds-entered same out locks' (phase.Grow c) is a = unlocked same out locks' (phase.Grow c) is refl a
     holds-entered same out locks' (phase.Append k v) is a = unlocked same out locks' (phase.Append k v) is refl a
@@ -309,7 +317,7 @@ module _ {K V D T A : Type 0} (places : List (Place K V D T A)) (locks : Shown) 
     holds-entered same out locks' phase.Downgrade is a = unlocked same out locks' phase.Downgrade is refl a
     holds-entered same out locks' (phase.Idle f) is a = unlocked same out locks' (phase.Idle f) is refl a
     holds-entered same out locks' (phase.Reach f) is a = begun-at same out locks' (phase.Reach f) is
-        (asks_for (walk_mode f)) a (begun-wanting (walk_mode f) false)
+        (asks_for (walk_mode f)) a (begun-wanting (walk_mode f) Waits)
     holds-entered same out locks' (phase.Part f) is a = unlocked same out locks' (phase.Part f) is refl a
     holds-entered same out locks' (phase.Visit f) is a = unlocked same out locks' (phase.Visit f) is tt a
     holds-entered same out locks' (phase.Seek f) is a = unlocked same out locks' (phase.Seek f) is refl a
@@ -379,17 +387,18 @@ module _ {K V D T A : Type 0} (places : List (Place K V D T A)) (locks : Shown) 
             stands = subst (λ (o : Option Stand). StandsBefore p' p'.phase o) (sym e.gone) stands;
           })
 
-    -- it was refused its shard, and has the holds that it had
-    pub holds-refused : p'.holds ≡ p.holds → (locks' : Shown) (e : LockEnds t Refused locks locks') (m : DeskMode)
+    -- it was refused its shard or has given up, and has the holds that it had
+    pub holds-refused : p'.holds ≡ p.holds → (answer : CoreAnswer) → answer ≢ Owned → (locks' : Shown)
+        (e : LockEnds t answer locks locks') (m : DeskMode)
         → e.stand.aim ≡ Gets m → StandsBefore p' p'.phase None → HoldsMatch (slice_set places t p') locks'
-    holds-refused same locks' e m aim stands =
+    holds-refused same answer unowned locks' e m aim stands =
         holds-by locks' (still-owned t locks locks' e.others e.holds)
         (own-same same locks' (λ i b hb. e.holds t b.shard ∙ h.owned t i p b at hb)
         (λ i k o. elim (h.known t i p k at (sym (e.holds t i) ∙ o)) [
           | inl among ↦ inl among
           | inr is ↦
               let here : i ≡ e.stand.shard = sym is.2 ∙ ap (λ (z : Stand). z.shard) (same_Some is.0 e.stand (sym is.1 ∙ e.stood)) in
-              absurd (none-some k (sym (e.refused m aim refl) ∙ ap (λ j. owner_in locks' j t) (sym here) ∙ o))
+              absurd (none-some k (sym (e.gave_up m aim unowned) ∙ ap (λ j. owner_in locks' j t) (sym here) ∙ o))
         ])
         (subst (λ (o : Option Stand). StandsBefore p' p'.phase o) (sym e.gone) stands))
 
@@ -515,6 +524,17 @@ module _ {K V D T A : Type 0} (places : List (Place K V D T A)) (locks : Shown) 
             ])
             (λ ne. a.elsewhere b.shard ne ∙ h.owned t i p b at hb)
             (cases_eq b.shard a.stand.shard)
+
+    -- its deadline comes: nobody's call is about anything else, and nobody's hold is another
+    pub holds-expired : (locks' : Shown) → LockExpires t locks locks' → HoldsMatch (slice_set places t p) locks'
+    holds-expired locks' e =
+        holds-by t p p at locks' (still-owned t locks locks' (λ v ne. e.stands v) e.holds)
+        (own-same t p p at refl locks' (λ i b hb. e.holds t b.shard ∙ h.owned t i p b at hb)
+        (λ i m o. elim (h.known t i p m at (sym (e.holds t i) ∙ o)) [
+          | inl among ↦ inl among
+          | inr is ↦ inr (is.0, e.stands t ∙ is.1, is.2)
+        ])
+        (subst (λ (o : Option Stand). StandsBefore p p.phase o) (sym (e.stands t)) (h.stands t p at)))
 
     -- what was owed to a lock is done
     pub holds-left : owes_in (class_of p.phase) ≡ true → (answer : CoreAnswer) (locks' : Shown)

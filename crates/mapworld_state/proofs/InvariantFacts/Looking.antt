@@ -50,7 +50,7 @@ use Rattle.mapworld_state.proofs.InvariantFacts.Building.{started-stays, taken-a
 use Rattle.mapworld_state.proofs.InvariantFacts.Building.{replies-kept, reply-below, ready-outside, block_after-none}
 use Rattle.mapworld_state.proofs.InvariantFacts.Admitting.{kept-alone, walk-apart, leaves-same, owns-on}
 use Rattle.mapworld_state.proofs.InvariantFacts.Listing.{length-map}
-use Rattle.mapworld_state.proofs.InvariantFacts.Finding.{last-new}
+use Rattle.mapworld_state.proofs.InvariantFacts.NewBlocks.{last-new}
 use Rattle.mapworld_state.proofs.InvariantFacts.Sums.{sum-all}
 use Rattle.mapworld_state.proofs.InvariantFacts.Leading.{IsLeft, leads, leads-out, leads-own, leads-rests}
 use Rattle.mapworld_state.proofs.InvariantFacts.Doing.{left-undone, left-done, all-whole, walk-asked, walk-work}

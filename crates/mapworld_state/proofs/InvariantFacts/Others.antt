@@ -184,7 +184,11 @@ module _ {K V D T A : Type 0} (x : Setup K V D T) (threads : List ℕ) (s : ℕ)
   claim (phase.Admit r) h = (in_call _ h.0, h.1, h.2)
   claim (phase.Find r) h = (in_call _ h.0, h.1, h.2)
   claim (phase.Grow c) h = (in_call _ h.0, h.1, h.2, list-kept Exclusive _ h.2 h.3)
-  claim (phase.Append k v) h = (in_call _ h.0, before_deed k None h.1, list-kept Exclusive _ h.1.alone h.2)
+  claim (phase.Append k v) h = (
+    record { insertion = h.0.insertion; inserts = h.0.inserts; in_call = in_call _ h.0.in_call },
+    before_deed k None h.1,
+    list-kept Exclusive _ h.1.alone h.2,
+  )
   claim (phase.Apply k) h = (h.0, in_call _ h.1, before_deed (keyed_key k) (Some h.0) h.2)
   claim (phase.View k d) h = (h.0, in_call _ h.1, h.2, h.3, list-kept Shared _ h.3 h.4)
   claim (phase.Read d) h = (h.0, in_call _ h.1, h.2, ready p.next p.block h.3)

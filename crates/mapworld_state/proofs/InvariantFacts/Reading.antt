@@ -36,7 +36,7 @@ use Rattle.mapworld_state.proofs.InvariantFacts.Building.{tables-same, started-s
 use Rattle.mapworld_state.proofs.InvariantFacts.Building.{within-at, walks-at, none-at, visits-moved, visits-none}
 use Rattle.mapworld_state.proofs.InvariantFacts.Building.{ready-outside}
 use Rattle.mapworld_state.proofs.InvariantFacts.Admitting.{leaves-same, owns-on}
-use Rattle.mapworld_state.proofs.InvariantFacts.Finding.{ready-inside}
+use Rattle.mapworld_state.proofs.InvariantFacts.NewBlocks.{ready-inside}
 use Rattle.mapworld_state.proofs.InvariantFacts.Acting.{counted-block}
 use Rattle.mapworld_state.proofs.InvariantFacts.Growing.{read-quiet, drop-quiet}
 use Rattle.mapworld_state.proofs.InvariantFacts.Growing as growing

@@ -28,7 +28,7 @@ use Rattle.mapworld_state.proofs.InvariantFacts.Others.{IsInCall-push}
 use Rattle.mapworld_state.proofs.InvariantFacts.Holding.{no-more, holds-shared, stand-at}
 use Rattle.mapworld_state.proofs.InvariantFacts.Building.{Goes, in_call-moved, session-next, claim-at, taken-at}
 use Rattle.mapworld_state.proofs.InvariantFacts.Building.{within-at, none-at}
-use Rattle.mapworld_state.proofs.InvariantFacts.Finding.{ready-inside}
+use Rattle.mapworld_state.proofs.InvariantFacts.NewBlocks.{ready-inside}
 use Rattle.mapworld_state.proofs.InvariantFacts.Acting.{counted-block}
 use Rattle.mapworld_state.proofs.InvariantFacts.Reading.{in-session}
 use Rattle.mapworld_state.proofs.InvariantFacts.Growing.{downgrade-quiet}

@@ -162,7 +162,7 @@ module _ {K V S D T A : Type 0} (x : Setup K V D T) (w : State K V S D T A) (t :
         let mine : owner_in e.locks p.shard t ≡ Some (at_desk mode) =
         ap (λ i. owner_in e.locks i t) (sym here) ∙ e.ends.owned (at_desk mode) (ap (λ (z : Stand). z.aim) stand) refl
         in
-        silent-moved x w (record { thread = t; fair = false }) sound p e.stands reaching e.before refl
+        silent-moved x w (record { thread = t; fair = false; deadline = false }) sound p e.stands reaching e.before refl
         (p.holds ++ taken ∷ []) p.shard f busy own claim walks e.locks
         (holds-admitted w.places w.locks sound.holds t p (record p { holds = p.holds ++ taken ∷ []; phase = f })
         e.stands taken refl

@@ -36,7 +36,7 @@ use Rattle.parking_lot_machine.specs.CallLaws.Stages.{core_stage, stage_of}
 use Rattle.parking_lot_machine.proofs.CallLawsFacts.Heard.{begins_there}
 use Rattle.mapworld_state.specs.Locks.Fits.{IsPlain, LocksFit, is_single, is_plain}
 use Rattle.mapworld_state.specs.Locks.Seats.{seat_of}
-use Rattle.mapworld_state.specs.Locks.Stands.{is_try, needs, stand_of, is_of_shards}
+use Rattle.mapworld_state.specs.Locks.Stands.{needs, stand_of, is_of_shards}
 use Rattle.mapworld_state.specs.Locks.Steps.{LockBegins, MayAsk}
 use Rattle.mapworld_state.specs.Locks.Views.{Shown, held_as, held_at}
 use Rattle.mapworld_state.proofs.LocksFacts.Calls.{call_of}

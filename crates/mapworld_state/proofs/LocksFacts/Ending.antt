@@ -38,7 +38,6 @@ use Rattle.parking_lot_machine.specs.CallLaws.Answers.{EndsAt}
 use Rattle.parking_lot_machine.specs.CallLaws.Stages.{Over, core_stage, stage_of}
 use Rattle.parking_lot_machine_calls.specs.Calls.{is_timed}
 use Rattle.parking_lot_protocol.specs.declared.act.CoreAnswer.{CoreAnswer}
-use Rattle.parking_lot_protocol.specs.declared.rw_phase.RwPhase.{RwPhase}
 use Rattle.parking_lot_machine.specs.Machines.{end_of}
 use Rattle.std.proofs.Common.{Bool, false}
 

@@ -1,5 +1,5 @@
 -- A deadline that comes leaves all but its thread's place in its call.
-use Rattle.std.proofs.Common.{◌≡◌, ◌≢◌, ℕ, inl, inr, ◌&&◌, Bool, true, false, length, Option, Some, None, slice_set, refl}
+use Rattle.std.proofs.Common.{◌≡◌, ◌≢◌, ℕ, inl, inr, ◌&&◌, Bool, true, false, length, Some, slice_set, refl}
 use Rattle.std.proofs.Common.{sym, ap, ◌∙◌, subst}
 use Rattle.std.specs.List.{All}
 use Rattle.std.specs.Option.{option_map}
@@ -12,10 +12,9 @@ use Rattle.parking_lot_rules.specs.Any.{AnyLock, Rw}
 use Rattle.parking_lot_rules.specs.Lock.{Lock}
 use Rattle.parking_lot_rules.specs.Owners.{owners}
 use Rattle.parking_lot_machine.specs.CallLaws.Answers.{MayStand}
-use Rattle.parking_lot_machine.specs.CallLaws.Stages.{core_stage, quits, stage_of}
-use Rattle.parking_lot_machine.specs.LateActs.{expired}
+use Rattle.parking_lot_machine.specs.CallLaws.Stages.{core_stage, stage_of}
 use Rattle.parking_lot_machine.specs.Machines.{IsExpired, may_expire, may_expire_in}
-use Rattle.parking_lot_machine.specs.RowFits.{FitsTogether, IsPrepared}
+use Rattle.parking_lot_machine.specs.RowFits.{IsPrepared}
 use Rattle.parking_lot_machine.specs.Rows.{Rows, State, call_at, lock_at, queue_at, rw_lock_at, state, word_at}
 use Rattle.parking_lot_machine.specs.SoundLaws.{HasSameOwners, StepsAreCases}
 use Rattle.parking_lot_machine.proofs.CallLawsFacts.Heard.{late_quits}

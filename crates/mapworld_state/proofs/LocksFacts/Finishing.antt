@@ -1,24 +1,18 @@
 -- How a call ends that is only to be answered, and that its answer changes nobody's hold.
-use Rattle.std.proofs.Common.{◌≡◌, ◌≢◌, ◌⊎◌, ℕ, inl, inr, ◌||◌, Bool, true, false, List, Option, Some, None, slice_get, refl, sym}
+use Rattle.std.proofs.Common.{◌≡◌, ◌≢◌, ◌⊎◌, ℕ, inl, inr, ◌||◌, Bool, false, Option, Some, None, refl, sym}
 use Rattle.std.proofs.Common.{ap, ◌∙◌, subst}
 use Rattle.std.specs.Option.{option_and_then, option_map}
 use Rattle.std.proofs.lemmas.Bool.{cases_eq, false≢true}
 use Rattle.std.proofs.lemmas.Option.{slice_get_within}
 use Rattle.lock_api_desk.specs.declared.mode.Mode.{Mode}
-use Rattle.lock_api_desk.specs.declared.mode.Mode.TheVariants as held
 use Rattle.parking_lot_protocol.specs.declared.act.CoreAnswer.{CoreAnswer}
-use Rattle.parking_lot_machine_calls.specs.Kinds.{recursive_in}
 use Rattle.parking_lot_machine_calls.specs.declared.open_call.Call.{Call}
-use Rattle.parking_lot_machine_calls.specs.declared.seat.Core.{Core}
-use Rattle.parking_lot_machine_calls.specs.CallViews.{rw_mode}
 use Rattle.parking_lot_machine.specs.Machines.{IsStepped, end_of}
-use Rattle.parking_lot_machine.specs.RowFits.{FitsTogether, IsPrepared, rw_keeps}
-use Rattle.parking_lot_machine_calls.specs.CallKinds.{IsOfKind}
-use Rattle.parking_lot_machine.specs.Rows.{Rows, State, call_at, state, taken_by}
-use Rattle.parking_lot_machine_calls.specs.CallRoles.{rw_core_role, rw_spot}
+use Rattle.parking_lot_machine.specs.RowFits.{FitsTogether}
+use Rattle.parking_lot_machine.specs.Rows.{Rows, State, call_at, state}
 use Rattle.parking_lot_machine.specs.SoundLaws.{StepsAreCases}
 use Rattle.parking_lot_machine_calls.specs.Stances.{core_act}
-use Rattle.mapworld_state.specs.Locks.Aims.{Aim, Gets, GivesUp, Turns, aim_of}
+use Rattle.mapworld_state.specs.Locks.Aims.{Aim, Gets, aim_of}
 use Rattle.mapworld_state.specs.Locks.Fits.{IsPlain, LocksFit}
 use Rattle.mapworld_state.specs.Locks.Stands.{is_try, stand_of}
 use Rattle.mapworld_state.specs.Locks.Steps.{LockEnds}

@@ -1,11 +1,8 @@
 -- How a call with a deadline gives up: the cores that it goes through behind the deadline, and what its thread holds
 -- meanwhile.
-use Rattle.std.proofs.Common.{◌≡◌, ◌≤◌, ◌+◌, ℕ, Bool, true, false, List, Option, Some, None, refl, sym, ap, ◌∙◌, subst}
-use Rattle.std.proofs.Common.{arith}
+use Rattle.std.proofs.Common.{◌≡◌, ◌+◌, ℕ, Bool, true, false, List, Option, refl, sym, ap, subst}
 use Rattle.parking_lot_core_model.specs.declared.parking.ParkToken.{ParkToken}
 use Rattle.parking_lot_protocol.specs.RwRules as of_rw
-use Rattle.parking_lot_protocol.specs.declared.act.CoreAnswer.{CoreAnswer}
-use Rattle.parking_lot_protocol.specs.declared.rw_phase.AfterWake.{AfterWake}
 use Rattle.parking_lot_protocol.specs.declared.rw_phase.RwPhase.{RwPhase}
 use Rattle.parking_lot_protocol_rw.specs.UpgradeRoles as of_upgrade
 use Rattle.parking_lot_protocol_rw.specs.UpgradeRules.{IsOwing, IsReady}
@@ -20,7 +17,7 @@ use Rattle.parking_lot_machine.specs.CallLaws.Stages.{Over, Stage, late_rw_stage
 use Rattle.parking_lot_machine.specs.RowFits.{late_rw_prepared}
 use Rattle.parking_lot_machine_calls.specs.CallViews.{mode_of, rw_mode}
 use Rattle.parking_lot_machine_calls.specs.LateRoles.{late_rw_role, staying, stays}
-use Rattle.parking_lot_machine_calls.specs.Stances.{Asleep, In, Out, Stance, back_as, found_as, late_rw_stance, lying}
+use Rattle.parking_lot_machine_calls.specs.Stances.{Asleep, Stance, back_as, found_as}
 use Rattle.parking_lot_machine_calls.specs.Stances.{rw_asleep, rw_stance, upgrade_asleep}
 use Rattle.parking_lot_machine_calls.specs.declared.calls.OwnMode.{OwnMode}
 use Rattle.parking_lot_machine_calls.specs.declared.late_rw.LateRwPhase.{LateRwPhase}

@@ -1,5 +1,5 @@
 -- What a beginning and a step say of the machine, and what they are there: steps of the rules, and paid for.
-use Rattle.std.proofs.Common.{◌≡◌, ℕ, Bool, true, false, List, Option, Some, None, slice_get, refl, sym}
+use Rattle.std.proofs.Common.{◌≡◌, ℕ, Bool, true, false, List, Some, None, refl, sym}
 use Rattle.std.proofs.Common.{subst}
 use Rattle.std.proofs.lemmas.Option.{none-some}
 use Rattle.lock_api_desk.specs.Desk.{DeskState}
@@ -35,7 +35,7 @@ use Rattle.mapworld_state.specs.Locks.Views.{Shown}
 use Rattle.mapworld_state.proofs.LocksFacts.Answering.{stepped_fits}
 use Rattle.mapworld_state.proofs.LocksFacts.Beginning.{begun_fits, may, same_holds}
 use Rattle.mapworld_state.proofs.LocksFacts.Keeping.{stepped_plain}
-use Rattle.parking_lot_machine.specs.Machines.{IsExpired, may_expire, may_expire_in}
+use Rattle.parking_lot_machine.specs.Machines.{IsExpired, may_expire_in}
 use Rattle.mapworld_state.specs.Locks.Steps.{LockExpires}
 use Rattle.std.proofs.Common.{ap, ◌∙◌}
 

@@ -1,45 +1,38 @@
 -- A step of a thread, with its desk: locks and desks fit together afterwards, and what has changed is what the step may
 -- change.
-use Rattle.std.proofs.Common.{◌≡◌, ◌≢◌, ℕ, ◌<◌, inl, inr, ◌⊎◌, Bool, true, false, ◌==◌, List, length, Option, Some}
+use Rattle.std.proofs.Common.{◌≡◌, ◌≢◌, ℕ, ◌<◌, inl, inr, ◌⊎◌, Bool, true, false, List, length, Option, Some}
 use Rattle.std.proofs.Common.{None, is_none, slice_get, slice_set, refl, sym, ap, ◌∙◌, subst, arith}
-use Rattle.std.specs.List.{All}
 use Rattle.std.specs.Option.{option_and_then, option_map}
-use Rattle.std.proofs.lemmas.Bool.{cases_eq, false≢true, eq-eqb, cond-true, cond-false}
+use Rattle.std.proofs.lemmas.Bool.{cases_eq, false≢true, cond-true, cond-false}
 use Rattle.std.proofs.lemmas.List.{length-set}
-use Rattle.std.proofs.lemmas.Option.{none-some, same_Some, slice_get_within}
+use Rattle.std.proofs.lemmas.Option.{none-some, same_Some}
 use Rattle.lock_api_desk.specs.declared.mode.Mode.{Mode}
 use Rattle.lock_api_desk.specs.declared.mode.Mode.TheVariants as held
 use Rattle.lock_api_desk.specs.Desk.{DeskState}
 use Rattle.parking_lot_protocol.specs.declared.act.CoreAnswer.{CoreAnswer}
-use Rattle.parking_lot_protocol.specs.declared.rw_phase.LockMode.{LockMode}
-use Rattle.parking_lot_protocol.specs.declared.rw_phase.RwPhase.{RwPhase}
-use Rattle.parking_lot_rules.specs.Roles.{Idle}
 use Rattle.parking_lot_rules.proofs.Indexed.{get-set_same, get-set_other}
-use Rattle.parking_lot_machine_calls.specs.Kinds.{AsMutex, manner_of, recursive_in}
-use Rattle.parking_lot_machine_calls.specs.declared.calls.LockKind.TheVariants as kind
+use Rattle.parking_lot_machine_calls.specs.Kinds.{recursive_in}
 use Rattle.parking_lot_machine_calls.specs.declared.open_call.Call.{Call}
 use Rattle.parking_lot_machine_calls.specs.declared.seat.Core.{Core}
-use Rattle.parking_lot_machine_calls.specs.CallViews.{rw_mode}
 use Rattle.parking_lot_machine.specs.Machines.{IsLawful, IsStepped, can_move, end_of, ended}
 use Rattle.parking_lot_machine.specs.RowFits.{FitsTogether, IsPrepared}
 use Rattle.parking_lot_machine_calls.specs.CallKinds.{IsOfKind}
-use Rattle.parking_lot_machine.specs.Rows.{Rows, State, call_at, hold_at, rw_role_at, rw_role_in, state, taken_by}
-use Rattle.parking_lot_machine_calls.specs.CallRoles.{owned_of, rw_core_role, rw_spot}
+use Rattle.parking_lot_machine.specs.Rows.{Rows, State, call_at, state, taken_by}
 use Rattle.parking_lot_machine.specs.SoundLaws.{Always, OwnersAgree, StepsAreCases}
-use Rattle.parking_lot_machine_calls.specs.Stances.{core_act, rw_stance, stance}
+use Rattle.parking_lot_machine_calls.specs.Stances.{core_act}
 use Rattle.mapworld_state.specs.Locks.Aims.{Aim, Gets, GivesUp, Turns, aim_of, is_within}
 use Rattle.mapworld_state.specs.Locks.Fits.{DeskFits, IsPlain, LocksFit}
 use Rattle.mapworld_state.specs.Locks.Moves.{CanFollow, all_admitted, desk_after, has_left, own_moved}
 use Rattle.mapworld_state.specs.Locks.Seats.{seat_of}
 use Rattle.mapworld_state.specs.Locks.Stands.{Stand, stand_for, stand_of}
 use Rattle.mapworld_state.specs.Locks.Steps.{LockMoves}
-use Rattle.mapworld_state.specs.Locks.Views.{Shown, held_as, held_at}
+use Rattle.mapworld_state.specs.Locks.Views.{Shown, held_at}
 use Rattle.mapworld_state.proofs.LocksFacts.Admitting.{AllSeated, IsSeated, seats_all}
 use Rattle.mapworld_state.proofs.LocksFacts.Acted.{acted}
 use Rattle.mapworld_state.proofs.LocksFacts.Answering.{stepped_fits}
 use Rattle.mapworld_state.proofs.LocksFacts.Calls.{stepped_goes}
-use Rattle.mapworld_state.proofs.LocksFacts.Ending.{core_within, not_mutex}
-use Rattle.mapworld_state.proofs.LocksFacts.Handing.{IsHandedOver, elsewhere, others, own, goes_by, no_mutex}
+use Rattle.mapworld_state.proofs.LocksFacts.Ending.{core_within}
+use Rattle.mapworld_state.proofs.LocksFacts.Handing.{IsHandedOver, elsewhere, others, own}
 use Rattle.mapworld_state.proofs.LocksFacts.Handing.{within_kinds}
 use Rattle.mapworld_state.proofs.LocksFacts.Keeping.{stepped_kinds, stepped_plain}
 use Rattle.mapworld_state.proofs.LocksFacts.Moving.{Moved, Moves, moved}

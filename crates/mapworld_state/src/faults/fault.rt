@@ -99,7 +99,8 @@ impl<T: Drop> From<AllocFailed<T>> for WorldNewFault {
 pub enum RunFault {
     /// The thread's number isn't below the number of programs: code 61.
     NoSuchThread(u64),
-    /// The thread is finished, asleep, or before a queue's section that another thread has entered: code 62.
+    /// The thread is finished, asleep, or before a queue's section that another thread has entered; or the step is its
+    /// deadline, and it doesn't sleep in a call that has one, or that has come before: code 62.
     CannotMove(u64),
     /// Step numbers run short: those of this step and of all that may have to come after it would pass 2^63: code 63.
     StepsShort(u64),

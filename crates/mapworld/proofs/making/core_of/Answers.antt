@@ -194,3 +194,6 @@ returns-clause-causes g c =
 
 pub returns-clause-tries : goal.returns-clause-tries
 returns-clause-tries g c = (returns-clause-causes g c).locked
+
+pub returns-clause-late : goal.returns-clause-late
+returns-clause-late g c = (returns-clause-causes g c).missed

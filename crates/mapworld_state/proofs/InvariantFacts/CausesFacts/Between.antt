@@ -33,6 +33,10 @@ use Rattle.mapworld_state.proofs.InvariantFacts.CausesFacts.Trying.{core_tries, 
 use Rattle.parking_lot_machine_calls.specs.Calls.{is_timed}
 use Rattle.mapworld_state.specs.Locks.Fits.{LocksFit}
 use Rattle.std.proofs.Common.{◌||◌}
+use Rattle.mapworld_state.specs.declared.holds.Manner.{Manner}
+use Rattle.mapworld_state.specs.declared.holds.Manner.TheVariants.{Waits}
+use Rattle.mapworld_state.proofs.LocksFacts.Lawful.{fit-ends}
+use Rattle.std.proofs.Common.{Bool}
 
 -- a try without success is one that waits for its shard
 module _ {K V S D T A : Type 0} (x : Setup K V D T) (w : State K V S D T A) (sound : Sound x w)
@@ -44,7 +48,7 @@ module _ {K V S D T A : Type 0} (x : Setup K V D T) (w : State K V S D T A) (sou
     gets-nothing : IsOwing p (Some (stand_of c)) → ⊥
     gets-nothing h = let m = tries_get c.asked ours tries in subst (λ (a : Aim). MayOwe p c.lock a) m.1 h
 
-    waits-not : (mode : _) → IsWanting p mode false (Some (stand_of c)) → ⊥
+    waits-not : (mode : _) → IsWanting p mode Waits (Some (stand_of c)) → ⊥
     waits-not mode h =
         false≢true (sym (ap (λ (z : Stand). z.trying || z.timed) (same_Some (stand_of c) _ h.is)) ∙ tries)
 
@@ -79,6 +83,18 @@ module _ {K V S D T A : Type 0} (x : Setup K V D T) (w : State K V S D T A) (sou
       (subst (λ (o : Option Stand). StandsBefore p p.phase o) (ap (λ o. option_map stand_of o) e)
       (sound.holds.stands t p at))
 
+  -- so is one that has a deadline
+  pub timed-admits : (c : Call) → call_at (state w.locks.rows) t ≡ Some c → is_timed c.asked ≡ true
+      → (r : Request K V D) × (p.phase ≡ phase.Admit r)
+  timed-admits c e timed =
+      by c (fit.plain.asked t c e) (either-timed (is_try c.asked) (is_timed c.asked) timed) p.phase
+      (subst (λ (o : Option Stand). StandsBefore p p.phase o) (ap (λ o. option_map stand_of o) e)
+      (sound.holds.stands t p at))
+    where
+      either-timed : (a b : Bool) → b ≡ true → (a || b) ≡ true
+      either-timed true b h = refl
+      either-timed false b h = h
+
 -- THE WORLD BETWEEN
 
 -- the thread's place stands where it stood, on shards that it was on
@@ -92,6 +108,7 @@ pub record Between {K V S D T A : Type 0} (x : Setup K V D T) (t : ℕ) (w v : S
   pub back : (shard : ℕ) → IsSite v.locks t q.holds shard → IsSite w.locks t p.holds shard
   pub others : (u : ℕ) → u ≢ t → slice_get v.places u ≡ slice_get w.places u
   pub locks : LocksApart t w.locks v.locks
+  pub fits : LocksFit w.locks → LocksFit v.locks
   pub replies : v.replies ≡ w.replies
 
 module _ {K V S D T A : Type 0} (x : Setup K V D T) (w : State K V S D T A) (t : ℕ) (sound : Sound x w) where
@@ -105,6 +122,7 @@ module _ {K V S D T A : Type 0} (x : Setup K V D T) (w : State K V S D T A) (t :
     back = λ shard h. h;
     others = λ u ne. refl;
     locks = apart-same t w.locks;
+    fits = λ fit. fit;
     replies = refl;
   }
 
@@ -130,6 +148,8 @@ module _ {K V S D T A : Type 0} (x : Setup K V D T) (w : State K V S D T A) (t :
           ∙ slice_get-set_other w.places t u q (λ e. ne (sym e));
       locks = subst (λ (z : State K V S D T A). LocksApart t w.locks z.locks) (sym after)
           (apart-ends t answer w.locks locks ends);
+      fits = λ fit. subst (λ (z : State K V S D T A). LocksFit z.locks) (sym after)
+          (fit-ends t answer w.locks locks fit ends);
       replies = ap (λ (z : State K V S D T A). z.replies) after;
     }
 
@@ -145,14 +165,16 @@ module _ {K V S D T A : Type 0} (x : Setup K V D T) (w : State K V S D T A) (t :
       others = λ u ne. ap (λ (z : State K V S D T A). slice_get z.places u) after;
       locks = subst (λ (z : State K V S D T A). LocksApart t w.locks z.locks) (sym after)
           (apart-ends t answer w.locks locks ends);
+      fits = λ fit. subst (λ (z : State K V S D T A). LocksFit z.locks) (sym after)
+          (fit-ends t answer w.locks locks fit ends);
       replies = ap (λ (z : State K V S D T A). z.replies) after;
     }
 
     -- the hold that an admission gives is of the shard that it was waited for
-    admitted : (mode : _) (tries : Bool) (own : Hold) → own.shard ≡ p.shard
-        → IsWanting p mode tries (stand_in w.locks t) → (i : ℕ) (h : Hold) → slice_get (p.holds ++ own ∷ []) i ≡ Some h
+    admitted : (mode : _) (manner : Manner) (own : Hold) → own.shard ≡ p.shard
+        → IsWanting p mode manner (stand_in w.locks t) → (i : ℕ) (h : Hold) → slice_get (p.holds ++ own ∷ []) i ≡ Some h
         → IsSite w.locks t p.holds h.shard
-    admitted mode tries own is wants i h here = elim (slice_get-push_cases p.holds i h own here) [
+    admitted mode manner own is wants i h here = elim (slice_get-push_cases p.holds i h own here) [
       | inl old ↦ inl (i, h, old, refl)
       | inr new ↦ inr (_, wants.is, sym is ∙ sym (ap (λ z. z.shard) new.1))
     ]
@@ -190,7 +212,7 @@ module _ {K V S D T A : Type 0} (x : Setup K V D T) (w : State K V S D T A) (t :
   between-concludes v (locked e) = (
     e.place,
     _,
-    between-placed v (sound-left x w t v sound (inr (locked e))) e.place e.stands e.locks CoreAnswer.Refused e.ends _
+    between-placed v (sound-left x w t v sound (inr (locked e))) e.place e.stands e.locks e.ended e.ends _
         refl refl (λ i h here. inl (i, h, here, refl)) e.after,
   )
   between-concludes v (idle e) =
@@ -208,6 +230,7 @@ module _ {K V S D T A : Type 0} (x : Setup K V D T) (w : State K V S D T A) (t :
           others = λ u ne. ap (λ (z : State K V S D T A). slice_get z.places u) e.after
               ∙ slice_get-set_other w.places t u q (λ z. ne (sym z));
           locks = subst (λ (z : State K V S D T A). LocksApart t w.locks z.locks) (sym e.after) (apart-same t w.locks);
+          fits = λ fit. subst (λ (z : State K V S D T A). LocksFit z.locks) (sym e.after) fit;
           replies = ap (λ (z : State K V S D T A). z.replies) e.after;
         },
       )

@@ -3,7 +3,6 @@ use Rattle.std.proofs.Common.{◌≡◌, ℕ, zero, suc, ◌⊎◌, inl, inr, tr
 use Rattle.std.proofs.Common.{slice_get, slice_set, refl, sym, ap, ◌∙◌, subst}
 use Rattle.std.proofs.lemmas.Option.{same_Some}
 use Rattle.parking_lot_machine_calls.specs.declared.calls.LockCall.TheVariants as call
-use Rattle.parking_lot_machine.specs.Rows.{call_at, state}
 use Rattle.mapworld_calls.specs.declared.ask.Walk.{Walk}
 use Rattle.mapworld_calls.specs.Setup.{Setup}
 use Rattle.mapworld_state.specs.Locks.Fits.{LocksFit}
@@ -11,7 +10,6 @@ use Rattle.mapworld_state.specs.declared.holds.Hold.{Hold}
 use Rattle.mapworld_state.specs.declared.holds.Mode.TheVariants.{Shared}
 use Rattle.mapworld_state.specs.declared.place.Phase.{Phase}
 use Rattle.mapworld_state.specs.declared.place.Phase.TheVariants as phase
-use Rattle.mapworld_state.specs.declared.place.Request.{Request}
 use Rattle.mapworld_state.specs.declared.step.Step.{Step}
 use Rattle.mapworld_state.specs.Holds.{gives_up}
 use Rattle.mapworld_calls.specs.declared.block.Block.{Block}
@@ -20,19 +18,20 @@ use Rattle.mapworld_state.specs.Shards.{ShardPairs}
 use Rattle.mapworld_state.specs.Places.{Place}
 use Rattle.mapworld_state.specs.Sound.{Sound}
 use Rattle.mapworld_state.specs.State.{State}
+use Rattle.mapworld_state.specs.Steps.{IsStep, by_itself, by_deadline}
 use Rattle.mapworld_state.specs.Steps.{Enters, Reaches, Leaves as LeavesLock, Finds, GivesBack, LooksAround}
-use Rattle.mapworld_state.specs.Steps.{IsRefusedVisit, IsStep, start, lock, find, find_grows, find_refused}
+use Rattle.mapworld_state.specs.Steps.{IsRefusedVisit, IsOwnStep, start, lock, find, find_grows, find_refused}
 use Rattle.mapworld_state.specs.Steps.{deed_appends, deed_applies, deed_views, deed_reads, deed_changes, deed_fills}
 use Rattle.mapworld_state.specs.Steps.{downgrade, release, answers, visit_starts, visit_parts, visit_looks, visit_seeks}
 use Rattle.mapworld_state.specs.Steps.{visit_does, visit_gives}
 use Rattle.mapworld_state.proofs.InvariantFacts.Adding.{Step-adds}
 use Rattle.mapworld_state.proofs.InvariantFacts.Building.{Goes}
 use Rattle.mapworld_state.specs.Invariant.Causes.Causes.{HasCauses, IsTold}
-use Rattle.mapworld_state.proofs.InvariantFacts.CausesFacts.Looking.{sees}
 use Rattle.mapworld_state.proofs.InvariantFacts.CausesFacts.Between.{Between, between-at, between-enters}
 use Rattle.mapworld_state.proofs.InvariantFacts.CausesFacts.Between.{between-leaves, between-reaches, between-same}
 use Rattle.mapworld_state.proofs.InvariantFacts.CausesFacts.Going.{Own, own-gives, own-quiet}
-use Rattle.mapworld_state.proofs.InvariantFacts.CausesFacts.OwnSteps.{blind-at, blind-out, gives-no_try, own-answers}
+use Rattle.mapworld_state.proofs.InvariantFacts.CausesFacts.OwnSteps.{gives-no_deadline, gives-no_try, out-at}
+use Rattle.mapworld_state.proofs.InvariantFacts.CausesFacts.OwnSteps.{own-answers}
 use Rattle.mapworld_state.proofs.InvariantFacts.CausesFacts.OwnSteps.{own-goes_on}
 use Rattle.mapworld_state.proofs.InvariantFacts.CausesFacts.OwnSteps.{own-moves, own-starts}
 use Rattle.mapworld_state.proofs.InvariantFacts.CausesFacts.Shapes.{Shape}
@@ -42,6 +41,7 @@ use Rattle.std.proofs.Common.{Option}
 use Rattle.std.proofs.Common.{None}
 use Rattle.mapworld_state.specs.Locks.Stands.{Stand, stand_in}
 use Rattle.mapworld_state.specs.Held.{StandsBefore}
+use Rattle.mapworld_state.proofs.InvariantFacts.CausesFacts.OwnSteps.{own-expires}
 
 -- the holds behind the first are holds
 behind : (holds : List Hold) (hold : Hold) (more : List Hold) → holds ≡ hold ∷ more → (i : ℕ) (h : Hold)
@@ -62,15 +62,15 @@ module _ {K V S D T A : Type 0} (x : Setup K V D T) (w : State K V S D T A) (s :
   t = s.thread
 
   abbrev Blind : State K V S D T A → Type 0
-  Blind v = sees (call_at (state v.locks.rows) t) ≡ true → ⊥
+  Blind v = stand_in v.locks t ≡ None
 
-  -- one that is in no call sees no word
+  -- it is in no call
   blind : (v : State K V S D T A) → Sound x v → (p : Place K V D T A) → slice_get v.places t ≡ Some p
       → (f : Phase K V D T A) → p.phase ≡ f → ((o : Option Stand) → StandsBefore p f o → o ≡ None) → Blind v
-  blind v there p at f is out = blind-at x w s w' sound goes shape adds causes v there p at f is out
+  blind v there p at f is out = out-at x w s w' sound goes shape adds causes v there p at f is out
 
   out-blind : (v : State K V S D T A) → stand_in v.locks t ≡ None → Blind v
-  out-blind v out = blind-out x w s w' sound goes shape adds causes v.locks out
+  out-blind v out = out
 
   own-finds : (v : State K V S D T A) (p q : Place K V D T A) → Between x t w v p q → Finds x v s w' → Own x w s w'
   own-finds v p q b a =
@@ -84,8 +84,8 @@ module _ {K V S D T A : Type 0} (x : Setup K V D T) (w : State K V S D T A) (s :
   own-gives_back from to told v p q b a =
       own-gives x w s w' sound goes shape adds causes v p a.place (between-at x t w v p q a.place a.stands b) _ v.tables
       a.locks v.blocks a.after a.hold a.more a.holds
-      (gives_up a.hold.mode) (gives-no_try a.hold.mode) a.gives refl (behind a.place.holds a.hold a.more a.holds)
-      (told a.walk)
+      (gives_up a.hold.mode) (gives-no_try a.hold.mode) (gives-no_deadline a.hold.mode) a.gives refl
+      (behind a.place.holds a.hold a.more a.holds) (told a.walk)
 
   own-looks : (v : State K V S D T A) (p q : Place K V D T A) → Between x t w v p q → LooksAround x v s w'
       ⊎ IsRefusedVisit x v s w' → Own x w s w'
@@ -143,51 +143,56 @@ module _ {K V S D T A : Type 0} (x : Setup K V D T) (w : State K V S D T A) (s :
         o.1 a)
   ]
 
-  pub own-step : LocksFit w.locks → length w.places ≡ length w.locks.rows.calls → IsStep x w s w' → Own x w s w'
-  own-step fit threads (start a) = own-starts x w s w' sound goes shape adds causes a
-  own-step fit threads (lock a) = own-moves x w s w' sound goes shape adds causes fit threads a
-  own-step fit threads (find a) = find-by a.mid a.enters a.finds
-  own-step fit threads (find_grows a) =
+  itself-step : LocksFit w.locks → length w.places ≡ length w.locks.rows.calls → IsOwnStep x w s w' → Own x w s w'
+  itself-step fit threads (start a) = own-starts x w s w' sound goes shape adds causes a
+  itself-step fit threads (lock a) = own-moves x w s w' sound goes shape adds causes fit threads a
+  itself-step fit threads (find a) = find-by a.mid a.enters a.finds
+  itself-step fit threads (find_grows a) =
       quiet a.place a.stands _ (slice_set w.tables a.place.shard a.grown) a.blocks a.after refl refl
       (told-found T A (request_of a.call) false true)
       (blind w sound a.place a.stands (phase.Grow a.call) a.before (λ o h. h))
-  own-step fit threads (find_refused a) = quiet a.place a.stands _ w.tables w.blocks a.after refl refl refl
+  itself-step fit threads (find_refused a) = quiet a.place a.stands _ w.tables w.blocks a.after refl refl refl
       (blind w sound a.place a.stands (phase.Grow a.call) a.before (λ o h. h))
-  own-step fit threads (deed_appends a) =
+  itself-step fit threads (deed_appends a) =
       quiet a.place a.stands _ (slice_set w.tables a.place.shard a.changed) a.blocks a.after refl refl refl
       (blind w sound a.place a.stands (phase.Append a.key a.value) a.before (λ o h. h))
-  own-step fit threads (deed_applies a) =
+  itself-step fit threads (deed_applies a) =
       quiet a.place a.stands _ (slice_set w.tables a.place.shard a.changed) a.blocks a.after refl refl
       (told-keyed A x.deeds a.call a.pair)
       (blind w sound a.place a.stands (phase.Apply a.call) a.before (λ o h. h))
-  own-step fit threads (deed_views a) = quiet a.place a.stands _ w.tables a.blocks a.after refl refl refl
+  itself-step fit threads (deed_views a) = quiet a.place a.stands _ w.tables a.blocks a.after refl refl refl
       (blind w sound a.place a.stands (phase.View a.key a.deed) a.before (λ o h. h))
-  own-step fit threads (deed_reads a) = quiet a.place a.stands _ w.tables a.blocks a.after refl refl refl
+  itself-step fit threads (deed_reads a) = quiet a.place a.stands _ w.tables a.blocks a.after refl refl refl
       (blind w sound a.place a.stands (phase.Read a.deed) a.before (λ o h. h))
-  own-step fit threads (deed_changes a) =
+  itself-step fit threads (deed_changes a) =
       quiet a.place a.stands _ (slice_set w.tables a.place.shard a.changed) a.blocks a.after refl refl
       (told-changed D (ends_guard a.call) _ (told-held A x.deeds a.call a.kind a.pair))
       (blind w sound a.place a.stands (phase.Change a.call) a.before (λ o h. h))
-  own-step fit threads (deed_fills a) =
+  itself-step fit threads (deed_fills a) =
       quiet a.place a.stands _ (slice_set w.tables a.place.shard a.changed) a.blocks a.after refl refl refl
       (blind w sound a.place a.stands (phase.Fill a.value) a.before (λ o h. h))
-  own-step fit threads (downgrade a) =
+  itself-step fit threads (downgrade a) =
       own-gives x w s w' sound goes shape adds causes w a.place a.place (same a.place a.stands) _ w.tables a.locks
-      a.blocks a.after a.hold a.more a.holds call.Downgrade refl a.turns refl
+      a.blocks a.after a.hold a.more a.holds call.Downgrade refl refl a.turns refl
       (turned a.place.holds a.hold a.more a.holds) refl
-  own-step fit threads (release a) =
+  itself-step fit threads (release a) =
       own-gives x w s w' sound goes shape adds causes w a.place a.place (same a.place a.stands) _ w.tables a.locks
-      a.blocks a.after a.hold a.more a.holds (gives_up a.hold.mode) (gives-no_try a.hold.mode) a.gives refl
+      a.blocks a.after a.hold a.more a.holds (gives_up a.hold.mode) (gives-no_try a.hold.mode)
+      (gives-no_deadline a.hold.mode) a.gives refl
       (behind a.place.holds a.hold a.more a.holds) (subst IsTold a.before (causes.untold t a.place a.stands))
-  own-step fit threads (answers a) = own-answers x w s w' sound goes shape adds causes a.mid a.leaves a.answers
-  own-step fit threads (visit_starts a) = own-goes_on x w s w' sound goes shape adds causes a.mid a.leaves a.starts
-  own-step fit threads (visit_parts a) = parts-by a.mid a.enters a.gives
-  own-step fit threads (visit_looks a) = looks-by a.mid a.enters a.looks
-  own-step fit threads (visit_seeks a) = quiet a.place a.stands _ w.tables w.blocks a.after refl refl tt
+  itself-step fit threads (answers a) = own-answers x w s w' sound goes shape adds causes a.mid a.leaves a.answers
+  itself-step fit threads (visit_starts a) = own-goes_on x w s w' sound goes shape adds causes a.mid a.leaves a.starts
+  itself-step fit threads (visit_parts a) = parts-by a.mid a.enters a.gives
+  itself-step fit threads (visit_looks a) = looks-by a.mid a.enters a.looks
+  itself-step fit threads (visit_seeks a) = quiet a.place a.stands _ w.tables w.blocks a.after refl refl tt
       (blind w sound a.place a.stands (phase.Seek a.walk) a.before (λ o h. h))
-  own-step fit threads (visit_does a) =
+  itself-step fit threads (visit_does a) =
       quiet a.place a.stands _ (slice_set w.tables a.place.shard a.changed) (slice_set w.blocks a.index a.grown) a.after
       refl refl (told-leads a.walk _ _ _ _ a.next a.reads a.leads)
       (blind w sound a.place a.stands (phase.Item a.walk) a.before (λ o h. h))
-  own-step fit threads (visit_gives a) = own-gives_back phase.Give phase.Onward (λ f. tt) w a.place a.place
+  itself-step fit threads (visit_gives a) = own-gives_back phase.Give phase.Onward (λ f. tt) w a.place a.place
       (same a.place a.stands) a
+
+  pub own-step : LocksFit w.locks → length w.places ≡ length w.locks.rows.calls → IsStep x w s w' → Own x w s w'
+  own-step fit threads (by_itself its a) = itself-step fit threads a
+  own-step fit threads (by_deadline its a) = own-expires x w s w' sound goes shape adds causes fit its a

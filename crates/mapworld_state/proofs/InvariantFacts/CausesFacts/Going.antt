@@ -28,6 +28,18 @@ use Rattle.mapworld_state.proofs.InvariantFacts.CausesFacts.Locking.{starts-blin
 use Rattle.mapworld_state.proofs.InvariantFacts.CausesFacts.Looking.{sees}
 use Rattle.mapworld_state.proofs.InvariantFacts.CausesFacts.Shapes.{Shape, StaysOpen, shard_of}
 use Rattle.mapworld_state.proofs.InvariantFacts.CausesFacts.Staying.{on-kept}
+use Rattle.std.proofs.Common.{◌-◌, map, None, Option}
+use Rattle.std.specs.Option.{option_map}
+use Rattle.std.proofs.lemmas.Bool.{false≢true}
+use Rattle.std.proofs.lemmas.Option.{none-some}
+use Rattle.parking_lot_machine_calls.specs.Calls.{is_timed}
+use Rattle.parking_lot_machine_calls.specs.declared.open_call.Call.{Call}
+use Rattle.mapworld_calls.specs.Deadlines.{IsDeadlineOf}
+use Rattle.mapworld_calls.proofs.Lists.{slice_get-push_below}
+use Rattle.mapworld_state.specs.Locks.Stands.{stand_for, stand_of}
+use Rattle.mapworld_state.specs.State.{deadline_of, deadlines_of}
+use Rattle.mapworld_state.specs.Invariant.Causes.Causes.{FailsLate, HasExpired}
+use Rattle.mapworld_state.proofs.InvariantFacts.Building.{map-push}
 
 -- what a step leaves of its thread and of all others
 pub record Own {K V S D T A : Type 0} (x : Setup K V D T) (w : State K V S D T A) (s : Step)
@@ -39,6 +51,7 @@ pub record Own {K V S D T A : Type 0} (x : Setup K V D T) (w : State K V S D T A
   pub sites : (shard : ℕ) → IsSite w'.locks s.thread now.holds shard → IsSited x w' s.thread now shard
   pub met : sees (call_at (state w'.locks.rows) s.thread) ≡ true → HasMet x w' s.thread now
   pub told : IsTold now.phase
+  pub late : FailsLate x w' w'.locks s.thread now
   -- nothing is answered, or its call is
   pub closes : (w'.replies ≡ w.replies)
       ⊎ ((v : State K V S D T A) × ((v ≡ w) ⊎ Concludes w s.thread v) × Answers x v s w')
@@ -57,6 +70,43 @@ module _ {K V S D T A : Type 0} (x : Setup K V D T) (w : State K V S D T A) (s :
     another = m.another;
     on = on-kept x w s w' sound goes shape adds m.other p.shard m.step (inl m.until) m.on;
   }
+
+-- whose deadline each step was, with one more
+pub deadlines-push : {K V S D T A : Type 0} (w : State K V S D T A) (s : Step) (w' : State K V S D T A) → Shape w w' s
+    → deadlines_of w' ≡ deadlines_of w ++ deadline_of s ∷ []
+deadlines-push w s w' shape = ap (map deadline_of) shape.steps ∙ map-push deadline_of w.steps s
+
+-- a deadline that has come has come
+pub deadline-on : {K V S D T A : Type 0} (w : State K V S D T A) (s : Step) (w' : State K V S D T A) → Shape w w' s
+    → (t n : ℕ) → IsDeadlineOf (deadlines_of w) t n → IsDeadlineOf (deadlines_of w') t n
+deadline-on w s w' shape t n h = (
+  h.0,
+  ap (λ ds. slice_get ds (n - 1)) (deadlines-push w s w' shape)
+      ∙ slice_get-push_below (deadlines_of w) (n - 1) (Some t) (deadline_of s) h.1,
+)
+
+pub expired-on : {K V S D T A : Type 0} (x : Setup K V D T) (w : State K V S D T A) (s : Step) (w' : State K V S D T A)
+    → Shape w w' s → (t : ℕ) (p : Place K V D T A) → HasExpired x w t p → HasExpired x w' t p
+expired-on x w s w' shape t p m = record {
+  start = m.start;
+  started = m.started;
+  step = m.step;
+  from = m.from;
+  until = (let lt = m.until in omega (arith, lt, ap (λ z. length z) shape.steps, length-append w.steps (s ∷ [])));
+  is = deadline-on w s w' shape t m.step m.is;
+}
+
+-- a thread that is in no call sees nothing, and fails in none
+pub out-of-call : (locks : Shown) (t : ℕ) → stand_in locks t ≡ None → (c : Call) → call_at (state locks.rows) t ≡ Some c
+    → ⊥
+out-of-call locks t out c at = none-some (stand_of c) (sym out ∙ ap (option_map stand_of) at)
+
+out-sees : (locks : Shown) (t : ℕ) → stand_in locks t ≡ None → sees (call_at (state locks.rows) t) ≡ true → ⊥
+out-sees locks t out = by (call_at (state locks.rows) t) out
+  where
+    by : (o : Option Call) → option_map stand_of o ≡ None → sees o ≡ true → ⊥
+    by None e seen = false≢true seen
+    by (Some c) e seen = none-some (stand_of c) (sym e)
 
 longer : {X : Type 0} (xs : List X) (y : X) → xs ++ y ∷ [] ≡ xs → ⊥
 longer xs y e = absurd (omega (arith, ap (λ z. length z) e, length-append xs (y ∷ [])))
@@ -111,42 +161,54 @@ module _ {K V S D T A : Type 0} (x : Setup K V D T) (w : State K V S D T A) (s :
     pub own-by : LocksApart s.thread v.locks locks
         → ((shard : ℕ) → IsSite locks s.thread now.holds shard → IsSited x w' s.thread now shard)
         → (sees (call_at (state locks.rows) s.thread) ≡ true → HasMet x w' s.thread now)
-        → IsTold now.phase → Own x w s w'
-    own-by apart sites met told = record {
+        → FailsLate x w' locks s.thread now → IsTold now.phase → Own x w s w'
+    own-by apart sites met late told = record {
       now = now;
       there = ap (λ z. slice_get z.places s.thread) after ∙ slice_get-set_same v.places s.thread q now b.there;
       others = λ u ne. ap (λ z. slice_get z.places u) after ∙ slice_get-set_other v.places s.thread u now
           (λ e. ne (sym e)) ∙ b.others u ne;
-      locks = apart-then s.thread w.locks v.locks w'.locks b.locks
+      locks = apart-then s.thread w.locks v.locks w'.locks b.fits b.locks
           (subst (LocksApart s.thread v.locks) (sym its-locks) apart);
       sites = λ shard site. sites shard (subst (λ (z : Shown). IsSite z s.thread now.holds shard) its-locks site);
       met = λ seen. met (sym (ap (λ (z : Shown). sees (call_at (state z.rows) s.thread)) its-locks) ∙ seen);
       told = told;
+      late = subst (λ (z : Shown). FailsLate x w' z s.thread now) (sym its-locks) late;
       closes = inl same;
     }
 
     -- that does nothing at the locks
     pub own-quiet : locks ≡ v.locks → now.shard ≡ q.shard → now.holds ≡ q.holds → IsTold now.phase
-        → (sees (call_at (state v.locks.rows) s.thread) ≡ true → ⊥) → Own x w s w'
-    own-quiet quiet stays holds told blind =
+        → stand_in v.locks s.thread ≡ None → Own x w s w'
+    own-quiet quiet stays holds told out =
         own-by
         (subst (LocksApart s.thread v.locks) (sym quiet) (apart-same s.thread v.locks))
         (λ shard site. kept-site p now b.at same (stays ∙ b.shard) shard
         (b.back shard (subst (λ (z : Shown). IsSite z s.thread q.holds shard) quiet
         (subst (λ (z : List Hold). IsSite locks s.thread z shard) holds site))))
-        (λ seen. absurd (blind (sym (ap (λ (z : Shown). sees (call_at (state z.rows) s.thread)) quiet) ∙ seen)))
+        (λ seen. absurd (out-sees v.locks s.thread out
+        (sym (ap (λ (z : Shown). sees (call_at (state z.rows) s.thread)) quiet) ∙ seen)))
+        (λ c at timed f. absurd (out-of-call v.locks s.thread out c
+        (sym (ap (λ (z : Shown). call_at (state z.rows) s.thread) quiet) ∙ at)))
         told
 
     -- that gives a hold up, or turns it
     pub own-gives : (hold : Hold) (more : List Hold) → q.holds ≡ hold ∷ more → (call : LockCall) → is_try call ≡ false
-        → LockStarts s.thread hold.shard call s.fair v.locks locks
+        → is_timed call ≡ false → LockStarts s.thread hold.shard call s.fair v.locks locks
         → now.shard ≡ q.shard
         → ((i : ℕ) (h : Hold) → slice_get now.holds i ≡ Some h → (j : ℕ) × (k : Hold)
         × (slice_get q.holds j ≡ Some k) × (k.shard ≡ h.shard)) → IsTold now.phase → Own x w s w'
-    own-gives hold more has call no_try starts stays fewer told =
+    own-gives hold more has call no_try no_deadline starts stays fewer told =
         own-by (apart-starts s.thread hold.shard call s.fair v.locks locks starts) sites
-        (λ seen. absurd (starts-blind s.thread hold.shard call s.fair v.locks locks no_try starts seen)) told
+        (λ seen. absurd (starts-blind s.thread hold.shard call s.fair v.locks locks no_try starts seen))
+        (λ c at timed f. absurd (false≢true (sym no_deadline ∙ ap (λ (z : Stand). z.timed) (stand-is c at) ∙ timed)))
+        told
       where
+        stand-is : (c : Call) → call_at (state locks.rows) s.thread ≡ Some c → stand_for hold.shard call ≡ stand_of c
+        stand-is c at =
+            let begun = same_Some starts.moves.stand _ (sym starts.moves.stood ∙ starts.begins.stand) in
+            sym begun ∙ same_Some starts.moves.stand (stand_of c)
+            (sym starts.moves.stands ∙ ap (option_map stand_of) at)
+
         stand-here : (stand : Stand) → stand_in locks s.thread ≡ Some stand → hold.shard ≡ stand.shard
         stand-here stand is =
             let begun = same_Some starts.moves.stand _ (sym starts.moves.stood ∙ starts.begins.stand) in

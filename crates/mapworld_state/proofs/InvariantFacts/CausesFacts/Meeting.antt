@@ -1,14 +1,13 @@
 -- A try that sees a word of its lock that isn't 0 meets a call of another thread on its shard.
-use Rattle.std.proofs.Common.{◌≡◌, ◌≢◌, ℕ, ◌<◌, inl, inr, Bool, true, false, length, Option, Some, None, slice_get}
+use Rattle.std.proofs.Common.{◌≡◌, ◌≢◌, ℕ, ◌<◌, inl, inr, Bool, true, length, Option, Some, None, slice_get}
 use Rattle.std.proofs.Common.{refl, sym, ap, ◌∙◌, subst, arith}
-use Rattle.std.specs.Option.{option_and_then, option_map, option_map_or}
+use Rattle.std.specs.Option.{option_and_then, option_map}
 use Rattle.std.proofs.lemmas.Bool.{false≢true}
 use Rattle.std.proofs.lemmas.Option.{none-some, same_Some, slice_get_cases, slice_get_within}
 use Rattle.lock_api_desk.specs.declared.mode.Mode.{Mode as DeskMode}
 use Rattle.parking_lot_machine_calls.specs.declared.open_call.Call.{Call}
-use Rattle.parking_lot_machine.specs.Machines.{is_asleep_in, sleeps}
+use Rattle.parking_lot_machine.specs.Machines.{is_asleep_in}
 use Rattle.parking_lot_machine.specs.Rows.{call_at, state, word_at}
-use Rattle.parking_lot_machine_calls.specs.Stances.{core_act}
 use Rattle.mapworld_calls.specs.Setup.{Setup}
 use Rattle.mapworld_state.specs.Locks.Fits.{LocksFit}
 use Rattle.mapworld_state.specs.Locks.Stands.{stand_in, stand_of}
@@ -17,7 +16,7 @@ use Rattle.mapworld_state.specs.Locks.Steps.{LockMoves}
 use Rattle.mapworld_state.specs.Locks.Views.{Shown, owner_in}
 use Rattle.mapworld_state.proofs.LocksFacts.Together.{holders_are_threads}
 use Rattle.mapworld_state.specs.Held.{IsWanting, StandsBefore}
-use Rattle.mapworld_state.specs.Moves.{mode_of, request_tries}
+use Rattle.mapworld_state.specs.Moves.{mode_of, request_manner}
 use Rattle.mapworld_state.specs.declared.place.Phase.{Phase}
 use Rattle.mapworld_state.specs.declared.place.Phase.TheVariants as phase
 use Rattle.mapworld_state.specs.Places.{Place}
@@ -105,7 +104,7 @@ module _ {K V S D T A : Type 0} (x : Setup K V D T) (w : State K V S D T A) (sou
         let o = tries-admits x w sound fit t p at c moves.steps.here tries in
         let claim = claim-at x (threads_of w) w.blocks w.replies w.tables t p (phase.Admit o.0) o.1
         (sound.stands t p at) in
-        let stood : IsWanting p (mode_of o.0) (request_tries o.0) (stand_in w.locks t) =
+        let stood : IsWanting p (mode_of o.0) (request_manner o.0) (stand_in w.locks t) =
         subst (λ (g : Phase K V D T A). StandsBefore p g (stand_in w.locks t)) o.1 (sound.holds.stands t p at) in
         let lock : c.lock ≡ p.shard =
         ap (λ z. z.shard) (same_Some (stand_of c) _ (sym (ap (option_map stand_of) moves.steps.here) ∙ stood.is)) in

@@ -29,7 +29,7 @@ use Rattle.mapworld_state.specs.Places.{Place}
 use Rattle.mapworld_state.specs.Sound.{HoldsShard, HoldsWhileBetween, KeepsOver, Sound}
 use Rattle.mapworld_state.specs.State.{State, next_step, threads_of}
 use Rattle.mapworld_state.specs.Steps.{Answers, Concludes, EntersBy, Leaves as LeavesLock, StartsVisit, Starts}
-use Rattle.mapworld_state.specs.Steps.{MovesLock}
+use Rattle.mapworld_state.specs.Steps.{Expires, MovesLock}
 use Rattle.mapworld_state.specs.Walks.{hands_over, walk_mode}
 use Rattle.mapworld_state.proofs.HoldsTable.{none-there}
 use Rattle.mapworld_state.proofs.InvariantFacts.Adding.{Step-adds}
@@ -41,7 +41,7 @@ use Rattle.mapworld_state.proofs.InvariantFacts.CausesFacts.Between.{Between, be
 use Rattle.mapworld_state.proofs.InvariantFacts.CausesFacts.Between.{between-leaves, between-same}
 use Rattle.mapworld_state.proofs.InvariantFacts.CausesFacts.Going.{Own, kept-site, met-on, own-by, still-on}
 use Rattle.mapworld_state.proofs.InvariantFacts.CausesFacts.Locking.{LocksApart, apart-begins, apart-moves, apart-same}
-use Rattle.mapworld_state.proofs.InvariantFacts.CausesFacts.Locking.{begins-blind}
+use Rattle.mapworld_state.proofs.InvariantFacts.CausesFacts.Locking.{apart-expires, begins-blind, expires-blind}
 use Rattle.mapworld_state.proofs.InvariantFacts.CausesFacts.Looking.{sees}
 use Rattle.mapworld_state.proofs.InvariantFacts.CausesFacts.Meeting.{meets}
 use Rattle.mapworld_state.proofs.InvariantFacts.CausesFacts.Shapes.{Shape}
@@ -51,6 +51,16 @@ use Rattle.std.specs.Option.{option_map}
 use Rattle.mapworld_state.specs.Locks.Stands.{stand_of}
 use Rattle.parking_lot_machine_calls.specs.declared.open_call.Call.{Call}
 use Rattle.mapworld_state.specs.Held.{StandsBefore}
+use Rattle.parking_lot_machine_calls.specs.Calls.{is_timed}
+use Rattle.mapworld_state.specs.Invariant.Causes.Causes.{FailsLate, HasExpired}
+use Rattle.mapworld_state.specs.State.{deadline_of, deadlines_of}
+use Rattle.mapworld_state.proofs.InvariantFacts.CausesFacts.Locking.{begins-timely, fails, own-fails}
+use Rattle.mapworld_state.proofs.InvariantFacts.CausesFacts.Going.{deadlines-push, expired-on, out-of-call}
+use Rattle.mapworld_state.proofs.InvariantFacts.CausesFacts.Between.{timed-admits}
+use Rattle.mapworld_state.proofs.InvariantFacts.CausesFacts.Being.{step-low}
+use Rattle.mapworld_calls.proofs.Lists.{slice_get-push_at}
+use Rattle.std.proofs.Common.{◌∷◌, ◌-◌, arith, length-append}
+use Rattle.std.proofs.lemmas.List.{length-map}
 
 -- a start that enters no lock leaves all locks as they are
 data Entered {K V D T A : Type 0} (t shard : ℕ) (f : Phase K V D T A) (old new : Shown) : Type 0 where
@@ -83,7 +93,12 @@ entered t shard phase.Downgrade old new h = nothing h
 entered t shard (phase.Release a) old new h = nothing h
 entered t shard (phase.Answer a) old new h = nothing h
 
--- a call that gives a hold up is no try
+-- a call that gives a hold up has no deadline
+pub gives-no_deadline : (m : Mode) → is_timed (gives_up m) ≡ false
+gives-no_deadline Shared = refl
+gives-no_deadline Exclusive = refl
+
+-- and is no try
 pub gives-no_try : (m : Mode) → is_try (gives_up m) ≡ false
 gives-no_try Shared = refl
 gives-no_try Exclusive = refl
@@ -101,6 +116,14 @@ module _ {K V S D T A : Type 0} (x : Setup K V D T) (w : State K V S D T A) (s :
       by : (o : Option Call) → option_map stand_of o ≡ None → sees o ≡ true → ⊥
       by None e seen = false≢true seen
       by (Some c) e seen = none-some (stand_of c) (sym e)
+
+  -- one before a phase in which it is in none
+  pub out-at : (v : State K V S D T A) → Sound x v → (p : Place K V D T A) → slice_get v.places t ≡ Some p
+      → (f : Phase K V D T A) → p.phase ≡ f → ((o : Option Stand) → StandsBefore p f o → o ≡ None)
+      → stand_in v.locks t ≡ None
+  out-at v there p at f is out =
+      out (stand_in v.locks t) (subst (λ (g : Phase K V D T A). StandsBefore p g (stand_in v.locks t)) is
+      (there.holds.stands t p at))
 
   -- so has one before a phase in which it is in none
   pub blind-at : (v : State K V S D T A) → Sound x v → (p : Place K V D T A) → slice_get v.places t ≡ Some p
@@ -205,10 +228,18 @@ module _ {K V S D T A : Type 0} (x : Setup K V D T) (w : State K V S D T A) (s :
       | reaches g c at begins ↦ false≢true (sym (begins-blind t now.shard c w.locks a.locks begins) ∙ seen)
     ]
 
+    timely : FailsLate x w' a.locks t now
+    timely c at timed f = elim e [
+      | nothing same ↦ absurd (out-of-call w.locks t none-stands c
+          (sym (ap (λ (z : Shown). call_at (state z.rows) t) same) ∙ at))
+      | waits r k is begins ↦ absurd (begins-timely t now.shard k w.locks a.locks begins c at timed f)
+      | reaches g k is begins ↦ absurd (begins-timely t now.shard k w.locks a.locks begins c at timed f)
+    ]
+
     pub own-starts : Own x w s w'
     own-starts =
         own-by x w s w' sound goes shape adds causes w a.place a.place (between-same x w t sound a.place a.stands) now
-        w.tables a.locks a.blocks a.after apart sites (λ seen. absurd (blind seen))
+        w.tables a.locks a.blocks a.after apart sites (λ seen. absurd (blind seen)) timely
         (told-start T A a.ask a.place.guard)
 
   -- ON THE WAY
@@ -216,9 +247,20 @@ module _ {K V S D T A : Type 0} (x : Setup K V D T) (w : State K V S D T A) (s :
   pub own-moves : LocksFit w.locks → length w.places ≡ length w.locks.rows.calls → MovesLock x w s w' → Own x w s w'
   own-moves fit threads a =
       own-by x w s w' sound goes shape adds causes w a.place a.place (between-same x w t sound a.place a.stands) a.place
-      w.tables a.locks w.blocks a.after (apart-moves t s.fair w.locks a.locks a.moves) sites met
+      w.tables a.locks w.blocks a.after (apart-moves t s.fair w.locks a.locks a.moves) sites met late
       (causes.untold t a.place a.stands)
     where
+      late : FailsLate x w' a.locks t a.place
+      late c at timed f =
+          let d = a.moves.steps.call in
+          let same : stand_of d ≡ stand_of c = same_Some (stand_of d) (stand_of c)
+          (sym (ap (option_map stand_of) a.moves.steps.here) ∙ a.moves.stood ∙ sym a.moves.stands
+          ∙ ap (option_map stand_of) at) in
+          expired-on x w s w' shape t a.place
+          (causes.late t a.place a.stands d a.moves.steps.here (ap (λ (z : Stand). z.timed) same ∙ timed)
+          (sym (ap fails a.moves.steps.here)
+          ∙ own-fails t s.fair w.locks a.locks fit a.moves (ap fails at ∙ f)))
+
       sites : (shard : ℕ) → IsSite a.locks t a.place.holds shard → IsSited x w' t a.place shard
       sites shard (inl hold) = kept-site x w s w' sound goes shape adds causes a.place a.place a.stands
           (ap (λ z. z.replies) a.after) refl shard (inl hold)
@@ -231,13 +273,58 @@ module _ {K V S D T A : Type 0} (x : Setup K V D T) (w : State K V S D T A) (s :
       met seen = met-on x w s w' sound goes shape adds t a.place
           (meets x w sound fit threads causes t a.place a.stands s.fair a.locks a.moves seen)
 
+  -- its deadline comes
+  pub own-expires : LocksFit w.locks → s.deadline ≡ true → Expires x w s w' → Own x w s w'
+  own-expires fit comes a =
+      own-by x w s w' sound goes shape adds causes w a.place a.place (between-same x w t sound a.place a.stands) a.place
+      w.tables a.locks w.blocks a.after (apart-expires t w.locks a.locks a.expires) sites
+      (λ seen. absurd (expires-blind t w.locks a.locks a.expires seen)) (λ c at timed f. now)
+      (causes.untold t a.place a.stands)
+    where
+      waits : (r : Request K V D) × (a.place.phase ≡ phase.Admit r)
+      waits = timed-admits x w sound fit t a.place a.stands a.expires.call a.expires.here
+          (ap (λ (z : Stand). z.timed) (same_Some (stand_of a.expires.call) a.expires.stand
+          (sym (ap (option_map stand_of) a.expires.here) ∙ a.expires.stood)) ∙ a.expires.timed)
+
+      -- it has come in this step
+      now : HasExpired x w' t a.place
+      now =
+          let c = claim-at x (threads_of w) w.blocks w.replies w.tables t a.place (phase.Admit waits.0) waits.1
+          (sound.stands t a.place a.stands) in
+          let low = step-low x w sound t c.0.start c.0.begun in
+          let count : length (deadlines_of w) ≡ length w.steps = length-map w.steps deadline_of in
+          let here : length (deadlines_of w) ≡ next_step w - 1 = omega (arith, count) in
+          record {
+            start = c.0.start;
+            started = c.0.started;
+            step = next_step w;
+            from = low;
+            until = omega (arith, ap (λ z. length z) shape.steps, length-append w.steps (s ∷ []));
+            is = (
+              omega arith,
+              ap (λ n. slice_get (deadlines_of w') n) (sym here)
+                  ∙ ap (λ ds. slice_get ds (length (deadlines_of w))) (deadlines-push w s w' shape)
+                  ∙ slice_get-push_at (deadlines_of w) (deadline_of s)
+                  ∙ ap (λ (b : Bool). Some (if b then Some t else None)) comes,
+            );
+          }
+
+      sites : (shard : ℕ) → IsSite a.locks t a.place.holds shard → IsSited x w' t a.place shard
+      sites shard (inl hold) = kept-site x w s w' sound goes shape adds causes a.place a.place a.stands
+          (ap (λ z. z.replies) a.after) refl shard (inl hold)
+      sites shard (inr (stand, is, at)) =
+          kept-site x w s w' sound goes shape adds causes a.place a.place a.stands (ap (λ z. z.replies) a.after) refl
+          shard (inr (stand, sym (a.expires.stands t) ∙ is, at))
+
   -- a walk asks for its next shard
   pub own-goes_on : (v : State K V S D T A) → (v ≡ w) ⊎ LeavesLock w t v → StartsVisit x v s w' → Own x w s w'
   own-goes_on v h a =
       own-by x w s w' sound goes shape adds causes v e.0 a.place e.1 now v.tables a.locks v.blocks a.after
       (apart-begins t (a.place.shard + 1) (asks_for (walk_mode a.walk)) v.locks a.locks a.begins) sites
       (λ seen. absurd (false≢true
-      (sym (begins-blind t (a.place.shard + 1) (asks_for (walk_mode a.walk)) v.locks a.locks a.begins) ∙ seen))) tt
+      (sym (begins-blind t (a.place.shard + 1) (asks_for (walk_mode a.walk)) v.locks a.locks a.begins) ∙ seen)))
+      (λ c at timed f. absurd (begins-timely t (a.place.shard + 1) (asks_for (walk_mode a.walk)) v.locks a.locks
+      a.begins c at timed f)) tt
     where
       e : (p : Place K V D T A) × Between x t w v p a.place
       e = elim h [
@@ -292,6 +379,8 @@ module _ {K V S D T A : Type 0} (x : Setup K V D T) (w : State K V S D T A) (s :
     sites = sites;
     met = λ seen. absurd (blind-at w' goes.sound now there phase.Rest refl (λ o h. h) seen);
     told = tt;
+    late = λ c at timed f. absurd (out-of-call w'.locks t
+        (stand-at w'.places w'.locks goes.sound.holds t now there phase.Rest refl) c at);
     closes = inr (v, h, a);
   }
     where

@@ -19,8 +19,10 @@ use Rattle.mapworld_state.specs.Places.{Place}
 use Rattle.mapworld_state.specs.Shards.{ShardPairs}
 use Rattle.mapworld_state.specs.State.{State, next_step, started_of, threads_of}
 use Rattle.mapworld_state.specs.Moves.{found_done, request_of, stepped, ListsBlock, CountsCall}
+use Rattle.mapworld_state.specs.Steps.{IsStep, by_itself, by_deadline}
 use Rattle.mapworld_state.specs.Steps.{Answers, Concludes, owed, locked, idle, Enters, Reaches, Leaves as LeavesLock}
-use Rattle.mapworld_state.specs.Steps.{Finds, GivesBack, StartsVisit, LooksAround, IsRefusedVisit, IsStep, start, lock}
+use Rattle.mapworld_state.specs.Steps.{Finds, GivesBack, StartsVisit, LooksAround, IsRefusedVisit, IsOwnStep, start}
+use Rattle.mapworld_state.specs.Steps.{lock}
 use Rattle.mapworld_state.specs.Steps.{find, find_grows, find_refused, deed_appends, deed_applies, deed_views}
 use Rattle.mapworld_state.specs.Steps.{deed_reads, deed_changes, deed_fills, downgrade, release, answers, visit_starts}
 use Rattle.mapworld_state.specs.Steps.{visit_parts, visit_looks, visit_seeks, visit_does, visit_gives}
@@ -278,47 +280,54 @@ module _ {K V S D T A : Type 0} (x : Setup K V D T) (w : State K V S D T A) (s :
   still p at p' locks started after = shape-open w s p at p' w.tables locks w.blocks started
       (comes-same w s p at w.blocks refl) x w' after
 
-  pub shape : IsStep x w s w' → Shape w w' s
-  shape (start h) = counted h.place h.stands _ w.tables h.locks h.blocks _ h.counted
+  own-shape : IsOwnStep x w s w' → Shape w w' s
+  own-shape (start h) = counted h.place h.stands _ w.tables h.locks h.blocks _ h.counted
       (λ n e. absurd (none-some n
       (sym (claim-at x (threads_of w) w.blocks w.replies w.tables s.thread h.place phase.Rest h.before
       (sound.stands s.thread h.place h.stands)).0 ∙ e))) h.after
-  shape (lock h) = still h.place h.stands _ h.locks (λ n e. e) h.after
-  shape (find h) = shape-after w h.mid w' s (silent-enters w s.thread h.mid h.enters)
+  own-shape (lock h) = still h.place h.stands _ h.locks (λ n e. e) h.after
+  own-shape (find h) = shape-after w h.mid w' s (silent-enters w s.thread h.mid h.enters)
       (shape-finds x h.mid s w' (sound-entered x w s.thread h.mid sound h.enters) h.finds)
-  shape (find_grows h) = shape-open w s h.place h.stands _ (slice_set w.tables h.place.shard h.grown) w.locks h.blocks
+  own-shape (find_grows h) = shape-open w s h.place h.stands _ (slice_set w.tables h.place.shard h.grown) w.locks
+      h.blocks
       (λ n e. e)
       (comes-listed w s h.place h.stands (found_done {D = D} (request_of h.call) false true) h.blocks h.listed) x w'
       h.after
-  shape (find_refused h) = still h.place h.stands _ w.locks (λ n e. e) h.after
-  shape (deed_appends h) = counted h.place h.stands _ (slice_set w.tables h.place.shard h.changed) w.locks h.blocks
+  own-shape (find_refused h) = still h.place h.stands _ w.locks (λ n e. e) h.after
+  own-shape (deed_appends h) = counted h.place h.stands _ (slice_set w.tables h.place.shard h.changed) w.locks h.blocks
       h.place.block h.counted (λ n e. e) h.after
-  shape (deed_applies h) = counted h.place h.stands _ (slice_set w.tables h.place.shard h.changed) w.locks h.blocks
+  own-shape (deed_applies h) = counted h.place h.stands _ (slice_set w.tables h.place.shard h.changed) w.locks h.blocks
       h.place.block h.counted (λ n e. e) h.after
-  shape (deed_views h) = shape-open w s h.place h.stands _ w.tables w.locks h.blocks (λ n e. e)
+  own-shape (deed_views h) = shape-open w s h.place h.stands _ w.tables w.locks h.blocks (λ n e. e)
       (comes-listed w s h.place h.stands (Some 1) h.blocks h.listed) x w' h.after
-  shape (deed_reads h) = counted h.place h.stands _ w.tables w.locks h.blocks h.place.block h.counted (λ n e. e) h.after
-  shape (deed_changes h) = counted h.place h.stands _ (slice_set w.tables h.place.shard h.changed) w.locks h.blocks
+  own-shape (deed_reads h) = counted h.place h.stands _ w.tables w.locks h.blocks h.place.block h.counted (λ n e. e)
+      h.after
+  own-shape (deed_changes h) = counted h.place h.stands _ (slice_set w.tables h.place.shard h.changed) w.locks h.blocks
       h.place.block h.counted (λ n e. e) h.after
-  shape (deed_fills h) = counted h.place h.stands _ (slice_set w.tables h.place.shard h.changed) w.locks h.blocks
+  own-shape (deed_fills h) = counted h.place h.stands _ (slice_set w.tables h.place.shard h.changed) w.locks h.blocks
       h.place.block h.counted (λ n e. e) h.after
-  shape (downgrade h) = counted h.place h.stands _ w.tables h.locks h.blocks h.place.block h.counted (λ n e. e) h.after
-  shape (release h) = counted h.place h.stands _ w.tables h.locks h.blocks _ h.counted (λ n e. e) h.after
-  shape (answers h) = shape-after w h.mid w' s (silent-concludes w s.thread h.mid h.leaves)
+  own-shape (downgrade h) = counted h.place h.stands _ w.tables h.locks h.blocks h.place.block h.counted (λ n e. e)
+      h.after
+  own-shape (release h) = counted h.place h.stands _ w.tables h.locks h.blocks _ h.counted (λ n e. e) h.after
+  own-shape (answers h) = shape-after w h.mid w' s (silent-concludes w s.thread h.mid h.leaves)
       (shape-answers x h.mid s w' (sound-left x w s.thread h.mid sound h.leaves) h.answers)
-  shape (visit_starts h) = shape-after w h.mid w' s (silent-leaves w s.thread h.mid h.leaves)
+  own-shape (visit_starts h) = shape-after w h.mid w' s (silent-leaves w s.thread h.mid h.leaves)
       (shape-starts_visit x h.mid s w' (sound-let_go x w s.thread h.mid sound h.leaves) h.starts)
-  shape (visit_parts h) = shape-after w h.mid w' s (silent-parts w s.thread h.mid h.enters)
+  own-shape (visit_parts h) = shape-after w h.mid w' s (silent-parts w s.thread h.mid h.enters)
       (shape-gives x h.mid s w'
       (elim h.enters [
         | inl same ↦ subst (Sound x) (sym same) sound
         | inr e ↦ sound-reaches x w s.thread h.mid sound
             e
       ]) _ _ h.gives)
-  shape (visit_looks h) = shape-after w h.mid w' s (silent-let_in w s.thread h.mid h.enters)
+  own-shape (visit_looks h) = shape-after w h.mid w' s (silent-let_in w s.thread h.mid h.enters)
       (shape-looks x h.mid s w' (sound-let_in x w s.thread h.mid sound h.enters) h.looks)
-  shape (visit_seeks h) = still h.place h.stands _ w.locks (λ n e. e) h.after
-  shape (visit_does h) = shape-open w s h.place h.stands _ (slice_set w.tables h.place.shard h.changed) w.locks
+  own-shape (visit_seeks h) = still h.place h.stands _ w.locks (λ n e. e) h.after
+  own-shape (visit_does h) = shape-open w s h.place h.stands _ (slice_set w.tables h.place.shard h.changed) w.locks
       (slice_set w.blocks h.index h.grown) (λ n e. e)
       (comes-set w s h.place h.stands h.index h.block h.grown h.listed) x w' h.after
-  shape (visit_gives h) = shape-gives x w s w' sound _ _ h
+  own-shape (visit_gives h) = shape-gives x w s w' sound _ _ h
+
+  pub shape : IsStep x w s w' → Shape w w' s
+  shape (by_itself its h) = own-shape h
+  shape (by_deadline its h) = still h.place h.stands _ h.locks (λ n e. e) h.after

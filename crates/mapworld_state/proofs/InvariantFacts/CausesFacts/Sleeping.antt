@@ -23,7 +23,6 @@ use Rattle.parking_lot_machine_calls.specs.CallViews.{rw_mode}
 use Rattle.parking_lot_machine.specs.Rows.{State, call_at, hold_at, rw_lock_at, rw_role_at, rw_role_in, state, taken_by}
 use Rattle.parking_lot_machine_calls.specs.CallRoles.{owned_of, rw_core_role, rw_spot}
 use Rattle.parking_lot_machine_calls.specs.CallKinds.{IsOfKind}
-use Rattle.parking_lot_machine_calls.specs.Stances.{core_act}
 use Rattle.mapworld_state.specs.Locks.Fits.{LocksFit, is_plain}
 use Rattle.mapworld_state.proofs.LocksFacts.Giving.{yields_awake}
 use Rattle.parking_lot_machine_calls.specs.Calls.{is_timed}
@@ -31,7 +30,7 @@ use Rattle.parking_lot_machine_calls.specs.Kinds.{recursive_in}
 use Rattle.parking_lot_machine.specs.RowFits.{IsPrepared}
 use Rattle.mapworld_state.specs.Locks.Views.{Shown, held_as, owner_in}
 use Rattle.mapworld_state.proofs.LocksFacts.Handing.{is_rw, goes_by, no_mutex}
-use Rattle.mapworld_state.proofs.LocksFacts.Lists.{all_at, among_all, one_of_all}
+use Rattle.mapworld_state.proofs.LocksFacts.Lists.{among_all, one_of_all}
 use Rattle.parking_lot_machine_calls.specs.Stances.{rw_asleep}
 use Rattle.parking_lot_machine_calls.specs.LateCalls.{sleeps_in_time}
 

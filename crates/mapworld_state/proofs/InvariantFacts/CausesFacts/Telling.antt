@@ -45,6 +45,8 @@ module _ (A : Type 0) {D K V T : Type 0} (deeds : Deeds D K V T) where
   told-keyed (keyed.Alter k d) p = refl
   told-keyed (keyed.View k d) p = refl
   told-keyed (keyed.ContainsKey k) p = refl
+  told-keyed (keyed.InsertUntil k w) p = refl
+  told-keyed (keyed.RemoveUntil k) p = refl
 
   pub told-held : (h : Held V D) (kind : Way K) (p : K × V) → is_locked (held_answer {A = A} deeds h (lent kind p))
       ≡ false
@@ -102,6 +104,11 @@ told-found T A (request.Keyed (keyed.View k d)) true room = tt
 told-found T A (request.Keyed (keyed.View k d)) false room = refl
 told-found T A (request.Keyed (keyed.ContainsKey k)) true room = refl
 told-found T A (request.Keyed (keyed.ContainsKey k)) false room = refl
+told-found T A (request.Keyed (keyed.InsertUntil k v)) true room = tt
+told-found T A (request.Keyed (keyed.InsertUntil k v)) false true = tt
+told-found T A (request.Keyed (keyed.InsertUntil k v)) false false = tt
+told-found T A (request.Keyed (keyed.RemoveUntil k)) true room = tt
+told-found T A (request.Keyed (keyed.RemoveUntil k)) false room = refl
 told-found T A (request.Begin (begin.Get k)) true room = refl
 told-found T A (request.Begin (begin.Get k)) false room = refl
 told-found T A (request.Begin (begin.GetMut k)) true room = refl
@@ -113,6 +120,10 @@ told-found T A (request.Begin (begin.TryGet k)) true room = refl
 told-found T A (request.Begin (begin.TryGet k)) false room = refl
 told-found T A (request.Begin (begin.TryGetMut k)) true room = refl
 told-found T A (request.Begin (begin.TryGetMut k)) false room = refl
+told-found T A (request.Begin (begin.GetUntil k)) true room = refl
+told-found T A (request.Begin (begin.GetUntil k)) false room = refl
+told-found T A (request.Begin (begin.GetMutUntil k)) true room = refl
+told-found T A (request.Begin (begin.GetMutUntil k)) false room = refl
 told-found T A (request.Begin (begin.TryEntry k)) true room = refl
 told-found T A (request.Begin (begin.TryEntry k)) false true = refl
 told-found T A (request.Begin (begin.TryEntry k)) false false = tt

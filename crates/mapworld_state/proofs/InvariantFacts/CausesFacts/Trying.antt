@@ -1,5 +1,5 @@
 -- A try that hasn't won its lock.
-use Rattle.std.proofs.Common.{◌≡◌, ◌⊎◌, ℕ, inl, inr, ◌||◌, Bool, true, false, refl, sym, ap, ◌∙◌}
+use Rattle.std.proofs.Common.{◌≡◌, ℕ, inl, inr, ◌||◌, Bool, true, false, refl, sym, ap, ◌∙◌}
 use Rattle.parking_lot_protocol.specs.declared.rw_phase.RwPhase.{RwPhase}
 use Rattle.parking_lot_machine_calls.specs.Calls.{is_timed}
 use Rattle.parking_lot_machine_calls.specs.declared.calls.LockCall.{LockCall}

@@ -6,7 +6,6 @@ use Rattle.mapworld_state.specs.declared.holds.Mode.TheVariants.{Shared}
 use Rattle.mapworld_state.specs.declared.holds.Hold.{Hold}
 use Rattle.mapworld_state.specs.declared.place.Way.TheVariants as way
 use Rattle.mapworld_state.specs.declared.place.Guard.TheVariants as guard
-use Rattle.std.proofs.lemmas.List.{map-set}
 use Rattle.mapworld_state.specs.Moves.{lent_way}
 use Rattle.mapworld_state.specs.Slots.{phase_key}
 use Rattle.mapworld_state.proofs.HoldsTable.{first-there, only-first}

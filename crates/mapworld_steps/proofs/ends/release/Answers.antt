@@ -4,7 +4,6 @@ use Rattle.mapworld_state.specs.declared.place.Phase.TheVariants as phase
 use Rattle.mapworld_state.specs.Places.{place_of}
 use Rattle.mapworld_state.specs.Core.{owes, lists, adds}
 use Rattle.mapworld_state.proofs.HoldsTable.{first-there, none-there}
-use Rattle.std.proofs.lemmas.List.{map-set}
 use Rattle.mapworld_state.specs.Slots.{phase_key}
 use Rattle.mapworld_state.proofs.LocksFacts.Sizes.{starts-size}
 use Rattle.mapworld_transitions.proofs.Walking.{walking, plain-visits, plain-lists}

@@ -10,7 +10,7 @@ use Rattle.mapworld_state.specs.Shards.{shard_pairs}
 use Rattle.mapworld_state.specs.Slots.{HasKeyAt}
 use Rattle.mapworld_state.specs.World.{setup_of}
 use Rattle.mapworld_state.proofs.Views.{view-at}
-use Rattle.std.proofs.lemmas.List.{map-set, length-map}
+use Rattle.std.proofs.lemmas.List.{length-map}
 use Rattle.mapworld_transitions.proofs.Walking.{next-free, plain-visits, plain-lists}
 use Rattle.mapworld_transitions.proofs.Slots.{calls-listed, slots-same}
 use Rattle.mapworld_transitions.proofs.Rooms.{shifted, block_left}

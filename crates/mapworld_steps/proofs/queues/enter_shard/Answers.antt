@@ -1,29 +1,24 @@
-use Rattle.std.proofs.Common.{Some, ◌+◌, ◌-◌, [], ◌∷◌, ◌++◌, length, slice_set, refl, sym, ap, ap₂, ◌∙◌, subst, arith}
+use Rattle.std.proofs.Common.{◌+◌, ◌-◌, [], ◌∷◌, ◌++◌, length, slice_set, refl, sym, ap, ap₂, ◌∙◌, subst, arith}
 use Rattle.std.proofs.lemmas.Option.{none-some, same_Some}
 use Rattle.std.proofs.lemmas.List.{map-set, length-map}
 use Rattle.mapworld_calls.proofs.Lists.{slice_get-set_same}
 use Rattle.parking_lot_protocol.specs.declared.act.CoreAnswer.{CoreAnswer}
-use Rattle.mapworld_state.specs.Locks.Stands.{Stand}
 use Rattle.mapworld_state.specs.Locks.Steps.{LockEnds}
 use Rattle.mapworld_state.proofs.LocksFacts.Sizes.{ends-size}
 use Rattle.mapworld_state.specs.declared.holds.Hold.{Hold}
-use Rattle.mapworld_state.specs.declared.place.Phase.TheVariants as phase
 use Rattle.mapworld_state.specs.Places.{place_of}
-use Rattle.mapworld_state.specs.Holds.{at_desk}
-use Rattle.mapworld_state.specs.Moves.{mode_of, lent_way}
+use Rattle.mapworld_state.specs.Moves.{lent_way}
 use Rattle.mapworld_state.specs.Slots.{phase_key}
 use Rattle.mapworld_state.specs.Shards.{shard_pairs}
 use Rattle.mapworld_state.specs.Core.{state_of, owes, lists, adds}
 use Rattle.mapworld_state.proofs.Views.{view-at}
 use Rattle.mapworld_state.proofs.HoldsTable.{only-first}
 use Rattle.mapworld_state.proofs.InvariantFacts.Admitting.{sound-enters}
-use Rattle.mapworld_state.proofs.InvariantFacts.Holding.{stand-at}
 use Rattle.mapworld_transitions.proofs.Slots.{calls-same, slots-kept}
 use Rattle.mapworld_transitions.proofs.Rooms.{moved}
 use Rattle.mapworld_transitions.proofs.Walking.{walking, plain-visits, plain-lists}
 use Rattle.mapworld_transitions.proofs.Facts.{claim_at, way_fits}
 use Rattle.mapworld_steps.proofs.Kept.{kept_here, stands_here}
-use Rattle.mapworld_steps.proofs.Asking.{owned-unless}
 use Rattle.mapworld_steps.proofs.queues.enter_shard.Goals as goal
 
 pub push-requires : goal.push-requires
@@ -44,11 +39,7 @@ returns-clause-enters g c =
     let here = stands_here core.places.items c.requires.before.1 r c.index_mut-place.ensures.value in
     let request = c.in-Admit.request in
     let before = sym c.replace.ensures.value ∙ c.in-Admit.is in
-    let stand = stand-at _ _ c.requires.sound.holds t p here (phase.Admit request) before in
-    let its = same_Some c.finish.ensures.stand _ (sym c.finish.ensures.stood ∙ stand.is) in
-    let won = owned-unless c.finish.result
-    (c.finish.ensures.settled (at_desk (mode_of request)) (ap (λ (s : Stand). s.aim) its) (ap (λ (s : Stand). s.timed) its))
-    (λ refused. c.requires.owned (c.finish.ensures.over ∙ ap (λ a. Some a) refused)) in
+    let won = same_Some c.finish.result _ (sym c.finish.ensures.over ∙ c.requires.owned) in
     record {
       place = p;
       stands = here;

@@ -1,4 +1,4 @@
-use Rattle.std.proofs.Common.{◌+◌, length, Some, refl, sym, ap, ◌∙◌, arith, length-append, ◌≡◌, ◌<◌, ◌-◌, true, false}
+use Rattle.std.proofs.Common.{◌+◌, length, Some, refl, sym, ap, ◌∙◌, arith, length-append, ◌≡◌, ◌<◌, ◌-◌, true}
 use Rattle.std.proofs.Common.{List, sum_by, subst}
 use Rattle.mapworld_state.specs.Core.{owes, lists, adds, blocks_of, ask_lists, phase_lists}
 use Rattle.std.proofs.lemmas.List.{length-map}
@@ -11,7 +11,7 @@ use Rattle.mapworld_transitions.proofs.Facts.{claim_at, next_fits, session_count
 use Rattle.mapworld_steps.proofs.Kept.{kept_here, stands_here, phase_here}
 use Rattle.mapworld_steps.proofs.Starting.{waits, started-slots, started-enters, start-walks}
 use Rattle.mapworld_steps.proofs.Asking.{may-enter, out-of-call, enters-size}
-use Rattle.mapworld_state.specs.Moves.{mode_of, request_tries, start_guard, start_phase}
+use Rattle.mapworld_state.specs.Moves.{mode_of, request_manner, start_guard, start_phase}
 use Rattle.mapworld_state.specs.Route.{key_route}
 use Rattle.mapworld_state.specs.Walks.{walk_mode}
 use Rattle.mapworld_state.proofs.HoldsTable.{none-there}
@@ -20,6 +20,7 @@ use Rattle.mapworld_transitions.proofs.Slots.{calls-same, calls-counted}
 use Rattle.mapworld_state.proofs.Owning.{starts-own}
 use Rattle.mapworld_transitions.proofs.Weights.{Weighs, started_weighs}
 use Rattle.mapworld_steps.proofs.starts.start.Goals as goal
+use Rattle.mapworld_state.specs.declared.holds.Manner.TheVariants.{Waits}
 
 pub count_in-requires-clause-listed : goal.count_in-requires-clause-listed
 count_in-requires-clause-listed g c i e =
@@ -171,6 +172,6 @@ ask_for_shard-requires g c =
     (λ i h has same. none-there p.holds i h (claim.1 (enters is).0) has)
     (rw (c.start_shard-place.ensures, c.len-shards.ensures, core.tables.ok.0, shards) (enters is).1) in
     record {
-      admit = λ request is. asks (ap waits is) (request_tries request) (mode_of request);
-      reach = λ walk is. asks (ap waits is) false (walk_mode walk);
+      admit = λ request is. asks (ap waits is) (request_manner request) (mode_of request);
+      reach = λ walk is. asks (ap waits is) Waits (walk_mode walk);
     }

@@ -1,6 +1,5 @@
-use Rattle.std.proofs.Common.{◌≡◌, ◌+◌, ◌-◌, inr, length, slice_set, refl, sym, ap, ap₂, ◌∙◌, subst, arith}
+use Rattle.std.proofs.Common.{◌+◌, ◌-◌, inr, length, slice_set, refl, sym, ap, ap₂, ◌∙◌, subst, arith}
 use Rattle.std.proofs.lemmas.List.{map-set}
-use Rattle.mapworld_calls.specs.declared.reply.Answer.{Answer}
 use Rattle.mapworld_calls.proofs.Lists.{slice_get-set_same}
 use Rattle.mapworld_state.proofs.LocksFacts.Sizes.{same_size}
 use Rattle.mapworld_state.specs.declared.place.Phase.TheVariants as phase

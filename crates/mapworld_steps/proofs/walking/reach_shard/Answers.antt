@@ -1,4 +1,4 @@
-use Rattle.std.proofs.Common.{◌≡◌, ◌+◌, ◌-◌, ◌<◌, ◌++◌, ◌∷◌, [], not, ◌==◌, Some, length, slice_get, slice_set, ⊎_elim}
+use Rattle.std.proofs.Common.{◌+◌, ◌-◌, ◌<◌, ◌++◌, ◌∷◌, [], not, length, slice_get, slice_set, ⊎_elim}
 use Rattle.std.proofs.Common.{refl, sym, ap, ap₂, ◌∙◌, subst, arith}
 use Rattle.std.proofs.lemmas.Option.{same_Some}
 use Rattle.std.proofs.lemmas.List.{map-set, length-map}
@@ -12,8 +12,7 @@ use Rattle.mapworld_state.specs.declared.place.Phase.TheVariants as phase
 use Rattle.mapworld_state.specs.Places.{place_of}
 use Rattle.mapworld_state.specs.Classes.{class_of, walks_in}
 use Rattle.mapworld_state.specs.Holds.{at_desk}
-use Rattle.mapworld_state.specs.Walks.{walk_mode, kept_over, entered_phase}
-use Rattle.mapworld_state.specs.Slots.{phase_key, SlotIsNext}
+use Rattle.mapworld_state.specs.Walks.{walk_mode, kept_over}
 use Rattle.mapworld_state.specs.Shards.{shard_pairs}
 use Rattle.mapworld_state.specs.Core.{state_of, owes, lists, adds, phase_lists}
 use Rattle.mapworld_state.proofs.Views.{view-at}

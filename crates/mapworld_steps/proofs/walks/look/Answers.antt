@@ -1,5 +1,5 @@
-use Rattle.std.proofs.Common.{◌≡◌, ℕ, ◌+◌, ◌-◌, ◌<◌, ◌≤◌, ◌++◌, ◌∷◌, [], false, if◌then◌else◌, inl, inr, length, map}
-use Rattle.std.proofs.Common.{flat_map, List, Some, is_none, slice_get, slice_set, sum_by, vec_capacity, refl, sym, ap}
+use Rattle.std.proofs.Common.{◌≡◌, ◌+◌, ◌-◌, ◌<◌, ◌++◌, ◌∷◌, [], if◌then◌else◌, inl, inr, length, map}
+use Rattle.std.proofs.Common.{flat_map, Some, is_none, slice_get, slice_set, sum_by, vec_capacity, refl, sym, ap}
 use Rattle.std.proofs.Common.{ap₂, ◌∙◌, subst, arith, length-append, length-set}
 use Rattle.std.specs.Option.{unwrap_or}
 use Rattle.std.proofs.lemmas.List.{map-set, length-map}
@@ -15,7 +15,7 @@ use Rattle.mapworld_state.specs.Classes.{class_of, walks_in}
 use Rattle.mapworld_state.specs.Moves.{stops_at}
 use Rattle.mapworld_state.specs.Shards.{ShardPairs, shard_pairs}
 use Rattle.mapworld_state.specs.Slots.{phase_key, IsAt, FitsReads, IsNextSlot, SlotIsNext}
-use Rattle.mapworld_state.specs.Walks.{walk_mode, gives_items, all_visited, looked_keys}
+use Rattle.mapworld_state.specs.Walks.{walk_mode, all_visited, looked_keys}
 use Rattle.mapworld_state.specs.Core.{state_of, owes, lists, adds, blocks_of, ask_lists, phase_lists}
 use Rattle.mapworld_state.proofs.Views.{view-at}
 use Rattle.mapworld_state.proofs.LocksFacts.Sizes.{same_size}

@@ -1,8 +1,8 @@
-use Rattle.std.proofs.Common.{◌≡◌, ◌+◌, ◌-◌, suc, length, slice_get, refl, sym, ap, ◌∙◌, subst, arith, length-append}
+use Rattle.std.proofs.Common.{◌+◌, ◌-◌, suc, length, slice_get, refl, sym, ap, ◌∙◌, subst, arith, length-append}
 use Rattle.mapworld_state.specs.Places.{place_of}
 use Rattle.mapworld_state.specs.Classes.{class_of, walks_in}
 use Rattle.mapworld_state.specs.Slots.{phase_key, SlotIsNext}
-use Rattle.mapworld_state.specs.Core.{state_of, owes, lists, adds, phase_lists}
+use Rattle.mapworld_state.specs.Core.{owes, lists, adds, phase_lists}
 use Rattle.mapworld_transitions.proofs.Rooms.{shifted}
 use Rattle.mapworld_transitions.proofs.Leading.{in-walk}
 use Rattle.mapworld_transitions.proofs.Facts.{claim_at, stepped-by}

@@ -1,9 +1,9 @@
-use Rattle.std.proofs.Common.{◌≡◌, ◌<◌, false, ◌+◌, ◌-◌, suc, length, slice_get, refl, sym, ap, ◌∙◌, subst, arith}
+use Rattle.std.proofs.Common.{◌<◌, ◌+◌, ◌-◌, length, refl, sym, ap, ◌∙◌, subst, arith}
 use Rattle.std.proofs.Common.{length-append}
 use Rattle.mapworld_state.specs.Places.{place_of}
 use Rattle.mapworld_state.specs.Classes.{class_of, walks_in}
 use Rattle.mapworld_state.specs.Slots.{phase_key, SlotIsNext}
-use Rattle.mapworld_state.specs.Core.{state_of, owes, lists, adds, phase_lists}
+use Rattle.mapworld_state.specs.Core.{owes, lists, adds, phase_lists}
 use Rattle.mapworld_transitions.proofs.Rooms.{shifted}
 use Rattle.mapworld_transitions.proofs.Leading.{in-walk}
 use Rattle.mapworld_transitions.proofs.Facts.{claim_at, walks_at, stepped-by}
@@ -11,7 +11,7 @@ use Rattle.mapworld_transitions.proofs.Slots.{calls-same, slots-same_free}
 use Rattle.mapworld_steps.proofs.Kept.{kept_here, stands_here, phase_here}
 use Rattle.std.proofs.lemmas.List.{length-map}
 use Rattle.std.proofs.lemmas.Option.{slice_get_within}
-use Rattle.mapworld_state.specs.Holds.{asks_for}
+use Rattle.mapworld_state.specs.declared.holds.Manner.{Manner}
 use Rattle.mapworld_state.specs.Shards.{shard_pairs}
 use Rattle.mapworld_state.specs.Walks.{walk_mode, hands_over}
 use Rattle.mapworld_state.proofs.LocksFacts.Sizes.{begins-size}
@@ -56,7 +56,7 @@ begin-requires g c =
           (may-enter c.requires.sound.holds _ _ c.requires.room.locks t p here (slice_get_within _ t p here)
           c.requires.out (p.shard + 1)
           (between-apart p (walk_mode c.in-Onward.walk) (hands_over c.in-Onward.walk) claim.2)
-          (subst (λ n. p.shard + 1 < n) (length-map core.tables.items shard_pairs) between.left) false
+          (subst (λ n. p.shard + 1 < n) (length-map core.tables.items shard_pairs) between.left) Manner.Waits
           (walk_mode c.in-Onward.walk));
     }
 

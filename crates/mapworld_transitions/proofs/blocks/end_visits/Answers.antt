@@ -1,9 +1,9 @@
-use Rattle.std.proofs.Common.{◌≡◌, ℕ, ◌+◌, List, ◌∷◌, ◌++◌, [], take, length, Some, slice_get, slice_set}
+use Rattle.std.proofs.Common.{◌≡◌, ◌+◌, ◌∷◌, ◌++◌, [], take, Some, slice_get, slice_set}
 use Rattle.std.proofs.Common.{slice_index_or, refl, ap, sym, ◌∙◌, subst, arith, take_all, length-set}
 use Rattle.std.proofs.lemmas.List.{take_more}
 use Rattle.std.proofs.lemmas.Option.{slice_get-get_or}
 use Rattle.mapworld_calls.specs.declared.block.Block.{Block}
-use Rattle.mapworld_state.specs.Moves.{EndsAt, EndsVisits}
+use Rattle.mapworld_state.specs.Moves.{EndsVisits}
 use Rattle.mapworld_transitions.proofs.Ending.{ends-more}
 use Rattle.mapworld_transitions.proofs.blocks.end_visits.Goals as goal
 

@@ -1,4 +1,4 @@
-use Rattle.std.proofs.Common.{◌≡◌, ◌≤◌, length, refl, sym, ◌∙◌, arith}
+use Rattle.std.proofs.Common.{sym, ◌∙◌, arith}
 use Rattle.dashmap_table.specs.Slots.{pairs_of}
 use Rattle.dashmap_table.proofs.Sounds.{length-pairs_of}
 use Rattle.mapworld_transitions.proofs.Counting.{counts-none, counts-all}

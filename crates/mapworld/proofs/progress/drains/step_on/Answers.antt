@@ -23,7 +23,7 @@ on-preserved g c =
     let y = setup_of g.D.Deed g.S.BuildHasher g.S.Hasher.Hasher g.K.PartialEq.eq g.K.Hash.hash_input w in
     let makes = MatchBool-at_true _ _ c.on-test.true c.step_once.ensures.made in
     let by = runs-on g.D.Deed g.S.BuildHasher g.S.Hasher.Hasher g.K.PartialEq.eq g.K.Hash.hash_input w0 w w' c.on.made 1
-    c.on.invariant.by (one-step y w (record { thread = c.args.thread; fair = false }) w' makes) in
+    c.on.invariant.by (one-step y w (record { thread = c.args.thread; fair = false; deadline = false }) w' makes) in
     record {
       by = by;
       falls = omega (
@@ -31,7 +31,7 @@ on-preserved g c =
         c.on.invariant.falls,
         falls-own g.D.Deed g.S.BuildHasher g.S.Hasher.Hasher g.K.PartialEq.eq
             g.K.Hash.hash_input g.met.K.Eq.laws g.met.K.Hash.respects_eq w
-            (record { thread = c.args.thread; fair = false }) w' makes,
+            (record { thread = c.args.thread; fair = false; deadline = false }) w' makes,
       );
       sound = c.step_once.ensures.sound;
       room = c.step_once.ensures.room;
@@ -47,7 +47,7 @@ on-smaller g c =
     omega (
       arith,
       falls-own g.D.Deed g.S.BuildHasher g.S.Hasher.Hasher g.K.PartialEq.eq g.K.Hash.hash_input
-          g.met.K.Eq.laws g.met.K.Hash.respects_eq w (record { thread = c.args.thread; fair = false })
+          g.met.K.Eq.laws g.met.K.Hash.respects_eq w (record { thread = c.args.thread; fair = false; deadline = false })
           (state_of c.step_once.new.core) makes,
     )
 

@@ -84,5 +84,8 @@ invariant_of-self g c =
 pub returns-clause-causes : goal.returns-clause-causes
 returns-clause-causes g c = (invariant_of-self g c).4.locked
 
+pub returns-clause-late : goal.returns-clause-late
+returns-clause-late g c = (invariant_of-self g c).4.missed
+
 pub returns-clause-reachable : goal.returns-clause-reachable
 returns-clause-reachable g c = (invariant_of-self g c).5

@@ -40,6 +40,10 @@ pub returns-clause-causes : goal.returns-clause-causes
 returns-clause-causes g c =
     rw (← c.self.view_is) c.self.invariant.4.locked
 
+pub returns-clause-late : goal.returns-clause-late
+returns-clause-late g c =
+    rw (← c.self.view_is) c.self.invariant.4.missed
+
 pub returns-clause-used : goal.returns-clause-used
 returns-clause-used g c =
     let w = state_of c.self.inside.core in

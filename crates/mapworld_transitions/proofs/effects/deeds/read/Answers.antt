@@ -1,7 +1,6 @@
 use Rattle.std.proofs.Common.{length, is_some, refl, sym, ap, ◌∙◌, arith, length-append, ◌+◌, ◌-◌}
 use Rattle.std.specs.Option.{option_map}
 use Rattle.std.proofs.lemmas.Option.{slice_get_within}
-use Rattle.std.proofs.lemmas.List.{map-set}
 use Rattle.dashmap_table.specs.Slots.{pair_of as entry_pair}
 use Rattle.mapworld_calls.specs.declared.reply.Answer.TheVariants as answer
 use Rattle.mapworld_state.specs.declared.place.Guard.TheVariants as guard

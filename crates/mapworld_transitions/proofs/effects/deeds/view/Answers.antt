@@ -1,7 +1,6 @@
 use Rattle.std.proofs.Common.{◌≡◌, ◌+◌, length, Some, refl, sym, ap, ap₂, ◌∙◌, arith, length-append, ◌-◌}
 use Rattle.std.specs.Option.{option_map}
 use Rattle.std.proofs.lemmas.Option.{slice_get_within, same_Some}
-use Rattle.std.proofs.lemmas.List.{map-set}
 use Rattle.dashmap_table.specs.Slots.{pair_of as entry_pair}
 use Rattle.mapworld_calls.specs.declared.reply.Answer.TheVariants as answer
 use Rattle.mapworld_state.specs.declared.place.Phase.TheVariants as phase

@@ -1,10 +1,8 @@
-use Rattle.std.proofs.Common.{◌+◌, ◌-◌, Some, inr, is_some, length, slice_set, refl, sym, ap, ◌∙◌, subst, arith}
-use Rattle.std.proofs.lemmas.Option.{none-some, same_Some}
+use Rattle.std.proofs.Common.{◌+◌, ◌-◌, Some, inr, length, slice_set, refl, sym, ap, ◌∙◌, arith}
+use Rattle.std.proofs.lemmas.Option.{none-some}
 use Rattle.std.proofs.lemmas.List.{map-set}
 use Rattle.mapworld_calls.specs.declared.reply.Answer.TheVariants as answer
 use Rattle.mapworld_calls.proofs.Lists.{slice_get-set_same}
-use Rattle.parking_lot_protocol.specs.declared.act.CoreAnswer.{CoreAnswer}
-use Rattle.mapworld_state.specs.Locks.Steps.{LockEnds}
 use Rattle.mapworld_state.proofs.LocksFacts.Sizes.{ends-size}
 use Rattle.mapworld_state.specs.Places.{place_of}
 use Rattle.mapworld_state.specs.Moves.{lent_way}
@@ -18,7 +16,7 @@ use Rattle.mapworld_transitions.proofs.Walking.{walking, plain-visits, plain-lis
 use Rattle.mapworld_transitions.proofs.Rooms.{moved}
 use Rattle.mapworld_transitions.proofs.Facts.{claim_at}
 use Rattle.mapworld_steps.proofs.Kept.{kept_here, stands_here, phase_here}
-use Rattle.mapworld_steps.proofs.queues.refuse_try.Goals as goal
+use Rattle.mapworld_steps.proofs.queues.refuse_call.Goals as goal
 
 pub returns-clause-locked : goal.returns-clause-locked
 returns-clause-locked g c =
@@ -26,14 +24,15 @@ returns-clause-locked g c =
     let t = c.args.thread in
     let b = c.requires.before.1 in
     let r = c.index_mut-place.result.now in
-    let lost = same_Some c.finish.result _ (sym c.finish.ensures.over ∙ c.requires.refused) in
     record {
       place = place_of r;
       stands = stands_here core.places.items b r c.index_mut-place.ensures.value;
       request = c.requires.before.0;
       before = phase_here core.places.items b r c.index_mut-place.ensures.value;
       locks = c.finish.new.self;
-      ends = subst (λ (a : CoreAnswer). LockEnds t a core.locks c.finish.new.self) lost c.finish.ensures;
+      ended = c.finish.result;
+      unowned = λ owned. c.requires.unowned (c.finish.ensures.over ∙ ap (λ a. Some a) owned);
+      ends = c.finish.ensures;
       after = ap (λ ps. record (state_of core) { places = ps; locks = c.finish.new.self })
           (map-set place_of core.places.items t _
           ∙ ap (λ f. slice_set (state_of core).places t (record (place_of r) { phase = f })) c.enter.ensures);

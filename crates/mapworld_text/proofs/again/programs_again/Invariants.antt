@@ -1,5 +1,5 @@
 use Rattle.std.proofs.Common.{◌≡◌, map, take}
-use Rattle.mapworld_explorer.proofs.again.programs_again.Given as goal
+use Rattle.mapworld_text.proofs.again.programs_again.Given as goal
 
 abbrev pub invariant-loop-program : goal.invariant-loop-program
 invariant-loop-program l =

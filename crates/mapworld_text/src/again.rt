@@ -1,8 +1,9 @@
 //! Programs once more, since a world takes those that it is made of.
 ghost use Rattle.std.specs.Prelude.{◌≡◌, map, IfOk};
 
+use crate::case::Asked;
+use crate::change::Change;
 use mapworld_calls::{Ask, Begin, Held, Keyed, Walk};
-use mapworld_text::{Asked, Change};
 use std::alloc::{AllocError, Global};
 
 /// A call on one key.
@@ -17,6 +18,8 @@ fn keyed_again(call: &Keyed<u64, u64, Change>) -> Keyed<u64, u64, Change>
         Keyed::Alter(key, deed) => Keyed::Alter(*key, *deed),
         Keyed::View(key, deed) => Keyed::View(*key, *deed),
         Keyed::ContainsKey(key) => Keyed::ContainsKey(*key),
+        Keyed::InsertUntil(key, value) => Keyed::InsertUntil(*key, *value),
+        Keyed::RemoveUntil(key) => Keyed::RemoveUntil(*key),
     }
 }
 
@@ -31,6 +34,8 @@ fn begin_again(call: &Begin<u64>) -> Begin<u64>
         Begin::TryGet(key) => Begin::TryGet(*key),
         Begin::TryGetMut(key) => Begin::TryGetMut(*key),
         Begin::TryEntry(key) => Begin::TryEntry(*key),
+        Begin::GetUntil(key) => Begin::GetUntil(*key),
+        Begin::GetMutUntil(key) => Begin::GetMutUntil(*key),
     }
 }
 
@@ -92,11 +97,12 @@ fn program_again(alloc: Global, program: &[Asked]) -> Result<Vec<Asked>, AllocEr
     Ok(again)
 }
 
-/// All programs.
-pub(crate) fn programs_again(
-    alloc: Global,
-    programs: &[Vec<Asked>],
-) -> Result<Vec<Vec<Asked>>, AllocError>
+/// All programs once more, for a world that is made of them while the text's own stay. `AllocError` for want of memory.
+///
+/// ```text
+/// let world = MapWorld::new(alloc, 2, hasher, pairs, programs_again(alloc, &case.programs)?)?;
+/// ```
+pub fn programs_again(alloc: Global, programs: &[Vec<Asked>]) -> Result<Vec<Vec<Asked>>, AllocError>
     ensures { IfOk result
         (λ again. map (λ program. program.items) again.items ≡ map (λ program. program.items) programs.now) }
 {
