@@ -62,7 +62,8 @@ module _ {X : Type 0} (to : X → ℕ) where
   kept-rest P true x l h = All-tail P x l h
   kept-rest P false x l h = h
 
-  all-kept : (P : X → Type 0) (n : ℕ) (xs : List X) → All (λ x. to x < n) xs
+  -- what holds of each that belongs to one of some numbers holds of each
+  pub all-kept : (P : X → Type 0) (n : ℕ) (xs : List X) → All (λ x. to x < n) xs
       → ((k : ℕ) → k < n → All P (filter (λ x. nat_eq (to x) k) xs)) → All P xs
   all-kept P n [] below h = All-nil P
   all-kept P n (x ∷ xs) below h =
@@ -73,13 +74,3 @@ module _ {X : Type 0} (to : X → ℕ) where
       (h (to x) (All-head (λ y. to y < n) x xs below))))
       (all-kept P n xs (All-tail (λ y. to y < n) x xs below)
       (λ k lt. kept-rest P (nat_eq (to x) k) x (filter (λ y. nat_eq (to y) k) xs) (h k lt)))
-
-  -- what holds of each item of each list holds of each item
-  pub dealt-all : {A : Type 0} (P : X → Type 0) (xs : List X) (lists : List (Vec X A)) → AreDealt to xs lists
-      → All (λ l. All P l.items) lists → All P xs
-  dealt-all P xs lists dealt h =
-      all-kept P (length lists) xs dealt.below
-      (λ k lt. let d = some-of lists (some k lt) in subst (All P) (dealt.each k d lt) (h k d lt))
-    where
-      some : (k : ℕ) → k < length lists → 0 < length lists
-      some k lt = omega (arith, lt)

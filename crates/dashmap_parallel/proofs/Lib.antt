@@ -1,4 +1,5 @@
 mod Cutting
 mod Dealing
 pub mod Gathering
+mod Giving
 pub mod Putting

@@ -1,3 +1,4 @@
 pub mod Faults
+pub mod Gifts
 pub mod Puts
 pub mod Visits

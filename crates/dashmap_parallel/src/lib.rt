@@ -10,6 +10,7 @@ mod deal;
 mod extend;
 mod fault;
 mod gather;
+mod gifts;
 mod lent;
 mod parallel;
 mod pieces;

@@ -1,11 +1,11 @@
 //! Pairs that are put into a shared map, each under an exclusive hold of its shard.
-ghost use Rattle.std.specs.Prelude.{◌≡◌, ◌<◌, Some, length, slice_get, All, MatchResult};
+ghost use Rattle.std.specs.Prelude.{◌≡◌, ◌<◌, Some, length, slice_get, MatchResult};
 ghost use Rattle.std.specs.Option.{option_map};
 ghost use Rattle.crossbeam_utils.specs.Padded.{padded_value};
 ghost use Rattle.dashmap_table.specs.Route.{IsShardAmount};
 ghost use Rattle.dashmap_table.specs.Table.{PutsIn};
-ghost use Rattle.dashmap_iter.specs.Walks.Held.{WhileHeld};
-ghost use Rattle.dashmap_parallel.specs.Puts.{FindsNoRoom, PutAt, RefusedAt, PutUpTo};
+ghost use Rattle.dashmap_map.specs.Evidence.{UnderLock};
+ghost use Rattle.dashmap_parallel.specs.Puts.{FindsNoRoom, PutAt, RefusedAt, PutInTurn, PutUpTo};
 
 use crossbeam_utils::CachePadded;
 use dashmap_map::held::insert_into;
@@ -42,8 +42,8 @@ fn put_behind<K: Eq + Hash + Drop, V: Drop, Q: Evidence<Shard<K, V, A>>, A: Allo
 where
     Q::Runtime: Wait,
     ensures { MatchResult result
-        (λ _. WhileHeld Q.held lock.now (λ old new. PutsIn K.eq old new hash key value))
-        (λ _. WhileHeld {V = V} Q.held lock.now
+        (λ _. UnderLock Q.held (Some lock.now) td.old td.new (λ old new. PutsIn K.eq old new hash key value))
+        (λ _. UnderLock {V = V} Q.held (Some lock.now) td.old td.new
         (λ old new. FindsNoRoom K.eq old new hash key)) }
 {
     let mut shard = write_traced(lock, td);
@@ -75,14 +75,14 @@ where
     Q::Runtime: Wait,
     requires { IsShardAmount (length locks.now) }
     ensures { MatchResult result
-        (λ _. PutAt K.eq Q.held locks.now (hash, key, value))
-        (λ _. RefusedAt K.eq Q.held locks.now (hash, key, value)) }
+        (λ _. PutAt K.eq Q.held locks.now td.old (hash, key, value) td.new)
+        (λ _. RefusedAt K.eq Q.held locks.now td.old (hash, key, value) td.new) }
 {
     let shard = route(hash, locks.len());
     put_behind(lock_behind(locks, shard), td, hash, key, value)
 }
 
-/// Puts pairs in, each behind its hash, one after another, up to the first that is refused.
+/// Puts pairs in, each behind its hash, by one hold after another, up to the first that is refused.
 pub(crate) fn put_each<
     K: Eq + Hash + Drop,
     V: Drop,
@@ -97,8 +97,8 @@ where
     Q::Runtime: Wait,
     requires { IsShardAmount (length locks.now) }
     ensures { MatchResult result
-        (λ _. All (PutAt K.eq Q.held locks.now) pairs.items)
-        (λ _. PutUpTo K.eq Q.held locks.now pairs.items) }
+        (λ _. PutInTurn K.eq Q.held locks.now td.old pairs.items td.new)
+        (λ _. PutUpTo K.eq Q.held locks.now td.old pairs.items td.new) }
 {
     for (hash, key, value) in pairs {
         put_one(locks, td, hash, key, value)?;

@@ -1,19 +1,18 @@
 use Rattle.std.proofs.Common.{ℕ, length, drop, ◌+◌, sym, ◌∙◌, subst}
-use Rattle.std.specs.Prelude.{All}
 use Rattle.std.proofs.lemmas.List.{map-id}
-use Rattle.std.proofs.lemmas.List.Elements.{All-push}
+use Rattle.std.proofs.lemmas.Fn.{FoldsTo-push}
 use Rattle.std.proofs.lemmas.Result.{err_from_is_err_and}
 use Rattle.std.proofs.lemmas.Iterator.Adapters.{YieldsList-from_vec}
 use Rattle.std.proofs.lemmas.Iterator.Consumers.{YieldsList-end, YieldsList-turn, YieldsList-so_far}
-use Rattle.dashmap_parallel.specs.Puts.{PutAt}
+use Rattle.dashmap_parallel.specs.Puts.{PutAt, PutInTurn}
 use Rattle.dashmap_parallel.proofs.Putting.{stops-at, at-refusal}
 use Rattle.dashmap_parallel.proofs.put.put_each.Goals as goal
 
 pub loop-hash-preserved : goal.loop-hash-preserved
 loop-hash-preserved g c =
     let x : ℕ × g.row.K.Denot × g.row.V.Denot = (c.in-Some.hash, c.in-Some.key, c.in-Some.value) in
-    All-push (PutAt g.K.PartialEq.eq g.Q.Evidence.held
-    c.args.locks.now) c.loop-hash.yielded x c.loop-hash.invariant c.in_ok-put_one.ensures
+    FoldsTo-push (PutAt g.K.PartialEq.eq g.Q.Evidence.held c.args.locks.now) c.args.td.now c.loop-hash.yielded
+    c.loop-hash.td x c.put_one.new.td c.loop-hash.invariant c.in_ok-put_one.ensures
 
 pub returns-in_err-put_one : goal.returns-in_err-put_one
 returns-in_err-put_one g c =
@@ -29,6 +28,7 @@ returns-in_err-put_one g c =
       done,
       x,
       drop (length done + 1) c.args.pairs.items,
+      c.loop-hash.td,
       stops-at c.args.pairs.items done x (sym (map-id done) ∙ so_far)
           t.0 t.1,
       c.loop-hash.invariant,
@@ -41,5 +41,5 @@ returns g c =
     let e = YieldsList-end (YieldsList-from_vec c.args.pairs.items i.0 (i.1 ∙ c.args.pairs.ok.0)) c.loop-hash.yielded
     c.loop-hash.hash-iterator c.loop-hash.yielded_by c.next.result c.next.new.self c.in-None.is c.next.ensures.steps
     in
-    subst (All (PutAt g.K.PartialEq.eq g.Q.Evidence.held
-    c.args.locks.now)) (sym (map-id c.loop-hash.yielded) ∙ e.0) c.loop-hash.invariant
+    subst (λ xs. PutInTurn g.K.PartialEq.eq g.Q.Evidence.held c.args.locks.now c.args.td.now xs c.loop-hash.td)
+    (sym (map-id c.loop-hash.yielded) ∙ e.0) c.loop-hash.invariant
