@@ -1,13 +1,12 @@
 -- Items that are dealt out to lists, one after another.
 use Rattle.std.proofs.Common.{◌≡◌, ℕ, ◌<◌, Bool, true, false, cond, nat_eq, List, [], ◌∷◌, ◌++◌, length, filter}
-use Rattle.std.proofs.Common.{slice_index_or, slice_set, refl, sym, ap, ◌∙◌, subst, append-nil, inl, inr, eq-eqb, arith}
+use Rattle.std.proofs.Common.{slice_index_or, slice_set, refl, sym, ap, ◌∙◌, subst, append-nil, inl, inr, eq-eqb}
 use Rattle.std.specs.Prelude.{All}
 use Rattle.std.specs.declared.vec.Vec.{Vec}
 use Rattle.std.proofs.lemmas.Bool.{cases_eq, ne_eqb, cond-true, cond-false}
 use Rattle.std.proofs.lemmas.List.{length-set, get_or-set_same, get_or-set_other}
 use Rattle.std.proofs.lemmas.List.Elements.{All-nil, All-cons, All-head, All-tail, All-push, filter-append}
 use Rattle.dashmap_parallel.specs.Puts.{AreDealt}
-use Rattle.dashmap_parallel.proofs.Cutting.{some-of}
 
 module _ {X : Type 0} (to : X → ℕ) where
   -- what is kept of one item

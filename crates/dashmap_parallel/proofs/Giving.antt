@@ -1,5 +1,5 @@
 -- Items and what stands beside each.
-use Rattle.std.proofs.Common.{◌≡◌, ℕ, zero, ◌+◌, ◌-◌, ◌<◌, List, [], ◌∷◌, ◌++◌, length, slice_index_or, slice_set}
+use Rattle.std.proofs.Common.{◌≡◌, ◌+◌, ◌-◌, ◌<◌, List, [], ◌∷◌, ◌++◌, length, slice_index_or, slice_set}
 use Rattle.std.proofs.Common.{Some, None, Ok, Err, OnOk, refl, sym, ap, ap₂, ◌∙◌, subst, inl, inr, arith}
 use Rattle.std.specs.Option.{IsSomeAnd}
 use Rattle.std.specs.Borrow.{MutBor}
@@ -67,9 +67,10 @@ module _ {X D : Type 0} (R : D → X → D → Type 0) where
   beside-taken r None all xs whole a b a' b' cut is short long = elim is [ ]
 
 -- what a closure did that was given an item and a party
-pub took-one : {F X D E : Type 0} (g : Shared F (X × (MutBor D × Unit {0})) (Result (Unit {0}) E × (MutBor D × Unit {0})))
-    (f : F) (o : Option X) (x : X) (old : List D) (d : D) (party left : MutBor D) (r : Result (Unit {0}) E) → o ≡ Some x
-    → length old ≡ 1 → party.now ≡ slice_index_or old 0 d → FnReturns g f (x, (party, tt)) (r, (left, tt))
+pub took-one : {F X D E : Type 0}
+    (g : Shared F (X × (MutBor D × Unit {0})) (Result (Unit {0}) E × (MutBor D × Unit {0}))) (f : F) (o : Option X)
+    (x : X) (old : List D) (d : D) (party left : MutBor D) (r : Result (Unit {0}) E) → o ≡ Some x → length old ≡ 1
+    → party.now ≡ slice_index_or old 0 d → FnReturns g f (x, (party, tt)) (r, (left, tt))
     → OnOk r (IsSomeAnd o (λ x. EachBeside (TookOn g f) (x ∷ []) old (slice_set old 0 left.now)))
 took-one {F} {X} {D} g f o x old d party left (Ok u) is long shows says =
     let there : 0 < length old = omega (arith, long) in

@@ -1,7 +1,7 @@
 -- Up to which pair pairs are put in, in which turn, and what was answered.
-use Rattle.std.proofs.Common.{◌≡◌, ℕ, ◌+◌, ◌<◌, Bool, true, false, cond, nat_eq, List, [], ◌∷◌, ◌++◌, length, map, filter}
-use Rattle.std.proofs.Common.{slice_index_or, Ok, Err, OnOk, MatchResult, get_or, take, drop, refl, sym, ap, ◌∙◌, subst}
-use Rattle.std.proofs.Common.{arith}
+use Rattle.std.proofs.Common.{◌≡◌, ℕ, ◌+◌, ◌<◌, Bool, true, false, cond, nat_eq, List, [], ◌∷◌, ◌++◌, length, map}
+use Rattle.std.proofs.Common.{filter, slice_index_or, Ok, Err, OnOk, MatchResult, get_or, take, drop, refl, sym, ap}
+use Rattle.std.proofs.Common.{◌∙◌, subst, arith}
 use Rattle.std.specs.Prelude.{All}
 use Rattle.std.specs.List.{FoldsTo}
 use Rattle.std.specs.Hash.{HashWrites}
@@ -76,7 +76,7 @@ module _ {K V Q S H Party : Type 0} (b : builder.Ghosts S H) (h : hasher.Ghosts 
       → AreDealt (piece_at (length m.locks) (length old)) (map (hashed b h input m.hasher) pairs) lists
       → OnOk r (EachBeside (TookOn g f) lists old new)
       → ((v : Vec (ℕ × K × V) A) (party left : MutBor Party) → FnReturns g f (v, (party, tt)) (Ok tt, (left, tt))
-        → PutInTurn eq held m.locks party.now v.items left.now)
+      → PutInTurn eq held m.locks party.now v.items left.now)
       → OnOk r (PutInPieces b h input eq held m pairs old new)
   pieces-put {A} r pairs lists old new long dealt each puts =
       let n = length old in

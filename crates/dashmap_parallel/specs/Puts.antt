@@ -41,8 +41,8 @@ piece_at shards pieces x = piece_number shards pieces (route_of x.0 shards)
 
 module _ {K V Q Party : Type 0} (eq : K → K → Bool) (held : Q → Party → Party → Table K V → Table K V → Type 0)
     (locks : List (CachePadded Q)) where
-  -- that lock of some shards to which a hash leads was held exclusively, by the wait that took the party on, and P holds
-  -- between what it found and what it left
+  -- that lock of some shards to which a hash leads was held exclusively, by the wait that took the party on, and P
+  -- holds between what it found and what it left
   abbrev pub AtLockOf : ℕ → Party → Party → (Table K V → Table K V → Type 0) → Type 0
   AtLockOf hash from to P =
       UnderLock held (option_map padded_value (slice_get locks (route_of hash (length locks)))) from to P
