@@ -1,7 +1,7 @@
 //! Extension of a shared set by several threads.
 ghost use Rattle.std.specs.Prelude.{◌≡◌, ◌<◌, ◌↔◌, length, map, All, IfOk, OnOk, MatchResult};
 ghost use Rattle.dashmap_parallel.specs.declared.fault.ParExtendFault.{ParExtendFault};
-ghost use Rattle.dashmap_parallel.specs.Puts.{WasPut};
+ghost use Rattle.dashmap_parallel.specs.Puts.{WasPut, PutInPieces};
 
 use crate::set::DashSet;
 use dashmap_map::parts::allocator;
@@ -56,6 +56,9 @@ where
         A: Clone + Send + Sync,
         ensures threads { MatchResult result (λ _. 0 < length tds.old)
             (λ fault. (fault ≡ ParExtendFault.NoThreadData) ↔ (length tds.old ≡ 0)) }
+        ensures turns { OnOk result
+            (PutInPieces {V = Unit {0}} S.BuildHasher S.Hasher.Hasher K.hash_input K.eq Q.held self.now
+            (map (λ k. (k, tt)) keys.items) tds.old tds.new) }
         ensures put { OnOk result
             (All (λ k. WasPut {V = Unit {0}} S.BuildHasher S.Hasher.Hasher K.hash_input K.eq Q.held self.now (k, tt))
             keys.items) }
