@@ -7,7 +7,8 @@ ghost use Rattle.dashmap_parallel.specs.Gifts.{TookOn, EachBeside};
 use std::alloc::Allocator;
 use std::thread::{Threads, join_mut};
 
-/// Items of which the last can be taken.
+/// Items of which the last can be taken. What is below is generic in it, and not over a `Vec` of items: there the borrow
+/// checker doesn't cover yet a closure that lends such an item, beside one that lends what is left.
 pub(crate) trait Stack<X> {
     /// The items.
     ghost rest: { Self → List X };
