@@ -1,4 +1,6 @@
 use Rattle.std.proofs.Common.{◌≡◌, ◌∙◌, sym, ap, subst, ℕ, Some, List, Option}
+use Rattle.std.proofs.Common.{length}
+use Rattle.parking_lot_core_model.specs.Buckets.{slot}
 use Rattle.parking_lot_core_model.specs.declared.place.Place.{Place}
 use Rattle.parking_lot_core_model.specs.declared.place.Place.TheVariants.{Taken}
 use Rattle.parking_lot_core_model.specs.Places.{place_at}
@@ -12,11 +14,15 @@ invariant_of-self g c =
     let p : Parts = record {
       number = l.number;
       max_threads = l.max_threads;
+      paired = l.paired;
       sleeps = l.sleeps;
       waiting = l.waiting.entries.items;
       owned = l.owned.entries.items;
       places = l.places.items;
-      section = l.section;
+      buckets = length l.buckets.by_bucket.items;
+      sections = slot l.buckets.by_bucket.items;
+      inside = slot l.buckets.by_thread.items;
+      seats = length l.buckets.by_thread.items;
     }
     in
     let t = c.in-Some-Taken in

@@ -1,6 +1,8 @@
 use Rattle.std.proofs.Common.{◌≡◌, ◌∙◌, ◌∷◌, ◌++◌, ◌+◌, [], sym, ap, subst, refl, ℕ, Some, None, is_some, List, Option}
 use Rattle.std.proofs.Common.{slice_get, slice_set, map, remove, true, false, cond, arith}
 use Rattle.std.specs.Option.{option_map, IsSome}
+use Rattle.std.proofs.Common.{length}
+use Rattle.parking_lot_core_model.specs.Buckets.{slot}
 use Rattle.parking_lot_core_model.specs.declared.place.Place.{Place}
 use Rattle.parking_lot_core_model.specs.declared.place.Place.TheVariants.{Running, Waiting, Held, Taken}
 use Rattle.parking_lot_core_model.specs.declared.place.Section.{Section}
@@ -18,11 +20,15 @@ invariant_of-self g c =
     let p : Parts = record {
       number = l.number;
       max_threads = l.max_threads;
+      paired = l.paired;
       sleeps = l.sleeps;
       waiting = l.waiting.entries.items;
       owned = l.owned.entries.items;
       places = l.places.items;
-      section = l.section;
+      buckets = length l.buckets.by_bucket.items;
+      sections = slot l.buckets.by_bucket.items;
+      inside = slot l.buckets.by_thread.items;
+      seats = length l.buckets.by_thread.items;
     }
     in
     let h = c.in-Some.ensures in
@@ -38,11 +44,15 @@ invariant_of-self-in_default g c =
     let p : Parts = record {
       number = l.number;
       max_threads = l.max_threads;
+      paired = l.paired;
       sleeps = l.sleeps;
       waiting = l.waiting.entries.items;
       owned = l.owned.entries.items;
       places = l.places.items;
-      section = l.section;
+      buckets = length l.buckets.by_bucket.items;
+      sections = slot l.buckets.by_bucket.items;
+      inside = slot l.buckets.by_thread.items;
+      seats = length l.buckets.by_thread.items;
     }
     in
     let h = c.in_default.ensures in
@@ -54,11 +64,15 @@ returns-in-Some g c =
     let p : Parts = record {
       number = l.number;
       max_threads = l.max_threads;
+      paired = l.paired;
       sleeps = l.sleeps;
       waiting = l.waiting.entries.items;
       owned = l.owned.entries.items;
       places = l.places.items;
-      section = l.section;
+      buckets = length l.buckets.by_bucket.items;
+      sections = slot l.buckets.by_bucket.items;
+      inside = slot l.buckets.by_thread.items;
+      seats = length l.buckets.by_thread.items;
     }
     in
     let h = c.in-Some.ensures in
@@ -72,11 +86,15 @@ returns-in_default g c =
     let p : Parts = record {
       number = l.number;
       max_threads = l.max_threads;
+      paired = l.paired;
       sleeps = l.sleeps;
       waiting = l.waiting.entries.items;
       owned = l.owned.entries.items;
       places = l.places.items;
-      section = l.section;
+      buckets = length l.buckets.by_bucket.items;
+      sections = slot l.buckets.by_bucket.items;
+      inside = slot l.buckets.by_thread.items;
+      seats = length l.buckets.by_thread.items;
     }
     in
     let h = c.in_default.ensures in

@@ -1,5 +1,6 @@
 use Rattle.std.proofs.Common.{◌≡◌, ◌∙◌, ◌∷◌, ◌++◌, [], ◌<◌, ◌≤◌, ℕ, length, sym, ap, subst, refl, Some, None, is_some}
 use Rattle.std.proofs.Common.{List, Option, slice_set, true, false, cond, arith}
+use Rattle.parking_lot_core_model.specs.Buckets.{slot}
 use Rattle.parking_lot_core_model.specs.declared.place.Place.{Place}
 use Rattle.parking_lot_core_model.specs.declared.place.Place.TheVariants.{Running}
 use Rattle.parking_lot_core_model.specs.Lists.{lists_of, updated}
@@ -14,11 +15,15 @@ invariant_of-self g c =
     let p : Parts = record {
       number = l.number;
       max_threads = l.max_threads;
+      paired = l.paired;
       sleeps = l.sleeps;
       waiting = l.waiting.entries.items;
       owned = l.owned.entries.items;
       places = l.places.items;
-      section = l.section;
+      buckets = length l.buckets.by_bucket.items;
+      sections = slot l.buckets.by_bucket.items;
+      inside = slot l.buckets.by_thread.items;
+      seats = length l.buckets.by_thread.items;
     }
     in
     let n : c.free_number-thread.result ≡ free_number p.places = c.free_number-thread.ensures
@@ -35,11 +40,15 @@ returns-then-thread-len-clause-ok g c =
     let p : Parts = record {
       number = l.number;
       max_threads = l.max_threads;
+      paired = l.paired;
       sleeps = l.sleeps;
       waiting = l.waiting.entries.items;
       owned = l.owned.entries.items;
       places = l.places.items;
-      section = l.section;
+      buckets = length l.buckets.by_bucket.items;
+      sections = slot l.buckets.by_bucket.items;
+      inside = slot l.buckets.by_thread.items;
+      seats = length l.buckets.by_thread.items;
     }
     in
     let n : c.free_number-thread.result ≡ free_number p.places = c.free_number-thread.ensures
@@ -59,11 +68,15 @@ invariant_of-self-2 g c =
     let p : Parts = record {
       number = l.number;
       max_threads = l.max_threads;
+      paired = l.paired;
       sleeps = l.sleeps;
       waiting = l.waiting.entries.items;
       owned = l.owned.entries.items;
       places = l.places.items;
-      section = l.section;
+      buckets = length l.buckets.by_bucket.items;
+      sections = slot l.buckets.by_bucket.items;
+      inside = slot l.buckets.by_thread.items;
+      seats = length l.buckets.by_thread.items;
     }
     in
     let n : c.free_number-thread.result ≡ free_number p.places = c.free_number-thread.ensures
