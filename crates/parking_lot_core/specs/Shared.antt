@@ -44,8 +44,8 @@ waits_in m thread = option_map_or is_waiting (place_at m.places thread) false
 abbrev pub is_taken : Place → Bool
 is_taken Running = false
 is_taken (Waiting key sleep) = false
-is_taken (Held sleep) = false
-is_taken (Taken token sleep woken) = true
+is_taken (Held key sleep) = false
+is_taken (Taken token key sleep woken) = true
 
 abbrev pub taken_in : Machine → ℕ → Bool
 taken_in m thread = option_map_or is_taken (place_at m.places thread) false

@@ -3,7 +3,8 @@
 //! No clause can name what a lock guards. So each call on a [`ParkingLot`](crate::ParkingLot) takes the lock and calls
 //! one of the functions here, whose clauses say what it does.
 ghost use Rattle.std.specs.Prelude.{◌≡◌, ◌<◌, ◌+◌, ◌%◌, ◌==◌, ◌⊎◌, IfOk, IfErr, IfSome, IsSome, Some, Err, true, []};
-ghost use Rattle.parking_lot_core_model.specs.Machine.{machine, free_number, busy, enter_fault, resume_fault};
+ghost use Rattle.parking_lot_core_model.specs.Machine.{machine, free_number, busy, either_busy, enter_fault};
+ghost use Rattle.parking_lot_core_model.specs.Machine.{resume_fault};
 ghost use Rattle.parking_lot_core_model.specs.Machine.{retire_fault, registered, retired, Does, Makes};
 ghost use Rattle.parking_lot_core_model.specs.Operations.{Parks, Resumes, UnparksOne, UnparksAll, UnparksByFilter};
 ghost use Rattle.parking_lot_core_model.specs.Operations.{UnparksAndRequeues};
@@ -64,7 +65,7 @@ impl<A: Allocator> State<A> {
     fn is_taken(&self, thread: usize) -> bool
         ensures { result ≡ taken_in (machine self.now.lot) thread }
     {
-        matches!(self.lot.place(thread), Some(Place::Taken(_, _, _)))
+        matches!(self.lot.place(thread), Some(Place::Taken(_, _, _, _)))
     }
 
     /// Wakes a thread that was taken. One that is to sleep on isn't woken.
@@ -119,7 +120,7 @@ impl<A: Allocator> State<A> {
     ) -> Result<Option<ParkResult>, LotFault>
         requires { V.IsAlwaysCallable validate }
         ensures sound { Sound (machine self.old.lot) }
-        ensures lot { Does (λ m. enter_fault m thread) (Parks (V.post validate) thread key park_token timed)
+        ensures lot { Does (λ m. enter_fault m thread key) (Parks (V.post validate) thread key park_token timed)
             (machine self.old.lot) result (machine self.new.lot) }
         ensures turns { self.new.turns ≡ self.old.turns }
     {
@@ -162,7 +163,7 @@ impl<A: Allocator> State<A> {
     ) -> Result<UnparkResult, LotFault>
         requires { C.IsAlwaysCallable callback }
         ensures sound { Sound (machine self.old.lot) }
-        ensures lot { Does busy (UnparksOne (self.new.turns == 0) (C.post callback) key) (machine self.old.lot) result
+        ensures lot { Does (busy key) (UnparksOne (self.new.turns == 0) (C.post callback) key) (machine self.old.lot) result
             (machine self.new.lot) }
         ensures turns { self.new.turns ≡ (self.old.turns + 1) % 64 }
     {
@@ -174,7 +175,7 @@ impl<A: Allocator> State<A> {
     /// Takes all waiters of a key and wakes them.
     pub fn unpark_all(&mut self, key: usize, unpark_token: UnparkToken) -> Result<usize, LotFault>
         ensures sound { Sound (machine self.old.lot) }
-        ensures lot { Does busy (UnparksAll unpark_token key) (machine self.old.lot) result (machine self.new.lot) }
+        ensures lot { Does (busy key) (UnparksAll unpark_token key) (machine self.old.lot) result (machine self.new.lot) }
         ensures turns { self.new.turns ≡ self.old.turns }
     {
         self.lot.known();
@@ -196,7 +197,7 @@ impl<A: Allocator> State<A> {
         requires filter { F.IsAlwaysCallable filter }
         requires callback { C.IsAlwaysCallable callback }
         ensures sound { Sound (machine self.old.lot) }
-        ensures lot { Does busy (UnparksByFilter (self.new.turns == 0) F.step filter (C.post callback) key)
+        ensures lot { Does (busy key) (UnparksByFilter (self.new.turns == 0) F.step filter (C.post callback) key)
             (machine self.old.lot) result (machine self.new.lot) }
         ensures turns { self.new.turns ≡ (self.old.turns + 1) % 64 }
     {
@@ -221,7 +222,7 @@ impl<A: Allocator> State<A> {
         requires validate { V.IsAlwaysCallable validate }
         requires callback { C.IsAlwaysCallable callback }
         ensures sound { Sound (machine self.old.lot) }
-        ensures lot { Does busy (UnparksAndRequeues (V.post validate) (C.post callback) key_from key_to)
+        ensures lot { Does (either_busy key_from key_to) (UnparksAndRequeues (V.post validate) (C.post callback) key_from key_to)
             (machine self.old.lot) result (machine self.new.lot) }
         ensures turns { self.new.turns ≡ self.old.turns }
     {

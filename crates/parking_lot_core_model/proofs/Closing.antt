@@ -1,5 +1,5 @@
 -- What a lot's fields owe as they change.
-use Rattle.std.proofs.Common.{◌≡◌, ℕ, ◌+◌, ◌≤◌, Bool, true, false, List, [], Option, Some, None, slice_set, refl, sym}
+use Rattle.std.proofs.Common.{◌≡◌, ℕ, ◌+◌, ◌<◌, ◌≤◌, Bool, true, false, List, [], Option, Some, None, slice_set, refl, sym}
 use Rattle.std.proofs.Common.{ap, ◌∙◌, subst, arith, is_some, cond, ◌∷◌, ◌++◌, ◌%◌, ◌^◌, map, remove, slice_get, length}
 use Rattle.std.proofs.Common.{position, eq-eqb, eqb-true, ◌==◌}
 use Rattle.std.proofs.lemmas.Bool.{false≢true}
@@ -17,27 +17,43 @@ use Rattle.parking_lot_core_model.specs.declared.place.Place.{Place}
 use Rattle.parking_lot_core_model.specs.declared.place.Place.TheVariants.{Running, Waiting, Held, Taken}
 use Rattle.parking_lot_core_model.specs.declared.place.Waiter.{Waiter}
 use Rattle.parking_lot_core_model.specs.Places.{place_at, is_waiting, is_held, is_near, waits_at, late, roused}
-use Rattle.parking_lot_core_model.specs.Places.{status_of}
+use Rattle.parking_lot_core_model.specs.Places.{status_of, may_return}
 use Rattle.parking_lot_core_model.specs.Places.{may_join, told, held, moved_to, changed}
 use Rattle.parking_lot_core_model.specs.Machine.{Parts, Machine, machine, status_at, runs, is_in, token_of}
-use Rattle.parking_lot_core_model.specs.Machine.{retire_fault, joined, moved, moved_first, is_thread, closed, open_at, let_in}
+use Rattle.parking_lot_core_model.specs.Machine.{retire_fault, return_fault, joined, moved, moved_first, is_thread, opened}
+use Rattle.parking_lot_core_model.specs.Machine.{closed, open_at}
 use Rattle.parking_lot_core_model.specs.Lists.{lists_of, updated, without_first, total, room}
+use Rattle.parking_lot_core_model.specs.Buckets.{slot}
 use Rattle.std.specs.List.{position_or_len}
 use Rattle.std.proofs.lemmas.Option.{slice_get_within}
 use Rattle.parking_lot_core_model.specs.Sound.{Sound, Room, IsOpen, times_at}
 use Rattle.parking_lot_core_model.proofs.Entering.{some≢none, IsOutside}
-use Rattle.parking_lot_core_model.proofs.Sounds.{sound_place, sound_owned, sound_retired, sound_section, sound_within}
+use Rattle.parking_lot_core_model.proofs.Sounds.{sound_place, sound_owned, sound_retired}
 use Rattle.parking_lot_core_model.proofs.Sounds.{sound_closed, sound_joined, sound_left, sound_relisted, waiter_place}
-use Rattle.parking_lot_core_model.proofs.Sounds.{waits_outside}
+use Rattle.parking_lot_core_model.proofs.Sounds.{waits_outside, sound_returned, returned_as}
+use Rattle.parking_lot_core_model.proofs.Outcomes.{entering}
 use Rattle.parking_lot_core_model.proofs.Kept.{updated_past}
-use Rattle.parking_lot_core_model.proofs.Rooms.{room_next, waits}
+use Rattle.parking_lot_core_model.proofs.Rooms.{room_next, seated, waits}
 use Rattle.parking_lot_core_model.proofs.Numbers.{flag, first_passes, position_passes, count_by-map_same}
 use Rattle.parking_lot_core_model.proofs.Numbers.{slice_get_none}
 use Rattle.std.proofs.lemmas.List.{length-map}
 
+-- the machine with its buckets kept so
+pub same_kept : (m : Machine) (count : ℕ) (sections ss : ℕ → Option Section) (inside is : ℕ → Option ℕ)
+    → count ≡ m.buckets → sections ≡ ss → inside ≡ is
+    → record m { buckets = count; sections = sections; inside = inside } ≡ record m { sections = ss; inside = is }
+same_kept m count sections ss inside is e f g =
+    ap (λ (b : ℕ). record m { buckets = b; sections = sections; inside = inside }) e
+    ∙ (ap (λ (x : ℕ → Option Section). record m { sections = x; inside = inside }) f
+    ∙ ap (λ (x : ℕ → Option ℕ). record m { sections = ss; inside = x }) g)
+
+-- a section of a thread that came back
+abbrev pub back_in : ℕ → ℕ → Section
+back_in t key = record { thread = Some t; key = key; phase = phase.Joined; token = record { 0 = 0 } }
+
 -- what is owed of all fields
 abbrev pub Owed : {A : Type 0} → Parts → Lists Waiter A → Type 0
-Owed parts waiting = Sound (machine parts) × Room waiting parts.places parts.max_threads parts.seats
+Owed parts waiting = Sound (machine parts) × Room waiting parts.places parts.max_threads (length parts.by_thread)
 
 waiting≢running : {key : ℕ} {s : Sleep} → Waiting key s ≡ Running → ⊥
 waiting≢running e = cc
@@ -93,7 +109,7 @@ module _ {A : Type 0} (p : Parts) (w : Lists Waiter A) where
       → Owed (record p { places = slice_set p.places t (Some new) }) w
   placed t old new h at waits waiting free near runs = (
     sound_place (machine p) t old new h.0 at waits free near runs,
-    room_next w w p.places p.max_threads p.seats t old (Some new) h.1 at refl
+    room_next w w p.places p.max_threads (length p.by_thread) t old (Some new) h.1 at refl
         (let e : flag (is_waiting new) ≡ flag (is_waiting old) = ap flag waiting in omega arith),
   )
 
@@ -144,53 +160,60 @@ module _ {A : Type 0} (p : Parts) (w : Lists Waiter A) where
         subst (λ (resources : ℕ → List ℕ). Sound
             (record (machine p) { resources = resources; places = slice_set p.places t None })) (sym e)
             (sound_retired (machine p) t h.0 at.0 at.1),
-        room_next w w p.places p.max_threads p.seats t Running None h.1 at.0 refl (omega arith),
+        room_next w w p.places p.max_threads (length p.by_thread) t Running None h.1 at.0 refl (omega arith),
       )
 
 -- a section that comes on, and one that closes
 module _ {A : Type 0} (p : Parts) (w : Lists Waiter A) where
-  -- one is open, and its thread is in it
-  pub section_opened : (n : Section) (sections : ℕ → Option Section) (inside : ℕ → Option ℕ) (seats : ℕ) → Owed p w
-      → p.seats ≤ seats
-      → open_at (machine p) n.key ≡ None → IsOutside (machine p) n.thread
-      → ((t : ℕ) → n.thread ≡ Some t → may_join n.phase ≡ true → place_at p.places t ≡ Some Running)
-      → ((t : ℕ) → n.thread ≡ Some t → option_map_or (is_near n.key) (place_at p.places t) false ≡ true)
-      → sections ≡ updated p.sections (n.key % p.buckets) (Some n) → inside ≡ let_in n.thread n.key p.inside
-      → Owed (record p { sections = sections; inside = inside; seats = seats }) w
-  section_opened n sections inside seats h more free outside runs near e f =
-      let u = h.1.enters in (
-        subst (λ (ss : ℕ → Option Section). Sound (record (machine p) { sections = ss; inside = inside })) (sym e)
-            (subst (λ (i : ℕ → Option ℕ). Sound
-            (record (machine p) { sections = updated p.sections (n.key % p.buckets) (Some n); inside = i })) (sym f)
-            (sound_within (machine p) n h.0 free outside runs near)),
+  -- buckets that are kept so, where it is known what they hold
+  pub kept_so : (bs : List (Option Section)) (ts : List (Option ℕ)) (ss : ℕ → Option Section) (is : ℕ → Option ℕ)
+      → Room w p.places p.max_threads (length p.by_thread) → length bs ≡ length p.by_bucket → slot bs ≡ ss
+      → slot ts ≡ is → length p.by_thread ≤ length ts → Sound (record (machine p) { sections = ss; inside = is })
+      → Owed (record p { by_bucket = bs; by_thread = ts }) w
+  kept_so bs ts ss is room e f g more h =
+      let u = room.enters in (
+        subst (λ (b : ℕ). Sound (record (machine p) { buckets = b; sections = slot bs; inside = slot ts })) (sym e)
+            (subst (λ (x : ℕ → Option Section). Sound (record (machine p) { sections = x; inside = slot ts })) (sym f)
+            (subst (λ (x : ℕ → Option ℕ). Sound (record (machine p) { sections = ss; inside = x })) (sym g) h)),
         record {
-          waits = h.1.waits;
-          room = h.1.room;
+          waits = room.waits;
+          room = room.room;
           enters = omega arith;
-          threads = h.1.threads;
-          limit = h.1.limit;
+          threads = room.threads;
+          limit = room.limit;
         },
       )
 
-  pub section_changed : (key : ℕ) (f : Section → Section) (sections : ℕ → Option Section) → Owed p w
-      → sections ≡ updated p.sections (key % p.buckets) (option_map f (p.sections (key % p.buckets)))
-      → ((s : Section) → (f s).thread ≡ s.thread) → ((s : Section) → (f s).key ≡ s.key)
-      → ((s : Section) → p.sections (key % p.buckets) ≡ Some s → may_join (f s).phase ≡ true
-      → may_join s.phase ≡ true)
-      → Owed (record p { sections = sections }) w
-  section_changed key f sections h e same_thread same_key joins = (
-    subst (λ (ss : ℕ → Option Section). Sound (record (machine p) { sections = ss })) (sym e)
-        (sound_section (machine p) key f h.0 same_thread same_key joins),
-    h.1,
-  )
+  -- one that sleeps is back
+  pub section_back : (t key : ℕ) → Owed p w → return_fault (machine p) t key ≡ None
+      → Sound (record (machine p) {
+        sections = updated (slot p.by_bucket) (key % length p.by_bucket) (Some (back_in t key));
+        inside = updated (slot p.by_thread) t (Some key);
+      })
+  section_back t key h e =
+      let n = entering (machine p) key (option_map_or (may_return key) (place_at p.places t) false) e in
+      subst Sound (returned_as (machine p) t key) (sound_returned (machine p) t key h.0 n.1 n.0)
+
+  -- who is registered, and who is in a section, has a seat
+  pub has_seat : (t k : ℕ) → Owed p w → slot p.by_thread t ≡ Some k → t < length p.by_thread
+  has_seat t k h at = by (place_at p.places t) refl (h.0.near t k at)
+    where
+      by : (o : Option Place) → place_at p.places t ≡ o → option_map_or (is_near k) o false ≡ true → t < length p.by_thread
+      by None e near = absurd (false≢true near)
+      by (Some q) e near = seated w p.places p.max_threads (length p.by_thread) t q h.1 e
+
+  pub may_return_seat : (t key : ℕ) → Owed p w → return_fault (machine p) t key ≡ None → t < length p.by_thread
+  may_return_seat t key h e = by (place_at p.places t) refl
+      (entering (machine p) key (option_map_or (may_return key) (place_at p.places t) false) e).0
+    where
+      by : (o : Option Place) → place_at p.places t ≡ o → option_map_or (may_return key) o false ≡ true → t < length p.by_thread
+      by None e may = absurd (false≢true may)
+      by (Some q) e may = seated w p.places p.max_threads (length p.by_thread) t q h.1 e
 
   pub section_closed : (key : ℕ) (woken : Bool) → Owed p w → IsOpen (machine p) key
-      → Owed (record p {
-        sections = (closed (machine p) key woken).sections;
-        places = (closed (machine p) key woken).places;
-        inside = (closed (machine p) key woken).inside;
-      }) w
-  section_closed key woken h open_so =
+      → Sound (closed (machine p) key woken)
+      × Room w (closed (machine p) key woken).places p.max_threads (length p.by_thread)
+  section_closed key woken h is_open =
       let f = option_map (told key (token_of (machine p) key) woken) in
       let c = count_by-map_same waits f (told_waiting key (token_of (machine p) key) woken) p.places in
       let l = length-map p.places f in
@@ -198,9 +221,9 @@ module _ {A : Type 0} (p : Parts) (w : Lists Waiter A) where
       let s = h.1.room in
       let t = h.1.threads in
       let u = h.1.enters in (
-        subst (λ (k : ℕ). Sound (closed (machine p) k woken)) open_so.2
-            (sound_closed (machine p) woken h.0 open_so.0
-            (ap (open_at (machine p)) open_so.2 ∙ open_so.1)),
+        subst (λ (k : ℕ). Sound (closed (machine p) k woken)) is_open.2
+            (sound_closed (machine p) woken h.0 is_open.0
+            (ap (open_at (machine p)) is_open.2 ∙ is_open.1)),
         record {
           waits = omega arith;
           room = omega arith;
@@ -222,8 +245,8 @@ module _ {A : Type 0} (p : Parts) (w : Lists Waiter A) where
 
   -- a thread joins a list
   pub joined_parts : (v : Lists Waiter A) (t key : ℕ) (token : ParkToken) (timed : Bool) → Owed p w
-      → place_at p.places t ≡ Some Running → ((k : ℕ) → p.inside t ≡ Some k → k ≡ key)
-      → ((b : ℕ) (s : Section) → p.sections b ≡ Some s → s.thread ≡ Some t → may_join s.phase ≡ false)
+      → place_at p.places t ≡ Some Running → ((k : ℕ) → slot p.by_thread t ≡ Some k → k ≡ key)
+      → ((b : ℕ) (s : Section) → slot p.by_bucket b ≡ Some s → s.thread ≡ Some t → may_join s.phase ≡ false)
       → lists_of v.entries.items ≡ updated (lists_of p.waiting) key
       (lists_of p.waiting key ++ record { thread = t; token = token } ∷ []) → total v ≡ total w + 1
       → room v ≡ room w
@@ -237,7 +260,7 @@ module _ {A : Type 0} (p : Parts) (w : Lists Waiter A) where
       let place : Place = Waiting key (record { mark = (p.sleeps + 1) % 2 ^ 64; timed = timed; late = false }) in (
         subst (λ (qs : ℕ → List Waiter). Sound (record (joined (machine p) t key token timed) { queues = qs }))
             (sym kept) (sound_joined (machine p) t key token timed h.0 at near outside),
-        room_next w v p.places p.max_threads p.seats t Running (Some place) h.1 at same (omega arith),
+        room_next w v p.places p.max_threads (length p.by_thread) t Running (Some place) h.1 at same (omega arith),
       )
 
   -- nobody is taken where the list has ended
@@ -279,7 +302,7 @@ module _ {A : Type 0} (p : Parts) (w : Lists Waiter A) where
               (record (machine p) { queues = qs; places = slice_set p.places x.thread (Some (Held key s.0)) })) (sym kept)
               (sound_left (machine p) key nth x h.0 at (Held key s.0) (λ k. refl)
               (λ k is. subst (λ (j : ℕ). IsOpen (machine p) j) (eqb-true key k is) open_so) (λ k is. is)),
-          room_next w v p.places p.max_threads p.seats x.thread (Waiting key s.0) (Some (Held key s.0)) h.1 s.1 same
+          room_next w v p.places p.max_threads (length p.by_thread) x.thread (Waiting key s.0) (Some (Held key s.0)) h.1 s.1 same
               (omega arith),
         )
 
@@ -292,7 +315,7 @@ module _ {A : Type 0} (p : Parts) (w : Lists Waiter A) where
         → Owed (record p { waiting = u.entries.items; places = changed (moved_to to) p.places x.thread }) u
     moved_parts u to nobody kept pushed count more same =
         let s = waiter_place (machine p) key nth x h.0 at in
-        let outside : p.inside x.thread ≡ None = waits_outside (machine p) x.thread key (Waiting key s.0) h.0 s.1
+        let outside : slot p.by_thread x.thread ≡ None = waits_outside (machine p) x.thread key (Waiting key s.0) h.0 s.1
         (λ k is. sym (eqb-true key k is)) nobody in
         subst (λ (ps : List (Option Place)). Owed (record p { waiting = u.entries.items; places = ps }) u)
         (stands (moved_to to)) (
@@ -300,7 +323,7 @@ module _ {A : Type 0} (p : Parts) (w : Lists Waiter A) where
               (record (machine p) { queues = qs; places = slice_set p.places x.thread (Some (Waiting to s.0)) }))
               (sym (pushed ∙ ap (λ (qs : ℕ → List Waiter). updated qs to (qs to ++ x ∷ [])) kept))
               (sound_relisted (machine p) key nth x h.0 at to s.0 outside),
-          room_next w u p.places p.max_threads p.seats x.thread (Waiting key s.0) (Some (Waiting to s.0)) h.1 s.1 same
+          room_next w u p.places p.max_threads (length p.by_thread) x.thread (Waiting key s.0) (Some (Waiting to s.0)) h.1 s.1 same
               (omega arith),
         )
 
@@ -354,5 +377,5 @@ module _ {A : Type 0} (p : Parts) (w v : Lists Waiter A) (t key : ℕ) (s : Slee
             })) same_thread
             (sound_left (machine p) key (position_or_len (is_thread t) queue) itself.0 h.0 itself.1 Running (λ k. refl)
             (λ k is. absurd (false≢true is)) (λ k is. refl))),
-        room_next w v p.places p.max_threads p.seats t (Waiting key s) (Some Running) h.1 at same (omega arith),
+        room_next w v p.places p.max_threads (length p.by_thread) t (Waiting key s) (Some Running) h.1 at same (omega arith),
       )

@@ -52,6 +52,11 @@ free_section m key e = free (open_at m key) e
     free None e = refl
     free (Some s) e = absurd (some≢none e)
 
+pub entering : (m : Machine) (key : ℕ) (b : Bool) → cond b (busy key m) (Some WrongStatus) ≡ None → (b ≡ true)
+    × (open_at m key ≡ None)
+entering m key true e = (refl, free_section m key e)
+entering m key false e = absurd (some≢none e)
+
 pub free_first : (m : Machine) (key other : ℕ) → either_busy key other m ≡ None → open_at m key ≡ None
 free_first m key other e = free (open_at m key) e
   where

@@ -17,7 +17,8 @@ use Rattle.parking_lot_core_model.specs.Lists.{total, room, lists_of}
 use Rattle.parking_lot_core_model.specs.Places.{place_at, is_held, is_near}
 use Rattle.parking_lot_core_model.specs.Machine.{Parts, Machine, machine, registered, free_number}
 use Rattle.parking_lot_core_model.specs.Machine.{register_fault, must_grow, buckets_wanted}
-use Rattle.parking_lot_core_model.specs.Buckets.{any_open, threads_with}
+use Rattle.parking_lot_core_model.specs.Buckets.{any_open, slot, threads_with}
+use Rattle.parking_lot_core_model.specs.declared.place.Section.{Section}
 use Rattle.parking_lot_core_model.specs.declared.fault.LotFault.TheVariants.{Busy, TooManyThreads}
 use Rattle.parking_lot_core_model.specs.Sound.{Sound, Room, times_at}
 use Rattle.parking_lot_core_model.proofs.Numbers.{flag, position_or_len-le, count_by-set, count_by-push}
@@ -126,34 +127,60 @@ grown_to b wanted = by (nat_lt b wanted) refl
     by true e = max_more b wanted e ∙ ap (λ t. cond t wanted b) (sym e)
     by false e = max_less b wanted e ∙ ap (λ t. cond t wanted b) (sym e)
 
-module _ {A : Type 0} (p : Parts) (w v : Lists Waiter A) (count seats : ℕ) (h : Owed p w)
-    (free : register_fault (machine p) ≡ None)
-    (grows : count ≡ cond (must_grow (machine p)) (buckets_wanted (machine p)) p.buckets) where
-  calm : (must_grow (machine p) && any_open p.sections p.buckets) ≡ false
-  calm = (register_allows (machine p) free).1
+module _ {A : Type 0} (p : Parts) (w v : Lists Waiter A) (bs : List (Option Section)) (ts : List (Option ℕ))
+    (h : Owed p w) (free : register_fault (machine p) ≡ None)
+    (count : length bs ≡ max (length p.by_bucket) (buckets_wanted (machine p)))
+    (sections : slot bs ≡ slot p.by_bucket) (inside : slot ts ≡ slot p.by_thread) where
+  grows : length bs ≡ (registered (machine p)).buckets
+  grows = count ∙ grown_to (length p.by_bucket) (buckets_wanted (machine p))
+
+  -- the machine with these places and lists is the one where it is done
+  pub registered_as : (qs : ℕ → List Waiter) (ps : List (Option Place)) → qs ≡ lists_of p.waiting
+      → ps ≡ (registered (machine p)).places
+      → record (machine p) {
+        queues = qs;
+        places = ps;
+        buckets = length bs;
+        sections = slot bs;
+        inside = slot ts;
+      } ≡ registered (machine p)
+  registered_as qs ps same at =
+      let r = registered (machine p) in
+      ap (λ (x : ℕ → List Waiter). record r {
+        queues = x;
+        places = ps;
+        buckets = length bs;
+        sections = slot bs;
+        inside = slot ts;
+      }) same
+      ∙ (ap (λ (x : List (Option Place)). record r
+      { places = x; buckets = length bs; sections = slot bs; inside = slot ts }) at
+      ∙ (ap (λ (x : ℕ). record r { buckets = x; sections = slot bs; inside = slot ts }) grows
+      ∙ (ap (λ (x : ℕ → Option Section). record r { sections = x; inside = slot ts }) sections
+      ∙ ap (λ (x : ℕ → Option ℕ). record r { inside = x }) inside)))
+
+  sound_so : Sound (registered (machine p))
+  sound_so = sound_registered (machine p) h.0 (register_allows (machine p) free).1
 
   -- a number is given out again
-  pub again : free_number p.places < length p.places → p.seats ≤ seats
+  pub again : free_number p.places < length p.places → length p.by_thread ≤ length ts
       → Owed (record p {
         places = slice_set p.places (free_number p.places) (Some Running);
-        buckets = count;
-        seats = seats;
+        by_bucket = bs;
+        by_thread = ts;
       }) w
   again fits more =
       let ps = p.places in
       let n = free_number ps in
       let q = slice_set ps n (Some Running) in
-      let slot : slice_get ps n ≡ Some None = free_slot ps n (slice_get-get_or ps n None fits) (free_place ps) in
-      let c : count_by waits q + 0 ≡ count_by waits ps + 0 = count_by-set waits ps n None (Some Running) slot in
+      let at : slice_get ps n ≡ Some None = free_slot ps n (slice_get-get_or ps n None fits) (free_place ps) in
+      let c : count_by waits q + 0 ≡ count_by waits ps + 0 = count_by-set waits ps n None (Some Running) at in
       let l : length q ≡ length ps = length-set ps n (Some Running) in
       let r = h.1.waits in
       let s = h.1.room in
       let t = h.1.threads in
       let u = h.1.enters in (
-        subst (λ (xs : List (Option Place)). Sound (record (machine p) { places = xs; buckets = count }))
-            (sym (registered_within ps fits))
-            (subst (λ (k : ℕ). Sound (record (machine p) { places = (registered (machine p)).places; buckets = k }))
-            (sym grows) (sound_registered (machine p) h.0 calm)),
+        subst Sound (sym (registered_as (lists_of p.waiting) q refl (registered_within ps fits))) sound_so,
         record {
           waits = omega arith;
           room = omega arith;
@@ -166,29 +193,21 @@ module _ {A : Type 0} (p : Parts) (w v : Lists Waiter A) (count seats : ℕ) (h 
   -- one more number is given out
   pub past : length p.places ≤ free_number p.places
       → lists_of v.entries.items ≡ lists_of p.waiting → total v ≡ total w → length p.places + 1 ≤ room v
-      → length p.places + 1 ≤ p.max_threads → length p.places + 1 ≤ seats
+      → length p.places + 1 ≤ p.max_threads → length p.places + 1 ≤ length ts
       → Owed (record p {
         waiting = v.entries.items;
         places = p.places ++ Some Running ∷ [];
-        buckets = count;
-        seats = seats;
+        by_bucket = bs;
+        by_thread = ts;
       }) v
   past full same items fits limit seated =
       let ps = p.places in
       let c = count_by-push waits ps (Some Running) in
       let l = length_push ps (Some Running) in
       let r = h.1.waits in (
-        subst (λ (xs : List (Option Place)). Sound
-            (record (machine p) { queues = lists_of v.entries.items; places = xs; buckets = count }))
-            (sym (registered_past ps full))
-            (subst (λ (k : ℕ). Sound
-            (record (machine p) {
-              queues = lists_of v.entries.items;
-              places = (registered (machine p)).places;
-              buckets = k;
-            })) (sym grows)
-            (subst (λ (qs : ℕ → List Waiter). Sound (record (registered (machine p)) { queues = qs })) (sym same)
-            (sound_registered (machine p) h.0 calm))),
+        subst Sound
+            (sym (registered_as (lists_of v.entries.items) (ps ++ Some Running ∷ []) same (registered_past ps full)))
+            sound_so,
         record {
           waits = omega arith;
           room = omega arith;

@@ -47,9 +47,10 @@ use Rattle.parking_lot_core_model.proofs.Sounds.{place_at-set_same, place_at-set
 use Rattle.parking_lot_core_model.proofs.Sounds.{sound_retired, sound_joined, sound_left, sound_relisted, sound_opened}
 use Rattle.parking_lot_core_model.proofs.Sounds.{sound_section, sound_closed, sound_returned, waiter_place}
 use Rattle.parking_lot_core_model.proofs.Sounds.{waits_outside, quiet_at, is_inside, is_outside}
+use Rattle.parking_lot_core_model.proofs.Sounds.{joined_alone, is_opened, is_nobodys, open_on}
 use Rattle.parking_lot_core_model.proofs.Registering.{sound_registered, register_allows}
 use Rattle.parking_lot_core_model.proofs.Closing.{some_of, running, unrefused}
-use Rattle.parking_lot_core_model.proofs.Outcomes.{free_section, free_first}
+use Rattle.parking_lot_core_model.proofs.Outcomes.{free_section, free_first, entering}
 use Rattle.parking_lot_core_model.proofs.Takings.{all_taken_none, taken_more, taken_front_suc, closed_taken}
 use Rattle.parking_lot_core_model.proofs.Takings.{closed_moved}
 use Rattle.parking_lot_core_model.proofs.Moving.{moved_none, moved_more_suc, nth_of}
@@ -241,15 +242,6 @@ sound_stored : (m : Machine) (key : ℕ) (token : UnparkToken) → Sound m → S
 sound_stored m key token h = sound_section m key (λ s. record s { phase = phase.Stored; token = token }) h (λ s. refl)
     (λ s. refl) (λ s is may. absurd (false≢true may))
 
--- it stays open
-open_on : (m : Machine) (key : ℕ) (f : Section → Section) → ((s : Section) → (f s).key ≡ s.key) → IsOpen m key
-    → IsOpen (record m { sections = updated m.sections (bucket_of m key) (option_map f (open_at m key)) }) key
-open_on m key f same (s, at, of_key) = (
-  f s,
-  updated_at m.sections (bucket_of m key) (option_map f (open_at m key)) ∙ ap (option_map f) at,
-  same s ∙ of_key,
-)
-
 sound_ended : (m : Machine) (key : ℕ) (token : UnparkToken) → Sound m → IsOpen m key
     → Sound (closed (stored m key token) key true)
 sound_ended m key token h open_so =
@@ -263,11 +255,7 @@ sound_entered m key h free = sound_opened m None key h free (λ t e. absurd (non
 
 -- a section of nobody that was opened
 is_open_now : (m : Machine) (owner : Option ℕ) (key : ℕ) → IsOpen (opened m owner key) key
-is_open_now m owner key = (fresh_section owner key, open_within m (fresh_section owner key), refl)
-
-is_nobodys : (m : Machine) (key : ℕ) → IsNobodys (opened m None key) key
-is_nobodys m key s at = ap (λ (x : Section). x.thread)
-    (same_some (sym at ∙ open_within m (fresh_section None key)))
+is_open_now m owner key = is_opened m (opened m owner key) owner key refl
 
 sound_woken : (m : Machine) (key : ℕ) (ws rest : List Waiter) (token : UnparkToken) → Sound m → open_at m key ≡ None
     → Sound (all_taken (opened m None key) key ws rest) → Sound (unparked m key ws rest token)
@@ -291,19 +279,14 @@ sound_requeued m op from to token h free =
     in
     let moved_so : Sound (moved n from to (take k left) (drop k left)) =
     subst (λ (xs : List Waiter). Sound (moved n from to (take k xs) (drop k xs))) here
-    (sound_moved n from to k fits taken_so (is_nobodys m from)) in
+    (sound_moved n from to k fits taken_so (is_nobodys m o from refl)) in
     let all_so : Sound (moved n from to (moved_by op q) (left_by op q)) =
     subst (λ (xs : List Waiter). Sound (moved n from to (moved_by op q) xs)) (drop_moved op q)
     (subst (λ (xs : List Waiter). Sound (moved n from to xs (drop k left))) (take_moved op q) moved_so) in
     subst Sound (closed_moved m from token (quiet_at m from h free) free to ws left (moved_by op q) (left_by op q))
     (sound_ended (moved n from to (moved_by op q) (left_by op q)) from token all_so (is_open_now m None from))
 
--- what follows where a call isn't refused
-entering : (m : Machine) (key : ℕ) (b : Bool) → cond b (busy key m) (Some WrongStatus) ≡ None → (b ≡ true)
-    × (open_at m key ≡ None)
-entering m key true e = (refl, free_section m key e)
-entering m key false e = absurd (some≢none e)
-
+-- what follows where a step isn't refused
 stepping : (may : Phase → Bool) (m : Machine) (t : ℕ) → Sound m → step_fault may m t ≡ None
     → (s : Section) × (section_of m t ≡ Some s) × (may s.phase ≡ true) × IsInside m t s
 stepping may m t h e = by (section_of m t) refl e
@@ -326,7 +309,7 @@ sound_step step m t h steps = by (section_of m t) refl
     by None e = h
     by (Some s) e = steps s e (is_inside m t s h e)
 
-checks_join : (ph : Phase) → may_check ph ≡ true → may_join ph ≡ true
+pub checks_join : (ph : Phase) → may_check ph ≡ true → may_join ph ≡ true
 checks_join phase.Fresh e = refl
 checks_join phase.Valid e = refl
 checks_join phase.Invalid e = absurd (false≢true e)
@@ -374,21 +357,7 @@ sound_appended m t token timed allowed h =
     in
     let whole : Sound n = sound_phase m s.key phase.Joined h (λ y is j. absurd (false≢true j)) in
     sound_joined n t s.key token timed whole (in_s.runs may) (λ k is. same_some (sym is ∙ in_s.inside))
-    (λ b y is whose. no_join s in_s n whole b y is whose))
-  where
-    -- its only section is the one that has joined
-    no_join : (s : Section) → IsInside m t s → (n : Machine) → Sound n → (b : ℕ) (y : Section)
-        → (in_phase m s.key phase.Joined).sections b ≡ Some y → y.thread ≡ Some t → may_join y.phase ≡ false
-    no_join s in_s n whole b y is whose =
-        let n = in_phase m s.key phase.Joined in
-        let whole : Sound n = sound_phase m s.key phase.Joined h (λ z at j. absurd (false≢true j)) in
-        let key : y.key ≡ s.key = same_some (sym (whole.fit.owner b y t is whose) ∙ in_s.inside) in
-        let here : b ≡ bucket_of m s.key = sym (whole.fit.bucket b y is) ∙ ap (bucket_of m) key in
-        let joined_one : n.sections (bucket_of m s.key) ≡ Some (record s { phase = phase.Joined }) =
-        updated_at m.sections (bucket_of m s.key)
-        (option_map {T = Section} (λ z. record z { phase = phase.Joined }) (open_at m s.key))
-        ∙ ap (option_map {T = Section} (λ z. record z { phase = phase.Joined })) in_s.at in
-        ap (λ (z : Section). may_join z.phase) (same_some (sym is ∙ (ap n.sections here ∙ joined_one)))
+    (joined_alone m t s in_s))
 
 sound_resumed : (m : Machine) (t : ℕ) (o : Option Place) → place_at m.places t ≡ o → Sound m → Sound (resumed m t o)
 sound_resumed m t None e h = h

@@ -1,5 +1,5 @@
 -- Buckets of keys: how many there are, and what stands in them.
-use Rattle.std.proofs.Common.{◌≡◌, ℕ, zero, suc, ◌+◌, ◌*◌, ◌<◌, ◌≤◌, ◌==◌, ◌||◌, Bool, true, false, cond, nat_lt, List, []}
+use Rattle.std.proofs.Common.{◌≡◌, ℕ, zero, suc, ◌+◌, ◌*◌, ◌/◌, ◌<◌, ◌≤◌, ◌==◌, ◌||◌, Bool, true, false, cond, nat_lt, List, []}
 use Rattle.std.proofs.Common.{◌∷◌, ◌++◌, length, max, Option, Some, None, is_some, slice_get, slice_set, refl, sym, ap, ◌∙◌}
 use Rattle.std.proofs.Common.{subst, arith, get_or, add-one}
 use mathlib.Core.Path.{fun_ext}
@@ -8,7 +8,7 @@ use Rattle.std.proofs.lemmas.Bool.{cond-true, cond-false, lt-ltb, le-ltb, ltb-tr
 use Rattle.std.proofs.lemmas.Option.{slice_get-get_or}
 use Rattle.parking_lot_core_model.specs.declared.place.Section.{Section}
 use Rattle.parking_lot_core_model.specs.Lists.{updated}
-use Rattle.parking_lot_core_model.specs.Buckets.{twice_below, doubled, buckets_for, slot, any_open}
+use Rattle.parking_lot_core_model.specs.Buckets.{threads_with, twice_below, doubled, buckets_for, slot, any_open}
 use Rattle.parking_lot_core_model.proofs.Kept.{by_eqb}
 
 -- the greater of two numbers
@@ -35,6 +35,11 @@ doubles wanted n h =
     rw add-one
     (sym (cond-true (nat_lt (doubled wanted n) wanted) (2 * doubled wanted n) (doubled wanted n)
     (lt-ltb (doubled wanted n) wanted h)))
+
+-- threads are no more than their numbers
+pub threads_few : (paired : Bool) (n : ℕ) → n ≤ 131072 → threads_with paired n ≤ 131072
+threads_few true n h = omega arith
+threads_few false n h = h
 
 -- there is at least one
 pub some_buckets : (wanted n : ℕ) → 16 ≤ doubled wanted n

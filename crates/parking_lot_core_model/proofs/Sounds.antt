@@ -29,7 +29,7 @@ use Rattle.parking_lot_core_model.proofs.Numbers.{count_by-remove, count_by-at}
 use Rattle.parking_lot_core_model.proofs.Entering.{none≢some, some≢none, same_some, none_of_some, within, IsOutside}
 use Rattle.parking_lot_core_model.proofs.Entering.{fits_beside, stays_beside, was_beside, fits_on, comes_from, goes_on}
 use Rattle.parking_lot_core_model.proofs.Entering.{thread_from, fits_off, still_open, stays_open, was_in, none_open}
-use Rattle.parking_lot_core_model.proofs.Entering.{nobody_in, fits_grown, closed_as, phase_within}
+use Rattle.parking_lot_core_model.proofs.Entering.{nobody_in, fits_grown, closed_as, phase_within, open_within}
 
 same_place : {p q : Place} → Some p ≡ Some q → p ≡ q
 same_place e = cc
@@ -538,5 +538,47 @@ is_inside m t s h e = by (m.inside t) refl e
           at = here;
           whose = whose;
           inside = at ∙ ap (λ j. Some j) (sym key);
+          alone = λ b y there its.
+              sym (h.fit.bucket b y there)
+              ∙ ap (bucket_of m) (same_some (sym (h.fit.owner b y t there its) ∙ (at ∙ ap (λ j. Some j) (sym key))));
           runs = λ may. h.inside (bucket_of m s.key) s t here whose may;
         }
+
+-- once it has joined the list its thread has no section that may join
+pub joined_alone : (m : Machine) (t : ℕ) (s : Section) → IsInside m t s → (b : ℕ) (y : Section)
+    → (in_phase m s.key phase.Joined).sections b ≡ Some y → y.thread ≡ Some t → may_join y.phase ≡ false
+joined_alone m t s in_s b y is whose =
+    let bucket = bucket_of m s.key in
+    let f = λ (z : Section). record z { phase = phase.Joined } in
+    let on = updated m.sections bucket (option_map f (open_at m s.key)) in
+    by_eqb b bucket (may_join y.phase ≡ false)
+    (λ e. ap (λ (z : Section). may_join z.phase)
+    (same_some (sym is ∙ (ap on e ∙ (updated_at m.sections bucket (option_map f (open_at m s.key))
+    ∙ ap (option_map f) in_s.at)))))
+    (λ e. absurd (false≢true
+    (sym e ∙ eq-eqb b bucket
+    (in_s.alone b y (sym (updated_other m.sections bucket (option_map f (open_at m s.key)) b e) ∙ is) whose))))
+
+-- A SECTION OF A KEY THAT IS OPEN
+
+pub is_opened : (m n : Machine) (owner : Option ℕ) (key : ℕ) → n ≡ opened m owner key → IsOpen n key
+is_opened m n owner key e = subst (λ (x : Machine). IsOpen x key) (sym e)
+    (fresh_section owner key, open_within m (fresh_section owner key), refl)
+
+pub is_nobodys : (m n : Machine) (key : ℕ) → n ≡ opened m None key → (s : Section) → open_at n key ≡ Some s
+    → s.thread ≡ None
+is_nobodys m n key e s at = ap (λ (x : Section). x.thread)
+    (same_some (sym at ∙ (ap (λ (x : Machine). open_at x key) e ∙ open_within m (fresh_section None key))))
+
+-- it stays open as it comes on
+pub open_on : (m : Machine) (key : ℕ) (f : Section → Section) → ((s : Section) → (f s).key ≡ s.key) → IsOpen m key
+    → IsOpen (record m { sections = updated m.sections (bucket_of m key) (option_map f (open_at m key)) }) key
+open_on m key f same (s, at, of_key) = (
+  f s,
+  updated_at m.sections (bucket_of m key) (option_map f (open_at m key)) ∙ ap (option_map f) at,
+  same s ∙ of_key,
+)
+
+pub open_stored : (m n : Machine) (key : ℕ) (token : UnparkToken) → n ≡ stored m key token → IsOpen m key → IsOpen n key
+open_stored m n key token e h = subst (λ (x : Machine). IsOpen x key) (sym e)
+    (open_on m key (λ s. record s { phase = phase.Stored; token = token }) (λ s. refl) h)

@@ -21,7 +21,7 @@ use Rattle.parking_lot_core_model.specs.declared.place.Section.{Section}
 use Rattle.parking_lot_core_model.specs.declared.place.Phase.{Phase}
 use Rattle.parking_lot_core_model.specs.declared.place.Phase.TheVariants as phase
 use Rattle.parking_lot_core_model.specs.Lists.{updated, without_first, lists_of}
-use Rattle.parking_lot_core_model.specs.Buckets.{threads_with, buckets_for, any_open}
+use Rattle.parking_lot_core_model.specs.Buckets.{threads_with, buckets_for, slot, any_open}
 use Rattle.parking_lot_core_model.specs.Places.{place_at, changed, all_changed, held, told, woken, moved_to}
 use Rattle.parking_lot_core_model.specs.Places.{sleeps_timed, status_of, mark_of, passed_of, may_return, has_slept}
 use Rattle.parking_lot_core_model.specs.Places.{has_joined, taken_with}
@@ -38,10 +38,8 @@ pub record Parts : Type 0 where
   pub waiting : List (Entry Waiter)
   pub owned : List (Entry ℕ)
   pub places : List (Option Place)
-  pub buckets : ℕ
-  pub sections : ℕ → Option Section
-  pub inside : ℕ → Option ℕ
-  pub seats : ℕ
+  pub by_bucket : List (Option Section)
+  pub by_thread : List (Option ℕ)
 
 pub record Machine : Type 0 where
   pub number : ℕ
@@ -73,9 +71,9 @@ machine p = record {
   queues = lists_of p.waiting;
   resources = lists_of p.owned;
   places = p.places;
-  buckets = p.buckets;
-  sections = p.sections;
-  inside = p.inside;
+  buckets = length p.by_bucket;
+  sections = slot p.by_bucket;
+  inside = slot p.by_thread;
 }
 
 -- its threads

@@ -9,7 +9,7 @@ use Rattle.parking_lot_core_model.specs.declared.place.Section.{Section}
 use Rattle.parking_lot_core_model.specs.declared.place.Waiter.{Waiter}
 use Rattle.parking_lot_core_model.specs.Lists.{total, room}
 use Rattle.parking_lot_core_model.specs.Places.{place_at, waits_at, is_waiting, is_held, is_near, may_join}
-use Rattle.parking_lot_core_model.specs.Machine.{Machine, is_thread, open_at}
+use Rattle.parking_lot_core_model.specs.Machine.{Machine, is_thread, bucket_of, open_at}
 
 -- how often a thread is to stand in the key's list
 abbrev pub times_at : ℕ → Option Place → ℕ
@@ -51,6 +51,8 @@ pub record IsInside (m : Machine) (thread : ℕ) (section : Section) : Type 0 wh
   pub at : open_at m section.key ≡ Some section
   pub whose : section.thread ≡ Some thread
   pub inside : m.inside thread ≡ Some section.key
+  pub alone : (b : ℕ) (other : Section) → m.sections b ≡ Some other → other.thread ≡ Some thread
+      → b ≡ bucket_of m section.key
   pub runs : may_join section.phase ≡ true → place_at m.places thread ≡ Some Running
 
 -- there is room for each registered thread to wait, and to be in a section

@@ -5,6 +5,7 @@ ghost use Rattle.std.specs.Prelude.{◌≡◌, ◌<◌, ◌≤◌, ◌%◌, ◌+
 ghost use Rattle.parking_lot_core_model.specs.Lists.{updated};
 ghost use Rattle.parking_lot_core_model.specs.Buckets.{threads_with, buckets_for, slot, any_open};
 ghost use Rattle.parking_lot_core_model.specs.declared.place.Section.{Section};
+ghost use Rattle.parking_lot_core_model.specs.Machine.{let_in, let_out};
 
 use crate::place::Section;
 use std::alloc::{AllocError, Allocator};
@@ -64,6 +65,32 @@ impl<A: Allocator> Buckets<A> {
         ensures seats { length self.new.by_thread.items ≡ length self.old.by_thread.items }
     {
         self.by_thread[thread] = key;
+    }
+
+    /// Has a thread be in the section of a key, where it is somebody's.
+    pub fn let_in(&mut self, owner: Option<usize>, key: usize)
+        requires { (t : ℕ) → owner ≡ Some t → t < length self.old.by_thread.items }
+        ensures count { length self.new.by_bucket.items ≡ length self.old.by_bucket.items }
+        ensures sections { slot self.new.by_bucket.items ≡ slot self.old.by_bucket.items }
+        ensures keys { slot self.new.by_thread.items ≡ let_in owner key (slot self.old.by_thread.items) }
+        ensures seats { length self.new.by_thread.items ≡ length self.old.by_thread.items }
+    {
+        if let Some(thread) = owner {
+            self.seat(thread, Some(key));
+        }
+    }
+
+    /// Has it be in none.
+    pub fn let_out(&mut self, owner: Option<usize>)
+        requires { (t : ℕ) → owner ≡ Some t → t < length self.old.by_thread.items }
+        ensures count { length self.new.by_bucket.items ≡ length self.old.by_bucket.items }
+        ensures sections { slot self.new.by_bucket.items ≡ slot self.old.by_bucket.items }
+        ensures keys { slot self.new.by_thread.items ≡ let_out owner (slot self.old.by_thread.items) }
+        ensures seats { length self.new.by_thread.items ≡ length self.old.by_thread.items }
+    {
+        if let Some(thread) = owner {
+            self.seat(thread, None);
+        }
     }
 
     /// Whether a section is open in a bucket.

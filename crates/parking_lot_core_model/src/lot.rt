@@ -65,13 +65,12 @@ impl<A: Allocator> Model for Lot<A> {
     ghost use Rattle.parking_lot_core_model.specs.Machine.{Parts, machine};
     ghost use Rattle.parking_lot_core_model.specs.Sound.{Sound, Room};
     ghost use Rattle.std.specs.Prelude.{length};
-    ghost use Rattle.parking_lot_core_model.specs.Buckets.{slot};
 
     ghost Value = { Parts };
 
-    ghost view = { λ l. record { number = l.number; max_threads = l.max_threads; paired = l.paired; sleeps = l.sleeps; waiting = l.waiting.entries.items; owned = l.owned.entries.items; places = l.places.items; buckets = length l.buckets.by_bucket.items; sections = slot l.buckets.by_bucket.items; inside = slot l.buckets.by_thread.items; seats = length l.buckets.by_thread.items } };
+    ghost view = { λ l. record { number = l.number; max_threads = l.max_threads; paired = l.paired; sleeps = l.sleeps; waiting = l.waiting.entries.items; owned = l.owned.entries.items; places = l.places.items; by_bucket = l.buckets.by_bucket.items; by_thread = l.buckets.by_thread.items } };
 
-    ghost invariant = { λ l. Sound (machine (record { number = l.number; max_threads = l.max_threads; paired = l.paired; sleeps = l.sleeps; waiting = l.waiting.entries.items; owned = l.owned.entries.items; places = l.places.items; buckets = length l.buckets.by_bucket.items; sections = slot l.buckets.by_bucket.items; inside = slot l.buckets.by_thread.items; seats = length l.buckets.by_thread.items })) × Room l.waiting l.places.items l.max_threads (length l.buckets.by_thread.items) };
+    ghost invariant = { λ l. Sound (machine (record { number = l.number; max_threads = l.max_threads; paired = l.paired; sleeps = l.sleeps; waiting = l.waiting.entries.items; owned = l.owned.entries.items; places = l.places.items; by_bucket = l.buckets.by_bucket.items; by_thread = l.buckets.by_thread.items })) × Room l.waiting l.places.items l.max_threads (length l.buckets.by_thread.items) };
 }
 
 impl<A: Allocator> Lot<A> {
@@ -183,13 +182,12 @@ impl<A: Allocator> Lot<A> {
     /// Why sections of two keys can't be entered now.
     pub(crate) fn either_busy(&self, key: usize, other: usize) -> Option<LotFault>
         ensures fault { result ≡ either_busy key other (machine self.now) }
-        ensures free { result ≡ None → busy key (machine self.now) ≡ None }
+        ensures quiet { result ≡ None → (thread : ℕ) → option_map_or (is_held key) (place_at (machine self.now).places thread) false ≡ false }
     {
-        if self.is_entered(key) || self.is_entered(other) {
-            Some(LotFault::Busy)
-        } else {
-            None
+        if let Some(fault) = self.busy(key) {
+            return Some(fault);
         }
+        self.busy(other)
     }
 
     /// Whether a section is open in the bucket of this key: others that would enter one there are refused as `Busy`.
@@ -197,7 +195,7 @@ impl<A: Allocator> Lot<A> {
         ensures entered { result ≡ is_some (open_at (machine self.now) key) }
         ensures quiet { result ≡ false → (thread : ℕ) → option_map_or (is_held key) (place_at (machine self.now).places thread) false ≡ false }
     {
-        self.open_at(key).is_some()
+        self.buckets.at(key).is_some()
     }
 
     /// That the lot is sound, for who says what a call on it did: a waiting thread stands once in its key's list, and nobody stands
@@ -254,8 +252,8 @@ impl<A: Allocator> Lot<A> {
         if let Some(fault) = self.register_fault() {
             return Err(fault);
         }
-        let wanted = self.buckets_wanted();
         let thread = free_number(&self.places);
+        let wanted = buckets_for(threads_with(self.paired, thread + 1));
         if thread < self.places.len() {
             self.buckets.make_room(thread + 1, wanted)?;
             put(&mut self.places, thread, Some(Place::Running));

@@ -267,7 +267,7 @@ impl<A: Allocator> Lot<A> {
 
     /// Takes those waiters of a key that a filter wants, and answers how many.
     fn sift<F: FnMut(ParkToken) -> FilterOp + Drop>(&mut self, key: usize, mut filter: F) -> usize
-        requires open { IsOpen (machine self.old) key }
+        requires entered { IsOpen (machine self.old) key }
         requires callable { F.IsAlwaysCallable filter }
         ensures { let queue = (machine self.old).queues key in (answers : List FilterOp) × (last : F)
             × Answers F.step is_stop filter (tokens_of queue) answers last × (result ≡ length (chosen_by answers queue))
@@ -294,7 +294,7 @@ impl<A: Allocator> Lot<A> {
 
     /// Takes and moves waiters as the operation says, and answers what was done.
     fn requeue(&mut self, op: RequeueOp, from: usize, to: usize) -> UnparkResult
-        requires open { IsOpen (machine self.old) from }
+        requires entered { IsOpen (machine self.old) from }
         requires nobody { (s : Section) → open_at (machine self.old) from ≡ Some s → s.thread ≡ None }
         ensures result { let queue = (machine self.old).queues from in
             result ≡ unpark_result (length (woken_by op queue)) (length (moved_by op queue)) (left_by op queue) }

@@ -94,9 +94,7 @@ impl<A: Allocator> Lot<A> {
                 token: DEFAULT_UNPARK_TOKEN,
             }),
         );
-        if let Some(thread) = owner {
-            self.buckets.seat(thread, Some(key));
-        }
+        self.buckets.let_in(owner, key);
     }
 
     /// Says how far the section of a key has come.
@@ -126,9 +124,7 @@ impl<A: Allocator> Lot<A> {
         let owner = owner_of(self.buckets.at(key));
         tell(&mut self.places, key, token, woken);
         self.buckets.put(key, None);
-        if let Some(thread) = owner {
-            self.buckets.seat(thread, None);
-        }
+        self.buckets.let_out(owner);
     }
 }
 

@@ -312,10 +312,12 @@ pub record ActsCross : Type 0 where
   pub second : (n : ℕ) (spot : QueuePosition) (us : List ℕ) (p : RwPhase)
       → weight Inside2 (role n spot us p) ≡ in_second (rw_stance p)
 
--- where nobody has entered the bucket, nobody is inside a section of a lock
+-- where nobody has entered the bucket of a key, nobody is inside a section of the key
 abbrev pub FreeSectionsAreEmpty : Type 0
-FreeSectionsAreEmpty = (f : Family AnyLock) (i : ℕ) (l : Lock) → SoundFamilyOf AnySound any_inside one_bucket f
-    → f.entered 0 ≡ None → f.locks i ≡ Rw l → NobodyIs Inside1 l.roles × NobodyIs Inside2 l.roles
+FreeSectionsAreEmpty = (bucket : ℕ → ℕ) (f : Family AnyLock) (i : ℕ) (l : Lock)
+    → SoundFamilyOf AnySound any_inside bucket f → f.locks i ≡ Rw l
+    → (f.entered (bucket (key i First)) ≡ None → NobodyIs Inside1 l.roles)
+    × (f.entered (bucket (key i Second)) ≡ None → NobodyIs Inside2 l.roles)
 
 -- What one that takes waiters learns of the lists as they are after that: whether some are left, and that there was
 -- none to take.

@@ -35,11 +35,11 @@ returns-clause-joined g c =
     let held : WasHeld old new = search rules in
     let validates : Bool → Type 0 = λ valid. goal.V-post g c.args.validate valid in
     let same = told validates c.args.thread c.args.key c.args.park_token c.args.timed old new c.in-Ok.ended
-    (enter_fault old c.args.thread) c.is_none.result c.is_none.ensures lot in (
+    (enter_fault old c.args.thread c.args.key) c.is_none.result c.is_none.ensures lot in (
       old,
       new,
       c.park-parked.ensures.sound,
-      subst (λ o. Does (λ m. enter_fault m c.args.thread)
+      subst (λ o. Does (λ m. enter_fault m c.args.thread c.args.key)
           (Parks validates c.args.thread c.args.key c.args.park_token c.args.timed) old (Ok o) new) same lot,
       held,
     )

@@ -4,8 +4,8 @@ use Rattle.parking_lot_core_model.proofs.buckets.is_any_there.Goals as goal
 
 pub returns-then-is_some : goal.returns-then-is_some
 returns-then-is_some c = sym (any_there c.args.sections.now c.loop-section.section-index None (omega arith)
-    c.if-is_some.ensures)
+    (sym c.if-is_some.ensures))
 
 pub loop-section-preserved : goal.loop-section-preserved
 loop-section-preserved c = none_there c.args.sections.now c.loop-section.section-index None (omega arith)
-    c.loop-section.invariant c.if-is_some.ensures
+    c.loop-section.invariant (sym c.if-is_some.ensures)

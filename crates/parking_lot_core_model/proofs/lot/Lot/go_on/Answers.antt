@@ -19,15 +19,13 @@ invariant_of-self g c =
       waiting = l.waiting.entries.items;
       owned = l.owned.entries.items;
       places = l.places.items;
-      buckets = length l.buckets.by_bucket.items;
-      sections = slot l.buckets.by_bucket.items;
-      inside = slot l.buckets.by_thread.items;
-      seats = length l.buckets.by_thread.items;
+      by_bucket = l.buckets.by_bucket.items;
+      by_thread = l.buckets.by_thread.items;
     }
     in
     let t = c.in-Some-Taken in
-    let at : place_at p.places c.args.thread ≡ Some (Taken t.field-0-0 t.field-0-1 t.field-0-2) =
+    let at : place_at p.places c.args.thread ≡ Some (Taken t.field-0-0 t.field-0-1 t.field-0-2 t.field-0-3) =
     ap (λ v. place_at v.places c.args.thread) c.self.view_is ∙ (sym t.ensures.place ∙ ap (λ x. Some x) t.field-0-is)
     in
     subst (λ (ps : List (Option Place)). Owed (record p { places = ps }) l.waiting) (sym c.put.ensures)
-    (placed_running p l.waiting c.args.thread t.field-0-0 t.field-0-1 t.field-0-2 c.self.invariant at)
+    (placed_running p l.waiting c.args.thread t.field-0-0 t.field-0-1 t.field-0-2 t.field-0-3 c.self.invariant at)

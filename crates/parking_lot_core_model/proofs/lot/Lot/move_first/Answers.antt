@@ -10,7 +10,7 @@ use Rattle.parking_lot_core_model.specs.declared.place.Phase.TheVariants as phas
 use Rattle.parking_lot_core_model.specs.declared.place.Waiter.{Waiter}
 use Rattle.parking_lot_core_model.specs.Lists.{lists_of, updated}
 use Rattle.parking_lot_core_model.specs.Places.{place_at, told, may_join, held, moved_to, changed}
-use Rattle.parking_lot_core_model.specs.Machine.{Parts, machine, moved, moved_first}
+use Rattle.parking_lot_core_model.specs.Machine.{Parts, machine, moved, moved_first, open_at}
 use Rattle.parking_lot_core_model.proofs.Closing.{Owed, nobody_taken, moved_parts, first_moves, first_stays}
 use Rattle.parking_lot_core_model.proofs.lot.Lot.move_first.Goals as goal
 
@@ -25,17 +25,17 @@ invariant_of-self g c =
       waiting = l.waiting.entries.items;
       owned = l.owned.entries.items;
       places = l.places.items;
-      buckets = length l.buckets.by_bucket.items;
-      sections = slot l.buckets.by_bucket.items;
-      inside = slot l.buckets.by_thread.items;
-      seats = length l.buckets.by_thread.items;
+      by_bucket = l.buckets.by_bucket.items;
+      by_thread = l.buckets.by_thread.items;
     }
     in
     let h = c.in-Some.ensures in
     subst (λ (ps : List (Option Place)). Owed (record p { waiting = c.push.new.self.entries.items; places = ps })
     c.push.new.self) (sym c.relist.ensures)
     (moved_parts p l.waiting c.take.new.self c.args.from 0 c.in-Some.waiter c.self.invariant (sym h.item)
-    c.push.new.self c.args.to h.kept c.push.ensures.kept h.total c.push.ensures.total
+    c.push.new.self c.args.to
+    (λ s at. c.requires s (ap (λ v. open_at (machine v) c.args.from) (sym c.self.view_is) ∙ at)) h.kept
+    c.push.ensures.kept h.total c.push.ensures.total
     (c.push.ensures.room ∙ h.room))
 
 pub invariant_of-self-in_default : goal.invariant_of-self-in_default
@@ -49,10 +49,8 @@ invariant_of-self-in_default g c =
       waiting = l.waiting.entries.items;
       owned = l.owned.entries.items;
       places = l.places.items;
-      buckets = length l.buckets.by_bucket.items;
-      sections = slot l.buckets.by_bucket.items;
-      inside = slot l.buckets.by_thread.items;
-      seats = length l.buckets.by_thread.items;
+      by_bucket = l.buckets.by_bucket.items;
+      by_thread = l.buckets.by_thread.items;
     }
     in
     let h = c.in_default.ensures in
@@ -69,10 +67,8 @@ returns-in-Some g c =
       waiting = l.waiting.entries.items;
       owned = l.owned.entries.items;
       places = l.places.items;
-      buckets = length l.buckets.by_bucket.items;
-      sections = slot l.buckets.by_bucket.items;
-      inside = slot l.buckets.by_thread.items;
-      seats = length l.buckets.by_thread.items;
+      by_bucket = l.buckets.by_bucket.items;
+      by_thread = l.buckets.by_thread.items;
     }
     in
     let h = c.in-Some.ensures in
@@ -91,10 +87,8 @@ returns-in_default g c =
       waiting = l.waiting.entries.items;
       owned = l.owned.entries.items;
       places = l.places.items;
-      buckets = length l.buckets.by_bucket.items;
-      sections = slot l.buckets.by_bucket.items;
-      inside = slot l.buckets.by_thread.items;
-      seats = length l.buckets.by_thread.items;
+      by_bucket = l.buckets.by_bucket.items;
+      by_thread = l.buckets.by_thread.items;
     }
     in
     let h = c.in_default.ensures in

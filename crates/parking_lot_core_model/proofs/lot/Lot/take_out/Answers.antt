@@ -11,6 +11,7 @@ use Rattle.parking_lot_core_model.specs.declared.place.Waiter.{Waiter}
 use Rattle.parking_lot_core_model.specs.Lists.{lists_of, updated, total}
 use Rattle.parking_lot_core_model.specs.Places.{place_at, told, may_join, held, moved_to, changed}
 use Rattle.parking_lot_core_model.specs.Machine.{Parts, machine, moved, moved_first}
+use Rattle.parking_lot_core_model.specs.Sound.{IsOpen}
 use Rattle.parking_lot_core_model.proofs.Closing.{Owed, nobody_taken, held_parts}
 use Rattle.parking_lot_core_model.proofs.lot.Lot.take_out.Goals as goal
 
@@ -25,10 +26,8 @@ invariant_of-self g c =
       waiting = l.waiting.entries.items;
       owned = l.owned.entries.items;
       places = l.places.items;
-      buckets = length l.buckets.by_bucket.items;
-      sections = slot l.buckets.by_bucket.items;
-      inside = slot l.buckets.by_thread.items;
-      seats = length l.buckets.by_thread.items;
+      by_bucket = l.buckets.by_bucket.items;
+      by_thread = l.buckets.by_thread.items;
     }
     in
     nobody_taken p l.waiting c.take.new.self c.args.key c.args.nth c.self.invariant
@@ -47,14 +46,12 @@ invariant_of-self-2 g c =
       waiting = l.waiting.entries.items;
       owned = l.owned.entries.items;
       places = l.places.items;
-      buckets = length l.buckets.by_bucket.items;
-      sections = slot l.buckets.by_bucket.items;
-      inside = slot l.buckets.by_thread.items;
-      seats = length l.buckets.by_thread.items;
+      by_bucket = l.buckets.by_bucket.items;
+      by_thread = l.buckets.by_thread.items;
     }
     in
     let h = c.in_ok-waiter.ensures in
     subst (λ (ps : List (Option Place)). Owed (record p { waiting = c.take.new.self.entries.items; places = ps })
     c.take.new.self) (sym c.hold.ensures)
     (held_parts p l.waiting c.take.new.self c.args.key c.args.nth c.in_ok-waiter.waiter c.self.invariant (sym h.item)
-    (subst (λ (v : Parts). IsSome v.section) (sym c.self.view_is) c.requires) h.kept h.total h.room)
+    (subst (λ (v : Parts). IsOpen (machine v) c.args.key) (sym c.self.view_is) c.requires) h.kept h.total h.room)

@@ -21,10 +21,8 @@ invariant_of-self g c =
       waiting = l.waiting.entries.items;
       owned = l.owned.entries.items;
       places = l.places.items;
-      buckets = length l.buckets.by_bucket.items;
-      sections = slot l.buckets.by_bucket.items;
-      inside = slot l.buckets.by_thread.items;
-      seats = length l.buckets.by_thread.items;
+      by_bucket = l.buckets.by_bucket.items;
+      by_thread = l.buckets.by_thread.items;
     }
     in
     let at : place_at p.places c.args.thread ≡ Some c.in-Some.place = ap (λ v. place_at v.places c.args.thread)
