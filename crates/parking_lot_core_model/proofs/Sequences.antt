@@ -464,6 +464,35 @@ sound_fresh limit number = record {
   owned = λ t none. refl;
 }
 
+-- whatever else a new lot is made of
+pub sound_made : (limit number : ℕ) (paired : Bool) (qs : ℕ → List Waiter) (rs : ℕ → List ℕ) (ps : List (Option Place))
+    (b : ℕ) (ss : ℕ → Option Section) (is : ℕ → Option ℕ) → qs ≡ (λ _. []) → rs ≡ (λ _. []) → ps ≡ [] → b ≡ 16
+    → ss ≡ (λ _. None) → is ≡ (λ _. None)
+    → Sound (record (fresh limit number) {
+      paired = paired;
+      queues = qs;
+      resources = rs;
+      places = ps;
+      buckets = b;
+      sections = ss;
+      inside = is;
+    })
+sound_made limit number paired qs rs ps b ss is e f g h i j = record {
+  waits = λ t k. ap (λ (x : ℕ → List Waiter). count_by (is_thread t) (x k)) e
+      ∙ ap (λ (x : List (Option Place)). times_at k (place_at x t)) (sym g);
+  held = λ t k at. absurd (false≢true
+      (sym (ap (λ (x : List (Option Place)). option_map_or (is_held k) (place_at x t) false) g) ∙ at));
+  inside = λ n s t at whose may. absurd (none≢some (sym (ap (λ (x : ℕ → Option Section). x n) i) ∙ at));
+  near = λ t k at. absurd (none≢some (sym (ap (λ (x : ℕ → Option ℕ). x t) j) ∙ at));
+  fit = record {
+    some = subst (λ (n : ℕ). 0 < n) (sym h) (omega arith);
+    bucket = λ n s at. absurd (none≢some (sym (ap (λ (x : ℕ → Option Section). x n) i) ∙ at));
+    owner = λ n s t at. absurd (none≢some (sym (ap (λ (x : ℕ → Option Section). x n) i) ∙ at));
+    entered = λ t k at. absurd (none≢some (sym (ap (λ (x : ℕ → Option ℕ). x t) j) ∙ at));
+  };
+  owned = λ t none. ap (λ (x : ℕ → List ℕ). x t) f;
+}
+
 pub sound_fresh_paired : (limit number : ℕ) → Sound (fresh_paired limit number)
 sound_fresh_paired limit number = let h = sound_fresh limit number in record {
   waits = h.waits;

@@ -39,6 +39,7 @@ impl<A: Allocator> Lot<A> {
         ensures { Does (λ m. enter_fault m thread key) (Parks (V.post validate) thread key park_token timed)
             (machine self.old) result (machine self.new) }
     {
+        let _ = &self.number;
         if let Some(fault) = self.enter_fault(thread, key) {
             return Err(fault);
         }

@@ -13,7 +13,8 @@ use Rattle.parking_lot_core_model.specs.declared.place.Waiter.{Waiter}
 use Rattle.parking_lot_core_model.specs.Places.{place_at, mark_of}
 use Rattle.parking_lot_core_model.specs.Sound.{Sound}
 use Rattle.parking_lot_core_model.proofs.Numbers.{flag, slice_get-set_other, count_by-at, count_by-remove}
-use Rattle.parking_lot_core_model.proofs.Sounds.{none≢some, by_eqb}
+use Rattle.parking_lot_core_model.proofs.Kept.{by_eqb}
+use Rattle.parking_lot_core_model.proofs.Entering.{none≢some}
 use Rattle.parking_lot_machine_calls.specs.declared.seat.WakeResult.{WakeResult}
 use Rattle.parking_lot_machine_calls.specs.declared.seat.QueuePosition.{QueuePosition}
 use Rattle.parking_lot_machine_calls.specs.declared.open_call.Call.{Call}
@@ -22,7 +23,7 @@ use Rattle.parking_lot_machine.specs.Rows.{State, call_at, is_by, taken_by}
 use Rattle.parking_lot_machine_calls.specs.Stances.{Looks, TurnsBack, Joins, Joined, Takes, Stores, Tells, Stance, Out}
 use Rattle.parking_lot_machine_calls.specs.Stances.{In, Asleep, stance, taken_count}
 use Rattle.parking_lot_machine_calls.specs.CallActs.{settled_spot, settled}
-use Rattle.parking_lot_machine.specs.RowFits.{Seated, Awaits, IsCounted, IsInside, IsTaken, IsOwed, WakesSome, LotFits}
+use Rattle.parking_lot_machine.specs.RowFits.{SeatedIn, Awaits, IsCounted, IsInside, IsTaken, IsOwed, WakesSome, LotFits}
 
 -- CALLS, BY THREAD
 
@@ -391,8 +392,8 @@ module _ (s u : State) (h : LotFits s) (carries : (v : ℕ) → Carries (call_at
       × Awaits k w.token (stance c.core))
       → ((v k : ℕ) (token : ParkToken) (c : Call) → call_at s v ≡ Some c → stance c.core ≡ Asleep k token
       → option_map_or mark_of (place_at u.lot.places v) 0 ≡ option_map_or mark_of (place_at s.lot.places v) 0)
-      → ((t : ℕ) → t < length u.calls → Seated t (call_at u t) (place_at u.lot.places t) u.lot.section)
-      → ((section : Section) → u.lot.section ≡ Some section → (t : ℕ) × (section.thread ≡ Some t)
+      → ((t : ℕ) → t < length u.calls → SeatedIn u.lot t (call_at u t))
+      → ((b : ℕ) (section : Section) → u.lot.sections b ≡ Some section → (t : ℕ) × (section.thread ≡ Some t)
       × (t < length u.calls))
       → LotFits u
   carried_by threads sound wakes waits marks seated opened = record {
@@ -426,8 +427,8 @@ module _ (s u : State) (h : LotFits s) (carries : (v : ℕ) → Carries (call_at
   pub carried : length u.calls ≡ length s.calls → Sound u.lot → u.wakes ≡ s.wakes → u.lot.queues ≡ s.lot.queues
       → ((v k : ℕ) (token : ParkToken) (c : Call) → call_at s v ≡ Some c → stance c.core ≡ Asleep k token
       → option_map_or mark_of (place_at u.lot.places v) 0 ≡ option_map_or mark_of (place_at s.lot.places v) 0)
-      → ((t : ℕ) → t < length u.calls → Seated t (call_at u t) (place_at u.lot.places t) u.lot.section)
-      → ((section : Section) → u.lot.section ≡ Some section → (t : ℕ) × (section.thread ≡ Some t)
+      → ((t : ℕ) → t < length u.calls → SeatedIn u.lot t (call_at u t))
+      → ((b : ℕ) (section : Section) → u.lot.sections b ≡ Some section → (t : ℕ) × (section.thread ≡ Some t)
       × (t < length u.calls))
       → LotFits u
   carried threads sound wakes queues marks seated opened =

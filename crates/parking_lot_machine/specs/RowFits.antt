@@ -14,6 +14,8 @@ use Rattle.parking_lot_core_model.specs.declared.place.Waiter.{Waiter}
 use Rattle.parking_lot_core_model.specs.Places.{place_at, mark_of, may_take, may_store, passed_of}
 use Rattle.parking_lot_core_model.specs.Results.{is_left}
 use Rattle.parking_lot_core_model.specs.Sound as lot
+use Rattle.parking_lot_core_model.specs.Machine.{Machine}
+use Rattle.parking_lot_core_model.specs.Machine as lot_machine
 use Rattle.parking_lot_rules.specs.Any.{AnySound, any_inside}
 use Rattle.parking_lot_rules.specs.Family.{SoundFamilyOf}
 use Rattle.parking_lot_protocol.specs.RwRules as of_rw
@@ -108,6 +110,10 @@ Stands t j (Asleep k token) at place inside sections = IsAt at place sections (2
 abbrev pub Seated : ℕ → Option Call → Option Place → Option ℕ → (ℕ → Option Section) → Type 0
 Seated t None place inside sections = (place ≡ Some Running) × (inside ≡ None)
 Seated t (Some c) place inside sections = Stands t c.lock (stance c.core) c.spot place inside sections
+
+-- a thread in that call, by what the lot says of it
+abbrev pub SeatedIn : Machine → ℕ → Option Call → Type 0
+SeatedIn m t call = Seated t call (place_at m.places t) (m.inside t) (lot_machine.open_at m)
 
 -- a waiter with that token in the k-th list of a lock
 abbrev pub Awaits : ℕ → ParkToken → Stance → Type 0
@@ -342,8 +348,7 @@ WakesSome c = core_act c ≡ act.Section section.Wake → 1 ≤ taken_count c
 pub record LotFits (s : State) : Type 0 where
   -- the lot is sound, and each thread's place in it is the one of its stance
   pub sound : lot.Sound s.lot
-  pub seated : (t : ℕ) → t < length s.calls → Seated t (call_at s t) (place_at s.lot.places t) (s.lot.inside t)
-      (open_at s)
+  pub seated : (t : ℕ) → t < length s.calls → SeatedIn s.lot t (call_at s t)
   pub opened : (b : ℕ) (section : Section) → s.lot.sections b ≡ Some section → (t : ℕ) × (section.thread ≡ Some t)
       × (t < length s.calls)
   -- who waits in a lock's list is in a call there

@@ -1,4 +1,4 @@
-use Rattle.std.proofs.Common.{◌≡◌, ◌∙◌, sym, ap, refl, Some, Ok}
+use Rattle.std.proofs.Common.{◌≡◌, ◌∙◌, ℕ, sym, ap, refl, Some, Ok}
 use Rattle.parking_lot_core_model.specs.declared.place.Section.{Section}
 use Rattle.parking_lot_core_model.specs.declared.place.Phase.TheVariants as phase
 use Rattle.parking_lot_core_model.specs.Places.{may_join}
@@ -25,8 +25,8 @@ pub returns : goal.returns
 returns g c =
     let m = machine c.args.self.now in
     let s = c.in-Some.section in
-    let step = λ (x : Machine) key. joined (in_phase x key phase.Joined) c.args.thread key c.args.park_token
-    c.args.timed in
+    let step : Machine → ℕ → Machine = λ x key. joined (in_phase x key phase.Joined) c.args.thread key
+    c.args.park_token c.args.timed in
     let e : section_of m c.args.thread ≡ Some s = sym c.section_of.ensures.section ∙ c.in-Some.is in
     let done : machine c.join.new.self ≡ step m s.key = c.join.ensures
     ∙ ap (λ (x : Machine). joined x c.args.thread s.key c.args.park_token c.args.timed) c.set_phase.ensures in

@@ -55,8 +55,8 @@ open-requires g c =
       outside = λ t e. absurd (none≢some e);
     }
 
-pub take_first-requires : goal.take_first-requires
-take_first-requires g c = is_opened (machine c.args.self.now) (machine c.open.new.self) None c.args.key c.open.ensures
+pub take_first-woken-requires : goal.take_first-woken-requires
+take_first-woken-requires g c = is_opened (machine c.args.self.now) (machine c.open.new.self) None c.args.key c.open.ensures
 
 pub finish-requires : goal.finish-requires
 finish-requires g c =

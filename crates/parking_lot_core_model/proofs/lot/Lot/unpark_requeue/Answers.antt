@@ -64,8 +64,8 @@ open-requires g c =
       outside = λ t e. absurd (none≢some e);
     }
 
-pub requeue-requires : goal.requeue-requires
-requeue-requires g c = record {
+pub requeue-result-requires : goal.requeue-result-requires
+requeue-result-requires g c = record {
   entered = is_opened (machine c.args.self.now) (machine c.open.new.self) None c.args.key_from c.open.ensures;
   nobody = is_nobodys (machine c.args.self.now) (machine c.open.new.self) c.args.key_from c.open.ensures;
 }

@@ -58,8 +58,8 @@ open-requires g c =
       outside = λ t e. absurd (none≢some e);
     }
 
-pub sift-requires : goal.sift-requires
-sift-requires g c = record {
+pub sift-woken-requires : goal.sift-woken-requires
+sift-woken-requires g c = record {
   entered = is_opened (machine c.args.self.now) (machine c.open.new.self) None c.args.key c.open.ensures;
   callable = c.requires.filter;
 }
