@@ -1,26 +1,31 @@
 -- The acts of a call keep what fits of the lot.
 use Rattle.std.proofs.Common.{◌≡◌, ◌<◌, ℕ, ◌+◌, ◌*◌, ◌==◌, ◌⊎◌, inl, inr, false, List, length, Option, Some, None}
-use Rattle.std.proofs.Common.{slice_get, slice_set, refl, sym, ap, ◌∙◌, subst, ◌≤◌, true, cond, map, arith}
+use Rattle.std.proofs.Common.{slice_get, slice_set, refl, sym, ap, ◌∙◌, subst, ◌≤◌, ◌%◌, true, cond, map, arith, eq-eqb}
 use Rattle.std.specs.Option.{option_map_or, option_and_then, option_map}
-use Rattle.std.proofs.lemmas.Bool.{eqb-false, false≢true}
+use Rattle.std.proofs.lemmas.Bool.{eqb-false, false≢true, ne_eqb, cond-true, cond-false}
 use Rattle.std.proofs.lemmas.List.{length-set}
 use Rattle.parking_lot_core_model.specs.declared.parking.ParkToken.{ParkToken}
 use Rattle.parking_lot_core_model.specs.declared.parking.UnparkToken.{UnparkToken}
 use Rattle.parking_lot_core_model.specs.declared.place.Place.{Place}
 use Rattle.parking_lot_core_model.specs.declared.place.Place.TheVariants.{Running, Held, Taken, Waiting}
+use Rattle.parking_lot_core_model.specs.declared.place.Sleep.{Sleep}
+use Rattle.parking_lot_core_model.specs.Lists.{updated}
 use Rattle.parking_lot_core_model.specs.declared.place.Section.{Section}
-use Rattle.parking_lot_core_model.specs.Machine.{Machine, opened, in_phase, closed, token_of}
-use Rattle.parking_lot_core_model.specs.Places.{place_at, mark_of, may_take, may_store, told}
+use Rattle.parking_lot_core_model.specs.Machine.{Machine, fresh_section, let_out, opened, in_phase, stored, closed}
+use Rattle.parking_lot_core_model.specs.Machine as core_lot
+use Rattle.parking_lot_core_model.specs.Places.{place_at, is_held, mark_of, may_take, may_store, told}
 use Rattle.parking_lot_core_model.specs.Sound.{Sound}
-use Rattle.parking_lot_core_model.proofs.Sounds.{none≢some, by_eqb, place_at-map}
+use Rattle.parking_lot_core_model.proofs.Kept.{by_eqb, updated_at, updated_other}
+use Rattle.parking_lot_core_model.proofs.Entering.{none≢some, closed_as}
+use Rattle.parking_lot_core_model.proofs.Sounds.{place_at-map}
 use Rattle.parking_lot_protocol.specs.declared.act.ActResult.{ActResult}
 use Rattle.parking_lot_machine_calls.specs.declared.seat.WakeResult.{WakeResult}
 use Rattle.parking_lot_machine_calls.specs.declared.seat.QueuePosition.{QueuePosition}
 use Rattle.parking_lot_machine_calls.specs.declared.open_call.Call.{Call}
-use Rattle.parking_lot_machine.specs.Rows.{State, call_at, word_at, taken_by}
+use Rattle.parking_lot_machine.specs.Rows.{State, bucket, call_at, open_at, word_at, taken_by}
 use Rattle.parking_lot_machine_calls.specs.Stances.{Stance, Out, In, Asleep, stance, taken_count, Doing, Looks}
 use Rattle.parking_lot_machine_calls.specs.Stances.{TurnsBack, Joins, Joined, Takes, Stores, Tells}
-use Rattle.parking_lot_machine.specs.RowActs.{with_call, with_lot, entered, checked, took_nobody, left}
+use Rattle.parking_lot_machine.specs.RowActs.{with_call, with_lot, list_in, key_in, entered, checked, took_nobody, left}
 use Rattle.parking_lot_machine_calls.specs.CallActs.{hears, told_of, key_of, joins}
 use Rattle.parking_lot_machine.specs.RowFits.{IsInside, IsAt, PlaceWhile, SaidIn, Stands, SeatedIn, LotFits, HasCome}
 use Rattle.parking_lot_machine.specs.RowFits.{WakesSome}
@@ -224,9 +229,9 @@ nobody_off s h t c here none v k token x by said same is asleep at =
 
 -- a stance, as the seat of a call
 pub sits : (t : ℕ) (d : Call) (a : Stance) (m : Machine) → stance d.core ≡ a
-    → Stands t d.lock a d.spot (place_at m.places t) (m.inside t) (lot.open_at m) → SeatedIn m t (Some d)
+    → Stands t d.lock a d.spot (place_at m.places t) (m.inside t) (core_lot.open_at m) → SeatedIn m t (Some d)
 sits t d a m is h =
-    subst (λ (b : Stance). Stands t d.lock b d.spot (place_at m.places t) (m.inside t) (lot.open_at m)) (sym is) h
+    subst (λ (b : Stance). Stands t d.lock b d.spot (place_at m.places t) (m.inside t) (core_lot.open_at m)) (sym is) h
 
 pub carried_awake : (s : State) (t : ℕ) (c d : Call) (a b : Stance) → call_at s t ≡ Some c → stance c.core ≡ a
     → stance d.core ≡ b → IsAwake a → IsUp b → d.lock ≡ c.lock → taken_count d.core ≡ taken_count c.core
@@ -284,7 +289,7 @@ module _ (s : State) (t : ℕ) (h : LotFits s) (key : ℕ) (before after : Optio
         → PlaceWhile how c.spot (place_at places v) (2 * c.lock + k))
         → ((c : Call) (k : ℕ) (token : ParkToken) → call_at s v ≡ Some c → stance c.core ≡ Asleep k token
         → IsAt c.spot (place_at s.lot.places v) (open_at s) (2 * c.lock + k)
-        → IsAt c.spot (place_at places v) (lot.open_at (lot_with_at s key sleeps queues places after inside))
+        → IsAt c.spot (place_at places v) (core_lot.open_at (lot_with_at s key sleeps queues places after inside))
         (2 * c.lock + k))
         → SeatedIn s.lot v (call_at s v)
         → SeatedIn (lot_with_at s key sleeps queues places after inside) v (call_at s v)
@@ -295,7 +300,7 @@ module _ (s : State) (t : ℕ) (h : LotFits s) (key : ℕ) (before after : Optio
         go None at x = (runs x.0, same ∙ x.1)
         go (Some c) at x =
             apart v c.lock (stance c.core) c.spot c.spot (place_at s.lot.places v) (place_at places v) (s.lot.inside v)
-            (inside v) (open_at s) (lot.open_at (lot_with_at s key sleeps queues places after inside)) same runs
+            (inside v) (open_at s) (core_lot.open_at (lot_with_at s key sleeps queues places after inside)) same runs
             (λ k how o is there whose. (
               open_there v (2 * c.lock + k) o e there whose,
               while_in c k how at is,
@@ -338,7 +343,7 @@ module _ (s : State) (t : ℕ) (c : Call) (h : LotFits s) (here : call_at s t �
   entered_as : (b : Stance) → stance c.core ≡ Out → stance enters.core ≡ b → IsUp b
       → taken_count enters.core ≡ taken_count c.core → taken_count c.core ≡ 0
       → (place_at s.lot.places t ≡ Some Running → Stands t c.lock b c.spot (place_at s.lot.places t)
-      (enters_lot.inside t) (lot.open_at enters_lot)) → LotFits (entered s t c k)
+      (enters_lot.inside t) (core_lot.open_at enters_lot)) → LotFits (entered s t c k)
   entered_as b from to up counts idle own =
       let seat = seat_of s h t c Out here from in
       acted s t h (call_within s t c here) (Some enters) enters_lot
@@ -350,13 +355,13 @@ module _ (s : State) (t : ℕ) (c : Call) (h : LotFits s) (here : call_at s t �
       s.lot.places enters_lot.inside v e (updated_other s.lot.inside t (Some (key_of c k)) v e) (λ runs. runs)
       (λ x j how at is place. place)
       (λ x j token at asleep. held_still s t h (key_of c k) None (Some enters_section) free none_its
-      (lot.open_at enters_lot) (λ j'. refl) x.spot (place_at s.lot.places v) (2 * x.lock + j)
+      (core_lot.open_at enters_lot) (λ j'. refl) x.spot (place_at s.lot.places v) (2 * x.lock + j)
       (λ by said o same off there whose in_it. absurd
       (no_section s h t (bucket s (2 * x.lock + j)) o seat.1 there whose))))
       (open_which s t h (key_of c k) None (Some enters_section) free none_its (call_within s t c here)
       (λ x e. ap (λ (y : Section). y.thread) (sym (same_section e))))
 
-  now_open : lot.open_at enters_lot (key_of c k) ≡ Some enters_section
+  now_open : core_lot.open_at enters_lot (key_of c k) ≡ Some enters_section
   now_open = updated_at s.lot.sections (bucket s (key_of c k)) (Some enters_section)
 
   now_inside : enters_lot.inside t ≡ Some (key_of c k)
@@ -381,7 +386,7 @@ module _ (s : State) (t : ℕ) (c d : Call) (h : LotFits s) (here : call_at s t 
     abbrev on : Machine
     on = lot_with_at s key sleeps queues places (Some o') s.lot.inside
 
-    pub now_at : lot.open_at on key ≡ Some o'
+    pub now_at : core_lot.open_at on key ≡ Some o'
     now_at = updated_at s.lot.sections (bucket s key) (Some o')
 
     -- of the others the places stay, and what was said to those that are held
@@ -393,9 +398,9 @@ module _ (s : State) (t : ℕ) (c d : Call) (h : LotFits s) (here : call_at s t 
         seat_there s t h key (Some o) (Some o') was its sleeps queues places s.lot.inside v e refl
         (λ runs. place ∙ runs)
         (λ x j how at is in_it. subst (λ (p : Option Place). PlaceWhile how x.spot p (2 * x.lock + j)) (sym place) in_it)
-        (λ x j token at asleep lies. subst (λ (p : Option Place). IsAt x.spot p (lot.open_at on) (2 * x.lock + j))
+        (λ x j token at asleep lies. subst (λ (p : Option Place). IsAt x.spot p (core_lot.open_at on) (2 * x.lock + j))
         (sym place)
-        (held_still s t h key (Some o) (Some o') was its (lot.open_at on) (λ i. refl) x.spot (place_at s.lot.places v)
+        (held_still s t h key (Some o) (Some o') was its (core_lot.open_at on) (λ i. refl) x.spot (place_at s.lot.places v)
         (2 * x.lock + j)
         (λ by said y same off there own in_it.
         let b : bucket s (2 * x.lock + j) ≡ bucket s key =
@@ -625,20 +630,20 @@ module _ (s : State) (t : ℕ) (c : Call) (h : LotFits s) (here : call_at s t �
       (λ v j token x at asleep. ap (λ p. option_map_or mark_of p 0) (place v)
       ∙ told_marks key o.token (place_at s.lot.places v))
       (sits t leaves b off to
-      (subst (λ (p : Option Place). Stands t c.lock b c.spot p (off.inside t) (lot.open_at off)) (sym (place t))
-      (subst (λ (i : Option ℕ). Stands t c.lock b c.spot (option_map f (place_at s.lot.places t)) i (lot.open_at off))
-      (sym (updated_at s.lot.inside t None)) (own o seat.1 (lot.open_at off)))))
+      (subst (λ (p : Option Place). Stands t c.lock b c.spot p (off.inside t) (core_lot.open_at off)) (sym (place t))
+      (subst (λ (i : Option ℕ). Stands t c.lock b c.spot (option_map f (place_at s.lot.places t)) i (core_lot.open_at off))
+      (sym (updated_at s.lot.inside t None)) (own o seat.1 (core_lot.open_at off)))))
       (λ v e. seat_there s t h key (Some o) None seat.1 its s.lot.sleeps s.lot.queues
       (map (option_map f) s.lot.places) (updated s.lot.inside t None) v e (updated_other s.lot.inside t None v e)
       (λ runs. place v ∙ ap (option_map f) runs)
       (λ x j doing at is in_it. subst (λ (p : Option Place). PlaceWhile doing x.spot p (2 * x.lock + j)) (sym (place v))
       (told_while key o.token doing x.spot (place_at s.lot.places v) (2 * x.lock + j) in_it))
-      (λ x j token at asleep lies. subst (λ (p : Option Place). IsAt x.spot p (lot.open_at off) (2 * x.lock + j))
+      (λ x j token at asleep lies. subst (λ (p : Option Place). IsAt x.spot p (core_lot.open_at off) (2 * x.lock + j))
       (sym (place v))
-      (told_lies x.spot (place_at s.lot.places v) (open_at s) (lot.open_at off) key o.token (2 * x.lock + j)
+      (told_lies x.spot (place_at s.lot.places v) (open_at s) (core_lot.open_at off) key o.token (2 * x.lock + j)
       (λ by said y sleep holds spot_off there whose in_it. by_eqb by t
       (((2 * x.lock + j ≡ key) × (said ≡ told_of o.token))
-      ⊎ (((2 * x.lock + j == key) ≡ false) × (lot.open_at off (2 * x.lock + j) ≡ Some y)))
+      ⊎ (((2 * x.lock + j == key) ≡ false) × (core_lot.open_at off (2 * x.lock + j) ≡ Some y)))
       (λ same.
       let mine : y.thread ≡ Some t = whose ∙ ap (λ w. Some w) same in
       let b' : bucket s (2 * x.lock + j) ≡ bucket s key =

@@ -5,7 +5,7 @@ use Rattle.std.proofs.lemmas.Bool.{ne_eqb}
 use Rattle.parking_lot_core_model.specs.declared.parking.ParkToken.{ParkToken}
 use Rattle.parking_lot_core_model.specs.declared.place.Waiter.{Waiter}
 use Rattle.parking_lot_core_model.specs.Places.{place_at}
-use Rattle.parking_lot_core_model.proofs.Sounds.{by_eqb}
+use Rattle.parking_lot_core_model.proofs.Kept.{by_eqb}
 use Rattle.parking_lot_machine_calls.specs.declared.seat.WakeResult.{WakeResult}
 use Rattle.parking_lot_machine_calls.specs.declared.seat.QueuePosition.{QueuePosition}
 use Rattle.parking_lot_machine_calls.specs.declared.open_call.Call.{Call}
@@ -90,9 +90,9 @@ module _ (s : State) (t : ℕ) (c d : Call) (h : LotFits s) (here : call_at s t 
   nobody_fits = record {
     sound = h.sound;
     seated = seats_one s t h low (Some d) s.lot
-        (sits t d Out (place_at s.lot.places t) s.lot.section to (seat_of s h t c Out here from))
+        (sits t d Out s.lot to (seat_of s h t c Out here from))
         (λ v e x. x);
-    opened = λ section at. let o = h.opened section at in
+    opened = λ b section at. let o = h.opened b section at in
         (o.0, o.1, subst (λ (n : ℕ). o.0 < n) (sym (same_length s t h low (Some d) s.lot)) o.2);
     waits = nobody_waits;
     owed = nobody_owed;

@@ -9,13 +9,12 @@ use Rattle.parking_lot_core_model.specs.Machine.{Machine, registered, free_numbe
 use Rattle.parking_lot_core_model.specs.Places.{place_at}
 use Rattle.parking_lot_core_model.specs.Sound.{Sound}
 use Rattle.parking_lot_core_model.proofs.Numbers.{flag, count_by-cons}
-use Rattle.parking_lot_core_model.proofs.Sounds.{none≢some}
+use Rattle.parking_lot_core_model.proofs.Entering.{none≢some}
 use Rattle.parking_lot_machine_calls.specs.declared.open_call.Call.{Call}
 use Rattle.parking_lot_machine_calls.specs.declared.seat.Wakeup.{Wakeup}
 use Rattle.parking_lot_machine.specs.Rows.{State, call_at, taken_by}
-use Rattle.parking_lot_machine.specs.RowFits.{Seated, LotFits, WakesFit, is_away}
+use Rattle.parking_lot_machine.specs.RowFits.{SeatedIn, LotFits, WakesFit, is_away}
 use Rattle.parking_lot_machine.specs.LotLaws.{IsNew}
-use Rattle.parking_lot_machine.proofs.LotActs.{outside_none}
 
 -- where nobody is in a call nobody is away
 nobody_away : (calls : List (Option Call)) → ((t : ℕ) → option_and_then (λ x. x) (slice_get calls t) ≡ None)
@@ -38,9 +37,9 @@ module _ (s : State) (sound : Sound s.lot) (new : IsNew s) where
   new_fits : LotFits s
   new_fits = record {
     sound = sound;
-    seated = λ t low. subst (λ (o : Option Call). Seated t o (place_at s.lot.places t) s.lot.section)
-        (sym (new.calls t)) (new.runs t low, outside_none s.lot.section t new.free);
-    opened = λ o is. absurd (none≢some (sym new.free ∙ is));
+    seated = λ t low. subst (λ (o : Option Call). SeatedIn s.lot t o) (sym (new.calls t))
+        (new.runs t low, new.outside t);
+    opened = λ b o is. absurd (none≢some (sym (new.free b) ∙ is));
     waits = λ j k n w two at. absurd
         (none≢some (ap (λ (ws : List Waiter). slice_get ws n) (sym (new.lists (2 * j + k))) ∙ at));
     owed = λ t c key token by said is asleep off. no_call t c is;
