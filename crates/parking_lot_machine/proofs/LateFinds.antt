@@ -17,7 +17,9 @@ use Rattle.parking_lot_core_model.specs.Machine.{Machine}
 use Rattle.parking_lot_core_model.specs.Places.{place_at}
 use Rattle.parking_lot_core_model.specs.Sound.{Sound}
 use Rattle.parking_lot_core_model.proofs.Numbers.{flag}
-use Rattle.parking_lot_core_model.proofs.Sounds.{none≢some, by_eqb, place_at-set_same, place_at-set_other}
+use Rattle.parking_lot_core_model.proofs.Entering.{none≢some}
+use Rattle.parking_lot_core_model.proofs.Kept.{by_eqb}
+use Rattle.parking_lot_core_model.proofs.Sounds.{place_at-set_same, place_at-set_other}
 use Rattle.parking_lot_machine_calls.specs.declared.seat.WakeResult.{WakeResult}
 use Rattle.parking_lot_machine_calls.specs.declared.seat.QueuePosition.{QueuePosition}
 use Rattle.parking_lot_machine_calls.specs.declared.open_call.Call.{Call}

@@ -28,12 +28,12 @@ use Rattle.parking_lot_machine_calls.specs.Stances.{TurnsBack, Joins, Joined, Ta
 use Rattle.parking_lot_machine.specs.RowActs.{with_call, with_lot, list_in, key_in, entered, checked, took_nobody, left}
 use Rattle.parking_lot_machine_calls.specs.CallActs.{hears, told_of, key_of, joins}
 use Rattle.parking_lot_machine.specs.RowFits.{IsInside, IsAt, PlaceWhile, SaidIn, Stands, SeatedIn, LotFits, HasCome}
-use Rattle.parking_lot_machine.specs.RowFits.{WakesSome}
+use Rattle.parking_lot_machine.specs.RowFits.{TakersAreOut, WakesSome}
 use Rattle.parking_lot_machine_calls.specs.StanceLaws.{StaysOut, LeavesFor}
 use Rattle.parking_lot_machine_calls.proofs.Stancing.{wakes_some}
 use Rattle.parking_lot_machine.proofs.Carrying.{call_within, set_elsewhere, Carries, carries_same, IsAwake, IsUp}
 use Rattle.parking_lot_machine.proofs.Carrying.{carries_awake, carries_begun, carries_ended, carried, carries_lain}
-use Rattle.parking_lot_machine.proofs.Carrying.{taken_some}
+use Rattle.parking_lot_machine.proofs.Carrying.{outs_still, taken_some}
 use Rattle.parking_lot_rules.proofs.Slots.{set_there}
 use Rattle.parking_lot_core_model.specs.declared.place.Phase.{Phase}
 use Rattle.parking_lot_core_model.specs.Results.{is_left}
@@ -107,6 +107,7 @@ same_parts s u calls wakes lot h =
     carried s u h (λ v. carries_same (call_at s v) (call_at u v) (at v)) (ap length calls)
     (subst Sound (sym lot) h.sound) wakes (ap (λ (m : Machine). m.queues) lot)
     (λ v k token c is asleep. ap (λ o. option_map_or mark_of o 0) (place v))
+    (outs_still s u.lot h place (λ b out. ap (λ (m : Machine). m.inside b) lot ∙ out))
     (λ v low. subst (λ (o : Option Call). SeatedIn u.lot v o) (sym (at v))
     (subst (λ (m : Machine). SeatedIn m v (call_at s v)) (sym lot)
     (h.seated v (subst (λ (cs : List (Option Call)). v < length cs) calls low))))
@@ -151,20 +152,22 @@ module _ (s : State) (t : ℕ) (h : LotFits s) (low : t < length s.calls) where
     pub acted : Carries (call_at s t) o → Sound lot → lot.queues ≡ s.lot.queues
         → ((v k : ℕ) (token : ParkToken) (c : Call) → call_at s v ≡ Some c → stance c.core ≡ Asleep k token
         → option_map_or mark_of (place_at lot.places v) 0 ≡ option_map_or mark_of (place_at s.lot.places v) 0)
+        → TakersAreOut s lot
         → SeatedIn lot t o
         → ((v : ℕ) → (v == t) ≡ false → SeatedIn s.lot v (call_at s v) → SeatedIn lot v (call_at s v))
         → ((b : ℕ) (section : Section) → lot.sections b ≡ Some section → (w : ℕ) × (section.thread ≡ Some w)
         × (w < length s.calls))
         → LotFits (with_lot (record s { calls = slice_set s.calls t o }) lot)
-    acted carries sound queues marks own others opened =
+    acted carries sound queues marks outs own others opened =
         carried s (with_lot (record s { calls = slice_set s.calls t o }) lot) h (carries_one carries) same_length sound
-        refl queues marks (seats_one own others)
+        refl queues marks outs (seats_one own others)
         (λ b section is. let x = opened b section is in (x.0, x.1, subst (λ (n : ℕ). x.0 < n) (sym same_length) x.2))
 
   -- nothing of the lot changes
   pub quiet : (o : Option Call) → Carries (call_at s t) o → SeatedIn s.lot t o
       → LotFits (record s { calls = slice_set s.calls t o })
-  quiet o carries own = acted o s.lot carries h.sound refl (λ v k token c is asleep. refl) own (λ v e x. x) h.opened
+  quiet o carries own = acted o s.lot carries h.sound refl (λ v k token c is asleep. refl) h.outside own (λ v e x. x)
+      h.opened
 
 -- a stance that is known
 pub seat_of : (s : State) → LotFits s → (t : ℕ) (c : Call) (a : Stance) → call_at s t ≡ Some c → stance c.core ≡ a
@@ -350,6 +353,10 @@ module _ (s : State) (t : ℕ) (c : Call) (h : LotFits s) (here : call_at s t �
       (carried_awake s t c enters Out b here from to tt up refl counts (λ i. inr idle) (wakes_some c.core seen.Entered))
       sound refl
       (λ v j token x is asleep. refl)
+      (λ v j x token by said y key sleep is asleep off place.
+      updated_other s.lot.inside t (Some (key_of c k)) by
+      (ne_eqb by t (λ e. nobody_off s h t c here idle v j token x by said e is asleep off))
+      ∙ h.outside v j x token by said y key sleep is asleep off place)
       (sits t enters b enters_lot to (own seat.0))
       (λ v e. seat_there s t h (key_of c k) None (Some enters_section) free none_its s.lot.sleeps s.lot.queues
       s.lot.places enters_lot.inside v e (updated_other s.lot.inside t (Some (key_of c k)) v e) (λ runs. runs)
@@ -422,6 +429,7 @@ module _ (s : State) (t : ℕ) (c d : Call) (h : LotFits s) (here : call_at s t 
         λ v. ap (λ (ps : List (Option Place)). place_at ps v) same_places in
         acted s t h (call_within s t c here) (Some d) on carries sound same_queues
         (λ v j token x at asleep. ap (λ p. option_map_or mark_of p 0) (place v))
+        (outs_still s on h place (λ b out. out))
         own
         (λ v e. seats_still v e (place v) (kept v))
         (open_which s t h key (Some o) (Some o') was its (call_within s t c here)
@@ -559,6 +567,26 @@ told_while key token Takes at place k h = ap (option_map (told key token false))
 told_while key token Stores at place k h = ap (option_map (told key token false)) h
 told_while key token (Tells said) at place k h = ap (option_map (told key token false)) h
 
+same_held : {a b : ℕ} {x y : Sleep} → Some (Held a x) ≡ Some (Held b y) → a ≡ b
+same_held e = cc
+
+held_taken : {a b : ℕ} {x y : Sleep} {token : UnparkToken} {w : Bool} → Some (Held a x) ≡ Some (Taken token b y w) → ⊥
+held_taken e = cc
+
+-- who was told is so already, or is held by the key's section
+told_from : (key : ℕ) (token y : UnparkToken) (k : ℕ) (sleep : Sleep) (p : Option Place)
+    → option_map (told key token false) p ≡ Some (Taken y k sleep false)
+    → (p ≡ Some (Taken y k sleep false)) ⊎ ((z : Sleep) × (p ≡ Some (Held key z)))
+told_from key token y k sleep None e = absurd cc
+told_from key token y k sleep (Some Running) e = absurd cc
+told_from key token y k sleep (Some (Waiting at z)) e = absurd cc
+told_from key token y k sleep (Some (Taken x at z w)) e = inl e
+told_from key token y k sleep (Some (Held at z)) e = by_eqb at key
+    ((Some (Held at z) ≡ Some (Taken y k sleep false)) ⊎ ((x : Sleep) × (Some (Held at z) ≡ Some (Held key x))))
+    (λ same. inr (z, ap (λ (i : ℕ). Some (Held i z)) same))
+    (λ other. absurd (held_taken
+    (ap (λ p. Some p) (sym (cond-false (at == key) (Taken token at z false) (Held at z) other)) ∙ e)))
+
 -- One that a section of the key held is told, where it is the thread's that leaves; all others stay.
 told_lies : (at : QueuePosition) (place : Option Place) (secs secs' : ℕ → Option Section) (key : ℕ)
     (token : UnparkToken) (k : ℕ)
@@ -629,6 +657,11 @@ module _ (s : State) (t : ℕ) (c : Call) (h : LotFits s) (here : call_at s t �
       (subst Sound as_lot sound) refl
       (λ v j token x at asleep. ap (λ p. option_map_or mark_of p 0) (place v)
       ∙ told_marks key o.token (place_at s.lot.places v))
+      (λ v j x token by said y k' sleep at asleep spot_off is_told. by_eqb by t (updated s.lot.inside t None by ≡ None)
+      (λ e. ap (updated s.lot.inside t None) e ∙ updated_at s.lot.inside t None)
+      (λ e. updated_other s.lot.inside t None by e
+      ∙ told_out v j x token by said y k' sleep key o seat.1 seat.2 e at asleep spot_off
+      (told_from key o.token y k' sleep (place_at s.lot.places v) (sym (place v) ∙ is_told))))
       (sits t leaves b off to
       (subst (λ (p : Option Place). Stands t c.lock b c.spot p (off.inside t) (core_lot.open_at off)) (sym (place t))
       (subst (λ (i : Option ℕ). Stands t c.lock b c.spot (option_map f (place_at s.lot.places t)) i (core_lot.open_at off))
@@ -664,6 +697,26 @@ module _ (s : State) (t : ℕ) (c : Call) (h : LotFits s) (here : call_at s t �
       lies)))
       (open_which s t h key (Some o) None seat.1 its (call_within s t c here) (λ x e. absurd (none≢some e))))
     where
+      -- one that was told by another before, or just now by t
+      told_out : (v j : ℕ) (x : Call) (token : ParkToken) (by : ℕ) (said : WakeResult) (y : UnparkToken) (k' : ℕ)
+          (sleep : Sleep) (key : ℕ) (o : Section) → open_at s key ≡ Some o → o.thread ≡ Some t → (by == t) ≡ false
+          → call_at s v ≡ Some x → stance x.core ≡ Asleep j token → x.spot ≡ QueuePosition.Off by said
+          → (place_at s.lot.places v ≡ Some (Taken y k' sleep false))
+          ⊎ ((z : Sleep) × (place_at s.lot.places v ≡ Some (Held key z))) → s.lot.inside by ≡ None
+      told_out v j x token by said y k' sleep key o there whose e at asleep spot_off (inl was) =
+          h.outside v j x token by said y k' sleep at asleep spot_off was
+      told_out v j x token by said y k' sleep key o there whose e at asleep spot_off (inr was) =
+          absurd (eqb-false by t e (held_by (place_at s.lot.places v) was.1
+          (subst (λ (a : QueuePosition). IsAt a (place_at s.lot.places v) (open_at s) (2 * x.lock + j)) spot_off
+          (seat_of s h v x (Asleep j token) at asleep).0)))
+        where
+          held_by : (p : Option Place) → p ≡ Some (Held key was.0)
+              → IsAt (QueuePosition.Off by said) p (open_at s) (2 * x.lock + j) → by ≡ t
+          held_by p is (l, late, inl lies) = same_number
+              (sym lies.3 ∙ (ap (λ (z : Section). z.thread)
+              (same_section (sym lies.2 ∙ (ap (open_at s) (same_held (sym lies.0 ∙ is)) ∙ there))) ∙ whose))
+          held_by p is (l, late, inr lies) = absurd (held_taken (sym is ∙ lies.1))
+
       -- whom a section holds stood in its list
       held_key : (v k : ℕ) (sleep : Sleep) (y : Section) → place_at s.lot.places v ≡ Some (Held k sleep)
           → open_at s k ≡ Some y → k ≡ y.key

@@ -96,6 +96,11 @@ module _ (s : State) (t : ℕ) (c d : Call) (h : LotFits s) (here : call_at s t 
         (o.0, o.1, subst (λ (n : ℕ). o.0 < n) (sym (same_length s t h low (Some d) s.lot)) o.2);
     waits = nobody_waits;
     owed = nobody_owed;
+    outside = λ x j z token by said y key sleep at asleep off place. by_eqb x t (s.lot.inside by ≡ None)
+        (λ e. absurd (out_asleep
+        (sym to ∙ (ap (λ (y : Call). stance y.core) (same_call (sym there ∙ (ap (call_at u) (sym e) ∙ at)))
+        ∙ asleep))))
+        (λ e. h.outside x j z token by said y key sleep (sym (apart x e) ∙ at) asleep off place);
     woken = nobody_woken;
     once = h.once;
     counted = λ x z at. subst (Tallied (length u.calls) (length (taken_by u.wakes x))) at (now x);

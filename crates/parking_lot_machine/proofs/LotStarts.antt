@@ -43,6 +43,7 @@ module _ (s : State) (sound : Sound s.lot) (new : IsNew s) where
     waits = λ j k n w two at. absurd
         (none≢some (ap (λ (ws : List Waiter). slice_get ws n) (sym (new.lists (2 * j + k))) ∙ at));
     owed = λ t c key token by said is asleep off. no_call t c is;
+    outside = λ t k c token by said x key sleep is asleep off place. no_call t c is;
     woken = λ n e at. no_wakeup n e at;
     once = λ n m e f at at' same. no_wakeup n e at;
     counted = λ t c is. no_call t c is;

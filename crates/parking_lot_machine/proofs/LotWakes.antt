@@ -28,7 +28,7 @@ use Rattle.parking_lot_machine_calls.specs.Stances.{Out, Asleep, stance, taken_c
 use Rattle.parking_lot_machine.specs.RowActs.{woke}
 use Rattle.parking_lot_machine_calls.specs.CallActs.{hears, told_of}
 use Rattle.parking_lot_machine.specs.RowFits.{IsAt, IsCounted, IsInside, SaidIn, Seated, SeatedIn, Awaits, IsTaken}
-use Rattle.parking_lot_machine.specs.RowFits.{IsOwed, WakesSome, LotFits}
+use Rattle.parking_lot_machine.specs.RowFits.{IsOwed, TakersAreOut, WakesSome, LotFits}
 use Rattle.parking_lot_machine_calls.proofs.Stancing.{sleepers_wake, wakes_some}
 use Rattle.parking_lot_machine.proofs.Indexing.{get_remove, kept_remove, apart_before, not_removed}
 use Rattle.parking_lot_machine.proofs.Carrying.{same_call, call_within, set_elsewhere, Tallied, dropped, tallied}
@@ -220,6 +220,18 @@ module _ (s : State) (t : ℕ) (c : Call) (h : LotFits s) (here : call_at s t �
           (same_wakeup (sym old.2 ∙ (ap (slice_get s.wakes) at ∙ first))))) in
           (left.0, old.1, left.1, old.3, old.4)))
 
+      woke_outside : TakersAreOut u u.lot
+      woke_outside x j z park by said y key sleep is asleep off place = by_eqb x t (s.lot.inside by ≡ None)
+          (λ f. absurd (out_asleep
+          (sym to ∙ (ap (λ (y : Call). stance y.core) (same_call (sym call_mine ∙ (ap (call_at u) (sym f) ∙ is)))
+          ∙ asleep))))
+          (λ f. by_eqb x e.thread (s.lot.inside by ≡ None)
+          (λ g. absurd (out_asleep
+          (sym awake.1 ∙ (ap (λ (y : Call). stance y.core)
+          (same_call (sym call_woken ∙ (ap (call_at u) (sym g) ∙ is))) ∙ asleep))))
+          (λ g. h.outside x j z park by said y key sleep (sym (call_other x f g) ∙ is) asleep off
+          (sym (place_other x g) ∙ place)))
+
       woke_woken : (n : ℕ) (f : Wakeup) → slice_get u.wakes n ≡ Some f → IsTaken u f
       woke_woken n f is =
           let m = get_remove s.wakes i n f is in
@@ -304,6 +316,7 @@ module _ (s : State) (t : ℕ) (c : Call) (h : LotFits s) (here : call_at s t �
             (o.0, o.1, subst (λ (n : ℕ). o.0 < n) (sym woke_length) o.2);
         waits = woke_waits;
         owed = woke_owed;
+        outside = woke_outside;
         woken = woke_woken;
         once = woke_once;
         counted = λ x z is. subst (Tallied (length u.calls) (length (taken_by u.wakes x))) is (woke_tally x);

@@ -16,6 +16,7 @@ use Rattle.parking_lot_machine_calls.specs.declared.seat.Core.TheVariants as cor
 use Rattle.parking_lot_machine_calls.specs.declared.open_call.Call.{Call}
 use Rattle.parking_lot_machine_calls.specs.Kinds.{recursive_in}
 use Rattle.parking_lot_machine.specs.Rows.{State, call_at, hold_at, open_at}
+use Rattle.parking_lot_machine_calls.specs.CallActs.{key_of}
 use Rattle.parking_lot_machine_calls.specs.CallRoles.{owned_of, owns_mutex}
 use Rattle.parking_lot_machine_calls.specs.Stances.{core_act, rw_begun, mutex_begun, upgrade_begun}
 use Rattle.parking_lot_machine.specs.RowActs.{loaded, exchanged, added, spun, entered, checked, left, begun, answered}

@@ -12,7 +12,7 @@ use Rattle.parking_lot_machine_calls.specs.declared.seat.WakeResult.{WakeResult}
 use Rattle.parking_lot_machine_calls.specs.declared.open_call.Call.{Call}
 use Rattle.parking_lot_machine.specs.ActLaws.{Keeps}
 use Rattle.parking_lot_machine.specs.LateActs.{expired, found, quitted, returned}
-use Rattle.parking_lot_machine_calls.specs.LateCalls.{comes_late, is_back, sleeps_in_time}
+use Rattle.parking_lot_machine_calls.specs.LateCalls.{comes_late, is_back, late_key, sleeps_in_time}
 use Rattle.parking_lot_machine_calls.specs.LateRoles.{expiring, expiring_taken}
 use Rattle.parking_lot_machine.specs.Ranks.{Pays, late_cost, steps_left}
 use Rattle.parking_lot_machine.specs.RowFits.{FitsTogether}
@@ -40,8 +40,8 @@ pub record LateActsAreSteps : Type 0 where
   pub expires : (s : State) (t : ℕ) (c : Call) → sleeps_in_time c.core ≡ true → FitsTogether s → call_at s t ≡ Some c
       → Expires t c s (expired s t c)
   -- one comes back that still stands in its list, where no section is open in its bucket
-  pub returns : (s : State) (t : ℕ) (c : Call) → comes_late c.core ≡ true → c.spot ≡ spot.Listed → open_at s (late_key c) ≡ None
-      → lot.Sound (returned s t c).lot → Keeps t c s (returned s t c)
+  pub returns : (s : State) (t : ℕ) (c : Call) → comes_late c.core ≡ true → c.spot ≡ spot.Listed
+      → open_at s (late_key c) ≡ None → lot.Sound (returned s t c).lot → Keeps t c s (returned s t c)
   -- and one comes back that was taken
   pub finds : (s : State) (t : ℕ) (c : Call) (by : ℕ) (said : WakeResult) → comes_late c.core ≡ true
       → c.spot ≡ spot.Off by said → open_at s (late_key c) ≡ None → lot.Sound (found s t c by said).lot

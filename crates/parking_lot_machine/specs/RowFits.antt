@@ -345,6 +345,13 @@ abbrev pub WakesSome : Core → Type 0
 WakesSome c = core_act c ≡ act.Section section.Wake → 1 ≤ taken_count c
 
 -- The lot's side.
+-- whose taker has told it: that one is in no section any more
+abbrev pub TakersAreOut : State → Machine → Type 0
+TakersAreOut s m =
+    (v k : ℕ) (c : Call) (token : ParkToken) (by : ℕ) (said : WakeResult) (x : UnparkToken) (key : ℕ) (sleep : Sleep)
+    → call_at s v ≡ Some c → stance c.core ≡ Asleep k token → c.spot ≡ spot.Off by said
+    → place_at m.places v ≡ Some (Taken x key sleep false) → m.inside by ≡ None
+
 pub record LotFits (s : State) : Type 0 where
   -- the lot is sound, and each thread's place in it is the one of its stance
   pub sound : lot.Sound s.lot
@@ -358,6 +365,7 @@ pub record LotFits (s : State) : Type 0 where
   -- who sleeps off its list is still to be woken by its taker
   pub owed : (t : ℕ) (c : Call) (key : ℕ) (token : ParkToken) (by : ℕ) (said : WakeResult) → call_at s t ≡ Some c
       → stance c.core ≡ Asleep key token → c.spot ≡ spot.Off by said → IsOwed s.wakes by t
+  pub outside : TakersAreOut s s.lot
   -- each is taken once, and its taker counts it
   pub woken : (n : ℕ) (e : Wakeup) → slice_get s.wakes n ≡ Some e → IsTaken s e
   pub once : (n m : ℕ) (e f : Wakeup) → slice_get s.wakes n ≡ Some e → slice_get s.wakes m ≡ Some f

@@ -31,7 +31,6 @@ use Rattle.parking_lot_machine.specs.RowFits.{Asks, rw_prepared, rw_keeps, rw_kn
 use Rattle.parking_lot_rules.specs.Roles as rules
 use Rattle.parking_lot_core_model.specs.Results.{is_left}
 use Rattle.parking_lot_core_model.specs.declared.parking.UnparkToken.{UnparkToken}
-use Rattle.parking_lot_machine.specs.Rows.{one_bucket}
 use Rattle.parking_lot_machine_calls.specs.CallRoles.{mark_of, owned_of, rw_spot}
 use Rattle.parking_lot_machine_calls.specs.CallActs.{told_of, rw_hold_after, settled_spot}
 use Rattle.parking_lot_machine_calls.specs.Stances as stance
@@ -39,7 +38,7 @@ use Rattle.parking_lot_machine_calls.specs.Stances.{rw_stance, rw_taken, Stance,
 use Rattle.parking_lot_protocol.specs.declared.rw_phase.RwPhase.TheVariants as r
 use Rattle.parking_lot_protocol.specs.declared.act.CoreAnswer.{CoreAnswer}
 use Rattle.parking_lot_core_model.specs.declared.place.Waiter.{Waiter}
-use Rattle.parking_lot_rules.specs.Family.{Family, SoundFamilyOf, Crossing, Comes, Goes, First, Second, crossing}
+use Rattle.parking_lot_rules.specs.Family.{Family, SoundFamilyOf, Crossing, Comes, Goes, First, Second, crossing, key}
 use Rattle.parking_lot_rules.specs.Family as crossings
 use Rattle.parking_lot_rules.specs.Any.{AnyLock, Rw, AnySound, any_inside}
 use Rattle.parking_lot_protocol.specs.declared.act.SectionAct.TheVariants.{Leave}

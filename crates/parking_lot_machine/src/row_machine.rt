@@ -119,8 +119,8 @@ impl<A: Allocator> RowMachine<A> {
         &self.lot
     }
 
-    /// Whether a thread can make a step: it is in a call, doesn't sleep, and isn't before a section that another has
-    /// entered.
+    /// Whether a thread can make a step: it is in a call, doesn't sleep, and isn't before a section whose bucket another
+    /// has entered.
     pub fn can_move(&self, thread: usize) -> bool
         ensures { result ≡ can_move (state self.now) thread }
     {
@@ -130,7 +130,7 @@ impl<A: Allocator> RowMachine<A> {
         self.goes_late(&call)
             || match call.core.act() {
                 Act::Sleep => false,
-                Act::Enter(_) => !self.lot.is_entered(call.lock),
+                Act::Enter(which) => !self.lot.is_entered(call.key(which)),
                 _ => true,
             }
     }
@@ -139,7 +139,9 @@ impl<A: Allocator> RowMachine<A> {
     fn goes_late(&self, call: &Call) -> bool
         ensures { result ≡ goes_late (state self.now) call.now call.now.core }
     {
-        call.core.is_back() || (call.core.comes_late() && !self.lot.is_entered(call.lock))
+        call.core.is_back()
+            || (call.core.comes_late()
+                && !self.lot.is_entered(call.key(call.core.late_list())))
     }
 
     /// Whether a thread's deadline may come: it sleeps in a timed call, in its list or taken and not woken yet, and it
