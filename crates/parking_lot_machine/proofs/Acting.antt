@@ -48,7 +48,7 @@ module _ (s u : State) (t : ℕ) (c : Call) (told : ActResult) (h : FitsTogether
     (a : OwnAct s u t c told (core_next c.core told) c.spot)
     (lists_same : (key : ℕ) → u.lot.queues key ≡ s.lot.queues key)
     (gives : Gives (core_act c.core) (word_at s c.lock) told)
-    (own : IsOwnAct (core_act c.core)) (around : AfterAct (core_act c.core) t (inside s) (inside u)) (lots : LotFits u)
+    (own : IsOwnAct (core_act c.core)) (around : AfterAct (core_act c.core) t (entries s c.lock) (entries u c.lock)) (lots : LotFits u)
     (apart : IsAround s u t)
     (none : (k : ℕ) (o : Section) → stance (core_next c.core told) ≡ In k Takes → u.lot.section ≡ Some o
     → passed_of o.phase ≡ 0) where
@@ -140,7 +140,7 @@ module _ (s : State) (t : ℕ) (c : Call) (told : ActResult) (x : Act) (asked : 
       })
       (λ key. refl)
       (subst (λ (y : Act). Gives y (word_at s c.lock) told) (sym asked) gives) (subst IsOwnAct (sym asked) own)
-      (subst (λ (y : Act). AfterAct y t (inside s) (inside s)) (sym asked) (around (inside s)))
+      (subst (λ (y : Act). AfterAct y t (entries s c.lock) (entries s c.lock)) (sym asked) (around (entries s c.lock)))
       (stays_out s t c told h.lots here leads) (inr (inr (refl, λ key. refl)))
       (λ k o e. absurd (out_takes (sym leads.1 ∙ e)))
 
@@ -163,7 +163,7 @@ module _ (s : State) (t : ℕ) (c : Call) (told : ActResult) (x : Act) (asked : 
       })
       (λ key. refl)
       (subst (λ (y : Act). Gives y (word_at s c.lock) told) (sym asked) gives) (subst IsOwnAct (sym asked) own)
-      (subst (λ (y : Act). AfterAct y t (inside s) (inside s)) (sym asked) (around (inside s)))
+      (subst (λ (y : Act). AfterAct y t (entries s c.lock) (entries s c.lock)) (sym asked) (around (entries s c.lock)))
       (same_parts (with_call s t (hears c told)) (with_word (with_call s t (hears c told)) c.lock word) refl refl refl
       (stays_out s t c told h.lots here leads)) (inr (inr (refl, λ key. refl)))
       (λ k o e. absurd (out_takes (sym leads.1 ∙ e)))
@@ -222,7 +222,7 @@ enter s t c key asked free sound h here =
     })
     (λ key. refl)
     (subst (λ (y : Act). Gives y (word_at s c.lock) ActResult.Entered) (sym asked) tt) (subst IsOwnAct (sym asked) tt)
-    (subst (λ (y : Act). AfterAct y t (inside s) (inside (entered s t c key))) (sym asked)
+    (subst (λ (y : Act). AfterAct y t (entries s c.lock) (inside (entered s t c key))) (sym asked)
     (ap (option_and_then (λ x. x.thread)) free, refl))
     (entered_fits s t c h.lots here key free sound leads.0 leads.1 leads.2
     (others_free c.core (Act.Enter key) asked refl)) (inr (inl refl))
@@ -248,7 +248,7 @@ check s t c asked sound h here =
     })
     (λ key. refl)
     (subst (λ (y : Act). Gives y (word_at s c.lock) told) (sym asked) refl) (subst IsOwnAct (sym asked) tt)
-    (subst (λ (y : Act). AfterAct y t (inside s) (inside (checked s t c))) (sym asked) (still_inside s.lot.section _))
+    (subst (λ (y : Act). AfterAct y t (entries s c.lock) (inside (checked s t c))) (sym asked) (still_inside s.lot.section _))
     (checked_fits s t c h.lots here leads.0 leads.1 leads.3 sound leads.2 leads.4)
     (inr (inl (still_inside s.lot.section _ ∙ inside_mine s h.lots t c here leads.0 _ leads.1)))
     (λ k o e. absurd (elim leads.2 [
@@ -275,7 +275,7 @@ leave s t c asked sound h here =
     })
     (λ key. refl)
     (subst (λ (y : Act). Gives y (word_at s c.lock) ActResult.Made) (sym asked) tt) (subst IsOwnAct (sym asked) tt)
-    (subst (λ (y : Act). AfterAct y t (inside s) None) (sym asked) refl)
+    (subst (λ (y : Act). AfterAct y t (entries s c.lock) None) (sym asked) refl)
     (left_fits s t c h.lots here sound leads) (inl refl) (λ k o e at. absurd (none-some o at))
   where
     listed_as : LeavesFor (stance c.core) (stance (core_next c.core ActResult.Made)) (taken_count c.core)

@@ -140,7 +140,7 @@ module _ (s : State) (t : ℕ) (c : Call) (asleep : sleeps_in_time c.core ≡ tr
         → K.any (K.lock (word_at s c.lock)
         (slice_set (roles_at K s c.lock) t (K.plays c.others c.spot (taken_by s.wakes t) q))
         (queue_at s (2 * c.lock)) (queue_at s (2 * c.lock + 1))) ≡ any_after t step (K.any (shown K s c.lock))
-        → Crossed (any_crossing step) t (inside s) (inside s)
+        → Crossed (any_crossing step) t (entries s c.lock) (entries s c.lock)
         → IsMade c.lock t step s late_state
     late_made step allowed leads crossed = made K s late_state t c.lock late_there late_elsewhere kind_is step allowed
         (ap K.any late_after ∙ leads) crossed
@@ -218,7 +218,7 @@ module _ (s : State) (t : ℕ) (c : Call) (asleep : sleeps_in_time c.core ≡ tr
         (rw_late QueuePosition.Listed f
         ∙ ap (λ r. Rw (record (rw_lock_at s c.lock) { roles = slice_set (rw_lock_at s c.lock).roles t r })) role.1
         ∙ expire_writes (pending_from k) (sleeper_wants k) (rw_lock_at s c.lock) t)
-        (expire_crosses (pending_from k) (sleeper_wants k) t (inside s))
+        (expire_crosses (pending_from k) (sleeper_wants k) t (entries s c.lock))
 
     expiring_off : (by : ℕ) (said : WakeResult) → c.spot ≡ QueuePosition.Off by said
         → IsMade c.lock t (expiring_taken k by (mark_of said)) s late_state
@@ -233,7 +233,7 @@ module _ (s : State) (t : ℕ) (c : Call) (asleep : sleeps_in_time c.core ≡ tr
         (rw_late (QueuePosition.Off by said) f
         ∙ ap (λ r. Rw (record (rw_lock_at s c.lock) { roles = slice_set (rw_lock_at s c.lock).roles t r })) role.1
         ∙ expire_off_writes (pending_from k) (sleeper_wants k) by (mark_of said) (rw_lock_at s c.lock) t)
-        (expire_off_crosses (pending_from k) (sleeper_wants k) by (mark_of said) t (inside s))
+        (expire_off_crosses (pending_from k) (sleeper_wants k) by (mark_of said) t (entries s c.lock))
 
   expiring : IsMade c.lock t (expire_step c.core c.spot) s late_state
   expiring = go c.core c.spot refl refl asleep
@@ -383,7 +383,7 @@ module _ (s : State) (t : ℕ) (c : Call) (late : comes_late c.core ≡ true) (l
       )
       (ap (λ r. Rw (record (rw_lock_at s c.lock) { roles = slice_set (rw_lock_at s c.lock).roles t r })) role.3
       ∙ reenter_writes (pending_from k) (sleeper_wants k) (rw_lock_at s c.lock) t)
-      (reenter_crosses (pending_from k) (sleeper_wants k) t (inside s) nobody)
+      (reenter_crosses (pending_from k) (sleeper_wants k) t (entries s c.lock) nobody)
   back_rw p e is = absurd cc
 
   back_fitted : Fitted s back_state t c seen.Entered c.core

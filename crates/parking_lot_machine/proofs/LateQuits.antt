@@ -12,7 +12,7 @@ use Rattle.parking_lot_core_model.specs.declared.place.Phase.{Phase}
 use Rattle.parking_lot_core_model.specs.declared.place.Place.TheVariants.{Running, Waiting}
 use Rattle.parking_lot_core_model.specs.declared.place.Section.{Section}
 use Rattle.parking_lot_core_model.specs.declared.place.Waiter.{Waiter}
-use Rattle.parking_lot_core_model.specs.Machine.{Machine, is_thread, stored, threads_of}
+use Rattle.parking_lot_core_model.specs.Machine.{Machine, given_up, is_thread, stored, threads_of}
 use Rattle.parking_lot_core_model.specs.Places.{place_at}
 use Rattle.parking_lot_core_model.specs.Results.{is_left}
 use Rattle.parking_lot_core_model.specs.Sound as lot
@@ -52,7 +52,7 @@ use Rattle.parking_lot_machine.proofs.KindTable.{Late as CallLate}
 use Rattle.parking_lot_machine.proofs.LateKinds.{IsBack, Quits, backs, quits_so, sleeper_plays}
 use Rattle.parking_lot_machine.proofs.LateRules.{quit_lists}
 use Rattle.parking_lot_machine.proofs.LateLots.{quit_fits}
-use Rattle.parking_lot_machine.proofs.LotActs.{seat_of}
+use Rattle.parking_lot_machine.proofs.LotActs.{lot_with_at, phase_as, restored_as, seat_of}
 use Rattle.parking_lot_machine.proofs.LotLists.{one_key}
 use Rattle.parking_lot_machine.proofs.Making.{Crossed, made}
 use Rattle.parking_lot_machine.proofs.Meeting.{meets, plays_late}
@@ -93,7 +93,7 @@ module _ {C R L : Type 0} (K : Kind C R L) (s u : State) (t : ℕ) (c : Call) (t
       → K.any (K.lock (word_at s c.lock)
       (slice_set (roles_at K s c.lock) t (K.plays c.others QueuePosition.Listed (taken_by s.wakes t) q))
       (queue_at u (2 * c.lock)) (queue_at u (2 * c.lock + 1))) ≡ any_after t step (K.any (shown K s c.lock))
-      → Crossed (any_crossing step) t (inside s) (inside u) → IsMade c.lock t step s u
+      → Crossed (any_crossing step) t (entries s c.lock) (entries u c.lock) → IsMade c.lock t step s u
   lapse_made step word allowed leads crossed =
       made K s u t c.lock (own-there s u t c told _ at a) (own-elsewhere s u t c told _ at a) kind_is step allowed
       (ap K.any (own_after K s u t c told q at a (word_at s c.lock) word) ∙ leads) crossed
@@ -124,7 +124,7 @@ module _ (s : State) (t : ℕ) (c : Call) (late : is_back c.core ≡ true) (h : 
   has_come : IsBack (recursive_in s.kinds c.lock) c.others c.core
   has_come = backs (recursive_in s.kinds c.lock) c.others c.core late (h.rules.prepared t c here)
 
-  stands : (o : Section) × (s.lot.section ≡ Some o) × (o.thread ≡ Some t) × (o.key ≡ 2 * c.lock + which)
+  stands : (o : Section) × (open_at s key ≡ Some o) × (o.thread ≡ Some t) × (o.key ≡ 2 * c.lock + which)
       × (o.phase ≡ Phase.Joined) × (c.spot ≡ QueuePosition.Listed)
       × WaitsIn (place_at s.lot.places t) (2 * c.lock + which)
   stands = let seat = seat_of s h.lots t c (In which (Joined has_come.park)) here has_come.stands in
@@ -153,7 +153,7 @@ module _ (s : State) (t : ℕ) (c : Call) (late : is_back c.core ≡ true) (h : 
     quit_queue : (l : ℕ) → quit_state.lot.queues l ≡ (out_of_list s t c).queues l
     quit_queue l = go told_now
       where
-        go : (b : Bool) → (cond b (stored (out_of_list s t c) (sign false)) (out_of_list s t c)).queues l
+        go : (b : Bool) → (cond b (stored (out_of_list s t c) key (sign false)) (out_of_list s t c)).queues l
             ≡ (out_of_list s t c).queues l
         go true = refl
         go false = refl
@@ -218,32 +218,40 @@ module _ (s : State) (t : ℕ) (c : Call) (late : is_back c.core ≡ true) (h : 
         d = hears c heard
 
         go : (b : Bool) → stance d.core ≡ In which (cond b (Tells (sign false)) Stores)
-            → lot.Sound (cond b (stored (out_of_list s t c) (sign false)) (out_of_list s t c))
+            → lot.Sound (cond b (stored (out_of_list s t c) key (sign false)) (out_of_list s t c))
             → LotFits (with_lot (with_call s t d)
-            (cond b (stored (out_of_list s t c) (sign false)) (out_of_list s t c)))
+            (cond b (stored (out_of_list s t c) key (sign false)) (out_of_list s t c)))
+        -- the section of the key comes so far
+        ends : out_of_list s t c ≡ lot_with_at s key s.lot.sleeps (out_of_list s t c).queues (out_of_list s t c).places
+            (Some (record o { phase = Phase.Ended })) s.lot.inside
+        ends = ap (λ (m : Machine). given_up m t key) (phase_as s key o Phase.Ended stands.1)
+
+        tells : stored (out_of_list s t c) key (sign false) ≡ lot_with_at s key s.lot.sleeps (out_of_list s t c).queues
+            (out_of_list s t c).places (Some (record o { phase = Phase.Stored; token = sign false })) s.lot.inside
+        tells = ap (λ (m : Machine). stored m key (sign false)) ends
+            ∙ restored_as s key s.lot.sleeps (out_of_list s t c).queues (out_of_list s t c).places
+            (record o { phase = Phase.Ended }) s.lot.inside (sign false)
+
         go true to so =
             let o' : Section = record o { phase = Phase.Stored; token = sign false } in
-            let out = stored (out_of_list s t c) (sign false) in
+            let out = stored (out_of_list s t c) key (sign false) in
             quit_fits s t c d which two (Tells (sign false)) has_come.park h.lots here has_come.stands to refl
             has_come.none quit_goes.none (λ asked. absurd (quit_goes.wakes asked)) out so refl (quit_runs out refl)
-            (quit_others out refl) o'
-            (ap (λ x. option_map {T = Section} (λ y. record y { phase = Phase.Stored; token = sign false })
-            (option_map {T = Section} (λ y. record y { phase = Phase.Ended }) x)) stands.1) stands.2
-            (λ place runs. (o', refl, stands.2, stands.3, (refl, refl), runs))
+            (quit_others out refl) o' stands.2 tells
+            (λ place secs runs at. (o', at, stands.2, stands.3, (refl, refl), runs, refl))
         go false to so =
             let o' : Section = record o { phase = Phase.Ended } in
             quit_fits s t c d which two Stores has_come.park h.lots here has_come.stands to refl has_come.none
             quit_goes.none (λ asked. absurd (quit_goes.wakes asked)) (out_of_list s t c) so refl
             (quit_runs (out_of_list s t c) refl)
-            (quit_others (out_of_list s t c) refl) o'
-            (ap (option_map {T = Section} (λ y. record y { phase = Phase.Ended })) stands.1) stands.2
-            (λ place runs. (o', refl, stands.2, stands.3, refl, runs))
+            (quit_others (out_of_list s t c) refl) o' stands.2 ends
+            (λ place secs runs at. (o', at, stands.2, stands.3, refl, runs, refl))
 
     -- and the rules'
     quit_inside : inside quit_state ≡ inside s
     quit_inside = go told_now
       where
-        go : (b : Bool) → inside (with_lot s (cond b (stored (out_of_list s t c) (sign false)) (out_of_list s t c)))
+        go : (b : Bool) → inside (with_lot s (cond b (stored (out_of_list s t c) key (sign false)) (out_of_list s t c)))
             ≡ inside s
         go true = ap (λ x. option_and_then (λ (y : Section). y.thread)
             (option_map {T = Section} (λ y. record y { phase = Phase.Stored; token = sign false })

@@ -397,7 +397,7 @@ module _ (s : State) (t : ℕ) (c : Call) (by : ℕ) (said : WakeResult) (late :
               ∙ ap (λ r. Rw (record (rw_lock_at mid c.lock) { roles = slice_set (rw_lock_at mid c.lock).roles t r }))
               (role (taken_by mid.wakes t)).3 ∙ find_writes (pending_from k) (sleeper_wants k) by mark
               (rw_lock_at mid c.lock) t)
-              (find_crosses (pending_from k) (sleeper_wants k) by mark t (inside s) nobody),
+              (find_crosses (pending_from k) (sleeper_wants k) by mark t (entries s c.lock) nobody),
         ),
       )
     where

@@ -15,7 +15,7 @@ use Rattle.parking_lot_core_model.specs.Machine.{Machine, fresh_section, let_out
 use Rattle.parking_lot_core_model.specs.Machine as core_lot
 use Rattle.parking_lot_core_model.specs.Places.{place_at, is_held, mark_of, may_take, may_store, told}
 use Rattle.parking_lot_core_model.specs.Sound.{Sound}
-use Rattle.parking_lot_core_model.proofs.Kept.{by_eqb, updated_at, updated_other}
+use Rattle.parking_lot_core_model.proofs.Kept.{by_eqb, updated_at, updated_other, updated_twice}
 use Rattle.parking_lot_core_model.proofs.Entering.{none≢some, closed_as}
 use Rattle.parking_lot_core_model.proofs.Sounds.{place_at-map}
 use Rattle.parking_lot_protocol.specs.declared.act.ActResult.{ActResult}
@@ -449,6 +449,19 @@ stored_as s key o token was = ap (λ (x : Option Section). record s.lot {
   sections = updated s.lot.sections (bucket s key)
       (option_map {T = Section} (λ z. record z { phase = Phase.Stored; token = token }) x);
 }) was
+
+-- a store in a section that is known
+pub restored_as : (s : State) (key sleeps : ℕ) (queues : ℕ → List Waiter) (places : List (Option Place)) (o : Section)
+    (inside : ℕ → Option ℕ) (token : UnparkToken) → stored (lot_with_at s key sleeps queues places (Some o) inside) key
+    token ≡ lot_with_at s key sleeps queues places (Some (record o { phase = Phase.Stored; token = token })) inside
+restored_as s key sleeps queues places o inside token =
+    let m : Machine = lot_with_at s key sleeps queues places (Some o) inside in
+    ap (λ (x : Option Section). record m {
+      sections = updated (updated s.lot.sections (bucket s key) (Some o)) (bucket s key)
+          (option_map {T = Section} (λ z. record z { phase = Phase.Stored; token = token }) x);
+    }) (updated_at s.lot.sections (bucket s key) (Some o))
+    ∙ ap (λ (f : ℕ → Option Section). record m { sections = f })
+    (updated_twice s.lot.sections (bucket s key) (Some o) (Some (record o { phase = Phase.Stored; token = token })))
 
 -- the key of the section that a call is in
 pub key_is : (c : Call) (k : ℕ) (how : Doing) → stance c.core ≡ In k how → key_in c ≡ key_of c k

@@ -155,7 +155,7 @@ own_counts (Act.Done answer) told x y n m tells own l = absurd own
 -- AT A LOCK OF EITHER KIND
 
 module _ (s u : State) (t : ℕ) (h : FitsTogether s) where
-  finds : (a : Act) (i : ℕ) → IsOwnAct a → AfterAct a t (inside s) (inside u) → manner_of (slice_get s.kinds i) ≡ Some
+  finds : (a : Act) (i : ℕ) → IsOwnAct a → AfterAct a t (entries s c.lock) (entries u c.lock) → manner_of (slice_get s.kinds i) ≡ Some
       AsRw → Finds a (rw_lock_at s i)
   finds (Act.Enter zero) i own around e = nobody_first s h around.0 i e
   finds (Act.Enter (suc key)) i own around e = nobody_second s h around.0 i e
@@ -172,7 +172,7 @@ module _ (s u : State) (t : ℕ) (h : FitsTogether s) where
   own_late : (c : Call) (p : LatePhase) (told : ActResult) → ((key : ℕ) → u.lot.queues key ≡ s.lot.queues key)
       → c.core ≡ Core.Late p → OwnAct s u t c told (core_next (Core.Late p) told) c.spot
       → Gives (late_act p) (word_at s c.lock) told → IsOwnAct (late_act p)
-      → AfterAct (late_act p) t (inside s) (inside u) → Fitted s u t c told (Core.Late p)
+      → AfterAct (late_act p) t (entries s c.lock) (entries u c.lock) → Fitted s u t c told (Core.Late p)
   own_late c LatePhase.Leaves ActResult.Made lists_same e a gives own around =
       let kind_is = subst (IsOfKind (slice_get s.kinds c.lock)) e (h.rules.kinds t c a.here) in
       let word : word_at u c.lock ≡ word_at s c.lock = a.word
@@ -232,8 +232,8 @@ module _ (s u : State) (t : ℕ) (h : FitsTogether s) where
       resume_writes by true w = refl
       resume_writes by false w = refl
 
-      resume_leaves : (by : ℕ) (b : Bool) → Crossed (mutex_crossing (mutex.Alone mutex.Leave)) t (inside s) (inside u)
-          → Crossed (mutex_crossing (mutex.Alone (resume_step b by))) t (inside s) (inside u)
+      resume_leaves : (by : ℕ) (b : Bool) → Crossed (mutex_crossing (mutex.Alone mutex.Leave)) t (entries s c.lock) (entries u c.lock)
+          → Crossed (mutex_crossing (mutex.Alone (resume_step b by))) t (entries s c.lock) (entries u c.lock)
       resume_leaves by true x = x
       resume_leaves by false x = x
 
@@ -251,7 +251,7 @@ module _ (s u : State) (t : ℕ) (h : FitsTogether s) where
   module _ (c : Call) (told : ActResult) (lists_same : (key : ℕ) → u.lot.queues key ≡ s.lot.queues key) where
     own_rw : (k : RwCall) → c.core ≡ rw_call k → OwnAct s u t c told (core_next (rw_call k) told) c.spot
         → Gives (core_act (rw_call k)) (word_at s c.lock) told → IsOwnAct (core_act (rw_call k))
-        → AfterAct (core_act (rw_call k)) t (inside s) (inside u) → Fitted s u t c told (rw_call k)
+        → AfterAct (core_act (rw_call k)) t (entries s c.lock) (entries u c.lock) → Fitted s u t c told (rw_call k)
     own_rw k e b gives own around =
         let us = taken_by s.wakes t in
         let x = word_at s c.lock in
@@ -263,8 +263,8 @@ module _ (s u : State) (t : ℕ) (h : FitsTogether s) where
         (subst (λ (y : Core). has_begun y ≡ true) e (h.rules.begun t c a.here).begun) ready own gives in
         let leads = rw_leads (recursive_in s.kinds c.lock) (rw_lock_at s c.lock) t c.others c.spot us k x told
         (meets s h t c k e a.here) heard (finds (core_act (rw_call k)) c.lock own around kind_is) a.listed
-        (inside s) (inside u)
-        (call_own t (inside s) (inside u) (recursive_in s.kinds c.lock) c.others us k x told heard ready own around) in
+        (entries s c.lock) (entries u c.lock)
+        (call_own t (entries s c.lock) (entries u c.lock) (recursive_in s.kinds c.lock) c.others us k x told heard ready own around) in
         let well = rw_hears s h t c k e a.here told heard (own_wants x k told own gives) u.lot.queues
         (call_learns k told own (u.lot.queues (2 * c.lock)) (u.lot.queues (2 * c.lock + 1))) in (
           as_move k c.others us told c.lock t s u
@@ -274,8 +274,8 @@ module _ (s u : State) (t : ℕ) (h : FitsTogether s) where
               (a.word ∙ ap (λ y. word_after (core_act y) told x) e)
               ∙ same of_rws _ _ _ _ _ _ _ _ refl refl (ap threads_of (lists_same (2 * c.lock)))
               (ap threads_of (lists_same (2 * c.lock + 1))))
-              leads.1 (own_some (call_move c.others us k told) us t (inside s) (inside u)
-              (call_own t (inside s) (inside u) (recursive_in s.kinds c.lock) c.others us k x told heard ready own
+              leads.1 (own_some (call_move c.others us k told) us t (entries s c.lock) (entries u c.lock)
+              (call_own t (entries s c.lock) (entries u c.lock) (recursive_in s.kinds c.lock) c.others us k x told heard ready own
               around))),
           well.0,
           well.1,
@@ -284,7 +284,7 @@ module _ (s u : State) (t : ℕ) (h : FitsTogether s) where
 
     own_mutex : (k : MutexCore) → c.core ≡ Core.Mutex k → OwnAct s u t c told (core_next (Core.Mutex k) told) c.spot
         → Gives (of_mutex_table.act_of k.phase) (word_at s c.lock) told → IsOwnAct (of_mutex_table.act_of k.phase)
-        → AfterAct (of_mutex_table.act_of k.phase) t (inside s) (inside u)
+        → AfterAct (of_mutex_table.act_of k.phase) t (entries s c.lock) (entries u c.lock)
         → Fitted s u t c told (Core.Mutex k)
     own_mutex k e a gives own around =
         let us = taken_by s.wakes t in
@@ -293,7 +293,7 @@ module _ (s u : State) (t : ℕ) (h : FitsTogether s) where
         let word = a.word ∙ ap (λ y. word_after (core_act y) told x) e in
         let step = steps.own (mutex_at s c.lock) x t (first_of_all us) (mutex_spot c.spot) k.phase told
         (plays s h t c k e a.here (λ w. subst IsOwnAct w own)) gives (own_is (of_mutex_table.act_of k.phase) own)
-        (λ key is. nobody_in_mutex s h (subst (λ (y : Act). AfterAct y t (inside s) (inside u)) is around).0 c.lock
+        (λ key is. nobody_in_mutex s h (subst (λ (y : Act). AfterAct y t (entries s c.lock) (entries u c.lock)) is around).0 c.lock
         kind_is) in
         let leads = leads_by (Core.Mutex k) (of_mutex_table.act_of k.phase) x told refl gives in
         let counts : length us ≡ mutex_taken (of_mutex_table.next_phase k.phase told) =
@@ -306,7 +306,7 @@ module _ (s u : State) (t : ℕ) (h : FitsTogether s) where
               (ap (slice_set (mutex_at s c.lock).roles t)
               (role_by of_mutex.Listed us (of_mutex_table.next_phase k.phase told) counts))
               (ap threads_of (lists_same (2 * c.lock))) refl)
-              (subst (λ (y : Crossing). Crossed y t (inside s) (inside u)) (sym step.crossing) around)
+              (subst (λ (y : Crossing). Crossed y t (entries s c.lock) (entries u c.lock)) (sym step.crossing) around)
               (own_tells (first_of_all us) us k.phase told own),
           subst (IsPrepared (recursive_in s.kinds c.lock) c.others) e (h.rules.prepared t c a.here),
           mutex_learns (Core.Mutex k) (of_mutex_table.next_phase k.phase told) x told refl refl own gives
@@ -316,7 +316,7 @@ module _ (s u : State) (t : ℕ) (h : FitsTogether s) where
 
     own_so : (x : Core) → c.core ≡ x → OwnAct s u t c told (core_next x told) c.spot
         → Gives (core_act x) (word_at s c.lock) told → IsOwnAct (core_act x)
-        → AfterAct (core_act x) t (inside s) (inside u) → Fitted s u t c told x
+        → AfterAct (core_act x) t (entries s c.lock) (entries u c.lock) → Fitted s u t c told x
     own_so (Core.Rw k) e = own_rw (Simple k) e
     own_so (Core.Upgrade k) e = own_rw (Upgradable k) e
     own_so (Core.LateRw p) e = own_rw (Tardy p) e
@@ -324,7 +324,7 @@ module _ (s u : State) (t : ℕ) (h : FitsTogether s) where
     own_so (Core.Late p) e = own_late c p told lists_same e
 
     pub own_fits : OwnAct s u t c told (core_next c.core told) c.spot → Gives (core_act c.core) (word_at s c.lock) told
-        → IsOwnAct (core_act c.core) → AfterAct (core_act c.core) t (inside s) (inside u) → RulesFit u
+        → IsOwnAct (core_act c.core) → AfterAct (core_act c.core) t (entries s c.lock) (entries u c.lock) → RulesFit u
         × Goes t c told s u
     own_fits a gives own around =
         rules_own s u t c told c.spot a h

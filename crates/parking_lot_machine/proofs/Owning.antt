@@ -19,7 +19,7 @@ use Rattle.parking_lot_machine.proofs.KindTable.{Kind, IsThere, Elsewhere, one_c
 use Rattle.parking_lot_machine.proofs.KindTable.{roles_at, shown, same, RwCall, rw_call, rw_next}
 use Rattle.parking_lot_machine.proofs.RwCalls.{CallMeets, CallTold, call_lock, call_makes, call_move, call_role}
 use Rattle.parking_lot_machine.proofs.RwCalls.{call_stays}
-use Rattle.parking_lot_machine.proofs.Making.{Crossed, RwLeadsBy}
+use Rattle.parking_lot_machine.proofs.Making.{Crossed, Entries, RwLeadsBy}
 use Rattle.parking_lot_machine.proofs.OwnMoves.{OwnMove}
 use Rattle.parking_lot_machine.proofs.Meeting.{in_range}
 use Rattle.parking_lot_machine.proofs.Calling.{call_of, slot, call-here, call-elsewhere, same-holds}
@@ -100,7 +100,7 @@ module _ (recursive : Bool) (l : Lock) (t n : ℕ) (at : QueuePosition) (us : Li
     (told : ActResult) (here : CallMeets recursive l t n at us k x) (heard : CallTold k x told)
     (found : Finds (core_act (rw_call k)) l)
     (listed : (key : ℕ) (token : ParkToken) → stance (rw_call (rw_next k told)) ≡ Asleep key token
-    → at ≡ QueuePosition.Listed) (old new : Option ℕ) where
+    → at ≡ QueuePosition.Listed) (old new : Entries) where
   abbrev next_lock : Lock
   next_lock = call_lock l t n us k told x
 

@@ -169,7 +169,7 @@ module _ (s : State) (t : ℕ) (c : Call) (may : MayBegin s t c) (h : FitsTogeth
       (rw_call k) → manner_of (slice_get s.kinds c.lock) ≡ Some AsRw → Fitted s next t c seen.Start (rw_call k)
   begin_rws k e owns kind_is =
       let l = rw_lock_at s c.lock in
-      let z = call_starts (recursive_in s.kinds c.lock) l t c.others c.spot us k x (hold_at s t c.lock) (inside s) owns in
+      let z = call_starts (recursive_in s.kinds c.lock) l t c.others c.spot us k x (hold_at s t c.lock) (entries s c.lock) owns in
       let met : CallMeets (recursive_in s.kinds c.lock) l t c.others c.spot us k x = record {
         sound = rw_sound s h c.lock kind_is;
         word = refl;
@@ -178,7 +178,7 @@ module _ (s : State) (t : ℕ) (c : Call) (may : MayBegin s t c) (h : FitsTogeth
         threads = omega (arith, length-all (rw_role_at s c.lock) 0 (length s.calls), h.rules.small);
         few = λ y q at. subst (λ (z : Role). shared_holds z.owns ≤ 256) (sym (was-all (rw_role_at s c.lock) (length s.calls) y q at)) (role_few s h c.lock y (call_at s y) refl);
       } in
-      let leads = rw_leads (recursive_in s.kinds c.lock) l t c.others c.spot us k x seen.Start met z.told z.finds (λ key token z. may.listed) (inside s) (inside next) z.own in
+      let leads = rw_leads (recursive_in s.kinds c.lock) l t c.others c.spot us k x seen.Start met z.told z.finds (λ key token z. may.listed) (entries s c.lock) (entries next c.lock) z.own in
       let well = call_started (recursive_in s.kinds c.lock) l t c.others c.spot us k x (hold_at s t c.lock) c.lock s.lot.queues owns met z.told in
       let same_next = sym (next_is k seen.Start) in (
         as_move k c.others us seen.Start c.lock t s next
@@ -186,7 +186,7 @@ module _ (s : State) (t : ℕ) (c : Call) (may : MayBegin s t c) (h : FitsTogeth
             (begun_after of_rws (rw_next k seen.Start)
             (ap (λ (y : Core). core_next y seen.Start) e ∙ next_is k seen.Start)
             ∙ same of_rws _ _ _ _ _ _ _ _ (ap (λ y. word_after (core_act y) seen.Start x) e) refl refl refl) leads.1
-            (own_some (call_move c.others us k seen.Start) us t (inside s) (inside next) z.own)),
+            (own_some (call_move c.others us k seen.Start) us t (entries s c.lock) (entries next c.lock) z.own)),
         subst (IsPrepared (recursive_in s.kinds c.lock) c.others) same_next well.0,
         subst (λ (y : Core). KnowsList y s.lot.queues c.lock) same_next well.1,
         h.rules.bits c.lock,
@@ -209,7 +209,7 @@ module _ (s : State) (t : ℕ) (c : Call) (may : MayBegin s t c) (h : FitsTogeth
             (ap (λ (y : Core). core_next y seen.Start) e) ∙ same of_mutexes _ _ _ _ _ _ [] []
             (ap (λ y. word_after (core_act y) seen.Start x) e)
             (ap (slice_set (mutex_at s c.lock).roles t) (starts_as us k.phase owns.0)) refl refl)
-            (subst (λ (y : Crossing). Crossed y t (inside s) (inside next)) (sym (step.crossing ∙ well.1)) refl) well.0,
+            (subst (λ (y : Crossing). Crossed y t (entries s c.lock) (entries next c.lock)) (sym (step.crossing ∙ well.1)) refl) well.0,
         owns.1,
         well.2,
         h.rules.bits c.lock,
@@ -483,7 +483,7 @@ module _ (s : State) (h : FitsTogether s) (t : ℕ) (c : Call) (here : call_at s
     last_rw k e asked =
         let met = meets s h t c k e here in
         let kind_is = of_rws.of_kind (slice_get s.kinds c.lock) k (subst (IsOfKind (slice_get s.kinds c.lock)) e (h.rules.kinds t c here)) in
-        let leads = last_leads (recursive_in s.kinds c.lock) (call_last c.others k) (rw_lock_at s c.lock) (word_at s c.lock) _ _ (inside s) refl met.here (call_last_own t c.others k (inside s))
+        let leads = last_leads (recursive_in s.kinds c.lock) (call_last c.others k) (rw_lock_at s c.lock) (word_at s c.lock) _ _ (entries s c.lock) refl met.here (call_last_own t c.others k (entries s c.lock))
         (call_ends (recursive_in s.kinds c.lock) (rw_lock_at s c.lock) t c.others c.spot (taken_by s.wakes t) k
         (word_at s c.lock) answer met (subst (λ (x : Core). has_begun x ≡ true) e (h.rules.begun t c here).begun)
         asked) in
@@ -491,7 +491,7 @@ module _ (s : State) (h : FitsTogether s) (t : ℕ) (c : Call) (here : call_at s
         (ended of_rws ∙ ap
         (λ (y : Core). with_role (rw_lock_at s c.lock) (word_at s c.lock) t
         (record { owns = owned_of (hold_after c.others y); does = Idle })) e) leads.1
-        (own_some (call_last c.others k) [] t (inside s) (inside s) (call_last_own t c.others k (inside s)))
+        (own_some (call_last c.others k) [] t (entries s c.lock) (entries s c.lock) (call_last_own t c.others k (entries s c.lock)))
 
     last_of : (x : Core) → c.core ≡ x → core_act x ≡ Act.Done answer → IsLastOf x c.others c.lock t s u
     last_of (Core.Rw k) e asked = last_rw (Simple k) e asked
@@ -508,7 +508,7 @@ module _ (s : State) (h : FitsTogether s) (t : ℕ) (c : Call) (here : call_at s
         ∙ ap (λ (b : Bool). mutex_of (word_at s c.lock)
         (slice_set (mutex_at s c.lock).roles t (record { owns = b; does = mutex.Idle })) (mutex_at s c.lock).queue)
         (ap (λ (y : Core). owns_mutex (hold_after c.others y)) e ∙ shown_as.ends k.phase answer begun asked))
-        (subst (λ (x : Crossing). Crossed x t (inside s) (inside u)) (sym step.1) refl) (last_tells v [] k.phase)
+        (subst (λ (x : Crossing). Crossed x t (entries s c.lock) (entries u c.lock)) (sym step.1) refl) (last_tells v [] k.phase)
     last_of (Core.Late p) e asked = late_last p e asked
 
   -- WHAT STAYS

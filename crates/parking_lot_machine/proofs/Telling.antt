@@ -297,7 +297,7 @@ module _ (s : State) (t : ℕ) (c : Call) (keep : ℕ) (asked : core_act c.core 
       → CallWants z before
       → IsStep (recursive_in s.kinds c.lock) t (Alone step) (rw_lock_at s c.lock)
       (call_lock (rw_lock_at s c.lock) t c.others (taken_by s.wakes t) z before (word_at s c.lock))
-      → Crossed (move_crossing (of_rw.Makes step)) t (inside s) (inside mask_then)
+      → Crossed (move_crossing (of_rw.Makes step)) t (entries s c.lock) (entries mask_then c.lock)
       → to_wake (call_role c.others c.spot (taken_by s.wakes t) z).does (On1 Open) ≡ []
       → ((key : ℕ) (park : ParkToken) → stance (rw_call (rw_next z before)) ≡ Asleep key park → ⊥)
       → Fitted s mask_then t c before (rw_call z)
