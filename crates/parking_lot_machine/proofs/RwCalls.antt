@@ -356,7 +356,7 @@ resumes_write None rules.Shared by true l t = refl
 resumes_write None rules.Exclusive by true l t = refl
 resumes_write None rules.Upgradable by true l t = refl
 
-resumes_own : (o : Option Bool) (m : Mode) (by : ℕ) (handed : Bool) (t : ℕ) (old new : Option ℕ) → AfterAct (Act.Section section.Leave) t old new → OwnMove (of_rw.Makes (resumes_as o m by handed)) t old new
+resumes_own : (o : Option Bool) (m : Mode) (by : ℕ) (handed : Bool) (t : ℕ) (old new : Entries) → AfterAct (Act.Section section.Leave) t old new → OwnMove (of_rw.Makes (resumes_as o m by handed)) t old new
 resumes_own (Some was) m by handed t old new around = around
 resumes_own None m by false t old new around = around
 resumes_own None rules.Shared by true t old new around = around
@@ -401,7 +401,7 @@ call_makes recursive l t n at us (Upgradable k) x s step h told e found =
     subst (λ m. UpgradeLeads recursive m t n (rw_spot at) us k.phase s x l) e (upgrades_are_steps recursive l t n (rw_spot at) us k.phase x s (as_upgrade recursive l t n at us k x h) told).0 found
 call_makes recursive l t n at us (Tardy p) x s step h told e found = tardy_makes recursive l t n at us p x s h told step e
 
-tardy_own : (t : ℕ) (old new : Option ℕ) (p : LateRwPhase) (x : ℕ) (s : ActResult) → TardyTold p x s → IsOwnAct (late_rw_act p) → AfterAct (late_rw_act p) t old new → OwnMove (tardy_move p s) t old new
+tardy_own : (t : ℕ) (old new : Entries) (p : LateRwPhase) (x : ℕ) (s : ActResult) → TardyTold p x s → IsOwnAct (late_rw_act p) → AfterAct (late_rw_act p) t old new → OwnMove (tardy_move p s) t old new
 tardy_own t old new LateRwPhase.Leaves x ActResult.Made told own around = around
 tardy_own t old new (LateRwPhase.LeavesPending from) x ActResult.Made told own around = around
 tardy_own t old new (LateRwPhase.WasTaken k by handed) x ActResult.Made told own around = resumes_own (pending_from k) (sleeper_wants k) by handed t old new around
@@ -411,7 +411,7 @@ tardy_own t old new LateRwPhase.Masks x s told own around = absurd own
 tardy_own t old new LateRwPhase.GivesUp x s told own around = absurd own
 tardy_own t old new p x s told own around = absurd told
 
-pub call_own : (t : ℕ) (old new : Option ℕ) (recursive : Bool) (n : ℕ) (us : List ℕ) (k : RwCall) (x : ℕ) (s : ActResult) → CallTold k x s → IsPrepared recursive n (rw_call k) → IsOwnAct (core_act (rw_call k)) → AfterAct (core_act (rw_call k)) t old new → OwnMove (call_move n us k s) t old new
+pub call_own : (t : ℕ) (old new : Entries) (recursive : Bool) (n : ℕ) (us : List ℕ) (k : RwCall) (x : ℕ) (s : ActResult) → CallTold k x s → IsPrepared recursive n (rw_call k) → IsOwnAct (core_act (rw_call k)) → AfterAct (core_act (rw_call k)) t old new → OwnMove (call_move n us k s) t old new
 call_own t old new recursive n us (Simple k) x s told ready own around = own_moves t old new n us k.phase x s told own around
 call_own t old new recursive n us (Upgradable k) x s told ready own around = upgrade_moves t old new n us k.phase s ready.1 ready.2 own around
 call_own t old new recursive n us (Tardy p) x s told ready own around = tardy_own t old new p x s told own around

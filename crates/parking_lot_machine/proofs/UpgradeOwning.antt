@@ -58,7 +58,7 @@ upgrade_told p x s b o own g = g
 
 -- WHICH MOVES
 
-module _ (t : ℕ) (old new : Option ℕ) where
+module _ (t : ℕ) (old new : Entries) where
   if_so : (b : Bool) (k : Plain) → OwnMove (Makes k) t old new → OwnMove Stays t old new
       → OwnMove (cond b (Makes k) Stays) t old new
   if_so true k h j = h
