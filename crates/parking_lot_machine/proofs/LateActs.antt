@@ -343,6 +343,7 @@ module _ (s : State) (t : ℕ) (c : Call) (late : comes_late c.core ≡ true) (l
     word = sym (ap (λ a. word_after a seen.Entered (word_at s c.lock)) come.act);
     words = λ i ne. refl;
     queues = λ i k ne b. refl;
+    buckets = refl;
     listed = λ k token e. listed;
   }
 

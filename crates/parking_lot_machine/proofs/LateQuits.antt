@@ -170,6 +170,7 @@ module _ (s : State) (t : ℕ) (c : Call) (late : is_back c.core ≡ true) (h : 
       words = λ j ne. refl;
       queues = λ j k ne b. quit_queue (2 * j + k) ∙ updated_other s.lot.queues key (remove q i) (2 * j + k)
           (ne_eqb (2 * j + k) key (λ e. ne (one_key j c.lock k which b two e).0));
+      buckets = refl;
       listed = λ k token e. stands.5;
     }
 

@@ -254,6 +254,7 @@ module _ (s : State) (t : ℕ) (c : Call) (by : ℕ) (said : WakeResult) (late :
     word = sym (ap (λ a. word_after a seen.Made (word_at s c.lock)) come.act);
     words = λ j ne. refl;
     queues = λ j k ne b. refl;
+    buckets = refl;
     listed = λ k token e. refl;
   }
 
@@ -486,7 +487,7 @@ module _ (s : State) (t : ℕ) (c : Call) (by : ℕ) (said : WakeResult) (late :
     few = h.rules.few;
     elsewhere = λ j ne. refl;
     bits = h.rules.bits c.lock;
-    sound = move_sound s u c.core c.others (taken_by s.wakes t) seen.Made c.lock t moved h.rules.sound;
+    sound = move_sound s u c.core c.others (taken_by s.wakes t) seen.Made c.lock t refl moved h.rules.sound;
   })
 
   pub finds : (told : ActResult) × Acts t c told s u

@@ -5,6 +5,7 @@ mod Meeting
 mod Calling
 mod Holding
 mod OwnMoves
+mod Crossings
 mod Owning
 mod Knowing
 mod Ruling

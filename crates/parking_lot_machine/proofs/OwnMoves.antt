@@ -18,13 +18,14 @@ use Rattle.parking_lot_protocol.specs.declared.rw_phase.RwPhase.TheVariants.{Unl
 use Rattle.parking_lot_protocol.specs.declared.rw_phase.RwPhase.TheVariants.{Finishes}
 use Rattle.parking_lot_protocol.specs.RwTable.{act_of, is_parked, is_writer_parked, is_barred, has_readers}
 use Rattle.parking_lot_protocol.specs.RwRules.{Move, Stays, Makes, move, mode_of, admission, try_admission, IsTold}
-use Rattle.parking_lot_machine.specs.MutexLaws.{crossing_of}
+use Rattle.parking_lot_machine.specs.RwLaws.{act_crossing}
+use Rattle.parking_lot_machine_calls.specs.Stances.{Stance, rw_stance}
 use Rattle.parking_lot_machine.proofs.Making.{Crossed, Entries, SomeFor}
 use Rattle.parking_lot_rules.specs.Family as crossings
 
--- who has entered which bucket after an act of thread t
-abbrev pub AfterAct : Act → ℕ → Entries → Entries → Type 0
-AfterAct a t old new = Crossed (crossing_of a) t old new
+-- who has entered which bucket after an act of thread t, by its stance before
+abbrev pub AfterAct : Stance → Act → ℕ → Entries → Entries → Type 0
+AfterAct a x t old new = Crossed (act_crossing a x) t old new
 
 -- acts that change neither a list nor another thread
 abbrev pub IsOwnAct : Act → Type 0
@@ -76,7 +77,7 @@ module _ (t : ℕ) (old new : Entries) where
   unshares n false h = h
 
   pub own_moves : (n : ℕ) (us : List ℕ) (p : RwPhase) (x : ℕ) (s : ActResult) → IsTold p x s → IsOwnAct (act_of p)
-      → AfterAct (act_of p) t old new → OwnMove (move n us p s) t old new
+      → AfterAct (rw_stance p) (act_of p) t old new → OwnMove (move n us p s) t old new
   own_moves n us (Admits a word) x ActResult.Exchanged told own h = admits n a.want a.woken h
   own_moves n us (SetParked a word) x ActResult.Exchanged told own h = h
   own_moves n us (Checks q woken) x (ActResult.Word word) told own h =

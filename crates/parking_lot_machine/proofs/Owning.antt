@@ -36,6 +36,7 @@ pub record OwnAct (s u : State) (t : ℕ) (c : Call) (told : ActResult) (next : 
   pub word : word_at u c.lock ≡ word_after (core_act c.core) told (word_at s c.lock)
   pub words : (i : ℕ) → i ≢ c.lock → word_at u i ≡ word_at s i
   pub queues : (i k : ℕ) → i ≢ c.lock → k < 2 → u.lot.queues (2 * i + k) ≡ s.lot.queues (2 * i + k)
+  pub buckets : u.lot.buckets ≡ s.lot.buckets
   -- one that falls asleep is in its list
   pub listed : (k : ℕ) (token : ParkToken) → stance next ≡ Asleep k token → at ≡ QueuePosition.Listed
 

@@ -307,7 +307,7 @@ module _ (s : State) (t : ℕ) (c : Call) (h : FitsTogether s) (here : call_at s
     few = h.rules.few;
     elsewhere = λ j ne. refl;
     bits = fit.3;
-    sound = move_sound s woke_state c.core c.others (taken_by s.wakes t) seen.Made c.lock t fit.0 h.rules.sound;
+    sound = move_sound s woke_state c.core c.others (taken_by s.wakes t) seen.Made c.lock t refl fit.0 h.rules.sound;
   })
 
   -- AT A LOCK OF ANY KIND

@@ -176,5 +176,5 @@ module _ (s : State) (t : ℕ) (c : Call) (heard : ActResult) (token : UnparkTok
       few = h.rules.few;
       elsewhere = told_elsewhere.words;
       bits = fit.3;
-      sound = move_sound s told_state c.core c.others (taken_by s.wakes t) heard c.lock t fit.0 h.rules.sound;
+      sound = move_sound s told_state c.core c.others (taken_by s.wakes t) heard c.lock t refl fit.0 h.rules.sound;
     })

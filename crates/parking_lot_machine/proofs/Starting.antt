@@ -53,7 +53,7 @@ use Rattle.parking_lot_machine.proofs.KindTable.{within_kinds, Kind, of_rws, of_
 use Rattle.parking_lot_machine.proofs.KindTable.{one_changed, role_at, role_now, role_stays, roles_at, same, shown}
 use Rattle.parking_lot_machine.proofs.KindTable.{Tardy}
 use Rattle.parking_lot_rules.proofs.Everybody.{get-all, was-all, length-all}
-use Rattle.parking_lot_machine.proofs.Making.{Crossed, TellsOf, quiet, move_sound, rw_goes, mutex_goes, RwLeadsBy}
+use Rattle.parking_lot_machine.proofs.Making.{Crossed, Entries, TellsOf, entries, quiet, move_sound, rw_goes, mutex_goes, RwLeadsBy}
 use Rattle.parking_lot_machine.proofs.Making.{last_sound}
 use Rattle.parking_lot_machine.proofs.Owning.{rw_leads, set-same}
 use Rattle.parking_lot_protocol.specs.declared.mutex_phase.MutexPhase.{MutexPhase}
@@ -209,7 +209,7 @@ module _ (s : State) (t : ℕ) (c : Call) (may : MayBegin s t c) (h : FitsTogeth
             (ap (λ (y : Core). core_next y seen.Start) e) ∙ same of_mutexes _ _ _ _ _ _ [] []
             (ap (λ y. word_after (core_act y) seen.Start x) e)
             (ap (slice_set (mutex_at s c.lock).roles t) (starts_as us k.phase owns.0)) refl refl)
-            (subst (λ (y : Crossing). Crossed y t (entries s c.lock) (entries next c.lock)) (sym (step.crossing ∙ well.1)) refl) well.0,
+            (subst (λ (y : Crossing). Crossed y t (entries s c.lock) (entries next c.lock)) (sym (step.crossing ∙ well.1)) (tt, λ b. refl)) well.0,
         owns.1,
         well.2,
         h.rules.bits c.lock,
@@ -259,7 +259,7 @@ module _ (s : State) (t : ℕ) (c : Call) (may : MayBegin s t c) (h : FitsTogeth
             few = h.rules.few;
             elsewhere = λ i ne. refl;
             bits = fit.3;
-            sound = move_sound s next c.core c.others us seen.Start c.lock t fit.0 h.rules.sound;
+            sound = move_sound s next c.core c.others us seen.Start c.lock t refl fit.0 h.rules.sound;
           });
         };
         goes = fit.0;
@@ -444,11 +444,11 @@ module _ (s : State) (h : FitsTogether s) (t : ℕ) (c : Call) (here : call_at s
 
   -- THE LAST STEP
 
-  last_leads : (recursive : Bool) (m : of_rw.Move) (l : Lock) (x : ℕ) (old new : Role) (o : Option ℕ)
+  last_leads : (recursive : Bool) (m : of_rw.Move) (l : Lock) (x : ℕ) (old new : Role) (o : Entries)
       → l.word ≡ word_of x → slice_get l.roles t ≡ Some old → OwnMove m t o o → IsLastStep recursive m l t old x new
       → RwLeadsBy recursive m t l (with_role l x t new) × Crossed (move_crossing m) t o o
   last_leads recursive of_rw.Stays l x old new o word is moves step =
-      (ap (λ w. record { word = w; roles = slice_set l.roles t new; first = l.first; second = l.second }) (sym word) ∙ ap (λ rs. record l { roles = rs }) (ap (slice_set l.roles t) step ∙ set-same l.roles t old is), refl)
+      (ap (λ w. record { word = w; roles = slice_set l.roles t new; first = l.first; second = l.second }) (sym word) ∙ ap (λ rs. record l { roles = rs }) (ap (slice_set l.roles t) step ∙ set-same l.roles t old is), moves)
   last_leads recursive (of_rw.Makes k) l x old new o word is moves step = (step, moves)
   last_leads recursive (of_rw.Joins k) l x old new o word is moves step = absurd moves
   last_leads recursive (of_rw.TakesOne k) l x old new o word is moves step = absurd moves
@@ -471,7 +471,7 @@ module _ (s : State) (h : FitsTogether s) (t : ℕ) (c : Call) (here : call_at s
       (record { owns = owns_mutex (hold_after c.others y); does = mutex.Idle })) e
       ∙ set-same (roles_at of_mutexes s c.lock) t mutex.away (plays_late s h t c LatePhase.GivesUp e here).here)
       refl refl)
-      refl
+      (λ b. refl)
   late_last LatePhase.Expires e asked = absurd cc
   late_last LatePhase.Quits e asked = absurd cc
   late_last LatePhase.Masks e asked = absurd cc
@@ -508,7 +508,7 @@ module _ (s : State) (h : FitsTogether s) (t : ℕ) (c : Call) (here : call_at s
         ∙ ap (λ (b : Bool). mutex_of (word_at s c.lock)
         (slice_set (mutex_at s c.lock).roles t (record { owns = b; does = mutex.Idle })) (mutex_at s c.lock).queue)
         (ap (λ (y : Core). owns_mutex (hold_after c.others y)) e ∙ shown_as.ends k.phase answer begun asked))
-        (subst (λ (x : Crossing). Crossed x t (entries s c.lock) (entries u c.lock)) (sym step.1) refl) (last_tells v [] k.phase)
+        (subst (λ (x : Crossing). Crossed x t (entries s c.lock) (entries u c.lock)) (sym step.1) (tt, λ b. refl)) (last_tells v [] k.phase)
     last_of (Core.Late p) e asked = late_last p e asked
 
   -- WHAT STAYS
@@ -575,7 +575,7 @@ module _ (s : State) (h : FitsTogether s) (t : ℕ) (c : Call) (here : call_at s
               few = few_now;
               elsewhere = λ i ne. refl;
               bits = h.rules.bits c.lock;
-              sound = last_sound s u c.core c.others c.lock t moved h.rules.sound;
+              sound = last_sound s u c.core c.others c.lock t refl moved h.rules.sound;
             });
           };
           goes = moved;

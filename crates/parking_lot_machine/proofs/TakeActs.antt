@@ -86,7 +86,7 @@ module _ (s : State) (t : ℕ) (c : Call) (k nth : ℕ) (w : Waiter) (from : sta
     few = h.rules.few;
     elsewhere = λ i ne. refl;
     bits = so.0.3;
-    sound = move_sound s u c.core c.others (taken_by s.wakes t) told c.lock t so.0.0 h.rules.sound;
+    sound = move_sound s u c.core c.others (taken_by s.wakes t) told c.lock t refl so.0.0 h.rules.sound;
   })
 
   lots : lot.Sound u.lot → LotFits u

@@ -1,0 +1,75 @@
+-- Who has entered which bucket once a section is opened, goes on or is closed.
+use Rattle.std.proofs.Common.{◌≡◌, ℕ, zero, suc, ◌+◌, ◌*◌, ◌<◌, ◌==◌, Option, Some, None, refl, sym, ap, ◌∙◌, subst, arith}
+use Rattle.std.proofs.Common.{cond, eq-eqb}
+use Rattle.std.specs.Option.{option_and_then}
+use Rattle.std.proofs.lemmas.Bool.{cond-true, cond-false}
+use Rattle.parking_lot_core_model.specs.declared.place.Section.{Section}
+use Rattle.parking_lot_core_model.specs.Lists.{updated}
+use Rattle.parking_lot_core_model.proofs.Kept.{by_eqb, updated_at, updated_other}
+use Rattle.parking_lot_rules.specs.Family.{put}
+use Rattle.parking_lot_protocol.specs.declared.act.Act.{Act}
+use Rattle.parking_lot_protocol.specs.declared.act.SectionAct.TheVariants as section
+use Rattle.parking_lot_machine_calls.specs.Stances.{Doing, Stance, In}
+use Rattle.parking_lot_machine.specs.Rows.{State, bucket, entered_in}
+use Rattle.parking_lot_machine.proofs.Making.{entries}
+use Rattle.parking_lot_machine.proofs.OwnMoves.{AfterAct}
+
+abbrev whose : Option Section → Option ℕ
+whose o = option_and_then (λ (x : Section). x.thread) o
+
+module _ (s u : State) (key : ℕ) (after : Option Section)
+    (secs : (b : ℕ) → u.lot.sections b ≡ updated s.lot.sections (bucket s key) after b) where
+  -- one bucket changes
+  pub entered_put : (b : ℕ) → entered_in u b ≡ put (entered_in s) (bucket s key) (whose after) b
+  entered_put b = by_eqb b (bucket s key) (entered_in u b ≡ put (entered_in s) (bucket s key) (whose after) b)
+      (λ e. ap whose (secs b ∙ (ap (updated s.lot.sections (bucket s key) after) e
+      ∙ updated_at s.lot.sections (bucket s key) after))
+      ∙ sym (cond-true (b == bucket s key) (whose after) (entered_in s b) (eq-eqb b (bucket s key) e)))
+      (λ e. ap whose (secs b ∙ updated_other s.lot.sections (bucket s key) after b e)
+      ∙ sym (cond-false (b == bucket s key) (whose after) (entered_in s b) e))
+
+  -- its section goes on
+  pub entered_still : whose after ≡ entered_in s (bucket s key) → (b : ℕ) → entered_in u b ≡ entered_in s b
+  entered_still same b = by_eqb b (bucket s key) (entered_in u b ≡ entered_in s b)
+      (λ e. entered_put b ∙ (cond-true (b == bucket s key) (whose after) (entered_in s b) (eq-eqb b (bucket s key) e)
+      ∙ (same ∙ ap (entered_in s) (sym e))))
+      (λ e. entered_put b ∙ cond-false (b == bucket s key) (whose after) (entered_in s b) e)
+
+-- a lock's key by its number is that of the rules
+module _ (s u : State) (t j : ℕ) (after : Option Section) where
+  pub comes_at : (a : Stance) (which : ℕ) → which < 2 → entered_in s (bucket s (2 * j + which)) ≡ None
+      → whose after ≡ Some t
+      → ((b : ℕ) → u.lot.sections b ≡ updated s.lot.sections (bucket s (2 * j + which)) after b)
+      → AfterAct a (Act.Enter which) t (entries s j) (entries u j)
+  comes_at a zero two free mine secs =
+      let same : 2 * j + 0 ≡ 2 * j = omega arith in (
+        subst (λ (k : ℕ). entered_in s (bucket s k) ≡ None) same free,
+        λ b. entered_put s u (2 * j + 0) after secs b
+            ∙ (ap (λ (o : Option ℕ). put (entered_in s) (bucket s (2 * j + 0)) o b) mine
+            ∙ ap (λ (k : ℕ). put (entered_in s) (bucket s k) (Some t) b) same),
+      )
+  comes_at a (suc which) two free mine secs =
+      let same : 2 * j + suc which ≡ 2 * j + 1 = omega (arith, two) in (
+        subst (λ (k : ℕ). entered_in s (bucket s k) ≡ None) same free,
+        λ b. entered_put s u (2 * j + suc which) after secs b
+            ∙ (ap (λ (o : Option ℕ). put (entered_in s) (bucket s (2 * j + suc which)) o b) mine
+            ∙ ap (λ (k : ℕ). put (entered_in s) (bucket s k) (Some t) b) same),
+      )
+
+  pub goes_at : (which : ℕ) (how : Doing) → which < 2 → whose after ≡ None
+      → ((b : ℕ) → u.lot.sections b ≡ updated s.lot.sections (bucket s (2 * j + which)) after b)
+      → AfterAct (In which how) (Act.Section section.Leave) t (entries s j) (entries u j)
+  goes_at zero how two none secs =
+      let same : 2 * j + 0 ≡ 2 * j = omega arith in (
+        tt,
+        λ b. entered_put s u (2 * j + 0) after secs b
+            ∙ (ap (λ (o : Option ℕ). put (entered_in s) (bucket s (2 * j + 0)) o b) none
+            ∙ ap (λ (k : ℕ). put (entered_in s) (bucket s k) None b) same),
+      )
+  goes_at (suc which) how two none secs =
+      let same : 2 * j + suc which ≡ 2 * j + 1 = omega (arith, two) in (
+        tt,
+        λ b. entered_put s u (2 * j + suc which) after secs b
+            ∙ (ap (λ (o : Option ℕ). put (entered_in s) (bucket s (2 * j + suc which)) o b) none
+            ∙ ap (λ (k : ℕ). put (entered_in s) (bucket s k) None b) same),
+      )
