@@ -1,18 +1,23 @@
 -- Who has entered which bucket once a section is opened, goes on or is closed.
 use Rattle.std.proofs.Common.{◌≡◌, ℕ, zero, suc, ◌+◌, ◌*◌, ◌<◌, ◌==◌, Option, Some, None, refl, sym, ap, ◌∙◌, subst, arith}
-use Rattle.std.proofs.Common.{cond, eq-eqb}
-use Rattle.std.specs.Option.{option_and_then}
-use Rattle.std.proofs.lemmas.Bool.{cond-true, cond-false}
+use Rattle.std.proofs.Common.{cond, eq-eqb, false}
+use Rattle.std.specs.Option.{option_and_then, option_map}
+use Rattle.std.proofs.lemmas.Bool.{cond-true, cond-false, eqb-false, ne_eqb}
 use Rattle.parking_lot_core_model.specs.declared.place.Section.{Section}
 use Rattle.parking_lot_core_model.specs.Lists.{updated}
 use Rattle.parking_lot_core_model.proofs.Kept.{by_eqb, updated_at, updated_other}
 use Rattle.parking_lot_rules.specs.Family.{put}
 use Rattle.parking_lot_protocol.specs.declared.act.Act.{Act}
 use Rattle.parking_lot_protocol.specs.declared.act.SectionAct.TheVariants as section
-use Rattle.parking_lot_machine_calls.specs.Stances.{Doing, Stance, In}
-use Rattle.parking_lot_machine.specs.Rows.{State, bucket, entered_in}
+use Rattle.parking_lot_machine_calls.specs.declared.open_call.Call.{Call}
+use Rattle.parking_lot_machine_calls.specs.CallActs.{key_of}
+use Rattle.parking_lot_machine_calls.specs.Stances.{Doing, Stance, In, stance}
+use Rattle.parking_lot_machine.specs.RowFits.{LotFits}
+use Rattle.parking_lot_machine.specs.Rows.{State, bucket, call_at, entered_in, open_at}
+use Rattle.parking_lot_machine.proofs.LotActs.{same_section, seat_of}
 use Rattle.parking_lot_machine.proofs.Making.{entries}
 use Rattle.parking_lot_machine.proofs.OwnMoves.{AfterAct}
+use Rattle.parking_lot_machine.proofs.Passing.{IsAround, around_at}
 
 abbrev whose : Option Section → Option ℕ
 whose o = option_and_then (λ (x : Section). x.thread) o
@@ -73,3 +78,25 @@ module _ (s u : State) (t j : ℕ) (after : Option Section) where
             ∙ (ap (λ (o : Option ℕ). put (entered_in s) (bucket s (2 * j + suc which)) o b) none
             ∙ ap (λ (k : ℕ). put (entered_in s) (bucket s k) None b) same),
       )
+
+-- A section of thread t goes on, and changes but its own list.
+pub record Continues (s u : State) (t : ℕ) : Type 0 where
+  pub entered : (b : ℕ) → entered_in u b ≡ entered_in s b
+  pub around : IsAround s u t
+
+pub continues : (s u : State) (t : ℕ) (c : Call) → LotFits s → call_at s t ≡ Some c → (k : ℕ) (how : Doing)
+    → stance c.core ≡ In k how → (f : Section → Section) → ((x : Section) → (f x).thread ≡ x.thread)
+    → ((b : ℕ) → u.lot.sections b ≡ updated s.lot.sections (bucket s (key_of c k))
+    (option_map f (open_at s (key_of c k))) b) → u.lot.buckets ≡ s.lot.buckets
+    → ((l : ℕ) → (l == key_of c k) ≡ false → u.lot.queues l ≡ s.lot.queues l) → Continues s u t
+continues s u t c h here k how from f keeps secs same queues =
+    let seat = seat_of s h t c (In k how) here from in
+    let key : ℕ = key_of c k in
+    let after : Option Section = option_map f (open_at s key) in
+    let now : after ≡ Some (f seat.0) = ap (option_map f) seat.1 in
+    record {
+      entered = entered_still s u key after secs (ap whose now ∙ (keeps seat.0 ∙ sym (ap whose seat.1)));
+      around = around_at s u t key after secs same
+          (λ x e. ap (λ (y : Section). y.thread) (sym (same_section (sym now ∙ e))) ∙ (keeps seat.0 ∙ seat.2))
+          (λ l e. queues l (ne_eqb l key (λ is. eqb-false (bucket s l) (bucket s key) e (ap (bucket s) is))));
+    }

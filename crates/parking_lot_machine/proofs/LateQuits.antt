@@ -17,7 +17,8 @@ use Rattle.parking_lot_core_model.specs.Places.{place_at}
 use Rattle.parking_lot_core_model.specs.Results.{is_left}
 use Rattle.parking_lot_core_model.specs.Sound as lot
 use Rattle.parking_lot_core_model.specs.Sound.{times_at}
-use Rattle.parking_lot_core_model.proofs.Kept.{updated_at, updated_other}
+use Rattle.parking_lot_core_model.specs.Lists.{updated}
+use Rattle.parking_lot_core_model.proofs.Kept.{updated_at, updated_other, updated_twice}
 use Rattle.parking_lot_core_model.proofs.Numbers.{flag, first_passes}
 use Rattle.parking_lot_core_model.proofs.Sounds.{place_at-set_same, place_at-set_other}
 use Rattle.parking_lot_rules.specs.Any.{AnyStep, Mx, MxStep, Rw, any_after, any_allowed, any_crossing}
@@ -44,7 +45,8 @@ use Rattle.parking_lot_machine_calls.specs.CallActs.{hears}
 use Rattle.parking_lot_machine.specs.RowFits.{FitsTogether, IsPrepared, LotFits, WaitsIn}
 use Rattle.parking_lot_machine_calls.specs.CallKinds.{IsOfKind}
 use Rattle.parking_lot_machine.specs.RowSteps.{IsLateMove, IsMade, IsMoveOf}
-use Rattle.parking_lot_machine.specs.Rows.{State, call_at, inside, mutex_at, queue_at, rw_lock_at, taken_by, word_at}
+use Rattle.parking_lot_machine.specs.Rows.{State, bucket, call_at, mutex_at, open_at, queue_at, rw_lock_at, taken_by}
+use Rattle.parking_lot_machine.specs.Rows.{word_at}
 use Rattle.parking_lot_machine_calls.specs.Stances.{In, Joined, Stores, Tells, core_next, pending_from, quits_as, sign}
 use Rattle.parking_lot_machine_calls.specs.Stances.{stance}
 use Rattle.parking_lot_machine.proofs.KindTable.{Kind, Tardy, of_mutexes, of_rws, roles_at, same, shown}
@@ -54,12 +56,13 @@ use Rattle.parking_lot_machine.proofs.LateRules.{quit_lists}
 use Rattle.parking_lot_machine.proofs.LateLots.{quit_fits}
 use Rattle.parking_lot_machine.proofs.LotActs.{lot_with_at, phase_as, restored_as, seat_of}
 use Rattle.parking_lot_machine.proofs.LotLists.{one_key}
-use Rattle.parking_lot_machine.proofs.Making.{Crossed, made}
+use Rattle.parking_lot_machine.proofs.Crossings.{Continues, continues}
+use Rattle.parking_lot_machine.proofs.Making.{Crossed, entries, made}
 use Rattle.parking_lot_machine.proofs.Meeting.{meets, plays_late}
 use Rattle.parking_lot_machine.proofs.Owning.{OwnAct, own-elsewhere, own-there, own_after}
 use Rattle.parking_lot_machine.proofs.Passing.{own_passes}
 use Rattle.parking_lot_machine.proofs.Ruling.{Fitted, rules_own}
-use Rattle.parking_lot_machine.proofs.TakeParts.{others_out, out_knows}
+use Rattle.parking_lot_machine.proofs.TakeParts.{beside, list_known}
 use Rattle.parking_lot_machine.proofs.WakesKept.{wakes_own}
 
 -- LISTS AND THEIR THREADS
@@ -249,18 +252,51 @@ module _ (s : State) (t : ℕ) (c : Call) (late : is_back c.core ≡ true) (h : 
             (λ place secs runs at. (o', at, stands.2, stands.3, refl, runs, refl))
 
     -- and the rules'
-    quit_inside : inside quit_state ≡ inside s
-    quit_inside = go told_now
+    -- its section goes on, with one change or two
+    quit_shape : (b : Bool) → let m = cond b (stored (out_of_list s t c) key (sign false)) (out_of_list s t c) in
+        (f : Section → Section) × ((x : Section) → (f x).thread ≡ x.thread)
+        × ((n : ℕ) → m.sections n ≡ updated s.lot.sections (bucket s key) (option_map f (open_at s key)) n)
+        × (m.buckets ≡ s.lot.buckets) × ((l : ℕ) → (l == key) ≡ false → m.queues l ≡ s.lot.queues l)
+    quit_shape true = (
+      λ x. record x { phase = Phase.Stored; token = sign false },
+      λ x. refl,
+      λ n. stored_twice n,
+      refl,
+      λ l ne. updated_other s.lot.queues key (remove q i) l ne,
+    )
       where
-        go : (b : Bool) → inside (with_lot s (cond b (stored (out_of_list s t c) key (sign false)) (out_of_list s t c)))
-            ≡ inside s
-        go true = ap (λ x. option_and_then (λ (y : Section). y.thread)
-            (option_map {T = Section} (λ y. record y { phase = Phase.Stored; token = sign false })
-            (option_map {T = Section} (λ y. record y { phase = Phase.Ended }) x))) stands.1
-            ∙ sym (ap (option_and_then (λ (y : Section). y.thread)) stands.1)
-        go false = ap (λ x. option_and_then (λ (y : Section). y.thread)
-            (option_map {T = Section} (λ y. record y { phase = Phase.Ended }) x)) stands.1
-            ∙ sym (ap (option_and_then (λ (y : Section). y.thread)) stands.1)
+        ends : Section → Section
+        ends x = record x { phase = Phase.Ended }
+
+        tells : Section → Section
+        tells x = record x { phase = Phase.Stored; token = sign false }
+
+        both : (o : Option Section) → option_map tells (option_map ends o) ≡ option_map tells o
+        both None = refl
+        both (Some x) = refl
+
+        stored_twice : (n : ℕ) → updated (updated s.lot.sections (bucket s key) (option_map ends (open_at s key)))
+            (bucket s key) (option_map tells (updated s.lot.sections (bucket s key) (option_map ends (open_at s key))
+            (bucket s key))) n ≡ updated s.lot.sections (bucket s key) (option_map tells (open_at s key)) n
+        stored_twice n =
+            ap (λ (o : Option Section). updated (updated s.lot.sections (bucket s key)
+            (option_map ends (open_at s key))) (bucket s key) (option_map tells o) n)
+            (updated_at s.lot.sections (bucket s key) (option_map ends (open_at s key)))
+            ∙ (ap (λ (g : ℕ → Option Section). g n) (updated_twice s.lot.sections (bucket s key)
+            (option_map ends (open_at s key)) (option_map tells (option_map ends (open_at s key))))
+            ∙ ap (λ (o : Option Section). updated s.lot.sections (bucket s key) o n) (both (open_at s key)))
+    quit_shape false = (
+      λ x. record x { phase = Phase.Ended },
+      λ x. refl,
+      λ n. refl,
+      refl,
+      λ l ne. updated_other s.lot.queues key (remove q i) l ne,
+    )
+
+    quit_on : Continues s quit_state t
+    quit_on =
+        let x = quit_shape told_now in
+        continues s quit_state t c h.lots here which (Joined has_come.park) has_come.stands x.0 x.1 x.2 x.3 x.4
 
     quit_mutex : (p : LatePhase) → c.core ≡ Core.Late p → late_is_back p ≡ true
         → IsMoveOf (Core.Late p) c.others (taken_by s.wakes t) heard c.lock t s quit_state
@@ -286,7 +322,7 @@ module _ (s : State) (t : ℕ) (c : Call) (late : is_back c.core ≡ true) (h : 
                 stood_there (2 * c.lock) first,
                 omega (arith, as_many (2 * c.lock) first, some_left (remove q i) (left_by ∙ f)),
               )
-              (ap Mx (same of_mutexes _ _ _ _ _ _ [] [] refl refl (list_then (2 * c.lock) first) refl)) quit_inside),
+              (ap Mx (same of_mutexes _ _ _ _ _ _ [] [] refl refl (list_then (2 * c.lock) first) refl)) (tt, quit_on.entered)),
         )
         go false f = (
           i,
@@ -298,7 +334,7 @@ module _ (s : State) (t : ℕ) (c : Call) (late : is_back c.core ≡ true) (h : 
                 stood_there (2 * c.lock) first,
                 omega (arith, as_many (2 * c.lock) first, none_left (remove q i) (left_by ∙ f)),
               )
-              (ap Mx (same of_mutexes _ _ _ _ _ _ [] [] refl refl (list_then (2 * c.lock) first) refl)) quit_inside),
+              (ap Mx (same of_mutexes _ _ _ _ _ _ [] [] refl refl (list_then (2 * c.lock) first) refl)) (tt, quit_on.entered)),
         )
     quit_mutex p e back = absurd cc
 
@@ -355,7 +391,7 @@ module _ (s : State) (t : ℕ) (c : Call) (late : is_back c.core ≡ true) (h : 
                 second = f;
               }))
               lists.2)
-              quit_inside,
+              (tt, quit_on.entered),
         )
     quit_rw p e back = absurd cc
 
@@ -378,8 +414,10 @@ module _ (s : State) (t : ℕ) (c : Call) (late : is_back c.core ≡ true) (h : 
     quits_as_told : (told : ActResult) × Acts t c told s quit_state
     quits_as_told =
         let both = rules_own s quit_state t c heard c.spot own_quit h
-        (λ v e ne at. out_knows e.core quit_state.lot.queues e.lock
-        (others_out s h.lots t c here which (Joined has_come.park) has_come.stands v e ne at)) quit_fitted in (
+        (λ v e ne at. list_known e.core s.lot.queues quit_state.lot.queues e.lock
+        (λ l what is_in. quit_queue (2 * e.lock + l) ∙ updated_other s.lot.queues key (remove q i) (2 * e.lock + l)
+        (beside s h.lots t c here which (Joined has_come.park) has_come.stands v e ne at l what is_in))
+        (h.rules.knows v e at)) quit_fitted in (
           heard,
           record {
             fits =
@@ -387,7 +425,7 @@ module _ (s : State) (t : ℕ) (c : Call) (late : is_back c.core ≡ true) (h : 
                   lots = quit_lots;
                   passes = own_passes s quit_state t c heard (core_next c.core heard) c.spot
                       own_quit quit_lots h.passes
-                      (inr (inl (quit_inside ∙ ap (option_and_then (λ (x : Section). x.thread)) stands.1 ∙ stands.2)))
+                      quit_on.around
                       (λ k o e. absurd (quit_goes.takes k e));
                   wakes = wakes_own s quit_state t c heard (core_next c.core heard)
                       own_quit h.wakes;
