@@ -1,7 +1,7 @@
 -- One whose moment has passed and that was taken comes back and finds that out. That is two steps of the rules: its
 -- taker drops it from those that it is to wake, and it enters the section. The machine stays fit.
 use Rattle.std.proofs.Common.{◌≡◌, ◌≢◌, ◌≤◌, ℕ, ◌+◌, ◌*◌, ◌==◌, inl, inr, Bool, true, false, cond, List, length, Option}
-use Rattle.std.proofs.Common.{Some, None, slice_get, slice_set, refl, sym, ap, ◌∙◌, subst, arith}
+use Rattle.std.proofs.Common.{Some, None, is_some, slice_get, slice_set, refl, sym, ap, ◌∙◌, subst, arith}
 use Rattle.std.specs.List.{position_or_len}
 use Rattle.std.specs.Option.{option_and_then}
 use Rattle.std.proofs.lemmas.Bool.{cases_eq, ne_eqb}
@@ -9,6 +9,8 @@ use Rattle.std.proofs.lemmas.List.{length-set}
 use Rattle.std.proofs.lemmas.List.Edits.{length-remove}
 use Rattle.std.proofs.lemmas.Option.{none-some, slice_get_within}
 use Rattle.parking_lot_core_model.specs.declared.parking.UnparkToken.{UnparkToken}
+use Rattle.parking_lot_core_model.specs.declared.place.Place.TheVariants.{Running, Taken}
+use Rattle.parking_lot_core_model.specs.declared.place.Sleep.{Sleep}
 use Rattle.parking_lot_core_model.specs.declared.place.Phase.{Phase}
 use Rattle.parking_lot_core_model.specs.declared.place.Section.{Section}
 use Rattle.parking_lot_core_model.specs.declared.place.Waiter.{Waiter}
@@ -42,17 +44,17 @@ use Rattle.parking_lot_machine.specs.ActLaws.{Acts}
 use Rattle.parking_lot_machine_calls.specs.Kinds.{AsMutex, Manner, manner_of, recursive_in}
 use Rattle.parking_lot_machine.specs.LateActs.{found, found_lot, unowed}
 use Rattle.parking_lot_machine_calls.specs.LateCalls.{comes_late, found_as, is_handed, is_pending, late_comes}
-use Rattle.parking_lot_machine_calls.specs.LateCalls.{late_rw_comes}
+use Rattle.parking_lot_machine_calls.specs.LateCalls.{late_key, late_rw_comes}
 use Rattle.parking_lot_machine_calls.specs.LateRoles.{finding, finds_as, sleeper_role, sleeper_wants, stays}
 use Rattle.parking_lot_machine_calls.specs.CallActs.{key_of, told_of}
 use Rattle.parking_lot_machine.specs.RowFits.{FitsTogether, IsPrepared, KnowsList, LotFits, PassesFit, RulesFit}
 use Rattle.parking_lot_machine.specs.RowFits.{WakesFit, is_away, is_off, IsAt}
 use Rattle.parking_lot_machine_calls.specs.CallKinds.{IsOfKind, IsOfManner}
 use Rattle.parking_lot_machine.specs.RowSteps.{IsMade, IsMoveOf, IsMutexFound, IsRwFound}
-use Rattle.parking_lot_machine.specs.Rows.{State, call_at, hold_at, inside, is_for, mutex_at, queue_at, rw_lock_at}
+use Rattle.parking_lot_machine.specs.Rows.{State, call_at, hold_at, is_for, mutex_at, queue_at, rw_lock_at}
 use Rattle.parking_lot_machine.specs.Rows.{taken_by, word_at}
 use Rattle.parking_lot_machine_calls.specs.CallRoles.{late_role, mark_of, mutex_spot}
-use Rattle.parking_lot_machine_calls.specs.Stances.{Asleep, In, Stance, Takes, Tells, core_act, has_begun, pending_from}
+use Rattle.parking_lot_machine_calls.specs.Stances.{Asleep, In, Out, Stance, Takes, Tells, core_act, has_begun, pending_from}
 use Rattle.parking_lot_machine_calls.specs.Stances.{sign, sleeper_asleep, stance, taken_count}
 use Rattle.parking_lot_machine.specs.Rounds.{rounds}
 use Rattle.parking_lot_machine.proofs.Calling.{call-here, call-elsewhere, calls-change, slot}
@@ -76,7 +78,7 @@ use Rattle.parking_lot_machine.proofs.Making.{IsSoundState, entries, made, made_
 use Rattle.parking_lot_machine.proofs.Meeting.{in_range, meets, plays_late}
 use Rattle.parking_lot_machine.proofs.MutexMoving.{total_of_nobody}
 use Rattle.parking_lot_machine.proofs.OwnActs.{sound_first, sound_in_mutex, sound_second}
-use Rattle.parking_lot_machine.proofs.Passing.{passes_after}
+use Rattle.parking_lot_machine.proofs.Passing.{around_at, passes_after}
 use Rattle.parking_lot_machine.proofs.Rousing.{late_wakes, mutex_wakes, others_taken}
 use Rattle.parking_lot_machine.proofs.Ruling.{CallFits, call_fits, rules_after}
 use Rattle.parking_lot_machine.proofs.Owning.{OwnAct, own-elsewhere, own-there, own_after}

@@ -274,7 +274,7 @@ module _ (s : State) (t : ℕ) (c : Call) (h : FitsTogether s) (here : call_at s
   -- nobody takes anybody
   pub passes_roused : stance (core_next c.core seen.Made) ≡ Out → LotFits woke_state → PassesFit woke_state
   passes_roused to lots =
-      passes_after s woke_state t lots h.passes (inr (inr (refl, λ key. refl)))
+      passes_after s woke_state t lots h.passes (λ v k o ne at whose. (at, refl))
       (λ x z k nt at is. elim (cases_eq x e.thread) [
         | inl f ↦ absurd (out_takes
             (sym woken_out ∙ ap (λ (y : Call). stance y.core)
@@ -457,7 +457,7 @@ module _ (s : State) (t : ℕ) (c : Call) (h : FitsTogether s) (here : call_at s
               (woke_elsewhere s t c h here e d token due from) kind_is
               (wakes.owns, v, vs, woken.how, woken.stay, wakes.step)
               (roused_after s t c h here e d token due from of_rws k q (rw_next k seen.Made)
-              (rw_next q (seen.Woken token)) mine_is de its_is to x refl) refl tt))),
+              (rw_next q (seen.Woken token)) mine_is de its_is to x refl) (tt, λ b. refl) tt))),
           mine.0,
           mine.1,
           h.rules.bits c.lock,
@@ -495,7 +495,7 @@ module _ (s : State) (t : ℕ) (c : Call) (h : FitsTogether s) (here : call_at s
               ∙ same of_mutexes _ _ _ _ _ _ [] [] refl
               (ap (λ x. slice_set (slice_set (roles_at of_mutexes s c.lock) v x) t
               (of_mutex.role of_mutex.Listed (first_of_all vs) k'.phase)) (mutex_woken ws token)) refl refl)
-              refl one,
+              (tt, λ b. refl) one,
           subst (IsPrepared (recursive_in s.kinds c.lock) c.others) ce (h.rules.prepared t c here),
           tt,
           h.rules.bits c.lock,
