@@ -12,6 +12,7 @@ use Rattle.parking_lot_protocol.specs.declared.act.SectionAct.TheVariants as sec
 use Rattle.parking_lot_machine_calls.specs.declared.open_call.Call.{Call}
 use Rattle.parking_lot_machine_calls.specs.CallActs.{key_of}
 use Rattle.parking_lot_machine_calls.specs.Stances.{Doing, Stance, In, stance}
+use Rattle.parking_lot_machine.specs.Ranks.{is_shut_to}
 use Rattle.parking_lot_machine.specs.RowFits.{LotFits}
 use Rattle.parking_lot_machine.specs.Rows.{State, bucket, call_at, entered_in, open_at}
 use Rattle.parking_lot_machine.proofs.LotActs.{same_section, seat_of}
@@ -39,6 +40,16 @@ module _ (s u : State) (key : ℕ) (after : Option Section)
       (λ e. entered_put b ∙ (cond-true (b == bucket s key) (whose after) (entered_in s b) (eq-eqb b (bucket s key) e)
       ∙ (same ∙ ap (entered_in s) (sym e))))
       (λ e. entered_put b ∙ cond-false (b == bucket s key) (whose after) (entered_in s b) e)
+
+  -- and who isn't shut out by it isn't shut out then
+  pub shut_put : (t : ℕ) → is_shut_to t (whose after) ≡ false
+      → is_shut_to t (entered_in s (bucket s key)) ≡ false → (b : ℕ)
+      → is_shut_to t (entered_in u b) ≡ is_shut_to t (entered_in s b)
+  shut_put t now was b = by_eqb b (bucket s key) (is_shut_to t (entered_in u b) ≡ is_shut_to t (entered_in s b))
+      (λ e. ap (is_shut_to t) (entered_put b
+      ∙ cond-true (b == bucket s key) (whose after) (entered_in s b) (eq-eqb b (bucket s key) e))
+      ∙ (now ∙ sym (ap (λ (n : ℕ). is_shut_to t (entered_in s n)) e ∙ was)))
+      (λ e. ap (is_shut_to t) (entered_put b ∙ cond-false (b == bucket s key) (whose after) (entered_in s b) e))
 
 -- a lock's key by its number is that of the rules
 module _ (s u : State) (t j : ℕ) (after : Option Section) where
