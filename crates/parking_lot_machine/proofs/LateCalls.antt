@@ -140,6 +140,12 @@ module _ (s : State) (h : FitsTogether s) (t : ℕ) (c : Call) (here : call_at s
       subst (λ (a : QueuePosition). IsAt a (place_at s.lot.places t) (open_at s) (late_key c)) listed
       (seat_of s h.lots t c (Asleep (bit (is_pending c.core)) come.park) here come.lies).0
 
+  pub returns_there : comes_late c.core ≡ true → c.spot ≡ QueuePosition.Listed
+      → option_map_or (may_return (late_key c)) (place_at s.lot.places t) false ≡ true
+  returns_there late listed =
+      ap (λ (p : Option Place). option_map_or (may_return (late_key c)) p false) (sleeps_there late listed).1
+      ∙ eq-eqb (late_key c) (late_key c) refl
+
   pub stands_there : is_back c.core ≡ true → (o : Section) × (s.lot.inside t ≡ Some (late_key c))
       × (open_at s (late_key c) ≡ Some o) × (o.key ≡ late_key c) × (o.phase ≡ Phase.Joined)
       × WaitsIn (place_at s.lot.places t) (late_key c)
