@@ -50,6 +50,7 @@ pub mod WakesActs
 pub mod Viewing
 pub mod NextTaken
 pub mod LotStarts
+mod BucketNumbers
 pub mod ScanRoom
 pub mod RwKeeping
 pub mod RwCrossing

@@ -62,7 +62,7 @@ new_machines_fit s sound new = (new_fits s sound new, new_wakes s sound new)
 
 -- THREADS THAT ARE REGISTERED
 
-next_number : (n : ℕ) → free_number (replicate n (Some Running)) ≡ n
+pub next_number : (n : ℕ) → free_number (replicate n (Some Running)) ≡ n
 next_number zero = refl
 next_number (suc n) = ap (λ k. 1 + k) (next_number n) ∙ one_more n
   where

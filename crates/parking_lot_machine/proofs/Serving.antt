@@ -65,7 +65,7 @@ use Rattle.parking_lot_machine.proofs.KindTable.{MutexCall, Plain, Late, mutex_c
 use Rattle.parking_lot_machine.proofs.KindTable.{role_now}
 use Rattle.parking_lot_machine.proofs.Meeting.{in_range, mutex_sound, rw_sound}
 use Rattle.parking_lot_machine_calls.specs.declared.late_rw.LateRwPhase.{LateRwPhase}
-use Rattle.parking_lot_machine_calls.specs.LateCalls.{comes_late, is_back, is_pending, late_is_back, late_rw_is_back}
+use Rattle.parking_lot_machine_calls.specs.LateCalls.{comes_late, is_back, is_pending, late_is_back, late_rw_is_back, late_key}
 use Rattle.parking_lot_machine_calls.specs.LateCalls.{sleeps_in_time}
 use Rattle.parking_lot_machine_calls.proofs.Lying.{lies_out}
 use Rattle.parking_lot_rules.specs.Classes.{bit}
@@ -410,16 +410,16 @@ module _ (s : State) (h : FitsTogether s) where
 
   -- one whose moment has passed can come back, or the one inside a section can move
   late_sleeps : (v : ℕ) (d : Call) → call_at s v ≡ Some d → comes_late d.core ≡ true → Moves
-  late_sleeps v d there e = go s.lot.section refl
+  late_sleeps v d there e = go (open_at s (late_key d)) refl
     where
-      go : (o : Option Section) → s.lot.section ≡ o → Moves
+      go : (o : Option Section) → open_at s (late_key d) ≡ o → Moves
       go None is = (
         v,
         ap (can_move_in s) there ∙ comes_on (is_back d.core) (comes_late d.core)
             (not (is_taken s d (bit (is_pending d.core)))) (is_possible (is_taken s d) (core_act d.core)) e
             (ap (λ o. not (is_some o)) is),
       )
-      go (Some o) is = inside_moves o is
+      go (Some o) is = inside_moves (bucket s (late_key d)) o is
 
   -- and one that is back takes itself out
   back_moves : (v : ℕ) (d : Call) → call_at s v ≡ Some d → is_back d.core ≡ true → Moves

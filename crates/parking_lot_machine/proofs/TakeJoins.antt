@@ -25,7 +25,7 @@ use Rattle.parking_lot_machine_calls.specs.declared.seat.QueuePosition.{QueuePos
 use Rattle.parking_lot_machine_calls.specs.declared.seat.LatePhase.{LatePhase}
 use Rattle.parking_lot_machine_calls.specs.declared.seat.Core.{Core}
 use Rattle.parking_lot_machine_calls.specs.declared.open_call.Call.{Call}
-use Rattle.parking_lot_machine.specs.Rows.{State, word_at, call_at, taken_by, rw_lock_at, mutex_at, inside}
+use Rattle.parking_lot_machine.specs.Rows.{State, word_at, call_at, taken_by, rw_lock_at, mutex_at}
 use Rattle.parking_lot_machine_calls.specs.CallRoles.{first_of_all, mutex_spot}
 use Rattle.parking_lot_machine_calls.specs.Stances.{Joins, In, late_stance, rw_stance, seeks_stance, upgrade_stance}
 use Rattle.parking_lot_machine_calls.specs.Stances.{mutex_stance, stance, core_act, core_next, Takes, Stores}

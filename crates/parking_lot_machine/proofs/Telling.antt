@@ -35,7 +35,7 @@ use Rattle.parking_lot_machine.specs.MutexLaws.{IsTelling}
 use Rattle.parking_lot_machine_calls.specs.CallActs.{settled_spot, settled, told_of}
 use Rattle.parking_lot_machine.specs.RowFits.{FitsTogether, IsPrepared, KnowsList}
 use Rattle.parking_lot_machine_calls.specs.CallKinds.{IsOfKind, IsOfManner}
-use Rattle.parking_lot_machine.specs.Rows.{State, inside, word_at, call_at, hold_at, taken_by, rw_lock_at}
+use Rattle.parking_lot_machine.specs.Rows.{State, word_at, call_at, hold_at, taken_by, rw_lock_at}
 use Rattle.parking_lot_machine.specs.Rows.{mutex_word_of, mutex_at, queue_at}
 use Rattle.parking_lot_machine_calls.specs.CallRoles.{mark_of, first_of_all, mutex_spot}
 use Rattle.parking_lot_machine.specs.RowSteps.{IsMutexMove, IsRwMove}
