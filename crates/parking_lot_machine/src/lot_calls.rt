@@ -11,7 +11,7 @@ ghost use Rattle.parking_lot_core_model.specs.Results.{is_left};
 ghost use Rattle.parking_lot_core_model.specs.Sound.{Sound};
 ghost use Rattle.parking_lot_core_model.specs.Machine.{machine, given_up, quit_fault, quitted, return_fault, returned};
 ghost use Rattle.parking_lot_core_model.specs.Machine.{any_phase, closed, enter_fault, in_phase, joined, opened};
-ghost use Rattle.parking_lot_core_model.specs.Machine.{section_of, step_fault, stored};
+ghost use Rattle.parking_lot_core_model.specs.Machine.{open_at, section_of, step_fault, stored};
 ghost use Rattle.parking_lot_protocol.specs.Wake.{wake_answer};
 ghost use Rattle.parking_lot_machine.specs.NextTakings.{NextTaken};
 ghost use Rattle.parking_lot_machine.specs.Passes.{ArePassed};
@@ -107,7 +107,8 @@ fn quit_taken<A: Allocator>(lot: &mut Lot<A>, thread: usize, key: usize)
     requires there { quit_fault (machine lot.old) thread ≡ None }
     requires off { (token : UnparkToken) × (sleep : Sleep)
         × (place_at (machine lot.old).places thread ≡ Some (Taken token key sleep false)) }
-    requires inside { (s : Section) × (section_of (machine lot.old) thread ≡ Some s) × (s.key ≡ key) }
+    requires inside { (s : Section) × ((machine lot.old).inside thread ≡ Some key)
+        × (open_at (machine lot.old) key ≡ Some s) × (s.key ≡ key) }
     ensures runs { machine lot.new ≡ in_phase
         (record (machine lot.old) { places = slice_set (machine lot.old).places thread (Some Running) }) key
         phase.Ended }
@@ -122,7 +123,8 @@ fn quit_taken<A: Allocator>(lot: &mut Lot<A>, thread: usize, key: usize)
 pub(crate) fn quit<A: Allocator>(lot: &mut Lot<A>, thread: usize, key: usize, stores: bool) -> bool
     requires there { quit_fault (machine lot.old) thread ≡ None }
     requires waits { (sleep : Sleep) × (place_at (machine lot.old).places thread ≡ Some (Waiting key sleep)) }
-    requires inside { (s : Section) × (section_of (machine lot.old) thread ≡ Some s) × (s.key ≡ key) }
+    requires inside { (s : Section) × ((machine lot.old).inside thread ≡ Some key)
+        × (open_at (machine lot.old) key ≡ Some s) × (s.key ≡ key) }
     ensures left { result ≡ is_left ((in_phase (given_up (machine lot.old) thread key) key phase.Ended).queues key) }
     ensures out { machine lot.new
         ≡ (if result || stores then stored (in_phase (given_up (machine lot.old) thread key) key phase.Ended) key
@@ -142,7 +144,8 @@ pub(crate) fn quit<A: Allocator>(lot: &mut Lot<A>, thread: usize, key: usize, st
 fn quit_list<A: Allocator>(lot: &mut Lot<A>, thread: usize, key: usize)
     requires there { quit_fault (machine lot.old) thread ≡ None }
     requires waits { (sleep : Sleep) × (place_at (machine lot.old).places thread ≡ Some (Waiting key sleep)) }
-    requires inside { (s : Section) × (section_of (machine lot.old) thread ≡ Some s) × (s.key ≡ key) }
+    requires inside { (s : Section) × ((machine lot.old).inside thread ≡ Some key)
+        × (open_at (machine lot.old) key ≡ Some s) × (s.key ≡ key) }
     ensures out { machine lot.new ≡ in_phase (given_up (machine lot.old) thread key) key phase.Ended }
     ensures within { (s : Section) × (section_of (machine lot.new) thread ≡ Some s) × (s.key ≡ key) }
     ensures store { step_fault may_store (machine lot.new) thread ≡ None }
