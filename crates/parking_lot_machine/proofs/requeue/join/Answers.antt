@@ -50,3 +50,25 @@ leave-requires g c =
           c.append.ensures.joined)
           ∙ c.requires.may.leaves;
     }
+
+-- and there it still is
+joins : (m : Machine) (thread key : ℕ)
+    → section_of (in_phase (in_phase (opened m (Some thread) key) key phase.Valid) key phase.Joined) thread
+    ≡ Some (so_far thread key phase.Joined)
+joins m thread key =
+    own_section (in_phase (in_phase (opened m (Some thread) key) key phase.Valid) key phase.Joined) thread key
+    (so_far thread key phase.Joined) (updated_at m.inside thread (Some key))
+    (ap (λ (n : Machine). open_at (in_phase n key phase.Joined) key)
+    (phase_within m (so_far thread key phase.Fresh) phase.Valid)
+    ∙ ap (λ (n : Machine). open_at n key) (phase_within m (so_far thread key phase.Valid) phase.Joined)
+    ∙ open_within m (so_far thread key phase.Joined))
+
+pub returns : goal.returns
+returns g c =
+    let key : ℕ = c.args.key in
+    let all = has_joined (machine c.args.lot.now) (machine c.enter.new.lot) (machine c.check.new.lot)
+    (machine c.append.new.lot) c.args.thread key c.enter.ensures.opened c.check.ensures.checked c.append.ensures.joined
+    in
+    c.leave.ensures.closed (so_far c.args.thread key phase.Joined)
+    (ap (λ m. section_of m c.args.thread) all ∙ joins (machine c.args.lot.now) c.args.thread key)
+    ∙ ap (λ m. closed m key false) all
