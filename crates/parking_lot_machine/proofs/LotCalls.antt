@@ -1,6 +1,6 @@
 -- The lot refuses no call that an act makes.
 use Rattle.std.proofs.Common.{◌≡◌, ◌≢◌, ◌≤◌, ℕ, ◌==◌, ◌&&◌, inl, inr, Bool, true, false, cond, Option, Some, None}
-use Rattle.std.proofs.Common.{is_some, length, slice_get, ap, ◌∙◌, subst, eq-eqb}
+use Rattle.std.proofs.Common.{is_some, length, slice_get, sym, ap, ◌∙◌, subst, eq-eqb}
 use Rattle.std.specs.List.{position_or_len}
 use Rattle.std.specs.Option.{option_map, option_map_or, option_and_then}
 use Rattle.std.proofs.lemmas.Bool.{eqb-false, eqb-true}
@@ -28,7 +28,7 @@ use Rattle.parking_lot_machine_calls.specs.declared.open_call.Call.{Call}
 use Rattle.parking_lot_machine_calls.specs.declared.seat.Wakeup.{Wakeup}
 use Rattle.parking_lot_machine.specs.Rows.{State, call_at, is_by, taken_by}
 use Rattle.parking_lot_machine_calls.specs.Stances.{Doing, Looks, TurnsBack, Joins, Joined, Takes, Stores, Tells}
-use Rattle.parking_lot_machine_calls.specs.Stances.{Stance, Out, In, stance}
+use Rattle.parking_lot_machine_calls.specs.Stances.{Stance, Out, In, core_act, stance}
 use Rattle.parking_lot_machine_calls.specs.StanceLaws.{LeavesFor}
 use Rattle.parking_lot_machine_calls.specs.CallActs.{key_of}
 use Rattle.parking_lot_machine.specs.RowFits.{HasCome, LotFits}
@@ -36,7 +36,8 @@ use Rattle.parking_lot_machine.specs.LotLaws.{IsTaking, IsDue, IsWaiter, Asks, L
 use Rattle.parking_lot_machine.proofs.Indexing.{set_twice}
 use Rattle.parking_lot_machine_calls.proofs.Stancing.{leads_by, small_key}
 use Rattle.parking_lot_machine.proofs.Carrying.{taken_by-count}
-use Rattle.parking_lot_machine.proofs.LotActs.{seat_of}
+use Rattle.parking_lot_machine.specs.RowActs.{key_in}
+use Rattle.parking_lot_machine.proofs.LotActs.{key_is, seat_of}
 use Rattle.parking_lot_machine.proofs.LotTakes.{sleeper}
 use Rattle.parking_lot_machine.proofs.LotWakes.{due_place, other}
 
@@ -71,6 +72,13 @@ steps_in s t c h here k how may from fits =
     let seat = seat_of s h t c (In k how) here from in
     may_step s.lot t (key_of c k) seat.0 may seat.6 seat.1 (fits seat.0 seat.4)
 
+-- the section that a call is in
+pub inside_key : (s : State) (t : ℕ) (c : Call) (k : ℕ) (how : Doing) → LotFits s → call_at s t ≡ Some c
+    → stance c.core ≡ In k how → (o : Section) × (section_of s.lot t ≡ Some o) × (o.key ≡ key_in c)
+inside_key s t c k how h here from =
+    let seat = seat_of s h t c (In k how) here from in
+    (seat.0, own_section s.lot t (key_of c k) seat.0 seat.6 seat.1, seat.3 ∙ sym (key_is c k how from))
+
 takes : (s : State) (t : ℕ) (c : Call) (a : Act) → IsTaking a → Asks s t c a → step_fault may_take s.lot t ≡ None
 takes s t c (Act.Section section.TakeFirst) taking x =
     let l = leads_by c.core (Act.Section section.TakeFirst) 0 (seen.Took None false) x.2 tt in
@@ -87,6 +95,16 @@ leaves s t c x = go (leads_by c.core (Act.Section section.Leave) 0 seen.Made x.2
     go (inl l) = steps_in s t c x.0 x.1 l.0 TurnsBack any_phase l.1 (λ o come. refl)
     go (inr (inl l)) = steps_in s t c x.0 x.1 l.0 (Joined l.1) any_phase l.2 (λ o come. refl)
     go (inr (inr l)) = steps_in s t c x.0 x.1 l.0 (Tells l.1) any_phase l.2 (λ o come. refl)
+
+pub leaves_in : (s : State) (t : ℕ) (c : Call) → LotFits s → call_at s t ≡ Some c
+    → core_act c.core ≡ Act.Section section.Leave → (o : Section) × (section_of s.lot t ≡ Some o) × (o.key ≡ key_in c)
+leaves_in s t c h here asked = go (leads_by c.core (Act.Section section.Leave) 0 seen.Made asked tt)
+  where
+    go : {b : Stance} {n m : ℕ} → LeavesFor (stance c.core) b n m
+        → (o : Section) × (section_of s.lot t ≡ Some o) × (o.key ≡ key_in c)
+    go (inl l) = inside_key s t c l.0 TurnsBack h here l.1
+    go (inr (inl l)) = inside_key s t c l.0 (Joined l.1) h here l.2
+    go (inr (inr l)) = inside_key s t c l.0 (Tells l.1) h here l.2
 
 waiters : (s : State) (t : ℕ) (c : Call) (k nth : ℕ) (w : Waiter) → LotFits s → call_at s t ≡ Some c
     → stance c.core ≡ In k Takes → slice_get (s.lot.queues (key_of c k)) nth ≡ Some w → IsWaiter s t k c w

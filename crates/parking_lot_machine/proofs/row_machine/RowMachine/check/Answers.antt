@@ -32,13 +32,19 @@ index_mut-requires g c =
 pub returns : goal.returns
 returns g c =
     let s : State = state c.args.self.now in
-    let valid : Machine → Bool → Machine = λ lot b. in_phase lot (cond b phase.Valid phase.Invalid) in
+    let valid : Machine → ℕ → Bool → Machine = λ lot k b. in_phase lot k (cond b phase.Valid phase.Invalid) in
+    let key : ℕ = key_in c.args.call in
+    let l = leads_by c.args.call.core (act.Section section.Check) 0 (seen.Word 0) c.requires.asked refl in
+    let in_it = inside_key _ c.args.thread c.args.call l.0 _ c.self.invariant.0.lots
+    (held c.args.thread c.args.call c.self.view_is c.requires.here) l.1 in
     let done : State → Call → Machine → State = λ s next lot. with_lot (with_call s c.args.thread next) lot in
     ap (λ (m : Rows). done (state m) c.told-next.result (machine c.check.new.lot)) c.self.view_is
     ∙ ap (done s c.told-next.result)
-    (c.check.ensures.checked ∙ ap (λ (m : Rows). valid (machine m.lot) c.joins.result) c.self.view_is
-    ∙ ap (valid s.lot) c.joins.ensures)
-    ∙ ap (λ (next : Call). done s next (valid s.lot (joins (stance next.core))))
+    (c.check.ensures.checked in_it.0 in_it.1
+    ∙ ap (λ (k : ℕ). valid (machine c.self.inside.lot) k c.joins.result) in_it.2
+    ∙ ap (λ (m : Rows). valid (machine m.lot) key c.joins.result) c.self.view_is
+    ∙ ap (valid s.lot key) c.joins.ensures)
+    ∙ ap (λ (next : Call). done s next (valid s.lot key (joins (stance next.core))))
     (c.told-next.ensures ∙ ap (λ w. hears c.args.call (seen.Word w)) c.word.ensures)
 
 -- src/acts.rt:102:5

@@ -20,7 +20,7 @@ come_back-requires g c =
       free = subst (λ k. return_fault (machine c.self.inside.lot) c.args.thread k ≡ None)
           (sym (c.key.ensures ∙ ap (key_of c.args.call) c.late_list.ensures))
           (may_return_there (machine c.self.inside.lot) c.args.thread (late_key c.args.call)
-          (ap (λ (m : Rows). (machine m.lot).section) c.self.view_is ∙ c.requires.free)
+          (ap (λ (m : Rows). open_at (state m) (late_key c.args.call)) c.self.view_is ∙ c.requires.free)
           (sleeps_there _ c.self.invariant.0 c.args.thread c.args.call
           (held c.args.thread c.args.call c.self.view_is c.requires.here) c.requires.late c.requires.listed));
     }
