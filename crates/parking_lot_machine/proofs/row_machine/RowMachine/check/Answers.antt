@@ -12,7 +12,10 @@ use Rattle.parking_lot_machine_calls.specs.CallActs.{hears, joins}
 use Rattle.parking_lot_machine.specs.RowFits.{FitsTogether}
 use Rattle.parking_lot_machine.proofs.Acting.{laws}
 use Rattle.parking_lot_machine.proofs.Holding.{fits, held, low}
-use Rattle.parking_lot_machine.proofs.LotCalls.{lot_never_refuses}
+use Rattle.parking_lot_machine.proofs.LotCalls.{inside_key, lot_never_refuses}
+use Rattle.parking_lot_machine.specs.RowActs.{key_in}
+use Rattle.parking_lot_machine_calls.proofs.Stancing.{leads_by}
+use Rattle.std.proofs.Common.{ℕ}
 use Rattle.parking_lot_machine.proofs.row_machine.RowMachine.check.Goals as goal
 
 -- src/acts.rt:108:9

@@ -12,6 +12,7 @@ use Rattle.parking_lot_machine.specs.RowFits.{FitsTogether}
 use Rattle.parking_lot_machine.proofs.LateActs.{laws}
 use Rattle.parking_lot_machine.proofs.LateCalls.{may_return_there, sleeps_there}
 use Rattle.parking_lot_machine.proofs.Holding.{fits, held, low}
+use Rattle.parking_lot_machine.specs.Rows.{open_at}
 use Rattle.parking_lot_machine.proofs.row_machine.RowMachine.come_back.Goals as goal
 
 pub come_back-requires : goal.come_back-requires

@@ -19,6 +19,11 @@ use Rattle.parking_lot_machine.proofs.LateActs.{laws}
 use Rattle.parking_lot_machine.proofs.LateCalls.{entry_there, may_return_taken, taken_there}
 use Rattle.parking_lot_machine.proofs.Holding.{fits, held, low}
 use Rattle.parking_lot_machine.proofs.Woken.{stands_for}
+use Rattle.parking_lot_machine.specs.Rows.{open_at}
+use Rattle.parking_lot_core_model.specs.declared.parking.UnparkToken.{UnparkToken}
+use Rattle.parking_lot_core_model.specs.declared.place.Sleep.{Sleep}
+use Rattle.parking_lot_core_model.specs.declared.place.Place.TheVariants.{Taken}
+use Rattle.parking_lot_core_model.specs.Places.{place_at}
 use Rattle.parking_lot_machine.proofs.row_machine.RowMachine.find.Goals as goal
 
 pub remove-requires : goal.remove-requires

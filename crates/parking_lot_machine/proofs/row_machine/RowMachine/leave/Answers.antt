@@ -8,7 +8,9 @@ use Rattle.parking_lot_machine.specs.RowActs.{with_call, with_lot}
 use Rattle.parking_lot_machine.specs.RowFits.{FitsTogether}
 use Rattle.parking_lot_machine.proofs.Acting.{laws}
 use Rattle.parking_lot_machine.proofs.Holding.{fits, held, low}
-use Rattle.parking_lot_machine.proofs.LotCalls.{lot_never_refuses}
+use Rattle.parking_lot_machine.proofs.LotCalls.{leaves_in, lot_never_refuses}
+use Rattle.parking_lot_machine.specs.RowActs.{key_in}
+use Rattle.std.proofs.Common.{ℕ}
 use Rattle.parking_lot_machine.proofs.row_machine.RowMachine.leave.Goals as goal
 
 -- src/acts.rt:184:9

@@ -13,7 +13,9 @@ use Rattle.parking_lot_machine_calls.specs.CallActs.{settled, hears}
 use Rattle.parking_lot_machine.specs.RowFits.{FitsTogether}
 use Rattle.parking_lot_machine.proofs.TellActs.{laws}
 use Rattle.parking_lot_machine.proofs.Holding.{fits, held, low, word_low}
-use Rattle.parking_lot_machine.proofs.LotCalls.{lot_never_refuses}
+use Rattle.parking_lot_machine.proofs.LotCalls.{inside_key, lot_never_refuses}
+use Rattle.parking_lot_machine.specs.RowActs.{key_in}
+use Rattle.parking_lot_machine_calls.proofs.Stancing.{leads_by}
 use Rattle.parking_lot_machine.proofs.row_machine.RowMachine.mask.Goals as goal
 
 -- src/acts.rt:165:9

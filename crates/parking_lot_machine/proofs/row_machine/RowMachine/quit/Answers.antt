@@ -18,6 +18,8 @@ use Rattle.parking_lot_machine_calls.specs.Stances.{sign}
 use Rattle.parking_lot_machine.proofs.LateActs.{laws}
 use Rattle.parking_lot_machine.proofs.LateCalls.{may_quit, stands_there}
 use Rattle.parking_lot_machine.proofs.Holding.{fits, held, low}
+use Rattle.parking_lot_core_model.specs.Machine as lot
+use Rattle.parking_lot_core_model.specs.declared.place.Section.{Section}
 use Rattle.parking_lot_machine.proofs.row_machine.RowMachine.quit.Goals as goal
 
 pub quit-left-requires : goal.quit-left-requires
