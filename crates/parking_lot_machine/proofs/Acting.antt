@@ -217,9 +217,10 @@ enter : (s : State) (t : ℕ) (c : Call) (key : ℕ) → core_act c.core ≡ Act
     → lot.Sound (entered s t c key).lot → Keeps t c s (entered s t c key)
 enter s t c key asked free sound h here =
     let leads = leads_by c.core (Act.Enter key) (word_at s c.lock) ActResult.Entered asked tt in
-    let two : key < 2 = elim leads.1
-    [ inl x ↦ small_key (core_next c.core ActResult.Entered) key _ x
-    | inr x ↦ small_key (core_next c.core ActResult.Entered) key _ x ] in
+    let two : key < 2 = elim leads.1 [
+      | inl x ↦ small_key (core_next c.core ActResult.Entered) key _ x
+      | inr x ↦ small_key (core_next c.core ActResult.Entered) key _ x
+    ] in
     let own : Section = fresh_section (Some t) (key_of c key) in
     own_act s (entered s t c key) t c ActResult.Entered h (record {
       here = here;
@@ -282,10 +283,12 @@ check s t c asked sound h here =
     })
     (λ key. refl)
     (subst (λ (y : Act). Gives y (word_at s c.lock) told) (sym asked) refl) (subst IsOwnAct (sym asked) tt)
-    (subst (λ (y : Act). AfterAct (stance c.core) y t (entries s c.lock) (entries (checked s t c) c.lock)) (sym asked)
-    (tt, entered_still s (checked s t c) (key_in c) after (λ b. refl)
-    (ap (option_and_then (λ (x : Section). x.thread)) now
-    ∙ sym (ap (option_and_then (λ (x : Section). x.thread)) at_key))))
+    (subst (λ (y : Act). AfterAct (stance c.core) y t (entries s c.lock) (entries (checked s t c) c.lock)) (sym asked) (
+      tt,
+      entered_still s (checked s t c) (key_in c) after (λ b. refl)
+          (ap (option_and_then (λ (x : Section). x.thread)) now
+          ∙ sym (ap (option_and_then (λ (x : Section). x.thread)) at_key)),
+    ))
     (checked_fits s t c h.lots here leads.0 leads.1 leads.3 sound leads.2 leads.4)
     (around_at s (checked s t c) t (key_in c) after (λ b. refl) refl
     (λ x e. ap (λ (y : Section). y.thread) (sym (same_section (sym now ∙ e))) ∙ seat.2) (λ k e. refl))

@@ -159,9 +159,15 @@ module _ (s : State) (t : ℕ) (c d : Call) (key : ℕ) (park : ParkToken) (h : 
       ∙ h.outside v j x token by said y k sleep is asleep off place)
       (sits t d (In key (Joined park)) back_lot to
       (subst (λ (j : ℕ). Stands t j (In key (Joined park)) d.spot (place_at s.lot.places t) (back_lot.inside t)
-      (lot.open_at back_lot)) (sym lock)
-      (back_section, open_within s.lot back_section, refl, refl, refl, (at', waits_there),
-      updated_at s.lot.inside t (Some (key_of c key)))))
+      (lot.open_at back_lot)) (sym lock) (
+        back_section,
+        open_within s.lot back_section,
+        refl,
+        refl,
+        refl,
+        (at', waits_there),
+        updated_at s.lot.inside t (Some (key_of c key)),
+      )))
       (λ v e. seat_there s t h (key_of c key) None (Some back_section) free none_its s.lot.sleeps s.lot.queues
       s.lot.places back_lot.inside v e (updated_other s.lot.inside t (Some (key_of c key)) v e) (λ runs. runs)
       (λ x j how is in_it place. place)

@@ -225,6 +225,7 @@ module _ (s : State) (t : ℕ) (c : Call) (late : is_back c.core ≡ true) (h : 
             → lot.Sound (cond b (stored (out_of_list s t c) key (sign false)) (out_of_list s t c))
             → LotFits (with_lot (with_call s t d)
             (cond b (stored (out_of_list s t c) key (sign false)) (out_of_list s t c)))
+
         -- the section of the key comes so far
         ends : out_of_list s t c ≡ lot_with_at s key s.lot.sleeps (out_of_list s t c).queues (out_of_list s t c).places
             (Some (record o { phase = Phase.Ended })) s.lot.inside
@@ -235,7 +236,6 @@ module _ (s : State) (t : ℕ) (c : Call) (late : is_back c.core ≡ true) (h : 
         tells = ap (λ (m : Machine). stored m key (sign false)) ends
             ∙ restored_as s key s.lot.sleeps (out_of_list s t c).queues (out_of_list s t c).places
             (record o { phase = Phase.Ended }) s.lot.inside (sign false)
-
         go true to so =
             let o' : Section = record o { phase = Phase.Stored; token = sign false } in
             let out = stored (out_of_list s t c) key (sign false) in

@@ -367,9 +367,11 @@ module _ (s : State) (t : ℕ) (c : Call) (by : ℕ) (said : WakeResult) (late :
           passing,
           made of_mutexes mid u t c.lock (own-there mid u t c seen.Made _ QueuePosition.Listed a)
               (own-elsewhere mid u t c seen.Made _ QueuePosition.Listed a) kind_is
-              (MxStep (mutex.Alone (mutex.ReenterTaken by mark)))
-              (mine_mid, total_of_nobody (mutex_at mid c.lock).roles (sound_in_mutex mid still c.lock
-              (found_crosses false (ap is_pending e)).0 kind_is))
+              (MxStep (mutex.Alone (mutex.ReenterTaken by mark))) (
+                mine_mid,
+                total_of_nobody (mutex_at mid c.lock).roles (sound_in_mutex mid still c.lock
+                    (found_crosses false (ap is_pending e)).0 kind_is),
+              )
               (ap Mx (own_after of_mutexes mid u t c seen.Made (CallLate (LatePhase.WasTaken by handed))
               QueuePosition.Listed a (word_at s c.lock) refl)) (found_crosses false (ap is_pending e)),
         ),

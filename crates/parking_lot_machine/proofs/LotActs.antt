@@ -439,16 +439,19 @@ module _ (s : State) (t : ℕ) (c d : Call) (h : LotFits s) (here : call_at s t 
 pub phase_as : (s : State) (key : ℕ) (o : Section) (ph : Phase) → open_at s key ≡ Some o
     → in_phase s.lot key ph ≡ lot_with_at s key s.lot.sleeps s.lot.queues s.lot.places (Some (record o { phase = ph }))
     s.lot.inside
-phase_as s key o ph was = ap (λ (x : Option Section). record s.lot
-{ sections = updated s.lot.sections (bucket s key) (option_map {T = Section} (λ z. record z { phase = ph }) x) }) was
+phase_as s key o ph was =
+    ap (λ (x : Option Section). record s.lot {
+      sections = updated s.lot.sections (bucket s key) (option_map {T = Section} (λ z. record z { phase = ph }) x);
+    }) was
 
 pub stored_as : (s : State) (key : ℕ) (o : Section) (token : UnparkToken) → open_at s key ≡ Some o
     → stored s.lot key token ≡ lot_with_at s key s.lot.sleeps s.lot.queues s.lot.places
     (Some (record o { phase = Phase.Stored; token = token })) s.lot.inside
-stored_as s key o token was = ap (λ (x : Option Section). record s.lot {
-  sections = updated s.lot.sections (bucket s key)
-      (option_map {T = Section} (λ z. record z { phase = Phase.Stored; token = token }) x);
-}) was
+stored_as s key o token was =
+    ap (λ (x : Option Section). record s.lot {
+      sections = updated s.lot.sections (bucket s key)
+          (option_map {T = Section} (λ z. record z { phase = Phase.Stored; token = token }) x);
+    }) was
 
 -- a store in a section that is known
 pub restored_as : (s : State) (key sleeps : ℕ) (queues : ℕ → List Waiter) (places : List (Option Place)) (o : Section)

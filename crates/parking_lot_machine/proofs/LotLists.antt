@@ -112,9 +112,16 @@ module _ (s : State) (t : ℕ) (c : Call) (h : LotFits s) (here : call_at s t �
       (λ e. absurd (waiting_taken (sym place ∙ (ap (place_at list_places) (sym e) ∙ is))))
       (λ e. h.outside v j x park by said y key sleep at asleep off (sym (others v e) ∙ is)))
       (seats_one s t h low (Some lists) (list_lot o')
-      (sits t lists (In k (Joined token)) (list_lot o') to
-      (o', now_at s t c lists h here (key_of c k) o o' seat.1 seat.2 seat.2 ((s.lot.sleeps + 1) % 2 ^ 64) list_queues
-      list_places, seat.2, seat.3, refl, (refl, (list_sleep, place, refl)), seat.6))
+      (sits t lists (In k (Joined token)) (list_lot o') to (
+        o',
+        now_at s t c lists h here (key_of c k) o o' seat.1 seat.2 seat.2 ((s.lot.sleeps + 1) % 2 ^ 64) list_queues
+            list_places,
+        seat.2,
+        seat.3,
+        refl,
+        (refl, (list_sleep, place, refl)),
+        seat.6,
+      ))
       (λ v e. seats_still s t c lists h here (key_of c k) o o' seat.1 seat.2 seat.2 ((s.lot.sleeps + 1) % 2 ^ 64)
       list_queues list_places v e (others v e)
       (λ j park x by said by_t at asleep off in_it. absurd
@@ -328,9 +335,15 @@ module _ (s : State) (t : ℕ) (c d : Call) (h : LotFits s) (here : call_at s t 
       (sym (stored_at t ∙ ap (option_map (settled t (told_of token))) (changed_here s t h low (Some d) s.lot)))
       (sits t (settled t (told_of token) d) (In k (Tells token)) (stores_lot o') to
       (subst (λ (j : ℕ). Stands t j (In k (Tells token)) (settled_spot t (told_of token) d.spot)
-      (place_at s.lot.places t) (s.lot.inside t) (core_lot.open_at (stores_lot o'))) (sym lock)
-      (o', now_at s t c d h here (key_of c k) o o' seat.1 seat.2 seat.2 s.lot.sleeps s.lot.queues s.lot.places,
-      seat.2, seat.3, (refl, refl), seat.5, seat.6)))))
+      (place_at s.lot.places t) (s.lot.inside t) (core_lot.open_at (stores_lot o'))) (sym lock) (
+        o',
+        now_at s t c d h here (key_of c k) o o' seat.1 seat.2 seat.2 s.lot.sleeps s.lot.queues s.lot.places,
+        seat.2,
+        seat.3,
+        (refl, refl),
+        seat.5,
+        seat.6,
+      )))))
       (λ e. subst (λ (x : Option Call). SeatedIn (stores_lot o') v x)
       (sym (stored_at v ∙ ap (option_map (settled t (told_of token))) (changed_there s t h low (Some d) s.lot v e)))
       (other v e o seat.1 seat.2 seat.4 (call_at s v)

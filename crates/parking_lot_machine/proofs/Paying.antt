@@ -494,9 +494,10 @@ module _ (s : State) (t : ℕ) (c : Call) (h : FitsTogether s) (here : call_at s
       → Pays t s (entered s t c key)
   enter key asked free =
       let leads = leads_by c.core (Act.Enter key) (word_at s c.lock) ActResult.Entered asked tt in
-      let two : key < 2 = elim leads.1
-      [ inl x ↦ small_key (core_next c.core ActResult.Entered) key _ x
-      | inr x ↦ small_key (core_next c.core ActResult.Entered) key _ x ] in
+      let two : key < 2 = elim leads.1 [
+        | inl x ↦ small_key (core_next c.core ActResult.Entered) key _ x
+        | inr x ↦ small_key (core_next c.core ActResult.Entered) key _ x
+      ] in
       let u = entered s t c key in
       let own : Section = fresh_section (Some t) (key_of c key) in
       let nobody : is_shut_to t (entered_in s (bucket s (key_of c key))) ≡ false =

@@ -157,12 +157,12 @@ module _ (s : State) (v lock : ℕ) (h : FitsTogether s) (low : v < length s.cal
       same_inside x First = elim (cases_eq x v) [
         | inl same ↦
             ap (λ rs. at_index (mutex.weight mutex.Inside) (slice_get rs x)) now_roles
-                ∙ (ap (λ n. at_index (mutex.weight mutex.Inside) (slice_get (slice_set (mutex_at s lock).roles v y) n))
-                same
-                ∙ (ap (at_index (mutex.weight mutex.Inside))
-                (get-set_same (mutex_at s lock).roles v mutex.away y away_there)
-                ∙ (outside ∙ sym (ap (λ n. at_index (mutex.weight mutex.Inside) (slice_get (mutex_at s lock).roles n))
-                same ∙ (ap (at_index (mutex.weight mutex.Inside)) away_there ∙ away_outside)))))
+            ∙ (ap (λ n. at_index (mutex.weight mutex.Inside) (slice_get (slice_set (mutex_at s lock).roles v y) n))
+            same
+            ∙ (ap (at_index (mutex.weight mutex.Inside))
+            (get-set_same (mutex_at s lock).roles v mutex.away y away_there)
+            ∙ (outside ∙ sym (ap (λ n. at_index (mutex.weight mutex.Inside) (slice_get (mutex_at s lock).roles n))
+            same ∙ (ap (at_index (mutex.weight mutex.Inside)) away_there ∙ away_outside)))))
         | inr ne ↦ ap (λ rs. at_index (mutex.weight mutex.Inside) (slice_get rs x)) now_roles
             ∙ ap (at_index (mutex.weight mutex.Inside))
             (get-set_other (mutex_at s lock).roles v x y (λ f. ne (sym f)))

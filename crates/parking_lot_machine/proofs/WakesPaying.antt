@@ -302,9 +302,10 @@ module _ (s : State) (h : FitsTogether s) where
   stops_at t c here Act.Sleep asked cannot = tt
   stops_at t c here (Act.Enter key) asked cannot =
       let leads = leads_by c.core (Act.Enter key) (word_at s c.lock) seen.Entered asked tt in
-      let two : key < 2 = elim leads.1
-      [ inl x ↦ small_key (core_next c.core seen.Entered) key _ x
-      | inr x ↦ small_key (core_next c.core seen.Entered) key _ x ] in
+      let two : key < 2 = elim leads.1 [
+        | inl x ↦ small_key (core_next c.core seen.Entered) key _ x
+        | inr x ↦ small_key (core_next c.core seen.Entered) key _ x
+      ] in
       shut_there t c.lock key two (is_shut t c key here asked (open_at s (key_of c key)) refl
       (some_is (is_some (open_at s (key_of c key))) cannot))
     where

@@ -140,8 +140,7 @@ impl<A: Allocator> RowMachine<A> {
         ensures { result ≡ goes_late (state self.now) call.now call.now.core }
     {
         call.core.is_back()
-            || (call.core.comes_late()
-                && !self.lot.is_entered(call.key(call.core.late_list())))
+            || (call.core.comes_late() && !self.lot.is_entered(call.key(call.core.late_list())))
     }
 
     /// Whether a thread's deadline may come: it sleeps in a timed call, in its list or taken and not woken yet, and it
