@@ -212,7 +212,7 @@ opened shut x e = cond-true (not shut) 4 x (not_from_false shut e)
 
 -- it finds as many as before
 found : (n first after : ℕ) (shut : Bool) → after ≡ first → cond shut n after ≡ cond shut n first
-found n first after shut.first e = ap (λ k. cond shut n k) e
+found n first after shut e = ap (λ k. cond shut n k) e
 
 -- what is seen costs no more than what isn't
 drains_most : (shut : Bool) → cond (not shut) 4 9 ≤ 9
@@ -519,7 +519,9 @@ module _ (n word first : ℕ) (shut : Shut) (e : shut.first ≡ true) where
 
 drain_enters : (b : Bool) (shut : Bool) (more : ℕ) → shut ≡ true → 9 + more ≤ cond b (cond (not shut) 4 9 + more)
     (9 + more)
-drain_enters true shut more e = omega (arith, ap (λ t. cond (not t) 4 9) e)
+drain_enters true shut more e =
+    let parks : cond (not shut) 4 9 ≡ 9 = ap (λ (t : Bool). cond (not t) 4 9) e in
+    omega (arith, parks)
 drain_enters false shut more e = omega arith
 
 finishes_on : (rest : AfterWake) (shut : Shut) → StopsAt (act_of (Finishes rest)) shut → ⊥
