@@ -1,0 +1,80 @@
+//! Each call that may be refused for want of memory: with ample memory first, and then with each of its growths refused
+//! in turn. What is printed is a table of the calls, how many growths of each were refused, and what stood behind it.
+#![tactic(auto)]
+
+mod arcs;
+mod desk;
+mod entries;
+mod forms;
+mod lots;
+mod made;
+mod map_worlds;
+mod maps;
+mod owners;
+mod records;
+mod rows;
+mod sets;
+mod tables;
+mod turns;
+mod worlds;
+
+use std::io;
+use std::process::ExitCode;
+use std::random::RandomSource;
+use std::rt::Clock;
+use std::sync::Wait;
+use std::thread::Threads;
+use turns::print_lines;
+
+/// Prints the calls of locks.
+fn print_locks<R: AllocGlobal + Print + Wait + Clock + Copy + Drop>(rt: R) -> io::Result<bool> {
+    let mut all = print_lines(rt, "Mutex::", arcs::OF_MUTEX)?;
+    all &= print_lines(rt, "ReentrantMutex::", arcs::OF_NESTED)?;
+    all &= print_lines(rt, "RwLock::", arcs::OF_LOCK)?;
+    all &= print_lines(rt, "Desk::", desk::LINES)?;
+    all &= print_lines(rt, "Lot::", lots::LINES)?;
+    all &= print_lines(rt, "", lots::SHARED)?;
+    all &= print_lines(rt, "World::", worlds::LINES)?;
+    Ok(all)
+}
+
+/// Prints the calls of tables, maps, recorded maps, views and sets.
+fn print_maps<
+    R: AllocGlobal + Print + Wait + Threads + Clock + RandomSource + Copy + Send + Sync + Drop,
+>(rt: R) -> io::Result<bool> {
+    let mut all = print_lines(rt, "Shard::", tables::ON_SHARD)?;
+    all &= print_lines(rt, "Shards::", tables::ON_SHARDS)?;
+    all &= print_lines(rt, "SharedValue::", tables::OF_VALUES)?;
+    all &= print_lines(rt, "DashMap::", made::LINES)?;
+    all &= print_lines(rt, "DashMap::", maps::LINES)?;
+    all &= print_lines(rt, "DashMap::", entries::LINES)?;
+    all &= print_lines(rt, "DashMap::", owners::LINES)?;
+    all &= print_lines(rt, "DashSet::", made::OF_SETS)?;
+    all &= print_lines(rt, "Recorded::", records::LINES)?;
+    all &= print_lines(rt, "", records::WHOLE)?;
+    all &= print_lines(rt, "DashMap::", owners::FORMS)?;
+    all &= print_lines(rt, "", forms::VIEWS)?;
+    all &= print_lines(rt, "DashSet::", sets::LINES)?;
+    Ok(all)
+}
+
+/// Prints the table, and answers whether all stood.
+fn print_all<
+    R: AllocGlobal + Print + Wait + Threads + Clock + RandomSource + Copy + Send + Sync + Drop,
+>(rt: R) -> io::Result<bool> {
+    println!(rt; "| Call | Growths refused | What stood |")?;
+    println!(rt; "|---|---|---|")?;
+    let mut all = print_locks(rt)?;
+    all &= print_maps(rt)?;
+    all &= print_lines(rt, "MapWorld::", map_worlds::WHOLE)?;
+    all &= print_lines(rt, "a world's ", map_worlds::LINES)?;
+    Ok(all)
+}
+
+/// Succeeds where all stood. A failed write is not told, since nobody may be listening.
+fn main(rt: HostRuntime) -> ExitCode {
+    match print_all(rt) {
+        Ok(true) => ExitCode::SUCCESS,
+        _ => ExitCode::FAILURE,
+    }
+}

@@ -1,0 +1,201 @@
+//! Calls on maps, sets and recorded maps, each over rows of a new table of locks.
+
+use crate::entries::insert_entry;
+use crate::forms::{Viewed, collect_all, with_view};
+use crate::made::{Make, make, make_set};
+use crate::maps::{OnMap, ask_map};
+use crate::owners::{Owned, ask_owner};
+use crate::records::{OnRecord, gather_twelve, make_record, with_record};
+use crate::sets::{OnSet, with_set};
+use crate::turns::{Case, Heap, Seen};
+use dashmap_calls::{Answer, Call, Keyed, Many, Numbers, make as answer};
+use dashmap_map::DashMap;
+use dashmap_table::{MapFault, SpreadState};
+use parking_lot_core::{ParkingLot, ThreadData};
+use parking_lot_rwlock::{LockTable, RawRwLock};
+use std::alloc::{Allocator, Global};
+use std::random::RandomSource;
+use std::rt::Clock;
+use std::sync::Wait;
+use std::thread::Threads;
+
+/// The table.
+pub type Table<'l, R> = LockTable<'l, R>;
+
+/// A thread.
+pub type Me = ThreadData;
+
+/// The lock of a shard.
+pub type Row<'t, 'l, R> = RawRwLock<'t, 'l, R, 0, Global>;
+
+/// A map of numbers in a heap.
+pub type Map<'t, 'l, 'h, R> = Numbers<SpreadState, Row<'t, 'l, R>, &'h Heap>;
+
+/// How many rows the table has.
+const ROWS: usize = 16;
+
+/// How many shards the maps have.
+pub const SHARDS: usize = 2;
+
+/// More keys than are used.
+const KEYS: u64 = 64;
+
+/// The keys of an extension.
+pub const FROM: u64 = 10;
+
+pub const TO: u64 = 30;
+
+/// A thread, and two others for parallel forms.
+#[derive(Drop)]
+pub struct Team {
+    pub me: ThreadData,
+    pub others: Vec<ThreadData>,
+}
+
+/// A call.
+#[derive(Clone, Copy)]
+pub enum OnRows {
+    Make(Make),
+    MakeSet(Make),
+    Map(OnMap),
+    Owned(Owned),
+    /// Of an entry whose key is a text.
+    InsertEntry,
+    /// `map_collect` of a map that goes.
+    Collect,
+    View(Viewed),
+    Set(OnSet),
+    Record(OnRecord),
+    MakeRecord,
+    Gather,
+}
+
+/// The pairs of an extension, each key with itself.
+pub fn pairs<A: Allocator>(alloc: A) -> Option<Vec<(u64, u64), A>> {
+    let mut pairs = Vec::new(alloc);
+    for key in FROM..TO {
+        pairs.push((key, key)).ok()?;
+    }
+    Some(pairs)
+}
+
+/// The keys of an extension.
+pub fn keys<A: Allocator>(alloc: A) -> Option<Vec<u64, A>> {
+    let mut keys = Vec::new(alloc);
+    for key in FROM..TO {
+        keys.push(key).ok()?;
+    }
+    Some(keys)
+}
+
+/// An empty map.
+pub fn map_of<'t, 'l, 'h, R: Wait>(
+    heap: &'h Heap,
+    table: &'t Table<'l, R>,
+) -> Result<Map<'t, 'l, 'h, R>, MapFault> {
+    DashMap::with_hasher_and_shard_amount(heap, SpreadState, SHARDS, table)
+}
+
+/// How many pairs there are, and a number that tells of all of them.
+pub fn pairs_of<R: Wait>(map: &Map<'_, '_, '_, R>, me: &mut Me) -> (u64, u64) {
+    let mut sum = 0u64;
+    for key in 0..KEYS {
+        sum = sum.wrapping_mul(31);
+        if let Answer::Number(value) = answer(map, Call::Key(Keyed::View(key)), me) {
+            sum = sum.wrapping_add(value).wrapping_add(1);
+        }
+    }
+    (map.len(me) as u64, sum)
+}
+
+/// Puts in so many of the keys 0, 1, .., each with itself.
+pub fn put<R: Wait>(map: &Map<'_, '_, '_, R>, keys: u64, me: &mut Me) {
+    let _all = answer(map, Call::Many(Many::Insert(0, keys, 0)), me);
+}
+
+/// Whether the keys from one number to below another are there, each with itself.
+pub fn has<R: Wait>(map: &Map<'_, '_, '_, R>, from: u64, to: u64, me: &mut Me) -> bool {
+    let view = Call::Many(Many::View(from, to, 0));
+    answer(map, view, me) == Answer::Number(to.saturating_sub(from))
+}
+
+/// Whether each word is 0, so nobody holds a shard or waits for one.
+pub fn are_free<R>(table: &Table<'_, R>) -> bool {
+    let mut free = true;
+    for row in 0..ROWS {
+        free &= table.word(row) == Some(0);
+    }
+    free
+}
+
+/// Whether so many rows are taken, none of which is held. One more is taken then.
+pub fn are_taken<R>(table: &Table<'_, R>, rows: usize) -> bool {
+    match table.claim() {
+        Ok(row) => are_free(table) && row.number() == rows,
+        Err(_) => false,
+    }
+}
+
+/// Makes a call on a map.
+fn with_map<R: Wait + Threads + Clock + Sync + Send>(
+    heap: &Heap,
+    table: &Table<'_, R>,
+    team: &mut Team,
+    call: OnRows,
+) -> Option<Seen> {
+    let mut map = map_of(heap, table).ok()?;
+    match call {
+        OnRows::Map(call) => ask_map(heap, table, &map, &mut team.me, call),
+        OnRows::Owned(call) => ask_owner(heap, table, &mut map, team, call),
+        _ => None,
+    }
+}
+
+/// Makes a call.
+fn ask<R: Wait + Threads + Clock + RandomSource + Sync + Send>(
+    heap: &Heap,
+    table: &Table<'_, R>,
+    team: &mut Team,
+    call: OnRows,
+) -> Option<Seen> {
+    match call {
+        OnRows::Make(call) => make(heap, table, call),
+        OnRows::MakeSet(call) => make_set(heap, table, call),
+        OnRows::InsertEntry => insert_entry(heap, table, &mut team.me),
+        OnRows::Collect => collect_all(heap, table, &mut team.me),
+        OnRows::View(call) => with_view(heap, table, &mut team.me, call),
+        OnRows::Set(call) => with_set(heap, table, team, call),
+        OnRows::MakeRecord => make_record(heap, table),
+        OnRows::Gather => gather_twelve(heap, table, &mut team.me),
+        OnRows::Record(call) => with_record(heap, table, &mut team.me, call),
+        OnRows::Map(_) | OnRows::Owned(_) => with_map(heap, table, team, call),
+    }
+}
+
+/// Admits a thread.
+fn admit<R: Wait>(lot: &ParkingLot<R>, tds: &mut Vec<ThreadData>) -> Option<()> {
+    tds.push(lot.thread_data().ok()?).ok()
+}
+
+/// Makes a call over a table, by a thread or two others.
+fn over<R: Wait + Threads + Clock + RandomSource + Sync + Send>(
+    heap: &Heap,
+    table: &Table<'_, R>,
+    call: OnRows,
+) -> Option<Seen> {
+    let lot = table.lot();
+    let me = lot.thread_data().ok()?;
+    let others = Vec::new(*heap.inner());
+    let mut team = Team { me, others };
+    admit(lot, &mut team.others)?;
+    admit(lot, &mut team.others)?;
+    ask(heap, table, &mut team, call)
+}
+
+impl<R: Wait + Threads + Clock + RandomSource + Sync + Send + Copy + Drop> Case<R> for OnRows {
+    fn run(self, rt: R, heap: &Heap) -> Option<Seen> {
+        let lot = ParkingLot::new(rt, *heap.inner(), 3, 7).ok()?;
+        let table = LockTable::new(*heap.inner(), &lot, ROWS).ok()?;
+        over(heap, &table, self)
+    }
+}

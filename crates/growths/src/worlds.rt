@@ -1,0 +1,141 @@
+//! Worlds of locks.
+
+use crate::turns::{Case, Heap, Line, Said, Seen};
+use parking_lot_core::SizeFault;
+use parking_lot_world::{LockAnswer, LockCall, LockKind, World, WorldStep};
+
+/// A world in a heap.
+type Small<'h> = World<&'h Heap>;
+
+/// The kinds of its locks.
+type Kinds = &'static [LockKind];
+
+/// A call on a world of locks of these kinds.
+#[derive(Clone, Copy)]
+pub enum Call {
+    New(Kinds),
+    Run,
+    Owners,
+    Queue,
+    Debts,
+}
+
+/// A world of three threads.
+fn made<'h>(heap: &'h Heap, kinds: Vec<LockKind, &'h Heap>) -> Result<Small<'h>, SizeFault> {
+    World::new(heap, 3, kinds)
+}
+
+/// Makes a world.
+fn make_world(heap: &Heap, kinds: Kinds) -> Option<Seen> {
+    let copy = Vec::from_slice(heap, kinds).ok()?;
+    let before = heap.asked();
+    let said = match made(heap, copy) {
+        Ok(world) => Said::of(
+            world.kind(0) == kinds.first().copied() && world.word(0) == 0,
+            false,
+        ),
+        Err(fault) => Said::of(false, fault == SizeFault::NoMemory),
+    };
+    said.seen(heap, before, true)
+}
+
+/// A thread asks for the mutex, and goes on until its call is answered, 50 steps at most. The last step is refused.
+fn lock(world: &mut Small<'_>, thread: usize) -> bool {
+    let is_begun = world
+        .run(&[WorldStep::Begin(thread, 0, LockCall::Lock)])
+        .is_ok();
+    for _ in 0..50 {
+        if world.run(&[WorldStep::Go(thread, false)]).is_err() {
+            return is_begun;
+        }
+    }
+    false
+}
+
+/// Thread 0 owns the mutex, lock 0, and thread 1 waits for it.
+fn play(world: &mut Small<'_>) -> bool {
+    let are_begun = lock(world, 0) && lock(world, 1);
+    are_begun && world.answer(0) == Some(LockAnswer::Owned) && world.answer(1).is_none()
+}
+
+/// What came of a list, which is to have so many items.
+fn of_list<T: Drop>(listed: Result<Vec<T, &Heap>, SizeFault>, length: usize) -> Said {
+    match listed {
+        Ok(items) => Said::of(items.len() == length, false),
+        Err(fault) => Said::of(false, fault == SizeFault::NoMemory),
+    }
+}
+
+/// What came of a view of who owns a mutex, who waits for it, or who owes a wake.
+fn listed(world: &Small<'_>, call: Call) -> Said {
+    match call {
+        Call::Owners => of_list(world.owners(0), 1),
+        Call::Queue => of_list(world.queue(0), 1),
+        Call::Debts => of_list(world.debts(), 0),
+        Call::New(_) | Call::Run => Said::Done,
+    }
+}
+
+/// Asks a view, or runs steps, in a world where one thread owns a mutex and another waits. A view may do with less
+/// memory than it asks for first.
+fn look(heap: &Heap, world: &mut Small<'_>, call: Call) -> Option<Seen> {
+    let made = heap.asked();
+    let is_played = play(world);
+    let played = heap.asked();
+    let before = if let Call::Run = call { made } else { played };
+    let said = listed(world, call);
+    let behind = heap.asked();
+    let is_owned = listed(world, Call::Owners) == Said::Done;
+    let is_kept = is_owned && listed(world, Call::Queue) == Said::Done;
+    Seen::of(before, behind, said.may_fit(heap) && is_played && is_kept)
+}
+
+impl<R: Drop> Case<R> for Call {
+    fn run(self, _rt: R, heap: &Heap) -> Option<Seen> {
+        if let Call::New(kinds) = self {
+            return make_world(heap, kinds);
+        }
+        let mut world = made(heap, Vec::from_slice(heap, EACH).ok()?).ok()?;
+        look(heap, &mut world, self)
+    }
+}
+
+/// A lock of each kind.
+const EACH: Kinds = &[
+    LockKind::Mutex,
+    LockKind::FairMutex,
+    LockKind::Rw,
+    LockKind::RwRecursive,
+    LockKind::Condvar,
+    LockKind::Once,
+];
+
+const MUTEXES: Call = Call::New(&[LockKind::Mutex, LockKind::Mutex]);
+
+const FAIR_MUTEXES: Call = Call::New(&[LockKind::FairMutex, LockKind::FairMutex]);
+
+const LOCKS: Call = Call::New(&[LockKind::Rw, LockKind::Rw]);
+
+const RECURSIVE: Call = Call::New(&[LockKind::RwRecursive, LockKind::RwRecursive]);
+
+const CONDVARS: Call = Call::New(&[LockKind::Condvar, LockKind::Condvar]);
+
+const ONCES: Call = Call::New(&[LockKind::Once, LockKind::Once]);
+
+const NO: &str = "nothing is made";
+
+const KEPT: &str = "who owns, and who waits";
+
+pub const LINES: &[Line<Call>] = &[
+    ("new, mutexes", MUTEXES, NO),
+    ("new, fair mutexes", FAIR_MUTEXES, NO),
+    ("new, reader-writer locks", LOCKS, NO),
+    ("new, recursive", RECURSIVE, NO),
+    ("new, condvars", CONDVARS, NO),
+    ("new, onces", ONCES, NO),
+    ("new, a lock of each kind", Call::New(EACH), NO),
+    ("run", Call::Run, "takes none"),
+    ("owners", Call::Owners, KEPT),
+    ("queue", Call::Queue, KEPT),
+    ("debts", Call::Debts, KEPT),
+];
