@@ -1,4 +1,5 @@
-//! Guards that own an Arc of their lock: each such call clones the Arc first, and takes no lock where that is refused.
+//! Guards that own an Arc of their lock: each such call clones the Arc first, and takes no lock where that is
+//! refused.
 
 use crate::turns::{Case, Heap, Line, Said, Seen};
 use lock_api::{ArcGuard, Mutex, ReentrantMutex, RwLock};
@@ -25,7 +26,7 @@ pub enum OfArc {
     Nests(Ask),
     Reads(Ask),
     Writes(Ask),
-    ReadsUpgradable(Ask),
+    Upgrades(Ask),
 }
 
 type Mutual<'h, R> = Arc<Mutex<PackedMutex<R>, u64>, &'h Heap>;
@@ -34,7 +35,6 @@ type Nested<'h, R> = Arc<ReentrantMutex<PackedMutex<R>, Parties, u64>, &'h Heap>
 
 type Shared<'h, R> = Arc<RwLock<PackedLock<R>, u64>, &'h Heap>;
 
-/// The least time that a call waits.
 fn short() -> Duration {
     Duration::from_millis(1)
 }
@@ -98,12 +98,7 @@ fn write<R: Wait + Clock + Drop>(rt: &R, lock: &Shared<'_, R>, ask: Ask, now: In
     }
 }
 
-fn read_upgradable<R: Wait + Clock + Drop>(
-    rt: &R,
-    lock: &Shared<'_, R>,
-    ask: Ask,
-    now: Instant,
-) -> Said {
+fn upgrade<R: Wait + Clock + Drop>(rt: &R, lock: &Shared<'_, R>, ask: Ask, now: Instant) -> Said {
     match ask {
         Ask::Waits => waited(RwLock::upgradable_read_arc(lock, &mut 1)),
         Ask::Tries => tried(RwLock::try_upgradable_read_arc(lock)),
@@ -112,41 +107,28 @@ fn read_upgradable<R: Wait + Clock + Drop>(
     }
 }
 
-/// Makes a call on a mutex, and looks whether it is free then.
-fn on_mutex<R: Wait + Clock + Copy + Drop>(
-    rt: R,
-    heap: &Heap,
-    ask: Ask,
-    now: Instant,
-) -> Option<Seen> {
+fn on_mutex<R: Wait + Clock + Copy + Drop>(rt: R, heap: &Heap, ask: Ask) -> Option<Seen> {
+    let now = Instant::now(&rt).ok()?;
     let mutex = Arc::new(heap, Mutex::new(rt, 5).ok()?).ok()?;
     let before = heap.asked();
     lock(&rt, &mutex, ask, now).seen(heap, before, !mutex.is_locked())
 }
 
-fn on_nested<R: Wait + Clock + Copy + Drop>(
-    rt: R,
-    heap: &Heap,
-    ask: Ask,
-    now: Instant,
-) -> Option<Seen> {
+fn on_nested<R: Wait + Clock + Copy + Drop>(rt: R, heap: &Heap, ask: Ask) -> Option<Seen> {
+    let now = Instant::now(&rt).ok()?;
     let mutex = Arc::new(heap, ReentrantMutex::new(rt, 2, 5).ok()?).ok()?;
     let before = heap.asked();
     nest(&rt, &mutex, ask, now).seen(heap, before, !mutex.is_locked())
 }
 
-fn on_lock<R: Wait + Clock + Copy + Drop>(
-    rt: R,
-    heap: &Heap,
-    call: OfArc,
-    now: Instant,
-) -> Option<Seen> {
+fn on_lock<R: Wait + Clock + Copy + Drop>(rt: R, heap: &Heap, call: OfArc) -> Option<Seen> {
+    let now = Instant::now(&rt).ok()?;
     let lock = Arc::new(heap, RwLock::new(rt, 4, 5).ok()?).ok()?;
     let before = heap.asked();
     let said = match call {
         OfArc::Reads(ask) => read(&rt, &lock, ask, now),
         OfArc::Writes(ask) => write(&rt, &lock, ask, now),
-        OfArc::ReadsUpgradable(ask) => read_upgradable(&rt, &lock, ask, now),
+        OfArc::Upgrades(ask) => upgrade(&rt, &lock, ask, now),
         OfArc::Locks(_) | OfArc::Nests(_) => Said::Other,
     };
     said.seen(heap, before, !lock.is_locked())
@@ -154,11 +136,10 @@ fn on_lock<R: Wait + Clock + Copy + Drop>(
 
 impl<R: Wait + Clock + Copy + Drop> Case<R> for OfArc {
     fn run(self, rt: R, heap: &Heap) -> Option<Seen> {
-        let now = Instant::now(&rt).ok()?;
         match self {
-            OfArc::Locks(ask) => on_mutex(rt, heap, ask, now),
-            OfArc::Nests(ask) => on_nested(rt, heap, ask, now),
-            _ => on_lock(rt, heap, self, now),
+            OfArc::Locks(ask) => on_mutex(rt, heap, ask),
+            OfArc::Nests(ask) => on_nested(rt, heap, ask),
+            _ => on_lock(rt, heap, self),
         }
     }
 }
@@ -179,13 +160,13 @@ pub const OF_NESTED: &[Line<OfArc>] = &[
     ("try_lock_arc_until", OfArc::Nests(Ask::Until), NONE),
 ];
 
-const WAITS: OfArc = OfArc::ReadsUpgradable(Ask::Waits);
+const WAITS: OfArc = OfArc::Upgrades(Ask::Waits);
 
-const TRIES: OfArc = OfArc::ReadsUpgradable(Ask::Tries);
+const TRIES: OfArc = OfArc::Upgrades(Ask::Tries);
 
-const FOR: OfArc = OfArc::ReadsUpgradable(Ask::For);
+const FOR: OfArc = OfArc::Upgrades(Ask::For);
 
-const UNTIL: OfArc = OfArc::ReadsUpgradable(Ask::Until);
+const UNTIL: OfArc = OfArc::Upgrades(Ask::Until);
 
 pub const OF_LOCK: &[Line<OfArc>] = &[
     ("read_arc", OfArc::Reads(Ask::Waits), NONE),

@@ -3,10 +3,8 @@
 use crate::turns::{Case, Heap, Line, Said, Seen};
 use lock_api_desk::{Desk, DeskCall, DeskFault, DeskRunFault, TokenTable};
 
-/// A desk in a heap.
 type Small<'h> = Desk<TokenTable, u64, &'h Heap>;
 
-/// How many calls a list has.
 const LISTED: u64 = 12;
 
 /// A call on a desk that nobody has asked yet, by its name. An acquisition is by party 1 as guard 1.

@@ -1,10 +1,10 @@
-//! Each call that may be refused for want of memory: with ample memory first, and then with each of its growths refused
-//! in turn. What is printed is a table of the calls, how many growths of each were refused, and what stood behind it.
+//! Each call that may be refused for want of memory: with ample memory first, and then with each of its growths
+//! refused in turn. What is printed is a table of the calls, how many growths of each were refused, and what stood
+//! behind it.
 #![tactic(auto)]
 
 mod arcs;
 mod desk;
-mod entries;
 mod forms;
 mod lots;
 mod made;
@@ -26,8 +26,9 @@ use std::sync::Wait;
 use std::thread::Threads;
 use turns::print_lines;
 
-/// Prints the calls of locks.
+/// Prints the calls of locks, lots and worlds, and answers whether all stood.
 fn print_locks<R: AllocGlobal + Print + Wait + Clock + Copy + Drop>(rt: R) -> io::Result<bool> {
+    println!(rt; "| Call | Growths refused | What stood |\n|---|---|---|")?;
     let mut all = print_lines(rt, "Mutex::", arcs::OF_MUTEX)?;
     all &= print_lines(rt, "ReentrantMutex::", arcs::OF_NESTED)?;
     all &= print_lines(rt, "RwLock::", arcs::OF_LOCK)?;
@@ -38,16 +39,17 @@ fn print_locks<R: AllocGlobal + Print + Wait + Clock + Copy + Drop>(rt: R) -> io
     Ok(all)
 }
 
-/// Prints the calls of tables, maps, recorded maps, views and sets.
-fn print_maps<
+/// Prints the table, and answers whether all stood.
+fn print_all<
     R: AllocGlobal + Print + Wait + Threads + Clock + RandomSource + Copy + Send + Sync + Drop,
 >(rt: R) -> io::Result<bool> {
-    let mut all = print_lines(rt, "Shard::", tables::ON_SHARD)?;
+    let mut all = print_locks(rt)?;
+    all &= print_lines(rt, "Shard::", tables::ON_SHARD)?;
     all &= print_lines(rt, "Shards::", tables::ON_SHARDS)?;
     all &= print_lines(rt, "SharedValue::", tables::OF_VALUES)?;
     all &= print_lines(rt, "DashMap::", made::LINES)?;
     all &= print_lines(rt, "DashMap::", maps::LINES)?;
-    all &= print_lines(rt, "DashMap::", entries::LINES)?;
+    all &= print_lines(rt, "DashMap::", owners::OF_TEXT)?;
     all &= print_lines(rt, "DashMap::", owners::LINES)?;
     all &= print_lines(rt, "DashSet::", made::OF_SETS)?;
     all &= print_lines(rt, "Recorded::", records::LINES)?;
@@ -55,17 +57,6 @@ fn print_maps<
     all &= print_lines(rt, "DashMap::", owners::FORMS)?;
     all &= print_lines(rt, "", forms::VIEWS)?;
     all &= print_lines(rt, "DashSet::", sets::LINES)?;
-    Ok(all)
-}
-
-/// Prints the table, and answers whether all stood.
-fn print_all<
-    R: AllocGlobal + Print + Wait + Threads + Clock + RandomSource + Copy + Send + Sync + Drop,
->(rt: R) -> io::Result<bool> {
-    println!(rt; "| Call | Growths refused | What stood |")?;
-    println!(rt; "|---|---|---|")?;
-    let mut all = print_locks(rt)?;
-    all &= print_maps(rt)?;
     all &= print_lines(rt, "MapWorld::", map_worlds::WHOLE)?;
     all &= print_lines(rt, "a world's ", map_worlds::LINES)?;
     Ok(all)

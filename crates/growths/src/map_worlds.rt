@@ -1,34 +1,30 @@
 //! Worlds of maps, whose threads go by a schedule.
 
 use crate::maps::wanted;
-use crate::turns::{Case, Heap, Line, Said, Seen, refused_growth};
+use crate::turns::{Case, Heap, Line, Said, Seen, listed, made, refused_growth};
 use dashmap_table::SpreadState;
 use mapworld::{MapWorld, NoMemory, Status, Step, WorldNewFault};
 use mapworld_text::{Asked, Case as Text, Change, Shown, read};
 use std::alloc::{AllocError, Global};
 
-/// A world of numbers in a heap.
 type World<'h> = MapWorld<u64, u64, SpreadState, Change, &'h Heap>;
 
-/// How many shards it has.
 const SHARDS: usize = 2;
 
-/// Pairs at first and programs; and what is told behind them: where all is done, and where the first growth is refused,
-/// the second, .., and behind the last of these alike. The programs are drained once thread 0 has made so many steps, and
-/// then thread 1 as many as it can.
+/// Keys at first, each with 0, and programs; and what is told behind them: where all is done, and where the first
+/// growth is refused, the second, .., and behind the last of these alike. The programs are drained once thread 0 has
+/// made so many steps, and then thread 1 as many as it can.
 #[derive(Clone, Copy)]
 pub struct Played(
-    &'static [(u64, u64)],
+    &'static [u64],
     &'static str,
     usize,
     &'static str,
     &'static [&'static str],
 );
 
-/// Programs in a heap.
 type Programs<'h> = Vec<Vec<Asked, &'h Heap>, &'h Heap>;
 
-/// A program in the heap.
 fn program_in<'h>(heap: &'h Heap, program: Vec<Asked>) -> Option<Vec<Asked, &'h Heap>> {
     let mut moved = Vec::new(heap);
     for ask in program {
@@ -37,7 +33,6 @@ fn program_in<'h>(heap: &'h Heap, program: Vec<Asked>) -> Option<Vec<Asked, &'h 
     Some(moved)
 }
 
-/// The programs of a text.
 fn programs_in<'h>(heap: &'h Heap, text: &str) -> Option<Programs<'h>> {
     let programs = read(*heap.inner(), text).ok()?.pop()?.programs;
     let mut moved = Vec::new(heap);
@@ -47,19 +42,28 @@ fn programs_in<'h>(heap: &'h Heap, text: &str) -> Option<Programs<'h>> {
     Some(moved)
 }
 
-/// A world of these pairs and of these programs.
-fn made<'h>(
-    heap: &'h Heap,
-    pairs: Vec<(u64, u64), &'h Heap>,
-    programs: Programs<'h>,
-) -> Result<World<'h>, WorldNewFault> {
-    MapWorld::new(heap, SHARDS, SpreadState, pairs, programs)
+/// Pairs in the heap: these keys, each with 0.
+fn pairs_in<'h>(heap: &'h Heap, keys: &[u64]) -> Option<Vec<(u64, u64), &'h Heap>> {
+    let mut pairs = Vec::new(heap);
+    for key in keys {
+        pairs.push((*key, 0)).ok()?;
+    }
+    Some(pairs)
 }
 
-/// A world of these pairs and of the programs of a text.
-fn world_of<'h>(heap: &'h Heap, pairs: &[(u64, u64)], text: &str) -> Option<World<'h>> {
+/// A world of these keys and of the programs of a text, and how many growths were asked for before.
+fn world_of<'h>(
+    heap: &'h Heap,
+    keys: &[u64],
+    text: &str,
+) -> Option<(u64, Result<World<'h>, WorldNewFault>)> {
     let programs = programs_in(heap, text)?;
-    made(heap, Vec::from_slice(heap, pairs).ok()?, programs).ok()
+    let pairs = pairs_in(heap, keys)?;
+    let before = heap.asked();
+    Some((
+        before,
+        MapWorld::new(heap, SHARDS, SpreadState, pairs, programs),
+    ))
 }
 
 /// Makes so many steps of a thread, or as many as it can.
@@ -94,13 +98,11 @@ fn tell(world: &World<'_>, text: &mut String) -> Result<(), AllocError> {
     write!(text, " of {}", world.pairs().count())
 }
 
-/// Whether this is told of a world.
 fn is_told(alloc: Global, world: &World<'_>, wanted: &str) -> bool {
     let mut text = String::new(alloc);
     tell(world, &mut text).is_ok() && text.as_str() == wanted
 }
 
-/// Whether nobody waits in a queue.
 fn is_empty(world: &World<'_>, key: usize) -> bool {
     match world.queue(key) {
         Ok(threads) => threads.is_empty(),
@@ -131,17 +133,14 @@ fn play(heap: &Heap, world: &mut World<'_>, played: Played) -> Option<Seen> {
     let _steps = world.drain();
     let behind = heap.asked();
     let wanted = wanted(done, refused, refused_growth(heap, before));
-    Seen::of(
-        before,
-        behind,
-        is_told(*heap.inner(), world, wanted) && is_at_rest(world),
-    )
+    let is_right = is_told(*heap.inner(), world, wanted) && is_at_rest(world);
+    Seen::of(before, behind, is_right)
 }
 
 impl<R: Drop> Case<R> for Played {
     fn run(self, _rt: R, heap: &Heap) -> Option<Seen> {
-        let mut world = world_of(heap, self.0, self.1)?;
-        play(heap, &mut world, self)
+        let (_, world) = world_of(heap, self.0, self.1)?;
+        play(heap, &mut world.ok()?, self)
     }
 }
 
@@ -155,31 +154,11 @@ pub enum Whole {
 
 const HELD: &str = "thread a\n  get-mut 1\n    drop\nthread b\n  insert 1 7\n";
 
-/// Makes a world.
-fn make_world(heap: &Heap) -> Option<Seen> {
-    let programs = programs_in(heap, HELD)?;
-    let pairs = Vec::from_slice(heap, &[(1, 5), (2, 6)]).ok()?;
-    let before = heap.asked();
-    let said = match made(heap, pairs, programs) {
-        Ok(world) => Said::of(world.pair(&2) == Some((&2, &6)), false),
-        Err(fault) => Said::of(false, fault == WorldNewFault::NoMemory),
-    };
-    said.seen(heap, before, true)
-}
-
-/// What came of a list, which is to have one item.
-fn of_list<T: Drop>(listed: Result<Vec<T, &Heap>, NoMemory>) -> Said {
-    match listed {
-        Ok(items) => Said::of(items.len() == 1, false),
-        Err(NoMemory) => Said::Refused,
-    }
-}
-
 /// What came of a view that is to list one pair or thread.
-fn listed(world: &World<'_>, call: Whole) -> Said {
+fn list(world: &World<'_>, call: Whole) -> Said {
     match call {
-        Whole::Contents => of_list(world.contents()),
-        _ => of_list(world.queue(2)),
+        Whole::Contents => listed(world.contents(), 1, NoMemory),
+        _ => listed(world.queue(2), 1, NoMemory),
     }
 }
 
@@ -188,20 +167,21 @@ fn look(heap: &Heap, world: &mut World<'_>, call: Whole) -> Option<Seen> {
     go(world, 0, 6);
     go(world, 1, 100);
     let before = heap.asked();
-    let said = listed(world, call);
+    let said = list(world, call);
     let behind = heap.asked();
-    let has_pair = listed(world, Whole::Contents) == Said::Done;
-    let is_kept = has_pair && listed(world, Whole::Queue) == Said::Done;
+    let has_pair = list(world, Whole::Contents) == Said::Done;
+    let is_kept = has_pair && list(world, Whole::Queue) == Said::Done;
     Seen::of(before, behind, said.may_fit(heap) && is_kept)
 }
 
 impl<R: Drop> Case<R> for Whole {
     fn run(self, _rt: R, heap: &Heap) -> Option<Seen> {
+        let keys: &[u64] = if let Whole::New = self { &[1, 2] } else { &[1] };
+        let (before, world) = world_of(heap, keys, HELD)?;
         if let Whole::New = self {
-            return make_world(heap);
+            return made(world, WorldNewFault::NoMemory).seen(heap, before, true);
         }
-        let mut world = world_of(heap, &[(1, 5)], HELD)?;
-        look(heap, &mut world, self)
+        look(heap, &mut world.ok()?, self)
     }
 }
 
@@ -213,7 +193,7 @@ const INSERT: &str = "thread a\n  insert 1 9\nthread b\n  get 1\n    drop\n";
 
 const INSERTED: &str = "0 none, 1 held, 1 done, blocks 0 1; 1=9 of 1";
 
-const SET: &str = "0 value 5, 1 held, 1 done, blocks 0 1; 1=9 of 1";
+const SET: &str = "0 value 0, 1 held, 1 done, blocks 0 1; 1=9 of 1";
 
 const NOT_INSERTED: &[&str] = &["0 no-memory, 1 none, 1 no-guard, blocks 1; of 0"];
 
@@ -226,8 +206,6 @@ const ENTERED: &str = "0 vacant, 0 held, 0 done, 1 held, 1 done, blocks 0 1; 1=9
 const NOT_ENTERED: &[&str] = &[
     "0 no-memory, 0 no-guard, 0 no-guard, 1 none, 1 no-guard, blocks 1; of 0",
 ];
-
-const ZEROS: &[(u64, u64)] = &[(1, 0), (2, 0)];
 
 const READ: &str = "0 reads 2=0 1=0, blocks 0 0; 1=0 2=0 of 2";
 
@@ -244,24 +222,7 @@ const NOT_WRITTEN: &[&str] = &[
 ];
 
 /// More keys of one shard than the least room is for, and one of the other.
-const MANY: &[(u64, u64)] = &[
-    (1, 0),
-    (2, 0),
-    (3, 0),
-    (5, 0),
-    (7, 0),
-    (9, 0),
-    (11, 0),
-    (13, 0),
-    (15, 0),
-    (17, 0),
-    (19, 0),
-    (21, 0),
-    (23, 0),
-    (25, 0),
-    (27, 0),
-    (29, 0),
-];
+const MANY: &[u64] = &[1, 2, 3, 5, 7, 9, 11, 13, 15, 17, 19, 21, 23, 25, 27, 29];
 
 const SHRINK: &str = "thread a\n  remove 29\n  shrink-to-fit\n";
 
@@ -275,15 +236,15 @@ const ITER_MUT: &str = "thread a\n  iter-mut add 1\n";
 
 const INSERTS: Played = Played(&[], INSERT, 5, INSERTED, NOT_INSERTED);
 
-const SETS: Played = Played(&[(1, 5)], INSERT, 5, SET, &[]);
+const SETS: Played = Played(&[1], INSERT, 5, SET, &[]);
 
 const ENTERS: Played = Played(&[], ENTRY, 5, ENTERED, NOT_ENTERED);
 
 const TRIES: Played = Played(&[], TRY, 4, ENTERED, NOT_ENTERED);
 
-const READS: Played = Played(ZEROS, ITER, 0, READ, NOT_READ);
+const READS: Played = Played(&[1, 2], ITER, 0, READ, NOT_READ);
 
-const WRITES: Played = Played(ZEROS, ITER_MUT, 0, WRITTEN, NOT_WRITTEN);
+const WRITES: Played = Played(&[1, 2], ITER_MUT, 0, WRITTEN, NOT_WRITTEN);
 
 const SHRINKS: Played = Played(MANY, SHRINK, 0, SHRUNK, NOT_SHRUNK);
 

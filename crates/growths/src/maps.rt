@@ -1,12 +1,12 @@
 //! Calls on maps as data.
 
-use crate::rows::{Map, Me, OnRows, Table, are_free, pairs_of};
+use crate::rows::{Map, Me, On, Table, are_free, map_of};
 use crate::turns::{Heap, Line, Seen, refused_growth};
 use dashmap_calls::{Answer, Call, Keyed, Many, Operator, Place, Try, Walk, make};
 use std::sync::Wait;
 
-/// A call on a map on which these were made before, and what it answers: where it is done; and where the first growth is
-/// refused, the second, .., and behind the last of these alike.
+/// A call on a map on which these were made before, and what it answers: where it is done; and where the first growth
+/// is refused, the second, .., and behind the last of these alike.
 #[derive(Clone, Copy)]
 pub struct OnMap(&'static [Call], Call, Answer, &'static [Answer]);
 
@@ -21,25 +21,41 @@ pub fn wanted<T: Copy>(done: T, refused: &[T], growth: u64) -> T {
     wanted
 }
 
-/// Makes the call on a map, and compares what stands: first that no shard is held, since who asks for one that is waits.
+/// More keys than are used.
+const KEYS: u64 = 64;
+
+/// How many pairs there are, and a number that tells of all of them.
+fn pairs_of<R: Wait>(map: &Map<'_, '_, '_, R>, me: &mut Me) -> (u64, u64) {
+    let mut sum = 0u64;
+    for key in 0..KEYS {
+        sum = sum.wrapping_mul(31);
+        if let Answer::Number(value) = make(map, Call::Key(Keyed::View(key)), me) {
+            sum = sum.wrapping_add(value).wrapping_add(1);
+        }
+    }
+    (map.len(me) as u64, sum)
+}
+
+/// Makes the call on a map, and compares what stands: first that no shard is held, since who asks for one that is,
+/// waits.
 pub fn ask_map<R: Wait>(
     heap: &Heap,
     table: &Table<'_, R>,
-    map: &Map<'_, '_, '_, R>,
     me: &mut Me,
     call: OnMap,
 ) -> Option<Seen> {
+    let map = map_of(heap, table).ok()?;
     let OnMap(others, call, done, refused) = call;
     for other in others {
-        let _answer = make(map, *other, me);
+        let _answer = make(&map, *other, me);
     }
-    let pairs = pairs_of(map, me);
+    let pairs = pairs_of(&map, me);
     let before = heap.asked();
-    let answer = make(map, call, me);
+    let answer = make(&map, call, me);
     let behind = heap.asked();
     let growth = refused_growth(heap, before);
     let is_so = are_free(table) && answer == wanted(done, refused, growth);
-    let is_kept = is_so && (growth == 0 || pairs_of(map, me) == pairs);
+    let is_kept = is_so && (growth == 0 || pairs_of(&map, me) == pairs);
     Seen::of(before, behind, is_kept)
 }
 
@@ -96,31 +112,27 @@ const EACH: &str = "each pair; no hold";
 
 const TAKES_NONE: &str = "takes none";
 
-const INTO_NEW: OnRows = OnRows::Map(OnMap(NEW, PUT, NONE, BACK));
+const INTO_NEW: On = On::Map(OnMap(NEW, PUT, NONE, BACK));
 
-const INTO_FULL: OnRows = OnRows::Map(OnMap(FULL, PUT_LAST, NONE, LAST_BACK));
+const INTO_FULL: On = On::Map(OnMap(FULL, PUT_LAST, NONE, LAST_BACK));
 
-const PRESENT: OnRows = OnRows::Map(OnMap(TWO, PUT, ONE, &[]));
+const PRESENT: On = On::Map(OnMap(TWO, PUT, ONE, &[]));
 
-const BY_SHL: OnRows = OnRows::Map(OnMap(NEW, SHL, NONE, BACK));
+const ENTERED: On = On::Map(OnMap(NEW, ENTRY, Answer::Number(9), KEY_BACK));
 
-const ENTERED: OnRows = OnRows::Map(OnMap(NEW, ENTRY, Answer::Number(9), KEY_BACK));
+const READ: On = On::Map(OnMap(TWO, ITER, MET, STOPS));
 
-const TRIED: OnRows = OnRows::Map(OnMap(NEW, TRY, ONE, KEY_BACK));
+const WRITTEN: On = On::Map(OnMap(TWO, ITER_MUT, Answer::Number(2), &[]));
 
-const READ: OnRows = OnRows::Map(OnMap(TWO, ITER, MET, STOPS));
+const SHRUNK: On = On::Map(OnMap(ROOM, Call::ShrinkToFit, YES, NO));
 
-const WRITTEN: OnRows = OnRows::Map(OnMap(TWO, ITER_MUT, Answer::Number(2), &[]));
-
-const SHRUNK: OnRows = OnRows::Map(OnMap(ROOM, Call::ShrinkToFit, YES, NO));
-
-pub const LINES: &[Line<OnRows>] = &[
+pub const LINES: &[Line<On>] = &[
     ("insert, into a new shard", INTO_NEW, PAIR),
     ("insert, into a full shard", INTO_FULL, PAIR),
     ("insert, of a key that is there", PRESENT, TAKES_NONE),
-    ("<<", BY_SHL, PAIR),
+    ("<<", On::Map(OnMap(NEW, SHL, NONE, BACK)), PAIR),
     ("entry", ENTERED, KEY),
-    ("try_entry", TRIED, KEY),
+    ("try_entry", On::Map(OnMap(NEW, TRY, ONE, KEY_BACK)), KEY),
     ("iter, two items", READ, ITEMS),
     ("iter_mut, two items", WRITTEN, TAKES_NONE),
     ("shrink_to_fit", SHRUNK, EACH),

@@ -1,15 +1,18 @@
-//! Calls of a map's owner, clones, calls that wait up to a moment, and parallel forms of a shared map.
+//! Calls of a map's owner, clones, calls that wait up to a moment, parallel forms of a shared map, and an entry whose
+//! key owns memory.
 
-use crate::forms::collected;
-use crate::rows::{FROM, Map, Me, OnRows, SHARDS, TO, Table, Team, are_taken, has, pairs, pairs_of, put};
-use crate::turns::{Heap, Line, Said, Seen, refused_growth};
+use crate::rows::{
+    FROM, Map, Me, On, Row, SHARDS, TO, Table, Team, are_free, are_taken, has, map_of, pairs, put,
+};
+use crate::turns::{Heap, Line, Said, Seen, listed, made, refused_growth};
 use dashmap_calls::{Answer, Call, Keyed, Many, make};
-use dashmap_map::UntilFault;
+use dashmap_map::{DashMap, UntilFault};
 use dashmap_parallel::{ParExtendFault, ParallelMap, par_extend_shared};
 use dashmap_plain::clones::CloneMap;
 use dashmap_plain::par_extend;
-use dashmap_table::MapFault;
+use dashmap_table::{MapFault, NoMemory, SpreadState};
 use std::rt::Clock;
+use std::string::String;
 use std::sync::Wait;
 use std::thread::Threads;
 use std::time::Instant;
@@ -32,6 +35,7 @@ pub enum Owned {
 }
 
 /// What a call answers, as far as it is looked for in the map.
+#[derive(Clone, Copy)]
 enum Came {
     /// Of an insertion of the key 5 with 7.
     Inserted(Result<Option<u64>, (u64, u64)>),
@@ -51,14 +55,13 @@ fn count<R: Wait>(map: &Map<'_, '_, '_, R>, me: &mut Me) -> u64 {
     }
 }
 
-/// What came of an insertion.
 fn inserted(value: Answer, said: Result<Option<u64>, (u64, u64)>) -> Said {
     let is_done = said == Ok(None) && value == Answer::Number(7);
     Said::of(is_done, said == Err((5, 7)) && value == Answer::Absent)
 }
 
-/// What came of an extension, so many pairs of which are there: the pairs before the one that came back have to be there,
-/// and no others of it.
+/// What came of an extension, so many pairs of which are there: the pairs before the one that came back have to be
+/// there, and no others of it.
 fn extended<R: Wait>(
     map: &Map<'_, '_, '_, R>,
     count: u64,
@@ -71,20 +74,18 @@ fn extended<R: Wait>(
     Said::of(is_right && said == Ok(()) && end == TO, is_right && is_back)
 }
 
-/// What came of a shared extension, of which any pairs may be there.
-fn shared(count: u64, said: Result<(), ParExtendFault>) -> Said {
-    let is_short = said == Err(ParExtendFault::NoMemory) && count < 20;
-    Said::of(said == Ok(()) && count == 20, is_short)
-}
-
-/// Compares what came of a call with what the map has: the keys that were there, and of an extension so many more.
+/// Compares what came of a call with what the map has: the keys that were there, and of an extension so many more. Of
+/// a shared one any may be there.
 fn compared<R: Wait>(map: &Map<'_, '_, '_, R>, came: Came, me: &mut Me) -> Said {
     let count = count(map, me);
     let is_whole = map.len(me) as u64 == count.saturating_add(2) && has(map, 0, 2, me);
     match came {
         Came::Inserted(said) => inserted(make(map, Call::Key(Keyed::View(5)), me), said),
         Came::Extended(said) if is_whole => extended(map, count, said, me),
-        Came::Shared(said) if is_whole => shared(count, said),
+        Came::Shared(said) if is_whole => {
+            let is_short = said == Err(ParExtendFault::NoMemory) && count < 20;
+            Said::of(said == Ok(()) && count == 20, is_short)
+        }
         Came::Other(said) if is_whole => said,
         _ => Said::Other,
     }
@@ -114,19 +115,6 @@ fn try_reserve<R: Wait>(heap: &Heap, map: &mut Map<'_, '_, '_, R>, me: &mut Me) 
     Said::of(is_done && now >= 2 * MORE, !is_done && is_kept)
 }
 
-/// What came of a clone: one that is made has the pairs.
-fn cloned<R: Wait>(
-    map: &Map<'_, '_, '_, R>,
-    table: &Table<'_, R>,
-    me: &mut Me,
-) -> Said {
-    match CloneMap::clone(map, table, me) {
-        Ok(copy) => Said::of(pairs_of(&copy, me) == pairs_of(map, me), false),
-        Err(fault) => Said::of(false, fault == MapFault::NoMemory),
-    }
-}
-
-/// Collects the keys of a shared map.
 fn collect<R: Wait + Threads + Sync + Send>(
     heap: &Heap,
     table: &Table<'_, R>,
@@ -136,17 +124,20 @@ fn collect<R: Wait + Threads + Sync + Send>(
     match map.par_iter(tds) {
         Ok(walk) => {
             let rt = table.lot().runtime();
-            collected(walk.map_collect(rt, heap, |key: &u64, _: &u64| *key))
+            listed(
+                walk.map_collect(rt, heap, |key: &u64, _: &u64| *key),
+                2,
+                NoMemory,
+            )
         }
         Err(_) => Said::Other,
     }
 }
 
-/// Makes a call that takes no pairs.
-fn make_call<R: Wait + Threads + Clock + Sync + Send>(
+fn make_call<'t, 'l, R: Wait + Threads + Clock + Sync + Send>(
     heap: &Heap,
-    table: &Table<'_, R>,
-    map: &mut Map<'_, '_, '_, R>,
+    table: &'t Table<'l, R>,
+    map: &mut Map<'t, 'l, '_, R>,
     team: &mut Team,
     call: Owned,
 ) -> Came {
@@ -157,7 +148,10 @@ fn make_call<R: Wait + Threads + Clock + Sync + Send>(
             Err(_) => Came::Other(Said::Other),
         },
         Owned::TryReserve => Came::Other(try_reserve(heap, map, &mut team.me)),
-        Owned::Clone => Came::Other(cloned(map, table, &mut team.me)),
+        Owned::Clone => {
+            let copy = CloneMap::clone(map, table, &mut team.me);
+            Came::Other(made(copy, MapFault::NoMemory))
+        }
         _ => Came::Other(collect(heap, table, map, &mut team.others)),
     }
 }
@@ -180,43 +174,70 @@ fn extend<'h, R: Wait + Threads + Sync + Send>(
     Some((before, came))
 }
 
-impl Owned {
-    /// How many of the keys 0, 1, .. are there before it, each with itself.
-    fn keys(self) -> u64 {
-        match self {
-            Owned::InsertMut | Owned::InsertUntil => 0,
-            _ => 2,
-        }
-    }
-
-    /// How many rows of a table were taken behind it.
-    fn rows(self) -> usize {
-        match self {
-            Owned::Clone => 2 * SHARDS,
-            _ => SHARDS,
-        }
-    }
-}
-
-/// Makes the call on an empty map, behind the insertions that it needs. What stands is looked at where no shard is held,
-/// since who asks for one that is waits.
-pub fn ask_owner<'h, R: Wait + Threads + Clock + Sync + Send>(
-    heap: &'h Heap,
+/// Makes the call on an empty map, behind the insertions that it needs. What stands is looked at where no shard is
+/// held, since who asks for one that is waits.
+pub fn ask_owner<R: Wait + Threads + Clock + Sync + Send>(
+    heap: &Heap,
     table: &Table<'_, R>,
-    map: &mut Map<'_, '_, 'h, R>,
     team: &mut Team,
     call: Owned,
 ) -> Option<Seen> {
-    put(map, call.keys(), &mut team.me);
+    let mut map = map_of(heap, table).ok()?;
+    let keys = if let Owned::InsertMut | Owned::InsertUntil = call {
+        0
+    } else {
+        2
+    };
+    put(&map, keys, &mut team.me);
     let (before, came) = match call {
         Owned::Extend | Owned::ParExtend | Owned::ParExtendShared => {
-            extend(heap, table, map, &mut team.others, call)?
+            extend(heap, table, &mut map, &mut team.others, call)?
         }
-        _ => (heap.asked(), make_call(heap, table, map, team, call)),
+        _ => (heap.asked(), make_call(heap, table, &mut map, team, call)),
     };
     let behind = heap.asked();
-    let stands = are_taken(table, call.rows()) && compared(map, came, &mut team.me).fits(heap);
+    let rows = if let Owned::Clone = call { 4 } else { 2 };
+    let stands = are_taken(table, rows) && compared(&map, came, &mut team.me).fits(heap);
     Seen::of(before, behind, stands)
+}
+
+type Text<'h> = String<&'h Heap>;
+
+type Texts<'t, 'l, 'h, R> = DashMap<Text<'h>, u64, SpreadState, Row<'t, 'l, R>, &'h Heap>;
+
+const KEY: &str = "seven";
+
+/// What came of an insertion of 7 at the place of a new key that stays there: it clones the key. A refused entry
+/// still has its key, and the value comes back.
+fn insert_text<'h, R: Wait>(map: &Texts<'_, '_, 'h, R>, key: Text<'h>, me: &mut Me) -> Said {
+    match map.entry(key, me) {
+        Ok(entry) => match entry.insert_entry(7) {
+            Ok(entry) => Said::of(*entry.get() == 7, false),
+            Err((entry, value)) => Said::of(false, value == 7 && entry.key().as_str() == KEY),
+        },
+        Err(_key) => Said::Other,
+    }
+}
+
+/// Makes the call on a map that has another key.
+fn ask_texts<'h, R: Wait>(
+    heap: &'h Heap,
+    table: &Table<'_, R>,
+    map: &Texts<'_, '_, 'h, R>,
+    me: &mut Me,
+) -> Option<Seen> {
+    map.insert(String::new(heap), 0, me).ok()?;
+    let mut key = String::new(heap);
+    key.push_str(KEY).ok()?;
+    let before = heap.asked();
+    let said = insert_text(map, key, me);
+    let length = if said == Said::Done { 2 } else { 1 };
+    said.seen(heap, before, are_free(table) && map.len(me) == length)
+}
+
+pub fn insert_entry<R: Wait>(heap: &Heap, table: &Table<'_, R>, me: &mut Me) -> Option<Seen> {
+    let map = DashMap::with_hasher_and_shard_amount(heap, SpreadState, SHARDS, table).ok()?;
+    ask_texts(heap, table, &map, me)
 }
 
 const PAIR: &str = "the pair comes back; each other pair; no hold";
@@ -231,25 +252,31 @@ const PUT: &str = "pairs that were put in; no hold";
 
 const EACH: &str = "each pair; no hold";
 
-const RESERVED: OnRows = OnRows::Owned(Owned::TryReserve);
+const RESERVED: On = On::Owned(Owned::TryReserve);
 
-const BY_ALL: OnRows = OnRows::Owned(Owned::ParExtend);
+const BY_ALL: On = On::Owned(Owned::ParExtend);
 
-const SHARED: OnRows = OnRows::Owned(Owned::ParExtendShared);
+const SHARED: On = On::Owned(Owned::ParExtendShared);
 
-const COLLECTED: OnRows = OnRows::Owned(Owned::MapCollect);
+const COLLECTED: On = On::Owned(Owned::MapCollect);
 
-pub const LINES: &[Line<OnRows>] = &[
-    ("insert_mut", OnRows::Owned(Owned::InsertMut), PAIR),
-    ("insert_until", OnRows::Owned(Owned::InsertUntil), PAIR),
+pub const LINES: &[Line<On>] = &[
+    ("insert_mut", On::Owned(Owned::InsertMut), PAIR),
+    ("insert_until", On::Owned(Owned::InsertUntil), PAIR),
     ("try_reserve, two shards", RESERVED, ROOM),
-    ("extend, 20 pairs", OnRows::Owned(Owned::Extend), MIDDLE),
+    ("extend, 20 pairs", On::Owned(Owned::Extend), MIDDLE),
     ("par_extend, 20 pairs", BY_ALL, MIDDLE),
-    ("clone", OnRows::Owned(Owned::Clone), ROWS),
+    ("clone", On::Owned(Owned::Clone), ROWS),
 ];
 
-pub const FORMS: &[Line<OnRows>] = &[
+pub const FORMS: &[Line<On>] = &[
     ("par_extend_shared, 20 pairs", SHARED, PUT),
     ("par_iter().map_collect", COLLECTED, EACH),
-    ("into_par_iter().map_collect", OnRows::Collect, "no list"),
+    ("into_par_iter().map_collect", On::Collect, "no list"),
 ];
+
+const STANDS: &str = "entry and value come back; each other pair; no hold";
+
+const CALL: &str = "entry(..).insert_entry, of a text";
+
+pub const OF_TEXT: &[Line<On>] = &[(CALL, On::InsertEntry, STANDS)];

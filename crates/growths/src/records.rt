@@ -1,7 +1,7 @@
 //! Recorded maps: their calls, and the gathering of what was written down.
 
-use crate::rows::{Me as Thread, OnRows, Row, SHARDS, Table, are_free, are_taken};
-use crate::turns::{Heap, Line, Said, Seen};
+use crate::rows::{Me as Thread, On, Row, SHARDS, Table, are_free, are_taken};
+use crate::turns::{Heap, Line, Said, Seen, listed, made};
 use dashmap_record::{
     Call, CallReply, Caller, Entered, GatherFault, RecordFault, Recorded, gather,
 };
@@ -9,19 +9,15 @@ use dashmap_table::MapFault;
 use std::hash::{BuildHasherDefault, FoldHasher};
 use std::sync::Wait;
 
-/// The hasher of the maps.
 type Fold = BuildHasherDefault<FoldHasher>;
 
-/// A recorded map in a heap.
 type Small<'t, 'l, 'h, R> = Recorded<u64, u64, Fold, Row<'t, 'l, R>, &'h Heap>;
 
-/// A caller of it.
 type Me<'h> = Caller<u64, u64, &'h Heap>;
 
 /// What was written down by one, or of one shard.
 type List<'h> = Vec<Entered<u64, u64>, &'h Heap>;
 
-/// What a call answers.
 type Reply = Result<CallReply<u64, u64>, RecordFault>;
 
 /// A call on a recorded map on which these were made before, and its reply.
@@ -70,18 +66,16 @@ fn entries<R: Wait>(map: &Small<'_, '_, '_, R>, td: &mut Thread) -> usize {
     count
 }
 
-/// Makes calls.
 fn make_all<'h, R: Wait>(
     map: &Small<'_, '_, 'h, R>,
     calls: &[Call<u64, u64>],
     me: &mut Me<'h>,
     td: &mut Thread,
-) -> bool {
-    let mut are_made = true;
+) -> Option<()> {
     for call in calls {
-        are_made &= make(map, *call, me, td).is_ok();
+        make(map, *call, me, td).ok()?;
     }
-    are_made
+    Some(())
 }
 
 /// Makes the call. A refused one is made again, and is answered then as if it hadn't been made before. What stands is
@@ -95,7 +89,7 @@ fn ask<'h, R: Wait>(
     call: OnRecord,
 ) -> Option<Seen> {
     let OnRecord(others, call, done) = call;
-    let _are_made = make_all(map, others, me, td);
+    make_all(map, others, me, td)?;
     let (last, count) = (me.last(), entries(map, td));
     let before = heap.asked();
     let said = make(map, call, me, td);
@@ -104,24 +98,8 @@ fn ask<'h, R: Wait>(
     let is_kept = is_short && me.last() == last && entries(map, td) == count;
     let is_made = is_kept && make(map, call, me, td) == Ok(done);
     let stood = are_free(table) && Said::of(said == Ok(done), is_made).fits(heap);
-    Seen::of(
-        before,
-        behind,
-        stood && entries(map, td) == count.wrapping_add(1),
-    )
-}
-
-/// What came of gathering what was written down: so many entries.
-fn gathered<'h>(
-    heap: &'h Heap,
-    histories: Vec<List<'h>, &'h Heap>,
-    logs: Vec<List<'h>, &'h Heap>,
-    count: usize,
-) -> Said {
-    match gather(heap, histories, logs, &Fold::new()) {
-        Ok(all) => Said::of(all.len() == count, false),
-        Err(fault) => Said::of(false, fault == GatherFault::NoMemory),
-    }
+    let is_right = stood && entries(map, td) == count.wrapping_add(1);
+    Seen::of(before, behind, is_right)
 }
 
 /// Gathers what was written down by the only caller. Answers how many growths were asked for before, too.
@@ -134,10 +112,10 @@ fn gather_all<'h>(
     let mut logs = Vec::new(heap);
     logs.push(log).ok()?;
     let before = heap.asked();
-    Some((before, gathered(heap, histories, logs, count)))
+    let list = gather(heap, histories, logs, &Fold::new());
+    Some((before, listed(list, count, GatherFault::NoMemory)))
 }
 
-/// A recorded map and its only caller.
 fn recorded<'t, 'l, 'h, R: Wait>(
     heap: &'h Heap,
     table: &'t Table<'l, R>,
@@ -161,53 +139,32 @@ pub fn with_record<R: Wait>(
 }
 
 /// Makes twelve calls, and gathers what was written down of them.
-pub fn gather_twelve<R: Wait>(
-    heap: &Heap,
-    table: &Table<'_, R>,
-    td: &mut Thread,
-) -> Option<Seen> {
+pub fn gather_twelve<R: Wait>(heap: &Heap, table: &Table<'_, R>, td: &mut Thread) -> Option<Seen> {
     let (map, mut me) = recorded(heap, table)?;
-    let are_made = make_all(&map, TWELVE, &mut me, td);
+    for key in 0..6 {
+        make_all(
+            &map,
+            &[Call::Insert(key, key), Call::GetCopied(key)],
+            &mut me,
+            td,
+        )?;
+    }
     let (before, said) = gather_all(heap, map.histories(), me.log(), 12)?;
-    said.seen(heap, before, are_made)
+    said.seen(heap, before, true)
 }
 
-/// What came of a recorded map with two callers.
-fn made<R: Wait>(heap: &Heap, table: &Table<'_, R>) -> Said {
-    let made: Result<(Small<'_, '_, '_, R>, Vec<Me<'_>, &Heap>), MapFault> = Recorded::new(
+/// Makes a recorded map. The rows that it took stay used, of a refused one too.
+pub fn make_record<R: Wait>(heap: &Heap, table: &Table<'_, R>) -> Option<Seen> {
+    let before = heap.asked();
+    let map: Result<(Small<'_, '_, '_, R>, Vec<Me<'_>, &Heap>), MapFault> = Recorded::new(
         heap,
         SHARDS,
         Fold::new(),
         2,
         table,
     );
-    match made {
-        Ok((_map, callers)) => Said::of(callers.len() == 2, false),
-        Err(fault) => Said::of(false, fault == MapFault::NoMemory),
-    }
+    made(map, MapFault::NoMemory).seen(heap, before, are_taken(table, SHARDS))
 }
-
-/// Makes a recorded map. The rows that it took stay used, of a refused one too.
-pub fn make_record<R: Wait>(heap: &Heap, table: &Table<'_, R>) -> Option<Seen> {
-    let before = heap.asked();
-    let said = made(heap, table);
-    said.seen(heap, before, are_taken(table, SHARDS))
-}
-
-const TWELVE: &[Call<u64, u64>] = &[
-    Call::Insert(0, 0),
-    Call::GetCopied(0),
-    Call::Insert(1, 1),
-    Call::GetCopied(1),
-    Call::Insert(2, 2),
-    Call::GetCopied(2),
-    Call::Insert(3, 3),
-    Call::GetCopied(3),
-    Call::Insert(4, 4),
-    Call::GetCopied(4),
-    Call::Insert(5, 5),
-    Call::GetCopied(5),
-];
 
 const FOUR: &[Call<u64, u64>] = &[
     Call::Insert(1, 2),
@@ -222,21 +179,21 @@ const REPLACE: Call<u64, u64> = Call::ReplaceIf(1, 5, 6);
 
 const FIVE: CallReply<u64, u64> = CallReply::Value(5);
 
-const INTO_NEW: OnRows = OnRows::Record(OnRecord(&[], PUT, CallReply::None));
+const INTO_NEW: On = On::Record(OnRecord(&[], PUT, CallReply::None));
 
-const PRESENT: OnRows = OnRows::Record(OnRecord(FOUR, PUT, FIVE));
+const PRESENT: On = On::Record(OnRecord(FOUR, PUT, FIVE));
 
-const REMOVED: OnRows = OnRows::Record(OnRecord(FOUR, Call::Remove(1), CallReply::Pair(1, 5)));
+const REMOVED: On = On::Record(OnRecord(FOUR, Call::Remove(1), CallReply::Pair(1, 5)));
 
-const GOT: OnRows = OnRows::Record(OnRecord(FOUR, Call::GetCopied(1), FIVE));
+const GOT: On = On::Record(OnRecord(FOUR, Call::GetCopied(1), FIVE));
 
-const REPLACED: OnRows = OnRows::Record(OnRecord(FOUR, REPLACE, CallReply::Flag(true)));
+const REPLACED: On = On::Record(OnRecord(FOUR, REPLACE, CallReply::Flag(true)));
 
 const KEPT: &str = "log, history, stamps, pairs; no hold";
 
 const ROWS: &str = "no map; its rows of the table stay used";
 
-pub const LINES: &[Line<OnRows>] = &[
+pub const LINES: &[Line<On>] = &[
     ("insert, of a new key", INTO_NEW, KEPT),
     ("insert, of a key that is there", PRESENT, KEPT),
     ("remove", REMOVED, KEPT),
@@ -244,7 +201,7 @@ pub const LINES: &[Line<OnRows>] = &[
     ("replace_if", REPLACED, KEPT),
 ];
 
-pub const WHOLE: &[Line<OnRows>] = &[
-    ("Recorded::new", OnRows::MakeRecord, ROWS),
-    ("gather, of twelve calls", OnRows::Gather, "no history"),
+pub const WHOLE: &[Line<On>] = &[
+    ("Recorded::new", On::MakeRecord, ROWS),
+    ("gather, of twelve calls", On::Gather, "no history"),
 ];

@@ -1,14 +1,13 @@
 //! Calls on maps, sets and recorded maps, each over rows of a new table of locks.
 
-use crate::entries::insert_entry;
 use crate::forms::{Viewed, collect_all, with_view};
 use crate::made::{Make, make, make_set};
 use crate::maps::{OnMap, ask_map};
-use crate::owners::{Owned, ask_owner};
+use crate::owners::{Owned, ask_owner, insert_entry};
 use crate::records::{OnRecord, gather_twelve, make_record, with_record};
 use crate::sets::{OnSet, with_set};
 use crate::turns::{Case, Heap, Seen};
-use dashmap_calls::{Answer, Call, Keyed, Many, Numbers, make as answer};
+use dashmap_calls::{Answer, Call, Many, Numbers, make as answer};
 use dashmap_map::DashMap;
 use dashmap_table::{MapFault, SpreadState};
 use parking_lot_core::{ParkingLot, ThreadData};
@@ -19,28 +18,19 @@ use std::rt::Clock;
 use std::sync::Wait;
 use std::thread::Threads;
 
-/// The table.
 pub type Table<'l, R> = LockTable<'l, R>;
 
-/// A thread.
 pub type Me = ThreadData;
 
 /// The lock of a shard.
 pub type Row<'t, 'l, R> = RawRwLock<'t, 'l, R, 0, Global>;
 
-/// A map of numbers in a heap.
 pub type Map<'t, 'l, 'h, R> = Numbers<SpreadState, Row<'t, 'l, R>, &'h Heap>;
 
-/// How many rows the table has.
 const ROWS: usize = 16;
 
-/// How many shards the maps have.
 pub const SHARDS: usize = 2;
 
-/// More keys than are used.
-const KEYS: u64 = 64;
-
-/// The keys of an extension.
 pub const FROM: u64 = 10;
 
 pub const TO: u64 = 30;
@@ -52,9 +42,8 @@ pub struct Team {
     pub others: Vec<ThreadData>,
 }
 
-/// A call.
 #[derive(Clone, Copy)]
-pub enum OnRows {
+pub enum On {
     Make(Make),
     MakeSet(Make),
     Map(OnMap),
@@ -79,7 +68,6 @@ pub fn pairs<A: Allocator>(alloc: A) -> Option<Vec<(u64, u64), A>> {
     Some(pairs)
 }
 
-/// The keys of an extension.
 pub fn keys<A: Allocator>(alloc: A) -> Option<Vec<u64, A>> {
     let mut keys = Vec::new(alloc);
     for key in FROM..TO {
@@ -88,24 +76,11 @@ pub fn keys<A: Allocator>(alloc: A) -> Option<Vec<u64, A>> {
     Some(keys)
 }
 
-/// An empty map.
 pub fn map_of<'t, 'l, 'h, R: Wait>(
     heap: &'h Heap,
     table: &'t Table<'l, R>,
 ) -> Result<Map<'t, 'l, 'h, R>, MapFault> {
     DashMap::with_hasher_and_shard_amount(heap, SpreadState, SHARDS, table)
-}
-
-/// How many pairs there are, and a number that tells of all of them.
-pub fn pairs_of<R: Wait>(map: &Map<'_, '_, '_, R>, me: &mut Me) -> (u64, u64) {
-    let mut sum = 0u64;
-    for key in 0..KEYS {
-        sum = sum.wrapping_mul(31);
-        if let Answer::Number(value) = answer(map, Call::Key(Keyed::View(key)), me) {
-            sum = sum.wrapping_add(value).wrapping_add(1);
-        }
-    }
-    (map.len(me) as u64, sum)
 }
 
 /// Puts in so many of the keys 0, 1, .., each with itself.
@@ -136,43 +111,27 @@ pub fn are_taken<R>(table: &Table<'_, R>, rows: usize) -> bool {
     }
 }
 
-/// Makes a call on a map.
-fn with_map<R: Wait + Threads + Clock + Sync + Send>(
-    heap: &Heap,
-    table: &Table<'_, R>,
-    team: &mut Team,
-    call: OnRows,
-) -> Option<Seen> {
-    let mut map = map_of(heap, table).ok()?;
-    match call {
-        OnRows::Map(call) => ask_map(heap, table, &map, &mut team.me, call),
-        OnRows::Owned(call) => ask_owner(heap, table, &mut map, team, call),
-        _ => None,
-    }
-}
-
-/// Makes a call.
 fn ask<R: Wait + Threads + Clock + RandomSource + Sync + Send>(
     heap: &Heap,
     table: &Table<'_, R>,
     team: &mut Team,
-    call: OnRows,
+    call: On,
 ) -> Option<Seen> {
     match call {
-        OnRows::Make(call) => make(heap, table, call),
-        OnRows::MakeSet(call) => make_set(heap, table, call),
-        OnRows::InsertEntry => insert_entry(heap, table, &mut team.me),
-        OnRows::Collect => collect_all(heap, table, &mut team.me),
-        OnRows::View(call) => with_view(heap, table, &mut team.me, call),
-        OnRows::Set(call) => with_set(heap, table, team, call),
-        OnRows::MakeRecord => make_record(heap, table),
-        OnRows::Gather => gather_twelve(heap, table, &mut team.me),
-        OnRows::Record(call) => with_record(heap, table, &mut team.me, call),
-        OnRows::Map(_) | OnRows::Owned(_) => with_map(heap, table, team, call),
+        On::Make(call) => make(heap, table, call),
+        On::MakeSet(call) => make_set(heap, table, call),
+        On::InsertEntry => insert_entry(heap, table, &mut team.me),
+        On::Collect => collect_all(heap, table, &mut team.me),
+        On::View(call) => with_view(heap, table, &mut team.me, call),
+        On::Set(call) => with_set(heap, table, team, call),
+        On::MakeRecord => make_record(heap, table),
+        On::Gather => gather_twelve(heap, table, &mut team.me),
+        On::Record(call) => with_record(heap, table, &mut team.me, call),
+        On::Map(call) => ask_map(heap, table, &mut team.me, call),
+        On::Owned(call) => ask_owner(heap, table, team, call),
     }
 }
 
-/// Admits a thread.
 fn admit<R: Wait>(lot: &ParkingLot<R>, tds: &mut Vec<ThreadData>) -> Option<()> {
     tds.push(lot.thread_data().ok()?).ok()
 }
@@ -181,7 +140,7 @@ fn admit<R: Wait>(lot: &ParkingLot<R>, tds: &mut Vec<ThreadData>) -> Option<()> 
 fn over<R: Wait + Threads + Clock + RandomSource + Sync + Send>(
     heap: &Heap,
     table: &Table<'_, R>,
-    call: OnRows,
+    call: On,
 ) -> Option<Seen> {
     let lot = table.lot();
     let me = lot.thread_data().ok()?;
@@ -192,7 +151,7 @@ fn over<R: Wait + Threads + Clock + RandomSource + Sync + Send>(
     ask(heap, table, &mut team, call)
 }
 
-impl<R: Wait + Threads + Clock + RandomSource + Sync + Send + Copy + Drop> Case<R> for OnRows {
+impl<R: Wait + Threads + Clock + RandomSource + Sync + Send + Copy + Drop> Case<R> for On {
     fn run(self, rt: R, heap: &Heap) -> Option<Seen> {
         let lot = ParkingLot::new(rt, *heap.inner(), 3, 7).ok()?;
         let table = LockTable::new(*heap.inner(), &lot, ROWS).ok()?;

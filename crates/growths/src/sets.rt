@@ -1,15 +1,13 @@
 //! Sets: their calls, their owner's calls and their parallel forms.
 
-use crate::forms::collected;
-use crate::rows::{FROM, Me, OnRows, Row, TO, Table, Team, are_free, keys};
-use crate::turns::{Heap, Line, Said, Seen};
+use crate::rows::{FROM, Me, On, Row, TO, Table, Team, are_free, keys};
+use crate::turns::{Heap, Line, Said, Seen, listed, made};
 use dashmap::set::DashSet;
 use dashmap_parallel::ParExtendFault;
 use dashmap_table::{MapFault, NoMemory, SpreadState};
 use std::sync::Wait;
 use std::thread::Threads;
 
-/// A set of numbers in a heap.
 type Set<'t, 'l, 'h, R> = DashSet<u64, SpreadState, Row<'t, 'l, R>, &'h Heap>;
 
 /// A call on a set of four shards that is empty, or has the keys 0 and 1.
@@ -33,6 +31,7 @@ pub enum OnSet {
 }
 
 /// What a call answers, as far as it is looked for in the set.
+#[derive(Clone, Copy)]
 enum Came {
     /// Of an insertion of the key 5.
     Inserted(Result<bool, u64>),
@@ -41,25 +40,6 @@ enum Came {
     Other(Said),
 }
 
-impl OnSet {
-    /// How many of the keys 0, 1, .. are there before it.
-    fn keys(self) -> u64 {
-        match self {
-            OnSet::Insert | OnSet::InsertMut => 0,
-            _ => 2,
-        }
-    }
-
-    /// How many were there at some time.
-    fn most(self) -> u64 {
-        match self {
-            OnSet::ShrinkToFit => 40,
-            _ => self.keys(),
-        }
-    }
-}
-
-/// How many of the keys from one number to below another are there.
 fn count<R: Wait>(set: &Set<'_, '_, '_, R>, from: u64, to: u64, me: &mut Me) -> u64 {
     let mut count = 0u64;
     for key in from..to {
@@ -93,7 +73,11 @@ fn compared<R: Wait>(set: &Set<'_, '_, '_, R>, came: Came, me: &mut Me) -> Said 
 /// What came of a walk over two keys. It asks for room at each shard, also at those that have no key.
 fn walked<R: Wait>(set: &Set<'_, '_, '_, R>, me: &mut Me) -> Said {
     let (mut met, mut refused) = (0u64, 0u64);
-    for item in set.iter(me) {
+    let walk = {
+        let me = &mut *me;
+        set.iter(me)
+    };
+    for item in walk {
         match item {
             Ok(_key) => met = met.wrapping_add(1),
             Err(NoMemory) => refused = refused.wrapping_add(1),
@@ -102,19 +86,6 @@ fn walked<R: Wait>(set: &Set<'_, '_, '_, R>, me: &mut Me) -> Said {
     Said::of(met == 2 && refused == 0, met <= 2 && refused == 1)
 }
 
-/// What came of a clone: one that is made has the keys.
-fn cloned<R: Wait>(
-    set: &Set<'_, '_, '_, R>,
-    table: &Table<'_, R>,
-    me: &mut Me,
-) -> Said {
-    match set.clone(table, me) {
-        Ok(copy) => Said::of(copy.len(me) == 2 && count(&copy, 0, 2, me) == 2, false),
-        Err(fault) => Said::of(false, fault == MapFault::NoMemory),
-    }
-}
-
-/// Collects the keys of a shared set.
 fn collect<R: Wait + Threads + Sync + Send>(
     heap: &Heap,
     table: &Table<'_, R>,
@@ -124,17 +95,16 @@ fn collect<R: Wait + Threads + Sync + Send>(
     match set.par_iter(tds) {
         Ok(walk) => {
             let rt = table.lot().runtime();
-            collected(walk.map_collect(rt, heap, |key: &u64| *key))
+            listed(walk.map_collect(rt, heap, |key: &u64| *key), 2, NoMemory)
         }
         Err(_) => Said::Other,
     }
 }
 
-/// Makes a call that takes no keys.
-fn make_call<R: Wait + Threads + Sync + Send>(
+fn make_call<'t, 'l, R: Wait + Threads + Sync + Send>(
     heap: &Heap,
-    table: &Table<'_, R>,
-    set: &mut Set<'_, '_, '_, R>,
+    table: &'t Table<'l, R>,
+    set: &mut Set<'t, 'l, '_, R>,
     team: &mut Team,
     call: OnSet,
 ) -> Came {
@@ -142,12 +112,12 @@ fn make_call<R: Wait + Threads + Sync + Send>(
         OnSet::Insert => Came::Inserted(set.insert(5, &mut team.me)),
         OnSet::InsertMut => Came::Inserted(set.insert_mut(5)),
         OnSet::Iter => Came::Other(walked(set, &mut team.me)),
-        OnSet::Clone => Came::Other(cloned(set, table, &mut team.me)),
-        OnSet::MapCollect => Came::Other(collect(heap, table, set, &mut team.others)),
-        _ => {
-            let is_done = set.shrink_to_fit(&mut team.me).is_ok();
-            Came::Other(Said::of(is_done, !is_done))
+        OnSet::Clone => {
+            let copy = set.clone(table, &mut team.me);
+            Came::Other(made(copy, MapFault::NoMemory))
         }
+        OnSet::MapCollect => Came::Other(collect(heap, table, set, &mut team.others)),
+        _ => Came::Other(made(set.shrink_to_fit(&mut team.me), NoMemory)),
     }
 }
 
@@ -169,24 +139,30 @@ fn extend<'h, R: Wait + Threads + Sync + Send>(
     Some((before, came))
 }
 
-/// Puts the keys in, and those that are taken out again.
-fn prepare<R: Wait>(set: &Set<'_, '_, '_, R>, me: &mut Me, call: OnSet) -> Option<()> {
-    for key in 0..call.most() {
+/// Puts keys in, and takes some of them out again. Answers how many of the keys 0, 1, .. stay.
+fn prepare<R: Wait>(set: &Set<'_, '_, '_, R>, me: &mut Me, call: OnSet) -> Option<u64> {
+    let (keys, most) = match call {
+        OnSet::Insert | OnSet::InsertMut => (0, 0),
+        OnSet::ShrinkToFit => (2, 40),
+        _ => (2, 2),
+    };
+    for key in 0..most {
         set.insert(key, me).ok()?;
     }
-    for key in call.keys()..call.most() {
+    for key in keys..most {
         let _key = set.remove(&key, me);
     }
-    Some(())
+    Some(keys)
 }
 
 /// Makes a call on a set that stays. What stands is looked at where no shard is held, since who asks for one that is
 /// waits.
-fn ask<'h, R: Wait + Threads + Sync + Send>(
+fn ask<'t, 'l, 'h, R: Wait + Threads + Sync + Send>(
     heap: &'h Heap,
-    table: &Table<'_, R>,
-    set: &mut Set<'_, '_, 'h, R>,
+    table: &'t Table<'l, R>,
+    set: &mut Set<'t, 'l, 'h, R>,
     team: &mut Team,
+    keys: u64,
     call: OnSet,
 ) -> Option<Seen> {
     let (before, came) = match call {
@@ -197,11 +173,12 @@ fn ask<'h, R: Wait + Threads + Sync + Send>(
     };
     let behind = heap.asked();
     let fits = are_free(table) && compared(set, came, &mut team.me).fits(heap);
-    let are_there = fits && count(set, 0, call.keys(), &mut team.me) == call.keys();
-    Seen::of(before, behind, are_there)
+    let is_right = fits && count(set, 0, keys, &mut team.me) == keys;
+    Seen::of(before, behind, is_right)
 }
 
-/// Makes a call on a set, or collects the keys of one that goes, which may do with less memory than it asks for first.
+/// Makes a call on a set, or collects the keys of one that goes, which may do with less memory than it asks for
+/// first.
 pub fn with_set<R: Wait + Threads + Sync + Send>(
     heap: &Heap,
     table: &Table<'_, R>,
@@ -209,14 +186,15 @@ pub fn with_set<R: Wait + Threads + Sync + Send>(
     call: OnSet,
 ) -> Option<Seen> {
     let mut set: Set<'_, '_, '_, R> = DashSet::with_hasher(heap, SpreadState, 1, table).ok()?;
-    prepare(&set, &mut team.me, call)?;
+    let keys = prepare(&set, &mut team.me, call)?;
     if let OnSet::OwnedMapCollect = call {
         let rt = table.lot().runtime();
         let before = heap.asked();
-        let said = collected(set.into_par_iter().map_collect(rt, heap, |key: u64| key));
+        let list = set.into_par_iter().map_collect(rt, heap, |key: u64| key);
+        let said = listed(list, 2, NoMemory);
         return Seen::of(before, heap.asked(), said.may_fit(heap) && are_free(table));
     }
-    ask(heap, table, &mut set, team, call)
+    ask(heap, table, &mut set, team, keys, call)
 }
 
 const KEY: &str = "the key comes back; no key; no hold";
@@ -229,21 +207,21 @@ const PUT: &str = "keys that were put in; no hold";
 
 const ITEMS: &str = "the items before it; the walk is over; no hold";
 
-const SHARED: OnRows = OnRows::Set(OnSet::ParExtendShared);
+const SHARED: On = On::Set(OnSet::ParExtendShared);
 
-const COLLECT: OnRows = OnRows::Set(OnSet::MapCollect);
+const COLLECT: On = On::Set(OnSet::MapCollect);
 
-const COLLECT_ALL: OnRows = OnRows::Set(OnSet::OwnedMapCollect);
+const COLLECT_ALL: On = On::Set(OnSet::OwnedMapCollect);
 
-pub const LINES: &[Line<OnRows>] = &[
-    ("insert", OnRows::Set(OnSet::Insert), KEY),
-    ("insert_mut", OnRows::Set(OnSet::InsertMut), KEY),
-    ("extend, 20 keys", OnRows::Set(OnSet::Extend), MIDDLE),
-    ("par_extend, 20 keys", OnRows::Set(OnSet::ParExtend), MIDDLE),
+pub const LINES: &[Line<On>] = &[
+    ("insert", On::Set(OnSet::Insert), KEY),
+    ("insert_mut", On::Set(OnSet::InsertMut), KEY),
+    ("extend, 20 keys", On::Set(OnSet::Extend), MIDDLE),
+    ("par_extend, 20 keys", On::Set(OnSet::ParExtend), MIDDLE),
     ("par_extend_shared, 20 keys", SHARED, PUT),
-    ("iter, four shards", OnRows::Set(OnSet::Iter), ITEMS),
-    ("shrink_to_fit", OnRows::Set(OnSet::ShrinkToFit), EACH),
-    ("clone", OnRows::Set(OnSet::Clone), EACH),
+    ("iter, four shards", On::Set(OnSet::Iter), ITEMS),
+    ("shrink_to_fit", On::Set(OnSet::ShrinkToFit), EACH),
+    ("clone", On::Set(OnSet::Clone), EACH),
     ("par_iter().map_collect", COLLECT, EACH),
     ("into_par_iter().map_collect", COLLECT_ALL, "no list"),
 ];

@@ -1,15 +1,13 @@
 //! Plain shards, and a value that owns memory.
 
 use crate::rows::{FROM, SHARDS, TO, pairs};
-use crate::turns::{Case, Heap, Line, Said, Seen};
+use crate::turns::{Case, Heap, Line, Said, Seen, made};
 use dashmap_guard::SharedValue;
 use dashmap_plain::ExtendShards;
 use dashmap_table::{MapFault, NoMemory, Shard, Shards, SpreadState};
 
-/// A shard in a heap.
 type Small<'h> = Shard<u64, u64, &'h Heap>;
 
-/// Plain shards in a heap.
 type Plain<'h> = Shards<u64, u64, SpreadState, &'h Heap>;
 
 /// A call on a shard with the keys 0, 1, .. below a number, each under itself as its hash and with itself.
@@ -59,38 +57,27 @@ fn keys_of(shard: &Small<'_>) -> u64 {
     count
 }
 
-/// How many keys stay, and how many are taken out before.
-fn kept(call: OnShard) -> (u64, u64) {
-    match call {
-        OnShard::Insert => (28, 0),
-        OnShard::Reserve => (2, 0),
-        OnShard::Shrink => (2, 38),
-    }
-}
-
-/// What came of asking for room.
-fn of_room(said: Result<(), NoMemory>) -> Said {
-    Said::of(said.is_ok(), said.is_err())
-}
-
 /// Puts in a new key.
 fn insert(shard: &mut Small<'_>) -> Said {
     let said = shard.insert(28, 28, 28);
     Said::of(matches!(said, Ok((_, None))), said == Err((28, 28)))
 }
 
-/// Makes the call.
 fn make_call(shard: &mut Small<'_>, call: OnShard) -> Said {
     match call {
         OnShard::Insert => insert(shard),
-        OnShard::Reserve => of_room(shard.reserve(100)),
-        OnShard::Shrink => of_room(shard.shrink()),
+        OnShard::Reserve => made(shard.reserve(100), NoMemory),
+        OnShard::Shrink => made(shard.shrink(), NoMemory),
     }
 }
 
 /// Makes the call on an empty shard, behind the insertions that it needs.
 fn ask(heap: &Heap, shard: &mut Small<'_>, call: OnShard) -> Option<Seen> {
-    let (keys, gone) = kept(call);
+    let (keys, gone) = match call {
+        OnShard::Insert => (28, 0),
+        OnShard::Reserve => (2, 0),
+        OnShard::Shrink => (2, 38),
+    };
     fill(shard, keys, gone)?;
     let room = shard.capacity();
     let before = heap.asked();
@@ -108,15 +95,6 @@ impl<R: Drop> Case<R> for OnShard {
     }
 }
 
-/// What came of plain shards.
-fn made(heap: &Heap) -> Said {
-    let made: Result<Plain<'_>, MapFault> = Shards::new(heap, SHARDS, SpreadState);
-    match made {
-        Ok(shards) => Said::of(shards.count() == SHARDS, false),
-        Err(fault) => Said::of(false, fault == MapFault::NoMemory),
-    }
-}
-
 /// Whether the keys from 10 to below one are there, and none behind it.
 fn has_up_to(shards: &Plain<'_>, end: u64) -> bool {
     let mut right = true;
@@ -126,7 +104,6 @@ fn has_up_to(shards: &Plain<'_>, end: u64) -> bool {
     right
 }
 
-/// Puts in the first of the keys.
 fn insert_first(shards: &mut Plain<'_>) -> Said {
     let said = shards.insert(FROM, FROM);
     let end = if said == Ok(None) { FROM + 1 } else { FROM };
@@ -137,7 +114,6 @@ fn insert_first(shards: &mut Plain<'_>) -> Said {
     )
 }
 
-/// Extends by pairs.
 fn extend(shards: &mut Plain<'_>, pairs: Vec<(u64, u64)>) -> Said {
     let said = shards.extend(pairs.into_iter());
     let end = match said {
@@ -150,20 +126,23 @@ fn extend(shards: &mut Plain<'_>, pairs: Vec<(u64, u64)>) -> Said {
 
 impl<R: Drop> Case<R> for OnShards {
     fn run(self, _rt: R, heap: &Heap) -> Option<Seen> {
-        let mut shards: Plain<'_> = Shards::new(heap, SHARDS, SpreadState).ok()?;
+        let before = heap.asked();
+        let shards: Result<Plain<'_>, MapFault> = Shards::new(heap, SHARDS, SpreadState);
+        if let OnShards::New = self {
+            return made(shards, MapFault::NoMemory).seen(heap, before, true);
+        }
+        let mut shards = shards.ok()?;
         let before = heap.asked();
         let said = match self {
-            OnShards::New => made(heap),
             OnShards::Insert => insert_first(&mut shards),
-            OnShards::Reserve if 1 < shards.count() => of_room(shards.reserve(1)),
-            OnShards::Reserve => Said::Other,
+            OnShards::Reserve if 1 < shards.count() => made(shards.reserve(1), NoMemory),
+            OnShards::New | OnShards::Reserve => Said::Other,
             OnShards::Extend => extend(&mut shards, pairs(*heap.inner())?),
         };
         said.seen(heap, before, true)
     }
 }
 
-/// What came of a clone of a box.
 fn cloned(value: &SharedValue<Box<u64, &Heap>>) -> Said {
     match value.clone() {
         Ok(copy) => Said::of(**copy.get() == 5, false),

@@ -7,23 +7,16 @@ use std::io;
 /// A line of the table: the call by its name, the case, and what stands behind a refused one.
 pub type Line<C> = (&'static str, C, &'static str);
 
-/// Prints a line, and answers whether all stood.
 fn print_line<R: Print + Drop>(
     rt: R,
     of: &str,
     call: &str,
     said: Result<u64, Wrong>,
     stands: &str,
-) -> io::Result<bool> {
+) -> io::Result<()> {
     match said {
-        Ok(growths) => {
-            println!(rt; "| {of}{call} | {growths} | {stands} |")?;
-            Ok(true)
-        }
-        Err(wrong) => {
-            println!(rt; "| {of}{call} | {wrong} | {stands} |")?;
-            Ok(false)
-        }
+        Ok(growths) => println!(rt; "| {of}{call} | {growths} | {stands} |"),
+        Err(wrong) => println!(rt; "| {of}{call} | {wrong} | {stands} |"),
     }
 }
 
@@ -35,7 +28,29 @@ pub fn print_lines<R: AllocGlobal + Print + Copy + Drop, C: Case<R>>(
 ) -> io::Result<bool> {
     let mut all = true;
     for &(call, case, stands) in lines {
-        all &= print_line(rt, of, call, make_in_turn(rt, rt.alloc(), case), stands)?;
+        let said = make_in_turn(rt, rt.alloc(), case);
+        all &= said.is_ok();
+        print_line(rt, of, call, said, stands)?;
     }
     Ok(all)
+}
+
+/// What came of a call whose answer isn't looked at: it is done, or this is its refusal.
+pub fn made<T: Drop, E: PartialEq + Drop>(answer: Result<T, E>, refusal: E) -> Said {
+    match answer {
+        Ok(_done) => Said::Done,
+        Err(fault) => Said::of(false, fault == refusal),
+    }
+}
+
+/// What came of a list, which is to have so many items.
+pub fn listed<T: Drop, E: PartialEq + Drop>(
+    list: Result<Vec<T, &Heap>, E>,
+    length: usize,
+    refusal: E,
+) -> Said {
+    match list {
+        Ok(items) => Said::of(items.len() == length, false),
+        Err(fault) => Said::of(false, fault == refusal),
+    }
 }

@@ -1,10 +1,9 @@
 //! Worlds of locks.
 
-use crate::turns::{Case, Heap, Line, Said, Seen};
+use crate::turns::{Case, Heap, Line, Said, Seen, listed, made};
 use parking_lot_core::SizeFault;
 use parking_lot_world::{LockAnswer, LockCall, LockKind, World, WorldStep};
 
-/// A world in a heap.
 type Small<'h> = World<&'h Heap>;
 
 /// The kinds of its locks.
@@ -18,25 +17,6 @@ pub enum Call {
     Owners,
     Queue,
     Debts,
-}
-
-/// A world of three threads.
-fn made<'h>(heap: &'h Heap, kinds: Vec<LockKind, &'h Heap>) -> Result<Small<'h>, SizeFault> {
-    World::new(heap, 3, kinds)
-}
-
-/// Makes a world.
-fn make_world(heap: &Heap, kinds: Kinds) -> Option<Seen> {
-    let copy = Vec::from_slice(heap, kinds).ok()?;
-    let before = heap.asked();
-    let said = match made(heap, copy) {
-        Ok(world) => Said::of(
-            world.kind(0) == kinds.first().copied() && world.word(0) == 0,
-            false,
-        ),
-        Err(fault) => Said::of(false, fault == SizeFault::NoMemory),
-    };
-    said.seen(heap, before, true)
 }
 
 /// A thread asks for the mutex, and goes on until its call is answered, 50 steps at most. The last step is refused.
@@ -58,20 +38,12 @@ fn play(world: &mut Small<'_>) -> bool {
     are_begun && world.answer(0) == Some(LockAnswer::Owned) && world.answer(1).is_none()
 }
 
-/// What came of a list, which is to have so many items.
-fn of_list<T: Drop>(listed: Result<Vec<T, &Heap>, SizeFault>, length: usize) -> Said {
-    match listed {
-        Ok(items) => Said::of(items.len() == length, false),
-        Err(fault) => Said::of(false, fault == SizeFault::NoMemory),
-    }
-}
-
 /// What came of a view of who owns a mutex, who waits for it, or who owes a wake.
-fn listed(world: &Small<'_>, call: Call) -> Said {
+fn list(world: &Small<'_>, call: Call) -> Said {
     match call {
-        Call::Owners => of_list(world.owners(0), 1),
-        Call::Queue => of_list(world.queue(0), 1),
-        Call::Debts => of_list(world.debts(), 0),
+        Call::Owners => listed(world.owners(0), 1, SizeFault::NoMemory),
+        Call::Queue => listed(world.queue(0), 1, SizeFault::NoMemory),
+        Call::Debts => listed(world.debts(), 0, SizeFault::NoMemory),
         Call::New(_) | Call::Run => Said::Done,
     }
 }
@@ -83,20 +55,26 @@ fn look(heap: &Heap, world: &mut Small<'_>, call: Call) -> Option<Seen> {
     let is_played = play(world);
     let played = heap.asked();
     let before = if let Call::Run = call { made } else { played };
-    let said = listed(world, call);
+    let said = list(world, call);
     let behind = heap.asked();
-    let is_owned = listed(world, Call::Owners) == Said::Done;
-    let is_kept = is_owned && listed(world, Call::Queue) == Said::Done;
+    let is_owned = list(world, Call::Owners) == Said::Done;
+    let is_kept = is_owned && list(world, Call::Queue) == Said::Done;
     Seen::of(before, behind, said.may_fit(heap) && is_played && is_kept)
 }
 
 impl<R: Drop> Case<R> for Call {
     fn run(self, _rt: R, heap: &Heap) -> Option<Seen> {
-        if let Call::New(kinds) = self {
-            return make_world(heap, kinds);
+        let kinds = match self {
+            Call::New(kinds) => kinds,
+            _ => EACH,
+        };
+        let kinds = Vec::from_slice(heap, kinds).ok()?;
+        let before = heap.asked();
+        let world = World::new(heap, 3, kinds);
+        if let Call::New(_) = self {
+            return made(world, SizeFault::NoMemory).seen(heap, before, true);
         }
-        let mut world = made(heap, Vec::from_slice(heap, EACH).ok()?).ok()?;
-        look(heap, &mut world, self)
+        look(heap, &mut world.ok()?, self)
     }
 }
 
